@@ -11,10 +11,9 @@ use Rattle.dev_pic.specs.Bits.{but_not, without_input}
 use Rattle.dev_pic.specs.Cells.{requests_hold}
 use Rattle.dev_pic.specs.Chip.{settled, level_inputs_of}
 use Rattle.dev_pic.specs.Pair.{lines_of, slave_int_of, settled_pair, with_cascade}
-use Rattle.dev_pic.specs.Sound.{IsSoundPair}
 use Rattle.dev_pic.specs.declared.chip.Chip.{Chip}
 use Rattle.dev_pic.specs.declared.pair.PicPair.{PicPair}
-use Rattle.dev_board.specs.Touch.{HasTaken}
+use Rattle.dev_board.specs.Touch.{HasTaken, IsSettled}
 use Rattle.dev_board.specs.declared.wires.TheConstants.{DRIVEN}
 use Rattle.dev_pic.proofs.BitLaws.{level_inputs-lt, and-twice, each_input}
 
@@ -30,26 +29,15 @@ parts r l e hr hl he =
     same_from_bits_below 8 _ _ (or_of_8 (bit_and (bit_or r risen) (255 - e)) (bit_and r e) kept-lt levels-lt) hr
     (λ k h. simp (bit_at_and, bit_at_or, bit_at-zero, bit_at_not w8 l k hl h, bit_at_not w8 e k he h) (omega (arith, bit_at-lt r k, bit_at-lt l k, bit_at-lt e k)))
 
--- The chips of a sound pair stay unchanged.
-master_again : (pair : PicPair) → IsSoundPair pair → settled pair.master.lines 0 pair.master ≡ pair.master
+-- A settled chip that takes its own lines stays unchanged.
+chip_again : (chip : Chip) → IsSettled chip → settled chip.lines 0 chip ≡ chip
 unfolding settled but_not requests_hold
-master_again pair h =
-    let chip = pair.master in
+chip_again chip h =
     let e = level_inputs_of chip in
-    let he : e < 256 = level_inputs-lt chip.ltim chip.elcr h.master.registers.elcr in
-    let same : bit_and chip.irr e ≡ bit_and chip.lines e = (Decides-eqb (bit_and chip.irr e) (bit_and chip.lines e)).0 h.master.requests in
+    let he : e < 256 = level_inputs-lt chip.ltim chip.elcr h.elcr in
+    let same : bit_and chip.irr e ≡ bit_and chip.lines e = (Decides-eqb (bit_and chip.irr e) (bit_and chip.lines e)).0 h.requests in
     let kept = bit_and (bit_or chip.irr (bit_or (bit_and chip.lines (255 - chip.lines)) 0)) (255 - e) in
-    ap (λ (n : ℕ). record chip { irr = n }) (ap (bit_or kept) (sym same) ∙ parts chip.irr chip.lines e h.master.registers.irr h.master.registers.lines he)
-
-slave_again : (pair : PicPair) → IsSoundPair pair → settled pair.slave.lines 0 pair.slave ≡ pair.slave
-unfolding settled but_not requests_hold
-slave_again pair h =
-    let chip = pair.slave in
-    let e = level_inputs_of chip in
-    let he : e < 256 = level_inputs-lt chip.ltim chip.elcr h.slave.registers.elcr in
-    let same : bit_and chip.irr e ≡ bit_and chip.lines e = (Decides-eqb (bit_and chip.irr e) (bit_and chip.lines e)).0 h.slave.requests in
-    let kept = bit_and (bit_or chip.irr (bit_or (bit_and chip.lines (255 - chip.lines)) 0)) (255 - e) in
-    ap (λ (n : ℕ). record chip { irr = n }) (ap (bit_or kept) (sym same) ∙ parts chip.irr chip.lines e h.slave.registers.irr h.slave.registers.lines he)
+    ap (λ (n : ℕ). record chip { irr = n }) (ap (bit_or kept) (sym same) ∙ parts chip.irr chip.lines e h.irr h.lines he)
 
 -- The inputs of two bytes.
 and-bytes : (a b c d : ℕ) → b < 256 → d < 256 → bit_and (a * 256 + b) (c * 256 + d) ≡ bit_and a c * 256 + bit_and b d
@@ -93,22 +81,22 @@ cascade-again : (b : Bool) (m : ℕ) → m < 256 → has m 2 ≡ b → with_casc
 unfolding without_input but_not
 cascade-again b m h e = ap (λ n. bit_or n (cond b 4 0)) (and-twice m 0xfb) ∙ with-again b m h e
 
-low-two : (s m : ℕ) → m < 256 → has (s * 256 + m) 2 ≡ has m 2
+pub low-two : (s m : ℕ) → m < 256 → has (s * 256 + m) 2 ≡ has m 2
 low-two s m h = ap (λ n. n == 1) (omega (arith, h))
 
--- A sound pair that takes its own lines stays unchanged.
+-- So does a pair.
 pub pair-again : (pair : PicPair) → HasTaken (lines_of pair) pair → settled_pair (bit_and (lines_of pair) DRIVEN) 0 pair ≡ pair
 unfolding settled_pair lines_of slave_int_of without_input but_not
 pair-again pair h =
     let s = pair.slave.lines in
     let m = pair.master.lines in
-    let hs : s < 256 = h.sound.slave.registers.lines in
-    let hm : m < 256 = h.sound.master.registers.lines in
+    let hs : s < 256 = h.slave.lines in
+    let hm : m < 256 = h.master.lines in
     let high : bit_and (s * 256 + m) DRIVEN / 256 ≡ s = ap (λ n. n / 256) (driven s m hs hm) ∙ omega (arith, hm, and_le_l m 0xfb) in
     let low : bit_and (s * 256 + m) DRIVEN % 256 ≡ bit_and m 0xfb = ap (λ n. n % 256) (driven s m hs hm) ∙ omega (arith, hm, and_le_l m 0xfb) in
-    let slave : settled (bit_and (s * 256 + m) DRIVEN / 256) 0 pair.slave ≡ pair.slave = ap (λ n. settled n 0 pair.slave) high ∙ slave_again pair h.sound in
-    let bit : has m 2 ≡ slave_int_of pair = sym (low-two s m hm) ∙ h.slave in
+    let slave : settled (bit_and (s * 256 + m) DRIVEN / 256) 0 pair.slave ≡ pair.slave = ap (λ n. settled n 0 pair.slave) high ∙ chip_again pair.slave h.slave in
+    let bit : has m 2 ≡ slave_int_of pair = sym (low-two s m hm) ∙ h.cascade in
     let after : Chip → PicPair = (λ chip. record pair { slave = chip; master = settled (with_cascade (slave_int_of (record pair { slave = chip })) (bit_and (s * 256 + m) DRIVEN % 256)) 0 pair.master }) in
     ap after slave
     ∙ ap (λ n. record pair { master = settled n 0 pair.master }) (ap (with_cascade (slave_int_of pair)) low ∙ cascade-again (slave_int_of pair) m hm bit)
-    ∙ ap (λ chip. record pair { master = chip }) (master_again pair h.sound)
+    ∙ ap (λ chip. record pair { master = chip }) (chip_again pair.master h.master)

@@ -1,8 +1,10 @@
 pub mod Again
 pub mod AlikeLaws
 pub mod ClockLaws
+pub mod CommandLaws
 pub mod Halves
 pub mod KeepLaws
+pub mod KeptLaws
 pub mod PortLaws
 pub mod QuietLaws
 pub mod Reached

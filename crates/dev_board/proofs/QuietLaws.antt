@@ -9,8 +9,9 @@ use Rattle.dev_pic.specs.declared.pair.PicPair.{PicPair}
 use Rattle.dev_board.specs.State.{State}
 use Rattle.dev_board.specs.Step.{inputs_of, settled}
 use Rattle.dev_board.specs.Touch.{HasTaken, Stays, is_nothing, asks_timer, asks_port, is_access, is_quiet, is_untouched}
+use Rattle.dev_board.specs.declared.touch.Before.{Before}
 use Rattle.dev_board.specs.declared.touch.Touch.{Touch}
-use Rattle.dev_board.specs.declared.touch.Touch.TheVariants.{Untouched as OfNothing, Timer as OfTimer, Port as OfPort, Access as OfAccess, Time as OfTime}
+use Rattle.dev_board.specs.declared.touch.Touch.TheVariants.{Untouched as OfNothing, Timer as OfTimer, Port as OfPort, Command as OfCommand, Access as OfAccess, Time as OfTime}
 use Rattle.dev_board.specs.declared.wires.TheConstants.{DRIVEN, WIRES}
 use Rattle.dev_board.proofs.Again.{pair-again}
 
@@ -28,16 +29,16 @@ quiet true edge same e = cc
 
 again : (lines inputs : ℕ) (pair : PicPair) → HasTaken lines pair → inputs ≡ bit_and lines DRIVEN → settled_pair inputs 0 pair ≡ pair
 again lines inputs pair h e =
-    ap (λ n. settled_pair n 0 pair) (e ∙ ap (λ n. bit_and n DRIVEN) h.same) ∙ pair-again pair (record { sound = h.sound; slave = h.slave; same = refl })
+    ap (λ n. settled_pair n 0 pair) (e ∙ ap (λ n. bit_and n DRIVEN) h.same) ∙ pair-again pair (record { master = h.master; slave = h.slave; cascade = h.cascade; same = refl })
 
-pub quiet-settled : (wires lines inputs : ℕ) (edge : Bool) (touch : Touch) (m : State) → Stays touch lines m → inputs ≡ inputs_of wires m → is_quiet touch edge inputs lines ≡ true → settled wires edge m ≡ m
+pub quiet-settled : (wires inputs : ℕ) (before : Before) (edge : Bool) (touch : Touch) (m : State) → Stays touch before m → inputs ≡ inputs_of wires m → is_quiet touch edge inputs before.lines ≡ true → settled wires edge m ≡ m
 unfolding settled is_quiet
-quiet-settled wires lines inputs edge touch m stays is e =
-    let q = quiet (is_access touch) edge (inputs == bit_and lines DRIVEN) e in
-    let test : (inputs == bit_and lines DRIVEN) ≡ true = q.equal in
-    let same : inputs ≡ bit_and lines DRIVEN = grind (arith, nat_tests) in
+quiet-settled wires inputs before edge touch m stays is e =
+    let q = quiet (is_access touch) edge (inputs == bit_and before.lines DRIVEN) e in
+    let test : (inputs == bit_and before.lines DRIVEN) ≡ true = q.equal in
+    let same : inputs ≡ bit_and before.lines DRIVEN = grind (arith, nat_tests) in
     ap (λ (pair : PicPair). record m { pair = pair })
-    (ap (λ (b : Bool). settled_pair (inputs_of wires m) (bits_where b 0x01) m.pair) q.no_edge ∙ again lines (inputs_of wires m) m.pair (stays.pair q.no_access) (sym is ∙ same))
+    (ap (λ (b : Bool). settled_pair (inputs_of wires m) (bits_where b 0x01) m.pair) q.no_edge ∙ again before.lines (inputs_of wires m) m.pair (stays.pair q.no_access) (sym is ∙ same))
 
 -- If nothing was touched, the inputs are the lines.
 record Untouched (touch : Touch) (edge same : Bool) : Type 0 where
@@ -49,6 +50,7 @@ untouched : (touch : Touch) (edge same : Bool) → (is_nothing touch && (not edg
 untouched OfNothing edge same e = record { timer = refl; port = refl; quiet = quiet false edge same e }
 untouched OfTimer edge same e = cc
 untouched OfPort edge same e = cc
+untouched OfCommand edge same e = record { timer = refl; port = refl; quiet = quiet false edge same e }
 untouched OfAccess edge same e = cc
 untouched OfTime edge same e = cc
 
@@ -70,12 +72,12 @@ own-inputs n =
     ∙ ap (λ b. bit_or b (bit_and n 0x10)) (two-parts n WIRES 0x01)
     ∙ two-parts n 0xffeb 0x10
 
-pub untouched-settled : (wires lines : ℕ) (edge : Bool) (touch : Touch) (m : State) → Stays touch lines m → is_untouched touch edge wires lines ≡ true → settled wires edge m ≡ m
+pub untouched-settled : (wires : ℕ) (before : Before) (edge : Bool) (touch : Touch) (m : State) → Stays touch before m → is_untouched touch edge wires before.lines ≡ true → settled wires edge m ≡ m
 unfolding settled is_untouched inputs_of
-untouched-settled wires lines edge touch m stays e =
-    let q = untouched touch edge (wires == bit_and lines WIRES) e in
-    let test : (wires == bit_and lines WIRES) ≡ true = q.quiet.equal in
-    let same : wires ≡ bit_and lines WIRES = grind (arith, nat_tests) in
-    let is : inputs_of wires m ≡ bit_and lines DRIVEN = rw (same, sym (stays.out q.timer), sym (stays.serial q.port)) (own-inputs lines) in
+untouched-settled wires before edge touch m stays e =
+    let q = untouched touch edge (wires == bit_and before.lines WIRES) e in
+    let test : (wires == bit_and before.lines WIRES) ≡ true = q.quiet.equal in
+    let same : wires ≡ bit_and before.lines WIRES = grind (arith, nat_tests) in
+    let is : inputs_of wires m ≡ bit_and before.lines DRIVEN = rw (same, sym (stays.out q.timer), sym (stays.serial q.port)) (own-inputs before.lines) in
     ap (λ (pair : PicPair). record m { pair = pair })
-    (ap (λ (b : Bool). settled_pair (inputs_of wires m) (bits_where b 0x01) m.pair) q.quiet.no_edge ∙ again lines (inputs_of wires m) m.pair (stays.pair q.quiet.no_access) is)
+    (ap (λ (b : Bool). settled_pair (inputs_of wires m) (bits_where b 0x01) m.pair) q.quiet.no_edge ∙ again before.lines (inputs_of wires m) m.pair (stays.pair q.quiet.no_access) is)

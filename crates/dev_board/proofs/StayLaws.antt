@@ -6,38 +6,23 @@ use Rattle.std.proofs.lemmas.Bool.Decides.{nat_tests}
 use Rattle.dev_base.proofs.Choices.{either}
 use Rattle.dev_base.specs.Bits.{has, bits_where}
 use Rattle.dev_pic.proofs.BitLaws.{has-or}
-use Rattle.dev_pic.specs.Pair.{lines_of}
-use Rattle.dev_pit.proofs.Chips.{at_counter}
-use Rattle.dev_pit.proofs.CounterSteps.{same, read-goes_on}
-use Rattle.dev_pit.specs.Counter.{out_of, read_of}
-use Rattle.dev_pit.specs.GoesOn.{GoesOn}
-use Rattle.dev_pit.specs.Pit.{counter_of, pit_read, pit_out}
-use Rattle.dev_pit.specs.declared.counter.Counter.{Counter as Counting}
-use Rattle.dev_pit.specs.declared.pit.Pit.{Pit}
+use Rattle.dev_pic.specs.Pair.{acked, int_of, lines_of, written_pair}
+use Rattle.dev_pic.specs.declared.pair.PicPair.{PicPair}
+use Rattle.dev_pit.specs.Pit.{pit_out}
 use Rattle.dev_serial.specs.Access.{read_of as registers_read, lsr_of, lsr_read}
 use Rattle.dev_serial.specs.Port.{Port, line_of}
 use Rattle.dev_board.specs.Ports.{target_of, read_at, written_at, read, write}
 use Rattle.dev_board.specs.Sound.{IsSound}
 use Rattle.dev_board.specs.State.{State}
 use Rattle.dev_board.specs.Step.{Act, waited}
-use Rattle.dev_board.specs.Touch.{HasTaken, Stays, leaves_port, read_touches, write_touches}
+use Rattle.dev_board.specs.Touch.{HasTaken, Stays, ack_touches, is_command, leaves_port, read_touches, time_touches, write_touches}
 use Rattle.dev_board.specs.declared.ports.Target.{Target}
 use Rattle.dev_board.specs.declared.ports.Target.TheVariants.{Pair, Counter, Control, Register, Nothing}
+use Rattle.dev_board.specs.declared.touch.Before.{Before}
 use Rattle.dev_board.specs.declared.touch.Touch.{Touch}
-use Rattle.dev_board.specs.declared.touch.Touch.TheVariants.{Untouched, Port as OfPort, Time}
-
--- A read of a counter leaves OUT unchanged.
-out-goes_on : (before after : Counting) (now : ℕ) → GoesOn before after → out_of after now ≡ out_of before now
-unfolding out_of
-out-goes_on before after now g = rw (g.count, g.mode, g.loaded_at) refl
-
-read-out : (j now : ℕ) (pit : Pit) → pit_out 0 now (pit_read j now pit).1 ≡ pit_out 0 now pit
-unfolding pit_out pit_read
-read-out j now pit =
-    out-goes_on (counter_of 0 pit) _ now
-    (at_counter (GoesOn (counter_of 0 pit)) 0 j _ pit
-    (λ here. subst (λ (i : ℕ). GoesOn (counter_of 0 pit) (read_of now (counter_of i pit)).1) here (read-goes_on now (counter_of 0 pit)))
-    (same (counter_of 0 pit)))
+use Rattle.dev_board.specs.declared.touch.Touch.TheVariants.{Untouched, Port as OfPort, Command, Access}
+use Rattle.dev_board.proofs.CommandLaws.{ack-taken, command-taken}
+use Rattle.dev_board.proofs.KeptLaws.{read-out}
 
 -- The bit of an overrun in the line status.
 bit-of : (b : Bool) (bits : ℕ) → has 0 1 ≡ false → has (bits_where b bits) 1 ≡ (has bits 1 && b)
@@ -88,50 +73,86 @@ left-at offset now port =
 touched : {A : Type 0} → true ≡ false → A
 touched e = absurd (false≢true (sym e))
 
-module _ (m : State) (s : IsSound m) where
-  abbrev lines : ℕ
-  lines = lines_of m.pair
+pair-taken : (m : State) → IsSound m → HasTaken (lines_of m.pair) m.pair
+pair-taken m s = let master = s.pair.master in let slave = s.pair.slave in record {
+  master = record { irr = master.registers.irr; lines = master.registers.lines; elcr = master.registers.elcr; requests = master.requests };
+  slave = record { irr = slave.registers.irr; lines = slave.registers.lines; elcr = slave.registers.elcr; requests = slave.requests };
+  cascade = s.lines.slave;
+  same = refl;
+}
 
-  taken : HasTaken lines m.pair
-  taken = record { sound = s.pair; slave = s.lines.slave; same = refl }
+-- The master says before an event what is so of the board.
+pub record IsBefore (before : Before) (m : State) : Type 0 where
+  pub lines : before.lines ≡ lines_of m.pair
+  pub int : before.int ≡ int_of m.pair
+
+module _ (m : State) (s : IsSound m) (before : Before) (b : IsBefore before m) where
+  out : has before.lines 0 ≡ pit_out 0 m.moment m.pit
+  out = ap (λ (n : ℕ). has n 0) b.lines ∙ s.lines.out
+
+  serial : has before.lines 4 ≡ line_of m.moment m.serial
+  serial = ap (λ (n : ℕ). has n 4) b.lines ∙ s.lines.serial
+
+  taken : HasTaken before.lines m.pair
+  taken = subst (λ (n : ℕ). HasTaken n m.pair) (sym b.lines) (pair-taken m s)
 
   -- A read of a register.
-  port-stays : (offset : ℕ) (leaves : Bool) → leaves_port offset (registers_read offset m.moment m.serial).0 ≡ leaves → Stays (if leaves then Untouched else OfPort) lines (record m { serial = (registers_read offset m.moment m.serial).1 })
-  port-stays offset true e = record { out = λ e. s.lines.out; serial = λ f. s.lines.serial ∙ ap (line_of m.moment) (sym (left-at offset m.moment m.serial e)); pair = λ e. taken }
-  port-stays offset false e = record { out = λ e. s.lines.out; serial = λ f. touched f; pair = λ e. taken }
+  port-stays : (offset : ℕ) (leaves : Bool) → leaves_port offset (registers_read offset m.moment m.serial).0 ≡ leaves → Stays (if leaves then Untouched else OfPort) before (record m { serial = (registers_read offset m.moment m.serial).1 })
+  port-stays offset true e = record { out = λ e. out; serial = λ f. serial ∙ ap (line_of m.moment) (sym (left-at offset m.moment m.serial e)); int = λ e. b.int; pair = λ e. taken }
+  port-stays offset false e = record { out = λ e. out; serial = λ f. touched f; int = λ e. b.int; pair = λ e. taken }
 
-  read-stays : (target : Target) (port : ℕ) → Stays (read_touches target (read_at target port m).0) lines (read_at target port m).1
+  read-stays : (target : Target) (port : ℕ) → Stays (read_touches target (read_at target port m).0) before (read_at target port m).1
   unfolding read_at
-  read-stays Pair port = record { out = λ e. s.lines.out; serial = λ e. s.lines.serial; pair = λ e. touched e }
-  read-stays (Counter counter) port = record { out = λ e. s.lines.out ∙ sym (read-out counter m.moment m.pit); serial = λ e. s.lines.serial; pair = λ e. taken }
-  read-stays Control port = record { out = λ e. s.lines.out; serial = λ e. s.lines.serial; pair = λ e. taken }
+  read-stays Pair port = record { out = λ e. out; serial = λ e. serial; int = λ e. touched e; pair = λ e. touched e }
+  read-stays (Counter counter) port = record { out = λ e. out ∙ sym (read-out counter m.moment m.pit); serial = λ e. serial; int = λ e. b.int; pair = λ e. taken }
+  read-stays Control port = record { out = λ e. out; serial = λ e. serial; int = λ e. b.int; pair = λ e. taken }
   read-stays (Register offset) port = port-stays offset (leaves_port offset (registers_read offset m.moment m.serial).0) refl
-  read-stays Nothing port = record { out = λ e. s.lines.out; serial = λ e. s.lines.serial; pair = λ e. taken }
+  read-stays Nothing port = record { out = λ e. out; serial = λ e. serial; int = λ e. b.int; pair = λ e. taken }
 
-  write-stays : (target : Target) (port value : ℕ) → Stays (write_touches target) lines (written_at target port value m)
+  command-stays : (port value : ℕ) (command : Bool) → is_command port value ≡ command → Stays (if command then Command else Access) before (record m { pair = written_pair port value m.pair })
+  command-stays port value true e = record { out = λ e. out; serial = λ e. serial; int = λ e. touched e; pair = λ f. command-taken before.lines m.pair taken port value e }
+  command-stays port value false e = record { out = λ e. out; serial = λ e. serial; int = λ e. touched e; pair = λ e. touched e }
+
+  write-stays : (target : Target) (port value : ℕ) → Stays (write_touches target port value) before (written_at target port value m)
   unfolding written_at
-  write-stays Pair port value = record { out = λ e. s.lines.out; serial = λ e. s.lines.serial; pair = λ e. touched e }
-  write-stays (Counter counter) port value = record { out = λ e. touched e; serial = λ e. s.lines.serial; pair = λ e. taken }
-  write-stays Control port value = record { out = λ e. touched e; serial = λ e. s.lines.serial; pair = λ e. taken }
-  write-stays (Register offset) port value = record { out = λ e. s.lines.out; serial = λ e. touched e; pair = λ e. taken }
-  write-stays Nothing port value = record { out = λ e. s.lines.out; serial = λ e. s.lines.serial; pair = λ e. taken }
+  write-stays Pair port value = command-stays port value (is_command port value) refl
+  write-stays (Counter counter) port value = record { out = λ e. touched e; serial = λ e. serial; int = λ e. b.int; pair = λ e. taken }
+  write-stays Control port value = record { out = λ e. touched e; serial = λ e. serial; int = λ e. b.int; pair = λ e. taken }
+  write-stays (Register offset) port value = record { out = λ e. out; serial = λ e. touched e; int = λ e. b.int; pair = λ e. taken }
+  write-stays Nothing port value = record { out = λ e. out; serial = λ e. serial; int = λ e. b.int; pair = λ e. taken }
 
--- The same for what calls returned.
-module _ (m : State) (s : IsSound m) (now : ℕ) (l : now ≡ lines_of m.pair) where
-  pub after-read : (port value : ℕ) (after : State) (touch : Touch) → touch ≡ read_touches (target_of m.level port) (read port m).0 → (value, after) ≡ read port m → Stays touch now after
-  after-read port value after touch t e =
-      subst (λ (n : ℕ). Stays touch n after) (sym l)
-      (subst (λ (u : Touch). Stays u (lines_of m.pair) after) (sym t)
-      (subst (λ (done : ℕ × State). Stays (read_touches (target_of m.level port) (read port m).0) (lines_of m.pair) done.1) (sym e) (read-stays m s (target_of m.level port) port)))
+  ack-stays : (slave : Bool) → has before.lines 2 ≡ slave → Stays (if slave then Access else Command) before (record m { pair = (acked m.pair).1 })
+  ack-stays true e = record { out = λ e. out; serial = λ e. serial; int = λ e. touched e; pair = λ e. touched e }
+  ack-stays false e = record { out = λ e. out; serial = λ e. serial; int = λ e. touched e; pair = λ f. ack-taken before.lines m.pair taken e }
 
-  pub after-write : (port value : ℕ) (after : State) (touch : Touch) → touch ≡ write_touches (target_of m.level port) → after ≡ write port value m → Stays touch now after
-  after-write port value after touch t e =
-      subst (λ (n : ℕ). Stays touch n after) (sym l)
-      (subst (λ (u : Touch). Stays u (lines_of m.pair) after) (sym t)
-      (subst (λ (done : State). Stays (write_touches (target_of m.level port)) (lines_of m.pair) done) (sym e) (write-stays m s (target_of m.level port) port value)))
-
-  pub after-time : (to : ℕ) (act : Act) (after : State) → (act, after) ≡ waited to m → Stays Time now after
+  time-stays : (to : ℕ) (calm : Bool) → (calm ≡ true → pit_out 0 to m.pit ≡ pit_out 0 m.moment m.pit) → Stays (time_touches calm) before (waited to m).1
   unfolding waited
-  after-time to act after e =
-      subst (λ (n : ℕ). Stays Time n after) (sym l)
-      (subst (λ (done : Act × State). Stays Time (lines_of m.pair) done.1) (sym e) (record { out = λ e. touched e; serial = λ e. touched e; pair = λ e. taken m s }))
+  time-stays to true still = record { out = λ e. out ∙ sym (still refl); serial = λ e. touched e; int = λ e. b.int; pair = λ e. taken }
+  time-stays to false still = record { out = λ e. touched e; serial = λ e. touched e; int = λ e. b.int; pair = λ e. taken }
+
+  pub after-nothing : Stays Untouched before m
+  after-nothing = record { out = λ e. out; serial = λ e. serial; int = λ e. b.int; pair = λ e. taken }
+
+  pub after-byte : (port : Port) → Stays OfPort before (record m { serial = port })
+  after-byte port = record { out = λ e. out; serial = λ e. touched e; int = λ e. b.int; pair = λ e. taken }
+
+  -- The same for what calls returned.
+  pub after-read : (port value : ℕ) (after : State) (touch : Touch) → touch ≡ read_touches (target_of m.level port) (read port m).0 → (value, after) ≡ read port m → Stays touch before after
+  after-read port value after touch t e =
+      subst (λ (u : Touch). Stays u before after) (sym t)
+      (subst (λ (done : ℕ × State). Stays (read_touches (target_of m.level port) (read port m).0) before done.1) (sym e) (read-stays (target_of m.level port) port))
+
+  pub after-write : (port value : ℕ) (after : State) (touch : Touch) → touch ≡ write_touches (target_of m.level port) port value → after ≡ write port value m → Stays touch before after
+  after-write port value after touch t e =
+      subst (λ (u : Touch). Stays u before after) (sym t)
+      (subst (λ (done : State). Stays (write_touches (target_of m.level port) port value) before done) (sym e) (write-stays (target_of m.level port) port value))
+
+  pub after-ack : (value : ℕ) (pair : PicPair) (touch : Touch) → touch ≡ ack_touches before.lines → (value, pair) ≡ acked m.pair → Stays touch before (record m { pair = pair })
+  unfolding ack_touches
+  after-ack value pair touch t e =
+      subst (λ (u : Touch). Stays u before (record m { pair = pair })) (sym t)
+      (subst (λ (done : ℕ × PicPair). Stays (ack_touches before.lines) before (record m { pair = done.1 })) (sym e) (ack-stays (has before.lines 2) refl))
+
+  pub after-time : (to : ℕ) (act : Act) (after : State) (calm : Bool) → (act, after) ≡ waited to m → (calm ≡ true → pit_out 0 to m.pit ≡ pit_out 0 m.moment m.pit) → Stays (time_touches calm) before after
+  after-time to act after calm e still =
+      subst (λ (done : Act × State). Stays (time_touches calm) before done.1) (sym e) (time-stays to calm still)

@@ -40,6 +40,10 @@ saved set m = record {
   serial = record { items = cells_at (numbers_at set m) m.serial };
 }
 
+-- `lists_of cells` is the list of the cells of a board's devices, in their order.
+abbrev pub lists_of : BoardCells → List (List ℤ)
+lists_of cells = cells.timer.items ∷ cells.master.items ∷ cells.slave.items ∷ cells.pit.items ∷ cells.serial.items ∷ []
+
 -- `carried set cells` has the cells of the newest set that the cells, of `set`, are carried to,
 -- with defaults where `set` has none.
 unfoldable pub carried : ℕ → BoardCells → BoardCells

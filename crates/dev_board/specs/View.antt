@@ -1,4 +1,6 @@
 -- What contracts see of a board's devices.
+use Rattle.dev_board.specs.Kept.{IsKept}
+use Rattle.dev_board.specs.Sound.{IsSound}
 use Rattle.dev_board.specs.State.{State}
 use Rattle.dev_board.specs.declared.devices.Devices.TheInside.{Inside}
 use Rattle.dev_board.specs.declared.parts.Parts.TheInside.{Inside as InsideParts}
@@ -10,3 +12,8 @@ parts_view d = record { level = d.level; moment = d.moment; pair = d.pair; pit =
 -- The state of the devices is that of their parts.
 abbrev pub devices_view : Inside → State
 devices_view d = d.parts
+
+-- `HoldsAlways d`: the devices are sound, and what is kept is so of them.
+pub record HoldsAlways (d : Inside) : Type 0 where
+  pub sound : IsSound (devices_view d)
+  pub kept : IsKept d.kept (devices_view d)

@@ -1,5 +1,5 @@
 // The devices of a board on one clock.
-ghost use Rattle.std.specs.Prelude.{◌≡◌, ◌<◌, ◌≤◌, IsTrue};
+ghost use Rattle.std.specs.Prelude.{◌≡◌, ◌<◌, ◌≤◌, IsTrue, MatchOption, None};
 ghost use Rattle.dev_base.specs.Levels.{IsLevel};
 ghost use Rattle.dev_base.specs.declared.limits.TheConstants.{LAST_MOMENT as last_moment};
 ghost use Rattle.dev_pic.specs.Pair.{int_of};
@@ -8,6 +8,7 @@ ghost use Rattle.dev_serial.specs.Access.{room_of};
 ghost use Rattle.dev_serial.specs.Line.{character_time};
 
 use crate::event::{Answer, Event};
+use crate::kept::Kept;
 use crate::parts::Parts;
 use dev_pit::Pit;
 use dev_serial::Serial;
@@ -20,6 +21,8 @@ use std::marker::Model;
 pub struct Devices {
     /// The devices, whose lines agree with what the master remembers.
     pub(crate) parts: Parts,
+    /// What is known of them between events.
+    pub(crate) kept: Kept,
 }
 
 impl Model for Devices {
@@ -27,12 +30,11 @@ impl Model for Devices {
 
     ghost Value = { State };
 
-    ghost use Rattle.dev_board.specs.View.{devices_view};
-    ghost use Rattle.dev_board.specs.Sound.{IsSound};
+    ghost use Rattle.dev_board.specs.View.{devices_view, HoldsAlways};
 
     ghost view = { devices_view };
 
-    ghost invariant = { λ d. IsSound (devices_view d) };
+    ghost invariant = { HoldsAlways };
 }
 
 impl Devices {
@@ -40,6 +42,8 @@ impl Devices {
     ghost use Rattle.dev_board.specs.Sound.{IsSound};
     ghost use Rattle.dev_board.specs.State.{power_on};
     ghost use Rattle.dev_board.specs.Step.{step, names_wire};
+    ghost use Rattle.dev_board.specs.Touch.{saying};
+    ghost use Rattle.dev_board.specs.declared.event.Event.TheVariants.{Wait};
 
     /// Returns the devices of level `level`, 1 to 4, at power on.
     ///
@@ -51,9 +55,34 @@ impl Devices {
         ensures state { result ≡ power_on level }
         ensures sound { IsSound result }
     {
+        Devices::of(Parts::new(level))
+    }
+
+    // Returns these devices, with nothing known of the timer's next edge.
+    pub(crate) fn of(parts: Parts) -> Devices
+        requires { IsSound parts }
+        ensures { result ≡ parts }
+    {
+        let int = parts.int();
         Devices {
-            parts: Parts::new(level),
+            parts,
+            kept: Kept { int, calm: 0 },
         }
+    }
+
+    /// Lets `ns` nanoseconds pass and returns the interrupt output if no byte leaves the serial port
+    /// by then. Otherwise nothing happens, and it returns `None`.
+    #[inline(always)]
+    #[tactic(auto, unfolding(crate::specs::Step::names_wire))]
+    pub fn pass(&mut self, ns: u64) -> Option<bool>
+        ensures { MatchOption result (self.new ≡ self.old)
+            (λ int. (saying None int, self.new) ≡ step (Wait ns) self.old) }
+    {
+        if self.parts.sends_by(ns) {
+            return None;
+        }
+        let answer = self.event(Event::Wait { ns });
+        Some(answer.int)
     }
 
     /// Returns the level, 1 to 4.
@@ -84,14 +113,14 @@ impl Devices {
         ensures step { (result, self.new) ≡ step event self.old }
         ensures sound { IsSound self.new }
     {
-        self.parts.event(event)
+        self.parts.event(event, &mut self.kept)
     }
 
     /// Tells whether the master's interrupt output (INT) is high.
     pub fn int(&self) -> bool
         ensures { result ≡ int_of self.now.pair }
     {
-        self.parts.int()
+        self.kept.int
     }
 
     /// Tells whether OUT of counter `counter` of the timer chip, 0 to 2, is high at the present
@@ -158,6 +187,7 @@ impl Devices {
     {
         Devices {
             parts: self.parts.copy(),
+            kept: self.kept,
         }
     }
 }

@@ -1,4 +1,7 @@
 // What happens to a board, and what it answers.
+ghost use Rattle.std.specs.Prelude.{◌≡◌};
+ghost use Rattle.dev_board.specs.Touch.{saying as saying_of};
+
 use arrayvec::ArrayVec;
 use dev_serial::MOST_SENT;
 
@@ -30,4 +33,15 @@ pub struct Answer {
     pub int: bool,
     /// The bytes that left the serial port during the event, first out first.
     pub sent: ArrayVec<u8, MOST_SENT>,
+}
+
+/// Returns an answer without bytes.
+pub(crate) fn saying(value: Option<u8>, int: bool) -> Answer
+    ensures { result ≡ saying_of value int }
+{
+    Answer {
+        value,
+        int,
+        sent: ArrayVec::new(),
+    }
 }

@@ -2,9 +2,11 @@
 //! port.
 #![tactic(auto)]
 
+mod asks;
 mod cells;
 mod devices;
 mod event;
+mod kept;
 mod laws;
 mod misfit;
 mod parts;
@@ -13,7 +15,7 @@ mod saved;
 mod touch;
 mod wires;
 
-pub use cells::BoardCells;
+pub use cells::{BoardCells, DeviceCells};
 pub use devices::Devices;
 pub use event::{Answer, Event};
 pub use laws::{

@@ -16,8 +16,11 @@ pub enum Misfit {
 /// The place of the timer, whose cell is the moment, among the devices of a set.
 pub(crate) const TIMER_DEVICE: u32 = 0;
 
-/// The place of the master; the slave is next.
+/// The place of the master.
 pub(crate) const MASTER_DEVICE: u32 = 1;
+
+/// The place of the slave, next to the master's.
+pub(crate) const SLAVE_DEVICE: u32 = 2;
 
 /// The place of the timer chip.
 pub(crate) const PIT_DEVICE: u32 = 3;

@@ -1,21 +1,23 @@
 // A board's devices on one clock, while an event happens to them.
-ghost use Rattle.std.specs.Prelude.{◌≡◌, ◌<◌, ◌≤◌, IsTrue, false, None};
+ghost use Rattle.std.specs.Prelude.{◌≡◌, ◌<◌, ◌≤◌, IsTrue, true, false, None};
 ghost use Rattle.dev_base.specs.Bits.{has as has_of};
 ghost use Rattle.dev_base.specs.Levels.{IsLevel};
 ghost use Rattle.dev_base.specs.declared.limits.TheConstants.{LAST_MOMENT as last_moment};
-ghost use Rattle.dev_board.specs.Touch.{saying as saying_of, is_quiet as is_quiet_of, is_untouched as is_untouched_of, leaves_port as leaves_port_of};
+ghost use Rattle.dev_board.specs.Kept.{IsCalm, IsKept};
+ghost use Rattle.dev_board.specs.Touch.{asks_int};
 ghost use Rattle.dev_pic.specs.Pair.{int_of, settled_pair};
-ghost use Rattle.dev_pit.specs.Pit.{pit_out};
-ghost use Rattle.dev_serial.specs.Access.{room_of};
-ghost use Rattle.dev_serial.specs.Line.{character_time};
+ghost use Rattle.dev_pit.specs.Pit.{pit_edge, pit_out};
 ghost use Rattle.dev_serial.specs.Port.{line_of};
+ghost use Rattle.dev_board.specs.declared.event.Event.TheVariants.{Wait};
 
-use crate::event::{Answer, Event};
+use crate::event::{Answer, Event, saying};
+use crate::kept::Kept;
 use crate::ports::Target;
-use crate::touch::Touch;
-use crate::wires::{DRIVEN, SERIAL, TIMER, WIRES, bits_where, is_high, with_wire};
+use crate::touch::{
+    Before, Touch, ack_touches, is_command, is_quiet, is_untouched, leaves_port, time_touches,
+};
+use crate::wires::{SERIAL, TIMER, WIRES, bits_where, is_high, with_wire};
 use arrayvec::ArrayVec;
-use dev_base::{LAST_MOMENT, has};
 use dev_pic::PicPair;
 use dev_pit::Pit;
 use dev_serial::{MOST_SENT, Serial};
@@ -53,7 +55,7 @@ impl Model for Parts {
 }
 
 impl Parts {
-    ghost use Rattle.dev_board.specs.Ports.{target_of, has_port as has_port_of, read as read_of, write as written};
+    ghost use Rattle.dev_board.specs.Ports.{target_of, read as read_of, write as written};
     ghost use Rattle.dev_board.specs.Sound.{IsSound};
     ghost use Rattle.dev_board.specs.State.{power_on};
     ghost use Rattle.dev_board.specs.Step.{byte_came, waited, inputs_of, settled, step, names_wire};
@@ -86,100 +88,76 @@ impl Parts {
 
     /// Applies `event`, updates the interrupt lines once, and returns the answer.
     ///
-    /// The board is sound before and after. A wire is one of the inputs 1, 3, 5, 6, 7 and 8 to 15.
-    /// Time passes at most up to the last moment.
+    /// The board is sound before and after, and `kept` is of it. A wire is one of the inputs 1, 3, 5,
+    /// 6, 7 and 8 to 15. Time passes at most up to the last moment.
     #[inline(always)]
     #[tactic(auto, unfolding(crate::specs::Step::step, crate::specs::Step::after_act, crate::specs::Step::acted, crate::specs::Step::wires_after))]
-    pub(crate) fn event(&mut self, event: Event) -> Answer
+    pub(crate) fn event(&mut self, event: Event, kept: &mut Kept) -> Answer
         requires wire { IsTrue (names_wire event) }
         requires sound { IsSound self.old }
+        requires kept { IsKept kept.old self.old }
         ensures step { (result, self.new) ≡ step event self.old }
         ensures sound { IsSound self.new }
+        ensures kept { IsKept kept.new self.new }
     {
         let lines = self.pair.lines();
         let wires = self.wires();
+        let int = kept.int;
+        let before = Before { lines, int };
         match event {
             Event::Read { port } => {
                 let (value, touch) = self.read(port);
-                let int = self.settle(wires, lines, touch, false);
-                saying(Some(value), int)
+                kept.int = self.settle(wires, before, touch, false);
+                saying(Some(value), kept.int)
             }
             Event::Write { port, value } => {
                 let touch = self.write(port, value);
-                let int = self.settle(wires, lines, touch, false);
-                saying(None, int)
+                kept.int = self.settle(wires, before, touch, false);
+                kept.calm = touch.calm(kept.calm);
+                saying(None, kept.int)
             }
             Event::Byte { value } => {
                 self.byte_in(value);
-                let int = self.settle(wires, lines, Touch::Port, false);
-                saying(None, int)
+                kept.int = self.settle(wires, before, Touch::Port, false);
+                saying(None, kept.int)
             }
-            Event::Wait { ns } => {
-                let to = self.moment.saturating_add(ns).min(LAST_MOMENT);
-                let (edge, sent) = self.wait(to);
-                let int = self.settle(wires, lines, Touch::Time, edge);
-                Answer {
-                    value: None,
-                    int,
-                    sent,
-                }
-            }
+            Event::Wait { ns } => self.pass(ns, kept),
             Event::Wire { input, up } => {
                 let wires = with_wire(wires, input, up);
-                let int = self.settle(wires, lines, Touch::Untouched, false);
-                saying(None, int)
+                kept.int = self.settle(wires, before, Touch::Untouched, false);
+                saying(None, kept.int)
             }
             Event::Ack => {
                 let value = self.pair.ack();
-                let int = self.settle(wires, lines, Touch::Access, false);
-                saying(Some(value), int)
+                kept.int = self.settle(wires, before, ack_touches(lines), false);
+                saying(Some(value), kept.int)
             }
         }
     }
 
-    /// Tells whether the master's interrupt output is high.
-    pub(crate) fn int(&self) -> bool
-        ensures { result ≡ int_of self.now.pair }
+    // Lets `ns` nanoseconds pass, as `event` does.
+    #[inline(always)]
+    #[tactic(auto, unfolding(crate::specs::Step::step, crate::specs::Step::after_act, crate::specs::Step::acted, crate::specs::Step::wires_after))]
+    fn pass(&mut self, ns: u64, kept: &mut Kept) -> Answer
+        requires sound { IsSound self.old }
+        requires kept { IsKept kept.old self.old }
+        ensures step { (result, self.new) ≡ step (Wait ns) self.old }
+        ensures sound { IsSound self.new }
+        ensures kept { IsKept kept.new self.new }
     {
-        self.pair.int()
-    }
-
-    /// Tells whether OUT of counter `counter` is high at the present moment.
-    pub(crate) fn output(&self, counter: u8) -> bool
-        requires { counter < 3 }
-        ensures { result ≡ pit_out counter self.now.moment self.now.pit }
-    {
-        self.pit.out(counter, self.moment)
-    }
-
-    /// Tells whether a device has the port `port`.
-    pub(crate) fn has_port(&self, port: u16) -> bool
-        ensures { result ≡ has_port_of self.now.level port }
-    {
-        !matches!(self.target(port), Target::Nothing)
-    }
-
-    /// Returns how many bytes the serial port's receiver has room for.
-    pub(crate) fn room(&self) -> u8
-        ensures { result ≡ room_of self.now.serial }
-    {
-        self.serial.room()
-    }
-
-    /// Returns the time of one character on the serial line, in nanoseconds.
-    pub(crate) fn character(&self) -> u64
-        ensures { result ≡ character_time self.now.serial.divisor self.now.serial.lcr }
-    {
-        self.serial.character()
-    }
-
-    /// Returns other devices in the same state.
-    pub(crate) fn copy(&self) -> Parts
-        ensures { result ≡ self.now }
-    {
-        Parts {
-            serial: self.serial.copy(),
-            ..*self
+        let lines = self.pair.lines();
+        let wires = self.wires();
+        let int = kept.int;
+        let before = Before { lines, int };
+        let to = self.later_by(ns);
+        let is_calm = to < kept.calm;
+        let (edge, sent) = self.wait(to, is_calm);
+        kept.int = self.settle(wires, before, time_touches(is_calm), edge);
+        kept.calm = self.still_calm(is_calm, kept.calm);
+        Answer {
+            value: None,
+            int: kept.int,
+            sent,
         }
     }
 
@@ -200,10 +178,10 @@ impl Parts {
         self.serial.byte_in(value, self.moment);
     }
 
-    // Returns what a port reaches.
+    /// Returns what a port reaches.
     #[inline(always)]
     #[tactic(auto, unfolding(crate::specs::Ports::target_of))]
-    fn target(&self, port: u16) -> Target
+    pub(crate) fn target(&self, port: u16) -> Target
         ensures { result ≡ target_of self.now.level port }
     {
         if self.pair.is_port(port) {
@@ -226,7 +204,8 @@ impl Parts {
     #[tactic(auto, unfolding(crate::specs::Ports::read_at))]
     fn read(&mut self, port: u16) -> (u8, Touch)
         ensures step { (result.0, self.new) ≡ read_of port self.old }
-        ensures touch { result.1 ≡ read_touches (target_of self.old.level port) (read_of port self.old).0 }
+        ensures touch { result.1
+            ≡ read_touches (target_of self.old.level port) (read_of port self.old).0 }
     {
         match self.target(port) {
             Target::Pair => (self.pair.read(port), Touch::Access),
@@ -251,12 +230,16 @@ impl Parts {
     #[tactic(auto, unfolding(crate::specs::Ports::written_at))]
     fn write(&mut self, port: u16, value: u8) -> Touch
         ensures step { self.new ≡ written port value self.old }
-        ensures touch { result ≡ write_touches (target_of self.old.level port) }
+        ensures touch { result ≡ write_touches (target_of self.old.level port) port value }
     {
         match self.target(port) {
             Target::Pair => {
                 self.pair.write(port, value);
-                Touch::Access
+                if is_command(port, value) {
+                    Touch::Command
+                } else {
+                    Touch::Access
+                }
             }
             Target::Counter { .. } | Target::Control => {
                 self.pit.write(port, value, self.moment);
@@ -271,16 +254,22 @@ impl Parts {
     }
 
     // Lets time pass up to `to`; returns whether counter 0 had a rising edge, and the bytes that
-    // left.
+    // left. There is no edge if `is_calm`.
     #[inline(always)]
     #[tactic(auto, unfolding(crate::specs::Step::waited))]
-    fn wait(&mut self, to: u64) -> (bool, ArrayVec<u8, MOST_SENT>)
+    fn wait(&mut self, to: u64, is_calm: bool) -> (bool, ArrayVec<u8, MOST_SENT>)
         requires later { self.old.moment ≤ to }
         requires last { to ≤ last_moment }
-        ensures { (record { value = None; edge = result.0; sent = result.1.items }, self.new) ≡ waited to self.old }
+        requires calm { is_calm ≡ true → pit_edge 0 self.old.moment to self.old.pit ≡ false }
+        ensures { (record { value = None; edge = result.0; sent = result.1.items }, self.new)
+            ≡ waited to self.old }
     {
         let sent = self.serial.advance(to);
-        let edge = self.pit.edge(0, self.moment, to);
+        let edge = if is_calm {
+            false
+        } else {
+            self.pit.edge(0, self.moment, to)
+        };
         self.moment = to;
         (edge, sent)
     }
@@ -313,12 +302,12 @@ impl Parts {
     // Returns the inputs of the pair: the wires, OUT of counter 0 and the serial port's line.
     #[inline(always)]
     #[tactic(auto, unfolding(crate::specs::Step::inputs_of))]
-    fn inputs(&self, wires: u16, lines: u16, touch: Touch) -> u16
-        requires { Stays touch lines self.now }
+    fn inputs(&self, wires: u16, before: Before, touch: Touch) -> u16
+        requires { Stays touch before self.now }
         ensures { result ≡ inputs_of wires self.now }
     {
-        let out = self.timer_out(touch.asks_timer(), lines);
-        let line = self.line(touch.asks_port(), lines);
+        let out = self.timer_out(touch.asks_timer(), before.lines);
+        let line = self.line(touch.asks_port(), before.lines);
         wires | bits_where(out, TIMER) | bits_where(line, SERIAL)
     }
 
@@ -326,19 +315,20 @@ impl Parts {
     // output.
     #[inline(always)]
     #[tactic(auto, unfolding(crate::specs::Step::settled))]
-    fn settle(&mut self, wires: u16, lines: u16, touch: Touch, edge: bool) -> bool
+    fn settle(&mut self, wires: u16, before: Before, touch: Touch, edge: bool) -> bool
         requires wires { AreWires wires }
-        requires stays { Stays touch lines self.old }
+        requires stays { Stays touch before self.old }
         ensures int { result ≡ int_of self.new.pair }
         ensures state { self.new ≡ settled wires edge self.old }
         ensures sound { IsSound self.new }
     {
+        let lines = before.lines;
         if is_untouched(touch, edge, wires, lines) {
-            return self.pair.int();
+            return int_after(&self.pair, touch, before.int);
         }
-        let inputs = self.inputs(wires, lines, touch);
+        let inputs = self.inputs(wires, before, touch);
         if is_quiet(touch, edge, inputs, lines) {
-            return self.pair.int();
+            return int_after(&self.pair, touch, before.int);
         }
         take(&mut self.pair, inputs, bits_where(edge, TIMER));
         self.pair.int()
@@ -353,41 +343,11 @@ fn take(pair: &mut PicPair, inputs: u16, edges: u16)
     pair.settle(inputs, edges);
 }
 
-// Returns an answer without bytes.
-fn saying(value: Option<u8>, int: bool) -> Answer
-    ensures { result ≡ saying_of value int }
+// Returns the master's output, which is still as before if it wasn't touched.
+#[inline(always)]
+fn int_after(pair: &PicPair, touch: Touch, before: bool) -> bool
+    requires { asks_int touch ≡ false → before ≡ int_of pair.now }
+    ensures { result ≡ int_of pair.now }
 {
-    Answer {
-        value,
-        int,
-        sent: ArrayVec::new(),
-    }
-}
-
-// Tells whether a read of this register that returns `value` leaves the serial port unchanged.
-#[tactic(auto, unfolding(crate::specs::Touch::leaves_port))]
-fn leaves_port(offset: u8, value: u8) -> bool
-    ensures { result ≡ leaves_port_of offset value }
-{
-    if offset == 5 {
-        !has(value, 1)
-    } else {
-        offset != 0 && offset != 2
-    }
-}
-
-// Tells whether nothing was touched, and the wires are as before.
-#[tactic(auto, unfolding(crate::specs::Touch::is_untouched))]
-fn is_untouched(touch: Touch, edge: bool, wires: u16, lines: u16) -> bool
-    ensures { result ≡ is_untouched_of touch edge wires lines }
-{
-    touch.is_nothing() && !edge && wires == lines & WIRES
-}
-
-// Tells whether these inputs leave the pair unchanged.
-#[tactic(auto, unfolding(crate::specs::Touch::is_quiet))]
-fn is_quiet(touch: Touch, edge: bool, inputs: u16, lines: u16) -> bool
-    ensures { result ≡ is_quiet_of touch edge inputs lines }
-{
-    !touch.is_access() && !edge && inputs == lines & DRIVEN
+    if touch.asks_int() { pair.int() } else { before }
 }

@@ -1,20 +1,17 @@
 // Saving and restoring a board's devices.
-ghost use Rattle.std.specs.Prelude.{◌≡◌, ◌+◌, ◌/◌, ◌≤◌, ◌++◌, [], ◌∷◌, pos, length, take, drop, IfOk};
+ghost use Rattle.std.specs.Prelude.{◌≡◌, ◌+◌, ◌/◌, ◌<◌, ◌≤◌, ◌++◌, [], ◌∷◌, pos, length, get_or, drop, IfOk};
 ghost use Rattle.dev_base.specs.Levels.{IsLevel, MayRestore};
 ghost use Rattle.dev_base.specs.declared.limits.TheConstants.{LAST_MOMENT as last_moment};
 ghost use Rattle.dev_pic.specs.Cells.{IsChipCells};
-ghost use Rattle.dev_pit.specs.Cells.{IsPitCells};
-ghost use Rattle.dev_serial.specs.Cells.{IsPortCells};
 ghost use Rattle.dev_base.specs.Bits.{same};
-ghost use Rattle.dev_board.specs.Saved.{timed as timed_of, pair_back, pit_back, serial_back, numbers_back};
+ghost use Rattle.dev_board.specs.Saved.{AreBoardCells, moment_of as moment_in, timed as timed_of, pair_back, pit_back, serial_back, numbers_back};
 ghost use Rattle.vms_kinds.specs.declared.TheConstants.{MOST_CELLS};
 
-use crate::cells::BoardCells;
+use crate::cells::{BoardCells, DeviceCells, cells_of};
 use crate::devices::Devices;
-use crate::misfit::{MASTER_DEVICE, Misfit, PIT_DEVICE, SERIAL_DEVICE, TIMER_DEVICE};
+use crate::misfit::{MASTER_DEVICE, Misfit, PIT_DEVICE, SERIAL_DEVICE, SLAVE_DEVICE, TIMER_DEVICE};
 use crate::parts::Parts;
 use crate::wires::is_high;
-use arrayvec::ArrayVec;
 use dev_base::{LAST_MOMENT, NEWEST, append, load_device, moment_at, save_device};
 use dev_pic::{ChipFault, PicPair};
 use dev_pit::Pit;
@@ -22,7 +19,7 @@ use dev_serial::Serial;
 use vms_kinds::DevCells;
 
 impl Devices {
-    ghost use Rattle.dev_board.specs.Saved.{MaySaveUnder, AreBoardCells, saved, restored};
+    ghost use Rattle.dev_board.specs.Saved.{MaySaveUnder, AreBoardCells, lists_of, saved, restored};
     ghost use Rattle.dev_board.specs.Sound.{IsSound};
 
     /// Returns the cells of the devices in set `set`.
@@ -30,11 +27,40 @@ impl Devices {
     /// # Requires
     ///
     /// `set` is from the board's level to the newest.
+    #[tactic(auto, unfolding(crate::specs::Saved::saved))]
     pub fn cells(&self, set: u8) -> BoardCells
         requires { MaySaveUnder self.now.level set }
         ensures { result ≡ saved set self.now }
     {
-        self.parts.cells(set)
+        BoardCells {
+            timer: self.parts.timer_cells(),
+            master: self.parts.master_cells(set),
+            slave: self.parts.slave_cells(set),
+            pit: self.parts.pit_cells(set),
+            serial: self.parts.serial_cells(set),
+        }
+    }
+
+    /// Returns the cells of device `device` in set `set`, those that `cells` returns for it.
+    ///
+    /// The devices are 0 the timer, 1 the master, 2 the slave, 3 the timer chip, 4 the serial port.
+    ///
+    /// # Requires
+    ///
+    /// `set` is from the board's level to the newest, and there is such a device.
+    #[tactic(auto, unfolding(crate::specs::Saved::saved))]
+    pub fn device_cells(&self, set: u8, device: u32) -> DevCells
+        requires set { MaySaveUnder self.now.level set }
+        requires device { device < 5 }
+        ensures { result.items ≡ get_or (lists_of (saved set self.now)) device [] }
+    {
+        match device {
+            TIMER_DEVICE => self.parts.timer_cells(),
+            MASTER_DEVICE => self.parts.master_cells(set),
+            SLAVE_DEVICE => self.parts.slave_cells(set),
+            PIT_DEVICE => self.parts.pit_cells(set),
+            _ => self.parts.serial_cells(set),
+        }
     }
 
     /// Returns the devices of level `level` that `cells`, of the newest set, describe.
@@ -52,22 +78,22 @@ impl Devices {
     /// - [`Misfit::LinesDisagree`]: no rule fails, but the master remembers other lines than the
     ///   devices have.
     #[tactic(auto, unfolding(crate::specs::Saved::joined, crate::specs::Saved::agreed))]
-    pub fn of_cells(level: u8, cells: &BoardCells) -> Result<Devices, Misfit>
+    pub fn of_cells<C: DeviceCells>(level: u8, cells: &C) -> Result<Devices, Misfit>
         requires level { IsLevel level }
-        requires cells { AreBoardCells cells.now }
-        ensures restored { result ≡ restored level cells.now }
+        requires cells { AreBoardCells (C.cells cells.now) }
+        ensures restored { result ≡ restored level (C.cells cells.now) }
         ensures sound { IfOk result (λ devices. IsSound devices) }
     {
-        let moment = timed(moment_at(&cells.timer, 0))?;
+        let moment = timed(moment_of(cells))?;
         let parts = Parts {
             level,
             moment,
-            pair: restore_pair(level, moment, &cells.master, &cells.slave)?,
-            pit: restore_pit(level, moment, &cells.pit)?,
-            serial: restore_serial(level, moment, &cells.serial)?,
+            pair: restore_pair(level, moment, cells)?,
+            pit: restore_pit(level, moment, cells)?,
+            serial: restore_serial(level, moment, cells)?,
         };
         if parts.lines_agree() {
-            Ok(Devices { parts })
+            Ok(Devices::of(parts))
         } else {
             Err(Misfit::LinesDisagree {
                 device: MASTER_DEVICE,
@@ -77,22 +103,51 @@ impl Devices {
 }
 
 impl Parts {
-    ghost use Rattle.dev_board.specs.Saved.{MaySaveUnder, saved, lines_agree};
+    ghost use Rattle.dev_board.specs.Saved.{MaySaveUnder, lines_agree, numbers_at};
+    ghost use Rattle.dev_pic.specs.Cells.{saved_cells};
+    ghost use Rattle.dev_pit.specs.Cells.{pit_cells as pit_cells_of};
+    ghost use Rattle.dev_serial.specs.Saved.{cells_at as port_cells};
 
-    // Returns the cells in set `set`.
-    #[tactic(auto, unfolding(crate::specs::Saved::saved))]
-    fn cells(&self, set: u8) -> BoardCells
-        requires { MaySaveUnder self.now.level set }
-        ensures { result ≡ saved set self.now }
+    // Returns the cell of the timer.
+    fn timer_cells(&self) -> DevCells
+        ensures { result.items ≡ pos self.now.moment ∷ [] }
     {
-        let (master, slave) = halves(&save_device(self.level, set, self.moment, &self.pair));
-        BoardCells {
-            timer: moment_cells(self.moment),
-            master,
-            slave,
-            pit: save_device(self.level, set, self.moment, &self.pit),
-            serial: save_device(self.level, set, self.moment, &self.serial),
-        }
+        cells_of(&[i128::from(self.moment)])
+    }
+
+    // Returns the cells of the master in set `set`, the first half of the pair's.
+    fn master_cells(&self, set: u8) -> DevCells
+        requires { MaySaveUnder self.now.level set }
+        ensures { result.items ≡ saved_cells set self.now.pair.master }
+    {
+        let mut cells = save_device(self.level, set, self.moment, &self.pair);
+        let half = cells.len() / 2;
+        cells.truncate(half);
+        cells
+    }
+
+    // Returns the cells of the slave in set `set`, the second half of the pair's.
+    fn slave_cells(&self, set: u8) -> DevCells
+        requires { MaySaveUnder self.now.level set }
+        ensures { result.items ≡ saved_cells set self.now.pair.slave }
+    {
+        second_half(&save_device(self.level, set, self.moment, &self.pair))
+    }
+
+    // Returns the cells of the timer chip in set `set`.
+    fn pit_cells(&self, set: u8) -> DevCells
+        requires { MaySaveUnder self.now.level set }
+        ensures { result.items ≡ pit_cells_of set self.now.pit }
+    {
+        save_device(self.level, set, self.moment, &self.pit)
+    }
+
+    // Returns the cells of the serial port in set `set`.
+    fn serial_cells(&self, set: u8) -> DevCells
+        requires { MaySaveUnder self.now.level set }
+        ensures { result.items ≡ port_cells (numbers_at set self.now) self.now.serial }
+    {
+        save_device(self.level, set, self.moment, &self.serial)
     }
 
     // Tells whether the lines that the master remembers are those of the devices.
@@ -114,6 +169,14 @@ fn is_same(first: bool, second: bool) -> bool
     first == second
 }
 
+// Returns the moment that the cells describe.
+fn moment_of<C: DeviceCells>(cells: &C) -> u64
+    requires { AreBoardCells (C.cells cells.now) }
+    ensures { result ≡ moment_in (C.cells cells.now) }
+{
+    moment_at(&cells.timer(), 0)
+}
+
 // Returns the moment if it is at most the last, else the rule that it breaks.
 #[tactic(auto, unfolding(crate::specs::Saved::timed))]
 fn timed(moment: u64) -> Result<u64, Misfit>
@@ -131,13 +194,17 @@ fn timed(moment: u64) -> Result<u64, Misfit>
 }
 
 // Returns the pair that its chips' cells describe, or the first rule that fails.
+fn restore_pair<C: DeviceCells>(level: u8, moment: u64, cells: &C) -> Result<PicPair, Misfit>
+    requires pass { MayRestore (numbers_back level moment) }
+    requires cells { AreBoardCells (C.cells cells.now) }
+    ensures { let cells = C.cells cells.now in
+        result ≡ pair_back level cells.master.items cells.slave.items }
+{
+    pair_of(level, moment, &cells.master(), &cells.slave())
+}
+
 #[tactic(auto, unfolding(crate::specs::Saved::by_chip))]
-fn restore_pair(
-    level: u8,
-    moment: u64,
-    master: &DevCells,
-    slave: &DevCells,
-) -> Result<PicPair, Misfit>
+fn pair_of(level: u8, moment: u64, master: &DevCells, slave: &DevCells) -> Result<PicPair, Misfit>
     requires pass { MayRestore (numbers_back level moment) }
     requires master { IsChipCells master.now.items }
     requires slave { IsChipCells slave.now.items }
@@ -158,12 +225,12 @@ fn restore_pair(
 
 // Returns the timer chip that its cells describe, or the first rule that fails.
 #[tactic(auto, unfolding(crate::specs::Saved::by_device, dev_base::specs::Hooks::hook_result))]
-fn restore_pit(level: u8, moment: u64, cells: &DevCells) -> Result<Pit, Misfit>
+fn restore_pit<C: DeviceCells>(level: u8, moment: u64, cells: &C) -> Result<Pit, Misfit>
     requires pass { MayRestore (numbers_back level moment) }
-    requires cells { IsPitCells cells.now.items }
-    ensures { result ≡ pit_back level moment cells.now.items }
+    requires cells { AreBoardCells (C.cells cells.now) }
+    ensures { result ≡ pit_back level moment (C.cells cells.now).pit.items }
 {
-    load_device::<Pit>(level, NEWEST, moment, cells).map_err(|fault| Misfit::Unsound {
+    load_device::<Pit>(level, NEWEST, moment, &cells.pit()).map_err(|fault| Misfit::Unsound {
         device: PIT_DEVICE,
         rule: fault.rule,
     })
@@ -171,32 +238,15 @@ fn restore_pit(level: u8, moment: u64, cells: &DevCells) -> Result<Pit, Misfit>
 
 // Returns the serial port that its cells describe, or the first rule that fails.
 #[tactic(auto, unfolding(crate::specs::Saved::by_device, dev_base::specs::Hooks::hook_result))]
-fn restore_serial(level: u8, moment: u64, cells: &DevCells) -> Result<Serial, Misfit>
+fn restore_serial<C: DeviceCells>(level: u8, moment: u64, cells: &C) -> Result<Serial, Misfit>
     requires pass { MayRestore (numbers_back level moment) }
-    requires cells { IsPortCells cells.now.items }
-    ensures { result ≡ serial_back level moment cells.now.items }
+    requires cells { AreBoardCells (C.cells cells.now) }
+    ensures { result ≡ serial_back level moment (C.cells cells.now).serial.items }
 {
-    load_device::<Serial>(level, NEWEST, moment, cells).map_err(|fault| Misfit::Unsound {
+    load_device::<Serial>(level, NEWEST, moment, &cells.serial()).map_err(|fault| Misfit::Unsound {
         device: SERIAL_DEVICE,
         rule: fault.rule,
     })
-}
-
-// Returns these numbers as cells; there is room for `MOST_CELLS`.
-fn cells_of(numbers: &[i128]) -> DevCells
-    requires { length numbers.now ≤ MOST_CELLS }
-    ensures { result.items ≡ numbers.now }
-{
-    let mut cells = ArrayVec::new();
-    append(&mut cells, numbers);
-    cells
-}
-
-// Returns the cell of a moment.
-fn moment_cells(moment: u64) -> DevCells
-    ensures { result.items ≡ pos moment ∷ [] }
-{
-    cells_of(&[i128::from(moment)])
 }
 
 // Returns the cells of two chips, one after the other.
@@ -209,12 +259,11 @@ fn joined(master: &DevCells, slave: &DevCells) -> DevCells
     cells
 }
 
-// Returns the cells of two chips separately, the same number of each.
-fn halves(cells: &DevCells) -> (DevCells, DevCells)
+// Returns the cells of the second of two chips that have the same number of cells.
+fn second_half(cells: &DevCells) -> DevCells
     requires { length cells.now.items ≤ MOST_CELLS }
-    ensures master { result.0.items ≡ take (length cells.now.items / 2) cells.now.items }
-    ensures slave { result.1.items ≡ drop (length cells.now.items / 2) cells.now.items }
+    ensures { result.items ≡ drop (length cells.now.items / 2) cells.now.items }
 {
-    let (master, slave) = cells.split_at(cells.len() / 2);
-    (cells_of(master), cells_of(slave))
+    let (_, second) = cells.split_at(cells.len() / 2);
+    cells_of(second)
 }

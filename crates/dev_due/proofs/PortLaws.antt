@@ -14,45 +14,9 @@ use Rattle.dev_serial.specs.Transmit.{IsSentAfter, arrived, departures, gone, ho
 use Rattle.dev_serial.specs.declared.shift.Shift.{Shift}
 use Rattle.dev_due.specs.Search.{SameLine}
 use Rattle.dev_serial.proofs.SendLemmas.{bytes_of-timetable, looped_none}
-use Rattle.dev_serial.proofs.SendingLaws.{advances_in_parts, character-positive, loops_at_moment, waits_until_due}
+use Rattle.dev_serial.proofs.SendingLaws.{advances_in_parts, character-positive, loops_at_moment, still, waits_until_due}
 
 -- ---- nothing leaves
-
-no_line : (looped : Bool) → cond {A = List ℕ} looped [] [] ≡ []
-no_line true = refl
-no_line false = refl
-
-no_latch : (empty latch : Bool) → (if empty && not empty then true else latch) ≡ latch
-no_latch true latch = refl
-no_latch false latch = refl
-
-abbrev outcome : Port → List ℕ → ReceiverState → TransmitterState → Bool → List ℕ × Port
-outcome port line receiver transmitter latch = (line, record port { receiver = receiver; transmitter = transmitter; thr_empty = latch })
-
-same_outcome : (port : Port) (line line' : List ℕ) (receiver receiver' : ReceiverState) (transmitter transmitter' : TransmitterState) (latch latch' : Bool)
-    → line ≡ line' → receiver ≡ receiver' → transmitter ≡ transmitter' → latch ≡ latch' → outcome port line receiver transmitter latch ≡ outcome port line' receiver' transmitter' latch'
-same_outcome port line line' receiver receiver' transmitter transmitter' latch latch' e f g h = cc
-
-idle : (to : ℕ) (port : Port) → port.transmitter.shift ≡ None → advanced to port ≡ ([], port)
-unfolding advanced departures gone run_until arrived
-idle to port e =
-    let character = character_time port.divisor port.lcr in
-    let none : leaving to port ≡ [] = rw e refl in
-    let stays : run_until character to port.transmitter.shift port.transmitter.waiting ≡ port.transmitter =
-    ap (λ (s : Option Shift). run_until character to s port.transmitter.waiting) e
-    ∙ ap (λ (s : Option Shift). let t : TransmitterState = record { waiting = port.transmitter.waiting; shift = s } in t) (sym e) in
-    same_outcome port _ [] _ port.receiver _ port.transmitter _ port.thr_empty
-    (rw none (no_line (has port.mcr 4)))
-    (rw none (looped_none (has port.mcr 4) (mode_of port) port.receiver))
-    stays
-    (rw stays (no_latch (is_empty port.transmitter.waiting) port.thr_empty))
-
-still-by : (shift : Option Shift) (to : ℕ) (port : Port) → port.transmitter.shift ≡ shift → IsSentAfter to shift → advanced to port ≡ ([], port)
-still-by None to port e h = idle to port e
-still-by (Some shift) to port e h = waits_until_due to port shift e h
-
-still : (to : ℕ) (port : Port) → IsSentAfter to port.transmitter.shift → advanced to port ≡ ([], port)
-still to port h = still-by port.transmitter.shift to port refl h
 
 sent_after : (shift : Option Shift) (c to : ℕ) → c ≤ to → IsSentAfter to shift → IsSentAfter c shift
 sent_after None c to l h = tt

@@ -26,7 +26,7 @@ pub fn clock_due(devices: &ClockDevices) -> Option<u64>
     Some(at - devices.now())
 }
 
-/// A board is next due at one wait at most.
+/// States that a board is next due at one wait at most.
 #[tactic(auto, using(crate::proofs::OneLaw::one_is_due))]
 pub fn one_law()
     ensures isa { OneIsDue step board_int }

@@ -5,6 +5,7 @@ use Rattle.vms_spec.specs.Images.{Image}
 use Rattle.vms_spec.specs.Sets.{Sub, Device, Set}
 use Rattle.vms_spec.specs.Streams.{is_needed}
 use Rattle.dev_board.specs.Saved.{saved}
+pub use Rattle.dev_board.specs.Saved.{lists_of}
 use Rattle.dev_board.specs.State.{State}
 use Rattle.vms_desc.specs.Formed.{shipped_set}
 use Rattle.dev_board.specs.declared.cells.BoardCells.{BoardCells}
@@ -29,10 +30,6 @@ abbrev pub images_of : Set → List Device → List (List ℤ) → List Image
 images_of set [] lists = []
 images_of set (d ∷ devices) [] = []
 images_of set (d ∷ devices) (numbers ∷ lists) = image_of set d numbers ∷ images_of set devices lists
-
--- `lists_of cells` is the list of the cells of a board's devices, in their order.
-abbrev pub lists_of : BoardCells → List (List ℤ)
-lists_of cells = cells.timer.items ∷ cells.master.items ∷ cells.slave.items ∷ cells.pit.items ∷ cells.serial.items ∷ []
 
 -- `saved_images set m` is the list of the images that the board is saved in, in the shipped set.
 abbrev pub saved_images : ℕ → State → List Image

@@ -1,5 +1,6 @@
 pub mod BitLaws
 pub mod CellLemmas
+pub mod CommandLaws
 pub mod FaultLaws
 pub mod InitLaws
 pub mod LineLaws

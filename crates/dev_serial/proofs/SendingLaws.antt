@@ -12,7 +12,7 @@ use Rattle.dev_serial.specs.Parts.{ReceiverState, TransmitterState}
 use Rattle.dev_serial.specs.Port.{Port, mode_of}
 use Rattle.dev_serial.specs.Receive.{received}
 use Rattle.dev_serial.specs.Sending.{Event, Writes, Advances, after, after_all, left_in, left_in_all, accepted_in, accepted_in_all, replaces, pending, SendsInOrder, ReplacesOne, LeavesForLine, AdvancesInParts, WaitsUntilDue, LoopsAtMoment}
-use Rattle.dev_serial.specs.Transmit.{timetable, departures, gone, staying, holding, arrived, on_line, looped_in, run_until, gone_by, bytes_of, byte_of, pending_of, queued, loaded}
+use Rattle.dev_serial.specs.Transmit.{IsSentAfter, timetable, departures, gone, staying, holding, arrived, on_line, looped_in, run_until, gone_by, bytes_of, byte_of, pending_of, queued, loaded}
 use Rattle.dev_serial.specs.declared.mode.Mode.{Mode}
 use Rattle.dev_serial.specs.declared.shift.Shift.{Shift}
 use Rattle.dev_serial.proofs.SendLemmas.{bytes_of-timetable, looped_none}
@@ -171,6 +171,28 @@ waits_until_due to port shift e h =
     (rw none (looped_none (has port.mcr 4) (mode_of port) port.receiver))
     still
     (rw still (no_change (is_empty port.transmitter.waiting) port.thr_empty))
+
+idle : (to : ℕ) (port : Port) → port.transmitter.shift ≡ None → advanced to port ≡ ([], port)
+unfolding advanced departures gone run_until arrived outcome
+idle to port e =
+    let character = character_time port.divisor port.lcr in
+    let none : leaving to port ≡ [] = rw e refl in
+    let same : run_until character to port.transmitter.shift port.transmitter.waiting ≡ port.transmitter =
+    ap (λ (s : Option Shift). run_until character to s port.transmitter.waiting) e
+    ∙ ap (λ (s : Option Shift). let t : TransmitterState = record { waiting = port.transmitter.waiting; shift = s } in t) (sym e) in
+    same_outcome port _ [] _ port.receiver _ port.transmitter _ port.thr_empty
+    (rw none (no_line (has port.mcr 4)))
+    (rw none (looped_none (has port.mcr 4) (mode_of port) port.receiver))
+    same
+    (rw same (no_change (is_empty port.transmitter.waiting) port.thr_empty))
+
+still-by : (shift : Option Shift) (to : ℕ) (port : Port) → port.transmitter.shift ≡ shift → IsSentAfter to shift → advanced to port ≡ ([], port)
+still-by None to port e h = idle to port e
+still-by (Some shift) to port e h = waits_until_due to port shift e h
+
+-- nothing leaves before it is due
+pub still : (to : ℕ) (port : Port) → IsSentAfter to port.transmitter.shift → advanced to port ≡ ([], port)
+still to port h = still-by port.transmitter.shift to port refl h
 
 pub character-positive : (divisor lcr : ℕ) → 1 ≤ character_time divisor lcr
 unfolding character_time

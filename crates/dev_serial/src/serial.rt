@@ -333,7 +333,7 @@ impl Serial {
         ensures few { length result.items ≤ MOST_SENT }
         ensures none_due { IsSentAfter to self.new.transmitter.shift }
     {
-        if self.transmitter.shift().is_none() {
+        if self.is_still(to) {
             return ArrayVec::new();
         }
         self.send(to)

@@ -1,5 +1,5 @@
 // A copy of a port, and what it sends, waits for and has room for next.
-ghost use Rattle.std.specs.Prelude.{◌≡◌, ◌≤◌, length};
+ghost use Rattle.std.specs.Prelude.{◌≡◌, ◌≤◌, length, IsTrue, ◌↔◌};
 
 use crate::fifo::FIFO_BYTES;
 use crate::mode::{LONGEST_CHARACTER, character_time};
@@ -10,6 +10,7 @@ use dev_base::has;
 
 impl Serial {
     ghost use Rattle.dev_serial.specs.Access.{room_of};
+    ghost use Rattle.dev_serial.specs.Transmit.{IsSentAfter};
     ghost use Rattle.dev_serial.specs.Line.{character_time as character_time_of};
 
     /// Returns another port in the same state.
@@ -28,6 +29,17 @@ impl Serial {
         ensures { result ≡ self.now.transmitter.shift }
     {
         self.transmitter.shift()
+    }
+
+    /// Returns whether no byte leaves the shift register by the moment `to`.
+    #[inline(always)]
+    pub fn is_still(&self, to: u64) -> bool
+        ensures { IsTrue result ↔ IsSentAfter to self.now.transmitter.shift }
+    {
+        match self.transmitter.shift() {
+            None => true,
+            Some(shift) => to < shift.due,
+        }
     }
 
     /// Returns the number of bytes that wait for the shift register, at most 16.

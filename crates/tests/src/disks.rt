@@ -4,6 +4,7 @@ use std::alloc::{Allocator, Global};
 use std::fs::{Metadata, OpenFile, OpenOptions, Permissions};
 use std::io;
 use std::io::{ErrorKind, Read, Seek, SeekFrom, Write};
+use std::os::unix::fs::PermissionsExt;
 use std::process::Abort;
 use std::rt::Files;
 use std::test::Fail;
@@ -144,6 +145,28 @@ fn keeps_many<H: Shelf>(rt: &impl Abort, alloc: Global, shelf: &mut H, bytes: &[
     assert!(rt; shelf.store("a", b"four").is_ok());
     assert!(rt; gives(alloc, shelf, "a", 4, b"four"));
     assert!(rt; refusal(alloc, shelf, ".a.new") == Some(FetchFault::NotThere));
+}
+
+#[test]
+fn a_store_keeps_permissions_and_links(rt: HostRuntime) -> Result<(), Fail> {
+    let alloc = rt.alloc();
+    rt.create_dir("modes")?;
+    let mut shelf = FileShelf::new(rt.clone()?, String::from_str(alloc, "modes")?);
+    assert!(rt; shelf.store("a", b"old").is_ok());
+    rt.set_permissions("modes/a", Permissions::from_mode(0o640))?;
+    rt.symlink("a", "modes/link")?;
+    keeps_kinds(&rt, alloc, &mut shelf)?;
+    Ok(())
+}
+
+fn keeps_kinds<R: Abort + Files, H: Shelf>(rt: &R, alloc: Global, shelf: &mut H) -> io::Result<()> {
+    assert!(rt; shelf.store("a", b"new").is_ok());
+    let mode = rt.metadata("modes/a")?.permissions().mode();
+    assert_eq!(rt; mode & 0o777, 0o640);
+    assert!(rt; shelf.store("link", b"last").is_ok());
+    assert!(rt; rt.symlink_metadata("modes/link")?.is_symlink());
+    assert!(rt; gives(alloc, shelf, "a", 4, b"last"));
+    Ok(())
 }
 
 #[test]

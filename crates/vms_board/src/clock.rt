@@ -9,8 +9,9 @@ ghost use Rattle.vms_rtc.specs.declared.limits.TheConstants.{NEWEST_CLOCK as new
 use crate::board::MachineBoard;
 use crate::cells::clock_cells_in;
 use crate::machine::Machine;
+use dev_base::{NEWEST, save_device};
 use dev_board::{Answer, Event, Misfit};
-use dev_clock::{ClockCells, ClockDevices};
+use dev_clock::ClockDevices;
 use dev_due::clock_due;
 use std::alloc::Global;
 use vms_desc::DescSet;
@@ -21,9 +22,6 @@ use vms_rtc::NEWEST_CLOCK;
 use vms_shipped::clock_machine;
 
 impl Machine for ClockDevices {
-    type Cells = ClockCells;
-
-    ghost use Rattle.dev_clock_images.specs.Images.{lists_of};
     ghost use Rattle.dev_clock.specs.Sound.{IsSound};
     ghost use Rattle.vms_board.specs.Clock.{clock, AreTold};
     ghost use Rattle.vms_board.specs.ClockStands.{clock_stands};
@@ -33,8 +31,6 @@ impl Machine for ClockDevices {
     ghost is_sound = { IsSound };
 
     ghost are_told = { AreTold };
-
-    ghost held = { lists_of };
 
     fn newest() -> u8 {
         NEWEST_CLOCK
@@ -84,18 +80,11 @@ impl Machine for ClockDevices {
         clock_due(self)
     }
 
-    fn cells(&self, set: u8) -> ClockCells {
-        self.cells(set)
-    }
-
-    fn list<'a>(cells: &'a ClockCells, device: u32) -> &'a DevCells {
+    #[tactic(auto, unfolding(dev_clock::specs::Saved::saved))]
+    fn cells(&self, set: u8, device: u32) -> DevCells {
         match device {
-            0 => &cells.clock,
-            1 => &cells.board.timer,
-            2 => &cells.board.master,
-            3 => &cells.board.slave,
-            4 => &cells.board.pit,
-            _ => &cells.board.serial,
+            0 => save_device(self.version(), set, self.now(), self.clock()),
+            _ => self.board().device_cells(NEWEST, device - 1),
         }
     }
 

@@ -4,10 +4,10 @@ ghost use Rattle.dev_base.specs.Levels.{IsLevel};
 ghost use Rattle.vms_board.specs.Isa.{machine_of};
 
 use crate::board::MachineBoard;
-use crate::cells::cells_at;
+use crate::cells::BoardImages;
 use crate::machine::Machine;
 use dev_base::NEWEST;
-use dev_board::{Answer, BoardCells, Devices, Event, Misfit};
+use dev_board::{Answer, Devices, Event, Misfit};
 use dev_due::due;
 use std::alloc::Global;
 use vms_desc::DescSet;
@@ -17,9 +17,6 @@ use vms_kinds::DevCells;
 use vms_shipped::isa_machine;
 
 impl Machine for Devices {
-    type Cells = BoardCells;
-
-    ghost use Rattle.dev_images.specs.Images.{lists_of};
     ghost use Rattle.dev_board.specs.Sound.{IsSound};
     ghost use Rattle.vms_board.specs.Isa.{isa, AreTold};
     ghost use Rattle.vms_board.specs.IsaStands.{isa_stands};
@@ -29,8 +26,6 @@ impl Machine for Devices {
     ghost is_sound = { IsSound };
 
     ghost are_told = { AreTold };
-
-    ghost held = { lists_of };
 
     fn newest() -> u8 {
         NEWEST
@@ -81,29 +76,12 @@ impl Machine for Devices {
         due(self)
     }
 
-    fn cells(&self, set: u8) -> BoardCells {
-        self.cells(set)
-    }
-
-    fn list<'a>(cells: &'a BoardCells, device: u32) -> &'a DevCells {
-        match device {
-            0 => &cells.timer,
-            1 => &cells.master,
-            2 => &cells.slave,
-            3 => &cells.pit,
-            _ => &cells.serial,
-        }
+    fn cells(&self, set: u8, device: u32) -> DevCells {
+        self.device_cells(set, device)
     }
 
     fn of_images(number: u8, images: &[Image]) -> Result<Devices, Misfit> {
-        let cells = BoardCells {
-            timer: cells_at(images, 0),
-            master: cells_at(images, 1),
-            slave: cells_at(images, 2),
-            pit: cells_at(images, 3),
-            serial: cells_at(images, 4),
-        };
-        Devices::of_cells(number, &cells)
+        Devices::of_cells(number, &BoardImages::new(images))
     }
 
     ghost stands = { isa_stands };

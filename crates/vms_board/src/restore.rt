@@ -1,7 +1,7 @@
 // Restores a board.
 ghost use Rattle.std.specs.Prelude.{◌≡◌, IfErr, IfOk, OnErr, OnOk};
 ghost use Rattle.vms_io.specs.Told.{intake};
-ghost use Rattle.vms_load.specs.Kept.{loads, kept, taken_by};
+ghost use Rattle.vms_load.specs.Lean.{loads, has, taken_by};
 ghost use Rattle.vms_board.specs.Comes.{RestoreReads, TakingsRead};
 ghost use Rattle.vms_board.specs.Family.{IsNumber, lists_in};
 ghost use Rattle.vms_board.specs.Comes.{IsUnfit, refusal_of as refusal_by};
@@ -11,7 +11,7 @@ use crate::machine::Machine;
 use dev_board::Misfit;
 use thiserror::Error;
 use vms_io::Source;
-use vms_load::{LoadFault, Loader, Reason, Refusal};
+use vms_load::{LeanLoader, LoadFault, Reason, Refusal};
 
 /// Why a board wasn't restored. It is as it was.
 #[derive(Debug, Drop, Error)]
@@ -57,16 +57,16 @@ impl<M: Machine> MachineBoard<M> {
 
 // Reads a stream that names the machine with the number `number` or none.
 fn take<M: Machine, S: Source>(
-    loader: &mut Loader,
+    loader: &mut LeanLoader,
     number: u8,
     source: &mut S,
 ) -> Result<(), RestoreFault>
     requires number { IsNumber M.family number }
     requires newest { loads loader.old ≡ M.family.set M.family.newest }
     ensures reads { TakingsRead M.family number (intake S.Source source.old)
-        (intake S.Source source.new) (kept loader.new) (taken_by loader.new) result }
+        (intake S.Source source.new) (has loader.new) (taken_by loader.new) result }
     ensures newest { loads loader.new ≡ M.family.set M.family.newest }
-    ensures told { OnOk result (M.are_told (lists_in (kept loader.new))) }
+    ensures told { OnOk result (M.are_told (lists_in (has loader.new))) }
 {
     match loader.load(source, Some(u32::from(number - 1))) {
         Ok(_) => Ok(()),
@@ -75,15 +75,15 @@ fn take<M: Machine, S: Source>(
     }
 }
 
-// Returns the devices in the images that `loader` keeps, or the refusal of the stream.
-fn devices_of<M: Machine>(number: u8, loader: &Loader) -> Result<M, RestoreFault>
+// Returns the devices in the images that `loader` has, or the refusal of the stream.
+fn devices_of<M: Machine>(number: u8, loader: &LeanLoader) -> Result<M, RestoreFault>
     requires number { IsNumber M.family number }
     requires newest { loads loader.now ≡ M.family.set M.family.newest }
-    requires told { M.are_told (lists_in (kept loader.now)) }
-    ensures restored { let lists = lists_in (kept loader.now) in
+    requires told { M.are_told (lists_in (has loader.now)) }
+    ensures restored { let lists = lists_in (has loader.now) in
         IfOk result (λ devices. M.family.restored number lists ≡ Ok devices) }
     ensures sound { IfOk result M.is_sound }
-    ensures unfit { IfErr result (IsUnfit M.family number (taken_by loader.now) (kept loader.now)) }
+    ensures unfit { IfErr result (IsUnfit M.family number (taken_by loader.now) (has loader.now)) }
 {
     match M::of_images(number, loader.images()) {
         Ok(devices) => Ok(devices),

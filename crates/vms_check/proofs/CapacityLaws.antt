@@ -5,7 +5,7 @@ use Rattle.std.proofs.lemmas.Bool.Decides.{nat_tests}
 use Rattle.std.proofs.lemmas.Bool.{and_from}
 use Rattle.vms_kinds.specs.declared.Item.{Item}
 use Rattle.vms_spec.specs.declared.Count.{Count}
-use Rattle.vms_spec.specs.declared.Count.TheVariants.{One, Fixed, Counted}
+use Rattle.vms_spec.specs.declared.Count.TheVariants.{Counted}
 use Rattle.vms_spec.specs.Layout.{counted}
 use Rattle.vms_spec.specs.Sets.{Field}
 use Rattle.vms_parts.specs.Capacities.{lesser, least_from, least_of}
@@ -65,9 +65,8 @@ room_by v n most f rest false h = refl
 
 room_one : (c : Count) (f : Field) (fs : List Field) (v i n : ℕ) → Holds n (counted i (of_count c f ∷ fs)) → has_room v i n f c ≡ true
 unfolding of_count
-room_one One f fs v i n h = refl
-room_one (Fixed m) f fs v i n h = refl
 room_one (Counted by most) f fs v i n h = room_by v n most f (counted i fs) (by == i) h
+room_one _ f fs v i n h = refl
 
 rest_by : (n most : ℕ) (rest : List ℕ) (b : Bool) → Holds n ((if b then most ∷ [] else []) ++ rest) → Holds n rest
 rest_by n most rest true h = h.1
@@ -75,9 +74,8 @@ rest_by n most rest false h = h
 
 rest_hold : (c : Count) (f : Field) (fs : List Field) (i n : ℕ) → Holds n (counted i (of_count c f ∷ fs)) → Holds n (counted i fs)
 unfolding of_count
-rest_hold One f fs i n h = h
-rest_hold (Fixed m) f fs i n h = h
 rest_hold (Counted by most) f fs i n h = rest_by n most (counted i fs) (by == i) h
+rest_hold _ f fs i n h = h
 
 all_hold : (fields : List Field) (v i n : ℕ) → Holds n (counted i fields) → absent_hold v i n fields ≡ true
 unfolding of_count

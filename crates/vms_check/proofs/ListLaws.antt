@@ -8,11 +8,13 @@ use Rattle.vms_spec.specs.Lists.{first_answer}
 use Rattle.vms_spec.proofs.ListLaws.{both_none}
 use Rattle.vms_check.specs.Comparing.{failing_pair}
 
-pub passes : (rule : ℕ) (b : Bool) (rules : List (ℕ × Bool)) (p q : Place) → failing_pair ((rule, b) ∷ rules) p q ≡ None → (b ≡ true) × (failing_pair rules p q ≡ None)
+pub passes : (rule : ℕ) (b : Bool) (rules : List (ℕ × Bool)) (p q : Place) → failing_pair ((rule, b) ∷ rules) p q ≡ None
+    → (b ≡ true) × (failing_pair rules p q ≡ None)
 passes rule true rules p q e = (refl, e)
 passes rule false rules p q e = absurd (cc)
 
-pub pass : (rule : ℕ) (b : Bool) (rules : List (ℕ × Bool)) (p q : Place) → b ≡ true → failing_pair rules p q ≡ None → failing_pair ((rule, b) ∷ rules) p q ≡ None
+pub pass : (rule : ℕ) (b : Bool) (rules : List (ℕ × Bool)) (p q : Place) → b ≡ true → failing_pair rules p q ≡ None
+    → failing_pair ((rule, b) ∷ rules) p q ≡ None
 pass rule true rules p q e f = f
 pass rule false rules p q e f = absurd (cc)
 
@@ -25,7 +27,8 @@ pub at_every : {X : Type 0} (p : X → Bool) (xs : List X) → ((i : ℕ) (x : X
 at_every p [] h = refl
 at_every p (x ∷ xs) h = ap (λ (b : Bool). b && list_all p xs) (h 0 x refl) ∙ at_every p xs (λ i y e. h (suc i) y e)
 
-pub none_answers : {X Y : Type 0} (f : ℕ → X → Option Y) (i : ℕ) (xs : List X) → ((j : ℕ) (x : X) → slice_get xs j ≡ Some x → f (i + j) x ≡ None) → first_answer f i xs ≡ None
+pub none_answers : {X Y : Type 0} (f : ℕ → X → Option Y) (i : ℕ) (xs : List X) → ((j : ℕ) (x : X) → slice_get xs j ≡ Some x → f (i + j) x ≡ None)
+    → first_answer f i xs ≡ None
 none_answers f i [] h = refl
 none_answers f i (x ∷ xs) h =
     let plus : i ≡ i + 0 = omega arith in

@@ -1,16 +1,21 @@
 -- The position of a field among the present ones is how many are present before it.
-use Rattle.std.proofs.Common.{◌≡◌, ℕ, zero, suc, ◌+◌, ◌<◌, ◌≤◌, List, ◌∷◌, ◌++◌, length, get_or, take, map, replicate, Bool, true, false, Option, Some, None, refl, sym, ap, ◌∙◌, arith, []}
+use Rattle.std.proofs.Common.{◌≡◌, ℕ, zero, suc, ◌+◌, ◌<◌, ◌≤◌, List, ◌∷◌, ◌++◌, length, get_or, take, map, replicate, Bool, true, false, Option, Some, None}
+use Rattle.std.proofs.Common.{refl, sym, ap, ◌∙◌, arith, [], drop, subst, add-one}
 use Rattle.std.specs.Prelude.{not, ◌==◌, if◌then◌else◌}
 use Rattle.std.proofs.lemmas.Bool.{eq-eqb, ne_eqb}
-use Rattle.std.proofs.lemmas.List.{length-map, map-append, take-map, take_more}
+use Rattle.std.proofs.lemmas.List.{length-map, map-append, take-map, take_more, drop_all, drop_more}
 use Rattle.vms_spec.specs.Layout.{no_field}
 use Rattle.vms_spec.specs.Sets.{Formula, Field}
 use Rattle.vms_parts.specs.declared.types.Field.{Field as CodeField}
 use Rattle.vms_parts.specs.Views.{field_of}
 use Rattle.vms_parts.proofs.Items.{get_map_at}
 use Rattle.vms_check.specs.Comparing.{Entry, entry_of, position_from, is_absent, is_nothing}
-use Rattle.vms_check.specs.Reducing.{presence}
-use Rattle.vms_check.specs.Sides.{fields_from, count_present, position_in}
+use Rattle.vms_check.specs.Reducing.{presence, Reduced, Known, left_of}
+use Rattle.vms_check.specs.Sides.{fields_from, count_present, position_in, field_reduced, desc_on}
+use Rattle.vms_check.specs.Pairs.{tree_of, IsFirst}
+use Rattle.vms_check.specs.declared.present.Present.{Present}
+use Rattle.vms_check.specs.declared.side.Side.{Side}
+use Rattle.vms_check.proofs.PairLaws.{presence_is}
 
 by_presence : (p i : ℕ) (f : Field) (es : List Entry) (k : ℕ) (o : Option (Option Formula))
     → position_from p (entry_of i 0 f o ++ es) k ≡ (if is_nothing o then position_from p es k else (if i == k then Some p else position_from (suc p) es k))
@@ -33,34 +38,28 @@ none_before v p i [] k lt = refl
 none_before v p i (f ∷ fs) k lt =
     next_is v p i f fs k
     ∙ either (is_absent v f) _ _ None (none_before v p (suc i) fs k (omega arith))
-    (ap (λ (b : Bool). if b then Some p else position_from (suc p) (fields_from v (suc i) fs) k) (ne_eqb i k (λ e. omega (arith, e, lt))) ∙ none_before v (suc p) (suc i) fs k (omega arith))
+    (rw (ne_eqb i k (λ e. omega (arith, e))) (none_before v (suc p) (suc i) fs k (omega arith)))
 
 abbrev next_position : ℕ → ℕ → Field → ℕ
 next_position v p f = (if is_absent v f then 0 else 1) + p
 
-found_from : (v p i : ℕ) (f : Field) (fs : List Field) (k : ℕ) → position_from p (fields_from v i (f ∷ fs)) (i + suc k) ≡ position_from (next_position v p f) (fields_from v (suc i) fs) (suc i + k)
+found_from : (v p i : ℕ) (f : Field) (fs : List Field) (k : ℕ)
+    → position_from p (fields_from v i (f ∷ fs)) (i + suc k) ≡ position_from (next_position v p f) (fields_from v (suc i) fs) (suc i + k)
 found_from v p i f fs k =
-    next_is v p i f fs (i + suc k)
-    ∙ ap (λ (b : Bool). if is_absent v f then position_from p (fields_from v (suc i) fs) (i + suc k) else (if b then Some p else position_from (suc p) (fields_from v (suc i) fs) (i + suc k))) (later_number i k)
-    ∙ ap (λ (n : ℕ). if is_absent v f then position_from p (fields_from v (suc i) fs) n else position_from (suc p) (fields_from v (suc i) fs) n) plus
-    ∙ by_case (is_absent v f)
+    next_is v p i f fs (i + suc k) ∙ rw (later_number i k, plus) (by_case (is_absent v f))
   where
     plus : i + suc k ≡ suc i + k
     plus = omega arith
 
     by_case : (b : Bool) → (if b then position_from p (fields_from v (suc i) fs) (suc i + k) else position_from (suc p) (fields_from v (suc i) fs) (suc i + k))
         ≡ position_from ((if b then 0 else 1) + p) (fields_from v (suc i) fs) (suc i + k)
-    by_case true = let e : p ≡ 0 + p = omega arith in ap (λ (n : ℕ). position_from n (fields_from v (suc i) fs) (suc i + k)) e
-    by_case false = let e : suc p ≡ 1 + p = omega arith in ap (λ (n : ℕ). position_from n (fields_from v (suc i) fs) (suc i + k)) e
+    by_case true = let e : 0 + p ≡ p = omega arith in rw e
+    by_case false = let e : 1 + p ≡ suc p = omega arith in rw e
 
-found_here : (v p i : ℕ) (f : Field) (fs : List Field) (b : Bool) → is_absent v f ≡ b → position_from p (fields_from v i (f ∷ fs)) i ≡ (if b then None else Some p)
-found_here v p i f fs true e =
-    next_is v p i f fs i
-    ∙ ap (λ (b : Bool). if b then position_from p (fields_from v (suc i) fs) i else (if i == i then Some p else position_from (suc p) (fields_from v (suc i) fs) i)) e ∙ none_before v p (suc i) fs i (omega arith)
-found_here v p i f fs false e =
-    next_is v p i f fs i
-    ∙ ap (λ (b : Bool). if b then position_from p (fields_from v (suc i) fs) i else (if i == i then Some p else position_from (suc p) (fields_from v (suc i) fs) i)) e
-    ∙ ap (λ (b : Bool). if b then Some p else position_from (suc p) (fields_from v (suc i) fs) i) (eq-eqb i i refl)
+found_here : (v p i : ℕ) (f : Field) (fs : List Field) (b : Bool) → is_absent v f ≡ b
+    → position_from p (fields_from v i (f ∷ fs)) i ≡ (if b then None else Some p)
+found_here v p i f fs true e = next_is v p i f fs i ∙ rw e (none_before v p (suc i) fs i (omega arith))
+found_here v p i f fs false e = next_is v p i f fs i ∙ rw (e, eq-eqb i i refl)
 
 there_from : (v p i : ℕ) (fs : List Field) (k : ℕ) (b : Bool) → k < length fs → is_absent v (get_or fs k no_field) ≡ b
     → position_from p (fields_from v i fs) (i + k) ≡ (if b then None else Some (count_present v (take k fs) + p))
@@ -76,10 +75,9 @@ there_from v p i (f ∷ fs) (suc k) b lt e =
     plus = omega arith
 
 pub flipped : (b c : Bool) → not b ≡ c → b ≡ not c
-flipped true true e = sym e
 flipped true false e = refl
 flipped false true e = refl
-flipped false false e = sym e
+flipped _ _ e = sym e
 
 pub there_is : (v : ℕ) (fs : List Field) (k : ℕ) (b : Bool) → k < length fs → is_absent v (get_or fs k no_field) ≡ b
     → position_in v fs k ≡ (if b then None else Some (count_present v (take k fs)))
@@ -145,13 +143,16 @@ module _ (v : ℕ) (fields : List CodeField) (k : ℕ) (f : CodeField) (is_there
       ∙ count-append v (map field_of (take k fields)) (field_of (get_or fields k f) ∷ [])
       ∙ ap (λ (g : CodeField). count_present v (map field_of (take k fields)) + count_present v (field_of g ∷ [])) (sym is))
     where
-      by : (b : Bool) → b ≡ not (is_absent v (field_of f)) → (if b then suc count else count) ≡ count_present v (map field_of (take k fields)) + count_present v (field_of f ∷ [])
+      by : (b : Bool) → b ≡ not (is_absent v (field_of f))
+          → (if b then suc count else count) ≡ count_present v (map field_of (take k fields)) + count_present v (field_of f ∷ [])
       by true h =
           let one : suc count ≡ count_present v (map field_of (take k fields)) + (1 + 0) = omega (arith, n) in
-          one ∙ ap (λ (b : Bool). count_present v (map field_of (take k fields)) + ((if b then 0 else 1) + 0)) (sym (flipped (is_absent v (field_of f)) true (sym h)))
+          one ∙ ap (λ (b : Bool). count_present v (map field_of (take k fields)) + ((if b then 0 else 1) + 0))
+          (sym (flipped (is_absent v (field_of f)) true (sym h)))
       by false h =
           let none : count ≡ count_present v (map field_of (take k fields)) + (0 + 0) = omega (arith, n) in
-          none ∙ ap (λ (b : Bool). count_present v (map field_of (take k fields)) + ((if b then 0 else 1) + 0)) (sym (flipped (is_absent v (field_of f)) false (sym h)))
+          none ∙ ap (λ (b : Bool). count_present v (map field_of (take k fields)) + ((if b then 0 else 1) + 0))
+          (sym (flipped (is_absent v (field_of f)) false (sym h)))
 
 pub counted_small : (b : Bool) (count n : ℕ) → count ≤ n → (if b then suc count else count) ≤ n + 1
 counted_small true count n h = omega arith
@@ -159,3 +160,82 @@ counted_small false count n h = omega arith
 
 pub position_beyond : (v : ℕ) (fields : List CodeField) (k : ℕ) → length fields ≤ k → None ≡ position_in v (map field_of fields) k
 position_beyond v fields k le = sym (beyond_is v (map field_of fields) k (omega (arith, length-map fields field_of)))
+
+-- ---- The next field that is there.
+
+abbrev found : ℕ → ℕ → Field → Entry
+found v i f = record { index = i; place = 0; field = f; rest = tree_of (field_reduced v f.test f.since) }
+
+there : (i : ℕ) (f : Field) (r : Reduced) → is_nothing (left_of r) ≡ false
+    → entry_of i 0 f (left_of r) ≡ record { index = i; place = 0; field = f; rest = tree_of r } ∷ []
+there i f (Known false) e = absurd (cc)
+there i f _ e = refl
+
+absent : (i : ℕ) (f : Field) (o : Option (Option Formula)) → is_nothing o ≡ true → entry_of i 0 f o ≡ []
+absent i f None e = refl
+absent i f (Some rest) e = absurd (cc)
+
+module _ (v : ℕ) (fields : List Field) (i : ℕ) (lt : i < length fields) where
+  here : fields_from v i (drop i fields)
+      ≡ entry_of i 0 (get_or fields i no_field) (presence v (get_or fields i no_field).test (get_or fields i no_field).since) ++ fields_from v (i + 1)
+      (drop (i + 1) fields)
+  here =
+      let f = get_or fields i no_field in
+      ap (fields_from v i) (drop_more fields i no_field lt) ∙ ap
+      (λ (n : ℕ). entry_of i 0 f (presence v f.test f.since) ++ fields_from v n (drop (i + 1) fields)) (sym (add-one i))
+
+  pub skips : is_absent v (get_or fields i no_field) ≡ true → fields_from v (i + 1) (drop (i + 1) fields) ≡ fields_from v i (drop i fields)
+  skips e =
+      let f = get_or fields i no_field in
+      sym (here ∙ ap (λ (es : List Entry). es ++ fields_from v (i + 1) (drop (i + 1) fields)) (absent i f (presence v f.test f.since) e))
+
+  pub finds : is_absent v (get_or fields i no_field) ≡ false
+      → fields_from v i (drop i fields) ≡ found v i (get_or fields i no_field) ∷ fields_from v (i + 1) (drop (i + 1) fields)
+  finds e =
+      let f = get_or fields i no_field in
+      let is = presence_is v f.test f.since in
+      here
+      ∙ ap (λ (o : Option (Option Formula)). entry_of i 0 f o ++ fields_from v (i + 1) (drop (i + 1) fields)) is
+      ∙ ap (λ (es : List Entry). es ++ fields_from v (i + 1) (drop (i + 1) fields))
+      (there i f (field_reduced v f.test f.since) (subst (λ (o : Option (Option Formula)). is_nothing o ≡ false) is e))
+
+-- ---- as the code has it
+
+module _ (side : Side) (fields : List CodeField) (same : map field_of fields ≡ (desc_on side).fields) (i : ℕ) (f : CodeField) (lt : i < length fields)
+    (is : f ≡ get_or fields i f) where
+  inside : i < length (desc_on side).fields
+  inside = omega (arith, length-map fields field_of, ap length same)
+
+  field_is : field_of f ≡ get_or (desc_on side).fields i no_field
+  field_is = sym (get_map_at field_of fields i f no_field lt is) ∙ ap (λ (l : List Field). get_or l i no_field) same
+
+  pub skip_absent : (present : Bool) → present ≡ not (is_absent side.version (field_of f)) → present ≡ false
+      → fields_from side.version (i + 1) (drop (i + 1) (desc_on side).fields) ≡ fields_from side.version i (drop i (desc_on side).fields)
+  skip_absent present e absent =
+      skips side.version (desc_on side).fields i inside
+      (ap (is_absent side.version) (sym field_is) ∙ flipped (is_absent side.version (field_of f)) false (sym e ∙ absent))
+
+  pub first_found : (from : ℕ) (p : Present) → p.number ≡ i → p.field.now ≡ f → from ≤ i
+      → fields_from side.version i (drop i (desc_on side).fields) ≡ fields_from side.version from (drop from (desc_on side).fields)
+      → (present : Bool) → present ≡ not (is_absent side.version (field_of f)) → present ≡ true → IsFirst side from p
+  first_found from p number field le e present is_present holds =
+      let v = side.version in
+      let there' : is_absent v (field_of f) ≡ false = flipped (is_absent v (field_of f)) true (sym is_present ∙ holds) in
+      record {
+        on = record {
+          inside = subst (λ (n : ℕ). n < length (desc_on side).fields) (sym number) inside;
+          is = ap field_of field ∙ field_is ∙ ap (λ (n : ℕ). get_or (desc_on side).fields n no_field) (sym number);
+          there = ap (λ (g : CodeField). is_absent v (field_of g)) field ∙ there';
+        };
+        later = subst (λ (n : ℕ). from ≤ n) (sym number) le;
+        entries = sym e ∙ finds v (desc_on side).fields i inside (ap (is_absent v) (sym field_is) ∙ there')
+            ∙ ap (λ (n : ℕ). found v n (get_or (desc_on side).fields i no_field) ∷ fields_from v (n + 1) (drop (n + 1) (desc_on side).fields)) (sym number)
+            ∙ ap (λ (g : Field). found v p.number g ∷ fields_from v (p.number + 1) (drop (p.number + 1) (desc_on side).fields))
+            (sym (ap field_of field ∙ field_is));
+      }
+
+pub none_left : (side : Side) (fields : List CodeField) → map field_of fields ≡ (desc_on side).fields → (i from : ℕ) → length fields ≤ i
+    → fields_from side.version i (drop i (desc_on side).fields) ≡ fields_from side.version from (drop from (desc_on side).fields)
+    → fields_from side.version from (drop from (desc_on side).fields) ≡ []
+none_left side fields same i from all e =
+    sym e ∙ ap (fields_from side.version i) (drop_all i (desc_on side).fields (omega (arith, length-map fields field_of, ap length same)))

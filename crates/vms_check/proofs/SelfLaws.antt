@@ -1,32 +1,188 @@
 -- A well-formed set is compatible to itself.
-use Rattle.std.proofs.Common.{◌≡◌, inr, ℕ, zero, suc, ◌+◌, ◌<◌, ◌≤◌, List, ◌∷◌, ◌++◌, length, get_or, Bool, true, Option, Some, None, refl, sym, ap, ◌∙◌, subst, arith, []}
-use Rattle.std.specs.Prelude.{◌&&◌, ◌==◌, nat_le, nat_lt, ◌||◌}
+use Rattle.std.proofs.Common.{◌≡◌, ℕ, zero, suc, ◌≤◌, min, List, ◌∷◌, ◌++◌, Bool, true, false, Some, refl, sym, ap, ◌∙◌, subst, arith, [], Option, None, inr}
+use Rattle.std.proofs.Common.{◌+◌, ◌<◌, length, get_or}
+use Rattle.std.specs.Prelude.{◌==◌, if◌then◌else◌, ◌&&◌, nat_le, nat_lt, ◌||◌}
 use Rattle.std.specs.List.{slice_get}
-use Rattle.std.specs.Str.{bytes_eq}
-use Rattle.std.proofs.lemmas.Bool.{and_parts, eq-eqb, eqb-true, le-leb, leb-true, or_left, or_right}
-use Rattle.std.proofs.lemmas.Slice.Eq.{bytes_eq-Decides}
-use Rattle.std.proofs.lemmas.Option.{get_or_from_slice_get}
-use Rattle.std.proofs.lemmas.Map.Keys.{any_passes_from_place}
+use Rattle.std.proofs.lemmas.Bool.{eq-eqb, and_parts, le-leb, leb-true, and_from, eqb-true, or_left, or_right}
 use Rattle.vms_kinds.specs.declared.Item.{Item}
-use Rattle.vms_kinds.specs.declared.Item.TheVariants.{Struct}
 use Rattle.vms_spec.specs.declared.Count.{Count}
-use Rattle.vms_spec.specs.declared.Count.TheVariants.{Counted}
+use Rattle.vms_spec.specs.declared.Count.TheVariants.{One, Fixed, Counted}
+use Rattle.vms_spec.specs.Layout.{counted, no_field, no_desc}
+use Rattle.vms_spec.specs.Sets.{Field, Formula, Cell, Desc, Sub, Device, Set}
+use Rattle.vms_check.specs.Comparing.{bound, least_of, holds_as_much, is_absent, is_nothing, kind_number, rel_number, same_constant, same_count, same_item}
+use Rattle.vms_check.specs.Comparing.{same_place, same_reduced, same_rest, same_test, Compatible, Entry, entry_of, is_found}
+use Rattle.std.proofs.lemmas.Option.{get_or_from_slice_get, slice_get_within}
+use Rattle.vms_kinds.specs.declared.Item.TheVariants.{Num, Equal, Unused, Struct}
+use Rattle.vms_spec.specs.declared.Whose.TheVariants.{Own}
+use Rattle.vms_spec.specs.Rules.{has_no_test, is_num, is_one, is_steady, is_steady_in, names_well, nobody, count_names_well, is_counting, is_earlier_in}
+use Rattle.vms_spec.specs.Rules.{test_names_well}
+use Rattle.vms_spec.proofs.NumberLaws.{same_number_itself}
+use Rattle.vms_spec.proofs.WellFormedLaws.{untested, Clean, struct_clean, device_parts, sub_clean, device_found, sub_found, beyond}
+use Rattle.vms_check.specs.Reducing.{Reduced, Known, Open, left_of, presence, reduced}
+use Rattle.vms_check.specs.Sides.{field_reduced, position_in, fields_from}
+use Rattle.vms_check.proofs.PairLaws.{presence_is}
+use Rattle.vms_check.proofs.PositionLaws.{there_is}
+use Rattle.vms_check.proofs.ReducedLaws.{IfOpen, IsByParts, open_reduced}
+use Rattle.vms_spec.specs.declared.Rel.{Rel}
+use Rattle.std.specs.Str.{bytes_eq}
+use Rattle.std.proofs.lemmas.Slice.Eq.{bytes_eq-Decides}
+use Rattle.std.proofs.lemmas.Map.Keys.{any_passes_from_place}
 use Rattle.vms_spec.specs.Lookup.{find_device}
-use Rattle.vms_spec.specs.Layout.{no_desc}
 use Rattle.vms_spec.specs.Readiness.{is_version_of}
-use Rattle.vms_spec.specs.Rules.{count_names_well, is_counting, is_earlier_in, is_steady_in, names_well, nobody, test_names_well}
-use Rattle.vms_spec.specs.Sets.{Formula, Field, Desc, Sub, Device, Set}
 use Rattle.vms_spec.specs.Streams.{is_one_of}
 use Rattle.vms_spec.specs.WellFormed.{WellFormed, struct_rules, device_rules, sub_rules}
-use Rattle.vms_spec.proofs.WellFormedLaws.{Clean, struct_clean, device_parts, sub_clean, device_found, sub_found, beyond}
-use Rattle.vms_check.specs.Comparing.{Compatible, Entry, entry_of, is_found, same_reduced}
 use Rattle.vms_check.specs.Fitting.{ArePaired, DescsFit, DevicesFit, IsSubFor, fields_at}
-use Rattle.vms_check.specs.Reducing.{presence, reduced}
-use Rattle.vms_check.specs.Sides.{field_reduced, fields_from, position_in}
 use Rattle.vms_check.proofs.ListLaws.{same_at}
-use Rattle.vms_check.proofs.SelfBounds.{bound_counts}
-use Rattle.vms_check.proofs.SelfTests.{HasPosition, IsSelf, steady_there, reduced_self, same_self, rest_self, count_self, item_self, constant_self, holds_self}
 use Rattle.vms_check.proofs.SetsFit.{so_fits}
+
+-- ---- What a number can be is at most each capacity that it counts.
+
+pub least_below : (n : ℕ) (ms : List ℕ) → least_of n ms ≤ n
+least_below n [] = omega arith
+least_below n (m ∷ ms) = let le : least_of (min n m) ms ≤ min n m = least_below (min n m) ms in omega (arith, le)
+
+least_within : (n : ℕ) (xs : List ℕ) (most : ℕ) (ys : List ℕ) → least_of n (xs ++ most ∷ ys) ≤ most
+least_within n [] most ys = let le : least_of (min n most) ys ≤ min n most = least_below (min n most) ys in omega (arith, le)
+least_within n (x ∷ xs) most ys = least_within (min n x) xs most ys
+
+bound_within : (item : Item) (xs : List ℕ) (most : ℕ) (ys : List ℕ) → bound item (xs ++ most ∷ ys) ≤ most
+bound_within item [] most ys = least_below most ys
+bound_within item (x ∷ xs) most ys = least_within x xs most ys
+
+of_count : Count → Field → Field
+of_count c f = record f { count = c }
+
+by_number : (m : ℕ) (rest : List ℕ) (b : Bool) → (if b then m ∷ [] else []) ++ rest ≡ ((if b then m ∷ [] else []) ++ []) ++ rest
+by_number m rest true = refl
+by_number m rest false = refl
+
+counted_by : (i : ℕ) (c : Count) (f : Field) (fs : List Field) → counted i (of_count c f ∷ fs) ≡ counted i (of_count c f ∷ []) ++ counted i fs
+unfolding of_count
+counted_by i (Counted by most) f fs = by_number most (counted i fs) (by == i)
+counted_by i _ f fs = refl
+
+counted_next : (i : ℕ) (f : Field) (fs : List Field) → counted i (f ∷ fs) ≡ counted i (f ∷ []) ++ counted i fs
+unfolding of_count
+counted_next i f fs = counted_by i f.count f fs
+
+counted_here : (i most : ℕ) (f : Field) (fs : List Field) → f.count ≡ Counted i most → counted i (f ∷ fs) ≡ most ∷ counted i fs
+unfolding of_count
+counted_here i most f fs e =
+    ap (λ (c : Count). counted i (of_count c f ∷ fs)) e ∙ ap (λ (b : Bool). (if b then most ∷ [] else []) ++ counted i fs) (eq-eqb i i refl)
+
+append_same : (xs ys zs : List ℕ) → (xs ++ ys) ++ zs ≡ xs ++ (ys ++ zs)
+append_same [] ys zs = refl
+append_same (x ∷ xs) ys zs = ap (λ (l : List ℕ). x ∷ l) (append_same xs ys zs)
+
+counted_has : (i : ℕ) (fs : List Field) (k : ℕ) (g : Field) (most : ℕ) → slice_get fs k ≡ Some g → g.count ≡ Counted i most
+    → (xs : List ℕ) × (ys : List ℕ) × (counted i fs ≡ xs ++ most ∷ ys)
+counted_has i [] k g most there is = absurd (cc)
+counted_has i (f ∷ fs) zero g most there is = let same : f ≡ g = cc in ([], counted i fs, counted_here i most f fs (ap (λ (h : Field). h.count) same ∙ is))
+counted_has i (f ∷ fs) (suc k) g most there is =
+    let rest = counted_has i fs k g most there is in (
+      counted i (f ∷ []) ++ rest.0,
+      rest.1,
+      counted_next i f fs ∙ ap (λ (l : List ℕ). counted i (f ∷ []) ++ l) rest.2 ∙ sym
+          (append_same (counted i (f ∷ [])) rest.0 (most ∷ rest.1)),
+    )
+
+pub bound_counts : (item : Item) (i : ℕ) (fs : List Field) (k : ℕ) (g : Field) (most : ℕ) → slice_get fs k ≡ Some g → g.count ≡ Counted i most
+    → bound item (counted i fs) ≤ most
+bound_counts item i fs k g most there is =
+    let has = counted_has i fs k g most there is in
+    subst (λ (l : List ℕ). bound item l ≤ most) (sym has.2) (bound_within item has.0 most has.1)
+
+-- ---- The rest of a test is the same as itself, if each number that it names has a position.
+
+itself : (n : ℕ) → (n == n) ≡ true
+itself n = eq-eqb n n refl
+
+-- ---- positions
+
+abbrev pub HasPosition : (ℕ → Option ℕ) → ℕ → Type 0
+HasPosition o k = (p : ℕ) × (o k ≡ Some p)
+
+same_here : (x : Option ℕ) (p : ℕ) → x ≡ Some p → same_place x x ≡ true
+same_here x p e = ap (λ (y : Option ℕ). same_place y y) e ∙ itself p
+
+-- a steady field is there from the minimum on
+pub steady_there : (d : Desc) (v k : ℕ) → d.minimum ≤ v → is_steady_in d k ≡ true → HasPosition (position_in v d.fields) k
+steady_there d v k low e = by_field (slice_get d.fields k) refl e
+  where
+    by_field : (o : Option Field) → slice_get d.fields k ≡ o → is_steady d.minimum o ≡ true → HasPosition (position_in v d.fields) k
+    by_field None is s = absurd (cc)
+    by_field (Some f) is s =
+        let a = and_parts (is_num f.item && is_one f.count && has_no_test f.test) (nat_le f.since d.minimum) s in
+        let b = and_parts (is_num f.item && is_one f.count) (has_no_test f.test) a.0 in
+        let since : f.since ≤ d.minimum = leb-true f.since d.minimum a.1 in
+        let there : is_absent v f ≡ false =
+        ap (λ (t : Option Formula). is_nothing (presence v t f.since)) (untested f.test b.1) ∙ ap (λ (x : Bool). is_nothing (if x then Some None else None))
+        (le-leb f.since v (omega (arith, since, low))) in
+        (_, there_is v d.fields k false (slice_get_within d.fields k f is) (ap (is_absent v) (get_or_from_slice_get d.fields k f no_field is) ∙ there))
+
+-- ---- tests
+
+module _ (o : ℕ → Option ℕ) where
+  abbrev IsSame : Formula → Type 0
+  IsSame t = same_test o o t t ≡ true
+
+  abbrev pub IsSelf : Reduced → Type 0
+  IsSelf r = IfOpen IsSame r
+
+  same_by_parts : IsByParts IsSame
+  same_by_parts = record {
+    of_not = λ t h. h;
+    of_and = λ s t h g. and_from (same_test o o s s) (same_test o o t t) h g;
+    of_or = λ s t h g. and_from (same_test o o s s) (same_test o o t t) h g;
+  }
+
+  pub reduced_self : (ok : ℕ → Bool) → ((k : ℕ) → ok k ≡ true → HasPosition o k) → (v : ℕ) (t : Formula) → names_well ok nobody t ≡ true → IsSelf (reduced v t)
+  reduced_self ok has v t e = open_reduced IsSame same_by_parts ok cell v t e where
+    cell : (k mask : ℕ) (rel : Rel) (value : ℕ) → ok k ≡ true → IsSame (Cell Own k mask rel value)
+    cell k mask rel value e =
+        let p = has k e in
+        and_from (same_place (o k) (o k) && mask == mask && rel_number rel == rel_number rel) (value == value)
+        (and_from (same_place (o k) (o k) && mask == mask) (rel_number rel == rel_number rel)
+        (and_from (same_place (o k) (o k)) (mask == mask) (same_here (o k) p.0 p.1) (itself mask)) (itself (rel_number rel))) (itself value)
+
+  pub same_self : (r : Reduced) → IsSelf r → same_reduced o o r r ≡ true
+  same_self (Known true) h = refl
+  same_self (Known false) h = refl
+  same_self (Open t) h = h
+
+  rest_by : (r : Reduced) (rest : Option Formula) → IsSelf r → left_of r ≡ Some rest → same_rest o o rest rest ≡ true
+  rest_by (Known false) rest h e = absurd (cc)
+  rest_by (Known true) rest h e = let none : None ≡ rest = cc in ap (λ (x : Option Formula). same_rest o o x x) (sym none)
+  rest_by (Open t) rest h e = let some : Some t ≡ rest = cc in ap (λ (x : Option Formula). same_rest o o x x) (sym some) ∙ h
+
+  pub rest_self : (v : ℕ) (test : Option Formula) (since : ℕ) (rest : Option Formula) → IsSelf (field_reduced v test since)
+      → presence v test since ≡ Some rest → same_rest o o rest rest ≡ true
+  rest_self v test since rest h e = rest_by (field_reduced v test since) rest h (sym (presence_is v test since) ∙ e)
+
+  -- ---- counts
+
+  pub count_self : (c : Count) → ((by most : ℕ) → c ≡ Counted by most → HasPosition o by) → same_count o o c c ≡ true
+  count_self One h = refl
+  count_self (Fixed n) h = itself n
+  count_self (Counted by most) h = let p = h by most refl in same_here (o by) p.0 p.1
+
+-- ---- items and capacities
+
+pub item_self : (x : Item) → same_item x x ≡ true
+item_self (Num kind) = itself (kind_number kind)
+item_self (Equal kind z) = itself (kind_number kind)
+item_self (Unused n) = itself n
+item_self (Struct j) = refl
+
+pub constant_self : (x : Item) → same_constant x x ≡ true
+constant_self (Equal kind z) = same_number_itself z
+constant_self _ = refl
+
+pub holds_self : (c : Count) → holds_as_much c c ≡ true
+holds_self (Counted by most) = le-leb most most (omega arith)
+holds_self _ = refl
+
+-- ---- A well-formed set is compatible to itself.
 
 -- ---- entries
 
@@ -44,7 +200,8 @@ entry_is v i (f ∷ fs) p e h = by_presence (λ q g. entry_is v (suc i) fs q e g
     later x = let is = x.index in record { number = suc x.number; there = x.there; index = omega (arith, is); left = x.left }
 
     by_presence : ((q : ℕ) → slice_get (fields_from v (suc i) fs) q ≡ Some e → IsEntry v (suc i) fs e)
-        → (o : Option (Option Formula)) → presence v f.test f.since ≡ o → (p : ℕ) → slice_get (entry_of i 0 f o ++ fields_from v (suc i) fs) p ≡ Some e → IsEntry v i (f ∷ fs) e
+        → (o : Option (Option Formula)) → presence v f.test f.since ≡ o → (p : ℕ) → slice_get (entry_of i 0 f o ++ fields_from v (suc i) fs) p ≡ Some e
+        → IsEntry v i (f ∷ fs) e
     by_presence rec None is p h = later (rec p h)
     by_presence rec (Some rest) is zero h =
         let same : record { index = i; place = 0; field = f; rest = rest } ≡ e = cc in
@@ -75,7 +232,8 @@ module _ (d : Desc) (v : ℕ) (low : d.minimum ≤ v) where
   test_self i (Some t) since e = reduced_self positions (is_earlier_in d i) (earlier i) v t e
 
   counts : (i : ℕ) (c : Count) → count_names_well d i c ≡ true → (by most : ℕ) → c ≡ Counted by most → HasPosition positions by
-  counts i c e by most is = earlier i by (and_parts (is_earlier_in d i by) (is_counting (slice_get d.fields by)) (subst (λ (x : Count). count_names_well d i x ≡ true) is e)).0
+  counts i c e by most is =
+      earlier i by (and_parts (is_earlier_in d i by) (is_counting (slice_get d.fields by)) (subst (λ (x : Count). count_names_well d i x ≡ true) is e)).0
 
   structs_equal : (x : Item) (i j : ℕ) → x ≡ Struct i → x ≡ Struct j → (i == j) ≡ true
   structs_equal x i j is_i is_j = let same : Struct i ≡ Struct j = sym is_i ∙ is_j in let numbers : i ≡ j = cc in eq-eqb i j numbers
@@ -135,7 +293,8 @@ module _ (set : Set) (well : WellFormed set) where
   same i j = i == j
 
   struct_at : (j : ℕ) (o : Option Desc) → slice_get set.structs j ≡ o → j < length set.structs
-      → DescsFit same (get_or set.structs j no_desc) (get_or set.structs j no_desc) (get_or set.structs j no_desc).version (get_or set.structs j no_desc).version
+      → DescsFit same (get_or set.structs j no_desc) (get_or set.structs j no_desc) (get_or set.structs j no_desc).version
+      (get_or set.structs j no_desc).version
   struct_at j None e lt = absurd (beyond set.structs j lt e)
   struct_at j (Some d) e lt =
       let c = struct_clean set well j d e in
@@ -143,9 +302,11 @@ module _ (set : Set) (well : WellFormed set) where
       (clean_self j d (struct_rules set.structs j d) c (leb-true d.minimum d.version c.own.1.1.0))
 
   structs_self : (i j : ℕ) → j < length set.structs → same i j ≡ true
-      → DescsFit same (get_or set.structs i no_desc) (get_or set.structs j no_desc) (get_or set.structs i no_desc).version (get_or set.structs j no_desc).version
+      → DescsFit same (get_or set.structs i no_desc) (get_or set.structs j no_desc) (get_or set.structs i no_desc).version
+      (get_or set.structs j no_desc).version
   structs_self i j lt e =
-      subst (λ (k : ℕ). DescsFit same (get_or set.structs k no_desc) (get_or set.structs j no_desc) (get_or set.structs k no_desc).version (get_or set.structs j no_desc).version) (sym (eqb-true i j e))
+      subst (λ (k : ℕ). DescsFit same (get_or set.structs k no_desc) (get_or set.structs j no_desc) (get_or set.structs k no_desc).version
+      (get_or set.structs j no_desc).version) (sym (eqb-true i j e))
       (struct_at j (slice_get set.structs j) refl lt)
 
   sub_self : (k j : ℕ) (d : Device) (s : Sub) → slice_get set.devices k ≡ Some d → slice_get d.subs j ≡ Some s → IsSubFor same s d j s
@@ -169,7 +330,8 @@ module _ (set : Set) (well : WellFormed set) where
         subs = λ j s inside. (j, s, sub_self k j d s there inside);
       }
 
-  found_self : (i k : ℕ) (d e : Device) → slice_get set.devices i ≡ Some d → find_device 0 set.devices d.desc.name d.instance ≡ Some k → slice_get set.devices k ≡ Some e → DevicesFit same d e
+  found_self : (i k : ℕ) (d e : Device) → slice_get set.devices i ≡ Some d → find_device 0 set.devices d.desc.name d.instance ≡ Some k
+      → slice_get set.devices k ≡ Some e → DevicesFit same d e
   found_self i k d e inside found there =
       let both : Some i ≡ Some k = sym (device_found set well i d inside) ∙ found in
       let number : i ≡ k = cc in

@@ -1,31 +1,165 @@
--- Two sets: the walk finds no mismatch exactly where all rules hold.
-use Rattle.std.proofs.Common.{◌≡◌, ℕ, zero, suc, ◌+◌, ◌<◌, List, ◌∷◌, length, get_or, Bool, true, Option, Some, None, refl, sym, ap, ◌∙◌, arith, []}
-use Rattle.std.specs.Prelude.{is_none}
+-- Two descriptions and two sets: no rule fails exactly where they fit as the rules say.
+use Rattle.std.proofs.Common.{◌≡◌, inl, inr, ℕ, zero, suc, List, [], ◌∷◌, ◌++◌, length, get_or, Bool, true, false, Option, Some, None, refl, sym, ap, ◌∙◌}
+use Rattle.std.proofs.Common.{arith, ◌+◌, ◌<◌}
 use Rattle.std.specs.List.{slice_get}
-use Rattle.std.proofs.lemmas.Bool.{ltb-true}
-use Rattle.std.proofs.lemmas.Option.{slice_get-get_or}
+use Rattle.vms_kinds.specs.declared.Item.{Item}
 use Rattle.vms_kinds.specs.declared.Item.TheVariants.{Struct}
-use Rattle.vms_spec.specs.declared.Part.TheVariants as parts
-use Rattle.vms_spec.specs.Lookup.{find_device, find_sub, index}
-use Rattle.vms_spec.specs.Layout.{no_desc, struct_cells}
+use Rattle.vms_spec.specs.declared.Part.{Part}
+use Rattle.vms_spec.specs.Layout.{Cell, no_desc, struct_cells}
 use Rattle.vms_spec.specs.Lists.{or_else, first_answer}
 use Rattle.vms_spec.specs.Rules.{uses_below}
-use Rattle.vms_spec.specs.Sets.{Desc, Sub, Device, Set}
-use Rattle.vms_spec.specs.Streams.{is_one_of}
-use Rattle.vms_spec.specs.WellFormed.{WellFormed, first_fault, here, struct_rules, device_rules, sub_rules}
-use Rattle.vms_spec.proofs.WellFormedLaws.{Clean, struct_clean, device_parts, sub_clean}
-use Rattle.vms_desc.proofs.Bounds.{none_is}
-use Rattle.vms_check.specs.Comparing.{Compatible, Comparer, compare_device, compare_sub, compare_subs, failing_pair, is_in, no_comparer}
-use Rattle.vms_check.specs.Fitting.{DescsFit, DevicesFit, Fits, IsSubFor, SetsFit, fields_at}
-use Rattle.vms_check.specs.Laws.{AreRules}
-use Rattle.vms_check.specs.Pairs.{table}
-use Rattle.vms_check.specs.Wholes.{device_mismatch, lost_mismatch, machines_mismatch}
-use Rattle.vms_check.proofs.DescsFit.{all_uses, descs_so, so_descs}
+use Rattle.vms_spec.specs.Sets.{Formula, Field, Desc, Sub, Device, Set}
+use Rattle.vms_spec.specs.WellFormed.{here, in_field, WellFormed, first_fault, struct_rules, device_rules, sub_rules}
+use Rattle.vms_check.specs.Comparing.{Comparer, Entry, compare_desc, compare_fields, entry_of, failing_pair, is_covered, is_kept, no_comparer, pair_rules}
+use Rattle.vms_check.specs.Comparing.{pair_structs, Compatible, compare_device, compare_sub, compare_subs, is_in}
+use Rattle.vms_check.specs.Fitting.{ArePaired, DescsFit, IsKept, fields_at, in_old, in_new, DevicesFit, Fits, IsSubFor, SetsFit}
+use Rattle.vms_check.specs.Reducing.{Reduced, Known, presence, reduced}
+use Rattle.vms_check.specs.Sides.{fields_from}
+use Rattle.vms_check.specs.declared.mismatch.Mismatch.{Mismatch}
+use Rattle.vms_check.proofs.WholeLaws.{desc_split, AllBelow, structs_are, whole_is}
 use Rattle.vms_spec.proofs.Faultless.{or_else_none, answers_none}
 use Rattle.vms_spec.proofs.ListLaws.{both_none}
 use Rattle.vms_check.proofs.ListLaws.{passes, pass, every_at, at_every, none_answers}
-use Rattle.vms_check.proofs.StructLaws.{AllBelow, structs_are}
-use Rattle.vms_check.proofs.WholeLaws.{whole_is}
+use Rattle.vms_check.proofs.PairLaws.{paired_so, so_paired}
+use Rattle.std.specs.Prelude.{is_none}
+use Rattle.std.proofs.lemmas.Bool.{ltb-true}
+use Rattle.std.proofs.lemmas.Option.{slice_get-get_or}
+use Rattle.vms_spec.specs.Lookup.{find_device, find_sub, index}
+use Rattle.vms_spec.specs.Streams.{is_one_of}
+use Rattle.vms_spec.proofs.WellFormedLaws.{Clean, struct_clean, device_parts, sub_clean}
+use Rattle.vms_desc.proofs.Bounds.{none_is}
+use Rattle.vms_check.specs.Laws.{AreRules}
+use Rattle.vms_check.specs.Pairs.{table}
+use Rattle.vms_check.specs.Wholes.{device_mismatch, lost_mismatch, machines_mismatch}
+use Rattle.vms_spec.specs.declared.Part.TheVariants as parts
+
+-- ---- Two descriptions: no rule fails exactly where they fit as the rules say.
+
+-- ---- which structures entries use
+
+one_below : (k i : ℕ) (f : Field) (o : Option (Option Formula)) (es : List Entry) → uses_below k f.item ≡ true → AllBelow k es
+    → AllBelow k (entry_of i 0 f o ++ es)
+one_below k i f None es h rest = rest
+one_below k i f (Some left) es h rest = (h, rest)
+
+pub all_uses : (k v i : ℕ) (fs : List Field) → ((j : ℕ) (f : Field) → slice_get fs j ≡ Some f → uses_below k f.item ≡ true) → AllBelow k (fields_from v i fs)
+all_uses k v i [] h = tt
+all_uses k v i (f ∷ fs) h = one_below k i f (presence v f.test f.since) _ (h 0 f refl) (all_uses k v (suc i) fs (λ j g e. h (suc j) g e))
+
+-- ---- two descriptions
+
+module _ (same : ℕ → ℕ → Bool) (structs : List Comparer) (k : ℕ) (a b : Desc) (v w : ℕ) (in_a in_b : Part) where
+  abbrev compares : List Entry → List Entry → Option Mismatch
+  compares es fs = compare_fields structs a b v w in_a in_b (in_old same a b v w) (in_new same a b v w) es fs
+
+  abbrev rule_of : Entry → Entry → Option Mismatch
+  rule_of e f =
+      failing_pair (pair_rules structs a b v w in_a in_b (in_old same a b v w) (in_new same a b v w) e f) (in_field in_a e.index) (in_field in_b f.index)
+
+  abbrev struct_of : Entry → Entry → Option Mismatch
+  struct_of e f = pair_structs structs a b v w in_a in_b (in_old same a b v w) (in_new same a b v w) e.field.item f.field.item
+
+  pub record FieldsFit (es fs : List Entry) : Type 0 where
+    pub as_many : length es ≡ length fs
+    pub pairs : (p : ℕ) (e f : Entry) → slice_get es p ≡ Some e → slice_get fs p ≡ Some f → ArePaired same a b v w e f
+
+  -- structures that compare well are so said
+  abbrev Said : Type 0
+  Said = (i j : ℕ) → uses_below k (Struct j) ≡ true → get_or structs j no_comparer i ≡ None → same i j ≡ true
+
+  -- those that are so said compare well
+  abbrev Meant : Type 0
+  Meant = (i j : ℕ) → uses_below k (Struct j) ≡ true → same i j ≡ true → get_or structs j no_comparer i ≡ None
+
+  said_by : Said → (e f : Entry) → uses_below k f.field.item ≡ true → struct_of e f ≡ None → (i j : ℕ) → e.field.item ≡ Struct i → f.field.item ≡ Struct j
+      → same i j ≡ true
+  said_by said e f below none i j is_i is_j =
+      said i j (rw is_j at below) (rw (is_i, is_j) at none)
+
+  fields_so : Said → (es fs : List Entry) → AllBelow k fs → compares es fs ≡ None → FieldsFit es fs
+  fields_so said [] [] below none = record { as_many = refl; pairs = λ p e f x y. absurd (cc) }
+  fields_so said (e ∷ es) (f ∷ fs) below none =
+      let first = or_else_none (rule_of e f) (or_else (struct_of e f) (compares es fs)) none in
+      let later = or_else_none (struct_of e f) (compares es fs) first.1 in
+      let rest = fields_so said es fs below.1 later.1 in
+      record {
+        as_many = ap suc rest.as_many;
+        pairs = by_place (paired_so same structs a b v w in_a in_b e f (in_field in_a e.index) (in_field in_b f.index) first.0
+            (said_by said e f below.0 later.0)) rest.pairs;
+      }
+    where
+      by_place : ArePaired same a b v w e f → ((p : ℕ) (g h : Entry) → slice_get es p ≡ Some g → slice_get fs p ≡ Some h → ArePaired same a b v w g h)
+          → (p : ℕ) (g h : Entry) → slice_get (e ∷ es) p ≡ Some g → slice_get (f ∷ fs) p ≡ Some h → ArePaired same a b v w g h
+      by_place here rest zero g h x y =
+          let left : e ≡ g = cc in
+          let right : f ≡ h = cc in
+          rw (left, right) at here
+      by_place here rest (suc p) g h x y = rest p g h x y
+  fields_so said es fs below none = absurd (cc)
+
+  -- where both are structures, they are alike, so they are so said
+  struct_none : Meant → (e f : Entry) → uses_below k f.field.item ≡ true → ((i j : ℕ) → e.field.item ≡ Struct i → f.field.item ≡ Struct j → same i j ≡ true)
+      → struct_of e f ≡ None
+  struct_none meant e f below said = by_items e.field.item f.field.item refl refl
+    where
+      by_items : (x y : Item) → e.field.item ≡ x → f.field.item ≡ y
+          → pair_structs structs a b v w in_a in_b (in_old same a b v w) (in_new same a b v w) x y ≡ None
+      by_items (Struct i) (Struct j) g h = meant i j (rw h at below) (said i j g h)
+      by_items x y g h = refl
+
+  -- structures are never covered
+  paired_structs : (e f : Entry) → ArePaired same a b v w e f → (i j : ℕ) → e.field.item ≡ Struct i → f.field.item ≡ Struct j → same i j ≡ true
+  paired_structs e f h i j is_i is_j = (h.alike (uncovered is_i)).structs i j is_i is_j
+    where
+      uncovered : e.field.item ≡ Struct i → is_covered e.field.item e.field.count f.field.item ≡ false
+      uncovered is = ap (λ (x : Item). is_covered x e.field.count f.field.item) is
+
+  so_fields : Meant → (es fs : List Entry) → AllBelow k fs → FieldsFit es fs → compares es fs ≡ None
+  so_fields meant [] [] below h = refl
+  so_fields meant (e ∷ es) (f ∷ fs) below h =
+      let here = h.pairs 0 e f refl refl in
+      both_none (rule_of e f) (or_else (struct_of e f) (compares es fs))
+      (so_paired same structs a b v w in_a in_b e f (in_field in_a e.index) (in_field in_b f.index) here)
+      (both_none (struct_of e f) (compares es fs) (struct_none meant e f below.0 (paired_structs e f here))
+      (so_fields meant es fs below.1 (record { as_many = omega (arith, h.as_many); pairs = λ p g x left right. h.pairs (suc p) g x left right })))
+  so_fields meant es fs below h = absurd (omega (arith, h.as_many))
+
+  -- ---- validations
+
+  abbrev keeps : Reduced → Bool
+  keeps r = is_kept structs a b v w in_a in_b (in_old same a b v w) (in_new same a b v w) r
+
+  kept_so : (r : Reduced) → keeps r ≡ true → IsKept same a b v w r
+  kept_so (Known true) e = inl refl
+  kept_so _ e = inr e
+
+  so_kept : (r : Reduced) → IsKept same a b v w r → keeps r ≡ true
+  so_kept (Known true) h = refl
+  so_kept r (inl e) = absurd (cc)
+  so_kept r (inr e) = e
+
+  -- ---- both
+
+  pub descs_so : (x y : List (List Cell)) → Said → AllBelow k (fields_at b w) → compare_desc structs x y a b v w in_a in_b ≡ None → DescsFit same a b v w
+  descs_so x y said below none =
+      let p = or_else_none _ _ (sym (desc_split structs x y a b v w in_a in_b) ∙ none) in
+      let fields = fields_so said (fields_at a v) (fields_at b w) below p.0 in
+      let kept = (passes 15 _ [] (here in_a) (here in_b) p.1).0 in
+      record {
+        as_many = fields.as_many;
+        pairs = fields.pairs;
+        validations = λ i t e. kept_so (reduced w t)
+            (every_at (λ (t : Formula). keeps (reduced w t)) b.validate i t kept e);
+      }
+
+  pub so_descs : (x y : List (List Cell)) → Meant → AllBelow k (fields_at b w) → DescsFit same a b v w → compare_desc structs x y a b v w in_a in_b ≡ None
+  so_descs x y meant below h =
+      desc_split structs x y a b v w in_a in_b
+      ∙ both_none _ _ (so_fields meant (fields_at a v) (fields_at b w) below (record { as_many = h.as_many; pairs = h.pairs }))
+      (pass 15 _ [] (here in_a) (here in_b)
+      (at_every (λ (t : Formula). keeps (reduced w t)) b.validate (λ i t e. so_kept (reduced w t) (h.validations i t e))) refl)
+
+-- ---- Two sets: the walk finds no mismatch exactly where all rules hold.
 
 none_so : {X : Type 0} (o : Option X) → o ≡ None → is_none o ≡ true
 none_so o e = ap is_none e
@@ -40,11 +174,10 @@ module _ (old new : Set) (well : WellFormed new) where
   abbrev count : ℕ
   count = length new.structs
 
-  abbrev compares : (same : ℕ → ℕ → Bool) → Type 0
-  compares same = (i j : ℕ) → uses_below count (Struct j) ≡ true → get_or structs j no_comparer i ≡ None → same i j ≡ true
-
   struct_below : (j v : ℕ) → j < count → AllBelow j (fields_at (get_or new.structs j no_desc) v)
-  struct_below j v lt = let d = get_or new.structs j no_desc in clean_below j d (struct_rules new.structs j d) v (struct_clean new well j d (slice_get-get_or new.structs j no_desc lt))
+  struct_below j v lt =
+      let d = get_or new.structs j no_desc in clean_below j d (struct_rules new.structs j d) v
+      (struct_clean new well j d (slice_get-get_or new.structs j no_desc lt))
 
   device_below : (k v : ℕ) (e : Device) → slice_get new.devices k ≡ Some e → AllBelow count (fields_at e.desc v)
   device_below k v e there = clean_below count e.desc (device_rules new k e) v (device_parts new well k e there).0
@@ -61,17 +194,19 @@ module _ (old new : Set) (well : WellFormed new) where
   said : (k : ℕ) (i j : ℕ) → uses_below k (Struct j) ≡ true → get_or structs j no_comparer i ≡ None → same i j ≡ true
   said k i j below none = none_so (get_or structs j no_comparer i) none
 
-  struct_fits : (i j : ℕ) → j < count → same i j ≡ true → DescsFit same (get_or old.structs i no_desc) (get_or new.structs j no_desc) (get_or old.structs i no_desc).version (get_or new.structs j no_desc).version
+  struct_fits : (i j : ℕ) → j < count → same i j ≡ true
+      → DescsFit same (get_or old.structs i no_desc) (get_or new.structs j no_desc) (get_or old.structs i no_desc).version
+      (get_or new.structs j no_desc).version
   struct_fits i j lt is =
       let a = get_or old.structs i no_desc in
       let b = get_or new.structs j no_desc in
-      descs_so same structs j a b a.version b.version (parts.Struct i) (parts.Struct j) (struct_cells old) (struct_cells new) (said j) (struct_below j b.version lt)
+      descs_so same structs j a b a.version b.version (parts.Struct i) (parts.Struct j) (struct_cells old) (struct_cells new) (said j)
+      (struct_below j b.version lt)
       (sym (structs_are old new (none_so (first_fault new) well) i j a.version b.version lt refl refl) ∙ none_is (get_or structs j no_comparer i) is)
 
-  sub_fits : (i k j : ℕ) (e : Device) (s : Sub) → slice_get new.devices k ≡ Some e → (found : Option ℕ) (there : Option Sub) → find_sub 0 e.subs s.desc.name ≡ found → slice_get e.subs (index found) ≡ there
+  sub_fits : (i k j : ℕ) (e : Device) (s : Sub) → slice_get new.devices k ≡ Some e → (found : Option ℕ) (there : Option Sub)
+      → find_sub 0 e.subs s.desc.name ≡ found → slice_get e.subs (index found) ≡ there
       → compare_sub old new i k j s found there ≡ None → (l : ℕ) × (t : Sub) × IsSubFor same s e l t
-  sub_fits i k j e s device None there is inside none = absurd (cc)
-  sub_fits i k j e s device (Some l) None is inside none = absurd (cc)
   sub_fits i k j e s device (Some l) (Some t) is inside none =
       let p = or_else_none _ _ none in
       let v = s.desc.version in (
@@ -81,9 +216,11 @@ module _ (old new : Set) (well : WellFormed new) where
           found = is;
           there = inside;
           version = (passes 14 _ [] _ _ p.0).0;
-          fits = descs_so same structs count s.desc t.desc v v (parts.Sub i j) (parts.Sub k l) (struct_cells old) (struct_cells new) (said count) (sub_below k l v e t device inside) p.1;
+          fits = descs_so same structs count s.desc t.desc v v (parts.Sub i j) (parts.Sub k l) (struct_cells old) (struct_cells new) (said count)
+              (sub_below k l v e t device inside) p.1;
         },
       )
+  sub_fits i k j e s device _ _ is inside none = absurd (cc)
 
   device_fits : (i k : ℕ) (d e : Device) → slice_get new.devices k ≡ Some e → compare_device old new i d (Some k) (Some e) ≡ None → DevicesFit same d e
   device_fits i k d e there none =
@@ -92,26 +229,33 @@ module _ (old new : Set) (well : WellFormed new) where
       let v = d.desc.version in
       record {
         version = (passes 4 _ [] _ _ p.0).0;
-        fits = descs_so same structs count d.desc e.desc v v (parts.Device i) (parts.Device k) (struct_cells old) (struct_cells new) (said count) (device_below k v e there) q.0;
-        subs = λ j s inside. sub_fits i k (0 + j) e s there (find_sub 0 e.subs s.desc.name) (slice_get e.subs (index (find_sub 0 e.subs s.desc.name))) refl refl (answers_none (compare_subs old new i k e) 0 d.subs q.1 j s inside);
+        fits = descs_so same structs count d.desc e.desc v v (parts.Device i) (parts.Device k) (struct_cells old) (struct_cells new) (said count)
+            (device_below k v e there) q.0;
+        subs = λ j s inside. sub_fits i k (0 + j) e s there (find_sub 0 e.subs s.desc.name)
+            (slice_get e.subs (index (find_sub 0 e.subs s.desc.name))) refl refl (answers_none (compare_subs old new i k e) 0 d.subs q.1 j s inside);
       }
 
-  found_fits : (i k : ℕ) (d e : Device) → slice_get old.devices i ≡ Some d → find_device 0 new.devices d.desc.name d.instance ≡ Some k → slice_get new.devices k ≡ Some e
+  found_fits : (i k : ℕ) (d e : Device) → slice_get old.devices i ≡ Some d → find_device 0 new.devices d.desc.name d.instance ≡ Some k
+      → slice_get new.devices k ≡ Some e
       → device_mismatch old new (0 + i) d ≡ None → DevicesFit same d e
   found_fits i k d e inside found there none =
       device_fits (0 + i) k d e there
-      (ap (compare_device old new (0 + i) d (Some k)) (sym there) ∙ ap (λ (o : Option ℕ). compare_device old new (0 + i) d o (slice_get new.devices (index o))) (sym found) ∙ none)
+      (ap (compare_device old new (0 + i) d (Some k)) (sym there) ∙ ap
+      (λ (o : Option ℕ). compare_device old new (0 + i) d o (slice_get new.devices (index o))) (sym found) ∙ none)
 
   pub fits_so : Compatible old new → Fits old new
   fits_so none =
-      let p = or_else_none (machines_mismatch old new) (or_else (lost_mismatch old new) (first_answer (device_mismatch old new) 0 old.devices)) (sym (whole_is old new) ∙ none) in
+      let p = or_else_none (machines_mismatch old new) (or_else (lost_mismatch old new) (first_answer (device_mismatch old new) 0 old.devices))
+      (sym (whole_is old new) ∙ none) in
       let q = or_else_none (lost_mismatch old new) (first_answer (device_mismatch old new) 0 old.devices) p.1 in
       let r = or_else_none _ _ q.0 in (
         same,
         record {
           machines = λ i m e. every_at (is_one_of new.machines) old.machines i m (passes 1 _ [] _ _ p.0).0 e;
-          kept = λ i d e. (passes 2 _ [] _ _ (answers_none (λ i d. failing_pair ((2, is_in new d) ∷ []) (here (parts.Device i)) (here parts.Set)) 0 old.devices r.0 i d e)).0;
-          known = λ i d e. (passes 3 _ [] _ _ (answers_none (λ i d. failing_pair ((3, is_in old d) ∷ []) (here parts.Set) (here (parts.Device i))) 0 new.devices r.1 i d e)).0;
+          kept = λ i d e. (passes 2 _ [] _ _
+              (answers_none (λ i d. failing_pair ((2, is_in new d) ∷ []) (here (parts.Device i)) (here parts.Set)) 0 old.devices r.0 i d e)).0;
+          known = λ i d e. (passes 3 _ [] _ _
+              (answers_none (λ i d. failing_pair ((3, is_in old d) ∷ []) (here parts.Set) (here (parts.Device i))) 0 new.devices r.1 i d e)).0;
           structs = struct_fits;
           devices = λ i k d e inside found there. found_fits i k d e inside found there (answers_none (device_mismatch old new) 0 old.devices q.1 i d inside);
         },
@@ -128,39 +272,48 @@ module _ (old new : Set) (well : WellFormed new) where
         let b = get_or new.structs j no_desc in
         structs_are old new (none_so (first_fault new) well) i j a.version b.version lt refl refl
         ∙ so_descs with structs j a b a.version b.version (parts.Struct i) (parts.Struct j) (struct_cells old) (struct_cells new)
-        (λ h l below said. let low : l < j = ltb-true l j below in structs_meant k h l (omega (arith, low, less)) (omega (arith, low, lt)) said) (struct_below j b.version lt) (fit.structs i j lt is)
+        (λ h l below said. let low : l < j = ltb-true l j below in structs_meant k h l (omega (arith, low, less)) (omega (arith, low, lt)) said)
+        (struct_below j b.version lt) (fit.structs i j lt is)
 
     meant : (i j : ℕ) → uses_below count (Struct j) ≡ true → with i j ≡ true → get_or structs j no_comparer i ≡ None
     meant i j below is = let lt : j < count = ltb-true j count below in structs_meant count i j lt lt is
 
-    so_sub : (i k j : ℕ) (e : Device) (s : Sub) → slice_get new.devices k ≡ Some e → (l : ℕ) (t : Sub) → IsSubFor with s e l t → compare_subs old new i k e j s ≡ None
+    so_sub : (i k j : ℕ) (e : Device) (s : Sub) → slice_get new.devices k ≡ Some e → (l : ℕ) (t : Sub) → IsSubFor with s e l t
+        → compare_subs old new i k e j s ≡ None
     so_sub i k j e s device l t h =
         let v = s.desc.version in
         ap (λ (o : Option ℕ). compare_sub old new i k j s o (slice_get e.subs (index o))) h.found ∙ ap (compare_sub old new i k j s (Some l)) h.there
         ∙ both_none _ _ (pass 14 _ [] _ _ h.version refl)
-        (so_descs with structs count s.desc t.desc v v (parts.Sub i j) (parts.Sub k l) (struct_cells old) (struct_cells new) meant (sub_below k l v e t device h.there) h.fits)
+        (so_descs with structs count s.desc t.desc v v (parts.Sub i j) (parts.Sub k l) (struct_cells old) (struct_cells new) meant
+        (sub_below k l v e t device h.there) h.fits)
 
     so_device : (i k : ℕ) (d e : Device) → slice_get new.devices k ≡ Some e → DevicesFit with d e → compare_device old new i d (Some k) (Some e) ≡ None
     so_device i k d e there h =
         let v = d.desc.version in
         both_none _ _ (pass 4 _ [] _ _ h.version refl)
-        (both_none _ _ (so_descs with structs count d.desc e.desc v v (parts.Device i) (parts.Device k) (struct_cells old) (struct_cells new) meant (device_below k v e there) h.fits)
-        (none_answers (compare_subs old new i k e) 0 d.subs (λ j s inside. let found = h.subs j s inside in so_sub i k (0 + j) e s there found.0 found.1 found.2)))
+        (both_none _ _ (so_descs with structs count d.desc e.desc v v (parts.Device i) (parts.Device k) (struct_cells old) (struct_cells new) meant
+        (device_below k v e there) h.fits)
+        (none_answers (compare_subs old new i k e) 0 d.subs
+        (λ j s inside. let found = h.subs j s inside in so_sub i k (0 + j) e s there found.0 found.1 found.2)))
 
-    so_found : (i : ℕ) (d : Device) → slice_get old.devices i ≡ Some d → (found : Option ℕ) (there : Option Device) → find_device 0 new.devices d.desc.name d.instance ≡ found → slice_get new.devices (index found) ≡ there
+    so_found : (i : ℕ) (d : Device) → slice_get old.devices i ≡ Some d → (found : Option ℕ) (there : Option Device)
+        → find_device 0 new.devices d.desc.name d.instance ≡ found → slice_get new.devices (index found) ≡ there
         → compare_device old new (0 + i) d found there ≡ None
-    so_found i d inside None there is is' = refl
-    so_found i d inside (Some k) None is is' = refl
     so_found i d inside (Some k) (Some e) is is' = so_device (0 + i) k d e is' (fit.devices i k d e inside is is')
+    so_found i d inside _ _ is is' = refl
 
     so_compatible : Compatible old new
     so_compatible =
         whole_is old new
         ∙ both_none _ _ (pass 1 _ [] _ _ (at_every (is_one_of new.machines) old.machines fit.machines) refl)
         (both_none _ _ (both_none _ _
-        (none_answers (λ i d. failing_pair ((2, is_in new d) ∷ []) (here (parts.Device i)) (here parts.Set)) 0 old.devices (λ i d e. pass 2 _ [] _ _ (fit.kept i d e) refl))
-        (none_answers (λ i d. failing_pair ((3, is_in old d) ∷ []) (here parts.Set) (here (parts.Device i))) 0 new.devices (λ i d e. pass 3 _ [] _ _ (fit.known i d e) refl)))
-        (none_answers (device_mismatch old new) 0 old.devices (λ i d e. so_found i d e (find_device 0 new.devices d.desc.name d.instance) (slice_get new.devices (index (find_device 0 new.devices d.desc.name d.instance))) refl refl)))
+        (none_answers (λ i d. failing_pair ((2, is_in new d) ∷ []) (here (parts.Device i)) (here parts.Set)) 0 old.devices
+        (λ i d e. pass 2 _ [] _ _ (fit.kept i d e) refl))
+        (none_answers (λ i d. failing_pair ((3, is_in old d) ∷ []) (here parts.Set) (here (parts.Device i))) 0 new.devices
+        (λ i d e. pass 3 _ [] _ _ (fit.known i d e) refl)))
+        (none_answers (device_mismatch old new) 0 old.devices
+        (λ i d e. so_found i d e (find_device 0 new.devices d.desc.name d.instance)
+        (slice_get new.devices (index (find_device 0 new.devices d.desc.name d.instance))) refl refl)))
 
   pub so_fits : Fits old new → Compatible old new
   so_fits h = so_compatible h.0 h.1

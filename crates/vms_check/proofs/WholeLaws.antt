@@ -1,30 +1,260 @@
--- Two whole sets: the devices that one of them doesn't have, and those that are found by their names.
-use Rattle.std.proofs.Common.{◌≡◌, ℕ, suc, ◌-◌, ◌<◌, ◌≤◌, List, ◌∷◌, length, Bool, true, false, Option, Some, None, refl, sym, ap, ◌∙◌, arith, []}
-use Rattle.std.specs.Prelude.{not, if◌then◌else◌}
+-- Descriptions, structures and whole sets: no rule depends on where cells begin, and what is found by its name.
+use Rattle.std.proofs.Common.{◌≡◌, ℕ, suc, ◌+◌, List, [], ◌∷◌, ◌++◌, length, map, Bool, true, false, Option, Some, None, refl, sym, ap, ◌∙◌, drop, ◌<◌, get_or}
+use Rattle.std.proofs.Common.{arith, ◌-◌, ◌≤◌}
+use Rattle.std.specs.Prelude.{◌==◌, if◌then◌else◌, not}
+use mathlib.Core.Path.{fun_ext}
+use Rattle.vms_spec.specs.declared.Part.{Part}
+use Rattle.vms_spec.specs.declared.Place.{Place}
+use Rattle.vms_spec.specs.Layout.{Cell, field_cells, first, no_desc, no_field, struct_cells}
+use Rattle.vms_spec.specs.Lists.{or_else, first_answer, position}
+use Rattle.vms_spec.specs.Sets.{Formula, Field, Desc, Set, Device, Sub}
+use Rattle.vms_spec.specs.WellFormed.{in_field, here}
+use Rattle.vms_check.specs.Comparing.{Comparer, Entry, compare_desc, compare_fields, compare_validations, entry_of, failing_pair, pair_structs, position_from}
+use Rattle.vms_check.specs.Comparing.{present, present_from, comparer_of, no_comparer, compare_device, compare_sub, compare_subs, first_mismatch, is_in}
+use Rattle.vms_check.specs.Reducing.{presence}
+use Rattle.vms_check.specs.Pairs.{failing_number, IsFirst, entry, fields_on, pair_mismatch, rules_on, structs_on, table_on, struct_mismatch, table}
+use Rattle.vms_check.specs.Sides.{fields_from, position_in, desc_on, position_on}
+use Rattle.vms_check.specs.declared.mismatch.Mismatch.{Mismatch}
+use Rattle.vms_kinds.specs.declared.Item.{Item}
+use Rattle.vms_kinds.specs.declared.Item.TheVariants.{Struct}
+use Rattle.vms_check.specs.declared.present.Present.{Present}
+use Rattle.vms_check.specs.declared.side.Side.{Side}
+use Rattle.std.proofs.lemmas.Bool.{ltb-true}
+use Rattle.vms_spec.specs.Rules.{uses_below}
+use Rattle.vms_spec.proofs.Tables.{first_at, first_long}
+use Rattle.vms_desc.specs.Formed.{is_well_formed}
+use Rattle.vms_desc.specs.Parts.{HasPart, desc_at, sub_at}
+use Rattle.vms_desc.proofs.Clean.{reach, field_clean, struct_clean}
+use Rattle.vms_desc.proofs.Ranks.{reach_whole}
 use Rattle.std.specs.List.{slice_get}
 use Rattle.std.proofs.lemmas.Option.{slice_get-get_or}
-use Rattle.vms_spec.specs.declared.Part.TheVariants as parts
-use Rattle.vms_spec.specs.declared.Place.{Place}
 use Rattle.vms_spec.specs.Lookup.{find_device, find_sub, index}
-use Rattle.vms_spec.specs.Lists.{first_answer, or_else, position}
-use Rattle.vms_spec.specs.Sets.{Device, Set, Sub}
-use Rattle.vms_spec.specs.WellFormed.{here}
 use Rattle.vms_spec.proofs.ListLaws.{found_inside}
 use Rattle.vms_parts.specs.Devices.{device_at}
-use Rattle.vms_desc.specs.Parts.{sub_at}
-use Rattle.vms_check.specs.Comparing.{compare_device, compare_sub, compare_subs, failing_pair, first_mismatch, is_in}
 use Rattle.vms_check.specs.Wholes.{device_mismatch, is_missing, lost_mismatch, machines_mismatch}
-use Rattle.vms_check.specs.declared.mismatch.Mismatch.{Mismatch}
-use Rattle.vms_check.proofs.DescLaws.{both, first_is, later_is}
+use Rattle.vms_spec.specs.declared.Part.TheVariants as parts
+
+-- ---- answers one after the other
+
+pub both : {X : Type 0} (x y z : Option X) → or_else x (or_else y z) ≡ or_else (or_else x y) z
+both (Some a) y z = refl
+both None y z = refl
+
+pub first_is : {X : Type 0} (x y : Option X) (a : X) → x ≡ Some a → or_else x y ≡ Some a
+first_is x y a e = ap (λ o. or_else o y) e
+
+pub later_is : {X : Type 0} (x y : Option X) → x ≡ None → or_else x y ≡ y
+later_is x y e = ap (λ o. or_else o y) e
+
+pub failing_some : (rules : List (ℕ × Bool)) (a b : Place) (r : ℕ) → failing_number rules ≡ Some r
+    → failing_pair rules a b ≡ Some (record { rule = r; in_old = a; in_new = b })
+failing_some [] a b r e = absurd (cc)
+failing_some ((rule, true) ∷ rules) a b r e = failing_some rules a b r e
+failing_some ((rule, false) ∷ rules) a b r e = let same : rule ≡ r = cc in ap (λ (n : ℕ). Some (record { rule = n; in_old = a; in_new = b })) same
+
+pub failing_none : (rules : List (ℕ × Bool)) (a b : Place) → failing_number rules ≡ None → failing_pair rules a b ≡ None
+failing_none [] a b e = refl
+failing_none ((rule, true) ∷ rules) a b e = failing_none rules a b e
+failing_none ((rule, false) ∷ rules) a b e = absurd (cc)
+
+-- ---- without places
+
+abbrev unplaced : Entry → Entry
+unplaced e = record { index = e.index; place = 0; field = e.field; rest = e.rest }
+
+one_unplaced : (i at : ℕ) (f : Field) (o : Option (Option Formula)) (es fs : List Entry) → map unplaced es ≡ fs
+    → map unplaced (entry_of i at f o ++ es) ≡ entry_of i 0 f o ++ fs
+one_unplaced i at f None es fs e = e
+one_unplaced i at f (Some rest) es fs e = ap (λ (l : List Entry). record { index = i; place = 0; field = f; rest = rest } ∷ l) e
+
+present_unplaced : (structs : List (List Cell)) (all : List Field) (v i at : ℕ) (fs : List Field)
+    → map unplaced (present_from structs all v i at fs) ≡ fields_from v i fs
+present_unplaced structs all v i at [] = refl
+present_unplaced structs all v i at (f ∷ fs) =
+    one_unplaced i at f (presence v f.test f.since) (present_from structs all v (suc i) (at + length (field_cells structs all i f)) fs)
+    (fields_from v (suc i) fs)
+    (present_unplaced structs all v (suc i) (at + length (field_cells structs all i f)) fs)
+
+position_unplaced : (p : ℕ) (es : List Entry) (k : ℕ) → position_from p (map unplaced es) k ≡ position_from p es k
+position_unplaced p [] k = refl
+position_unplaced p (e ∷ es) k = ap (λ (o : Option ℕ). if e.index == k then Some p else o) (position_unplaced (suc p) es k)
+
+pub positions_are : (structs : List (List Cell)) (d : Desc) (v : ℕ) → position_from 0 (present structs d v) ≡ position_in v d.fields
+positions_are structs d v =
+    fun_ext (λ (k : ℕ). sym (position_unplaced 0 (present structs d v) k) ∙ ap (λ (es : List Entry). position_from 0 es k)
+    (present_unplaced structs d.fields v 0 0 d.fields))
+
+module _ (structs : List Comparer) (a b : Desc) (v w : ℕ) (in_a in_b : Part) (o n : ℕ → Option ℕ) where
+  abbrev compares : List Entry → List Entry → Option Mismatch
+  compares es fs = compare_fields structs a b v w in_a in_b o n es fs
+
+  fields_unplaced : (es fs : List Entry) → compares (map unplaced es) (map unplaced fs) ≡ compares es fs
+  fields_unplaced (e ∷ es) (f ∷ fs) =
+      cc (fields_unplaced es fs)
+  fields_unplaced [] [] = refl
+  fields_unplaced (e ∷ es) [] = refl
+  fields_unplaced [] (f ∷ fs) = refl
+
+pub desc_split : (structs : List Comparer) (x y : List (List Cell)) (a b : Desc) (v w : ℕ) (in_a in_b : Part) → compare_desc structs x y a b v w in_a in_b
+    ≡ or_else (compare_fields structs a b v w in_a in_b (position_in v a.fields) (position_in w b.fields) (fields_from v 0 a.fields) (fields_from w 0 b.fields))
+    (compare_validations structs a b v w in_a in_b (position_in v a.fields) (position_in w b.fields))
+desc_split structs x y a b v w in_a in_b =
+    let es = present x a v in
+    let fs = present y b w in
+    ap (λ (o : ℕ → Option ℕ). or_else (compare_fields structs a b v w in_a in_b o (position_from 0 fs) es fs)
+    (compare_validations structs a b v w in_a in_b o (position_from 0 fs))) (positions_are x a v)
+    ∙ ap (λ (n : ℕ → Option ℕ). or_else (compare_fields structs a b v w in_a in_b (position_in v a.fields) n es fs)
+    (compare_validations structs a b v w in_a in_b (position_in v a.fields) n)) (positions_are y b w)
+    ∙ ap (λ (m : Option Mismatch). or_else m (compare_validations structs a b v w in_a in_b (position_in v a.fields) (position_in w b.fields)))
+    (sym (fields_unplaced structs a b v w in_a in_b (position_in v a.fields) (position_in w b.fields) es fs)
+    ∙ ap (λ (l : List Entry). compare_fields structs a b v w in_a in_b (position_in v a.fields) (position_in w b.fields) l (map unplaced fs))
+    (present_unplaced x a.fields v 0 0 a.fields)
+    ∙ ap (λ (l : List Entry). compare_fields structs a b v w in_a in_b (position_in v a.fields) (position_in w b.fields) (fields_from v 0 a.fields) l)
+    (present_unplaced y b.fields w 0 0 b.fields))
+
+-- ---- The walk over the present fields of both sides, one pair after the other.
+
+module _ (s t : Side) where
+  abbrev old_from : ℕ → List Entry
+  old_from i = fields_from s.version i (drop i (desc_on s).fields)
+
+  abbrev new_from : ℕ → List Entry
+  new_from i = fields_from t.version i (drop i (desc_on t).fields)
+
+  step : (i j : ℕ) (p q : Present) → IsFirst s i p → IsFirst t j q
+      → fields_on s t (old_from i) (new_from j) ≡ or_else (pair_mismatch s t p q) (fields_on s t (old_from (p.number + 1)) (new_from (q.number + 1)))
+  step i j p q f g =
+      ap (λ (es : List Entry). fields_on s t es (new_from j)) f.entries
+      ∙ ap (λ (es : List Entry). fields_on s t (entry s.version p ∷ old_from (p.number + 1)) es) g.entries
+      ∙ both (failing_pair (rules_on s t p q) (in_field s.part p.number) (in_field t.part q.number)) (structs_on s t p q)
+      (fields_on s t (old_from (p.number + 1)) (new_from (q.number + 1)))
+
+  pub pair_passes : (i j : ℕ) (p q : Present) (r whole : Option Mismatch) → IsFirst s i p → IsFirst t j q → r ≡ pair_mismatch s t p q → r ≡ None
+      → fields_on s t (old_from i) (new_from j) ≡ whole → fields_on s t (old_from (p.number + 1)) (new_from (q.number + 1)) ≡ whole
+  pair_passes i j p q r whole f g is none e = sym (step i j p q f g ∙ later_is _ _ (sym is ∙ none)) ∙ e
+
+  pub pair_stops : (i j : ℕ) (p q : Present) (r whole : Option Mismatch) (m : Mismatch) → IsFirst s i p → IsFirst t j q → r ≡ pair_mismatch s t p q → r ≡ Some m
+      → fields_on s t (old_from i) (new_from j) ≡ whole → Some m ≡ whole
+  pair_stops i j p q r whole m f g is some e = sym (step i j p q f g ∙ first_is _ _ m (sym is ∙ some)) ∙ e
+
+  -- ---- one pair
+
+  pub rule_fails : (p q : Present) (o : Option ℕ) (r : ℕ) (a b : Place) → o ≡ failing_number (rules_on s t p q) → o ≡ Some r → a ≡ in_field s.part p.number
+      → b ≡ in_field t.part q.number
+      → Some (record { rule = r; in_old = a; in_new = b }) ≡ pair_mismatch s t p q
+  rule_fails p q o r a b is some in_a in_b =
+      rw (in_a, in_b) (sym (first_is _ (structs_on s t p q) _
+      (failing_some (rules_on s t p q) (in_field s.part p.number) (in_field t.part q.number) r (sym is ∙ some))))
+
+  pub rules_pass : (p q : Present) (o : Option ℕ) → o ≡ failing_number (rules_on s t p q) → o ≡ None → structs_on s t p q ≡ pair_mismatch s t p q
+  rules_pass p q o is none =
+      sym (later_is _ (structs_on s t p q) (failing_none (rules_on s t p q) (in_field s.part p.number) (in_field t.part q.number) (sym is ∙ none)))
+
+  abbrev items_on : Item → Item → Option Mismatch
+  items_on a b = pair_structs (table_on s t) (desc_on s) (desc_on t) s.version t.version s.part t.part (position_on s) (position_on t) a b
+
+  no_structs : (a b : Item) → ((i : ℕ) → a ≡ Struct i → ⊥) → items_on a b ≡ None
+  no_structs (Struct i) b h = absurd (h i refl)
+  no_structs a b h = refl
+
+  pub passes_whole : (p q : Present) (o : Option ℕ) → o ≡ failing_number (rules_on s t p q) → o ≡ None → ((i : ℕ) → p.field.now.item ≡ Struct i → ⊥)
+      → None ≡ pair_mismatch s t p q
+  passes_whole p q o is none h = sym (no_structs p.field.now.item q.field.now.item h) ∙ rules_pass p q o is none
+
+-- ---- The structures of two sets: how one compares is known from those of smaller numbers, so the whole table says it too.
+
+-- ---- the end of a table isn't used
+
+-- each entry that is a structure has one of a number below k
+abbrev pub AllBelow : ℕ → List Entry → Type 0
+AllBelow k [] = Unit {0}
+AllBelow k (e ∷ es) = (uses_below k e.field.item ≡ true) × AllBelow k es
+
+one_below : (k i at : ℕ) (f : Field) (o : Option (Option Formula)) (es : List Entry) → uses_below k f.item ≡ true → AllBelow k es
+    → AllBelow k (entry_of i at f o ++ es)
+one_below k i at f None es h rest = rest
+one_below k i at f (Some left) es h rest = (h, rest)
+
+entries_below : (k : ℕ) (structs : List (List Cell)) (all : List Field) (v i at : ℕ) (fs : List Field)
+    → ((j : ℕ) → j < length fs → uses_below k (get_or fs j no_field).item ≡ true) → AllBelow k (present_from structs all v i at fs)
+entries_below k structs all v i at [] h = tt
+entries_below k structs all v i at (f ∷ fs) h =
+    one_below k i at f (presence v f.test f.since) _ (h 0 (omega arith)) (entries_below k structs all v (suc i) _ fs (λ j lt. h (suc j) (omega arith)))
+
+module _ (k : ℕ) (ts us : List Comparer) (agree : (j : ℕ) → j < k → get_or ts j no_comparer ≡ get_or us j no_comparer) (a b : Desc) (v w : ℕ)
+    (in_a in_b : Part) where
+  structs_same : (o n : ℕ → Option ℕ) (x y : Item) → uses_below k y ≡ true
+      → pair_structs ts a b v w in_a in_b o n x y ≡ pair_structs us a b v w in_a in_b o n x y
+  structs_same o n (Struct i) (Struct j) h = rw (agree j (ltb-true j k h))
+  structs_same o n x y h = refl
+
+  fields_same : (o n : ℕ → Option ℕ) (es fs : List Entry) → AllBelow k fs
+      → compare_fields ts a b v w in_a in_b o n es fs ≡ compare_fields us a b v w in_a in_b o n es fs
+  fields_same o n (e ∷ es) (f ∷ fs) h =
+      cc (structs_same o n e.field.item f.field.item h.0, fields_same o n es fs h.1)
+  fields_same o n es fs h = refl
+
+  descs_same : (x y : List (List Cell)) → ((j : ℕ) → j < length b.fields → uses_below k (get_or b.fields j no_field).item ≡ true)
+      → compare_desc ts x y a b v w in_a in_b ≡ compare_desc us x y a b v w in_a in_b
+  descs_same x y h =
+      let es = present x a v in
+      let fs = present y b w in
+      cc (fields_same (position_from 0 es) (position_from 0 fs) es fs (entries_below k y b.fields w 0 0 b.fields h))
+
+-- ---- two structures
+
+module _ (old new : Set) (well : is_well_formed new ≡ true) where
+  abbrev at_number : List Comparer → Desc → Comparer
+  at_number earlier d = comparer_of earlier (struct_cells old) (struct_cells new) old.structs (length earlier) d
+
+  abbrev rows : ℕ → List Comparer
+  rows k = first at_number new.structs k
+
+  agrees : (j : ℕ) → j < length new.structs → (l : ℕ) → l < j → get_or (rows j) l no_comparer ≡ get_or (table old new) l no_comparer
+  agrees j lt l less =
+      let lt' : l < length new.structs = omega arith in first_at at_number new.structs no_comparer j l less ∙ sym
+      (first_at at_number new.structs no_comparer (length new.structs) l lt')
+
+  -- each side at its own version
+  pub structs_are : (i j v w : ℕ) → j < length new.structs → v ≡ (get_or old.structs i no_desc).version → w ≡ (get_or new.structs j no_desc).version
+      → struct_mismatch old new i j
+      ≡ compare_desc (table old new) (struct_cells old) (struct_cells new) (get_or old.structs i no_desc) (get_or new.structs j no_desc) v w (parts.Struct i)
+      (parts.Struct j)
+  structs_are i j v w lt is_v is_w =
+      let a = get_or old.structs i no_desc in
+      let b = get_or new.structs j no_desc in
+      let x = struct_cells old in
+      let y = struct_cells new in
+      ap (λ (c : Comparer). c i) (first_at at_number new.structs no_comparer (length new.structs) j lt)
+      ∙ ap (λ (l : ℕ). compare_desc (rows j) x y a b a.version b.version (parts.Struct i) (parts.Struct l)) (first_long at_number new.structs j)
+      ∙ descs_same j (rows j) (table old new) (agrees j lt) a b a.version b.version (parts.Struct i) (parts.Struct j) x y
+      (λ l less. ((struct_clean new well j lt).fields l less).uses)
+      ∙ ap (λ (u : ℕ). compare_desc (table old new) x y a b u b.version (parts.Struct i) (parts.Struct j)) (sym is_v)
+      ∙ ap (λ (u : ℕ). compare_desc (table old new) x y a b v u (parts.Struct i) (parts.Struct j)) (sym is_w)
+
+-- ---- which structures a part uses
+
+pub uses_at : (set : Set) → is_well_formed set ≡ true → (part : Part) → HasPart set part → (k : ℕ) → k < length (desc_at set part).fields → (f : Field)
+    → f ≡ get_or (desc_at set part).fields k no_field → (j : ℕ) → f.item ≡ Struct j
+    → (j < reach set part) × (j < length set.structs)
+uses_at set well part h k lt f is j e =
+    let uses : uses_below (reach set part) (Struct j) ≡ true =
+    ap (uses_below (reach set part)) (sym (sym (ap (λ (g : Field). g.item) is) ∙ e)) ∙ (field_clean set well part h k lt).uses in
+    let low : j < reach set part = ltb-true j (reach set part) uses in
+    (low, omega (arith, low, reach_whole set part h))
+
+-- ---- Two whole sets: the devices that one of them doesn't have, and those that are found by their names.
 
 -- ---- the whole
 
-pub whole_is : (old new : Set) → first_mismatch old new ≡ or_else (machines_mismatch old new) (or_else (lost_mismatch old new) (first_answer (device_mismatch old new) 0 old.devices))
+pub whole_is : (old new : Set)
+    → first_mismatch old new ≡ or_else (machines_mismatch old new) (or_else (lost_mismatch old new) (first_answer (device_mismatch old new) 0 old.devices))
 unfolding first_mismatch
 whole_is old new =
     ap (λ (m : Option Mismatch). or_else (machines_mismatch old new) m)
     (both (first_answer (λ i d. failing_pair ((2, is_in new d) ∷ []) (here (parts.Device i)) (here parts.Set)) 0 old.devices)
-    (first_answer (λ i d. failing_pair ((3, is_in old d) ∷ []) (here parts.Set) (here (parts.Device i))) 0 new.devices) (first_answer (device_mismatch old new) 0 old.devices))
+    (first_answer (λ i d. failing_pair ((3, is_in old d) ∷ []) (here parts.Set) (here (parts.Device i))) 0 new.devices)
+    (first_answer (device_mismatch old new) 0 old.devices))
 
 -- ---- devices that a set doesn't have
 
@@ -37,71 +267,71 @@ one_lost : (rule : ℕ) (f g : ℕ → Place) (k : ℕ) (b : Bool) (rest : Optio
 one_lost rule f g k true rest o e = e
 one_lost rule f g k false rest o e = refl
 
-lost_is : (set : Set) (rule : ℕ) (f g : ℕ → Place) (k : ℕ) (ds : List Device) → first_answer (λ i d. failing_pair ((rule, is_in set d) ∷ []) (f i) (g i)) k ds ≡ lost_at rule f g (position (is_missing set) k ds)
+lost_is : (set : Set) (rule : ℕ) (f g : ℕ → Place) (k : ℕ) (ds : List Device)
+    → first_answer (λ i d. failing_pair ((rule, is_in set d) ∷ []) (f i) (g i)) k ds ≡ lost_at rule f g (position (is_missing set) k ds)
 lost_is set rule f g k [] = refl
 lost_is set rule f g k (d ∷ ds) = one_lost rule f g k (is_in set d) _ (position (is_missing set) (suc k) ds) (lost_is set rule f g (suc k) ds)
 
+lost_in : (set : Set) (rule : ℕ) (f g : ℕ → Place) (all ds : List Device) → ds ≡ all → (o : Option ℕ) → o ≡ position (is_missing set) 0 ds
+    → first_answer (λ i d. failing_pair ((rule, is_in set d) ∷ []) (f i) (g i)) 0 all ≡ lost_at rule f g o
+lost_in set rule f g all ds is o e = rw (e, is) (lost_is set rule f g 0 all)
+
 module _ (old new : Set) where
-  lost_old : (ds : List Device) → ds ≡ old.devices → (o : Option ℕ) → o ≡ position (is_missing new) 0 ds
-      → first_answer (λ i d. failing_pair ((2, is_in new d) ∷ []) (here (parts.Device i)) (here parts.Set)) 0 old.devices ≡ lost_at 2 (λ i. here (parts.Device i)) (λ i. here parts.Set) o
-  lost_old ds is o e =
-      lost_is new 2 (λ i. here (parts.Device i)) (λ i. here parts.Set) 0 old.devices
-      ∙ ap (λ (l : List Device). lost_at 2 (λ i. here (parts.Device i)) (λ i. here parts.Set) (position (is_missing new) 0 l)) (sym is)
-      ∙ ap (lost_at 2 (λ i. here (parts.Device i)) (λ i. here parts.Set)) (sym e)
-
-  lost_new : (ds : List Device) → ds ≡ new.devices → (o : Option ℕ) → o ≡ position (is_missing old) 0 ds
-      → first_answer (λ i d. failing_pair ((3, is_in old d) ∷ []) (here parts.Set) (here (parts.Device i))) 0 new.devices ≡ lost_at 3 (λ i. here parts.Set) (λ i. here (parts.Device i)) o
-  lost_new ds is o e =
-      lost_is old 3 (λ i. here parts.Set) (λ i. here (parts.Device i)) 0 new.devices
-      ∙ ap (λ (l : List Device). lost_at 3 (λ i. here parts.Set) (λ i. here (parts.Device i)) (position (is_missing old) 0 l)) (sym is)
-      ∙ ap (lost_at 3 (λ i. here parts.Set) (λ i. here (parts.Device i))) (sym e)
-
-  pub old_lost : (ds : List Device) → ds ≡ old.devices → (o : Option ℕ) → o ≡ position (is_missing new) 0 ds → (i : ℕ) → o ≡ Some i → (a b : Place) → a ≡ here (parts.Device i) → b ≡ here parts.Set
-      → Some (record { rule = 2; in_old = a; in_new = b }) ≡ lost_mismatch old new
+  pub old_lost : (ds : List Device) → ds ≡ old.devices → (o : Option ℕ) → o ≡ position (is_missing new) 0 ds → (i : ℕ) → o ≡ Some i → (a b : Place)
+      → a ≡ here (parts.Device i)
+      → b ≡ here parts.Set → Some (record { rule = 2; in_old = a; in_new = b }) ≡ lost_mismatch old new
   old_lost ds is o e i some a b in_a in_b =
-      ap (λ (x : Place). Some (record { rule = 2; in_old = x; in_new = b })) in_a ∙ ap (λ (x : Place). Some (record { rule = 2; in_old = here (parts.Device i); in_new = x })) in_b
-      ∙ sym (first_is _ _ _ (lost_old ds is o e ∙ ap (lost_at 2 (λ i. here (parts.Device i)) (λ i. here parts.Set)) some))
+      rw (in_a, in_b) (sym (first_is _ _ _ (lost_in new 2 (λ i. here (parts.Device i)) (λ i. here parts.Set) old.devices ds is (Some i) (sym some ∙ e))))
 
   -- no device of the old set is missing
-  module _ (ds es : List Device) (is : ds ≡ old.devices) (is' : es ≡ new.devices) (o p : Option ℕ) (e : o ≡ position (is_missing new) 0 ds) (e' : p ≡ position (is_missing old) 0 es) (none : o ≡ None) where
-    then_new : lost_mismatch old new ≡ lost_at 3 (λ i. here parts.Set) (λ i. here (parts.Device i)) p
-    then_new = later_is _ _ (lost_old ds is o e ∙ ap (lost_at 2 (λ i. here (parts.Device i)) (λ i. here parts.Set)) none) ∙ lost_new es is' p e'
+  module _ (ds es : List Device) (is : ds ≡ old.devices) (is' : es ≡ new.devices) (o p : Option ℕ) (e : o ≡ position (is_missing new) 0 ds)
+      (e' : p ≡ position (is_missing old) 0 es) (none : o ≡ None) where
+    then_new : (q : Option ℕ) → p ≡ q → lost_mismatch old new ≡ lost_at 3 (λ i. here parts.Set) (λ i. here (parts.Device i)) q
+    then_new q same =
+        later_is _ _ (lost_in new 2 (λ i. here (parts.Device i)) (λ i. here parts.Set) old.devices ds is None (sym none ∙ e))
+        ∙ lost_in old 3 (λ i. here parts.Set) (λ i. here (parts.Device i)) new.devices es is' q (sym same ∙ e')
 
-    pub new_lost : (i : ℕ) → p ≡ Some i → (a b : Place) → a ≡ here parts.Set → b ≡ here (parts.Device i) → Some (record { rule = 3; in_old = a; in_new = b }) ≡ lost_mismatch old new
-    new_lost i some a b in_a in_b =
-        ap (λ (x : Place). Some (record { rule = 3; in_old = x; in_new = b })) in_a ∙ ap (λ (x : Place). Some (record { rule = 3; in_old = here parts.Set; in_new = x })) in_b
-        ∙ sym (then_new ∙ ap (lost_at 3 (λ i. here parts.Set) (λ i. here (parts.Device i))) some)
+    pub new_lost : (i : ℕ) → p ≡ Some i → (a b : Place) → a ≡ here parts.Set → b ≡ here (parts.Device i)
+        → Some (record { rule = 3; in_old = a; in_new = b }) ≡ lost_mismatch old new
+    new_lost i some a b in_a in_b = rw (in_a, in_b) (sym (then_new (Some i) some))
 
     pub none_lost : p ≡ None → None ≡ lost_mismatch old new
-    none_lost none' = sym (then_new ∙ ap (lost_at 3 (λ i. here parts.Set) (λ i. here (parts.Device i))) none')
+    none_lost none' = sym (then_new None none')
 
 -- ---- what is found by its name
 
-inside_by : {X : Type 0} (p : X → Bool) (i : ℕ) (x : X) (xs : List X) (k : ℕ) → (position p (suc i) xs ≡ Some k → (suc i ≤ k) × (k - suc i < length xs)) → (b : Bool)
+inside_by : {X : Type 0} (p : X → Bool) (i : ℕ) (x : X) (xs : List X) (k : ℕ) → (position p (suc i) xs ≡ Some k → (suc i ≤ k) × (k - suc i < length xs))
+    → (b : Bool)
     → (if b then Some i else position p (suc i) xs) ≡ Some k → (i ≤ k) × (k - i < length (x ∷ xs))
 inside_by p i x xs k rest true e = let same : i ≡ k = cc in (omega (arith, same), omega (arith, same))
-inside_by p i x xs k rest false e = let r = rest e in let le : suc i ≤ k = r.0 in let lt : k - suc i < length xs = r.1 in (omega (arith, le), omega (arith, le, lt))
+inside_by p i x xs k rest false e =
+    let r = rest e in let le : suc i ≤ k = r.0 in let lt : k - suc i < length xs = r.1 in (omega (arith, le), omega (arith, le, lt))
 
-pub device_in : (devices : List Device) (name : List ℕ) (instance : ℕ) (o : Option ℕ) (k : ℕ) → o ≡ find_device 0 devices name instance → o ≡ Some k → k < length devices
+pub device_in : (devices : List Device) (name : List ℕ) (instance : ℕ) (o : Option ℕ) (k : ℕ) → o ≡ find_device 0 devices name instance → o ≡ Some k
+    → k < length devices
 device_in devices name instance o k e some = let r = found_inside _ 0 devices k (sym e ∙ some) in omega (arith, r.1)
 
 pub sub_in : (subs : List Sub) (name : List ℕ) (o : Option ℕ) (k : ℕ) → o ≡ find_sub 0 subs name → o ≡ Some k → k < length subs
 sub_in subs name o k e some = let r = found_inside _ 0 subs k (sym e ∙ some) in omega (arith, r.1)
 
-pub device_found : (old new : Set) (i : ℕ) (d : Device) (name : List ℕ) (instance : ℕ) (o : Option ℕ) (k : ℕ) → name ≡ d.desc.name → instance ≡ d.instance → o ≡ find_device 0 new.devices name instance → o ≡ Some k
+pub device_found : (old new : Set) (i : ℕ) (d : Device) (name : List ℕ) (instance : ℕ) (o : Option ℕ) (k : ℕ) → name ≡ d.desc.name → instance ≡ d.instance
+    → o ≡ find_device 0 new.devices name instance → o ≡ Some k
     → compare_device old new i d (Some k) (Some (device_at new k)) ≡ device_mismatch old new i d
 device_found old new i d name instance o k is_name is_instance e some =
     let inside = device_in new.devices name instance o k e some in
     let found : find_device 0 new.devices d.desc.name d.instance ≡ Some k =
     ap (λ (n : List ℕ). find_device 0 new.devices n d.instance) (sym is_name) ∙ ap (find_device 0 new.devices name) (sym is_instance) ∙ sym e ∙ some in
-    ap (compare_device old new i d (Some k)) (sym (slice_get-get_or new.devices k _ inside)) ∙ ap (λ (x : Option ℕ). compare_device old new i d x (slice_get new.devices (index x))) (sym found)
+    ap (compare_device old new i d (Some k)) (sym (slice_get-get_or new.devices k _ inside)) ∙ ap
+    (λ (x : Option ℕ). compare_device old new i d x (slice_get new.devices (index x))) (sym found)
 
-pub sub_found : (old new : Set) (i k j : ℕ) (e : Device) (s : Sub) (name : List ℕ) (o : Option ℕ) (l : ℕ) → name ≡ s.desc.name → o ≡ find_sub 0 e.subs name → o ≡ Some l
+pub sub_found : (old new : Set) (i k j : ℕ) (e : Device) (s : Sub) (name : List ℕ) (o : Option ℕ) (l : ℕ) → name ≡ s.desc.name → o ≡ find_sub 0 e.subs name
+    → o ≡ Some l
     → compare_sub old new i k j s (Some l) (Some (sub_at e l)) ≡ compare_subs old new i k e j s
 sub_found old new i k j e s name o l is_name is some =
     let inside = sub_in e.subs name o l is some in
     let found : find_sub 0 e.subs s.desc.name ≡ Some l = ap (find_sub 0 e.subs) (sym is_name) ∙ sym is ∙ some in
-    ap (compare_sub old new i k j s (Some l)) (sym (slice_get-get_or e.subs l _ inside)) ∙ ap (λ (x : Option ℕ). compare_sub old new i k j s x (slice_get e.subs (index x))) (sym found)
+    ap (compare_sub old new i k j s (Some l)) (sym (slice_get-get_or e.subs l _ inside)) ∙ ap
+    (λ (x : Option ℕ). compare_sub old new i k j s x (slice_get e.subs (index x))) (sym found)
 
 pub sub_unknown : (old new : Set) (i k j : ℕ) (e : Device) (s : Sub) (name : List ℕ) (o : Option ℕ) → name ≡ s.desc.name → o ≡ find_sub 0 e.subs name → o ≡ None
     → Some (record { rule = 13; in_old = here (parts.Sub i j); in_new = here (parts.Device k) }) ≡ compare_subs old new i k e j s

@@ -2,31 +2,20 @@
 -- newer set reads the same number of bytes for its field as the older set wrote for its own. A number that tests
 -- and counts may name is the same then. This is repeated position by position. Also a position at which two
 -- constants differ, which the newer set can't read.
-use Rattle.vms_check_laws.proofs.Facade.{◌≡◌, inl, inr, ℕ, zero, suc, ◌+◌, ◌<◌, ◌≤◌, Bool, true, List, [], ◌∷◌, ◌++◌, length, get_or, Option, Some, None, sym}
-use Rattle.vms_check_laws.proofs.Facade.{ap, ◌∙◌, subst, arith, replicate, ℤ, pos, if◌then◌else◌, ◌⊎◌, nat_lt, take, refl, slice_get, length-append}
-use Rattle.vms_check_laws.proofs.Facade.{length-replicate, take_all, eqb-true, and_parts, ltb-true, eq-or-lt_of_le, Kind, Item, Num, Equal, Unused, Struct}
-use Rattle.vms_check_laws.proofs.Facade.{width, residue, code, Count, One, Part, Desc, Field, is_there, is_steady_in, is_num, is_one, is_earlier_in, Slot}
-use Rattle.vms_check_laws.proofs.Facade.{Number, Filler, Meaning, no_meaning, no_parent, times, counted, capacity_of, item_cells, field_cells, elements_of}
-use Rattle.vms_check_laws.proofs.Facade.{item_slots, numbers_of, kind_of, Constant, item_size, Spells, zeroed, length-code, size_same, elements_fit, ItemBelow}
-use Rattle.vms_check_laws.proofs.Facade.{Entry, same_count, same_item, is_covered, Comparer, no_comparer, pair_structs, Carrier, FitsAt, Aligns}
-use Rattle.vms_check_laws.proofs.Presence.{Agree, presence_named, not_covered, steady, steady_rest, rest_none}
+use Rattle.vms_check_laws.proofs.Facade.{cells_in, ◌≡◌, inl, inr, ℕ, zero, suc, ◌+◌, ◌<◌, ◌≤◌, Bool, true, List, ◌∷◌, ◌++◌, length, get_or, Some, None, sym, ap}
+use Rattle.vms_check_laws.proofs.Facade.{◌∙◌, arith, ℤ, pos, if◌then◌else◌, ◌⊎◌, nat_lt, take, refl, slice_get, take_all, eqb-true, and_parts, ltb-true}
+use Rattle.vms_check_laws.proofs.Facade.{eq-or-lt_of_le, Kind, Item, Num, Equal, Unused, Struct, width, residue, code, Count, One, is_steady_in, is_num, is_one}
+use Rattle.vms_check_laws.proofs.Facade.{is_earlier_in, Slot, Number, no_parent, times, counted, item_cells, elements_of, item_slots, numbers_of, kind_of}
+use Rattle.vms_check_laws.proofs.Facade.{Spells, zeroed, length-code, size_same, elements_fit, Entry, same_count, same_item, FitsAt, Aligns, Cell, desc_cells}
+use Rattle.vms_check_laws.proofs.Facade.{[]}
+use Rattle.vms_check_laws.proofs.Presence.{Agree, filler_length}
 use Rattle.vms_check_laws.proofs.Segments.{fits_left, fits_right, fits_at, apart, same_bytes, aligns_nil, aligns_append, aligns_number, aligns_constant}
-use Rattle.vms_check_laws.proofs.Segments.{aligns_filler, same_code, spells_split, behind_first}
-use Rattle.vms_check_laws.proofs.Pairing.{kinds_same, cells_in, slots_at, IsKnown, entries_slots, AreKnown, FitEntries, known_there}
-use Rattle.vms_check_laws.proofs.Linking.{PairGood, Matched, decoded, Zip}
-use Rattle.vms_check_laws.proofs.Premises.{Table, IsSingle, OldGood, NewGood}
-use Rattle.vms_check_laws.proofs.FieldsCarry.{EntryGood, OldEntries, covered_slots, pair_by}
+use Rattle.vms_check_laws.proofs.Segments.{aligns_filler, spells_split, behind_first, same_code}
+use Rattle.vms_check_laws.proofs.Premises.{kinds_same, slots_at, IsKnown, entries_slots, AreKnown, known_there, Two, PairGood, Zip, Pairs, Sides, IsSingle}
+use Rattle.vms_check_laws.proofs.Premises.{NamesEarlier, OldFields, covered_slots}
+use Rattle.vms_check_laws.proofs.FieldsRead.{pair_by, Opposite, named_pair}
 use Rattle.vms_check_laws.proofs.Positioned.{same_some, Above, Upto, upto_next, upto_here, upto_earlier}
-
--- the structures below a number, if no rule fails at two of them
-abbrev pub AlignTable : (ks : List Comparer) (ms ns : List Meaning) (numbers numbers' : List ℤ) (below below' : ℕ) → Type 0
-AlignTable ks ms ns numbers numbers' below below' =
-    (i j : ℕ) → i < below → j < below' → get_or ks j no_comparer i ≡ None → (x y : ℕ) → FitsAt (get_or (cells_in ms) i []) numbers x
-    → Aligns numbers ((get_or ms i no_meaning).slots numbers x) numbers' ((get_or ns j no_meaning).slots numbers' y)
-
--- each field names only earlier ones
-abbrev pub NamesEarlier : ℕ → Desc → Type 0
-NamesEarlier below b = (j : ℕ) (f : Field) → slice_get b.fields j ≡ Some f → NewGood below (is_earlier_in b j) f
+use Rattle.vms_check_laws.proofs.PairLists.{if_least}
 
 -- two constants of one kind that have other bytes
 pub record Differ (i j : Item) : Type 0 where
@@ -43,21 +32,21 @@ pub record Clash (e f : Entry) : Type 0 where
   pub rest : e.rest ≡ None
   pub rest' : f.rest ≡ None
 
-module _ (ks : List Comparer) (a b : Desc) (v w : ℕ) (part part' : Part) (o n : ℕ → Option ℕ) where
+module _ (two : Two) where
   -- no rule fails at the first k positions
   abbrev pub GoodFirst : ℕ → List Entry → List Entry → Type 0
   GoodFirst zero es fs = Unit {0}
-  GoodFirst (suc k) (e ∷ es) (f ∷ fs) = PairGood ks a b v w part part' o n e f × GoodFirst k es fs
+  GoodFirst (suc k) (e ∷ es) (f ∷ fs) = PairGood two e f × GoodFirst k es fs
   GoodFirst (suc k) _ _ = ⊥
 
-  zip_first : (es fs : List Entry) → Zip ks a b v w part part' o n es fs → GoodFirst (length es) es fs × (length fs ≡ length es)
+  zip_first : (es fs : List Entry) → Zip two es fs → GoodFirst (length es) es fs × (length fs ≡ length es)
   zip_first [] [] zip = (tt, refl)
   zip_first [] (f ∷ fs) zip = absurd zip
   zip_first (e ∷ es) [] zip = absurd zip
   zip_first (e ∷ es) (f ∷ fs) zip = let more = zip_first es fs zip.1 in ((zip.0, more.0), ap suc more.1)
 
   pub good_first : (k : ℕ) (es fs : List Entry) → k ≤ length es → k ≤ length fs
-      → ((q : ℕ) (e f : Entry) → q < k → slice_get es q ≡ Some e → slice_get fs q ≡ Some f → PairGood ks a b v w part part' o n e f) → GoodFirst k es fs
+      → ((q : ℕ) (e f : Entry) → q < k → slice_get es q ≡ Some e → slice_get fs q ≡ Some f → PairGood two e f) → GoodFirst k es fs
   good_first zero es fs le le' h = tt
   good_first (suc k) [] fs le le' h = absurd (omega arith)
   good_first (suc k) (e ∷ es) [] le le' h = absurd (omega arith)
@@ -66,55 +55,48 @@ module _ (ks : List Comparer) (a b : Desc) (v w : ℕ) (part part' : Part) (o n 
 
   -- no rule fails before two constants that differ
   abbrev pub Clashes : List Entry → List Entry → Type 0
-  Clashes (e ∷ es) (f ∷ fs) = Clash e f ⊎ (PairGood ks a b v w part part' o n e f × Clashes es fs)
+  Clashes (e ∷ es) (f ∷ fs) = Clash e f ⊎ (PairGood two e f × Clashes es fs)
   Clashes _ _ = ⊥
 
-module _ (ks : List Comparer) (cs : List Carrier) (ms ns : List Meaning) (a b : Desc) (v w : ℕ) (part part' : Part) (o n : ℕ → Option ℕ)
-    (numbers numbers' : List ℤ) (at at' : ℕ) (below below' : ℕ) (table : Table ks cs ms ns numbers numbers' below below')
-    (rows : AlignTable ks ms ns numbers numbers' below below') where
+module _ (sides : Sides) where
+  open sides use {two, ms, ns, numbers, numbers', at, at', below, below', table}
+  open two use {a, b, v, w, o, n}
+
+  abbrev olds : List (List Cell)
+  olds = cells_in ms
+
+  abbrev news : List (List Cell)
+  news = cells_in ns
+
   abbrev own : ℕ → ℕ
-  own k = numbers_of (cells_in ms) a numbers at k
+  own k = numbers_of olds a numbers at k
 
   abbrev own' : ℕ → ℕ
-  own' k = numbers_of (cells_in ns) b numbers' at' k
+  own' k = numbers_of news b numbers' at' k
 
-  abbrev pub SlotsAlign : List Slot → List Slot → Type 0
+  abbrev old_size : Item → ℕ
+  old_size i = length (item_cells olds i [] (pos 0))
+
+  abbrev SlotsAlign : List Slot → List Slot → Type 0
   SlotsAlign xs ys = Aligns numbers xs numbers' ys
 
-  item_aligns : (i j : Item) (caps caps' : List ℕ) (d : ℤ) (x y : ℕ) → same_item i j ≡ true → pair_structs ks a b v w part part' o n i j ≡ None
-      → ItemBelow below i → ItemBelow below' j → FitsAt (item_cells (cells_in ms) i caps d) numbers x
+  item_aligns : (i j : Item) (caps caps' : List ℕ) (d : ℤ) (x y : ℕ) → Pairs two below below' i j → FitsAt (item_cells olds i caps d) numbers x
       → SlotsAlign (item_slots ms i caps numbers x) (item_slots ns j caps' numbers' y)
-  item_aligns (Num k) (Num l) caps caps' d x y same structs below_a below_b fits = aligns_number numbers numbers' x y k l caps caps' (kinds_same k l same)
-  item_aligns (Equal k z) (Equal l u) caps caps' d x y same structs below_a below_b fits = aligns_constant numbers numbers' k l z u (kinds_same k l same)
-  item_aligns (Unused m) (Unused r) caps caps' d x y same structs below_a below_b fits =
-      aligns_filler numbers numbers' _ r (length-append (replicate m 0) [] ∙ ap (λ (k : ℕ). k + 0) (length-replicate m 0) ∙ omega (arith, eqb-true m r same))
-  item_aligns (Struct i) (Struct j) caps caps' d x y same structs below_a below_b fits = rows i j below_a below_b structs x y fits
-  item_aligns _ _ caps caps' d x y same structs below_a below_b fits = absurd (cc)
+  item_aligns (Num k) (Num l) caps caps' d x y pair fits = aligns_number numbers numbers' x y k l caps caps' (kinds_same k l pair.same)
+  item_aligns (Equal k z) (Equal l u) caps caps' d x y pair fits = aligns_constant numbers numbers' k l z u (kinds_same k l pair.same)
+  item_aligns (Unused m) (Unused r) caps caps' d x y pair fits = aligns_filler numbers numbers' _ r (filler_length numbers m ∙ eqb-true m r pair.same)
+  item_aligns (Struct i) (Struct j) caps caps' d x y pair fits = (table.meets i j pair.low pair.low' pair.structs x fits).aligned y
+  item_aligns _ _ caps caps' d x y pair fits = absurd (cc)
 
-  items_align : (i j : Item) (caps caps' : List ℕ) (d : ℤ) (m most p step x y step' : ℕ) → same_item i j ≡ true
-      → pair_structs ks a b v w part part' o n i j ≡ None
-      → ItemBelow below i → ItemBelow below' j → m ≤ most → FitsAt (times most (λ _. item_cells (cells_in ms) i caps d) p step) numbers x
-      → SlotsAlign (times m (item_slots ms i caps numbers) x (length (item_cells (cells_in ms) i [] (pos 0))))
-      (times m (item_slots ns j caps' numbers') y step')
-  items_align i j caps caps' d zero most p step x y step' same structs below_a below_b le fits = aligns_nil numbers numbers'
-  items_align i j caps caps' d (suc m) zero p step x y step' same structs below_a below_b le fits = absurd (omega arith)
-  items_align i j caps caps' d (suc m) (suc most) p step x y step' same structs below_a below_b le fits =
-      let cells = item_cells (cells_in ms) i caps d in
-      let size = length (item_cells (cells_in ms) i [] (pos 0)) in
-      let more_cells = times most (λ _. item_cells (cells_in ms) i caps d) _ step in
-      let e : x + length cells ≡ x + size = ap (λ (k : ℕ). x + k) (size_same (cells_in ms) i caps d) in
-      aligns_append numbers numbers' _ _
-      _ _
-      (item_aligns i j caps caps' d x y same structs below_a below_b (fits_left more_cells fits))
-      (items_align i j caps caps' d m most (p + step) step (x + size) (y + step') step' same structs below_a below_b (omega arith)
-      (fits_at e (fits_right cells fits)))
-
-  covered_aligns : (i : Item) (c : Count) (j : Item) (d : Count) (caps caps' : List ℕ) (x y step step' : ℕ) → is_covered i c j ≡ true → IsSingle i c
-      → IsSingle j d
-      → SlotsAlign (times (elements_of c own) (item_slots ms i caps numbers) x step) (times (elements_of d own') (item_slots ns j caps' numbers') y step')
-  covered_aligns i c j d caps caps' x y step step' covers single single' =
-      let s = covered_slots ms ns numbers numbers' own own' i c j d caps caps' x y step step' covers single single' in
-      rw s.1 (aligns_filler numbers numbers' _ s.0 s.2)
+  items_align : (i j : Item) (caps caps' : List ℕ) (d : ℤ) (m most p step x y step' : ℕ) → Pairs two below below' i j → m ≤ most
+      → FitsAt (times most (λ _. item_cells olds i caps d) p step) numbers x
+      → SlotsAlign (times m (item_slots ms i caps numbers) x (old_size i)) (times m (item_slots ns j caps' numbers') y step')
+  items_align i j caps caps' d zero most p step x y step' pair le fits = aligns_nil numbers numbers'
+  items_align i j caps caps' d (suc m) zero p step x y step' pair le fits = absurd (omega arith)
+  items_align i j caps caps' d (suc m) (suc most) p step x y step' pair le fits =
+      aligns_append numbers numbers' _ _ _ _ (item_aligns i j caps caps' d x y pair (fits_left _ fits))
+      (items_align i j caps caps' d m most (p + step) step (x + old_size i) (y + step') step' pair (omega arith)
+      (fits_at (omega (arith, size_same olds i caps d)) (fits_right (item_cells olds i caps d) fits)))
 
   abbrev pub OldSlots : Entry → List Slot
   OldSlots e = slots_at ms a.fields v own numbers at e.index e.place e.field
@@ -122,31 +104,28 @@ module _ (ks : List Comparer) (cs : List Carrier) (ms ns : List Meaning) (a b : 
   abbrev pub NewSlots : Entry → List Slot
   NewSlots f = slots_at ns b.fields w own' numbers' at' f.index f.place f.field
 
-  pub pair_aligns : (ok : ℕ → Bool) (e f : Entry) → Agree o n ok own own' → IsKnown ms a.fields v numbers at e → IsKnown ns b.fields w numbers' at' f
-      → PairGood ks a b v w part part' o n e f
-      → OldGood below own e.field → EntryGood ks cs ms ns a b v w part part' o n numbers numbers' at at' below below' table ok f
-      → FitsAt (field_cells (cells_in ms) a.fields e.index e.field) numbers (at + e.place)
-      → SlotsAlign (OldSlots e) (NewSlots f)
-  pair_aligns ok e f agree known known' good old new fits =
-      let step = length (item_cells (cells_in ms) e.field.item [] (pos 0)) in
-      let step' = length (item_cells (cells_in ns) f.field.item [] (pos 0)) in
-      pair_by ks cs ms ns a b v w part part' o n numbers numbers' at at' below below' table ok (λ xs ys. Aligns numbers xs numbers' ys)
-      (aligns_nil numbers numbers') e f agree known known' good old new
-      (λ c. covered_aligns e.field.item e.field.count f.field.item f.field.count _ _ _ _ step step' c.covers old.single new.single)
-      (λ m is. items_align e.field.item f.field.item _ _ e.field.default _ _ 0 0
-      _ _ step' m.item good.structs old.item new.item (elements_fit e.field.count own) fits)
+  pair_aligns : (ok : ℕ → Bool) (e f : Entry) → Opposite sides ok e f → SlotsAlign (OldSlots e) (NewSlots f)
+  pair_aligns ok e f p = pair_by sides ok SlotsAlign e f p
+      (λ c.
+      let s =
+      covered_slots ms ns numbers numbers' own own' e.field.item e.field.count f.field.item f.field.count (counted e.index a.fields)
+      (counted f.index b.fields) (at + e.place) (at' + f.place)
+      (old_size e.field.item) (length (item_cells news f.field.item [] (pos 0))) c.covers p.old.single p.new.single in
+      (aligns_nil numbers numbers', rw s.1 (aligns_filler numbers numbers' _ s.0 s.2)))
+      (λ m t is.
+      items_align e.field.item f.field.item _ _ e.field.default _ _ 0 0 _ _ _
+      (record { same = m.item; structs = p.good.structs; low = p.old.item; low' = p.new.item }) (if_least t _ _ (elements_fit e.field.count own)) p.fits)
 
   -- ---- numbers that may be named
 
   one_same : (k l : Kind) (caps caps' : List ℕ) (x y : ℕ) → k ≡ l → (body r r' : List ℕ) → Spells numbers' (Number y l caps' ∷ []) body
-      → body ++ r' ≡ zeroed numbers (Number x k caps ∷ []) ++ r
-      → residue (width k) (get_or numbers x (pos 0)) ≡ residue (width l) (get_or numbers' y (pos 0))
+      → body ++ r' ≡ zeroed numbers (Number x k caps ∷ []) ++ r → residue (width k) (get_or numbers x (pos 0)) ≡ residue (width l) (get_or numbers' y (pos 0))
   one_same k l caps caps' x y e body r r' s h =
       let z = get_or numbers x (pos 0) in
       let u = get_or numbers' y (pos 0) in
-      same_code k z u (sym ((apart (code l u) (code k z) [] s.0 (length-code l u ∙ ap width (sym e) ∙ sym (length-code k z))
-      (sym s.1 ∙ (same_bytes numbers _ numbers' _ (aligns_number numbers numbers' x y k l caps caps' e) body r r' s h))).0) ∙ ap (λ (i : Kind). code i u)
-      (sym e)) ∙ ap (λ (i : Kind). residue (width i) u) e
+      let same = same_bytes numbers _ numbers' _ (aligns_number numbers numbers' x y k l caps caps' e) body r r' s h in
+      let codes = (apart (code l u) (code k z) [] s.0 (length-code l u ∙ ap width (sym e) ∙ sym (length-code k z)) (sym s.1 ∙ same)).0 in
+      same_code k z u (sym codes ∙ ap (λ (i : Kind). code i u) (sym e)) ∙ ap (λ (i : Kind). residue (width i) u) e
 
   number_same : (j i : Item) (d c : Count) (t t' : Bool) (caps caps' : List ℕ) (x y step step' : ℕ) → is_num j ≡ true → is_one d ≡ true → same_item i j ≡ true
       → same_count o n c d ≡ true → t ≡ true → t' ≡ true
@@ -157,101 +136,116 @@ module _ (ks : List Comparer) (cs : List Carrier) (ms ns : List Meaning) (a b : 
       one_same k l caps caps' x y (kinds_same k l same) body r r' s h
   number_same _ _ _ _ _ _ caps caps' x y step step' num one same counts is is' body r r' s h = absurd (cc)
 
-  pub pair_same : (e f : Entry) → IsKnown ms a.fields v numbers at e → IsKnown ns b.fields w numbers' at' f → PairGood ks a b v w part part' o n e f
-      → is_steady_in b f.index ≡ true
+  pair_same : (e f : Entry) → IsKnown ms a.fields v numbers at e → IsKnown ns b.fields w numbers' at' f → PairGood two e f → is_steady_in b f.index ≡ true
       → (body r r' : List ℕ) → Spells numbers' (NewSlots f) body → body ++ r' ≡ zeroed numbers (OldSlots e) ++ r → own e.index ≡ own' f.index
-  pair_same e f known known' good named body r r' spells h =
-      let s = steady b.minimum (slice_get b.fields f.index) f.field known'.field named in
-      let m : Matched ks a b v w part part' o n e f = elim (decoded ks a b v w part part' o n e f good) [
-        | inl c ↦ absurd (not_covered e.field.item e.field.count f.field.item c.covers s.item)
-        | inr m ↦ m
-      ] in
-      let rest' : f.rest ≡ None = steady_rest w f.field.test f.field.since f.rest s.test known'.left in
-      let there_is : is_there e.field.test e.field.since v own no_parent ≡ true =
-      known_there ms a.fields v numbers at e known (rest_none o n e.rest f.rest rest' m.rest) own no_parent in
-      known.number
-      ∙ number_same f.field.item e.field.item f.field.count e.field.count _ _
-      _ _ _ _ _ _
-      s.item s.count m.item m.count there_is (known_there ns b.fields w numbers' at' f known' rest' own' no_parent) body r r' spells h
-      ∙ sym known'.number
+  pair_same e f known known' good is body r r' spells h =
+      let q = named_pair sides e f known known' good is in
+      known.number ∙ number_same f.field.item e.field.item f.field.count e.field.count _ _ _ _ _ _ _ _
+      q.plain.item q.plain.count q.matched.item q.matched.count q.there_is
+      (known_there ns b.fields w numbers' at' f known' q.rest own' no_parent) body r r' spells h ∙ sym known'.number
 
   -- ---- position by position
 
-  abbrev olds : List Entry → List Slot
-  olds es = entries_slots ms a.fields v own numbers at es
+  abbrev all_old : List Entry → List Slot
+  all_old es = entries_slots ms a.fields v own numbers at es
 
-  abbrev news : List Entry → List Slot
-  news fs = entries_slots ns b.fields w own' numbers' at' fs
+  abbrev all_new : List Entry → List Slot
+  all_new fs = entries_slots ns b.fields w own' numbers' at' fs
 
   -- numbers that tests and counts may name agree, at the positions below p
   abbrev pub Same : ℕ → Type 0
   Same p = (i j q : ℕ) → is_steady_in b j ≡ true → o i ≡ Some q → n j ≡ Some q → q < p → own i ≡ own' j
 
-  earlier_agree : (p i : ℕ) (f : Entry) (fs : List Entry) → Upto n p (f ∷ fs) → Above i (f ∷ fs) → Same p → Agree o n (λ j. is_earlier_in b f.index j) own own'
-  earlier_agree p i f fs up above same k j named place =
+  -- what is known of the entries from position p on
+  pub record State (p i : ℕ) (es fs : List Entry) : Type 0 where
+    pub known : AreKnown ms a.fields v numbers at es
+    pub known' : AreKnown ns b.fields w numbers' at' fs
+    pub upto : Upto o p es
+    pub upto' : Upto n p fs
+    pub above : Above i fs
+    pub same : Same p
+
+  earlier_agree : (p i : ℕ) (es : List Entry) (f : Entry) (fs : List Entry) → State p i es (f ∷ fs) → Agree o n (λ j. is_earlier_in b f.index j) own own'
+  earlier_agree p i es f fs st k j named place =
       let s = same_some (o k) (n j) place in
       let e = and_parts (nat_lt j f.index) (is_steady_in b j) named in
-      same k j s.0 e.1 s.1 s.2 (upto_earlier n p i f fs up above j s.0 (ltb-true j f.index e.0) s.2)
+      st.same k j s.0 e.1 s.1 s.2 (upto_earlier n p i f fs st.upto' st.above j s.0 (ltb-true j f.index e.0) s.2)
 
-  same_next : (p : ℕ) (e f : Entry) (es fs : List Entry) → Upto o p (e ∷ es) → Upto n p (f ∷ fs) → Same p
-      → (is_steady_in b f.index ≡ true → own e.index ≡ own' f.index) → Same (suc p)
-  same_next p e f es fs up up' same here i j q named oi nj lt =
-      elim (eq-or-lt_of_le (omega arith)) [
-        | inl is ↦
-            let ei : e.index ≡ i = upto_here o p e es up i (oi ∙ ap Some is) in
-            let fj : f.index ≡ j = upto_here n p f fs up' j (nj ∙ ap Some is) in
-            ap (λ (k : ℕ). own k) (sym ei) ∙ here (ap (λ (k : ℕ). is_steady_in b k) fj ∙ named) ∙ ap (λ (k : ℕ). own' k) fj
-        | inr less ↦ same i j q named oi nj less
-      ]
+  same_next : (p i : ℕ) (e f : Entry) (es fs : List Entry) → State p i (e ∷ es) (f ∷ fs) → (is_steady_in b f.index ≡ true → own e.index ≡ own' f.index)
+      → Same (suc p)
+  same_next p _ e f es fs st here i j q named oi nj lt = elim (eq-or-lt_of_le (omega arith)) [
+    | inl is ↦
+        let ei : e.index ≡ i = upto_here o p e es st.upto i (oi ∙ ap Some is) in
+        let fj : f.index ≡ j = upto_here n p f fs st.upto' j (nj ∙ ap Some is) in
+        ap own (sym ei) ∙ here (ap (is_steady_in b) fj ∙ named) ∙ ap own' fj
+    | inr less ↦ st.same i j q named oi nj less
+  ]
 
-  abbrev GoodAt : Entry → Type 0
-  GoodAt f = EntryGood ks cs ms ns a b v w part part' o n numbers numbers' at at' below below' table (λ j. is_earlier_in b f.index j) f
+  module _ (named : NamesEarlier below' b) (old : OldFields below own a.fields) (fits : FitsAt (desc_cells olds a) numbers at) where
+    here_aligns : (p i : ℕ) (e f : Entry) (es fs : List Entry) → State p i (e ∷ es) (f ∷ fs) → PairGood two e f → SlotsAlign (OldSlots e) (NewSlots f)
+    here_aligns p i e f es fs st good =
+        let k = st.known.0 in
+        let k' = st.known'.0 in
+        pair_aligns (λ j. is_earlier_in b f.index j) e f
+        (record {
+          known = k;
+          known' = k';
+          good = good;
+          old = old e.index e.field k.field;
+          new = named f.index f.field k'.field;
+          fits = k.fits fits;
+          agree = earlier_agree p i _ f fs st;
+        })
 
-  abbrev OldGoods : List Entry → Type 0
-  OldGoods es = OldEntries ks cs ms ns a b v w part part' o n numbers numbers' at at' below below' table (λ j. is_steady_in b j) es
+    -- the front after one more pair: the bytes are split there
+    pub record Past (p i : ℕ) (e f : Entry) (es fs : List Entry) (more_old more_new : List Slot) (r r' : List ℕ) : Type 0 where
+      pub front : List ℕ
+      pub rest : List ℕ
+      pub here : Spells numbers' (NewSlots f) front
+      pub behind : Spells numbers' more_new rest
+      pub split : front ++ (rest ++ r') ≡ zeroed numbers (OldSlots e) ++ (zeroed numbers more_old ++ r)
+      pub next : PairGood two e f → State (suc p) (suc f.index) es fs
+      pub rests : PairGood two e f → rest ++ r' ≡ zeroed numbers more_old ++ r
 
-  good_at : NamesEarlier below' b → (f : Entry) → IsKnown ns b.fields w numbers' at' f → GoodAt f
-  good_at named f known =
-      let h = named f.index f.field known.field in
-      record {
-        item = h.item;
-        single = h.single;
-        count = h.count;
-        rest = presence_named
-            (λ j. is_earlier_in b f.index j) w f.field.test f.field.since f.rest h.test known.left;
-      }
+    past : (p i : ℕ) (e f : Entry) (es fs : List Entry) (more_old more_new : List Slot) → State p i (e ∷ es) (f ∷ fs) → (body r r' : List ℕ)
+        → Spells numbers' (NewSlots f ++ more_new) body
+        → body ++ r' ≡ zeroed numbers (OldSlots e ++ more_old) ++ r → Past p i e f es fs more_old more_new r r'
+    past p i e f es fs more_old more_new st body r r' s h =
+        let t = spells_split numbers' (NewSlots f) more_new body s in
+        let split = behind_first numbers (OldSlots e) more_old t.0 t.1 r r' (ap (λ (l : List ℕ). l ++ r') (sym t.2) ∙ h) in
+        record {
+          front = t.0;
+          rest = t.1;
+          here = t.3;
+          behind = t.4;
+          split = split;
+          next = λ good. record {
+            known = st.known.1;
+            known' = st.known'.1;
+            upto = upto_next o p e es st.upto;
+            upto' = upto_next n p f fs st.upto';
+            above = st.above.1;
+            same = same_next p i e f es fs st (λ is. pair_same e f st.known.0 st.known'.0 good is t.0 (zeroed numbers more_old ++ r) (t.1 ++ r') t.3 split);
+          };
+          rests = λ good. (here_aligns p i e f es fs st good).rests t.0 (zeroed numbers more_old ++ r) (t.1 ++ r') t.3 split;
+        }
 
-  module _ (named : NamesEarlier below' b) where
-    pub front_aligns : (k : ℕ) (es fs : List Entry) (p i : ℕ) → GoodFirst ks a b v w part part' o n k es fs → AreKnown ms a.fields v numbers at es
-        → AreKnown ns b.fields w numbers' at' fs → OldGoods es
-        → FitEntries ms a.fields v numbers at es → Upto o p es → Upto n p fs → Above i fs → Same p
-        → Aligns numbers (olds (take k es)) numbers' (news (take k fs))
-    front_aligns zero es fs p i good known known' old fits up up' above same = aligns_nil numbers numbers'
-    front_aligns (suc k) [] fs p i good known known' old fits up up' above same = absurd good
-    front_aligns (suc k) (e ∷ es) [] p i good known known' old fits up up' above same = absurd good
-    front_aligns (suc k) (e ∷ es) (f ∷ fs) p i good known known' old fits up up' above same = record {
+    pub front_aligns : (k : ℕ) (es fs : List Entry) (p i : ℕ) → GoodFirst two k es fs → State p i es fs → SlotsAlign (all_old (take k es)) (all_new (take k fs))
+    front_aligns zero es fs p i good st = aligns_nil numbers numbers'
+    front_aligns (suc k) [] fs p i good st = absurd good
+    front_aligns (suc k) (e ∷ es) [] p i good st = absurd good
+    front_aligns (suc k) (e ∷ es) (f ∷ fs) p i good st = record {
       rests = λ body r r' s h.
-          let more_old = olds (take k es) in
-          let t = spells_split numbers' (NewSlots f) (news (take k fs)) body s in
-          let split = behind_first numbers (OldSlots e) more_old t.0 t.1 r r' (ap (λ (l : List ℕ). l ++ r') (sym t.2) ∙ h) in
-          let here = pair_aligns (λ j. is_earlier_in b f.index j) e f (earlier_agree p i f fs up' above same)
-          known.0 known'.0 good.0 old.0 (good_at named f known'.0) fits.0 in
-          let equal = λ (steady : is_steady_in b f.index ≡ true).
-          pair_same e f known.0 known'.0 good.0 steady t.0 (zeroed numbers more_old ++ r) (t.1 ++ r') t.3 split in
-          let more =
-          front_aligns k es fs (suc p) (suc f.index) good.1 known.1 known'.1 old.1 fits.1 (upto_next o p e es up) (upto_next n p f fs up') above.1
-          (same_next p e f es fs up up' same equal) in
-          more.rests t.1 r r' t.4 (here.rests t.0 (zeroed numbers more_old ++ r) (t.1 ++ r') t.3 split);
+          let q = past p i e f es fs (all_old (take k es)) (all_new (take k fs)) st body r r' s h in
+          (front_aligns k es fs (suc p) (suc f.index) good.1 (q.next good.0)).rests q.rest r r' q.behind (q.rests good.0);
     }
 
-    pub entries_align : (es fs : List Entry) (p i : ℕ) → Zip ks a b v w part part' o n es fs → AreKnown ms a.fields v numbers at es
-        → AreKnown ns b.fields w numbers' at' fs → OldGoods es
-        → FitEntries ms a.fields v numbers at es → Upto o p es → Upto n p fs → Above i fs → Same p → Aligns numbers (olds es) numbers' (news fs)
-    entries_align es fs p i zip known known' old fits up up' above same =
-        let whole = zip_first ks a b v w part part' o n es fs zip in
+    pub entries_align : (es fs : List Entry) (p i : ℕ) → Zip two es fs → State p i es fs → SlotsAlign (all_old es) (all_new fs)
+    entries_align es fs p i zip st =
+        let whole = zip_first two es fs zip in
         rw (← (take_all (length es) es (omega arith)))
         (rw (← (take_all (length es) fs (omega arith)))
-        (front_aligns (length es) es fs p i whole.0 known known' old fits up up' above same))
+        (front_aligns (length es) es fs p i whole.0 st))
 
     -- ---- two constants that differ
 
@@ -264,41 +258,25 @@ module _ (ks : List Comparer) (cs : List Carrier) (ms ns : List Meaning) (a b : 
         sym (apart (code k u) (code k z) [] s.0 (length-code k u ∙ sym (length-code k z)) (sym s.1 ∙ same)).0
     constants_same k z u _ _ _ _ caps caps' x y step step' one one' is is' body r r' s h = absurd (cc)
 
-    clash_refuses : (e f : Entry) → Clash e f → IsKnown ms a.fields v numbers at e → IsKnown ns b.fields w numbers' at' f → IsSingle e.field.item e.field.count
+    clash_refuses : (e f : Entry) → Clash e f → IsKnown ms a.fields v numbers at e → IsKnown ns b.fields w numbers' at' f
         → (body r r' : List ℕ) → Spells numbers' (NewSlots f) body → body ++ r' ≡ zeroed numbers (OldSlots e) ++ r → ⊥
-    clash_refuses e f clash known known' single body r r' spells h =
-        let differs = clash.constants in
-        let t = is_there e.field.test e.field.since v own no_parent in
-        let t' = is_there f.field.test f.field.since w own' no_parent in
-        let there_is : t ≡ true = known_there ms a.fields v numbers at e known clash.rest own no_parent in
-        let there_is' : t' ≡ true = known_there ns b.fields w numbers' at' f known' clash.rest' own' no_parent in
-        let one : IsSingle (Equal differs.kind differs.value) e.field.count = rw (differs.item) at single in
-        let one' : IsSingle (Equal differs.kind differs.other) f.field.count = rw (differs.item') at (good_at named f known').single in
-        let caps = counted e.index a.fields in
-        let caps' = counted f.index b.fields in
-        let spells' = rw (differs.item') at spells in
-        let h' = rw (differs.item) at h in
-        differs.differ
-        (constants_same differs.kind differs.value differs.other t t' e.field.count f.field.count caps caps' _ _ 0 0 one one' there_is there_is'
-        body r r' spells' h')
+    clash_refuses e f clash known known' body r r' spells h =
+        let d = clash.constants in
+        let there_is = known_there ms a.fields v numbers at e known clash.rest own no_parent in
+        let there_is' = known_there ns b.fields w numbers' at' f known' clash.rest' own' no_parent in
+        let one : IsSingle (Equal d.kind d.value) e.field.count = rw d.item at (old e.index e.field known.field).single in
+        let one' : IsSingle (Equal d.kind d.other) f.field.count = rw d.item' at (named f.index f.field known'.field).single in
+        d.differ (constants_same d.kind d.value d.other _ _ e.field.count f.field.count (counted e.index a.fields)
+        (counted f.index b.fields) _ _ _ _ one one' there_is there_is' body r r'
+        (rw d.item' at spells) (rw d.item at h))
 
-    pub entries_clash : (es fs : List Entry) (p i : ℕ) → Clashes ks a b v w part part' o n es fs → AreKnown ms a.fields v numbers at es
-        → AreKnown ns b.fields w numbers' at' fs → OldGoods es
-        → FitEntries ms a.fields v numbers at es → Upto o p es → Upto n p fs → Above i fs → Same p → (body r r' : List ℕ) → Spells numbers' (news fs) body
-        → body ++ r' ≡ zeroed numbers (olds es) ++ r → ⊥
-    entries_clash [] fs p i clashes known known' old fits up up' above same body r r' s h = absurd clashes
-    entries_clash (e ∷ es) [] p i clashes known known' old fits up up' above same body r r' s h = absurd clashes
-    entries_clash (e ∷ es) (f ∷ fs) p i clashes known known' old fits up up' above same body r r' s h =
-        let t = spells_split numbers' (NewSlots f) (news fs) body s in
-        let split = behind_first numbers (OldSlots e) (olds es) t.0 t.1 r r' (ap (λ (l : List ℕ). l ++ r') (sym t.2) ∙ h) in
+    pub entries_clash : (es fs : List Entry) (p i : ℕ) → Clashes two es fs → State p i es fs → (body r r' : List ℕ) → Spells numbers' (all_new fs) body
+        → body ++ r' ≡ zeroed numbers (all_old es) ++ r → ⊥
+    entries_clash [] fs p i clashes st body r r' s h = absurd clashes
+    entries_clash (e ∷ es) [] p i clashes st body r r' s h = absurd clashes
+    entries_clash (e ∷ es) (f ∷ fs) p i clashes st body r r' s h =
+        let q = past p i e f es fs (all_old es) (all_new fs) st body r r' s h in
         elim clashes [
-          | inl clash ↦ clash_refuses e f clash known.0 known'.0 old.0.single t.0 _ _ t.3 split
-          | inr more ↦
-              let here = pair_aligns (λ j. is_earlier_in b f.index j) e f (earlier_agree p i f fs up' above same)
-              known.0 known'.0 more.0 old.0 (good_at named f known'.0) fits.0 in
-              let equal = λ (steady : is_steady_in b f.index ≡ true).
-              pair_same e f known.0 known'.0 more.0 steady t.0 (zeroed numbers (olds es) ++ r) (t.1 ++ r') t.3 split in
-              entries_clash es fs (suc p) (suc f.index) more.1 known.1 known'.1 old.1 fits.1 (upto_next o p e es up) (upto_next n p f fs up') above.1
-              (same_next p e f es fs up up' same equal)
-              t.1 r r' t.4 (here.rests t.0 (zeroed numbers (olds es) ++ r) (t.1 ++ r') t.3 split)
+          | inl clash ↦ clash_refuses e f clash st.known.0 st.known'.0 q.front _ _ q.here q.split
+          | inr more ↦ entries_clash es fs (suc p) (suc f.index) more.1 (q.next more.0) q.rest r r' q.behind (q.rests more.0)
         ]

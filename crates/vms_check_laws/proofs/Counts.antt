@@ -1,13 +1,16 @@
--- A number that fits its cell is at most every capacity that it counts.
-use Rattle.vms_check_laws.proofs.Facade.{◌≤ℤ◌, ◌≡◌, ◌⊎◌, inl, inr, ℕ, zero, suc, ◌+◌, ◌*◌, ◌^◌, ◌≤◌, Bool, true, ◌==◌, List, [], ◌∷◌, ◌++◌, length, get_or}
-use Rattle.vms_check_laws.proofs.Facade.{Some}
-use Rattle.vms_check_laws.proofs.Facade.{refl, sym, subst, arith, ℤ, pos, negsuc, if◌then◌else◌, AllByRecursion, slice_get, mod-le, eq-eqb, ints, Kind}
-use Rattle.vms_check_laws.proofs.Facade.{U8, U16, U32, Item, Num, width, residue, Count, One, Fixed, Counted, Field, Cell, times, counted, capacity_of}
-use Rattle.vms_check_laws.proofs.Facade.{item_cells, field_cells, cells_from, place_of, no_field, kind_of, FitsCell, is_num, is_one, ItemBelow, FitsAt}
-use Rattle.vms_check_laws.proofs.Facade.{all_right}
+-- A number that fits its cell is at most every capacity that it counts, and one that fits the older capacities fits the newer.
+use Rattle.vms_check_laws.proofs.Facade.{◌≤ℤ◌, ◌≡◌, ◌⊎◌, inl, inr, ℕ, zero, suc, ◌+◌, ◌*◌, ◌^◌, ◌≤◌, true, ◌==◌, List, ◌∷◌, ◌++◌, length, get_or, Some, refl}
+use Rattle.vms_check_laws.proofs.Facade.{arith, ℤ, pos, negsuc, if◌then◌else◌, AllByRecursion, slice_get, mod-le, eq-eqb, ints, Kind, U8, U16, U32, Item, Num}
+use Rattle.vms_check_laws.proofs.Facade.{width, residue, Count, One, Fixed, Counted, Field, Cell, times, counted, capacity_of, item_cells, field_cells}
+use Rattle.vms_check_laws.proofs.Facade.{cells_from, place_of, no_field, kind_of, FitsCell, is_num, is_one, ItemBelow, FitsAt, all_right, Desc, ap}
+use Rattle.vms_check_laws.proofs.Facade.{is_steady_in, no_desc, ◌<◌, ◌∙◌, [], Struct, min, Bool, false, ◌&&◌, Option, None, sym, nat_le, and_parts, eqb-true}
+use Rattle.vms_check_laws.proofs.Facade.{leb-true, highest, Formula, presence, Entry, entry_of, present_from, position_from, same_place, same_count, is_covered}
+use Rattle.vms_check_laws.proofs.Facade.{holds_as_much, absent_hold, is_nothing, bound, least_of, greatest, has_room, cells_in}
 use Rattle.vms_check_laws.proofs.Segments.{fits_right}
-use Rattle.vms_check_laws.proofs.Presence.{Steady}
-use Rattle.vms_check_laws.proofs.Premises.{IsSingle, CountFits, OldFields}
+use Rattle.vms_check_laws.proofs.Presence.{Steady, covers_unused}
+use Rattle.vms_check_laws.proofs.Premises.{IsSingle, CountFits, OldFields, DefaultsGood, NamesEarlier, NewFields, RulesNamed, Sides, PairGood, Zip, Matched}
+use Rattle.vms_check_laws.proofs.Premises.{decoded, AreKnown, IsKnown, all_known}
+use Rattle.vms_check_laws.proofs.Positioned.{at_or_later, Above}
 
 -- the number of field k of these, the first of which has the number i and begins at a place
 abbrev pub field_number : List (List Cell) → List Field → List Field → ℕ → List ℤ → ℕ → ℕ → ℕ
@@ -35,8 +38,7 @@ counted_has P by most (f ∷ fs) has h =
     go has
 
 first_fits : (cs : List (List Cell)) (item : Item) (count : Count) (caps : List ℕ) (d : ℤ) (more : List Cell) (numbers : List ℤ) (at : ℕ) → is_num item ≡ true
-    → is_one count ≡ true
-    → FitsAt (times (capacity_of count) (λ _. item_cells cs item caps d) 0 0 ++ more) numbers at
+    → is_one count ≡ true → FitsAt (times (capacity_of count) (λ _. item_cells cs item caps d) 0 0 ++ more) numbers at
     → FitsCell (record { kind = kind_of item; capacities = caps; default = d }) (get_or numbers at (pos 0))
 first_fits cs (Num kind) One caps d more numbers at num one fits =
     let z : at + 0 ≡ at = omega arith in
@@ -50,8 +52,7 @@ pub record Single (kind : Kind) (caps : List ℕ) (default : ℤ) (own : ℕ) : 
   pub is : own ≡ residue (width kind) number
 
 pub single_at : (cs : List (List Cell)) (all fs : List Field) (i k : ℕ) (numbers : List ℤ) (at : ℕ) (g : Field) → slice_get fs k ≡ Some g → Steady g
-    → FitsAt (cells_from cs all i fs) numbers at
-    → Single (kind_of g.item) (counted (i + k) all) g.default (field_number cs all fs i numbers at k)
+    → FitsAt (cells_from cs all i fs) numbers at → Single (kind_of g.item) (counted (i + k) all) g.default (field_number cs all fs i numbers at k)
 single_at cs all [] i k numbers at g e s fits = absurd (cc)
 single_at cs all (f ∷ fs) i zero numbers at g e s fits =
     let same : f ≡ g = cc in
@@ -62,8 +63,7 @@ single_at cs all (f ∷ fs) i zero numbers at g e s fits =
     (record { number = get_or numbers at (pos 0); fits = first_fits cs f.item f.count _ f.default _ numbers at at_f.item at_f.count fits; is = refl }))
 single_at cs all (f ∷ fs) i (suc k) numbers at g e s fits =
     let z : suc i + k ≡ i + suc k = omega arith in
-    rw (← z)
-    (single_at cs all fs (suc i) k numbers (at + length (field_cells cs all i f)) g e s (fits_right _ fits))
+    rw (← z) (single_at cs all fs (suc i) k numbers (at + length (field_cells cs all i f)) g e s (fits_right _ fits))
 
 abbrev pub IsCounting : Item → Type 0
 IsCounting (Num U8) = Unit {0}
@@ -90,8 +90,7 @@ pub record Counter (all : List Field) (by : ℕ) : Type 0 where
   pub kind : IsCounting field.item
 
 pub count_fits : (cs : List (List Cell)) (all : List Field) (numbers : List ℤ) (at by most : ℕ) → Counter all by → HasArray by most all
-    → FitsAt (cells_from cs all 0 all) numbers at
-    → field_number cs all all 0 numbers at by ≤ most
+    → FitsAt (cells_from cs all 0 all) numbers at → field_number cs all all 0 numbers at by ≤ most
 count_fits cs all numbers at by most c has fits =
     let s = single_at cs all all 0 by numbers at c.field c.stands c.steady fits in
     let z : 0 + by ≡ by = omega arith in
@@ -110,9 +109,13 @@ pub record OldPlain (below : ℕ) (all : List Field) (f : Field) : Type 0 where
   pub single : IsSingle f.item f.count
   pub count : CountKnown all f.count
 
-abbrev pub OldPlains : ℕ → List Field → List Field → Type 0
-OldPlains below all [] = Unit {0}
-OldPlains below all (f ∷ fs) = OldPlain below all f × OldPlains below all fs
+abbrev pub OldPlains : ℕ → List Field → Type 0
+OldPlains below all = (j : ℕ) (f : Field) → slice_get all j ≡ Some f → OldPlain below all f
+
+pub array_of : (fs : List Field) (i by most : ℕ) (f : Field) → slice_get fs i ≡ Some f → f.count ≡ Counted by most → HasArray by most fs
+array_of [] i by most f is e = absurd (cc)
+array_of (g ∷ fs) zero by most f is e = let same : g ≡ f = cc in inl (ap (λ (x : Field). x.count) same ∙ e)
+array_of (g ∷ fs) (suc i) by most f is e = inr (array_of fs i by most f is e)
 
 fits_count : (cs : List (List Cell)) (all : List Field) (numbers : List ℤ) (at : ℕ) (c : Count) → FitsAt (cells_from cs all 0 all) numbers at → CountKnown all c
     → ((by most : ℕ) → c ≡ Counted by most → HasArray by most all) → CountFits (λ k. field_number cs all all 0 numbers at k) c
@@ -121,10 +124,175 @@ fits_count cs all numbers at (Fixed n) fits known has = tt
 fits_count cs all numbers at (Counted by most) fits known has = count_fits cs all numbers at by most known (has by most refl) fits
 
 pub old_fields : (cs : List (List Cell)) (below : ℕ) (all : List Field) (numbers : List ℤ) (at : ℕ) → FitsAt (cells_from cs all 0 all) numbers at
-    → (fs : List Field)
-    → ((by most : ℕ) → HasArray by most fs → HasArray by most all) → OldPlains below all fs → OldFields below (λ k. field_number cs all all 0 numbers at k) fs
-old_fields cs below all numbers at fits [] has h = tt
-old_fields cs below all numbers at fits (f ∷ fs) has h = (
-  record { item = h.0.item; single = h.0.single; count = fits_count cs all numbers at f.count fits h.0.count (λ by most e. has by most (inl e)) },
-  old_fields cs below all numbers at fits fs (λ by most k. has by most (inr k)) h.1,
-)
+    → OldPlains below all → OldFields below (λ k. field_number cs all all 0 numbers at k) all
+old_fields cs below all numbers at fits plain j f is =
+    let p = plain j f is in
+    record { item = p.item; single = p.single; count = fits_count cs all numbers at f.count fits p.count (λ by most e. array_of all j by most f is e) }
+
+-- what a description without a fault gives, as the older set's and as the newer's, which uses structures below k
+pub record DescGood (k : ℕ) (d : Desc) : Type 0 where
+  pub old : OldPlains k d.fields
+  pub new : NewFields k (is_steady_in d) d.fields
+  pub earlier : NamesEarlier k d
+  pub defaults : DefaultsGood d.fields 0 d.fields
+  pub rules : RulesNamed (is_steady_in d) d.validate
+
+abbrev pub StructsGood : List Desc → Type 0
+StructsGood ds = (j : ℕ) → j < length ds → DescGood j (get_or ds j no_desc)
+
+item_further : (j k : ℕ) (i : Item) → j ≤ k → ItemBelow j i → ItemBelow k i
+item_further j k (Struct i) le h = omega arith
+item_further j k _ le h = tt
+
+pub plains_further : (j k : ℕ) (all : List Field) → j ≤ k → OldPlains j all → OldPlains k all
+plains_further j k all le h i f e = let p = h i f e in record { item = item_further j k f.item le p.item; single = p.single; count = p.count }
+
+module _ (o n : ℕ → Option ℕ) where
+  -- what is on old's side at the position of new's field is old's field of the pair
+  abbrev pub Indexed : List Entry → List Entry → Type 0
+  Indexed [] fs = Unit {0}
+  Indexed (e ∷ es) [] = Unit {0}
+  Indexed (e ∷ es) (f ∷ fs) = ((by : ℕ) → same_place (o by) (n f.index) ≡ true → by ≡ e.index) × Indexed es fs
+
+  pub indexed : (p low : ℕ) (es fs : List Entry) → Above low fs
+      → ((by j : ℕ) → low ≤ j → same_place (o by) (n j) ≡ true → same_place (position_from p es by) (position_from p fs j) ≡ true) → Indexed es fs
+  indexed p low [] fs rising h = tt
+  indexed p low (e ∷ es) [] rising h = tt
+  indexed p low (e ∷ es) (f ∷ fs) rising h = (
+    λ by k. elim (at_or_later by f.index p e f es fs (h by f.index rising.0 k)) [
+      | inl here ↦ sym here.0
+      | inr later ↦ let bad : true ≡ false = sym (eq-eqb f.index f.index refl) ∙ later.0 in absurd (cc)
+    ],
+    indexed (suc p) (suc f.index) es fs rising.1 (λ by j le k. elim (at_or_later by j p e f es fs (h by j (omega arith) k)) [
+      | inl here ↦ absurd (omega arith)
+      | inr later ↦ later.1
+    ]),
+  )
+
+-- ---- bounds
+
+at_most_least : (z : ℤ) (m : ℕ) (ms : List ℕ) → z ≤ℤ pos m → AllByRecursion (λ k. z ≤ℤ pos k) ms → z ≤ℤ pos (least_of m ms)
+at_most_least z m [] h all = h
+at_most_least (pos a) m (k ∷ ms) h all = at_most_least (pos a) (min m k) ms (omega (arith, ints)) all.1
+at_most_least (negsuc a) m (k ∷ ms) h all = at_most_least (negsuc a) (min m k) ms (omega (arith, ints)) all.1
+
+greatest_kind : (kind : Kind) → highest kind ≡ pos (greatest (Num kind))
+greatest_kind U8 = refl
+greatest_kind _ = refl
+
+pub at_most_bound : (kind : Kind) (caps : List ℕ) (z : ℤ) → z ≤ℤ highest kind → AllByRecursion (λ k. z ≤ℤ pos k) caps → z ≤ℤ pos (bound (Num kind) caps)
+at_most_bound kind [] z h all = rw (← (greatest_kind kind)) h
+at_most_bound kind (m ∷ ms) z h all = at_most_least z m ms all.0 all.1
+
+pub at_most_more : (z : ℤ) (m k : ℕ) → z ≤ℤ pos m → m ≤ k → z ≤ℤ pos k
+at_most_more _ m k h le = omega (arith, ints)
+
+all_counted : (P : ℕ → Type 0) (by : ℕ) (gs : List Field) → ((most : ℕ) → HasArray by most gs → P most) → AllByRecursion P (counted by gs)
+all_counted P by [] h = tt
+all_counted P by (g ∷ gs) h = head g.count refl (all_counted P by gs (λ most has. h most (inr has))) where
+  caps : (c : Bool) (most : ℕ) → (c ≡ true → P most) → AllByRecursion P (counted by gs) → AllByRecursion P ((if c then most ∷ [] else []) ++ counted by gs)
+  caps true most p rest = (p refl, rest)
+  caps false most p rest = rest
+
+  head : (c : Count) → g.count ≡ c → AllByRecursion P (counted by gs) → AllByRecursion P (counted by (record g { count = c } ∷ gs))
+  head One e rest = rest
+  head (Fixed m) e rest = rest
+  head (Counted by' most) e rest = caps (by' == by) most (λ is. h most (inl (e ∙ ap (λ (k : ℕ). Counted k most) (eqb-true by' by is)))) rest
+
+pub covered_one : (i : Item) (c : Count) (j : Item) (d : Count) → is_covered i c j ≡ true → IsSingle j d → is_one d ≡ true
+covered_one i c j d is_so single = rw ((covers_unused i c j is_so).1) at single
+
+pub record Paired (o n : ℕ → Option ℕ) (c : Count) (i most : ℕ) : Type 0 where
+  pub by : ℕ
+  pub most' : ℕ
+  pub is : c ≡ Counted by most'
+  pub same : same_place (o by) (n i) ≡ true
+  pub room : most' ≤ most
+
+paired : (o n : ℕ → Option ℕ) (c d : Count) (i most : ℕ) → d ≡ Counted i most → same_count o n c d ≡ true → holds_as_much c d ≡ true → Paired o n c i most
+paired o n c d i most e same room =
+    at_count c (rw (← e) same) (rw (← e) room) where
+      at_count : (c : Count) → same_count o n c (Counted i most) ≡ true → holds_as_much c (Counted i most) ≡ true → Paired o n c i most
+      at_count (Counted by most') h k = record { by = by; most' = most'; is = refl; same = h; room = leb-true most' most k }
+      at_count _ h k = absurd (cc)
+
+module _ (sides : Sides) where
+  open sides use {two, ms, ns, numbers, numbers', at, at', below'}
+  open two use {a, b, v, w, o, n}
+
+  abbrev news : List (List Cell)
+  news = cells_in ns
+
+  -- z fits each present array that field i counts
+  abbrev pub FitsArrays : ℤ → ℕ → List Entry → Type 0
+  FitsArrays z i [] = Unit {0}
+  FitsArrays z i (f ∷ fs) = ((most : ℕ) → f.field.count ≡ Counted i most → z ≤ℤ pos most) × FitsArrays z i fs
+
+  no_array : (d : Count) (i most : ℕ) → is_one d ≡ true → d ≡ Counted i most → ⊥
+  no_array d i most one e = let k : is_one (Counted i most) ≡ true = rw (e) at one in absurd (cc)
+
+  fits_array : (z : ℤ) (i j : ℕ) (e f : Entry) → ((by : ℕ) → same_place (o by) (n j) ≡ true → by ≡ i) → AllByRecursion (λ m. z ≤ℤ pos m) (counted i a.fields)
+      → PairGood two e f → IsKnown ms a.fields v numbers at e → IsSingle f.field.item f.field.count → (most : ℕ) → f.field.count ≡ Counted j most
+      → z ≤ℤ pos most
+  fits_array z i j e f at_i all good known single most is =
+      elim (decoded two e f good) [
+        | inl c ↦ absurd (no_array f.field.count j most (covered_one e.field.item e.field.count f.field.item f.field.count c.covers single) is)
+        | inr m ↦
+            let p = paired o n e.field.count f.field.count j most is m.count m.room in
+            let has_i : HasArray i p.most' a.fields = rw (← (at_i p.by p.same)) (array_of a.fields e.index p.by p.most' e.field known.field p.is) in
+            at_most_more z p.most' most (counted_has (λ m. z ≤ℤ pos m) i p.most' a.fields has_i all) p.room
+      ]
+
+  fits_arrays : (new : NewFields below' (is_steady_in b) b.fields) (z : ℤ) (i j : ℕ) (es fs : List Entry) → ((by : ℕ) → same_place (o by) (n j) ≡ true → by ≡ i)
+      → AllByRecursion (λ m. z ≤ℤ pos m) (counted i a.fields) → Zip two es fs → AreKnown ms a.fields v numbers at es → AreKnown ns b.fields w numbers' at' fs
+      → FitsArrays z j fs
+  fits_arrays new z i j [] [] at_i all zipped known known' = tt
+  fits_arrays new z i j [] (f ∷ fs) at_i all zipped known known' = absurd zipped
+  fits_arrays new z i j (e ∷ es) [] at_i all zipped known known' = absurd zipped
+  fits_arrays new z i j (e ∷ es) (f ∷ fs) at_i all zipped known known' = (
+    fits_array z i j e f at_i all zipped.0 known.0 (new f.index f.field known'.0.field).single,
+    fits_arrays new z i j es fs at_i all zipped.1 known.1 known'.1,
+  )
+
+  absent_array : (z : ℤ) (j n most : ℕ) (g : Field) (gs : List Field) → g.count ≡ Counted j most → presence w g.test g.since ≡ None → z ≤ℤ pos n
+      → absent_hold w j n (g ∷ gs) ≡ true → z ≤ℤ pos most
+  absent_array z j n most g gs is none le h =
+      let at_count : (has_room w j n g (Counted j most) && absent_hold w j n gs) ≡ true = rw (is) at h in
+      let first : ((if j == j && is_nothing (presence w g.test g.since) then nat_le n most else true) && absent_hold w j n gs) ≡ true = at_count in
+      let at_true : ((if true && is_nothing (presence w g.test g.since) then nat_le n most else true) && absent_hold w j n gs) ≡ true =
+      rw (eq-eqb j j refl) at first in
+      let at_none : (nat_le n most && absent_hold w j n gs) ≡ true = rw (none) at at_true in
+      at_most_more z n most le (leb-true n most (and_parts (nat_le n most) (absent_hold w j n gs) at_none).0)
+
+  absent_rest : (j n : ℕ) (g : Field) (gs : List Field) → absent_hold w j n (g ∷ gs) ≡ true → absent_hold w j n gs ≡ true
+  absent_rest j n g gs h = (and_parts (has_room w j n g g.count) (absent_hold w j n gs) h).1
+
+  arrays_rest : (z : ℤ) (j i q : ℕ) (g : Field) (pr : Option (Option Formula)) (fs : List Entry) → FitsArrays z j (entry_of i q g pr ++ fs) → FitsArrays z j fs
+  arrays_rest z j i q g None fs h = h
+  arrays_rest z j i q g (Some rest) fs h = h.1
+
+  array_here : (z : ℤ) (j n most i q : ℕ) (g : Field) (gs : List Field) (pr : Option (Option Formula)) (fs : List Entry) → presence w g.test g.since ≡ pr
+      → g.count ≡ Counted j most → z ≤ℤ pos n → absent_hold w j n (g ∷ gs) ≡ true → FitsArrays z j (entry_of i q g pr ++ fs) → z ≤ℤ pos most
+  array_here z j n most i q g gs None fs e is le absent h = absent_array z j n most g gs is e le absent
+  array_here z j n most i q g gs (Some rest) fs e is le absent h = h.0 most is
+
+  each_array : (z : ℤ) (j n i q : ℕ) (gs : List Field) → z ≤ℤ pos n → absent_hold w j n gs ≡ true → FitsArrays z j (present_from news b.fields w i q gs)
+      → (most : ℕ) → HasArray j most gs → z ≤ℤ pos most
+  each_array z j n i q [] le absent h most has = absurd has
+  each_array z j n i q (g ∷ gs) le absent h most has =
+      let next = q + length (field_cells news b.fields i g) in
+      let after = present_from news b.fields w (suc i) next gs in
+      elim has [
+        | inl is ↦ array_here z j n most i q g gs _ after refl is le absent h
+        | inr more ↦ each_array z j n (suc i) next gs le (absent_rest j n g gs absent) (arrays_rest z j i q g _ after h) most more
+      ]
+
+  -- a number of old that fits, at a pair of numbers, fits all of new's capacities
+  pub caps_follow : (kind : Kind) (es : List Entry) (e f : Entry) (z : ℤ) → e.field.item ≡ Num kind
+      → ((by : ℕ) → same_place (o by) (n f.index) ≡ true → by ≡ e.index) → Matched two e f
+      → z ≤ℤ highest kind → AllByRecursion (λ m. z ≤ℤ pos m) (counted e.index a.fields) → Zip two es (present_from news b.fields w 0 0 b.fields)
+      → AreKnown ms a.fields v numbers at es → NewFields below' (is_steady_in b) b.fields → AllByRecursion (λ m. z ≤ℤ pos m) (counted f.index b.fields)
+  caps_follow kind es e f z is at_e m high caps zipped known new =
+      let le : z ≤ℤ pos (bound e.field.item (counted e.index a.fields)) = rw is (at_most_bound kind _ z high caps) in
+      let arrays = fits_arrays new z e.index f.index es _ at_e caps zipped known (all_known ns b.fields w numbers' at') in
+      all_counted (λ m. z ≤ℤ pos m) f.index b.fields (λ most has. each_array z f.index _ 0 0 b.fields le m.absent arrays most has)

@@ -1,22 +1,74 @@
 -- A description on each side: its bytes carry, what isn't in them is at its default, and at one front the newer set
--- takes exactly the bytes that the older one wrote.
-use Rattle.vms_check_laws.proofs.Facade.{◌≡◌, ℕ, ◌+◌, List, [], ◌∷◌, Option, None, sym, ap, ◌∙◌, subst, arith, ℤ, inr, ◌++◌, Field, Desc, Slot, Rule, Meaning}
+-- takes exactly the bytes that the older one wrote. Validations that hold in the older set hold in the newer.
+use Rattle.vms_check_laws.proofs.Facade.{cells_in, ◌≡◌, ℕ, ◌+◌, List, ◌∷◌, Option, None, sym, ap, ◌∙◌, arith, ℤ, inr, ◌++◌, Desc, Slot, Rule, Meaning}
 use Rattle.vms_check_laws.proofs.Facade.{desc_cells, slots_from, desc_slots, numbers_of, all_hold, Part, is_steady_in, Entry, present, position_from, Comparer}
-use Rattle.vms_check_laws.proofs.Facade.{compare_desc, compare_fields, compare_validations, Carrier, carry_desc, Holds, FitsAt, Carries, Aligns, or_else_none}
-use Rattle.vms_check_laws.proofs.Facade.{FieldsBelow, Spells, zeroed}
-use Rattle.vms_check_laws.proofs.Presence.{Agree}
-use Rattle.vms_check_laws.proofs.Segments.{holds_at, fits_at, carries_append, spells_split, behind_first, aligns_append, aligns_rule}
-use Rattle.vms_check_laws.proofs.Pairing.{cells_in, entries_slots, slots_entries, all_known, fit_entries, FitEntries}
-use Rattle.vms_check_laws.proofs.Linking.{zip_of, linked, Linked}
-use Rattle.vms_check_laws.proofs.PairLists.{Settled, settled_more}
-use Rattle.vms_check_laws.proofs.Premises.{Table, RulesNamed, OldFields, NewFields}
-use Rattle.vms_check_laws.proofs.FieldsSettle.{agree_from, fields_settle}
-use Rattle.vms_check_laws.proofs.FieldsCarry.{fields_carry, rule_carries, old_entries, new_entries, OldEntries, NewEntries}
-use Rattle.vms_check_laws.proofs.AlignedDescs.{AlignTable, NamesEarlier, Clashes, entries_align, entries_clash}
+use Rattle.vms_check_laws.proofs.Facade.{compare_desc, Carrier, carry_desc, Holds, FitsAt, Aligns, or_else_none, Spells, zeroed, [], Bool, Carries, Formula}
+use Rattle.vms_check_laws.proofs.Facade.{Known, Open, Reduced, and_from, and_parts, compare_validations, false, here, is_kept, list_all, list_any, no_parent}
+use Rattle.vms_check_laws.proofs.Facade.{passes, reduced, reduced_holds, refl, same_reduced, true, truth, truth_of, ◌||◌}
+use Rattle.vms_check_laws.proofs.Presence.{Agree, Named, named_left, same_reduced_truth}
+use Rattle.vms_check_laws.proofs.Segments.{holds_at, carries_append, spells_split, behind_first, aligns_append, aligns_rule, carries_rule}
+use Rattle.vms_check_laws.proofs.Premises.{entries_slots, slots_entries, all_known, AreKnown, Two, zip_of, Zip, Sides, Table, OldFields, Meets, Reads}
+use Rattle.vms_check_laws.proofs.Premises.{fields_below, RulesNamed}
+use Rattle.vms_check_laws.proofs.FieldsRead.{linked, agree_from, fields_settle, fields_carry, opposites}
+use Rattle.vms_check_laws.proofs.PairLists.{settled_more}
+use Rattle.vms_check_laws.proofs.AlignedDescs.{Clashes, entries_align, entries_clash, State}
 use Rattle.vms_check_laws.proofs.Positioned.{present_above}
+use Rattle.vms_check_laws.proofs.Counts.{DescGood, indexed}
+use Rattle.vms_check_laws.proofs.Fitting.{fields_fit}
+
+-- ---- validations
+
+module _ (sides : Sides) (ok : ℕ → Bool) where
+  open sides use {two, ms, ns, numbers, numbers', at, at'}
+  open two use {ks, a, b, v, w, part, part', o, n}
+
+  abbrev old_number : ℕ → ℕ
+  old_number k = numbers_of (cells_in ms) a numbers at k
+
+  abbrev new_number : ℕ → ℕ
+  new_number k = numbers_of (cells_in ns) b numbers' at' k
+
+  found_same : (r : Reduced) (c d : Bool) (s : Formula) → c ≡ same_reduced o n (reduced v s) r → Named ok r → Agree o n ok old_number new_number
+      → truth s v old_number no_parent ≡ true
+      → (d ≡ true → truth_of r w new_number no_parent ≡ true) → (c || d) ≡ true → truth_of r w new_number no_parent ≡ true
+  found_same r true d s e named agree holds go h =
+      sym (same_reduced_truth o n ok old_number new_number no_parent no_parent v w agree (reduced v s) r named (sym e))
+      ∙ reduced_holds s v old_number no_parent ∙ holds
+  found_same r false d s e named agree holds go h = go h
+
+  some_same : (r : Reduced) (ss : List Formula) → Named ok r → Agree o n ok old_number new_number → all_hold ss v old_number ≡ true
+      → list_any (λ s. same_reduced o n (reduced v s) r) ss ≡ true → truth_of r w new_number no_parent ≡ true
+  some_same r [] named agree holds h = absurd (cc)
+  some_same r (s ∷ ss) named agree holds h =
+      let p = and_parts (truth s v old_number no_parent) (all_hold ss v old_number) holds in
+      found_same r (same_reduced o n (reduced v s) r) (list_any (λ s. same_reduced o n (reduced v s) r) ss) s refl named agree p.0
+      (λ k. some_same r ss named agree p.1 k) h
+
+  kept_holds : (r : Reduced) → Named ok r → Agree o n ok old_number new_number → all_hold a.validate v old_number ≡ true
+      → is_kept ks a b v w part part' o n r ≡ true → truth_of r w new_number no_parent ≡ true
+  kept_holds (Known true) named agree holds h = refl
+  kept_holds (Known false) named agree holds h = some_same (Known false) a.validate named agree holds h
+  kept_holds (Open t) named agree holds h = some_same (Open t) a.validate named agree holds h
+
+  rules_hold : (ts : List Formula) → RulesNamed ok ts → Agree o n ok old_number new_number → all_hold a.validate v old_number ≡ true
+      → list_all (λ t. is_kept ks a b v w part part' o n (reduced w t)) ts ≡ true → all_hold ts w new_number ≡ true
+  rules_hold [] named agree holds h = refl
+  rules_hold (t ∷ ts) named agree holds h =
+      let p = and_parts (is_kept ks a b v w part part' o n (reduced w t)) (list_all (λ t. is_kept ks a b v w part part' o n (reduced w t)) ts) h in
+      and_from (truth t w new_number no_parent) (all_hold ts w new_number)
+      (sym (reduced_holds t w new_number no_parent) ∙ kept_holds (reduced w t) (named_left ok w t named.0) agree holds p.0)
+      (rules_hold ts named.1 agree holds p.1)
+
+  pub rule_carries : compare_validations ks a b v w part part' o n ≡ None → RulesNamed ok b.validate → Agree o n ok old_number new_number
+      → Carries numbers (Rule (all_hold a.validate v old_number) ∷ []) numbers' (Rule (all_hold b.validate w new_number) ∷ [])
+  rule_carries h named agree =
+      let every_is = (passes 15 (list_all (λ t. is_kept ks a b v w part part' o n (reduced w t)) b.validate) [] (here part) (here part') h).0 in
+      carries_rule numbers numbers' (all_hold a.validate v old_number) (all_hold b.validate w new_number) (λ r. rules_hold b.validate named agree r every_is)
+
+-- ---- whole descriptions
 
 module _ (ks : List Comparer) (cs : List Carrier) (ms ns : List Meaning) (a b : Desc) (v w : ℕ) (part part' : Part)
-    (numbers numbers' : List ℤ) (at at' : ℕ) (below below' : ℕ) (table : Table ks cs ms ns numbers numbers' below below') where
+    (numbers numbers' : List ℤ) (at : ℕ) (below below' : ℕ) (table : Table ks cs ms ns numbers numbers' below below') where
   abbrev es : List Entry
   es = present (cells_in ms) a v
 
@@ -29,31 +81,22 @@ module _ (ks : List Comparer) (cs : List Carrier) (ms ns : List Meaning) (a b : 
   abbrev n : ℕ → Option ℕ
   n k = position_from 0 fs k
 
+  abbrev two : Two
+  two = record { ks = ks; a = a; b = b; v = v; w = w; part = part; part' = part'; o = o; n = n }
+
+  -- with the newer numbers from a cell on
+  abbrev pub sides : ℕ → Sides
+  sides at' =
+      record { two = two; cs = cs; ms = ms; ns = ns; numbers = numbers; numbers' = numbers'; at = at; at' = at'; below = below; below' = below'; table = table }
+
   abbrev own : ℕ → ℕ
   own k = numbers_of (cells_in ms) a numbers at k
 
-  abbrev own' : ℕ → ℕ
-  own' k = numbers_of (cells_in ns) b numbers' at' k
+  abbrev own' : ℕ → ℕ → ℕ
+  own' at' k = numbers_of (cells_in ns) b numbers' at' k
 
-  abbrev IsSame : Type 0
-  IsSame = compare_desc ks (cells_in ms) (cells_in ns) a b v w part part' ≡ None
-
-  abbrev Fit : Type 0
-  Fit = FitsAt (desc_cells (cells_in ms) a) numbers at
-
-  fields_below : (fs : List Field) → NewFields below' (is_steady_in b) fs → FieldsBelow below' fs
-  fields_below [] h = tt
-  fields_below (f ∷ fs) h = (h.0.item, fields_below fs h.1)
-
-  -- no rule fails at the fields, and none at the validations
-  pairs_hold : IsSame → (compare_fields ks a b v w part part' o n es fs ≡ None) × (compare_validations ks a b v w part part' o n ≡ None)
-  pairs_hold none = or_else_none (compare_fields ks a b v w part part' o n es fs) (compare_validations ks a b v w part part' o n) none
-
-  all_fit : Fit → FitEntries ms a.fields v numbers at es
-  all_fit fits = let z : at ≡ at + 0 = omega arith in fit_entries ms a.fields v numbers at 0 0 a.fields (fits_at z fits)
-
-  olds : OldFields below own a.fields → OldEntries ks cs ms ns a b v w part part' o n numbers numbers' at at' below below' table (is_steady_in b) es
-  olds old = old_entries ks cs ms ns a b v w part part' o n numbers numbers' at at' below below' table (is_steady_in b) 0 0 a.fields old
+  known : AreKnown ms a.fields v numbers at es
+  known = all_known ms a.fields v numbers at
 
   -- the fields' slots are those of the present ones
   old_same : slots_from ms a.fields v own numbers 0 at a.fields ≡ entries_slots ms a.fields v own numbers at es
@@ -61,70 +104,63 @@ module _ (ks : List Comparer) (cs : List Carrier) (ms ns : List Meaning) (a b : 
       let z : at ≡ at + 0 = omega arith in ap (λ (k : ℕ). slots_from ms a.fields v own numbers 0 k a.fields) z
       ∙ slots_entries ms a.fields v own numbers at 0 0 a.fields
 
-  new_same : slots_from ns b.fields w own' numbers' 0 at' b.fields ≡ entries_slots ns b.fields w own' numbers' at' fs
-  new_same =
-      let z : at' ≡ at' + 0 = omega arith in ap (λ (k : ℕ). slots_from ns b.fields w own' numbers' 0 k b.fields) z
-      ∙ slots_entries ns b.fields w own' numbers' at' 0 0 b.fields
+  new_same : (at' : ℕ) → slots_from ns b.fields w (own' at') numbers' 0 at' b.fields ≡ entries_slots ns b.fields w (own' at') numbers' at' fs
+  new_same at' =
+      let z : at' ≡ at' + 0 = omega arith in ap (λ (k : ℕ). slots_from ns b.fields w (own' at') numbers' 0 k b.fields) z
+      ∙ slots_entries ns b.fields w (own' at') numbers' at' 0 0 b.fields
 
-  module _ (none : IsSame) (old : OldFields below own a.fields) (new : NewFields below' (is_steady_in b) b.fields) (fits : Fit)
-      (held : Holds numbers' at' (carry_desc cs (cells_in ms) (cells_in ns) numbers v w a b at)) where
-    link : Linked ks a b v w part part' o n cs (cells_in ms) (cells_in ns) numbers numbers' own at at' below' table.sized es fs
-    link =
-        linked ks a b v w part part' o n cs (cells_in ms) (cells_in ns) numbers numbers' own at at' below' table.sized 0 0 b.fields es
-        (fields_below b.fields new)
-        (zip_of ks a b v w part part' o n es fs (pairs_hold none).0) (holds_at (omega arith) held)
+  pub first_state : (at' : ℕ) → State (sides at') 0 0 es fs
+  first_state at' = record {
+    known = known;
+    known' = all_known ns b.fields w numbers' at';
+    upto = λ j q e. inr e;
+    upto' = λ j q e. inr e;
+    above = present_above _ b.fields w 0 0 b.fields;
+    same = λ i j q steady oi nj lt. absurd (omega arith);
+  }
 
-    agree : Agree o n (is_steady_in b) own own'
-    agree i j named h =
-        agree_from ks cs ms ns a b v w part part' o n numbers numbers' at at' below below' table i j 0 es fs link (all_known ms a.fields v numbers at)
-        (all_known ns b.fields w numbers' at') named h
+  module _ (old : OldFields below own a.fields) (good : DescGood below' b) (fits : FitsAt (desc_cells (cells_in ms) a) numbers at) where
+    module _ (none : compare_desc ks (cells_in ms) (cells_in ns) a b v w part part' ≡ None) where
+      zipped : Zip two es fs
+      zipped = zip_of two es fs (or_else_none _ _ none).0
 
-    news : NewEntries ks cs ms ns a b v w part part' o n numbers numbers' at at' below below' table (is_steady_in b) fs
-    news = new_entries ks cs ms ns a b v w part part' o n numbers numbers' at at' below below' table (is_steady_in b) 0 0 b.fields new
+      aligned : (at' : ℕ) → Aligns numbers (desc_slots ms a v numbers at) numbers' (desc_slots ns b w numbers' at')
+      aligned at' =
+          let body = entries_align (sides at') good.earlier old fits es fs 0 0 zipped (first_state at') in
+          aligns_append numbers numbers' _ _ _ _ (rw (old_same, new_same at') body) (aligns_rule numbers numbers' _ _)
 
-    -- a description on each side, and what isn't in new's bytes is at new's default
-    pub desc_reads : RulesNamed (is_steady_in b) b.validate → Carries numbers (desc_slots ms a v numbers at) numbers' (desc_slots ns b w numbers' at')
-        × Settled (desc_slots ns b w numbers' at') at' (desc_cells (cells_in ns) b) (carry_desc cs (cells_in ms) (cells_in ns) numbers v w a b at)
-    desc_reads rules =
-        let known = all_known ms a.fields v numbers at in
-        let known' = all_known ns b.fields w numbers' at' in
-        let z : at' + 0 ≡ at' = omega arith in (
-          carries_append (rw (old_same, new_same)
-              (fields_carry ks cs ms ns a b v w part part' o n numbers numbers' at at' below below' table (is_steady_in b) es fs agree link known known'
-              (olds old) news (all_fit fits)))
-              (rule_carries ks cs ms ns a b v w part part' o n numbers numbers' at at' below below' table (is_steady_in b) (pairs_hold none).1 rules agree),
-          settled_more _ _ at' _ _
-              (rw z at (fields_settle ks cs ms ns a b v w part part' o n numbers numbers' at at' below below' table 0 0 b.fields es agree
-              (fields_below b.fields new)
-              (record { linked = link; known = known; known' = known'; old = olds old; new = news; fits = all_fit fits }))),
-        )
+      reads : (at' : ℕ) → Holds numbers' at' (carry_desc cs (cells_in ms) (cells_in ns) numbers v w a b at)
+          → Reads numbers numbers' (desc_slots ms a v numbers at) (desc_slots ns b w numbers' at') at' (desc_cells (cells_in ns) b)
+          (carry_desc cs (cells_in ms) (cells_in ns) numbers v w a b at)
+      reads at' held =
+          let s = sides at' in
+          let ok = is_steady_in b in
+          let below = fields_below _ b.fields (λ j f e. (good.new j f e).item) in
+          let known' = all_known ns b.fields w numbers' at' in
+          let link = linked s 0 0 b.fields es below zipped (holds_at (omega arith) held) in
+          let agree : Agree o n ok own (own' at') = λ i j named h. agree_from s i j 0 es fs link known known' named h in
+          let all = opposites s ok es fs link known known' old good.new fits agree in
+          let z : at' + 0 ≡ at' = omega arith in
+          record {
+            carries = carries_append (rw (old_same, new_same at') (fields_carry s ok es fs all)) (rule_carries s ok (or_else_none _ _ none).1 good.rules agree);
+            settled = settled_more _ _ at' _ _ (rw z at (fields_settle s ok 0 0 b.fields es below all));
+          }
 
-  module _ (rows : AlignTable ks ms ns numbers numbers' below below') (old : OldFields below own a.fields) (named : NamesEarlier below' b) (fits : Fit) where
-    pub desc_aligns : compare_desc ks (cells_in ms) (cells_in ns) a b v w part part' ≡ None
-        → Aligns numbers (desc_slots ms a v numbers at) numbers' (desc_slots ns b w numbers' at')
-    desc_aligns none =
-        let body = entries_align ks cs ms ns a b v w part part' o n numbers numbers' at at' below below' table rows named es fs 0 0
-        (zip_of ks a b v w part part' o n es fs (pairs_hold none).0)
-        (all_known ms a.fields v numbers at) (all_known ns b.fields w numbers' at')
-        (olds old)
-        (all_fit fits)
-        (λ j q e. inr e) (λ j q e. inr e) (present_above _ b.fields w 0 0 b.fields) (λ i j q steady oi nj lt. absurd (omega arith)) in
-        aligns_append numbers numbers' _ _ _ _
-        (rw old_same
-        (rw new_same body))
-        (aligns_rule numbers numbers' _ _)
+      -- no rule fails at them
+      pub desc_meets : Meets numbers numbers' (desc_slots ms a v numbers at) (λ y. desc_slots ns b w numbers' y) (desc_cells (cells_in ns) b)
+          (carry_desc cs (cells_in ms) (cells_in ns) numbers v w a b at)
+      desc_meets = record {
+        fits = fields_fit (sides 0) old good.new fits es zipped known good.defaults
+            (indexed o n 0 0 es fs (present_above _ b.fields w 0 0 b.fields) (λ by j le h. h));
+        aligned = aligned;
+        reads = reads;
+      }
 
-    pub desc_clashes : Clashes ks a b v w part part' o n es fs → (body r r' : List ℕ) → Spells numbers' (desc_slots ns b w numbers' at') body
+    pub desc_clashes : (at' : ℕ) → Clashes two es fs → (body r r' : List ℕ) → Spells numbers' (desc_slots ns b w numbers' at') body
         → body ++ r' ≡ zeroed numbers (desc_slots ms a v numbers at) ++ r → ⊥
-    desc_clashes clashes body r r' s h =
+    desc_clashes at' clashes body r r' s h =
         let rule = Rule (all_hold a.validate v own) ∷ [] in
-        let t = spells_split numbers' (slots_from ns b.fields w own' numbers' 0 at' b.fields) (Rule (all_hold b.validate w own') ∷ []) body s in
+        let t = spells_split numbers' (slots_from ns b.fields w (own' at') numbers' 0 at' b.fields) (Rule (all_hold b.validate w (own' at')) ∷ []) body s in
         let split = behind_first numbers (slots_from ms a.fields v own numbers 0 at a.fields) rule t.0 t.1 r r' (ap (λ (l : List ℕ). l ++ r') (sym t.2) ∙ h) in
-        entries_clash ks cs ms ns a b v w part part' o n numbers numbers' at at' below below' table rows named es fs 0 0 clashes
-        (all_known ms a.fields v numbers at) (all_known ns b.fields w numbers' at')
-        (olds old)
-        (all_fit fits)
-        (λ j q e. inr e) (λ j q e. inr e) (present_above (cells_in ns) b.fields w 0 0 b.fields) (λ i j q steady oi nj lt. absurd (omega arith))
-        t.0 (zeroed numbers rule ++ r) (t.1 ++ r')
-        (rw (← new_same) t.3)
-        (split ∙ ap (λ (l : List Slot). zeroed numbers l ++ (zeroed numbers rule ++ r)) old_same)
+        entries_clash (sides at') good.earlier old fits es fs 0 0 clashes (first_state at') t.0 (zeroed numbers rule ++ r) (t.1 ++ r')
+        (rw (← (new_same at')) t.3) (split ∙ ap (λ (l : List Slot). zeroed numbers l ++ (zeroed numbers rule ++ r)) old_same)

@@ -8,7 +8,7 @@ pub use Rattle.std.proofs.lemmas.Bool.{and_from, and_parts, cases_lt, eq-eqb, eq
 pub use Rattle.std.proofs.lemmas.Int.{ints}
 pub use Rattle.std.proofs.lemmas.List.{append-nil, ext_get_or, get_or-append-add, get_or_append_left, get_or_past, length-append, length-map, length-replicate}
 pub use Rattle.std.proofs.lemmas.List.{take_all}
-pub use Rattle.std.proofs.lemmas.Option.{slice_get-get_or, slice_get_within}
+pub use Rattle.std.proofs.lemmas.Option.{get_or_from_slice_get, slice_get-get_or, slice_get_within}
 pub use Rattle.std.proofs.lemmas.Slice.Eq.{bytes_eq-Decides}
 pub use Rattle.std.specs.List.{AllByRecursion, flat_map, list_all, list_any, slice_get}
 pub use Rattle.std.specs.Str.{bytes_eq}
@@ -18,7 +18,7 @@ pub use Rattle.vms_kinds.specs.declared.Item.{Item}
 pub use Rattle.vms_kinds.specs.declared.Item.TheVariants.{Equal, Num, Struct, Unused}
 pub use Rattle.vms_kinds.specs.declared.Kind.{Kind}
 pub use Rattle.vms_kinds.specs.declared.Kind.TheVariants.{I16, I32, I64, I8, Timer, U16, U32, U64, U8}
-pub use Rattle.vms_spec.proofs.Faultless.{AllTrue, every_one, few_devices, machine_short, or_else_none}
+pub use Rattle.vms_spec.proofs.Faultless.{AllTrue, answers_none, every_one, few_devices, machine_short, or_else_none}
 pub use Rattle.vms_spec.proofs.KindLaws.{code_read, length-code}
 pub use Rattle.vms_spec.proofs.ListLaws.{all_right, or_second}
 pub use Rattle.vms_spec.proofs.NumberLaws.{same_number_is}
@@ -52,12 +52,14 @@ pub use Rattle.vms_spec.specs.declared.Whose.TheVariants.{Own, Parent}
 pub use Rattle.vms_bodies.proofs.AboveLaws.{IsAbove, MeanAbove, field_above, item_above, items_above, meanings_above}
 pub use Rattle.vms_bodies.proofs.AgreeLaws.{its_below, its_in, named_inside, skip_long, stands_behind}
 pub use Rattle.vms_bodies.proofs.CellLaws.{MeanCells, cells_first, field_are, item_are, items_are, meanings_are}
+pub use Rattle.vms_bodies.proofs.BodyLaws.{at_set}
 pub use Rattle.vms_bodies.proofs.Names.{has_left, has_right, names_append, none_in_both}
 pub use Rattle.vms_bodies.proofs.PartLaws.{at_other, part_apart, parts_together, places_apart, sub_place_up, sub_size}
 pub use Rattle.vms_bodies.proofs.ReadyLaws.{version_is}
 pub use Rattle.vms_bodies.proofs.SectionLaws.{defaults_at, defaults_long}
 pub use Rattle.vms_bodies.proofs.SettledLaws.{cells_in}
 pub use Rattle.vms_bodies.proofs.SpellLaws.{rules_append, spells_append}
+pub use Rattle.vms_bodies.proofs.SubsOnly.{rules_split}
 pub use Rattle.vms_bodies.specs.Cells.{AreCells}
 pub use Rattle.vms_stream.proofs.Stated.{trailed}
 pub use Rattle.vms_stream.specs.Streams.{HasSection, IsSection, IsStream, SectionsSpell}

@@ -1,30 +1,28 @@
 -- What is carried of a description, cell by cell, and of structures, each by the earlier ones.
-use Rattle.vms_check_laws.proofs.Facade.{◌≡◌, ◌⊎◌, inl, inr, ℕ, zero, suc, ◌+◌, ◌*◌, ◌<◌, ◌≤◌, Bool, true, false, List, [], ◌∷◌, ◌++◌, length, get_or}
-use Rattle.vms_check_laws.proofs.Facade.{replicate, Option, Some, None, ℤ, pos, refl, sym, ap, ◌∙◌, arith, if◌then◌else◌, slice_get, cases_lt, eq-eqb, or-false}
-use Rattle.vms_check_laws.proofs.Facade.{Kind, Item, Num, Struct, Formula, Field, Desc, is_there, Cell, no_cell, Slot, Number, Rule, Meaning, no_meaning}
-use Rattle.vms_check_laws.proofs.Facade.{no_parent, times, counted, capacity_of, item_cells, item_size, field_cells, cells_from, desc_cells, elements_of}
-use Rattle.vms_check_laws.proofs.Facade.{item_slots, field_slots, slots_from, desc_slots, numbers_of, all_hold, has_cell, size_same, field_size, elements_fit}
-use Rattle.vms_check_laws.proofs.Facade.{ItemBelow, FieldsBelow, AreCells, MeanAbove, IsAbove, item_above, items_above, field_above, MeanCells, item_are}
-use Rattle.vms_check_laws.proofs.Facade.{items_are, field_are, named_inside, skip_long, stands_behind, names_append, cells_in, presence, Entry, entry_of}
-use Rattle.vms_check_laws.proofs.Facade.{present_from, same_kind, Carrier, no_carrier, defaults, carry_item, carry_items, carry_field, carry_next, carry_from}
-use Rattle.vms_check_laws.proofs.Facade.{carry_desc, default_field, entries_left, Pairer, no_pairer, unpaired, item_partners, array_partners, field_partners}
-use Rattle.vms_check_laws.proofs.Facade.{fields_left, partners_from, desc_partners, subst, Set, no_desc, meanings, struct_cells, WellFormed, first_at}
-use Rattle.vms_check_laws.proofs.Facade.{struct_slots, struct_cells_at, meanings_above, meanings_are, cells_first, carriers, carrying, pairer_of, pairers}
-use Rattle.vms_check_laws.proofs.Facade.{part_partners}
+use Rattle.vms_check_laws.proofs.Facade.{◌≡◌, ◌⊎◌, inl, inr, ℕ, zero, suc, ◌+◌, ◌*◌, ◌<◌, ◌≤◌, Bool, true, false, List, ◌∷◌, ◌++◌, length, get_or, replicate}
+use Rattle.vms_check_laws.proofs.Facade.{Option, Some, None, ℤ, pos, refl, sym, ap, ◌∙◌, arith, if◌then◌else◌, slice_get, cases_lt, eq-eqb, or-false, Kind}
+use Rattle.vms_check_laws.proofs.Facade.{Item, Num, Struct, Formula, Field, Desc, is_there, Cell, no_cell, Slot, Number, Rule, Meaning, no_meaning, no_parent}
+use Rattle.vms_check_laws.proofs.Facade.{times, counted, capacity_of, item_cells, item_size, field_cells, cells_from, desc_cells, elements_of, item_slots}
+use Rattle.vms_check_laws.proofs.Facade.{field_slots, slots_from, desc_slots, numbers_of, has_cell, size_same, field_size, elements_fit, ItemBelow, FieldsBelow}
+use Rattle.vms_check_laws.proofs.Facade.{AreCells, MeanAbove, IsAbove, item_above, field_above, MeanCells, item_are, field_are, named_inside, skip_long}
+use Rattle.vms_check_laws.proofs.Facade.{stands_behind, names_append, cells_in, presence, Entry, entry_of, present_from, same_kind, Carrier, no_carrier}
+use Rattle.vms_check_laws.proofs.Facade.{defaults, carry_item, carry_items, carry_field, carry_next, carry_from, carry_desc, default_field, entries_left}
+use Rattle.vms_check_laws.proofs.Facade.{Pairer, no_pairer, unpaired, item_partners, array_partners, field_partners, fields_left, partners_from, desc_partners}
+use Rattle.vms_check_laws.proofs.Facade.{Set, no_desc, meanings, struct_cells, WellFormed, first_at, struct_slots, struct_cells_at, meanings_above}
+use Rattle.vms_check_laws.proofs.Facade.{meanings_are, cells_first, carriers, carrying, pairer_of, pairers, part_partners, within, []}
 use Rattle.vms_check_laws.proofs.Presence.{there, presence_there}
-use Rattle.vms_check_laws.proofs.PairLists.{same_defaults, defaults_append, AreFrom, paired_none}
-use Rattle.vms_check_laws.proofs.PairFields.{Structs, item_paired, array_paired, struct_below, struct_is, tables}
-use Rattle.vms_check_laws.proofs.Goes.{Goes, IsWithin, goes_absent, goes_alone, goes_append}
+use Rattle.vms_check_laws.proofs.PairLists.{same_defaults, defaults_append, AreFrom, paired_none, one_cell, Goes, IsWithin, goes_absent, goes_alone}
+use Rattle.vms_check_laws.proofs.PairLists.{goes_append}
+use Rattle.vms_check_laws.proofs.PairDevices.{Structs, item_paired, array_paired, struct_below, struct_is, tables}
 use Rattle.vms_check_laws.proofs.Premises.{by_less}
-use Rattle.vms_check_laws.proofs.Structures.{carrier_at}
+use Rattle.vms_check_laws.proofs.Parts.{carrier_at}
 
 -- ---- slots are within their cells
 
 within_of : (at : ℕ) (cells : List Cell) (slots : List Slot) → IsAbove at slots → AreCells (replicate at no_cell ++ cells) slots
     → IsWithin at (length cells) slots
 within_of at cells slots above are = record {
-  in_range = λ c e.
-      (low c e (cases_lt c at), omega (arith, named_inside _ slots c are e, skip_long at cells));
+  in_range = λ c e. (low c e (cases_lt c at), omega (arith, named_inside _ slots c are e, skip_long at cells));
 } where
   low : (c : ℕ) → has_cell slots c ≡ true → (c < at) ⊎ (at ≤ c) → at ≤ c
   low c e (inl lt) = let f = above.below c lt in absurd (cc)
@@ -43,19 +41,14 @@ module _ (structs : List Pairer) (cs : List Carrier) (ms : List Meaning) (y : Li
 
   module _ (table : Structs structs x y k) (go : StructsGo) where
     item_within : (a : Item) (caps : List ℕ) (d : ℤ) (at : ℕ) → IsWithin at (length (item_cells x a caps d)) (item_slots ms a caps numbers at)
-    item_within a caps d at =
-        within_of at _ _ (item_above ms above a caps numbers at)
-        (item_are ms means a caps d _ at numbers (stands_behind at _))
+    item_within a caps d at = within_of at _ _ (item_above ms above a caps numbers at) (item_are ms means a caps d _ at numbers (stands_behind at _))
 
     -- ---- one element that is in the bytes
 
     -- a pair of numbers
     one_goes : (l m : Kind) (caps caps' : List ℕ) (d d' : ℤ) (at at' : ℕ) (b : Bool) → same_kind l m ≡ b
-        → AreFrom (record { kind = l; capacities = caps; default = d } ∷ []) (record { kind = m; capacities = caps'; default = d' } ∷ []) at'
-        ((if b then Some at' else None) ∷ [])
-        → IsWithin at 1 (Number at l caps ∷ [])
-        → Goes (record { kind = l; capacities = caps; default = d } ∷ []) (record { kind = m; capacities = caps'; default = d' } ∷ []) numbers
-        (Number at l caps ∷ []) at at'
+        → AreFrom (one_cell l caps d) (one_cell m caps' d') at' ((if b then Some at' else None) ∷ []) → IsWithin at 1 (Number at l caps ∷ [])
+        → Goes (one_cell l caps d) (one_cell m caps' d') numbers (Number at l caps ∷ []) at at'
         ((if b then Some at' else None) ∷ []) (if b then get_or numbers at (pos 0) ∷ [] else d' ∷ [])
     one_goes l m caps caps' d d' at at' true same h w = record { paired = h; within = w; long = refl; taken = taken; other = other } where
       taken : (c r : ℕ) → slice_get (Some at' ∷ []) c ≡ Some (Some (at' + r)) → has_cell (Number at l caps ∷ []) (at + c) ≡ true
@@ -65,7 +58,7 @@ module _ (structs : List Pairer) (cs : List Carrier) (ms : List Meaning) (y : Li
       taken (suc c) r e f = absurd (cc)
 
       other : (r : ℕ) → r < 1 → ((c : ℕ) → slice_get (Some at' ∷ []) c ≡ Some (Some (at' + r)) → has_cell (Number at l caps ∷ []) (at + c) ≡ false)
-          → get_or (get_or numbers at (pos 0) ∷ []) r (pos 0) ≡ (get_or (record { kind = m; capacities = caps'; default = d' } ∷ []) r no_cell).default
+          → get_or (get_or numbers at (pos 0) ∷ []) r (pos 0) ≡ (get_or (one_cell m caps' d') r no_cell).default
       other r lt f =
           let k_is : at' ≡ at' + r = omega arith in
           let z : at + 0 ≡ at = omega arith in
@@ -101,19 +94,7 @@ module _ (structs : List Pairer) (cs : List Carrier) (ms : List Meaning) (y : Li
     array_goes a b caps caps' d d' (suc most) (suc n) zero at at' p s q t le lt lt' =
         let e : item_size x a ≡ length (item_cells x a caps d) = sym (size_same x a caps d) in
         goes_append (goes_alone {others = []} (item_size x a) e (item_within a caps d at) refl) (omega arith) (omega arith)
-        (none_left a b caps caps' d d' most n (at + item_size x a) at' (p + s) s q t (omega arith) lt lt')
-      where
-        none_left : (a b : Item) (caps caps' : List ℕ) (d d' : ℤ) (most n at at' p s q t : ℕ) → n ≤ most → ItemBelow k a → ItemBelow k' b
-            → Goes (times most (λ _. item_cells x a caps d) p s) [] numbers (times n (item_slots ms a caps numbers) at (item_size x a)) at at'
-            (array_partners structs x y a b most 0 at') []
-        none_left a b caps caps' d d' most n at at' p s q t le lt lt' = record {
-          paired = array_paired structs x y k table a b caps caps' d d' most 0 at' p q s t lt;
-          within = within_of at _ _ (items_above ms above a caps numbers n at _)
-              (items_are ms means a caps d _ most n at p s numbers le (stands_behind at _));
-          long = refl;
-          taken = λ c r e f. (let i = (array_paired structs x y k table a b caps caps' d d' most 0 at' p q s t lt).pairs c (at' + r) e in absurd (omega arith));
-          other = λ r l f. absurd (omega arith);
-        }
+        (array_goes a b caps caps' d d' most n zero (at + item_size x a) at' (p + s) s q t (omega arith) lt lt')
     array_goes a b caps caps' d d' (suc most) (suc n) (suc m) at at' p s q t le lt lt' =
         goes_append (item_goes a b caps caps' d d' at at' lt lt') (omega (arith, sym (size_same x a caps d))) (omega (arith, sym (size_same y b caps' d')))
         (array_goes a b caps caps' d d' most n m (at + item_size x a) (at' + item_size y b) (p + s) s (q + t) t (omega arith) lt lt')
@@ -131,25 +112,23 @@ module _ (structs : List Pairer) (cs : List Carrier) (ms : List Meaning) (y : Li
 
       -- a field that the older version doesn't have
       not_there : (i p : ℕ) (f : Field) → presence v f.test f.since ≡ None → slots_of i p f ≡ []
-      not_there i p f e =
-          rw (presence_there f.test f.since v own no_parent ∙ ap (λ (o : Option (Option Formula)). there o v own no_parent) e)
+      not_there i p f e = rw (presence_there f.test f.since v own no_parent ∙ ap (λ (o : Option (Option Formula)). there o v own no_parent) e)
 
-      -- two present fields of one position
-      pair_goes : (i i' p p' : ℕ) (f g : Field) (rest rest' : Option Formula) → ItemBelow k f.item → ItemBelow k' g.item
-          → Goes (field_cells x all i f) (field_cells y all' i' g) numbers (slots_of i p f) (at + p) (at' + p')
+      -- two present fields of one position, of the older of which so many elements are in the bytes
+      abbrev PairGoes : (i i' p p' : ℕ) → (f g : Field) → List Slot → ℕ → Type 0
+      PairGoes i i' p p' f g slots n =
+          Goes (field_cells x all i f) (field_cells y all' i' g) numbers slots (at + p) (at' + p')
           (array_partners structs x y f.item g.item (capacity_of f.count) (capacity_of g.count) (at' + p'))
-          (carry_field cs x y numbers own v at (record { index = i; place = p; field = f; rest = rest }) g)
-      pair_goes i i' p p' f g rest rest' lt lt' = by_there (is_there f.test f.since v own no_parent) where
-        by_there : (b : Bool)
-            → Goes (field_cells x all i f) (field_cells y all' i' g) numbers
-            (if b then times (elements_of f.count own) (item_slots ms f.item (counted i all) numbers) (at + p) (item_size x f.item) else []) (at + p) (at' + p')
-            (array_partners structs x y f.item g.item (capacity_of f.count) (capacity_of g.count) (at' + p'))
-            (carry_items cs x y numbers f.item g.item (defaults (item_cells y g.item [] g.default)) (item_size x f.item)
-            (if b then elements_of f.count own else 0) (capacity_of g.count) (at + p))
-        by_there true =
-            array_goes f.item g.item _ _ f.default g.default _ _ _ (at + p) _ 0 0 0 0 (elements_fit f.count own) lt lt'
-        by_there false =
-            array_goes f.item g.item _ _ f.default g.default _ 0 _ (at + p) _ 0 0 0 0 (omega arith) lt lt'
+          (carry_items cs x y numbers f.item g.item (defaults (item_cells y g.item [] g.default)) (item_size x f.item) n (capacity_of g.count) (at + p))
+
+      pair_goes : (i i' p p' : ℕ) (f g : Field) → ItemBelow k f.item → ItemBelow k' g.item
+          → PairGoes i i' p p' f g (slots_of i p f) (if is_there f.test f.since v own no_parent then elements_of f.count own else 0)
+      pair_goes i i' p p' f g lt lt' = by_there (is_there f.test f.since v own no_parent) where
+        by_there : (b : Bool) → PairGoes i i' p p' f g
+            (if b then times (elements_of f.count own) (item_slots ms f.item (counted i all) numbers) (at + p) (item_size x f.item) else [])
+            (if b then elements_of f.count own else 0)
+        by_there true = array_goes f.item g.item _ _ f.default g.default _ _ _ (at + p) _ 0 0 0 0 (elements_fit f.count own) lt lt'
+        by_there false = array_goes f.item g.item _ _ f.default g.default _ 0 _ (at + p) _ 0 0 0 0 (omega arith) lt lt'
 
       -- ---- all fields from one on, on each side
 
@@ -226,7 +205,7 @@ module _ (structs : List Pairer) (cs : List Carrier) (ms : List Meaning) (y : Li
             (carry_field cs x y numbers own v at entry g ++ carry_on (suc i') gs later)
         both i' p' g gs rest lt' below =
             let u : at + (p + size_at i f) ≡ (at + p) + size_at i f = omega arith in
-            goes_append (pair_goes i i' p p' f g left rest lt lt') refl (omega arith) (rw u at (more (suc i') (p' + size_at' i' g) gs below))
+            goes_append (pair_goes i i' p p' f g lt lt') refl (omega arith) (rw u at (more (suc i') (p' + size_at' i' g) gs below))
 
         with_present : (i' p' : ℕ) (gs : List Field) → FieldsBelow k' gs → With i' p' gs (news i' p' gs) (carry_on i' gs (entry ∷ later))
         with_present i' p' [] below = old_alone i p p' f fs (more i' p' [] tt)

@@ -1,67 +1,179 @@
--- The partners of a device's cells.
-use Rattle.vms_check_laws.proofs.Facade.{◌≡◌, ◌⊎◌, inl, inr, ℕ, zero, suc, ◌+◌, ◌<◌, ◌≤◌, Bool, true, false, List, [], ◌∷◌, ◌++◌, length, get_or, Option, Some}
-use Rattle.vms_check_laws.proofs.Facade.{None, refl, sym, ap, ◌∙◌, subst, arith, nat_lt, if◌then◌else◌, bytes_eq, flat_map, slice_get, bytes_eq-Decides}
-use Rattle.vms_check_laws.proofs.Facade.{get_or_append_left, get_or-append-add, length-replicate, ltb-true, ltb-false, at_option, Sub, Device, Set, Cell}
-use Rattle.vms_check_laws.proofs.Facade.{no_cell, desc_cells, device_cells, struct_cells, own_cells, sub_place, find_sub, WellFormed, device_rules, sub_rules}
-use Rattle.vms_check_laws.proofs.Facade.{sub_size, sub_place_up, places_apart, device_parts, sub_clean, sub_found, PartnersLaw, ArePartners, part_partners}
-use Rattle.vms_check_laws.proofs.Facade.{sub_partners, named_partners, device_partners}
-use Rattle.std.proofs.Common.{length-append}
-use Rattle.vms_check_laws.proofs.PairLists.{AreFrom, IsPair, IsBehind, at_left, at_right, at_none, before_or_behind, IsOnce, Apart, once_append}
-use Rattle.vms_check_laws.proofs.PairFields.{below_of, part_paired}
+-- The partners of a description's cells are cells of the other's, one for each; those of structures, each by the earlier ones.
+use Rattle.vms_check_laws.proofs.Facade.{◌≡◌, ℕ, zero, suc, ◌+◌, ◌*◌, ◌<◌, Bool, true, false, List, ◌∷◌, ◌++◌, length, get_or, Option, Some, None, ℤ, refl, sym}
+use Rattle.vms_check_laws.proofs.Facade.{arith, append_assoc, if◌then◌else◌, slice_get, Kind, Item, Num, Struct, Formula, Field, Desc, Cell, times, capacity_of}
+use Rattle.vms_check_laws.proofs.Facade.{item_cells, item_size, field_cells, cells_from, desc_cells, size_same, field_size, ItemBelow, FieldsBelow, presence}
+use Rattle.vms_check_laws.proofs.Facade.{Entry, entry_of, present_from, same_kind, Pairer, no_pairer, unpaired, item_partners, array_partners, field_partners}
+use Rattle.vms_check_laws.proofs.Facade.{fields_left, partners_from, desc_partners, ◌≤◌, ap, ◌∙◌, nat_lt, ltb-true, ltb-false, slice_get-get_or, Set, first}
+use Rattle.vms_check_laws.proofs.Facade.{no_desc, struct_cells, WellFormed, first_at, first_long, item_below, desc_cells_same, first_same, Clean, struct_clean}
+use Rattle.vms_check_laws.proofs.Facade.{pairer_of, pairers, part_partners, length-append, [], get_or_past, ◌⊎◌, inl, inr, flat_map, get_or_append_left}
+use Rattle.vms_check_laws.proofs.Facade.{get_or-append-add, length-replicate, Sub, Device, no_cell, device_cells, own_cells, sub_place, find_sub, sub_size}
+use Rattle.vms_check_laws.proofs.Facade.{sub_place_up, device_parts, sub_clean, sub_found, PartnersLaw, ArePartners, sub_partners, named_partners}
+use Rattle.vms_check_laws.proofs.Facade.{device_partners}
+use Rattle.vms_check_laws.proofs.Premises.{kinds_same, by_less, fields_below}
+use Rattle.vms_check_laws.proofs.PairLists.{AreFrom, IsPair, paired_none, paired_append, paired_behind, paired_skip, one_cell, IsBehind, at_left, at_right}
+use Rattle.vms_check_laws.proofs.PairLists.{at_none, before_or_behind, IsOnce, Apart, once_append}
+use Rattle.vms_check_laws.proofs.SubParts.{found, part_in, part_number, one_part, StandsIn, all_long, stands_in}
 
--- ---- what has a name, and where it is
+-- ---- the present fields of the other side are in its cells
 
-pub record Found (subs : List Sub) (name : List ℕ) (l : ℕ) : Type 0 where
-  pub sub : Sub
-  pub there : slice_get subs l ≡ Some sub
-  pub name_is : sub.desc.name ≡ name
+module _ (y : List (List Cell)) (all : List Field) where
+  abbrev pub cells_at : Entry → List Cell
+  cells_at e = field_cells y all e.index e.field
 
-found_from : (k : ℕ) (subs : List Sub) (name : List ℕ) (r : ℕ) → find_sub k subs name ≡ Some r → (j : ℕ) × (r ≡ k + j) × Found subs name j
-found_from k [] name r h = absurd (cc)
-found_from k (s ∷ subs) name r h =
-    let choice : (c : Bool) → bytes_eq s.desc.name name ≡ c → (if c then Some k else find_sub (suc k) subs name) ≡ Some r → (j : ℕ) × (r ≡ k + j) × Found
-    (s ∷ subs) name j = elim [
-      | true ↦ λ e g. let same : k ≡ r = cc in (0, omega arith, record { sub = s; there = refl; name_is = (bytes_eq-Decides s.desc.name name).0 e })
-      | false ↦ λ e g. let f = found_from (suc k) subs name r g in (suc f.0, omega arith, record { sub = f.2.sub; there = f.2.there; name_is = f.2.name_is })
-    ] in
-    choice (bytes_eq s.desc.name name) refl h
+  -- cells, the first of which has the number p, begin with others and then those of the first field
+  pub record Front (others : List Cell) (p : ℕ) (e : Entry) : Type 0 where
+    pub gap : List Cell
+    pub rest : List Cell
+    pub is : others ≡ gap ++ (cells_at e ++ rest)
+    pub place : e.place ≡ p + length gap
 
-pub found : (subs : List Sub) (name : List ℕ) (l : ℕ) → find_sub 0 subs name ≡ Some l → Found subs name l
-found subs name l h =
-    let f = found_from 0 subs name l h in
-    let same : f.0 ≡ l = omega arith in
-    rw (← same) f.2
+  abbrev pub Laid : List Cell → ℕ → List Entry → Type 0
+  Laid others p [] = Unit {0}
+  Laid others p (e ∷ es) = (f : Front others p e) × Laid f.rest (e.place + length (cells_at e)) es
 
--- the cells of a subsection are at its place
-pub cell_of_sub : (set : Set) (from : ℕ) (subs : List Sub) (l : ℕ) (t : Sub) → slice_get subs l ≡ Some t
-    → (q : ℕ) × (sub_place set from subs l ≡ from + q)
-    × (q + sub_size set t ≤ length (flat_map (λ s. desc_cells (struct_cells set) s.desc) subs))
-    × ((r : ℕ) → r < sub_size set t → get_or (flat_map (λ s. desc_cells (struct_cells set) s.desc) subs) (q + r) no_cell ≡ get_or
-    (desc_cells (struct_cells set) t.desc) r no_cell)
-cell_of_sub set from [] l t e = absurd (cc)
-cell_of_sub set from (s ∷ subs) zero t e =
-    let same : s ≡ t = cc in
-    let cells = desc_cells (struct_cells set) s.desc in
-    let rest = flat_map (λ s. desc_cells (struct_cells set) s.desc) subs in
-    let size : sub_size set s ≡ sub_size set t = ap (sub_size set) same in (
-      0,
-      omega arith,
-      omega (arith, length-append cells rest),
-      λ r lt.
-          let z : 0 + r ≡ r = omega arith in
-          ap (λ (n : ℕ). get_or (cells ++ rest) n no_cell) z ∙ get_or_append_left cells rest no_cell r (omega arith) ∙ ap
-          (λ (u : Sub). get_or (desc_cells (struct_cells set) u.desc) r no_cell) same,
-    )
-cell_of_sub set from (s ∷ subs) (suc l) t e =
-    let cells = desc_cells (struct_cells set) s.desc in
-    let rest = flat_map (λ s. desc_cells (struct_cells set) s.desc) subs in
-    let h = cell_of_sub set (from + length cells) subs l t e in (
-      length cells + h.0,
-      omega arith,
-      omega (arith, length-append cells rest),
-      λ r lt. let z : (length cells + h.0) + r ≡ length cells + (h.0 + r) = omega arith in
-          ap (λ (n : ℕ). get_or (cells ++ rest) n no_cell) z ∙ get_or-append-add cells rest (h.0 + r) no_cell ∙ h.3 r lt,
-    )
+  laid_behind : (before others : List Cell) (p q : ℕ) (es : List Entry) → q ≡ p + length before → Laid others q es → Laid (before ++ others) p es
+  laid_behind before others p q [] e h = tt
+  laid_behind before others p q (x ∷ es) e h =
+      let f = h.0 in
+      (record { gap = before ++ f.gap; rest = f.rest; is = rw (f.is, append_assoc); place = omega (arith, f.place, length-append before f.gap) }, h.1)
+
+  pub laid : (v i p : ℕ) (gs : List Field) → Laid (cells_from y all i gs) p (present_from y all v i p gs)
+  laid v i p [] = tt
+  laid v i p (g ∷ gs) = go (presence v g.test g.since) (laid v (suc i) (p + length (field_cells y all i g)) gs) where
+    go : (o : Option (Option Formula))
+        → Laid (cells_from y all (suc i) gs) (p + length (field_cells y all i g)) (present_from y all v (suc i) (p + length (field_cells y all i g)) gs)
+        → Laid (cells_from y all i (g ∷ gs)) p (entry_of i p g o ++ present_from y all v (suc i) (p + length (field_cells y all i g)) gs)
+    go None h = laid_behind _ _ p _ _ refl h
+    go (Some rest) h = (record { gap = []; rest = cells_from y all (suc i) gs; is = refl; place = omega arith }, h)
+
+-- ---- items, arrays, fields
+
+-- what is known of the structures: those of the older set of numbers below k
+abbrev pub Structs : (structs : List Pairer) (x y : List (List Cell)) → ℕ → Type 0
+Structs structs x y k = (i j at : ℕ) → i < k → AreFrom (get_or x i []) (get_or y j []) at (get_or structs i no_pairer j at)
+
+module _ (structs : List Pairer) (x y : List (List Cell)) (k : ℕ) (table : Structs structs x y k) where
+  one_pair : (l m : Kind) (caps caps' : List ℕ) (d d' : ℤ) (at : ℕ) (b : Bool) → same_kind l m ≡ b
+      → AreFrom (one_cell l caps d) (one_cell m caps' d') at ((if b then Some at else None) ∷ [])
+  one_pair l m caps caps' d d' at true same = record {
+    long = refl;
+    pairs = λ c n e. pair c n e;
+    once = λ b c n e f. both b c n e f;
+  } where
+    pair : (c n : ℕ) → slice_get (Some at ∷ []) c ≡ Some (Some n) → IsPair (one_cell l caps d) (one_cell m caps' d') at c n
+    pair zero n e = let s : at ≡ n = cc in record { r = 0; is = omega arith; inside = omega arith; kind = kinds_same l m same }
+    pair (suc c) n e = absurd (cc)
+
+    both : (b c n : ℕ) → slice_get (Some at ∷ []) b ≡ Some (Some n) → slice_get (Some at ∷ []) c ≡ Some (Some n) → b ≡ c
+    both zero zero n e f = refl
+    both _ _ n e f = absurd (cc)
+  one_pair l m caps caps' d d' at false same = paired_none _ _ at 1 refl
+
+  pub item_paired : (a b : Item) (caps caps' : List ℕ) (d d' : ℤ) (at : ℕ) → ItemBelow k a
+      → AreFrom (item_cells x a caps d) (item_cells y b caps' d') at (item_partners structs x y a b at)
+  item_paired (Num l) (Num m) caps caps' d d' at lt = one_pair l m caps caps' d d' at _ refl
+  item_paired (Struct i) (Struct j) caps caps' d d' at lt = table i j at lt
+  item_paired a _ caps caps' d d' at lt = paired_none _ _ at _ refl
+
+  pub array_paired : (a b : Item) (caps caps' : List ℕ) (d d' : ℤ) (n m at p q s t : ℕ) → ItemBelow k a
+      → AreFrom (times n (λ _. item_cells x a caps d) p s) (times m (λ _. item_cells y b caps' d') q t) at (array_partners structs x y a b n m at)
+  array_paired a b caps caps' d d' zero m at p q s t lt = paired_none [] _ at 0 refl
+  array_paired a b caps caps' d d' (suc n) zero at p q s t lt =
+      paired_skip _ _ (sym (size_same x a caps d)) (array_paired a b caps caps' d d' n zero at (p + s) q s t lt)
+  array_paired a b caps caps' d d' (suc n) (suc m) at p q s t lt =
+      paired_append (item_paired a b caps caps' d d' at lt) (omega (arith, sym (size_same y b caps' d')))
+      (array_paired a b caps caps' d d' n m (at + item_size y b) (p + s) (q + t) s t lt)
+
+  module _ (all all' : List Field) (v : ℕ) where
+    fields_paired : (i at p : ℕ) (fs : List Field) (es : List Entry) (others : List Cell) → FieldsBelow k fs → Laid y all' others p es
+        → AreFrom (cells_from x all i fs) others (at + p) (partners_from structs x y v at fs es)
+    fields_paired i at p [] es others lt h = paired_none [] others (at + p) 0 refl
+    fields_paired i at p (f ∷ fs) es others lt h =
+        go (presence v f.test f.since) es others h (λ p' es' others' h'. fields_paired (suc i) at p' fs es' others' lt.1 h') where
+          skip : (es' : List Entry) (others' : List Cell) → AreFrom (cells_from x all (suc i) fs) others' (at + p) (partners_from structs x y v at fs es')
+              → AreFrom (cells_from x all i (f ∷ fs)) others' (at + p)
+              (unpaired (capacity_of f.count * item_size x f.item) ++ partners_from structs x y v at fs es')
+          skip es' others' g = paired_skip _ _ (sym (field_size x all i f)) g
+
+          go : (o : Option (Option Formula)) (es : List Entry) (others : List Cell) → Laid y all' others p es
+              → ((p' : ℕ) (es' : List Entry) (others' : List Cell) → Laid y all' others' p' es' → AreFrom (cells_from x all (suc i) fs) others' (at + p')
+              (partners_from structs x y v at fs es'))
+              → AreFrom (cells_from x all i (f ∷ fs)) others (at + p)
+              (field_partners structs x y f o es at ++ partners_from structs x y v at fs (fields_left structs x y o es))
+          go None es others h more = skip es others (more p es others h)
+          go (Some rest) [] others h more = skip [] others (more p [] others tt)
+          go (Some rest) (e ∷ es) others h more =
+              let front = h.0 in
+              let z : at + e.place ≡ (at + p) + length front.gap = omega (arith, front.place) in
+              let here = array_paired f.item e.field.item _ _ f.default e.field.default _ _ _ 0 0 0 0 lt.0 in
+              rw front.is (paired_behind front.gap z (paired_append here (omega arith) (more (e.place + length (cells_at y all' e)) es front.rest h.1)))
+
+  pub desc_paired : (v w : ℕ) (a b : Desc) (at : ℕ) → FieldsBelow k a.fields
+      → AreFrom (desc_cells x a) (desc_cells y b) at (desc_partners structs x y v w a b at)
+  desc_paired v w a b at lt =
+      let z : at + 0 ≡ at = omega arith in
+      rw z at (fields_paired a.fields b.fields v 0 at 0 a.fields _ _ lt (laid y b.fields w 0 0 b.fields))
+
+-- ---- the cells of a structure
+
+pub below_of : (k : ℕ) (d : Desc) (rules : _) → Clean k d rules → FieldsBelow k d.fields
+below_of k d rules c = fields_below k d.fields (λ i f e. item_below k f.item (c.fields i f e).1.1.1.1.0)
+
+module _ (set : Set) (well : WellFormed set) where
+  pub struct_below : (j : ℕ) → j < length set.structs → FieldsBelow j (get_or set.structs j no_desc).fields
+  struct_below j lt = below_of j _ _ (struct_clean set well j (get_or set.structs j no_desc) (slice_get-get_or set.structs j no_desc lt))
+
+  pub struct_is : (j : ℕ) → get_or (struct_cells set) j [] ≡ desc_cells (struct_cells set) (get_or set.structs j no_desc)
+  struct_is j = go (nat_lt j (length set.structs)) refl where
+    go : (b : Bool) → nat_lt j (length set.structs) ≡ b → get_or (struct_cells set) j [] ≡ desc_cells (struct_cells set) (get_or set.structs j no_desc)
+    go true e =
+        let ds = set.structs in
+        let k = length set.structs in
+        let lt : j < k = ltb-true j k e in
+        first_at desc_cells ds [] k j lt
+        ∙ desc_cells_same j (first desc_cells ds j) (first desc_cells ds k) (λ i l. first_same desc_cells ds [] j k i (omega arith) l) (get_or ds j no_desc)
+        (struct_below j lt)
+    go false e =
+        let k = length set.structs in
+        let le : k ≤ j = ltb-false j k e in
+        let long = first_long desc_cells set.structs k in
+        get_or_past _ j [] (omega arith) ∙ sym (ap (λ (d : Desc). desc_cells (struct_cells set) d) (get_or_past set.structs j no_desc le))
+
+-- ---- their partners
+
+module _ (old new : Set) (good_old : WellFormed old) (good_new : WellFormed new) where
+  abbrev x : List (List Cell)
+  x = struct_cells old
+
+  abbrev y : List (List Cell)
+  y = struct_cells new
+
+  abbrev table : ℕ → List Pairer
+  table k = pairers x y old.structs new.structs k
+
+  last : (m : ℕ) → m < length old.structs → Structs (table m) x y m → (j at : ℕ)
+      → AreFrom (get_or x m []) (get_or y j []) at (pairer_of (table m) x y new.structs (get_or old.structs m no_desc) j at)
+  last m lt h j at =
+      let d = get_or old.structs m no_desc in
+      let e = get_or new.structs j no_desc in
+      rw (struct_is old good_old m, struct_is new good_new j) (desc_paired _ x y m h d.version e.version d e at (struct_below old good_old m lt))
+
+  pairer_at : (m i : ℕ) → i < m → get_or (table m) i no_pairer ≡ pairer_of (table i) x y new.structs (get_or old.structs i no_desc)
+  pairer_at m i lt = first_at (λ earlier d. pairer_of earlier x y new.structs d) old.structs no_pairer m i lt
+
+  pub tables : (m : ℕ) → m ≤ length old.structs → Structs (table m) x y m
+  tables m le i j at lt =
+      rw (pairer_at m i lt)
+      (by_less (λ i. i < length old.structs → (j at : ℕ) → AreFrom (get_or x i []) (get_or y j []) at
+      (pairer_of (table i) x y new.structs (get_or old.structs i no_desc) j at))
+      (λ m before less. last m less (λ i j at lt. rw (pairer_at m i lt) (before i lt (omega arith) j at))) m i lt (omega arith) j at)
+
+  -- two descriptions
+  pub part_paired : (v : ℕ) (a b : Desc) (at : ℕ) → FieldsBelow (length old.structs) a.fields
+      → AreFrom (desc_cells x a) (desc_cells y b) at (part_partners old new v a b at)
+  part_paired v a b at lt = desc_paired _ x y _ (tables _ (omega arith)) v v a b at lt
+
+-- ---- the partners of a device's cells
 
 module _ (old new : Set) (good_old : WellFormed old) (good_new : WellFormed new) (i : ℕ) (d e : Device) (at_i : slice_get old.devices i ≡ Some d) where
   abbrev old_cells : Sub → List Cell
@@ -73,20 +185,18 @@ module _ (old new : Set) (good_old : WellFormed old) (good_new : WellFormed new)
   abbrev place' : ℕ → ℕ
   place' l = sub_place new (own_cells new e) e.subs l
 
-  -- cell c of these and the newer one of number k, which is a cell of subsection l
-  pub record IsSubPair (cells : List Cell) (name : List ℕ) (c k : ℕ) : Type 0 where
+  -- cell c of a subsection and the newer one of number k, which is a cell of subsection l, of the same name
+  pub record IsSubPair (s : Sub) (c k : ℕ) : Type 0 where
     pub l : ℕ
     pub t : Sub
     pub there : slice_get e.subs l ≡ Some t
-    pub name_is : t.desc.name ≡ name
-    pub r : ℕ
-    pub is : k ≡ place' l + r
-    pub inside : r < sub_size new t
-    pub kind : (get_or cells c no_cell).kind ≡ (get_or (new_cells t) r no_cell).kind
+    pub name_is : t.desc.name ≡ s.desc.name
+    pub pair : IsPair (old_cells s) (new_cells t) (place' l) c k
+    pub open pair use *
 
   pub record OneSub (s : Sub) (partners : List (Option ℕ)) : Type 0 where
     pub long : length partners ≡ length (old_cells s)
-    pub pairs : (c k : ℕ) → slice_get partners c ≡ Some (Some k) → IsSubPair (old_cells s) s.desc.name c k
+    pub pairs : (c k : ℕ) → slice_get partners c ≡ Some (Some k) → IsSubPair s c k
     pub once : IsOnce partners
 
   no_sub : (s : Sub) → OneSub s (sub_partners old new e s None None)
@@ -107,99 +217,19 @@ module _ (old new : Set) (good_old : WellFormed old) (good_new : WellFormed new)
         (rw f.there
         (record {
           long = p.long;
-          pairs = λ c k g.
-              let q = p.pairs c k g in
-              record { l = l; t = f.sub; there = f.there; name_is = f.name_is; r = q.r; is = q.is; inside = q.inside; kind = q.kind };
+          pairs = λ c k g. record { l = l; t = f.sub; there = f.there; name_is = f.name_is; pair = p.pairs c k g };
           once = p.once;
         }))
 
-  -- a pair says only the kind of its older cell
-  at_kind : (cells cells' : List Cell) (name : List ℕ) (c c' k : ℕ) → IsSubPair cells name c k
-      → (get_or cells' c' no_cell).kind ≡ (get_or cells c no_cell).kind → IsSubPair cells' name c' k
-  at_kind cells cells' name c c' k x same =
-      record { l = x.l; t = x.t; there = x.there; name_is = x.name_is; r = x.r; is = x.is; inside = x.inside; kind = same ∙ x.kind }
-
-  -- ---- all subsections from one on
-
-  pub record SomeSub (subs : List Sub) (c k : ℕ) : Type 0 where
-    pub m : ℕ
-    pub sub : Sub
-    pub is : slice_get subs m ≡ Some sub
-    pub pair : IsSubPair (flat_map old_cells subs) sub.desc.name c k
-
-  pub record AllSubs (subs : List Sub) (partners : List (Option ℕ)) : Type 0 where
-    pub long : length partners ≡ length (flat_map old_cells subs)
-    pub pairs : (c k : ℕ) → slice_get partners c ≡ Some (Some k) → SomeSub subs c k
-    pub once : IsOnce partners
-
-  abbrev AreDistinct : List Sub → Type 0
-  AreDistinct subs = (m m' : ℕ) (s s' : Sub) → slice_get subs m ≡ Some s → slice_get subs m' ≡ Some s' → s.desc.name ≡ s'.desc.name → m ≡ m'
-
   -- two newer subsections that have one cell are one
-  names_of : (cells cells' : List Cell) (name name' : List ℕ) (c c' k : ℕ) → IsSubPair cells name c k → IsSubPair cells' name' c' k → name ≡ name'
-  names_of cells cells' name name' c c' k p q = by_order _ refl _ refl where
-    by_order : (x : Bool) → nat_lt p.l q.l ≡ x → (z : Bool) → nat_lt q.l p.l ≡ z → name ≡ name'
-    by_order true x z h =
-        absurd (omega (arith, places_apart new (own_cells new e) e.subs p.l q.l p.t p.there (ltb-true p.l q.l x)))
-    by_order false x true h =
-        absurd (omega (arith, places_apart new (own_cells new e) e.subs q.l p.l q.t q.there (ltb-true q.l p.l h)))
-    by_order false x false h =
-        let a : q.l ≤ p.l = ltb-false p.l q.l x in
-        let b : p.l ≤ q.l = ltb-false q.l p.l h in
-        let same : p.l ≡ q.l = omega arith in
-        let subs_same : Some p.t ≡ Some q.t = sym p.there ∙ ap (slice_get e.subs) same ∙ q.there in
-        let one : p.t ≡ q.t = cc in
-        sym p.name_is ∙ ap (λ (u : Sub). u.desc.name) one ∙ q.name_is
+  names_of : (s s' : Sub) (c c' k : ℕ) → IsSubPair s c k → IsSubPair s' c' k → s.desc.name ≡ s'.desc.name
+  names_of s s' c c' k p q =
+      let same : p.l ≡ q.l = one_part new (own_cells new e) e.subs p.l q.l k p.t q.t p.there q.there (omega arith) (omega arith) (omega arith) (omega arith) in
+      let subs_same : Some p.t ≡ Some q.t = sym p.there ∙ ap (slice_get e.subs) same ∙ q.there in
+      let one : p.t ≡ q.t = cc in
+      sym p.name_is ∙ ap (λ (u : Sub). u.desc.name) one ∙ q.name_is
 
-  module _ (s : Sub) (subs : List Sub) (p q : List (Option ℕ)) (distinct : AreDistinct (s ∷ subs)) (h : OneSub s p) (g : AllSubs subs q) where
-    left : (c k : ℕ) → c < length p → slice_get (p ++ q) c ≡ Some (Some k) → IsSubPair (old_cells s) s.desc.name c k
-    left c k lt f = h.pairs c k (sym (at_left p q c lt) ∙ f)
-
-    right : (c k : ℕ) (b : IsBehind (length p) c) → slice_get (p ++ q) c ≡ Some (Some k) → SomeSub subs b.more k
-    right c k b f = g.pairs b.more k (sym (at_right p q b.more) ∙ ap (slice_get (p ++ q)) (sym b.is) ∙ f)
-
-    apart : Apart p q
-    apart b c k lt behind f f' =
-        let z = right c k behind f' in
-        absurd (omega (arith, distinct 0 (suc z.m) s z.sub refl z.is (names_of _ _ s.desc.name z.sub.desc.name b behind.more k (left b k lt f) z.pair)))
-
-    pair_at : (c k : ℕ) → slice_get (p ++ q) c ≡ Some (Some k) → (c < length p) ⊎ IsBehind (length p) c → SomeSub (s ∷ subs) c k
-    pair_at c k f (inl lt) =
-        record {
-          m = 0;
-          sub = s;
-          is = refl;
-          pair = at_kind _ _ s.desc.name c c k (left c k lt f)
-              (ap (λ (u : Cell). u.kind) (get_or_append_left (old_cells s) (flat_map old_cells subs) no_cell c (omega arith)));
-        }
-    pair_at c k f (inr behind) =
-        let z = right c k behind f in
-        let place : c ≡ length (old_cells s) + behind.more = omega arith in
-        record {
-          m = suc z.m;
-          sub = z.sub;
-          is = z.is;
-          pair = at_kind _ _ z.sub.desc.name behind.more c k z.pair
-              (ap (λ (n : ℕ). (get_or (old_cells s ++ flat_map old_cells subs) n no_cell).kind) place
-              ∙ ap (λ (u : Cell). u.kind) (get_or-append-add (old_cells s) (flat_map old_cells subs) behind.more no_cell));
-        }
-
-    joined : AllSubs (s ∷ subs) (p ++ q)
-    joined =
-        record {
-          long = omega (arith, length-append p q, length-append (old_cells s) (flat_map old_cells subs));
-          pairs = λ c k f. pair_at c k f (before_or_behind _ c);
-          once = once_append p q h.once g.once apart;
-        }
-
-  all_subs : (subs : List Sub) → AreDistinct subs → ((m : ℕ) (s : Sub) → slice_get subs m ≡ Some s → OneSub s (named_partners old new e s))
-      → AllSubs subs (flat_map (named_partners old new e) subs)
-  all_subs [] distinct h = record { long = refl; pairs = λ c k f. absurd (cc); once = λ b c k f g. absurd (cc) }
-  all_subs (s ∷ subs) distinct h =
-      joined s subs _ _ distinct (h 0 s refl)
-      (all_subs subs (λ m m' t t' f f' n. omega (arith, distinct (suc m) (suc m') t t' f f' n)) (λ m t f. h (suc m) t f))
-
-  distinct : AreDistinct d.subs
+  distinct : (m m' : ℕ) (s s' : Sub) → slice_get d.subs m ≡ Some s → slice_get d.subs m' ≡ Some s' → s.desc.name ≡ s'.desc.name → m ≡ m'
   distinct m m' s s' f f' n =
       let same : Some m ≡ Some m' =
       sym (sub_found old good_old i m d s at_i f) ∙ ap (λ (name : List ℕ). find_sub 0 d.subs name) n ∙ sub_found old good_old i m' d s' at_i f' in
@@ -209,9 +239,6 @@ module _ (old new : Set) (good_old : WellFormed old) (good_new : WellFormed new)
 
   own : AreFrom (desc_cells (struct_cells old) d.desc) (desc_cells (struct_cells new) e.desc) 0 (part_partners old new d.desc.version d.desc e.desc 0)
   own = part_paired old new good_old good_new d.desc.version d.desc e.desc 0 (below_of _ d.desc _ (device_parts old good_old i d at_i).0)
-
-  rest : AllSubs d.subs (flat_map (named_partners old new e) d.subs)
-  rest = all_subs d.subs distinct (λ m s f. one_sub m s f)
 
   abbrev ps : List (Option ℕ)
   ps = part_partners old new d.desc.version d.desc e.desc 0
@@ -228,39 +255,62 @@ module _ (old new : Set) (good_old : WellFormed old) (good_new : WellFormed new)
   own_pair : (c k : ℕ) → c < length ps → slice_get (ps ++ qs) c ≡ Some (Some k) → IsPair xs us 0 c k
   own_pair c k lt f = own.pairs c k (sym (at_left ps qs c lt) ∙ f)
 
-  sub_pair : (c k : ℕ) (b : IsBehind (length ps) c) → slice_get (ps ++ qs) c ≡ Some (Some k) → SomeSub d.subs b.more k
-  sub_pair c k b f = rest.pairs b.more k (sym (at_right ps qs b.more) ∙ ap (slice_get (ps ++ qs)) (sym b.is) ∙ f)
+  sized : (m : ℕ) (s : Sub) → slice_get d.subs m ≡ Some s → length (named_partners old new e s) ≡ sub_size old s
+  sized m s at = (one_sub m s at).long
+
+  -- the subsection that a cell is of, and its pair
+  record InSub (b k : ℕ) : Type 0 where
+    stands : StandsIn old (named_partners old new e) (own_cells old d) d.subs b (Some k)
+    pair : IsSubPair stands.sub stands.c k
+
+  in_sub : (b k : ℕ) → slice_get qs b ≡ Some (Some k) → InSub b k
+  in_sub b k f =
+      let w = stands_in old (named_partners old new e) (own_cells old d) d.subs b (Some k) sized f in
+      record { stands = w; pair = (one_sub w.m w.sub w.there).pairs w.c k w.here }
+
+  sub_pair : (c k : ℕ) (b : IsBehind (length ps) c) → slice_get (ps ++ qs) c ≡ Some (Some k) → InSub b.more k
+  sub_pair c k b f = in_sub b.more k (sym (at_right ps qs b.more) ∙ rw b.is at f)
+
+  once_in : IsOnce qs
+  once_in b c k f g =
+      let x = in_sub b k f in
+      let y = in_sub c k g in
+      let v = x.stands in
+      let w = y.stands in
+      let same : v.m ≡ w.m = distinct v.m w.m v.sub w.sub v.there w.there (names_of v.sub w.sub v.c w.c k x.pair y.pair) in
+      let subs_same : Some v.sub ≡ Some w.sub = sym v.there ∙ ap (slice_get d.subs) same ∙ w.there in
+      let one : v.sub ≡ w.sub = cc in
+      let here : slice_get (named_partners old new e w.sub) v.c ≡ Some (Some k) = rw one at v.here in
+      let cells_same : v.c ≡ w.c = (one_sub w.m w.sub w.there).once v.c w.c k here w.here in
+      let places : sub_place old (own_cells old d) d.subs v.m ≡ sub_place old (own_cells old d) d.subs w.m = ap (sub_place old (own_cells old d) d.subs) same in
+      omega arith
 
   kinds : (c k : ℕ) → slice_get (ps ++ qs) c ≡ Some (Some k) → (c < length ps) ⊎ IsBehind (length ps) c
       → (k < length (device_cells new e)) × ((get_or (device_cells old d) c no_cell).kind ≡ (get_or (device_cells new e) k no_cell).kind)
   kinds c k f (inl lt) =
       let p = own_pair c k lt f in
-      let long = own.long in
-      let is = p.is in
-      let inside = p.inside in
-      let k_is : p.r ≡ k = omega (arith, is) in (
-        omega (arith, is, inside, length-append us (flat_map new_cells e.subs)),
-        ap (λ (u : Cell). u.kind) (get_or_append_left xs (flat_map old_cells d.subs) no_cell c (omega (arith, lt, long))) ∙ p.kind
-            ∙ sym (ap (λ (u : Cell). u.kind) (get_or_append_left us (flat_map new_cells e.subs) no_cell p.r inside)) ∙ ap
-            (λ (n : ℕ). (get_or (device_cells new e) n no_cell).kind) k_is,
-      )
+      let k_is : k ≡ p.r = omega (arith, p.is) in
+      let before = get_or_append_left xs (flat_map old_cells d.subs) no_cell c (omega (arith, own.long)) in
+      let after = get_or_append_left us (flat_map new_cells e.subs) no_cell p.r p.inside in
+      rw k_is (omega (arith, length-append us (flat_map new_cells e.subs)), rw (before, after) p.kind)
   kinds c k f (inr behind) =
       let z = sub_pair c k behind f in
+      let w = z.stands in
       let p = z.pair in
-      let long = own.long in
-      let b_is = behind.is in
-      let h = cell_of_sub new (own_cells new e) e.subs p.l p.t p.there in
-      let place = h.1 in
-      let within = h.2 in
-      let is = p.is in
-      let inside = p.inside in
-      let c_is : c ≡ length xs + behind.more = omega (arith, b_is, long) in
-      let k_is : length us + (h.0 + p.r) ≡ k = omega (arith, place, is) in (
-        omega (arith, k_is, inside, within, length-append us (flat_map new_cells e.subs)),
-        ap (λ (n : ℕ). (get_or (device_cells old d) n no_cell).kind) c_is ∙ ap (λ (u : Cell). u.kind)
-            (get_or-append-add xs (flat_map old_cells d.subs) behind.more no_cell) ∙ p.kind
-            ∙ sym (ap (λ (u : Cell). u.kind) (get_or-append-add us (flat_map new_cells e.subs) (h.0 + p.r) no_cell ∙ h.3 p.r inside)) ∙ ap
-            (λ (n : ℕ). (get_or (device_cells new e) n no_cell).kind) k_is,
+      let h = part_in old old_cells (own_cells old d) d.subs w.m w.sub (λ m s e. refl) w.there in
+      let h' = part_in new new_cells (own_cells new e) e.subs p.l p.t (λ m s e. refl) p.there in
+      let c_is : c ≡ length xs + (h.q + w.c) = omega (arith, own.long) in
+      let k_is : k ≡ length us + (h'.q + p.r) = omega arith in
+      let before =
+      get_or-append-add xs (flat_map old_cells d.subs) (h.q + w.c) no_cell
+      ∙ part_number old old_cells (own_cells old d) d.subs w.m w.sub h no_cell w.c w.inside in
+      let after =
+      get_or-append-add us (flat_map new_cells e.subs) (h'.q + p.r) no_cell
+      ∙ part_number new new_cells (own_cells new e) e.subs p.l p.t h' no_cell p.r p.inside in
+      let kind : (get_or (device_cells old d) (length xs + (h.q + w.c)) no_cell).kind ≡ (get_or (device_cells new e) (length us + (h'.q + p.r)) no_cell).kind =
+      rw (before, after) p.kind in (
+        omega (arith, length-append us (flat_map new_cells e.subs)),
+        ap (λ (n : ℕ). (get_or (device_cells old d) n no_cell).kind) c_is ∙ kind ∙ sym (ap (λ (n : ℕ). (get_or (device_cells new e) n no_cell).kind) k_is),
       )
 
   apart_own : Apart ps qs
@@ -273,9 +323,9 @@ module _ (old new : Set) (good_old : WellFormed old) (good_new : WellFormed new)
   unfolding device_partners
   device_paired =
       record {
-        long = omega (arith, own.long, rest.long, length-append ps qs, length-append xs (flat_map old_cells d.subs));
+        long = omega (arith, own.long, all_long old (named_partners old new e) d.subs sized, length-append ps qs, length-append xs (flat_map old_cells d.subs));
         kinds = λ c k f. kinds c k f (before_or_behind _ c);
-        once = once_append ps qs own.once rest.once apart_own;
+        once = once_append ps qs own.once once_in apart_own;
       }
 
 pub partners_stand : PartnersLaw

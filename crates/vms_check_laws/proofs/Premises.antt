@@ -1,41 +1,139 @@
--- What fields and structures on both sides need, and positions that differ.
-use Rattle.vms_check_laws.proofs.Facade.{◌≡◌, ◌⊎◌, inl, inr, refl, ap, ℕ, zero, suc, ◌<◌, ◌≤◌, Bool, true, false, ◌==◌, List, [], ◌∷◌, length, get_or, Some}
-use Rattle.vms_check_laws.proofs.Facade.{None, arith, ℤ, pos, if◌then◌else◌, eqb-true, Item, Equal, Unused, Count, Counted, Formula, Field, Cell, Meaning}
-use Rattle.vms_check_laws.proofs.Facade.{no_meaning, item_cells, names_well, nobody, is_one, ItemBelow, Entry, position_from, same_place, is_covered, Comparer}
-use Rattle.vms_check_laws.proofs.Facade.{no_comparer, Carrier, no_carrier, Holds, FitsAt, Carries}
-use Rattle.vms_check_laws.proofs.Presence.{NamedRest, covers_unused}
-use Rattle.vms_check_laws.proofs.Pairing.{cells_in}
+-- What is known of fields and structures on both sides: present fields paired by position, numbers that fit cells, and premises.
+use Rattle.vms_check_laws.proofs.Facade.{◌≡◌, ◌⊎◌, inl, inr, ℕ, Bool, true, List, ◌∷◌, Option, None, and_parts, Item, Desc, counted, in_field, Part, Entry}
+use Rattle.vms_check_laws.proofs.Facade.{same_rest, same_count, same_item, same_constant, is_covered, holds_as_much, absent_hold, bound, Comparer, failing_pair}
+use Rattle.vms_check_laws.proofs.Facade.{pair_rules, pair_structs, compare_fields, passes, ItemBelow, or_else_none, [], names_match, ◌&&◌, zero, suc, ◌+◌, ◌<◌}
+use Rattle.vms_check_laws.proofs.Facade.{◌++◌, length, get_or, refl, arith, ℤ, pos, Cell, no_cell, times, defaults, FitsCell, cells_in, ◌≤◌, Some, Equal}
+use Rattle.vms_check_laws.proofs.Facade.{Unused, Count, Counted, Formula, Field, Meaning, no_meaning, item_cells, names_well, nobody, is_one, no_comparer}
+use Rattle.vms_check_laws.proofs.Facade.{Carrier, no_carrier, Holds, FitsAt, Carries, Aligns, FieldsBelow, Slot, is_earlier_in, slice_get, Num, Filler, Fixed}
+use Rattle.vms_check_laws.proofs.Facade.{Kind, One, ap, cells_from, elements_of, entry_of, eqb-true, field_cells, here, if◌then◌else◌, is_there, item_slots}
+use Rattle.vms_check_laws.proofs.Facade.{kind_of, no_parent, presence, present_from, residue, same_kind, slots_from, sym, width, zeroed, ◌*◌, ◌∙◌, ◌==◌, U8}
+use Rattle.vms_check_laws.proofs.Facade.{U16, U32, U64, I8, I16, I32, I64, Timer, no_field, field_slots, place_of, kind_number, get_or_from_slice_get}
+use Rattle.vms_spec.specs.Images.{FitCells as AreFit}
+use Rattle.vms_kinds.specs.declared.Kind.TheVariants.{Bool as Truth}
+use Rattle.vms_check_laws.proofs.Positioned.{if_is}
+use Rattle.vms_check_laws.proofs.Presence.{NamedRest, covers_unused, constant_length, numbers_length, presence_there}
 use Rattle.vms_check_laws.proofs.PairLists.{Settled}
+use Rattle.vms_check_laws.proofs.Segments.{fits_at, fits_left, fits_right, one_on, at_first, from_zero}
 
-later_new : (j p q : ℕ) (fs : List Entry) → p < q → same_place (Some p) (position_from q fs j) ≡ true → ⊥
-later_new j p q [] lt h = absurd (cc)
-later_new j p q (f ∷ fs) lt h =
-    let choice : (c : Bool) → same_place (Some p) (if c then Some q else position_from (suc q) fs j) ≡ true → ⊥ = elim [
-      | true ↦ λ k. let e : p ≡ q = eqb-true p q k in absurd (omega arith)
-      | false ↦ λ k. later_new j p (suc q) fs (omega arith) k
-    ] in
-    choice (f.index == j) h
+-- two descriptions at their versions, by the rules of their structures: which parts they are, and where their numbers are among the fields
+pub record Two : Type 0 where
+  pub ks : List Comparer
+  pub a : Desc
+  pub b : Desc
+  pub v : ℕ
+  pub w : ℕ
+  pub part : Part
+  pub part' : Part
+  pub o : ℕ → Option ℕ
+  pub n : ℕ → Option ℕ
 
-later_old : (i p q : ℕ) (es : List Entry) → p < q → same_place (position_from q es i) (Some p) ≡ true → ⊥
-later_old i p q [] lt h = absurd (cc)
-later_old i p q (e ∷ es) lt h =
-    let choice : (c : Bool) → same_place (if c then Some q else position_from (suc q) es i) (Some p) ≡ true → ⊥ = elim [
-      | true ↦ λ k. let e : q ≡ p = eqb-true q p k in absurd (omega arith)
-      | false ↦ λ k. later_old i p (suc q) es (omega arith) k
-    ] in
-    choice (e.index == i) h
+module _ (two : Two) where
+  open two use {ks, a, b, v, w, part, part', o, n}
 
--- two at one position are the first of both sides, or later ones
-pub at_or_later : (i j p : ℕ) (e f : Entry) (es fs : List Entry) → same_place (position_from p (e ∷ es) i) (position_from p (f ∷ fs) j) ≡ true
-    → ((e.index ≡ i) × (f.index ≡ j)) ⊎ (((f.index == j) ≡ false) × (same_place (position_from (suc p) es i) (position_from (suc p) fs j) ≡ true))
-at_or_later i j p e f es fs h = by _ _ refl refl h where
-  by : (c d : Bool) → (e.index == i) ≡ c → (f.index == j) ≡ d
-      → same_place (if c then Some p else position_from (suc p) es i) (if d then Some p else position_from (suc p) fs j) ≡ true
-      → ((e.index ≡ i) × (f.index ≡ j)) ⊎ (((f.index == j) ≡ false) × (same_place (position_from (suc p) es i) (position_from (suc p) fs j) ≡ true))
-  by true true x y k = inl (eqb-true e.index i x, eqb-true f.index j y)
-  by true false x y k = absurd (later_new j p (suc p) fs (omega arith) k)
-  by false true x y k = absurd (later_old i p (suc p) es (omega arith) k)
-  by false false x y k = inr (y, k)
+  pub record PairGood (e f : Entry) : Type 0 where
+    pub rules : failing_pair (pair_rules ks a b v w part part' o n e f) (in_field part e.index) (in_field part' f.index) ≡ None
+    pub structs : pair_structs ks a b v w part part' o n e.field.item f.field.item ≡ None
+
+  -- two items that may be paired
+  pub record Pairs (below below' : ℕ) (i j : Item) : Type 0 where
+    pub same : same_item i j ≡ true
+    pub structs : pair_structs ks a b v w part part' o n i j ≡ None
+    pub low : ItemBelow below i
+    pub low' : ItemBelow below' j
+
+  abbrev pub Zip : List Entry → List Entry → Type 0
+  Zip [] [] = Unit {0}
+  Zip (e ∷ es) (f ∷ fs) = PairGood e f × Zip es fs
+  Zip _ _ = ⊥
+
+  pub zip_of : (es fs : List Entry) → compare_fields ks a b v w part part' o n es fs ≡ None → Zip es fs
+  zip_of [] [] h = tt
+  zip_of (e ∷ es) [] h = cc
+  zip_of [] (f ∷ fs) h = cc
+  zip_of (e ∷ es) (f ∷ fs) h =
+      let p = or_else_none _ _ h in
+      let q = or_else_none _ _ p.1 in
+      (record { rules = p.0; structs = q.0 }, zip_of es fs q.1)
+
+  -- new's unused bytes over old's constant or numbers, or rules 7 to 12
+  pub record Matched (e f : Entry) : Type 0 where
+    pub count : same_count o n e.field.count f.field.count ≡ true
+    pub item : same_item e.field.item f.field.item ≡ true
+    pub rest : same_rest o n e.rest f.rest ≡ true
+    pub room : holds_as_much e.field.count f.field.count ≡ true
+    pub absent : absent_hold w f.index (bound e.field.item (counted e.index a.fields)) b.fields ≡ true
+    pub constant : same_constant e.field.item f.field.item ≡ true
+
+  pub record CoveredBy (e f : Entry) : Type 0 where
+    pub covers : is_covered e.field.item e.field.count f.field.item ≡ true
+    pub rest : same_rest o n e.rest f.rest ≡ true
+
+  pub decoded : (e f : Entry) → PairGood e f → CoveredBy e f ⊎ Matched e f
+  decoded e f g =
+      let p = in_field part e.index in
+      let q = in_field part' f.index in
+      let room = holds_as_much e.field.count f.field.count in
+      let absent = absent_hold w f.index (bound e.field.item (counted e.index a.fields)) b.fields in
+      elim (if_is (λ (r : List (ℕ × Bool)). failing_pair r p q) (is_covered e.field.item e.field.count f.field.item) _ _ g.rules) [
+        | inl c ↦ inl (record { covers = c.0; rest = (passes 9 (same_rest o n e.rest f.rest) [] p q c.1).0 })
+        | inr m ↦
+            let r7 = passes 7 (same_count o n e.field.count f.field.count) _ p q m.1 in
+            let r8 = passes 8 (same_item e.field.item f.field.item) _ p q r7.1 in
+            let r9 = passes 9 (same_rest o n e.rest f.rest) _ p q r8.1 in
+            let r10 = passes 10 (names_match e.field f.field) _ p q r9.1 in
+            let r11 = passes 11 (room && absent) _ p q r10.1 in
+            let r12 = passes 12 (same_constant e.field.item f.field.item) [] p q r11.1 in
+            let both = and_parts room absent r11.0 in
+            inr (record { count = r7.0; item = r8.0; rest = r9.0; room = both.0; absent = both.1; constant = r12.0 })
+      ]
+
+-- ---- numbers that fit cells, one by one
+
+abbrev pub FitCells : List Cell → List ℤ → Type 0
+FitCells [] [] = Unit {0}
+FitCells [] (z ∷ zs) = ⊥
+FitCells (x ∷ xs) [] = ⊥
+FitCells (x ∷ xs) (z ∷ zs) = FitsCell x z × FitCells xs zs
+
+pub fit_length : (xs : List Cell) (zs : List ℤ) → FitCells xs zs → length zs ≡ length xs
+fit_length [] [] h = refl
+fit_length [] (z ∷ zs) h = absurd h
+fit_length (x ∷ xs) [] h = absurd h
+fit_length (x ∷ xs) (z ∷ zs) h = rw (fit_length xs zs h.1)
+
+fit_each : (xs : List Cell) (zs : List ℤ) → FitCells xs zs → (c : ℕ) → c < length xs → FitsCell (get_or xs c no_cell) (get_or zs c (pos 0))
+fit_each [] zs h c lt = absurd (omega arith)
+fit_each (x ∷ xs) [] h c lt = absurd h
+fit_each (x ∷ xs) (z ∷ zs) h zero lt = h.0
+fit_each (x ∷ xs) (z ∷ zs) h (suc c) lt = fit_each xs zs h.1 c (omega arith)
+
+pub are_fit : (xs : List Cell) (zs : List ℤ) → FitCells xs zs → AreFit xs zs
+are_fit xs zs h = record { long = fit_length xs zs h; fits = λ c lt. fit_each xs zs h c lt }
+
+pub fit_append : (xs ys : List Cell) (zs us : List ℤ) → FitCells xs zs → FitCells ys us → FitCells (xs ++ ys) (zs ++ us)
+fit_append [] ys [] us h k = k
+fit_append [] ys (z ∷ zs) us h k = absurd h
+fit_append (x ∷ xs) ys [] us h k = absurd h
+fit_append (x ∷ xs) ys (z ∷ zs) us h k = (h.0, fit_append xs ys zs us h.1 k)
+
+-- the default of each cell fits it
+abbrev pub GoodCells : List Cell → Type 0
+GoodCells [] = Unit {0}
+GoodCells (c ∷ cells) = FitsCell c c.default × GoodCells cells
+
+pub fit_defaults : (cells : List Cell) → GoodCells cells → FitCells cells (defaults cells)
+fit_defaults [] h = tt
+fit_defaults (c ∷ cells) h = (h.0, fit_defaults cells h.1)
+
+pub good_append : (xs ys : List Cell) → GoodCells xs → GoodCells ys → GoodCells (xs ++ ys)
+good_append [] ys h k = k
+good_append (x ∷ xs) ys h k = (h.0, good_append xs ys h.1 k)
+
+pub good_times : (n : ℕ) (xs : List Cell) (at step : ℕ) → GoodCells xs → GoodCells (times n (λ _. xs) at step)
+good_times zero xs at step h = tt
+good_times (suc n) xs at step h = good_append xs _ h (good_times n xs (at + step) step h)
+
+-- ---- what fields and structures on both sides need
 
 pub covered_empty : (y : List (List Cell)) (i : Item) (c : Count) (j : Item) → is_covered i c j ≡ true → length (item_cells y j [] (pos 0)) ≡ 0
 covered_empty y i c j covers = rw (covers_unused i c j covers).1
@@ -45,16 +143,38 @@ pub by_less : (P : ℕ → Type 0) → ((k : ℕ) → ((j : ℕ) → j < k → P
 by_less P step zero j lt = absurd (omega arith)
 by_less P step (suc k) j lt = step j (λ i less. by_less P step k i (omega arith))
 
+-- what the newer set reads of slots of the older one, from cell y on: their bytes, and its defaults where they aren't in the bytes
+pub record Reads (numbers numbers' : List ℤ) (xs ys : List Slot) (y : ℕ) (cells : List Cell) (segment : List ℤ) : Type 0 where
+  pub carries : Carries numbers xs numbers' ys
+  pub settled : Settled ys y cells segment
+
+-- what is known of two descriptions at which no rule fails: the older one's slots, the newer one's from each cell on, and what is carried
+pub record Meets (numbers numbers' : List ℤ) (xs : List Slot) (ys : ℕ → List Slot) (cells : List Cell) (segment : List ℤ) : Type 0 where
+  pub fits : FitCells cells segment
+  pub aligned : (y : ℕ) → Aligns numbers xs numbers' (ys y)
+  pub reads : (y : ℕ) → Holds numbers' y segment → Reads numbers numbers' xs (ys y) y cells segment
+
 -- what is known of the structures below a number: their cells, slots, comparers and carriers
 pub record Table (ks : List Comparer) (cs : List Carrier) (ms ns : List Meaning) (numbers numbers' : List ℤ) (below below' : ℕ) : Type 0 where
   pub sized : (j i k : ℕ) → j < below' → length (get_or cs j no_carrier i numbers k) ≡ length (get_or (cells_in ns) j [])
-  pub carried : (i j : ℕ) → i < below → j < below' → get_or ks j no_comparer i ≡ None → (x y : ℕ) → FitsAt (get_or (cells_in ms) i []) numbers x
-      → Holds numbers' y (get_or cs j no_carrier i numbers x)
-      → Carries numbers ((get_or ms i no_meaning).slots numbers x) numbers' ((get_or ns j no_meaning).slots numbers' y)
-  -- what isn't in the bytes is at its default
-  pub settled : (i j : ℕ) → i < below → j < below' → get_or ks j no_comparer i ≡ None → (x y : ℕ) → FitsAt (get_or (cells_in ms) i []) numbers x
-      → Holds numbers' y (get_or cs j no_carrier i numbers x)
-      → Settled ((get_or ns j no_meaning).slots numbers' y) y (get_or (cells_in ns) j []) (get_or cs j no_carrier i numbers x)
+  pub good : (j : ℕ) → j < below' → GoodCells (get_or (cells_in ns) j [])
+  pub meets : (i j : ℕ) → i < below → j < below' → get_or ks j no_comparer i ≡ None → (x : ℕ) → FitsAt (get_or (cells_in ms) i []) numbers x
+      → Meets numbers numbers' ((get_or ms i no_meaning).slots numbers x) (λ y. (get_or ns j no_meaning).slots numbers' y) (get_or (cells_in ns) j [])
+      (get_or cs j no_carrier i numbers x)
+
+-- both sides with their numbers: the older's from `at` on, and the newer's from `at'` on
+pub record Sides : Type 0 where
+  pub two : Two
+  pub cs : List Carrier
+  pub ms : List Meaning
+  pub ns : List Meaning
+  pub numbers : List ℤ
+  pub numbers' : List ℤ
+  pub at : ℕ
+  pub at' : ℕ
+  pub below : ℕ
+  pub below' : ℕ
+  pub table : Table two.ks cs ms ns numbers numbers' below below'
 
 -- constants and unused bytes are single
 abbrev pub IsSingle : Item → Count → Type 0
@@ -88,9 +208,129 @@ RulesNamed ok [] = Unit {0}
 RulesNamed ok (t ∷ ts) = (names_well ok nobody t ≡ true) × RulesNamed ok ts
 
 abbrev pub OldFields : ℕ → (ℕ → ℕ) → List Field → Type 0
-OldFields below own [] = Unit {0}
-OldFields below own (f ∷ fs) = OldGood below own f × OldFields below own fs
+OldFields below own fs = (j : ℕ) (f : Field) → slice_get fs j ≡ Some f → OldGood below own f
 
 abbrev pub NewFields : ℕ → (ℕ → Bool) → List Field → Type 0
-NewFields below ok [] = Unit {0}
-NewFields below ok (f ∷ fs) = NewGood below ok f × NewFields below ok fs
+NewFields below ok fs = (j : ℕ) (f : Field) → slice_get fs j ≡ Some f → NewGood below ok f
+
+-- each field names only earlier ones
+abbrev pub NamesEarlier : ℕ → Desc → Type 0
+NamesEarlier below b = (j : ℕ) (f : Field) → slice_get b.fields j ≡ Some f → NewGood below (is_earlier_in b j) f
+
+pub fields_below : (k : ℕ) (fs : List Field) → ((j : ℕ) (f : Field) → slice_get fs j ≡ Some f → ItemBelow k f.item) → FieldsBelow k fs
+fields_below k [] h = tt
+fields_below k (f ∷ fs) h = (h 0 f refl, fields_below k fs (λ j g e. h (suc j) g e))
+
+-- defaults are in range, and within what they count
+abbrev pub ItemDefault : Item → List ℕ → ℤ → Type 0
+ItemDefault (Num kind) caps d = FitsCell (record { kind = kind; capacities = caps; default = d }) d
+ItemDefault _ caps d = Unit {0}
+
+abbrev pub DefaultsGood : List Field → ℕ → List Field → Type 0
+DefaultsGood all i [] = Unit {0}
+DefaultsGood all i (f ∷ fs) = ItemDefault f.item (counted i all) f.default × DefaultsGood all (suc i) fs
+
+-- what is covered is one filler, as long as the slots that it covers
+module _ (ms ns : List Meaning) (numbers numbers' : List ℤ) (own own' : ℕ → ℕ) where
+  pub covered_slots : (i : Item) (c : Count) (j : Item) (d : Count) (caps caps' : List ℕ) (x y step step' : ℕ) → is_covered i c j ≡ true → IsSingle i c
+      → IsSingle j d → (r : ℕ) × (times (elements_of d own') (item_slots ns j caps' numbers') y step' ≡ Filler r ∷ [])
+      × (length (zeroed numbers (times (elements_of c own) (item_slots ms i caps numbers) x step)) ≡ r)
+  covered_slots (Equal k z) One (Unused r) One caps caps' x y step step' covers single single' =
+      (r, refl, constant_length numbers k z ∙ eqb-true (width k) r covers)
+  covered_slots (Num k) One (Unused r) One caps caps' x y step step' covers single single' =
+      (r, refl, numbers_length numbers k caps 1 x step ∙ omega (arith, eqb-true (width k) r covers))
+  covered_slots (Num k) (Fixed p) (Unused r) One caps caps' x y step step' covers single single' =
+      (r, refl, numbers_length numbers k caps p x step ∙ eqb-true (p * width k) r covers)
+  covered_slots _ _ _ _ caps caps' x y step step' covers single single' = absurd (cc)
+
+-- ---- the present fields of a description: their slots, and what is known of each
+
+unfoldable kind_at : ℕ → Kind
+kind_at k =
+    if k == 0 then U8 else if k == 1 then U16 else if k == 2 then U32 else if k == 3 then U64 else if k == 4 then I8 else if k == 5 then I16
+    else if k == 6 then I32 else if k == 7 then I64 else if k == 8 then Truth else Timer
+
+kind_back : (k : Kind) → kind_at (kind_number k) ≡ k
+unfolding kind_at
+kind_back U8 = refl
+kind_back _ = refl
+
+pub kinds_same : (k l : Kind) → same_kind k l ≡ true → k ≡ l
+kinds_same k l h = sym (kind_back k) ∙ ap kind_at (eqb-true (kind_number k) (kind_number l) h) ∙ kind_back l
+
+-- ---- slots by entries
+
+module _ (structs : List Meaning) (all : List Field) (v : ℕ) (own : ℕ → ℕ) (numbers : List ℤ) (base : ℕ) where
+  -- those of field i, whose cells begin p after the first
+  abbrev pub slots_at : ℕ → ℕ → Field → List Slot
+  slots_at i p f = field_slots structs all v own numbers i (base + p) f
+
+  abbrev pub entries_slots : List Entry → List Slot
+  entries_slots [] = []
+  entries_slots (e ∷ es) = slots_at e.index e.place e.field ++ entries_slots es
+
+  entry_slots : (i p : ℕ) (f : Field) (pr : Option (Option Formula)) (es : List Entry) → presence v f.test f.since ≡ pr
+      → slots_at i p f ++ entries_slots es ≡ entries_slots (entry_of i p f pr ++ es)
+  entry_slots i p f None es h = rw (presence_there f.test f.since v own no_parent, h)
+  entry_slots i p f (Some rest) es h = refl
+
+  pub slots_entries : (i p : ℕ) (fs : List Field)
+      → slots_from structs all v own numbers i (base + p) fs ≡ entries_slots (present_from (cells_in structs) all v i p fs)
+  slots_entries i p [] = refl
+  slots_entries i p (f ∷ fs) =
+      let len = length (field_cells (cells_in structs) all i f) in
+      let e : (base + p) + len ≡ base + (p + len) = omega arith in
+      rw (e, slots_entries (suc i) (p + len) fs) (entry_slots i p f _ _ refl)
+
+-- ---- what is known of entries
+
+module _ (structs : List Meaning) (all : List Field) (v : ℕ) (numbers : List ℤ) (base : ℕ) where
+  abbrev Whole : Type 0
+  Whole = FitsAt (cells_from (cells_in structs) all 0 all) numbers base
+
+  abbrev place : ℕ → ℕ
+  place k = place_of (cells_in structs) all 0 base all k
+
+  abbrev pub own_of : ℕ → ℕ
+  own_of k = residue (width (kind_of (get_or all k no_field).item)) (get_or numbers (place k) (pos 0))
+
+  pub record IsKnown (e : Entry) : Type 0 where
+    pub field : slice_get all e.index ≡ Some e.field
+    pub number : own_of e.index ≡ residue (width (kind_of e.field.item)) (get_or numbers (base + e.place) (pos 0))
+    pub left : presence v e.field.test e.field.since ≡ Some e.rest
+    pub fits : Whole → FitsAt (field_cells (cells_in structs) all e.index e.field) numbers (base + e.place)
+
+  -- a field of which nothing of the test is left is there
+  pub known_there : (e : Entry) → IsKnown e → e.rest ≡ None → (own parent : ℕ → ℕ) → is_there e.field.test e.field.since v own parent ≡ true
+  known_there e known plain own parent = presence_there e.field.test e.field.since v own parent ∙ rw (known.left, plain)
+
+  abbrev pub AreKnown : List Entry → Type 0
+  AreKnown [] = Unit {0}
+  AreKnown (e ∷ es) = IsKnown e × AreKnown es
+
+  own_is : (i p : ℕ) (f : Field) → slice_get all i ≡ Some f → place i ≡ base + p
+      → own_of i ≡ residue (width (kind_of f.item)) (get_or numbers (base + p) (pos 0))
+  own_is i p f h e = rw (get_or_from_slice_get all i f no_field h, e)
+
+  entry_known : (i p : ℕ) (f : Field) (pr : Option (Option Formula)) (es : List Entry) → presence v f.test f.since ≡ pr → slice_get all i ≡ Some f
+      → place i ≡ base + p → (Whole → FitsAt (field_cells (cells_in structs) all i f) numbers (base + p)) → AreKnown es → AreKnown (entry_of i p f pr ++ es)
+  entry_known i p f None es h field here fits known = known
+  entry_known i p f (Some rest) es h field here fits known = (record { field = field; number = own_is i p f field here; left = h; fits = fits }, known)
+
+  pub entries_known : (i p : ℕ) (fs : List Field) → ((k : ℕ) → slice_get all (i + k) ≡ slice_get fs k)
+      → ((k : ℕ) → place (i + k) ≡ place_of (cells_in structs) all i (base + p) fs k)
+      → (Whole → FitsAt (cells_from (cells_in structs) all i fs) numbers (base + p)) → AreKnown (present_from (cells_in structs) all v i p fs)
+  entries_known i p [] items places fits = tt
+  entries_known i p (f ∷ fs) items places fits =
+      let len = length (field_cells (cells_in structs) all i f) in
+      let e : (base + p) + len ≡ base + (p + len) = omega arith in
+      entry_known i p f _ _ refl (at_first (slice_get all) i items) (at_first place i places) (λ whole. fits_left _ (fits whole))
+      (entries_known (suc i) (p + len) fs (one_on (slice_get all) i items)
+      (λ k. one_on place i places k ∙ ap (λ (j : ℕ). place_of (cells_in structs) all (suc i) j fs k) e)
+      (λ whole. fits_at (omega arith) (fits_right (field_cells (cells_in structs) all i f) (fits whole))))
+
+  pub all_known : AreKnown (present_from (cells_in structs) all v 0 0 all)
+  all_known =
+      let z : base ≡ base + 0 = omega arith in
+      entries_known 0 0 all
+      (from_zero (slice_get all)) (λ k. from_zero place k ∙ ap (λ (j : ℕ). place_of (cells_in structs) all 0 j all k) z) (λ whole. fits_at z whole)

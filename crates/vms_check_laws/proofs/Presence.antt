@@ -1,11 +1,12 @@
 -- A field is there exactly where what its presence at a version leaves of the test holds. The same remaining tests have the same truth
 -- where the numbers that they name are the same. Small facts of two descriptions: what covers, and how long numbers are.
 use Rattle.vms_check_laws.proofs.Facade.{◌≡◌, ℕ, Bool, true, false, Option, Some, None, refl, sym, ◌∙◌, nat_le, if◌then◌else◌, Formula, truth, is_there}
-use Rattle.vms_check_laws.proofs.Facade.{Reduced, Known, Open, reduced, left_of, presence, truth_of, reduced_holds, not, ◌&&◌, ◌||◌, ◌==◌, ap, subst, bit_and}
-use Rattle.vms_check_laws.proofs.Facade.{and_parts, eqb-true, and_from, Rel, Eq, Ne, Lt, Ge, Own, Not, And, Or, compares, names_well, nobody, same_place}
-use Rattle.vms_check_laws.proofs.Facade.{same_test, same_rest, same_reduced, rel_number, IfOpen, IsByParts, open_reduced, zero, suc, ◌+◌, ◌*◌, List, ◌∷◌, ◌++◌}
-use Rattle.vms_check_laws.proofs.Facade.{length, get_or, arith, ℤ, pos, [], length-append, Kind, Item, Num, Equal, Unused, width, code, Count, One, Fixed}
-use Rattle.vms_check_laws.proofs.Facade.{Field, Number, Constant, times, zeroed, is_steady, is_num, is_one, has_no_test, length-code, is_covered, Holds}
+use Rattle.vms_check_laws.proofs.Facade.{Reduced, Known, Open, reduced, left_of, presence, truth_of, reduced_holds, not, ◌&&◌, ◌||◌, ◌==◌, bit_and, and_parts}
+use Rattle.vms_check_laws.proofs.Facade.{eqb-true, and_from, Rel, Eq, Ne, Lt, Ge, Own, Not, And, Or, compares, names_well, nobody, same_place, same_test}
+use Rattle.vms_check_laws.proofs.Facade.{same_rest, same_reduced, rel_number, IfOpen, IsByParts, open_reduced, zero, suc, ◌+◌, ◌*◌, List, ◌∷◌, ◌++◌, length}
+use Rattle.vms_check_laws.proofs.Facade.{get_or, arith, ℤ, pos, length-append, Kind, Item, Num, Equal, Unused, width, code, Count, One, Fixed, Field, Number}
+use Rattle.vms_check_laws.proofs.Facade.{Constant, times, zeroed, is_steady, is_num, is_one, has_no_test, length-code, is_covered, Holds, Filler}
+use Rattle.vms_check_laws.proofs.Facade.{length-replicate, replicate, ap, []}
 use Rattle.vms_spec.specs.Sets.{Cell}
 
 -- presence at a version, and then the remaining test, say whether a field is there
@@ -138,6 +139,9 @@ numbers_length numbers kind caps (suc n) at step =
 
 pub constant_length : (numbers : List ℤ) (kind : Kind) (z : ℤ) → length (zeroed numbers (Constant kind z ∷ [])) ≡ width kind
 constant_length numbers kind z = length-append (code kind z) [] ∙ ap (λ (k : ℕ). k + 0) (length-code kind z) ∙ omega arith
+
+pub filler_length : (numbers : List ℤ) (n : ℕ) → length (zeroed numbers (Filler n ∷ [])) ≡ n
+filler_length numbers n = length-append (replicate n 0) [] ∙ ap (λ (k : ℕ). k + 0) (length-replicate n 0) ∙ omega arith
 
 -- a field that tests and counts may name
 pub record Steady (f : Field) : Type 0 where

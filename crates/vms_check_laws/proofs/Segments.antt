@@ -1,9 +1,13 @@
 -- Segments of numbers, and slots of one side whose bytes are those of the other's. Bytes of both sides at one front: if slots of the
 -- newer set are at the front of what the older set wrote, they take exactly the bytes that it wrote for its own slots.
-use Rattle.vms_check_laws.proofs.Facade.{◌≡◌, ℕ, suc, ◌+◌, List, ◌∷◌, ◌++◌, length, get_or, Bool, IsTrue, refl, sym, ◌∙◌, arith, append_assoc, ℤ, pos, []}
-use Rattle.vms_check_laws.proofs.Facade.{length-append, get_or_append_left, get_or-append-add, append-nil, Kind, Cell, no_cell, Slot, Number, Constant, Filler}
-use Rattle.vms_check_laws.proofs.Facade.{Rule, zeroed, RulesHold, Holds, FitsAt, Carries, rules_append, spells_append, ap, big_number, width, residue, code}
-use Rattle.vms_check_laws.proofs.Facade.{Spells, length-code, code_read, Aligns}
+use Rattle.vms_check_laws.proofs.Facade.{◌≡◌, ℕ, suc, ◌+◌, List, ◌∷◌, ◌++◌, length, get_or, Bool, IsTrue, refl, ◌∙◌, arith, append_assoc, ℤ, pos, length-append}
+use Rattle.vms_check_laws.proofs.Facade.{get_or_append_left, get_or-append-add, append-nil, Kind, Cell, no_cell, Slot, Number, Constant, Filler, Rule, zeroed}
+use Rattle.vms_check_laws.proofs.Facade.{Holds, FitsAt, Carries, rules_append, spells_append, ap, big_number, width, residue, code, Spells, length-code}
+use Rattle.vms_check_laws.proofs.Facade.{code_read, Aligns, sym, [], slice_get, rules_split}
+
+-- the elements from a place on
+abbrev pub RestAt : {A : Type 0} → List A → ℕ → List A → Type 0
+RestAt xs j ys = (m : ℕ) → slice_get xs (j + m) ≡ slice_get ys m
 
 -- values from a place on
 pub at_first : {A : Type 0} (f : ℕ → A) (j : ℕ) {g : ℕ → A} → ((m : ℕ) → f (j + m) ≡ g m) → f j ≡ g 0
@@ -52,23 +56,13 @@ zeroed_append numbers [] b = refl
 zeroed_append numbers (Rule r ∷ a) b = zeroed_append numbers a b
 zeroed_append numbers (_ ∷ a) b = rw (zeroed_append numbers a b, append_assoc)
 
-pub rules_left : (a b : List Slot) → RulesHold (a ++ b) → RulesHold a
-rules_left [] b h = tt
-rules_left (Rule r ∷ a) b h = (h.0, rules_left a b h.1)
-rules_left (_ ∷ a) b h = rules_left a b h
-
-pub rules_right : (a b : List Slot) → RulesHold (a ++ b) → RulesHold b
-rules_right [] b h = h
-rules_right (Rule r ∷ a) b h = rules_right a b h.1
-rules_right (_ ∷ a) b h = rules_right a b h
-
 pub carries_nil : {x y : List ℤ} → Carries x [] y []
 carries_nil = record { spells = refl; rules = λ h. h }
 
 pub carries_append : {x y : List ℤ} {a b c d : List Slot} → Carries x a y b → Carries x c y d → Carries x (a ++ c) y (b ++ d)
 carries_append {x = x} {y = y} {a = a} {b = b} {c = c} {d = d} h k = record {
   spells = rw zeroed_append (spells_append y b d _ _ h.spells k.spells);
-  rules = λ r. rules_append b d (h.rules (rules_left a c r)) (k.rules (rules_right a c r));
+  rules = λ r. let s = rules_split a c r in rules_append b d (h.rules s.0) (k.rules s.1);
 }
 
 pub carries_number : (x y : List ℤ) (c d : ℕ) (k l : Kind) (p q : List ℕ) → k ≡ l → get_or x c (pos 0) ≡ get_or y d (pos 0)

@@ -1,18 +1,17 @@
 -- What the older set writes is a stream of the newer, with the carried images: each device's section is one of the newer set's, and the
 -- order takes each device once.
-use Rattle.vms_check_laws.proofs.Facade.{◌≡◌, ℕ, suc, ◌+◌, Bool, true, false, ◌&&◌, ◌==◌, List, ◌∷◌, Option, Some, None, refl, ap, ◌∙◌, subst, arith}
-use Rattle.vms_check_laws.proofs.Facade.{if◌then◌else◌, [], slice_get, bytes_eq, bytes_eq-Decides, and_parts, eqb-true, first_answer, Device, Set, find_device}
-use Rattle.vms_check_laws.proofs.Facade.{index, WellFormed, here, Mismatch, failing_pair, compare_device, paired_device, is_found, is_in, passes, device_found}
-use Rattle.vms_check_laws.proofs.Facade.{inl, inr, zero, ◌<◌, ◌≤◌, length, map, get_or, sym, list_all, Image, HasSection, SectionsSpell, IsReady, EachOnce}
-use Rattle.vms_check_laws.proofs.Facade.{is_one_of, written_section, written_sections, is_version_of, Compatible, first_mismatch, comparing, compare_subs}
-use Rattle.vms_check_laws.proofs.Facade.{carried, carried_device, carried_at, no_image, ArePaired, DeviceLaw, or_else_none, IfSome, length-map, IsStream}
-use Rattle.vms_check_laws.proofs.Facade.{IsConfiguration, configuration, trailer, optional, longest_text, written, AreReady, every_one, machine_short}
-use Rattle.vms_check_laws.proofs.Facade.{few_devices, UpgradeLaw, trailed}
-use Rattle.vms_check_laws.proofs.SubFacts.{none_at, saved}
-use Rattle.vms_check_laws.proofs.Segments.{one_on, at_first, from_zero}
-use Rattle.vms_check_laws.proofs.Orders.{Among, NotIn, Apart, Wait, each_comes, found_same}
-use Rattle.vms_check_laws.proofs.Wholes.{section_whole, at_map}
+use Rattle.vms_check_laws.proofs.Facade.{◌≡◌, ℕ, suc, ◌+◌, Bool, true, false, ◌&&◌, ◌==◌, List, ◌∷◌, Option, Some, None, refl, ◌∙◌, subst, arith, if◌then◌else◌}
+use Rattle.vms_check_laws.proofs.Facade.{slice_get, bytes_eq, bytes_eq-Decides, and_parts, eqb-true, first_answer, Device, Set, find_device, index, WellFormed}
+use Rattle.vms_check_laws.proofs.Facade.{here, Mismatch, failing_pair, compare_device, paired_device, is_found, is_in, passes, device_found, inr, zero, ◌<◌}
+use Rattle.vms_check_laws.proofs.Facade.{◌≤◌, length, map, get_or, list_all, Image, HasSection, SectionsSpell, IsReady, EachOnce, is_one_of, written_section}
+use Rattle.vms_check_laws.proofs.Facade.{written_sections, is_version_of, Compatible, first_mismatch, comparing, compare_subs, carried, carried_device}
+use Rattle.vms_check_laws.proofs.Facade.{carried_at, no_image, ArePaired, DeviceLaw, or_else_none, IfSome, length-map, IsStream, IsConfiguration, configuration}
+use Rattle.vms_check_laws.proofs.Facade.{trailer, optional, longest_text, written, AreReady, every_one, machine_short, few_devices, UpgradeLaw, trailed}
+use Rattle.vms_check_laws.proofs.Facade.{answers_none, ap, [], inl, sym}
 use Rattle.vms_spec.specs.declared.Part.TheVariants as parts
+use Rattle.vms_check_laws.proofs.SubFacts.{saved}
+use Rattle.vms_check_laws.proofs.Segments.{one_on, at_first, from_zero, RestAt}
+use Rattle.vms_check_laws.proofs.Wholes.{Among, NotIn, Apart, Wait, each_comes, found_same, section_whole, at_map, from_map}
 
 -- ---- devices by name and instance
 
@@ -26,8 +25,8 @@ pub found_device : (k : ℕ) (devices : List Device) (name : List ℕ) (instance
     → (j : ℕ) × (r ≡ k + j) × FoundDevice devices name instance j
 found_device k [] name instance r h = absurd (cc)
 found_device k (d ∷ devices) name instance r h =
-    let choice : (c : Bool) → (bytes_eq d.desc.name name && d.instance == instance) ≡ c → (if c then Some k else find_device
-    (suc k) devices name instance) ≡ Some r
+    let choice : (c : Bool) → (bytes_eq d.desc.name name && d.instance == instance) ≡ c → (if c then Some k else find_device (suc k) devices name instance)
+    ≡ Some r
     → (j : ℕ) × (r ≡ k + j) × FoundDevice (d ∷ devices) name instance j = elim [
       | true ↦ λ e g.
           let same : k ≡ r = cc in
@@ -63,7 +62,7 @@ module _ (old new : Set) (good_old : WellFormed old)
 
   pub pair : (i : ℕ) (d : Device) → slice_get old.devices i ≡ Some d → Pair i d
   pair i d e =
-      let h = none_at (λ i d. failing_pair ((2, is_in new d) ∷ []) (here (parts.Device i)) (here parts.Set)) 0 old.devices i d all_in e in
+      let h = answers_none _ 0 old.devices all_in i d e in
       let some_k = found_some _ ((passes 2 (is_in new d) [] (here (parts.Device (0 + i))) (here parts.Set) h).0) in
       let f = found_device 0 new.devices d.desc.name d.instance some_k.0 some_k.1 in
       let k_is : f.0 ≡ some_k.0 = omega arith in
@@ -84,11 +83,6 @@ module _ (old new : Set) (good_old : WellFormed old)
 
 -- ---- devices by name and instance
 
-from_map : {A B : Type 0} (f : A → B) (xs : List A) (j : ℕ) (y : B) → slice_get (map f xs) j ≡ Some y → (x : A) × (slice_get xs j ≡ Some x)
-from_map f [] j y e = absurd (cc)
-from_map f (x ∷ xs) zero y e = (x, refl)
-from_map f (x ∷ xs) (suc j) y e = from_map f xs j y e
-
 abbrev pub device_order : Set → List Device → List ℕ
 device_order new [] = []
 device_order new (d ∷ devices) = index (find_device 0 new.devices d.desc.name d.instance) ∷ device_order new devices
@@ -97,7 +91,8 @@ device_order new (d ∷ devices) = index (find_device 0 new.devices d.desc.name 
 pub device_stands : DeviceLaw
 device_stands old new good_old good_new i k d e paired image id saved lt =
     let p = or_else_none (failing_pair ((4, is_version_of e.desc d.desc.version) ∷ []) (here (parts.Device i)) (here (parts.Device k))) _ paired.rules in
-    let q = or_else_none (comparing old new d.desc e.desc d.desc.version (parts.Device i) (parts.Device k))
+    let q =
+    or_else_none (comparing old new d.desc e.desc d.desc.version (parts.Device i) (parts.Device k))
     (first_answer (compare_subs old new i k e) 0 d.subs) p.1 in
     section_whole old new good_old good_new i k d e paired.in_old paired.in_new q.1 image saved (parts.Device i) (parts.Device k) q.0
     ((passes 4 (is_version_of e.desc d.desc.version) [] (here (parts.Device i)) (here (parts.Device k)) p.0).0) paired.names paired.instances id lt
@@ -118,8 +113,7 @@ module _ (old new : Set) (good_old : WellFormed old) (good_new : WellFormed new)
       let r = or_else_none (first_answer (λ i d. failing_pair ((3, is_in old d) ∷ []) (here parts.Set) (here (parts.Device i))) 0 new.devices)
       (first_answer (λ i d. compared old new i d) 0 old.devices) q.1 in
       record {
-        machines = (passes 1 (list_all (is_one_of new.machines) old.machines) [] (here parts.Set)
-            (here parts.Set) p.0).0;
+        machines = (passes 1 (list_all (is_one_of new.machines) old.machines) [] (here parts.Set) (here parts.Set) p.0).0;
         olds = q.0;
         news = r.0;
         devices = r.1;
@@ -134,7 +128,7 @@ module _ (old new : Set) (good_old : WellFormed old) (good_new : WellFormed new)
       → compare_device old new i d (Some p.number) (Some p.device) ≡ None
   compared_none i d e p =
       let z : i ≡ 0 + i = omega arith in
-      sym p.compared_is ∙ ap (λ (n : ℕ). compared old new n d) z ∙ none_at (λ i d. compared old new i d) 0 old.devices i d rules.devices e
+      sym p.compared_is ∙ ap (λ (n : ℕ). compared old new n d) z ∙ answers_none (λ i d. compared old new i d) 0 old.devices rules.devices i d e
 
   -- ---- each of new's devices has one section
 
@@ -150,25 +144,14 @@ module _ (old new : Set) (good_old : WellFormed old) (good_new : WellFormed new)
   each_new k waits =
       let x = from_map (λ (d : Device). false) new.devices k false waits in
       let e = x.0 in
-      let h = none_at (λ i d. failing_pair ((3, is_in old d) ∷ []) (here parts.Set) (here (parts.Device i))) 0 new.devices k e rules.news x.1 in
+      let h = answers_none _ 0 new.devices rules.news k e x.1 in
       let is : is_found (find_device 0 old.devices e.desc.name e.instance) ≡ true =
       (passes 3 (is_in old e) [] (here parts.Set) (here (parts.Device (0 + k))) h).0 in
       let r = found_some _ is in
       let f = found_device 0 old.devices e.desc.name e.instance r.0 r.1 in
       let d = f.2.device in
-      let found : find_device 0 new.devices d.desc.name d.instance ≡ Some k =
-      ap (λ (n : List ℕ). find_device 0 new.devices n d.instance) f.2.name_is ∙ ap (λ (n : ℕ). find_device 0 new.devices e.desc.name n) f.2.instance_is
-      ∙ device_found new good_new k e x.1 in
+      let found : find_device 0 new.devices d.desc.name d.instance ≡ Some k = rw (f.2.name_is, f.2.instance_is) (device_found new good_new k e x.1) in
       order_has old.devices f.0 k d f.2.stands found
-
-  order_waits : (i : ℕ) (ds : List Device) → ((j : ℕ) → slice_get old.devices (i + j) ≡ slice_get ds j)
-      → Wait (map (λ (d : Device). false) new.devices) (device_order new ds)
-  order_waits i [] h = tt
-  order_waits i (d ∷ ds) h =
-      let p = pair old new good_old all_in i d (at_first (slice_get old.devices) i h) in (
-        rw (ap index p.found) (at_map (λ (d : Device). false) new.devices p.number p.device p.stands),
-        order_waits (suc i) ds (one_on (slice_get old.devices) i h),
-      )
 
   two_apart : (i i' : ℕ) (d d' : Device) → i < i' → slice_get old.devices i ≡ Some d → slice_get old.devices i' ≡ Some d'
       → index (find_device 0 new.devices d.desc.name d.instance) ≡ index (find_device 0 new.devices d'.desc.name d'.instance) → ⊥
@@ -180,24 +163,30 @@ module _ (old new : Set) (good_old : WellFormed old) (good_new : WellFormed new)
       absurd (omega arith)
 
   one_apart : (i i' : ℕ) (d : Device) (ds : List Device) → i < i' → slice_get old.devices i ≡ Some d
-      → ((j : ℕ) → slice_get old.devices (i' + j) ≡ slice_get ds j)
-      → NotIn (index (find_device 0 new.devices d.desc.name d.instance)) (device_order new ds)
+      → RestAt old.devices i' ds → NotIn (index (find_device 0 new.devices d.desc.name d.instance)) (device_order new ds)
   one_apart i i' d [] lt e h = tt
   one_apart i i' d (d' ∷ ds) lt e h = (
     λ same. two_apart i i' d d' lt e (at_first (slice_get old.devices) i' h) same,
     one_apart i (suc i') d ds (omega arith) e (one_on (slice_get old.devices) i' h),
   )
 
-  order_apart : (i : ℕ) (ds : List Device) → ((j : ℕ) → slice_get old.devices (i + j) ≡ slice_get ds j) → Apart (device_order new ds)
-  order_apart i [] h = tt
-  order_apart i (d ∷ ds) h =
-      let more : (j : ℕ) → slice_get old.devices (suc i + j) ≡ slice_get ds j = one_on (slice_get old.devices) i h in
-      (one_apart i (suc i) d ds (omega arith) (at_first (slice_get old.devices) i h) more, order_apart (suc i) ds more)
+  -- no device has come yet, and none comes twice
+  order_of : (i : ℕ) (ds : List Device) → RestAt old.devices i ds
+      → Wait (map (λ (d : Device). false) new.devices) (device_order new ds) × Apart (device_order new ds)
+  order_of i [] h = (tt, tt)
+  order_of i (d ∷ ds) h =
+      let at = at_first (slice_get old.devices) i h in
+      let p = pair old new good_old all_in i d at in
+      let rest : RestAt old.devices (suc i) ds = one_on (slice_get old.devices) i h in
+      let more = order_of (suc i) ds rest in (
+        (rw (ap index p.found) (at_map (λ (d : Device). false) new.devices p.number p.device p.stands), more.0),
+        (one_apart i (suc i) d ds (omega arith) at rest, more.1),
+      )
 
   pub each_once : EachOnce (map (λ (d : Device). false) new.devices) (device_order new old.devices)
   each_once =
-      let all : (j : ℕ) → slice_get old.devices (0 + j) ≡ slice_get old.devices j = from_zero (slice_get old.devices) in
-      each_comes _ _ (order_apart 0 old.devices all) (order_waits 0 old.devices all) each_new
+      let order = order_of 0 old.devices (from_zero (slice_get old.devices)) in
+      each_comes _ _ order.1 order.0 each_new
 
   module _ (images : List Image) where
     -- the image of new's device is old's of this name, carried
@@ -211,7 +200,7 @@ module _ (old new : Set) (good_old : WellFormed old) (good_new : WellFormed new)
         ∙ ap (λ (r : Option Device). Some (carried_at old new images p.device (Some i) r)) e
 
     -- each section of old, in old's order
-    pub spell : (i : ℕ) (ds : List Device) (ims : List Image) → length ims ≡ length ds → ((j : ℕ) → slice_get old.devices (i + j) ≡ slice_get ds j)
+    pub spell : (i : ℕ) (ds : List Device) (ims : List Image) → length ims ≡ length ds → RestAt old.devices i ds
         → ((j : ℕ) → get_or images (i + j) (no_image old new) ≡ get_or ims j (no_image old new))
         → ((j : ℕ) (d : Device) (image : Image) → slice_get ds j ≡ Some d → slice_get ims j ≡ Some image → IsReady old d image)
         → i + length ds ≤ 4294967296 → SectionsSpell new true (carried old new images) (device_order new ds) (written_sections old i ds ims)
@@ -229,14 +218,14 @@ module _ (old new : Set) (good_old : WellFormed old) (good_new : WellFormed new)
         let at_number : HasSection new true p.number (slice_get new.devices p.number) (slice_get (carried old new images) p.number) front =
         rw p.stands
         (rw image_is (i, device_stands old new good_old good_new i p.number d p.device paired im i (saved old d im (ready 0 d im refl refl)) (omega arith))) in
-        let here_section = subst (λ (k : ℕ). HasSection new true k (slice_get new.devices k) (slice_get (carried old new images) k) front)
+        let here_section =
+        subst (λ (k : ℕ). HasSection new true k (slice_get new.devices k) (slice_get (carried old new images) k) front)
         (sym (ap index p.found)) at_number in (
           front,
           (written_sections old (suc i) ds ims),
           here_section,
           spell (suc i) ds ims (omega arith)
-              (one_on (slice_get old.devices) i devices_are)
-              (one_on (λ k. get_or images k (no_image old new)) i images_are)
+              (one_on (slice_get old.devices) i devices_are) (one_on (λ k. get_or images k (no_image old new)) i images_are)
               (λ j. ready (suc j)) (omega arith),
           refl,
         )

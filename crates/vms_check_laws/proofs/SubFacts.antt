@@ -1,27 +1,15 @@
 -- What two well-formed sets without a mismatch give for each subsection of new.
-use Rattle.vms_check_laws.proofs.Facade.{◌≡◌, ◌⊎◌, inl, inr, ℕ, zero, suc, ◌+◌, ◌≤◌, true, List, ◌∷◌, length, get_or, Option, Some, None, refl, sym, ap, ◌∙◌}
-use Rattle.vms_check_laws.proofs.Facade.{subst, arith, ℤ, pos, nat_le, [], flat_map, slice_get, and_parts, leb-true, first_answer, Sub, Device, Set, Cell}
-use Rattle.vms_check_laws.proofs.Facade.{no_cell, struct_cells, desc_cells, device_cells, Image, FitsCell, FitCells, AreVersionsOf, RulesHold, own_slots}
-use Rattle.vms_check_laws.proofs.Facade.{own_cells, sub_slots, sub_place, came_slots, IsReady, ComeAsNeeded, find_sub, index, is_version_of, WellFormed, here}
-use Rattle.vms_check_laws.proofs.Facade.{failing_pair, comparing, compare_sub, compare_subs, carried_sub, carry_sub, sub_came, defaults, passes, sub_found}
-use Rattle.vms_check_laws.proofs.Facade.{IsSaved, FitsAt, or_else_none}
+use Rattle.vms_check_laws.proofs.Facade.{◌≡◌, ◌⊎◌, inl, inr, ℕ, zero, suc, ◌+◌, ◌≤◌, true, List, ◌∷◌, Option, Some, None, refl, ◌∙◌, arith, ℤ, nat_le, flat_map}
+use Rattle.vms_check_laws.proofs.Facade.{slice_get, and_parts, leb-true, first_answer, Sub, Device, Set, Cell, struct_cells, desc_cells, device_cells, Image}
+use Rattle.vms_check_laws.proofs.Facade.{FitCells, AreVersionsOf, RulesHold, own_slots, own_cells, sub_slots, sub_place, came_slots, IsReady, ComeAsNeeded}
+use Rattle.vms_check_laws.proofs.Facade.{find_sub, index, is_version_of, WellFormed, here, failing_pair, comparing, compare_sub, compare_subs, carried_sub}
+use Rattle.vms_check_laws.proofs.Facade.{sub_came, defaults, passes, sub_found, IsSaved, FitsAt, or_else_none, answers_none, sym, ap, [], rules_split}
+use Rattle.vms_check_laws.proofs.Facade.{sub_size}
 use Rattle.vms_spec.specs.declared.Part.TheVariants as parts
-use Rattle.vms_check_laws.proofs.Segments.{fits_left, fits_right, rules_left, rules_right, one_on, at_first, from_zero}
+use Rattle.vms_check_laws.proofs.SubParts.{found as found_sub}
+use Rattle.vms_check_laws.proofs.Segments.{fits_left, fits_right, one_on, at_first, from_zero, RestAt}
 use Rattle.vms_check_laws.proofs.Good.{sub_good}
 use Rattle.vms_check_laws.proofs.Parts.{good_cells, Came, Stayed, Facts}
-use Rattle.vms_check_laws.proofs.PairDevices.{found as found_sub}
-
--- where there is no first answer, the one on each has none
-pub none_at : {A B : Type 0} (f : ℕ → A → Option B) (i : ℕ) (xs : List A) (j : ℕ) (x : A) → first_answer f i xs ≡ None → slice_get xs j ≡ Some x
-    → f (i + j) x ≡ None
-none_at f i [] j x h e = absurd (cc)
-none_at f i (y ∷ xs) zero x h e =
-    let same : y ≡ x = cc in
-    let z : i ≡ i + 0 = omega arith in
-    rw (← same) (rw (← z) (or_else_none (f i y) (first_answer f (suc i) xs) h).0)
-none_at f i (y ∷ xs) (suc j) x h e =
-    let z : suc i + j ≡ i + suc j = omega arith in
-    rw (← z) (none_at f (suc i) xs j x (or_else_none (f i y) (first_answer f (suc i) xs) h).1 e)
 
 pub fits_whole : (cells : List Cell) (numbers : List ℤ) → FitCells cells numbers → FitsAt cells numbers 0
 fits_whole cells numbers h = record {
@@ -39,8 +27,7 @@ came_at (x ∷ subs) (None ∷ came) (suc j) s h e = came_at subs came j s h e
 came_at (x ∷ subs) (Some v ∷ came) (suc j) s h e = came_at subs came j s h.1 e
 
 pub come_version : (set : Set) (d : Device) (image : Image) (k : ℕ) (subs : List Sub) (came : List (Option ℕ)) (j : ℕ) (s : Sub) (v : ℕ)
-    → ComeAsNeeded set d image k subs came
-    → slice_get subs j ≡ Some s → slice_get came j ≡ Some (Some v) → v ≡ s.desc.version
+    → ComeAsNeeded set d image k subs came → slice_get subs j ≡ Some s → slice_get came j ≡ Some (Some v) → v ≡ s.desc.version
 come_version set d image k (x ∷ subs) [] j s v h e e' = absurd h
 come_version set d image k (x ∷ subs) (Some u ∷ came) zero s v h e e' =
     let same : x ≡ s = cc in
@@ -65,25 +52,21 @@ pub sub_fits : (set : Set) (numbers : List ℤ) (place : ℕ) (subs : List Sub) 
 sub_fits set numbers place [] j s h e = absurd (cc)
 sub_fits set numbers place (x ∷ subs) zero s h e =
     let same : x ≡ s = cc in
-    rw (← same)
-    (fits_left _ h)
+    rw (← same) (fits_left _ h)
 sub_fits set numbers place (x ∷ subs) (suc j) s h e =
-    sub_fits set numbers (place + length (desc_cells (struct_cells set) x.desc)) subs j s
-    (fits_right (desc_cells (struct_cells set) x.desc) h) e
+    sub_fits set numbers (place + sub_size set x) subs j s (fits_right (desc_cells (struct_cells set) x.desc) h) e
 
 pub sub_rules_hold : (set : Set) (d : Device) (numbers : List ℤ) (place : ℕ) (subs : List Sub) (came : List (Option ℕ)) (j : ℕ) (s : Sub) (v : ℕ)
     → RulesHold (came_slots set d numbers place subs came)
     → slice_get subs j ≡ Some s → slice_get came j ≡ Some (Some v) → RulesHold (sub_slots set s v numbers (sub_place set place subs j))
+sub_rules_hold set d numbers place (x ∷ subs) (None ∷ came) (suc j) s v h e e' = sub_rules_hold set d numbers (place + sub_size set x) subs came j s v h e e'
 sub_rules_hold set d numbers place (x ∷ subs) (Some u ∷ came) zero s v h e e' =
     let same : x ≡ s = cc in
     let same' : u ≡ v = cc in
-    let one = rules_left (sub_slots set x u numbers place) (came_slots set d numbers (place + length (desc_cells (struct_cells set) x.desc)) subs came) h in
-    rw (← same) (rw (← same') one)
-sub_rules_hold set d numbers place (x ∷ subs) (None ∷ came) (suc j) s v h e e' =
-    sub_rules_hold set d numbers (place + length (desc_cells (struct_cells set) x.desc)) subs came j s v h e e'
+    rw (← same) (rw (← same') (rules_split (sub_slots set x u numbers place) (came_slots set d numbers (place + sub_size set x) subs came) h).0)
 sub_rules_hold set d numbers place (x ∷ subs) (Some u ∷ came) (suc j) s v h e e' =
-    sub_rules_hold set d numbers (place + length (desc_cells (struct_cells set) x.desc)) subs came j s v
-    (rules_right (sub_slots set x u numbers place) (came_slots set d numbers (place + length (desc_cells (struct_cells set) x.desc)) subs came) h) e e'
+    sub_rules_hold set d numbers (place + sub_size set x) subs came j s v
+    (rules_split (sub_slots set x u numbers place) (came_slots set d numbers (place + sub_size set x) subs came) h).1 e e'
 sub_rules_hold set d numbers place _ _ _ s v h e e' = absurd (cc)
 
 module _ (old new : Set) (good_old : WellFormed old) (good_new : WellFormed new) (i k : ℕ) (d e : Device) (at_i : slice_get old.devices i ≡ Some d)
@@ -103,9 +86,8 @@ module _ (old new : Set) (good_old : WellFormed old) (good_new : WellFormed new)
       → (is_version_of t.desc s.desc.version ≡ true) × (comparing old new s.desc t.desc s.desc.version (parts.Sub i j) (parts.Sub k l) ≡ None)
   compared j l s t at_j at_l names =
       let z : 0 + j ≡ j = omega arith in
-      let at_s : compare_subs old new i k e j s ≡ None = rw (z) at (none_at _ 0 d.subs j s none at_j) in
-      let found : find_sub 0 e.subs s.desc.name ≡ Some l =
-      ap (λ (n : List ℕ). find_sub 0 e.subs n) names ∙ sub_found new good_new k l e t at_k at_l in
+      let at_s : compare_subs old new i k e j s ≡ None = rw (z) at (answers_none _ 0 d.subs none j s at_j) in
+      let found : find_sub 0 e.subs s.desc.name ≡ Some l = ap (λ (n : List ℕ). find_sub 0 e.subs n) names ∙ sub_found new good_new k l e t at_k at_l in
       let at_l' : compare_sub old new i k j s (Some l) (slice_get e.subs l) ≡ None = rw (found) at at_s in
       let at_t : compare_sub old new i k j s (Some l) (Some t) ≡ None = rw (at_l) at at_l' in
       let p = or_else_none (failing_pair ((14, is_version_of t.desc s.desc.version) ∷ []) (here (parts.Sub i j)) (here (parts.Sub k l))) _ at_t in
@@ -122,26 +104,22 @@ module _ (old new : Set) (good_old : WellFormed old) (good_new : WellFormed new)
       let z : 0 + own_cells old d ≡ own_cells old d = omega arith in
       let whole : FitsAt (device_cells old d) image.numbers 0 = fits_whole (device_cells old d) image.numbers ready.normal.cells in
       let subs_fit : FitsAt (flat_map (λ u. desc_cells (struct_cells old) u.desc) d.subs) image.numbers (own_cells old d) =
-      rw (← z)
-      (fits_right (desc_cells (struct_cells old) d.desc) whole) in
+      rw (← z) (fits_right (desc_cells (struct_cells old) d.desc) whole) in
       record {
         sub = s;
         version = v;
         place = sub_place old (own_cells old d) d.subs j;
         part = parts.Sub i j;
         part' = parts.Sub k l;
-        came = ap (λ (r : Option ℕ). sub_came old new r (slice_get image.came (index r))) found ∙ ap
-            (λ (r : Option (Option ℕ)). sub_came old new (Some j) r) at_came;
-        numbers = ap (λ (r : Option ℕ). carry_sub old new d image t r (slice_get d.subs (index r)) (slice_get image.came (index r))) found
-            ∙ ap (λ (r : Option Sub). carry_sub old new d image t (Some j) r (slice_get image.came j)) at_j
-            ∙ ap (λ (r : Option (Option ℕ)). carry_sub old new d image t (Some j) (Some s) r) at_came;
+        came = rw (found, at_came);
+        numbers = rw (found, at_j, at_came);
         good = sub_good old good_old i j d s at_i at_j;
         good' = sub_good new good_new k l e t at_k at_l;
         same = rw v_is c.1;
         fits = sub_fits old image.numbers (own_cells old d) d.subs j s subs_fit at_j;
         rules = sub_rules_hold old d image.numbers (own_cells old d) d.subs image.came j s v
-            (rules_right (own_slots old d image.version image.numbers)
-            (came_slots old d image.numbers (own_cells old d) d.subs image.came) ready.valid) at_j at_came;
+            (rules_split (own_slots old d image.version image.numbers)
+            (came_slots old d image.numbers (own_cells old d) d.subs image.came) ready.valid).1 at_j at_came;
         within = (low, high);
       }
 
@@ -149,23 +127,17 @@ module _ (old new : Set) (good_old : WellFormed old) (good_new : WellFormed new)
   fact l t at_l = by_found _ refl where
     by_came : (j : ℕ) (s : Sub) (o : Option ℕ) → slice_get d.subs j ≡ Some s → s.desc.name ≡ t.desc.name → slice_get image.came j ≡ Some o
         → find_sub 0 d.subs t.desc.name ≡ Some j → FactOf t
-    by_came j s None at_j names at_came found = stayed l t at_l
-        (ap (λ (r : Option ℕ). sub_came old new r (slice_get image.came (index r))) found ∙ ap (λ (r : Option (Option ℕ)). sub_came old new (Some j) r) at_came)
-        (ap (λ (r : Option ℕ). carry_sub old new d image t r (slice_get d.subs (index r)) (slice_get image.came (index r))) found
-        ∙ ap (λ (r : Option Sub). carry_sub old new d image t (Some j) r (slice_get image.came j)) at_j
-        ∙ ap (λ (r : Option (Option ℕ)). carry_sub old new d image t (Some j) (Some s) r) at_came)
+    by_came j s None at_j names at_came found = stayed l t at_l (rw (found, at_came)) (rw (found, at_j, at_came))
     by_came j s (Some v) at_j names at_came found = inr (came_is j l s t v at_j at_l names at_came found)
 
     by_found : (r : Option ℕ) → find_sub 0 d.subs t.desc.name ≡ r → FactOf t
-    by_found None h = stayed l t at_l
-        (ap (λ (r : Option ℕ). sub_came old new r (slice_get image.came (index r))) h)
-        (ap (λ (r : Option ℕ). carry_sub old new d image t r (slice_get d.subs (index r)) (slice_get image.came (index r))) h)
+    by_found None h = stayed l t at_l (rw h) (rw h)
     by_found (Some r) h =
         let f = found_sub d.subs t.desc.name r h in
         let c = came_at d.subs image.came r f.sub ready.normal.subs f.there in
         by_came r f.sub c.0 f.there f.name_is c.1 h
 
-  facts_from : (l : ℕ) (ts : List Sub) → ((m : ℕ) → slice_get e.subs (l + m) ≡ slice_get ts m) → Facts old new good_old good_new d e image numbers' came_of ts
+  facts_from : (l : ℕ) (ts : List Sub) → RestAt e.subs l ts → Facts old new good_old good_new d e image numbers' came_of ts
   facts_from l [] h = tt
   facts_from l (t ∷ ts) h = (fact l t (at_first (slice_get e.subs) l h), facts_from (suc l) ts (one_on (slice_get e.subs) l h))
 

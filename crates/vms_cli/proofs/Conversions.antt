@@ -17,8 +17,7 @@ use Rattle.vms_convert.specs.Converted.{AreBack, recast_each}
 use Rattle.vms_convert.specs.Lost.{KeepsAll, Loses, OfCell, OfDevice, OfMachine, first_cell, numbers_in}
 use Rattle.vms_convert.proofs.Answered.{answered}
 use Rattle.vms_convert.proofs.Converts.{same_backs}
-use Rattle.vms_convert.proofs.OneLost.{one_lost}
-use Rattle.vms_convert.proofs.RecastAt.{newest_kinds, recast_long}
+use Rattle.vms_convert.proofs.RecastLaws.{one_lost, newest_kinds, recast_long}
 use Rattle.vms_commands.proofs.FileSets.{fit_word}
 use Rattle.vms_commands.specs.SetWords.{Isa, Shipped}
 use Rattle.vms_cli.specs.Convert.{IsInNewest, newest}

@@ -5,14 +5,14 @@ use Rattle.vms_spec.specs.Good.{IsFit}
 use Rattle.vms_spec.specs.Images.{Image}
 use Rattle.vms_spec.specs.Sets.{Set}
 use Rattle.vms_stream.specs.Streams.{Takes}
-use Rattle.vms_load.proofs.TakenImages.{taken_kept}
+use Rattle.vms_load.proofs.ExactLoads.{taken_kept}
 use Rattle.vms_selfdesc.specs.Tree.{described_text}
 use Rattle.vms_check.specs.Comparing.{Compatible, first_mismatch}
 use Rattle.vms_check.specs.declared.mismatch.Mismatch.{Mismatch}
 use Rattle.vms_convert.specs.Calls.{IsStreamFor}
 use Rattle.vms_convert.specs.Laws.{AreRecastOf, Converts as StaysSo}
 use Rattle.vms_convert.proofs.Converts.{converts_stand, ready}
-use Rattle.vms_convert.proofs.RecastAt.{newest_kinds}
+use Rattle.vms_convert.proofs.RecastLaws.{newest_kinds}
 use Rattle.vms_commands.specs.Fetching.{word_set}
 use Rattle.vms_commands.specs.Outcomes.{Outcome, done}
 use Rattle.vms_commands.specs.SetWords.{SetWord}

@@ -18,7 +18,7 @@ use Rattle.vms_frames.specs.declared.fault.Refusal.{Refusal}
 use Rattle.vms_load.specs.Going.{LoadReads}
 use Rattle.vms_load.specs.Staging.{most_given, name_of}
 use Rattle.vms_load.specs.declared.fault.LoadFault.TheVariants as loads
-use Rattle.vms_load.proofs.LoadReads.{loads_kept}
+use Rattle.vms_load.proofs.ExactLoads.{loads_kept}
 use Rattle.vms_check.specs.Comparing.{Compatible, first_mismatch}
 use Rattle.vms_check.specs.declared.mismatch.Mismatch.{Mismatch}
 use Rattle.vms_convert.specs.Calls.{Converts as Calls, IsStreamFor, LosesFirst, RefusesFirst, TakesFirst}

@@ -14,7 +14,7 @@ use Rattle.vms_spec.specs.Images.{Image}
 use Rattle.vms_spec.specs.Sets.{Set}
 use Rattle.vms_spec.specs.Streams.{IsConfiguration, is_one_of}
 use Rattle.vms_stream.proofs.Stated.{one_stream_holds}
-use Rattle.vms_load.proofs.TakenImages.{taken_kept}
+use Rattle.vms_load.proofs.ExactLoads.{taken_kept}
 use Rattle.vms_check.proofs.SelfLaws.{is_among}
 use Rattle.vms_convert.specs.Converted.{recast_each}
 use Rattle.vms_convert.specs.Lost.{numbers_in}

@@ -9,7 +9,7 @@ use Rattle.vms_spec.specs.Sets.{Set}
 use Rattle.vms_stream.specs.StreamLaws.{Answer, Taken, Faulty}
 use Rattle.vms_stream.specs.Streams.{Takes}
 use Rattle.vms_stream.proofs.Stated.{either_holds}
-use Rattle.vms_load.proofs.TakenImages.{taken_kept}
+use Rattle.vms_load.proofs.ExactLoads.{taken_kept}
 use Rattle.vms_check.specs.Comparing.{Compatible, first_mismatch}
 use Rattle.vms_check.specs.declared.mismatch.Mismatch.{Mismatch}
 use Rattle.vms_convert.specs.Calls.{IsStreamFor, LosesFirst}

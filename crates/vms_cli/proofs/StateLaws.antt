@@ -13,7 +13,7 @@ use Rattle.vms_stream.proofs.Further.{further_holds}
 use Rattle.vms_check.specs.declared.mismatch.Mismatch.{Mismatch}
 use Rattle.vms_counter_laws.specs.Counters.{Refusal, State, Counters, Finds}
 use Rattle.vms_counter_laws.proofs.Stated.{always_holds, named_holds}
-use Rattle.vms_counter_laws.proofs.StreamBytes.{machine_known}
+use Rattle.vms_counter_laws.proofs.OneAnswer.{machine_known}
 use Rattle.vms_commands.specs.Fetching.{longest_file, named_sets, word_set}
 use Rattle.vms_commands.specs.Lines.{refused_line}
 use Rattle.vms_commands.specs.Outcomes.{done, ended}

@@ -1,32 +1,15 @@
 -- Of each state of the newer set something comes back, and either all is kept or something is lost first.
-use Rattle.std.proofs.Common.{◌≡◌, ◌⊎◌, inl, inr, ℕ, zero, suc, ◌+◌, ◌<◌, ◌≤◌, Bool, true, false, List, [], ◌∷◌, ◌++◌, length, length-append, get_or, map, Option, Some, None, ℤ, pos, refl, sym, ap, ◌∙◌, subst, arith}
-use Rattle.std.specs.Cmp.{signed_Decides}
-use Rattle.std.specs.Ordering.{int_eq}
-use Rattle.std.proofs.lemmas.List.{length-map}
-use Rattle.std.proofs.lemmas.Option.{slice_get-get_or, slice_get_within}
-use Rattle.std.specs.List.{slice_get}
-use Rattle.vms_spec.specs.Good.{IsFit}
-use Rattle.vms_spec.specs.Layout.{Cell, Slot, Number, Constant, Filler, Rule, device_cells}
-use Rattle.vms_spec.specs.Lookup.{find_device}
-use Rattle.vms_spec.specs.Sets.{Device, Set}
-use Rattle.vms_spec.specs.Images.{Image, IsValid, RulesHold, image_slots}
-use Rattle.vms_spec.specs.Streams.{is_one_of}
-use Rattle.vms_spec.specs.WellFormed.{WellFormed}
-use Rattle.vms_desc.specs.Described.{device_at}
-use Rattle.vms_check.specs.Carrying.{carried, no_image}
-use Rattle.vms_check.specs.Comparing.{Compatible}
-use Rattle.vms_check.specs.Partners.{device_partners}
-use Rattle.vms_check_laws.specs.Pairing.{AreOfKinds}
-use Rattle.vms_check_laws.proofs.Streaming.{Pair, pair, all_in}
-use Rattle.vms_convert.specs.Back.{IsBack}
-use Rattle.vms_convert.specs.Converted.{IsPairAt, recast_each}
-use Rattle.vms_convert.specs.Laws.{AnswerLaw, ComesBack}
-use Rattle.vms_convert.specs.Lost.{DifferAt, IsValidAt, KeepsAll, Loses, OfCell, OfDevice, OfMachine, first_cell, numbers_in}
-use Rattle.vms_convert.proofs.GivenAll.{gives_long}
+use Rattle.vms_convert.proofs.Facade.{◌≡◌, ◌⊎◌, inl, inr, ℕ, zero, suc, ◌+◌, ◌<◌, ◌≤◌, Bool, true, false, List, [], ◌∷◌, ◌++◌, length, length-append, get_or}
+use Rattle.vms_convert.proofs.Facade.{map, Option, Some, None, ℤ, pos, refl, sym, ap, ◌∙◌, subst, arith, signed_Decides, int_eq, length-map, slice_get-get_or}
+use Rattle.vms_convert.proofs.Facade.{slice_get_within, slice_get, IsFit, Cell, Slot, Number, Constant, Filler, Rule, device_cells, find_device, Device, Set}
+use Rattle.vms_convert.proofs.Facade.{Image, IsValid, RulesHold, image_slots, is_one_of, WellFormed, device_at, carried, no_image, Compatible, device_partners}
+use Rattle.vms_convert.proofs.Facade.{AreOfKinds, Pair, pair, all_in, IsBack, IsPairAt, recast_each, AnswerLaw, ComesBack, DifferAt, IsValidAt, KeepsAll, Loses}
+use Rattle.vms_convert.proofs.Facade.{OfCell, OfDevice, OfMachine, first_cell, numbers_in}
+use Rattle.vms_convert.proofs.BackNormal.{gives_long}
 use Rattle.vms_convert.proofs.HasBack.{extend, has_back}
-use Rattle.vms_convert.proofs.LostLaws.{Older, older, older_pair, there_is, there_long}
-use Rattle.vms_convert.proofs.RecastAt.{recast_long}
-use Rattle.vms_convert.proofs.ReturnedLaws.{given_carried}
+use Rattle.vms_convert.proofs.LostLaws.{Older, older, older_pair, there_is, there_long, no_device}
+use Rattle.vms_convert.proofs.RecastLaws.{recast_long}
+use Rattle.vms_convert.proofs.Converts.{given_carried}
 use Rattle.vms_convert.proofs.ReturnsLaws.{at_more}
 
 -- ---- the first number that differs
@@ -42,9 +25,9 @@ differ_next x y xs ys c same d =
 
 first_differ : (xs ys : List ℤ) → length xs ≡ length ys → (xs ≡ ys) ⊎ ((c : ℕ) × DifferAt xs ys c)
 first_differ [] [] l = inl refl
-first_differ [] (y ∷ ys) l = absurd (omega (arith, l))
-first_differ (x ∷ xs) [] l = absurd (omega (arith, l))
-first_differ (x ∷ xs) (y ∷ ys) l = here (int_eq x y) refl (first_differ xs ys (omega (arith, l))) where
+first_differ [] (y ∷ ys) l = absurd (omega arith)
+first_differ (x ∷ xs) [] l = absurd (omega arith)
+first_differ (x ∷ xs) (y ∷ ys) l = here (int_eq x y) refl (first_differ xs ys (omega arith)) where
   here : (b : Bool) → int_eq x y ≡ b → (xs ≡ ys) ⊎ ((c : ℕ) × DifferAt xs ys c) → (x ∷ xs ≡ y ∷ ys) ⊎ ((c : ℕ) × DifferAt (x ∷ xs) (y ∷ ys) c)
   here false e r = inr (0, record { inside = omega arith; before = λ b lt. absurd (omega arith); other = λ same. (let t = (signed_Decides x y).1 same in cc) })
   here true e (inl same) = inl (ap (λ (z : ℤ). z ∷ xs) ((signed_Decides x y).0 e) ∙ ap (λ (l : List ℤ). y ∷ l) same)
@@ -63,11 +46,12 @@ lost_next x y xs ys same h = record { k = suc h.k; c = h.c; before = before; dif
   before zero lt = same
   before (suc i) lt = h.before i (omega arith)
 
-first_lost : (xs ys : List (List ℤ)) → length xs ≡ length ys → ((k : ℕ) → k < length xs → length (get_or xs k []) ≡ length (get_or ys k [])) → (xs ≡ ys) ⊎ FirstLost xs ys
+first_lost : (xs ys : List (List ℤ)) → length xs ≡ length ys → ((k : ℕ) → k < length xs → length (get_or xs k []) ≡ length (get_or ys k []))
+    → (xs ≡ ys) ⊎ FirstLost xs ys
 first_lost [] [] l each = inl refl
-first_lost [] (y ∷ ys) l each = absurd (omega (arith, l))
-first_lost (x ∷ xs) [] l each = absurd (omega (arith, l))
-first_lost (x ∷ xs) (y ∷ ys) l each = here (first_differ x y (each 0 (omega arith))) (first_lost xs ys (omega (arith, l)) (λ k lt. each (suc k) (omega (arith, lt)))) where
+first_lost [] (y ∷ ys) l each = absurd (omega arith)
+first_lost (x ∷ xs) [] l each = absurd (omega arith)
+first_lost (x ∷ xs) (y ∷ ys) l each = here (first_differ x y (each 0 (omega arith))) (first_lost xs ys (omega arith) (λ k lt. each (suc k) (omega arith))) where
   here : (x ≡ y) ⊎ ((c : ℕ) × DifferAt x y c) → (xs ≡ ys) ⊎ FirstLost xs ys → (x ∷ xs ≡ y ∷ ys) ⊎ FirstLost (x ∷ xs) (y ∷ ys)
   here (inr d) r = inr (record { k = 0; c = d.0; before = λ i lt. absurd (omega arith); differs = d.1 })
   here (inl same) (inl rest) = inl (ap (λ (l : List ℤ). l ∷ xs) same ∙ ap (λ (l : List (List ℤ)). y ∷ l) rest)
@@ -86,9 +70,6 @@ either_valid (Number c kind capacities ∷ slots) = either_valid slots
 either_valid (Constant kind z ∷ slots) = either_valid slots
 either_valid (Filler n ∷ slots) = either_valid slots
 
-abbrev no_device : Device
-no_device = device_at (record { machines = []; structs = []; devices = [] }) 0
-
 module _ (to new : Set) (fit : IsFit to) (well : WellFormed new) (compatible : Compatible to new) where
   -- ---- an image of each device
 
@@ -103,14 +84,13 @@ module _ (to new : Set) (fit : IsFit to) (well : WellFormed new) (compatible : C
       let number_is : number ≡ k = cc in
       let news : Some e ≡ Some e' = sym stands ∙ ap (slice_get new.devices) number_is ∙ p.in_new in
       let e_is : e ≡ e' = cc in
-      subst (λ (x : Device). IsBack to x (device_partners to new x e') (get_or wanted k []) image) d_is
-      (subst (λ (y : Device). IsBack to d (device_partners to new d y) (get_or wanted k []) image) e_is
-      (subst (λ (j : ℕ). IsBack to d (device_partners to new d e) (get_or wanted j []) image) number_is back))
+      rw (← d_is, ← e_is, ← number_is) back
 
   record HasBacks (wanted : List (List ℤ)) (n : ℕ) : Type 0 where
     backs : List Image
     count : length backs ≡ n
-    each : (i k : ℕ) (d e : Device) (image : Image) → IsPairAt to new i k d e → slice_get backs i ≡ Some image → IsBack to d (device_partners to new d e) (get_or wanted k []) image
+    each : (i k : ℕ) (d e : Device) (image : Image) → IsPairAt to new i k d e → slice_get backs i ≡ Some image
+        → IsBack to d (device_partners to new d e) (get_or wanted k []) image
 
   backs_next : (wanted : List (List ℤ)) (n : ℕ) → n < length to.devices → HasBacks wanted n → HasBacks wanted (suc n)
   backs_next wanted n lt h =
@@ -133,12 +113,12 @@ module _ (to new : Set) (fit : IsFit to) (well : WellFormed new) (compatible : C
       one : ComesBack to (device_at to n) (device_partners to new (device_at to n) newer.device) (get_or wanted newer.number [])
       one = has_back to fit n (device_at to n) there (device_partners to new (device_at to n) newer.device) (get_or wanted newer.number [])
 
-      by : (i k : ℕ) (d e : Device) (image : Image) → IsPairAt to new i k d e → (slice_get h.backs i ≡ Some image) ⊎ ((i ≡ length h.backs) × (one.image ≡ image))
+      by : (i k : ℕ) (d e : Device) (image : Image) → IsPairAt to new i k d e
+          → (slice_get h.backs i ≡ Some image) ⊎ ((i ≡ length h.backs) × (one.image ≡ image))
           → IsBack to d (device_partners to new d e) (get_or wanted k []) image
       by i k d e image p (inl at) = h.each i k d e image p at
       by i k d e image p (inr r) =
-          back_there wanted n i k newer.number (device_at to n) d newer.device e image (r.0 ∙ h.count) there newer.found newer.stands p
-          (subst (λ (x : Image). IsBack to (device_at to n) (device_partners to new (device_at to n) newer.device) (get_or wanted newer.number []) x) r.1 one.is_back)
+          back_there wanted n i k newer.number (device_at to n) d newer.device e image (r.0 ∙ h.count) there newer.found newer.stands p (rw (← r.1) one.is_back)
 
   backs_to : (wanted : List (List ℤ)) (n : ℕ) → n ≤ length to.devices → HasBacks wanted n
   backs_to wanted zero le = record { backs = []; count = refl; each = λ i k d e image p at. absurd (cc) }
@@ -162,7 +142,7 @@ module _ (to new : Set) (fit : IsFit to) (well : WellFormed new) (compatible : C
       image = get_or backs o.i (no_image to new)
 
       inside : o.i < length backs
-      inside = omega (arith, long, slice_get_within to.devices o.i o.d o.stands)
+      inside = omega (arith, slice_get_within to.devices o.i o.d o.stands)
 
       at_i : slice_get backs o.i ≡ Some (get_or backs o.i (no_image to new))
       at_i = slice_get-get_or backs o.i (no_image to new) inside
@@ -190,19 +170,21 @@ module _ (to new : Set) (fit : IsFit to) (well : WellFormed new) (compatible : C
     first_bad : (n : ℕ) → n ≤ length new.devices → ((i : ℕ) → i < n → IsValidAt to new backs i) ⊎ FirstBad n
     first_bad zero le = inl (λ i lt. absurd (omega arith))
     first_bad (suc n) le = go (first_bad n (omega arith)) (either_at n (omega arith)) where
-      go : ((i : ℕ) → i < n → IsValidAt to new backs i) ⊎ FirstBad n → IsValidAt to new backs n ⊎ (IsValidAt to new backs n → ⊥) → ((i : ℕ) → i < suc n → IsValidAt to new backs i) ⊎ FirstBad (suc n)
+      go : ((i : ℕ) → i < n → IsValidAt to new backs i) ⊎ FirstBad n → IsValidAt to new backs n ⊎ (IsValidAt to new backs n → ⊥)
+          → ((i : ℕ) → i < suc n → IsValidAt to new backs i) ⊎ FirstBad (suc n)
       go (inr b) o = let inside = b.inside in inr (record { k = b.k; inside = omega (arith, inside); before = b.before; bad = b.bad })
       go (inl f) (inl h) = inl (extend (IsValidAt to new backs) n f h)
       go (inl f) (inr bad) = inr (record { k = n; inside = omega arith; before = f; bad = bad })
 
   -- ---- all together
 
-  module _ (wanted : List (List ℤ)) (long : length wanted ≡ length new.devices) (kinds : (k : ℕ) (e : Device) → slice_get new.devices k ≡ Some e → AreOfKinds (device_cells new e) (get_or wanted k []))
+  module _ (wanted : List (List ℤ)) (long : length wanted ≡ length new.devices)
+      (kinds : (k : ℕ) (e : Device) → slice_get new.devices k ≡ Some e → AreOfKinds (device_cells new e) (get_or wanted k []))
       (h : HasBacks wanted (length to.devices)) where
     abbrev there : List (List ℤ)
     there = numbers_in (carried to new h.backs)
 
-    there_at : (k : ℕ) → k < length new.devices → length (get_or wanted k []) ≡ length (get_or (numbers_in (carried to new h.backs)) k [])
+    there_at : (k : ℕ) → k < length new.devices → length (get_or wanted k []) ≡ length (get_or there k [])
     there_at k lt =
         let e = device_at new k in
         let at_k = slice_get-get_or new.devices k no_device lt in
@@ -215,31 +197,36 @@ module _ (to new : Set) (fit : IsFit to) (well : WellFormed new) (compatible : C
         let inside : o.i < length h.backs = omega (arith, count, slice_get_within to.devices o.i o.d o.stands) in
         let back = h.each o.i k d e image p (slice_get-get_or h.backs o.i (no_image to new) inside) in
         let defaults = map (λ (c : Cell). c.default) (device_cells new e) in
-        (kinds k e at_k).long ∙ sym (length-map (device_cells new e) (λ (c : Cell). c.default)) ∙ sym (gives_long ps image.numbers (image_slots to d image) defaults)
+        (kinds k e at_k).long ∙ sym (length-map (device_cells new e) (λ (c : Cell). c.default))
+        ∙ sym (gives_long ps image.numbers (image_slots to d image) defaults)
         ∙ ap length (given_carried to new fit well o.i k d e p.in_old at_k (get_or wanted k []) image back)
         ∙ sym (ap length (there_is to new fit.well well compatible h.backs k e at_k o))
 
+    abbrev AllValid : Type 0
+    AllValid = (i : ℕ) → i < length new.devices → IsValidAt to new h.backs i
+
     abbrev Answered : Option (List ℕ) → Type 0
     Answered machine =
-        KeepsAll to new machine wanted (numbers_in (carried to new h.backs)) h.backs ⊎ ((section : Option ℕ) × (cell : Option ℕ) × Loses to new machine wanted (numbers_in (carried to new h.backs)) h.backs section cell)
+        KeepsAll to new machine wanted there h.backs ⊎ ((section : Option ℕ) × (cell : Option ℕ) × Loses to new machine wanted there h.backs section cell)
 
-    answered_name : (name : List ℕ) → wanted ≡ numbers_in (carried to new h.backs) → ((i : ℕ) → i < length new.devices → IsValidAt to new h.backs i) → (b : Bool) → is_one_of to.machines name ≡ b → Answered (Some name)
+    answered_name : (name : List ℕ) → wanted ≡ there → AllValid → (b : Bool) → is_one_of to.machines name ≡ b → Answered (Some name)
     answered_name name same valid true e = inl (record { cells = same; valid = valid; machine_is = e })
     answered_name name same valid false e = inr (None, None, OfMachine name same valid refl e)
 
-    answered_machine : (machine : Option (List ℕ)) → wanted ≡ numbers_in (carried to new h.backs) → ((i : ℕ) → i < length new.devices → IsValidAt to new h.backs i) → Answered machine
+    answered_machine : (machine : Option (List ℕ)) → wanted ≡ there → AllValid → Answered machine
     answered_machine None same valid = inl (record { cells = same; valid = valid; machine_is = tt })
     answered_machine (Some name) same valid = answered_name name same valid (is_one_of to.machines name) refl
 
     answered_all : (machine : Option (List ℕ)) → Answered machine
-    answered_all machine = go (first_lost wanted there (long ∙ sym (there_long to new fit.well well compatible h.backs)) (λ k lt. there_at k (omega (arith, lt, long)))) where
-      valid : wanted ≡ numbers_in (carried to new h.backs) → ((i : ℕ) → i < length new.devices → IsValidAt to new h.backs i) ⊎ FirstBad h.backs h.count (length new.devices) → Answered machine
-      valid same (inl f) = answered_machine machine same f
-      valid same (inr b) = inr (Some b.k, first_cell (get_or wanted b.k []), OfDevice b.k b.inside same b.before b.bad)
+    answered_all machine =
+        go (first_lost wanted there (long ∙ sym (there_long to new fit.well well compatible h.backs)) (λ k lt. there_at k (omega arith))) where
+          valid : wanted ≡ there → AllValid ⊎ FirstBad h.backs h.count (length new.devices) → Answered machine
+          valid same (inl f) = answered_machine machine same f
+          valid same (inr b) = inr (Some b.k, first_cell (get_or wanted b.k []), OfDevice b.k b.inside same b.before b.bad)
 
-      go : (wanted ≡ numbers_in (carried to new h.backs)) ⊎ FirstLost wanted (numbers_in (carried to new h.backs)) → Answered machine
-      go (inl same) = valid same (first_bad h.backs h.count (length new.devices) (omega arith))
-      go (inr f) = inr (Some f.k, Some f.c, OfCell f.k f.c f.before f.differs)
+          go : (wanted ≡ there) ⊎ FirstLost wanted there → Answered machine
+          go (inl same) = valid same (first_bad h.backs h.count (length new.devices) (omega arith))
+          go (inr f) = inr (Some f.k, Some f.c, OfCell f.k f.c f.before f.differs)
 
 pub answered : AnswerLaw
 answered to new fit well compatible machine images long kinds =
@@ -248,5 +235,6 @@ answered to new fit well compatible machine images long kinds =
     record {
       backs = h.backs;
       back = record { one_each = h.count; each = h.each };
-      answer = answered_all to new fit well compatible wanted (recast_long to new.devices (numbers_in images) (length-map images (λ (x : Image). x.numbers) ∙ long)) kinds h machine;
+      answer = answered_all to new fit well compatible wanted
+          (recast_long to new.devices (numbers_in images) (length-map images (λ (x : Image). x.numbers) ∙ long)) kinds h machine;
     }

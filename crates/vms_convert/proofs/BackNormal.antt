@@ -1,36 +1,27 @@
--- What comes back is normal, whatever numbers of the right kinds it is made of, and has come as needed.
-use Rattle.std.proofs.Common.{◌≡◌, ◌⊎◌, inl, inr, ℕ, zero, suc, ◌+◌, ◌<◌, ◌≤◌, List, [], ◌∷◌, length, get_or, map, Option, Some, None, ℤ, pos, refl, sym, ap, ◌∙◌, subst, arith, Bool, true, false, nat_lt, if◌then◌else◌, ◌||◌}
-use Rattle.std.specs.List.{slice_get}
-use Rattle.std.proofs.lemmas.Bool.{ltb-true, ltb-false, leb-true}
-use Rattle.vms_spec.proofs.NumberLaws.{within_all}
-use Rattle.vms_kinds.specs.declared.Kind.{Kind}
-use Rattle.vms_kinds.specs.Codes.{InRange}
-use Rattle.vms_spec.specs.Numbers.{exceeds}
-use Rattle.vms_spec.specs.Sets.{Sub, Device, Set}
-use Rattle.vms_spec.specs.Layout.{Cell, no_cell, Slot, device_cells}
-use Rattle.vms_spec.specs.Images.{Image, FitsCell, IsNormal, has_cell, image_slots, own_slots, own_cells, came_slots, sub_slots}
-use Rattle.vms_spec.specs.Streams.{is_needed, ComeAsNeeded}
-use Rattle.vms_spec.specs.WellFormed.{WellFormed}
-use Rattle.vms_spec.specs.Heads.{FitsHeads}
-use Rattle.vms_spec.specs.Good.{IsGood}
-use Rattle.vms_bodies.proofs.Names.{names_append, none_in_both}
-use Rattle.vms_bodies.proofs.AgreeLaws.{its_same, its_below, its_above}
-use Rattle.vms_bodies.proofs.SettledLaws.{SameIn}
-use Rattle.vms_bodies.proofs.PartLaws.{sub_size, sub_place_up, places_apart, parts_together, part_apart}
-use Rattle.vms_bodies.proofs.FineLaws.{part_place}
-use Rattle.vms_spec.proofs.WellFormedLaws.{well_good, device_parts, sub_clean}
-use Rattle.dev_images.specs.Images.{bare, image_of, needed_from}
-use Rattle.vms_check_laws.specs.SubCells.{IsCellOf}
-use Rattle.vms_convert.specs.Back.{IsBack, taken, whole}
-use Rattle.vms_check_laws.specs.Pairing.{ArePartners, AreOfKinds}
-use Rattle.vms_check_laws.proofs.PartOf.{own_or_sub}
-use Rattle.vms_convert.proofs.NeededSame.{needed_same}
-use Rattle.dev_images.proofs.ReadyOf.{versions, needed}
-use Rattle.vms_convert.proofs.ImageOf.{all_subs, needed_comes}
+-- The image of numbers has come as needed.
+use Rattle.vms_convert.proofs.Facade.{◌≡◌, ℕ, zero, suc, ◌+◌, ◌≤◌, Bool, true, List, [], ◌∷◌, Some, None, refl, ap, ◌∙◌, arith, ◌⊎◌, inl, inr, ◌<◌, length}
+use Rattle.vms_convert.proofs.Facade.{get_or, map, Option, ℤ, pos, sym, subst, false, if◌then◌else◌, ◌||◌, length-set, ◌==◌, ◌++◌, slice_set, slice_get}
+use Rattle.vms_convert.proofs.Facade.{leb-true, eqb-true, eq-eqb, or_parts, get_or-map, get_or-set_other, get_or-set_same, map-append, length-map, Sub, Device}
+use Rattle.vms_convert.proofs.Facade.{Set, Image, FitsCell, IsNormal, has_cell, image_slots, own_slots, own_cells, came_slots, sub_slots, is_needed}
+use Rattle.vms_convert.proofs.Facade.{ComeAsNeeded, needed_from, bare, image_of, AreSubs, versions, needed, within_all, Kind, InRange, exceeds, Cell, no_cell}
+use Rattle.vms_convert.proofs.Facade.{Slot, device_cells, WellFormed, FitsHeads, IsGood, names_append, none_in_both, its_same, its_below, its_above, SameIn}
+use Rattle.vms_convert.proofs.Facade.{sub_size, sub_place_up, parts_together, part_apart, part_place, well_good, device_parts, sub_clean, IsCellOf, IsBack}
+use Rattle.vms_convert.proofs.Facade.{taken, whole, ArePartners, AreOfKinds, own_or_sub, Typed, WalkStep, changed, Changes, changed_append, AreTargets}
+use Rattle.vms_convert.proofs.Facade.{give_partner, give_step, device_partners, IsCarried, steps_of, step_of, false_from_ne_true, its_in, one_part, or_split}
+use Rattle.vms_convert.proofs.Facade.{Number, at_map, get_or_from_slice_get}
+use Rattle.vms_walk.specs.declared.step.WalkStep.TheVariants.{Number as Step}
+use Rattle.vms_convert.proofs.Settling.{comes_at, needed_same}
+
+pub all_subs : (subs : List Sub) → ((j : ℕ) (s : Sub) → slice_get subs j ≡ Some s → s.desc.minimum ≤ s.desc.version) → AreSubs subs
+all_subs [] h = tt
+all_subs (s ∷ subs) h = (h 0 s refl, all_subs subs (λ j t e. h (suc j) t e))
+
+-- ---- What comes back is normal, whatever numbers of the right kinds it is made of, and has come as needed.
 
 -- ---- what is taken fits
 
-taken_fits : (numbers : List ℤ) (cell : Cell) (has : Bool) (p : Option ℕ) → FitsCell cell cell.default → ((k : ℕ) → p ≡ Some k → InRange cell.kind (get_or numbers k (pos 0))) → FitsCell cell (taken numbers cell has p)
+taken_fits : (numbers : List ℤ) (cell : Cell) (has : Bool) (p : Option ℕ) → FitsCell cell cell.default
+    → ((k : ℕ) → p ≡ Some k → InRange cell.kind (get_or numbers k (pos 0))) → FitsCell cell (taken numbers cell has p)
 taken_fits numbers cell true (Some k) fine h = go (exceeds cell.capacities (get_or numbers k (pos 0))) refl where
   go : (b : Bool) → exceeds cell.capacities (get_or numbers k (pos 0)) ≡ b → FitsCell cell (if b then cell.default else get_or numbers k (pos 0))
   go true e = fine
@@ -50,7 +41,8 @@ module _ (to : Set) (well : WellFormed to) (heads : FitsHeads to) (i : ℕ) (d :
   abbrev cells : List Cell
   cells = device_cells to d
 
-  module _ (others : List Cell) (partners : List (Option ℕ)) (paired : ArePartners cells others partners) (numbers : List ℤ) (of_kinds : AreOfKinds others numbers) (image : Image) (back : IsBack to d partners numbers image) where
+  module _ (others : List Cell) (partners : List (Option ℕ)) (paired : ArePartners cells others partners) (numbers : List ℤ)
+      (of_kinds : AreOfKinds others numbers) (image : Image) (back : IsBack to d partners numbers image) where
     abbrev now : List ℤ
     now = back.now
 
@@ -64,13 +56,15 @@ module _ (to : Set) (well : WellFormed to) (heads : FitsHeads to) (i : ℕ) (d :
     taken_fit c lt =
         subst (λ (z : ℤ). FitsCell (get_or cells c no_cell) z) (sym (back.are_taken.each c lt))
         (taken_fits numbers (get_or cells c no_cell) (has_cell (image_slots to d (whole d now)) c) (get_or partners c None) (good.defaults i d there c lt)
-        (λ k e. let h = paired.kinds c k (at_get partners c k e) in subst (λ (kind : Kind). InRange kind (get_or numbers k (pos 0))) (sym h.1) (of_kinds.in_range k h.0)))
+        (λ k e. let h = paired.kinds c k (at_get partners c k e) in subst (λ (kind : Kind). InRange kind (get_or numbers k (pos 0))) (sym h.1)
+        (of_kinds.in_range k h.0)))
 
     -- ---- and so does what is settled
 
-    either_fits : (c : ℕ) (b : Bool) → c < length cells → get_or then_ c (pos 0) ≡ (if b then get_or now c (pos 0) else default_at c) → FitsCell (get_or cells c no_cell) (get_or then_ c (pos 0))
-    either_fits c true lt e = subst (λ (z : ℤ). FitsCell (get_or cells c no_cell) z) (sym e) (taken_fit c lt)
-    either_fits c false lt e = subst (λ (z : ℤ). FitsCell (get_or cells c no_cell) z) (sym e) (good.defaults i d there c lt)
+    either_fits : (c : ℕ) (b : Bool) → c < length cells → get_or then_ c (pos 0) ≡ (if b then get_or now c (pos 0) else default_at c)
+        → FitsCell (get_or cells c no_cell) (get_or then_ c (pos 0))
+    either_fits c true lt e = rw e (taken_fit c lt)
+    either_fits c false lt e = rw e (good.defaults i d there c lt)
 
     fits : (c : ℕ) → c < length cells → FitsCell (get_or cells c no_cell) (get_or then_ c (pos 0))
     fits c lt = by_part (own_or_sub to d c lt) where
@@ -81,92 +75,87 @@ module _ (to : Set) (well : WellFormed to) (heads : FitsHeads to) (i : ℕ) (d :
     -- ---- and if no byte is for it, it is at its default
 
     same_own : SameIn 0 (0 + own_cells to d) now then_
-    same_own = record { same = λ c low lt. back.settled.own c (omega (arith, lt)) }
+    same_own = record { same = λ c low lt. back.settled.own c (omega arith) }
 
-    same_sub : (j : ℕ) (s : Sub) → slice_get d.subs j ≡ Some s → is_needed to d (whole d now) s j ≡ true → SameIn (part_place to d j) (part_place to d j + sub_size to s) now then_
+    same_sub : (j : ℕ) (s : Sub) → slice_get d.subs j ≡ Some s → is_needed to d (whole d now) s j ≡ true
+        → SameIn (part_place to d j) (part_place to d j + sub_size to s) now then_
     same_sub j s e n = record {
       same = λ c low lt.
           back.settled.subs j s c (record { is = e; low = low; high = lt }) ∙ ap (λ (b : Bool). if b then get_or now c (pos 0) else default_at c) n;
     }
 
+    -- whether a cell is in the bytes of the device's own fields, of a subsection, of all subsections that came
+    abbrev in_own : List ℤ → ℕ → Bool
+    in_own n c = has_cell (own_slots to d d.desc.version n) c
+
+    abbrev in_sub : Sub → ℕ → List ℤ → ℕ → ℕ → Bool
+    in_sub s v n j c = has_cell (sub_slots to s v n (part_place to d j)) c
+
+    abbrev in_subs : List ℤ → List (Option ℕ) → ℕ → Bool
+    in_subs n came c = has_cell (came_slots to d n (own_cells to d) d.subs came) c
+
+    abbrev all_came : List (Option ℕ)
+    all_came = map (λ s. Some s.desc.version) d.subs
+
+    abbrev came_back : List (Option ℕ)
+    came_back = needed_from to d (bare d then_) 0 d.subs
+
     -- a cell that is in no part of the whole image was not taken
-    left : (c : ℕ) → c < length cells → has_cell (own_slots to d d.desc.version now) c ≡ false
-        → has_cell (came_slots to d now (own_cells to d) d.subs (map (λ s. Some s.desc.version) d.subs)) c ≡ false → get_or now c (pos 0) ≡ default_at c
+    left : (c : ℕ) → c < length cells → in_own now c ≡ false → in_subs now all_came c ≡ false → get_or now c (pos 0) ≡ default_at c
     left c lt a b =
-        back.are_taken.each c lt
-        ∙ ap (λ (has : Bool). taken numbers (get_or cells c no_cell) has (get_or partners c None))
-        (names_append (own_slots to d d.desc.version now) (came_slots to d now (own_cells to d) d.subs (map (λ s. Some s.desc.version) d.subs)) c
-        ∙ ap (λ (x : Bool). x || has_cell (came_slots to d now (own_cells to d) d.subs (map (λ s. Some s.desc.version) d.subs)) c) a ∙ b)
+        back.are_taken.each c lt ∙ ap (λ (has : Bool). taken numbers (get_or cells c no_cell) has (get_or partners c None))
+        (names_append (own_slots to d d.desc.version now) (came_slots to d now (own_cells to d) d.subs all_came) c ∙ ap
+        (λ (x : Bool). x || in_subs now all_came c) a ∙ b)
 
-    none_else : (c : ℕ) (came : List (Option ℕ)) → ((j : ℕ) (s : Sub) (v : ℕ) → slice_get d.subs j ≡ Some s → slice_get came j ≡ Some (Some v) → has_cell (sub_slots to s v now (part_place to d j)) c ≡ false)
-        → has_cell (came_slots to d now (own_cells to d) d.subs came) c ≡ false
+    none_else : (c : ℕ) (came : List (Option ℕ))
+        → ((j : ℕ) (s : Sub) (v : ℕ) → slice_get d.subs j ≡ Some s → slice_get came j ≡ Some (Some v) → in_sub s v now j c ≡ false)
+        → in_subs now came c ≡ false
     none_else c came h =
-        parts_together to d now (λ xs. has_cell xs c ≡ false) refl (λ xs ys p q. names_append xs ys c ∙ ap (λ (b : Bool). b || has_cell ys c) p ∙ q) (own_cells to d) d.subs came h
+        parts_together to d now (λ xs. has_cell xs c ≡ false) refl (λ xs ys p q. names_append xs ys c ∙ ap (λ (b : Bool). b || has_cell ys c) p ∙ q)
+        (own_cells to d) d.subs came h
 
-    absent_own : (c : ℕ) → c < length cells → c < own_cells to d → has_cell (own_slots to d d.desc.version then_) c ≡ false → get_or then_ c (pos 0) ≡ default_at c
+    absent_own : (c : ℕ) → c < length cells → c < own_cells to d → in_own then_ c ≡ false → get_or then_ c (pos 0) ≡ default_at c
     absent_own c lt own none =
-        back.settled.own c own
-        ∙ left c lt (ap (λ (xs : List Slot). has_cell xs c) (sym (its_same to d.desc d.desc.version 0 good.structs (good.devices i d there) now then_ same_own)) ∙ none)
-        (none_else c _ (λ j s v e f. its_below to s.desc v (part_place to d j) now c (omega (arith, own, sub_place_up to (own_cells to d) d.subs j))))
+        back.settled.own c own ∙ left c lt (ap (λ (xs : List Slot). has_cell xs c)
+        (sym (its_same to d.desc d.desc.version 0 good.structs (good.devices i d there) now then_ same_own)) ∙ none)
+        (none_else c _ (λ j s v e f. its_below to s.desc v (part_place to d j) now c (omega (arith, sub_place_up to (own_cells to d) d.subs j))))
 
     -- it isn't in a part other than the cell's own
-    others_none : (c j : ℕ) (s : Sub) → IsCellOf to d j s c → (j' : ℕ) (s' : Sub) (v : ℕ) → slice_get d.subs j' ≡ Some s' → (nat_lt j' j ≡ true) ⊎ (nat_lt j j' ≡ true) → has_cell (sub_slots to s' v now (part_place to d j')) c ≡ false
-    others_none c j s h j' s' v e (inl lt) =
-        let l = h.low in
-        let a = places_apart to (own_cells to d) d.subs j' j s' e (ltb-true j' j lt) in
-        its_above to s'.desc v (part_place to d j') now c (omega (arith, l, a))
-    others_none c j s h j' s' v e (inr lt) =
-        let l = h.high in
-        let a = places_apart to (own_cells to d) d.subs j j' s h.is (ltb-true j j' lt) in
-        its_below to s'.desc v (part_place to d j') now c (omega (arith, l, a))
+    other_part : (c j : ℕ) (s : Sub) → IsCellOf to d j s c → in_sub s s.desc.version now j c ≡ false → (j' : ℕ) (s' : Sub) (v : ℕ)
+        → slice_get d.subs j' ≡ Some s' → slice_get all_came j' ≡ Some (Some v) → in_sub s' v now j' c ≡ true → ⊥
+    other_part c j s h before j' s' v e f has =
+        let range = its_in to s'.desc v (part_place to d j') now c has in
+        let same : j' ≡ j = one_part to (own_cells to d) d.subs j' j c s' s e h.is range.0 range.1 h.low h.high in
+        let subs_same : Some s' ≡ Some s = sym e ∙ ap (slice_get d.subs) same ∙ h.is in
+        let one : s' ≡ s = cc in
+        let versions : Some (Some v) ≡ Some (Some s'.desc.version) = sym f ∙ at_map (λ (s : Sub). Some s.desc.version) d.subs j' s' e in
+        let v_is : v ≡ s'.desc.version = cc in
+        let here : in_sub s s.desc.version now j c ≡ true = rw (v_is, one, same) at has in
+        let bad : true ≡ false = sym here ∙ before in
+        cc
 
-    -- each part of the whole image came at its version
-    version_at : (subs : List Sub) (j v : ℕ) (s : Sub) → slice_get subs j ≡ Some s → slice_get (map (λ (s : Sub). Some s.desc.version) subs) j ≡ Some (Some v) → v ≡ s.desc.version
-    version_at [] j v s e f = absurd (cc)
-    version_at (t ∷ subs) zero v s e f =
-        let a : t ≡ s = cc in
-        let b : t.desc.version ≡ v = cc in
-        sym b ∙ ap (λ (u : Sub). u.desc.version) a
-    version_at (t ∷ subs) (suc j) v s e f = version_at subs j v s e f
-
-    absent_needed : (c j : ℕ) (s : Sub) → c < length cells → IsCellOf to d j s c → is_needed to d (whole d now) s j ≡ true
-        → has_cell (came_slots to d then_ (own_cells to d) d.subs (needed_from to d (bare d then_) 0 d.subs)) c ≡ false → get_or then_ c (pos 0) ≡ default_at c
+    absent_needed : (c j : ℕ) (s : Sub) → c < length cells → IsCellOf to d j s c → is_needed to d (whole d now) s j ≡ true → in_subs then_ came_back c ≡ false
+        → get_or then_ c (pos 0) ≡ default_at c
     absent_needed c j s lt h n none =
         let e = h.is in
         let same = same_sub j s e n in
         let low = h.low in
-        let high = h.high in
         let z : j ≡ 0 + j = omega arith in
         let still : is_needed to d (bare d then_) s j ≡ true = needed_same to well i d there j s e (whole d now) (bare d then_) same_own same ∙ n in
-        let came = needed_comes to d (bare d then_) 0 j s d.subs e (ap (λ (k : ℕ). is_needed to d (bare d then_) s k) (sym z) ∙ still) in
-        let here : has_cell (sub_slots to s s.desc.version then_ (part_place to d j)) c ≡ false =
-        part_apart to d then_ (λ xs. has_cell xs c ≡ false) (none_in_both c) (own_cells to d) d.subs (needed_from to d (bare d then_) 0 d.subs) none j s s.desc.version e came in
-        let before : has_cell (sub_slots to s s.desc.version now (part_place to d j)) c ≡ false =
-        ap (λ (xs : List Slot). has_cell xs c) (sym (its_same to s.desc s.desc.version (part_place to d j) good.structs (good.subs i j d s there e) now then_ same)) ∙ here in
-        same.same c low high
-        ∙ left c lt (its_above to d.desc d.desc.version 0 now c (omega (arith, low, sub_place_up to (own_cells to d) d.subs j)))
-        (none_else c _ (λ j' s' v e' f. by_part before j' s' v e' f (nat_lt j' j) refl (nat_lt j j') refl))
-      where
-        by_part : has_cell (sub_slots to s s.desc.version now (part_place to d j)) c ≡ false → (j' : ℕ) (s' : Sub) (v : ℕ) → slice_get d.subs j' ≡ Some s'
-            → slice_get (map (λ s. Some s.desc.version) d.subs) j' ≡ Some (Some v) → (p : Bool) → nat_lt j' j ≡ p → (q : Bool) → nat_lt j j' ≡ q → has_cell (sub_slots to s' v now (part_place to d j')) c ≡ false
-        by_part before j' s' v e' f true p q r = others_none c j s h j' s' v e' (inl p)
-        by_part before j' s' v e' f false p true r = others_none c j s h j' s' v e' (inr r)
-        by_part before j' s' v e' f false p false r =
-            let a : j ≤ j' = ltb-false j' j p in
-            let b : j' ≤ j = ltb-false j j' r in
-            let same : j ≡ j' = omega arith in
-            let subs_same : Some s ≡ Some s' = sym h.is ∙ ap (λ (k : ℕ). slice_get d.subs k) same ∙ e' in
-            let one : s ≡ s' = cc in
-            let w : v ≡ s'.desc.version = version_at d.subs j' v s' e' f in
-            let w' : s.desc.version ≡ v = ap (λ (u : Sub). u.desc.version) one ∙ sym w in
-            subst (λ (u : Sub). has_cell (sub_slots to u v now (part_place to d j')) c ≡ false) one
-            (subst (λ (k : ℕ). has_cell (sub_slots to s v now (part_place to d k)) c ≡ false) same
-            (subst (λ (u : ℕ). has_cell (sub_slots to s u now (part_place to d j)) c ≡ false) w' before))
+        let comes_here : is_needed to d (bare d then_) s (0 + j) ≡ true = rw (← z) still in
+        let came = comes_at to d (bare d then_) d.subs 0 j s e ∙ ap (λ (b : Bool). Some (if b then Some s.desc.version else None)) comes_here in
+        let here : in_sub s s.desc.version then_ j c ≡ false =
+        part_apart to d then_ (λ xs. has_cell xs c ≡ false) (none_in_both c) (own_cells to d) d.subs came_back none j s s.desc.version e came in
+        let before : in_sub s s.desc.version now j c ≡ false =
+        ap (λ (xs : List Slot). has_cell xs c)
+        (sym (its_same to s.desc s.desc.version (part_place to d j) good.structs (good.subs i j d s there e) now then_ same)) ∙ here in
+        same.same c low h.high ∙ left c lt (its_above to d.desc d.desc.version 0 now c (omega (arith, sub_place_up to (own_cells to d) d.subs j)))
+        (none_else c _ (λ j' s' v e' f. false_from_ne_true _ (other_part c j s h before j' s' v e' f)))
 
     absent : (c : ℕ) → c < length cells → has_cell (image_slots to d (image_of to d then_)) c ≡ false → get_or then_ c (pos 0) ≡ default_at c
     absent c lt none = by_part (own_or_sub to d c lt) where
-      parts : (has_cell (own_slots to d d.desc.version then_) c ≡ false) × (has_cell (came_slots to d then_ (own_cells to d) d.subs (needed_from to d (bare d then_) 0 d.subs)) c ≡ false)
-      parts = none_in_both c (own_slots to d d.desc.version then_) (came_slots to d then_ (own_cells to d) d.subs (needed_from to d (bare d then_) 0 d.subs)) none
+      parts : (in_own then_ c ≡ false) × (in_subs then_ came_back c ≡ false)
+      parts = none_in_both c (own_slots to d d.desc.version then_) (came_slots to d then_ (own_cells to d) d.subs came_back) none
 
       by_needed : (j : ℕ) (s : Sub) → IsCellOf to d j s c → (b : Bool) → is_needed to d (whole d now) s j ≡ b → get_or then_ c (pos 0) ≡ default_at c
       by_needed j s h true n = absent_needed c j s lt h n parts.1
@@ -185,16 +174,136 @@ module _ (to : Set) (well : WellFormed to) (heads : FitsHeads to) (i : ℕ) (d :
         let minimum = leb-true d.desc.minimum d.desc.version (device_parts to well i d there).0.own.1.1.0 in
         record {
           version = (minimum, omega arith);
-          subs = versions to d (bare d then_) 0 d.subs (all_subs d.subs (λ j s e. leb-true s.desc.minimum s.desc.version (sub_clean to well i j d s there e).own.1.1.0));
+          subs = versions to d (bare d then_) 0 d.subs
+              (all_subs d.subs (λ j s e. leb-true s.desc.minimum s.desc.version (sub_clean to well i j d s there e).own.1.1.0));
           cells = record { long = settled_long ∙ long; fits = fits };
-          absent = λ c lt none. absent c (omega (arith, lt, long, settled_long)) none;
+          absent = λ c lt none. absent c (omega arith) none;
         }
 
     pub back_normal : IsNormal to d image
     back_normal = subst (λ (x : Image). IsNormal to d x) (sym back.is) normal_of
 
     pub back_comes : ComeAsNeeded to d image 0 d.subs image.came
-    back_comes = subst (λ (x : Image). ComeAsNeeded to d x 0 d.subs x.came) (sym back.is) (needed to d then_ (needed_from to d (bare d then_) 0 d.subs) 0 d.subs)
+    back_comes =
+        subst (λ (x : Image). ComeAsNeeded to d x 0 d.subs x.came) (sym back.is) (needed to d then_ (needed_from to d (bare d then_) 0 d.subs) 0 d.subs)
 
     pub back_version : image.version ≡ d.desc.version
     back_version = ap (λ (x : Image). x.version) back.is
+
+-- ---- A number may be given after others: the target keeps its kinds and its length.
+
+pub partner_long : (z : ℤ) (o : Option ℕ) (now : List ℤ) → length (give_partner z o now) ≡ length now
+partner_long z None now = refl
+partner_long z (Some k) now = length-set now k z
+
+pub steps_long : (partners : List (Option ℕ)) (numbers : List ℤ) (xs : List WalkStep) (now : List ℤ)
+    → length (changed (give_step partners numbers) xs now) ≡ length now
+steps_long partners numbers [] now = refl
+steps_long partners numbers (Step c kind most ∷ xs) now =
+    steps_long partners numbers xs (give_partner (get_or numbers c (pos 0)) (get_or partners c None) now)
+    ∙ partner_long (get_or numbers c (pos 0)) (get_or partners c None) now
+steps_long partners numbers (_ ∷ xs) now = steps_long partners numbers xs now
+
+pub may_give : (p p' : List (Option ℕ)) (n n' : List ℤ) (xs : List WalkStep) (a b : Typed) → p' ≡ p → n' ≡ n → Changes (give_step p n) xs a b
+    → AreTargets a.kinds n p → length a.kinds ≡ length a.numbers → AreTargets b.kinds n' p' × (length b.kinds ≡ length b.numbers)
+may_give p p' n n' xs a b e f h targets long =
+    let kinds : b.kinds ≡ a.kinds = ap (λ (x : Typed). x.kinds) h in
+    let numbers : length b.numbers ≡ length a.numbers = ap (λ (x : Typed). length x.numbers) h ∙ steps_long p n xs a.numbers in (
+      rw (kinds, f, e) targets,
+      ap (λ (ks : List Kind). length ks) kinds ∙ long ∙ sym numbers,
+    )
+
+-- ---- What the partners of cells are given, step by step: that is what is carried.
+
+module _ (partners : List (Option ℕ)) (numbers : List ℤ) where
+  abbrev pub gives : List Slot → List ℤ → List ℤ
+  gives slots now = changed (give_step partners numbers) (steps_of slots) now
+
+  pub gives_more : (xs ys : List Slot) (now : List ℤ) → gives (xs ++ ys) now ≡ gives ys (gives xs now)
+  gives_more xs ys now =
+      ap (λ (l : List WalkStep). changed (give_step partners numbers) l now) (map-append step_of xs ys)
+      ∙ changed_append (give_step partners numbers) (steps_of xs) (steps_of ys) now
+
+  pub gives_long : (slots : List Slot) (now : List ℤ) → length (gives slots now) ≡ length now
+  gives_long slots now = steps_long partners numbers (steps_of slots) now
+
+  partner_other : (z : ℤ) (o : Option ℕ) (now : List ℤ) (k : ℕ) → (o ≡ Some k → ⊥) → get_or (give_partner z o now) k (pos 0) ≡ get_or now k (pos 0)
+  partner_other z None now k ne = refl
+  partner_other z (Some j) now k ne = get_or-set_other now j k z (pos 0) (λ same. ne (ap (λ (n : ℕ). Some n) (sym same)))
+
+  -- after one more number
+  abbrev next : ℕ → List ℤ → List ℤ
+  next c now = give_partner (get_or numbers c (pos 0)) (get_or partners c None) now
+
+  -- no cell of the slots has this partner
+  pub given_none : (slots : List Slot) (now : List ℤ) (k : ℕ) → ((c : ℕ) → get_or partners c None ≡ Some k → has_cell slots c ≡ false)
+      → get_or (gives slots now) k (pos 0) ≡ get_or now k (pos 0)
+  given_none [] now k h = refl
+  given_none (Number c kind caps ∷ slots) now k h =
+      given_none slots (next c now) k (λ b e. (or_parts (c == b) (has_cell slots b) (h b e)).1)
+      ∙ partner_other (get_or numbers c (pos 0)) (get_or partners c None) now k
+      (λ e. let bad : false ≡ true = sym (or_parts (c == c) (has_cell slots c) (h c e)).0 ∙ eq-eqb c c refl in cc)
+  given_none (_ ∷ slots) now k h = given_none slots now k h
+
+  module _ (once : (b c k : ℕ) → get_or partners b None ≡ Some k → get_or partners c None ≡ Some k → b ≡ c) where
+    -- target k has the number of cell c
+    abbrev Has : ℕ → ℕ → List ℤ → Type 0
+    Has k c now = get_or now k (pos 0) ≡ get_or numbers c (pos 0)
+
+    -- the partner of a cell that has its number keeps it
+    step_keeps : (c k b : ℕ) (now : List ℤ) → k < length now → get_or partners c None ≡ Some k → Has k c now → Has k c (next b now)
+    step_keeps c k b now lt e h = go (get_or partners b None) refl where
+      go : (o : Option ℕ) → get_or partners b None ≡ o → Has k c (give_partner (get_or numbers b (pos 0)) o now)
+      go None f = h
+      go (Some j) f = by_place (j == k) refl where
+        by_place : (t : Bool) → (j == k) ≡ t → Has k c (slice_set now j (get_or numbers b (pos 0)))
+        by_place true g =
+            let same : j ≡ k = eqb-true j k g in
+            let cells : b ≡ c = once b c k (f ∙ ap (λ (n : ℕ). Some n) same) e in
+            rw (same, cells) (get_or-set_same now k (get_or numbers c (pos 0)) (pos 0) lt)
+        by_place false g = get_or-set_other now j k (get_or numbers b (pos 0)) (pos 0) (λ same. (let x = eq-eqb j k (sym same) in cc)) ∙ h
+
+    next_long : (b : ℕ) (now : List ℤ) → length (next b now) ≡ length now
+    next_long b now = partner_long (get_or numbers b (pos 0)) (get_or partners b None) now
+
+    keeps_given : (slots : List Slot) (c k : ℕ) (now : List ℤ) → k < length now → get_or partners c None ≡ Some k → Has k c now → Has k c (gives slots now)
+    keeps_given [] c k now lt e h = h
+    keeps_given (Number b kind caps ∷ slots) c k now lt e h =
+        keeps_given slots c k (next b now) (omega (arith, next_long b now)) e (step_keeps c k b now lt e h)
+    keeps_given (_ ∷ slots) c k now lt e h = keeps_given slots c k now lt e h
+
+    -- a cell that is in the slots gives its number to its partner
+    pub given_some : (slots : List Slot) (c k : ℕ) (now : List ℤ) → k < length now → get_or partners c None ≡ Some k → has_cell slots c ≡ true
+        → Has k c (gives slots now)
+    given_some [] c k now lt e h = cc
+    given_some (Number b kind caps ∷ slots) c k now lt e h =
+        let less : k < length (next b now) = omega (arith, next_long b now) in
+        elim (or_split (b == c) (has_cell slots c) h) [
+          | inl f ↦
+              let same : b ≡ c = eqb-true b c f in
+              let put : Has k c (next c now) = rw e (get_or-set_same now k (get_or numbers c (pos 0)) (pos 0) lt) in
+              keeps_given slots c k (next b now) less e (rw same put)
+          | inr f ↦ given_some slots c k (next b now) less e f.1
+        ]
+    given_some (_ ∷ slots) c k now lt e h = given_some slots c k now lt e h
+
+-- ---- a whole device
+
+-- from defaults on
+pub given_all : (old new : Set) (d e : Device) (image : Image) → ArePartners (device_cells old d) (device_cells new e) (device_partners old new d e)
+    → IsCarried old new d e image (gives (device_partners old new d e) image.numbers (image_slots old d image) (map (λ c. c.default) (device_cells new e)))
+given_all old new d e image paired =
+    let partners = device_partners old new d e in
+    let before = map (λ (c : Cell). c.default) (device_cells new e) in
+    let slots = image_slots old d image in
+    let long : length before ≡ length (device_cells new e) = length-map (device_cells new e) (λ (c : Cell). c.default) in
+    record {
+      long = gives_long partners image.numbers slots before ∙ long;
+      taken = λ c k f h.
+          let inside = (paired.kinds c k f).0 in
+          given_some partners image.numbers (λ b c' k' x y. paired.once b c' k' (at_get partners b k' x) (at_get partners c' k' y)) slots c k before
+          (omega arith) (get_or_from_slice_get partners c (Some k) None f) h;
+      other = λ k lt none.
+          given_none partners image.numbers slots before k (λ c f. none c (at_get partners c k f))
+          ∙ get_or-map (λ (c : Cell). c.default) (device_cells new e) k no_cell;
+    }

@@ -1,30 +1,15 @@
 -- The parts of a device, as the code walks over them by number.
-use Rattle.std.proofs.Common.{◌≡◌, ℕ, suc, ◌+◌, ◌<◌, ◌≤◌, Bool, true, false, List, length, map, Option, Some, None, ℤ, refl, sym, ap, ◌∙◌, subst, arith}
-use Rattle.std.proofs.lemmas.List.{append-nil}
-use Rattle.std.proofs.lemmas.Option.{slice_get-get_or}
-use Rattle.std.specs.List.{slice_get}
+use Rattle.vms_convert.proofs.Facade.{◌≡◌, ℕ, suc, ◌+◌, ◌<◌, ◌≤◌, Bool, true, false, List, length, map, Option, Some, None, ℤ, refl, sym, ap, ◌∙◌, subst, arith}
+use Rattle.vms_convert.proofs.Facade.{◌++◌, get_or, take, append-nil, slice_get-get_or, slice_get, IsGood, Sub, Device, Set, Slot, device_cells, own_slots}
+use Rattle.vms_convert.proofs.Facade.{Image, came_slots, image_slots, own_cells, WellFormed, needed_at, device_at, is_well_formed, sub_at, few_cells}
+use Rattle.vms_convert.proofs.Facade.{own_inside_device, sub_inside, IsImageOf, Typed, bare, needed_from, HasSpot, spot_slots, steps_of, AreTaken, AreSettled}
+use Rattle.vms_convert.proofs.Facade.{ArePutAt, SettlesBy, SettlesSub, marked_by, part_of, own_part, part_slots, sub_slots_at, changed, put_step, part_place}
+use Rattle.vms_convert.proofs.Facade.{give_step, take_all}
 use Rattle.vms_spec.specs.declared.Part.TheVariants as parts
-use Rattle.vms_spec.specs.Good.{IsGood}
-use Rattle.vms_spec.specs.Sets.{Sub, Device, Set}
-use Rattle.vms_spec.specs.Layout.{Slot, device_cells}
-use Rattle.vms_spec.specs.Images.{own_slots}
-use Rattle.vms_spec.specs.WellFormed.{WellFormed}
-use Rattle.vms_desc.specs.Asks.{needed_at}
-use Rattle.vms_desc.specs.Described.{device_at}
-use Rattle.vms_desc.specs.Formed.{is_well_formed}
-use Rattle.vms_desc.specs.Parts.{sub_at}
-use Rattle.vms_desc.proofs.AskLaws.{few_cells, own_inside_device, sub_inside}
-use Rattle.vms_image.specs.Typed.{IsImageOf, Typed}
-use Rattle.dev_images.specs.Images.{bare, needed_from}
-use Rattle.vms_walk.specs.Steps.{HasSpot, spot_slots, steps_of}
-use Rattle.vms_convert.specs.Back.{AreTaken, AreSettled}
-use Rattle.vms_convert.specs.Bringing.{ArePutAt, SettlesBy, SettlesSub, marked_by, part_of}
-use Rattle.vms_convert.specs.Changes.{changed}
-use Rattle.vms_convert.specs.Putting.{put_step}
-use Rattle.vms_convert.proofs.FirstParts.{all_came, first_slots}
-use Rattle.vms_convert.proofs.MarkedAll.{MarkedTo, all_marked, marked_next, marked_none, marked_skip}
-use Rattle.vms_convert.proofs.SettledAll.{AreBare, SettledTo, all_settled, settled_bare, settled_needed}
-use Rattle.vms_convert.proofs.TakenAll.{all_taken, taken_next}
+use Rattle.vms_convert.proofs.TakeLaws.{all_came, first_slots, first_next, one_slots, all_taken, taken_next}
+use Rattle.vms_convert.proofs.Settling.{MarkedTo, all_marked, marked_next, marked_none, marked_skip, AreBare, SettledTo, all_settled, settled_bare}
+use Rattle.vms_convert.proofs.Settling.{settled_needed}
+use Rattle.vms_convert.proofs.BackNormal.{gives, gives_more}
 
 module _ (set : Set) (i : ℕ) (lt : i < length set.devices) where
   abbrev d : Device
@@ -43,15 +28,15 @@ module _ (set : Set) (i : ℕ) (lt : i < length set.devices) where
     pub own_spot : HasSpot set (part_of set (parts.Device i)) n
     own_spot = record {
       part = lt;
-      few = omega (arith, long, few_cells set well i);
-      room = omega (arith, long, own_inside_device set i);
+      few = omega (arith, few_cells set well i);
+      room = omega (arith, own_inside_device set i);
     }
 
     pub sub_spot : (j : ℕ) → j < length (device_at set i).subs → HasSpot set (part_of set (parts.Sub i j)) n
     sub_spot j less = record {
       part = (lt, less);
-      few = omega (arith, long, few_cells set well i);
-      room = omega (arith, long, sub_inside set i j less);
+      few = omega (arith, few_cells set well i);
+      room = omega (arith, sub_inside set i j less);
     }
 
   -- ---- what is taken, part by part
@@ -64,7 +49,9 @@ module _ (set : Set) (i : ℕ) (lt : i < length set.devices) where
     puts slots now = changed (put_step partners source) (steps_of slots) now
 
     abbrev pub TookTo : ℕ → List ℤ → Type 0
-    TookTo j n = n ≡ changed (put_step partners source) (steps_of (first_slots set (device_at set i) (all_came (device_at set i).subs) j n)) (map (λ c. c.default) (device_cells set (device_at set i)))
+    TookTo j n =
+        n ≡ changed (put_step partners source) (steps_of (first_slots set (device_at set i) (all_came (device_at set i).subs) j n))
+        (map (λ c. c.default) (device_cells set (device_at set i)))
 
     pub took_own : (n : List ℤ) → n ≡ puts (spot_slots set (part_of set (parts.Device i)) n) defaults → TookTo 0 n
     took_own n e = e ∙ sym (ap (λ (l : List Slot). puts l defaults) (append-nil (own_slots set d d.desc.version n)))
@@ -73,11 +60,13 @@ module _ (set : Set) (i : ℕ) (lt : i < length set.devices) where
     took_sub n m j less first more =
         let s : suc j ≡ j + 1 = omega arith in
         subst (λ (k : ℕ). TookTo k m) s
-        (taken_next set good.structs d (good.devices i d there) (λ k s e. good.subs i k d s there e) partners source defaults n m j (sub_at d j) (sub_there j less) first more)
+        (taken_next set good.structs d (good.devices i d there) (λ k s e. good.subs i k d s there e) partners source defaults n m j (sub_at d j)
+        (sub_there j less) first more)
 
-    pub took_all : (n : List ℤ) (j : ℕ) → length d.subs ≤ j → j ≤ length d.subs → TookTo j n → length n ≡ length (device_cells set d) → AreTaken set d partners source n
+    pub took_all : (n : List ℤ) (j : ℕ) → length d.subs ≤ j → j ≤ length d.subs → TookTo j n → length n ≡ length (device_cells set d)
+        → AreTaken set d partners source n
     took_all n j end within first long =
-        let same : j ≡ length d.subs = omega (arith, end, within) in
+        let same : j ≡ length d.subs = omega arith in
         all_taken set good.structs d (good.devices i d there) (λ k s e. good.subs i k d s there e) partners source n j same first long
 
   -- ---- what is settled
@@ -105,7 +94,7 @@ module _ (set : Set) (i : ℕ) (lt : i < length set.devices) where
         subst (λ (k : ℕ). SettledUp k m) s (settled_bare set well i d there before n m j (sub_at d j) (sub_there j less) h not (bare_of n m j p))
 
     pub settle_all : (n : List ℤ) (j : ℕ) → length d.subs ≤ j → j ≤ length d.subs → SettledUp j n → AreSettled set d before n
-    settle_all n j end within h = let same : j ≡ length d.subs = omega (arith, end, within) in all_settled set well i d there before n j same h
+    settle_all n j end within h = let same : j ≡ length d.subs = omega arith in all_settled set well i d there before n j same h
 
     pub settle_one : (a b : Typed) (j : ℕ) → j < length d.subs → SettledUp j a.numbers → SettlesSub set i j a b → SettledUp (j + 1) b.numbers
     settle_one a b j less h s = go (needed_at set i j a.numbers) refl s where
@@ -125,7 +114,8 @@ module _ (set : Set) (i : ℕ) (lt : i < length set.devices) where
     abbrev pub MarkedUp : ℕ → List (Option ℕ) → Type 0
     MarkedUp j came = MarkedTo set (device_at set i) (bare (device_at set i) numbers) (device_at set i).subs j came
 
-    pub mark_one : (came : List (Option ℕ)) (j : ℕ) → j < length d.subs → MarkedUp j came → MarkedUp (j + 1) (marked_by (needed_at set i j numbers) set i j came)
+    pub mark_one : (came : List (Option ℕ)) (j : ℕ) → j < length d.subs → MarkedUp j came
+        → MarkedUp (j + 1) (marked_by (needed_at set i j numbers) set i j came)
     mark_one came j less h =
         let s : suc j ≡ j + 1 = omega arith in
         subst (λ (k : ℕ). MarkedUp k (marked_by (needed_at set i j numbers) set i j came)) s (go (needed_at set i j numbers) refl)
@@ -137,12 +127,14 @@ module _ (set : Set) (i : ℕ) (lt : i < length set.devices) where
     pub mark_none : MarkedUp 0 (map (λ s. None) d.subs)
     mark_none = marked_none set d (bare d numbers) d.subs
 
-    pub mark_all : (came : List (Option ℕ)) (j : ℕ) → length d.subs ≤ j → j ≤ length d.subs → MarkedUp j came → came ≡ needed_from set d (bare d numbers) 0 d.subs
-    mark_all came j end within h = let same : j ≡ length d.subs = omega (arith, end, within) in all_marked set d (bare d numbers) d.subs came j same h
+    pub mark_all : (came : List (Option ℕ)) (j : ℕ) → length d.subs ≤ j → j ≤ length d.subs → MarkedUp j came
+        → came ≡ needed_from set d (bare d numbers) 0 d.subs
+    mark_all came j end within h = let same : j ≡ length d.subs = omega arith in all_marked set d (bare d numbers) d.subs came j same h
 
 -- ---- images that keep all but their numbers
 
-pub image_kept : (set : Set) (i : ℕ) (a b : Typed) → IsImageOf set i a → b ≡ record a { numbers = b.numbers } → length b.numbers ≡ length a.numbers → IsImageOf set i b
+pub image_kept : (set : Set) (i : ℕ) (a b : Typed) → IsImageOf set i a → b ≡ record a { numbers = b.numbers } → length b.numbers ≡ length a.numbers
+    → IsImageOf set i b
 image_kept set i a b of rest long = record {
   subs = ap (λ (x : Typed). length x.came) rest ∙ of.subs;
   cells = long ∙ of.cells;
@@ -151,3 +143,48 @@ image_kept set i a b of rest long = record {
 
 pub rest_more : (a b c : Typed) → b ≡ record a { numbers = b.numbers } → c ≡ record b { numbers = c.numbers } → c ≡ record a { numbers = c.numbers }
 rest_more a b c e f = f ∙ ap (λ (x : Typed). record x { numbers = c.numbers }) e
+
+-- ---- What is given, part by part.
+
+module _ (set : Set) (i : ℕ) (lt : i < length set.devices) (image : Image) (long : length image.came ≡ length (device_at set i).subs)
+    (version : image.version ≡ (device_at set i).desc.version) (partners : List (Option ℕ)) where
+  abbrev dev : Device
+  dev = device_at set i
+
+  abbrev n : List ℤ
+  n = image.numbers
+
+  abbrev pub gives_to : ℕ → List ℤ → List ℤ
+  gives_to j before = changed (give_step partners image.numbers) (steps_of (first_slots set (device_at set i) image.came j image.numbers)) before
+
+  pub gave_own : (before : List ℤ) → changed (give_step partners n) (steps_of (spot_slots set (own_part i image.version) n)) before ≡ gives_to 0 before
+  gave_own before =
+      ap (λ (v : ℕ). gives partners n (own_slots set dev v n) before) version
+      ∙ sym (ap (λ (l : List Slot). gives partners n l before) (append-nil (own_slots set dev dev.desc.version n)))
+
+  one_is : (j : ℕ) (o : Option ℕ) → one_slots set (sub_at dev j) o n (part_place set dev j) ≡ sub_slots_at set i j o n
+  one_is j None = refl
+  one_is j (Some v) = refl
+
+  pub gave_sub : (before now next : List ℤ) (j : ℕ) → j < length dev.subs → now ≡ gives_to j before
+      → next ≡ changed (give_step partners n) (steps_of (part_slots set i j image)) now → next ≡ gives_to (j + 1) before
+  gave_sub before now next j less e f =
+      let s : suc j ≡ j + 1 = omega arith in
+      let o = get_or image.came j None in
+      let at : slice_get dev.subs j ≡ Some (sub_at dev j) = slice_get-get_or dev.subs j _ less in
+      let at' : slice_get image.came j ≡ Some (get_or image.came j None) = slice_get-get_or image.came j None (omega arith) in
+      f ∙ ap (λ (l : List ℤ). gives partners n (part_slots set i j image) l) e
+      ∙ sym (gives_more partners n (first_slots set dev image.came j n) (part_slots set i j image) before)
+      ∙ ap (λ (l : List Slot). gives partners n (first_slots set dev image.came j n ++ l) before) (sym (one_is j o))
+      ∙ sym (ap (λ (l : List Slot). gives partners n l before) (first_next set dev image.came j (sub_at dev j) o n at at'))
+      ∙ ap (λ (k : ℕ). gives partners n (first_slots set dev image.came k n) before) s
+
+  pub gave_all : (before : List ℤ) (j : ℕ) → length dev.subs ≤ j → j ≤ length dev.subs
+      → gives_to j before ≡ changed (give_step partners n) (steps_of (image_slots set dev image)) before
+  gave_all before j end within =
+      ap (λ (l : List Slot). gives partners n l before)
+      (ap (λ (subs : List Sub). own_slots set dev dev.desc.version n ++ came_slots set dev n (own_cells set dev) subs (take j image.came))
+      (take_all j dev.subs (omega arith))
+      ∙ ap (λ (came : List (Option ℕ)). own_slots set dev dev.desc.version n ++ came_slots set dev n (own_cells set dev) dev.subs came)
+      (take_all j image.came (omega arith))
+      ∙ ap (λ (v : ℕ). own_slots set dev v n ++ came_slots set dev n (own_cells set dev) dev.subs image.came) (sym version))

@@ -1,29 +1,16 @@
 -- What is converted loads as the newer set's, and again.
-use Rattle.std.proofs.Common.{◌≡◌, ℕ, zero, suc, ◌≤◌, Bool, true, false, ◌&&◌, List, [], ◌∷◌, length, get_or, Option, Some, None, refl, sym, ap, ◌∙◌, subst, arith, ℤ, if◌then◌else◌}
-use Rattle.std.proofs.lemmas.Option.{slice_get_within}
-use Rattle.std.specs.List.{slice_get}
-use Rattle.vms_spec.specs.Sets.{Device, Set}
-use Rattle.vms_spec.specs.Images.{Image}
-use Rattle.vms_spec.specs.Streams.{AreReady, longest_text, written}
-use Rattle.vms_spec.specs.WellFormed.{WellFormed}
-use Rattle.vms_spec.specs.Layout.{device_cells}
-use Rattle.vms_spec.specs.Good.{IsFit}
-use Rattle.vms_bodies.proofs.ComeLaws.{same_lists}
-use Rattle.vms_spec.proofs.WellFormedLaws.{well_good}
-use Rattle.vms_check.specs.Comparing.{Compatible}
-use Rattle.vms_check.specs.Carrying.{carried}
-use Rattle.vms_stream.specs.StreamLaws.{IsWholeStream}
-use Rattle.vms_check_laws.proofs.Streaming.{pair, back, all_in, upgrade_stands}
-use Rattle.dev_serial.specs.Recast.{recast_cells}
-use Rattle.dev_serial.proofs.RecastLaws.{recast_twice}
-use Rattle.vms_convert.specs.Converted.{AreBack, IsConverted, IsPairAt, recast_each}
-use Rattle.vms_convert.specs.Laws.{OneBackLaw, BackLaw, AreRecastOf, Converts, ConvertsLaw}
-use Rattle.vms_convert.specs.Lost.{KeepsAll, numbers_in}
-use Rattle.vms_check.specs.Partners.{device_partners}
-use Rattle.vms_convert.specs.Recast.{recast, is_port, wants_arrays}
-use Rattle.vms_convert.proofs.BackNormal.{back_normal, back_comes, back_version}
-use Rattle.vms_convert.proofs.OneBack.{one_back}
-use Rattle.vms_check_laws.proofs.PairDevices.{device_paired}
+use Rattle.vms_convert.proofs.Facade.{◌≡◌, ℕ, ◌≤◌, Bool, true, false, ◌&&◌, List, [], ◌∷◌, length, get_or, Option, Some, refl, sym, ap, ◌∙◌, subst, arith, ℤ}
+use Rattle.vms_convert.proofs.Facade.{if◌then◌else◌, ◌<◌, map, pos, slice_get_within, slice_get, get_or-map, length-map, Device, Set, Image, IsNormal}
+use Rattle.vms_convert.proofs.Facade.{image_slots, AreReady, longest_text, written, WellFormed, device_cells, Cell, no_cell, IsFit, same_lists, well_good}
+use Rattle.vms_convert.proofs.Facade.{Compatible, carried, carried_device, IsWholeStream, pair, back, all_in, upgrade_stands, recast_cells, recast_twice}
+use Rattle.vms_convert.proofs.Facade.{AreBack, IsConverted, IsPairAt, recast_each, OneBackLaw, BackLaw, AreRecastOf, ConvertsLaw, KeepsAll, numbers_in}
+use Rattle.vms_convert.proofs.Facade.{device_partners, recast, is_port, wants_arrays, device_paired, Kind, U8, InRange, ArePartners, AreOfKinds, carried_stands}
+use Rattle.vms_convert.proofs.Facade.{device_at, kinds_at, Typed, default_at, state_of, steps_of, IsBack, Changes, changed, AreTargets, give_step, AreSources}
+use Rattle.vms_convert.specs.Laws.{Converts}
+use Rattle.vms_convert.proofs.BackNormal.{back_normal, back_comes, back_version, at_get, gives, given_all, steps_long}
+use Rattle.vms_convert.proofs.HasBack.{one_back}
+use Rattle.vms_convert.proofs.Settling.{back_versions, some_at}
+use Rattle.vms_convert.proofs.BringLaws.{there}
 
 pub one_stands : OneBackLaw
 one_stands to fit i d there partners numbers x y p q =
@@ -43,7 +30,8 @@ back_stands to new fit well i d e there numbers kinds image back =
 
 twice : (to : Set) (e : Device) (numbers : List ℤ) → recast to e (recast to e numbers) ≡ recast to e numbers
 twice to e numbers = go (is_port e && wants_arrays to) where
-  go : (b : Bool) → (if b then recast_cells (if b then recast_cells numbers else numbers) else (if b then recast_cells numbers else numbers)) ≡ (if b then recast_cells numbers else numbers)
+  go : (b : Bool) → (if b then recast_cells (if b then recast_cells numbers else numbers) else (if b then recast_cells numbers else numbers))
+      ≡ (if b then recast_cells numbers else numbers)
   go true = recast_twice numbers
   go false = refl
 
@@ -51,38 +39,31 @@ each_twice : (to : Set) (devices : List Device) (lists : List (List ℤ)) → re
 each_twice to [] lists = refl
 each_twice to (e ∷ devices) [] = refl
 each_twice to (e ∷ devices) (numbers ∷ lists) =
-    ap (λ (l : List ℤ). l ∷ recast_each to devices (recast_each to devices lists)) (twice to e numbers) ∙ ap (λ (l : List (List ℤ)). recast to e numbers ∷ l) (each_twice to devices lists)
+    ap (λ (l : List ℤ). l ∷ recast_each to devices (recast_each to devices lists)) (twice to e numbers)
+    ∙ ap (λ (l : List (List ℤ)). recast to e numbers ∷ l) (each_twice to devices lists)
 
 -- ---- one stream
-
-at_some : {A : Type 0} (xs : List A) (k : ℕ) → k ≤ length xs → (o : Option A) → slice_get xs k ≡ o → (suc k ≤ length xs) → (x : A) × (slice_get xs k ≡ Some x)
-at_some xs k le None e lt = absurd (none_inside xs k e lt) where
-  none_inside : {A : Type 0} (xs : List A) (k : ℕ) → slice_get xs k ≡ None → suc k ≤ length xs → ⊥
-  none_inside [] k e lt = absurd (omega arith)
-  none_inside (x ∷ xs) zero e lt = cc
-  none_inside (x ∷ xs) (suc k) e lt = none_inside xs k e (omega arith)
-at_some xs k le (Some x) e lt = (x, e)
 
 module _ (to new : Set) (fit : IsFit to) (well : WellFormed new) (compatible : Compatible to new) where
   -- the images that come back of the same numbers are the same
   pub same_backs : (wanted : List (List ℤ)) (xs ys : List Image) → AreBack to new wanted xs → AreBack to new wanted ys → ys ≡ xs
   same_backs wanted xs ys p q =
-      let long = p.one_each in
-      let long' = q.one_each in
-      same_lists ys xs (omega (arith, long, long')) (λ i lt. each i (omega (arith, lt, long')) (omega (arith, lt)) (omega (arith, lt, long, long')))
+      same_lists ys xs (omega arith) (λ i lt. each i (omega arith) (omega arith) (omega arith))
     where
-      each : (i : ℕ) → suc i ≤ length to.devices → suc i ≤ length ys → suc i ≤ length xs → slice_get ys i ≡ slice_get xs i
+      each : (i : ℕ) → i < length to.devices → i < length ys → i < length xs → slice_get ys i ≡ slice_get xs i
       each i a b c =
-          let d = at_some to.devices i (omega (arith, a)) (slice_get to.devices i) refl a in
-          let y = at_some ys i (omega (arith, b)) (slice_get ys i) refl b in
-          let x = at_some xs i (omega (arith, c)) (slice_get xs i) refl c in
+          let d = some_at to.devices i a in
+          let y = some_at ys i b in
+          let x = some_at xs i c in
           let newer = pair to new fit.well (all_in to new fit.well well compatible) i d.0 d.1 in
           let is : IsPairAt to new i newer.number d.0 newer.device = record { in_old = d.1; found = newer.found; in_new = newer.stands } in
-          let one = one_stands to fit i d.0 d.1 (device_partners to new d.0 newer.device) (get_or wanted newer.number []) x.0 y.0 (p.each i newer.number d.0 newer.device x.0 is x.1) (q.each i newer.number d.0 newer.device y.0 is y.1) in
+          let one =
+          one_stands to fit i d.0 d.1 (device_partners to new d.0 newer.device) (get_or wanted newer.number []) x.0 y.0
+          (p.each i newer.number d.0 newer.device x.0 is x.1) (q.each i newer.number d.0 newer.device y.0 is y.1) in
           y.1 ∙ ap (λ (image : Image). Some image) one ∙ sym x.1
 
-  module _ (describe : List Image → List ℕ) (short : (backs : List Image) → length (describe backs) ≤ longest_text) (machine : Option (List ℕ)) (images : List Image) (kinds : AreRecastOf to new images)
-      (bytes : List ℕ) (converted : IsConverted to new describe machine images bytes) where
+  module _ (describe : List Image → List ℕ) (short : (backs : List Image) → length (describe backs) ≤ longest_text) (machine : Option (List ℕ))
+      (images : List Image) (kinds : AreRecastOf to new images) (bytes : List ℕ) (converted : IsConverted to new describe machine images bytes) where
     abbrev backs : List Image
     backs = converted.backs
 
@@ -95,10 +76,14 @@ module _ (to new : Set) (fit : IsFit to) (well : WellFormed new) (compatible : C
       ready = λ i d image there e.
           let newer = pair to new fit.well (all_in to new fit.well well compatible) i d there in
           let image_back = converted.back.each i newer.number d newer.device image (record { in_old = there; found = newer.found; in_new = newer.stands }) e in
-          let may = back_stands to new fit well i d newer.device there (get_or wanted newer.number []) (kinds newer.number newer.device newer.stands) image image_back in
+          let may =
+          back_stands to new fit well i d newer.device there (get_or wanted newer.number [])
+          (kinds newer.number newer.device newer.stands) image image_back in
           record {
             normal = may.normal;
-            valid = converted.keeps.valid newer.number (slice_get_within new.devices newer.number newer.device newer.stands) i d newer.device image newer.stands (back to new fit.well (all_in to new fit.well well compatible) i d there newer) there e;
+            valid = converted.keeps.valid newer.number
+                (slice_get_within new.devices newer.number newer.device newer.stands) i d newer.device image newer.stands
+                (back to new fit.well (all_in to new fit.well well compatible) i d there newer) there e;
             version = may.version;
             needed = may.needed;
           };
@@ -128,4 +113,103 @@ module _ (to new : Set) (fit : IsFit to) (well : WellFormed new) (compatible : C
         }
 
 pub converts_stand : ConvertsLaw
-converts_stand to new fit well compatible describe short machine images kinds bytes converted = converts to new fit well compatible describe short machine images kinds bytes converted
+converts_stand to new fit well compatible describe short machine images kinds bytes converted =
+    converts to new fit well compatible describe short machine images kinds bytes converted
+
+-- ---- One device brought to the older set and back.
+
+module _ (to new : Set) (fit : IsFit to) (well : WellFormed new) (i k : ℕ) (d e : Device) (at_i : slice_get to.devices i ≡ Some d)
+    (at_k : slice_get new.devices k ≡ Some e) where
+  abbrev ps : List (Option ℕ)
+  ps = device_partners to new d e
+
+  paired : ArePartners (device_cells to d) (device_cells new e) (device_partners to new d e)
+  paired = device_paired to new fit.well well i d e at_i
+
+  kind_at : (cells : List Cell) (c : ℕ) → get_or (map (λ c. c.kind) cells) c U8 ≡ (get_or cells c no_cell).kind
+  kind_at cells c = get_or-map (λ (c : Cell). c.kind) cells c no_cell
+
+  -- the numbers of the newer device may be taken
+  pub sources_are : (numbers : List ℤ) → AreOfKinds (device_cells new e) numbers → AreSources (map (λ c. c.kind) (device_cells to d)) numbers ps
+  sources_are numbers of =
+      let long = paired.long in
+      record {
+        long = long ∙ sym (length-map (device_cells to d) (λ (c : Cell). c.kind));
+        inside = λ c j f. let inside = (paired.kinds c j (at_get ps c j f)).0 in omega arith;
+        in_range = λ c j f.
+            let h = paired.kinds c j (at_get ps c j f) in
+            subst (λ (kind : Kind). InRange kind (get_or numbers j (pos 0))) (sym h.1 ∙ sym (kind_at (device_cells to d) c)) (of.in_range j h.0);
+      }
+
+  -- those of the older device's image may be given
+  pub targets_are : (image : Image) → IsNormal to d image → AreTargets (map (λ c. c.kind) (device_cells new e)) image.numbers ps
+  targets_are image normal =
+      let long = paired.long in
+      record {
+        long = omega arith;
+        inside = λ c j f. let inside = (paired.kinds c j (at_get ps c j f)).0 in omega (arith, length-map (device_cells new e) (λ (c : Cell). c.kind));
+        in_range = λ c j f.
+            let g = at_get ps c j f in
+            let h = paired.kinds c j g in
+            let inside = slice_get_within ps c (Some j) g in
+            subst (λ (kind : Kind). InRange kind (get_or image.numbers c (pos 0))) (h.1 ∙ sym (kind_at (device_cells new e) j))
+            (normal.cells.fits c (omega arith)).0;
+      }
+
+  -- what they are given from defaults on is what is carried
+  pub given_carried : (numbers : List ℤ) (image : Image) → IsBack to d ps numbers image
+      → gives ps image.numbers (image_slots to d image) (map (λ c. c.default) (device_cells new e)) ≡ (carried_device to new d e image).numbers
+  given_carried numbers image back =
+      carried_stands to new fit.well well i k d e at_i at_k image (back_versions to d ps numbers image back)
+      (gives ps image.numbers (image_slots to d image) (map (λ (c : Cell). c.default) (device_cells new e))) (given_all to new d e image paired)
+
+-- ---- as the calls have it
+
+-- the older device i and the newer k, of whose numbers an image of the older is made
+pub record IsReturning (to new : Set) (i k : ℕ) (source : List ℤ) : Type 0 where
+  pub fit : IsFit to
+  pub well : WellFormed new
+  pub device : i < length to.devices
+  pub other : k < length new.devices
+  pub kinds : AreOfKinds (device_cells new (device_at new k)) source
+
+module _ (to new : Set) (i k : ℕ) (source : List ℤ) (p : IsReturning to new i k source) (partners : List (Option ℕ))
+    (partners_are : partners ≡ device_partners to new (device_at to i) (device_at new k)) where
+  abbrev d : Device
+  d = device_at to i
+
+  abbrev e : Device
+  e = device_at new k
+
+  pub sources_of : AreSources (kinds_at to i) source partners
+  sources_of =
+      subst (λ (l : List (Option ℕ)). AreSources (kinds_at to i) source l) (sym partners_are)
+      (sources_are to new p.fit p.well i k d e (there to i p.device) (there new k p.other) source p.kinds)
+
+  module _ (image : Typed) (back : IsBack to (device_at to i) partners source (state_of image)) where
+    pub back_of : IsBack to d (device_partners to new d e) source (state_of image)
+    back_of = subst (λ (l : List (Option ℕ)). IsBack to d l source (state_of image)) partners_are back
+
+    module _ (carried : Typed) (fresh : carried ≡ default_at new k) where
+      pub targets_of : AreTargets carried.kinds image.numbers partners
+      targets_of =
+          let normal = (back_stands to new p.fit p.well i d e (there to i p.device) source p.kinds (state_of image) back_of).normal in
+          subst (λ (l : List (Option ℕ)). AreTargets carried.kinds image.numbers l) (sym partners_are)
+          (subst (λ (ks : List Kind). AreTargets ks image.numbers (device_partners to new d e)) (sym (ap (λ (x : Typed). x.kinds) fresh))
+          (targets_are to new p.fit p.well i k d e (there to i p.device) (there new k p.other) (state_of image) normal))
+
+      module _ (target : Typed)
+          (changes : Changes (give_step partners image.numbers) (steps_of (image_slots to (device_at to i) (state_of image))) carried target) where
+        pub given_long : length source ≡ length target.numbers
+        given_long =
+            let cells = device_cells new e in
+            let steps = steps_of (image_slots to d (state_of image)) in
+            p.kinds.long ∙ sym (length-map cells (λ (c : Cell). c.default)) ∙ sym (ap (λ (x : Typed). length x.numbers) fresh)
+            ∙ sym (steps_long partners image.numbers steps carried.numbers) ∙ sym (ap (λ (x : Typed). length x.numbers) changes)
+
+        pub given_is : target.numbers ≡ (carried_device to new d e (state_of image)).numbers
+        given_is =
+            let steps = steps_of (image_slots to d (state_of image)) in
+            ap (λ (x : Typed). x.numbers) changes ∙ ap (λ (l : List (Option ℕ)). changed (give_step l image.numbers) steps carried.numbers) partners_are
+            ∙ ap (λ (x : Typed). changed (give_step (device_partners to new d e) image.numbers) steps x.numbers) fresh
+            ∙ given_carried to new p.fit p.well i k d e (there to i p.device) (there new k p.other) source (state_of image) back_of

@@ -1,46 +1,17 @@
 -- What was found of the devices, as the relations say it.
-use Rattle.std.proofs.Common.{◌≡◌, ℕ, ◌<◌, Bool, true, false, List, [], ◌∷◌, length, get_or, map, Option, Some, None, Result, Ok, Err, ℤ, refl, sym, ap, ◌∙◌, subst, arith}
-use Rattle.std.proofs.lemmas.List.{length-map}
-use Rattle.std.proofs.lemmas.Option.{slice_get-get_or, slice_get_within}
-use Rattle.std.specs.List.{slice_get}
-use Rattle.std.specs.Bool.{OnFalse, OnTrue}
-use Rattle.vms_spec.specs.Good.{IsFit}
-use Rattle.vms_spec.specs.Sets.{Device, Set}
-use Rattle.vms_spec.specs.Images.{Image, IsValid}
-use Rattle.vms_spec.specs.Layout.{Cell, device_cells}
-use Rattle.vms_spec.specs.Lookup.{find_device}
-use Rattle.vms_spec.specs.Shipped.{set_4}
-use Rattle.vms_spec.specs.Streams.{AreReady, IsReady, is_one_of}
-use Rattle.vms_spec.specs.WellFormed.{WellFormed}
-use Rattle.vms_desc.specs.Described.{device_at}
-use Rattle.vms_desc.specs.Names.{IsNameAt}
-use Rattle.vms_desc.proofs.AskLaws.{device_is}
-use Rattle.vms_image.specs.Typed.{Typed, state_of}
-use Rattle.vms_bodies.proofs.Stated.{shipped_holds}
-use Rattle.vms_load.specs.Good.{AreKept}
-use Rattle.vms_load.specs.Staging.{name_of}
-use Rattle.vms_load.proofs.HeadLemmas.{device_below}
-use Rattle.vms_image.proofs.States.{image_at}
-use Rattle.vms_check.specs.Carrying.{carried}
-use Rattle.vms_check.specs.Comparing.{Compatible}
-use Rattle.vms_check.specs.Partners.{device_partners}
-use Rattle.vms_check_laws.specs.Pairing.{AreOfKinds}
-use Rattle.vms_check_laws.proofs.Streaming.{back, pair, all_in}
-use Rattle.vms_convert.specs.Back.{IsBack}
-use Rattle.vms_convert.specs.Converted.{AreBack, IsPairAt, recast_each}
-use Rattle.vms_convert.specs.Losing.{AreWritable, FirstInvalid, Judges, KeepsMachine, KeepsName, first_cell_at, first_of}
-use Rattle.vms_convert.specs.Lost.{IsValidAt, Loses, OfDevice, OfMachine, first_cell, numbers_in}
-use Rattle.vms_convert.specs.Returns.{AreReturned, AreReturnedTo, IsFirstLost}
-use Rattle.vms_convert.specs.declared.fault.Loss.{Loss}
-use Rattle.vms_convert.specs.declared.returns.LostCell.{LostCell}
+use Rattle.vms_convert.proofs.Facade.{◌≡◌, ℕ, ◌<◌, Bool, true, false, List, [], ◌∷◌, length, get_or, map, Option, Some, None, Result, Ok, Err, ℤ, refl, sym, ap}
+use Rattle.vms_convert.proofs.Facade.{◌∙◌, subst, arith, length-map, slice_get-get_or, slice_get_within, slice_get, OnFalse, OnTrue, IsFit, Device, Set, Image}
+use Rattle.vms_convert.proofs.Facade.{IsValid, Cell, device_cells, find_device, set_4, AreReady, IsReady, is_one_of, WellFormed, device_at, IsNameAt, device_is}
+use Rattle.vms_convert.proofs.Facade.{Typed, state_of, shipped_holds, AreKept, name_of, device_below, image_at, carried, Compatible, AreOfKinds, back, pair}
+use Rattle.vms_convert.proofs.Facade.{all_in, AreBack, IsPairAt, recast_each, AreWritable, FirstInvalid, Judges, KeepsMachine, KeepsName, first_cell_at}
+use Rattle.vms_convert.proofs.Facade.{first_of, IsValidAt, Loses, OfDevice, OfMachine, first_cell, numbers_in, AreReturned, AreReturnedTo, IsFirstLost, Loss}
+use Rattle.vms_convert.proofs.Facade.{LostCell}
 use Rattle.vms_convert.proofs.Converts.{back_stands}
-use Rattle.vms_convert.proofs.LostLaws.{all_carried, cell_lost}
-use Rattle.vms_convert.proofs.RecastAt.{newest_kinds, recast_long}
+use Rattle.vms_convert.proofs.LostLaws.{all_carried, cell_lost, no_device}
+use Rattle.vms_convert.proofs.RecastLaws.{newest_kinds, recast_long}
 
-abbrev no_device : Device
-no_device = device_at (record { machines = []; structs = []; devices = [] }) 0
-
-module _ (to new : Set) (wanted : List (List ℤ)) (images : List Typed) (lost : Option LostCell) (returned : AreReturnedTo to new wanted (length to.devices) images lost) where
+module _ (to new : Set) (wanted : List (List ℤ)) (images : List Typed) (lost : Option LostCell)
+    (returned : AreReturnedTo to new wanted (length to.devices) images lost) where
   abbrev backs : List Image
   backs = map state_of images
 
@@ -53,12 +24,12 @@ module _ (to new : Set) (wanted : List (List ℤ)) (images : List Typed) (lost :
     each = λ i k d e image p at.
         let d_is = device_is to i d p.in_old in
         let e_is = device_is new k e p.in_new in
-        let p' = subst (λ (x : Device). IsPairAt to new i k x (device_at new k)) (sym d_is) (subst (λ (y : Device). IsPairAt to new i k d y) (sym e_is) p) in
-        subst (λ (y : Device). IsBack to d (device_partners to new d y) (get_or wanted k []) image) e_is
-        (subst (λ (x : Device). IsBack to x (device_partners to new x (device_at new k)) (get_or wanted k []) image) d_is (returned.back i k image p' at));
+        let there : IsPairAt to new i k (device_at to i) (device_at new k) = rw (d_is, e_is) p in
+        rw (← d_is, ← e_is) (returned.back i k image there at);
   }
 
-  module _ (fit : IsFit to) (well : WellFormed new) (compatible : Compatible to new) (kinds : (k : ℕ) (e : Device) → slice_get new.devices k ≡ Some e → AreOfKinds (device_cells new e) (get_or wanted k [])) where
+  module _ (fit : IsFit to) (well : WellFormed new) (compatible : Compatible to new)
+      (kinds : (k : ℕ) (e : Device) → slice_get new.devices k ≡ Some e → AreOfKinds (device_cells new e) (get_or wanted k [])) where
     pub writable : AreWritable to images
     writable = record {
       count = returned.count;
@@ -78,7 +49,8 @@ module _ (to new : Set) (wanted : List (List ℤ)) (images : List Typed) (lost :
           let may = writable.may i d image there at in
           record {
             normal = may.normal;
-            valid = valid newer.number (slice_get_within new.devices newer.number newer.device newer.stands) i d newer.device image newer.stands (back to new fit.well (all_in to new fit.well well compatible) i d there newer) there at;
+            valid = valid newer.number (slice_get_within new.devices newer.number newer.device newer.stands) i d newer.device image newer.stands
+                (back to new fit.well (all_in to new fit.well well compatible) i d there newer) there at;
             version = may.version;
             needed = may.needed;
           }
@@ -86,8 +58,8 @@ module _ (to new : Set) (wanted : List (List ℤ)) (images : List Typed) (lost :
 -- ---- one device
 
 -- the search by a name and an instance that are those of a device
-pub searched_by : (devices : List Device) (d here : Device) (name : List ℕ) (found : Option ℕ) → here ≡ d → name ≡ here.desc.name → found ≡ find_device 0 devices name here.instance
-    → find_device 0 devices d.desc.name d.instance ≡ found
+pub searched_by : (devices : List Device) (d here : Device) (name : List ℕ) (found : Option ℕ) → here ≡ d → name ≡ here.desc.name
+    → found ≡ find_device 0 devices name here.instance → find_device 0 devices d.desc.name d.instance ≡ found
 searched_by devices d here name found same named is =
     sym (is ∙ ap (λ (n : List ℕ). find_device 0 devices n here.instance) named ∙ ap (λ (x : Device). find_device 0 devices x.desc.name x.instance) same)
 
@@ -96,8 +68,8 @@ module _ (to new : Set) (images : List Typed) (writable : AreWritable to images)
   all = map state_of images
 
   -- the image that the older set has of it is ready, or isn't
-  pub valid_of : (i : ℕ) (image : Typed) → find_device 0 to.devices (device_at new k).desc.name (device_at new k).instance ≡ Some i → slice_get all i ≡ Some (state_of image)
-      → IsReady to (device_at to i) (state_of image) → IsValidAt to new all k
+  pub valid_of : (i : ℕ) (image : Typed) → find_device 0 to.devices (device_at new k).desc.name (device_at new k).instance ≡ Some i
+      → slice_get all i ≡ Some (state_of image) → IsReady to (device_at to i) (state_of image) → IsValidAt to new all k
   valid_of i image found at ready j d e back in_new found' in_old at' =
       let e_is = device_is new k e in_new in
       let same : Some i ≡ Some j = sym found ∙ ap (λ (x : Device). find_device 0 to.devices x.desc.name x.instance) e_is ∙ found' in
@@ -137,8 +109,8 @@ module _ (to new : Set) (name : Option (List ℕ)) (wanted there : List (List �
       subst (λ (l : Loss). Loses to new name wanted there backs l.section l.cell) (sym h.loss_is) (OfMachine h.which same valid h.is h.none)
 
 -- a machine that is found by its name
-pub keeps_machine : (to new : Set) (names : List (List ℕ)) (name : List ℕ) (k own : ℕ) → names ≡ to.machines → name ≡ get_or new.machines k [] → IsNameAt names name (Some own)
-    → KeepsName to (name_of new (Some k)) (Some own)
+pub keeps_machine : (to new : Set) (names : List (List ℕ)) (name : List ℕ) (k own : ℕ) → names ≡ to.machines → name ≡ get_or new.machines k []
+    → IsNameAt names name (Some own) → KeepsName to (name_of new (Some k)) (Some own)
 keeps_machine to new names name k own names_are name_is h =
     let inside : own < length to.machines = subst (λ (l : List (List ℕ)). own < length l) names_are h.1 in
     let at : slice_get to.machines own ≡ Some (get_or new.machines k []) =
@@ -156,7 +128,8 @@ pub on_false : (b : Bool) (P Q : Type 0) → (P → Q) → OnFalse b P → OnFal
 on_false true P Q f h = h
 on_false false P Q f h = f h
 
-module _ (to : Set) (images : List Typed) (writable : AreWritable to images) (name : List ℕ) (instance own : ℕ) (found : find_device 0 to.devices name instance ≡ Some own) where
+module _ (to : Set) (images : List Typed) (writable : AreWritable to images) (name : List ℕ) (instance own : ℕ)
+    (found : find_device 0 to.devices name instance ≡ Some own) where
   pub own_bound : own < length images
   own_bound = omega (arith, device_below to.devices name instance own found, writable.count)
 
@@ -164,14 +137,14 @@ module _ (to : Set) (images : List Typed) (writable : AreWritable to images) (na
   own_image image is = image_at images own image own_bound is
 
 -- what is first invalid of images in the newest set, as it is named elsewhere
-pub invalid_by : (to new : Set) (images : List Typed) (s : Set) (o found : Option ℕ) → s ≡ new → FirstInvalid to s (map state_of images) found → found ≡ o → FirstInvalid to new (map state_of images) o
-invalid_by to new images s o found set_is h same =
-    subst (λ (x : Option ℕ). FirstInvalid to new (map state_of images) x) same (subst (λ (x : Set). FirstInvalid to x (map state_of images) found) set_is h)
+pub invalid_by : (to new : Set) (images : List Typed) (s : Set) (o found : Option ℕ) → s ≡ new → FirstInvalid to s (map state_of images) found → found ≡ o
+    → FirstInvalid to new (map state_of images) o
+invalid_by to new images s o found set_is h same = rw (← same, ← set_is) h
 
 same_first : (numbers : List ℤ) (cells : List Cell) → length numbers ≡ length cells → first_cell numbers ≡ first_of cells
 same_first [] [] e = refl
-same_first [] (c ∷ cells) e = absurd (omega (arith, e))
-same_first (z ∷ numbers) [] e = absurd (omega (arith, e))
+same_first [] (c ∷ cells) e = absurd (omega arith)
+same_first (z ∷ numbers) [] e = absurd (omega arith)
 same_first (z ∷ numbers) (c ∷ cells) e = refl
 
 -- images that a loader of the newest set keeps, and what comes back of them
@@ -216,12 +189,14 @@ module _ (to new : Set) (images : List Image) (typed : List Typed) (lost : Optio
   kept_cells : lost ≡ None → wants ≡ given
   kept_cells same = all_carried to new p.fit.well well p.compatible states wants long (first_lost None same)
 
-  pub device_first : (name : Option (List ℕ)) → lost ≡ None → (k : ℕ) → FirstInvalid to new states (Some k) → Loses to new name wants given states (Some k) (first_cell_at new k)
+  pub device_first : (name : Option (List ℕ)) → lost ≡ None → (k : ℕ) → FirstInvalid to new states (Some k)
+      → Loses to new name wants given states (Some k) (first_cell_at new k)
   device_first name same k h =
       let at : slice_get new.devices k ≡ Some (device_at new k) = slice_get-get_or new.devices k no_device h.0 in
       let cell : first_cell (get_or wants k []) ≡ first_cell_at new k =
       same_first (get_or wants k []) (device_cells new (device_at new k)) (newest_kinds to new p.newest images p.kept k (device_at new k) at).long in
       subst (λ (o : Option ℕ). Loses to new name wants given states (Some k) o) cell (device_lost to new name wants given states (kept_cells same) k h)
 
-  pub machine_last : (name : Option (List ℕ)) → lost ≡ None → FirstInvalid to new states None → (m : Result (Option ℕ) Loss) → KeepsMachine to name m → Judges to new name wants given states m
+  pub machine_last : (name : Option (List ℕ)) → lost ≡ None → FirstInvalid to new states None → (m : Result (Option ℕ) Loss) → KeepsMachine to name m
+      → Judges to new name wants given states m
   machine_last name same valid m h = machine_judged to new name wants given states (kept_cells same) valid m h

@@ -1,29 +1,18 @@
 -- What is lost first, from what is found of each of the older set's devices.
-use Rattle.std.proofs.Common.{◌≡◌, ℕ, ◌+◌, ◌<◌, ◌≤◌, Bool, true, false, nat_lt, List, [], ◌∷◌, ◌++◌, length, get_or, map, Option, Some, None, ℤ, refl, sym, ap, ◌∙◌, subst, arith, if◌then◌else◌}
-use Rattle.std.proofs.Math.Seq.{get_or-append_seam}
-use Rattle.std.proofs.lemmas.Bool.{ltb-true, ltb-false}
-use Rattle.std.proofs.lemmas.List.{get_or_append_left, get_or_default, length-map, same_lists}
-use Rattle.std.proofs.lemmas.Option.{get_or_from_slice_get, slice_get-get_or, slice_get_within}
-use Rattle.std.specs.List.{slice_get}
+use Rattle.vms_convert.proofs.Facade.{back, ◌≡◌, ℕ, ◌+◌, ◌<◌, ◌≤◌, Bool, true, false, nat_lt, List, [], ◌∷◌, ◌++◌, length, get_or, map, Option, Some, None, ℤ}
+use Rattle.vms_convert.proofs.Facade.{refl, sym, ap, ◌∙◌, subst, arith, if◌then◌else◌, get_or-append_seam, ltb-true, ltb-false, get_or_append_left}
+use Rattle.vms_convert.proofs.Facade.{get_or_default, length-map, get_or_from_slice_get, slice_get-get_or, slice_get_within, slice_get, Device, Set, Image}
+use Rattle.vms_convert.proofs.Facade.{find_device, index, WellFormed, here, device_found, device_at, device_is, carried, carried_at, carried_device, no_image}
+use Rattle.vms_convert.proofs.Facade.{Compatible, is_found, is_in, passes, found_device, found_some, pair, all_in, answers_none, at_map, DifferAt, Loses}
+use Rattle.vms_convert.proofs.Facade.{OfCell, numbers_in, FirstDifference, ArePaired, IsFirstLost, IsLostCell, carried_of, LostCell}
 use Rattle.vms_spec.specs.declared.Part.TheVariants as parts
-use Rattle.vms_spec.specs.Sets.{Device, Set}
-use Rattle.vms_spec.specs.Images.{Image}
-use Rattle.vms_spec.specs.Lookup.{find_device, index}
-use Rattle.vms_spec.specs.WellFormed.{WellFormed, here}
-use Rattle.vms_spec.proofs.WellFormedLaws.{device_found}
-use Rattle.vms_desc.specs.Described.{device_at}
-use Rattle.vms_desc.proofs.AskLaws.{device_is}
-use Rattle.vms_check.specs.Carrying.{carried, carried_at, carried_device, no_image}
-use Rattle.vms_check.specs.Comparing.{Compatible, failing_pair, is_found, is_in}
-use Rattle.vms_check.proofs.ListLaws.{passes}
-use Rattle.vms_check_laws.proofs.Streaming.{back, found_device, found_some, pair, rules, all_in}
-use Rattle.vms_check_laws.proofs.SubFacts.{none_at}
-use Rattle.vms_check_laws.proofs.Wholes.{at_map}
-use Rattle.vms_convert.specs.Lost.{DifferAt, Loses, OfCell, numbers_in}
-use Rattle.vms_convert.specs.Returning.{FirstDifference}
-use Rattle.vms_convert.specs.Returns.{ArePaired, IsEarlier, IsFirstLost, IsLostCell, carried_of}
-use Rattle.vms_convert.specs.declared.returns.LostCell.{LostCell}
+use Rattle.std.proofs.lemmas.List.{same_lists}
+use Rattle.vms_check_laws.proofs.Streaming.{rules}
+use Rattle.vms_convert.specs.Returns.{IsEarlier}
 use Rattle.vms_convert.proofs.HasBack.{extend}
+
+abbrev pub no_device : Device
+no_device = device_at (record { machines = []; structs = []; devices = [] }) 0
 
 module _ (to new : Set) (wanted : List (List ℤ)) where
   same_partner : (i k l : ℕ) → ArePaired to new i k → ArePaired to new i l → k ≡ l
@@ -38,9 +27,14 @@ module _ (to new : Set) (wanted : List (List ℤ)) where
     abbrev Gives : ℕ → ℕ → Type 0
     Gives i l = get_or wanted l [] ≡ carried_of to new more i l
 
+    -- what this device gives to the newer one
+    abbrev gives : List ℤ
+    gives = (carried_device to new (device_at to n) (device_at new k) x).numbers
+
     at_front : (i l : ℕ) → i < n → carried_of to new more i l ≡ carried_of to new backs i l
     at_front i l lt =
-        ap (λ (b : Image). (carried_device to new (device_at to i) (device_at new l) b).numbers) (get_or_append_left backs (x ∷ []) (no_image to new) i (omega (arith, lt, long)))
+        ap (λ (b : Image). (carried_device to new (device_at to i) (device_at new l) b).numbers)
+        (get_or_append_left backs (x ∷ []) (no_image to new) i (omega arith))
 
     at_end : (l : ℕ) → carried_of to new more n l ≡ (carried_device to new (device_at to n) (device_at new l) x).numbers
     at_end l =
@@ -51,23 +45,25 @@ module _ (to new : Set) (wanted : List (List ℤ)) where
     front_gives i l lt e = e ∙ sym (at_front i l lt)
 
     -- this device gives all its numbers
-    end_gives : get_or wanted k [] ≡ (carried_device to new (device_at to n) (device_at new k) x).numbers → (l : ℕ) → ArePaired to new n l → Gives n l
+    end_gives : get_or wanted k [] ≡ gives → (l : ℕ) → ArePaired to new n l → Gives n l
     end_gives e l p = let same = same_partner n k l pair p in subst (λ (m : ℕ). Gives n m) same (e ∙ sym (at_end k))
 
-    still : (l : LostCell) → IsLostCell to new wanted n backs l → ((j : ℕ) → j < l.device → ArePaired to new n j → Gives n j) → IsLostCell to new wanted (n + 1) more l
+    still : (l : LostCell) → IsLostCell to new wanted n backs l → ((j : ℕ) → j < l.device → ArePaired to new n j → Gives n j)
+        → IsLostCell to new wanted (n + 1) more l
     still l h end =
         let inside = h.inside in
         record {
           i = h.i;
-          inside = omega (arith, inside);
+          inside = omega arith;
           pair = h.pair;
           differs = subst (λ (m : List ℤ). DifferAt (get_or wanted l.device []) m l.cell) (sym (at_front h.i l.device inside)) h.differs;
           before = λ i j lt less.
-              extend (λ (i : ℕ). ArePaired to new i j → Gives i j) n (λ i lt p. front_gives i j lt (h.before i j lt less p)) (end j less) i (omega (arith, lt));
+              extend (λ (i : ℕ). ArePaired to new i j → Gives i j) n (λ i lt p. front_gives i j lt (h.before i j lt less p)) (end j less) i (omega arith);
         }
 
-    lost_here : (c : ℕ) → DifferAt (get_or wanted k []) (carried_device to new (device_at to n) (device_at new k) x).numbers c
-        → ((i j : ℕ) → i < n → j < k → ArePaired to new i j → get_or wanted j [] ≡ carried_of to new backs i j) → IsLostCell to new wanted (n + 1) more (record { device = k; cell = c })
+    lost_here : (c : ℕ) → DifferAt (get_or wanted k []) gives c
+        → ((i j : ℕ) → i < n → j < k → ArePaired to new i j → get_or wanted j [] ≡ carried_of to new backs i j)
+        → IsLostCell to new wanted (n + 1) more (record { device = k; cell = c })
     lost_here c differs before = record {
       i = n;
       inside = omega arith;
@@ -75,31 +71,30 @@ module _ (to new : Set) (wanted : List (List ℤ)) where
       differs = subst (λ (m : List ℤ). DifferAt (get_or wanted k []) m c) (sym (at_end k)) differs;
       before = λ i j lt less.
           extend (λ (i : ℕ). ArePaired to new i j → Gives i j) n (λ i lt p. front_gives i j lt (before i j lt less p))
-          (λ p. (let same = same_partner n k j pair p in absurd (omega (arith, same, less)))) i (omega (arith, lt));
+          (λ p. (let same = same_partner n k j pair p in absurd (omega arith))) i (omega arith);
     }
 
-    all_given : (known : Option LostCell) → IsFirstLost to new wanted n backs known → get_or wanted k [] ≡ (carried_device to new (device_at to n) (device_at new k) x).numbers
+    all_given : (known : Option LostCell) → IsFirstLost to new wanted n backs known → get_or wanted k [] ≡ gives
         → IsFirstLost to new wanted (n + 1) more known
-    all_given None h e = λ i l lt. extend (λ (i : ℕ). ArePaired to new i l → Gives i l) n (λ i lt p. front_gives i l lt (h i l lt p)) (end_gives e l) i (omega (arith, lt))
+    all_given None h e =
+        λ i l lt. extend (λ (i : ℕ). ArePaired to new i l → Gives i l) n (λ i lt p. front_gives i l lt (h i l lt p)) (end_gives e l) i (omega arith)
     all_given (Some l) h e = still l h (λ j less p. end_gives e j p)
 
-    earlier_of : (l : LostCell) (c : ℕ) → IsLostCell to new wanted n backs l → DifferAt (get_or wanted k []) (carried_device to new (device_at to n) (device_at new k) x).numbers c
+    earlier_of : (l : LostCell) (c : ℕ) → IsLostCell to new wanted n backs l → DifferAt (get_or wanted k []) gives c
         → (b : Bool) → nat_lt l.device k ≡ b → IsFirstLost to new wanted (n + 1) more (if b then Some l else Some (record { device = k; cell = c }))
     earlier_of l c h differs true e =
         let below : l.device < k = ltb-true l.device k e in
-        still l h (λ j less p. (let same = same_partner n k j pair p in absurd (omega (arith, same, less, below))))
+        still l h (λ j less p. (let same = same_partner n k j pair p in absurd (omega arith)))
     earlier_of l c h differs false e =
         let above : k ≤ l.device = ltb-false l.device k e in
-        lost_here c differs (λ i j lt less p. h.before i j lt (omega (arith, less, above)) p)
+        lost_here c differs (λ i j lt less p. h.before i j lt (omega arith) p)
 
     pub lost_next : (known : Option LostCell) (cell : Option ℕ) (next : Option LostCell) → IsFirstLost to new wanted n backs known
-        → FirstDifference (get_or wanted k []) (carried_device to new (device_at to n) (device_at new k) x).numbers cell → IsEarlier known k cell next → IsFirstLost to new wanted (n + 1) more next
-    lost_next None None next h e is = subst (λ (o : Option LostCell). IsFirstLost to new wanted (n + 1) more o) (sym is) (all_given None h e)
-    lost_next (Some l) None next h e is = subst (λ (o : Option LostCell). IsFirstLost to new wanted (n + 1) more o) (sym is) (all_given (Some l) h e)
-    lost_next None (Some c) next h e is =
-        subst (λ (o : Option LostCell). IsFirstLost to new wanted (n + 1) more o) (sym is) (lost_here c e (λ i j lt less p. h i j lt p))
-    lost_next (Some l) (Some c) next h e is =
-        subst (λ (o : Option LostCell). IsFirstLost to new wanted (n + 1) more o) (sym is) (earlier_of l c h e (nat_lt l.device k) refl)
+        → FirstDifference (get_or wanted k []) gives cell → IsEarlier known k cell next → IsFirstLost to new wanted (n + 1) more next
+    lost_next None None next h e is = rw is (all_given None h e)
+    lost_next (Some l) None next h e is = rw is (all_given (Some l) h e)
+    lost_next None (Some c) next h e is = rw is (lost_here c e (λ i j lt less p. h i j lt p))
+    lost_next (Some l) (Some c) next h e is = rw is (earlier_of l c h e (nat_lt l.device k) refl)
 
 -- ---- all devices
 
@@ -114,8 +109,9 @@ module _ (to new : Set) (well_to : WellFormed to) (well_new : WellFormed new) (c
 
   pub older : (k : ℕ) (e : Device) → slice_get new.devices k ≡ Some e → Older k e
   older k e at =
-      let h = none_at (λ i d. failing_pair ((3, is_in to d) ∷ []) (here parts.Set) (here (parts.Device i))) 0 new.devices k e (rules to new well_to well_new compatible).news at in
-      let is : is_found (find_device 0 to.devices e.desc.name e.instance) ≡ true = (passes 3 (is_in to e) [] (here parts.Set) (here (parts.Device (0 + k))) h).0 in
+      let h = answers_none _ 0 new.devices (rules to new well_to well_new compatible).news k e at in
+      let is : is_found (find_device 0 to.devices e.desc.name e.instance) ≡ true =
+      (passes 3 (is_in to e) [] (here parts.Set) (here (parts.Device (0 + k))) h).0 in
       let r = found_some (find_device 0 to.devices e.desc.name e.instance) is in
       let f = found_device 0 to.devices e.desc.name e.instance r.0 r.1 in
       let same : r.0 ≡ f.0 = omega (arith, f.1) in
@@ -124,12 +120,10 @@ module _ (to new : Set) (well_to : WellFormed to) (well_new : WellFormed new) (c
         d = f.2.device;
         stands = f.2.stands;
         found = r.1 ∙ ap (λ (n : ℕ). Some n) same;
-        back = ap (λ (n : List ℕ). find_device 0 new.devices n f.2.device.instance) f.2.name_is ∙ ap (λ (n : ℕ). find_device 0 new.devices e.desc.name n) f.2.instance_is
-            ∙ device_found new well_new k e at;
+        back =
+            ap (λ (n : List ℕ). find_device 0 new.devices n f.2.device.instance) f.2.name_is
+            ∙ ap (λ (n : ℕ). find_device 0 new.devices e.desc.name n) f.2.instance_is ∙ device_found new well_new k e at;
       }
-
-  abbrev no_device : Device
-  no_device = device_at (record { machines = []; structs = []; devices = [] }) 0
 
   pub older_pair : (k : ℕ) (e : Device) (at : slice_get new.devices k ≡ Some e) (o : Older k e) → ArePaired to new o.i k
   older_pair k e at o =
@@ -148,7 +142,8 @@ module _ (to new : Set) (well_to : WellFormed to) (well_new : WellFormed new) (c
     pub there_is : (k : ℕ) (e : Device) (at : slice_get new.devices k ≡ Some e) (o : Older k e) → get_or there k [] ≡ carried_of to new backs o.i k
     unfolding carried
     there_is k e at o =
-        let carry : Device → Image = λ e. (let found = find_device 0 to.devices e.desc.name e.instance in carried_at to new backs e found (slice_get to.devices (index found))) in
+        let carry : Device → Image =
+        λ e. (let found = find_device 0 to.devices e.desc.name e.instance in carried_at to new backs e found (slice_get to.devices (index found))) in
         let image = carry e in
         let stands = at_map (λ (image : Image). image.numbers) (map carry new.devices) k image (at_map carry new.devices k e at) in
         get_or_from_slice_get there k image.numbers [] stands
@@ -169,7 +164,7 @@ module _ (to new : Set) (well_to : WellFormed to) (well_new : WellFormed new) (c
       pub all_carried : IsFirstLost to new wanted (length to.devices) backs None → wanted ≡ there
       all_carried h =
           same_lists wanted there (long ∙ sym there_long)
-          (λ k d lt. get_or_default wanted k d [] lt ∙ one k (omega (arith, lt, long)) ∙ get_or_default there k [] d (omega (arith, lt, long, there_long)))
+          (λ k d lt. get_or_default wanted k d [] lt ∙ one k (omega arith) ∙ get_or_default there k [] d (omega (arith, there_long)))
         where
           one : (k : ℕ) → k < length new.devices → get_or wanted k [] ≡ get_or there k []
           one k lt =
@@ -178,14 +173,15 @@ module _ (to new : Set) (well_to : WellFormed to) (well_new : WellFormed new) (c
               h o.i k (older_inside k (device_at new k) o) (older_pair k (device_at new k) at o) ∙ sym (there_is k (device_at new k) at o)
 
       -- this cell is lost first
-      pub cell_lost : (machine : Option (List ℕ)) (l : LostCell) → IsFirstLost to new wanted (length to.devices) backs (Some l) → Loses to new machine wanted there backs (Some l.device) (Some l.cell)
+      pub cell_lost : (machine : Option (List ℕ)) (l : LostCell) → IsFirstLost to new wanted (length to.devices) backs (Some l)
+          → Loses to new machine wanted there backs (Some l.device) (Some l.cell)
       cell_lost machine l h = OfCell l.device l.cell before differ where
         within : l.device < length new.devices
         within = slice_get_within new.devices l.device (device_at new l.device) h.pair.in_new
 
         before : (k : ℕ) → k < l.device → get_or wanted k [] ≡ get_or there k []
         before k less =
-            let at : slice_get new.devices k ≡ Some (device_at new k) = slice_get-get_or new.devices k no_device (omega (arith, less, within)) in
+            let at : slice_get new.devices k ≡ Some (device_at new k) = slice_get-get_or new.devices k no_device (omega (arith, within)) in
             let o = older k (device_at new k) at in
             h.before o.i k (older_inside k (device_at new k) o) less (older_pair k (device_at new k) at o) ∙ sym (there_is k (device_at new k) at o)
 
@@ -194,7 +190,8 @@ module _ (to new : Set) (well_to : WellFormed to) (well_new : WellFormed new) (c
             let at = h.pair.in_new in
             let o = older l.device (device_at new l.device) at in
             let same : o.i ≡ h.i = one_older o in
-            subst (λ (m : List ℤ). DifferAt (get_or wanted l.device []) m l.cell) (sym (there_is l.device (device_at new l.device) at o ∙ ap (λ (i : ℕ). carried_of to new backs i l.device) same)) h.differs
+            subst (λ (m : List ℤ). DifferAt (get_or wanted l.device []) m l.cell)
+            (sym (there_is l.device (device_at new l.device) at o ∙ ap (λ (i : ℕ). carried_of to new backs i l.device) same)) h.differs
           where
             one_older : (o : Older l.device (device_at new l.device)) → o.i ≡ h.i
             one_older o =

@@ -1,23 +1,16 @@
 -- One device more is brought to the older set.
-use Rattle.std.proofs.Common.{◌≡◌, ◌⊎◌, inl, inr, ℕ, zero, suc, ◌+◌, ◌<◌, List, [], ◌∷◌, ◌++◌, length, length-append, get_or, map, Option, Some, None, ℤ, refl, sym, ap, ◌∙◌, subst, arith}
-use Rattle.std.proofs.lemmas.List.{length-map, map-append}
-use Rattle.std.proofs.lemmas.Option.{slice_get-get_or, slice_get_within}
-use Rattle.std.specs.List.{slice_get}
-use Rattle.vms_spec.specs.Lookup.{find_device}
-use Rattle.vms_spec.specs.Sets.{Device, Set}
-use Rattle.vms_spec.specs.WellFormed.{WellFormed}
-use Rattle.vms_spec.specs.Images.{Image}
-use Rattle.vms_desc.specs.Described.{device_at}
-use Rattle.vms_image.specs.Typed.{IsImageOf, Typed, state_of}
-use Rattle.vms_check.specs.Comparing.{Compatible}
-use Rattle.vms_check.specs.Partners.{device_partners}
-use Rattle.vms_check_laws.proofs.Streaming.{found_device, pair, all_in}
-use Rattle.vms_convert.specs.Back.{IsBack}
-use Rattle.vms_convert.specs.Returning.{IsReturned}
-use Rattle.vms_convert.specs.Returns.{ArePaired, AreReturnedTo, IsEarlier, IsFirstLost}
-use Rattle.vms_convert.specs.declared.returns.LostCell.{LostCell}
+use Rattle.vms_convert.proofs.Facade.{◌≡◌, ◌⊎◌, inl, inr, ℕ, zero, suc, ◌+◌, ◌<◌, List, [], ◌∷◌, ◌++◌, length, length-append, get_or, map, Option, Some, None}
+use Rattle.vms_convert.proofs.Facade.{ℤ, refl, sym, ap, ◌∙◌, subst, arith, Bool, true, false, ◌&&◌, if◌then◌else◌, ◌≤◌, slice_set, take, length-map, map-append}
+use Rattle.vms_convert.proofs.Facade.{take_more_set, slice_get-get_or, slice_get_within, slice_get, take-length, find_device, Set, WellFormed, Image}
+use Rattle.vms_convert.proofs.Facade.{default_image, device_at, IsImageOf, Typed, state_of, AreImagesOf, default_at, typed, Compatible, device_partners}
+use Rattle.vms_convert.proofs.Facade.{found_device, pair, all_in, IsBack, IsReturned, ArePaired, AreReturnedTo, IsFirstLost, AreReturned, IsRecastFor, LostCell}
+use Rattle.vms_convert.proofs.Facade.{Kind, kinds_at, at_map, is_port, wants_arrays, recast, AreFresh, AreRoutes, IsRoute, recast_room, Route, first}
+use Rattle.vms_convert.proofs.Facade.{device_cells, set_4, AreOfKinds, AreKept, NEWEST, IsPortCells, kinds, recast_each, numbers_in, at_other}
+use Rattle.std.proofs.lemmas.List.{length-set}
+use Rattle.vms_convert.specs.Returns.{IsEarlier}
 use Rattle.vms_convert.proofs.BringLaws.{there}
-use Rattle.vms_convert.proofs.LostLaws.{lost_next}
+use Rattle.vms_convert.proofs.LostLaws.{lost_next, no_device}
+use Rattle.vms_convert.proofs.RecastLaws.{newest_kinds, port_cells, port_is, recast_at}
 
 pub at_more : {A : Type 0} (xs : List A) (x : A) (i : ℕ) (y : A) → slice_get (xs ++ x ∷ []) i ≡ Some y → (slice_get xs i ≡ Some y) ⊎ ((i ≡ length xs) × (x ≡ y))
 at_more [] x zero y e = let same : x ≡ y = cc in inr (refl, same)
@@ -32,7 +25,8 @@ module _ (to new : Set) (wanted : List (List ℤ)) where
   pub returned_none : AreReturnedTo to new wanted 0 [] None
   returned_none = record { count = refl; of = λ i image e. absurd (cc); back = λ i k image p e. absurd (cc); first_lost = λ i k lt. absurd (omega arith) }
 
-  pub returned_next : (n k : ℕ) (images : List Typed) (lost next : Option LostCell) (x : Typed) (cell : Option ℕ) → AreReturnedTo to new wanted n images lost → ArePaired to new n k
+  pub returned_next : (n k : ℕ) (images : List Typed) (lost next : Option LostCell) (x : Typed) (cell : Option ℕ) → AreReturnedTo to new wanted n images lost
+      → ArePaired to new n k
       → IsReturned to new n k (get_or wanted k []) x cell → IsEarlier lost k cell next → AreReturnedTo to new wanted (n + 1) (images ++ x ∷ []) next
   returned_next n k images lost next x cell h pair is earlier =
       let count = h.count in
@@ -40,42 +34,166 @@ module _ (to new : Set) (wanted : List (List ℤ)) where
       record {
         count = length-append images (x ∷ []) ∙ ap (λ (m : ℕ). m + 1) count;
         of = λ i image e. of_more i image (at_more images x i image e);
-        back = λ i l image p e. back_more i l image p (at_more (map state_of images) (state_of x) i image (sym (ap (λ (l : List Image). slice_get l i) states) ∙ e));
+        back = λ i l image p e. back_more i l image p
+            (at_more (map state_of images) (state_of x) i image (sym (ap (λ (l : List Image). slice_get l i) states) ∙ e));
         first_lost = subst (λ (l : List Image). IsFirstLost to new wanted (n + 1) l next) (sym states)
-            (lost_next to new wanted (map state_of images) (state_of x) n k (length-map images state_of ∙ count) pair lost cell next h.first_lost is.lost earlier);
+            (lost_next to new wanted (map state_of images) (state_of x) n k
+            (length-map images state_of ∙ count) pair lost cell next h.first_lost is.lost earlier);
       }
     where
       of_more : (i : ℕ) (image : Typed) → (slice_get images i ≡ Some image) ⊎ ((i ≡ length images) × (x ≡ image)) → IsImageOf to i image
       of_more i image (inl e) = h.of i image e
       of_more i image (inr e) =
           let at : n ≡ i = sym h.count ∙ sym e.0 in
-          subst (λ (y : Typed). IsImageOf to i y) e.1 (subst (λ (m : ℕ). IsImageOf to m x) at is.of)
+          rw (← e.1, ← at) is.of
 
-      back_more : (i l : ℕ) (image : Image) → ArePaired to new i l → (slice_get (map state_of images) i ≡ Some image) ⊎ ((i ≡ length (map state_of images)) × (state_of x ≡ image))
+      back_more : (i l : ℕ) (image : Image) → ArePaired to new i l
+          → (slice_get (map state_of images) i ≡ Some image) ⊎ ((i ≡ length (map state_of images)) × (state_of x ≡ image))
           → IsBack (to) (device_at to i) (device_partners to new (device_at to i) (device_at new l)) (get_or wanted l []) image
       back_more i l image p (inl e) = h.back i l image p e
       back_more i l image p (inr e) =
           let at : n ≡ i = sym h.count ∙ sym (length-map images state_of) ∙ sym e.0 in
           let found : Some k ≡ Some l = sym (subst (λ (m : ℕ). ArePaired to new m k) at pair).found ∙ p.found in
           let same : k ≡ l = cc in
-          subst (λ (y : Image). IsBack to (device_at to i) (device_partners to new (device_at to i) (device_at new l)) (get_or wanted l []) y) e.1
-          (subst (λ (j : ℕ). IsBack to (device_at to i) (device_partners to new (device_at to i) (device_at new j)) (get_or wanted j []) (state_of x)) same
-          (subst (λ (m : ℕ). IsBack to (device_at to m) (device_partners to new (device_at to m) (device_at new k)) (get_or wanted k []) (state_of x)) at is.back))
+          rw (← e.1, ← same, ← at) is.back
 
 -- ---- the newest set's device of a name
 
-abbrev no_device : Device
-no_device = device_at (record { machines = []; structs = []; devices = [] }) 0
-
-pub pair_found : (to new : Set) (i k : ℕ) → i < length to.devices → find_device 0 new.devices (device_at to i).desc.name (device_at to i).instance ≡ Some k → ArePaired to new i k
+pub pair_found : (to new : Set) (i k : ℕ) → i < length to.devices → find_device 0 new.devices (device_at to i).desc.name (device_at to i).instance ≡ Some k
+    → ArePaired to new i k
 pair_found to new i k lt found =
     let f = found_device 0 new.devices (device_at to i).desc.name (device_at to i).instance k found in
     let same : f.0 ≡ k = omega (arith, f.1) in
     let at : slice_get new.devices k ≡ Some f.2.device = subst (λ (n : ℕ). slice_get new.devices n ≡ Some f.2.device) same f.2.stands in
     record { in_old = there to i lt; found = found; in_new = slice_get-get_or new.devices k no_device (slice_get_within new.devices k f.2.device at) }
 
-pub always_found : (to new : Set) → WellFormed to → WellFormed new → Compatible to new → (i : ℕ) → i < length to.devices → find_device 0 new.devices (device_at to i).desc.name (device_at to i).instance ≡ None → ⊥
+pub always_found : (to new : Set) → WellFormed to → WellFormed new → Compatible to new → (i : ℕ) → i < length to.devices
+    → find_device 0 new.devices (device_at to i).desc.name (device_at to i).instance ≡ None → ⊥
 always_found to new well_to well_new compatible i lt none =
     let p = pair to new well_to (all_in to new well_to well_new compatible) i (device_at to i) (there to i lt) in
     let clash : None ≡ Some p.number = sym none ∙ p.found in
     cc
+
+-- ---- Routes and images before the input is read, and while devices are brought to the older set.
+
+module _ (to new : Set) where
+  pub no_routes : AreRoutes to new 0 []
+  no_routes = record { count = refl; each = λ i r e. absurd (cc) }
+
+  pub route_more : (n : ℕ) (routes : List Route) (r : Route) → AreRoutes to new n routes → IsRoute to new n r.other r
+      → AreRoutes to new (n + 1) (routes ++ r ∷ [])
+  route_more n routes r h is = record {
+    count = length-append routes (r ∷ []) ∙ ap (λ (m : ℕ). m + 1) h.count;
+    each = λ i x e. go i x (at_more routes r i x e);
+  }
+    where
+      go : (i : ℕ) (x : Route) → (slice_get routes i ≡ Some x) ⊎ ((i ≡ length routes) × (r ≡ x)) → IsRoute to new i x.other x
+      go i x (inl e) = h.each i x e
+      go i x (inr e) = let at : n ≡ i = sym h.count ∙ sym e.0 in rw (← e.1, ← at) is
+
+pub fresh_of : (set : Set) (images : List Typed) → map state_of images ≡ map (default_image set) set.devices → AreImagesOf set images → AreFresh set images
+fresh_of set images states of = record {
+  count = of.one_each;
+  each = λ i image at.
+      let lt : i < length set.devices = omega (arith, slice_get_within images i image at, of.one_each) in
+      let state : Some (state_of image) ≡ Some (default_image set (device_at set i)) =
+      sym (at_map state_of images i image at) ∙ ap (λ (l : List Image). slice_get l i) states
+      ∙ at_map (default_image set) set.devices i (device_at set i) (there set i lt) in
+      let same : state_of image ≡ default_image set (device_at set i) = cc in
+      ap (λ (kinds : List Kind). typed kinds (state_of image)) (of.each i image at).kinds ∙ ap (typed (kinds_at set i)) same;
+}
+
+-- ---- the image for recast numbers
+
+module _ (to new : Set) (k : ℕ) where
+  abbrev is_recast : Bool
+  is_recast = is_port (device_at new k) && wants_arrays to
+
+  pub no_room : recast_room to new k ≡ None → is_recast ≡ false
+  no_room is = go is_recast is where
+    go : (b : Bool) → (if b then Some (default_at new k) else None) ≡ None → b ≡ false
+    go true is = cc
+    go false is = refl
+
+  pub has_room : (image : Typed) → recast_room to new k ≡ Some image → (is_recast ≡ true) × (image ≡ default_at new k)
+  has_room image is = go is_recast is where
+    go : (b : Bool) → (if b then Some (default_at new k) else None) ≡ Some image → (b ≡ true) × (image ≡ default_at new k)
+    go true is = (refl, cc)
+    go false is = cc
+
+-- ---- while devices are brought
+
+-- the first n devices have been brought, and all others not
+pub record Midway (to new : Set) (wanted : List (List ℤ)) (n : ℕ) (routes : List Route) (images : List Typed) (lost : Option LostCell) : Type 0 where
+  pub long : length images ≡ length to.devices
+  pub as_long : length routes ≡ length to.devices
+  pub routes_are : (i : ℕ) (r : Route) → n ≤ i → slice_get routes i ≡ Some r → IsRoute to new i r.other r
+  pub fresh : (i : ℕ) (image : Typed) → n ≤ i → slice_get images i ≡ Some image → image ≡ default_at to i
+  pub brought : AreReturnedTo to new wanted n (take n images) lost
+
+set_above : {A : Type 0} (xs : List A) (n i : ℕ) (x y : A) → n < i → slice_get (slice_set xs n x) i ≡ Some y → slice_get xs i ≡ Some y
+set_above xs n i x y lt e = sym (at_other xs n i x (λ same. absurd (omega arith))) ∙ e
+
+module _ (to new : Set) (wanted : List (List ℤ)) where
+  pub midway_first : (routes : List Route) (images : List Typed) → AreRoutes to new (length to.devices) routes → AreFresh to images
+      → Midway to new wanted 0 routes images None
+  midway_first routes images r f = record {
+    long = f.count;
+    as_long = r.count;
+    routes_are = λ i x le e. r.each i x e;
+    fresh = λ i x le e. f.each i x e;
+    brought = returned_none to new wanted;
+  }
+
+  pub midway_next : (n k : ℕ) (routes : List Route) (images : List Typed) (lost next : Option LostCell) (route : Route) (image : Typed) (cell : Option ℕ)
+      → Midway to new wanted n routes images lost → n < length to.devices → ArePaired to new n k
+      → IsReturned to new n k (get_or wanted k []) image cell → IsEarlier lost k cell next
+      → Midway to new wanted (n + 1) (slice_set routes n route) (slice_set images n image) next
+  midway_next n k routes images lost next route image cell m lt pair is earlier = record {
+    long = length-set images n image ∙ m.long;
+    as_long = length-set routes n route ∙ m.as_long;
+    routes_are = λ i x le e. m.routes_are i x (omega arith) (set_above routes n i route x (omega arith) e);
+    fresh = λ i x le e. m.fresh i x (omega arith) (set_above images n i image x (omega arith) e);
+    brought = subst (λ (l : List Typed). AreReturnedTo to new wanted (n + 1) l next) (sym (take_more_set images n image (omega (arith, m.long))))
+        (returned_next to new wanted n k (take n images) lost next image cell m.brought pair is earlier);
+  }
+
+  pub midway_last : (n : ℕ) (routes : List Route) (images : List Typed) (lost : Option LostCell) → Midway to new wanted n routes images lost
+      → n ≡ length to.devices → AreReturned to new wanted images lost
+  midway_last n routes images lost m all =
+      subst (λ (l : List Typed). AreReturned to new wanted l lost) (ap (λ (k : ℕ). take k images) (all ∙ sym m.long) ∙ take-length images)
+      (subst (λ (k : ℕ). AreReturnedTo to new wanted k (take n images) lost) all m.brought)
+
+-- ---- The numbers of a device of the newest set that a loader keeps, as they are brought to an older set.
+
+four_kinds : kinds_at set_4 4 ≡ kinds 4
+unfolding first
+four_kinds = refl
+
+module _ (to new : Set) (is : new ≡ set_4) (images : List Image) (kept : AreKept new images) (k : ℕ) (lt : k < length new.devices) (image : Image)
+    (at : slice_get images k ≡ Some image) where
+  abbrev wanted : List (List ℤ)
+  wanted = recast_each to new.devices (numbers_in images)
+
+  wanted_kinds : AreOfKinds (device_cells new (device_at new k)) (get_or (recast_each to new.devices (numbers_in images)) k [])
+  wanted_kinds = newest_kinds to new is images kept k (device_at new k) (there new k lt)
+
+  pub wanted_is : get_or (recast_each to new.devices (numbers_in images)) k [] ≡ recast to (device_at new k) image.numbers
+  wanted_is =
+      recast_at to new.devices (numbers_in images) k (device_at new k) image.numbers (there new k lt) (at_map (λ (x : Image). x.numbers) images k image at)
+
+  four : is_port (device_at new k) ≡ true → k ≡ 4
+  four port = subst (λ (s : Set). k < length s.devices → is_port (device_at s k) ≡ true → k ≡ 4) (sym is) (port_is k) lt port
+
+  port_kinds_at : is_port (device_at new k) ≡ true → kinds_at new k ≡ kinds NEWEST
+  port_kinds_at port = ap (λ (s : Set). kinds_at s k) is ∙ ap (λ (n : ℕ). kinds_at set_4 n) (four port) ∙ four_kinds
+
+  port_cells_at : is_port (device_at new k) ≡ true → IsPortCells image.numbers
+  port_cells_at port = port_cells images (subst (λ (s : Set). AreKept s images) is kept) k image (four port) at
+
+  pub recast_for : IsRecastFor to new k image.numbers
+  recast_for = record {
+    inside = lt;
+    kinds = subst (λ (l : List ℤ). AreOfKinds (device_cells new (device_at new k)) l) wanted_is wanted_kinds;
+    port = λ port. (port_kinds_at port, port_cells_at port);
+  }

@@ -1,23 +1,16 @@
 -- Worked rows: small sets, and the serial port of two shipped sets.
-use Rattle.std.proofs.Common.{◌≡◌, ℕ, suc, List, [], ◌∷◌, ◌++◌, get_or, map, replicate, Option, Some, None, ℤ, pos, negsuc, refl, codes}
-use Rattle.std.specs.List.{range_with_len}
-use Rattle.vms_kinds.specs.declared.Kind.TheVariants.{U8}
-use Rattle.vms_kinds.specs.declared.Item.TheVariants.{Num, Unused}
-use Rattle.vms_spec.specs.declared.Count.TheVariants.{One, Counted}
-use Rattle.vms_spec.specs.Sets.{Field, Sub, Device, Set}
-use Rattle.vms_spec.specs.Shipped.{set_1, set_2, set_4, serial, serial_fields, divider, divisor, fcr, thr_ipending, fifo, timeout, ring, never, i8254_at_1, i8254_at_2}
-use Rattle.vms_spec.specs.Layout.{Cell as OneCell, first, device_cells}
-use Rattle.vms_spec.specs.Images.{has_cell, image_slots}
-use Rattle.vms_check.specs.Carrying.{carried_device}
-use Rattle.dev_images.specs.Images.{image_of}
-use Rattle.vms_convert.specs.Back.{taken, whole}
-use Rattle.vms_check.specs.Partners.{device_partners}
+use Rattle.vms_convert.proofs.Facade.{◌≡◌, ℕ, suc, List, [], ◌∷◌, ◌++◌, get_or, map, replicate, Option, Some, None, ℤ, pos, negsuc, refl, codes, range_with_len}
+use Rattle.vms_convert.proofs.Facade.{U8, Num, Unused, One, Counted, Field, Sub, Device, Set, set_1, set_2, set_4, serial, serial_fields, divider, divisor, fcr}
+use Rattle.vms_convert.proofs.Facade.{thr_ipending, fifo, timeout, ring, never, i8254_at_1, i8254_at_2, first, device_cells, has_cell, image_slots}
+use Rattle.vms_convert.proofs.Facade.{carried_device, image_of, taken, whole, device_partners}
+use Rattle.vms_spec.specs.Layout.{Cell as OneCell}
 
 abbrev number : List ℕ → Field
 number name = record { name = name; former = []; item = Num U8; count = One; since = 0; test = None; default = pos 0 }
 
 abbrev box : ℕ → List Field → List Sub → Device
-box version fields subs = record { instance = 0; desc = record { name = codes "box"; version = version; minimum = 1; fields = fields; validate = [] }; subs = subs }
+box version fields subs =
+    record { instance = 0; desc = record { name = codes "box"; version = version; minimum = 1; fields = fields; validate = [] }; subs = subs }
 
 abbrev lab : Device → Set
 lab d = record { machines = codes "lab" ∷ []; structs = []; devices = d ∷ [] }
@@ -65,16 +58,19 @@ counted_partners : device_partners (lab (counted 2)) (lab (counted 4)) (counted 
 unfolding device_partners first
 counted_partners = refl
 
-too_many : taken_by (lab (counted 2)) (lab (counted 4)) (counted 2) (counted 4) (pos 3 ∷ pos 10 ∷ pos 11 ∷ pos 12 ∷ pos 0 ∷ []) (pos 0 ∷ pos 0 ∷ pos 0 ∷ []) ≡ pos 0 ∷ pos 0 ∷ pos 0 ∷ []
+too_many : taken_by (lab (counted 2)) (lab (counted 4)) (counted 2) (counted 4) (pos 3 ∷ pos 10 ∷ pos 11 ∷ pos 12 ∷ pos 0 ∷ []) (pos 0 ∷ pos 0 ∷ pos 0 ∷ [])
+    ≡ pos 0 ∷ pos 0 ∷ pos 0 ∷ []
 unfolding device_partners first
 too_many = refl
 
-few_enough : taken_by (lab (counted 2)) (lab (counted 4)) (counted 2) (counted 4) (pos 1 ∷ pos 10 ∷ pos 0 ∷ pos 0 ∷ pos 0 ∷ []) (pos 1 ∷ pos 10 ∷ pos 0 ∷ []) ≡ pos 1 ∷ pos 10 ∷ pos 0 ∷ []
+few_enough : taken_by (lab (counted 2)) (lab (counted 4)) (counted 2) (counted 4) (pos 1 ∷ pos 10 ∷ pos 0 ∷ pos 0 ∷ pos 0 ∷ []) (pos 1 ∷ pos 10 ∷ pos 0 ∷ [])
+    ≡ pos 1 ∷ pos 10 ∷ pos 0 ∷ []
 unfolding device_partners first
 few_enough = refl
 
 -- the first of them is lost: carried to the newer set again the count is 0
-count_is_lost : (carried_device (lab (counted 2)) (lab (counted 4)) (counted 2) (counted 4) (image_of (lab (counted 2)) (counted 2) (pos 0 ∷ pos 0 ∷ pos 0 ∷ []))).numbers ≡ replicate 5 (pos 0)
+count_is_lost : (carried_device (lab (counted 2)) (lab (counted 4)) (counted 2) (counted 4)
+    (image_of (lab (counted 2)) (counted 2) (pos 0 ∷ pos 0 ∷ pos 0 ∷ []))).numbers ≡ replicate 5 (pos 0)
 unfolding first
 count_is_lost = refl
 

@@ -15,7 +15,7 @@ use Rattle.vms_parts.proofs.Items.{get_map_at}
 use Rattle.vms_parts.proofs.SizeLaws.{capped_product, capped_at}
 use Rattle.vms_load.specs.Bounds.{item_bytes, fields_bytes, struct_bytes}
 use Rattle.vms_load.specs.Staging.{subs_bytes, devices_most}
-use Rattle.vms_load.proofs.Bounding.{most_small}
+use Rattle.vms_load.proofs.SetFacts.{most_small}
 use Rattle.vms_counter.specs.Room.{subs_in, devices_in}
 use Rattle.vms_marks.specs.declared.sub_head.TheConstants.{LONGEST_SUB_HEAD}
 

@@ -37,9 +37,9 @@ use Rattle.vms_counter_laws.specs.Laws.{IsPlain, AlwaysShown, OfMachine, OfVersi
 use Rattle.vms_counter_laws.proofs.Inverted.{else_some, one_rule, struct_no_device, tables_within, IsDevice, OfDevice, of_device, Version as OfItsVersion, Own, Below, IsWithin, part_within, DeviceFails, device_fails, machine_fails}
 use Rattle.vms_check_laws.proofs.Streaming.{Pair, pair, compared}
 use Rattle.vms_counter_laws.proofs.Devices.{Comes, comes}
-use Rattle.vms_counter_laws.proofs.Heads.{same_head}
+use Rattle.vms_counter_laws.proofs.Machines.{same_head, lacks, machine_untaken}
+use Rattle.vms_check_laws.proofs.Premises.{Two}
 use Rattle.vms_counter_laws.proofs.Clashing.{present_fields, clashes}
-use Rattle.vms_counter_laws.proofs.Machines.{lacks, machine_untaken}
 
 module _ (old new : Set) (good_old : WellFormed old) (good_new : WellFormed new) (heads_old : FitsHeads old) (heads : FitsHeads new) (ready : AreReady old (default_images old)) where
   abbrev images : List Image
@@ -212,7 +212,18 @@ module _ (old new : Set) (good_old : WellFormed old) (good_new : WellFormed new)
 
         fields : m.in_old.part ≡ parts.Device i → compare_fields ks d.desc p.device.desc v v (parts.Device i) (parts.Device p.number) (position_from 0 es) (position_from 0 fs) es fs ≡ Some m → ⊥
         fields here c =
-            let clash = clashes ks d.desc p.device.desc v v (parts.Device i) (parts.Device p.number) (position_from 0 es) (position_from 0 fs) m twelve
+            let two : Two = record {
+              ks = ks;
+              a = d.desc;
+              b = p.device.desc;
+              v = v;
+              w = v;
+              part = parts.Device i;
+              part' = parts.Device p.number;
+              o = position_from 0 es;
+              n = position_from 0 fs;
+            } in
+            let clash = clashes two m twelve
             (tables_within (struct_cells old) (struct_cells new) old.structs new.structs (length new.structs)) (λ s. struct_no_device m.in_old.part s is_device)
             ((well_good old good_old heads_old).constants i d fails.answers.stands) ((well_good new good_new heads).constants p.number p.device p.stands)
             (plain_is i' j' part field plain here) es fs

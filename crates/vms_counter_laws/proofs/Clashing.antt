@@ -17,7 +17,7 @@ use Rattle.vms_bodies.proofs.ReadyLaws.{is_same}
 use Rattle.vms_check.specs.declared.mismatch.Mismatch.{Mismatch}
 use Rattle.vms_check.specs.Reducing.{presence}
 use Rattle.vms_check.specs.Comparing.{Entry, Comparer, absent_hold, bound, compare_fields, entry_of, failing_pair, holds_as_much, is_covered, names_match, pair_rules, pair_structs, present_from, same_constant, same_count, same_item, same_rest, uncovered_rules}
-use Rattle.vms_check_laws.proofs.Pairing.{kinds_same}
+use Rattle.vms_check_laws.proofs.Premises.{kinds_same, Two}
 use Rattle.vms_check_laws.proofs.AlignedDescs.{Clash, Clashes, Differ}
 use Rattle.vms_counter_laws.proofs.Inverted.{else_some, one_rule, IsStruct, StructsWithin}
 
@@ -84,7 +84,9 @@ no_left : (o n : ℕ → Option ℕ) (r s : Option Formula) → r ≡ None → s
 no_left o n None None e h = refl
 no_left o n _ _ e h = absurd (cc)
 
-module _ (ks : List Comparer) (a b : Desc) (v w : ℕ) (part part' : Part) (o n : ℕ → Option ℕ) (m : Mismatch) (twelve : m.rule ≡ 12) where
+module _ (two : Two) (m : Mismatch) (twelve : m.rule ≡ 12) where
+  open two use {ks, a, b, v, w, part, part', o, n}
+
   other : (r : ℕ) → r < 12 → m.rule ≡ r → ⊥
   other r lt e = omega (arith, twelve, e, lt)
 
@@ -126,7 +128,8 @@ module _ (ks : List Comparer) (a b : Desc) (v w : ℕ) (part part' : Part) (o n 
         let rest : e.rest ≡ None = cc in
         record { constants = d; rest = rest; rest' = no_left o n e.rest f.rest rest c.rest }
 
-    pub clashes : (es fs : List Entry) → AreFields a.fields v es → AreFields b.fields w fs → compare_fields ks a b v w part part' o n es fs ≡ Some m → Clashes ks a b v w part part' o n es fs
+    pub clashes : (es fs : List Entry) → AreFields a.fields v es → AreFields b.fields w fs → compare_fields ks a b v w part part' o n es fs ≡ Some m
+        → Clashes two es fs
     clashes [] [] known known' h = absurd (cc)
     clashes (e ∷ es) [] known known' h =
         let same : record { rule = 5; in_old = in_field part e.index; in_new = here part' } ≡ m = cc in

@@ -1,16 +1,43 @@
--- A machine that the newer set doesn't have: no stream that names it is accepted.
-use Rattle.std.proofs.Common.{◌≡◌, ℕ, ◌^◌, ◌<◌, Bool, true, false, ◌&&◌, List, [], ◌∷◌, ◌++◌, length, get_or, Option, Some, None, refl, sym, ap, ◌∙◌, arith, append_assoc, if◌then◌else◌}
+-- Streams with a machine, and their heads.
+use Rattle.std.proofs.Common.{◌≡◌, ℕ, ◌^◌, ◌<◌, List, [], ◌++◌, length, refl, sym, ap, ◌∙◌, append_assoc, Bool, true, false, ◌&&◌, ◌∷◌, get_or, Option, Some, None, arith, if◌then◌else◌}
+use Rattle.byteorder.specs.Endian.{big_number}
+use Rattle.vms_spec.specs.Streams.{be32, section_head, stream_head, configuration, end_mark, is_one_of, IsConfiguration}
+use Rattle.vms_spec.proofs.KindLaws.{be32_read}
+use Rattle.vms_check_laws.proofs.Segments.{apart}
 use Rattle.std.specs.List.{slice_get, list_all}
 use Rattle.std.specs.Str.{bytes_eq}
 use Rattle.std.proofs.lemmas.Bool.{or_left, or_right}
 use Rattle.std.proofs.lemmas.Slice.Eq.{bytes_eq-Decides}
 use Rattle.vms_spec.specs.Sets.{Device, Set}
 use Rattle.vms_spec.specs.Images.{Image}
-use Rattle.vms_spec.specs.Streams.{be32, stream_head, configuration, end_mark, is_one_of, IsConfiguration}
 use Rattle.vms_stream.specs.Streams.{HasSection, SectionsSpell, Takes}
-use Rattle.vms_check_laws.proofs.Segments.{apart}
 use Rattle.vms_counter_laws.specs.Candidates.{lacking}
-use Rattle.vms_counter_laws.proofs.Heads.{same_be32}
+
+-- ---- Two section heads at one front.
+
+pub same_be32 : (n m : ℕ) → n < 2 ^ 32 → m < 2 ^ 32 → be32 n ≡ be32 m → n ≡ m
+same_be32 n m lt lt' e = sym (be32_read n [] lt) ∙ ap (λ (l : List ℕ). big_number 4 (l ++ [])) e ∙ be32_read m [] lt'
+
+pub record SameHead (name name' : List ℕ) (instance instance' v v' : ℕ) (rest rest' : List ℕ) : Type 0 where
+  pub names : name ≡ name'
+  pub instances : instance ≡ instance'
+  pub versions : v ≡ v'
+  pub rests : rest ≡ rest'
+
+pub same_head : (id id' : ℕ) (name name' : List ℕ) (instance instance' v v' : ℕ) (rest rest' : List ℕ) → instance < 2 ^ 32 → instance' < 2 ^ 32 → v < 2 ^ 32 → v' < 2 ^ 32
+    → section_head id name instance v ++ rest ≡ section_head id' name' instance' v' ++ rest' → SameHead name name' instance instance' v v' rest rest'
+same_head id id' name name' instance instance' v v' rest rest' i_fits i_fits' v_fits v_fits' h =
+    let long : length name ≡ length name' = cc in
+    let more : ((name ++ be32 instance) ++ be32 v) ++ rest ≡ ((name' ++ be32 instance') ++ be32 v') ++ rest' = cc in
+    let split : name ++ (be32 instance ++ (be32 v ++ rest)) ≡ name' ++ (be32 instance' ++ (be32 v' ++ rest')) =
+    sym (append_assoc (name ++ be32 instance) (be32 v) rest ∙ append_assoc name (be32 instance) (be32 v ++ rest)) ∙ more
+    ∙ append_assoc (name' ++ be32 instance') (be32 v') rest' ∙ append_assoc name' (be32 instance') (be32 v' ++ rest') in
+    let a = apart name name' (be32 instance' ++ (be32 v' ++ rest')) (be32 instance ++ (be32 v ++ rest)) long split in
+    let b = apart (be32 instance) (be32 instance') (be32 v' ++ rest') (be32 v ++ rest) refl a.1 in
+    let c = apart (be32 v) (be32 v') rest' rest refl b.1 in
+    record { names = a.0; instances = same_be32 instance instance' i_fits i_fits' b.0; versions = same_be32 v v' v_fits v_fits' c.0; rests = c.1 }
+
+-- ---- A machine that the newer set doesn't have: no stream that names it is accepted.
 
 -- ---- the machine
 

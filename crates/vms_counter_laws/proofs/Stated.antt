@@ -24,7 +24,7 @@ use Rattle.vms_counter_laws.specs.Counters.{Refusal, Answer, AreCompatible, NoSt
 use Rattle.vms_counter_laws.specs.Computed.{all_ready, answer_to, first_refused, or_next, refused, refusal_of}
 use Rattle.vms_counter_laws.specs.Laws.{NamedLaw, AlwaysLaw, ComputedLaw}
 use Rattle.vms_counter_laws.proofs.Always.{shown}
-use Rattle.vms_counter_laws.proofs.StreamBytes.{stream_bytes}
+use Rattle.vms_counter_laws.proofs.OneAnswer.{stream_bytes}
 
 -- ---- a state that is named
 

@@ -1,9 +1,12 @@
 -- The fields that tests and counts of a well-formed set name exist, and the code's answers are
 -- those of the definitions.
-use Rattle.std.proofs.Common.{◌≡◌, ℕ, zero, suc, ◌+◌, ◌<◌, ◌≤◌, List, [], ◌∷◌, length, length-append, get_or, map, Option, Some, None, refl, sym, ap, ◌∙◌, subst, arith, Bool, true, ◌&&◌, ℤ}
+use Rattle.std.proofs.Common.{◌≡◌, ℕ, zero, suc, ◌+◌, ◌<◌, ◌≤◌, List, [], ◌∷◌, length, length-append, get_or, map, Option, Some, None, refl, sym, ap, ◌∙◌}
+use Rattle.std.proofs.Common.{arith, Bool, true, ◌&&◌, ℤ}
 use Rattle.std.specs.List.{flat_map, slice_get, list_all}
 use Rattle.std.proofs.lemmas.Bool.{and_parts}
+use Rattle.std.proofs.lemmas.List.{length-map}
 use Rattle.std.proofs.lemmas.Option.{get_or_from_slice_get}
+use Rattle.std.proofs.Math.ListN.{get_or-map}
 use Rattle.vms_spec.specs.declared.TheConstants.{MOST_ITEMS}
 use Rattle.vms_spec.specs.declared.Count.TheVariants.{Counted}
 use Rattle.vms_spec.specs.declared.Whose.TheVariants.{Own, Parent}
@@ -13,16 +16,14 @@ use Rattle.vms_spec.specs.Sets.{Formula, AtLeast, Below, Cell, Not, And, Or, Fie
 use Rattle.vms_spec.specs.Tests.{truth}
 use Rattle.vms_spec.specs.Images.{own_cells, sub_place}
 use Rattle.vms_spec.specs.Layout.{no_desc, no_field, no_parent, all_hold, desc_cells, struct_cells, device_cells}
-use Rattle.vms_spec.specs.Rules.{is_num, is_one, has_no_test, is_steady, is_steady_in, is_earlier_in, is_counting, names_well, nobody, test_names_well, count_names_well}
-use Rattle.std.proofs.lemmas.List.{length-map}
+use Rattle.vms_spec.specs.Rules.{is_num, is_one, has_no_test, is_steady, is_steady_in, is_earlier_in, is_counting, names_well, nobody, test_names_well}
+use Rattle.vms_spec.specs.Rules.{count_names_well}
 use Rattle.vms_parts.specs.Devices.{device_at}
-use Rattle.vms_parts.specs.Views.{field_of, desc_of, sub_of, device_of, form_of, layout_of}
+use Rattle.vms_parts.specs.Views.{field_of, desc_of, sub_of, device_of, form_of}
 use Rattle.vms_parts.specs.declared.types.Desc.{Desc as CodeDesc}
-use Rattle.vms_parts.specs.declared.types.Sub.{Sub as CodeSub}
 use Rattle.vms_parts.specs.declared.types.Device.{Device as CodeDevice}
-use Rattle.std.proofs.Math.ListN.{get_or-map}
-use Rattle.vms_desc.proofs.Bounds.{small_layout}
 use Rattle.vms_parts.specs.declared.types.Field.{Field as CodeField}
+use Rattle.vms_parts.specs.declared.types.Sub.{Sub as CodeSub}
 use Rattle.vms_parts.proofs.Items.{get_map_at}
 use Rattle.vms_desc.specs.declared.eval.Scope.{Scope}
 use Rattle.vms_desc.specs.Asks.{own_numbers, HasCells}
@@ -30,9 +31,9 @@ use Rattle.vms_desc.specs.Formed.{is_well_formed}
 use Rattle.vms_desc.specs.Numbers.{fields_in, number_of}
 use Rattle.vms_desc.specs.Scopes.{IsScope}
 use Rattle.vms_desc.specs.Parts.{HasPart, desc_at, sub_at, is_number, is_number_in, is_placed}
+use Rattle.vms_desc.proofs.Bounds.{small_layout}
 use Rattle.vms_desc.proofs.Clean.{field_clean, validate_clean, sub_clean}
-use Rattle.vms_desc.proofs.EvalLaws.{truth_same}
-use Rattle.vms_desc.proofs.EvalParts.{own_number}
+use Rattle.vms_desc.proofs.EvalLaws.{truth_same, own_number}
 
 -- ---- what tests name
 
@@ -45,152 +46,139 @@ steady_number d j e = by_field (slice_get d.fields j) e
         let a = and_parts (is_num f.item && is_one f.count && has_no_test f.test) _ e in
         (and_parts (is_num f.item && is_one f.count) (has_no_test f.test) a.0).0
 
-names_more : (own more parent others : ℕ → Bool) → ((j : ℕ) → own j ≡ true → more j ≡ true) → ((j : ℕ) → parent j ≡ true → others j ≡ true) → (t : Formula)
-    → names_well own parent t ≡ true → names_well more others t ≡ true
-names_more own more parent others h i (AtLeast n) e = refl
-names_more own more parent others h i (Below n) e = refl
-names_more own more parent others h i (Cell Own j mask rel value) e = h j e
-names_more own more parent others h i (Cell Parent j mask rel value) e = i j e
-names_more own more parent others h i (Not t) e = names_more own more parent others h i t e
-names_more own more parent others h i (And s t) e =
-    let p = and_parts (names_well own parent s) (names_well own parent t) e in
-    ap (λ (b : Bool). b && names_well more others t) (names_more own more parent others h i s p.0) ∙ names_more own more parent others h i t p.1
-names_more own more parent others h i (Or s t) e =
-    let p = and_parts (names_well own parent s) (names_well own parent t) e in
-    ap (λ (b : Bool). b && names_well more others t) (names_more own more parent others h i s p.0) ∙ names_more own more parent others h i t p.1
+module _ (own more parent others : ℕ → Bool) (h : (j : ℕ) → own j ≡ true → more j ≡ true) (i : (j : ℕ) → parent j ≡ true → others j ≡ true) where
+  names_more : (t : Formula) → names_well own parent t ≡ true → names_well more others t ≡ true
+  names_more (AtLeast n) e = refl
+  names_more (Below n) e = refl
+  names_more (Cell Own j mask rel value) e = h j e
+  names_more (Cell Parent j mask rel value) e = i j e
+  names_more (Not t) e = names_more t e
+  names_more (And s t) e = let p = and_parts (names_well own parent s) (names_well own parent t) e in rw (names_more s p.0) (names_more t p.1)
+  names_more (Or s t) e = let p = and_parts (names_well own parent s) (names_well own parent t) e in rw (names_more s p.0) (names_more t p.1)
+
+  every_more : (ts : List Formula) → list_all (names_well own parent) ts ≡ true → list_all (names_well more others) ts ≡ true
+  every_more [] e = refl
+  every_more (t ∷ ts) e = let p = and_parts (names_well own parent t) (list_all (names_well own parent) ts) e in rw (names_more t p.0) (every_more ts p.1)
 
 earlier_number : (d : Desc) (k j : ℕ) → is_earlier_in d k j ≡ true → is_number_in d.fields j ≡ true
 earlier_number d k j e = steady_number d j (and_parts _ (is_steady_in d j) e).1
 
-every_more : (own more parent : ℕ → Bool) → ((j : ℕ) → own j ≡ true → more j ≡ true) → (ts : List Formula) → list_all (names_well own parent) ts ≡ true → list_all (names_well more parent) ts ≡ true
-every_more own more parent h [] e = refl
-every_more own more parent h (t ∷ ts) e =
-    let p = and_parts (names_well own parent t) (list_all (names_well own parent) ts) e in
-    ap (λ (b : Bool). b && list_all (names_well more parent) ts) (names_more own more parent parent h (λ j x. x) t p.0) ∙ every_more own more parent h ts p.1
-
-test_names : (d : Desc) (k : ℕ) (test : Option Formula) (t : Formula) → test ≡ Some t → test_names_well d k test ≡ true → names_well (is_number_in d.fields) nobody t ≡ true
+test_names : (d : Desc) (k : ℕ) (test : Option Formula) (t : Formula) → test ≡ Some t → test_names_well d k test ≡ true
+    → names_well (is_number_in d.fields) nobody t ≡ true
 test_names d k None t is e = cc
 test_names d k (Some u) t is e =
-    let same : u ≡ t = cc in
-    subst (λ (x : Formula). names_well (is_number_in d.fields) nobody x ≡ true) same
-    (names_more (is_earlier_in d k) (is_number_in d.fields) nobody nobody (earlier_number d k) (λ j x. x) u e)
+    let same : t ≡ u = cc in rw same (names_more (is_earlier_in d k) (is_number_in d.fields) nobody nobody (earlier_number d k) (λ j x. x) u e)
 
 module _ (set : Set) (well : is_well_formed set ≡ true) where
   -- the test of a field
-  pub field_names : (part : Part) → HasPart set part → (k : ℕ) → k < length (desc_at set part).fields → (f : Field) → f ≡ get_or (desc_at set part).fields k no_field → (t : Formula) → f.test ≡ Some t
-      → (own : Scope) → fields_in own ≡ (desc_at set part).fields → names_well (is_number_in (fields_in own)) nobody t ≡ true
+  pub field_names : (part : Part) → HasPart set part → (k : ℕ) → k < length (desc_at set part).fields → (f : Field)
+      → f ≡ get_or (desc_at set part).fields k no_field
+      → (t : Formula) → f.test ≡ Some t → (own : Scope) → fields_in own ≡ (desc_at set part).fields → names_well (is_number_in (fields_in own)) nobody t ≡ true
   field_names part h k lt f fs t is own e =
-      subst (λ (l : List Field). names_well (is_number_in l) nobody t ≡ true) (sym e)
-      (test_names (desc_at set part) k f.test t is (subst (λ (g : Field). test_names_well (desc_at set part) k g.test ≡ true) (sym fs) (field_clean set well part h k lt).test))
+      rw e (test_names (desc_at set part) k _ t (ap (λ (x : Field). x.test) (sym fs) ∙ is) (field_clean set well part h k lt).test)
 
   -- the field that counts the elements of a field
-  pub field_counts : (part : Part) → HasPart set part → (k : ℕ) → k < length (desc_at set part).fields → (f : Field) → f ≡ get_or (desc_at set part).fields k no_field → (by most : ℕ) → f.count ≡ Counted by most
-      → (own : Scope) → fields_in own ≡ (desc_at set part).fields → is_number_in (fields_in own) by ≡ true
+  pub field_counts : (part : Part) → HasPart set part → (k : ℕ) → k < length (desc_at set part).fields → (f : Field)
+      → f ≡ get_or (desc_at set part).fields k no_field
+      → (by most : ℕ) → f.count ≡ Counted by most → (own : Scope) → fields_in own ≡ (desc_at set part).fields → is_number_in (fields_in own) by ≡ true
   field_counts part h k lt f fs by most is own e =
       let d = desc_at set part in
-      let c : count_names_well d k (Counted by most) ≡ true = ap (count_names_well d k) (sym is) ∙ ap (λ (g : Field). count_names_well d k g.count) fs ∙ (field_clean set well part h k lt).count in
-      ap (λ (l : List Field). is_number_in l by) e ∙ earlier_number d k by (and_parts (is_earlier_in d k by) (is_counting (slice_get d.fields by)) c).0
+      let c : count_names_well d k (Counted by most) ≡ true = cc ((field_clean set well part h k lt).count) in
+      rw e (earlier_number d k by (and_parts (is_earlier_in d k by) (is_counting (slice_get d.fields by)) c).0)
 
   -- the validations
-  pub rules_name : (part : Part) → HasPart set part → (own : Scope) → fields_in own ≡ (desc_at set part).fields → (ts : List Formula) → ts ≡ (desc_at set part).validate
+  pub rules_name : (part : Part) → HasPart set part → (own : Scope) → fields_in own ≡ (desc_at set part).fields → (ts : List Formula)
+      → ts ≡ (desc_at set part).validate
       → list_all (names_well (is_number_in (fields_in own)) nobody) ts ≡ true
   rules_name part h own e ts is =
       let d = desc_at set part in
-      ap (λ (l : List Field). list_all (names_well (is_number_in l) nobody) ts) e ∙ ap (list_all (names_well (is_number_in d.fields) nobody)) is
-      ∙ every_more (is_steady_in d) (is_number_in d.fields) nobody (steady_number d) d.validate (validate_clean set well part h)
+      rw (e, is) (every_more (is_steady_in d) (is_number_in d.fields) nobody nobody (steady_number d) (λ j x. x) d.validate (validate_clean set well part h))
 
   -- a needed test
-  pub needed_placed : (i j : ℕ) → i < length set.devices → j < length (device_at set i).subs → is_placed set (parts.Sub i j) (sub_at (device_at set i) j).needed ≡ true
+  pub needed_placed : (i j : ℕ) → i < length set.devices → j < length (device_at set i).subs
+      → is_placed set (parts.Sub i j) (sub_at (device_at set i) j).needed ≡ true
   needed_placed i j h lt =
       let d = device_at set i in
       let s = sub_at d j in
-      names_more (is_steady_in s.desc) (is_number_in s.desc.fields) (is_steady_in d.desc) (is_number_in d.desc.fields) (steady_number s.desc) (steady_number d.desc) s.needed
+      names_more (is_steady_in s.desc) (is_number_in s.desc.fields) (is_steady_in d.desc) (is_number_in d.desc.fields) (steady_number s.desc)
+      (steady_number d.desc) s.needed
       (sub_clean set well i j h lt).own.1.1.1.0
 
 -- ---- the answers of the code
 
 -- a subsection that the code found is that of the set
-pub found_sub : (set : Set) (i j : ℕ) (device : CodeDevice) (subs : List CodeSub) (s : CodeSub) → device_of device ≡ device_at set i → subs ≡ device.subs → j < length (device_at set i).subs → s ≡ get_or subs j s
+pub found_sub : (set : Set) (i j : ℕ) (device : CodeDevice) (subs : List CodeSub) (s : CodeSub) → device_of device ≡ device_at set i → subs ≡ device.subs
+    → j < length (device_at set i).subs → s ≡ get_or subs j s
     → sub_of s ≡ sub_at (device_at set i) j
 found_sub set i j device subs s d e lt is =
     let none : Sub = record { desc = no_desc; needed = AtLeast 0 } in
     let same : map sub_of subs ≡ (device_at set i).subs = ap (map sub_of) e ∙ ap (λ (x : Device). x.subs) d in
-    let long : j < length subs = omega (arith, ap length same, length-map subs sub_of) in
-    sym (get_map_at sub_of subs j s none long is) ∙ ap (λ (l : List Sub). get_or l j none) same
+    sym (get_map_at sub_of subs j s none (omega (arith, ap length same, length-map subs sub_of)) is) ∙ rw same
 
 -- the fields of a part, in the code's form
-pub here_fields : (set : Set) (part : Part) (d : CodeDesc) (fields : List CodeField) → desc_of d ≡ desc_at set part → fields ≡ d.fields → map field_of fields ≡ (desc_at set part).fields
+pub here_fields : (set : Set) (part : Part) (d : CodeDesc) (fields : List CodeField) → desc_of d ≡ desc_at set part → fields ≡ d.fields
+    → map field_of fields ≡ (desc_at set part).fields
 here_fields set part d fields is e = ap (map field_of) e ∙ ap (λ (x : Desc). x.fields) is
 
 -- a field that the code found is that of the set
-pub found_field : (fields : List CodeField) (all : List Field) (k : ℕ) (f : CodeField) → map field_of fields ≡ all → k < length all → f ≡ get_or fields k f → field_of f ≡ get_or all k no_field
-found_field fields all k f e lt is =
-    let long : k < length fields = omega (arith, ap length e, length-map fields field_of) in
-    sym (get_map_at field_of fields k f no_field long is) ∙ ap (λ (l : List Field). get_or l k no_field) e
+pub found_field : (fields : List CodeField) (all : List Field) (k : ℕ) (f : CodeField) → map field_of fields ≡ all → k < length all → f ≡ get_or fields k f
+    → field_of f ≡ get_or all k no_field
+found_field fields all k f e lt is = rw (← e) (sym (get_map_at field_of fields k f no_field (omega (arith, ap length e, length-map fields field_of)) is))
 
 all_hold_same : (ts : List Formula) (v : ℕ) (own now : ℕ → ℕ) → ((k : ℕ) → own k ≡ now k) → all_hold ts v own ≡ all_hold ts v now
 all_hold_same [] v own now h = refl
-all_hold_same (t ∷ ts) v own now h =
-    ap (λ (b : Bool). b && all_hold ts v own) (truth_same t v own now no_parent no_parent h (λ k. refl)) ∙ ap (λ (b : Bool). truth t v now no_parent && b) (all_hold_same ts v own now h)
+all_hold_same (t ∷ ts) v own now h = cc (truth_same v own now no_parent no_parent h (λ k. refl) t, all_hold_same ts v own now h)
 
-module _ (set : Set) (part : Part) (base : ℕ) (own : Scope) (numbers : List ℤ) (s : IsScope set (desc_at set part) base own) (few : length numbers ≤ MOST_ITEMS) (room : HasCells set part numbers base) where
+module _ (set : Set) (part : Part) (base : ℕ) (own : Scope) (numbers : List ℤ) (s : IsScope set (desc_at set part) base own) (few : length numbers ≤ MOST_ITEMS)
+    (room : HasCells set part numbers base) where
   pub same_number : (k : ℕ) → number_of numbers own k ≡ own_numbers set part numbers base k
   same_number k = own_number set (desc_at set part) base own numbers s few room k
 
   pub same_truth : (t : Formula) (v : ℕ) → truth t v (number_of numbers own) no_parent ≡ truth t v (own_numbers set part numbers base) no_parent
-  same_truth t v = truth_same t v (number_of numbers own) (own_numbers set part numbers base) no_parent no_parent same_number (λ k. refl)
+  same_truth t v = truth_same v (number_of numbers own) (own_numbers set part numbers base) no_parent no_parent same_number (λ k. refl) t
 
   pub same_rules : (ts : List Formula) (v : ℕ) → all_hold ts v (number_of numbers own) ≡ all_hold ts v (own_numbers set part numbers base)
   same_rules ts v = all_hold_same ts v (number_of numbers own) (own_numbers set part numbers base) same_number
 
 -- ---- where subsections begin
 
-pub sub_next : (set : Set) (at' : ℕ) (subs : List Sub) (j : ℕ) (x : Sub) → j < length subs → sub_place set at' subs (j + 1) ≡ sub_place set at' subs j + length (desc_cells (struct_cells set) (get_or subs j x).desc)
-sub_next set at' [] j x lt = absurd (omega arith)
-sub_next set at' (s ∷ subs) zero x lt = first_place subs
-  where
-    first_place : (subs : List Sub) → sub_place set (at' + length (desc_cells (struct_cells set) s.desc)) subs 0 ≡ at' + length (desc_cells (struct_cells set) s.desc)
-    first_place [] = refl
-    first_place (t ∷ subs) = refl
-sub_next set at' (s ∷ subs) (suc j) x lt =
-    let one : suc j + 1 ≡ suc (j + 1) = omega arith in
-    ap (sub_place set at' (s ∷ subs)) one ∙ sub_next set (at' + length (desc_cells (struct_cells set) s.desc)) subs j x (omega arith)
-
-pub sub_within : (set : Set) (at' : ℕ) (subs : List Sub) (j : ℕ) (x : Sub) → j < length subs
-    → sub_place set at' subs j + length (desc_cells (struct_cells set) (get_or subs j x).desc) ≤ at' + length (flat_map (λ s. desc_cells (struct_cells set) s.desc) subs)
-sub_within set at' [] j x lt = absurd (omega arith)
-sub_within set at' (s ∷ subs) zero x lt = omega (arith, length-append (desc_cells (struct_cells set) s.desc) (flat_map (λ s. desc_cells (struct_cells set) s.desc) subs))
-sub_within set at' (s ∷ subs) (suc j) x lt =
-    omega (
-      arith,
-      length-append (desc_cells (struct_cells set) s.desc) (flat_map (λ s. desc_cells (struct_cells set) s.desc) subs),
-      sub_within set (at' + length (desc_cells (struct_cells set) s.desc)) subs j x (omega arith),
-    )
-
 pub sub_first : (set : Set) (at' : ℕ) (subs : List Sub) → sub_place set at' subs 0 ≡ at'
 sub_first set at' [] = refl
 sub_first set at' (s ∷ subs) = refl
 
+pub sub_next : (set : Set) (at' : ℕ) (subs : List Sub) (j : ℕ) (x : Sub) → j < length subs
+    → sub_place set at' subs (j + 1) ≡ sub_place set at' subs j + length (desc_cells (struct_cells set) (get_or subs j x).desc)
+sub_next set at' [] j x lt = absurd (omega arith)
+sub_next set at' (s ∷ subs) zero x lt = sub_first set (at' + length (desc_cells (struct_cells set) s.desc)) subs
+sub_next set at' (s ∷ subs) (suc j) x lt =
+    let one : suc j + 1 ≡ suc (j + 1) = omega arith in rw one (sub_next set (at' + length (desc_cells (struct_cells set) s.desc)) subs j x (omega arith))
+
+pub sub_within : (set : Set) (at' : ℕ) (subs : List Sub) (j : ℕ) (x : Sub) → j < length subs
+    → sub_place set at' subs j + length (desc_cells (struct_cells set) (get_or subs j x).desc) ≤ at' + length
+    (flat_map (λ s. desc_cells (struct_cells set) s.desc) subs)
+sub_within set at' [] j x lt = absurd (omega arith)
+sub_within set at' (s ∷ subs) zero x lt = rw length-append (omega arith)
+sub_within set at' (s ∷ subs) (suc j) x lt =
+    rw length-append (omega (arith, sub_within set (at' + length (desc_cells (struct_cells set) s.desc)) subs j x (omega arith)))
+
+all_long : (set : Set) (d : Device) → length (device_cells set d) ≡ own_cells set d + length (flat_map (λ s. desc_cells (struct_cells set) s.desc) d.subs)
+all_long set d = length-append (desc_cells (struct_cells set) d.desc) (flat_map (λ s. desc_cells (struct_cells set) s.desc) d.subs)
+
 -- a subsection's cells are among its device's
 pub sub_inside : (set : Set) (i j : ℕ) → j < length (device_at set i).subs
-    → sub_place set (own_cells set (device_at set i)) (device_at set i).subs j + length (desc_cells (struct_cells set) (sub_at (device_at set i) j).desc) ≤ length (device_cells set (device_at set i))
+    → sub_place set (own_cells set (device_at set i)) (device_at set i).subs j + length
+    (desc_cells (struct_cells set) (sub_at (device_at set i) j).desc) ≤ length (device_cells set (device_at set i))
 sub_inside set i j lt =
     let d = device_at set i in
-    omega (
-      arith,
-      length-append (desc_cells (struct_cells set) d.desc) (flat_map (λ s. desc_cells (struct_cells set) s.desc) d.subs),
-      sub_within set (own_cells set d) d.subs j (record { desc = no_desc; needed = AtLeast 0 }) lt,
-    )
+    omega (arith, all_long set d, sub_within set (own_cells set d) d.subs j (record { desc = no_desc; needed = AtLeast 0 }) lt)
 
 pub own_inside_device : (set : Set) (i : ℕ) → length (desc_cells (struct_cells set) (device_at set i).desc) ≤ length (device_cells set (device_at set i))
-own_inside_device set i =
-    let d = device_at set i in
-    omega (arith, length-append (desc_cells (struct_cells set) d.desc) (flat_map (λ s. desc_cells (struct_cells set) s.desc) d.subs))
+own_inside_device set i = omega (arith, all_long set (device_at set i))
 
 pub few_cells : (set : Set) → is_well_formed set ≡ true → (i : ℕ) → length (device_cells set (device_at set i)) ≤ MOST_ITEMS
 few_cells set well i =
-    let here : get_or (layout_of set) i [] ≡ map form_of (device_cells set (device_at set i)) = get_or-map (λ d. map form_of (device_cells set d)) set.devices i (record { instance = 0; desc = no_desc; subs = [] }) in
-    omega (arith, small_layout set well i, ap length here, length-map (device_cells set (device_at set i)) form_of)
+    let here = get_or-map (λ d. map form_of (device_cells set d)) set.devices i (record { instance = 0; desc = no_desc; subs = [] }) in
+    omega (arith, rw here at (small_layout set well i), length-map (device_cells set (device_at set i)) form_of)
 
 -- a device that is at an index is the one there
 pub device_is : (set : Set) (i : ℕ) (d : Device) → slice_get set.devices i ≡ Some d → device_at set i ≡ d

@@ -1,10 +1,10 @@
 -- The properties of a well-formed set, part by part.
-use Rattle.std.proofs.Common.{◌≡◌, ℕ, suc, ◌<◌, ◌≤◌, List, ◌∷◌, length, get_or, Some, refl, ap, ◌∙◌, arith, Bool, true, ◌&&◌, nat_le, []}
+use Rattle.std.proofs.Common.{◌≡◌, ℕ, suc, ◌<◌, ◌≤◌, List, ◌∷◌, length, get_or, Some, refl, ◌∙◌, arith, Bool, true, ◌&&◌, nat_le, []}
 use Rattle.std.specs.List.{list_all, slice_get}
 use Rattle.std.proofs.lemmas.Bool.{leb-true, and_parts}
 use Rattle.std.proofs.lemmas.Option.{slice_get-get_or}
 use Rattle.vms_kinds.specs.declared.Item.{Item}
-use Rattle.vms_kinds.specs.declared.Item.TheVariants.{Num, Equal, Unused, Struct}
+use Rattle.vms_kinds.specs.declared.Item.TheVariants.{Equal, Unused}
 use Rattle.vms_spec.specs.declared.Count.{Count}
 use Rattle.vms_spec.specs.declared.Count.TheVariants.{One, Fixed, Counted}
 use Rattle.vms_spec.specs.declared.Part.{Part}
@@ -39,14 +39,10 @@ pub record IsClean (k : ℕ) (d : Desc) (rules : List Bool) : Type 0 where
 
 some_elements : (item : Item) (count : Count) → has_good_count item count ≡ true → 1 ≤ capacity_of count
 some_elements item One e = omega arith
-some_elements (Num kind) (Fixed n) e = leb-true 1 n e
-some_elements (Equal kind z) (Fixed n) e = cc
-some_elements (Unused b) (Fixed n) e = cc
-some_elements (Struct j) (Fixed n) e = leb-true 1 n e
-some_elements (Num kind) (Counted by most) e = leb-true 1 most e
-some_elements (Equal kind z) (Counted by most) e = cc
-some_elements (Unused b) (Counted by most) e = cc
-some_elements (Struct j) (Counted by most) e = leb-true 1 most e
+some_elements (Equal kind z) count e = cc
+some_elements (Unused b) count e = cc
+some_elements item (Fixed n) e = leb-true 1 n e
+some_elements item (Counted by most) e = leb-true 1 most e
 
 short_name : (most : ℕ) (name : List ℕ) (others : Bool) → is_name most name && others ≡ true → length name ≤ most
 short_name most name others e =
@@ -57,28 +53,32 @@ short_name most name others e =
 clean_field : (k : ℕ) (d : Desc) (i : ℕ) (f : Field) → AllTrue (field_rules k d i f) → IsCleanField k d i f
 clean_field k d i f rules =
     let names = and_parts (test_names_well d i f.test) (count_names_well d i f.count) rules.1.1.1.0 in
-    record {
-      test = names.0;
-      count = names.1;
-      uses = rules.1.1.1.1.0;
-      some = some_elements f.item f.count rules.1.1.1.1.1.1.1.0;
-      name = short_name 32 f.name (list_all (is_name 32) f.former) rules.0;
-    }
+    let some = some_elements f.item f.count rules.1.1.1.1.1.1.1.0 in
+    record { test = names.0; count = names.1; uses = rules.1.1.1.1.0; some = some; name = short_name 32 f.name (list_all (is_name 32) f.former) rules.0 }
 
-clean_validations : (d : Desc) (ts : List Formula) → ((i : ℕ) (t : Formula) → slice_get ts i ≡ Some t → AllTrue (validation_rules d t)) → list_all (names_well (is_steady_in d) nobody) ts ≡ true
+clean_validations : (d : Desc) (ts : List Formula) → ((i : ℕ) (t : Formula) → slice_get ts i ≡ Some t → AllTrue (validation_rules d t))
+    → list_all (names_well (is_steady_in d) nobody) ts ≡ true
 clean_validations d [] h = refl
-clean_validations d (t ∷ ts) h =
-    ap (λ (b : Bool). b && list_all (names_well (is_steady_in d) nobody) ts) (h 0 t refl).1.1.1.0 ∙ clean_validations d ts (λ i s e. h (suc i) s e)
+clean_validations d (t ∷ ts) h = rw ((h 0 t refl).1.1.1.0) (clean_validations d ts (λ i s e. h (suc i) s e))
 
 is_clean : (k : ℕ) (d : Desc) (rules : List Bool) → Clean k d rules → IsClean k d rules
-is_clean k d rules c = record {
-  own = c.own;
-  each = each;
-  fields = λ i lt. clean_field k d i (get_or d.fields i no_field) (each i lt);
-  validate = clean_validations d d.validate c.validations;
-} where
-  each : (i : ℕ) → i < length d.fields → AllTrue (field_rules k d i (get_or d.fields i no_field))
-  each i lt = c.fields i (get_or d.fields i no_field) (slice_get-get_or d.fields i no_field lt)
+is_clean k d rules c =
+    let each = λ (i : ℕ) (lt : i < length d.fields). c.fields i (get_or d.fields i no_field) (slice_get-get_or d.fields i no_field lt) in
+    record {
+      own = c.own;
+      each = each;
+      fields = λ i lt. clean_field k d i (get_or d.fields i no_field)
+          (each i lt);
+      validate = clean_validations d d.validate c.validations;
+    }
+
+record IsCleanPart (k : ℕ) (d : Desc) : Type 0 where
+  pub each : (i : ℕ) → i < length d.fields → AllTrue (field_rules k d i (get_or d.fields i no_field))
+  pub validate : list_all (names_well (is_steady_in d) nobody) d.validate ≡ true
+  pub few : length d.fields ≤ 256
+
+of_part : {k : ℕ} {d : Desc} {rules : List Bool} → IsClean k d rules → length d.fields ≤ 256 → IsCleanPart k d
+of_part c few = record { each = c.each; validate = c.validate; few = few }
 
 few : (d : Desc) (more : Bool) → has_few d && more ≡ true → length d.fields ≤ 256
 few d more e =
@@ -116,31 +116,26 @@ module _ (set : Set) (well : is_well_formed set ≡ true) where
       is_clean (length set.structs) s.desc (sub_rules d j s)
       (sub_of set no_fault i j d s (there i h) (slice_get-get_or d.subs j (record { desc = no_desc; needed = AtLeast 0 }) lt))
 
-  pub field_clean : (part : Part) → HasPart set part → (i : ℕ) → i < length (desc_at set part).fields → IsCleanField (reach set part) (desc_at set part) i (get_or (desc_at set part).fields i no_field)
-  field_clean parts.Set h i lt = absurd h
-  field_clean (parts.Struct j) h i lt = (struct_clean j h).fields i lt
-  field_clean (parts.Device k) h i lt = (device_clean k h).fields i lt
-  field_clean (parts.Sub k j) h i lt = (sub_clean k j h.0 h.1).fields i lt
+  part_clean : (part : Part) → HasPart set part → IsCleanPart (reach set part) (desc_at set part)
+  part_clean parts.Set h = absurd h
+  part_clean (parts.Struct j) h = let c = struct_clean j h in of_part c (few (get_or set.structs j no_desc) _ c.own.1.1.1.1.1.1.0)
+  part_clean (parts.Device k) h = let c = device_clean k h in of_part c (few (device_at set k).desc _ c.own.1.1.1.1.1.1.0)
+  part_clean (parts.Sub k j) h = let c = sub_clean k j h.0 h.1 in of_part c (few (sub_at (device_at set k) j).desc _ c.own.1.1.1.1.1.1.0)
 
   -- the rules that hold for a field
   pub field_sound : (part : Part) → HasPart set part → (i : ℕ) → i < length (desc_at set part).fields
       → AllTrue (field_rules (reach set part) (desc_at set part) i (get_or (desc_at set part).fields i no_field))
-  field_sound parts.Set h i lt = absurd h
-  field_sound (parts.Struct j) h i lt = (struct_clean j h).each i lt
-  field_sound (parts.Device k) h i lt = (device_clean k h).each i lt
-  field_sound (parts.Sub k j) h i lt = (sub_clean k j h.0 h.1).each i lt
+  field_sound part h i lt = (part_clean part h).each i lt
+
+  pub field_clean : (part : Part) → HasPart set part → (i : ℕ) → i < length (desc_at set part).fields
+      → IsCleanField (reach set part) (desc_at set part) i (get_or (desc_at set part).fields i no_field)
+  field_clean part h i lt = clean_field _ _ i _ (field_sound part h i lt)
 
   pub validate_clean : (part : Part) → HasPart set part → list_all (names_well (is_steady_in (desc_at set part)) nobody) (desc_at set part).validate ≡ true
-  validate_clean parts.Set h = absurd h
-  validate_clean (parts.Struct j) h = (struct_clean j h).validate
-  validate_clean (parts.Device k) h = (device_clean k h).validate
-  validate_clean (parts.Sub k j) h = (sub_clean k j h.0 h.1).validate
+  validate_clean part h = (part_clean part h).validate
 
   pub few_fields : (part : Part) → HasPart set part → length (desc_at set part).fields ≤ 256
-  few_fields parts.Set h = absurd h
-  few_fields (parts.Struct j) h = few (get_or set.structs j no_desc) _ (struct_clean j h).own.1.1.1.1.1.1.0
-  few_fields (parts.Device k) h = few (device_at set k).desc _ (device_clean k h).own.1.1.1.1.1.1.0
-  few_fields (parts.Sub k j) h = few (sub_at (device_at set k) j).desc _ (sub_clean k j h.0 h.1).own.1.1.1.1.1.1.0
+  few_fields part h = (part_clean part h).few
 
   pub few_subs : (i : ℕ) → i < length set.devices → length (device_at set i).subs ≤ 32
   few_subs i h =

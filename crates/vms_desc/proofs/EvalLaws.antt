@@ -1,100 +1,225 @@
--- Numbers by sizes are the numbers of the definition.
-use Rattle.std.proofs.Common.{◌≡◌, ℕ, zero, suc, ◌+◌, ◌*◌, ◌<◌, ◌≤◌, List, [], ◌∷◌, length, get_or, take, map, refl, sym, ap, ◌∙◌, arith, Bool, not, ◌&&◌, ◌||◌, bit_and, ℤ, pos, min, nat_le, true, false}
-use Rattle.std.proofs.lemmas.Bool.{leb-true, leb-false}
-use Rattle.std.proofs.lemmas.List.{take_all}
+-- Numbers by sizes, and the numbers of cells: those of the definition.
+use Rattle.std.proofs.Common.{◌≡◌, ℕ, zero, suc, ◌+◌, ◌*◌, ◌<◌, ◌≤◌, List, [], ◌∷◌, length, length-append, get_or, take, map, min, refl, sym, ap, ◌∙◌, arith}
+use Rattle.std.proofs.Common.{Bool, true, ◌&&◌, Option, Some, None, ℤ}
+use Rattle.std.specs.List.{flat_map, slice_get}
+use Rattle.std.proofs.lemmas.Bool.{and_parts}
+use Rattle.std.proofs.lemmas.List.{map-append, take_min}
 use Rattle.std.proofs.lemmas.Simd.{map-map}
-use Rattle.vms_kinds.specs.Codes.{width, residue}
+use Rattle.std.proofs.Math.ListN.{get_or-map}
+use Rattle.vms_kinds.specs.declared.Item.{Item}
+use Rattle.vms_kinds.specs.declared.Item.TheVariants.{Num, Struct}
+use Rattle.vms_spec.specs.declared.Count.{Count}
+use Rattle.vms_spec.specs.declared.Count.TheVariants.{One}
+use Rattle.vms_spec.specs.declared.Part.{Part}
+use Rattle.vms_spec.specs.declared.Part.TheVariants as parts
 use Rattle.vms_spec.specs.declared.TheConstants.{MOST_ITEMS}
 use Rattle.vms_spec.specs.declared.Whose.TheVariants.{Own, Parent}
-use Rattle.vms_spec.specs.Sets.{Formula, AtLeast, Below, Cell, Not, And, Or, Field, Desc, Set}
-use Rattle.vms_spec.specs.Tests.{truth, compares}
-use Rattle.vms_spec.specs.Layout.{Cell as OneCell, no_field, kind_of, capacity_of, place_of, field_cells, desc_cells, struct_cells, numbers_of}
+use Rattle.vms_spec.specs.Layout.{Cell as OneCell, first, no_desc, times, counted, capacity_of, item_cells, item_size, field_cells, cells_from, desc_cells}
+use Rattle.vms_spec.specs.Layout.{struct_cells, device_cells, numbers_of, place_of}
+use Rattle.vms_spec.specs.Rules.{is_num, is_one, names_well}
+use Rattle.vms_spec.specs.Sets.{Formula, AtLeast, Below, Cell, Not, And, Or, Field, Desc, Sub, Device, Set}
+use Rattle.vms_spec.specs.Tests.{truth}
 use Rattle.vms_spec.proofs.Sizes.{field_size}
 use Rattle.vms_parts.specs.declared.sizes.Measure.TheVariants.{Cells}
-use Rattle.vms_parts.specs.Sizes.{in_u32, size_of, fields_size}
-use Rattle.vms_desc.specs.Numbers.{sizes_of, place_in, number_in}
-use Rattle.vms_desc.specs.Parts.{is_number_in}
-use Rattle.vms_desc.specs.Tables.{AreStarts}
-use Rattle.vms_desc.proofs.NumberLaws.{number_below}
-use Rattle.vms_desc.proofs.CellSizes.{item_sizes, cells_size}
+use Rattle.vms_parts.specs.declared.types.Field.{Field as CodeField}
+use Rattle.vms_parts.specs.Devices.{device_at}
+use Rattle.vms_parts.specs.Sizes.{in_u32, size_of, fields_size, sizes_to}
+use Rattle.vms_parts.specs.Views.{field_of, form_of}
 use Rattle.vms_parts.proofs.SizeLaws.{capped_fields}
+use Rattle.vms_desc.specs.declared.eval.Scope.{Scope}
+use Rattle.vms_desc.specs.Forms.{item_forms, fields_forms, subs_forms, device_forms, forms_to}
+use Rattle.vms_desc.specs.Numbers.{sizes_of, place_in, number_in, number_of, number_of_parent}
+use Rattle.vms_desc.specs.Parts.{desc_at, is_number, is_number_in, is_number_of_parent, is_placed, parent_of, HasParentCells}
+use Rattle.vms_desc.specs.Scopes.{may_ask, may_ask_parent, IsInside, IsInsideParent, IsScope, IsParent}
+use Rattle.vms_desc.specs.Tables.{AreStarts}
 
-pub truth_same : (t : Formula) (v : ℕ) (own now parent then : ℕ → ℕ) → ((k : ℕ) → own k ≡ now k) → ((k : ℕ) → parent k ≡ then k) → truth t v own parent ≡ truth t v now then
-truth_same (AtLeast n) v own now parent then h i = refl
-truth_same (Below n) v own now parent then h i = refl
-truth_same (Cell Own k mask rel value) v own now parent then h i = ap (λ (n : ℕ). compares rel (bit_and n mask) value) (h k)
-truth_same (Cell Parent k mask rel value) v own now parent then h i = ap (λ (n : ℕ). compares rel (bit_and n mask) value) (i k)
-truth_same (Not t) v own now parent then h i = ap not (truth_same t v own now parent then h i)
-truth_same (And s t) v own now parent then h i =
-    ap (λ b. b && truth t v own parent) (truth_same s v own now parent then h i) ∙ ap (λ b. truth s v now then && b) (truth_same t v own now parent then h i)
-truth_same (Or s t) v own now parent then h i =
-    ap (λ b. b || truth t v own parent) (truth_same s v own now parent then h i) ∙ ap (λ b. truth s v now then || b) (truth_same t v own now parent then h i)
+-- ---- the cells of the fields' numbers
 
-pub place_is : (cs : List (List OneCell)) (fields : List Field) (i base : ℕ) (fs : List Field) (k : ℕ) → place_of cs fields i base fs k ≡ base + fields_size Cells (map length cs) (take k fs)
-place_is cs fields i base [] zero = omega arith
-place_is cs fields i base [] (suc k) = omega arith
-place_is cs fields i base (f ∷ fs) zero = omega arith
+one_size : (sizes : List ℕ) (item : Item) (c : Count) → is_num item && is_one c ≡ true → capacity_of c * size_of Cells sizes item ≡ 1
+one_size sizes (Num kind) One h = refl
+one_size sizes item c h = cc
+
+number_below : (sizes : List ℕ) (fs : List Field) (k : ℕ) → is_number (slice_get fs k) ≡ true → fields_size Cells sizes (take k fs) < fields_size Cells sizes fs
+number_below sizes [] k h = cc
+number_below sizes (f ∷ fs) zero h = omega (arith, one_size sizes f.item f.count h)
+number_below sizes (f ∷ fs) (suc k) h = omega (arith, number_below sizes fs k h)
+
+pub number_there : (fields : List CodeField) (k : ℕ) → is_number (slice_get (map field_of fields) k) ≡ true → k < length fields
+number_there [] k h = cc
+number_there (f ∷ fields) zero h = omega arith
+number_there (f ∷ fields) (suc k) h = omega (arith, number_there fields k h)
+
+pub number_num : (fields : List CodeField) (k : ℕ) (d : CodeField) → is_number (slice_get (map field_of fields) k) ≡ true → is_num (get_or fields k d).item ≡ true
+number_num [] k d h = cc
+number_num (f ∷ fields) zero d h = (and_parts (is_num f.item) _ h).0
+number_num (f ∷ fields) (suc k) d h = number_num fields k d h
+
+-- ---- the sizes of structures are the numbers of their cells
+
+item_sizes : (cs : List (List OneCell)) (item : Item) → item_size cs item ≡ size_of Cells (map length cs) item
+item_sizes cs (Struct j) = sym (get_or-map length cs j [])
+item_sizes cs item = refl
+
+pub cells_size : (cs : List (List OneCell)) (fields : List Field) (i : ℕ) (fs : List Field)
+    → length (cells_from cs fields i fs) ≡ fields_size Cells (map length cs) fs
+cells_size cs fields i [] = refl
+cells_size cs fields i (f ∷ fs) = rw length-append (omega (arith, rw (item_sizes cs f.item) at (field_size cs fields i f), cells_size cs fields (suc i) fs))
+
+pub struct_sizes : (ds : List Desc) (k : ℕ) → sizes_to Cells ds k ≡ map length (first desc_cells ds k)
+unfolding first
+struct_sizes ds zero = refl
+struct_sizes ds (suc k) =
+    let d = get_or ds k no_desc in rw (struct_sizes ds k, map-append, cells_size (first desc_cells ds k) d.fields 0 d.fields)
+
+-- ---- the forms of cells are those of their structures
+
+forms_times : (part : List OneCell) (n : ℕ) → map form_of (times n (λ _. part) 0 0) ≡ times n (λ _. map form_of part) 0 0
+forms_times part zero = refl
+forms_times part (suc n) = rw (map-append, forms_times part n)
+
+forms_item : (cs : List (List OneCell)) (item : Item) (capacities : List ℕ) (z : ℤ)
+    → map form_of (item_cells cs item capacities z) ≡ item_forms (map (map form_of) cs) item z
+forms_item cs (Struct j) capacities z = sym (get_or-map (map form_of) cs j [])
+forms_item cs item capacities z = refl
+
+forms_fields : (cs : List (List OneCell)) (fields : List Field) (i : ℕ) (fs : List Field)
+    → map form_of (cells_from cs fields i fs) ≡ fields_forms (map (map form_of) cs) fs
+forms_fields cs fields i [] = refl
+forms_fields cs fields i (f ∷ fs) =
+    let caps = counted i fields in
+    rw (
+      map-append,
+      forms_times (item_cells cs f.item caps f.default) (capacity_of f.count),
+      forms_item cs f.item caps f.default,
+      forms_fields cs fields
+          (suc i) fs,
+    )
+
+struct_forms_all : (ds : List Desc) (k : ℕ) → forms_to ds k ≡ map (map form_of) (first desc_cells ds k)
+unfolding first
+struct_forms_all ds zero = refl
+struct_forms_all ds (suc k) =
+    let d = get_or ds k no_desc in rw (struct_forms_all ds k, map-append, forms_fields (first desc_cells ds k) d.fields 0 d.fields)
+
+forms_subs : (cs : List (List OneCell)) (subs : List Sub) → map form_of (flat_map (λ s. desc_cells cs s.desc) subs) ≡ subs_forms (map (map form_of) cs) subs
+forms_subs cs [] = refl
+forms_subs cs (s ∷ subs) = rw (map-append, forms_fields cs s.desc.fields 0 s.desc.fields, forms_subs cs subs)
+
+pub device_forms_are : (set : Set) (d : Device) → device_forms (forms_to set.structs (length set.structs)) d ≡ map form_of (device_cells set d)
+device_forms_are set d =
+    let cs = struct_cells set in
+    rw (struct_forms_all set.structs (length set.structs), map-append, forms_fields cs d.desc.fields 0 d.desc.fields, forms_subs cs d.subs)
+
+-- ---- numbers by sizes
+
+module _ (v : ℕ) (own now parent then : ℕ → ℕ) (h : (k : ℕ) → own k ≡ now k) (i : (k : ℕ) → parent k ≡ then k) where
+  pub truth_same : (t : Formula) → truth t v own parent ≡ truth t v now then
+  truth_same (AtLeast n) = refl
+  truth_same (Below n) = refl
+  truth_same (Cell Own k mask rel value) = rw (h k)
+  truth_same (Cell Parent k mask rel value) = rw (i k)
+  truth_same (Not t) = rw (truth_same t)
+  truth_same (And s t) = rw (truth_same s, truth_same t)
+  truth_same (Or s t) = rw (truth_same s, truth_same t)
+
+pub place_is : (cs : List (List OneCell)) (fields : List Field) (i base : ℕ) (fs : List Field) (k : ℕ)
+    → place_of cs fields i base fs k ≡ base + fields_size Cells (map length cs) (take k fs)
 place_is cs fields i base (f ∷ fs) (suc k) =
-    let h : length (field_cells cs fields i f) ≡ capacity_of f.count * size_of Cells (map length cs) f.item =
-    field_size cs fields i f ∙ ap (λ (n : ℕ). capacity_of f.count * n) (item_sizes cs f.item) in
-    omega (arith, h, place_is cs fields (suc i) (base + length (field_cells cs fields i f)) fs k)
+    omega (arith, rw (item_sizes cs f.item) at (field_size cs fields i f), place_is cs fields (suc i) (base + length (field_cells cs fields i f)) fs k)
+place_is cs fields i base [] (suc k) = omega arith
+place_is cs fields i base [] zero = omega arith
+place_is cs fields i base (f ∷ fs) zero = omega arith
 
 pub take_less : (sizes : List ℕ) (fs : List Field) (k : ℕ) → fields_size Cells sizes (take k fs) ≤ fields_size Cells sizes fs
-take_less sizes [] zero = omega arith
-take_less sizes [] (suc k) = omega arith
-take_less sizes (f ∷ fs) zero = omega arith
 take_less sizes (f ∷ fs) (suc k) = omega (arith, take_less sizes fs k)
-
-take_min : {X : Type 0} (k : ℕ) (xs : List X) → take (min k (length xs)) xs ≡ take k xs
-take_min k xs = by_test (nat_le k (length xs)) refl
-  where
-    by_test : (b : Bool) → nat_le k (length xs) ≡ b → take (min k (length xs)) xs ≡ take k xs
-    by_test true e =
-        let le : k ≤ length xs = leb-true k (length xs) e in
-        let same : min k (length xs) ≡ k = omega arith in
-        ap (λ (m : ℕ). take m xs) same
-    by_test false e =
-        let lt : length xs < k = leb-false k (length xs) e in
-        take_all (min k (length xs)) xs (omega arith) ∙ sym (take_all k xs (omega arith))
+take_less sizes [] (suc k) = omega arith
+take_less sizes fs zero = omega arith
 
 -- sizes that are cut at 2 ^ 32 - 1 are exact if there are few cells
 pub exact : (cs : List (List OneCell)) (fs : List Field) → fields_size Cells (map length cs) fs ≤ MOST_ITEMS
     → fields_size Cells (map (λ cells. in_u32 (length cells)) cs) fs ≡ fields_size Cells (map length cs) fs
-exact cs fs few =
-    let e : in_u32 (fields_size Cells (map in_u32 (map length cs)) fs) ≡ in_u32 (fields_size Cells (map length cs) fs) = capped_fields Cells (map length cs) fs in
-    let m : fields_size Cells (map in_u32 (map length cs)) fs ≡ fields_size Cells (map (λ cells. in_u32 (length cells)) cs) fs = ap (λ (l : List ℕ). fields_size Cells l fs) (map-map in_u32 length cs) in
-    omega (arith, e, m, few)
+exact cs fs few = omega (arith, rw (map-map in_u32 length cs) at (capped_fields Cells (map length cs) fs))
 
 module _ (set : Set) (d : Desc) (few : length (desc_cells (struct_cells set) d) ≤ MOST_ITEMS) where
-  pub inside_is : fields_size Cells (sizes_of set) d.fields ≡ length (desc_cells (struct_cells set) d)
-  inside_is =
-      let c = cells_size (struct_cells set) d.fields 0 d.fields in
-      exact (struct_cells set) d.fields (omega (arith, c, few)) ∙ sym c
+  all_cells : length (desc_cells (struct_cells set) d) ≡ fields_size Cells (map length (struct_cells set)) d.fields
+  all_cells = cells_size (struct_cells set) d.fields 0 d.fields
+
+  inside_is : fields_size Cells (sizes_of set) d.fields ≡ length (desc_cells (struct_cells set) d)
+  inside_is = exact (struct_cells set) d.fields (omega (arith, all_cells)) ∙ sym all_cells
 
   module _ (starts : List ℕ) (h : AreStarts (sizes_of set) d.fields starts) where
     start_is : (k : ℕ) → get_or starts (min k (length d.fields)) 0 ≡ fields_size Cells (sizes_of set) (take k d.fields)
     start_is k =
         let m = min k (length d.fields) in
-        let less = take_less (sizes_of set) d.fields m in
-        let s : get_or starts m 0 ≡ in_u32 (fields_size Cells (sizes_of set) (take m d.fields)) = h.start m (omega arith) in
-        let e : get_or starts m 0 ≡ fields_size Cells (sizes_of set) (take m d.fields) = omega (arith, s, less, inside_is, few) in
-        e ∙ ap (fields_size Cells (sizes_of set)) (take_min k d.fields)
+        rw (← take_min k d.fields) (omega (arith, h.start m (omega arith), take_less (sizes_of set) d.fields m, inside_is))
 
-    pub number_is : (numbers : List ℤ) (base k : ℕ) → number_in starts d.fields numbers base k ≡ numbers_of (struct_cells set) d numbers base k
+    number_is : (numbers : List ℤ) (base k : ℕ) → number_in starts d.fields numbers base k ≡ numbers_of (struct_cells set) d numbers base k
     number_is numbers base k =
-        let c = cells_size (struct_cells set) d.fields 0 d.fields in
-        let t = take_less (map length (struct_cells set)) d.fields k in
-        let x = exact (struct_cells set) (take k d.fields) (omega (arith, c, t, few)) in
-        let p : place_in starts d.fields base k ≡ place_of (struct_cells set) d.fields 0 base d.fields k =
-        ap (λ (n : ℕ). base + n) (start_is k ∙ x) ∙ sym (place_is (struct_cells set) d.fields 0 base d.fields k) in
-        ap (λ (n : ℕ). residue (width (kind_of (get_or d.fields k no_field).item)) (get_or numbers n (pos 0))) p
+        let less = take_less (map length (struct_cells set)) d.fields k in
+        let x = exact (struct_cells set) (take k d.fields) (omega (arith, all_cells)) in
+        let place : place_in starts d.fields base k ≡ place_of (struct_cells set) d.fields 0 base d.fields k =
+        omega (arith, start_is k, place_is (struct_cells set) d.fields 0 base d.fields k) in
+        rw place
 
     -- the cells of the fields that may be named are among n cells
-    pub cells_inside : (base n : ℕ) → base + length (desc_cells (struct_cells set) d) ≤ n → (k : ℕ) → is_number_in d.fields k ≡ true → place_in starts d.fields base k < n
-    cells_inside base n room k number = omega (arith, start_is k, number_below (sizes_of set) d.fields k number, inside_is, room)
+    cells_inside : (base n : ℕ) → base + length (desc_cells (struct_cells set) d) ≤ n → (k : ℕ) → is_number_in d.fields k ≡ true
+        → place_in starts d.fields base k < n
+    cells_inside base n room k number = omega (arith, start_is k, number_below (sizes_of set) d.fields k number, inside_is)
 
 pub capped_cells : (set : Set) (d : Desc) → in_u32 (fields_size Cells (sizes_of set) d.fields) ≡ in_u32 (length (desc_cells (struct_cells set) d))
 capped_cells set d =
-    ap (λ (l : List ℕ). in_u32 (fields_size Cells l d.fields)) (sym (map-map in_u32 length (struct_cells set)))
-    ∙ capped_fields Cells (map length (struct_cells set)) d.fields
-    ∙ ap in_u32 (sym (cells_size (struct_cells set) d.fields 0 d.fields))
+    let cs = struct_cells set in
+    rw (cells_size cs d.fields 0 d.fields) (rw (map-map in_u32 length cs) at (capped_fields Cells (map length cs) d.fields))
+
+-- ---- the fields of a part and of its device that a test names
+
+parent_asked : (set : Set) (part : Part) (parent : Option Scope) → IsParent set part parent → may_ask_parent parent ≡ is_number_of_parent set part
+parent_asked set (parts.Sub i j) None p = absurd p
+parent_asked set (parts.Sub i j) (Some s) p = ap is_number_in p.fields
+parent_asked set part None p = refl
+parent_asked set part (Some s) p = absurd p
+
+pub placed : (set : Set) (part : Part) (base : ℕ) (own : Scope) (parent : Option Scope) (t : Formula) → IsScope set (desc_at set part) base own
+    → IsParent set part parent
+    → is_placed set part t ≡ true → names_well (may_ask own) (may_ask_parent parent) t ≡ true
+placed set part base own parent t s p h =
+    ap (λ (fs : List Field). names_well (is_number_in fs) (may_ask_parent parent) t) s.fields
+    ∙ ap (λ (f : ℕ → Bool). names_well (is_number_in (desc_at set part).fields) f t) (parent_asked set part parent p) ∙ h
+
+module _ (set : Set) (d : Desc) (base : ℕ) (own : Scope) (numbers : List ℤ) (s : IsScope set d base own) (few : length numbers ≤ MOST_ITEMS)
+    (room : base + length (desc_cells (struct_cells set) d) ≤ length numbers) where
+  small : length (desc_cells (struct_cells set) d) ≤ MOST_ITEMS
+  small = omega arith
+
+  pub own_inside : IsInside numbers own
+  own_inside = record {
+    starts = omega (arith, ap length s.fields, s.starts.long);
+    cells = λ k asked. rw (s.fields, s.first) (cells_inside set d small own.starts.now s.starts base (length numbers) room k (rw s.fields at asked));
+  }
+
+  pub own_number : (k : ℕ) → number_of numbers own k ≡ numbers_of (struct_cells set) d numbers base k
+  own_number k = rw (s.fields, s.first) (number_is set d small own.starts.now s.starts numbers base k)
+
+pub parent_inside : (set : Set) (part : Part) (parent : Option Scope) (numbers : List ℤ) → IsParent set part parent → length numbers ≤ MOST_ITEMS
+    → HasParentCells set part (length numbers) → IsInsideParent numbers parent
+parent_inside set (parts.Sub i j) (Some s) numbers p few h = own_inside set (device_at set i).desc 0 s numbers p few (omega arith)
+parent_inside set part None numbers p few h = tt
+parent_inside set part (Some s) numbers p few h = absurd p
+
+parent_number : (set : Set) (part : Part) (parent : Option Scope) (numbers : List ℤ) → IsParent set part parent → length numbers ≤ MOST_ITEMS
+    → HasParentCells set part (length numbers) → (k : ℕ) → number_of_parent numbers parent k ≡ parent_of set part numbers k
+parent_number set (parts.Sub i j) None numbers p few h k = absurd p
+parent_number set (parts.Sub i j) (Some s) numbers p few h k = own_number set (device_at set i).desc 0 s numbers p few (omega arith) k
+parent_number set part None numbers p few h k = refl
+parent_number set part (Some s) numbers p few h k = absurd p
+
+pub truth_is : (set : Set) (part : Part) (base : ℕ) (own : Scope) (parent : Option Scope) (numbers : List ℤ) (t : Formula) (v : ℕ)
+    → IsScope set (desc_at set part) base own
+    → IsParent set part parent → length numbers ≤ MOST_ITEMS → base + length (desc_cells (struct_cells set) (desc_at set part)) ≤ length numbers
+    → HasParentCells set part (length numbers)
+    → truth t v (number_of numbers own) (number_of_parent numbers parent) ≡ truth t v (numbers_of (struct_cells set) (desc_at set part) numbers base)
+    (parent_of set part numbers)
+truth_is set part base own parent numbers t v s p few room h =
+    truth_same v (number_of numbers own) (numbers_of (struct_cells set) (desc_at set part) numbers base) (number_of_parent numbers parent)
+    (parent_of set part numbers)
+    (own_number set (desc_at set part) base own numbers s few room) (parent_number set part parent numbers p few h) t

@@ -1,16 +1,10 @@
 pub mod Bounds
-pub mod CellSizes
-pub mod DefaultLaws
 pub mod EvalLaws
-pub mod EvalParts
-pub mod Formed
 pub mod FormLaws
-pub mod NumberLaws
-pub mod PathBegins
+pub mod Formed
 pub mod PathLaws
 pub mod AskLaws
 pub mod Clean
 pub mod ClockHeads
-pub mod HeadLaws
 pub mod TablesMade
 pub mod Ranks

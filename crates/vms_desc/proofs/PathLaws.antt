@@ -1,75 +1,77 @@
--- The cell of a path, given the numbers of cells of the structures.
-use Rattle.std.proofs.Common.{◌≡◌, ℕ, zero, suc, ◌+◌, ◌*◌, ◌<◌, ◌≤◌, List, ◌∷◌, length, length-take-le, get_or, take, map, refl, sym, ap, subst, ◌∙◌, arith, Bool, true, false, Option, Some, None, []}
-use Rattle.std.specs.Prelude.{nat_lt, nat_le, if◌then◌else◌}
-use Rattle.std.specs.List.{slice_get}
-use Rattle.std.proofs.lemmas.Bool.{ltb-true, lt-ltb, leb-true, leb-false}
-use Rattle.std.proofs.lemmas.List.{take_all, take-append-le, take-map}
+-- The cell of a path, given the numbers of cells of the structures, and the first cell of a path.
+use Rattle.std.proofs.Common.{◌≡◌, ℕ, zero, suc, ◌+◌, ◌*◌, ◌<◌, ◌≤◌, List, ◌∷◌, length, length-append, length-take-le, get_or, take, map, refl, sym, ap, subst}
+use Rattle.std.proofs.Common.{◌∙◌}
+use Rattle.std.proofs.Common.{arith, Bool, true, false, inl, inr, Option, Some, None, []}
+use Rattle.std.specs.Prelude.{nat_lt, if◌then◌else◌}
+use Rattle.std.specs.List.{flat_map, slice_get}
+use Rattle.std.proofs.lemmas.Bool.{ltb-true, lt-ltb, cases_lt}
+use Rattle.std.proofs.lemmas.List.{length-map, take_all, take-append-le, take-map}
+use Rattle.std.proofs.lemmas.Simd.{map-map}
 use Rattle.std.proofs.Math.ListN.{get_or-map}
 use Rattle.vms_kinds.specs.declared.Kind.{Kind}
 use Rattle.vms_kinds.specs.declared.Item.{Item}
-use Rattle.vms_kinds.specs.declared.Item.TheVariants.{Num, Equal, Unused, Struct}
+use Rattle.vms_kinds.specs.declared.Item.TheVariants.{Num, Struct}
 use Rattle.vms_spec.specs.declared.TheConstants.{MOST_ITEMS}
 use Rattle.vms_spec.specs.Sets as sets
-use Rattle.vms_spec.specs.Layout.{Cell, first, no_desc, capacity_of, place_of, item_size, desc_cells}
-use Rattle.vms_spec.specs.Places.{item_at, element_at, path_at}
+use Rattle.vms_spec.specs.Layout.{Cell, first, no_desc, capacity_of, place_of, item_size, desc_cells, struct_cells, device_cells}
+use Rattle.vms_spec.specs.Images.{sub_place, own_cells}
+use Rattle.vms_spec.specs.Places.{item_at, element_at, path_at, cell_in, desc_of_sub}
+use Rattle.vms_spec.proofs.Sizes.{element_room}
+use Rattle.vms_spec.proofs.Tables.{first_long, first_at}
 use Rattle.vms_parts.specs.declared.sizes.Measure.TheVariants.{Cells}
 use Rattle.vms_parts.specs.declared.types.Field.{Field}
-use Rattle.vms_parts.specs.Sizes.{in_u32, size_of, fields_size}
-use Rattle.vms_parts.specs.Views.{field_of, desc_of}
-use Rattle.vms_spec.proofs.Tables.{first_long, first_at}
-use Rattle.vms_spec.proofs.Sizes.{element_room}
+use Rattle.vms_parts.specs.Sizes.{in_u32, size_of, fields_size, subs_size}
+use Rattle.vms_parts.specs.Views.{field_of, desc_of, form_of, layout_of}
+use Rattle.vms_parts.proofs.SizeLaws.{capped_fields, capped_subs}
 use Rattle.vms_desc.specs.declared.path.Placed.{Placed}
 use Rattle.vms_desc.specs.declared.path.Element.{Element}
-use Rattle.vms_desc.specs.Paths.{element_in, element_of, Enters, IsPlaced}
-use Rattle.vms_desc.proofs.CellSizes.{cells_size}
-use Rattle.vms_desc.proofs.EvalLaws.{place_is, take_less, exact}
+use Rattle.vms_desc.specs.Numbers.{sizes_of}
+use Rattle.vms_desc.specs.Paths.{element_in, element_of, begin_desc, begin_base, Begins, Enters, IsPlaced}
+use Rattle.vms_desc.proofs.EvalLaws.{cells_size, place_is, take_less, exact}
 
 -- ---- one element
 
 pub at_there : {X Y : Type 0} (g : X → Y) (xs : List X) (i : ℕ) (x : X) → i < length xs → x ≡ get_or xs i x → slice_get (map g xs) i ≡ Some (g x)
 at_there g [] i x lt is = absurd (omega arith)
-at_there g (y ∷ xs) zero x lt is = ap (λ z. Some (g z)) (sym is)
+at_there g (y ∷ xs) zero x lt is = cc
 at_there g (y ∷ xs) (suc i) x lt is = at_there g xs i x (omega arith) is
 
 field_room : (sizes : List ℕ) (fs : List sets.Field) (i : ℕ) (f : sets.Field) → slice_get fs i ≡ Some f
     → fields_size Cells sizes (take i fs) + capacity_of f.count * size_of Cells sizes f.item ≤ fields_size Cells sizes fs
 field_room sizes [] i f e = cc
-field_room sizes (g ∷ fs) zero f e =
-    let same : g ≡ f = cc in
-    let size : capacity_of g.count * size_of Cells sizes g.item ≡ capacity_of f.count * size_of Cells sizes f.item = ap (λ (x : sets.Field). capacity_of x.count * size_of Cells sizes x.item) same in
-    omega (arith, size)
+field_room sizes (g ∷ fs) zero f e = let same : f ≡ g = cc in rw same (omega arith)
 field_room sizes (g ∷ fs) (suc i) f e = omega (arith, field_room sizes fs i f e)
 
-pub element_fits : (sizes : List ℕ) (fs : List sets.Field) (base i e : ℕ) (f : sets.Field) → slice_get fs i ≡ Some f → e < capacity_of f.count → base + fields_size Cells sizes fs ≤ MOST_ITEMS
+pub element_fits : (sizes : List ℕ) (fs : List sets.Field) (base i e : ℕ) (f : sets.Field) → slice_get fs i ≡ Some f → e < capacity_of f.count
+    → base + fields_size Cells sizes fs ≤ MOST_ITEMS
     → base + fields_size Cells sizes (take i fs) + e * size_of Cells sizes f.item + size_of Cells sizes f.item ≤ MOST_ITEMS
 element_fits sizes fs base i e f there lt few =
-    omega (arith, field_room sizes fs i f there, element_room e (capacity_of f.count) (size_of Cells sizes f.item) lt, few)
+    omega (arith, field_room sizes fs i f there, element_room e (capacity_of f.count) (size_of Cells sizes f.item) lt)
 
 -- the fields before it have few cells too
 pub before_fits : (sizes : List ℕ) (fields : List Field) (base i before : ℕ) → base + fields_size Cells sizes (map field_of fields) ≤ MOST_ITEMS
     → before ≡ in_u32 (fields_size Cells sizes (map field_of (take i fields))) → before ≡ fields_size Cells sizes (take i (map field_of fields))
 before_fits sizes fields base i before few e =
-    let t : in_u32 (fields_size Cells sizes (map field_of (take i fields))) ≡ in_u32 (fields_size Cells sizes (take i (map field_of fields))) =
-    ap (λ (l : List sets.Field). in_u32 (fields_size Cells sizes l)) (sym (take-map field_of i fields)) in
-    omega (arith, e, t, few, take_less sizes (map field_of fields) i)
+    rw take-map (omega (arith, rw (take-map field_of i fields) at (take_less sizes (map field_of fields) i)))
 
-pub element_is : (sizes : List ℕ) (d : sets.Desc) (base cell : ℕ) (step : ℕ × ℕ) (f : sets.Field) → slice_get d.fields step.0 ≡ Some f → step.1 < capacity_of f.count
+pub element_is : (sizes : List ℕ) (d : sets.Desc) (base cell : ℕ) (step : ℕ × ℕ) (f : sets.Field) → slice_get d.fields step.0 ≡ Some f
+    → step.1 < capacity_of f.count
     → cell ≡ base + fields_size Cells sizes (take step.0 d.fields) + step.1 * size_of Cells sizes f.item
     → Some (record { item = f.item; cell = cell }) ≡ element_of sizes d base step
-element_is sizes d base cell step f there lt is =
-    let made : ℕ → Option Element = λ n. Some (record { item = f.item; cell = n }) in
-    let place = base + fields_size Cells sizes (take step.0 d.fields) + step.1 * size_of Cells sizes f.item in
-    ap made is ∙ sym (ap (λ (b : Bool). if b then made place else None) (lt-ltb step.1 (capacity_of f.count) lt)) ∙ ap (element_in sizes d base step) (sym there)
+element_is sizes d base cell step f there lt is = rw (there, lt-ltb step.1 (capacity_of f.count) lt, is)
 
 abbrev cell_by : List ℕ → sets.Desc → ℕ → (ℕ × ℕ) → sets.Field → ℕ
 cell_by sizes d base step f = base + fields_size Cells sizes (take step.0 d.fields) + step.1 * size_of Cells sizes f.item
 
 -- an element ends among the cells
-within_in : (sizes : List ℕ) (d : sets.Desc) (base : ℕ) (step : ℕ × ℕ) (el : Element) (o : Option sets.Field) → slice_get d.fields step.0 ≡ o → base + fields_size Cells sizes d.fields ≤ MOST_ITEMS
+within_in : (sizes : List ℕ) (d : sets.Desc) (base : ℕ) (step : ℕ × ℕ) (el : Element) (o : Option sets.Field) → slice_get d.fields step.0 ≡ o
+    → base + fields_size Cells sizes d.fields ≤ MOST_ITEMS
     → Some el ≡ element_in sizes d base step o → el.cell + size_of Cells sizes el.item ≤ MOST_ITEMS
 within_in sizes d base step el None there few e = cc
 within_in sizes d base step el (Some f) there few e = by_test (nat_lt step.1 (capacity_of f.count)) refl e where
-  by_test : (b : Bool) → nat_lt step.1 (capacity_of f.count) ≡ b → Some el ≡ (if b then Some (record { item = f.item; cell = cell_by sizes d base step f }) else None) → el.cell + size_of Cells sizes el.item ≤ MOST_ITEMS
+  by_test : (b : Bool) → nat_lt step.1 (capacity_of f.count) ≡ b
+      → Some el ≡ (if b then Some (record { item = f.item; cell = cell_by sizes d base step f }) else None)
+      → el.cell + size_of Cells sizes el.item ≤ MOST_ITEMS
   by_test false t e = cc
   by_test true t e =
       let same : el ≡ record { item = f.item; cell = cell_by sizes d base step f } = cc in
@@ -83,23 +85,16 @@ element_within sizes d base step el few e = within_in sizes d base step el (slic
 -- ---- sizes that are cut at 2 ^ 32 - 1
 
 size_capped : (cs : List (List Cell)) (item : Item) → size_of Cells (map (λ cells. in_u32 (length cells)) cs) item ≡ in_u32 (item_size cs item)
-size_capped cs (Num kind) = refl
-size_capped cs (Equal kind z) = refl
-size_capped cs (Unused n) = refl
 size_capped cs (Struct j) = get_or-map (λ (cells : List Cell). in_u32 (length cells)) cs j []
+size_capped cs item = refl
 
 take_first : {B : Type 0} (f : List B → sets.Desc → B) (ds : List sets.Desc) (j k : ℕ) → j ≤ k → take j (first f ds k) ≡ first f ds j
 unfolding first
-take_first {B = B} f ds j zero le = let none : j ≡ 0 = omega arith in ap (λ (n : ℕ). take n (first f ds 0)) none ∙ ap (λ (n : ℕ). first f ds n) (sym none)
-take_first {B = B} f ds j (suc k) le = by_order (nat_le j k) refl (λ l. take_first f ds j k l) where
-  by_order : (b : Bool) → nat_le j k ≡ b → (j ≤ k → take j (first f ds k) ≡ first f ds j) → take j (first f ds (suc k)) ≡ first f ds j
-  by_order true e earlier =
-      let l : j ≤ k = leb-true j k e in
-      take-append-le j (first f ds k) (f (first f ds k) (get_or ds k no_desc) ∷ []) (omega (arith, first_long f ds k, l)) ∙ earlier l
-  by_order false e earlier =
-      let l : k < j = leb-false j k e in
-      let last : j ≡ suc k = omega (arith, l, le) in
-      take_all j (first f ds (suc k)) (omega (arith, last, first_long f ds (suc k))) ∙ ap (λ (n : ℕ). first f ds n) (sym last)
+take_first {B = B} f ds j zero le = let none : j ≡ 0 = omega arith in rw none
+take_first {B = B} f ds j (suc k) le = elim (cases_lt k j) [
+  | inl l ↦ (let last : j ≡ suc k = omega arith in rw last (take_all (suc k) (first f ds (suc k)) (omega (arith, first_long f ds (suc k)))))
+  | inr l ↦ take-append-le j (first f ds k) (f (first f ds k) (get_or ds k no_desc) ∷ []) (omega (arith, first_long f ds k)) ∙ take_first f ds j k l
+]
 
 module _ (set : sets.Set) (p : Placed) (placed : IsPlaced set p) where
   abbrev cells : List (List Cell)
@@ -112,76 +107,179 @@ module _ (set : sets.Set) (p : Placed) (placed : IsPlaced set p) where
   few_cells = omega (arith, cells_size cells fields 0 fields, placed.room)
 
   pub few_by_sizes : p.base + fields_size Cells p.sizes.now (desc_of p.desc.now).fields ≤ MOST_ITEMS
-  few_by_sizes =
-      let x = exact cells fields (omega (arith, few_cells)) in
-      let s : fields_size Cells p.sizes.now fields ≡ fields_size Cells (map (λ cells. in_u32 (length cells)) cells) fields = ap (λ (l : List ℕ). fields_size Cells l fields) placed.sized in
-      omega (arith, x, s, few_cells)
+  few_by_sizes = rw placed.sized (omega (arith, exact cells fields (omega (arith, few_cells)), few_cells))
 
   -- the cell of an element
   same_cell : (i e : ℕ) (f : sets.Field) → slice_get fields i ≡ Some f → e < capacity_of f.count
-      → p.base + fields_size Cells p.sizes.now (take i fields) + e * size_of Cells p.sizes.now f.item ≡ place_of cells fields 0 p.base fields i + e * item_size cells f.item
+      → p.base + fields_size Cells p.sizes.now
+      (take i fields) + e * size_of Cells p.sizes.now f.item ≡ place_of cells fields 0 p.base fields i + e * item_size cells f.item
   same_cell i e f there lt =
       let front : fields_size Cells p.sizes.now (take i fields) ≡ fields_size Cells (map length cells) (take i fields) =
-      ap (λ (l : List ℕ). fields_size Cells l (take i fields)) placed.sized ∙ exact cells (take i fields) (omega (arith, take_less (map length cells) fields i, few_cells)) in
-      let capped : size_of Cells p.sizes.now f.item ≡ in_u32 (item_size cells f.item) = ap (λ (l : List ℕ). size_of Cells l f.item) placed.sized ∙ size_capped cells f.item in
-      let size : size_of Cells p.sizes.now f.item ≡ item_size cells f.item = omega (arith, capped, element_fits p.sizes.now fields p.base i e f there lt few_by_sizes) in
-      let product : e * size_of Cells p.sizes.now f.item ≡ e * item_size cells f.item = ap (λ (n : ℕ). e * n) size in
-      omega (arith, front, product, place_is cells fields 0 p.base fields i)
+      ap (λ (l : List ℕ). fields_size Cells l (take i fields)) placed.sized ∙ exact cells (take i fields)
+      (omega (arith, take_less (map length cells) fields i, few_cells)) in
+      let capped : size_of Cells p.sizes.now f.item ≡ in_u32 (item_size cells f.item) =
+      ap (λ (l : List ℕ). size_of Cells l f.item) placed.sized ∙ size_capped cells f.item in
+      let size : size_of Cells p.sizes.now f.item ≡ item_size cells f.item =
+      omega (arith, element_fits p.sizes.now fields p.base i e f there lt few_by_sizes) in
+      rw size (omega (arith, front, place_is cells fields 0 p.base fields i))
+
+  -- the cell of the rest of a path at an item
+  abbrev goes : List (ℕ × ℕ) → Item → ℕ → Option ℕ
+  goes path item cell = item_at (λ j cell. if nat_lt j (length p.sizes.now) then path_at set path j (slice_get set.structs j) cell else None) path item cell
 
   -- the cell of the rest of a path at an element
   abbrev pub after : List (ℕ × ℕ) → Option Element → Option ℕ
   after path None = None
-  after path (Some el) = item_at (λ j cell. if nat_lt j (length p.sizes.now) then path_at set path j (slice_get set.structs j) cell else None) path el.item el.cell
-
-  abbrev by_cells : (ℕ × ℕ) → sets.Field → ℕ
-  by_cells step f = place_of cells fields 0 p.base fields step.0 + step.1 * item_size cells f.item
-
-  abbrev goes : List (ℕ × ℕ) → Item → ℕ → Option ℕ
-  goes path item cell = item_at (λ j cell. if nat_lt j (length p.sizes.now) then path_at set path j (slice_get set.structs j) cell else None) path item cell
+  after path (Some el) = goes path el.item el.cell
 
   after_is : (path : List (ℕ × ℕ)) (step : ℕ × ℕ) (o : Option sets.Field) → slice_get fields step.0 ≡ o
-      → element_at cells (desc_of p.desc.now) p.base step.0 step.1 o (item_at (λ j cell. if nat_lt j (length p.sizes.now) then path_at set path j (slice_get set.structs j) cell else None) path)
-      ≡ after path (element_in p.sizes.now (desc_of p.desc.now) p.base step o)
+      → element_at cells (desc_of p.desc.now) p.base step.0 step.1 o (goes path) ≡ after path (element_in p.sizes.now (desc_of p.desc.now) p.base step o)
   after_is path step None there = refl
   after_is path step (Some f) there = by_test (nat_lt step.1 (capacity_of f.count)) refl where
     by_test : (b : Bool) → nat_lt step.1 (capacity_of f.count) ≡ b
-        → (if b then goes path f.item (by_cells step f) else None) ≡ after path (if b then Some (record { item = f.item; cell = cell_by p.sizes.now (desc_of p.desc.now) p.base step f }) else None)
+        → (if b then goes path f.item (place_of cells fields 0 p.base fields step.0 + step.1 * item_size cells f.item) else None)
+        ≡ after path (if b then Some (record { item = f.item; cell = cell_by p.sizes.now (desc_of p.desc.now) p.base step f }) else None)
     by_test false t = refl
-    by_test true t = ap (λ (n : ℕ). goes path f.item n) (sym (same_cell step.0 step.1 f there (ltb-true step.1 (capacity_of f.count) t)))
+    by_test true t = ap (goes path f.item) (sym (same_cell step.0 step.1 f there (ltb-true step.1 (capacity_of f.count) t)))
 
   pub path_is : (path : List (ℕ × ℕ)) (step : ℕ × ℕ)
       → path_at set (step ∷ path) (length p.sizes.now) (Some (desc_of p.desc.now)) p.base ≡ after path (element_of p.sizes.now (desc_of p.desc.now) p.base step)
   path_is path step = after_is path step (slice_get fields step.0) refl
 
   -- the structure that an element is
-  pub inner_placed : (number cell : ℕ) (inner : Placed) → Enters set.structs p.sizes.now number cell inner → cell + size_of Cells p.sizes.now (Struct number) ≤ MOST_ITEMS → IsPlaced set inner
+  pub inner_placed : (number cell : ℕ) (inner : Placed) → Enters set.structs p.sizes.now number cell inner
+      → cell + size_of Cells p.sizes.now (Struct number) ≤ MOST_ITEMS → IsPlaced set inner
   inner_placed number cell inner enters few =
       let long : length inner.sizes.now ≡ number = ap length enters.sizes_are ∙ length-take-le number p.sizes.now (omega (arith, enters.known)) in
       let cut : take number p.sizes.now ≡ map (λ cells. in_u32 (length cells)) (first desc_cells set.structs number) =
-      ap (take number) placed.sized ∙ take-map (λ cells. in_u32 (length cells)) number cells ∙ ap (map (λ cells. in_u32 (length cells))) (take_first desc_cells set.structs number (length p.sizes.now) (omega (arith, enters.known))) in
-      let capped : size_of Cells p.sizes.now (Struct number) ≡ in_u32 (length (get_or cells number [])) = ap (λ (l : List ℕ). size_of Cells l (Struct number)) placed.sized ∙ size_capped cells (Struct number) in
-      let made : length (get_or cells number []) ≡ length (desc_cells (first desc_cells set.structs number) (get_or set.structs number no_desc)) = ap length (first_at desc_cells set.structs [] (length p.sizes.now) number enters.known) in
-      let here : length (desc_cells (first desc_cells set.structs (length inner.sizes.now)) (desc_of inner.desc.now)) ≡ length (desc_cells (first desc_cells set.structs number) (get_or set.structs number no_desc)) =
-      ap (λ (n : ℕ). length (desc_cells (first desc_cells set.structs n) (desc_of inner.desc.now))) long ∙ ap (λ (d : sets.Desc). length (desc_cells (first desc_cells set.structs number) d)) enters.desc in
+      rw (
+        placed.sized,
+        take-map (λ cells. in_u32 (length cells)) number cells,
+        take_first desc_cells set.structs number (length p.sizes.now)
+            (omega (arith, enters.known)),
+      ) in
+      let capped : size_of Cells p.sizes.now (Struct number) ≡ in_u32 (length (get_or cells number [])) =
+      ap (λ (l : List ℕ). size_of Cells l (Struct number)) placed.sized ∙ size_capped cells (Struct number) in
+      let made = ap length (first_at desc_cells set.structs [] (length p.sizes.now) number enters.known) in
+      let here = ap (λ (d : sets.Desc). length (desc_cells (first desc_cells set.structs number) d)) enters.desc in
       record {
-        known = omega (arith, long, enters.known, placed.known);
-        sized = enters.sizes_are ∙ cut ∙ ap (λ (n : ℕ). map (λ cells. in_u32 (length cells)) (first desc_cells set.structs n)) (sym long);
-        room = omega (arith, capped, made, here, few, enters.base_is);
+        known = omega (arith, enters.known, placed.known);
+        sized = rw long (enters.sizes_are ∙ cut);
+        room = rw long (omega (arith, capped, made, here, enters.base_is));
       }
 
 -- ---- the rest of a path
 
 -- in a structure
 pub in_struct : (set : sets.Set) (below : ℕ) (path : List (ℕ × ℕ)) (j cell : ℕ) (d : sets.Desc) → j < below → slice_get set.structs j ≡ Some d
-    → item_at (λ j cell. if nat_lt j below then path_at set path j (slice_get set.structs j) cell else None) path (Struct j) cell ≡ path_at set path j (Some d) cell
+    → item_at (λ j cell. if nat_lt j below then path_at set path j (slice_get set.structs j) cell else None) path (Struct j) cell ≡ path_at set path j
+    (Some d) cell
 in_struct set below [] j cell d lt there = refl
-in_struct set below (step ∷ path) j cell d lt there =
-    ap (λ (b : Bool). if b then path_at set (step ∷ path) j (slice_get set.structs j) cell else None) (lt-ltb j below lt) ∙ ap (λ (o : Option sets.Desc). path_at set (step ∷ path) j o cell) there
+in_struct set below (step ∷ path) j cell d lt there = rw (lt-ltb j below lt, there)
 
 -- at a number
 pub at_number : (inside : ℕ → ℕ → Option ℕ) (path : List (ℕ × ℕ)) (kind : Kind) (cell : ℕ) → path ≡ [] → item_at inside path (Num kind) cell ≡ Some cell
-at_number inside path kind cell e = ap (λ (p : List (ℕ × ℕ)). item_at inside p (Num kind) cell) e
+at_number inside path kind cell e = rw e
 
 pub no_items : {X : Type 0} (xs : List X) → length xs ≡ 0 → xs ≡ []
 no_items [] e = refl
 no_items (x ∷ xs) e = absurd (omega arith)
+
+-- ---- the sizes of subsections
+
+subs_cells : (cs : List (List Cell)) (subs : List sets.Sub) → length (flat_map (λ s. desc_cells cs s.desc) subs) ≡ subs_size Cells (map length cs) subs
+subs_cells cs [] = refl
+subs_cells cs (s ∷ subs) = rw (length-append, cells_size cs s.desc.fields 0 s.desc.fields, subs_cells cs subs)
+
+subs_less : (sizes : List ℕ) (subs : List sets.Sub) (j : ℕ) → subs_size Cells sizes (take j subs) ≤ subs_size Cells sizes subs
+subs_less sizes (s ∷ subs) (suc j) = omega (arith, subs_less sizes subs j)
+subs_less sizes [] (suc j) = omega arith
+subs_less sizes subs zero = omega arith
+
+sub_room : (sizes : List ℕ) (subs : List sets.Sub) (j : ℕ) (s : sets.Sub) → slice_get subs j ≡ Some s
+    → subs_size Cells sizes (take j subs) + fields_size Cells sizes s.desc.fields ≤ subs_size Cells sizes subs
+sub_room sizes [] j s e = cc
+sub_room sizes (r ∷ subs) zero s e = let same : s ≡ r = cc in rw same (omega arith)
+sub_room sizes (r ∷ subs) (suc j) s e = omega (arith, sub_room sizes subs j s e)
+
+place_of_sub : (set : sets.Set) (base : ℕ) (subs : List sets.Sub) (j : ℕ)
+    → sub_place set base subs j ≡ base + subs_size Cells (map length (struct_cells set)) (take j subs)
+place_of_sub set base (s ∷ subs) (suc j) =
+    omega (arith, cells_size (struct_cells set) s.desc.fields 0 s.desc.fields, place_of_sub set (base + length (desc_cells (struct_cells set) s.desc)) subs j)
+place_of_sub set base [] (suc j) = omega arith
+place_of_sub set base [] zero = omega arith
+place_of_sub set base (s ∷ subs) zero = omega arith
+
+-- ---- the first cell of a path
+
+pub long_sizes : (set : sets.Set) (sizes : List ℕ) → sizes ≡ sizes_of set → length sizes ≡ length set.structs
+long_sizes set sizes e = ap length e ∙ length-map (struct_cells set) (λ cells. in_u32 (length cells)) ∙ first_long desc_cells set.structs (length set.structs)
+
+-- the first cell
+abbrev pub base_of : sets.Set → sets.Device → Option ℕ → ℕ
+base_of set d None = 0
+base_of set d (Some j) = sub_place set (own_cells set d) d.subs j
+
+pub begins_at : (set : sets.Set) (d : sets.Device) (part : Option ℕ) (path : List (ℕ × ℕ))
+    → cell_in set (Some d) part path ≡ path_at set path (length set.structs) (begin_desc d part) (base_of set d part)
+begins_at set d None path = refl
+begins_at set d (Some j) path = refl
+
+pub nowhere : (set : sets.Set) (path : List (ℕ × ℕ)) (below base : ℕ) → path_at set path below None base ≡ None
+nowhere set [] below base = refl
+nowhere set (step ∷ path) below base = refl
+
+module _ (set : sets.Set) (d : sets.Device) (few : length (device_cells set d) ≤ MOST_ITEMS) where
+  abbrev lengths : List ℕ
+  lengths = map length (struct_cells set)
+
+  own_size : length (desc_cells (struct_cells set) d.desc) ≡ fields_size Cells lengths d.desc.fields
+  own_size = cells_size (struct_cells set) d.desc.fields 0 d.desc.fields
+
+  all_few : fields_size Cells lengths d.desc.fields + subs_size Cells lengths d.subs ≤ MOST_ITEMS
+  all_few =
+      omega (
+        arith,
+        length-append (desc_cells (struct_cells set) d.desc) (flat_map (λ s. desc_cells (struct_cells set) s.desc) d.subs),
+        own_size,
+        subs_cells
+            (struct_cells set) d.subs,
+      )
+
+  pub same_base : (part : Option ℕ) → begin_base (sizes_of set) d part ≡ base_of set d part
+  same_base None = refl
+  same_base (Some j) =
+      let own = rw (map-map in_u32 length (struct_cells set)) at (capped_fields Cells lengths d.desc.fields) in
+      let before = rw (map-map in_u32 length (struct_cells set)) at (capped_subs Cells lengths (take j d.subs)) in
+      omega (arith, own, before, all_few, subs_less lengths d.subs j, place_of_sub set (own_cells set d) d.subs j, own_size)
+
+  has_room : (part : Option ℕ) (e : sets.Desc) → begin_desc d part ≡ Some e → base_of set d part + length (desc_cells (struct_cells set) e) ≤ MOST_ITEMS
+  has_room None e is = let same : e ≡ d.desc = cc in rw same (omega (arith, all_few, own_size))
+  has_room (Some j) e is = by_sub (slice_get d.subs j) refl is
+    where
+      by_sub : (o : Option sets.Sub) → slice_get d.subs j ≡ o → desc_of_sub o ≡ Some e
+          → base_of set d (Some j) + length (desc_cells (struct_cells set) e) ≤ MOST_ITEMS
+      by_sub None there is = cc
+      by_sub (Some s) there is =
+          let same : e ≡ s.desc = cc in
+          let size = cells_size (struct_cells set) s.desc.fields 0 s.desc.fields in
+          rw same (omega (arith, all_few, sub_room lengths d.subs j s there, place_of_sub set (own_cells set d) d.subs j, own_size, size))
+
+  pub begins_placed : (part : Option ℕ) (p : Placed) → Begins (sizes_of set) d part p → IsPlaced set p
+  begins_placed part p begins =
+      let long : length p.sizes.now ≡ length set.structs = long_sizes set p.sizes.now begins.sizes_are in
+      record {
+        known = omega arith;
+        sized = rw long begins.sizes_are;
+        room = rw long (omega (arith, begins.base, same_base part, has_room part (desc_of p.desc.now) begins.desc));
+      }
+
+get_there : {X Y : Type 0} (g : X → Y) (xs : List X) (i : ℕ) (x : X) (d : Y) → slice_get xs i ≡ Some x → get_or (map g xs) i d ≡ g x
+get_there g [] i x d e = cc
+get_there g (y ∷ xs) zero x d e = cc
+get_there g (y ∷ xs) (suc i) x d e = get_there g xs i x d e
+
+pub few_of_device : (set : sets.Set) (k : ℕ) (d : sets.Device) → slice_get set.devices k ≡ Some d → length (get_or (layout_of set) k []) ≤ MOST_ITEMS
+    → length (device_cells set d) ≤ MOST_ITEMS
+few_of_device set k d there few =
+    omega (arith, ap length (get_there (λ d. map form_of (device_cells set d)) set.devices k d [] there), length-map (device_cells set d) form_of)

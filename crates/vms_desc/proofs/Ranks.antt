@@ -2,7 +2,7 @@
 use Rattle.std.proofs.Common.{◌≡◌, ℕ, ◌+◌, ◌*◌, ◌<◌, ◌≤◌, length, refl, arith, true}
 use Rattle.std.proofs.lemmas.Bool.{ltb-true, lt-ltb}
 use Rattle.vms_kinds.specs.declared.Item.{Item}
-use Rattle.vms_kinds.specs.declared.Item.TheVariants.{Num, Equal, Unused, Struct}
+use Rattle.vms_kinds.specs.declared.Item.TheVariants.{Struct}
 use Rattle.vms_spec.specs.declared.Part.{Part}
 use Rattle.vms_spec.specs.declared.Part.TheVariants as parts
 use Rattle.vms_spec.specs.Rules.{uses_below}
@@ -19,18 +19,12 @@ part_rank set part = 5 * reach set part
 
 pub reach_whole : (set : Set) (part : Part) → HasPart set part → reach set part ≤ length set.structs
 reach_whole set parts.Set h = absurd h
-reach_whole set (parts.Struct j) h = omega arith
-reach_whole set (parts.Device i) h = omega arith
-reach_whole set (parts.Sub i j) h = omega arith
+reach_whole set part h = omega arith
 
 pub uses_more : (j k : ℕ) (item : Item) → j ≤ k → uses_below j item ≡ true → uses_below k item ≡ true
-uses_more j k (Num kind) le e = refl
-uses_more j k (Equal kind z) le e = refl
-uses_more j k (Unused b) le e = refl
 uses_more j k (Struct i) le e = let lt : i < j = ltb-true i j e in lt-ltb i k (omega arith)
+uses_more j k item le e = refl
 
 pub rank_below : (r : ℕ) (item : Item) → uses_below r item ≡ true → item_rank item + 2 < 5 * r + 3
-rank_below r (Num kind) e = omega arith
-rank_below r (Equal kind z) e = omega arith
-rank_below r (Unused b) e = omega arith
 rank_below r (Struct i) e = let lt : i < r = ltb-true i r e in omega arith
+rank_below r item e = omega arith

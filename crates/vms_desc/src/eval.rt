@@ -5,7 +5,7 @@ ghost use Rattle.std.specs.Option.{option_copied};
 ghost use Rattle.std.specs.Prelude.{◌≡◌, ◌+◌, ◌≤◌, ◌<◌, true, false, length, get_or, map, pos, IfSome, IsNone};
 ghost use Rattle.vms_kinds.specs.Codes.{width, residue};
 ghost use Rattle.vms_spec.specs.Layout.{kind_of, all_hold};
-ghost use Rattle.vms_spec.specs.Rules.{names_well, nobody};
+ghost use Rattle.vms_spec.specs.Rules.{is_num, names_well, nobody};
 ghost use Rattle.vms_spec.specs.Tests.{truth, compares};
 ghost use Rattle.vms_parts.specs.Views.{formula};
 ghost use Rattle.vms_desc.specs.Numbers.{number_of, number_of_parent};
@@ -178,13 +178,14 @@ fn parent_number<C: Cells>(parent: Option<&Scope>, field: u32, cells: &C) -> u64
     }
 }
 
-// Returns the kind of an item's number, and any kind for another item.
+// Returns the kind of an item that is a number.
 fn kind_of(item: Item) -> Kind
+    requires { is_num item ≡ true }
     ensures { result ≡ kind_of item }
 {
     match item {
-        Item::Num(kind) | Item::Equal { kind, .. } => kind,
-        Item::Unused { .. } | Item::Struct(_) => Kind::U8,
+        Item::Num(kind) => kind,
+        Item::Equal { .. } | Item::Unused { .. } | Item::Struct(_) => unreachable!(),
     }
 }
 

@@ -11,6 +11,7 @@ pub fn elements_law()
 
 /// States that the elements of a device for an image (`device_elements`) are the device's cells and
 /// the image's slots.
+#[tactic(auto, using(crate::proofs::Stated::device_law))]
 pub fn device_law()
     ensures { DeviceLaw }
 {}
@@ -49,6 +50,7 @@ pub fn distinct_law()
 
 /// States that each cell of a device has a path (`HasPath`), which names a field of the cell's kind
 /// and default.
+#[tactic(auto, using(crate::proofs::DevicePaths::path_law))]
 pub fn path_law()
     ensures { PathLaw }
 {}

@@ -1,6 +1,8 @@
 // The files of one folder.
-ghost use Rattle.std.specs.Prelude.{◌≡◌, None, false, take, IfOk, IfSome, OnOk};
+ghost use Rattle.std.specs.Prelude.{◌≡◌, ◌≢◌, ◌≤◌, ◌<◌, None, Ok, Err, false, length, take, string_bytes, IfOk, IfErr, IfSome, OnOk};
 ghost use Rattle.std.specs.Io.KnownBytes.{Appends};
+ghost use Rattle.std.specs.IoError.{error_kind};
+ghost use Rattle.vms_io.specs.Shelves.{CountsFetches, CountsStores, HasFetchCause, HasStoreCause};
 
 use crate::{FetchFault, Shelf, StoreFault};
 use std::alloc::Global;
@@ -19,9 +21,12 @@ pub struct FileShelf<R: Files + Drop> {
 }
 
 impl<R: Files + Drop> FileShelf<R> {
+    ghost use Rattle.vms_io.specs.Folders.{folder_of};
+
     /// Returns the shelf over folder `folder`, with no faults counted.
     pub fn new(rt: R, folder: String) -> Self
-        ensures { ⟦<FileShelf<R> as Shelf>⟧.faults result ≡ 0 }
+        ensures faults { ⟦<FileShelf<R> as Shelf>⟧.faults result ≡ 0 }
+        ensures folder { folder_of result ≡ string_bytes folder }
     {
         FileShelf {
             rt,
@@ -59,6 +64,17 @@ impl<R: Files + Drop> FileShelf<R> {
         }
     }
 
+    // Creates the new file. If an interrupted call left one of its name, that is removed before.
+    fn create_beside(&self, beside: &str) -> io::Result<R::File> {
+        match File::create_new(&self.rt, beside) {
+            Err(error) if error.kind() == ErrorKind::AlreadyExists => {
+                fs::remove_file(&self.rt, beside)?;
+                File::create_new(&self.rt, beside)
+            }
+            created => created,
+        }
+    }
+
     // Writes a new file beside the old one and renames it. After an error the new file is removed
     // and the old one is unchanged.
     fn replace(
@@ -68,9 +84,7 @@ impl<R: Files + Drop> FileShelf<R> {
         piece: &[u8],
         mode: Option<Permissions>,
     ) -> io::Result<()> {
-        // removes what an interrupted call left there
-        let _earlier = fs::remove_file(&self.rt, beside);
-        let mut file = File::create_new(&self.rt, beside)?;
+        let mut file = self.create_beside(beside)?;
         let replaced = fill(&mut file, piece, mode).and_then(|()| fs::rename(
             &self.rt, beside, path,
         ));
@@ -80,12 +94,10 @@ impl<R: Files + Drop> FileShelf<R> {
         replaced
     }
 
-    // Writes into the existing file. Every error after it is opened is a fault, because bytes may
-    // be lost.
+    // Writes into the existing file.
     fn overwrite(&self, path: &str, piece: &[u8]) -> io::Result<()> {
         let mut file = fs::create(&self.rt, path)?;
-        file.write_all(piece)
-            .map_err(|_| io::Error::from(ErrorKind::Other))
+        refill(&mut file, piece)
     }
 }
 
@@ -114,6 +126,65 @@ fn fill<F: Write + OpenFile>(
     file.sync_all()
 }
 
+// Writes `piece` into a file whose earlier bytes are gone. So every error is a failure, also if
+// memory runs out.
+fn refill<F: Write>(file: &mut F, piece: &[u8]) -> io::Result<()>
+    ensures bytes { OnOk result (Appends (F.contents file.old) (F.contents file.new) piece.now) }
+    ensures kind { IfErr result (λ error. error_kind error ≡ ErrorKind.Other) }
+{
+    file.write_all(piece)
+        .map_err(|_| io::Error::from(ErrorKind::Other))
+}
+
+// Returns the bytes that were read if they are at most `limit`, and otherwise the fault. Counts a
+// failure.
+fn fetched(faults: &mut u64, read: io::Result<Vec<u8>>, limit: u32) -> Result<Vec<u8>, FetchFault>
+    ensures fits { IfOk read (λ bytes. length bytes.items ≤ limit → result ≡ Ok bytes) }
+    ensures large { IfOk read (λ bytes. limit < length bytes.items
+        → result ≡ Err FetchFault.TooLarge) }
+    ensures missing { IfErr read (λ error. error_kind error ≡ ErrorKind.NotFound
+        → result ≡ Err FetchFault.NotThere) }
+    ensures memory { IfErr read (λ error. error_kind error ≡ ErrorKind.OutOfMemory
+        → result ≡ Err FetchFault.NoMemory) }
+    ensures failed { IfErr read (λ error. error_kind error ≢ ErrorKind.NotFound
+        → error_kind error ≢ ErrorKind.OutOfMemory → result ≡ Err FetchFault.Failed) }
+    ensures counts { CountsFetches faults.old faults.new result }
+    ensures cause { HasFetchCause faults.old faults.new result }
+{
+    match read {
+        Ok(bytes) if bytes.len() <= limit as usize => Ok(bytes),
+        Ok(_) => Err(FetchFault::TooLarge),
+        Err(error) => Err(match error.kind() {
+            ErrorKind::NotFound => FetchFault::NotThere,
+            ErrorKind::OutOfMemory => FetchFault::NoMemory,
+            _ => {
+                *faults = faults.saturating_add(1);
+                FetchFault::Failed
+            }
+        }),
+    }
+}
+
+// Returns the result of a store whose file was written with the result `written`. Counts a failure.
+fn stored(faults: &mut u64, written: io::Result<()>) -> Result<(), StoreFault>
+    ensures ok { OnOk written (result ≡ Ok tt) }
+    ensures memory { IfErr written (λ error. error_kind error ≡ ErrorKind.OutOfMemory
+        → result ≡ Err StoreFault.NoMemory) }
+    ensures failed { IfErr written (λ error. error_kind error ≢ ErrorKind.OutOfMemory
+        → result ≡ Err StoreFault.Failed) }
+    ensures counts { CountsStores faults.old faults.new result }
+    ensures cause { HasStoreCause faults.old faults.new result }
+{
+    match written {
+        Ok(()) => Ok(()),
+        Err(error) if error.kind() == ErrorKind::OutOfMemory => Err(StoreFault::NoMemory),
+        Err(_) => {
+            *faults = faults.saturating_add(1);
+            Err(StoreFault::Failed)
+        }
+    }
+}
+
 impl<R: Files + Drop> Shelf for FileShelf<R> {
     ghost held = { λ s. None };
 
@@ -135,18 +206,8 @@ impl<R: Files + Drop> Shelf for FileShelf<R> {
     /// - [`FetchFault::Failed`]: any other error, for example if `name` is a folder or can't be
     ///   read.
     fn fetch(&mut self, alloc: Global, name: &str, limit: u32) -> Result<Vec<u8>, FetchFault> {
-        match self.read(alloc, name, limit) {
-            Ok(bytes) if bytes.len() <= limit as usize => Ok(bytes),
-            Ok(_) => Err(FetchFault::TooLarge),
-            Err(error) => Err(match error.kind() {
-                ErrorKind::NotFound => FetchFault::NotThere,
-                ErrorKind::OutOfMemory => FetchFault::NoMemory,
-                _ => {
-                    self.faults = self.faults.saturating_add(1);
-                    FetchFault::Failed
-                }
-            }),
-        }
+        let read = self.read(alloc, name, limit);
+        fetched(&mut self.faults, read, limit)
     }
 
     /// Writes `piece` to the file `name` of the folder, in place of what it held.
@@ -156,13 +217,7 @@ impl<R: Files + Drop> Shelf for FileShelf<R> {
     /// - [`StoreFault::NoMemory`]: out of memory.
     /// - [`StoreFault::Failed`]: any other error.
     fn store(&mut self, name: &str, piece: &[u8]) -> Result<(), StoreFault> {
-        match self.write(name, piece) {
-            Ok(()) => Ok(()),
-            Err(error) if error.kind() == ErrorKind::OutOfMemory => Err(StoreFault::NoMemory),
-            Err(_) => {
-                self.faults = self.faults.saturating_add(1);
-                Err(StoreFault::Failed)
-            }
-        }
+        let written = self.write(name, piece);
+        stored(&mut self.faults, written)
     }
 }

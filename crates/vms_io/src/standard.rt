@@ -2,7 +2,7 @@
 ghost use Rattle.std.specs.Prelude.{◌≡◌, ◌+◌, ◌-◌, ◌^◌, ◌<◌, ◌≤◌, [], length, min, take, drop, None, false, OnOk, IsErr};
 ghost use Rattle.std.proofs.Common.{arith};
 ghost use Rattle.std.specs.Io.KnownBytes.{Appends, Consumes, IsAtEnd, Keeps};
-ghost use Rattle.vms_io.specs.Causes.{HasCause};
+ghost use Rattle.vms_io.specs.Causes.{HasCause, CountsFailures};
 ghost use Rattle.vms_io.specs.declared.standard.TheConstants.{STAGE, GATHER};
 
 use crate::{Failed, Sink, Source};
@@ -63,6 +63,7 @@ impl<R: Read + Drop> StdSource<R> {
             (between self.new.staged self.new.begin self.new.end))) }
         ensures given { self.new.given ≡ self.old.given }
         ensures cause { HasCause self.old.faults self.new.faults result }
+        ensures counts { CountsFailures self.old.faults self.new.faults result }
     {
         match self.reader.read(&mut self.staged[..]) {
             Ok(count) => {
@@ -187,6 +188,8 @@ impl<W: Write + Drop> StdSink<W> {
             (W.contents (writer_of self.new)) }
         ensures cause { HasCause (⟦<StdSink<W> as Sink>⟧.faults self.old)
             (⟦<StdSink<W> as Sink>⟧.faults self.new) result }
+        ensures counts { CountsFailures (⟦<StdSink<W> as Sink>⟧.faults self.old)
+            (⟦<StdSink<W> as Sink>⟧.faults self.new) result }
     {
         self.hand_on()?;
         match self.writer.flush() {
@@ -239,6 +242,7 @@ impl<W: Write + Drop> StdSink<W> {
             (between self.new.gathered self.new.begin self.new.end)) }
         ensures empty { OnOk result (self.new.end ≡ 0) }
         ensures cause { HasCause self.old.faults self.new.faults result }
+        ensures counts { CountsFailures self.old.faults self.new.faults result }
     {
         for _ in 0..u64::MAX {
             if self.begin == self.end {
@@ -292,6 +296,7 @@ impl<W: Write + Drop> Sink for StdSink<W> {
 // Counts a failure, and returns it.
 fn failed(faults: &mut u64) -> Result<(), Failed>
     ensures cause { HasCause faults.old faults.new result }
+    ensures counts { CountsFailures faults.old faults.new result }
     ensures error { IsErr result }
 {
     *faults = faults.saturating_add(1);

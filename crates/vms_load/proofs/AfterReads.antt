@@ -1,51 +1,129 @@
--- What comes after the fields of a part, as the judge reads it.
-use Rattle.std.proofs.Common.{◌≡◌, ℕ, zero, suc, ◌+◌, ◌-◌, ◌<◌, ◌≤◌, List, [], ◌∷◌, length, drop, get_or, slice_set, Option, Some, None, Bool, true, false, nat_lt, if◌then◌else◌, Result, Ok, Err, IfSome, refl, sym, ap, ◌∙◌, subst, arith}
-use Rattle.std.specs.List.{slice_get}
-use Rattle.std.proofs.lemmas.List.{drop_all}
+-- A section, as the judge reads it: its head, and what comes after the fields of a part.
+use Rattle.vms_load.proofs.Facade.{◌≡◌, ℕ, ◌+◌, ◌<◌, List, length, map, drop, slice_set, Option, Some, None, Bool, true, false, Result, Ok, Err, refl, sym, ap}
+use Rattle.vms_load.proofs.Facade.{◌∙◌, subst, zero, suc, ◌-◌, ◌≤◌, [], ◌∷◌, get_or, nat_lt, if◌then◌else◌, IfSome, arith, map-set, drop_all, slice_get-get_or}
+use Rattle.vms_load.proofs.Facade.{slice_get, bytes_eq, Set, Device, Sub, at_option, position, Image, Piece, SubHead, Foot, fresh, mark_come, part_slots}
+use Rattle.vms_load.proofs.Facade.{put_version, subs_of, Verdict, Goes, Reading, reading_after, find_device, find_sub, did_come, reading_on, set_twice, at_set}
+use Rattle.vms_load.proofs.Facade.{put_image, judge, owes, ask, judge_seen, begins_section, State, Free, Inside, inside, after, by_state, or_none, slots_at}
+use Rattle.vms_load.proofs.Facade.{due_by, known_at, Head, Stand, Tail, Refusal, Typed, Unfit, opened_at, section_opened, unfit, opened_unless}
+use Rattle.vms_load.proofs.Facade.{reason_against_sub, sub_opened, Onward, Reads, ReadsOn, ReadsBehind, behind, Settles, concerning, state_in, in_fields}
+use Rattle.vms_load.proofs.Facade.{after_part, bytes_of, subs_due, spot_in, all_passed, after_fields, image_at, state_of, LoadFault, Section, Staged, Slot}
+use Rattle.vms_load.proofs.Facade.{AfterFields, Due, begins_next, rules_hold, due_field, Good, seen, judged_holds, next_holds, seen_holds, device_at, sub_at}
+use Rattle.vms_load.proofs.Facade.{ahead, AnswersBehind, in_section, tail_of, FrameFault, Open, LONGEST_SUB_HEAD}
+use Rattle.vms_spec.specs.Units.{Head as HeadUnit}
+use Rattle.vms_stream.specs.SoFar.{Tail as StreamTail, Bare as IsBare}
+use Rattle.vms_stream.specs.State.{image_at as open_image}
+use Rattle.vms_image.specs.Typed.{state_of as untyped}
+use Rattle.vms_load.proofs.HeadLemmas.{device_is, unknown_sub, known_sub, sub_below, sub_is, verdict, section_judged, sub_judged}
+use Rattle.vms_load.proofs.ReadLemmas.{IsLong, refused_here, unit_fails, unit_settled, unit_of}
+use Rattle.vms_load.specs.declared.fault.LoadFault.TheVariants as faults
 use Rattle.vms_spec.specs.declared.Reason.TheVariants as reasons
-use Rattle.std.specs.Str.{bytes_eq}
-use Rattle.std.proofs.lemmas.Option.{slice_get-get_or}
-use Rattle.vms_spec.specs.Lists.{position}
-use Rattle.vms_spec.specs.Sets.{Sub, Device, Set}
-use Rattle.vms_spec.specs.Layout.{Slot}
-use Rattle.vms_spec.specs.Images.{Image}
-use Rattle.vms_spec.specs.SoFar.{part_slots, put_version, subs_of}
-use Rattle.vms_spec.specs.Readings.{Verdict, Reading, reading_after}
-use Rattle.vms_spec.specs.Lookup.{find_sub, did_come}
-use Rattle.vms_spec.specs.Units.{Piece, SubHead, Foot}
-use Rattle.vms_bodies.specs.Whole.{reading_on}
-use Rattle.vms_bodies.proofs.BodyLaws.{at_set, set_twice}
-use Rattle.vms_stream.specs.SoFar.{Tail, Bare as IsBare}
-use Rattle.vms_stream.specs.Dues.{AfterFields, Due, begins_next, rules_hold, due_field}
-use Rattle.vms_stream.specs.Judge.{judge, owes}
-use Rattle.vms_stream.specs.Judged.{ask, judge_seen, begins_section}
-use Rattle.vms_stream.specs.Seen.{Good, seen}
-use Rattle.vms_stream.specs.State.{State, Inside, Free, image_at, or_none, slots_at, due_by, known_at, after, by_state}
-use Rattle.vms_stream.proofs.Calls.Judged.{judged_holds, next_holds, seen_holds}
-use Rattle.vms_parts.specs.Devices.{device_at}
-use Rattle.vms_desc.specs.Parts.{sub_at}
-use Rattle.vms_frames.specs.Stands.{Stand}
-use Rattle.vms_frames.specs.Calls.{ahead, AnswersBehind, in_section, tail_of}
 use Rattle.vms_frames.specs.declared.units.After.TheVariants as afters
 use Rattle.vms_frames.specs.declared.units.Tail.TheVariants as tails
-use Rattle.vms_frames.specs.declared.fault.FrameFault.{FrameFault}
 use Rattle.vms_frames.specs.declared.fault.FrameFault.TheVariants as frames
-use Rattle.vms_load.specs.Heads.{Unfit, unfit, opened_at, opened_unless, reason_against_sub, sub_opened}
-use Rattle.vms_load.specs.Reads.{Onward, Reads, ReadsOn, Settles, concerning}
-use Rattle.vms_load.specs.Parts.{bytes_of, subs_due, spot_in, state_in, all_passed, after_fields, after_part}
-use Rattle.vms_load.specs.declared.fault.LoadFault.{LoadFault}
-use Rattle.vms_load.specs.declared.fault.LoadFault.TheVariants as faults
-use Rattle.vms_load.specs.declared.parts.Section.{Section}
-use Rattle.vms_load.specs.declared.parts.Open.{Open}
-use Rattle.vms_load.proofs.HeadLemmas.{unknown_sub, known_sub, sub_below, sub_is}
-use Rattle.vms_load.proofs.HeadRows.{verdict, sub_judged}
-use Rattle.vms_load.proofs.ReadLemmas.{unit_fails, unit_settled, unit_of}
-use Rattle.vms_load.proofs.OpenedReads.{refusal_is}
-use Rattle.vms_marks.specs.declared.sub_head.TheConstants.{LONGEST_SUB_HEAD}
 
-module _ (set : Set) (names : List (List ℕ)) (state : State) (section : Section) (part : Option ℕ) (image : Image) (here : section.device < length set.devices) (room : section.device < length state.images) where
+pub refusal_is : (r s : Refusal) → faults.Refused r ≡ faults.Refused s → r ≡ s
+refusal_is r s e = cc
+
+-- the unit of a head, and its length
+abbrev pub head_unit : Head → Piece
+head_unit head = HeadUnit head.id head.name.items head.instance head.version
+
+abbrev pub head_long : Head → ℕ
+head_long head = 14 + length head.name.items
+
+module _ (set : Set) (names : List (List ℕ)) (staged : Staged) (first configured : Bool) where
   abbrev go : State → Onward
   go = reading_on (judge (by_state set names))
+
+  abbrev state : State
+  state = state_of set staged (Free first configured)
+
+  refuses : {X : Type 0} (x : Piece) (n place to : ℕ) (end : Stand) (bytes rest : List ℕ) (left : Option (List ℕ)) (next : X → Onward) (o : Result ℕ Unfit) (e : LoadFault) → Err e ≡ opened_at place o → left ≡ Some (drop n bytes)
+      → Reads (behind go place (verdict set names state x n o) to rest) next place end bytes left (Err e)
+  refuses x n place to end bytes rest left next (Ok k) e h is = cc
+  refuses x n place to end bytes rest left next (Err why) (faults.Refused r) h is =
+      refused_here place bytes left why.section why.reason n r (refusal_is r (record { section = why.section; at = place; reason = why.reason }) cc) is
+  refuses x n place to end bytes rest left next (Err why) faults.ReadFault h is = cc
+
+  -- the device has come
+  abbrev pub begun : ℕ → State
+  begun k = record state { came = slice_set state.came k true }
+
+  -- a device that is opened is begun
+  opened_is : (id : ℕ) (name : List ℕ) (instance v k : ℕ) (image : Image) (tail : Tail) → find_device 0 set.devices name instance ≡ Some k → k < length set.devices → image ≡ image_at set k v → tail ≡ staged.tail
+      → after set state (HeadUnit id name instance v) ≡ state_in (begun k) (record { device = k; id = id; tail = tail }) image (Inside k id None 0)
+  opened_is id name instance v k image tail found below is same =
+      ap (λ (o : Option ℕ). headed o (at_option set.devices o)) found ∙ ap (λ (d : Option Device). headed (Some k) d) (slice_get-get_or set.devices k _ below)
+      ∙ ap (λ (i : Image). state_in (begun k) (record { device = k; id = id; tail = staged.tail }) i (Inside k id None 0)) (sym is)
+      ∙ ap (λ (t : Tail). state_in (begun k) (record { device = k; id = id; tail = t }) image (Inside k id None 0)) (sym same)
+    where
+      headed : Option ℕ → Option Device → State
+      headed o d = record {
+        machine = state.machine;
+        images = put_image state.images o (fresh set d v);
+        came = mark_come state.came o;
+        tail = state.tail;
+        spot = inside o id None 0;
+      }
+
+  opens : (x : Piece) (n place k : ℕ) (o : Result ℕ Unfit) → Ok k ≡ opened_at place o → verdict set names state x n o ≡ Goes n (after set state x)
+  opens x n place k (Ok i) e = refl
+  opens x n place k (Err why) e = cc
+
+  pub section_long : (head : Head) → length staged.came.items ≡ length set.devices → IsLong (head_long head) (ask set names state (head_unit head) (head_long head))
+  section_long head came =
+      subst (λ (v : Verdict State). IsLong (head_long head) v) (sym (section_judged set names state head.id head.name.items head.instance head.version (head_long head) came))
+      (by_opened (section_opened set staged.came.items head.name.items head.instance head.version))
+    where
+      by_opened : (o : Result ℕ Unfit) → IsLong (head_long head) (verdict set names state (head_unit head) (head_long head) o)
+      by_opened (Ok k) = refl
+      by_opened (Err why) = tt
+
+  -- a head that opens no section
+  pub section_refused : {X : Type 0} (head : Head) (place : ℕ) (end : Stand) (bytes : List ℕ) (left : Option (List ℕ)) (next : X → Onward) (e : LoadFault) → length staged.came.items ≡ length set.devices
+      → Err e ≡ opened_at place (section_opened set staged.came.items head.name.items head.instance head.version) → left ≡ Some (drop (head_long head) bytes)
+      → ReadsBehind go (ask set names state (head_unit head) (head_long head)) next place (head_long head) bytes end left (Err e)
+  section_refused head place end bytes left next e came h is =
+      let n = head_long head in
+      subst (λ (v : Verdict State). Reads (behind go place v (place + n) (drop n bytes)) next place end bytes left (Err e)) (sym (section_judged set names state head.id head.name.items head.instance head.version n came))
+      (refuses (head_unit head) n place (place + n) end bytes (drop n bytes) left next (section_opened set staged.came.items head.name.items head.instance head.version) e h is)
+
+  -- the section of a head that opens one
+  pub section_reads : (head : Head) (k place : ℕ) (from end : Stand) (image new : Image) (tail : Tail) (now : Section) (final : State) (old left : Option (List ℕ)) (result : Result (Unit {0}) LoadFault)
+      → length staged.came.items ≡ length set.devices → k < length set.devices
+      → Ok k ≡ opened_at place (section_opened set staged.came.items head.name.items head.instance head.version) → image ≡ image_at set k head.version → tail ≡ staged.tail
+      → state_in (begun k) now new (Free false false) ≡ final
+      → ReadsOn (in_fields set names (begun k) (record { device = k; id = head.id; tail = tail }) None image) (λ _. after_part set names (begun k) now new None) from end old left result
+      → ReadsOn (behind go place (ask set names state (head_unit head) (head_long head))) (λ _. go final) from end old left result
+  section_reads head k place from end image new tail now final old left result came below h is same last r =
+      let n = head_long head in
+      let o = section_opened set staged.came.items head.name.items head.instance head.version in
+      let found = device_is set staged.came.items head.name.items head.instance head.version place k h in
+      let begins = section_judged set names state head.id head.name.items head.instance head.version n came ∙ opens (head_unit head) n place k o h
+      ∙ ap (λ (s : State). Goes n s) (opened_is head.id head.name.items head.instance head.version k image tail found below is same) in
+      subst (λ (v : Verdict State). ReadsOn (behind go place v) (λ _. go final) from end old left result) (sym begins)
+      (subst (λ (s : State). ReadsOn (in_fields set names (begun k) (record { device = k; id = head.id; tail = tail }) None image) (λ _. go s) from end old left result) last r)
+
+-- if the section has ended
+abbrev pub ended_in : Option (List ℕ) → List Image → List Bool → StreamTail → State
+ended_in machine images came tail = record { machine = machine; images = images; came = came; tail = tail; spot = Free false false }
+
+pub ends_later : (machine named : Option (List ℕ)) (images first : List Typed) (came now : List Bool) (k j : ℕ) (image new : Typed) (tail : StreamTail)
+    → named ≡ machine → images ≡ slice_set first k image → now ≡ slice_set came k true → j ≡ k
+    → ended_in machine (slice_set (map untyped first) j (untyped new)) (slice_set came k true) tail ≡ ended_in named (map untyped (slice_set images k new)) now tail
+ends_later machine named images first came now k j image new tail m i c same =
+    let twice : slice_set images k new ≡ slice_set first k new = ap (λ (l : List Typed). slice_set l k new) i ∙ set_twice first k image new in
+    let states : slice_set (map untyped first) k (untyped new) ≡ map untyped (slice_set images k new) = sym (map-set untyped first k new) ∙ ap (map untyped) (sym twice) in
+    ap (λ (n : ℕ). ended_in machine (slice_set (map untyped first) n (untyped new)) (slice_set came k true) tail) same
+    ∙ ap (λ (l : List Image). ended_in machine l (slice_set came k true) tail) states
+    ∙ ap (λ (l : List Bool). ended_in machine (map untyped (slice_set images k new)) l tail) (sym c)
+    ∙ ap (λ (o : Option (List ℕ)). ended_in o (map untyped (slice_set images k new)) now tail) (sym m)
+
+-- ---- What comes after the fields of a part, as the judge reads it.
+
+module _ (set : Set) (names : List (List ℕ)) (state : State) (section : Section) (part : Option ℕ) (image : Image) (here : section.device < length set.devices) (room : section.device < length state.images) where
+  abbrev onward : State → Onward
+  onward = reading_on (judge (by_state set names))
 
   abbrev done : ℕ
   done = all_passed set names state section part image
@@ -53,13 +131,13 @@ module _ (set : Set) (names : List (List ℕ)) (state : State) (section : Sectio
   abbrev inner : State
   inner = state_in state section image (Inside section.device section.id part done)
 
-  abbrev t : Tail
+  abbrev t : StreamTail
   t = tail_of section.tail
 
   there : slice_get set.devices section.device ≡ Some (device_at set section.device)
   there = slice_get-get_or set.devices section.device _ here
 
-  image_is : image_at inner ≡ image
+  image_is : open_image inner ≡ image
   image_is = ap or_none (at_set state.images section.device image room)
 
   -- no slot is left
@@ -67,7 +145,7 @@ module _ (set : Set) (names : List (List ℕ)) (state : State) (section : Sectio
   none_left =
       let all = part_slots set (Some (device_at set section.device)) image part in
       let enough : length all ≤ length all = omega arith in
-      ap (λ (o : Option Device). drop done (part_slots set o (image_at inner) part)) there
+      ap (λ (o : Option Device). drop done (part_slots set o (open_image inner) part)) there
       ∙ ap (λ (i : Image). drop done (part_slots set (Some (device_at set section.device)) i part)) image_is ∙ drop_all (length all) all enough
 
   due_is : due_by set inner (Inside section.device section.id part done) ≡ AfterFields section.device t
@@ -77,10 +155,9 @@ module _ (set : Set) (names : List (List ℕ)) (state : State) (section : Sectio
   held = ap rules_hold none_left
 
   after_is : (place : ℕ) (rest : List ℕ) → begins_next t rest ≡ false
-      → go inner place rest ≡ reading_after go place rest (judge_seen (Some section.device) (ask set names inner) rest (seen (AfterFields 0 t) (in_section section.id) rest))
+      → onward inner place rest ≡ reading_after onward place rest (judge_seen (Some section.device) (ask set names inner) rest (seen (AfterFields 0 t) (in_section section.id) rest))
   after_is place rest b =
-      unit_of set names inner place rest
-      ∙ ap (reading_after go place rest) (
+      unit_of set names inner place rest ∙ ap (reading_after onward place rest) (
       judged_holds set names inner rest held (ap (λ (d : Due). owes d rest) due_is) (ap (λ (d : Due). begins_section d rest) due_is ∙ b)
       ∙ ap (λ (d : Due). judge_seen (Some section.device) (ask set names inner) rest (seen d (known_at set inner) rest)) due_is
       ∙ ap (judge_seen (Some section.device) (ask set names inner) rest) (seen_holds t section.device (known_at set inner) (in_section section.id) rest refl)
@@ -90,10 +167,10 @@ module _ (set : Set) (names : List (List ℕ)) (state : State) (section : Sectio
   abbrev free : State
   free = record { machine = state.machine; images = slice_set state.images section.device image; came = state.came; tail = IsBare; spot = Free false false }
 
-  next_is : (place : ℕ) (rest : List ℕ) → begins_next t rest ≡ true → go inner place rest ≡ go free place rest
+  next_is : (place : ℕ) (rest : List ℕ) → begins_next t rest ≡ true → onward inner place rest ≡ onward free place rest
   next_is place rest b =
       unit_of set names inner place rest
-      ∙ ap (reading_after go place rest) (next_holds set names state.machine (slice_set state.images section.device image) state.came section.device section.id part done t rest due_is held b)
+      ∙ ap (reading_after onward place rest) (next_holds set names state.machine (slice_set state.images section.device image) state.came section.device section.id part done t rest due_is held b)
       ∙ sym (unit_of set names free place rest)
 
   pub after_fault : {Y : Type 0} (from to : Stand) (old left : Option (List ℕ)) (next : Y → Onward) (fault : FrameFault) → from.held ≡ None
@@ -102,10 +179,10 @@ module _ (set : Set) (names : List (List ℕ)) (state : State) (section : Sectio
   after_fault from to None left next fault before a = tt
   after_fault from to (Some rest) left next frames.ReadFault before a = tt
   after_fault from to (Some rest) left next (frames.Refused place reason) before a =
-      let P : List ℕ → Type 0 = λ l. Reads (go inner from.at l) next from.at to l left (Err (faults.Refused (record { section = Some section.device; at = place; reason = reason }))) in
+      let P : List ℕ → Type 0 = λ l. Reads (onward inner from.at l) next from.at to l left (Err (faults.Refused (record { section = Some section.device; at = place; reason = reason }))) in
       subst P (sym (ap (λ (o : Option ℕ). ahead o rest) before))
       (subst (λ (x : Option (Reading State)). Reads x next from.at to rest left (Err (faults.Refused (record { section = Some section.device; at = place; reason = reason })))) (sym (after_is from.at rest a.0))
-      (unit_fails go (Some section.device) (ask set names inner) from.at rest (seen (AfterFields 0 t) (in_section section.id) rest) left next to place reason a.1 a.2))
+      (unit_fails onward (Some section.device) (ask set names inner) from.at rest (seen (AfterFields 0 t) (in_section section.id) rest) left next to place reason a.1 a.2))
 
   -- a unit after the fields that is judged
   pub after_settled : (from to : Stand) (old left : Option (List ℕ)) (x : Piece) (n : ℕ) (now : Section) (new : Image) (result : Result (Option Open) LoadFault) → from.held ≡ None → to.held ≡ None
@@ -114,10 +191,10 @@ module _ (set : Set) (names : List (List ℕ)) (state : State) (section : Sectio
       → ReadsOn (after_fields set names state section part image) (after_part set names state now new) from to old left result
   after_settled from to None left x n now new result before free' a far h = tt
   after_settled from to (Some rest) left x n now new result before free' a far h =
-      let P : List ℕ → Type 0 = λ l. Reads (go inner from.at l) (after_part set names state now new) from.at to l left result in
+      let P : List ℕ → Type 0 = λ l. Reads (onward inner from.at l) (after_part set names state now new) from.at to l left result in
       subst P (sym (ap (λ (o : Option ℕ). ahead o rest) before))
       (subst (λ (r : Option (Reading State)). Reads r (after_part set names state now new) from.at to rest left result) (sym (after_is from.at rest a.0))
-      (unit_settled go (Some section.device) (ask set names inner) from.at rest (seen (AfterFields 0 t) (in_section section.id) rest) x n left to
+      (unit_settled onward (Some section.device) (ask set names inner) from.at rest (seen (AfterFields 0 t) (in_section section.id) rest) x n left to
       (λ next. state_in state now new (spot_in now next)) result (a.1, a.2) far free' h))
 
   -- the section ends at the next unit, whose first byte is held
@@ -127,7 +204,7 @@ module _ (set : Set) (names : List (List ℕ)) (state : State) (section : Sectio
   after_next from to None left before far a = tt
   after_next from to (Some []) left before far a = cc
   after_next from to (Some (b ∷ more)) left before far a =
-      let P : Option (List ℕ) → Option ℕ → Option ℕ → ℕ → Type 0 = λ l o h p. Reads {X = Option Open} (go inner from.at (ahead o (b ∷ more))) (after_part set names state (record section { tail = tails.Bare }) image) from.at (record { at = p; held = h }) (ahead o (b ∷ more)) l (Ok None) in
+      let P : Option (List ℕ) → Option ℕ → Option ℕ → ℕ → Type 0 = λ l o h p. Reads {X = Option Open} (onward inner from.at (ahead o (b ∷ more))) (after_part set names state (record section { tail = tails.Bare }) image) from.at (record { at = p; held = h }) (ahead o (b ∷ more)) l (Ok None) in
       let zero' : 0 ≡ from.at - from.at = omega arith in
       subst (λ (p : ℕ). P left from.held to.held p) (sym far)
       (subst (λ (h : Option ℕ). P left from.held h from.at) (sym a.1)
@@ -159,8 +236,7 @@ module _ (set : Set) (names : List (List ℕ)) (state : State) (section : Sectio
         let found : position (λ (s : Sub). bytes_eq s.desc.name name) 0 (subs_of (slice_get set.devices section.device)) ≡ Some j =
         ap (λ (o : Option Device). position (λ (s : Sub). bytes_eq s.desc.name name) 0 (subs_of o)) there ∙ e in
         let put : Image → Option ℕ → List Image = λ i o. slice_set (slice_set state.images section.device image) section.device (record i { came = put_version i.came o v }) in
-        ap (λ (o : Option ℕ). into (put (image_at inner) o) o) found
-        ∙ ap (λ (i : Image). into (put i (Some j)) (Some j)) image_is
+        ap (λ (o : Option ℕ). into (put (open_image inner) o) o) found ∙ ap (λ (i : Image). into (put i (Some j)) (Some j)) image_is
         ∙ ap (λ (l : List Image). into l (Some j)) (set_twice state.images section.device image (marked j))
 
     sub_ok : (o : Result ℕ Unfit) (j : ℕ) → find_sub 0 (device_at set section.device).subs name ≡ Some j → Ok j ≡ opened_at place o

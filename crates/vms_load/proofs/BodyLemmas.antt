@@ -1,22 +1,14 @@
--- Readings of fields that go on.
-use Rattle.std.proofs.Common.{◌≡◌, ℕ, ◌+◌, ◌≤◌, List, [], length, take, drop, slice_set, Option, Some, Result, Ok, Err, OnOk, ℤ, refl, sym, ap, ◌∙◌, subst, arith, Bool, true, false, not, ◌&&◌, nat_lt}
-use Rattle.std.proofs.lemmas.List.{drop_all}
-use Rattle.vms_kinds.specs.declared.Kind.{Kind}
-use Rattle.vms_kinds.specs.Codes.{width, value_of}
-use Rattle.vms_spec.specs.declared.Reason.{Reason}
+-- Readings of the fields of a part that go on: numbers, constants and rules.
+use Rattle.vms_load.proofs.Facade.{◌≡◌, ℕ, ◌+◌, ◌≤◌, List, [], length, take, drop, slice_set, Option, Some, Result, Ok, Err, OnOk, ℤ, refl, sym, ap, ◌∙◌, subst}
+use Rattle.vms_load.proofs.Facade.{arith, Bool, true, false, not, ◌&&◌, nat_lt, ◌<◌, ◌^◌, IfErr, drop_all, Kind, width, value_of, Reason, same_number, exceeds}
+use Rattle.vms_load.proofs.Facade.{is_truth, is_above, Slot, Rule, Taken, Progress, take_slot, Piece, raw, Seen, Good, Bad, Short, seen, nothing_known, put}
+use Rattle.vms_load.proofs.Facade.{taken_by, IsUnit, by_tests, tested, slot_seen, AnswersSeen, Fails, ReadsNumber, ReadsFiller, FrameFault, TakesAs}
+use Rattle.vms_load.proofs.Facade.{ReadsCapped, ReadsConstant, TakesOn, progress, same_number_is, Intake, takes_none, reads_as, reads_last, ReadsAs}
+use Rattle.vms_spec.specs.Layout.{Number as NumberSlot, Constant as ConstantSlot, Filler as FillerSlot}
+use Rattle.vms_spec.specs.Units.{Number, Constant, Filler}
+use Rattle.vms_stream.specs.Dues.{Field}
 use Rattle.vms_spec.specs.declared.Reason.TheVariants as reasons
-use Rattle.vms_spec.specs.Numbers.{same_number, exceeds, is_truth, is_above}
-use Rattle.vms_spec.specs.Layout.{Slot, Number as NumberSlot, Constant as ConstantSlot, Filler as FillerSlot}
-use Rattle.vms_spec.specs.Taking.{Taken, Progress, take_slot}
-use Rattle.vms_spec.specs.Units.{Piece, Number, Constant, Filler}
-use Rattle.vms_stream.specs.Dues.{raw, Field}
-use Rattle.vms_stream.specs.Seen.{Seen, Good, Bad, Short, seen}
-use Rattle.vms_stream.specs.Taking.{nothing_known, put, taken_by}
-use Rattle.vms_stream.proofs.Bodies.Body.{IsUnit, by_tests, tested, slot_seen}
-use Rattle.vms_frames.specs.Calls.{AnswersSeen, Fails, ReadsNumber, ReadsFiller}
-use Rattle.vms_frames.specs.declared.fault.FrameFault.{FrameFault}
 use Rattle.vms_frames.specs.declared.fault.FrameFault.TheVariants as faults
-use Rattle.vms_load.specs.Bodies.{TakesAs, ReadsCapped, ReadsConstant}
 
 -- ---- what else a slot requires
 
@@ -177,3 +169,58 @@ module _ (rest : List ℕ) (new : Option (List ℕ)) (at to : ℕ) (numbers : Li
 
   pub filler_taken : (n : ℕ) (result : Result (Unit {0}) FrameFault) → OnOk result (to ≡ at + n) → ReadsFiller n at (Some rest) new result → TakesAs (take_slot (FillerSlot n) from) numbers to new result
   filler_taken n result far a = plain (FillerSlot n) (Filler (take n rest)) n result tt far refl a
+
+-- ---- What is read of a number that is capped, of a constant, and of a rule.
+
+pub are_others : (x y : ℤ) → (x ≡ y → ⊥) → same_number x y ≡ false
+are_others x y other = by (same_number x y) refl
+  where
+    by : (b : Bool) → same_number x y ≡ b → same_number x y ≡ false
+    by true e = absurd (other (same_number_is x y e))
+    by false e = e
+
+module _ (a b : Intake) (kind : Kind) (at : ℕ) where
+  abbrev Plain : Result ℤ FrameFault → Type 0
+  Plain r = ReadsAs a b (λ _. width kind) (width kind) (ReadsNumber kind at) r
+
+  abbrev Capped : List ℕ → Result ℤ FrameFault → Type 0
+  Capped caps r = ReadsAs a b (λ _. width kind) (width kind) (ReadsCapped kind caps at) r
+
+  abbrev Fixed : ℤ → Result (Unit {0}) FrameFault → Type 0
+  Fixed y r = ReadsAs a b (λ _. width kind) (width kind) (ReadsConstant kind y at) r
+
+module _ {a b : Intake} (kind : Kind) (at : ℕ) where
+  pub reads_capped : (caps : List ℕ) (v : ℤ) → exceeds caps v ≡ false → Plain a b kind at (Ok v) → Capped a b kind at caps (Ok v)
+  reads_capped caps v few p = reads_as (λ n l. l) (λ rest left h. capped_ok kind at (Some left) caps rest v h few) p
+
+  -- a number that is above a capacity
+  pub reads_large : (caps : List ℕ) (v : ℤ) (place : ℕ) → place ≡ at → exceeds caps v ≡ true → Plain a b kind at (Ok v) → Capped a b kind at caps (Err (faults.Refused place reasons.CountTooLarge))
+  reads_large caps v place here large p =
+      subst (λ (k : ℕ). Capped a b kind at caps (Err (faults.Refused k reasons.CountTooLarge))) (sym here)
+      (reads_last (reads_as (λ n l. omega (arith, l)) (λ rest left h. capped_large kind at (Some left) caps rest v h large) p))
+
+  pub reads_no_number : (caps : List ℕ) (e : FrameFault) → Plain a b kind at (Err e) → Capped a b kind at caps (Err e)
+  reads_no_number caps e p = reads_as (λ n l. l) (λ rest left h. capped_err kind at (Some left) caps rest e h) p
+
+  pub reads_constant : (y v : ℤ) → same_number v y ≡ true → v ≡ y → Plain a b kind at (Ok v) → Fixed a b kind at y (Ok tt)
+  reads_constant y v same is p = reads_as (λ n l. l) (λ rest left h. constant_ok kind at (Some left) y rest v h same is) p
+
+  -- another number
+  pub reads_other : (y v : ℤ) (place : ℕ) → place ≡ at → same_number v y ≡ false → Plain a b kind at (Ok v) → Fixed a b kind at y (Err (faults.Refused place reasons.NotEqual))
+  reads_other y v place here other p =
+      subst (λ (k : ℕ). Fixed a b kind at y (Err (faults.Refused k reasons.NotEqual))) (sym here)
+      (reads_last (reads_as (λ n l. omega (arith, l)) (λ rest left h. constant_other kind at (Some left) y rest v h other) p))
+
+  pub reads_no_constant : (y : ℤ) (e : FrameFault) → Plain a b kind at (Err e) → Fixed a b kind at y (Err e)
+  reads_no_constant y e p = reads_as (λ n l. l) (λ rest left h. constant_err kind at (Some left) y rest e h) p
+
+-- nothing is read for the validations of a description
+pub reads_rule : (a : Intake) (holds : Bool) (numbers : List ℤ) (at : ℕ) (result : Result (Unit {0}) FrameFault) → a.given < 2 ^ 64 → OnOk result (holds ≡ true)
+    → IfErr result (λ fault. (holds ≡ false) × (fault ≡ faults.Refused at reasons.Invalid)) → TakesOn a a 0 at at (λ rest. take_slot (Rule holds) (progress numbers at rest)) numbers result
+reads_rule a holds numbers at (Ok x) counted ok err =
+    subst (λ (b : Bool). TakesOn a a 0 at at (λ rest. take_slot (Rule b) (progress numbers at rest)) numbers (Ok x)) (sym ok)
+    (record { bytes = []; takes = takes_none a counted; long = (omega arith, omega arith); says = λ more f. (refl, refl, refl); cause = tt })
+reads_rule a holds numbers at (Err e) counted ok err =
+    subst (λ (b : Bool). TakesOn a a 0 at at (λ rest. take_slot (Rule b) (progress numbers at rest)) numbers (Err e)) (sym err.0)
+    (subst (λ (f : FrameFault). TakesOn a a 0 at at (λ rest. take_slot (Rule false) (progress numbers at rest)) numbers (Err f)) (sym err.1)
+    (record { bytes = []; takes = takes_none a counted; long = (omega arith, tt); says = λ more f. (refl, refl, refl); cause = tt }))

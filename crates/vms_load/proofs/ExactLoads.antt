@@ -1,24 +1,129 @@
--- The result of a load says exactly what the input is.
-use Rattle.std.proofs.Common.{ℕ, ◌+◌, ◌≤◌, List, length, drop, Option, Some, Ok, Err, ap, arith, length-append, length-drop}
-use Rattle.vms_io.proofs.ReadingLemmas.{reads_as}
-use Rattle.vms_frames.specs.declared.fault.Refusal.{Refusal}
-use Rattle.vms_spec.specs.Units.{Piece, spell, spelled}
-use Rattle.std.specs.Prelude.{Result}
-use Rattle.std.proofs.lemmas.Option.{same_Some}
-use Rattle.vms_spec.specs.declared.Reason.{Reason}
-use Rattle.vms_stream.specs.Faults.{Fault, Why, Fails, Cut, Wrong}
-use Rattle.vms_spec.specs.Images.{Image}
-use Rattle.vms_kinds.specs.Bytes.{IsBytes}
-use Rattle.vms_spec.specs.Sets.{Set}
-use Rattle.vms_stream.specs.Streams.{Takes}
-use Rattle.vms_spec.specs.WellFormed.{WellFormed}
-use Rattle.vms_spec.specs.Heads.{FitsHeads}
-use Rattle.vms_stream.proofs.Stated.{one_stream_holds, never_both_holds, one_fault_holds}
-use Rattle.vms_load.specs.Exact.{EndsAtUnit, GivesStream, IsRefusedAt, ExactLaw, UnitLaw}
-use Rattle.vms_load.specs.Loads.{Loads}
-use Rattle.vms_load.specs.Staging.{most_given, name_of}
-use Rattle.vms_load.specs.declared.fault.LoadFault.{LoadFault}
+-- What a load returns: images that are normal and valid, and exactly what the input is.
+use Rattle.vms_load.proofs.Facade.{◌≡◌, ℕ, Bool, true, false, List, [], ◌∷◌, slice_set, Option, Some, None, map, suc, zero, ◌==◌, refl, sym, ap, subst, ◌∙◌}
+use Rattle.vms_load.proofs.Facade.{◌+◌, ◌++◌, drop, Result, Ok, Err, IfSome, inl, inr, ◌≤◌, arith, length, length-append, length-drop, slice_get, eqb-true}
+use Rattle.vms_load.proofs.Facade.{eq-eqb, same_Some, Device, Set, Image, EachOnce, none_left, HasSection, SectionsSpell, Takes, at_other, IsKept, AreKept}
+use Rattle.vms_load.proofs.Facade.{IsBytes, WellFormed, Reading, Accepted, Refused, FitsHeads, reading, State, by_state, at_start, accepted_holds}
+use Rattle.vms_load.proofs.Facade.{one_stream_holds, never_both_holds, one_fault_holds, state_refuses, Refusal, Intake, Last, MayFollow, bytes_both, no_bytes}
+use Rattle.vms_load.proofs.Facade.{reads_as, reads_told, Loads, GoesThrough, LoadReads, ReadsAll, name_of, most_given, LoadFault, Staged, capped, Piece, spell}
+use Rattle.vms_load.proofs.Facade.{spelled, Reason, Fault, Why, Cut, Wrong, EndsAtUnit, GivesStream, IsRefusedAt, ExactLaw, UnitLaw}
+use Rattle.vms_image.specs.Typed.{state_of as untyped}
+use Rattle.vms_stream.specs.Faults.{Fails}
 use Rattle.vms_load.specs.declared.fault.LoadFault.TheVariants as faults
+
+none_came : (devices : List Device) (k : ℕ) (d : Device) → slice_get devices k ≡ Some d → slice_get (map (λ d. false) devices) k ≡ Some false
+none_came [] k d e = cc
+none_came (x ∷ devices) zero d e = refl
+none_came (x ∷ devices) (suc k) d e = none_came devices k d e
+
+section_is : (set : Set) (footed : Bool) (k : ℕ) (d : Device) (image : Image) (o : Option Device) (i : Option Image) (bytes : List ℕ) → o ≡ Some d → i ≡ Some image → HasSection set footed k o i bytes → IsKept set d image
+section_is set footed k d image (Some x) (Some y) bytes e f h =
+    let a : x ≡ d = cc in
+    let b : y ≡ image = cc in
+    subst (λ (d : Device). IsKept set d image) a (subst (λ (image : Image). IsKept set x image) b (record { normal = h.1.normal; valid = h.1.valid }))
+section_is set footed k d image (Some x) None bytes e f h = absurd h
+section_is set footed k d image None i bytes e f h = cc
+
+module _ (set : Set) (footed : Bool) (images : List Image) (k : ℕ) (d : Device) (image : Image) (there : slice_get set.devices k ≡ Some d) (here : slice_get images k ≡ Some image) where
+  -- a device that has not come yet comes in what follows
+  by_order : (order : List ℕ) (came : List Bool) (bytes : List ℕ) → EachOnce came order → SectionsSpell set footed images order bytes → slice_get came k ≡ Some false → IsKept set d image
+  by_order [] came bytes once spelled e = absurd (none_left came k once e)
+  by_order (j ∷ order) came bytes once spelled e = go (k == j) refl (λ f. by_order order (slice_set came j true) spelled.1 once.1 spelled.3 f)
+    where
+      go : (b : Bool) → (k == j) ≡ b → (slice_get (slice_set came j true) k ≡ Some false → IsKept set d image) → IsKept set d image
+      go true t h =
+          let same : k ≡ j = eqb-true k j t in
+          section_is set footed j d image (slice_get set.devices j) (slice_get images j) spelled.0 (ap (λ (n : ℕ). slice_get set.devices n) (sym same) ∙ there) (ap (λ (n : ℕ). slice_get images n) (sym same) ∙ here) spelled.2
+      go false t h =
+          let ne : k ≡ j → ⊥ = λ same. (let g = eq-eqb k j same in cc) in
+          h (at_other came j k true ne ∙ e)
+
+pub taken_kept : (set : Set) (names : List (List ℕ)) (input : List ℕ) (n : ℕ) (machine : Option (List ℕ)) (images : List Image) → Takes set names input n machine images → AreKept set images
+taken_kept set names input n machine images t = record {
+  one_each = t.stream.one_each;
+  each = λ k d image there here.
+      by_order set t.stream.footed images k d image there here t.stream.order (map (λ d. false) set.devices) t.stream.sections t.stream.each_once t.stream.spelled (none_came set.devices k d there);
+}
+
+-- ---- What a load returns, by what the judge reads.
+
+module _ (set : Set) (names : List (List ℕ)) (well : WellFormed set) (heads : FitsHeads set) (staged : Staged) (input : List ℕ) (ok : IsBytes input) (left : Option (List ℕ)) where
+  taken_by : (taken : ℕ) (x : Option (Reading State)) → reading (by_state set names) (at_start set) input ≡ x → ReadsAll set x staged input left (Ok taken) → Loads set names input left (map untyped staged.images.items) taken (Ok staged.machine)
+  taken_by taken (Some (Accepted n end)) e h =
+      let takes : Takes set names input n end.machine end.images = accepted_holds set names well heads input n end ok e in (
+        subst (λ (m : ℕ). Takes set names input m (name_of set staged.machine) (map untyped staged.images.items)) h.0
+            (subst (λ (o : Option (List ℕ)). Takes set names input n o (map untyped staged.images.items)) h.1 (subst (λ (l : List Image). Takes set names input n end.machine l) h.2 takes)),
+        h.3,
+      )
+  taken_by taken (Some (Refused place section reason long)) e h = absurd h
+  taken_by taken None e h = absurd h
+
+  refused_by : (images : List Image) (taken : ℕ) (fault : LoadFault) (x : Option (Reading State)) → reading (by_state set names) (at_start set) input ≡ x → ReadsAll set x staged input left (Err fault) → Loads set names input left images taken (Err fault)
+  refused_by images taken (faults.Refused r) (Some (Refused place section reason long)) e h = (
+    long,
+    (state_refuses set names).refused input r.at r.section r.reason long ok (e ∙ ap (λ (y : _). Some (Refused y.at y.section y.reason long)) (sym h.0)),
+    h.1 ∙ ap (λ (y : Refusal). Some (drop (y.at + long) input)) (sym h.0),
+  )
+  refused_by images taken (faults.Refused r) (Some (Accepted n end)) e h = absurd h
+  refused_by images taken (faults.Refused r) None e h = absurd h
+  refused_by images taken faults.ReadFault x e h = tt
+
+-- what may follow at the end are bytes
+last_bytes : (left : Option (List ℕ)) (more : List ℕ) → IfSome left IsBytes → MayFollow Last left more → IsBytes more
+last_bytes left more ok (inl none) = subst IsBytes (sym none) no_bytes
+last_bytes None more ok (inr is) = cc
+last_bytes (Some rest) more ok (inr is) = let same : rest ≡ more = cc in subst IsBytes same ok
+
+abbrev Through : Intake → Intake → Set → List (List ℕ) → Staged → Result ℕ LoadFault → Type 0
+Through a b set names staged result = GoesThrough a b set (reading (by_state set names) (at_start set)) staged result
+
+module _ {a b : Intake} (set : Set) (names : List (List ℕ)) (well : WellFormed set) (heads : FitsHeads set) (staged : Staged) (ok : IfSome b.left IsBytes) where
+  -- a stream that is read to its end is one of the set
+  pub loads_taken : (taken : ℕ) → Through a b set names staged (Ok taken) → LoadReads a b set names (map untyped staged.images.items) taken (Ok staged.machine)
+  loads_taken taken h = record {
+    bytes = h.bytes;
+    takes = h.takes;
+    long = h.long;
+    says = λ more f. taken_by set names well heads staged (h.bytes ++ more) (bytes_both h.bytes more h.takes.octets (last_bytes b.left more ok f)) (Some more) taken
+        (reading (by_state set names) (at_start set) (h.bytes ++ more)) refl (h.says more f);
+    cause = tt;
+  }
+
+  -- one that is refused has a fault
+  pub loads_refused : (images : List Image) (taken : ℕ) (fault : LoadFault) → Through a b set names staged (Err fault) → LoadReads a b set names images taken (Err fault)
+  loads_refused images taken (faults.Refused r) h = record {
+    bytes = h.bytes;
+    takes = h.takes;
+    long = h.long;
+    says = λ more f. refused_by set names well heads staged (h.bytes ++ more) (bytes_both h.bytes more h.takes.octets (last_bytes b.left more ok f)) (Some more) images taken (faults.Refused r)
+        (reading (by_state set names) (at_start set) (h.bytes ++ more)) refl (h.says more f);
+    cause = tt;
+  }
+  loads_refused images taken faults.ReadFault h = reads_as (λ n l. l) (λ rest left p. tt) h
+
+-- the images that a load gives are normal and valid
+pub loads_kept : {a b : Intake} (set : Set) (names : List (List ℕ)) (images : List Image) (taken : ℕ) (machine : Option ℕ) → LoadReads a b set names images taken (Ok machine) → AreKept set images
+loads_kept set names images taken machine h = taken_kept set names _ taken _ images (h.says [] (inl refl)).0
+
+-- ---- What a load says about the known input, and how many bytes it takes.
+
+module _ (set : Set) (names : List (List ℕ)) (images : List Image) (taken : ℕ) {a b : Intake} where
+  pub content : (r : Result (Option ℕ) LoadFault) → LoadReads a b set names images taken r → IfSome a.left (λ input. Loads set names input b.left images taken r)
+  content (Ok machine) p = reads_told (λ input left. Loads set names input left images taken (Ok machine)) tt p
+  content (Err (faults.Refused e)) p = reads_told (λ input left. Loads set names input left images taken (Err (faults.Refused e))) tt p
+  content (Err faults.ReadFault) p = none a.left
+    where
+      none : (old : Option (List ℕ)) → IfSome old (λ input. Unit {0})
+      none None = tt
+      none (Some input) = tt
+
+  pub given : (machine : Option ℕ) → LoadReads a b set names images taken (Ok machine) → b.given ≡ capped (a.given + taken)
+  given machine p = omega (arith, p.takes.given, p.long.0)
+
+  pub within : (r : Result (Option ℕ) LoadFault) → LoadReads a b set names images taken r → b.given ≤ a.given + most_given set
+  within (Ok machine) p = omega (arith, p.takes.given, p.long.0, p.long.1)
+  within (Err fault) p = omega (arith, p.takes.given, p.long)
+
+-- ---- The result of a load says exactly what the input is.
 
 module _ (set : Set) (names : List (List ℕ)) (well : WellFormed set) (heads : FitsHeads set) (input : List ℕ) (ok : IsBytes input) (left : Option (List ℕ)) (images : List Image) (taken : ℕ) where
   gives : (result : Result (Option ℕ) LoadFault) → Loads set names input left images taken result → (n : ℕ) (machine : Option (List ℕ)) (others : List Image)

@@ -1,23 +1,16 @@
 -- What heads open, as the judge has it.
-use Rattle.std.proofs.Common.{◌≡◌, ℕ, suc, ◌-◌, ◌<◌, ◌≤◌, List, ◌∷◌, length, get_or, Option, Some, None, Bool, true, false, if◌then◌else◌, Ok, refl, sym, ap, ◌∙◌, arith}
-use Rattle.std.specs.List.{slice_get}
-use Rattle.std.proofs.lemmas.Option.{slice_get-get_or}
-use Rattle.vms_spec.specs.declared.Reason.{Reason}
+use Rattle.vms_load.proofs.Facade.{◌≡◌, ℕ, ◌<◌, List, length, get_or, Option, Some, None, Bool, true, false, if◌then◌else◌, Ok, refl, sym, ap, ◌∙◌, arith}
+use Rattle.vms_load.proofs.Facade.{Result, Err, not, nat_lt, slice_get, slice_get-get_or, slice_get_within, bytes_eq, Reason, position, at_option, Device, Sub}
+use Rattle.vms_load.proofs.Facade.{Set, find_device, find_sub, index, did_come, found_inside, device_at, sub_at, section_opened, device_opened, opened_unless}
+use Rattle.vms_load.proofs.Facade.{reason_against, reason_against_sub, sub_opened, sub_opened_at, opened_at, unfit, Unfit, Piece, SubHead, device_named}
+use Rattle.vms_load.proofs.Facade.{subs_of, found_is, first_row, is_none, test_some, asking, Known, ask, by_row, State, open_at, known_at, after, by_state}
+use Rattle.vms_load.proofs.Facade.{Verdict, Goes, Faulty}
+use Rattle.vms_spec.specs.Units.{Head}
+use Rattle.vms_bodies.proofs.SubHeads.{sub_is as sub_found}
+use Rattle.vms_stream.specs.State.{image_at}
 use Rattle.vms_spec.specs.declared.Reason.TheVariants as reasons
-use Rattle.vms_spec.specs.Lists.{position}
-use Rattle.vms_spec.specs.Sets.{Device, Sub, Set}
-use Rattle.vms_spec.specs.Lookup.{find_device, find_sub, index}
-use Rattle.vms_spec.proofs.ListLaws.{found_inside}
-use Rattle.vms_parts.specs.Devices.{device_at}
-use Rattle.vms_desc.specs.Parts.{sub_at}
-use Rattle.vms_load.specs.Heads.{section_opened, device_opened, opened_unless, reason_against, reason_against_sub, sub_opened, sub_opened_at, opened_at, unfit}
 
 -- ---- what a search finds
-
-inside_by : {X : Type 0} (p : X → Bool) (i : ℕ) (x : X) (xs : List X) (k : ℕ) → (position p (suc i) xs ≡ Some k → (suc i ≤ k) × (k - suc i < length xs))
-    → (b : Bool) → (if b then Some i else position p (suc i) xs) ≡ Some k → (i ≤ k) × (k - i < length (x ∷ xs))
-inside_by p i x xs k h true e = let same : i ≡ k = cc in (omega (arith, same), omega (arith, same))
-inside_by p i x xs k h false e = let r = h e in (omega (arith, r.0, r.1), omega (arith, r.0, r.1))
 
 pub device_below : (devices : List Device) (name : List ℕ) (instance k : ℕ) → find_device 0 devices name instance ≡ Some k → k < length devices
 device_below devices name instance k e = let r = found_inside _ 0 devices k e in omega (arith, r.0, r.1)
@@ -77,3 +70,111 @@ sub_is k d came name v place j long e = by (find_sub 0 d.subs name) refl
     by : (found : Option ℕ) → find_sub 0 d.subs name ≡ found → find_sub 0 d.subs name ≡ Some j
     by None f = let h : Ok j ≡ opened_at place (unfit (Some k) reasons.UnknownSubsection) = e ∙ ap (opened_at place) (unknown_sub k d came name v f) in cc
     by (Some i) f = f ∙ ap (λ (n : ℕ). Some n) (sym (opens_it (Some k) i j place _ (e ∙ ap (opened_at place) (known_sub k d came name v i long f))))
+
+-- ---- What the loader opens by a head is what the rows say of the head.
+
+abbrev pub unfit_for : Result ℕ Unfit → Option (Option ℕ × Reason)
+unfit_for (Ok k) = None
+unfit_for (Err why) = Some (why.section, why.reason)
+
+-- the rows of a head, by the device that it names and whether this came
+abbrev head_rows : Option ℕ → Option Device → Option Bool → ℕ → Option (Option ℕ × Reason)
+head_rows o d came v =
+    if is_none o then Some (None, reasons.UnknownSection)
+    else if test_some (λ (b : Bool). b) came then Some (o, reasons.RepeatedSection)
+    else if test_some (λ (d : Device). nat_lt d.desc.version v) d then Some (o, reasons.TooNew)
+    else if test_some (λ (d : Device). nat_lt v d.desc.minimum) d then Some (o, reasons.TooOld)
+    else None
+
+known_head : (k : ℕ) (d : Device) (came : Bool) (v : ℕ) → head_rows (Some k) (Some d) (Some came) v ≡ unfit_for (device_opened v (Some k) (Some d) came)
+known_head k d true v = refl
+known_head k d false v = by (nat_lt d.desc.version v) (nat_lt v d.desc.minimum)
+  where
+    by : (a b : Bool) → (if a then Some (Some k, reasons.TooNew) else if b then Some (Some k, reasons.TooOld) else None)
+        ≡ unfit_for (opened_unless (Some k) k (if a then Some reasons.TooNew else if b then Some reasons.TooOld else None))
+    by true b = refl
+    by false true = refl
+    by false false = refl
+
+head_opened : (set : Set) (names : List (List ℕ)) (k : Known) (id : ℕ) (name : List ℕ) (instance v : ℕ) → length k.came ≡ length set.devices
+    → first_row (asking set names k (Head id name instance v)) ≡ unfit_for (section_opened set k.came name instance v)
+head_opened set names k id name instance v long = by (device_named set name instance) refl
+  where
+    by : (o : Option ℕ) → device_named set name instance ≡ o → head_rows o (at_option set.devices o) (at_option k.came o) v ≡ unfit_for (device_opened v o (slice_get set.devices (index o)) (get_or k.came (index o) false))
+    by None e = refl
+    by (Some j) e =
+        let f = found_is set.devices 0 name instance j e in
+        let i : f.i ≡ j = (let x = f.is in omega arith) in
+        let d : slice_get set.devices j ≡ Some f.device = ap (slice_get set.devices) (sym i) ∙ f.there in
+        let inside : j < length k.came = (let x = slice_get_within set.devices j f.device d in omega (arith, long)) in
+        ap (λ (o : Option Device). head_rows (Some j) o (slice_get k.came j) v) d ∙ ap (λ (o : Option Bool). head_rows (Some j) (Some f.device) o v) (slice_get-get_or k.came j false inside)
+        ∙ known_head j f.device (get_or k.came j false) v ∙ ap (λ (o : Option Device). unfit_for (device_opened v (Some j) o (get_or k.came j false))) (sym d)
+
+-- ---- subsections
+
+abbrev sub_rows : Option ℕ → Option ℕ → Option Sub → Option (Option ℕ) → ℕ → Option (Option ℕ × Reason)
+sub_rows section o s came v =
+    if test_some (λ (s : Sub). nat_lt s.desc.version v) s then Some (section, reasons.TooNew)
+    else if test_some (λ (s : Sub). nat_lt v s.desc.minimum) s then Some (section, reasons.TooOld)
+    else if is_none o then Some (section, reasons.UnknownSubsection)
+    else if test_some (λ (o : Option ℕ). not (is_none o)) came then Some (section, reasons.RepeatedSubsection)
+    else None
+
+known_rows : (k j : ℕ) (s : Sub) (came : Option ℕ) (v : ℕ) → sub_rows (Some k) (Some j) (Some s) (Some came) v ≡ unfit_for (sub_opened_at k v (Some j) (Some s) (Some came))
+known_rows k j s came v = by (nat_lt s.desc.version v) (nat_lt v s.desc.minimum) came
+  where
+    by : (a b : Bool) (came : Option ℕ)
+        → (if a then Some (Some k, reasons.TooNew) else if b then Some (Some k, reasons.TooOld) else if not (is_none came) then Some (Some k, reasons.RepeatedSubsection) else None)
+        ≡ unfit_for (opened_unless (Some k) j (if a then Some reasons.TooNew else if b then Some reasons.TooOld else if did_come came then Some reasons.RepeatedSubsection else None))
+    by true b came = refl
+    by false true came = refl
+    by false false None = refl
+    by false false (Some n) = refl
+
+sub_is_opened : (set : Set) (names : List (List ℕ)) (y : Known) (k : ℕ) (d : Device) (name : List ℕ) (v : ℕ) → y.section ≡ Some k → slice_get set.devices k ≡ Some d → length y.image.came ≡ length d.subs
+    → first_row (asking set names y (SubHead name v)) ≡ unfit_for (sub_opened k d y.image.came name v)
+sub_is_opened set names y k d name v section here long =
+    ap (λ (o : Option ℕ). of o (sub_by (at_option set.devices o)) (subs_of (at_option set.devices o))) section
+    ∙ ap (λ (o : Option Device). of (Some k) (sub_by o) (subs_of o)) here ∙ by (find_sub 0 d.subs name) refl
+  where
+    sub_by : Option Device → Option ℕ
+    sub_by o = position (λ (s : Sub). bytes_eq s.desc.name name) 0 (subs_of o)
+
+    of : Option ℕ → Option ℕ → List Sub → Option (Option ℕ × Reason)
+    of section o subs = sub_rows section o (at_option subs o) (at_option y.image.came o) v
+
+    by : (o : Option ℕ) → find_sub 0 d.subs name ≡ o → sub_rows (Some k) o (at_option d.subs o) (at_option y.image.came o) v ≡ unfit_for (sub_opened_at k v o (slice_get d.subs (index o)) (slice_get y.image.came (index o)))
+    by None e = refl
+    by (Some j) e =
+        let f = sub_found d.subs 0 name j e in
+        let i : f.i ≡ j = (let x = f.is in omega arith) in
+        let s : slice_get d.subs j ≡ Some f.sub = ap (slice_get d.subs) (sym i) ∙ f.there in
+        let inside : j < length y.image.came = (let x = slice_get_within d.subs j f.sub s in omega (arith, long)) in
+        let c = slice_get-get_or y.image.came j None inside in
+        ap (λ (o : Option Sub). sub_rows (Some k) (Some j) o (slice_get y.image.came j) v) s ∙ ap (λ (o : Option (Option ℕ)). sub_rows (Some k) (Some j) (Some f.sub) o v) c
+        ∙ known_rows k j f.sub (get_or y.image.came j None) v
+        ∙ ap (λ (o : Option Sub). unfit_for (sub_opened_at k v (Some j) o (Some (get_or y.image.came j None)))) (sym s) ∙ ap (λ (o : Option (Option ℕ)). unfit_for (sub_opened_at k v (Some j) (slice_get d.subs j) o)) (sym c)
+
+-- ---- the verdict
+
+module _ (set : Set) (names : List (List ℕ)) (s : State) (x : Piece) (n : ℕ) where
+  -- on a head that opens a device or a subsection, or none
+  abbrev pub verdict : Result ℕ Unfit → Verdict State
+  verdict (Ok k) = Goes n (after set s x)
+  verdict (Err why) = Faulty why.section why.reason n
+
+  by_unfit : (o : Result ℕ Unfit) → by_row (by_state set names) (unfit_for o) n (after set s x) ≡ verdict o
+  by_unfit (Ok k) = refl
+  by_unfit (Err why) = refl
+
+pub section_judged : (set : Set) (names : List (List ℕ)) (s : State) (id : ℕ) (name : List ℕ) (instance v n : ℕ) → length s.came ≡ length set.devices
+    → ask set names s (Head id name instance v) n ≡ verdict set names s (Head id name instance v) n (section_opened set s.came name instance v)
+section_judged set names s id name instance v n long =
+    ap (λ (o : Option (Option ℕ × Reason)). by_row (by_state set names) o n (after set s (Head id name instance v))) (head_opened set names (known_at set s) id name instance v long)
+    ∙ by_unfit set names s (Head id name instance v) n (section_opened set s.came name instance v)
+
+pub sub_judged : (set : Set) (names : List (List ℕ)) (s : State) (k : ℕ) (d : Device) (name : List ℕ) (v n : ℕ) → open_at s.spot ≡ Some k → slice_get set.devices k ≡ Some d → length (image_at s).came ≡ length d.subs
+    → ask set names s (SubHead name v) n ≡ verdict set names s (SubHead name v) n (sub_opened k d (image_at s).came name v)
+sub_judged set names s k d name v n section here long =
+    ap (λ (o : Option (Option ℕ × Reason)). by_row (by_state set names) o n (after set s (SubHead name v))) (sub_is_opened set names (known_at set s) k d name v section here long)
+    ∙ by_unfit set names s (SubHead name v) n (sub_opened k d (image_at s).came name v)

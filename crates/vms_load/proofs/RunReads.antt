@@ -1,27 +1,170 @@
--- What a run of numbers reads.
-use Rattle.std.proofs.Common.{◌≡◌, ℕ, ◌+◌, ◌*◌, ◌/◌, ◌<◌, ◌≤◌, List, [], ◌++◌, length, take, drop, Some, Ok, Err, refl, sym, ap, ◌∙◌, subst, arith, length-drop, zero, suc, ◌∷◌, None}
-use Rattle.std.specs.Io.KnownBytes.{IsAtEnd}
-use Rattle.std.proofs.Math.Nat.{div-le_of_le-mul, div-lt_iff_lt-mul, lt-div-mul-add, div-mul-le_self}
-use Rattle.std.proofs.lemmas.List.{append-nil, drop_all, length-take-le, take-append-drop, take-take}
-use Rattle.vms_io.specs.Told.{Intake}
-use Rattle.vms_io.specs.Reading.{Takes, Breaks}
-use Rattle.vms_io.proofs.ReadingLemmas.{nothing_follows}
-use Rattle.vms_kinds.specs.declared.Kind.{Kind}
+-- Steps that are taken or refused, and runs of numbers of one kind.
+use Rattle.vms_load.proofs.Facade.{◌≡◌, ℕ, List, [], ◌∷◌, Option, Some, Result, Ok, Err, OnOk, IfErr, ℤ, ap, arith, zero, suc, ◌+◌, ◌*◌, ◌<◌, ◌≤◌, ◌++◌, length}
+use Rattle.vms_load.proofs.Facade.{take, drop, slice_set, None, refl, ◌∙◌, length-append, length-drop, false, if◌then◌else◌, ◌/◌, sym, subst, le-ltb, lt-ltb}
+use Rattle.vms_load.proofs.Facade.{take-append-le, drop-append-le, drop_all, length-take-le, take-append-drop, take-take, IsAtEnd, div-le_of_le-mul}
+use Rattle.vms_load.proofs.Facade.{div-lt_iff_lt-mul, lt-div-mul-add, div-mul-le_self, Typed, Taken, ◌>>=◌, take_slot, Progress, refuse, on, reads_as}
+use Rattle.vms_load.proofs.Facade.{nothing_follows, FrameFault, WalkStep, TakesAs, TakesOn, progress, slot_of, take_steps, last_numbers, numbers_then}
+use Rattle.vms_load.proofs.Facade.{step_long, Told, from, Took, Failed, IsTaken, IsStopped, steps_long, take_append, last_taken, told, Kind, U8, U16, U32, U64}
+use Rattle.vms_load.proofs.Facade.{I8, I16, I32, I64, Timer, width, value_of, is_bad_bool, exceeds, values_of, put_from, run_of, keeps_same, keeps_more}
+use Rattle.vms_load.proofs.Facade.{keeps_put, run_split, Intake, Breaks, width_positive}
+use Rattle.std.proofs.Common.{Bool as Truth}
+use Rattle.vms_walk.specs.Inside.{Keeps}
+use Rattle.std.proofs.lemmas.List.{append-nil}
 use Rattle.vms_kinds.specs.declared.Kind.TheVariants.{Bool}
-use Rattle.vms_kinds.specs.Codes.{width}
-use Rattle.vms_bodies.proofs.Widths.{width_positive}
-use Rattle.vms_spec.specs.declared.Reason.TheVariants as reasons
-use Rattle.vms_spec.specs.Taking.{Taken}
-use Rattle.vms_spots.specs.Spots.{values_of, put_from}
-use Rattle.vms_image.specs.Typed.{Typed}
-use Rattle.vms_walk.specs.declared.step.WalkStep.{WalkStep}
 use Rattle.vms_walk.specs.declared.step.WalkStep.TheVariants.{Number}
-use Rattle.vms_walk.specs.Runs.{run_of}
-use Rattle.vms_walk.proofs.Kept.{keeps_same}
+use Rattle.vms_io.specs.Reading.{Takes}
 use Rattle.vms_frames.specs.declared.fault.FrameFault.TheVariants as faults
-use Rattle.vms_load.specs.Bodies.{TakesAs, progress}
-use Rattle.vms_load.specs.Reading.{Told, told, Took, Failed, IsStopped}
-use Rattle.vms_load.proofs.RunTaken.{run_long, run_keeps, values_long, run_taken, run_cut, cut_numbers}
+use Rattle.vms_spec.specs.declared.Reason.TheVariants as reasons
+
+pub on_ok : {X E P Q R : Type 0} (r : Result X E) → (P → Q → R) → OnOk r P → OnOk r Q → OnOk r R
+on_ok (Ok x) f p q = f p q
+on_ok (Err e) f p q = tt
+
+module _ (x : WalkStep) where
+  alone : (t : Taken) (n : List ℤ) (place : ℕ) (left : Option (List ℕ)) (r : Result (Unit {0}) FrameFault) → TakesAs t n place left r → TakesAs (t >>= take_steps []) n place left r
+  alone (Ok q) n place left r h = h
+  alone (Err e) n place left r h = h
+
+  same_then : (t : Taken) (numbers n : List ℤ) (place p : ℕ) (reason : _) (left : Option (List ℕ)) → TakesAs t n place left (Err (faults.Refused p reason)) → n ≡ numbers → n ≡ numbers_then t numbers (last_numbers [])
+  same_then (Ok q) numbers n place p reason left h e = absurd h
+  same_then (Err r) numbers n place p reason left h e = e
+
+  module _ (a b : Told) where
+    abbrev OneReads : Result (Unit {0}) FrameFault → Type 0
+    OneReads r = TakesOn a.source b.source (step_long x) a.place b.place (λ rest. take_slot (slot_of x) (from a rest)) b.image.numbers r
+
+    one_taken : (r : Result (Unit {0}) FrameFault) (rest left : List ℕ) → TakesAs (take_slot (slot_of x) (from a rest)) b.image.numbers b.place (Some left) r → IsTaken (x ∷ []) a b r rest left
+    one_taken r rest left h = alone (take_slot (slot_of x) (from a rest)) b.image.numbers b.place (Some left) r h
+
+    one_stopped : (fault : FrameFault) (rest left : List ℕ) → b.image.numbers ≡ a.image.numbers → TakesAs (take_slot (slot_of x) (from a rest)) b.image.numbers b.place (Some left) (Err fault) → IsStopped (x ∷ []) a fault b rest left
+    one_stopped (faults.Refused at reason) rest left e h =
+        (one_taken (Err (faults.Refused at reason)) rest left h, same_then (take_slot (slot_of x) (from a rest)) a.image.numbers b.image.numbers b.place at reason (Some left) h e)
+    one_stopped faults.ReadFault rest left e h = (one_taken (Err faults.ReadFault) rest left h, tt)
+
+    pub step_ok : (r : Result (Unit {0}) FrameFault) → OneReads r → b.image ≡ record a.image { numbers = b.image.numbers } → Keeps (x ∷ []) a.image.numbers b.image.numbers → OnOk r (Took (x ∷ []) a b)
+    step_ok (Ok y) reads kept keeps = record {
+      reads = reads_as (λ n p. (omega (arith, p.0), p.1)) (λ rest left h. one_taken (Ok tt) rest left h) reads;
+      kept = kept;
+      keeps = keeps;
+    }
+    step_ok (Err e) reads kept keeps = tt
+
+    pub step_err : (r : Result (Unit {0}) FrameFault) → OneReads r → b.image ≡ record a.image { numbers = b.image.numbers } → Keeps (x ∷ []) a.image.numbers b.image.numbers → IfErr r (λ e. b.image ≡ a.image)
+        → IfErr r (λ e. Failed (x ∷ []) a e b)
+    step_err (Ok y) reads kept keeps same = tt
+    step_err (Err e) reads kept keeps same = record {
+      reads = reads_as (λ n p. (omega (arith, p.0), tt)) (λ rest left h. one_stopped e rest left (ap (λ (i : Typed). i.numbers) same) h) reads;
+      kept = kept;
+      keeps = keeps;
+    }
+
+-- ---- What the steps at numbers of one kind, whose cells follow one another, take of their codes: all of them, or those before the
+-- one that is cut.
+
+any_good : (kind : Kind) (bytes : List ℕ) → (kind ≡ Bool → ⊥) → is_bad_bool kind bytes ≡ false
+any_good U8 bytes any = refl
+any_good U16 bytes any = refl
+any_good U32 bytes any = refl
+any_good U64 bytes any = refl
+any_good I8 bytes any = refl
+any_good I16 bytes any = refl
+any_good I32 bytes any = refl
+any_good I64 bytes any = refl
+any_good Bool bytes any = absurd (any refl)
+any_good Timer bytes any = refl
+
+pub values_long : (kind : Kind) (count : ℕ) (bytes : List ℕ) → length (values_of kind count bytes) ≡ count
+values_long kind zero bytes = refl
+values_long kind (suc count) bytes = ap (λ (n : ℕ). suc n) (values_long kind count (drop (width kind) bytes))
+
+pub run_long : (kind : Kind) (first count : ℕ) → steps_long (run_of first count kind) ≡ count * width kind
+run_long kind first zero = omega arith
+run_long kind first (suc count) =
+    let more : suc count * width kind ≡ width kind + count * width kind = grind arith in
+    omega (arith, more, run_long kind (first + 1) count)
+
+-- the first few cells get numbers
+pub run_keeps : (kind : Kind) (count first : ℕ) (numbers zs : List ℤ) → length zs ≤ count → Keeps (run_of first count kind) numbers (put_from numbers first zs)
+run_keeps kind count first numbers [] le = keeps_same (run_of first count kind) numbers numbers refl
+run_keeps kind zero first numbers (z ∷ zs) le = absurd (omega (arith, le))
+run_keeps kind (suc count) first numbers (z ∷ zs) le =
+    keeps_more (Number first kind None ∷ []) (run_of (first + 1) count kind) numbers (slice_set numbers first z) (put_from (slice_set numbers first z) (first + 1) zs)
+    (keeps_put first kind None numbers z) (run_keeps kind count (first + 1) (slice_set numbers first z) zs (omega (arith, le)))
+
+module _ (kind : Kind) (any : kind ≡ Bool → ⊥) where
+  abbrev w : ℕ
+  w = width kind
+
+  -- ---- one number
+
+  number_whole : (cell place : ℕ) (numbers : List ℤ) (rest : List ℕ) → width kind ≤ length rest
+      → take_slot (slot_of (Number cell kind None)) (progress numbers place rest) ≡ Ok (progress (slice_set numbers cell (value_of kind (take (width kind) rest))) (place + width kind) (drop (width kind) rest))
+  number_whole cell place numbers rest le =
+      let p = progress numbers place rest in
+      let v = value_of kind (take w rest) in
+      let done = on w (slice_set numbers cell v) p in
+      ap (λ (b : Truth). if b then refuse p reasons.Truncated (length rest) else (if is_bad_bool kind (take w rest) then refuse p reasons.BadBool w else (if exceeds [] v then refuse p reasons.CountTooLarge w else done))) (le-ltb (length rest) w le)
+      ∙ ap (λ (b : Truth). if b then refuse p reasons.BadBool w else (if exceeds [] v then refuse p reasons.CountTooLarge w else done)) (any_good kind (take w rest) any)
+
+  number_cut : (cell place : ℕ) (numbers : List ℤ) (rest : List ℕ) → length rest < width kind
+      → take_slot (slot_of (Number cell kind None)) (progress numbers place rest) ≡ refuse (progress numbers place rest) reasons.Truncated (length rest)
+  number_cut cell place numbers rest lt =
+      let p = progress numbers place rest in
+      let v = value_of kind (take w rest) in
+      let done = on w (slice_set numbers cell v) p in
+      ap (λ (b : Truth). if b then refuse p reasons.Truncated (length rest) else (if is_bad_bool kind (take w rest) then refuse p reasons.BadBool w else (if exceeds [] v then refuse p reasons.CountTooLarge w else done))) (lt-ltb (length rest) w lt)
+
+  -- ---- all of them
+
+  pub run_taken : (count first place : ℕ) (numbers : List ℤ) (bytes more : List ℕ) → length bytes ≡ count * width kind
+      → take_steps (run_of first count kind) (progress numbers place (bytes ++ more)) ≡ Ok (progress (put_from numbers first (values_of kind count bytes)) (place + count * width kind) more)
+  run_taken zero first place numbers [] more long =
+      let e : place ≡ place + 0 * width kind = omega arith in
+      ap (λ (n : ℕ). let t : Taken = Ok (progress numbers n more) in t) e
+  run_taken zero first place numbers (x ∷ bytes) more long = absurd (omega (arith, long))
+  run_taken (suc count) first place numbers bytes more long =
+      let all : suc count * width kind ≡ width kind + count * width kind = grind arith in
+      let le : width kind ≤ length bytes = omega (arith, long, all) in
+      let v = value_of kind (take w bytes) in
+      let front : take w (bytes ++ more) ≡ take w bytes = take-append-le w bytes more le in
+      let behind : drop w (bytes ++ more) ≡ drop w bytes ++ more = drop-append-le w bytes more le in
+      let far : (place + w) + count * w ≡ place + suc count * w = omega (arith, all) in
+      let one = number_whole first place numbers (bytes ++ more) (omega (arith, le, length-append bytes more)) in
+      ap (λ (t : Taken). t >>= take_steps (run_of (first + 1) count kind)) one
+      ∙ ap (λ (l : List ℕ). take_steps (run_of (first + 1) count kind) (progress (slice_set numbers first (value_of kind l)) (place + w) (drop w (bytes ++ more)))) front
+      ∙ ap (λ (l : List ℕ). take_steps (run_of (first + 1) count kind) (progress (slice_set numbers first v) (place + w) l)) behind
+      ∙ run_taken count (first + 1) (place + w) (slice_set numbers first v) (drop w bytes) more (omega (arith, long, all, length-drop w bytes))
+      ∙ ap (λ (n : ℕ). let t : Taken = Ok (progress (put_from (slice_set numbers first v) (first + 1) (values_of kind count (drop w bytes))) n more) in t) far
+
+  -- ---- the input ends within them
+
+  module _ (count whole first place : ℕ) (numbers : List ℤ) (bytes last : List ℕ) (long : length bytes ≡ whole * width kind) (cut : length last < width kind) (lt : whole < count) where
+    abbrev behind : Progress
+    behind = progress (put_from numbers first (values_of kind whole bytes)) (place + whole * width kind) last
+
+    split_there : (rest : List WalkStep) × (run_of first count kind ≡ run_of first whole kind ++ (Number (first + whole) kind None ∷ rest))
+    split_there = run_split first count whole kind lt
+
+    done : take_steps (run_of first whole kind) (progress numbers place (bytes ++ last)) ≡ Ok behind
+    done = run_taken whole first place numbers bytes last long
+
+    at_cut : take_slot (slot_of (Number (first + whole) kind None)) behind ≡ refuse behind reasons.Truncated (length last)
+    at_cut = number_cut (first + whole) behind.place behind.numbers last cut
+
+    pub run_cut : take_steps (run_of first count kind) (progress numbers place (bytes ++ last)) ≡ refuse behind reasons.Truncated (length last)
+    run_cut =
+        ap (λ (l : List WalkStep). take_steps l (progress numbers place (bytes ++ last))) split_there.1
+        ∙ take_append (run_of first whole kind) (Number (first + whole) kind None ∷ split_there.0) (progress numbers place (bytes ++ last))
+        ∙ ap (λ (t : Taken). t >>= take_steps (Number (first + whole) kind None ∷ split_there.0)) done
+        ∙ ap (λ (t : Taken). t >>= take_steps split_there.0) at_cut
+
+    pub cut_numbers : last_numbers (run_of first count kind) (progress numbers place (bytes ++ last)) ≡ put_from numbers first (values_of kind whole bytes)
+    cut_numbers =
+        ap (λ (l : List WalkStep). last_numbers l (progress numbers place (bytes ++ last))) split_there.1
+        ∙ last_taken (run_of first whole kind) (Number (first + whole) kind None ∷ split_there.0) (progress numbers place (bytes ++ last)) behind done
+        ∙ ap (λ (t : Taken). numbers_then t behind.numbers (last_numbers split_there.0)) at_cut
+
+-- ---- What a run of numbers reads.
 
 -- the first of them
 pub run_first : (first count : ℕ) (kind : Kind) → 0 < count → (rest : List WalkStep) × (run_of first count kind ≡ Number first kind None ∷ rest)
@@ -96,14 +239,14 @@ module _ (old new : Intake) (image : Typed) (first count place : ℕ) (kind : Ki
 -- ---- how the bytes that came are parted
 
 module _ (kind : Kind) (count n : ℕ) (buf : List ℕ) (room : length buf ≡ count * width kind) (bound : n ≤ length buf) where
-  abbrev w : ℕ
-  w = width kind
+  abbrev wide : ℕ
+  wide = width kind
 
   below : n / width kind * width kind ≤ n
-  below = div-mul-le_self n w
+  below = div-mul-le_self n wide
 
   front_long : length (take (n / width kind * width kind) buf) ≡ n / width kind * width kind
-  front_long = length-take-le (n / w * w) buf (omega (arith, below, bound))
+  front_long = length-take-le (n / wide * wide) buf (omega (arith, below, bound))
 
   -- all of them are whole
   pub record AllCame : Type 0 where
@@ -113,11 +256,11 @@ module _ (kind : Kind) (count n : ℕ) (buf : List ℕ) (room : length buf ≡ c
 
   pub all_came : count ≤ n / width kind → AllCame
   all_came enough =
-      let swap : count * w ≡ w * count = grind arith in
-      let most : n / w ≤ count = div-le_of_le-mul w (omega (arith, bound, room, swap)) in
-      let whole : n / w ≡ count = omega (arith, most, enough) in
-      let all : n / w * w ≡ n = omega (arith, ap (λ (k : ℕ). k * w) whole, below, bound, room) in
-      record { whole = whole; all = all; long = length-take-le n buf bound ∙ sym all ∙ ap (λ (k : ℕ). k * w) whole }
+      let swap : count * wide ≡ wide * count = grind arith in
+      let most : n / wide ≤ count = div-le_of_le-mul wide (omega (arith, bound, room, swap)) in
+      let whole : n / wide ≡ count = omega (arith, most, enough) in
+      let all : n / wide * wide ≡ n = omega (arith, ap (λ (k : ℕ). k * wide) whole, below, bound, room) in
+      record { whole = whole; all = all; long = length-take-le n buf bound ∙ sym all ∙ ap (λ (k : ℕ). k * wide) whole }
 
   -- the rest is part of a code
   pub record PartCame : Type 0 where
@@ -129,13 +272,13 @@ module _ (kind : Kind) (count n : ℕ) (buf : List ℕ) (room : length buf ≡ c
 
   pub part_came : n / width kind < count → PartCame
   part_came lt =
-      let m = n / w * w in
+      let m = n / wide * wide in
       let parts : take m buf ++ drop m (take n buf) ≡ take n buf = ap (λ (l : List ℕ). l ++ drop m (take n buf)) (sym (take-take m n buf below)) ∙ take-append-drop m (take n buf) in
       let long : length (take n buf) ≡ n = length-take-le n buf bound in
       record {
         parts = parts;
         long = front_long;
-        cut = omega (arith, long, length-drop m (take n buf), lt-div-mul-add {a = n} {b = w} (width_positive kind), below);
+        cut = omega (arith, long, length-drop m (take n buf), lt-div-mul-add {a = n} {b = wide} (width_positive kind), below);
         fewer = omega (arith, ap length parts, long, bound, room);
-        short = omega (arith, room, (div-lt_iff_lt-mul {k = w} {x = n} {y = count} (width_positive kind)).0 lt);
+        short = omega (arith, room, (div-lt_iff_lt-mul {k = wide} {x = n} {y = count} (width_positive kind)).0 lt);
       }

@@ -1,35 +1,16 @@
--- What each description set has.
-use Rattle.std.proofs.Common.{◌≡◌, ℕ, ◌+◌, ◌<◌, ◌≤◌, List, [], ◌∷◌, ◌++◌, length, map, Option, Some, None, ℤ, refl, sym, ap, ◌∙◌, subst, arith, true, nat_le}
-use Rattle.vms_spec.specs.Sets.{Set, Sub, Desc, AtLeast}
-use Rattle.std.proofs.lemmas.Bool.{and_parts, leb-true}
-use Rattle.vms_spec.specs.Layout.{Slot, Number, Constant, Filler, Rule, Cell, no_cell, no_desc, desc_slots, device_cells}
-use Rattle.vms_spec.specs.Images.{own_cells, own_slots, sub_place, sub_slots}
-use Rattle.std.proofs.lemmas.List.{get_or-map}
-use Rattle.std.proofs.lemmas.Option.{slice_get-get_or}
-use Rattle.vms_kinds.specs.declared.Kind.{Kind}
-use Rattle.vms_kinds.specs.declared.Kind.TheVariants.{U8}
-use Rattle.vms_spec.specs.Places.{own_cell_count}
-use Rattle.vms_spec.specs.WellFormed.{first_fault, WellFormed, has_few, failing, here, struct_fault, device_fault, set_rules, size_rules}
-use Rattle.vms_spec.specs.declared.Part.{Part}
+-- What each description set has, and the most bytes of its streams.
+use Rattle.vms_load.proofs.Facade.{◌≡◌, ℕ, ◌+◌, ◌<◌, ◌≤◌, List, [], ◌∷◌, ◌++◌, length, map, Option, Some, None, ℤ, refl, sym, ap, ◌∙◌, subst, arith, true}
+use Rattle.vms_load.proofs.Facade.{nat_le, suc, get_or, Bool, ◌&&◌, zero, ◌*◌, ◌^◌, false, and_parts, leb-true, get_or-map, slice_get-get_or, slice_get_within}
+use Rattle.vms_load.proofs.Facade.{get_or_from_slice_get, slice_get, Set, Sub, Desc, AtLeast, Field, Device, Slot, Number, Constant, Filler, Rule, Cell}
+use Rattle.vms_load.proofs.Facade.{no_cell, no_desc, desc_slots, device_cells, first, capacity_of, own_cells, own_slots, sub_place, sub_slots, Kind, U8}
+use Rattle.vms_load.proofs.Facade.{own_cell_count, first_fault, WellFormed, has_few, here, item_count, items_in, struct_items, subs_items, devices_items, Part}
+use Rattle.vms_load.proofs.Facade.{AreCells, sub_are, own_are, device_parts, Clean, struct_clean, sub_clean, device_at, is_well_formed, first_cell, HasPart}
+use Rattle.vms_load.proofs.Facade.{desc_at, sub_at, kinds_at, few_cells, own_inside_device, sub_inside, none_is, few_items, few_devices, IsIn, part_of}
+use Rattle.vms_load.proofs.Facade.{part_desc, part_base, bytes_of, subs_due, HasSpot, table, spot_slots, steps_of, WalkStep, IsOfKind, AreOfKinds, PartAt}
+use Rattle.vms_load.proofs.Facade.{is_small_item, is_small_optional, Item, Num, Equal, Unused, Struct, MOST_UNUSED, first_long, width_small, item_bytes}
+use Rattle.vms_load.proofs.Facade.{fields_bytes, desc_bytes, struct_bytes, section_bytes, sections_due, subs_bytes, devices_most, FOOT_LENGTH, LONGEST_HEAD}
+use Rattle.vms_load.proofs.Facade.{LONGEST_SUB_HEAD}
 use Rattle.vms_spec.specs.declared.Part.TheVariants as parts
-use Rattle.vms_spec.specs.Lists.{or_else, first_answer}
-use Rattle.vms_bodies.specs.Cells.{AreCells}
-use Rattle.vms_bodies.proofs.PartLaws.{sub_are}
-use Rattle.vms_bodies.proofs.SectionLaws.{own_are}
-use Rattle.vms_spec.proofs.WellFormedLaws.{device_parts}
-use Rattle.vms_parts.specs.Devices.{device_at}
-use Rattle.vms_desc.specs.Formed.{is_well_formed}
-use Rattle.vms_desc.specs.Asks.{first_cell}
-use Rattle.vms_desc.specs.Parts.{HasPart, desc_at, sub_at}
-use Rattle.vms_desc.specs.Spots.{kinds_at}
-use Rattle.vms_desc.proofs.AskLaws.{few_cells, own_inside_device, sub_inside}
-use Rattle.vms_spec.proofs.Faultless.{AllTrue, all_true, or_else_none}
-use Rattle.vms_desc.proofs.Bounds.{none_is}
-use Rattle.vms_load.specs.Parts.{IsIn, part_of, part_desc, part_base}
-use Rattle.vms_walk.specs.Steps.{HasSpot, table, spot_slots, steps_of}
-use Rattle.vms_walk.specs.declared.step.WalkStep.{WalkStep}
-use Rattle.vms_load.specs.Bodies.{IsOfKind, AreOfKinds}
-use Rattle.vms_walk.specs.declared.fields.PartAt.{PartAt}
 
 pub well_of : (set : Set) → is_well_formed set ≡ true → WellFormed set
 well_of set h = none_is (first_fault set) h
@@ -114,10 +95,116 @@ few_subs set h k lt =
     let c = (device_parts set (well_of set h) k d (slice_get-get_or set.devices k _ lt)).0 in
     leb-true (length d.subs) 32 (and_parts (has_few d.desc) (nat_le (length d.subs) 32) c.own.1.1.1.1.1.1.0).1
 
-first_rules : (set : Set) → is_well_formed set ≡ true → AllTrue (set_rules set)
-unfolding first_fault
-first_rules set h =
-    let a = or_else_none (failing 1 (set_rules set) (here parts.Set))
-    (or_else (first_answer (struct_fault set.structs) 0 set.structs) (or_else (first_answer (device_fault set) 0 set.devices) (failing 1 (size_rules set) (here parts.Set))))
-    (well_of set h) in
-    all_true 1 (set_rules set) (here parts.Set) a.0
+-- ---- The items of a well-formed set have few unused bytes.
+
+abbrev pub AreSmall : List Field → Type 0
+AreSmall [] = Unit {0}
+AreSmall (f ∷ fs) = (is_small_item f.item ≡ true) × AreSmall fs
+
+are_small : (fs : List Field) → ((i : ℕ) (f : Field) → slice_get fs i ≡ Some f → is_small_item f.item ≡ true) → AreSmall fs
+are_small [] h = tt
+are_small (f ∷ fs) h = (h 0 f refl, are_small fs (λ i g e. h (suc i) g e))
+
+clean_small : (k : ℕ) (d : Desc) (rules : List Bool) → Clean k d rules → AreSmall d.fields
+clean_small k d rules c = are_small d.fields (λ i f e. (and_parts (nat_le (length f.former) 8 && is_small_optional f.test) (is_small_item f.item) (c.fields i f e).1.1.1.1.1.1.0).1)
+
+module _ (set : Set) (well : WellFormed set) where
+  pub struct_small : (j : ℕ) → j < length set.structs → AreSmall (get_or set.structs j no_desc).fields
+  struct_small j lt = clean_small j (get_or set.structs j no_desc) _ (struct_clean set well j (get_or set.structs j no_desc) (slice_get-get_or set.structs j no_desc lt))
+
+  pub part_small : (k : ℕ) (sub : Option ℕ) → k < length set.devices → IsIn (device_at set k) sub → AreSmall (part_desc (device_at set k) sub).fields
+  part_small k None lt h = clean_small (length set.structs) (device_at set k).desc _ (device_parts set well k (device_at set k) (slice_get-get_or set.devices k _ lt)).0
+  part_small k (Some j) lt h =
+      clean_small (length set.structs) (sub_at (device_at set k) j).desc _ (sub_clean set well k j (device_at set k) (sub_at (device_at set k) j) (slice_get-get_or set.devices k _ lt) (slice_get-get_or (device_at set k).subs j _ h))
+
+-- ---- no item has more than 4,096 bytes
+
+abbrev Small : List ℕ → List ℕ → Type 0
+Small bytes items = (j : ℕ) → get_or bytes j 0 ≤ MOST_UNUSED * get_or items j 0
+
+item_small : (bytes items : List ℕ) → Small bytes items → (item : Item) → is_small_item item ≡ true → item_bytes bytes item ≤ MOST_UNUSED * item_count items item
+item_small bytes items s (Num kind) h = omega (arith, width_small kind)
+item_small bytes items s (Equal kind z) h = omega (arith, width_small kind)
+item_small bytes items s (Unused n) h = omega (arith, leb-true n MOST_UNUSED (and_parts (nat_le 1 n) (nat_le n MOST_UNUSED) h).1)
+item_small bytes items s (Struct j) h = s j
+
+times_small : (n b i : ℕ) → b ≤ MOST_UNUSED * i → n * b ≤ MOST_UNUSED * (n * i)
+times_small zero b i h = omega arith
+times_small (suc n) b i h =
+    let e : suc n * b ≡ b + n * b = grind arith in
+    let f : suc n * i ≡ i + n * i = grind arith in
+    let g : n * b ≤ MOST_UNUSED * (n * i) = times_small n b i h in
+    omega (arith, e, f, g, h)
+
+fields_small : (bytes items : List ℕ) → Small bytes items → (fs : List Field) → AreSmall fs → fields_bytes bytes fs ≤ MOST_UNUSED * items_in items fs
+fields_small bytes items s [] h = omega arith
+fields_small bytes items s (f ∷ fs) h =
+    omega (arith, times_small (capacity_of f.count) (item_bytes bytes f.item) (item_count items f.item) (item_small bytes items s f.item h.0), fields_small bytes items s fs h.1)
+
+small_append : (bytes items : List ℕ) (b i : ℕ) → length bytes ≡ length items → Small bytes items → b ≤ MOST_UNUSED * i → Small (bytes ++ b ∷ []) (items ++ i ∷ [])
+small_append [] [] b i e s h zero = h
+small_append [] [] b i e s h (suc j) = omega arith
+small_append [] (y ∷ items) b i e s h j = absurd (omega arith)
+small_append (x ∷ bytes) [] b i e s h j = absurd (omega arith)
+small_append (x ∷ bytes) (y ∷ items) b i e s h zero = s zero
+small_append (x ∷ bytes) (y ∷ items) b i e s h (suc j) = small_append bytes items b i (omega arith) (λ n. s (suc n)) h j
+
+abbrev items_to : List Desc → ℕ → List ℕ
+items_to ds k = first (λ sizes d. items_in sizes d.fields) ds k
+
+same_long : (ds : List Desc) (k : ℕ) → length (struct_bytes ds k) ≡ length (items_to ds k)
+same_long ds k = first_long desc_bytes ds k ∙ sym (first_long (λ sizes d. items_in sizes d.fields) ds k)
+
+structs_small : (ds : List Desc) → ((j : ℕ) → j < length ds → AreSmall (get_or ds j no_desc).fields) → (k : ℕ) → k ≤ length ds → Small (struct_bytes ds k) (items_to ds k)
+unfolding first
+structs_small ds small zero le j = omega arith
+structs_small ds small (suc k) le j =
+    let s = structs_small ds small k (omega arith) in
+    let d = get_or ds k no_desc in
+    small_append (struct_bytes ds k) (items_to ds k) (desc_bytes (struct_bytes ds k) d) (items_in (items_to ds k) d.fields) (same_long ds k) s
+    (fields_small (struct_bytes ds k) (items_to ds k) s d.fields (small k (omega arith))) j
+
+-- ---- the parts of a set
+
+module _ (set : Set) (well : is_well_formed set ≡ true) where
+  desc_small : (d : Desc) → AreSmall d.fields → bytes_of set d ≤ MOST_UNUSED * items_in (struct_items set.structs) d.fields
+  desc_small d small = fields_small (struct_bytes set.structs (length set.structs)) (struct_items set.structs) (structs_small set.structs (struct_small set (well_of set well)) (length set.structs) (omega arith)) d.fields small
+
+  subs_small : (subs : List Sub) → ((j : ℕ) (s : Sub) → slice_get subs j ≡ Some s → AreSmall s.desc.fields) → subs_bytes set subs ≤ MOST_UNUSED * subs_items (struct_items set.structs) subs
+  subs_small [] h = omega arith
+  subs_small (s ∷ subs) h = omega (arith, desc_small s.desc (h 0 s refl), subs_small subs (λ j t e. h (suc j) t e))
+
+  devices_small : (devices : List Device) → ((k : ℕ) (d : Device) → slice_get devices k ≡ Some d → AreSmall d.desc.fields × (length d.subs ≤ 32) × ((j : ℕ) (s : Sub) → slice_get d.subs j ≡ Some s → AreSmall s.desc.fields))
+      → devices_most set devices ≤ (LONGEST_HEAD + FOOT_LENGTH + LONGEST_SUB_HEAD * 32) * length devices + MOST_UNUSED * devices_items (struct_items set.structs) devices
+  devices_small [] h = omega arith
+  devices_small (d ∷ devices) h =
+      let here = h 0 d refl in
+      omega (arith, here.1, desc_small d.desc here.0, subs_small d.subs here.2, devices_small devices (λ k e x. h (suc k) e x))
+
+  part_of_device : (k : ℕ) (d : Device) → slice_get set.devices k ≡ Some d → AreSmall d.desc.fields × (length d.subs ≤ 32) × ((j : ℕ) (s : Sub) → slice_get d.subs j ≡ Some s → AreSmall s.desc.fields)
+  part_of_device k d e =
+      let lt : k < length set.devices = slice_get_within set.devices k d e in
+      let same : device_at set k ≡ d = get_or_from_slice_get set.devices k d _ e in (
+        subst (λ (x : Device). AreSmall x.desc.fields) same (part_small set (well_of set well) k None lt tt),
+        subst (λ (x : Device). length x.subs ≤ 32) same (few_subs set well k lt),
+        λ j s f.
+            let g : slice_get (device_at set k).subs j ≡ Some s = ap (λ (x : Device). slice_get x.subs j) same ∙ f in
+            subst (λ (x : Sub). AreSmall x.desc.fields) (get_or_from_slice_get (device_at set k).subs j s _ g) (part_small set (well_of set well) k (Some j) lt (slice_get_within (device_at set k).subs j s g)),
+      )
+
+  -- this many bytes give no offset above 2 ^ 63
+  pub most_small : devices_most set set.devices ≤ 2 ^ 27
+  most_small = omega (arith, devices_small set.devices part_of_device, few_items set well, few_devices set well)
+
+-- ---- what is due at the start
+
+subs_all : (set : Set) (subs : List Sub) → subs_due set subs (map (λ s. None) subs) ≡ LONGEST_SUB_HEAD * length subs + subs_bytes set subs
+subs_all set [] = refl
+subs_all set (s ∷ subs) = omega (arith, subs_all set subs)
+
+section_is : (set : Set) (d : Device) → section_bytes set d ≡ LONGEST_HEAD + FOOT_LENGTH + LONGEST_SUB_HEAD * length d.subs + (bytes_of set d.desc + subs_bytes set d.subs)
+section_is set d = omega (arith, subs_all set d.subs)
+
+pub all_due : (set : Set) (devices : List Device) → sections_due set devices (map (λ d. false) devices) ≡ devices_most set devices
+all_due set [] = refl
+all_due set (d ∷ devices) = omega (arith, section_is set d, all_due set devices)

@@ -1,20 +1,11 @@
 -- What is read of a stream so far, device by device.
-use Rattle.std.proofs.Common.{◌≡◌, ℕ, zero, suc, ◌+◌, ◌<◌, ◌≤◌, List, [], ◌∷◌, ◌++◌, length, length-append, get_or, map, replicate, slice_set, Option, Some, None, Bool, true, false, nat_lt, if◌then◌else◌, Ok, refl, sym, ap, ◌∙◌, subst, arith}
-use Rattle.std.specs.List.{slice_get}
-use Rattle.std.proofs.lemmas.List.{length-map, length-set, ext_get_or, get_or-map, map-set, get_or_default}
-use Rattle.std.proofs.Math.ListN.{get_or-append}
-use Rattle.std.proofs.Math.Seq.{get_or-append_seam}
-use Rattle.std.proofs.lemmas.Option.{slice_get-get_or}
-use Rattle.vms_spec.specs.Sets.{Device, Set}
-use Rattle.vms_spec.specs.Images.{Image, default_image}
+use Rattle.vms_load.proofs.Facade.{◌≡◌, ℕ, zero, suc, ◌+◌, ◌<◌, ◌≤◌, List, [], ◌∷◌, length, get_or, map, replicate, slice_set, Option, Some, None, Bool, true}
+use Rattle.vms_load.proofs.Facade.{false, nat_lt, if◌then◌else◌, Ok, refl, sym, ap, ◌∙◌, subst, arith, slice_get, length-map, length-set, ext_get_or}
+use Rattle.vms_load.proofs.Facade.{get_or-map, slice_get-get_or, Device, Set, Image, default_image, find_device, Unknown, State, Before, at_start, device_at}
+use Rattle.vms_load.proofs.Facade.{unfit, opened_at, opened_unless, reason_against, section_opened, Typed, default_at, IsImageOf, AreImagesOf, AreShaped}
+use Rattle.vms_load.proofs.Facade.{begun_at, no_image, section_bytes, sections_due}
 use Rattle.vms_spec.specs.declared.Reason.TheVariants as reasons
-use Rattle.vms_spec.specs.Lookup.{find_device}
-use Rattle.vms_stream.specs.SoFar.{Unknown}
-use Rattle.vms_stream.specs.State.{State, Before, at_start}
-use Rattle.vms_parts.specs.Devices.{device_at}
-use Rattle.vms_load.specs.Heads.{unfit, opened_at, opened_unless, reason_against, section_opened}
-use Rattle.vms_image.specs.Typed.{Typed, state_of as untyped, default_at, IsImageOf, AreImagesOf}
-use Rattle.vms_load.specs.Staging.{AreShaped, begun_at, image_at, no_image, section_bytes, sections_due}
+use Rattle.vms_image.specs.Typed.{state_of as untyped}
 use Rattle.vms_load.proofs.HeadLemmas.{unknown, known, device_below}
 
 pub get_set : {X : Type 0} (xs : List X) (k : ℕ) (x d : X) → k < length xs → get_or (slice_set xs k x) k d ≡ x
@@ -47,11 +38,6 @@ shaped_put set images k image s lt here = record {
 
 pub default_shaped : (set : Set) (k v : ℕ) → IsImageOf set k (begun_at set k v)
 default_shaped set k v = record { subs = length-map (device_at set k).subs (λ s. None); cells = length-map _ (λ c. c.default); kinds = refl }
-
--- the image of a device
-pub shape_of : (set : Set) (images : List Typed) (k : ℕ) (image : Typed) → AreShaped set images → k < length set.devices → image ≡ get_or images k image → IsImageOf set k image
-shape_of set images k image s lt is =
-    subst (λ (x : Typed). IsImageOf set k x) (get_or_default images k no_image image (omega (arith, s.all, lt)) ∙ sym is) (s.each k lt)
 
 -- the image whose section has begun
 pub image_begun : (images first : List Typed) (k : ℕ) (image here : Typed) → here ≡ get_or images k here → images ≡ slice_set first k image → k < length first → here ≡ image
@@ -90,24 +76,6 @@ pub record Reset (set : Set) (images first : List Typed) (done : ℕ) : Type 0 w
   pub before : AreDefaults set images done
   pub after : (k : ℕ) → done ≤ k → get_or images k no_image ≡ get_or first k no_image
 
-pub reset_on : (set : Set) (images first : List Typed) (done : ℕ) (image : Typed) → Reset set images first done → done < length images → image ≡ default_at set done
-    → Reset set (slice_set images done image) first (done + 1)
-reset_on set images first done image r lt is = record {
-  long = length-set images done image ∙ r.long;
-  before = λ k below. same_or_not k done (get_or (slice_set images done image) k no_image ≡ default_at set k)
-      (λ e. ap (λ (n : ℕ). get_or (slice_set images done image) n no_image) e ∙ get_set images done image no_image lt ∙ is ∙ ap (λ (n : ℕ). default_at set n) (sym e))
-      (λ ne. get_other images done k image no_image ne ∙ r.before k (apart k done below ne));
-  after = λ k up. get_other images done k image no_image (λ e. absurd (omega (arith, e, up))) ∙ r.after k (omega (arith, up));
-}
-  where
-    apart : (k done : ℕ) → k < done + 1 → (k ≡ done → ⊥) → k < done
-    apart k done below ne = same_or_not k done (k < done) (λ e. absurd (ne e)) (λ no. grind arith)
-
-pub reset_shape : (set : Set) (images first : List Typed) (done : ℕ) (image : Typed) → Reset set images first done → AreShaped set first → done < length images → image ≡ get_or images done image
-    → IsImageOf set done image
-reset_shape set images first done image r s lt is =
-    subst (λ (x : Typed). IsImageOf set done x) (sym (r.after done (omega arith)) ∙ get_or_default images done no_image image lt ∙ sym is) (s.each done (omega (arith, lt, r.long, s.all)))
-
 pub reset_all : (set : Set) (images first : List Typed) (done : ℕ) → Reset set images first done → AreShaped set first → length images ≤ done → map untyped images ≡ map (default_image set) set.devices
 reset_all set images first done r s all =
     all_default set images (r.long ∙ s.all) (λ k lt. r.before k (omega (arith, lt, all)))
@@ -120,17 +88,6 @@ pub record Made (set : Set) (images : List Typed) (done : ℕ) : Type 0 where
   pub long : length images ≡ done
   pub each : AreDefaults set images done
 
-pub made_on : (set : Set) (images : List Typed) (done : ℕ) (image : Typed) → Made set images done → image ≡ default_at set done → Made set (images ++ image ∷ []) (done + 1)
-made_on set images done image m is = record {
-  long = length-append images (image ∷ []) ∙ ap (λ (n : ℕ). n + 1) m.long;
-  each = λ k below. same_or_not k done (get_or (images ++ image ∷ []) k no_image ≡ default_at set k)
-      (λ e. ap (λ (n : ℕ). get_or (images ++ image ∷ []) n no_image) (e ∙ sym m.long) ∙ get_or-append_seam images image [] no_image ∙ is ∙ ap (λ (n : ℕ). default_at set n) (sym e))
-      (λ ne. get_or-append images (image ∷ []) no_image k (front k below ne) ∙ m.each k (omega (arith, front k below ne, m.long)));
-}
-  where
-    front : (k : ℕ) → k < done + 1 → (k ≡ done → ⊥) → k < length images
-    front k below ne = same_or_not k done (k < length images) (λ e. absurd (ne e)) (λ no. omega (arith, m.long, below, no))
-
 pub made_all : (set : Set) (images : List Typed) (done : ℕ) → Made set images done → done ≡ length set.devices → map untyped images ≡ map (default_image set) set.devices
 made_all set images done m all =
     all_default set images (m.long ∙ all) (λ k lt. m.each k (omega (arith, lt, m.long)))
@@ -139,12 +96,6 @@ pub made_shaped : (set : Set) (images : List Typed) (done : ℕ) → Made set im
 made_shaped set images done m all = all_shaped set images (m.long ∙ all) (λ k lt. m.each k (omega (arith, lt, m.long)))
 
 -- ---- states
-
-pub begun_states : (set : Set) (new old : List Typed) (k v : ℕ) → new ≡ slice_set old k (begun_at set k v) → map untyped new ≡ slice_set (map untyped old) k (image_at set k v)
-begun_states set new old k v e = ap (map untyped) e ∙ map-set untyped old k (begun_at set k v)
-
-pub shaped_states : (set : Set) (images : List Typed) → AreShaped set images → length (map untyped images) ≡ length set.devices
-shaped_states set images s = length-map images untyped ∙ s.all
 
 get_there : (images : List Typed) (k : ℕ) (image : Typed) → slice_get images k ≡ Some image → (k < length images) × (get_or images k no_image ≡ image)
 get_there [] k image e = cc

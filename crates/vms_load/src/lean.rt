@@ -92,6 +92,13 @@ impl LeanLoader {
         &self.staged.images
     }
 
+    /// Returns the number of bytes of the last stream that was taken, or 0 before the first.
+    pub fn taken(&self) -> u64
+        ensures { result ≡ taken_by self.now }
+    {
+        self.taken
+    }
+
     /// Returns the set whose streams the loader reads.
     pub fn set(&self) -> &DescSet
         ensures { described result.now ≡ loads self.now }

@@ -1,5 +1,5 @@
 -- The least capacity decides for all capacities that a number counts.
-use Rattle.std.proofs.Common.{◌≡◌, ℕ, ◌<◌, List, ◌∷◌, length, get_or, Bool, true, false, Option, Some, None, ℤ, pos, negsuc, refl, ap, ◌∙◌, []}
+use Rattle.std.proofs.Common.{◌≡◌, ℕ, ◌<◌, List, ◌∷◌, length, get_or, Bool, true, false, Option, Some, None, ℤ, pos, refl, ap, ◌∙◌, []}
 use Rattle.std.specs.Prelude.{◌&&◌}
 use Rattle.std.proofs.Math.Bool.{and_assoc}
 use Rattle.vms_spec.specs.Layout.{counted}
@@ -10,9 +10,8 @@ use Rattle.vms_parts.specs.Capacities.{lesser, least_from, AreLeast}
 use Rattle.vms_rules.specs.Capacities.{fits}
 
 fits_lesser : (o : Option ℕ) (most : ℕ) (z : ℤ) → fits (lesser o most) z ≡ (fits o z && int_le z (pos most))
-fits_lesser None most z = refl
 fits_lesser (Some least) most (pos n) = both_below n least most
-fits_lesser (Some least) most (negsuc n) = refl
+fits_lesser _ most _ = refl
 
 and_true : (b : Bool) → b ≡ (b && true)
 and_true true = refl
@@ -21,8 +20,10 @@ and_true false = refl
 fits_all : (o : Option ℕ) (capacities : List ℕ) (z : ℤ) → fits (least_from o capacities) z ≡ (fits o z && counts_well capacities z)
 fits_all o [] z = and_true (fits o z)
 fits_all o (most ∷ capacities) z =
-    fits_all (lesser o most) capacities z ∙ ap (λ (b : Bool). b && counts_well capacities z) (fits_lesser o most z) ∙ and_assoc (fits o z) (int_le z (pos most)) (counts_well capacities z)
+    fits_all (lesser o most) capacities z ∙ ap (λ (b : Bool). b && counts_well capacities z) (fits_lesser o most z) ∙ and_assoc (fits o z)
+    (int_le z (pos most)) (counts_well capacities z)
 
 -- a number is at most the least capacity exactly if it is at most each of them
-pub least_fits : (fields : List Field) (table : List (Option ℕ)) (i : ℕ) (z : ℤ) → AreLeast fields table → i < length fields → fits (get_or table i None) z ≡ counts_well (counted i fields) z
+pub least_fits : (fields : List Field) (table : List (Option ℕ)) (i : ℕ) (z : ℤ) → AreLeast fields table → i < length fields
+    → fits (get_or table i None) z ≡ counts_well (counted i fields) z
 least_fits fields table i z h lt = ap (λ (o : Option ℕ). fits o z) (h.least i lt) ∙ fits_all None (counted i fields) z

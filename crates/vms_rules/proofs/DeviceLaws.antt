@@ -1,35 +1,31 @@
 -- Devices and their subsections.
-use Rattle.std.proofs.Common.{◌≡◌, ℕ, ◌+◌, ◌<◌, List, ◌∷◌, ◌++◌, length, get_or, take, map, Bool, Option, None, refl, sym, ap, ◌∙◌, arith, []}
+use Rattle.std.proofs.Common.{◌≡◌, ℕ, ◌+◌, ◌<◌, List, ◌∷◌, ◌++◌, length, take, map, Bool, Option, None, refl, ◌∙◌, []}
 use Rattle.std.specs.Prelude.{◌&&◌, ◌==◌, ◌||◌}
 use Rattle.std.specs.List.{list_any}
 use Rattle.std.specs.Str.{bytes_eq}
-use Rattle.std.proofs.lemmas.List.{take_more, map-append, take-map, length-map}
-use Rattle.std.proofs.Math.Bool.{or_comm}
+use Rattle.std.proofs.lemmas.List.{take-map}
 use Rattle.vms_spec.specs.declared.Whose.TheVariants.{Own, Parent}
 use Rattle.vms_spec.specs.Lists.{or_else, first_answer}
 use Rattle.vms_spec.specs.Rules.{names_well}
 use Rattle.vms_spec.specs.Sets as sets
-use Rattle.vms_spec.specs.Sets.{Formula, AtLeast, Below, Cell, Not, And, Or}
-use Rattle.vms_spec.specs.Streams.{is_one_of}
+use Rattle.vms_spec.specs.Sets.{Formula, Cell, Not, And, Or}
 use Rattle.vms_spec.specs.declared.Part.TheVariants as parts
 use Rattle.vms_spec.specs.WellFormed.{SetFault, is_same_device, failing, here, device_rules, device_fault, sub_fault, fields_fault, validations_fault}
 use Rattle.vms_parts.specs.declared.types.Device.{Device}
-use Rattle.vms_parts.specs.declared.types.Sub.{Sub}
-use Rattle.vms_parts.specs.Views.{device_of, sub_of}
-use Rattle.vms_parts.proofs.Items.{get_map_at}
+use Rattle.vms_parts.specs.Views.{device_of}
 use Rattle.vms_rules.specs.declared.fault.DescFault.{DescFault}
 use Rattle.vms_rules.specs.Judged.{IsFirst}
-use Rattle.vms_rules.specs.NameSets.{with_name}
-use Rattle.vms_rules.proofs.NameLaws.{is_one_more}
 use Rattle.vms_rules.proofs.WalkLaws.{first_stops, first_good, later_stops, both_good}
 
-any_same : (name : List ℕ) (instance : ℕ) (devices : List Device) → list_any (is_same_device name instance) (map device_of devices) ≡ list_any (λ d. bytes_eq d.desc.name name && d.instance == instance) devices
+any_same : (name : List ℕ) (instance : ℕ) (devices : List Device)
+    → list_any (is_same_device name instance) (map device_of devices) ≡ list_any (λ d. bytes_eq d.desc.name name && d.instance == instance) devices
 any_same name instance [] = refl
-any_same name instance (d ∷ devices) = ap (λ (b : Bool). (bytes_eq d.desc.name name && d.instance == instance) || b) (any_same name instance devices)
+any_same name instance (d ∷ devices) = rw (any_same name instance devices)
 
 pub same_device : (name : List ℕ) (instance k : ℕ) (devices : List Device)
-    → list_any (is_same_device name instance) (take k (map device_of devices)) ≡ list_any (λ d. bytes_eq d.desc.name name && d.instance == instance) (take k devices)
-same_device name instance k devices = ap (list_any (is_same_device name instance)) (take-map device_of k devices) ∙ any_same name instance (take k devices)
+    → list_any (is_same_device name instance) (take k (map device_of devices)) ≡ list_any (λ d. bytes_eq d.desc.name name && d.instance == instance)
+    (take k devices)
+same_device name instance k devices = rw take-map (any_same name instance (take k devices))
 
 -- ---- the walk
 
@@ -38,43 +34,27 @@ module _ (set : sets.Set) (i : ℕ) (d : sets.Device) (good : failing 1 (device_
   inside : Option SetFault
   inside = or_else (fields_fault (length set.structs) d.desc (parts.Device i)) (validations_fault d.desc (parts.Device i))
 
-  pub inside_stops : (e : DescFault) → IsFirst (or_else (fields_fault (length set.structs) d.desc (parts.Device i)) (validations_fault d.desc (parts.Device i))) e → IsFirst (device_fault set i d) e
+  pub inside_stops : (e : DescFault)
+      → IsFirst (or_else (fields_fault (length set.structs) d.desc (parts.Device i)) (validations_fault d.desc (parts.Device i))) e
+      → IsFirst (device_fault set i d) e
   unfolding inside
-  inside_stops e h =
-      first_stops (or_else (failing 1 (device_rules set i d) (here (parts.Device i))) inside) (first_answer (sub_fault (length set.structs) i d) 0 d.subs) e
-      (later_stops (failing 1 (device_rules set i d) (here (parts.Device i))) inside e good h)
+  inside_stops e h = first_stops (or_else _ inside) (first_answer (sub_fault (length set.structs) i d) 0 d.subs) e (later_stops _ inside e good h)
 
   pub subs_left : or_else (fields_fault (length set.structs) d.desc (parts.Device i)) (validations_fault d.desc (parts.Device i)) ≡ None
       → device_fault set i d ≡ first_answer (sub_fault (length set.structs) i d) 0 d.subs
   unfolding inside
-  subs_left h =
-      first_good (or_else (failing 1 (device_rules set i d) (here (parts.Device i))) inside) (first_answer (sub_fault (length set.structs) i d) 0 d.subs)
-      (both_good (failing 1 (device_rules set i d) (here (parts.Device i))) inside good h)
+  subs_left h = first_good (or_else _ inside) (first_answer (sub_fault (length set.structs) i d) 0 d.subs) (both_good _ inside good h)
 
 -- ---- tests and names
 
 -- if both may name the same fields, the same tests name well
 pub needed_names : (own known parent device : ℕ → Bool) (t : Formula) → ((i : ℕ) → own i ≡ known i) → ((i : ℕ) → parent i ≡ device i)
     → names_well own parent t ≡ names_well known device t
-needed_names own known parent device (AtLeast n) same alike = refl
-needed_names own known parent device (Below n) same alike = refl
 needed_names own known parent device (Cell Own field mask rel value) same alike = same field
 needed_names own known parent device (Cell Parent field mask rel value) same alike = alike field
 needed_names own known parent device (Not t) same alike = needed_names own known parent device t same alike
 needed_names own known parent device (And s t) same alike =
-    ap (λ (b : Bool). b && names_well own parent t) (needed_names own known parent device s same alike)
-    ∙ ap (λ (b : Bool). names_well known device s && b) (needed_names own known parent device t same alike)
+    cc (needed_names own known parent device s same alike, needed_names own known parent device t same alike)
 needed_names own known parent device (Or s t) same alike =
-    ap (λ (b : Bool). b && names_well own parent t) (needed_names own known parent device s same alike)
-    ∙ ap (λ (b : Bool). names_well known device s && b) (needed_names own known parent device t same alike)
-
-pub sub_names_more : (subs : List Sub) (i : ℕ) (s : Sub) (had have : List ℕ → Bool) → i < length subs → s ≡ get_or subs i s
-    → ((n : List ℕ) → had n ≡ is_one_of (map (λ e. e.desc.name) (take i (map sub_of subs))) n) → ((n : List ℕ) → have n ≡ with_name had s.desc.name n)
-    → (n : List ℕ) → have n ≡ is_one_of (map (λ e. e.desc.name) (take (i + 1) (map sub_of subs))) n
-sub_names_more subs i s had have lt is before now n =
-    let ds = map sub_of subs in
-    let names : List sets.Sub → List (List ℕ) = map (λ e. e.desc.name) in
-    let more : take (i + 1) ds ≡ take i ds ++ sub_of s ∷ [] =
-    take_more ds i (sub_of s) (omega (arith, length-map subs sub_of)) ∙ ap (λ (x : sets.Sub). take i ds ++ x ∷ []) (get_map_at sub_of subs i s (sub_of s) lt is) in
-    now n ∙ ap (λ (b : Bool). bytes_eq s.desc.name n || b) (before n) ∙ or_comm (bytes_eq s.desc.name n) (is_one_of (names (take i ds)) n)
-    ∙ sym (is_one_more (names (take i ds)) s.desc.name n) ∙ ap (λ (l : List (List ℕ)). is_one_of l n) (sym (ap names more ∙ map-append (λ e. e.desc.name) (take i ds) (sub_of s ∷ [])))
+    cc (needed_names own known parent device s same alike, needed_names own known parent device t same alike)
+needed_names own known parent device _ same alike = refl

@@ -1,11 +1,11 @@
 -- The earlier fields that a field may name.
-use Rattle.std.proofs.Common.{◌≡◌, ℕ, zero, suc, ◌+◌, ◌<◌, List, ◌∷◌, ◌++◌, append_assoc, length, get_or, take, map, Bool, true, false, refl, sym, ap, ◌∙◌, arith, []}
+use Rattle.std.proofs.Common.{◌≡◌, ℕ, zero, suc, ◌+◌, ◌<◌, List, ◌∷◌, ◌++◌, append_assoc, length, get_or, take, map, Bool, true, false, refl, sym, ap, ◌∙◌}
+use Rattle.std.proofs.Common.{arith, []}
 use Rattle.std.specs.Prelude.{◌&&◌, not, nat_lt, ◌||◌}
 use Rattle.std.specs.List.{slice_get}
 use Rattle.std.proofs.lemmas.Bool.Decides.{nat_tests}
-use Rattle.vms_spec.specs.declared.Whose.TheVariants.{Own, Parent}
 use Rattle.vms_spec.specs.Sets as sets
-use Rattle.vms_spec.specs.Sets.{Formula, AtLeast, Below, Cell, Not, And, Or}
+use Rattle.vms_spec.specs.Sets.{Formula}
 use Rattle.vms_spec.specs.Rules.{is_steady, names_well}
 use Rattle.std.specs.Str.{bytes_eq}
 use Rattle.std.proofs.lemmas.List.{take_more, map-append, take-map}
@@ -14,6 +14,7 @@ use Rattle.vms_spec.specs.Names.{all_names, are_new}
 use Rattle.vms_spec.specs.Streams.{is_one_of}
 use Rattle.vms_spec.proofs.ListLaws.{one_of_both}
 use Rattle.vms_rules.specs.NameSets.{are_new_to}
+use Rattle.vms_rules.proofs.DeviceLaws.{needed_names}
 use Rattle.vms_rules.proofs.NameLaws.{same_new}
 use Rattle.vms_parts.specs.declared.types.Field.{Field}
 use Rattle.vms_parts.specs.Views.{field_of}
@@ -27,23 +28,17 @@ none_before i = grind (arith, nat_tests)
 first_before : (k : ℕ) → nat_lt 0 (suc k) ≡ true
 first_before k = grind (arith, nat_tests)
 
-pub earlier_is : (fields : List Field) (m k i : ℕ) → is_steady m (slice_get (map field_of (take k fields)) i) ≡ (nat_lt i k && is_steady m (slice_get (map field_of fields) i))
+pub earlier_is : (fields : List Field) (m k i : ℕ)
+    → is_steady m (slice_get (map field_of (take k fields)) i) ≡ (nat_lt i k && is_steady m (slice_get (map field_of fields) i))
 earlier_is [] m zero i = sym (and-false (nat_lt i 0))
 earlier_is [] m (suc k) i = sym (and-false (nat_lt i (suc k)))
 earlier_is (f ∷ fields) m zero i = ap (λ (b : Bool). b && is_steady m (slice_get (map field_of (f ∷ fields)) i)) (sym (none_before i))
 earlier_is (f ∷ fields) m (suc k) zero = ap (λ (b : Bool). b && is_steady m (slice_get (map field_of (f ∷ fields)) 0)) (sym (first_before k))
-earlier_is (f ∷ fields) m (suc k) (suc i) = earlier_is fields m k i ∙ ap (λ (b : Bool). b && is_steady m (slice_get (map field_of fields) i)) (sym (one_less i k))
+earlier_is (f ∷ fields) m (suc k) (suc i) =
+    earlier_is fields m k i ∙ ap (λ (b : Bool). b && is_steady m (slice_get (map field_of fields) i)) (sym (one_less i k))
 
 pub named_in : (own known parent : ℕ → Bool) (t : Formula) → ((i : ℕ) → own i ≡ known i) → names_well own parent t ≡ names_well known parent t
-named_in own known parent (AtLeast n) same = refl
-named_in own known parent (Below n) same = refl
-named_in own known parent (Cell Own field mask rel value) same = same field
-named_in own known parent (Cell Parent field mask rel value) same = refl
-named_in own known parent (Not t) same = named_in own known parent t same
-named_in own known parent (And s t) same =
-    ap (λ (b : Bool). b && names_well own parent t) (named_in own known parent s same) ∙ ap (λ (b : Bool). names_well known parent s && b) (named_in own known parent t same)
-named_in own known parent (Or s t) same =
-    ap (λ (b : Bool). b && names_well own parent t) (named_in own known parent s same) ∙ ap (λ (b : Bool). names_well known parent s && b) (named_in own known parent t same)
+named_in own known parent t same = needed_names own known parent parent t same (λ i. refl)
 
 -- ---- names so far
 
@@ -53,7 +48,9 @@ new_is earlier (n ∷ names) = ap (λ (b : Bool). not (is_one_of earlier n) && b
 
 pub names_of_both : (fs gs : List sets.Field) → all_names (fs ++ gs) ≡ all_names fs ++ all_names gs
 names_of_both [] gs = refl
-names_of_both (f ∷ fs) gs = ap (λ (l : List (List ℕ)). f.name ∷ (f.former ++ l)) (names_of_both fs gs) ∙ ap (λ (l : List (List ℕ)). f.name ∷ l) (sym (append_assoc f.former (all_names fs) (all_names gs)))
+names_of_both (f ∷ fs) gs =
+    ap (λ (l : List (List ℕ)). f.name ∷ (f.former ++ l)) (names_of_both fs gs) ∙ ap (λ (l : List (List ℕ)). f.name ∷ l)
+    (sym (append_assoc f.former (all_names fs) (all_names gs)))
 
 -- the names of one more field
 pub names_more : (fields : List Field) (i : ℕ) (f : Field) (had have : List ℕ → Bool) → i < length fields → f ≡ get_or fields i f

@@ -1,5 +1,6 @@
 -- Names whose keys differ are distinct.
-use Rattle.std.proofs.Common.{◌≡◌, ℕ, ◌+◌, ◌<◌, List, [], ◌∷◌, ◌++◌, append_assoc, append-nil, length, get_or, take, drop, map, Bool, true, false, refl, sym, ap, ◌∙◌, subst}
+use Rattle.std.proofs.Common.{◌≡◌, ℕ, ◌+◌, ◌<◌, List, [], ◌∷◌, ◌++◌, append_assoc, append-nil, length, get_or, take, drop, map, Bool, true, false, refl, sym}
+use Rattle.std.proofs.Common.{ap, ◌∙◌, subst}
 use Rattle.std.specs.Prelude.{◌&&◌, not, ◌||◌}
 use Rattle.std.specs.List.{IsDistinct, AllByRecursion}
 use Rattle.std.specs.List.Sorted.{IsStrictlyIncreasing, IsPermutation}
@@ -41,7 +42,8 @@ module _ (fields : List Field) (i : ℕ) (f : Field) (lt : i < length fields) (i
       ap all_names more ∙ names_of_both (map field_of (take i fields)) (field_of f ∷ [])
       ∙ ap (λ (l : List (List ℕ)). all_names (map field_of (take i fields)) ++ f.name ∷ l) (append-nil f.former)
 
-  pub keys_with : map key (all_names (map field_of (take (i + 1) fields))) ≡ (map key (all_names (map field_of (take i fields))) ++ key f.name ∷ []) ++ map key f.former
+  pub keys_with : map key (all_names (map field_of (take (i + 1) fields)))
+      ≡ (map key (all_names (map field_of (take i fields))) ++ key f.name ∷ []) ++ map key f.former
   keys_with =
       let before = all_names (map field_of (take i fields)) in
       ap (map key) names_with ∙ map-append key before (f.name ∷ f.former) ∙ sym (append_assoc (map key before) (key f.name ∷ []) (map key f.former))
@@ -76,7 +78,8 @@ apart_from [] names h n e = cc
 apart_from (x ∷ earlier) names h n e =
     either_of (bytes_eq x n) (is_one_of earlier n) e
     (λ y. subst (λ m. KeysApart m names) (is_same x n y)
-    (all_right (λ e. same (key x) e ≡ false) (map key earlier) (map key names) (subst (AllByRecursion (λ e. same (key x) e ≡ false)) (map-append key earlier names) h.0)))
+    (all_right (λ e. same (key x) e ≡ false) (map key earlier) (map key names)
+    (subst (AllByRecursion (λ e. same (key x) e ≡ false)) (map-append key earlier names) h.0)))
     (λ y. apart_from earlier names h.1 n y)
 
 is_itself : (n : ℕ) → same n n ≡ false → ⊥
@@ -86,7 +89,8 @@ false_of : (b : Bool) → (b ≡ true → ⊥) → not b ≡ true
 false_of true h = absurd (h refl)
 false_of false h = refl
 
-new_to : (had : List ℕ → Bool) (names : List (List ℕ)) → ((n : List ℕ) → had n ≡ true → KeysApart n names) → IsDistinct same (map key names) → are_new_to had names ≡ true
+new_to : (had : List ℕ → Bool) (names : List (List ℕ)) → ((n : List ℕ) → had n ≡ true → KeysApart n names) → IsDistinct same (map key names)
+    → are_new_to had names ≡ true
 unfolding IsDistinct
 new_to had [] h d = refl
 new_to had (y ∷ names) h d =

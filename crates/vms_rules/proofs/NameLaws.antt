@@ -1,5 +1,6 @@
 -- Names and sets of names.
-use Rattle.std.proofs.Common.{◌≡◌, ℕ, ◌+◌, ◌<◌, ◌≤◌, List, ◌∷◌, ◌++◌, length, length-take, length-append, get_or, drop, take, Bool, true, false, Ordering, Less, Equal, Greater, refl, sym, ap, subst, ◌∙◌, arith, []}
+use Rattle.std.proofs.Common.{◌≡◌, ℕ, ◌+◌, ◌<◌, ◌≤◌, List, ◌∷◌, ◌++◌, length, length-take, length-append, get_or, drop, take, map, Bool, true, false, Ordering}
+use Rattle.std.proofs.Common.{Equal, refl, sym, ap, subst, ◌∙◌, arith, []}
 use Rattle.std.specs.Prelude.{◌&&◌, not, nat_eq, ◌||◌}
 use Rattle.std.specs.BTreeSet.{BTreeSet, UpdatesBy}
 use Rattle.std.specs.Set.{KeepsOthers}
@@ -9,15 +10,15 @@ use Rattle.std.specs.Cmp.Lexicographic.{unequal, slice_cmp, nat_list_cmp_total}
 use Rattle.std.specs.Ordering.{nat_cmp, is_eq, eq_by_cmp, ordering_then}
 use Rattle.std.specs.List.{list_any}
 use Rattle.std.specs.Str.{bytes_eq}
-use Rattle.std.proofs.lemmas.List.{take_more}
+use Rattle.std.proofs.lemmas.List.{length-map, map-append, take_more}
 use Rattle.std.proofs.lemmas.Map.Text.{is_eq-slice_cmp}
 use Rattle.std.proofs.lemmas.Slice.Eq.{bytes_eq-Decides}
-use Rattle.std.proofs.Math.Bool.{and-true, or-false, and_assoc, or_assoc}
+use Rattle.std.proofs.Math.Bool.{and-true, or-false, and_assoc, or_assoc, or_comm}
 use denote.Ref.{Bor}
 use Rattle.vms_spec.specs.Names.{is_name, is_sub_name}
 use Rattle.vms_spec.specs.Streams.{is_one_of}
 use Rattle.vms_spec.proofs.ListLaws.{or_turned}
-use Rattle.vms_parts.proofs.Items.{drop_is}
+use Rattle.vms_parts.proofs.Items.{drop_is, get_map_at}
 use Rattle.vms_rules.specs.NameSets.{key, by_key, has_name, with_name, are_new_to}
 
 -- ---- sets
@@ -26,9 +27,8 @@ in_order : IsTotalOrder by_key
 in_order = then_total (on_total (λ (t : ℕ × List ℕ). t.0) nat_cmp_total) (on_total (λ (t : ℕ × List ℕ). t.1) nat_list_cmp_total)
 
 second_differs : (a b : Ordering) → is_eq b ≡ false → is_eq (ordering_then a b) ≡ false
-second_differs Less b e = refl
 second_differs Equal b e = e
-second_differs Greater b e = refl
+second_differs _ b e = refl
 
 apart_in_order : (name n : List ℕ) (k : ℕ × List ℕ) → bytes_eq name n ≡ false → eq_by_cmp by_key (key name, name) k ≡ true
     → eq_by_cmp by_key (key n, n) k ≡ false
@@ -72,6 +72,24 @@ pub is_one_more : (names : List (List ℕ)) (x n : List ℕ) → is_one_of (name
 is_one_more [] x n = or-false (bytes_eq x n)
 is_one_more (m ∷ names) x n = ap (λ (b : Bool). bytes_eq m n || b) (is_one_more names x n) ∙ sym (or_assoc (bytes_eq m n) (is_one_of names n) (bytes_eq x n))
 
+-- the names of one more element of a list
+pub names_so_far : {X Y : Type 0} (view : X → Y) (name : Y → List ℕ) (xs : List X) (i : ℕ) (x : X) (had have : List ℕ → Bool) → i < length xs
+    → x ≡ get_or xs i x
+    → ((n : List ℕ) → had n ≡ is_one_of (map name (take i (map view xs))) n) → ((n : List ℕ) → have n ≡ with_name had (name (view x)) n)
+    → (n : List ℕ) → have n ≡ is_one_of (map name (take (i + 1) (map view xs))) n
+names_so_far view name xs i x had have lt is before now n =
+    let earlier = take i (map view xs) in
+    let next = take_more (map view xs) i (view x) (omega (arith, length-map xs view)) in
+    cc (
+      now n,
+      before n,
+      or_comm (bytes_eq (name (view x)) n) (is_one_of (map name earlier) n),
+      is_one_more (map name earlier) (name (view x)) n,
+      next,
+      get_map_at view xs i x (view x) lt is,
+      map-append name earlier (view x ∷ []),
+    )
+
 pub added_more : (list : List (List ℕ)) (i : ℕ) (x : List ℕ) (first had have : List ℕ → Bool) → i < length list → x ≡ get_or list i x
     → ((n : List ℕ) → had n ≡ (is_one_of (take i list) n || first n)) → ((n : List ℕ) → have n ≡ with_name had x n)
     → (n : List ℕ) → have n ≡ (is_one_of (take (i + 1) list) n || first n)
@@ -92,12 +110,13 @@ new_more list i x had have so_far whole lt is before now =
 
 equal_push : (xs ys : List ℕ) (x y : ℕ) → length xs ≡ length ys → bytes_eq (xs ++ x ∷ []) (ys ++ y ∷ []) ≡ (bytes_eq xs ys && nat_eq x y)
 equal_push [] [] x y e = and-true (nat_eq x y)
-equal_push [] (b ∷ ys) x y e = absurd (omega arith)
-equal_push (a ∷ xs) [] x y e = absurd (omega arith)
-equal_push (a ∷ xs) (b ∷ ys) x y e = ap (λ (r : Bool). nat_eq a b && r) (equal_push xs ys x y (omega arith)) ∙ sym (and_assoc (nat_eq a b) (bytes_eq xs ys) (nat_eq x y))
+equal_push (a ∷ xs) (b ∷ ys) x y e =
+    ap (λ (r : Bool). nat_eq a b && r) (equal_push xs ys x y (omega arith)) ∙ sym (and_assoc (nat_eq a b) (bytes_eq xs ys) (nat_eq x y))
+equal_push _ _ x y e = absurd (omega arith)
 
 pub sub_name_parts : (device name : List ℕ) → length device < length name
-    → is_sub_name device name ≡ ((bytes_eq (take (length device) name) device && nat_eq (get_or name (length device) 0) 47) && is_name 64 (drop (length device + 1) name))
+    → is_sub_name device name ≡ ((bytes_eq (take (length device) name) device && nat_eq (get_or name (length device) 0) 47) && is_name 64
+    (drop (length device + 1) name))
 sub_name_parts device name lt =
     ap (λ (l : List ℕ). bytes_eq l (device ++ 47 ∷ []) && is_name 64 (drop (length device + 1) name)) (take_more name (length device) 0 lt)
     ∙ ap (λ (b : Bool). b && is_name 64 (drop (length device + 1) name))
@@ -106,6 +125,7 @@ sub_name_parts device name lt =
 pub no_sub_name : (device name : List ℕ) → length name ≤ length device → is_sub_name device name ≡ false
 no_sub_name device name le =
     ap (λ (b : Bool). b && is_name 64 (drop (length device + 1) name))
-    (unequal nat_eq (take (length device + 1) name) (device ++ 47 ∷ []) (λ e. omega (arith, e, length-take (length device + 1) name, length-append device (47 ∷ []))))
+    (unequal nat_eq (take (length device + 1) name) (device ++ 47 ∷ [])
+    (λ e. omega (arith, e, length-take (length device + 1) name, length-append device (47 ∷ []))))
 
 pub ruleset sub_name_laws = (sub_name_parts, no_sub_name)

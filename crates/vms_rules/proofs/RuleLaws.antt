@@ -4,7 +4,8 @@ use Rattle.std.proofs.lemmas.List.{drop_all, drop_more}
 use Rattle.vms_spec.specs.declared.Place.{Place}
 use Rattle.vms_spec.specs.WellFormed.{failing}
 
-head_is : (rules : List Bool) (i : ℕ) (b d : Bool) (place : Place) → i < length rules → get_or rules i d ≡ b → failing (i + 1) (drop i rules) place ≡ failing (i + 1) (b ∷ drop (i + 1) rules) place
+head_is : (rules : List Bool) (i : ℕ) (b d : Bool) (place : Place) → i < length rules → get_or rules i d ≡ b
+    → failing (i + 1) (drop i rules) place ≡ failing (i + 1) (b ∷ drop (i + 1) rules) place
 head_is rules i b d place lt is = ap (λ (r : List Bool). failing (i + 1) r place) (drop_more rules i d lt ∙ ap (λ (x : Bool). x ∷ drop (i + 1) rules) is)
 
 pub rule_holds : (rules : List Bool) (i : ℕ) (d : Bool) (place : Place) → i < length rules → get_or rules i d ≡ true

@@ -30,7 +30,8 @@ none_with : (had : List ℕ → Bool) (x : List ℕ) (names : List (List ℕ)) �
 unfolding none
 none_with had x [] = refl
 none_with had x (n ∷ names) =
-    ap (λ (b : Bool). not (bytes_eq x n || had n) && b) (none_with had x names) ∙ ap (λ (b : Bool). not (b || had n) && (not (is_one_of names x) && none had names)) (nat_list_eq_equiv.symm x n)
+    ap (λ (b : Bool). not (bytes_eq x n || had n) && b) (none_with had x names) ∙ ap
+    (λ (b : Bool). not (b || had n) && (not (is_one_of names x) && none had names)) (nat_list_eq_equiv.symm x n)
     ∙ regroup (bytes_eq n x) (had n) (is_one_of names x) (none had names) where
       regroup : (a b c d : Bool) → (not (a || b) && (not c && d)) ≡ (not (a || c) && (not b && d))
       regroup true b c d = refl
@@ -69,28 +70,30 @@ module _ (set : sets.Set) where
   last : Option SetFault
   last = failing 1 (size_rules set) (here parts.Set)
 
+  devices : Option SetFault
+  devices = or_else (devices_from set 0 set.devices) last
+
   pub set_stops : (e : DescFault) → IsFirst (failing 1 (set_rules set) (here parts.Set)) e → IsFirst (first_fault set) e
-  unfolding first_fault own last
-  set_stops e h = first_stops own (or_else (structs_from set.structs 0 set.structs) (or_else (devices_from set 0 set.devices) last)) e h
+  unfolding first_fault own devices last
+  set_stops e h = first_stops own (or_else (structs_from set.structs 0 set.structs) devices) e h
 
-  pub structs_stop : (e : DescFault) → failing 1 (set_rules set) (here parts.Set) ≡ None → IsFirst (structs_from set.structs 0 set.structs) e → IsFirst (first_fault set) e
-  unfolding first_fault own last
-  structs_stop e good h =
-      later_stops own (or_else (structs_from set.structs 0 set.structs) (or_else (devices_from set 0 set.devices) last)) e good
-      (first_stops (structs_from set.structs 0 set.structs) (or_else (devices_from set 0 set.devices) last) e h)
-
-  pub devices_stop : (e : DescFault) → failing 1 (set_rules set) (here parts.Set) ≡ None → structs_from set.structs 0 set.structs ≡ None → IsFirst (devices_from set 0 set.devices) e
+  pub structs_stop : (e : DescFault) → failing 1 (set_rules set) (here parts.Set) ≡ None → IsFirst (structs_from set.structs 0 set.structs) e
       → IsFirst (first_fault set) e
-  unfolding first_fault own last
+  unfolding first_fault own devices last
+  structs_stop e good h =
+      later_stops own (or_else (structs_from set.structs 0 set.structs) devices) e good (first_stops (structs_from set.structs 0 set.structs) devices e h)
+
+  pub devices_stop : (e : DescFault) → failing 1 (set_rules set) (here parts.Set) ≡ None → structs_from set.structs 0 set.structs ≡ None
+      → IsFirst (devices_from set 0 set.devices) e
+      → IsFirst (first_fault set) e
+  unfolding first_fault own devices last
   devices_stop e good structs h =
-      later_stops own (or_else (structs_from set.structs 0 set.structs) (or_else (devices_from set 0 set.devices) last)) e good
-      (later_stops (structs_from set.structs 0 set.structs) (or_else (devices_from set 0 set.devices) last) e structs
-      (first_stops (devices_from set 0 set.devices) last e h))
+      later_stops own (or_else (structs_from set.structs 0 set.structs) devices) e good
+      (later_stops (structs_from set.structs 0 set.structs) devices e structs (first_stops (devices_from set 0 set.devices) last e h))
 
   pub items_left : failing 1 (set_rules set) (here parts.Set) ≡ None → structs_from set.structs 0 set.structs ≡ None → devices_from set 0 set.devices ≡ None
       → first_fault set ≡ failing 1 (size_rules set) (here parts.Set)
-  unfolding first_fault own last
-  items_left good structs devices =
-      first_good own (or_else (structs_from set.structs 0 set.structs) (or_else (devices_from set 0 set.devices) last)) good
-      ∙ first_good (structs_from set.structs 0 set.structs) (or_else (devices_from set 0 set.devices) last) structs
-      ∙ first_good (devices_from set 0 set.devices) last devices
+  unfolding first_fault own devices last
+  items_left good structs none =
+      first_good own (or_else (structs_from set.structs 0 set.structs) devices) good ∙ first_good (structs_from set.structs 0 set.structs) devices structs
+      ∙ first_good (devices_from set 0 set.devices) last none

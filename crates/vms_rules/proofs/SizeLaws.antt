@@ -14,7 +14,8 @@ use Rattle.vms_parts.proofs.ItemLaws.{items_are, items_to}
 
 pub subs_are : (sizes : List ℕ) (subs : List sets.Sub) → subs_items sizes subs ≡ subs_size Items sizes subs
 subs_are sizes [] = refl
-subs_are sizes (s ∷ subs) = ap (λ (n : ℕ). n + subs_items sizes subs) (items_are sizes s.desc.fields) ∙ ap (λ (n : ℕ). fields_size Items sizes s.desc.fields + n) (subs_are sizes subs)
+subs_are sizes (s ∷ subs) =
+    ap (λ (n : ℕ). n + subs_items sizes subs) (items_are sizes s.desc.fields) ∙ ap (λ (n : ℕ). fields_size Items sizes s.desc.fields + n) (subs_are sizes subs)
 
 -- ---- sizes that are cut give the same result
 
@@ -31,9 +32,11 @@ capped_devices sizes (d ∷ devices) = omega (arith, capped_items sizes d.desc.f
 same_limit : (n : ℕ) → nat_le (in_u32 n) MOST_ITEMS ≡ nat_le n MOST_ITEMS
 same_limit n = grind (arith, nat_tests)
 
-pub few_items : (structs : List sets.Desc) (devices : List sets.Device) (sizes : List ℕ) (items : ℕ) → sizes ≡ map in_u32 (sizes_to Items structs (length structs))
+pub few_items : (structs : List sets.Desc) (devices : List sets.Device) (sizes : List ℕ) (items : ℕ)
+    → sizes ≡ map in_u32 (sizes_to Items structs (length structs))
     → items ≡ in_u32 (devices_items sizes devices) → nat_le items MOST_ITEMS ≡ nat_le (devices_items (struct_items structs) devices) MOST_ITEMS
 few_items structs devices sizes items is e =
-    ap (λ (n : ℕ). nat_le n MOST_ITEMS) (e ∙ ap (λ (l : List ℕ). in_u32 (devices_items l devices)) is ∙ capped_devices (sizes_to Items structs (length structs)) devices)
+    ap (λ (n : ℕ). nat_le n MOST_ITEMS)
+    (e ∙ ap (λ (l : List ℕ). in_u32 (devices_items l devices)) is ∙ capped_devices (sizes_to Items structs (length structs)) devices)
     ∙ same_limit (devices_items (sizes_to Items structs (length structs)) devices)
     ∙ ap (λ (l : List ℕ). nat_le (devices_items l devices) MOST_ITEMS) (sym (items_to structs (length structs)))

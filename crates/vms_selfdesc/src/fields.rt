@@ -1,5 +1,6 @@
 // The entries of the fields of a part, with arrays and structures expanded.
 ghost use Rattle.std.specs.Prelude.{◌≡◌, ◌<◌, ◌≤◌, ◌+◌, ◌*◌, length, string_bytes};
+ghost use Rattle.vms_spec.specs.declared.Part.TheVariants as parts;
 ghost use Rattle.vms_spec.specs.Layout.{capacity_of, item_size, struct_cells};
 ghost use Rattle.vms_parts.specs.Views.{field_of};
 ghost use Rattle.vms_desc.specs.Asks.{field_at};
@@ -38,7 +39,7 @@ struct At {
     cell: u32,
 }
 
-// Lists one element of a field. The cycle of calls closes at `list_part`.
+// Lists one element of a field. The cycle of calls closes at `list_struct`.
 #[cycle(list)]
 #[inline(always)]
 fn list_item(lister: &Lister, field: &Field, place: Place, draft: &mut Draft)
@@ -55,10 +56,24 @@ fn list_item(lister: &Lister, field: &Field, place: Place, draft: &mut Draft)
         Item::Struct(number) => {
             let kept = draft.path.len();
             draft.path.enter(".");
-            list_part(lister, Part::Struct(number), place, draft);
+            list_struct(lister, number, place, draft);
             draft.path.leave(kept);
         }
     }
+}
+
+// Lists the fields of one element of structure `number`. Only this function and `list_elements` of
+// the recursion aren't inlined: their callers know what kind of part they list.
+#[cycle(list)]
+fn list_struct(lister: &Lister, number: u32, place: Place, draft: &mut Draft)
+    requires place { IsPlace lister.now (parts.Struct number) place.cell }
+    requires path { IsPlain (string_bytes draft.old.path.text) }
+    requires deep { CanGrow draft.old.path 44 (part_levels (set_in lister.now)
+        (parts.Struct number)) }
+    ensures { let entries = part_at lister.now (parts.Struct number) place draft.old in
+        Lists draft.old draft.new entries }
+{
+    list_part(lister, Part::Struct(number), place, draft);
 }
 
 // Lists something without a cell, if it is in the stream.
@@ -94,6 +109,7 @@ fn list_elements(lister: &Lister, field: &Field, place: Place, count: u32, draft
 }
 
 // Checks whether a field of a part is in the stream.
+#[inline(always)]
 fn is_sent(lister: &Lister, part: Part, within: Place, field: u32) -> bool
     requires place { IsPlace lister.now part within.cell }
     requires field { field < length (desc_at (set_in lister.now) part).fields }
@@ -110,6 +126,7 @@ fn is_sent(lister: &Lister, part: Part, within: Place, field: u32) -> bool
 
 // Lists one field of a part.
 #[cycle(list)]
+#[inline(always)]
 fn list_field(lister: &Lister, part: Part, within: Place, at: At, draft: &mut Draft)
     requires place { IsPlace lister.now part within.cell }
     requires field { at.field < length (desc_at (set_in lister.now) part).fields }
@@ -138,6 +155,7 @@ fn list_field(lister: &Lister, part: Part, within: Place, at: At, draft: &mut Dr
 
 // Lists the elements of a field under its path, of which an array has `count`.
 #[cycle(list)]
+#[inline(always)]
 fn list_run(lister: &Lister, field: &Field, place: Place, count: u32, draft: &mut Draft)
     requires one { AreElements lister.now (field_of field.now) place.cell 1 }
     requires all { AreElements lister.now (field_of field.now) place.cell count }
@@ -154,6 +172,7 @@ fn list_run(lister: &Lister, field: &Field, place: Place, count: u32, draft: &mu
 
 // Lists the fields of a part, or of one element of a structure.
 #[cycle(list)]
+#[inline(always)]
 pub(crate) fn list_part(lister: &Lister, part: Part, place: Place, draft: &mut Draft)
     requires place { IsPlace lister.now part place.cell }
     requires path { IsPlain (string_bytes draft.old.path.text) }

@@ -28,6 +28,7 @@ pub fn state_refuses_law()
 {}
 
 /// States that the judge (`by_state`) accepts or refuses every input, for every set.
+#[tactic(auto, using(crate::proofs::Stated::told_holds))]
 pub fn told_law()
     ensures { ToldLaw }
 {}
@@ -36,12 +37,14 @@ pub fn told_law()
 ///
 /// The stream is footed or bare. It has exactly the bytes that were read, and the machine and the
 /// images of the judge's last state.
+#[tactic(auto, using(crate::proofs::Stated::accepted_holds))]
 pub fn accepted_law()
     ensures { AcceptedLaw }
 {}
 
 /// States that the judge accepts each stream that an input takes (`Takes`), with its length,
 /// machine and images.
+#[tactic(auto, using(crate::proofs::Stated::taken_holds))]
 pub fn taken_law()
     ensures { TakenLaw }
 {}
@@ -69,18 +72,21 @@ pub fn local_law()
 {}
 
 /// States that units without a fault that end well (`Ends`) are a stream that the input takes.
+#[tactic(auto, using(crate::proofs::Stated::units_hold))]
 pub fn units_law()
     ensures { UnitsLaw }
 {}
 
 /// States that a stream that an input takes consists of units without a fault that end well
 /// (`Ends`).
+#[tactic(auto, using(crate::proofs::Stated::stream_holds))]
 pub fn stream_law()
     ensures { StreamLaw }
 {}
 
 /// States that units without a fault (`Front`) are the first units of a stream, if the input has no
 /// fault.
+#[tactic(auto, using(crate::proofs::Stated::front_holds))]
 pub fn front_law()
     ensures { FrontLaw }
 {}
@@ -115,6 +121,7 @@ pub fn further_law()
 
 /// States that what the writer gives for a ready image (`written_section`) is a footed section with
 /// this image, for every set.
+#[tactic(auto, using(crate::proofs::Stated::section_holds))]
 pub fn section_law()
     ensures { SectionLaw }
 {}
@@ -123,6 +130,7 @@ pub fn section_law()
 /// machine and these images.
 ///
 /// An input that begins with these bytes takes exactly them, for every set.
+#[tactic(auto, using(crate::proofs::Stated::written_holds))]
 pub fn written_law()
     ensures { WrittenLaw }
 {}
@@ -138,6 +146,7 @@ pub fn whole_law()
 ///
 /// It decides a fault with its size, and a cut. For a good unit, only the rows of `asking` are
 /// still open: those that need the set, the machines or the units so far.
+#[tactic(auto, using(crate::proofs::Calls::Judged::judged_holds))]
 pub fn judged_law()
     ensures { JudgedLaw }
 {}
@@ -146,12 +155,14 @@ pub fn judged_law()
 /// without a footer.
 ///
 /// The unit is judged as between sections, in a bare stream.
+#[tactic(auto, using(crate::proofs::Calls::Judged::next_holds))]
 pub fn next_law()
     ensures { NextLaw }
 {}
 
 /// States that what a cursor sees after fields (`seen`) depends only on the id of the open section,
 /// and on nothing else known.
+#[tactic(auto, using(crate::proofs::Calls::Judged::seen_holds))]
 pub fn seen_law()
     ensures { SeenLaw }
 {}

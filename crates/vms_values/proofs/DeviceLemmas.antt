@@ -1,15 +1,73 @@
--- Devices that are read one after the other, and what the whole text says.
-use Rattle.std.proofs.Common.{◌≡◌, ℕ, ◌<◌, List, ◌++◌, length, Option, Some, None, Result, Ok, Err, refl, sym, ap, ◌∙◌, subst, rules}
-use Rattle.std.specs.Option.{ForSome}
-use Rattle.vms_spec.specs.Sets.{Set}
-use Rattle.vms_spec.specs.Spelling.{first_line}
-use Rattle.vms_spec.specs.ValuesReading.{BadLine, ReadDevice, ReadAll, ValuesRead, read_devices, ended, values_read, after_machine, machine_named, rest_of}
-use Rattle.vms_values.specs.declared.fault.Values.{Values as Given}
-use Rattle.vms_values.specs.declared.fault.LineFault.{LineFault}
-use Rattle.vms_values.specs.Machines.{StartsAt, NamesMachine}
-use Rattle.vms_values.specs.declared.machine.Start.{Start}
-use Rattle.vms_values.specs.Printing.{machine_of}
-use Rattle.vms_values.specs.Reading.{ReadsBy}
+-- Devices that are read one after the other: their images, their subsections, and what is judged of them.
+use Rattle.vms_values.proofs.Facade.{◌≡◌, ℕ, ◌+◌, ◌<◌, true, zero, suc, List, [], ◌∷◌, ◌++◌, Some, length, ap, sym, ◌∙◌, subst, arith, length-append, Option}
+use Rattle.vms_values.proofs.Facade.{None, Result, Ok, Err, refl, rules, ◌≤◌, Bool, false, map, take, drop, if◌then◌else◌, append_assoc, append-nil, slice_set}
+use Rattle.vms_values.proofs.Facade.{flat_map, slice_get, length-map, drop_more, drop_all, take_more, take_all, map-append, take_more_set, ForSome, Set, Device}
+use Rattle.vms_values.proofs.Facade.{Sub, AtLeast, Typed, state_of, default_at, IsOfDevice, IsImageOf, AreImagesOf, device_cells, desc_cells, struct_cells}
+use Rattle.vms_values.proofs.Facade.{no_desc, device_at, is_well_formed, kinds_at, few_cells, sub_next, HasSpot, IsKept, place_of, IsAlike, with_came}
+use Rattle.vms_values.proofs.Facade.{said_read, sub_read, SubReached, SubsReached, first_line, BadLine, ReadDevice, ReadAll, ValuesRead, read_devices, ended}
+use Rattle.vms_values.proofs.Facade.{values_read, after_machine, machine_named, rest_of, Standing, ReadSubs, readers, read_desc, read_subs, next_line}
+use Rattle.vms_values.proofs.Facade.{then_subs, section_line, is_line, with_device, read_device, or_bad, judge_device, judge_devices, Read, sub_said, also}
+use Rattle.vms_values.proofs.Facade.{read_sub, LineFault, StartsAt, NamesMachine, Start, machine_of, ReadsBy, Image, own_cells, Reading, bad_of, found}
+use Rattle.vms_values.proofs.Facade.{device_read, start_of, DeviceRead, AllRead, or_bad_assoc, MOST_ITEMS, first_cell, sub_at, Taken}
+use Rattle.vms_spec.specs.ValuesReading.{device_read as device_reads}
+use Rattle.vms_values.specs.declared.fault.Values.{Values}
+use Rattle.vms_spec.specs.declared.Part.TheVariants as parts
+use Rattle.vms_spec.specs.declared.ValuesReason.TheVariants as reasons
+use Rattle.vms_values.specs.declared.fault.LineFault.TheVariants as faults
+
+pub alike_kept : (a b : Typed) → IsKept a b → IsAlike a b
+alike_kept a b h = record { version = h.version; subs = ap length h.came; cells = h.long; kinds = h.kinds }
+
+pub default_of : (set : Set) → is_well_formed set ≡ true → (i : ℕ) → i < length set.devices → (image : Typed) → image ≡ default_at set i → IsOfDevice set i (state_of image)
+default_of set well i lt image e =
+    let d = device_at set i in
+    let cells : length image.numbers ≡ length (device_cells set d) = ap (λ (x : Typed). length x.numbers) e ∙ length-map (device_cells set d) (λ c. c.default) in
+    record {
+      is_device = lt;
+      cells = cells;
+      subs = ap (λ (x : Typed). length x.came) e ∙ length-map d.subs (λ s. Rattle.std.proofs.Common.None);
+      few = omega (arith, cells, few_cells set well i);
+    }
+
+pub own_spot : (set : Set) (i v : ℕ) (image : Typed) → IsOfDevice set i (state_of image) → HasSpot set (record { part = parts.Device i; version = v; base = 0 }) image.numbers
+own_spot set i v image h =
+    let d = device_at set i in
+    record {
+      part = h.is_device;
+      few = h.few;
+      room = omega (arith, h.cells, length-append (desc_cells (struct_cells set) d.desc) (flat_map (λ s. desc_cells (struct_cells set) s.desc) d.subs));
+    }
+
+pub image_of : (set : Set) (i : ℕ) (image : Typed) → IsOfDevice set i (state_of image) → image.kinds ≡ kinds_at set i → IsImageOf set i image
+image_of set i image h k = record { subs = h.subs; cells = h.cells; kinds = k }
+
+pub default_kinds : (set : Set) (i : ℕ) (image : Typed) → image ≡ default_at set i → image.kinds ≡ kinds_at set i
+default_kinds set i image e = ap (λ (x : Typed). x.kinds) e
+
+-- ---- images one after the other
+
+at_more : {X : Type 0} (P : ℕ → X → Type 0) (xs : List X) (y : X) → ((k : ℕ) (z : X) → slice_get xs k ≡ Some z → P k z) → P (length xs) y → (k : ℕ) (z : X) → slice_get (xs ++ y ∷ []) k ≡ Some z → P k z
+at_more P [] y h p zero z e = let same : y ≡ z = cc in subst (P 0) same p
+at_more P [] y h p (suc k) z e = cc
+at_more P (x ∷ xs) y h p zero z e = h zero z e
+at_more {X} P (x ∷ xs) y h p (suc k) z e = at_more (λ (j : ℕ) (w : X). P (suc j) w) xs y (λ j w f. h (suc j) w f) p k z e
+
+-- this many images, each of its device
+pub record AreFirstImages (set : Set) (n : ℕ) (images : List Typed) : Type 0 where
+  pub count : length images ≡ n
+  pub each : (k : ℕ) (image : Typed) → slice_get images k ≡ Some image → IsImageOf set k image
+
+pub first_more : (set : Set) (n : ℕ) (images more : List Typed) (image : Typed) → AreFirstImages set n images → IsImageOf set n image → more ≡ images ++ image ∷ [] → AreFirstImages set (n + 1) more
+first_more set n images more image a o e = record {
+  count = ap length e ∙ length-append images (image ∷ []) ∙ ap (λ (k : ℕ). k + 1) a.count;
+  each = λ k other f.
+      at_more (IsImageOf set) images image a.each (subst (λ (k : ℕ). IsImageOf set k image) (sym a.count) o) k other (ap (λ (l : List Typed). slice_get l k) (sym e) ∙ f);
+}
+
+pub first_all : (set : Set) (n : ℕ) (images : List Typed) → AreFirstImages set n images → length set.devices ≡ n → AreImagesOf set images
+first_all set n images a e = record { one_each = a.count ∙ sym e; each = a.each }
+
+-- ---- Devices that are read one after the other, and what the whole text says.
 
 -- ---- all devices
 
@@ -53,5 +111,254 @@ top set machines text start same s =
     let t : StartsAt set.machines text (machine_named set.machines (first_line text)) start = subst (λ (l : List (List ℕ)). StartsAt l text (machine_named l (first_line text)) start) same s in
     from_start set text start (machine_named set.machines (first_line text)) (values_read set text) refl t
 
-pub said_so : (set : Set) (text : List ℕ) (v : ValuesRead) (result : Result Given LineFault) → values_read set text ≡ v → ReadsBy set v result → ReadsBy set (values_read set text) result
+pub said_so : (set : Set) (text : List ℕ) (v : ValuesRead) (result : Result Values LineFault) → values_read set text ≡ v → ReadsBy set v result → ReadsBy set (values_read set text) result
 said_so set text v result e r = subst (λ (x : ValuesRead). ReadsBy set x result) (sym e) r
+
+-- ---- Devices that are read one after the other, and judged.
+
+-- ---- one device
+
+abbrev after_device : (ℕ → List ℕ → Result ReadAll BadLine) → Result (ReadDevice × Standing) BadLine → Result ReadAll BadLine
+after_device go (Ok (r, p)) = with_device r (go p.line p.rest)
+after_device go (Err b) = Err b
+
+one_device : (set : Set) (d : Device) (p : Standing) (go : ℕ → List ℕ → Result ReadAll BadLine) → read_device set d p go ≡ after_device go (device_read set d p)
+one_device set d p go = by (is_line (section_line d) (first_line p.rest))
+  where
+    subs : Result ReadSubs BadLine
+    subs = then_subs (read_desc (readers set) d.desc d.desc.version [] true 0 (next_line p)) (read_subs set (own_cells set d) d.subs)
+
+    whole : (x : Result ReadSubs BadLine) → device_reads d p.line x go ≡ after_device go (found d p.line x)
+    whole (Ok r) = refl
+    whole (Err b) = refl
+
+    by : (t : Bool)
+        → (if t then device_reads d p.line (then_subs (read_desc (readers set) d.desc d.desc.version [] true 0 (next_line p)) (read_subs set (own_cells set d) d.subs)) go else Err (record { line = p.line; reason = reasons.Form }))
+        ≡ after_device go (if t then found d p.line (then_subs (read_desc (readers set) d.desc d.desc.version [] true 0 (next_line p)) (read_subs set (own_cells set d) d.subs)) else Err (record { line = p.line; reason = reasons.Form }))
+    by true = whole (then_subs (read_desc (readers set) d.desc d.desc.version [] true 0 (next_line p)) (read_subs set (own_cells set d) d.subs))
+    by false = refl
+
+-- ---- the second pass over all
+
+or_none : (o : Option BadLine) → or_bad o None ≡ o
+or_none None = refl
+or_none (Some b) = refl
+
+judge_more : (set : Set) (ds : List Device) (rs : List ReadDevice) (d : Device) (r : ReadDevice) → length ds ≡ length rs
+    → judge_devices set (ds ++ d ∷ []) (rs ++ r ∷ []) ≡ or_bad (judge_devices set ds rs) (judge_device set d r)
+judge_more set [] [] d r e = or_none (judge_device set d r)
+judge_more set [] (x ∷ rs) d r e = cc
+judge_more set (c ∷ ds) [] d r e = cc
+judge_more set (c ∷ ds) (x ∷ rs) d r e =
+    let less : length ds ≡ length rs = omega (arith, e) in
+    ap (or_bad (judge_device set c x)) (judge_more set ds rs d r less) ∙ sym (or_bad_assoc (judge_device set c x) (judge_devices set ds rs) (judge_device set d r))
+
+long_take : {X : Type 0} (xs : List X) (n : ℕ) → n ≤ length xs → length (take n xs) ≡ n
+long_take [] zero le = refl
+long_take [] (suc n) le = absurd (omega arith)
+long_take (x ∷ xs) zero le = refl
+long_take (x ∷ xs) (suc n) le = ap suc (long_take xs n (omega (arith, le)))
+
+-- ---- all devices
+
+-- the first n devices have these images and this first bad line of the second pass; the rest is the whole reading
+pub record Gathered (set : Set) (n : ℕ) (start : Result ReadAll BadLine) (first judged : Option BadLine) (images : List Image) (left : Result ReadAll BadLine) : Type 0 where
+  pub done : List ReadDevice
+  pub count : length done ≡ n
+  pub images_are : map (λ r. r.image) done ≡ images
+  pub whole : with_devices done left ≡ start
+  pub so_far : judged ≡ or_bad first (judge_devices set (take n set.devices) done)
+
+more_devices : (ds : List ReadDevice) (r : ReadDevice) (x : Result ReadAll BadLine) → with_devices ds (with_device r x) ≡ with_devices (ds ++ r ∷ []) x
+more_devices ds r (Err e) = refl
+more_devices ds r (Ok all) = ap (λ (l : List ReadDevice). let a : ReadAll = record { devices = l; line = all.line; rest = all.rest } in Ok a) (sym (append_assoc ds (r ∷ []) all.devices))
+
+module _ (set : Set) (i : ℕ) (lt : i < length set.devices) where
+  next_device : (old : Reading) → read_devices set (drop i set.devices) old.lines.line old.lines.rest.now
+      ≡ after_device (λ line rest. read_devices set (drop (i + 1) set.devices) line rest) (device_read set (device_at set i) (start_of set (device_at set i) old))
+  next_device old =
+      ap (λ (l : List Device). read_devices set l old.lines.line old.lines.rest.now) (drop_more set.devices i _ lt)
+      ∙ one_device set (device_at set i) (start_of set (device_at set i) old) (λ line rest. read_devices set (drop (i + 1) set.devices) line rest)
+
+  -- the result for one device
+  record Given (old new : Reading) (image : Image) : Type 0 where
+    r : ReadDevice
+    p : Standing
+    read : device_read set (device_at set i) (start_of set (device_at set i) old) ≡ Ok (r, p)
+    same : image ≡ r.image
+    line : new.lines.line ≡ p.line
+    rest : new.lines.rest.now ≡ p.rest
+    judged : bad_of new.judged ≡ or_bad (bad_of old.judged) (judge_device set (device_at set i) r)
+
+  given : (x : Result (ReadDevice × Standing) BadLine) (old new : Reading) (image : Image) → device_read set (device_at set i) (start_of set (device_at set i) old) ≡ x
+      → DeviceRead set (device_at set i) x old new (Ok image) → Given old new image
+  given (Ok (r, p)) old new image e h = record { r = r; p = p; read = e; same = h.0; line = h.1; rest = h.2; judged = h.3 }
+  given (Err b) old new image e h = absurd h
+
+  refused : (x : Result (ReadDevice × Standing) BadLine) (start : Result ReadAll BadLine) (done : List ReadDevice) (go : ℕ → List ℕ → Result ReadAll BadLine) (begun old new : Reading) (e : LineFault)
+      → with_devices done (after_device go x) ≡ start → DeviceRead set (device_at set i) x old new (Err e) → AllRead set start begun new (Err e)
+  refused (Ok (r, p)) start done go begun old new (faults.Bad line reason) w h = absurd h
+  refused (Ok (r, p)) start done go begun old new faults.NoMemory w h = tt
+  refused (Err b) start done go begun old new (faults.Bad line reason) w h = subst (λ (s : Result ReadAll BadLine). AllRead set s begun new (Err (faults.Bad line reason))) w h
+  refused (Err b) start done go begun old new faults.NoMemory w h = tt
+
+  pub gathered_refused : (start : Result ReadAll BadLine) (first judged : Option BadLine) (images : List Image) (begun old new : Reading) (e : LineFault)
+      → Gathered set i start first judged images (read_devices set (drop i set.devices) old.lines.line old.lines.rest.now)
+      → DeviceRead set (device_at set i) (device_read set (device_at set i) (start_of set (device_at set i) old)) old new (Err e) → AllRead set start begun new (Err e)
+  gathered_refused start first judged images begun old new e g h =
+      let d = device_at set i in
+      refused (device_read set d (start_of set d old)) start g.done (λ line rest. read_devices set (drop (i + 1) set.devices) line rest) begun old new e (ap (with_devices g.done) (sym (next_device old)) ∙ g.whole) h
+
+  pub gathered_next : (start : Result ReadAll BadLine) (first : Option BadLine) (images more : List Image) (old new : Reading) (image : Image)
+      → Gathered set i start first (bad_of old.judged) images (read_devices set (drop i set.devices) old.lines.line old.lines.rest.now)
+      → DeviceRead set (device_at set i) (device_read set (device_at set i) (start_of set (device_at set i) old)) old new (Ok image) → more ≡ images ++ image ∷ []
+      → Gathered set (i + 1) start first (bad_of new.judged) more (read_devices set (drop (i + 1) set.devices) new.lines.line new.lines.rest.now)
+  gathered_next start first images more old new image g h m =
+      let d = device_at set i in
+      let k = given (device_read set d (start_of set d old)) old new image refl h in
+      let rest = λ (line : ℕ) (rest : List ℕ). read_devices set (drop (i + 1) set.devices) line rest in
+      let lengths : length (take i set.devices) ≡ length g.done = long_take set.devices i (omega (arith, lt)) ∙ sym g.count in
+      record {
+        done = g.done ++ k.r ∷ [];
+        count = length-append g.done (k.r ∷ []) ∙ ap (λ (n : ℕ). n + 1) g.count;
+        images_are = map-append (λ r. r.image) g.done (k.r ∷ []) ∙ ap (λ (l : List Image). l ++ k.r.image ∷ []) g.images_are ∙ ap (λ (x : Image). images ++ x ∷ []) (sym k.same) ∙ sym m;
+        whole = ap (λ (n : ℕ). with_devices (g.done ++ k.r ∷ []) (rest n new.lines.rest.now)) k.line
+            ∙ ap (λ (l : List ℕ). with_devices (g.done ++ k.r ∷ []) (rest k.p.line l)) k.rest ∙ sym (more_devices g.done k.r (rest k.p.line k.p.rest))
+            ∙ ap (with_devices g.done) (sym (next_device old ∙ ap (after_device rest) k.read)) ∙ g.whole;
+        so_far = k.judged ∙ ap (λ (o : Option BadLine). or_bad o (judge_device set d k.r)) g.so_far
+            ∙ or_bad_assoc first (judge_devices set (take i set.devices) g.done) (judge_device set d k.r)
+            ∙ ap (or_bad first) (sym (judge_more set (take i set.devices) g.done d k.r lengths))
+            ∙ ap (λ (l : List Device). or_bad first (judge_devices set l (g.done ++ k.r ∷ []))) (sym (take_more set.devices i _ lt));
+      }
+
+-- all devices are read
+pub gathered_all : (set : Set) (n : ℕ) (start : Result ReadAll BadLine) (images : List Image) (begun now : Reading) → length set.devices ≡ n
+    → Gathered set n start (bad_of begun.judged) (bad_of now.judged) images (read_devices set (drop n set.devices) now.lines.line now.lines.rest.now) → AllRead set start begun now (Ok images)
+gathered_all set n start images begun now e g =
+    let first = bad_of begun.judged in
+    let none : drop n set.devices ≡ [] = drop_all n set.devices (omega (arith, e)) in
+    let all : take n set.devices ≡ set.devices = take_all n set.devices (omega (arith, e)) in
+    let same : g.done ++ [] ≡ g.done = append-nil g.done in
+    subst (λ (s : Result ReadAll BadLine). AllRead set s begun now (Ok images))
+    (ap (λ (l : List Device). with_devices g.done (read_devices set l now.lines.line now.lines.rest.now)) (sym none) ∙ g.whole) (
+      ap (map (λ r. r.image)) same ∙ g.images_are,
+      refl,
+      refl,
+      g.so_far ∙ ap (λ (l : List Device). or_bad first (judge_devices set l g.done)) all ∙ ap (λ (l : List ReadDevice). or_bad first (judge_devices set set.devices l)) (sym same),
+    )
+
+-- ---- Subsections that are read one after the other.
+
+-- ---- one subsection
+
+abbrev after_sub : ℕ → (Standing → Result ReadSubs BadLine) → Result (Option ℕ × Standing) BadLine → Result ReadSubs BadLine
+after_sub line go (Ok (o, q)) = also o line (go q)
+after_sub line go (Err b) = Err b
+
+one_sub : (set : Set) (s : Sub) (at : ℕ) (p : Standing) (o : Option (Option ℕ)) (go : Standing → Result ReadSubs BadLine) → read_sub set s at p o go ≡ after_sub p.line go (said_read set s at p o)
+one_sub set s at p None go = refl
+one_sub set s at p (Some came) go = by (read_desc (readers set) s.desc s.desc.version [] true at (next_line p))
+  where
+    by : (r : Read) → also came p.line (then_subs r go) ≡ after_sub p.line go (with_came came r)
+    by (Ok q) = refl
+    by (Err b) = refl
+
+next_sub : (set : Set) (i j : ℕ) (p : Standing) → j < length (device_at set i).subs
+    → read_subs set (first_cell set (parts.Sub i j)) (drop j (device_at set i).subs) p
+    ≡ after_sub p.line (λ q. read_subs set (first_cell set (parts.Sub i (j + 1))) (drop (j + 1) (device_at set i).subs) q) (sub_read set (sub_at (device_at set i) j) (first_cell set (parts.Sub i j)) p)
+next_sub set i j p lt =
+    let d = device_at set i in
+    let none : Sub = record { desc = no_desc; needed = AtLeast 0 } in
+    let s = sub_at d j in
+    let at = first_cell set (parts.Sub i j) in
+    ap (λ (l : List Sub). read_subs set at l p) (drop_more d.subs j none lt)
+    ∙ one_sub set s at p (sub_said s (first_line p.rest)) (λ q. read_subs set (at + length (desc_cells (struct_cells set) s.desc)) (drop (j + 1) d.subs) q)
+    ∙ ap (λ (x : ℕ). after_sub p.line (λ q. read_subs set x (drop (j + 1) d.subs) q) (sub_read set s at p)) (sym (sub_next set (own_cells set d) d.subs j none lt))
+
+-- ---- all of them
+
+abbrev pub with_subs : List (Option ℕ) → List ℕ → Result ReadSubs BadLine → Result ReadSubs BadLine
+with_subs came lines (Err b) = Err b
+with_subs came lines (Ok r) = Ok (record { place = r.place; came = came ++ r.came; lines = lines ++ r.lines })
+
+-- the first n subsections came so and have these lines; the rest of the reading is the whole reading
+pub record Follows (start : Result ReadSubs BadLine) (n : ℕ) (came : List (Option ℕ)) (lines : List ℕ) (left : Result ReadSubs BadLine) : Type 0 where
+  pub whole : with_subs (take n came) lines left ≡ start
+
+pub follows_none : (start : Result ReadSubs BadLine) (came : List (Option ℕ)) (lines : List ℕ) (left : Result ReadSubs BadLine) → lines ≡ [] → left ≡ start → Follows start 0 came lines left
+follows_none start came lines left e f = record { whole = ap (λ (l : List ℕ). with_subs [] l left) e ∙ by left ∙ f }
+  where
+    by : (r : Result ReadSubs BadLine) → with_subs [] [] r ≡ r
+    by (Ok r) = refl
+    by (Err b) = refl
+
+more_subs : (came : List (Option ℕ)) (lines : List ℕ) (o : Option ℕ) (line : ℕ) (r : Result ReadSubs BadLine) → with_subs came lines (also o line r) ≡ with_subs (came ++ o ∷ []) (lines ++ line ∷ []) r
+more_subs came lines o line (Err b) = refl
+more_subs came lines o line (Ok r) =
+    ap (λ (l : List (Option ℕ)). let x : ReadSubs = record { place = r.place; came = l; lines = lines ++ line ∷ r.lines } in Ok x) (sym (append_assoc came (o ∷ []) r.came))
+    ∙ ap (λ (l : List ℕ). let x : ReadSubs = record { place = r.place; came = (came ++ o ∷ []) ++ r.came; lines = l } in Ok x) (sym (append_assoc lines (line ∷ []) r.lines))
+
+module _ (set : Set) (i j : ℕ) (lt : j < length (device_at set i).subs) where
+  pub follows_next : (start : Result ReadSubs BadLine) (old new : Taken) (lines more : List ℕ) (o : Option ℕ) (q : Standing)
+      → Follows start j old.image.came lines (read_subs set (first_cell set (parts.Sub i j)) (drop j (device_at set i).subs) (place_of old))
+      → j < length old.image.came → sub_read set (sub_at (device_at set i) j) (first_cell set (parts.Sub i j)) (place_of old) ≡ Ok (o, q) → q ≡ place_of new
+      → new.image.came ≡ slice_set old.image.came j o → more ≡ lines ++ old.lines.line ∷ []
+      → Follows start (j + 1) new.image.came more (read_subs set (first_cell set (parts.Sub i (j + 1))) (drop (j + 1) (device_at set i).subs) (place_of new))
+  follows_next start old new lines more o q f room r e c m =
+      let rest = λ (p : Standing). read_subs set (first_cell set (parts.Sub i (j + 1))) (drop (j + 1) (device_at set i).subs) p in
+      let left = next_sub set i j (place_of old) lt ∙ ap (after_sub old.lines.line rest) r in
+      record {
+        whole = ap (λ (l : List (Option ℕ)). with_subs l more (rest (place_of new))) (ap (take (j + 1)) c ∙ take_more_set old.image.came j o room)
+            ∙ ap (λ (l : List ℕ). with_subs (take j old.image.came ++ o ∷ []) l (rest (place_of new))) m
+            ∙ ap (λ (p : Standing). with_subs (take j old.image.came ++ o ∷ []) (lines ++ old.lines.line ∷ []) (rest p)) (sym e)
+            ∙ sym (more_subs (take j old.image.came) lines o old.lines.line (rest q)) ∙ ap (with_subs (take j old.image.came) lines) (sym left) ∙ f.whole;
+      }
+
+  pub follows_stop : (start : Result ReadSubs BadLine) (old : Taken) (lines : List ℕ) (b : BadLine)
+      → Follows start j old.image.came lines (read_subs set (first_cell set (parts.Sub i j)) (drop j (device_at set i).subs) (place_of old))
+      → sub_read set (sub_at (device_at set i) j) (first_cell set (parts.Sub i j)) (place_of old) ≡ Err b → start ≡ Err b
+  follows_stop start old lines b f r =
+      let rest = λ (p : Standing). read_subs set (first_cell set (parts.Sub i (j + 1))) (drop (j + 1) (device_at set i).subs) p in
+      sym f.whole ∙ ap (with_subs (take j old.image.came) lines) (next_sub set i j (place_of old) lt ∙ ap (after_sub old.lines.line rest) r)
+
+-- ---- results
+
+pub record Came (r : Result (Option ℕ × Standing) BadLine) (j : ℕ) (old new : Taken) : Type 0 where
+  pub o : Option ℕ
+  pub q : Standing
+  pub read : r ≡ Ok (o, q)
+  pub place : q ≡ place_of new
+  pub came : new.image.came ≡ slice_set old.image.came j o
+  pub alike : IsAlike old.image new.image
+
+pub sub_came : (r : Result (Option ℕ × Standing) BadLine) (j : ℕ) (old new : Taken) → SubReached r j old new (Ok tt) → Came r j old new
+sub_came (Ok (o, q)) j old new h = record { o = o; q = q; read = refl; place = h.0; came = h.1; alike = h.2 }
+sub_came (Err b) j old new h = absurd h
+
+pub subs_end : (start : Result ReadSubs BadLine) (set : Set) (at n : ℕ) (subs : List Sub) (old new : Taken) (lines : List ℕ)
+    → Follows start n new.image.came lines (read_subs set at subs (place_of new)) → subs ≡ [] → n ≡ length new.image.came → IsAlike old.image new.image → SubsReached start old new lines (Ok tt)
+subs_end start set at n subs old new lines f none all same =
+    let left : read_subs set at subs (place_of new) ≡ Ok (record { place = place_of new; came = []; lines = [] }) = ap (λ (l : List Sub). read_subs set at l (place_of new)) none in
+    let whole : start ≡ Ok (record { place = place_of new; came = take n new.image.came ++ []; lines = lines ++ [] }) = sym f.whole ∙ ap (with_subs (take n new.image.came) lines) left in
+    subst (λ (r : Result ReadSubs BadLine). SubsReached r old new lines (Ok tt)) (sym whole)
+    (refl, append-nil (take n new.image.came) ∙ take_all n new.image.came (omega (arith, all)), append-nil lines, same)
+
+pub subs_bad : (start : Result ReadSubs BadLine) (r : Result (Option ℕ × Standing) BadLine) (j : ℕ) (old new mid : Taken) (lines : List ℕ) (e : LineFault)
+    → ((b : BadLine) → r ≡ Err b → start ≡ Err b) → SubReached r j mid new (Err e) → SubsReached start old new lines (Err e)
+subs_bad start (Ok (o, q)) j old new mid lines e h f = absurd f
+subs_bad start (Err b) j old new mid lines faults.NoMemory h f = absurd f
+subs_bad start (Err b) j old new mid lines (faults.Bad line reason) h f =
+    subst (λ (r : Result ReadSubs BadLine). SubsReached r old new lines (Err (faults.Bad line reason))) (sym (h b refl)) f
+
+pub alike_more : (a b c : Typed) → IsAlike a b → IsAlike b c → IsAlike a c
+alike_more a b c h k = record { version = k.version ∙ h.version; subs = k.subs ∙ h.subs; cells = k.cells ∙ h.cells; kinds = k.kinds ∙ h.kinds }
+
+pub alike_none : (a : Typed) → IsAlike a a
+alike_none a = record { version = refl; subs = refl; cells = refl; kinds = refl }
+
+pub of_alike : (set : Set) (i : ℕ) (a b : Typed) → IsOfDevice set i (state_of a) → IsAlike a b → IsOfDevice set i (state_of b)
+of_alike set i a b h k = record { is_device = h.is_device; cells = k.cells ∙ h.cells; subs = k.subs ∙ h.subs; few = subst (λ (n : ℕ). n ≤ MOST_ITEMS) (sym k.cells) h.few }
+
+pub subs_alike : (r : Result ReadSubs BadLine) (old new : Taken) (lines : List ℕ) → SubsReached r old new lines (Ok tt) → IsAlike old.image new.image
+subs_alike (Ok r) old new lines h = h.3
+subs_alike (Err b) old new lines h = absurd h

@@ -1,29 +1,11 @@
 -- The kinds of cells that are among those of an image.
-use Rattle.std.proofs.Common.{◌≡◌, ℕ, zero, suc, ◌+◌, ◌*◌, ◌<◌, List, [], ◌∷◌, ◌++◌, length, get_or, map, drop, ℤ, pos, refl, sym, ap, ◌∙◌, subst, arith, append_assoc, append-nil, Some, true}
-use Rattle.std.specs.List.{flat_map, slice_get}
-use Rattle.std.proofs.lemmas.List.{map-append, length-map}
-use Rattle.vms_kinds.specs.declared.Item.{Item}
-use Rattle.vms_kinds.specs.declared.Item.TheVariants.{Num, Equal, Unused, Struct}
-use Rattle.vms_kinds.specs.declared.Kind.{Kind}
-use Rattle.vms_kinds.specs.declared.Kind.TheVariants.{U8}
+use Rattle.vms_values.proofs.Facade.{◌≡◌, ℕ, zero, suc, ◌+◌, ◌*◌, ◌<◌, List, [], ◌∷◌, ◌++◌, length, get_or, map, drop, ℤ, pos, refl, sym, ap, ◌∙◌, subst, arith}
+use Rattle.vms_values.proofs.Facade.{append_assoc, append-nil, Some, true, flat_map, slice_get, map-append, length-map, slice_get-get_or, Item, Num, Equal}
+use Rattle.vms_values.proofs.Facade.{Unused, Struct, Kind, U8, Set, Field, Device, Sub, AtLeast, own_cells, Cell, no_desc, item_cells, item_size, field_cells}
+use Rattle.vms_values.proofs.Facade.{cells_from, desc_cells, struct_cells, times, capacity_of, counted, size_same, field_size, cells_of_sub, first_cell}
+use Rattle.vms_values.proofs.Facade.{device_at, is_well_formed, sub_at, kinds_at, table, cells_in, all_below, struct_cells_at, cells_table, struct_clean}
+use Rattle.vms_values.proofs.Facade.{AreKinds, ElementKinds, part_cells, drop_on}
 use Rattle.vms_spec.specs.declared.Part.TheVariants as parts
-use Rattle.vms_spec.specs.Sets.{Set, Field, Device, Sub, AtLeast}
-use Rattle.vms_spec.specs.Images.{own_cells}
-use Rattle.vms_spec.specs.Layout.{Cell, no_desc, item_cells, item_size, field_cells, cells_from, desc_cells, struct_cells, times, capacity_of, counted}
-use Rattle.vms_spec.proofs.Sizes.{size_same, field_size}
-use Rattle.vms_bodies.proofs.PartLaws.{cells_of_sub}
-use Rattle.vms_desc.specs.Asks.{first_cell}
-use Rattle.vms_desc.specs.Described.{device_at}
-use Rattle.vms_desc.specs.Formed.{is_well_formed}
-use Rattle.vms_desc.specs.Parts.{sub_at}
-use Rattle.vms_desc.specs.Spots.{kinds_at}
-use Rattle.vms_walk.specs.Steps.{table, cells_in}
-use Rattle.vms_spec.proofs.Prefixes.{all_below, struct_cells_at}
-use Rattle.vms_walk.proofs.Spots.{cells_table}
-use Rattle.vms_desc.proofs.Clean.{struct_clean}
-use Rattle.std.proofs.lemmas.Option.{slice_get-get_or}
-use Rattle.vms_values.specs.Taken.{AreKinds, ElementKinds, part_cells}
-use Rattle.vms_spec.proofs.ListLaws.{drop_on}
 
 abbrev kinds_in : List Cell → List Kind
 kinds_in cells = map (λ (c : Cell). c.kind) cells

@@ -1,37 +1,18 @@
--- Names from cells: a part's fields one after the other, and one element.
-use Rattle.std.proofs.Common.{◌≡◌, ℕ, zero, suc, ◌+◌, ◌-◌, ◌*◌, ◌<◌, ◌≤◌, ◌/◌, ◌%◌, List, [], ◌∷◌, ◌++◌, length, get_or, drop, map, ℤ, pos, refl, sym, ap, ◌∙◌, subst, arith, true, append-nil, length-append, codes, append_assoc, Bool, false, nat_lt}
-use Rattle.std.proofs.lemmas.Bool.{ltb-true, ltb-false}
-use Rattle.std.proofs.lemmas.List.{drop_all, get_or_append_left, get_or-map, length-map}
-use Rattle.std.proofs.Math.Seq.{get_or-append_right}
-use Rattle.std.proofs.lemmas.Nat.{div-add-mod'}
-use Rattle.std.proofs.Math.Nat.{mod-lt}
-use Rattle.vms_kinds.specs.declared.Item.{Item}
-use Rattle.vms_kinds.specs.declared.Item.TheVariants.{Num, Equal, Unused, Struct}
-use Rattle.std.specs.Fmt.{decimal}
-use Rattle.vms_spec.specs.declared.Count.{Count}
-use Rattle.vms_spec.specs.declared.Count.TheVariants.{One, Fixed, Counted}
-use Rattle.vms_spec.specs.declared.Part.{Part}
+-- Names from cells: a part's fields one after the other, one element, and the subsections of a device.
+use Rattle.vms_values.proofs.Facade.{◌≡◌, ℕ, zero, suc, ◌+◌, ◌*◌, ◌<◌, List, [], ◌∷◌, ◌++◌, length, get_or, map, drop, ℤ, pos, refl, sym, ap, ◌∙◌, subst, arith}
+use Rattle.vms_values.proofs.Facade.{append_assoc, append-nil, true, ◌-◌, ◌≤◌, ◌/◌, ◌%◌, length-append, codes, Bool, false, nat_lt, None, flat_map, length-map}
+use Rattle.vms_values.proofs.Facade.{get_or_append_left, get_or-map, drop_more, ltb-true, ltb-false, get_or-append_right, div-add-mod', mod-lt, decimal, Item}
+use Rattle.vms_values.proofs.Facade.{Num, Equal, Unused, Struct, Set, Field, Device, Sub, AtLeast, Desc, own_cells, default_image, Cell, no_desc, item_size}
+use Rattle.vms_values.proofs.Facade.{field_cells, desc_cells, struct_cells, capacity_of, counted, first, numbers_of, no_parent, device_cells, field_size}
+use Rattle.vms_values.proofs.Facade.{field_at, device_at, is_well_formed, sub_at, HasPart, desc_at, size_in, cells_table, struct_size, reach}
+use Rattle.vms_values.proofs.Facade.{field_clean, Count, One, Fixed, Counted, Part, uses_below, own_cell_count, item_rank, part_rank, reach_whole, uses_more}
+use Rattle.vms_values.proofs.Facade.{rank_below, fields_at, Shape, no_shape, shape, shapes, dotted, item_elements, stand_of, field_elements, elements_from}
+use Rattle.vms_values.proofs.Facade.{desc_elements, index_text, names_of, absent, elements_in, subs_elements, cell_name, first_at, shapes_cells, AreWalked}
+use Rattle.vms_values.proofs.Facade.{are_walked, is_dotted, names_append, names_long, names_map, item_walks, field_walks, fields_walk, desc_walks}
+use Rattle.vms_values.proofs.Facade.{desc_names_are, walks, array_name, names_absent, usable, part_names, item_names, field_name, IsInPart, sub_inside}
+use Rattle.vms_values.proofs.Facade.{own_inside_device, few_cells}
+use Rattle.vms_elements.specs.Elements.{cells_in}
 use Rattle.vms_spec.specs.declared.Part.TheVariants as parts
-use Rattle.vms_spec.specs.Sets.{Field, Set}
-use Rattle.vms_spec.specs.Rules.{uses_below}
-use Rattle.vms_spec.specs.Layout.{Cell, no_desc, first, counted, capacity_of, item_size, field_cells, desc_cells, numbers_of, no_parent}
-use Rattle.vms_spec.specs.Places.{own_cell_count}
-use Rattle.vms_spec.proofs.Sizes.{field_size}
-use Rattle.vms_desc.specs.Asks.{field_at}
-use Rattle.vms_desc.specs.Formed.{is_well_formed}
-use Rattle.vms_desc.specs.Parts.{HasPart, desc_at}
-use Rattle.vms_desc.proofs.Clean.{reach, field_clean}
-use Rattle.vms_walk.specs.Steps.{size_in}
-use Rattle.vms_desc.proofs.Ranks.{item_rank, part_rank, reach_whole, uses_more, rank_below}
-use Rattle.vms_walk.proofs.Spots.{cells_table, struct_size}
-use Rattle.vms_walk.proofs.Walking.{fields_at}
-use Rattle.vms_elements.specs.Elements.{Shape, no_shape, shape, shapes, cells_in, dotted, item_elements, stand_of, field_elements, elements_from, desc_elements, index_text}
-use Rattle.vms_elements.specs.Parts.{names_of}
-use Rattle.vms_spec.proofs.Tables.{first_at}
-use Rattle.vms_elements.proofs.Tables.{shapes_cells}
-use Rattle.vms_elements.proofs.Walk.{AreWalked, are_walked, is_dotted, names_append, names_long, names_map, item_walks, field_walks, fields_walk, desc_walks, desc_names_are}
-use Rattle.vms_elements.proofs.Names.{array_name}
-use Rattle.vms_values.specs.Naming.{usable, part_names, item_names, field_name}
 
 pub positive : (n size c : ℕ) → c < n * size → 0 < size
 positive n zero c lt = let none : n * 0 ≡ 0 = grind arith in absurd (omega (arith, none, lt))
@@ -90,8 +71,7 @@ module _ (set : Set) where
       let is : item_names set (Struct j) ≡ map (λ l. codes "." ++ l) names =
       ap (λ (s : Shape). names_of (map dotted (s.elements [] 0))) (first_at shape set.structs no_shape (length set.structs) j lt) ∙ names_map is_dotted (desc_elements ss d d.version [] 0) in
       let long : length names ≡ size_in set (Struct j) = sym (length-map names (λ l. codes "." ++ l)) ∙ ap length (sym is) ∙ item_long (Struct j) in
-      ap (λ (l : List (List ℕ)). get_or l c []) is
-      ∙ get_or-map (λ l. codes "." ++ l) names c [] [] (omega (arith, long))
+      ap (λ (l : List (List ℕ)). get_or l c []) is ∙ get_or-map (λ l. codes "." ++ l) names c [] [] (omega (arith, long))
       ∙ ap (λ (l : List (List ℕ)). codes "." ++ get_or l c []) (desc_walks ss (are_walked set.structs j) d d.version 0 [] [] 0 0).names
 
   -- ---- the fields of a part
@@ -106,9 +86,6 @@ module _ (set : Set) where
       let own = numbers_of (cells_in (usable set part)) d [] 0 in
       desc_names_are (usable set part) (walked_in part h) d 0 [] 0 ∙ (fields_walk (usable set part) (walked_in part h) d.fields 0 0 own no_parent [] [] 0 0 0 d.fields).names
 
-  pub no_names : (part : Part) (k : ℕ) → k ≡ length (desc_at set part).fields → names_from part k ≡ []
-  no_names part k e = ap (λ (l : List Field). names_of (elements_from (usable set part) (desc_at set part).fields 0 no_parent [] k 0 l)) (drop_all k (desc_at set part).fields (omega arith))
-
   field_long : (part : Part) → HasPart set part → (k : ℕ) (f : Field) → uses_below (reach set part) f.item ≡ true
       → length (names_of (field_elements (usable set part) (desc_at set part).fields 0 no_parent [] k 0 f)) ≡ capacity_of f.count * size_in set f.item
   field_long part h k f uses =
@@ -116,8 +93,7 @@ module _ (set : Set) where
       let ss = usable set part in
       let le = reach_whole set part h in
       let one : item_size (cells_in ss) f.item ≡ size_in set f.item =
-      sym (long_in ss (walked_in part h) f.item)
-      ∙ ap (λ (t : List Shape). length (names_of (item_elements t f.item [] (pos 0) [] 0))) (usable_is part h)
+      sym (long_in ss (walked_in part h) f.item) ∙ ap (λ (t : List Shape). length (names_of (item_elements t f.item [] (pos 0) [] 0))) (usable_is part h)
       ∙ ap length (item_in (reach set part) le f.item uses [] (pos 0) [] 0) ∙ item_long f.item in
       names_long (field_elements ss all 0 no_parent [] k 0 f) ∙ ap length (field_walks ss (walked_in part h) all 0 0 no_parent no_parent [] [] k 0 0 f).cells_are ∙ field_size (cells_in ss) all k f ∙ ap (λ (s : ℕ). capacity_of f.count * s) one
 
@@ -133,8 +109,7 @@ module _ (set : Set) where
       let names : (a : ℕ) → names_of (item_elements ss f.item (counted k all) f.default [] a) ≡ item_names set f.item =
       λ a. ap (λ (t : List Shape). names_of (item_elements t f.item (counted k all) f.default [] a)) (usable_is part h) ∙ item_in (reach set part) le f.item uses (counted k all) f.default [] a in
       let step_is : item_size (cells_in ss) f.item ≡ size =
-      sym (long_in ss (walked_in part h) f.item)
-      ∙ ap (λ (t : List Shape). length (names_of (item_elements t f.item [] (pos 0) [] 0))) (usable_is part h)
+      sym (long_in ss (walked_in part h) f.item) ∙ ap (λ (t : List Shape). length (names_of (item_elements t f.item [] (pos 0) [] 0))) (usable_is part h)
       ∙ ap length (item_in (reach set part) le f.item uses [] (pos 0) [] 0) ∙ item_long f.item in
       let divided : q * size + r ≡ left = div-add-mod' left size in
       let some : 0 < size = positive (capacity_of f.count) size left small in
@@ -203,8 +178,7 @@ module _ (set : Set) where
       let rest = get_or (item_names set f.item) (cell % size_in set f.item) [] in
       let none : index_text f.count (cell / size_in set f.item) ≡ [] = ap (λ (c : Count). index_text c (cell / size_in set f.item)) one in
       ap (λ (l : List ℕ). (path ++ l) ++ get_or (item_names set f.item) (cell % step) []) n
-      ∙ ap (λ (k : ℕ). (path ++ f.name) ++ get_or (item_names set f.item) (cell % k) []) s
-      ∙ append_assoc path f.name rest
+      ∙ ap (λ (k : ℕ). (path ++ f.name) ++ get_or (item_names set f.item) (cell % k) []) s ∙ append_assoc path f.name rest
       ∙ ap (λ (l : List ℕ). path ++ (l ++ rest)) (sym (ap (λ (l : List ℕ). f.name ++ l) none ∙ append-nil f.name))
 
   pub element_is : (f : Field) → (f.count ≡ One → ⊥) → (path name : List ℕ) (step cell : ℕ) → name ≡ f.name → step ≡ size_in set f.item
@@ -215,11 +189,106 @@ module _ (set : Set) where
       let rest = get_or (item_names set f.item) (cell % size) [] in
       let joined : ((path ++ f.name) ++ codes "[" ++ decimal e ++ codes "]") ++ rest ≡ path ++ ((f.name ++ (codes "[" ++ (decimal e ++ codes "]"))) ++ rest) = simp append_assoc refl in
       ap (λ (l : List ℕ). ((path ++ l) ++ codes "[" ++ decimal (cell / step) ++ codes "]") ++ get_or (item_names set f.item) (cell % step) []) n
-      ∙ ap (λ (k : ℕ). ((path ++ f.name) ++ codes "[" ++ decimal (cell / k) ++ codes "]") ++ get_or (item_names set f.item) (cell % k) []) s
-      ∙ joined
+      ∙ ap (λ (k : ℕ). ((path ++ f.name) ++ codes "[" ++ decimal (cell / k) ++ codes "]") ++ get_or (item_names set f.item) (cell % k) []) s ∙ joined
       ∙ ap (λ (l : List ℕ). path ++ ((f.name ++ l) ++ rest)) (sym (index_is f.count many e))
     where
       index_is : (c : Count) → (c ≡ One → ⊥) → (e : ℕ) → index_text c e ≡ codes "[" ++ (decimal e ++ codes "]")
       index_is One other e = absurd (other refl)
       index_is (Fixed n) other e = refl
       index_is (Counted by most) other e = refl
+
+-- ---- Names from cells: a device's own fields, and its subsections one after the other.
+
+-- the names of one description, whatever the state
+abbrev pub desc_names_of : Set → Desc → List (List ℕ)
+desc_names_of set d = names_of (elements_in set d 0 [] 0)
+
+abbrev subs_names : Set → List Sub → List (List ℕ)
+subs_names set subs = flat_map (λ s. desc_names_of set s.desc) subs
+
+-- those of a device's subsections from j on
+abbrev pub names_of_subs : Set → ℕ → ℕ → List (List ℕ)
+names_of_subs set i j = subs_names set (drop j (device_at set i).subs)
+
+same_desc : (set : Set) (d : Desc) (v : ℕ) (n : List ℤ) (a : ℕ) → names_of (elements_in set d v n a) ≡ desc_names_of set d
+same_desc set d v n a = (walks set d v 0 n [] a 0).names
+
+none_came : (set : Set) (subs : List Sub) (n : List ℤ) (a : ℕ) → names_of (subs_elements set subs (map (λ s. None) subs) n a) ≡ subs_names set subs
+none_came set [] n a = refl
+none_came set (s ∷ subs) n a =
+    let next = a + length (desc_cells (struct_cells set) s.desc) in
+    names_append (map absent (elements_in set s.desc s.desc.version n a)) (subs_elements set subs (map (λ s. None) subs) n next)
+    ∙ ap (λ (l : List (List ℕ)). l ++ names_of (subs_elements set subs (map (λ s. None) subs) n next)) (names_absent (elements_in set s.desc s.desc.version n a) ∙ same_desc set s.desc s.desc.version n a)
+    ∙ ap (λ (l : List (List ℕ)). desc_names_of set s.desc ++ l) (none_came set subs n next)
+
+-- the names of a device are its own and its subsections'
+pub device_names : (set : Set) (d : Device) (c : ℕ) → cell_name set d c ≡ get_or (desc_names_of set d.desc ++ subs_names set d.subs) c []
+device_names set d c =
+    let image = default_image set d in
+    let own = elements_in set d.desc image.version image.numbers 0 in
+    let subs = subs_elements set d.subs image.came image.numbers (own_cells set d) in
+    ap (λ (l : List (List ℕ)). get_or l c [])
+    (names_append own subs ∙ ap (λ (l : List (List ℕ)). l ++ names_of subs) (same_desc set d.desc image.version image.numbers 0)
+    ∙ ap (λ (l : List (List ℕ)). desc_names_of set d.desc ++ l) (none_came set d.subs image.numbers (own_cells set d)))
+
+module _ (set : Set) (well : is_well_formed set ≡ true) (i : ℕ) (lt : i < length set.devices) where
+  own_long : length (desc_names_of set (device_at set i).desc) ≡ own_cell_count set (device_at set i).desc
+  own_long = part_long set well (parts.Device i) lt
+
+  sub_long : (j : ℕ) → j < length (device_at set i).subs → length (desc_names_of set (sub_at (device_at set i) j).desc) ≡ own_cell_count set (sub_at (device_at set i) j).desc
+  sub_long j lt' = part_long set well (parts.Sub i j) (lt, lt')
+
+  -- in the device's own fields
+  pub in_own : (c : ℕ) → c < own_cell_count set (device_at set i).desc → IsInPart set i c (record { part = parts.Device i; cell = c })
+  in_own c small = record {
+    part = lt;
+    small = omega (arith, own_inside_device set i, few_cells set well i);
+    inside = small;
+    same = sym (device_names set (device_at set i) c ∙ get_or_append_left (desc_names_of set (device_at set i).desc) (names_of_subs set i 0) [] c (omega (arith, own_long, small)));
+  }
+
+  pub past_own : (c : ℕ) → own_cell_count set (device_at set i).desc ≤ c
+      → cell_name set (device_at set i) c ≡ get_or (names_of_subs set i 0) (c - own_cell_count set (device_at set i).desc) []
+  past_own c past =
+      device_names set (device_at set i) c
+      ∙ get_or-append_right (desc_names_of set (device_at set i).desc) (names_of_subs set i 0) c [] (omega (arith, own_long, past))
+      ∙ ap (λ (n : ℕ). get_or (names_of_subs set i 0) (c - n) []) own_long
+
+  -- the subsections from j on
+  split : (j : ℕ) → j < length (device_at set i).subs → names_of_subs set i j ≡ desc_names_of set (sub_at (device_at set i) j).desc ++ names_of_subs set i (j + 1)
+  split j lt' = ap (subs_names set) (drop_more (device_at set i).subs j (record { desc = no_desc; needed = AtLeast 0 }) lt')
+
+  pub in_sub : (c j left : ℕ) → j < length (device_at set i).subs → left < own_cell_count set (sub_at (device_at set i) j).desc
+      → cell_name set (device_at set i) c ≡ get_or (names_of_subs set i j) left [] → IsInPart set i c (record { part = parts.Sub i j; cell = left })
+  in_sub c j left lt' small same = record {
+    part = (lt, lt');
+    small = omega (arith, sub_inside set i j lt', few_cells set well i);
+    inside = small;
+    same = sym (same ∙ ap (λ (l : List (List ℕ)). get_or l left []) (split j lt')
+        ∙ get_or_append_left (desc_names_of set (sub_at (device_at set i) j).desc) (names_of_subs set i (j + 1)) [] left (omega (arith, sub_long j lt', small)));
+  }
+
+  pub past_sub : (j left : ℕ) → j < length (device_at set i).subs → own_cell_count set (sub_at (device_at set i) j).desc ≤ left
+      → get_or (names_of_subs set i j) left [] ≡ get_or (names_of_subs set i (j + 1)) (left - own_cell_count set (sub_at (device_at set i) j).desc) []
+  past_sub j left lt' past =
+      ap (λ (l : List (List ℕ)). get_or l left []) (split j lt')
+      ∙ get_or-append_right (desc_names_of set (sub_at (device_at set i) j).desc) (names_of_subs set i (j + 1)) left [] (omega (arith, sub_long j lt', past))
+      ∙ ap (λ (n : ℕ). get_or (names_of_subs set i (j + 1)) (left - n) []) (sub_long j lt')
+
+  pub subs_longer : (j : ℕ) → j < length (device_at set i).subs → length (names_of_subs set i j) ≡ own_cell_count set (sub_at (device_at set i) j).desc + length (names_of_subs set i (j + 1))
+  subs_longer j lt' =
+      ap length (split j lt') ∙ length-append (desc_names_of set (sub_at (device_at set i) j).desc) (names_of_subs set i (j + 1)) ∙ ap (λ (n : ℕ). n + length (names_of_subs set i (j + 1))) (sub_long j lt')
+
+  -- a name for each cell
+  subs_all : (subs : List Sub) → ((j : ℕ) → j < length subs → length (desc_names_of set (get_or subs j (record { desc = no_desc; needed = AtLeast 0 })).desc) ≡ length (desc_cells (struct_cells set) (get_or subs j (record { desc = no_desc; needed = AtLeast 0 })).desc))
+      → length (subs_names set subs) ≡ length (flat_map (λ s. desc_cells (struct_cells set) s.desc) subs)
+  subs_all [] h = refl
+  subs_all (s ∷ subs) h =
+      let rest = subs_all subs (λ j l. h (suc j) (omega arith)) in
+      let here = h 0 (omega arith) in
+      omega (arith, length-append (desc_names_of set s.desc) (subs_names set subs), length-append (desc_cells (struct_cells set) s.desc) (flat_map (λ s. desc_cells (struct_cells set) s.desc) subs), rest, here)
+
+  pub all_long : length (names_of_subs set i 0) + own_cell_count set (device_at set i).desc ≡ length (device_cells set (device_at set i))
+  all_long =
+      let d = device_at set i in
+      omega (arith, subs_all d.subs sub_long, length-append (desc_cells (struct_cells set) d.desc) (flat_map (λ s. desc_cells (struct_cells set) s.desc) d.subs))

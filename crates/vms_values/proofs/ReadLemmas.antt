@@ -1,14 +1,38 @@
--- A text that is read line by line.
-use Rattle.std.proofs.Common.{◌≡◌, ℕ, ◌+◌, Bool, true, false, ◌&&◌, ◌==◌, List, [], ◌∷◌, ◌++◌, length, drop, Option, Some, None, Ok, Err, refl, sym, ap, ◌∙◌, subst, arith, drop-drop, length-append, MatchOption}
-use Rattle.std.proofs.lemmas.Bool.{eqb-true}
-use Rattle.std.specs.Borrow.{Bor}
-use Rattle.vms_spec.specs.Spelling.{begins_with}
-use Rattle.vms_spec.specs.ValuesReading.{BadLine, Standing, Read}
-use Rattle.vms_values.specs.declared.fault.LineFault.{LineFault}
+-- A text that is read line by line: fronts, numbers as they are spelled, and the line of a cell.
+use Rattle.vms_values.proofs.Facade.{◌≡◌, ℕ, Bool, true, false, ◌&&◌, ◌==◌, List, [], ◌∷◌, ◌++◌, length, drop, refl, sym, ap, ◌∙◌, ◌+◌, Option, Some, None, Ok}
+use Rattle.vms_values.proofs.Facade.{Err, subst, arith, drop-drop, length-append, MatchOption, ◌-◌, ◌*◌, ◌^◌, ◌<◌, ◌≤◌, not, ◌||◌, nat_le, nat_lt, zero, suc}
+use Rattle.vms_values.proofs.Facade.{take, get_or, if◌then◌else◌, length-drop, ℤ, pos, slice_set, Result, codes, bytes_eq, and_assoc, and-true, eqb-true}
+use Rattle.vms_values.proofs.Facade.{ltb-true, ltb-false, leb-true, and_parts, Bor, list_all, pow-suc, drop_more, drop_all, take_all, take-append-drop}
+use Rattle.vms_values.proofs.Facade.{nat_tests, option_and_then, begins_with, is_digit, are_digits, natural_from, number_spelled, BadLine, Standing, Read, bad}
+use Rattle.vms_values.proofs.Facade.{put_line, put_number, LineFault, Strips, with_digit, natural_spelled, read_from, held, IsBad, Reaches, natural_up, Kind}
+use Rattle.vms_values.proofs.Facade.{InRange, ranges, ValuesReason, same_number, exceeds, in_range, IsFirstLine, NextLine, number_judged}
 use Rattle.vms_values.specs.declared.fault.LineFault.TheVariants as faults
-use Rattle.vms_values.specs.Spelled.{Strips}
-use Rattle.vms_values.specs.Reading.{IsBad, Reaches}
-use Rattle.vms_values.proofs.TextLemmas.{begins-append}
+use Rattle.vms_spec.specs.declared.ValuesReason.TheVariants as reasons
+
+pub equal-append : (line front more : List ℕ) → bytes_eq line (front ++ more) ≡ (begins_with front line && bytes_eq (drop (length front) line) more)
+equal-append line [] more = refl
+equal-append [] (x ∷ front) more = refl
+equal-append (y ∷ line) (x ∷ front) more =
+    ap (λ (t : Bool). (y == x) && t) (equal-append line front more) ∙ sym (and_assoc (y == x) (begins_with front line) (bytes_eq (drop (length front) line) more))
+
+pub begins-append : (line front more : List ℕ) → begins_with (front ++ more) line ≡ (begins_with front line && begins_with more (drop (length front) line))
+begins-append line [] more = refl
+begins-append [] (x ∷ front) more = refl
+begins-append (y ∷ line) (x ∷ front) more =
+    ap (λ (t : Bool). (y == x) && t) (begins-append line front more) ∙ sym (and_assoc (y == x) (begins_with front line) (begins_with more (drop (length front) line)))
+
+pub joined_on : (rest more piece left after : List ℕ) (whole : Bool) → bytes_eq rest left ≡ whole → left ≡ piece ++ after → begins_with piece rest ≡ true
+    → more ≡ drop (length piece) rest → bytes_eq more after ≡ whole
+joined_on rest more piece left after whole inv split begins is =
+    ap (λ (l : List ℕ). bytes_eq l after) is ∙ ap (λ (t : Bool). t && bytes_eq (drop (length piece) rest) after) (sym begins)
+    ∙ sym (equal-append rest piece after) ∙ ap (bytes_eq rest) (sym split) ∙ inv
+
+pub joined_off : (rest piece left after : List ℕ) (whole : Bool) → bytes_eq rest left ≡ whole → left ≡ piece ++ after → begins_with piece rest ≡ false → false ≡ whole
+joined_off rest piece left after whole inv split begins =
+    ap (λ (t : Bool). t && bytes_eq (drop (length piece) rest) after) (sym begins)
+    ∙ sym (equal-append rest piece after) ∙ ap (bytes_eq rest) (sym split) ∙ inv
+
+-- ---- A text that is read line by line.
 
 -- ---- fronts
 
@@ -50,3 +74,214 @@ nil_of (x ∷ xs) e = let f : length (x ∷ xs) ≡ 0 = eqb-true (length (x ∷ 
 pub some_of : (xs : List ℕ) → (length xs == 0) ≡ false → xs ≡ [] → ⊥
 some_of [] e f = cc
 some_of (x ∷ xs) e f = cc
+
+-- ---- Numbers as they are spelled.
+
+-- ---- digits
+
+abbrev bounded : Bool → ℕ → Option ℕ
+bounded good n = if good && nat_lt n (2 ^ 64) then Some n else None
+
+not_lt : (a b : ℕ) → b ≤ a → nat_lt a b ≡ false
+not_lt a b h = grind (arith, nat_tests)
+
+is_lt : (a b : ℕ) → a < b → nat_lt a b ≡ true
+is_lt a b h = grind (arith, nat_tests)
+
+none_if : (a : Bool) (n : ℕ) → (if a && false then Some n else None) ≡ None
+none_if true n = refl
+none_if false n = refl
+
+-- one more digit, if those after it are read so
+read_more : (n b m : ℕ) (bs : List ℕ) → m ≡ n * 10 + (b - 48) → (d s : Bool) → is_digit b ≡ d → nat_lt m (2 ^ 64) ≡ s
+    → (m < 2 ^ 64 → read_from m bs ≡ bounded (list_all is_digit bs) (natural_from m bs))
+    → option_and_then (λ k. read_from k bs) (if is_digit b && nat_lt m (2 ^ 64) then Some m else None) ≡ bounded (is_digit b && list_all is_digit bs) (natural_from m bs)
+read_more n b m bs is false s e f later =
+    ap (λ (t : Bool). option_and_then (λ k. read_from k bs) (if t && nat_lt m (2 ^ 64) then Some m else None)) e
+    ∙ sym (ap (λ (t : Bool). bounded (t && list_all is_digit bs) (natural_from m bs)) e)
+read_more n b m bs is true true e f later =
+    ap (λ (t : Bool). option_and_then (λ k. read_from k bs) (if t && nat_lt m (2 ^ 64) then Some m else None)) e
+    ∙ ap (λ (t : Bool). option_and_then (λ k. read_from k bs) (if t then Some m else None)) f ∙ later (ltb-true m (2 ^ 64) f)
+    ∙ sym (ap (λ (t : Bool). bounded (t && list_all is_digit bs) (natural_from m bs)) e)
+read_more n b m bs is true false e f later =
+    let up : 2 ^ 64 ≤ m = ltb-false m (2 ^ 64) f in
+    let over : nat_lt (natural_from m bs) (2 ^ 64) ≡ false = not_lt (natural_from m bs) (2 ^ 64) (omega (arith, natural_up m bs)) in
+    ap (λ (t : Bool). option_and_then (λ k. read_from k bs) (if t && nat_lt m (2 ^ 64) then Some m else None)) e
+    ∙ ap (λ (t : Bool). option_and_then (λ k. read_from k bs) (if t then Some m else None)) f ∙ sym (none_if (list_all is_digit bs) (natural_from m bs))
+    ∙ sym (ap (λ (t : Bool). if list_all is_digit bs && t then Some (natural_from m bs) else None) over)
+    ∙ sym (ap (λ (t : Bool). bounded (t && list_all is_digit bs) (natural_from m bs)) e)
+
+pub read_is : (n : ℕ) (bs : List ℕ) → n < 2 ^ 64 → read_from n bs ≡ bounded (list_all is_digit bs) (natural_from n bs)
+read_is n [] lt = sym (ap (λ (t : Bool). if t then Some n else None) (is_lt n (2 ^ 64) lt))
+read_is n (b ∷ bs) lt = read_more n b (n * 10 + (b - 48)) bs refl (is_digit b) (nat_lt (n * 10 + (b - 48)) (2 ^ 64)) refl refl (read_is (n * 10 + (b - 48)) bs)
+
+-- a digit, and no zero before others
+abbrev pub unpadded : List ℕ → Bool
+unpadded text = length text == 1 || (nat_le 2 (length text) && not (get_or text 0 48 == 48))
+
+pub read_natural : (text : List ℕ) → unpadded text ≡ true → read_from 0 text ≡ natural_spelled text
+read_natural text e =
+    read_is 0 text (omega arith)
+    ∙ ap (λ (t : Bool). bounded t (natural_from 0 text)) (sym (and-true (list_all is_digit text)) ∙ ap (λ (t : Bool). list_all is_digit text && t) (sym e))
+
+pub digit_stops : (value i d : ℕ) (text : List ℕ) → i < length text → with_digit value (get_or text i d) ≡ None → read_from value (drop i text) ≡ None
+digit_stops value i d text lt e =
+    ap (read_from value) (drop_more text i d lt) ∙ ap (λ (o : Option ℕ). option_and_then (λ m. read_from m (drop (i + 1) text)) o) e
+
+pub digit_goes : (value i d m : ℕ) (text : List ℕ) → i < length text → with_digit value (get_or text i d) ≡ Some m → read_from m (drop (i + 1) text) ≡ read_from value (drop i text)
+digit_goes value i d m text lt e =
+    sym (ap (read_from value) (drop_more text i d lt) ∙ ap (λ (o : Option ℕ). option_and_then (λ m. read_from m (drop (i + 1) text)) o) e)
+
+pub digits_end : (value i : ℕ) (text : List ℕ) → length text ≤ i → Some value ≡ read_from value (drop i text)
+digits_end value i text le = sym (ap (read_from value) (drop_all i text le))
+
+-- ---- a few digits
+
+-- those of a front, and then the others
+pub read_append : (n : ℕ) (xs ys : List ℕ) → read_from n (xs ++ ys) ≡ option_and_then (λ m. read_from m ys) (read_from n xs)
+read_append n [] ys = refl
+read_append n (b ∷ xs) ys = by (with_digit n b) (λ m. read_append m xs ys)
+  where
+    by : (o : Option ℕ) → ((m : ℕ) → read_from m (xs ++ ys) ≡ option_and_then (λ k. read_from k ys) (read_from m xs)) → option_and_then (λ m. read_from m (xs ++ ys)) o ≡ option_and_then (λ m. read_from m ys) (option_and_then (λ m. read_from m xs) o)
+    by None later = refl
+    by (Some m) later = later m
+
+pub read_rest : (few : ℕ) (text : List ℕ) → few ≤ length text
+    → read_from 0 text ≡ option_and_then (λ m. read_from m (take (length text - few) (drop few text))) (read_from 0 (take few text))
+read_rest few text le =
+    let long : length (drop few text) ≡ length text - few = length-drop few text in
+    let rest : take (length text - few) (drop few text) ≡ drop few text = take_all (length text - few) (drop few text) (omega (arith, long)) in
+    ap (read_from 0) (sym (take-append-drop few text)) ∙ read_append 0 (take few text) (drop few text)
+    ∙ ap (λ (l : List ℕ). option_and_then (λ m. read_from m l) (read_from 0 (take few text))) (sym rest)
+
+ten_up : (i k : ℕ) → 10 ^ i ≤ 10 ^ (i + k)
+ten_up i zero =
+    let same : i + 0 ≡ i = omega arith in
+    omega (arith, ap (λ (n : ℕ). 10 ^ n) same)
+ten_up i (suc k) =
+    let next : i + suc k ≡ suc (i + k) = omega arith in
+    let more : 10 ^ (i + suc k) ≡ 10 ^ (i + k) * 10 = ap (λ (n : ℕ). 10 ^ n) next ∙ pow-suc 10 (i + k) in
+    omega (arith, more, ten_up i k)
+
+-- room for one more digit
+pub few_fit : (i n : ℕ) → n < 10 ^ i → i < 19 → n * 10 + 9 < 2 ^ 64
+few_fit i n lt le =
+    let all : i + (18 - i) ≡ 18 = omega (arith, le) in
+    let up : 10 ^ i ≤ 10 ^ 18 = subst (λ (k : ℕ). 10 ^ i ≤ 10 ^ k) all (ten_up i (18 - i)) in
+    omega (arith, lt, up)
+
+digit_low : (b : ℕ) → is_digit b ≡ true → b ≤ 57
+digit_low b e = leb-true b 57 (and_parts (nat_le 48 b) (nat_le b 57) e).1
+
+digit_up : (n b m : ℕ) → with_digit n b ≡ Some m → m ≤ n * 10 + 9
+digit_up n b m e = by (is_digit b) (nat_lt (n * 10 + (b - 48)) (2 ^ 64)) refl e
+  where
+    by : (d s : Bool) → is_digit b ≡ d → (if d && s then Some (n * 10 + (b - 48)) else None) ≡ Some m → m ≤ n * 10 + 9
+    by true true h e =
+        let is : n * 10 + (b - 48) ≡ m = cc in
+        omega (arith, is, digit_low b h)
+    by true false h e = cc
+    by false s h e = cc
+
+pub few_next : (i n d m : ℕ) (text : List ℕ) → n < 10 ^ i → with_digit n (get_or text i d) ≡ Some m → m < 10 ^ (i + 1)
+few_next i n d m text lt e =
+    let one : i + 1 ≡ suc i = omega arith in
+    let more : 10 ^ (i + 1) ≡ 10 ^ i * 10 = ap (λ (k : ℕ). 10 ^ k) one ∙ pow-suc 10 i in
+    omega (arith, more, lt, digit_up n (get_or text i d) m e)
+
+-- ---- ranges
+
+-- ---- signs
+
+-- ---- a number without a sign
+
+pub spelled_is : (text : List ℕ) (value : ℕ) → Some value ≡ natural_spelled text → number_spelled text ≡ Some (pos value)
+spelled_is text value e = by (natural_from 0 text) _ (are_digits text) (nat_lt (natural_from 0 text) (2 ^ 64)) e
+  where
+    by : (n : ℕ) (other : Option ℤ) (a b : Bool) → Some value ≡ (if a && b then Some n else None) → (if a then Some (pos n) else other) ≡ Some (pos value)
+    by n other true true e = let same : value ≡ n = cc in ap (λ (k : ℕ). Some (pos k)) (sym same)
+    by n other true false e = cc
+    by n other false b e = cc
+
+-- ---- The line of a cell that may count arrays and may not be there.
+
+-- what follows from what was judged of the number
+abbrev taken_number : ℕ → Standing → List ℕ → Result ℤ ValuesReason → Read
+taken_number cell p rest (Ok z) = Ok (record { numbers = slice_set p.numbers cell z; line = suc p.line; rest = rest })
+taken_number cell p rest (Err reason) = bad p reason
+
+-- a number that was judged well is in its kind's range
+judged_is : (z y : ℤ) (a c : Bool) → Ok z ≡ (if a then Err reasons.Count else if c then Ok y else Err reasons.Absent) → z ≡ y
+judged_is z y true c e = cc
+judged_is z y false true e = cc
+judged_is z y false false e = cc
+
+judged_held : (kind : Kind) (caps : List ℕ) (default : ℤ) (present : Bool) (y z : ℤ) (b : Bool) → in_range kind y ≡ b → Ok z ≡ number_judged caps default present (if b then Some y else None) → InRange kind z
+judged_held kind caps default present y z false q e = cc
+judged_held kind caps default present y z true q e =
+    subst (InRange kind) (sym (judged_is z y (exceeds caps y) (present || same_number y default) e)) (ranges kind y q)
+
+pub number_held : (kind : Kind) (caps : List ℕ) (default : ℤ) (present : Bool) (s : Option ℤ) (z : ℤ) → Ok z ≡ number_judged caps default present (held kind s) → InRange kind z
+number_held kind caps default present None z e = cc
+number_held kind caps default present (Some y) z e = judged_held kind caps default present y z (in_range kind y) refl e
+
+module _ (path : List ℕ) (kind : Kind) (caps : List ℕ) (cell : ℕ) (default : ℤ) (present : Bool) (p : Standing) where
+  abbrev front : List ℕ
+  front = path ++ codes " = "
+
+  abbrev reads : Option (List ℕ × List ℕ) → Read
+  reads o = put_line path (record { cell = cell; kind = kind; capacities = caps; default = default; present = present }) p o
+
+  abbrev puts : List ℕ → Option ℤ → Read
+  puts rest s = put_number (record { cell = cell; kind = kind; capacities = caps; default = default; present = present }) p rest s
+
+  by_range : (rest : List ℕ) (z : ℤ) (a b c : Bool) → (if not a then bad p reasons.Number else if b then bad p reasons.Count else if not c then bad p reasons.Absent
+      else Ok (record { numbers = slice_set p.numbers cell z; line = suc p.line; rest = rest }))
+      ≡ taken_number cell p rest (if a then (if b then Err reasons.Count else if c then Ok z else Err reasons.Absent) else Err reasons.Number)
+  by_range rest z false b c = refl
+  by_range rest z true true c = refl
+  by_range rest z true false true = refl
+  by_range rest z true false false = refl
+
+  held_judged : (z : ℤ) (a : Bool) → (if a then (if exceeds caps z then Err reasons.Count else if present || same_number z default then Ok z else Err reasons.Absent) else Err reasons.Number)
+      ≡ number_judged caps default present (if a then Some z else None)
+  held_judged z true = refl
+  held_judged z false = refl
+
+  put_judged : (rest : List ℕ) (s : Option ℤ) → puts rest s ≡ taken_number cell p rest (number_judged caps default present (held kind s))
+  put_judged rest None = refl
+  put_judged rest (Some z) =
+      by_range rest z (in_range kind z) (exceeds caps z) (present || same_number z default) ∙ ap (taken_number cell p rest) (held_judged z (in_range kind z))
+
+  begun : (text rest : List ℕ) (b : Bool) → begins_with front text ≡ b → reads (Some (text, rest)) ≡ (if b then puts rest (number_spelled (drop (length front) text)) else bad p reasons.Form)
+  begun text rest b e = ap (λ (t : Bool). if t then puts rest (number_spelled (drop (length front) text)) else bad p reasons.Form) e
+
+  judged_there : (text rest number : List ℕ) (line : NextLine) (result : Result ℤ ValuesReason) → line.text.now ≡ text → begins_with (path ++ codes " = ") line.text.now ≡ true
+      → number ≡ drop (length (path ++ codes " = ")) line.text.now → result ≡ number_judged caps default present (held kind (number_spelled number))
+      → reads (Some (text, rest)) ≡ taken_number cell p rest result
+  judged_there text rest number line result t n is j =
+      begun text rest true (ap (begins_with front) (sym t) ∙ n) ∙ put_judged rest (number_spelled (drop (length front) text))
+      ∙ ap (λ (l : List ℕ). taken_number cell p rest (number_judged caps default present (held kind (number_spelled l)))) (sym (is ∙ ap (drop (length front)) t))
+      ∙ ap (taken_number cell p rest) (sym j)
+
+  pub number_there : (o : Option (List ℕ × List ℕ)) (line : NextLine) (number : List ℕ) (z : ℤ) (now : Standing) → IsFirstLine o (Some line)
+      → begins_with (path ++ codes " = ") line.text.now ≡ true → number ≡ drop (length (path ++ codes " = ")) line.text.now
+      → Ok z ≡ number_judged caps default present (held kind (number_spelled number))
+      → now.numbers ≡ slice_set p.numbers cell z → now.line ≡ p.line + 1 → now.rest ≡ line.after.now → Reaches (reads o) now (Ok tt)
+  number_there None line number z now f n is j a b c = absurd f
+  number_there (Some (text, rest)) line number z now f n is j a b c =
+      let up : now.line ≡ suc p.line = b ∙ omega arith in
+      let q : Standing = record { numbers = slice_set p.numbers cell z; line = suc p.line; rest = rest } in
+      let e : q ≡ now =
+      ap (λ (x : List ℤ). let r : Standing = record { numbers = x; line = suc p.line; rest = rest } in r) (sym a)
+      ∙ ap (λ (x : ℕ). let r : Standing = record { numbers = now.numbers; line = x; rest = rest } in r) (sym up)
+      ∙ ap (λ (x : List ℕ). let r : Standing = record { numbers = now.numbers; line = now.line; rest = x } in r) (sym f.1 ∙ sym c) in
+      subst (λ (r : Read). Reaches r now (Ok tt)) (sym (judged_there text rest number line (Ok z) f.0 n is j)) e
+
+  pub reason_there : (o : Option (List ℕ × List ℕ)) (line : NextLine) (number : List ℕ) (reason : ValuesReason) (now : Standing) (e : LineFault) → IsFirstLine o (Some line)
+      → begins_with (path ++ codes " = ") line.text.now ≡ true → number ≡ drop (length (path ++ codes " = ")) line.text.now
+      → Err reason ≡ number_judged caps default present (held kind (number_spelled number))
+      → IsBad (record { line = p.line; reason = reason }) e → Reaches (reads o) now (Err e)
+  reason_there None line number reason now e f n is j b = absurd f
+  reason_there (Some (text, rest)) line number reason now e f n is j b =
+      subst (λ (r : Read). Reaches r now (Err e)) (sym (judged_there text rest number line (Err reason) f.0 n is j)) b

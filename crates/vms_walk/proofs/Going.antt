@@ -8,7 +8,7 @@ use Rattle.vms_spec.specs.Layout.{Slot, Rule, item_slots, slots_from, field_slot
 use Rattle.vms_spec.specs.Places.{own_cell_count}
 use Rattle.vms_spec.specs.Good.{IsGood}
 use Rattle.vms_bodies.proofs.Places.{SameBelow}
-use Rattle.vms_bodies.proofs.AboveLaws.{item_above, field_above, meanings_above}
+use Rattle.vms_bodies.proofs.AboveLaws.{IsAbove, item_above, field_above, meanings_above}
 use Rattle.vms_parts.specs.Capacities.{least_of}
 use Rattle.vms_desc.specs.Asks.{field_at}
 use Rattle.vms_desc.specs.Formed.{is_well_formed}
@@ -18,9 +18,8 @@ use Rattle.vms_walk.specs.declared.step.WalkStep.TheVariants as steps
 use Rattle.vms_walk.specs.declared.fields.PartAt.{PartAt}
 use Rattle.vms_walk.specs.Inside.{Keeps}
 use Rattle.vms_walk.specs.Steps.{steps_of, table, spot_numbers, spot_slots, slots_at, size_in, capacities_of, elements_slots, present_of, cell_of, HasSpot, MayCome}
-use Rattle.vms_walk.proofs.Walking.{steps_append, part_left}
+use Rattle.vms_walk.proofs.Walking.{steps_append, part_left, times_more, times_split, fields_split, fields_more}
 use Rattle.vms_walk.proofs.Spots.{field_needs}
-use Rattle.vms_walk.proofs.Parts.{times_more, times_split, fields_split, fields_more}
 use Rattle.vms_walk.proofs.Local.{keeps_below, keeps_first, items_local, fields_local, present_local, part_sound, set_settled}
 
 -- the laws of a walker
@@ -30,6 +29,27 @@ pub record Laws {S F : Type 0} (N : S → List ℤ) (goes : List WalkStep → S 
   pub before : (xs ys : List WalkStep) (a b : S) (f : F) → stops xs a f b → stops (xs ++ ys) a f b
   pub keeps : (xs : List WalkStep) (a b : S) → goes xs a b → Keeps xs (N a) (N b)
   pub stopped : (xs : List WalkStep) (a b : S) (f : F) → stops xs a f b → Keeps xs (N a) (N b)
+
+-- ---- what a part has
+
+module _ (set : Set) (item : Item) (most : Option ℕ) where
+  -- the slots of an element
+  abbrev pub element : List ℤ → ℕ → List Slot
+  element n at = item_slots (table set) item (capacities_of most) n at
+
+module _ (set : Set) (spot : PartAt) where
+  abbrev fields : List Field
+  fields = (desc_at set spot.part).fields
+
+  -- the slots of the first fields
+  abbrev pub firsts : ℕ → List ℤ → List Slot
+  firsts i n = slots_from (table set) fields spot.version (spot_numbers set spot n) n 0 spot.base (take i fields)
+
+  -- whether the validations hold
+  abbrev sound : List ℤ → Bool
+  sound n = all_hold (desc_at set spot.part).validate spot.version (spot_numbers set spot n)
+
+-- ---- what is done at each
 
 module _ {S F : Type 0} (N : S → List ℤ) (goes : List WalkStep → S → S → Type 0) (stops : List WalkStep → S → F → S → Type 0) (may : S → WalkStep → Type 0) (laws : Laws N goes stops) where
   go_on : (xs ys whole : List Slot) (a b c : S) → whole ≡ xs ++ ys → goes (steps_of xs) a b → goes (steps_of ys) b c → goes (steps_of whole) a c
@@ -44,8 +64,8 @@ module _ {S F : Type 0} (N : S → List ℤ) (goes : List WalkStep → S → S �
     -- ---- elements
 
     module _ (item : Item) (most : Option ℕ) (first i cell : ℕ) (here : cell ≡ first + i * size_in set item) (a b : S) (way : goes (steps_of (elements_slots set item most (N b) i first)) a b) where
-      part : List ℤ → ℕ → List Slot
-      part n at = item_slots (table set) item (capacities_of most) n at
+      above : (n : List ℤ) → IsAbove cell (element set item most n cell)
+      above n = item_above (table set) (meanings_above set.structs (length set.structs)) item (capacities_of most) n cell
 
       done_same : (n : List ℤ) → SameBelow cell (N b) n → elements_slots set item most n i first ≡ elements_slots set item most (N b) i first
       done_same n s = items_local (table set) (set_settled set good) item (capacities_of most) i first (N b) n (subst (λ (x : ℕ). SameBelow x (N b) n) here s)
@@ -53,36 +73,36 @@ module _ {S F : Type 0} (N : S → List ℤ) (goes : List WalkStep → S → S �
       way_at : (n : List ℤ) → SameBelow cell (N b) n → goes (steps_of (elements_slots set item most n i first)) a b
       way_at n s = subst (λ (l : List Slot). goes (steps_of l) a b) (sym (done_same n s)) way
 
-      pub items_next : (c : S) → goes (steps_of (item_slots (table set) item (capacities_of most) (N c) cell)) b c → goes (steps_of (elements_slots set item most (N c) (i + 1) first)) a c
+      pub items_next : (c : S) → goes (steps_of (element set item most (N c) cell)) b c → goes (steps_of (elements_slots set item most (N c) (i + 1) first)) a c
       items_next c h =
-          let s = keeps_below cell (item_slots (table set) item (capacities_of most) (N c) cell) (N b) (N c) (item_above (table set) (meanings_above set.structs (length set.structs)) item (capacities_of most) (N c) cell) (laws.keeps _ b c h) in
-          go_on (elements_slots set item most (N c) i first) (item_slots (table set) item (capacities_of most) (N c) cell) (elements_slots set item most (N c) (i + 1) first) a b c
-          (times_more i (item_slots (table set) item (capacities_of most) (N c)) first (size_in set item)
-          ∙ ap (λ (x : ℕ). elements_slots set item most (N c) i first ++ item_slots (table set) item (capacities_of most) (N c) x) (sym here))
+          let s = keeps_below cell (element set item most (N c) cell) (N b) (N c) (above (N c)) (laws.keeps _ b c h) in
+          go_on (elements_slots set item most (N c) i first) (element set item most (N c) cell) (elements_slots set item most (N c) (i + 1) first) a b c
+          (times_more i (element set item most (N c)) first (size_in set item)
+          ∙ ap (λ (x : ℕ). elements_slots set item most (N c) i first ++ element set item most (N c) x) (sym here))
           (way_at (N c) s) h
 
-      pub items_stop : (count : ℕ) → i < count → (c : S) (f : F) → stops (steps_of (item_slots (table set) item (capacities_of most) (N c) cell)) b f c → stops (steps_of (elements_slots set item most (N c) count first)) a f c
+      pub items_stop : (count : ℕ) → i < count → (c : S) (f : F) → stops (steps_of (element set item most (N c) cell)) b f c → stops (steps_of (elements_slots set item most (N c) count first)) a f c
       items_stop count lt c f h =
-          let s = keeps_below cell (item_slots (table set) item (capacities_of most) (N c) cell) (N b) (N c) (item_above (table set) (meanings_above set.structs (length set.structs)) item (capacities_of most) (N c) cell) (laws.stopped _ b c f h) in
-          let parts = times_split count i (item_slots (table set) item (capacities_of most) (N c)) first (size_in set item) lt in
-          stop_at (elements_slots set item most (N c) i first) (item_slots (table set) item (capacities_of most) (N c) cell) parts.0 (elements_slots set item most (N c) count first) a b c f
-          (parts.1 ∙ ap (λ (x : ℕ). elements_slots set item most (N c) i first ++ (item_slots (table set) item (capacities_of most) (N c) x ++ parts.0)) (sym here))
+          let s = keeps_below cell (element set item most (N c) cell) (N b) (N c) (above (N c)) (laws.stopped _ b c f h) in
+          let parts = times_split count i (element set item most (N c)) first (size_in set item) lt in
+          stop_at (elements_slots set item most (N c) i first) (element set item most (N c) cell) parts.0 (elements_slots set item most (N c) count first) a b c f
+          (parts.1 ∙ ap (λ (x : ℕ). elements_slots set item most (N c) i first ++ (element set item most (N c) x ++ parts.0)) (sym here))
           (way_at (N c) s) h
 
-      pub items_may : (count : ℕ) → i < count → MayCome goes N may (λ n. elements_slots set item most n count first) a → MayCome goes N may (λ n. item_slots (table set) item (capacities_of most) n cell) b
+      pub items_may : (count : ℕ) → i < count → MayCome goes N may (λ n. elements_slots set item most n count first) a → MayCome goes N may (λ n. element set item most n cell) b
       items_may count lt all ys ws zs x d h e =
-          let s = keeps_first cell (item_slots (table set) item (capacities_of most) (N d) cell) ys (ws ++ (x ∷ zs)) (N b) (N d) e (item_above (table set) (meanings_above set.structs (length set.structs)) item (capacities_of most) (N d) cell) (laws.keeps ys b d h) in
-          let parts = times_split count i (item_slots (table set) item (capacities_of most) (N d)) first (size_in set item) lt in
+          let s = keeps_first cell (element set item most (N d) cell) ys (ws ++ (x ∷ zs)) (N b) (N d) e (above (N d)) (laws.keeps ys b d h) in
+          let parts = times_split count i (element set item most (N d)) first (size_in set item) lt in
           all (steps_of (elements_slots set item most (N d) i first) ++ ys) ws (zs ++ steps_of parts.0) x d (laws.more _ ys a b d (way_at (N d) s) h)
-          (part_left (elements_slots set item most (N d) i first) (item_slots (table set) item (capacities_of most) (N d) cell) parts.0 (elements_slots set item most (N d) count first) ys ws zs x
-          (parts.1 ∙ ap (λ (k : ℕ). elements_slots set item most (N d) i first ++ (item_slots (table set) item (capacities_of most) (N d) k ++ parts.0)) (sym here)) e)
+          (part_left (elements_slots set item most (N d) i first) (element set item most (N d) cell) parts.0 (elements_slots set item most (N d) count first) ys ws zs x
+          (parts.1 ∙ ap (λ (k : ℕ). elements_slots set item most (N d) i first ++ (element set item most (N d) k ++ parts.0)) (sym here)) e)
 
     -- ---- fields
 
     module _ (spot : PartAt) (has : HasPart set spot.part) (i cell : ℕ) (here : cell ≡ cell_of set spot i) where
       -- the slots of a field are those of its elements, whose number the numbers below it say
-      pub field_slots_are : (well : is_well_formed set ≡ true) (n m : List ℤ) → length m ≡ length n → HasSpot set spot n → (count : ℕ) (item : Item) (most : Option ℕ) → i < length (desc_at set spot.part).fields
-          → item ≡ (field_at set spot.part i).item → count ≡ present_of (field_at set spot.part i) spot.version (spot_numbers set spot n) → most ≡ least_of (counted i (desc_at set spot.part).fields)
+      pub field_slots_are : (well : is_well_formed set ≡ true) (n m : List ℤ) → length m ≡ length n → HasSpot set spot n → (count : ℕ) (item : Item) (most : Option ℕ) → i < length (fields set spot)
+          → item ≡ (field_at set spot.part i).item → count ≡ present_of (field_at set spot.part i) spot.version (spot_numbers set spot n) → most ≡ least_of (counted i (fields set spot))
           → cell + capacity_of (field_at set spot.part i).count * size_in set (field_at set spot.part i).item ≤ length n → SameBelow cell n m
           → steps_of (slots_at set spot m i cell) ≡ steps_of (elements_slots set item most m count cell)
       field_slots_are well n m long h count item most lt is there least room s =
@@ -90,40 +110,36 @@ module _ {S F : Type 0} (N : S → List ℤ) (goes : List WalkStep → S → S �
           let few : HasSpot set spot m = record { part = has; few = subst (λ (x : ℕ). x ≤ MOST_ITEMS) (sym long) h.few; room = subst (λ (x : ℕ). spot.base + own_cell_count set (desc_at set spot.part) ≤ x) (sym long) h.room } in
           (field_needs set well spot m few i cell count item most lt is (there ∙ sym same) least (subst (λ (x : ℕ). cell + capacity_of (field_at set spot.part i).count * size_in set (field_at set spot.part i).item ≤ x) (sym long) room)).steps
 
-      module _ (a b : S) (le : i ≤ length (desc_at set spot.part).fields)
-          (way : goes (steps_of (slots_from (table set) (desc_at set spot.part).fields spot.version (spot_numbers set spot (N b)) (N b) 0 spot.base (take i (desc_at set spot.part).fields))) a b) where
-        before : List ℤ → List Slot
-        before n = slots_from (table set) (desc_at set spot.part).fields spot.version (spot_numbers set spot n) n 0 spot.base (take i (desc_at set spot.part).fields)
+      module _ (a b : S) (le : i ≤ length (fields set spot)) (way : goes (steps_of (firsts set spot i (N b))) a b) where
+        field_up : (n : List ℤ) → IsAbove cell (slots_at set spot n i cell)
+        field_up n = field_above (table set) (meanings_above set.structs (length set.structs)) (fields set spot) spot.version (spot_numbers set spot n) n i cell (field_at set spot.part i)
 
-        pub fields_way : (n : List ℤ) → SameBelow cell (N b) n
-            → goes (steps_of (slots_from (table set) (desc_at set spot.part).fields spot.version (spot_numbers set spot n) n 0 spot.base (take i (desc_at set spot.part).fields))) a b
+        pub fields_way : (n : List ℤ) → SameBelow cell (N b) n → goes (steps_of (firsts set spot i n)) a b
         fields_way n s =
             subst (λ (l : List Slot). goes (steps_of l) a b)
             (sym (fields_local (table set) (set_settled set good) (desc_at set spot.part) (part_sound set good spot.part has) spot.version spot.base i (N b) n le (subst (λ (x : ℕ). SameBelow x (N b) n) here s)))
             way
 
         below : (n : List ℤ) (xs : Keeps (steps_of (slots_at set spot n i cell)) (N b) n) → SameBelow cell (N b) n
-        below n k = keeps_below cell (slots_at set spot n i cell) (N b) n (field_above (table set) (meanings_above set.structs (length set.structs)) (desc_at set spot.part).fields spot.version (spot_numbers set spot n) n i cell (field_at set spot.part i)) k
+        below n k = keeps_below cell (slots_at set spot n i cell) (N b) n (field_up n) k
 
-        pub fields_next : i < length (desc_at set spot.part).fields → (c : S) → goes (steps_of (slots_at set spot (N c) i cell)) b c
-            → goes (steps_of (slots_from (table set) (desc_at set spot.part).fields spot.version (spot_numbers set spot (N c)) (N c) 0 spot.base (take (i + 1) (desc_at set spot.part).fields))) a c
+        pub fields_next : i < length (fields set spot) → (c : S) → goes (steps_of (slots_at set spot (N c) i cell)) b c
+            → goes (steps_of (firsts set spot (i + 1) (N c))) a c
         fields_next lt c h =
-            let all = (desc_at set spot.part).fields in
             let own = spot_numbers set spot (N c) in
             let s = below (N c) (laws.keeps _ b c h) in
-            let past = slots_from (table set) all spot.version own (N c) 0 spot.base (take i all) in
-            go_on past (slots_at set spot (N c) i cell) (slots_from (table set) all spot.version own (N c) 0 spot.base (take (i + 1) all)) a b c
-            (fields_more (table set) all spot.version own (N c) all 0 spot.base i i (omega arith) lt
-            ∙ ap (λ (x : ℕ). past ++ field_slots (table set) all spot.version own (N c) i x (field_at set spot.part i)) (sym here))
-            (fields_way (N c) s) h
+            let past = firsts set spot i (N c) in
+            go_on past (slots_at set spot (N c) i cell) (firsts set spot (i + 1) (N c)) a b c
+            (fields_more (table set) (fields set spot) spot.version own (N c) (fields set spot) 0 spot.base i i (omega arith) lt
+            ∙ ap (λ (x : ℕ). past ++ field_slots (table set) (fields set spot) spot.version own (N c) i x (field_at set spot.part i)) (sym here)) (fields_way (N c) s) h
 
         -- the field among all slots of the part
-        whole_split : i < length (desc_at set spot.part).fields → (n : List ℤ) → (rest : List Slot)
-            × (spot_slots set spot n ≡ slots_from (table set) (desc_at set spot.part).fields spot.version (spot_numbers set spot n) n 0 spot.base (take i (desc_at set spot.part).fields) ++ (slots_at set spot n i cell ++ rest))
+        whole_split : i < length (fields set spot) → (n : List ℤ) → (rest : List Slot)
+            × (spot_slots set spot n ≡ firsts set spot i n ++ (slots_at set spot n i cell ++ rest))
         whole_split lt n =
             let d = desc_at set spot.part in
             let own = spot_numbers set spot n in
-            let past = slots_from (table set) d.fields spot.version own n 0 spot.base (take i d.fields) in
+            let past = firsts set spot i n in
             let rule = Rule (all_hold d.validate spot.version own) ∷ [] in
             let parts = fields_split (table set) d.fields spot.version own n d.fields 0 spot.base i i (omega arith) lt in
             let at = λ (x : ℕ). field_slots (table set) d.fields spot.version own n i x (field_at set spot.part i) in (
@@ -132,46 +148,45 @@ module _ {S F : Type 0} (N : S → List ℤ) (goes : List WalkStep → S → S �
                   ∙ append_assoc past (at cell ++ parts.0) rule ∙ ap (λ (l : List Slot). past ++ l) (append_assoc (at cell) parts.0 rule),
             )
 
-        pub fields_stop : i < length (desc_at set spot.part).fields → (c : S) (f : F) → stops (steps_of (slots_at set spot (N c) i cell)) b f c → stops (steps_of (spot_slots set spot (N c))) a f c
+        pub fields_stop : i < length (fields set spot) → (c : S) (f : F) → stops (steps_of (slots_at set spot (N c) i cell)) b f c → stops (steps_of (spot_slots set spot (N c))) a f c
         fields_stop lt c f h =
             let s = below (N c) (laws.stopped _ b c f h) in
             let parts = whole_split lt (N c) in
-            stop_at (slots_from (table set) (desc_at set spot.part).fields spot.version (spot_numbers set spot (N c)) (N c) 0 spot.base (take i (desc_at set spot.part).fields)) (slots_at set spot (N c) i cell) parts.0 (spot_slots set spot (N c)) a b c f parts.1
+            stop_at (firsts set spot i (N c)) (slots_at set spot (N c) i cell) parts.0 (spot_slots set spot (N c)) a b c f parts.1
             (fields_way (N c) s) h
 
-        pub fields_may : i < length (desc_at set spot.part).fields → MayCome goes N may (spot_slots set spot) a → MayCome goes N may (λ n. slots_at set spot n i cell) b
+        pub fields_may : i < length (fields set spot) → MayCome goes N may (spot_slots set spot) a → MayCome goes N may (λ n. slots_at set spot n i cell) b
         fields_may lt all ys ws zs x d h e =
-            let s = keeps_first cell (slots_at set spot (N d) i cell) ys (ws ++ (x ∷ zs)) (N b) (N d) e (field_above (table set) (meanings_above set.structs (length set.structs)) (desc_at set spot.part).fields spot.version (spot_numbers set spot (N d)) (N d) i cell (field_at set spot.part i)) (laws.keeps ys b d h) in
+            let s = keeps_first cell (slots_at set spot (N d) i cell) ys (ws ++ (x ∷ zs)) (N b) (N d) e (field_up (N d)) (laws.keeps ys b d h) in
             let parts = whole_split lt (N d) in
-            let past = slots_from (table set) (desc_at set spot.part).fields spot.version (spot_numbers set spot (N d)) (N d) 0 spot.base (take i (desc_at set spot.part).fields) in
+            let past = firsts set spot i (N d) in
             all (steps_of past ++ ys) ws (zs ++ steps_of parts.0) x d (laws.more _ ys a b d (fields_way (N d) s) h) (part_left past (slots_at set spot (N d) i cell) parts.0 (spot_slots set spot (N d)) ys ws zs x parts.1 e)
 
         -- the end of the part, when all its fields are done
-        whole_past : i ≡ length (desc_at set spot.part).fields → (n : List ℤ)
-            → spot_slots set spot n ≡ slots_from (table set) (desc_at set spot.part).fields spot.version (spot_numbers set spot n) n 0 spot.base (take i (desc_at set spot.part).fields)
-            ++ (Rule (all_hold (desc_at set spot.part).validate spot.version (spot_numbers set spot n)) ∷ [])
+        whole_past : i ≡ length (fields set spot) → (n : List ℤ)
+            → spot_slots set spot n ≡ firsts set spot i n ++ (Rule (sound set spot n) ∷ [])
         whole_past end n =
             let d = desc_at set spot.part in
             let own = spot_numbers set spot n in
             let all : d.fields ≡ take i d.fields = sym (ap (λ (k : ℕ). take k d.fields) end ∙ take_all (length d.fields) d.fields (omega arith)) in
             ap (λ (l : List Field). slots_from (table set) d.fields spot.version own n 0 spot.base l ++ (Rule (all_hold d.validate spot.version own) ∷ [])) all
 
-        pub rule_next : i ≡ length (desc_at set spot.part).fields → (c : S) → N c ≡ N b → goes (steps.Rule (all_hold (desc_at set spot.part).validate spot.version (spot_numbers set spot (N b))) ∷ []) b c → goes (steps_of (spot_slots set spot (N c))) a c
+        pub rule_next : i ≡ length (fields set spot) → (c : S) → N c ≡ N b → goes (steps.Rule (sound set spot (N b)) ∷ []) b c → goes (steps_of (spot_slots set spot (N c))) a c
         rule_next end c same h =
             subst (λ (n : List ℤ). goes (steps_of (spot_slots set spot n)) a c) (sym same)
-            (go_on _ (Rule (all_hold (desc_at set spot.part).validate spot.version (spot_numbers set spot (N b))) ∷ []) (spot_slots set spot (N b)) a b c (whole_past end (N b)) way h)
+            (go_on _ (Rule (sound set spot (N b)) ∷ []) (spot_slots set spot (N b)) a b c (whole_past end (N b)) way h)
 
-        pub rule_stop : i ≡ length (desc_at set spot.part).fields → (c : S) (f : F) → N c ≡ N b → stops (steps.Rule (all_hold (desc_at set spot.part).validate spot.version (spot_numbers set spot (N b))) ∷ []) b f c → stops (steps_of (spot_slots set spot (N c))) a f c
+        pub rule_stop : i ≡ length (fields set spot) → (c : S) (f : F) → N c ≡ N b → stops (steps.Rule (sound set spot (N b)) ∷ []) b f c → stops (steps_of (spot_slots set spot (N c))) a f c
         rule_stop end c f same h =
-            let rule = Rule (all_hold (desc_at set spot.part).validate spot.version (spot_numbers set spot (N b))) ∷ [] in
-            let past = slots_from (table set) (desc_at set spot.part).fields spot.version (spot_numbers set spot (N b)) (N b) 0 spot.base (take i (desc_at set spot.part).fields) in
+            let rule = Rule (sound set spot (N b)) ∷ [] in
+            let past = firsts set spot i (N b) in
             subst (λ (n : List ℤ). stops (steps_of (spot_slots set spot n)) a f c) (sym same)
             (stop_at past rule [] (spot_slots set spot (N b)) a b c f (whole_past end (N b) ∙ ap (λ (l : List Slot). past ++ l) (sym (append-nil rule))) way h)
 
-        pub rule_may : i ≡ length (desc_at set spot.part).fields → MayCome goes N may (spot_slots set spot) a → may b (steps.Rule (all_hold (desc_at set spot.part).validate spot.version (spot_numbers set spot (N b))))
+        pub rule_may : i ≡ length (fields set spot) → MayCome goes N may (spot_slots set spot) a → may b (steps.Rule (sound set spot (N b)))
         rule_may end all =
-            let past = slots_from (table set) (desc_at set spot.part).fields spot.version (spot_numbers set spot (N b)) (N b) 0 spot.base (take i (desc_at set spot.part).fields) in
-            let rule = Rule (all_hold (desc_at set spot.part).validate spot.version (spot_numbers set spot (N b))) ∷ [] in
+            let past = firsts set spot i (N b) in
+            let rule = Rule (sound set spot (N b)) ∷ [] in
             all (steps_of past) [] [] _ b way (ap steps_of (whole_past end (N b)) ∙ steps_append past rule)
 
 -- a rule changes no number

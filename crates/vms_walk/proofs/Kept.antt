@@ -1,5 +1,6 @@
 -- What steps keep of the numbers, one after the other.
-use Rattle.std.proofs.Common.{◌≡◌, ℕ, List, ◌∷◌, ◌++◌, length, length-set, get_or, slice_set, Option, ℤ, pos, refl, sym, ap, ◌∙◌, subst, Bool, false, ◌==◌, [], ◌||◌}
+use Rattle.std.specs.Prelude.{IsErrAnd}
+use Rattle.std.proofs.Common.{Result, Ok, Err, IfErr, ◌≡◌, sym, subst, ℕ, List, ◌∷◌, ◌++◌, length, length-set, get_or, slice_set, Option, ℤ, pos, refl, ap, ◌∙◌, Bool, false, ◌==◌, [], ◌||◌}
 use Rattle.std.proofs.lemmas.List.{get_or-set_other}
 use Rattle.std.proofs.lemmas.Bool.{eq-eqb, or_parts}
 use Rattle.std.proofs.Math.Bool.{or_assoc}
@@ -7,6 +8,12 @@ use Rattle.vms_kinds.specs.declared.Kind.{Kind}
 use Rattle.vms_walk.specs.declared.step.WalkStep.{WalkStep}
 use Rattle.vms_walk.specs.declared.step.WalkStep.TheVariants.{Number, Constant, Filler, Rule}
 use Rattle.vms_walk.specs.Inside.{has_step, Keeps}
+
+pub err_is : {T E : Type 0} (Q : E → Type 0) (r : Result T E) (e : E) → IsErrAnd r (λ x. x ≡ e) → Q e → IfErr r Q
+err_is Q (Ok x) e h q = tt
+err_is Q (Err x) e h q = subst Q (sym h) q
+
+-- ---- What steps keep of the numbers, one after the other.
 
 pub has_append : (xs ys : List WalkStep) (c : ℕ) → has_step (xs ++ ys) c ≡ (has_step xs c || has_step ys c)
 has_append [] ys c = refl

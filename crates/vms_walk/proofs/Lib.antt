@@ -2,9 +2,7 @@ pub mod Going
 pub mod Kept
 pub mod Local
 pub mod Order
-pub mod Parts
-pub mod Results
+pub mod Walking
 pub mod Runs
 pub mod Spots
-pub mod Walking
 pub mod Least

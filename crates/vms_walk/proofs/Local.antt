@@ -21,7 +21,7 @@ use Rattle.vms_walk.specs.declared.step.WalkStep.{WalkStep}
 use Rattle.vms_walk.specs.Inside.{has_step, Keeps}
 use Rattle.vms_walk.specs.Steps.{table, cells_in, steps_of, present_of}
 use Rattle.vms_walk.proofs.Kept.{has_append}
-use Rattle.vms_walk.proofs.Parts.{fields_more}
+use Rattle.vms_walk.proofs.Walking.{fields_more}
 
 -- ---- what steps keep
 
@@ -94,10 +94,8 @@ module _ (ms : List Meaning) (settled : MeanSettled ms) (d : Desc) (sound : IsSo
       let before = λ (x : List ℤ). slots_from ms d.fields v (own x) x 0 base (take i d.fields) in
       let next = next_place i lt in
       let whole = λ (x : List ℤ). ap (λ (k : ℕ). slots_from ms d.fields v (own x) x 0 base (take k d.fields)) one ∙ fields_more ms d.fields v (own x) x d.fields 0 base i i (omega arith) lt in
-      whole m
-      ∙ ap (λ (l : List Slot). l ++ here m) (fields_local i n m (omega arith) (same_less (place i) (place (i + 1)) n m (omega (arith, next)) up))
-      ∙ ap (λ (l : List Slot). before n ++ l) (field_local i n m lt up)
-      ∙ sym (whole n)
+      whole m ∙ ap (λ (l : List Slot). l ++ here m) (fields_local i n m (omega arith) (same_less (place i) (place (i + 1)) n m (omega (arith, next)) up))
+      ∙ ap (λ (l : List Slot). before n ++ l) (field_local i n m lt up) ∙ sym (whole n)
 
   -- how many elements of field i are there
   pub present_local : (i : ℕ) (n m : List ℤ) → i < length d.fields → SameBelow (place_of (cells_in ms) d.fields 0 base d.fields i) n m

@@ -9,8 +9,7 @@ use Rattle.vms_walk.specs.declared.step.WalkStep.TheVariants.{Number}
 use Rattle.vms_walk.specs.Runs.{run_of, MayRun}
 use Rattle.vms_walk.specs.Steps.{steps_of, elements_slots}
 use Rattle.vms_walk.proofs.Going.{Laws}
-use Rattle.vms_walk.proofs.Parts.{times_split}
-use Rattle.vms_walk.proofs.Walking.{left_within}
+use Rattle.vms_walk.proofs.Walking.{times_split, left_within}
 
 run_is : (set : Set) (kind : Kind) (n : List ℤ) (first count : ℕ) → steps_of (elements_slots set (Num kind) None n count first) ≡ run_of first count kind
 run_is set kind n first zero = refl
@@ -53,8 +52,7 @@ pub run_parts : (first n m count : ℕ) (kind : Kind) → n + m ≤ count → ru
 run_parts first n m count kind le =
     let all : count ≡ (n + m) + (count - (n + m)) = omega (arith, le) in
     let rest = run_of (first + (n + m)) (count - (n + m)) kind in
-    ap (λ (k : ℕ). run_of first k kind) all ∙ run_both first (n + m) (count - (n + m)) kind
-    ∙ ap (λ (l : List WalkStep). l ++ rest) (run_both first n m kind)
+    ap (λ (k : ℕ). run_of first k kind) all ∙ run_both first (n + m) (count - (n + m)) kind ∙ ap (λ (l : List WalkStep). l ++ rest) (run_both first n m kind)
     ∙ append_assoc (run_of first n kind) (run_of (first + n) m kind) rest
 
 -- ---- some of them after those before them

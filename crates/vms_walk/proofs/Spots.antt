@@ -131,15 +131,3 @@ pub record NextItem (set : Set) (n : List ℤ) (item : Item) (most : Option ℕ)
   pub later : (cell + size_in set item) + more * size_in set item ≤ length n
   pub steps : steps_of (elements_slots set item most n left cell)
       ≡ steps_of (item_slots (table set) item (capacities_of most) n cell) ++ steps_of (elements_slots set item most n more (cell + size_in set item))
-
-pub next_item : (set : Set) (n : List ℤ) (item : Item) (most : Option ℕ) (left more cell : ℕ) → left ≡ suc more → cell + left * size_in set item ≤ length n → NextItem set n item most left more cell
-next_item set n item most left more cell e room =
-    let part = item_slots (table set) item (capacities_of most) n in
-    let size = size_in set item in
-    let product = ap (λ (x : ℕ). x * size) e in
-    let one : suc more * size ≡ size + more * size = grind arith in
-    record {
-      room = omega (arith, product, one, room);
-      later = omega (arith, product, one, room);
-      steps = ap steps_of (times_next part left more cell size e) ∙ steps_append (part cell) (times more part (cell + size) size);
-    }

@@ -125,7 +125,34 @@ fn walk_struct<W: Walker>(
     walk(set, spot, walker)
 }
 
-// Walks all elements of a row.
+// Walks all elements of a row. A field that is no array has one, for which no loop is needed.
+#[cycle(walk)]
+#[inline(always)]
+fn walk_row<W: Walker>(set: &DescSet, row: Elements<'_>, walker: &mut W) -> Result<(), W::Fault>
+    requires reaches { uses_below (length (described set.now).structs) row.item.now ≡ true }
+    requires may { let slots = elements_by (described set.now)
+        row.item.now row.most row.count row.first in
+        MayCome W.goes W.numbers W.may slots walker.old }
+    requires small { size_in (described set.now) row.item.now ≤ MOST_ITEMS }
+    requires room { row.first + row.count * size_in (described set.now) row.item.now
+        ≤ length (W.numbers walker.old) }
+    requires few { length (W.numbers walker.old) ≤ MOST_ITEMS }
+    ensures ok { let n = W.numbers walker.new in
+        let slots = elements_by (described set.now)
+        row.entry.item.now row.entry.most row.entry.count row.entry.first n in
+        OnOk result (W.goes (steps_of slots) walker.old walker.new) }
+    ensures err { let n = W.numbers walker.new in
+        let slots = elements_by (described set.now)
+        row.entry.item.now row.entry.most row.entry.count row.entry.first n in
+        IfErr result (λ fault. W.stops (steps_of slots) walker.old fault walker.new) }
+{
+    if row.count != 1 {
+        return walk_items(set, row, walker);
+    }
+    walk_item(set, row.item, row.most, row.first, walker)
+}
+
+// Walks the elements of a row one after the other, or in runs.
 #[cycle(walk)]
 #[inline(always)]
 fn walk_items<W: Walker>(set: &DescSet, row: Elements<'_>, walker: &mut W) -> Result<(), W::Fault>
@@ -228,7 +255,7 @@ fn walk_field<W: Walker>(
         count,
         first: cell,
     };
-    walk_items(set, row, walker)
+    walk_row(set, row, walker)
 }
 
 /// Calls `walker` for each thing that the part at `spot` has in the bytes, in order, and then for

@@ -1,38 +1,15 @@
 -- What the judging walk finds fine is ready, and what is ready it finds fine.
-use Rattle.std.proofs.Common.{◌≡◌, ℕ, zero, suc, ◌+◌, ◌<◌, ◌≤◌, List, [], ◌∷◌, ◌++◌, length, length-append, get_or, map, Option, Some, None, ℤ, pos, refl, sym, ap, ◌∙◌, subst, arith, Bool, true, false, not, ◌&&◌, ◌||◌, ◌==◌}
-use Rattle.std.specs.Bool.{OnTrue, OnFalse}
-use Rattle.std.specs.List.{flat_map, slice_get}
-use Rattle.std.proofs.lemmas.Bool.{and_parts, leb-true, eqb-true, eq-eqb, and_from}
-use Rattle.std.proofs.lemmas.Option.{slice_get-get_or}
-use Rattle.vms_spec.specs.Numbers.{same_number}
-use Rattle.vms_spec.specs.Sets.{Set, Device, Sub, Desc, AtLeast}
-use Rattle.vms_spec.specs.Layout.{Cell, no_cell, no_desc, Slot, Number, Constant, Filler, Rule, meanings, desc_cells, desc_slots, struct_cells, device_cells}
-use Rattle.vms_spec.specs.Images.{Image, has_cell, own_cells, own_slots, sub_slots, came_slots, image_slots, AreVersionsOf, FitsCell, RulesHold}
-use Rattle.vms_spec.specs.Streams.{is_needed, IsReady}
-use Rattle.vms_spec.specs.Readiness.{come_as_needed}
-use Rattle.vms_spec.specs.Rules.{in_range, counts_well}
-use Rattle.vms_bodies.specs.Cells.{AreCells}
-use Rattle.vms_spec.specs.Good.{IsGood, DefaultsFit}
-use Rattle.vms_bodies.proofs.AboveLaws.{IsAbove, above_none, above_append, above_less, desc_above, meanings_above}
-use Rattle.vms_bodies.proofs.CellLaws.{cells_first, meanings_are}
-use Rattle.vms_bodies.proofs.ConstantLaws.{constants_append, own_constants, part_constants}
-use Rattle.vms_bodies.proofs.FineLaws.{image_are}
-use Rattle.vms_bodies.proofs.NormalFound.{named_fits}
-use Rattle.vms_bodies.proofs.PartLaws.{parts_together}
-use Rattle.vms_spec.proofs.NumberLaws.{same_number_is}
-use Rattle.vms_bodies.proofs.ReadyLaws.{ranged, counted_well, is_same, needed_are, are_needed}
-use Rattle.vms_bodies.proofs.SectionLaws.{AreConstants, fit_slots}
-use Rattle.vms_bodies.proofs.SpellLaws.{FitSlots}
-use Rattle.vms_spec.proofs.WellFormedLaws.{ranges, within}
-use Rattle.vms_spec.proofs.ListLaws.{or_second, and_swap}
-use Rattle.vms_parts.specs.Views.{form_of}
-use Rattle.vms_parts.specs.declared.types.CellForm.{CellForm}
-use Rattle.vms_desc.specs.Described.{device_at}
-use Rattle.vms_desc.specs.Formed.{is_well_formed}
-use Rattle.vms_desc.specs.Parts.{sub_at}
-use Rattle.vms_desc.proofs.Clean.{device_clean, sub_clean}
-use Rattle.vms_write.specs.Fine.{no_form, are_fit, settle, is_fine, sub_size, subs_fine}
-use Rattle.vms_write.proofs.FineParts.{IsBelow, fine_parts, desc_below}
+use Rattle.vms_write.proofs.Facade.{◌≡◌, ℕ, zero, suc, ◌+◌, ◌<◌, ◌≤◌, List, [], ◌∷◌, ◌++◌, length, length-append, get_or, map, Option, Some, None, ℤ, pos, refl}
+use Rattle.vms_write.proofs.Facade.{sym, ap, ◌∙◌, subst, arith, Bool, true, false, not, ◌&&◌, ◌||◌, ◌==◌, OnTrue, OnFalse, flat_map, slice_get, and_parts}
+use Rattle.vms_write.proofs.Facade.{leb-true, eqb-true, eq-eqb, and_from, slice_get-get_or, same_number, Set, Device, Sub, Desc, AtLeast, Cell, no_cell}
+use Rattle.vms_write.proofs.Facade.{no_desc, Slot, Number, Constant, Filler, Rule, meanings, desc_cells, desc_slots, struct_cells, device_cells, Image}
+use Rattle.vms_write.proofs.Facade.{has_cell, own_cells, own_slots, sub_slots, came_slots, image_slots, AreVersionsOf, FitsCell, RulesHold, is_needed, IsReady}
+use Rattle.vms_write.proofs.Facade.{come_as_needed, in_range, counts_well, AreCells, IsGood, DefaultsFit, IsAbove, above_none, above_append, above_less}
+use Rattle.vms_write.proofs.Facade.{desc_above, meanings_above, cells_first, meanings_are, constants_append, own_constants, part_constants, image_are}
+use Rattle.vms_write.proofs.Facade.{named_fits, parts_together, same_number_is, ranged, counted_well, is_same, needed_are, are_needed, AreConstants, fit_slots}
+use Rattle.vms_write.proofs.Facade.{FitSlots, ranges, within, or_second, and_swap, form_of, CellForm, device_at, is_well_formed, sub_at, device_clean}
+use Rattle.vms_write.proofs.Facade.{sub_clean, no_form, are_fit, settle, is_fine, sub_size, subs_fine}
+use Rattle.vms_write.proofs.StepsFine.{IsBelow, fine_parts, desc_below}
 
 -- ---- slots that fit
 

@@ -1,18 +1,11 @@
--- Names of a well-formed set are short.
-use Rattle.std.proofs.Common.{◌≡◌, ℕ, zero, suc, ◌+◌, ◌<◌, ◌≤◌, List, [], ◌∷◌, length, length-drop, get_or, drop, sym, subst, arith, Bool, true, ◌&&◌, nat_le}
-use Rattle.std.specs.List.{list_all}
-use Rattle.std.proofs.lemmas.Bool.{and_parts, leb-true}
+-- Names of a well-formed set are short; the forms of a device's cells, by the numbers that a set keeps of it.
+use Rattle.vms_write.proofs.Facade.{◌≡◌, ℕ, zero, suc, ◌+◌, ◌<◌, ◌≤◌, List, [], ◌∷◌, length, length-drop, get_or, drop, sym, subst, arith, Bool, true, ◌&&◌}
+use Rattle.vms_write.proofs.Facade.{nat_le, map, ℤ, pos, refl, ap, ◌∙◌, list_all, and_parts, leb-true, length-map, or_else, first_answer, Set, is_name}
+use Rattle.vms_write.proofs.Facade.{is_name_byte, failing, here, set_rules, size_rules, struct_fault, device_fault, first_fault, is_well_formed, device_at}
+use Rattle.vms_write.proofs.Facade.{sub_at, AllTrue, all_true, or_else_none, none_is, device_clean, sub_clean, Kind, Cell, device_cells, form_of, CellForm}
+use Rattle.vms_write.proofs.Facade.{Held, defaults_at, no_form, formed_of, formed, forms_of}
+use Rattle.vms_parts.specs.Devices.{device_at as device_in}
 use Rattle.vms_spec.specs.declared.Part.TheVariants as parts
-use Rattle.vms_spec.specs.Lists.{or_else, first_answer}
-use Rattle.vms_spec.specs.Sets.{Set}
-use Rattle.vms_spec.specs.Names.{is_name, is_name_byte}
-use Rattle.vms_spec.specs.WellFormed.{failing, here, set_rules, size_rules, struct_fault, device_fault, first_fault}
-use Rattle.vms_desc.specs.Formed.{is_well_formed}
-use Rattle.vms_desc.specs.Described.{device_at}
-use Rattle.vms_desc.specs.Parts.{sub_at}
-use Rattle.vms_spec.proofs.Faultless.{AllTrue, all_true, or_else_none}
-use Rattle.vms_desc.proofs.Bounds.{none_is}
-use Rattle.vms_desc.proofs.Clean.{device_clean, sub_clean}
 
 every_at : {X : Type 0} (p : X → Bool) (xs : List X) (i : ℕ) (d : X) → list_all p xs ≡ true → i < length xs → p (get_or xs i d) ≡ true
 every_at p [] i d e lt = absurd (omega arith)
@@ -46,3 +39,25 @@ module _ (set : Set) (well : is_well_formed set ≡ true) where
       let tail = drop (length device + 1) name in
       let short = name_short 64 tail (and_parts _ (is_name 64 tail) (sub_clean set well i j lt lj).own.0).1 in
       omega (arith, short, device_short i lt, length-drop (length device + 1) name)
+
+-- ---- The forms of a device's cells, by the numbers that a set keeps of it.
+
+formed_cells : (cells : List Cell) → formed_of (map (λ c. c.kind) cells) (map (λ c. c.default) cells) ≡ map form_of cells
+formed_cells [] = refl
+formed_cells (c ∷ cells) = ap (λ (l : List CellForm). form_of c ∷ l) (formed_cells cells)
+
+pub formed_defaults : (set : Set) (device : ℕ) (defaults : Held) → defaults ≡ defaults_at set device → formed defaults ≡ forms_of set (device_in set device)
+formed_defaults set device defaults is = ap formed is ∙ formed_cells (device_cells set (device_in set device))
+
+pub formed_long : (set : Set) (device : ℕ) (defaults : Held) (numbers : List ℤ) → defaults ≡ defaults_at set device → length numbers ≡ length (device_cells set (device_in set device)) → length (formed defaults) ≡ length numbers
+formed_long set device defaults numbers is long = ap length (formed_defaults set device defaults is) ∙ length-map (device_cells set (device_in set device)) form_of ∙ sym long
+
+-- the number of a cell at its default
+default_in : (kinds : List Kind) (numbers : List ℤ) (k : ℕ) → k < length (formed_of kinds numbers) → (k < length numbers) × (get_or numbers k (pos 0) ≡ (get_or (formed_of kinds numbers) k no_form).default)
+default_in [] numbers k lt = absurd (omega (arith, lt))
+default_in (kind ∷ kinds) [] k lt = absurd (omega (arith, lt))
+default_in (kind ∷ kinds) (z ∷ numbers) zero lt = (omega arith, refl)
+default_in (kind ∷ kinds) (z ∷ numbers) (suc k) lt = let r = default_in kinds numbers k (omega (arith, lt)) in (omega (arith, r.0), r.1)
+
+pub default_of : (defaults : Held) (k : ℕ) → k < length (formed defaults) → (k < length defaults.numbers) × (get_or defaults.numbers k (pos 0) ≡ (get_or (formed defaults) k no_form).default)
+default_of defaults k lt = default_in defaults.kinds defaults.numbers k lt

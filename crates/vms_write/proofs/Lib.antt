@@ -1,11 +1,6 @@
-pub mod AllReady
-pub mod ByteLemmas
-pub mod FineParts
+pub mod Facade
 pub mod FineReady
 pub mod Formed
-pub mod FormedLaws
 pub mod ReadyImages
-pub mod RunBytes
 pub mod Sections
 pub mod StepsFine
-pub mod Subs

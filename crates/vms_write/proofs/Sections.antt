@@ -1,11 +1,95 @@
--- The sections of a stream, one after the other.
-use Rattle.std.proofs.Common.{◌≡◌, ℕ, suc, ◌+◌, ◌<◌, List, [], ◌∷◌, ◌++◌, length, get_or, drop, sym, ap, ◌∙◌, arith}
-use Rattle.std.proofs.lemmas.List.{drop_more}
-use Rattle.vms_spec.specs.Sets.{Set, Device}
-use Rattle.vms_spec.specs.Images.{Image}
-use Rattle.vms_spec.specs.Layout.{no_desc}
-use Rattle.vms_spec.specs.Streams.{written_section, written_sections}
-use Rattle.vms_desc.specs.Described.{device_at}
+-- The bytes of steps, runs of numbers, subsections and sections, one after the other.
+use Rattle.vms_write.proofs.Facade.{◌≡◌, ℕ, List, [], ◌∷◌, ◌++◌, get_or, replicate, ℤ, pos, refl, ap, subst, zero, suc, ◌+◌, ◌≤◌, length, take, drop, Ok, Err}
+use Rattle.vms_write.proofs.Facade.{OnOk, IfErr, ◌∙◌, arith, ◌<◌, Option, Some, None, sym, ◌&&◌, drop_more, Result, code, Slot, Number, Constant, Filler, Rule}
+use Rattle.vms_write.proofs.Facade.{no_desc, desc_cells, struct_cells, zeroed, Image, own_cells, steps_of, WalkStep, Kind, CanWrite, CanStep, bytes_of, Outlet}
+use Rattle.vms_write.proofs.Facade.{Wrote, Puts, Stops, codes_of, run_of, Set, Device, Sub, AtLeast, written_subs, written_section, written_sections}
+use Rattle.vms_write.proofs.Facade.{first_cell, device_at, sub_at, sub_next, CellForm, sub_fine, subs_fine, sub_size, written_sub}
+use Rattle.vms_spec.specs.declared.Part.TheVariants as parts
+
+pub bytes_zeroed : (n : List ℤ) (xs : List Slot) → bytes_of n (steps_of xs) ≡ zeroed n xs
+bytes_zeroed n [] = refl
+bytes_zeroed n (Number c kind caps ∷ xs) = ap (λ (l : List ℕ). code kind (get_or n c (pos 0)) ++ l) (bytes_zeroed n xs)
+bytes_zeroed n (Constant kind z ∷ xs) = ap (λ (l : List ℕ). code kind z ++ l) (bytes_zeroed n xs)
+bytes_zeroed n (Filler k ∷ xs) = ap (λ (l : List ℕ). replicate k 0 ++ l) (bytes_zeroed n xs)
+bytes_zeroed n (Rule b ∷ xs) = bytes_zeroed n xs
+
+abbrev AllCan : List Kind → List WalkStep → Type 0
+AllCan kinds [] = Unit {0}
+AllCan kinds (x ∷ xs) = CanStep kinds x × AllCan kinds xs
+
+all_can : (kinds : List Kind) (xs : List Slot) → CanWrite kinds xs → AllCan kinds (steps_of xs)
+all_can kinds [] h = tt
+all_can kinds (Number c kind caps ∷ xs) h = (h.0, all_can kinds xs h.1)
+all_can kinds (Constant kind z ∷ xs) h = (h.0, all_can kinds xs h.1)
+all_can kinds (Filler k ∷ xs) h = (tt, all_can kinds xs h)
+all_can kinds (Rule b ∷ xs) h = (tt, all_can kinds xs h)
+
+one_of : (kinds : List Kind) (xs rest : List WalkStep) (x : WalkStep) → AllCan kinds (xs ++ (x ∷ rest)) → CanStep kinds x
+one_of kinds [] rest x h = h.0
+one_of kinds (y ∷ xs) rest x h = one_of kinds xs rest x h.1
+
+-- any step of these slots
+pub can_write_step : (kinds : List Kind) (slots : List Slot) (xs rest : List WalkStep) (x : WalkStep) → CanWrite kinds slots → steps_of slots ≡ xs ++ (x ∷ rest) → CanStep kinds x
+can_write_step kinds slots xs rest x h e = one_of kinds xs rest x (subst (AllCan kinds) e (all_can kinds slots h))
+
+-- ---- The bytes of numbers of one kind whose cells follow one another.
+
+pub run_bytes : (numbers : List ℤ) (kind : Kind) (first count : ℕ) → first + count ≤ length numbers → codes_of kind (take count (drop first numbers)) ≡ bytes_of numbers (run_of first count kind)
+run_bytes numbers kind first zero room = refl
+run_bytes numbers kind first (suc count) room =
+    ap (λ (l : List ℤ). codes_of kind (take (suc count) l)) (drop_more numbers first (pos 0) (omega (arith, room)))
+    ∙ ap (λ (l : List ℕ). code kind (get_or numbers first (pos 0)) ++ l) (run_bytes numbers kind (first + 1) count (omega (arith, room)))
+
+-- the result of a call that writes
+pub wrote_ok : {T E P : Type 0} (a b : Outlet) (xs : List ℕ) (r : Result T E) → (Puts a b xs → P) → Wrote a b xs r → OnOk r P
+wrote_ok a b xs (Ok x) f h = f h
+wrote_ok a b xs (Err e) f h = tt
+
+pub wrote_err : {T E : Type 0} {P : E → Type 0} (a b : Outlet) (xs : List ℕ) (r : Result T E) → ((e : E) → Stops a b xs → P e) → Wrote a b xs r → IfErr r P
+wrote_err a b xs (Ok x) f h = tt
+wrote_err a b xs (Err e) f h = f e h
+
+-- ---- Subsections one after the other.
+
+-- the rest of the subsections, at one of them
+pub subs_next : (set : Set) (i : ℕ) (image : Image) (j : ℕ) → j < length (device_at set i).subs → j < length image.came
+    → written_subs set (device_at set i) image (first_cell set (parts.Sub i j)) (drop j (device_at set i).subs) (drop j image.came)
+    ≡ written_sub set i image j (get_or image.came j None)
+    ++ written_subs set (device_at set i) image (first_cell set (parts.Sub i (j + 1))) (drop (j + 1) (device_at set i).subs) (drop (j + 1) image.came)
+subs_next set i image j lt lt' =
+    let d = device_at set i in
+    let none : Sub = record { desc = no_desc; needed = AtLeast 0 } in
+    let at = first_cell set (parts.Sub i j) in
+    ap (λ (xs : List Sub). written_subs set d image at xs (drop j image.came)) (drop_more d.subs j none lt)
+    ∙ ap (λ (ys : List (Option ℕ)). written_subs set d image at (sub_at d j ∷ drop (j + 1) d.subs) ys) (drop_more image.came j None lt')
+    ∙ one (get_or image.came j None)
+    ∙ ap (λ (x : ℕ). written_sub set i image j (get_or image.came j None) ++ written_subs set d image x (drop (j + 1) d.subs) (drop (j + 1) image.came)) (sym (sub_next set (own_cells set d) d.subs j none lt))
+  where
+    one : (o : Option ℕ) → written_subs set (device_at set i) image (first_cell set (parts.Sub i j)) (sub_at (device_at set i) j ∷ drop (j + 1) (device_at set i).subs) (o ∷ drop (j + 1) image.came)
+        ≡ written_sub set i image j o
+        ++ written_subs set (device_at set i) image (first_cell set (parts.Sub i j) + length (desc_cells (struct_cells set) (sub_at (device_at set i) j).desc)) (drop (j + 1) (device_at set i).subs) (drop (j + 1) image.came)
+    one None = refl
+    one (Some v) = refl
+
+-- the same for the walk that judges
+pub subs_fine_next : (set : Set) (i : ℕ) (forms : List CellForm) (image : Image) (j : ℕ) → j < length (device_at set i).subs → j < length image.came
+    → subs_fine set (device_at set i) forms image j (first_cell set (parts.Sub i j)) (drop j (device_at set i).subs) (drop j image.came)
+    ≡ (sub_fine set (device_at set i) forms image j (first_cell set (parts.Sub i j)) (sub_at (device_at set i) j) (get_or image.came j None)
+    && subs_fine set (device_at set i) forms image (j + 1) (first_cell set (parts.Sub i (j + 1))) (drop (j + 1) (device_at set i).subs) (drop (j + 1) image.came))
+subs_fine_next set i forms image j lt lt' =
+    let d = device_at set i in
+    let none : Sub = record { desc = no_desc; needed = AtLeast 0 } in
+    let at = first_cell set (parts.Sub i j) in
+    let here = sub_fine set d forms image j at (sub_at d j) (get_or image.came j None) in
+    ap (λ (xs : List Sub). subs_fine set d forms image j at xs (drop j image.came)) (drop_more d.subs j none lt)
+    ∙ ap (λ (ys : List (Option ℕ)). subs_fine set d forms image j at (sub_at d j ∷ drop (j + 1) d.subs) ys) (drop_more image.came j None lt')
+    ∙ ap (λ (k : ℕ). here && subs_fine set d forms image k (at + sub_size set (sub_at d j)) (drop (j + 1) d.subs) (drop (j + 1) image.came)) (one j)
+    ∙ ap (λ (x : ℕ). here && subs_fine set d forms image (j + 1) x (drop (j + 1) d.subs) (drop (j + 1) image.came)) (sym (sub_next set (own_cells set d) d.subs j none lt))
+  where
+    one : (j : ℕ) → suc j ≡ j + 1
+    one j = omega arith
+
+-- ---- The sections of a stream, one after the other.
 
 -- the next section of those that are left
 pub sections_next : (set : Set) (i : ℕ) (ds : List Device) (images : List Image) (d : Device) (image : Image) → i < length ds → i < length images

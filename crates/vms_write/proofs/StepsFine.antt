@@ -1,25 +1,100 @@
--- The steps of a part are fine, and the cells after them at their defaults, exactly if its slots are fine.
-use Rattle.std.proofs.Common.{◌≡◌, ℕ, suc, ◌+◌, ◌-◌, ◌<◌, ◌≤◌, List, [], ◌∷◌, length, get_or, Option, Some, None, ℤ, pos, negsuc, refl, sym, ap, ◌∙◌, subst, arith, Bool, true, false, ◌&&◌, ◌||◌, ◌==◌}
-use Rattle.std.proofs.lemmas.Bool.{eq-eqb, ne_eqb}
-use Rattle.std.proofs.Math.Bool.{and-true, and_assoc}
-use Rattle.vms_kinds.specs.declared.Kind.{Kind}
-use Rattle.vms_spec.specs.Sets.{Set}
-use Rattle.vms_spec.specs.Numbers.{same_number}
-use Rattle.vms_spec.specs.Rules.{in_range, int_le, counts_well}
-use Rattle.vms_spec.specs.Layout.{Slot, Number, Constant, Filler, Rule, Cell, desc_cells}
-use Rattle.vms_spec.specs.Images.{has_cell}
-use Rattle.vms_spec.specs.Places.{own_cell_count}
-use Rattle.vms_spec.proofs.ListLaws.{both_below, and_swap}
-use Rattle.vms_bodies.proofs.CellLaws.{cells_first}
-use Rattle.vms_parts.specs.Capacities.{lesser, least_from, least_of}
-use Rattle.vms_parts.specs.declared.types.CellForm.{CellForm}
-use Rattle.vms_desc.specs.Parts.{desc_at}
-use Rattle.vms_walk.specs.declared.fields.PartAt.{PartAt}
-use Rattle.vms_walk.specs.Steps.{steps_of, table, spot_slots}
-use Rattle.vms_walk.proofs.Order.{Ascends, below_from, from_end, desc_ascends, meanings_ascend}
-use Rattle.vms_write.specs.Fine.{no_form, is_within, are_fit, settle, is_fine}
-use Rattle.vms_write.specs.Steps.{is_number_fine, behind, are_steps_fine}
-use Rattle.vms_write.proofs.FineParts.{SameCells, settle_same, settle_plus}
+-- When the slots of a part are fine, joined and step by step.
+use Rattle.vms_write.proofs.Facade.{◌≡◌, ℕ, zero, suc, ◌+◌, ◌<◌, ◌≤◌, List, [], ◌∷◌, ◌++◌, length, length-append, get_or, replicate, ℤ, pos, refl, sym, ap, ◌∙◌}
+use Rattle.vms_write.proofs.Facade.{subst, arith, Bool, true, false, ◌&&◌, ◌||◌, ◌-◌, Option, Some, None, negsuc, ◌==◌, length-replicate, ne_eqb, eq-eqb}
+use Rattle.vms_write.proofs.Facade.{and-true, and_assoc, Item, same_number, in_range, counts_well, int_le, Desc, Set, Cell, no_cell, Slot, Number, Constant}
+use Rattle.vms_write.proofs.Facade.{Filler, Rule, Meaning, item_slots, item_cells, item_size, desc_slots, desc_cells, has_cell, AreCells, IsAbove, MeanCells}
+use Rattle.vms_write.proofs.Facade.{item_are, desc_are, cells_first, names_append, size_same, and_swap, both_below, CellForm, no_form, are_fit, settle, is_fine}
+use Rattle.vms_write.proofs.Facade.{is_within, cells_in, steps_of, table, spot_slots, stands_behind, Kind, own_cell_count, lesser, least_from, least_of}
+use Rattle.vms_write.proofs.Facade.{desc_at, PartAt, Ascends, below_from, from_end, desc_ascends, meanings_ascend, is_number_fine, behind, are_steps_fine}
+
+-- ---- tests
+
+or_none : (a b : Bool) → b ≡ false → (a || b) ≡ a
+or_none true b e = refl
+or_none false b e = e
+
+-- ---- parts
+
+pub fit_append : (n : List ℤ) (xs ys : List Slot) → are_fit n (xs ++ ys) ≡ (are_fit n xs && are_fit n ys)
+fit_append n [] ys = refl
+fit_append n (Number c kind caps ∷ xs) ys =
+    ap (λ (b : Bool). (in_range kind (get_or n c (pos 0)) && counts_well caps (get_or n c (pos 0))) && b) (fit_append n xs ys)
+    ∙ sym (and_assoc (in_range kind (get_or n c (pos 0)) && counts_well caps (get_or n c (pos 0))) (are_fit n xs) (are_fit n ys))
+fit_append n (Constant kind z ∷ xs) ys = fit_append n xs ys
+fit_append n (Filler k ∷ xs) ys = fit_append n xs ys
+fit_append n (Rule b ∷ xs) ys = ap (λ (x : Bool). b && x) (fit_append n xs ys) ∙ sym (and_assoc b (are_fit n xs) (are_fit n ys))
+
+pub settle_plus : (slots : List Slot) (forms : List CellForm) (n : List ℤ) (at a b : ℕ) → settle slots forms n at (a + b) ≡ (settle slots forms n at a && settle slots forms n (at + a) b)
+settle_plus slots forms n at zero b =
+    let none : 0 + b ≡ b = omega arith in
+    let here : at ≡ at + 0 = omega arith in
+    ap (settle slots forms n at) none ∙ ap (λ (x : ℕ). settle slots forms n x b) here
+settle_plus slots forms n at (suc a) b =
+    let one : suc a + b ≡ suc (a + b) = omega arith in
+    let next : (at + 1) + a ≡ at + suc a = omega arith in
+    let first = has_cell slots at || same_number (get_or n at (pos 0)) (get_or forms at no_form).default in
+    ap (settle slots forms n at) one ∙ ap (λ (x : Bool). first && x) (settle_plus slots forms n (at + 1) a b)
+    ∙ ap (λ (x : ℕ). first && (settle slots forms n (at + 1) a && settle slots forms n x b)) next
+    ∙ sym (and_assoc first (settle slots forms n (at + 1) a) (settle slots forms n (at + suc a) b))
+
+pub record SameCells (low end : ℕ) (xs ys : List Slot) : Type 0 where
+  pub same : (c : ℕ) → low ≤ c → c < end → has_cell xs c ≡ has_cell ys c
+
+pub settle_same : (xs ys : List Slot) (forms : List CellForm) (n : List ℤ) (at k : ℕ) → SameCells at (at + k) xs ys → settle xs forms n at k ≡ settle ys forms n at k
+settle_same xs ys forms n at zero h = refl
+settle_same xs ys forms n at (suc k) h =
+    let zero_up : at ≤ at = omega arith in
+    let first : at < at + suc k = omega arith in
+    ap (λ (b : Bool). (b || same_number (get_or n at (pos 0)) (get_or forms at no_form).default) && settle xs forms n (at + 1) k) (h.same at zero_up first)
+    ∙ ap (λ (b : Bool). (has_cell ys at || same_number (get_or n at (pos 0)) (get_or forms at no_form).default) && b)
+    (settle_same xs ys forms n (at + 1) k (record { same = λ c low lt. h.same c (omega arith) (omega arith) }))
+
+-- no number of the slots is at the end or above
+pub record IsBelow (end : ℕ) (slots : List Slot) : Type 0 where
+  pub above : (c : ℕ) → end ≤ c → has_cell slots c ≡ false
+
+pub fine_parts : (forms : List CellForm) (n : List ℤ) (xs ys : List Slot) (at a b : ℕ) → IsBelow (at + a) xs → IsAbove (at + a) ys
+    → is_fine forms n (xs ++ ys) at (a + b) ≡ (is_fine forms n xs at a && is_fine forms n ys (at + a) b)
+fine_parts forms n xs ys at a b below above =
+    let front : SameCells at (at + a) (xs ++ ys) xs = record { same = λ c low lt. names_append xs ys c ∙ or_none (has_cell xs c) (has_cell ys c) (above.below c lt) } in
+    let back : SameCells (at + a) ((at + a) + b) (xs ++ ys) ys = record { same = λ c low lt. names_append xs ys c ∙ ap (λ (x : Bool). x || has_cell ys c) (below.above c low) } in
+    ap (λ (x : Bool). x && settle (xs ++ ys) forms n at (a + b)) (fit_append n xs ys) ∙ ap (λ (x : Bool). (are_fit n xs && are_fit n ys) && x)
+    (settle_plus (xs ++ ys) forms n at a b ∙ ap (λ (x : Bool). x && settle (xs ++ ys) forms n (at + a) b) (settle_same (xs ++ ys) xs forms n at a front)
+    ∙ ap (λ (x : Bool). settle xs forms n at a && x) (settle_same (xs ++ ys) ys forms n (at + a) b back))
+    ∙ and_swap (are_fit n xs) (are_fit n ys) (settle xs forms n at a) (settle ys forms n (at + a) b)
+
+-- ---- where parts end
+
+are_below : (all : List Cell) (slots : List Slot) → AreCells all slots → IsBelow (length all) slots
+are_below all slots h = record { above = λ c le. none slots h c le }
+  where
+    none : (slots : List Slot) → AreCells all slots → (c : ℕ) → length all ≤ c → has_cell slots c ≡ false
+    none [] h c le = refl
+    none (Number k kind caps ∷ slots) h c le =
+        let within = h.0.within in
+        let lt : k < c = omega arith in
+        ap (λ (b : Bool). b || has_cell slots c) (ne_eqb k c (λ e. omega (arith, e, lt))) ∙ none slots h.1 c le
+    none (Constant kind z ∷ slots) h c le = none slots h c le
+    none (Filler m ∷ slots) h c le = none slots h c le
+    none (Rule b ∷ slots) h c le = none slots h c le
+
+below_end : (at size : ℕ) (cells : List Cell) (slots : List Slot) → length cells ≡ size → AreCells (replicate at no_cell ++ cells) slots → IsBelow (at + size) slots
+below_end at size cells slots e h =
+    let long : length (replicate at no_cell ++ cells) ≡ at + size = omega (arith, length-append (replicate at no_cell) cells, length-replicate at no_cell) in
+    subst (λ (k : ℕ). IsBelow k slots) long (are_below (replicate at no_cell ++ cells) slots h)
+
+module _ (ms : List Meaning) (known : MeanCells ms) (n : List ℤ) where
+  pub item_below : (item : Item) (caps : List ℕ) (at : ℕ) → IsBelow (at + item_size (cells_in ms) item) (item_slots ms item caps n at)
+  item_below item caps at =
+      let cells = item_cells (cells_in ms) item caps (pos 0) in
+      below_end at (item_size (cells_in ms) item) cells (item_slots ms item caps n at) (size_same (cells_in ms) item caps (pos 0)) (item_are ms known item caps (pos 0) (replicate at no_cell ++ cells) at n (stands_behind at cells))
+
+  pub desc_below : (d : Desc) (v at : ℕ) → IsBelow (at + length (desc_cells (cells_in ms) d)) (desc_slots ms d v n at)
+  desc_below d v at =
+      let cells = desc_cells (cells_in ms) d in
+      below_end at (length cells) cells (desc_slots ms d v n at) refl (desc_are ms known d v at n (replicate at no_cell ++ cells) (stands_behind at cells))
+
+-- ---- The steps of a part are fine, and the cells after them at their defaults, exactly if its slots are fine.
 
 -- ---- capacities and the least of them
 
@@ -60,8 +135,7 @@ settle_number forms n at end c kind caps xs le asc =
           let less : c < k = omega arith in
           or_right (c == k) (has_cell xs k) (ne_eqb c k (λ e. omega (arith, e, less)));
     } in
-    ap (settle all forms n at) parts
-    ∙ settle_plus all forms n at (c - at) (suc (end - (c + 1)))
+    ap (settle all forms n at) parts ∙ settle_plus all forms n at (c - at) (suc (end - (c + 1)))
     ∙ ap (λ (b : Bool). b && settle all forms n (at + (c - at)) (suc (end - (c + 1)))) (settle_same all [] forms n at (c - at) front)
     ∙ ap (λ (k : ℕ). settle [] forms n at (c - at) && settle all forms n k (suc (end - (c + 1)))) here
     ∙ ap (λ (b : Bool). settle [] forms n at (c - at) && (((b || has_cell xs c) || default) && settle all forms n (c + 1) (end - (c + 1)))) (eq-eqb c c refl)
@@ -79,8 +153,7 @@ slots_fine forms n at end (Number c kind caps ∷ xs) h =
     let rest = are_steps_fine forms n (c + 1) (steps_of xs) in
     let tail = settle [] forms n (behind (c + 1) (steps_of xs)) (end - behind (c + 1) (steps_of xs)) in
     let fits = in_range kind z && counts_well caps z in
-    and_assoc (is_number_fine kind (least_of caps) z && gap) rest tail
-    ∙ ap (λ (b : Bool). (b && gap) && (rest && tail)) (number_fine kind caps z)
+    and_assoc (is_number_fine kind (least_of caps) z && gap) rest tail ∙ ap (λ (b : Bool). (b && gap) && (rest && tail)) (number_fine kind caps z)
     ∙ ap (λ (b : Bool). (fits && gap) && b) (slots_fine forms n (c + 1) end xs h.1)
     ∙ and_swap fits gap (are_fit n xs) (settle xs forms n (c + 1) (end - (c + 1)))
     ∙ ap (λ (b : Bool). (fits && are_fit n xs) && b) (sym (settle_number forms n at end c kind caps xs h.0 h.1))
@@ -90,8 +163,7 @@ slots_fine forms n at end (Filler k ∷ xs) h =
     slots_fine forms n at end xs h ∙ ap (λ (b : Bool). are_fit n xs && b) (settle_other forms n xs (Filler k ∷ xs) at (end - at) (λ c. refl))
 slots_fine forms n at end (Rule b ∷ xs) h =
     and_assoc b (are_steps_fine forms n at (steps_of xs)) (settle [] forms n (behind at (steps_of xs)) (end - behind at (steps_of xs)))
-    ∙ ap (λ (x : Bool). b && x) (slots_fine forms n at end xs h)
-    ∙ sym (and_assoc b (are_fit n xs) (settle xs forms n at (end - at)))
+    ∙ ap (λ (x : Bool). b && x) (slots_fine forms n at end xs h) ∙ sym (and_assoc b (are_fit n xs) (settle xs forms n at (end - at)))
     ∙ ap (λ (x : Bool). (b && are_fit n xs) && x) (settle_other forms n xs (Rule b ∷ xs) at (end - at) (λ c. refl))
 
 -- ---- a part of a set
@@ -112,8 +184,7 @@ part_fine set spot forms n end e fine =
     let long : end - spot.base ≡ size = omega (arith, e) in
     let asc = subst (λ (k : ℕ). Ascends spot.base k (spot_slots set spot n)) (sym e) (part_ascends set spot n) in
     ap (λ (b : Bool). b && settle [] forms n (behind spot.base steps) (end - behind spot.base steps)) (sym fine)
-    ∙ slots_fine forms n spot.base end (spot_slots set spot n) asc
-    ∙ ap (is_fine forms n (spot_slots set spot n) spot.base) long
+    ∙ slots_fine forms n spot.base end (spot_slots set spot n) asc ∙ ap (is_fine forms n (spot_slots set spot n) spot.base) long
 
 -- it stops
 pub part_unfit : (set : Set) (spot : PartAt) (forms : List CellForm) (n : List ℤ) → are_steps_fine forms n spot.base (steps_of (spot_slots set spot n)) ≡ false
@@ -124,16 +195,4 @@ part_unfit set spot forms n fine =
     let end = spot.base + size in
     let long : end - spot.base ≡ size = omega arith in
     ap (λ (b : Bool). b && settle [] forms n (behind spot.base steps) (end - behind spot.base steps)) (sym fine)
-    ∙ slots_fine forms n spot.base end (spot_slots set spot n) (part_ascends set spot n)
-    ∙ ap (is_fine forms n (spot_slots set spot n) spot.base) long
-
--- no cell after a part's steps is past its end
-pub behind_end : (set : Set) (spot : PartAt) (n : List ℤ) → behind spot.base (steps_of (spot_slots set spot n)) ≤ spot.base + own_cell_count set (desc_at set spot.part)
-behind_end set spot n = go spot.base _ (spot_slots set spot n) (part_ascends set spot n)
-  where
-    go : (at end : ℕ) (xs : List Slot) → Ascends at end xs → behind at (steps_of xs) ≤ end
-    go at end [] h = h
-    go at end (Number c kind caps ∷ xs) h = go (c + 1) end xs h.1
-    go at end (Constant kind z ∷ xs) h = go at end xs h
-    go at end (Filler k ∷ xs) h = go at end xs h
-    go at end (Rule b ∷ xs) h = go at end xs h
+    ∙ slots_fine forms n spot.base end (spot_slots set spot n) (part_ascends set spot n) ∙ ap (is_fine forms n (spot_slots set spot n) spot.base) long

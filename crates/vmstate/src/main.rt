@@ -2,10 +2,16 @@
 //! with the status.
 #![tactic(auto)]
 
+ghost use Rattle.std.specs.Prelude.{◌≡◌, ◌∷◌, [], codes, drop, map, string_bytes, IfOk, IfErr, IsErr};
+ghost use Rattle.std.specs.IoError.{error_kind};
+ghost use Rattle.std.specs.Vec.Iter.{into_iter_items};
+ghost use Rattle.vms_io.specs.Folders.{folder_of};
+
 use std::alloc::Global;
-use std::env;
+use std::env::Args;
 use std::io::ErrorKind;
 use std::process::ExitCode;
+use std::{env, io};
 use vms_cli::{Words, program};
 use vms_io::{FileShelf, NoMemory};
 
@@ -16,24 +22,43 @@ fn main(rt: HostRuntime) -> ExitCode {
 }
 
 // Returns the words, and the files of the current folder.
-fn handed(rt: &HostRuntime) -> Result<(Words, FileShelf<HostRuntime>), NoMemory> {
+fn handed(rt: &HostRuntime) -> Result<(Words, FileShelf<HostRuntime>), NoMemory>
+    ensures { IfOk result (λ given. folder_of given.1 ≡ codes ".") }
+{
     let alloc = rt.alloc();
-    let words = words(rt, alloc)?;
+    let words = words(alloc, env::args(rt))?;
     let folder = String::from_str(alloc, ".")?;
     Ok((words, FileShelf::new(rt.clone()?, folder)))
 }
 
 // Returns the words after the program's name, or one empty word if one of them isn't UTF-8.
-fn words(rt: &HostRuntime, alloc: Global) -> Result<Words, NoMemory> {
-    let mut words = Words::new(alloc);
-    match env::args(rt) {
-        Ok(args) => {
-            for word in args.skip(1) {
-                words.push(word.as_str())?;
-            }
+fn words(alloc: Global, args: io::Result<Args>) -> Result<Words, NoMemory>
+    ensures given { IfOk args (λ args. IfOk result (λ words.
+        words ≡ map (λ word. string_bytes word) (drop 1 (into_iter_items args)))) }
+    ensures none { IfErr args (λ error. IfOk result (λ words. words ≡ [] ∷ [])) }
+    ensures memory { IfErr args (λ error.
+        error_kind error ≡ ErrorKind.OutOfMemory → IsErr result) }
+{
+    match args {
+        Ok(args) => after_name(alloc, args),
+        Err(error) if error.kind() == ErrorKind::OutOfMemory => Err(NoMemory),
+        Err(_) => {
+            let mut words = Words::new(alloc);
+            words.push("")?;
+            Ok(words)
         }
-        Err(error) if error.kind() == ErrorKind::OutOfMemory => return Err(NoMemory),
-        Err(_) => words.push("")?,
+    }
+}
+
+// Returns all arguments but the first, which is the program's name.
+fn after_name(alloc: Global, mut args: Args) -> Result<Words, NoMemory>
+    ensures { IfOk result (λ words.
+        words ≡ map (λ word. string_bytes word) (drop 1 (into_iter_items args))) }
+{
+    let mut words = Words::new(alloc);
+    let _name = args.next();
+    for word in args {
+        words.push(word.as_str())?;
     }
     Ok(words)
 }
@@ -41,7 +66,6 @@ fn words(rt: &HostRuntime, alloc: Global) -> Result<Words, NoMemory> {
 #[cfg(test)]
 mod tests {
     use super::*;
-    use std::io;
     use std::io::Write;
     use std::test::Fail;
     use vms_io::MemShelf;

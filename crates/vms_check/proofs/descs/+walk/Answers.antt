@@ -7,9 +7,7 @@ use Rattle.vms_desc.proofs.Clean.{reach}
 use Rattle.vms_check.specs.Pairs.{desc_mismatch, table_on}
 use Rattle.vms_check.specs.Sides.{desc_on, own_side}
 use Rattle.vms_check.specs.declared.side.Side.{Side}
-use Rattle.vms_check.proofs.DescLaws.{first_is, later_is, desc_split}
-use Rattle.vms_check.proofs.FieldsLaws.{pair_passes, pair_stops, rule_fails, passes_whole}
-use Rattle.vms_check.proofs.StructLaws.{structs_are, uses_at}
+use Rattle.vms_check.proofs.WholeLaws.{first_is, later_is, desc_split, pair_passes, pair_stops, rule_fails, passes_whole, structs_are, uses_at}
 use Rattle.vms_check.proofs.descs.+walk.Goals as goal
 
 -- ---- the whole description
@@ -18,7 +16,8 @@ pub compare_descs-returns-in-Some : goal.compare_descs-returns-in-Some
 compare_descs-returns-in-Some t c =
     let s = c.args.old in
     let r = c.args.new in
-    sym (desc_split (table_on s r) (struct_cells (described s.set.now)) (struct_cells (described r.set.now)) (desc_on s) (desc_on r) s.version r.version s.part r.part
+    sym (desc_split (table_on s r) (struct_cells (described s.set.now)) (struct_cells (described r.set.now)) (desc_on s)
+    (desc_on r) s.version r.version s.part r.part
     ∙ first_is _ _ c.in-Some.mismatch (sym c.compare_fields.ensures ∙ c.in-Some.is))
 
 pub compare_descs-returns : goal.compare_descs-returns
@@ -26,27 +25,25 @@ compare_descs-returns t c =
     let s = c.args.old in
     let r = c.args.new in
     c.compare_validations.ensures
-    ∙ sym (desc_split (table_on s r) (struct_cells (described s.set.now)) (struct_cells (described r.set.now)) (desc_on s) (desc_on r) s.version r.version s.part r.part
+    ∙ sym (desc_split (table_on s r) (struct_cells (described s.set.now)) (struct_cells (described r.set.now)) (desc_on s)
+    (desc_on r) s.version r.version s.part r.part
     ∙ later_is _ _ (sym c.compare_fields.ensures ∙ c.in_default.is))
 
 -- ---- its fields
 
 pub compare_fields-returns-in-Some : goal.compare_fields-returns-in-Some
 compare_fields-returns-in-Some t c =
-    pair_stops c.args.old c.args.new c.loop-other.in_old c.loop-other.in_new c.in-Some-Some.one c.in-Some-Some.other c.compare_pair.result _ c.in-Some.mismatch c.in-Some-Some.ensures c.in-Some-Some.ensures'
-    c.compare_pair.ensures c.in-Some.is c.loop-other.invariant
+    pair_stops c.args.old c.args.new _ _ _ _ _ _ _ c.in-Some-Some.ensures c.in-Some-Some.ensures' c.compare_pair.ensures c.in-Some.is c.loop-other.invariant
 
 pub compare_fields-loop-other-preserved : goal.compare_fields-loop-other-preserved
 compare_fields-loop-other-preserved t c =
-    pair_passes c.args.old c.args.new c.loop-other.in_old c.loop-other.in_new c.in-Some-Some.one c.in-Some-Some.other c.compare_pair.result _ c.in-Some-Some.ensures c.in-Some-Some.ensures'
-    c.compare_pair.ensures c.in_default.is c.loop-other.invariant
+    pair_passes c.args.old c.args.new _ _ _ _ _ _ c.in-Some-Some.ensures c.in-Some-Some.ensures' c.compare_pair.ensures c.in_default.is c.loop-other.invariant
 
 -- ---- one pair
 
 pub compare_pair-returns-in-Some : goal.compare_pair-returns-in-Some
 compare_pair-returns-in-Some t c =
-    rule_fails c.args.old c.args.new c.args.one c.args.other c.failing_rule.result c.in-Some.rule c.in_field.result c.in_field-in-Some.result c.failing_rule.ensures c.in-Some.is
-    c.in_field.ensures c.in_field-in-Some.ensures
+    rule_fails c.args.old c.args.new c.args.one c.args.other _ _ _ _ c.failing_rule.ensures c.in-Some.is c.in_field.ensures c.in_field-in-Some.ensures
 
 pub compare_pair-compare_structs-requires : goal.compare_pair-compare_structs-requires
 compare_pair-compare_structs-requires t c =
@@ -54,14 +51,19 @@ compare_pair-compare_structs-requires t c =
     let r = c.args.new in
     let one = c.args.one in
     let other = c.args.other in
-    let older = uses_at (described s.set.now) s.set.now.well_formed s.part c.requires.old one.number c.requires.one.inside (field_of one.field.now) c.requires.one.is c.in-Struct-Struct.in_old c.in-Struct-Struct.is-0 in
-    let newer = uses_at (described r.set.now) r.set.now.well_formed r.part c.requires.new other.number c.requires.other.inside (field_of other.field.now) c.requires.other.is c.in-Struct-Struct.in_new c.in-Struct-Struct.is-1 in
+    let older =
+    uses_at (described s.set.now) s.set.now.well_formed s.part c.requires.old one.number c.requires.one.inside
+    (field_of one.field.now) c.requires.one.is c.in-Struct-Struct.in_old c.in-Struct-Struct.is-0 in
+    let newer =
+    uses_at (described r.set.now) r.set.now.well_formed r.part c.requires.new other.number c.requires.other.inside
+    (field_of other.field.now) c.requires.other.is c.in-Struct-Struct.in_new c.in-Struct-Struct.is-1 in
     let low : c.in-Struct-Struct.in_new < reach (described r.set.now) r.part = newer.0 in
     let less : 4 * c.in-Struct-Struct.in_new + 4 < 4 * reach (described r.set.now) r.part + 1 = omega (arith, low) in
     (search rules, (older.1, newer.1))
 
 pub compare_pair-returns-in_default-2-2 : goal.compare_pair-returns-in_default-2-2
-compare_pair-returns-in_default-2-2 t c = passes_whole c.args.old c.args.new c.args.one c.args.other c.failing_rule.result c.failing_rule.ensures c.in_default.is c.in_default-2.not-Struct-0
+compare_pair-returns-in_default-2-2 t c =
+    passes_whole c.args.old c.args.new c.args.one c.args.other c.failing_rule.result c.failing_rule.ensures c.in_default.is c.in_default-2.not-Struct-0
 
 pub compare_structs-returns : goal.compare_structs-returns
 compare_structs-returns t c =

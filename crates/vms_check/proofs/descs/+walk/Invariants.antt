@@ -19,7 +19,8 @@ decreases-compare_descs l = 4 * reach (described l.new.set.now) l.new.part + 3
 
 abbrev pub invariant-compare_fields-loop-other : goal.invariant-compare_fields-loop-other
 invariant-compare_fields-loop-other l =
-    fields_on l.old l.new (fields_from l.old.version l.in_old (drop l.in_old (desc_on l.old).fields)) (fields_from l.new.version l.in_new (drop l.in_new (desc_on l.new).fields)) ≡ all_fields_on l.old l.new
+    fields_on l.old l.new (fields_from l.old.version l.in_old (drop l.in_old (desc_on l.old).fields))
+    (fields_from l.new.version l.in_new (drop l.in_new (desc_on l.new).fields)) ≡ all_fields_on l.old l.new
 
 abbrev pub decreases-compare_fields-loop-other : goal.decreases-compare_fields-loop-other
 decreases-compare_fields-loop-other l = length (desc_on l.old).fields - l.in_old

@@ -1,4 +1,4 @@
-use Rattle.std.proofs.Common.{◌≢◌, ℕ, ◌+◌, ◌<◌, ◌≤◌, length, inl, inr, refl, sym, subst, ◌∙◌, arith, get_or-set_other, get_or-set_same, below_more}
+use Rattle.std.proofs.Common.{◌≢◌, ◌+◌, ◌<◌, ◌≤◌, length, inl, inr, refl, ◌∙◌, arith, get_or-set_other, get_or-set_same, below_more}
 use Rattle.std.proofs.Math.ListN.{length-set}
 use Rattle.std.proofs.lemmas.Bool.{cases_lt}
 use Rattle.vms_check.proofs.PositionLaws.{counted_is, counted_small, entry_is, none_at, position_beyond}
@@ -22,11 +22,13 @@ loop-number-init c = record {
 pub loop-number-preserved : goal.loop-number-preserved
 loop-number-preserved c = record {
   wide = rw length-set c.loop-number.invariant.wide;
-  counted = c.counted-count.ensures ∙ counted_is c.args.version c.args.fields.now c.loop-number.number c.index-fields-number.result c.is_present-is_there.result c.loop-number.count c.loop-number-test.true c.index-fields-number.is c.is_present-is_there.ensures c.loop-number.invariant.counted;
-  small = subst (λ (n : ℕ). n ≤ c.loop-number.number + 1) (sym c.counted-count.ensures) (counted_small c.is_present-is_there.result c.loop-number.count c.loop-number.number c.loop-number.invariant.small);
+  counted = c.counted-count.ensures
+      ∙ counted_is c.args.version _ _ _ _ _ c.loop-number-test.true c.index-fields-number.is c.is_present-is_there.ensures c.loop-number.invariant.counted;
+  small = rw c.counted-count.ensures (counted_small c.is_present-is_there.result c.loop-number.count c.loop-number.number c.loop-number.invariant.small);
   before = below_more _ _
       (λ k lt. let ne : k ≢ c.loop-number.number = omega arith in rw get_or-set_other (c.loop-number.invariant.before k lt))
       (let lt : c.loop-number.number < length c.loop-number.table = omega (arith, c.loop-number.invariant.wide, c.requires, c.loop-number-test.true) in
-      rw get_or-set_same (c.entry.ensures ∙ entry_is c.args.version c.args.fields.now c.loop-number.number c.index-fields-number.result c.is_present-is_there.result c.loop-number.count c.loop-number-test.true c.index-fields-number.is c.is_present-is_there.ensures c.loop-number.invariant.counted));
+      rw get_or-set_same (c.entry.ensures
+      ∙ entry_is c.args.version _ _ _ _ _ c.loop-number-test.true c.index-fields-number.is c.is_present-is_there.ensures c.loop-number.invariant.counted));
   after = λ k le. let ne : k ≢ c.loop-number.number = omega arith in rw get_or-set_other (c.loop-number.invariant.after k (omega arith));
 }

@@ -5,11 +5,12 @@ use Rattle.vms_check.proofs.WholeLaws.{device_in, device_found}
 use Rattle.vms_check.proofs.sets.compare_device.Goals as goal
 
 pub compare_found-requires-clause-new : goal.compare_found-requires-clause-new
-compare_found-requires-clause-new c = device_in (described c.args.new.now).devices c.as_bytes.result.now c.device-device.result.now.instance c.find.result c.in-Some.found c.find.ensures c.in-Some.is
+compare_found-requires-clause-new c = device_in (described c.args.new.now).devices _ _ _ c.in-Some.found c.find.ensures c.in-Some.is
 
 pub returns-in-Some : goal.returns-in-Some
 returns-in-Some c =
     let old = described c.args.old.now in
     c.compare_found.ensures
-    ∙ device_found old (described c.args.new.now) c.args.number (device_at old c.args.number) c.as_bytes.result.now c.device-device.result.now.instance c.find.result c.in-Some.found
-    (c.as_bytes.ensures ∙ ap (λ (d : Device). d.desc.name) c.device-device.ensures) (ap (λ (d : Device). d.instance) c.device-device.ensures) c.find.ensures c.in-Some.is
+    ∙ device_found old (described c.args.new.now) c.args.number (device_at old c.args.number) _ _ _ c.in-Some.found
+    (c.as_bytes.ensures ∙ ap (λ (d : Device). d.desc.name) c.device-device.ensures)
+    (ap (λ (d : Device). d.instance) c.device-device.ensures) c.find.ensures c.in-Some.is

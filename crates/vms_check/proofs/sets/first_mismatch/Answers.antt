@@ -1,11 +1,11 @@
 use Rattle.std.proofs.Common.{sym, ◌∙◌}
 use Rattle.vms_desc.specs.Described.{described}
-use Rattle.vms_check.proofs.DescLaws.{first_is, later_is}
-use Rattle.vms_check.proofs.WholeLaws.{whole_is}
+use Rattle.vms_check.proofs.WholeLaws.{first_is, later_is, whole_is}
 use Rattle.vms_check.proofs.sets.first_mismatch.Goals as goal
 
 pub returns-in-Some : goal.returns-in-Some
-returns-in-Some c = sym (whole_is (described c.args.old.now) (described c.args.new.now) ∙ first_is _ _ c.in-Some.mismatch (sym c.compare_machines.ensures ∙ c.in-Some.is))
+returns-in-Some c =
+    sym (whole_is (described c.args.old.now) (described c.args.new.now) ∙ first_is _ _ c.in-Some.mismatch (sym c.compare_machines.ensures ∙ c.in-Some.is))
 
 pub returns-in-Some-compare_names : goal.returns-in-Some-compare_names
 returns-in-Some-compare_names c =

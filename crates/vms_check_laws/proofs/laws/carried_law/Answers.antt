@@ -1,4 +1,4 @@
-use Rattle.vms_check_laws.proofs.CarriedLaws.{carried_stands}
+use Rattle.vms_check_laws.proofs.GoesDevices.{carried_stands}
 use Rattle.vms_check_laws.proofs.laws.carried_law.Goals as goal
 
 pub returns : goal.returns

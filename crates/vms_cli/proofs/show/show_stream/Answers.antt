@@ -4,7 +4,7 @@ use Rattle.vms_io.specs.Told.{outlet}
 use Rattle.vms_spec.specs.Sets.{Set}
 use Rattle.vms_spec.specs.Values.{values_text}
 use Rattle.vms_values.specs.Printing.{machine_of}
-use Rattle.vms_load.proofs.Loaded.{within}
+use Rattle.vms_load.proofs.ExactLoads.{within}
 use Rattle.vms_load.specs.Lean.{loads, has, taken_by}
 use Rattle.vms_load.specs.Staging.{accepted_of}
 use Rattle.vms_commands.specs.Endings.{ending_of, WritesAs}

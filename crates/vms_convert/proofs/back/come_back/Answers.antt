@@ -1,8 +1,5 @@
-use Rattle.std.proofs.Common.{length, ap, ◌∙◌}
-use Rattle.vms_image.specs.Typed.{Typed}
-use Rattle.vms_desc.specs.Described.{described, device_at}
-use Rattle.dev_images.specs.Images.{bare}
-use Rattle.vms_convert.proofs.MarkedAll.{needed_long}
+use Rattle.vms_convert.proofs.Facade.{length, ap, ◌∙◌, Typed, described, device_at, bare}
+use Rattle.vms_convert.proofs.Settling.{needed_long}
 use Rattle.vms_convert.proofs.back.come_back.Goals as goal
 
 pub returns-clause-of : goal.returns-clause-of
@@ -12,5 +9,6 @@ returns-clause-of c =
     record {
       subs = ap (λ (x : Typed). length x.came) c.mark.ensures ∙ needed_long set d (bare d c.settle.new.image.numbers) d.subs 0;
       cells = ap (λ (x : Typed). length x.numbers) c.mark.ensures ∙ c.settle.ensures.settled.long ∙ c.take_all.ensures.taken.long;
-      kinds = ap (λ (x : Typed). x.kinds) c.mark.ensures ∙ ap (λ (x : Typed). x.kinds) c.settle.ensures.rest ∙ ap (λ (x : Typed). x.kinds) c.take_all.ensures.rest ∙ ap (λ (x : Typed). x.kinds) c.requires.fresh;
+      kinds = ap (λ (x : Typed). x.kinds) c.mark.ensures ∙ ap (λ (x : Typed). x.kinds) c.settle.ensures.rest
+          ∙ ap (λ (x : Typed). x.kinds) c.take_all.ensures.rest ∙ ap (λ (x : Typed). x.kinds) c.requires.fresh;
     }

@@ -1,7 +1,5 @@
-use Rattle.std.proofs.Common.{◌≡◌}
-use Rattle.vms_desc.specs.Described.{described, device_at}
-use Rattle.dev_images.specs.Images.{bare}
-use Rattle.vms_convert.proofs.MarkedAll.{MarkedTo}
+use Rattle.vms_convert.proofs.Facade.{◌≡◌, described, device_at, bare}
+use Rattle.vms_convert.proofs.Settling.{MarkedTo}
 use Rattle.vms_convert.proofs.back.mark.Given as goal
 
 abbrev pub invariant-loop-sub : goal.invariant-loop-sub

@@ -1,6 +1,4 @@
-use Rattle.std.proofs.Common.{arith}
-use Rattle.vms_desc.specs.Described.{described}
-use Rattle.vms_desc.proofs.AskLaws.{few_cells}
+use Rattle.vms_convert.proofs.Facade.{arith, described, few_cells}
 use Rattle.vms_convert.proofs.back.mark_sub.Goals as goal
 
 pub is_needed-requires-clause-few : goal.is_needed-requires-clause-few

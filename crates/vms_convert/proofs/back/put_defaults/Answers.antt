@@ -1,20 +1,14 @@
-use Rattle.std.proofs.Common.{◌≡◌, ◌<◌, ℤ, ◌+◌, List, length, refl, sym, ap, subst, arith}
-use Rattle.vms_spec.specs.Places.{own_cell_count}
-use Rattle.vms_parts.specs.Sizes.{in_u32}
-use Rattle.vms_desc.specs.Described.{described, device_at}
-use Rattle.vms_desc.specs.Parts.{sub_at}
-use Rattle.vms_desc.proofs.AskLaws.{few_cells, sub_inside}
-use Rattle.vms_image.specs.Typed.{Typed}
-use Rattle.vms_convert.specs.Bringing.{ArePut}
+use Rattle.vms_convert.proofs.Facade.{◌≡◌, ◌<◌, ℤ, ◌+◌, List, length, refl, sym, ap, subst, arith, own_cell_count, in_u32, described, device_at, sub_at}
+use Rattle.vms_convert.proofs.Facade.{few_cells, sub_inside, Typed, ArePut}
 use Rattle.vms_convert.proofs.BringLaws.{image_kept}
-use Rattle.vms_convert.proofs.PutDefaults.{put_all, put_none, put_one, put_rest}
+use Rattle.vms_convert.proofs.TakeLaws.{put_all, put_none, put_one, put_rest}
 use Rattle.vms_convert.proofs.back.put_defaults.Goals as goal
 
 pub overflow_add-end : goal.overflow_add-end
 overflow_add-end c =
     let set = described c.args.set.now in
     let size : c.cells_of.result ≡ in_u32 (own_cell_count set (sub_at (device_at set c.args.device) c.args.sub).desc) = c.cells_of.ensures in
-    omega (arith, size, c.first_cell-first.ensures, sub_inside set c.args.device c.args.sub c.requires.sub, few_cells set c.args.set.now.well_formed c.args.device)
+    omega (arith, c.first_cell-first.ensures, sub_inside set c.args.device c.args.sub c.requires.sub, few_cells set c.args.set.now.well_formed c.args.device)
 
 pub loop-cell-init : goal.loop-cell-init
 loop-cell-init c = record { rest = refl; put = put_none (described c.args.set.now) c.args.device c.first_cell-first.result c.args.image.now.numbers }
@@ -23,11 +17,12 @@ pub put_default-requires-clause-cell : goal.put_default-requires-clause-cell
 put_default-requires-clause-cell c =
     let set = described c.args.set.now in
     let size : c.cells_of.result ≡ in_u32 (own_cell_count set (sub_at (device_at set c.args.device) c.args.sub).desc) = c.cells_of.ensures in
-    omega (arith, size, c.loop-cell-test.true, c.first_cell-first.ensures, sub_inside set c.args.device c.args.sub c.requires.sub)
+    omega (arith, c.loop-cell-test.true, c.first_cell-first.ensures, sub_inside set c.args.device c.args.sub c.requires.sub)
 
 pub put_default-requires-clause-of : goal.put_default-requires-clause-of
 put_default-requires-clause-of c =
-    image_kept (described c.args.set.now) c.args.device c.args.image.now c.loop-cell.image c.requires.of c.loop-cell.invariant.rest c.loop-cell.invariant.put.long
+    image_kept (described c.args.set.now) c.args.device c.args.image.now c.loop-cell.image c.requires.of c.loop-cell.invariant.rest
+    c.loop-cell.invariant.put.long
 
 pub loop-cell-preserved : goal.loop-cell-preserved
 loop-cell-preserved c =
@@ -37,11 +32,14 @@ loop-cell-preserved c =
     let put = c.put_default.ensures in
     let size : c.cells_of.result ≡ in_u32 (own_cell_count set (sub_at d c.args.sub).desc) = c.cells_of.ensures in
     let lt : c.loop-cell.cell < length c.args.image.now.numbers =
-    omega (arith, size, c.loop-cell-test.true, c.first_cell-first.ensures, sub_inside set c.args.device c.args.sub c.requires.sub, c.requires.of.cells) in
+    omega (arith, c.loop-cell-test.true, c.first_cell-first.ensures, sub_inside set c.args.device c.args.sub c.requires.sub, c.requires.of.cells) in
     record {
       rest = put_rest c.args.image.now c.loop-cell.image c.put_default.new.image _ h.rest put;
-      put = subst (λ (l : List ℤ). ArePut set c.args.device c.first_cell-first.result (c.loop-cell.cell + 1) c.args.image.now.numbers l) (sym (ap (λ (x : Typed). x.numbers) put))
-          (put_one set c.args.device c.first_cell-first.result c.args.image.now.numbers c.loop-cell.cell c.loop-cell.image.numbers h.put lt c.loop-cell.auto.cell);
+      put =
+          subst (λ (l : List ℤ). ArePut set c.args.device c.first_cell-first.result (c.loop-cell.cell + 1) c.args.image.now.numbers l)
+          (sym (ap (λ (x : Typed). x.numbers) put))
+          (put_one set c.args.device c.first_cell-first.result c.args.image.now.numbers c.loop-cell.cell c.loop-cell.image.numbers h.put lt
+          c.loop-cell.auto.cell);
     }
 
 pub returns-clause-puts : goal.returns-clause-puts
@@ -50,5 +48,5 @@ returns-clause-puts c =
     let size : c.cells_of.result ≡ in_u32 (own_cell_count set (sub_at (device_at set c.args.device) c.args.sub).desc) = c.cells_of.ensures in
     let inside = sub_inside set c.args.device c.args.sub c.requires.sub in
     let few = few_cells set c.args.set.now.well_formed c.args.device in
-    put_all set c.args.device c.args.sub c.first_cell-first.result c.loop-cell.cell c.args.image.now.numbers c.loop-cell.image.numbers c.first_cell-first.ensures
-    (omega (arith, size, inside, few, c.first_cell-first.ensures, c.loop-cell-test.false, c.loop-cell.auto.cell-end)) c.loop-cell.invariant.put
+    put_all set c.args.device c.args.sub c.first_cell-first.result c.loop-cell.cell c.args.image.now.numbers c.loop-cell.image.numbers
+    c.first_cell-first.ensures (omega (arith, c.first_cell-first.ensures, c.loop-cell-test.false, c.loop-cell.auto.cell-end)) c.loop-cell.invariant.put

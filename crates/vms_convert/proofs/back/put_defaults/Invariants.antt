@@ -1,6 +1,4 @@
-use Rattle.std.proofs.Common.{◌≡◌}
-use Rattle.vms_desc.specs.Described.{described}
-use Rattle.vms_convert.specs.Bringing.{ArePut}
+use Rattle.vms_convert.proofs.Facade.{◌≡◌, described, ArePut}
 use Rattle.vms_convert.proofs.back.put_defaults.Given as goal
 
 abbrev pub invariant-loop-cell : goal.invariant-loop-cell

@@ -1,6 +1,5 @@
-use Rattle.std.proofs.Common.{◌≡◌}
-use Rattle.vms_desc.specs.Described.{described, device_at}
-use Rattle.vms_convert.proofs.SettledAll.{SettledTo}
+use Rattle.vms_convert.proofs.Facade.{◌≡◌, described, device_at}
+use Rattle.vms_convert.proofs.Settling.{SettledTo}
 use Rattle.vms_convert.proofs.back.settle.Given as goal
 
 abbrev pub invariant-loop-sub : goal.invariant-loop-sub

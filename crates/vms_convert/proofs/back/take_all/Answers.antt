@@ -1,19 +1,8 @@
-use Rattle.std.proofs.Common.{◌≡◌, ◌<◌, length, refl, sym, ap, ◌∙◌, subst, arith}
-use Rattle.std.proofs.lemmas.List.{length-map}
+use Rattle.vms_convert.proofs.Facade.{◌≡◌, ◌<◌, length, refl, sym, ap, ◌∙◌, subst, arith, length-map, IsGood, Cell, device_cells, described, device_at, good_of}
+use Rattle.vms_convert.proofs.Facade.{Typed, HasSpot, spot_slots, steps_of, PartAt, part_of, changed, put_step, takes_keeps}
 use Rattle.vms_spec.specs.declared.Part.TheVariants as parts
-use Rattle.vms_spec.specs.Good.{IsGood}
-use Rattle.vms_spec.specs.Layout.{Cell, device_cells}
-use Rattle.vms_desc.specs.Described.{described, device_at}
-use Rattle.vms_desc.proofs.Bounds.{good_of}
-use Rattle.vms_image.specs.Typed.{Typed}
-use Rattle.vms_walk.specs.Steps.{HasSpot, spot_slots, steps_of}
-use Rattle.vms_walk.specs.declared.fields.PartAt.{PartAt}
-use Rattle.vms_convert.specs.Bringing.{part_of}
-use Rattle.vms_convert.specs.Changes.{changed}
-use Rattle.vms_convert.specs.Putting.{put_step}
-use Rattle.vms_convert.specs.Takes.{takes_keeps}
 use Rattle.vms_convert.proofs.BringLaws.{own_spot, sub_spot, took_all, took_own, took_sub}
-use Rattle.vms_convert.proofs.PutDefaults.{put_rest}
+use Rattle.vms_convert.proofs.TakeLaws.{put_rest}
 use Rattle.vms_convert.proofs.back.take_all.Goals as goal
 
 pub take_part-requires-clause-part : goal.take_part-requires-clause-part
@@ -43,7 +32,8 @@ loop-sub-init c =
           (ap (λ (x : Typed). x.numbers) c.take_part.ensures
           ∙ ap (λ (p : PartAt). changed (put_step ps source) (steps_of (spot_slots set p now.numbers)) before.numbers) c.whole_part-own.ensures
           ∙ ap (λ (x : Typed). changed (put_step ps source) (steps_of (spot_slots set own now.numbers)) x.numbers) c.requires.image);
-      long = (takes_keeps ps source steps before now c.take_part.ensures).long ∙ ap (λ (x : Typed). length x.numbers) c.requires.image ∙ length-map cells (λ (x : Cell). x.default);
+      long = (takes_keeps ps source steps before now c.take_part.ensures).long ∙ ap (λ (x : Typed). length x.numbers) c.requires.image
+          ∙ length-map cells (λ (x : Cell). x.default);
     }
 
 pub take_part-requires-in-loop-sub-clause-part : goal.take_part-requires-in-loop-sub-clause-part
@@ -53,7 +43,8 @@ take_part-requires-in-loop-sub-clause-part c =
     let j = c.loop-sub.sub in
     let n = c.loop-sub.image.numbers in
     let less : j < length (device_at set i).subs = omega (arith, c.loop-sub-test.true, c.sub_count-sub-end.ensures) in
-    subst (λ (p : PartAt). HasSpot set p n) (sym c.whole_part-part.ensures) (sub_spot set i c.requires.device c.args.set.now.well_formed n c.loop-sub.invariant.long j less)
+    subst (λ (p : PartAt). HasSpot set p n) (sym c.whole_part-part.ensures)
+    (sub_spot set i c.requires.device c.args.set.now.well_formed n c.loop-sub.invariant.long j less)
 
 pub loop-sub-preserved : goal.loop-sub-preserved
 loop-sub-preserved c =
@@ -71,7 +62,8 @@ loop-sub-preserved c =
     record {
       rest = put_rest c.args.image.now before now _ c.loop-sub.invariant.rest put;
       first = took_sub set i c.requires.device good ps source before.numbers now.numbers j less c.loop-sub.invariant.first
-          (ap (λ (x : Typed). x.numbers) put ∙ ap (λ (p : PartAt). changed (put_step ps source) (steps_of (spot_slots set p now.numbers)) before.numbers) c.whole_part-part.ensures);
+          (ap (λ (x : Typed). x.numbers) put ∙ ap
+          (λ (p : PartAt). changed (put_step ps source) (steps_of (spot_slots set p now.numbers)) before.numbers) c.whole_part-part.ensures);
       long = (takes_keeps ps source steps before now put).long ∙ c.loop-sub.invariant.long;
     }
 
@@ -80,5 +72,6 @@ returns-clause-taken c =
     let set = described c.args.set.now in
     let i = c.args.device in
     let good : IsGood set = good_of set c.args.set.now.well_formed c.args.set.now.heads in
-    took_all set i c.requires.device good c.args.partners.now c.args.source.now.numbers c.loop-sub.image.numbers c.loop-sub.sub (omega (arith, c.loop-sub-test.false, c.sub_count-sub-end.ensures))
+    took_all set i c.requires.device good c.args.partners.now c.args.source.now.numbers c.loop-sub.image.numbers c.loop-sub.sub
+    (omega (arith, c.loop-sub-test.false, c.sub_count-sub-end.ensures))
     (omega (arith, c.loop-sub.auto.sub-end, c.sub_count-sub-end.ensures)) c.loop-sub.invariant.first c.loop-sub.invariant.long

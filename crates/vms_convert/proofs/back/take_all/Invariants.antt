@@ -1,10 +1,5 @@
-use Rattle.std.proofs.Common.{◌≡◌, length, map}
-use Rattle.vms_spec.specs.Layout.{device_cells}
-use Rattle.vms_desc.specs.Described.{described, device_at}
-use Rattle.vms_walk.specs.Steps.{steps_of}
-use Rattle.vms_convert.specs.Changes.{changed}
-use Rattle.vms_convert.specs.Putting.{put_step}
-use Rattle.vms_convert.proofs.FirstParts.{all_came, first_slots}
+use Rattle.vms_convert.proofs.Facade.{◌≡◌, length, map, device_cells, described, device_at, steps_of, changed, put_step}
+use Rattle.vms_convert.proofs.TakeLaws.{all_came, first_slots}
 use Rattle.vms_convert.proofs.back.take_all.Given as goal
 
 abbrev pub invariant-loop-sub : goal.invariant-loop-sub
@@ -13,6 +8,7 @@ invariant-loop-sub l =
     let d = device_at set l.device in
     record {
       rest : l.image ≡ record l.fn.image { numbers = l.image.numbers };
-      first : l.image.numbers ≡ changed (put_step l.partners l.source.numbers) (steps_of (first_slots set d (all_came d.subs) l.sub l.image.numbers)) (map (λ c. c.default) (device_cells set d));
+      first : l.image.numbers ≡ changed (put_step l.partners l.source.numbers) (steps_of (first_slots set d (all_came d.subs) l.sub l.image.numbers))
+          (map (λ c. c.default) (device_cells set d));
       long : length l.image.numbers ≡ length (device_cells set d);
     }

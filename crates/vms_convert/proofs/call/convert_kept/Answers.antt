@@ -1,24 +1,6 @@
-use Rattle.std.proofs.Common.{◌≡◌, List, Result, Err, map, ap, ◌∙◌, subst, sym}
-use Rattle.std.proofs.lemmas.List.{with_items_is}
-use Rattle.std.proofs.lemmas.Result.{err_from_is_err_and}
-use Rattle.vms_spec.specs.Lists.{at_option}
-use Rattle.vms_spec.specs.Sets.{Set}
-use Rattle.vms_spec.specs.Streams.{AreReady}
-use Rattle.vms_desc.proofs.Bounds.{fit_of}
-use Rattle.vms_desc.specs.Described.{described}
-use Rattle.vms_image.specs.Typed.{AreImagesOf, Typed, state_of}
-use Rattle.vms_io.specs.Told.{outlet}
-use Rattle.vms_io.specs.Writing.{Puts, Stops}
-use Rattle.vms_check.specs.Comparing.{Compatible}
-use Rattle.vms_load.specs.Good.{AreKept}
-use Rattle.vms_load.specs.Lean.{has, loads}
-use Rattle.vms_load.specs.Staging.{name_of}
-use Rattle.vms_convert.specs.Calls.{ConvertsKept, PutsStream}
-use Rattle.vms_convert.specs.Converted.{recast_each}
-use Rattle.vms_convert.specs.Losing.{stream_of}
-use Rattle.vms_convert.specs.Lost.{numbers_in}
-use Rattle.vms_convert.specs.Returns.{AreReturned}
-use Rattle.vms_convert.specs.declared.fault.ConvertFault.{ConvertFault}
+use Rattle.vms_convert.proofs.Facade.{◌≡◌, List, Result, Err, map, ap, ◌∙◌, subst, sym, with_items_is, err_from_is_err_and, at_option, Set, AreReady, fit_of}
+use Rattle.vms_convert.proofs.Facade.{described, AreImagesOf, Typed, state_of, outlet, Puts, Stops, Compatible, AreKept, has, loads, name_of, ConvertsKept}
+use Rattle.vms_convert.proofs.Facade.{PutsStream, recast_each, stream_of, numbers_in, AreReturned, ConvertFault}
 use Rattle.vms_convert.proofs.ConvertLaws.{loses_kept, puts_kept}
 use Rattle.vms_convert.proofs.JudgeLaws.{ComesBack, backs_are, ready_back}
 use Rattle.vms_convert.proofs.call.convert_kept.Given.{Over}
@@ -29,9 +11,11 @@ use Rattle.vms_convert.proofs.call.convert_kept.Goals as goal
 images_are : (g : Over) (c : After-deref g) → c.deref.result.now ≡ c.return_all-lost.new.images
 images_are g c =
     let images = c.args.room.images in
-    c.deref.ensures.value ∙ with_items_is images c.return_all-lost.new.images (c.return_all-lost.ensures.count ∙ sym c.requires.room.images.count ∙ sym images.ok.0)
+    c.deref.ensures.value
+    ∙ with_items_is images c.return_all-lost.new.images (c.return_all-lost.ensures.count ∙ sym c.requires.room.images.count ∙ sym images.ok.0)
 
-came : (g : Over) (c : After-deref g) → ComesBack (described c.args.to.now) (loads c.args.loader.now) (has c.args.loader.now) c.deref.result.now c.return_all-lost.result
+came : (g : Over) (c : After-deref g)
+    → ComesBack (described c.args.to.now) (loads c.args.loader.now) (has c.args.loader.now) c.deref.result.now c.return_all-lost.result
 came g c =
     let to = described c.args.to.now in
     let new = loads c.args.loader.now in
@@ -65,14 +49,16 @@ pub write_back-requires-clause-of : goal.write_back-requires-clause-of
 write_back-requires-clause-of g c =
     let p = goal.at.write_back-requires-clause-of g c in
     let returned = c.return_all-lost.ensures in
-    subst (λ (l : List Typed). AreImagesOf (described c.args.to.now) l) (sym (same g p.After-deref-2 ∙ images_are g p.After-deref)) (record { one_each = returned.count; each = returned.of })
+    subst (λ (l : List Typed). AreImagesOf (described c.args.to.now) l) (sym (same g p.After-deref-2 ∙ images_are g p.After-deref))
+    (record { one_each = returned.count; each = returned.of })
 
 pub write_back-requires-clause-ready : goal.write_back-requires-clause-ready
 write_back-requires-clause-ready g c =
     let to = described c.args.to.now in
     let p = goal.at.write_back-requires-clause-ready g c in
     subst (λ (l : List Typed). AreReady to (map state_of l)) (sym (same g p.After-deref-2))
-    (ready_back to (loads c.args.loader.now) (has c.args.loader.now) c.deref.result.now c.return_all-lost.result (came g p.After-deref) c.in_ok-machine.ensures.0.valid)
+    (ready_back to (loads c.args.loader.now) (has c.args.loader.now) c.deref.result.now c.return_all-lost.result
+    (came g p.After-deref) c.in_ok-machine.ensures.0.valid)
 
 pub returns-in_err-write_back : goal.returns-in_err-write_back
 returns-in_err-write_back g c =
@@ -87,7 +73,8 @@ returns-in_err-write_back g c =
     let empty = outlet g.K.Sink c.args.sink.now in
     let full = outlet g.K.Sink c.write_back.new.sink in
     let stops : Stops empty full (stream_of to (at_option to.machines m) (map state_of typed)) =
-    subst (λ (l : List Typed). Stops empty full (stream_of to (at_option to.machines m) (map state_of l))) (same g p.After-deref-2) c.in_err-write_back.ensures in
+    subst (λ (l : List Typed). Stops empty full (stream_of to (at_option to.machines m) (map state_of l)))
+    (same g p.After-deref-2) c.in_err-write_back.ensures in
     subst (λ (s : Set). ConvertsKept to s (name_of s c.args.machine) images empty full c.from_residual-in_err-write_back.result) c.requires.newest
     (subst (λ (x : Result Unit ConvertFault). ConvertsKept to new (name_of new c.args.machine) images empty full x) (sym (r.1 ∙ ap Err r.2))
     (puts_kept to new (name_of new c.args.machine) images (map state_of typed) back m c.in_ok-machine.ensures (Stops empty full) stops))

@@ -1,4 +1,4 @@
-use Rattle.std.proofs.Common.{◌≡◌, ℕ, ◌<◌, get_or, pos}
+use Rattle.vms_convert.proofs.Facade.{◌≡◌, ℕ, ◌<◌, get_or, pos}
 use Rattle.vms_convert.proofs.carrying.first_difference.Given as goal
 
 abbrev pub invariant-loop-cell : goal.invariant-loop-cell

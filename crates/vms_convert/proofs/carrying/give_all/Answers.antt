@@ -1,17 +1,8 @@
-use Rattle.std.proofs.Common.{◌<◌, List, ℤ, length, refl, sym, ap, ◌∙◌, subst, arith}
-use Rattle.vms_kinds.specs.declared.Kind.{Kind}
-use Rattle.vms_desc.specs.Described.{described, device_at}
-use Rattle.vms_image.specs.Typed.{Typed, state_of}
-use Rattle.vms_walk.specs.Steps.{HasSpot, spot_slots, steps_of}
-use Rattle.vms_walk.specs.declared.fields.PartAt.{PartAt}
-use Rattle.vms_convert.specs.Bringing.{own_part}
-use Rattle.vms_convert.specs.Changes.{changed}
-use Rattle.vms_convert.specs.Giving.{AreTargets, give_step}
-use Rattle.vms_convert.proofs.BringLaws.{own_spot}
-use Rattle.vms_convert.proofs.FirstParts.{first_slots}
-use Rattle.vms_convert.proofs.GiveLaws.{gave_all, gave_own, gave_sub}
-use Rattle.vms_convert.proofs.MayGive.{steps_long}
-use Rattle.vms_convert.proofs.PutDefaults.{put_rest}
+use Rattle.vms_convert.proofs.Facade.{◌<◌, List, ℤ, length, refl, sym, ap, ◌∙◌, subst, arith, Kind, described, device_at, Typed, state_of, HasSpot, spot_slots}
+use Rattle.vms_convert.proofs.Facade.{steps_of, PartAt, own_part, changed, AreTargets, give_step}
+use Rattle.vms_convert.proofs.BringLaws.{own_spot, gave_all, gave_own, gave_sub}
+use Rattle.vms_convert.proofs.TakeLaws.{first_slots, put_rest}
+use Rattle.vms_convert.proofs.BackNormal.{steps_long}
 use Rattle.vms_convert.proofs.carrying.give_all.Goals as goal
 
 pub give_part-requires-clause-part : goal.give_part-requires-clause-part
@@ -27,19 +18,23 @@ loop-sub-init c =
     let image = c.args.gift.image.now in
     let ps = c.args.gift.partners.now in
     let target = c.args.target.now in
-    c.give_part.ensures ∙ ap (λ (p : PartAt). record target { numbers = changed (give_step ps image.numbers) (steps_of (spot_slots (described c.args.set.now) p image.numbers)) target.numbers }) c.own_part.ensures
-    ∙ ap (λ (l : List ℤ). record target { numbers = l }) (gave_own (described c.args.set.now) c.args.device c.requires.device (state_of image) c.requires.of.subs c.requires.version ps target.numbers)
+    c.give_part.ensures ∙ ap (λ (p : PartAt). record target {
+      numbers = changed (give_step ps image.numbers) (steps_of (spot_slots (described c.args.set.now) p image.numbers)) target.numbers;
+    }) c.own_part.ensures ∙ ap (λ (l : List ℤ). record target { numbers = l })
+    (gave_own (described c.args.set.now) c.args.device c.requires.device (state_of image) c.requires.of.subs c.requires.version ps target.numbers)
 
 pub give_sub-requires-clause-targets : goal.give_sub-requires-clause-targets
 give_sub-requires-clause-targets c =
-    subst (λ (ks : List Kind). AreTargets ks c.args.gift.image.now.numbers c.args.gift.partners.now) (sym (ap (λ (x : Typed). x.kinds) c.loop-sub.invariant)) c.requires.targets
+    subst (λ (ks : List Kind). AreTargets ks c.args.gift.image.now.numbers c.args.gift.partners.now)
+    (sym (ap (λ (x : Typed). x.kinds) c.loop-sub.invariant)) c.requires.targets
 
 pub give_sub-requires-clause-kinds : goal.give_sub-requires-clause-kinds
 give_sub-requires-clause-kinds c =
     let set = described c.args.set.now in
     let image = c.args.gift.image.now in
     let steps = steps_of (first_slots set (device_at set c.args.device) image.came c.loop-sub.sub image.numbers) in
-    ap (λ (x : Typed). length x.kinds) c.loop-sub.invariant ∙ c.requires.kinds ∙ sym (steps_long c.args.gift.partners.now image.numbers steps c.args.target.now.numbers)
+    ap (λ (x : Typed). length x.kinds) c.loop-sub.invariant ∙ c.requires.kinds
+    ∙ sym (steps_long c.args.gift.partners.now image.numbers steps c.args.target.now.numbers)
     ∙ sym (ap (λ (x : Typed). length x.numbers) c.loop-sub.invariant)
 
 pub loop-sub-preserved : goal.loop-sub-preserved
@@ -62,7 +57,6 @@ returns c =
     let set = described c.args.set.now in
     let image = c.args.gift.image.now in
     let target = c.args.target.now in
-    c.loop-sub.invariant
-    ∙ ap (λ (l : List ℤ). record target { numbers = l })
+    c.loop-sub.invariant ∙ ap (λ (l : List ℤ). record target { numbers = l })
     (gave_all set c.args.device c.requires.device (state_of image) c.requires.of.subs c.requires.version c.args.gift.partners.now target.numbers c.loop-sub.sub
     (omega (arith, c.loop-sub-test.false, c.sub_count-sub-end.ensures)) (omega (arith, c.loop-sub.auto.sub-end, c.sub_count-sub-end.ensures)))

@@ -1,8 +1,4 @@
-use Rattle.std.proofs.Common.{sym, subst}
-use Rattle.vms_desc.specs.Described.{described}
-use Rattle.vms_walk.specs.Steps.{HasSpot}
-use Rattle.vms_walk.specs.declared.fields.PartAt.{PartAt}
-use Rattle.vms_convert.specs.Bringing.{sub_part}
+use Rattle.vms_convert.proofs.Facade.{sym, subst, described, HasSpot, PartAt, sub_part}
 use Rattle.vms_convert.proofs.BringLaws.{sub_spot}
 use Rattle.vms_convert.proofs.carrying.give_sub.Goals as goal
 

@@ -1,5 +1,5 @@
-use Rattle.std.proofs.Common.{ap}
-use Rattle.vms_convert.proofs.MayGive.{may_give}
+use Rattle.vms_convert.proofs.Facade.{ap}
+use Rattle.vms_convert.proofs.BackNormal.{may_give}
 use Rattle.vms_convert.proofs.giving.give_part.Goals as goal
 
 pub walk-requires-clause-may : goal.walk-requires-clause-may

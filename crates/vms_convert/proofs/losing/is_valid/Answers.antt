@@ -1,18 +1,12 @@
-use Rattle.std.proofs.Common.{map, ◌∙◌, ◌≡◌, Some}
-use Rattle.vms_spec.specs.Streams.{IsReady}
-use Rattle.vms_desc.specs.Described.{described, device_at}
-use Rattle.vms_image.specs.Typed.{state_of}
-use Rattle.vms_image.proofs.States.{at_state}
-use Rattle.vms_convert.specs.Lost.{IsValidAt}
-use Rattle.vms_load.proofs.HeadLemmas.{device_below}
+use Rattle.vms_convert.proofs.Facade.{map, ◌∙◌, ◌≡◌, Some, slice_get, IsReady, described, device_at, state_of, at_state, IsValidAt, device_below, find_device}
 use Rattle.vms_convert.proofs.JudgeLaws.{invalid_of, on_false, on_true, own_bound, own_image, searched_by, valid_none, valid_of}
 use Rattle.vms_convert.proofs.losing.is_valid.Goals.{After-index-images-own, In-Some}
 use Rattle.vms_convert.proofs.losing.is_valid.Goals as goal
-use Rattle.vms_spec.specs.Lookup.{find_device}
-use Rattle.std.specs.List.{slice_get}
 
 -- the device that was found, and its image
-found : (c : In-Some) → let d = device_at (described c.args.newest.now) c.args.device in find_device 0 (described c.args.to.now).devices d.desc.name d.instance ≡ Some c.in-Some.own
+found : (c : In-Some)
+    → let d = device_at (described c.args.newest.now) c.args.device in find_device 0 (described c.args.to.now).devices d.desc.name d.instance
+    ≡ Some c.in-Some.own
 found c = searched_by _ _ _ _ _ c.device-described.ensures c.as_bytes.ensures c.find.ensures ∙ c.in-Some.is
 
 image_at : (c : After-index-images-own) → slice_get c.args.images.now c.in-Some.own ≡ Some c.index-images-own.result
@@ -48,7 +42,8 @@ returns-in-Some c =
       valid = on_true c.ready.result (IsReady to (device_at to own) (state_of image)) (IsValidAt to new (map state_of images) c.args.device)
           (valid_of to new images c.requires.writable c.args.device own image is at) c.ready.ensures.ready;
       other = on_false c.ready.result (IsReady to (device_at to own) (state_of image) → ⊥) (IsValidAt to new (map state_of images) c.args.device → ⊥)
-          (invalid_of to new images c.requires.writable c.args.device own image c.requires.device is (device_below to.devices _ _ own is) at) c.ready.ensures.other;
+          (invalid_of to new images c.requires.writable c.args.device own image c.requires.device is
+          (device_below to.devices _ _ own is) at) c.ready.ensures.other;
     }
 
 pub returns-in-None-clause-valid : goal.returns-in-None-clause-valid

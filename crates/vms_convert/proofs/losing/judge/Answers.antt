@@ -1,14 +1,5 @@
-use Rattle.std.proofs.Common.{◌≡◌, ℕ, Option, Some, None, map, ap, ◌∙◌, subst, sym}
-use Rattle.vms_spec.specs.Sets.{Set}
-use Rattle.vms_desc.proofs.Bounds.{fit_of}
-use Rattle.vms_desc.specs.Described.{described}
-use Rattle.vms_image.specs.Typed.{state_of}
-use Rattle.vms_load.specs.Lean.{has, loads}
-use Rattle.vms_load.specs.Staging.{name_of}
-use Rattle.vms_check.specs.Carrying.{carried}
-use Rattle.vms_convert.specs.Converted.{recast_each}
-use Rattle.vms_convert.specs.Losing.{KeepsMachine, first_cell_at}
-use Rattle.vms_convert.specs.Lost.{Loses, numbers_in}
+use Rattle.vms_convert.proofs.Facade.{◌≡◌, ℕ, Option, Some, None, map, ap, ◌∙◌, subst, sym, Set, fit_of, described, state_of, has, loads, name_of, carried}
+use Rattle.vms_convert.proofs.Facade.{recast_each, KeepsMachine, first_cell_at, Loses, numbers_in}
 use Rattle.vms_convert.proofs.JudgeLaws.{ComesBack, cell_first, device_first, invalid_by, machine_last, writable_back}
 use Rattle.vms_convert.proofs.losing.judge.Goals.{Start}
 use Rattle.vms_convert.proofs.losing.judge.Goals as goal
@@ -49,5 +40,6 @@ returns c =
     let machine : KeepsMachine to name c.machine_under.result =
     subst (λ (s : Set). KeepsMachine to (name_of s c.args.machine) c.machine_under.result) c.set-2.ensures c.machine_under.ensures in
     machine_last _ _ _ _ _ (came (goal.at.returns c).Start) name c.in_default.is
-    (invalid_by to (loads c.args.loader.now) c.args.images.now _ None c.first_invalid.result c.set.ensures c.first_invalid.ensures c.in_default-first_invalid.is)
+    (invalid_by to (loads c.args.loader.now) c.args.images.now _ None c.first_invalid.result c.set.ensures c.first_invalid.ensures
+    c.in_default-first_invalid.is)
     c.machine_under.result machine

@@ -1,21 +1,10 @@
-use Rattle.std.proofs.Common.{ℕ, ◌+◌, ◌*◌, ◌<◌, ◌≤◌, List, ◌++◌, length, replicate, Option, None, refl, sym, ap, ◌∙◌, subst, arith, rules}
-use Rattle.std.proofs.lemmas.Bool.{not-false}
+use Rattle.vms_convert.proofs.Facade.{ℕ, ◌+◌, ◌*◌, ◌<◌, ◌≤◌, List, ◌++◌, length, replicate, Option, None, refl, sym, ap, ◌∙◌, subst, arith, rules, not-false}
+use Rattle.vms_convert.proofs.Facade.{on_ok_weaker, MOST_ITEMS, desc_cells, struct_cells, Field, field_of, described, found_field, reach, is_absent, IsSide}
+use Rattle.vms_convert.proofs.Facade.{desc_on, own_side, Side, AreArrays, HasFew, HasRoom, PairsElement, elements_left, partners_on, Arrays}
 use Rattle.vms_spec.specs.declared.Part.TheVariants as parts
-use Rattle.vms_spec.specs.declared.TheConstants.{MOST_ITEMS}
-use Rattle.vms_spec.specs.Layout.{desc_cells, struct_cells}
-use Rattle.vms_spec.specs.Sets.{Field}
-use Rattle.vms_parts.specs.Views.{field_of}
-use Rattle.vms_desc.specs.Described.{described}
-use Rattle.vms_desc.proofs.AskLaws.{found_field}
-use Rattle.vms_desc.proofs.Clean.{reach}
-use Rattle.std.proofs.lemmas.Result.{on_ok_weaker}
-use Rattle.vms_check.specs.Comparing.{is_absent}
-use Rattle.vms_check.specs.Sides.{IsSide, desc_on, own_side}
-use Rattle.vms_check.specs.declared.side.Side.{Side}
-use Rattle.vms_convert.specs.Partnering.{AreArrays, HasFew, HasRoom, PairsElement, elements_left, partners_on}
-use Rattle.vms_convert.specs.declared.pairing.Arrays.{Arrays}
 use Rattle.vms_convert.proofs.PartnerLaws.{depth, structs_paired}
-use Rattle.vms_convert.proofs.PartnerSteps.{absent_pairs, all_paired, alone_pairs, arrays_are, arrays_room, both_pair, element_alone_pairs, element_pairs, elements_all, few_next, few_struct, field_depth, room_struct}
+use Rattle.vms_convert.proofs.PartnerSteps.{absent_pairs, all_paired, alone_pairs, arrays_are, arrays_room, both_pair, element_alone_pairs, element_pairs}
+use Rattle.vms_convert.proofs.PartnerSteps.{elements_all, few_next, few_struct, field_depth, room_struct}
 use Rattle.vms_convert.proofs.pairing.+pairing.Goals as goal
 
 -- ---- descriptions
@@ -53,13 +42,15 @@ pair_element-returns-in_ok-pair_items t c =
     let before = c.args.partners.now.items in
     let after = c.pair_items.new.partners.items in
     subst (λ (n : ℕ). PairsElement a c.args.element c.args.cell (c.args.cell + n) before after) (sym c.item_cells.ensures)
-    (element_pairs a c.requires.arrays c.args.element c.args.cell c.requires.element c.requires.room before after c.if-element-arrays.true c.in_ok-pair_items.ensures)
+    (element_pairs a c.requires.arrays c.args.element c.args.cell c.requires.element c.requires.room before after c.if-element-arrays.true
+    c.in_ok-pair_items.ensures)
 
 pub pair_element-returns-in_ok-put_unpaired : goal.pair_element-returns-in_ok-put_unpaired
 pair_element-returns-in_ok-put_unpaired t c =
     let before = c.args.partners.now.items in
     element_alone_pairs c.args.arrays c.requires.arrays c.args.element c.args.cell c.requires.element c.requires.room before c.put_unpaired.new.partners.items
-    (omega (arith, c.if-element-arrays.false)) (c.in_ok-put_unpaired.ensures ∙ ap (λ (m : ℕ). before ++ replicate m None) c.item_cells-else-element-arrays.ensures)
+    (omega (arith, c.if-element-arrays.false))
+    (c.in_ok-put_unpaired.ensures ∙ ap (λ (m : ℕ). before ++ replicate m None) c.item_cells-else-element-arrays.ensures)
 
 -- ---- fields
 
@@ -67,10 +58,12 @@ pub pair_field-returns-in_ok-put_unpaired : goal.pair_field-returns-in_ok-put_un
 pair_field-returns-in_ok-put_unpaired t c =
     let before = c.args.partners.now.items in
     let code = c.index-fields_of-number.result in
-    let is = found_field c.fields_of.result.now (desc_on c.args.old).fields c.args.number code c.fields_of.ensures c.requires.field c.index-fields_of-number.is in
+    let is =
+    found_field c.fields_of.result.now (desc_on c.args.old).fields c.args.number code c.fields_of.ensures c.requires.field c.index-fields_of-number.is in
     let absent = not-false (is_absent c.args.old.version (field_of code)) (sym c.is_present.ensures ∙ c.if-is_present.false) in
     absent_pairs c.args.old c.args.new c.args.number c.requires.field c.requires.few before c.put_unpaired.new.partners.items c.args.start c.requires.start
-    (ap (λ (f : Field). is_absent c.args.old.version f) (sym is) ∙ absent) (c.in_ok-put_unpaired.ensures ∙ ap (λ (m : ℕ). before ++ replicate m None) c.field_cells.ensures)
+    (ap (λ (f : Field). is_absent c.args.old.version f) (sym is) ∙ absent)
+    (c.in_ok-put_unpaired.ensures ∙ ap (λ (m : ℕ). before ++ replicate m None) c.field_cells.ensures)
 
 pub pair_present-pair_arrays-requires : goal.pair_present-pair_arrays-requires
 pair_present-pair_arrays-requires t c =
@@ -80,10 +73,11 @@ pair_present-pair_arrays-requires t c =
     let is = sym c.arrays_of.ensures in
     let low : depth c.arrays_of.result.one.item ≤ reach (described s.set.now) s.part =
     subst (λ (a : Arrays). depth a.one.item ≤ reach (described s.set.now) s.part) is (field_depth s c.args.number c.requires.old c.requires.field) in
-    let less : 7 * depth c.arrays_of.result.one.item + 3 < 7 * reach (described s.set.now) s.part + 4 = omega (arith, low) in (
+    let less : 7 * depth c.arrays_of.result.one.item + 3 < 7 * reach (described s.set.now) s.part + 4 = omega arith in (
       search rules,
       (
-        subst (λ (a : Arrays). AreArrays a) is (arrays_are s r c.args.number c.args.found.field c.requires.old c.requires.new c.requires.field inside c.requires.few),
+        subst (λ (a : Arrays). AreArrays a) is
+            (arrays_are s r c.args.number c.args.found.field c.requires.old c.requires.new c.requires.field inside c.requires.few),
         subst (λ (a : Arrays). HasRoom a 0 c.args.found.cell) is (arrays_room s r c.args.number c.args.found inside c.requires.found.start),
       ),
     )
@@ -94,7 +88,8 @@ pair_present-returns-in_ok-pair_arrays t c =
     let r = c.args.new in
     let before = c.args.partners.now.items in
     let inside : c.args.found.field < length (desc_on r).fields = omega (arith, c.if-found-field_count.true, c.field_count.ensures) in
-    both_pair s r c.args.number c.requires.field c.requires.few before c.pair_arrays.new.partners.items c.args.found c.args.found c.behind.result c.requires.found inside c.behind.ensures c.requires.there
+    both_pair s r c.args.number c.requires.field c.requires.few before c.pair_arrays.new.partners.items c.args.found c.args.found c.behind.result
+    c.requires.found inside c.behind.ensures c.requires.there
     (c.in_ok-pair_arrays.ensures ∙ ap (λ (a : Arrays). before ++ elements_left a 0 c.args.found.cell) c.arrays_of.ensures
     ∙ ap (λ (l : List (Option ℕ)). before ++ l) (elements_all s r c.args.number c.args.found.field c.args.found.cell))
 
@@ -102,8 +97,8 @@ pub pair_present-returns-in_ok-put_unpaired : goal.pair_present-returns-in_ok-pu
 pair_present-returns-in_ok-put_unpaired t c =
     let before = c.args.partners.now.items in
     let end : length (desc_on c.args.new).fields ≤ c.args.found.field = omega (arith, c.if-found-field_count.false, c.field_count.ensures) in
-    alone_pairs c.args.old c.args.new c.args.number c.requires.field c.requires.few before c.put_unpaired.new.partners.items c.args.found c.args.found c.requires.found end c.requires.there
-    (c.in_ok-put_unpaired.ensures ∙ ap (λ (m : ℕ). before ++ replicate m None) c.field_cells.ensures)
+    alone_pairs c.args.old c.args.new c.args.number c.requires.field c.requires.few before c.put_unpaired.new.partners.items c.args.found c.args.found
+    c.requires.found end c.requires.there (c.in_ok-put_unpaired.ensures ∙ ap (λ (m : ℕ). before ++ replicate m None) c.field_cells.ensures)
 
 -- ---- structures
 
@@ -123,7 +118,8 @@ pair_structs-pair_descs-requires t c =
           subst (λ (x : Side). IsSide x) is' c.requires.new,
           (
             subst (λ (x : Side). HasFew x 0) is (few_struct old c.args.in_old c.requires.few),
-            subst (λ (x : Side). c.args.cell + length (desc_cells (struct_cells (described x.set.now)) (desc_on x)) ≤ MOST_ITEMS) is' (room_struct new c.args.in_new c.args.cell c.requires.room),
+            subst (λ (x : Side). c.args.cell + length (desc_cells (struct_cells (described x.set.now)) (desc_on x)) ≤ MOST_ITEMS) is'
+                (room_struct new c.args.in_new c.args.cell c.requires.room),
           ),
         ),
       ),

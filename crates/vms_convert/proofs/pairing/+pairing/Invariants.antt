@@ -1,8 +1,5 @@
-use Rattle.std.proofs.Common.{◌≡◌, ◌+◌, ◌*◌, ◌++◌}
-use Rattle.vms_desc.specs.Described.{described}
-use Rattle.vms_desc.proofs.Clean.{reach}
+use Rattle.vms_convert.proofs.Facade.{◌≡◌, ◌+◌, ◌*◌, ◌++◌, described, reach, HasFew, HasRoom, IsStart, elements_left, partners_left}
 use Rattle.vms_convert.proofs.PartnerLaws.{depth}
-use Rattle.vms_convert.specs.Partnering.{HasFew, HasRoom, IsStart, elements_left, partners_left}
 use Rattle.vms_convert.proofs.pairing.+pairing.Given as goal
 
 abbrev pub decreases-pair_descs : goal.decreases-pair_descs

@@ -1,6 +1,4 @@
-use Rattle.std.proofs.Common.{◌+◌, ap, refl, arith}
-use Rattle.vms_desc.specs.Described.{described}
-use Rattle.vms_desc.proofs.Clean.{few_fields}
+use Rattle.vms_convert.proofs.Facade.{◌+◌, ap, refl, arith, described, few_fields}
 use Rattle.vms_convert.proofs.PartnerSteps.{behind_field, sum_small}
 use Rattle.vms_convert.proofs.pairing.behind.Goals as goal
 

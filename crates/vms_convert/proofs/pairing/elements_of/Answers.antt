@@ -1,11 +1,4 @@
-use Rattle.std.proofs.Common.{ℕ, length, ap, ◌∙◌, arith}
-use Rattle.std.proofs.lemmas.List.{length-map}
-use Rattle.vms_spec.specs.Layout.{capacity_of}
-use Rattle.vms_spec.specs.Sets.{Field}
-use Rattle.vms_parts.specs.Views.{field_of}
-use Rattle.vms_desc.proofs.AskLaws.{found_field}
-use Rattle.vms_check.specs.Sides.{desc_on}
-use Rattle.vms_convert.specs.declared.pairing.Elements.{Elements}
+use Rattle.vms_convert.proofs.Facade.{ℕ, length, ap, ◌∙◌, arith, length-map, capacity_of, Field, field_of, found_field, desc_on, Elements}
 use Rattle.vms_convert.proofs.pairing.elements_of.Goals as goal
 
 pub bounds-fields_of-number : goal.bounds-fields_of-number
@@ -17,5 +10,6 @@ elements f = record { item = f.item; count = capacity_of f.count }
 pub returns : goal.returns
 returns c =
     let code = c.index-fields_of-number.result in
-    let is = found_field c.fields_of.result.now (desc_on c.args.side).fields c.args.number code c.fields_of.ensures c.requires.field c.index-fields_of-number.is in
+    let is =
+    found_field c.fields_of.result.now (desc_on c.args.side).fields c.args.number code c.fields_of.ensures c.requires.field c.index-fields_of-number.is in
     ap (λ (n : ℕ). record { item = code.item; count = n }) c.capacity.ensures ∙ ap elements is

@@ -1,6 +1,4 @@
-use Rattle.std.proofs.Common.{◌≡◌, ◌-◌, length}
-use Rattle.vms_convert.specs.Partnering.{IsStart, entries_at}
-use Rattle.vms_check.specs.Sides.{desc_on}
+use Rattle.vms_convert.proofs.Facade.{◌≡◌, ◌-◌, length, IsStart, entries_at, desc_on}
 use Rattle.vms_convert.proofs.pairing.next_start.Given as goal
 
 abbrev pub invariant-loop-next : goal.invariant-loop-next

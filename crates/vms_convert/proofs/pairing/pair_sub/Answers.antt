@@ -1,14 +1,6 @@
-use Rattle.std.proofs.Common.{◌≡◌, ◌<◌, List, length, map, Some, ap, ◌∙◌, sym, arith, ◌++◌, ℕ, Option}
-use Rattle.std.proofs.lemmas.List.{length-map}
-use Rattle.vms_spec.specs.Lookup.{find_sub}
-use Rattle.vms_spec.specs.Sets.{Desc, Device, Sub}
+use Rattle.vms_convert.proofs.Facade.{◌≡◌, ◌<◌, List, length, map, Some, ap, ◌∙◌, sym, arith, ◌++◌, ℕ, Option, length-map, on_ok_weaker, find_sub, Desc, Device}
+use Rattle.vms_convert.proofs.Facade.{Sub, sub_of, described, device_at, few_subs, sub_in, desc_on}
 use Rattle.vms_parts.specs.declared.types.Sub.{Sub as CodeSub}
-use Rattle.vms_parts.specs.Views.{sub_of}
-use Rattle.vms_desc.specs.Described.{described, device_at}
-use Rattle.vms_desc.proofs.Clean.{few_subs}
-use Rattle.std.proofs.lemmas.Result.{on_ok_weaker}
-use Rattle.vms_check.proofs.WholeLaws.{sub_in}
-use Rattle.vms_check.specs.Sides.{desc_on}
 use Rattle.vms_convert.proofs.PartnerSteps.{room_sub, sub_pairs}
 use Rattle.vms_convert.proofs.pairing.pair_sub.Goals.{After-as_slice, After-find_sub, In-Some}
 use Rattle.vms_convert.proofs.pairing.pair_sub.Goals as goal
@@ -18,8 +10,8 @@ subs_are c = ap (λ (l : List CodeSub). map sub_of l) c.as_slice.ensures ∙ ap 
 
 found : (c : After-find_sub) → c.find_sub.result ≡ find_sub 0 (device_at (described c.args.new.now) c.args.in_new).subs c.as_bytes-name.result.now
 found c =
-    c.find_sub.ensures
-    ∙ ap (λ (l : List Sub). find_sub 0 l c.as_bytes-name.result.now) (ap (λ (l : List CodeSub). map sub_of l) c.as_slice.ensures ∙ ap (λ (d : Device). d.subs) c.device.ensures)
+    c.find_sub.ensures ∙ ap (λ (l : List Sub). find_sub 0 l c.as_bytes-name.result.now)
+    (ap (λ (l : List CodeSub). map sub_of l) c.as_slice.ensures ∙ ap (λ (d : Device). d.subs) c.device.ensures)
 
 -- the subsection that was found
 inside : (c : In-Some) → c.in-Some.found < length (device_at (described c.args.new.now) c.args.in_new).subs
@@ -27,7 +19,8 @@ inside c =
     let subs = (device_at (described c.args.new.now) c.args.in_new).subs in
     let name = c.as_bytes-name.result.now in
     sub_in subs name c.find_sub.result c.in-Some.found
-    (c.find_sub.ensures ∙ ap (λ (l : List Sub). find_sub 0 l name) (ap (λ (l : List CodeSub). map sub_of l) c.as_slice.ensures ∙ ap (λ (d : Device). d.subs) c.device.ensures)) c.in-Some.is
+    (c.find_sub.ensures ∙ ap (λ (l : List Sub). find_sub 0 l name)
+    (ap (λ (l : List CodeSub). map sub_of l) c.as_slice.ensures ∙ ap (λ (d : Device). d.subs) c.device.ensures)) c.in-Some.is
 
 pub find_sub-requires : goal.find_sub-requires
 find_sub-requires c =

@@ -1,8 +1,5 @@
-use Rattle.std.proofs.Common.{◌<◌, length, ℕ, sym, subst, arith, ◌∙◌, ap, List, Option, ◌++◌}
-use Rattle.vms_desc.specs.Described.{described, device_at}
-use Rattle.vms_check.specs.declared.side.Side.{Side}
+use Rattle.vms_convert.proofs.Facade.{◌<◌, length, ℕ, sym, subst, arith, ◌∙◌, ap, List, Option, ◌++◌, described, device_at, Side, HasFew, partners_on}
 use Rattle.vms_spec.specs.declared.Part.TheVariants as parts
-use Rattle.vms_convert.specs.Partnering.{HasFew, partners_on}
 use Rattle.vms_convert.proofs.PartnerSteps.{device_pairs, few_own, few_sub, room_own}
 use Rattle.vms_convert.proofs.pairing.partners.Goals as goal
 
@@ -21,5 +18,6 @@ loop-sub-init c =
 
 pub pair_sub-requires-clause-few : goal.pair_sub-requires-clause-few
 pair_sub-requires-clause-few c =
-    let lt : c.loop-sub.sub < length (device_at (described c.args.old.now) c.args.in_old).subs = omega (arith, c.loop-sub-test.true, c.sub_count-sub-end.ensures) in
+    let lt : c.loop-sub.sub < length (device_at (described c.args.old.now) c.args.in_old).subs =
+    omega (arith, c.loop-sub-test.true, c.sub_count-sub-end.ensures) in
     subst (λ (s : Side). HasFew s 0) (sym c.at_own_version-older-in-loop-sub.ensures) (few_sub c.args.old c.args.in_old c.loop-sub.sub lt)

@@ -1,4 +1,4 @@
-use Rattle.std.proofs.Common.{◌≡◌, ◌++◌, replicate, None}
+use Rattle.vms_convert.proofs.Facade.{◌≡◌, ◌++◌, replicate, None}
 use Rattle.vms_convert.proofs.pairing.put_unpaired.Given as goal
 
 abbrev pub invariant-loop-cell : goal.invariant-loop-cell

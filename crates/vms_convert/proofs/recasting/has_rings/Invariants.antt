@@ -1,7 +1,4 @@
-use Rattle.std.proofs.Common.{◌≡◌, drop, map}
-use Rattle.std.specs.List.{list_any}
-use Rattle.vms_parts.specs.Views.{sub_of}
-use Rattle.vms_convert.specs.Recast.{is_ring}
+use Rattle.vms_convert.proofs.Facade.{◌≡◌, drop, map, list_any, sub_of, is_ring}
 use Rattle.vms_convert.proofs.recasting.has_rings.Given as goal
 
 abbrev pub invariant-loop-sub : goal.invariant-loop-sub

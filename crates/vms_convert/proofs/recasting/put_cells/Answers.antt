@@ -1,6 +1,5 @@
-use Rattle.std.proofs.Common.{◌≡◌, ◌+◌, ◌<◌, ℕ, suc, List, ◌++◌, ℤ, pos, length, get_or, take, drop, slice_set, ap, ◌∙◌, arith}
-use Rattle.vms_image.specs.Typed.{Typed}
-use Rattle.vms_convert.proofs.PutFront.{put_front}
+use Rattle.vms_convert.proofs.Facade.{◌≡◌, ◌+◌, ◌<◌, ℕ, suc, List, ◌++◌, ℤ, pos, length, get_or, take, drop, slice_set, ap, ◌∙◌, arith, Typed}
+use Rattle.vms_convert.proofs.TakeLaws.{put_front}
 use Rattle.vms_convert.proofs.recasting.put_cells.Goals as goal
 
 pub loop-cell-preserved : goal.loop-cell-preserved

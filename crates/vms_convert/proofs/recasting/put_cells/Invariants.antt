@@ -1,4 +1,4 @@
-use Rattle.std.proofs.Common.{◌≡◌, ◌++◌, take, drop}
+use Rattle.vms_convert.proofs.Facade.{◌≡◌, ◌++◌, take, drop}
 use Rattle.vms_convert.proofs.recasting.put_cells.Given as goal
 
 abbrev pub invariant-loop-cell : goal.invariant-loop-cell

@@ -1,11 +1,5 @@
-use Rattle.std.proofs.Common.{◌≡◌, List, ℤ, pos, length, get_or, sym, ap, ◌∙◌, subst, arith}
-use Rattle.dev_base.specs.declared.limits.TheConstants.{NEWEST}
-use Rattle.dev_serial.specs.Cells.{kinds}
-use Rattle.dev_serial.specs.Recast.{recast_cells}
-use Rattle.dev_serial.proofs.RecastKinds.{recast_kinds}
-use Rattle.vms_kinds.specs.Codes.{InRange}
-use Rattle.vms_kinds.specs.declared.Kind.{Kind}
-use Rattle.vms_kinds.specs.declared.Kind.TheVariants.{U8}
+use Rattle.vms_convert.proofs.Facade.{◌≡◌, List, ℤ, pos, length, get_or, sym, ap, ◌∙◌, subst, arith, NEWEST, kinds, recast_cells, recast_kinds, InRange, Kind}
+use Rattle.vms_convert.proofs.Facade.{U8}
 use Rattle.vms_convert.proofs.recasting.recast_into.Goals.{After-recast-cells}
 use Rattle.vms_convert.proofs.recasting.recast_into.Goals as goal
 
@@ -23,4 +17,4 @@ put_cells-requires-clause-in_range c k lt =
     let is = recast_is (goal.at.put_cells-requires-clause-in_range c).After-recast-cells in
     let of = recast_kinds c.args.source.now.numbers c.requires.cells.of_kinds in
     subst (λ (ks : List Kind). InRange (get_or ks k U8) (get_or c.recast-cells.result.items k (pos 0))) (sym c.requires.kinds)
-    (subst (λ (l : List ℤ). InRange (get_or (kinds NEWEST) k U8) (get_or l k (pos 0))) (sym is) (of.in_range k (omega (arith, lt, ap length is, of.count))))
+    (subst (λ (l : List ℤ). InRange (get_or (kinds NEWEST) k U8) (get_or l k (pos 0))) (sym is) (of.in_range k (omega (arith, ap length is, of.count))))

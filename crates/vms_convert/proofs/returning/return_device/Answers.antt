@@ -1,14 +1,10 @@
-use Rattle.std.proofs.Common.{List, ℤ, subst}
-use Rattle.vms_desc.proofs.Bounds.{fit_of}
-use Rattle.vms_desc.specs.Described.{described}
-use Rattle.vms_load.proofs.SetFacts.{well_of}
-use Rattle.vms_load.specs.Lean.{loads}
-use Rattle.vms_convert.specs.Returning.{FirstDifference}
-use Rattle.vms_convert.proofs.ReturnedLaws.{IsReturning, back_of, given_is, given_long, sources_of, targets_of}
+use Rattle.vms_convert.proofs.Facade.{List, ℤ, subst, fit_of, described, well_of, loads, FirstDifference}
+use Rattle.vms_convert.proofs.Converts.{IsReturning, back_of, given_is, given_long, sources_of, targets_of}
 use Rattle.vms_convert.proofs.returning.return_device.Goals.{Start}
 use Rattle.vms_convert.proofs.returning.return_device.Goals as goal
 
-returning : (c : Start) → IsReturning (described c.args.pair.to.now) (loads c.args.pair.loader.now) c.args.pair.device c.args.pair.other c.args.source.now.numbers
+returning : (c : Start)
+    → IsReturning (described c.args.pair.to.now) (loads c.args.pair.loader.now) c.args.pair.device c.args.pair.other c.args.source.now.numbers
 returning c =
     let pair = c.args.pair in
     record {
@@ -41,6 +37,7 @@ returns c =
       of = c.come_back.ensures.of;
       back = back_of _ _ _ _ _ returning c.args.partners.now c.requires.partners c.come_back.new.image back;
       lost = subst (λ (l : List ℤ). FirstDifference c.args.source.now.numbers l c.first_difference.result)
-          (given_is _ _ _ _ _ returning c.args.partners.now c.requires.partners c.come_back.new.image back c.args.carried.now c.requires.empty c.give_all.new.target c.give_all.ensures)
+          (given_is _ _ _ _ _ returning c.args.partners.now c.requires.partners c.come_back.new.image back c.args.carried.now c.requires.empty
+          c.give_all.new.target c.give_all.ensures)
           c.first_difference.ensures;
     }

@@ -1,8 +1,5 @@
-use Rattle.std.proofs.Common.{◌<◌, length, arith}
-use Rattle.std.proofs.lemmas.Option.{slice_get-get_or}
-use Rattle.vms_desc.specs.Described.{described}
-use Rattle.vms_load.specs.Lean.{loads}
-use Rattle.vms_convert.proofs.RoomLaws.{midway_first, midway_last, midway_next}
+use Rattle.vms_convert.proofs.Facade.{◌<◌, length, arith, slice_get-get_or, described, loads}
+use Rattle.vms_convert.proofs.ReturnsLaws.{midway_first, midway_last, midway_next}
 use Rattle.vms_convert.proofs.returns.return_all.Goals.{After-index-images-device}
 use Rattle.vms_convert.proofs.returns.return_all.Goals as goal
 
@@ -15,7 +12,9 @@ inside c = omega (arith, c.loop-device-test.true, c.loop-device.invariant.long, 
 pub return_at-cell-requires-clause-route : goal.return_at-cell-requires-clause-route
 return_at-cell-requires-clause-route c =
     let n = c.loop-device.device in
-    c.loop-device.invariant.routes_are n _ (omega arith) (slice_get-get_or c.loop-device.routes n c.index-routes-device.result (inside (goal.at.return_at-cell-requires-clause-route c).After-index-images-device))
+    c.loop-device.invariant.routes_are n _ (omega arith)
+    (slice_get-get_or c.loop-device.routes n c.index-routes-device.result
+    (inside (goal.at.return_at-cell-requires-clause-route c).After-index-images-device))
 
 pub return_at-cell-requires-clause-fresh : goal.return_at-cell-requires-clause-fresh
 return_at-cell-requires-clause-fresh c =
@@ -31,7 +30,8 @@ loop-device-preserved c =
     let inside = inside (goal.at.loop-device-preserved c).After-index-images-device in
     midway_next (described c.args.to.now) (loads c.args.loader.now) _ n _ c.loop-device.routes c.loop-device.images c.loop-device.lost c.earlier-lost.result
     c.return_at-cell.new.route c.return_at-cell.new.image c.return_at-cell.result m (omega (arith, inside, m.as_long))
-    (m.routes_are n _ (omega arith) (slice_get-get_or c.loop-device.routes n c.index-routes-device.result inside)).pair c.return_at-cell.ensures c.earlier-lost.ensures
+    (m.routes_are n _ (omega arith)
+    (slice_get-get_or c.loop-device.routes n c.index-routes-device.result inside)).pair c.return_at-cell.ensures c.earlier-lost.ensures
 
 pub returns : goal.returns
 returns c =

@@ -1,8 +1,5 @@
-use Rattle.vms_desc.specs.Described.{described}
-use Rattle.vms_load.specs.Lean.{has, loads}
-use Rattle.vms_convert.specs.Converted.{recast_each}
-use Rattle.vms_convert.specs.Lost.{numbers_in}
-use Rattle.vms_convert.proofs.RoomLaws.{Midway}
+use Rattle.vms_convert.proofs.Facade.{described, has, loads, recast_each, numbers_in}
+use Rattle.vms_convert.proofs.ReturnsLaws.{Midway}
 use Rattle.vms_convert.proofs.returns.return_all.Given as goal
 
 abbrev pub invariant-loop-device : goal.invariant-loop-device

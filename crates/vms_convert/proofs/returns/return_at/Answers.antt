@@ -1,17 +1,6 @@
-use Rattle.std.proofs.Common.{◌≡◌, ◌<◌, [], List, ℤ, Some, get_or, length, sym, ap, subst, arith}
-use Rattle.std.proofs.lemmas.List.{length-map}
-use Rattle.std.proofs.lemmas.Option.{slice_get_within}
-use Rattle.std.specs.List.{slice_get}
-use Rattle.vms_spec.specs.Images.{Image}
-use Rattle.vms_desc.specs.Described.{described, device_at}
-use Rattle.vms_image.specs.Typed.{state_of}
-use Rattle.vms_image.proofs.States.{at_state, image_at}
-use Rattle.vms_load.specs.Lean.{has, loads}
-use Rattle.vms_convert.specs.Converted.{recast_each}
-use Rattle.vms_convert.specs.Lost.{numbers_in}
-use Rattle.vms_convert.specs.Recast.{recast}
-use Rattle.vms_convert.specs.Returning.{IsReturned}
-use Rattle.vms_convert.proofs.ReturnAt.{recast_for, wanted_is}
+use Rattle.vms_convert.proofs.Facade.{◌≡◌, ◌<◌, [], List, ℤ, Some, get_or, length, sym, ap, subst, arith, length-map, slice_get_within, slice_get, Image}
+use Rattle.vms_convert.proofs.Facade.{described, device_at, state_of, at_state, image_at, has, loads, recast_each, numbers_in, recast, IsReturned}
+use Rattle.vms_convert.proofs.ReturnsLaws.{recast_for, wanted_is}
 use Rattle.vms_convert.proofs.returns.return_at.Goals.{After-index-images-pair, Start}
 use Rattle.vms_convert.proofs.returns.return_at.Goals as goal
 
@@ -26,13 +15,14 @@ kept_at c =
     let image = c.index-images-pair.result in
     let inside : k < length (loads c.args.pair.loader.now).devices = slice_get_within (loads c.args.pair.loader.now).devices k _ c.requires.route.pair.in_new in
     let within : k < length images = omega (arith, inside, length-map images state_of, ap length c.images.ensures.images, c.requires.kept.one_each) in
-    subst (λ (l : List Image). slice_get l k ≡ Some (state_of image)) c.images.ensures.images (at_state images k image (image_at images k image within c.index-images-pair.is))
+    subst (λ (l : List Image). slice_get l k ≡ Some (state_of image)) c.images.ensures.images
+    (at_state images k image (image_at images k image within c.index-images-pair.is))
 
 pub return_image-requires-clause-recast : goal.return_image-requires-clause-recast
 return_image-requires-clause-recast c =
     let p = goal.at.return_image-requires-clause-recast c in
-    recast_for (described c.args.pair.to.now) (loads c.args.pair.loader.now) c.requires.newest (has c.args.pair.loader.now) c.requires.kept c.args.pair.other (inside p.Start)
-    (state_of c.index-images-pair.result) (kept_at p.After-index-images-pair)
+    recast_for (described c.args.pair.to.now) (loads c.args.pair.loader.now) c.requires.newest (has c.args.pair.loader.now) c.requires.kept c.args.pair.other
+    (inside p.Start) (state_of c.index-images-pair.result) (kept_at p.After-index-images-pair)
 
 pub returns : goal.returns
 returns c =

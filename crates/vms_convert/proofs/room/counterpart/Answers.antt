@@ -1,28 +1,27 @@
-use Rattle.std.proofs.Common.{◌≡◌, ℕ, List, sym, ap, ◌∙◌}
-use Rattle.vms_spec.specs.Lookup.{find_device}
-use Rattle.vms_spec.specs.Sets.{Device}
-use Rattle.vms_spec.specs.WellFormed.{first_fault}
-use Rattle.vms_desc.specs.Described.{described, device_at}
-use Rattle.vms_desc.proofs.Bounds.{none_is}
+use Rattle.vms_convert.proofs.Facade.{◌≡◌, ℕ, List, sym, ap, ◌∙◌, find_device, Device, first_fault, described, device_at, none_is}
 use Rattle.vms_convert.proofs.ReturnsLaws.{always_found, pair_found}
 use Rattle.vms_convert.proofs.room.counterpart.Goals.{After-find}
 use Rattle.vms_convert.proofs.room.counterpart.Goals as goal
 
-found : (c : After-find) → let d = device_at (described c.args.to.now) c.args.device in find_device 0 (described c.args.newest.now).devices d.desc.name d.instance ≡ c.find.result
+found : (c : After-find)
+    → let d = device_at (described c.args.to.now) c.args.device in find_device 0 (described c.args.newest.now).devices d.desc.name d.instance ≡ c.find.result
 found c =
     let new = described c.args.newest.now in
     let d = device_at (described c.args.to.now) c.args.device in
     let name : c.as_bytes.result.now ≡ d.desc.name = c.as_bytes.ensures ∙ ap (λ (x : Device). x.desc.name) c.device-described.ensures in
     let instance : c.device-described.result.now.instance ≡ d.instance = ap (λ (x : Device). x.instance) c.device-described.ensures in
-    ap (λ (n : List ℕ). find_device 0 new.devices n d.instance) (sym name) ∙ ap (λ (m : ℕ). find_device 0 new.devices c.as_bytes.result.now m) (sym instance) ∙ sym c.find.ensures
+    ap (λ (n : List ℕ). find_device 0 new.devices n d.instance) (sym name) ∙ ap (λ (m : ℕ). find_device 0 new.devices c.as_bytes.result.now m) (sym instance)
+    ∙ sym c.find.ensures
 
 pub returns : goal.returns
 returns c =
-    pair_found (described c.args.to.now) (described c.args.newest.now) c.args.device c.in-Some.other c.requires.device (found (goal.at.returns c).After-find ∙ c.in-Some.is)
+    pair_found (described c.args.to.now) (described c.args.newest.now) c.args.device c.in-Some.other c.requires.device
+    (found (goal.at.returns c).After-find ∙ c.in-Some.is)
 
 pub unreachable-requires : goal.unreachable-requires
 unreachable-requires c =
     let to = described c.args.to.now in
     let new = described c.args.newest.now in
-    always_found to new (none_is (first_fault to) c.args.to.now.well_formed) (none_is (first_fault new) c.args.newest.now.well_formed) c.requires.compatible c.args.device c.requires.device
+    always_found to new (none_is (first_fault to) c.args.to.now.well_formed)
+    (none_is (first_fault new) c.args.newest.now.well_formed) c.requires.compatible c.args.device c.requires.device
     (found (goal.at.unreachable-requires c).After-find ∙ c.in-None.is)

@@ -1,11 +1,5 @@
-use Rattle.std.proofs.Common.{◌≡◌, ℕ, ◌+◌, List, length, sym, ap, ◌∙◌, subst, arith}
-use Rattle.std.proofs.lemmas.List.{length-map}
-use Rattle.vms_spec.specs.Sets.{Set}
-use Rattle.vms_parts.specs.Views.{device_of}
-use Rattle.vms_desc.specs.Described.{described}
-use Rattle.vms_convert.specs.Rooms.{AreRoutes}
-use Rattle.vms_convert.specs.declared.room.Route.{Route}
-use Rattle.vms_convert.proofs.RoomLaws.{no_routes, route_more}
+use Rattle.vms_convert.proofs.Facade.{◌≡◌, ℕ, ◌+◌, List, length, sym, ap, ◌∙◌, subst, arith, length-map, Set, device_of, described, AreRoutes, Route}
+use Rattle.vms_convert.proofs.ReturnsLaws.{no_routes, route_more}
 use Rattle.vms_convert.proofs.room.routes_to.Goals as goal
 
 pub loop-device-init : goal.loop-device-init
@@ -24,5 +18,5 @@ loop-device-preserved c =
 pub returns : goal.returns
 returns c =
     let n = ap length c.as_slice-devices.ensures ∙ sym (length-map c.parts.result.now.devices device_of) ∙ ap (λ (s : Set). length s.devices) c.parts.ensures in
-    let all : c.loop-device.device ≡ length (described c.args.to.now).devices = omega (arith, n, c.loop-device-test.false, c.loop-device.auto.device-end) in
+    let all : c.loop-device.device ≡ length (described c.args.to.now).devices = omega (arith, c.loop-device-test.false, c.loop-device.auto.device-end) in
     subst (λ (m : ℕ). AreRoutes (described c.args.to.now) (described c.args.newest.now) m c.loop-device.routes.items) all c.loop-device.invariant

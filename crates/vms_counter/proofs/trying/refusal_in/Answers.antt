@@ -6,7 +6,7 @@ use Rattle.vms_load.proofs.SetFacts.{well_of}
 use Rattle.vms_io.specs.Memory.{Supply, bytes_left}
 use Rattle.vms_kinds.specs.Bytes.{IsBytes}
 use Rattle.vms_stream.proofs.Stated.{never_both_holds}
-use Rattle.vms_load.proofs.Loaded.{content}
+use Rattle.vms_load.proofs.ExactLoads.{content}
 use Rattle.vms_load.specs.Kept.{loads, kept, taken_by}
 use Rattle.vms_counter.proofs.trying.refusal_in.Goals as goal
 

@@ -1,6 +1,6 @@
 use Rattle.std.proofs.Common.{◌≡◌, map, take}
 use Rattle.vms_desc.specs.Spots.{form_numbers}
-use Rattle.vms_desc.proofs.DefaultLaws.{forms_in}
+use Rattle.vms_desc.proofs.FormLaws.{forms_in}
 use Rattle.vms_desc.proofs.defaults.device_defaults.Given as goal
 
 abbrev pub invariant-loop-device : goal.invariant-loop-device

@@ -1,14 +1,10 @@
-use Rattle.std.proofs.Common.{◌∙◌, ◌≤◌, ℕ, ◌<◌, ℤ, List, sym, ap, subst, arith, length, get_or, replicate, pos}
-use Rattle.vms_kinds.specs.declared.Kind.{Kind}
-use Rattle.vms_kinds.specs.declared.Kind.TheVariants.{U8}
-use Rattle.vms_kinds.specs.Codes.{InRange}
-use Rattle.vms_spec.specs.declared.TheConstants.{MOST_ITEMS}
+use Rattle.std.proofs.Common.{◌∙◌, ◌≤◌, ℕ, sym, ap, arith, length, replicate, pos}
 use Rattle.vms_spots.specs.Spots.{Held}
-use Rattle.vms_desc.proofs.DefaultLaws.{same_held}
+use Rattle.vms_desc.proofs.FormLaws.{same_held}
 use Rattle.vms_desc.proofs.defaults.numbers_of.Goals as goal
 
 pub new-requires : goal.new-requires
-new-requires c = subst (λ (l : List Kind). length l ≤ MOST_ITEMS) (sym c.deref.ensures.value) c.requires.few
+new-requires c = rw c.deref.ensures.value c.requires.few
 
 pub put_defaults-requires-clause-few : goal.put_defaults-requires-clause-few
 put_defaults-requires-clause-few c = omega (arith, ap length c.deref-2.ensures.value, c.requires.long, c.requires.few)
@@ -20,11 +16,8 @@ put_defaults-requires-clause-zero c =
 
 pub put_defaults-requires-clause-range : goal.put_defaults-requires-clause-range
 put_defaults-requires-clause-range c = λ k lt.
-    let within : k < length c.args.forms.now.kinds.items = omega (arith, lt, ap length c.deref-2.ensures.value, c.requires.long) in
-    let kinds = c.deref.ensures.value in
-    let numbers = ap (λ (h : Held). h.kinds) c.in_ok-numbers.ensures ∙ kinds in
-    subst (λ (l : List ℤ). InRange (get_or c.in_ok-numbers.numbers.kinds k U8) (get_or l k (pos 0))) (sym c.deref-2.ensures.value)
-    (subst (λ (l : List Kind). InRange (get_or l k U8) (get_or c.args.forms.now.defaults.items k (pos 0))) (sym numbers) (c.requires.range k within))
+    let numbers = ap (λ (h : Held). h.kinds) c.in_ok-numbers.ensures ∙ c.deref.ensures.value in
+    rw (c.deref-2.ensures.value, numbers) (c.requires.range k (omega (arith, lt, ap length c.deref-2.ensures.value, c.requires.long)))
 
 pub returns : goal.returns
 returns c =

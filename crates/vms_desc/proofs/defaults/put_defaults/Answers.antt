@@ -1,5 +1,5 @@
 use Rattle.std.proofs.Common.{pos}
-use Rattle.vms_desc.proofs.DefaultLaws.{filled_with, same_held}
+use Rattle.vms_desc.proofs.FormLaws.{filled_with, same_held}
 use Rattle.vms_desc.proofs.defaults.put_defaults.Goals as goal
 
 pub returns : goal.returns

@@ -1,25 +1,23 @@
-use Rattle.std.proofs.Common.{◌≡◌, ap, sym, rules, ◌∙◌, arith, length, ℕ, ℤ, get_or, map, pos, ◌+◌, ◌<◌, min}
+use Rattle.std.proofs.Common.{◌≡◌, sym, ap, rules, ◌∙◌, arith, length, ℕ, get_or, map, ◌+◌, ◌<◌, min}
 use Rattle.std.proofs.lemmas.Int.{to_z-of_z}
 use Rattle.std.proofs.lemmas.List.{length-map}
 use mir.Syntax.{w128}
 use mir.Val.{SFits}
-use Rattle.vms_kinds.specs.declared.Kind.{Kind}
-use Rattle.vms_kinds.specs.Codes.{width, residue}
-use Rattle.vms_spec.specs.Sets as sets
 use Rattle.vms_spec.specs.Layout.{kind_of, no_field}
+use Rattle.vms_spec.specs.Sets as sets
 use Rattle.vms_parts.specs.declared.types.Field.{Field}
 use Rattle.vms_parts.specs.Views.{field_of}
 use Rattle.vms_parts.proofs.Items.{get_map_at}
 use Rattle.vms_desc.specs.Numbers.{place_in}
 use Rattle.vms_desc.specs.declared.eval.Scope.{Scope}
-use Rattle.vms_desc.proofs.NumberLaws.{number_there}
+use Rattle.vms_desc.proofs.EvalLaws.{number_num, number_there}
 use Rattle.vms_desc.proofs.eval.number_at.Goals as goal
 
 -- the first cell of a field, in the code's form
 place_code : (s : Scope) (k : ℕ) → k < length s.fields.now → s.base + get_or s.starts.now k 0 ≡ place_in s.starts.now (map field_of s.fields.now) s.base k
 place_code s k lt =
-    let same : k ≡ min k (length (map field_of s.fields.now)) = omega (arith, length-map s.fields.now field_of) in
-    ap (λ (x : ℕ). s.base + get_or s.starts.now x 0) same
+    let same : k ≡ min k (length (map field_of s.fields.now)) = omega (arith, length-map s.fields.now field_of) in ap
+    (λ (x : ℕ). s.base + get_or s.starts.now x 0) same
 
 pub overflow_add-cell : goal.overflow_add-cell
 overflow_add-cell g c =
@@ -28,11 +26,13 @@ overflow_add-cell g c =
 
 pub bounds-scope-field : goal.bounds-scope-field
 bounds-scope-field g c =
-    let there = number_there c.args.scope.now.fields.now c.args.field c.requires.asked in
-    omega (arith, c.requires.inside.starts, length-map c.args.scope.now.fields.now field_of)
+    omega (arith, number_there c.args.scope.now.fields.now c.args.field c.requires.asked, c.requires.inside.starts, length-map c.args.scope.now.fields.now field_of)
 
 pub bounds-scope-field-2 : goal.bounds-scope-field-2
 bounds-scope-field-2 g c = number_there c.args.scope.now.fields.now c.args.field c.requires.asked
+
+pub kind_of-requires : goal.kind_of-requires
+kind_of-requires g c = number_num c.args.scope.now.fields.now c.args.field c.index-scope-field.result c.requires.asked
 
 pub number-requires : goal.number-requires
 number-requires g c =
@@ -41,14 +41,10 @@ number-requires g c =
 
 pub returns : goal.returns
 returns g c =
-    let numbers = g.C.Cells.numbers c.args.cells.now in
     let s = c.args.scope.now in
-    let k = c.args.field in
-    let there = number_there s.fields.now k c.requires.asked in
+    let there = number_there s.fields.now c.args.field c.requires.asked in
     let fits : SFits w128 c.number.result = search rules in
-    let item : get_or (map field_of s.fields.now) k no_field ≡ field_of c.index-scope-field.result = get_map_at field_of s.fields.now k c.index-scope-field.result no_field there c.index-scope-field.is in
-    let number : c.number.result ≡ get_or numbers (place_in s.starts.now (map field_of s.fields.now) s.base k) (pos 0) = c.number.ensures ∙ ap (λ (n : ℕ). get_or numbers n (pos 0)) (place_code s k there) in
-    let kind : c.kind_of.result ≡ kind_of (get_or (map field_of s.fields.now) k no_field).item =
-    c.kind_of.ensures ∙ ap (λ (f : Field). kind_of f.item) (sym c.index-scope-field.is) ∙ ap (λ (f : sets.Field). kind_of f.item) (sym item) in
-    c.unsigned.ensures ∙ ap (λ (z : ℤ). residue (width c.kind_of.result) z) (to_z-of_z w128 c.number.result fits ∙ number)
-    ∙ ap (λ (x : Kind). residue (width x) (get_or numbers (place_in s.starts.now (map field_of s.fields.now) s.base k) (pos 0))) kind
+    let field = get_map_at field_of s.fields.now c.args.field c.index-scope-field.result no_field there c.index-scope-field.is in
+    let kind : c.kind_of.result ≡ kind_of (get_or (map field_of s.fields.now) c.args.field no_field).item =
+    c.kind_of.ensures ∙ ap (λ (f : Field). kind_of f.item) (sym c.index-scope-field.is) ∙ ap (λ (f : sets.Field). kind_of f.item) (sym field) in
+    c.unsigned.ensures ∙ rw (to_z-of_z w128 c.number.result fits, c.number.ensures, kind, place_code s c.args.field there)

@@ -3,29 +3,37 @@ use Rattle.vms_desc.proofs.FormLaws.{repeated, repeats_more, repeated_room}
 use Rattle.vms_desc.proofs.forms.repeat.Goals as goal
 
 -- the lengths of the front and of the repeated part
-at_place : {X : Type 0} (old : List X) (len start : ℕ) → len ≡ length old → start ≤ length old → (start ≡ length (take start old)) × (len - start ≡ length (drop start old))
-at_place old len start all within = (sym (length-take-le start old within), omega (arith, all, length-drop start old))
+at_place : {X : Type 0} (old : List X) (len start : ℕ) → len ≡ length old → start ≤ length old
+    → (start ≡ length (take start old)) × (len - start ≡ length (drop start old))
+at_place old len start all within = (sym (length-take-le start old within), omega (arith, length-drop start old))
 
 -- the copied elements exist
-room_for : {X : Type 0} (old items : List X) (len start done more : ℕ) → len ≡ length old → start ≤ length old → items ≡ take start old ++ repeated (drop start old) done → more ≤ done → start + (len - start) * more ≤ length items
+room_for : {X : Type 0} (old items : List X) (len start done more : ℕ) → len ≡ length old → start ≤ length old
+    → items ≡ take start old ++ repeated (drop start old) done → more ≤ done
+    → start + (len - start) * more ≤ length items
 room_for old items len start done more all within is few =
-    let at = at_place old len start all within in
-    repeated_room (drop start old) (take start old) items done more start (len - start) at.0 at.1 is few
+    let at = at_place old len start all within in repeated_room (drop start old) (take start old) items done more start (len - start) at.0 at.1 is few
 
 pub overflow_mul-size : goal.overflow_mul-size
 overflow_mul-size g c =
-    let room = room_for c.args.list.now.items c.loop-done.list.items c.len.result c.args.start c.loop-done.done c.min-more.result (search rules) c.requires.within c.loop-done.invariant.items (search rules) in
+    let room =
+    room_for c.args.list.now.items c.loop-done.list.items c.len.result c.args.start c.loop-done.done c.min-more.result
+    (search rules) c.requires.within c.loop-done.invariant.items (search rules) in
     let low : (c.len.result - c.args.start) * c.min-more.result ≤ length c.loop-done.list.items = omega (arith, room) in
     search (rules, low)
 
 pub overflow_add-start : goal.overflow_add-start
 overflow_add-start g c =
-    let room = room_for c.args.list.now.items c.loop-done.list.items c.len.result c.args.start c.loop-done.done c.min-more.result (search rules) c.requires.within c.loop-done.invariant.items (search rules) in
+    let room =
+    room_for c.args.list.now.items c.loop-done.list.items c.len.result c.args.start c.loop-done.done c.min-more.result
+    (search rules) c.requires.within c.loop-done.invariant.items (search rules) in
     search (rules, room)
 
 pub extend_from_within-requires-clause-in_bounds : goal.extend_from_within-requires-clause-in_bounds
 extend_from_within-requires-clause-in_bounds g c =
-    let room = room_for c.args.list.now.items c.loop-done.list.items c.len.result c.args.start c.loop-done.done c.min-more.result (search rules) c.requires.within c.loop-done.invariant.items (search rules) in
+    let room =
+    room_for c.args.list.now.items c.loop-done.list.items c.len.result c.args.start c.loop-done.done c.min-more.result
+    (search rules) c.requires.within c.loop-done.invariant.items (search rules) in
     search (rules, room)
 
 pub loop-done-preserved : goal.loop-done-preserved
@@ -33,7 +41,10 @@ loop-done-preserved g c =
     let old = c.args.list.now.items in
     let at = at_place old c.len.result c.args.start (search rules) c.requires.within in
     record {
-      items = repeats_more (drop c.args.start old) (take c.args.start old) c.loop-done.list.items c.extend_from_within.new.self.items c.loop-done.done c.min-more.result c.args.start (c.len.result - c.args.start)
+      items =
+          repeats_more (drop c.args.start old)
+          (take c.args.start old) c.loop-done.list.items c.extend_from_within.new.self.items c.loop-done.done c.min-more.result c.args.start
+          (c.len.result - c.args.start)
           at.0 at.1 c.loop-done.invariant.items (search rules) c.in_ok-extend_from_within.ensures.items;
       some = omega (arith, c.loop-done.invariant.some);
       within = search rules;

@@ -1,18 +1,12 @@
-use Rattle.std.proofs.Common.{◌≡◌, ◌+◌, ◌≤◌, List, ℕ, Some, None, length, length-take-le, sym, ap, subst, ◌∙◌, arith, []}
+use Rattle.std.proofs.Common.{◌≡◌, ◌+◌, ◌≤◌, Some, None, length, length-take-le, sym, ap, ◌∙◌, arith}
 use Rattle.std.specs.Prelude.{nat_lt, if◌then◌else◌}
 use Rattle.std.specs.List.{slice_get}
 use Rattle.std.proofs.lemmas.Bool.{eqb-true}
 use Rattle.std.proofs.lemmas.Option.{slice_get-get_or}
-use Rattle.vms_spec.specs.declared.TheConstants.{MOST_ITEMS}
 use Rattle.vms_spec.specs.Layout.{no_desc}
-use Rattle.vms_kinds.specs.declared.Item.{Item}
-use Rattle.vms_kinds.specs.declared.Item.TheVariants.{Struct}
 use Rattle.vms_spec.specs.Places.{path_at}
-use Rattle.vms_parts.specs.declared.sizes.Measure.TheVariants.{Cells}
-use Rattle.vms_parts.specs.Sizes.{size_of}
 use Rattle.vms_parts.specs.Views.{desc_of, set_of}
-use Rattle.vms_desc.specs.Paths.{IsPlaced}
-use Rattle.vms_desc.proofs.PathLaws.{few_by_sizes, inner_placed, element_within, path_is, after, in_struct, at_number, no_items}
+use Rattle.vms_desc.proofs.PathLaws.{few_by_sizes, inner_placed, element_within, path_is, in_struct, at_number, no_items}
 use Rattle.vms_desc.proofs.path.+path_cell.Goals as goal
 
 pub element_at-requires : goal.element_at-requires
@@ -23,40 +17,35 @@ path_cell-requires t c =
     let set = set_of c.args.parts.now in
     let p = c.args.placed in
     let el = c.in_ok-element.element in
-    let within : el.cell + size_of Cells p.sizes.now el.item ≤ MOST_ITEMS = element_within p.sizes.now (desc_of p.desc.now) p.base c.in_ok-first.first.now el (few_by_sizes set p c.requires) c.in_ok-element.ensures in
-    let few : el.cell + size_of Cells p.sizes.now (Struct c.in-Struct.number) ≤ MOST_ITEMS = subst (λ (i : Item). el.cell + size_of Cells p.sizes.now i ≤ MOST_ITEMS) c.in-Struct.is within in
-    let placed : IsPlaced set c.in_ok-inner-in-Struct.inner = inner_placed set p c.requires c.in-Struct.number el.cell c.in_ok-inner-in-Struct.inner c.in_ok-inner-in-Struct.ensures few in
-    (omega (arith, c.in_ok-first.ensures.cases.1), placed)
+    let within = element_within p.sizes.now (desc_of p.desc.now) p.base c.in_ok-first.first.now el (few_by_sizes set p c.requires) c.in_ok-element.ensures in (
+      omega (arith, c.in_ok-first.ensures.cases.1),
+      inner_placed set p c.requires c.in-Struct.number el.cell c.in_ok-inner-in-Struct.inner c.in_ok-inner-in-Struct.ensures (rw c.in-Struct.is at within),
+    )
 
 pub returns-in-Num : goal.returns-in-Num
 returns-in-Num t c =
     let set = set_of c.args.parts.now in
     let p = c.args.placed in
-    let el = c.in_ok-element.element in
-    let step = c.in_ok-first.first.now in
     let rest = c.in_ok-first.rest.now in
-    let none : rest ≡ [] = no_items rest (eqb-true (length rest) 0 (sym c.if-is_empty.ensures)) in
-    sym
-    (ap (λ (path : List (ℕ × ℕ)). path_at set path (length p.sizes.now) (Some (desc_of p.desc.now)) p.base) c.in_ok-first.ensures.cases.0
-    ∙ path_is set p c.requires rest step ∙ ap (after set p c.requires rest) (sym c.in_ok-element.ensures)
-    ∙ ap (λ (i : Item). after set p c.requires rest (Some (record { item = i; cell = el.cell }))) c.in-Num.is
-    ∙ at_number (λ j cell. if nat_lt j (length p.sizes.now) then path_at set rest j (slice_get set.structs j) cell else None) rest c.in-Num.field-0 el.cell none)
+    let none = no_items rest (eqb-true (length rest) 0 (sym c.if-is_empty.ensures)) in
+    let last =
+    at_number (λ j cell. if nat_lt j (length p.sizes.now) then path_at set rest j
+    (slice_get set.structs j) cell else None) rest c.in-Num.field-0 c.in_ok-element.element.cell none in
+    sym (rw c.in_ok-first.ensures.cases.0 (path_is set p c.requires rest c.in_ok-first.first.now ∙ rw (← c.in_ok-element.ensures, c.in-Num.is) last))
 
 pub returns-in_ok-inner-in-Struct : goal.returns-in_ok-inner-in-Struct
 returns-in_ok-inner-in-Struct t c =
     let set = set_of c.args.parts.now in
     let p = c.args.placed in
-    let el = c.in_ok-element.element in
-    let step = c.in_ok-first.first.now in
     let rest = c.in_ok-first.rest.now in
     let inner = c.in_ok-inner-in-Struct.inner in
     let j = c.in-Struct.number in
     let enters = c.in_ok-inner-in-Struct.ensures in
+    let cell = c.in_ok-element.element.cell in
     let long : length inner.sizes.now ≡ j = ap length enters.sizes_are ∙ length-take-le j p.sizes.now (omega (arith, enters.known)) in
-    let there : slice_get set.structs j ≡ Some (desc_of inner.desc.now) = slice_get-get_or set.structs j no_desc (omega (arith, enters.known, c.requires.known)) ∙ ap Some (sym enters.desc) in
-    let whole : path_at set c.args.path.now (length p.sizes.now) (Some (desc_of p.desc.now)) p.base ≡ path_at set rest j (Some (desc_of inner.desc.now)) el.cell =
-    ap (λ (path : List (ℕ × ℕ)). path_at set path (length p.sizes.now) (Some (desc_of p.desc.now)) p.base) c.in_ok-first.ensures.cases.0
-    ∙ path_is set p c.requires rest step ∙ ap (after set p c.requires rest) (sym c.in_ok-element.ensures)
-    ∙ ap (λ (i : Item). after set p c.requires rest (Some (record { item = i; cell = el.cell }))) c.in-Struct.is
-    ∙ in_struct set (length p.sizes.now) rest j el.cell (desc_of inner.desc.now) enters.known there in
-    c.path_cell.ensures ∙ ap (λ (n : ℕ). path_at set rest n (Some (desc_of inner.desc.now)) inner.base) long ∙ ap (λ (n : ℕ). path_at set rest j (Some (desc_of inner.desc.now)) n) enters.base_is ∙ sym whole
+    let there : slice_get set.structs j ≡ Some (desc_of inner.desc.now) =
+    slice_get-get_or set.structs j no_desc (omega (arith, enters.known, c.requires.known)) ∙ ap Some (sym enters.desc) in
+    let last = in_struct set (length p.sizes.now) rest j cell (desc_of inner.desc.now) enters.known there in
+    let whole : path_at set c.args.path.now (length p.sizes.now) (Some (desc_of p.desc.now)) p.base ≡ path_at set rest j (Some (desc_of inner.desc.now)) cell =
+    rw c.in_ok-first.ensures.cases.0 (path_is set p c.requires rest c.in_ok-first.first.now ∙ rw (← c.in_ok-element.ensures, c.in-Struct.is) last) in
+    c.path_cell.ensures ∙ rw (long, enters.base_is) (sym whole)

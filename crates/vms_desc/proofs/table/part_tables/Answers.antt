@@ -1,37 +1,32 @@
-use Rattle.std.proofs.Common.{◌≡◌, ◌∙◌, ◌+◌, ap, subst, sym, map, take, List, ◌++◌, ◌∷◌, ◌<◌, length, get_or, arith, ℕ, Some, below_more, []}
+use Rattle.std.proofs.Common.{◌≡◌, ap, map, ◌∷◌, ◌<◌, length, get_or, arith, ℕ, Some, below_more, []}
 use Rattle.std.specs.List.{slice_get}
 use Rattle.std.proofs.lemmas.List.{length-map}
 use Rattle.std.proofs.lemmas.Option.{slice_get_within}
 use Rattle.vms_spec.specs.Sets as sets
-use Rattle.vms_parts.specs.declared.types.Field.{Field}
-use Rattle.vms_parts.specs.declared.types.Sub.{Sub}
-use Rattle.vms_parts.specs.Views.{field_of, sub_of, device_of}
+use Rattle.vms_parts.specs.Views.{sub_of, device_of}
 use Rattle.vms_desc.specs.Heads.{FitsSub}
-use Rattle.vms_desc.specs.Tables.{IsTable, AreTables}
-use Rattle.vms_desc.proofs.HeadLaws.{at_mapped}
-use Rattle.vms_desc.proofs.TablesMade.{tables_next}
+use Rattle.vms_desc.proofs.TablesMade.{at_mapped, tables_next}
 use Rattle.vms_desc.proofs.table.part_tables.Goals as goal
 
 pub loop-sub-preserved : goal.loop-sub-preserved
 loop-sub-preserved c =
-    let sizes = c.args.sizes.now in
-    let t = c.in_ok-table_of-2.field-0 in
     let subs = c.args.device.now.subs in
     let i = c.loop-sub.sub-index in
-    let front = (device_of c.args.device.now).desc.fields ∷ [] in
     let lt : i < length subs = omega (arith, c.loop-sub-test.true, ap length c.as_slice-sub-items.ensures) in
-    let is : c.sub-item.result ≡ get_or subs i c.sub-item.result = c.sub-item.is ∙ ap (λ (l : List Sub). get_or l i c.sub-item.result) c.as_slice-sub-items.ensures in
-    let here : IsTable sizes (map field_of c.sub-item.result.desc.fields) t = subst (λ (l : List Field). IsTable sizes (map field_of l) t) c.as_slice-in-loop-sub.ensures c.in_ok-table_of-2.ensures in
+    let is : c.sub-item.result ≡ get_or subs i c.sub-item.result = cc (c.sub-item.is, c.as_slice-sub-items.ensures) in
     record {
-      tables = subst (AreTables sizes (front ++ map (λ (s : sets.Sub). s.desc.fields) (map sub_of (take (i + 1) subs)))) (sym c.in_ok-push-2.ensures.items)
-          (tables_next sub_of (λ (s : sets.Sub). s.desc.fields) sizes front subs i c.sub-item.result c.loop-sub.tables.items t lt is c.loop-sub.invariant.tables here);
+      tables =
+          rw c.in_ok-push-2.ensures.items
+          (tables_next sub_of (λ (s : sets.Sub). s.desc.fields) c.args.sizes.now ((device_of c.args.device.now).desc.fields ∷ []) subs i c.sub-item.result
+          c.loop-sub.tables.items _ lt is c.loop-sub.invariant.tables (rw c.as_slice-in-loop-sub.ensures at c.in_ok-table_of-2.ensures));
       heads = below_more (λ (k : ℕ). (s : sets.Sub) → slice_get (map sub_of subs) k ≡ Some s → FitsSub s) i c.loop-sub.invariant.heads
-          (λ s e. subst FitsSub (sym (at_mapped sub_of subs i c.sub-item.result s is e)) (record { version = omega arith }));
+          (λ s e. rw (at_mapped sub_of subs i c.sub-item.result s is e) (record { version = omega arith }));
     }
 
 pub returns-clause-heads : goal.returns-clause-heads
 returns-clause-heads c = record {
   instance = omega arith;
   version = omega arith;
-  subs = λ j s e. c.loop-sub.invariant.heads j (omega (arith, slice_get_within (map sub_of c.args.device.now.subs) j s e, length-map c.args.device.now.subs sub_of, ap length c.as_slice-sub-items.ensures)) s e;
+  subs = λ j s e. c.loop-sub.invariant.heads j
+      (omega (arith, slice_get_within (map sub_of c.args.device.now.subs) j s e, length-map c.args.device.now.subs sub_of, ap length c.as_slice-sub-items.ensures)) s e;
 }

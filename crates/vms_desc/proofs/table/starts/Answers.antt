@@ -1,9 +1,8 @@
-use Rattle.std.proofs.Common.{◌≡◌, ◌∙◌, ◌+◌, ◌*◌, ap, subst, sym, map, ℕ, arith}
+use Rattle.std.proofs.Common.{◌≡◌, ◌+◌, ◌*◌, arith}
 use Rattle.vms_spec.specs.Layout.{capacity_of}
 use Rattle.vms_parts.specs.declared.sizes.Measure.TheVariants.{Cells}
 use Rattle.vms_parts.specs.Sizes.{in_u32, size_of}
-use Rattle.vms_parts.specs.Views.{field_of}
-use Rattle.vms_desc.proofs.TablesMade.{StartsTo, starts_more}
+use Rattle.vms_desc.proofs.TablesMade.{starts_more}
 use Rattle.vms_desc.proofs.table.starts.Goals as goal
 
 pub loop-field-preserved : goal.loop-field-preserved
@@ -11,7 +10,8 @@ loop-field-preserved c =
     let sizes = c.args.sizes.now in
     let f = c.field-item.result in
     let product : c.capacity.result * c.item_size-size.result ≡ capacity_of f.count * size_of Cells sizes f.item =
-    ap (λ (x : ℕ). x * c.item_size-size.result) c.capacity.ensures ∙ ap (λ (x : ℕ). capacity_of f.count * x) c.item_size-size.ensures in
-    let more : c.saturating_add-sum.result ≡ in_u32 (c.loop-field.sum + in_u32 (capacity_of f.count * size_of Cells sizes f.item)) = omega (arith, c.saturating_add-sum.ensures, c.saturating_mul.ensures, product) in
-    subst (StartsTo sizes (map field_of c.args.fields.now) (c.loop-field.field-index + 1) c.saturating_add-sum.result) (sym c.in_ok-push-2.ensures.items)
+    cc (c.capacity.ensures, c.item_size-size.ensures) in
+    let more : c.saturating_add-sum.result ≡ in_u32 (c.loop-field.sum + in_u32 (capacity_of f.count * size_of Cells sizes f.item)) =
+    omega (arith, c.saturating_add-sum.ensures, c.saturating_mul.ensures, product) in
+    rw c.in_ok-push-2.ensures.items
     (starts_more sizes c.args.fields.now c.loop-field.field-index c.loop-field.sum c.saturating_add-sum.result c.loop-field.starts.items f c.loop-field-test.true c.field-item.is more c.loop-field.invariant)

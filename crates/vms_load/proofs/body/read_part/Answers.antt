@@ -1,11 +1,6 @@
-use Rattle.std.proofs.Common.{◌≡◌, List, sym, subst, ◌∷◌, ◌++◌, ap, ◌∙◌, arith, append_assoc}
-use Rattle.vms_desc.specs.Described.{described}
-use Rattle.vms_load.specs.Reading.{steps_long, long_append}
-use Rattle.vms_load.proofs.StepBytes.{part_bound}
-use Rattle.vms_kinds.specs.declared.Kind.{Kind}
-use Rattle.vms_image.specs.Typed.{Typed}
-use Rattle.vms_walk.specs.Steps.{spot_slots}
-use Rattle.vms_load.specs.Bodies.{IsOfKind}
+use Rattle.vms_load.proofs.Facade.{◌≡◌, List, sym, subst, ◌∷◌, ◌++◌, ap, ◌∙◌, arith, append_assoc, described, steps_long, long_append, Kind, Typed, spot_slots}
+use Rattle.vms_load.proofs.Facade.{IsOfKind}
+use Rattle.vms_load.proofs.StreamLengths.{part_bound}
 use Rattle.vms_load.proofs.SetFacts.{step_kind}
 use Rattle.vms_load.proofs.body.read_part.Goals as goal
 

@@ -1,20 +1,7 @@
-use Rattle.std.specs.Int.{w128}
-use Rattle.std.proofs.lemmas.Int.{to_z-of_z}
-use Rattle.std.proofs.lemmas.Result.{err_from_is_err_and}
-use Rattle.std.proofs.Common.{rules, SFits, ◌≡◌, ℕ, ◌+◌, Some, Result, Ok, Err, OnOk, sym, subst, arith}
-use Rattle.vms_kinds.specs.declared.Kind.{Kind}
-use Rattle.vms_kinds.specs.Codes.{InRange}
-use Rattle.vms_walk.specs.declared.step.WalkStep.{WalkStep}
-use Rattle.vms_walk.specs.Steps.{capacities_of}
-use Rattle.vms_spec.specs.Taking.{take_slot}
-use Rattle.vms_io.specs.Told.{intake}
-use Rattle.vms_io.proofs.ReadingLemmas.{reads_as}
-use Rattle.vms_frames.specs.Reads.{IsLong}
-use Rattle.vms_frames.specs.declared.fault.FrameFault.{FrameFault}
-use Rattle.vms_load.specs.Bodies.{IsOfKind, TakesOn, HasMoved, progress}
-use Rattle.vms_load.proofs.ItemsRead.{reads_rule}
-use Rattle.vms_load.specs.Reading.{slot_of, step_long}
-use Rattle.vms_load.proofs.BodyLemmas.{number_ok, number_err, constant_taken, filler_taken}
+use Rattle.vms_load.proofs.Facade.{w128, to_z-of_z, err_from_is_err_and, rules, SFits, ◌≡◌, ℕ, ◌+◌, Some, Result, Ok, Err, OnOk, sym, subst, arith, Kind}
+use Rattle.vms_load.proofs.Facade.{InRange, WalkStep, capacities_of, take_slot, intake, reads_as, IsLong, FrameFault, IsOfKind, TakesOn, HasMoved, progress}
+use Rattle.vms_load.proofs.Facade.{slot_of, step_long}
+use Rattle.vms_load.proofs.BodyLemmas.{reads_rule, number_ok, number_err, constant_taken, filler_taken}
 use Rattle.vms_load.proofs.body.read_step.Goals as goal
 
 -- all bytes of an item, by which the cursor moves

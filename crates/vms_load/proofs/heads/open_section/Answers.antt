@@ -1,8 +1,4 @@
-use Rattle.std.proofs.Common.{◌<◌, sym, ap, ◌∙◌, arith, length, get_or, false, Some, None, ℕ, Err, List}
-use Rattle.vms_spec.specs.Sets.{Device}
-use Rattle.vms_spec.specs.Lookup.{find_device}
-use Rattle.vms_desc.specs.Described.{described}
-use Rattle.vms_load.specs.Heads.{reason_against}
+use Rattle.vms_load.proofs.Facade.{◌<◌, sym, ap, ◌∙◌, arith, length, get_or, false, Some, None, ℕ, Err, List, Device, find_device, described, reason_against}
 use Rattle.vms_load.proofs.HeadLemmas.{opens, device_below}
 use Rattle.vms_load.proofs.StagedLemmas.{section_new}
 use Rattle.vms_load.proofs.heads.open_section.Goals as goal

@@ -1,15 +1,9 @@
-use Rattle.std.proofs.Common.{◌≡◌, ◌<◌, sym, ap, ◌∙◌, arith, length, get_or, Option, Some, None, ℕ, List, map}
-use Rattle.std.proofs.lemmas.List.{length-map}
-use Rattle.vms_spec.specs.Sets.{Sub}
-use Rattle.vms_spec.specs.Lookup.{find_sub}
-use Rattle.vms_parts.specs.Views.{sub_of, device_of}
+use Rattle.vms_load.proofs.Facade.{◌≡◌, ◌<◌, sym, ap, ◌∙◌, arith, length, get_or, Option, Some, None, ℕ, List, map, length-map, Sub, find_sub, sub_of}
+use Rattle.vms_load.proofs.Facade.{device_of, get_map_at, sub_at, reason_against_sub}
 use Rattle.vms_parts.specs.declared.types.Sub.{Sub as CodeSub}
-use Rattle.vms_parts.proofs.Items.{get_map_at}
-use Rattle.vms_desc.specs.Parts.{sub_at}
-use Rattle.vms_load.specs.Heads.{reason_against_sub}
 use Rattle.vms_load.proofs.HeadLemmas.{unknown_sub, opens_sub, sub_below}
-use Rattle.vms_load.proofs.heads.open_sub.Goals as goal
 use Rattle.vms_load.proofs.heads.open_sub.Goals.{After-against_sub, In-Some}
+use Rattle.vms_load.proofs.heads.open_sub.Goals as goal
 
 -- the subsection found by its name
 found_sub : (subs : List CodeSub) (there name wanted : _) (found : Option ℕ) (j : ℕ) → there ≡ subs → name ≡ wanted → found ≡ find_sub 0 (map sub_of there) name → found ≡ Some j

@@ -1,9 +1,5 @@
-use Rattle.std.specs.Int.{w128}
-use Rattle.std.proofs.Common.{rules, SFits, ◌≡◌, ◌∙◌, ap, sym, to_z, of_z}
-use Rattle.std.proofs.lemmas.Int.{to_z-of_z}
-use Rattle.std.proofs.lemmas.Result.{err_from_is_err_and}
-use Rattle.vms_bodies.proofs.ReadyLaws.{is_same}
-use Rattle.vms_load.proofs.ItemsRead.{are_others, reads_constant, reads_other, reads_no_constant}
+use Rattle.vms_load.proofs.Facade.{w128, rules, SFits, ◌≡◌, ◌∙◌, ap, sym, to_z, of_z, to_z-of_z, err_from_is_err_and, is_same}
+use Rattle.vms_load.proofs.BodyLemmas.{are_others, reads_constant, reads_other, reads_no_constant}
 use Rattle.vms_load.proofs.items.constant.Goals as goal
 
 pub returns-in_err-found-clause-reads : goal.returns-in_err-found-clause-reads

@@ -1,10 +1,5 @@
-use Rattle.std.specs.Int.{w128}
-use Rattle.std.proofs.Common.{rules, SFits, ◌≡◌, true, false}
-use Rattle.std.proofs.lemmas.Int.{to_z-of_z}
-use Rattle.std.proofs.lemmas.Result.{err_from_is_err_and}
-use Rattle.vms_spec.specs.Numbers.{exceeds}
-use Rattle.vms_walk.specs.Steps.{capacities_of}
-use Rattle.vms_load.proofs.ItemsRead.{reads_capped, reads_large, reads_no_number}
+use Rattle.vms_load.proofs.Facade.{w128, rules, SFits, ◌≡◌, true, false, to_z-of_z, err_from_is_err_and, exceeds, capacities_of}
+use Rattle.vms_load.proofs.BodyLemmas.{reads_capped, reads_large, reads_no_number}
 use Rattle.vms_load.proofs.items.number.Goals as goal
 
 pub returns-in_err-value-clause-reads : goal.returns-in_err-value-clause-reads

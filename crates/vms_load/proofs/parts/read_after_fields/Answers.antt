@@ -1,27 +1,13 @@
-use Rattle.std.proofs.Common.{◌≡◌, ℕ, ◌+◌, List, Option, Some, None, Result, Ok, Err, length, slice_set, sym, subst, ap, ◌∙◌, arith}
-use Rattle.std.specs.List.{slice_get}
-use Rattle.vms_spec.specs.declared.Reason.{Reason}
-use Rattle.vms_spec.specs.Sets.{Device, AtLeast}
-use Rattle.vms_spec.specs.Layout.{no_desc}
-use Rattle.vms_desc.specs.Described.{described}
-use Rattle.vms_bodies.proofs.BodyLaws.{at_set}
-use Rattle.vms_parts.specs.Devices.{device_at}
-use Rattle.vms_frames.specs.Calls.{held_long}
+use Rattle.vms_load.proofs.Facade.{◌≡◌, ℕ, ◌+◌, List, Option, Some, None, Result, Ok, Err, length, slice_set, sym, subst, ap, ◌∙◌, arith, slice_get, Reason}
+use Rattle.vms_load.proofs.Facade.{Device, AtLeast, no_desc, described, at_set, device_at, held_long, SubHead, Foot, opened_at, sub_opened, intake, reads_as}
+use Rattle.vms_load.proofs.Facade.{GoesOn, subs_due, after_fields, after_part, state_in, spot_in, LoadFault, Open, Typed, LONGEST_SUB_HEAD}
 use Rattle.vms_frames.specs.declared.units.Tail.TheVariants as tails
-use Rattle.vms_spec.specs.Units.{SubHead, Foot}
-use Rattle.vms_load.specs.Heads.{in_section, opened_at, sub_opened}
-use Rattle.vms_io.specs.Told.{intake}
-use Rattle.vms_io.proofs.ReadingLemmas.{reads_as}
-use Rattle.vms_load.specs.Going.{GoesOn}
-use Rattle.vms_load.specs.Parts.{subs_due, after_fields, after_part, state_in, spot_in}
-use Rattle.vms_load.specs.declared.fault.LoadFault.{LoadFault}
+use Rattle.vms_load.specs.Heads.{in_section}
 use Rattle.vms_load.specs.declared.fault.LoadFault.TheVariants.{Refused}
-use Rattle.vms_load.specs.declared.parts.Open.{Open}
-use Rattle.vms_load.proofs.GoingLemmas.{goes_refused, same_course}
+use Rattle.vms_load.proofs.ReadLemmas.{goes_refused, same_course}
 use Rattle.vms_load.proofs.AfterReads.{after_fault, after_settled, after_next, foot_settled, sub_settled, sub_refused, sub_new, subs_taken}
 use Rattle.vms_load.proofs.SetFacts.{few_subs}
-use Rattle.vms_image.specs.Typed.{Typed, state_of as untyped}
-use Rattle.vms_marks.specs.declared.sub_head.TheConstants.{LONGEST_SUB_HEAD}
+use Rattle.vms_image.specs.Typed.{state_of as untyped}
 use Rattle.vms_load.proofs.parts.read_after_fields.Goals as goal
 
 -- what a subsection head opens, as the call returns it

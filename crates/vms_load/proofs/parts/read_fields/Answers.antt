@@ -1,28 +1,13 @@
-use Rattle.std.proofs.Common.{◌≡◌, List, sym, subst, Some, Ok, Err, ap, ◌∙◌, arith}
-use Rattle.vms_desc.specs.Described.{described}
-use Rattle.vms_desc.specs.Parts.{desc_at}
-use Rattle.vms_desc.specs.Asks.{first_cell}
-use Rattle.vms_desc.proofs.Bounds.{good_of}
-use Rattle.vms_parts.specs.Devices.{device_at}
-use Rattle.vms_kinds.specs.declared.Kind.{Kind}
-use Rattle.vms_walk.specs.declared.fields.PartAt.{PartAt}
-use Rattle.vms_walk.specs.Steps.{HasSpot, spot_slots}
-use Rattle.vms_load.specs.Bodies.{AreOfKinds}
-use Rattle.vms_walk.proofs.Local.{part_sound}
-use Rattle.vms_frames.specs.Calls.{held_long}
-use Rattle.vms_load.specs.Parts.{bytes_of, part_base, part_desc}
-use Rattle.vms_load.specs.Reading.{Told, told}
-use Rattle.vms_io.specs.Told.{intake}
-use Rattle.vms_io.proofs.ReadingLemmas.{reads_as}
-use Rattle.vms_load.proofs.GoingLemmas.{same_course}
-use Rattle.vms_load.proofs.PartReads.{open_in, fields_answer}
-use Rattle.vms_load.proofs.PartTaken.{part_took, part_failed}
-use Rattle.vms_load.proofs.StepBytes.{part_bound}
+use Rattle.vms_load.proofs.Facade.{◌≡◌, List, sym, subst, Some, Ok, Err, ap, ◌∙◌, arith, described, desc_at, first_cell, good_of, device_at, Kind, PartAt}
+use Rattle.vms_load.proofs.Facade.{HasSpot, spot_slots, AreOfKinds, part_sound, held_long, bytes_of, part_base, part_desc, Told, told, intake, reads_as}
+use Rattle.vms_load.proofs.ReadLemmas.{same_course}
+use Rattle.vms_load.proofs.PartReads.{open_in, fields_answer, part_took, part_failed}
+use Rattle.vms_load.proofs.StreamLengths.{part_bound}
 use Rattle.vms_load.proofs.SetFacts.{part_kinds, desc_is, base_is, part_spot}
 use Rattle.vms_image.specs.Typed.{state_of as untyped}
 use Rattle.vms_load.proofs.parts.read_fields.Given.{Over}
-use Rattle.vms_load.proofs.parts.read_fields.Goals as goal
 use Rattle.vms_load.proofs.parts.read_fields.Goals.{Start, After-first_cell-base, After-read_part}
+use Rattle.vms_load.proofs.parts.read_fields.Goals as goal
 
 -- what is known before the part is read and after it
 abbrev old : (g : Over) (c : goal.Start g) → Told

@@ -1,20 +1,8 @@
-use Rattle.std.proofs.Common.{rules, refl, subst, ◌≡◌, ℕ, List, ◌+◌, ◌<◌, ◌≤◌, Option, Some, None, Err, length, ap, ◌∙◌, arith}
-use Rattle.std.proofs.lemmas.Result.{err_from_is_err_and}
-use Rattle.vms_spec.specs.Sets.{Set, Device}
-use Rattle.vms_io.specs.Told.{intake}
-use Rattle.vms_frames.specs.Stands.{Stand}
-use Rattle.vms_frames.specs.Calls.{held_long}
-use Rattle.vms_desc.specs.Described.{described}
-use Rattle.vms_parts.specs.Devices.{device_at}
-use Rattle.vms_load.specs.declared.parts.Open.{Open}
-use Rattle.vms_load.specs.Going.{GoesSoFar}
-use Rattle.vms_load.specs.Reads.{Onward, reach}
-use Rattle.vms_load.specs.Parts.{IsMoved, part_due, subs_due, bytes_of_part, in_fields, after_fields, after_part}
-use Rattle.vms_load.proofs.GoingLemmas.{goes_here, goes_further, goes_on, goes_still}
-use Rattle.vms_image.specs.Typed.{Typed, state_of as untyped}
-use Rattle.vms_marks.specs.declared.foot.TheConstants.{FOOT_LENGTH}
-use Rattle.vms_marks.specs.declared.sub_head.TheConstants.{LONGEST_SUB_HEAD}
-use Rattle.vms_marks.specs.declared.head.TheConstants.{LONGEST_HEAD}
+use Rattle.vms_load.proofs.Facade.{rules, refl, subst, ◌≡◌, ℕ, List, ◌+◌, ◌<◌, ◌≤◌, Option, Some, None, Err, length, ap, ◌∙◌, arith, err_from_is_err_and, Set}
+use Rattle.vms_load.proofs.Facade.{Device, intake, Stand, held_long, described, device_at, Open, GoesSoFar, Onward, reach, IsMoved, part_due, subs_due}
+use Rattle.vms_load.proofs.Facade.{bytes_of_part, in_fields, after_fields, after_part, Typed, FOOT_LENGTH, LONGEST_SUB_HEAD, LONGEST_HEAD}
+use Rattle.vms_load.proofs.ReadLemmas.{goes_here, goes_further, goes_on, goes_still}
+use Rattle.vms_image.specs.Typed.{state_of as untyped}
 use Rattle.vms_load.proofs.parts.read_section.Goals as goal
 
 pub loop-next-init : goal.loop-next-init

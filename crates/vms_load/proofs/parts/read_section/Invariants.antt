@@ -1,12 +1,6 @@
-use Rattle.std.proofs.Common.{◌+◌, ◌<◌, ◌≤◌, ℕ, List, Some, None, length}
-use Rattle.vms_io.specs.Told.{intake}
-use Rattle.vms_stream.specs.State.{State}
-use Rattle.vms_desc.specs.Described.{described}
-use Rattle.vms_parts.specs.Devices.{device_at}
-use Rattle.vms_load.specs.Reads.{reach}
-use Rattle.vms_load.specs.Going.{GoesSoFar}
-use Rattle.vms_load.specs.Parts.{IsSame, HoldsNone, OpensNext, part_due, in_fields, after_part}
-use Rattle.vms_image.specs.Typed.{IsImageOf, state_of as untyped}
+use Rattle.vms_load.proofs.Facade.{◌+◌, ◌<◌, ◌≤◌, ℕ, List, Some, None, length, intake, State, described, device_at, reach, GoesSoFar, IsSame, HoldsNone}
+use Rattle.vms_load.proofs.Facade.{OpensNext, part_due, in_fields, after_part, IsImageOf}
+use Rattle.vms_image.specs.Typed.{state_of as untyped}
 use Rattle.vms_load.proofs.parts.read_section.Given as goal
 
 abbrev pub invariant-loop-next : goal.invariant-loop-next

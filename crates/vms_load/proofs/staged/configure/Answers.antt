@@ -1,7 +1,4 @@
-use Rattle.std.proofs.Common.{arith, ap, length}
-use Rattle.vms_spec.specs.Sets.{Set}
-use Rattle.vms_desc.specs.Described.{described}
-use Rattle.vms_desc.proofs.Bounds.{few_machines}
+use Rattle.vms_load.proofs.Facade.{arith, ap, length, Set, described, few_machines}
 use Rattle.vms_load.proofs.staged.configure.Goals as goal
 
 pub machine_of-requires-clause-few : goal.machine_of-requires-clause-few

@@ -1,8 +1,4 @@
-use Rattle.std.proofs.Common.{ap, ◌∙◌, sym, length, arith}
-use Rattle.std.proofs.lemmas.List.{length-map}
-use Rattle.vms_spec.specs.Sets.{Set}
-use Rattle.vms_parts.specs.Views.{device_of}
-use Rattle.vms_desc.specs.Described.{described}
+use Rattle.vms_load.proofs.Facade.{ap, ◌∙◌, sym, length, arith, length-map, Set, device_of, described}
 use Rattle.vms_load.proofs.StagedLemmas.{are_images, made_all, made_shaped}
 use Rattle.vms_load.proofs.staged.default_images.Goals as goal
 

@@ -1,4 +1,4 @@
-use Rattle.vms_desc.specs.Described.{described}
+use Rattle.vms_load.proofs.Facade.{described}
 use Rattle.vms_load.proofs.StagedLemmas.{Made}
 use Rattle.vms_load.proofs.staged.default_images.Given as goal
 

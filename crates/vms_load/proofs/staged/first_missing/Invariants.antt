@@ -1,5 +1,4 @@
-use Rattle.std.proofs.Common.{◌≡◌, not, drop}
-use Rattle.vms_spec.specs.Lists.{position}
+use Rattle.vms_load.proofs.Facade.{◌≡◌, not, drop, position}
 use Rattle.vms_load.proofs.staged.first_missing.Given as goal
 
 abbrev pub invariant-loop-i : goal.invariant-loop-i

@@ -1,4 +1,4 @@
-use Rattle.std.proofs.Common.{◌≡◌, replicate, false, length}
+use Rattle.vms_load.proofs.Facade.{◌≡◌, replicate, false, length}
 use Rattle.vms_load.proofs.staged.none_came.Given as goal
 
 abbrev pub invariant-loop-device : goal.invariant-loop-device

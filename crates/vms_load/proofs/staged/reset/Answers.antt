@@ -1,5 +1,4 @@
-use Rattle.std.proofs.Common.{arith}
-use Rattle.vms_desc.specs.Described.{described}
+use Rattle.vms_load.proofs.Facade.{arith, described}
 use Rattle.vms_load.proofs.StagedLemmas.{reset_all, reset_shaped}
 use Rattle.vms_load.proofs.staged.reset.Goals as goal
 

@@ -1,4 +1,4 @@
-use Rattle.vms_desc.specs.Described.{described}
+use Rattle.vms_load.proofs.Facade.{described}
 use Rattle.vms_load.proofs.StagedLemmas.{Reset}
 use Rattle.vms_load.proofs.staged.reset.Given as goal
 

@@ -1,9 +1,4 @@
-use Rattle.std.proofs.Common.{◌≡◌, map, ap, ◌∙◌, sym, length}
-use Rattle.std.specs.Vec.{with_items}
-use Rattle.std.proofs.lemmas.List.{length-map, with_items_is}
-use Rattle.vms_spec.specs.Sets.{Set}
-use Rattle.vms_parts.specs.Views.{device_of}
-use Rattle.vms_desc.specs.Described.{described}
+use Rattle.vms_load.proofs.Facade.{◌≡◌, map, ap, ◌∙◌, sym, length, with_items, length-map, with_items_is, Set, device_of, described}
 use Rattle.vms_image.specs.Typed.{state_of as untyped}
 use Rattle.vms_load.proofs.StagedLemmas.{starts}
 use Rattle.vms_load.proofs.staged.restart.Goals as goal

@@ -1,16 +1,8 @@
-use Rattle.std.proofs.Common.{Option, Some, None, Ok, Err, false, ap, arith}
-use Rattle.std.proofs.lemmas.Result.{err_from_is_err_and}
-use Rattle.vms_io.proofs.ReadingLemmas.{reads_as, reads_both}
-use Rattle.vms_stream.specs.Judge.{judge}
-use Rattle.vms_stream.specs.State.{Free, by_state}
-use Rattle.vms_bodies.specs.Whole.{reading_on}
-use Rattle.vms_desc.specs.Described.{described}
-use Rattle.vms_frames.specs.Calls.{held_long}
-use Rattle.vms_frames.specs.declared.units.Between.{Between}
+use Rattle.vms_load.proofs.Facade.{Option, Some, None, Ok, Err, false, ap, arith, err_from_is_err_and, reads_as, reads_both, judge, Free, by_state, reading_on}
+use Rattle.vms_load.proofs.Facade.{described, held_long, Between, accepted_of, state_of, spot_of, spot_at, is_first, is_configured}
 use Rattle.vms_frames.specs.declared.units.Step.TheVariants as steps
-use Rattle.vms_load.specs.Staging.{accepted_of, state_of, spot_of, spot_at, is_first, is_configured}
-use Rattle.vms_load.proofs.GoingLemmas.{spent_by, goes_judged, goes_still, same_course}
-use Rattle.vms_load.proofs.TurnReads.{turn_fault, turn_settled, turn_section}
+use Rattle.vms_load.proofs.ReadLemmas.{spent_by, goes_judged, goes_still, same_course}
+use Rattle.vms_load.proofs.StreamReads.{turn_fault, turn_settled, turn_section}
 use Rattle.vms_load.proofs.stream.read_between.Goals as goal
 
 pub returns-in-Ok-Configuration-clause-reads : goal.returns-in-Ok-Configuration-clause-reads

@@ -1,17 +1,6 @@
-use Rattle.std.proofs.Common.{Option, Some, None, Err, ap, arith, ◌+◌, subst}
-use Rattle.std.proofs.lemmas.Result.{err_from_is_err_and}
-use Rattle.vms_stream.specs.Judge.{judge}
-use Rattle.vms_stream.specs.State.{by_state}
-use Rattle.vms_bodies.specs.Whole.{reading_on}
-use Rattle.vms_desc.specs.Described.{described}
-use Rattle.vms_io.specs.Told.{intake}
-use Rattle.vms_frames.specs.declared.units.Between.{Between}
-use Rattle.vms_frames.specs.declared.units.Between.TheVariants.{First}
-use Rattle.vms_load.specs.Reads.{Onward}
-use Rattle.vms_load.specs.Going.{GoesSoFar}
-use Rattle.vms_load.specs.Staging.{accepted_of, state_of, spot_at, stream_due}
-use Rattle.vms_load.proofs.GoingLemmas.{goes_here, goes_further, goes_on, goes_still}
-use Rattle.vms_marks.specs.declared.head.TheConstants.{LONGEST_HEAD}
+use Rattle.vms_load.proofs.Facade.{Option, Some, None, Err, ap, arith, ◌+◌, subst, err_from_is_err_and, judge, by_state, reading_on, described, intake, Between}
+use Rattle.vms_load.proofs.Facade.{First, Onward, GoesSoFar, accepted_of, state_of, spot_at, stream_due, LONGEST_HEAD}
+use Rattle.vms_load.proofs.ReadLemmas.{goes_here, goes_further, goes_on, goes_still}
 use Rattle.vms_load.proofs.stream.sections.Goals as goal
 
 pub loop-place-init : goal.loop-place-init

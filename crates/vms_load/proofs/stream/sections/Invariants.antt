@@ -1,13 +1,5 @@
-use Rattle.std.proofs.Common.{◌+◌, ◌-◌, ◌≤◌, Some}
-use Rattle.vms_io.specs.Told.{intake}
-use Rattle.vms_stream.specs.Judge.{judge}
-use Rattle.vms_stream.specs.State.{by_state}
-use Rattle.vms_bodies.specs.Whole.{reading_on}
-use Rattle.vms_desc.specs.Described.{described}
-use Rattle.vms_frames.specs.declared.units.Between.TheVariants.{First}
-use Rattle.vms_load.specs.Reads.{reach}
-use Rattle.vms_load.specs.Going.{GoesSoFar}
-use Rattle.vms_load.specs.Staging.{IsOf, HoldsAt, accepted_of, state_of, spot_at, stream_due}
+use Rattle.vms_load.proofs.Facade.{◌+◌, ◌-◌, ◌≤◌, Some, intake, judge, by_state, reading_on, described, First, reach, GoesSoFar, IsOf, HoldsAt, accepted_of}
+use Rattle.vms_load.proofs.Facade.{state_of, spot_at, stream_due}
 use Rattle.vms_load.proofs.stream.sections.Given as goal
 
 abbrev pub invariant-loop-place : goal.invariant-loop-place

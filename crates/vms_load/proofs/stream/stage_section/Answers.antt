@@ -1,24 +1,9 @@
-use Rattle.std.proofs.Common.{rules, ◌<◌, map, List, [], Some, Bool, false, Ok, Err, length, slice_set, sym, ap, ◌∙◌, subst, arith}
-use Rattle.std.proofs.lemmas.Result.{err_from_is_err_and}
-use Rattle.std.proofs.lemmas.List.{length-set, length-map}
-use Rattle.vms_image.specs.Typed.{Typed, state_of as untyped, IsImageOf}
-use Rattle.vms_spec.specs.Layout.{no_desc}
-use Rattle.vms_stream.specs.Judge.{judge}
-use Rattle.vms_stream.specs.Judged.{ask}
-use Rattle.vms_stream.specs.State.{Free, by_state}
-use Rattle.vms_bodies.specs.Whole.{reading_on}
-use Rattle.vms_desc.specs.Described.{described}
-use Rattle.vms_parts.specs.Devices.{device_at}
-use Rattle.vms_load.specs.Heads.{opened_at, section_opened}
-use Rattle.vms_load.specs.Parts.{subs_due}
-use Rattle.vms_load.specs.Staging.{AreShaped, begun_at, name_of, state_of, sections_due}
-use Rattle.vms_frames.specs.Calls.{tail_of}
-use Rattle.vms_load.proofs.ReadLemmas.{read_behind}
-use Rattle.vms_io.specs.Told.{intake}
-use Rattle.vms_io.proofs.ReadingLemmas.{reads_as}
-use Rattle.vms_load.specs.Reads.{Onward}
-use Rattle.vms_load.proofs.GoingLemmas.{behind_here}
-use Rattle.vms_load.proofs.OpenedReads.{head_unit, head_long, begun, section_refused, section_reads, ended_in, ends_later}
+use Rattle.vms_load.proofs.Facade.{rules, ◌<◌, map, List, [], Some, Bool, false, Ok, Err, length, slice_set, sym, ap, ◌∙◌, subst, arith, err_from_is_err_and}
+use Rattle.vms_load.proofs.Facade.{length-set, length-map, Typed, IsImageOf, no_desc, judge, ask, Free, by_state, reading_on, described, device_at, opened_at}
+use Rattle.vms_load.proofs.Facade.{section_opened, subs_due, AreShaped, begun_at, name_of, state_of, sections_due, tail_of, intake, reads_as, Onward}
+use Rattle.vms_image.specs.Typed.{state_of as untyped}
+use Rattle.vms_load.proofs.ReadLemmas.{read_behind, behind_here}
+use Rattle.vms_load.proofs.AfterReads.{head_unit, head_long, begun, section_refused, section_reads, ended_in, ends_later}
 use Rattle.vms_load.proofs.StagedLemmas.{image_begun, begun_here, shaped_put, still_fresh, default_shaped, sections_taken}
 use Rattle.vms_load.proofs.stream.stage_section.Goals as goal
 

@@ -1,21 +1,9 @@
-use Rattle.std.proofs.Common.{List, ℕ, ◌+◌, Some, None, Ok, Err, Bool, true, false, sym, subst, ap, ◌∙◌, arith}
-use Rattle.std.proofs.lemmas.Result.{err_from_is_err_and}
-use Rattle.vms_io.specs.Told.{intake}
-use Rattle.vms_io.proofs.ReadingLemmas.{reads_as, reads_both}
-use Rattle.vms_stream.specs.Judge.{judge, reading}
-use Rattle.vms_stream.specs.State.{State, Before, Free, by_state, at_start}
-use Rattle.vms_bodies.specs.Whole.{reading_on}
-use Rattle.vms_desc.specs.Described.{described}
-use Rattle.vms_frames.specs.Stands.{Stand}
-use Rattle.vms_frames.specs.Calls.{held_long}
-use Rattle.vms_load.specs.Reads.{Onward, reach}
-use Rattle.vms_load.specs.Going.{GoesThrough}
-use Rattle.vms_load.specs.Staging.{accepted_of, state_of, spot_at, sections_due, stream_due, most_given}
-use Rattle.vms_load.proofs.Bounding.{most_small, all_due}
-use Rattle.vms_load.proofs.GoingLemmas.{goes_further, goes_on, same_course}
+use Rattle.vms_load.proofs.Facade.{List, ℕ, ◌+◌, Some, None, Ok, Err, Bool, true, false, sym, subst, ap, ◌∙◌, arith, err_from_is_err_and, intake, reads_as}
+use Rattle.vms_load.proofs.Facade.{reads_both, judge, reading, State, Before, Free, by_state, at_start, reading_on, described, Stand, held_long, Onward, reach}
+use Rattle.vms_load.proofs.Facade.{GoesThrough, accepted_of, state_of, spot_at, sections_due, stream_due, most_given, First, LONGEST_HEAD}
+use Rattle.vms_load.proofs.SetFacts.{most_small, all_due}
+use Rattle.vms_load.proofs.ReadLemmas.{goes_further, goes_on, same_course}
 use Rattle.vms_load.proofs.StreamReads.{refused_before, closed}
-use Rattle.vms_frames.specs.declared.units.Between.TheVariants.{First}
-use Rattle.vms_marks.specs.declared.head.TheConstants.{LONGEST_HEAD}
 use Rattle.vms_load.proofs.stream.stream.Goals as goal
 
 pub read_head-requires-clause-held : goal.read_head-requires-clause-held

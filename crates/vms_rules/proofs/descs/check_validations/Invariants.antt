@@ -5,4 +5,6 @@ use Rattle.vms_rules.specs.Walks.{validations_from}
 use Rattle.vms_rules.proofs.descs.check_validations.Given as goal
 
 abbrev pub invariant-loop-test : goal.invariant-loop-test
-invariant-loop-test l = validations_from (desc_of l.fn.desc) l.fn.part l.test-index (map formula (drop l.test-index l.fn.desc.validate)) ≡ validations_fault (desc_of l.fn.desc) l.fn.part
+invariant-loop-test l =
+    validations_from (desc_of l.fn.desc) l.fn.part l.test-index (map formula (drop l.test-index l.fn.desc.validate)) ≡ validations_fault
+    (desc_of l.fn.desc) l.fn.part

@@ -1,16 +1,14 @@
-use Rattle.std.proofs.Common.{◌≡◌, ℕ, List, Bool, Option, [], None, length, get_or, sym, ap, subst, ◌∙◌}
+use Rattle.std.proofs.Common.{◌≡◌, ℕ, Option, [], None, length, sym, ap, ◌∙◌}
 use Rattle.std.proofs.lemmas.List.{length-map}
 use Rattle.vms_spec.specs.declared.Part.TheVariants as parts
-use Rattle.vms_spec.specs.declared.Place.{Place}
 use Rattle.vms_spec.specs.Layout.{no_desc}
 use Rattle.vms_spec.specs.Lists.{or_else}
 use Rattle.vms_spec.specs.Sets as sets
 use Rattle.vms_spec.specs.WellFormed.{SetFault, failing, here, fields_fault, validations_fault, device_rules, device_fault}
 use Rattle.vms_parts.specs.Devices.{device_at}
-use Rattle.vms_parts.specs.declared.types.Device.{Device}
 use Rattle.vms_parts.specs.Views.{desc_of, device_of, set_of}
 use Rattle.vms_parts.proofs.Items.{get_map_at}
-use Rattle.vms_rules.specs.Judged.{IsFirst, Judges}
+use Rattle.vms_rules.specs.Judged.{IsFirst}
 use Rattle.vms_rules.specs.Walks.{subs_from}
 use Rattle.vms_rules.proofs.DeviceLaws.{inside_stops, subs_left}
 use Rattle.vms_rules.proofs.WalkLaws.{stops_by, first_stops}
@@ -20,22 +18,17 @@ use Rattle.vms_rules.proofs.devices.check_device.Goals as goal
 -- the device of this number
 device_is : (c : After-index-as_slice-number) → device_at (set_of c.args.parts.now) c.args.number ≡ device_of c.index-as_slice-number.result
 device_is c =
-    let p = c.args.parts.now in
-    let i = c.args.number in
     let x = c.index-as_slice-number.result in
-    let is : x ≡ get_or p.devices i x = c.index-as_slice-number.is ∙ ap (λ (l : List Device). get_or l i x) c.as_slice-2.ensures in
-    get_map_at device_of p.devices i x (record { instance = 0; desc = no_desc; subs = [] }) c.requires.there is
+    get_map_at device_of c.args.parts.now.devices c.args.number x (record { instance = 0; desc = no_desc; subs = [] }) c.requires.there
+    (cc (c.index-as_slice-number.is, c.as_slice-2.ensures))
 
 structs_are : (c : After-as_slice) → length c.as_slice.result.now ≡ length (set_of c.args.parts.now).structs
 structs_are c = ap length c.as_slice.ensures ∙ sym (length-map c.args.parts.now.structs desc_of)
 
 -- its own rules hold
-own_good : (c : In_ok-lowest) → let set = set_of c.args.parts.now in let i = c.args.number in failing 1 (device_rules set i (device_at set i)) (here (parts.Device i)) ≡ None
-own_good c =
-    let set = set_of c.args.parts.now in
-    let i = c.args.number in
-    ap (λ (q : Place). failing 1 (device_rules set i (device_at set i)) q) (sym c.here.ensures)
-    ∙ ap (λ (r : List Bool). failing 1 r c.here.result) (sym c.device_rules.ensures) ∙ c.in_ok-lowest.ensures
+own_good : (c : In_ok-lowest)
+    → let set = set_of c.args.parts.now in let i = c.args.number in failing 1 (device_rules set i (device_at set i)) (here (parts.Device i)) ≡ None
+own_good c = cc (c.here.ensures, c.device_rules.ensures, c.in_ok-lowest.ensures)
 
 inside : ℕ → sets.Device → ℕ → Option SetFault
 inside k d i = or_else (fields_fault k d.desc (parts.Device i)) (validations_fault d.desc (parts.Device i))
@@ -49,26 +42,20 @@ returns-in_err-lowest c =
     let k = length set.structs in
     let e = c.in_err-lowest.field-0.0 in
     let rules = failing 1 (device_rules set i d) (here (parts.Device i)) in
-    let first : IsFirst rules e =
-    subst (λ (o : Option SetFault). IsFirst o e)
-    (ap (λ (r : List Bool). failing 1 r c.here.result) c.device_rules.ensures ∙ ap (λ (q : Place). failing 1 (device_rules set i d) q) c.here.ensures)
-    c.in_err-lowest.ensures in
+    let first : IsFirst rules e = rw (c.device_rules.ensures, c.here.ensures) at c.in_err-lowest.ensures in
     stops_by (device_fault set i d) c.from_residual.result e c.from_residual.ensures.1
     (first_stops (or_else rules (inside k d i)) (subs_from k i d 0 d.subs) e (first_stops rules (inside k d i) e first))
 
 pub returns-in_err-check_inside : goal.returns-in_err-check_inside
 unfolding inside
 returns-in_err-check_inside c =
-    let p = c.args.parts.now in
-    let set = set_of p in
+    let set = set_of c.args.parts.now in
     let i = c.args.number in
-    let x = c.index-as_slice-number.result in
     let e = c.in_err-check_inside.field-0.0 in
-    let at = device_is (goal.at.returns-in_err-check_inside c).After-index-as_slice-number in
+    let same = device_is (goal.at.returns-in_err-check_inside c).After-index-as_slice-number in
     let structs = structs_are (goal.at.returns-in_err-check_inside c).After-as_slice in
     let good = own_good (goal.at.returns-in_err-check_inside c).In_ok-lowest in
-    let counted : IsFirst (inside (length set.structs) (device_of x) i) e = subst (λ (k : ℕ). IsFirst (inside k (device_of x) i) e) structs c.in_err-check_inside.ensures in
-    let first : IsFirst (inside (length set.structs) (device_at set i) i) e = subst (λ (d : sets.Device). IsFirst (inside (length set.structs) d i) e) (sym at) counted in
+    let first : IsFirst (inside (length set.structs) (device_at set i) i) e = rw same (rw structs at c.in_err-check_inside.ensures) in
     stops_by (device_fault set i (device_at set i)) c.from_residual-in_err-check_inside.result e c.from_residual-in_err-check_inside.ensures.1
     (inside_stops set i (device_at set i) good e first)
 
@@ -79,11 +66,12 @@ returns c =
     let set = set_of p in
     let i = c.args.number in
     let x = c.index-as_slice-number.result in
-    let at = device_is (goal.at.returns c).After-index-as_slice-number in
+    let same = device_is (goal.at.returns c).After-index-as_slice-number in
     let structs = structs_are (goal.at.returns c).After-as_slice in
     let good = own_good (goal.at.returns c).In_ok-lowest in
     let none : inside (length set.structs) (device_at set i) i ≡ None =
-    ap (λ (d : sets.Device). inside (length set.structs) d i) at ∙ ap (λ (k : ℕ). inside k (device_of x) i) (sym structs) ∙ c.in_ok-check_inside.ensures in
+    ap (λ (d : sets.Device). inside (length set.structs) d i) same ∙ ap (λ (k : ℕ). inside k (device_of x) i) (sym structs) ∙ c.in_ok-check_inside.ensures in
     let left : device_fault set i (device_at set i) ≡ subs_from (length c.as_slice.result.now) i (device_of x) 0 (device_of x).subs =
-    subs_left set i (device_at set i) good none ∙ ap (λ (d : sets.Device). subs_from (length set.structs) i d 0 d.subs) at ∙ ap (λ (k : ℕ). subs_from k i (device_of x) 0 (device_of x).subs) (sym structs) in
-    subst (λ (o : Option SetFault). Judges o c.check_subs.result) (sym left) c.check_subs.ensures
+    subs_left set i (device_at set i) good none ∙ ap (λ (d : sets.Device). subs_from (length set.structs) i d 0 d.subs) same
+    ∙ ap (λ (k : ℕ). subs_from k i (device_of x) 0 (device_of x).subs) (sym structs) in
+    rw left c.check_subs.ensures

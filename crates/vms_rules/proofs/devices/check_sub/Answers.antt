@@ -1,14 +1,12 @@
-use Rattle.std.proofs.Common.{◌≡◌, List, Bool, Option, None, get_or, sym, ap, subst, ◌∙◌}
+use Rattle.std.proofs.Common.{◌≡◌, None, get_or, ◌∙◌}
 use Rattle.vms_spec.specs.declared.Part.TheVariants as parts
-use Rattle.vms_spec.specs.declared.Place.{Place}
 use Rattle.vms_spec.specs.Layout.{no_desc}
 use Rattle.vms_spec.specs.Lists.{or_else}
 use Rattle.vms_spec.specs.Sets as sets
-use Rattle.vms_spec.specs.WellFormed.{SetFault, failing, here, fields_fault, validations_fault, sub_rules, sub_fault}
-use Rattle.vms_parts.specs.declared.types.Sub.{Sub}
+use Rattle.vms_spec.specs.WellFormed.{failing, here, fields_fault, validations_fault, sub_rules, sub_fault}
 use Rattle.vms_parts.specs.Views.{sub_of, device_of}
 use Rattle.vms_parts.proofs.Items.{get_map_at}
-use Rattle.vms_rules.specs.Judged.{IsFirst, Judges}
+use Rattle.vms_rules.specs.Judged.{IsFirst}
 use Rattle.vms_rules.specs.Walks.{sub_at}
 use Rattle.vms_rules.proofs.WalkLaws.{stops_by, first_stops, judged_after}
 use Rattle.vms_rules.proofs.devices.check_sub.Goals as goal
@@ -24,10 +22,7 @@ returns-in_err-lowest c =
     let device = device_of w.device.now in
     let s = sub_at device j in
     let e = c.in_err-lowest.field-0.0 in
-    let first : IsFirst (failing 1 (sub_rules device j s) (here part)) e =
-    subst (λ (o : Option SetFault). IsFirst o e)
-    (ap (λ (r : List Bool). failing 1 r c.here.result) c.sub_rules.ensures ∙ ap (λ (q : Place). failing 1 (sub_rules device j s) q) c.here.ensures)
-    c.in_err-lowest.ensures in
+    let first : IsFirst (failing 1 (sub_rules device j s) (here part)) e = rw (c.sub_rules.ensures, c.here.ensures) at c.in_err-lowest.ensures in
     stops_by (sub_fault w.structs w.number device j s) c.from_residual.result e c.from_residual.ensures.1
     (first_stops (failing 1 (sub_rules device j s) (here part)) (or_else (fields_fault w.structs s.desc part) (validations_fault s.desc part)) e first)
 
@@ -39,10 +34,9 @@ returns c =
     let device = device_of w.device.now in
     let s = sub_at device j in
     let x = c.index-as_slice-number.result in
-    let is : x ≡ get_or w.device.now.subs j x = c.index-as_slice-number.is ∙ ap (λ (l : List Sub). get_or l j x) c.as_slice.ensures in
-    let at : s ≡ sub_of x = get_map_at sub_of w.device.now.subs j x (record { desc = no_desc; needed = sets.AtLeast 0 }) c.requires.there is in
-    let good : failing 1 (sub_rules device j s) (here part) ≡ None =
-    ap (λ (q : Place). failing 1 (sub_rules device j s) q) (sym c.here.ensures)
-    ∙ ap (λ (r : List Bool). failing 1 r c.here.result) (sym c.sub_rules.ensures) ∙ c.in_ok-lowest.ensures in
-    judged_after (failing 1 (sub_rules device j s) (here part)) (or_else (fields_fault w.structs s.desc part) (validations_fault s.desc part)) c.check_inside.result good
-    (subst (λ (y : sets.Sub). Judges (or_else (fields_fault w.structs y.desc part) (validations_fault y.desc part)) c.check_inside.result) (sym at) c.check_inside.ensures)
+    let is : x ≡ get_or w.device.now.subs j x = cc (c.index-as_slice-number.is, c.as_slice.ensures) in
+    let same : s ≡ sub_of x = get_map_at sub_of w.device.now.subs j x (record { desc = no_desc; needed = sets.AtLeast 0 }) c.requires.there is in
+    let good : failing 1 (sub_rules device j s) (here part) ≡ None = cc (c.here.ensures, c.sub_rules.ensures, c.in_ok-lowest.ensures) in
+    judged_after (failing 1 (sub_rules device j s) (here part))
+    (or_else (fields_fault w.structs s.desc part) (validations_fault s.desc part)) c.check_inside.result good
+    (rw same c.check_inside.ensures)

@@ -1,4 +1,4 @@
-use Rattle.std.proofs.Common.{◌≡◌, ◌<◌, List, ℕ, None, length, get_or, sym, ap, subst, ◌∙◌, arith}
+use Rattle.std.proofs.Common.{◌≡◌, ◌<◌, ℕ, None, length, get_or, ap, ◌∙◌, arith}
 use Rattle.vms_spec.specs.Layout.{no_desc}
 use Rattle.vms_spec.specs.Sets as sets
 use Rattle.vms_spec.specs.Sets.{AtLeast}
@@ -7,9 +7,9 @@ use Rattle.vms_parts.specs.declared.types.Sub.{Sub}
 use Rattle.vms_parts.specs.Views.{sub_of, device_of}
 use Rattle.vms_parts.proofs.Items.{get_map_at}
 use Rattle.vms_rules.specs.Judged.{IsFirst}
-use Rattle.vms_rules.specs.NameSets.{has_name, with_name}
+use Rattle.vms_rules.specs.NameSets.{has_name}
 use Rattle.vms_rules.specs.Walks.{subs_from, sub_at}
-use Rattle.vms_rules.proofs.DeviceLaws.{sub_names_more}
+use Rattle.vms_rules.proofs.NameLaws.{names_so_far}
 use Rattle.vms_rules.proofs.WalkLaws.{stops_by, place_good, place_stops}
 use Rattle.vms_rules.specs.declared.devices.Within.{Within}
 use Rattle.vms_rules.proofs.devices.check_subs.Goals.{After-sub-item}
@@ -27,7 +27,7 @@ sub_is c =
     let s = c.sub-item.result in
     let i = c.loop-number.number in
     let lt : i < length subs = omega (arith, ap length c.as_slice-sub-items.ensures) in
-    let is : s ≡ get_or subs i s = c.sub-item.is ∙ ap (λ (l : List Sub). get_or l i s) c.as_slice-sub-items.ensures in
+    let is : s ≡ get_or subs i s = cc (c.sub-item.is, c.as_slice-sub-items.ensures) in
     record { lt = lt; is = is; at = get_map_at sub_of subs i s (record { desc = no_desc; needed = AtLeast 0 }) lt is }
 
 pub returns-in_err-check_sub : goal.returns-in_err-check_sub
@@ -39,7 +39,7 @@ returns-in_err-check_sub c =
     let i = c.loop-number.number in
     let e = c.in_err-check_sub.field-0.0 in
     let of = sub_is (goal.at.returns-in_err-check_sub c).After-sub-item in
-    let first : IsFirst (sub_fault w.structs w.number d i (sub_of s)) e = subst (λ (x : sets.Sub). IsFirst (sub_fault w.structs w.number d i x) e) of.at c.in_err-check_sub.ensures in
+    let first : IsFirst (sub_fault w.structs w.number d i (sub_of s)) e = rw of.at at c.in_err-check_sub.ensures in
     let whole = subs_from w.structs w.number d 0 d.subs in
     stops_by whole c.from_residual-in_err-check_sub.result e c.from_residual-in_err-check_sub.ensures.1
     (place_stops (sub_fault w.structs w.number d) sub_of subs i s whole e of.lt of.is first c.loop-number.invariant.good)
@@ -52,10 +52,11 @@ loop-number-preserved c =
     let s = c.sub-item.result in
     let i = c.loop-number.number in
     let of = sub_is (goal.at.loop-number-preserved c).After-sub-item in
-    let good : sub_fault w.structs w.number d i (sub_of s) ≡ None = ap (λ (x : sets.Sub). sub_fault w.structs w.number d i x) (sym of.at) ∙ c.in_ok-check_sub.ensures in
-    let after : (n : List ℕ) → has_name c.add_name.new.names n ≡ with_name (has_name c.loop-number.names) s.desc.name n =
-    subst (λ (x : List ℕ). (n : List ℕ) → has_name c.add_name.new.names n ≡ with_name (has_name c.loop-number.names) x n) c.as_str.ensures c.in_ok-is_new.ensures.added in
+    let good : sub_fault w.structs w.number d i (sub_of s) ≡ None = cc (of.at, c.in_ok-check_sub.ensures) in
+    let after = rw c.as_str.ensures at c.in_ok-is_new.ensures.added in
     record {
-      names = sub_names_more subs i s (has_name c.loop-number.names) (has_name c.add_name.new.names) of.lt of.is c.loop-number.invariant.names after;
-      good = place_good (sub_fault w.structs w.number d) sub_of subs i s (subs_from w.structs w.number d 0 d.subs) of.lt of.is good c.loop-number.invariant.good;
+      names = names_so_far sub_of (λ e. e.desc.name) subs i s (has_name c.loop-number.names)
+          (has_name c.add_name.new.names) of.lt of.is c.loop-number.invariant.names after;
+      good = place_good (sub_fault w.structs w.number d) sub_of subs i s
+          (subs_from w.structs w.number d 0 d.subs) of.lt of.is good c.loop-number.invariant.good;
     }

@@ -14,6 +14,7 @@ returns c =
     let ds = map device_of c.args.devices.now in
     let i = c.args.number in
     let x = c.index-devices-number.result in
-    let at : numbered ds i ≡ device_of x = get_map_at device_of c.args.devices.now i x (record { instance = 0; desc = no_desc; subs = [] }) c.requires c.index-devices-number.is in
+    let at : numbered ds i ≡ device_of x =
+    get_map_at device_of c.args.devices.now i x (record { instance = 0; desc = no_desc; subs = [] }) c.requires c.index-devices-number.is in
     c.is_among.ensures ∙ sym (same_device x.desc.name x.instance i c.args.devices.now)
     ∙ ap (λ (d : sets.Device). list_any (is_same_device d.desc.name d.instance) (take i ds)) (sym at)

@@ -1,26 +1,28 @@
-use Rattle.std.proofs.Common.{◌≡◌, true, map, ◌<◌, List, Bool, None, length, get_or, sym, ap, subst, ◌∙◌, arith}
-use Rattle.vms_spec.specs.WellFormed.{failing, in_field, fields_fault}
-use Rattle.vms_parts.specs.declared.types.Field.{Field}
+use Rattle.std.proofs.Common.{◌≡◌, ◌<◌, None, length, get_or, ap, ◌∙◌, arith}
+use Rattle.vms_spec.specs.WellFormed.{fields_fault}
 use Rattle.vms_parts.specs.Views.{field_of, desc_of}
 use Rattle.vms_rules.specs.declared.fault.DescFault.TheVariants.{NoMemory}
 use Rattle.vms_rules.specs.Judged.{IsFirst}
-use Rattle.vms_rules.specs.NameSets.{has_name, key}
+use Rattle.vms_rules.specs.NameSets.{has_name}
 use Rattle.vms_rules.specs.Walks.{at_field}
 use Rattle.vms_rules.proofs.FieldLaws.{names_more}
-use Rattle.vms_rules.proofs.KeyLaws.{same, names_known}
-use Rattle.vms_spec.specs.Names.{all_names}
-use Rattle.std.specs.List.{IsDistinct}
+use Rattle.vms_rules.proofs.KeyLaws.{names_known}
 use Rattle.vms_rules.proofs.WalkLaws.{stops_by, place_good, place_stops}
 use Rattle.vms_rules.proofs.fields.check_fields.Goals as goal
 
 pub returns-in_err-capacities : goal.returns-in_err-capacities
-returns-in_err-capacities c = stops_by (fields_fault c.args.usable (desc_of c.args.desc.now) c.args.part) c.from_residual.result NoMemory c.from_residual.ensures.1 tt
+returns-in_err-capacities c =
+    stops_by (fields_fault c.args.usable (desc_of c.args.desc.now) c.args.part) c.from_residual.result NoMemory c.from_residual.ensures.1 tt
 
 pub returns-in_err-differ : goal.returns-in_err-differ
-returns-in_err-differ c = stops_by (fields_fault c.args.usable (desc_of c.args.desc.now) c.args.part) c.from_residual-in_err-differ.result NoMemory c.from_residual-in_err-differ.ensures.1 tt
+returns-in_err-differ c =
+    stops_by (fields_fault c.args.usable
+    (desc_of c.args.desc.now) c.args.part) c.from_residual-in_err-differ.result NoMemory c.from_residual-in_err-differ.ensures.1 tt
 
 pub returns-in_err-are_new : goal.returns-in_err-are_new
-returns-in_err-are_new c = stops_by (fields_fault c.args.usable (desc_of c.args.desc.now) c.args.part) c.from_residual-in_err-are_new.result NoMemory c.from_residual-in_err-are_new.ensures.1 tt
+returns-in_err-are_new c =
+    stops_by (fields_fault c.args.usable
+    (desc_of c.args.desc.now) c.args.part) c.from_residual-in_err-are_new.result NoMemory c.from_residual-in_err-are_new.ensures.1 tt
 
 pub field_rules-rules-requires-clause-names : goal.field_rules-rules-requires-clause-names
 field_rules-rules-requires-clause-names c =
@@ -28,8 +30,8 @@ field_rules-rules-requires-clause-names c =
     let f = c.index-fields-number.result in
     let i = c.loop-number.number in
     let lt : i < length fields = omega (arith, ap length c.as_slice-fields.ensures) in
-    let is : f ≡ get_or fields i f = c.index-fields-number.is ∙ ap (λ (l : List Field). get_or l i f) c.as_slice-fields.ensures in
-    let distinct = subst (λ (l : List Field). c.in_ok-differ.differ ≡ true → IsDistinct same (map key (all_names (map field_of l)))) c.as_slice-fields.ensures c.in_ok-differ.ensures in
+    let is : f ≡ get_or fields i f = cc (c.index-fields-number.is, c.as_slice-fields.ensures) in
+    let distinct = rw c.as_slice-fields.ensures at c.in_ok-differ.ensures in
     names_known fields i f (has_name c.loop-number.names) c.in_ok-differ.differ c.in_ok-are_new.are_new lt is distinct c.loop-number.invariant.names c.in_ok-are_new.ensures.new
 
 pub returns-in_err-lowest : goal.returns-in_err-lowest
@@ -40,9 +42,9 @@ returns-in_err-lowest c =
     let e = c.in_err-lowest.field-0.0 in
     let whole = fields_fault c.args.usable (desc_of c.args.desc.now) c.args.part in
     let lt : i < length fields = omega (arith, ap length c.as_slice-fields.ensures) in
-    let is : f ≡ get_or fields i f = c.index-fields-number.is ∙ ap (λ (l : List Field). get_or l i f) c.as_slice-fields.ensures in
+    let is : f ≡ get_or fields i f = cc (c.index-fields-number.is, c.as_slice-fields.ensures) in
     let first : IsFirst (at_field c.args.usable (desc_of c.args.desc.now) c.args.part i (field_of f)) e =
-    subst (λ (r : List Bool). IsFirst (failing 1 r (in_field c.args.part i)) e) c.field_rules-rules.ensures c.in_err-lowest.ensures in
+    rw c.field_rules-rules.ensures at c.in_err-lowest.ensures in
     stops_by whole c.from_residual-in_err-lowest.result e c.from_residual-in_err-lowest.ensures.1
     (place_stops (at_field c.args.usable (desc_of c.args.desc.now) c.args.part) field_of fields i f whole e lt is first c.loop-number.invariant.good)
 
@@ -53,10 +55,10 @@ loop-number-preserved c =
     let i = c.loop-number.number in
     let whole = fields_fault c.args.usable (desc_of c.args.desc.now) c.args.part in
     let lt : i < length fields = omega (arith, ap length c.as_slice-fields.ensures) in
-    let is : f ≡ get_or fields i f = c.index-fields-number.is ∙ ap (λ (l : List Field). get_or l i f) c.as_slice-fields.ensures in
-    let good : at_field c.args.usable (desc_of c.args.desc.now) c.args.part i (field_of f) ≡ None =
-    ap (λ (r : List Bool). failing 1 r (in_field c.args.part i)) (sym c.field_rules-rules.ensures) ∙ c.in_ok-lowest.ensures in
+    let is : f ≡ get_or fields i f = cc (c.index-fields-number.is, c.as_slice-fields.ensures) in
+    let good : at_field c.args.usable (desc_of c.args.desc.now) c.args.part i (field_of f) ≡ None = cc (c.field_rules-rules.ensures, c.in_ok-lowest.ensures) in
     record {
-      names = λ e. names_more fields i f (has_name c.loop-number.names) (has_name c.are_new_names.new.names) lt is (c.loop-number.invariant.names e) (c.in_ok-are_new.ensures.added e);
+      names = λ e. names_more fields i f (has_name c.loop-number.names) (has_name c.are_new_names.new.names) lt is (c.loop-number.invariant.names e)
+          (c.in_ok-are_new.ensures.added e);
       good = place_good (at_field c.args.usable (desc_of c.args.desc.now) c.args.part) field_of fields i f whole lt is good c.loop-number.invariant.good;
     }

@@ -10,5 +10,6 @@ use Rattle.vms_rules.proofs.fields.check_fields.Given as goal
 abbrev pub invariant-loop-number : goal.invariant-loop-number
 invariant-loop-number l = record {
   names : l.differ ≡ false → (n : List ℕ) → has_name l.names n ≡ is_one_of (all_names (map field_of (take l.number l.fn.desc.fields))) n;
-  good : fields_from l.fn.usable (desc_of l.fn.desc) l.fn.part l.number (map field_of (drop l.number l.fn.desc.fields)) ≡ fields_fault l.fn.usable (desc_of l.fn.desc) l.fn.part;
+  good : fields_from l.fn.usable (desc_of l.fn.desc) l.fn.part l.number (map field_of (drop l.number l.fn.desc.fields)) ≡ fields_fault l.fn.usable
+      (desc_of l.fn.desc) l.fn.part;
 }

@@ -8,7 +8,8 @@ use Rattle.vms_rules.proofs.names.is_sub_name.Goals as goal
 pub returns-then-has_front : goal.returns-then-has_front
 returns-then-has_front c =
     let tail = drop (length c.args.device.now + 1) c.args.name.now in
-    c.is_name.ensures ∙ ap (λ (l : List ℕ). is_name 64 l) (take_all (length c.args.name.now - (length c.args.device.now + 1)) tail (omega (arith, length-drop (length c.args.device.now + 1) c.args.name.now)))
+    c.is_name.ensures ∙ ap (λ (l : List ℕ). is_name 64 l)
+    (take_all (length c.args.name.now - (length c.args.device.now + 1)) tail (omega (arith, length-drop (length c.args.device.now + 1) c.args.name.now)))
     ∙ sym
     (sub_name_parts c.args.device.now c.args.name.now (omega arith)
     ∙ ap (λ (b : Bool). b && is_name 64 (drop (length c.args.device.now + 1) c.args.name.now)) (sym c.has_front.ensures ∙ c.if-has_front.true))

@@ -1,10 +1,8 @@
-use Rattle.std.proofs.Common.{◌≡◌, List, Bool, Option, None, map, sym, ap, subst, ◌∙◌}
+use Rattle.std.proofs.Common.{◌≡◌, None, ◌∙◌}
 use Rattle.vms_spec.specs.declared.Part.TheVariants as parts
-use Rattle.vms_spec.specs.declared.Place.{Place}
-use Rattle.vms_spec.specs.WellFormed.{SetFault, failing, here, set_rules, first_fault}
-use Rattle.vms_parts.specs.declared.types.Desc.{Desc}
-use Rattle.vms_parts.specs.Views.{desc_of, set_of}
-use Rattle.vms_rules.specs.Judged.{IsFirst, Judges}
+use Rattle.vms_spec.specs.WellFormed.{failing, here, set_rules, first_fault}
+use Rattle.vms_parts.specs.Views.{set_of}
+use Rattle.vms_rules.specs.Judged.{IsFirst}
 use Rattle.vms_rules.specs.Walks.{structs_from}
 use Rattle.vms_rules.proofs.SetLaws.{set_stops, structs_stop, devices_stop, items_left}
 use Rattle.vms_rules.proofs.WalkLaws.{stops_by}
@@ -13,20 +11,17 @@ use Rattle.vms_rules.proofs.sets.check.Goals as goal
 
 -- the set's own rules hold
 own_good : (c : In_ok-lowest) → failing 1 (set_rules (set_of c.args.parts.now)) (here parts.Set) ≡ None
-own_good c =
-    let set = set_of c.args.parts.now in
-    ap (λ (q : Place). failing 1 (set_rules set) q) (sym c.here-place.ensures) ∙ ap (λ (r : List Bool). failing 1 r c.here-place.result) (sym c.in_ok-set_rules.ensures) ∙ c.in_ok-lowest.ensures
+own_good c = cc (c.here-place.ensures, c.in_ok-set_rules.ensures, c.in_ok-lowest.ensures)
 
 -- and so do those of its structures
 structs_good : (c : In_ok-check_structs) → structs_from (set_of c.args.parts.now).structs 0 (set_of c.args.parts.now).structs ≡ None
-structs_good c = ap (λ (l : List Desc). structs_from (map desc_of l) 0 (map desc_of l)) (sym c.as_slice.ensures) ∙ c.in_ok-check_structs.ensures
+structs_good c = cc (c.as_slice.ensures, c.in_ok-check_structs.ensures)
 
 pub returns-in_err-lowest : goal.returns-in_err-lowest
 returns-in_err-lowest c =
     let set = set_of c.args.parts.now in
     let e = c.in_err-lowest.field-0.0 in
-    let first : IsFirst (failing 1 (set_rules set) (here parts.Set)) e =
-    subst (λ (q : Place). IsFirst (failing 1 (set_rules set) q) e) c.here-place.ensures (subst (λ (r : List Bool). IsFirst (failing 1 r c.here-place.result) e) c.in_ok-set_rules.ensures c.in_err-lowest.ensures) in
+    let first : IsFirst (failing 1 (set_rules set) (here parts.Set)) e = rw (c.in_ok-set_rules.ensures, c.here-place.ensures) at c.in_err-lowest.ensures in
     stops_by (first_fault set) c.from_residual-in_err-lowest.result e c.from_residual-in_err-lowest.ensures.1 (set_stops set e first)
 
 pub returns-in_err-check_structs : goal.returns-in_err-check_structs
@@ -34,7 +29,7 @@ returns-in_err-check_structs c =
     let set = set_of c.args.parts.now in
     let e = c.in_err-check_structs.field-0.0 in
     let good = own_good (goal.at.returns-in_err-check_structs c).In_ok-lowest in
-    let first : IsFirst (structs_from set.structs 0 set.structs) e = subst (λ (l : List Desc). IsFirst (structs_from (map desc_of l) 0 (map desc_of l)) e) c.as_slice.ensures c.in_err-check_structs.ensures in
+    let first : IsFirst (structs_from set.structs 0 set.structs) e = rw c.as_slice.ensures at c.in_err-check_structs.ensures in
     stops_by (first_fault set) c.from_residual-in_err-check_structs.result e c.from_residual-in_err-check_structs.ensures.1 (structs_stop set e good first)
 
 pub returns-in_err-check_devices : goal.returns-in_err-check_devices
@@ -43,7 +38,8 @@ returns-in_err-check_devices c =
     let e = c.in_err-check_devices.field-0.0 in
     let good = own_good (goal.at.returns-in_err-check_devices c).In_ok-lowest in
     let structs = structs_good (goal.at.returns-in_err-check_devices c).In_ok-check_structs in
-    stops_by (first_fault set) c.from_residual-in_err-check_devices.result e c.from_residual-in_err-check_devices.ensures.1 (devices_stop set e good structs c.in_err-check_devices.ensures)
+    stops_by (first_fault set) c.from_residual-in_err-check_devices.result e c.from_residual-in_err-check_devices.ensures.1
+    (devices_stop set e good structs c.in_err-check_devices.ensures)
 
 pub returns : goal.returns
 returns c =
@@ -51,6 +47,5 @@ returns c =
     let good = own_good (goal.at.returns c).In_ok-lowest in
     let structs = structs_good (goal.at.returns c).In_ok-check_structs in
     let left : first_fault set ≡ failing 1 c.in_ok-size_rules.field-0 c.here-place.result =
-    items_left set good structs c.in_ok-check_devices.ensures ∙ ap (λ (r : List Bool). failing 1 r (here parts.Set)) (sym c.in_ok-size_rules.ensures)
-    ∙ ap (λ (q : Place). failing 1 c.in_ok-size_rules.field-0 q) (sym c.here-place.ensures) in
-    subst (λ (o : Option SetFault). Judges o c.lowest-2.result) (sym left) c.lowest-2.ensures
+    cc (items_left set good structs c.in_ok-check_devices.ensures, c.in_ok-size_rules.ensures, c.here-place.ensures) in
+    rw left c.lowest-2.ensures

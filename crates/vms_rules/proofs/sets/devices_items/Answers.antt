@@ -25,11 +25,20 @@ loop-device-preserved c =
     let sizes = c.args.sizes.now in
     let d = c.device-item.result in
     let own : c.size_of_fields-own.result ≡ in_u32 (items_in sizes (map field_of d.desc.fields)) =
-    c.size_of_fields-own.ensures ∙ ap (λ (l : List Field). in_u32 (fields_size Items sizes (map field_of l))) c.as_slice.ensures ∙ ap in_u32 (sym (items_are sizes (map field_of d.desc.fields))) in
+    c.size_of_fields-own.ensures ∙ ap (λ (l : List Field). in_u32 (fields_size Items sizes (map field_of l))) c.as_slice.ensures ∙ ap in_u32
+    (sym (items_are sizes (map field_of d.desc.fields))) in
     let subs : c.size_of_subs-subs.result ≡ in_u32 (subs_items sizes (map sub_of d.subs)) =
-    c.size_of_subs-subs.ensures ∙ ap (λ (l : List Sub). in_u32 (subs_size Items sizes (map sub_of l))) c.as_slice-in-loop-device.ensures ∙ ap in_u32 (sym (subs_are sizes (map sub_of d.subs))) in
-    let has : c.saturating_add-sum.result ≡ in_u32 (c.loop-device.sum + one sizes d) = let first = c.saturating_add.ensures in let sum = c.saturating_add-sum.ensures in omega (arith, first, sum, own, subs) in
-    record { small = c.saturating_add-sum.type_inv; whole = sum_goes (whole sizes) (one sizes) refl (adds sizes) c.args.devices.now c.loop-device.device-index c.loop-device.sum c.saturating_add-sum.result _ d c.loop-device-test.true c.device-item.is has c.loop-device.invariant.whole }
+    c.size_of_subs-subs.ensures ∙ ap (λ (l : List Sub). in_u32 (subs_size Items sizes (map sub_of l))) c.as_slice-in-loop-device.ensures ∙ ap in_u32
+    (sym (subs_are sizes (map sub_of d.subs))) in
+    let has : c.saturating_add-sum.result ≡ in_u32 (c.loop-device.sum + one sizes d) =
+    let first = c.saturating_add.ensures in let sum = c.saturating_add-sum.ensures in omega (arith, first, sum, own, subs) in
+    record {
+      small = c.saturating_add-sum.type_inv;
+      whole = sum_goes (whole sizes) (one sizes) refl
+          (adds sizes) c.args.devices.now c.loop-device.device-index c.loop-device.sum c.saturating_add-sum.result _ d c.loop-device-test.true c.device-item.is has c.loop-device.invariant.whole;
+    }
 
 pub returns : goal.returns
-returns c = sum_ends (whole c.args.sizes.now) (one c.args.sizes.now) refl (adds c.args.sizes.now) c.args.devices.now c.loop-device.device-index c.loop-device.sum _ c.loop-device-test.false c.loop-device.invariant.small c.loop-device.invariant.whole
+returns c =
+    sum_ends (whole c.args.sizes.now) (one c.args.sizes.now) refl
+    (adds c.args.sizes.now) c.args.devices.now c.loop-device.device-index c.loop-device.sum _ c.loop-device-test.false c.loop-device.invariant.small c.loop-device.invariant.whole

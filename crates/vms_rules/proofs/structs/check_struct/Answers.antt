@@ -1,13 +1,12 @@
-use Rattle.std.proofs.Common.{◌≡◌, List, Bool, Option, None, map, sym, ap, subst, ◌∙◌}
+use Rattle.std.proofs.Common.{◌≡◌, None, map, ◌∙◌}
 use Rattle.vms_spec.specs.declared.Part.TheVariants.{Struct}
-use Rattle.vms_spec.specs.declared.Place.{Place}
 use Rattle.vms_spec.specs.Layout.{no_desc}
 use Rattle.vms_spec.specs.Lists.{or_else}
 use Rattle.vms_spec.specs.Sets as sets
-use Rattle.vms_spec.specs.WellFormed.{SetFault, failing, here, fields_fault, validations_fault, struct_rules, struct_fault}
+use Rattle.vms_spec.specs.WellFormed.{failing, here, fields_fault, validations_fault, struct_rules, struct_fault}
 use Rattle.vms_parts.specs.Views.{desc_of}
 use Rattle.vms_parts.proofs.Items.{get_map_at}
-use Rattle.vms_rules.specs.Judged.{IsFirst, Judges}
+use Rattle.vms_rules.specs.Judged.{IsFirst}
 use Rattle.vms_rules.specs.Walks.{desc_at}
 use Rattle.vms_rules.proofs.WalkLaws.{stops_by, first_stops, judged_after}
 use Rattle.vms_rules.proofs.structs.check_struct.Goals as goal
@@ -18,10 +17,7 @@ returns-in_err-lowest c =
     let i = c.args.number in
     let d = desc_at structs i in
     let e = c.in_err-lowest.field-0.0 in
-    let first : IsFirst (failing 1 (struct_rules structs i d) (here (Struct i))) e =
-    subst (λ (o : Option SetFault). IsFirst o e)
-    (ap (λ (r : List Bool). failing 1 r c.here.result) c.requires.rules ∙ ap (λ (q : Place). failing 1 (struct_rules structs i d) q) c.here.ensures)
-    c.in_err-lowest.ensures in
+    let first : IsFirst (failing 1 (struct_rules structs i d) (here (Struct i))) e = rw (c.requires.rules, c.here.ensures) at c.in_err-lowest.ensures in
     stops_by (struct_fault structs i d) c.from_residual.result e c.from_residual.ensures.1
     (first_stops (failing 1 (struct_rules structs i d) (here (Struct i))) (or_else (fields_fault i d (Struct i)) (validations_fault d (Struct i))) e first)
 
@@ -31,9 +27,8 @@ returns c =
     let i = c.args.number in
     let d = desc_at structs i in
     let x = c.index-structs-number.result in
-    let at : d ≡ desc_of x = get_map_at desc_of c.args.structs.now i x no_desc c.requires.there c.index-structs-number.is in
-    let good : failing 1 (struct_rules structs i d) (here (Struct i)) ≡ None =
-    ap (λ (q : Place). failing 1 (struct_rules structs i d) q) (sym c.here.ensures)
-    ∙ ap (λ (r : List Bool). failing 1 r c.here.result) (sym c.requires.rules) ∙ c.in_ok-lowest.ensures in
-    judged_after (failing 1 (struct_rules structs i d) (here (Struct i))) (or_else (fields_fault i d (Struct i)) (validations_fault d (Struct i))) c.check_inside.result good
-    (subst (λ (y : sets.Desc). Judges (or_else (fields_fault i y (Struct i)) (validations_fault y (Struct i))) c.check_inside.result) (sym at) c.check_inside.ensures)
+    let same : d ≡ desc_of x = get_map_at desc_of c.args.structs.now i x no_desc c.requires.there c.index-structs-number.is in
+    let good : failing 1 (struct_rules structs i d) (here (Struct i)) ≡ None = cc (c.here.ensures, c.requires.rules, c.in_ok-lowest.ensures) in
+    judged_after (failing 1 (struct_rules structs i d) (here (Struct i)))
+    (or_else (fields_fault i d (Struct i)) (validations_fault d (Struct i))) c.check_inside.result good
+    (rw same c.check_inside.ensures)

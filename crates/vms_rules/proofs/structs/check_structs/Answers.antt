@@ -1,13 +1,14 @@
-use Rattle.std.proofs.Common.{◌≡◌, List, ℕ, None, map, sym, ap, subst, ◌∙◌, arith}
+use Rattle.std.proofs.Common.{◌≡◌, None, map, ◌∙◌, arith}
 use Rattle.vms_spec.specs.Layout.{no_desc}
 use Rattle.vms_spec.specs.Sets as sets
 use Rattle.vms_spec.specs.WellFormed.{struct_fault}
 use Rattle.vms_parts.specs.Views.{desc_of}
 use Rattle.vms_parts.proofs.Items.{get_map_at}
 use Rattle.vms_rules.specs.Judged.{IsFirst}
-use Rattle.vms_rules.specs.NameSets.{has_name, with_name}
+use Rattle.vms_rules.specs.NameSets.{has_name}
 use Rattle.vms_rules.specs.Walks.{structs_from, desc_at}
-use Rattle.vms_rules.proofs.StructLaws.{struct_names_more, depths_long, depth_at}
+use Rattle.vms_rules.proofs.NameLaws.{names_so_far}
+use Rattle.vms_rules.proofs.StructLaws.{depths_long, depth_at}
 use Rattle.vms_rules.proofs.WalkLaws.{stops_by, place_good, place_stops}
 use Rattle.vms_rules.proofs.structs.check_structs.Goals.{After-index-structs-number}
 use Rattle.vms_rules.proofs.structs.check_structs.Goals as goal
@@ -16,7 +17,8 @@ pub index-requires : goal.index-requires
 index-requires c = omega (arith, depths_long c.args.structs.now c.in_ok-depths.depths.items c.in_ok-depths.ensures)
 
 pub struct_rules-rules-requires-clause-depth : goal.struct_rules-rules-requires-clause-depth
-struct_rules-rules-requires-clause-depth c = depth_at c.args.structs.now c.in_ok-depths.depths.items c.loop-number.number c.index.result.now c.loop-number-test.true c.in_ok-depths.ensures c.index.ensures
+struct_rules-rules-requires-clause-depth c =
+    depth_at c.args.structs.now c.in_ok-depths.depths.items c.loop-number.number c.index.result.now c.loop-number-test.true c.in_ok-depths.ensures c.index.ensures
 
 desc_is : (c : After-index-structs-number) → desc_at (map desc_of c.args.structs.now) c.loop-number.number ≡ desc_of c.index-structs-number.result
 desc_is c = get_map_at desc_of c.args.structs.now c.loop-number.number c.index-structs-number.result no_desc c.loop-number-test.true c.index-structs-number.is
@@ -28,10 +30,11 @@ returns-in_err-check_struct c =
     let d = c.index-structs-number.result in
     let i = c.loop-number.number in
     let e = c.in_err-check_struct.field-0.0 in
-    let at = desc_is (goal.at.returns-in_err-check_struct c).After-index-structs-number in
-    let first : IsFirst (struct_fault ds i (desc_of d)) e = subst (λ (x : sets.Desc). IsFirst (struct_fault ds i x) e) at c.in_err-check_struct.ensures in
+    let here = desc_is (goal.at.returns-in_err-check_struct c).After-index-structs-number in
+    let first : IsFirst (struct_fault ds i (desc_of d)) e = rw here at c.in_err-check_struct.ensures in
     stops_by (structs_from ds 0 ds) c.from_residual-in_err-check_struct.result e c.from_residual-in_err-check_struct.ensures.1
-    (place_stops (struct_fault ds) desc_of structs i d (structs_from ds 0 ds) e c.loop-number-test.true c.index-structs-number.is first c.loop-number.invariant.good)
+    (place_stops (struct_fault ds) desc_of structs i d
+    (structs_from ds 0 ds) e c.loop-number-test.true c.index-structs-number.is first c.loop-number.invariant.good)
 
 pub loop-number-preserved : goal.loop-number-preserved
 loop-number-preserved c =
@@ -40,10 +43,11 @@ loop-number-preserved c =
     let d = c.index-structs-number.result in
     let i = c.loop-number.number in
     let at = desc_is (goal.at.loop-number-preserved c).After-index-structs-number in
-    let good : struct_fault ds i (desc_of d) ≡ None = ap (λ (x : sets.Desc). struct_fault ds i x) (sym at) ∙ c.in_ok-check_struct.ensures in
-    let after : (n : List ℕ) → has_name c.add_name.new.names n ≡ with_name (has_name c.loop-number.names) d.name n =
-    subst (λ (x : List ℕ). (n : List ℕ) → has_name c.add_name.new.names n ≡ with_name (has_name c.loop-number.names) x n) c.as_str.ensures c.in_ok-is_new.ensures.added in
+    let good : struct_fault ds i (desc_of d) ≡ None = cc (at, c.in_ok-check_struct.ensures) in
+    let after = rw c.as_str.ensures at c.in_ok-is_new.ensures.added in
     record {
-      names = struct_names_more structs i d (has_name c.loop-number.names) (has_name c.add_name.new.names) c.loop-number-test.true c.index-structs-number.is c.loop-number.invariant.names after;
-      good = place_good (struct_fault ds) desc_of structs i d (structs_from ds 0 ds) c.loop-number-test.true c.index-structs-number.is good c.loop-number.invariant.good;
+      names = names_so_far desc_of (λ e. e.name) structs i d (has_name c.loop-number.names)
+          (has_name c.add_name.new.names) c.loop-number-test.true c.index-structs-number.is c.loop-number.invariant.names after;
+      good = place_good (struct_fault ds) desc_of structs i d
+          (structs_from ds 0 ds) c.loop-number-test.true c.index-structs-number.is good c.loop-number.invariant.good;
     }

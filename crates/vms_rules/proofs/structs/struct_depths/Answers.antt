@@ -1,7 +1,6 @@
-use Rattle.std.proofs.Common.{◌≡◌, ◌+◌, ◌≤◌, List, ℕ, get_or, map, sym, ap, subst, ◌∙◌, arith}
+use Rattle.std.proofs.Common.{◌≡◌, ◌+◌, ◌≤◌, ℕ, map, ap, ◌∙◌, arith}
 use Rattle.vms_spec.specs.Layout.{first}
 use Rattle.vms_spec.specs.WellFormed.{deepest}
-use Rattle.vms_parts.specs.declared.types.Field.{Field}
 use Rattle.vms_parts.specs.Views.{field_of}
 use Rattle.vms_rules.proofs.StructLaws.{deepest_small, depths_more, depths_small, none_small}
 use Rattle.vms_rules.proofs.structs.struct_depths.Goals as goal
@@ -17,7 +16,7 @@ pub overflow_add-deepest : goal.overflow_add-deepest
 overflow_add-deepest c =
     let depths = c.loop-desc.depths.items in
     let fields = map field_of c.as_slice.result.now in
-    let is : c.deepest.result ≡ deepest depths fields = c.deepest.ensures ∙ ap (λ (l : List ℕ). deepest l fields) c.deref.ensures.value in
+    let is : c.deepest.result ≡ deepest depths fields = cc (c.deepest.ensures, c.deref.ensures.value) in
     let small : deepest depths fields ≤ c.loop-desc.desc-index = deepest_small depths c.loop-desc.desc-index fields c.loop-desc.invariant.small in
     omega (arith, is, small)
 
@@ -27,10 +26,11 @@ loop-desc-preserved c =
     let d = c.desc-item.result in
     let i = c.loop-desc.desc-index in
     let is : c.deepest.result ≡ deepest depths (map field_of d.fields) =
-    c.deepest.ensures ∙ ap (λ (l : List ℕ). deepest l (map field_of c.as_slice.result.now)) c.deref.ensures.value ∙ ap (λ (l : List Field). deepest depths (map field_of l)) c.as_slice.ensures in
+    cc (c.deepest.ensures, c.deref.ensures.value, c.as_slice.ensures) in
     let small : deepest depths (map field_of d.fields) ≤ i = deepest_small depths i (map field_of d.fields) c.loop-desc.invariant.small in
     record {
       depths = c.in_ok-push.ensures.items
-          ∙ depths_more c.args.structs.now depths i (1 + c.deepest.result) d c.loop-desc-test.true c.desc-item.is c.loop-desc.invariant.depths (ap (λ (n : ℕ). 1 + n) is);
-      small = λ j. subst (λ (l : List ℕ). get_or l j 0 ≤ i + 1) (sym c.in_ok-push.ensures.items) (depths_small depths i (1 + c.deepest.result) j c.loop-desc.invariant.small (omega (arith, is, small)));
+          ∙ depths_more c.args.structs.now depths i (1 + c.deepest.result) d c.loop-desc-test.true c.desc-item.is c.loop-desc.invariant.depths
+          (ap (λ (n : ℕ). 1 + n) is);
+      small = λ j. rw c.in_ok-push.ensures.items (depths_small depths i (1 + c.deepest.result) j c.loop-desc.invariant.small (omega (arith, is, small)));
     }

@@ -23,8 +23,8 @@ use Rattle.vms_selfdesc.proofs.fields.+list.Goals as goal
 
 -- ---- one element
 
-pub list_item-list_part-requires : goal.list_item-list_part-requires
-list_item-list_part-requires t c =
+pub list_item-list_struct-requires : goal.list_item-list_struct-requires
+list_item-list_struct-requires t c =
     let set = described c.args.lister.now.set.now in
     let well = c.args.lister.now.set.now.well_formed in
     let item = c.args.field.now.item in
@@ -45,8 +45,8 @@ list_item-enter-requires t c = omega (arith, c.requires.deep, ap item_levels c.i
 
 pub list_item-leave-requires-clause-text : goal.list_item-leave-requires-clause-text
 list_item-leave-requires-clause-text t c =
-    (enters c.args.draft.now.path.text c.list_part.new.draft.path.text c.len-kept.result (codes ".") c.len-kept.ensures
-    (c.list_part.ensures.path ∙ c.enter.ensures)).text
+    (enters c.args.draft.now.path.text c.list_struct.new.draft.path.text c.len-kept.result (codes ".") c.len-kept.ensures
+    (c.list_struct.ensures.path ∙ c.enter.ensures)).text
 
 pub list_item-returns-in-Struct : goal.list_item-returns-in-Struct
 list_item-returns-in-Struct t c =
@@ -59,10 +59,10 @@ list_item-returns-in-Struct t c =
     let same = struct_list set well item j c.in-Struct.is c.requires.cells.reaches c.args.field.now.default c.args.place.sent (string_bytes draft.path.text)
     (string_bytes c.enter.new.self.text) n c.args.place.cell
     c.enter.ensures in
-    let entered = enters draft.path.text c.list_part.new.draft.path.text c.len-kept.result (codes ".") c.len-kept.ensures
-    (c.list_part.ensures.path ∙ c.enter.ensures) in
-    subst (λ (l : List Entry). Lists draft (record { text = c.list_part.new.draft.text; path = c.leave.new.self; later = c.list_part.new.draft.later }) l) same
-    (leave_path draft c.enter.new.self c.leave.new.self c.list_part.new.draft _ c.list_part.ensures (c.leave.ensures ∙ entered.back))
+    let entered = enters draft.path.text c.list_struct.new.draft.path.text c.len-kept.result (codes ".") c.len-kept.ensures
+    (c.list_struct.ensures.path ∙ c.enter.ensures) in
+    subst (λ (l : List Entry). Lists draft (record { text = c.list_struct.new.draft.text; path = c.leave.new.self; later = c.list_struct.new.draft.later }) l) same
+    (leave_path draft c.enter.new.self c.leave.new.self c.list_struct.new.draft _ c.list_struct.ensures (c.leave.ensures ∙ entered.back))
 
 pub list_item-list_sent-requires-clause-word : goal.list_item-list_sent-requires-clause-word
 list_item-list_sent-requires-clause-word t c = name_plain (codes "equal") refl

@@ -9,19 +9,22 @@ use Rattle.vms_desc.proofs.Ranks.{item_rank, part_rank}
 use Rattle.vms_selfdesc.proofs.fields.+list.Given as goal
 
 abbrev pub decreases-list_item : goal.decreases-list_item
-decreases-list_item l = item_rank l.field.now.item
+decreases-list_item l = 2 * item_rank l.field.now.item
 
 abbrev pub decreases-list_elements : goal.decreases-list_elements
-decreases-list_elements l = item_rank l.field.now.item + 1
+decreases-list_elements l = 2 * item_rank l.field.now.item + 1
 
 abbrev pub decreases-list_run : goal.decreases-list_run
-decreases-list_run l = item_rank l.field.now.item + 2
+decreases-list_run l = 2 * item_rank l.field.now.item + 2
 
 abbrev pub decreases-list_field : goal.decreases-list_field
-decreases-list_field l = part_rank (described l.lister.now.set.now) l.part + 3
+decreases-list_field l = 2 * part_rank (described l.lister.now.set.now) l.part + 3
 
 abbrev pub decreases-list_part : goal.decreases-list_part
-decreases-list_part l = part_rank (described l.lister.now.set.now) l.part + 4
+decreases-list_part l = 2 * part_rank (described l.lister.now.set.now) l.part + 4
+
+abbrev pub decreases-list_struct : goal.decreases-list_struct
+decreases-list_struct l = 10 * l.number + 5
 
 abbrev pub invariant-list_elements-loop-number : goal.invariant-list_elements-loop-number
 invariant-list_elements-loop-number l =

@@ -1,11 +1,8 @@
-use Rattle.std.proofs.Common.{length, ap, ◌∙◌}
-use Rattle.vms_desc.specs.Described.{described}
-use Rattle.vms_image.specs.Typed.{IsImageOf}
-use Rattle.vms_values.proofs.ImageRead.{default_of, default_kinds, own_spot, alike_kept, image_of}
+use Rattle.vms_values.proofs.Facade.{length, ap, ◌∙◌, described, IsImageOf}
+use Rattle.vms_values.proofs.DeviceLemmas.{default_of, default_kinds, own_spot, alike_kept, image_of, of_alike, subs_alike}
 use Rattle.vms_values.proofs.KindsAt.{own_kinds}
-use Rattle.vms_values.proofs.SubsReading.{of_alike, subs_alike}
-use Rattle.vms_values.proofs.devices.read_device.Goals as goal
 use Rattle.vms_values.proofs.devices.read_device.Goals.{In_ok-read_subs}
+use Rattle.vms_values.proofs.devices.read_device.Goals as goal
 
 pub read_part-requires-clause-spot : goal.read_part-requires-clause-spot
 read_part-requires-clause-spot c =

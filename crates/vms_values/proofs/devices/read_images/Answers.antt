@@ -1,12 +1,6 @@
-use Rattle.std.proofs.Common.{rules, ◌≡◌, ◌<◌, ◌∷◌, ◌++◌, [], length, map, ap, ◌∙◌, arith}
-use Rattle.std.proofs.lemmas.Result.{err_from_is_err_and}
-use Rattle.std.proofs.lemmas.List.{length-map, map-append}
-use Rattle.vms_spec.specs.Sets.{Set}
-use Rattle.vms_parts.specs.Views.{device_of}
-use Rattle.vms_desc.specs.Described.{described}
-use Rattle.vms_image.specs.Typed.{state_of}
-use Rattle.vms_values.proofs.Gathering.{gathered_next, gathered_refused, gathered_all}
-use Rattle.vms_values.proofs.ImageRead.{first_more, first_all}
+use Rattle.vms_values.proofs.Facade.{rules, ◌≡◌, ◌<◌, ◌∷◌, ◌++◌, [], length, map, ap, ◌∙◌, arith, err_from_is_err_and, length-map, map-append, Set, device_of}
+use Rattle.vms_values.proofs.Facade.{described, state_of}
+use Rattle.vms_values.proofs.DeviceLemmas.{gathered_next, gathered_refused, gathered_all, first_more, first_all}
 use Rattle.vms_values.proofs.devices.read_images.Goals as goal
 
 pub loop-device-preserved : goal.loop-device-preserved

@@ -1,10 +1,5 @@
-use Rattle.std.proofs.Common.{drop, map}
-use Rattle.vms_spec.specs.ValuesReading.{read_devices}
-use Rattle.vms_desc.specs.Described.{described}
-use Rattle.vms_image.specs.Typed.{state_of}
-use Rattle.vms_values.specs.Judging.{bad_of}
-use Rattle.vms_values.proofs.Gathering.{Gathered}
-use Rattle.vms_values.proofs.ImageRead.{AreFirstImages}
+use Rattle.vms_values.proofs.Facade.{drop, map, read_devices, described, state_of, bad_of}
+use Rattle.vms_values.proofs.DeviceLemmas.{Gathered, AreFirstImages}
 use Rattle.vms_values.proofs.devices.read_images.Given as goal
 
 abbrev pub invariant-loop-device : goal.invariant-loop-device

@@ -1,19 +1,11 @@
-use Rattle.std.proofs.Common.{Err, Option, Some, None, Result, IfOk, rules, length, ap, refl, sym, ◌∙◌, subst, arith}
-use Rattle.std.proofs.lemmas.Result.{err_from_is_err_and}
-use Rattle.vms_spec.specs.Sets.{Set}
-use Rattle.vms_spec.specs.ValuesReading.{read_devices, ended}
-use Rattle.vms_desc.specs.Described.{described}
-use Rattle.vms_image.specs.Typed.{AreImagesOf}
-use Rattle.vms_values.specs.DevicesRead.{ToldAs}
+use Rattle.vms_values.proofs.Facade.{Err, Option, Some, None, Result, IfOk, rules, length, ap, refl, sym, ◌∙◌, subst, arith, err_from_is_err_and, Set}
+use Rattle.vms_values.proofs.Facade.{read_devices, ended, described, AreImagesOf, ToldAs, ReadsBy, LineFault, few_machines}
 use Rattle.vms_values.specs.declared.judge.BadLine.{BadLine}
-use Rattle.vms_values.specs.Reading.{ReadsBy}
 use Rattle.vms_values.specs.declared.fault.Values.{Values as Given}
-use Rattle.vms_values.specs.declared.fault.LineFault.{LineFault}
 use Rattle.vms_values.proofs.DeviceLemmas.{top, said_so}
 use Rattle.vms_values.proofs.ReadLemmas.{nil_of, some_of}
 use Rattle.vms_values.proofs.WholeText.{text_told, text_longer, text_refused}
 use Rattle.vms_values.proofs.devices.read_lines.Goals as goal
-use Rattle.vms_desc.proofs.Bounds.{few_machines}
 
 pub read_machine-start-requires : goal.read_machine-start-requires
 read_machine-start-requires c =

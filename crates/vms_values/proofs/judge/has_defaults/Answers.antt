@@ -1,6 +1,4 @@
-use Rattle.std.proofs.Common.{◌∙◌, arith}
-use Rattle.vms_desc.specs.Described.{described}
-use Rattle.vms_desc.proofs.AskLaws.{sub_inside}
+use Rattle.vms_values.proofs.Facade.{◌∙◌, arith, described, sub_inside}
 use Rattle.vms_values.proofs.JudgeLemmas.{bare_defaults}
 use Rattle.vms_values.proofs.judge.has_defaults.Goals as goal
 

@@ -1,8 +1,5 @@
-use Rattle.std.proofs.Common.{◌≡◌, map, ap, sym, ◌∙◌}
-use Rattle.vms_spec.specs.Sets.{Set}
-use Rattle.vms_desc.specs.Described.{described}
-use Rattle.vms_parts.specs.Views.{desc_of}
-use Rattle.vms_values.proofs.Unruled.{own_rules}
+use Rattle.vms_values.proofs.Facade.{◌≡◌, map, ap, sym, ◌∙◌, Set, described, desc_of}
+use Rattle.vms_values.proofs.JudgeLemmas.{own_rules}
 use Rattle.vms_values.proofs.judge.hold_rules.Goals as goal
 
 pub returns-then-are_unruled : goal.returns-then-are_unruled

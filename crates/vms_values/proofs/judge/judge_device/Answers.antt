@@ -1,12 +1,8 @@
-use Rattle.std.proofs.Common.{◌≡◌, ◌<◌, ℕ, true, length, get_or, refl, ap, sym, ◌∙◌, arith}
-use Rattle.vms_spec.specs.Images.{own_slots}
-use Rattle.vms_spec.specs.Readiness.{rules_are_true}
-use Rattle.vms_desc.specs.Described.{described, device_at}
-use Rattle.vms_image.specs.Typed.{state_of}
-use Rattle.vms_values.specs.Judging.{read_of}
+use Rattle.vms_values.proofs.Facade.{◌≡◌, ◌<◌, ℕ, true, length, get_or, refl, ap, sym, ◌∙◌, arith, own_slots, rules_are_true, described, device_at, state_of}
+use Rattle.vms_values.proofs.Facade.{read_of}
 use Rattle.vms_values.proofs.JudgeLemmas.{judged_go, judged_stop, judged_end, own_holds}
-use Rattle.vms_values.proofs.judge.judge_device.Goals as goal
 use Rattle.vms_values.proofs.judge.judge_device.Goals.{After-sub_count-sub-end, In-loop-sub}
+use Rattle.vms_values.proofs.judge.judge_device.Goals as goal
 
 holds : (c : goal.After-sub_count-sub-end)
     → rules_are_true (own_slots (described c.args.set.now) (device_at (described c.args.set.now) c.args.device) (state_of c.args.image.now).version (state_of c.args.image.now).numbers) ≡ true

@@ -1,6 +1,4 @@
-use Rattle.std.proofs.Common.{◌≡◌}
-use Rattle.vms_desc.specs.Described.{described}
-use Rattle.vms_image.specs.Typed.{state_of}
+use Rattle.vms_values.proofs.Facade.{◌≡◌, described, state_of}
 use Rattle.vms_values.proofs.JudgeLemmas.{judged_from}
 use Rattle.vms_values.proofs.judge.judge_device.Given as goal
 

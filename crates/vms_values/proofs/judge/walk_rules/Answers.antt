@@ -1,7 +1,4 @@
-use Rattle.std.proofs.Common.{List, ℤ, ap, sym, ◌∙◌}
-use Rattle.vms_spec.specs.Readiness.{rules_are_true}
-use Rattle.vms_desc.specs.Described.{described}
-use Rattle.vms_walk.specs.Steps.{spot_slots}
+use Rattle.vms_values.proofs.Facade.{List, ℤ, ap, sym, ◌∙◌, rules_are_true, described, spot_slots}
 use Rattle.vms_values.proofs.JudgeLemmas.{steps_true}
 use Rattle.vms_values.proofs.judge.walk_rules.Goals as goal
 

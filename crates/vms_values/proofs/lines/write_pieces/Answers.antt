@@ -1,8 +1,5 @@
-use Rattle.std.proofs.Common.{◌+◌, drop}
-use Rattle.std.proofs.lemmas.Result.{err_from_is_err_and}
-use Rattle.vms_io.proofs.WritingLemmas.{leaves_rest, leaves_stop}
-use Rattle.vms_values.specs.Written.{joined}
-use Rattle.vms_values.proofs.Writing.{joined_at}
+use Rattle.vms_values.proofs.Facade.{◌+◌, drop, err_from_is_err_and, leaves_rest, leaves_stop, joined}
+use Rattle.vms_values.proofs.PrintLemmas.{joined_at}
 use Rattle.vms_values.proofs.lines.write_pieces.Goals as goal
 
 pub loop-piece-preserved : goal.loop-piece-preserved

@@ -1,7 +1,4 @@
-use Rattle.std.proofs.Common.{drop}
-use Rattle.vms_io.specs.Told.{outlet}
-use Rattle.vms_io.proofs.WritingLemmas.{Leaves}
-use Rattle.vms_values.specs.Written.{joined}
+use Rattle.vms_values.proofs.Facade.{drop, outlet, Leaves, joined}
 use Rattle.vms_values.proofs.lines.write_pieces.Given as goal
 
 abbrev pub invariant-loop-piece : goal.invariant-loop-piece

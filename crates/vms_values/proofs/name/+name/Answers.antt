@@ -1,28 +1,12 @@
-use Rattle.std.proofs.Common.{rules, arith, ◌≡◌, ◌+◌, ◌*◌, ◌-◌, ◌%◌, ◌<◌, ◌≤◌, true, List, [], ◌++◌, ℕ, length, get_or, codes, append_assoc, refl, sym, ap, ◌∙◌, subst}
-use Rattle.std.proofs.lemmas.Bool.{ltb-true}
-use Rattle.vms_kinds.specs.declared.Item.{Item}
-use Rattle.vms_spec.specs.declared.TheConstants.{MOST_ITEMS}
+use Rattle.vms_values.proofs.Facade.{rules, arith, ◌≡◌, ◌+◌, ◌*◌, ◌-◌, ◌%◌, ◌<◌, ◌≤◌, true, List, [], ◌++◌, ℕ, length, get_or, codes, append_assoc, refl, sym}
+use Rattle.vms_values.proofs.Facade.{ap, ◌∙◌, subst, ltb-true, mod-lt, Item, MOST_ITEMS, Field, capacity_of, field_of, field_at, described, desc_at}
+use Rattle.vms_values.proofs.Facade.{found_field, here_fields, size_in, size_code, width_code, struct_size, item_rank, part_rank, one_fits, uses_below}
+use Rattle.vms_values.proofs.Facade.{path_text, part_names, item_names, field_name, wrote_as}
 use Rattle.vms_spec.specs.declared.Part.TheVariants as parts
-use Rattle.vms_spec.specs.Sets.{Field}
-use Rattle.vms_spec.specs.Layout.{capacity_of}
-use Rattle.vms_parts.specs.Views.{field_of}
-use Rattle.vms_desc.specs.Asks.{field_at}
-use Rattle.vms_desc.specs.Described.{described}
-use Rattle.vms_desc.specs.Parts.{desc_at}
-use Rattle.vms_desc.proofs.AskLaws.{found_field, here_fields}
-use Rattle.vms_walk.specs.Steps.{size_in}
-use Rattle.vms_walk.proofs.Spots.{size_code, width_code, struct_size}
-use Rattle.vms_desc.proofs.Ranks.{item_rank, part_rank}
-use Rattle.vms_spec.proofs.Sizes.{one_fits}
-use Rattle.vms_spec.specs.Rules.{uses_below}
-use Rattle.std.proofs.Math.Nat.{mod-lt}
-use Rattle.vms_values.specs.Paths.{path_text}
-use Rattle.vms_values.specs.Naming.{part_names, item_names, field_name}
-use Rattle.vms_io.proofs.WritingLemmas.{wrote_as}
 use Rattle.vms_values.proofs.Naming.{NextNames, next_names, all_names, names_from, part_long, struct_name, positive, single_is, element_is}
 use Rattle.vms_values.proofs.name.+name.Given.{Over}
-use Rattle.vms_values.proofs.name.+name.Goals as goal
 use Rattle.vms_values.proofs.name.+name.Goals.{print_element-After-item_cells-size, print_name-After-field_cells-size}
+use Rattle.vms_values.proofs.name.+name.Goals as goal
 
 -- ---- an element of a field
 

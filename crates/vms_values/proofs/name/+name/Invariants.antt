@@ -1,8 +1,4 @@
-use Rattle.vms_spec.specs.declared.TheConstants.{MOST_ITEMS}
-use Rattle.std.proofs.Common.{◌≡◌, ◌+◌, ◌<◌, ◌≤◌, [], length, get_or}
-use Rattle.vms_desc.specs.Described.{described}
-use Rattle.vms_desc.proofs.Ranks.{item_rank, part_rank}
-use Rattle.vms_values.specs.Naming.{part_names}
+use Rattle.vms_values.proofs.Facade.{◌≡◌, ◌+◌, ◌<◌, ◌≤◌, [], length, get_or, MOST_ITEMS, described, item_rank, part_rank, part_names}
 use Rattle.vms_values.proofs.Naming.{names_from}
 use Rattle.vms_values.proofs.name.+name.Given as goal
 

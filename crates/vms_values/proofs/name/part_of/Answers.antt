@@ -1,11 +1,8 @@
-use Rattle.std.proofs.Common.{◌≡◌, ℕ, ◌+◌, ◌-◌, ◌<◌, ◌≤◌, [], length, get_or, sym, ap, ◌∙◌, arith}
-use Rattle.vms_spec.specs.Places.{own_cell_count}
-use Rattle.vms_desc.specs.Described.{described, device_at}
-use Rattle.vms_desc.specs.Parts.{sub_at}
-use Rattle.vms_desc.proofs.AskLaws.{sub_inside, own_inside_device, few_cells}
-use Rattle.vms_values.proofs.NamingSubs.{names_of_subs, in_own, past_own, in_sub, past_sub, subs_longer, all_long}
-use Rattle.vms_values.proofs.name.part_of.Goals as goal
+use Rattle.vms_values.proofs.Facade.{◌≡◌, ℕ, ◌+◌, ◌-◌, ◌<◌, ◌≤◌, [], length, get_or, sym, ap, ◌∙◌, arith, own_cell_count, described, device_at, sub_at}
+use Rattle.vms_values.proofs.Facade.{sub_inside, own_inside_device, few_cells}
+use Rattle.vms_values.proofs.Naming.{names_of_subs, in_own, past_own, in_sub, past_sub, subs_longer, all_long}
 use Rattle.vms_values.proofs.name.part_of.Goals.{After-cells_of-size, After-cells_of-size-in-loop-sub}
+use Rattle.vms_values.proofs.name.part_of.Goals as goal
 
 own_size : (c : goal.After-cells_of-size) → c.cells_of-size.result ≡ own_cell_count (described c.args.set.now) (device_at (described c.args.set.now) c.args.device).desc
 own_size c =

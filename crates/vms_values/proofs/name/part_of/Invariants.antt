@@ -1,7 +1,5 @@
-use Rattle.std.proofs.Common.{◌≡◌, ◌<◌, [], length, get_or}
-use Rattle.vms_desc.specs.Described.{described, device_at}
-use Rattle.vms_elements.specs.Parts.{cell_name}
-use Rattle.vms_values.proofs.NamingSubs.{names_of_subs}
+use Rattle.vms_values.proofs.Facade.{◌≡◌, ◌<◌, [], length, get_or, described, device_at, cell_name}
+use Rattle.vms_values.proofs.Naming.{names_of_subs}
 use Rattle.vms_values.proofs.name.part_of.Given as goal
 
 abbrev pub invariant-loop-sub : goal.invariant-loop-sub

@@ -1,5 +1,5 @@
-use Rattle.std.proofs.Common.{sym, ◌∙◌, arith}
-use Rattle.vms_values.proofs.NumberLemmas.{digit_stops, digit_goes, digits_end, few_fit, few_next}
+use Rattle.vms_values.proofs.Facade.{sym, ◌∙◌, arith}
+use Rattle.vms_values.proofs.ReadLemmas.{digit_stops, digit_goes, digits_end, few_fit, few_next}
 use Rattle.vms_values.proofs.numbers.read_few.Goals as goal
 
 pub next_of_few-requires : goal.next_of_few-requires

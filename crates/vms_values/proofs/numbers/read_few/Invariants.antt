@@ -1,5 +1,4 @@
-use Rattle.std.proofs.Common.{◌≡◌, ◌<◌, ◌^◌, drop}
-use Rattle.vms_values.specs.Spelled.{read_from}
+use Rattle.vms_values.proofs.Facade.{◌≡◌, ◌<◌, ◌^◌, drop, read_from}
 use Rattle.vms_values.proofs.numbers.read_few.Given as goal
 
 abbrev pub invariant-loop-digit : goal.invariant-loop-digit

@@ -1,7 +1,5 @@
-use Rattle.std.proofs.Common.{◌≡◌, ℕ, ◌-◌, true, List, length, take, drop, None, sym, ap, ◌∙◌, arith}
-use Rattle.std.specs.Option.{option_and_then}
-use Rattle.vms_values.specs.Spelled.{read_from}
-use Rattle.vms_values.proofs.NumberLemmas.{unpadded, read_natural, read_rest, digit_stops, digits_end}
+use Rattle.vms_values.proofs.Facade.{◌≡◌, ℕ, ◌-◌, true, List, length, take, drop, None, sym, ap, ◌∙◌, arith, option_and_then, read_from}
+use Rattle.vms_values.proofs.ReadLemmas.{unpadded, read_natural, read_rest, digit_stops, digits_end}
 use Rattle.vms_values.proofs.numbers.read_natural.Goals as goal
 
 -- the digits after the first few

@@ -1,5 +1,5 @@
-use Rattle.std.proofs.Common.{rules, sym, ◌∙◌}
-use Rattle.vms_values.proofs.NumberLemmas.{spelled_is}
+use Rattle.vms_values.proofs.Facade.{rules, sym, ◌∙◌}
+use Rattle.vms_values.proofs.ReadLemmas.{spelled_is}
 use Rattle.vms_values.proofs.numbers.read_number.Goals as goal
 
 pub returns-in-Some-read_natural : goal.returns-in-Some-read_natural

@@ -1,6 +1,4 @@
-use Rattle.std.proofs.Common.{◌∙◌}
-use Rattle.std.proofs.lemmas.Result.{err_from_is_err_and}
-use Rattle.vms_io.proofs.WritingLemmas.{stops_front, wrote_behind}
+use Rattle.vms_values.proofs.Facade.{◌∙◌, err_from_is_err_and, stops_front, wrote_behind}
 use Rattle.vms_values.proofs.PrintLemmas.{element_text}
 use Rattle.vms_values.proofs.path.+write_path.Goals as goal
 

@@ -1,17 +1,9 @@
-use Rattle.std.proofs.Common.{◌≡◌, [], ap, ◌∙◌}
-use Rattle.std.proofs.lemmas.Result.{err_from_is_err_and}
-use Rattle.vms_io.proofs.WritingLemmas.{puts_as, puts_both, stops_as, stops_front, stops_behind, wrote_as, wrote_behind}
-use Rattle.vms_spec.specs.Images.{own_cells}
-use Rattle.vms_spec.specs.Sets.{Device}
-use Rattle.vms_spec.specs.Values.{printers, desc_lines, sub_lines}
-use Rattle.vms_desc.specs.Described.{described, device_at}
-use Rattle.vms_parts.specs.Views.{device_of}
-use Rattle.vms_image.specs.Typed.{state_of}
-use Rattle.vms_values.specs.Printing.{section_text}
-use Rattle.vms_values.proofs.Subs.{own_spot, device_is}
+use Rattle.vms_values.proofs.Facade.{◌≡◌, [], ap, ◌∙◌, err_from_is_err_and, puts_as, puts_both, stops_as, stops_front, stops_behind, wrote_as, wrote_behind}
+use Rattle.vms_values.proofs.Facade.{own_cells, Device, printers, desc_lines, sub_lines, described, device_at, device_of, state_of, section_text}
+use Rattle.vms_values.proofs.Printers.{own_spot, device_is}
 use Rattle.vms_values.proofs.print.print_device.Given.{Over}
-use Rattle.vms_values.proofs.print.print_device.Goals as goal
 use Rattle.vms_values.proofs.print.print_device.Goals.{After-device}
+use Rattle.vms_values.proofs.print.print_device.Goals as goal
 
 line_is : (g : Over) (c : goal.After-device g)
     → section_text (device_of c.device.result.now) c.version-version.result ≡ section_text (device_at (described c.args.shown.set.now) c.args.device) (state_of c.args.shown.image.now).version

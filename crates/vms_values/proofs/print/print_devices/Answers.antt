@@ -1,18 +1,9 @@
-use Rattle.std.proofs.Common.{◌≡◌, ◌+◌, ◌<◌, ◌++◌, length, drop, sym, ap, ◌∙◌, arith, map}
-use Rattle.std.proofs.lemmas.Result.{err_from_is_err_and}
-use Rattle.std.proofs.lemmas.List.{length-map}
-use Rattle.vms_spec.specs.Sets.{Set}
-use Rattle.vms_spec.specs.Values.{device_lines, devices_lines}
-use Rattle.vms_parts.specs.Views.{device_of}
-use Rattle.vms_desc.specs.Described.{described, device_at}
-use Rattle.vms_image.specs.Typed.{state_of}
-use Rattle.vms_image.proofs.States.{states_long, state_at}
-use Rattle.vms_values.specs.Printing.{IsOf, AreOf}
+use Rattle.vms_values.proofs.Facade.{◌≡◌, ◌+◌, ◌<◌, ◌++◌, length, drop, sym, ap, ◌∙◌, arith, map, err_from_is_err_and, length-map, Set, device_lines}
+use Rattle.vms_values.proofs.Facade.{devices_lines, device_of, described, device_at, state_of, states_long, state_at, IsOf, AreOf, leaves_rest, leaves_stop}
 use Rattle.vms_values.proofs.PrintLemmas.{device_left, images_at, of_next, of_room, devices_next}
-use Rattle.vms_io.proofs.WritingLemmas.{leaves_rest, leaves_stop}
 use Rattle.vms_values.proofs.print.print_devices.Given.{Over}
-use Rattle.vms_values.proofs.print.print_devices.Goals as goal
 use Rattle.vms_values.proofs.print.print_devices.Goals.{After-print_device-arg-1}
+use Rattle.vms_values.proofs.print.print_devices.Goals as goal
 
 pub bounds-images-device : goal.bounds-images-device
 bounds-images-device g c =

@@ -1,10 +1,4 @@
-use Rattle.std.proofs.Common.{drop, map}
-use Rattle.vms_spec.specs.Values.{devices_lines}
-use Rattle.vms_desc.specs.Described.{described}
-use Rattle.vms_image.specs.Typed.{state_of}
-use Rattle.vms_values.specs.Printing.{AreOf}
-use Rattle.vms_io.specs.Told.{outlet}
-use Rattle.vms_io.proofs.WritingLemmas.{Leaves}
+use Rattle.vms_values.proofs.Facade.{drop, map, devices_lines, described, state_of, AreOf, outlet, Leaves}
 use Rattle.vms_values.proofs.print.print_devices.Given as goal
 
 abbrev pub invariant-loop-device : goal.invariant-loop-device

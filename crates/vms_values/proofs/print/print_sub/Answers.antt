@@ -1,15 +1,7 @@
-use Rattle.std.proofs.Common.{◌≡◌, ℕ, List, [], Option, None, get_or, ap, ◌∙◌}
-use Rattle.std.proofs.lemmas.Result.{err_from_is_err_and}
-use Rattle.vms_io.proofs.WritingLemmas.{puts_as, stops_as, stops_front, wrote_as, wrote_behind}
+use Rattle.vms_values.proofs.Facade.{◌≡◌, ℕ, List, [], Option, None, get_or, ap, ◌∙◌, err_from_is_err_and, puts_as, stops_as, stops_front, wrote_as}
+use Rattle.vms_values.proofs.Facade.{wrote_behind, Desc, printers, desc_lines, first_cell, described, device_at, sub_at, state_of, sub_text}
 use Rattle.vms_spec.specs.declared.Part.TheVariants as parts
-use Rattle.vms_spec.specs.Sets.{Desc}
-use Rattle.vms_spec.specs.Values.{printers, desc_lines}
-use Rattle.vms_desc.specs.Asks.{first_cell}
-use Rattle.vms_desc.specs.Described.{described, device_at}
-use Rattle.vms_desc.specs.Parts.{sub_at}
-use Rattle.vms_image.specs.Typed.{state_of}
-use Rattle.vms_values.specs.Printing.{sub_text}
-use Rattle.vms_values.proofs.Subs.{sub_spot}
+use Rattle.vms_values.proofs.Printers.{sub_spot}
 use Rattle.vms_values.proofs.print.print_sub.Goals as goal
 
 pub returns-in_err-print_sub_line : goal.returns-in_err-print_sub_line

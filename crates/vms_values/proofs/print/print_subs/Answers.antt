@@ -1,14 +1,10 @@
-use Rattle.std.proofs.Common.{◌≡◌, ◌<◌, length, drop, arith}
-use Rattle.std.proofs.lemmas.Result.{err_from_is_err_and}
+use Rattle.vms_values.proofs.Facade.{◌≡◌, ◌<◌, length, drop, arith, err_from_is_err_and, first_cell, described, device_at, state_of, leaves_all, leaves_rest}
+use Rattle.vms_values.proofs.Facade.{leaves_stop, leaves_none}
 use Rattle.vms_spec.specs.declared.Part.TheVariants as parts
-use Rattle.vms_desc.specs.Asks.{first_cell}
-use Rattle.vms_desc.specs.Described.{described, device_at}
-use Rattle.vms_image.specs.Typed.{state_of}
-use Rattle.vms_values.proofs.Subs.{subs_left, no_subs, first_sub}
-use Rattle.vms_io.proofs.WritingLemmas.{leaves_all, leaves_rest, leaves_stop, leaves_none}
+use Rattle.vms_values.proofs.Printers.{subs_left, no_subs, first_sub}
 use Rattle.vms_values.proofs.print.print_subs.Given.{Over}
-use Rattle.vms_values.proofs.print.print_subs.Goals as goal
 use Rattle.vms_values.proofs.print.print_subs.Goals.{In-loop-sub}
+use Rattle.vms_values.proofs.print.print_subs.Goals as goal
 
 pub loop-sub-init : goal.loop-sub-init
 loop-sub-init g c =

@@ -1,12 +1,5 @@
-use Rattle.std.proofs.Common.{drop}
+use Rattle.vms_values.proofs.Facade.{drop, own_cells, sub_lines, first_cell, described, device_at, state_of, outlet, Leaves}
 use Rattle.vms_spec.specs.declared.Part.TheVariants as parts
-use Rattle.vms_spec.specs.Images.{own_cells}
-use Rattle.vms_spec.specs.Values.{sub_lines}
-use Rattle.vms_desc.specs.Asks.{first_cell}
-use Rattle.vms_desc.specs.Described.{described, device_at}
-use Rattle.vms_image.specs.Typed.{state_of}
-use Rattle.vms_io.specs.Told.{outlet}
-use Rattle.vms_io.proofs.WritingLemmas.{Leaves}
 use Rattle.vms_values.proofs.print.print_subs.Given as goal
 
 abbrev pub invariant-loop-sub : goal.invariant-loop-sub

@@ -1,10 +1,4 @@
-use Rattle.std.proofs.Common.{ap, map}
-use Rattle.vms_io.proofs.WritingLemmas.{puts_as, wrote_behind}
-use Rattle.vms_spec.specs.Sets.{Set}
-use Rattle.vms_spec.specs.Values.{machine_line, devices_lines}
-use Rattle.vms_desc.specs.Described.{described}
-use Rattle.vms_image.specs.Typed.{state_of}
-use Rattle.vms_values.specs.Printing.{machine_of}
+use Rattle.vms_values.proofs.Facade.{ap, map, puts_as, wrote_behind, Set, machine_line, devices_lines, described, state_of, machine_of}
 use Rattle.vms_values.proofs.PrintLemmas.{wrote_mapped}
 use Rattle.vms_values.proofs.print.print_values.Goals as goal
 

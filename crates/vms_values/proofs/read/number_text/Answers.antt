@@ -1,6 +1,4 @@
-use Rattle.std.proofs.Common.{◌≡◌, ℕ, List, ◌++◌, codes, false, subst}
-use Rattle.vms_spec.specs.Spelling.{begins_with}
-use Rattle.vms_values.specs.Spelled.{Strips}
+use Rattle.vms_values.proofs.Facade.{◌≡◌, ℕ, List, ◌++◌, codes, false, subst, begins_with, Strips}
 use Rattle.vms_values.proofs.ReadLemmas.{strips_then, strips_not, strip_is}
 use Rattle.vms_values.proofs.read.number_text.Goals as goal
 

@@ -1,25 +1,13 @@
-use Rattle.std.proofs.Common.{rules, arith, ◌≡◌, ◌+◌, ◌*◌, ◌-◌, ◌<◌, ◌≤◌, List, ◌++◌, ℕ, length, length-append, get_or, drop, codes, refl, sym, ap, ◌∙◌, subst}
-use Rattle.std.proofs.lemmas.Result.{err_from_is_err_and}
-use Rattle.std.proofs.lemmas.Bool.{ltb-true}
-use Rattle.vms_kinds.specs.declared.Item.{Item}
-use Rattle.vms_spec.specs.Layout.{no_desc, numbers_of, capacity_of, cells_from}
-use Rattle.vms_spec.specs.Values.{printers, element_lines, item_lines, field_lines, desc_lines}
-use Rattle.std.specs.Fmt.{decimal}
-use Rattle.vms_parts.specs.Views.{field_of}
-use Rattle.vms_desc.specs.Described.{described}
-use Rattle.vms_desc.specs.Parts.{desc_at}
-use Rattle.vms_walk.specs.Steps.{size_in, table, cells_in}
-use Rattle.vms_walk.proofs.Spots.{size_code, struct_size, spot_room}
-use Rattle.vms_walk.proofs.Walking.{room_at}
-use Rattle.vms_values.specs.Printing.{run_lines, below, Stays}
-use Rattle.vms_values.proofs.Printers.{cells_of, struct_lines}
-use Rattle.vms_io.proofs.WritingLemmas.{wrote_as, leaves_all, leaves_rest, leaves_stop, leaves_none}
-use Rattle.vms_values.proofs.Runs.{FoundRun, array_run, elements_left, no_elements, no_fields, found_run, found_width}
-use Rattle.vms_values.proofs.Fronts.{stays, stays_is, stays_then, stays_element, cut_is, field_short}
-use Rattle.vms_values.specs.declared.line.TheConstants.{LONGEST, NUMBER_ROOM, INDEX_ROOM, PART_ROOM}
+use Rattle.vms_values.proofs.Facade.{rules, arith, ◌≡◌, ◌+◌, ◌*◌, ◌-◌, ◌<◌, ◌≤◌, List, ◌++◌, ℕ, length, length-append, get_or, drop, codes, refl, sym, ap, ◌∙◌}
+use Rattle.vms_values.proofs.Facade.{subst, err_from_is_err_and, ltb-true, decimal, Item, no_desc, numbers_of, capacity_of, cells_from, printers, element_lines}
+use Rattle.vms_values.proofs.Facade.{item_lines, field_lines, desc_lines, field_of, described, desc_at, size_in, table, cells_in, size_code, struct_size}
+use Rattle.vms_values.proofs.Facade.{spot_room, room_at, run_lines, below, Stays, wrote_as, leaves_all, leaves_rest, leaves_stop, leaves_none, LONGEST}
+use Rattle.vms_values.proofs.Facade.{NUMBER_ROOM, INDEX_ROOM, PART_ROOM}
+use Rattle.vms_values.proofs.Printers.{cells_of, struct_lines, FoundRun, array_run, elements_left, no_elements, no_fields, found_run, found_width}
+use Rattle.vms_values.proofs.PrintLemmas.{stays, stays_is, stays_then, stays_element, cut_is, field_short}
 use Rattle.vms_values.proofs.shown.+print.Given.{Over}
-use Rattle.vms_values.proofs.shown.+print.Goals as goal
 use Rattle.vms_values.proofs.shown.+print.Goals.{print_elements-After-print_item-arg-in-loop-index-1, print_part-After-field_cells-cell, print_part-After-print_field-arg-in-loop-field-1}
+use Rattle.vms_values.proofs.shown.+print.Goals as goal
 
 -- ---- elements
 

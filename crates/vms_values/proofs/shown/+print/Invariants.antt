@@ -1,14 +1,6 @@
-use Rattle.std.proofs.Common.{◌≡◌, ◌+◌, ◌-◌, ◌*◌, ◌≤◌, length, drop}
-use Rattle.vms_spec.specs.Layout.{cells_from, numbers_of}
-use Rattle.vms_spec.specs.Values.{printers, desc_lines, element_lines, field_lines}
-use Rattle.vms_desc.specs.Described.{described}
-use Rattle.vms_desc.specs.Parts.{desc_at}
-use Rattle.vms_walk.specs.Steps.{size_in, table, cells_in}
-use Rattle.vms_desc.proofs.Ranks.{item_rank, part_rank}
-use Rattle.vms_values.specs.Printing.{Stays}
+use Rattle.vms_values.proofs.Facade.{◌≡◌, ◌+◌, ◌-◌, ◌*◌, ◌≤◌, length, drop, cells_from, numbers_of, printers, desc_lines, element_lines, field_lines, described}
+use Rattle.vms_values.proofs.Facade.{desc_at, size_in, table, cells_in, item_rank, part_rank, Stays, outlet, Leaves}
 use Rattle.vms_values.proofs.Printers.{cells_of}
-use Rattle.vms_io.specs.Told.{outlet}
-use Rattle.vms_io.proofs.WritingLemmas.{Leaves}
 use Rattle.vms_values.proofs.shown.+print.Given as goal
 
 abbrev pub decreases-print_elements : goal.decreases-print_elements

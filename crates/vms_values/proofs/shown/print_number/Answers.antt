@@ -1,10 +1,5 @@
-use Rattle.std.proofs.Common.{◌≡◌, ℕ, List, ◌++◌, codes, ap, ◌∙◌, append_assoc}
-use Rattle.std.specs.Fmt.{signed_decimal}
-use Rattle.std.specs.Int.{w128}
-use Rattle.std.proofs.Math.Facts.{to_z-of_z}
-use Rattle.vms_io.proofs.WritingLemmas.{wrote_as}
-use Rattle.vms_spec.specs.Values.{line_end}
-use Rattle.vms_values.proofs.Fronts.{stays_is}
+use Rattle.vms_values.proofs.Facade.{◌≡◌, ℕ, List, ◌++◌, codes, ap, ◌∙◌, append_assoc, signed_decimal, w128, to_z-of_z, wrote_as, line_end}
+use Rattle.vms_values.proofs.PrintLemmas.{stays_is}
 use Rattle.vms_values.proofs.shown.print_number.Goals as goal
 
 -- the line, of three pieces after the path

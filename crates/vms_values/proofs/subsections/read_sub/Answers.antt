@@ -1,10 +1,5 @@
-use Rattle.std.proofs.Common.{◌≡◌, ℕ, length, ap, sym, ◌∙◌, subst, arith}
+use Rattle.vms_values.proofs.Facade.{◌≡◌, ℕ, length, ap, sym, ◌∙◌, subst, arith, described, kinds_at, sub_inside, Typed, AreKinds, part_cells}
 use Rattle.vms_spec.specs.declared.Part.TheVariants as parts
-use Rattle.vms_desc.specs.Described.{described}
-use Rattle.vms_desc.specs.Spots.{kinds_at}
-use Rattle.vms_desc.proofs.AskLaws.{sub_inside}
-use Rattle.vms_image.specs.Typed.{Typed}
-use Rattle.vms_values.specs.Taken.{AreKinds, part_cells}
 use Rattle.vms_values.proofs.KindsAt.{sub_kinds}
 use Rattle.vms_values.proofs.subsections.read_sub.Goals as goal
 

@@ -1,14 +1,7 @@
-use Rattle.std.proofs.Common.{◌≡◌, ◌<◌, ◌+◌, ◌∷◌, ◌++◌, [], ℕ, length, ap, ◌∙◌, arith, length-append}
-use Rattle.std.proofs.lemmas.List.{drop_all}
-use Rattle.std.proofs.lemmas.Result.{err_from_is_err_and}
+use Rattle.vms_values.proofs.Facade.{◌≡◌, ◌<◌, ◌+◌, ◌∷◌, ◌++◌, [], ℕ, length, ap, ◌∙◌, arith, length-append, drop_all, err_from_is_err_and, own_cells}
+use Rattle.vms_values.proofs.Facade.{read_subs, first_cell, described, device_at, sub_first, place_of}
 use Rattle.vms_spec.specs.declared.Part.TheVariants as parts
-use Rattle.vms_spec.specs.Images.{own_cells}
-use Rattle.vms_spec.specs.ValuesReading.{read_subs}
-use Rattle.vms_desc.specs.Asks.{first_cell}
-use Rattle.vms_desc.specs.Described.{described, device_at}
-use Rattle.vms_desc.proofs.AskLaws.{sub_first}
-use Rattle.vms_values.specs.Taken.{place_of}
-use Rattle.vms_values.proofs.SubsReading.{follows_none, follows_next, follows_stop, sub_came, subs_bad, subs_end, alike_none, alike_more, of_alike}
+use Rattle.vms_values.proofs.DeviceLemmas.{follows_none, follows_next, follows_stop, sub_came, subs_bad, subs_end, alike_none, alike_more, of_alike}
 use Rattle.vms_values.proofs.subsections.read_subs.Goals as goal
 
 pub loop-sub-init : goal.loop-sub-init

@@ -1,12 +1,6 @@
-use Rattle.std.proofs.Common.{◌≡◌, drop, length}
+use Rattle.vms_values.proofs.Facade.{◌≡◌, drop, length, own_cells, read_subs, first_cell, described, device_at, place_of, IsAlike}
 use Rattle.vms_spec.specs.declared.Part.TheVariants as parts
-use Rattle.vms_spec.specs.Images.{own_cells}
-use Rattle.vms_spec.specs.ValuesReading.{read_subs}
-use Rattle.vms_desc.specs.Asks.{first_cell}
-use Rattle.vms_desc.specs.Described.{described, device_at}
-use Rattle.vms_values.specs.Taken.{place_of}
-use Rattle.vms_values.specs.SubsTaken.{IsAlike}
-use Rattle.vms_values.proofs.SubsReading.{Follows}
+use Rattle.vms_values.proofs.DeviceLemmas.{Follows}
 use Rattle.vms_values.proofs.subsections.read_subs.Given as goal
 
 abbrev pub invariant-loop-sub : goal.invariant-loop-sub

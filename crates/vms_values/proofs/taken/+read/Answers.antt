@@ -1,36 +1,16 @@
-use Rattle.std.proofs.Common.{rules, ◌≡◌, ℕ, ◌+◌, ◌-◌, ◌*◌, ◌<◌, ◌≤◌, ◌++◌, List, length, length-append, get_or, drop, codes, refl, sym, ap, ◌∙◌, subst, arith}
-use Rattle.std.proofs.lemmas.Bool.{ltb-true}
-use Rattle.std.proofs.lemmas.Result.{err_from_is_err_and}
-use Rattle.vms_kinds.specs.declared.Item.{Item}
-use Rattle.vms_kinds.specs.declared.Kind.{Kind}
-use Rattle.vms_spec.specs.declared.TheConstants.{MOST_ITEMS}
+use Rattle.vms_values.proofs.Facade.{rules, ◌≡◌, ℕ, ◌+◌, ◌-◌, ◌*◌, ◌<◌, ◌≤◌, ◌++◌, List, length, length-append, get_or, drop, codes, refl, sym, ap, ◌∙◌, subst}
+use Rattle.vms_values.proofs.Facade.{arith, ltb-true, err_from_is_err_and, decimal, Item, Kind, MOST_ITEMS, elements_fit, Field, Desc, no_desc, cells_from}
+use Rattle.vms_values.proofs.Facade.{capacity_of, own_cell_count, Read, readers, read_item, read_elements, read_desc, field_of, field_at, own_numbers}
+use Rattle.vms_values.proofs.Facade.{described, desc_at, HasSpot, size_in, table, cells_in, capacities_of, size_code, spot_room, struct_size, room_at}
+use Rattle.vms_values.proofs.Facade.{fields_at, below, Stays, Reaches, AreKinds, element_cells, place_of, LONGEST, NUMBER_ROOM, INDEX_ROOM, PART_ROOM}
 use Rattle.vms_spec.specs.declared.Part.TheVariants as parts
-use Rattle.vms_spec.proofs.Sizes.{elements_fit}
-use Rattle.vms_spec.specs.Sets.{Field, Desc}
-use Rattle.vms_spec.specs.Layout.{no_desc, cells_from, capacity_of}
-use Rattle.vms_spec.specs.Places.{own_cell_count}
-use Rattle.vms_spec.specs.ValuesReading.{Read, readers, read_item, read_elements, read_desc}
-use Rattle.vms_parts.specs.Views.{field_of}
-use Rattle.vms_desc.specs.Asks.{field_at, own_numbers}
-use Rattle.vms_desc.specs.Described.{described}
-use Rattle.vms_desc.specs.Parts.{desc_at}
-use Rattle.vms_walk.specs.Steps.{HasSpot, size_in, table, cells_in, capacities_of}
-use Rattle.vms_walk.proofs.Spots.{size_code, spot_room, struct_size}
-use Rattle.vms_walk.proofs.Walking.{room_at, fields_at}
-use Rattle.std.specs.Fmt.{decimal}
-use Rattle.vms_values.specs.Printing.{below, Stays}
-use Rattle.vms_values.specs.Reading.{Reaches}
-use Rattle.vms_values.specs.Taken.{AreKinds, element_cells, place_of}
-use Rattle.vms_values.proofs.Fronts.{stays, stays_is, stays_then, stays_element, cut_is, field_short}
+use Rattle.vms_values.proofs.PrintLemmas.{stays, stays_is, stays_then, stays_element, cut_is, field_short}
 use Rattle.vms_values.proofs.KindsAt.{FieldKinds, field_kinds, number_kind, struct_kinds}
-use Rattle.vms_values.proofs.Kept.{kept_none, kept_more}
+use Rattle.vms_values.proofs.Takes.{kept_none, kept_more, struct_reads, elements_go, elements_stop, array_read, IsNext, fields_go, fields_stop}
 use Rattle.vms_values.proofs.ReadLemmas.{reached, stopped}
-use Rattle.vms_values.proofs.Readers.{struct_reads}
-use Rattle.vms_values.proofs.Runs.{FoundRun, found_run, found_width}
-use Rattle.vms_values.proofs.Takes.{elements_go, elements_stop, array_read, IsNext, fields_go, fields_stop}
-use Rattle.vms_values.specs.declared.line.TheConstants.{LONGEST, NUMBER_ROOM, INDEX_ROOM, PART_ROOM}
-use Rattle.vms_values.proofs.taken.+read.Goals as goal
+use Rattle.vms_values.proofs.Printers.{FoundRun, found_run, found_width}
 use Rattle.vms_values.proofs.taken.+read.Goals.{read_elements-After-read_item-arg-in-loop-index-1, read_under-After-field_cells-cell, read_under-After-read_field-arg-in-loop-field-1}
+use Rattle.vms_values.proofs.taken.+read.Goals as goal
 
 -- ---- the elements of an array
 
@@ -79,8 +59,7 @@ read_elements-loop-index-preserved t c =
       reads = ap (λ (s : ℕ). read_elements (readers set) f caps path c.args.run.present (c.loop-index.first + s) (size_in set f.item) (i + 1) (c.args.run.count - (i + 1)) (place_of c.read_item.new.taken)) size
           ∙ elements_go (readers set) f caps path c.args.run.present (size_in set f.item) c.loop-index.first i c.args.run.count (place_of c.loop-index.taken) _ c.loop-index-test.true
           (ap (λ (l : List ℕ). read_item (readers set) f caps l c.args.run.present c.loop-index.first f.item (place_of c.loop-index.taken)) (sym named)
-          ∙ reached _ _ c.in_ok-read_item.ensures.read)
-          ∙ c.loop-index.invariant.reads;
+          ∙ reached _ _ c.in_ok-read_item.ensures.read) ∙ c.loop-index.invariant.reads;
       here = omega (arith, one, size, c.loop-index.invariant.here);
       kept = kept_more _ _ _ c.loop-index.invariant.kept c.in_ok-read_item.ensures.kept;
       path = stays_then _ _ _ (stays_element path (decimal i) c.push_index.new.self named) c.in_ok-read_item.ensures.path;

@@ -1,13 +1,5 @@
-use Rattle.std.proofs.Common.{◌≡◌, ◌+◌, ◌-◌, ◌*◌, ◌≤◌, length, drop}
-use Rattle.vms_spec.specs.Layout.{cells_from}
-use Rattle.vms_spec.specs.ValuesReading.{readers, read_desc, read_elements, read_fields}
-use Rattle.vms_parts.specs.Views.{field_of}
-use Rattle.vms_desc.specs.Described.{described}
-use Rattle.vms_desc.specs.Parts.{desc_at}
-use Rattle.vms_walk.specs.Steps.{size_in, table, cells_in, capacities_of}
-use Rattle.vms_desc.proofs.Ranks.{item_rank, part_rank}
-use Rattle.vms_values.specs.Printing.{Stays}
-use Rattle.vms_values.specs.Taken.{IsKept, AreKinds, place_of}
+use Rattle.vms_values.proofs.Facade.{◌≡◌, ◌+◌, ◌-◌, ◌*◌, ◌≤◌, length, drop, cells_from, readers, read_desc, read_elements, read_fields, field_of, described}
+use Rattle.vms_values.proofs.Facade.{desc_at, size_in, table, cells_in, capacities_of, item_rank, part_rank, Stays, IsKept, AreKinds, place_of}
 use Rattle.vms_values.proofs.taken.+read.Given as goal
 
 abbrev pub decreases-read_elements : goal.decreases-read_elements

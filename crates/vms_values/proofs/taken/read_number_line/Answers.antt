@@ -1,13 +1,6 @@
-use Rattle.std.specs.Int.{w128}
-use Rattle.std.proofs.Common.{rules, SFits, sym, subst}
+use Rattle.vms_values.proofs.Facade.{w128, rules, SFits, sym, subst, Kind, InRange, first_line, capacities_of, place_of}
 use Rattle.std.proofs.lemmas.Int.{to_z-of_z}
-use Rattle.vms_kinds.specs.declared.Kind.{Kind}
-use Rattle.vms_kinds.specs.Codes.{InRange}
-use Rattle.vms_spec.specs.Spelling.{first_line}
-use Rattle.vms_walk.specs.Steps.{capacities_of}
-use Rattle.vms_values.specs.Taken.{place_of}
-use Rattle.vms_values.proofs.ReadLemmas.{is_bad}
-use Rattle.vms_values.proofs.TakenLines.{number_there, reason_there, number_held}
+use Rattle.vms_values.proofs.ReadLemmas.{is_bad, number_there, reason_there, number_held}
 use Rattle.vms_values.proofs.taken.read_number_line.Goals as goal
 
 pub put-requires-clause-range : goal.put-requires-clause-range
@@ -20,12 +13,10 @@ pub returns-in-Ok-clause-read : goal.returns-in-Ok-clause-read
 returns-in-Ok-clause-read c =
     number_there c.args.path.now c.args.kind (capacities_of c.args.run.most) c.args.run.first c.args.run.field.now.default c.args.run.present (place_of c.args.taken.now)
     (first_line c.args.taken.now.lines.rest.now) c.in-Some.line c.in-Some-number_text.text.now c.in-Ok.number _
-    c.in-Some.ensures.first c.in-Some-number_text.ensures.0 c.in-Some-number_text.ensures.1 c.in-Ok.ensures
-    (search rules) (search rules) (search rules)
+    c.in-Some.ensures.first c.in-Some-number_text.ensures.0 c.in-Some-number_text.ensures.1 c.in-Ok.ensures (search rules) (search rules) (search rules)
 
 pub returns-in-Err-clause-read : goal.returns-in-Err-clause-read
 returns-in-Err-clause-read c =
     reason_there c.args.path.now c.args.kind (capacities_of c.args.run.most) c.args.run.first c.args.run.field.now.default c.args.run.present (place_of c.args.taken.now)
     (first_line c.args.taken.now.lines.rest.now) c.in-Some.line c.in-Some-number_text.text.now c.in-Err.reason _ _
-    c.in-Some.ensures.first c.in-Some-number_text.ensures.0 c.in-Some-number_text.ensures.1 c.in-Err.ensures
-    (is_bad _ _ c.bad-in-Err.ensures)
+    c.in-Some.ensures.first c.in-Some-number_text.ensures.0 c.in-Some-number_text.ensures.1 c.in-Err.ensures (is_bad _ _ c.bad-in-Err.ensures)

@@ -1,6 +1,5 @@
-use Rattle.std.proofs.Common.{length, ap, arith}
-use Rattle.vms_desc.specs.Described.{described}
-use Rattle.vms_values.proofs.Fronts.{part_short}
+use Rattle.vms_values.proofs.Facade.{length, ap, arith, described}
+use Rattle.vms_values.proofs.PrintLemmas.{part_short}
 use Rattle.vms_values.proofs.taken.read_part.Goals as goal
 
 pub read_under-requires-clause-short : goal.read_under-requires-clause-short

@@ -1,7 +1,6 @@
-use Rattle.std.proofs.Common.{◌+◌, drop}
-use Rattle.vms_values.specs.Written.{joined}
-use Rattle.vms_values.proofs.Writing.{joined_at}
-use Rattle.vms_values.proofs.TextLemmas.{joined_on, joined_off}
+use Rattle.vms_values.proofs.Facade.{◌+◌, drop, joined}
+use Rattle.vms_values.proofs.PrintLemmas.{joined_at}
+use Rattle.vms_values.proofs.ReadLemmas.{joined_on, joined_off}
 use Rattle.vms_values.proofs.text.is_joined.Goals as goal
 
 pub returns-in-None : goal.returns-in-None

@@ -1,6 +1,4 @@
-use Rattle.std.proofs.Common.{◌≡◌, drop}
-use Rattle.std.specs.Str.{bytes_eq}
-use Rattle.vms_values.specs.Written.{joined}
+use Rattle.vms_values.proofs.Facade.{◌≡◌, drop, bytes_eq, joined}
 use Rattle.vms_values.proofs.text.is_joined.Given as goal
 
 abbrev pub invariant-loop-piece : goal.invariant-loop-piece

@@ -1,9 +1,5 @@
-use Rattle.std.proofs.Common.{Err, subst, arith}
-use Rattle.vms_spec.specs.ValuesReading.{values_read}
-use Rattle.vms_desc.specs.Described.{described}
-use Rattle.vms_values.specs.Reading.{ReadsBy}
-use Rattle.vms_values.specs.declared.fault.LineFault.{LineFault}
-use Rattle.vms_values.proofs.TextRead.{line_fits, read_means, bad_means}
+use Rattle.vms_values.proofs.Facade.{Err, subst, arith, values_read, described, ReadsBy, LineFault}
+use Rattle.vms_values.proofs.WholeText.{line_fits, read_means, bad_means}
 use Rattle.vms_values.proofs.whole.read_values.Goals as goal
 
 pub overflow_cast-result : goal.overflow_cast-result

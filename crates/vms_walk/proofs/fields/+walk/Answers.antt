@@ -1,4 +1,4 @@
-use Rattle.std.proofs.Common.{rules, arith, refl, sym, ap, ◌∙◌, subst, ◌≡◌, ℕ, ℤ, ◌+◌, ◌*◌, ◌<◌, ◌≤◌, List, [], ◌∷◌, ◌++◌, length, drop, Bool, true, OnOk, IfErr, Option}
+use Rattle.std.proofs.Common.{rules, arith, refl, sym, ap, ◌∙◌, subst, ◌≡◌, ℕ, ℤ, ◌+◌, ◌*◌, ◌<◌, ◌≤◌, List, [], ◌∷◌, ◌++◌, append-nil, length, drop, Bool, true, OnOk, IfErr, Option}
 use Rattle.std.proofs.lemmas.Bool.{ltb-true}
 use Rattle.std.proofs.lemmas.Result.{IfErr-weaker}
 use Rattle.vms_kinds.specs.declared.Item.{Item}
@@ -24,15 +24,15 @@ use Rattle.vms_walk.specs.declared.step.WalkStep.TheVariants as steps
 use Rattle.vms_walk.specs.Steps.{steps_of, table, cells_in, spot_numbers, holds_at, spot_slots, slots_at, size_in, capacities_of, elements_slots, HasSpot, MayCome}
 use Rattle.vms_walk.specs.Runs.{run_of}
 use Rattle.std.proofs.lemmas.Result.{on_ok_weaker}
-use Rattle.vms_walk.proofs.Results.{err_is}
+use Rattle.vms_walk.proofs.Kept.{err_is}
 use Rattle.vms_walk.proofs.Runs.{run_steps}
 use Rattle.vms_walk.proofs.Walking.{room_at, least_again}
 use Rattle.vms_walk.proofs.Spots.{Next, next_field, field_needs, size_code, width_code, spot_room, struct_spot, struct_size, own_is}
 use Rattle.vms_walk.proofs.Local.{keeps_below, keeps_first, next_place, set_settled, part_sound}
 use Rattle.vms_walk.proofs.Going.{Laws, items_next, items_stop, items_may, field_slots_are, fields_next, fields_stop, fields_may, rule_next, rule_stop, rule_may, same_rule}
 use Rattle.vms_walk.proofs.fields.+walk.Given.{Over}
+use Rattle.vms_walk.proofs.fields.+walk.Goals.{walk-After-field_cells-cell, walk-After-rules-arg-1, walk-After-walk_field-arg-1, walk_field-After-walk_row-arg-1, walk_struct-After-walk-arg-1}
 use Rattle.vms_walk.proofs.fields.+walk.Goals as goal
-use Rattle.vms_walk.proofs.fields.+walk.Goals.{walk-After-field_cells-cell, walk-After-rules-arg-1, walk-After-walk_field-arg-1, walk_field-After-walk_items-arg-1, walk_struct-After-walk-arg-1}
 
 laws_of : (g : Over) → Laws g.W.Cells.numbers g.W.Walker.goes g.W.Walker.stops
 laws_of g = record { more = g.met.W.Walker.more; after = g.met.W.Walker.stops_after; before = g.met.W.Walker.stops_before; keeps = g.met.W.Walker.keeps; stopped = g.met.W.Walker.keeps_stopped }
@@ -125,9 +125,49 @@ walk_items-returns-in-Some-clause-err g t c =
     IfErr-weaker c.walk_run.result (λ fault. g.W.Walker.stops (run_of c.args.row.first c.args.row.count kind) a fault b) (λ fault. g.W.Walker.stops (steps_of slots) a fault b)
     (λ fault h. subst (λ (l : List WalkStep). g.W.Walker.stops l a fault b) (sym same) h) c.walk_run.ensures.err
 
+-- ---- a row
+
+-- the slots of a row of one element are the element's
+one_slots : (set : Set) (item : Item) (most : Option ℕ) (n : List ℤ) (count first : ℕ) → count ≡ 1
+    → steps_of (elements_slots set item most n count first) ≡ steps_of (item_slots (table set) item (capacities_of most) n first)
+one_slots set item most n count first is = ap (λ (k : ℕ). steps_of (elements_slots set item most n k first)) is ∙ ap steps_of (append-nil (item_slots (table set) item (capacities_of most) n first))
+
+pub walk_row-walk_item-requires : goal.walk_row-walk_item-requires
+walk_row-walk_item-requires g t c =
+    let N = g.W.Cells.numbers in
+    let set = described c.args.set.now in
+    let row = c.args.row in
+    let item = row.item.now in
+    let one : row.count ≡ 1 = omega arith in
+    let slots = λ (m : List ℤ). item_slots (table set) item (capacities_of row.most) m row.first in
+    let come : MayCome g.W.Walker.goes N g.W.Walker.may slots c.args.walker.now = λ ys ws zs x d h e.
+    c.requires.may ys ws zs x d h (one_slots set item row.most (N d) row.count row.first one ∙ e) in
+    let width : row.count * size_in set item ≡ 1 * size_in set item = ap (λ (k : ℕ). k * size_in set item) one in
+    λ κs h. (search rules, (search rules, (search rules, (c.requires.reaches, (come, (omega (arith, width, c.requires.room), c.requires.few))))))
+
+pub walk_row-returns-clause-ok : goal.walk_row-returns-clause-ok
+walk_row-returns-clause-ok g t c =
+    let a = c.args.walker.now in
+    let b = c.walk_item.new.walker in
+    let row = c.args.row in
+    let same = one_slots (described c.args.set.now) row.item.now row.most (g.W.Cells.numbers b) row.count row.first (omega arith) in
+    on_ok_weaker c.walk_item.result (λ h. subst (λ (l : List WalkStep). g.W.Walker.goes l a b) (sym same) h) c.walk_item.ensures.ok
+
+pub walk_row-returns-clause-err : goal.walk_row-returns-clause-err
+walk_row-returns-clause-err g t c =
+    let set = described c.args.set.now in
+    let a = c.args.walker.now in
+    let b = c.walk_item.new.walker in
+    let row = c.args.row in
+    let one = item_slots (table set) row.item.now (capacities_of row.most) (g.W.Cells.numbers b) row.first in
+    let all = elements_slots set row.item.now row.most (g.W.Cells.numbers b) row.count row.first in
+    let same = one_slots set row.item.now row.most (g.W.Cells.numbers b) row.count row.first (omega arith) in
+    IfErr-weaker c.walk_item.result (λ fault. g.W.Walker.stops (steps_of one) a fault b) (λ fault. g.W.Walker.stops (steps_of all) a fault b)
+    (λ fault h. subst (λ (l : List WalkStep). g.W.Walker.stops l a fault b) (sym same) h) c.walk_item.ensures.err
+
 -- ---- one field
 
-item_is : (g : Over) (t : ℕ) (c : goal.walk_field-After-walk_items-arg-1 g t) → c.index-as_slice-field.result.item ≡ (field_at (described c.args.set.now) c.args.spot.part c.args.field).item
+item_is : (g : Over) (t : ℕ) (c : goal.walk_field-After-walk_row-arg-1 g t) → c.index-as_slice-field.result.item ≡ (field_at (described c.args.set.now) c.args.spot.part c.args.field).item
 item_is g t c =
     let set = described c.args.set.now in
     ap (λ (x : Field). x.item)
@@ -135,7 +175,7 @@ item_is g t c =
     c.requires.field c.index-as_slice-field.is)
 
 -- the steps of the field are those of its elements
-steps_are : (g : Over) (t : ℕ) (c : goal.walk_field-After-walk_items-arg-1 g t) (m : List ℤ) → length m ≡ length (g.W.Cells.numbers c.args.walker.now) → SameBelow c.args.cell (g.W.Cells.numbers c.args.walker.now) m
+steps_are : (g : Over) (t : ℕ) (c : goal.walk_field-After-walk_row-arg-1 g t) (m : List ℤ) → length m ≡ length (g.W.Cells.numbers c.args.walker.now) → SameBelow c.args.cell (g.W.Cells.numbers c.args.walker.now) m
     → steps_of (slots_at (described c.args.set.now) c.args.spot m c.args.field c.args.cell) ≡ steps_of (elements_slots (described c.args.set.now) c.index-as_slice-field.result.item c.most-most.result m c.present-count.result c.args.cell)
 steps_are g t c m long s =
     let set = described c.args.set.now in
@@ -143,14 +183,14 @@ steps_are g t c m long s =
     (g.W.Cells.numbers c.args.walker.now) m long c.requires.spot c.present-count.result c.index-as_slice-field.result.item c.most-most.result c.requires.field (item_is g t c) c.present-count.ensures c.most-most.ensures c.requires.room s
 
 -- they have no cell below the field
-above : (g : Over) (t : ℕ) (c : goal.walk_field-After-walk_items-arg-1 g t) (m : List ℤ) → IsAbove c.args.cell (elements_slots (described c.args.set.now) c.index-as_slice-field.result.item c.most-most.result m c.present-count.result c.args.cell)
+above : (g : Over) (t : ℕ) (c : goal.walk_field-After-walk_row-arg-1 g t) (m : List ℤ) → IsAbove c.args.cell (elements_slots (described c.args.set.now) c.index-as_slice-field.result.item c.most-most.result m c.present-count.result c.args.cell)
 above g t c m =
     let set = described c.args.set.now in
     let item = c.index-as_slice-field.result.item in
     items_above (table set) (meanings_above set.structs (length set.structs)) item (capacities_of c.most-most.result) m c.present-count.result c.args.cell (size_in set item)
 
-pub walk_field-walk_items-requires : goal.walk_field-walk_items-requires
-walk_field-walk_items-requires g t c =
+pub walk_field-walk_row-requires : goal.walk_field-walk_row-requires
+walk_field-walk_row-requires g t c =
     let N = g.W.Cells.numbers in
     let set = described c.args.set.now in
     let a = c.args.walker.now in
@@ -166,27 +206,27 @@ pub walk_field-returns-clause-ok : goal.walk_field-returns-clause-ok
 walk_field-returns-clause-ok g t c =
     let N = g.W.Cells.numbers in
     let a = c.args.walker.now in
-    let b = c.walk_items.new.walker in
-    let at = (goal.at.walk_field-returns-clause-ok g t c).After-walk_items-arg-1 in
-    on_ok_weaker c.walk_items.result
+    let b = c.walk_row.new.walker in
+    let at = (goal.at.walk_field-returns-clause-ok g t c).After-walk_row-arg-1 in
+    on_ok_weaker c.walk_row.result
     (λ h.
     let kept = (laws_of g).keeps _ a b h in
     subst (λ (l : List WalkStep). g.W.Walker.goes l a b) (sym (steps_are g t at (N b) kept.long (keeps_below c.args.cell _ (N a) (N b) (above g t at (N b)) kept))) h)
-    c.walk_items.ensures.ok
+    c.walk_row.ensures.ok
 
 pub walk_field-returns-clause-err : goal.walk_field-returns-clause-err
 walk_field-returns-clause-err g t c =
     let N = g.W.Cells.numbers in
     let set = described c.args.set.now in
     let a = c.args.walker.now in
-    let b = c.walk_items.new.walker in
-    let at = (goal.at.walk_field-returns-clause-err g t c).After-walk_items-arg-1 in
+    let b = c.walk_row.new.walker in
+    let at = (goal.at.walk_field-returns-clause-err g t c).After-walk_row-arg-1 in
     let slots = elements_slots set c.index-as_slice-field.result.item c.most-most.result (N b) c.present-count.result c.args.cell in
-    IfErr-weaker c.walk_items.result (λ fault. g.W.Walker.stops (steps_of slots) a fault b) (λ fault. g.W.Walker.stops (steps_of (slots_at set c.args.spot (N b) c.args.field c.args.cell)) a fault b)
+    IfErr-weaker c.walk_row.result (λ fault. g.W.Walker.stops (steps_of slots) a fault b) (λ fault. g.W.Walker.stops (steps_of (slots_at set c.args.spot (N b) c.args.field c.args.cell)) a fault b)
     (λ fault h.
     let kept = (laws_of g).stopped _ a b fault h in
     subst (λ (l : List WalkStep). g.W.Walker.stops l a fault b) (sym (steps_are g t at (N b) kept.long (keeps_below c.args.cell slots (N a) (N b) (above g t at (N b)) kept))) h)
-    c.walk_items.ensures.err
+    c.walk_row.ensures.err
 
 -- ---- the fields of a description
 

@@ -7,19 +7,22 @@ use Rattle.vms_desc.proofs.Ranks.{item_rank, part_rank}
 use Rattle.vms_walk.proofs.fields.+walk.Given as goal
 
 abbrev pub decreases-walk_item : goal.decreases-walk_item
-decreases-walk_item g l = item_rank l.item.now
+decreases-walk_item g l = 2 * item_rank l.item.now
 
 abbrev pub decreases-walk_struct : goal.decreases-walk_struct
-decreases-walk_struct g l = 5 * l.number + 4
+decreases-walk_struct g l = 10 * l.number + 5
 
 abbrev pub decreases-walk_items : goal.decreases-walk_items
-decreases-walk_items g l = item_rank l.row.item.now + 1
+decreases-walk_items g l = 2 * item_rank l.row.item.now + 1
+
+abbrev pub decreases-walk_row : goal.decreases-walk_row
+decreases-walk_row g l = 2 * item_rank l.row.item.now + 2
 
 abbrev pub decreases-walk_field : goal.decreases-walk_field
-decreases-walk_field g l = part_rank (described l.set.now) l.spot.part + 2
+decreases-walk_field g l = 2 * part_rank (described l.set.now) l.spot.part + 3
 
 abbrev pub decreases-walk : goal.decreases-walk
-decreases-walk g l = part_rank (described l.set.now) l.spot.part + 3
+decreases-walk g l = 2 * part_rank (described l.set.now) l.spot.part + 4
 
 abbrev pub invariant-walk_items-loop-turn : goal.invariant-walk_items-loop-turn
 invariant-walk_items-loop-turn g l =

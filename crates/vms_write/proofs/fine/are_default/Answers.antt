@@ -1,7 +1,5 @@
-use Rattle.std.proofs.Common.{◌≡◌, ℕ, suc, ◌+◌, ◌-◌, ◌&&◌, [], List, ℤ, get_or, pos, ap, sym, ◌∙◌, arith, Bool}
-use Rattle.vms_spec.specs.Numbers.{same_number}
-use Rattle.vms_parts.specs.declared.types.CellForm.{CellForm}
-use Rattle.vms_write.specs.Fine.{no_form, formed, settle}
+use Rattle.vms_write.proofs.Facade.{◌≡◌, ℕ, suc, ◌+◌, ◌-◌, ◌&&◌, [], List, ℤ, get_or, pos, ap, sym, ◌∙◌, arith, Bool, same_number, CellForm, no_form, formed}
+use Rattle.vms_write.proofs.Facade.{settle}
 use Rattle.vms_write.proofs.fine.are_default.Goals as goal
 
 one_more : (f : List CellForm) (n : List ℤ) (at left more : ℕ) → left ≡ suc more

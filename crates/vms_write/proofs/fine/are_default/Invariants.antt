@@ -1,5 +1,4 @@
-use Rattle.std.proofs.Common.{◌≡◌, ◌-◌, []}
-use Rattle.vms_write.specs.Fine.{formed, settle}
+use Rattle.vms_write.proofs.Facade.{◌≡◌, ◌-◌, [], formed, settle}
 use Rattle.vms_write.proofs.fine.are_default.Given as goal
 
 abbrev pub invariant-loop-cell : goal.invariant-loop-cell

@@ -1,11 +1,5 @@
-use Rattle.std.proofs.Common.{◌≡◌, ◌+◌, ◌-◌, ◌∙◌, sym, ap, arith, ℕ, true, [], List, ℤ}
-use Rattle.vms_parts.specs.Sizes.{in_u32}
-use Rattle.vms_spec.specs.Places.{own_cell_count}
-use Rattle.vms_desc.specs.Described.{described}
-use Rattle.vms_desc.specs.Parts.{desc_at}
-use Rattle.vms_walk.specs.Steps.{steps_of, spot_slots}
-use Rattle.vms_write.specs.Fine.{formed, settle}
-use Rattle.vms_write.specs.Steps.{are_steps_fine, behind}
+use Rattle.vms_write.proofs.Facade.{◌≡◌, ◌+◌, ◌-◌, ◌∙◌, sym, ap, arith, ℕ, true, [], List, ℤ, in_u32, own_cell_count, described, desc_at, steps_of, spot_slots}
+use Rattle.vms_write.proofs.Facade.{formed, settle, are_steps_fine, behind}
 use Rattle.vms_write.proofs.StepsFine.{part_fine, part_unfit}
 use Rattle.vms_write.proofs.fine.is_part_fine.Goals as goal
 

@@ -1,12 +1,6 @@
-use Rattle.std.proofs.Common.{◌≡◌, ◌<◌, ◌≤◌, length, map, sym, ap, ◌∙◌, arith, Bool, true, false}
-use Rattle.std.specs.Bool.{OnTrue, OnFalse}
-use Rattle.std.proofs.lemmas.List.{length-map}
-use Rattle.vms_spec.specs.Sets.{Set}
-use Rattle.vms_parts.specs.Views.{device_of}
-use Rattle.vms_desc.specs.Described.{described}
-use Rattle.vms_image.specs.Typed.{state_of}
-use Rattle.vms_image.proofs.States.{states_long, state_at, image_at}
-use Rattle.vms_write.proofs.AllReady.{none_so_far, none_of, one_more, one_more_of, not_all, all_so_far, all_of}
+use Rattle.vms_write.proofs.Facade.{◌≡◌, ◌<◌, ◌≤◌, length, map, sym, ap, ◌∙◌, arith, Bool, true, false, OnTrue, OnFalse, length-map, Set, device_of, described}
+use Rattle.vms_write.proofs.Facade.{state_of, states_long, state_at, image_at}
+use Rattle.vms_write.proofs.ReadyImages.{none_so_far, none_of, one_more, one_more_of, not_all, all_so_far, all_of}
 use Rattle.vms_write.proofs.readiness.are_ready.Goals as goal
 
 pub loop-device-init : goal.loop-device-init

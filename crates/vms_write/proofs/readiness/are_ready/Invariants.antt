@@ -1,7 +1,5 @@
-use Rattle.std.proofs.Common.{map}
-use Rattle.vms_desc.specs.Described.{described}
-use Rattle.vms_image.specs.Typed.{state_of}
-use Rattle.vms_write.proofs.AllReady.{AreSoFar, AreOfSoFar}
+use Rattle.vms_write.proofs.Facade.{map, described, state_of}
+use Rattle.vms_write.proofs.ReadyImages.{AreSoFar, AreOfSoFar}
 use Rattle.vms_write.proofs.readiness.are_ready.Given as goal
 
 abbrev pub invariant-loop-device : goal.invariant-loop-device

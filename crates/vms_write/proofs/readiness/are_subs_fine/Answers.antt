@@ -1,13 +1,7 @@
-use Rattle.std.proofs.Common.{◌<◌, ◌+◌, ◌&&◌, ℕ, length, drop, ap, sym, ◌∙◌, arith, Bool}
+use Rattle.vms_write.proofs.Facade.{◌<◌, ◌+◌, ◌&&◌, ℕ, length, drop, ap, sym, ◌∙◌, arith, Bool, own_cells, first_cell, described, device_at, state_of}
+use Rattle.vms_write.proofs.Facade.{sub_first, subs_fine, forms_of}
 use Rattle.vms_spec.specs.declared.Part.TheVariants as parts
-use Rattle.vms_spec.specs.Images.{own_cells}
-use Rattle.vms_desc.specs.Asks.{first_cell}
-use Rattle.vms_desc.specs.Described.{described, device_at}
-use Rattle.vms_image.specs.Typed.{state_of}
-use Rattle.vms_desc.proofs.AskLaws.{sub_first}
-use Rattle.vms_write.specs.Fine.{subs_fine}
-use Rattle.vms_write.specs.Judged.{forms_of}
-use Rattle.vms_write.proofs.Subs.{subs_fine_next}
+use Rattle.vms_write.proofs.Sections.{subs_fine_next}
 use Rattle.vms_write.proofs.readiness.are_subs_fine.Goals as goal
 
 pub loop-sub-init : goal.loop-sub-init

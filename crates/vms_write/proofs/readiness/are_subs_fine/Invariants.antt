@@ -1,10 +1,5 @@
-use Rattle.std.proofs.Common.{◌≡◌, drop}
+use Rattle.vms_write.proofs.Facade.{◌≡◌, drop, first_cell, described, device_at, state_of, subs_fine, forms_of, all_subs_fine}
 use Rattle.vms_spec.specs.declared.Part.TheVariants as parts
-use Rattle.vms_desc.specs.Asks.{first_cell}
-use Rattle.vms_desc.specs.Described.{described, device_at}
-use Rattle.vms_image.specs.Typed.{state_of}
-use Rattle.vms_write.specs.Fine.{subs_fine}
-use Rattle.vms_write.specs.Judged.{forms_of, all_subs_fine}
 use Rattle.vms_write.proofs.readiness.are_subs_fine.Given as goal
 
 abbrev pub invariant-loop-sub : goal.invariant-loop-sub

@@ -1,13 +1,6 @@
-use Rattle.std.proofs.Common.{◌≡◌, ℕ, ap, ◌∙◌, arith, [], List, ◌+◌, ◌-◌}
-use Rattle.vms_spec.specs.Places.{own_cell_count}
-use Rattle.vms_parts.specs.Sizes.{in_u32}
-use Rattle.vms_parts.specs.declared.types.CellForm.{CellForm}
-use Rattle.vms_desc.specs.Described.{described, device_at}
-use Rattle.vms_desc.specs.Parts.{sub_at}
-use Rattle.vms_desc.proofs.AskLaws.{sub_inside}
-use Rattle.vms_write.specs.Fine.{settle}
-use Rattle.vms_write.specs.Judged.{forms_of}
-use Rattle.vms_write.proofs.FormedLaws.{formed_defaults, formed_long}
+use Rattle.vms_write.proofs.Facade.{◌≡◌, ℕ, ap, ◌∙◌, arith, [], List, ◌+◌, ◌-◌, own_cell_count, in_u32, CellForm, described, device_at, sub_at, sub_inside}
+use Rattle.vms_write.proofs.Facade.{settle, forms_of}
+use Rattle.vms_write.proofs.Formed.{formed_defaults, formed_long}
 use Rattle.vms_write.proofs.readiness.is_bare.Goals as goal
 
 pub overflow_add-end : goal.overflow_add-end

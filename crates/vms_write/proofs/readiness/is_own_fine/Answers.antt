@@ -1,6 +1,5 @@
-use Rattle.std.proofs.Common.{rules}
-use Rattle.vms_desc.specs.Described.{described}
-use Rattle.vms_write.proofs.FormedLaws.{formed_defaults, formed_long}
+use Rattle.vms_write.proofs.Facade.{rules, described}
+use Rattle.vms_write.proofs.Formed.{formed_defaults, formed_long}
 use Rattle.vms_write.proofs.readiness.is_own_fine.Goals as goal
 
 pub is_part_fine-requires-clause-forms : goal.is_part_fine-requires-clause-forms

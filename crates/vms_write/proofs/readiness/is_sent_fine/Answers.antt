@@ -1,7 +1,5 @@
-use Rattle.std.proofs.Common.{rules, arith}
-use Rattle.vms_desc.specs.Described.{described}
-use Rattle.vms_desc.proofs.AskLaws.{sub_inside}
-use Rattle.vms_write.proofs.FormedLaws.{formed_defaults, formed_long}
+use Rattle.vms_write.proofs.Facade.{rules, arith, described, sub_inside}
+use Rattle.vms_write.proofs.Formed.{formed_defaults, formed_long}
 use Rattle.vms_write.proofs.readiness.is_sent_fine.Goals as goal
 
 pub is_part_fine-requires-clause-spot : goal.is_part_fine-requires-clause-spot

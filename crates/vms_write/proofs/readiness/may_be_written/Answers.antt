@@ -1,8 +1,4 @@
-use Rattle.std.proofs.Common.{◌≡◌, sym, ◌∙◌, Bool, true, false}
-use Rattle.std.specs.Bool.{OnTrue, OnFalse}
-use Rattle.vms_spec.specs.Streams.{IsReady}
-use Rattle.vms_desc.specs.Described.{described, device_at}
-use Rattle.vms_image.specs.Typed.{IsImageOf, state_of}
+use Rattle.vms_write.proofs.Facade.{◌≡◌, sym, ◌∙◌, Bool, true, false, OnTrue, OnFalse, IsReady, described, device_at, IsImageOf, state_of}
 use Rattle.vms_write.proofs.readiness.may_be_written.Goals as goal
 
 on_true : {P : Type 0} (b : Bool) → P → OnTrue b P

@@ -1,14 +1,8 @@
-use Rattle.std.proofs.Common.{◌≡◌, ◌&&◌, arith, ap, sym, ◌∙◌, refl, Bool, true, false}
-use Rattle.std.specs.Bool.{OnTrue, OnFalse}
-use Rattle.vms_spec.specs.Streams.{IsReady}
-use Rattle.vms_desc.specs.Described.{described, device_at}
-use Rattle.vms_image.specs.Typed.{state_of, IsOfDevice}
-use Rattle.vms_desc.proofs.AskLaws.{few_cells}
-use Rattle.vms_desc.proofs.Bounds.{good_of}
-use Rattle.vms_write.specs.Judged.{forms_of, all_subs_fine}
+use Rattle.vms_write.proofs.Facade.{◌≡◌, ◌&&◌, arith, ap, sym, ◌∙◌, refl, Bool, true, false, OnTrue, OnFalse, IsReady, described, device_at, state_of}
+use Rattle.vms_write.proofs.Facade.{IsOfDevice, few_cells, good_of, forms_of, all_subs_fine}
 use Rattle.vms_write.proofs.FineReady.{device_fine, ready_by, other_by}
-use Rattle.vms_write.proofs.readiness.ready.Goals as goal
 use Rattle.vms_write.proofs.readiness.ready.Goals.{After-is_own_fine, Start}
+use Rattle.vms_write.proofs.readiness.ready.Goals as goal
 
 of_device : (c : goal.Start) → IsOfDevice (described c.args.set.now) c.args.device (state_of c.args.image.now)
 of_device c =

@@ -1,8 +1,4 @@
-use Rattle.std.proofs.Common.{◌≡◌, List, ℕ, length, ap, ◌∙◌, arith}
-use Rattle.vms_io.proofs.WritingLemmas.{wrote_as}
-use Rattle.vms_spec.specs.Sets.{Device}
-use Rattle.vms_spec.specs.Streams.{section_head}
-use Rattle.vms_desc.specs.Described.{described, device_at}
+use Rattle.vms_write.proofs.Facade.{◌≡◌, List, ℕ, length, ap, ◌∙◌, arith, wrote_as, Device, section_head, described, device_at}
 use Rattle.vms_write.proofs.Formed.{device_short}
 use Rattle.vms_write.proofs.section.write_head.Goals as goal
 

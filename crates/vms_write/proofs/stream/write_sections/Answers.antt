@@ -1,16 +1,10 @@
-use Rattle.std.proofs.Common.{◌≡◌, ◌+◌, ◌<◌, ◌++◌, length, drop, map, arith, refl, Some}
-use Rattle.std.specs.List.{slice_get}
-use Rattle.vms_desc.specs.Described.{described, device_at}
-use Rattle.vms_image.specs.Typed.{state_of}
-use Rattle.vms_image.proofs.States.{states_long, state_at, at_state, image_at}
-use Rattle.std.proofs.lemmas.Result.{err_from_is_err_and}
-use Rattle.std.proofs.lemmas.Option.{slice_get-get_or}
-use Rattle.vms_io.proofs.WritingLemmas.{leaves_all, leaves_rest, leaves_stop, wrote_fault}
-use Rattle.vms_spec.specs.Streams.{written_section, written_sections}
+use Rattle.vms_write.proofs.Facade.{◌≡◌, ◌+◌, ◌<◌, ◌++◌, length, drop, map, arith, refl, Some, slice_get, err_from_is_err_and, slice_get-get_or, described}
+use Rattle.vms_write.proofs.Facade.{device_at, state_of, states_long, state_at, at_state, image_at, leaves_all, leaves_rest, leaves_stop, wrote_fault}
+use Rattle.vms_write.proofs.Facade.{written_section, written_sections}
 use Rattle.vms_write.proofs.Sections.{sections_at}
 use Rattle.vms_write.proofs.stream.write_sections.Given.{Over}
-use Rattle.vms_write.proofs.stream.write_sections.Goals as goal
 use Rattle.vms_write.proofs.stream.write_sections.Goals.{After-write_section-arg-1}
+use Rattle.vms_write.proofs.stream.write_sections.Goals as goal
 
 pub loop-device-init : goal.loop-device-init
 loop-device-init g c = leaves_all _ _ _ refl

@@ -1,34 +1,89 @@
-use Rattle.std.proofs.Common.{sym, ap, ◌∙◌}
-use Rattle.dev_pic.specs.Pair.{lines_of}
+use Rattle.std.proofs.Common.{ℕ, sym, ap, subst, ◌∙◌}
+use Rattle.dev_pic.specs.Pair.{int_of, lines_of}
+use Rattle.dev_board.specs.Kept.{IsCalm}
+use Rattle.dev_board.specs.Sound.{IsSound}
 use Rattle.dev_board.specs.State.{State}
-use Rattle.dev_board.specs.Step.{names_wire, wires_after}
+use Rattle.dev_board.specs.Step.{names_wire, settled, wires_after}
+use Rattle.dev_board.specs.Touch.{calm_after}
 use Rattle.dev_board.specs.View.{parts_view}
 use Rattle.dev_board.specs.Wires.{wires_of}
 use Rattle.dev_board.specs.declared.event.Event.TheVariants.{Wire}
+use Rattle.dev_board.specs.declared.touch.Before.{Before}
 use Rattle.dev_board.proofs.KeepLaws.{after-ack}
-use Rattle.dev_board.proofs.StayLaws.{after-read, after-write, after-time}
+use Rattle.dev_board.proofs.KeptLaws.{calm-read, calm-write}
+use Rattle.dev_board.proofs.StayLaws.{after-ack as ack-stays, after-read, after-write}
 use Rattle.dev_board.proofs.WireBits.{named-bound, wires_of-are, wires_after-are}
 use Rattle.dev_board.proofs.parts.Parts.event.Goals as goal
 
-pub settle-int-requires-clause-stays : goal.settle-int-requires-clause-stays
-settle-int-requires-clause-stays c =
-    after-read c.args.self.now c.requires.sound c.lines-lines.result (c.lines-lines.ensures ∙ ap (λ (m : State). lines_of m.pair) c.self.view_is) c.in-Read.port _ _ _ c.read-value.ensures.touch c.read-value.ensures.step
+pub settle-kept-requires-clause-stays : goal.settle-kept-requires-clause-stays
+settle-kept-requires-clause-stays c =
+    let before : Before = record { lines = c.lines-lines.result; int = c.args.kept.now.int } in
+    after-read c.args.self.now c.requires.sound before
+    (record { lines = c.lines-lines.ensures ∙ ap (λ (m : State). lines_of m.pair) c.self.view_is; int = c.requires.kept.int })
+    c.in-Read.port _ _ _ c.read-value.ensures.touch c.read-value.ensures.step
 
-pub settle-int-requires-in-Write-clause-stays : goal.settle-int-requires-in-Write-clause-stays
-settle-int-requires-in-Write-clause-stays c =
-    after-write c.args.self.now c.requires.sound c.lines-lines.result (c.lines-lines.ensures ∙ ap (λ (m : State). lines_of m.pair) c.self.view_is) c.in-Write.port c.in-Write.value _ _ c.write-touch.ensures.touch c.write-touch.ensures.step
-
-pub settle-int-requires-in-Wait-clause-stays : goal.settle-int-requires-in-Wait-clause-stays
-settle-int-requires-in-Wait-clause-stays c =
-    after-time c.args.self.now c.requires.sound c.lines-lines.result (c.lines-lines.ensures ∙ ap (λ (m : State). lines_of m.pair) c.self.view_is) _ _ _ c.wait-edge.ensures
+pub settle-kept-requires-in-Write-clause-stays : goal.settle-kept-requires-in-Write-clause-stays
+settle-kept-requires-in-Write-clause-stays c =
+    let before : Before = record { lines = c.lines-lines.result; int = c.args.kept.now.int } in
+    after-write c.args.self.now c.requires.sound before
+    (record { lines = c.lines-lines.ensures ∙ ap (λ (m : State). lines_of m.pair) c.self.view_is; int = c.requires.kept.int })
+    c.in-Write.port c.in-Write.value _ _ c.write-touch.ensures.touch c.write-touch.ensures.step
 
 pub with_wire-wires-requires : goal.with_wire-wires-requires
 with_wire-wires-requires c = named-bound c.args.event c.in-Wire.input c.in-Wire.up c.requires.wire c.in-Wire.is
 
-pub settle-int-requires-in-Wire-clause-wires : goal.settle-int-requires-in-Wire-clause-wires
+pub settle-kept-requires-in-Wire-clause-wires : goal.settle-kept-requires-in-Wire-clause-wires
 unfolding wires_after
-settle-int-requires-in-Wire-clause-wires c =
+settle-kept-requires-in-Wire-clause-wires c =
     rw (c.with_wire-wires.ensures, c.wires-wires.ensures.wires) (wires_after-are (Wire c.in-Wire.input c.in-Wire.up) (wires_of c.args.self.now) (ap names_wire (sym c.in-Wire.is) ∙ c.requires.wire) (wires_of-are c.args.self.now))
 
 pub invariant_of-self : goal.invariant_of-self
 invariant_of-self c = after-ack (parts_view c.self.inside) c.self.invariant c.ack-value.result c.ack-value.new.self c.ack-value.ensures
+
+pub settle-kept-requires-in-Ack-clause-stays : goal.settle-kept-requires-in-Ack-clause-stays
+settle-kept-requires-in-Ack-clause-stays c =
+    let before : Before = record { lines = c.lines-lines.result; int = c.args.kept.now.int } in
+    ack-stays (parts_view c.self.inside) (subst IsSound (sym c.self.view_is) c.requires.sound) before
+    (record { lines = c.lines-lines.ensures; int = c.requires.kept.int ∙ ap (λ (m : State). int_of m.pair) (sym c.self.view_is) })
+    c.ack-value.result c.ack-value.new.self _ c.ack_touches.ensures c.ack-value.ensures
+
+pub returns-in-Read-clause-kept : goal.returns-in-Read-clause-kept
+unfolding settled
+returns-in-Read-clause-kept c = record {
+  int = c.settle-kept.ensures.int;
+  calm = subst (IsCalm c.args.kept.now.calm) (sym c.settle-kept.ensures.state)
+      (calm-read c.args.kept.now.calm c.args.self.now c.requires.kept.calm c.in-Read.port _ _ c.read-value.ensures.step);
+}
+
+pub returns-in-Write-clause-kept : goal.returns-in-Write-clause-kept
+unfolding settled
+returns-in-Write-clause-kept c =
+    let calm = c.args.kept.now.calm in record {
+      int = c.settle-kept-in-Write.ensures.int;
+      calm = subst (λ (until : ℕ). IsCalm until c.settle-kept-in-Write.new.self) (sym c.calm-kept.ensures)
+          (subst (IsCalm (calm_after c.write-touch.result calm)) (sym c.settle-kept-in-Write.ensures.state)
+          (calm-write calm c.args.self.now c.requires.kept.calm c.in-Write.port c.in-Write.value _ _ c.write-touch.ensures.touch c.write-touch.ensures.step));
+    }
+
+pub returns-in-Byte-clause-kept : goal.returns-in-Byte-clause-kept
+unfolding settled
+returns-in-Byte-clause-kept c = record {
+  int = c.settle-kept-in-Byte.ensures.int;
+  calm = subst (IsCalm c.args.kept.now.calm) (sym c.settle-kept-in-Byte.ensures.state)
+      (subst (IsCalm c.args.kept.now.calm) (sym c.byte_in.ensures) c.requires.kept.calm);
+}
+
+pub returns-in-Wire-clause-kept : goal.returns-in-Wire-clause-kept
+unfolding settled
+returns-in-Wire-clause-kept c = record {
+  int = c.settle-kept-in-Wire.ensures.int;
+  calm = subst (IsCalm c.args.kept.now.calm) (sym c.settle-kept-in-Wire.ensures.state) c.requires.kept.calm;
+}
+
+pub returns-in-Ack-clause-kept : goal.returns-in-Ack-clause-kept
+unfolding settled
+returns-in-Ack-clause-kept c = record {
+  int = c.settle-kept-in-Ack.ensures.int;
+  calm = subst (IsCalm c.args.kept.now.calm) (sym c.settle-kept-in-Ack.ensures.state)
+      (subst (IsCalm c.args.kept.now.calm) (sym c.self.view_is) c.requires.kept.calm);
+}

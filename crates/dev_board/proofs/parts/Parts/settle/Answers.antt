@@ -18,7 +18,7 @@ invariant_of-self c = (returns-clause-sound c).devices
 
 pub returns-then-is_quiet-clause-state : goal.returns-then-is_quiet-clause-state
 returns-then-is_quiet-clause-state c =
-    sym (quiet-settled c.args.wires c.args.lines c.inputs-inputs.result c.args.edge c.args.touch c.args.self.now c.requires.stays c.inputs-inputs.ensures (sym c.is_quiet.ensures ∙ c.if-is_quiet.true))
+    sym (quiet-settled c.args.wires c.inputs-inputs.result c.args.before c.args.edge c.args.touch c.args.self.now c.requires.stays c.inputs-inputs.ensures (sym c.is_quiet.ensures ∙ c.if-is_quiet.true))
 
 pub returns-then-is_quiet-clause-sound : goal.returns-then-is_quiet-clause-sound
 returns-then-is_quiet-clause-sound c =
@@ -26,7 +26,7 @@ returns-then-is_quiet-clause-sound c =
 
 pub returns-then-is_untouched-clause-state : goal.returns-then-is_untouched-clause-state
 returns-then-is_untouched-clause-state c =
-    sym (untouched-settled c.args.wires c.args.lines c.args.edge c.args.touch c.args.self.now c.requires.stays (sym c.is_untouched.ensures ∙ c.if-is_untouched.true))
+    sym (untouched-settled c.args.wires c.args.before c.args.edge c.args.touch c.args.self.now c.requires.stays (sym c.is_untouched.ensures ∙ c.if-is_untouched.true))
 
 pub returns-then-is_untouched-clause-sound : goal.returns-then-is_untouched-clause-sound
 returns-then-is_untouched-clause-sound c =

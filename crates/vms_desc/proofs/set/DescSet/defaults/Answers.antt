@@ -1,18 +1,17 @@
-use Rattle.std.proofs.Common.{◌≡◌, ◌∙◌, ap, subst, sym, List, get_or, length, map, ◌≤◌, arith}
+use Rattle.std.proofs.Common.{◌≡◌, length, map, ◌≤◌, arith}
 use Rattle.std.proofs.lemmas.List.{length-map}
 use Rattle.vms_spec.specs.declared.TheConstants.{MOST_ITEMS}
 use Rattle.vms_spec.specs.Layout.{device_cells}
-use Rattle.vms_spots.specs.Spots.{Held}
 use Rattle.vms_desc.specs.Described.{described, device_at}
 use Rattle.vms_desc.specs.Spots.{defaults_at}
 use Rattle.vms_desc.proofs.AskLaws.{few_cells}
-use Rattle.vms_desc.proofs.DefaultLaws.{entry_is}
+use Rattle.vms_desc.proofs.FormLaws.{entry_is}
 use Rattle.vms_desc.proofs.set.DescSet.defaults.Goals as goal
 
 are : (c : goal.After-index-as_slice-device) → c.index-as_slice-device.result ≡ defaults_at (described c.args.self.now) c.args.device
 are c =
     entry_is (described c.args.self.now) c.args.self.now.defaults c.args.device c.index-as_slice-device.result c.args.self.now.at_default c.requires
-    (c.index-as_slice-device.is ∙ ap (λ (l : List Held). get_or l c.args.device c.index-as_slice-device.result) c.as_slice.ensures)
+    (cc (c.index-as_slice-device.is, c.as_slice.ensures))
 
 pub returns-clause-defaults : goal.returns-clause-defaults
 returns-clause-defaults c = are c
@@ -21,5 +20,6 @@ pub returns-clause-few : goal.returns-clause-few
 returns-clause-few c =
     let set = described c.args.self.now in
     let cells = device_cells set (device_at set c.args.device) in
-    let few : length (map (λ x. x.default) cells) ≤ MOST_ITEMS = omega (arith, few_cells set c.args.self.now.well_formed c.args.device, length-map cells (λ x. x.default)) in
-    subst (λ (h : Held). length h.numbers ≤ MOST_ITEMS) (sym (are c)) few
+    let few : length (map (λ x. x.default) cells) ≤ MOST_ITEMS =
+    omega (arith, few_cells set c.args.self.now.well_formed c.args.device, length-map cells (λ x. x.default)) in
+    rw (are c) few

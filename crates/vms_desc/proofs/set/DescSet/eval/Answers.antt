@@ -1,10 +1,10 @@
-use Rattle.std.proofs.Common.{◌∙◌, sym, subst}
+use Rattle.std.proofs.Common.{◌∙◌}
 use Rattle.std.specs.Option.{option_copied}
 use Rattle.vms_desc.specs.Described.{described}
 use Rattle.vms_desc.specs.Parts.{desc_at}
 use Rattle.vms_desc.specs.Scopes.{IsParent}
 use Rattle.vms_parts.specs.Views.{formula}
-use Rattle.vms_desc.proofs.EvalParts.{placed, own_inside, parent_inside, truth_is}
+use Rattle.vms_desc.proofs.EvalLaws.{placed, own_inside, parent_inside, truth_is}
 use Rattle.vms_desc.proofs.set.DescSet.eval.Goals as goal
 
 pub holds-requires : goal.holds-requires
@@ -13,7 +13,7 @@ holds-requires g c =
     let numbers = g.C.Cells.numbers c.args.cells.now in
     let own = c.scope-own.result in
     let parent = option_copied c.as_ref.result in
-    let is = subst (IsParent set c.args.desc) (sym c.as_ref.ensures.value) c.parent-parent.ensures in
+    let is : IsParent set c.args.desc parent = rw c.as_ref.ensures.value c.parent-parent.ensures in
     record {
       names = placed set c.args.desc c.args.base own parent (formula c.args.test.now) c.scope-own.ensures is c.requires.placed;
       own = own_inside set (desc_at set c.args.desc) c.args.base own numbers c.scope-own.ensures c.requires.few c.requires.own;
@@ -24,6 +24,7 @@ holds-requires g c =
 pub returns : goal.returns
 returns g c =
     let set = described c.args.self.now in
-    let is = subst (IsParent set c.args.desc) (sym c.as_ref.ensures.value) c.parent-parent.ensures in
+    let is : IsParent set c.args.desc (option_copied c.as_ref.result) = rw c.as_ref.ensures.value c.parent-parent.ensures in
     c.holds.ensures
-    ∙ truth_is set c.args.desc c.args.base c.scope-own.result (option_copied c.as_ref.result) (g.C.Cells.numbers c.args.cells.now) (formula c.args.test.now) c.args.version c.scope-own.ensures is c.requires.few c.requires.own c.requires.parent
+    ∙ truth_is set c.args.desc c.args.base c.scope-own.result (option_copied c.as_ref.result) (g.C.Cells.numbers c.args.cells.now)
+    (formula c.args.test.now) c.args.version c.scope-own.ensures is c.requires.few c.requires.own c.requires.parent

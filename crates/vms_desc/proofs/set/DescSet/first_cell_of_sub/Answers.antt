@@ -1,28 +1,31 @@
-use Rattle.std.proofs.Common.{◌≡◌, ◌∙◌, sym, ◌<◌, ◌≤◌, length, arith}
-use Rattle.vms_spec.specs.declared.TheConstants.{MOST_ITEMS}
+use Rattle.std.proofs.Common.{◌≡◌, ◌<◌, length, arith}
 use Rattle.vms_spec.specs.Sets.{AtLeast}
 use Rattle.vms_spec.specs.Layout.{no_desc}
 use Rattle.vms_spec.specs.Images.{own_cells}
 use Rattle.vms_spec.specs.Places.{own_cell_count}
 use Rattle.vms_desc.specs.Described.{described, device_at}
 use Rattle.vms_desc.specs.Parts.{sub_at}
-use Rattle.vms_parts.specs.Sizes.{in_u32}
 use Rattle.vms_desc.proofs.AskLaws.{few_cells, sub_first, sub_next, sub_inside, own_inside_device}
-use Rattle.vms_desc.proofs.set.DescSet.first_cell_of_sub.Goals as goal
 use Rattle.vms_desc.proofs.set.DescSet.first_cell_of_sub.Goals.{After-cells_of-cell-in-loop-earlier}
+use Rattle.vms_desc.proofs.set.DescSet.first_cell_of_sub.Goals as goal
 
 pub loop-earlier-init : goal.loop-earlier-init
 loop-earlier-init c =
     let set = described c.args.self.now in
     let d = device_at set c.args.device in
-    let size : c.cells_of-cell.result ≡ in_u32 (own_cells set d) = c.cells_of-cell.ensures in
-    let few : own_cells set d ≤ MOST_ITEMS = omega (arith, own_inside_device set c.args.device, few_cells set c.args.self.now.well_formed c.args.device) in
-    let same : c.cells_of-cell.result ≡ own_cells set d = omega arith in
-    same ∙ sym (sub_first set (own_cells set d) d.subs)
+    omega (
+      arith,
+      c.cells_of-cell.ensures,
+      own_inside_device set c.args.device,
+      few_cells set c.args.self.now.well_formed c.args.device,
+      sub_first set
+          (own_cells set d) d.subs,
+    )
 
 -- an earlier subsection is one of the device's, and the code knows its size
-earlier : (c : goal.After-cells_of-cell-in-loop-earlier) → (let d = device_at (described c.args.self.now) c.args.device in
-    (c.loop-earlier.earlier < length d.subs) × (c.cells_of-cell-in-loop-earlier.result ≡ own_cell_count (described c.args.self.now) (sub_at d c.loop-earlier.earlier).desc))
+earlier : (c : After-cells_of-cell-in-loop-earlier) → (let d = device_at (described c.args.self.now) c.args.device in
+    (c.loop-earlier.earlier < length d.subs) × (c.cells_of-cell-in-loop-earlier.result ≡ own_cell_count (described c.args.self.now)
+    (sub_at d c.loop-earlier.earlier).desc))
 earlier c =
     let set = described c.args.self.now in
     let lt : c.loop-earlier.earlier < length (device_at set c.args.device).subs = omega (arith, c.requires.1) in
@@ -39,4 +42,10 @@ loop-earlier-preserved c =
     let set = described c.args.self.now in
     let d = device_at set c.args.device in
     let e = earlier (goal.at.loop-earlier-preserved c).After-cells_of-cell-in-loop-earlier in
-    omega (arith, e.1, sub_next set (own_cells set d) d.subs c.loop-earlier.earlier (record { desc = no_desc; needed = AtLeast 0 }) e.0, c.loop-earlier.invariant)
+    omega (
+      arith,
+      e.1,
+      sub_next set (own_cells set d) d.subs c.loop-earlier.earlier
+          (record { desc = no_desc; needed = AtLeast 0 }) e.0,
+      c.loop-earlier.invariant,
+    )

@@ -5,14 +5,15 @@ use Rattle.vms_parts.specs.Views.{formula}
 use Rattle.vms_desc.specs.Asks.{own_numbers}
 use Rattle.vms_desc.specs.Described.{described}
 use Rattle.vms_desc.specs.Parts.{desc_at}
-use Rattle.vms_desc.proofs.EvalParts.{own_inside}
+use Rattle.vms_desc.proofs.EvalLaws.{own_inside}
 use Rattle.vms_desc.proofs.AskLaws.{rules_name, same_rules}
 use Rattle.vms_desc.proofs.set.DescSet.holds_rules.Goals as goal
 
 pub all_hold-requires-clause-names : goal.all_hold-requires-clause-names
 all_hold-requires-clause-names g c =
     let set = described c.args.self.now in
-    let tests : map formula c.as_slice-tests.result.now ≡ (desc_at set c.args.part).validate = ap (map formula) c.as_slice-tests.ensures ∙ ap (λ (d : Desc). d.validate) c.desc.ensures in
+    let tests : map formula c.as_slice-tests.result.now ≡ (desc_at set c.args.part).validate =
+    ap (map formula) c.as_slice-tests.ensures ∙ ap (λ (d : Desc). d.validate) c.desc.ensures in
     rules_name set c.args.self.now.well_formed c.args.part c.requires.part c.scope.result c.scope.ensures.fields (map formula c.as_slice-tests.result.now) tests
 
 pub all_hold-requires-clause-own : goal.all_hold-requires-clause-own
@@ -24,7 +25,9 @@ pub returns : goal.returns
 returns g c =
     let set = described c.args.self.now in
     let numbers = g.C.Cells.numbers c.args.cells.now in
-    let tests : map formula c.as_slice-tests.result.now ≡ (desc_at set c.args.part).validate = ap (map formula) c.as_slice-tests.ensures ∙ ap (λ (d : Desc). d.validate) c.desc.ensures in
+    let tests : map formula c.as_slice-tests.result.now ≡ (desc_at set c.args.part).validate =
+    ap (map formula) c.as_slice-tests.ensures ∙ ap (λ (d : Desc). d.validate) c.desc.ensures in
     c.all_hold.ensures
-    ∙ same_rules set c.args.part c.args.base c.scope.result numbers c.scope.ensures c.requires.few c.requires.own (map formula c.as_slice-tests.result.now) c.args.version
+    ∙ same_rules set c.args.part c.args.base c.scope.result numbers c.scope.ensures c.requires.few c.requires.own
+    (map formula c.as_slice-tests.result.now) c.args.version
     ∙ ap (λ (ts : List Formula). all_hold ts c.args.version (own_numbers set c.args.part numbers c.args.base)) tests

@@ -7,18 +7,33 @@ use Rattle.vms_parts.specs.Views.{field_of, formula, formula_in}
 use Rattle.vms_desc.specs.Asks.{field_at, own_numbers}
 use Rattle.vms_desc.specs.Described.{described}
 use Rattle.vms_desc.specs.Parts.{desc_at}
-use Rattle.vms_desc.proofs.EvalParts.{own_inside}
+use Rattle.vms_desc.proofs.EvalLaws.{own_inside}
 use Rattle.vms_desc.proofs.AskLaws.{here_fields, found_field, field_names, same_truth}
+use Rattle.vms_desc.proofs.set.DescSet.is_there.Given.{Over}
+use Rattle.vms_desc.proofs.set.DescSet.is_there.Goals.{After-deref}
 use Rattle.vms_desc.proofs.set.DescSet.is_there.Goals as goal
+
+-- the field that the code found is that of the set, and has the test that the code found
+record IsHere (g : Over) (c : After-deref g) : Type 0 where
+  found : field_of c.index-as_slice-field.result ≡ field_at (described c.args.self.now) c.args.part c.args.field
+  test : option_map formula_in c.index-as_slice-field.result.test ≡ Some (formula c.deref.result.now)
+
+is_here : (g : Over) (c : After-deref g) → IsHere g c
+is_here g c =
+    let set = described c.args.self.now in
+    let fields = here_fields set c.args.part c.desc.result.now c.as_slice.result.now c.desc.ensures c.as_slice.ensures in
+    record {
+      found = found_field c.as_slice.result.now
+          (desc_at set c.args.part).fields c.args.field c.index-as_slice-field.result fields c.requires.field c.index-as_slice-field.is;
+      test = ap (option_map formula_in) c.in-Some.is ∙ ap (λ t. Some (formula t)) (sym c.deref.ensures);
+    }
 
 pub holds-requires-clause-names : goal.holds-requires-clause-names
 holds-requires-clause-names g c =
-    let set = described c.args.self.now in
-    let own = c.scope.result in
-    let f = c.index-as_slice-field.result in
-    let found = found_field c.as_slice.result.now (desc_at set c.args.part).fields c.args.field f (here_fields set c.args.part c.desc.result.now c.as_slice.result.now c.desc.ensures c.as_slice.ensures) c.requires.field c.index-as_slice-field.is in
-    let test : option_map formula_in f.test ≡ Some (formula c.deref.result.now) = ap (option_map formula_in) c.in-Some.is ∙ ap (λ t. Some (formula t)) (sym c.deref.ensures) in
-    field_names set c.args.self.now.well_formed c.args.part c.requires.part c.args.field c.requires.field (field_of f) found (formula c.deref.result.now) test own c.scope.ensures.fields
+    let here = is_here g (goal.at.holds-requires-clause-names g c).After-deref in
+    field_names (described c.args.self.now) c.args.self.now.well_formed c.args.part c.requires.part c.args.field c.requires.field
+    (field_of c.index-as_slice-field.result) here.found
+    (formula c.deref.result.now) here.test c.scope.result c.scope.ensures.fields
 
 pub holds-requires-clause-own : goal.holds-requires-clause-own
 holds-requires-clause-own g c =
@@ -29,10 +44,9 @@ pub returns-in-Some : goal.returns-in-Some
 returns-in-Some g c =
     let set = described c.args.self.now in
     let numbers = g.C.Cells.numbers c.args.cells.now in
-    let own = c.scope.result in
-    let f = c.index-as_slice-field.result in
-    let found = found_field c.as_slice.result.now (desc_at set c.args.part).fields c.args.field f (here_fields set c.args.part c.desc.result.now c.as_slice.result.now c.desc.ensures c.as_slice.ensures) c.requires.field c.index-as_slice-field.is in
-    let test : option_map formula_in f.test ≡ Some (formula c.deref.result.now) = ap (option_map formula_in) c.in-Some.is ∙ ap (λ t. Some (formula t)) (sym c.deref.ensures) in
-    let formulas : Some (formula c.deref.result.now) ≡ (field_at set c.args.part c.args.field).test = sym test ∙ ap (λ (x : Field). x.test) found in
-    c.holds.ensures ∙ same_truth set c.args.part c.args.base own numbers c.scope.ensures c.requires.few c.requires.own (formula c.deref.result.now) c.args.version
-    ∙ ap (λ (t : Option Formula). is_there t (field_at set c.args.part c.args.field).since c.args.version (own_numbers set c.args.part numbers c.args.base) no_parent) formulas
+    let here = is_here g (goal.at.returns-in-Some g c).After-deref in
+    let formulas : Some (formula c.deref.result.now) ≡ (field_at set c.args.part c.args.field).test = sym here.test ∙ ap (λ (x : Field). x.test) here.found in
+    c.holds.ensures ∙ same_truth set c.args.part c.args.base c.scope.result numbers c.scope.ensures c.requires.few c.requires.own
+    (formula c.deref.result.now) c.args.version
+    ∙ ap (λ (t : Option Formula). is_there t (field_at set c.args.part c.args.field).since c.args.version
+    (own_numbers set c.args.part numbers c.args.base) no_parent) formulas

@@ -1,5 +1,5 @@
-use Rattle.std.proofs.Common.{◌∙◌, sym, ap, subst, arith}
-use Rattle.vms_spots.specs.Spots.{Held, spots_of, AreApart}
+use Rattle.std.proofs.Common.{◌∙◌, ap, arith}
+use Rattle.vms_spots.specs.Spots.{Held, spots_of}
 use Rattle.vms_spots.proofs.SpotLaws.{are_apart}
 use Rattle.vms_desc.specs.Described.{described}
 use Rattle.vms_desc.specs.Spots.{kinds_at}
@@ -11,7 +11,7 @@ returns-clause-spots c = c.spots.ensures.spots ∙ ap (λ (h : Held). spots_of h
 pub returns-clause-apart : goal.returns-clause-apart
 returns-clause-apart c =
     let kinds = kinds_at (described c.args.self.now) c.args.device in
-    subst (AreApart kinds) (sym (c.spots.ensures.spots ∙ ap (λ (h : Held). spots_of h.kinds) c.defaults.ensures.defaults)) (are_apart kinds)
+    rw (c.spots.ensures.spots ∙ ap (λ (h : Held). spots_of h.kinds) c.defaults.ensures.defaults) (are_apart kinds)
 
 pub returns-clause-few : goal.returns-clause-few
 returns-clause-few c = omega (arith, c.spots.ensures.count, c.defaults.ensures.few)

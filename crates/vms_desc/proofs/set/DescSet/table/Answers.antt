@@ -1,16 +1,13 @@
-use Rattle.std.proofs.Common.{subst, sym}
-use Rattle.vms_spec.specs.declared.Part.{Part}
 use Rattle.vms_spec.specs.declared.Part.TheVariants as parts
 use Rattle.vms_desc.specs.Described.{described, device_at}
 use Rattle.vms_desc.specs.Numbers.{sizes_of}
-use Rattle.vms_desc.specs.Parts.{HasPart, desc_at}
-use Rattle.vms_desc.specs.Tables.{IsTable}
+use Rattle.vms_desc.specs.Parts.{HasPart}
 use Rattle.vms_desc.proofs.TablesMade.{sub_table}
 use Rattle.vms_desc.proofs.set.DescSet.table.Goals as goal
 
 pub returns-in-Sub : goal.returns-in-Sub
 returns-in-Sub c =
     let set = described c.args.self.now in
-    let has : HasPart set (parts.Sub c.in-Sub.device c.in-Sub.number) = subst (HasPart set) c.in-Sub.is c.requires in
-    subst (λ (p : Part). IsTable (sizes_of set) (desc_at set p).fields c.index-tables_of-number.result) (sym c.in-Sub.is)
-    (sub_table (sizes_of set) (device_at set c.in-Sub.device) c.tables_of-in-Sub.result.now c.in-Sub.number c.index-tables_of-number.result c.tables_of-in-Sub.ensures has.1 c.index-tables_of-number.is)
+    let has : HasPart set (parts.Sub c.in-Sub.device c.in-Sub.number) = rw c.in-Sub.is at c.requires in
+    rw c.in-Sub.is (sub_table (sizes_of set)
+    (device_at set c.in-Sub.device) c.tables_of-in-Sub.result.now c.in-Sub.number c.index-tables_of-number.result c.tables_of-in-Sub.ensures has.1 c.index-tables_of-number.is)

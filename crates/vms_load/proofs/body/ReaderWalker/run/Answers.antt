@@ -1,16 +1,8 @@
-use Rattle.std.proofs.Common.{rules, ◌≡◌, ℕ, ◌*◌, ◌/◌, ◌+◌, ◌<◌, ◌≤◌, [], take, drop, length, None, refl, sym, ap, ◌∙◌, subst, arith}
-use Rattle.std.proofs.lemmas.Result.{err_from_is_err_and}
-use Rattle.vms_io.specs.Told.{intake}
-use Rattle.vms_io.proofs.ReadingLemmas.{takes_as}
-use Rattle.vms_kinds.specs.Codes.{width}
+use Rattle.vms_load.proofs.Facade.{rules, ◌≡◌, ℕ, ◌*◌, ◌/◌, ◌+◌, ◌<◌, ◌≤◌, [], take, drop, length, None, refl, sym, ap, ◌∙◌, subst, arith, err_from_is_err_and}
+use Rattle.vms_load.proofs.Facade.{intake, takes_as, width, Typed, run_of, run_each, IsOfKind, Took, Failed, told, took_none}
 use Rattle.vms_spec.specs.declared.Reason.TheVariants as reasons
-use Rattle.vms_image.specs.Typed.{Typed}
 use Rattle.vms_walk.specs.declared.step.WalkStep.TheVariants.{Number}
-use Rattle.vms_walk.specs.Runs.{run_of}
-use Rattle.vms_walk.proofs.Runs.{run_each}
 use Rattle.vms_frames.specs.declared.fault.FrameFault.TheVariants as faults
-use Rattle.vms_load.specs.Bodies.{IsOfKind}
-use Rattle.vms_load.specs.Reading.{Took, Failed, told, took_none}
 use Rattle.vms_load.proofs.RunReads.{filled, run_first, took_run, failed_run, cut_run, all_came, part_came}
 use Rattle.vms_load.proofs.body.ReaderWalker.run.Goals as goal
 
@@ -57,8 +49,7 @@ returns-clause-ok g c =
     let enough : count ≤ n / c.width-width.result = omega (arith, c.if-whole-count.false) in
     let all = all_came kind count n buf room bound (subst (λ (k : ℕ). count ≤ n / k) wide enough) in
     let image : c.put_codes.new.self ≡ filled a.image.now c.args.first kind count (take n buf) =
-    c.put_codes.ensures
-    ∙ ap (λ (k : ℕ). filled a.image.now c.args.first kind (n / k) (take (n / k * k) buf)) wide
+    c.put_codes.ensures ∙ ap (λ (k : ℕ). filled a.image.now c.args.first kind (n / k) (take (n / k * k) buf)) wide
     ∙ ap (λ (m : ℕ). filled a.image.now c.args.first kind m (take (n / width kind * width kind) buf)) all.whole
     ∙ ap (λ (m : ℕ). filled a.image.now c.args.first kind count (take m buf)) all.all in
     let place : c.codes.new.self.at ≡ a.cursor.now.at + count * width kind = c.in_ok-came.ensures.place ∙ ap (λ (m : ℕ). a.cursor.now.at + m * width kind) all.whole in

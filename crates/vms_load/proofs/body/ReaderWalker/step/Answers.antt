@@ -1,11 +1,8 @@
-use Rattle.std.proofs.Common.{refl}
-use Rattle.std.proofs.lemmas.Result.{IfErr-weaker}
-use Rattle.vms_io.specs.Told.{intake}
-use Rattle.vms_load.specs.Reading.{Told, told}
-use Rattle.vms_load.proofs.StepsTaken.{on_ok, step_ok, step_err}
+use Rattle.vms_load.proofs.Facade.{refl, IfErr-weaker, intake, Told, told}
+use Rattle.vms_load.proofs.RunReads.{on_ok, step_ok, step_err}
 use Rattle.vms_load.proofs.body.ReaderWalker.step.Given.{Over}
-use Rattle.vms_load.proofs.body.ReaderWalker.step.Goals as goal
 use Rattle.vms_load.proofs.body.ReaderWalker.step.Goals.{Start, After-read_step}
+use Rattle.vms_load.proofs.body.ReaderWalker.step.Goals as goal
 
 -- what is known before the step and after it
 abbrev old : (g : Over) (c : goal.Start g) → Told

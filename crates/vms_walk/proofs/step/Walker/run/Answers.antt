@@ -1,7 +1,7 @@
 use Rattle.std.proofs.Common.{[], ◌≡◌, ◌-◌, refl, ◌∙◌, subst, arith, zero, ℕ}
 use Rattle.vms_walk.specs.Runs.{run_of}
 use Rattle.vms_walk.proofs.Going.{Laws}
-use Rattle.vms_walk.proofs.Results.{err_is}
+use Rattle.vms_walk.proofs.Kept.{err_is}
 use Rattle.vms_walk.proofs.Runs.{run_next, run_stop, run_may}
 use Rattle.vms_walk.proofs.step.Walker.run.Given.{Over}
 use Rattle.vms_walk.proofs.step.Walker.run.Goals as goal

@@ -1,9 +1,5 @@
-use Rattle.std.proofs.Common.{[], refl, ◌∙◌}
-use Rattle.vms_io.specs.Told.{outlet}
-use Rattle.vms_io.proofs.WritingLemmas.{puts_none, puts_as, stops_as}
-use Rattle.vms_walk.proofs.Runs.{run_each}
-use Rattle.vms_write.specs.Bytes.{CanStep}
-use Rattle.vms_write.proofs.RunBytes.{run_bytes, wrote_ok, wrote_err}
+use Rattle.vms_write.proofs.Facade.{[], refl, ◌∙◌, outlet, puts_none, puts_as, stops_as, run_each, CanStep}
+use Rattle.vms_write.proofs.Sections.{run_bytes, wrote_ok, wrote_err}
 use Rattle.vms_write.proofs.body.WriterWalker.run.Goals as goal
 
 pub codes-requires-clause-one : goal.codes-requires-clause-one

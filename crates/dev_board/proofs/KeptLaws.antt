@@ -1,0 +1,149 @@
+-- What is known of the timer between events.
+use Rattle.std.proofs.Common.{◌≡◌, ℕ, ◌/◌, ◌<◌, ◌≤◌, inl, inr, Bool, true, false, ◌&&◌, if◌then◌else◌, Option, Some, None, refl, sym, ap, ◌∙◌, subst, arith, ⊎_elim}
+use Rattle.std.proofs.lemmas.Bool.{cases_lt, or_parts}
+use Rattle.std.proofs.lemmas.Bool.Decides.{nat_tests}
+use Rattle.std.specs.Prelude.{nat_lt}
+use Rattle.dev_pit.proofs.Chips.{at_counter}
+use Rattle.dev_pit.proofs.CounterSteps.{same, read-goes_on}
+use Rattle.dev_pit.proofs.Edges.{edge_in_parts}
+use Rattle.dev_pit.specs.Count.{period, rises, ticks}
+use Rattle.dev_pit.specs.Counter.{edge_of, edge_since, out_of, read_of}
+use Rattle.dev_pit.specs.GoesOn.{GoesOn}
+use Rattle.dev_pit.specs.Pit.{counter_of, pit_edge, pit_out, pit_read}
+use Rattle.dev_pit.specs.Turns.{AreTurns, IsTurn}
+use Rattle.dev_pit.specs.declared.counter.Counter.{Counter as Counting}
+use Rattle.dev_pit.specs.declared.mode.Mode.{Mode}
+use Rattle.dev_pit.specs.declared.mode.Mode.TheVariants.{TerminalCount, OneShot, RateGenerator, SquareWave, SoftwareStrobe, HardwareStrobe}
+use Rattle.dev_pit.specs.declared.pit.Pit.{Pit}
+use Rattle.dev_pit.specs.declared.turns.Turns.{Turns}
+use Rattle.dev_board.specs.Kept.{IsCalm, calm_by, later}
+use Rattle.dev_board.specs.Ports.{read_at, target_of, written_at, read, write}
+use Rattle.dev_board.specs.Sound.{HasDevices}
+use Rattle.dev_board.specs.State.{State}
+use Rattle.dev_board.specs.Step.{Act, waited}
+use Rattle.dev_board.specs.Touch.{calm_after, is_command, write_touches}
+use Rattle.dev_board.specs.declared.ports.Target.{Target}
+use Rattle.dev_board.specs.declared.ports.Target.TheVariants.{Pair, Counter, Control, Register, Nothing}
+use Rattle.dev_board.specs.declared.touch.Touch.{Touch}
+use Rattle.dev_board.specs.declared.touch.Touch.TheVariants.{Command, Access}
+use Rattle.dev_board.proofs.KeepLaws.{loaded}
+
+-- No edge comes in no time.
+no-more : (x : Bool) (q : ℕ) → (x && nat_lt q q) ≡ false
+no-more true q = grind (arith, nat_tests)
+no-more false q = refl
+
+no-rise : (mode : Mode) (count a : ℕ) → rises mode count a a ≡ false
+unfolding rises
+no-rise TerminalCount count a = grind (arith, nat_tests)
+no-rise OneShot count a = refl
+no-rise RateGenerator count a = no-more _ (a / period count)
+no-rise SquareWave count a = no-more _ (a / period count)
+no-rise SoftwareStrobe count a = grind (arith, nat_tests)
+no-rise HardwareStrobe count a = refl
+
+no-edge_since : (load : Option ℕ) (mode : Mode) (count at : ℕ) → edge_since load mode count at at ≡ false
+no-edge_since None mode count at = refl
+no-edge_since (Some load) mode count at = no-rise mode count (ticks load at)
+
+no-edge : (counter : Counting) (at : ℕ) → edge_of counter at at ≡ false
+unfolding edge_of
+no-edge counter at = no-edge_since counter.loaded_at counter.mode counter.count at
+
+-- Before the first of three turns that is after the base, none has come.
+not-yet : (base turn at to : ℕ) → at ≡ turn → base ≤ at → at ≤ to → to < later base turn → at ≡ base
+not-yet base turn at to e f l h =
+    ⊎_elim
+    (λ (after : base < turn). let test : nat_lt base turn ≡ true = grind (arith, nat_tests) in
+    let is : later base turn ≡ turn = rw test refl in absurd (omega (arith, e, l, h, is)))
+    (λ (before : turn ≤ base). omega (arith, e, f, before))
+    (cases_lt base turn)
+
+none-came : (turns : Turns) (base at to : ℕ) → IsTurn turns base at → base ≤ at → at ≤ to → to < calm_by turns base → at ≡ base
+none-came turns base at to (inl e) f l h = e
+none-came turns base at to (inr (inl e)) f l h = not-yet base turns.first at to e f l (omega (arith, h))
+none-came turns base at to (inr (inr (inl e))) f l h = not-yet base turns.second at to e f l (omega (arith, h))
+none-came turns base at to (inr (inr (inr e))) f l h = not-yet base turns.third at to e f l (omega (arith, h))
+
+pub calm-turns : (m : State) → HasDevices m → (turns : Turns) → AreTurns turns (counter_of 0 m.pit) m.moment → IsCalm (calm_by turns m.moment) m
+unfolding pit_out pit_edge
+calm-turns m h turns are to l before =
+    let t = are m.moment to (loaded m h 0 (omega arith)) (omega arith) l in
+    let is : t.at ≡ m.moment = none-came turns m.moment t.at to t.is t.from t.upto before in (
+      sym t.out ∙ ap (out_of (counter_of 0 m.pit)) is,
+      sym t.edge ∙ ap (edge_of (counter_of 0 m.pit) m.moment) is ∙ no-edge (counter_of 0 m.pit) m.moment,
+    )
+
+pub calm-never : (m : State) → IsCalm 0 m
+calm-never m to l h = absurd (omega (arith, h))
+
+-- A read of a counter changes neither OUT nor its edges.
+record SameOut (before after : Counting) : Type 0 where
+  out : (at : ℕ) → out_of after at ≡ out_of before at
+  edge : (from to : ℕ) → edge_of after from to ≡ edge_of before from to
+
+same-out : (before after : Counting) → GoesOn before after → SameOut before after
+unfolding out_of edge_of
+same-out before after g = record {
+  out = λ at. rw (g.count, g.mode, g.loaded_at) refl;
+  edge = λ from to. rw (g.count, g.mode, g.loaded_at) refl;
+}
+
+read-same : (j now : ℕ) (pit : Pit) → SameOut (counter_of 0 pit) (counter_of 0 (pit_read j now pit).1)
+unfolding pit_read
+read-same j now pit =
+    same-out (counter_of 0 pit) _
+    (at_counter (GoesOn (counter_of 0 pit)) 0 j _ pit
+    (λ here. subst (λ (i : ℕ). GoesOn (counter_of 0 pit) (read_of now (counter_of i pit)).1) here (read-goes_on now (counter_of 0 pit)))
+    (same (counter_of 0 pit)))
+
+-- A read of a counter leaves OUT unchanged.
+pub read-out : (j now : ℕ) (pit : Pit) → pit_out 0 now (pit_read j now pit).1 ≡ pit_out 0 now pit
+unfolding pit_out
+read-out j now pit = (read-same j now pit).out now
+
+module _ (until : ℕ) (m : State) (calm : IsCalm until m) where
+  read-calm : (j : ℕ) → IsCalm until (record m { pit = (pit_read j m.moment m.pit).1 })
+  unfolding pit_out pit_edge
+  read-calm j to l h =
+      let reads = read-same j m.moment m.pit in
+      let still = calm to l h in
+      (reads.out to ∙ still.0 ∙ sym (reads.out m.moment), reads.edge m.moment to ∙ still.1)
+
+  read_at-calm : (target : Target) (port : ℕ) → IsCalm until (read_at target port m).1
+  unfolding read_at
+  read_at-calm Pair port = calm
+  read_at-calm (Counter counter) port = read-calm counter
+  read_at-calm Control port = calm
+  read_at-calm (Register offset) port = calm
+  read_at-calm Nothing port = calm
+
+  written_at-calm : (target : Target) (port value : ℕ) → IsCalm (calm_after (write_touches target port value) until) (written_at target port value m)
+  unfolding written_at
+  written_at-calm Pair port value = by_command (is_command port value) where
+    by_command : (command : Bool) → IsCalm (calm_after (if command then Command else Access) until) m
+    by_command true = calm
+    by_command false = calm
+  written_at-calm (Counter counter) port value = λ to l h. absurd (omega (arith, h))
+  written_at-calm Control port value = λ to l h. absurd (omega (arith, h))
+  written_at-calm (Register offset) port value = calm
+  written_at-calm Nothing port value = calm
+
+  -- What events leave of it.
+  pub calm-read : (port value : ℕ) (after : State) → (value, after) ≡ read port m → IsCalm until after
+  calm-read port value after e =
+      subst (λ (done : ℕ × State). IsCalm until done.1) (sym e) (read_at-calm (target_of m.level port) port)
+
+  pub calm-write : (port value : ℕ) (after : State) (touch : Touch) → touch ≡ write_touches (target_of m.level port) port value → after ≡ write port value m → IsCalm (calm_after touch until) after
+  calm-write port value after touch t e =
+      subst (λ (u : Touch). IsCalm (calm_after u until) after) (sym t)
+      (subst (IsCalm (calm_after (write_touches (target_of m.level port) port value) until)) (sym e) (written_at-calm (target_of m.level port) port value))
+
+  wait-calm : (to : ℕ) → m.moment ≤ to → to < until → IsCalm until (waited to m).1
+  unfolding waited pit_edge
+  wait-calm to l h at from before =
+      let still = calm at (omega (arith, l, from)) before in
+      (still.0 ∙ sym (calm to l h).0, (or_parts _ _ (sym (edge_in_parts (counter_of 0 m.pit) m.moment to at l from) ∙ still.1)).1)
+
+  pub calm-wait : (to : ℕ) (act : Act) (after : State) → (act, after) ≡ waited to m → m.moment ≤ to → to < until → IsCalm until after
+  calm-wait to act after e l h = subst (λ (done : Act × State). IsCalm until done.1) (sym e) (wait-calm to l h)

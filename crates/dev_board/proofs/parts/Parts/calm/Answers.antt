@@ -1,0 +1,15 @@
+use Rattle.std.proofs.Common.{ℕ, sym, subst}
+use Rattle.dev_board.specs.Kept.{IsCalm}
+use Rattle.dev_board.specs.View.{parts_view}
+use Rattle.dev_board.proofs.KeepLaws.{loaded}
+use Rattle.dev_board.proofs.KeptLaws.{calm-turns}
+use Rattle.dev_board.proofs.parts.Parts.calm.Goals as goal
+
+pub turns-requires-clause-loaded : goal.turns-requires-clause-loaded
+turns-requires-clause-loaded c = loaded (parts_view c.self.inside) c.self.invariant
+
+pub returns : goal.returns
+returns c =
+    subst (IsCalm c.calm_by.result) c.self.view_is
+    (subst (λ (until : ℕ). IsCalm until (parts_view c.self.inside)) (sym c.calm_by.ensures)
+    (calm-turns (parts_view c.self.inside) c.self.invariant c.turns.result c.turns.ensures))

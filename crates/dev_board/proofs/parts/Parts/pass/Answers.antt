@@ -1,0 +1,28 @@
+use Rattle.std.proofs.Common.{◌<◌, arith, sym, ap, subst, ◌∙◌}
+use Rattle.std.proofs.lemmas.Bool.Decides.{nat_tests}
+use Rattle.dev_pic.specs.Pair.{lines_of}
+use Rattle.dev_board.specs.Kept.{IsCalm}
+use Rattle.dev_board.specs.State.{State}
+use Rattle.dev_board.specs.Step.{settled}
+use Rattle.dev_board.specs.Touch.{Stays}
+use Rattle.dev_board.specs.declared.touch.Before.{Before}
+use Rattle.dev_board.specs.declared.touch.Touch.{Touch}
+use Rattle.dev_board.proofs.KeptLaws.{calm-wait}
+use Rattle.dev_board.proofs.StayLaws.{after-time}
+use Rattle.dev_board.proofs.parts.Parts.pass.Goals as goal
+
+pub settle-kept-requires-clause-stays : goal.settle-kept-requires-clause-stays
+settle-kept-requires-clause-stays c =
+    let before : Before = record { lines = c.lines-lines.result; int = c.args.kept.now.int } in
+    subst (λ (touch : Touch). Stays touch before c.wait-edge.new.self) (sym c.time_touches.ensures)
+    (after-time c.args.self.now c.requires.sound before
+    (record { lines = c.lines-lines.ensures ∙ ap (λ (m : State). lines_of m.pair) c.self.view_is; int = c.requires.kept.int })
+    c.later_by-to.result _ _ _ c.wait-edge.ensures
+    (λ e. let early : c.later_by-to.result < c.args.kept.now.calm = grind (arith, nat_tests) in (c.requires.kept.calm c.later_by-to.result c.later_by-to.ensures.after early).0))
+
+pub still_calm-kept-requires : goal.still_calm-kept-requires
+unfolding settled
+still_calm-kept-requires c e =
+    let early : c.later_by-to.result < c.args.kept.now.calm = grind (arith, nat_tests) in
+    subst (IsCalm c.args.kept.now.calm) (sym c.settle-kept.ensures.state)
+    (calm-wait c.args.kept.now.calm c.args.self.now c.requires.kept.calm c.later_by-to.result _ _ c.wait-edge.ensures c.later_by-to.ensures.after early)

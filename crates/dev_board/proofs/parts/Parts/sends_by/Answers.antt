@@ -1,0 +1,18 @@
+use Rattle.std.proofs.Common.{◌≡◌, ℕ, Bool, true, false, not, List, [], refl, ap, subst}
+use Rattle.dev_serial.proofs.SendingLaws.{still}
+use Rattle.dev_serial.specs.Access.{advanced}
+use Rattle.dev_serial.specs.Port.{Port}
+use Rattle.dev_board.specs.State.{State}
+use Rattle.dev_board.specs.Step.{acted, after_act, step, waited}
+use Rattle.dev_board.proofs.parts.Parts.sends_by.Goals as goal
+
+holds : (b : Bool) → not b ≡ false → b ≡ true
+holds true e = refl
+holds false e = cc
+
+pub returns : goal.returns
+unfolding step after_act acted waited
+returns c e =
+    let quiet : (advanced c.later_by-to.result c.self.inside.serial).0 ≡ [] = ap (λ (x : List ℕ × Port). x.0) (still c.later_by-to.result c.self.inside.serial (c.is_still.ensures.0 (holds c.is_still.result e))) in
+    subst (λ (to : ℕ). (advanced to c.args.self.now.serial).0 ≡ []) c.later_by-to.ensures.later
+    (subst (λ (m : State). (advanced c.later_by-to.result m.serial).0 ≡ []) c.self.view_is quiet)

@@ -1,0 +1,393 @@
+-- Fields of both sides at one position: the newer set reads what the older one writes with the carried numbers, and what isn't in the
+-- bytes is at its default.
+use Rattle.vms_check_laws.proofs.Facade.{cells_in, ◌≡◌, inl, inr, ℕ, zero, suc, ◌+◌, ◌*◌, ◌≤◌, Bool, true, false, List, ◌∷◌, length, get_or, Option, None, refl}
+use Rattle.vms_check_laws.proofs.Facade.{sym, ◌∙◌, arith, ℤ, pos, if◌then◌else◌, ◌++◌, Some, eqb-true, leb-true, Kind, Item, Num, Equal, Unused, Struct, width}
+use Rattle.vms_check_laws.proofs.Facade.{Count, One, Fixed, Counted, Formula, Field, is_there, Slot, Number, Filler, no_parent, times, counted, capacity_of}
+use Rattle.vms_check_laws.proofs.Facade.{item_cells, field_cells, elements_of, item_slots, numbers_of, Entry, same_rest, same_count, same_kind, same_constant}
+use Rattle.vms_check_laws.proofs.Facade.{holds_as_much, entry_of, present_from, defaults, carry_item, carry_items, carry_field, Holds, FitsAt, Carries}
+use Rattle.vms_check_laws.proofs.Facade.{size_same, elements_fit, ItemBelow, same_number_is, here, presence, slice_get, Cell, cells_from, slots_from, kind_of}
+use Rattle.vms_check_laws.proofs.Facade.{is_steady_in, is_num, is_one, same_item, position_from, same_place, carry_next, carry_from, entries_left, field_size}
+use Rattle.vms_check_laws.proofs.Facade.{FieldsBelow, residue, desc_cells, ap, subst, [], length-append}
+use Rattle.vms_check_laws.proofs.Presence.{Agree, same_there, presence_named, there_here, not_covered, steady, steady_rest, rest_none, one_number, Steady}
+use Rattle.vms_check_laws.proofs.Presence.{filler_length}
+use Rattle.vms_check_laws.proofs.Segments.{holds_left, holds_right, holds_at, fits_left, fits_right, fits_at, carries_nil, carries_append, carries_number}
+use Rattle.vms_check_laws.proofs.Segments.{carries_constant, carries_filler}
+use Rattle.vms_check_laws.proofs.Premises.{kinds_same, slots_at, entries_slots, IsKnown, AreKnown, known_there, Pairs, PairGood, decoded, CoveredBy, Matched}
+use Rattle.vms_check_laws.proofs.Premises.{Zip, Sides, CountFits, CountNamed, OldGood, NewGood, OldFields, NewFields, covered_empty, Reads, covered_slots}
+use Rattle.vms_check_laws.proofs.PairLists.{defaults_size, Settled, settled_defaults, settled_empty, settled_append, same_defaults, has_itself, if_least}
+use Rattle.vms_check_laws.proofs.PairLists.{one_cell, when_there}
+use Rattle.vms_check_laws.proofs.Positioned.{at_or_later}
+
+module _ (sides : Sides) where
+  open sides use {two, cs, ms, ns, numbers, numbers', at, at', below, below', table}
+  open two use {ks, a, b, v, w, part, part', o, n}
+
+  abbrev olds : List (List Cell)
+  olds = cells_in ms
+
+  abbrev news : List (List Cell)
+  news = cells_in ns
+
+  abbrev own : ℕ → ℕ
+  own k = numbers_of olds a numbers at k
+
+  abbrev own' : ℕ → ℕ
+  own' k = numbers_of news b numbers' at' k
+
+  abbrev old_size : Item → ℕ
+  old_size i = length (item_cells olds i [] (pos 0))
+
+  abbrev new_size : Item → ℕ
+  new_size j = length (item_cells news j [] (pos 0))
+
+  abbrev fallback : Item → ℤ → List ℤ
+  fallback j d = defaults (item_cells news j [] d)
+
+  -- what is carried of an item, of several, of a field, and of all from one on
+  abbrev one_item : Item → Item → ℤ → ℕ → List ℤ
+  one_item i j d x = carry_item cs olds news numbers i j (fallback j d) x
+
+  abbrev some_items : Item → Item → ℤ → ℕ → ℕ → ℕ → List ℤ
+  some_items i j d m most x = carry_items cs olds news numbers i j (fallback j d) (old_size i) m most x
+
+  abbrev one_field : Entry → Field → List ℤ
+  one_field e g = carry_field cs olds news numbers own v at e g
+
+  abbrev next_field : ℕ → Field → Option (Option Formula) → List Entry → List ℤ
+  next_field i g pr es = carry_next cs olds news numbers own v at b.fields i g pr es
+
+  abbrev all_fields : ℕ → List Field → List Entry → List ℤ
+  all_fields i gs es = carry_from cs olds news numbers own v w at b.fields i gs es
+
+  abbrev left_of_old : Option (Option Formula) → List Entry → List Entry
+  left_of_old pr es = entries_left cs olds news numbers pr es
+
+  abbrev cells_at : ℕ → Field → List Cell
+  cells_at i g = field_cells news b.fields i g
+
+  -- ---- how long it is
+
+  item_sized : (i j : Item) (d : ℤ) (k : ℕ) → ItemBelow below' j → length (one_item i j d k) ≡ new_size j
+  item_sized (Num k) (Num l) d p lt = choice (same_kind k l) where
+    choice : (c : Bool) → length (if c then get_or numbers p (pos 0) ∷ [] else d ∷ []) ≡ 1
+    choice true = refl
+    choice false = refl
+  item_sized (Struct i) (Struct j) d p lt = table.sized j i p lt
+  item_sized _ (Struct j) d p lt = defaults_size _
+  item_sized _ _ d p lt = refl
+
+  items_sized : (i j : Item) (d : ℤ) (m most k : ℕ) → ItemBelow below' j → length (some_items i j d m most k) ≡ most * new_size j
+  items_sized i j d m zero k lt = omega arith
+  items_sized i j d zero (suc most) k lt =
+      length-append (fallback j d) _
+      ∙ ap (λ (r : ℕ). r + length (some_items i j d zero most k)) (defaults_size (item_cells news j [] d) ∙ size_same news j [] d)
+      ∙ ap (λ (r : ℕ). new_size j + r) (items_sized i j d zero most k lt) ∙ grind arith
+  items_sized i j d (suc m) (suc most) k lt =
+      length-append (one_item i j d k) _ ∙ ap (λ (r : ℕ). r + length (some_items i j d m most (k + old_size i))) (item_sized i j d k lt)
+      ∙ ap (λ (r : ℕ). new_size j + r) (items_sized i j d m most (k + old_size i) lt) ∙ grind arith
+
+  field_sized : (e : Entry) (i : ℕ) (f : Field) → ItemBelow below' f.item → length (one_field e f) ≡ length (cells_at i f)
+  field_sized e i f lt = items_sized e.field.item f.item f.default _ _ _ lt ∙ sym (field_size news b.fields i f)
+
+  next_sized : (i : ℕ) (g : Field) (pr : Option (Option Formula)) (es : List Entry) → ItemBelow below' g.item
+      → length (next_field i g pr es) ≡ length (cells_at i g)
+  next_sized i g (Some rest) (e ∷ es) lt = field_sized e i g lt
+  next_sized i g None es lt = defaults_size _
+  next_sized i g (Some rest) [] lt = defaults_size _
+
+  pub fields_sized : (i : ℕ) (gs : List Field) (es : List Entry) → FieldsBelow below' gs → length (all_fields i gs es) ≡ length (cells_from news b.fields i gs)
+  fields_sized i [] es lt = refl
+  fields_sized i (g ∷ gs) es lt =
+      let pr = presence w g.test g.since in
+      let here = next_sized i g pr es lt.0 in
+      let more = fields_sized (suc i) gs (left_of_old pr es) lt.1 in
+      omega (
+        arith,
+        length-append (next_field i g pr es) (all_fields (suc i) gs (left_of_old pr es)),
+        length-append (cells_at i g)
+            (cells_from news b.fields (suc i) gs),
+      )
+
+  -- ---- the carried numbers are at each pair
+
+  abbrev pub Linked : List Entry → List Entry → Type 0
+  Linked [] [] = Unit {0}
+  Linked (e ∷ es) (f ∷ fs) = (PairGood two e f × Holds numbers' (at' + f.place) (one_field e f.field)) × Linked es fs
+  Linked _ _ = ⊥
+
+  link_next : (i p : ℕ) (g : Field) (pr : Option (Option Formula)) (es after : List Entry) (rest : List Entry → List ℤ) → ItemBelow below' g.item
+      → Zip two es (entry_of i p g pr ++ after) → Holds numbers' (at' + p) (next_field i g pr es ++ rest (left_of_old pr es))
+      → ((es' : List Entry) → Zip two es' after → Holds numbers' (at' + (p + length (cells_at i g))) (rest es') → Linked es' after)
+      → Linked es (entry_of i p g pr ++ after)
+  link_next i p g None es after rest lt zipped held go =
+      go es zipped (holds_at (omega (arith, defaults_size (cells_at i g))) (holds_right (defaults (cells_at i g)) held))
+  link_next i p g (Some left) [] after rest lt zipped held go = absurd zipped
+  link_next i p g (Some left) (e ∷ es) after rest lt zipped held go =
+      ((zipped.0, holds_left _ held), go es zipped.1 (holds_at (omega (arith, field_sized e i g lt)) (holds_right (one_field e g) held)))
+
+  pub linked : (i p : ℕ) (gs : List Field) (es : List Entry) → FieldsBelow below' gs → Zip two es (present_from news b.fields w i p gs)
+      → Holds numbers' (at' + p) (all_fields i gs es) → Linked es (present_from news b.fields w i p gs)
+  linked i p [] [] lt zipped held = tt
+  linked i p [] (e ∷ es) lt zipped held = absurd zipped
+  linked i p (g ∷ gs) es lt zipped held =
+      link_next i p g _ es _ (λ es'. all_fields (suc i) gs es') lt.0 zipped held (λ es' z h. linked (suc i) (p + length (cells_at i g)) gs es' lt.1 z h)
+
+  -- ---- numbers that may be named
+
+  -- a field that may be named, and what it is paired with
+  pub record NamedPair (e f : Entry) : Type 0 where
+    pub plain : Steady f.field
+    pub matched : Matched two e f
+    pub there_is : is_there e.field.test e.field.since v own no_parent ≡ true
+    pub rest : f.rest ≡ None
+
+  pub named_pair : (e f : Entry) → IsKnown ms a.fields v numbers at e → IsKnown ns b.fields w numbers' at' f → PairGood two e f
+      → is_steady_in b f.index ≡ true → NamedPair e f
+  named_pair e f known known' good is =
+      let s = steady b.minimum (slice_get b.fields f.index) f.field known'.field is in
+      let m : Matched two e f = elim (decoded two e f good) [
+        | inl c ↦ absurd (not_covered e.field.item e.field.count f.field.item c.covers s.item)
+        | inr m ↦ m
+      ] in
+      let rest : f.rest ≡ None = steady_rest w f.field.test f.field.since f.rest s.test known'.left in
+      record {
+        plain = s;
+        matched = m;
+        there_is = known_there ms a.fields v numbers at e known (rest_none o n e.rest f.rest rest m.rest) own no_parent;
+        rest = rest;
+      }
+
+  number_pair : (j i : Item) (d c : Count) (z : ℤ) (t : Bool) (x y : ℕ) → is_num j ≡ true → is_one d ≡ true → same_item i j ≡ true → same_count o n c d ≡ true
+      → t ≡ true → Holds numbers' y (some_items i j z (if t then elements_of c own else 0) (capacity_of d) x)
+      → residue (width (kind_of i)) (get_or numbers x (pos 0)) ≡ residue (width (kind_of j)) (get_or numbers' y (pos 0))
+  number_pair (Num l) (Num k) One One z true x y num one same counts there_is held =
+      let zero_more : y + 0 ≡ y = omega arith in
+      ap (λ (i : Kind). residue (width i) (get_or numbers x (pos 0))) (kinds_same k l same)
+      ∙ ap (λ (u : ℤ). residue (width l) u) (sym (one_number (same_kind k l) numbers' y (get_or numbers x (pos 0)) z same held))
+      ∙ ap (λ (p : ℕ). residue (width l) (get_or numbers' p (pos 0))) zero_more
+  number_pair _ _ _ _ z _ x y num one same counts there_is held = absurd (cc)
+
+  pair_agrees : (e f : Entry) → IsKnown ms a.fields v numbers at e → IsKnown ns b.fields w numbers' at' f → PairGood two e f
+      → Holds numbers' (at' + f.place) (one_field e f.field) → is_steady_in b f.index ≡ true → own e.index ≡ own' f.index
+  pair_agrees e f known known' good held is =
+      let h = named_pair e f known known' good is in
+      known.number ∙ number_pair f.field.item e.field.item f.field.count e.field.count f.field.default _ (at + e.place)
+      (at' + f.place) h.plain.item h.plain.count h.matched.item h.matched.count h.there_is held ∙ sym known'.number
+
+  pub agree_from : (i j p : ℕ) (es fs : List Entry) → Linked es fs → AreKnown ms a.fields v numbers at es → AreKnown ns b.fields w numbers' at' fs
+      → is_steady_in b j ≡ true → same_place (position_from p es i) (position_from p fs j) ≡ true → own i ≡ own' j
+  agree_from i j p [] fs linked known known' named h = absurd (cc)
+  agree_from i j p (e ∷ es) [] linked known known' named h = absurd linked
+  agree_from i j p (e ∷ es) (f ∷ fs) linked known known' named h = elim (at_or_later i j p e f es fs h) [
+    | inl here ↦ ap own (sym here.0) ∙ pair_agrees e f known.0 known'.0 linked.0.0 linked.0.1 (ap (is_steady_in b) here.1 ∙ named) ∙ ap own' here.1
+    | inr later ↦ agree_from i j (suc p) es fs linked.1 known.1 known'.1 named later.1
+  ]
+
+  -- ---- one item, several items
+
+  number_reads : (t : Bool) (k l : Kind) (caps caps' : List ℕ) (d : ℤ) (x y : ℕ) → same_kind k l ≡ true → t ≡ true
+      → Holds numbers' y (if t then get_or numbers x (pos 0) ∷ [] else d ∷ [])
+      → Reads numbers numbers' (Number x k caps ∷ []) (Number y l caps' ∷ []) y (one_cell l caps' d) (if t then get_or numbers x (pos 0) ∷ [] else d ∷ [])
+  number_reads true k l caps caps' d x y same is held =
+      let e : y + 0 ≡ y = omega arith in
+      record {
+        carries = carries_number numbers numbers' x y k l caps caps' (kinds_same k l same)
+            (sym (held.each 0 (omega arith)) ∙ ap (λ (p : ℕ). get_or numbers' p (pos 0)) e);
+        settled = record { each = λ c lt. let z : y ≡ y + c = omega arith in inl (rw (← z) (has_itself y l caps')) };
+      }
+  number_reads false k l caps caps' d x y same is held = absurd (cc)
+
+  item_reads : (i j : Item) (caps caps' : List ℕ) (d d' : ℤ) (x y : ℕ) → Pairs two below below' i j → same_constant i j ≡ true
+      → FitsAt (item_cells olds i caps d) numbers x → Holds numbers' y (one_item i j d' x)
+      → Reads numbers numbers' (item_slots ms i caps numbers x) (item_slots ns j caps' numbers' y) y (item_cells news j caps' d') (one_item i j d' x)
+  item_reads (Num k) (Num l) caps caps' d d' x y pair constant fits held = number_reads (same_kind k l) k l caps caps' d' x y pair.same pair.same held
+  item_reads (Equal k z) (Equal l u) caps caps' d d' x y pair constant fits held = record {
+    carries = carries_constant numbers numbers' k l z u (kinds_same k l pair.same) (same_number_is z u constant);
+    settled = settled_empty _ y [] [] refl;
+  }
+  item_reads (Unused m) (Unused r) caps caps' d d' x y pair constant fits held = record {
+    carries = carries_filler numbers numbers' (Filler m ∷ []) r (filler_length numbers m ∙ eqb-true m r pair.same);
+    settled = settled_empty _ y [] [] refl;
+  }
+  item_reads (Struct i) (Struct j) caps caps' d d' x y pair constant fits held = (table.meets i j pair.low pair.low' pair.structs x fits).reads y held
+  item_reads _ _ caps caps' d d' x y pair constant fits held = absurd (cc)
+
+  items_read : (i j : Item) (caps caps' : List ℕ) (d d' : ℤ) (m most most' p p' step step' x y : ℕ) → Pairs two below below' i j → same_constant i j ≡ true
+      → m ≤ most → m ≤ most' → FitsAt (times most (λ _. item_cells olds i caps d) p step) numbers x → Holds numbers' y (some_items i j d' m most' x)
+      → Reads numbers numbers' (times m (item_slots ms i caps numbers) x (old_size i)) (times m (item_slots ns j caps' numbers') y (new_size j)) y
+      (times most' (λ _. item_cells news j caps' d') p' step') (some_items i j d' m most' x)
+  items_read i j caps caps' d d' zero most zero p p' step step' x y pair constant le le' fits held =
+      record { carries = carries_nil; settled = settled_empty [] y [] [] refl }
+  items_read i j caps caps' d d' (suc m) most zero p p' step step' x y pair constant le le' fits held = absurd (omega arith)
+  items_read i j caps caps' d d' (suc m) zero (suc most') p p' step step' x y pair constant le le' fits held = absurd (omega arith)
+  items_read i j caps caps' d d' zero most (suc most') p p' step step' x y pair constant le le' fits held =
+      let first : Settled [] y (item_cells news j caps' d') (fallback j d') =
+      rw (same_defaults news j [] caps' d') (settled_defaults [] y (item_cells news j caps' d')) in
+      let more =
+      items_read i j caps caps' d d' zero most most' p (p' + step') step step' x _ pair constant (omega arith) (omega arith) fits
+      (holds_right (fallback j d') held) in
+      record {
+        carries = carries_nil;
+        settled = settled_append (defaults_size (item_cells news j [] d') ∙ size_same news j [] d' ∙ sym (size_same news j caps' d')) first refl more.settled;
+      }
+  items_read i j caps caps' d d' (suc m) (suc most) (suc most') p p' step step' x y pair constant le le' fits held =
+      let sized = item_sized i j d' x pair.low' in
+      let first = item_reads i j caps caps' d d' x y pair constant (fits_left _ fits) (holds_left _ held) in
+      let more =
+      items_read i j caps caps' d d' m most most' (p + step) (p' + step') step step' (x + old_size i) (y + new_size j) pair constant (omega arith)
+      (omega arith) (fits_at (omega (arith, size_same olds i caps d)) (fits_right (item_cells olds i caps d) fits))
+      (holds_at (omega arith) (holds_right (one_item i j d' x) held)) in
+      record {
+        carries = carries_append first.carries more.carries;
+        settled = settled_append (sized ∙ sym (size_same news j caps' d')) first.settled (omega arith) more.settled;
+      }
+
+  module _ (ok : ℕ → Bool) where
+    -- two present fields at which no rule fails, and what is known of them
+    pub record Opposite (e f : Entry) : Type 0 where
+      pub known : IsKnown ms a.fields v numbers at e
+      pub known' : IsKnown ns b.fields w numbers' at' f
+      pub good : PairGood two e f
+      pub old : OldGood below own e.field
+      pub new : NewGood below' ok f.field
+      pub fits : FitsAt (field_cells olds a.fields e.index e.field) numbers (at + e.place)
+      pub agree : Agree o n ok own own'
+
+    same_elements : (c d : Count) → Agree o n ok own own' → CountFits own c → CountNamed ok d → same_count o n c d ≡ true → holds_as_much c d ≡ true
+        → elements_of c own ≡ elements_of d own'
+    same_elements One One agree fits named same room = refl
+    same_elements (Fixed p) (Fixed q) agree fits named same room = eqb-true p q same
+    same_elements (Counted by most) (Counted by' most') agree fits named same room = omega (arith, fits, agree by by' named same, leb-true most most' room)
+    same_elements _ _ agree fits named same room = absurd (cc)
+
+    elements_room : (c d : Count) → same_count o n c d ≡ true → holds_as_much c d ≡ true → elements_of c own ≤ capacity_of d
+    elements_room One One same room = omega arith
+    elements_room (Fixed p) (Fixed q) same room = omega (arith, eqb-true p q same)
+    elements_room (Counted by most) (Counted by' most') same room = omega (arith, leb-true most most' room)
+    elements_room _ _ same room = absurd (cc)
+
+    abbrev old_slots : ℕ → Entry → List Slot
+    old_slots k e = times k (item_slots ms e.field.item (counted e.index a.fields) numbers) (at + e.place) (old_size e.field.item)
+
+    abbrev new_slots : ℕ → Entry → List Slot
+    new_slots k f = times k (item_slots ns f.field.item (counted f.index b.fields) numbers') (at' + f.place) (new_size f.field.item)
+
+    -- as many elements as an older field has, if it is there
+    abbrev count_if : Bool → Entry → ℕ
+    count_if t e = if t then elements_of e.field.count own else 0
+
+    abbrev Both : (P : List Slot → List Slot → Type 0) → (e f : Entry) → ℕ → ℕ → Type 0
+    Both P e f k l = P (old_slots k e) (new_slots l f)
+
+    abbrev there : Entry → Bool
+    there e = is_there e.field.test e.field.since v own no_parent
+
+    -- a property of slots on both sides, at two fields where no rule fails: of none, of what is covered, and of as many elements
+    module _ (P : List Slot → List Slot → Type 0) where
+      pub pair_by : (e f : Entry) → Opposite e f → (CoveredBy two e f → P [] [] × Both P e f (elements_of e.field.count own) (elements_of f.field.count own'))
+          → (Matched two e f → (t : Bool) → there e ≡ t → Both P e f (count_if t e) (count_if t e))
+          → P (slots_at ms a.fields v own numbers at e.index e.place e.field) (slots_at ns b.fields w own' numbers' at' f.index f.place f.field)
+      pair_by e f p covers items =
+          let there_f = is_there f.field.test f.field.since w own' no_parent in
+          let same : same_rest o n e.rest f.rest ≡ true → there e ≡ there_f = λ h.
+          there_here v e.field.test e.field.since e.rest own no_parent p.known.left ∙ same_there o n ok own own' no_parent no_parent v w p.agree e.rest f.rest
+          (presence_named ok w f.field.test f.field.since f.rest p.new.test p.known'.left) h
+          ∙ sym (there_here w f.field.test f.field.since f.rest own' no_parent p.known'.left) in
+          let xs = old_slots (elements_of e.field.count own) e in
+          let ys = new_slots (elements_of f.field.count own') f in
+          elim (decoded two e f p.good) [
+            | inl c ↦ when_there P (there e) there_f xs ys (same c.rest) (λ is. (covers c).0) (λ is. (covers c).1)
+            | inr m ↦ when_there P (there e) there_f xs ys (same m.rest) (items m false)
+                (λ is. rw (← (same_elements e.field.count f.field.count p.agree p.old.count p.new.count m.count m.room)) (items m true is))
+          ]
+
+    abbrev ReadsHere : (e f : Entry) → List Slot → List Slot → Type 0
+    ReadsHere e f xs ys = Reads numbers numbers' xs ys (at' + f.place) (cells_at f.index f.field) (one_field e f.field)
+
+    covers : (e f : Entry) → Opposite e f → CoveredBy two e f
+        → ReadsHere e f [] [] × Both (ReadsHere e f) e f (elements_of e.field.count own) (elements_of f.field.count own')
+    covers e f p c =
+        let empty : length (one_field e f.field) ≡ 0 =
+        field_sized e f.index f.field p.new.item ∙ field_size news b.fields f.index f.field
+        ∙ ap (λ (k : ℕ). capacity_of f.field.count * k) (covered_empty news e.field.item e.field.count f.field.item c.covers) ∙ omega arith in
+        let s =
+        covered_slots ms ns numbers numbers' own own' e.field.item e.field.count f.field.item f.field.count (counted e.index a.fields)
+        (counted f.index b.fields) (at + e.place) (at' + f.place)
+        (old_size e.field.item) (new_size f.field.item) c.covers p.old.single p.new.single in (
+          record { carries = carries_nil; settled = settled_empty _ _ _ _ empty },
+          record { carries = rw s.1 (carries_filler numbers numbers' _ s.0 s.2); settled = settled_empty _ _ _ _ empty },
+        )
+
+    abbrev carried_if : (e f : Entry) → Bool → List ℤ
+    carried_if e f t = some_items e.field.item f.field.item f.field.default (count_if t e) (capacity_of f.field.count) (at + e.place)
+
+    items : (e f : Entry) → Opposite e f → Holds numbers' (at' + f.place) (one_field e f.field) → Matched two e f → (t : Bool) → there e ≡ t
+        → Both (ReadsHere e f) e f (count_if t e) (count_if t e)
+    items e f p held m t is =
+        let le = if_least t _ _ (elements_fit e.field.count own) in
+        let le' = if_least t _ _ (elements_room e.field.count f.field.count m.count m.room) in
+        let pair : Pairs two below below' e.field.item f.field.item = record { same = m.item; structs = p.good.structs; low = p.old.item; low' = p.new.item } in
+        subst (λ (q : Bool). Reads numbers numbers' (old_slots (count_if t e) e) (new_slots (count_if t e) f) (at' + f.place) (cells_at f.index f.field)
+        (carried_if e f q)) (sym is)
+        (items_read e.field.item f.field.item (counted e.index a.fields) (counted f.index b.fields) e.field.default f.field.default (count_if t e) _ _ 0 0 0 0
+        (at + e.place) (at' + f.place) pair m.constant
+        le le' p.fits (subst (λ (q : Bool). Holds numbers' (at' + f.place) (carried_if e f q)) is held))
+
+    pub pair_reads : (e f : Entry) → Opposite e f → Holds numbers' (at' + f.place) (one_field e f.field)
+        → ReadsHere e f (slots_at ms a.fields v own numbers at e.index e.place e.field) (slots_at ns b.fields w own' numbers' at' f.index f.place f.field)
+    pair_reads e f p held = pair_by (ReadsHere e f) e f p (covers e f p) (items e f p held)
+
+    abbrev pub Opposites : List Entry → List Entry → Type 0
+    Opposites [] [] = Unit {0}
+    Opposites (e ∷ es) (f ∷ fs) = (Opposite e f × Holds numbers' (at' + f.place) (one_field e f.field)) × Opposites es fs
+    Opposites _ _ = ⊥
+
+    pub opposites : (es fs : List Entry) → Linked es fs → AreKnown ms a.fields v numbers at es → AreKnown ns b.fields w numbers' at' fs
+        → OldFields below own a.fields → NewFields below' ok b.fields → FitsAt (desc_cells olds a) numbers at → Agree o n ok own own' → Opposites es fs
+    opposites [] [] linked known known' old new fits agree = tt
+    opposites [] (f ∷ fs) linked known known' old new fits agree = absurd linked
+    opposites (e ∷ es) [] linked known known' old new fits agree = absurd linked
+    opposites (e ∷ es) (f ∷ fs) linked known known' old new fits agree =
+        let k = known.0 in
+        let k' = known'.0 in
+        let here : Opposite e f =
+        record {
+          known = k;
+          known' = k';
+          good = linked.0.0;
+          old = old e.index e.field k.field;
+          new = new f.index f.field k'.field;
+          fits = k.fits fits;
+          agree = agree;
+        } in
+        ((here, linked.0.1), opposites es fs linked.1 known.1 known'.1 old new fits agree)
+
+    pub fields_carry : (es fs : List Entry) → Opposites es fs
+        → Carries numbers (entries_slots ms a.fields v own numbers at es) numbers' (entries_slots ns b.fields w own' numbers' at' fs)
+    fields_carry [] [] all = carries_nil
+    fields_carry [] (f ∷ fs) all = absurd all
+    fields_carry (e ∷ es) [] all = absurd all
+    fields_carry (e ∷ es) (f ∷ fs) all = carries_append (pair_reads e f all.0.0 all.0.1).carries (fields_carry es fs all.1)
+
+    settle_next : (i p : ℕ) (g : Field) (pr : Option (Option Formula)) (es after : List Entry) (slots : List Slot) (rest : List Entry → List ℤ)
+        (cells : List Cell)
+        → ItemBelow below' g.item → Opposites es (entry_of i p g pr ++ after)
+        → ((es' : List Entry) → Opposites es' after → Settled slots (at' + (p + length (cells_at i g))) cells (rest es'))
+        → Settled (slots_at ns b.fields w own' numbers' at' i p g ++ slots) (at' + p) (cells_at i g ++ cells) (next_field i g pr es ++ rest (left_of_old pr es))
+    settle_next i p g None es after slots rest cells lt all go =
+        settled_append (defaults_size (cells_at i g)) (settled_defaults (slots_at ns b.fields w own' numbers' at' i p g) (at' + p) (cells_at i g))
+        (omega (arith, defaults_size (cells_at i g))) (go es all)
+    settle_next i p g (Some left) [] after slots rest cells lt all go = absurd all
+    settle_next i p g (Some left) (x ∷ es) after slots rest cells lt all go =
+        let size = field_sized x i g lt in
+        settled_append size (pair_reads x (record { index = i; place = p; field = g; rest = left }) all.0.0 all.0.1).settled (omega arith) (go es all.1)
+
+    pub fields_settle : (i p : ℕ) (gs : List Field) (es : List Entry) → FieldsBelow below' gs → Opposites es (present_from news b.fields w i p gs)
+        → Settled (slots_from ns b.fields w own' numbers' i (at' + p) gs) (at' + p) (cells_from news b.fields i gs) (all_fields i gs es)
+    fields_settle i p [] es lt all = settled_empty [] (at' + p) [] [] refl
+    fields_settle i p (g ∷ gs) es lt all =
+        let next = p + length (cells_at i g) in
+        let e : at' + next ≡ (at' + p) + length (cells_at i g) = omega arith in
+        rw e at (settle_next i p g (presence w g.test g.since) es (present_from news b.fields w (suc i) next gs)
+        (slots_from ns b.fields w own' numbers' (suc i) (at' + next) gs) (λ es'. all_fields (suc i) gs es') (cells_from news b.fields (suc i) gs) lt.0 all
+        (λ es' more. fields_settle (suc i) next gs es' lt.1 more))

@@ -1,0 +1,191 @@
+-- The subsections of a device: by name, the part that each has of a list, and the cells that are in the bytes. Each cell of a device
+-- after its own fields is one of a subsection.
+use Rattle.vms_check_laws.proofs.Facade.{◌≡◌, ◌⊎◌, inl, inr, ℕ, zero, suc, ◌+◌, ◌<◌, ◌≤◌, Bool, true, false, ◌||◌, List, ◌∷◌, ◌++◌, length, get_or, Option}
+use Rattle.vms_check_laws.proofs.Facade.{Some, None, ℤ, refl, sym, ◌∙◌, arith, flat_map, slice_get, Sub, Device, Set, Cell, desc_cells, device_cells}
+use Rattle.vms_check_laws.proofs.Facade.{struct_cells, has_cell, own_cells, came_slots, sub_slots, sub_place, find_sub, names_append, sub_size, places_apart}
+use Rattle.vms_check_laws.proofs.Facade.{IsCellOf, length-append, nat_lt, if◌then◌else◌, bytes_eq, bytes_eq-Decides, ltb-true, ltb-false, [], ap}
+use Rattle.vms_check_laws.proofs.Facade.{slice_get-get_or}
+use Rattle.vms_check_laws.proofs.PairLists.{IsBehind, at_left, at_right, before_or_behind}
+
+-- ---- what has a name, and where it is
+
+pub record Found (subs : List Sub) (name : List ℕ) (l : ℕ) : Type 0 where
+  pub sub : Sub
+  pub there : slice_get subs l ≡ Some sub
+  pub name_is : sub.desc.name ≡ name
+
+found_from : (k : ℕ) (subs : List Sub) (name : List ℕ) (r : ℕ) → find_sub k subs name ≡ Some r → (j : ℕ) × (r ≡ k + j) × Found subs name j
+found_from k [] name r h = absurd (cc)
+found_from k (s ∷ subs) name r h =
+    let choice : (c : Bool) → bytes_eq s.desc.name name ≡ c → (if c then Some k else find_sub (suc k) subs name) ≡ Some r → (j : ℕ) × (r ≡ k + j) × Found
+    (s ∷ subs) name j = elim [
+      | true ↦ λ e g. let same : k ≡ r = cc in (0, omega arith, record { sub = s; there = refl; name_is = (bytes_eq-Decides s.desc.name name).0 e })
+      | false ↦ λ e g. let f = found_from (suc k) subs name r g in (suc f.0, omega arith, record { sub = f.2.sub; there = f.2.there; name_is = f.2.name_is })
+    ] in
+    choice (bytes_eq s.desc.name name) refl h
+
+pub found : (subs : List Sub) (name : List ℕ) (l : ℕ) → find_sub 0 subs name ≡ Some l → Found subs name l
+found subs name l h =
+    let f = found_from 0 subs name l h in
+    let same : f.0 ≡ l = omega arith in
+    rw (← same) f.2
+
+-- ---- lists that have one part for each subsection
+
+module _ {A : Type 0} (set : Set) (f : Sub → List A) where
+  abbrev Sized : List Sub → Type 0
+  Sized subs = (m : ℕ) (s : Sub) → slice_get subs m ≡ Some s → length (f s) ≡ sub_size set s
+
+  -- where something is in such a list
+  pub record StandsIn (from : ℕ) (subs : List Sub) (b : ℕ) (o : A) : Type 0 where
+    pub m : ℕ
+    pub sub : Sub
+    pub there : slice_get subs m ≡ Some sub
+    pub c : ℕ
+    pub is : from + b ≡ sub_place set from subs m + c
+    pub inside : c < sub_size set sub
+    pub here : slice_get (f sub) c ≡ Some o
+
+  pub stands_in : (from : ℕ) (subs : List Sub) (b : ℕ) (o : A) → Sized subs → slice_get (flat_map f subs) b ≡ Some o → StandsIn from subs b o
+  stands_in from [] b o size e = absurd (cc)
+  stands_in from (s ∷ subs) b o size e =
+      go (before_or_behind _ b) (λ b' e'. stands_in (from + sub_size set s) subs b' o (λ m t h. size (suc m) t h) e')
+    where
+      go : (b < length (f s)) ⊎ IsBehind (length (f s)) b → ((b' : ℕ) → slice_get (flat_map f subs) b' ≡ Some o → StandsIn (from + sub_size set s) subs b' o)
+          → StandsIn from (s ∷ subs) b o
+      go (inl lt) more =
+          let long = size 0 s refl in
+          record { m = 0; sub = s; there = refl; c = b; is = refl; inside = omega arith; here = sym (at_left (f s) _ b lt) ∙ e }
+      go (inr behind) more =
+          let h = more behind.more (sym (at_right (f s) _ behind.more) ∙ ap (slice_get (f s ++ flat_map f subs)) (sym behind.is) ∙ e) in
+          record { m = suc h.m; sub = h.sub; there = h.there; c = h.c; is = omega (arith, size 0 s refl); inside = h.inside; here = h.here }
+
+  -- a part is at its subsection's place
+  pub record PartIn (from : ℕ) (subs : List Sub) (m : ℕ) (s : Sub) : Type 0 where
+    pub q : ℕ
+    pub place : sub_place set from subs m ≡ from + q
+    pub within : q + sub_size set s ≤ length (flat_map f subs)
+    pub at : (c : ℕ) → c < sub_size set s → slice_get (flat_map f subs) (q + c) ≡ slice_get (f s) c
+    pub long : length (f s) ≡ sub_size set s
+
+  pub part_in : (from : ℕ) (subs : List Sub) (m : ℕ) (s : Sub) → Sized subs → slice_get subs m ≡ Some s → PartIn from subs m s
+  part_in from [] m s size e = absurd (cc)
+  part_in from (t ∷ subs) zero s size e =
+      let same : t ≡ s = cc in
+      let long = size 0 t refl in
+      let at : (c : ℕ) → c < sub_size set t → slice_get (f t ++ flat_map f subs) (0 + c) ≡ slice_get (f t) c = λ c lt.
+      let z : 0 + c ≡ c = omega arith in
+      rw z (at_left (f t) (flat_map f subs) c (omega arith)) in
+      rw (← same) (record { q = 0; place = omega arith; within = omega (arith, length-append (f t) (flat_map f subs)); at = at; long = long })
+  part_in from (t ∷ subs) (suc m) s size e =
+      let h = part_in (from + sub_size set t) subs m s (λ m' u g. size (suc m') u g) e in
+      record {
+        q = length (f t) + h.q;
+        place = omega (arith, size 0 t refl);
+        within = omega (arith, length-append (f t) (flat_map f subs));
+        at = λ c lt. let z : (length (f t) + h.q) + c ≡ length (f t) + (h.q + c) = omega arith in rw z (at_right (f t) _ _ ∙ h.at c lt);
+        long = h.long;
+      }
+
+  pub part_number : (from : ℕ) (subs : List Sub) (m : ℕ) (s : Sub) (h : PartIn from subs m s) (z : A) (c : ℕ) → c < sub_size set s
+      → get_or (flat_map f subs) (h.q + c) z ≡ get_or (f s) c z
+  part_number from subs m s h z c lt =
+      let whole = slice_get-get_or (flat_map f subs) (h.q + c) z (omega arith) in
+      let part = slice_get-get_or (f s) c z (omega arith) in
+      let at = h.at c lt in
+      cc
+
+  pub all_long : (subs : List Sub) → Sized subs → length (flat_map f subs) ≡ length (flat_map (λ s. desc_cells (struct_cells set) s.desc) subs)
+  all_long [] size = refl
+  all_long (s ∷ subs) size =
+      omega (
+        arith,
+        size 0 s refl,
+        all_long subs (λ m t e. size (suc m) t e),
+        length-append (f s) (flat_map f subs),
+        length-append
+            (desc_cells (struct_cells set) s.desc) (flat_map (λ s. desc_cells (struct_cells set) s.desc) subs),
+      )
+
+-- ---- which part a cell in the bytes is of
+
+pub record HasPart (set : Set) (d : Device) (numbers : List ℤ) (from : ℕ) (subs : List Sub) (came : List (Option ℕ)) (c : ℕ) : Type 0 where
+  pub j : ℕ
+  pub sub : Sub
+  pub version : ℕ
+  pub there : slice_get subs j ≡ Some sub
+  pub is_come : slice_get came j ≡ Some (Some version)
+  pub has : has_cell (sub_slots set sub version numbers (sub_place set from subs j)) c ≡ true
+
+pub or_split : (a b : Bool) → (a || b) ≡ true → (a ≡ true) ⊎ ((a ≡ false) × (b ≡ true))
+or_split true b h = inl refl
+or_split false b h = inr (refl, h)
+
+pub has_part : (set : Set) (d : Device) (numbers : List ℤ) (from : ℕ) (subs : List Sub) (came : List (Option ℕ)) (c : ℕ)
+    → has_cell (came_slots set d numbers from subs came) c ≡ true → HasPart set d numbers from subs came c
+has_part set d numbers from [] came c e = cc
+has_part set d numbers from (s ∷ subs) [] c e = cc
+has_part set d numbers from (s ∷ subs) (None ∷ came) c e =
+    let h = has_part set d numbers (from + sub_size set s) subs came c e in
+    record { j = suc h.j; sub = h.sub; version = h.version; there = h.there; is_come = h.is_come; has = h.has }
+has_part set d numbers from (s ∷ subs) (Some v ∷ came) c e =
+    let next = from + sub_size set s in
+    elim (or_split (has_cell (sub_slots set s v numbers from) c) _
+    (sym (names_append (sub_slots set s v numbers from) (came_slots set d numbers next subs came) c) ∙ e)) [
+      | inl f ↦ record { j = 0; sub = s; version = v; there = refl; is_come = refl; has = f }
+      | inr f ↦ let h = has_part set d numbers next subs came c f.1 in record {
+        j = suc h.j;
+        sub = h.sub;
+        version = h.version;
+        there = h.there;
+        is_come = h.is_come;
+        has = h.has;
+      }
+    ]
+
+-- two numbers of which neither is below the other are one
+pub one_number : (i j : ℕ) → (i < j → ⊥) → (j < i → ⊥) → i ≡ j
+one_number i j f g = omega arith
+
+-- two subsections that have one cell are one
+pub one_part : (set : Set) (from : ℕ) (subs : List Sub) (i j c : ℕ) (s t : Sub) → slice_get subs i ≡ Some s → slice_get subs j ≡ Some t
+    → sub_place set from subs i ≤ c → c < sub_place set from subs i + sub_size set s
+    → sub_place set from subs j ≤ c → c < sub_place set from subs j + sub_size set t → i ≡ j
+one_part set from subs i j c s t e f low high low' high' =
+    one_number i j (λ lt. omega (arith, places_apart set from subs i j s e lt)) (λ lt. omega (arith, places_apart set from subs j i t f lt))
+
+-- ---- each cell
+
+module _ (set : Set) where
+  -- cell c is one of subsection j of these, the first of which begins at a place
+  pub record IsIn (from : ℕ) (subs : List Sub) (c : ℕ) : Type 0 where
+    pub j : ℕ
+    pub sub : Sub
+    pub is : slice_get subs j ≡ Some sub
+    pub low : sub_place set from subs j ≤ c
+    pub high : c < sub_place set from subs j + sub_size set sub
+
+  abbrev cells_of : Sub → List Cell
+  cells_of s = desc_cells (struct_cells set) s.desc
+
+  in_one : (from : ℕ) (subs : List Sub) (c : ℕ) → from ≤ c → c < from + length (flat_map cells_of subs) → IsIn from subs c
+  in_one from [] c low high = absurd (omega arith)
+  in_one from (s ∷ subs) c low high =
+      go (λ le. in_one (from + sub_size set s) subs c le (omega (arith, high, length-append (cells_of s) (flat_map cells_of subs))))
+      (nat_lt c (from + sub_size set s)) refl
+    where
+      go : (from + sub_size set s ≤ c → IsIn (from + sub_size set s) subs c) → (b : Bool) → nat_lt c (from + sub_size set s) ≡ b → IsIn from (s ∷ subs) c
+      go more true e = record { j = 0; sub = s; is = refl; low = low; high = ltb-true c (from + sub_size set s) e }
+      go more false e =
+          let rest = more (ltb-false c (from + sub_size set s) e) in
+          record { j = suc rest.j; sub = rest.sub; is = rest.is; low = rest.low; high = rest.high }
+
+  -- a cell of the device is its own, or one of a subsection
+  pub own_or_sub : (d : Device) (c : ℕ) → c < length (device_cells set d) → (c < own_cells set d) ⊎ ((j : ℕ) × (s : Sub) × IsCellOf set d j s c)
+  own_or_sub d c lt = go (nat_lt c (own_cells set d)) refl where
+    go : (b : Bool) → nat_lt c (own_cells set d) ≡ b → (c < own_cells set d) ⊎ ((j : ℕ) × (s : Sub) × IsCellOf set d j s c)
+    go true e = inl (ltb-true c (own_cells set d) e)
+    go false e =
+        let le = ltb-false c (own_cells set d) e in
+        let i = in_one _ d.subs c le (omega (arith, length-append (desc_cells (struct_cells set) d.desc) (flat_map cells_of d.subs))) in
+        inr (i.j, i.sub, record { is = i.is; low = i.low; high = i.high })

@@ -1,0 +1,160 @@
+-- Recast numbers of normal images of the newest set are of its devices' kinds.
+use Rattle.vms_convert.proofs.Facade.{◌≡◌, zero, suc, Bool, true, false, List, [], ◌∷◌, get_or, map, Some, ℤ, pos, refl, sym, subst, arith, if◌then◌else◌, ℕ}
+use Rattle.vms_convert.proofs.Facade.{◌<◌, ◌&&◌, length, ap, ◌∙◌, Option, None, IfSome, slice_get, Kind, InRange, Device, Set, Cell, first, device_cells, Image}
+use Rattle.vms_convert.proofs.Facade.{IsNormal, set_4, timer, i8259_at_4, i8254_at_2, AreOf, kind-of, count-of, kinds, IsPortCells, recast_cells, recast_kinds}
+use Rattle.vms_convert.proofs.Facade.{AreRecastOf, RecastOfLaw, OneLostLaw, AreOfKinds, recast, wants_arrays, is_port, AreKept, serial_at_4, port-of}
+use Rattle.vms_convert.proofs.Facade.{recast_each, is_one_of, one_number, DifferAt, first_cell, Loses, OfCell, OfDevice, OfMachine, KeepsAll}
+use Rattle.vms_parts.specs.Devices.{device_at}
+
+-- the same, as the devices say it
+to_kinds : (cells : List Cell) (numbers : List ℤ) → AreOfKinds cells numbers → AreOf (map (λ cell. cell.kind) cells) numbers
+to_kinds cells numbers h =
+    record {
+      count = omega (arith, count-of cells);
+      in_range = λ c lt. subst (λ (k : Kind). InRange k (get_or numbers c (pos 0))) (sym (kind-of cells c)) (h.in_range c (omega (arith, count-of cells)));
+    }
+
+from_kinds : (cells : List Cell) (numbers : List ℤ) → AreOf (map (λ cell. cell.kind) cells) numbers → AreOfKinds cells numbers
+from_kinds cells numbers h =
+    record {
+      long = omega (arith, count-of cells);
+      in_range = λ c lt. subst (λ (k : Kind). InRange k (get_or numbers c (pos 0))) (kind-of cells c) (h.in_range c (omega (arith, count-of cells)));
+    }
+
+of_normal : (d : Device) (image : Image) → IsNormal set_4 d image → AreOfKinds (device_cells set_4 d) image.numbers
+of_normal d image n = record { long = n.cells.long; in_range = λ c lt. (n.cells.fits c lt).0 }
+
+port_kinds : map (λ cell. cell.kind) (device_cells set_4 serial_at_4) ≡ kinds 4
+unfolding first
+port_kinds = refl
+
+port_of : (to : Set) (numbers : List ℤ) → AreOfKinds (device_cells set_4 serial_at_4) numbers
+    → AreOfKinds (device_cells set_4 serial_at_4) (recast to serial_at_4 numbers)
+port_of to numbers h = go (wants_arrays to) where
+  go : (b : Bool) → AreOfKinds (device_cells set_4 serial_at_4) (if b then recast_cells numbers else numbers)
+  go false = h
+  go true =
+      from_kinds (device_cells set_4 serial_at_4) (recast_cells numbers)
+      (subst (λ (ks : List Kind). AreOf ks (recast_cells numbers)) (sym port_kinds)
+      (recast_kinds numbers (subst (λ (ks : List Kind). AreOf ks numbers) port_kinds (to_kinds (device_cells set_4 serial_at_4) numbers h))))
+
+device_is : (d e : Device) (numbers : List ℤ) → Some d ≡ Some e → AreOfKinds (device_cells set_4 d) numbers → AreOfKinds (device_cells set_4 e) numbers
+device_is d e numbers h k = let same : d ≡ e = cc in subst (λ (x : Device). AreOfKinds (device_cells set_4 x) numbers) same k
+
+pub recast_of : RecastOfLaw
+recast_of to [] l h = absurd (omega arith)
+recast_of to (a ∷ []) l h = absurd (omega arith)
+recast_of to (a ∷ b ∷ []) l h = absurd (omega arith)
+recast_of to (a ∷ b ∷ c ∷ []) l h = absurd (omega arith)
+recast_of to (a ∷ b ∷ c ∷ d ∷ []) l h = absurd (omega arith)
+recast_of to (a ∷ b ∷ c ∷ d ∷ e ∷ []) l h = each where
+  each : AreRecastOf to set_4 (a ∷ b ∷ c ∷ d ∷ e ∷ [])
+  each zero x is = device_is timer x a.numbers is (of_normal timer a (h 0 timer a refl refl))
+  each (suc zero) x is = device_is (i8259_at_4 0) x b.numbers is (of_normal (i8259_at_4 0) b (h 1 (i8259_at_4 0) b refl refl))
+  each (suc (suc zero)) x is = device_is (i8259_at_4 1) x c.numbers is (of_normal (i8259_at_4 1) c (h 2 (i8259_at_4 1) c refl refl))
+  each (suc (suc (suc zero))) x is = device_is i8254_at_2 x d.numbers is (of_normal i8254_at_2 d (h 3 i8254_at_2 d refl refl))
+  each (suc (suc (suc (suc zero)))) x is =
+      device_is serial_at_4 x (recast to serial_at_4 e.numbers) is (port_of to e.numbers (of_normal serial_at_4 e (h 4 serial_at_4 e refl refl)))
+  each (suc (suc (suc (suc (suc k))))) x is = absurd (cc)
+recast_of to (a ∷ b ∷ c ∷ d ∷ e ∷ f ∷ rest) l h = absurd (omega arith)
+
+-- ---- The recast numbers of a device of the newest set, and when its cells are a port's.
+
+pub recast_at : (to : Set) (devices : List Device) (lists : List (List ℤ)) (k : ℕ) (e : Device) (numbers : List ℤ) → slice_get devices k ≡ Some e
+    → slice_get lists k ≡ Some numbers → get_or (recast_each to devices lists) k [] ≡ recast to e numbers
+recast_at to [] lists k e numbers p q = absurd (cc)
+recast_at to (d ∷ devices) [] k e numbers p q = absurd (cc)
+recast_at to (d ∷ devices) (n ∷ lists) zero e numbers p q =
+    let same : d ≡ e = cc in
+    let here : n ≡ numbers = cc in
+    ap (λ (x : Device). recast to x n) same ∙ ap (recast to e) here
+recast_at to (d ∷ devices) (n ∷ lists) (suc k) e numbers p q = recast_at to devices lists k e numbers p q
+
+pub recast_long : (to : Set) (devices : List Device) (lists : List (List ℤ)) → length lists ≡ length devices
+    → length (recast_each to devices lists) ≡ length devices
+recast_long to [] lists l = refl
+recast_long to (d ∷ devices) [] l = absurd (omega arith)
+recast_long to (d ∷ devices) (n ∷ lists) l = ap suc (recast_long to devices lists (omega arith))
+
+pub recast_is : (to : Set) (e : Device) (numbers : List ℤ) → (is_port e && wants_arrays to) ≡ true → recast to e numbers ≡ recast_cells numbers
+recast_is to e numbers h = ap (λ (b : Bool). if b then recast_cells numbers else numbers) h
+
+pub recast_not : (to : Set) (e : Device) (numbers : List ℤ) → (is_port e && wants_arrays to) ≡ false → recast to e numbers ≡ numbers
+recast_not to e numbers h = ap (λ (b : Bool). if b then recast_cells numbers else numbers) h
+
+-- ---- images that a loader of the newest set keeps
+
+pub port_is : (k : ℕ) → k < length set_4.devices → is_port (device_at set_4 k) ≡ true → k ≡ 4
+port_is zero lt e = absurd (cc)
+port_is (suc zero) lt e = absurd (cc)
+port_is (suc (suc zero)) lt e = absurd (cc)
+port_is (suc (suc (suc zero))) lt e = absurd (cc)
+port_is (suc (suc (suc (suc zero)))) lt e = refl
+port_is (suc (suc (suc (suc (suc k))))) lt e = absurd (omega arith)
+
+pub port_cells : (images : List Image) → AreKept set_4 images → (k : ℕ) (image : Image) → k ≡ 4 → slice_get images k ≡ Some image → IsPortCells image.numbers
+port_cells images kept k image is at =
+    let at_4 : slice_get images 4 ≡ Some image = ap (λ (n : ℕ). slice_get images n) (sym is) ∙ at in
+    port-of image (kept.each 4 serial_at_4 image refl at_4).normal
+
+pub kept_kinds : (to : Set) (images : List Image) → AreKept set_4 images → AreRecastOf to set_4 images
+kept_kinds to images kept = recast_of to images kept.one_each (λ k e image at at'. (kept.each k e image at at').normal)
+
+-- of a set that is the newest
+pub newest_kinds : (to new : Set) → new ≡ set_4 → (images : List Image) → AreKept new images → AreRecastOf to new images
+newest_kinds to new is images = subst (λ (s : Set). AreKept s images → AreRecastOf to s images) (sym is) (kept_kinds to images)
+
+-- ---- What is lost first is one thing.
+
+accepted : (to : Set) (machine : Option (List ℕ)) (name : List ℕ) → IfSome machine (λ m. is_one_of to.machines m ≡ true) → machine ≡ Some name
+    → is_one_of to.machines name ≡ true
+accepted to None name h e = absurd (cc)
+accepted to (Some m) name h e = let same : m ≡ name = cc in ap (is_one_of to.machines) (sym same) ∙ h
+
+module _ (to new : Set) (machine : Option (List ℕ)) (wanted there : List (List ℤ)) (backs : List Image) where
+  abbrev Lost : Option ℕ → Option ℕ → Type 0
+  Lost section cell = Loses to new machine wanted there backs section cell
+
+  abbrev Differ : ℕ → ℕ → Type 0
+  Differ k c = DifferAt (get_or wanted k []) (get_or there k []) c
+
+  not_same : (k c : ℕ) → Differ k c → get_or wanted k [] ≡ get_or there k [] → ⊥
+  not_same k c d e = d.other (ap (λ (l : List ℤ). get_or l c (pos 0)) e)
+
+  not_all : (k c : ℕ) → Differ k c → wanted ≡ there → ⊥
+  not_all k c d e = not_same k c d (ap (λ (l : List (List ℤ)). get_or l k []) e)
+
+  never : (section cell : Option ℕ) → KeepsAll to new machine wanted there backs → Lost section cell → ⊥
+  never section cell h (OfCell k c before differ) = not_all k c differ h.cells
+  never section cell h (OfDevice k inside same before bad) = bad (h.valid k inside)
+  never section cell h (OfMachine name same valid is not) =
+      let e = accepted to machine name h.machine_is is in let f : true ≡ false = sym e ∙ not in absurd (cc)
+
+  first_differ : (k c k' c' : ℕ) → ((i : ℕ) → i < k → get_or wanted i [] ≡ get_or there i []) → Differ k c
+      → ((i : ℕ) → i < k' → get_or wanted i [] ≡ get_or there i []) → Differ k' c' → k ≡ k'
+  first_differ k c k' c' before d before' d' = one_number k k' (λ lt. not_same k c d (before' k lt)) (λ lt. not_same k' c' d' (before k' lt))
+
+  first_number : (k c c' : ℕ) → Differ k c → Differ k c' → c ≡ c'
+  first_number k c c' d d' = one_number c c' (λ lt. d.other (d'.before c lt)) (λ lt. d'.other (d.before c' lt))
+
+  one : (section cell section' cell' : Option ℕ) → Lost section cell → Lost section' cell' → (section ≡ section') × (cell ≡ cell')
+  one section cell section' cell' (OfCell k c before d) (OfCell k' c' before' d') =
+      let same : k ≡ k' = first_differ k c k' c' before d before' d' in
+      let here : Differ k c' = subst (λ (n : ℕ). Differ n c') (sym same) d' in
+      (ap (λ (n : ℕ). Some n) same, ap (λ (n : ℕ). Some n) (first_number k c c' d here))
+  one section cell section' cell' (OfCell k c before d) (OfDevice k' inside same before' bad) = absurd (not_all k c d same)
+  one section cell section' cell' (OfCell k c before d) (OfMachine name same valid is not) = absurd (not_all k c d same)
+  one section cell section' cell' (OfDevice k inside same before bad) (OfCell k' c' before' d') = absurd (not_all k' c' d' same)
+  one section cell section' cell' (OfDevice k inside same before bad) (OfDevice k' inside' same' before' bad') =
+      let e : k ≡ k' = one_number k k' (λ lt. bad (before' k lt)) (λ lt. bad' (before k' lt)) in
+      (ap (λ (n : ℕ). Some n) e, ap (λ (n : ℕ). first_cell (get_or wanted n [])) e)
+  one section cell section' cell' (OfDevice k inside same before bad) (OfMachine name same' valid is not) = absurd (bad (valid k inside))
+  one section cell section' cell' (OfMachine name same valid is not) (OfCell k' c' before' d') = absurd (not_all k' c' d' same)
+  one section cell section' cell' (OfMachine name same valid is not) (OfDevice k' inside same' before' bad) = absurd (bad (valid k' inside))
+  one section cell section' cell' (OfMachine name same valid is not) (OfMachine name' same' valid' is' not') = (refl, refl)
+
+pub one_lost : OneLostLaw
+one_lost to new machine wanted there backs = record {
+  never_both = λ section cell h l. never to new machine wanted there backs section cell h l;
+  one = λ a b c d p q. one to new machine wanted there backs a b c d p q;
+}

@@ -1,0 +1,233 @@
+-- Whether a subsection is needed depends on its own cells and on those of its device.
+use Rattle.vms_convert.proofs.Facade.{◌≡◌, ℕ, ◌+◌, List, length, get_or, Option, Some, None, ℤ, refl, ap, ◌∙◌, arith, Bool, true, not, ◌&&◌, ◌||◌, bit_and, suc}
+use Rattle.vms_convert.proofs.Facade.{◌<◌, ◌≤◌, false, nat_lt, pos, sym, if◌then◌else◌, zero, [], ◌∷◌, length-set, map, slice_set, slice_get, and_parts}
+use Rattle.vms_convert.proofs.Facade.{ltb-true, ltb-false, slice_get_within, width, residue, Own, Parent, Formula, AtLeast, Below, Not, And, Or, Field, Desc}
+use Rattle.vms_convert.proofs.Facade.{Sub, Device, Set, truth, compares, no_field, kind_of, place_of, numbers_of, desc_cells, struct_cells, no_cell}
+use Rattle.vms_convert.proofs.Facade.{device_cells, Image, own_cells, is_needed, is_steady, is_steady_in, names_well, WellFormed, IsEarlier, place_up}
+use Rattle.vms_convert.proofs.Facade.{place_below, place_end, sub_size, sub_place_up, places_apart, at_other, part_place, SameIn, earlier, sub_clean, bare}
+use Rattle.vms_convert.proofs.Facade.{needed_from, IsCellOf, AreSettled, whole, IsBack, at_set, same_lists, IsAtVersions, at_map, length-map}
+use Rattle.vms_spec.specs.Sets.{Cell}
+use Rattle.vms_spec.specs.Layout.{Cell as OneCell}
+
+-- a test that names only fields of these numbers
+module _ (ok okp : ℕ → Bool) (own own' parent parent' : ℕ → ℕ) (h : (i : ℕ) → ok i ≡ true → own' i ≡ own i)
+    (hp : (i : ℕ) → okp i ≡ true → parent' i ≡ parent i) where
+  pub truth_alike : (t : Formula) (v : ℕ) → names_well ok okp t ≡ true → truth t v own' parent' ≡ truth t v own parent
+  truth_alike (AtLeast n) v e = refl
+  truth_alike (Below n) v e = refl
+  truth_alike (Cell Own i mask rel value) v e = ap (λ (k : ℕ). compares rel (bit_and k mask) value) (h i e)
+  truth_alike (Cell Parent i mask rel value) v e = ap (λ (k : ℕ). compares rel (bit_and k mask) value) (hp i e)
+  truth_alike (Not t) v e = ap not (truth_alike t v e)
+  truth_alike (And s t) v e =
+      let p = and_parts (names_well ok okp s) (names_well ok okp t) e in
+      ap (λ (b : Bool). b && truth t v own' parent') (truth_alike s v p.0) ∙ ap (λ (b : Bool). truth s v own parent && b) (truth_alike t v p.1)
+  truth_alike (Or s t) v e =
+      let p = and_parts (names_well ok okp s) (names_well ok okp t) e in
+      ap (λ (b : Bool). b || truth t v own' parent') (truth_alike s v p.0) ∙ ap (λ (b : Bool). truth s v own parent || b) (truth_alike t v p.1)
+
+-- ---- a field that tests may name
+
+plain : (d : Desc) (j : ℕ) → is_steady_in d j ≡ true → IsEarlier d.fields (length d.fields) j
+plain d j e = go (slice_get d.fields j) refl e where
+  go : (o : Option Field) → slice_get d.fields j ≡ o → is_steady d.minimum o ≡ true → IsEarlier d.fields (length d.fields) j
+  go None h s = cc
+  go (Some f) h s = earlier d (length d.fields) j (slice_get_within d.fields j f h) e
+
+-- its number, where the description's cells are the same
+number_same : (cs : List (List OneCell)) (d : Desc) (base j : ℕ) (n m : List ℤ) → is_steady_in d j ≡ true → SameIn base (base + length (desc_cells cs d)) n m
+    → numbers_of cs d m base j ≡ numbers_of cs d n base j
+number_same cs d base j n m e s =
+    let x = plain d j e in
+    ap (λ (z : ℤ). residue (width (kind_of (get_or d.fields j no_field).item)) z)
+    (s.same (place_of cs d.fields 0 base d.fields j) (place_up cs d.fields 0 base d.fields j)
+    (omega (arith, place_below cs d.fields 0 base d.fields j (length d.fields) x.earlier x.there x.number x.one, place_end cs d.fields 0 base d.fields)))
+
+module _ (set : Set) (well : WellFormed set) (k : ℕ) (d : Device) (there : slice_get set.devices k ≡ Some d) where
+  pub needed_same : (j : ℕ) (s : Sub) → slice_get d.subs j ≡ Some s → (x y : Image) → SameIn 0 (0 + own_cells set d) x.numbers y.numbers
+      → SameIn (part_place set d j) (part_place set d j + sub_size set s) x.numbers y.numbers → is_needed set d y s j ≡ is_needed set d x s j
+  needed_same j s e x y own part =
+      let names = (sub_clean set well k j d s there e).own.1.1.1.0 in
+      let cs = struct_cells set in
+      truth_alike (is_steady_in s.desc) (is_steady_in d.desc)
+      (numbers_of cs s.desc x.numbers (part_place set d j)) (numbers_of cs s.desc y.numbers (part_place set d j)) (numbers_of cs d.desc x.numbers 0)
+      (numbers_of cs d.desc y.numbers 0) (λ i h. number_same cs s.desc (part_place set d j) i x.numbers y.numbers h part)
+      (λ i h. number_same cs d.desc 0 i x.numbers y.numbers h own) s.needed s.desc.version names
+
+-- ---- Subsections that aren't needed are put to their defaults one after the other.
+
+-- an index below the next one is below this one, or is this one
+pub by_last : {P : Type 0} (i j : ℕ) → i < suc j → (i < j → P) → (i ≡ j → P) → P
+by_last {P = P} i j lt f g = go (nat_lt i j) refl where
+  go : (b : Bool) → nat_lt i j ≡ b → P
+  go true e = f (ltb-true i j e)
+  go false e = let ge : j ≤ i = ltb-false i j e in g (omega arith)
+
+pub some_at : {A : Type 0} (xs : List A) (i : ℕ) → i < length xs → (x : A) × (slice_get xs i ≡ Some x)
+some_at [] i lt = absurd (omega arith)
+some_at (x ∷ xs) zero lt = (x, refl)
+some_at (x ∷ xs) (suc i) lt = some_at xs i (omega arith)
+
+-- the first j subsections are settled, and all else is as it was
+pub record SettledTo (set : Set) (d : Device) (j : ℕ) (before now : List ℤ) : Type 0 where
+  pub long : length now ≡ length before
+  pub own : (c : ℕ) → c < own_cells set d → get_or now c (pos 0) ≡ get_or before c (pos 0)
+  pub done : (i : ℕ) (s : Sub) (c : ℕ) → i < j → IsCellOf set d i s c
+      → get_or now c (pos 0) ≡ (if is_needed set d (whole d before) s i then get_or before c (pos 0) else (get_or (device_cells set d) c no_cell).default)
+  pub left : (i : ℕ) (s : Sub) (c : ℕ) → j ≤ i → IsCellOf set d i s c → get_or now c (pos 0) ≡ get_or before c (pos 0)
+
+-- the cells of subsection j are at their defaults, and all else is as it was
+pub record AreBare (set : Set) (d : Device) (j : ℕ) (s : Sub) (before now : List ℤ) : Type 0 where
+  pub long : length now ≡ length before
+  pub inside : (c : ℕ) → IsCellOf set d j s c → get_or now c (pos 0) ≡ (get_or (device_cells set d) c no_cell).default
+  pub below : (c : ℕ) → c < part_place set d j → get_or now c (pos 0) ≡ get_or before c (pos 0)
+  pub above : (c : ℕ) → part_place set d j + sub_size set s ≤ c → get_or now c (pos 0) ≡ get_or before c (pos 0)
+
+pub settled_none : (set : Set) (d : Device) (n : List ℤ) → SettledTo set d 0 n n
+settled_none set d n = record { long = refl; own = λ c lt. refl; done = λ i s c lt h. absurd (omega arith); left = λ i s c le h. refl }
+
+module _ (set : Set) (well : WellFormed set) (k : ℕ) (d : Device) (there : slice_get set.devices k ≡ Some d) (before : List ℤ) where
+  -- a test of subsection j answers as before
+  pub still_needed : (now : List ℤ) (j : ℕ) (s : Sub) → slice_get d.subs j ≡ Some s → SettledTo set d j before now
+      → is_needed set d (bare d now) s j ≡ is_needed set d (whole d before) s j
+  still_needed now j s e h =
+      needed_same set well k d there j s e (whole d before) (bare d now) (record { same = λ c low lt. h.own c (omega arith) })
+      (record { same = λ c low lt. h.left j s c (omega arith) (record { is = e; low = low; high = lt }) })
+
+  -- it is needed, so nothing changes
+  pub settled_needed : (now : List ℤ) (j : ℕ) (s : Sub) → slice_get d.subs j ≡ Some s → SettledTo set d j before now → is_needed set d (bare d now) s j ≡ true
+      → SettledTo set d (suc j) before now
+  settled_needed now j s e h n = record {
+    long = h.long;
+    own = h.own;
+    done = λ i t c lt x. by_last i j lt (λ less. h.done i t c less x) (λ same.
+        let ge : j ≤ i = omega arith in
+        let one : Some t ≡ Some s = sym x.is ∙ ap (slice_get d.subs) same ∙ e in
+        let sub : t ≡ s = cc in
+        let needed : is_needed set d (whole d before) t i ≡ true =
+        ap (λ (u : Sub). is_needed set d (whole d before) u i) sub ∙ ap (λ (m : ℕ). is_needed set d (whole d before) s m) same
+        ∙ sym (still_needed now j s e h) ∙ n in
+        h.left i t c ge x ∙ sym (ap (λ (b : Bool). if b then get_or before c (pos 0) else (get_or (device_cells set d) c no_cell).default) needed));
+    left = λ i t c le x. h.left i t c (omega arith) x;
+  }
+
+  -- it isn't, and its cells are put to their defaults
+  pub settled_bare : (now next : List ℤ) (j : ℕ) (s : Sub) → slice_get d.subs j ≡ Some s → SettledTo set d j before now
+      → is_needed set d (bare d now) s j ≡ false → AreBare set d j s now next → SettledTo set d (suc j) before next
+  settled_bare now next j s e h n p = record {
+    long = p.long ∙ h.long;
+    own = λ c lt. p.below c (omega (arith, sub_place_up set (own_cells set d) d.subs j)) ∙ h.own c lt;
+    done = λ i t c lt x. by_last i j lt
+        (λ less.
+        let high = x.high in
+        p.below c (omega (arith, high, places_apart set (own_cells set d) d.subs i j t x.is less)) ∙ h.done i t c less x)
+        (λ same.
+        let one : Some t ≡ Some s = sym x.is ∙ ap (slice_get d.subs) same ∙ e in
+        let sub : t ≡ s = cc in
+        let low = x.low in
+        let high = x.high in
+        let place : part_place set d i ≡ part_place set d j = ap (part_place set d) same in
+        let size : sub_size set t ≡ sub_size set s = ap (sub_size set) sub in
+        let not_needed : is_needed set d (whole d before) t i ≡ false =
+        ap (λ (u : Sub). is_needed set d (whole d before) u i) sub ∙ ap (λ (m : ℕ). is_needed set d (whole d before) s m) same
+        ∙ sym (still_needed now j s e h) ∙ n in
+        p.inside c (record { is = e; low = omega arith; high = omega arith })
+        ∙ sym (ap (λ (b : Bool). if b then get_or before c (pos 0) else (get_or (device_cells set d) c no_cell).default) not_needed));
+    left = λ i t c le x.
+        p.above c (omega (arith, places_apart set (own_cells set d) d.subs j i s e (omega arith))) ∙ h.left i t c (omega arith) x;
+  }
+
+  pub all_settled : (now : List ℤ) (j : ℕ) → j ≡ length d.subs → SettledTo set d j before now → AreSettled set d before now
+  all_settled now j end h = record {
+    long = h.long;
+    own = h.own;
+    subs = λ i s c x. h.done i s c (omega (arith, slice_get_within d.subs i s x.is)) x;
+  }
+
+-- ---- Subsections that are needed are marked one after the other.
+
+module _ (set : Set) (d : Device) (image : Image) where
+  -- whether subsection j comes
+  abbrev pub comes : ℕ → Sub → Option ℕ
+  comes j s = if is_needed set d image s j then Some s.desc.version else None
+
+  -- the first j are marked
+  pub record MarkedTo (subs : List Sub) (j : ℕ) (came : List (Option ℕ)) : Type 0 where
+    pub long : length came ≡ length subs
+    pub done : (i : ℕ) (s : Sub) → i < j → slice_get subs i ≡ Some s → slice_get came i ≡ Some (comes i s)
+    pub left : (i : ℕ) (s : Sub) → j ≤ i → slice_get subs i ≡ Some s → slice_get came i ≡ Some None
+
+  pub marked_none : (subs : List Sub) → MarkedTo subs 0 (map (λ s. None) subs)
+  marked_none subs = record { long = length-map subs _; done = λ i s lt e. absurd (omega arith); left = λ i s le e. at_map (λ s. None) subs i s e }
+
+  -- the last of those up to j
+  at_last : (subs : List Sub) (i j : ℕ) (t s : Sub) → i ≡ j → slice_get subs i ≡ Some t → slice_get subs j ≡ Some s → (b : Bool)
+      → is_needed set d image s j ≡ b → comes i t ≡ (if b then Some s.desc.version else None)
+  at_last subs i j t s same f e b n =
+      let one : Some t ≡ Some s = sym f ∙ ap (slice_get subs) same ∙ e in
+      let sub : t ≡ s = cc in
+      let needed : is_needed set d image t i ≡ b = ap (λ (u : Sub). is_needed set d image u i) sub ∙ ap (is_needed set d image s) same ∙ n in
+      ap (λ (x : Bool). if x then Some t.desc.version else None) needed ∙ ap (λ (u : Sub). if b then Some u.desc.version else None) sub
+
+  -- one more, which isn't needed, or is and is marked
+  pub marked_skip : (subs : List Sub) (came : List (Option ℕ)) (j : ℕ) (s : Sub) → slice_get subs j ≡ Some s → MarkedTo subs j came
+      → is_needed set d image s j ≡ false → MarkedTo subs (suc j) came
+  marked_skip subs came j s e h n = record {
+    long = h.long;
+    done = λ i t lt f. by_last i j lt (λ less. h.done i t less f) (λ same. h.left i t (omega arith) f ∙ sym (ap Some (at_last subs i j t s same f e false n)));
+    left = λ i t le f. h.left i t (omega arith) f;
+  }
+
+  pub marked_next : (subs : List Sub) (came : List (Option ℕ)) (j : ℕ) (s : Sub) → slice_get subs j ≡ Some s → MarkedTo subs j came
+      → is_needed set d image s j ≡ true → MarkedTo subs (suc j) (slice_set came j (Some s.desc.version))
+  marked_next subs came j s e h n =
+      let next = slice_set came j (Some s.desc.version) in
+      record {
+        long = length-set came j (Some s.desc.version) ∙ h.long;
+        done = λ i t lt f. by_last i j lt (λ less. at_other came j i (Some s.desc.version) (λ same. absurd (omega arith)) ∙ h.done i t less f) (λ same.
+            ap (slice_get next) same ∙ at_set came j (Some s.desc.version) (omega (arith, h.long, slice_get_within subs j s e))
+            ∙ sym (ap Some (at_last subs i j t s same f e true n)));
+        left = λ i t le f. at_other came j i (Some s.desc.version) (λ same. absurd (omega arith)) ∙ h.left i t (omega arith) f;
+      }
+
+  -- ---- all of them
+
+  pub comes_at : (subs : List Sub) (i j : ℕ) (s : Sub) → slice_get subs j ≡ Some s → slice_get (needed_from set d image i subs) j ≡ Some (comes (i + j) s)
+  comes_at [] i j s e = absurd (cc)
+  comes_at (t ∷ subs) i zero s e =
+      let one : t ≡ s = cc in
+      let z : i ≡ i + 0 = omega arith in
+      ap (λ (u : Sub). Some (comes i u)) one ∙ ap (λ (k : ℕ). Some (comes k s)) z
+  comes_at (t ∷ subs) i (suc j) s e = let z : suc i + j ≡ i + suc j = omega arith in comes_at subs (suc i) j s e ∙ ap (λ (k : ℕ). Some (comes k s)) z
+
+  pub needed_long : (subs : List Sub) (i : ℕ) → length (needed_from set d image i subs) ≡ length subs
+  needed_long [] i = refl
+  needed_long (s ∷ subs) i = ap suc (needed_long subs (suc i))
+
+  pub all_marked : (subs : List Sub) (came : List (Option ℕ)) (j : ℕ) → j ≡ length subs → MarkedTo subs j came → came ≡ needed_from set d image 0 subs
+  all_marked subs came j end h =
+      let long = h.long in
+      same_lists came (needed_from set d image 0 subs) (long ∙ sym (needed_long subs 0)) (λ i lt. one i (some_at subs i (omega (arith, long))))
+    where
+      one : (i : ℕ) → (s : Sub) × (slice_get subs i ≡ Some s) → slice_get came i ≡ slice_get (needed_from set d image 0 subs) i
+      one i p =
+          let z : i ≡ 0 + i = omega arith in
+          h.done i p.0 (omega (arith, slice_get_within subs i p.0 p.1)) p.1 ∙ ap (λ (k : ℕ). Some (comes k p.0)) z ∙ sym (comes_at subs 0 i p.0 p.1)
+
+-- ---- What comes back is at its set's versions.
+
+version_if : (b : Bool) (v w : ℕ) → (if b then Some v else None) ≡ Some w → w ≡ v
+version_if true v w e = let f : v ≡ w = cc in sym f
+version_if false v w e = cc
+
+needed_version : (set : Set) (d : Device) (image : Image) (i j : ℕ) (subs : List Sub) (s : Sub) (v : ℕ) → slice_get subs j ≡ Some s
+    → slice_get (needed_from set d image i subs) j ≡ Some (Some v) → v ≡ s.desc.version
+needed_version set d image i j subs s v e f =
+    let is : Some (comes set d image (i + j) s) ≡ Some (Some v) = sym (comes_at set d image subs i j s e) ∙ f in
+    version_if (is_needed set d image s (i + j)) s.desc.version v cc
+
+pub back_versions : (to : Set) (d : Device) (partners : List (Option ℕ)) (numbers : List ℤ) (image : Image) → IsBack to d partners numbers image
+    → IsAtVersions d image
+back_versions to d partners numbers image back = record {
+  version = ap (λ (x : Image). x.version) back.is;
+  subs = λ j s v e f. needed_version to d (bare d image.numbers) 0 j d.subs s v e (sym (ap (λ (x : Image). slice_get x.came j) back.is) ∙ f);
+}

@@ -1,0 +1,301 @@
+-- What is taken of the older cells, and the defaults of the others.
+use Rattle.vms_convert.proofs.Facade.{◌≡◌, ℕ, zero, suc, ◌<◌, List, [], ◌∷◌, ◌++◌, length, get_or, take, drop, slice_set, ℤ, pos, refl, ap, arith, ◌+◌, map}
+use Rattle.vms_convert.proofs.Facade.{Option, Some, None, sym, ◌∙◌, append_assoc, Bool, true, false, ◌||◌, ◌==◌, length-set, subst, if◌then◌else◌, ◌≤◌, nat_lt}
+use Rattle.vms_convert.proofs.Facade.{slice_get, get_or-set_other, get_or-set_same, map-append, length-map, eqb-true, eq-eqb, ltb-true, ltb-false, get_or-map}
+use Rattle.vms_convert.proofs.Facade.{slice_get-get_or, IsSound, AreSound, Sub, Device, Set, Slot, desc_cells, struct_cells, Cell, no_cell, Number}
+use Rattle.vms_convert.proofs.Facade.{device_cells, own_cells, own_slots, sub_slots, sub_place, came_slots, has_cell, image_slots, its_same, its_below}
+use Rattle.vms_convert.proofs.Facade.{part_place, image_are, sub_size, sub_place_up, SameBelow, SameIn, exceeds, AreCells, least_of, steps_of, capacities_of}
+use Rattle.vms_convert.proofs.Facade.{step_of, exceeds_least, taken, AreTaken, whole, changed, changed_append, Changes, put_partner, put_step, AreSources}
+use Rattle.vms_convert.proofs.Facade.{Keeps, WalkStep, has_step_of, put_keeps, takes_keeps, Kind, Typed, InRange, U8, FitsHeads, own_cell_count, device_at}
+use Rattle.vms_convert.proofs.Facade.{is_well_formed, desc_at, kinds_at, good_of, ArePut, ArePutAt, append-nil, take_all, at_map}
+use Rattle.vms_spec.specs.declared.Part.TheVariants as parts
+use Rattle.vms_desc.specs.Asks.{first_cell}
+
+-- ---- The first numbers of one list, before the rest of another.
+
+-- one more of the first
+pub put_front : (xs ys : List ℤ) (c : ℕ) → c < length xs → length xs ≡ length ys
+    → slice_set (take c xs ++ drop c ys) c (get_or xs c (pos 0)) ≡ take (suc c) xs ++ drop (suc c) ys
+put_front [] ys c lt long = absurd (omega arith)
+put_front (x ∷ xs) [] c lt long = absurd (omega arith)
+put_front (x ∷ xs) (y ∷ ys) zero lt long = refl
+put_front (x ∷ xs) (y ∷ ys) (suc c) lt long = ap (λ (l : List ℤ). x ∷ l) (put_front xs ys c (omega arith) (omega arith))
+
+-- ---- The slots of a device's own fields and of its first subsections, in the order in which walks visit them.
+
+-- each subsection came at its version in the set
+abbrev pub all_came : List Sub → List (Option ℕ)
+all_came subs = map (λ s. Some s.desc.version) subs
+
+-- one subsection, which came or not
+abbrev pub one_slots : Set → Sub → Option ℕ → List ℤ → ℕ → List Slot
+one_slots set s None n at = []
+one_slots set s (Some v) n at = sub_slots set s v n at
+
+module _ (set : Set) (d : Device) (n : List ℤ) where
+  pub came_next : (from : ℕ) (subs : List Sub) (came : List (Option ℕ)) (j : ℕ) (s : Sub) (o : Option ℕ) → slice_get subs j ≡ Some s → slice_get came j ≡ Some o
+      → came_slots set d n from (take (suc j) subs) (take (suc j) came) ≡ came_slots set d n from (take j subs) (take j came) ++ one_slots set s o n
+      (sub_place set from subs j)
+  came_next from [] came j s o e f = absurd (cc)
+  came_next from (t ∷ subs) [] j s o e f = absurd (cc)
+  came_next from (t ∷ subs) (None ∷ came) zero s o e f =
+      let same : None ≡ o = cc in
+      ap (λ (p : Option ℕ). one_slots set s p n from) same
+  came_next from (t ∷ subs) (Some v ∷ came) zero s o e f =
+      let same : Some v ≡ o = cc in
+      let one : t ≡ s = cc in
+      append-nil (sub_slots set t v n from) ∙ ap (λ (u : Sub). sub_slots set u v n from) one ∙ ap (λ (p : Option ℕ). one_slots set s p n from) same
+  came_next from (t ∷ subs) (None ∷ came) (suc j) s o e f = came_next (from + length (desc_cells (struct_cells set) t.desc)) subs came j s o e f
+  came_next from (t ∷ subs) (Some v ∷ came) (suc j) s o e f =
+      let next = from + length (desc_cells (struct_cells set) t.desc) in
+      ap (λ (l : List Slot). sub_slots set t v n from ++ l) (came_next next subs came j s o e f)
+      ∙ sym (append_assoc (sub_slots set t v n from) (came_slots set d n next (take j subs) (take j came)) (one_slots set s o n (sub_place set next subs j)))
+
+abbrev pub first_slots : Set → Device → List (Option ℕ) → ℕ → List ℤ → List Slot
+first_slots set d came j n = own_slots set d d.desc.version n ++ came_slots set d n (own_cells set d) (take j d.subs) (take j came)
+
+pub first_next : (set : Set) (d : Device) (came : List (Option ℕ)) (j : ℕ) (s : Sub) (o : Option ℕ) (n : List ℤ) → slice_get d.subs j ≡ Some s
+    → slice_get came j ≡ Some o → first_slots set d came (suc j) n ≡ first_slots set d came j n ++ one_slots set s o n (part_place set d j)
+first_next set d came j s o n e f =
+    ap (λ (l : List Slot). own_slots set d d.desc.version n ++ l) (came_next set d n (own_cells set d) d.subs came j s o e f)
+    ∙ sym (append_assoc (own_slots set d d.desc.version n) (came_slots set d n (own_cells set d) (take j d.subs) (take j came))
+    (one_slots set s o n (part_place set d j)))
+
+-- ---- they go by the cells before the next part
+
+module _ (set : Set) (structs : AreSound set.structs) (d : Device) where
+  came_same : (n m : List ℤ) (from : ℕ) (subs : List Sub) (came : List (Option ℕ)) (j : ℕ) → ((i : ℕ) (s : Sub) → slice_get subs i ≡ Some s → IsSound s.desc)
+      → SameIn from (sub_place set from subs j) n m
+      → came_slots set d m from (take j subs) (take j came) ≡ came_slots set d n from (take j subs) (take j came)
+  came_same n m from [] came zero sound s = refl
+  came_same n m from [] came (suc j) sound s = refl
+  came_same n m from (t ∷ subs) came zero sound s = refl
+  came_same n m from (t ∷ subs) [] (suc j) sound s = refl
+  came_same n m from (t ∷ subs) (None ∷ came) (suc j) sound s =
+      let next = from + sub_size set t in
+      came_same n m next subs came j (λ i u e. sound (suc i) u e) (record { same = λ c low lt. s.same c (omega arith) lt })
+  came_same n m from (t ∷ subs) (Some v ∷ came) (suc j) sound s =
+      let next = from + sub_size set t in
+      let up = sub_place_up set next subs j in
+      ap (λ (l : List Slot). l ++ came_slots set d m next (take j subs) (take j came))
+      (its_same set t.desc v from structs (sound 0 t refl) n m (record { same = λ c low lt. s.same c low (omega arith) }))
+      ∙ ap (λ (l : List Slot). sub_slots set t v n from ++ l)
+      (came_same n m next subs came j (λ i u e. sound (suc i) u e) (record { same = λ c low lt. s.same c (omega arith) lt }))
+
+  pub first_same : IsSound d.desc → ((i : ℕ) (s : Sub) → slice_get d.subs i ≡ Some s → IsSound s.desc) → (n m : List ℤ) (came : List (Option ℕ)) (j : ℕ)
+      → SameBelow (part_place set d j) n m → first_slots set d came j m ≡ first_slots set d came j n
+  first_same own sound n m came j s =
+      let up = sub_place_up set (own_cells set d) d.subs j in
+      ap (λ (l : List Slot). l ++ came_slots set d m (own_cells set d) (take j d.subs) (take j came))
+      (its_same set d.desc d.desc.version 0 structs own n m (record { same = λ c low lt. s.same c (omega arith) }))
+      ∙ ap (λ (l : List Slot). own_slots set d d.desc.version n ++ l)
+      (came_same n m (own_cells set d) d.subs came j sound (record { same = λ c low lt. s.same c lt }))
+
+-- ---- The number of a cell after the steps of some slots.
+
+-- what a cell has after its step, if it had another number before
+abbrev pub put_value : List ℤ → List ℕ → Option ℕ → ℤ → ℤ
+put_value source caps (Some k) old = let z = get_or source k (pos 0) in if exceeds caps z then old else z
+put_value source caps None old = old
+
+value_twice : (source : List ℤ) (caps : List ℕ) (o : Option ℕ) (old : ℤ) → put_value source caps o (put_value source caps o old) ≡ put_value source caps o old
+value_twice source caps None old = refl
+value_twice source caps (Some k) old = go (exceeds caps (get_or source k (pos 0))) where
+  go : (b : Bool) → (if b then (if b then old else get_or source k (pos 0)) else get_or source k (pos 0)) ≡ (if b then old else get_or source k (pos 0))
+  go true = refl
+  go false = refl
+
+put_long : (source : List ℤ) (cell : ℕ) (most o : Option ℕ) (now : List ℤ) → length (put_partner source cell most o now) ≡ length now
+put_long source cell most None now = refl
+put_long source cell most (Some k) now = go (exceeds (capacities_of most) (get_or source k (pos 0))) where
+  go : (b : Bool) → length (if b then now else slice_set now cell (get_or source k (pos 0))) ≡ length now
+  go true = refl
+  go false = length-set now cell (get_or source k (pos 0))
+
+put_here : (source : List ℤ) (c : ℕ) (caps : List ℕ) (o : Option ℕ) (now : List ℤ) → c < length now
+    → get_or (put_partner source c (least_of caps) o now) c (pos 0) ≡ put_value source caps o (get_or now c (pos 0))
+put_here source c caps None now lt = refl
+put_here source c caps (Some k) now lt =
+    let z = get_or source k (pos 0) in
+    ap (λ (b : Bool). get_or (if b then now else slice_set now c z) c (pos 0)) (exceeds_least caps z) ∙ go (exceeds caps z)
+  where
+    go : (b : Bool)
+        → get_or (if b then now else slice_set now c (get_or source k (pos 0))) c (pos 0) ≡ (if b then get_or now c (pos 0) else get_or source k (pos 0))
+    go true = refl
+    go false = get_or-set_same now c (get_or source k (pos 0)) (pos 0) lt
+
+put_other : (source : List ℤ) (cell c : ℕ) (most o : Option ℕ) (now : List ℤ) → (c ≡ cell → ⊥)
+    → get_or (put_partner source cell most o now) c (pos 0) ≡ get_or now c (pos 0)
+put_other source cell c most None now ne = refl
+put_other source cell c most (Some k) now ne = go (exceeds (capacities_of most) (get_or source k (pos 0))) where
+  go : (b : Bool) → get_or (if b then now else slice_set now cell (get_or source k (pos 0))) c (pos 0) ≡ get_or now c (pos 0)
+  go true = refl
+  go false = get_or-set_other now cell c (get_or source k (pos 0)) (pos 0) ne
+
+module _ (all : List Cell) (partners : List (Option ℕ)) (source : List ℤ) where
+  abbrev after : List Slot → List ℤ → List ℤ
+  after slots now = changed (put_step partners source) (steps_of slots) now
+
+  abbrev value : ℕ → ℤ → ℤ
+  value c old = put_value source (get_or all c no_cell).capacities (get_or partners c None) old
+
+  abbrev taken_if : ℕ → Bool → ℤ → ℤ
+  taken_if c has old = if has then value c old else old
+
+  abbrev put : ℕ → List ℕ → List ℤ → List ℤ
+  put d caps now = put_partner source d (least_of caps) (get_or partners d None) now
+
+  again : (c : ℕ) (b : Bool) (old : ℤ) → taken_if c b (value c old) ≡ value c old
+  again c true old = value_twice source (get_or all c no_cell).capacities (get_or partners c None) old
+  again c false old = refl
+
+  pub put_at : (slots : List Slot) (now : List ℤ) (c : ℕ) → AreCells all slots → length now ≡ length all → c < length all
+      → get_or (after slots now) c (pos 0) ≡ taken_if c (has_cell slots c) (get_or now c (pos 0))
+  put_at [] now c are long lt = refl
+  put_at (Number d kind caps ∷ slots) now c are long lt =
+      put_at slots (put d caps now) c are.1 (put_long source d (least_of caps) (get_or partners d None) now ∙ long) lt ∙ by_place (d == c) refl
+    where
+      by_place : (b : Bool) → (d == c) ≡ b
+          → taken_if c (has_cell slots c) (get_or (put d caps now) c (pos 0)) ≡ taken_if c ((d == c) || has_cell slots c) (get_or now c (pos 0))
+      by_place true e =
+          let same : d ≡ c = eqb-true d c e in
+          let here : get_or (put d caps now) c (pos 0) ≡ value c (get_or now c (pos 0)) =
+          subst (λ (i : ℕ). get_or (put i caps now) c (pos 0) ≡ value c (get_or now c (pos 0))) (sym same)
+          (put_here source c caps (get_or partners c None) now (omega (arith, lt, long))
+          ∙ ap (λ (k : List ℕ). put_value source k (get_or partners c None) (get_or now c (pos 0)))
+          (sym are.0.capacities ∙ ap (λ (i : ℕ). (get_or all i no_cell).capacities) same)) in
+          ap (taken_if c (has_cell slots c)) here ∙ again c (has_cell slots c) (get_or now c (pos 0))
+          ∙ sym (ap (λ (b : Bool). taken_if c (b || has_cell slots c) (get_or now c (pos 0))) e)
+      by_place false e =
+          ap (taken_if c (has_cell slots c)) (put_other source d c (least_of caps) (get_or partners d None) now (λ f. (let g = eq-eqb d c (sym f) in cc)))
+          ∙ sym (ap (λ (b : Bool). taken_if c (b || has_cell slots c) (get_or now c (pos 0))) e)
+  put_at (_ ∷ slots) now c are long lt = put_at slots now c are long lt
+
+  -- from defaults on, the cells of the slots have taken theirs
+  pub taken_at : (c : ℕ) (has : Bool) → taken_if c has (get_or all c no_cell).default ≡ taken source (get_or all c no_cell) has (get_or partners c None)
+  taken_at c true = by_partner (get_or partners c None) where
+    by_partner : (o : Option ℕ)
+        → put_value source (get_or all c no_cell).capacities o (get_or all c no_cell).default ≡ taken source (get_or all c no_cell) true o
+    by_partner (Some k) = refl
+    by_partner None = refl
+  taken_at c false = refl
+
+-- ---- What the cells of a device have taken, part by part.
+
+module _ (set : Set) (structs : AreSound set.structs) (d : Device) (own : IsSound d.desc)
+    (sound : (i : ℕ) (s : Sub) → slice_get d.subs i ≡ Some s → IsSound s.desc) (partners : List (Option ℕ)) (source : List ℤ) where
+  abbrev pub puts : List Slot → List ℤ → List ℤ
+  puts slots now = changed (put_step partners source) (steps_of slots) now
+
+  puts_more : (xs ys : List Slot) (now : List ℤ) → puts (xs ++ ys) now ≡ puts ys (puts xs now)
+  puts_more xs ys now =
+      ap (λ (l : List WalkStep). changed (put_step partners source) l now) (map-append step_of xs ys)
+      ∙ changed_append (put_step partners source) (steps_of xs) (steps_of ys) now
+
+  -- one subsection more
+  pub taken_next : (before n m : List ℤ) (j : ℕ) (s : Sub) → slice_get d.subs j ≡ Some s → n ≡ puts (first_slots set d (all_came d.subs) j n) before
+      → m ≡ puts (sub_slots set s s.desc.version m (part_place set d j)) n → m ≡ puts (first_slots set d (all_came d.subs) (suc j) m) before
+  taken_next before n m j s e first more =
+      let its = sub_slots set s s.desc.version m (part_place set d j) in
+      let keeps : Keeps (steps_of its) n m = subst (λ (l : List ℤ). Keeps (steps_of its) n l) (sym more) (put_keeps partners source (steps_of its) n) in
+      let below : SameBelow (part_place set d j) n m =
+      record { same = λ c lt. keeps.same c (has_step_of its c ∙ its_below set s.desc s.desc.version (part_place set d j) m c lt) } in
+      let still = first_same set structs d own sound n m (all_came d.subs) j below in
+      more ∙ ap (puts its) (first ∙ ap (λ (l : List Slot). puts l before) (sym still)) ∙ sym (puts_more (first_slots set d (all_came d.subs) j m) its before)
+      ∙ sym (ap (λ (l : List Slot). puts l before)
+      (first_next set d (all_came d.subs) j s (Some s.desc.version) m e (at_map (λ (s : Sub). Some s.desc.version) d.subs j s e)))
+
+  -- all of them, from defaults on
+  pub all_taken : (n : List ℤ) (j : ℕ) → j ≡ length d.subs → n ≡ puts (first_slots set d (all_came d.subs) j n) (map (λ c. c.default) (device_cells set d))
+      → length n ≡ length (device_cells set d) → AreTaken set d partners source n
+  all_taken n j end first long =
+      let cells = device_cells set d in
+      let before = map (λ (c : Cell). c.default) cells in
+      let slots = image_slots set d (whole d n) in
+      let whole_is : first_slots set d (all_came d.subs) j n ≡ slots =
+      ap (λ (subs : List Sub). own_slots set d d.desc.version n ++ came_slots set d n (own_cells set d) subs (take j (all_came d.subs)))
+      (take_all j d.subs (omega arith))
+      ∙ ap (λ (came : List (Option ℕ)). own_slots set d d.desc.version n ++ came_slots set d n (own_cells set d) d.subs came)
+      (take_all j (all_came d.subs) (omega (arith, length-map d.subs (λ (s : Sub). Some s.desc.version)))) in
+      let is : n ≡ puts slots before = first ∙ ap (λ (l : List Slot). puts l before) whole_is in
+      record {
+        long = long;
+        each = λ c lt.
+            ap (λ (l : List ℤ). get_or l c (pos 0)) is
+            ∙ put_at cells partners source slots before c (image_are set d (whole d n)) (length-map cells (λ (c : Cell). c.default)) lt
+            ∙ ap (λ (z : ℤ). if has_cell slots c then value_at c z else z) (default_at c lt) ∙ taken_at cells partners source c (has_cell slots c);
+      }
+    where
+      value_at : ℕ → ℤ → ℤ
+      value_at c z = put_value source (get_or (device_cells set d) c no_cell).capacities (get_or partners c None) z
+
+      default_at : (c : ℕ) → c < length (device_cells set d)
+          → get_or (map (λ (c : Cell). c.default) (device_cells set d)) c (pos 0) ≡ (get_or (device_cells set d) c no_cell).default
+      default_at c lt = get_or-map (λ (c : Cell). c.default) (device_cells set d) c no_cell
+
+-- ---- A step may be taken after others: the image keeps its kinds and its length.
+
+pub may_take : (p p' : List (Option ℕ)) (s s' : List ℤ) (xs : List WalkStep) (a b : Typed) → p' ≡ p → s' ≡ s → Changes (put_step p s) xs a b
+    → AreSources a.kinds s p → length a.kinds ≡ length a.numbers → AreSources b.kinds s' p' × (length b.kinds ≡ length b.numbers)
+may_take p p' s s' xs a b e f h sources long =
+    let kinds : b.kinds ≡ a.kinds = ap (λ (x : Typed). x.kinds) h in (
+      rw (kinds, f, e) sources,
+      ap (λ (ks : List Kind). length ks) kinds ∙ long ∙ sym (takes_keeps p s xs a b h).long,
+    )
+
+-- ---- Cells are put to their defaults one after the other.
+
+module _ (set : Set) (i first : ℕ) (before : List ℤ) where
+  abbrev default : ℕ → ℤ
+  default c = (get_or (device_cells set (device_at set i)) c no_cell).default
+
+  pub put_none : ArePut set i first first before before
+  put_none = record { long = refl; inside = λ c low lt. absurd (omega arith); below = λ c lt. refl; above = λ c le. refl }
+
+  pub put_one : (cell : ℕ) (now : List ℤ) → ArePut set i first cell before now → cell < length before → first ≤ cell
+      → ArePut set i first (cell + 1) before (slice_set now cell (get_or (device_cells set (device_at set i)) cell no_cell).default)
+  put_one cell now h lt le =
+      let long = h.long in
+      let z = default cell in
+      let other : (c : ℕ) → (c ≡ cell → ⊥) → get_or (slice_set now cell z) c (pos 0) ≡ get_or now c (pos 0) =
+      λ c ne. get_or-set_other now cell c z (pos 0) ne in
+      record {
+        long = length-set now cell z ∙ long;
+        inside = λ c low less. by_place c low less (nat_lt c cell) refl;
+        below = λ c less. other c (λ same. absurd (omega arith)) ∙ h.below c less;
+        above = λ c up. other c (λ same. absurd (omega arith)) ∙ h.above c (omega arith);
+      }
+    where
+      by_place : (c : ℕ) → first ≤ c → c < cell + 1 → (b : Bool) → nat_lt c cell ≡ b → get_or (slice_set now cell (default cell)) c (pos 0) ≡ default c
+      by_place c low less true e =
+          let lower : c < cell = ltb-true c cell e in
+          get_or-set_other now cell c (default cell) (pos 0) (λ same. absurd (omega arith)) ∙ h.inside c low lower
+      by_place c low less false e =
+          let ge : cell ≤ c = ltb-false c cell e in
+          let same : cell ≡ c = omega arith in
+          subst (λ (k : ℕ). get_or (slice_set now cell (default cell)) k (pos 0) ≡ default k) same
+          (get_or-set_same now cell (default cell) (pos 0) (omega arith))
+
+-- all cells of a subsection
+pub put_all : (set : Set) (i j first cell : ℕ) (before now : List ℤ) → first ≡ first_cell set (parts.Sub i j)
+    → cell ≡ first_cell set (parts.Sub i j) + own_cell_count set (desc_at set (parts.Sub i j))
+    → ArePut set i first cell before now → ArePutAt set i j before now
+put_all set i j first cell before now e f h = rw (← f, ← e) h
+
+-- and nothing but numbers changes
+pub put_rest : (a b c : Typed) (numbers : List ℤ) → b ≡ record a { numbers = b.numbers } → c ≡ record b { numbers = numbers }
+    → c ≡ record a { numbers = c.numbers }
+put_rest a b c numbers e f =
+    let n : numbers ≡ c.numbers = sym (ap (λ (x : Typed). x.numbers) f) in
+    f ∙ ap (λ (l : List ℤ). record b { numbers = l }) n ∙ ap (λ (x : Typed). record x { numbers = c.numbers }) e
+
+-- a default is in its kind's range
+pub default_fits : (set : Set) → is_well_formed set ≡ true → FitsHeads set → (i : ℕ) → i < length set.devices → (cell : ℕ)
+    → cell < length (device_cells set (device_at set i)) → (kinds : List Kind) → kinds ≡ kinds_at set i
+    → InRange (get_or kinds cell U8) (get_or (device_cells set (device_at set i)) cell no_cell).default
+default_fits set well heads i lt cell less kinds e =
+    let cells = device_cells set (device_at set i) in
+    let fit = (good_of set well heads).defaults i (device_at set i) (slice_get-get_or set.devices i _ lt) cell less in
+    let kind : get_or kinds cell U8 ≡ (get_or cells cell no_cell).kind =
+    ap (λ (l : List Kind). get_or l cell U8) e ∙ get_or-map (λ (c : Cell). c.kind) cells cell no_cell in
+    subst (λ (k : Kind). InRange k (get_or cells cell no_cell).default) (sym kind) fit.0
