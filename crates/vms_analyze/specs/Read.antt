@@ -30,9 +30,17 @@ only false a = None
 abbrev pub text_at : List ℕ → Data → Option (List ℕ)
 text_at key d = next (get key d) as_str
 
+-- The text, if it is a path or name of at most `most` bytes.
+abbrev pub path_of : ℕ → List ℕ → Option (List ℕ)
+path_of most text = only (is_path most text) text
+
 -- The path or name under a key, of at most `most` bytes.
 abbrev pub path_at : ℕ → List ℕ → Data → Option (List ℕ)
-path_at most key d = next (text_at key d) (λ text. only (is_path most text) text)
+path_at most key d = next (text_at key d) (path_of most)
+
+-- The number without a sign.
+abbrev pub natural_of : Data → Option ℕ
+natural_of d = next (as_number d) as_u64
 
 -- The number without a sign under a key.
 abbrev pub natural_at : List ℕ → Data → Option ℕ

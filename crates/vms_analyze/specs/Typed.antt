@@ -1,6 +1,13 @@
 -- What the code's devices say, and what the code returns for a value.
-use Rattle.std.specs.Prelude.{◌≡◌, List, [], ◌∷◌, map, Option, Some, None, Result, Ok, Err}
+use Rattle.std.specs.Prelude.{◌≡◌, List, [], ◌∷◌, map, Option, Some, None, Result, Ok, Err, codes}
 use Rattle.std.specs.List.{flat_map}
+use Rattle.serde_json.specs.Data.{Data, object, member, no_members}
+use Rattle.serde_json.specs.Find.{as_str}
+use Rattle.vms_json.specs.Nodes.{view}
+use Rattle.vms_words.specs.Words.{kind_named}
+use Rattle.vms_analyze.specs.Read.{next, path_of, natural_of, sent_as}
+use Rattle.vms_analyze.specs.declared.elements.InOrder.{InOrder}
+use Rattle.vms_analyze.specs.declared.elements.TheConstants.{LONGEST_PATH}
 use Rattle.vms_analyze.specs.Told.{Told, Sent, Kept, Fixed, Skipped, ToldSub, ToldDevice}
 use Rattle.vms_analyze.specs.Wanted.{Want, element_want, sub_wants, device_wants}
 use Rattle.vms_analyze.specs.declared.told.Element.{Element}
@@ -30,6 +37,19 @@ device_of d = record {
   elements = map told_of d.elements.items;
   subs = map sub_of d.subs.items;
 }
+
+-- ---- what the members of an element say
+
+-- The object of these members.
+abbrev pub in_order_seen : InOrder → Data
+in_order_seen m =
+    object (member (codes "name") (view m.name) (member (codes "size") (view m.size) (member (codes "type") (view m.word) no_members)))
+
+-- The element that these members say.
+abbrev pub in_order_said : InOrder → Option Told
+in_order_said m =
+    next (next (as_str (view m.name)) (path_of LONGEST_PATH)) (λ path. next (natural_of (view m.size)) (λ size. next (as_str (view m.word)) (λ word.
+    sent_as path size word (kind_named word))))
 
 -- ---- what they require
 

@@ -1,13 +1,16 @@
 // The elements in a description.
-ghost use Rattle.std.specs.Prelude.{◌≡◌, ◌||◌, ◌==◌, map, Some};
+ghost use Rattle.std.specs.Prelude.{◌≡◌, ◌||◌, ◌==◌, map, Some, IfSome};
 ghost use Rattle.std.specs.List.{list_all};
 ghost use Rattle.vms_json.specs.Nodes.{view};
 ghost use Rattle.vms_analyze.specs.Told.{Told, is_kept};
-ghost use Rattle.vms_analyze.specs.Read.{element_in, elements_in, kept_in, sent_in, unprinted};
-ghost use Rattle.vms_analyze.specs.Typed.{ReadsAs, told_of};
+ghost use Rattle.vms_analyze.specs.Read.{element_in, elements_in, kept_in, sent_as, sent_in, unprinted};
+ghost use Rattle.vms_words.specs.Words.{kind_named};
+ghost use Rattle.vms_analyze.specs.Typed.{ReadsAs, in_order_said, in_order_seen, told_of};
 
 use crate::each::{Reads, each};
-use crate::members::{Unread, list_at, natural_at, path_at, text_at, whole_at};
+use crate::members::{
+    Unread, list_at, natural_at, natural_of, path_at, path_of, text_at, text_of, whole_at,
+};
 use crate::told::Element;
 use std::alloc::Global;
 use vms_json::{Node, fits};
@@ -41,6 +44,9 @@ impl<'a> Reads<'a> for Element<'a> {
 
     // The keys decide which kind of element it is.
     fn read(_: Global, value: &Node<'_, 'a>) -> Result<Self, Unread> {
+        if let Some(members) = in_order(value) {
+            return sent_by(&members);
+        }
         if fits(value, &["name", "size", "type"], &[]) {
             sent_in(value)
         } else if fits(value, &["name", "size", "type", "value"], &[]) {
@@ -51,13 +57,53 @@ impl<'a> Reads<'a> for Element<'a> {
     }
 }
 
-// Reads an element that is in the stream.
+// The members of an element that is in the stream.
+#[derive(Clone, Copy)]
+struct InOrder<'t, 'a> {
+    name: Node<'t, 'a>,
+    size: Node<'t, 'a>,
+    word: Node<'t, 'a>,
+}
+
+// Returns the members if each key is there once and in the order in which descriptions are written.
+fn in_order<'t, 'a>(value: &Node<'t, 'a>) -> Option<InOrder<'t, 'a>>
+    ensures { IfSome result (λ members. view value.now ≡ in_order_seen members) }
+{
+    let mut members = value.as_members()?;
+    let name = members.next_of("name")?;
+    let size = members.next_of("size")?;
+    let word = members.next_of("type")?;
+    if members.next().is_some() {
+        return None;
+    }
+    Some(InOrder { name, size, word })
+}
+
+// Reads an element that is in the stream, by its members.
+fn sent_by<'a>(members: &InOrder<'_, 'a>) -> Result<Element<'a>, Unread>
+    ensures { ReadsAs told_of (in_order_said members.now) result }
+{
+    let text = text_of(&members.name)?;
+    let path = path_of(text, LONGEST_PATH)?;
+    let size = natural_of(&members.size)?;
+    let word = text_of(&members.word)?;
+    sent_as(path, size, word)
+}
+
+// Reads the same by its keys, in any order.
 fn sent_in<'a>(value: &Node<'_, 'a>) -> Result<Element<'a>, Unread>
     ensures { ReadsAs told_of (sent_in (view value.now)) result }
 {
     let path = path_at(value, "name", LONGEST_PATH)?;
     let size = natural_at(value, "size")?;
     let word = text_at(value, "type")?;
+    sent_as(path, size, word)
+}
+
+// Returns an element that is in the stream, by its type.
+fn sent_as<'a>(path: &'a str, size: u64, word: &str) -> Result<Element<'a>, Unread>
+    ensures { ReadsAs told_of (sent_as path.now size word.now (kind_named word.now)) result }
+{
     match kind_named(word) {
         Some(kind) if size == kind.width() as u64 => Ok(Element::Sent { path, kind }),
         Some(_) => Err(Unread::Shape),

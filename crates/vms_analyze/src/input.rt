@@ -1,7 +1,6 @@
 // Reads the whole input.
-ghost use Rattle.std.specs.Prelude.{◌≤◌, length};
+ghost use Rattle.std.specs.Prelude.{length};
 ghost use Rattle.vms_io.specs.Told.{intake};
-ghost use Rattle.vms_analyze.specs.declared.input.TheConstants.{PIECE};
 ghost use Rattle.vms_analyze.specs.Inputs.{TakesInput, TakesPiece};
 
 use std::alloc::Global;
@@ -10,8 +9,8 @@ use vms_io::{Source, read_exact_of};
 /// The most bytes of an input.
 pub(crate) const LONGEST: usize = 100_000_000;
 
-// The number of bytes that are read at once.
-const PIECE: usize = 16384;
+// The number of bytes that are read at once, which a source over a reader buffers.
+const PIECE: usize = 8192;
 
 /// Why there is no input.
 #[derive(Clone, Copy, Drop)]
@@ -30,9 +29,10 @@ pub(crate) fn read_input<S: Source>(alloc: Global, source: &mut S) -> Result<Vec
     ensures { TakesInput (intake S.Source source.old) (intake S.Source source.new) result }
 {
     let mut input = Vec::new(alloc);
+    let mut piece = [0; PIECE];
     while input.len() <= LONGEST {
         let room = (LONGEST + 1 - input.len()).min(PIECE);
-        match read_piece(source, room, &mut input) {
+        match read_piece(source, &mut piece[..room], &mut input) {
             Ok(done) => {
                 if done {
                     return Ok(input);
@@ -44,19 +44,9 @@ pub(crate) fn read_input<S: Source>(alloc: Global, source: &mut S) -> Result<Vec
     Err(NoInput::TooLong)
 }
 
-// Appends `room` bytes to `input`, or the rest of the input if that is shorter. Returns whether it
-// is.
-fn read_piece<S: Source>(source: &mut S, room: usize, input: &mut Vec<u8>) -> Result<bool, NoInput>
-    requires { room ≤ PIECE }
-    ensures { TakesPiece (intake S.Source source.old) (intake S.Source source.new)
-        input.old.items input.new.items room result }
-{
-    let mut piece = [0; PIECE];
-    fill_piece(source, &mut piece[..room], input)
-}
-
-// Does the same with the buffer `piece`.
-fn fill_piece<S: Source>(
+// Appends the next bytes to `input`: those for which `piece` has room, or the rest of the input if
+// that is shorter. Returns whether it is.
+fn read_piece<S: Source>(
     source: &mut S,
     piece: &mut [u8],
     input: &mut Vec<u8>,

@@ -1,11 +1,11 @@
 // The members of JSON objects. If there is no such member, the fault is [`Unread::Shape`].
 ghost use Rattle.std.specs.Prelude.{◌≡◌};
 ghost use Rattle.std.specs.List.{list_all};
-ghost use Rattle.serde_json.specs.Find.{as_bool};
+ghost use Rattle.serde_json.specs.Find.{as_bool, as_str};
 ghost use Rattle.serde_json.specs.View.{number_view};
 ghost use Rattle.vms_json.specs.Nodes.{view, items_left};
 ghost use Rattle.vms_analyze.specs.Told.{is_path, is_path_byte};
-ghost use Rattle.vms_analyze.specs.Read.{flag_at, four_at, list_at, natural_at, path_at, text_at, whole_at, whole_of};
+ghost use Rattle.vms_analyze.specs.Read.{flag_at, four_at, list_at, natural_at, natural_of, path_at, path_of, text_at, whole_at, whole_of};
 ghost use Rattle.vms_analyze.specs.Typed.{ReadsAs};
 
 use serde_json::Number;
@@ -42,6 +42,16 @@ impl<T: Drop> From<AllocFailed<T>> for Unread {
     }
 }
 
+/// Returns the text of `value`.
+pub(crate) fn text_of<'a>(value: &Node<'_, 'a>) -> Result<&'a str, Unread>
+    ensures { ReadsAs (λ t. t.now) (as_str (view value.now)) result }
+{
+    match value.as_str() {
+        Some(text) => Ok(text),
+        None => Err(Unread::Shape),
+    }
+}
+
 /// Returns the text under `key`.
 pub(crate) fn text_at<'a>(value: &Node<'_, 'a>, key: &str) -> Result<&'a str, Unread>
     ensures { ReadsAs (λ t. t.now) (text_at key.now (view value.now)) result }
@@ -52,15 +62,32 @@ pub(crate) fn text_at<'a>(value: &Node<'_, 'a>, key: &str) -> Result<&'a str, Un
     }
 }
 
+/// Returns `text`, if it is a path or name of 1 to `most` bytes.
+pub(crate) fn path_of(text: &str, most: usize) -> Result<&str, Unread>
+    ensures { ReadsAs (λ t. t.now) (path_of most text.now) result }
+{
+    if is_path(text, most) {
+        Ok(text)
+    } else {
+        Err(Unread::Shape)
+    }
+}
+
 /// Returns the path or name under `key`, of 1 to `most` bytes.
 pub(crate) fn path_at<'a>(value: &Node<'_, 'a>, key: &str, most: usize) -> Result<&'a str, Unread>
     ensures { ReadsAs (λ t. t.now) (path_at most key.now (view value.now)) result }
 {
     let text = text_at(value, key)?;
-    if is_path(text, most) {
-        Ok(text)
-    } else {
-        Err(Unread::Shape)
+    path_of(text, most)
+}
+
+/// Returns the number without a sign of `value`.
+pub(crate) fn natural_of(value: &Node) -> Result<u64, Unread>
+    ensures { ReadsAs (λ n. n) (natural_of (view value.now)) result }
+{
+    match value.as_u64() {
+        Some(number) => Ok(number),
+        None => Err(Unread::Shape),
     }
 }
 

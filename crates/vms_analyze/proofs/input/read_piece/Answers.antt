@@ -1,6 +1,6 @@
 use Rattle.std.proofs.Common.{length, length-take, take, arith}
 use Rattle.std.proofs.lemmas.Bool.{ltb-true, ltb-false}
-use Rattle.vms_analyze.proofs.input.fill_piece.Goals as goal
+use Rattle.vms_analyze.proofs.input.read_piece.Goals as goal
 
 pub returns-in-Ok-extend_from_slice : goal.returns-in-Ok-extend_from_slice
 returns-in-Ok-extend_from_slice g c =
