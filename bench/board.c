@@ -31,6 +31,9 @@ int main(int argc, char **argv)
         case 'w': answer = vmstate_board_advance(&board, moment += 1000000); break;
         case 'e': answer = vmstate_board_out(&board, moment, 0x20, 0x20); break;
         case 'n': answer = vmstate_board_in(&board, moment, 0x80); break;
+        case 'L': answer = vmstate_board_in(&board, moment += 1000, 0x3fd); break;
+        case 'C': answer = vmstate_board_in(&board, moment += 1000, 0x40); break;
+        case 'E': answer = vmstate_board_out(&board, moment += 1000, 0x20, 0x20); break;
         case 's': sum += vmstate_board_save(&board, 4, true, room, sizeof room).number; break;
         case 'r': sum += vmstate_board_restore(&board, room, size).offset; break;
         default: return 2;

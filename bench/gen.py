@@ -212,14 +212,16 @@ def script(n):
 SETUP = ("0020=11", "0021=08", "0021=04", "0021=01", "00a0=11", "00a1=70", "00a1=02", "00a1=01", "0043=34", "0040=9c",
          "0040=2e", "03fb=80", "03f8=0c", "03f9=00", "03fb=03", "03fa=01", *["03f8=41"] * 17)
 
-# Calls of the board: the event's first letter for the programs that count it, its line in a script, and whether
-# vm-superio's serial port does the same.
+# Calls of the board: the event's first letter for the programs that count it (a capital if time passes before it), its
+# line in a script, and whether vm-superio's serial port does the same.
 EVENTS = (("a read of LSR", "lsr", "in 03fd", True), ("a write of THR, its FIFO being full", "thr", "out 03f8 41", True),
           ("an acknowledge", "ack", "ack", False), ("a read of counter 0", "counter", "in 0040", False),
           ("a wait of 1 ms", "wait", "wait 1000000", False), ("an end of interrupt", "eoi", "out 0020 20", False),
           ("a read of no device", "none", "in 0080", False), ("a save under `@4`", "save", "save @4 kept", False),
           ("a restore", "restore", "restore kept", False))
-CALLS = tuple((work, event, same) for work, event, _, same in EVENTS)
+CALLS = tuple((work, event, same) for work, event, _, same in EVENTS) + (
+    ("a read of LSR, 1 us later", "Lsr", False), ("a read of counter 0, 1 us later", "Counter", False),
+    ("an end of interrupt, 1 us later", "Eoi", False))
 
 # How many of an event the two runs have by which it is counted.
 FEW_AND_MANY = (100, 1100)

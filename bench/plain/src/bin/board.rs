@@ -34,7 +34,16 @@ fn main() {
     let mut stream = Vec::new();
     save(&board, NEWEST, &set, &mut saved, &mut stream);
     let mut sum = 0u64;
-    match (event(words[1].as_bytes()[0]), words[1].as_bytes()[0]) {
+    let letter = words[1].as_bytes()[0];
+    match (event(letter.to_ascii_lowercase()), letter) {
+        (Some(e), b'A'..=b'Z') => {
+            for _ in 0..count {
+                let passed = board.event(black_box(Event::Wait(1000)));
+                let answer = board.event(black_box(e));
+                sum +=
+                    answer.value.unwrap_or(0) as u64 + answer.int as u64 + passed.sent.bytes().len() as u64;
+            }
+        }
         (Some(e), _) => {
             for _ in 0..count {
                 let answer = board.event(black_box(e));
