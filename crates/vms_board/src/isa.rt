@@ -1,6 +1,9 @@
 // The boards of the levels 1 to 4.
-ghost use Rattle.std.specs.Prelude.{◌≡◌};
+ghost use Rattle.std.specs.Prelude.{◌≡◌, MatchOption, None};
 ghost use Rattle.dev_base.specs.Levels.{IsLevel};
+ghost use Rattle.dev_board.specs.Step.{step};
+ghost use Rattle.dev_board.specs.Touch.{saying};
+ghost use Rattle.dev_board.specs.declared.event.Event.TheVariants.{Wait};
 ghost use Rattle.vms_board.specs.Isa.{machine_of};
 
 use crate::board::MachineBoard;
@@ -100,6 +103,19 @@ pub fn machine_name(level: u8) -> &'static str
 }
 
 impl MachineBoard<Devices> {
+    /// Lets `ns` nanoseconds pass and returns the interrupt output if no byte leaves the serial port
+    /// by then. Otherwise nothing happens, and it returns `None`.
+    #[inline(always)]
+    pub fn pass(&mut self, ns: u64) -> Option<bool>
+        ensures passed { MatchOption result (self.new ≡ self.old)
+            (λ int. (saying None int, self.new.state) ≡ step (Wait ns) self.old.state) }
+        ensures taken { self.new.taken ≡ self.old.taken }
+    {
+        let passed = self.devices.pass(ns);
+        self.devices.is_sound();
+        passed
+    }
+
     /// Returns the level, 1 to 4.
     pub fn level(&self) -> u8
         ensures { result ≡ self.now.state.level }
