@@ -1,5 +1,7 @@
 -- By an access no byte leaves a board.
-use Rattle.std.proofs.Common.{◌≡◌, ℕ, List, [], ◌++◌, Some, refl, sym, ap, ◌∙◌, append-nil}
+use Rattle.std.proofs.Common.{◌≡◌, ℕ, ◌-◌, ◌≤◌, ◌==◌, Bool, true, false, List, [], ◌++◌, Option, None, Some, refl, sym, ap, ◌∙◌, append-nil, arith, inl, inr}
+use Rattle.std.proofs.lemmas.Bool.Decides.{nat_tests}
+use Rattle.std.specs.Prelude.{nat_lt, is_some, IfSome, MatchOption}
 use Rattle.dev_base.proofs.Choices.{either}
 use Rattle.dev_board.specs.State.{State}
 use Rattle.dev_board.specs.Step.{acted, after_act, step}
@@ -7,9 +9,10 @@ use Rattle.dev_board.specs.declared.event.Answer.{Answer}
 use Rattle.dev_board.specs.declared.event.Event.{Event}
 use Rattle.dev_board.specs.declared.event.Event.TheVariants.{Read, Write, Byte, Wait, Wire, Ack}
 use Rattle.dev_clock.specs.State.{ClockState}
-use Rattle.dev_clock.specs.Step.{acted as clock_acted, follows_line, saying, step as clock_step}
-use Rattle.vmstate_board_c.specs.Answers.{IsAccess, acts, acts_after, said}
-use Rattle.vmstate_board_c.specs.Kinds.{step_of}
+use Rattle.dev_board.specs.Touch.{saying}
+use Rattle.dev_clock.specs.Step.{acted as clock_acted, follows_line, saying as clock_saying, step as clock_step}
+use Rattle.vmstate_board_c.specs.Answers.{IsAccess, Reaches, acts, acts_after, event_at, said, time_to}
+use Rattle.vmstate_board_c.specs.Kinds.{now_of, step_of}
 use Rattle.vmstate_board_c.specs.declared.answer.CAnswer.{CAnswer}
 use Rattle.vmstate_board_c.specs.declared.held.AnyBoard.{AnyBoard}
 use Rattle.vmstate_board_c.specs.declared.held.AnyBoard.TheVariants.{Isa, Clock}
@@ -28,7 +31,7 @@ abbrev IsSilent : Answer × ClockState → Type 0
 IsSilent done = done.0.sent.items ≡ []
 
 silent-acted : (event : Event) (m : ClockState) → IsAccess event → IsSilent (clock_acted event m)
-unfolding clock_acted saying
+unfolding clock_acted clock_saying
 silent-acted (Read port) m h = either IsSilent _ _ _ refl (silent-isa (Read port) m.board tt)
 silent-acted (Write port value) m h = either IsSilent _ _ _ refl (silent-isa (Write port value) m.board tt)
 silent-acted (Byte value) m h = silent-isa (Byte value) m.board tt
@@ -59,3 +62,38 @@ pub now_said : (event : Event) (old new : AnyBoard) (answer : Answer) → IsAcce
 now_said event old new answer h e =
     let none : answer.sent.items ≡ [] = ap (λ (x : Answer × AnyBoard). x.0.sent.items) e ∙ silent event old h in
     rw (← e) (ap (λ (l : List ℕ). (said answer.value answer.int l, Some new)) (sym none))
+
+-- the board's own moment isn't past, and an access at it is one now
+pub at_now : (moment : ℕ) (event : Event) (old new : AnyBoard) (answer : Answer) → IsAccess event → (moment == now_of old) ≡ true
+    → (answer, new) ≡ step_of event old → (said answer.value answer.int [], Some new) ≡ event_at moment event (Some old)
+at_now moment event old new answer h now e =
+    let not-past : nat_lt moment (now_of old) ≡ false = grind (arith, nat_tests) in
+    rw (not-past, now) (now_said event old new answer h e)
+
+-- time passes and no byte leaves
+pub passed_to : (moment : ℕ) (old new : AnyBoard) (int : Bool) → now_of old ≤ moment
+    → (saying None int, new) ≡ step_of (Wait (moment - now_of old)) old → (said None int [], Some new) ≡ time_to moment (Some old)
+passed_to moment old new int l e =
+    let not-past : nat_lt moment (now_of old) ≡ false = grind (arith, nat_tests) in
+    rw (not-past, ← e) refl
+
+-- the same, and then there is an access
+pub at_later : (moment : ℕ) (event : Event) (old passed_by new : AnyBoard) (int : Bool) (answer : Answer) → IsAccess event → now_of old ≤ moment
+    → (moment == now_of old) ≡ false → (saying None int, passed_by) ≡ step_of (Wait (moment - now_of old)) old → (answer, new) ≡ step_of event passed_by
+    → (said answer.value answer.int [], Some new) ≡ event_at moment event (Some old)
+at_later moment event old passed_by new int answer h l later e f =
+    let not-past : nat_lt moment (now_of old) ≡ false = grind (arith, nat_tests) in
+    rw (not-past, later) (later_said (moment - now_of old) event old passed_by new (saying None int) answer (said answer.value answer.int []) h e f refl)
+
+-- an access at a moment that was reached without a byte
+pub at_reached : (moment : ℕ) (event : Event) (old reached new : AnyBoard) (answer : Answer) → IsAccess event → Reaches moment old reached
+    → (answer, new) ≡ step_of event reached → (said answer.value answer.int [], Some new) ≡ event_at moment event (Some old)
+at_reached moment event old reached new answer h (inl r) e = at_now moment event old new answer h r.0 (e ∙ ap (step_of event) r.1)
+at_reached moment event old reached new answer h (inr r) e = at_later moment event old reached new r.2.0 answer h r.1 r.0 r.2.1 e
+
+-- what a wait that may have passed comes to
+pub reached_by : (moment : ℕ) (old new : AnyBoard) (o : Option Bool) → (moment == now_of old) ≡ false
+    → MatchOption o (new ≡ old) (λ int. (saying None int, new) ≡ step_of (Wait (moment - now_of old)) old) → IfSome o (λ int. now_of old ≤ moment)
+    → is_some o ≡ true → Reaches moment old new
+reached_by moment old new None other passed later e = cc
+reached_by moment old new (Some int) other passed later e = inr (other, later, (int, passed))

@@ -1,6 +1,7 @@
 -- The results of events and questions, for a board or none.
-use Rattle.std.specs.Prelude.{◌≡◌, ◌⊎◌, ◌==◌, ◌-◌, ℕ, Bool, true, false, nat_lt, if◌then◌else◌, List, [], ◌++◌, length, drop, replicate, Option, Some, None}
+use Rattle.std.specs.Prelude.{◌≡◌, ◌⊎◌, ◌==◌, ◌-◌, ◌≤◌, ℕ, Bool, true, false, nat_lt, if◌then◌else◌, List, [], ◌++◌, length, drop, replicate, Option, Some, None}
 use Rattle.std.specs.Option.{option_map}
+use Rattle.dev_board.specs.Touch.{saying}
 use Rattle.dev_board.specs.Wires.{is_wire}
 use Rattle.dev_board.specs.declared.event.Answer.{Answer}
 use Rattle.dev_board.specs.declared.event.Event.{Event}
@@ -57,6 +58,14 @@ acts_after ns event board =
 abbrev pub acts_at : ℕ → Event → AnyBoard → CAnswer × Option AnyBoard
 acts_at moment event board =
     if moment == now_of board then acts event board else acts_after (moment - now_of board) event board
+
+-- Time has passed up to a moment, and no byte left: the moment was the board's own, or a wait up to
+-- it sent none.
+abbrev pub Reaches : ℕ → (old new : AnyBoard) → Type 0
+Reaches moment old new =
+    (((moment == now_of old) ≡ true) × (new ≡ old))
+    ⊎ (((moment == now_of old) ≡ false) × (now_of old ≤ moment)
+    × ((int : Bool) × ((saying None int, new) ≡ step_of (Wait (moment - now_of old)) old)))
 
 -- The event is any but time that passes. It sends no byte.
 abbrev pub IsAccess : Event → Type 0

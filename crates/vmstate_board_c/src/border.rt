@@ -1,9 +1,12 @@
 // The calls that create and free a board, and those that are its events.
-ghost use Rattle.std.specs.Prelude.{◌≡◌, ◌==◌, [], IsTrue, IfSome, Some, None, false};
+//
+// An event is first tried in a way that makes no list of bytes. The answer of the other way has a
+// variable of its own, so that the first one's is made in the caller's place.
+ghost use Rattle.std.specs.Prelude.{◌≡◌, [], IsTrue, IfSome, MatchOption, Some, None};
 ghost use Rattle.dev_board.specs.Step.{names_wire};
 ghost use Rattle.dev_board.specs.declared.event.Event.TheVariants.{Read, Write, Byte};
 ghost use Rattle.vmstate_board_c.specs.Answers.{IsAccess, Made, acknowledges, acts, acts_after, board_of, event_at, said, time_to, wire_at};
-ghost use Rattle.vmstate_board_c.specs.Kinds.{is_made, now_of, power_on_of};
+ghost use Rattle.vmstate_board_c.specs.Kinds.{is_made, power_on_of};
 
 use crate::answer::{CAnswer, answered, brief, nothing};
 use crate::handle::Handle;
@@ -64,7 +67,11 @@ pub extern "C" fn vmstate_board_in(
 ) -> CAnswer
     ensures { (result, board_of handle.new) ≡ event_at moment (Read port) (board_of handle.old) }
 {
-    access(alloc, handle, moment, Event::Read { port })
+    if let Some((value, int)) = quickly(alloc, handle, moment, Event::Read { port }) {
+        return brief(value, int);
+    }
+    let answer = access(alloc, handle, moment, Event::Read { port });
+    answer
 }
 
 /// Writes `value` to the port `port` at `moment`, after time has passed up to it.
@@ -82,7 +89,11 @@ pub extern "C" fn vmstate_board_out(
     ensures { (result, board_of handle.new)
         ≡ event_at moment (Write port value) (board_of handle.old) }
 {
-    access(alloc, handle, moment, Event::Write { port, value })
+    if let Some((value, int)) = quickly(alloc, handle, moment, Event::Write { port, value }) {
+        return brief(value, int);
+    }
+    let answer = access(alloc, handle, moment, Event::Write { port, value });
+    answer
 }
 
 /// Receives the byte `value` from the serial line at `moment`, after time has passed up to it.
@@ -98,7 +109,11 @@ pub extern "C" fn vmstate_board_receive(
 ) -> CAnswer
     ensures { (result, board_of handle.new) ≡ event_at moment (Byte value) (board_of handle.old) }
 {
-    access(alloc, handle, moment, Event::Byte { value })
+    if let Some((value, int)) = quickly(alloc, handle, moment, Event::Byte { value }) {
+        return brief(value, int);
+    }
+    let answer = access(alloc, handle, moment, Event::Byte { value });
+    answer
 }
 
 /// Raises the wire `input` at `moment` if `up` is set, else lowers it, after time has passed up to
@@ -120,7 +135,11 @@ pub extern "C" fn vmstate_board_wire(
     if !is_wire(input) {
         return nothing(NONE_SUCH);
     }
-    access(alloc, handle, moment, Event::Wire { input, up })
+    if let Some((value, int)) = quickly(alloc, handle, moment, Event::Wire { input, up }) {
+        return brief(value, int);
+    }
+    let answer = access(alloc, handle, moment, Event::Wire { input, up });
+    answer
 }
 
 /// Lets time pass up to `moment`.
@@ -130,11 +149,10 @@ pub extern "C" fn vmstate_board_wire(
 pub extern "C" fn vmstate_board_advance(alloc: Global, handle: &mut Handle, moment: u64) -> CAnswer
     ensures { (result, board_of handle.new) ≡ time_to moment (board_of handle.old) }
 {
-    let Some(mut held) = handle.take(alloc) else {
-        return nothing(NO_BOARD);
-    };
-    let answer = pass(&mut held.board, moment);
-    handle.put(held);
+    if let Some(int) = quick_pass(alloc, handle, moment) {
+        return brief(None, int);
+    }
+    let answer = advance(alloc, handle, moment);
     answer
 }
 
@@ -154,8 +172,42 @@ pub extern "C" fn vmstate_board_ack(alloc: Global, handle: &mut Handle) -> CAnsw
     brief(value, int)
 }
 
-// Applies `event` at `moment`.
+// Applies `event` at `moment` and returns the value and the interrupt output, if it can be told at
+// once that no byte leaves. Otherwise nothing happens, and it returns `None`.
 #[inline(always)]
+fn quickly(
+    alloc: Global,
+    handle: &mut Handle,
+    moment: u64,
+    event: Event,
+) -> Option<(Option<u8>, bool)>
+    requires wire { IsTrue (names_wire event) }
+    requires access { IsAccess event }
+    ensures { MatchOption result (board_of handle.new ≡ board_of handle.old)
+        (λ done. (said done.0 done.1 [], board_of handle.new)
+        ≡ event_at moment event (board_of handle.old)) }
+{
+    let mut held = handle.take(alloc)?;
+    let done = held.board.quick_event(moment, event);
+    handle.put(held);
+    done
+}
+
+// Lets time pass up to `moment` and returns the interrupt output, if it can be told at once that no
+// byte leaves. Otherwise nothing happens, and it returns `None`.
+#[inline(always)]
+fn quick_pass(alloc: Global, handle: &mut Handle, moment: u64) -> Option<bool>
+    ensures { MatchOption result (board_of handle.new ≡ board_of handle.old)
+        (λ int. (said None int [], board_of handle.new) ≡ time_to moment (board_of handle.old)) }
+{
+    let mut held = handle.take(alloc)?;
+    let done = held.board.quick_pass(moment);
+    handle.put(held);
+    done
+}
+
+// Applies `event` at `moment`. It isn't inlined, which keeps the code of most events short.
+#[inline(never)]
 fn access(alloc: Global, handle: &mut Handle, moment: u64, event: Event) -> CAnswer
     requires wire { IsTrue (names_wire event) }
     requires access { IsAccess event }
@@ -164,13 +216,20 @@ fn access(alloc: Global, handle: &mut Handle, moment: u64, event: Event) -> CAns
     let Some(mut held) = handle.take(alloc) else {
         return nothing(NO_BOARD);
     };
-    let now = held.board.now();
-    if moment == now {
-        let (value, int) = act(&mut held.board, event);
-        handle.put(held);
-        return brief(value, int);
-    }
-    let answer = act_elsewhen(&mut held.board, moment, event);
+    let answer = act_at(&mut held.board, moment, event);
+    handle.put(held);
+    answer
+}
+
+// Lets time pass up to `moment`. It isn't inlined, as above.
+#[inline(never)]
+fn advance(alloc: Global, handle: &mut Handle, moment: u64) -> CAnswer
+    ensures { (result, board_of handle.new) ≡ time_to moment (board_of handle.old) }
+{
+    let Some(mut held) = handle.take(alloc) else {
+        return nothing(NO_BOARD);
+    };
+    let answer = pass(&mut held.board, moment);
     handle.put(held);
     answer
 }
@@ -188,16 +247,17 @@ fn pass(board: &mut AnyBoard, moment: u64) -> CAnswer
     answered(answer.value, answer.int, answer.sent.as_slice())
 }
 
-// Applies `event` at `moment`, which isn't the board's, unless it is before the board's. It isn't
-// inlined, which keeps the code of an event at the board's moment short.
-#[inline(never)]
-fn act_elsewhen(board: &mut AnyBoard, moment: u64, event: Event) -> CAnswer
+// Applies `event` at `moment`, unless it is before the board's.
+fn act_at(board: &mut AnyBoard, moment: u64, event: Event) -> CAnswer
     requires wire { IsTrue (names_wire event) }
     requires access { IsAccess event }
-    requires other { (moment == now_of board.old) ≡ false }
     ensures { (result, Some board.new) ≡ event_at moment event (Some board.old) }
 {
     let now = board.now();
+    if moment == now {
+        let (value, int) = act(board, event);
+        return brief(value, int);
+    }
     if moment < now {
         return nothing(PAST);
     }

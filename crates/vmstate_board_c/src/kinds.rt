@@ -1,6 +1,10 @@
 // The calls of boards of both kinds.
-ghost use Rattle.std.specs.Prelude.{◌≡◌, ◌<◌, IsTrue, IfOk};
+ghost use Rattle.std.specs.Prelude.{◌≡◌, ◌-◌, ◌<◌, ◌≤◌, [], IsTrue, IfOk, IfSome, MatchOption, Some, None, true, false};
+ghost use Rattle.dev_board.specs.Touch.{saying};
+ghost use Rattle.dev_board.specs.declared.event.Event.TheVariants.{Wait};
 ghost use Rattle.dev_board.specs.Step.{names_wire};
+ghost use Rattle.vmstate_board_c.specs.Answers.{IsAccess, Reaches, event_at, said, time_to};
+ghost use Rattle.vmstate_board_c.specs.declared.held.AnyBoard.TheVariants.{Isa};
 ghost use Rattle.vmstate_board_c.specs.Kinds.{IsDueAt, character_of, has_port_of, int_of, is_made, level_of, now_of, output_of, power_on_of, room_of, step_of};
 
 use crate::held::AnyBoard;
@@ -51,6 +55,41 @@ impl AnyBoard {
         match self {
             AnyBoard::Isa(board) => board.event(event),
             AnyBoard::Clock(board) => board.event(event),
+        }
+    }
+
+    /// Lets time pass up to `moment` and returns the interrupt output, if it can be told at once that
+    /// no byte leaves. Otherwise nothing happens, and it returns `None`.
+    #[inline(always)]
+    pub(crate) fn quick_pass(&mut self, moment: u64) -> Option<bool>
+        ensures { MatchOption result (self.new ≡ self.old)
+            (λ int. (said None int [], Some self.new) ≡ time_to moment (Some self.old)) }
+    {
+        match self {
+            AnyBoard::Isa(board) => passed(board, moment),
+            AnyBoard::Clock(_) => None,
+        }
+    }
+
+    /// Applies `event` at `moment` and returns the value and the interrupt output, if it can be told
+    /// at once that no byte leaves. Otherwise nothing happens, and it returns `None`.
+    #[inline(always)]
+    pub(crate) fn quick_event(&mut self, moment: u64, event: Event) -> Option<(Option<u8>, bool)>
+        requires wire { IsTrue (names_wire event) }
+        requires access { IsAccess event }
+        ensures { MatchOption result (self.new ≡ self.old)
+            (λ done. (said done.0 done.1 [], Some self.new)
+            ≡ event_at moment event (Some self.old)) }
+    {
+        match self {
+            AnyBoard::Isa(board) => {
+                if reach(board, moment) {
+                    let answer = board.event(event);
+                    return Some((answer.value, answer.int));
+                }
+                None
+            }
+            AnyBoard::Clock(_) => None,
         }
     }
 
@@ -135,4 +174,34 @@ impl AnyBoard {
             AnyBoard::Clock(board) => board.due(),
         }
     }
+}
+
+// Lets time pass up to `moment` and returns the interrupt output, if no byte leaves. Otherwise
+// nothing happens, and it returns `None`.
+#[inline(always)]
+fn passed(board: &mut Board, moment: u64) -> Option<bool>
+    ensures passed { MatchOption result (board.new ≡ board.old)
+        (λ int. (saying None int, Isa board.new)
+        ≡ step_of (Wait (moment - now_of (Isa board.old))) (Isa board.old)) }
+    ensures later { IfSome result (λ int. now_of (Isa board.old) ≤ moment) }
+{
+    let now = board.now();
+    if moment < now {
+        return None;
+    }
+    board.pass(moment - now)
+}
+
+// Lets time pass up to `moment`, if it isn't the board's, and returns `true` if no byte leaves.
+// Otherwise nothing happens.
+#[inline(always)]
+fn reach(board: &mut Board, moment: u64) -> bool
+    ensures reached { result ≡ true → Reaches moment (Isa board.old) (Isa board.new) }
+    ensures stays { result ≡ false → board.new ≡ board.old }
+{
+    let now = board.now();
+    if moment == now {
+        return true;
+    }
+    passed(board, moment).is_some()
 }

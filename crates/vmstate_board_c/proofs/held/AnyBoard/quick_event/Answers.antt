@@ -1,0 +1,10 @@
+use Rattle.std.proofs.Common.{rules, ◌≡◌}
+use Rattle.vmstate_board_c.specs.Kinds.{step_of}
+use Rattle.vmstate_board_c.specs.declared.held.AnyBoard.TheVariants.{Isa}
+use Rattle.vmstate_board_c.proofs.Silent.{at_reached}
+use Rattle.vmstate_board_c.proofs.held.AnyBoard.quick_event.Goals as goal
+
+pub returns-then-reach : goal.returns-then-reach
+returns-then-reach c =
+    let stepped : (c.event-answer.result, Isa c.event-answer.new.self) ≡ step_of c.args.event (Isa c.reach.new.board) = search rules in
+    rw c.in-Isa.is (at_reached c.args.moment c.args.event (Isa c.in-Isa.board) _ _ c.event-answer.result c.requires.access (c.reach.ensures.reached c.if-reach.true) stepped)
