@@ -9,7 +9,6 @@ mod border;
 mod handle;
 mod held;
 mod kinds;
-mod lent;
 mod parts;
 mod question;
 mod reason;

@@ -6,12 +6,11 @@ ghost use Rattle.vmstate_board_c.specs.Streams.{HasRestored, HasSaved, IsRestore
 use crate::answer::{CNumber, no_number};
 use crate::handle::Handle;
 use crate::held::AnyBoard;
-use crate::lent::Lent;
 use crate::reason::{reason_number, rule_of};
 use crate::status::{DONE, NO_BOARD, NO_MEMORY, NONE_SUCH, REFUSED, TOO_SMALL};
 use std::alloc::Global;
 use vms_board::{Machine, MachineBoard, Refusal, RestoreFault};
-use vms_board_streams::Growing;
+use vms_board_streams::{Growing, Lent};
 
 // The room that a stream gets at first, enough for that of a board with its description.
 const ROOM: usize = 8192;
@@ -146,11 +145,7 @@ fn restore_any(board: &mut AnyBoard, stream: &[u8]) -> CRestored
 fn restore<M: Machine>(board: &mut MachineBoard<M>, stream: &[u8]) -> CRestored
     ensures { IsRestored M.family stream.now board.old board.new result }
 {
-    let mut source = Lent {
-        bytes: stream,
-        at: 0,
-        given: 0,
-    };
+    let mut source = Lent::new(stream);
     match board.restore(&mut source) {
         Ok(()) => CRestored {
             offset: board.taken(),
