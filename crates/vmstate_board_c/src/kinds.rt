@@ -177,8 +177,9 @@ impl AnyBoard {
 }
 
 // Lets time pass up to `moment` and returns the interrupt output, if no byte leaves. Otherwise
-// nothing happens, and it returns `None`.
-#[inline(always)]
+// nothing happens, and it returns `None`. It isn't inlined: with it an event would grow too large for
+// `inline(always)`.
+#[inline(never)]
 fn passed(board: &mut Board, moment: u64) -> Option<bool>
     ensures passed { MatchOption result (board.new ≡ board.old)
         (λ int. (saying None int, Isa board.new)
