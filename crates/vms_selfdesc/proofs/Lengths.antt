@@ -158,8 +158,6 @@ module _ (set : Set) (well : is_well_formed set ≡ true) where
 
   subs_weight : (n : List ℤ) (at : ℕ) (subs : List Sub) (came : List (Option ℕ)) → AreShortSubs subs → subs_items (struct_items set.structs) subs ≤ MOST_ITEMS
       → weight (sub_trees set n at subs came) ≤ subs_room (struct_items set.structs) (struct_depths set.structs) subs
-  subs_weight n at [] came p few = omega arith
-  subs_weight n at (s ∷ subs) [] p few = omega arith
   subs_weight n at (s ∷ subs) (c ∷ came) p few =
       let short = p.0 in
       let es = part_entries set s.desc (is_some c) n at in
@@ -167,11 +165,10 @@ module _ (set : Set) (well : is_well_formed set ≡ true) where
       let one = sub_long es s.desc.name (is_some c) s.desc.version short.name short.version in
       let rest = subs_weight n (at + length (desc_cells (struct_cells set) s.desc)) subs came p.1 (omega arith) in
       omega (arith, here, one, rest)
+  subs_weight n at _ _ p few = omega arith
 
   devices_weight : (devices : List Device) (images : List Image) → AreShortDevices devices → devices_items (struct_items set.structs) devices ≤ MOST_ITEMS
       → weight (device_trees set devices images) ≤ devices_room (struct_items set.structs) (struct_depths set.structs) devices
-  devices_weight [] images p few = omega arith
-  devices_weight (d ∷ devices) [] p few = omega arith
   devices_weight (d ∷ devices) (image ∷ images) p few =
       let short = p.0 in
       let es = part_entries set d.desc true image.numbers 0 in
@@ -181,6 +178,7 @@ module _ (set : Set) (well : is_well_formed set ≡ true) where
       let one = device_long es d.instance d.desc.name trees d.desc.version short.name p.1 short.version in
       let rest = devices_weight devices images p.3 (omega arith) in
       omega (arith, here, subs, one, rest)
+  devices_weight _ _ p few = omega arith
 
   pub text_long : (images : List Image) → AreShortDevices set.devices → devices_items (struct_items set.structs) set.devices ≤ MOST_ITEMS → length (described_text set images) ≤ set_room set
   text_long images p few = omega (arith, whole_long (device_trees set set.devices images), devices_weight set.devices images p few)

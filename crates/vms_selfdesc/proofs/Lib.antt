@@ -1,23 +1,15 @@
 pub mod Bounds
-pub mod Descriptions
 pub mod EntryLong
-pub mod FieldNeeds
+pub mod OfElements
 pub mod Fits
 pub mod JsonBytes
 pub mod Lengths
-pub mod Following
-pub mod Listed
-pub mod OfElements
-pub mod MemberTexts
-pub mod Paths
 pub mod Plain
-pub mod PlainNames
+pub mod Trees
+pub mod Paths
 pub mod ReadBack
-pub mod ReadyDevices
 mod Rows
 pub mod Shapes
 pub mod Soundness
-pub mod Structures
 pub mod Tails
-pub mod Trees
 pub mod WholeText

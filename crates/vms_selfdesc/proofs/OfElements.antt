@@ -1,21 +1,181 @@
--- What is listed of elements: of those of an item, of a field and of a description.
-use Rattle.std.proofs.Common.{◌≡◌, ℕ, zero, suc, ◌+◌, ◌<◌, ◌≤◌, List, ◌∷◌, ◌++◌, length, append_assoc, map, ℤ, Bool, true, false, ◌&&◌, nat_lt, refl, sym, ap, ◌∙◌, arith, Option, [], codes}
-use Rattle.std.proofs.lemmas.Bool.{le-ltb, lt-ltb}
-use Rattle.std.proofs.lemmas.List.{append-nil}
-use Rattle.std.proofs.Math.Bool.{and-true, and-false, and_assoc}
+-- A structure has the same cells and elements in each table that reaches it.
+use Rattle.std.proofs.Common.{◌≡◌, ℕ, suc, ◌+◌, ◌<◌, List, [], ◌∷◌, ◌++◌, length, get_or, map, ℤ, pos, refl, ap, ◌∙◌, arith, ◌*◌, ◌≤◌, sym, subst, Bool, true, zero, append_assoc, false, ◌&&◌, nat_lt, Option, codes}
+use mathlib.Core.Path.{fun_ext}
 use Rattle.vms_kinds.specs.declared.Item.{Item}
-use Rattle.vms_kinds.specs.declared.Item.TheVariants.{Num, Equal, Unused}
-use Rattle.vms_kinds.specs.declared.Kind.{Kind}
-use Rattle.vms_kinds.specs.Codes.{width}
+use Rattle.vms_kinds.specs.declared.Item.TheVariants.{Struct, Num, Equal, Unused}
+use Rattle.vms_spec.specs.Sets.{Field, Desc, Set, Formula}
+use Rattle.vms_spec.specs.Layout.{no_desc, first, item_size, field_cells, desc_cells, struct_cells, capacity_of, counted, numbers_of, all_hold, Cell, elements_of, no_parent}
+use Rattle.vms_spec.proofs.Prefixes.{ItemBelow, FieldsBelow, item_cells_same, field_cells_same, desc_cells_same, own_same, row_same, first_same, all_below}
+use Rattle.vms_spec.proofs.Tables.{first_at}
+use Rattle.vms_elements.specs.Elements.{Element, Shape, no_shape, shape, shapes, cells_in, dotted, single, Rule, stand_of, item_elements, array_elements, field_elements, elements_from, desc_elements, What, Number, index_text, behind, Stand}
+use Rattle.vms_elements.proofs.Tables.{shapes_cells}
+use Rattle.std.proofs.lemmas.Bool.{ltb-true, and_parts, le-ltb, lt-ltb}
+use Rattle.vms_spec.specs.declared.TheConstants.{MOST_ITEMS}
 use Rattle.vms_spec.specs.declared.Count.{Count}
 use Rattle.vms_spec.specs.declared.Count.TheVariants.{One, Fixed, Counted}
-use Rattle.vms_spec.specs.Sets.{Formula, Field, Desc}
+use Rattle.vms_spec.specs.declared.Part.{Part}
+use Rattle.vms_spec.specs.Rules.{uses_below, defaults_well, counts_well}
+use Rattle.vms_parts.specs.Sizes.{in_u32}
+use Rattle.vms_desc.specs.Asks.{field_at, own_numbers}
+use Rattle.vms_desc.specs.Formed.{is_well_formed}
+use Rattle.vms_desc.specs.Parts.{desc_at}
+use Rattle.vms_desc.proofs.Clean.{reach, field_clean, struct_clean, field_sound}
+use Rattle.vms_selfdesc.specs.Entries.{Entry, entries_of, cell_entry, sent_entry, listed_if, entry_of}
+use Rattle.vms_selfdesc.specs.Listing.{is_field_sent, array_entries, element_entries, item_entries, item_list, field_list, part_list, element_path}
+use Rattle.vms_selfdesc.specs.Needs.{HasPlace, HasElements}
+use Rattle.vms_desc.proofs.Ranks.{item_rank, part_rank, reach_whole, uses_more, rank_below}
+use Rattle.vms_spec.proofs.Sizes.{room_for_less, one_fits, elements_fit}
+use Rattle.std.proofs.lemmas.List.{append-nil}
+use Rattle.std.proofs.Math.Bool.{and-true, and-false, and_assoc}
+use Rattle.vms_kinds.specs.declared.Kind.{Kind}
+use Rattle.vms_kinds.specs.Codes.{width}
 use Rattle.vms_spec.specs.Tests.{is_there}
-use Rattle.vms_spec.specs.Layout.{no_parent, item_size, capacity_of, elements_of, counted, numbers_of, desc_cells, all_hold}
-use Rattle.vms_spec.proofs.Sizes.{elements_fit}
-use Rattle.vms_elements.specs.Elements.{What, Number, Rule, Element, Shape, cells_in, index_text, dotted, behind, single, item_elements, Stand, array_elements, field_elements, elements_from, desc_elements}
-use Rattle.vms_selfdesc.specs.Entries.{Entry, cell_entry, sent_entry, listed_if, entry_of, entries_of}
-use Rattle.vms_selfdesc.specs.Listing.{item_entries, element_path, element_entries, array_entries}
+use Rattle.vms_spec.specs.declared.Part.TheVariants as parts
+
+module _ (j : ℕ) (ss Ss : List Shape) (agree : (i : ℕ) → i < j → get_or ss i no_shape ≡ get_or Ss i no_shape) where
+  cells_agree : (i : ℕ) → i < j → get_or (cells_in ss) i [] ≡ get_or (cells_in Ss) i []
+  cells_agree i lt = row_same (λ (s : Shape). s.cells) no_shape ss Ss i (agree i lt)
+
+  item_elements_same : (item : Item) (caps : List ℕ) (z : ℤ) (n : List ℤ) (at : ℕ) → ItemBelow j item → item_elements ss item caps z n at ≡ item_elements Ss item caps z n at
+  item_elements_same (Struct i) caps z n at e = ap (λ (s : Shape). map dotted (s.elements n at)) (agree i e)
+  item_elements_same _ caps z n at e = refl
+
+  field_elements_same : (fields : List Field) (v : ℕ) (own : ℕ → ℕ) (n : List ℤ) (i at : ℕ) (f : Field) → ItemBelow j f.item
+      → field_elements ss fields v own n i at f ≡ field_elements Ss fields v own n i at f
+  field_elements_same fields v own n i at f e =
+      let caps = counted i fields in
+      let size : item_size (cells_in ss) f.item ≡ item_size (cells_in Ss) f.item = ap length (item_cells_same j (cells_in ss) (cells_in Ss) cells_agree f.item [] (pos 0) e) in
+      ap (λ (one : ℕ → List Element). array_elements f (stand_of i f v own) one (item_size (cells_in ss) f.item) 0 (capacity_of f.count) at)
+      (fun_ext (λ (a : ℕ). item_elements_same f.item caps f.default n a e))
+      ∙ ap (λ (step : ℕ). array_elements f (stand_of i f v own) (item_elements Ss f.item caps f.default n) step 0 (capacity_of f.count) at) size
+
+  elements_same : (fields : List Field) (v : ℕ) (own : ℕ → ℕ) (n : List ℤ) (i at : ℕ) (fs : List Field) → FieldsBelow j fs
+      → elements_from ss fields v own n i at fs ≡ elements_from Ss fields v own n i at fs
+  elements_same fields v own n i at [] b = refl
+  elements_same fields v own n i at (f ∷ fs) b =
+      let width = ap length (field_cells_same j (cells_in ss) (cells_in Ss) cells_agree fields i f b.0) in
+      ap (λ (l : List Element). l ++ elements_from ss fields v own n (suc i) (at + length (field_cells (cells_in ss) fields i f)) fs) (field_elements_same fields v own n i at f b.0)
+      ∙ ap (λ (w : ℕ). field_elements Ss fields v own n i at f ++ elements_from ss fields v own n (suc i) (at + w) fs) width
+      ∙ ap (λ (l : List Element). field_elements Ss fields v own n i at f ++ l) (elements_same fields v own n (suc i) (at + length (field_cells (cells_in Ss) fields i f)) fs b.1)
+
+  desc_elements_same : (d : Desc) (v : ℕ) (n : List ℤ) (at : ℕ) → FieldsBelow j d.fields → desc_elements ss d v n at ≡ desc_elements Ss d v n at
+  desc_elements_same d v n at b =
+      let own = numbers_of (cells_in Ss) d n at in
+      let whole = λ (o : ℕ → ℕ) (w : ℕ). elements_from ss d.fields v o n 0 at d.fields ++ single (at + w) (Rule (all_hold d.validate v o)) ∷ [] in
+      ap (λ (o : ℕ → ℕ). whole o (length (desc_cells (cells_in ss) d))) (own_same j (cells_in ss) (cells_in Ss) cells_agree d n at b)
+      ∙ ap (λ (w : ℕ). whole own w) (ap length (desc_cells_same j (cells_in ss) (cells_in Ss) cells_agree d b))
+      ∙ ap (λ (l : List Element). l ++ single (at + length (desc_cells (cells_in Ss) d)) (Rule (all_hold d.validate v own)) ∷ []) (elements_same d.fields v own n 0 at d.fields b)
+
+-- the cells of a set's structures, by their shapes
+pub cells_are : (set : Set) → cells_in (shapes set) ≡ struct_cells set
+cells_are set = shapes_cells set.structs (length set.structs)
+
+-- ---- a structure of a set
+
+module _ (set : Set) (j : ℕ) (lt : j < length set.structs) (below : FieldsBelow j (get_or set.structs j no_desc).fields) where
+  pub struct_cells_are : get_or (struct_cells set) j [] ≡ desc_cells (struct_cells set) (get_or set.structs j no_desc)
+  struct_cells_are =
+      let ds = set.structs in
+      let d = get_or ds j no_desc in
+      let k = length ds in
+      first_at desc_cells ds [] k j lt
+      ∙ desc_cells_same j (first desc_cells ds j) (first desc_cells ds k) (λ i l. first_same desc_cells ds [] j k i (omega arith) l) d below
+
+  pub struct_elements_are : (n : List ℤ) (at : ℕ)
+      → (get_or (shapes set) j no_shape).elements n at ≡ desc_elements (shapes set) (get_or set.structs j no_desc) (get_or set.structs j no_desc).version n at
+  struct_elements_are n at =
+      let ds = set.structs in
+      let d = get_or ds j no_desc in
+      let k = length ds in
+      ap (λ (s : Shape). s.elements n at) (first_at shape ds no_shape k j lt)
+      ∙ desc_elements_same j (first shape ds j) (first shape ds k) (λ i l. first_same shape ds no_shape j k i (omega arith) l) d d.version n at below
+
+-- ---- What the calls over the fields of a part need.
+
+-- ---- elements of a field
+
+pub record FieldNeeds (set : Set) (part : Part) (f : Field) (cell count : ℕ) (n : List ℤ) : Type 0 where
+  pub elements : HasElements set f cell count n
+  pub lower : item_rank f.item + 2 < part_rank set part + 3
+
+pub field_needs : (set : Set) → is_well_formed set ≡ true → (part : Part) (base : ℕ) (n : List ℤ) → HasPlace set part base n → (k cell count : ℕ) (f : Field) → k < length (desc_at set part).fields
+    → f ≡ field_at set part k → count ≤ capacity_of (field_at set part k).count
+    → cell + capacity_of (field_at set part k).count * item_size (struct_cells set) (field_at set part k).item ≤ length n → FieldNeeds set part f cell count n
+field_needs set well part base n h k cell count f lt is fewer room =
+    let g = field_at set part k in
+    let clean = field_clean set well part h.has k lt in
+    let sound = field_sound set well part h.has k lt in
+    let size = item_size (struct_cells set) g.item in
+    let lower : item_rank g.item + 2 < part_rank set part + 3 = rank_below (reach set part) g.item clean.uses in
+    let elements : HasElements set g cell count n = record {
+      reaches = uses_more (reach set part) (length set.structs) g.item (reach_whole set part h.has) clean.uses;
+      default = (and_parts (defaults_well g.item g.default) (counts_well (counted k (desc_at set part).fields) g.default) sound.1.1.1.1.1.0).0;
+      few = h.few;
+      small = one_fits (capacity_of g.count) size cell (length n) MOST_ITEMS clean.some room h.few;
+      room = room_for_less count (capacity_of g.count) size cell (length n) fewer room;
+    } in
+    subst (λ x. FieldNeeds set part x cell count n) (sym is) (record { elements = elements; lower = lower })
+
+pub some_elements : (set : Set) → is_well_formed set ≡ true → (part : Part) (base : ℕ) (n : List ℤ) → HasPlace set part base n → (k : ℕ) → k < length (desc_at set part).fields
+    → 1 ≤ capacity_of (field_at set part k).count
+some_elements set well part base n h k lt = (field_clean set well part h.has k lt).some
+
+pub array_many : (one : List ℕ → ℕ → List Entry) (c : Count) (n : ℕ) (path : List ℕ) (at step : ℕ) → (c ≡ One → ⊥) → array_entries one c n path at step ≡ element_entries one path at step 0 n
+array_many one One n path at step other = absurd (other refl)
+array_many one _ n path at step other = refl
+
+-- a run of its elements is the field's entries
+pub field_run : (set : Set) (part : Part) (base k : ℕ) (sent : Bool) (n : List ℤ) (path : List ℕ) (cell : ℕ) (f : Field) (there : Bool) (whole : List ℕ) (count : ℕ)
+    → f ≡ field_at set part k → there ≡ is_field_sent set part base k sent n → whole ≡ path ++ f.name
+    → count ≡ elements_of (field_at set part k).count (own_numbers set part n base)
+    → array_entries (item_list set f there n) f.count count whole cell (item_size (struct_cells set) f.item) ≡ field_list set part base k sent n path cell
+field_run set part base k sent n path cell f there whole count is is_there is_whole is_count =
+    let d = desc_at set part in
+    let g = field_at set part k in
+    let own = own_numbers set part n base in
+    let sent' = is_field_sent set part base k sent n in
+    let run = λ (x : Field) (b : Bool) (p : List ℕ) (m : ℕ). array_entries (item_list set x b n) x.count m p cell (item_size (struct_cells set) x.item) in
+    ap (λ (x : Bool). run f x whole count) is_there
+    ∙ ap (λ (x : List ℕ). run f sent' x count) is_whole
+    ∙ ap (λ (x : ℕ). run f sent' (path ++ f.name) x) is_count
+    ∙ ap (λ (x : Field). run x sent' (path ++ x.name) (elements_of g.count own)) is
+    ∙ ap (λ (cs : List (List Cell)). array_entries (item_list set g sent' n) g.count (elements_of g.count own) (path ++ g.name) cell (item_size cs g.item)) (sym (cells_are set))
+    ∙ sym (of_field (shapes set) d.fields d.version own sent path n k cell g)
+
+-- ---- structures
+
+module _ (set : Set) (well : is_well_formed set ≡ true) (item : Item) (j : ℕ) (is : item ≡ Struct j) (reaches : uses_below (length set.structs) item ≡ true) where
+  pub struct_there : j < length set.structs
+  struct_there = ltb-true j (length set.structs) (subst (λ x. uses_below (length set.structs) x ≡ true) is reaches)
+
+  below : FieldsBelow j (get_or set.structs j no_desc).fields
+  below = all_below j (get_or set.structs j no_desc).fields (λ i l. ((struct_clean set well j struct_there).fields i l).uses)
+
+  pub struct_place : (n : List ℤ) (cell : ℕ) → length n ≤ MOST_ITEMS → cell + 1 * item_size (struct_cells set) item ≤ length n → HasPlace set (parts.Struct j) cell n
+  struct_place n cell few room =
+      let cells = ap length (struct_cells_are set j struct_there below) in
+      let size = ap (item_size (struct_cells set)) is in
+      record { has = struct_there; few = few; room = omega (arith, cells, size, room) }
+
+  pub struct_lower : part_rank set (parts.Struct j) + 4 < item_rank item
+  struct_lower =
+      let rank = ap item_rank is in
+      omega (arith, rank)
+
+  pub struct_list : (z : ℤ) (sent : Bool) (path whole : List ℕ) (n : List ℤ) (cell : ℕ) → whole ≡ path ++ 46 ∷ []
+      → part_list set (parts.Struct j) sent n whole cell ≡ item_entries (shapes set) item z sent n path cell
+  struct_list z sent path whole n cell e =
+      ap (λ x. part_list set (parts.Struct j) sent n x cell) e
+      ∙ ap (λ (xs : List Element). entries_of sent (path ++ 46 ∷ []) xs) (sym (struct_elements_are set j struct_there below n cell))
+      ∙ sym (of_dotted sent path ((get_or (shapes set) j no_shape).elements n cell))
+      ∙ sym (ap (λ x. item_entries (shapes set) x z sent n path cell) is)
+
+-- ---- widths as the code has them
+
+pub width_code : (width w cell n : ℕ) → width ≡ in_u32 w → cell + w ≤ n → n ≤ MOST_ITEMS → width ≡ w
+width_code width w cell n e room few = omega (arith, e, room, few)
+
+-- ---- What is listed of elements: of those of an item, of a field and of a description.
 
 pub of_append : (sent : Bool) (path : List ℕ) (xs ys : List Element) → entries_of sent path (xs ++ ys) ≡ entries_of sent path xs ++ entries_of sent path ys
 of_append sent path [] ys = refl

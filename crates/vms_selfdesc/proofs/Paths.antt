@@ -54,5 +54,4 @@ levels_are set (parts.Sub i j) = omega arith
 pub few_levels : (set : Set) → is_well_formed set ≡ true → (part : Part) → HasPart set part → part_levels set part ≤ 64
 few_levels set well parts.Set h = absurd h
 few_levels set well (parts.Struct j) h = omega (arith, h, few_structs set well)
-few_levels set well (parts.Device i) h = few_structs set well
-few_levels set well (parts.Sub i j) h = few_structs set well
+few_levels set well _ h = few_structs set well

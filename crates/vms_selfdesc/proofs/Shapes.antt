@@ -49,10 +49,9 @@ sub_plain es name sent version =
     record { whole = or_from (has_float (list_tree entry_tree es)) false list.whole refl; flat = omega arith }
 
 subs_plain : (set : Set) (n : List ℤ) (at : ℕ) (subs : List Sub) (came : List (Option ℕ)) → ArePlain 3 (sub_trees set n at subs came)
-subs_plain set n at [] came = tt
-subs_plain set n at (s ∷ subs) [] = tt
 subs_plain set n at (s ∷ subs) (c ∷ came) =
     (sub_plain (part_entries set s.desc (is_some c) n at) s.desc.name (is_some c) s.desc.version, subs_plain set n (at + length (desc_cells (struct_cells set) s.desc)) subs came)
+subs_plain set n at _ _ = tt
 
 device_plain : (es : List Entry) (instance : ℕ) (name : List ℕ) (subs : List Data) (version : ℕ) → ArePlain 3 subs → IsPlainTree 5 (object (device_members es instance name subs version))
 device_plain es instance name subs version p =

@@ -9,7 +9,7 @@ use Rattle.serde_json.specs.Find.{of_integer}
 use Rattle.vms_kinds.specs.declared.Kind.{Kind}
 use Rattle.vms_kinds.specs.declared.Kind.TheVariants as kinds
 use Rattle.vms_kinds.specs.declared.Item.{Item}
-use Rattle.vms_kinds.specs.declared.Item.TheVariants.{Num, Equal, Unused, Struct}
+use Rattle.vms_kinds.specs.declared.Item.TheVariants.{Num, Unused}
 use Rattle.vms_kinds.specs.Codes.{lowest, highest}
 use Rattle.vms_spec.specs.declared.TheConstants.{MOST_UNUSED}
 use Rattle.vms_spec.specs.declared.Part.{Part}
@@ -33,13 +33,12 @@ pub natural_fits : (kind : Kind) (n : ℕ) → int_le (pos n) (highest kind) ≡
 natural_fits kinds.U8 n e = omega (arith, leb-true n 0xff e)
 natural_fits kinds.U16 n e = omega (arith, leb-true n 0xffff e)
 natural_fits kinds.U32 n e = omega (arith, leb-true n 0xffff_ffff e)
-natural_fits kinds.U64 n e = omega (arith, leb-true n 0xffff_ffff_ffff_ffff e)
 natural_fits kinds.I8 n e = omega (arith, leb-true n 0x7f e)
 natural_fits kinds.I16 n e = omega (arith, leb-true n 0x7fff e)
 natural_fits kinds.I32 n e = omega (arith, leb-true n 0x7fff_ffff e)
 natural_fits kinds.I64 n e = omega (arith, leb-true n 0x7fff_ffff_ffff_ffff e)
 natural_fits kinds.Bool n e = omega (arith, leb-true n 1 e)
-natural_fits kinds.Timer n e = omega (arith, leb-true n 0xffff_ffff_ffff_ffff e)
+natural_fits _ n e = omega (arith, leb-true n 0xffff_ffff_ffff_ffff e)
 
 pub negative_fits : (kind : Kind) (n : ℕ) → int_le (lowest kind) (negsuc n) ≡ true → n < 2 ^ 63
 negative_fits kinds.I8 n e = omega (arith, leb-true n 0x7f e)
@@ -60,9 +59,8 @@ default_short kind (negsuc n) e =
 
 small_item : (item : Item) (z : ℤ) → defaults_well item z ≡ true → is_small_item item ≡ true → IsSmall item z
 small_item (Num kind) z e f = default_short kind z e
-small_item (Equal kind y) z e f = tt
 small_item (Unused n) z e f = leb-true n MOST_UNUSED (and_parts (nat_le 1 n) (nat_le n MOST_UNUSED) f).1
-small_item (Struct j) z e f = tt
+small_item _ z e f = tt
 
 sound_field : (k : ℕ) (d : Desc) (i : ℕ) (f : Field) → AllTrue (field_rules k d i f) → IsSoundField f
 sound_field k d i f rules =

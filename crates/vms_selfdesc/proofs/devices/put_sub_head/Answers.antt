@@ -1,15 +1,12 @@
-use Rattle.std.proofs.Common.{ℕ, List, codes, sym, subst, refl}
-use Rattle.serde_json.specs.Data.{string}
-use Rattle.vms_selfdesc.specs.Drafts.{IsPlain, Puts}
-use Rattle.vms_selfdesc.proofs.Following.{further}
+use Rattle.std.proofs.Common.{codes, refl}
+use Rattle.vms_selfdesc.proofs.Plain.{further, name_plain}
 use Rattle.vms_selfdesc.proofs.devices.put_sub_head.Goals as goal
-use Rattle.vms_selfdesc.proofs.Plain.{name_plain}
 
 pub put_text-requires-clause-key : goal.put_text-requires-clause-key
 put_text-requires-clause-key c = name_plain (codes "name") refl
 
 pub put_text-requires-clause-value : goal.put_text-requires-clause-value
-put_text-requires-clause-value c = subst IsPlain (sym c.as_str.ensures) c.requires
+put_text-requires-clause-value c = rw c.as_str.ensures c.requires
 
 pub put_flag-requires : goal.put_flag-requires
 put_flag-requires c = name_plain (codes "sent") refl
@@ -23,9 +20,6 @@ returns c =
     let named = c.put_text.new.text in
     let flagged = c.put_flag.new.text in
     let end = c.put_natural.new.text in
-    let name = subst (λ (name : List ℕ). Puts a named (codes "name") (string name)) c.as_str.ensures c.put_text.ensures in
+    let name = rw c.as_str.ensures at c.put_text.ensures in
     let version = c.put_natural.ensures in
-    record {
-      text = further a named end _ _ name.text (further named flagged end _ _ c.put_flag.ensures.text version.text);
-      sound = version.sound;
-    }
+    record { text = further a named end _ _ name.text (further named flagged end _ _ c.put_flag.ensures.text version.text); sound = version.sound }

@@ -1,21 +1,18 @@
-use Rattle.std.proofs.Common.{[], ◌∷◌, true, ap, ◌∙◌, subst, arith, refl, sym, codes}
-use Rattle.serde_json.specs.Data.{Data, array, object}
+use Rattle.std.proofs.Common.{[], ◌∷◌, true, ap, ◌∙◌, arith, refl, codes}
+use Rattle.serde_json.specs.Data.{array, object}
 use Rattle.serde_json.specs.View.{items_of}
 use Rattle.vms_spec.specs.Sets.{Device}
 use Rattle.vms_spec.specs.Images.{own_cells}
 use Rattle.vms_desc.specs.Described.{described, device_at}
 use Rattle.vms_image.specs.Typed.{state_of}
 use Rattle.vms_desc.proofs.AskLaws.{own_inside_device}
-use Rattle.vms_selfdesc.specs.Drafts.{Adds, IsPlain}
 use Rattle.vms_selfdesc.specs.Entries.{part_entries}
 use Rattle.vms_selfdesc.specs.Tree.{entry_tree, list_tree, sub_trees, device_members}
 use Rattle.vms_selfdesc.specs.declared.draft.Draft.{Draft}
-use Rattle.vms_selfdesc.proofs.Following.{further}
-use Rattle.vms_selfdesc.proofs.PlainNames.{device_plain}
+use Rattle.vms_selfdesc.proofs.Plain.{further, device_plain, name_plain}
 use Rattle.vms_selfdesc.proofs.ReadBack.{device_sound}
 use Rattle.vms_selfdesc.proofs.Trees.{fields_adds, tail_members, device_text}
 use Rattle.vms_selfdesc.proofs.devices.write_device.Goals as goal
-use Rattle.vms_selfdesc.proofs.Plain.{name_plain}
 
 pub write_fields-requires-clause-place : goal.write_fields-requires-clause-place
 write_fields-requires-clause-place c =
@@ -29,7 +26,7 @@ write_fields-requires-clause-no_path c = c.begin.ensures.keeps.path ∙ c.requir
 pub put_name-requires : goal.put_name-requires
 put_name-requires c =
     let set = described c.args.lister.now.set.now in
-    subst IsPlain (sym (ap (λ (d : Device). d.desc.name) c.device-described.ensures)) (device_plain set c.args.lister.now.set.now.well_formed c.args.device c.requires.device.is_device)
+    rw (ap (λ (d : Device). d.desc.name) c.device-described.ensures) (device_plain set c.args.lister.now.set.now.well_formed c.args.device c.requires.device.is_device)
 
 pub write_subs-requires-clause-no_path : goal.write_subs-requires-clause-no_path
 write_subs-requires-clause-no_path c = c.write_fields.ensures.path ∙ c.begin.ensures.keeps.path ∙ c.requires.no_path
@@ -60,4 +57,4 @@ returns c =
     (device_text code.instance code.desc.name (array (items_of trees)) code.desc.version) refl
     (device_sound entries code.instance code.desc.name trees code.desc.version fields.sound name.sound subs.sound version.sound) refl subs.path in
     let same = ap (λ (x : Device). object (device_members entries x.instance x.desc.name trees x.desc.version)) c.device-described.ensures in
-    subst (λ (x : Data). Adds c.args.draft.now end (x ∷ [])) same adds
+    rw same at adds

@@ -1,14 +1,12 @@
-use Rattle.std.proofs.Common.{ℕ, List, false, length, map, ap, refl, sym, subst, arith}
-use Rattle.vms_selfdesc.specs.Drafts.{Adds, IsPlain}
-use Rattle.vms_selfdesc.specs.Listing.{set_in, numbers_in, part_list}
-use Rattle.vms_selfdesc.specs.Tree.{entry_tree}
+use Rattle.std.proofs.Common.{length, ap, refl, arith}
+use Rattle.vms_selfdesc.specs.Listing.{set_in}
 use Rattle.vms_selfdesc.specs.declared.draft.Draft.{Draft}
 use Rattle.vms_selfdesc.proofs.Paths.{few_levels}
 use Rattle.vms_selfdesc.proofs.Trees.{lays}
 use Rattle.vms_selfdesc.proofs.devices.write_fields.Goals as goal
 
 pub list_part-requires-clause-path : goal.list_part-requires-clause-path
-list_part-requires-clause-path c = subst IsPlain (sym c.requires.no_path) tt
+list_part-requires-clause-path c = rw c.requires.no_path tt
 
 pub list_part-requires-clause-deep : goal.list_part-requires-clause-deep
 list_part-requires-clause-deep c =
@@ -17,9 +15,5 @@ list_part-requires-clause-deep c =
 
 pub returns : goal.returns
 returns c =
-    let lister = c.args.lister.now in
-    let trees = λ (path : List ℕ). map entry_tree (part_list (set_in lister) c.args.part c.args.place.sent (numbers_in lister) path c.args.place.cell) in
-    let begun : Draft = record { text = c.push.new.self; path = c.args.draft.now.path; later = false } in
     let end : Draft = record { text = c.push-2.new.self; path = c.list_part.new.draft.path; later = c.list_part.new.draft.later } in
-    let listed = subst (λ (path : List ℕ). Adds begun c.list_part.new.draft (trees path)) c.requires.no_path c.list_part.ensures in
-    lays c.args.draft.now c.push.new.self c.list_part.new.draft end _ c.push.ensures listed c.push-2.ensures refl
+    lays c.args.draft.now c.push.new.self c.list_part.new.draft end _ c.push.ensures (rw c.requires.no_path at c.list_part.ensures) c.push-2.ensures refl

@@ -1,5 +1,5 @@
 use Rattle.serde_json.specs.Data.{boolean}
-use Rattle.vms_selfdesc.proofs.MemberTexts.{puts}
+use Rattle.vms_selfdesc.proofs.Plain.{puts}
 use Rattle.vms_selfdesc.proofs.ReadBack.{flag_sound}
 use Rattle.vms_selfdesc.proofs.draft.put_flag.Goals as goal
 

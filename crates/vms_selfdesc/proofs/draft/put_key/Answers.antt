@@ -1,4 +1,4 @@
-use Rattle.vms_selfdesc.proofs.Following.{further}
+use Rattle.vms_selfdesc.proofs.Plain.{further}
 use Rattle.vms_selfdesc.proofs.draft.put_key.Goals as goal
 
 pub returns : goal.returns

@@ -1,6 +1,6 @@
 use Rattle.std.proofs.Common.{refl}
 use Rattle.vms_selfdesc.specs.Tree.{natural}
-use Rattle.vms_selfdesc.proofs.MemberTexts.{puts}
+use Rattle.vms_selfdesc.proofs.Plain.{puts}
 use Rattle.vms_selfdesc.proofs.draft.put_natural.Goals as goal
 
 pub returns : goal.returns

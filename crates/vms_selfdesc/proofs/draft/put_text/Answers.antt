@@ -1,7 +1,6 @@
 use Rattle.std.proofs.Common.{[], ◌∷◌, ◌++◌}
 use Rattle.serde_json.specs.Data.{string}
-use Rattle.vms_selfdesc.proofs.Following.{further}
-use Rattle.vms_selfdesc.proofs.MemberTexts.{puts, quoted_plain}
+use Rattle.vms_selfdesc.proofs.Plain.{further, puts, quoted_plain}
 use Rattle.vms_selfdesc.proofs.ReadBack.{string_sound}
 use Rattle.vms_selfdesc.proofs.draft.put_text.Goals as goal
 

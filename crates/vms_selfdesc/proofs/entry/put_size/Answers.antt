@@ -1,7 +1,6 @@
 use Rattle.std.proofs.Common.{codes, refl}
-use Rattle.vms_selfdesc.proofs.Following.{further}
+use Rattle.vms_selfdesc.proofs.Plain.{further, name_plain}
 use Rattle.vms_selfdesc.proofs.entry.put_size.Goals as goal
-use Rattle.vms_selfdesc.proofs.Plain.{name_plain}
 
 pub put_natural-requires : goal.put_natural-requires
 put_natural-requires c = name_plain (codes "size") refl

@@ -1,16 +1,14 @@
-use Rattle.std.proofs.Common.{ℤ, true, codes, refl, string_bytes, subst}
+use Rattle.std.proofs.Common.{true, codes, refl, string_bytes}
 use Rattle.std.specs.Int.{w128}
 use Rattle.std.proofs.Math.Facts.{to_z-of_z}
 use Rattle.serde_json.specs.Data.{number, no_members, member}
 use Rattle.serde_json.specs.Find.{of_integer}
 use Rattle.serde_json.specs.Written.{members_text}
 use Rattle.vms_words.specs.Words.{kind_word}
-use Rattle.vms_selfdesc.specs.Drafts.{Spells}
 use Rattle.vms_selfdesc.specs.Entries.{absent_entry}
 use Rattle.vms_selfdesc.specs.Tree.{entry_tree}
 use Rattle.vms_selfdesc.specs.declared.draft.Draft.{Draft}
-use Rattle.vms_selfdesc.proofs.Following.{further, same}
-use Rattle.vms_selfdesc.proofs.MemberTexts.{entry_adds, size_members, absent_text}
+use Rattle.vms_selfdesc.proofs.Plain.{further, same, entry_adds, size_members, absent_text}
 use Rattle.vms_selfdesc.proofs.ReadBack.{absent_sound}
 use Rattle.vms_selfdesc.proofs.entry.write_absent.Goals as goal
 
@@ -24,8 +22,7 @@ returns c =
     let last = member (codes "value") value no_members in
     let mid : Draft = record { text = c.push.new.self; path = b.path; later = b.later } in
     let end : Draft = record { text = c.push-3.new.self; path = b.path; later = true } in
-    let put = subst (λ (z : ℤ). Spells c.push-2.new.self c.put_integer.new.text (number (of_integer z))) (to_z-of_z {w = w128} c.ranges.default)
-    c.put_integer.ensures in
+    let put = rw (to_z-of_z {w = w128} c.ranges.default) at c.put_integer.ensures in
     let rest = further c.push-2.new.self c.put_integer.new.text end.text _ _ put.text c.push-3.ensures in
     let tail = further mid.text c.push-2.new.self end.text _ _ (same mid.text c.push-2.new.self c.push-2.ensures c.absent_tail.ensures) rest in
     entry_adds a b mid end (entry_tree (absent_entry path type c.args.default)) 0 type last (members_text true (size_members 0 type last)) c.requires.path

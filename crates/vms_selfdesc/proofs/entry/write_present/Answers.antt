@@ -6,8 +6,7 @@ use Rattle.vms_words.specs.Words.{kind_word}
 use Rattle.vms_selfdesc.specs.Entries.{sent_entry}
 use Rattle.vms_selfdesc.specs.Tree.{entry_tree}
 use Rattle.vms_selfdesc.specs.declared.draft.Draft.{Draft}
-use Rattle.vms_selfdesc.proofs.Following.{same}
-use Rattle.vms_selfdesc.proofs.MemberTexts.{entry_adds, size_members, tail_text}
+use Rattle.vms_selfdesc.proofs.Plain.{same, entry_adds, size_members, tail_text}
 use Rattle.vms_selfdesc.proofs.ReadBack.{natural_sound, sent_sound}
 use Rattle.vms_selfdesc.proofs.entry.write_present.Goals as goal
 use Rattle.vms_spec.proofs.KindLaws.{width_small}

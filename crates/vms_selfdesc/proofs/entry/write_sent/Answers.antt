@@ -4,8 +4,7 @@ use Rattle.serde_json.specs.Written.{members_text}
 use Rattle.vms_selfdesc.specs.Entries.{sent_entry}
 use Rattle.vms_selfdesc.specs.Tree.{entry_tree}
 use Rattle.vms_selfdesc.specs.declared.draft.Draft.{Draft}
-use Rattle.vms_selfdesc.proofs.Following.{further, same}
-use Rattle.vms_selfdesc.proofs.MemberTexts.{entry_adds, size_members, size_text}
+use Rattle.vms_selfdesc.proofs.Plain.{further, same, entry_adds, size_members, size_text}
 use Rattle.vms_selfdesc.proofs.ReadBack.{sent_sound}
 use Rattle.vms_selfdesc.proofs.entry.write_sent.Goals as goal
 

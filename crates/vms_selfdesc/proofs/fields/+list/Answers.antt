@@ -1,23 +1,20 @@
-use Rattle.std.proofs.Common.{rules, arith, sym, ap, ◌∙◌, subst, ◌≡◌, ℕ, ◌+◌, ◌*◌, ◌-◌, ◌<◌, ◌^◌, List, ◌++◌, length, length-append, map, codes}
+use Rattle.std.proofs.Common.{rules, arith, sym, ap, ◌∙◌, ◌≡◌, ℕ, ◌+◌, ◌*◌, ◌-◌, ◌<◌, ◌^◌, List, ◌++◌, length, length-append, codes}
 use Rattle.std.proofs.Common.{string_bytes, decimal, refl}
-use Rattle.vms_spec.specs.declared.Count.{Count}
-use Rattle.vms_spec.specs.Sets.{Desc, Field}
+use Rattle.vms_spec.specs.Sets.{Field}
 use Rattle.vms_spec.specs.Layout.{item_size, struct_cells, capacity_of}
 use Rattle.vms_spec.proofs.Sizes.{elements_fit}
 use Rattle.vms_parts.specs.Views.{field_of}
 use Rattle.vms_desc.specs.Asks.{field_at, own_numbers}
 use Rattle.vms_desc.specs.Described.{described}
 use Rattle.vms_desc.specs.Parts.{desc_at}
-use Rattle.vms_desc.proofs.AskLaws.{found_field}
-use Rattle.vms_selfdesc.specs.Entries.{Entry}
-use Rattle.vms_selfdesc.specs.Listing.{Lists, element_path, element_entries, array_entries, item_list, elements_list, field_list, part_list}
-use Rattle.vms_selfdesc.proofs.Listed.{fields_list, fields_whole, leaves_same, leaves_rest, leave_path, element_room, elements_next, next_element, fields_next, field_room}
-use Rattle.vms_selfdesc.proofs.FieldNeeds.{field_needs, some_elements, array_many, field_run, struct_place, struct_lower, struct_list, width_code}
+use Rattle.vms_desc.proofs.AskLaws.{found_field, here_fields}
+use Rattle.vms_selfdesc.specs.Listing.{element_path, element_entries, item_list, elements_list, field_list, part_list}
+use Rattle.vms_selfdesc.proofs.Trees.{fields_list, fields_whole, leaves_same, leaves_rest, leave_path, element_room, elements_next, next_element, fields_next, field_room}
+use Rattle.vms_selfdesc.proofs.OfElements.{field_needs, some_elements, array_many, field_run, struct_place, struct_lower, struct_list, width_code}
 use Rattle.vms_selfdesc.specs.declared.draft.Draft.{Draft}
 use Rattle.vms_selfdesc.specs.Drafts.{IsPlain}
 use Rattle.vms_selfdesc.specs.Needs.{HasElements, item_levels}
-use Rattle.vms_selfdesc.proofs.Plain.{plain_append, element_plain, dot_plain, name_plain}
-use Rattle.vms_selfdesc.proofs.PlainNames.{field_name}
+use Rattle.vms_selfdesc.proofs.Plain.{plain_append, element_plain, dot_plain, name_plain, field_name}
 use Rattle.vms_selfdesc.proofs.Paths.{enters, index_long, item_levels_are, levels_are}
 use Rattle.vms_selfdesc.proofs.fields.+list.Goals as goal
 
@@ -36,7 +33,7 @@ list_item-list_struct-requires t c =
       search rules,
       (
         place,
-        (subst IsPlain (sym c.enter.ensures) (dot_plain path c.requires.path), omega (arith, c.requires.deep, ap item_levels c.in-Struct.is, long)),
+        (rw c.enter.ensures (dot_plain path c.requires.path), omega (arith, c.requires.deep, ap item_levels c.in-Struct.is, long)),
       ),
     )
 
@@ -54,15 +51,11 @@ list_item-returns-in-Struct t c =
     let well = c.args.lister.now.set.now.well_formed in
     let item = c.args.field.now.item in
     let j = c.in-Struct.number in
-    let n = c.args.lister.now.image.now.numbers in
     let draft = c.args.draft.now in
     let same = struct_list set well item j c.in-Struct.is c.requires.cells.reaches c.args.field.now.default c.args.place.sent (string_bytes draft.path.text)
-    (string_bytes c.enter.new.self.text) n c.args.place.cell
-    c.enter.ensures in
-    let entered = enters draft.path.text c.list_struct.new.draft.path.text c.len-kept.result (codes ".") c.len-kept.ensures
-    (c.list_struct.ensures.path ∙ c.enter.ensures) in
-    subst (λ (l : List Entry). Lists draft (record { text = c.list_struct.new.draft.text; path = c.leave.new.self; later = c.list_struct.new.draft.later }) l) same
-    (leave_path draft c.enter.new.self c.leave.new.self c.list_struct.new.draft _ c.list_struct.ensures (c.leave.ensures ∙ entered.back))
+    (string_bytes c.enter.new.self.text) c.args.lister.now.image.now.numbers c.args.place.cell c.enter.ensures in
+    let entered = enters draft.path.text c.list_struct.new.draft.path.text c.len-kept.result (codes ".") c.len-kept.ensures (c.list_struct.ensures.path ∙ c.enter.ensures) in
+    rw same at (leave_path draft c.enter.new.self c.leave.new.self c.list_struct.new.draft _ c.list_struct.ensures (c.leave.ensures ∙ entered.back))
 
 pub list_item-list_sent-requires-clause-word : goal.list_item-list_sent-requires-clause-word
 list_item-list_sent-requires-clause-word t c = name_plain (codes "equal") refl
@@ -79,16 +72,11 @@ list_elements-list_item-requires t c =
     let i = c.loop-number.number in
     let inv = c.loop-number.invariant in
     let path = string_bytes c.args.draft.now.path.text in
-    let elements : HasElements set (field_of c.args.field.now) c.loop-number.cell 1 c.args.lister.now.image.now.numbers = record {
-      reaches = cells.reaches;
-      default = cells.default;
-      few = cells.few;
-      small = cells.small;
+    let elements : HasElements set (field_of c.args.field.now) c.loop-number.cell 1 c.args.lister.now.image.now.numbers = record cells {
       room = element_room (item_size (struct_cells set) c.args.field.now.item) c.args.place.cell i c.args.count c.loop-number.cell (length c.args.lister.now.image.now.numbers) c.loop-number-test.true inv.here cells.room;
     } in
     let small : i < 2 ^ 64 = omega (arith, c.loop-number-test.true, c.ranges.count.fits) in
-    let plain = subst IsPlain (sym (c.enter_element.ensures ∙ ap (λ (p : List ℕ). element_path p i) inv.lists.lists.path))
-    (element_plain path i small c.requires.path) in
+    let plain : IsPlain (string_bytes c.enter_element.new.self.text) = rw (c.enter_element.ensures, inv.lists.lists.path) (element_plain path i small c.requires.path) in
     let long = index_long (string_bytes c.loop-number.draft.path.text) i (omega (arith, c.loop-number-test.true, c.ranges.count.fits)) in
     (search rules, (elements, (plain, omega (arith, c.requires.deep, ap length c.enter_element.ensures, long, ap length inv.lists.lists.path))))
 
@@ -122,15 +110,10 @@ list_elements-loop-number-preserved t c =
     let listed = leave_path now c.enter_element.new.self c.leave.new.self c.list_item.new.draft _ c.list_item.ensures (c.leave.ensures ∙ entered.back) in
     record {
       lists = leaves_rest c.args.draft.now now new
-          (elements_list set f c.args.place.sent n path c.args.place.cell c.args.count)
-          (element_entries one path c.loop-number.cell size i (c.args.count - i))
-          (one (element_path path i) c.loop-number.cell)
-          (element_entries one path (c.loop-number.cell + c.item_cells-size.result) size (i + 1) (c.args.count - (i + 1)))
-          (elements_next one path c.loop-number.cell size i c.args.count c.loop-number-test.true
-          ∙ ap (λ (x : ℕ). one (element_path path i) c.loop-number.cell ++ element_entries one path x size (i + 1) (c.args.count - (i + 1))) (sym moved))
-          inv.lists
-          (subst (λ (p : List ℕ). Lists now new (one p c.loop-number.cell))
-          (c.enter_element.ensures ∙ ap (λ (p : List ℕ). element_path p i) inv.lists.lists.path) listed);
+          (elements_list set f c.args.place.sent n path c.args.place.cell c.args.count) (element_entries one path c.loop-number.cell size i (c.args.count - i))
+          (one (element_path path i) c.loop-number.cell) _
+          (rw moved (elements_next one path c.loop-number.cell size i c.args.count c.loop-number-test.true)) inv.lists
+          (rw (c.enter_element.ensures, inv.lists.lists.path) at listed);
       here = moved ∙ next_element size c.args.place.cell i c.loop-number.cell inv.here;
     }
 
@@ -138,23 +121,14 @@ list_elements-loop-number-preserved t c =
 
 pub list_run-returns-in-One : goal.list_run-returns-in-One
 list_run-returns-in-One t c =
-    let set = described c.args.lister.now.set.now in
-    let f = field_of c.args.field.now in
-    let n = c.args.lister.now.image.now.numbers in
-    let draft = c.args.draft.now in
-    subst (λ (k : Count). Lists draft c.list_item.new.draft
-    (array_entries (item_list set f c.args.place.sent n) k c.args.count (string_bytes draft.path.text) c.args.place.cell
-    (item_size (struct_cells set) f.item))) (sym c.in-One.is) c.list_item.ensures
+    rw c.in-One.is c.list_item.ensures
 
 pub list_run-returns-in_default : goal.list_run-returns-in_default
 list_run-returns-in_default t c =
     let set = described c.args.lister.now.set.now in
     let f = field_of c.args.field.now in
-    let n = c.args.lister.now.image.now.numbers in
-    let draft = c.args.draft.now in
-    subst (λ (l : List Entry). Lists draft c.list_elements.new.draft l)
-    (sym (array_many (item_list set f c.args.place.sent n) f.count c.args.count (string_bytes draft.path.text) c.args.place.cell
-    (item_size (struct_cells set) f.item) c.in_default.not-One)) c.list_elements.ensures
+    rw (array_many (item_list set f c.args.place.sent c.args.lister.now.image.now.numbers) f.count c.args.count (string_bytes c.args.draft.now.path.text) c.args.place.cell
+    (item_size (struct_cells set) f.item) c.in_default.not-One) c.list_elements.ensures
 
 pub list_field-list_run-requires : goal.list_field-list_run-requires
 list_field-list_run-requires t c =
@@ -164,7 +138,7 @@ list_field-list_run-requires t c =
     let k = c.args.at.field in
     let f = c.index-as_slice-at.result in
     let n = c.args.lister.now.image.now.numbers in
-    let fields = ap (map field_of) c.as_slice.ensures ∙ ap (λ (d : Desc). d.fields) c.desc.ensures in
+    let fields = here_fields set part c.desc.result.now c.as_slice.result.now c.desc.ensures c.as_slice.ensures in
     let is : field_of f ≡ field_at set part k = found_field c.as_slice.result.now (desc_at set part).fields k f fields c.requires.field c.index-as_slice-at.is in
     let needs = field_needs set well part c.args.within.cell n c.requires.place k c.args.at.cell 1 (field_of f) c.requires.field is
     (some_elements set well part c.args.within.cell n c.requires.place k c.requires.field) c.requires.room in
@@ -174,7 +148,7 @@ list_field-list_run-requires t c =
     let lower = needs.lower in
     let name = field_name set well part k c.requires.place.has c.requires.field in
     let named = c.enter.ensures ∙ ap (λ (x : List ℕ). string_bytes c.args.draft.now.path.text ++ x) (c.as_str.ensures ∙ ap (λ (x : Field). x.name) is) in
-    let plain = subst IsPlain (sym named) (plain_append (string_bytes c.args.draft.now.path.text) (field_at set part k).name c.requires.path name.plain) in
+    let plain : IsPlain (string_bytes c.enter.new.self.text) = rw named (plain_append (string_bytes c.args.draft.now.path.text) (field_at set part k).name c.requires.path name.plain) in
     let long = ap length named ∙ length-append (string_bytes c.args.draft.now.path.text) (field_at set part k).name in (
       search rules,
       (
@@ -188,7 +162,7 @@ list_field-enter-requires t c =
     let set = described c.args.lister.now.set.now in
     let part = c.args.part in
     let k = c.args.at.field in
-    let fields = ap (map field_of) c.as_slice.ensures ∙ ap (λ (d : Desc). d.fields) c.desc.ensures in
+    let fields = here_fields set part c.desc.result.now c.as_slice.result.now c.desc.ensures c.as_slice.ensures in
     let is = found_field c.as_slice.result.now (desc_at set part).fields k c.index-as_slice-at.result fields c.requires.field c.index-as_slice-at.is in
     let name = field_name set c.args.lister.now.set.now.well_formed part k c.requires.place.has c.requires.field in
     omega (arith, c.requires.deep, name.short, ap length (c.as_str.ensures ∙ ap (λ (x : Field). x.name) is))
@@ -206,15 +180,13 @@ list_field-returns t c =
     let f = c.index-as_slice-at.result in
     let n = c.args.lister.now.image.now.numbers in
     let draft = c.args.draft.now in
-    let fields = ap (map field_of) c.as_slice.ensures ∙ ap (λ (d : Desc). d.fields) c.desc.ensures in
+    let fields = here_fields set part c.desc.result.now c.as_slice.result.now c.desc.ensures c.as_slice.ensures in
     let is : field_of f ≡ field_at set part k = found_field c.as_slice.result.now (desc_at set part).fields k f fields c.requires.field c.index-as_slice-at.is in
     let same = field_run set part c.args.within.cell k c.args.within.sent n (string_bytes draft.path.text) c.args.at.cell (field_of f) c.is_sent-sent.result
     (string_bytes c.enter.new.self.text) c.elements-count.result is c.is_sent-sent.ensures
     (c.enter.ensures ∙ ap (λ (name : List ℕ). string_bytes draft.path.text ++ name) c.as_str.ensures) c.elements-count.ensures in
-    let entered = enters draft.path.text c.list_run.new.draft.path.text c.len-kept.result c.as_str.result.now c.len-kept.ensures
-    (c.list_run.ensures.path ∙ c.enter.ensures) in
-    subst (λ (l : List Entry). Lists draft (record { text = c.list_run.new.draft.text; path = c.leave.new.self; later = c.list_run.new.draft.later }) l) same
-    (leave_path draft c.enter.new.self c.leave.new.self c.list_run.new.draft _ c.list_run.ensures (c.leave.ensures ∙ entered.back))
+    let entered = enters draft.path.text c.list_run.new.draft.path.text c.len-kept.result c.as_str.result.now c.len-kept.ensures (c.list_run.ensures.path ∙ c.enter.ensures) in
+    rw same at (leave_path draft c.enter.new.self c.leave.new.self c.list_run.new.draft _ c.list_run.ensures (c.leave.ensures ∙ entered.back))
 
 -- ---- the fields of a part
 
@@ -227,7 +199,7 @@ list_part-list_field-requires t c =
     let lt : k < length fs = omega (arith, c.field_count-field-end.ensures) in
     let room = field_room (struct_cells set) fs k c.loop-field.cell (length n) lt c.loop-field.invariant.room in
     let same = c.loop-field.invariant.lists.lists.path in
-    (search rules, (c.requires.place, (lt, (room.here, (subst IsPlain (sym same) c.requires.path, omega (arith, c.requires.deep, ap length same))))))
+    (search rules, (c.requires.place, (lt, (room.here, (rw same c.requires.path, omega (arith, c.requires.deep, ap length same))))))
 
 pub list_part-overflow_add-cell : goal.list_part-overflow_add-cell
 list_part-overflow_add-cell t c =
@@ -270,17 +242,10 @@ list_part-loop-field-preserved t c =
     let room = field_room (struct_cells set) d.fields k cell (length n) lt inv.room in
     let width = width_code c.field_cells-cell.result w cell (length n) c.field_cells-cell.ensures room.here c.requires.place.few in
     let moved : cell + c.field_cells-cell.result ≡ cell + w = omega (arith, width) in
-    let left = λ (x : ℕ). fields_list set part c.args.place.cell (k + 1) c.args.place.sent n path x in
     record {
       lists = leaves_rest c.args.draft.now c.loop-field.draft c.list_field.new.draft
-          (part_list set part c.args.place.sent n path c.args.place.cell)
-          (fields_list set part c.args.place.cell k c.args.place.sent n path cell)
-          (field_list set part c.args.place.cell k c.args.place.sent n path cell)
-          (left (cell + c.field_cells-cell.result))
-          (fields_next set part c.args.place.cell c.args.place.sent path n cell k lt
-          ∙ ap (λ (x : ℕ). field_list set part c.args.place.cell k c.args.place.sent n path cell ++ left x) (sym moved))
-          inv.lists
-          (subst (λ (p : List ℕ). Lists c.loop-field.draft c.list_field.new.draft (field_list set part c.args.place.cell k c.args.place.sent n p cell))
-          inv.lists.lists.path c.list_field.ensures);
+          (part_list set part c.args.place.sent n path c.args.place.cell) (fields_list set part c.args.place.cell k c.args.place.sent n path cell)
+          (field_list set part c.args.place.cell k c.args.place.sent n path cell) _
+          (rw moved (fields_next set part c.args.place.cell c.args.place.sent path n cell k lt)) inv.lists (rw inv.lists.lists.path at c.list_field.ensures);
       room = omega (arith, moved, room.later);
     }

@@ -4,7 +4,7 @@ use Rattle.vms_parts.specs.Views.{field_of}
 use Rattle.vms_desc.specs.Described.{described}
 use Rattle.vms_desc.specs.Parts.{desc_at}
 use Rattle.vms_selfdesc.specs.Listing.{element_entries, item_list, elements_list, part_list}
-use Rattle.vms_selfdesc.proofs.Listed.{fields_list, Leaves}
+use Rattle.vms_selfdesc.proofs.Trees.{fields_list, Leaves}
 use Rattle.vms_desc.proofs.Ranks.{item_rank, part_rank}
 use Rattle.vms_selfdesc.proofs.fields.+list.Given as goal
 

@@ -2,8 +2,8 @@ use Rattle.std.proofs.Common.{◌∙◌, length, map, string_bytes, ap, arith}
 use Rattle.std.proofs.lemmas.Result.{IfOk-weaker}
 use Rattle.vms_desc.specs.Described.{described}
 use Rattle.vms_image.specs.Typed.{state_of}
-use Rattle.vms_selfdesc.proofs.Descriptions.{text_reads, text_short}
-use Rattle.vms_selfdesc.proofs.Following.{wrote}
+use Rattle.vms_selfdesc.proofs.Bounds.{text_reads, text_short}
+use Rattle.vms_selfdesc.proofs.Plain.{wrote}
 use Rattle.vms_selfdesc.proofs.tree.describe.Goals as goal
 
 pub returns-clause-text : goal.returns-clause-text

@@ -1,9 +1,8 @@
-use Rattle.std.proofs.Common.{◌+◌, ◌<◌, ◌≤◌, ◌∙◌, length, drop, map, refl, arith}
-use Rattle.vms_desc.specs.Described.{described, device_at}
+use Rattle.std.proofs.Common.{◌<◌, ◌≤◌, ◌∙◌, length, map, refl, arith}
+use Rattle.vms_desc.specs.Described.{described}
 use Rattle.vms_image.specs.Typed.{state_of}
 use Rattle.vms_image.proofs.States.{states_long, state_at}
-use Rattle.vms_selfdesc.specs.Tree.{device_tree, device_trees}
-use Rattle.vms_selfdesc.proofs.ReadyDevices.{ready_device}
+use Rattle.vms_selfdesc.proofs.Bounds.{ready_device}
 use Rattle.vms_selfdesc.proofs.Trees.{remain_all, remain_rest, remain_none, devices_next, devices_end}
 use Rattle.vms_selfdesc.proofs.tree.write_devices.Goals as goal
 
@@ -31,11 +30,7 @@ loop-device-preserved c =
     let image = c.index-images-device.result in
     let lt : k < length states = omega (arith, c.loop-device-test.true, states_long images) in
     let device : k < length set.devices = omega (arith, lt, c.requires.ready.one_each) in
-    remain_rest c.args.draft.now c.loop-device.draft c.write_device.new.draft
-    (device_trees set set.devices states)
-    (device_trees set (drop k set.devices) (drop k states))
-    (device_trees set (drop (k + 1) set.devices) (drop (k + 1) states))
-    (device_tree set (device_at set k) (state_of image))
+    remain_rest c.args.draft.now c.loop-device.draft c.write_device.new.draft _ _ _ _
     (devices_next set states k (state_of image) device lt (state_at images k image c.loop-device-test.true c.index-images-device.is)) c.loop-device.invariant
     c.write_device.ensures
 

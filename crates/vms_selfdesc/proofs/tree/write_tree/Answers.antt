@@ -1,7 +1,6 @@
-use Rattle.std.proofs.Common.{Bool, refl, map, subst}
+use Rattle.std.proofs.Common.{refl, map}
 use Rattle.vms_desc.specs.Described.{described}
 use Rattle.vms_image.specs.Typed.{state_of}
-use Rattle.vms_selfdesc.specs.Drafts.{Adds}
 use Rattle.vms_selfdesc.specs.Tree.{device_trees}
 use Rattle.vms_selfdesc.specs.declared.draft.Draft.{Draft}
 use Rattle.vms_selfdesc.proofs.Trees.{whole_lays}
@@ -11,8 +10,6 @@ pub returns : goal.returns
 returns c =
     let set = described c.args.set.now in
     let trees = device_trees set set.devices (map state_of c.args.images.now) in
-    let a = c.args.draft.now in
     let wrote = c.write_devices.new.draft in
     let end : Draft = record { text = c.push-2.new.self; path = wrote.path; later = wrote.later } in
-    let adds = subst (λ (b : Bool). Adds (record { text = c.push.new.self; path = a.path; later = b }) wrote trees) c.requires.first c.write_devices.ensures in
-    whole_lays a c.push.new.self wrote end trees c.push.ensures adds c.push-2.ensures refl
+    whole_lays c.args.draft.now c.push.new.self wrote end trees c.push.ensures (rw c.requires.first at c.write_devices.ensures) c.push-2.ensures refl
