@@ -1,44 +1,26 @@
 -- Ready images are images of their devices.
-use Rattle.std.proofs.Common.{◌≡◌, ℕ, ◌<◌, List, length, get_or, Some, ap, sym, ◌∙◌, arith, true, [], ◌≤◌, zero, suc, ◌*◌, ◌∷◌, refl, Bool, is_none}
-use Rattle.std.proofs.lemmas.Option.{slice_get-get_or}
-use Rattle.vms_spec.specs.Sets.{Set, Sub, Device, AtLeast}
-use Rattle.vms_spec.specs.Layout.{no_desc, first}
-use Rattle.vms_spec.specs.Images.{Image}
-use Rattle.vms_spec.specs.Streams.{AreReady, longest_text}
-use Rattle.vms_spec.proofs.ListLaws.{versions_long}
-use Rattle.vms_desc.specs.Described.{device_at}
-use Rattle.vms_desc.specs.Formed.{is_well_formed, shipped_set, clock_set}
-use Rattle.vms_desc.proofs.AskLaws.{few_cells}
-use Rattle.vms_image.specs.Typed.{IsOfDevice}
-use Rattle.serde_json.specs.Data.{depth}
-use Rattle.serde_json.specs.Read.{read, max_depth}
-use Rattle.vms_spec.specs.Heads.{FitsHeads}
-use Rattle.vms_spec.specs.WellFormed.{first_fault}
-use Rattle.vms_desc.proofs.Bounds.{none_is, few_items, few_devices}
-use Rattle.vms_selfdesc.specs.Drafts.{IsSound}
-use Rattle.vms_selfdesc.specs.Tree.{described_tree, described_text}
+use Rattle.vms_selfdesc.proofs.Facade.{◌≡◌, ℕ, ◌<◌, List, length, get_or, Some, ap, sym, ◌∙◌, arith, true, [], ◌≤◌, zero, suc, ◌*◌, ◌∷◌, refl, Bool, is_none}
+use Rattle.vms_selfdesc.proofs.Facade.{slice_get-get_or, list_all, ltb-true, Set, Sub, Device, AtLeast, no_desc, first, Image, AreReady, longest_text}
+use Rattle.vms_selfdesc.proofs.Facade.{versions_long, device_at, is_well_formed, shipped_set, clock_set, few_cells, IsOfDevice, depth, read, max_depth}
+use Rattle.vms_selfdesc.proofs.Facade.{FitsHeads, first_fault, none_is, few_items, few_devices, IsSound, described_tree, described_text, NEWEST_SET}
+use Rattle.vms_selfdesc.proofs.Facade.{shipped_sets, sub_at, few_subs, device_clean, sub_clean, clock_heads, by_number, clock_formed, fit_number, ShortLaw}
+use Rattle.vms_selfdesc.proofs.Facade.{ShippedLaw, ClockLaw}
 use Rattle.vms_selfdesc.proofs.Shapes.{described_plain}
 use Rattle.vms_selfdesc.proofs.WholeText.{reads_whole}
 use Rattle.std.specs.Prelude.{nat_lt}
-use Rattle.std.specs.List.{list_all}
-use Rattle.std.proofs.lemmas.Bool.{ltb-true}
-use Rattle.vms_kinds.specs.declared.TheConstants.{NEWEST_SET}
-use Rattle.vms_spec.specs.Shipped.{shipped_sets}
-use Rattle.vms_desc.specs.Parts.{sub_at}
-use Rattle.vms_desc.proofs.Clean.{few_subs, device_clean, sub_clean}
-use Rattle.vms_desc.proofs.ClockHeads.{clock_heads}
-use Rattle.vms_desc.proofs.Formed.{by_number, clock_formed, fit_number}
-use Rattle.vms_selfdesc.specs.Laws.{ShortLaw, ShippedLaw, ClockLaw}
 use Rattle.vms_selfdesc.proofs.Lengths.{IsShortDesc, AreShortSubs, AreShortDevices, subs_of, set_room, text_long, room_less}
 use Rattle.vms_selfdesc.proofs.Plain.{name_short, sub_name_short}
 use Rattle.vms_selfdesc.proofs.Soundness.{part_sound}
 use Rattle.vms_spec.specs.declared.Part.TheVariants as parts
 
-pub ready_device : (set : Set) → is_well_formed set ≡ true → (images : List Image) → AreReady set images → (i : ℕ) (image : Image) → i < length images → image ≡ get_or images i image → IsOfDevice set i image
+pub ready_device : (set : Set) → is_well_formed set ≡ true → (images : List Image) → AreReady set images → (i : ℕ) (image : Image) → i < length images
+    → image ≡ get_or images i image → IsOfDevice set i image
 ready_device set well images ready i image lt is =
     let there : i < length set.devices = omega (arith, ready.one_each) in
     let d = device_at set i in
-    let r = ready.ready i d image (slice_get-get_or set.devices i (record { instance = 0; desc = no_desc; subs = [] }) there) (slice_get-get_or images i image lt ∙ ap (λ (x : Image). Some x) (sym is)) in
+    let r =
+    ready.ready i d image (slice_get-get_or set.devices i (record { instance = 0; desc = no_desc; subs = [] }) there)
+    (slice_get-get_or images i image lt ∙ ap (λ (x : Image). Some x) (sym is)) in
     record {
       is_device = there;
       cells = r.normal.cells.long;

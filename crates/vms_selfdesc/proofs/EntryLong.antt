@@ -1,22 +1,15 @@
 -- How long the text of an entry is.
-use Rattle.std.proofs.Common.{◌≡◌, ℕ, suc, ◌+◌, ◌<◌, ◌≤◌, List, ◌∷◌, ◌++◌, length, length-append, ℤ, refl, ap, ◌∙◌, arith, Bool, true, false, decimal, codes}
-use Rattle.std.proofs.lemmas.Fmt.{length-decimal-le}
-use Rattle.json.specs.Print.{quoted}
-use Rattle.serde_json.specs.Data.{Data, Members, no_members, member, string, number}
-use Rattle.serde_json.specs.Find.{of_integer}
-use Rattle.serde_json.specs.Written.{compact_text, members_text, number_text, comma_if}
-use Rattle.vms_kinds.specs.declared.Kind.{Kind}
+use Rattle.vms_selfdesc.proofs.Facade.{◌≡◌, ℕ, suc, ◌+◌, ◌<◌, ◌≤◌, List, ◌∷◌, ◌++◌, length, length-append, ℤ, refl, ap, ◌∙◌, arith, Bool, true, false, decimal}
+use Rattle.vms_selfdesc.proofs.Facade.{codes, length-decimal-le, quoted, Data, Members, no_members, member, string, number, of_integer, compact_text}
+use Rattle.vms_selfdesc.proofs.Facade.{members_text, number_text, comma_if, Kind, MOST_UNUSED, kind_word, sent_entry, absent_entry, natural, entry_tree}
+use Rattle.vms_selfdesc.proofs.Facade.{IsPlain}
 use Rattle.vms_kinds.specs.declared.Kind.TheVariants as kinds
-use Rattle.vms_spec.specs.declared.TheConstants.{MOST_UNUSED}
-use Rattle.vms_words.specs.Words.{kind_word}
-use Rattle.vms_selfdesc.specs.Entries.{sent_entry, absent_entry}
-use Rattle.vms_selfdesc.specs.Tree.{natural, entry_tree}
-use Rattle.vms_selfdesc.specs.Drafts.{IsPlain}
 use Rattle.vms_selfdesc.proofs.Plain.{quoted_long, key_long, word_plain}
 
 -- a member of an object, with what comes after it
 pub member_long : (later : Bool) (k : List ℕ) (d : Data) (ms : Members)
-    → length (members_text later (member k d ms)) ≡ length (comma_if later) + (length (quoted k) + suc (length (compact_text d) + length (members_text true ms)))
+    → length (members_text later (member k d ms)) ≡ length
+    (comma_if later) + (length (quoted k) + suc (length (compact_text d) + length (members_text true ms)))
 member_long later k d ms =
     length-append (comma_if later) (quoted k ++ 58 ∷ (compact_text d ++ members_text true ms))
     ∙ ap (λ x. length (comma_if later) + x) (length-append (quoted k) (58 ∷ (compact_text d ++ members_text true ms)))
@@ -42,7 +35,18 @@ sent_members_long path type size ms p small word =
     let third = member_long true (codes "type") (string type) ms in
     let second = member_long true (codes "size") (natural size) (member (codes "type") (string type) ms) in
     let front = member_long false (codes "name") (string path) (member (codes "size") (natural size) (member (codes "type") (string type) ms)) in
-    omega (arith, front, second, third, key_long (codes "name") refl, key_long (codes "size") refl, key_long (codes "type") refl, quoted_long path p, size_short size small, word)
+    omega (
+      arith,
+      front,
+      second,
+      third,
+      key_long (codes "name") refl,
+      key_long (codes "size") refl,
+      key_long (codes "type") refl,
+      quoted_long path p,
+      size_short size small,
+      word,
+    )
 
 pub sent_long : (path : List ℕ) (size : ℕ) (type : List ℕ) → IsPlain path → size ≤ MOST_UNUSED → length (quoted type) ≤ 8
     → length (compact_text (entry_tree (sent_entry path size type))) ≤ length path + 39

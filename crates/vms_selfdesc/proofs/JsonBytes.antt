@@ -1,18 +1,13 @@
 -- The bytes in the text of a JSON value without spaces: those of its strings, escaped, and others from 34 to 125.
-use Rattle.std.proofs.Common.{◌≡◌, ℕ, zero, suc, ◌<◌, ◌≤◌, ◌%◌, ◌/◌, ◌+◌, Bool, true, false, cond, ◌&&◌, ◌||◌, ◌==◌, nat_lt, nat_le, if◌then◌else◌, List, [], ◌∷◌, ◌++◌, map, Option, Some, None, ℤ, pos, negsuc, refl, arith, codes}
-use Rattle.std.specs.List.{AllByRecursion, list_all}
-use Rattle.std.proofs.lemmas.Bool.{and_parts, eqb-true, leb-true, ltb-true, ltb-false, lt-ltb}
-use Rattle.std.specs.Char.{digit_char}
-use Rattle.std.specs.Fmt.{decimal, digits, digits_onto, digit_glyph}
-use Rattle.json.specs.Print.{escape, escape_byte, escape_letter, quoted}
-use Rattle.serde_json.specs.Data.{Num, unsigned, negative, float, Data, null, boolean, number, string, array, object, Items, no_items, item, Members, no_members, member}
-use Rattle.serde_json.specs.View.{items_of}
-use Rattle.serde_json.specs.Written.{number_text, comma_if, compact_text, items_text, members_text}
-use Rattle.vms_kinds.specs.declared.Kind.{Kind}
+use Rattle.vms_selfdesc.proofs.Facade.{◌≡◌, ℕ, zero, suc, ◌<◌, ◌≤◌, ◌%◌, ◌/◌, ◌+◌, Bool, true, false, cond, ◌&&◌, ◌||◌, ◌==◌, nat_lt, nat_le, if◌then◌else◌}
+use Rattle.vms_selfdesc.proofs.Facade.{List, [], ◌∷◌, ◌++◌, map, Option, Some, None, ℤ, pos, negsuc, refl, arith, codes, AllByRecursion, list_all, and_parts}
+use Rattle.vms_selfdesc.proofs.Facade.{eqb-true, leb-true, ltb-true, ltb-false, lt-ltb, digit_char, digits, digits_onto, digit_glyph, escape, escape_byte}
+use Rattle.vms_selfdesc.proofs.Facade.{escape_letter, quoted, unsigned, negative, float, Data, null, boolean, number, string, array, object, Items, no_items}
+use Rattle.vms_selfdesc.proofs.Facade.{item, Members, no_members, member, items_of, number_text, comma_if, compact_text, items_text, members_text, Kind}
+use Rattle.vms_selfdesc.proofs.Facade.{kind_word, Entry, entry_tree, sub_members, device_members}
+use Rattle.std.specs.Fmt.{decimal}
+use Rattle.serde_json.specs.Data.{Num}
 use Rattle.vms_kinds.specs.declared.Kind.TheVariants as kinds
-use Rattle.vms_words.specs.Words.{kind_word}
-use Rattle.vms_selfdesc.specs.Entries.{Entry}
-use Rattle.vms_selfdesc.specs.Tree.{entry_tree, sub_members, device_members}
 
 -- all strings and keys have such bytes
 abbrev mutual
@@ -112,7 +107,8 @@ module _ {Letter Good : ℕ → Type 0} (allows : Allows Letter Good) where
       go : (a b : Bool) → (a ≡ true → Good (escape_letter x)) → (b ≡ true → x < 32) → (b ≡ false → 32 ≤ x)
           → AllByRecursion Good (cond a (92 ∷ escape_letter x ∷ []) (cond b (92 ∷ 117 ∷ 48 ∷ 48 ∷ digit_char (x / 16) ∷ digit_char (x % 16) ∷ []) (x ∷ [])))
       go true b p r q = (own 92 refl, (p refl, tt))
-      go false true p r q = let i = r refl in (own 92 refl, (own 117 refl, (own 48 refl, (own 48 refl, (hex (x / 16) (omega (arith, i)), (hex (x % 16) (omega arith), tt))))))
+      go false true p r q =
+          let i = r refl in (own 92 refl, (own 117 refl, (own 48 refl, (own 48 refl, (hex (x / 16) (omega (arith, i)), (hex (x % 16) (omega arith), tt))))))
       go false false p r q = (allows.letter x (q refl) l, tt)
 
   escape_good : (s : List ℕ) → AllByRecursion Letter s → AllByRecursion Good (escape s)
@@ -180,14 +176,20 @@ module _ {Letter Good : ℕ → Type 0} (allows : Allows Letter Good) where
   entries_letters [] p = tt
   entries_letters (e ∷ es) p = (entry_letters e.path e.type e.size e.absent p.0.path p.0.type, entries_letters es p.1)
 
-  pub sub_letters : (es : List Entry) (name : List ℕ) (sent : Bool) (version : ℕ) → AreSpelled Letter es → AllByRecursion Letter name → HasLetters Letter (object (sub_members es name sent version))
+  pub sub_letters : (es : List Entry) (name : List ℕ) (sent : Bool) (version : ℕ) → AreSpelled Letter es → AllByRecursion Letter name
+      → HasLetters Letter (object (sub_members es name sent version))
   sub_letters es name sent version p q =
       (word (codes "fields") refl, entries_letters es p, (word (codes "name") refl, q, (word (codes "sent") refl, tt, (word (codes "version") refl, tt, tt))))
 
-  pub device_letters : (es : List Entry) (instance : ℕ) (name : List ℕ) (subs : List Data) (version : ℕ) → AreSpelled Letter es → AllByRecursion Letter name → ItemsHave Letter (items_of subs)
+  pub device_letters : (es : List Entry) (instance : ℕ) (name : List ℕ) (subs : List Data) (version : ℕ) → AreSpelled Letter es → AllByRecursion Letter name
+      → ItemsHave Letter (items_of subs)
       → HasLetters Letter (object (device_members es instance name subs version))
-  device_letters es instance name subs version p q r =
-      (word (codes "fields") refl, entries_letters es p, (word (codes "instance_id") refl, tt, (word (codes "name") refl, q, (word (codes "subsections") refl, r, (word (codes "version") refl, tt, tt)))))
+  device_letters es instance name subs version p q r = (
+    word (codes "fields") refl,
+    entries_letters es p,
+    (word (codes "instance_id") refl, tt, (word (codes "name") refl, q, (word (codes "subsections") refl, r, (word (codes "version") refl, tt, tt)))),
+  )
 
-  pub devices_letters : (ds : List Data) → ItemsHave Letter (items_of ds) → HasLetters Letter (object (member (codes "devices") (array (items_of ds)) no_members))
+  pub devices_letters : (ds : List Data) → ItemsHave Letter (items_of ds)
+      → HasLetters Letter (object (member (codes "devices") (array (items_of ds)) no_members))
   devices_letters ds p = (word (codes "devices") refl, p, tt)

@@ -1,20 +1,11 @@
 -- How long the text of the described tree is, by the depth of structures and the number of items: at most 300 bytes for each item,
 -- subsection and device, and fewer for the items of a part without structures.
-use Rattle.std.proofs.Common.{◌≡◌, ℕ, suc, ◌+◌, ◌*◌, ◌<◌, ◌≤◌, List, [], ◌∷◌, length, length-append, map, ℤ, Bool, true, false, refl, ap, arith, Option, is_some, codes}
-use Rattle.std.proofs.Math.Nat.{mul-le-mul_left, mul-le-mul_right}
-use Rattle.serde_json.specs.Data.{Data, no_members, member, object, array, string, boolean}
-use Rattle.serde_json.specs.View.{items_of}
-use Rattle.serde_json.specs.Written.{compact_text, items_text}
-use Rattle.vms_spec.specs.declared.TheConstants.{MOST_ITEMS}
+use Rattle.vms_selfdesc.proofs.Facade.{◌≡◌, ℕ, suc, ◌+◌, ◌*◌, ◌<◌, ◌≤◌, List, [], ◌∷◌, length, length-append, map, ℤ, Bool, true, false, refl, ap, arith}
+use Rattle.vms_selfdesc.proofs.Facade.{Option, is_some, codes, mul-le-mul_left, mul-le-mul_right, Data, no_members, member, object, array, string, boolean}
+use Rattle.vms_selfdesc.proofs.Facade.{items_of, compact_text, items_text, MOST_ITEMS, Field, Desc, Sub, Device, Set, desc_cells, struct_cells, Image}
+use Rattle.vms_selfdesc.proofs.Facade.{own_cells, items_in, struct_items, subs_items, devices_items, struct_depths, deepest, is_well_formed, shapes, Entry}
+use Rattle.vms_selfdesc.proofs.Facade.{part_entries, natural, entry_tree, list_tree, sub_members, sub_trees, device_members, device_trees, described_text}
 use Rattle.vms_spec.specs.declared.Part.TheVariants as parts
-use Rattle.vms_spec.specs.Sets.{Field, Desc, Sub, Device, Set}
-use Rattle.vms_spec.specs.Layout.{desc_cells, struct_cells}
-use Rattle.vms_spec.specs.Images.{Image, own_cells}
-use Rattle.vms_spec.specs.WellFormed.{items_in, struct_items, subs_items, devices_items, struct_depths, deepest}
-use Rattle.vms_desc.specs.Formed.{is_well_formed}
-use Rattle.vms_elements.specs.Elements.{shapes}
-use Rattle.vms_selfdesc.specs.Entries.{Entry, part_entries}
-use Rattle.vms_selfdesc.specs.Tree.{natural, entry_tree, list_tree, sub_members, sub_trees, device_members, device_trees, described_text}
 use Rattle.vms_selfdesc.proofs.EntryLong.{member_long, number_short}
 use Rattle.vms_selfdesc.proofs.Fits.{AreLong, longer, AreSound, FitTables, tables_fit, entries_few, entries_long}
 use Rattle.vms_selfdesc.proofs.Plain.{IsShort, quoted_long, key_long}
@@ -72,7 +63,8 @@ sub_long es name sent version short small =
       number_short version small,
     )
 
-device_long : (es : List Entry) (instance : ℕ) (name : List ℕ) (subs : List Data) (version : ℕ) → IsShort 100 name → instance < 4294967296 → version < 4294967296
+device_long : (es : List Entry) (instance : ℕ) (name : List ℕ) (subs : List Data) (version : ℕ) → IsShort 100 name → instance < 4294967296
+    → version < 4294967296
     → length (compact_text (object (device_members es instance name subs version))) ≤ weight (map entry_tree es) + weight subs + 299
 device_long es instance name subs version short few small =
     let last = member (codes "version") (natural version) no_members in
@@ -152,9 +144,17 @@ module _ (set : Set) (well : is_well_formed set ≡ true) where
       let es = part_entries set d sent n at in
       let most = 40 * deepest depths d.fields + 107 in
       let count = entries_few (shapes set) sizes depths fit d d.version sent [] n at in
-      let long = longer (0 + 40 * deepest depths d.fields + 107) most es (omega arith) (entries_long (shapes set) sizes depths fit d d.version sent [] n at tt sound few) in
+      let long =
+      longer (0 + 40 * deepest depths d.fields + 107) most es (omega arith)
+      (entries_long (shapes set) sizes depths fit d d.version sent [] n at tt sound few) in
       let each : most + 1 ≡ 40 * deepest depths d.fields + 108 = omega arith in
-      omega (arith, entries_weight es most long, ap (λ k. k * length es) each, mul-le-mul_left {m = length es} {n = items_in sizes d.fields} (40 * deepest depths d.fields + 108) count)
+      omega (
+        arith,
+        entries_weight es most long,
+        ap (λ k. k * length es) each,
+        mul-le-mul_left {m = length es} {n = items_in sizes d.fields}
+            (40 * deepest depths d.fields + 108) count,
+      )
 
   subs_weight : (n : List ℤ) (at : ℕ) (subs : List Sub) (came : List (Option ℕ)) → AreShortSubs subs → subs_items (struct_items set.structs) subs ≤ MOST_ITEMS
       → weight (sub_trees set n at subs came) ≤ subs_room (struct_items set.structs) (struct_depths set.structs) subs
@@ -180,7 +180,8 @@ module _ (set : Set) (well : is_well_formed set ≡ true) where
       omega (arith, here, subs, one, rest)
   devices_weight _ _ p few = omega arith
 
-  pub text_long : (images : List Image) → AreShortDevices set.devices → devices_items (struct_items set.structs) set.devices ≤ MOST_ITEMS → length (described_text set images) ≤ set_room set
+  pub text_long : (images : List Image) → AreShortDevices set.devices → devices_items (struct_items set.structs) set.devices ≤ MOST_ITEMS
+      → length (described_text set images) ≤ set_room set
   text_long images p few = omega (arith, whole_long (device_trees set set.devices images), devices_weight set.devices images p few)
 
   -- ---- by the numbers of items, subsections and devices
@@ -191,7 +192,8 @@ module _ (set : Set) (well : is_well_formed set ≡ true) where
       let flat = fields_flat set well fs in
       mul-le-mul_right {m = 40 * depth + 108} {n = 300} (items_in (struct_items set.structs) fs) (omega arith)
 
-  subs_less : (subs : List Sub) → subs_room (struct_items set.structs) (struct_depths set.structs) subs ≤ 300 * subs_items (struct_items set.structs) subs + 300 * length subs
+  subs_less : (subs : List Sub)
+      → subs_room (struct_items set.structs) (struct_depths set.structs) subs ≤ 300 * subs_items (struct_items set.structs) subs + 300 * length subs
   subs_less [] = omega arith
   subs_less (s ∷ subs) = omega (arith, fields_less s.desc.fields, subs_less subs)
 

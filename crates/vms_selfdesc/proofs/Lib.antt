@@ -1,15 +1,16 @@
+mod Rows
 pub mod Bounds
 pub mod EntryLong
-pub mod OfElements
+pub mod Facade
 pub mod Fits
 pub mod JsonBytes
 pub mod Lengths
-pub mod Plain
-pub mod Trees
+pub mod OfElements
 pub mod Paths
+pub mod Plain
 pub mod ReadBack
-mod Rows
 pub mod Shapes
 pub mod Soundness
 pub mod Tails
+pub mod Trees
 pub mod WholeText

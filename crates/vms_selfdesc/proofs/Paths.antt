@@ -1,21 +1,8 @@
 -- Paths that are gone into and left again, and how long they get.
-use Rattle.std.proofs.Common.{◌≡◌, ℕ, ◌+◌, ◌*◌, ◌<◌, ◌≤◌, ◌^◌, List, [], ◌∷◌, ◌++◌, length, length-append, take, decimal, String, string_bytes, sym}
-use Rattle.std.proofs.Common.{ap, ◌∙◌, subst, arith, true}
-use Rattle.std.specs.Str.{IsUtf8}
-use Rattle.std.proofs.lemmas.Str.{IsUtf8-string_bytes}
-use Rattle.std.proofs.Math.Seq.{take-append_seam}
-use Rattle.std.proofs.lemmas.Fmt.{length-decimal-le}
-use Rattle.vms_kinds.specs.declared.Item.{Item}
-use Rattle.vms_kinds.specs.declared.Item.TheVariants.{Num, Equal, Unused, Struct}
-use Rattle.vms_spec.specs.declared.Part.{Part}
+use Rattle.vms_selfdesc.proofs.Facade.{◌≡◌, ℕ, ◌+◌, ◌*◌, ◌<◌, ◌≤◌, ◌^◌, List, [], ◌∷◌, ◌++◌, length, length-append, take, decimal, String, string_bytes, sym}
+use Rattle.vms_selfdesc.proofs.Facade.{ap, ◌∙◌, subst, arith, true, IsUtf8, IsUtf8-string_bytes, take-append_seam, length-decimal-le, Item, Num, Equal, Unused}
+use Rattle.vms_selfdesc.proofs.Facade.{Struct, Part, Set, is_well_formed, HasPart, few_structs, item_rank, part_rank, element_path, item_levels, part_levels}
 use Rattle.vms_spec.specs.declared.Part.TheVariants as parts
-use Rattle.vms_spec.specs.Sets.{Set}
-use Rattle.vms_desc.specs.Formed.{is_well_formed}
-use Rattle.vms_desc.specs.Parts.{HasPart}
-use Rattle.vms_desc.proofs.Bounds.{few_structs}
-use Rattle.vms_desc.proofs.Ranks.{item_rank, part_rank}
-use Rattle.vms_selfdesc.specs.Listing.{element_path}
-use Rattle.vms_selfdesc.specs.Needs.{item_levels, part_levels}
 
 -- the first bytes of a path are the path before it
 pub record Enters {Z : Type 0} (old now : String Z) (kept : ℕ) : Type 0 where
@@ -23,7 +10,8 @@ pub record Enters {Z : Type 0} (old now : String Z) (kept : ℕ) : Type 0 where
   pub text : IsUtf8 (take kept (string_bytes now))
   pub back : take kept (string_bytes now) ≡ string_bytes old
 
-pub enters : {Z : Type 0} (old now : String Z) (kept : ℕ) (more : List ℕ) → kept ≡ length (string_bytes old) → string_bytes now ≡ string_bytes old ++ more → Enters old now kept
+pub enters : {Z : Type 0} (old now : String Z) (kept : ℕ) (more : List ℕ) → kept ≡ length (string_bytes old) → string_bytes now ≡ string_bytes old ++ more
+    → Enters old now kept
 enters old now kept more is e =
     let back = ap (λ (k : ℕ). take k (string_bytes now)) is ∙ ap (take (length (string_bytes old))) e ∙ take-append_seam (string_bytes old) more in
     record {

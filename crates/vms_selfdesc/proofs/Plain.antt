@@ -1,34 +1,12 @@
 -- The names of a well-formed set are written as they are.
-use Rattle.std.proofs.Common.{◌≡◌, ℕ, ◌<◌, length, true, ◌≤◌, List, [], ◌++◌, length-append, string_bytes, append_assoc, append-nil, subst, sym, ap, ◌∙◌, arith, ◌∷◌, codes, decimal, ◌+◌, Bool, false, ◌&&◌, ◌||◌, ◌==◌, nat_lt, nat_le, drop, take, refl, ◌^◌, ◌%◌}
-use Rattle.std.specs.List.{list_all}
-use Rattle.std.proofs.lemmas.Bool.{and_parts, leb-true, eqb-true, ne_eqb, le-ltb}
-use Rattle.vms_spec.specs.declared.Part.{Part}
-use Rattle.vms_spec.specs.Names.{is_name, is_name_byte, is_sub_name}
-use Rattle.vms_spec.specs.Sets.{Set}
-use Rattle.vms_desc.specs.Asks.{field_at}
-use Rattle.vms_desc.specs.Described.{device_at}
-use Rattle.vms_desc.specs.Formed.{is_well_formed}
-use Rattle.vms_desc.specs.Parts.{HasPart, desc_at, sub_at}
-use Rattle.vms_desc.proofs.Clean.{device_clean, sub_clean, field_sound}
-use Rattle.vms_selfdesc.specs.Drafts.{IsPlain, Extends, IsEmpty, IsSound, Puts, Adds, Begins, member_text, cell_tail, absent_tail}
-use Rattle.vms_selfdesc.specs.declared.text.Text.{Text}
-use Rattle.std.specs.Fmt.{digits}
-use Rattle.json.specs.Print.{escape_byte, quoted, escape}
-use Rattle.serde_json.specs.Data.{Data, string, object, Members, no_members, member}
-use Rattle.serde_json.specs.Written.{compact_text, members_text, comma_if}
-use Rattle.vms_kinds.specs.declared.Kind.{Kind}
-use Rattle.vms_kinds.specs.Codes.{width}
-use Rattle.vms_words.specs.Words.{kind_word}
-use Rattle.vms_selfdesc.specs.Tree.{natural}
-use Rattle.vms_selfdesc.specs.declared.draft.Draft.{Draft}
-use Rattle.std.proofs.lemmas.Fmt.{decimal_by_steps, length-decimal-le}
-use Rattle.std.proofs.lemmas.List.{take-append-drop}
-use Rattle.std.proofs.lemmas.Slice.Eq.{bytes_eq-Decides}
-use Rattle.std.specs.Str.{bytes_eq}
-use Rattle.vms_spec.specs.declared.TheConstants.{MOST_ITEMS}
-use Rattle.vms_spec.proofs.ListLaws.{either_of}
-use Rattle.vms_selfdesc.specs.Listing.{element_path}
-use Rattle.vms_kinds.specs.declared.Kind.TheVariants.{U8}
+use Rattle.vms_selfdesc.proofs.Facade.{◌≡◌, ℕ, ◌<◌, length, true, ◌≤◌, List, [], ◌++◌, length-append, string_bytes, append_assoc, subst, sym, ap, ◌∙◌, arith}
+use Rattle.vms_selfdesc.proofs.Facade.{◌∷◌, codes, decimal, ◌+◌, Bool, false, ◌&&◌, ◌||◌, ◌==◌, nat_lt, nat_le, drop, take, refl, ◌^◌, ◌%◌, list_all, and_parts}
+use Rattle.vms_selfdesc.proofs.Facade.{leb-true, eqb-true, ne_eqb, le-ltb, digits, decimal_by_steps, length-decimal-le, take-append-drop, bytes_eq-Decides}
+use Rattle.vms_selfdesc.proofs.Facade.{bytes_eq, Part, is_name, is_name_byte, is_sub_name, Set, field_at, device_at, is_well_formed, HasPart, desc_at, sub_at}
+use Rattle.vms_selfdesc.proofs.Facade.{device_clean, sub_clean, field_sound, IsPlain, Extends, IsEmpty, IsSound, Puts, Adds, Begins, member_text, cell_tail}
+use Rattle.vms_selfdesc.proofs.Facade.{absent_tail, Text, escape_byte, quoted, escape, Data, string, object, Members, no_members, member, compact_text}
+use Rattle.vms_selfdesc.proofs.Facade.{members_text, comma_if, Kind, width, kind_word, natural, Draft, MOST_ITEMS, either_of, element_path, U8}
+use Rattle.std.proofs.Common.{append-nil}
 
 module _ (set : Set) (well : is_well_formed set ≡ true) where
   pub field_name : (part : Part) (k : ℕ) → HasPart set part → k < length (desc_at set part).fields → IsShort 32 (field_at set part k).name
@@ -157,9 +135,11 @@ unfolding escape_byte
 tail_text kind =
     let word = kind_word kind in
     ap (λ (s : List ℕ). codes "\",\"size\":" ++ (decimal (width kind) ++ (codes ",\"type\":" ++ s)))
-    (sym (append_assoc (34 ∷ word) (34 ∷ []) (125 ∷ [])) ∙ ap (λ (q : List ℕ). q ++ 125 ∷ []) (quoted_plain word (name_plain (kind_word kind) (word_plain kind))))
+    (sym (append_assoc (34 ∷ word) (34 ∷ []) (125 ∷ [])) ∙ ap (λ (q : List ℕ). q ++ 125 ∷ [])
+    (quoted_plain word (name_plain (kind_word kind) (word_plain kind))))
 
-pub absent_text : (kind : Kind) (d : Data) → absent_tail kind ++ (compact_text d ++ codes "}") ≡ 34 ∷ members_text true (size_members 0 (kind_word kind) (member (codes "value") d no_members))
+pub absent_text : (kind : Kind) (d : Data)
+    → absent_tail kind ++ (compact_text d ++ codes "}") ≡ 34 ∷ members_text true (size_members 0 (kind_word kind) (member (codes "value") d no_members))
 unfolding escape_byte digits
 absent_text kind d =
     let word = kind_word kind in
@@ -289,7 +269,13 @@ element_plain path i lt p =
 
 pub element_long : (path : List ℕ) (i : ℕ) → i < MOST_ITEMS → length (element_path path i) ≤ length path + 7
 element_long path i lt =
-    omega (arith, length-append path (91 ∷ (decimal i ++ 93 ∷ [])), length-append (decimal i) (93 ∷ []), length-decimal-le 5 i (omega arith) (omega arith) (omega arith))
+    omega (
+      arith,
+      length-append path (91 ∷ (decimal i ++ 93 ∷ [])),
+      length-append (decimal i) (93 ∷ []),
+      length-decimal-le 5 i (omega arith) (omega arith)
+          (omega arith),
+    )
 
 pub dot_plain : (path : List ℕ) → IsPlain path → IsPlain (path ++ 46 ∷ [])
 dot_plain path p = plain_append path (46 ∷ []) p (plain_byte 46 (omega arith) (λ e. omega (arith, e)), tt)

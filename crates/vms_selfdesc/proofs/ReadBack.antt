@@ -1,21 +1,10 @@
 -- The trees of descriptions are read back from their texts.
-use Rattle.std.proofs.Common.{◌≡◌, ℕ, ◌^◌, ◌<◌, List, [], ◌∷◌, ℤ, pos, negsuc, Bool, true, int_lt, Some, codes, refl, ap, ◌∙◌, arith}
-use Rattle.std.specs.Fmt.{signed_decimal}
-use Rattle.std.specs.Int.Signed.{mag}
-use Rattle.std.specs.Option.{option_map, option_and_then}
-use Rattle.std.proofs.lemmas.Bool.{ltb-true}
+use Rattle.vms_selfdesc.proofs.Facade.{◌≡◌, ℕ, ◌^◌, ◌<◌, List, [], ◌∷◌, ℤ, pos, negsuc, Bool, true, int_lt, Some, codes, refl, ap, ◌∙◌, arith, signed_decimal}
+use Rattle.vms_selfdesc.proofs.Facade.{mag, option_map, option_and_then, ltb-true, ItemsHaveNumbers, IsNumber-decimal, IsNumber-signed_decimal, Data, number}
+use Rattle.vms_selfdesc.proofs.Facade.{string, boolean, array, object, item, Members, no_members, member, put, of_integer, of_json, of_items, of_members}
+use Rattle.vms_selfdesc.proofs.Facade.{items_of, outline, items_outline, number_text, number_of-decimal, number_of-negative, IsSound, AreSound, Entry}
+use Rattle.vms_selfdesc.proofs.Facade.{sent_entry, absent_entry, natural, entry_tree, list_tree, sub_members, device_members}
 use Rattle.json.specs.Json as json
-use Rattle.json.specs.Tree.{ItemsHaveNumbers}
-use Rattle.json.proofs.Printed.Decimals.{IsNumber-decimal, IsNumber-signed_decimal}
-use Rattle.serde_json.specs.Data.{Data, number, string, boolean, array, object, item, Members, no_members, member, put}
-use Rattle.serde_json.specs.Find.{of_integer}
-use Rattle.serde_json.specs.Read.{of_json, of_items, of_members}
-use Rattle.serde_json.specs.View.{items_of}
-use Rattle.serde_json.specs.Written.{outline, items_outline, number_text}
-use Rattle.serde_json.proofs.Numbers.{number_of-decimal, number_of-negative}
-use Rattle.vms_selfdesc.specs.Drafts.{IsSound, AreSound}
-use Rattle.vms_selfdesc.specs.Entries.{Entry, sent_entry, absent_entry}
-use Rattle.vms_selfdesc.specs.Tree.{natural, entry_tree, list_tree, sub_members, device_members}
 
 pub natural_sound : (n : ℕ) → n < 2 ^ 64 → IsSound (natural n)
 natural_sound n small = record { read = ap (option_map number) (number_of-decimal n small); numbers = IsNumber-decimal n small }
@@ -40,7 +29,8 @@ negative_sound (negsuc n) fits below = record {
 -- ---- objects and arrays
 
 -- a member goes in among those that were found
-member_read : (k : List ℕ) (d : Data) (ms : json.Members) (found : Members) → of_json (outline d) ≡ Some d → of_members (json.member k (outline d) ms) found ≡ of_members ms (put k d found)
+member_read : (k : List ℕ) (d : Data) (ms : json.Members) (found : Members) → of_json (outline d) ≡ Some d
+    → of_members (json.member k (outline d) ms) found ≡ of_members ms (put k d found)
 member_read k d ms found r = ap (option_and_then (λ (x : Data). of_members ms (put k x found))) r
 
 items_read : (ds : List Data) → AreSound ds → of_items (items_outline (items_of ds)) ≡ Some (items_of ds)
@@ -59,7 +49,9 @@ array_sound ds r = record { read = ap (option_map array) (items_read ds r); numb
 pub sent_sound : (path : List ℕ) (size : ℕ) (type : List ℕ) → IsSound (natural size) → IsSound (entry_tree (sent_entry path size type))
 sent_sound path size type r = record {
   read =
-      ap (option_map object) (member_read (codes "size") (natural size) (json.member (codes "type") (json.string type) json.no_members) (member (codes "name") (string path) no_members) r.read);
+      ap (option_map object)
+      (member_read (codes "size") (natural size) (json.member (codes "type") (json.string type) json.no_members)
+      (member (codes "name") (string path) no_members) r.read);
   numbers = (tt, (r.numbers, (tt, tt)));
 }
 
@@ -77,20 +69,23 @@ absent_sound path type default r =
       numbers = (tt, (none.numbers, (tt, (r.numbers, tt))));
     }
 
-pub sub_sound : (es : List Entry) (name : List ℕ) (sent : Bool) (version : ℕ) → IsSound (list_tree entry_tree es) → IsSound (natural version) → IsSound (object (sub_members es name sent version))
+pub sub_sound : (es : List Entry) (name : List ℕ) (sent : Bool) (version : ℕ) → IsSound (list_tree entry_tree es) → IsSound (natural version)
+    → IsSound (object (sub_members es name sent version))
 sub_sound es name sent version fields r =
     let list = list_tree entry_tree es in
     let last = json.member (codes "version") (outline (natural version)) json.no_members in
     let front = member (codes "fields") list no_members in
     record {
       read = ap (option_map object) (
-          member_read (codes "fields") list (json.member (codes "name") (json.string name) (json.member (codes "sent") (json.boolean sent) last)) no_members fields.read
+          member_read (codes "fields") list
+          (json.member (codes "name") (json.string name) (json.member (codes "sent") (json.boolean sent) last)) no_members fields.read
           ∙ member_read (codes "version") (natural version) json.no_members (put (codes "sent") (boolean sent) (put (codes "name") (string name) front)) r.read
           );
       numbers = (fields.numbers, (tt, (tt, (r.numbers, tt))));
     }
 
-pub device_sound : (es : List Entry) (instance : ℕ) (name : List ℕ) (subs : List Data) (version : ℕ) → IsSound (list_tree entry_tree es) → IsSound (natural instance) → IsSound (array (items_of subs))
+pub device_sound : (es : List Entry) (instance : ℕ) (name : List ℕ) (subs : List Data) (version : ℕ) → IsSound (list_tree entry_tree es)
+    → IsSound (natural instance) → IsSound (array (items_of subs))
     → IsSound (natural version) → IsSound (object (device_members es instance name subs version))
 device_sound es instance name subs version fields r inner s =
     let list = list_tree entry_tree es in

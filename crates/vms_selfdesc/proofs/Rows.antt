@@ -1,15 +1,6 @@
 -- The self-descriptions of worked images.
-use Rattle.std.proofs.Common.{◌≡◌, ℕ, List, [], ◌∷◌, ◌++◌, length, Some, None, ℤ, pos, negsuc, refl, codes}
-use Rattle.std.specs.Fmt.{digits}
-use Rattle.vms_kinds.specs.Codes.{code}
-use Rattle.json.specs.Print.{escape_byte}
-use Rattle.vms_spec.specs.Layout.{first}
-use Rattle.vms_spec.specs.Sets.{Set}
-use Rattle.vms_spec.specs.Images.{Image}
-use Rattle.vms_spec.specs.Shipped.{set_0}
-use Rattle.vms_spec.specs.Streams.{written}
-use Rattle.vms_spec.proofs.Boxes.{counted_set, constant_set, subsection_set, tested_set, mixed_set}
-use Rattle.vms_selfdesc.specs.Tree.{described_text}
+use Rattle.vms_selfdesc.proofs.Facade.{◌≡◌, ℕ, List, [], ◌∷◌, ◌++◌, length, Some, None, ℤ, pos, negsuc, refl, codes, digits, code, escape_byte, first, Set}
+use Rattle.vms_selfdesc.proofs.Facade.{Image, set_0, written, counted_set, constant_set, subsection_set, tested_set, mixed_set, described_text}
 
 unfoldable text_of : Set → List Image → List ℕ
 text_of set images = described_text set images
@@ -80,7 +71,12 @@ unfolding text_of first digits escape_byte code
 lists_each_subsection = refl
 
 -- an array of structures of version 3, whose z is to come at 4, in a box at version 2; t isn't there
-expands_structures : text_of mixed_set (record { version = 2; came = None ∷ []; numbers = pos 1 ∷ pos 3 ∷ pos 4 ∷ pos 9 ∷ pos 0 ∷ pos 0 ∷ pos 9 ∷ pos 0 ∷ pos 0 ∷ pos 9 ∷ pos 0 ∷ pos 0 ∷ negsuc 2 ∷ pos 7 ∷ pos 1 ∷ [] } ∷ [])
+expands_structures : text_of mixed_set
+    (record {
+      version = 2;
+      came = None ∷ [];
+      numbers = pos 1 ∷ pos 3 ∷ pos 4 ∷ pos 9 ∷ pos 0 ∷ pos 0 ∷ pos 9 ∷ pos 0 ∷ pos 0 ∷ pos 9 ∷ pos 0 ∷ pos 0 ∷ negsuc 2 ∷ pos 7 ∷ pos 1 ∷ [];
+    } ∷ [])
     ≡ codes "{\"devices\":[{\"fields\":[{\"name\":\"n\",\"size\":1,\"type\":\"u8\"},"
     ++ codes "{\"name\":\"ps[0].x\",\"size\":1,\"type\":\"u8\"},{\"name\":\"ps[0].y\",\"size\":2,\"type\":\"u16\"},{\"name\":\"ps[0].z\",\"size\":0,\"type\":\"u8\",\"value\":9},"
     ++ codes "{\"name\":\"flag\",\"size\":1,\"type\":\"bool\"},{\"name\":\"t\",\"size\":0,\"type\":\"u16\",\"value\":0},{\"name\":\"w\",\"size\":1,\"type\":\"i8\"}],"

@@ -1,14 +1,8 @@
 -- The described tree has no number with a fraction, and nests little.
-use Rattle.std.proofs.Common.{◌≡◌, ℕ, suc, ◌+◌, ◌≤◌, length, List, ◌∷◌, map, Bool, true, false, Option, Some, None, ℤ, pos, negsuc, refl, arith, is_some, [], ◌||◌}
-use Rattle.std.proofs.lemmas.Bool.{or_from}
-use Rattle.serde_json.specs.Data.{Data, object, array, depth, items_depth}
-use Rattle.serde_json.specs.View.{items_of}
-use Rattle.serde_json.specs.Written.{has_float, items_have_float}
-use Rattle.vms_spec.specs.Sets.{Sub, Device, Set}
-use Rattle.vms_spec.specs.Layout.{desc_cells, struct_cells}
-use Rattle.vms_spec.specs.Images.{Image, own_cells}
-use Rattle.vms_selfdesc.specs.Entries.{Entry, part_entries}
-use Rattle.vms_selfdesc.specs.Tree.{with_value, sent_members, entry_tree, list_tree, sub_members, sub_trees, device_members, device_trees, described_tree}
+use Rattle.vms_selfdesc.proofs.Facade.{◌≡◌, ℕ, suc, ◌+◌, ◌≤◌, length, List, ◌∷◌, map, Bool, true, false, Option, Some, None, ℤ, pos, negsuc, refl, arith}
+use Rattle.vms_selfdesc.proofs.Facade.{is_some, [], ◌||◌, or_from, Data, object, array, depth, items_depth, items_of, has_float, items_have_float, Sub, Device}
+use Rattle.vms_selfdesc.proofs.Facade.{Set, desc_cells, struct_cells, Image, own_cells, Entry, part_entries, with_value, sent_members, entry_tree, list_tree}
+use Rattle.vms_selfdesc.proofs.Facade.{sub_members, sub_trees, device_members, device_trees, described_tree}
 
 -- without a fraction, and nested at most so deep
 pub record IsPlainTree (deepest : ℕ) (d : Data) : Type 0 where
@@ -49,18 +43,23 @@ sub_plain es name sent version =
     record { whole = or_from (has_float (list_tree entry_tree es)) false list.whole refl; flat = omega arith }
 
 subs_plain : (set : Set) (n : List ℤ) (at : ℕ) (subs : List Sub) (came : List (Option ℕ)) → ArePlain 3 (sub_trees set n at subs came)
-subs_plain set n at (s ∷ subs) (c ∷ came) =
-    (sub_plain (part_entries set s.desc (is_some c) n at) s.desc.name (is_some c) s.desc.version, subs_plain set n (at + length (desc_cells (struct_cells set) s.desc)) subs came)
+subs_plain set n at (s ∷ subs) (c ∷ came) = (
+  sub_plain (part_entries set s.desc (is_some c) n at) s.desc.name (is_some c) s.desc.version,
+  subs_plain set n
+      (at + length (desc_cells (struct_cells set) s.desc)) subs came,
+)
 subs_plain set n at _ _ = tt
 
-device_plain : (es : List Entry) (instance : ℕ) (name : List ℕ) (subs : List Data) (version : ℕ) → ArePlain 3 subs → IsPlainTree 5 (object (device_members es instance name subs version))
+device_plain : (es : List Entry) (instance : ℕ) (name : List ℕ) (subs : List Data) (version : ℕ) → ArePlain 3 subs
+    → IsPlainTree 5 (object (device_members es instance name subs version))
 device_plain es instance name subs version p =
     let list = list_plain 1 (map entry_tree es) (entries_plain es) in
     let inner = list_plain 3 subs p in
     let flat = list.flat in
     let flat' = inner.flat in
     record {
-      whole = or_from (has_float (list_tree entry_tree es)) (has_float (array (items_of subs)) || false) list.whole (or_from (has_float (array (items_of subs))) false inner.whole refl);
+      whole = or_from (has_float (list_tree entry_tree es)) (has_float (array (items_of subs)) || false) list.whole
+          (or_from (has_float (array (items_of subs))) false inner.whole refl);
       flat = omega arith;
     }
 
@@ -68,7 +67,8 @@ devices_plain : (set : Set) (devices : List Device) (images : List Image) → Ar
 devices_plain set [] images = tt
 devices_plain set (d ∷ devices) [] = tt
 devices_plain set (d ∷ devices) (image ∷ images) = (
-  device_plain (part_entries set d.desc true image.numbers 0) d.instance d.desc.name (sub_trees set image.numbers (own_cells set d) d.subs image.came) d.desc.version
+  device_plain (part_entries set d.desc true image.numbers 0) d.instance d.desc.name
+      (sub_trees set image.numbers (own_cells set d) d.subs image.came) d.desc.version
       (subs_plain set image.numbers (own_cells set d) d.subs image.came),
   devices_plain set devices images,
 )

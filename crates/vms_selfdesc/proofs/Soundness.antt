@@ -1,29 +1,10 @@
 -- What well-formed sets say of names, sizes and depths.
-use Rattle.std.proofs.Common.{◌≡◌, ℕ, suc, ◌+◌, ◌<◌, ◌≤◌, ◌^◌, List, [], ◌∷◌, length, get_or, ℤ, pos, negsuc, Bool, true, false, ◌&&◌, nat_lt, nat_le, refl, arith}
-use Rattle.std.specs.List.{list_all}
-use Rattle.std.proofs.lemmas.Bool.{and_parts, leb-true, ltb-true, ltb-false}
-use Rattle.std.proofs.lemmas.Fmt.{length-decimal-le}
-use Rattle.std.proofs.Math.ListN.{get_or-eq_default}
-use Rattle.serde_json.specs.Written.{number_text}
-use Rattle.serde_json.specs.Find.{of_integer}
-use Rattle.vms_kinds.specs.declared.Kind.{Kind}
+use Rattle.vms_selfdesc.proofs.Facade.{◌≡◌, ℕ, suc, ◌+◌, ◌<◌, ◌≤◌, ◌^◌, List, [], ◌∷◌, length, get_or, ℤ, pos, negsuc, Bool, true, false, ◌&&◌, nat_lt, nat_le}
+use Rattle.vms_selfdesc.proofs.Facade.{refl, arith, list_all, and_parts, leb-true, ltb-true, ltb-false, length-decimal-le, get_or-eq_default, number_text}
+use Rattle.vms_selfdesc.proofs.Facade.{of_integer, Kind, Item, Num, Unused, lowest, highest, MOST_UNUSED, Part, Field, Desc, Set, no_desc, counted, no_field}
+use Rattle.vms_selfdesc.proofs.Facade.{is_name, int_le, in_range, defaults_well, counts_well, is_small_item, is_small_optional, field_rules, struct_depths}
+use Rattle.vms_selfdesc.proofs.Facade.{has_few, deepest, first_long, deepest_small, is_well_formed, HasPart, desc_at, AllTrue, reach, field_sound, struct_clean}
 use Rattle.vms_kinds.specs.declared.Kind.TheVariants as kinds
-use Rattle.vms_kinds.specs.declared.Item.{Item}
-use Rattle.vms_kinds.specs.declared.Item.TheVariants.{Num, Unused}
-use Rattle.vms_kinds.specs.Codes.{lowest, highest}
-use Rattle.vms_spec.specs.declared.TheConstants.{MOST_UNUSED}
-use Rattle.vms_spec.specs.declared.Part.{Part}
-use Rattle.vms_spec.specs.Sets.{Field, Desc, Set}
-use Rattle.vms_spec.specs.Layout.{no_desc, counted, no_field}
-use Rattle.vms_spec.specs.Names.{is_name}
-use Rattle.vms_spec.specs.Rules.{int_le, in_range, defaults_well, counts_well, is_small_item, is_small_optional, field_rules}
-use Rattle.vms_spec.specs.WellFormed.{struct_depths, has_few, deepest}
-use Rattle.vms_spec.proofs.Tables.{first_long}
-use Rattle.vms_rules.proofs.StructLaws.{deepest_small}
-use Rattle.vms_desc.specs.Formed.{is_well_formed}
-use Rattle.vms_desc.specs.Parts.{HasPart, desc_at}
-use Rattle.vms_spec.proofs.Faultless.{AllTrue}
-use Rattle.vms_desc.proofs.Clean.{reach, field_sound, struct_clean}
 use Rattle.vms_selfdesc.proofs.Fits.{IsSmall, IsSoundField, AreSound}
 use Rattle.vms_selfdesc.proofs.Plain.{name_short}
 
@@ -89,7 +70,8 @@ module _ (set : Set) (well : is_well_formed set ≡ true) where
           leb-true (get_or (struct_depths set.structs) j 0) 4 (and_parts (has_few d) (nat_le (get_or (struct_depths set.structs) j 0) 4) rules.1.1.1.1.1.1.0).1
       by_place false e =
           let le = ltb-false j (length set.structs) e in
-          let long : length (struct_depths set.structs) ≤ j = omega (arith, le, first_long (λ depths d. 1 + deepest depths d.fields) set.structs (length set.structs)) in
+          let long : length (struct_depths set.structs) ≤ j =
+          omega (arith, le, first_long (λ depths d. 1 + deepest depths d.fields) set.structs (length set.structs)) in
           omega (arith, get_or-eq_default (struct_depths set.structs) 0 long)
 
   pub fields_flat : (fs : List Field) → deepest (struct_depths set.structs) fs ≤ 4

@@ -1,11 +1,5 @@
 -- The tails of a kind that is known.
-use Rattle.std.proofs.Common.{◌≡◌, ◌+◌, ◌∷◌, ◌++◌, List, ℕ, ap, codes, refl, sym, ◌∙◌}
-use Rattle.std.specs.Fmt.{digits}
-use Rattle.vms_kinds.specs.declared.Kind.{Kind}
-use Rattle.vms_kinds.specs.declared.Kind.TheVariants.{U8}
-use Rattle.vms_kinds.specs.Codes.{width}
-use Rattle.vms_words.specs.Words.{kind_word}
-use Rattle.vms_selfdesc.specs.Drafts.{absent_tail, cell_tail}
+use Rattle.vms_selfdesc.proofs.Facade.{◌≡◌, ◌+◌, ◌∷◌, ◌++◌, List, ℕ, ap, codes, refl, sym, ◌∙◌, digits, Kind, U8, width, kind_word, absent_tail, cell_tail}
 
 pub absent_same : (kind k : Kind) → kind ≡ k → absent_tail k ≡ absent_tail kind
 absent_same kind k e = ap absent_tail (sym e)

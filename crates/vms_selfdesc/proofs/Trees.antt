@@ -1,29 +1,15 @@
 -- Entries of elements and fields, written one after the other.
-use Rattle.std.proofs.Common.{◌≡◌, ℕ, suc, ◌+◌, ◌*◌, ◌-◌, ◌<◌, ◌≤◌, List, ◌∷◌, ◌++◌, length, string_bytes, refl, subst, length-append, append_assoc, get_or, map, drop, ℤ, sym, ap, ◌∙◌, arith, Bool, true, [], false, codes, None}
-use Rattle.std.proofs.lemmas.List.{drop_more, drop_all, append-nil, map-append}
-use Rattle.serde_json.specs.Data.{Data, string, boolean, array, object, Members, no_members, member, put}
-use Rattle.serde_json.specs.Written.{compact_text, comma_if, items_text, members_text}
-use Rattle.vms_spec.specs.declared.Part.{Part}
-use Rattle.vms_spec.specs.Sets.{Field, Set, Sub, AtLeast}
-use Rattle.vms_spec.specs.Layout.{Cell, no_field, field_cells, cells_from, item_size, struct_cells, capacity_of, numbers_of, no_desc}
-use Rattle.vms_spec.proofs.Sizes.{field_size}
-use Rattle.vms_elements.specs.Elements.{shapes, cells_in, field_elements, elements_from}
-use Rattle.vms_desc.specs.Asks.{field_at, own_numbers, first_cell}
-use Rattle.vms_desc.specs.Parts.{desc_at, sub_at}
-use Rattle.vms_selfdesc.specs.Entries.{Entry, entries_of}
-use Rattle.vms_selfdesc.specs.Drafts.{texts, after, AreSound, Adds, IsSound, Extends, Begins, Lays, member_text}
-use Rattle.vms_selfdesc.specs.Listing.{Lists, element_path, element_entries, field_list, part_list}
-use Rattle.vms_selfdesc.specs.Tree.{entry_tree, natural, sub_tree, sub_trees, device_tree, device_trees}
-use Rattle.vms_selfdesc.specs.declared.draft.Draft.{Draft}
-use Rattle.vms_selfdesc.specs.declared.path.Path.{Path}
+use Rattle.vms_selfdesc.proofs.Facade.{◌≡◌, ℕ, suc, ◌+◌, ◌*◌, ◌-◌, ◌<◌, ◌≤◌, List, ◌∷◌, ◌++◌, length, string_bytes, refl, subst, length-append, append_assoc}
+use Rattle.vms_selfdesc.proofs.Facade.{get_or, map, drop, ℤ, sym, ap, ◌∙◌, arith, Bool, true, [], false, codes, None, drop_more, drop_all, append-nil}
+use Rattle.vms_selfdesc.proofs.Facade.{map-append, Data, string, boolean, array, object, Members, no_members, member, put, compact_text, comma_if, items_text}
+use Rattle.vms_selfdesc.proofs.Facade.{members_text, Part, Field, Set, Sub, AtLeast, Cell, no_field, field_cells, cells_from, item_size, struct_cells}
+use Rattle.vms_selfdesc.proofs.Facade.{capacity_of, numbers_of, no_desc, field_size, shapes, cells_in, field_elements, elements_from, field_at, own_numbers}
+use Rattle.vms_selfdesc.proofs.Facade.{first_cell, desc_at, sub_at, Entry, entries_of, texts, after, AreSound, Adds, IsSound, Extends, Begins, Lays}
+use Rattle.vms_selfdesc.proofs.Facade.{member_text, Lists, element_path, element_entries, field_list, part_list, entry_tree, natural, sub_tree, sub_trees}
+use Rattle.vms_selfdesc.proofs.Facade.{device_tree, device_trees, Draft, Path, escape_byte, quoted, items_of, Image, own_cells, device_at, sub_next, sub_first}
+use Rattle.vms_selfdesc.proofs.Facade.{Text}
 use Rattle.vms_selfdesc.proofs.Plain.{further, same, unchanged, member_last}
 use Rattle.vms_selfdesc.proofs.OfElements.{of_append, of_desc, cells_are}
-use Rattle.json.specs.Print.{escape_byte, quoted}
-use Rattle.serde_json.specs.View.{items_of}
-use Rattle.vms_spec.specs.Images.{Image, own_cells}
-use Rattle.vms_desc.specs.Described.{device_at}
-use Rattle.vms_desc.proofs.AskLaws.{sub_next, sub_first}
-use Rattle.vms_selfdesc.specs.declared.text.Text.{Text}
 use Rattle.vms_selfdesc.proofs.ReadBack.{array_sound, whole_sound}
 use Rattle.vms_spec.specs.declared.Part.TheVariants as parts
 
@@ -77,7 +63,8 @@ pub leave_path : (old : Draft) (inside left : Path) (new : Draft) (ds : List Dat
     → string_bytes left.text ≡ string_bytes old.path.text → Adds old (record { text = new.text; path = left; later = new.later }) ds
 leave_path old inside left new ds adds back = record { text = adds.text; later = adds.later; sound = adds.sound; path = back }
 
-pub leaves_rest : (old now new : Draft) (whole left part rest : List Entry) → left ≡ part ++ rest → Leaves old now whole left → Lists now new part → Leaves old new whole rest
+pub leaves_rest : (old now new : Draft) (whole left part rest : List Entry) → left ≡ part ++ rest → Leaves old now whole left → Lists now new part
+    → Leaves old new whole rest
 leaves_rest old now new whole left part rest e h lists = record {
   done = h.done ++ part;
   split = h.split ∙ ap (λ (l : List Entry). h.done ++ l) e ∙ sym (append_assoc h.done part rest);
@@ -118,7 +105,8 @@ module _ (set : Set) (part : Part) (base : ℕ) (sent : Bool) (path : List ℕ) 
   pub fields_next : (at k : ℕ) → k < length (desc_at set part).fields
       → let f = field_at set part k in
       fields_list set part base k sent n path at
-      ≡ field_list set part base k sent n path at ++ fields_list set part base (k + 1) sent n path (at + capacity_of f.count * item_size (struct_cells set) f.item)
+      ≡ field_list set part base k sent n path at ++ fields_list set part base (k + 1) sent n path
+      (at + capacity_of f.count * item_size (struct_cells set) f.item)
   fields_next at k lt =
       let d = desc_at set part in
       let f = field_at set part k in
@@ -128,26 +116,32 @@ module _ (set : Set) (part : Part) (base : ℕ) (sent : Bool) (path : List ℕ) 
       let left = λ (i x : ℕ). entries_of sent path (elements_from ss d.fields d.version own n i x (drop (k + 1) d.fields)) in
       let width = field_size (cells_in ss) d.fields k f ∙ ap (λ (cs : List (List Cell)). capacity_of f.count * item_size cs f.item) (cells_are set) in
       ap (λ (fs : List Field). entries_of sent path (elements_from ss d.fields d.version own n k at fs)) (drop_more d.fields k no_field lt)
-      ∙ of_append sent path (field_elements ss d.fields d.version own n k at f) (elements_from ss d.fields d.version own n (suc k) (at + length (field_cells (cells_in ss) d.fields k f)) (drop (k + 1) d.fields))
+      ∙ of_append sent path (field_elements ss d.fields d.version own n k at f)
+      (elements_from ss d.fields d.version own n (suc k) (at + length (field_cells (cells_in ss) d.fields k f)) (drop (k + 1) d.fields))
       ∙ ap (λ (i : ℕ). field_list set part base k sent n path at ++ left i (at + length (field_cells (cells_in ss) d.fields k f))) next
       ∙ ap (λ (w : ℕ). field_list set part base k sent n path at ++ left (k + 1) (at + w)) width
 
   pub fields_whole : fields_list set part base 0 sent n path base ≡ part_list set part sent n path base
   fields_whole =
       let d = desc_at set part in
-      ap (λ (cs : List (List Cell)). entries_of sent path (elements_from (shapes set) d.fields d.version (numbers_of cs d n base) n 0 base d.fields)) (sym (cells_are set))
+      ap (λ (cs : List (List Cell)). entries_of sent path (elements_from (shapes set) d.fields d.version (numbers_of cs d n base) n 0 base d.fields))
+      (sym (cells_are set))
       ∙ sym (of_desc (shapes set) d d.version sent path n base)
 
 -- there is room for field k of these, and for the fields after it
 pub record FieldRoom (cs : List (List Cell)) (fs : List Field) (k cell most : ℕ) : Type 0 where
   pub here : cell + capacity_of (get_or fs k no_field).count * item_size cs (get_or fs k no_field).item ≤ most
-  pub later : (cell + capacity_of (get_or fs k no_field).count * item_size cs (get_or fs k no_field).item) + length (cells_from cs fs (k + 1) (drop (k + 1) fs)) ≤ most
+  pub later : (cell + capacity_of (get_or fs k no_field).count * item_size cs (get_or fs k no_field).item) + length
+      (cells_from cs fs (k + 1) (drop (k + 1) fs)) ≤ most
 
-pub field_room : (cs : List (List Cell)) (fs : List Field) (k cell most : ℕ) → k < length fs → cell + length (cells_from cs fs k (drop k fs)) ≤ most → FieldRoom cs fs k cell most
+pub field_room : (cs : List (List Cell)) (fs : List Field) (k cell most : ℕ) → k < length fs → cell + length (cells_from cs fs k (drop k fs)) ≤ most
+    → FieldRoom cs fs k cell most
 field_room cs fs k cell most lt room =
     let f = get_or fs k no_field in
     let next : suc k ≡ k + 1 = omega arith in
-    let long = ap (λ l. length (cells_from cs fs k l)) (drop_more fs k no_field lt) ∙ length-append (field_cells cs fs k f) (cells_from cs fs (suc k) (drop (k + 1) fs))
+    let long =
+    ap (λ l. length (cells_from cs fs k l)) (drop_more fs k no_field lt)
+    ∙ length-append (field_cells cs fs k f) (cells_from cs fs (suc k) (drop (k + 1) fs))
     ∙ ap (λ i. length (field_cells cs fs k f) + length (cells_from cs fs i (drop (k + 1) fs))) next in
     let size = field_size cs fs k f in
     record { here = omega (arith, long, size, room); later = omega (arith, long, size, room) }
@@ -160,7 +154,8 @@ pub record Remain (old now : Draft) (whole left : List Data) : Type 0 where
   pub split : whole ≡ done ++ left
   pub adds : Adds old now done
 
-pub remain_rest : (old now new : Draft) (whole left rest : List Data) (x : Data) → left ≡ x ∷ rest → Remain old now whole left → Adds now new (x ∷ []) → Remain old new whole rest
+pub remain_rest : (old now new : Draft) (whole left rest : List Data) (x : Data) → left ≡ x ∷ rest → Remain old now whole left → Adds now new (x ∷ [])
+    → Remain old new whole rest
 remain_rest old now new whole left rest x e h adds = record {
   done = h.done ++ x ∷ [];
   split = h.split ∙ ap (λ (l : List Data). h.done ++ l) e ∙ sym (append_assoc h.done (x ∷ []) rest);
@@ -197,7 +192,8 @@ unfolding escape_byte
 front_text s = refl
 
 -- an object that begins with fields
-pub fields_adds : (a b l e : Draft) (d list : Data) (ms : Members) (rest : List ℕ) → Begins a b (codes "{\"fields\":") → Lays b l list → Extends l.text e.text rest → members_text true ms ≡ rest
+pub fields_adds : (a b l e : Draft) (d list : Data) (ms : Members) (rest : List ℕ) → Begins a b (codes "{\"fields\":") → Lays b l list
+    → Extends l.text e.text rest → members_text true ms ≡ rest
     → d ≡ object (member (codes "fields") list ms) → IsSound d → e.later ≡ true → string_bytes e.path.text ≡ string_bytes l.path.text → Adds a e (d ∷ [])
 fields_adds a b l e d list ms rest begun lays more is equal sound later path = record {
   text = same a.text e.text (further a.text l.text e.text _ _ (further a.text b.text l.text _ _ begun.text lays.text) more) pieces;
@@ -231,7 +227,8 @@ head_text name sent version =
 -- those of a device
 abbrev pub tail_members : ℕ → List ℕ → Data → ℕ → Members
 tail_members instance name subs version =
-    member (codes "instance_id") (natural instance) (member (codes "name") (string name) (member (codes "subsections") subs (member (codes "version") (natural version) no_members)))
+    member (codes "instance_id") (natural instance)
+    (member (codes "name") (string name) (member (codes "subsections") subs (member (codes "version") (natural version) no_members)))
 
 pub device_text : (instance : ℕ) (name : List ℕ) (subs : Data) (version : ℕ) → members_text true (tail_members instance name subs version)
     ≡ (member_text (codes "instance_id") (natural instance) ++ member_text (codes "name") (string name))
@@ -284,12 +281,14 @@ subs_next set i image j lt lt' =
 
 pub subs_end : (set : Set) (i : ℕ) (image : Image) (j : ℕ) → length (device_at set i).subs ≤ j
     → sub_trees set image.numbers (first_cell set (parts.Sub i j)) (drop j (device_at set i).subs) (drop j image.came) ≡ []
-subs_end set i image j le = ap (λ xs. sub_trees set image.numbers (first_cell set (parts.Sub i j)) xs (drop j image.came)) (drop_all j (device_at set i).subs le)
+subs_end set i image j le =
+    ap (λ xs. sub_trees set image.numbers (first_cell set (parts.Sub i j)) xs (drop j image.came)) (drop_all j (device_at set i).subs le)
 
 -- ---- devices
 
 pub devices_next : (set : Set) (images : List Image) (i : ℕ) (image : Image) → i < length set.devices → i < length images → image ≡ get_or images i image
-    → device_trees set (drop i set.devices) (drop i images) ≡ device_tree set (device_at set i) image ∷ device_trees set (drop (i + 1) set.devices) (drop (i + 1) images)
+    → device_trees set (drop i set.devices) (drop i images) ≡ device_tree set (device_at set i) image ∷ device_trees set (drop (i + 1) set.devices)
+    (drop (i + 1) images)
 devices_next set images i image lt lt' is =
     ap (λ xs. device_trees set xs (drop i images)) (drop_more set.devices i (record { instance = 0; desc = no_desc; subs = [] }) lt)
     ∙ ap (λ ys. device_trees set (device_at set i ∷ drop (i + 1) set.devices) ys) (drop_more images i image lt')

@@ -1,16 +1,11 @@
 -- A description is read back from its text.
-use Rattle.std.proofs.Common.{◌≡◌, ℕ, suc, max, ◌≤◌, List, [], append-nil, Option, Some, option_and_then, refl, sym, ap, ap₂, ◌∙◌, arith}
-use Rattle.json.specs.Token.{Token}
-use Rattle.json.specs.Lex.{tokens}
+use Rattle.vms_selfdesc.proofs.Facade.{◌≡◌, ℕ, suc, max, ◌≤◌, List, [], Option, Some, refl, sym, ap, ap₂, ◌∙◌, arith, Token, tokens, tokens-print}
+use Rattle.vms_selfdesc.proofs.Facade.{value-json_tokens, ArePrintable-json_tokens, Data, array, object, Items, no_items, item, Members, no_members, member}
+use Rattle.vms_selfdesc.proofs.Facade.{depth, items_depth, members_depth, of_json, read, max_depth, outline, items_outline, members_outline, compact_text}
+use Rattle.vms_selfdesc.proofs.Facade.{print-outline, IsSound}
+use Rattle.std.proofs.Common.{append-nil, option_and_then}
 use Rattle.json.specs.Json as json
 use Rattle.json.specs.Tree as tree
-use Rattle.json.proofs.Printed.Tokens.{tokens-print}
-use Rattle.json.proofs.Printed.Trees.{value-json_tokens, ArePrintable-json_tokens}
-use Rattle.serde_json.specs.Data.{Data, array, object, Items, no_items, item, Members, no_members, member, depth, items_depth, members_depth}
-use Rattle.serde_json.specs.Read.{of_json, read, max_depth}
-use Rattle.serde_json.specs.Written.{outline, items_outline, members_outline, compact_text}
-use Rattle.serde_json.proofs.Texts.{print-outline}
-use Rattle.vms_selfdesc.specs.Drafts.{IsSound}
 
 mutual
   tree_depth : (d : Data) → tree.depth (outline d) ≡ depth d
@@ -34,4 +29,5 @@ pub reads_whole : (d : Data) (text : List ℕ) → text ≡ compact_text d → I
 reads_whole d text e sound shallow =
     let ts = tree.json_tokens (outline d) in
     let found = ap tokens (e ∙ sym (print-outline d)) ∙ tokens-print ts (ArePrintable-json_tokens (outline d) sound.numbers) in
-    ap whole (ap (json.value max_depth) (found ∙ sym (append-nil ts)) ∙ value-json_tokens (outline d) max_depth [] (omega (arith, tree_depth d, shallow))) ∙ sound.read
+    ap whole (ap (json.value max_depth) (found ∙ sym (append-nil ts)) ∙ value-json_tokens (outline d) max_depth [] (omega (arith, tree_depth d, shallow)))
+    ∙ sound.read

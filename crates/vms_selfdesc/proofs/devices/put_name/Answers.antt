@@ -1,4 +1,4 @@
-use Rattle.std.proofs.Common.{codes, refl}
+use Rattle.vms_selfdesc.proofs.Facade.{codes, refl}
 use Rattle.vms_selfdesc.proofs.Plain.{further, name_plain}
 use Rattle.vms_selfdesc.proofs.devices.put_name.Goals as goal
 

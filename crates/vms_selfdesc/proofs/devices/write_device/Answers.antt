@@ -1,14 +1,5 @@
-use Rattle.std.proofs.Common.{[], ◌∷◌, true, ap, ◌∙◌, arith, refl, codes}
-use Rattle.serde_json.specs.Data.{array, object}
-use Rattle.serde_json.specs.View.{items_of}
-use Rattle.vms_spec.specs.Sets.{Device}
-use Rattle.vms_spec.specs.Images.{own_cells}
-use Rattle.vms_desc.specs.Described.{described, device_at}
-use Rattle.vms_image.specs.Typed.{state_of}
-use Rattle.vms_desc.proofs.AskLaws.{own_inside_device}
-use Rattle.vms_selfdesc.specs.Entries.{part_entries}
-use Rattle.vms_selfdesc.specs.Tree.{entry_tree, list_tree, sub_trees, device_members}
-use Rattle.vms_selfdesc.specs.declared.draft.Draft.{Draft}
+use Rattle.vms_selfdesc.proofs.Facade.{true, ap, ◌∙◌, arith, refl, codes, array, object, items_of, Device, own_cells, described, device_at, state_of}
+use Rattle.vms_selfdesc.proofs.Facade.{own_inside_device, part_entries, entry_tree, list_tree, sub_trees, device_members, Draft}
 use Rattle.vms_selfdesc.proofs.Plain.{further, device_plain, name_plain}
 use Rattle.vms_selfdesc.proofs.ReadBack.{device_sound}
 use Rattle.vms_selfdesc.proofs.Trees.{fields_adds, tail_members, device_text}
@@ -26,7 +17,8 @@ write_fields-requires-clause-no_path c = c.begin.ensures.keeps.path ∙ c.requir
 pub put_name-requires : goal.put_name-requires
 put_name-requires c =
     let set = described c.args.lister.now.set.now in
-    rw (ap (λ (d : Device). d.desc.name) c.device-described.ensures) (device_plain set c.args.lister.now.set.now.well_formed c.args.device c.requires.device.is_device)
+    rw (ap (λ (d : Device). d.desc.name) c.device-described.ensures)
+    (device_plain set c.args.lister.now.set.now.well_formed c.args.device c.requires.device.is_device)
 
 pub write_subs-requires-clause-no_path : goal.write_subs-requires-clause-no_path
 write_subs-requires-clause-no_path c = c.write_fields.ensures.path ∙ c.begin.ensures.keeps.path ∙ c.requires.no_path
@@ -52,7 +44,9 @@ returns c =
     let last = further c.write_subs.new.draft.text c.put_natural.new.text end.text _ _ version.text c.push-2.ensures in
     let inner = further c.push.new.self c.write_subs.new.draft.text end.text _ _ subs.text last in
     let rest = further laid.text c.put_name.new.text end.text _ _ name.text (further c.put_name.new.text c.push.new.self end.text _ _ c.push.ensures inner) in
-    let adds = fields_adds c.args.draft.now c.begin.new.draft laid end (object (device_members entries code.instance code.desc.name trees code.desc.version)) (list_tree entry_tree entries)
+    let adds =
+    fields_adds c.args.draft.now c.begin.new.draft laid end (object (device_members entries code.instance code.desc.name trees code.desc.version))
+    (list_tree entry_tree entries)
     (tail_members code.instance code.desc.name (array (items_of trees)) code.desc.version) _ c.begin.ensures fields rest
     (device_text code.instance code.desc.name (array (items_of trees)) code.desc.version) refl
     (device_sound entries code.instance code.desc.name trees code.desc.version fields.sound name.sound subs.sound version.sound) refl subs.path in

@@ -1,6 +1,4 @@
-use Rattle.std.proofs.Common.{◌<◌, ◌≤◌, ◌∙◌, length, arith}
-use Rattle.vms_desc.specs.Described.{described, device_at}
-use Rattle.vms_image.specs.Typed.{state_of}
+use Rattle.vms_selfdesc.proofs.Facade.{◌<◌, ◌≤◌, ◌∙◌, length, arith, described, device_at, state_of}
 use Rattle.vms_selfdesc.proofs.Trees.{remain_all, remain_rest, remain_none, subs_begin, subs_next, subs_end}
 use Rattle.vms_selfdesc.proofs.devices.write_each.Goals as goal
 
@@ -17,7 +15,8 @@ loop-sub-preserved c =
     let image = state_of c.args.lister.now.image.now in
     let j = c.loop-sub.sub in
     let lt : j < length (device_at set i).subs = omega (arith, c.sub_count-sub-end.ensures) in
-    remain_rest c.args.draft.now c.loop-sub.draft c.write_sub.new.draft _ _ _ _ (subs_next set i image j lt (omega (arith, c.requires.device.subs))) c.loop-sub.invariant c.write_sub.ensures
+    remain_rest c.args.draft.now c.loop-sub.draft c.write_sub.new.draft _ _ _ _
+    (subs_next set i image j lt (omega (arith, c.requires.device.subs))) c.loop-sub.invariant c.write_sub.ensures
 
 pub returns : goal.returns
 returns c =

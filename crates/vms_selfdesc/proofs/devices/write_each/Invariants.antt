@@ -1,10 +1,5 @@
-use Rattle.std.proofs.Common.{drop}
+use Rattle.vms_selfdesc.proofs.Facade.{drop, own_cells, first_cell, described, device_at, state_of, sub_trees}
 use Rattle.vms_spec.specs.declared.Part.TheVariants as parts
-use Rattle.vms_spec.specs.Images.{own_cells}
-use Rattle.vms_desc.specs.Asks.{first_cell}
-use Rattle.vms_desc.specs.Described.{described, device_at}
-use Rattle.vms_image.specs.Typed.{state_of}
-use Rattle.vms_selfdesc.specs.Tree.{sub_trees}
 use Rattle.vms_selfdesc.proofs.Trees.{Remain}
 use Rattle.vms_selfdesc.proofs.devices.write_each.Given as goal
 

@@ -1,6 +1,4 @@
-use Rattle.std.proofs.Common.{length, ap, refl, arith}
-use Rattle.vms_selfdesc.specs.Listing.{set_in}
-use Rattle.vms_selfdesc.specs.declared.draft.Draft.{Draft}
+use Rattle.vms_selfdesc.proofs.Facade.{length, ap, refl, arith, set_in, Draft}
 use Rattle.vms_selfdesc.proofs.Paths.{few_levels}
 use Rattle.vms_selfdesc.proofs.Trees.{lays}
 use Rattle.vms_selfdesc.proofs.devices.write_fields.Goals as goal

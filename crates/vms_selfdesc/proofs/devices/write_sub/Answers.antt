@@ -1,14 +1,6 @@
-use Rattle.std.proofs.Common.{true, ℕ, Bool, List, [], ◌∷◌, None, is_some, get_or, ap, ◌∙◌, arith, codes, refl}
-use Rattle.serde_json.specs.Data.{string, boolean, object, no_members, member}
-use Rattle.vms_spec.specs.Sets.{Desc}
+use Rattle.vms_selfdesc.proofs.Facade.{true, ℕ, Bool, List, None, is_some, get_or, ap, ◌∙◌, arith, codes, refl, string, boolean, object, no_members, member}
+use Rattle.vms_selfdesc.proofs.Facade.{Desc, described, desc_at, sub_inside, part_entries, numbers_in, natural, entry_tree, list_tree, sub_members, Draft}
 use Rattle.vms_spec.specs.declared.Part.TheVariants as parts
-use Rattle.vms_desc.specs.Described.{described}
-use Rattle.vms_desc.specs.Parts.{desc_at}
-use Rattle.vms_desc.proofs.AskLaws.{sub_inside}
-use Rattle.vms_selfdesc.specs.Entries.{part_entries}
-use Rattle.vms_selfdesc.specs.Listing.{numbers_in}
-use Rattle.vms_selfdesc.specs.Tree.{natural, entry_tree, list_tree, sub_members}
-use Rattle.vms_selfdesc.specs.declared.draft.Draft.{Draft}
 use Rattle.vms_selfdesc.proofs.Plain.{further, sub_plain}
 use Rattle.vms_selfdesc.proofs.ReadBack.{sub_sound}
 use Rattle.vms_selfdesc.proofs.Trees.{fields_adds, head_text}
@@ -30,7 +22,8 @@ write_fields-requires-clause-no_path c = c.begin.ensures.keeps.path ∙ c.requir
 pub put_sub_head-requires : goal.put_sub_head-requires
 put_sub_head-requires c =
     let set = described c.args.lister.now.set.now in
-    rw (ap (λ (d : Desc). d.name) c.desc.ensures) (sub_plain set c.args.lister.now.set.now.well_formed c.args.device c.args.sub c.requires.device.is_device c.requires.is_sub)
+    rw (ap (λ (d : Desc). d.name) c.desc.ensures)
+    (sub_plain set c.args.lister.now.set.now.well_formed c.args.device c.args.sub c.requires.device.is_device c.requires.is_sub)
 
 pub returns : goal.returns
 returns c =
@@ -54,5 +47,6 @@ returns c =
     let same =
     ap (λ (x : Bool). tree x desc.name desc.version cell) (c.is_some-sent.ensures ∙ ap is_some c.came.ensures)
     ∙ ap (λ (d : Desc). tree (is_some (get_or lister.image.now.came c.args.sub None)) d.name d.version cell) c.desc.ensures
-    ∙ ap (λ (x : ℕ). tree (is_some (get_or lister.image.now.came c.args.sub None)) (desc_at set part).name (desc_at set part).version x) c.first_cell-cell.ensures in
+    ∙ ap (λ (x : ℕ). tree (is_some (get_or lister.image.now.came c.args.sub None)) (desc_at set part).name
+    (desc_at set part).version x) c.first_cell-cell.ensures in
     rw same at adds

@@ -1,4 +1,4 @@
-use Rattle.serde_json.specs.Data.{boolean}
+use Rattle.vms_selfdesc.proofs.Facade.{boolean}
 use Rattle.vms_selfdesc.proofs.Plain.{puts}
 use Rattle.vms_selfdesc.proofs.ReadBack.{flag_sound}
 use Rattle.vms_selfdesc.proofs.draft.put_flag.Goals as goal

@@ -1,5 +1,4 @@
-use Rattle.std.proofs.Common.{refl}
-use Rattle.vms_selfdesc.specs.Tree.{natural}
+use Rattle.vms_selfdesc.proofs.Facade.{refl, natural}
 use Rattle.vms_selfdesc.proofs.Plain.{puts}
 use Rattle.vms_selfdesc.proofs.draft.put_natural.Goals as goal
 

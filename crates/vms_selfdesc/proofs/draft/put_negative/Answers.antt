@@ -1,6 +1,4 @@
-use Rattle.std.proofs.Common.{◌∙◌, sym, ap, w64}
-use Rattle.std.specs.Fmt.{signed_decimal}
-use Rattle.std.proofs.Math.Facts.{to_z-of_z}
+use Rattle.vms_selfdesc.proofs.Facade.{◌∙◌, sym, ap, w64, signed_decimal, to_z-of_z}
 use Rattle.vms_selfdesc.proofs.Plain.{same}
 use Rattle.vms_selfdesc.proofs.ReadBack.{negative_sound}
 use Rattle.vms_selfdesc.proofs.draft.put_negative.Goals as goal

@@ -1,5 +1,4 @@
-use Rattle.std.proofs.Common.{[], ◌∷◌, ◌++◌}
-use Rattle.serde_json.specs.Data.{string}
+use Rattle.vms_selfdesc.proofs.Facade.{[], ◌∷◌, ◌++◌, string}
 use Rattle.vms_selfdesc.proofs.Plain.{further, puts, quoted_plain}
 use Rattle.vms_selfdesc.proofs.ReadBack.{string_sound}
 use Rattle.vms_selfdesc.proofs.draft.put_text.Goals as goal

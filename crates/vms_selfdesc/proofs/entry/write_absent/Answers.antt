@@ -1,13 +1,5 @@
-use Rattle.std.proofs.Common.{true, codes, refl, string_bytes}
-use Rattle.std.specs.Int.{w128}
-use Rattle.std.proofs.Math.Facts.{to_z-of_z}
-use Rattle.serde_json.specs.Data.{number, no_members, member}
-use Rattle.serde_json.specs.Find.{of_integer}
-use Rattle.serde_json.specs.Written.{members_text}
-use Rattle.vms_words.specs.Words.{kind_word}
-use Rattle.vms_selfdesc.specs.Entries.{absent_entry}
-use Rattle.vms_selfdesc.specs.Tree.{entry_tree}
-use Rattle.vms_selfdesc.specs.declared.draft.Draft.{Draft}
+use Rattle.vms_selfdesc.proofs.Facade.{true, codes, refl, string_bytes, w128, to_z-of_z, number, no_members, member, of_integer, members_text, kind_word}
+use Rattle.vms_selfdesc.proofs.Facade.{absent_entry, entry_tree, Draft}
 use Rattle.vms_selfdesc.proofs.Plain.{further, same, entry_adds, size_members, absent_text}
 use Rattle.vms_selfdesc.proofs.ReadBack.{absent_sound}
 use Rattle.vms_selfdesc.proofs.entry.write_absent.Goals as goal

@@ -1,15 +1,8 @@
-use Rattle.std.proofs.Common.{true, refl, string_bytes, ◌∙◌, arith}
-use Rattle.serde_json.specs.Data.{no_members}
-use Rattle.serde_json.specs.Written.{members_text}
-use Rattle.vms_kinds.specs.Codes.{width}
-use Rattle.vms_words.specs.Words.{kind_word}
-use Rattle.vms_selfdesc.specs.Entries.{sent_entry}
-use Rattle.vms_selfdesc.specs.Tree.{entry_tree}
-use Rattle.vms_selfdesc.specs.declared.draft.Draft.{Draft}
+use Rattle.vms_selfdesc.proofs.Facade.{true, refl, string_bytes, ◌∙◌, arith, no_members, members_text, width, kind_word, sent_entry, entry_tree, Draft}
+use Rattle.vms_selfdesc.proofs.Facade.{width_small}
 use Rattle.vms_selfdesc.proofs.Plain.{same, entry_adds, size_members, tail_text}
 use Rattle.vms_selfdesc.proofs.ReadBack.{natural_sound, sent_sound}
 use Rattle.vms_selfdesc.proofs.entry.write_present.Goals as goal
-use Rattle.vms_spec.proofs.KindLaws.{width_small}
 
 pub returns : goal.returns
 returns c =

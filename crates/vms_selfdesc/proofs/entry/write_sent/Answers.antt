@@ -1,9 +1,4 @@
-use Rattle.std.proofs.Common.{true, codes, refl, string_bytes}
-use Rattle.serde_json.specs.Data.{no_members}
-use Rattle.serde_json.specs.Written.{members_text}
-use Rattle.vms_selfdesc.specs.Entries.{sent_entry}
-use Rattle.vms_selfdesc.specs.Tree.{entry_tree}
-use Rattle.vms_selfdesc.specs.declared.draft.Draft.{Draft}
+use Rattle.vms_selfdesc.proofs.Facade.{true, codes, refl, string_bytes, no_members, members_text, sent_entry, entry_tree, Draft}
 use Rattle.vms_selfdesc.proofs.Plain.{further, same, entry_adds, size_members, size_text}
 use Rattle.vms_selfdesc.proofs.ReadBack.{sent_sound}
 use Rattle.vms_selfdesc.proofs.entry.write_sent.Goals as goal

@@ -1,19 +1,9 @@
-use Rattle.std.proofs.Common.{rules, arith, sym, ap, ◌∙◌, ◌≡◌, ℕ, ◌+◌, ◌*◌, ◌-◌, ◌<◌, ◌^◌, List, ◌++◌, length, length-append, codes}
-use Rattle.std.proofs.Common.{string_bytes, decimal, refl}
-use Rattle.vms_spec.specs.Sets.{Field}
-use Rattle.vms_spec.specs.Layout.{item_size, struct_cells, capacity_of}
-use Rattle.vms_spec.proofs.Sizes.{elements_fit}
-use Rattle.vms_parts.specs.Views.{field_of}
-use Rattle.vms_desc.specs.Asks.{field_at, own_numbers}
-use Rattle.vms_desc.specs.Described.{described}
-use Rattle.vms_desc.specs.Parts.{desc_at}
-use Rattle.vms_desc.proofs.AskLaws.{found_field, here_fields}
-use Rattle.vms_selfdesc.specs.Listing.{element_path, element_entries, item_list, elements_list, field_list, part_list}
+use Rattle.vms_selfdesc.proofs.Facade.{rules, arith, sym, ap, ◌∙◌, ◌≡◌, ℕ, ◌+◌, ◌*◌, ◌-◌, ◌<◌, ◌^◌, List, ◌++◌, length, length-append, codes, string_bytes}
+use Rattle.vms_selfdesc.proofs.Facade.{decimal, refl, Field, item_size, struct_cells, capacity_of, elements_fit, field_of, field_at, own_numbers, described}
+use Rattle.vms_selfdesc.proofs.Facade.{desc_at, found_field, here_fields, element_path, element_entries, item_list, elements_list, field_list, part_list, Draft}
+use Rattle.vms_selfdesc.proofs.Facade.{IsPlain, HasElements, item_levels}
 use Rattle.vms_selfdesc.proofs.Trees.{fields_list, fields_whole, leaves_same, leaves_rest, leave_path, element_room, elements_next, next_element, fields_next, field_room}
 use Rattle.vms_selfdesc.proofs.OfElements.{field_needs, some_elements, array_many, field_run, struct_place, struct_lower, struct_list, width_code}
-use Rattle.vms_selfdesc.specs.declared.draft.Draft.{Draft}
-use Rattle.vms_selfdesc.specs.Drafts.{IsPlain}
-use Rattle.vms_selfdesc.specs.Needs.{HasElements, item_levels}
 use Rattle.vms_selfdesc.proofs.Plain.{plain_append, element_plain, dot_plain, name_plain, field_name}
 use Rattle.vms_selfdesc.proofs.Paths.{enters, index_long, item_levels_are, levels_are}
 use Rattle.vms_selfdesc.proofs.fields.+list.Goals as goal
@@ -27,7 +17,9 @@ list_item-list_struct-requires t c =
     let item = c.args.field.now.item in
     let j = c.in-Struct.number in
     let lower = struct_lower set well item j c.in-Struct.is c.requires.cells.reaches in
-    let place = struct_place set well item j c.in-Struct.is c.requires.cells.reaches c.args.lister.now.image.now.numbers c.args.place.cell c.requires.cells.few c.requires.cells.room in
+    let place =
+    struct_place set well item j c.in-Struct.is c.requires.cells.reaches c.args.lister.now.image.now.numbers c.args.place.cell c.requires.cells.few
+    c.requires.cells.room in
     let path = string_bytes c.args.draft.now.path.text in
     let long = ap length c.enter.ensures ∙ length-append path (codes ".") in (
       search rules,
@@ -54,7 +46,9 @@ list_item-returns-in-Struct t c =
     let draft = c.args.draft.now in
     let same = struct_list set well item j c.in-Struct.is c.requires.cells.reaches c.args.field.now.default c.args.place.sent (string_bytes draft.path.text)
     (string_bytes c.enter.new.self.text) c.args.lister.now.image.now.numbers c.args.place.cell c.enter.ensures in
-    let entered = enters draft.path.text c.list_struct.new.draft.path.text c.len-kept.result (codes ".") c.len-kept.ensures (c.list_struct.ensures.path ∙ c.enter.ensures) in
+    let entered =
+    enters draft.path.text c.list_struct.new.draft.path.text c.len-kept.result (codes ".") c.len-kept.ensures
+    (c.list_struct.ensures.path ∙ c.enter.ensures) in
     rw same at (leave_path draft c.enter.new.self c.leave.new.self c.list_struct.new.draft _ c.list_struct.ensures (c.leave.ensures ∙ entered.back))
 
 pub list_item-list_sent-requires-clause-word : goal.list_item-list_sent-requires-clause-word
@@ -73,10 +67,12 @@ list_elements-list_item-requires t c =
     let inv = c.loop-number.invariant in
     let path = string_bytes c.args.draft.now.path.text in
     let elements : HasElements set (field_of c.args.field.now) c.loop-number.cell 1 c.args.lister.now.image.now.numbers = record cells {
-      room = element_room (item_size (struct_cells set) c.args.field.now.item) c.args.place.cell i c.args.count c.loop-number.cell (length c.args.lister.now.image.now.numbers) c.loop-number-test.true inv.here cells.room;
+      room = element_room (item_size (struct_cells set) c.args.field.now.item) c.args.place.cell i c.args.count c.loop-number.cell
+          (length c.args.lister.now.image.now.numbers) c.loop-number-test.true inv.here cells.room;
     } in
     let small : i < 2 ^ 64 = omega (arith, c.loop-number-test.true, c.ranges.count.fits) in
-    let plain : IsPlain (string_bytes c.enter_element.new.self.text) = rw (c.enter_element.ensures, inv.lists.lists.path) (element_plain path i small c.requires.path) in
+    let plain : IsPlain (string_bytes c.enter_element.new.self.text) =
+    rw (c.enter_element.ensures, inv.lists.lists.path) (element_plain path i small c.requires.path) in
     let long = index_long (string_bytes c.loop-number.draft.path.text) i (omega (arith, c.loop-number-test.true, c.ranges.count.fits)) in
     (search rules, (elements, (plain, omega (arith, c.requires.deep, ap length c.enter_element.ensures, long, ap length inv.lists.lists.path))))
 
@@ -127,7 +123,8 @@ pub list_run-returns-in_default : goal.list_run-returns-in_default
 list_run-returns-in_default t c =
     let set = described c.args.lister.now.set.now in
     let f = field_of c.args.field.now in
-    rw (array_many (item_list set f c.args.place.sent c.args.lister.now.image.now.numbers) f.count c.args.count (string_bytes c.args.draft.now.path.text) c.args.place.cell
+    rw (array_many (item_list set f c.args.place.sent c.args.lister.now.image.now.numbers) f.count c.args.count
+    (string_bytes c.args.draft.now.path.text) c.args.place.cell
     (item_size (struct_cells set) f.item) c.in_default.not-One) c.list_elements.ensures
 
 pub list_field-list_run-requires : goal.list_field-list_run-requires
@@ -139,7 +136,8 @@ list_field-list_run-requires t c =
     let f = c.index-as_slice-at.result in
     let n = c.args.lister.now.image.now.numbers in
     let fields = here_fields set part c.desc.result.now c.as_slice.result.now c.desc.ensures c.as_slice.ensures in
-    let is : field_of f ≡ field_at set part k = found_field c.as_slice.result.now (desc_at set part).fields k f fields c.requires.field c.index-as_slice-at.is in
+    let is : field_of f ≡ field_at set part k =
+    found_field c.as_slice.result.now (desc_at set part).fields k f fields c.requires.field c.index-as_slice-at.is in
     let needs = field_needs set well part c.args.within.cell n c.requires.place k c.args.at.cell 1 (field_of f) c.requires.field is
     (some_elements set well part c.args.within.cell n c.requires.place k c.requires.field) c.requires.room in
     let fewer = elements_fit (field_at set part k).count (own_numbers set part n c.args.within.cell) in
@@ -148,7 +146,8 @@ list_field-list_run-requires t c =
     let lower = needs.lower in
     let name = field_name set well part k c.requires.place.has c.requires.field in
     let named = c.enter.ensures ∙ ap (λ (x : List ℕ). string_bytes c.args.draft.now.path.text ++ x) (c.as_str.ensures ∙ ap (λ (x : Field). x.name) is) in
-    let plain : IsPlain (string_bytes c.enter.new.self.text) = rw named (plain_append (string_bytes c.args.draft.now.path.text) (field_at set part k).name c.requires.path name.plain) in
+    let plain : IsPlain (string_bytes c.enter.new.self.text) =
+    rw named (plain_append (string_bytes c.args.draft.now.path.text) (field_at set part k).name c.requires.path name.plain) in
     let long = ap length named ∙ length-append (string_bytes c.args.draft.now.path.text) (field_at set part k).name in (
       search rules,
       (
@@ -181,11 +180,14 @@ list_field-returns t c =
     let n = c.args.lister.now.image.now.numbers in
     let draft = c.args.draft.now in
     let fields = here_fields set part c.desc.result.now c.as_slice.result.now c.desc.ensures c.as_slice.ensures in
-    let is : field_of f ≡ field_at set part k = found_field c.as_slice.result.now (desc_at set part).fields k f fields c.requires.field c.index-as_slice-at.is in
+    let is : field_of f ≡ field_at set part k =
+    found_field c.as_slice.result.now (desc_at set part).fields k f fields c.requires.field c.index-as_slice-at.is in
     let same = field_run set part c.args.within.cell k c.args.within.sent n (string_bytes draft.path.text) c.args.at.cell (field_of f) c.is_sent-sent.result
     (string_bytes c.enter.new.self.text) c.elements-count.result is c.is_sent-sent.ensures
     (c.enter.ensures ∙ ap (λ (name : List ℕ). string_bytes draft.path.text ++ name) c.as_str.ensures) c.elements-count.ensures in
-    let entered = enters draft.path.text c.list_run.new.draft.path.text c.len-kept.result c.as_str.result.now c.len-kept.ensures (c.list_run.ensures.path ∙ c.enter.ensures) in
+    let entered =
+    enters draft.path.text c.list_run.new.draft.path.text c.len-kept.result c.as_str.result.now c.len-kept.ensures
+    (c.list_run.ensures.path ∙ c.enter.ensures) in
     rw same at (leave_path draft c.enter.new.self c.leave.new.self c.list_run.new.draft _ c.list_run.ensures (c.leave.ensures ∙ entered.back))
 
 -- ---- the fields of a part
@@ -222,7 +224,8 @@ list_part-loop-field-init t c =
     let n = c.args.lister.now.image.now.numbers in
     let path = string_bytes c.args.draft.now.path.text in
     record {
-      lists = leaves_same c.args.draft.now (part_list set part place.sent n path place.cell) (fields_list set part place.cell 0 place.sent n path place.cell) (sym (fields_whole set part place.cell place.sent path n));
+      lists = leaves_same c.args.draft.now (part_list set part place.sent n path place.cell) (fields_list set part place.cell 0 place.sent n path place.cell)
+          (sym (fields_whole set part place.cell place.sent path n));
       room = c.requires.place.room;
     }
 

@@ -1,11 +1,6 @@
-use Rattle.std.proofs.Common.{◌≡◌, ◌≤◌, ◌+◌, ◌-◌, ◌*◌, length, drop, string_bytes}
-use Rattle.vms_spec.specs.Layout.{item_size, cells_from, struct_cells}
-use Rattle.vms_parts.specs.Views.{field_of}
-use Rattle.vms_desc.specs.Described.{described}
-use Rattle.vms_desc.specs.Parts.{desc_at}
-use Rattle.vms_selfdesc.specs.Listing.{element_entries, item_list, elements_list, part_list}
+use Rattle.vms_selfdesc.proofs.Facade.{◌≡◌, ◌≤◌, ◌+◌, ◌-◌, ◌*◌, length, drop, string_bytes, item_size, cells_from, struct_cells, field_of, described, desc_at}
+use Rattle.vms_selfdesc.proofs.Facade.{element_entries, item_list, elements_list, part_list, item_rank, part_rank}
 use Rattle.vms_selfdesc.proofs.Trees.{fields_list, Leaves}
-use Rattle.vms_desc.proofs.Ranks.{item_rank, part_rank}
 use Rattle.vms_selfdesc.proofs.fields.+list.Given as goal
 
 abbrev pub decreases-list_item : goal.decreases-list_item

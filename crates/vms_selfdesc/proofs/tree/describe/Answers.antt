@@ -1,7 +1,4 @@
-use Rattle.std.proofs.Common.{◌∙◌, length, map, string_bytes, ap, arith}
-use Rattle.std.proofs.lemmas.Result.{IfOk-weaker}
-use Rattle.vms_desc.specs.Described.{described}
-use Rattle.vms_image.specs.Typed.{state_of}
+use Rattle.vms_selfdesc.proofs.Facade.{◌∙◌, length, map, string_bytes, ap, arith, IfOk-weaker, described, state_of}
 use Rattle.vms_selfdesc.proofs.Bounds.{text_reads, text_short}
 use Rattle.vms_selfdesc.proofs.Plain.{wrote}
 use Rattle.vms_selfdesc.proofs.tree.describe.Goals as goal

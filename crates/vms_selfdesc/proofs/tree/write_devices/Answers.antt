@@ -1,7 +1,4 @@
-use Rattle.std.proofs.Common.{◌<◌, ◌≤◌, ◌∙◌, length, map, refl, arith}
-use Rattle.vms_desc.specs.Described.{described}
-use Rattle.vms_image.specs.Typed.{state_of}
-use Rattle.vms_image.proofs.States.{states_long, state_at}
+use Rattle.vms_selfdesc.proofs.Facade.{◌<◌, ◌≤◌, ◌∙◌, length, map, refl, arith, described, state_of, states_long, state_at}
 use Rattle.vms_selfdesc.proofs.Bounds.{ready_device}
 use Rattle.vms_selfdesc.proofs.Trees.{remain_all, remain_rest, remain_none, devices_next, devices_end}
 use Rattle.vms_selfdesc.proofs.tree.write_devices.Goals as goal
@@ -16,7 +13,8 @@ write_device-requires-clause-device c =
     let k = c.loop-device.device in
     let image = c.index-images-device.result in
     let lt : k < length (map state_of images) = omega (arith, c.loop-device-test.true, states_long images) in
-    ready_device set c.args.set.now.well_formed (map state_of images) c.requires.ready k (state_of image) lt (state_at images k image c.loop-device-test.true c.index-images-device.is)
+    ready_device set c.args.set.now.well_formed (map state_of images) c.requires.ready k (state_of image) lt
+    (state_at images k image c.loop-device-test.true c.index-images-device.is)
 
 pub write_device-requires-clause-no_path : goal.write_device-requires-clause-no_path
 write_device-requires-clause-no_path c = c.loop-device.invariant.adds.path ∙ c.requires.no_path

@@ -1,7 +1,4 @@
-use Rattle.std.proofs.Common.{drop, map}
-use Rattle.vms_desc.specs.Described.{described}
-use Rattle.vms_image.specs.Typed.{state_of}
-use Rattle.vms_selfdesc.specs.Tree.{device_trees}
+use Rattle.vms_selfdesc.proofs.Facade.{drop, map, described, state_of, device_trees}
 use Rattle.vms_selfdesc.proofs.Trees.{Remain}
 use Rattle.vms_selfdesc.proofs.tree.write_devices.Given as goal
 

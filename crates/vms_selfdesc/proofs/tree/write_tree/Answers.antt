@@ -1,8 +1,4 @@
-use Rattle.std.proofs.Common.{refl, map}
-use Rattle.vms_desc.specs.Described.{described}
-use Rattle.vms_image.specs.Typed.{state_of}
-use Rattle.vms_selfdesc.specs.Tree.{device_trees}
-use Rattle.vms_selfdesc.specs.declared.draft.Draft.{Draft}
+use Rattle.vms_selfdesc.proofs.Facade.{refl, map, described, state_of, device_trees, Draft}
 use Rattle.vms_selfdesc.proofs.Trees.{whole_lays}
 use Rattle.vms_selfdesc.proofs.tree.write_tree.Goals as goal
 

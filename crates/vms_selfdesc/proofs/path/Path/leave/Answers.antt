@@ -1,5 +1,4 @@
-use Rattle.std.proofs.Common.{string_bytes}
-use Rattle.std.proofs.lemmas.Str.{IsUtf8-string_bytes, IsCharBoundary-from_take}
+use Rattle.vms_selfdesc.proofs.Facade.{string_bytes, IsUtf8-string_bytes, IsCharBoundary-from_take}
 use Rattle.vms_selfdesc.proofs.path.Path.leave.Goals as goal
 
 pub truncate-requires : goal.truncate-requires

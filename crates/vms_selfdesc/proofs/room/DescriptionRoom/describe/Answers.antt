@@ -1,7 +1,4 @@
-use Rattle.std.proofs.Common.{◌≡◌, map, ◌∙◌, length, ap, arith}
-use Rattle.vms_desc.specs.Described.{described}
-use Rattle.vms_image.specs.Typed.{state_of}
-use Rattle.vms_selfdesc.specs.Tree.{described_text}
+use Rattle.vms_selfdesc.proofs.Facade.{◌≡◌, map, ◌∙◌, length, ap, arith, described, state_of, described_text}
 use Rattle.vms_selfdesc.proofs.Bounds.{text_reads, text_short}
 use Rattle.vms_selfdesc.proofs.Plain.{wrote, enough}
 use Rattle.vms_selfdesc.proofs.room.DescriptionRoom.describe.Goals as goal
