@@ -28,19 +28,6 @@ ready_device set well images ready i image lt is =
       few = omega (arith, few_cells set well i, r.normal.cells.long);
     }
 
--- ---- What is known of a description by its text.
-
-module _ (set : Set) (images : List Image) where
-  pub text_reads : IsSound (described_tree set images) → (bytes : List ℕ) → bytes ≡ described_text set images → read bytes ≡ Some (described_tree set images)
-  text_reads sound bytes is =
-      let plain = described_plain set images in
-      let flat = plain.flat in
-      let shallow : depth (described_tree set images) ≤ max_depth = omega arith in
-      reads_whole (described_tree set images) bytes is sound shallow
-
-  pub text_short : is_well_formed set ≡ true → FitsHeads set → length (described_text set images) < longest_text
-  text_short well heads = short_holds.short set (none_is (first_fault set) well) heads images
-
 -- ---- The text of every well-formed set is shorter than what a description section may have, and that of a shipped set is short.
 
 abbrev no_device : Device
@@ -129,3 +116,16 @@ clock_room (suc (suc s)) = omega arith
 
 pub clock_holds : ClockLaw
 clock_holds = record { clock = λ s images. let long = set_long (clock_set s) (clock_formed s) (clock_heads s) images in omega (arith, long, clock_room s) }
+
+-- ---- What is known of a description by its text.
+
+module _ (set : Set) (images : List Image) where
+  pub text_reads : IsSound (described_tree set images) → (bytes : List ℕ) → bytes ≡ described_text set images → read bytes ≡ Some (described_tree set images)
+  text_reads sound bytes is =
+      let plain = described_plain set images in
+      let flat = plain.flat in
+      let shallow : depth (described_tree set images) ≤ max_depth = omega arith in
+      reads_whole (described_tree set images) bytes is sound shallow
+
+  pub text_short : is_well_formed set ≡ true → FitsHeads set → length (described_text set images) < longest_text
+  text_short well heads = short_holds.short set (none_is (first_fault set) well) heads images

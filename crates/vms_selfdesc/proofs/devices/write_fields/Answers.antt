@@ -1,4 +1,4 @@
-use Rattle.vms_selfdesc.proofs.Facade.{length, ap, refl, arith, set_in, Draft}
+use Rattle.vms_selfdesc.proofs.Facade.{ℕ, List, false, map, subst, length, ap, refl, arith, Adds, numbers_in, part_list, entry_tree, set_in, Draft}
 use Rattle.vms_selfdesc.proofs.Paths.{few_levels}
 use Rattle.vms_selfdesc.proofs.Trees.{lays}
 use Rattle.vms_selfdesc.proofs.devices.write_fields.Goals as goal
@@ -13,5 +13,9 @@ list_part-requires-clause-deep c =
 
 pub returns : goal.returns
 returns c =
+    let lister = c.args.lister.now in
+    let trees = λ (path : List ℕ). map entry_tree (part_list (set_in lister) c.args.part c.args.place.sent (numbers_in lister) path c.args.place.cell) in
+    let begun : Draft = record { text = c.push.new.self; path = c.args.draft.now.path; later = false } in
     let end : Draft = record { text = c.push-2.new.self; path = c.list_part.new.draft.path; later = c.list_part.new.draft.later } in
-    lays c.args.draft.now c.push.new.self c.list_part.new.draft end _ c.push.ensures (rw c.requires.no_path at c.list_part.ensures) c.push-2.ensures refl
+    let listed = subst (λ (path : List ℕ). Adds begun c.list_part.new.draft (trees path)) c.requires.no_path c.list_part.ensures in
+    lays c.args.draft.now c.push.new.self c.list_part.new.draft end _ c.push.ensures listed c.push-2.ensures refl

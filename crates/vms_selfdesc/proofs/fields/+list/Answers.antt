@@ -1,7 +1,7 @@
-use Rattle.vms_selfdesc.proofs.Facade.{rules, arith, sym, ap, ◌∙◌, ◌≡◌, ℕ, ◌+◌, ◌*◌, ◌-◌, ◌<◌, ◌^◌, List, ◌++◌, length, length-append, codes, string_bytes}
-use Rattle.vms_selfdesc.proofs.Facade.{decimal, refl, Field, item_size, struct_cells, capacity_of, elements_fit, field_of, field_at, own_numbers, described}
-use Rattle.vms_selfdesc.proofs.Facade.{desc_at, found_field, here_fields, element_path, element_entries, item_list, elements_list, field_list, part_list, Draft}
-use Rattle.vms_selfdesc.proofs.Facade.{IsPlain, HasElements, item_levels}
+use Rattle.vms_selfdesc.proofs.Facade.{subst, rules, arith, sym, ap, ◌∙◌, ◌≡◌, ℕ, ◌+◌, ◌*◌, ◌-◌, ◌<◌, ◌^◌, List, ◌++◌, length, length-append, codes}
+use Rattle.vms_selfdesc.proofs.Facade.{string_bytes, decimal, refl, Entry, Lists, Field, item_size, struct_cells, capacity_of, elements_fit, field_of, field_at}
+use Rattle.vms_selfdesc.proofs.Facade.{own_numbers, described, desc_at, found_field, here_fields, element_path, element_entries, item_list, elements_list}
+use Rattle.vms_selfdesc.proofs.Facade.{field_list, part_list, Draft, IsPlain, HasElements, item_levels}
 use Rattle.vms_selfdesc.proofs.Trees.{fields_list, fields_whole, leaves_same, leaves_rest, leave_path, element_room, elements_next, next_element, fields_next, field_room}
 use Rattle.vms_selfdesc.proofs.OfElements.{field_needs, some_elements, array_many, field_run, struct_place, struct_lower, struct_list, width_code}
 use Rattle.vms_selfdesc.proofs.Plain.{plain_append, element_plain, dot_plain, name_plain, field_name}
@@ -49,7 +49,8 @@ list_item-returns-in-Struct t c =
     let entered =
     enters draft.path.text c.list_struct.new.draft.path.text c.len-kept.result (codes ".") c.len-kept.ensures
     (c.list_struct.ensures.path ∙ c.enter.ensures) in
-    rw same at (leave_path draft c.enter.new.self c.leave.new.self c.list_struct.new.draft _ c.list_struct.ensures (c.leave.ensures ∙ entered.back))
+    subst (λ (l : List Entry). Lists draft (record { text = c.list_struct.new.draft.text; path = c.leave.new.self; later = c.list_struct.new.draft.later }) l)
+    same (leave_path draft c.enter.new.self c.leave.new.self c.list_struct.new.draft _ c.list_struct.ensures (c.leave.ensures ∙ entered.back))
 
 pub list_item-list_sent-requires-clause-word : goal.list_item-list_sent-requires-clause-word
 list_item-list_sent-requires-clause-word t c = name_plain (codes "equal") refl
@@ -66,7 +67,11 @@ list_elements-list_item-requires t c =
     let i = c.loop-number.number in
     let inv = c.loop-number.invariant in
     let path = string_bytes c.args.draft.now.path.text in
-    let elements : HasElements set (field_of c.args.field.now) c.loop-number.cell 1 c.args.lister.now.image.now.numbers = record cells {
+    let elements : HasElements set (field_of c.args.field.now) c.loop-number.cell 1 c.args.lister.now.image.now.numbers = record {
+      reaches = cells.reaches;
+      default = cells.default;
+      few = cells.few;
+      small = cells.small;
       room = element_room (item_size (struct_cells set) c.args.field.now.item) c.args.place.cell i c.args.count c.loop-number.cell
           (length c.args.lister.now.image.now.numbers) c.loop-number-test.true inv.here cells.room;
     } in
@@ -109,7 +114,8 @@ list_elements-loop-number-preserved t c =
           (elements_list set f c.args.place.sent n path c.args.place.cell c.args.count) (element_entries one path c.loop-number.cell size i (c.args.count - i))
           (one (element_path path i) c.loop-number.cell) _
           (rw moved (elements_next one path c.loop-number.cell size i c.args.count c.loop-number-test.true)) inv.lists
-          (rw (c.enter_element.ensures, inv.lists.lists.path) at listed);
+          (subst (λ (p : List ℕ). Lists now new (one p c.loop-number.cell))
+          (c.enter_element.ensures ∙ ap (λ (p : List ℕ). element_path p i) inv.lists.lists.path) listed);
       here = moved ∙ next_element size c.args.place.cell i c.loop-number.cell inv.here;
     }
 
@@ -188,7 +194,8 @@ list_field-returns t c =
     let entered =
     enters draft.path.text c.list_run.new.draft.path.text c.len-kept.result c.as_str.result.now c.len-kept.ensures
     (c.list_run.ensures.path ∙ c.enter.ensures) in
-    rw same at (leave_path draft c.enter.new.self c.leave.new.self c.list_run.new.draft _ c.list_run.ensures (c.leave.ensures ∙ entered.back))
+    subst (λ (l : List Entry). Lists draft (record { text = c.list_run.new.draft.text; path = c.leave.new.self; later = c.list_run.new.draft.later }) l) same
+    (leave_path draft c.enter.new.self c.leave.new.self c.list_run.new.draft _ c.list_run.ensures (c.leave.ensures ∙ entered.back))
 
 -- ---- the fields of a part
 
@@ -249,6 +256,8 @@ list_part-loop-field-preserved t c =
       lists = leaves_rest c.args.draft.now c.loop-field.draft c.list_field.new.draft
           (part_list set part c.args.place.sent n path c.args.place.cell) (fields_list set part c.args.place.cell k c.args.place.sent n path cell)
           (field_list set part c.args.place.cell k c.args.place.sent n path cell) _
-          (rw moved (fields_next set part c.args.place.cell c.args.place.sent path n cell k lt)) inv.lists (rw inv.lists.lists.path at c.list_field.ensures);
+          (rw moved (fields_next set part c.args.place.cell c.args.place.sent path n cell k lt)) inv.lists
+          (subst (λ (p : List ℕ). Lists c.loop-field.draft c.list_field.new.draft (field_list set part c.args.place.cell k c.args.place.sent n p cell))
+          inv.lists.lists.path c.list_field.ensures);
       room = omega (arith, moved, room.later);
     }
