@@ -1,23 +1,9 @@
 -- Bytes of structures, fields and sections, where those of structures end at 2 ^ 32 - 1.
-use Rattle.std.proofs.Common.{◌≡◌, ℕ, ◌+◌, ◌*◌, ◌^◌, ◌<◌, true, List, [], ◌∷◌, ◌++◌, length, get_or, map, refl, sym, ap, ◌∙◌, arith, add-one}
-use Rattle.std.proofs.lemmas.List.{length-map, map-append}
-use Rattle.vms_kinds.specs.declared.Item.{Item}
-use Rattle.vms_kinds.specs.declared.Item.TheVariants.{Num, Equal, Unused, Struct}
+use Rattle.vms_counter.proofs.Facade.{◌≡◌, ℕ, ◌+◌, ◌*◌, ◌^◌, ◌<◌, true, List, [], ◌∷◌, ◌++◌, length, get_or, map, refl, sym, ap, ◌∙◌, arith, add-one}
+use Rattle.vms_counter.proofs.Facade.{length-map, map-append, Item, Num, Equal, Unused, Struct, capacity_of, first, no_desc, Field, Desc, Device, in_u32}
+use Rattle.vms_counter.proofs.Facade.{is_well_formed, desc_of, device_of, field_of, get_map_at, capped_product, capped_at, item_bytes, fields_bytes}
+use Rattle.vms_counter.proofs.Facade.{struct_bytes, subs_bytes, devices_most, most_small, subs_in, devices_in, LONGEST_SUB_HEAD}
 use Rattle.vms_spec.specs.Sets as sets
-use Rattle.vms_spec.specs.Layout.{capacity_of, first, no_desc}
-use Rattle.vms_parts.specs.declared.types.Field.{Field}
-use Rattle.vms_parts.specs.declared.types.Desc.{Desc}
-use Rattle.vms_parts.specs.declared.types.Device.{Device}
-use Rattle.vms_parts.specs.Sizes.{in_u32}
-use Rattle.vms_desc.specs.Formed.{is_well_formed}
-use Rattle.vms_parts.specs.Views.{desc_of, device_of, field_of}
-use Rattle.vms_parts.proofs.Items.{get_map_at}
-use Rattle.vms_parts.proofs.SizeLaws.{capped_product, capped_at}
-use Rattle.vms_load.specs.Bounds.{item_bytes, fields_bytes, struct_bytes}
-use Rattle.vms_load.specs.Staging.{subs_bytes, devices_most}
-use Rattle.vms_load.proofs.SetFacts.{most_small}
-use Rattle.vms_counter.specs.Room.{subs_in, devices_in}
-use Rattle.vms_marks.specs.declared.sub_head.TheConstants.{LONGEST_SUB_HEAD}
 
 capped_item : (bytes : List ℕ) (n : ℕ) (item : Item) → in_u32 (n * item_bytes (map in_u32 bytes) item) ≡ in_u32 (n * item_bytes bytes item)
 capped_item bytes n (Num kind) = refl
@@ -28,7 +14,8 @@ capped_item bytes n (Struct j) = ap (λ (b : ℕ). in_u32 (n * b)) (capped_at by
 capped_fields : (bytes : List ℕ) (fs : List sets.Field) → in_u32 (fields_bytes (map in_u32 bytes) fs) ≡ in_u32 (fields_bytes bytes fs)
 capped_fields bytes [] = refl
 capped_fields bytes (f ∷ fs) =
-    let e : in_u32 (capacity_of f.count * item_bytes (map in_u32 bytes) f.item) ≡ in_u32 (capacity_of f.count * item_bytes bytes f.item) = capped_item bytes (capacity_of f.count) f.item in
+    let e : in_u32 (capacity_of f.count * item_bytes (map in_u32 bytes) f.item) ≡ in_u32 (capacity_of f.count * item_bytes bytes f.item) =
+    capped_item bytes (capacity_of f.count) f.item in
     let r : in_u32 (fields_bytes (map in_u32 bytes) fs) ≡ in_u32 (fields_bytes bytes fs) = capped_fields bytes fs in
     omega (arith, e, r)
 
@@ -48,17 +35,20 @@ unfolding first
 structs_more structs bytes given i d fields own is lt e s same of =
     let ds = map desc_of structs in
     let here : get_or ds i no_desc ≡ desc_of d = get_map_at desc_of structs i d no_desc lt is in
-    let more : struct_bytes ds (i + 1) ≡ struct_bytes ds i ++ fields_bytes (struct_bytes ds i) (get_or ds i no_desc).fields ∷ [] = ap (λ (k : ℕ). struct_bytes ds k) (add-one i) in
+    let more : struct_bytes ds (i + 1) ≡ struct_bytes ds i ++ fields_bytes (struct_bytes ds i) (get_or ds i no_desc).fields ∷ [] =
+    ap (λ (k : ℕ). struct_bytes ds k) (add-one i) in
     let one : own ≡ in_u32 (fields_bytes (struct_bytes ds i) (get_or ds i no_desc).fields) =
     s ∙ ap (λ (l : List ℕ). in_u32 (fields_bytes l (map field_of fields))) (same ∙ e)
-    ∙ ap (λ (l : List Field). in_u32 (fields_bytes (map in_u32 (struct_bytes ds i)) (map field_of l))) of ∙ capped_fields (struct_bytes ds i) (map field_of d.fields)
+    ∙ ap (λ (l : List Field). in_u32 (fields_bytes (map in_u32 (struct_bytes ds i)) (map field_of l))) of
+    ∙ capped_fields (struct_bytes ds i) (map field_of d.fields)
     ∙ ap (λ (x : sets.Desc). in_u32 (fields_bytes (struct_bytes ds i) x.fields)) (sym here) in
     ap (λ (l : List ℕ). l ++ own ∷ []) e ∙ ap (λ (n : ℕ). map in_u32 (struct_bytes ds i) ++ n ∷ []) one
     ∙ sym (map-append in_u32 (struct_bytes ds i) (fields_bytes (struct_bytes ds i) (get_or ds i no_desc).fields ∷ [])) ∙ ap (map in_u32) (sym more)
 
 -- ---- the sections of a set
 
-subs_are : (set : sets.Set) (subs : List sets.Sub) → subs_in (struct_bytes set.structs (length set.structs)) subs ≡ LONGEST_SUB_HEAD * length subs + subs_bytes set subs
+subs_are : (set : sets.Set) (subs : List sets.Sub)
+    → subs_in (struct_bytes set.structs (length set.structs)) subs ≡ LONGEST_SUB_HEAD * length subs + subs_bytes set subs
 subs_are set [] = refl
 subs_are set (s ∷ subs) = omega (arith, subs_are set subs)
 
@@ -66,11 +56,13 @@ devices_are : (set : sets.Set) (devices : List sets.Device) → devices_in (stru
 devices_are set [] = refl
 devices_are set (d ∷ devices) = omega (arith, subs_are set d.subs, devices_are set devices)
 
-sections_bytes : (set : sets.Set) (n : ℕ) → n ≡ in_u32 (devices_in (map in_u32 (struct_bytes set.structs (length set.structs))) set.devices) → n ≡ in_u32 (devices_most set set.devices)
+sections_bytes : (set : sets.Set) (n : ℕ) → n ≡ in_u32 (devices_in (map in_u32 (struct_bytes set.structs (length set.structs))) set.devices)
+    → n ≡ in_u32 (devices_most set set.devices)
 sections_bytes set n e = e ∙ capped_devices (struct_bytes set.structs (length set.structs)) set.devices ∙ ap in_u32 (devices_are set set.devices)
 
 -- a set's sections have fewer bytes than there is room to tell
-pub sections_are : (set : sets.Set) → is_well_formed set ≡ true → (n : ℕ) → n ≡ in_u32 (devices_in (map in_u32 (struct_bytes set.structs (length set.structs))) set.devices)
+pub sections_are : (set : sets.Set) → is_well_formed set ≡ true → (n : ℕ)
+    → n ≡ in_u32 (devices_in (map in_u32 (struct_bytes set.structs (length set.structs))) set.devices)
     → (n ≡ devices_most set set.devices) × (n < 2 ^ 27 + 1)
 sections_are set well n h =
     let e = sections_bytes set n h in
@@ -79,7 +71,8 @@ sections_are set well n h =
     (is, omega (arith, is, few))
 
 -- the same of what was read of the set
-pub read_bytes : (set : sets.Set) (given : List Desc) (told : List Device) (bytes items : List ℕ) (n : ℕ) → n ≡ in_u32 (devices_in bytes (map device_of told)) → bytes ≡ items
+pub read_bytes : (set : sets.Set) (given : List Desc) (told : List Device) (bytes items : List ℕ) (n : ℕ) → n ≡ in_u32 (devices_in bytes (map device_of told))
+    → bytes ≡ items
     → items ≡ map in_u32 (struct_bytes (map desc_of given) (length given)) → map desc_of given ≡ set.structs → map device_of told ≡ set.devices
     → n ≡ in_u32 (devices_in (map in_u32 (struct_bytes set.structs (length set.structs))) set.devices)
 read_bytes set given told bytes items n has same is of_structs of_devices =

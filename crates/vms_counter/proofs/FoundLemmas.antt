@@ -1,20 +1,42 @@
--- The result of trying the candidates in turn.
-use Rattle.std.proofs.Common.{◌≡◌, ℕ, true, List, [], ◌∷◌, Option, Some, None, IfSome, refl, sym, subst, map}
-use Rattle.vms_spec.specs.Lists.{at_option}
-use Rattle.vms_spec.specs.Sets.{Set}
-use Rattle.vms_spec.specs.Images.{Image}
-use Rattle.vms_spec.specs.Streams.{is_one_of}
+-- The candidates of `counter`: machines and images, and the result of trying them in turn.
+use Rattle.vms_counter.proofs.Facade.{◌≡◌, ℕ, ◌+◌, ◌<◌, Bool, false, List, ◌∷◌, drop, length, get_or, Some, sym, ap, ◌∙◌, refl, if◌then◌else◌, ◌==◌, true}
+use Rattle.vms_counter.proofs.Facade.{slice_set, subst, arith, [], Option, None, IfSome, map, slice_get, drop_more, length-set, slice_get_read, eqb-true}
+use Rattle.vms_counter.proofs.Facade.{eq-eqb, is_one_of, lacking, and_raised, default_images, machine_for, raised, at_set, at_other, Set, Typed, IsImageOf}
+use Rattle.vms_counter.proofs.Facade.{AreImagesOf, state_of, at_option, Image, Mismatch, verdict_of, Accepted, first_mismatch, NoState, State, Shows, IsFirst}
+use Rattle.vms_counter.proofs.Facade.{Here, Later, NoneShows, Counters, Lacks, Finds, refusal_of, Tries, is_among}
 use Rattle.vms_frames.specs.declared.fault.Refusal.{Refusal as Refused}
-use Rattle.vms_check.specs.declared.mismatch.Mismatch.{Mismatch}
-use Rattle.vms_check.specs.Wholes.{verdict_of}
-use Rattle.vms_check.specs.declared.mismatch.Verdict.TheVariants.{Accepted}
-use Rattle.vms_check.specs.Comparing.{first_mismatch}
-use Rattle.vms_counter_laws.specs.Candidates.{and_raised, default_images, machine_for, raised}
-use Rattle.vms_counter_laws.specs.Counters.{NoState, State, Shows, IsFirst, Here, Later, NoneShows, Counters, Lacks, Finds}
-use Rattle.vms_counter.specs.Found.{refusal_of}
-use Rattle.vms_counter.specs.Trying.{Tries}
-use Rattle.vms_check.proofs.SelfLaws.{is_among}
-use Rattle.vms_image.specs.Typed.{Typed, state_of}
+
+-- ---- The first machine that isn't one of those names.
+
+pub lacks_here : (names machines : List (List ℕ)) (i : ℕ) (m : List ℕ) → i < length machines → m ≡ get_or machines i m → is_one_of names m ≡ false
+    → lacking names (drop i machines) ≡ lacking names machines
+    → slice_get machines i ≡ lacking names machines
+lacks_here names machines i m lt is unknown inv =
+    slice_get_read machines (length machines) i m refl lt is
+    ∙ sym (ap (λ (b : Bool). if b then lacking names (drop (i + 1) machines) else Some m) unknown)
+    ∙ sym (ap (lacking names) (drop_more machines i m lt ∙ ap (λ (x : List ℕ). x ∷ drop (i + 1) machines) (sym is)))
+    ∙ inv
+
+-- ---- Images of all devices, by their numbers.
+
+-- an image of one device, put anew
+pub put_are : (set : Set) (images : List Typed) (k : ℕ) (image : Typed) → AreImagesOf set images → k < length set.devices → IsImageOf set k image
+    → AreImagesOf set (slice_set images k image)
+put_are set images k image are lt is = record {
+  one_each = length-set images k image ∙ are.one_each;
+  each = λ j x e. by j x e (j == k) refl;
+}
+  where
+    by : (j : ℕ) (x : Typed) → slice_get (slice_set images k image) j ≡ Some x → (b : Bool) → (j == k) ≡ b → IsImageOf set j x
+    by j x e true s =
+        let same : j ≡ k = eqb-true j k s in
+        let all = are.one_each in
+        let both : Some image ≡ Some x = sym (at_set images k image (omega (arith, lt, all))) ∙ ap (slice_get (slice_set images k image)) (sym same) ∙ e in
+        let here : image ≡ x = cc in
+        subst (λ (n : ℕ). IsImageOf set n x) (sym same) (subst (λ (y : Typed). IsImageOf set k y) here is)
+    by j x e false s = are.each j x (sym (at_other images k j image (λ same. let t : true ≡ false = sym (eq-eqb j k same) ∙ s in cc)) ∙ e)
+
+-- ---- The result of trying the candidates in turn.
 
 -- ---- the machine
 
@@ -49,7 +71,9 @@ module _ (old new : Set) (m : Mismatch) (first : first_mismatch old new ≡ Some
   pub first_found : (images : List Image) (r : Refused) → images ≡ default_images old → Tries old new (machine_for old new m) images (Some r)
       → Counters old new (State m (machine_for old new m) images (refusal_of r))
   first_found images r e t =
-      Finds m images (refusal_of r) t.1.size first (subst (λ (x : List Image). IsFirst old new m images (x ∷ and_raised old new (raised old new m))) e (Here (and_raised old new (raised old new m)) (shown images r t))) t.1.fault
+      Finds m images (refusal_of r) t.1.size first
+      (subst (λ (x : List Image). IsFirst old new m images (x ∷ and_raised old new (raised old new m))) e
+      (Here (and_raised old new (raised old new m)) (shown images r t))) t.1.fault
 
   pub second_found : (images : List Image) (r : Refused) → Tries old new (machine_for old new m) (default_images old) None → raised old new m ≡ Some images
       → Tries old new (machine_for old new m) images (Some r) → Counters old new (State m (machine_for old new m) images (refusal_of r))
@@ -60,7 +84,8 @@ module _ (old new : Set) (m : Mismatch) (first : first_mismatch old new ≡ Some
 
   pub none_found : Tries old new (machine_for old new m) (default_images old) None → raised old new m ≡ None → Counters old new (NoState m)
   none_found none e =
-      Lacks m first (subst (λ (o : Option (List Image)). NoneShows old new m (default_images old ∷ and_raised old new o)) (sym e) (not_shown (default_images old) none, tt))
+      Lacks m first (subst (λ (o : Option (List Image)). NoneShows old new m (default_images old ∷ and_raised old new o)) (sym e)
+      (not_shown (default_images old) none, tt))
 
   pub neither_found : (images : List Image) → Tries old new (machine_for old new m) (default_images old) None → raised old new m ≡ Some images
       → Tries old new (machine_for old new m) images None → Counters old new (NoState m)

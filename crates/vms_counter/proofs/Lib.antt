@@ -1,6 +1,4 @@
 pub mod ByteLaws
+pub mod Facade
 pub mod FoundLemmas
-pub mod ImageLemmas
-pub mod LackLemmas
-pub mod Lengths
 pub mod RoomLaws

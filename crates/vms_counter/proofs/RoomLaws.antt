@@ -1,22 +1,44 @@
--- The room that no stream of a well-formed set fills.
-use Rattle.std.proofs.Common.{◌≡◌, ℕ, ◌+◌, ◌≤◌, true, List, length, Option, Some, None, IfSome, subst, arith}
-use Rattle.std.specs.List.{slice_get}
-use Rattle.std.proofs.lemmas.Option.{get_or_from_slice_get, slice_get_within}
-use Rattle.vms_spec.specs.declared.TheConstants.{LONGEST_NAME}
-use Rattle.vms_spec.specs.Sets.{Sub, Device, Set}
-use Rattle.vms_spec.specs.Streams.{is_one_of}
-use Rattle.vms_spec.proofs.Faultless.{machine_short}
-use Rattle.vms_parts.specs.Devices.{device_at}
-use Rattle.vms_desc.specs.Formed.{is_well_formed}
-use Rattle.vms_desc.specs.Parts.{sub_at}
-use Rattle.vms_desc.proofs.AskLaws.{device_is}
-use Rattle.vms_load.specs.Staging.{devices_most}
-use Rattle.vms_load.proofs.SetFacts.{well_of}
-use Rattle.vms_write.proofs.Formed.{device_short, sub_short}
-use Rattle.vms_counter.specs.Found.{HasRoom}
-use Rattle.vms_stream.proofs.WrittenBytes.{EachSub, EachPart, all_parts}
-use Rattle.vms_counter.proofs.Lengths.{IsShort, stream-short}
-use Rattle.vms_marks.specs.declared.stream_head.TheConstants.{BESIDE_SECTIONS}
+-- No stream of a well-formed set fills the room that is made for it.
+use Rattle.vms_counter.proofs.Facade.{ℕ, ◌+◌, ◌*◌, ◌<◌, ◌≤◌, List, [], ◌∷◌, length, Option, Some, None, IfSome, arith, ◌≡◌, true, subst, slice_get}
+use Rattle.vms_counter.proofs.Facade.{get_or_from_slice_get, slice_get_within, LONGEST_NAME, Image, Sub, Set, optional, configuration, written, is_one_of}
+use Rattle.vms_counter.proofs.Facade.{subs_bytes, devices_most, subs_long, devices_long, stream_le, AllSubs, AllParts, EachSub, EachPart, all_parts}
+use Rattle.vms_counter.proofs.Facade.{LONGEST_SUB_HEAD, BESIDE_SECTIONS, machine_short, device_at, is_well_formed, sub_at, device_is, well_of, device_short}
+use Rattle.vms_counter.proofs.Facade.{sub_short, HasRoom}
+use Rattle.vms_spec.specs.Sets.{Desc, Device}
+
+-- ---- No stream of a set fills the room that is made for it.
+
+-- a name that is short enough for one byte of length
+abbrev pub IsShort : Desc → Type 0
+IsShort d = length d.name ≤ LONGEST_NAME
+
+module _ (set : Set) where
+  subs-short : (subs : List Sub) → AllSubs IsShort subs → subs_long set subs ≤ LONGEST_SUB_HEAD * length subs + subs_bytes set subs
+  subs-short [] short = omega arith
+  subs-short (s ∷ subs) short = let l = subs-short subs short.1 in let own = short.0 in omega (arith, l, own)
+
+  devices-short : (devices : List Device) → AllParts IsShort devices → devices_long set devices ≤ devices_most set devices
+  devices-short [] short = omega arith
+  devices-short (d ∷ devices) short =
+      let own = short.0 in
+      let subs = subs-short d.subs short.1 in
+      let l = devices-short devices short.2 in
+      omega (arith, own, subs, l)
+
+  config-long : (machine : Option (List ℕ)) → IfSome machine (λ m. length m ≤ 64) → length (optional configuration machine) ≤ 69
+  config-long None short = omega arith
+  config-long (Some name) short = omega (arith, short)
+
+  -- no stream of images with a machine or none, and without a description, fills this room
+  pub stream-short : (machine : Option (List ℕ)) (images : List Image) → IfSome machine (λ m. length m ≤ 64) → AllParts IsShort set.devices
+      → length (written set machine images None) < BESIDE_SECTIONS + devices_most set set.devices
+  stream-short machine images named short =
+      let l = stream_le set machine images None in
+      let config = config-long machine named in
+      let sections = devices-short set.devices short in
+      omega (arith, l, config, sections)
+
+-- ---- The room that no stream of a well-formed set fills.
 
 get_sub : (d : Device) (j : ℕ) (s : Sub) → slice_get d.subs j ≡ Some s → sub_at d j ≡ s
 get_sub d j s e = get_or_from_slice_get d.subs j s _ e

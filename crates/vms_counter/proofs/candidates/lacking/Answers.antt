@@ -1,6 +1,5 @@
-use Rattle.std.proofs.Common.{ap, sym, ◌∙◌}
-use Rattle.vms_spec.specs.Streams.{is_one_of}
-use Rattle.vms_counter.proofs.LackLemmas.{lacks_here}
+use Rattle.vms_counter.proofs.Facade.{ap, sym, ◌∙◌, is_one_of}
+use Rattle.vms_counter.proofs.FoundLemmas.{lacks_here}
 use Rattle.vms_counter.proofs.candidates.lacking.Goals as goal
 
 pub returns-then-not-is_one_of-clause-name : goal.returns-then-not-is_one_of-clause-name

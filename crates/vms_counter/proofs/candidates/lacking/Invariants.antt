@@ -1,5 +1,4 @@
-use Rattle.std.proofs.Common.{◌≡◌, drop}
-use Rattle.vms_counter_laws.specs.Candidates.{lacking}
+use Rattle.vms_counter.proofs.Facade.{◌≡◌, drop, lacking}
 use Rattle.vms_counter.proofs.candidates.lacking.Given as goal
 
 abbrev pub invariant-loop-i : goal.invariant-loop-i

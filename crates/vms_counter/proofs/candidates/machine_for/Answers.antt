@@ -1,9 +1,12 @@
-use Rattle.std.proofs.Common.{arith, ap, length}
-use Rattle.vms_spec.specs.Sets.{Set}
-use Rattle.vms_desc.specs.Described.{described}
-use Rattle.vms_desc.proofs.Bounds.{few_machines}
+use Rattle.vms_counter.proofs.Facade.{arith, ap, length, Set, described, few_machines}
 use Rattle.vms_counter.proofs.candidates.machine_for.Goals as goal
 
 pub lacking-requires : goal.lacking-requires
 lacking-requires c =
-    omega (arith, few_machines (described c.args.old.now) c.args.old.now.well_formed, ap length c.as_slice-machines.ensures, ap (λ (s : Set). length s.machines) c.parts.ensures)
+    omega (
+      arith,
+      few_machines (described c.args.old.now) c.args.old.now.well_formed,
+      ap length c.as_slice-machines.ensures,
+      ap
+          (λ (s : Set). length s.machines) c.parts.ensures,
+    )

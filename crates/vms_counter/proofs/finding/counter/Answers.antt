@@ -1,10 +1,8 @@
-use Rattle.std.proofs.Common.{sym, ap, ◌∙◌}
-use Rattle.vms_spec.specs.Sets.{Set}
-use Rattle.vms_check.specs.Comparing.{first_mismatch}
-use Rattle.vms_desc.specs.Described.{described}
-use Rattle.vms_counter_laws.specs.Counters.{Agree}
+use Rattle.vms_counter.proofs.Facade.{sym, ap, ◌∙◌, Set, first_mismatch, described, Agree}
 use Rattle.vms_counter.proofs.FoundLemmas.{accepted_none}
 use Rattle.vms_counter.proofs.finding.counter.Goals as goal
 
 pub returns-in-Accepted-clause-found : goal.returns-in-Accepted-clause-found
-returns-in-Accepted-clause-found c = Agree (ap (λ (s : Set). first_mismatch (described c.args.old.now) s) (sym c.set.ensures) ∙ accepted_none (first_mismatch (described c.args.old.now) (described c.set.result.now)) c.in-Accepted.ensures)
+returns-in-Accepted-clause-found c =
+    Agree (ap (λ (s : Set). first_mismatch (described c.args.old.now) s) (sym c.set.ensures) ∙ accepted_none
+    (first_mismatch (described c.args.old.now) (described c.set.result.now)) c.in-Accepted.ensures)

@@ -1,7 +1,4 @@
-use Rattle.std.proofs.Common.{ap, ◌∙◌}
-use Rattle.vms_spec.specs.Sets.{Set}
-use Rattle.vms_desc.specs.Described.{described}
-use Rattle.vms_counter_laws.specs.Candidates.{machine_for}
+use Rattle.vms_counter.proofs.Facade.{ap, ◌∙◌, Set, described, machine_for}
 use Rattle.vms_counter.proofs.finding.show.Goals as goal
 
 pub show_first-requires : goal.show_first-requires

@@ -1,9 +1,4 @@
-use Rattle.std.proofs.Common.{ℕ, List, Option, Some, map, sym, subst}
-use Rattle.vms_desc.specs.Described.{described}
-use Rattle.vms_image.specs.Typed.{state_of}
-use Rattle.vms_load.specs.Kept.{loads}
-use Rattle.vms_counter_laws.specs.Counters.{Counters, State}
-use Rattle.vms_counter.specs.Found.{refusal_of}
+use Rattle.vms_counter.proofs.Facade.{ℕ, List, Option, Some, map, sym, subst, described, state_of, loads, Counters, State, refusal_of}
 use Rattle.vms_counter.proofs.FoundLemmas.{first_found, tries_by}
 use Rattle.vms_counter.proofs.finding.show_first.Goals as goal
 

@@ -1,9 +1,4 @@
-use Rattle.std.proofs.Common.{sym, ap, ◌∙◌}
-use Rattle.vms_spec.specs.Sets.{Set}
-use Rattle.vms_desc.specs.Described.{described}
-use Rattle.vms_load.specs.Kept.{loads}
-use Rattle.vms_counter_laws.specs.Candidates.{raised}
-use Rattle.vms_counter.specs.Found.{states_of}
+use Rattle.vms_counter.proofs.Facade.{sym, ap, ◌∙◌, Set, described, loads, raised, states_of}
 use Rattle.vms_counter.proofs.FoundLemmas.{none_found}
 use Rattle.vms_counter.proofs.finding.show_second.Goals as goal
 

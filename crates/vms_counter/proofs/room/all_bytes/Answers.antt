@@ -1,6 +1,4 @@
-use Rattle.std.proofs.Common.{◌≡◌, ◌+◌, arith}
-use Rattle.vms_parts.specs.Sizes.{in_u32}
-use Rattle.vms_parts.proofs.SizeLaws.{sum_ends, sum_goes}
+use Rattle.vms_counter.proofs.Facade.{◌≡◌, ◌+◌, arith, in_u32, sum_ends, sum_goes}
 use Rattle.vms_counter.proofs.room.all_bytes.Goals as goal
 
 pub loop-item-preserved : goal.loop-item-preserved
@@ -8,10 +6,13 @@ loop-item-preserved g c =
     let t = g.T.TakesRoom in
     let structs = c.args.structs.now in
     let x = c.item-item.result in
-    let has : c.saturating_add-sum.result ≡ in_u32 (c.loop-item.sum + t.bytes structs x) = let sum = c.saturating_add-sum.ensures in let one = c.bytes.ensures in omega (arith, sum, one) in
+    let has : c.saturating_add-sum.result ≡ in_u32 (c.loop-item.sum + t.bytes structs x) =
+    let sum = c.saturating_add-sum.ensures in let one = c.bytes.ensures in omega (arith, sum, one) in
     record {
       small = c.saturating_add-sum.type_inv;
-      whole = sum_goes (t.all_bytes structs) (t.bytes structs) (t.none structs) (t.more structs) c.args.items.now c.loop-item.item-index c.loop-item.sum c.saturating_add-sum.result _ x c.loop-item-test.true
+      whole =
+          sum_goes (t.all_bytes structs) (t.bytes structs) (t.none structs)
+          (t.more structs) c.args.items.now c.loop-item.item-index c.loop-item.sum c.saturating_add-sum.result _ x c.loop-item-test.true
           c.item-item.is has c.loop-item.invariant.whole;
     }
 
@@ -19,5 +20,6 @@ pub returns : goal.returns
 returns g c =
     let t = g.T.TakesRoom in
     let structs = c.args.structs.now in
-    sum_ends (t.all_bytes structs) (t.bytes structs) (t.none structs) (t.more structs) c.args.items.now c.loop-item.item-index c.loop-item.sum _ c.loop-item-test.false c.loop-item.invariant.small
+    sum_ends (t.all_bytes structs) (t.bytes structs) (t.none structs)
+    (t.more structs) c.args.items.now c.loop-item.item-index c.loop-item.sum _ c.loop-item-test.false c.loop-item.invariant.small
     c.loop-item.invariant.whole

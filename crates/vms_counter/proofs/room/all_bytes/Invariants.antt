@@ -1,5 +1,4 @@
-use Rattle.std.proofs.Common.{◌≡◌, drop, ◌+◌, ◌<◌, ◌^◌}
-use Rattle.vms_parts.specs.Sizes.{in_u32}
+use Rattle.vms_counter.proofs.Facade.{◌≡◌, drop, ◌+◌, ◌<◌, ◌^◌, in_u32}
 use Rattle.vms_counter.proofs.room.all_bytes.Given as goal
 
 abbrev pub invariant-loop-item : goal.invariant-loop-item

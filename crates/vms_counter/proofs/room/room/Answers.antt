@@ -1,27 +1,26 @@
-use Rattle.std.proofs.Common.{ℕ, ◌+◌, map, ap, ◌∙◌, subst, sym, arith}
-use Rattle.vms_spec.specs.Sets.{Set}
-use Rattle.vms_parts.specs.Views.{desc_of, device_of}
-use Rattle.vms_desc.specs.Described.{described}
-use Rattle.vms_counter.specs.Found.{HasRoom}
+use Rattle.vms_counter.proofs.Facade.{ℕ, ◌+◌, map, ap, ◌∙◌, subst, sym, arith, Set, desc_of, device_of, described, HasRoom, BESIDE_SECTIONS}
 use Rattle.vms_counter.proofs.ByteLaws.{read_bytes, sections_are}
 use Rattle.vms_counter.proofs.RoomLaws.{has_room}
-use Rattle.vms_marks.specs.declared.stream_head.TheConstants.{BESIDE_SECTIONS}
 use Rattle.vms_counter.proofs.room.room.Goals as goal
 
 pub overflow_add-result : goal.overflow_add-result
 overflow_add-result c =
     let set = c.args.set.now in
     let few = (sections_are (described set) set.well_formed c.all_bytes.result
-    (read_bytes (described set) c.as_slice.result.now c.as_slice-2.result.now c.deref.result.now c.in_ok-structs.structs.items c.all_bytes.result c.all_bytes.ensures c.deref.ensures.value c.in_ok-structs.ensures
-    (ap (map desc_of) c.as_slice.ensures ∙ ap (λ (s : Set). s.structs) c.parts.ensures) (ap (map device_of) c.as_slice-2.ensures ∙ ap (λ (s : Set). s.devices) c.parts-2.ensures))).1 in
+    (read_bytes (described set) c.as_slice.result.now c.as_slice-2.result.now c.deref.result.now c.in_ok-structs.structs.items c.all_bytes.result
+    c.all_bytes.ensures c.deref.ensures.value c.in_ok-structs.ensures
+    (ap (map desc_of) c.as_slice.ensures ∙ ap (λ (s : Set). s.structs) c.parts.ensures)
+    (ap (map device_of) c.as_slice-2.ensures ∙ ap (λ (s : Set). s.devices) c.parts-2.ensures))).1 in
     omega (arith, few)
 
 pub returns-clause-bytes : goal.returns-clause-bytes
 returns-clause-bytes c =
     let set = c.args.set.now in
     ap (λ (n : ℕ). BESIDE_SECTIONS + n) (sections_are (described set) set.well_formed c.all_bytes.result
-    (read_bytes (described set) c.as_slice.result.now c.as_slice-2.result.now c.deref.result.now c.in_ok-structs.structs.items c.all_bytes.result c.all_bytes.ensures c.deref.ensures.value c.in_ok-structs.ensures
-    (ap (map desc_of) c.as_slice.ensures ∙ ap (λ (s : Set). s.structs) c.parts.ensures) (ap (map device_of) c.as_slice-2.ensures ∙ ap (λ (s : Set). s.devices) c.parts-2.ensures))).0
+    (read_bytes (described set) c.as_slice.result.now c.as_slice-2.result.now c.deref.result.now c.in_ok-structs.structs.items c.all_bytes.result
+    c.all_bytes.ensures c.deref.ensures.value c.in_ok-structs.ensures
+    (ap (map desc_of) c.as_slice.ensures ∙ ap (λ (s : Set). s.structs) c.parts.ensures)
+    (ap (map device_of) c.as_slice-2.ensures ∙ ap (λ (s : Set). s.devices) c.parts-2.ensures))).0
 
 pub returns-clause-room : goal.returns-clause-room
 returns-clause-room c =

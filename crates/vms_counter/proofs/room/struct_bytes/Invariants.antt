@@ -1,7 +1,4 @@
-use Rattle.std.proofs.Common.{◌≡◌, map}
-use Rattle.vms_parts.specs.Sizes.{in_u32}
-use Rattle.vms_parts.specs.Views.{desc_of}
-use Rattle.vms_load.specs.Bounds.{struct_bytes}
+use Rattle.vms_counter.proofs.Facade.{◌≡◌, map, in_u32, desc_of, struct_bytes}
 use Rattle.vms_counter.proofs.room.struct_bytes.Given as goal
 
 abbrev pub invariant-loop-desc : goal.invariant-loop-desc

@@ -1,13 +1,5 @@
-use Rattle.std.proofs.Common.{List, ℕ, Ok, Err, ap, subst}
-use Rattle.vms_load.specs.Staging.{name_of}
-use Rattle.vms_stream.specs.Faults.{Fault}
-use Rattle.vms_stream.specs.Streams.{Takes}
-use Rattle.vms_load.proofs.SetFacts.{well_of}
-use Rattle.vms_io.specs.Memory.{Supply, bytes_left}
-use Rattle.vms_kinds.specs.Bytes.{IsBytes}
-use Rattle.vms_stream.proofs.Stated.{never_both_holds}
-use Rattle.vms_load.proofs.ExactLoads.{content}
-use Rattle.vms_load.specs.Kept.{loads, kept, taken_by}
+use Rattle.vms_counter.proofs.Facade.{List, ℕ, Ok, Err, ap, subst, name_of, Fault, Takes, well_of, Supply, bytes_left, IsBytes, never_both_holds, content}
+use Rattle.vms_counter.proofs.Facade.{loads, kept, taken_by}
 use Rattle.vms_counter.proofs.trying.refusal_in.Goals as goal
 
 pub returns-in-Err-Refused-clause-refused : goal.returns-in-Err-Refused-clause-refused
@@ -19,12 +11,14 @@ returns-in-Err-Refused-clause-refused c =
     let r = c.in-Err-Refused.refusal in
     let said = content set set.machines (kept c.load.new.self) (taken_by c.load.new.self) (Err c.in-Err-Refused.field-0) c.in-Err-Refused.ensures.reads in
     let content = rw c.in-Err-Refused.field-0-is at said in
-    let fault = subst (λ (l : List ℕ). Fault set set.machines l r.at r.section r.reason content.0) (ap (λ (s : Supply). s.left) c.new-source.ensures) content.1 in
+    let fault =
+    subst (λ (l : List ℕ). Fault set set.machines l r.at r.section r.reason content.0) (ap (λ (s : Supply). s.left) c.new-source.ensures) content.1 in
     record {
       size = content.0;
       fault = fault;
       untaken = λ n machine states t.
-          never_both_holds set set.machines (well_of set c.args.new.now.set.well_formed) c.args.new.now.set.heads bytes ok n machine states r.at r.section r.reason content.0 t fault;
+          never_both_holds set set.machines
+          (well_of set c.args.new.now.set.well_formed) c.args.new.now.set.heads bytes ok n machine states r.at r.section r.reason content.0 t fault;
     }
 
 pub returns-in-Ok-clause-taken : goal.returns-in-Ok-clause-taken
@@ -35,5 +29,6 @@ returns-in-Ok-clause-taken c = λ none.
       taken = taken_by c.load.new.self;
       machine = name_of set c.in-Ok.field-0;
       states = kept c.load.new.self;
-      takes = subst (λ (l : List ℕ). Takes set set.machines l (taken_by c.load.new.self) (name_of set c.in-Ok.field-0) (kept c.load.new.self)) (ap (λ (s : Supply). s.left) c.new-source.ensures) said.0;
+      takes = subst (λ (l : List ℕ). Takes set set.machines l (taken_by c.load.new.self) (name_of set c.in-Ok.field-0) (kept c.load.new.self))
+          (ap (λ (s : Supply). s.left) c.new-source.ensures) said.0;
     }

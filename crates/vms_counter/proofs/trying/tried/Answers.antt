@@ -1,7 +1,4 @@
-use Rattle.std.proofs.Common.{map}
-use Rattle.vms_spec.specs.Lists.{at_option}
-use Rattle.vms_desc.specs.Described.{described}
-use Rattle.vms_image.specs.Typed.{state_of}
+use Rattle.vms_counter.proofs.Facade.{map, at_option, described, state_of}
 use Rattle.vms_counter.proofs.FoundLemmas.{named}
 use Rattle.vms_counter.proofs.trying.tried.Goals as goal
 
