@@ -13,7 +13,7 @@ use Rattle.dev_pit.specs.Pit.{IsLoadedBy, pit_read, pit_written}
 use Rattle.dev_pit.specs.Sound.{IsSoundPit}
 use Rattle.dev_pit.specs.declared.pit.Pit.{Pit}
 use Rattle.dev_serial.proofs.KeepLaws.{reads_keep_sound, writes_keep_sound, bytes_in_keep_sound, advances_keep_sound}
-use Rattle.dev_serial.proofs.LevelLaws.{reads_keep_level, writes_keep_level, bytes_in_keep_level, advances_keep_level}
+use Rattle.dev_serial.proofs.RegisterLaws.{reads_keep_level, writes_keep_level, bytes_in_keep_level, advances_keep_level}
 use Rattle.dev_serial.specs.Access.{read_of, written, came_in, advanced}
 use Rattle.dev_serial.specs.Port.{Port}
 use Rattle.dev_serial.specs.Sound.{IsSound as IsSoundPort}

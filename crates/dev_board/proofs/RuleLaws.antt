@@ -11,7 +11,7 @@ use Rattle.dev_pit.proofs.SavedLaw.{carried-saved as pit-carried, pit_of-saved}
 use Rattle.dev_pit.specs.Cells.{pit_cells}
 use Rattle.dev_pit.specs.Pit.{pit_out}
 use Rattle.dev_pit.specs.Saved.{rules, pit_of}
-use Rattle.dev_serial.proofs.CarriedLaw.{carried-saved as serial-carried, numbers-back}
+use Rattle.dev_serial.proofs.SavedCells.{carried-saved as serial-carried, numbers-back}
 use Rattle.dev_serial.proofs.SoundRules.{sound_meets_rules as port-meets}
 use Rattle.dev_serial.specs.PortNumbers.{saved as port-saved}
 use Rattle.dev_serial.specs.Rules.{restored as port-restored}

@@ -21,8 +21,7 @@ use Rattle.dev_pit.specs.Pit.{pit_out}
 use Rattle.dev_pit.specs.Saved.{restored_pit}
 use Rattle.dev_pit.specs.declared.pit.Pit.{Pit}
 use Rattle.dev_serial.proofs.AlikeLaws.{lines_alike}
-use Rattle.dev_serial.proofs.ComesBack.{saved_comes_back as serial-comes-back}
-use Rattle.dev_serial.proofs.SavedCells.{saved_are_cells as serial-saved}
+use Rattle.dev_serial.proofs.SavedCells.{saved_comes_back as serial-comes-back, saved_are_cells as serial-saved}
 use Rattle.dev_serial.specs.Cells.{carried as serial_carried}
 use Rattle.dev_serial.specs.Laws.{ComesBack as PortComesBack}
 use Rattle.dev_serial.specs.Port.{Port}
