@@ -1,24 +1,10 @@
 -- Boards that are alike give equal answers to each event.
-use Rattle.std.proofs.Common.{◌≡◌, ℕ, Bool, List, [], ◌∷◌, None, refl, sym, ap, subst, ◌∙◌}
-use Rattle.dev_pic.specs.Pair.{int_of, settled_pair}
-use Rattle.dev_pic.specs.declared.pair.PicPair.{PicPair}
-use Rattle.dev_pit.specs.Pit.{pit_edge}
-use Rattle.dev_serial.proofs.AlikeLaws.{reads_alike, writes_alike, bytes_in_alike, advances_alike, lines_alike, alike_itself, alike_back, alike_on}
-use Rattle.dev_serial.specs.Access.{read_of}
-use Rattle.dev_base.specs.Bits.{bits_where}
-use Rattle.dev_serial.specs.Port.{Port}
+use Rattle.dev_board.proofs.Facade.{◌≡◌, ℕ, Bool, List, [], ◌∷◌, None, refl, sym, ap, subst, ◌∙◌, int_of, settled_pair, PicPair, pit_edge, reads_alike}
+use Rattle.dev_board.proofs.Facade.{writes_alike, bytes_in_alike, advances_alike, lines_alike, alike_itself, alike_back, alike_on, read_of, bits_where, Port}
+use Rattle.dev_board.proofs.Facade.{AnswersAlike, StaysAlike, AlikeStays, Likeness, target_of, read_at, written_at, Alike, State, Act, valued, later_by, waited}
+use Rattle.dev_board.proofs.Facade.{acted, wires_after, inputs_of, settled, after_act, step, after_by, answers_by, wires_of, Answer, Event, Read, Write, Byte}
+use Rattle.dev_board.proofs.Facade.{Wait, Target, Register}
 use Rattle.dev_serial.specs.Sound.{Alike as AlikePorts}
-use Rattle.dev_board.specs.Laws.{AnswersAlike, StaysAlike, AlikeStays, Likeness}
-use Rattle.dev_board.specs.Ports.{target_of, read_at, written_at}
-use Rattle.dev_board.specs.Sound.{Alike}
-use Rattle.dev_board.specs.State.{State}
-use Rattle.dev_board.specs.Step.{Act, valued, later_by, waited, acted, wires_after, inputs_of, settled, after_act, step, after_by, answers_by}
-use Rattle.dev_board.specs.Wires.{wires_of}
-use Rattle.dev_board.specs.declared.event.Answer.{Answer}
-use Rattle.dev_board.specs.declared.event.Event.{Event}
-use Rattle.dev_board.specs.declared.event.Event.TheVariants.{Read, Write, Byte, Wait, Wire, Ack}
-use Rattle.dev_board.specs.declared.ports.Target.{Target}
-use Rattle.dev_board.specs.declared.ports.Target.TheVariants.{Pair, Counter, Control, Register, Nothing}
 
 -- The other board is the first with another port.
 module _ (m : State) (port : Port) (a : AlikePorts m.serial port) where
@@ -30,21 +16,15 @@ module _ (m : State) (port : Port) (a : AlikePorts m.serial port) where
 
   read_at-alike : (target : Target) (number : ℕ) → AnswersAlike Alike (read_at target number m) (read_at target number other)
   unfolding read_at
-  read_at-alike Pair number = record { value = refl; alike = record { same = refl; serial = a } }
-  read_at-alike (Counter counter) number = record { value = refl; alike = record { same = refl; serial = a } }
-  read_at-alike Control number = record { value = refl; alike = record { same = refl; serial = a } }
   read_at-alike (Register offset) number =
       let answers = reads_alike offset m.moment m.serial port a in
       record { value = answers.value; alike = with-serial (read_of offset m.moment m.serial).1 (read_of offset m.moment port).1 answers.alike }
-  read_at-alike Nothing number = record { value = refl; alike = record { same = refl; serial = a } }
+  read_at-alike _ number = record { value = refl; alike = record { same = refl; serial = a } }
 
   written_at-alike : (target : Target) (number value : ℕ) → Alike (written_at target number value m) (written_at target number value other)
   unfolding written_at
-  written_at-alike Pair number value = record { same = refl; serial = a }
-  written_at-alike (Counter counter) number value = record { same = refl; serial = a }
-  written_at-alike Control number value = record { same = refl; serial = a }
   written_at-alike (Register offset) number value = record { same = refl; serial = writes_alike offset value m.moment m.serial port a }
-  written_at-alike Nothing number value = record { same = refl; serial = a }
+  written_at-alike _ number value = record { same = refl; serial = a }
 
   waited-alike : (to : ℕ) → AnswersAlike Alike (waited to m) (waited to other)
   unfolding waited
@@ -61,8 +41,7 @@ module _ (m : State) (port : Port) (a : AlikePorts m.serial port) where
   acted-alike (Write number value) = record { value = refl; alike = written_at-alike (target_of m.level number) number value }
   acted-alike (Byte value) = record { value = refl; alike = record { same = refl; serial = bytes_in_alike value m.moment m.serial port a } }
   acted-alike (Wait ns) = waited-alike (later_by ns m.moment)
-  acted-alike (Wire input up) = record { value = refl; alike = record { same = refl; serial = a } }
-  acted-alike Ack = record { value = refl; alike = record { same = refl; serial = a } }
+  acted-alike _ = record { value = refl; alike = record { same = refl; serial = a } }
 
   inputs-alike : (wires : ℕ) → inputs_of wires other ≡ inputs_of wires m
   unfolding inputs_of
@@ -96,14 +75,15 @@ same_wires m port = refl
 other-step : (event : Event) (m : State) (port : Port) → AlikePorts m.serial port → AnswersAlike Alike (step event m) (step event (record m { serial = port }))
 unfolding step
 other-step event m port a =
-    rw (same_wires m port) (settle-alike (wires_after event (wires_of m)) (acted event m) (acted event (record m { serial = port })) (acted-alike m port a event))
+    rw (same_wires m port)
+    (settle-alike (wires_after event (wires_of m)) (acted event m) (acted event (record m { serial = port })) (acted-alike m port a event))
 
 step-alike : (event : Event) (m n : State) → Alike m n → AnswersAlike Alike (step event m) (step event n)
-step-alike event m n a =
-    subst (λ (o : State). AnswersAlike Alike (step event m) (step event o)) (sym a.same) (other-step event m n.serial a.serial)
+step-alike event m n a = rw a.same (other-step event m n.serial a.serial)
 
 -- What is alike after each event is alike after a list of events.
-module _ {S : Type 0} (AreAlike : S → S → Type 0) (go : Event → S → Answer × S) (each : (event : Event) (m n : S) → AreAlike m n → AnswersAlike AreAlike (go event m) (go event n)) where
+module _ {S : Type 0} (AreAlike : S → S → Type 0) (go : Event → S → Answer × S)
+    (each : (event : Event) (m n : S) → AreAlike m n → AnswersAlike AreAlike (go event m) (go event n)) where
   answers-alike : (events : List Event) (m n : S) → AreAlike m n → answers_by go events n ≡ answers_by go events m
   unfolding answers_by
   answers-alike [] m n a = refl

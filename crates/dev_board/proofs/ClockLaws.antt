@@ -1,14 +1,6 @@
 -- No event changes the level, and only a wait changes the moment.
-use Rattle.std.proofs.Common.{◌≡◌, ℕ, refl}
-use Rattle.dev_pic.specs.Pair.{int_of}
-use Rattle.dev_board.specs.Laws.{AnswersTellInt, ClockGoesOn, moment_left}
-use Rattle.dev_board.specs.Ports.{target_of, read_at, written_at}
-use Rattle.dev_board.specs.State.{State}
-use Rattle.dev_board.specs.Step.{Act, waited, acted, settled, after_act, step}
-use Rattle.dev_board.specs.declared.event.Event.{Event}
-use Rattle.dev_board.specs.declared.event.Event.TheVariants.{Read, Write, Byte, Wait, Wire, Ack}
-use Rattle.dev_board.specs.declared.ports.Target.{Target}
-use Rattle.dev_board.specs.declared.ports.Target.TheVariants.{Pair, Counter, Control, Register, Nothing}
+use Rattle.dev_board.proofs.Facade.{◌≡◌, ℕ, refl, int_of, AnswersTellInt, ClockGoesOn, moment_left, target_of, read_at, written_at, State, Act, waited, acted}
+use Rattle.dev_board.proofs.Facade.{settled, after_act, step, Event, Read, Write, Target, Pair}
 
 -- A board at a moment and of a level.
 record IsAt (moment level : ℕ) (after : State) : Type 0 where
@@ -19,27 +11,18 @@ module _ (m : State) where
   read_at-clock : (target : Target) (port : ℕ) → IsAt m.moment m.level (read_at target port m).1
   unfolding read_at
   read_at-clock Pair port = record { moment_is = refl; level_is = refl }
-  read_at-clock (Counter counter) port = record { moment_is = refl; level_is = refl }
-  read_at-clock Control port = record { moment_is = refl; level_is = refl }
-  read_at-clock (Register offset) port = record { moment_is = refl; level_is = refl }
-  read_at-clock Nothing port = record { moment_is = refl; level_is = refl }
+  read_at-clock _ port = record { moment_is = refl; level_is = refl }
 
   written_at-clock : (target : Target) (port value : ℕ) → IsAt m.moment m.level (written_at target port value m)
   unfolding written_at
   written_at-clock Pair port value = record { moment_is = refl; level_is = refl }
-  written_at-clock (Counter counter) port value = record { moment_is = refl; level_is = refl }
-  written_at-clock Control port value = record { moment_is = refl; level_is = refl }
-  written_at-clock (Register offset) port value = record { moment_is = refl; level_is = refl }
-  written_at-clock Nothing port value = record { moment_is = refl; level_is = refl }
+  written_at-clock _ port value = record { moment_is = refl; level_is = refl }
 
   acted-clock : (event : Event) → IsAt (moment_left event m.moment) m.level (acted event m).1
   unfolding acted waited
   acted-clock (Read port) = read_at-clock (target_of m.level port) port
   acted-clock (Write port value) = written_at-clock (target_of m.level port) port value
-  acted-clock (Byte value) = record { moment_is = refl; level_is = refl }
-  acted-clock (Wait ns) = record { moment_is = refl; level_is = refl }
-  acted-clock (Wire input up) = record { moment_is = refl; level_is = refl }
-  acted-clock Ack = record { moment_is = refl; level_is = refl }
+  acted-clock _ = record { moment_is = refl; level_is = refl }
 
 after_act-clock : (wires moment level : ℕ) (done : Act × State) → IsAt moment level done.1 → IsAt moment level (after_act wires done).1
 unfolding after_act settled

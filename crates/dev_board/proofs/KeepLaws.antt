@@ -1,38 +1,21 @@
 -- What each event keeps of the devices.
-use Rattle.std.proofs.Common.{◌≡◌, ℕ, ◌-◌, ◌<◌, ◌≤◌, ◌==◌, true, ◌&&◌, arith, ap, sym, subst, List, ◌∙◌}
-use Rattle.std.specs.Prelude.{nat_le}
-use Rattle.std.proofs.lemmas.Bool.{cond_both}
-use Rattle.dev_base.proofs.Choices.{either}
-use Rattle.dev_base.specs.declared.limits.TheConstants.{LAST_MOMENT}
-use Rattle.dev_pic.proofs.PairLaws.{steps_keep_registers, steps_keep_level as pair_keeps_level}
-use Rattle.dev_pic.specs.Pair.{is_port, read_pair, written_pair, acked}
-use Rattle.dev_pic.specs.Sound.{PairHasRegisters}
-use Rattle.dev_pic.specs.declared.pair.PicPair.{PicPair}
-use Rattle.dev_pit.proofs.SoundLaws.{sound_stays, steps_keep_level as pit_keeps_level}
-use Rattle.dev_pit.specs.Pit.{IsLoadedBy, pit_read, pit_written}
-use Rattle.dev_pit.specs.Sound.{IsSoundPit}
-use Rattle.dev_pit.specs.declared.pit.Pit.{Pit}
-use Rattle.dev_serial.proofs.KeepLaws.{reads_keep_sound, writes_keep_sound, bytes_in_keep_sound, advances_keep_sound}
-use Rattle.dev_serial.proofs.LevelLaws.{reads_keep_level, writes_keep_level, bytes_in_keep_level, advances_keep_level}
-use Rattle.dev_serial.specs.Access.{read_of, written, came_in, advanced}
-use Rattle.dev_serial.specs.Port.{Port}
+use Rattle.dev_board.proofs.Facade.{◌≡◌, ℕ, ◌-◌, ◌<◌, ◌≤◌, ◌==◌, true, ◌&&◌, arith, ap, sym, subst, List, ◌∙◌, nat_le, cond_both, either, LAST_MOMENT}
+use Rattle.dev_board.proofs.Facade.{steps_keep_registers, is_port, read_pair, written_pair, acked, PairHasRegisters, PicPair, sound_stays, IsLoadedBy, pit_read}
+use Rattle.dev_board.proofs.Facade.{pit_written, IsSoundPit, Pit, reads_keep_sound, writes_keep_sound, bytes_in_keep_sound, advances_keep_sound}
+use Rattle.dev_board.proofs.Facade.{reads_keep_level, writes_keep_level, bytes_in_keep_level, advances_keep_level, read_of, written, came_in, advanced, Port}
+use Rattle.dev_board.proofs.Facade.{IsEvent, target_of, read_at, written_at, write, HasDevices, State, later_by, waited, acted, Event, Read, Write, Byte, Wait}
+use Rattle.dev_board.proofs.Facade.{Wire, Ack, Target, Pair, Counter, Register}
+use Rattle.dev_pic.proofs.PairLaws.{steps_keep_level as pair_keeps_level}
+use Rattle.dev_pit.proofs.SoundLaws.{steps_keep_level as pit_keeps_level}
 use Rattle.dev_serial.specs.Sound.{IsSound as IsSoundPort}
-use Rattle.dev_board.specs.Laws.{IsEvent}
-use Rattle.dev_board.specs.Ports.{target_of, read_at, written_at, write}
-use Rattle.dev_board.specs.Sound.{HasDevices}
-use Rattle.dev_board.specs.State.{State}
-use Rattle.dev_board.specs.Step.{later_by, waited, acted}
-use Rattle.dev_board.specs.declared.event.Event.{Event}
-use Rattle.dev_board.specs.declared.event.Event.TheVariants.{Read, Write, Byte, Wait, Wire, Ack}
-use Rattle.dev_board.specs.declared.ports.Target.{Target}
-use Rattle.dev_board.specs.declared.ports.Target.TheVariants.{Pair, Counter, Control, Register, Nothing}
 
 -- An answer after which the devices have what they always keep.
 pub record Kept {A : Type 0} (answer : A × State) : Type 0 where
   pub kept : HasDevices answer.1
 
 module _ (m : State) (h : HasDevices m) where
-  with-devices : (pair : PicPair) (pit : Pit) (port : Port) → PairHasRegisters pair → IsSoundPit m.moment pit → IsSoundPort m.moment port → pair.level ≡ m.level → pit.level ≡ m.level → port.level ≡ m.level → HasDevices (record m { pair = pair; pit = pit; serial = port })
+  with-devices : (pair : PicPair) (pit : Pit) (port : Port) → PairHasRegisters pair → IsSoundPit m.moment pit → IsSoundPort m.moment port
+      → pair.level ≡ m.level → pit.level ≡ m.level → port.level ≡ m.level → HasDevices (record m { pair = pair; pit = pit; serial = port })
   with-devices pair pit port a b c d e f = record {
     level = h.level;
     moment = h.moment;
@@ -55,11 +38,11 @@ module _ (m : State) (h : HasDevices m) where
 
   pub read_at-kept : (target : Target) (port : ℕ) → Kept (read_at target port m)
   unfolding read_at
-  read_at-kept Pair port = record { kept = with-pair (read_pair port m.pair).1 (steps_keep_registers.read port m.pair h.pair) (pair_keeps_level.read port m.pair) }
+  read_at-kept Pair port =
+      record { kept = with-pair (read_pair port m.pair).1 (steps_keep_registers.read port m.pair h.pair) (pair_keeps_level.read port m.pair) }
   read_at-kept (Counter counter) port = record { kept = with-pit (pit_read counter m.moment m.pit).1 (sound_stays.in_reads counter m.moment m.pit h.pit) (pit_keeps_level.read counter m.moment m.pit) }
-  read_at-kept Control port = record { kept = h }
   read_at-kept (Register offset) port = record { kept = with-serial (read_of offset m.moment m.serial).1 (reads_keep_sound offset m.moment m.serial h.serial) (reads_keep_level offset m.moment m.serial) }
-  read_at-kept Nothing port = record { kept = h }
+  read_at-kept _ port = record { kept = h }
 
   pub pit-written : (port value : ℕ) → value < 256 → HasDevices (record m { pit = pit_written port value m.moment m.pit })
   pit-written port value v = with-pit _ (sound_stays.in_writes port value m.moment m.pit v h.pit) (pit_keeps_level.write port value m.moment m.pit)
@@ -113,11 +96,13 @@ module _ (m : State) (h : HasDevices m) where
 module _ (m : State) (h : HasDevices m) where
   pub after-pair : (port value : ℕ) (pair : PicPair) → (value, pair) ≡ read_pair port m.pair → HasDevices (record m { pair = pair })
   after-pair port value pair e =
-      subst (λ (answer : ℕ × PicPair). HasDevices (record m { pair = answer.1 })) (sym e) (with-pair m h (read_pair port m.pair).1 (steps_keep_registers.read port m.pair h.pair) (pair_keeps_level.read port m.pair))
+      subst (λ (answer : ℕ × PicPair). HasDevices (record m { pair = answer.1 })) (sym e)
+      (with-pair m h (read_pair port m.pair).1 (steps_keep_registers.read port m.pair h.pair) (pair_keeps_level.read port m.pair))
 
   pub after-pit : (counter value : ℕ) (pit : Pit) → (value, pit) ≡ pit_read counter m.moment m.pit → HasDevices (record m { pit = pit })
   after-pit counter value pit e =
-      subst (λ (answer : ℕ × Pit). HasDevices (record m { pit = answer.1 })) (sym e) (with-pit m h (pit_read counter m.moment m.pit).1 (sound_stays.in_reads counter m.moment m.pit h.pit) (pit_keeps_level.read counter m.moment m.pit))
+      subst (λ (answer : ℕ × Pit). HasDevices (record m { pit = answer.1 })) (sym e)
+      (with-pit m h (pit_read counter m.moment m.pit).1 (sound_stays.in_reads counter m.moment m.pit h.pit) (pit_keeps_level.read counter m.moment m.pit))
 
   pub after-serial : (offset value : ℕ) (port : Port) → (value, port) ≡ read_of offset m.moment m.serial → HasDevices (record m { serial = port })
   after-serial offset value port e =
@@ -127,7 +112,8 @@ module _ (m : State) (h : HasDevices m) where
   after-ack value pair e =
       subst (λ (answer : ℕ × PicPair). HasDevices (record m { pair = answer.1 })) (sym e) (ack-kept m h)
 
-  pub after-wait : (to : ℕ) (sent : List ℕ) (port : Port) → m.moment ≤ to → to ≤ LAST_MOMENT → (sent, port) ≡ advanced to m.serial → HasDevices (record m { moment = to; serial = port })
+  pub after-wait : (to : ℕ) (sent : List ℕ) (port : Port) → m.moment ≤ to → to ≤ LAST_MOMENT → (sent, port) ≡ advanced to m.serial
+      → HasDevices (record m { moment = to; serial = port })
   unfolding waited
   after-wait to sent port l b e =
       subst (λ (answer : List ℕ × Port). HasDevices (record m { moment = to; serial = answer.1 })) (sym e) (waited-kept m h to l b).kept

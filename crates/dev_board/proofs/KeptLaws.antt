@@ -1,31 +1,12 @@
 -- What is known of the timer between events.
-use Rattle.std.proofs.Common.{◌≡◌, ℕ, ◌/◌, ◌<◌, ◌≤◌, inl, inr, Bool, true, false, ◌&&◌, if◌then◌else◌, Option, Some, None, refl, sym, ap, ◌∙◌, subst, arith, ⊎_elim}
-use Rattle.std.proofs.lemmas.Bool.{cases_lt, or_parts}
-use Rattle.std.proofs.lemmas.Bool.Decides.{nat_tests}
-use Rattle.std.specs.Prelude.{nat_lt}
-use Rattle.dev_pit.proofs.Chips.{at_counter}
-use Rattle.dev_pit.proofs.CounterSteps.{same, read-goes_on}
-use Rattle.dev_pit.proofs.Edges.{edge_in_parts}
-use Rattle.dev_pit.specs.Count.{period, rises, ticks}
-use Rattle.dev_pit.specs.Counter.{edge_of, edge_since, out_of, read_of}
-use Rattle.dev_pit.specs.GoesOn.{GoesOn}
-use Rattle.dev_pit.specs.Pit.{counter_of, pit_edge, pit_out, pit_read}
-use Rattle.dev_pit.specs.Turns.{AreTurns, IsTurn}
+use Rattle.dev_board.proofs.Facade.{◌≡◌, ℕ, ◌/◌, ◌<◌, ◌≤◌, inl, inr, Bool, true, false, ◌&&◌, if◌then◌else◌, Option, Some, None, refl, sym, ap, ◌∙◌, subst}
+use Rattle.dev_board.proofs.Facade.{arith, ⊎_elim, cases_lt, or_parts, nat_tests, nat_lt, at_counter, same, read-goes_on, edge_in_parts, period, rises, ticks}
+use Rattle.dev_board.proofs.Facade.{edge_of, edge_since, out_of, GoesOn, counter_of, pit_edge, pit_out, pit_read, AreTurns, IsTurn, Mode, TerminalCount}
+use Rattle.dev_board.proofs.Facade.{OneShot, RateGenerator, SquareWave, SoftwareStrobe, HardwareStrobe, Pit, Turns, IsCalm, calm_by, later, read_at, target_of}
+use Rattle.dev_board.proofs.Facade.{written_at, read, write, HasDevices, State, Act, waited, calm_after, is_command, write_touches, Target, Pair, Counter}
+use Rattle.dev_board.proofs.Facade.{Control, Touch, Command, Access}
+use Rattle.dev_pit.specs.Counter.{read_of}
 use Rattle.dev_pit.specs.declared.counter.Counter.{Counter as Counting}
-use Rattle.dev_pit.specs.declared.mode.Mode.{Mode}
-use Rattle.dev_pit.specs.declared.mode.Mode.TheVariants.{TerminalCount, OneShot, RateGenerator, SquareWave, SoftwareStrobe, HardwareStrobe}
-use Rattle.dev_pit.specs.declared.pit.Pit.{Pit}
-use Rattle.dev_pit.specs.declared.turns.Turns.{Turns}
-use Rattle.dev_board.specs.Kept.{IsCalm, calm_by, later}
-use Rattle.dev_board.specs.Ports.{read_at, target_of, written_at, read, write}
-use Rattle.dev_board.specs.Sound.{HasDevices}
-use Rattle.dev_board.specs.State.{State}
-use Rattle.dev_board.specs.Step.{Act, waited}
-use Rattle.dev_board.specs.Touch.{calm_after, is_command, write_touches}
-use Rattle.dev_board.specs.declared.ports.Target.{Target}
-use Rattle.dev_board.specs.declared.ports.Target.TheVariants.{Pair, Counter, Control, Register, Nothing}
-use Rattle.dev_board.specs.declared.touch.Touch.{Touch}
-use Rattle.dev_board.specs.declared.touch.Touch.TheVariants.{Command, Access}
 use Rattle.dev_board.proofs.KeepLaws.{loaded}
 
 -- No edge comes in no time.
@@ -74,9 +55,6 @@ calm-turns m h turns are to l before =
       sym t.edge ∙ ap (edge_of (counter_of 0 m.pit) m.moment) is ∙ no-edge (counter_of 0 m.pit) m.moment,
     )
 
-pub calm-never : (m : State) → IsCalm 0 m
-calm-never m to l h = absurd (omega (arith, h))
-
 -- A read of a counter changes neither OUT nor its edges.
 record SameOut (before after : Counting) : Type 0 where
   out : (at : ℕ) → out_of after at ≡ out_of before at
@@ -112,32 +90,26 @@ module _ (until : ℕ) (m : State) (calm : IsCalm until m) where
 
   read_at-calm : (target : Target) (port : ℕ) → IsCalm until (read_at target port m).1
   unfolding read_at
-  read_at-calm Pair port = calm
   read_at-calm (Counter counter) port = read-calm counter
-  read_at-calm Control port = calm
-  read_at-calm (Register offset) port = calm
-  read_at-calm Nothing port = calm
+  read_at-calm _ port = calm
 
   written_at-calm : (target : Target) (port value : ℕ) → IsCalm (calm_after (write_touches target port value) until) (written_at target port value m)
   unfolding written_at
-  written_at-calm Pair port value = by_command (is_command port value) where
-    by_command : (command : Bool) → IsCalm (calm_after (if command then Command else Access) until) m
-    by_command true = calm
-    by_command false = calm
+  written_at-calm Pair port value =
+      elim (is_command port value) as (λ command. IsCalm (calm_after (if command then Command else Access) until) m) [ true ↦ calm | false ↦ calm ]
   written_at-calm (Counter counter) port value = λ to l h. absurd (omega (arith, h))
   written_at-calm Control port value = λ to l h. absurd (omega (arith, h))
-  written_at-calm (Register offset) port value = calm
-  written_at-calm Nothing port value = calm
+  written_at-calm _ port value = calm
 
   -- What events leave of it.
   pub calm-read : (port value : ℕ) (after : State) → (value, after) ≡ read port m → IsCalm until after
   calm-read port value after e =
       subst (λ (done : ℕ × State). IsCalm until done.1) (sym e) (read_at-calm (target_of m.level port) port)
 
-  pub calm-write : (port value : ℕ) (after : State) (touch : Touch) → touch ≡ write_touches (target_of m.level port) port value → after ≡ write port value m → IsCalm (calm_after touch until) after
+  pub calm-write : (port value : ℕ) (after : State) (touch : Touch) → touch ≡ write_touches (target_of m.level port) port value → after ≡ write port value m
+      → IsCalm (calm_after touch until) after
   calm-write port value after touch t e =
-      subst (λ (u : Touch). IsCalm (calm_after u until) after) (sym t)
-      (subst (IsCalm (calm_after (write_touches (target_of m.level port) port value) until)) (sym e) (written_at-calm (target_of m.level port) port value))
+      rw (t, e) (written_at-calm (target_of m.level port) port value)
 
   wait-calm : (to : ℕ) → m.moment ≤ to → to < until → IsCalm until (waited to m).1
   unfolding waited pit_edge

@@ -1,13 +1,9 @@
-pub mod Again
 pub mod AlikeLaws
 pub mod ClockLaws
-pub mod CommandLaws
-pub mod Halves
+pub mod Facade
 pub mod KeepLaws
 pub mod KeptLaws
 pub mod PortLaws
-pub mod QuietLaws
-pub mod Reached
 pub mod RestoredLaws
 pub mod RuleLaws
 pub mod SavedLaws

@@ -1,13 +1,7 @@
 -- What each port reaches.
-use Rattle.std.proofs.Common.{◌≡◌, ◌≢◌, ℕ, ◌+◌, ◌-◌, ◌<◌, ◌≤◌, ◌==◌, ◌⊎◌, inl, inr, Bool, true, false, ◌&&◌, ◌||◌, if◌then◌else◌, refl, ap, ◌∙◌, arith}
-use Rattle.std.proofs.Math.Bool.{and-false}
-use Rattle.std.proofs.lemmas.Bool.{ne_eqb, le-leb, lt-leb}
-use Rattle.std.specs.Prelude.{nat_le}
-use Rattle.dev_pic.specs.Pair.{is_port}
-use Rattle.dev_board.specs.Laws.{PortsAre}
-use Rattle.dev_board.specs.Ports.{target_of}
-use Rattle.dev_board.specs.declared.ports.Target.{Target}
-use Rattle.dev_board.specs.declared.ports.Target.TheVariants.{Pair, Counter, Control, Register, Nothing}
+use Rattle.dev_board.proofs.Facade.{◌≡◌, ◌≢◌, ℕ, ◌+◌, ◌-◌, ◌<◌, ◌≤◌, ◌==◌, ◌⊎◌, inl, inr, Bool, true, false, ◌&&◌, ◌||◌, if◌then◌else◌, refl, ap, ◌∙◌, arith}
+use Rattle.dev_board.proofs.Facade.{sym, subst, ⊎_elim, and-false, ne_eqb, le-leb, lt-leb, cond_both, nat_le, nat_tests, is_port, PortsAre, target_of, Target}
+use Rattle.dev_board.proofs.Facade.{Pair, Counter, Control, Register, Nothing, IsPort, HasDevices, State}
 
 -- What a port reaches that isn't the pair's.
 abbrev other : ℕ → Target
@@ -33,9 +27,11 @@ not_pair level port a b c d e f =
 -- A port between two chips', or after both and before their level registers, isn't the pair's.
 between : (level port : ℕ) → (0x21 < port) × (port < 0xa0) ⊎ (0xa1 < port) × (port < 0x4d0) → target_of level port ≡ other port
 between level port (inl (low, high)) =
-    by_pair level port false (not_pair level port (λ e. omega arith) (λ e. omega arith) (λ e. omega arith) (λ e. omega arith) (λ e. omega arith) (λ e. omega arith))
+    by_pair level port false
+    (not_pair level port (λ e. omega arith) (λ e. omega arith) (λ e. omega arith) (λ e. omega arith) (λ e. omega arith) (λ e. omega arith))
 between level port (inr (low, high)) =
-    by_pair level port false (not_pair level port (λ e. omega arith) (λ e. omega arith) (λ e. omega arith) (λ e. omega arith) (λ e. omega arith) (λ e. omega arith))
+    by_pair level port false
+    (not_pair level port (λ e. omega arith) (λ e. omega arith) (λ e. omega arith) (λ e. omega arith) (λ e. omega arith) (λ e. omega arith))
 
 counter_of : (port counter : ℕ) → 0x40 ≤ port → port ≤ 0x42 → port - 0x40 ≡ counter → other port ≡ Counter counter
 counter_of port counter low high back = rw (le-leb 0x40 port low, le-leb port 0x42 high) (ap Counter back)
@@ -49,7 +45,13 @@ control_at level = between level 0x43 (inl (omega arith, omega arith))
 
 register_of : (port offset : ℕ) → 0x3f8 ≤ port → port ≤ 0x3ff → port - 0x3f8 ≡ offset → other port ≡ Register offset
 register_of port offset low high back =
-    rw (le-leb 0x40 port (omega (arith, low)), lt-leb port 0x42 (omega (arith, low)), ne_eqb port 0x43 (λ e. absurd (omega (arith, low))), le-leb 0x3f8 port low, le-leb port 0x3ff high)
+    rw (
+      le-leb 0x40 port (omega (arith, low)),
+      lt-leb port 0x42 (omega (arith, low)),
+      ne_eqb port 0x43 (λ e. absurd (omega (arith, low))),
+      le-leb 0x3f8 port low,
+      le-leb port 0x3ff high,
+    )
     (ap Register back)
 
 register_at : (level offset : ℕ) → offset < 8 → target_of level (0x3f8 + offset) ≡ Register offset
@@ -82,3 +84,48 @@ ports_are = record {
   register = register_at;
   nothing = nothing_at;
 }
+
+-- ---- what is known of a port that reaches a target
+
+-- What is known of a port that reaches a target.
+abbrev pub IsReached : ℕ → ℕ → Target → Type 0
+IsReached level port Pair = is_port level port ≡ true
+IsReached level port (Counter counter) = (counter < 3) × IsPort port
+IsReached level port Control = IsPort port
+IsReached level port (Register offset) = offset ≤ 7
+IsReached level port Nothing = Unit {0}
+
+counter-port : (port : ℕ) → (nat_le 0x40 port && nat_le port 0x42) ≡ true → (port - 0x40 < 3) × IsPort port
+counter-port port e = (grind (arith, nat_tests), (grind (arith, nat_tests), grind (arith, nat_tests)))
+
+control-port : (port : ℕ) → (port == 0x43) ≡ true → IsPort port
+control-port port e = (grind (arith, nat_tests), grind (arith, nat_tests))
+
+register-port : (port : ℕ) → (nat_le 0x3f8 port && nat_le port 0x3ff) ≡ true → port - 0x3f8 ≤ 7
+register-port port e = grind (arith, nat_tests)
+
+reached : (level port : ℕ) → IsReached level port (target_of level port)
+unfolding target_of
+reached level port =
+    cond_both (is_port level port) _ _ (IsReached level port) (λ e. e) (λ _.
+    cond_both (nat_le 0x40 port && nat_le port 0x42) _ _ (IsReached level port) (counter-port port) (λ _.
+    cond_both (port == 0x43) _ _ (IsReached level port) (control-port port) (λ _.
+    cond_both (nat_le 0x3f8 port && nat_le port 0x3ff) _ _ (IsReached level port) (register-port port) (λ _. tt))))
+
+-- The same for what a call returned and a match found.
+pub reached_as : (level port : ℕ) (target found : Target) → target ≡ target_of level port → target ≡ found → IsReached level port found
+reached_as level port target found e is =
+    subst (IsReached level port) (sym e ∙ is) (reached level port)
+
+-- The pair's own port, by the pair's level.
+pub pair_port : (m now : State) (port : ℕ) (target : Target) → HasDevices m → m ≡ now → target ≡ target_of now.level port → target ≡ Pair
+    → is_port m.pair.level port ≡ true
+pair_port m now port target h view e is =
+    ap (λ level. is_port level port) (h.pair_level ∙ ap (λ (s : State). s.level) view) ∙ reached_as now.level port target Pair e is
+
+-- A port of the timer chip.
+pub pit_port : (level port : ℕ) (target : Target) → target ≡ target_of level port → ((counter : ℕ) × (target ≡ Counter counter)) ⊎ (target ≡ Control)
+    → IsPort port
+pit_port level port target e is =
+    ⊎_elim (λ counter. (reached_as level port target (Counter counter.0) e counter.1).1)
+    (λ control. reached_as level port target Control e control) is

@@ -1,33 +1,15 @@
 -- A restored board is sound.
-use Rattle.std.proofs.Common.{◌≡◌, ℕ, ◌≤◌, Bool, true, false, cond, Result, Ok, Err, refl, sym, ap, subst, ◌∙◌, arith}
-use Rattle.std.proofs.lemmas.Bool.Decides.{nat_tests}
-use Rattle.std.specs.Prelude.{nat_le}
-use Rattle.dev_base.proofs.RuleLaws.{ok-hook}
-use Rattle.dev_base.specs.Levels.{IsLevel, MayRestore}
-use Rattle.dev_base.specs.declared.limits.TheConstants.{LAST_MOMENT}
-use Rattle.dev_pic.proofs.PairLaws.{steps_keep_registers}
-use Rattle.dev_pic.proofs.RestoredLaws.{pair-sound}
-use Rattle.dev_pic.specs.Sound.{IsSoundPair}
-use Rattle.dev_pic.specs.declared.fault.ChipFault.{ChipFault}
-use Rattle.dev_pic.specs.declared.pair.PicPair.{PicPair}
-use Rattle.dev_pit.proofs.RestoredLaw.{pit-restored}
-use Rattle.dev_pit.specs.Sound.{IsSoundPit}
-use Rattle.dev_pit.specs.declared.pit.Pit.{Pit}
+use Rattle.dev_board.proofs.Facade.{◌≡◌, ℕ, ◌≤◌, Bool, true, false, cond, Result, Ok, Err, refl, sym, ap, subst, ◌∙◌, arith, nat_tests, nat_le, ok-hook}
+use Rattle.dev_board.proofs.Facade.{IsLevel, MayRestore, LAST_MOMENT, steps_keep_registers, pair-sound, IsSoundPair, ChipFault, PicPair, pit-restored}
+use Rattle.dev_board.proofs.Facade.{IsSoundPit, Pit, IsSoundAt, Port, AreBoardCells, moment_of, timed, by_chip, by_device, lines_agree, agreed, joined}
+use Rattle.dev_board.proofs.Facade.{numbers_back, pair_back, pit_back, serial_back, restored, RestoredIsSound, HasDevices, IsSound, State, BoardCells, Misfit}
+use Rattle.dev_board.proofs.Facade.{Unsound, LinesDisagree, TIMER_DEVICE, MASTER_DEVICE, PIT_DEVICE, SERIAL_DEVICE}
 use Rattle.dev_serial.proofs.RestoredLaw.{restored_is_sound as port-sound}
-use Rattle.dev_serial.specs.Laws.{IsSoundAt}
-use Rattle.dev_serial.specs.Port.{Port}
-use Rattle.dev_board.specs.Saved.{AreBoardCells, moment_of, timed, by_chip, by_device, lines_agree, agreed, joined, numbers_back, pair_back, pit_back, serial_back, restored}
-use Rattle.dev_board.specs.SavedLaws.{RestoredIsSound}
-use Rattle.dev_board.specs.Sound.{HasDevices, IsSound}
-use Rattle.dev_board.specs.State.{State}
-use Rattle.dev_board.specs.declared.cells.BoardCells.{BoardCells}
-use Rattle.dev_board.specs.declared.misfit.Misfit.{Misfit}
-use Rattle.dev_board.specs.declared.misfit.Misfit.TheVariants.{Unsound, LinesDisagree}
-use Rattle.dev_board.specs.declared.misfit.TheConstants.{TIMER_DEVICE, MASTER_DEVICE, PIT_DEVICE, SERIAL_DEVICE}
 use Rattle.dev_board.proofs.SavedLaws.{has-lines}
 
 -- The board is made of devices that were restored, and the lines agree.
-pub record IsMadeOf (level : ℕ) (of_timer : Result ℕ Misfit) (of_pair : Result PicPair Misfit) (of_pit : Result Pit Misfit) (of_port : Result Port Misfit) (m : State) : Type 0 where
+pub record IsMadeOf (level : ℕ) (of_timer : Result ℕ Misfit) (of_pair : Result PicPair Misfit) (of_pit : Result Pit Misfit) (of_port : Result Port Misfit)
+    (m : State) : Type 0 where
   pub same_level : m.level ≡ level
   pub timer : of_timer ≡ Ok m.moment
   pub pair : of_pair ≡ Ok m.pair
@@ -47,7 +29,8 @@ agreed-ok : (found m : State) → agreed found ≡ Ok m → IsAgreed (lines_agre
 unfolding agreed
 agreed-ok found m e = agreed-by (lines_agree found) found m _ e
 
-pub made_of : (level : ℕ) (of_timer : Result ℕ Misfit) (of_pair : Result PicPair Misfit) (of_pit : Result Pit Misfit) (of_port : Result Port Misfit) (m : State) → joined level of_timer of_pair of_pit of_port ≡ Ok m → IsMadeOf level of_timer of_pair of_pit of_port m
+pub made_of : (level : ℕ) (of_timer : Result ℕ Misfit) (of_pair : Result PicPair Misfit) (of_pit : Result Pit Misfit) (of_port : Result Port Misfit) (m : State)
+    → joined level of_timer of_pair of_pit of_port ≡ Ok m → IsMadeOf level of_timer of_pair of_pit of_port m
 unfolding joined
 made_of level (Err misfit) of_pair of_pit of_port m e = cc
 made_of level (Ok moment) (Err misfit) of_pit of_port m e = cc
@@ -136,42 +119,36 @@ restored_is_sound = record {
   level = λ level cells m e. (made_of level (timed (moment_of cells)) _ _ _ m e).same_level;
 }
 
--- What a restore returns, by the first fault of a device.
-joined-pit : (level moment : ℕ) (pair : PicPair) (misfit : Misfit) (of_timer : Result ℕ Misfit) (of_pair : Result PicPair Misfit) (of_pit : Result Pit Misfit) (of_port : Result Port Misfit) → of_timer ≡ Ok moment → of_pair ≡ Ok pair → of_pit ≡ Err misfit → joined level of_timer of_pair of_pit of_port ≡ Err misfit
-unfolding joined
-joined-pit level moment pair misfit of_timer of_pair of_pit of_port a b c = rw (a, b, c) refl
-
-joined-port : (level moment : ℕ) (pair : PicPair) (pit : Pit) (misfit : Misfit) (of_timer : Result ℕ Misfit) (of_pair : Result PicPair Misfit) (of_pit : Result Pit Misfit) (of_port : Result Port Misfit) → of_timer ≡ Ok moment → of_pair ≡ Ok pair → of_pit ≡ Ok pit → of_port ≡ Err misfit → joined level of_timer of_pair of_pit of_port ≡ Err misfit
-unfolding joined
-joined-port level moment pair pit misfit of_timer of_pair of_pit of_port a b c d = rw (a, b, c, d) refl
-
-joined-all : (level moment : ℕ) (pair : PicPair) (pit : Pit) (port : Port) (of_timer : Result ℕ Misfit) (of_pair : Result PicPair Misfit) (of_pit : Result Pit Misfit) (of_port : Result Port Misfit) → of_timer ≡ Ok moment → of_pair ≡ Ok pair → of_pit ≡ Ok pit → of_port ≡ Ok port → joined level of_timer of_pair of_pit of_port ≡ agreed (record { level = level; moment = moment; pair = pair; pit = pit; serial = port })
-unfolding joined
-joined-all level moment pair pit port of_timer of_pair of_pit of_port a b c d = rw (a, b, c, d) refl
-
--- The same for cells, with the moment that was found.
-module _ (level : ℕ) (cells : BoardCells) (found : ℕ) (time : timed (moment_of cells) ≡ Ok found) (pair : PicPair) (of_pair : pair_back level cells.master.items cells.slave.items ≡ Ok pair) where
+-- What a restore returns, by the first fault of a device, with the moment that was found.
+module _ (level : ℕ) (cells : BoardCells) (found : ℕ) (time : timed (moment_of cells) ≡ Ok found) (pair : PicPair)
+    (of_pair : pair_back level cells.master.items cells.slave.items ≡ Ok pair) where
   same : found ≡ moment_of cells
   same = (timed-ok (moment_of cells) found time).same
 
   pit-then : (outcome : Result Pit Misfit) → pit_back level found cells.pit.items ≡ outcome → pit_back level (moment_of cells) cells.pit.items ≡ outcome
-  pit-then outcome e = subst (λ (n : ℕ). pit_back level n cells.pit.items ≡ outcome) same e
+  pit-then outcome e = rw same at e
 
-  port-then : (outcome : Result Port Misfit) → serial_back level found cells.serial.items ≡ outcome → serial_back level (moment_of cells) cells.serial.items ≡ outcome
-  port-then outcome e = subst (λ (n : ℕ). serial_back level n cells.serial.items ≡ outcome) same e
+  port-then : (outcome : Result Port Misfit) → serial_back level found cells.serial.items ≡ outcome
+      → serial_back level (moment_of cells) cells.serial.items ≡ outcome
+  port-then outcome e = rw same at e
 
   pub pit-refused : (misfit : Misfit) → pit_back level found cells.pit.items ≡ Err misfit → restored level cells ≡ Err misfit
-  pit-refused misfit e = joined-pit level found pair misfit _ _ _ _ time of_pair (pit-then _ e)
+  unfolding joined
+  pit-refused misfit e = rw (time, of_pair, pit-then _ e) refl
 
-  pub port-refused : (pit : Pit) (misfit : Misfit) → pit_back level found cells.pit.items ≡ Ok pit → serial_back level found cells.serial.items ≡ Err misfit → restored level cells ≡ Err misfit
-  port-refused pit misfit d e = joined-port level found pair pit misfit _ _ _ _ time of_pair (pit-then _ d) (port-then _ e)
+  pub port-refused : (pit : Pit) (misfit : Misfit) → pit_back level found cells.pit.items ≡ Ok pit → serial_back level found cells.serial.items ≡ Err misfit
+      → restored level cells ≡ Err misfit
+  unfolding joined
+  port-refused pit misfit d e = rw (time, of_pair, pit-then _ d, port-then _ e) refl
 
-  module _ (pit : Pit) (of_pit : pit_back level found cells.pit.items ≡ Ok pit) (port : Port) (of_port : serial_back level found cells.serial.items ≡ Ok port) where
+  module _ (pit : Pit) (of_pit : pit_back level found cells.pit.items ≡ Ok pit) (port : Port)
+      (of_port : serial_back level found cells.serial.items ≡ Ok port) where
     abbrev board : State
     board = record { level = level; moment = found; pair = pair; pit = pit; serial = port }
 
     pub all-agreed : restored level cells ≡ agreed board
-    all-agreed = joined-all level found pair pit port _ _ _ _ time of_pair (pit-then _ of_pit) (port-then _ of_port)
+    unfolding joined
+    all-agreed = rw (time, of_pair, pit-then _ of_pit, port-then _ of_port) refl
 
     pub lines-taken : lines_agree board ≡ true → restored level cells ≡ Ok board
     unfolding agreed

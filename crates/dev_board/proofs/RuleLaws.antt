@@ -1,35 +1,51 @@
 -- A board is sound exactly if its cells in the newest set meet the rules and the lines agree.
-use Rattle.std.proofs.Common.{◌≡◌, ℕ, ◌≤◌, Result, Ok, refl, sym, ap, subst, ◌∙◌, arith}
-use Rattle.dev_base.proofs.RuleLaws.{judged-ok}
-use Rattle.dev_base.specs.Bits.{has}
-use Rattle.dev_base.specs.declared.limits.TheConstants.{NEWEST, LAST_MOMENT}
-use Rattle.dev_pic.proofs.FaultLaws.{pair-same}
+use Rattle.dev_board.proofs.Facade.{◌≡◌, ℕ, ℤ, ◌/◌, List, length, take, drop, ap, ◌∙◌, arith, length-append, ◌≤◌, Result, Ok, refl, sym, subst, saved-count}
+use Rattle.dev_board.proofs.Facade.{saved_are_cells, kinds, saved_cells, pair_cells, PicPair, pit_cells, saved, carried, MaySaveUnder, AreBoardCells, timed}
+use Rattle.dev_board.proofs.Facade.{moment_of, pair_back, pit_back, serial_back, restored, State, judged-ok, has, NEWEST, LAST_MOMENT, pair-same, lines_of}
+use Rattle.dev_board.proofs.Facade.{slave_int_of, pit_of-saved, pit_out, rules, pit_of, numbers-back, steps_keep_registers, IsSoundPair, IsSoundPit}
+use Rattle.dev_board.proofs.Facade.{lines_alike, restored-saved, Port, line_of, IsTold, SoundMeetsRules, HasLines, IsSound, PIT_DEVICE, SERIAL_DEVICE}
+use Rattle.dev_board.proofs.Facade.{BoardCells}
 use Rattle.dev_pic.proofs.SavedLaws.{carried-saved as chip-carried}
-use Rattle.dev_pic.specs.Pair.{lines_of, slave_int_of}
-use Rattle.dev_pic.specs.declared.pair.PicPair.{PicPair}
-use Rattle.dev_pit.proofs.SavedLaw.{carried-saved as pit-carried, pit_of-saved}
-use Rattle.dev_pit.specs.Cells.{pit_cells}
-use Rattle.dev_pit.specs.Pit.{pit_out}
-use Rattle.dev_pit.specs.Saved.{rules, pit_of}
-use Rattle.dev_serial.proofs.CarriedLaw.{carried-saved as serial-carried, numbers-back}
+use Rattle.dev_pit.proofs.SavedLaw.{carried-saved as pit-carried}
+use Rattle.dev_serial.proofs.SavedCells.{carried-saved as serial-carried}
 use Rattle.dev_serial.proofs.SoundRules.{sound_meets_rules as port-meets}
 use Rattle.dev_serial.specs.PortNumbers.{saved as port-saved}
 use Rattle.dev_serial.specs.Rules.{restored as port-restored}
-use Rattle.dev_pic.proofs.PairLaws.{steps_keep_registers}
-use Rattle.dev_pic.specs.Sound.{IsSoundPair}
-use Rattle.dev_pit.specs.Sound.{IsSoundPit}
-use Rattle.dev_serial.proofs.AlikeLaws.{lines_alike}
-use Rattle.dev_serial.proofs.SavedLaw.{restored-saved}
-use Rattle.dev_serial.specs.Port.{Port, line_of}
 use Rattle.dev_serial.specs.Sound.{IsSound as IsSoundPort}
-use Rattle.dev_board.proofs.Halves.{board-cells}
 use Rattle.dev_board.proofs.RestoredLaws.{IsMadeOf, made_of, chip-ok, device-ok, timed-ok, pair-back, pit-back}
 use Rattle.dev_board.proofs.SavedLaws.{has-lines, comes-back}
-use Rattle.dev_board.specs.Saved.{saved, carried, MaySaveUnder, AreBoardCells, timed, moment_of, pair_back, pit_back, serial_back, restored}
-use Rattle.dev_board.specs.SavedLaws.{IsTold, SoundMeetsRules}
-use Rattle.dev_board.specs.Sound.{HasLines, IsSound}
-use Rattle.dev_board.specs.State.{State}
-use Rattle.dev_board.specs.declared.misfit.TheConstants.{PIT_DEVICE, SERIAL_DEVICE}
+
+-- ---- the cells of a pair's two chips, separately and one after the other
+
+half : (set : ℕ) (pair : PicPair) → length (pair_cells set pair) / 2 ≡ length (kinds set)
+half set pair =
+    let master = saved-count set pair.master in
+    let slave = saved-count set pair.slave in
+    let both = length-append (saved_cells set pair.master) (saved_cells set pair.slave) in
+    omega (arith, master, slave, both)
+
+pub master-half : (set : ℕ) (pair : PicPair) (cells : List ℤ) → cells ≡ pair_cells set pair → take (length cells / 2) cells ≡ saved_cells set pair.master
+master-half set pair cells e =
+    ap (λ (l : List ℤ). take (length l / 2) l) e ∙ ap (λ n. take n (pair_cells set pair)) (half set pair) ∙ saved_are_cells.master set pair
+
+pub slave-half : (set : ℕ) (pair : PicPair) (cells : List ℤ) → cells ≡ pair_cells set pair → drop (length cells / 2) cells ≡ saved_cells set pair.slave
+slave-half set pair cells e =
+    ap (λ (l : List ℤ). drop (length l / 2) l) e ∙ ap (λ n. drop n (pair_cells set pair)) (half set pair) ∙ saved_are_cells.slave set pair
+
+-- The cells of five devices.
+abbrev pub five : (t u v w x : List ℤ) → BoardCells
+five t u v w x = record {
+  timer = record { items = t };
+  master = record { items = u };
+  slave = record { items = v };
+  pit = record { items = w };
+  serial = record { items = x };
+}
+
+pub same-five : {t u v w x t' u' v' w' x' : List ℤ} → t ≡ t' → u ≡ u' → v ≡ v' → w ≡ w' → x ≡ x' → five t u v w x ≡ five t' u' v' w' x'
+same-five a b c d e = rw (a, b, c, d, e) refl
+
+-- ---- the rules
 
 module _ (m : State) (s : IsSound m) where
   may : MaySaveUnder m.level NEWEST
@@ -42,7 +58,8 @@ module _ (m : State) (s : IsSound m) where
       let pair_le : m.pair.level ≤ NEWEST = let l = s.devices.level.last in let e = s.devices.pair_level in omega (arith, l, e) in
       let pit_le : m.pit.level ≤ NEWEST = let l = s.devices.level.last in let e = s.devices.pit_level in omega (arith, l, e) in
       let serial_le : m.serial.level ≤ NEWEST = let l = s.devices.level.last in let e = s.devices.serial_level in omega (arith, l, e) in
-      board-cells NEWEST m _ _ _ _ _ refl (chip-carried m.pair.level NEWEST _ m.pair.master pair_le s.pair.master) (chip-carried m.pair.level NEWEST _ m.pair.slave pair_le s.pair.slave)
+      same-five refl (chip-carried m.pair.level NEWEST _ m.pair.master pair_le s.pair.master)
+      (chip-carried m.pair.level NEWEST _ m.pair.slave pair_le s.pair.slave)
       (pit-carried NEWEST m.moment m.pit pit_le s.devices.pit) (serial-carried NEWEST m.moment m.serial s.devices.moment s.devices.serial serial_le)
 
   told : IsTold m
@@ -88,7 +105,8 @@ module _ (m : State) (t : IsTold m) (n : State) (e : restored m.level (saved NEW
   same_pit : n.pit ≡ m.pit
   unfolding saved
   same_pit =
-      sym (judged-ok (rules m.level m.moment (pit_cells NEWEST m.pit)) (pit_of m.level (pit_cells NEWEST m.pit)) n.pit (device-ok PIT_DEVICE _ n.pit made.pit)).1
+      sym (judged-ok (rules m.level m.moment (pit_cells NEWEST m.pit)) (pit_of m.level (pit_cells NEWEST m.pit)) n.pit
+      (device-ok PIT_DEVICE _ n.pit made.pit)).1
       ∙ ap (λ (level : ℕ). pit_of level (pit_cells NEWEST m.pit)) (sym t.pit_level)
       ∙ pit_of-saved m.pit t.counters
 
@@ -117,9 +135,11 @@ module _ (m : State) (t : IsTold m) (n : State) (e : restored m.level (saved NEW
   lines =
       let has_lines = has-lines n made.lines in
       record {
-        out = ap (λ (pair : PicPair). has (lines_of pair) 0) (sym same_pair) ∙ has_lines.out ∙ ap (λ (now : ℕ). pit_out 0 now n.pit) same_moment ∙ ap (pit_out 0 m.moment) same_pit;
+        out = ap (λ (pair : PicPair). has (lines_of pair) 0) (sym same_pair) ∙ has_lines.out ∙ ap (λ (now : ℕ). pit_out 0 now n.pit) same_moment
+            ∙ ap (pit_out 0 m.moment) same_pit;
         slave = ap (λ (pair : PicPair). has (lines_of pair) 2) (sym same_pair) ∙ has_lines.slave ∙ ap slave_int_of same_pair;
-        serial = ap (λ (pair : PicPair). has (lines_of pair) 4) (sym same_pair) ∙ has_lines.serial ∙ ap (λ (now : ℕ). line_of now n.serial) same_moment ∙ same_line;
+        serial = ap (λ (pair : PicPair). has (lines_of pair) 4) (sym same_pair) ∙ has_lines.serial ∙ ap (λ (now : ℕ). line_of now n.serial) same_moment
+            ∙ same_line;
       }
 
   sound : IsSound m

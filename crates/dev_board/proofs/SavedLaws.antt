@@ -1,39 +1,18 @@
 -- What is saved of a board can be restored.
-use Rattle.std.proofs.Common.{◌≡◌, ℕ, ℤ, pos, ◌≤◌, Bool, true, false, List, ◌∷◌, Result, Ok, refl, sym, ap, subst, ◌∙◌, arith, []}
-use Rattle.std.proofs.lemmas.Bool.{and_parts, false≢true, and_from}
-use Rattle.std.proofs.lemmas.Bool.Decides.{nat_tests}
-use Rattle.std.specs.Prelude.{nat_le}
-use Rattle.dev_base.proofs.CellLaws.{of_none, of_more, long}
-use Rattle.dev_base.specs.Bits.{has, same}
-use Rattle.dev_base.specs.Cells.{AreOf}
-use Rattle.dev_base.specs.Levels.{IsLevel, MaySave, MayRestore}
-use Rattle.dev_base.specs.declared.limits.TheConstants.{NEWEST, LAST_MOMENT}
-use Rattle.dev_base.proofs.RuleLaws.{hook-ok}
-use Rattle.dev_pic.proofs.SavedLaws.{carried-saved, pair-restored, set-of}
-use Rattle.dev_pic.specs.Cells.{kinds as pic_kinds, saved_cells, carried as pic_carried}
-use Rattle.dev_pic.specs.Pair.{lines_of, slave_int_of}
-use Rattle.dev_pic.specs.Saved.{restored_pair}
-use Rattle.dev_pic.specs.declared.fault.ChipFault.{ChipFault}
-use Rattle.dev_pic.specs.declared.pair.PicPair.{PicPair}
+use Rattle.dev_board.proofs.Facade.{◌≡◌, ℕ, ℤ, pos, ◌≤◌, Bool, true, false, List, ◌∷◌, Result, Ok, refl, sym, ap, subst, ◌∙◌, arith, [], and_parts, false≢true}
+use Rattle.dev_board.proofs.Facade.{and_from, nat_tests, nat_le, of_none, of_more, long, has, AreOf, IsLevel, MaySave, MayRestore, NEWEST, LAST_MOMENT, hook-ok}
+use Rattle.dev_board.proofs.Facade.{carried-saved, pair-restored, set-of, saved_cells, lines_of, slave_int_of, restored_pair, ChipFault, PicPair, pit_cells}
+use Rattle.dev_board.proofs.Facade.{AreCellsOf, pit_out, restored_pit, Pit, lines_alike, Port, cells_at, restored_cells, numbers_at, saved, carried}
+use Rattle.dev_board.proofs.Facade.{MaySaveUnder, timer_kinds, AreSavedCells, AreBoardCells, timed, by_chip, by_device, lines_agree, agreed, joined, restored}
+use Rattle.dev_board.proofs.Facade.{SavedAreCells, ComesBack, SavedComesBack, SavedGoesOn, HasLines, IsSound, Alike, State, Misfit, PIT_DEVICE, SERIAL_DEVICE}
+use Rattle.dev_base.specs.Bits.{same}
+use Rattle.dev_pic.specs.Cells.{kinds as pic_kinds, carried as pic_carried}
 use Rattle.dev_pit.proofs.SavedLaw.{saved_are_cells as pit-saved, saved_is_restored as pit-is-restored}
-use Rattle.dev_pit.specs.Cells.{pit_cells, carried as pit_carried, AreCellsOf}
-use Rattle.dev_pit.specs.Pit.{pit_out}
-use Rattle.dev_pit.specs.Saved.{restored_pit}
-use Rattle.dev_pit.specs.declared.pit.Pit.{Pit}
-use Rattle.dev_serial.proofs.AlikeLaws.{lines_alike}
-use Rattle.dev_serial.proofs.ComesBack.{saved_comes_back as serial-comes-back}
-use Rattle.dev_serial.proofs.SavedCells.{saved_are_cells as serial-saved}
+use Rattle.dev_pit.specs.Cells.{carried as pit_carried}
+use Rattle.dev_serial.proofs.SavedCells.{saved_comes_back as serial-comes-back, saved_are_cells as serial-saved}
 use Rattle.dev_serial.specs.Cells.{carried as serial_carried}
 use Rattle.dev_serial.specs.Laws.{ComesBack as PortComesBack}
-use Rattle.dev_serial.specs.Port.{Port}
-use Rattle.dev_serial.specs.Saved.{cells_at, restored_cells}
 use Rattle.dev_serial.specs.Sound.{Alike as AlikePorts}
-use Rattle.dev_board.specs.Saved.{numbers_at, saved, carried, MaySaveUnder, timer_kinds, AreSavedCells, AreBoardCells, timed, by_chip, by_device, lines_agree, agreed, joined, restored}
-use Rattle.dev_board.specs.SavedLaws.{SavedAreCells, ComesBack, SavedComesBack, SavedGoesOn}
-use Rattle.dev_board.specs.Sound.{HasLines, IsSound, Alike}
-use Rattle.dev_board.specs.State.{State}
-use Rattle.dev_board.specs.declared.misfit.Misfit.{Misfit}
-use Rattle.dev_board.specs.declared.misfit.TheConstants.{PIT_DEVICE, SERIAL_DEVICE}
 use Rattle.dev_board.proofs.AlikeLaws.{alike_stays}
 
 -- Two truth values are the same.
@@ -50,7 +29,8 @@ same-is false false e = refl
 lines-agree : (m : State) → HasLines m → lines_agree m ≡ true
 unfolding lines_agree
 lines-agree m h =
-    and_from (same (has (lines_of m.pair) 0) (pit_out 0 m.moment m.pit)) _ (same-refl _ _ h.out) (and_from (same (has (lines_of m.pair) 2) (slave_int_of m.pair)) _ (same-refl _ _ h.slave) (same-refl _ _ h.serial))
+    and_from (same (has (lines_of m.pair) 0) (pit_out 0 m.moment m.pit)) _ (same-refl _ _ h.out)
+    (and_from (same (has (lines_of m.pair) 2) (slave_int_of m.pair)) _ (same-refl _ _ h.slave) (same-refl _ _ h.serial))
 
 pub has-lines : (m : State) → lines_agree m ≡ true → HasLines m
 unfolding lines_agree
@@ -125,7 +105,8 @@ module _ (set : ℕ) (m : State) (s : IsSound m) (may : MaySaveUnder m.level set
   unfolding carried saved
   carried-are = record {
     timer = moment-of m.moment s.devices.moment;
-    master = subst (λ (cells : List ℤ). AreOf (pic_kinds NEWEST) cells) (sym master-carried) (set-of m.pair.level NEWEST _ m.pair.master s.pair.master.registers);
+    master = subst (λ (cells : List ℤ). AreOf (pic_kinds NEWEST) cells) (sym master-carried)
+        (set-of m.pair.level NEWEST _ m.pair.master s.pair.master.registers);
     slave = subst (λ (cells : List ℤ). AreOf (pic_kinds NEWEST) cells) (sym slave-carried) (set-of m.pair.level NEWEST _ m.pair.slave s.pair.slave.registers);
     pit = pit-both.0;
     serial = serial-both.may.port_cells;

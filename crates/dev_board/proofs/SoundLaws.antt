@@ -1,25 +1,13 @@
 -- A board is sound at power on, and each event keeps it sound.
-use Rattle.std.proofs.Common.{ℕ, ◌<◌, ◌^◌, Bool, List, [], ◌∷◌, arith, refl, ◌∙◌}
-use Rattle.dev_base.specs.Levels.{IsLevel}
-use Rattle.dev_pic.proofs.LineLaws.{lines_are_taken}
-use Rattle.dev_pic.proofs.PairLaws.{steps_keep_registers, steps_keep_level as pair_keeps_level}
-use Rattle.dev_pic.specs.Bits.{but_not}
-use Rattle.dev_pic.specs.Chip.{winner_at, served_of}
-use Rattle.dev_pic.specs.Winner.{winner_of, ready_among}
-use Rattle.dev_pic.specs.Pair.{chip_on, power_on as pair_on, lines_of, slave_int_of, settled_pair}
-use Rattle.dev_pic.specs.Sound.{IsSoundPair}
-use Rattle.dev_pit.proofs.SoundLaws.{sound_stays, steps_keep_level as pit_keeps_level}
-use Rattle.dev_pit.specs.Counter.{powered_on, out_of}
-use Rattle.dev_pit.specs.Pit.{new_pit, pit_out}
-use Rattle.dev_serial.proofs.KeepLaws.{power_on_is_sound}
-use Rattle.dev_base.specs.Bits.{bits_where}
-use Rattle.dev_serial.specs.Port.{power_on as serial_on, interrupt, line_of}
-use Rattle.dev_board.specs.Laws.{IsEvent, AreEvents, SoundStays}
-use Rattle.dev_board.specs.Sound.{HasDevices, HasLines, IsSound}
-use Rattle.dev_board.specs.State.{State, power_on}
-use Rattle.dev_board.specs.Step.{inputs_of, settled, after_act, step, acted, wires_after, after_all, after_by}
-use Rattle.dev_board.specs.Wires.{AreWires, wires_of}
-use Rattle.dev_board.specs.declared.event.Event.{Event}
+use Rattle.dev_board.proofs.Facade.{ℕ, ◌<◌, ◌^◌, Bool, List, [], ◌∷◌, arith, refl, ◌∙◌, IsLevel, lines_are_taken, steps_keep_registers, but_not, winner_at}
+use Rattle.dev_board.proofs.Facade.{served_of, winner_of, ready_among, chip_on, lines_of, slave_int_of, settled_pair, IsSoundPair, sound_stays, powered_on}
+use Rattle.dev_board.proofs.Facade.{out_of, new_pit, pit_out, power_on_is_sound, bits_where, interrupt, line_of, IsEvent, AreEvents, SoundStays, HasDevices}
+use Rattle.dev_board.proofs.Facade.{HasLines, IsSound, State, power_on, inputs_of, settled, after_act, step, acted, wires_after, after_all, after_by, AreWires}
+use Rattle.dev_board.proofs.Facade.{wires_of, Event}
+use Rattle.dev_pic.proofs.PairLaws.{steps_keep_level as pair_keeps_level}
+use Rattle.dev_pic.specs.Pair.{power_on as pair_on}
+use Rattle.dev_pit.proofs.SoundLaws.{steps_keep_level as pit_keeps_level}
+use Rattle.dev_serial.specs.Port.{power_on as serial_on}
 use Rattle.dev_board.proofs.KeepLaws.{acted-kept}
 use Rattle.dev_board.proofs.WireBits.{names, wires_of-are, wires_after-are, one-lt, inputs-lt, inputs-out, inputs-serial}
 
@@ -59,9 +47,11 @@ module _ (wires : ℕ) (edge : Bool) (m : State) (w : AreWires wires) (h : HasDe
   settled-lines : HasLines (settled wires edge m)
   unfolding settled
   settled-lines = record {
-    out = lines_are_taken.master (inputs_of wires m) (bits_where edge 0x01) 0 m.pair (inputs-lt wires m w) (omega arith) (λ e. absurd (omega (arith, e))) ∙ inputs-out wires m w;
+    out = lines_are_taken.master (inputs_of wires m) (bits_where edge 0x01) 0 m.pair (inputs-lt wires m w) (omega arith) (λ e. absurd (omega (arith, e)))
+        ∙ inputs-out wires m w;
     slave = lines_are_taken.cascade (inputs_of wires m) (bits_where edge 0x01) m.pair (inputs-lt wires m w);
-    serial = lines_are_taken.master (inputs_of wires m) (bits_where edge 0x01) 4 m.pair (inputs-lt wires m w) (omega arith) (λ e. absurd (omega (arith, e))) ∙ inputs-serial wires m w;
+    serial = lines_are_taken.master (inputs_of wires m) (bits_where edge 0x01) 4 m.pair (inputs-lt wires m w) (omega arith) (λ e. absurd (omega (arith, e)))
+        ∙ inputs-serial wires m w;
   }
 
   pub settled-sound : IsSound (settled wires edge m)
@@ -85,7 +75,8 @@ module _ (wires : ℕ) (edge : Bool) (m : State) (w : AreWires wires) (h : HasDe
 pub step-sound : (event : Event) (m : State) → IsEvent event → HasDevices m → IsSound (step event m).1
 unfolding step after_act
 step-sound event m e h =
-    settled-sound (wires_after event (wires_of m)) (acted event m).0.edge (acted event m).1 (wires_after-are event (wires_of m) (names event e) (wires_of-are m)) (acted-kept m h event e).kept
+    settled-sound (wires_after event (wires_of m)) (acted event m).0.edge (acted event m).1
+    (wires_after-are event (wires_of m) (names event e) (wires_of-are m)) (acted-kept m h event e).kept
 
 all-sound : (events : List Event) (m : State) → AreEvents events → IsSound m → IsSound (after_all events m)
 unfolding after_by

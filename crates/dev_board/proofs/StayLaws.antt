@@ -1,28 +1,328 @@
--- What the lines from before an event still say.
-use Rattle.std.proofs.Common.{◌≡◌, ℕ, ◌==◌, Bool, true, false, not, ◌&&◌, ◌||◌, if◌then◌else◌, arith, bit_or, refl, sym, ap, ◌∙◌, subst}
-use Rattle.std.proofs.Math.Bool.{and-false, and-true, or-false}
-use Rattle.std.proofs.lemmas.Bool.{false≢true, cond_both}
-use Rattle.std.proofs.lemmas.Bool.Decides.{nat_tests}
-use Rattle.dev_base.proofs.Choices.{either}
-use Rattle.dev_base.specs.Bits.{has, bits_where}
-use Rattle.dev_pic.proofs.BitLaws.{has-or}
-use Rattle.dev_pic.specs.Pair.{acked, int_of, lines_of, written_pair}
-use Rattle.dev_pic.specs.declared.pair.PicPair.{PicPair}
-use Rattle.dev_pit.specs.Pit.{pit_out}
-use Rattle.dev_serial.specs.Access.{read_of as registers_read, lsr_of, lsr_read}
-use Rattle.dev_serial.specs.Port.{Port, line_of}
-use Rattle.dev_board.specs.Ports.{target_of, read_at, written_at, read, write}
-use Rattle.dev_board.specs.Sound.{IsSound}
-use Rattle.dev_board.specs.State.{State}
-use Rattle.dev_board.specs.Step.{Act, waited}
-use Rattle.dev_board.specs.Touch.{HasTaken, Stays, ack_touches, is_command, leaves_port, read_touches, time_touches, write_touches}
-use Rattle.dev_board.specs.declared.ports.Target.{Target}
-use Rattle.dev_board.specs.declared.ports.Target.TheVariants.{Pair, Counter, Control, Register, Nothing}
-use Rattle.dev_board.specs.declared.touch.Before.{Before}
-use Rattle.dev_board.specs.declared.touch.Touch.{Touch}
-use Rattle.dev_board.specs.declared.touch.Touch.TheVariants.{Untouched, Port as OfPort, Command, Access}
-use Rattle.dev_board.proofs.CommandLaws.{ack-taken, command-taken}
+-- What an event leaves of the lines, and which inputs leave the board unchanged.
+use Rattle.dev_board.proofs.Facade.{◌≡◌, ℕ, ◌+◌, ◌-◌, ◌*◌, ◌/◌, ◌%◌, ◌<◌, ◌≤◌, ◌^◌, Bool, true, false, ◌==◌, cond, min, max, bit_and, bit_or, arith, refl, ap}
+use Rattle.dev_board.proofs.Facade.{◌∙◌, sym, ⊎_elim, ◌≢◌, not, ◌&&◌, ◌||◌, Option, Some, None, subst, zero, suc, if◌then◌else◌, cases_lt, cases_eq, cond_both}
+use Rattle.dev_board.proofs.Facade.{false≢true, w8, bit_at, and_numeral, and_le_l, or_of_8, pow_below, bit_at_and, bit_at_or, bit_at_not, bit_at-lt}
+use Rattle.dev_board.proofs.Facade.{bit_at-zero, same_from_bits, same_from_bits_below, bit_at_cat_low, bit_at_cat_high, bit_at-pow_other, and_pow, Decides-eqb}
+use Rattle.dev_board.proofs.Facade.{nat_tests, is_some, IfSome, and-false, and-true, or-false, has, bits_where, but_not, without_input, requests_hold}
+use Rattle.dev_board.proofs.Facade.{level_inputs_of, taken, answered, cascaded, lines_of, slave_int_of, settled_pair, with_cascade, written_pair, acked}
+use Rattle.dev_board.proofs.Facade.{acked_for, from_slave, int_of, Chip, PicPair, HasTaken, IsSettled, is_command, Stays, is_nothing, asks_timer, asks_port}
+use Rattle.dev_board.proofs.Facade.{is_access, is_quiet, is_untouched, ack_touches, leaves_port, read_touches, time_touches, write_touches, DRIVEN, WIRES}
+use Rattle.dev_board.proofs.Facade.{level_inputs-lt, and-twice, each_input, without_input-lt, has-or, either, Keeps, even-keeps, odd-keeps, winner-lt, State}
+use Rattle.dev_board.proofs.Facade.{inputs_of, Act, waited, Before, Touch, Untouched, Command, Access, pit_out, lsr_of, lsr_read, Port, line_of, target_of}
+use Rattle.dev_board.proofs.Facade.{read_at, written_at, read, write, IsSound, Target, Pair, Counter, Control, Register, Nothing}
+use Rattle.dev_pic.specs.Chip.{settled}
+use Rattle.dev_board.specs.Step.{settled as settled_board}
+use Rattle.dev_board.specs.declared.touch.Touch.TheVariants.{Port as OfPort}
+use Rattle.dev_serial.specs.Access.{read_of as registers_read}
 use Rattle.dev_board.proofs.KeptLaws.{read-out}
+
+-- ---- updating the lines again changes nothing
+
+-- Requests of edge inputs stay, and those of level inputs are their lines.
+parts : (r l e : ℕ) → r < 256 → l < 256 → e < 256
+    → bit_or (bit_and (bit_or r (bit_or (bit_and l (255 - l)) 0)) (255 - e)) (bit_and r e) ≡ r
+parts r l e hr hl he =
+    let risen = bit_or (bit_and l (255 - l)) 0 in
+    let risen-lt : risen < 256 = or_of_8 (bit_and l (255 - l)) 0 (omega (arith, and_le_l l (255 - l))) (omega arith) in
+    let all-lt : bit_or r risen < 256 = or_of_8 r risen hr risen-lt in
+    let kept-lt : bit_and (bit_or r risen) (255 - e) < 256 = omega (arith, and_le_l (bit_or r risen) (255 - e)) in
+    let levels-lt : bit_and r e < 256 = omega (arith, and_le_l r e) in
+    same_from_bits_below 8 _ _ (or_of_8 (bit_and (bit_or r risen) (255 - e)) (bit_and r e) kept-lt levels-lt) hr
+    (λ k h. simp (bit_at_and, bit_at_or, bit_at-zero, bit_at_not w8 l k hl h, bit_at_not w8 e k he h)
+    (omega (arith, bit_at-lt r k, bit_at-lt l k, bit_at-lt e k)))
+
+-- A settled chip that takes its own lines stays unchanged.
+chip_again : (chip : Chip) → IsSettled chip → settled chip.lines 0 chip ≡ chip
+unfolding settled but_not requests_hold
+chip_again chip h =
+    let e = level_inputs_of chip in
+    let he : e < 256 = level_inputs-lt chip.ltim chip.elcr h.elcr in
+    let same : bit_and chip.irr e ≡ bit_and chip.lines e = (Decides-eqb (bit_and chip.irr e) (bit_and chip.lines e)).0 h.requests in
+    let kept = bit_and (bit_or chip.irr (bit_or (bit_and chip.lines (255 - chip.lines)) 0)) (255 - e) in
+    ap (λ (n : ℕ). record chip { irr = n }) (ap (bit_or kept) (sym same) ∙ parts chip.irr chip.lines e h.irr h.lines he)
+
+-- The inputs of two bytes.
+and-bytes : (a b c d : ℕ) → b < 256 → d < 256 → bit_and (a * 256 + b) (c * 256 + d) ≡ bit_and a c * 256 + bit_and b d
+and-bytes a b c d hb hd =
+    same_from_bits _ _ (λ k. bit_at_and (a * 256 + b) (c * 256 + d) k ∙ ⊎_elim
+    (λ (l : k < 8). ap (λ n. min n (bit_at (c * 256 + d) k)) (bit_at_cat_low a 8 b k l) ∙ ap (min (bit_at b k)) (bit_at_cat_low c 8 d k l)
+    ∙ sym (bit_at_and b d k) ∙ sym (bit_at_cat_low (bit_and a c) 8 (bit_and b d) k l))
+    (λ (l : 8 ≤ k). ap (λ n. min n (bit_at (c * 256 + d) k)) (bit_at_cat_high a 8 b k hb l) ∙ ap (min (bit_at a (k - 8))) (bit_at_cat_high c 8 d k hd l)
+    ∙ sym (bit_at_and a c (k - 8)) ∙ sym (bit_at_cat_high (bit_and a c) 8 (bit_and b d) k (omega (arith, hb, and_le_l b d)) l))
+    (cases_lt k 8))
+
+-- The lines without the cascade, and with it again.
+driven : (s m : ℕ) → s < 256 → m < 256 → bit_and (s * 256 + m) DRIVEN ≡ s * 256 + bit_and m 0xfb
+driven s m hs hm = and-bytes s m 0xff 0xfb hm (omega arith) ∙ ap (λ n. n * 256 + bit_and m 0xfb) (and_numeral s 254 refl ∙ omega (arith, hs))
+
+cascaded-bit : (m k : ℕ) → (m / 2 ^ 2 % 2) ≡ 1 → k < 8 → bit_at (bit_or (bit_and m 0xfb) 4) k ≡ bit_at m k
+cascaded-bit m k e =
+    each_input (λ k. bit_at (bit_or (bit_and m 0xfb) 4) k ≡ bit_at m k)
+    (bit 0 (omega (arith, bit_at-lt m 0))) (bit 1 (omega (arith, bit_at-lt m 1))) (bit 2 (omega (arith, e))) (bit 3 (omega (arith, bit_at-lt m 3)))
+    (bit 4 (omega (arith, bit_at-lt m 4))) (bit 5 (omega (arith, bit_at-lt m 5))) (bit 6 (omega (arith, bit_at-lt m 6)))
+    (bit 7 (omega (arith, bit_at-lt m 7))) k where
+      bit : (k : ℕ) → max (min (bit_at m k) (bit_at 0xfb k)) (bit_at 4 k) ≡ bit_at m k → bit_at (bit_or (bit_and m 0xfb) 4) k ≡ bit_at m k
+      bit k h = bit_at_or (bit_and m 0xfb) 4 k ∙ ap (λ n. max n (bit_at 4 k)) (bit_at_and m 0xfb k) ∙ h
+
+plain-bit : (m k : ℕ) → (m / 2 ^ 2 % 2) ≡ 0 → k < 8 → bit_at (bit_or (bit_and m 0xfb) 0) k ≡ bit_at m k
+plain-bit m k e =
+    each_input (λ k. bit_at (bit_or (bit_and m 0xfb) 0) k ≡ bit_at m k)
+    (bit 0 (omega (arith, bit_at-lt m 0))) (bit 1 (omega (arith, bit_at-lt m 1))) (bit 2 (omega (arith, e))) (bit 3 (omega (arith, bit_at-lt m 3)))
+    (bit 4 (omega (arith, bit_at-lt m 4))) (bit 5 (omega (arith, bit_at-lt m 5))) (bit 6 (omega (arith, bit_at-lt m 6)))
+    (bit 7 (omega (arith, bit_at-lt m 7))) k where
+      bit : (k : ℕ) → max (min (bit_at m k) (bit_at 0xfb k)) (bit_at 0 k) ≡ bit_at m k → bit_at (bit_or (bit_and m 0xfb) 0) k ≡ bit_at m k
+      bit k h = bit_at_or (bit_and m 0xfb) 0 k ∙ ap (λ n. max n (bit_at 0 k)) (bit_at_and m 0xfb k) ∙ h
+
+with-again : (b : Bool) (m : ℕ) → m < 256 → has m 2 ≡ b → bit_or (bit_and m 0xfb) (cond b 4 0) ≡ m
+with-again true m h e =
+    let one : (m / 2 ^ 2 % 2) ≡ 1 = grind (arith, nat_tests) in
+    same_from_bits_below 8 _ _ (or_of_8 (bit_and m 0xfb) 4 (omega (arith, h, and_le_l m 0xfb)) (omega arith)) h (λ k l. cascaded-bit m k one l)
+with-again false m h e =
+    let none : (m / 2 ^ 2 % 2) ≡ 0 = grind (arith, nat_tests) in
+    same_from_bits_below 8 _ _ (or_of_8 (bit_and m 0xfb) 0 (omega (arith, h, and_le_l m 0xfb)) (omega arith)) h (λ k l. plain-bit m k none l)
+
+cascade-again : (b : Bool) (m : ℕ) → m < 256 → has m 2 ≡ b → with_cascade b (bit_and m 0xfb) ≡ m
+unfolding without_input but_not
+cascade-again b m h e = ap (λ n. bit_or n (cond b 4 0)) (and-twice m 0xfb) ∙ with-again b m h e
+
+pub low-two : (s m : ℕ) → m < 256 → has (s * 256 + m) 2 ≡ has m 2
+low-two s m h = ap (λ n. n == 1) (omega (arith, h))
+
+-- So does a pair.
+pub pair-again : (pair : PicPair) → HasTaken (lines_of pair) pair → settled_pair (bit_and (lines_of pair) DRIVEN) 0 pair ≡ pair
+unfolding settled_pair lines_of slave_int_of without_input but_not
+pair-again pair h =
+    let s = pair.slave.lines in
+    let m = pair.master.lines in
+    let hs : s < 256 = h.slave.lines in
+    let hm : m < 256 = h.master.lines in
+    let high : bit_and (s * 256 + m) DRIVEN / 256 ≡ s = ap (λ n. n / 256) (driven s m hs hm) ∙ omega (arith, hm, and_le_l m 0xfb) in
+    let low : bit_and (s * 256 + m) DRIVEN % 256 ≡ bit_and m 0xfb = ap (λ n. n % 256) (driven s m hs hm) ∙ omega (arith, hm, and_le_l m 0xfb) in
+    let slave : settled (bit_and (s * 256 + m) DRIVEN / 256) 0 pair.slave ≡ pair.slave =
+    ap (λ n. settled n 0 pair.slave) high ∙ chip_again pair.slave h.slave in
+    let bit : has m 2 ≡ slave_int_of pair = sym (low-two s m hm) ∙ h.cascade in
+    let after : Chip → PicPair = (λ chip. record pair { slave = chip; master = settled (with_cascade (slave_int_of (record pair { slave = chip })) (bit_and (s * 256 + m) DRIVEN % 256)) 0 pair.master }) in
+    ap after slave
+    ∙ ap (λ n. record pair { master = settled n 0 pair.master }) (ap (with_cascade (slave_int_of pair)) low ∙ cascade-again (slave_int_of pair) m hm bit)
+    ∙ ap (λ chip. record pair { master = chip }) (chip_again pair.master h.master)
+
+-- ---- accesses of the pair after which it has still taken its lines
+
+kept-settled : (chip after : Chip) → Keeps chip after → IsSettled chip → IsSettled after
+kept-settled chip after k h = record {
+  irr = rw k.irr h.irr;
+  lines = rw k.lines h.lines;
+  elcr = rw k.elcr h.elcr;
+  requests = rw (k.irr, k.lines, k.elcr, k.ltim) h.requests;
+}
+
+-- The master of a pair changes, and its lines are the same.
+module _ (lines : ℕ) (pair : PicPair) (h : HasTaken lines pair) where
+  with-master : (chip : Chip) → IsSettled chip → chip.lines ≡ pair.master.lines → HasTaken lines (record pair { master = chip })
+  unfolding lines_of slave_int_of
+  with-master chip settled e = record {
+    master = settled;
+    slave = h.slave;
+    cascade = rw e h.cascade;
+    same = h.same ∙ ap (λ (n : ℕ). pair.slave.lines * 256 + n) (sym e);
+  }
+
+  kept-taken : (chip : Chip) → Keeps pair.master chip → HasTaken lines (record pair { master = chip })
+  kept-taken chip k = with-master chip (kept-settled pair.master chip k h.master) k.lines
+
+  -- A command to the master.
+  odd-from : (even odd bit : Bool) → even ≡ false → (odd || (even && not bit)) ≡ true → odd ≡ true
+  odd-from true odd bit f e = cc
+  odd-from false true bit f e = refl
+  odd-from false false bit f e = cc
+
+  bit-from : (even odd bit : Bool) → odd ≡ false → (odd || (even && not bit)) ≡ true → bit ≡ false
+  bit-from even true bit f e = cc
+  bit-from true false true f e = cc
+  bit-from true false false f e = refl
+  bit-from false false bit f e = cc
+
+  pub command-taken : (port value : ℕ) → is_command port value ≡ true → HasTaken lines (written_pair port value pair)
+  unfolding is_command written_pair
+  command-taken port value e =
+      let has-taken : PicPair → Type 0 = λ p. HasTaken lines p in
+      cond_both (port == 0x20) _ _ has-taken
+      (λ even. let other : (port == 0x21) ≡ false = grind (arith, nat_tests) in
+      kept-taken _ (even-keeps pair.level value pair.master (bit-from (port == 0x20) (port == 0x21) (has value 4) other e)))
+      (λ even. let odd : (port == 0x21) ≡ true = odd-from (port == 0x20) (port == 0x21) (has value 4) even e in
+      rw odd (kept-taken _ (odd-keeps pair.master.init_state value pair.master)))
+
+-- The bits of a register without an input.
+bit-without : (r w k : ℕ) → w < 8 → k < 8 → bit_at (without_input r w) k ≡ min (bit_at r k) (1 - bit_at (2 ^ w) k)
+unfolding without_input but_not
+bit-without r w k h l = bit_at_and r (255 - 2 ^ w) k ∙ ap (min (bit_at r k)) (bit_at_not w8 (2 ^ w) k (pow_below w 8 h) l)
+
+no_bit : (r w : ℕ) → has r w ≡ false → bit_at r w ≡ 0
+no_bit r w e = let b = bit_at-lt r w in grind (arith, nat_tests)
+
+without-and : (r w e : ℕ) → r < 256 → w < 8 → has e w ≡ false → bit_and (without_input r w) e ≡ bit_and r e
+without-and r w e hr hw none =
+    let b : without_input r w < 256 = without_input-lt r w hr in
+    same_from_bits_below 8 _ _ (omega (arith, and_le_l (without_input r w) e)) (omega (arith, and_le_l r e))
+    (λ k l. bit_at_and (without_input r w) e k ∙ ap (λ n. min n (bit_at e k)) (bit-without r w k hw l) ∙ ⊎_elim
+    (λ (is : k ≡ w). let zero : bit_at e k ≡ 0 = subst (λ (i : ℕ). bit_at e i ≡ 0) (sym is) (no_bit e w none) in
+    rw (bit_at_and r e k, zero) (omega arith))
+    (λ (other : k ≢ w). rw (bit_at_and r e k, bit_at-pow_other w k other) (omega (arith, bit_at-lt r k)))
+    (cases_eq k w))
+
+without-none : (r w : ℕ) → r < 256 → w < 8 → has r w ≡ false → without_input r w ≡ r
+without-none r w hr hw none =
+    same_from_bits_below 8 _ _ (without_input-lt r w hr) hr
+    (λ k l. bit-without r w k hw l ∙ ⊎_elim
+    (λ (is : k ≡ w). let zero : bit_at r k ≡ 0 = subst (λ (i : ℕ). bit_at r i ≡ 0) (sym is) (no_bit r w none) in rw zero (omega arith))
+    (λ (other : k ≢ w). rw (bit_at-pow_other w k other) (omega (arith, bit_at-lt r k)))
+    (cases_eq k w))
+
+-- A winner that is taken.
+module _ (chip : Chip) (w : ℕ) (h : IsSettled chip) (hw : w < 8) where
+  served-settled : (isr lowest : ℕ) → IsSettled (record chip { isr = isr; lowest = lowest })
+  served-settled isr lowest = record { irr = h.irr; lines = h.lines; elcr = h.elcr; requests = h.requests }
+
+  ended-settled : has (level_inputs_of chip) w ≡ false → (isr lowest : ℕ)
+      → IsSettled (record chip { isr = isr; lowest = lowest; irr = without_input chip.irr w })
+  unfolding requests_hold
+  ended-settled none isr lowest = record {
+    irr = without_input-lt chip.irr w h.irr;
+    lines = h.lines;
+    elcr = h.elcr;
+    requests = rw (without-and chip.irr w (level_inputs_of chip) h.irr hw none) h.requests;
+  }
+
+  taken-settled : IsSettled (taken w chip)
+  unfolding taken
+  taken-settled =
+      cond_both (has (level_inputs_of chip) w) _ _ IsSettled
+      (λ level. either IsSettled chip.auto_eoi _ _ (either IsSettled chip.rotate _ _ (served-settled _ _) h) (served-settled _ _))
+      (λ edge. let ends : Chip → Type 0 = λ c. IsSettled (record c { irr = without_input chip.irr w }) in
+      either ends chip.auto_eoi _ _ (either ends chip.rotate _ _ (ended-settled edge _ _) (ended-settled edge _ _)) (ended-settled edge _ _))
+
+  taken-lines : (taken w chip).lines ≡ chip.lines
+  unfolding taken
+  taken-lines =
+      let lines-same : Chip → Type 0 = λ c. c.lines ≡ chip.lines in
+      either lines-same (has (level_inputs_of chip) w) _ _
+      (either lines-same chip.auto_eoi _ _ (either lines-same chip.rotate _ _ refl refl) refl)
+      (either lines-same chip.auto_eoi _ _ (either lines-same chip.rotate _ _ refl refl) refl)
+
+  -- With its line low, the cascade is taken as any other input.
+  cascaded-is : (low : has chip.lines 2 ≡ false) (two : w ≡ 2) → cascaded chip ≡ taken w chip
+  unfolding cascaded
+  cascaded-is low two =
+      rw two (ap (λ (n : ℕ). record (taken 2 chip) { lines = n })
+      (ap (λ (n : ℕ). without_input n 2) at-two ∙ without-none chip.lines 2 h.lines (omega arith) low ∙ sym at-two)) where
+        at-two : (taken 2 chip).lines ≡ chip.lines
+        at-two = subst (λ (i : ℕ). (taken i chip).lines ≡ chip.lines) two taken-lines
+
+-- An acknowledge while the slave's output is low.
+module _ (lines : ℕ) (pair : PicPair) (h : HasTaken lines pair) (none : has lines 2 ≡ false) where
+  low : has pair.master.lines 2 ≡ false
+  unfolding lines_of
+  low = sym (low-two pair.slave.lines pair.master.lines h.master.lines) ∙ ap (λ (n : ℕ). has n 2) (sym h.same) ∙ none
+
+  slave-low : slave_int_of pair ≡ false
+  slave-low = sym h.cascade ∙ ap (λ (n : ℕ). has n 2) (sym h.same) ∙ none
+
+  abbrev Taken : ℕ × PicPair → Type 0
+  Taken answer = HasTaken lines answer.1
+
+  -- The slave has no winner.
+  by_slave : (o : Option ℕ) → is_some o ≡ false → (master : Chip) → HasTaken lines (record pair { master = master })
+      → Taken (from_slave (record pair { master = master }) (answered o pair.slave))
+  unfolding answered
+  by_slave None e master k = k
+  by_slave (Some w) e master k = cc
+
+  by_winner : (o : Option ℕ) → IfSome o (λ w. w < 8) → Taken (acked_for o pair)
+  unfolding acked_for answered slave_int_of
+  by_winner None l = h
+  by_winner (Some w) l =
+      let master : HasTaken lines (record pair { master = taken w pair.master }) =
+      with-master lines pair h _ (taken-settled pair.master w h.master l) (taken-lines pair.master w h.master l) in
+      cond_both (w == 2) _ _ Taken
+      (λ e. let two : w ≡ 2 = grind (arith, nat_tests) in
+      by_slave _ slave-low (cascaded pair.master) (rw (cascaded-is pair.master w h.master l low two) master))
+      (λ e. master)
+
+  pub ack-taken : HasTaken lines (acked pair).1
+  ack-taken = by_winner _ (winner-lt _ pair.master)
+
+-- ---- inputs that leave the board unchanged
+
+-- What quiet inputs are.
+record Quiet (pair edge same : Bool) : Type 0 where
+  no_access : pair ≡ false
+  no_edge : edge ≡ false
+  equal : same ≡ true
+
+quiet : (pair edge same : Bool) → (not pair && (not edge && same)) ≡ true → Quiet pair edge same
+quiet false false true e = record { no_access = refl; no_edge = refl; equal = refl }
+quiet false false false e = cc
+quiet false true same e = cc
+quiet true edge same e = cc
+
+again : (lines inputs : ℕ) (pair : PicPair) → HasTaken lines pair → inputs ≡ bit_and lines DRIVEN → settled_pair inputs 0 pair ≡ pair
+again lines inputs pair h e =
+    ap (λ n. settled_pair n 0 pair) (e ∙ ap (λ n. bit_and n DRIVEN) h.same)
+    ∙ pair-again pair (record { master = h.master; slave = h.slave; cascade = h.cascade; same = refl })
+
+pub quiet-settled : (wires inputs : ℕ) (before : Before) (edge : Bool) (touch : Touch) (m : State) → Stays touch before m → inputs ≡ inputs_of wires m
+    → is_quiet touch edge inputs before.lines ≡ true → settled_board wires edge m ≡ m
+unfolding settled_board is_quiet
+quiet-settled wires inputs before edge touch m stays is e =
+    let q = quiet (is_access touch) edge (inputs == bit_and before.lines DRIVEN) e in
+    let test : (inputs == bit_and before.lines DRIVEN) ≡ true = q.equal in
+    let same : inputs ≡ bit_and before.lines DRIVEN = grind (arith, nat_tests) in
+    ap (λ (pair : PicPair). record m { pair = pair })
+    (ap (λ (b : Bool). settled_pair (inputs_of wires m) (bits_where b 0x01) m.pair) q.no_edge ∙ again before.lines (inputs_of wires m) m.pair
+    (stays.pair q.no_access) (sym is ∙ same))
+
+-- If nothing was touched, the inputs are the lines.
+record AreUntouched (touch : Touch) (edge same : Bool) : Type 0 where
+  timer : asks_timer touch ≡ false
+  port : asks_port touch ≡ false
+  quiet : Quiet (is_access touch) edge same
+
+untouched : (touch : Touch) (edge same : Bool) → (is_nothing touch && (not edge && same)) ≡ true → AreUntouched touch edge same
+untouched Untouched edge same e = record { timer = refl; port = refl; quiet = quiet false edge same e }
+untouched Command edge same e = record { timer = refl; port = refl; quiet = quiet false edge same e }
+untouched _ edge same e = cc
+
+two-parts : (n a b : ℕ) → bit_or (bit_and n a) (bit_and n b) ≡ bit_and n (bit_or a b)
+two-parts n a b = same_from_bits _ _ (λ k. simp (bit_at_and, bit_at_or) (omega (arith, bit_at-lt n k, bit_at-lt a k, bit_at-lt b k)))
+
+one-bit : (b place : ℕ) → b < 2 → bits_where (b == 1) place ≡ b * place
+one-bit zero place h = omega arith
+one-bit (suc zero) place h = omega arith
+one-bit (suc (suc b)) place h = absurd (omega arith)
+
+line-bit : (n k : ℕ) → bits_where (has n k) (2 ^ k) ≡ bit_and n (2 ^ k)
+line-bit n k = one-bit (bit_at n k) (2 ^ k) (bit_at-lt n k) ∙ sym (and_pow n k)
+
+own-inputs : (n : ℕ) → bit_or (bit_or (bit_and n WIRES) (bits_where (has n 0) 0x01)) (bits_where (has n 4) 0x10) ≡ bit_and n DRIVEN
+own-inputs n =
+    ap (λ b. bit_or (bit_or (bit_and n WIRES) b) (bits_where (has n 4) 0x10)) (line-bit n 0)
+    ∙ ap (bit_or (bit_or (bit_and n WIRES) (bit_and n 0x01))) (line-bit n 4)
+    ∙ ap (λ b. bit_or b (bit_and n 0x10)) (two-parts n WIRES 0x01)
+    ∙ two-parts n 0xffeb 0x10
+
+pub untouched-settled : (wires : ℕ) (before : Before) (edge : Bool) (touch : Touch) (m : State) → Stays touch before m
+    → is_untouched touch edge wires before.lines ≡ true → settled_board wires edge m ≡ m
+unfolding settled_board is_untouched inputs_of
+untouched-settled wires before edge touch m stays e =
+    let q = untouched touch edge (wires == bit_and before.lines WIRES) e in
+    let test : (wires == bit_and before.lines WIRES) ≡ true = q.quiet.equal in
+    let same : wires ≡ bit_and before.lines WIRES = grind (arith, nat_tests) in
+    let is : inputs_of wires m ≡ bit_and before.lines DRIVEN = rw (same, sym (stays.out q.timer), sym (stays.serial q.port)) (own-inputs before.lines) in
+    ap (λ (pair : PicPair). record m { pair = pair })
+    (ap (λ (b : Bool). settled_pair (inputs_of wires m) (bits_where b 0x01) m.pair) q.quiet.no_edge ∙ again before.lines (inputs_of wires m) m.pair
+    (stays.pair q.quiet.no_access) is)
+
+-- ---- what the lines from before an event still say
 
 -- The bit of an overrun in the line status.
 bit-of : (b : Bool) (bits : ℕ) → has 0 1 ≡ false → has (bits_where b bits) 1 ≡ (has bits 1 && b)
@@ -62,12 +362,15 @@ is_at offset n value e h = ap (λ k. leaves_port k value) (sym e) ∙ h
 left-at : (offset now : ℕ) (port : Port) → Leaves offset port (registers_read offset now port)
 unfolding leaves_port registers_read
 left-at offset now port =
-    cond_both (offset == 0) _ _ (Leaves offset port) (λ e h. let is : offset ≡ 0 = grind (arith, nat_tests) in absurd (false≢true (is_at offset 0 _ is h))) (λ _.
+    cond_both (offset == 0) _ _ (Leaves offset port) (λ e h. let is : offset ≡ 0 = grind (arith, nat_tests) in absurd (false≢true (is_at offset 0 _ is h)))
+    (λ _.
     cond_both (offset == 1) _ _ (Leaves offset port) (λ e. either (Leaves offset port) (has port.lcr 7) _ _ (λ h. refl) (λ h. refl)) (λ _.
-    cond_both (offset == 2) _ _ (Leaves offset port) (λ e h. let is : offset ≡ 2 = grind (arith, nat_tests) in absurd (false≢true (is_at offset 2 _ is h))) (λ _.
+    cond_both (offset == 2) _ _ (Leaves offset port) (λ e h. let is : offset ≡ 2 = grind (arith, nat_tests) in absurd (false≢true (is_at offset 2 _ is h)))
+    (λ _.
     either (Leaves offset port) (offset == 3) _ _ (λ h. refl)
     (either (Leaves offset port) (offset == 4) _ _ (λ h. refl)
-    (cond_both (offset == 5) _ _ (Leaves offset port) (λ e h. let is : offset ≡ 5 = grind (arith, nat_tests) in no-overrun port (is_at offset 5 (lsr_of port) is h))
+    (cond_both (offset == 5) _ _ (Leaves offset port)
+    (λ e h. let is : offset ≡ 5 = grind (arith, nat_tests) in no-overrun port (is_at offset 5 (lsr_of port) is h))
     (λ _. either (Leaves offset port) (offset == 6) _ _ (λ h. refl) (λ h. refl)))))))
 
 touched : {A : Type 0} → true ≡ false → A
@@ -93,66 +396,65 @@ module _ (m : State) (s : IsSound m) (before : Before) (b : IsBefore before m) w
   serial : has before.lines 4 ≡ line_of m.moment m.serial
   serial = ap (λ (n : ℕ). has n 4) b.lines ∙ s.lines.serial
 
-  taken : HasTaken before.lines m.pair
-  taken = subst (λ (n : ℕ). HasTaken n m.pair) (sym b.lines) (pair-taken m s)
+  still-taken : HasTaken before.lines m.pair
+  still-taken = subst (λ (n : ℕ). HasTaken n m.pair) (sym b.lines) (pair-taken m s)
 
   -- A read of a register.
-  port-stays : (offset : ℕ) (leaves : Bool) → leaves_port offset (registers_read offset m.moment m.serial).0 ≡ leaves → Stays (if leaves then Untouched else OfPort) before (record m { serial = (registers_read offset m.moment m.serial).1 })
-  port-stays offset true e = record { out = λ e. out; serial = λ f. serial ∙ ap (line_of m.moment) (sym (left-at offset m.moment m.serial e)); int = λ e. b.int; pair = λ e. taken }
-  port-stays offset false e = record { out = λ e. out; serial = λ f. touched f; int = λ e. b.int; pair = λ e. taken }
+  port-stays : (offset : ℕ) (leaves : Bool) → leaves_port offset (registers_read offset m.moment m.serial).0 ≡ leaves
+      → Stays (if leaves then Untouched else OfPort) before (record m { serial = (registers_read offset m.moment m.serial).1 })
+  port-stays offset true e = record { out = λ e. out; serial = λ f. serial ∙ ap (line_of m.moment) (sym (left-at offset m.moment m.serial e)); int = λ e. b.int; pair = λ e. still-taken }
+  port-stays offset false e = record { out = λ e. out; serial = λ f. touched f; int = λ e. b.int; pair = λ e. still-taken }
 
   read-stays : (target : Target) (port : ℕ) → Stays (read_touches target (read_at target port m).0) before (read_at target port m).1
   unfolding read_at
   read-stays Pair port = record { out = λ e. out; serial = λ e. serial; int = λ e. touched e; pair = λ e. touched e }
-  read-stays (Counter counter) port = record { out = λ e. out ∙ sym (read-out counter m.moment m.pit); serial = λ e. serial; int = λ e. b.int; pair = λ e. taken }
-  read-stays Control port = record { out = λ e. out; serial = λ e. serial; int = λ e. b.int; pair = λ e. taken }
+  read-stays (Counter counter) port =
+      record { out = λ e. out ∙ sym (read-out counter m.moment m.pit); serial = λ e. serial; int = λ e. b.int; pair = λ e. still-taken }
   read-stays (Register offset) port = port-stays offset (leaves_port offset (registers_read offset m.moment m.serial).0) refl
-  read-stays Nothing port = record { out = λ e. out; serial = λ e. serial; int = λ e. b.int; pair = λ e. taken }
+  read-stays _ port = record { out = λ e. out; serial = λ e. serial; int = λ e. b.int; pair = λ e. still-taken }
 
-  command-stays : (port value : ℕ) (command : Bool) → is_command port value ≡ command → Stays (if command then Command else Access) before (record m { pair = written_pair port value m.pair })
-  command-stays port value true e = record { out = λ e. out; serial = λ e. serial; int = λ e. touched e; pair = λ f. command-taken before.lines m.pair taken port value e }
+  command-stays : (port value : ℕ) (command : Bool) → is_command port value ≡ command
+      → Stays (if command then Command else Access) before (record m { pair = written_pair port value m.pair })
+  command-stays port value true e =
+      record { out = λ e. out; serial = λ e. serial; int = λ e. touched e; pair = λ f. command-taken before.lines m.pair still-taken port value e }
   command-stays port value false e = record { out = λ e. out; serial = λ e. serial; int = λ e. touched e; pair = λ e. touched e }
 
   write-stays : (target : Target) (port value : ℕ) → Stays (write_touches target port value) before (written_at target port value m)
   unfolding written_at
   write-stays Pair port value = command-stays port value (is_command port value) refl
-  write-stays (Counter counter) port value = record { out = λ e. touched e; serial = λ e. serial; int = λ e. b.int; pair = λ e. taken }
-  write-stays Control port value = record { out = λ e. touched e; serial = λ e. serial; int = λ e. b.int; pair = λ e. taken }
-  write-stays (Register offset) port value = record { out = λ e. out; serial = λ e. touched e; int = λ e. b.int; pair = λ e. taken }
-  write-stays Nothing port value = record { out = λ e. out; serial = λ e. serial; int = λ e. b.int; pair = λ e. taken }
+  write-stays (Counter counter) port value = record { out = λ e. touched e; serial = λ e. serial; int = λ e. b.int; pair = λ e. still-taken }
+  write-stays Control port value = record { out = λ e. touched e; serial = λ e. serial; int = λ e. b.int; pair = λ e. still-taken }
+  write-stays (Register offset) port value = record { out = λ e. out; serial = λ e. touched e; int = λ e. b.int; pair = λ e. still-taken }
+  write-stays Nothing port value = record { out = λ e. out; serial = λ e. serial; int = λ e. b.int; pair = λ e. still-taken }
 
   ack-stays : (slave : Bool) → has before.lines 2 ≡ slave → Stays (if slave then Access else Command) before (record m { pair = (acked m.pair).1 })
   ack-stays true e = record { out = λ e. out; serial = λ e. serial; int = λ e. touched e; pair = λ e. touched e }
-  ack-stays false e = record { out = λ e. out; serial = λ e. serial; int = λ e. touched e; pair = λ f. ack-taken before.lines m.pair taken e }
+  ack-stays false e = record { out = λ e. out; serial = λ e. serial; int = λ e. touched e; pair = λ f. ack-taken before.lines m.pair still-taken e }
 
   time-stays : (to : ℕ) (calm : Bool) → (calm ≡ true → pit_out 0 to m.pit ≡ pit_out 0 m.moment m.pit) → Stays (time_touches calm) before (waited to m).1
   unfolding waited
-  time-stays to true still = record { out = λ e. out ∙ sym (still refl); serial = λ e. touched e; int = λ e. b.int; pair = λ e. taken }
-  time-stays to false still = record { out = λ e. touched e; serial = λ e. touched e; int = λ e. b.int; pair = λ e. taken }
-
-  pub after-nothing : Stays Untouched before m
-  after-nothing = record { out = λ e. out; serial = λ e. serial; int = λ e. b.int; pair = λ e. taken }
-
-  pub after-byte : (port : Port) → Stays OfPort before (record m { serial = port })
-  after-byte port = record { out = λ e. out; serial = λ e. touched e; int = λ e. b.int; pair = λ e. taken }
+  time-stays to true still = record { out = λ e. out ∙ sym (still refl); serial = λ e. touched e; int = λ e. b.int; pair = λ e. still-taken }
+  time-stays to false still = record { out = λ e. touched e; serial = λ e. touched e; int = λ e. b.int; pair = λ e. still-taken }
 
   -- The same for what calls returned.
-  pub after-read : (port value : ℕ) (after : State) (touch : Touch) → touch ≡ read_touches (target_of m.level port) (read port m).0 → (value, after) ≡ read port m → Stays touch before after
+  pub after-read : (port value : ℕ) (after : State) (touch : Touch) → touch ≡ read_touches (target_of m.level port) (read port m).0
+      → (value, after) ≡ read port m → Stays touch before after
   after-read port value after touch t e =
-      subst (λ (u : Touch). Stays u before after) (sym t)
-      (subst (λ (done : ℕ × State). Stays (read_touches (target_of m.level port) (read port m).0) before done.1) (sym e) (read-stays (target_of m.level port) port))
+      rw t (subst (λ (done : ℕ × State). Stays (read_touches (target_of m.level port) (read port m).0) before done.1) (sym e)
+      (read-stays (target_of m.level port) port))
 
-  pub after-write : (port value : ℕ) (after : State) (touch : Touch) → touch ≡ write_touches (target_of m.level port) port value → after ≡ write port value m → Stays touch before after
+  pub after-write : (port value : ℕ) (after : State) (touch : Touch) → touch ≡ write_touches (target_of m.level port) port value → after ≡ write port value m
+      → Stays touch before after
   after-write port value after touch t e =
-      subst (λ (u : Touch). Stays u before after) (sym t)
-      (subst (λ (done : State). Stays (write_touches (target_of m.level port) port value) before done) (sym e) (write-stays (target_of m.level port) port value))
+      rw (t, e) (write-stays (target_of m.level port) port value)
 
-  pub after-ack : (value : ℕ) (pair : PicPair) (touch : Touch) → touch ≡ ack_touches before.lines → (value, pair) ≡ acked m.pair → Stays touch before (record m { pair = pair })
+  pub after-ack : (value : ℕ) (pair : PicPair) (touch : Touch) → touch ≡ ack_touches before.lines → (value, pair) ≡ acked m.pair
+      → Stays touch before (record m { pair = pair })
   unfolding ack_touches
   after-ack value pair touch t e =
-      subst (λ (u : Touch). Stays u before (record m { pair = pair })) (sym t)
-      (subst (λ (done : ℕ × PicPair). Stays (ack_touches before.lines) before (record m { pair = done.1 })) (sym e) (ack-stays (has before.lines 2) refl))
+      rw t (subst (λ (done : ℕ × PicPair). Stays (ack_touches before.lines) before (record m { pair = done.1 })) (sym e) (ack-stays (has before.lines 2) refl))
 
-  pub after-time : (to : ℕ) (act : Act) (after : State) (calm : Bool) → (act, after) ≡ waited to m → (calm ≡ true → pit_out 0 to m.pit ≡ pit_out 0 m.moment m.pit) → Stays (time_touches calm) before after
+  pub after-time : (to : ℕ) (act : Act) (after : State) (calm : Bool) → (act, after) ≡ waited to m
+      → (calm ≡ true → pit_out 0 to m.pit ≡ pit_out 0 m.moment m.pit) → Stays (time_touches calm) before after
   after-time to act after calm e still =
       subst (λ (done : Act × State). Stays (time_touches calm) before done.1) (sym e) (time-stays to calm still)

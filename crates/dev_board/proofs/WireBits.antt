@@ -1,21 +1,8 @@
 -- The inputs of the pair, bit by bit.
-use Rattle.std.proofs.Common.{◌≡◌, ◌≢◌, ℕ, ◌-◌, ◌<◌, ◌^◌, Bool, true, false, ◌&&◌, arith, bit_or, refl, ap, sym, ◌∙◌, ◌||◌}
-use Rattle.std.proofs.lemmas.Bool.{false≢true}
-use Rattle.std.proofs.lemmas.Bool.Decides.{nat_tests}
-use Rattle.std.proofs.lemmas.Nat.{and_le_l, and_le_r, or_of_16, pow_below}
-use Rattle.std.proofs.Math.Bool.{and-false, and-true, or-false}
-use Rattle.dev_base.specs.Bits.{has, bits_where}
-use Rattle.dev_pic.proofs.BitLaws.{has-and, has-or, has-one_other}
-use Rattle.dev_pic.specs.Pair.{lines_of}
-use Rattle.dev_pit.specs.Pit.{pit_out}
-use Rattle.dev_serial.specs.Port.{line_of}
-use Rattle.dev_board.specs.Laws.{IsEvent}
-use Rattle.dev_board.specs.State.{State}
-use Rattle.dev_board.specs.Step.{inputs_of, names_wire, wires_after}
-use Rattle.dev_board.specs.Wires.{AreWires, is_wire, wires_of, with_wire}
-use Rattle.dev_board.specs.declared.event.Event.{Event}
-use Rattle.dev_board.specs.declared.event.Event.TheVariants.{Read, Write, Byte, Wait, Wire, Ack}
-use Rattle.dev_board.specs.declared.wires.TheConstants.{WIRES}
+use Rattle.dev_board.proofs.Facade.{◌≡◌, ◌≢◌, ℕ, ◌-◌, ◌<◌, ◌^◌, Bool, true, false, ◌&&◌, arith, bit_or, refl, ap, sym, ◌∙◌, ◌||◌, false≢true, nat_tests}
+use Rattle.dev_board.proofs.Facade.{and_le_l, and_le_r, or_of_16, pow_below, and-false, and-true, or-false, has, bits_where, has-and, has-or, has-one_other}
+use Rattle.dev_board.proofs.Facade.{lines_of, pit_out, line_of, IsEvent, State, inputs_of, names_wire, wires_after, AreWires, is_wire, wires_of, with_wire}
+use Rattle.dev_board.proofs.Facade.{Event, Wire, WIRES}
 
 pub wires_of-are : (m : State) → AreWires (wires_of m)
 unfolding wires_of
@@ -47,22 +34,14 @@ with_wire-are input wires false e w = record {
 
 pub wires_after-are : (event : Event) (wires : ℕ) → names_wire event ≡ true → AreWires wires → AreWires (wires_after event wires)
 unfolding wires_after names_wire
-wires_after-are (Read port) wires e w = w
-wires_after-are (Write port value) wires e w = w
-wires_after-are (Byte value) wires e w = w
-wires_after-are (Wait ns) wires e w = w
 wires_after-are (Wire input up) wires e w = with_wire-are input wires up e w
-wires_after-are Ack wires e w = w
+wires_after-are _ wires e w = w
 
 -- If an event names a wire, it is one.
 pub names : (event : Event) → IsEvent event → names_wire event ≡ true
 unfolding names_wire
-names (Read port) e = refl
-names (Write port value) e = refl
-names (Byte value) e = refl
-names (Wait ns) e = refl
 names (Wire input up) e = e
-names Ack e = refl
+names _ e = refl
 
 -- The input of a wire's event.
 pub named-bound : (event : Event) (input : ℕ) (up : Bool) → names_wire event ≡ true → event ≡ Wire input up → input < 16

@@ -1,24 +1,9 @@
 -- A wire stays as the last event that named it left it.
-use Rattle.std.proofs.Common.{◌≡◌, ◌≢◌, ℕ, ◌+◌, ◌-◌, ◌<◌, ◌≤◌, ◌^◌, ◌==◌, Bool, true, false, not, ◌&&◌, if◌then◌else◌, arith, bit_and, bit_or, refl, ap, sym, subst, ◌∙◌, ⊎_elim, ◌||◌}
-use Rattle.std.proofs.lemmas.Bool.{cases_lt, false≢true, cond_both}
-use Rattle.std.proofs.lemmas.Bool.Decides.{nat_tests}
-use Rattle.std.proofs.lemmas.Nat.Bits.{bit_at_not, bit_at-lt, bit_at-zero}
-use Rattle.std.proofs.lemmas.Nat.{pow_below}
-use Rattle.std.specs.Int.{bit_at, w16}
-use Rattle.std.proofs.Math.Bool.{and-true, and-false, or-true, or-false}
-use Rattle.dev_base.specs.Bits.{has, bits_where}
-use Rattle.dev_pic.proofs.BitLaws.{has-and, has-or, has-one, has-one_other, not_test}
-use Rattle.dev_pic.proofs.LineLaws.{lines_are_taken}
-use Rattle.dev_pic.specs.Pair.{lines_of, settled_pair}
-use Rattle.dev_pit.specs.Pit.{pit_out}
-use Rattle.dev_serial.specs.Port.{line_of}
-use Rattle.dev_board.specs.Laws.{IsEvent, wire_left, WiresStay}
-use Rattle.dev_board.specs.State.{State}
-use Rattle.dev_board.specs.Step.{acted, after_act, inputs_of, settled, step, wires_after}
-use Rattle.dev_board.specs.Wires.{AreWires, is_wire, wires_of, with_wire}
-use Rattle.dev_board.specs.declared.event.Event.{Event}
-use Rattle.dev_board.specs.declared.event.Event.TheVariants.{Read, Write, Byte, Wait, Wire, Ack}
-use Rattle.dev_board.specs.declared.wires.TheConstants.{WIRES}
+use Rattle.dev_board.proofs.Facade.{◌≡◌, ◌≢◌, ℕ, ◌+◌, ◌-◌, ◌<◌, ◌≤◌, ◌^◌, ◌==◌, Bool, true, false, not, ◌&&◌, if◌then◌else◌, arith, bit_and, bit_or, refl, ap}
+use Rattle.dev_board.proofs.Facade.{sym, subst, ◌∙◌, ⊎_elim, ◌||◌, cases_lt, false≢true, cond_both, nat_tests, bit_at_not, bit_at-lt, bit_at-zero, pow_below}
+use Rattle.dev_board.proofs.Facade.{bit_at, w16, and-true, and-false, or-true, or-false, has, bits_where, has-and, has-or, has-one, has-one_other, not_test}
+use Rattle.dev_board.proofs.Facade.{lines_are_taken, lines_of, settled_pair, pit_out, line_of, IsEvent, wire_left, WiresStay, State, acted, after_act}
+use Rattle.dev_board.proofs.Facade.{inputs_of, settled, step, wires_after, AreWires, is_wire, wires_of, with_wire, Event, Wire, WIRES}
 use Rattle.dev_board.proofs.WireBits.{names, wires_of-are, wires_after-are, inputs-lt, wire-bound, wire-other}
 
 second_true : (a b : Bool) → (a && b) ≡ true → b ≡ true
@@ -47,18 +32,16 @@ named input wire wires true h l =
 named input wire wires false h l =
     cond_both (input == wire) _ _ (λ (b : Bool). has (bit_and wires (65535 - 2 ^ input)) wire ≡ b)
     (λ e. let same : wire ≡ input = grind (arith, nat_tests) in
-    has-and wires (65535 - 2 ^ input) wire ∙ ap (λ b. has wires wire && b) (has-rest input wire h l ∙ ap not (ap (λ n. has (2 ^ input) n) same ∙ has-one input)) ∙ and-false (has wires wire))
+    has-and wires (65535 - 2 ^ input) wire
+    ∙ ap (λ b. has wires wire && b) (has-rest input wire h l ∙ ap not (ap (λ n. has (2 ^ input) n) same ∙ has-one input)) ∙ and-false (has wires wire))
     (λ e. let other : wire ≢ input = grind (arith, nat_tests) in
-    has-and wires (65535 - 2 ^ input) wire ∙ ap (λ b. has wires wire && b) (has-rest input wire h l ∙ ap not (has-one_other input wire other)) ∙ and-true (has wires wire))
+    has-and wires (65535 - 2 ^ input) wire ∙ ap (λ b. has wires wire && b) (has-rest input wire h l ∙ ap not (has-one_other input wire other))
+    ∙ and-true (has wires wire))
 
 left : (event : Event) (wire wires : ℕ) → wire < 16 → IsEvent event → has (wires_after event wires) wire ≡ wire_left wire event (has wires wire)
 unfolding wires_after
-left (Read port) wire wires l e = refl
-left (Write port value) wire wires l e = refl
-left (Byte value) wire wires l e = refl
-left (Wait ns) wire wires l e = refl
 left (Wire input up) wire wires l e = named input wire wires up (wire-bound input e) l
-left Ack wire wires l e = refl
+left _ wire wires l e = refl
 
 -- No device drives a wire.
 driven : (b : Bool) (input wire : ℕ) → wire ≢ input → has (bits_where b (2 ^ input)) wire ≡ false
@@ -69,7 +52,8 @@ inputs-wire : (wires wire : ℕ) (m : State) → is_wire wire ≡ true → has (
 unfolding inputs_of
 inputs-wire wires wire m e =
     has-or (bit_or wires (bits_where (pit_out 0 m.moment m.pit) 0x01)) (bits_where (line_of m.moment m.serial) 0x10) wire
-    ∙ ap (λ b. has (bit_or wires (bits_where (pit_out 0 m.moment m.pit) 0x01)) wire || b) (driven (line_of m.moment m.serial) 4 wire (λ s. wire-other wire 4 e refl (sym s)))
+    ∙ ap (λ b. has (bit_or wires (bits_where (pit_out 0 m.moment m.pit) 0x01)) wire || b)
+    (driven (line_of m.moment m.serial) 4 wire (λ s. wire-other wire 4 e refl (sym s)))
     ∙ or-false (has (bit_or wires (bits_where (pit_out 0 m.moment m.pit) 0x01)) wire)
     ∙ has-or wires (bits_where (pit_out 0 m.moment m.pit) 0x01) wire
     ∙ ap (λ b. has wires wire || b) (driven (pit_out 0 m.moment m.pit) 0 wire (λ s. wire-other wire 0 e refl (sym s)))
@@ -80,18 +64,22 @@ taken inputs edges wire m bound e =
     let l : wire < 16 = wire-bound wire e in
     ⊎_elim (λ (low : wire < 8). lines_are_taken.master inputs edges wire m.pair bound low (λ s. wire-other wire 2 e refl (sym s)))
     (λ (high : 8 ≤ wire). let place : 8 + (wire - 8) ≡ wire = omega (arith, high) in
-    subst (λ n. has (lines_of (settled_pair inputs edges m.pair)) n ≡ has inputs n) place (lines_are_taken.slave inputs edges (wire - 8) m.pair bound (omega (arith, high, l))))
+    subst (λ n. has (lines_of (settled_pair inputs edges m.pair)) n ≡ has inputs n) place
+    (lines_are_taken.slave inputs edges (wire - 8) m.pair bound (omega (arith, high, l))))
     (cases_lt wire 8)
 
-settled-wire : (wires wire : ℕ) (edge : Bool) (m : State) → AreWires wires → is_wire wire ≡ true → has (lines_of (settled wires edge m).pair) wire ≡ has wires wire
+settled-wire : (wires wire : ℕ) (edge : Bool) (m : State) → AreWires wires → is_wire wire ≡ true
+    → has (lines_of (settled wires edge m).pair) wire ≡ has wires wire
 unfolding settled
 settled-wire wires wire edge m w e =
     taken (inputs_of wires m) (bits_where edge 0x01) wire m (inputs-lt wires m w) e ∙ inputs-wire wires wire m e
 
-stay : (event : Event) (m : State) (wire : ℕ) → is_wire wire ≡ true → IsEvent event → has (lines_of (step event m).1.pair) wire ≡ wire_left wire event (has (lines_of m.pair) wire)
+stay : (event : Event) (m : State) (wire : ℕ) → is_wire wire ≡ true → IsEvent event
+    → has (lines_of (step event m).1.pair) wire ≡ wire_left wire event (has (lines_of m.pair) wire)
 unfolding step after_act
 stay event m wire e is =
-    settled-wire (wires_after event (wires_of m)) wire (acted event m).0.edge (acted event m).1 (wires_after-are event (wires_of m) (names event is) (wires_of-are m)) e
+    settled-wire (wires_after event (wires_of m)) wire (acted event m).0.edge (acted event m).1
+    (wires_after-are event (wires_of m) (names event is) (wires_of-are m)) e
     ∙ left event wire (wires_of m) (wire-bound wire e) is
     ∙ ap (λ was. wire_left wire event was) (wires_of-wire m wire e)
 

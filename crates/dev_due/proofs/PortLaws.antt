@@ -13,8 +13,7 @@ use Rattle.dev_serial.specs.Receive.{received}
 use Rattle.dev_serial.specs.Transmit.{IsSentAfter, arrived, departures, gone, holding, run_until, staying, timetable, bytes_of}
 use Rattle.dev_serial.specs.declared.shift.Shift.{Shift}
 use Rattle.dev_due.specs.Search.{SameLine}
-use Rattle.dev_serial.proofs.SendLemmas.{bytes_of-timetable, looped_none}
-use Rattle.dev_serial.proofs.SendingLaws.{advances_in_parts, character-positive, loops_at_moment, still, waits_until_due}
+use Rattle.dev_serial.proofs.SendingLaws.{bytes_of-timetable, looped_none, advances_in_parts, character-positive, loops_at_moment, still, waits_until_due}
 
 -- ---- nothing leaves
 

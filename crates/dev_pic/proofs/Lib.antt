@@ -1,7 +1,5 @@
 pub mod BitLaws
-pub mod CellLemmas
-pub mod CommandLaws
-pub mod FaultLaws
+pub mod Facade
 pub mod InitLaws
 pub mod LineLaws
 pub mod ModeLaws

@@ -1,26 +1,13 @@
 -- The remembered lines.
-use Rattle.std.proofs.Common.{◌≡◌, ◌≢◌, ℕ, ◌+◌, ◌-◌, ◌*◌, ◌/◌, ◌%◌, ◌<◌, ◌≤◌, ◌^◌, ◌==◌, Bool, true, false, not, ◌&&◌, cond, Option, Some, None, refl, ap, sym, ◌∙◌, arith, ⊎_elim, ◌||◌}
-use Rattle.std.proofs.lemmas.Bool.{cases_lt, cond_both}
-use Rattle.std.proofs.lemmas.Bool.Decides.{nat_tests}
-use Rattle.std.proofs.Math.Bool.{and-true, and-false, or-false}
-use Rattle.dev_base.specs.Bits.{has}
-use Rattle.dev_pic.specs.Bits.{without_input}
-use Rattle.dev_pic.specs.Chip.{winner_at, taken, settled, ended, ended_lowest, highest_served, commanded, started, selected, written_even, written_odd_in, elcr_written, polled_by, read_of, answered, cascaded}
-use Rattle.dev_pic.specs.Laws.{LinesAreTaken, LinesAreKept}
-use Rattle.dev_pic.specs.Ocw2.{command_of}
-use Rattle.dev_pic.specs.Pair.{slave_int_of, lines_of, acked, acked_for, with_cascade, settled_pair, read_pair, written_pair}
-use Rattle.dev_pic.specs.Sound.{PairHasRegisters}
-use Rattle.dev_pic.specs.declared.chip.Chip.{Chip}
-use Rattle.dev_pic.specs.declared.chip.InitState.{InitState}
-use Rattle.dev_pic.specs.declared.chip.InitState.TheVariants.{Ready, Icw2, Icw3, Icw4}
-use Rattle.dev_pic.specs.declared.chip.Role.{Role}
-use Rattle.dev_pic.specs.declared.chip.Role.TheVariants.{Master, Slave}
-use Rattle.dev_pic.specs.declared.ocw2.Ocw2.{Ocw2}
-use Rattle.dev_pic.specs.declared.ocw2.Ocw2.TheVariants.{NonSpecificEoi, RotateOnNonSpecificEoi, SpecificEoi, RotateOnSpecificEoi, RotateInAutomaticEoi, SetPriority, NoOperation}
-use Rattle.dev_pic.specs.declared.pair.PicPair.{PicPair}
+use Rattle.dev_pic.proofs.Facade.{◌≡◌, ◌≢◌, ℕ, ◌+◌, ◌-◌, ◌*◌, ◌/◌, ◌%◌, ◌<◌, ◌≤◌, ◌^◌, ◌==◌, Bool, true, false, not, ◌&&◌, cond, Option, Some, None, refl, ap}
+use Rattle.dev_pic.proofs.Facade.{sym, ◌∙◌, arith, ⊎_elim, ◌||◌, cases_lt, cond_both, nat_tests, and-true, and-false, or-false, has, without_input, winner_at}
+use Rattle.dev_pic.proofs.Facade.{taken, settled, ended, ended_lowest, highest_served, commanded, started, selected, written_even, written_odd_in, elcr_written}
+use Rattle.dev_pic.proofs.Facade.{polled_by, read_of, answered, cascaded, LinesAreTaken, LinesAreKept, command_of, slave_int_of, lines_of, acked, acked_for}
+use Rattle.dev_pic.proofs.Facade.{with_cascade, settled_pair, read_pair, written_pair, PairHasRegisters, Chip, InitState, Ready, Icw2, Icw3, Icw4, Role, Master}
+use Rattle.dev_pic.proofs.Facade.{Slave, Ocw2, NonSpecificEoi, RotateOnNonSpecificEoi, SpecificEoi, RotateOnSpecificEoi, RotateInAutomaticEoi, SetPriority}
+use Rattle.dev_pic.proofs.Facade.{NoOperation, PicPair, either}
 use Rattle.dev_pic.proofs.BitLaws.{each_input, has-or, has-one_other, has-without_same, has-without_other, without_input-lt}
 use Rattle.dev_pic.proofs.PairLaws.{cascade-lt}
-use Rattle.dev_base.proofs.Choices.{either}
 
 -- The bits of a number of two bytes.
 low-bit : (high low i : ℕ) → low < 256 → i < 8 → has (high * 256 + low) i ≡ has low i
@@ -184,18 +171,24 @@ record Kept (lines : ℕ) (answer : ℕ × PicPair) : Type 0 where
 read-kept : (port : ℕ) (pair : PicPair) → Kept (lines_of pair) (read_pair port pair)
 unfolding read_pair
 read-kept port pair =
-    let master : (is_odd : Bool) → lines_of (record pair { master = (read_of Master is_odd pair.master).1 }) ≡ lines_of pair = λ is_odd. with-master pair (read_of Master is_odd pair.master).1 (read-lines Master is_odd pair.master) in
-    let slave : (is_odd : Bool) → lines_of (record pair { slave = (read_of Slave is_odd pair.slave).1 }) ≡ lines_of pair = λ is_odd. with-slave pair (read_of Slave is_odd pair.slave).1 (read-lines Slave is_odd pair.slave) in
-    either (Kept (lines_of pair)) (port == 0x20) _ _ (record { kept = master false }) (either (Kept (lines_of pair)) (port == 0x21) _ _ (record { kept = master true })
-    (either (Kept (lines_of pair)) (port == 0xa0) _ _ (record { kept = slave false }) (either (Kept (lines_of pair)) (port == 0xa1) _ _ (record { kept = slave true })
+    let master : (is_odd : Bool) → lines_of (record pair { master = (read_of Master is_odd pair.master).1 }) ≡ lines_of pair =
+    λ is_odd. with-master pair (read_of Master is_odd pair.master).1 (read-lines Master is_odd pair.master) in
+    let slave : (is_odd : Bool) → lines_of (record pair { slave = (read_of Slave is_odd pair.slave).1 }) ≡ lines_of pair =
+    λ is_odd. with-slave pair (read_of Slave is_odd pair.slave).1 (read-lines Slave is_odd pair.slave) in
+    either (Kept (lines_of pair)) (port == 0x20) _ _ (record { kept = master false })
+    (either (Kept (lines_of pair)) (port == 0x21) _ _ (record { kept = master true })
+    (either (Kept (lines_of pair)) (port == 0xa0) _ _ (record { kept = slave false })
+    (either (Kept (lines_of pair)) (port == 0xa1) _ _ (record { kept = slave true })
     (either (Kept (lines_of pair)) (port == 0x4d0) _ _ (record { kept = refl }) (record { kept = refl })))))
 
 written-kept : (port value : ℕ) (pair : PicPair) → lines_of (written_pair port value pair) ≡ lines_of pair
 unfolding written_pair
 written-kept port value pair =
     let keeps : PicPair → Type 0 = λ p. lines_of p ≡ lines_of pair in
-    either keeps (port == 0x20) _ _ (with-master pair _ (even-lines pair.level value pair.master)) (either keeps (port == 0x21) _ _ (with-master pair _ (odd-lines pair.master.init_state value pair.master))
-    (either keeps (port == 0xa0) _ _ (with-slave pair _ (even-lines pair.level value pair.slave)) (either keeps (port == 0xa1) _ _ (with-slave pair _ (odd-lines pair.slave.init_state value pair.slave))
+    either keeps (port == 0x20) _ _ (with-master pair _ (even-lines pair.level value pair.master))
+    (either keeps (port == 0x21) _ _ (with-master pair _ (odd-lines pair.master.init_state value pair.master))
+    (either keeps (port == 0xa0) _ _ (with-slave pair _ (even-lines pair.level value pair.slave))
+    (either keeps (port == 0xa1) _ _ (with-slave pair _ (odd-lines pair.slave.init_state value pair.slave))
     (either keeps (port == 0x4d0) _ _ (with-master pair _ (elcr-lines Master value pair.master)) (with-slave pair _ (elcr-lines Slave value pair.slave))))))
 
 acked_for-kept : (o : Option ℕ) (pair : PicPair) → o ≢ Some 2 → Kept (lines_of pair) (acked_for o pair)
@@ -210,7 +203,8 @@ acked_for-kept (Some w) pair n =
 acked-slave : (pair : PicPair) → winner_at Master pair.master ≡ Some 2 → lines_of (acked pair).1 ≡ pair.slave.lines * 256 + without_input pair.master.lines 2
 unfolding acked_for lines_of
 acked-slave pair e =
-    rw e (ap (λ n. n * 256 + (cascaded pair.master).lines) (answered-lines (winner_at Slave pair.slave) pair.slave) ∙ ap (λ n. pair.slave.lines * 256 + n) (cascaded-lines pair.master))
+    rw e (ap (λ n. n * 256 + (cascaded pair.master).lines) (answered-lines (winner_at Slave pair.slave) pair.slave) ∙ ap (λ n. pair.slave.lines * 256 + n)
+    (cascaded-lines pair.master))
 
 without-bit : (lines i : ℕ) → i < 8 → has (without_input lines 2) i ≡ (has lines i && not (i == 2))
 without-bit lines i h = by_value (i == 2) refl where
@@ -228,7 +222,8 @@ low-acked slave master i bound l =
     ∙ without-bit master i l
     ∙ ap (λ t. t && not (i == 2)) (sym (low-bit slave master i bound l))
 
-high-acked : (slave master i : ℕ) → master < 256 → 8 ≤ i → i < 16 → has (slave * 256 + without_input master 2) i ≡ (has (slave * 256 + master) i && not (i == 2))
+high-acked : (slave master i : ℕ) → master < 256 → 8 ≤ i → i < 16
+    → has (slave * 256 + without_input master 2) i ≡ (has (slave * 256 + master) i && not (i == 2))
 high-acked slave master i bound least l =
     let place : i ≡ 8 + (i - 8) = omega (arith, least) in
     let within : i - 8 < 8 = omega (arith, least, l) in
@@ -239,7 +234,8 @@ high-acked slave master i bound least l =
     ∙ ap (λ n. has (slave * 256 + master) n) (sym place)
     ∙ sym (ap (λ t. has (slave * 256 + master) i && not t) other ∙ and-true (has (slave * 256 + master) i))
 
-acked-bit : (pair : PicPair) → PairHasRegisters pair → (i : ℕ) → i < 16 → has (pair.slave.lines * 256 + without_input pair.master.lines 2) i ≡ (has (lines_of pair) i && not (i == 2))
+acked-bit : (pair : PicPair) → PairHasRegisters pair → (i : ℕ) → i < 16
+    → has (pair.slave.lines * 256 + without_input pair.master.lines 2) i ≡ (has (lines_of pair) i && not (i == 2))
 unfolding lines_of
 acked-bit pair h i l =
     ⊎_elim (λ low. low-acked pair.slave.lines pair.master.lines i h.master.lines low)

@@ -1,19 +1,11 @@
 -- Laws of the modes in the data sheet's terms.
-use Rattle.std.proofs.Common.{◌≡◌, ℕ, ◌+◌, ◌<◌, Bool, true, false, not, cond, ◌&&◌, Option, Some, None, refl, arith, sym, ◌∙◌, ap, subst, ◌||◌}
-use Rattle.std.proofs.lemmas.Bool.{false≢true}
-use Rattle.std.specs.Prelude.{bit_and, bit_or}
-use Rattle.dev_base.specs.Bits.{has}
-use Rattle.dev_pic.specs.Bits.{but_not, with_input, without_input}
-use Rattle.dev_pic.specs.Chip.{cascade_input, level_inputs_of, requests_of, in_service_of, served_of, winner_at, taken, rising, settled, ended, ended_lowest, highest_served, commanded, written_even, vector_of, answered}
-use Rattle.dev_pic.specs.Laws.{MaskedNeverWins, ServedBlocksLower, IsHighestServed, EndsService, EoiEndsHighest, AckWithoutWinner, TakesWinner, TakesLinesOver}
-use Rattle.dev_pic.specs.Pair.{acked, acked_for}
-use Rattle.dev_pic.specs.Sound.{HasRegisters, PairHasRegisters}
-use Rattle.dev_pic.specs.Winner.{input_at, MeansWinner, IsWinner}
-use Rattle.dev_pic.specs.declared.chip.Chip.{Chip}
-use Rattle.dev_pic.specs.declared.chip.Role.{Role}
-use Rattle.dev_pic.specs.declared.chip.Role.TheVariants.{Master, Slave}
-use Rattle.dev_pic.specs.declared.ocw2.Ocw2.TheVariants.{NonSpecificEoi, RotateOnNonSpecificEoi}
-use Rattle.dev_pic.specs.declared.pair.PicPair.{PicPair}
+use Rattle.dev_pic.proofs.Facade.{◌≡◌, ℕ, ◌+◌, ◌<◌, Bool, true, false, not, cond, ◌&&◌, Option, Some, None, refl, arith, sym, ◌∙◌, ap, subst, ◌||◌, false≢true}
+use Rattle.dev_pic.proofs.Facade.{bit_and, has, but_not, with_input, without_input, cascade_input, level_inputs_of, requests_of, in_service_of, served_of}
+use Rattle.dev_pic.proofs.Facade.{winner_at, taken, rising, settled, ended, ended_lowest, highest_served, commanded, written_even, vector_of, answered}
+use Rattle.dev_pic.proofs.Facade.{MaskedNeverWins, ServedBlocksLower, IsHighestServed, EndsService, EoiEndsHighest, AckWithoutWinner, TakesWinner}
+use Rattle.dev_pic.proofs.Facade.{TakesLinesOver, acked, acked_for, HasRegisters, PairHasRegisters, input_at, MeansWinner, IsWinner, Chip, Role, Master, Slave}
+use Rattle.dev_pic.proofs.Facade.{NonSpecificEoi, RotateOnNonSpecificEoi, PicPair}
+use Rattle.std.specs.Prelude.{bit_or}
 use Rattle.dev_pic.proofs.BitLaws.{level_inputs-lt, has-and, has-or, has-but_not, has-without_same, has-without_other, has-with_same, and_not_true}
 use Rattle.dev_pic.proofs.WinnerLaws.{winner_of-means, highest_at, highest_none}
 
@@ -70,23 +62,29 @@ found chip input h =
 is_input : (chip : Chip) (input : ℕ) → IsHighestServed chip input → input < 8
 is_input chip input h = let e = h.in_order.1 in omega arith
 
-ends_highest : (chip : Chip) (input : ℕ) → chip.isr < 256 → IsHighestServed chip input → EndsService input chip (commanded NonSpecificEoi chip) × ((commanded NonSpecificEoi chip).lowest ≡ chip.lowest)
+ends_highest : (chip : Chip) (input : ℕ) → chip.isr < 256 → IsHighestServed chip input
+    → EndsService input chip (commanded NonSpecificEoi chip) × ((commanded NonSpecificEoi chip).lowest ≡ chip.lowest)
 unfolding commanded ended
 ends_highest chip input bound h =
-    subst (λ (o : Option ℕ). EndsService input chip (ended o chip) × ((ended o chip).lowest ≡ chip.lowest)) (sym (found chip input h)) (ends chip input (is_input chip input h), refl)
+    subst (λ (o : Option ℕ). EndsService input chip (ended o chip) × ((ended o chip).lowest ≡ chip.lowest)) (sym (found chip input h))
+    (ends chip input (is_input chip input h), refl)
 
-rotates_highest : (chip : Chip) (input : ℕ) → chip.isr < 256 → IsHighestServed chip input → EndsService input chip (commanded RotateOnNonSpecificEoi chip) × ((commanded RotateOnNonSpecificEoi chip).lowest ≡ input)
+rotates_highest : (chip : Chip) (input : ℕ) → chip.isr < 256 → IsHighestServed chip input
+    → EndsService input chip (commanded RotateOnNonSpecificEoi chip) × ((commanded RotateOnNonSpecificEoi chip).lowest ≡ input)
 unfolding commanded ended_lowest
 rotates_highest chip input bound h =
-    subst (λ (o : Option ℕ). EndsService input chip (ended_lowest o chip) × ((ended_lowest o chip).lowest ≡ input)) (sym (found chip input h)) (ends_lowest chip input (is_input chip input h), refl)
+    subst (λ (o : Option ℕ). EndsService input chip (ended_lowest o chip) × ((ended_lowest o chip).lowest ≡ input)) (sym (found chip input h))
+    (ends_lowest chip input (is_input chip input h), refl)
 
-ends_nothing : (chip : Chip) → ((input : ℕ) → input < 8 → has (in_service_of chip) input ≡ false) → (commanded NonSpecificEoi chip ≡ chip) × (commanded RotateOnNonSpecificEoi chip ≡ chip)
+ends_nothing : (chip : Chip) → ((input : ℕ) → input < 8 → has (in_service_of chip) input ≡ false)
+    → (commanded NonSpecificEoi chip ≡ chip) × (commanded RotateOnNonSpecificEoi chip ≡ chip)
 unfolding commanded ended ended_lowest
 ends_nothing chip none =
     let e = highest_none chip.lowest (in_service_of chip) none in
     (ap (λ o. ended o chip) e, ap (λ o. ended_lowest o chip) e)
 
-eoi_words : (level : ℕ) (chip : Chip) → (written_even level 0x20 chip ≡ commanded NonSpecificEoi chip) × (written_even level 0xa0 chip ≡ commanded RotateOnNonSpecificEoi chip)
+eoi_words : (level : ℕ) (chip : Chip)
+    → (written_even level 0x20 chip ≡ commanded NonSpecificEoi chip) × (written_even level 0xa0 chip ≡ commanded RotateOnNonSpecificEoi chip)
 unfolding written_even
 eoi_words level chip = (refl, refl)
 
@@ -105,7 +103,8 @@ unfolding acked_for answered
 master_unasked pair h none =
     rw none (ap (λ n. (n, pair)) (plain_vector pair.level Master pair.master 7 (omega arith) h.master))
 
-slave_unasked : (pair : PicPair) → PairHasRegisters pair → winner_at Master pair.master ≡ Some cascade_input → winner_at Slave pair.slave ≡ None → ((acked pair).0 ≡ pair.slave.base + 7) × ((acked pair).1.slave ≡ pair.slave)
+slave_unasked : (pair : PicPair) → PairHasRegisters pair → winner_at Master pair.master ≡ Some cascade_input → winner_at Slave pair.slave ≡ None
+    → ((acked pair).0 ≡ pair.slave.base + 7) × ((acked pair).1.slave ≡ pair.slave)
 unfolding acked_for answered
 slave_unasked pair h taken none =
     rw (taken, none) (plain_vector pair.level Slave pair.slave 7 (omega arith) h.slave, refl)
@@ -121,7 +120,8 @@ edge_irr chip winner e = rw e
 level_irr : (chip : Chip) (winner : ℕ) → has (level_inputs_of chip) winner ≡ true → (taken winner chip).irr ≡ chip.irr
 unfolding taken
 level_irr chip winner e = rw e (serving_irr chip.auto_eoi chip.rotate) where
-  serving_irr : (auto rotate : Bool) → (cond auto (cond rotate (record chip { lowest = winner }) chip) (record chip { isr = with_input chip.isr winner })).irr ≡ chip.irr
+  serving_irr : (auto rotate : Bool)
+      → (cond auto (cond rotate (record chip { lowest = winner }) chip) (record chip { isr = with_input chip.isr winner })).irr ≡ chip.irr
   serving_irr true true = refl
   serving_irr true false = refl
   serving_irr false rotate = refl
@@ -162,5 +162,7 @@ takes_lines_over inputs edges chip input lines elcr within =
     let edge = has-but_not (bit_or chip.irr (rising inputs edges chip)) (level_inputs_of chip) input levels within ∙ ap (λ t. t && not (has (level_inputs_of chip) input)) kept in
     has-or (but_not (bit_or chip.irr (rising inputs edges chip)) (level_inputs_of chip)) (bit_and inputs (level_inputs_of chip)) input
     ∙ ap (λ t. t || has (bit_and inputs (level_inputs_of chip)) input) edge
-    ∙ ap (λ t. ((has chip.irr input || ((has inputs input && not (has chip.lines input)) || has edges input)) && not (has (level_inputs_of chip) input)) || t) (has-and inputs (level_inputs_of chip) input)
-    ∙ by_mode (has chip.irr input || ((has inputs input && not (has chip.lines input)) || has edges input)) (has inputs input) (has (level_inputs_of chip) input)
+    ∙ ap (λ t. ((has chip.irr input || ((has inputs input && not (has chip.lines input)) || has edges input)) && not (has (level_inputs_of chip) input)) || t)
+    (has-and inputs (level_inputs_of chip) input)
+    ∙ by_mode (has chip.irr input || ((has inputs input && not (has chip.lines input)) || has edges input)) (has inputs input)
+    (has (level_inputs_of chip) input)

@@ -1,22 +1,9 @@
 -- What each step of the pair keeps.
-use Rattle.std.proofs.Common.{◌≡◌, ℕ, ◌%◌, ◌<◌, ◌≤◌, ◌^◌, ◌==◌, Bool, true, false, Option, Some, None, IfSome, arith, refl}
-use Rattle.std.proofs.lemmas.Bool.Decides.{nat_tests}
-use Rattle.std.proofs.lemmas.Nat.{or_of_8, and_le_l}
-use Rattle.std.specs.Prelude.{bit_and, nat_le}
-use Rattle.std.proofs.Math.Bool.{or-true}
-use Rattle.std.proofs.lemmas.Bool.{cond_both}
-use Rattle.dev_pic.specs.Cells.{levels_hold, requests_hold, mode_holds}
-use Rattle.dev_pic.specs.Chip.{elcr_mask, level_inputs, winner_at, elcr_written, cascade_input}
-use Rattle.dev_base.specs.Levels.{IsLevel}
-use Rattle.dev_pic.specs.Laws.{StepsKeepRegisters, StepsKeepLevel}
-use Rattle.dev_pic.specs.Pair.{chip_on, power_on, is_port, with_cascade, settled_pair, read_pair, written_pair, acked, acked_for}
-use Rattle.dev_pic.specs.Sound.{HasRegisters, PairHasRegisters, IsSoundPair}
-use Rattle.dev_pic.specs.declared.chip.Chip.{Chip}
-use Rattle.dev_pic.specs.declared.chip.Role.{Role}
-use Rattle.dev_pic.specs.declared.chip.Role.TheVariants.{Master, Slave}
-use Rattle.dev_pic.specs.declared.levels.TheConstants.{ELCR_SINCE, LTIM_SINCE}
-use Rattle.dev_pic.specs.declared.pair.PicPair.{PicPair}
-use Rattle.dev_base.proofs.Choices.{either}
+use Rattle.dev_pic.proofs.Facade.{◌≡◌, ℕ, ◌%◌, ◌<◌, ◌≤◌, ◌^◌, ◌==◌, Bool, true, false, Option, Some, None, IfSome, arith, refl, nat_tests, or_of_8, and_le_l}
+use Rattle.dev_pic.proofs.Facade.{bit_and, nat_le, or-true, cond_both, levels_hold, requests_hold, mode_holds, elcr_mask, level_inputs, winner_at, elcr_written}
+use Rattle.dev_pic.proofs.Facade.{cascade_input, IsLevel, StepsKeepRegisters, StepsKeepLevel, chip_on, power_on, is_port, with_cascade, settled_pair, read_pair}
+use Rattle.dev_pic.proofs.Facade.{written_pair, acked, acked_for, HasRegisters, PairHasRegisters, IsSoundPair, Chip, Role, Master, Slave, ELCR_SINCE}
+use Rattle.dev_pic.proofs.Facade.{LTIM_SINCE, PicPair, either}
 use Rattle.dev_pic.proofs.BitLaws.{without_input-lt, and-twice}
 use Rattle.dev_pic.proofs.StepLaws.{winner-lt, settled-sound, written_even-registers, written_odd-registers, read-registers, answered-registers, cascaded-registers}
 
@@ -42,7 +29,8 @@ mode_off : (level : ℕ) → mode_holds level false ≡ true
 unfolding mode_holds
 mode_off level = or-true (nat_le LTIM_SINCE level)
 
-has_elcr : (level port : ℕ) → is_port level port ≡ true → (port == 0x20) ≡ false → (port == 0x21) ≡ false → (port == 0xa0) ≡ false → (port == 0xa1) ≡ false → ELCR_SINCE ≤ level
+has_elcr : (level port : ℕ) → is_port level port ≡ true → (port == 0x20) ≡ false → (port == 0x21) ≡ false → (port == 0xa0) ≡ false → (port == 0xa1) ≡ false
+    → ELCR_SINCE ≤ level
 has_elcr level port h a b c d = grind (arith, nat_tests)
 
 power-sound : (level : ℕ) → IsLevel level → IsSoundPair (power_on level)
@@ -50,16 +38,39 @@ unfolding power_on chip_on requests_hold level_inputs
 power-sound level l = record {
   level = l;
   master = record {
-    registers = record { irr = omega arith; isr = omega arith; imr = omega arith; lines = omega arith; lowest = omega arith; base = omega arith; vectors = refl; elcr = omega arith; levels = levels_off level Master; mode = mode_off level };
+    registers = record {
+      irr = omega arith;
+      isr = omega arith;
+      imr = omega arith;
+      lines = omega arith;
+      lowest = omega arith;
+      base = omega arith;
+      vectors = refl;
+      elcr = omega arith;
+      levels = levels_off level Master;
+      mode = mode_off level;
+    };
     requests = refl;
   };
   slave = record {
-    registers = record { irr = omega arith; isr = omega arith; imr = omega arith; lines = omega arith; lowest = omega arith; base = omega arith; vectors = refl; elcr = omega arith; levels = levels_off level Slave; mode = mode_off level };
+    registers = record {
+      irr = omega arith;
+      isr = omega arith;
+      imr = omega arith;
+      lines = omega arith;
+      lowest = omega arith;
+      base = omega arith;
+      vectors = refl;
+      elcr = omega arith;
+      levels = levels_off level Slave;
+      mode = mode_off level;
+    };
     requests = refl;
   };
 }
 
-elcr-written : (level : ℕ) (role : Role) (chip : Chip) (value : ℕ) → ELCR_SINCE ≤ level → value < 256 → HasRegisters level role chip → HasRegisters level role (elcr_written role value chip)
+elcr-written : (level : ℕ) (role : Role) (chip : Chip) (value : ℕ) → ELCR_SINCE ≤ level → value < 256 → HasRegisters level role chip
+    → HasRegisters level role (elcr_written role value chip)
 unfolding elcr_written
 elcr-written level role chip value l v h = record {
   irr = h.irr;
@@ -89,7 +100,8 @@ module _ (pair : PicPair) (h : PairHasRegisters pair) where
   unfolding settled_pair
   settle-sound inputs edges i e = record {
     level = h.level;
-    master = settled-sound pair.level Master pair.master h.master _ _ (cascade-lt _ (inputs % 256) (omega arith)) (without_input-lt _ cascade_input (omega arith));
+    master = settled-sound pair.level Master pair.master h.master _ _ (cascade-lt _ (inputs % 256) (omega arith))
+        (without_input-lt _ cascade_input (omega arith));
     slave = settled-sound pair.level Slave pair.slave h.slave _ _ (omega arith) (omega arith);
   }
 
@@ -98,7 +110,13 @@ module _ (pair : PicPair) (h : PairHasRegisters pair) where
   acked_for-kept None l = record { kept = with-master _ (answered-registers pair.level Master pair.master h.master None tt) }
   acked_for-kept (Some w) l =
       either Kept (w == cascade_input) _ _
-      (record { kept = record { level = h.level; master = cascaded-registers pair.level Master pair.master h.master; slave = answered-registers pair.level Slave pair.slave h.slave (winner_at Slave pair.slave) (winner-lt Slave pair.slave) } })
+      (record {
+        kept = record {
+          level = h.level;
+          master = cascaded-registers pair.level Master pair.master h.master;
+          slave = answered-registers pair.level Slave pair.slave h.slave (winner_at Slave pair.slave) (winner-lt Slave pair.slave);
+        };
+      })
       (record { kept = with-master _ (answered-registers pair.level Master pair.master h.master (Some w) l) })
 
   acked-kept : PairHasRegisters (acked pair).1
@@ -117,9 +135,11 @@ module _ (pair : PicPair) (h : PairHasRegisters pair) where
   unfolding written_pair
   written-kept port value v is =
       cond_both (port == 0x20) _ _ PairHasRegisters (λ _. with-master _ (written_even-registers pair.level Master pair.master h.master value)) (λ a.
-      cond_both (port == 0x21) _ _ PairHasRegisters (λ _. with-master _ (written_odd-registers pair.level Master pair.master h.master pair.master.init_state value v)) (λ b.
+      cond_both (port == 0x21) _ _ PairHasRegisters
+      (λ _. with-master _ (written_odd-registers pair.level Master pair.master h.master pair.master.init_state value v)) (λ b.
       cond_both (port == 0xa0) _ _ PairHasRegisters (λ _. with-slave _ (written_even-registers pair.level Slave pair.slave h.slave value)) (λ c.
-      cond_both (port == 0xa1) _ _ PairHasRegisters (λ _. with-slave _ (written_odd-registers pair.level Slave pair.slave h.slave pair.slave.init_state value v)) (λ d.
+      cond_both (port == 0xa1) _ _ PairHasRegisters
+      (λ _. with-slave _ (written_odd-registers pair.level Slave pair.slave h.slave pair.slave.init_state value v)) (λ d.
       let since = has_elcr pair.level port is a b c d in
       either PairHasRegisters (port == 0x4d0) _ _ (with-master _ (elcr-written pair.level Master pair.master value since v h.master))
       (with-slave _ (elcr-written pair.level Slave pair.slave value since v h.slave))))))

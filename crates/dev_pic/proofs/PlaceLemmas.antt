@@ -1,13 +1,8 @@
 -- The place of an input in the priority order is that of its bit in a rotated register.
-use Rattle.std.proofs.Common.{◌≡◌, ℕ, zero, suc, ◌+◌, ◌-◌, ◌*◌, ◌/◌, ◌%◌, ◌^◌, ◌<◌, ◌≤◌, false, ◌==◌, max, refl, arith, ◌∙◌, ap, sym, subst, w8, bit_or, ⊎_elim, inl, inr, ◌⊎◌}
-use Rattle.std.proofs.lemmas.Bool.{cases_lt}
-use Rattle.std.proofs.lemmas.Nat.{div-add-mod', pow_pos}
-use Rattle.std.proofs.lemmas.Nat.Bits.{bit_at_or, bit_at_above, bit_at_cat_low, bit_at_cat_high, bit_at-zero, bit_at-trailing_zeros}
-use Rattle.std.proofs.Math.Nat.{mod-lt}
-use Rattle.std.specs.Int.{bit_at, rotate_right, trailing_zeros}
-use Rattle.std.specs.Int.Count.{trailing_of_zero}
-use Rattle.dev_base.specs.Bits.{has}
-use Rattle.dev_pic.specs.Winner.{input_at, IsFirstPlace}
+use Rattle.dev_pic.proofs.Facade.{◌≡◌, ℕ, zero, suc, ◌+◌, ◌-◌, ◌*◌, ◌/◌, ◌%◌, ◌^◌, ◌<◌, ◌≤◌, ◌==◌, max, refl, arith, ◌∙◌, ap, sym, subst, bit_or, ⊎_elim, inl}
+use Rattle.dev_pic.proofs.Facade.{inr, ◌⊎◌, cases_lt, div-add-mod', pow_pos, bit_at_or, bit_at_above, bit_at_cat_low, bit_at_cat_high, bit_at-zero}
+use Rattle.dev_pic.proofs.Facade.{bit_at-trailing_zeros, mod-lt, bit_at, rotate_right, trailing_zeros, trailing_of_zero, has, input_at, IsFirstPlace}
+use Rattle.std.proofs.Common.{w8}
 
 -- A bit of a number that was shifted down, and of one that was shifted up and cut.
 down : (n s k : ℕ) → bit_at (n / 2 ^ s) k ≡ bit_at n (s + k)
@@ -83,10 +78,8 @@ bit_at_place lowest inputs place small within =
     let same : ((lowest + 1) % 8 + place) % 8 ≡ (lowest + 1 + place) % 8 = omega arith in
     turned_by inputs ((lowest + 1) % 8) place small (omega arith) within ∙ ap (bit_at inputs) same
 
-abbrev AreBelow : ℕ → ℕ → ℕ → Type 0
-AreBelow lowest inputs place = (other : ℕ) → other < place → has inputs (input_at lowest other) ≡ false
-
-by_bit : (lowest inputs place bit : ℕ) → inputs < 256 → place < 8 → bit_at (rotate_right w8 inputs (lowest + 1)) place ≡ bit → has inputs (input_at lowest place) ≡ (bit == 1)
+by_bit : (lowest inputs place bit : ℕ) → inputs < 256 → place < 8 → bit_at (rotate_right w8 inputs (lowest + 1)) place ≡ bit
+    → has inputs (input_at lowest place) ≡ (bit == 1)
 by_bit lowest inputs place bit small within e =
     ap (λ (b : ℕ). b == 1) (sym (bit_at_place lowest inputs place small within) ∙ e)
 
@@ -109,7 +102,8 @@ some lowest inputs small positive fits =
     }
 
 -- The lowest bit of a register that was rotated right is the first place whose input is in the set.
-pub is_first : (lowest inputs : ℕ) → inputs < 256 → rotate_right w8 inputs (lowest + 1) < 256 → IsFirstPlace lowest inputs (trailing_zeros w8 (rotate_right w8 inputs (lowest + 1)))
+pub is_first : (lowest inputs : ℕ) → inputs < 256 → rotate_right w8 inputs (lowest + 1) < 256
+    → IsFirstPlace lowest inputs (trailing_zeros w8 (rotate_right w8 inputs (lowest + 1)))
 is_first lowest inputs small fits = ⊎_elim zero_of (λ h. some lowest inputs small h fits) (cases_le _) where
   cases_le : (n : ℕ) → (n ≡ 0) ⊎ (0 < n)
   cases_le zero = inl refl

@@ -1,12 +1,7 @@
 -- Laws of polls, of special fully nested mode and of rotation in automatic end of interrupt.
-use Rattle.std.proofs.Common.{◌≡◌, ℕ, ◌+◌, Bool, true, false, cond, if◌then◌else◌, Option, Some, None, refl, ap, ◌∙◌, arith}
-use Rattle.dev_base.specs.Bits.{has}
-use Rattle.dev_pic.specs.Bits.{with_input, without_input}
-use Rattle.dev_pic.specs.Chip.{cascade_input, level_inputs_of, in_service_of, served_of, winner_at, taken, selected, commanded, written_even, polled_by, shown, read_of}
-use Rattle.dev_pic.specs.Laws.{PollsOnce, NestsSpecially, RotatesAtOnce}
-use Rattle.dev_pic.specs.declared.chip.Chip.{Chip}
-use Rattle.dev_pic.specs.declared.chip.Role.{Role}
-use Rattle.dev_pic.specs.declared.chip.Role.TheVariants.{Master, Slave}
+use Rattle.dev_pic.proofs.Facade.{◌≡◌, ℕ, ◌+◌, Bool, true, false, cond, if◌then◌else◌, Option, Some, None, refl, ap, ◌∙◌, arith, has, with_input, without_input}
+use Rattle.dev_pic.proofs.Facade.{cascade_input, level_inputs_of, in_service_of, served_of, winner_at, taken, selected, commanded, written_even, polled_by}
+use Rattle.dev_pic.proofs.Facade.{shown, read_of, PollsOnce, NestsSpecially, RotatesAtOnce, Chip, Role, Master, Slave}
 use Rattle.dev_pic.proofs.BitLaws.{has-without_same, has-without_other}
 
 -- ---- polls
@@ -24,7 +19,8 @@ poll_winner : (role : Role) (is_odd : Bool) (chip : Chip) (input : ℕ) → chip
 unfolding polled_by
 poll_winner role is_odd chip input poll is = polled role is_odd chip poll ∙ ap (λ (o : Option ℕ). polled_by o chip) is
 
-poll_none : (role : Role) (is_odd : Bool) (chip : Chip) → chip.poll ≡ true → winner_at role chip ≡ None → read_of role is_odd chip ≡ (0, record chip { poll = false })
+poll_none : (role : Role) (is_odd : Bool) (chip : Chip) → chip.poll ≡ true → winner_at role chip ≡ None
+    → read_of role is_odd chip ≡ (0, record chip { poll = false })
 unfolding polled_by
 poll_none role is_odd chip poll is = polled role is_odd chip poll ∙ ap (λ (o : Option ℕ). polled_by o chip) is
 
@@ -76,7 +72,8 @@ nests_specially = record {
 
 -- ---- rotation
 
-rotate_words : (level : ℕ) (chip : Chip) → (written_even level 0x80 chip ≡ record chip { rotate = true }) × (written_even level 0x00 chip ≡ record chip { rotate = false })
+rotate_words : (level : ℕ) (chip : Chip)
+    → (written_even level 0x80 chip ≡ record chip { rotate = true }) × (written_even level 0x00 chip ≡ record chip { rotate = false })
 unfolding written_even commanded
 rotate_words level chip = (refl, refl)
 

@@ -1,20 +1,7 @@
 -- A restored pair is sound.
-use Rattle.std.proofs.Common.{◌≡◌, ℕ, ◌≤◌, ◌%◌, true, List, ℤ, take, drop, Result, Ok, Err, sym, subst, arith}
-use Rattle.std.proofs.lemmas.Bool.Decides.{nat_tests}
-use Rattle.dev_base.specs.Levels.{IsLevel}
-use Rattle.vms_fields.specs.declared.pic.TheConstants.{IRR, ISR, IMR, LINES, BASE, ELCR}
-use Rattle.vms_kinds.specs.declared.Kind.TheVariants.{U8}
-use Rattle.dev_base.proofs.CellLaws.{number-lt}
-use Rattle.dev_base.proofs.RuleLaws.{AllTrue, judged-ok, hook-ok}
-use Rattle.dev_pic.specs.Cells.{cell_count, IsChipCells, chip_of, registers_hold, rules, restored}
-use Rattle.dev_pic.specs.Laws.{RestoredIsSound}
-use Rattle.dev_pic.specs.Saved.{pair_of, restored_pair, by_number}
-use Rattle.dev_pic.specs.Sound.{IsSoundChip, IsSoundPair}
-use Rattle.dev_pic.specs.declared.chip.Chip.{Chip}
-use Rattle.dev_pic.specs.declared.chip.Role.{Role}
-use Rattle.dev_pic.specs.declared.chip.Role.TheVariants.{Master, Slave}
-use Rattle.dev_pic.specs.declared.fault.ChipFault.{ChipFault}
-use Rattle.dev_pic.specs.declared.pair.PicPair.{PicPair}
+use Rattle.dev_pic.proofs.Facade.{◌≡◌, ℕ, ◌≤◌, ◌%◌, true, List, ℤ, take, drop, Result, Ok, Err, sym, subst, arith, nat_tests, IsLevel, IRR, ISR, IMR, LINES}
+use Rattle.dev_pic.proofs.Facade.{BASE, ELCR, U8, number-lt, AllTrue, judged-ok, hook-ok, cell_count, IsChipCells, chip_of, registers_hold, rules, restored}
+use Rattle.dev_pic.proofs.Facade.{RestoredIsSound, pair_of, restored_pair, by_number, IsSoundChip, IsSoundPair, Chip, Role, Master, Slave, ChipFault, PicPair}
 
 -- What rule 1 says.
 low_priority : (lowest state base : ℕ) → registers_hold lowest state base ≡ true → lowest ≤ 7
@@ -44,7 +31,8 @@ sound level role cells is hold = record {
   requests = hold.1.1.0;
 }
 
-restored-sound : (level : ℕ) (role : Role) (cells : List ℤ) (chip : Chip) → IsChipCells cells → restored level role cells ≡ Ok chip → IsSoundChip level role chip
+restored-sound : (level : ℕ) (role : Role) (cells : List ℤ) (chip : Chip) → IsChipCells cells → restored level role cells ≡ Ok chip
+    → IsSoundChip level role chip
 restored-sound level role cells chip is e =
     let ok = judged-ok (rules level role cells) (chip_of cells) chip e in
     subst (IsSoundChip level role) ok.1 (sound level role cells is ok.0)
@@ -66,7 +54,8 @@ unfolding by_number
 number-ok (Ok found) pair e = cc
 number-ok (Err fault) pair e = cc
 
-pub pair-sound : (level : ℕ) (master slave : List ℤ) (pair : PicPair) → IsLevel level → IsChipCells master → IsChipCells slave → restored_pair level master slave ≡ Ok pair → IsSoundPair pair × (pair.level ≡ level)
+pub pair-sound : (level : ℕ) (master slave : List ℤ) (pair : PicPair) → IsLevel level → IsChipCells master → IsChipCells slave
+    → restored_pair level master slave ≡ Ok pair → IsSoundPair pair × (pair.level ≡ level)
 pair-sound level master slave pair l m s e =
     let made = made_of level (restored level Master master) (restored level Slave slave) pair e in
     let same = made.same_level in
@@ -76,5 +65,6 @@ pair-sound level master slave pair l m s e =
 
 pub restored_is_sound : RestoredIsSound
 restored_is_sound = record {
-  pair = λ numbers cells pair can e. pair-sound numbers.level (take cell_count cells) (drop cell_count cells) pair can.pass.is_level can.master can.slave (number-ok _ pair (hook-ok _ pair e));
+  pair = λ numbers cells pair can e. pair-sound numbers.level (take cell_count cells) (drop cell_count cells) pair can.pass.is_level can.master can.slave
+      (number-ok _ pair (hook-ok _ pair e));
 }

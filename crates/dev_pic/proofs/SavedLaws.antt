@@ -1,32 +1,38 @@
--- A saved pair is restored as it was.
-use Rattle.std.proofs.Common.{◌≡◌, ℕ, zero, suc, ◌+◌, ◌-◌, ◌<◌, ◌≤◌, ◌==◌, Bool, true, false, cond, List, [], ◌∷◌, ◌++◌, length, take, drop, Ok, refl, ap, sym, subst, ◌∙◌, arith, ℤ, pos, codes}
-use Rattle.std.proofs.lemmas.Bool.{false≢true}
-use Rattle.std.proofs.lemmas.Bool.Decides.{nat_tests}
-use Rattle.std.specs.Prelude.{nat_le}
-use Rattle.vms_fields.specs.Fields.{cells_under}
-use Rattle.vms_fields.specs.Pic.{i8259_rows}
-use Rattle.vms_hooks.specs.Numbers.{Numbers}
-use Rattle.vms_kinds.specs.declared.Kind.TheVariants.{U8, Bool as Truth}
-use Rattle.dev_base.specs.Cells.{flag_number, AreOf}
-use Rattle.dev_base.specs.Levels.{MayRestore}
-use Rattle.dev_base.specs.declared.limits.TheConstants.{NEWEST}
-use Rattle.dev_base.proofs.Choices.{either}
-use Rattle.dev_base.proofs.CellLaws.{byte, flag, flag-back}
-use Rattle.dev_base.proofs.ListLaws.{AllHold, one_holds, none_lacks, of_rows, carried_rows}
-use Rattle.dev_base.proofs.RuleLaws.{AllTrue, none_failing, all_true, judged-all, ok-hook}
-use Rattle.dev_pic.specs.Cells.{cell_count, kinds, cell_in, flag_in, state_number, state_of, named, saved_cells, carried, IsChipCells, chip_of, registers_hold, levels_hold, mode_holds, rules, restored}
-use Rattle.dev_pic.specs.Laws.{SoundMeetsRules, SavedAreCells, SavedIsRestored, FaultsAreTold}
-use Rattle.dev_pic.specs.Saved.{CanSave, CanRestore, pair_cells, pair_carried, pair_of, restored_pair, by_number, hook_rule, fault_of, hook_restored}
-use Rattle.dev_pic.specs.Sound.{HasRegisters, IsSoundChip, MeetsRules, IsSoundPair}
-use Rattle.dev_pic.specs.declared.chip.Chip.{Chip}
-use Rattle.dev_pic.specs.declared.chip.InitState.{InitState}
-use Rattle.dev_pic.specs.declared.chip.InitState.TheVariants.{Ready, Icw2, Icw3, Icw4 as WantsIcw4}
-use Rattle.dev_pic.specs.declared.chip.Role.{Role}
-use Rattle.dev_pic.specs.declared.chip.Role.TheVariants.{Master, Slave}
-use Rattle.dev_pic.specs.declared.levels.TheConstants.{ELCR_SINCE, LTIM_SINCE}
-use Rattle.dev_pic.specs.declared.pair.PicPair.{PicPair}
-use Rattle.dev_pic.proofs.CellLemmas.{first_part, second_part}
-use Rattle.dev_pic.proofs.RestoredLaws.{sound}
+-- A saved pair is restored as it was, and what its hooks return says the pair, or the chip and its rule.
+use Rattle.dev_pic.proofs.Facade.{◌≡◌, ℕ, ℤ, List, ◌++◌, take, drop, length, subst, ◌∙◌, sym, ap, zero, suc, ◌+◌, ◌-◌, ◌<◌, ◌≤◌, ◌==◌, Bool, true, false, cond}
+use Rattle.dev_pic.proofs.Facade.{[], ◌∷◌, Ok, refl, arith, pos, codes, Option, Some, None, Result, Err, take-append_seam, drop-append_seam, false≢true}
+use Rattle.dev_pic.proofs.Facade.{nat_tests, nat_le, cell_count, IsChipCells, kinds, cell_in, flag_in, state_number, state_of, named, saved_cells, carried}
+use Rattle.dev_pic.proofs.Facade.{chip_of, registers_hold, levels_hold, mode_holds, rules, restored, cells_under, i8259_rows, Numbers, U8, flag_number, AreOf}
+use Rattle.dev_pic.proofs.Facade.{MayRestore, NEWEST, either, byte, flag, flag-back, AllHold, one_holds, none_lacks, of_rows, carried_rows, AllTrue}
+use Rattle.dev_pic.proofs.Facade.{none_failing, all_true, judged-all, ok-hook, first_failing_is_first, hook-ok, judged-ok, SoundMeetsRules, SavedAreCells}
+use Rattle.dev_pic.proofs.Facade.{SavedIsRestored, FaultsAreTold, CanSave, CanRestore, pair_cells, pair_carried, pair_of, restored_pair, by_number, hook_rule}
+use Rattle.dev_pic.proofs.Facade.{fault_of, hook_restored, HasRegisters, IsSoundChip, MeetsRules, IsSoundPair, Chip, InitState, Ready, Icw2, Icw3, Role, Master}
+use Rattle.dev_pic.proofs.Facade.{Slave, ELCR_SINCE, LTIM_SINCE, PicPair, HookFault, hook_result, first_failing, judged_by, MeansFailing, IsFirstFailing}
+use Rattle.dev_pic.proofs.Facade.{ChipFault}
+use Rattle.vms_kinds.specs.declared.Kind.TheVariants.{Bool as Truth}
+use Rattle.dev_pic.specs.declared.chip.InitState.TheVariants.{Icw4 as WantsIcw4}
+use Rattle.dev_pic.proofs.RestoredLaws.{sound, made_of, number-ok}
+
+-- ---- the parts of a list that joins two
+
+pub first_part : (count : ℕ) (first second : List ℤ) → length first ≡ count → take count (first ++ second) ≡ first
+first_part count first second is =
+    ap (λ n. take n (first ++ second)) (sym is) ∙ take-append_seam first second
+
+pub second_part : (count : ℕ) (first second : List ℤ) → length first ≡ count → drop count (first ++ second) ≡ second
+second_part count first second is =
+    ap (λ n. drop n (first ++ second)) (sym is) ∙ drop-append_seam first second
+
+-- If a list joins two chips' cells, its parts are chips' cells.
+pub master_cells : (master slave both : List ℤ) → both ≡ master ++ slave → IsChipCells master → IsChipCells (take cell_count both)
+master_cells master slave both joined cells =
+    subst (λ (all : List ℤ). IsChipCells (take cell_count all)) (sym joined) (subst IsChipCells (sym (first_part cell_count master slave cells.count)) cells)
+
+pub slave_cells : (master slave both : List ℤ) → both ≡ master ++ slave → IsChipCells master → IsChipCells slave → IsChipCells (drop cell_count both)
+slave_cells master slave both joined first cells =
+    subst (λ (all : List ℤ). IsChipCells (drop cell_count all)) (sym joined) (subst IsChipCells (sym (second_part cell_count master slave first.count)) cells)
+
+-- ---- saved and restored
 
 -- A state is that of its own number.
 state-back : (s : InitState) → state_of (state_number s) ≡ s
@@ -47,7 +53,8 @@ unfolding chip_of saved_cells
 chip_of-saved chip = simp (flag-back, state-back)
 
 -- Rule 1 holds for a chip with its registers.
-registers-met : (level : ℕ) (role : Role) (chip : Chip) → HasRegisters level role chip → registers_hold chip.lowest (state_number chip.init_state) chip.base ≡ true
+registers-met : (level : ℕ) (role : Role) (chip : Chip) → HasRegisters level role chip
+    → registers_hold chip.lowest (state_number chip.init_state) chip.base ≡ true
 unfolding registers_hold
 registers-met level role chip h =
     let state = state-le chip.init_state in
@@ -66,7 +73,8 @@ met level role chip s =
 holds : (level : ℕ) (role : Role) (chip : Chip) → HasRegisters level role chip → AllHold (named chip) i8259_rows
 holds level role chip h =
     one_holds _ _ (byte _ h.irr) (one_holds _ _ (byte _ h.isr) (one_holds _ _ (byte _ h.imr) (one_holds _ _ (byte _ h.lines)
-    (one_holds _ _ (byte _ (omega (arith, h.lowest))) (one_holds _ _ (byte _ h.base) (one_holds _ _ (byte _ (omega (arith, state-le chip.init_state))) (one_holds _ _ (flag _)
+    (one_holds _ _ (byte _ (omega (arith, h.lowest)))
+    (one_holds _ _ (byte _ h.base) (one_holds _ _ (byte _ (omega (arith, state-le chip.init_state))) (one_holds _ _ (flag _)
     (one_holds _ _ (flag _) (one_holds _ _ (flag _) (one_holds _ _ (flag _) (one_holds _ _ (flag _)
     (one_holds _ _ (flag _) (one_holds _ _ (flag _) (one_holds _ _ (flag _) (one_holds _ _ (byte _ h.elcr)
     (one_holds _ _ (flag _) tt))))))))))))))))
@@ -96,7 +104,8 @@ meets level role chip s =
 
 is_sound : (level : ℕ) (role : Role) (chip : Chip) → IsChipCells (saved_cells NEWEST chip) × MeetsRules level role chip → IsSoundChip level role chip
 is_sound level role chip h =
-    subst (IsSoundChip level role) (chip_of-saved chip) (sound level role (saved_cells NEWEST chip) h.0 (all_true (rules level role (saved_cells NEWEST chip)) h.1))
+    subst (IsSoundChip level role) (chip_of-saved chip)
+    (sound level role (saved_cells NEWEST chip) h.0 (all_true (rules level role (saved_cells NEWEST chip)) h.1))
 
 pub sound_meets_rules : SoundMeetsRules
 sound_meets_rules = record { chip = λ level role chip. (meets level role chip, is_sound level role chip) }
@@ -116,7 +125,8 @@ no-mode level true l h = absurd (let e : nat_le LTIM_SINCE level ≡ false = gri
 no-mode level false l h = refl
 
 -- Carried cells are those of the newest set.
-pub carried-saved : (level set : ℕ) (role : Role) (chip : Chip) → level ≤ set → IsSoundChip level role chip → carried set (saved_cells set chip) ≡ saved_cells NEWEST chip
+pub carried-saved : (level set : ℕ) (role : Role) (chip : Chip) → level ≤ set → IsSoundChip level role chip
+    → carried set (saved_cells set chip) ≡ saved_cells NEWEST chip
 unfolding saved_cells
 carried-saved level set role chip le s =
     let elcr : nat_le ELCR_SINCE set ≡ false → chip.elcr ≡ 0 =
@@ -124,7 +134,8 @@ carried-saved level set role chip le s =
     let ltim : nat_le LTIM_SINCE set ≡ false → chip.ltim ≡ false =
     λ e. let l : level < LTIM_SINCE = grind (arith, nat_tests) in no-mode level chip.ltim l s.registers.mode in
     carried_rows (named chip) set i8259_rows (holds level role chip s.registers)
-    (none_lacks (named chip) set (take 15 i8259_rows) (drop 15 i8259_rows) refl (λ e. ap (λ (n : ℕ). pos n ∷ []) (elcr e), (λ e. ap (λ (b : Bool). pos (flag_number b) ∷ []) (ltim e), tt)))
+    (none_lacks (named chip) set (take 15 i8259_rows) (drop 15 i8259_rows) refl
+    (λ e. ap (λ (n : ℕ). pos n ∷ []) (elcr e), (λ e. ap (λ (b : Bool). pos (flag_number b) ∷ []) (ltim e), tt)))
     [] 0 refl
 
 -- The level mode's cell if the subsection isn't needed.
@@ -132,7 +143,8 @@ off : (ltim : Bool) → (flag_number ltim == 1) ≡ false → pos (flag_number l
 off true e = absurd (false≢true (sym e))
 off false e = refl
 
-unneeded : (set : ℕ) (chip : Chip) → LTIM_SINCE ≤ set → flag_in (saved_cells set chip) (codes "ltim") ≡ false → cell_in (saved_cells set chip) (codes "ltim") ≡ pos 0
+unneeded : (set : ℕ) (chip : Chip) → LTIM_SINCE ≤ set → flag_in (saved_cells set chip) (codes "ltim") ≡ false
+    → cell_in (saved_cells set chip) (codes "ltim") ≡ pos 0
 unfolding saved_cells
 unneeded set chip h = by_tests (nat_le ELCR_SINCE set) (nat_le LTIM_SINCE set) (grind (arith, nat_tests)) (grind (arith, nat_tests)) where
   by_tests : (a b : Bool) → a ≡ true → b ≡ true → flag_in (by_sets a b chip) (codes "ltim") ≡ false → cell_in (by_sets a b chip) (codes "ltim") ≡ pos 0
@@ -191,7 +203,8 @@ newest-can numbers pair may s = record {
   slave = subst IsChipCells (sym (slave-part NEWEST pair)) (set-of pair.level NEWEST Slave pair.slave s.slave.registers);
 }
 
-newest-restored : (numbers : Numbers) (pair : PicPair) → numbers.level ≡ pair.level → IsSoundPair pair → hook_restored numbers (pair_cells NEWEST pair) ≡ Ok pair
+newest-restored : (numbers : Numbers) (pair : PicPair) → numbers.level ≡ pair.level → IsSoundPair pair
+    → hook_restored numbers (pair_cells NEWEST pair) ≡ Ok pair
 unfolding by_number
 newest-restored numbers pair same s =
     let parts : restored_pair numbers.level (take cell_count (pair_cells NEWEST pair)) (drop cell_count (pair_cells NEWEST pair)) ≡ Ok pair =
@@ -211,3 +224,81 @@ restored-back numbers back pair can s may same =
 
 pub saved_is_restored : SavedIsRestored
 saved_is_restored = record { pair = restored-back }
+
+-- ---- what the pair's hooks return
+
+-- A rule of a chip, and a fault of one of two chips.
+abbrev IsRule : ℕ → Type 0
+IsRule rule = (1 ≤ rule) × (rule ≤ 4)
+
+record IsFault (fault : ChipFault) : Type 0 where
+  chip : fault.chip < 2
+  rule : IsRule fault.rule
+
+failing : (answer : Option ℕ) (chip : Chip) (rule : ℕ) → judged_by answer chip ≡ Err rule → answer ≡ Some rule
+unfolding judged_by
+failing None chip rule e = cc
+failing (Some found) chip rule e = cc
+
+chip-rule : (level : ℕ) (role : Role) (cells : List ℤ) (rule : ℕ) → restored level role cells ≡ Err rule → IsRule rule
+chip-rule level role cells rule e =
+    let some = failing (first_failing (rules level role cells)) (chip_of cells) rule e in
+    let first : IsFirstFailing (rules level role cells) rule =
+    subst (MeansFailing (rules level role cells)) some (first_failing_is_first (rules level role cells)) in
+    first.within
+
+made-fault : (level : ℕ) (master slave : Result Chip ℕ) (fault : ChipFault) → ((rule : ℕ) → master ≡ Err rule → IsRule rule)
+    → ((rule : ℕ) → slave ≡ Err rule → IsRule rule) → pair_of level master slave ≡ Err fault → IsFault fault
+unfolding pair_of
+made-fault level (Err rule) slave fault m s e =
+    let is : record { chip = 0; rule = rule } ≡ fault = cc in
+    subst IsFault is (record { chip = omega arith; rule = m rule refl })
+made-fault level (Ok master) (Err rule) fault m s e =
+    let is : record { chip = 1; rule = rule } ≡ fault = cc in
+    subst IsFault is (record { chip = omega arith; rule = s rule refl })
+made-fault level (Ok master) (Ok slave) fault m s e = cc
+
+pair-fault : (level : ℕ) (master slave : List ℤ) (fault : ChipFault) → restored_pair level master slave ≡ Err fault → IsFault fault
+pair-fault level master slave fault e =
+    made-fault level (restored level Master master) (restored level Slave slave) fault (chip-rule level Master master) (chip-rule level Slave slave) e
+
+hook-err : (outcome : Result PicPair ChipFault) (fault : HookFault) → ((found : ChipFault) → outcome ≡ Err found → IsFault found)
+    → hook_result (by_number outcome) ≡ Err fault → outcome ≡ Err (fault_of fault.rule)
+unfolding hook_result by_number
+hook-err (Ok pair) fault within e = cc
+hook-err (Err found) fault within e =
+    let is = within found refl in
+    let rule : hook_rule found ≡ fault.rule = ap (λ (f : HookFault). f.rule) (let same : record { rule = hook_rule found } ≡ fault = cc in same) in
+    let most : found.rule ≤ 10 = let m = is.rule.1 in omega (arith, m) in
+    ap Err (sym (faults_are_told.fault found is.chip is.rule.0 most) ∙ ap fault_of rule)
+
+-- Two chips' cells, one after the other.
+module _ (numbers : Numbers) (master slave : List ℤ) (m : IsChipCells master) where
+  parts : restored_pair numbers.level (take cell_count (master ++ slave)) (drop cell_count (master ++ slave)) ≡ restored_pair numbers.level master slave
+  parts =
+      ap (λ (cells : List ℤ). restored_pair numbers.level cells (drop cell_count (master ++ slave))) (first_part cell_count master slave m.count)
+      ∙ ap (λ (cells : List ℤ). restored_pair numbers.level master cells) (second_part cell_count master slave m.count)
+
+  pub pair-told : (pair : PicPair) → hook_restored numbers (master ++ slave) ≡ Ok pair → restored_pair numbers.level master slave ≡ Ok pair
+  pair-told pair e = sym parts ∙ number-ok _ pair (hook-ok _ pair e)
+
+  pub fault-told : (fault : HookFault) → hook_restored numbers (master ++ slave) ≡ Err fault
+      → restored_pair numbers.level master slave ≡ Err (fault_of fault.rule)
+  fault-told fault e =
+      hook-err (restored_pair numbers.level master slave) fault (pair-fault numbers.level master slave)
+      (ap (λ (outcome : Result PicPair ChipFault). hook_result (by_number outcome)) (sym parts) ∙ e)
+
+-- The pair restored from what the newest set saves of a pair, which may break rules, is sound and
+-- the same.
+chip-same : (level : ℕ) (role : Role) (chip back : Chip) → restored level role (saved_cells NEWEST chip) ≡ Ok back → back ≡ chip
+chip-same level role chip back e =
+    sym (judged-ok (rules level role (saved_cells NEWEST chip)) (chip_of (saved_cells NEWEST chip)) back e).1 ∙ chip_of-saved chip
+
+pub pair-same : (level : ℕ) (pair back : PicPair) → pair.level ≡ level
+    → restored_pair level (saved_cells NEWEST pair.master) (saved_cells NEWEST pair.slave) ≡ Ok back → back ≡ pair
+pair-same level pair back same e =
+    let made = made_of level (restored level Master (saved_cells NEWEST pair.master)) (restored level Slave (saved_cells NEWEST pair.slave)) back e in
+    let make : ℕ → Chip → Chip → PicPair = (λ n master slave. record { level = n; master = master; slave = slave }) in
+    ap (λ (n : ℕ). make n back.master back.slave) (made.same_level ∙ sym same)
+    ∙ ap (λ (chip : Chip). make pair.level chip back.slave) (chip-same level Master pair.master back.master made.of_master)
+    ∙ ap (λ (chip : Chip). make pair.level pair.master chip) (chip-same level Slave pair.slave back.slave made.of_slave)

@@ -1,24 +1,58 @@
 -- What each step of a chip keeps.
-use Rattle.std.proofs.Common.{◌≡◌, ℕ, ◌-◌, ◌/◌, ◌%◌, ◌<◌, ◌≤◌, ◌==◌, Bool, true, false, cond, not, ◌||◌, refl, List, [], ◌∷◌, Option, Some, None, IfSome, find, arith}
-use Rattle.std.proofs.lemmas.Bool.Decides.{nat_tests}
-use Rattle.std.proofs.lemmas.Nat.{or_of_8, and_le_l}
-use Rattle.std.specs.Prelude.{bit_and, nat_le}
-use Rattle.dev_base.specs.Bits.{has}
-use Rattle.dev_pic.specs.Bits.{but_not, with_input, without_input}
-use Rattle.dev_pic.specs.Cells.{requests_hold, mode_holds}
-use Rattle.dev_pic.specs.Chip.{level_inputs, level_inputs_of, ltim_after, in_service_of, requests_of, served_of, winner_at, taken, settled, ended, ended_lowest, highest_served, commanded, started, selected, written_even, written_odd_in, polled_by, read_of, answered, cascaded}
-use Rattle.dev_pic.specs.Ocw2.{HasInput, command_of}
-use Rattle.dev_pic.specs.Sound.{HasRegisters, IsSoundChip}
-use Rattle.dev_pic.specs.Winner.{order, before, ready_among, winner_of, highest_of}
-use Rattle.dev_pic.specs.declared.chip.Chip.{Chip}
-use Rattle.dev_pic.specs.declared.chip.InitState.{InitState}
-use Rattle.dev_pic.specs.declared.chip.InitState.TheVariants.{Ready, Icw2, Icw3, Icw4}
-use Rattle.dev_pic.specs.declared.chip.Role.{Role}
-use Rattle.dev_pic.specs.declared.levels.TheConstants.{LTIM_SINCE}
-use Rattle.dev_pic.specs.declared.ocw2.Ocw2.{Ocw2}
-use Rattle.dev_pic.specs.declared.ocw2.Ocw2.TheVariants.{NonSpecificEoi, RotateOnNonSpecificEoi, SpecificEoi, RotateOnSpecificEoi, RotateInAutomaticEoi, SetPriority, NoOperation}
-use Rattle.dev_base.proofs.Choices.{either}
+use Rattle.dev_pic.proofs.Facade.{◌≡◌, ℕ, Option, Some, None, false, refl, ◌-◌, ◌/◌, ◌%◌, ◌<◌, ◌≤◌, ◌==◌, Bool, true, cond, not, ◌||◌, List, [], ◌∷◌, IfSome}
+use Rattle.dev_pic.proofs.Facade.{find, arith, nat_tests, or_of_8, and_le_l, bit_and, nat_le, either, has, ended, ended_lowest, highest_served, commanded}
+use Rattle.dev_pic.proofs.Facade.{selected, written_even, written_odd_in, level_inputs, level_inputs_of, ltim_after, in_service_of, requests_of, served_of}
+use Rattle.dev_pic.proofs.Facade.{winner_at, taken, settled, started, polled_by, read_of, answered, cascaded, command_of, HasInput, Chip, InitState, Ready}
+use Rattle.dev_pic.proofs.Facade.{Icw2, Icw3, Icw4, Ocw2, NonSpecificEoi, RotateOnNonSpecificEoi, SpecificEoi, RotateOnSpecificEoi, RotateInAutomaticEoi}
+use Rattle.dev_pic.proofs.Facade.{SetPriority, NoOperation, but_not, with_input, without_input, requests_hold, mode_holds, HasRegisters, IsSoundChip, order}
+use Rattle.dev_pic.proofs.Facade.{before, ready_among, winner_of, highest_of, Role, LTIM_SINCE}
 use Rattle.dev_pic.proofs.BitLaws.{level-lines, level_inputs-lt, but_not-lt, without_input-lt, with_input-lt}
+
+-- ---- commands that leave the requests and the lines
+
+-- What requests and lines depend on is the same.
+pub record Keeps (chip after : Chip) : Type 0 where
+  pub irr : after.irr ≡ chip.irr
+  pub lines : after.lines ≡ chip.lines
+  pub elcr : after.elcr ≡ chip.elcr
+  pub ltim : after.ltim ≡ chip.ltim
+
+same : (chip : Chip) → Keeps chip chip
+same chip = record { irr = refl; lines = refl; elcr = refl; ltim = refl }
+
+ended-keeps : (o : Option ℕ) (chip : Chip) → Keeps chip (ended o chip)
+unfolding ended
+ended-keeps None chip = same chip
+ended-keeps (Some w) chip = record { irr = refl; lines = refl; elcr = refl; ltim = refl }
+
+ended_lowest-keeps : (o : Option ℕ) (chip : Chip) → Keeps chip (ended_lowest o chip)
+unfolding ended_lowest
+ended_lowest-keeps None chip = same chip
+ended_lowest-keeps (Some w) chip = record { irr = refl; lines = refl; elcr = refl; ltim = refl }
+
+commanded-keeps : (command : Ocw2) (chip : Chip) → Keeps chip (commanded command chip)
+unfolding commanded
+commanded-keeps NonSpecificEoi chip = ended-keeps (highest_served chip) chip
+commanded-keeps RotateOnNonSpecificEoi chip = ended_lowest-keeps (highest_served chip) chip
+commanded-keeps (SpecificEoi input) chip = ended-keeps (Some input) chip
+commanded-keeps (RotateOnSpecificEoi input) chip = ended_lowest-keeps (Some input) chip
+commanded-keeps (RotateInAutomaticEoi rotate) chip = record { irr = refl; lines = refl; elcr = refl; ltim = refl }
+commanded-keeps (SetPriority input) chip = record { irr = refl; lines = refl; elcr = refl; ltim = refl }
+commanded-keeps NoOperation chip = same chip
+
+pub even-keeps : (level value : ℕ) (chip : Chip) → has value 4 ≡ false → Keeps chip (written_even level value chip)
+unfolding written_even selected
+even-keeps level value chip e =
+    rw e (either (Keeps chip) (has value 3) _ _ (record { irr = refl; lines = refl; elcr = refl; ltim = refl }) (commanded-keeps (command_of value) chip))
+
+pub odd-keeps : (s : InitState) (value : ℕ) (chip : Chip) → Keeps chip (written_odd_in s value chip)
+unfolding written_odd_in
+odd-keeps Ready value chip = record { irr = refl; lines = refl; elcr = refl; ltim = refl }
+odd-keeps Icw2 value chip = record { irr = refl; lines = refl; elcr = refl; ltim = refl }
+odd-keeps Icw3 value chip = record { irr = refl; lines = refl; elcr = refl; ltim = refl }
+odd-keeps Icw4 value chip = record { irr = refl; lines = refl; elcr = refl; ltim = refl }
+
+-- ---- registers
 
 -- Each of a list is an input.
 Inputs : List ℕ → Type 0
@@ -89,7 +123,8 @@ module _ (level : ℕ) (role : Role) (chip : Chip) (h : HasRegisters level role 
       let served = either (HasRegisters level role) chip.auto_eoi _ _
       (either (HasRegisters level role) chip.rotate _ _ (with-lowest level role chip h w (omega arith)) h)
       (with-isr level role chip h (with_input chip.isr w) (with_input-lt chip.isr w h.isr l)) in
-      either (HasRegisters level role) (has (level_inputs_of chip) w) _ _ served (with-irr level role _ served (without_input chip.irr w) (without_input-lt chip.irr w h.irr))
+      either (HasRegisters level role) (has (level_inputs_of chip) w) _ _ served
+      (with-irr level role _ served (without_input chip.irr w) (without_input-lt chip.irr w h.irr))
 
   ended-registers : (o : Option ℕ) → HasRegisters level role (ended o chip)
   unfolding ended
@@ -124,7 +159,18 @@ module _ (level : ℕ) (role : Role) (chip : Chip) (h : HasRegisters level role 
   started-registers value =
       let levels = level_inputs (ltim_after level value chip) chip.elcr in
       let irr : bit_and chip.irr levels < 256 = omega (arith, and_le_l chip.irr levels, h.irr) in
-      record { mode = mode-after value; irr = irr; isr = omega arith; imr = omega arith; lines = h.lines; lowest = omega arith; base = h.base; vectors = h.vectors; elcr = h.elcr; levels = h.levels }
+      record {
+        mode = mode-after value;
+        irr = irr;
+        isr = omega arith;
+        imr = omega arith;
+        lines = h.lines;
+        lowest = omega arith;
+        base = h.base;
+        vectors = h.vectors;
+        elcr = h.elcr;
+        levels = h.levels;
+      }
 
   selected-registers : (value : ℕ) → HasRegisters level role (selected value chip)
   unfolding selected
@@ -157,7 +203,8 @@ module _ (level : ℕ) (role : Role) (chip : Chip) (h : HasRegisters level role 
   pub read-registers : (is_odd : Bool) → HasRegisters level role (read_of role is_odd chip).1
   unfolding read_of
   read-registers is_odd = by_poll chip.poll where
-    by_poll : (poll : Bool) → HasRegisters level role (cond poll (polled_by (winner_at role chip) chip) (cond is_odd chip.imr (cond chip.read_isr chip.isr chip.irr), chip)).1
+    by_poll : (poll : Bool)
+        → HasRegisters level role (cond poll (polled_by (winner_at role chip) chip) (cond is_odd chip.imr (cond chip.read_isr chip.isr chip.irr), chip)).1
     by_poll true = polled-registers (winner_at role chip) (winner-lt role chip)
     by_poll false = h
 
@@ -170,13 +217,25 @@ module _ (level : ℕ) (role : Role) (chip : Chip) (h : HasRegisters level role 
   unfolding cascaded
   cascaded-registers =
       let k = taken-registers level role chip h 2 (omega arith) in
-      record { irr = k.irr; isr = k.isr; imr = k.imr; lines = without_input-lt _ 2 k.lines; lowest = k.lowest; base = k.base; vectors = k.vectors; elcr = k.elcr; levels = k.levels; mode = k.mode }
+      record {
+        irr = k.irr;
+        isr = k.isr;
+        imr = k.imr;
+        lines = without_input-lt _ 2 k.lines;
+        lowest = k.lowest;
+        base = k.base;
+        vectors = k.vectors;
+        elcr = k.elcr;
+        levels = k.levels;
+        mode = k.mode;
+      }
 
   agreed : (irr lines levels : ℕ) → bit_and irr levels ≡ bit_and lines levels → requests_hold irr lines levels ≡ true
   unfolding requests_hold
   agreed irr lines levels e = grind (arith, nat_tests)
 
-  settled-requests : (inputs edges : ℕ) → inputs < 256 → edges < 256 → requests_hold (settled inputs edges chip).irr (settled inputs edges chip).lines (level_inputs_of (settled inputs edges chip)) ≡ true
+  settled-requests : (inputs edges : ℕ) → inputs < 256 → edges < 256
+      → requests_hold (settled inputs edges chip).irr (settled inputs edges chip).lines (level_inputs_of (settled inputs edges chip)) ≡ true
   unfolding settled but_not
   settled-requests inputs edges i e =
       let levels = level_inputs_of chip in

@@ -1,10 +1,7 @@
 -- The search for a winner finds what the relation says.
-use Rattle.std.proofs.Common.{◌≡◌, ℕ, zero, suc, ◌<◌, ◌≤◌, Bool, true, false, cond, List, [], ◌∷◌, Option, Some, None, refl, arith, find, length, get_or, sym, MatchOption, subst, ◌∙◌, ap, ⊎_elim}
-use Rattle.std.proofs.lemmas.Bool.{cases_lt, false≢true}
-use Rattle.std.proofs.lemmas.List.FromFn.{get_or-map-range_with_len}
-use Rattle.dev_base.specs.Bits.{has}
-use Rattle.dev_pic.specs.Laws.{WinnerIsLeastRequest}
-use Rattle.dev_pic.specs.Winner.{input_at, order, before, ready_among, winner_of, highest_of, IsWinner, MeansWinner}
+use Rattle.dev_pic.proofs.Facade.{◌≡◌, ℕ, zero, suc, ◌<◌, ◌≤◌, Bool, true, false, cond, List, [], ◌∷◌, Option, Some, None, refl, arith, find, length, get_or}
+use Rattle.dev_pic.proofs.Facade.{sym, MatchOption, subst, ◌∙◌, ap, ⊎_elim, cases_lt, false≢true, get_or-map-range_with_len, has, WinnerIsLeastRequest}
+use Rattle.dev_pic.proofs.Facade.{input_at, order, before, ready_among, winner_of, highest_of, IsWinner, MeansWinner}
 
 -- What a search means, by places of the list.
 record FoundAt (p q : ℕ → Bool) (xs : List ℕ) (w : ℕ) : Type 0 where
@@ -22,7 +19,8 @@ abbrev Means : (p q : ℕ → Bool) (xs : List ℕ) → Option ℕ → Type 0
 Means p q xs o = MatchOption o (Missing p q xs) (FoundAt p q xs)
 
 module _ (p q : ℕ → Bool) (x : ℕ) (xs : List ℕ) where
-  miss-more : p x ≡ false → q x ≡ false → Missing p q xs → (k : ℕ) → k < length (x ∷ xs) → q (get_or (x ∷ xs) k 0) ≡ true → (j : ℕ) × (j ≤ k) × (p (get_or (x ∷ xs) j 0) ≡ true)
+  miss-more : p x ≡ false → q x ≡ false → Missing p q xs → (k : ℕ) → k < length (x ∷ xs) → q (get_or (x ∷ xs) k 0) ≡ true
+      → (j : ℕ) × (j ≤ k) × (p (get_or (x ∷ xs) j 0) ≡ true)
   miss-more np nq m zero h e = absurd (false≢true (sym nq ∙ e))
   miss-more np nq m (suc k) h e = let r = m k (omega arith) e in (suc r.0, omega arith, r.2)
 
@@ -106,11 +104,13 @@ only_for lowest requests served winner (Some found) f w =
 pub winner_is_least_request : WinnerIsLeastRequest
 winner_is_least_request = record {
   means = winner_of-means;
-  only = λ lowest requests served winner w. only_for lowest requests served winner (winner_of lowest requests served) (winner_of-means lowest requests served) w;
+  only = λ lowest requests served winner w. only_for lowest requests served winner (winner_of lowest requests served)
+      (winner_of-means lowest requests served) w;
 }
 
 -- The first of a list that passes.
-find_at : (q : ℕ → Bool) (xs : List ℕ) (k : ℕ) → k < length xs → q (get_or xs k 0) ≡ true → ((j : ℕ) → j < k → q (get_or xs j 0) ≡ false) → find q xs ≡ Some (get_or xs k 0)
+find_at : (q : ℕ → Bool) (xs : List ℕ) (k : ℕ) → k < length xs → q (get_or xs k 0) ≡ true → ((j : ℕ) → j < k → q (get_or xs j 0) ≡ false)
+    → find q xs ≡ Some (get_or xs k 0)
 find_at q [] k h passes others = absurd (omega arith)
 find_at q (x ∷ xs) zero h passes others = rw passes
 find_at q (x ∷ xs) (suc k) h passes others =
@@ -124,7 +124,8 @@ find_none q (x ∷ xs) others =
     rw first (find_none q xs (λ j l. others (suc j) (omega arith)))
 
 -- The input of highest priority in a set, and none in an empty one.
-pub highest_at : (lowest inputs place : ℕ) → place < 8 → has inputs (input_at lowest place) ≡ true → ((other : ℕ) → other < place → has inputs (input_at lowest other) ≡ false) → highest_of lowest inputs ≡ Some (input_at lowest place)
+pub highest_at : (lowest inputs place : ℕ) → place < 8 → has inputs (input_at lowest place) ≡ true
+    → ((other : ℕ) → other < place → has inputs (input_at lowest other) ≡ false) → highest_of lowest inputs ≡ Some (input_at lowest place)
 unfolding highest_of
 highest_at lowest inputs place h passes others =
     find_at (has inputs) (order lowest) place h (subst (λ (i : ℕ). has inputs i ≡ true) (sym (at lowest place h)) passes)

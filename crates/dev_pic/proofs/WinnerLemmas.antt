@@ -1,11 +1,7 @@
 -- The searches through the priority order, one place at a time.
-use Rattle.std.proofs.Common.{◌≡◌, ℕ, zero, suc, ◌+◌, ◌<◌, ◌≤◌, ◌==◌, Bool, true, false, cond, List, [], ◌∷◌, Some, None, drop, refl, arith, ◌∙◌, ap, sym, find, get_or, ⊎_elim}
-use Rattle.std.proofs.lemmas.Bool.{cases_lt}
-use Rattle.std.proofs.lemmas.List.{at_drop_more}
-use Rattle.std.proofs.lemmas.List.FromFn.{get_or-map-range_with_len}
-use Rattle.std.proofs.lemmas.Nat.Bits.{bit_at-zero}
-use Rattle.dev_base.specs.Bits.{has}
-use Rattle.dev_pic.specs.Winner.{input_at, order, before, ready_among, winner_of, highest_of, IsFirstPlace}
+use Rattle.dev_pic.proofs.Facade.{◌≡◌, ℕ, zero, suc, ◌+◌, ◌<◌, ◌≤◌, ◌==◌, Bool, true, false, cond, List, [], ◌∷◌, Some, None, drop, refl, arith, ◌∙◌, ap, sym}
+use Rattle.dev_pic.proofs.Facade.{find, get_or, ⊎_elim, cases_lt, at_drop_more, get_or-map-range_with_len, bit_at-zero, has, input_at, order, before}
+use Rattle.dev_pic.proofs.Facade.{ready_among, winner_of, highest_of, IsFirstPlace}
 
 -- The first of a list that passes q before any passes p.
 find-before : (p q : ℕ → Bool) (x : ℕ) (xs : List ℕ) → find q (before p (x ∷ xs)) ≡ cond (p x) None (cond (q x) (Some x) (find q (before p xs)))
@@ -23,10 +19,12 @@ unfolding ready_among
 ready_among-more lowest requests served place input within is =
     at_drop_more (ready_among requests served) (order lowest) place 0 within
     ∙ find-before (has served) (has requests) (get_or (order lowest) place 0) (drop (place + 1) (order lowest))
-    ∙ ap (λ x. cond (has served x) None (cond (has requests x) (Some x) (ready_among requests served (drop (place + 1) (order lowest))))) (at_place lowest place input within is)
+    ∙ ap (λ x. cond (has served x) None (cond (has requests x) (Some x) (ready_among requests served (drop (place + 1) (order lowest)))))
+    (at_place lowest place input within is)
 
 -- One step of the search for the highest of a set.
-pub find-more : (lowest inputs place input : ℕ) → place < 8 → input ≡ input_at lowest place → find (has inputs) (drop place (order lowest)) ≡ cond (has inputs input) (Some input) (find (has inputs) (drop (place + 1) (order lowest)))
+pub find-more : (lowest inputs place input : ℕ) → place < 8 → input ≡ input_at lowest place
+    → find (has inputs) (drop place (order lowest)) ≡ cond (has inputs input) (Some input) (find (has inputs) (drop (place + 1) (order lowest)))
 find-more lowest inputs place input within is =
     at_drop_more (find (has inputs)) (order lowest) place 0 within
     ∙ ap (λ x. cond (has inputs x) (Some x) (find (has inputs) (drop (place + 1) (order lowest)))) (at_place lowest place input within is)
@@ -34,7 +32,8 @@ find-more lowest inputs place input within is =
 module _ (lowest requests served : ℕ) where
   -- If no place so far is requested or served, the search continues after them.
   below : (place : ℕ) → place ≤ 8 → ((other : ℕ) → other < place → has requests (input_at lowest other) ≡ false)
-      → ((other : ℕ) → other < place → has served (input_at lowest other) ≡ false) → ready_among requests served (drop place (order lowest)) ≡ winner_of lowest requests served
+      → ((other : ℕ) → other < place → has served (input_at lowest other) ≡ false)
+      → ready_among requests served (drop place (order lowest)) ≡ winner_of lowest requests served
   unfolding winner_of
   below zero most unasked unserved = refl
   below (suc place) most unasked unserved =
@@ -46,7 +45,8 @@ module _ (lowest requests served : ℕ) where
       ∙ below place (omega arith) (λ other h. unasked other (omega arith)) (λ other h. unserved other (omega arith))
 
   -- The first request wins if it comes before the first input in service.
-  pub wins : (first other : ℕ) → IsFirstPlace lowest requests first → IsFirstPlace lowest served other → first < other → Some (input_at lowest first) ≡ winner_of lowest requests served
+  pub wins : (first other : ℕ) → IsFirstPlace lowest requests first → IsFirstPlace lowest served other → first < other
+      → Some (input_at lowest first) ≡ winner_of lowest requests served
   wins first other asked serving before =
       let passed = serving.before first before in
       let requested = asked.there (omega (arith, serving.most, before)) in
@@ -59,7 +59,8 @@ module _ (lowest requests served : ℕ) where
   no_more = refl
 
   -- Otherwise nothing wins.
-  pub loses : (first other : ℕ) → IsFirstPlace lowest requests first → IsFirstPlace lowest served other → other ≤ first → None ≡ winner_of lowest requests served
+  pub loses : (first other : ℕ) → IsFirstPlace lowest requests first → IsFirstPlace lowest served other → other ≤ first
+      → None ≡ winner_of lowest requests served
   loses first other asked serving before = ⊎_elim here ends (cases_lt other 8) where
     here : other < 8 → None ≡ winner_of lowest requests served
     here within =
@@ -85,7 +86,8 @@ nothing_wins lowest requests served none =
     sym (ap (λ (asked : ℕ). find (has asked) (before (has served) (order lowest))) none ∙ find-nothing (before (has served) (order lowest)))
 
 module _ (lowest inputs : ℕ) where
-  find_below : (place : ℕ) → place ≤ 8 → ((other : ℕ) → other < place → has inputs (input_at lowest other) ≡ false) → find (has inputs) (drop place (order lowest)) ≡ highest_of lowest inputs
+  find_below : (place : ℕ) → place ≤ 8 → ((other : ℕ) → other < place → has inputs (input_at lowest other) ≡ false)
+      → find (has inputs) (drop place (order lowest)) ≡ highest_of lowest inputs
   unfolding highest_of
   find_below zero most missing = refl
   find_below (suc place) most missing =

@@ -1,29 +1,98 @@
 -- Ports that are alike answer each call alike.
-use Rattle.std.proofs.Common.{◌≡◌, ℕ, ℤ, ◌==◌, Bool, true, false, not, ◌&&◌, cond, Option, Some, None, refl, sym, ap, subst, ◌∙◌}
-use Rattle.std.proofs.lemmas.Bool.{false≢true}
-use Rattle.std.specs.Prelude.{bit_and, nat_le}
-use Rattle.dev_serial.specs.Access.{is_empty, iir_of, read_of, id_read, lsr_of, thr_written, ier_written, switch_of, fcr_cleared, fcr_written, receiver_cleared, transmitter_cleared, written, came_in, advanced}
-use Rattle.dev_base.specs.Bits.{has}
-use Rattle.dev_serial.specs.Line.{character_time}
-use Rattle.dev_serial.specs.Transmit.{run_until}
-use Rattle.dev_serial.specs.Laws.{AlikeItself, AlikeBack, AlikeOn, AnswersAlike, ReadsAlike, WritesAlike, BytesInAlike, AdvancesAlike, SavesAlike, LinesAlike}
-use Rattle.dev_serial.specs.Port.{Port, is_data_ready, has_come, interrupt, id_number, is_thr_empty, line_of}
-use Rattle.dev_serial.specs.PortNumbers.{saved, ipending_of}
-use Rattle.dev_serial.specs.Sound.{Alike}
-use Rattle.dev_serial.specs.declared.interrupt.Interrupt.{Interrupt}
-use Rattle.dev_serial.specs.declared.trigger.Trigger.{Trigger}
-use Rattle.dev_serial.proofs.TruthTables.{identified}
+use Rattle.dev_serial.proofs.Facade.{◌≡◌, ℕ, ℤ, Bool, true, false, not, ◌&&◌, cond, refl, pos, negsuc, ◌||◌, ◌==◌, Option, Some, None, sym, ap, ◌∙◌, false≢true}
+use Rattle.dev_serial.proofs.Facade.{int_eq, bit_and, bit_or, is_some, nat_le, is_empty, lsr_of, iir_of, read_of, id_read, thr_written, ier_written, switch_of}
+use Rattle.dev_serial.proofs.Facade.{fcr_cleared, fcr_written, receiver_cleared, transmitter_cleared, written, came_in, advanced, has, bits_where, ipending_of}
+use Rattle.dev_serial.proofs.Facade.{latch_of, saved, Port, id_number, is_thr_empty, is_data_ready, has_come, interrupt, line_of, Interrupt, LineStatus}
+use Rattle.dev_serial.proofs.Facade.{ReceivedData, CharacterTimeout, ThrEmpty, NonePending, character_time, run_until, AlikeItself, AlikeBack, AlikeOn}
+use Rattle.dev_serial.proofs.Facade.{AnswersAlike, ReadsAlike, WritesAlike, BytesInAlike, AdvancesAlike, SavesAlike, LinesAlike, Alike, Trigger}
+
+-- ---- the line status and the saved latch, as tables of truth
+
+abbrev pub status_of : Bool → Bool → Bool → Bool → ℕ
+status_of ready overrun empty idle = bit_or (bit_or (bit_or (bits_where ready 0x01) (bits_where overrun 0x02)) (bits_where empty 0x20)) (bits_where idle 0x40)
+
+-- a line status shows these four
+pub record IsStatus (lsr : ℕ) (ready overrun empty idle : Bool) : Type 0 where
+  pub ready_bit : has lsr 0 ≡ ready
+  pub overrun_bit : has lsr 1 ≡ overrun
+  pub empty_bit : has lsr 5 ≡ empty
+  pub idle_bit : has lsr 6 ≡ idle
+  pub mask : bit_and lsr 0x63 ≡ lsr
+
+pub status : (ready overrun empty idle : Bool) → IsStatus (status_of ready overrun empty idle) ready overrun empty idle
+status true true true true = search
+status true true true false = search
+status true true false true = search
+status true true false false = search
+status true false true true = search
+status true false true false = search
+status true false false true = search
+status true false false false = search
+status false true true true = search
+status false true true false = search
+status false true false true = search
+status false true false false = search
+status false false true true = search
+status false false true false = search
+status false false false true = search
+status false false false false = search
+
+-- the line status of a port
+pub lsr-status : (port : Port) → IsStatus (lsr_of port) (not (is_empty port.receiver.held)) port.receiver.overrun (is_empty port.transmitter.waiting) (is_empty port.transmitter.waiting && not (is_some port.transmitter.shift))
+unfolding lsr_of
+lsr-status port = status _ _ _ _
+
+-- the identification if these three come first, with the enabled bit and the latch
+abbrev pub identified : Bool → Bool → Bool → Bool → Bool → Interrupt
+identified status ready timeout enabled latch =
+    cond status LineStatus (cond ready ReceivedData (cond timeout CharacterTimeout (cond (enabled && latch) ThrEmpty NonePending)))
+
+abbrev pub ipending_at : Bool → Bool → Bool → Bool → Bool → ℤ
+ipending_at status ready timeout enabled latch = ipending_of enabled latch (is_thr_empty (identified status ready timeout enabled latch))
+
+-- the latch that is restored of what is saved
+abbrev pub latch_back : Bool → Bool → Bool → Bool → Bool → Bool
+latch_back status ready timeout enabled latch =
+    latch_of (id_number (identified status ready timeout enabled latch)) (ipending_at status ready timeout enabled latch)
+
+pub record IsLatchBack (status ready timeout enabled latch : Bool) : Type 0 where
+  pub same_id : identified status ready timeout enabled (latch_back status ready timeout enabled latch) ≡ identified status ready timeout enabled latch
+  pub while_enabled : enabled ≡ true → latch_back status ready timeout enabled latch ≡ latch
+  pub was_set : latch_back status ready timeout enabled latch ≡ true → latch ≡ true
+  pub known : (int_eq (ipending_at status ready timeout enabled latch) (negsuc 0) || (int_eq (ipending_at status ready timeout enabled latch) (pos 0) || int_eq (ipending_at status ready timeout enabled latch) (pos 1))) ≡ true
+
+pub latch_comes_back : (status ready timeout enabled latch : Bool) → IsLatchBack status ready timeout enabled latch
+latch_comes_back true ready timeout true true = search
+latch_comes_back true ready timeout true false = search
+latch_comes_back true ready timeout false true = search
+latch_comes_back true ready timeout false false = search
+latch_comes_back false true timeout true true = search
+latch_comes_back false true timeout true false = search
+latch_comes_back false true timeout false true = search
+latch_comes_back false true timeout false false = search
+latch_comes_back false false true true true = search
+latch_comes_back false false true true false = search
+latch_comes_back false false true false true = search
+latch_comes_back false false true false false = search
+latch_comes_back false false false true true = search
+latch_comes_back false false false true false = search
+latch_comes_back false false false false true = search
+latch_comes_back false false false false false = search
+
+-- ---- calls
 
 -- a relation of two choices by the same test
 both : {A : Type 0} (P : A → A → Type 0) (b : Bool) (x x' y y' : A) → P x x' → P y y' → P (cond b x y) (cond b x' y')
 both P true x x' y y' p q = p
 both P false x x' y y' p q = q
 
-same_identified : (status ready timeout enabled first second : Bool) → (enabled ≡ true → second ≡ first) → identified status ready timeout enabled second ≡ identified status ready timeout enabled first
+same_identified : (status ready timeout enabled first second : Bool) → (enabled ≡ true → second ≡ first)
+    → identified status ready timeout enabled second ≡ identified status ready timeout enabled first
 same_identified status ready timeout true first second h = rw (h refl)
 same_identified status ready timeout false first second h = refl
 
-same_ipending : (enabled identified first second : Bool) → (enabled ≡ true → second ≡ first) → ipending_of enabled second identified ≡ ipending_of enabled first identified
+same_ipending : (enabled identified first second : Bool) → (enabled ≡ true → second ≡ first)
+    → ipending_of enabled second identified ≡ ipending_of enabled first identified
 same_ipending true identified first second h = rw (h refl) refl
 same_ipending false identified first second h = refl
 
@@ -59,7 +128,8 @@ module _ (port : Port) (latch : Bool) (h : has port.ier 1 ≡ true → latch ≡
   unfolding saved lsr_of
   same_saved set now =
       let identified = is_thr_empty (interrupt now port) in
-      ap (λ (i : Interrupt). record (saved set now port) { iir = id_number i; thr_ipending = ipending_of (has port.ier 1) latch (is_thr_empty i) }) (same_interrupt now)
+      ap (λ (i : Interrupt). record (saved set now port) { iir = id_number i; thr_ipending = ipending_of (has port.ier 1) latch (is_thr_empty i) })
+      (same_interrupt now)
       ∙ ap (λ (z : ℤ). record (saved set now port) { thr_ipending = z }) (same_ipending (has port.ier 1) identified port.thr_empty latch h)
 
   -- an answer that is the same, with the port as it was
@@ -69,7 +139,8 @@ module _ (port : Port) (latch : Bool) (h : has port.ier 1 ≡ true → latch ≡
   read-alike : (offset now : ℕ) → AnswersAlike (read_of offset now port) (read_of offset now other)
   unfolding read_of lsr_of
   read-alike offset now =
-      both AnswersAlike (offset == 0) _ _ _ _ (both AnswersAlike (has port.lcr 7) _ _ _ _ (kept _) (record { value = refl; alike = record { same = refl; enabled = h } }))
+      both AnswersAlike (offset == 0) _ _ _ _
+      (both AnswersAlike (has port.lcr 7) _ _ _ _ (kept _) (record { value = refl; alike = record { same = refl; enabled = h } }))
       (both AnswersAlike (offset == 1) _ _ _ _ (both AnswersAlike (has port.lcr 7) _ _ _ _ (kept _) (kept _))
       (both AnswersAlike (offset == 2) _ _ _ _ (id-alike now)
       (both AnswersAlike (offset == 3) _ _ _ _ (kept _)
@@ -83,7 +154,8 @@ module _ (port : Port) (latch : Bool) (h : has port.ier 1 ≡ true → latch ≡
 
   ier-alike : (value : ℕ) → Alike (ier_written value port) (ier_written value other)
   unfolding ier_written
-  ier-alike value = record { same = refl; enabled = sampled (has port.ier 1) (has (bit_and value 0x0f) 1) (is_empty port.transmitter.waiting) port.thr_empty latch h }
+  ier-alike value =
+      record { same = refl; enabled = sampled (has port.ier 1) (has (bit_and value 0x0f) 1) (is_empty port.transmitter.waiting) port.thr_empty latch h }
 
   cleared-alike : (clears_sent clears_held : Bool) (fifos : Option Trigger) → Alike (record (transmitter_cleared clears_sent (receiver_cleared clears_held port)) { fifos = fifos }) (record (transmitter_cleared clears_sent (receiver_cleared clears_held other)) { fifos = fifos })
   cleared-alike true true fifos = record { same = refl; enabled = λ e. ap (λ (b : Bool). cond (is_empty port.transmitter.waiting) b true) (h e) }
@@ -91,7 +163,8 @@ module _ (port : Port) (latch : Bool) (h : has port.ier 1 ≡ true → latch ≡
   cleared-alike false true fifos = record { same = refl; enabled = h }
   cleared-alike false false fifos = record { same = refl; enabled = h }
 
-  switched-alike : (value : ℕ) (before after : Option Trigger) → Alike (record (fcr_cleared before after value port) { fifos = after }) (record (fcr_cleared before after value other) { fifos = after })
+  switched-alike : (value : ℕ) (before after : Option Trigger)
+      → Alike (record (fcr_cleared before after value port) { fifos = after }) (record (fcr_cleared before after value other) { fifos = after })
   unfolding fcr_cleared
   switched-alike value None None = cleared-alike false false None
   switched-alike value None (Some trigger) = cleared-alike true true (Some trigger)
@@ -125,28 +198,22 @@ module _ (port : Port) (latch : Bool) (h : has port.ier 1 ≡ true → latch ≡
   }
 
 pub reads_alike : ReadsAlike
-reads_alike offset now port other a =
-    subst (λ (p : Port). AnswersAlike (read_of offset now port) (read_of offset now p)) (sym a.same) (read-alike port other.thr_empty a.enabled offset now)
+reads_alike offset now port other a = rw a.same (read-alike port other.thr_empty a.enabled offset now)
 
 pub writes_alike : WritesAlike
-writes_alike offset value now port other a =
-    subst (λ (p : Port). Alike (written offset value now port) (written offset value now p)) (sym a.same) (write-alike port other.thr_empty a.enabled offset value now)
+writes_alike offset value now port other a = rw a.same (write-alike port other.thr_empty a.enabled offset value now)
 
 pub bytes_in_alike : BytesInAlike
-bytes_in_alike byte now port other a =
-    subst (λ (p : Port). Alike (came_in byte now port) (came_in byte now p)) (sym a.same) (in-alike port other.thr_empty a.enabled byte now)
+bytes_in_alike byte now port other a = rw a.same (in-alike port other.thr_empty a.enabled byte now)
 
 pub advances_alike : AdvancesAlike
-advances_alike to port other a =
-    subst (λ (p : Port). AnswersAlike (advanced to port) (advanced to p)) (sym a.same) (advance-alike port other.thr_empty a.enabled to)
+advances_alike to port other a = rw a.same (advance-alike port other.thr_empty a.enabled to)
 
 pub saves_alike : SavesAlike
-saves_alike set now port other a =
-    subst (λ (p : Port). saved set now p ≡ saved set now port) (sym a.same) (same_saved port other.thr_empty a.enabled set now)
+saves_alike set now port other a = rw a.same (same_saved port other.thr_empty a.enabled set now)
 
 pub lines_alike : LinesAlike
-lines_alike now port other a =
-    subst (λ (p : Port). line_of now p ≡ line_of now port) (sym a.same) (same_line port other.thr_empty a.enabled now)
+lines_alike now port other a = rw a.same (same_line port other.thr_empty a.enabled now)
 
 -- to be alike is an equivalence
 pub alike_itself : AlikeItself

@@ -1,31 +1,26 @@
 -- The divisor latch, and the modem status in loop mode.
-use Rattle.std.proofs.Common.{◌≡◌, ℕ, ◌+◌, ◌*◌, ◌/◌, ◌%◌, ◌<◌, ◌==◌, Bool, true, false, if◌then◌else◌, refl, sym, ap, ◌∙◌, arith}
-use Rattle.std.proofs.lemmas.Bool.{false≢true}
-use Rattle.std.specs.Prelude.{nat_le, bit_or}
-use Rattle.dev_base.specs.Bits.{has, bits_where}
-use Rattle.dev_base.proofs.Choices.{either}
-use Rattle.dev_serial.specs.Access.{byte_read, msr_of, read_of, thr_written, ier_written, switch_of, fcr_written, written}
-use Rattle.dev_serial.specs.Port.{Port}
-use Rattle.dev_serial.specs.RegisterLaws.{ReachesDivisor, IsLooped, LoopsModem}
-use Rattle.dev_serial.proofs.LevelLaws.{switched}
+use Rattle.dev_serial.proofs.Facade.{◌≡◌, ℕ, ◌+◌, ◌*◌, ◌/◌, ◌%◌, ◌<◌, ◌==◌, Bool, true, false, if◌then◌else◌, refl, sym, arith, false≢true, nat_le, bit_or, has}
+use Rattle.dev_serial.proofs.Facade.{bits_where, either, msr_of, read_of, thr_written, ier_written, switch_of, fcr_written, written, Port, ReachesDivisor}
+use Rattle.dev_serial.proofs.Facade.{IsLooped, LoopsModem}
+use Rattle.dev_serial.proofs.RegisterLaws.{switch_stays}
 
 -- ---- the divisor latch
 
 low_read : (now : ℕ) (port : Port) → has port.lcr 7 ≡ true → read_of 0 now port ≡ (port.divisor % 256, port)
 unfolding read_of
-low_read now port set = ap (λ (b : Bool). if b then (port.divisor % 256, port) else byte_read now port) set
+low_read now port set = rw set refl
 
 high_read : (now : ℕ) (port : Port) → has port.lcr 7 ≡ true → read_of 1 now port ≡ (port.divisor / 256, port)
 unfolding read_of
-high_read now port set = ap (λ (b : Bool). if b then (port.divisor / 256, port) else (port.ier, port)) set
+high_read now port set = rw set refl
 
 low_written : (value now : ℕ) (port : Port) → has port.lcr 7 ≡ true → written 0 value now port ≡ record port { divisor = port.divisor / 256 * 256 + value }
 unfolding written
-low_written value now port set = ap (λ (b : Bool). if b then record port { divisor = port.divisor / 256 * 256 + value } else thr_written value now port) set
+low_written value now port set = rw set refl
 
 high_written : (value now : ℕ) (port : Port) → has port.lcr 7 ≡ true → written 1 value now port ≡ record port { divisor = value * 256 + port.divisor % 256 }
 unfolding written
-high_written value now port set = ap (λ (b : Bool). if b then record port { divisor = value * 256 + port.divisor % 256 } else ier_written value port) set
+high_written value now port set = rw set refl
 
 low_stays : (high low value : ℕ) → value < 256 → high * 256 + (low * 256 + value) % 256 ≡ 256 * high + value
 low_stays high low value byte = omega arith
@@ -33,9 +28,12 @@ low_stays high low value byte = omega arith
 both_written : (low high now later : ℕ) (port : Port) → low < 256 → has port.lcr 7 ≡ true
     → written 1 high later (written 0 low now port) ≡ record port { divisor = 256 * high + low }
 both_written low high now later port byte set =
-    ap (λ (p : Port). written 1 high later p) (low_written low now port set)
-    ∙ high_written high later (record port { divisor = port.divisor / 256 * 256 + low }) set
-    ∙ ap (λ (divisor : ℕ). record port { divisor = divisor }) (low_stays high (port.divisor / 256) low byte)
+    rw (
+      low_written low now port set,
+      high_written high later (record port { divisor = port.divisor / 256 * 256 + low }) set,
+      low_stays high
+          (port.divisor / 256) low byte,
+    ) refl
 
 module _ (port : Port) where
   abbrev Keeps : Port → Type 0
@@ -51,7 +49,7 @@ module _ (port : Port) where
   hidden offset value now clear =
       either Keeps (offset == 0) _ _ (chosen (has port.lcr 7) _ _ clear refl)
       (either Keeps (offset == 1) _ _ (chosen (has port.lcr 7) _ _ clear refl)
-      (either Keeps (offset == 2) _ _ (either Keeps (nat_le 2 port.level) _ _ (switched port value port.fifos (switch_of value)).1 refl)
+      (either Keeps (offset == 2) _ _ (either Keeps (nat_le 2 port.level) _ _ (switch_stays port value port.fifos (switch_of value)).1 refl)
       (either Keeps (offset == 3) _ _ refl
       (either Keeps (offset == 4) _ _ refl
       (either Keeps (offset == 5) _ _ refl
@@ -62,7 +60,7 @@ reaches_divisor = record {
   low = low_read;
   high = high_read;
   both = both_written;
-  hidden = λ offset value now port clear. hidden port offset value now clear;
+  hidden = λ offset value now port. hidden port offset value now;
 }
 
 -- ---- the modem status in loop mode
@@ -79,37 +77,37 @@ record HasBits (rts dtr out1 out2 : Bool) (msr : ℕ) : Type 0 where
   changes : msr % 16 ≡ 0
 
 looped_of : (rts dtr out1 out2 : Bool) → HasBits rts dtr out1 out2 (status_by rts dtr out1 out2)
-looped_of true true true true = record { cts = refl; dsr = refl; ri = refl; dcd = refl; changes = refl }
-looped_of true true true false = record { cts = refl; dsr = refl; ri = refl; dcd = refl; changes = refl }
-looped_of true true false true = record { cts = refl; dsr = refl; ri = refl; dcd = refl; changes = refl }
-looped_of true true false false = record { cts = refl; dsr = refl; ri = refl; dcd = refl; changes = refl }
-looped_of true false true true = record { cts = refl; dsr = refl; ri = refl; dcd = refl; changes = refl }
-looped_of true false true false = record { cts = refl; dsr = refl; ri = refl; dcd = refl; changes = refl }
-looped_of true false false true = record { cts = refl; dsr = refl; ri = refl; dcd = refl; changes = refl }
-looped_of true false false false = record { cts = refl; dsr = refl; ri = refl; dcd = refl; changes = refl }
-looped_of false true true true = record { cts = refl; dsr = refl; ri = refl; dcd = refl; changes = refl }
-looped_of false true true false = record { cts = refl; dsr = refl; ri = refl; dcd = refl; changes = refl }
-looped_of false true false true = record { cts = refl; dsr = refl; ri = refl; dcd = refl; changes = refl }
-looped_of false true false false = record { cts = refl; dsr = refl; ri = refl; dcd = refl; changes = refl }
-looped_of false false true true = record { cts = refl; dsr = refl; ri = refl; dcd = refl; changes = refl }
-looped_of false false true false = record { cts = refl; dsr = refl; ri = refl; dcd = refl; changes = refl }
-looped_of false false false true = record { cts = refl; dsr = refl; ri = refl; dcd = refl; changes = refl }
-looped_of false false false false = record { cts = refl; dsr = refl; ri = refl; dcd = refl; changes = refl }
+looped_of true true true true = search
+looped_of true true true false = search
+looped_of true true false true = search
+looped_of true true false false = search
+looped_of true false true true = search
+looped_of true false true false = search
+looped_of true false false true = search
+looped_of true false false false = search
+looped_of false true true true = search
+looped_of false true true false = search
+looped_of false true false true = search
+looped_of false true false false = search
+looped_of false false true true = search
+looped_of false false true false = search
+looped_of false false false true = search
+looped_of false false false false = search
 
 msr_looped : (mcr : ℕ) → has mcr 4 ≡ true → msr_of mcr ≡ status_by (has mcr 1) (has mcr 0) (has mcr 2) (has mcr 3)
 unfolding msr_of
-msr_looped mcr loop = ap (λ (b : Bool). if b then status_by (has mcr 1) (has mcr 0) (has mcr 2) (has mcr 3) else 0xb0) loop
+msr_looped mcr loop = rw loop refl
 
 is_looped : (mcr : ℕ) → has mcr 4 ≡ true → IsLooped mcr (msr_of mcr)
 is_looped mcr loop =
     let bits = looped_of (has mcr 1) (has mcr 0) (has mcr 2) (has mcr 3) in
     let is = msr_looped mcr loop in
     record {
-      cts = ap (λ (r : ℕ). has r 4) is ∙ bits.cts;
-      dsr = ap (λ (r : ℕ). has r 5) is ∙ bits.dsr;
-      ri = ap (λ (r : ℕ). has r 6) is ∙ bits.ri;
-      dcd = ap (λ (r : ℕ). has r 7) is ∙ bits.dcd;
-      changes = ap (λ (r : ℕ). r % 16) is ∙ bits.changes;
+      cts = rw is bits.cts;
+      dsr = rw is bits.dsr;
+      ri = rw is bits.ri;
+      dcd = rw is bits.dcd;
+      changes = rw is bits.changes;
     }
 
 modem_read : (now : ℕ) (port : Port) → read_of 6 now port ≡ (msr_of port.mcr, port)

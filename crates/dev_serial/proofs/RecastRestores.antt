@@ -1,22 +1,10 @@
 -- Recast cells are restored as the cells are.
-use Rattle.std.proofs.Common.{◌≡◌, ℕ, ◌+◌, ◌≤◌, ◌==◌, Bool, true, false, ◌&&◌, ◌||◌, not, nat_le, nat_lt, if◌then◌else◌, List, [], ◌∷◌, length, refl, sym, ap, ◌∙◌, arith, ℤ}
-use Rattle.std.proofs.lemmas.Bool.{ne_eqb, or_right}
-use Rattle.vms_hooks.specs.Numbers.{Numbers}
-use Rattle.dev_base.specs.Bits.{has, same}
-use Rattle.dev_base.specs.Rules.{judged}
-use Rattle.dev_serial.specs.Access.{is_empty}
-use Rattle.dev_serial.specs.Cells.{numbers_of}
-use Rattle.dev_serial.specs.Port.{Port, interrupt, id_number}
-use Rattle.dev_serial.specs.PortNumbers.{port_of, port_with, stored_bytes}
-use Rattle.dev_serial.specs.Recast.{is_in_ring, array_for, ring_left, recast_port, recast_cells}
-use Rattle.dev_serial.specs.Rules.{fcr_holds, id_holds, is_stored_once, is_unused, latch_holds, longest_timeout, once_holds, registers_hold, restored, rings_hold, rules, shift_holds, status_holds, timeout_holds, unused_hold}
-use Rattle.dev_serial.specs.Saved.{restored_cells}
-use Rattle.dev_serial.specs.Stored.{counted_bytes, counted_of, ring_bytes, ring_holds, ring_of}
-use Rattle.dev_serial.specs.declared.levels.TheConstants.{TIMEOUT_SINCE}
-use Rattle.dev_serial.specs.declared.numbers.TheConstants.{NEVER}
-use Rattle.dev_serial.specs.declared.numbers.PortNumbers.{PortNumbers}
-use Rattle.dev_serial.specs.declared.stored.Counted.{Counted}
-use Rattle.dev_serial.specs.declared.stored.Ring.{Ring}
+use Rattle.dev_serial.proofs.Facade.{◌≡◌, ℕ, ◌≤◌, ◌==◌, Bool, true, false, ◌&&◌, ◌||◌, if◌then◌else◌, List, [], ◌∷◌, length, refl, sym, ap, ◌∙◌, arith, ℤ}
+use Rattle.dev_serial.proofs.Facade.{ne_eqb, or_right, Numbers, judged, is_empty, numbers_of, port_of, stored_bytes, is_in_ring, array_for, ring_left}
+use Rattle.dev_serial.proofs.Facade.{recast_port, recast_cells, fcr_holds, id_holds, is_stored_once, is_unused, latch_holds, once_holds, registers_hold}
+use Rattle.dev_serial.proofs.Facade.{restored, rings_hold, rules, shift_holds, status_holds, timeout_holds, unused_hold, restored_cells, counted_bytes}
+use Rattle.dev_serial.proofs.Facade.{counted_of, ring_bytes, ring_holds, ring_of, PortNumbers, Counted, Ring}
+use Rattle.std.proofs.Common.{nat_lt}
 use Rattle.dev_serial.proofs.RecastLaws.{numbers_back}
 use Rattle.dev_serial.proofs.StoredLaws.{counted-back, ring-back, ring_of-holds, stored-empty, stored-short}
 
@@ -31,7 +19,8 @@ all_three false y z e = cc
 in_array : (bytes : List ℕ) → length bytes ≤ 16 → stored_bytes (counted_of bytes) (ring_of []) ≡ bytes
 in_array [] short = ring-back [] (omega arith)
 in_array (byte ∷ bytes) short =
-    ap (λ (b : Bool). if b then ring_bytes (ring_of []) else counted_bytes (counted_of (byte ∷ bytes))) (ne_eqb (length (byte ∷ bytes)) 0 (λ e. omega (arith, e)))
+    ap (λ (b : Bool). if b then ring_bytes (ring_of []) else counted_bytes (counted_of (byte ∷ bytes)))
+    (ne_eqb (length (byte ∷ bytes)) 0 (λ e. omega (arith, e)))
     ∙ counted-back (byte ∷ bytes) short
 
 module _ (array : Counted) (ring : Ring) where
@@ -86,68 +75,41 @@ module _ (level now : ℕ) (n : PortNumbers) where
 
   same_port : port_of level m ≡ port_of level n
   unfolding port_of
-  same_port =
-      ap (λ (l : List ℕ). port_with level n l (stored_bytes m.tx m.tx_ring)) (same_bytes n.rx n.rx_ring)
-      ∙ ap (λ (l : List ℕ). port_with level n (stored_bytes n.rx n.rx_ring) l) (same_bytes n.tx n.tx_ring)
+  same_port = rw (same_bytes n.rx n.rx_ring, same_bytes n.tx n.tx_ring) refl
 
   -- ---- its rules
 
   unused : unused_hold m ≡ unused_hold n
   unfolding unused_hold
-  unused =
-      ap (λ (b : Bool). if n.fcr == 0 then b && is_unused m.tx m.tx_ring else (n.rbr == 0) && (n.thr == 0)) (same_unused n.rx n.rx_ring)
-      ∙ ap (λ (b : Bool). if n.fcr == 0 then is_unused n.rx n.rx_ring && b else (n.rbr == 0) && (n.thr == 0)) (same_unused n.tx n.tx_ring)
-
-  abbrev status_by : Bool → Bool → Bool
-  status_by rx tx =
-      if n.fcr == 0 then (has n.lsr 0 || (n.rbr == 0)) && (not (has n.lsr 5) || (n.thr == 0))
-      else same (has n.lsr 0) (not rx) && same (has n.lsr 5) tx
+  unused = rw (same_unused n.rx n.rx_ring, same_unused n.tx n.tx_ring) refl
 
   status : status_holds m ≡ status_holds n
   unfolding status_holds
-  status =
-      ap (λ (b : Bool). status_by b (is_unused m.tx m.tx_ring)) (same_unused n.rx n.rx_ring)
-      ∙ ap (λ (b : Bool). status_by (is_unused n.rx n.rx_ring) b) (same_unused n.tx n.tx_ring)
+  status = rw (same_unused n.rx n.rx_ring, same_unused n.tx n.tx_ring) refl
 
   timeout : timeout_holds level now m ≡ timeout_holds level now n
   unfolding timeout_holds
-  timeout =
-      ap (λ (b : Bool). if nat_le TIMEOUT_SINCE level && (not (n.fcr == 0) && not b)
-      then not (n.timeout_at == NEVER) && nat_le n.timeout_at (now + longest_timeout) else n.timeout_at == NEVER) (same_unused n.rx n.rx_ring)
+  timeout = rw (same_unused n.rx n.rx_ring) refl
 
   id : id_holds level now m ≡ id_holds level now n
   unfolding id_holds
-  id = ap (λ (p : Port). n.iir == id_number (interrupt now p)) same_port
+  id = rw same_port refl
 
   once_each : once_holds m ≡ once_holds n
   unfolding once_holds
-  once_each =
-      ap (λ (b : Bool). b && is_stored_once m.tx m.tx_ring) (same_once n.rx n.rx_ring)
-      ∙ ap (λ (b : Bool). is_stored_once n.rx n.rx_ring && b) (same_once n.tx n.tx_ring)
+  once_each = rw (same_once n.rx n.rx_ring, same_once n.tx n.tx_ring) refl
 
   rings : rings_hold m ≡ rings_hold n
   unfolding rings_hold
-  rings =
-      ap (λ (b : Bool). b && ring_holds m.tx_ring) (same_ring n.rx n.rx_ring)
-      ∙ ap (λ (b : Bool). ring_holds n.rx_ring && b) (same_ring n.tx n.tx_ring)
-
-  abbrev listed : (a b c d e f : Bool) → List Bool
-  listed a b c d e f = registers_hold n ∷ fcr_holds level n ∷ a ∷ b ∷ shift_holds now n ∷ c ∷ latch_holds n ∷ d ∷ e ∷ f ∷ []
+  rings = rw (same_ring n.rx n.rx_ring, same_ring n.tx n.tx_ring) refl
 
   same_rules : rules level now m ≡ rules level now n
   unfolding registers_hold fcr_holds shift_holds latch_holds
-  same_rules =
-      ap (λ (x : Bool). listed x (status_holds m) (timeout_holds level now m) (id_holds level now m) (once_holds m) (rings_hold m)) unused
-      ∙ ap (λ (x : Bool). listed (unused_hold n) x (timeout_holds level now m) (id_holds level now m) (once_holds m) (rings_hold m)) status
-      ∙ ap (λ (x : Bool). listed (unused_hold n) (status_holds n) x (id_holds level now m) (once_holds m) (rings_hold m)) timeout
-      ∙ ap (λ (x : Bool). listed (unused_hold n) (status_holds n) (timeout_holds level now n) x (once_holds m) (rings_hold m)) id
-      ∙ ap (λ (x : Bool). listed (unused_hold n) (status_holds n) (timeout_holds level now n) (id_holds level now n) x (rings_hold m)) once_each
-      ∙ ap (λ (x : Bool). listed (unused_hold n) (status_holds n) (timeout_holds level now n) (id_holds level now n) (once_holds n) x) rings
+  same_rules = rw (unused, status, timeout, id, once_each, rings) refl
 
   port_restores : restored level now m ≡ restored level now n
   unfolding restored
-  port_restores = ap (λ (l : List Bool). judged l (port_of level m)) same_rules ∙ ap (λ (p : Port). judged (rules level now n) p) same_port
+  port_restores = ap (λ (l : List Bool). judged l (port_of level m)) same_rules ∙ ap (judged (rules level now n)) same_port
 
 pub recast_restores : (numbers : Numbers) (cells : List ℤ) → restored_cells numbers (recast_cells cells) ≡ restored_cells numbers cells
-recast_restores numbers cells =
-    ap (λ (n : PortNumbers). restored numbers.level numbers.moment n) (numbers_back cells) ∙ port_restores numbers.level numbers.moment (numbers_of cells)
+recast_restores numbers cells = ap (restored numbers.level numbers.moment) (numbers_back cells) ∙ port_restores numbers.level numbers.moment (numbers_of cells)

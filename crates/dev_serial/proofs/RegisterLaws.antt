@@ -1,15 +1,10 @@
--- The identified interrupt, and the effects of the FIFO control register.
-use Rattle.std.proofs.Common.{◌≡◌, ℕ, ◌<◌, ◌≤◌, Bool, true, false, not, ◌&&◌, cond, Option, Some, None, refl, sym, ap, ◌∙◌, ◌/◌, arith}
-use Rattle.std.proofs.lemmas.Bool.{false≢true, cond_both}
-use Rattle.std.specs.Prelude.{is_some}
-use Rattle.dev_serial.specs.Access.{is_empty, switch_of, fcr_cleared, fcr_written, receiver_cleared, transmitter_cleared}
-use Rattle.dev_base.specs.Bits.{has}
-use Rattle.dev_serial.specs.Fifo.{trigger_of}
-use Rattle.dev_serial.specs.Port.{Port, asks, interrupt, is_pending, line_of}
-use Rattle.dev_serial.specs.RegisterLaws.{rank, IsFirstAsking, IdentifiesFirst, SomeAsks, LineTellsAsking, HasNoBytes, SwitchClearsBoth, IsResetBy, ResetsByBits, StaysOff, IsSwitched, WritesSwitch}
-use Rattle.dev_serial.specs.declared.interrupt.Interrupt.{Interrupt}
-use Rattle.dev_serial.specs.declared.interrupt.Interrupt.TheVariants.{LineStatus, ReceivedData, CharacterTimeout, ThrEmpty, NonePending}
-use Rattle.dev_serial.specs.declared.trigger.Trigger.{Trigger}
+-- The identified interrupt, the effects of the FIFO control register, and the level, which each call keeps.
+use Rattle.dev_serial.proofs.Facade.{◌≡◌, ℕ, ◌<◌, ◌≤◌, Bool, true, false, not, ◌&&◌, cond, Option, Some, None, refl, sym, ap, ◌∙◌, ◌/◌, arith, ◌==◌, false≢true}
+use Rattle.dev_serial.proofs.Facade.{cond_both, is_some, nat_le, is_empty, switch_of, fcr_cleared, fcr_written, receiver_cleared, transmitter_cleared, read_of}
+use Rattle.dev_serial.proofs.Facade.{thr_written, ier_written, written, came_in, advanced, has, trigger_of, Port, asks, interrupt, is_pending, line_of, rank}
+use Rattle.dev_serial.proofs.Facade.{IsFirstAsking, IdentifiesFirst, SomeAsks, LineTellsAsking, HasNoBytes, SwitchClearsBoth, IsResetBy, ResetsByBits, StaysOff}
+use Rattle.dev_serial.proofs.Facade.{IsSwitched, WritesSwitch, Interrupt, LineStatus, ReceivedData, CharacterTimeout, ThrEmpty, NonePending, Trigger, either}
+use Rattle.dev_serial.proofs.Facade.{ReadsKeepLevel, WritesKeepLevel, BytesInKeepLevel, AdvancesKeepLevel}
 
 module _ (now : ℕ) (port : Port) where
   -- none of the first k asks
@@ -24,9 +19,14 @@ module _ (now : ℕ) (port : Port) where
   unfolding interrupt
   first =
       cond_both (asks now port LineStatus) _ _ (IsFirstAsking now port)
-      (λ h. record { itself = h; higher = none 0 (omega arith) (λ l. absurd (omega arith)) (λ l. absurd (omega arith)) (λ l. absurd (omega arith)) (λ l. absurd (omega arith)) }) (λ a.
+      (λ h. record {
+        itself = h;
+        higher = none 0 (omega arith) (λ l. absurd (omega arith)) (λ l. absurd (omega arith)) (λ l. absurd (omega arith))
+            (λ l. absurd (omega arith));
+      }) (λ a.
       cond_both (asks now port ReceivedData) _ _ (IsFirstAsking now port)
-      (λ h. record { itself = h; higher = none 1 (omega arith) (λ l. a) (λ l. absurd (omega arith)) (λ l. absurd (omega arith)) (λ l. absurd (omega arith)) }) (λ b.
+      (λ h. record { itself = h; higher = none 1 (omega arith) (λ l. a) (λ l. absurd (omega arith)) (λ l. absurd (omega arith)) (λ l. absurd (omega arith)) })
+      (λ b.
       cond_both (asks now port CharacterTimeout) _ _ (IsFirstAsking now port)
       (λ h. record { itself = h; higher = none 2 (omega arith) (λ l. a) (λ l. b) (λ l. absurd (omega arith)) (λ l. absurd (omega arith)) }) (λ c.
       cond_both (asks now port ThrEmpty) _ _ (IsFirstAsking now port)
@@ -34,16 +34,11 @@ module _ (now : ℕ) (port : Port) where
       record { itself = refl; higher = none 4 (omega arith) (λ l. a) (λ l. b) (λ l. c) (λ l. d) }))))
 
   -- an interrupt that is requested is pending unless a higher one hides it
-  pending : (identified some : Interrupt) → IsFirstAsking now port identified → is_pending some ≡ true → asks now port some ≡ true → is_pending identified ≡ true
-  pending LineStatus some f p h = refl
-  pending ReceivedData some f p h = refl
-  pending CharacterTimeout some f p h = refl
-  pending ThrEmpty some f p h = refl
-  pending NonePending LineStatus f p h = absurd (false≢true (sym (f.higher LineStatus (omega arith)) ∙ h))
-  pending NonePending ReceivedData f p h = absurd (false≢true (sym (f.higher ReceivedData (omega arith)) ∙ h))
-  pending NonePending CharacterTimeout f p h = absurd (false≢true (sym (f.higher CharacterTimeout (omega arith)) ∙ h))
-  pending NonePending ThrEmpty f p h = absurd (false≢true (sym (f.higher ThrEmpty (omega arith)) ∙ h))
+  pending : (identified some : Interrupt) → IsFirstAsking now port identified → is_pending some ≡ true → asks now port some ≡ true
+      → is_pending identified ≡ true
   pending NonePending NonePending f p h = p
+  pending NonePending some f p h = absurd (false≢true (sym (f.higher some (omega arith)) ∙ h))
+  pending other some f p h = refl
 
   line : (line_of now port ≡ true → SomeAsks now port) × (SomeAsks now port → line_of now port ≡ true)
   unfolding line_of
@@ -57,10 +52,7 @@ line_tells_asking now port = line now port
 
 -- the FIFO control register
 switched_to : (value : ℕ) → is_some (switch_of value) ≡ has value 0
-switched_to value = at (has value 0) where
-  at : (is_on : Bool) → is_some (cond is_on (Some (trigger_of (value / 64))) None) ≡ is_on
-  at true = refl
-  at false = refl
+switched_to value = elim (has value 0) as (λ is_on. is_some (cond is_on (Some (trigger_of (value / 64))) None) ≡ is_on) [ true ↦ refl | false ↦ refl ]
 
 module _ (value : ℕ) (port : Port) where
   both : (before after : Option Trigger) → is_some after ≡ not (is_some before) → HasNoBytes (record (fcr_cleared before after value port) { fifos = after })
@@ -70,31 +62,36 @@ module _ (value : ℕ) (port : Port) where
   both (Some before) None e = record { held = refl; timeout = refl; waiting = refl }
   both (Some before) (Some after) e = absurd (false≢true (sym e))
 
-  flags : (second first : Bool) (fifos : Option Trigger) → (second ≡ has value 2) → (first ≡ has value 1) → IsResetBy value port (record (transmitter_cleared second (receiver_cleared first port)) { fifos = fifos })
+  flags : (second first : Bool) (fifos : Option Trigger) → (second ≡ has value 2) → (first ≡ has value 1)
+      → IsResetBy value port (record (transmitter_cleared second (receiver_cleared first port)) { fifos = fifos })
   flags true true fifos s f = record { held = rw (← f) refl; timeout = rw (← f) refl; waiting = rw (← s) refl }
   flags true false fifos s f = record { held = rw (← f) refl; timeout = rw (← f) refl; waiting = rw (← s) refl }
   flags false true fifos s f = record { held = rw (← f) refl; timeout = rw (← f) refl; waiting = rw (← s) refl }
   flags false false fifos s f = record { held = rw (← f) refl; timeout = rw (← f) refl; waiting = rw (← s) refl }
 
-  reset : (before after : Option Trigger) → is_some before ≡ true → is_some after ≡ true → IsResetBy value port (record (fcr_cleared before after value port) { fifos = after })
+  reset : (before after : Option Trigger) → is_some before ≡ true → is_some after ≡ true
+      → IsResetBy value port (record (fcr_cleared before after value port) { fifos = after })
   unfolding fcr_cleared
   reset None after b a = absurd (false≢true b)
   reset (Some before) None b a = absurd (false≢true a)
   reset (Some before) (Some after) b a = flags (has value 2) (has value 1) (Some after) refl refl
 
-  off : (before after : Option Trigger) → port.fifos ≡ before → before ≡ None → is_some after ≡ false → record (fcr_cleared before after value port) { fifos = after } ≡ port
+  off : (before after : Option Trigger) → port.fifos ≡ before → before ≡ None → is_some after ≡ false
+      → record (fcr_cleared before after value port) { fifos = after } ≡ port
   unfolding fcr_cleared
   off None None e b a = ap (λ (fifos : Option Trigger). record port { fifos = fifos }) (sym e)
   off None (Some after) e b a = absurd (false≢true (sym a))
   off (Some before) after e b a = cc
 
-  latch_of : (second empty : Bool) → cond second (cond empty port.thr_empty true) port.thr_empty ≡ cond (not empty && cond second true empty) true port.thr_empty
+  latch_of : (second empty : Bool)
+      → cond second (cond empty port.thr_empty true) port.thr_empty ≡ cond (not empty && cond second true empty) true port.thr_empty
   latch_of true true = refl
   latch_of true false = refl
   latch_of false true = refl
   latch_of false false = refl
 
-  left : (second first : Bool) (fifos : Option Trigger) → fifos ≡ switch_of value → IsSwitched value port (record (transmitter_cleared second (receiver_cleared first port)) { fifos = fifos })
+  left : (second first : Bool) (fifos : Option Trigger) → fifos ≡ switch_of value
+      → IsSwitched value port (record (transmitter_cleared second (receiver_cleared first port)) { fifos = fifos })
   left true true fifos e = record { fifos = e; shift = refl; overrun = refl; latch = latch_of true (is_empty port.transmitter.waiting) }
   left true false fifos e = record { fifos = e; shift = refl; overrun = refl; latch = latch_of true (is_empty port.transmitter.waiting) }
   left false true fifos e = record { fifos = e; shift = refl; overrun = refl; latch = latch_of false (is_empty port.transmitter.waiting) }
@@ -122,3 +119,71 @@ stays_off value port b a = off value port port.fifos (switch_of value) refl b (s
 pub writes_switch : WritesSwitch
 unfolding fcr_written
 writes_switch value port = switched value port port.fifos (switch_of value) refl
+
+-- ---- each call keeps the level
+
+module _ (port : Port) where
+  abbrev Keeps : Port → Type 0
+  Keeps after = after.level ≡ port.level
+
+  abbrev Answers : ℕ × Port → Type 0
+  Answers answer = answer.1.level ≡ port.level
+
+  read : (offset now : ℕ) → Answers (read_of offset now port)
+  unfolding read_of
+  read offset now =
+      either Answers (offset == 0) _ _ (either Answers (has port.lcr 7) _ _ refl refl)
+      (either Answers (offset == 1) _ _ (either Answers (has port.lcr 7) _ _ refl refl)
+      (either Answers (offset == 2) _ _ refl
+      (either Answers (offset == 3) _ _ refl
+      (either Answers (offset == 4) _ _ refl
+      (either Answers (offset == 5) _ _ refl
+      (either Answers (offset == 6) _ _ refl refl))))))
+
+  -- clearing by the FIFO control register changes neither the level nor the divisor
+  abbrev Stays : Port → Type 0
+  Stays after = Keeps after × (after.divisor ≡ port.divisor)
+
+  cleared : (second first : Bool) → Stays (transmitter_cleared second (receiver_cleared first port))
+  cleared true true = (refl, refl)
+  cleared true false = (refl, refl)
+  cleared false true = (refl, refl)
+  cleared false false = (refl, refl)
+
+  pub switch_stays : (value : ℕ) (before after : Option Trigger) → Stays (fcr_cleared before after value port)
+  unfolding fcr_cleared
+  switch_stays value None None = (refl, refl)
+  switch_stays value None (Some after) = cleared true true
+  switch_stays value (Some before) None = cleared true true
+  switch_stays value (Some before) (Some after) = cleared (has value 2) (has value 1)
+
+  write : (offset value now : ℕ) → Keeps (written offset value now port)
+  unfolding written thr_written ier_written fcr_written
+  write offset value now =
+      either Keeps (offset == 0) _ _ (either Keeps (has port.lcr 7) _ _ refl refl)
+      (either Keeps (offset == 1) _ _ (either Keeps (has port.lcr 7) _ _ refl refl)
+      (either Keeps (offset == 2) _ _ (either Keeps (nat_le 2 port.level) _ _ (switch_stays value port.fifos (switch_of value)).0 refl)
+      (either Keeps (offset == 3) _ _ refl
+      (either Keeps (offset == 4) _ _ refl
+      (either Keeps (offset == 5) _ _ refl
+      (either Keeps (offset == 6) _ _ refl refl))))))
+
+  comes : (byte now : ℕ) → Keeps (came_in byte now port)
+  unfolding came_in
+  comes byte now = either Keeps (has port.mcr 4) _ _ refl refl
+
+  advances : (to : ℕ) → Keeps (advanced to port).1
+  unfolding advanced
+  advances to = refl
+
+pub reads_keep_level : ReadsKeepLevel
+reads_keep_level offset now port = read port offset now
+
+pub writes_keep_level : WritesKeepLevel
+writes_keep_level offset value now port = write port offset value now
+
+pub bytes_in_keep_level : BytesInKeepLevel
+bytes_in_keep_level byte now port = comes port byte now
+
+pub advances_keep_level : AdvancesKeepLevel
+advances_keep_level to port = advances port to

@@ -1,24 +1,113 @@
 -- A port that is restored is sound.
-use Rattle.std.proofs.Common.{◌≡◌, ℕ, ◌+◌, ◌<◌, ◌≤◌, ◌==◌, Bool, true, false, not, ◌||◌, List, ℤ, refl, subst, arith}
-use Rattle.std.proofs.lemmas.Bool.{false≢true, leb-true, and_parts}
-use Rattle.std.specs.Prelude.{is_some, nat_le}
-use Rattle.dev_base.specs.Cells.{cell_at, number_at}
-use Rattle.dev_base.specs.Levels.{IsLevel}
-use Rattle.vms_kinds.specs.declared.Kind.TheVariants.{U8, U16}
-use Rattle.dev_base.proofs.CellLaws.{number-lt}
-use Rattle.dev_base.proofs.RuleLaws.{hook-ok}
-use Rattle.dev_base.specs.Bits.{has}
-use Rattle.dev_serial.specs.Cells.{IsPortCells, bytes_at, array_at, ring_at, numbers_of}
-use Rattle.dev_serial.specs.Laws.{IsSoundAt, RestoredIsSound}
-use Rattle.dev_serial.specs.PortNumbers.{port_of, fifos_of, stored_bytes}
-use Rattle.dev_serial.specs.Rules.{registers_hold, fcr_holds, status_holds, shift_holds, timeout_holds, latch_holds, is_unused}
-use Rattle.dev_serial.specs.Sound.{IsSound, HasRegisters, IsReceiver, IsTransmitter, AreBytes}
-use Rattle.dev_serial.specs.declared.numbers.PortNumbers.{PortNumbers}
-use Rattle.dev_serial.proofs.RestoredParts.{is_on, level-on, short, are_bytes, timeout, shift, idle-empty, waiting-empty}
-use Rattle.dev_serial.proofs.RulesHold.{Hold, hold}
-use Rattle.dev_serial.proofs.StoredKinds.{in_arrays, ring-bytes}
-use Rattle.dev_serial.proofs.StoredLaws.{stored-empty, stored-short, stored-bytes, firsts-bytes}
-use Rattle.vms_fields.specs.declared.serial.TheConstants.{DIVISOR, LCR, SCR, RBR, THR, TSR, THR_IPENDING, RX_COUNT, RX, TX_COUNT, TX, TIMEOUT_AT, RX_DATA, TX_DATA}
+use Rattle.dev_serial.proofs.Facade.{◌≡◌, ℕ, true, Ok, ◌≤◌, Bool, List, [], ◌∷◌, length, Option, Some, refl, subst, ◌+◌, ◌<◌, ◌==◌, false, not, ◌&&◌, ◌||◌}
+use Rattle.dev_serial.proofs.Facade.{cond, None, sym, ◌∙◌, arith, ◌%◌, ℤ, false≢true, leb-true, ltb-true, and_parts, not-true, nat_le, nat_lt, is_some}
+use Rattle.dev_serial.proofs.Facade.{judged-ok, first_failing_is_first, hook-ok, Port, port_of, moment_of, shift_of, fifos_of, stored_bytes, registers_hold}
+use Rattle.dev_serial.proofs.Facade.{fcr_holds, status_holds, shift_holds, timeout_holds, latch_holds, rules, restored, unused_hold, id_holds, once_holds}
+use Rattle.dev_serial.proofs.Facade.{rings_hold, longest_timeout, is_unused, PortNumbers, first_failing, judged_by, IsFirstFailing, MeansFailing, is_empty}
+use Rattle.dev_serial.proofs.Facade.{IsShort, same, has, AreBytes, IsShift, IsTimeout, IsSound, HasRegisters, IsReceiver, IsTransmitter, Trigger}
+use Rattle.dev_serial.proofs.Facade.{LONGEST_CHARACTER, NEVER, cell_at, number_at, IsLevel, U8, U16, number-lt, IsPortCells, bytes_at, array_at, ring_at}
+use Rattle.dev_serial.proofs.Facade.{numbers_of, IsSoundAt, RestoredIsSound, DIVISOR, LCR, SCR, RBR, THR, TSR, THR_IPENDING, RX_COUNT, RX, TX_COUNT, TX}
+use Rattle.dev_serial.proofs.Facade.{TIMEOUT_AT, RX_DATA, TX_DATA}
+use Rattle.dev_serial.proofs.StoredLaws.{in_arrays, ring-bytes, stored-empty, stored-short, stored-bytes, firsts-bytes}
+
+-- ---- every rule holds for numbers that are restored
+
+-- the rules by which a port is sound
+pub record Hold (level now : ℕ) (n : PortNumbers) : Type 0 where
+  pub registers : registers_hold n ≡ true
+  pub fcr : fcr_holds level n ≡ true
+  pub status : status_holds n ≡ true
+  pub shifts : shift_holds now n ≡ true
+  pub timeouts : timeout_holds level now n ≡ true
+  pub latch : latch_holds n ≡ true
+
+pub hold : (level now : ℕ) (n : PortNumbers) (port : Port) → restored level now n ≡ Ok port → Hold level now n × (port_of level n ≡ port)
+unfolding restored
+hold level now n port e =
+    let all = judged-ok (rules level now n) (port_of level n) port e in
+    let from4 = all.0.1.1.1 in
+    (record { registers = all.0.0; fcr = all.0.1.0; status = from4.0; shifts = from4.1.0; timeouts = from4.1.1.0; latch = from4.1.1.1.0 }, all.1)
+
+-- ---- the result of a restore, by the rules in code
+
+pub restored_by : (level now : ℕ) (n : PortNumbers) (port : Port) (answer : Option ℕ) (a b d e f g h i j k : Bool)
+    → a ≡ registers_hold n → b ≡ fcr_holds level n → d ≡ unused_hold n → e ≡ status_holds n → f ≡ shift_holds now n → g ≡ timeout_holds level now n
+    → h ≡ latch_holds n → i ≡ id_holds level now n → j ≡ once_holds n → k ≡ rings_hold n → port ≡ port_of level n
+    → answer ≡ first_failing (a ∷ b ∷ d ∷ e ∷ f ∷ g ∷ h ∷ i ∷ j ∷ k ∷ []) → judged_by answer port ≡ restored level now n
+unfolding restored
+restored_by level now n port answer a b d e f g h i j k qa qb qd qe qf qg qh qi qj qk p q = rw (q, p, qa, qb, qd, qe, qf, qg, qh, qi, qj, qk) refl
+
+-- the rule that fails is one of them
+pub rule_within : (rules : List Bool) (rule : ℕ) → first_failing rules ≡ Some rule → (1 ≤ rule) × (rule ≤ length rules)
+rule_within rules rule e =
+    let first : IsFirstFailing rules rule = subst (MeansFailing rules) e (first_failing_is_first rules) in first.within
+
+-- ---- each part of a restored port is sound
+
+switch : (off : Bool) (trigger : Trigger) → is_some (cond off None (Some trigger)) ≡ not off
+switch true trigger = refl
+switch false trigger = refl
+
+pub is_on : (fcr : ℕ) → is_some (fifos_of fcr) ≡ not (fcr == 0)
+is_on fcr = switch (fcr == 0) _
+
+on_at : (off has_level bit : Bool) → (off || (has_level && bit)) ≡ true → not off ≡ true → has_level ≡ true
+on_at true has_level bit h n = absurd (false≢true n)
+on_at false has_level bit h n = (and_parts has_level bit h).0
+
+pub level-on : (level fcr : ℕ) → ((fcr == 0) || (nat_le 2 level && (fcr % 64 == 1))) ≡ true → is_some (fifos_of fcr) ≡ true → 2 ≤ level
+level-on level fcr h n = leb-true 2 level (on_at (fcr == 0) (nat_le 2 level) (fcr % 64 == 1) h (sym (is_on fcr) ∙ n))
+
+pub short : (off is_held : Bool) (byte : ℕ) (bytes : List ℕ) → length bytes ≤ 16 → IsShort (not off) (cond off (cond is_held (byte ∷ []) []) bytes)
+short true true byte bytes h = record { short = omega arith; one = λ _. omega arith }
+short true false byte bytes h = record { short = omega arith; one = λ _. omega arith }
+short false is_held byte bytes h = record { short = h; one = λ e. absurd (false≢true (sym e)) }
+
+pub are_bytes : (off is_held : Bool) (byte : ℕ) (bytes : List ℕ) → byte < 256 → AreBytes bytes → AreBytes (cond off (cond is_held (byte ∷ []) []) bytes)
+are_bytes true true byte bytes b h = (b, tt)
+are_bytes true false byte bytes b h = tt
+are_bytes false is_held byte bytes b h = h
+
+ends : (runs : Bool) (now t : ℕ) → cond runs (not (t == NEVER) && nat_le t (now + longest_timeout)) (t == NEVER) ≡ true → IsTimeout now runs (moment_of t)
+ends true now t h =
+    let p = and_parts _ _ h in
+    let e : (t == NEVER) ≡ false = not-true (t == NEVER) p.0 in
+    rw e (record { runs_now = refl; in_time = leb-true _ _ p.1 })
+ends false now t h = rw h
+
+runs_at : (has_timeout off is_held : Bool) (byte : ℕ) (bytes : List ℕ)
+    → (has_timeout && (not off && not (is_empty bytes))) ≡ (has_timeout && (not off && not (is_empty (cond off (cond is_held (byte ∷ []) []) bytes))))
+runs_at has_timeout true is_held byte bytes = refl
+runs_at has_timeout false is_held byte bytes = refl
+
+pub timeout : (has_timeout off is_held unused : Bool) (byte : ℕ) (bytes : List ℕ) (now t : ℕ) → is_empty bytes ≡ unused → cond (has_timeout && (not off && not unused)) (not (t == NEVER) && nat_le t (now + longest_timeout)) (t == NEVER) ≡ true → IsTimeout now (has_timeout && (not off && not (is_empty (cond off (cond is_held (byte ∷ []) []) bytes)))) (moment_of t)
+timeout has_timeout off is_held unused byte bytes now t e h = rw (← runs_at has_timeout off is_held byte bytes, e) (ends _ now t h)
+
+module _ (now tsr due : ℕ) (empty : Bool) where
+  pub shift : (idle : Bool) → (same idle (due == NEVER) && cond idle (empty && (tsr == 0)) (nat_lt now due && nat_le due (now + LONGEST_CHARACTER))) ≡ true
+      → tsr < 256 → IsShift now (shift_of tsr due)
+  shift true h b = let q : (due == NEVER) ≡ true = (and_parts _ _ h).0 in rw q tt
+  shift false h b =
+      let p = and_parts _ _ h in
+      let q = and_parts _ _ p.1 in
+      let e : (due == NEVER) ≡ false = not-true (due == NEVER) p.0 in
+      rw e (record { byte = b; later = ltb-true _ _ q.0; in_time = leb-true _ _ q.1 })
+
+  pub idle-empty : (idle : Bool) → (same idle (due == NEVER) && cond idle (empty && (tsr == 0)) (nat_lt now due && nat_le due (now + LONGEST_CHARACTER))) ≡ true → is_some (shift_of tsr due) ≡ false → empty ≡ true
+  idle-empty true h n = (and_parts _ _ (and_parts _ _ h).1).0
+  idle-empty false h n =
+      let e : (due == NEVER) ≡ false = not-true (due == NEVER) (and_parts _ _ h).0 in
+      absurd (false≢true (sym (rw e at n)))
+
+same-true : (b : Bool) → same true b ≡ true → b ≡ true
+same-true b h = h
+
+pub waiting-empty : (off ready empty unused : Bool) (byte : ℕ) (first second some : Bool) (tx : List ℕ) → is_empty tx ≡ unused → cond off (first && second) (same ready some && same empty unused) ≡ true → empty ≡ true → is_empty (cond off (cond (not empty) (byte ∷ []) []) tx) ≡ true
+waiting-empty true ready empty unused byte first second some tx u h e = rw e refl
+waiting-empty false ready empty unused byte first second some tx u h e =
+    u ∙ (let p : same empty unused ≡ true = (and_parts _ _ h).1 in same-true unused (rw e at p))
+
+-- ---- the whole port
 
 -- numbers in their kinds' ranges
 record HasRanges (n : PortNumbers) : Type 0 where
@@ -56,7 +145,8 @@ module _ (level now : ℕ) (n : PortNumbers) (is_level : IsLevel level) (ranges 
   receiver = rw (is_on n.fcr) (record {
     short = short (n.fcr == 0) (has n.lsr 0) n.rbr (stored_bytes n.rx n.rx_ring) (stored-short n.rx n.rx_ring);
     bytes = are_bytes (n.fcr == 0) (has n.lsr 0) n.rbr (stored_bytes n.rx n.rx_ring) ranges.rbr ranges.rx;
-    timeout = timeout (nat_le 3 level) (n.fcr == 0) (has n.lsr 0) (is_unused n.rx n.rx_ring) n.rbr (stored_bytes n.rx n.rx_ring) now n.timeout_at (stored-empty n.rx n.rx_ring) rules.timeouts;
+    timeout = timeout (nat_le 3 level) (n.fcr == 0) (has n.lsr 0) (is_unused n.rx n.rx_ring) n.rbr (stored_bytes n.rx n.rx_ring) now n.timeout_at
+        (stored-empty n.rx n.rx_ring) rules.timeouts;
   })
 
   transmitter : IsTransmitter now (is_some (fifos_of n.fcr)) (port_of level n).transmitter (port_of level n).thr_empty
@@ -88,8 +178,10 @@ module _ (cells : List ℤ) (is : IsPortCells cells) where
     rbr = number-lt U8 _ (is.of_kinds.in_range RBR (omega arith));
     thr = number-lt U8 _ (is.of_kinds.in_range THR (omega arith));
     tsr = number-lt U8 _ (is.of_kinds.in_range TSR (omega arith));
-    rx = stored-bytes (array_at cells RX_COUNT) (ring_at cells RX_DATA) (array-bytes RX (omega arith) (omega arith)) (ring-bytes cells is.of_kinds RX_DATA (omega arith) (omega arith));
-    tx = stored-bytes (array_at cells TX_COUNT) (ring_at cells TX_DATA) (array-bytes TX (omega arith) (omega arith)) (ring-bytes cells is.of_kinds TX_DATA (omega arith) (omega arith));
+    rx = stored-bytes (array_at cells RX_COUNT) (ring_at cells RX_DATA) (array-bytes RX (omega arith) (omega arith))
+        (ring-bytes cells is.of_kinds RX_DATA (omega arith) (omega arith));
+    tx = stored-bytes (array_at cells TX_COUNT) (ring_at cells TX_DATA) (array-bytes TX (omega arith) (omega arith))
+        (ring-bytes cells is.of_kinds TX_DATA (omega arith) (omega arith));
   }
 
 own-level : (level : ℕ) (n : PortNumbers) → (port_of level n).level ≡ level

@@ -1,11 +1,6 @@
 -- Bytes that come in while there is room.
-use Rattle.std.proofs.Common.{◌≡◌, ℕ, ◌+◌, ◌≤◌, true, false, List, [], ◌∷◌, ◌++◌, length, refl, sym, ◌∙◌, arith, append_assoc, append-nil}
-use Rattle.std.proofs.lemmas.Grind.{common_steps}
-use Rattle.dev_base.specs.Bits.{has}
-use Rattle.dev_serial.specs.Access.{came_in, room_of}
-use Rattle.dev_serial.specs.Port.{Port}
-use Rattle.dev_serial.specs.Receive.{received}
-use Rattle.dev_serial.specs.RoomLaws.{all_came, RoomIsHeld}
+use Rattle.dev_serial.proofs.Facade.{◌≡◌, ℕ, ◌+◌, ◌≤◌, true, false, List, [], ◌∷◌, ◌++◌, length, refl, sym, ◌∙◌, arith, append_assoc, append-nil, common_steps}
+use Rattle.dev_serial.proofs.Facade.{has, came_in, room_of, Port, received, all_came, RoomIsHeld}
 
 -- a byte for which there is room
 record Held (byte : ℕ) (old new : Port) : Type 0 where

@@ -1,34 +1,133 @@
--- The saved cells are cells of their set.
-use Rattle.std.proofs.Common.{◌≡◌, ℕ, ℤ, ◌+◌, ◌<◌, ◌≤◌, Bool, true, false, cond, List, [], ◌∷◌, ◌++◌, length, map, take, drop, replicate, pos, Option, Some, None, refl, sym, ap, ◌∙◌, subst, arith, ⊎_elim}
-use Rattle.std.proofs.lemmas.Bool.{cases_lt}
-use Rattle.std.proofs.lemmas.Int.{ints}
-use Rattle.std.proofs.lemmas.List.{get_or-append-add, get_or_append_left, get_or-map, get_or_past}
-use Rattle.std.proofs.lemmas.Nat.{and_le_r}
-use Rattle.std.specs.Prelude.{nat_le, is_some}
-use Rattle.dev_base.specs.declared.limits.TheConstants.{NEWEST}
-use Rattle.vms_kinds.specs.Codes.{InRange}
-use Rattle.vms_kinds.specs.declared.Kind.TheVariants.{I8}
-use Rattle.dev_base.specs.Cells.{cell_at}
-use Rattle.dev_base.specs.declared.limits.TheConstants.{LAST_MOMENT}
-use Rattle.dev_serial.specs.Access.{lsr_of}
-use Rattle.dev_base.specs.Bits.{has}
-use Rattle.dev_serial.specs.Cells.{cells_of, IsPortCells}
-use Rattle.dev_serial.specs.Laws.{AreSaved, SavedAreCells}
-use Rattle.dev_serial.specs.Parts.{IsShort}
-use Rattle.dev_serial.specs.Port.{Port, interrupt, id_number, is_thr_empty}
-use Rattle.dev_serial.specs.PortNumbers.{saved, ipending_of, single_byte, fifo_bytes, in_array, in_ring, fcr_number, shift_number, due_number, moment_number}
-use Rattle.dev_serial.specs.Sound.{IsSound, AreBytes, IsShift, IsTimeout}
-use Rattle.dev_serial.specs.Stored.{byte_of, padded, counted_of, ring_of}
-use Rattle.dev_serial.specs.declared.interrupt.Interrupt.{Interrupt}
-use Rattle.dev_serial.specs.declared.interrupt.Interrupt.TheVariants.{LineStatus, ReceivedData, CharacterTimeout, ThrEmpty, NonePending}
-use Rattle.dev_serial.specs.declared.shift.Shift.{Shift}
-use Rattle.dev_serial.specs.declared.trigger.Trigger.{Trigger}
-use Rattle.dev_serial.specs.declared.trigger.Trigger.TheVariants.{One, Four, Eight, Fourteen}
-use Rattle.dev_serial.proofs.FieldLaws.{are_sixteen, IsArrayOf, IsRingOf, InRanges, of_kinds}
-use Rattle.dev_serial.proofs.SavedParts.{array-short, ring-short}
+-- The saved cells are cells of their set, and are restored as a port like the saved one.
+use Rattle.dev_serial.proofs.Facade.{◌≡◌, ℕ, zero, suc, ◌+◌, ◌<◌, ◌≤◌, ◌^◌, Bool, true, false, cond, List, [], ◌∷◌, ◌++◌, map, replicate, ℤ, pos, refl, ap, ◌∙◌}
+use Rattle.dev_serial.proofs.Facade.{arith, append_assoc, length, take, drop, Option, Some, None, sym, subst, ⊎_elim, ◌&&◌, not, Ok, range_with_len, nat_le}
+use Rattle.dev_serial.proofs.Facade.{is_some, cases_lt, leb-true, and_parts, ints, get_or-append-add, get_or_append_left, get_or-map, get_or_past, and_le_r}
+use Rattle.dev_serial.proofs.Facade.{nat_tests, serial_rows, InRange, U8, I8, of_none, of_more, byte, word, timer, AllHold, one_holds, of_rows, AllLack}
+use Rattle.dev_serial.proofs.Facade.{none_lacks, carried_rows, AreOf, firsts, cell_at, since, named, field_cells, array_cells, ring_cells, cells_of, kinds}
+use Rattle.dev_serial.proofs.Facade.{IsPortCells, carried, numbers_of, FIFOS_SINCE, TIMEOUT_SINCE, RINGS_SINCE, PortNumbers, Counted, Ring, NEWEST, LAST_MOMENT}
+use Rattle.dev_serial.proofs.Facade.{lsr_of, is_empty, has, AreSaved, SavedAreCells, SavedComesBack, IsShort, Port, interrupt, id_number, is_thr_empty, saved}
+use Rattle.dev_serial.proofs.Facade.{ipending_of, single_byte, fifo_bytes, in_array, in_ring, fcr_number, shift_number, due_number, moment_number, IsSound}
+use Rattle.dev_serial.proofs.Facade.{AreBytes, IsShift, IsTimeout, Alike, byte_of, padded, counted_of, ring_of, Interrupt, LineStatus, ReceivedData}
+use Rattle.dev_serial.proofs.Facade.{CharacterTimeout, ThrEmpty, NonePending, Shift, Trigger, One, Four, Eight, Fourteen, RX, TX_COUNT, TX, TIMEOUT_AT, Numbers}
+use Rattle.dev_serial.proofs.Facade.{hook_result, CanSave, CanRestore, cells_at, hook_restored}
+use Rattle.dev_serial.proofs.SavedLaw.{array-short, ring-short, restored-saved}
 use Rattle.dev_serial.proofs.StoredLaws.{byte_of-lt, byte_of-padded}
-use Rattle.dev_serial.proofs.TruthTables.{lsr-status}
-use Rattle.vms_fields.specs.declared.serial.TheConstants.{RX, TX_COUNT, TX, TIMEOUT_AT}
+use Rattle.dev_serial.proofs.AlikeLaws.{lsr-status}
+
+-- ---- the numbers in each row of the list of fields
+
+-- The sixteen elements are bytes.
+abbrev pub AreSixteen : List ℕ → Type 0
+AreSixteen bytes = AreOf (replicate 16 U8) (map pos bytes)
+
+run : (f : ℕ → ℕ) (a n : ℕ) → ((i : ℕ) → a ≤ i → i < a + n → f i < 256) → AreOf (replicate n U8) (map pos (map f (range_with_len a n)))
+run f a zero h = of_none
+run f a (suc n) h =
+    of_more U8 (pos (f a)) (replicate n U8) (map pos (map f (range_with_len (a + 1) n))) (byte (f a) (h a (omega arith) (omega arith)))
+    (run f (a + 1) n (λ i l m. h i (omega arith) (omega arith)))
+
+pub are_sixteen : (f : ℕ → ℕ) → ((i : ℕ) → i < 16 → f i < 256) → AreSixteen (firsts 16 f)
+are_sixteen f h = run f 0 16 (λ i l m. h i (omega (arith, m)))
+
+pub record IsArrayOf (array : Counted) : Type 0 where
+  pub count : array.count < 256
+  pub bytes : AreSixteen array.bytes
+
+pub record IsRingOf (ring : Ring) : Type 0 where
+  pub elements : AreSixteen ring.elements
+  pub head : ring.head < 256
+  pub number : ring.number < 256
+
+-- Each number is in the range of its kind.
+pub record InRanges (n : PortNumbers) : Type 0 where
+  pub divisor : n.divisor < 2 ^ 16
+  pub ier : n.ier < 256
+  pub iir : n.iir < 256
+  pub lcr : n.lcr < 256
+  pub mcr : n.mcr < 256
+  pub lsr : n.lsr < 256
+  pub scr : n.scr < 256
+  pub rbr : n.rbr < 256
+  pub thr : n.thr < 256
+  pub tsr : n.tsr < 256
+  pub tx_due : n.tx_due < 2 ^ 64
+  pub fcr : n.fcr < 256
+  pub thr_ipending : InRange I8 n.thr_ipending
+  pub rx : IsArrayOf n.rx
+  pub tx : IsArrayOf n.tx
+  pub timeout_at : n.timeout_at < 2 ^ 64
+  pub rx_ring : IsRingOf n.rx_ring
+  pub tx_ring : IsRingOf n.tx_ring
+
+pub holds : (n : PortNumbers) → InRanges n → AllHold (named n) serial_rows
+holds n r =
+    one_holds _ _ (word _ r.divisor) (one_holds _ _ (byte _ r.ier) (one_holds _ _ (byte _ r.iir) (one_holds _ _ (byte _ r.lcr)
+    (one_holds _ _ (byte _ r.mcr) (one_holds _ _ (byte _ r.lsr) (one_holds _ _ (byte _ r.scr) (one_holds _ _ (byte _ r.rbr)
+    (one_holds _ _ (byte _ r.thr) (one_holds _ _ (byte _ r.tsr) (one_holds _ _ (timer _ r.tx_due) (one_holds _ _ (byte _ r.fcr)
+    (one_holds _ _ r.thr_ipending (one_holds _ _ (byte _ r.rx.count) (
+      r.rx.bytes,
+      one_holds _ _ (byte _ r.tx.count) (
+        r.tx.bytes,
+        one_holds _ _ (timer _ r.timeout_at) (
+          r.rx_ring.elements,
+          one_holds _ _ (byte _ r.rx_ring.head) (one_holds _ _ (byte _ r.rx_ring.number)
+              (r.tx_ring.elements, one_holds _ _ (byte _ r.tx_ring.head) (one_holds _ _ (byte _ r.tx_ring.number) tt))),
+        ),
+      ),
+    ))))))))))))))
+
+pub of_kinds : (set : ℕ) (n : PortNumbers) → InRanges n → AreOf (kinds set) (cells_of set n)
+unfolding cells_of
+of_kinds set n r = of_rows (named n) set serial_rows (holds n r)
+
+-- ---- parts
+
+-- A counted array is two rows, and a ring three.
+array_rows : (has : Bool) (count : ℤ) (bytes rest : List ℤ) → cond has (count ∷ bytes) [] ++ rest ≡ cond has (count ∷ []) [] ++ (cond has bytes [] ++ rest)
+array_rows true count bytes rest = refl
+array_rows false count bytes rest = refl
+
+ring_rows : (has : Bool) (elements : List ℤ) (head number : ℤ) (rest : List ℤ)
+    → cond has (elements ++ head ∷ number ∷ []) [] ++ rest ≡ cond has elements [] ++ (cond has (head ∷ []) [] ++ (cond has (number ∷ []) [] ++ rest))
+ring_rows true elements head number rest = append_assoc elements (head ∷ number ∷ []) rest
+ring_rows false elements head number rest = refl
+
+last_rows : (has : Bool) (elements : List ℤ) (head number : ℤ)
+    → cond has (elements ++ head ∷ number ∷ []) [] ≡ cond has elements [] ++ (cond has (head ∷ []) [] ++ (cond has (number ∷ []) [] ++ []))
+last_rows true elements head number = refl
+last_rows false elements head number = refl
+
+to_right : (a b c d e f g h : List ℤ) → a ++ b ++ c ++ d ++ e ++ f ++ g ++ h ≡ a ++ (b ++ (c ++ (d ++ (e ++ (f ++ (g ++ h))))))
+to_right a b c d e f g h = simp append_assoc refl
+
+-- The cells in the order in which code appends them.
+abbrev pub parts : ℕ → PortNumbers → List ℤ
+parts set n =
+    field_cells n ++ since FIFOS_SINCE set (pos n.fcr ∷ []) ++ n.thr_ipending ∷ []
+    ++ since FIFOS_SINCE set (array_cells n.rx) ++ since FIFOS_SINCE set (array_cells n.tx)
+    ++ since TIMEOUT_SINCE set (pos n.timeout_at ∷ [])
+    ++ since RINGS_SINCE set (ring_cells n.rx_ring) ++ since RINGS_SINCE set (ring_cells n.tx_ring)
+
+pub parts_are : (set : ℕ) (n : PortNumbers) → parts set n ≡ cells_of set n
+unfolding field_cells array_cells ring_cells cells_of
+parts_are set n =
+    let arrays = nat_le 2 set in
+    let rings = nat_le 4 set in
+    let fcr = cond arrays (pos n.fcr ∷ []) [] in
+    let rx = cond arrays (pos n.rx.count ∷ map pos n.rx.bytes) [] in
+    let tx = cond arrays (pos n.tx.count ∷ map pos n.tx.bytes) [] in
+    let timeout = cond (nat_le 3 set) (pos n.timeout_at ∷ []) [] in
+    let rx_ring = cond rings (map pos n.rx_ring.elements ++ pos n.rx_ring.head ∷ pos n.rx_ring.number ∷ []) [] in
+    let tx_ring = cond rings (map pos n.tx_ring.elements ++ pos n.tx_ring.head ∷ pos n.tx_ring.number ∷ []) [] in
+    let both = ap (λ (l : List ℤ). rx_ring ++ l) (last_rows rings (map pos n.tx_ring.elements) (pos n.tx_ring.head) (pos n.tx_ring.number))
+    ∙ ring_rows rings (map pos n.rx_ring.elements) (pos n.rx_ring.head) (pos n.rx_ring.number) _ in
+    to_right (field_cells n) fcr (n.thr_ipending ∷ []) rx tx timeout rx_ring tx_ring
+    ∙ ap (λ (l : List ℤ). field_cells n ++ (fcr ++ (n.thr_ipending ∷ l)))
+    (ap (λ (l : List ℤ). rx ++ (tx ++ (timeout ++ l))) both
+    ∙ ap (λ (l : List ℤ). rx ++ l) (array_rows arrays (pos n.tx.count) (map pos n.tx.bytes) _)
+    ∙ array_rows arrays (pos n.rx.count) (map pos n.rx.bytes) _)
+
+-- ---- saved cells
 
 -- the numbers of a sound port are in their kinds' ranges
 id-range : (interrupt : Interrupt) → id_number interrupt < 256
@@ -76,16 +175,10 @@ lsr-range : (now : ℕ) (port : Port) → now ≤ LAST_MOMENT → IsSound now po
 lsr-range now port h s = let m = (lsr-status port).mask in omega (arith, and_le_r (lsr_of port) 0x63)
 
 array-bytes : (set : ℕ) (fifos : Option Trigger) (bytes : List ℕ) → AreBytes bytes → AreBytes (in_array set fifos bytes)
-array-bytes set fifos bytes b = at (nat_le 4 set) where
-  at : (is : Bool) → AreBytes (cond is [] (fifo_bytes fifos bytes))
-  at true = tt
-  at false = fifo-range fifos bytes b
+array-bytes set fifos bytes b = elim (nat_le 4 set) as (λ is. AreBytes (cond is [] (fifo_bytes fifos bytes))) [ true ↦ tt | false ↦ fifo-range fifos bytes b ]
 
 ring-bytes : (set : ℕ) (fifos : Option Trigger) (bytes : List ℕ) → AreBytes bytes → AreBytes (in_ring set fifos bytes)
-ring-bytes set fifos bytes b = at (nat_le 4 set) where
-  at : (is : Bool) → AreBytes (cond is (fifo_bytes fifos bytes) [])
-  at true = fifo-range fifos bytes b
-  at false = tt
+ring-bytes set fifos bytes b = elim (nat_le 4 set) as (λ is. AreBytes (cond is (fifo_bytes fifos bytes) [])) [ true ↦ fifo-range fifos bytes b | false ↦ tt ]
 
 small : (n : ℕ) → n ≤ 16 → n < 256
 small n h = omega arith
@@ -138,7 +231,8 @@ each_set P set low high a b c d =
     (cases_lt set 4)) (cases_lt set 3)) (cases_lt set 2)
 
 -- a counted array by its index: the elements after the count are 0 from the count on
-zero-from : (front back : List ℤ) (bytes : List ℕ) (i : ℕ) → length bytes ≤ i → i < 16 → cell_at (front ++ (map pos (padded bytes) ++ back)) (length front + i) ≡ pos 0
+zero-from : (front back : List ℤ) (bytes : List ℕ) (i : ℕ) → length bytes ≤ i → i < 16
+    → cell_at (front ++ (map pos (padded bytes) ++ back)) (length front + i) ≡ pos 0
 zero-from front back bytes i low high =
     get_or-append-add front (map pos (padded bytes) ++ back) i (pos 0)
     ∙ get_or_append_left (map pos (padded bytes)) back (pos 0) i high
@@ -175,8 +269,16 @@ module _ (now : ℕ) (port : Port) (early : now ≤ LAST_MOMENT) (sound : IsSoun
   unfolding cells_of saved
   saved-2 = record {
     of_kinds = of_kinds 2 _ (in-ranges 2 now port early sound);
-    rx = λ h. record { fits = array-short 2 port.fifos port.receiver.held sound.receiver.short; zeros = zero-from (take RX (cells 2)) (drop TX_COUNT (cells 2)) (first 2) };
-    tx = λ h. record { fits = array-short 2 port.fifos port.transmitter.waiting sound.transmitter.short; zeros = zero-from (take TX (cells 2)) (drop TIMEOUT_AT (cells 2)) (second 2) };
+    rx = λ h. record {
+      fits = array-short 2 port.fifos port.receiver.held sound.receiver.short;
+      zeros = zero-from (take RX (cells 2))
+          (drop TX_COUNT (cells 2)) (first 2);
+    };
+    tx = λ h. record {
+      fits = array-short 2 port.fifos port.transmitter.waiting sound.transmitter.short;
+      zeros = zero-from (take TX (cells 2))
+          (drop TIMEOUT_AT (cells 2)) (second 2);
+    };
     no_fifo = λ h a b. no-arrays (first 2) (second 2) a b;
     no_ring = λ h. absurd (omega arith);
   }
@@ -185,8 +287,16 @@ module _ (now : ℕ) (port : Port) (early : now ≤ LAST_MOMENT) (sound : IsSoun
   unfolding cells_of saved
   saved-3 = record {
     of_kinds = of_kinds 3 _ (in-ranges 3 now port early sound);
-    rx = λ h. record { fits = array-short 3 port.fifos port.receiver.held sound.receiver.short; zeros = zero-from (take RX (cells 3)) (drop TX_COUNT (cells 3)) (first 3) };
-    tx = λ h. record { fits = array-short 3 port.fifos port.transmitter.waiting sound.transmitter.short; zeros = zero-from (take TX (cells 3)) (drop TIMEOUT_AT (cells 3)) (second 3) };
+    rx = λ h. record {
+      fits = array-short 3 port.fifos port.receiver.held sound.receiver.short;
+      zeros = zero-from (take RX (cells 3))
+          (drop TX_COUNT (cells 3)) (first 3);
+    };
+    tx = λ h. record {
+      fits = array-short 3 port.fifos port.transmitter.waiting sound.transmitter.short;
+      zeros = zero-from (take TX (cells 3))
+          (drop TIMEOUT_AT (cells 3)) (second 3);
+    };
     no_fifo = λ h a b. no-arrays (first 3) (second 3) a b;
     no_ring = λ h. absurd (omega arith);
   }
@@ -195,8 +305,16 @@ module _ (now : ℕ) (port : Port) (early : now ≤ LAST_MOMENT) (sound : IsSoun
   unfolding cells_of saved
   saved-4 = record {
     of_kinds = of_kinds 4 _ (in-ranges 4 now port early sound);
-    rx = λ h. record { fits = array-short 4 port.fifos port.receiver.held sound.receiver.short; zeros = zero-from (take RX (cells 4)) (drop TX_COUNT (cells 4)) (first 4) };
-    tx = λ h. record { fits = array-short 4 port.fifos port.transmitter.waiting sound.transmitter.short; zeros = zero-from (take TX (cells 4)) (drop TIMEOUT_AT (cells 4)) (second 4) };
+    rx = λ h. record {
+      fits = array-short 4 port.fifos port.receiver.held sound.receiver.short;
+      zeros = zero-from (take RX (cells 4))
+          (drop TX_COUNT (cells 4)) (first 4);
+    };
+    tx = λ h. record {
+      fits = array-short 4 port.fifos port.transmitter.waiting sound.transmitter.short;
+      zeros = zero-from (take TX (cells 4))
+          (drop TIMEOUT_AT (cells 4)) (second 4);
+    };
     no_fifo = λ h a b. no-arrays (first 4) (second 4) a b;
     no_ring = λ h a b. no-rings (in_ring 4 port.fifos port.receiver.held) (in_ring 4 port.fifos port.transmitter.waiting) a b;
   }
@@ -208,8 +326,16 @@ module _ (now : ℕ) (port : Port) (early : now ≤ LAST_MOMENT) (sound : IsSoun
       let all = cells_of 4 (saved set now port) in
       record {
         of_kinds = of_kinds 4 _ (in-ranges set now port early sound);
-        rx = record { fits = array-short set port.fifos port.receiver.held sound.receiver.short; zeros = zero-from (take RX all) (drop TX_COUNT all) (first set) };
-        tx = record { fits = array-short set port.fifos port.transmitter.waiting sound.transmitter.short; zeros = zero-from (take TX all) (drop TIMEOUT_AT all) (second set) };
+        rx = record {
+          fits = array-short set port.fifos port.receiver.held sound.receiver.short;
+          zeros = zero-from (take RX all) (drop TX_COUNT all)
+              (first set);
+        };
+        tx = record {
+          fits = array-short set port.fifos port.transmitter.waiting sound.transmitter.short;
+          zeros = zero-from (take TX all)
+              (drop TIMEOUT_AT all) (second set);
+        };
       }
 
   pub are-saved : (set : ℕ) → 1 ≤ set → set ≤ NEWEST → AreSaved set (cells set)
@@ -221,3 +347,109 @@ saved_are_cells numbers port can sound =
     let own = can.own_level in
     let low = can.level_le_set in
     are-saved numbers.moment port can.moment sound numbers.set (omega arith) can.set_le_newest
+
+-- ---- cells carried to the newest set
+
+-- the newest set's cells are the numbers
+pub numbers-back : (set now : ℕ) (port : Port) → numbers_of (cells_of 4 (saved set now port)) ≡ saved set now port
+unfolding numbers_of cells_of saved
+numbers-back set now port = refl
+
+-- a port of an early level lacks what an older set lacks
+off-early : (now : ℕ) (port : Port) → IsSound now port → port.level < 2 → port.fifos ≡ None
+off-early now port s early = at port.fifos (λ on. let h = s.registers.fifos on in omega arith) where
+  at : (fifos : Option Trigger) → (is_some fifos ≡ true → 2 ≤ port.level) → fifos ≡ None
+  at None h = refl
+  at (Some trigger) h = absurd (let l = h refl in omega arith)
+
+no-timeout : (now : ℕ) (port : Port) → IsSound now port → port.level < 3 → port.receiver.timeout ≡ None
+no-timeout now port s early = none_at port.receiver.timeout s.receiver.timeout where
+  none_at : (timeout : Option ℕ) → IsTimeout now (nat_le 3 port.level && (is_some port.fifos && not (is_empty port.receiver.held))) timeout → timeout ≡ None
+  none_at None t = refl
+  none_at (Some moment) t = let h = leb-true 3 port.level (and_parts _ _ t.runs_now).0 in absurd (omega arith)
+
+no-array : (set : ℕ) (bytes : List ℕ) → in_array set None bytes ≡ []
+no-array set bytes = elim (nat_le 4 set) as (λ is. cond is [] (fifo_bytes None bytes) ≡ []) [ true ↦ refl | false ↦ refl ]
+
+module _ (set now : ℕ) (port : Port) (early : now ≤ LAST_MOMENT) (s : IsSound now port) (le : port.level ≤ set) where
+  off : nat_le 2 set ≡ false → port.fifos ≡ None
+  off e = off-early now port s (grind (arith, nat_tests))
+
+  empty : (bytes : List ℕ) → nat_le 2 set ≡ false → in_array set port.fifos bytes ≡ []
+  empty bytes e = rw (off e) (no-array set bytes)
+
+  no-ring : (bytes : List ℕ) → nat_le 4 set ≡ false → in_ring set port.fifos bytes ≡ []
+  no-ring bytes e = rw e refl
+
+  -- no bytes
+  no_bytes : (bytes : List ℕ) → bytes ≡ [] → map pos (padded bytes) ≡ replicate 16 (pos 0)
+  no_bytes bytes e = ap (λ (l : List ℕ). map pos (padded l)) e
+
+  no_count : (bytes : List ℕ) → bytes ≡ [] → (pos (length bytes) ∷ []) ≡ (pos 0 ∷ [])
+  no_count bytes e = ap (λ (l : List ℕ). pos (length l) ∷ []) e
+
+  lacks : AllLack (named (saved set now port)) set serial_rows
+  unfolding saved
+  lacks =
+      let n = named (saved set now port) in
+      let held = port.receiver.held in
+      let waiting = port.transmitter.waiting in
+      none_lacks n set (take 11 serial_rows) (drop 11 serial_rows) refl (
+        λ e. ap (λ (fifos : Option Trigger). pos (fcr_number fifos) ∷ []) (off e),
+        none_lacks n set (take 1 (drop 12 serial_rows)) (drop 13 serial_rows) refl (
+          λ e. no_count _ (empty held e),
+          (
+            λ e. no_bytes _ (empty held e),
+            (
+              λ e. no_count _ (empty waiting e),
+              (
+                λ e. no_bytes _ (empty waiting e),
+                (
+                  λ e. ap (λ (timeout : Option ℕ). pos (moment_number timeout) ∷ []) (no-timeout now port s (grind (arith, nat_tests))),
+                  (
+                    λ e. no_bytes _ (no-ring held e),
+                    (
+                      λ e. refl,
+                      (
+                        λ e. no_count _ (no-ring held e),
+                        (λ e. no_bytes _ (no-ring waiting e), (λ e. refl, (λ e. no_count _ (no-ring waiting e), tt))),
+                      ),
+                    ),
+                  ),
+                ),
+              ),
+            ),
+          ),
+        ),
+      )
+
+  -- under every set from the port's level on, the cells are carried to those of the newest set
+  pub carried-saved : carried set (cells_of set (saved set now port)) ≡ cells_of 4 (saved set now port)
+  unfolding carried cells_of
+  carried-saved = carried_rows (named (saved set now port)) set serial_rows (holds _ (in-ranges set now port early s)) lacks [] 0 refl
+
+-- ---- a saved port comes back
+
+module _ (numbers : Numbers) (port : Port) (can : CanSave numbers port) (sound : IsSound numbers.moment port) where
+  abbrev newest : Numbers
+  newest = record numbers { set = NEWEST }
+
+  same : carried numbers.set (cells_at numbers port) ≡ cells_of 4 (saved numbers.set numbers.moment port)
+  same = carried-saved numbers.set numbers.moment port can.moment sound (let l = can.level_le_set in let e = can.own_level in omega arith)
+
+  may : CanRestore newest (carried numbers.set (cells_at numbers port))
+  may = record {
+    pass = record { is_level = rw can.own_level can.is_level; newest_set = refl; moment = can.moment };
+    port_cells = rw same (newest-cells numbers.moment port can.moment sound numbers.set);
+  }
+
+  back : (other : Port) × (hook_restored newest (carried numbers.set (cells_at numbers port)) ≡ Ok other) × Alike port other
+  unfolding hook_result
+  back =
+      let r = restored-saved numbers.set numbers.moment port can.moment sound in
+      (r.0, rw (same, numbers-back numbers.set numbers.moment port, can.own_level, r.1) refl, r.2)
+
+pub saved_comes_back : SavedComesBack
+saved_comes_back numbers port can sound =
+    let b = back numbers port can sound in
+    record { may = may numbers port can sound; back = b.0; restored = b.1; alike = b.2 }

@@ -1,25 +1,235 @@
 -- The bytes that leave, and their moments.
-use Rattle.std.proofs.Common.{◌≡◌, ℕ, ◌+◌, ◌<◌, ◌≤◌, Bool, true, false, not, ◌&&◌, cond, List, ◌∷◌, ◌++◌, length, Option, Some, None, refl, sym, ap, ◌∙◌, arith, append_assoc, append-nil, []}
-use Rattle.std.proofs.lemmas.Bool.{le-leb, lt-leb, eqb-true, eq-eqb, not-false}
-use Rattle.std.proofs.lemmas.List.{map-append}
-use Rattle.std.proofs.Math.Nat.{le-max_right}
-use Rattle.std.proofs.lemmas.Nat.{le-div}
-use Rattle.std.specs.Prelude.{nat_lt, is_some}
-use Rattle.dev_serial.specs.Access.{is_empty, thr_written, advanced, leaving}
-use Rattle.dev_base.specs.Bits.{has}
-use Rattle.dev_serial.specs.Line.{character_time}
-use Rattle.dev_serial.specs.Parts.{ReceiverState, TransmitterState}
-use Rattle.dev_serial.specs.Port.{Port, mode_of}
-use Rattle.dev_serial.specs.Receive.{received}
-use Rattle.dev_serial.specs.Sending.{Event, Writes, Advances, after, after_all, left_in, left_in_all, accepted_in, accepted_in_all, replaces, pending, SendsInOrder, ReplacesOne, LeavesForLine, AdvancesInParts, WaitsUntilDue, LoopsAtMoment}
-use Rattle.dev_serial.specs.Transmit.{IsSentAfter, timetable, departures, gone, staying, holding, arrived, on_line, looped_in, run_until, gone_by, bytes_of, byte_of, pending_of, queued, loaded}
-use Rattle.dev_serial.specs.declared.mode.Mode.{Mode}
-use Rattle.dev_serial.specs.declared.shift.Shift.{Shift}
-use Rattle.dev_serial.proofs.SendLemmas.{bytes_of-timetable, looped_none}
-use Rattle.dev_serial.proofs.Timetables.{gone_by-twice, run-twice, fewer, in-order}
+use Rattle.dev_serial.proofs.Facade.{◌≡◌, ℕ, ◌+◌, ◌<◌, ◌≤◌, Bool, true, false, cond, List, [], ◌∷◌, ◌++◌, length, Some, None, refl, sym, ap, ◌∙◌, arith}
+use Rattle.dev_serial.proofs.Facade.{append_assoc, append-nil, get_or, suc, ◌-◌, Option, not, ◌&&◌, nat_tests, nat_le, remove, nat_lt, is_some, leb-true}
+use Rattle.dev_serial.proofs.Facade.{le-leb, lt-leb, eqb-true, eq-eqb, not-false, map-append, length-map, le-max_right, le-div, ReceiverState, TransmitterState}
+use Rattle.dev_serial.proofs.Facade.{timetable, departures, gone, staying, holding, arrived, on_line, looped_in, bytes_of, run_until, gone_by, pending_of}
+use Rattle.dev_serial.proofs.Facade.{IsSentAfter, queued, loaded, Mode, Shift, is_empty, thr_written, advanced, leaving, has, character_time, Port, mode_of}
+use Rattle.dev_serial.proofs.Facade.{received, Event, Writes, Advances, after, after_all, left_in, left_in_all, accepted_in, accepted_in_all, replaces, pending}
+use Rattle.dev_serial.proofs.Facade.{SendsInOrder, ReplacesOne, LeavesForLine, AdvancesInParts, WaitsUntilDue, LoopsAtMoment}
+use Rattle.dev_serial.specs.Transmit.{byte_of}
+
+-- ---- one byte at a time
+
+not_yet : (due to : ℕ) → to < due → nat_le due to ≡ false
+not_yet due to h = grind (arith, nat_tests)
+
+due_by : (due to : ℕ) → due ≤ to → nat_le due to ≡ true
+due_by due to h = grind (arith, nat_tests)
+
+-- a timetable is of its bytes
+pub bytes_of-timetable : (character due : ℕ) (bytes : List ℕ) → bytes_of (timetable character due bytes) ≡ bytes
+unfolding timetable
+bytes_of-timetable character due [] = refl
+bytes_of-timetable character due (byte ∷ bytes) = ap (λ (xs : List ℕ). byte ∷ xs) (bytes_of-timetable character (due + character) bytes)
+
+bytes_on_line : (looped : Bool) (byte : ℕ) (bytes line : List ℕ)
+    → (line ++ cond looped [] (byte ∷ [])) ++ cond looped [] bytes ≡ line ++ cond looped [] (byte ∷ bytes)
+bytes_on_line true byte bytes line = simp append-nil
+bytes_on_line false byte bytes line = simp append_assoc
+
+none_on_line : (looped : Bool) (line : List ℕ) → line ++ cond looped [] [] ≡ line
+none_on_line true line = append-nil line
+none_on_line false line = append-nil line
+
+looped_more : (looped : Bool) (mode : Mode) (shift : Shift) (later : List Shift) (receiver : ReceiverState) → cond looped (arrived mode (shift ∷ later) receiver) receiver ≡ cond looped (arrived mode later (cond looped (arrived mode (shift ∷ []) receiver) receiver)) (cond looped (arrived mode (shift ∷ []) receiver) receiver)
+unfolding arrived
+looped_more true mode shift later receiver = refl
+looped_more false mode shift later receiver = refl
+
+pub looped_none : (looped : Bool) (mode : Mode) (receiver : ReceiverState) → cond looped (arrived mode [] receiver) receiver ≡ receiver
+unfolding arrived
+looped_none true mode receiver = refl
+looped_none false mode receiver = refl
+
+module _ (mode : Mode) (to : ℕ) (shift : Shift) where
+  -- the byte in the shift register is not due
+  module _ (h : to < shift.due) where
+    none-gone : (waiting : List ℕ) → gone to (departures mode.character (Some shift) waiting) ≡ []
+    unfolding departures timetable gone
+    none-gone waiting = rw (not_yet shift.due to h)
+
+    pub stays-left : (whole : List Shift) (waiting : List ℕ) → whole ≡ staying to (departures mode.character (Some shift) waiting)
+        → record { waiting = waiting; shift = Some shift } ≡ holding whole
+    unfolding departures timetable staying holding
+    stays-left whole waiting e = rw (e, not_yet shift.due to h, bytes_of-timetable mode.character (shift.due + mode.character) waiting)
+
+    pub stays-line : (whole line waiting : List ℕ) → whole ≡ line ++ on_line mode (gone to (departures mode.character (Some shift) waiting)) → line ≡ whole
+    stays-line whole line waiting e = sym (e ∙ rw (none-gone waiting) (none_on_line mode.is_looped line))
+
+    pub stays-looped : (whole receiver : ReceiverState) (waiting : List ℕ)
+        → whole ≡ looped_in mode (gone to (departures mode.character (Some shift) waiting)) receiver → receiver ≡ whole
+    stays-looped whole receiver waiting e = sym (e ∙ rw (none-gone waiting) (looped_none mode.is_looped mode receiver))
+
+  -- it is due
+  module _ (h : shift.due ≤ to) where
+    -- and no byte waits after it
+    pub ends-left : (whole : List Shift) (waiting : List ℕ) → whole ≡ staying to (departures mode.character (Some shift) waiting) → length waiting ≡ 0
+        → record { waiting = waiting; shift = None } ≡ holding whole
+    unfolding departures timetable staying holding
+    ends-left whole [] e z = rw (e, due_by shift.due to h)
+    ends-left whole (x ∷ xs) e z = absurd (omega arith)
+
+    one-gone : (waiting : List ℕ) → length waiting ≡ 0 → gone to (departures mode.character (Some shift) waiting) ≡ shift ∷ []
+    unfolding departures timetable gone
+    one-gone [] z = rw (due_by shift.due to h)
+    one-gone (x ∷ xs) z = absurd (omega arith)
+
+    pub ends-line : (whole line longer waiting : List ℕ) → longer ≡ line ++ on_line mode (shift ∷ [])
+        → whole ≡ line ++ on_line mode (gone to (departures mode.character (Some shift) waiting)) → length waiting ≡ 0 → longer ≡ whole
+    ends-line whole line longer waiting l e z = l ∙ sym (e ∙ rw (one-gone waiting z))
+
+    pub ends-looped : (whole receiver after : ReceiverState) (waiting : List ℕ) → after ≡ looped_in mode (shift ∷ []) receiver
+        → whole ≡ looped_in mode (gone to (departures mode.character (Some shift) waiting)) receiver → length waiting ≡ 0 → after ≡ whole
+    ends-looped whole receiver after waiting l e z = l ∙ sym (e ∙ rw (one-gone waiting z))
+
+    -- and a byte follows it
+    gone-next : (waiting rest : List ℕ) (next : ℕ) → 0 < length waiting → next ≡ get_or waiting 0 next → rest ≡ remove waiting 0 → gone to (departures mode.character (Some shift) waiting) ≡ shift ∷ gone to (departures mode.character (Some (record { byte = next; due = shift.due + mode.character })) rest)
+    unfolding departures timetable gone
+    gone-next [] rest next l n r = absurd (omega arith)
+    gone-next (x ∷ xs) rest next l n r = rw (due_by shift.due to h, n, r)
+
+    pub moves-left : (whole : List Shift) (waiting rest : List ℕ) (next : ℕ) → next ≡ get_or waiting 0 next → rest ≡ remove waiting 0 → whole ≡ staying to (departures mode.character (Some shift) waiting) → 0 < length waiting → whole ≡ staying to (departures mode.character (Some (record { byte = next; due = shift.due + mode.character })) rest)
+    unfolding departures timetable staying
+    moves-left whole [] rest next n r e l = absurd (omega arith)
+    moves-left whole (x ∷ xs) rest next n r e l = e ∙ rw (due_by shift.due to h, n, r)
+
+    pub moves-line : (whole line longer waiting rest : List ℕ) (next : ℕ) → next ≡ get_or waiting 0 next → rest ≡ remove waiting 0 → longer ≡ line ++ on_line mode (shift ∷ []) → whole ≡ line ++ on_line mode (gone to (departures mode.character (Some shift) waiting)) → 0 < length waiting → whole ≡ longer ++ on_line mode (gone to (departures mode.character (Some (record { byte = next; due = shift.due + mode.character })) rest))
+    moves-line whole line longer waiting rest next n r is e l =
+        e ∙ rw (gone-next waiting rest next l n r, is) (sym (bytes_on_line mode.is_looped shift.byte _ line))
+
+    pub moves-looped : (whole receiver after : ReceiverState) (waiting rest : List ℕ) (next : ℕ) → next ≡ get_or waiting 0 next → rest ≡ remove waiting 0 → after ≡ looped_in mode (shift ∷ []) receiver → whole ≡ looped_in mode (gone to (departures mode.character (Some shift) waiting)) receiver → 0 < length waiting → whole ≡ looped_in mode (gone to (departures mode.character (Some (record { byte = next; due = shift.due + mode.character })) rest)) after
+    moves-looped whole receiver after waiting rest next n r is e l =
+        e ∙ rw (gone-next waiting rest next l n r, is) (looped_more mode.is_looped mode shift _ receiver)
+
+-- ---- timetables, and what leaves by them
+
+-- the bytes that leave and those that stay are the whole timetable
+pub gone-staying : (to : ℕ) (shifts : List Shift) → gone to shifts ++ staying to shifts ≡ shifts
+unfolding gone staying
+gone-staying to [] = refl
+gone-staying to (shift ∷ later) = by_test (gone-staying to later) (nat_le shift.due to) where
+  by_test : gone to later ++ staying to later ≡ later → (b : Bool)
+      → cond b (shift ∷ gone to later) [] ++ cond b (staying to later) (shift ∷ later) ≡ shift ∷ later
+  by_test rest true = ap (λ (xs : List Shift). shift ∷ xs) rest
+  by_test rest false = refl
+
+staying-step : (a b : ℕ) (shift : Shift) (later : List Shift) (t : Bool) → nat_le shift.due a ≡ t → a ≤ b → staying b (staying a later) ≡ staying b later
+    → staying b (cond t (staying a later) (shift ∷ later)) ≡ cond (nat_le shift.due b) (staying b later) (shift ∷ later)
+unfolding staying
+staying-step a b shift later true e h rest = let l = leb-true shift.due a e in rw (le-leb shift.due b (omega arith)) rest
+staying-step a b shift later false e h rest = refl
+
+-- up to one moment and then up to a later one is up to the later one
+pub staying-twice : (a b : ℕ) (shifts : List Shift) → a ≤ b → staying b (staying a shifts) ≡ staying b shifts
+unfolding staying
+staying-twice a b [] h = refl
+staying-twice a b (shift ∷ later) h = staying-step a b shift later (nat_le shift.due a) refl h (staying-twice a b later h)
+
+gone-step : (a b : ℕ) (shift : Shift) (later : List Shift) (t : Bool) → nat_le shift.due a ≡ t → a ≤ b → gone a later ++ gone b (staying a later) ≡ gone b later → cond t (shift ∷ gone a later) [] ++ gone b (cond t (staying a later) (shift ∷ later)) ≡ cond (nat_le shift.due b) (shift ∷ gone b later) []
+unfolding gone
+gone-step a b shift later true e h rest = let l = leb-true shift.due a e in rw (le-leb shift.due b (omega arith)) (ap (λ (xs : List Shift). shift ∷ xs) rest)
+gone-step a b shift later false e h rest = refl
+
+pub gone-twice : (a b : ℕ) (shifts : List Shift) → a ≤ b → gone a shifts ++ gone b (staying a shifts) ≡ gone b shifts
+unfolding gone staying
+gone-twice a b [] h = refl
+gone-twice a b (shift ∷ later) h = gone-step a b shift later (nat_le shift.due a) refl h (gone-twice a b later h)
+
+-- the rest of a timetable is one
+record IsTable (character : ℕ) (shifts : List Shift) : Type 0 where
+  due : ℕ
+  bytes : List ℕ
+  table : shifts ≡ timetable character due bytes
+
+staying-table : (character to due : ℕ) (bytes : List ℕ) → IsTable character (staying to (timetable character due bytes))
+unfolding staying timetable
+staying-table character to due [] = record { due = due; bytes = []; table = refl }
+staying-table character to due (byte ∷ bytes) = by_test (staying-table character to (due + character) bytes) (nat_le due to) where
+  by_test : IsTable character (staying to (timetable character (due + character) bytes)) → (b : Bool) → IsTable character (cond b (staying to (timetable character (due + character) bytes)) (record { byte = byte; due = due } ∷ timetable character (due + character) bytes))
+  by_test rest true = rest
+  by_test rest false = record { due = due; bytes = byte ∷ bytes; table = refl }
+
+departures-table : (character due : ℕ) (bytes : List ℕ)
+    → departures character (holding (timetable character due bytes)).shift (holding (timetable character due bytes)).waiting ≡ timetable character due bytes
+unfolding departures holding timetable
+departures-table character due [] = refl
+departures-table character due (byte ∷ bytes) = rw (bytes_of-timetable character (due + character) bytes)
+
+departures-holding : (character : ℕ) (shifts : List Shift) → IsTable character shifts
+    → departures character (holding shifts).shift (holding shifts).waiting ≡ shifts
+departures-holding character shifts t = rw (t.table) (departures-table character t.due t.bytes)
+
+-- the bytes to send after a moment are the rest of the timetable
+pub departures-later : (character to : ℕ) (shift : Option Shift) (waiting : List ℕ) → departures character (run_until character to shift waiting).shift (run_until character to shift waiting).waiting ≡ staying to (departures character shift waiting)
+unfolding departures run_until staying
+departures-later character to None waiting = refl
+departures-later character to (Some shift) waiting =
+    departures-holding character (staying to (timetable character shift.due (shift.byte ∷ waiting)))
+    (staying-table character to shift.due (shift.byte ∷ waiting))
+
+run-holding : (character to : ℕ) (shifts : List Shift) → IsTable character shifts
+    → run_until character to (holding shifts).shift (holding shifts).waiting ≡ holding (staying to shifts)
+unfolding run_until staying holding
+run-holding character to [] t = refl
+run-holding character to (shift ∷ later) t = ap (λ (xs : List Shift). holding (staying to xs)) (departures-holding character (shift ∷ later) t)
+
+-- the transmitter after two moments is that after the later one
+pub run-twice : (character a b : ℕ) (shift : Option Shift) (waiting : List ℕ) → a ≤ b
+    → run_until character b (run_until character a shift waiting).shift (run_until character a shift waiting).waiting ≡ run_until character b shift waiting
+unfolding run_until departures
+run-twice character a b None waiting h = refl
+run-twice character a b (Some shift) waiting h =
+    run-holding character b (staying a (timetable character shift.due (shift.byte ∷ waiting))) (staying-table character a shift.due (shift.byte ∷ waiting))
+    ∙ ap holding (staying-twice a b (timetable character shift.due (shift.byte ∷ waiting)) h)
+
+pub gone_by-twice : (character a b : ℕ) (shift : Option Shift) (waiting : List ℕ) → a ≤ b → gone_by character a shift waiting ++ gone_by character b (run_until character a shift waiting).shift (run_until character a shift waiting).waiting ≡ gone_by character b shift waiting
+gone_by-twice character a b shift waiting h = rw (departures-later character a shift waiting) (gone-twice a b (departures character shift waiting) h)
+
+-- no more bytes wait than before
+length-staying : (to : ℕ) (shifts : List Shift) → length (staying to shifts) ≤ length shifts
+unfolding staying
+length-staying to [] = omega arith
+length-staying to (shift ∷ later) = by_test (length-staying to later) (nat_le shift.due to) where
+  by_test : length (staying to later) ≤ length later → (b : Bool) → length (cond b (staying to later) (shift ∷ later)) ≤ length (shift ∷ later)
+  by_test rest true = omega arith
+  by_test rest false = omega arith
+
+length-holding : (shifts : List Shift) → length (holding shifts).waiting ≤ length shifts - 1
+unfolding holding
+length-holding [] = omega arith
+length-holding (shift ∷ later) = simp length-map (omega arith)
+
+length-timetable : (character due : ℕ) (bytes : List ℕ) → length (timetable character due bytes) ≡ length bytes
+unfolding timetable
+length-timetable character due [] = refl
+length-timetable character due (byte ∷ bytes) = ap suc (length-timetable character (due + character) bytes)
+
+pub fewer : (character to : ℕ) (shift : Option Shift) (waiting : List ℕ) → length (run_until character to shift waiting).waiting ≤ length waiting
+unfolding run_until departures
+fewer character to None waiting = omega arith
+fewer character to (Some shift) waiting =
+    let table = timetable character shift.due (shift.byte ∷ waiting) in
+    omega (arith, length-holding (staying to table), length-staying to table, length-timetable character shift.due (shift.byte ∷ waiting))
+
+-- the bytes that a transmitter holds, first out first
+pub pending-holding : (shifts : List Shift) → pending_of (holding shifts).shift (holding shifts).waiting ≡ bytes_of shifts
+unfolding holding
+pending-holding [] = refl
+pending-holding (shift ∷ later) = refl
+
+pub in-order : (character to : ℕ) (shift : Option Shift) (waiting : List ℕ) → bytes_of (gone_by character to shift waiting) ++ pending_of (run_until character to shift waiting).shift (run_until character to shift waiting).waiting ≡ pending_of shift waiting
+unfolding run_until departures gone
+in-order character to None waiting = refl
+in-order character to (Some shift) waiting =
+    let table = timetable character shift.due (shift.byte ∷ waiting) in
+    rw (pending-holding (staying to table), ← map-append byte_of (gone to table) (staying to table), gone-staying to table)
+    (bytes_of-timetable character shift.due (shift.byte ∷ waiting))
+
+-- ---- the port
 
 -- the bytes to send after one is written
-pending-loaded : (due : ℕ) (shift : Option Shift) (waiting : List ℕ) → pending_of (loaded due shift waiting).shift (loaded due shift waiting).waiting ≡ pending_of shift waiting
+pending-loaded : (due : ℕ) (shift : Option Shift) (waiting : List ℕ)
+    → pending_of (loaded due shift waiting).shift (loaded due shift waiting).waiting ≡ pending_of shift waiting
 unfolding loaded
 pending-loaded due (Some shift) waiting = refl
 pending-loaded due None [] = refl
@@ -33,7 +243,8 @@ pub none_left : (bytes : List ℕ) → is_empty bytes ≡ true → bytes ≡ []
 none_left [] e = refl
 none_left (byte ∷ bytes) e = let h = eqb-true (length (byte ∷ bytes)) 0 e in absurd (omega arith)
 
-queued-accepted : (has_fifos : Bool) (byte : ℕ) (waiting : List ℕ) → (not has_fifos && not (is_empty waiting)) ≡ false → queued has_fifos byte waiting ≡ waiting ++ cond (has_fifos && not (nat_lt (length waiting) 16)) [] (byte ∷ [])
+queued-accepted : (has_fifos : Bool) (byte : ℕ) (waiting : List ℕ) → (not has_fifos && not (is_empty waiting)) ≡ false
+    → queued has_fifos byte waiting ≡ waiting ++ cond (has_fifos && not (nat_lt (length waiting) 16)) [] (byte ∷ [])
 unfolding queued
 queued-accepted true byte waiting e = by_room (nat_lt (length waiting) 16) where
   by_room : (room : Bool) → cond room (waiting ++ byte ∷ []) waiting ≡ waiting ++ cond (not room) [] (byte ∷ [])
@@ -41,7 +252,8 @@ queued-accepted true byte waiting e = by_room (nat_lt (length waiting) 16) where
   by_room false = sym (append-nil waiting)
 queued-accepted false byte waiting e = rw (none_left waiting (not-false (is_empty waiting) e))
 
-one-event : (event : Event) (port : Port) → replaces event port ≡ false → left_in event port ++ pending (after event port) ≡ pending port ++ accepted_in event port
+one-event : (event : Event) (port : Port) → replaces event port ≡ false
+    → left_in event port ++ pending (after event port) ≡ pending port ++ accepted_in event port
 unfolding thr_written advanced
 one-event (Writes byte now) port e =
     pending-loaded (now + character_time port.divisor port.lcr) port.transmitter.shift (queued (is_some port.fifos) byte port.transmitter.waiting)
@@ -69,7 +281,8 @@ unfolding advanced
 leaves_for_line to port = refl
 
 -- the bytes of two spans, one after the other
-on_line-append : (mode : Mode) (looped : Bool) (xs ys : List Shift) → cond looped [] (bytes_of (xs ++ ys)) ≡ cond looped [] (bytes_of xs) ++ cond looped [] (bytes_of ys)
+on_line-append : (mode : Mode) (looped : Bool) (xs ys : List Shift)
+    → cond looped [] (bytes_of (xs ++ ys)) ≡ cond looped [] (bytes_of xs) ++ cond looped [] (bytes_of ys)
 on_line-append mode true xs ys = refl
 on_line-append mode false xs ys = map-append byte_of xs ys
 
@@ -83,7 +296,8 @@ looped-append mode true xs ys receiver = arrived-append mode xs ys receiver
 looped-append mode false xs ys receiver = refl
 
 -- the latch over two spans
-latch-twice : (before between end latch : Bool) → (before ≡ true → between ≡ true) → (between ≡ true → end ≡ true) → cond (end && not between) true (cond (between && not before) true latch) ≡ cond (end && not before) true latch
+latch-twice : (before between end latch : Bool) → (before ≡ true → between ≡ true) → (between ≡ true → end ≡ true)
+    → cond (end && not between) true (cond (between && not before) true latch) ≡ cond (end && not before) true latch
 latch-twice true between end latch p q = rw (p refl, q (p refl))
 latch-twice false true end latch p q = rw (q refl)
 latch-twice false false end latch p q = refl
@@ -96,11 +310,7 @@ outcome : Port → List ℕ → ReceiverState → TransmitterState → Bool → 
 outcome port line receiver transmitter latch = (line, record port { receiver = receiver; transmitter = transmitter; thr_empty = latch })
 
 same_outcome : (port : Port) (line line' : List ℕ) (receiver receiver' : ReceiverState) (transmitter transmitter' : TransmitterState) (latch latch' : Bool) → line ≡ line' → receiver ≡ receiver' → transmitter ≡ transmitter' → latch ≡ latch' → outcome port line receiver transmitter latch ≡ outcome port line' receiver' transmitter' latch'
-same_outcome port line line' receiver receiver' transmitter transmitter' latch latch' l r t h =
-    ap (λ (x : List ℕ). outcome port x receiver transmitter latch) l
-    ∙ ap (λ (x : ReceiverState). outcome port line' x transmitter latch) r
-    ∙ ap (λ (x : TransmitterState). outcome port line' receiver' x latch) t
-    ∙ ap (λ (x : Bool). outcome port line' receiver' transmitter' x) h
+same_outcome port line line' receiver receiver' transmitter transmitter' latch latch' l r t h = rw (l, r, t, h) refl
 
 module _ (first second : ℕ) (port : Port) (h : first ≤ second) where
   character : ℕ
@@ -124,7 +334,8 @@ module _ (first second : ℕ) (port : Port) (h : first ≤ second) where
   unfolding end between
   latch-same =
       latch-twice (is_empty port.transmitter.waiting) (is_empty between.waiting) (is_empty end.waiting) port.thr_empty
-      (stays_empty between.waiting port.transmitter.waiting (fewer (character_time port.divisor port.lcr) first port.transmitter.shift port.transmitter.waiting))
+      (stays_empty between.waiting port.transmitter.waiting
+      (fewer (character_time port.divisor port.lcr) first port.transmitter.shift port.transmitter.waiting))
       (stays_empty end.waiting between.waiting (fewer (character_time port.divisor port.lcr) second between.shift between.waiting))
 
   in-parts : advanced second port ≡ ((advanced first port).0 ++ (advanced second (advanced first port).1).0, (advanced second (advanced first port).1).1)
@@ -143,11 +354,13 @@ waits : (to : ℕ) (shift : Shift) (character : ℕ) (waiting : List ℕ) → to
 unfolding departures timetable gone
 waits to shift character waiting h = rw (lt-leb shift.due to h)
 
-stays : (to : ℕ) (shift : Shift) (character : ℕ) (waiting : List ℕ) → to < shift.due → run_until character to (Some shift) waiting ≡ record { waiting = waiting; shift = Some shift }
+stays : (to : ℕ) (shift : Shift) (character : ℕ) (waiting : List ℕ) → to < shift.due
+    → run_until character to (Some shift) waiting ≡ record { waiting = waiting; shift = Some shift }
 unfolding run_until departures timetable staying holding
 stays to shift character waiting h = rw (lt-leb shift.due to h, bytes_of-timetable character (shift.due + character) waiting)
 
-stays-whole : (to : ℕ) (shift : Shift) (character : ℕ) (transmitter : TransmitterState) → transmitter.shift ≡ Some shift → to < shift.due → run_until character to transmitter.shift transmitter.waiting ≡ transmitter
+stays-whole : (to : ℕ) (shift : Shift) (character : ℕ) (transmitter : TransmitterState) → transmitter.shift ≡ Some shift → to < shift.due
+    → run_until character to transmitter.shift transmitter.waiting ≡ transmitter
 stays-whole to shift character transmitter e h =
     ap (λ (s : Option Shift). run_until character to s transmitter.waiting) e
     ∙ stays to shift character transmitter.waiting h
@@ -165,7 +378,8 @@ pub waits_until_due : WaitsUntilDue
 unfolding advanced arrived outcome
 waits_until_due to port shift e h =
     let none : leaving to port ≡ [] = rw e (waits to shift (character_time port.divisor port.lcr) port.transmitter.waiting h) in
-    let still : run_until (character_time port.divisor port.lcr) to port.transmitter.shift port.transmitter.waiting ≡ port.transmitter = stays-whole to shift (character_time port.divisor port.lcr) port.transmitter e h in
+    let still : run_until (character_time port.divisor port.lcr) to port.transmitter.shift port.transmitter.waiting ≡ port.transmitter =
+    stays-whole to shift (character_time port.divisor port.lcr) port.transmitter e h in
     same_outcome port _ [] _ port.receiver _ port.transmitter _ port.thr_empty
     (rw none (no_line (has port.mcr 4)))
     (rw none (looped_none (has port.mcr 4) (mode_of port) port.receiver))
@@ -209,4 +423,5 @@ alone character shift waiting h = rw (le-leb shift.due shift.due (omega arith), 
 
 pub loops_at_moment : LoopsAtMoment
 unfolding advanced arrived
-loops_at_moment port shift l e = rw (l, e, alone (character_time port.divisor port.lcr) shift port.transmitter.waiting (character-positive port.divisor port.lcr)) (refl, refl)
+loops_at_moment port shift l e =
+    rw (l, e, alone (character_time port.divisor port.lcr) shift port.transmitter.waiting (character-positive port.divisor port.lcr)) (refl, refl)

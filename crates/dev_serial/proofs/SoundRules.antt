@@ -1,23 +1,12 @@
 -- A port is sound exactly if a stream can describe it and the rules hold for what is saved.
-use Rattle.std.proofs.Common.{◌≡◌, ℕ, ◌+◌, ◌≤◌, ◌==◌, Bool, true, false, not, ◌&&◌, ◌||◌, cond, Option, Some, None, refl, sym, arith}
-use Rattle.std.proofs.lemmas.Bool.{false≢true, leb-true, ltb-true, eqb-true, and_parts}
-use Rattle.std.specs.Prelude.{nat_le, nat_lt, is_some}
-use Rattle.dev_base.specs.declared.limits.TheConstants.{LAST_MOMENT}
-use Rattle.dev_serial.specs.Access.{is_empty, lsr_of}
-use Rattle.dev_base.specs.Bits.{has, same}
-use Rattle.dev_serial.specs.Laws.{SoundMeetsRules}
-use Rattle.dev_serial.specs.Port.{Port}
-use Rattle.dev_serial.specs.PortNumbers.{saved, fcr_number, moment_number, due_number}
-use Rattle.dev_serial.specs.Rules.{registers_hold, fcr_holds, shift_holds, timeout_holds, longest_timeout}
-use Rattle.dev_serial.specs.Sound.{IsSound, IsHeld, IsTold, IsByte, IsShift, IsTimeout, HasRegisters}
-use Rattle.dev_serial.specs.declared.shift.Shift.{Shift}
-use Rattle.dev_serial.specs.declared.trigger.Trigger.{Trigger}
-use Rattle.dev_serial.proofs.RulesHold.{Hold, hold}
-use Rattle.dev_serial.proofs.SavedLaw.{restored-saved}
-use Rattle.dev_serial.proofs.SavedParts.{on, runs-same, unused-at}
-use Rattle.dev_serial.proofs.TruthTables.{IsStatus, lsr-status}
-use Rattle.dev_serial.specs.declared.mode.TheConstants.{LONGEST_CHARACTER}
-use Rattle.dev_serial.specs.declared.numbers.TheConstants.{NEVER}
+use Rattle.dev_serial.proofs.Facade.{◌≡◌, ℕ, ◌+◌, ◌≤◌, ◌==◌, Bool, true, false, not, ◌&&◌, ◌||◌, cond, Option, Some, None, refl, sym, arith, false≢true}
+use Rattle.dev_serial.proofs.Facade.{leb-true, ltb-true, eqb-true, and_parts, nat_le, nat_lt, is_some, LAST_MOMENT, is_empty, lsr_of, has, same}
+use Rattle.dev_serial.proofs.Facade.{SoundMeetsRules, Port, saved, fcr_number, moment_number, due_number, registers_hold, fcr_holds, shift_holds, timeout_holds}
+use Rattle.dev_serial.proofs.Facade.{longest_timeout, IsSound, IsHeld, IsTold, IsByte, IsShift, IsTimeout, HasRegisters, Shift, Trigger, LONGEST_CHARACTER}
+use Rattle.dev_serial.proofs.Facade.{NEVER}
+use Rattle.dev_serial.proofs.RestoredLaw.{Hold, hold}
+use Rattle.dev_serial.proofs.SavedLaw.{restored-saved, on, runs-same, unused-at}
+use Rattle.dev_serial.proofs.AlikeLaws.{IsStatus, lsr-status}
 
 -- from sound to held
 told : (now : ℕ) (runs : Bool) (timeout : Option ℕ) → now ≤ LAST_MOMENT → IsTimeout now runs timeout → IsTold timeout
@@ -49,7 +38,8 @@ level-on level None rest h e = absurd (false≢true e)
 level-on level (Some trigger) rest h e = leb-true 2 level (and_parts _ _ (rw (on trigger) at h)).0
 
 shift-from : (now : ℕ) (shift : Option Shift) (idle empty five : Bool) → idle ≡ (empty && not (is_some shift)) → IsByte shift
-    → (same idle (due_number shift == NEVER) && cond idle five (nat_lt now (due_number shift) && nat_le (due_number shift) (now + LONGEST_CHARACTER))) ≡ true → IsShift now shift
+    → (same idle (due_number shift == NEVER) && cond idle five (nat_lt now (due_number shift) && nat_le (due_number shift) (now + LONGEST_CHARACTER))) ≡ true
+    → IsShift now shift
 shift-from now None idle empty five e b h = tt
 shift-from now (Some shift) true true five e b h = absurd (false≢true (sym e))
 shift-from now (Some shift) true false five e b h = absurd (false≢true (sym e))
@@ -57,7 +47,8 @@ shift-from now (Some shift) false empty five e b h =
     let p = and_parts _ _ (and_parts _ _ h).1 in
     record { byte = b; later = ltb-true _ _ p.0; in_time = leb-true _ _ p.1 }
 
-idle-from : (shift : Option Shift) (idle empty rest : Bool) → idle ≡ (empty && not (is_some shift)) → (same idle (due_number shift == NEVER) && rest) ≡ true → is_some shift ≡ false → empty ≡ true
+idle-from : (shift : Option Shift) (idle empty rest : Bool) → idle ≡ (empty && not (is_some shift)) → (same idle (due_number shift == NEVER) && rest) ≡ true
+    → is_some shift ≡ false → empty ≡ true
 idle-from None idle true rest e h n = refl
 idle-from None true false rest e h n = absurd (false≢true (sym e))
 idle-from None false false rest e h n = absurd (false≢true h)
@@ -70,7 +61,8 @@ timeout-from now true (Some moment) t h = record { runs_now = refl; in_time = le
 timeout-from now false (Some moment) t h = absurd (let e = eqb-true moment NEVER h in omega arith)
 
 module _ (now : ℕ) (port : Port) (is : IsHeld port) (rules : Hold port.level now (saved 4 now port)) where
-  abbrev lsr : IsStatus (lsr_of port) (not (is_empty port.receiver.held)) port.receiver.overrun (is_empty port.transmitter.waiting) (is_empty port.transmitter.waiting && not (is_some port.transmitter.shift))
+  abbrev lsr : IsStatus (lsr_of port) (not (is_empty port.receiver.held)) port.receiver.overrun (is_empty port.transmitter.waiting)
+      (is_empty port.transmitter.waiting && not (is_some port.transmitter.shift))
   lsr = lsr-status port
 
   registers : HasRegisters port.level port.divisor port.ier port.lcr port.mcr port.scr (is_some port.fifos)

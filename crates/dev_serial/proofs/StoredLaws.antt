@@ -1,21 +1,26 @@
 -- The list that a counted array or a ring was made of comes back from it.
-use Rattle.std.proofs.Common.{◌≡◌, ℕ, zero, suc, ◌+◌, ◌-◌, ◌%◌, ◌<◌, ◌≤◌, ◌==◌, Bool, true, false, not, ◌&&◌, cond, List, [], ◌∷◌, length, map, refl, sym, ap, ◌∙◌, arith, ⊎_elim}
-use Rattle.std.proofs.Math.Nat.{min-eq_left, min-le_right}
-use Rattle.std.proofs.lemmas.Bool.{cases_lt, lt-ltb, le-leb, ne_eqb, eq-eqb, and_from, or_right}
-use Rattle.std.proofs.lemmas.List.{get_or_past}
-use Rattle.std.proofs.lemmas.List.FromFn.{length-map-range_with_len, get_or-map-range_with_len}
-use Rattle.std.specs.List.{range_with_len, list_all}
-use Rattle.std.specs.Prelude.{nat_lt, min}
-use Rattle.dev_serial.specs.Access.{is_empty}
-use Rattle.dev_serial.specs.Laws.{ListsComeBack, HoldsWhatItGives}
-use Rattle.dev_serial.specs.PortNumbers.{stored_bytes}
-use Rattle.dev_serial.specs.Rules.{is_unused}
-use Rattle.dev_serial.specs.Sound.{AreBytes}
-use Rattle.dev_base.specs.Cells.{firsts}
-use Rattle.dev_serial.specs.Stored.{byte_of, padded, counted_of, counted_bytes, ring_of, ring_bytes, behind_head, is_held_or_zero, ring_holds}
-use Rattle.dev_serial.specs.declared.stored.Counted.{Counted}
-use Rattle.dev_serial.specs.declared.stored.Ring.{Ring}
-use Rattle.dev_base.proofs.PlaceLemmas.{all_set}
+use Rattle.dev_serial.proofs.Facade.{◌≡◌, ℕ, ◌+◌, ◌<◌, Bool, true, false, take, ap, ◌∙◌, arith, zero, suc, ◌-◌, ◌%◌, ◌≤◌, ◌==◌, not, ◌&&◌, cond, List, [], ◌∷◌}
+use Rattle.dev_serial.proofs.Facade.{length, map, refl, sym, ⊎_elim, ◌++◌, ℤ, replicate, subst, and_from, cases_lt, lt-ltb, le-leb, ne_eqb, eq-eqb, or_right}
+use Rattle.dev_serial.proofs.Facade.{get_or-range_with_len, length-map-range_with_len, get_or-map-range_with_len, list_all_at, list_all_more, range_with_len}
+use Rattle.dev_serial.proofs.Facade.{list_all, min-eq_left, min-le_right, get_or_past, nat_lt, is_empty, ListsComeBack, HoldsWhatItGives, stored_bytes}
+use Rattle.dev_serial.proofs.Facade.{is_unused, AreBytes, firsts, cell_at, kind_at, number_at, AreOf, byte_of, padded, counted_of, counted_bytes, ring_of}
+use Rattle.dev_serial.proofs.Facade.{ring_bytes, behind_head, is_held_or_zero, ring_holds, Counted, Ring, all_set, bytes_within, InRange, U8, I8, Timer}
+use Rattle.dev_serial.proofs.Facade.{field_kinds, kinds, AreBytesIn, bytes_at, number-lt, RX_COUNT, TIMEOUT_AT, RX_DATA}
+use Rattle.std.specs.Prelude.{min}
+
+-- ---- a test of each of the sixteen elements of a ring
+
+zero-add : (k : ℕ) → 0 + k ≡ k
+zero-add k = omega arith
+
+pub all_fails : (p : ℕ → Bool) (k : ℕ) → k < 16 → p k ≡ false → list_all p (range_with_len 0 16) ≡ false
+all_fails p k l e = list_all_at p (range_with_len 0 16) k 0 l (ap p (get_or-range_with_len 0 16 k 0 l ∙ zero-add k) ∙ e)
+
+pub all_more : (p : ℕ → Bool) (k : ℕ) → k < 16 → list_all p (take k (range_with_len 0 16)) ≡ true → p k ≡ true
+    → list_all p (take (k + 1) (range_with_len 0 16)) ≡ true
+all_more p k l h e = list_all_more p (range_with_len 0 16) k 0 l ∙ and_from _ _ h (ap p (get_or-range_with_len 0 16 k 0 l ∙ zero-add k) ∙ e)
+
+-- ---- lists
 
 -- the bytes of a list, by their places
 firsts-back : (f : ℕ → ℕ) (bytes : List ℕ) → ((i : ℕ) → i < length bytes → f i ≡ byte_of bytes i) → firsts (length bytes) f ≡ bytes
@@ -47,13 +52,15 @@ back-round k l = omega arith
 
 held-or-zero : (bytes : List ℕ) (k : ℕ) → k < 16 → is_held_or_zero (ring_of bytes) k ≡ true
 held-or-zero bytes k l = rw (back-round k l, byte_of-padded bytes k l) (
-    ⊎_elim (λ held. rw (lt-ltb k (length bytes) held) refl) (λ past. or_right (nat_lt k (length bytes)) _ (eq-eqb _ _ (get_or_past bytes k 0 past))) (cases_lt k (length bytes)))
+    ⊎_elim (λ held. rw (lt-ltb k (length bytes) held) refl) (λ past. or_right (nat_lt k (length bytes)) _ (eq-eqb _ _ (get_or_past bytes k 0 past)))
+    (cases_lt k (length bytes)))
 
 pub ring_of-holds : (bytes : List ℕ) → length bytes ≤ 16 → ring_holds (ring_of bytes) ≡ true
 unfolding ring_holds
 ring_of-holds bytes h =
     and_from _ _ (le-leb (length bytes) 16 h)
-    (and_from _ _ (or_right (not (length bytes == 0)) _ refl) (all-range (is_held_or_zero (ring_of bytes)) 0 16 (λ k low high. held-or-zero bytes k (omega arith))))
+    (and_from _ _ (or_right (not (length bytes == 0)) _ refl)
+    (all-range (is_held_or_zero (ring_of bytes)) 0 16 (λ k low high. held-or-zero bytes k (omega arith))))
 
 -- whether there are any
 none : (n : ℕ) → (min n 16 == 0) ≡ (n == 0)
@@ -112,3 +119,26 @@ holds_what_it_gives ring place h m l = (
 
 pub lists_come_back : ListsComeBack
 lists_come_back bytes h = record { ring = ring-back bytes h; holds = ring_of-holds bytes h; array = counted-back bytes h }
+
+-- ---- the cells of the newest set that are bytes
+
+arrays : (k : ℕ) → RX_COUNT ≤ k → k < TIMEOUT_AT → kind_at (kinds 4) k ≡ U8
+arrays k low high = bytes_within (field_kinds ++ U8 ∷ I8 ∷ []) (Timer ∷ replicate 36 U8) 34 k low high
+
+rings : (k : ℕ) → RX_DATA ≤ k → k < 84 → kind_at (kinds 4) k ≡ U8
+rings k low high = bytes_within (field_kinds ++ U8 ∷ I8 ∷ replicate 34 U8 ++ Timer ∷ []) [] 36 k low high
+
+-- a run of bytes, within the arrays or the rings
+pub in_arrays : (cells : List ℤ) (place count : ℕ) → AreOf (kinds 4) cells → RX_COUNT ≤ place → place + count ≤ TIMEOUT_AT → AreBytesIn cells place count
+in_arrays cells place count all low high k l h =
+    subst (λ kind. InRange kind (cell_at cells k)) (arrays k (omega arith) (omega arith)) (all.in_range k (omega arith))
+
+pub in_rings : (cells : List ℤ) (place count : ℕ) → AreOf (kinds 4) cells → RX_DATA ≤ place → place + count ≤ 84 → AreBytesIn cells place count
+in_rings cells place count all low high k l h =
+    subst (λ kind. InRange kind (cell_at cells k)) (rings k (omega arith) (omega arith)) (all.in_range k (omega arith))
+
+-- the elements of a ring
+pub ring-bytes : (cells : List ℤ) → AreOf (kinds 4) cells → (place : ℕ) → RX_DATA ≤ place → place + 16 ≤ 84 → AreBytes (bytes_at cells place)
+ring-bytes cells of_kinds place low high =
+    firsts-bytes (λ i. number_at cells (place + i)) 0 16
+    (λ k l m. number-lt U8 (cell_at cells (place + k)) (in_rings cells place 16 of_kinds low high (place + k) (omega arith) (omega arith)))

@@ -1,13 +1,7 @@
 -- The effects of reads and writes.
-use Rattle.std.proofs.Common.{◌≡◌, ◌≢◌, ℕ, ◌==◌, ◌||◌, true, false, eqb-true, refl, arith, sym, ◌∙◌}
-use Rattle.std.proofs.lemmas.Bool.{eq-eqb, false≢true, cond_both}
-use Rattle.std.proofs.lemmas.Bool.Decides.{nat_tests}
-use Rattle.std.proofs.lemmas.List.{get_or-set_other}
-use Rattle.dev_base.proofs.Choices.{either}
-use Rattle.vms_rtc.specs.Chip.{register, power_on, data_read, read_of, index_written, data_written, written, passed}
-use Rattle.vms_rtc.specs.Laws.{ReadsClearFlag, FlagsAreKept, VersionStays}
-use Rattle.vms_rtc.specs.declared.limits.TheConstants.{REGISTER_C, REGISTER_D, INDEX_PORT}
-use Rattle.vms_rtc.specs.declared.rtc.Rtc.{Rtc}
+use Rattle.vms_rtc.proofs.Facade.{◌≡◌, ◌≢◌, ℕ, ◌==◌, ◌||◌, true, false, eqb-true, refl, arith, sym, ◌∙◌, eq-eqb, false≢true, cond_both, nat_tests}
+use Rattle.vms_rtc.proofs.Facade.{get_or-set_other, either, register, power_on, data_read, read_of, index_written, data_written, written, passed}
+use Rattle.vms_rtc.proofs.Facade.{ReadsClearFlag, FlagsAreKept, VersionStays, REGISTER_C, REGISTER_D, INDEX_PORT, Rtc}
 
 -- ---- the flag
 

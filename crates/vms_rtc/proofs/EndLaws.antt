@@ -1,12 +1,6 @@
 -- When a period of the periodic interrupt ends next.
-use Rattle.std.proofs.Common.{◌≡◌, ℕ, ◌+◌, ◌-◌, ◌*◌, ◌/◌, ◌%◌, ◌<◌, ◌≤◌, true, false, Option, Some, None, refl, sym, ◌∙◌, arith, ⊎_elim}
-use Rattle.std.proofs.lemmas.Bool.{cases_lt, le-leb, lt-leb}
-use Rattle.std.proofs.lemmas.Bool.Decides.{nat_tests}
-use Rattle.std.proofs.lemmas.Nat.{div-add-mod', le-div}
-use Rattle.std.proofs.Math.Nat.{div-lt_iff_lt-mul}
-use Rattle.std.specs.Prelude.{nat_lt}
-use Rattle.vms_rtc.specs.Chip.{ticks}
-use Rattle.vms_rtc.specs.Ends.{IsNextEnd, moment_of}
+use Rattle.vms_rtc.proofs.Facade.{◌≡◌, ℕ, ◌+◌, ◌-◌, ◌*◌, ◌/◌, ◌%◌, ◌<◌, ◌≤◌, true, false, Some, None, refl, sym, ◌∙◌, arith, ⊎_elim, cases_lt, le-leb, lt-leb}
+use Rattle.vms_rtc.proofs.Facade.{nat_tests, div-add-mod', le-div, div-lt_iff_lt-mul, nat_lt, ticks, IsNextEnd, moment_of}
 
 -- the end of a period that comes next after a moment
 abbrev pub end_after : (period from : ℕ) → ℕ
@@ -26,13 +20,15 @@ not_come tick to h = omega arith
 -- from there on a period has ended, and before none
 ended : (period from to : ℕ) → 0 < period → end_after period from ≤ to → nat_lt (ticks from / period) (ticks to / period) ≡ true
 ended period from to p h =
-    let here : (ticks from / period + 1) * period ≤ ticks to = omega (arith, next-tick period (ticks from), came (ticks from - ticks from % period + period) to h) in
+    let here : (ticks from / period + 1) * period ≤ ticks to =
+    omega (arith, next-tick period (ticks from), came (ticks from - ticks from % period + period) to h) in
     let more : ticks from / period + 1 ≤ ticks to / period = le-div (ticks from / period + 1) (ticks to) period p here in
     grind (arith, nat_tests)
 
 not_ended : (period from to : ℕ) → 0 < period → to < end_after period from → nat_lt (ticks from / period) (ticks to / period) ≡ false
 not_ended period from to p h =
-    let here : ticks to < (ticks from / period + 1) * period = omega (arith, next-tick period (ticks from), not_come (ticks from - ticks from % period + period) to h) in
+    let here : ticks to < (ticks from / period + 1) * period =
+    omega (arith, next-tick period (ticks from), not_come (ticks from - ticks from % period + period) to h) in
     let few : ticks to / period < ticks from / period + 1 = (div-lt_iff_lt-mul p).1 here in
     grind (arith, nat_tests)
 

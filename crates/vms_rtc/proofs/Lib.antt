@@ -1,6 +1,6 @@
 pub mod CallLaws
-pub mod CellPlaces
 pub mod EndLaws
+pub mod Facade
 pub mod RestoredLaws
 pub mod RuleLaws
 pub mod SavedLaws

@@ -1,22 +1,20 @@
 -- A restored chip is sound.
-use Rattle.std.proofs.Common.{◌≡◌, ℕ, ◌+◌, ◌<◌, ◌≤◌, ◌==◌, ◌&&◌, ◌||◌, not, nat_le, Bool, true, false, List, ℤ, Ok, refl, sym, ap, subst, ◌∙◌, arith}
-use Rattle.std.proofs.lemmas.Bool.{false≢true, and_parts}
-use Rattle.std.proofs.lemmas.Bool.Decides.{nat_tests}
-use Rattle.std.proofs.lemmas.List.FromFn.{get_or-map-range_with_len, length-map-range_with_len}
-use Rattle.vms_hooks.specs.Numbers.{Numbers}
-use Rattle.vms_kinds.specs.declared.Kind.TheVariants.{U8}
-use Rattle.dev_base.proofs.CellLaws.{number-lt}
-use Rattle.dev_base.proofs.RuleLaws.{AllTrue, judged-ok, hook-ok}
-use Rattle.dev_base.specs.Cells.{cell_at, nat_of, AreOf}
-use Rattle.dev_base.specs.Levels.{IsUpTo}
-use Rattle.vms_rtc.proofs.CellPlaces.{is_byte}
-use Rattle.vms_rtc.specs.Cells.{kinds}
-use Rattle.vms_rtc.specs.Chip.{register}
-use Rattle.vms_rtc.specs.Laws.{RestoredIsSound}
-use Rattle.vms_rtc.specs.Saved.{CanRestore, index_in, register_in, nmi_mask_in, index_holds, registers_hold, rules, chip_of, restored, hook_restored}
-use Rattle.vms_rtc.specs.Sound.{IsSound}
-use Rattle.vms_rtc.specs.declared.limits.TheConstants.{NEWEST_CLOCK, NMI_SINCE, REGISTER_A, REGISTER_C, REGISTER_D, REGISTERS}
-use Rattle.vms_rtc.specs.declared.rtc.Rtc.{Rtc}
+use Rattle.vms_rtc.proofs.Facade.{ℕ, ◌+◌, ◌<◌, List, [], drop, ℤ, subst, arith, ◌≡◌, ◌≤◌, ◌==◌, ◌&&◌, ◌||◌, not, nat_le, Bool, true, false, Ok, refl, sym, ap}
+use Rattle.vms_rtc.proofs.Facade.{◌∙◌, false≢true, and_parts, nat_tests, get_or-map-range_with_len, length-map-range_with_len, CMOS, InRange, Kind, U8}
+use Rattle.vms_rtc.proofs.Facade.{bytes_within, cell_at, AreOf, nat_of, kinds, NEWEST_CLOCK, REGISTERS, NMI_SINCE, REGISTER_A, REGISTER_C, REGISTER_D, Numbers}
+use Rattle.vms_rtc.proofs.Facade.{number-lt, AllTrue, judged-ok, hook-ok, IsUpTo, register, RestoredIsSound, CanRestore, index_in, register_in, nmi_mask_in}
+use Rattle.vms_rtc.proofs.Facade.{index_holds, registers_hold, rules, chip_of, restored, hook_restored, IsSound, Rtc}
+
+-- ---- the kinds of the cells of the newest clock set
+
+-- the index and the registers are bytes
+pub is_byte : (cells : List ℤ) (k : ℕ) → AreOf (kinds NEWEST_CLOCK) cells → k < CMOS + REGISTERS → InRange U8 (cell_at cells k)
+is_byte cells k are lt =
+    subst (λ (kind : Kind). InRange kind (cell_at cells k))
+    (bytes_within [] (drop (CMOS + REGISTERS) (kinds NEWEST_CLOCK)) (CMOS + REGISTERS) k (omega arith) (omega (arith, lt)))
+    (are.in_range k (omega (arith, lt)))
+
+-- ---- what is restored
 
 -- a register of the chip of cells
 pub register_of : (version : ℕ) (cells : List ℤ) (k : ℕ) → k < REGISTERS → register k (chip_of version cells) ≡ register_in cells k
@@ -42,7 +40,8 @@ clear true flag h e = absurd (false≢true (sym e))
 clear false true h e = sym h
 clear false false h e = refl
 
-pub sound : (version : ℕ) (cells : List ℤ) → IsUpTo NEWEST_CLOCK version → AreOf (kinds NEWEST_CLOCK) cells → AllTrue (rules version cells) → IsSound (chip_of version cells)
+pub sound : (version : ℕ) (cells : List ℤ) → IsUpTo NEWEST_CLOCK version → AreOf (kinds NEWEST_CLOCK) cells → AllTrue (rules version cells)
+    → IsSound (chip_of version cells)
 unfolding chip_of
 sound version cells v are hold =
     let n = registers cells hold.1.0 in

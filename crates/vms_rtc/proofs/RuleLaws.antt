@@ -1,21 +1,9 @@
 -- The chip is sound exactly if its cells in the newest clock set meet the rules.
-use Rattle.std.proofs.Common.{◌≡◌, ℕ, suc, ◌+◌, ◌<◌, get_or, map, pos, None, ap, subst, ◌∙◌, arith}
-use Rattle.std.proofs.lemmas.List.{get_or-map, get_or_append_left, length-map}
-use Rattle.vms_fields.specs.declared.clock.TheConstants.{CMOS}
-use Rattle.vms_kinds.specs.declared.Kind.TheVariants.{U8}
-use Rattle.dev_base.proofs.CellLaws.{number-lt}
-use Rattle.dev_base.proofs.RuleLaws.{none_failing, all_true}
-use Rattle.dev_base.specs.Cells.{cell_at, nat_of}
-use Rattle.dev_base.specs.Rules.{first_failing}
-use Rattle.vms_rtc.proofs.CellPlaces.{is_byte}
-use Rattle.vms_rtc.proofs.RestoredLaws.{sound}
+use Rattle.vms_rtc.proofs.Facade.{◌≡◌, ℕ, suc, ◌+◌, ◌<◌, get_or, map, pos, None, ap, subst, ◌∙◌, arith, get_or-map, get_or_append_left, length-map, CMOS, U8}
+use Rattle.vms_rtc.proofs.Facade.{number-lt, none_failing, all_true, cell_at, nat_of, first_failing, IsTold, SoundMeetsRules, saved_cells, rules, chip_of}
+use Rattle.vms_rtc.proofs.Facade.{IsSound, NEWEST_CLOCK, REGISTERS, Rtc}
+use Rattle.vms_rtc.proofs.RestoredLaws.{is_byte, sound}
 use Rattle.vms_rtc.proofs.SavedLaws.{IsWide, newest, of-set, own-back, met}
-use Rattle.vms_rtc.specs.Laws.{IsTold, SoundMeetsRules}
-use Rattle.vms_rtc.specs.Cells.{saved_cells}
-use Rattle.vms_rtc.specs.Saved.{rules, chip_of}
-use Rattle.vms_rtc.specs.Sound.{IsSound}
-use Rattle.vms_rtc.specs.declared.limits.TheConstants.{NEWEST_CLOCK, REGISTERS}
-use Rattle.vms_rtc.specs.declared.rtc.Rtc.{Rtc}
 
 -- a chip that a stream can describe has bytes
 module _ (chip : Rtc) (t : IsTold chip) where
@@ -26,7 +14,8 @@ module _ (chip : Rtc) (t : IsTold chip) where
   register-at : (k : ℕ) → k < REGISTERS → nat_of (cell_at (newest chip) (suc k)) ≡ get_or chip.cmos k 0
   register-at k l =
       let n = t.count in
-      ap nat_of (get_or_append_left (map pos chip.cmos) _ (pos 0) k (omega (arith, n, l, length-map chip.cmos pos)) ∙ get_or-map pos chip.cmos k 0 (pos 0) (omega (arith, n, l)))
+      ap nat_of (get_or_append_left (map pos chip.cmos) _ (pos 0) k (omega (arith, n, l, length-map chip.cmos pos)) ∙ get_or-map pos chip.cmos k 0 (pos 0)
+      (omega (arith, n, l)))
 
   is-wide : IsWide chip
   is-wide = record {
@@ -41,7 +30,8 @@ module _ (chip : Rtc) (t : IsTold chip) where
 
   told-sound : first_failing (rules chip.version (newest chip)) ≡ None → IsSound chip
   unfolding saved_cells
-  told-sound none = subst IsSound (own-back chip is-wide) (sound chip.version (newest chip) t.version t.cells (all_true (rules chip.version (newest chip)) none))
+  told-sound none =
+      subst IsSound (own-back chip is-wide) (sound chip.version (newest chip) t.version t.cells (all_true (rules chip.version (newest chip)) none))
 
 -- the cells of a sound chip
 told : (chip : Rtc) → IsSound chip → IsTold chip

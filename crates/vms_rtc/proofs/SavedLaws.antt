@@ -1,24 +1,10 @@
 -- A saved chip is restored as it was.
-use Rattle.std.proofs.Common.{◌≡◌, ℕ, zero, suc, ◌+◌, ◌<◌, ◌≤◌, ◌==◌, ◌||◌, not, nat_le, Bool, true, false, List, [], ◌∷◌, length, map, replicate, get_or, ℤ, pos, codes, Ok, refl, sym, ap, subst, ◌∙◌, arith}
-use Rattle.std.proofs.lemmas.Bool.{false≢true}
-use Rattle.std.proofs.lemmas.Bool.Decides.{nat_tests}
-use Rattle.std.proofs.lemmas.List.{get_or-map}
-use Rattle.vms_fields.specs.Clock.{mc146818_rows, place_of_clock}
-use Rattle.vms_fields.specs.Fields.{numbers_of}
-use Rattle.vms_hooks.specs.Numbers.{Numbers}
-use Rattle.vms_kinds.specs.declared.Kind.TheVariants.{U8}
-use Rattle.dev_base.proofs.CellLaws.{of_none, of_more, byte, flag, flag-back}
-use Rattle.dev_base.proofs.ListLaws.{AllHold, size_at, whole, of_rows, carried_rows, stands}
-use Rattle.dev_base.proofs.PlaceLemmas.{all_set}
-use Rattle.dev_base.proofs.RuleLaws.{AllTrue, judged-all, ok-hook}
-use Rattle.dev_base.specs.Cells.{cell_at, nat_of, flag_number, firsts, AreOf}
-use Rattle.vms_rtc.specs.Cells.{named, kinds, saved_cells, carried}
-use Rattle.vms_rtc.specs.Chip.{register}
-use Rattle.vms_rtc.specs.Laws.{SavedAreCells, SavedIsRestored}
-use Rattle.vms_rtc.specs.Saved.{CanSave, CanRestore, MayRestore, register_in, nmi_mask_in, pf_in, rules, chip_of, restored, hook_restored}
-use Rattle.vms_rtc.specs.Sound.{IsSound}
-use Rattle.vms_rtc.specs.declared.limits.TheConstants.{NEWEST_CLOCK, NMI_SINCE, REGISTER_A, REGISTER_C, REGISTER_D, REGISTERS}
-use Rattle.vms_rtc.specs.declared.rtc.Rtc.{Rtc}
+use Rattle.vms_rtc.proofs.Facade.{◌≡◌, ℕ, zero, suc, ◌+◌, ◌<◌, ◌≤◌, ◌==◌, ◌||◌, not, nat_le, Bool, true, false, List, [], ◌∷◌, length, map, replicate, get_or}
+use Rattle.vms_rtc.proofs.Facade.{ℤ, pos, codes, Ok, refl, sym, ap, subst, ◌∙◌, arith, false≢true, nat_tests, get_or-map, mc146818_rows, place_of_clock}
+use Rattle.vms_rtc.proofs.Facade.{numbers_of, Numbers, U8, of_none, of_more, byte, flag, flag-back, AllHold, size_at, whole, of_rows, carried_rows, stands}
+use Rattle.vms_rtc.proofs.Facade.{all_set, AllTrue, judged-all, ok-hook, cell_at, nat_of, flag_number, firsts, AreOf, named, kinds, saved_cells, carried}
+use Rattle.vms_rtc.proofs.Facade.{register, SavedAreCells, SavedIsRestored, CanSave, CanRestore, MayRestore, register_in, nmi_mask_in, pf_in, rules, chip_of}
+use Rattle.vms_rtc.proofs.Facade.{restored, hook_restored, IsSound, NEWEST_CLOCK, NMI_SINCE, REGISTER_A, REGISTER_C, REGISTER_D, REGISTERS, Rtc}
 
 -- ---- the kinds of what is saved
 
@@ -27,7 +13,8 @@ of-bytes [] zero len small = of_none
 of-bytes [] (suc n) len small = absurd (omega (arith, len))
 of-bytes (x ∷ xs) zero len small = absurd (omega (arith, len))
 of-bytes (x ∷ xs) (suc n) len small =
-    of_more U8 (pos x) (replicate n U8) (map pos xs) (byte x (small 0 (omega arith))) (of-bytes xs n (omega (arith, len)) (λ k lt. small (suc k) (omega (arith, lt))))
+    of_more U8 (pos x) (replicate n U8) (map pos xs) (byte x (small 0 (omega arith)))
+    (of-bytes xs n (omega (arith, len)) (λ k lt. small (suc k) (omega (arith, lt))))
 
 -- the index and all registers are bytes
 pub record IsWide (chip : Rtc) : Type 0 where
@@ -59,7 +46,8 @@ saved_are_cells = record { of_kinds = of-set }
 abbrev pub newest : Rtc → List ℤ
 newest chip = whole (named chip) mc146818_rows
 
-there : (chip : Rtc) → IsWide chip → (name : List ℕ) (k : ℕ) → k < size_at mc146818_rows name → cell_at (newest chip) (place_of_clock name + k) ≡ cell_at (numbers_of (named chip) name) k
+there : (chip : Rtc) → IsWide chip → (name : List ℕ) (k : ℕ) → k < size_at mc146818_rows name
+    → cell_at (newest chip) (place_of_clock name + k) ≡ cell_at (numbers_of (named chip) name) k
 there chip s name k l = stands (named chip) name mc146818_rows (holds chip s) [] 0 k refl l
 
 mask-there : (chip : Rtc) → IsWide chip → nmi_mask_in (newest chip) ≡ chip.nmi_mask
@@ -91,7 +79,8 @@ unmasked version flag h = by (nat_le NMI_SINCE version) h
 
 pub met : (chip : Rtc) → IsSound chip → AllTrue (rules chip.version (newest chip))
 met chip s =
-    let a : register_in (newest chip) REGISTER_A ≤ 127 = let e = register-there chip (wide chip s) REGISTER_A (omega arith) in let l = s.a in omega (arith, e, l) in
+    let a : register_in (newest chip) REGISTER_A ≤ 127 =
+    let e = register-there chip (wide chip s) REGISTER_A (omega arith) in let l = s.a in omega (arith, e, l) in
     let c : register_in (newest chip) REGISTER_C ≡ 0 = register-there chip (wide chip s) REGISTER_C (omega arith) ∙ s.c in
     let d : register_in (newest chip) REGISTER_D ≡ 0 = register-there chip (wide chip s) REGISTER_D (omega arith) ∙ s.d in
     let index = s.index in (
@@ -104,9 +93,12 @@ met chip s =
 carried-newest : (set : ℕ) (chip : Rtc) → IsSound chip → chip.version ≤ set → carried set (saved_cells set chip) ≡ newest chip
 unfolding saved_cells
 carried-newest set chip s le =
-    let lacks : nat_le NMI_SINCE set ≡ false → chip.nmi_mask ≡ false = λ e. let none : nat_le NMI_SINCE chip.version ≡ false = grind (arith, nat_tests, le, e) in s.mask none in
-    carried_rows (named chip) set mc146818_rows (holds chip (wide chip s))
-    (λ e. absurd (false≢true (sym e)), (λ e. absurd (false≢true (sym e)), (λ e. ap (λ (m : Bool). pos (flag_number m) ∷ []) (lacks e), (λ e. absurd (false≢true (sym e)), tt)))) [] 0 refl
+    let lacks : nat_le NMI_SINCE set ≡ false → chip.nmi_mask ≡ false =
+    λ e. let none : nat_le NMI_SINCE chip.version ≡ false = grind (arith, nat_tests, le, e) in s.mask none in
+    carried_rows (named chip) set mc146818_rows (holds chip (wide chip s)) (
+      λ e. absurd (false≢true (sym e)),
+      (λ e. absurd (false≢true (sym e)), (λ e. ap (λ (m : Bool). pos (flag_number m) ∷ []) (lacks e), (λ e. absurd (false≢true (sym e)), tt))),
+    ) [] 0 refl
 
 pub saved-newest : (chip : Rtc) → saved_cells NEWEST_CLOCK chip ≡ newest chip
 unfolding saved_cells

@@ -1,15 +1,8 @@
 -- Each call keeps the chip sound.
-use Rattle.std.proofs.Common.{◌≡◌, ◌≢◌, ℕ, ◌<◌, ◌≤◌, ◌==◌, ◌||◌, ◌%◌, Bool, true, false, if◌then◌else◌, List, length, ◌⊎◌, inl, inr, nat_eq, replicate, set, get_or, eqb-true, refl, sym, subst, ◌∙◌, arith}
-use Rattle.std.proofs.lemmas.Bool.{eq-eqb, false≢true, cases_Bool, cond_both}
-use Rattle.std.proofs.lemmas.Bool.Decides.{nat_tests}
-use Rattle.std.proofs.lemmas.List.{get_or-replicate, get_or-set_other, get_or-set_same, length-replicate, length-set}
-use Rattle.dev_base.proofs.Choices.{either}
-use Rattle.dev_base.specs.Levels.{IsUpTo}
-use Rattle.vms_rtc.specs.Chip.{power_on, data_read, read_of, index_written, data_written, written, passed}
-use Rattle.vms_rtc.specs.Laws.{CallsKeepSound}
-use Rattle.vms_rtc.specs.Sound.{IsSound}
-use Rattle.vms_rtc.specs.declared.limits.TheConstants.{NEWEST_CLOCK, INDEX_PORT, REGISTER_A, REGISTER_C, REGISTER_D}
-use Rattle.vms_rtc.specs.declared.rtc.Rtc.{Rtc}
+use Rattle.vms_rtc.proofs.Facade.{◌≡◌, ◌≢◌, ℕ, ◌<◌, ◌≤◌, ◌==◌, ◌||◌, ◌%◌, Bool, true, false, if◌then◌else◌, List, length, ◌⊎◌, inl, inr, nat_eq, replicate, set}
+use Rattle.vms_rtc.proofs.Facade.{get_or, eqb-true, refl, sym, subst, ◌∙◌, arith, eq-eqb, false≢true, cases_Bool, cond_both, nat_tests, get_or-replicate}
+use Rattle.vms_rtc.proofs.Facade.{get_or-set_other, get_or-set_same, length-replicate, length-set, either, IsUpTo, power_on, data_read, read_of, index_written}
+use Rattle.vms_rtc.proofs.Facade.{data_written, written, passed, CallsKeepSound, IsSound, NEWEST_CLOCK, INDEX_PORT, REGISTER_A, REGISTER_C, REGISTER_D, Rtc}
 
 on-sound : (version : ℕ) → IsUpTo NEWEST_CLOCK version → IsSound (power_on version)
 unfolding power_on

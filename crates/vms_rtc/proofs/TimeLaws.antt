@@ -1,15 +1,9 @@
 -- When a period ends in a span of time.
-use Rattle.std.proofs.Common.{◌≡◌, ℕ, ◌-◌, ◌*◌, ◌/◌, ◌%◌, ◌^◌, ◌<◌, ◌≤◌, ◌==◌, Bool, true, false, ◌||◌, nat_lt, Option, Some, None, ◌⊎◌, inl, inr, ⊎_elim, ◌↔◌, refl, sym, ap, arith}
-use Rattle.std.proofs.lemmas.Bool.{ltb-true, ltb-false, false≢true}
-use Rattle.std.proofs.lemmas.Bool.Decides.{nat_tests}
-use Rattle.std.proofs.Math.Nat.{div-mul-le_self, le-div_iff_mul-le}
-use Rattle.std.proofs.lemmas.Nat.{le-div, pow_pos}
-use Rattle.dev_base.proofs.Choices.{either}
-use Rattle.dev_base.proofs.Quotients.{grown, quotient_mono}
-use Rattle.vms_rtc.specs.Chip.{register, ticks, period_of_rate, period_of, ends_within, passed}
-use Rattle.vms_rtc.specs.Laws.{PartsAreWhole, HasMultiple, FlagIsSetAtMultiples}
-use Rattle.vms_rtc.specs.declared.limits.TheConstants.{REGISTER_A}
-use Rattle.vms_rtc.specs.declared.rtc.Rtc.{Rtc}
+use Rattle.vms_rtc.proofs.Facade.{◌≡◌, ℕ, ◌-◌, ◌*◌, ◌/◌, ◌%◌, ◌^◌, ◌<◌, ◌≤◌, ◌==◌, Bool, true, false, ◌||◌, Option, Some, None, ◌⊎◌, inl, inr, ⊎_elim, ◌↔◌}
+use Rattle.vms_rtc.proofs.Facade.{refl, sym, ap, arith, ltb-true, ltb-false, false≢true, nat_tests, div-mul-le_self, le-div_iff_mul-le, le-div, pow_pos, either}
+use Rattle.vms_rtc.proofs.Facade.{grown, quotient_mono, register, ticks, period_of_rate, period_of, ends_within, passed, PartsAreWhole, HasMultiple}
+use Rattle.vms_rtc.proofs.Facade.{FlagIsSetAtMultiples, REGISTER_A, Rtc}
+use Rattle.std.proofs.Common.{nat_lt}
 
 ticks-mono : (from to : ℕ) → from ≤ to → ticks from ≤ ticks to
 unfolding ticks
@@ -24,7 +18,8 @@ IsPositive (Some period) = 0 < period
 rate-positive : (rate : ℕ) → IsPositive (period_of_rate rate)
 rate-positive rate =
     either IsPositive (rate == 0) None _ tt
-    (either IsPositive (rate == 1) (Some 128) _ (omega arith) (either IsPositive (rate == 2) (Some 256) (Some (2 ^ (rate - 1))) (omega arith) (pow_pos (rate - 1))))
+    (either IsPositive (rate == 1) (Some 128) _ (omega arith)
+    (either IsPositive (rate == 2) (Some 256) (Some (2 ^ (rate - 1))) (omega arith) (pow_pos (rate - 1))))
 
 period-positive : (a : ℕ) → IsPositive (period_of a)
 unfolding period_of

@@ -1,8 +1,4 @@
-use Rattle.std.proofs.Common.{◌∙◌, sym, ap}
-use Rattle.dev_pic.proofs.CellLemmas.{master_cells, slave_cells}
-use Rattle.dev_pic.proofs.FaultLaws.{pair-told, fault-told}
-use Rattle.dev_pic.specs.Saved.{hook_restored}
-use Rattle.dev_board.specs.Saved.{by_chip, numbers_back}
+use Rattle.dev_board.proofs.Facade.{◌∙◌, sym, ap, master_cells, slave_cells, pair-told, fault-told, hook_restored, by_chip, numbers_back}
 use Rattle.dev_board.proofs.saved.pair_of.Goals as goal
 
 pub load_device-requires : goal.load_device-requires

@@ -1,4 +1,4 @@
-use Rattle.std.proofs.Common.{Some, ap, ◌∙◌}
+use Rattle.dev_pic.proofs.Facade.{Some, ap, ◌∙◌}
 use Rattle.dev_pic.proofs.WinnerLemmas.{wins, loses}
 use Rattle.dev_pic.proofs.winner.first_ready.Goals as goal
 

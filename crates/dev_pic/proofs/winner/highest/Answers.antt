@@ -1,4 +1,4 @@
-use Rattle.std.proofs.Common.{Some, ap, ◌∙◌}
+use Rattle.dev_pic.proofs.Facade.{Some, ap, ◌∙◌}
 use Rattle.dev_pic.proofs.WinnerLemmas.{is_highest, has_none}
 use Rattle.dev_pic.proofs.winner.highest.Goals as goal
 

@@ -1,4 +1,4 @@
-use Rattle.dev_serial.proofs.LevelLaws.{reads_keep_level, writes_keep_level, bytes_in_keep_level, advances_keep_level}
+use Rattle.dev_serial.proofs.RegisterLaws.{reads_keep_level, writes_keep_level, bytes_in_keep_level, advances_keep_level}
 use Rattle.dev_serial.proofs.laws.level_law.Goals as goal
 
 pub returns : goal.returns

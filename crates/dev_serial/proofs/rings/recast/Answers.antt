@@ -1,15 +1,11 @@
-use Rattle.std.proofs.Common.{◌≡◌, ap, ◌∙◌}
-use Rattle.dev_serial.specs.Cells.{cells_of}
-use Rattle.dev_serial.specs.Recast.{array_for, ring_left, recast_cells, recast_port}
-use Rattle.dev_serial.specs.declared.numbers.PortNumbers.{PortNumbers}
-use Rattle.dev_serial.specs.declared.stored.Counted.{Counted}
-use Rattle.dev_serial.specs.declared.stored.Ring.{Ring}
+use Rattle.dev_serial.proofs.Facade.{◌≡◌, ap, ◌∙◌, cells_of, array_for, ring_left, recast_cells, recast_port, PortNumbers, Counted, Ring}
 use Rattle.dev_serial.proofs.rings.recast.Goals as goal
 
 abbrev with_stored : PortNumbers → Counted → Ring → Counted → Ring → PortNumbers
 with_stored n a r b s = record n { rx = a; rx_ring = r; tx = b; tx_ring = s }
 
-port_is : (n : PortNumbers) (a b : Counted) (r s : Ring) → a ≡ array_for n.rx n.rx_ring → r ≡ ring_left n.rx n.rx_ring → b ≡ array_for n.tx n.tx_ring → s ≡ ring_left n.tx n.tx_ring
+port_is : (n : PortNumbers) (a b : Counted) (r s : Ring) → a ≡ array_for n.rx n.rx_ring → r ≡ ring_left n.rx n.rx_ring → b ≡ array_for n.tx n.tx_ring
+    → s ≡ ring_left n.tx n.tx_ring
     → with_stored n a r b s ≡ recast_port n
 port_is n a b r s e f g h =
     ap (λ (x : Counted). with_stored n x r b s) e ∙ ap (λ (x : Ring). with_stored n (array_for n.rx n.rx_ring) x b s) f
@@ -21,5 +17,6 @@ unfolding recast_cells
 returns-clause-cells c =
     let n = c.of_cells-port.result in
     c.cells.ensures.cells
-    ∙ ap (cells_of 4) (port_is n c.recast-rx.result.array c.recast-tx.result.array c.recast-rx.result.ring c.recast-tx.result.ring c.recast-rx.ensures.array c.recast-rx.ensures.ring c.recast-tx.ensures.array c.recast-tx.ensures.ring)
+    ∙ ap (cells_of 4) (port_is n c.recast-rx.result.array c.recast-tx.result.array c.recast-rx.result.ring c.recast-tx.result.ring c.recast-rx.ensures.array
+    c.recast-rx.ensures.ring c.recast-tx.ensures.array c.recast-tx.ensures.ring)
     ∙ ap (λ (m : PortNumbers). cells_of 4 (recast_port m)) c.of_cells-port.ensures

@@ -1,13 +1,11 @@
-use Rattle.std.proofs.Common.{◌≡◌, ◌+◌, arith}
-use Rattle.std.proofs.lemmas.List.{length-set}
-use Rattle.dev_base.specs.Cells.{number_at}
-use Rattle.dev_base.proofs.PlaceLemmas.{one_set, all_set}
+use Rattle.dev_serial.proofs.Facade.{◌≡◌, ◌+◌, arith, length-set, number_at, one_set, all_set}
 use Rattle.dev_serial.proofs.stored.bytes_at.Goals as goal
 
 pub loop-i-preserved : goal.loop-i-preserved
 loop-i-preserved c = record {
   len = simp length-set c.loop-i.invariant.len;
-  set = one_set (λ i. number_at c.args.cells.now.items (c.args.place + i)) c.loop-i.bytes c.loop-i.i _ (omega (arith, c.loop-i.invariant.len, c.loop-i-test.true)) c.byte_at.ensures c.loop-i.invariant.set;
+  set = one_set (λ i. number_at c.args.cells.now.items (c.args.place + i)) c.loop-i.bytes c.loop-i.i _
+      (omega (arith, c.loop-i.invariant.len, c.loop-i-test.true)) c.byte_at.ensures c.loop-i.invariant.set;
 }
 
 pub returns : goal.returns

@@ -1,5 +1,4 @@
-use Rattle.std.proofs.Common.{◌≡◌, ℕ, ◌+◌, ◌<◌, get_or, length}
-use Rattle.dev_base.specs.Cells.{number_at}
+use Rattle.dev_serial.proofs.Facade.{◌≡◌, ℕ, ◌+◌, ◌<◌, get_or, length, number_at}
 use Rattle.dev_serial.proofs.stored.bytes_at.Given as goal
 
 abbrev pub invariant-loop-i : goal.invariant-loop-i

@@ -1,13 +1,11 @@
-use Rattle.std.proofs.Common.{◌≡◌, arith}
-use Rattle.std.proofs.lemmas.List.{length-set}
-use Rattle.dev_serial.specs.Stored.{byte_of}
-use Rattle.dev_base.proofs.PlaceLemmas.{one_set, all_set}
+use Rattle.dev_serial.proofs.Facade.{◌≡◌, arith, length-set, byte_of, one_set, all_set}
 use Rattle.dev_serial.proofs.stored.padded.Goals as goal
 
 pub loop-place-preserved : goal.loop-place-preserved
 loop-place-preserved c = record {
   len = simp length-set c.loop-place.invariant.len;
-  set = one_set (byte_of c.args.bytes.now) c.loop-place.sixteen c.loop-place.place _ (omega (arith, c.loop-place.invariant.len, c.loop-place-test.true)) c.byte_or_zero.ensures c.loop-place.invariant.set;
+  set = one_set (byte_of c.args.bytes.now) c.loop-place.sixteen c.loop-place.place _
+      (omega (arith, c.loop-place.invariant.len, c.loop-place-test.true)) c.byte_or_zero.ensures c.loop-place.invariant.set;
 }
 
 pub returns : goal.returns

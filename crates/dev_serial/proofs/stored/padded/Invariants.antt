@@ -1,5 +1,4 @@
-use Rattle.std.proofs.Common.{◌≡◌, ℕ, ◌<◌, get_or, length}
-use Rattle.dev_serial.specs.Stored.{byte_of}
+use Rattle.dev_serial.proofs.Facade.{◌≡◌, ℕ, ◌<◌, get_or, length, byte_of}
 use Rattle.dev_serial.proofs.stored.padded.Given as goal
 
 abbrev pub invariant-loop-place : goal.invariant-loop-place

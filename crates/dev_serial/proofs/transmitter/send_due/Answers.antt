@@ -1,6 +1,5 @@
-use Rattle.std.proofs.Common.{arith}
-use Rattle.std.proofs.lemmas.Bool.Decides.{nat_tests}
-use Rattle.dev_serial.proofs.SendLemmas.{stays-left, stays-line, stays-looped, ends-left, ends-line, ends-looped, moves-left, moves-line, moves-looped}
+use Rattle.dev_serial.proofs.Facade.{arith, nat_tests}
+use Rattle.dev_serial.proofs.SendingLaws.{stays-left, stays-line, stays-looped, ends-left, ends-line, ends-looped, moves-left, moves-line, moves-looped}
 use Rattle.dev_serial.proofs.transmitter.send_due.Goals as goal
 
 pub returns-then-shift-to : goal.returns-then-shift-to
@@ -37,6 +36,8 @@ bytes-preserved c =
       few_held = c.leave.ensures.still_few;
       room = omega (arith, c.leave.ensures.more, c.remove.ensures.len, c.bytes.invariant.room);
       left = moves-left c.args.mode _ _ h _ _ _ _ c.remove.ensures.value c.remove.ensures.items c.bytes.invariant.left (grind (arith, nat_tests));
-      line = moves-line c.args.mode _ _ h _ _ _ _ _ _ c.remove.ensures.value c.remove.ensures.items c.leave.ensures.line c.bytes.invariant.line (grind (arith, nat_tests));
-      looped = moves-looped c.args.mode _ _ h _ _ _ _ _ _ c.remove.ensures.value c.remove.ensures.items c.leave.ensures.looped c.bytes.invariant.looped (grind (arith, nat_tests));
+      line = moves-line c.args.mode _ _ h _ _ _ _ _ _ c.remove.ensures.value c.remove.ensures.items c.leave.ensures.line c.bytes.invariant.line
+          (grind (arith, nat_tests));
+      looped = moves-looped c.args.mode _ _ h _ _ _ _ _ _ c.remove.ensures.value c.remove.ensures.items c.leave.ensures.looped c.bytes.invariant.looped
+          (grind (arith, nat_tests));
     }

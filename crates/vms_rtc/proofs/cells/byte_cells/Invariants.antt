@@ -1,4 +1,4 @@
-use Rattle.std.proofs.Common.{◌≡◌, ◌∷◌, ◌+◌, length, take, pos, map}
+use Rattle.vms_rtc.proofs.Facade.{◌≡◌, ◌∷◌, ◌+◌, length, take, pos, map}
 use Rattle.vms_rtc.proofs.cells.byte_cells.Given as goal
 
 abbrev pub invariant-loop-byte : goal.invariant-loop-byte

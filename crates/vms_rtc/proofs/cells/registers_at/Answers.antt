@@ -1,13 +1,11 @@
-use Rattle.std.proofs.Common.{◌≡◌, arith}
-use Rattle.std.proofs.lemmas.List.{length-set}
-use Rattle.dev_base.proofs.PlaceLemmas.{one_set, all_set}
-use Rattle.vms_rtc.specs.Saved.{register_in}
+use Rattle.vms_rtc.proofs.Facade.{◌≡◌, arith, length-set, one_set, all_set, register_in}
 use Rattle.vms_rtc.proofs.cells.registers_at.Goals as goal
 
 pub loop-k-preserved : goal.loop-k-preserved
 loop-k-preserved c = record {
   len = simp length-set c.loop-k.invariant.len;
-  set = one_set (register_in c.args.cells.now.items) c.loop-k.cmos c.loop-k.k _ (omega (arith, c.loop-k.invariant.len, c.loop-k-test.true)) c.register_at.ensures c.loop-k.invariant.set;
+  set = one_set (register_in c.args.cells.now.items) c.loop-k.cmos c.loop-k.k _
+      (omega (arith, c.loop-k.invariant.len, c.loop-k-test.true)) c.register_at.ensures c.loop-k.invariant.set;
 }
 
 pub returns : goal.returns

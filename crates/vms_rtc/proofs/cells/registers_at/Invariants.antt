@@ -1,5 +1,4 @@
-use Rattle.std.proofs.Common.{◌≡◌, ℕ, ◌<◌, get_or, length}
-use Rattle.vms_rtc.specs.Saved.{register_in}
+use Rattle.vms_rtc.proofs.Facade.{◌≡◌, ℕ, ◌<◌, get_or, length, register_in}
 use Rattle.vms_rtc.proofs.cells.registers_at.Given as goal
 
 abbrev pub invariant-loop-k : goal.invariant-loop-k

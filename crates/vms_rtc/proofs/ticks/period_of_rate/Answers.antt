@@ -1,5 +1,4 @@
-use Rattle.std.proofs.Common.{◌-◌, ◌≤◌, ◌^◌, arith}
-use Rattle.std.proofs.Math.Pow.{pow_mono}
+use Rattle.vms_rtc.proofs.Facade.{◌-◌, ◌≤◌, ◌^◌, arith, pow_mono}
 use Rattle.vms_rtc.proofs.ticks.period_of_rate.Goals as goal
 
 pub returns-in_default-clause-small : goal.returns-in_default-clause-small

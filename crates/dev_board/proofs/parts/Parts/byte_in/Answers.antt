@@ -1,4 +1,4 @@
-use Rattle.dev_board.specs.View.{parts_view}
+use Rattle.dev_board.proofs.Facade.{parts_view}
 use Rattle.dev_board.proofs.KeepLaws.{byte-kept}
 use Rattle.dev_board.proofs.parts.Parts.byte_in.Goals as goal
 

@@ -1,6 +1,4 @@
-use Rattle.std.proofs.Common.{ℕ, sym, subst}
-use Rattle.dev_board.specs.Kept.{IsCalm}
-use Rattle.dev_board.specs.View.{parts_view}
+use Rattle.dev_board.proofs.Facade.{ℕ, sym, subst, IsCalm, parts_view}
 use Rattle.dev_board.proofs.KeepLaws.{loaded}
 use Rattle.dev_board.proofs.KeptLaws.{calm-turns}
 use Rattle.dev_board.proofs.parts.Parts.calm.Goals as goal

@@ -1,14 +1,5 @@
-use Rattle.std.proofs.Common.{ℕ, sym, ap, subst, ◌∙◌}
-use Rattle.dev_pic.specs.Pair.{int_of, lines_of}
-use Rattle.dev_board.specs.Kept.{IsCalm}
-use Rattle.dev_board.specs.Sound.{IsSound}
-use Rattle.dev_board.specs.State.{State}
-use Rattle.dev_board.specs.Step.{names_wire, settled, wires_after}
-use Rattle.dev_board.specs.Touch.{calm_after}
-use Rattle.dev_board.specs.View.{parts_view}
-use Rattle.dev_board.specs.Wires.{wires_of}
-use Rattle.dev_board.specs.declared.event.Event.TheVariants.{Wire}
-use Rattle.dev_board.specs.declared.touch.Before.{Before}
+use Rattle.dev_board.proofs.Facade.{ℕ, sym, ap, subst, ◌∙◌, int_of, lines_of, IsCalm, IsSound, State, names_wire, settled, wires_after, calm_after, parts_view}
+use Rattle.dev_board.proofs.Facade.{wires_of, Wire, Before}
 use Rattle.dev_board.proofs.KeepLaws.{after-ack}
 use Rattle.dev_board.proofs.KeptLaws.{calm-read, calm-write}
 use Rattle.dev_board.proofs.StayLaws.{after-ack as ack-stays, after-read, after-write}

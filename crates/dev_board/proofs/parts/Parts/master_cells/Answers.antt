@@ -1,6 +1,5 @@
-use Rattle.std.proofs.Common.{◌/◌, take, ap, ◌∙◌}
-use Rattle.dev_pic.specs.Cells.{saved_cells}
-use Rattle.dev_board.proofs.Halves.{master-half}
+use Rattle.dev_board.proofs.Facade.{◌/◌, take, ap, ◌∙◌, saved_cells}
+use Rattle.dev_board.proofs.RuleLaws.{master-half}
 use Rattle.dev_board.proofs.parts.Parts.master_cells.Goals as goal
 
 pub returns : goal.returns

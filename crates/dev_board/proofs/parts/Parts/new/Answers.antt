@@ -1,4 +1,4 @@
-use Rattle.dev_board.specs.State.{power_on}
+use Rattle.dev_board.proofs.Facade.{power_on}
 use Rattle.dev_board.proofs.SoundLaws.{on-devices, power_on-sound}
 use Rattle.dev_board.proofs.parts.Parts.new.Goals as goal
 

@@ -1,12 +1,4 @@
-use Rattle.std.proofs.Common.{◌<◌, arith, sym, ap, subst, ◌∙◌}
-use Rattle.std.proofs.lemmas.Bool.Decides.{nat_tests}
-use Rattle.dev_pic.specs.Pair.{lines_of}
-use Rattle.dev_board.specs.Kept.{IsCalm}
-use Rattle.dev_board.specs.State.{State}
-use Rattle.dev_board.specs.Step.{settled}
-use Rattle.dev_board.specs.Touch.{Stays}
-use Rattle.dev_board.specs.declared.touch.Before.{Before}
-use Rattle.dev_board.specs.declared.touch.Touch.{Touch}
+use Rattle.dev_board.proofs.Facade.{◌<◌, arith, sym, ap, subst, ◌∙◌, nat_tests, lines_of, IsCalm, State, settled, Stays, Before, Touch}
 use Rattle.dev_board.proofs.KeptLaws.{calm-wait}
 use Rattle.dev_board.proofs.StayLaws.{after-time}
 use Rattle.dev_board.proofs.parts.Parts.pass.Goals as goal
@@ -18,7 +10,8 @@ settle-kept-requires-clause-stays c =
     (after-time c.args.self.now c.requires.sound before
     (record { lines = c.lines-lines.ensures ∙ ap (λ (m : State). lines_of m.pair) c.self.view_is; int = c.requires.kept.int })
     c.later_by-to.result _ _ _ c.wait-edge.ensures
-    (λ e. let early : c.later_by-to.result < c.args.kept.now.calm = grind (arith, nat_tests) in (c.requires.kept.calm c.later_by-to.result c.later_by-to.ensures.after early).0))
+    (λ e. let early : c.later_by-to.result < c.args.kept.now.calm = grind
+    (arith, nat_tests) in (c.requires.kept.calm c.later_by-to.result c.later_by-to.ensures.after early).0))
 
 pub still_calm-kept-requires : goal.still_calm-kept-requires
 unfolding settled

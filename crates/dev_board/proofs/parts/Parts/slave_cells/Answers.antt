@@ -1,6 +1,5 @@
-use Rattle.std.proofs.Common.{ap, ◌∙◌}
-use Rattle.dev_pic.specs.Cells.{saved_cells}
-use Rattle.dev_board.proofs.Halves.{slave-half}
+use Rattle.dev_board.proofs.Facade.{ap, ◌∙◌, saved_cells}
+use Rattle.dev_board.proofs.RuleLaws.{slave-half}
 use Rattle.dev_board.proofs.parts.Parts.slave_cells.Goals as goal
 
 pub returns : goal.returns

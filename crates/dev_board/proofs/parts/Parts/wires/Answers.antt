@@ -1,5 +1,4 @@
-use Rattle.dev_board.specs.Wires.{wires_of}
-use Rattle.dev_board.specs.View.{parts_view}
+use Rattle.dev_board.proofs.Facade.{wires_of, parts_view}
 use Rattle.dev_board.proofs.WireBits.{wires_of-are}
 use Rattle.dev_board.proofs.parts.Parts.wires.Goals as goal
 

@@ -1,5 +1,6 @@
-use Rattle.std.proofs.Common.{rules, ◌≡◌, ◌∙◌}
-use Rattle.dev_serial.proofs.FieldLaws.{parts, parts_are}
+use Rattle.dev_serial.proofs.Facade.{◌≡◌, ◌∙◌}
+use Rattle.std.proofs.Common.{rules}
+use Rattle.dev_serial.proofs.SavedCells.{parts, parts_are}
 use Rattle.dev_serial.proofs.numbers.PortNumbers.cells.Goals as goal
 
 pub returns-clause-cells : goal.returns-clause-cells

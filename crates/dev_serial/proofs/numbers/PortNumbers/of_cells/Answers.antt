@@ -1,7 +1,6 @@
-use Rattle.std.proofs.Common.{arith}
-use Rattle.dev_serial.proofs.StoredKinds.{in_arrays, in_rings}
+use Rattle.dev_serial.proofs.Facade.{arith, RX_COUNT, TX_COUNT, TIMEOUT_AT, RX_DATA, TX_DATA}
+use Rattle.dev_serial.proofs.StoredLaws.{in_arrays, in_rings}
 use Rattle.dev_serial.proofs.numbers.PortNumbers.of_cells.Goals as goal
-use Rattle.vms_fields.specs.declared.serial.TheConstants.{RX_COUNT, TX_COUNT, TIMEOUT_AT, RX_DATA, TX_DATA}
 
 pub at-requires-clause-in_range : goal.at-requires-clause-in_range
 at-requires-clause-in_range c = in_arrays c.args.cells.now.items RX_COUNT 17 c.requires.of_kinds (omega arith) (omega arith)

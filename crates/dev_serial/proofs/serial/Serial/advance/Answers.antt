@@ -1,4 +1,5 @@
-use Rattle.std.proofs.Common.{rules, ◌≡◌, ℕ, List, [], sym, ap, ◌∙◌}
+use Rattle.dev_serial.proofs.Facade.{◌≡◌, ℕ, List, [], sym, ap, ◌∙◌}
+use Rattle.std.proofs.Common.{rules}
 use Rattle.dev_serial.proofs.SendingLaws.{still}
 use Rattle.dev_serial.proofs.serial.Serial.advance.Goals as goal
 

@@ -1,6 +1,4 @@
-use Rattle.dev_serial.specs.Stored.{byte_of}
-use Rattle.dev_base.proofs.PlaceLemmas.{firsts_more}
-use Rattle.std.proofs.Common.{arith, refl}
+use Rattle.dev_serial.proofs.Facade.{arith, refl, byte_of, firsts_more}
 use Rattle.dev_serial.proofs.stored.Counted.list.Goals as goal
 
 pub loop-i-preserved : goal.loop-i-preserved

@@ -1,4 +1,4 @@
-use Rattle.std.proofs.Common.{◌≡◌, length, take, pos, map}
+use Rattle.dev_serial.proofs.Facade.{◌≡◌, length, take, pos, map}
 use Rattle.dev_serial.proofs.stored.Ring.cells.Given as goal
 
 abbrev pub invariant-loop-byte : goal.invariant-loop-byte

@@ -1,6 +1,4 @@
-use Rattle.std.proofs.Common.{◌≡◌, true, take}
-use Rattle.std.specs.List.{range_with_len, list_all}
-use Rattle.dev_serial.specs.Stored.{is_held_or_zero}
+use Rattle.dev_serial.proofs.Facade.{◌≡◌, true, take, range_with_len, list_all, is_held_or_zero}
 use Rattle.dev_serial.proofs.stored.Ring.is_zero_outside.Given as goal
 
 abbrev pub invariant-loop-place : goal.invariant-loop-place

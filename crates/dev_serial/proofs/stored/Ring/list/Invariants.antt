@@ -1,6 +1,4 @@
-use Rattle.std.proofs.Common.{◌≡◌, ◌+◌, ◌%◌, length}
-use Rattle.dev_base.specs.Cells.{firsts}
-use Rattle.dev_serial.specs.Stored.{byte_of}
+use Rattle.dev_serial.proofs.Facade.{◌≡◌, ◌+◌, ◌%◌, length, firsts, byte_of}
 use Rattle.dev_serial.proofs.stored.Ring.list.Given as goal
 
 abbrev pub invariant-loop-i : goal.invariant-loop-i
