@@ -1,31 +1,17 @@
 -- Lines of a session, one after the other.
-use Rattle.std.proofs.Common.{◌≡◌, ◌⊎◌, inl, inr, ℕ, zero, suc, ◌+◌, ◌<◌, ◌≤◌, List, [], ◌∷◌, ◌++◌, append-nil, length, take, drop, get_or, Option, Some, Result, Ok, Err, refl, sym, ap, subst, ◌∙◌, arith}
-use Rattle.std.proofs.lemmas.List.{drop_all, drop_more, take_all}
-use Rattle.std.proofs.KnownBytes.{Appends-nil, Appends-trans}
-use Rattle.std.specs.Io.KnownBytes.{Appends}
-use Rattle.dev_board.specs.State.{State}
-use Rattle.vms_io.specs.Causes.{Rose}
-use Rattle.vms_io.specs.Shelves.{Held}
-use Rattle.vms_io.specs.Shelving.{Reaches}
-use Rattle.vms_io.specs.Told.{Outlet, Stock}
-use Rattle.vms_io.specs.Writing.{Serves}
-use Rattle.vms_io.proofs.ShelvingLemmas.{reaches_both}
-use Rattle.vms_io.proofs.WritingLemmas.{serves_both}
-use Rattle.vms_commands.specs.Outcomes.{Part, text_of, text_begun, held_after, stored_next, HoldsBut, ComesTo, FailsToStore}
-use Rattle.vms_script.specs.Grammar.{IsLine, AreLines}
-use Rattle.vms_script.specs.Lines.{ScriptLine}
-use Rattle.vms_script.specs.Views.{line_view, lines_view}
-use Rattle.vms_script.specs.declared.line.Line.{Line}
-use Rattle.vms_session.specs.Session.{Session, Does}
+use Rattle.vms_session.proofs.Facade.{◌≡◌, ◌⊎◌, inl, inr, ℕ, zero, suc, ◌+◌, ◌<◌, ◌≤◌, List, [], ◌∷◌, ◌++◌, append-nil, length, take, drop, get_or, Option}
+use Rattle.vms_session.proofs.Facade.{Some, Result, Ok, Err, refl, sym, ap, subst, ◌∙◌, arith, drop_all, drop_more, take_all, Appends-nil, Appends-trans}
+use Rattle.vms_session.proofs.Facade.{Appends, State, Rose, Held, Reaches, Outlet, Stock, Serves, reaches_both, serves_both, Part, text_of, text_begun}
+use Rattle.vms_session.proofs.Facade.{held_after, stored_next, HoldsBut, FailsToStore, IsLine, AreLines, ScriptLine, line_view, lines_view, Line, Session, Does}
+use Rattle.vms_session.proofs.Facade.{stored_by, part_of, Plays, session_of, DoesSome, Goes, LinesEnd, HasPlayCause, PlayFault, WriteFault, ShelfFault}
+use Rattle.vms_session.proofs.Facade.{NoMemory}
+use Rattle.vms_commands.specs.Outcomes.{ComesTo}
 use Rattle.vms_session.proofs.PartLemmas.{text_next, held_next, rest_next, begun_next, begun_whole, text_all, held_all}
-use Rattle.vms_session.specs.Parts.{stored_by, part_of, Plays}
-use Rattle.vms_session.specs.Playing.{session_of, DoesSome, Goes, LinesEnd, HasPlayCause}
-use Rattle.vms_session.specs.declared.line.PlayFault.{PlayFault}
-use Rattle.vms_session.specs.declared.line.PlayFault.TheVariants.{WriteFault, ShelfFault, NoMemory}
 
 -- ---- lines
 
-pub lines_next : (lines : List Line) (i : ℕ) (line : Line) → i < length lines → line ≡ get_or lines i line → lines_view (drop i lines) ≡ line_view line ∷ lines_view (drop (i + 1) lines)
+pub lines_next : (lines : List Line) (i : ℕ) (line : Line) → i < length lines → line ≡ get_or lines i line
+    → lines_view (drop i lines) ≡ line_view line ∷ lines_view (drop (i + 1) lines)
 lines_next lines i line lt is =
     ap lines_view (drop_more lines i line lt) ∙ ap (λ (l : Line). line_view l ∷ lines_view (drop (i + 1) lines)) (sym is)
 
@@ -43,7 +29,8 @@ are_lines play said left line e h = let are : AreLines play (line ∷ left) = su
 pub rose_since : (a b c : ℕ) → a ≤ b → Rose b c → Rose a c
 rose_since a b c le rose = omega (arith, le, rose)
 
-cause_since : (out out' out'' : Outlet) (shelf shelf' shelf'' : Stock) (result : Result Unit PlayFault) → out.faults ≤ out'.faults → shelf.faults ≤ shelf'.faults
+cause_since : (out out' out'' : Outlet) (shelf shelf' shelf'' : Stock) (result : Result Unit PlayFault) → out.faults ≤ out'.faults
+    → shelf.faults ≤ shelf'.faults
     → HasPlayCause out' out'' shelf' shelf'' result → HasPlayCause out out'' shelf shelf'' result
 cause_since out out' out'' shelf shelf' shelf'' (Ok u) p q h = h
 cause_since out out' out'' shelf shelf' shelf'' (Err WriteFault) p q h = rose_since out.faults out'.faults out''.faults p h
@@ -62,7 +49,8 @@ goes_since {out} {out'} {out''} {shelf} {shelf'} {shelf''} {result} p q g = reco
 -- ---- a session in its course
 
 -- after the first i lines: what the shelf holds, the parts that are left, and what was written
-pub record InCourse (i : ℕ) (left : List ScriptLine) (parts : List Part) (new : Session) (board : State) (out out' : Outlet) (shelf shelf' : Stock) : Type 0 where
+pub record InCourse (i : ℕ) (left : List ScriptLine) (parts : List Part) (new : Session) (board : State) (out out' : Outlet)
+    (shelf shelf' : Stock) : Type 0 where
   pub holds : Held
   pub told : shelf'.held ≡ Some holds
   pub rest : Plays left (session_of board holds) (drop i parts) new
@@ -76,14 +64,22 @@ in_course lines parts new board held out shelf told plays =
 
 -- nothing of a part was done, or some of it was written once the shelf was as after it
 one_part : (out out' : Outlet) (shelf shelf' : Stock) (part : Part) → ComesTo out out' shelf shelf' (part ∷ [])
-    → (Appends out.written out'.written [] × (shelf'.held ≡ shelf.held)) ⊎ ((n : ℕ) × Appends out.written out'.written (take n part.text) × (shelf'.held ≡ part.held))
+    → (Appends out.written out'.written [] × (shelf'.held ≡ shelf.held))
+    ⊎ ((n : ℕ) × Appends out.written out'.written (take n part.text) × (shelf'.held ≡ part.held))
 one_part out out' shelf shelf' part comes = by comes.begun comes.text comes.held
   where
     by : (k : ℕ) → Appends out.written out'.written (text_begun (part ∷ []) k comes.bytes) → shelf'.held ≡ held_after shelf.held (take k (part ∷ []))
-        → (Appends out.written out'.written [] × (shelf'.held ≡ shelf.held)) ⊎ ((n : ℕ) × Appends out.written out'.written (take n part.text) × (shelf'.held ≡ part.held))
+        → (Appends out.written out'.written [] × (shelf'.held ≡ shelf.held))
+        ⊎ ((n : ℕ) × Appends out.written out'.written (take n part.text) × (shelf'.held ≡ part.held))
     by zero text held = inl (text, held)
     by (suc zero) text held = inr (comes.bytes, text, held)
-    by (suc (suc k)) text held = inr (length part.text, subst (Appends out.written out'.written) (append-nil part.text ∙ sym (take_all (length part.text) part.text (omega arith))) text, held)
+    by (suc (suc k)) text held =
+        inr (
+          length part.text,
+          subst (Appends out.written out'.written)
+              (append-nil part.text ∙ sym (take_all (length part.text) part.text (omega arith))) text,
+          held,
+        )
 
 -- what a line's call says, of each text and session that the line leaves
 abbrev pub Content : ScriptLine → State → State → (out out' : Outlet) (shelf shelf' : Stock) → Result Unit PlayFault → Type 0
@@ -91,7 +87,8 @@ Content line board board' out out' shelf shelf' result =
     (held : Held) (text : List ℕ) (new : Session) → shelf.held ≡ Some held → Does line (session_of board held) text new
     → LinesEnd (part_of line text new ∷ []) new out out' shelf shelf' board' result
 
-module _ (i : ℕ) (line : ScriptLine) (left : List ScriptLine) (parts : List Part) (new : Session) (board board' : State) (out out' out'' : Outlet) (shelf shelf' shelf'' : Stock)
+module _ (i : ℕ) (line : ScriptLine) (left : List ScriptLine) (parts : List Part) (new : Session) (board board' : State) (out out' out'' : Outlet)
+    (shelf shelf' shelf'' : Stock)
     (course : InCourse i (line ∷ left) parts new board out out' shelf shelf') where
   abbrev text : List ℕ
   text = course.rest.0
@@ -118,13 +115,16 @@ module _ (i : ℕ) (line : ScriptLine) (left : List ScriptLine) (parts : List Pa
 
   -- all of the lines before this one has been written, where this one writes nothing
   behind : Appends out'.written out''.written [] → Appends out.written out''.written (text_of (take i parts))
-  behind none = subst (Appends out.written out''.written) (append-nil (text_of (take i parts))) (Appends-trans out.written out'.written out''.written (text_of (take i parts)) [] course.text none)
+  behind none =
+      subst (Appends out.written out''.written) (append-nil (text_of (take i parts)))
+      (Appends-trans out.written out'.written out''.written (text_of (take i parts)) [] course.text none)
 
   -- the result of this one is the result of all
   comes_behind : ComesTo out' out'' shelf' shelf'' (part_of line text between ∷ []) → ComesTo out out'' shelf shelf'' parts
   comes_behind comes = by (one_part out' out'' shelf' shelf'' (part_of line text between) comes)
     where
-      by : (Appends out'.written out''.written [] × (shelf''.held ≡ shelf'.held)) ⊎ ((n : ℕ) × Appends out'.written out''.written (take n text) × (shelf''.held ≡ Some between.held))
+      by : (Appends out'.written out''.written [] × (shelf''.held ≡ shelf'.held))
+          ⊎ ((n : ℕ) × Appends out'.written out''.written (take n text) × (shelf''.held ≡ Some between.held))
           → ComesTo out out'' shelf shelf'' parts
       by (inl none) = record {
         begun = i;
@@ -163,13 +163,15 @@ module _ (i : ℕ) (line : ScriptLine) (left : List ScriptLine) (parts : List Pa
       by (suc (suc k)) all held = whole all held
 
   -- but for the name under which this one stores
-  fails_behind : shelf.faults ≤ shelf'.faults → FailsToStore out' out'' shelf' shelf'' (part_of line text between ∷ []) → FailsToStore out out'' shelf shelf'' parts
+  fails_behind : shelf.faults ≤ shelf'.faults → FailsToStore out' out'' shelf' shelf'' (part_of line text between ∷ [])
+      → FailsToStore out out'' shelf shelf'' parts
   fails_behind le fails = by fails.done fails.text fails.held
     where
       part : Part
       part = part_of line text between
 
-      by : (k : ℕ) → Appends out'.written out''.written (text_of (take k (part ∷ []))) → HoldsBut (stored_next (drop k (part ∷ []))) (held_after shelf'.held (take k (part ∷ []))) shelf''.held
+      by : (k : ℕ) → Appends out'.written out''.written (text_of (take k (part ∷ [])))
+          → HoldsBut (stored_next (drop k (part ∷ []))) (held_after shelf'.held (take k (part ∷ []))) shelf''.held
           → FailsToStore out out'' shelf shelf'' parts
       by zero none but = record {
         done = i;
@@ -181,7 +183,8 @@ module _ (i : ℕ) (line : ScriptLine) (left : List ScriptLine) (parts : List Pa
       by (suc zero) none but = absurd but
       by (suc (suc k)) none but = absurd but
 
-  pub course_stops : (fault : PlayFault) → shelf.faults ≤ shelf'.faults → Content line board board' out' out'' shelf' shelf'' (Err fault) → LinesEnd parts new out out'' shelf shelf'' board' (Err fault)
+  pub course_stops : (fault : PlayFault) → shelf.faults ≤ shelf'.faults → Content line board board' out' out'' shelf' shelf'' (Err fault)
+      → LinesEnd parts new out out'' shelf shelf'' board' (Err fault)
   course_stops WriteFault le content = comes_behind (content course.holds text between course.told course.rest.3)
   course_stops ShelfFault le content = by (content course.holds text between course.told course.rest.3)
     where
@@ -192,7 +195,8 @@ module _ (i : ℕ) (line : ScriptLine) (left : List ScriptLine) (parts : List Pa
   course_stops NoMemory le content = does_behind (content course.holds text between course.told course.rest.3)
 
 -- the same of lines that begin with this one
-module _ (i : ℕ) (line : ScriptLine) (left said : List ScriptLine) (split : said ≡ line ∷ left) (parts : List Part) (new : Session) (board board' : State) (out out' out'' : Outlet) (shelf shelf' shelf'' : Stock)
+module _ (i : ℕ) (line : ScriptLine) (left said : List ScriptLine) (split : said ≡ line ∷ left) (parts : List Part) (new : Session) (board board' : State)
+    (out out' out'' : Outlet) (shelf shelf' shelf'' : Stock)
     (course : InCourse i said parts new board out out' shelf shelf') where
   begun : InCourse i (line ∷ left) parts new board out out' shelf shelf'
   begun = subst (λ (l : List ScriptLine). InCourse i l parts new board out out' shelf shelf') split course
@@ -203,7 +207,8 @@ module _ (i : ℕ) (line : ScriptLine) (left said : List ScriptLine) (split : sa
       subst (λ (n : ℕ). InCourse n left parts new board' out out'' shelf shelf'') one
       (course_goes i line left parts new board board' out out' out'' shelf shelf' shelf'' begun content)
 
-  pub stop_course : (fault : PlayFault) → shelf.faults ≤ shelf'.faults → Content line board board' out' out'' shelf' shelf'' (Err fault) → LinesEnd parts new out out'' shelf shelf'' board' (Err fault)
+  pub stop_course : (fault : PlayFault) → shelf.faults ≤ shelf'.faults → Content line board board' out' out'' shelf' shelf'' (Err fault)
+      → LinesEnd parts new out out'' shelf shelf'' board' (Err fault)
   stop_course fault le content = course_stops i line left parts new board board' out out' out'' shelf shelf' shelf'' begun fault le content
 
 pub course_ends : (i : ℕ) (parts : List Part) (new : Session) (board : State) (out out' : Outlet) (shelf shelf' : Stock)

@@ -1,30 +1,12 @@
 -- Each session has a trace and an end.
-use Rattle.std.proofs.Common.{◌≡◌, ℕ, ◌<◌, ◌≤◌, Bool, true, false, if◌then◌else◌, List, [], ◌∷◌, length, Option, Some, None, nat_lt, arith, refl, sym, subst, ◌∙◌}
-use Rattle.std.specs.Str.{bytes_eq}
-use Rattle.std.proofs.lemmas.Slice.Eq.{bytes_eq-Decides}
-use Rattle.std.proofs.lemmas.Bool.Decides.{nat_tests}
-use Rattle.dev_base.specs.declared.limits.TheConstants.{NEWEST}
-use Rattle.dev_board.specs.Sound.{IsSound}
-use Rattle.dev_board.specs.State.{State}
-use Rattle.dev_board.specs.Step.{step}
-use Rattle.vms_desc.specs.Formed.{shipped_set}
-use Rattle.vms_io.specs.Shelves.{Held, PutsUnder}
-use Rattle.vms_script.specs.Grammar.{IsLine, AreLines}
-use Rattle.vms_script.specs.Lines.{ScriptLine, Happens, Saves, Restores as Loads, is_set_of}
-use Rattle.vms_script.specs.Trace.{trace_line}
+use Rattle.vms_session.proofs.Facade.{◌≡◌, ℕ, ◌<◌, ◌≤◌, Bool, true, false, if◌then◌else◌, List, [], ◌∷◌, length, Option, Some, None, nat_lt, arith, refl, sym}
+use Rattle.vms_session.proofs.Facade.{subst, ◌∙◌, bytes_eq, bytes_eq-Decides, nat_tests, NEWEST, IsSound, State, step, shipped_set, Held, PutsUnder, IsLine}
+use Rattle.vms_session.proofs.Facade.{AreLines, ScriptLine, Happens, Saves, is_set_of, trace_line, streams_come_back, bytes_are_one, Restore, Back, Refused}
+use Rattle.vms_session.proofs.Facade.{Restores, saved_stream, part_of, HoldsBytes, HasAnEnd, SessionsEnd, saved_line, restored_line, missing_line}
+use Rattle.vms_session.proofs.Facade.{too_large_line, refused_line, Session, IsTooLarge, IsLoaded, LoadsHeld, Does, longest_file, isa, MaySaveIn}
+use Rattle.vms_script.specs.Lines.{Restores as Loads}
 use Rattle.vms_session.proofs.SessionLaws.{line_level}
 use Rattle.vms_session.proofs.SoundLaws.{sessions_stay_sound}
-use Rattle.vms_board_streams.proofs.IsaLaws.{streams_come_back, bytes_are_one}
-use Rattle.vms_board.specs.Restoring.{Restore, Back, Refused, Restores}
-use Rattle.vms_board.specs.Saving.{saved_stream}
-use Rattle.vms_session.specs.Parts.{part_of}
-use Rattle.vms_io.specs.Shelves.{HoldsAll, HoldsBytes}
-use Rattle.vms_session.specs.Laws.{HasAnEnd, SessionsEnd}
-use Rattle.vms_session.specs.Lines.{saved_line, restored_line, missing_line, too_large_line, refused_line}
-use Rattle.vms_session.specs.Session.{Session, IsTooLarge, IsLoaded, LoadsHeld, Does}
-use Rattle.vms_commands.specs.Fetching.{longest_file}
-use Rattle.vms_board.specs.Isa.{isa}
-use Rattle.vms_board.specs.Family.{MaySaveIn}
 
 -- ---- what bytes restore
 
@@ -60,7 +42,8 @@ puts-under held name bytes = record {
   others = λ other ne. differs (bytes_eq other name) (Some bytes) (held other) (λ e. ne ((bytes_eq-Decides other name).0 e));
 }
 
-either-comes : (level : ℕ) (b : Bool) (bytes : List ℕ) (held : Option (List ℕ)) → Comes level bytes → HeldComes level held → HeldComes level (if b then Some bytes else held)
+either-comes : (level : ℕ) (b : Bool) (bytes : List ℕ) (held : Option (List ℕ)) → Comes level bytes → HeldComes level held
+    → HeldComes level (if b then Some bytes else held)
 either-comes level true bytes held new old = new
 either-comes level false bytes held new old = old
 
@@ -121,7 +104,8 @@ held-end name old (Some bytes) there comes held =
 pub may_save : (m : State) (set : ℕ) → is_set_of NEWEST m.level set ≡ true → MaySaveIn isa m set
 may_save m set e = record { level_le_set = grind (arith, nat_tests, e); set_le_newest = grind (arith, nat_tests, e) }
 
-saved-ends : (set : ℕ) (name : List ℕ) (old : Session) → MaySaveIn isa old.board set → IsSound old.board → still old.board.level old.held → LineEnds (Saves set name) old
+saved-ends : (set : ℕ) (name : List ℕ) (old : Session) → MaySaveIn isa old.board set → IsSound old.board → still old.board.level old.held
+    → LineEnds (Saves set name) old
 saved-ends set name old may s held =
     let back = streams_come_back.stream set old.board s may in
     record {
@@ -145,7 +129,8 @@ line-ends (Loads name) old good s held = held-end name old (old.held name) refl 
 -- ---- scripts
 
 -- at an unchanged level
-lines-end : (level : ℕ) (lines : List ScriptLine) (old : Session) → old.board.level ≡ level → AreLines (Some level) lines → IsSound old.board → still level old.held → HasAnEnd lines old
+lines-end : (level : ℕ) (lines : List ScriptLine) (old : Session) → old.board.level ≡ level → AreLines (Some level) lines → IsSound old.board
+    → still level old.held → HasAnEnd lines old
 lines-end level [] old at good s held = record { parts = []; new = old; plays = (refl, refl) }
 lines-end level (line ∷ lines) old at good s held =
     let first = line-ends line old (subst (λ (l : ℕ). IsLine (Some l) line) (sym at) good.0) s (subst (λ (l : ℕ). still l old.held) (sym at) held) in

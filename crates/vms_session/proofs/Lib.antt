@@ -1,5 +1,6 @@
 pub mod CourseLemmas
 pub mod EndLaws
+pub mod Facade
 pub mod OneLaws
 pub mod PartLemmas
 pub mod RefusalLaws
@@ -7,4 +8,3 @@ pub mod RunLemmas
 pub mod ScriptLaws
 pub mod SessionLaws
 pub mod SoundLaws
-pub mod StreamLemmas

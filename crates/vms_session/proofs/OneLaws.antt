@@ -1,23 +1,9 @@
 -- What bytes are to a restore is one thing, and what a line does is one thing.
-use Rattle.std.proofs.Common.{◌≡◌, ◌≢◌, ℕ, Bool, true, false, List, Option, Some, None, arith, refl, sym, ap, subst, ◌∙◌}
-use Rattle.std.specs.Str.{bytes_eq}
-use Rattle.std.proofs.lemmas.Slice.Eq.{bytes_eq-Decides}
-use Rattle.dev_base.specs.declared.limits.TheConstants.{NEWEST}
-use Rattle.dev_board.specs.State.{State}
-use Rattle.dev_board.specs.Step.{step}
-use Rattle.vms_desc.specs.Formed.{shipped_set}
-use Rattle.vms_io.specs.Shelves.{Held, PutsUnder}
-use Rattle.vms_script.specs.Lines.{ScriptLine, Happens, Saves, Restores as Loads}
-use Rattle.vms_script.specs.Trace.{trace_line}
-use Rattle.vms_kinds.specs.Bytes.{IsBytes}
-use Rattle.vms_board_streams.proofs.IsaLaws.{bytes_are_one}
-use Rattle.vms_board.specs.Restoring.{Restore, Back, Refused}
-use Rattle.vms_board.specs.Saving.{saved_stream}
-use Rattle.vms_io.specs.Shelves.{HoldsBytes}
-use Rattle.vms_session.specs.Laws.{ReadsBytes, LinesAreOne, IsOneEnd}
-use Rattle.vms_session.specs.Lines.{restored_line, missing_line, too_large_line, refused_line}
-use Rattle.vms_session.specs.Session.{Session, Leaves, ComesTo, IsTooLarge, IsLoaded, LoadsBytes, LoadsHeld, Does}
-use Rattle.vms_board.specs.Isa.{isa}
+use Rattle.vms_session.proofs.Facade.{◌≡◌, ◌≢◌, ℕ, Bool, true, false, List, Option, Some, None, arith, refl, sym, ap, subst, ◌∙◌, bytes_eq, bytes_eq-Decides}
+use Rattle.vms_session.proofs.Facade.{NEWEST, State, step, shipped_set, Held, PutsUnder, ScriptLine, Happens, Saves, trace_line, IsBytes, bytes_are_one}
+use Rattle.vms_session.proofs.Facade.{Restore, Back, Refused, saved_stream, HoldsBytes, ReadsBytes, LinesAreOne, IsOneEnd, restored_line, missing_line}
+use Rattle.vms_session.proofs.Facade.{too_large_line, refused_line, Session, Leaves, ComesTo, IsTooLarge, IsLoaded, LoadsBytes, LoadsHeld, Does, isa}
+use Rattle.vms_script.specs.Lines.{Restores as Loads}
 
 -- ---- lines
 
@@ -39,10 +25,12 @@ one_map old a b name bytes p q = let same = same-held old a b name bytes p q in 
 abbrev session : State → Held → Session
 session board held = record { board = board; held = held }
 
-same-left : (said : List ℕ) (after : Session) (text text' : List ℕ) (new new' : Session) → Leaves said after text new → Leaves said after text' new' → IsOneEnd text text' new new'
+same-left : (said : List ℕ) (after : Session) (text text' : List ℕ) (new new' : Session) → Leaves said after text new → Leaves said after text' new'
+    → IsOneEnd text text' new new'
 same-left said after text text' new new' a b = record { texts = a.text_is ∙ sym b.text_is; ends = a.new_is ∙ sym b.new_is }
 
-same-bytes : (bytes : List ℕ) (old : Session) (text text' : List ℕ) (new new' : Session) → IsBytes bytes → LoadsBytes bytes old text new → LoadsBytes bytes old text' new' → IsOneEnd text text' new new'
+same-bytes : (bytes : List ℕ) (old : Session) (text text' : List ℕ) (new new' : Session) → IsBytes bytes → LoadsBytes bytes old text new
+    → LoadsBytes bytes old text' new' → IsOneEnd text text' new new'
 same-bytes bytes old text text' new new' ok (IsTooLarge long a) (IsTooLarge long' b) = same-left too_large_line old text text' new new' a b
 same-bytes bytes old text text' new new' ok (IsTooLarge long a) (IsLoaded r few restores b) = absurd (omega (arith, long, few))
 same-bytes bytes old text text' new new' ok (IsLoaded r few restores a) (IsTooLarge long b) = absurd (omega (arith, long, few))
@@ -54,11 +42,13 @@ same-bytes bytes old text text' new new' ok (IsLoaded r few restores a) (IsLoade
     come (Back m taken) a b = same-left (restored_line taken) (record old { board = m }) text text' new new' a b
     come (Refused place section reason) a b = same-left (refused_line (shipped_set NEWEST) place section reason) old text text' new new' a b
 
-same-under : (held : Option (List ℕ)) (old : Session) (text text' : List ℕ) (new new' : Session) → HoldsBytes held → LoadsHeld held old text new → LoadsHeld held old text' new' → IsOneEnd text text' new new'
+same-under : (held : Option (List ℕ)) (old : Session) (text text' : List ℕ) (new new' : Session) → HoldsBytes held → LoadsHeld held old text new
+    → LoadsHeld held old text' new' → IsOneEnd text text' new new'
 same-under None old text text' new new' ok a b = same-left missing_line old text text' new new' a b
 same-under (Some bytes) old text text' new new' ok a b = same-bytes bytes old text text' new new' ok a b
 
-pub one_end : (line : ScriptLine) (old : Session) (text text' : List ℕ) (new new' : Session) → ReadsBytes line old → Does line old text new → Does line old text' new' → IsOneEnd text text' new new'
+pub one_end : (line : ScriptLine) (old : Session) (text text' : List ℕ) (new new' : Session) → ReadsBytes line old → Does line old text new
+    → Does line old text' new' → IsOneEnd text text' new new'
 one_end (Happens event) old text text' new new' ok a b =
     same-left (trace_line (step event old.board).0) (record old { board = (step event old.board).1 }) text text' new new' a b
 one_end (Saves set name) old text text' new new' ok a b =

@@ -1,8 +1,6 @@
 -- Parts of a session, one after the other.
-use Rattle.std.proofs.Common.{◌≡◌, ℕ, zero, suc, ◌≤◌, List, [], ◌∷◌, ◌++◌, length, take, drop, Option, Some, refl, sym, ap, ◌∙◌, append_assoc, append-nil, arith, length-append}
-use Rattle.std.proofs.lemmas.List.{take_all}
-use Rattle.vms_io.specs.Shelves.{Held}
-use Rattle.vms_commands.specs.Outcomes.{Part, text_of, text_begun, held_after}
+use Rattle.vms_session.proofs.Facade.{◌≡◌, ℕ, zero, suc, ◌≤◌, List, [], ◌∷◌, ◌++◌, length, take, drop, Option, refl, sym, ap, ◌∙◌, append_assoc, append-nil}
+use Rattle.vms_session.proofs.Facade.{arith, length-append, take_all, Held, Part, text_of, text_begun, held_after}
 
 module _ (part : Part) (rest : List Part) where
   -- the part that comes next

@@ -1,18 +1,9 @@
 -- Events, one after the other.
-use Rattle.std.proofs.Common.{◌≡◌, ℕ, zero, suc, ◌+◌, ◌<◌, ◌≤◌, List, [], ◌∷◌, ◌++◌, length, take, drop, get_or, Option, refl, sym, ap, subst, ◌∙◌, arith}
-use Rattle.std.proofs.lemmas.List.{drop_all, drop_more}
-use Rattle.dev_board.specs.Laws.{AreEvents, IsEvent}
-use Rattle.dev_board.specs.Step.{after_by, answers_by}
-use Rattle.dev_board.specs.declared.event.Event.{Event}
-use Rattle.dev_board.specs.declared.event.Event.TheVariants.{Read}
-use Rattle.vms_board.specs.Family.{Family}
-use Rattle.vms_board_streams.specs.Streams.{after_events}
-use Rattle.vms_script.specs.Grammar.{AreLines}
-use Rattle.vms_script.specs.Lines.{ScriptLine, Happens, Saves, Restores}
-use Rattle.vms_script.specs.Trace.{trace_line}
-use Rattle.vms_script.specs.Views.{event_lines}
+use Rattle.vms_session.proofs.Facade.{◌≡◌, ℕ, zero, suc, ◌+◌, ◌<◌, ◌≤◌, List, [], ◌∷◌, ◌++◌, length, take, drop, get_or, Option, refl, sym, ap, subst, ◌∙◌}
+use Rattle.vms_session.proofs.Facade.{arith, drop_all, drop_more, AreEvents, IsEvent, after_by, answers_by, Event, Read, Family, after_events, AreLines}
+use Rattle.vms_session.proofs.Facade.{ScriptLine, Happens, Saves, trace_line, event_lines, events_of, trace_from}
+use Rattle.vms_script.specs.Lines.{Restores}
 use Rattle.vms_session.proofs.SoundLaws.{event_is, line_event}
-use Rattle.vms_session.specs.Events.{events_of, trace_from}
 
 -- ---- events
 
@@ -49,7 +40,8 @@ are_events play events are = subst AreEvents (events_back events) (lines_are_eve
 -- ---- the board
 
 module _ {S : Type 0} (f : Family S) where
-  pub after_next : (event : Event) (rest events : List Event) (m m' : S) → events ≡ event ∷ rest → m' ≡ (f.step event m).1 → after_events f rest m' ≡ after_events f events m
+  pub after_next : (event : Event) (rest events : List Event) (m m' : S) → events ≡ event ∷ rest → m' ≡ (f.step event m).1
+      → after_events f rest m' ≡ after_events f events m
   unfolding after_by
   after_next event rest events m m' e done = ap (after_events f rest) done ∙ sym (ap (λ (es : List Event). after_events f es m) e)
 

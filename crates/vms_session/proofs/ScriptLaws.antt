@@ -1,23 +1,12 @@
 -- A script of a session leaves one trace and one session, and the shelf still holds bytes.
-use Rattle.std.proofs.Common.{◌≡◌, ℕ, List, [], ◌∷◌, Option, Some, None, refl, sym, ap, ◌∙◌, subst}
-use Rattle.dev_board.specs.Sound.{IsSound}
-use Rattle.vms_board.specs.Restoring.{Back, Refused}
-use Rattle.vms_board.specs.Saving.{saved_stream}
-use Rattle.vms_io.proofs.PutLemmas.{puts_bytes}
-use Rattle.vms_io.specs.Shelves.{Held, HoldsAll}
-use Rattle.vms_script.specs.Grammar.{AreLines, IsLine}
-use Rattle.vms_script.specs.Lines.{ScriptLine, Happens, Saves, Restores as Loads}
+use Rattle.vms_session.proofs.Facade.{◌≡◌, ℕ, List, [], ◌∷◌, Option, Some, None, refl, sym, ap, ◌∙◌, subst, IsSound, Back, Refused, saved_stream, puts_bytes}
+use Rattle.vms_session.proofs.Facade.{Held, HoldsAll, AreLines, IsLine, ScriptLine, Happens, Saves, streams_are_bytes, Part, Plays, part_of, IsOneCourse}
+use Rattle.vms_session.proofs.Facade.{ReadsBytes, SessionsAreOne, Session, Does, IsLoaded, IsTooLarge, LoadsHeld, isa}
+use Rattle.vms_script.specs.Lines.{Restores as Loads}
 use Rattle.vms_session.proofs.EndLaws.{may_save}
 use Rattle.vms_session.proofs.OneLaws.{one_end}
 use Rattle.vms_session.proofs.SessionLaws.{line_level}
 use Rattle.vms_session.proofs.SoundLaws.{sessions_stay_sound}
-use Rattle.vms_board_streams.proofs.IsaBytes.{streams_are_bytes}
-use Rattle.vms_commands.specs.Outcomes.{Part}
-use Rattle.vms_session.specs.Parts.{Plays, part_of}
-use Rattle.vms_session.specs.Laws.{IsOneCourse, ReadsBytes, SessionsAreOne}
-use Rattle.vms_session.specs.Session.{Session, Does, IsLoaded, IsTooLarge, LoadsHeld}
-use Rattle.vms_kinds.specs.Bytes.{IsBytes}
-use Rattle.vms_board.specs.Isa.{isa}
 
 -- ---- the shelf still holds bytes
 
@@ -35,7 +24,8 @@ reads_bytes (Happens event) old holds = tt
 reads_bytes (Saves set name) old holds = tt
 reads_bytes (Loads name) old holds = holds name
 
-pub line_holds : (line : ScriptLine) (old : Session) (text : List ℕ) (new : Session) → IsLine (Some old.board.level) line → Does line old text new → IsSound old.board
+pub line_holds : (line : ScriptLine) (old : Session) (text : List ℕ) (new : Session) → IsLine (Some old.board.level) line → Does line old text new
+    → IsSound old.board
     → HoldsAll old.held → HoldsAll new.held
 line_holds (Happens event) old text new good does s holds = subst HoldsAll (sym (ap held-of does.new_is)) holds
 line_holds (Saves set name) old text new good does s holds =
@@ -53,14 +43,16 @@ pub record Follows (level : ℕ) (after : Session) : Type 0 where
 good-at : (level : ℕ) (line : ScriptLine) (old : Session) → Follows level old → IsLine (Some level) line → IsLine (Some old.board.level) line
 good-at level line old f good = subst (λ (l : ℕ). IsLine (Some l) line) (sym f.at) good
 
-pub line_follows : (level : ℕ) (line : ScriptLine) (old : Session) (text : List ℕ) (new : Session) → IsLine (Some level) line → Does line old text new → Follows level old → Follows level new
+pub line_follows : (level : ℕ) (line : ScriptLine) (old : Session) (text : List ℕ) (new : Session) → IsLine (Some level) line → Does line old text new
+    → Follows level old → Follows level new
 line_follows level line old text new good does f = record {
   at = line_level line old text new does ∙ f.at;
   sound = sessions_stay_sound.line (Some level) line old text new good does f.sound;
   holds = line_holds line old text new (good-at level line old f good) does f.sound f.holds;
 }
 
-lines-one : (level : ℕ) (lines : List ScriptLine) (old : Session) (parts parts' : List Part) (new new' : Session) → AreLines (Some level) lines → Follows level old
+lines-one : (level : ℕ) (lines : List ScriptLine) (old : Session) (parts parts' : List Part) (new new' : Session) → AreLines (Some level) lines
+    → Follows level old
     → Plays lines old parts new → Plays lines old parts' new' → IsOneCourse parts parts' new new'
 lines-one level [] old parts parts' new new' are f p q = record { same = p.0 ∙ sym q.0; ends = p.1 ∙ sym q.1 }
 lines-one level (line ∷ lines) old parts parts' new new' are f p q =
@@ -73,7 +65,8 @@ lines-one level (line ∷ lines) old parts parts' new new' are f p q =
       ends = rest.ends;
     }
 
-lines-follow : (level : ℕ) (lines : List ScriptLine) (old : Session) (parts : List Part) (new : Session) → AreLines (Some level) lines → Follows level old → Plays lines old parts new → Follows level new
+lines-follow : (level : ℕ) (lines : List ScriptLine) (old : Session) (parts : List Part) (new : Session) → AreLines (Some level) lines → Follows level old
+    → Plays lines old parts new → Follows level new
 lines-follow level [] old parts new are f p = subst (Follows level) (sym p.1) f
 lines-follow level (line ∷ lines) old parts new are f p =
     lines-follow level lines p.2 p.1 new are.1 (line_follows level line old p.0 p.2 are.0 p.3 f) p.4

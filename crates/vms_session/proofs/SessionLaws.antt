@@ -1,14 +1,7 @@
 -- The level of a session never changes.
-use Rattle.std.proofs.Common.{◌≡◌, ℕ, List, [], ◌∷◌, Option, Some, None, ap, ◌∙◌}
-use Rattle.dev_board.proofs.ClockLaws.{clock_goes_on}
-use Rattle.dev_board.proofs.RestoredLaws.{restored_is_sound}
-use Rattle.dev_images.specs.Images.{cells_in}
-use Rattle.vms_script.specs.Lines.{ScriptLine, Happens, Saves, Restores as Loads}
-use Rattle.vms_board.specs.Restoring.{Back, Refused}
-use Rattle.vms_commands.specs.Outcomes.{Part}
-use Rattle.vms_session.specs.Parts.{Plays}
-use Rattle.vms_session.specs.Laws.{LevelStays}
-use Rattle.vms_session.specs.Session.{Session, IsTooLarge, IsLoaded, LoadsBytes, LoadsHeld, Does}
+use Rattle.vms_session.proofs.Facade.{◌≡◌, ℕ, List, [], ◌∷◌, Option, Some, None, ap, ◌∙◌, clock_goes_on, restored_is_sound, cells_in, ScriptLine, Happens}
+use Rattle.vms_session.proofs.Facade.{Saves, Back, Refused, Part, Plays, LevelStays, Session, IsTooLarge, IsLoaded, LoadsBytes, LoadsHeld, Does}
+use Rattle.vms_script.specs.Lines.{Restores as Loads}
 
 abbrev level_of : Session → ℕ
 level_of s = s.board.level

@@ -1,33 +1,11 @@
 -- What is restored is sound, and so a session keeps its board sound.
-use Rattle.std.proofs.Common.{◌≡◌, ◌⊎◌, inl, inr, ℕ, zero, suc, ◌∙◌, Bool, true, false, List, ◌∷◌, map, Option, Some, None, refl, sym, ap, subst, []}
-use Rattle.std.specs.Prelude.{slice_set}
-use Rattle.std.specs.List.{slice_get}
-use Rattle.dev_base.specs.declared.limits.TheConstants.{NEWEST}
-use Rattle.dev_base.specs.Levels.{IsLevel}
-use Rattle.dev_board.proofs.RestoredLaws.{restored_is_sound}
-use Rattle.dev_board.proofs.SoundLaws.{sound_stays_on}
-use Rattle.dev_board.specs.Laws.{IsEvent}
-use Rattle.dev_board.specs.Saved.{AreBoardCells}
-use Rattle.dev_board.specs.Sound.{IsSound}
-use Rattle.dev_board.specs.State.{State}
-use Rattle.dev_board.specs.declared.event.Event.{Event}
-use Rattle.dev_board.specs.declared.event.Event.TheVariants.{Read, Write, Byte, Wait, Wire, Ack}
-use Rattle.dev_images.proofs.NormalBoard.{normal_may_be_restored}
-use Rattle.dev_images.specs.Images.{cells_in}
-use Rattle.vms_desc.specs.Formed.{shipped_set}
-use Rattle.vms_script.specs.Grammar.{IsEvent as IsSpelled, IsLine, AreLines}
-use Rattle.vms_script.specs.Lines.{ScriptLine, Happens, Saves, Restores as Loads}
-use Rattle.vms_spec.specs.Images.{Image, IsNormal}
-use Rattle.vms_spec.specs.Sets.{Device, Set}
-use Rattle.vms_spec.specs.Streams.{EachOnce}
-use Rattle.vms_spec.proofs.ListLaws.{none_left}
-use Rattle.vms_stream.specs.Streams.{HasSection, SectionsSpell}
-use Rattle.vms_board.specs.Restoring.{TakesBoard, Back, Refused, Restores}
-use Rattle.vms_commands.specs.Outcomes.{Part}
-use Rattle.vms_session.specs.Parts.{Plays}
-use Rattle.vms_session.specs.Laws.{SessionsStaySound}
-use Rattle.vms_session.specs.Session.{Session, IsTooLarge, IsLoaded, LoadsBytes, LoadsHeld, Does}
-use Rattle.vms_board.specs.Isa.{isa}
+use Rattle.vms_session.proofs.Facade.{◌≡◌, ◌⊎◌, inl, inr, ℕ, zero, suc, ◌∙◌, Bool, true, false, List, ◌∷◌, map, Option, Some, None, refl, sym, ap, subst, []}
+use Rattle.vms_session.proofs.Facade.{slice_set, slice_get, NEWEST, IsLevel, restored_is_sound, sound_stays_on, IsEvent, AreBoardCells, IsSound, State, Event}
+use Rattle.vms_session.proofs.Facade.{Read, Write, Byte, Wait, Wire, Ack, normal_may_be_restored, cells_in, shipped_set, IsLine, AreLines, ScriptLine, Happens}
+use Rattle.vms_session.proofs.Facade.{Saves, Image, IsNormal, Device, Set, EachOnce, none_left, HasSection, SectionsSpell, TakesBoard, Back, Refused, Restores}
+use Rattle.vms_session.proofs.Facade.{Part, Plays, SessionsStaySound, Session, IsTooLarge, IsLoaded, LoadsBytes, LoadsHeld, Does, isa}
+use Rattle.vms_script.specs.Grammar.{IsEvent as IsSpelled}
+use Rattle.vms_script.specs.Lines.{Restores as Loads}
 
 -- ---- each device of a stream that is taken has a normal image
 
@@ -63,7 +41,8 @@ normal-in set footed images (j ∷ order) came bytes once spelled k d image new 
       | inr e ↦ normal-in set footed images order (slice_set came j true) spelled.1 once.1 spelled.3 k d image (e ∙ new) here there
     ]
 
-pub taken_may_be_restored : (level : ℕ) (bytes : List ℕ) (taken : ℕ) (images : List Image) → TakesBoard isa level bytes taken images → AreBoardCells (cells_in images)
+pub taken_may_be_restored : (level : ℕ) (bytes : List ℕ) (taken : ℕ) (images : List Image) → TakesBoard isa level bytes taken images
+    → AreBoardCells (cells_in images)
 taken_may_be_restored level bytes taken images t =
     let stream = t.1.stream in
     normal_may_be_restored.cells images stream.one_each (λ k d image here there.
@@ -102,13 +81,15 @@ held-sound : (held : Option (List ℕ)) (old : Session) (text : List ℕ) (new :
 held-sound None old text new left s = same-board old new (ap (λ (z : Session). z.board) left.new_is) s
 held-sound (Some bytes) old text new loads s = bytes-sound bytes old text new loads s
 
-pub line_sound : (play : Option ℕ) (line : ScriptLine) (old : Session) (text : List ℕ) (new : Session) → IsLine play line → Does line old text new → IsSound old.board → IsSound new.board
+pub line_sound : (play : Option ℕ) (line : ScriptLine) (old : Session) (text : List ℕ) (new : Session) → IsLine play line → Does line old text new
+    → IsSound old.board → IsSound new.board
 line_sound play (Happens event) old text new good does s =
     subst IsSound (sym (ap (λ (z : Session). z.board) does.new_is)) (sound_stays_on.event event old.board (event_is event (line_event play event good)) s)
 line_sound play (Saves set name) old text new good does s = same-board old new does.board s
 line_sound play (Loads name) old text new good does s = held-sound (old.held name) old text new does s
 
-lines-sound : (play : Option ℕ) (lines : List ScriptLine) (old : Session) (parts : List Part) (new : Session) → AreLines play lines → Plays lines old parts new → IsSound old.board → IsSound new.board
+lines-sound : (play : Option ℕ) (lines : List ScriptLine) (old : Session) (parts : List Part) (new : Session) → AreLines play lines
+    → Plays lines old parts new → IsSound old.board → IsSound new.board
 lines-sound play [] old parts new good plays s = same-board old new (ap (λ (z : Session). z.board) plays.1) s
 lines-sound play (line ∷ lines) old parts new good plays s =
     lines-sound play lines plays.2 plays.1 new good.1 plays.4 (line_sound play line old plays.0 plays.2 good.0 plays.3 s)

@@ -1,16 +1,6 @@
-use Rattle.std.proofs.Common.{Some, sym, ap, subst, ◌∙◌}
-use Rattle.dev_board.proofs.ClockLaws.{clock_goes_on}
-use Rattle.dev_board.proofs.WireBits.{names}
-use Rattle.dev_board.specs.State.{State}
-use Rattle.dev_board.specs.declared.event.Answer.{Answer}
-use Rattle.vms_io.specs.Told.{outlet, stock}
-use Rattle.vms_script.specs.Grammar.{IsLine}
-use Rattle.vms_script.specs.Trace.{trace_line}
-use Rattle.vms_script.specs.Views.{line_view}
-use Rattle.vms_script.specs.declared.line.Line.{Line}
-use Rattle.vms_session.specs.Playing.{session_of}
-use Rattle.vms_session.specs.Session.{Does, Session}
-use Rattle.vms_session.proofs.StreamLemmas.{line_ends}
+use Rattle.vms_session.proofs.Facade.{Some, sym, ap, subst, ◌∙◌, clock_goes_on, names, State, Answer, outlet, stock, IsLine, trace_line, line_view, Line}
+use Rattle.vms_session.proofs.Facade.{session_of, Does, Session}
+use Rattle.vms_session.proofs.RefusalLaws.{line_ends}
 use Rattle.vms_session.proofs.SoundLaws.{event_is, line_event}
 use Rattle.vms_session.proofs.line.play_line.Goals as goal
 

@@ -1,16 +1,7 @@
-use Rattle.std.proofs.Common.{List, ℕ, Some, sym, ap, subst, ◌∙◌}
-use Rattle.vms_board.specs.Isa.{isa}
-use Rattle.vms_board.specs.Saving.{saved_stream}
-use Rattle.vms_io.specs.Shelves.{Held, PutsUnder}
-use Rattle.vms_io.specs.Told.{outlet, stock}
-use Rattle.vms_io.proofs.ShelvingLemmas.{stores_told}
-use Rattle.vms_script.specs.Views.{session_view}
-use Rattle.vms_script.specs.declared.line.SessionLine.{SessionLine}
+use Rattle.vms_session.proofs.Facade.{List, ℕ, Some, sym, ap, subst, ◌∙◌, isa, saved_stream, Held, PutsUnder, outlet, stock, stores_told, session_view}
+use Rattle.vms_session.proofs.Facade.{SessionLine, saved_line, Does, LoadsHeld, session_of}
 use Rattle.vms_session.proofs.OneLaws.{one_map}
-use Rattle.vms_session.specs.Lines.{saved_line}
-use Rattle.vms_session.specs.Session.{Does, LoadsHeld}
-use Rattle.vms_session.specs.Playing.{session_of}
-use Rattle.vms_session.proofs.StreamLemmas.{line_ends, loads_keep}
+use Rattle.vms_session.proofs.RefusalLaws.{line_ends, loads_keep}
 use Rattle.vms_session.proofs.line.play_session.Goals as goal
 
 pub returns-in_ok-count-in-Save-clause-content : goal.returns-in_ok-count-in-Save-clause-content
@@ -22,7 +13,8 @@ returns-in_ok-count-in-Save-clause-content g c = λ held text new told does.
     let stored = stores_told held told saved.1 in
     let under = subst (λ name. PutsUnder held stored.after name stream) c.as_str.ensures.value stored.puts in
     let same = one_map held stored.after new.held c.in-Save.name.bytes stream under done.held in
-    line_ends (session_view c.args.line.now) text c.deref.result.now new (outlet g.K.Sink c.args.out.now) (outlet g.K.Sink c.write.new.out) (stock g.H.Shelf c.args.shelf.now) (stock g.H.Shelf c.save.new.shelf)
+    line_ends (session_view c.args.line.now) text c.deref.result.now new (outlet g.K.Sink c.args.out.now) (outlet g.K.Sink c.write.new.out)
+    (stock g.H.Shelf c.args.shelf.now) (stock g.H.Shelf c.save.new.shelf)
     board c.write.result
     (c.deref.ensures.0 ∙ c.saved_mark.ensures ∙ ap saved_line saved.0 ∙ sym done.text_is)
     c.write.ensures
@@ -38,6 +30,7 @@ returns-in_ok-mark-in-Restore-clause-content g c = λ held text new told does.
     let restored = c.in_ok-mark-in-Restore.ensures in
     let loads = subst (λ (n : List ℕ). LoadsHeld (held n) old text new) (sym c.as_str-in-Restore.ensures.value) done in
     let loaded = restored.loaded held text new told loads in
-    line_ends (session_view c.args.line.now) text c.deref-in-Restore.result.now new (outlet g.K.Sink c.args.out.now) (outlet g.K.Sink c.write-in-Restore.new.out) (stock g.H.Shelf c.args.shelf.now) (stock g.H.Shelf c.restore.new.shelf)
+    line_ends (session_view c.args.line.now) text c.deref-in-Restore.result.now new (outlet g.K.Sink c.args.out.now)
+    (outlet g.K.Sink c.write-in-Restore.new.out) (stock g.H.Shelf c.args.shelf.now) (stock g.H.Shelf c.restore.new.shelf)
     c.restore.new.board.state c.write-in-Restore.result (c.deref-in-Restore.ensures.0 ∙ loaded.0) c.write-in-Restore.ensures
     (restored.looks.held ∙ told ∙ ap (λ (h : Held). Some h) (sym (loads_keep (held name) old text new done))) loaded.1

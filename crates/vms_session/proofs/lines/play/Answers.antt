@@ -1,9 +1,5 @@
-use Rattle.std.proofs.Common.{ℕ, Some, ◌+◌, ◌<◌, ◌≤◌, length, drop, refl, sym, subst, ◌∙◌, arith}
-use Rattle.vms_io.specs.Told.{outlet, stock}
-use Rattle.vms_io.proofs.ShelvingLemmas.{reaches_both, reaches_none}
-use Rattle.vms_io.proofs.WritingLemmas.{serves_both, serves_none}
-use Rattle.vms_script.specs.Grammar.{IsLine}
-use Rattle.vms_script.specs.Views.{line_view, lines_view}
+use Rattle.vms_session.proofs.Facade.{ℕ, Some, ◌+◌, ◌<◌, ◌≤◌, length, drop, refl, sym, subst, ◌∙◌, arith, outlet, stock, reaches_both, reaches_none}
+use Rattle.vms_session.proofs.Facade.{serves_both, serves_none, IsLine, line_view, lines_view}
 use Rattle.vms_session.proofs.CourseLemmas.{lines_next, no_lines, is_line, are_lines, in_course, next_course, stop_course, end_course, goes_since}
 use Rattle.vms_session.proofs.lines.play.Goals as goal
 
@@ -13,7 +9,8 @@ loop-line-init g c = record {
   lines = c.requires;
   sets = c.new-sets.ensures;
   course = λ held parts new told plays.
-      in_course (lines_view c.args.lines.now) parts new c.args.board.now.state held (outlet g.K.Sink c.args.out.now) (stock g.H.Shelf c.args.shelf.now) told plays;
+      in_course (lines_view c.args.lines.now) parts new c.args.board.now.state held (outlet g.K.Sink c.args.out.now)
+      (stock g.H.Shelf c.args.shelf.now) told plays;
   serves = serves_none (outlet g.K.Sink c.args.out.now);
   reaches = reaches_none (stock g.H.Shelf c.args.shelf.now);
 }
@@ -53,7 +50,8 @@ returns-in-Err-clause-content g c = λ held parts new told plays.
     let lines = c.args.lines.now in
     let i = c.loop-line.line-index in
     let lt : i < length lines = omega (arith, c.loop-line-test.true) in
-    stop_course i (line_view c.line-item.result) (lines_view (drop (i + 1) lines)) (lines_view (drop i lines)) (lines_next lines i c.line-item.result lt c.line-item.is)
+    stop_course i (line_view c.line-item.result) (lines_view (drop (i + 1) lines)) (lines_view (drop i lines))
+    (lines_next lines i c.line-item.result lt c.line-item.is)
     parts new c.loop-line.board.state c.play_line.new.board.state
     (outlet g.K.Sink c.args.out.now) (outlet g.K.Sink c.loop-line.out) (outlet g.K.Sink c.play_line.new.out)
     (stock g.H.Shelf c.args.shelf.now) (stock g.H.Shelf c.loop-line.shelf) (stock g.H.Shelf c.play_line.new.shelf)

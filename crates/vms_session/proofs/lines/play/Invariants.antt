@@ -1,16 +1,5 @@
-use Rattle.std.proofs.Common.{◌≡◌, List, Some, drop}
-use Rattle.vms_board.specs.Isa.{isa}
-use Rattle.vms_board_streams.specs.Sets.{AreOf}
-use Rattle.vms_io.specs.Shelves.{Held}
-use Rattle.vms_io.specs.Shelving.{Reaches}
-use Rattle.vms_io.specs.Told.{outlet, stock}
-use Rattle.vms_io.specs.Writing.{Serves}
-use Rattle.vms_commands.specs.Outcomes.{Part}
-use Rattle.vms_script.specs.Grammar.{AreLines}
-use Rattle.vms_script.specs.Views.{lines_view}
-use Rattle.vms_session.specs.Session.{Session}
-use Rattle.vms_session.specs.Parts.{Plays}
-use Rattle.vms_session.specs.Playing.{session_of}
+use Rattle.vms_session.proofs.Facade.{◌≡◌, List, Some, drop, isa, AreOf, Held, Reaches, outlet, stock, Serves, Part, AreLines, lines_view, Session, Plays}
+use Rattle.vms_session.proofs.Facade.{session_of}
 use Rattle.vms_session.proofs.CourseLemmas.{InCourse}
 use Rattle.vms_session.proofs.lines.play.Given as goal
 

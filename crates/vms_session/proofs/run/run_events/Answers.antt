@@ -1,5 +1,4 @@
-use Rattle.std.proofs.Common.{◌≡◌, ◌+◌, ◌<◌, ◌≤◌, length, drop, sym, ap, ◌∙◌, arith}
-use Rattle.dev_board.proofs.WireBits.{names}
+use Rattle.vms_session.proofs.Facade.{◌≡◌, ◌+◌, ◌<◌, ◌≤◌, length, drop, sym, ap, ◌∙◌, arith, names}
 use Rattle.vms_session.proofs.RunLemmas.{event_at, left_next, none_left, first_event, later_events, after_next, after_none, after_number}
 use Rattle.vms_session.proofs.run.run_events.Goals as goal
 
@@ -38,5 +37,6 @@ returns-clause-number g c =
     let events = c.args.events.now in
     let i = c.loop-event.event-index in
     let le : length events ≤ i = omega (arith, c.loop-event-test.false) in
-    ap g.M.Machine.family.number (sym (after_none g.M.Machine.family (drop i events) c.loop-event.devices (none_left events i le)) ∙ c.loop-event.invariant.left)
+    ap g.M.Machine.family.number
+    (sym (after_none g.M.Machine.family (drop i events) c.loop-event.devices (none_left events i le)) ∙ c.loop-event.invariant.left)
     ∙ after_number g.M.Machine.family g.met.M.Machine.stands.stays events c.args.devices.now

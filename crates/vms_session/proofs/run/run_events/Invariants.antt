@@ -1,6 +1,4 @@
-use Rattle.std.proofs.Common.{◌≡◌, drop}
-use Rattle.dev_board.specs.Laws.{AreEvents}
-use Rattle.vms_board_streams.specs.Streams.{after_events}
+use Rattle.vms_session.proofs.Facade.{◌≡◌, drop, AreEvents, after_events}
 use Rattle.vms_session.proofs.run.run_events.Given as goal
 
 abbrev pub invariant-loop-event : goal.invariant-loop-event

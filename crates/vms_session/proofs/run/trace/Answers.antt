@@ -1,22 +1,20 @@
-use Rattle.std.proofs.Common.{◌≡◌, ◌+◌, ◌≤◌, [], ◌∷◌, drop, refl, sym, ◌∙◌, arith}
-use Rattle.std.proofs.lemmas.Result.{err_from_is_err_and}
-use Rattle.vms_io.specs.Told.{outlet}
-use Rattle.vms_script.specs.Trace.{trace_line}
-use Rattle.vms_session.specs.Events.{trace_from}
+use Rattle.vms_session.proofs.Facade.{◌≡◌, ◌+◌, [], ◌∷◌, drop, refl, sym, ◌∙◌, arith, err_from_is_err_and, outlet, trace_line, trace_from, leaves_all}
+use Rattle.vms_session.proofs.Facade.{leaves_none, leaves_rest, leaves_stop}
 use Rattle.vms_session.proofs.RunLemmas.{event_at, left_next, none_left, first_event, later_events, after_next, after_none, none_yet, number_next, one_more, trace_next, trace_none}
-use Rattle.vms_io.proofs.WritingLemmas.{leaves_all, leaves_none, leaves_rest, leaves_stop}
 use Rattle.vms_session.proofs.run.trace.Given.{Over}
 use Rattle.vms_session.proofs.run.trace.Goals as goal
 use Rattle.vms_session.proofs.run.trace.Goals.{In-loop-event, After-loop-event}
 
 -- the event whose turn it is, and those after it
-next : (g : Over) (c : goal.In-loop-event g) → (let events = c.args.events.now in let i = c.loop-event.event-index in drop i events ≡ event_at events i ∷ drop (i + 1) events)
+next : (g : Over) (c : goal.In-loop-event g)
+    → (let events = c.args.events.now in let i = c.loop-event.event-index in drop i events ≡ event_at events i ∷ drop (i + 1) events)
 next g c = left_next c.args.events.now c.loop-event.event-index (omega (arith, c.loop-event-test.true))
 
 pub loop-event-init : goal.loop-event-init
 loop-event-init g c = record {
   events = c.requires;
-  leaves = leaves_all (outlet g.K.Sink c.args.out.now) (trace_from g.M.Machine.family c.args.events.now c.args.board.now.state) (trace_from g.M.Machine.family c.args.events.now c.args.board.now.state) refl;
+  leaves = leaves_all (outlet g.K.Sink c.args.out.now) (trace_from g.M.Machine.family c.args.events.now c.args.board.now.state)
+      (trace_from g.M.Machine.family c.args.events.now c.args.board.now.state) refl;
   left = refl;
   among = none_yet g.M.Machine.family c.args.events.now c.args.board.now.state;
   number = refl;
@@ -27,7 +25,8 @@ pub trace_event-requires : goal.trace_event-requires
 trace_event-requires g c =
     let events = c.args.events.now in
     let i = c.loop-event.event-index in
-    first_event (event_at events i) (drop (i + 1) events) (drop i events) (next g (goal.at.trace_event-requires g c).In-loop-event) c.loop-event.invariant.events
+    first_event (event_at events i) (drop (i + 1) events) (drop i events)
+    (next g (goal.at.trace_event-requires g c).In-loop-event) c.loop-event.invariant.events
 
 pub returns-in_err-trace_event-clause-wrote : goal.returns-in_err-trace_event-clause-wrote
 returns-in_err-trace_event-clause-wrote g c =
@@ -35,9 +34,12 @@ returns-in_err-trace_event-clause-wrote g c =
     let events = c.args.events.now in
     let i = c.loop-event.event-index in
     let m = c.loop-event.board.state in
-    let split = trace_next f (event_at events i) (drop (i + 1) events) (drop i events) m c.trace_event.new.board.state (next g (goal.at.returns-in_err-trace_event-clause-wrote g c).In-loop-event) c.in_err-trace_event.ensures.state in
+    let split =
+    trace_next f (event_at events i) (drop (i + 1) events) (drop i events) m c.trace_event.new.board.state
+    (next g (goal.at.returns-in_err-trace_event-clause-wrote g c).In-loop-event) c.in_err-trace_event.ensures.state in
     let p = err_from_is_err_and c.from_residual.result c.from_residual.ensures.1 in
-    rw p.1 (leaves_stop {part = trace_line (f.step (event_at events i) m).0} (trace_from f (drop (i + 1) events) c.trace_event.new.board.state) split c.loop-event.invariant.leaves c.in_err-trace_event.ensures.wrote)
+    rw p.1 (leaves_stop {part = trace_line (f.step (event_at events i) m).0}
+    (trace_from f (drop (i + 1) events) c.trace_event.new.board.state) split c.loop-event.invariant.leaves c.in_err-trace_event.ensures.wrote)
 
 pub loop-event-preserved : goal.loop-event-preserved
 loop-event-preserved g c =
@@ -51,9 +53,11 @@ loop-event-preserved g c =
     let left = next g (goal.at.loop-event-preserved g c).In-loop-event in
     record {
       events = later_events event rest all left c.loop-event.invariant.events;
-      leaves = leaves_rest {part = trace_line (f.step event m).0} (trace_from f rest m') (trace_next f event rest all m m' left c.in_ok-trace_event.ensures.state) c.loop-event.invariant.leaves c.in_ok-trace_event.ensures.wrote;
+      leaves = leaves_rest {part = trace_line (f.step event m).0} (trace_from f rest m')
+          (trace_next f event rest all m m' left c.in_ok-trace_event.ensures.state) c.loop-event.invariant.leaves c.in_ok-trace_event.ensures.wrote;
       left = after_next f event rest all m m' left c.in_ok-trace_event.ensures.state ∙ c.loop-event.invariant.left;
-      among = one_more f c.args.events.now i c.args.board.now.state m m' (omega (arith, c.loop-event-test.true)) c.loop-event.invariant.among c.in_ok-trace_event.ensures.state;
+      among = one_more f c.args.events.now i c.args.board.now.state m m'
+          (omega (arith, c.loop-event-test.true)) c.loop-event.invariant.among c.in_ok-trace_event.ensures.state;
       number = number_next f g.met.M.Machine.stands.stays event m m' c.in_ok-trace_event.ensures.state ∙ c.loop-event.invariant.number;
       taken = c.in_ok-trace_event.ensures.taken ∙ c.loop-event.invariant.taken;
     }
@@ -64,12 +68,14 @@ none g c = none_left c.args.events.now c.loop-event.event-index (omega (arith, c
 
 pub returns-clause-wrote : goal.returns-clause-wrote
 returns-clause-wrote g c =
-    leaves_none (trace_none g.M.Machine.family (drop c.loop-event.event-index c.args.events.now) c.loop-event.board.state (none g (goal.at.returns-clause-wrote g c).After-loop-event)) c.loop-event.invariant.leaves
+    leaves_none (trace_none g.M.Machine.family (drop c.loop-event.event-index c.args.events.now) c.loop-event.board.state
+    (none g (goal.at.returns-clause-wrote g c).After-loop-event)) c.loop-event.invariant.leaves
 
 pub returns-in_err-trace_event-clause-number : goal.returns-in_err-trace_event-clause-number
 returns-in_err-trace_event-clause-number g c =
     let f = g.M.Machine.family in
-    number_next f g.met.M.Machine.stands.stays (event_at c.args.events.now c.loop-event.event-index) c.loop-event.board.state c.trace_event.new.board.state c.in_err-trace_event.ensures.state
+    number_next f g.met.M.Machine.stands.stays
+    (event_at c.args.events.now c.loop-event.event-index) c.loop-event.board.state c.trace_event.new.board.state c.in_err-trace_event.ensures.state
     ∙ c.loop-event.invariant.number
 
 pub returns-in_err-trace_event-clause-stopped : goal.returns-in_err-trace_event-clause-stopped
@@ -85,4 +91,6 @@ returns-in_err-trace_event-clause-stopped g c =
 
 pub returns-clause-state : goal.returns-clause-state
 returns-clause-state g c =
-    sym (after_none g.M.Machine.family (drop c.loop-event.event-index c.args.events.now) c.loop-event.board.state (none g (goal.at.returns-clause-state g c).After-loop-event)) ∙ c.loop-event.invariant.left
+    sym (after_none g.M.Machine.family (drop c.loop-event.event-index c.args.events.now) c.loop-event.board.state
+    (none g (goal.at.returns-clause-state g c).After-loop-event))
+    ∙ c.loop-event.invariant.left

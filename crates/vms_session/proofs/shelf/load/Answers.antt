@@ -1,10 +1,5 @@
-use Rattle.std.proofs.Common.{ap, ◌∙◌}
-use Rattle.vms_board.specs.Standing.{Standing}
-use Rattle.dev_board.specs.State.{State}
-use Rattle.vms_spec.specs.Sets.{Set}
-use Rattle.vms_session.specs.Lines.{refused_line, restored_line}
-use Rattle.vms_session.specs.Playing.{session_of}
-use Rattle.vms_session.proofs.StreamLemmas.{back_text, back_board, refused_text, refused_board}
+use Rattle.vms_session.proofs.Facade.{ap, ◌∙◌, Standing, State, Set, refused_line, restored_line, session_of}
+use Rattle.vms_session.proofs.RefusalLaws.{back_text, back_board, refused_text, refused_board}
 use Rattle.vms_session.proofs.shelf.load.Goals as goal
 
 pub returns-in-Ok-clause-text : goal.returns-in-Ok-clause-text

@@ -1,7 +1,4 @@
-use Rattle.std.proofs.Common.{◌≡◌, ℕ, List, Option, Some, IfSome, subst}
-use Rattle.vms_io.specs.Shelves.{Held}
-use Rattle.vms_session.specs.Session.{LoadsHeld}
-use Rattle.vms_session.specs.Playing.{session_of}
+use Rattle.vms_session.proofs.Facade.{◌≡◌, ℕ, List, Option, Some, IfSome, subst, Held, LoadsHeld, session_of}
 use Rattle.vms_session.proofs.shelf.restore.Goals as goal
 
 pub returns-in-Ok-clause-loaded : goal.returns-in-Ok-clause-loaded
