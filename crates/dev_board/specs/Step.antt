@@ -1,5 +1,5 @@
 -- What an event does to a board.
-use Rattle.std.specs.Prelude.{ℕ, ◌+◌, Bool, true, false, List, [], ◌∷◌, Option, Some, None, bit_or, min}
+use Rattle.std.specs.Prelude.{ℕ, ◌+◌, ◌≤◌, MatchOption, Bool, true, false, List, [], ◌∷◌, Option, Some, None, bit_or, min}
 use Rattle.dev_base.specs.declared.limits.TheConstants.{LAST_MOMENT}
 use Rattle.dev_pic.specs.Pair.{acked, int_of, settled_pair}
 use Rattle.dev_pit.specs.Pit.{pit_out, pit_edge}
@@ -32,6 +32,10 @@ silent = record { value = None; edge = false; sent = [] }
 -- `later_by ns moment` is the moment after `ns` nanoseconds, not beyond the last.
 abbrev pub later_by : ℕ → ℕ → ℕ
 later_by ns moment = min (moment + ns) LAST_MOMENT
+
+-- `IsSentBy ns m`: the shift register's byte leaves it while `ns` nanoseconds pass.
+abbrev pub IsSentBy : ℕ → State → Type 0
+IsSentBy ns m = MatchOption m.serial.transmitter.shift ⊥ (λ shift. shift.due ≤ later_by ns m.moment)
 
 -- `waited to m` lets time pass. Counter 0 may have a rising edge after the old moment and not after
 -- the new one, and bytes may leave the serial port up to the new one.

@@ -2,7 +2,7 @@
 ghost use Rattle.std.specs.Prelude.{◌≡◌, ◌<◌, ◌≤◌, [], true, false};
 ghost use Rattle.dev_base.specs.declared.limits.TheConstants.{LAST_MOMENT as last_moment};
 ghost use Rattle.dev_board.specs.Kept.{IsCalm};
-ghost use Rattle.dev_board.specs.Step.{later_by, step};
+ghost use Rattle.dev_board.specs.Step.{IsSentBy, later_by, step};
 ghost use Rattle.dev_board.specs.declared.event.Event.TheVariants.{Wait};
 ghost use Rattle.dev_pic.specs.Pair.{int_of};
 ghost use Rattle.dev_pit.specs.Pit.{pit_out};
@@ -73,10 +73,12 @@ impl Parts {
         self.moment.saturating_add(ns).min(LAST_MOMENT)
     }
 
-    /// Tells whether bytes leave the serial port while `ns` nanoseconds pass.
+    /// Tells whether a byte leaves the shift register while `ns` nanoseconds pass. Otherwise none
+    /// leaves the serial port.
     #[inline(always)]
     pub(crate) fn sends_by(&self, ns: u64) -> bool
-        ensures { result ≡ false → (step (Wait ns) self.now).0.sent.items ≡ [] }
+        ensures none { result ≡ false → (step (Wait ns) self.now).0.sent.items ≡ [] }
+        ensures some { result ≡ true → IsSentBy ns self.now }
     {
         let to = self.later_by(ns);
         !self.serial.is_still(to)

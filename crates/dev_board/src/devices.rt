@@ -41,7 +41,7 @@ impl Devices {
     ghost use Rattle.dev_board.specs.Ports.{has_port};
     ghost use Rattle.dev_board.specs.Sound.{IsSound};
     ghost use Rattle.dev_board.specs.State.{power_on};
-    ghost use Rattle.dev_board.specs.Step.{step, names_wire};
+    ghost use Rattle.dev_board.specs.Step.{IsSentBy, step, names_wire};
     ghost use Rattle.dev_board.specs.Touch.{saying};
     ghost use Rattle.dev_board.specs.declared.event.Event.TheVariants.{Wait};
 
@@ -70,13 +70,14 @@ impl Devices {
         }
     }
 
-    /// Lets `ns` nanoseconds pass and returns the interrupt output if no byte leaves the serial port
-    /// by then. Otherwise nothing happens, and it returns `None`.
+    /// Lets `ns` nanoseconds pass and returns the interrupt output if no byte leaves the shift
+    /// register by then. Otherwise nothing happens, and it returns `None`.
     #[inline(always)]
     #[tactic(auto, unfolding(crate::specs::Step::names_wire))]
     pub fn pass(&mut self, ns: u64) -> Option<bool>
-        ensures { MatchOption result (self.new ≡ self.old)
+        ensures passed { MatchOption result (self.new ≡ self.old)
             (λ int. (saying None int, self.new) ≡ step (Wait ns) self.old) }
+        ensures none { result ≡ None → IsSentBy ns self.old }
     {
         if self.parts.sends_by(ns) {
             return None;

@@ -1,7 +1,7 @@
 // The boards of the levels 1 to 4.
 ghost use Rattle.std.specs.Prelude.{◌≡◌, MatchOption, None};
 ghost use Rattle.dev_base.specs.Levels.{IsLevel};
-ghost use Rattle.dev_board.specs.Step.{step};
+ghost use Rattle.dev_board.specs.Step.{IsSentBy, step};
 ghost use Rattle.dev_board.specs.Touch.{saying};
 ghost use Rattle.dev_board.specs.declared.event.Event.TheVariants.{Wait};
 ghost use Rattle.vms_board.specs.Isa.{machine_of};
@@ -103,12 +103,13 @@ pub fn machine_name(level: u8) -> &'static str
 }
 
 impl MachineBoard<Devices> {
-    /// Lets `ns` nanoseconds pass and returns the interrupt output if no byte leaves the serial port
-    /// by then. Otherwise nothing happens, and it returns `None`.
+    /// Lets `ns` nanoseconds pass and returns the interrupt output if no byte leaves the shift
+    /// register of the serial port by then. Otherwise nothing happens, and it returns `None`.
     #[inline(always)]
     pub fn pass(&mut self, ns: u64) -> Option<bool>
         ensures passed { MatchOption result (self.new ≡ self.old)
             (λ int. (saying None int, self.new.state) ≡ step (Wait ns) self.old.state) }
+        ensures none { result ≡ None → IsSentBy ns self.old.state }
         ensures taken { self.new.taken ≡ self.old.taken }
     {
         let passed = self.devices.pass(ns);

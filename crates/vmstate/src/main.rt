@@ -2,7 +2,7 @@
 //! with the status.
 #![tactic(auto)]
 
-ghost use Rattle.std.specs.Prelude.{◌≡◌, ◌∷◌, [], codes, drop, map, string_bytes, IfOk, IfErr, IsErr};
+ghost use Rattle.std.specs.Prelude.{◌≡◌, ◌∷◌, [], codes, drop, map, string_bytes, Ok, IfOk, IfErr, IsErr};
 ghost use Rattle.std.specs.IoError.{error_kind};
 ghost use Rattle.std.specs.Vec.Iter.{into_iter_items};
 ghost use Rattle.vms_io.specs.Folders.{folder_of};
@@ -16,18 +16,21 @@ use vms_cli::{Words, program};
 use vms_io::{FileShelf, NoMemory};
 
 fn main(rt: HostRuntime) -> ExitCode {
-    let handed = handed(&rt);
+    let handed = handed(&rt, words(rt.alloc(), env::args(&rt)));
     let (status, _out, _notes) = program(rt.alloc(), handed, rt.stdin(), rt.stdout(), rt.stderr());
     ExitCode::from(status)
 }
 
 // Returns the words, and the files of the current folder.
-fn handed(rt: &HostRuntime) -> Result<(Words, FileShelf<HostRuntime>), NoMemory>
-    ensures { IfOk result (λ given. folder_of given.1 ≡ codes ".") }
+fn handed(
+    rt: &HostRuntime,
+    words: Result<Words, NoMemory>,
+) -> Result<(Words, FileShelf<HostRuntime>), NoMemory>
+    ensures words { IfOk result (λ given. words ≡ Ok given.0) }
+    ensures folder { IfOk result (λ given. folder_of given.1 ≡ codes ".") }
 {
-    let alloc = rt.alloc();
-    let words = words(alloc, env::args(rt))?;
-    let folder = String::from_str(alloc, ".")?;
+    let words = words?;
+    let folder = String::from_str(rt.alloc(), ".")?;
     Ok((words, FileShelf::new(rt.clone()?, folder)))
 }
 

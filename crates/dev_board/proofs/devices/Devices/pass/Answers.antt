@@ -13,7 +13,7 @@ quiet-answer ns m after answer e none =
     ap (λ (done : Answer × State). (saying None done.0.int, done.1)) e
     ∙ ap (λ (bytes : List ℕ). let said : Answer = record { value = None; int = (step (Wait ns) m).0.int; sent = record { items = bytes } } in (said, (step (Wait ns) m).1)) (sym none)
 
-pub returns : goal.returns
-returns c =
+pub returns-clause-passed : goal.returns-clause-passed
+returns-clause-passed c =
     quiet-answer c.args.ns c.args.self.now c.event-answer.new.self c.event-answer.result c.event-answer.ensures.step
-    (subst (λ (m : State). (step (Wait c.args.ns) m).0.sent.items ≡ []) c.self.view_is (c.sends_by.ensures c.if-sends_by.false))
+    (subst (λ (m : State). (step (Wait c.args.ns) m).0.sent.items ≡ []) c.self.view_is (c.sends_by.ensures.none c.if-sends_by.false))
