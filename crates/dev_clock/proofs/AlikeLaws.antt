@@ -1,20 +1,10 @@
 -- Devices that are alike give equal answers to each event.
-use Rattle.std.proofs.Common.{◌≡◌, ℕ, ◌==◌, Bool, true, false, cond, refl, sym, ap, subst, ◌∙◌}
-use Rattle.dev_board.proofs.AlikeLaws.{alike_stays as board_stays, stays-alike}
+use Rattle.dev_clock.proofs.Facade.{◌≡◌, ℕ, ◌==◌, Bool, true, false, cond, refl, sym, ap, subst, ◌∙◌, stays-alike, State, Answer, Event, Read, Write, Byte}
+use Rattle.dev_clock.proofs.Facade.{Wait, Wire, Ack, is_port, passed, line_of, Rtc, AnswersAlike, AlikeStays, Alike, ClockState, on_board, waited, acted}
+use Rattle.dev_clock.proofs.Facade.{follows_line, step, CLOCK_INPUT}
+use Rattle.dev_board.proofs.AlikeLaws.{alike_stays as board_stays}
 use Rattle.dev_board.specs.Sound.{Alike as AlikeBoards}
-use Rattle.dev_board.specs.State.{State}
 use Rattle.dev_board.specs.Step.{step as board_step}
-use Rattle.dev_board.specs.declared.event.Answer.{Answer}
-use Rattle.dev_board.specs.declared.event.Event.{Event}
-use Rattle.dev_board.specs.declared.event.Event.TheVariants.{Read, Write, Byte, Wait, Wire, Ack}
-use Rattle.vms_rtc.specs.Chip.{is_port, passed, line_of}
-use Rattle.vms_rtc.specs.declared.rtc.Rtc.{Rtc}
-use Rattle.dev_board.specs.Laws.{AnswersAlike}
-use Rattle.dev_clock.specs.Laws.{AlikeStays}
-use Rattle.dev_clock.specs.Sound.{Alike}
-use Rattle.dev_clock.specs.State.{ClockState}
-use Rattle.dev_clock.specs.Step.{on_board, waited, acted, follows_line, step}
-use Rattle.dev_clock.specs.declared.devices.TheConstants.{CLOCK_INPUT}
 
 -- Boards that are alike have the same moment.
 same-moment : (m n : State) → AlikeBoards m n → n.moment ≡ m.moment
@@ -43,7 +33,8 @@ module _ (m : ClockState) (board : State) (a : AlikeBoards m.board board) where
       record {
         value = answers.value;
         alike = record {
-          clock = ap (λ (to : ℕ). passed board.moment to m.clock) (same-moment _ _ answers.alike) ∙ ap (λ (from : ℕ). passed from after m.clock) (same-moment m.board board a);
+          clock = ap (λ (to : ℕ). passed board.moment to m.clock) (same-moment _ _ answers.alike)
+              ∙ ap (λ (from : ℕ). passed from after m.clock) (same-moment m.board board a);
           board = answers.alike;
         };
       }

@@ -1,18 +1,7 @@
 -- No event changes the version, and only a wait changes the moment.
-use Rattle.std.proofs.Common.{◌≡◌, ℕ, ◌==◌, refl, ◌∙◌}
-use Rattle.dev_base.proofs.Choices.{either}
+use Rattle.dev_clock.proofs.Facade.{◌≡◌, ℕ, ◌==◌, refl, ◌∙◌, either, moment_left, Answer, Event, Read, Write, Byte, Wait, Wire, Ack, int_of, version_stays}
+use Rattle.dev_clock.proofs.Facade.{is_port, line_of, AnswersTellInt, ClockGoesOn, ClockState, waited, acted, follows_line, step, CLOCK_INPUT}
 use Rattle.dev_board.proofs.ClockLaws.{answers_tell_int as board_tells_int, clock_goes_on as board_goes_on}
-use Rattle.dev_board.specs.Laws.{moment_left}
-use Rattle.dev_board.specs.declared.event.Answer.{Answer}
-use Rattle.dev_board.specs.declared.event.Event.{Event}
-use Rattle.dev_board.specs.declared.event.Event.TheVariants.{Read, Write, Byte, Wait, Wire, Ack}
-use Rattle.dev_pic.specs.Pair.{int_of}
-use Rattle.vms_rtc.proofs.CallLaws.{version_stays}
-use Rattle.vms_rtc.specs.Chip.{is_port, line_of}
-use Rattle.dev_clock.specs.Laws.{AnswersTellInt, ClockGoesOn}
-use Rattle.dev_clock.specs.State.{ClockState}
-use Rattle.dev_clock.specs.Step.{waited, acted, follows_line, step}
-use Rattle.dev_clock.specs.declared.devices.TheConstants.{CLOCK_INPUT}
 
 -- Devices at a moment and of a version.
 record IsAt (moment version : ℕ) (after : Answer × ClockState) : Type 0 where

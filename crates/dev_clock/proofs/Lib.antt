@@ -1,9 +1,8 @@
 pub mod AlikeLaws
 pub mod ClockLaws
-pub mod Misfits
+pub mod Facade
 pub mod RestoredLaws
 pub mod RuleLaws
 pub mod SavedLaws
-pub mod SlaveLine
 pub mod SheetNumbers
 pub mod SoundLaws

@@ -1,33 +1,58 @@
 -- Restored devices are sound.
-use Rattle.std.proofs.Common.{◌≡◌, ℕ, ℤ, Bool, true, false, cond, List, Result, Ok, Err, refl, sym, ap, ◌∙◌, arith}
-use Rattle.dev_base.proofs.RuleLaws.{judged-ok, ok-hook}
-use Rattle.dev_base.specs.Bits.{has, same}
-use Rattle.dev_base.specs.Cells.{AreOf, number_at}
-use Rattle.dev_base.specs.Levels.{IsLevel, IsUpTo}
-use Rattle.dev_base.specs.declared.limits.TheConstants.{NEWEST}
-use Rattle.dev_board.proofs.RestoredLaws.{restored_is_sound as board-is-sound, made_of as board_made_of, chip-ok, device-ok}
-use Rattle.dev_board.proofs.SavedLaws.{same-is}
-use Rattle.dev_board.specs.Saved.{restored as board_restored, moment_of, timed}
-use Rattle.dev_board.specs.State.{State}
-use Rattle.dev_board.specs.declared.cells.BoardCells.{BoardCells}
-use Rattle.dev_board.specs.declared.misfit.Misfit.{Misfit}
+use Rattle.dev_clock.proofs.Facade.{◌≡◌, ℕ, ◌≤◌, nat_le, Result, Ok, Err, subst, arith, ℤ, Bool, true, false, cond, List, refl, sym, ap, ◌∙◌, either}
+use Rattle.dev_clock.proofs.Facade.{LAST_MOMENT, NEWEST, timed, by_chip, by_device, lines_agree, agreed, moment_of, State, BoardCells, Misfit, pair_of, Chip}
+use Rattle.dev_clock.proofs.Facade.{PicPair, Pit, Port, IsPlaced, AreClockCells, numbers_back, slave_line, with_line, clock_back, joined, judged-ok, ok-hook}
+use Rattle.dev_clock.proofs.Facade.{has, same, AreOf, number_at, IsLevel, IsUpTo, chip-ok, device-ok, same-is, chip_of, rules, kinds, line_of, NEWEST_CLOCK}
+use Rattle.dev_clock.proofs.Facade.{Rtc, RestoredIsSound, IsSound, ClockState, ClockCells, CLOCK_DEVICE, LINE_RULE, LINES_CELL}
+use Rattle.dev_board.specs.Saved.{joined as board_joined, restored as board_restored}
+use Rattle.dev_board.proofs.RestoredLaws.{restored_is_sound as board-is-sound, made_of as board_made_of}
 use Rattle.dev_pic.proofs.RestoredLaws.{made_of as pair_made_of}
-use Rattle.dev_pic.specs.Cells.{chip_of, rules}
-use Rattle.dev_pic.specs.declared.chip.Chip.{Chip}
 use Rattle.vms_rtc.proofs.RestoredLaws.{restored_is_sound as clock-is-sound}
-use Rattle.vms_rtc.specs.Cells.{kinds}
-use Rattle.vms_rtc.specs.Chip.{line_of}
 use Rattle.vms_rtc.specs.Saved.{restored as clock_restored}
 use Rattle.vms_rtc.specs.Sound.{IsSound as IsSoundClock}
-use Rattle.vms_rtc.specs.declared.limits.TheConstants.{NEWEST_CLOCK}
-use Rattle.vms_rtc.specs.declared.rtc.Rtc.{Rtc}
-use Rattle.dev_clock.proofs.SlaveLine.{slave-bit}
-use Rattle.dev_clock.specs.Saved.{AreClockCells, numbers_back, slave_line, with_line, clock_back, joined}
-use Rattle.dev_clock.specs.SavedLaws.{RestoredIsSound}
-use Rattle.dev_clock.specs.Sound.{IsSound}
-use Rattle.dev_clock.specs.State.{ClockState}
-use Rattle.dev_clock.specs.declared.cells.ClockCells.{ClockCells}
-use Rattle.dev_clock.specs.declared.saved.TheConstants.{CLOCK_DEVICE, LINE_RULE, LINES_CELL}
+use Rattle.dev_clock.proofs.SavedLaws.{slave-bit}
+
+-- ---- the devices that misfits of a board name
+
+-- A misfit, if there is one, names a device of a board.
+abbrev MayBePlaced : {D : Type 0} → Result D Misfit → Type 0
+MayBePlaced (Ok device) = Unit {0}
+MayBePlaced (Err misfit) = IsPlaced misfit
+
+of-moment : (moment : ℕ) → MayBePlaced (timed moment)
+unfolding timed
+of-moment moment = either MayBePlaced (nat_le moment LAST_MOMENT) _ _ tt (omega arith)
+
+of-chips : (level : ℕ) (master slave : Result Chip ℕ) → MayBePlaced (by_chip (pair_of level master slave))
+unfolding by_chip pair_of
+of-chips level (Err rule) slave = omega arith
+of-chips level (Ok master) (Err rule) = omega arith
+of-chips level (Ok master) (Ok slave) = tt
+
+of-device : {D : Type 0} (place : ℕ) (outcome : Result D ℕ) → place ≤ 4 → MayBePlaced (by_device place outcome)
+unfolding by_device
+of-device place (Ok device) l = tt
+of-device place (Err rule) l = l
+
+of-lines : (m : State) → MayBePlaced (agreed m)
+unfolding agreed
+of-lines m = either MayBePlaced (lines_agree m) _ _ tt (omega arith)
+
+of-all : (level : ℕ) (moment : Result ℕ Misfit) (pair : Result PicPair Misfit) (pit : Result Pit Misfit) (port : Result Port Misfit) → MayBePlaced moment
+    → MayBePlaced pair → MayBePlaced pit → MayBePlaced port → MayBePlaced (board_joined level moment pair pit port)
+unfolding board_joined
+of-all level (Err misfit) pair pit port a b c d = a
+of-all level (Ok moment) (Err misfit) pit port a b c d = b
+of-all level (Ok moment) (Ok pair) (Err misfit) port a b c d = c
+of-all level (Ok moment) (Ok pair) (Ok pit) (Err misfit) a b c d = d
+of-all level (Ok moment) (Ok pair) (Ok pit) (Ok port) a b c d = of-lines _
+
+pub placed : (level : ℕ) (cells : BoardCells) (misfit : Misfit) → board_restored level cells ≡ Err misfit → IsPlaced misfit
+placed level cells misfit e =
+    subst (λ (outcome : Result State Misfit). MayBePlaced outcome) e
+    (of-all level _ _ _ _ (of-moment _) (of-chips level _ _) (of-device _ _ (omega arith)) (of-device _ _ (omega arith)))
+
+-- ---- the devices
 
 -- The devices are made of a chip and a board's devices that were restored.
 pub record IsMadeOf (of_clock : Result Rtc Misfit) (of_board : Result State Misfit) (m : ClockState) : Type 0 where
@@ -58,10 +83,12 @@ lined line (Ok found) clock e =
     let is = lined-by (same line (line_of found)) found clock e in
     record { found = ap (λ (c : Rtc). Ok c) is.1; kept = same-is line (line_of found) is.0 ∙ ap line_of is.1 }
 
-pub clock-lined : (version : ℕ) (line : Bool) (cells : List ℤ) (clock : Rtc) → clock_back version line cells ≡ Ok clock → IsLined line (clock_restored version cells) clock
+pub clock-lined : (version : ℕ) (line : Bool) (cells : List ℤ) (clock : Rtc) → clock_back version line cells ≡ Ok clock
+    → IsLined line (clock_restored version cells) clock
 clock-lined version line cells clock e = lined line (clock_restored version cells) clock (device-ok CLOCK_DEVICE _ clock e)
 
-pub clock-sound : (version : ℕ) (line : Bool) (cells : List ℤ) (clock : Rtc) → IsUpTo NEWEST_CLOCK version → AreOf (kinds NEWEST_CLOCK) cells → clock_back version line cells ≡ Ok clock → IsSoundClock clock
+pub clock-sound : (version : ℕ) (line : Bool) (cells : List ℤ) (clock : Rtc) → IsUpTo NEWEST_CLOCK version → AreOf (kinds NEWEST_CLOCK) cells
+    → clock_back version line cells ≡ Ok clock → IsSoundClock clock
 clock-sound version line cells clock v are e =
     clock-is-sound.sound (numbers_back version 0) cells clock (record { pass = record { is_version = v; newest_set = refl }; of_kinds = are })
     (ok-hook _ clock (clock-lined version line cells clock e).found)
@@ -75,7 +102,8 @@ lines-of : (cells : List ℤ) (chip : Chip) → chip_of cells ≡ chip → numbe
 unfolding chip_of
 lines-of cells chip e = ap (λ (c : Chip). c.lines) e
 
-slave-lines : (level : ℕ) (cells : BoardCells) (board : State) → board_restored level cells ≡ Ok board → number_at cells.slave.items LINES_CELL ≡ board.pair.slave.lines
+slave-lines : (level : ℕ) (cells : BoardCells) (board : State) → board_restored level cells ≡ Ok board
+    → number_at cells.slave.items LINES_CELL ≡ board.pair.slave.lines
 slave-lines level cells board e =
     let pair = chip-ok _ board.pair (board_made_of level (timed (moment_of cells)) _ _ _ board e).pair in
     let slave = (pair_made_of level _ _ board.pair pair).of_slave in

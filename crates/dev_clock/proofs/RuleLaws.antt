@@ -1,30 +1,17 @@
 -- The devices are sound exactly if their cells in the newest clock set meet the rules and the lines
 -- agree.
-use Rattle.std.proofs.Common.{◌≡◌, ℕ, Ok, sym, ap, subst, ◌∙◌}
-use Rattle.dev_base.proofs.RuleLaws.{AllTrue, judged-ok, none_failing}
-use Rattle.dev_base.specs.Bits.{has}
-use Rattle.dev_base.specs.declared.limits.TheConstants.{NEWEST}
+use Rattle.dev_clock.proofs.Facade.{◌≡◌, ℕ, Ok, sym, ap, subst, ◌∙◌, AllTrue, judged-ok, none_failing, has, NEWEST, State, lines_of, same-chip, restored-own}
+use Rattle.dev_clock.proofs.Facade.{saved_cells, line_of, NEWEST_CLOCK, saved, slave_line, clock_back, restored, IsTold, SoundMeetsRules, IsSound, ClockState}
+use Rattle.dev_clock.proofs.Facade.{CLOCK_DEVICE}
 use Rattle.dev_board.proofs.RuleLaws.{sound_meets_rules as board-meets}
 use Rattle.dev_board.specs.Saved.{saved as board_saved, restored as board_restored}
 use Rattle.dev_board.specs.Sound.{IsSound as IsSoundBoard}
-use Rattle.dev_board.specs.State.{State}
 use Rattle.dev_pic.specs.Cells.{saved_cells as chip_cells}
-use Rattle.dev_pic.specs.Pair.{lines_of}
-use Rattle.vms_rtc.proofs.RuleLaws.{sound_meets_rules as clock-meets, same-chip}
-use Rattle.vms_rtc.proofs.SavedLaws.{restored-own}
-use Rattle.vms_rtc.specs.Cells.{saved_cells}
-use Rattle.vms_rtc.specs.Chip.{line_of}
+use Rattle.vms_rtc.proofs.RuleLaws.{sound_meets_rules as clock-meets}
 use Rattle.vms_rtc.specs.Saved.{rules, chip_of, restored as clock_restored}
 use Rattle.vms_rtc.specs.Sound.{IsSound as IsSoundClock}
-use Rattle.vms_rtc.specs.declared.limits.TheConstants.{NEWEST_CLOCK}
 use Rattle.dev_clock.proofs.RestoredLaws.{IsMadeOf, made_of, IsLined, clock-lined}
-use Rattle.dev_clock.proofs.SavedLaws.{line-kept, device-kept, both-kept}
-use Rattle.dev_clock.proofs.SlaveLine.{slave-bit}
-use Rattle.dev_clock.specs.Saved.{saved, slave_line, clock_back, restored}
-use Rattle.dev_clock.specs.SavedLaws.{IsTold, SoundMeetsRules}
-use Rattle.dev_clock.specs.Sound.{IsSound}
-use Rattle.dev_clock.specs.State.{ClockState}
-use Rattle.dev_clock.specs.declared.saved.TheConstants.{CLOCK_DEVICE}
+use Rattle.dev_clock.proofs.SavedLaws.{line-kept, device-kept, both-kept, slave-bit}
 
 -- The slave's line among the saved cells of a sound board.
 slave-there : (board : State) → IsSoundBoard board → slave_line (board_saved NEWEST board).slave.items ≡ has (lines_of board.pair) 8
@@ -39,7 +26,8 @@ module _ (m : ClockState) (s : IsSound m) where
 
   board-own : (back : State) × (board_restored NEWEST (board_saved NEWEST m.board) ≡ Ok back)
   board-own =
-      subst (λ (level : ℕ). (back : State) × (board_restored level (board_saved NEWEST m.board) ≡ Ok back)) s.devices.level ((board-meets.board m.board).0 s.board).1
+      subst (λ (level : ℕ). (back : State) × (board_restored level (board_saved NEWEST m.board) ≡ Ok back)) s.devices.level
+      ((board-meets.board m.board).0 s.board).1
 
   told : IsTold m
   told = record { clock = ((clock-meets.chip m.clock).0 s.devices.clock).0; board = ((board-meets.board m.board).0 s.board).0; level = s.devices.level }
@@ -53,7 +41,8 @@ module _ (m : ClockState) (s : IsSound m) where
 
 -- The converse.
 module _ (m : ClockState) (t : IsTold m) (n : ClockState) (e : restored m.clock.version (saved NEWEST_CLOCK m) ≡ Ok n) where
-  made : IsMadeOf (clock_back m.clock.version (slave_line (board_saved NEWEST m.board).slave.items) (saved_cells NEWEST_CLOCK m.clock)) (board_restored NEWEST (board_saved NEWEST m.board)) n
+  made : IsMadeOf (clock_back m.clock.version (slave_line (board_saved NEWEST m.board).slave.items) (saved_cells NEWEST_CLOCK m.clock))
+      (board_restored NEWEST (board_saved NEWEST m.board)) n
   unfolding saved
   made = made_of _ _ n e
 
@@ -66,7 +55,8 @@ module _ (m : ClockState) (t : IsTold m) (n : ClockState) (e : restored m.clock.
   is-lined = clock-lined m.clock.version _ (saved_cells NEWEST_CLOCK m.clock) n.clock made.clock
 
   judged : AllTrue (rules m.clock.version (saved_cells NEWEST_CLOCK m.clock)) × (chip_of m.clock.version (saved_cells NEWEST_CLOCK m.clock) ≡ n.clock)
-  judged = judged-ok (rules m.clock.version (saved_cells NEWEST_CLOCK m.clock)) (chip_of m.clock.version (saved_cells NEWEST_CLOCK m.clock)) n.clock is-lined.found
+  judged =
+      judged-ok (rules m.clock.version (saved_cells NEWEST_CLOCK m.clock)) (chip_of m.clock.version (saved_cells NEWEST_CLOCK m.clock)) n.clock is-lined.found
 
   same-clock : n.clock ≡ m.clock
   same-clock = sym judged.1 ∙ same-chip m.clock t.clock

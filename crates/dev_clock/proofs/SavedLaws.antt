@@ -1,29 +1,26 @@
 -- What is saved of a clock board's devices can be restored.
-use Rattle.std.proofs.Common.{◌≡◌, ℕ, ℤ, ◌≤◌, Bool, List, Result, Ok, refl, sym, ap, subst, ◌∙◌, arith}
-use Rattle.dev_base.proofs.RuleLaws.{hook-ok}
-use Rattle.dev_base.specs.Bits.{has}
-use Rattle.dev_base.specs.Cells.{number_at}
-use Rattle.dev_base.specs.declared.limits.TheConstants.{NEWEST}
-use Rattle.dev_board.proofs.SavedLaws.{saved_are_cells as board-saved, saved_comes_back as board-comes-back, same-refl}
-use Rattle.dev_board.specs.Saved.{saved as board_saved, carried as board_carried, by_device, MaySaveUnder as MaySaveBoard}
+use Rattle.dev_clock.proofs.Facade.{◌≡◌, ℕ, ◌*◌, ◌+◌, ◌<◌, ◌==◌, ap, arith, ℤ, ◌≤◌, Bool, List, Result, Ok, refl, sym, subst, ◌∙◌, has, lines_of, IsSoundPair}
+use Rattle.dev_clock.proofs.Facade.{PicPair, CLOCK_INPUT, hook-ok, number_at, NEWEST, same-refl, by_device, State, Misfit, carried-saved, Numbers}
+use Rattle.dev_clock.proofs.Facade.{saved_is_restored, saved_cells, line_of, CanRestore, hook_restored, Rtc, MaySaveUnder, saved, carried, AreSavedCells}
+use Rattle.dev_clock.proofs.Facade.{AreClockCells, numbers_back, slave_line, with_line, joined, restored, SavedAreCells, ComesBack, SavedComesBack, SavedGoesOn}
+use Rattle.dev_clock.proofs.Facade.{IsSound, Alike, ClockState, CLOCK_DEVICE, LINES_CELL}
+use Rattle.dev_board.proofs.SavedLaws.{saved_are_cells as board-saved, saved_comes_back as board-comes-back}
+use Rattle.dev_board.specs.Saved.{saved as board_saved, carried as board_carried, MaySaveUnder as MaySaveBoard}
 use Rattle.dev_board.specs.SavedLaws.{ComesBack as BoardComesBack}
-use Rattle.dev_board.specs.State.{State}
-use Rattle.dev_board.specs.declared.misfit.Misfit.{Misfit}
-use Rattle.dev_pic.proofs.SavedLaws.{carried-saved}
 use Rattle.dev_pic.specs.Cells.{saved_cells as chip_cells, carried as pic_carried}
-use Rattle.vms_hooks.specs.Numbers.{Numbers}
-use Rattle.vms_rtc.proofs.SavedLaws.{saved_are_cells as clock-saved, saved_is_restored}
-use Rattle.vms_rtc.specs.Cells.{saved_cells, carried as clock_carried}
-use Rattle.vms_rtc.specs.Chip.{line_of}
-use Rattle.vms_rtc.specs.Saved.{CanRestore, hook_restored}
-use Rattle.vms_rtc.specs.declared.rtc.Rtc.{Rtc}
+use Rattle.vms_rtc.proofs.SavedLaws.{saved_are_cells as clock-saved}
+use Rattle.vms_rtc.specs.Cells.{carried as clock_carried}
 use Rattle.dev_clock.proofs.AlikeLaws.{alike_stays}
-use Rattle.dev_clock.proofs.SlaveLine.{slave-bit}
-use Rattle.dev_clock.specs.Saved.{MaySaveUnder, saved, carried, AreSavedCells, AreClockCells, numbers_back, slave_line, with_line, joined, restored}
-use Rattle.dev_clock.specs.SavedLaws.{SavedAreCells, ComesBack, SavedComesBack, SavedGoesOn}
-use Rattle.dev_clock.specs.Sound.{IsSound, Alike}
-use Rattle.dev_clock.specs.State.{ClockState}
-use Rattle.dev_clock.specs.declared.saved.TheConstants.{CLOCK_DEVICE, LINES_CELL}
+
+high-bit : (high low : ℕ) → low < 256 → has (high * 256 + low) 8 ≡ has high 0
+high-bit high low l = ap (λ (n : ℕ). n == 1) (omega (arith, l))
+
+-- Its input is bit 0 of the slave's lines.
+pub slave-bit : (pair : PicPair) → IsSoundPair pair → has (lines_of pair) CLOCK_INPUT ≡ has pair.slave.lines 0
+unfolding lines_of
+slave-bit pair s = high-bit pair.slave.lines pair.master.lines s.master.registers.lines
+
+-- ---- what is saved
 
 -- The chip if its rules hold, and the devices if there is no fault.
 pub line-kept : (line : Bool) (clock : Rtc) (outcome : Result Rtc ℕ) → outcome ≡ Ok clock → line ≡ line_of clock → with_line line outcome ≡ Ok clock
@@ -34,7 +31,8 @@ pub device-kept : (place : ℕ) (clock : Rtc) (outcome : Result Rtc ℕ) → out
 unfolding by_device
 device-kept place clock outcome e = rw e refl
 
-pub both-kept : (clock : Rtc) (board : State) (of_clock : Result Rtc Misfit) (of_board : Result State Misfit) → of_clock ≡ Ok clock → of_board ≡ Ok board → joined of_clock of_board ≡ Ok (record { clock = clock; board = board })
+pub both-kept : (clock : Rtc) (board : State) (of_clock : Result Rtc Misfit) (of_board : Result State Misfit) → of_clock ≡ Ok clock → of_board ≡ Ok board
+    → joined of_clock of_board ≡ Ok (record { clock = clock; board = board })
 unfolding joined
 both-kept clock board of_clock of_board a b = rw (a, b) refl
 
@@ -56,7 +54,8 @@ module _ (set : ℕ) (m : ClockState) (s : IsSound m) (may : MaySaveUnder m.cloc
   abbrev numbers : Numbers
   numbers = record { level = m.clock.version; set = set; moment = 0 }
 
-  clock-both : CanRestore (numbers_back m.clock.version 0) (clock_carried set (saved_cells set m.clock)) × (hook_restored (numbers_back m.clock.version 0) (clock_carried set (saved_cells set m.clock)) ≡ Ok m.clock)
+  clock-both : CanRestore (numbers_back m.clock.version 0) (clock_carried set (saved_cells set m.clock))
+      × (hook_restored (numbers_back m.clock.version 0) (clock_carried set (saved_cells set m.clock)) ≡ Ok m.clock)
   clock-both =
       saved_is_restored.chip numbers (numbers_back m.clock.version 0) m.clock
       (record { is_version = s.devices.clock.version; own_version = refl; reaches = may }) s.devices.clock

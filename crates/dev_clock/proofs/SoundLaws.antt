@@ -1,30 +1,16 @@
 -- The devices are sound at power on, and each event keeps them sound.
-use Rattle.std.proofs.Common.{◌≡◌, ℕ, ◌<◌, ◌==◌, Bool, List, [], ◌∷◌, refl, sym, subst, ◌∙◌, arith}
-use Rattle.dev_base.proofs.Choices.{either}
-use Rattle.dev_base.specs.Bits.{has}
-use Rattle.dev_base.specs.Levels.{IsLevel, IsUpTo}
-use Rattle.dev_base.specs.declared.limits.TheConstants.{NEWEST}
+use Rattle.dev_clock.proofs.Facade.{◌≡◌, ℕ, ◌<◌, ◌==◌, Bool, List, [], ◌∷◌, refl, sym, subst, ◌∙◌, arith, either, has, IsLevel, IsUpTo, NEWEST, wires_stay}
+use Rattle.dev_clock.proofs.Facade.{IsEvent, AreEvents, State, after_by, Answer, Event, Read, Write, Byte, Wait, Wire, Ack, chip_on, lines_of, calls_keep_sound}
+use Rattle.dev_clock.proofs.Facade.{is_port, read_of, passed, line_of, NEWEST_CLOCK, Rtc, SoundStays, HasDevices, IsSound, ClockState, power_on, on_board}
+use Rattle.dev_clock.proofs.Facade.{clock_read, clock_written, waited, acted, follows_line, step, after_all, CLOCK_INPUT}
 use Rattle.dev_board.proofs.ClockLaws.{clock_goes_on as board_goes_on}
 use Rattle.dev_board.proofs.SoundLaws.{sound_stays_on as board_stays}
-use Rattle.dev_board.proofs.WireLaws.{wires_stay}
-use Rattle.dev_board.specs.Laws.{IsEvent, AreEvents}
 use Rattle.dev_board.specs.Sound.{IsSound as IsSoundBoard}
-use Rattle.dev_board.specs.State.{State, power_on as board_on}
-use Rattle.dev_board.specs.Step.{step as board_step, after_by}
-use Rattle.dev_board.specs.declared.event.Answer.{Answer}
-use Rattle.dev_board.specs.declared.event.Event.{Event}
-use Rattle.dev_board.specs.declared.event.Event.TheVariants.{Read, Write, Byte, Wait, Wire, Ack}
-use Rattle.dev_pic.specs.Pair.{chip_on, power_on as pair_on, lines_of}
-use Rattle.vms_rtc.proofs.SoundLaws.{calls_keep_sound}
-use Rattle.vms_rtc.specs.Chip.{is_port, power_on as clock_on, read_of, passed, line_of}
+use Rattle.dev_board.specs.State.{power_on as board_on}
+use Rattle.dev_board.specs.Step.{step as board_step}
+use Rattle.dev_pic.specs.Pair.{power_on as pair_on}
+use Rattle.vms_rtc.specs.Chip.{power_on as clock_on}
 use Rattle.vms_rtc.specs.Sound.{IsSound as IsSoundClock}
-use Rattle.vms_rtc.specs.declared.limits.TheConstants.{NEWEST_CLOCK}
-use Rattle.vms_rtc.specs.declared.rtc.Rtc.{Rtc}
-use Rattle.dev_clock.specs.Laws.{SoundStays}
-use Rattle.dev_clock.specs.Sound.{HasDevices, IsSound}
-use Rattle.dev_clock.specs.State.{ClockState, power_on}
-use Rattle.dev_clock.specs.Step.{on_board, clock_read, clock_written, waited, acted, follows_line, step, after_all}
-use Rattle.dev_clock.specs.declared.devices.TheConstants.{CLOCK_INPUT}
 
 -- ---- at power on
 
@@ -55,24 +41,29 @@ unfolding waited
 waited-has ns m h = record { clock = calls_keep_sound.passed m.board.moment _ m.clock h.clock; level = board_goes_on.level (Wait ns) m.board ∙ h.level }
 
 -- The same for what a call returned.
-pub after-read : (m : ClockState) → HasDevices m → (port value : ℕ) (after : Rtc) → (value, after) ≡ read_of port m.clock → HasDevices (record m { clock = after })
+pub after-read : (m : ClockState) → HasDevices m → (port value : ℕ) (after : Rtc) → (value, after) ≡ read_of port m.clock
+    → HasDevices (record m { clock = after })
 after-read m h port value after e = subst (λ (r : ℕ × Rtc). HasDevices (record m { clock = r.1 })) (sym e) (read-has port m h)
 
-pub after-event : (m : ClockState) → HasDevices m → (event : Event) (answer : Answer) (after : State) → (answer, after) ≡ board_step event m.board → HasDevices (record m { board = after })
+pub after-event : (m : ClockState) → HasDevices m → (event : Event) (answer : Answer) (after : State) → (answer, after) ≡ board_step event m.board
+    → HasDevices (record m { board = after })
 after-event m h event answer after e = subst (λ (r : Answer × State). HasDevices (record m { board = r.1 })) (sym e) (board-has event m h)
 
-pub after-wait : (m : ClockState) → HasDevices m → (ns from to : ℕ) (answer : Answer) (after : State) (clock : Rtc) → (answer, after) ≡ board_step (Wait ns) m.board → clock ≡ passed from to m.clock → HasDevices (record { clock = clock; board = after })
+pub after-wait : (m : ClockState) → HasDevices m → (ns from to : ℕ) (answer : Answer) (after : State) (clock : Rtc)
+    → (answer, after) ≡ board_step (Wait ns) m.board → clock ≡ passed from to m.clock → HasDevices (record { clock = clock; board = after })
 after-wait m h ns from to answer after clock e f = record {
   clock = subst IsSoundClock (sym f) (calls_keep_sound.passed from to m.clock h.clock);
   level = (after-event m h (Wait ns) answer after e).level;
 }
 
 -- The same after the board's input has the chip's line.
-pub after-line : (m : ClockState) → HasDevices m → (up : Bool) (answer : Answer) (after : State) → up ≡ line_of m.clock → (answer, after) ≡ board_step (Wire CLOCK_INPUT up) m.board → IsSoundBoard after → IsSound (record m { board = after })
+pub after-line : (m : ClockState) → HasDevices m → (up : Bool) (answer : Answer) (after : State) → up ≡ line_of m.clock
+    → (answer, after) ≡ board_step (Wire CLOCK_INPUT up) m.board → IsSoundBoard after → IsSound (record m { board = after })
 after-line m h up answer after l e s = record {
   devices = after-event m h (Wire CLOCK_INPUT up) answer after e;
   board = s;
-  line = subst (λ (r : Answer × State). has (lines_of r.1.pair) CLOCK_INPUT ≡ up) (sym e) (wires_stay.wire (Wire CLOCK_INPUT up) m.board CLOCK_INPUT refl refl) ∙ l;
+  line = subst (λ (r : Answer × State). has (lines_of r.1.pair) CLOCK_INPUT ≡ up) (sym e) (wires_stay.wire (Wire CLOCK_INPUT up) m.board CLOCK_INPUT refl refl)
+      ∙ l;
 }
 
 -- ---- the event itself

@@ -1,16 +1,6 @@
 -- A sound board is saved in ready images.
-use Rattle.std.proofs.Common.{◌≡◌, ℕ, zero, suc, ◌≤◌, List, [], ◌∷◌, length, Some, ℤ, refl, ap, subst, arith}
-use Rattle.std.specs.List.{slice_get}
-use Rattle.dev_base.specs.declared.limits.TheConstants.{NEWEST}
-use Rattle.dev_board.proofs.SavedLaws.{saved_are_cells}
-use Rattle.dev_board.specs.Saved.{saved, AreSavedCells}
-use Rattle.dev_board.specs.State.{State}
-use Rattle.vms_desc.specs.Formed.{shipped_set}
-use Rattle.vms_spec.specs.Images.{Image}
-use Rattle.vms_spec.specs.Sets.{Device, Set}
-use Rattle.vms_spec.specs.Streams.{IsReady, AreReady}
-use Rattle.dev_images.specs.Images.{image_of, images_of, lists_of}
-use Rattle.dev_images.specs.Laws.{SavedAreReady}
+use Rattle.dev_images.proofs.Facade.{◌≡◌, ℕ, zero, suc, ◌≤◌, List, [], ◌∷◌, length, Some, ℤ, refl, ap, subst, arith, slice_get, NEWEST, saved_are_cells, saved}
+use Rattle.dev_images.proofs.Facade.{AreSavedCells, State, shipped_set, Image, Device, Set, IsReady, AreReady, image_of, images_of, lists_of, SavedAreReady}
 use Rattle.dev_images.proofs.ChipReady.{chip_is_ready}
 use Rattle.dev_images.proofs.PitReady.{pit_is_ready}
 use Rattle.dev_images.proofs.SerialReady.{serial_is_ready}
@@ -30,7 +20,8 @@ counts set [] (numbers ∷ lists) h = absurd h
 counts set (d ∷ devices) [] h = absurd h
 counts set (d ∷ devices) (numbers ∷ lists) h = ap suc (counts set devices lists h.1)
 
-all-ready : (set : Set) (devices : List Device) (lists : List (List ℤ)) → AllReady set devices lists → (k : ℕ) (d : Device) (image : Image) → slice_get devices k ≡ Some d → slice_get (images_of set devices lists) k ≡ Some image → IsReady set d image
+all-ready : (set : Set) (devices : List Device) (lists : List (List ℤ)) → AllReady set devices lists → (k : ℕ) (d : Device) (image : Image)
+    → slice_get devices k ≡ Some d → slice_get (images_of set devices lists) k ≡ Some image → IsReady set d image
 unfolding AllReady
 all-ready set [] [] h k d image e f = cc
 all-ready set [] (numbers ∷ lists) h k d image e f = absurd h
@@ -44,7 +35,8 @@ all-ready set (first ∷ devices) (numbers ∷ lists) h (suc k) d image e f = al
 are-ready : (set : Set) (lists : List (List ℤ)) → AllReady set set.devices lists → AreReady set (images_of set set.devices lists)
 are-ready set lists h = record { one_each = counts set set.devices lists h; ready = all-ready set set.devices lists h }
 
-each : (set : ℕ) (m : State) → AreSavedCells set (saved set m) → 1 ≤ set → set ≤ NEWEST → AllReady (shipped_set set) (shipped_set set).devices (lists_of (saved set m))
+each : (set : ℕ) (m : State) → AreSavedCells set (saved set m) → 1 ≤ set → set ≤ NEWEST
+    → AllReady (shipped_set set) (shipped_set set).devices (lists_of (saved set m))
 unfolding AllReady
 each zero m a l h = absurd (omega (arith, l))
 each (suc zero) m a l h = (timer_is_ready.first _ a.timer, ((chip_is_ready.chip 0).first _ a.master, ((chip_is_ready.chip 1).first _ a.slave, (pit_is_ready.first _ a.pit, (serial_is_ready.first _ a.serial, tt)))))

@@ -1,7 +1,5 @@
 -- The kinds of the devices' cells, by computation.
-use Rattle.std.proofs.Common.{refl}
-use Rattle.vms_spec.specs.Layout.{first}
-use Rattle.dev_images.specs.Kinds.{KindsLaw}
+use Rattle.dev_images.proofs.Facade.{refl, first, KindsLaw}
 
 pub kinds_are : KindsLaw
 unfolding first

@@ -3,11 +3,11 @@ pub mod BoardReady
 pub mod Carried
 pub mod Channels
 pub mod ChipReady
+pub mod Facade
 pub mod KindsAre
 pub mod NormalBoard
 pub mod NormalCells
 pub mod NormalSerial
-pub mod Parts
 pub mod PitCarried
 pub mod PitReady
 pub mod Places

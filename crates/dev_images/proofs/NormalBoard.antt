@@ -1,23 +1,10 @@
 -- Normal images of the newest set have the cells that a restore of a board requires.
-use Rattle.std.proofs.Common.{◌≡◌, ℕ, List, [], ◌∷◌, length, Some, refl, arith}
-use Rattle.std.specs.List.{slice_get}
-use Rattle.dev_base.specs.declared.limits.TheConstants.{NEWEST}
-use Rattle.dev_board.specs.Saved.{AreBoardCells}
-use Rattle.vms_desc.specs.Formed.{shipped_set}
-use Rattle.vms_spec.specs.Images.{Image, IsNormal}
-use Rattle.vms_spec.specs.Sets.{Device}
-use Rattle.vms_spec.specs.Shipped.{timer, i8259_at_4, i8254_at_2}
-use Rattle.dev_images.specs.Images.{cells_in}
-use Rattle.dev_images.specs.Laws.{NormalMayBeRestored, serial_at_4}
+use Rattle.dev_images.proofs.Facade.{◌≡◌, ℕ, List, [], ◌∷◌, length, Some, refl, arith, slice_get, NEWEST, AreBoardCells, shipped_set, Image, IsNormal, Device}
+use Rattle.dev_images.proofs.Facade.{timer, i8259_at_4, i8254_at_2, cells_in, NormalMayBeRestored, serial_at_4}
 use Rattle.dev_images.proofs.NormalCells.{timer-of, chip-of, pit-of}
 use Rattle.dev_images.proofs.NormalSerial.{port-of}
 
 each : (images : List Image) → length images ≡ 5 → ((k : ℕ) (d : Device) (image : Image) → slice_get (shipped_set NEWEST).devices k ≡ Some d → slice_get images k ≡ Some image → IsNormal (shipped_set NEWEST) d image) → AreBoardCells (cells_in images)
-each [] l h = absurd (omega (arith, l))
-each (a ∷ []) l h = absurd (omega (arith, l))
-each (a ∷ b ∷ []) l h = absurd (omega (arith, l))
-each (a ∷ b ∷ c ∷ []) l h = absurd (omega (arith, l))
-each (a ∷ b ∷ c ∷ d ∷ []) l h = absurd (omega (arith, l))
 each (a ∷ b ∷ c ∷ d ∷ e ∷ []) l h = record {
   timer = timer-of a (h 0 timer a refl refl);
   master = chip-of 0 b (h 1 (i8259_at_4 0) b refl refl);
@@ -25,7 +12,7 @@ each (a ∷ b ∷ c ∷ d ∷ e ∷ []) l h = record {
   pit = pit-of d (h 3 i8254_at_2 d refl refl);
   serial = port-of e (h 4 serial_at_4 e refl refl);
 }
-each (a ∷ b ∷ c ∷ d ∷ e ∷ f ∷ rest) l h = absurd (omega (arith, l))
+each _ l h = absurd (omega (arith, l))
 
 pub normal_may_be_restored : NormalMayBeRestored
 normal_may_be_restored = record { cells = each }

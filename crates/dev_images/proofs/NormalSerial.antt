@@ -1,27 +1,13 @@
 -- A normal image of the newest set's serial port has the cells that a restore of a port requires.
-use Rattle.std.proofs.Common.{◌≡◌, ℕ, zero, suc, ◌+◌, ◌<◌, ◌≤◌, true, false, ◌&&◌, ◌==◌, List, ◌∷◌, ◌++◌, length, get_or, take, drop, min, map, Option, Some, None, ℤ, pos, negsuc, ◌≤ℤ◌, refl, sym, ◌∙◌, subst, arith, []}
-use Rattle.std.proofs.lemmas.Bool.{and_parts, ltb-true, or_from}
-use Rattle.vms_spec.specs.Numbers.{same_number}
-use Rattle.vms_spec.specs.Sets.{Set, Device, Sub}
-use Rattle.dev_images.specs.Laws.{serial_at_4}
-use Rattle.dev_images.proofs.Parts.{element, sub_cells, zero_defaults}
+use Rattle.dev_images.proofs.Facade.{◌≡◌, ℕ, zero, suc, ◌+◌, ◌<◌, ◌≤◌, true, false, ◌&&◌, ◌==◌, List, ◌∷◌, ◌++◌, length, get_or, take, drop, min, map, Option}
+use Rattle.dev_images.proofs.Facade.{Some, None, ℤ, pos, negsuc, ◌≤ℤ◌, refl, sym, ◌∙◌, subst, arith, [], and_parts, ltb-true, or_from, ints, nat_le, nat_lt}
+use Rattle.dev_images.proofs.Facade.{same_number, Set, Device, Sub, serial_at_4, InRange, residue, Kind, U8, Image, has_cell, image_slots, own_slots, sub_slots}
+use Rattle.dev_images.proofs.Facade.{came_slots, IsNormal, IsVersionOf, AreVersionsOf, Cell, no_cell, first, device_cells, times, Slot, Number, Rule, NEWEST}
+use Rattle.dev_images.proofs.Facade.{shipped_set, thr_ipending, fifo, timeout, ring, same_number_is, AreOf, kind_at, nat_of, IsPortCells, THR_IPENDING}
+use Rattle.dev_images.proofs.Facade.{RX_COUNT, RX, TX_COUNT, TX, TIMEOUT_AT, RX_DATA}
 use Rattle.dev_images.proofs.SerialReady.{byte, second_slots, inner_slots, fifo_slots, elements}
-use Rattle.std.proofs.lemmas.Int.{ints}
-use Rattle.std.specs.Prelude.{nat_le, nat_lt}
-use Rattle.vms_kinds.specs.Codes.{InRange, residue}
-use Rattle.vms_kinds.specs.declared.Kind.{Kind}
-use Rattle.vms_kinds.specs.declared.Kind.TheVariants.{U8}
-use Rattle.vms_spec.specs.Images.{Image, has_cell, image_slots, own_slots, sub_slots, came_slots, IsNormal, IsVersionOf, AreVersionsOf}
-use Rattle.vms_spec.specs.Layout.{Cell, no_cell, first, device_cells, times, Slot, Number, Constant, Filler, Rule}
-use Rattle.dev_base.specs.declared.limits.TheConstants.{NEWEST}
-use Rattle.vms_desc.specs.Formed.{shipped_set}
-use Rattle.vms_spec.specs.Shipped.{thr_ipending, fifo, timeout, ring}
-use Rattle.vms_spec.proofs.NumberLaws.{same_number_is}
-use Rattle.dev_base.specs.Cells.{AreOf, kind_at, nat_of}
 use Rattle.dev_images.proofs.NormalCells.{of-kinds}
-use Rattle.dev_images.proofs.ReadyOf.{has-none, neq, all_within, before-none}
-use Rattle.dev_serial.specs.Cells.{IsPortCells}
-use Rattle.vms_fields.specs.declared.serial.TheConstants.{THR_IPENDING, RX_COUNT, RX, TX_COUNT, TX, TIMEOUT_AT, RX_DATA}
+use Rattle.dev_images.proofs.ReadyOf.{has-none, neq, all_within, before-none, element, sub_cells, zero_defaults}
 
 within-none : (low high : ℕ) (slots : List Slot) (c : ℕ) → all_within low high slots ≡ true → high ≤ c → has_cell slots c ≡ false
 within-none low high [] c e h = refl
@@ -30,9 +16,7 @@ within-none low high (Number k kind capacities ∷ slots) c e h =
     let q = and_parts (nat_lt k high) (all_within low high slots) p.1 in
     let below : k < high = ltb-true k high q.0 in
     or_from (k == c) (has_cell slots c) (neq k c (λ same. absurd (omega (arith, below, same, h)))) (within-none low high slots c q.1 h)
-within-none low high (Constant kind z ∷ slots) c e h = within-none low high slots c e h
-within-none low high (Filler n ∷ slots) c e h = within-none low high slots c e h
-within-none low high (Rule b ∷ slots) c e h = within-none low high slots c e h
+within-none low high (slot ∷ slots) c e h = within-none low high slots c e h
 
 -- The elements of an array before and after a cell.
 elements-before : (n at c : ℕ) → at + n ≤ c → has_cell (times n (element byte) at 1) c ≡ false
@@ -47,17 +31,21 @@ elements-after (suc n) at c h = or_from (at == c) _ (neq at c (λ same. absurd (
 rx-lack : (n m i : ℕ) → n ≤ i → i < 16 → has_cell (fifo_slots n m) (RX + i) ≡ false
 rx-lack n m i l b =
     has-none (inner_slots n m) (Rule true ∷ []) (RX + i)
-    (has-none (Number RX_COUNT U8 (16 ∷ []) ∷ []) (times n (element byte) RX 1 ++ second_slots m) (RX + i) (or_from (RX_COUNT == RX + i) false (neq RX_COUNT (RX + i) (λ same. absurd (omega (arith, same)))) refl)
+    (has-none (Number RX_COUNT U8 (16 ∷ []) ∷ []) (times n (element byte) RX 1 ++ second_slots m) (RX + i)
+    (or_from (RX_COUNT == RX + i) false (neq RX_COUNT (RX + i) (λ same. absurd (omega (arith, same)))) refl)
     (has-none (times n (element byte) RX 1) (second_slots m) (RX + i) (elements-before n RX (RX + i) (omega (arith, l)))
-    (has-none (Number TX_COUNT U8 (16 ∷ []) ∷ []) (times m (element byte) TX 1 ++ []) (RX + i) (or_from (TX_COUNT == RX + i) false (neq TX_COUNT (RX + i) (λ same. absurd (omega (arith, same, b)))) refl)
+    (has-none (Number TX_COUNT U8 (16 ∷ []) ∷ []) (times m (element byte) TX 1 ++ []) (RX + i)
+    (or_from (TX_COUNT == RX + i) false (neq TX_COUNT (RX + i) (λ same. absurd (omega (arith, same, b)))) refl)
     (has-none (times m (element byte) TX 1) [] (RX + i) (elements-after m TX (RX + i) (omega (arith, b))) refl)))) refl
 
 tx-lack : (n m i : ℕ) → n ≤ 16 → m ≤ i → i < 16 → has_cell (fifo_slots n m) (TX + i) ≡ false
 tx-lack n m i most l b =
     has-none (inner_slots n m) (Rule true ∷ []) (TX + i)
-    (has-none (Number RX_COUNT U8 (16 ∷ []) ∷ []) (times n (element byte) RX 1 ++ second_slots m) (TX + i) (or_from (RX_COUNT == TX + i) false (neq RX_COUNT (TX + i) (λ same. absurd (omega (arith, same)))) refl)
+    (has-none (Number RX_COUNT U8 (16 ∷ []) ∷ []) (times n (element byte) RX 1 ++ second_slots m) (TX + i)
+    (or_from (RX_COUNT == TX + i) false (neq RX_COUNT (TX + i) (λ same. absurd (omega (arith, same)))) refl)
     (has-none (times n (element byte) RX 1) (second_slots m) (TX + i) (elements-before n RX (TX + i) (omega (arith, most)))
-    (has-none (Number TX_COUNT U8 (16 ∷ []) ∷ []) (times m (element byte) TX 1 ++ []) (TX + i) (or_from (TX_COUNT == TX + i) false (neq TX_COUNT (TX + i) (λ same. absurd (omega (arith, same)))) refl)
+    (has-none (Number TX_COUNT U8 (16 ∷ []) ∷ []) (times m (element byte) TX 1 ++ []) (TX + i)
+    (or_from (TX_COUNT == TX + i) false (neq TX_COUNT (TX + i) (λ same. absurd (omega (arith, same)))) refl)
     (has-none (times m (element byte) TX 1) [] (TX + i) (elements-before m TX (TX + i) (omega (arith, l))) refl)))) refl
 
 -- Subsections that came lack a cell that none of them has.
@@ -66,12 +54,14 @@ SubsLack set numbers c at [] = Unit {0}
 SubsLack set numbers c at (s ∷ subs) =
     ((v : ℕ) → IsVersionOf s.desc v → has_cell (sub_slots set s v numbers at) c ≡ false) × SubsLack set numbers c (at + length (sub_cells set s)) subs
 
-came-lack : (set : Set) (d : Device) (numbers : List ℤ) (c at : ℕ) (subs : List Sub) (came : List (Option ℕ)) → AreVersionsOf subs came → SubsLack set numbers c at subs → has_cell (came_slots set d numbers at subs came) c ≡ false
+came-lack : (set : Set) (d : Device) (numbers : List ℤ) (c at : ℕ) (subs : List Sub) (came : List (Option ℕ)) → AreVersionsOf subs came
+    → SubsLack set numbers c at subs → has_cell (came_slots set d numbers at subs came) c ≡ false
 came-lack set d numbers c at [] came a h = refl
 came-lack set d numbers c at (s ∷ subs) [] a h = absurd a
 came-lack set d numbers c at (s ∷ subs) (None ∷ came) a h = came-lack set d numbers c (at + length (sub_cells set s)) subs came a h.1
 came-lack set d numbers c at (s ∷ subs) (Some v ∷ came) a h =
-    has-none (sub_slots set s v numbers at) (came_slots set d numbers (at + length (sub_cells set s)) subs came) c (h.0 v a.0) (came-lack set d numbers c (at + length (sub_cells set s)) subs came a.1 h.1)
+    has-none (sub_slots set s v numbers at) (came_slots set d numbers (at + length (sub_cells set s)) subs came) c (h.0 v a.0)
+    (came-lack set d numbers c (at + length (sub_cells set s)) subs came a.1 h.1)
 
 own-within : (v : ℕ) (numbers : List ℤ) → 1 ≤ v → v ≤ NEWEST → all_within 0 THR_IPENDING (own_slots (shipped_set NEWEST) serial_at_4 v numbers) ≡ true
 unfolding first
@@ -88,14 +78,17 @@ version-1 (suc zero) P l h p = p
 version-1 (suc (suc v)) P l h p = absurd (omega (arith, h))
 
 -- The default of a cell of a run that has zeros.
-default-in : (cells : List Cell) (at i n place : ℕ) → place ≡ at + i → i < n → zero_defaults (take n (drop at cells)) ≡ true → (get_or cells place no_cell).default ≡ pos 0
+default-in : (cells : List Cell) (at i n place : ℕ) → place ≡ at + i → i < n → zero_defaults (take n (drop at cells)) ≡ true
+    → (get_or cells place no_cell).default ≡ pos 0
 default-in [] at i n place is lt e = refl
 default-in (cell ∷ cells) (suc at) i n zero is lt e = absurd (omega (arith, is))
 default-in (cell ∷ cells) (suc at) i n (suc place) is lt e = default-in cells at i n place (omega (arith, is)) lt e
 default-in (cell ∷ cells) zero i zero place is lt e = absurd (omega (arith, lt))
-default-in (cell ∷ cells) zero i (suc n) zero is lt e = sym (same_number_is (pos 0) cell.default (and_parts (same_number (pos 0) cell.default) (zero_defaults (take n cells)) e).0)
+default-in (cell ∷ cells) zero i (suc n) zero is lt e =
+    sym (same_number_is (pos 0) cell.default (and_parts (same_number (pos 0) cell.default) (zero_defaults (take n cells)) e).0)
 default-in (cell ∷ cells) zero zero (suc n) (suc place) is lt e = absurd (omega (arith, is))
-default-in (cell ∷ cells) zero (suc i) (suc n) (suc place) is lt e = default-in cells zero i n place (omega (arith, is)) (omega (arith, lt)) (and_parts (same_number (pos 0) cell.default) (zero_defaults (take n cells)) e).1
+default-in (cell ∷ cells) zero (suc i) (suc n) (suc place) is lt e =
+    default-in cells zero i n place (omega (arith, is)) (omega (arith, lt)) (and_parts (same_number (pos 0) cell.default) (zero_defaults (take n cells)) e).1
 
 module _ (image : Image) (n : IsNormal (shipped_set NEWEST) serial_at_4 image) where
   abbrev numbers : List ℤ
@@ -104,7 +97,8 @@ module _ (image : Image) (n : IsNormal (shipped_set NEWEST) serial_at_4 image) w
   are : AreOf (map (λ cell. cell.kind) (device_cells (shipped_set NEWEST) serial_at_4)) numbers
   are = of-kinds (device_cells (shipped_set NEWEST) serial_at_4) numbers n.cells
 
-  byte-at : (place : ℕ) → place < 84 → kind_at (map (λ cell. cell.kind) (device_cells (shipped_set NEWEST) serial_at_4)) place ≡ U8 → InRange U8 (get_or numbers place (pos 0))
+  byte-at : (place : ℕ) → place < 84 → kind_at (map (λ cell. cell.kind) (device_cells (shipped_set NEWEST) serial_at_4)) place ≡ U8
+      → InRange U8 (get_or numbers place (pos 0))
   unfolding first
   byte-at place lt e = subst (λ (kind : Kind). InRange kind (get_or numbers place (pos 0))) e (are.in_range place (omega (arith, lt)))
 
@@ -136,18 +130,27 @@ module _ (image : Image) (n : IsNormal (shipped_set NEWEST) serial_at_4 image) w
 
   -- A cell outside of the fields and of the other subsections that is in no slot of the FIFOs is in
   -- no slot.
-  lack : (c : ℕ) → RX_COUNT ≤ c → c < TIMEOUT_AT → has_cell (fifo_slots rx_elements tx_elements) c ≡ false → has_cell (image_slots (shipped_set NEWEST) serial_at_4 image) c ≡ false
+  lack : (c : ℕ) → RX_COUNT ≤ c → c < TIMEOUT_AT → has_cell (fifo_slots rx_elements tx_elements) c ≡ false
+      → has_cell (image_slots (shipped_set NEWEST) serial_at_4 image) c ≡ false
   unfolding first
   lack c low high e =
-      has-none (own_slots (shipped_set NEWEST) serial_at_4 image.version numbers) (came_slots (shipped_set NEWEST) serial_at_4 numbers THR_IPENDING serial_at_4.subs image.came) c
-      (within-none 0 THR_IPENDING (own_slots (shipped_set NEWEST) serial_at_4 image.version numbers) c (own-within image.version numbers n.version.0 n.version.1) (omega (arith, low)))
+      has-none (own_slots (shipped_set NEWEST) serial_at_4 image.version numbers)
+      (came_slots (shipped_set NEWEST) serial_at_4 numbers THR_IPENDING serial_at_4.subs image.came) c
+      (within-none 0 THR_IPENDING (own_slots (shipped_set NEWEST) serial_at_4 image.version numbers) c
+      (own-within image.version numbers n.version.0 n.version.1) (omega (arith, low)))
       (came-lack (shipped_set NEWEST) serial_at_4 numbers c THR_IPENDING serial_at_4.subs image.came n.subs (
-        (λ v h. version-1 v (λ v. has_cell (sub_slots (shipped_set NEWEST) thr_ipending v numbers THR_IPENDING) c ≡ false) h.0 h.1 (within-none THR_IPENDING RX_COUNT (sub_slots (shipped_set NEWEST) thr_ipending 1 numbers THR_IPENDING) c refl low)),
+        (λ v h. version-1 v (λ v. has_cell (sub_slots (shipped_set NEWEST) thr_ipending v numbers THR_IPENDING) c ≡ false) h.0 h.1
+            (within-none THR_IPENDING RX_COUNT (sub_slots (shipped_set NEWEST) thr_ipending 1 numbers THR_IPENDING) c refl low)),
         (
           (λ v h. version-1 v (λ v. has_cell (sub_slots (shipped_set NEWEST) fifo v numbers RX_COUNT) c ≡ false) h.0 h.1 e),
           (
-            (λ v h. version-1 v (λ v. has_cell (sub_slots (shipped_set NEWEST) timeout v numbers TIMEOUT_AT) c ≡ false) h.0 h.1 (before-none TIMEOUT_AT RX_DATA (sub_slots (shipped_set NEWEST) timeout 1 numbers TIMEOUT_AT) c refl high)),
-            ((λ v h. version-1 v (λ v. has_cell (sub_slots (shipped_set NEWEST) ring v numbers RX_DATA) c ≡ false) h.0 h.1 (before-none RX_DATA 84 (sub_slots (shipped_set NEWEST) ring 1 numbers RX_DATA) c refl (omega (arith, high)))), tt),
+            (λ v h. version-1 v (λ v. has_cell (sub_slots (shipped_set NEWEST) timeout v numbers TIMEOUT_AT) c ≡ false) h.0 h.1
+                (before-none TIMEOUT_AT RX_DATA (sub_slots (shipped_set NEWEST) timeout 1 numbers TIMEOUT_AT) c refl high)),
+            (
+              (λ v h. version-1 v (λ v. has_cell (sub_slots (shipped_set NEWEST) ring v numbers RX_DATA) c ≡ false) h.0 h.1
+                  (before-none RX_DATA 84 (sub_slots (shipped_set NEWEST) ring 1 numbers RX_DATA) c refl (omega (arith, high)))),
+              tt,
+            ),
           ),
         ),
       ))
@@ -165,7 +168,8 @@ module _ (image : Image) (n : IsNormal (shipped_set NEWEST) serial_at_4 image) w
   tx-zeros i l b =
       let is = elements (get_or numbers TX_COUNT (pos 0)) tx-range tx-fits in
       let long = n.cells.long in
-      n.absent (TX + i) (omega (arith, b, long)) (lack (TX + i) (omega arith) (omega (arith, b)) (tx-lack rx_elements tx_elements i (omega arith) (omega (arith, is, l)) b))
+      n.absent (TX + i) (omega (arith, b, long))
+      (lack (TX + i) (omega arith) (omega (arith, b)) (tx-lack rx_elements tx_elements i (omega arith) (omega (arith, is, l)) b))
       ∙ default-in (device_cells (shipped_set NEWEST) serial_at_4) TX i 16 (TX + i) refl b refl
 
   pub port-of : IsPortCells numbers

@@ -1,23 +1,11 @@
 -- When the image of numbers is ready.
-use Rattle.std.proofs.Common.{◌≡◌, ◌≢◌, ℕ, zero, suc, ◌+◌, ◌<◌, ◌≤◌, Bool, true, false, ◌&&◌, ◌==◌, cond, List, ◌∷◌, ◌++◌, length, get_or, map, Option, Some, None, ℤ, pos, ◌≤ℤ◌, refl, sym, ap, ◌∙◌, subst, arith, ◌||◌, []}
-use Rattle.std.specs.List.{AllByRecursion}
-use Rattle.vms_kinds.specs.Codes.{InRange}
-use Rattle.vms_kinds.specs.declared.Kind.{Kind}
-use Rattle.vms_spec.proofs.WellFormedLaws.{within}
-use Rattle.vms_spec.specs.Rules.{counts_well}
-use Rattle.vms_spec.specs.Numbers.{same_number}
-use Rattle.std.proofs.lemmas.Bool.{and_parts, eqb-true, and_from, leb-true, or_from}
-use Rattle.std.proofs.lemmas.Bool.Decides.{nat_tests}
-use Rattle.std.specs.Prelude.{nat_le, nat_lt}
-use Rattle.vms_spec.specs.Images.{Image, has_cell, image_slots, AreVersionsOf, FitCells, IsValid}
-use Rattle.vms_spec.specs.Layout.{Cell, no_cell, device_cells, Slot, Number, Constant, Filler, Rule}
-use Rattle.vms_spec.specs.Sets.{Sub, Device, Set}
-use Rattle.vms_spec.specs.Streams.{is_needed, ComeAsNeeded, IsReady}
-use Rattle.vms_spec.proofs.ListLaws.{or_second}
-use Rattle.vms_spec.proofs.NumberLaws.{same_number_is}
-use Rattle.dev_base.specs.Cells.{AreOf, kind_at}
-use Rattle.dev_images.specs.Images.{needed_from, bare, image_of}
-use Rattle.vms_bodies.proofs.Names.{has_left, has_right}
+use Rattle.dev_images.proofs.Facade.{◌≡◌, ◌≢◌, ℕ, zero, suc, ◌+◌, ◌<◌, ◌≤◌, Bool, true, false, ◌&&◌, ◌==◌, cond, List, ◌∷◌, ◌++◌, length, get_or, map, Option}
+use Rattle.dev_images.proofs.Facade.{Some, None, ℤ, pos, ◌≤ℤ◌, refl, sym, ap, ◌∙◌, subst, arith, ◌||◌, [], take, drop, replicate, AllByRecursion, flat_map}
+use Rattle.dev_images.proofs.Facade.{and_parts, eqb-true, and_from, leb-true, or_from, eq-eqb, or_right, nat_tests, nat_le, nat_lt, InRange, Kind, within}
+use Rattle.dev_images.proofs.Facade.{counts_well, same_number, Image, has_cell, image_slots, AreVersionsOf, FitCells, IsValid, own_slots, sub_slots, came_slots}
+use Rattle.dev_images.proofs.Facade.{own_cells, RulesHold, Cell, no_cell, device_cells, Slot, Number, times, desc_cells, struct_cells, Sub, Device, Set}
+use Rattle.dev_images.proofs.Facade.{is_needed, ComeAsNeeded, IsReady, or_second, same_number_is, AreOf, kind_at, needed_from, bare, image_of, has_left}
+use Rattle.dev_images.proofs.Facade.{has_right, is_same, rules_append}
 
 -- The subsections' descriptions can be written at their versions.
 abbrev pub AreSubs : List Sub → Type 0
@@ -25,7 +13,8 @@ AreSubs [] = Unit {0}
 AreSubs (s ∷ subs) = (s.desc.minimum ≤ s.desc.version) × AreSubs subs
 
 -- A subsection comes if it is needed.
-versions-first : (s : Sub) (subs : List Sub) (came : List (Option ℕ)) (needed : Bool) → s.desc.minimum ≤ s.desc.version → AreVersionsOf subs came → AreVersionsOf (s ∷ subs) (cond needed (Some s.desc.version) None ∷ came)
+versions-first : (s : Sub) (subs : List Sub) (came : List (Option ℕ)) (needed : Bool) → s.desc.minimum ≤ s.desc.version → AreVersionsOf subs came
+    → AreVersionsOf (s ∷ subs) (cond needed (Some s.desc.version) None ∷ came)
 versions-first s subs came true m h = ((m, omega arith), h)
 versions-first s subs came false m h = h
 
@@ -39,10 +28,12 @@ needed-first set d image j s subs came true e h = (e, refl, h)
 needed-first set d image j s subs came false e h = (e, h)
 
 -- Only the numbers decide which subsections are needed.
-pub needed : (set : Set) (d : Device) (numbers : List ℤ) (came : List (Option ℕ)) (j : ℕ) (subs : List Sub) → ComeAsNeeded set d (record (bare d numbers) { came = came }) j subs (needed_from set d (bare d numbers) j subs)
+pub needed : (set : Set) (d : Device) (numbers : List ℤ) (came : List (Option ℕ)) (j : ℕ) (subs : List Sub)
+    → ComeAsNeeded set d (record (bare d numbers) { came = came }) j subs (needed_from set d (bare d numbers) j subs)
 needed set d numbers came j [] = refl
 needed set d numbers came j (s ∷ subs) =
-    needed-first set d (record (bare d numbers) { came = came }) j s subs (needed_from set d (bare d numbers) (suc j) subs) (is_needed set d (bare d numbers) s j) refl (needed set d numbers came (suc j) subs)
+    needed-first set d (record (bare d numbers) { came = came }) j s subs (needed_from set d (bare d numbers) (suc j) subs)
+    (is_needed set d (bare d numbers) s j) refl (needed set d numbers came (suc j) subs)
 
 -- Cells of their kinds fit if each count is within its capacities.
 pub kind-of : (cells : List Cell) (c : ℕ) → kind_at (map (λ cell. cell.kind) cells) c ≡ (get_or cells c no_cell).kind
@@ -63,7 +54,10 @@ fit cells numbers are counts =
     let long = are.count in
     record {
       long = omega (arith, count, long);
-      fits = λ c lt. (subst (λ (kind : Kind). InRange kind (get_or numbers c (pos 0))) (kind-of cells c) (are.in_range c (omega (arith, count, lt))), counts c lt);
+      fits = λ c lt. (
+        subst (λ (kind : Kind). InRange kind (get_or numbers c (pos 0))) (kind-of cells c) (are.in_range c (omega (arith, count, lt))),
+        counts c lt,
+      );
     }
 
 -- From a cell on, each is in the bytes or holds its default.
@@ -76,7 +70,8 @@ kept-first : (slots : List Slot) (numbers : List ℤ) (from : ℕ) (cell : Cell)
 kept-first slots numbers from cell e out =
     same_number_is (get_or numbers from (pos 0)) cell.default (or_second (has_cell slots from) _ e out)
 
-kept : (slots : List Slot) (numbers : List ℤ) (from : ℕ) (cells : List Cell) → are_kept slots numbers from cells ≡ true → (c place : ℕ) → place ≡ from + c → c < length cells → has_cell slots place ≡ false → get_or numbers place (pos 0) ≡ (get_or cells c no_cell).default
+kept : (slots : List Slot) (numbers : List ℤ) (from : ℕ) (cells : List Cell) → are_kept slots numbers from cells ≡ true → (c place : ℕ) → place ≡ from + c
+    → c < length cells → has_cell slots place ≡ false → get_or numbers place (pos 0) ≡ (get_or cells c no_cell).default
 kept slots numbers from [] e c place is lt out = absurd (omega arith)
 kept slots numbers from (cell ∷ cells) e zero place is lt out =
     let p = and_parts (has_cell slots from || same_number (get_or numbers from (pos 0)) cell.default) (are_kept slots numbers (suc from) cells) e in
@@ -97,7 +92,8 @@ no-capacities (most ∷ capacities) z e = absurd (let n : length (most ∷ capac
 
 pub counts-none : (cells : List Cell) (numbers : List ℤ) → no_counts cells ≡ true → CountsFit cells numbers
 counts-none cells numbers e c lt = none cells e c lt (get_or numbers c (pos 0)) where
-  none : (cells : List Cell) → no_counts cells ≡ true → (c : ℕ) → c < length cells → (z : ℤ) → AllByRecursion (λ most. z ≤ℤ pos most) (get_or cells c no_cell).capacities
+  none : (cells : List Cell) → no_counts cells ≡ true → (c : ℕ) → c < length cells → (z : ℤ)
+      → AllByRecursion (λ most. z ≤ℤ pos most) (get_or cells c no_cell).capacities
   none [] e c lt z = tt
   none (cell ∷ cells) e zero lt z = no-capacities cell.capacities z (and_parts (length cell.capacities == 0) (no_counts cells) e).0
   none (cell ∷ cells) e (suc c) lt z = none cells (and_parts (length cell.capacities == 0) (no_counts cells) e).1 c (omega (arith, lt)) z
@@ -107,12 +103,14 @@ abbrev pub are_counted : List ℤ → ℕ → List Cell → Bool
 are_counted numbers from [] = true
 are_counted numbers from (cell ∷ cells) = counts_well cell.capacities (get_or numbers from (pos 0)) && are_counted numbers (suc from) cells
 
-counted-from : (numbers : List ℤ) (from : ℕ) (cells : List Cell) → are_counted numbers from cells ≡ true → (c place : ℕ) → place ≡ from + c → c < length cells → AllByRecursion (λ most. get_or numbers place (pos 0) ≤ℤ pos most) (get_or cells c no_cell).capacities
+counted-from : (numbers : List ℤ) (from : ℕ) (cells : List Cell) → are_counted numbers from cells ≡ true → (c place : ℕ) → place ≡ from + c → c < length cells
+    → AllByRecursion (λ most. get_or numbers place (pos 0) ≤ℤ pos most) (get_or cells c no_cell).capacities
 counted-from numbers from [] e c place is lt = absurd (omega arith)
 counted-from numbers from (cell ∷ cells) e zero place is lt =
     let p = and_parts (counts_well cell.capacities (get_or numbers from (pos 0))) (are_counted numbers (suc from) cells) e in
     let here : place ≡ from = omega (arith, is) in
-    subst (λ (n : ℕ). AllByRecursion (λ most. get_or numbers n (pos 0) ≤ℤ pos most) cell.capacities) (sym here) (within cell.capacities (get_or numbers from (pos 0)) p.0)
+    subst (λ (n : ℕ). AllByRecursion (λ most. get_or numbers n (pos 0) ≤ℤ pos most) cell.capacities) (sym here)
+    (within cell.capacities (get_or numbers from (pos 0)) p.0)
 counted-from numbers from (cell ∷ cells) e (suc c) place is lt =
     let p = and_parts (counts_well cell.capacities (get_or numbers from (pos 0))) (are_counted numbers (suc from) cells) e in
     counted-from numbers (suc from) cells p.1 c place (omega (arith, is)) (omega (arith, lt))
@@ -129,7 +127,8 @@ ready-of set d numbers minimum subs are counts settled valid =
         version = (minimum, omega arith);
         subs = versions set d (bare d numbers) 0 d.subs subs;
         cells = cells;
-        absent = λ c lt out. kept (image_slots set d (image_of set d numbers)) numbers 0 (device_cells set d) settled c c (omega arith) (omega (arith, lt, long)) out;
+        absent = λ c lt out. kept (image_slots set d (image_of set d numbers)) numbers 0 (device_cells set d) settled c c (omega arith)
+            (omega (arith, lt, long)) out;
       };
       valid = valid;
       version = refl;
@@ -146,20 +145,24 @@ or-lift true b c f e = ap (λ b. b || c) (f refl)
 or-lift false true c f e = refl
 or-lift false false c f e = e
 
-kept-more : (slots more : List Slot) (numbers : List ℤ) (from : ℕ) (cells : List Cell) → ((c : ℕ) → has_cell slots c ≡ true → has_cell more c ≡ true) → are_kept slots numbers from cells ≡ true → are_kept more numbers from cells ≡ true
+kept-more : (slots more : List Slot) (numbers : List ℤ) (from : ℕ) (cells : List Cell) → ((c : ℕ) → has_cell slots c ≡ true → has_cell more c ≡ true)
+    → are_kept slots numbers from cells ≡ true → are_kept more numbers from cells ≡ true
 kept-more slots more numbers from [] lift e = refl
 kept-more slots more numbers from (cell ∷ cells) lift e =
     let p = and_parts (has_cell slots from || same_number (get_or numbers from (pos 0)) cell.default) (are_kept slots numbers (suc from) cells) e in
     and_from _ _ (or-lift (has_cell slots from) (has_cell more from) _ (lift from) p.0) (kept-more slots more numbers (suc from) cells lift p.1)
 
-pub kept-left : (first second : List Slot) (numbers : List ℤ) (from : ℕ) (cells : List Cell) → are_kept first numbers from cells ≡ true → are_kept (first ++ second) numbers from cells ≡ true
+pub kept-left : (first second : List Slot) (numbers : List ℤ) (from : ℕ) (cells : List Cell) → are_kept first numbers from cells ≡ true
+    → are_kept (first ++ second) numbers from cells ≡ true
 kept-left first second numbers from cells e = kept-more first (first ++ second) numbers from cells (has_left first second) e
 
-pub kept-right : (first second : List Slot) (numbers : List ℤ) (from : ℕ) (cells : List Cell) → are_kept second numbers from cells ≡ true → are_kept (first ++ second) numbers from cells ≡ true
+pub kept-right : (first second : List Slot) (numbers : List ℤ) (from : ℕ) (cells : List Cell) → are_kept second numbers from cells ≡ true
+    → are_kept (first ++ second) numbers from cells ≡ true
 kept-right first second numbers from cells e = kept-more second (first ++ second) numbers from cells (has_right first second) e
 
 -- Cells that are joined.
-pub kept-both : (slots : List Slot) (numbers : List ℤ) (from next : ℕ) (first second : List Cell) → next ≡ from + length first → are_kept slots numbers from first ≡ true → are_kept slots numbers next second ≡ true → are_kept slots numbers from (first ++ second) ≡ true
+pub kept-both : (slots : List Slot) (numbers : List ℤ) (from next : ℕ) (first second : List Cell) → next ≡ from + length first
+    → are_kept slots numbers from first ≡ true → are_kept slots numbers next second ≡ true → are_kept slots numbers from (first ++ second) ≡ true
 kept-both slots numbers from next [] second is e f =
     let here : from ≡ next = omega (arith, is) in ap (λ n. are_kept slots numbers n second) here ∙ f
 kept-both slots numbers from next (cell ∷ first) second is e f =
@@ -174,9 +177,7 @@ has-none (Number k kind capacities ∷ slots) more c e f = or-none (k == c) (has
     or-none : (a b d : Bool) → (b ≡ false → d ≡ false) → (a || b) ≡ false → (a || d) ≡ false
     or-none true b d g e = cc
     or-none false b d g e = g e
-has-none (Constant kind z ∷ slots) more c e f = has-none slots more c e f
-has-none (Filler n ∷ slots) more c e f = has-none slots more c e f
-has-none (Rule b ∷ slots) more c e f = has-none slots more c e f
+has-none (slot ∷ slots) more c e f = has-none slots more c e f
 
 pub neq : (k c : ℕ) → k ≢ c → (k == c) ≡ false
 neq k c h = grind (arith, nat_tests)
@@ -185,9 +186,7 @@ neq k c h = grind (arith, nat_tests)
 abbrev pub all_within : ℕ → ℕ → List Slot → Bool
 all_within low high [] = true
 all_within low high (Number k kind capacities ∷ slots) = nat_le low k && (nat_lt k high && all_within low high slots)
-all_within low high (Constant kind z ∷ slots) = all_within low high slots
-all_within low high (Filler n ∷ slots) = all_within low high slots
-all_within low high (Rule b ∷ slots) = all_within low high slots
+all_within low high (slot ∷ slots) = all_within low high slots
 
 pub before-none : (low high : ℕ) (slots : List Slot) (c : ℕ) → all_within low high slots ≡ true → c < low → has_cell slots c ≡ false
 before-none low high [] c e h = refl
@@ -196,6 +195,126 @@ before-none low high (Number k kind capacities ∷ slots) c e h =
     let q = and_parts (nat_lt k high) (all_within low high slots) p.1 in
     let from : low ≤ k = leb-true low k p.0 in
     or_from (k == c) (has_cell slots c) (neq k c (λ same. absurd (omega (arith, from, same, h)))) (before-none low high slots c q.1 h)
-before-none low high (Constant kind z ∷ slots) c e h = before-none low high slots c e h
-before-none low high (Filler n ∷ slots) c e h = before-none low high slots c e h
-before-none low high (Rule b ∷ slots) c e h = before-none low high slots c e h
+before-none low high (slot ∷ slots) c e h = before-none low high slots c e h
+
+-- ---- part by part: the own fields of a device, and each subsection by itself
+
+-- The cells of one subsection.
+abbrev pub sub_cells : Set → Sub → List Cell
+sub_cells set s = desc_cells (struct_cells set) s.desc
+
+-- The slots of a subsection if it is needed.
+abbrev pub if_needed : Set → Device → List ℤ → Sub → ℕ → ℕ → List Slot
+if_needed set d numbers s j at =
+    cond (is_needed set d (bare d numbers) s j) (sub_slots set s s.desc.version numbers at) []
+
+abbrev needed_slots : Set → Device → List ℤ → ℕ → ℕ → List Sub → List Slot
+needed_slots set d numbers j at [] = []
+needed_slots set d numbers j at (s ∷ subs) =
+    if_needed set d numbers s j at ++ needed_slots set d numbers (suc j) (at + length (sub_cells set s)) subs
+
+came-next : (set : Set) (d : Device) (numbers : List ℤ) (at : ℕ) (s : Sub) (subs : List Sub) (came : List (Option ℕ)) (b : Bool) → came_slots set d numbers at (s ∷ subs) (cond b (Some s.desc.version) None ∷ came) ≡ cond b (sub_slots set s s.desc.version numbers at) [] ++ came_slots set d numbers (at + length (sub_cells set s)) subs came
+came-next set d numbers at s subs came true = refl
+came-next set d numbers at s subs came false = refl
+
+came-all : (set : Set) (d : Device) (numbers : List ℤ) (j at : ℕ) (subs : List Sub)
+    → came_slots set d numbers at subs (needed_from set d (bare d numbers) j subs) ≡ needed_slots set d numbers j at subs
+came-all set d numbers j at [] = refl
+came-all set d numbers j at (s ∷ subs) =
+    came-next set d numbers at s subs (needed_from set d (bare d numbers) (suc j) subs) (is_needed set d (bare d numbers) s j)
+    ∙ ap (λ (slots : List Slot). if_needed set d numbers s j at ++ slots) (came-all set d numbers (suc j) (at + length (sub_cells set s)) subs)
+
+-- Each cell of a subsection is in its bytes or holds its default, and its rules hold.
+pub record IsFineSub (set : Set) (d : Device) (numbers : List ℤ) (s : Sub) (j at : ℕ) : Type 0 where
+  pub kept : are_kept (if_needed set d numbers s j at) numbers at (sub_cells set s) ≡ true
+  pub rules : RulesHold (if_needed set d numbers s j at)
+
+abbrev pub AreFineSubs : Set → Device → List ℤ → ℕ → ℕ → List Sub → Type 0
+AreFineSubs set d numbers j at [] = Unit {0}
+AreFineSubs set d numbers j at (s ∷ subs) =
+    IsFineSub set d numbers s j at × AreFineSubs set d numbers (suc j) (at + length (sub_cells set s)) subs
+
+subs-kept : (set : Set) (d : Device) (numbers : List ℤ) (j at : ℕ) (subs : List Sub) → AreFineSubs set d numbers j at subs
+    → are_kept (needed_slots set d numbers j at subs) numbers at (flat_map (sub_cells set) subs) ≡ true
+subs-kept set d numbers j at [] h = refl
+subs-kept set d numbers j at (s ∷ subs) h =
+    let rest = needed_slots set d numbers (suc j) (at + length (sub_cells set s)) subs in
+    kept-both (if_needed set d numbers s j at ++ rest) numbers at (at + length (sub_cells set s)) (sub_cells set s) (flat_map (sub_cells set) subs) refl
+    (kept-left (if_needed set d numbers s j at) rest numbers at (sub_cells set s) h.0.kept)
+    (kept-right (if_needed set d numbers s j at) rest numbers (at + length (sub_cells set s)) (flat_map (sub_cells set) subs)
+    (subs-kept set d numbers (suc j) (at + length (sub_cells set s)) subs h.1))
+
+subs-rules : (set : Set) (d : Device) (numbers : List ℤ) (j at : ℕ) (subs : List Sub) → AreFineSubs set d numbers j at subs
+    → RulesHold (needed_slots set d numbers j at subs)
+subs-rules set d numbers j at [] h = tt
+subs-rules set d numbers j at (s ∷ subs) h =
+    rules_append (if_needed set d numbers s j at) (needed_slots set d numbers (suc j) (at + length (sub_cells set s)) subs) h.0.rules
+    (subs-rules set d numbers (suc j) (at + length (sub_cells set s)) subs h.1)
+
+pub ready-parts : (set : Set) (d : Device) (numbers : List ℤ) → d.desc.minimum ≤ d.desc.version → AreSubs d.subs → AreOf (map (λ cell. cell.kind) (device_cells set d)) numbers → CountsFit (device_cells set d) numbers → are_kept (own_slots set d d.desc.version numbers) numbers 0 (desc_cells (struct_cells set) d.desc) ≡ true → RulesHold (own_slots set d d.desc.version numbers) → AreFineSubs set d numbers 0 (own_cells set d) d.subs → IsReady set d (image_of set d numbers)
+ready-parts set d numbers minimum subs are counts own rules fine =
+    let slots = needed_slots set d numbers 0 (own_cells set d) d.subs in
+    let same : image_slots set d (image_of set d numbers) ≡ own_slots set d d.desc.version numbers ++ slots =
+    ap (λ (more : List Slot). own_slots set d d.desc.version numbers ++ more) (came-all set d numbers 0 (own_cells set d) d.subs) in
+    ready-of set d numbers minimum subs are counts
+    (ap (λ (all : List Slot). are_kept all numbers 0 (device_cells set d)) same
+    ∙ kept-both (own_slots set d d.desc.version numbers ++ slots) numbers 0 (own_cells set d) (desc_cells (struct_cells set) d.desc)
+    (flat_map (sub_cells set) d.subs) (omega arith)
+    (kept-left (own_slots set d d.desc.version numbers) slots numbers 0 (desc_cells (struct_cells set) d.desc) own)
+    (kept-right (own_slots set d d.desc.version numbers) slots numbers (own_cells set d) (flat_map (sub_cells set) d.subs)
+    (subs-kept set d numbers 0 (own_cells set d) d.subs fine)))
+    (subst RulesHold (sym same) (rules_append (own_slots set d d.desc.version numbers) slots rules (subs-rules set d numbers 0 (own_cells set d) d.subs fine)))
+
+-- ---- cells at 0, and arrays
+
+-- A list that is zeros from a place on.
+pub front : (at : ℕ) (numbers : List ℤ) (z : ℤ) (rest : List ℤ) → drop at numbers ≡ z ∷ rest → (get_or numbers at (pos 0) ≡ z) × (drop (suc at) numbers ≡ rest)
+front zero [] z rest e = cc
+front zero (y ∷ numbers) z rest e = (cc, cc)
+front (suc at) [] z rest e = cc
+front (suc at) (y ∷ numbers) z rest e = front at numbers z rest e
+
+pub shape : (n : ℕ) (list : List ℤ) → take (suc n) list ≡ replicate (suc n) (pos 0)
+    → (rest : List ℤ) × (list ≡ pos 0 ∷ rest) × (take n rest ≡ replicate n (pos 0))
+shape n [] e = cc
+shape n (z ∷ rest) e =
+    let first : z ≡ pos 0 = cc in
+    let more : take n rest ≡ replicate n (pos 0) = cc in
+    (rest, ap (λ y. y ∷ rest) first, more)
+
+abbrev pub zero_defaults : List Cell → Bool
+zero_defaults [] = true
+zero_defaults (cell ∷ cells) = same_number (pos 0) cell.default && zero_defaults cells
+
+pub zeros-kept : (slots : List Slot) (numbers : List ℤ) (at : ℕ) (cells : List Cell) → zero_defaults cells ≡ true
+    → take (length cells) (drop at numbers) ≡ replicate (length cells) (pos 0) → are_kept slots numbers at cells ≡ true
+zeros-kept slots numbers at [] d e = refl
+zeros-kept slots numbers at (cell ∷ cells) d e =
+    let p = and_parts (same_number (pos 0) cell.default) (zero_defaults cells) d in
+    let s = shape (length cells) (drop at numbers) e in
+    let f = front at numbers (pos 0) s.0 s.1 in
+    and_from _ _ (or_right (has_cell slots at) _ (ap (λ z. same_number z cell.default) f.0 ∙ p.0))
+    (zeros-kept slots numbers (suc at) cells p.1 (ap (take (length cells)) f.1 ∙ s.2))
+
+-- An array of cells, whose first elements are in the bytes; the others are 0.
+abbrev pub element : Cell → ℕ → List Slot
+element cell at = Number at cell.kind [] ∷ []
+
+pub array-kept : (cell : Cell) (numbers : List ℤ) (n m at : ℕ) → cell.default ≡ pos 0 → ((i : ℕ) → n ≤ i → i < m → get_or numbers (at + i) (pos 0) ≡ pos 0)
+    → are_kept (times n (element cell) at 1) numbers at (replicate m cell) ≡ true
+array-kept cell numbers n zero at d zeros = refl
+array-kept cell numbers zero (suc m) at d zeros =
+    let here : at + 0 ≡ at = omega arith in
+    and_from _ _ (is_same (get_or numbers at (pos 0)) cell.default
+    (ap (λ (p : ℕ). get_or numbers p (pos 0)) (sym here) ∙ zeros 0 (omega arith) (omega arith) ∙ sym d))
+    (array-kept cell numbers zero m (suc at) d (λ i lo hi. let next : suc at + i ≡ at + suc i = omega arith in ap (λ (p : ℕ). get_or numbers p (pos 0)) next ∙ zeros (suc i) (omega arith) (omega (arith, hi))))
+array-kept cell numbers (suc n) (suc m) at d zeros =
+    let next : at + 1 ≡ suc at = omega arith in
+    let rest : are_kept (times n (element cell) (at + 1) 1) numbers (suc at) (replicate m cell) ≡ true = ap (λ (p : ℕ). are_kept (times n (element cell) p 1) numbers (suc at) (replicate m cell)) next ∙ array-kept cell numbers n m (suc at) d (λ i lo hi. let more : suc at + i ≡ at + suc i = omega arith in ap (λ (p : ℕ). get_or numbers p (pos 0)) more ∙ zeros (suc i) (omega (arith, lo)) (omega (arith, hi))) in
+    let here : (at == at) ≡ true = eq-eqb at at refl in
+    and_from _ _ (ap (λ b. (b || has_cell (times n (element cell) (at + 1) 1) at) || same_number (get_or numbers at (pos 0)) cell.default) here)
+    (kept-right (element cell at) (times n (element cell) (at + 1) 1) numbers (suc at) (replicate m cell) rest)
+
+pub rules-times : (cell : Cell) (n at : ℕ) → RulesHold (times n (element cell) at 1)
+rules-times cell zero at = tt
+rules-times cell (suc n) at = rules-times cell n (at + 1)

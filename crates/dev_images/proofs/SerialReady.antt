@@ -1,29 +1,12 @@
 -- The image of the serial port is ready.
-use Rattle.std.proofs.Common.{◌≡◌, ℕ, ◌+◌, ◌-◌, ◌%◌, ◌^◌, ◌<◌, ◌≤◌, ◌==◌, Bool, true, false, not, List, ◌∷◌, ◌++◌, get_or, take, drop, replicate, ℤ, pos, negsuc, refl, ap, arith, min, ◌||◌, []}
-use Rattle.std.proofs.lemmas.Bool.{eqb-true, not-false, or_parts}
-use Rattle.std.proofs.lemmas.Bool.Decides.{nat_tests}
-use Rattle.std.proofs.lemmas.Int.{ints}
-use Rattle.std.proofs.lemmas.Nat.{and_le_l}
-use Rattle.std.specs.Prelude.{bit_and, nat_le, codes}
-use Rattle.vms_kinds.specs.Codes.{InRange, residue}
-use Rattle.vms_kinds.specs.declared.Kind.TheVariants.{U8, U16, I8, Timer}
-use Rattle.vms_spec.specs.Layout.{first, device_cells, times, Cell, Slot, Number, Rule}
-use Rattle.vms_spec.specs.Images.{RulesHold}
-use Rattle.vms_spec.specs.Rules.{counts_well}
-use Rattle.vms_bodies.proofs.ReadyLaws.{counted_well}
-use Rattle.vms_bodies.proofs.SpellLaws.{rules_append}
-use Rattle.std.proofs.lemmas.Grind.{and_numeral}
-use Rattle.dev_serial.specs.Cells.{IsArray}
-use Rattle.vms_spec.specs.Sets.{Set, Device, Sub}
-use Rattle.vms_spec.specs.Shipped.{set_1, set_2, set_3, set_4, never, number, serial, serial_fields, fcr, thr_ipending, fifo, timeout, ring}
-use Rattle.dev_base.specs.Cells.{nat_of}
-use Rattle.dev_serial.specs.Laws.{AreSaved}
-use Rattle.dev_images.specs.Laws.{ReadyOf, SerialIsReady, serial_at_1, serial_at_2, serial_at_3, serial_at_4}
-use Rattle.dev_images.proofs.Parts.{IsFineSub, ready-parts, zeros-kept, element, array-kept, rules-times}
-use Rattle.dev_images.proofs.ReadyOf.{are_kept, counts-none, counts-by, kept-left, kept-right, kept-both}
-use Rattle.vms_fields.specs.Fields.{place_under}
-use Rattle.vms_fields.specs.Serial.{serial_rows}
-use Rattle.vms_fields.specs.declared.serial.TheConstants.{THR_IPENDING, RX_COUNT, RX, TX_COUNT, TX, TIMEOUT_AT, RX_DATA, RX_NUMBER, TX_NUMBER}
+use Rattle.dev_images.proofs.Facade.{◌≡◌, ℕ, ◌+◌, ◌-◌, ◌%◌, ◌^◌, ◌<◌, ◌≤◌, ◌==◌, Bool, true, false, not, List, ◌∷◌, ◌++◌, get_or, take, drop, replicate, ℤ, pos}
+use Rattle.dev_images.proofs.Facade.{negsuc, refl, ap, arith, min, ◌||◌, [], eqb-true, not-false, or_parts, nat_tests, ints, and_le_l, bit_and, nat_le, codes}
+use Rattle.dev_images.proofs.Facade.{and_numeral, InRange, residue, U8, U16, I8, Timer, first, device_cells, times, Cell, Slot, Number, Rule, RulesHold}
+use Rattle.dev_images.proofs.Facade.{counts_well, counted_well, rules_append, IsArray, Set, Device, Sub, set_1, set_2, set_3, set_4, never, number, serial}
+use Rattle.dev_images.proofs.Facade.{serial_fields, fcr, thr_ipending, fifo, timeout, ring, nat_of, AreSaved, ReadyOf, SerialIsReady, serial_at_1, serial_at_2}
+use Rattle.dev_images.proofs.Facade.{serial_at_3, serial_at_4, place_under, serial_rows, THR_IPENDING, RX_COUNT, RX, TX_COUNT, TX, TIMEOUT_AT, RX_DATA}
+use Rattle.dev_images.proofs.Facade.{RX_NUMBER, TX_NUMBER}
+use Rattle.dev_images.proofs.ReadyOf.{IsFineSub, ready-parts, zeros-kept, element, array-kept, rules-times, are_kept, counts-none, counts-by, kept-left, kept-right, kept-both}
 
 -- Whether a signed byte isn't -1, and whether a timer isn't "never".
 abbrev pub needs_sign : ℤ → Bool
@@ -72,18 +55,21 @@ abbrev pub old_latch : ℕ
 old_latch = place_under serial_rows 1 (codes "thr_ipending")
 
 -- The latch's cell, and the timeout's; no item of the port is a structure.
-thr-1 : (numbers : List ℤ) (needed : Bool) → needs_sign (get_or numbers old_latch (pos 0)) ≡ needed → (needed ≡ false → get_or numbers old_latch (pos 0) ≡ negsuc 0) → IsFineSub set_1 serial_at_1 numbers thr_ipending 0 old_latch
+thr-1 : (numbers : List ℤ) (needed : Bool) → needs_sign (get_or numbers old_latch (pos 0)) ≡ needed
+    → (needed ≡ false → get_or numbers old_latch (pos 0) ≡ negsuc 0) → IsFineSub set_1 serial_at_1 numbers thr_ipending 0 old_latch
 unfolding first
 thr-1 numbers true e off = record { kept = rw e refl; rules = rw e (refl, tt) }
 thr-1 numbers false e off = record { kept = rw (e, off refl) refl; rules = rw e tt }
 
 module _ (set : Set) (version : ℕ) (name : List ℕ) (former : List (List ℕ)) (more : List Sub) (numbers : List ℤ) where
-  thr : (needed : Bool) → needs_sign (get_or numbers THR_IPENDING (pos 0)) ≡ needed → (needed ≡ false → get_or numbers THR_IPENDING (pos 0) ≡ negsuc 0) → IsFineSub set (serial_since_2 version name former more) numbers thr_ipending 0 THR_IPENDING
+  thr : (needed : Bool) → needs_sign (get_or numbers THR_IPENDING (pos 0)) ≡ needed → (needed ≡ false → get_or numbers THR_IPENDING (pos 0) ≡ negsuc 0)
+      → IsFineSub set (serial_since_2 version name former more) numbers thr_ipending 0 THR_IPENDING
   unfolding first
   thr true e off = record { kept = rw e refl; rules = rw e (refl, tt) }
   thr false e off = record { kept = rw (e, off refl) refl; rules = rw e tt }
 
-  due : (needed : Bool) → needs_timer (get_or numbers TIMEOUT_AT (pos 0)) ≡ needed → (needed ≡ false → get_or numbers TIMEOUT_AT (pos 0) ≡ pos never) → IsFineSub set (serial_since_2 version new_name former_names (timeout ∷ more)) numbers timeout 2 TIMEOUT_AT
+  due : (needed : Bool) → needs_timer (get_or numbers TIMEOUT_AT (pos 0)) ≡ needed → (needed ≡ false → get_or numbers TIMEOUT_AT (pos 0) ≡ pos never)
+      → IsFineSub set (serial_since_2 version new_name former_names (timeout ∷ more)) numbers timeout 2 TIMEOUT_AT
   unfolding first
   due true e off = record { kept = rw e refl; rules = rw e (refl, tt) }
   due false e off = record { kept = rw (e, off refl) refl; rules = rw e tt }
@@ -128,13 +114,15 @@ fifo_slots n m = inner_slots n m ++ Rule true ∷ []
 abbrev fifo_cells : List Cell
 fifo_cells = (count ∷ []) ++ (replicate 16 byte ++ ((count ∷ []) ++ (replicate 16 byte ++ [])))
 
-module _ (numbers : List ℤ) (n m : ℕ) (rx : (i : ℕ) → n ≤ i → i < 16 → get_or numbers (RX + i) (pos 0) ≡ pos 0) (tx : (i : ℕ) → m ≤ i → i < 16 → get_or numbers (TX + i) (pos 0) ≡ pos 0) where
+module _ (numbers : List ℤ) (n m : ℕ) (rx : (i : ℕ) → n ≤ i → i < 16 → get_or numbers (RX + i) (pos 0) ≡ pos 0)
+    (tx : (i : ℕ) → m ≤ i → i < 16 → get_or numbers (TX + i) (pos 0) ≡ pos 0) where
   lift : (from : ℕ) (cells : List Cell) → are_kept (inner_slots n m) numbers from cells ≡ true → are_kept (fifo_slots n m) numbers from cells ≡ true
   lift from cells e = kept-left (inner_slots n m) (Rule true ∷ []) numbers from cells e
 
   lift-second : (from : ℕ) (cells : List Cell) → are_kept (second_slots m) numbers from cells ≡ true → are_kept (fifo_slots n m) numbers from cells ≡ true
   lift-second from cells e =
-      lift from cells (kept-right (Number RX_COUNT U8 (16 ∷ []) ∷ []) (times n (element byte) RX 1 ++ second_slots m) numbers from cells (kept-right (times n (element byte) RX 1) (second_slots m) numbers from cells e))
+      lift from cells (kept-right (Number RX_COUNT U8 (16 ∷ []) ∷ []) (times n (element byte) RX 1 ++ second_slots m) numbers from cells
+      (kept-right (times n (element byte) RX 1) (second_slots m) numbers from cells e))
 
   fifo-kept : are_kept (fifo_slots n m) numbers RX_COUNT fifo_cells ≡ true
   fifo-kept =
@@ -155,7 +143,8 @@ pub record HasFifo (numbers : List ℤ) : Type 0 where
   pub tx_range : InRange U8 (get_or numbers TX_COUNT (pos 0))
   pub rx : IsArray numbers RX_COUNT
   pub tx : IsArray numbers TX_COUNT
-  pub none : nat_of (get_or numbers RX_COUNT (pos 0)) ≡ 0 → nat_of (get_or numbers TX_COUNT (pos 0)) ≡ 0 → take 34 (drop RX_COUNT numbers) ≡ replicate 34 (pos 0)
+  pub none : nat_of (get_or numbers RX_COUNT (pos 0)) ≡ 0 → nat_of (get_or numbers TX_COUNT (pos 0)) ≡ 0
+      → take 34 (drop RX_COUNT numbers) ≡ replicate 34 (pos 0)
 
 abbrev pub needs_fifo : List ℤ → Bool
 needs_fifo numbers = needs_count (get_or numbers RX_COUNT (pos 0)) || needs_count (get_or numbers TX_COUNT (pos 0))
@@ -175,7 +164,8 @@ module _ (numbers : List ℤ) (h : HasFifo numbers) where
 
   pub no-fifo : needs_fifo numbers ≡ false → take 34 (drop RX_COUNT numbers) ≡ replicate 34 (pos 0)
   no-fifo e =
-      h.none (no-count _ h.rx_range ((or_parts (needs_count (get_or numbers RX_COUNT (pos 0))) _ e).0)) (no-count _ h.tx_range ((or_parts (needs_count (get_or numbers RX_COUNT (pos 0))) _ e).1))
+      h.none (no-count _ h.rx_range ((or_parts (needs_count (get_or numbers RX_COUNT (pos 0))) _ e).0))
+      (no-count _ h.tx_range ((or_parts (needs_count (get_or numbers RX_COUNT (pos 0))) _ e).1))
 
   -- In any set from 2 on.
   fifos : (set : Set) (version : ℕ) (name : List ℕ) (former : List (List ℕ)) (more : List Sub) (needed : Bool) → needs_fifo numbers ≡ needed → (needed ≡ false → take 34 (drop RX_COUNT numbers) ≡ replicate 34 (pos 0)) → IsFineSub set (serial_since_2 version name former more) numbers fifo 1 RX_COUNT
@@ -186,14 +176,16 @@ module _ (numbers : List ℤ) (h : HasFifo numbers) where
 serial-1 : (numbers : List ℤ) → AreSaved 1 numbers → ReadyOf set_1 serial_at_1 numbers
 unfolding first
 serial-1 numbers are =
-    ready-parts set_1 serial_at_1 numbers (omega arith) (omega arith, tt) are.of_kinds (counts-none (device_cells set_1 serial_at_1) numbers refl) refl (refl, tt)
+    ready-parts set_1 serial_at_1 numbers (omega arith) (omega arith, tt) are.of_kinds (counts-none (device_cells set_1 serial_at_1) numbers refl) refl
+    (refl, tt)
     (thr-1 numbers _ refl (no-sign _ (are.of_kinds.in_range old_latch (omega arith))), tt)
 
 -- The FIFOs as rings.
 abbrev pub needs_ring : List ℤ → Bool
 needs_ring numbers = needs_count (get_or numbers RX_NUMBER (pos 0)) || needs_count (get_or numbers TX_NUMBER (pos 0))
 
-ring-4 : (numbers : List ℤ) (needed : Bool) → needs_ring numbers ≡ needed → (needed ≡ false → take 36 (drop RX_DATA numbers) ≡ replicate 36 (pos 0)) → IsFineSub set_4 serial_at_4 numbers ring 3 RX_DATA
+ring-4 : (numbers : List ℤ) (needed : Bool) → needs_ring numbers ≡ needed → (needed ≡ false → take 36 (drop RX_DATA numbers) ≡ replicate 36 (pos 0))
+    → IsFineSub set_4 serial_at_4 numbers ring 3 RX_DATA
 unfolding first
 ring-4 numbers true e off = record { kept = rw e refl; rules = rw e (refl, tt) }
 ring-4 numbers false e off = record { kept = rw e (zeros-kept [] numbers RX_DATA (replicate 36 byte) refl (off refl)); rules = rw e tt }
@@ -205,7 +197,8 @@ well-rx numbers h = counted-well (get_or numbers RX_COUNT (pos 0)) h.rx_range h.
 well-tx : (numbers : List ℤ) (h : HasFifo numbers) → counts_well (16 ∷ []) (get_or numbers TX_COUNT (pos 0)) ≡ true
 well-tx numbers h = counted-well (get_or numbers TX_COUNT (pos 0)) h.tx_range h.tx.fits
 
-pub has-fifo : (set : ℕ) → 2 ≤ set → (numbers : List ℤ) → AreSaved set numbers → InRange U8 (get_or numbers RX_COUNT (pos 0)) → InRange U8 (get_or numbers TX_COUNT (pos 0)) → HasFifo numbers
+pub has-fifo : (set : ℕ) → 2 ≤ set → (numbers : List ℤ) → AreSaved set numbers → InRange U8 (get_or numbers RX_COUNT (pos 0))
+    → InRange U8 (get_or numbers TX_COUNT (pos 0)) → HasFifo numbers
 has-fifo set since numbers are rx tx = record { rx_range = rx; tx_range = tx; rx = are.rx since; tx = are.tx since; none = are.no_fifo since }
 
 -- The FIFOs of the sets that have them.
@@ -222,14 +215,18 @@ serial-2 : (numbers : List ℤ) → AreSaved 2 numbers → ReadyOf set_2 serial_
 unfolding first
 serial-2 numbers are =
     let h = has-fifo-2 numbers are in
-    ready-parts set_2 serial_at_2 numbers (omega arith) (omega arith, (omega arith, tt)) are.of_kinds (counts-by (device_cells set_2 serial_at_2) numbers (rw (well-rx numbers h, well-tx numbers h) refl)) refl (refl, tt)
-    (thr set_2 2 (codes "divider") [] [] numbers _ refl (no-sign _ (are.of_kinds.in_range THR_IPENDING (omega arith))), (fifos numbers h set_2 2 (codes "divider") [] [] _ refl (no-fifo numbers h), tt))
+    ready-parts set_2 serial_at_2 numbers (omega arith) (omega arith, (omega arith, tt)) are.of_kinds
+    (counts-by (device_cells set_2 serial_at_2) numbers (rw (well-rx numbers h, well-tx numbers h) refl)) refl (refl, tt) (
+      thr set_2 2 (codes "divider") [] [] numbers _ refl (no-sign _ (are.of_kinds.in_range THR_IPENDING (omega arith))),
+      (fifos numbers h set_2 2 (codes "divider") [] [] _ refl (no-fifo numbers h), tt),
+    )
 
 serial-3 : (numbers : List ℤ) → AreSaved 3 numbers → ReadyOf set_3 serial_at_3 numbers
 unfolding first
 serial-3 numbers are =
     let h = has-fifo-3 numbers are in
-    ready-parts set_3 serial_at_3 numbers (omega arith) (omega arith, (omega arith, (omega arith, tt))) are.of_kinds (counts-by (device_cells set_3 serial_at_3) numbers (rw (well-rx numbers h, well-tx numbers h) refl)) refl (refl, tt)
+    ready-parts set_3 serial_at_3 numbers (omega arith) (omega arith, (omega arith, (omega arith, tt))) are.of_kinds
+    (counts-by (device_cells set_3 serial_at_3) numbers (rw (well-rx numbers h, well-tx numbers h) refl)) refl (refl, tt)
     (thr set_3 3 new_name former_names (timeout ∷ []) numbers _ refl (no-sign _ (are.of_kinds.in_range THR_IPENDING (omega arith))), (fifos numbers h set_3 3 new_name former_names (timeout ∷ []) _ refl (no-fifo numbers h), (due set_3 3 new_name former_names [] numbers _ refl (no-timer _ (are.of_kinds.in_range TIMEOUT_AT (omega arith))), tt)))
 
 pub no-ring : (numbers : List ℤ) → AreSaved 4 numbers → needs_ring numbers ≡ false → take 36 (drop RX_DATA numbers) ≡ replicate 36 (pos 0)
@@ -242,7 +239,8 @@ unfolding first
 serial-4 numbers are =
     let h = has-fifo-4 numbers are in
     let more = timeout ∷ ring ∷ [] in
-    ready-parts set_4 serial_at_4 numbers (omega arith) (omega arith, (omega arith, (omega arith, (omega arith, tt)))) are.of_kinds (counts-by (device_cells set_4 serial_at_4) numbers (rw (well-rx numbers h, well-tx numbers h) refl)) refl (refl, tt)
+    ready-parts set_4 serial_at_4 numbers (omega arith) (omega arith, (omega arith, (omega arith, (omega arith, tt)))) are.of_kinds
+    (counts-by (device_cells set_4 serial_at_4) numbers (rw (well-rx numbers h, well-tx numbers h) refl)) refl (refl, tt)
     (thr set_4 4 new_name former_names more numbers _ refl (no-sign _ (are.of_kinds.in_range THR_IPENDING (omega arith))), (fifos numbers h set_4 4 new_name former_names more _ refl (no-fifo numbers h), (due set_4 4 new_name former_names (ring ∷ []) numbers _ refl (no-timer _ (are.of_kinds.in_range TIMEOUT_AT (omega arith))), (ring-4 numbers _ refl (no-ring numbers are), tt))))
 
 pub serial_is_ready : SerialIsReady

@@ -1,11 +1,5 @@
 -- The image of a moment is ready.
-use Rattle.std.proofs.Common.{List, ℤ, refl, arith}
-use Rattle.dev_base.specs.Cells.{AreOf}
-use Rattle.dev_board.specs.Saved.{timer_kinds}
-use Rattle.vms_spec.specs.Layout.{first}
-use Rattle.vms_spec.specs.Sets.{Set}
-use Rattle.vms_spec.specs.Shipped.{set_1, set_2, set_3, set_4, timer}
-use Rattle.dev_images.specs.Laws.{ReadyOf, TimerIsReady}
+use Rattle.dev_images.proofs.Facade.{List, ℤ, refl, arith, AreOf, timer_kinds, first, Set, set_1, set_2, set_3, set_4, timer, ReadyOf, TimerIsReady}
 use Rattle.dev_images.proofs.ReadyOf.{ready-plain}
 
 -- In any set, since the moment is no structure.

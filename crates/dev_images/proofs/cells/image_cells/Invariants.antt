@@ -1,4 +1,4 @@
-use Rattle.std.proofs.Common.{◌≡◌, take}
+use Rattle.dev_images.proofs.Facade.{◌≡◌, take}
 use Rattle.dev_images.proofs.cells.image_cells.Given as goal
 
 abbrev pub invariant-loop-cell : goal.invariant-loop-cell

@@ -1,5 +1,5 @@
+use Rattle.dev_clock.proofs.Facade.{clock_view}
 use Rattle.dev_clock.proofs.SoundLaws.{after-event}
-use Rattle.dev_clock.specs.View.{clock_view}
 use Rattle.dev_clock.proofs.devices.ClockDevices.act.Goals as goal
 
 pub invariant_of-self : goal.invariant_of-self

@@ -1,7 +1,5 @@
-use Rattle.std.proofs.Common.{refl}
-use Rattle.dev_board.specs.Step.{names_wire}
+use Rattle.dev_clock.proofs.Facade.{refl, names_wire, clock_view}
 use Rattle.dev_clock.proofs.SoundLaws.{after-event, after-line}
-use Rattle.dev_clock.specs.View.{clock_view}
 use Rattle.dev_clock.proofs.devices.ClockDevices.event.Goals as goal
 
 pub event-taken-requires : goal.event-taken-requires
@@ -13,4 +11,5 @@ invariant_of-self c = after-event (clock_view c.self.inside) c.self.invariant _ 
 
 pub returns-clause-sound : goal.returns-clause-sound
 returns-clause-sound c =
-    after-line (clock_view c.self.inside) c.self.invariant c.line.result c.event-taken.result c.event-taken.new.self c.line.ensures c.event-taken.ensures.step c.event-taken.ensures.sound
+    after-line (clock_view c.self.inside) c.self.invariant c.line.result c.event-taken.result c.event-taken.new.self c.line.ensures c.event-taken.ensures.step
+    c.event-taken.ensures.sound

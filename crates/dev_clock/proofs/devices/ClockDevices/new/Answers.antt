@@ -1,4 +1,4 @@
-use Rattle.dev_clock.specs.State.{power_on}
+use Rattle.dev_clock.proofs.Facade.{power_on}
 use Rattle.dev_clock.proofs.SoundLaws.{on-devices, on-sound}
 use Rattle.dev_clock.proofs.devices.ClockDevices.new.Goals as goal
 

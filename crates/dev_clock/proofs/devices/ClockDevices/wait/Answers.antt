@@ -1,7 +1,5 @@
-use Rattle.std.proofs.Common.{refl}
-use Rattle.dev_board.specs.Step.{names_wire}
+use Rattle.dev_clock.proofs.Facade.{refl, names_wire, clock_view}
 use Rattle.dev_clock.proofs.SoundLaws.{after-wait}
-use Rattle.dev_clock.specs.View.{clock_view}
 use Rattle.dev_clock.proofs.devices.ClockDevices.wait.Goals as goal
 
 pub event-answer-requires : goal.event-answer-requires
