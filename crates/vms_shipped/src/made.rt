@@ -1,6 +1,6 @@
 // The parts that the rows of the tables describe.
 ghost use Rattle.std.specs.Prelude.{◌≡◌, ◌++◌, map, option_map, IfOk, OnOk};
-ghost use Rattle.vms_fields.specs.Fields.{name_at, former_at, field_of_row, listed_at, fields_at};
+ghost use Rattle.vms_fields.specs.Fields.{name_at, former_at, is_set, field_of_row, listed_at, fields_at};
 ghost use Rattle.vms_spec.specs.Shipped.{numbers};
 ghost use Rattle.vms_parts.specs.Views.{formula, formula_in, field_of, desc_of, device_of, sub_of, set_of};
 ghost use Rattle.vms_shipped.specs.Rows.{listed_row, field_in, fields_in, all_in, desc_in, asked_in, needed_in, sub_in, device_in, set_in};
@@ -10,7 +10,7 @@ use std::alloc::Global;
 use vms_fields::Row;
 use vms_io::NoMemory;
 use vms_kinds::{Item, Kind};
-use vms_parts::{Desc, Device, Field, Listed, Parts, Sub, Test, Text, Whose};
+use vms_parts::{Desc, Device, Field, Listed, Parts, Rel, Sub, Test, Text, Whose};
 
 fn text(alloc: Global, bytes: &str) -> Result<Text, NoMemory>
     ensures { IfOk result (λ t. t ≡ bytes.now) }
@@ -105,6 +105,21 @@ fn names_at(
     }
 }
 
+// Returns the test of a field that the flag `held_by` holds, if one does.
+fn held(held_by: Option<u32>) -> Option<Asked>
+    ensures { option_map asked_in result ≡ option_map is_set held_by }
+{
+    match held_by {
+        Some(field) => Some(Asked {
+            field,
+            mask: 1,
+            rel: Rel::Eq,
+            value: 1,
+        }),
+        None => None,
+    }
+}
+
 // Returns the field of a row of a device's list at `version`.
 fn listed(alloc: Global, row: &Row, version: u32) -> Result<Field, NoMemory>
     ensures { IfOk result (λ f. field_of f ≡ field_of_row version (listed_row row.now)) }
@@ -117,7 +132,7 @@ fn listed(alloc: Global, row: &Row, version: u32) -> Result<Field, NoMemory>
         item: Item::Num(shape.kind),
         count: shape.count,
         since: shape.since,
-        test: None,
+        test: boxed(alloc, held(shape.held_by))?,
         default: shape.default,
     })
 }
