@@ -1,5 +1,5 @@
 // The tables of the timer, the interrupt controllers and the timer chip.
-use crate::rows::{Asked, BYTE, DescRow, DeviceRow, FieldRow, Needed, Rows, SubRow};
+use crate::rows::{Asked, DescRow, DeviceRow, FieldRow, Needed, Rows, SubRow};
 use vms_fields::pic::I8259 as I8259_FIELDS;
 use vms_fields::pit::{COUNTERS, I8254, PIT_CHANNEL};
 use vms_kinds::{Item, Kind};
@@ -10,7 +10,11 @@ pub(crate) const TIMER: DeviceRow = DeviceRow {
     desc: DescRow {
         name: "timer",
         version: 1,
-        rows: &[Rows::Numbers(Kind::U64, &["now"])],
+        rows: &[Rows::One(FieldRow {
+            name: "now",
+            item: Item::Num(Kind::U64),
+            count: Count::One,
+        })],
     },
     subs: &[],
 };
@@ -85,14 +89,14 @@ const GATE: Rows = Rows::One(FieldRow {
         kind: Kind::U8,
         value: 1,
     },
-    ..BYTE
+    count: Count::One,
 });
 
 // From version 2 on, the byte of the gate is unused.
 const NO_GATE: Rows = Rows::One(FieldRow {
     name: "gate",
     item: Item::Unused { bytes: 1 },
-    ..BYTE
+    count: Count::One,
 });
 
 // The structure of one counter.
@@ -112,7 +116,6 @@ const CHANNELS: Rows = Rows::One(FieldRow {
     name: "channels",
     item: Item::Struct(0),
     count: Count::Fixed(COUNTERS as u32),
-    ..BYTE
 });
 
 pub(crate) const I8254_AT_1: DeviceRow = DeviceRow {
