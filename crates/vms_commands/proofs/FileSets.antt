@@ -19,10 +19,10 @@ use Rattle.vms_commands.specs.Steps.{Step, Untold, Gives, Ends, next as after}
 use Rattle.vms_json.specs.Answers.{Answer, good, bad, under, next, changed, each_from, each_of, list_of}
 use Rattle.vms_json.specs.Keys.{fits}
 use Rattle.vms_json.specs.Members.{judged, at as member_at, at_or, member_of, member_or, text_of, up_to, u32_of}
-use Rattle.vms_descread.specs.Descs.{Head, Whole, desc_needs, desc_allows, head_of, desc_as, rest_of, struct_of, sub_in, sub_of, whole_in, whole_of, device_in, device_of, set_in as set_said, set_of, parts_of}
+use Rattle.vms_descfile.specs.Descs.{Head, Whole, desc_needs, desc_allows, head_of, desc_as, rest_of, struct_of, sub_in, sub_of, whole_in, whole_of, device_in, device_of, set_in as set_said, set_of, parts_of}
 use Rattle.vms_descfile.specs.Files.{Said, Parts, Syntax, Shape, IllFormed, judged_said, parts_said, value_said, value_in, file_said}
 use Rattle.vms_json.specs.Names.{Names, Scope, names_if}
-use Rattle.vms_descread.specs.Tests.{test_of}
+use Rattle.vms_descfile.specs.Tests.{test_of}
 
 -- what a good answer says has this property
 abbrev Says : {A : Type 0} → (A → Type 0) → Answer A → Type 0

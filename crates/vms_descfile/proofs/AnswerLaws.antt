@@ -7,7 +7,7 @@ use Rattle.serde_json.specs.Find.{get, of_integer}
 use Rattle.serde_json.specs.View.{items_of}
 use Rattle.vms_json.specs.Answers.{Answer, good, bad, under, next, changed, each_from, list_of}
 use Rattle.vms_json.specs.Members.{member_of, member_or, at, at_or, maybe_at, natural, integer_of, judged}
-use Rattle.vms_descwrite.specs.Written.{list_file, natural_file, integer_file}
+use Rattle.vms_descfile.specs.Written.{list_file, natural_file, integer_file}
 use Rattle.vms_descfile.proofs.ObjectLaws.{kept, listed}
 
 pub next_good : {A B : Type 0} (x : Answer A) (a : A) (f : A → Answer B) (r : Answer B) → x ≡ good a → f a ≡ r → next x f ≡ r

@@ -19,11 +19,11 @@ use Rattle.vms_json.specs.Keys.{fits as keys_fit}
 use Rattle.vms_json.specs.Members.{member_or, at, at_or, maybe_at, u32_of, text_of}
 use Rattle.vms_json.specs.Names.{Names, Scope, names_if, number_in}
 use Rattle.vms_json.specs.declared.parse.TheConstants.{DEEPEST}
-use Rattle.vms_descread.specs.Tests.{test_of}
-use Rattle.vms_descread.specs.Fields.{field_of}
-use Rattle.vms_descread.specs.Descs.{desc_needs, desc_allows, Head, head_of, minimum_or, rest_of, struct_in, struct_of}
-use Rattle.vms_descwrite.specs.Fitting.{FitsTest, FitsOptional, FitsDesc}
-use Rattle.vms_descwrite.specs.Written.{list_file, natural_file, own_names, counter_in, test_file, field_file, desc_members, struct_file}
+use Rattle.vms_descfile.specs.Tests.{test_of}
+use Rattle.vms_descfile.specs.Fields.{field_of}
+use Rattle.vms_descfile.specs.Descs.{desc_needs, desc_allows, Head, head_of, minimum_or, rest_of, struct_in, struct_of}
+use Rattle.vms_descfile.specs.Fitting.{FitsTest, FitsOptional, FitsDesc}
+use Rattle.vms_descfile.specs.Written.{list_file, natural_file, own_names, counter_in, test_file, field_file, desc_members, struct_file}
 use Rattle.vms_descfile.proofs.ObjectLaws.{Table, put_if, members_in, object_of, found, or_none, got, table_fits, kept, listed, unless_if, list_if}
 use Rattle.vms_descfile.proofs.AnswerLaws.{next_good, judged_good, at_good, list_good, list_or_good, natural_good}
 use Rattle.vms_descfile.proofs.ShownLaws.{asked, number_shown, test_shown, field_shown, desc_shown}

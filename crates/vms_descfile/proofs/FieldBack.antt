@@ -15,16 +15,16 @@ use Rattle.vms_spec.specs.Sets.{Formula, Field}
 use Rattle.vms_spec.specs.Rules.{in_range, defaults_well}
 use Rattle.vms_spec.specs.Numbers.{same_number}
 use Rattle.vms_spec.proofs.WellFormedLaws.{ranges}
-use Rattle.vms_descread.specs.declared.sort.Sort.{Sort}
-use Rattle.vms_descread.specs.declared.sort.Sort.TheVariants as sorts
+use Rattle.vms_descfile.specs.declared.read.sort.Sort.{Sort}
+use Rattle.vms_descfile.specs.declared.read.sort.Sort.TheVariants as sorts
 use Rattle.vms_json.specs.Answers.{good, given, list_of}
 use Rattle.vms_json.specs.Keys.{fits}
 use Rattle.vms_json.specs.Members.{at, at_or, maybe_at, u16_of, u32_of, integer_of, text_of}
 use Rattle.vms_json.specs.Names.{Names, number_in, name_in}
-use Rattle.vms_descread.specs.Tests.{test_of}
-use Rattle.vms_descread.specs.Fields.{sort_named, sort_of, counts_fit, values_fit, sort_fits, field_needs, field_allows, field_fits, count_as, count_of, item_as, front_of, field_after, field_in, field_of}
-use Rattle.vms_descwrite.specs.Fitting.{FitsField}
-use Rattle.vms_descwrite.specs.Written.{natural_file, integer_file, is_zero, item_word, capacity_in, length_in, counter_in, equal_in, size_in, struct_in, test_file, front_file, field_file}
+use Rattle.vms_descfile.specs.Tests.{test_of}
+use Rattle.vms_descfile.specs.Fields.{sort_named, sort_of, counts_fit, values_fit, sort_fits, field_needs, field_allows, field_fits, count_as, count_of, item_as, front_of, field_after, field_in, field_of}
+use Rattle.vms_descfile.specs.Fitting.{FitsField}
+use Rattle.vms_descfile.specs.Written.{natural_file, integer_file, is_zero, item_word, capacity_in, length_in, counter_in, equal_in, size_in, struct_in, test_file, front_file, field_file}
 use Rattle.vms_descfile.proofs.ObjectLaws.{Table, put_if, members_in, object_of, or_none, got, table_fits, kept, listed, given_if, unless_if, list_if}
 use Rattle.vms_descfile.proofs.AnswerLaws.{next_good, judged_good, at_good, maybe_good, default_good, list_or_good, natural_good, integer_good}
 use Rattle.vms_descfile.proofs.ShownLaws.{number_shown, test_shown, count_shown, field_shown, map_same}

@@ -7,7 +7,7 @@ use Rattle.vms_json.specs.declared.fault.Fault.TheVariants as faults
 use Rattle.vms_descfile.specs.declared.file_fault.FileFault.{FileFault}
 use Rattle.vms_descfile.specs.declared.file_fault.FileFault.TheVariants as file_faults
 use Rattle.vms_json.specs.Answers.{Answer, Refuses}
-use Rattle.vms_descread.specs.Descs.{parts_of}
+use Rattle.vms_descfile.specs.Descs.{parts_of}
 use Rattle.vms_descfile.specs.Files.{Shape, parts_said, value_said, value_in, file_said}
 use Rattle.vms_descfile.specs.Given.{Gives, GivesValue, IsFileFault}
 

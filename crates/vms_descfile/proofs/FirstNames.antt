@@ -14,7 +14,7 @@ use Rattle.vms_spec.proofs.WellFormedLaws.{Clean}
 use Rattle.std.proofs.lemmas.Option.{slice_get_within}
 use Rattle.vms_json.specs.Answers.{good}
 use Rattle.vms_json.specs.Names.{number_in, numbered}
-use Rattle.vms_descwrite.specs.Written.{own_names}
+use Rattle.vms_descfile.specs.Written.{own_names}
 use Rattle.vms_descfile.proofs.ShownLaws.{asked, number_shown}
 
 neither : (ns ms : List (List ℕ)) (n : List ℕ) → is_one_of (ns ++ ms) n ≡ false → is_one_of ms n ≡ false

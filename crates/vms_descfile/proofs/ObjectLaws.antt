@@ -10,7 +10,7 @@ use Rattle.serde_json.specs.Find.{get, get_member}
 use Rattle.serde_json.proofs.Views.{get_member-put, get_member-put_other}
 use Rattle.vms_spec.specs.Streams.{is_one_of}
 use Rattle.vms_json.specs.Keys.{has, has_no_others, has_all, fits}
-use Rattle.vms_descwrite.specs.Written.{list_file, given_as, unless, list_as}
+use Rattle.vms_descfile.specs.Written.{list_file, given_as, unless, list_as}
 
 -- the members of a table, of which the last is put first
 abbrev pub Table : Type 0

@@ -6,7 +6,7 @@ use Rattle.serde_json.proofs.OnLiterals.{serde_json_on_literals}
 use Rattle.vms_spec.specs.declared.Part.TheVariants as parts
 use Rattle.vms_spec.specs.WellFormed.{here, first_fault}
 use Rattle.vms_spec.proofs.Boxes.{counted_set, tested_set}
-use Rattle.vms_descread.specs.Descs.{parts_of}
+use Rattle.vms_descfile.specs.Descs.{parts_of}
 use Rattle.vms_descfile.specs.Files.{Said, Parts, Syntax, Shape, IllFormed, file_said}
 
 unfoldable said : List ℕ → Said

@@ -12,10 +12,10 @@ use Rattle.vms_json.specs.Keys.{fits as keys_fit}
 use Rattle.vms_json.specs.Members.{at, at_or, u32_of, text_of}
 use Rattle.vms_json.specs.Names.{Names, Scope}
 use Rattle.vms_json.specs.declared.parse.TheConstants.{DEEPEST}
-use Rattle.vms_descread.specs.Tests.{test_of}
-use Rattle.vms_descread.specs.Descs.{desc_needs, desc_allows, head_of, struct_of, sub_in, sub_of, Whole, whole_in, whole_of, device_of, set_of, parts_of}
-use Rattle.vms_descwrite.specs.Fitting.{FitsTest, FitsSub, FitsWhole, FitsDevice, FitsSet}
-use Rattle.vms_descwrite.specs.Written.{natural_file, own_names, test_file, desc_members, struct_file, sub_file, whole_file, device_file, set_file}
+use Rattle.vms_descfile.specs.Tests.{test_of}
+use Rattle.vms_descfile.specs.Descs.{desc_needs, desc_allows, head_of, struct_of, sub_in, sub_of, Whole, whole_in, whole_of, device_of, set_of, parts_of}
+use Rattle.vms_descfile.specs.Fitting.{FitsTest, FitsSub, FitsWhole, FitsDevice, FitsSet}
+use Rattle.vms_descfile.specs.Written.{natural_file, own_names, test_file, desc_members, struct_file, sub_file, whole_file, device_file, set_file}
 use Rattle.vms_descfile.proofs.ObjectLaws.{Table, put_if, object_of, or_none, got, table_fits, listed, list_if}
 use Rattle.vms_descfile.proofs.AnswerLaws.{next_good, judged_good, at_good, list_good, list_or_good, natural_good}
 use Rattle.vms_descfile.proofs.ShownLaws.{asked, test_shown, desc_shown, sub_shown, device_shown, set_shown, set_same, map_same}

@@ -10,9 +10,9 @@ use Rattle.vms_spec.specs.Rules.{depth, names_well}
 use Rattle.vms_json.specs.Answers.{Answer, good, under, changed}
 use Rattle.vms_json.specs.Members.{at, u32_of, u64_of}
 use Rattle.vms_json.specs.Names.{Names, Scope, number_in, name_in}
-use Rattle.vms_descread.specs.Tests.{rel_of, own_cell, parent_cell, with_parent, test_within, both}
-use Rattle.vms_descwrite.specs.Written.{natural_file, rel_file, compared_file, test_file}
-use Rattle.vms_descwrite.specs.Fitting.{FitsTest}
+use Rattle.vms_descfile.specs.Tests.{rel_of, own_cell, parent_cell, with_parent, test_within, both}
+use Rattle.vms_descfile.specs.Written.{natural_file, rel_file, compared_file, test_file}
+use Rattle.vms_descfile.specs.Fitting.{FitsTest}
 use Rattle.vms_descfile.proofs.AnswerLaws.{next_good, at_good, natural_good}
 use Rattle.vms_descfile.proofs.ShownLaws.{number_shown, test_shown}
 

@@ -8,12 +8,12 @@ use Rattle.serde_json.specs.Written.{has_float, compact_text}
 use Rattle.vms_spec.specs.Sets.{Set}
 use Rattle.vms_spec.specs.WellFormed.{SetFault, first_fault}
 use Rattle.vms_descfile.specs.Files.{Parts, judged_said, file_said, parts_said}
-use Rattle.vms_descwrite.specs.Fitting.{FitsSet}
-use Rattle.vms_descwrite.specs.Written.{set_file}
+use Rattle.vms_descfile.specs.Fitting.{FitsSet}
+use Rattle.vms_descfile.specs.Written.{set_file}
 use Rattle.vms_json.proofs.KeyLaws.{has_value}
 use Rattle.vms_descfile.proofs.FileLaws.{said_by}
-use Rattle.vms_descwrite.proofs.DepthLaws.{set_nests}
-use Rattle.vms_descwrite.proofs.FloatLaws.{set_whole}
+use Rattle.vms_descfile.proofs.FileLevels.{set_nests}
+use Rattle.vms_descfile.proofs.FloatLaws.{set_whole}
 use Rattle.vms_descfile.proofs.SetBack.{set_back}
 
 pub compact_file : (set : Set) (d : Data) (s : String Global) → d ≡ set_file set

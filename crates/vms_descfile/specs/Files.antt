@@ -5,7 +5,7 @@ use Rattle.vms_spec.specs.Sets.{Set}
 use Rattle.vms_spec.specs.WellFormed.{SetFault, first_fault}
 use Rattle.vms_json.specs.Answers.{Answer, good, bad}
 pub use Rattle.vms_json.specs.Texts.{value_in}
-use Rattle.vms_descread.specs.Descs.{parts_of}
+use Rattle.vms_descfile.specs.Descs.{parts_of}
 
 -- what a file says: a set, or the first fault
 pub data Said : Type 0 where

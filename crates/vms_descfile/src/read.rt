@@ -8,8 +8,17 @@ use crate::FileFault;
 use json::Scratch;
 use std::alloc::Global;
 use vms_desc::{DescFault, DescSet, Parts};
-use vms_descread::read_parts;
 use vms_json::{NoNode, Tree, read_bytes};
+
+mod cells;
+mod descs;
+mod devices;
+mod fields;
+mod parts;
+mod sort;
+mod tests;
+
+pub use parts::read_parts;
 
 /// Reads the description set in the file `text`.
 ///

@@ -3,12 +3,18 @@ ghost use Rattle.std.specs.Prelude.{◌≡◌, IfOk, string_bytes};
 ghost use Rattle.serde_json.specs.Written.{compact_text};
 ghost use Rattle.vms_desc.specs.Described.{described};
 ghost use Rattle.vms_descfile.specs.Files.{file_said, Parts};
-ghost use Rattle.vms_descwrite.specs.Written.{set_file};
+ghost use Rattle.vms_descfile.specs.Written.{set_file};
 
 use std::alloc::Global;
 use vms_desc::DescSet;
-use vms_descwrite::set_value;
 use vms_io::NoMemory;
+
+mod fields;
+mod sets;
+mod tests;
+mod values;
+
+pub use sets::set_value;
 
 /// Returns the description file of `set`, which [`read_set`](crate::read_set) reads as the same
 /// set.

@@ -1,6 +1,6 @@
 use Rattle.std.proofs.Common.{Err, sym, subst, ap, ◌∙◌}
 use Rattle.vms_json.specs.Nodes.{view, tree_view}
-use Rattle.vms_descread.specs.Descs.{parts_of}
+use Rattle.vms_descfile.specs.Descs.{parts_of}
 use Rattle.vms_descfile.specs.Files.{Said, parts_said}
 use Rattle.vms_descfile.specs.Given.{Gives}
 use Rattle.vms_descfile.proofs.FileLaws.{no_json, said_by, shape_said}

@@ -1,0 +1,105 @@
+-- A test says the same within each bound that is at least its value's number of levels.
+use Rattle.std.proofs.Common.{◌≡◌, ℕ, zero, suc, ◌≤◌, max, List, Option, Some, None, Ordering, Less, Equal, Greater, refl, sym, ap, ap₂, subst, arith, codes}
+use Rattle.std.proofs.lemmas.Option.{same_Some}
+use Rattle.std.specs.Ordering.{nat_cmp, match_ordering}
+use Rattle.std.specs.Cmp.Lexicographic.{slice_cmp}
+use Rattle.serde_json.specs.Data.{Data, null, boolean, number, string, array, object, Items, no_items, item, Members, no_members, member, depth, items_depth, members_depth}
+use Rattle.serde_json.specs.Find.{get, get_member}
+use Rattle.vms_spec.specs.Sets.{Formula}
+use Rattle.vms_json.specs.declared.parse.TheConstants.{DEEPEST}
+use Rattle.vms_descfile.specs.declared.read.cells.Form.{Form}
+use Rattle.vms_descfile.specs.declared.read.cells.Form.TheVariants as forms
+use Rattle.vms_json.specs.Answers.{Answer, good, bad, under, next, changed}
+use Rattle.vms_json.specs.Members.{member_of}
+use Rattle.vms_json.specs.Names.{Scope}
+use Rattle.vms_descfile.specs.Tests.{Pair, key_of, joined, two_of, both, form_of, test_as, test_within}
+use Rattle.vms_descfile.specs.Depths.{DepthLaw}
+
+-- ---- the parts of a value have fewer levels
+
+member_nests : (k : List ℕ) (ms : Members) (e : Data) → get_member k ms ≡ Some e → depth e ≤ members_depth ms
+member_nests k no_members e is = absurd (cc)
+member_nests k (member l f ms) e is = go (slice_cmp nat_cmp k l) (member_nests k ms e) is
+  where
+    go : (o : Ordering) → (get_member k ms ≡ Some e → depth e ≤ members_depth ms) → match_ordering o (get_member k ms) (Some f) (get_member k ms) ≡ Some e → depth e ≤ max (depth f) (members_depth ms)
+    go Less inside is = omega (arith, inside is)
+    go Equal inside is = subst (λ (x : Data). depth x ≤ max (depth f) (members_depth ms)) (same_Some f e is) (omega arith)
+    go Greater inside is = omega (arith, inside is)
+
+get_nests : (k : List ℕ) (d e : Data) → get k d ≡ Some e → suc (depth e) ≤ depth d
+get_nests k null e is = absurd (cc)
+get_nests k (boolean b) e is = absurd (cc)
+get_nests k (number n) e is = absurd (cc)
+get_nests k (string s) e is = absurd (cc)
+get_nests k (array ds) e is = absurd (cc)
+get_nests k (object ms) e is = omega (arith, member_nests k ms e is)
+
+abbrev or_this : Pair → Answer Pair → Pair
+or_this p (good q) = q
+or_this p (bad path) = p
+
+pair_nests : (d : Data) (p : Pair) → two_of d ≡ good p → (depth p.first ≤ depth d) × (depth p.second ≤ depth d)
+pair_nests null p is = absurd (cc)
+pair_nests (boolean b) p is = absurd (cc)
+pair_nests (number n) p is = absurd (cc)
+pair_nests (string s) p is = absurd (cc)
+pair_nests (object ms) p is = absurd (cc)
+pair_nests (array no_items) p is = absurd (cc)
+pair_nests (array (item a no_items)) p is = absurd (cc)
+pair_nests (array (item a (item b no_items))) p is =
+    let whole = depth (array (item a (item b no_items))) in
+    let two : Pair = record { first = a; second = b } in
+    let same : two ≡ p = ap (or_this p) is in
+    let one : depth a ≤ whole = omega arith in
+    let other : depth b ≤ whole = omega arith in
+    (subst (λ (q : Pair). depth q.first ≤ whole) same one, subst (λ (q : Pair). depth q.second ≤ whole) same other)
+pair_nests (array (item a (item b (item c ds)))) p is = absurd (cc)
+
+-- ---- what a value says depends on what its parts say
+
+of_same : (inner other : Data → Answer Formula) (key : List ℕ) (o : Option Data) → ((e : Data) → o ≡ Some e → inner e ≡ other e) → member_of inner key o ≡ member_of other key o
+of_same inner other key None same = refl
+of_same inner other key (Some e) same = ap (under key) (same e refl)
+
+two_same : (inner other : Data → Answer Formula) (key : List ℕ) (join : Formula → Formula → Formula) (x : Answer Pair)
+    → ((p : Pair) → x ≡ good p → (inner p.first ≡ other p.first) × (inner p.second ≡ other p.second))
+    → next (under key x) (λ p. under key (both join (inner p.first) (inner p.second))) ≡ next (under key x) (λ p. under key (both join (other p.first) (other p.second)))
+two_same inner other key join (good p) same =
+    let both_same = same p refl in
+    ap₂ (λ (y z : Answer Formula). under key (both join y z)) both_same.0 both_same.1
+two_same inner other key join (bad path) same = refl
+
+pair_same : (inner other : Data → Answer Formula) (key : List ℕ) (join : Formula → Formula → Formula) (o : Option Data)
+    → ((e : Data) → o ≡ Some e → (f : Data) → depth f ≤ depth e → inner f ≡ other f)
+    → next (member_of two_of key o) (λ p. under key (both join (inner p.first) (inner p.second))) ≡ next (member_of two_of key o) (λ p. under key (both join (other p.first) (other p.second)))
+pair_same inner other key join None same = refl
+pair_same inner other key join (Some e) same =
+    two_same inner other key join (two_of e) (λ p is. let nest = pair_nests e p is in (same e refl p.first nest.0, same e refl p.second nest.1))
+
+as_same : (form : Form) (inner other : Data → Answer Formula) (scope : Scope) (d : Data) → ((e : Data) → suc (depth e) ≤ depth d → inner e ≡ other e)
+    → test_as form inner scope d ≡ test_as form other scope d
+as_same forms.Not inner other scope d same =
+    ap (changed _) (of_same inner other (codes "not") (get (codes "not") d) (λ e is. same e (get_nests (codes "not") d e is)))
+as_same (forms.Two join) inner other scope d same =
+    pair_same inner other (key_of join) (joined join) (get (key_of join) d) (λ e is f nests. same f (omega (arith, nests, get_nests (key_of join) d e is)))
+as_same (forms.Leaf leaf) inner other scope d same = refl
+
+-- a value without parts is no test
+flat_test : (n : ℕ) (scope : Scope) (d : Data) → depth d ≤ 0 → test_within (suc n) scope d ≡ test_within 0 scope d
+flat_test n scope null flat = refl
+flat_test n scope (boolean b) flat = refl
+flat_test n scope (number m) flat = refl
+flat_test n scope (string s) flat = refl
+flat_test n scope (array ds) flat = absurd (omega (arith, flat))
+flat_test n scope (object ms) flat = absurd (omega (arith, flat))
+
+within_same : (n m : ℕ) (scope : Scope) (d : Data) → depth d ≤ n → depth d ≤ m → test_within n scope d ≡ test_within m scope d
+within_same zero zero scope d one other = refl
+within_same zero (suc m) scope d one other = sym (flat_test m scope d one)
+within_same (suc n) zero scope d one other = flat_test n scope d other
+within_same (suc n) (suc m) scope d one other =
+    as_same (form_of d) (test_within n scope) (test_within m scope) scope d
+    (λ e nests. within_same n m scope e (omega (arith, nests, one)) (omega (arith, nests, other)))
+
+pub depth_holds : DepthLaw
+depth_holds scope d few n enough = within_same n DEEPEST scope d enough few

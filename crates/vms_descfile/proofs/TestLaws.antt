@@ -1,0 +1,33 @@
+-- Faults inside tests, and a test by its form.
+use Rattle.std.proofs.Common.{◌≡◌, ℕ, zero, suc, ◌-◌, ◌<◌, List, refl, ap, sym, subst, ◌∙◌, arith, Result}
+use native.Mathlib.Numerals.{unary_clauses}
+use Rattle.serde_json.specs.Data.{Data}
+use Rattle.vms_parts.specs.Views.{formula}
+use Rattle.vms_parts.specs.declared.types.Test.{Test}
+use Rattle.vms_descfile.specs.declared.read.cells.Form.{Form}
+use Rattle.vms_json.specs.declared.fault.Fault.{Fault}
+use Rattle.vms_json.specs.declared.fault.Fault.TheVariants as faults
+use Rattle.vms_json.specs.Answers.{Answer, good, bad, under, next, changed, Refuses, Answers, IsUnder}
+use Rattle.vms_json.specs.Names.{Scope}
+use Rattle.vms_descfile.specs.Tests.{test_within, test_as, form_of}
+
+-- a test that may have parts is read by its form
+pub by_form : (n : ℕ) (scope : Scope) (d : Data) (form : Form) (r : Result Test Fault) → 0 < n → form ≡ form_of d
+    → Answers formula (test_as form (test_within (n - 1) scope) scope d) r → Answers formula (test_within n scope d) r
+by_form zero scope d form r more is said = absurd (omega arith)
+by_form (suc n) scope d form r more is said =
+    subst (λ (f : Form). Answers formula (test_as f (test_within n scope) scope d) r) is (simp unary_clauses at said)
+
+pub refused_under : {A : Type 0} (key : List ℕ) (x : Answer A) (fault result : Fault) → Refuses x fault → IsUnder key fault result → Refuses (under key x) result
+refused_under key x (faults.Shape path) (faults.Shape p) said is = ap (under key) said ∙ ap bad (sym is)
+refused_under key x (faults.Shape path) faults.NoMemory said is = tt
+refused_under key x faults.NoMemory (faults.Shape p) said is = absurd is
+refused_under key x faults.NoMemory faults.NoMemory said is = tt
+
+pub refused_next : {A B : Type 0} (x : Answer A) (f : A → Answer B) (fault : Fault) → Refuses x fault → Refuses (next x f) fault
+refused_next x f (faults.Shape path) said = ap (λ a. next a f) said
+refused_next x f faults.NoMemory said = tt
+
+pub refused_changed : {A B : Type 0} (f : A → B) (x : Answer A) (fault : Fault) → Refuses x fault → Refuses (changed f x) fault
+refused_changed f x (faults.Shape path) said = ap (changed f) said
+refused_changed f x faults.NoMemory said = tt

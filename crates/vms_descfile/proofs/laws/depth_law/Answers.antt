@@ -1,0 +1,5 @@
+use Rattle.vms_descfile.proofs.DepthLaws.{depth_holds}
+use Rattle.vms_descfile.proofs.laws.depth_law.Goals as goal
+
+pub returns : goal.returns
+returns c = depth_holds

@@ -1,0 +1,26 @@
+use Rattle.std.proofs.Common.{Bool, Some, sym, subst, ap, ◌∙◌}
+use Rattle.std.proofs.lemmas.Bool.{and_parts}
+use Rattle.vms_spec.specs.Sets.{Desc}
+use Rattle.vms_parts.specs.Views.{desc_of as desc_seen}
+use Rattle.vms_json.specs.Nodes.{view}
+use Rattle.vms_json.specs.Answers.{Answer, Answers}
+use Rattle.vms_json.specs.Asked.{asks_names}
+use Rattle.vms_json.specs.Names.{Names, names_if}
+use Rattle.vms_descfile.specs.Descs.{struct_in}
+use Rattle.vms_descfile.proofs.AskedLaws.{struct_unasked}
+use Rattle.vms_descfile.proofs.read.descs.read_asked.Goals as goal
+
+pub returns-in_ok-names : goal.returns-in_ok-names
+returns-in_ok-names c =
+    let d = view c.args.value.now in
+    let asks = and_parts c.args.asks (asks_names d) (sym c.is_asked.ensures ∙ c.if-is_asked.true) in
+    subst (λ (n : Names). Answers desc_seen (struct_in n d) c.read_struct.result)
+    (ap Some c.in_ok-names.ensures ∙ ap (λ (b : Bool). names_if b d) (sym asks.0))
+    c.read_struct.ensures
+
+pub returns-else-is_asked : goal.returns-else-is_asked
+returns-else-is_asked c =
+    let d = view c.args.value.now in
+    subst (λ (a : Answer Desc). Answers desc_seen a c.read_struct-else-is_asked.result)
+    (struct_unasked c.args.asks d (sym c.is_asked.ensures ∙ c.if-is_asked.false))
+    c.read_struct-else-is_asked.ensures

@@ -1,0 +1,24 @@
+use Rattle.std.proofs.Common.{Bool, Some, sym, subst, ap, ◌∙◌}
+use Rattle.std.proofs.lemmas.Bool.{and_parts}
+use Rattle.vms_json.specs.Nodes.{view}
+use Rattle.vms_json.specs.Answers.{Answer, Answers}
+use Rattle.vms_json.specs.Asked.{asks_names}
+use Rattle.vms_json.specs.Names.{Names, names_if}
+use Rattle.vms_descfile.specs.Descs.{Whole, whole_in, whole_seen}
+use Rattle.vms_descfile.proofs.AskedLaws.{whole_unasked}
+use Rattle.vms_descfile.proofs.read.devices.read_whole_asked.Goals as goal
+
+pub returns-in_ok-names : goal.returns-in_ok-names
+returns-in_ok-names c =
+    let d = view c.args.value.now in
+    let asks = and_parts c.args.asks (asks_names d) (sym c.is_asked.ensures ∙ c.if-is_asked.true) in
+    subst (λ (n : Names). Answers whole_seen (whole_in c.args.asks n d) c.read_whole.result)
+    (ap Some c.in_ok-names.ensures ∙ ap (λ (b : Bool). names_if b d) (sym asks.0))
+    c.read_whole.ensures
+
+pub returns-else-is_asked : goal.returns-else-is_asked
+returns-else-is_asked c =
+    let d = view c.args.value.now in
+    subst (λ (a : Answer Whole). Answers whole_seen a c.read_whole-else-is_asked.result)
+    (whole_unasked c.args.asks d (sym c.is_asked.ensures ∙ c.if-is_asked.false))
+    c.read_whole-else-is_asked.ensures

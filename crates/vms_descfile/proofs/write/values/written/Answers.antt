@@ -1,0 +1,30 @@
+use Rattle.std.proofs.Common.{◌≡◌, ◌++◌, ℕ, Some, map, ap, sym, subst, ◌∙◌, below_more, arith}
+use Rattle.std.specs.List.{slice_get}
+use Rattle.std.proofs.lemmas.List.{drop_all, append-nil}
+use Rattle.serde_json.specs.View.{view}
+use Rattle.std.proofs.lemmas.Option.{slice_get_within}
+use Rattle.vms_descfile.proofs.BuiltLaws.{listed_on}
+use Rattle.vms_descfile.proofs.FitLaws.{at_is}
+use Rattle.vms_descfile.proofs.write.values.written.Goals as goal
+
+pub loop-item-preserved : goal.loop-item-preserved
+loop-item-preserved g c =
+    let f = g.W.Writes.file c.args.writer.now in
+    let xs = c.args.items.now in
+    let i = c.loop-item.item-index in
+    record {
+      file = listed_on f xs i c.item-item.result c.loop-item.list.items c.push.new.list.items c.in_ok-value.value c.loop-item-test.true c.item-item.is
+          c.in_ok-value.ensures.file c.in_ok-push.ensures c.loop-item.invariant.file;
+      fits = below_more (λ (k : ℕ). (x : g.row.T.Denot) → slice_get xs k ≡ Some x → g.W.Writes.fits c.args.writer.now x) i c.loop-item.invariant.fits
+          (λ x there. subst (g.W.Writes.fits c.args.writer.now) (at_is xs i c.item-item.result x c.item-item.is there) c.in_ok-value.ensures.fits);
+    }
+
+pub returns-clause-file : goal.returns-clause-file
+returns-clause-file g c =
+    let f = g.W.Writes.file c.args.writer.now in
+    let xs = c.args.items.now in
+    let done = map view c.loop-item.list.items in
+    sym (c.loop-item.invariant.file ∙ ap (λ l. done ++ map f l) (drop_all c.loop-item.item-index xs c.loop-item-test.false) ∙ append-nil done)
+
+pub returns-clause-fits : goal.returns-clause-fits
+returns-clause-fits g c = λ i x there. c.loop-item.invariant.fits i (omega (arith, slice_get_within c.args.items.now i x there)) x there

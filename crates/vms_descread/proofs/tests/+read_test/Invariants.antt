@@ -1,4 +1,0 @@
-use Rattle.vms_descread.proofs.tests.+read_test.Given as goal
-
-abbrev pub decreases-read_test : goal.decreases-read_test
-decreases-read_test l = l.depth

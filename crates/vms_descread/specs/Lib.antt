@@ -1,4 +1,0 @@
-pub mod Depths
-pub mod Descs
-pub mod Fields
-pub mod Tests
