@@ -1,23 +1,13 @@
 -- The heads of sections and of subsections, of configurations and of descriptions, and footers, by the bytes that came.
-use Rattle.std.proofs.Common.{◌≡◌, ℕ, ◌+◌, ◌<◌, ◌≤◌, ◌==◌, ◌||◌, not, List, ◌++◌, length, get_or, take, drop, Bool, true, false, if◌then◌else◌, nat_lt, Some, None, refl, sym, ap, ◌∙◌, arith, length-append, length-drop, take_all}
-use Rattle.std.proofs.lemmas.Bool.{le-ltb, lt-ltb, eq-eqb, ne_eqb}
-use Rattle.std.proofs.lemmas.List.{get_or-take, length-take-le}
-use Rattle.arrayvec.specs.ArrayVec.{ArrayVec}
+use Rattle.vms_frames.proofs.Facade.{◌≡◌, ℕ, ◌+◌, ◌<◌, ◌≤◌, ◌==◌, ◌||◌, not, List, ◌++◌, length, get_or, take, drop, Bool, true, false, if◌then◌else◌, nat_lt}
+use Rattle.vms_frames.proofs.Facade.{Some, None, refl, sym, ap, ◌∙◌, arith, length-append, length-drop, take_all, le-ltb, lt-ltb, eq-eqb, ne_eqb, get_or-take}
+use Rattle.vms_frames.proofs.Facade.{length-take-le, number_at, bytes_at, Piece, Long, Start, Foot, Head, head_in, sub_head_in, Known, Due, AfterFields}
+use Rattle.vms_frames.proofs.Facade.{first_row, alone, is_ram, needs, text_at, Seen, Good, Bad, Short, seen_in, seen_by, nothing_known, Section, step_long}
+use Rattle.vms_frames.proofs.Facade.{unit_of_step, in_section, head_seen, start_seen, start_reason, sub_seen, foot_seen}
 use Rattle.vms_spec.specs.declared.Reason.TheVariants as reasons
-use Rattle.vms_spec.specs.Lookup.{number_at, bytes_at}
-use Rattle.vms_spec.specs.Units.{Piece, Long, SubHead as ASub, Start, Foot}
-use Rattle.vms_marks.specs.declared.head.Head.{Head}
-use Rattle.vms_marks.specs.Heads.{head_in, sub_head_in}
-use Rattle.vms_stream.specs.SoFar.{Known}
+use Rattle.vms_spec.specs.Units.{SubHead as ASub}
 use Rattle.vms_stream.specs.SoFar as tails
-use Rattle.vms_stream.specs.Dues.{Due, AfterFields, Between as IsBetween}
-use Rattle.vms_stream.specs.Table.{first_row, alone, is_ram}
-use Rattle.vms_stream.specs.Finding.{needs, text_at}
-use Rattle.vms_stream.specs.Seen.{Seen, Good, Bad, Short, seen_in, seen_by}
-use Rattle.vms_stream.specs.Taking.{nothing_known}
-use Rattle.vms_frames.specs.declared.units.Step.TheVariants.{Section}
-use Rattle.vms_frames.specs.Calls.{step_long, unit_of_step, in_section}
-use Rattle.vms_frames.specs.Reads.{head_seen, start_seen, start_reason, sub_seen, foot_seen}
+use Rattle.vms_stream.specs.Dues.{Between as IsBetween}
 use Rattle.vms_frames.proofs.UnitLemmas.{byte_of_unit, number_of_unit, bytes_of_unit, cut_short, seen_whole}
 
 -- a byte that came stays where it is
@@ -45,34 +35,27 @@ head_with n bytes = record {
 head_same : (n : ℕ) (unit rest : List ℕ) → 14 + n ≤ length unit → head_with n (unit ++ rest) ≡ head_with n unit
 unfolding head_with
 head_same n unit rest long =
-    let name : List ℕ → ArrayVec ℕ = λ items. record { items = items } in
-    let a : number_at 4 1 (unit ++ rest) ≡ number_at 4 1 unit = number_of_unit 4 1 unit rest (omega arith) in
-    let b : bytes_at n 6 (unit ++ rest) ≡ bytes_at n 6 unit = bytes_of_unit n 6 unit rest (omega arith) in
-    let c : number_at 4 (6 + n) (unit ++ rest) ≡ number_at 4 (6 + n) unit = number_of_unit 4 (6 + n) unit rest (omega arith) in
-    let d : number_at 4 (10 + n) (unit ++ rest) ≡ number_at 4 (10 + n) unit = number_of_unit 4 (10 + n) unit rest (omega arith) in
-    let head : ℕ → List ℕ → ℕ → ℕ → Head = λ id items instance version. record { id = id; name = name items; instance = instance; version = version } in
-    ap (λ (x : ℕ). head x (bytes_at n 6 (unit ++ rest)) (number_at 4 (6 + n) (unit ++ rest)) (number_at 4 (10 + n) (unit ++ rest))) a
-    ∙ ap (λ (x : List ℕ). head (number_at 4 1 unit) x (number_at 4 (6 + n) (unit ++ rest)) (number_at 4 (10 + n) (unit ++ rest))) b
-    ∙ ap (λ (x : ℕ). head (number_at 4 1 unit) (bytes_at n 6 unit) x (number_at 4 (10 + n) (unit ++ rest))) c
-    ∙ ap (λ (x : ℕ). head (number_at 4 1 unit) (bytes_at n 6 unit) (number_at 4 (6 + n) unit) x) d
+    rw (
+      number_of_unit 4 1 unit rest (omega arith),
+      bytes_of_unit n 6 unit rest (omega arith),
+      number_of_unit 4 (6 + n) unit rest (omega arith),
+      number_of_unit 4 (10 + n) unit rest (omega arith),
+    )
 
 pub head_long : (unit : List ℕ) → length unit ≡ 14 + get_or unit 5 0 → length unit ≡ step_long (Section (head_in unit))
 head_long unit long =
     let n = get_or unit 5 0 in
-    let d : length (drop 6 unit) ≡ 8 + n = length-drop 6 unit ∙ omega arith in
-    let e : length (bytes_at n 6 unit) ≡ n = length-take-le n (drop 6 unit) (omega arith) in
-    long ∙ ap (λ (k : ℕ). 14 + k) (sym e)
+    rw (length-take-le n (drop 6 unit) (omega (arith, length-drop 6 unit))) long
 
 pub head_whole : (unit rest : List ℕ) → length unit ≡ 14 + get_or unit 5 0 → head_seen (unit ++ rest) ≡ Good (unit_of_step (Section (head_in unit))) (step_long (Section (head_in unit)))
 unfolding head_with
 head_whole unit rest long =
     let all = unit ++ rest in
-    let n : get_or all 5 0 ≡ get_or unit 5 0 = byte_of_unit 5 unit rest (omega arith) in
     let good : ℕ → Head → Seen = λ k h. Good (unit_of_step (Section h)) (14 + k) in
+    let n : get_or all 5 0 ≡ get_or unit 5 0 = byte_of_unit 5 unit rest (omega arith) in
     seen_whole (IsBetween true false) nothing_known (14 + get_or all 5 0) all (unit_of_step (Section (head_with (get_or all 5 0) all))) (omega (arith, n, long, length-append unit rest))
-    ∙ ap (λ (k : ℕ). good k (head_with k all)) n
-    ∙ ap (good (get_or unit 5 0)) (head_same (get_or unit 5 0) unit rest (omega arith))
-    ∙ ap (λ (k : ℕ). Good (unit_of_step (Section (head_in unit))) k) (sym long ∙ head_long unit long)
+    ∙ ap (λ k. good k (head_with k all)) n ∙ ap (good (get_or unit 5 0)) (head_same (get_or unit 5 0) unit rest (omega arith))
+    ∙ ap (Good (unit_of_step (Section (head_in unit)))) (sym long ∙ head_long unit long)
 
 -- ---- heads of subsections
 
@@ -87,9 +70,7 @@ sub_cut unit rest some few =
 pub sub_whole_long : (unit : List ℕ) → length unit ≡ 6 + get_or unit 1 0 → length unit ≡ 6 + length (sub_head_in unit).name.items
 sub_whole_long unit long =
     let n = get_or unit 1 0 in
-    let d : length (drop 2 unit) ≡ 4 + n = length-drop 2 unit ∙ omega arith in
-    let e : length (bytes_at n 2 unit) ≡ n = length-take-le n (drop 2 unit) (omega arith) in
-    long ∙ ap (λ (k : ℕ). 6 + k) (sym e)
+    rw (length-take-le n (drop 2 unit) (omega (arith, length-drop 2 unit))) long
 
 pub sub_whole : (unit rest : List ℕ) → length unit ≡ 6 + get_or unit 1 0
     → sub_seen (unit ++ rest) ≡ Good (ASub (sub_head_in unit).name.items (sub_head_in unit).version) (6 + length (sub_head_in unit).name.items)
@@ -97,12 +78,8 @@ sub_whole unit rest long =
     let all = unit ++ rest in
     let k = get_or unit 1 0 in
     let n : get_or all 1 0 ≡ k = byte_of_unit 1 unit rest (omega arith) in
-    let good : ℕ → List ℕ → ℕ → Seen = λ k name v. Good (ASub name v) (6 + k) in
     seen_whole (AfterFields 0 tails.Unknown) nothing_known (6 + get_or all 1 0) all (ASub (bytes_at (get_or all 1 0) 2 all) (number_at 4 (2 + get_or all 1 0) all)) (omega (arith, n, long, length-append unit rest))
-    ∙ ap (λ (i : ℕ). good i (bytes_at i 2 all) (number_at 4 (2 + i) all)) n
-    ∙ ap (λ (l : List ℕ). good k l (number_at 4 (2 + k) all)) (bytes_of_unit k 2 unit rest (omega arith))
-    ∙ ap (λ (v : ℕ). good k (bytes_at k 2 unit) v) (number_of_unit 4 (2 + k) unit rest (omega arith))
-    ∙ ap (λ (i : ℕ). Good (ASub (bytes_at k 2 unit) (number_at 4 (2 + k) unit)) i) (sym long ∙ sub_whole_long unit long)
+    ∙ rw (n, bytes_of_unit k 2 unit rest (omega arith), number_of_unit 4 (2 + k) unit rest (omega arith), ← sub_whole_long unit long, long)
 
 -- ---- footers
 

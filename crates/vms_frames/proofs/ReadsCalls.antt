@@ -1,27 +1,9 @@
 -- The calls of a cursor, by what is read.
-use Rattle.std.proofs.Common.{◌≡◌, ℕ, ◌+◌, List, [], ◌∷◌, take, drop, Option, Some, None, Result, Ok, Err, ℤ, sym, subst, arith}
-use Rattle.std.proofs.lemmas.Option.{same_Some}
-use Rattle.vms_io.specs.Told.{Intake}
-use Rattle.vms_io.proofs.ReadingLemmas.{reads_as, reads_both}
-use Rattle.vms_kinds.specs.declared.Kind.{Kind}
-use Rattle.vms_kinds.specs.Codes.{width}
-use Rattle.vms_spec.specs.Layout.{Filler as FillerSlot}
-use Rattle.vms_spec.specs.Lookup.{number_at}
-use Rattle.vms_spec.specs.Units.{Magic, Version, Filler}
-use Rattle.vms_stream.specs.Dues.{AMagic, AVersion, Field}
-use Rattle.vms_stream.specs.Seen.{Seen, Good, Bad, Short, seen}
-use Rattle.vms_stream.specs.Taking.{nothing_known}
-use Rattle.vms_frames.specs.declared.fault.FrameFault.{FrameFault}
-use Rattle.vms_frames.specs.declared.fault.FrameFault.TheVariants.{Refused, ReadFault}
-use Rattle.vms_frames.specs.declared.units.Between.{Between}
-use Rattle.vms_frames.specs.declared.units.Step.{Step}
-use Rattle.vms_frames.specs.declared.units.Tail.{Tail}
-use Rattle.vms_frames.specs.declared.units.Behind.{Behind}
-use Rattle.vms_frames.specs.declared.units.Behind.TheVariants.{Sub, Next, Done}
-use Rattle.vms_frames.specs.Calls.{AnswersHead, AnswersAfter, AnswersSeen, AnswersEnd, ReadsNumber, ReadsFiller, after_of, held_of}
-use Rattle.vms_frames.specs.Reads.{IsLong, ReadsAs, ReadsMagic, ReadsVersion, ReadsCode, ReadsStep, ReadsBehind, Passes, CutsShort, HeadReads, BetweenReads, BehindReads, EndReads, held_bytes}
-use Rattle.vms_frames.proofs.UnitLemmas.{cut_short, seen_whole}
-use Rattle.vms_frames.proofs.ReadsUnits.{unit_passed, unit_short}
+use Rattle.vms_frames.proofs.Facade.{◌≡◌, ℕ, ◌+◌, List, [], ◌∷◌, take, drop, Option, Some, None, Result, Ok, Err, ℤ, sym, subst, arith, same_Some, Intake}
+use Rattle.vms_frames.proofs.Facade.{reads_as, reads_both, Kind, width, number_at, Magic, Version, AMagic, AVersion, Seen, Good, Bad, Short, seen}
+use Rattle.vms_frames.proofs.Facade.{nothing_known, FrameFault, Refused, ReadFault, Between, Step, Tail, Behind, Sub, Next, Done, AnswersHead, AnswersAfter}
+use Rattle.vms_frames.proofs.Facade.{AnswersSeen, AnswersEnd, ReadsNumber, after_of, held_of, IsLong, ReadsAs, ReadsMagic, ReadsVersion, ReadsCode, ReadsStep}
+use Rattle.vms_frames.proofs.Facade.{ReadsBehind, HeadReads, BetweenReads, BehindReads, EndReads, held_bytes}
 
 -- for a unit of which nothing came before
 bare : {X : Type 0} (long : X → ℕ) (most : ℕ) (r : Result X FrameFault) (n : ℕ) → IsLong long most r (0 + n) → IsLong long most r n
@@ -33,18 +15,6 @@ calls_between place (Some b) at r h = h
 
 pub calls_number : {a b : Intake} (kind : Kind) (at : ℕ) (r : Result ℤ FrameFault) → ReadsCode a b kind at r → ReadsAs a b (λ _. width kind) (width kind) (ReadsNumber kind at) r
 calls_number kind at r h = reads_as (λ n l. bare (λ _. width kind) (width kind) r n l) (λ rest left p. p) h
-
-pub calls_filler : {a b : Intake} (n at : ℕ) → Passes a b n → ReadsAs a b (λ _. n) n (ReadsFiller n at) (Ok tt)
-calls_filler n at p =
-    reads_as (λ k l. bare (λ (x : Unit {0}). n) n (Ok tt) k l) (λ rest left q. q)
-    (unit_passed (λ all (x : Unit {0}). Filler (take n all)) (λ (x : Unit {0}). n) n (seen (Field 0 (FillerSlot n)) nothing_known) [] at tt (omega arith)
-    (λ rest le. seen_whole (Field 0 (FillerSlot n)) nothing_known n rest (Filler (take n rest)) le) p)
-
-pub calls_no_filler : {a b : Intake} (n at : ℕ) (e : FrameFault) → CutsShort a b at n e → ReadsAs {X = Unit {0}} a b (λ _. n) n (ReadsFiller n at) (Err e)
-calls_no_filler n at e s =
-    reads_as (λ k l. bare (λ (x : Unit {0}). n) n (Err e) k l) (λ rest left q. q)
-    (unit_short (λ all (x : Unit {0}). Filler (take n all)) (λ (x : Unit {0}). n) n (seen (Field 0 (FillerSlot n)) nothing_known) [] at e (omega arith) s
-    (λ rest lt. cut_short (Field 0 (FillerSlot n)) nothing_known n rest (Filler (take n rest)) lt))
 
 -- ---- after fields
 

@@ -1,27 +1,12 @@
 -- What ends a stream: nothing, or a description section.
-use Rattle.std.proofs.Common.{◌≡◌, ℕ, ◌+◌, ◌-◌, List, [], ◌∷◌, ◌++◌, Option, Some, None, Ok, Err, Result, refl, sym, ap, subst, ◌∙◌, arith, Bool, ◌==◌, ◌||◌, if◌then◌else◌}
-use Rattle.std.proofs.lemmas.Bool.{ne_eqb}
-use Rattle.vms_io.specs.Told.{Intake}
-use Rattle.vms_io.specs.Reading.{Takes, Breaks, Last, MayFollow}
-use Rattle.vms_io.proofs.ReadingLemmas.{reads_behind, reads_last}
-use Rattle.vms_spec.specs.declared.Reason.{Reason}
+use Rattle.vms_frames.proofs.Facade.{◌≡◌, ℕ, ◌+◌, ◌-◌, List, [], ◌∷◌, ◌++◌, Option, Some, None, Ok, Err, Result, refl, sym, ap, subst, ◌∙◌, arith, Bool, ◌==◌}
+use Rattle.vms_frames.proofs.Facade.{◌||◌, if◌then◌else◌, ne_eqb, Intake, Takes, Breaks, reads_behind, reads_last, Reason, longest_text, number_at, Description}
+use Rattle.vms_frames.proofs.Facade.{AfterEnd, first_row, alone, needs, text_at, trailer_at, Seen, Bad, seen, seen_in, seen_by, nothing_known, not_between}
+use Rattle.vms_frames.proofs.Facade.{FrameFault, Refused, ReadFault, AnswersEnd, ReadsEnd, Fails, IsLong, ReadsText, ReadsTrailer, LONGEST_DESCRIPTION}
 use Rattle.vms_spec.specs.declared.Reason.TheVariants as reasons
-use Rattle.vms_spec.specs.Streams.{longest_text}
-use Rattle.vms_spec.specs.Lookup.{number_at}
-use Rattle.vms_spec.specs.Units.{Description, Mark}
-use Rattle.vms_stream.specs.Dues.{AfterEnd}
-use Rattle.vms_stream.specs.Table.{first_row, alone}
-use Rattle.vms_stream.specs.Finding.{needs, text_at, trailer_at}
-use Rattle.vms_stream.specs.Seen.{Seen, Bad, seen, seen_in, seen_by}
-use Rattle.vms_stream.specs.Taking.{nothing_known}
-use Rattle.vms_stream.proofs.Calls.Judged.{not_between}
-use Rattle.vms_frames.specs.declared.fault.FrameFault.{FrameFault}
-use Rattle.vms_frames.specs.declared.fault.FrameFault.TheVariants.{Refused, ReadFault}
-use Rattle.vms_frames.specs.Calls.{AnswersEnd, ReadsEnd, Fails}
-use Rattle.vms_frames.specs.Reads.{IsLong, ReadsText, ReadsTrailer}
+use Rattle.vms_spec.specs.Units.{Mark}
 use Rattle.vms_frames.proofs.UnitLemmas.{seen_whole}
 use Rattle.vms_frames.proofs.HeadLemmas.{text_seen}
-use Rattle.vms_marks.specs.declared.description.TheConstants.{LONGEST_DESCRIPTION}
 
 -- a description, after its mark
 pub description_there : (more : List ℕ) → text_seen AfterEnd nothing_known 0x06 longest_text Description (0x06 ∷ more) ≡ seen AfterEnd nothing_known (0x06 ∷ more)
@@ -36,16 +21,6 @@ unfolding trailer_at
 other_there b more other =
     ap (λ (t : Bool). seen_in AfterEnd nothing_known (if t then text_at 0x06 longest_text Description (b ∷ more) (number_at 4 1 (b ∷ more)) else needs 1 (b ∷ more) (Mark b))) (ne_eqb b 0x06 other)
     ∙ seen_whole AfterEnd nothing_known 1 (b ∷ more) (Mark b) (omega arith) ∙ ap (λ (o : Option (Option ℕ × Reason)). seen_by o (Mark b) 1) (trailing_row b)
-
--- nothing is left
-pub trailer_none : {a b : Intake} (at : ℕ) → Takes a b [] → ((more : List ℕ) → MayFollow Last b.left more → more ≡ []) → ReadsTrailer a b at (Ok 0)
-trailer_none at p end = record {
-  bytes = [];
-  takes = p;
-  long = omega arith;
-  says = λ more f. subst (λ (l : List ℕ). AnswersEnd l (seen AfterEnd nothing_known l) at (at + 0) (Some l) (Ok tt)) (sym (end more f)) (omega arith, refl);
-  cause = tt;
-}
 
 -- the read of its first byte failed
 pub trailer_broken : {a b : Intake} (at : ℕ) → Breaks a b 1 → ReadsTrailer a b at (Err ReadFault)
