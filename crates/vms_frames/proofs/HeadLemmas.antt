@@ -12,17 +12,18 @@ use Rattle.vms_frames.proofs.UnitLemmas.{byte_of_unit, number_of_unit, bytes_of_
 
 -- a byte that came stays where it is
 pub kept_byte : (i : ℕ) (unit more : List ℕ) → take (length unit) more ≡ unit → i < length unit → get_or more i 0 ≡ get_or unit i 0
-kept_byte i unit more kept h = sym (get_or-take (length unit) more i 0 h) ∙ ap (λ (l : List ℕ). get_or l i 0) kept
+kept_byte i unit more kept h = sym (get_or-take (length unit) more i 0 h) ∙ ap (λ l. get_or l i 0) kept
 
 -- ---- heads of sections
 
 pub head_begins : (unit rest : List ℕ) → length unit + length rest < 6 → head_seen (unit ++ rest) ≡ Short
-head_begins unit rest few = cut_short (IsBetween true false) nothing_known (14 + get_or (unit ++ rest) 5 0) (unit ++ rest) _ (omega (arith, few, length-append unit rest))
+head_begins unit rest few =
+    cut_short (IsBetween true false) nothing_known (14 + get_or (unit ++ rest) 5 0) (unit ++ rest) _ (omega (arith, length-append unit rest))
 
 pub head_cut : (unit rest : List ℕ) → 6 ≤ length unit → length unit + length rest < 14 + get_or unit 5 0 → head_seen (unit ++ rest) ≡ Short
 head_cut unit rest some few =
-    let n : get_or (unit ++ rest) 5 0 ≡ get_or unit 5 0 = byte_of_unit 5 unit rest (omega (arith, some)) in
-    cut_short (IsBetween true false) nothing_known (14 + get_or (unit ++ rest) 5 0) (unit ++ rest) _ (omega (arith, few, n, length-append unit rest))
+    let n : get_or (unit ++ rest) 5 0 ≡ get_or unit 5 0 = byte_of_unit 5 unit rest (omega arith) in
+    cut_short (IsBetween true false) nothing_known (14 + get_or (unit ++ rest) 5 0) (unit ++ rest) _ (omega (arith, length-append unit rest))
 
 head_with : ℕ → List ℕ → Head
 head_with n bytes = record {
@@ -47,25 +48,28 @@ head_long unit long =
     let n = get_or unit 5 0 in
     rw (length-take-le n (drop 6 unit) (omega (arith, length-drop 6 unit))) long
 
-pub head_whole : (unit rest : List ℕ) → length unit ≡ 14 + get_or unit 5 0 → head_seen (unit ++ rest) ≡ Good (unit_of_step (Section (head_in unit))) (step_long (Section (head_in unit)))
+pub head_whole : (unit rest : List ℕ) → length unit ≡ 14 + get_or unit 5 0
+    → head_seen (unit ++ rest) ≡ Good (unit_of_step (Section (head_in unit))) (step_long (Section (head_in unit)))
 unfolding head_with
 head_whole unit rest long =
     let all = unit ++ rest in
     let good : ℕ → Head → Seen = λ k h. Good (unit_of_step (Section h)) (14 + k) in
     let n : get_or all 5 0 ≡ get_or unit 5 0 = byte_of_unit 5 unit rest (omega arith) in
-    seen_whole (IsBetween true false) nothing_known (14 + get_or all 5 0) all (unit_of_step (Section (head_with (get_or all 5 0) all))) (omega (arith, n, long, length-append unit rest))
+    seen_whole (IsBetween true false) nothing_known (14 + get_or all 5 0) all (unit_of_step (Section (head_with (get_or all 5 0) all)))
+    (omega (arith, length-append unit rest))
     ∙ ap (λ k. good k (head_with k all)) n ∙ ap (good (get_or unit 5 0)) (head_same (get_or unit 5 0) unit rest (omega arith))
     ∙ ap (Good (unit_of_step (Section (head_in unit)))) (sym long ∙ head_long unit long)
 
 -- ---- heads of subsections
 
 pub sub_begins : (unit rest : List ℕ) → length unit + length rest < 2 → sub_seen (unit ++ rest) ≡ Short
-sub_begins unit rest few = cut_short (AfterFields 0 tails.Unknown) nothing_known (6 + get_or (unit ++ rest) 1 0) (unit ++ rest) _ (omega (arith, few, length-append unit rest))
+sub_begins unit rest few =
+    cut_short (AfterFields 0 tails.Unknown) nothing_known (6 + get_or (unit ++ rest) 1 0) (unit ++ rest) _ (omega (arith, length-append unit rest))
 
 pub sub_cut : (unit rest : List ℕ) → 2 ≤ length unit → length unit + length rest < 6 + get_or unit 1 0 → sub_seen (unit ++ rest) ≡ Short
 sub_cut unit rest some few =
-    let n : get_or (unit ++ rest) 1 0 ≡ get_or unit 1 0 = byte_of_unit 1 unit rest (omega (arith, some)) in
-    cut_short (AfterFields 0 tails.Unknown) nothing_known (6 + get_or (unit ++ rest) 1 0) (unit ++ rest) _ (omega (arith, few, n, length-append unit rest))
+    let n : get_or (unit ++ rest) 1 0 ≡ get_or unit 1 0 = byte_of_unit 1 unit rest (omega arith) in
+    cut_short (AfterFields 0 tails.Unknown) nothing_known (6 + get_or (unit ++ rest) 1 0) (unit ++ rest) _ (omega (arith, length-append unit rest))
 
 pub sub_whole_long : (unit : List ℕ) → length unit ≡ 6 + get_or unit 1 0 → length unit ≡ 6 + length (sub_head_in unit).name.items
 sub_whole_long unit long =
@@ -78,14 +82,15 @@ sub_whole unit rest long =
     let all = unit ++ rest in
     let k = get_or unit 1 0 in
     let n : get_or all 1 0 ≡ k = byte_of_unit 1 unit rest (omega arith) in
-    seen_whole (AfterFields 0 tails.Unknown) nothing_known (6 + get_or all 1 0) all (ASub (bytes_at (get_or all 1 0) 2 all) (number_at 4 (2 + get_or all 1 0) all)) (omega (arith, n, long, length-append unit rest))
+    seen_whole (AfterFields 0 tails.Unknown) nothing_known (6 + get_or all 1 0) all
+    (ASub (bytes_at (get_or all 1 0) 2 all) (number_at 4 (2 + get_or all 1 0) all)) (omega (arith, length-append unit rest))
     ∙ rw (n, bytes_of_unit k 2 unit rest (omega arith), number_of_unit 4 (2 + k) unit rest (omega arith), ← sub_whole_long unit long, long)
 
 -- ---- footers
 
 module _ (id : ℕ) where
   pub foot_cut : (unit rest : List ℕ) → length unit + length rest < 5 → foot_seen id (unit ++ rest) ≡ Short
-  foot_cut unit rest few = cut_short (AfterFields 0 tails.Unknown) (in_section id) 5 (unit ++ rest) _ (omega (arith, few, length-append unit rest))
+  foot_cut unit rest few = cut_short (AfterFields 0 tails.Unknown) (in_section id) 5 (unit ++ rest) _ (omega (arith, length-append unit rest))
 
   foot_by : ℕ → Bool → Seen
   foot_by n same = seen_by (if not same then Some (None, reasons.BadFooter) else None) (Foot n) 5
@@ -93,13 +98,13 @@ module _ (id : ℕ) where
   foot_came : (unit rest : List ℕ) → length unit ≡ 5 → foot_seen id (unit ++ rest) ≡ foot_by (number_at 4 1 unit) (number_at 4 1 unit == id)
   unfolding foot_by
   foot_came unit rest long =
-      seen_whole (AfterFields 0 tails.Unknown) (in_section id) 5 (unit ++ rest) (Foot (number_at 4 1 (unit ++ rest))) (omega (arith, long, length-append unit rest))
-      ∙ ap (λ (n : ℕ). foot_by n (n == id)) (number_of_unit 4 1 unit rest (omega (arith, long)))
+      seen_whole (AfterFields 0 tails.Unknown) (in_section id) 5 (unit ++ rest) (Foot (number_at 4 1 (unit ++ rest))) (omega (arith, length-append unit rest))
+      ∙ ap (λ n. foot_by n (n == id)) (number_of_unit 4 1 unit rest (omega arith))
 
   pub foot_whole : (unit rest : List ℕ) → length unit ≡ 5 → number_at 4 1 unit ≡ id → foot_seen id (unit ++ rest) ≡ Good (Foot id) 5
   unfolding foot_by
   foot_whole unit rest long same =
-      foot_came unit rest long ∙ ap (foot_by (number_at 4 1 unit)) (eq-eqb (number_at 4 1 unit) id same) ∙ ap (λ (n : ℕ). Good (Foot n) 5) same
+      foot_came unit rest long ∙ ap (foot_by (number_at 4 1 unit)) (eq-eqb (number_at 4 1 unit) id same) ∙ ap (λ n. Good (Foot n) 5) same
 
   pub foot_wrong : (unit rest : List ℕ) → length unit ≡ 5 → (number_at 4 1 unit ≡ id → ⊥) → foot_seen id (unit ++ rest) ≡ Bad 5 reasons.BadFooter
   unfolding foot_by
@@ -108,17 +113,21 @@ module _ (id : ℕ) where
 -- ---- sections that are sent in parts
 
 pub start_begins : (unit rest : List ℕ) → length unit + length rest < 6 → start_seen (unit ++ rest) ≡ Short
-start_begins unit rest few = cut_short (IsBetween true false) nothing_known (6 + get_or (unit ++ rest) 5 0) (unit ++ rest) _ (omega (arith, few, length-append unit rest))
+start_begins unit rest few =
+    cut_short (IsBetween true false) nothing_known (6 + get_or (unit ++ rest) 5 0) (unit ++ rest) _ (omega (arith, length-append unit rest))
 
 pub start_cut : (unit rest : List ℕ) → 6 ≤ length unit → length unit + length rest < 6 + get_or unit 5 0 → start_seen (unit ++ rest) ≡ Short
 start_cut unit rest some few =
-    let n : get_or (unit ++ rest) 5 0 ≡ get_or unit 5 0 = byte_of_unit 5 unit rest (omega (arith, some)) in
-    cut_short (IsBetween true false) nothing_known (6 + get_or (unit ++ rest) 5 0) (unit ++ rest) _ (omega (arith, few, n, length-append unit rest))
+    let n : get_or (unit ++ rest) 5 0 ≡ get_or unit 5 0 = byte_of_unit 5 unit rest (omega arith) in
+    cut_short (IsBetween true false) nothing_known (6 + get_or (unit ++ rest) 5 0) (unit ++ rest) _ (omega (arith, length-append unit rest))
 
-start_by : (id : ℕ) (name : List ℕ) (n : ℕ) → seen_by (first_row (alone (IsBetween true false) nothing_known (Start id name))) (Start id name) n ≡ Bad n (start_reason name)
+start_by : (id : ℕ) (name : List ℕ) (n : ℕ)
+    → seen_by (first_row (alone (IsBetween true false) nothing_known (Start id name))) (Start id name) n ≡ Bad n (start_reason name)
 start_by id name n = by (is_ram name)
   where
-    by : (ram : Bool) → seen_by (if ram then Some (None, reasons.Ram) else if not ram || false then Some (None, reasons.Iterative) else None) (Start id name) n ≡ Bad n (if ram then reasons.Ram else reasons.Iterative)
+    by : (ram : Bool)
+        → seen_by (if ram then Some (None, reasons.Ram) else if not ram || false then Some (None, reasons.Iterative) else None) (Start id name) n ≡ Bad n
+        (if ram then reasons.Ram else reasons.Iterative)
     by true = refl
     by false = refl
 
@@ -126,12 +135,13 @@ pub start_whole : (unit rest : List ℕ) → length unit ≡ 6 + get_or unit 5 0
 start_whole unit rest long =
     let all = unit ++ rest in
     let k = get_or unit 5 0 in
-    let n : get_or all 5 0 ≡ k = byte_of_unit 5 unit rest (omega (arith, long)) in
-    let name : bytes_at k 6 unit ≡ drop 6 unit = take_all k (drop 6 unit) (omega (arith, long, length-drop 6 unit)) in
+    let n : get_or all 5 0 ≡ k = byte_of_unit 5 unit rest (omega arith) in
+    let name : bytes_at k 6 unit ≡ drop 6 unit = take_all k (drop 6 unit) (omega (arith, length-drop 6 unit)) in
     let bad : ℕ → List ℕ → Seen = λ i l. Bad (6 + i) (start_reason l) in
-    seen_whole (IsBetween true false) nothing_known (6 + get_or all 5 0) all (Start (number_at 4 1 all) (bytes_at (get_or all 5 0) 6 all)) (omega (arith, n, long, length-append unit rest))
+    seen_whole (IsBetween true false) nothing_known (6 + get_or all 5 0) all (Start (number_at 4 1 all) (bytes_at (get_or all 5 0) 6 all))
+    (omega (arith, length-append unit rest))
     ∙ start_by (number_at 4 1 all) (bytes_at (get_or all 5 0) 6 all) (6 + get_or all 5 0)
-    ∙ ap (λ (i : ℕ). bad i (bytes_at i 6 all)) n ∙ ap (bad k) (bytes_of_unit k 6 unit rest (omega (arith, long)) ∙ name)
+    ∙ ap (λ i. bad i (bytes_at i 6 all)) n ∙ ap (bad k) (bytes_of_unit k 6 unit rest (omega arith) ∙ name)
 
 -- ---- configurations and descriptions: a mark, a length, and that many bytes
 
@@ -145,34 +155,38 @@ module _ (d : Due) (k : Known) (mark longest : ℕ) (piece : List ℕ → Piece)
   few_bytes : (all : List ℕ) (n : ℕ) (b : Bool) → length all < 5 → text_by all n b ≡ Short
   unfolding text_by
   few_bytes all n true few = cut_short d k 5 all (Long mark n) few
-  few_bytes all n false few = cut_short d k (5 + n) all (piece (bytes_at n 5 all)) (omega (arith, few))
+  few_bytes all n false few = cut_short d k (5 + n) all (piece (bytes_at n 5 all)) (omega arith)
 
   pub text_begins : (unit rest : List ℕ) → length unit + length rest < 5 → text_seen (unit ++ rest) ≡ Short
   unfolding text_by
   text_begins unit rest few =
       let n = number_at 4 1 (unit ++ rest) in
-      few_bytes (unit ++ rest) n (nat_lt longest n) (omega (arith, few, length-append unit rest))
+      few_bytes (unit ++ rest) n (nat_lt longest n) (omega (arith, length-append unit rest))
 
-  text_came : (unit rest : List ℕ) → 5 ≤ length unit → text_seen (unit ++ rest) ≡ text_by (unit ++ rest) (number_at 4 1 unit) (nat_lt longest (number_at 4 1 unit))
+  text_came : (unit rest : List ℕ) → 5 ≤ length unit
+      → text_seen (unit ++ rest) ≡ text_by (unit ++ rest) (number_at 4 1 unit) (nat_lt longest (number_at 4 1 unit))
   unfolding text_by
-  text_came unit rest some = ap (λ (n : ℕ). text_by (unit ++ rest) n (nat_lt longest n)) (number_of_unit 4 1 unit rest (omega (arith, some)))
+  text_came unit rest some = rw (number_of_unit 4 1 unit rest (omega (arith, some)))
 
-  pub text_cut : (unit rest : List ℕ) → 5 ≤ length unit → number_at 4 1 unit ≤ longest → length unit + length rest < 5 + number_at 4 1 unit → text_seen (unit ++ rest) ≡ Short
+  pub text_cut : (unit rest : List ℕ) → 5 ≤ length unit → number_at 4 1 unit ≤ longest → length unit + length rest < 5 + number_at 4 1 unit
+      → text_seen (unit ++ rest) ≡ Short
   unfolding text_by
   text_cut unit rest some low few =
       text_came unit rest some ∙ ap (text_by (unit ++ rest) (number_at 4 1 unit)) (le-ltb longest (number_at 4 1 unit) low)
-      ∙ cut_short d k (5 + number_at 4 1 unit) (unit ++ rest) _ (omega (arith, few, length-append unit rest))
+      ∙ cut_short d k (5 + number_at 4 1 unit) (unit ++ rest) _ (omega (arith, length-append unit rest))
 
   -- an invalid length
-  pub text_above : (unit rest : List ℕ) → length unit ≡ 5 → longest < number_at 4 1 unit → text_seen (unit ++ rest) ≡ seen_by (first_row (alone d k (Long mark (number_at 4 1 unit)))) (Long mark (number_at 4 1 unit)) 5
+  pub text_above : (unit rest : List ℕ) → length unit ≡ 5 → longest < number_at 4 1 unit
+      → text_seen (unit ++ rest) ≡ seen_by (first_row (alone d k (Long mark (number_at 4 1 unit)))) (Long mark (number_at 4 1 unit)) 5
   unfolding text_by
   text_above unit rest long high =
-      text_came unit rest (omega (arith, long)) ∙ ap (text_by (unit ++ rest) (number_at 4 1 unit)) (lt-ltb longest (number_at 4 1 unit) high)
-      ∙ seen_whole d k 5 (unit ++ rest) (Long mark (number_at 4 1 unit)) (omega (arith, long, length-append unit rest))
+      text_came unit rest (omega arith) ∙ ap (text_by (unit ++ rest) (number_at 4 1 unit)) (lt-ltb longest (number_at 4 1 unit) high)
+      ∙ seen_whole d k 5 (unit ++ rest) (Long mark (number_at 4 1 unit)) (omega (arith, length-append unit rest))
 
   pub text_whole : (unit rest : List ℕ) → 5 ≤ length unit → number_at 4 1 unit ≤ longest → 5 + number_at 4 1 unit ≤ length unit + length rest
-      → text_seen (unit ++ rest) ≡ seen_by (first_row (alone d k (piece (bytes_at (number_at 4 1 unit) 5 (unit ++ rest))))) (piece (bytes_at (number_at 4 1 unit) 5 (unit ++ rest))) (5 + number_at 4 1 unit)
+      → text_seen (unit ++ rest) ≡ seen_by (first_row (alone d k (piece (bytes_at (number_at 4 1 unit) 5 (unit ++ rest)))))
+      (piece (bytes_at (number_at 4 1 unit) 5 (unit ++ rest))) (5 + number_at 4 1 unit)
   unfolding text_by
   text_whole unit rest some low le =
       text_came unit rest some ∙ ap (text_by (unit ++ rest) (number_at 4 1 unit)) (le-ltb longest (number_at 4 1 unit) low)
-      ∙ seen_whole d k (5 + number_at 4 1 unit) (unit ++ rest) _ (omega (arith, le, length-append unit rest))
+      ∙ seen_whole d k (5 + number_at 4 1 unit) (unit ++ rest) _ (omega (arith, length-append unit rest))

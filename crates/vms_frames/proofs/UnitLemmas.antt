@@ -17,7 +17,8 @@ module _ {X : Type 0} (piece : List ℕ → X → Piece) (long : X → ℕ) (fou
       (refl, rw (is left, drop_at unit left n e) (refl, refl))
 
   -- a part of a unit is missing
-  pub short : (unit bytes left : List ℕ) (reason : Reason) → reason ≡ reasons.Truncated → found (unit ++ bytes) ≡ Short → left ≡ [] → Fails (found (unit ++ (bytes ++ left))) (unit ++ (bytes ++ left)) (Some left) reason
+  pub short : (unit bytes left : List ℕ) (reason : Reason) → reason ≡ reasons.Truncated → found (unit ++ bytes) ≡ Short → left ≡ []
+      → Fails (found (unit ++ (bytes ++ left))) (unit ++ (bytes ++ left)) (Some left) reason
   short unit bytes left reason r is none =
       rw (none, append-nil bytes, is) (r, refl)
 
@@ -51,5 +52,6 @@ bytes_of_unit n i unit rest h =
 pub cut_short : (d : Due) (k : Known) (n : ℕ) (rest : List ℕ) (x : Piece) → length rest < n → seen_in d k (needs n rest x) ≡ Short
 cut_short d k n rest x h = rw (lt-ltb (length rest) n h)
 
-pub seen_whole : (d : Due) (k : Known) (n : ℕ) (rest : List ℕ) (x : Piece) → n ≤ length rest → seen_in d k (needs n rest x) ≡ seen_by (first_row (alone d k x)) x n
+pub seen_whole : (d : Due) (k : Known) (n : ℕ) (rest : List ℕ) (x : Piece) → n ≤ length rest
+    → seen_in d k (needs n rest x) ≡ seen_by (first_row (alone d k x)) x n
 seen_whole d k n rest x h = rw (le-ltb (length rest) n h)

@@ -20,19 +20,20 @@ returns-in_err-grow-2 g c =
     rw (p.1, p.2) (record {
       reads =
           unit_on (a_step configuration_seen) c.args.at (Err c.in_err-grow-2.field-0.0) one
-          (unit_short (a_step configuration_seen) unit c.args.at c.in_err-grow-2.field-0.0 (omega (arith, c.requires, one.long, low)) c.in_err-grow-2.ensures.cut
-          (λ rest lt. text_cut (IsBetween true false) nothing_known 0x07 LONGEST_NAME AUnit unit rest (omega (arith, c.requires, one.long)) (omega (arith, same, low)) (omega (arith, lt, same, c.requires, one.long))));
+          (unit_short (a_step configuration_seen) unit c.args.at c.in_err-grow-2.field-0.0 (omega arith) c.in_err-grow-2.ensures.cut
+          (λ rest lt. text_cut (IsBetween true false) nothing_known 0x07 LONGEST_NAME AUnit unit rest (omega arith) (omega arith) (omega arith)));
     })
 
 pub returns-then-length-gt-LONGEST_NAME : goal.returns-then-length-gt-LONGEST_NAME
 returns-then-length-gt-LONGEST_NAME g c =
     let one = c.in_ok-grow.ensures.grown in
     let unit = c.grow.new.unit.items in
-    let long : length unit ≡ 5 = omega (arith, c.requires, one.long) in
+    let long : length unit ≡ 5 = omega arith in
     let high : LONGEST_NAME < number_at 4 1 unit = search rules in
     record {
       reads = unit_on (a_step configuration_seen) c.args.at (Err c.refused.result) one
-          (unit_refused (a_step configuration_seen) unit c.args.at 5 reasons.WrongMachine c.refused.result c.refused.ensures (g.met.S.Source.counted c.grow.new.source) long (omega arith)
+          (unit_refused (a_step configuration_seen) unit c.args.at 5 reasons.WrongMachine c.refused.result c.refused.ensures
+          (g.met.S.Source.counted c.grow.new.source) long (omega arith)
           (λ rest. text_above (IsBetween true false) nothing_known 0x07 LONGEST_NAME AUnit unit rest long high));
     }
 
@@ -45,17 +46,17 @@ returns g c =
     let name = c.of.result.machine in
     let same : n ≡ number_at 4 1 unit = search rules in
     let low : n ≤ LONGEST_NAME = search rules in
-    let long : length unit ≡ 5 + n = omega (arith, c.requires, one.long, two.long) in
-    let named : name.items ≡ bytes_at (number_at 4 1 unit) 5 unit = ap (λ (x : AConfiguration). x.machine.items) (c.of.ensures ∙ ap configuration_in c.deref-2.ensures.0) in
-    let few : length name.items ≡ n = ap length named ∙ length-take-le (number_at 4 1 unit) (drop 5 unit) (omega (arith, long, same, length-drop 5 unit)) ∙ sym same in
+    let long : length unit ≡ 5 + n = omega arith in
+    let named : name.items ≡ bytes_at (number_at 4 1 unit) 5 unit = rw (c.of.ensures ∙ ap configuration_in c.deref-2.ensures.0) in
+    let few : length name.items ≡ n = ap length named ∙ length-take-le (number_at 4 1 unit) (drop 5 unit) (omega (arith, length-drop 5 unit)) ∙ sym same in
     record {
       reads = unit_on (a_step configuration_seen) c.args.at (Ok (Configuration name)) one
           (unit_on (a_step configuration_seen) c.args.at (Ok (Configuration name)) two
-          (unit_whole (a_step configuration_seen) unit c.args.at (Configuration name) (g.met.S.Source.counted c.grow-2.new.source) (omega (arith, long, few))
+          (unit_whole (a_step configuration_seen) unit c.args.at (Configuration name) (g.met.S.Source.counted c.grow-2.new.source) (omega arith)
           (λ rest.
-          text_whole (IsBetween true false) nothing_known 0x07 LONGEST_NAME AUnit unit rest (omega (arith, long)) (omega (arith, same, low)) (omega (arith, long, same))
-          ∙ ap (λ (l : List ℕ). Good (AUnit l) (5 + number_at 4 1 unit)) (bytes_of_unit (number_at 4 1 unit) 5 unit rest (omega (arith, long, same)) ∙ sym named)
-          ∙ ap (λ (k : ℕ). Good (AUnit name.items) (5 + k)) (sym same ∙ sym few))));
+          text_whole (IsBetween true false) nothing_known 0x07 LONGEST_NAME AUnit unit rest (omega arith) (omega arith) (omega arith)
+          ∙ ap (λ l. Good (AUnit l) (5 + number_at 4 1 unit)) (bytes_of_unit (number_at 4 1 unit) 5 unit rest (omega arith) ∙ sym named)
+          ∙ ap (λ k. Good (AUnit name.items) (5 + k)) (sym same ∙ sym few))));
     }
 
 pub returns-in_err-grow : goal.returns-in_err-grow
@@ -63,6 +64,6 @@ returns-in_err-grow g c =
     let p = err_from_is_err_and c.from_residual.result c.from_residual.ensures.1 in
     rw (p.1, p.2) (record {
       reads =
-          unit_short (a_step configuration_seen) c.args.unit.items c.args.at c.in_err-grow.field-0.0 (omega (arith, c.requires)) c.in_err-grow.ensures.cut
-          (λ rest lt. text_begins (IsBetween true false) nothing_known 0x07 LONGEST_NAME AUnit c.args.unit.items rest (omega (arith, lt, c.requires)));
+          unit_short (a_step configuration_seen) c.args.unit.items c.args.at c.in_err-grow.field-0.0 (omega arith) c.in_err-grow.ensures.cut
+          (λ rest lt. text_begins (IsBetween true false) nothing_known 0x07 LONGEST_NAME AUnit c.args.unit.items rest (omega arith));
     })
