@@ -1,38 +1,29 @@
 -- The heads of sections and of subsections, of configurations and of descriptions, and footers, by the bytes that came.
-use Rattle.std.proofs.Common.{◌≡◌, ℕ, ◌+◌, ◌<◌, ◌≤◌, ◌==◌, ◌||◌, not, List, ◌++◌, length, get_or, take, drop, Bool, true, false, if◌then◌else◌, nat_lt, Some, None, refl, sym, ap, ◌∙◌, arith, length-append, length-drop, take_all}
-use Rattle.std.proofs.lemmas.Bool.{le-ltb, lt-ltb, eq-eqb, ne_eqb}
-use Rattle.std.proofs.lemmas.List.{get_or-take, length-take-le}
-use Rattle.arrayvec.specs.ArrayVec.{ArrayVec}
+use Rattle.vms_frames.proofs.Facade.{◌≡◌, ℕ, ◌+◌, ◌<◌, ◌≤◌, ◌==◌, ◌||◌, not, List, ◌++◌, length, get_or, take, drop, Bool, true, false, if◌then◌else◌, nat_lt}
+use Rattle.vms_frames.proofs.Facade.{Some, None, refl, sym, ap, ◌∙◌, arith, length-append, length-drop, take_all, le-ltb, lt-ltb, eq-eqb, ne_eqb, get_or-take}
+use Rattle.vms_frames.proofs.Facade.{length-take-le, number_at, bytes_at, Piece, Long, Start, Foot, Head, head_in, sub_head_in, Known, Due, AfterFields}
+use Rattle.vms_frames.proofs.Facade.{first_row, alone, is_ram, needs, text_at, Seen, Good, Bad, Short, seen_in, seen_by, nothing_known, Section, step_long}
+use Rattle.vms_frames.proofs.Facade.{unit_of_step, in_section, head_seen, start_seen, start_reason, sub_seen, foot_seen}
 use Rattle.vms_spec.specs.declared.Reason.TheVariants as reasons
-use Rattle.vms_spec.specs.Lookup.{number_at, bytes_at}
-use Rattle.vms_spec.specs.Units.{Piece, Long, SubHead as ASub, Start, Foot}
-use Rattle.vms_marks.specs.declared.head.Head.{Head}
-use Rattle.vms_marks.specs.Heads.{head_in, sub_head_in}
-use Rattle.vms_stream.specs.SoFar.{Known}
+use Rattle.vms_spec.specs.Units.{SubHead as ASub}
 use Rattle.vms_stream.specs.SoFar as tails
-use Rattle.vms_stream.specs.Dues.{Due, AfterFields, Between as IsBetween}
-use Rattle.vms_stream.specs.Table.{first_row, alone, is_ram}
-use Rattle.vms_stream.specs.Finding.{needs, text_at}
-use Rattle.vms_stream.specs.Seen.{Seen, Good, Bad, Short, seen_in, seen_by}
-use Rattle.vms_stream.specs.Taking.{nothing_known}
-use Rattle.vms_frames.specs.declared.units.Step.TheVariants.{Section}
-use Rattle.vms_frames.specs.Calls.{step_long, unit_of_step, in_section}
-use Rattle.vms_frames.specs.Reads.{head_seen, start_seen, start_reason, sub_seen, foot_seen}
+use Rattle.vms_stream.specs.Dues.{Between as IsBetween}
 use Rattle.vms_frames.proofs.UnitLemmas.{byte_of_unit, number_of_unit, bytes_of_unit, cut_short, seen_whole}
 
 -- a byte that came stays where it is
 pub kept_byte : (i : ℕ) (unit more : List ℕ) → take (length unit) more ≡ unit → i < length unit → get_or more i 0 ≡ get_or unit i 0
-kept_byte i unit more kept h = sym (get_or-take (length unit) more i 0 h) ∙ ap (λ (l : List ℕ). get_or l i 0) kept
+kept_byte i unit more kept h = sym (get_or-take (length unit) more i 0 h) ∙ ap (λ l. get_or l i 0) kept
 
 -- ---- heads of sections
 
 pub head_begins : (unit rest : List ℕ) → length unit + length rest < 6 → head_seen (unit ++ rest) ≡ Short
-head_begins unit rest few = cut_short (IsBetween true false) nothing_known (14 + get_or (unit ++ rest) 5 0) (unit ++ rest) _ (omega (arith, few, length-append unit rest))
+head_begins unit rest few =
+    cut_short (IsBetween true false) nothing_known (14 + get_or (unit ++ rest) 5 0) (unit ++ rest) _ (omega (arith, length-append unit rest))
 
 pub head_cut : (unit rest : List ℕ) → 6 ≤ length unit → length unit + length rest < 14 + get_or unit 5 0 → head_seen (unit ++ rest) ≡ Short
 head_cut unit rest some few =
-    let n : get_or (unit ++ rest) 5 0 ≡ get_or unit 5 0 = byte_of_unit 5 unit rest (omega (arith, some)) in
-    cut_short (IsBetween true false) nothing_known (14 + get_or (unit ++ rest) 5 0) (unit ++ rest) _ (omega (arith, few, n, length-append unit rest))
+    let n : get_or (unit ++ rest) 5 0 ≡ get_or unit 5 0 = byte_of_unit 5 unit rest (omega arith) in
+    cut_short (IsBetween true false) nothing_known (14 + get_or (unit ++ rest) 5 0) (unit ++ rest) _ (omega (arith, length-append unit rest))
 
 head_with : ℕ → List ℕ → Head
 head_with n bytes = record {
@@ -45,51 +36,45 @@ head_with n bytes = record {
 head_same : (n : ℕ) (unit rest : List ℕ) → 14 + n ≤ length unit → head_with n (unit ++ rest) ≡ head_with n unit
 unfolding head_with
 head_same n unit rest long =
-    let name : List ℕ → ArrayVec ℕ = λ items. record { items = items } in
-    let a : number_at 4 1 (unit ++ rest) ≡ number_at 4 1 unit = number_of_unit 4 1 unit rest (omega arith) in
-    let b : bytes_at n 6 (unit ++ rest) ≡ bytes_at n 6 unit = bytes_of_unit n 6 unit rest (omega arith) in
-    let c : number_at 4 (6 + n) (unit ++ rest) ≡ number_at 4 (6 + n) unit = number_of_unit 4 (6 + n) unit rest (omega arith) in
-    let d : number_at 4 (10 + n) (unit ++ rest) ≡ number_at 4 (10 + n) unit = number_of_unit 4 (10 + n) unit rest (omega arith) in
-    let head : ℕ → List ℕ → ℕ → ℕ → Head = λ id items instance version. record { id = id; name = name items; instance = instance; version = version } in
-    ap (λ (x : ℕ). head x (bytes_at n 6 (unit ++ rest)) (number_at 4 (6 + n) (unit ++ rest)) (number_at 4 (10 + n) (unit ++ rest))) a
-    ∙ ap (λ (x : List ℕ). head (number_at 4 1 unit) x (number_at 4 (6 + n) (unit ++ rest)) (number_at 4 (10 + n) (unit ++ rest))) b
-    ∙ ap (λ (x : ℕ). head (number_at 4 1 unit) (bytes_at n 6 unit) x (number_at 4 (10 + n) (unit ++ rest))) c
-    ∙ ap (λ (x : ℕ). head (number_at 4 1 unit) (bytes_at n 6 unit) (number_at 4 (6 + n) unit) x) d
+    rw (
+      number_of_unit 4 1 unit rest (omega arith),
+      bytes_of_unit n 6 unit rest (omega arith),
+      number_of_unit 4 (6 + n) unit rest (omega arith),
+      number_of_unit 4 (10 + n) unit rest (omega arith),
+    )
 
 pub head_long : (unit : List ℕ) → length unit ≡ 14 + get_or unit 5 0 → length unit ≡ step_long (Section (head_in unit))
 head_long unit long =
     let n = get_or unit 5 0 in
-    let d : length (drop 6 unit) ≡ 8 + n = length-drop 6 unit ∙ omega arith in
-    let e : length (bytes_at n 6 unit) ≡ n = length-take-le n (drop 6 unit) (omega arith) in
-    long ∙ ap (λ (k : ℕ). 14 + k) (sym e)
+    rw (length-take-le n (drop 6 unit) (omega (arith, length-drop 6 unit))) long
 
-pub head_whole : (unit rest : List ℕ) → length unit ≡ 14 + get_or unit 5 0 → head_seen (unit ++ rest) ≡ Good (unit_of_step (Section (head_in unit))) (step_long (Section (head_in unit)))
+pub head_whole : (unit rest : List ℕ) → length unit ≡ 14 + get_or unit 5 0
+    → head_seen (unit ++ rest) ≡ Good (unit_of_step (Section (head_in unit))) (step_long (Section (head_in unit)))
 unfolding head_with
 head_whole unit rest long =
     let all = unit ++ rest in
-    let n : get_or all 5 0 ≡ get_or unit 5 0 = byte_of_unit 5 unit rest (omega arith) in
     let good : ℕ → Head → Seen = λ k h. Good (unit_of_step (Section h)) (14 + k) in
-    seen_whole (IsBetween true false) nothing_known (14 + get_or all 5 0) all (unit_of_step (Section (head_with (get_or all 5 0) all))) (omega (arith, n, long, length-append unit rest))
-    ∙ ap (λ (k : ℕ). good k (head_with k all)) n
-    ∙ ap (good (get_or unit 5 0)) (head_same (get_or unit 5 0) unit rest (omega arith))
-    ∙ ap (λ (k : ℕ). Good (unit_of_step (Section (head_in unit))) k) (sym long ∙ head_long unit long)
+    let n : get_or all 5 0 ≡ get_or unit 5 0 = byte_of_unit 5 unit rest (omega arith) in
+    seen_whole (IsBetween true false) nothing_known (14 + get_or all 5 0) all (unit_of_step (Section (head_with (get_or all 5 0) all)))
+    (omega (arith, length-append unit rest))
+    ∙ ap (λ k. good k (head_with k all)) n ∙ ap (good (get_or unit 5 0)) (head_same (get_or unit 5 0) unit rest (omega arith))
+    ∙ ap (Good (unit_of_step (Section (head_in unit)))) (sym long ∙ head_long unit long)
 
 -- ---- heads of subsections
 
 pub sub_begins : (unit rest : List ℕ) → length unit + length rest < 2 → sub_seen (unit ++ rest) ≡ Short
-sub_begins unit rest few = cut_short (AfterFields 0 tails.Unknown) nothing_known (6 + get_or (unit ++ rest) 1 0) (unit ++ rest) _ (omega (arith, few, length-append unit rest))
+sub_begins unit rest few =
+    cut_short (AfterFields 0 tails.Unknown) nothing_known (6 + get_or (unit ++ rest) 1 0) (unit ++ rest) _ (omega (arith, length-append unit rest))
 
 pub sub_cut : (unit rest : List ℕ) → 2 ≤ length unit → length unit + length rest < 6 + get_or unit 1 0 → sub_seen (unit ++ rest) ≡ Short
 sub_cut unit rest some few =
-    let n : get_or (unit ++ rest) 1 0 ≡ get_or unit 1 0 = byte_of_unit 1 unit rest (omega (arith, some)) in
-    cut_short (AfterFields 0 tails.Unknown) nothing_known (6 + get_or (unit ++ rest) 1 0) (unit ++ rest) _ (omega (arith, few, n, length-append unit rest))
+    let n : get_or (unit ++ rest) 1 0 ≡ get_or unit 1 0 = byte_of_unit 1 unit rest (omega arith) in
+    cut_short (AfterFields 0 tails.Unknown) nothing_known (6 + get_or (unit ++ rest) 1 0) (unit ++ rest) _ (omega (arith, length-append unit rest))
 
 pub sub_whole_long : (unit : List ℕ) → length unit ≡ 6 + get_or unit 1 0 → length unit ≡ 6 + length (sub_head_in unit).name.items
 sub_whole_long unit long =
     let n = get_or unit 1 0 in
-    let d : length (drop 2 unit) ≡ 4 + n = length-drop 2 unit ∙ omega arith in
-    let e : length (bytes_at n 2 unit) ≡ n = length-take-le n (drop 2 unit) (omega arith) in
-    long ∙ ap (λ (k : ℕ). 6 + k) (sym e)
+    rw (length-take-le n (drop 2 unit) (omega (arith, length-drop 2 unit))) long
 
 pub sub_whole : (unit rest : List ℕ) → length unit ≡ 6 + get_or unit 1 0
     → sub_seen (unit ++ rest) ≡ Good (ASub (sub_head_in unit).name.items (sub_head_in unit).version) (6 + length (sub_head_in unit).name.items)
@@ -97,18 +82,15 @@ sub_whole unit rest long =
     let all = unit ++ rest in
     let k = get_or unit 1 0 in
     let n : get_or all 1 0 ≡ k = byte_of_unit 1 unit rest (omega arith) in
-    let good : ℕ → List ℕ → ℕ → Seen = λ k name v. Good (ASub name v) (6 + k) in
-    seen_whole (AfterFields 0 tails.Unknown) nothing_known (6 + get_or all 1 0) all (ASub (bytes_at (get_or all 1 0) 2 all) (number_at 4 (2 + get_or all 1 0) all)) (omega (arith, n, long, length-append unit rest))
-    ∙ ap (λ (i : ℕ). good i (bytes_at i 2 all) (number_at 4 (2 + i) all)) n
-    ∙ ap (λ (l : List ℕ). good k l (number_at 4 (2 + k) all)) (bytes_of_unit k 2 unit rest (omega arith))
-    ∙ ap (λ (v : ℕ). good k (bytes_at k 2 unit) v) (number_of_unit 4 (2 + k) unit rest (omega arith))
-    ∙ ap (λ (i : ℕ). Good (ASub (bytes_at k 2 unit) (number_at 4 (2 + k) unit)) i) (sym long ∙ sub_whole_long unit long)
+    seen_whole (AfterFields 0 tails.Unknown) nothing_known (6 + get_or all 1 0) all
+    (ASub (bytes_at (get_or all 1 0) 2 all) (number_at 4 (2 + get_or all 1 0) all)) (omega (arith, length-append unit rest))
+    ∙ rw (n, bytes_of_unit k 2 unit rest (omega arith), number_of_unit 4 (2 + k) unit rest (omega arith), ← sub_whole_long unit long, long)
 
 -- ---- footers
 
 module _ (id : ℕ) where
   pub foot_cut : (unit rest : List ℕ) → length unit + length rest < 5 → foot_seen id (unit ++ rest) ≡ Short
-  foot_cut unit rest few = cut_short (AfterFields 0 tails.Unknown) (in_section id) 5 (unit ++ rest) _ (omega (arith, few, length-append unit rest))
+  foot_cut unit rest few = cut_short (AfterFields 0 tails.Unknown) (in_section id) 5 (unit ++ rest) _ (omega (arith, length-append unit rest))
 
   foot_by : ℕ → Bool → Seen
   foot_by n same = seen_by (if not same then Some (None, reasons.BadFooter) else None) (Foot n) 5
@@ -116,13 +98,13 @@ module _ (id : ℕ) where
   foot_came : (unit rest : List ℕ) → length unit ≡ 5 → foot_seen id (unit ++ rest) ≡ foot_by (number_at 4 1 unit) (number_at 4 1 unit == id)
   unfolding foot_by
   foot_came unit rest long =
-      seen_whole (AfterFields 0 tails.Unknown) (in_section id) 5 (unit ++ rest) (Foot (number_at 4 1 (unit ++ rest))) (omega (arith, long, length-append unit rest))
-      ∙ ap (λ (n : ℕ). foot_by n (n == id)) (number_of_unit 4 1 unit rest (omega (arith, long)))
+      seen_whole (AfterFields 0 tails.Unknown) (in_section id) 5 (unit ++ rest) (Foot (number_at 4 1 (unit ++ rest))) (omega (arith, length-append unit rest))
+      ∙ ap (λ n. foot_by n (n == id)) (number_of_unit 4 1 unit rest (omega arith))
 
   pub foot_whole : (unit rest : List ℕ) → length unit ≡ 5 → number_at 4 1 unit ≡ id → foot_seen id (unit ++ rest) ≡ Good (Foot id) 5
   unfolding foot_by
   foot_whole unit rest long same =
-      foot_came unit rest long ∙ ap (foot_by (number_at 4 1 unit)) (eq-eqb (number_at 4 1 unit) id same) ∙ ap (λ (n : ℕ). Good (Foot n) 5) same
+      foot_came unit rest long ∙ ap (foot_by (number_at 4 1 unit)) (eq-eqb (number_at 4 1 unit) id same) ∙ ap (λ n. Good (Foot n) 5) same
 
   pub foot_wrong : (unit rest : List ℕ) → length unit ≡ 5 → (number_at 4 1 unit ≡ id → ⊥) → foot_seen id (unit ++ rest) ≡ Bad 5 reasons.BadFooter
   unfolding foot_by
@@ -131,17 +113,21 @@ module _ (id : ℕ) where
 -- ---- sections that are sent in parts
 
 pub start_begins : (unit rest : List ℕ) → length unit + length rest < 6 → start_seen (unit ++ rest) ≡ Short
-start_begins unit rest few = cut_short (IsBetween true false) nothing_known (6 + get_or (unit ++ rest) 5 0) (unit ++ rest) _ (omega (arith, few, length-append unit rest))
+start_begins unit rest few =
+    cut_short (IsBetween true false) nothing_known (6 + get_or (unit ++ rest) 5 0) (unit ++ rest) _ (omega (arith, length-append unit rest))
 
 pub start_cut : (unit rest : List ℕ) → 6 ≤ length unit → length unit + length rest < 6 + get_or unit 5 0 → start_seen (unit ++ rest) ≡ Short
 start_cut unit rest some few =
-    let n : get_or (unit ++ rest) 5 0 ≡ get_or unit 5 0 = byte_of_unit 5 unit rest (omega (arith, some)) in
-    cut_short (IsBetween true false) nothing_known (6 + get_or (unit ++ rest) 5 0) (unit ++ rest) _ (omega (arith, few, n, length-append unit rest))
+    let n : get_or (unit ++ rest) 5 0 ≡ get_or unit 5 0 = byte_of_unit 5 unit rest (omega arith) in
+    cut_short (IsBetween true false) nothing_known (6 + get_or (unit ++ rest) 5 0) (unit ++ rest) _ (omega (arith, length-append unit rest))
 
-start_by : (id : ℕ) (name : List ℕ) (n : ℕ) → seen_by (first_row (alone (IsBetween true false) nothing_known (Start id name))) (Start id name) n ≡ Bad n (start_reason name)
+start_by : (id : ℕ) (name : List ℕ) (n : ℕ)
+    → seen_by (first_row (alone (IsBetween true false) nothing_known (Start id name))) (Start id name) n ≡ Bad n (start_reason name)
 start_by id name n = by (is_ram name)
   where
-    by : (ram : Bool) → seen_by (if ram then Some (None, reasons.Ram) else if not ram || false then Some (None, reasons.Iterative) else None) (Start id name) n ≡ Bad n (if ram then reasons.Ram else reasons.Iterative)
+    by : (ram : Bool)
+        → seen_by (if ram then Some (None, reasons.Ram) else if not ram || false then Some (None, reasons.Iterative) else None) (Start id name) n ≡ Bad n
+        (if ram then reasons.Ram else reasons.Iterative)
     by true = refl
     by false = refl
 
@@ -149,12 +135,13 @@ pub start_whole : (unit rest : List ℕ) → length unit ≡ 6 + get_or unit 5 0
 start_whole unit rest long =
     let all = unit ++ rest in
     let k = get_or unit 5 0 in
-    let n : get_or all 5 0 ≡ k = byte_of_unit 5 unit rest (omega (arith, long)) in
-    let name : bytes_at k 6 unit ≡ drop 6 unit = take_all k (drop 6 unit) (omega (arith, long, length-drop 6 unit)) in
+    let n : get_or all 5 0 ≡ k = byte_of_unit 5 unit rest (omega arith) in
+    let name : bytes_at k 6 unit ≡ drop 6 unit = take_all k (drop 6 unit) (omega (arith, length-drop 6 unit)) in
     let bad : ℕ → List ℕ → Seen = λ i l. Bad (6 + i) (start_reason l) in
-    seen_whole (IsBetween true false) nothing_known (6 + get_or all 5 0) all (Start (number_at 4 1 all) (bytes_at (get_or all 5 0) 6 all)) (omega (arith, n, long, length-append unit rest))
+    seen_whole (IsBetween true false) nothing_known (6 + get_or all 5 0) all (Start (number_at 4 1 all) (bytes_at (get_or all 5 0) 6 all))
+    (omega (arith, length-append unit rest))
     ∙ start_by (number_at 4 1 all) (bytes_at (get_or all 5 0) 6 all) (6 + get_or all 5 0)
-    ∙ ap (λ (i : ℕ). bad i (bytes_at i 6 all)) n ∙ ap (bad k) (bytes_of_unit k 6 unit rest (omega (arith, long)) ∙ name)
+    ∙ ap (λ i. bad i (bytes_at i 6 all)) n ∙ ap (bad k) (bytes_of_unit k 6 unit rest (omega arith) ∙ name)
 
 -- ---- configurations and descriptions: a mark, a length, and that many bytes
 
@@ -168,34 +155,38 @@ module _ (d : Due) (k : Known) (mark longest : ℕ) (piece : List ℕ → Piece)
   few_bytes : (all : List ℕ) (n : ℕ) (b : Bool) → length all < 5 → text_by all n b ≡ Short
   unfolding text_by
   few_bytes all n true few = cut_short d k 5 all (Long mark n) few
-  few_bytes all n false few = cut_short d k (5 + n) all (piece (bytes_at n 5 all)) (omega (arith, few))
+  few_bytes all n false few = cut_short d k (5 + n) all (piece (bytes_at n 5 all)) (omega arith)
 
   pub text_begins : (unit rest : List ℕ) → length unit + length rest < 5 → text_seen (unit ++ rest) ≡ Short
   unfolding text_by
   text_begins unit rest few =
       let n = number_at 4 1 (unit ++ rest) in
-      few_bytes (unit ++ rest) n (nat_lt longest n) (omega (arith, few, length-append unit rest))
+      few_bytes (unit ++ rest) n (nat_lt longest n) (omega (arith, length-append unit rest))
 
-  text_came : (unit rest : List ℕ) → 5 ≤ length unit → text_seen (unit ++ rest) ≡ text_by (unit ++ rest) (number_at 4 1 unit) (nat_lt longest (number_at 4 1 unit))
+  text_came : (unit rest : List ℕ) → 5 ≤ length unit
+      → text_seen (unit ++ rest) ≡ text_by (unit ++ rest) (number_at 4 1 unit) (nat_lt longest (number_at 4 1 unit))
   unfolding text_by
-  text_came unit rest some = ap (λ (n : ℕ). text_by (unit ++ rest) n (nat_lt longest n)) (number_of_unit 4 1 unit rest (omega (arith, some)))
+  text_came unit rest some = rw (number_of_unit 4 1 unit rest (omega (arith, some)))
 
-  pub text_cut : (unit rest : List ℕ) → 5 ≤ length unit → number_at 4 1 unit ≤ longest → length unit + length rest < 5 + number_at 4 1 unit → text_seen (unit ++ rest) ≡ Short
+  pub text_cut : (unit rest : List ℕ) → 5 ≤ length unit → number_at 4 1 unit ≤ longest → length unit + length rest < 5 + number_at 4 1 unit
+      → text_seen (unit ++ rest) ≡ Short
   unfolding text_by
   text_cut unit rest some low few =
       text_came unit rest some ∙ ap (text_by (unit ++ rest) (number_at 4 1 unit)) (le-ltb longest (number_at 4 1 unit) low)
-      ∙ cut_short d k (5 + number_at 4 1 unit) (unit ++ rest) _ (omega (arith, few, length-append unit rest))
+      ∙ cut_short d k (5 + number_at 4 1 unit) (unit ++ rest) _ (omega (arith, length-append unit rest))
 
   -- an invalid length
-  pub text_above : (unit rest : List ℕ) → length unit ≡ 5 → longest < number_at 4 1 unit → text_seen (unit ++ rest) ≡ seen_by (first_row (alone d k (Long mark (number_at 4 1 unit)))) (Long mark (number_at 4 1 unit)) 5
+  pub text_above : (unit rest : List ℕ) → length unit ≡ 5 → longest < number_at 4 1 unit
+      → text_seen (unit ++ rest) ≡ seen_by (first_row (alone d k (Long mark (number_at 4 1 unit)))) (Long mark (number_at 4 1 unit)) 5
   unfolding text_by
   text_above unit rest long high =
-      text_came unit rest (omega (arith, long)) ∙ ap (text_by (unit ++ rest) (number_at 4 1 unit)) (lt-ltb longest (number_at 4 1 unit) high)
-      ∙ seen_whole d k 5 (unit ++ rest) (Long mark (number_at 4 1 unit)) (omega (arith, long, length-append unit rest))
+      text_came unit rest (omega arith) ∙ ap (text_by (unit ++ rest) (number_at 4 1 unit)) (lt-ltb longest (number_at 4 1 unit) high)
+      ∙ seen_whole d k 5 (unit ++ rest) (Long mark (number_at 4 1 unit)) (omega (arith, length-append unit rest))
 
   pub text_whole : (unit rest : List ℕ) → 5 ≤ length unit → number_at 4 1 unit ≤ longest → 5 + number_at 4 1 unit ≤ length unit + length rest
-      → text_seen (unit ++ rest) ≡ seen_by (first_row (alone d k (piece (bytes_at (number_at 4 1 unit) 5 (unit ++ rest))))) (piece (bytes_at (number_at 4 1 unit) 5 (unit ++ rest))) (5 + number_at 4 1 unit)
+      → text_seen (unit ++ rest) ≡ seen_by (first_row (alone d k (piece (bytes_at (number_at 4 1 unit) 5 (unit ++ rest)))))
+      (piece (bytes_at (number_at 4 1 unit) 5 (unit ++ rest))) (5 + number_at 4 1 unit)
   unfolding text_by
   text_whole unit rest some low le =
       text_came unit rest some ∙ ap (text_by (unit ++ rest) (number_at 4 1 unit)) (le-ltb longest (number_at 4 1 unit) low)
-      ∙ seen_whole d k (5 + number_at 4 1 unit) (unit ++ rest) _ (omega (arith, le, length-append unit rest))
+      ∙ seen_whole d k (5 + number_at 4 1 unit) (unit ++ rest) _ (omega (arith, length-append unit rest))

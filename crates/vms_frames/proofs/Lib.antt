@@ -1,8 +1,9 @@
-pub mod NumberLemmas
-pub mod UnitLemmas
+pub mod Facade
 pub mod HeadLemmas
+pub mod NumberLemmas
+pub mod ReadsCalls
+pub mod ReadsFirst
 pub mod ReadsParts
 pub mod ReadsUnits
-pub mod ReadsFirst
-pub mod ReadsCalls
 pub mod Trailers
+pub mod UnitLemmas

@@ -1,30 +1,16 @@
 -- What ends a stream: nothing, or a description section.
-use Rattle.std.proofs.Common.{◌≡◌, ℕ, ◌+◌, ◌-◌, List, [], ◌∷◌, ◌++◌, Option, Some, None, Ok, Err, Result, refl, sym, ap, subst, ◌∙◌, arith, Bool, ◌==◌, ◌||◌, if◌then◌else◌}
-use Rattle.std.proofs.lemmas.Bool.{ne_eqb}
-use Rattle.vms_io.specs.Told.{Intake}
-use Rattle.vms_io.specs.Reading.{Takes, Breaks, Last, MayFollow}
-use Rattle.vms_io.proofs.ReadingLemmas.{reads_behind, reads_last}
-use Rattle.vms_spec.specs.declared.Reason.{Reason}
+use Rattle.vms_frames.proofs.Facade.{◌≡◌, ℕ, ◌+◌, ◌-◌, List, [], ◌∷◌, ◌++◌, Option, Some, None, Ok, Err, Result, refl, sym, ap, subst, ◌∙◌, arith, Bool, ◌==◌}
+use Rattle.vms_frames.proofs.Facade.{◌||◌, if◌then◌else◌, ne_eqb, Intake, Takes, Breaks, reads_behind, reads_last, Reason, longest_text, number_at, Description}
+use Rattle.vms_frames.proofs.Facade.{AfterEnd, first_row, alone, needs, text_at, trailer_at, Seen, Bad, seen, seen_in, seen_by, nothing_known, not_between}
+use Rattle.vms_frames.proofs.Facade.{FrameFault, Refused, ReadFault, AnswersEnd, ReadsEnd, Fails, IsLong, ReadsText, ReadsTrailer, LONGEST_DESCRIPTION}
 use Rattle.vms_spec.specs.declared.Reason.TheVariants as reasons
-use Rattle.vms_spec.specs.Streams.{longest_text}
-use Rattle.vms_spec.specs.Lookup.{number_at}
-use Rattle.vms_spec.specs.Units.{Description, Mark}
-use Rattle.vms_stream.specs.Dues.{AfterEnd}
-use Rattle.vms_stream.specs.Table.{first_row, alone}
-use Rattle.vms_stream.specs.Finding.{needs, text_at, trailer_at}
-use Rattle.vms_stream.specs.Seen.{Seen, Bad, seen, seen_in, seen_by}
-use Rattle.vms_stream.specs.Taking.{nothing_known}
-use Rattle.vms_stream.proofs.Calls.Judged.{not_between}
-use Rattle.vms_frames.specs.declared.fault.FrameFault.{FrameFault}
-use Rattle.vms_frames.specs.declared.fault.FrameFault.TheVariants.{Refused, ReadFault}
-use Rattle.vms_frames.specs.Calls.{AnswersEnd, ReadsEnd, Fails}
-use Rattle.vms_frames.specs.Reads.{IsLong, ReadsText, ReadsTrailer}
+use Rattle.vms_spec.specs.Units.{Mark}
 use Rattle.vms_frames.proofs.UnitLemmas.{seen_whole}
 use Rattle.vms_frames.proofs.HeadLemmas.{text_seen}
-use Rattle.vms_marks.specs.declared.description.TheConstants.{LONGEST_DESCRIPTION}
 
 -- a description, after its mark
-pub description_there : (more : List ℕ) → text_seen AfterEnd nothing_known 0x06 longest_text Description (0x06 ∷ more) ≡ seen AfterEnd nothing_known (0x06 ∷ more)
+pub description_there : (more : List ℕ)
+    → text_seen AfterEnd nothing_known 0x06 longest_text Description (0x06 ∷ more) ≡ seen AfterEnd nothing_known (0x06 ∷ more)
 unfolding trailer_at
 description_there more = refl
 
@@ -34,44 +20,36 @@ trailing_row b = not_between (Some (None, reasons.Trailing)) (b == 0x02 || b == 
 other_there : (b : ℕ) (more : List ℕ) → (b ≡ 0x06 → ⊥) → seen AfterEnd nothing_known (b ∷ more) ≡ Bad 1 reasons.Trailing
 unfolding trailer_at
 other_there b more other =
-    ap (λ (t : Bool). seen_in AfterEnd nothing_known (if t then text_at 0x06 longest_text Description (b ∷ more) (number_at 4 1 (b ∷ more)) else needs 1 (b ∷ more) (Mark b))) (ne_eqb b 0x06 other)
-    ∙ seen_whole AfterEnd nothing_known 1 (b ∷ more) (Mark b) (omega arith) ∙ ap (λ (o : Option (Option ℕ × Reason)). seen_by o (Mark b) 1) (trailing_row b)
-
--- nothing is left
-pub trailer_none : {a b : Intake} (at : ℕ) → Takes a b [] → ((more : List ℕ) → MayFollow Last b.left more → more ≡ []) → ReadsTrailer a b at (Ok 0)
-trailer_none at p end = record {
-  bytes = [];
-  takes = p;
-  long = omega arith;
-  says = λ more f. subst (λ (l : List ℕ). AnswersEnd l (seen AfterEnd nothing_known l) at (at + 0) (Some l) (Ok tt)) (sym (end more f)) (omega arith, refl);
-  cause = tt;
-}
+    rw (ne_eqb b 0x06 other)
+    (seen_whole AfterEnd nothing_known 1 (b ∷ more) (Mark b) (omega arith) ∙ ap (λ (o : Option (Option ℕ × Reason)). seen_by o (Mark b) 1)
+    (trailing_row b))
 
 -- the read of its first byte failed
 pub trailer_broken : {a b : Intake} (at : ℕ) → Breaks a b 1 → ReadsTrailer a b at (Err ReadFault)
-trailer_broken at p = record { bytes = p.bytes; takes = p.takes; long = omega (arith, p.few); says = λ more f. unsaid (p.bytes ++ more) (Some more); cause = p.rose }
+trailer_broken at p = record { bytes = p.bytes; takes = p.takes; long = omega arith; says = λ more f. unsaid (p.bytes ++ more) (Some more); cause = p.rose }
   where
     unsaid : (rest : List ℕ) (left : Option (List ℕ)) → AnswersEnd rest (seen AfterEnd nothing_known rest) at at left (Err ReadFault)
-    unsaid [] left = tt
-    unsaid (b ∷ more) left = tt
+    unsaid _ left = tt
 
 -- another byte came
-pub trailer_other : {a b : Intake} (at c : ℕ) (fault : FrameFault) → Takes a b (c ∷ []) → (c ≡ 0x06 → ⊥) → fault ≡ Refused at reasons.Trailing → ReadsTrailer a b at (Err fault)
+pub trailer_other : {a b : Intake} (at c : ℕ) (fault : FrameFault) → Takes a b (c ∷ []) → (c ≡ 0x06 → ⊥) → fault ≡ Refused at reasons.Trailing
+    → ReadsTrailer a b at (Err fault)
 trailer_other {a} {b} at c fault p other same =
-    subst (λ (x : FrameFault). ReadsTrailer a b at (Err x)) (sym same)
-    (record {
+    rw same (record {
       bytes = c ∷ [];
       takes = p;
       long = omega arith;
-      says = λ more f. (refl, subst (λ (s : Seen). Fails s (c ∷ more) (Some more) reasons.Trailing) (sym (other_there c more other)) (refl, refl));
+      says = λ more f. (refl, rw (other_there c more other) (refl, refl));
       cause = tt;
     })
 
 -- the mark of a description came
 pub trailer_on : {a b c : Intake} (at : ℕ) (r : Result ℕ FrameFault) → Takes a b (0x06 ∷ []) → ReadsText b c (0x06 ∷ []) at r → ReadsTrailer a c at r
 trailer_on at (Ok n) p h =
-    let w = reads_behind {M = IsLong {X = Unit {0}} (λ _. (at + n) - at) LONGEST_DESCRIPTION (Ok tt)} {Q = λ rest left. ReadsEnd at (at + n) (Some rest) (Some left) (Ok tt)} (λ k l. omega (arith, l))
-    (λ rest left q. subst (λ (s : Seen). AnswersEnd (0x06 ∷ rest) s at (at + n) (Some left) (Ok tt)) (sym q.0) (refl, q.1)) p h in
+    let w =
+    reads_behind {M = IsLong {X = Unit {0}} (λ _. (at + n) - at) LONGEST_DESCRIPTION (Ok tt)} {Q = λ rest left. ReadsEnd at (at + n) (Some rest)
+    (Some left) (Ok tt)} (λ k l. omega arith)
+    (λ rest left q. rw q.0 (refl, q.1)) p h in
     reads_last w
 trailer_on at (Err (Refused place reason)) p h = reads_behind (λ k l. l) (λ rest left q. q) p h
 trailer_on at (Err ReadFault) p h = reads_behind (λ k l. l) (λ rest left q. tt) p h

@@ -1,23 +1,10 @@
 -- A walk over parts: what is done at each of them is done at the whole.
-use Rattle.std.proofs.Common.{◌≡◌, ℕ, suc, ◌+◌, ◌*◌, ◌<◌, ◌≤◌, List, [], ◌∷◌, ◌++◌, length, get_or, take, ℤ, refl, sym, ap, ◌∙◌, subst, arith, append_assoc, append-nil, pos, Option, Bool, true}
-use Rattle.std.proofs.lemmas.List.{take_all}
-use Rattle.vms_kinds.specs.declared.Item.{Item}
-use Rattle.vms_spec.specs.declared.TheConstants.{MOST_ITEMS}
-use Rattle.vms_spec.specs.Sets.{Field, Set}
-use Rattle.vms_spec.specs.Layout.{Slot, Rule, item_slots, slots_from, field_slots, all_hold, capacity_of, counted}
-use Rattle.vms_spec.specs.Places.{own_cell_count}
-use Rattle.vms_spec.specs.Good.{IsGood}
-use Rattle.vms_bodies.proofs.Places.{SameBelow}
-use Rattle.vms_bodies.proofs.AboveLaws.{IsAbove, item_above, field_above, meanings_above}
-use Rattle.vms_parts.specs.Capacities.{least_of}
-use Rattle.vms_desc.specs.Asks.{field_at}
-use Rattle.vms_desc.specs.Formed.{is_well_formed}
-use Rattle.vms_desc.specs.Parts.{HasPart, desc_at}
-use Rattle.vms_walk.specs.declared.step.WalkStep.{WalkStep}
+use Rattle.vms_walk.proofs.Facade.{◌≡◌, ℕ, suc, ◌+◌, ◌*◌, ◌<◌, ◌≤◌, List, [], ◌∷◌, ◌++◌, length, get_or, take, ℤ, refl, sym, ap, ◌∙◌, arith, append_assoc}
+use Rattle.vms_walk.proofs.Facade.{append-nil, pos, Option, Bool, true, take_all, Item, Field, Set, Slot, Rule, item_slots, slots_from, field_slots, all_hold}
+use Rattle.vms_walk.proofs.Facade.{capacity_of, counted, IsGood, SameBelow, IsAbove, item_above, field_above, meanings_above, least_of, field_at}
+use Rattle.vms_walk.proofs.Facade.{is_well_formed, HasPart, desc_at, WalkStep, PartAt, Keeps, steps_of, table, spot_numbers, spot_slots, slots_at, size_in}
+use Rattle.vms_walk.proofs.Facade.{capacities_of, elements_slots, present_of, cell_of, HasSpot, MayCome}
 use Rattle.vms_walk.specs.declared.step.WalkStep.TheVariants as steps
-use Rattle.vms_walk.specs.declared.fields.PartAt.{PartAt}
-use Rattle.vms_walk.specs.Inside.{Keeps}
-use Rattle.vms_walk.specs.Steps.{steps_of, table, spot_numbers, spot_slots, slots_at, size_in, capacities_of, elements_slots, present_of, cell_of, HasSpot, MayCome}
 use Rattle.vms_walk.proofs.Walking.{steps_append, part_left, times_more, times_split, fields_split, fields_more}
 use Rattle.vms_walk.proofs.Spots.{field_needs}
 use Rattle.vms_walk.proofs.Local.{keeps_below, keeps_first, items_local, fields_local, present_local, part_sound, set_settled}
@@ -51,143 +38,139 @@ module _ (set : Set) (spot : PartAt) where
 
 -- ---- what is done at each
 
-module _ {S F : Type 0} (N : S → List ℤ) (goes : List WalkStep → S → S → Type 0) (stops : List WalkStep → S → F → S → Type 0) (may : S → WalkStep → Type 0) (laws : Laws N goes stops) where
+module _ {S F : Type 0} {N : S → List ℤ} {goes : List WalkStep → S → S → Type 0} {stops : List WalkStep → S → F → S → Type 0} (laws : Laws N goes stops) where
   go_on : (xs ys whole : List Slot) (a b c : S) → whole ≡ xs ++ ys → goes (steps_of xs) a b → goes (steps_of ys) b c → goes (steps_of whole) a c
-  go_on xs ys whole a b c e h k = subst (λ (l : List WalkStep). goes l a c) (sym (ap steps_of e ∙ steps_append xs ys)) (laws.more (steps_of xs) (steps_of ys) a b c h k)
+  go_on xs ys whole a b c e h k = rw (e, steps_append xs ys) (laws.more (steps_of xs) (steps_of ys) a b c h k)
 
   stop_at : (xs ys rest whole : List Slot) (a b c : S) (f : F) → whole ≡ xs ++ (ys ++ rest) → goes (steps_of xs) a b → stops (steps_of ys) b f c → stops (steps_of whole) a f c
   stop_at xs ys rest whole a b c f e h k =
-      let parts = ap steps_of e ∙ steps_append xs (ys ++ rest) ∙ ap (λ (l : List WalkStep). steps_of xs ++ l) (steps_append ys rest) in
-      subst (λ (l : List WalkStep). stops l a f c) (sym parts) (laws.after (steps_of xs) (steps_of ys ++ steps_of rest) a b c f h (laws.before (steps_of ys) (steps_of rest) b c f k))
+      rw (e, steps_append xs (ys ++ rest), steps_append ys rest)
+      (laws.after (steps_of xs) (steps_of ys ++ steps_of rest) a b c f h (laws.before (steps_of ys) (steps_of rest) b c f k))
 
-  module _ (set : Set) (good : IsGood set) where
-    -- ---- elements
+-- ---- elements
 
-    module _ (item : Item) (most : Option ℕ) (first i cell : ℕ) (here : cell ≡ first + i * size_in set item) (a b : S) (way : goes (steps_of (elements_slots set item most (N b) i first)) a b) where
-      above : (n : List ℤ) → IsAbove cell (element set item most n cell)
-      above n = item_above (table set) (meanings_above set.structs (length set.structs)) item (capacities_of most) n cell
+-- the first `i` elements are done, from `a` to `b`, and the next one's cells begin at `cell`
+pub record Walked {S : Type 0} (N : S → List ℤ) (goes : List WalkStep → S → S → Type 0) (set : Set) (item : Item) (most : Option ℕ) (first i cell : ℕ) (a b : S) : Type 0 where
+  pub good : IsGood set
+  pub here : cell ≡ first + i * size_in set item
+  pub way : goes (steps_of (elements_slots set item most (N b) i first)) a b
 
-      done_same : (n : List ℤ) → SameBelow cell (N b) n → elements_slots set item most n i first ≡ elements_slots set item most (N b) i first
-      done_same n s = items_local (table set) (set_settled set good) item (capacities_of most) i first (N b) n (subst (λ (x : ℕ). SameBelow x (N b) n) here s)
+module _ {S F : Type 0} {N : S → List ℤ} {goes : List WalkStep → S → S → Type 0} {stops : List WalkStep → S → F → S → Type 0} (laws : Laws N goes stops)
+    {set : Set} {item : Item} {most : Option ℕ} {first i cell : ℕ} {a b : S} (done : Walked N goes set item most first i cell a b) where
+  above : (n : List ℤ) → IsAbove cell (element set item most n cell)
+  above n = item_above (table set) (meanings_above set.structs (length set.structs)) item (capacities_of most) n cell
 
-      way_at : (n : List ℤ) → SameBelow cell (N b) n → goes (steps_of (elements_slots set item most n i first)) a b
-      way_at n s = subst (λ (l : List Slot). goes (steps_of l) a b) (sym (done_same n s)) way
+  way_at : (n : List ℤ) → SameBelow cell (N b) n → goes (steps_of (elements_slots set item most n i first)) a b
+  way_at n s = rw (items_local (table set) (set_settled set done.good) item (capacities_of most) i first (N b) n (rw done.here at s)) done.way
 
-      pub items_next : (c : S) → goes (steps_of (element set item most (N c) cell)) b c → goes (steps_of (elements_slots set item most (N c) (i + 1) first)) a c
-      items_next c h =
-          let s = keeps_below cell (element set item most (N c) cell) (N b) (N c) (above (N c)) (laws.keeps _ b c h) in
-          go_on (elements_slots set item most (N c) i first) (element set item most (N c) cell) (elements_slots set item most (N c) (i + 1) first) a b c
-          (times_more i (element set item most (N c)) first (size_in set item)
-          ∙ ap (λ (x : ℕ). elements_slots set item most (N c) i first ++ element set item most (N c) x) (sym here))
-          (way_at (N c) s) h
+  pub items_next : (c : S) → goes (steps_of (element set item most (N c) cell)) b c → goes (steps_of (elements_slots set item most (N c) (i + 1) first)) a c
+  items_next c h =
+      let s = keeps_below cell (element set item most (N c) cell) (N b) (N c) (above (N c)) (laws.keeps _ b c h) in
+      go_on laws (elements_slots set item most (N c) i first) (element set item most (N c) cell) (elements_slots set item most (N c) (i + 1) first) a b c
+      (rw done.here (times_more i (element set item most (N c)) first (size_in set item))) (way_at (N c) s) h
 
-      pub items_stop : (count : ℕ) → i < count → (c : S) (f : F) → stops (steps_of (element set item most (N c) cell)) b f c → stops (steps_of (elements_slots set item most (N c) count first)) a f c
-      items_stop count lt c f h =
-          let s = keeps_below cell (element set item most (N c) cell) (N b) (N c) (above (N c)) (laws.stopped _ b c f h) in
-          let parts = times_split count i (element set item most (N c)) first (size_in set item) lt in
-          stop_at (elements_slots set item most (N c) i first) (element set item most (N c) cell) parts.0 (elements_slots set item most (N c) count first) a b c f
-          (parts.1 ∙ ap (λ (x : ℕ). elements_slots set item most (N c) i first ++ (element set item most (N c) x ++ parts.0)) (sym here))
-          (way_at (N c) s) h
+  pub items_stop : (count : ℕ) → i < count → (c : S) (f : F) → stops (steps_of (element set item most (N c) cell)) b f c → stops (steps_of (elements_slots set item most (N c) count first)) a f c
+  items_stop count lt c f h =
+      let s = keeps_below cell (element set item most (N c) cell) (N b) (N c) (above (N c)) (laws.stopped _ b c f h) in
+      let parts = times_split count i (element set item most (N c)) first (size_in set item) lt in
+      stop_at laws (elements_slots set item most (N c) i first) (element set item most (N c) cell) parts.0 (elements_slots set item most (N c) count first) a b c f
+      (rw done.here parts.1) (way_at (N c) s) h
 
-      pub items_may : (count : ℕ) → i < count → MayCome goes N may (λ n. elements_slots set item most n count first) a → MayCome goes N may (λ n. element set item most n cell) b
-      items_may count lt all ys ws zs x d h e =
-          let s = keeps_first cell (element set item most (N d) cell) ys (ws ++ (x ∷ zs)) (N b) (N d) e (above (N d)) (laws.keeps ys b d h) in
-          let parts = times_split count i (element set item most (N d)) first (size_in set item) lt in
-          all (steps_of (elements_slots set item most (N d) i first) ++ ys) ws (zs ++ steps_of parts.0) x d (laws.more _ ys a b d (way_at (N d) s) h)
-          (part_left (elements_slots set item most (N d) i first) (element set item most (N d) cell) parts.0 (elements_slots set item most (N d) count first) ys ws zs x
-          (parts.1 ∙ ap (λ (k : ℕ). elements_slots set item most (N d) i first ++ (element set item most (N d) k ++ parts.0)) (sym here)) e)
+  pub items_may : (may : S → WalkStep → Type 0) (count : ℕ) → i < count → MayCome goes N may (λ n. elements_slots set item most n count first) a
+      → MayCome goes N may (λ n. element set item most n cell) b
+  items_may may count lt all ys ws zs x d h e =
+      let s = keeps_first cell (element set item most (N d) cell) ys (ws ++ (x ∷ zs)) (N b) (N d) e (above (N d)) (laws.keeps ys b d h) in
+      let parts = times_split count i (element set item most (N d)) first (size_in set item) lt in
+      all (steps_of (elements_slots set item most (N d) i first) ++ ys) ws (zs ++ steps_of parts.0) x d (laws.more _ ys a b d (way_at (N d) s) h)
+      (part_left (elements_slots set item most (N d) i first) (element set item most (N d) cell) parts.0 (elements_slots set item most (N d) count first) ys ws zs x
+      (rw done.here parts.1) e)
 
-    -- ---- fields
+-- ---- fields
 
-    module _ (spot : PartAt) (has : HasPart set spot.part) (i cell : ℕ) (here : cell ≡ cell_of set spot i) where
-      -- the slots of a field are those of its elements, whose number the numbers below it say
-      pub field_slots_are : (well : is_well_formed set ≡ true) (n m : List ℤ) → length m ≡ length n → HasSpot set spot n → (count : ℕ) (item : Item) (most : Option ℕ) → i < length (fields set spot)
-          → item ≡ (field_at set spot.part i).item → count ≡ present_of (field_at set spot.part i) spot.version (spot_numbers set spot n) → most ≡ least_of (counted i (fields set spot))
-          → cell + capacity_of (field_at set spot.part i).count * size_in set (field_at set spot.part i).item ≤ length n → SameBelow cell n m
-          → steps_of (slots_at set spot m i cell) ≡ steps_of (elements_slots set item most m count cell)
-      field_slots_are well n m long h count item most lt is there least room s =
-          let same = present_local (table set) (set_settled set good) (desc_at set spot.part) (part_sound set good spot.part has) spot.version spot.base i n m lt (subst (λ (x : ℕ). SameBelow x n m) here s) in
-          let few : HasSpot set spot m = record { part = has; few = subst (λ (x : ℕ). x ≤ MOST_ITEMS) (sym long) h.few; room = subst (λ (x : ℕ). spot.base + own_cell_count set (desc_at set spot.part) ≤ x) (sym long) h.room } in
-          (field_needs set well spot m few i cell count item most lt is (there ∙ sym same) least (subst (λ (x : ℕ). cell + capacity_of (field_at set spot.part i).count * size_in set (field_at set spot.part i).item ≤ x) (sym long) room)).steps
+-- the slots of a field are those of its elements, whose number the numbers below it say
+pub field_slots_are : (set : Set) (good : IsGood set) (well : is_well_formed set ≡ true) (spot : PartAt) (i cell : ℕ) (n m : List ℤ) → cell ≡ cell_of set spot i → length m ≡ length n → HasSpot set spot n
+    → (count : ℕ) (item : Item) (most : Option ℕ) → i < length (fields set spot) → item ≡ (field_at set spot.part i).item
+    → count ≡ present_of (field_at set spot.part i) spot.version (spot_numbers set spot n) → most ≡ least_of (counted i (fields set spot))
+    → cell + capacity_of (field_at set spot.part i).count * size_in set (field_at set spot.part i).item ≤ length n → SameBelow cell n m
+    → steps_of (slots_at set spot m i cell) ≡ steps_of (elements_slots set item most m count cell)
+field_slots_are set good well spot i cell n m here long h count item most lt is there least room s =
+    let same = present_local (table set) (set_settled set good) (desc_at set spot.part) (part_sound set good spot.part h.part) spot.version spot.base i n m lt (rw here at s) in
+    let few : HasSpot set spot m = record { part = h.part; few = rw long h.few; room = rw long h.room } in
+    (field_needs set well spot m few i cell count item most lt is (there ∙ sym same) least (rw long room)).steps
 
-      module _ (a b : S) (le : i ≤ length (fields set spot)) (way : goes (steps_of (firsts set spot i (N b))) a b) where
-        field_up : (n : List ℤ) → IsAbove cell (slots_at set spot n i cell)
-        field_up n = field_above (table set) (meanings_above set.structs (length set.structs)) (fields set spot) spot.version (spot_numbers set spot n) n i cell (field_at set spot.part i)
+-- the first `i` fields of a part are done, from `a` to `b`, and the next one's cells begin at `cell`
+pub record Past {S : Type 0} (N : S → List ℤ) (goes : List WalkStep → S → S → Type 0) (set : Set) (spot : PartAt) (i cell : ℕ) (a b : S) : Type 0 where
+  pub good : IsGood set
+  pub has : HasPart set spot.part
+  pub le : i ≤ length (fields set spot)
+  pub here : cell ≡ cell_of set spot i
+  pub way : goes (steps_of (firsts set spot i (N b))) a b
 
-        pub fields_way : (n : List ℤ) → SameBelow cell (N b) n → goes (steps_of (firsts set spot i n)) a b
-        fields_way n s =
-            subst (λ (l : List Slot). goes (steps_of l) a b)
-            (sym (fields_local (table set) (set_settled set good) (desc_at set spot.part) (part_sound set good spot.part has) spot.version spot.base i (N b) n le (subst (λ (x : ℕ). SameBelow x (N b) n) here s)))
-            way
+module _ {S F : Type 0} {N : S → List ℤ} {goes : List WalkStep → S → S → Type 0} {stops : List WalkStep → S → F → S → Type 0} (laws : Laws N goes stops)
+    {set : Set} {spot : PartAt} {i cell : ℕ} {a b : S} (past : Past N goes set spot i cell a b) where
+  field_up : (n : List ℤ) → IsAbove cell (slots_at set spot n i cell)
+  field_up n = field_above (table set) (meanings_above set.structs (length set.structs)) (fields set spot) spot.version (spot_numbers set spot n) n i cell (field_at set spot.part i)
 
-        below : (n : List ℤ) (xs : Keeps (steps_of (slots_at set spot n i cell)) (N b) n) → SameBelow cell (N b) n
-        below n k = keeps_below cell (slots_at set spot n i cell) (N b) n (field_up n) k
+  fields_way : (n : List ℤ) → SameBelow cell (N b) n → goes (steps_of (firsts set spot i n)) a b
+  fields_way n s =
+      rw (fields_local (table set) (set_settled set past.good) (desc_at set spot.part) (part_sound set past.good spot.part past.has) spot.version spot.base i (N b) n past.le (rw past.here at s))
+      past.way
 
-        pub fields_next : i < length (fields set spot) → (c : S) → goes (steps_of (slots_at set spot (N c) i cell)) b c
-            → goes (steps_of (firsts set spot (i + 1) (N c))) a c
-        fields_next lt c h =
-            let own = spot_numbers set spot (N c) in
-            let s = below (N c) (laws.keeps _ b c h) in
-            let past = firsts set spot i (N c) in
-            go_on past (slots_at set spot (N c) i cell) (firsts set spot (i + 1) (N c)) a b c
-            (fields_more (table set) (fields set spot) spot.version own (N c) (fields set spot) 0 spot.base i i (omega arith) lt
-            ∙ ap (λ (x : ℕ). past ++ field_slots (table set) (fields set spot) spot.version own (N c) i x (field_at set spot.part i)) (sym here)) (fields_way (N c) s) h
+  below : (n : List ℤ) (xs : Keeps (steps_of (slots_at set spot n i cell)) (N b) n) → SameBelow cell (N b) n
+  below n k = keeps_below cell (slots_at set spot n i cell) (N b) n (field_up n) k
 
-        -- the field among all slots of the part
-        whole_split : i < length (fields set spot) → (n : List ℤ) → (rest : List Slot)
-            × (spot_slots set spot n ≡ firsts set spot i n ++ (slots_at set spot n i cell ++ rest))
-        whole_split lt n =
-            let d = desc_at set spot.part in
-            let own = spot_numbers set spot n in
-            let past = firsts set spot i n in
-            let rule = Rule (all_hold d.validate spot.version own) ∷ [] in
-            let parts = fields_split (table set) d.fields spot.version own n d.fields 0 spot.base i i (omega arith) lt in
-            let at = λ (x : ℕ). field_slots (table set) d.fields spot.version own n i x (field_at set spot.part i) in (
-              parts.0 ++ rule,
-              ap (λ (l : List Slot). l ++ rule) (parts.1 ∙ ap (λ (x : ℕ). past ++ (at x ++ parts.0)) (sym here))
-                  ∙ append_assoc past (at cell ++ parts.0) rule ∙ ap (λ (l : List Slot). past ++ l) (append_assoc (at cell) parts.0 rule),
-            )
+  pub fields_next : i < length (fields set spot) → (c : S) → goes (steps_of (slots_at set spot (N c) i cell)) b c → goes (steps_of (firsts set spot (i + 1) (N c))) a c
+  fields_next lt c h =
+      let own = spot_numbers set spot (N c) in
+      go_on laws (firsts set spot i (N c)) (slots_at set spot (N c) i cell) (firsts set spot (i + 1) (N c)) a b c
+      (rw past.here (fields_more (table set) (fields set spot) spot.version own (N c) (fields set spot) 0 spot.base i i (omega arith) lt))
+      (fields_way (N c) (below (N c) (laws.keeps _ b c h))) h
 
-        pub fields_stop : i < length (fields set spot) → (c : S) (f : F) → stops (steps_of (slots_at set spot (N c) i cell)) b f c → stops (steps_of (spot_slots set spot (N c))) a f c
-        fields_stop lt c f h =
-            let s = below (N c) (laws.stopped _ b c f h) in
-            let parts = whole_split lt (N c) in
-            stop_at (firsts set spot i (N c)) (slots_at set spot (N c) i cell) parts.0 (spot_slots set spot (N c)) a b c f parts.1
-            (fields_way (N c) s) h
+  -- the field among all slots of the part
+  whole_split : i < length (fields set spot) → (n : List ℤ) → (rest : List Slot)
+      × (spot_slots set spot n ≡ firsts set spot i n ++ (slots_at set spot n i cell ++ rest))
+  whole_split lt n =
+      let d = desc_at set spot.part in
+      let own = spot_numbers set spot n in
+      let rule = Rule (all_hold d.validate spot.version own) ∷ [] in
+      let parts = fields_split (table set) d.fields spot.version own n d.fields 0 spot.base i i (omega arith) lt in
+      let at = λ (x : ℕ). field_slots (table set) d.fields spot.version own n i x (field_at set spot.part i) in (
+        parts.0 ++ rule,
+        ap (λ l. l ++ rule) (parts.1 ∙ ap (λ x. firsts set spot i n ++ (at x ++ parts.0)) (sym past.here)) ∙ rw (append_assoc (firsts set spot i n), append_assoc (at cell)),
+      )
 
-        pub fields_may : i < length (fields set spot) → MayCome goes N may (spot_slots set spot) a → MayCome goes N may (λ n. slots_at set spot n i cell) b
-        fields_may lt all ys ws zs x d h e =
-            let s = keeps_first cell (slots_at set spot (N d) i cell) ys (ws ++ (x ∷ zs)) (N b) (N d) e (field_up (N d)) (laws.keeps ys b d h) in
-            let parts = whole_split lt (N d) in
-            let past = firsts set spot i (N d) in
-            all (steps_of past ++ ys) ws (zs ++ steps_of parts.0) x d (laws.more _ ys a b d (fields_way (N d) s) h) (part_left past (slots_at set spot (N d) i cell) parts.0 (spot_slots set spot (N d)) ys ws zs x parts.1 e)
+  pub fields_stop : i < length (fields set spot) → (c : S) (f : F) → stops (steps_of (slots_at set spot (N c) i cell)) b f c → stops (steps_of (spot_slots set spot (N c))) a f c
+  fields_stop lt c f h =
+      let parts = whole_split lt (N c) in
+      stop_at laws (firsts set spot i (N c)) (slots_at set spot (N c) i cell) parts.0 (spot_slots set spot (N c)) a b c f parts.1
+      (fields_way (N c) (below (N c) (laws.stopped _ b c f h))) h
 
-        -- the end of the part, when all its fields are done
-        whole_past : i ≡ length (fields set spot) → (n : List ℤ)
-            → spot_slots set spot n ≡ firsts set spot i n ++ (Rule (sound set spot n) ∷ [])
-        whole_past end n =
-            let d = desc_at set spot.part in
-            let own = spot_numbers set spot n in
-            let all : d.fields ≡ take i d.fields = sym (ap (λ (k : ℕ). take k d.fields) end ∙ take_all (length d.fields) d.fields (omega arith)) in
-            ap (λ (l : List Field). slots_from (table set) d.fields spot.version own n 0 spot.base l ++ (Rule (all_hold d.validate spot.version own) ∷ [])) all
+  pub fields_may : (may : S → WalkStep → Type 0) → i < length (fields set spot) → MayCome goes N may (spot_slots set spot) a → MayCome goes N may (λ n. slots_at set spot n i cell) b
+  fields_may may lt all ys ws zs x d h e =
+      let s = keeps_first cell (slots_at set spot (N d) i cell) ys (ws ++ (x ∷ zs)) (N b) (N d) e (field_up (N d)) (laws.keeps ys b d h) in
+      let parts = whole_split lt (N d) in
+      let front = firsts set spot i (N d) in
+      all (steps_of front ++ ys) ws (zs ++ steps_of parts.0) x d (laws.more _ ys a b d (fields_way (N d) s) h)
+      (part_left front (slots_at set spot (N d) i cell) parts.0 (spot_slots set spot (N d)) ys ws zs x parts.1 e)
 
-        pub rule_next : i ≡ length (fields set spot) → (c : S) → N c ≡ N b → goes (steps.Rule (sound set spot (N b)) ∷ []) b c → goes (steps_of (spot_slots set spot (N c))) a c
-        rule_next end c same h =
-            subst (λ (n : List ℤ). goes (steps_of (spot_slots set spot n)) a c) (sym same)
-            (go_on _ (Rule (sound set spot (N b)) ∷ []) (spot_slots set spot (N b)) a b c (whole_past end (N b)) way h)
+  module _ (end : i ≡ length (fields set spot)) where
+    -- the end of the part, when all its fields are done
+    whole_past : (n : List ℤ) → spot_slots set spot n ≡ firsts set spot i n ++ (Rule (sound set spot n) ∷ [])
+    whole_past n = rw (end, take_all (length (fields set spot)) (fields set spot) (omega arith))
 
-        pub rule_stop : i ≡ length (fields set spot) → (c : S) (f : F) → N c ≡ N b → stops (steps.Rule (sound set spot (N b)) ∷ []) b f c → stops (steps_of (spot_slots set spot (N c))) a f c
-        rule_stop end c f same h =
-            let rule = Rule (sound set spot (N b)) ∷ [] in
-            let past = firsts set spot i (N b) in
-            subst (λ (n : List ℤ). stops (steps_of (spot_slots set spot n)) a f c) (sym same)
-            (stop_at past rule [] (spot_slots set spot (N b)) a b c f (whole_past end (N b) ∙ ap (λ (l : List Slot). past ++ l) (sym (append-nil rule))) way h)
+    pub rule_next : (c : S) → N c ≡ N b → goes (steps.Rule (sound set spot (N b)) ∷ []) b c → goes (steps_of (spot_slots set spot (N c))) a c
+    rule_next c same h = rw same (go_on laws _ (Rule (sound set spot (N b)) ∷ []) (spot_slots set spot (N b)) a b c (whole_past (N b)) past.way h)
 
-        pub rule_may : i ≡ length (fields set spot) → MayCome goes N may (spot_slots set spot) a → may b (steps.Rule (sound set spot (N b)))
-        rule_may end all =
-            let past = firsts set spot i (N b) in
-            let rule = Rule (sound set spot (N b)) ∷ [] in
-            all (steps_of past) [] [] _ b way (ap steps_of (whole_past end (N b)) ∙ steps_append past rule)
+    pub rule_stop : (c : S) (f : F) → N c ≡ N b → stops (steps.Rule (sound set spot (N b)) ∷ []) b f c → stops (steps_of (spot_slots set spot (N c))) a f c
+    rule_stop c f same h =
+        let rule = Rule (sound set spot (N b)) ∷ [] in
+        let front = firsts set spot i (N b) in
+        rw same (stop_at laws front rule [] (spot_slots set spot (N b)) a b c f (whole_past (N b) ∙ ap (λ l. front ++ l) (sym (append-nil rule))) past.way h)
+
+    pub rule_may : (may : S → WalkStep → Type 0) → MayCome goes N may (spot_slots set spot) a → may b (steps.Rule (sound set spot (N b)))
+    rule_may may all =
+        let front = firsts set spot i (N b) in
+        all (steps_of front) [] [] _ b past.way (ap steps_of (whole_past (N b)) ∙ steps_append front (Rule (sound set spot (N b)) ∷ []))
 
 -- a rule changes no number
 pub same_rule : (b : Bool) (n m : List ℤ) → Keeps (steps.Rule b ∷ []) n m → m ≡ n

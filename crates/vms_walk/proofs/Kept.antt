@@ -1,13 +1,8 @@
 -- What steps keep of the numbers, one after the other.
-use Rattle.std.specs.Prelude.{IsErrAnd}
-use Rattle.std.proofs.Common.{Result, Ok, Err, IfErr, ◌≡◌, sym, subst, ℕ, List, ◌∷◌, ◌++◌, length, length-set, get_or, slice_set, Option, ℤ, pos, refl, ap, ◌∙◌, Bool, false, ◌==◌, [], ◌||◌}
-use Rattle.std.proofs.lemmas.List.{get_or-set_other}
-use Rattle.std.proofs.lemmas.Bool.{eq-eqb, or_parts}
-use Rattle.std.proofs.Math.Bool.{or_assoc}
-use Rattle.vms_kinds.specs.declared.Kind.{Kind}
-use Rattle.vms_walk.specs.declared.step.WalkStep.{WalkStep}
-use Rattle.vms_walk.specs.declared.step.WalkStep.TheVariants.{Number, Constant, Filler, Rule}
-use Rattle.vms_walk.specs.Inside.{has_step, Keeps}
+use Rattle.vms_walk.proofs.Facade.{IsErrAnd, Result, Ok, Err, IfErr, ◌≡◌, sym, subst, ℕ, List, ◌∷◌, ◌++◌, length, length-set, get_or, slice_set, Option, ℤ, pos}
+use Rattle.vms_walk.proofs.Facade.{refl, ap, ◌∙◌, Bool, false, ◌==◌, [], ◌||◌, get_or-set_other, eq-eqb, or_parts, or_assoc, Kind, WalkStep, Number, has_step}
+use Rattle.vms_walk.proofs.Facade.{Keeps}
+use Rattle.vms_walk.specs.declared.step.WalkStep.TheVariants.{Constant, Filler, Rule}
 
 pub err_is : {T E : Type 0} (Q : E → Type 0) (r : Result T E) (e : E) → IsErrAnd r (λ x. x ≡ e) → Q e → IfErr r Q
 err_is Q (Ok x) e h q = tt

@@ -1,11 +1,7 @@
 -- A number that counts arrays is within all capacities if it is within the least of them.
-use Rattle.std.proofs.Common.{◌≡◌, ℕ, ◌<◌, ◌≤◌, min, List, ◌∷◌, Option, Some, None, ℤ, pos, negsuc, refl, sym, ap, ◌∙◌, arith, Bool, true, false, nat_lt, [], ◌||◌}
-use Rattle.std.proofs.lemmas.Bool.{ltb-true, ltb-false, lt-ltb}
-use Rattle.std.proofs.Math.Bool.{or-false, or_assoc}
-use Rattle.vms_spec.specs.Numbers.{exceeds, is_above}
-use Rattle.vms_spec.proofs.ListLaws.{same_tests}
-use Rattle.vms_parts.specs.Capacities.{lesser, least_from, least_of}
-use Rattle.vms_walk.specs.Steps.{capacities_of}
+use Rattle.vms_walk.proofs.Facade.{◌≡◌, ℕ, ◌<◌, ◌≤◌, min, List, ◌∷◌, Option, Some, None, ℤ, pos, negsuc, refl, sym, ap, ◌∙◌, arith, Bool, true, false, nat_lt}
+use Rattle.vms_walk.proofs.Facade.{[], ◌||◌, ltb-true, ltb-false, lt-ltb, or-false, or_assoc, exceeds, is_above, same_tests, lesser, least_from, least_of}
+use Rattle.vms_walk.proofs.Facade.{capacities_of}
 
 -- ---- the least of capacities
 

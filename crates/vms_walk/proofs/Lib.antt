@@ -1,8 +1,9 @@
+pub mod Facade
 pub mod Going
 pub mod Kept
+pub mod Least
 pub mod Local
 pub mod Order
-pub mod Walking
 pub mod Runs
 pub mod Spots
-pub mod Least
+pub mod Walking

@@ -1,25 +1,12 @@
 -- The slots up to a place depend only on the cells below it.
-use Rattle.std.proofs.Common.{◌≡◌, ℕ, zero, suc, ◌+◌, ◌*◌, ◌<◌, ◌≤◌, List, ◌∷◌, ◌++◌, length, get_or, take, drop, ℤ, refl, sym, ap, ◌∙◌, subst, arith, Bool, if◌then◌else◌, ◌==◌, [], ◌||◌}
-use Rattle.std.proofs.lemmas.List.{drop_more}
-use Rattle.std.proofs.lemmas.Bool.{or_parts}
-use Rattle.std.proofs.lemmas.Option.{slice_get-get_or}
-use Rattle.vms_kinds.specs.declared.Item.{Item}
-use Rattle.vms_spec.specs.declared.Part.{Part}
+use Rattle.vms_walk.proofs.Facade.{◌≡◌, ℕ, zero, suc, ◌+◌, ◌*◌, ◌<◌, ◌≤◌, List, ◌∷◌, ◌++◌, length, get_or, take, drop, ℤ, refl, sym, ap, ◌∙◌, subst, arith}
+use Rattle.vms_walk.proofs.Facade.{Bool, if◌then◌else◌, ◌==◌, [], ◌||◌, drop_more, or_parts, slice_get-get_or, Item, Part, Field, Desc, Set, is_there, has_cell}
+use Rattle.vms_walk.proofs.Facade.{Slot, Constant, Filler, Rule, Meaning, item_slots, item_size, times, field_slots, slots_from, field_cells, place_of}
+use Rattle.vms_walk.proofs.Facade.{numbers_of, no_field, no_parent, elements_of, IsSound, IsSoundField, AreSoundFields, IsEarlier, IsGood, SameBelow, same_less}
+use Rattle.vms_walk.proofs.Facade.{place_next, own_same, there_same, elements_same, IsAbove, SameIn, MeanSettled, item_settled, field_settled, meanings_settled}
+use Rattle.vms_walk.proofs.Facade.{device_at, HasPart, desc_at, sub_at, WalkStep, has_step, Keeps, table, cells_in, steps_of, present_of}
 use Rattle.vms_spec.specs.declared.Part.TheVariants as parts
-use Rattle.vms_spec.specs.Sets.{Field, Desc, Set}
-use Rattle.vms_spec.specs.Tests.{is_there}
-use Rattle.vms_spec.specs.Images.{has_cell}
-use Rattle.vms_spec.specs.Layout.{Slot, Number, Constant, Filler, Rule, Meaning, item_slots, item_size, times, field_slots, slots_from, field_cells, place_of, numbers_of, no_field, no_parent, elements_of}
-use Rattle.vms_spec.specs.Sound.{IsSound, IsSoundField, AreSoundFields, IsEarlier}
-use Rattle.vms_spec.specs.Good.{IsGood}
-use Rattle.vms_bodies.proofs.Places.{SameBelow, same_less, place_next, own_same, there_same, elements_same}
-use Rattle.vms_bodies.proofs.AboveLaws.{IsAbove}
-use Rattle.vms_bodies.proofs.SettledLaws.{SameIn, MeanSettled, item_settled, field_settled, meanings_settled}
-use Rattle.vms_desc.specs.Described.{device_at}
-use Rattle.vms_desc.specs.Parts.{HasPart, desc_at, sub_at}
-use Rattle.vms_walk.specs.declared.step.WalkStep.{WalkStep}
-use Rattle.vms_walk.specs.Inside.{has_step, Keeps}
-use Rattle.vms_walk.specs.Steps.{table, cells_in, steps_of, present_of}
+use Rattle.vms_spec.specs.Layout.{Number}
 use Rattle.vms_walk.proofs.Kept.{has_append}
 use Rattle.vms_walk.proofs.Walking.{fields_more}
 

@@ -1,16 +1,10 @@
 -- The slots of a description have their cells in ascending order, between its first cell and its end.
-use Rattle.std.proofs.Common.{◌≡◌, ℕ, zero, suc, ◌+◌, ◌*◌, ◌<◌, ◌≤◌, List, ◌∷◌, ◌++◌, length, length-append, get_or, ℤ, refl, sym, ap, ◌∙◌, subst, arith, Bool, true, false, if◌then◌else◌, [], ◌||◌}
-use Rattle.std.proofs.lemmas.Bool.{ne_eqb}
-use Rattle.std.proofs.Math.ListN.{get_or-map}
-use Rattle.vms_kinds.specs.declared.Item.{Item}
-use Rattle.vms_kinds.specs.declared.Item.TheVariants.{Num, Equal, Unused, Struct}
-use Rattle.vms_spec.specs.Sets.{Field, Desc}
-use Rattle.vms_spec.specs.Tests.{is_there}
-use Rattle.vms_spec.specs.Images.{has_cell}
-use Rattle.vms_spec.specs.Layout.{Slot, Number, Constant, Filler, Rule, Cell, Meaning, no_meaning, no_desc, item_slots, item_size, times, field_slots, slots_from, desc_slots, desc_cells, cells_from, field_cells, numbers_of, elements_of, capacity_of, counted, all_hold, no_parent, first, meaning, meanings}
-use Rattle.vms_spec.proofs.Sizes.{field_size, elements_fit, room_for_less}
-use Rattle.vms_spec.proofs.Tables.{one_more}
-use Rattle.vms_walk.specs.Steps.{cells_in}
+use Rattle.vms_walk.proofs.Facade.{◌≡◌, ℕ, zero, suc, ◌+◌, ◌*◌, ◌<◌, ◌≤◌, List, ◌∷◌, ◌++◌, length, length-append, get_or, ℤ, refl, sym, ap, ◌∙◌, subst, arith}
+use Rattle.vms_walk.proofs.Facade.{Bool, true, false, if◌then◌else◌, [], ◌||◌, ne_eqb, get_or-map, Item, Num, Equal, Unused, Struct, Field, Desc, is_there}
+use Rattle.vms_walk.proofs.Facade.{has_cell, Slot, Constant, Filler, Rule, Cell, Meaning, no_meaning, no_desc, item_slots, item_size, times, field_slots}
+use Rattle.vms_walk.proofs.Facade.{slots_from, desc_slots, desc_cells, cells_from, field_cells, numbers_of, elements_of, capacity_of, counted, all_hold}
+use Rattle.vms_walk.proofs.Facade.{no_parent, first, meaning, meanings, field_size, elements_fit, room_for_less, one_more, cells_in}
+use Rattle.vms_spec.specs.Layout.{Number}
 
 -- the cells ascend, from one on and below an end
 abbrev pub Ascends : ℕ → ℕ → List Slot → Type 0

@@ -1,13 +1,6 @@
 -- Numbers of one kind whose cells follow one another are the elements of an array.
-use Rattle.std.proofs.Common.{◌≡◌, ℕ, zero, suc, ◌+◌, ◌-◌, ◌*◌, ◌<◌, ◌≤◌, List, [], ◌∷◌, ◌++◌, ℤ, Option, None, refl, sym, ap, ◌∙◌, subst, arith, append_assoc}
-use Rattle.vms_kinds.specs.declared.Kind.{Kind}
-use Rattle.vms_kinds.specs.declared.Item.{Item}
-use Rattle.vms_kinds.specs.declared.Item.TheVariants.{Num}
-use Rattle.vms_spec.specs.Sets.{Set}
-use Rattle.vms_walk.specs.declared.step.WalkStep.{WalkStep}
-use Rattle.vms_walk.specs.declared.step.WalkStep.TheVariants.{Number}
-use Rattle.vms_walk.specs.Runs.{run_of, MayRun}
-use Rattle.vms_walk.specs.Steps.{steps_of, elements_slots}
+use Rattle.vms_walk.proofs.Facade.{◌≡◌, ℕ, zero, suc, ◌+◌, ◌-◌, ◌*◌, ◌<◌, ◌≤◌, List, [], ◌∷◌, ◌++◌, ℤ, Option, None, refl, sym, ap, ◌∙◌, subst, arith}
+use Rattle.vms_walk.proofs.Facade.{append_assoc, Kind, Item, Num, Set, WalkStep, Number, run_of, MayRun, steps_of, elements_slots}
 use Rattle.vms_walk.proofs.Going.{Laws}
 use Rattle.vms_walk.proofs.Walking.{times_split, left_within}
 

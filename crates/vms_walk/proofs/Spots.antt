@@ -1,26 +1,13 @@
 -- The spots of a walk: where fields and structures are, and what they have.
-use Rattle.std.proofs.Common.{◌≡◌, ℕ, suc, ◌+◌, ◌*◌, ◌<◌, ◌≤◌, List, ◌++◌, length, get_or, drop, ℤ, refl, sym, ap, ◌∙◌, subst, arith, Bool, true, if◌then◌else◌, Option}
-use Rattle.vms_kinds.specs.declared.Item.{Item}
-use Rattle.vms_kinds.specs.declared.Item.TheVariants.{Struct}
-use Rattle.vms_spec.specs.declared.TheConstants.{MOST_ITEMS}
+use Rattle.vms_walk.proofs.Facade.{◌≡◌, ℕ, ◌+◌, ◌*◌, ◌<◌, ◌≤◌, List, ◌++◌, length, get_or, drop, ℤ, refl, sym, ap, ◌∙◌, subst, arith, Bool, true, if◌then◌else◌}
+use Rattle.vms_walk.proofs.Facade.{Option, Item, Struct, MOST_ITEMS, Set, Field, is_there, uses_below, least_of, Cell, no_desc, no_parent, item_slots}
+use Rattle.vms_walk.proofs.Facade.{item_size, slots_from, desc_slots, desc_cells, cells_from, struct_cells, numbers_of, elements_of, capacity_of, counted}
+use Rattle.vms_walk.proofs.Facade.{times, FieldsBelow, all_below, struct_slots, struct_cells_at, room_for_less, one_fits, cells_first, in_u32, field_at}
+use Rattle.vms_walk.proofs.Facade.{own_numbers, is_well_formed, desc_at, reach, field_clean, struct_clean, PartAt, table, cells_in, HasSpot, spot_numbers}
+use Rattle.vms_walk.proofs.Facade.{spot_slots, slots_at, present_of, size_in, capacities_of, elements_slots, steps_of, item_rank, part_rank, reach_whole}
+use Rattle.vms_walk.proofs.Facade.{uses_more, rank_below}
 use Rattle.vms_spec.specs.declared.Part.TheVariants as parts
-use Rattle.vms_spec.specs.Sets.{Set, Field}
-use Rattle.vms_spec.specs.Tests.{is_there}
-use Rattle.vms_spec.specs.Rules.{uses_below}
-use Rattle.vms_parts.specs.Capacities.{least_of}
-use Rattle.vms_spec.specs.Layout.{Cell, no_desc, no_parent, item_slots, item_size, slots_from, desc_slots, desc_cells, cells_from, struct_cells, numbers_of, elements_of, capacity_of, counted, times}
-use Rattle.vms_spec.proofs.Prefixes.{FieldsBelow, all_below, struct_slots, struct_cells_at}
-use Rattle.vms_spec.proofs.Sizes.{room_for_less, one_fits}
-use Rattle.vms_bodies.proofs.CellLaws.{cells_first}
-use Rattle.vms_parts.specs.Sizes.{in_u32}
-use Rattle.vms_desc.specs.Asks.{field_at, own_numbers}
-use Rattle.vms_desc.specs.Formed.{is_well_formed}
-use Rattle.vms_desc.specs.Parts.{desc_at}
-use Rattle.vms_desc.proofs.Clean.{reach, field_clean, struct_clean}
-use Rattle.vms_walk.specs.declared.fields.PartAt.{PartAt}
-use Rattle.vms_walk.specs.Steps.{table, cells_in, HasSpot, spot_numbers, spot_slots, slots_at, present_of, size_in, capacities_of, elements_slots, steps_of}
-use Rattle.vms_desc.proofs.Ranks.{item_rank, part_rank, reach_whole, uses_more, rank_below}
-use Rattle.vms_walk.proofs.Walking.{slots_next, room_next, fields_at, present_slots, present_fits, steps_bare, steps_append, times_next}
+use Rattle.vms_walk.proofs.Walking.{slots_next, room_next, fields_at, present_slots, present_fits, steps_bare}
 
 pub cells_table : (set : Set) → cells_in (table set) ≡ struct_cells set
 cells_table set = cells_first set.structs (length set.structs)

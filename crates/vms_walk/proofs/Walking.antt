@@ -1,15 +1,9 @@
 -- The slots of fields and elements, taken apart at one of them.
-use Rattle.std.proofs.Common.{◌≡◌, ℕ, zero, suc, ◌+◌, ◌*◌, ◌<◌, List, [], ◌∷◌, ◌++◌, length, get_or, take, ℤ, sym, ap, ◌∙◌, arith, append_assoc, append-nil, ◌≤◌, drop, refl, length-append, Bool, true, false, if◌then◌else◌, Option, Some, None}
-use Rattle.vms_spec.specs.Sets.{Field}
-use Rattle.vms_spec.specs.Layout.{Slot, Meaning, times, field_slots, slots_from, field_cells, place_of, no_field, Cell, item_slots, item_size, cells_from, elements_of, capacity_of, counted, no_parent}
-use Rattle.vms_walk.specs.Steps.{cells_in, step_of, steps_of, present_of, capacities_of}
-use Rattle.std.proofs.lemmas.List.{drop_more}
-use Rattle.vms_kinds.specs.declared.Item.{Item}
-use Rattle.vms_kinds.specs.declared.Item.TheVariants.{Num, Equal, Unused, Struct}
-use Rattle.vms_spec.specs.Tests.{is_there}
-use Rattle.vms_spec.proofs.Sizes.{field_size, elements_fit, room_for_less}
-use Rattle.vms_parts.specs.Capacities.{least_of}
-use Rattle.vms_walk.specs.declared.step.WalkStep.{WalkStep}
+use Rattle.vms_walk.proofs.Facade.{◌≡◌, ℕ, zero, suc, ◌+◌, ◌*◌, ◌<◌, List, [], ◌∷◌, ◌++◌, length, get_or, take, ℤ, sym, ap, ◌∙◌, arith, append_assoc}
+use Rattle.vms_walk.proofs.Facade.{append-nil, ◌≤◌, drop, refl, length-append, Bool, true, false, if◌then◌else◌, Option, Some, None, drop_more, Field, Slot}
+use Rattle.vms_walk.proofs.Facade.{Meaning, times, field_slots, slots_from, field_cells, place_of, no_field, Cell, item_slots, item_size, cells_from}
+use Rattle.vms_walk.proofs.Facade.{elements_of, capacity_of, counted, no_parent, cells_in, step_of, steps_of, present_of, capacities_of, Item, Num, Equal}
+use Rattle.vms_walk.proofs.Facade.{Unused, Struct, is_there, field_size, elements_fit, room_for_less, least_of, WalkStep}
 use Rattle.vms_walk.specs.declared.step.WalkStep.TheVariants as steps
 
 -- ---- elements

@@ -1,22 +1,13 @@
-use Rattle.std.proofs.Common.{rules, arith, ap, sym, ◌∙◌, ◌≡◌, ◌+◌, ◌<◌, ◌≤◌, true, false, ℕ, List, length, drop, length-drop, Ok, Err}
-use Rattle.std.proofs.lemmas.List.{length-take-le}
-use Rattle.std.proofs.lemmas.Result.{err_from_is_err_and}
-use Rattle.vms_spec.specs.declared.TheConstants.{LONGEST_NAME}
+use Rattle.vms_frames.proofs.Facade.{rules, arith, ap, sym, ◌∙◌, ◌≡◌, ◌+◌, ◌<◌, ◌≤◌, true, false, ℕ, List, length, drop, length-drop, Ok, Err, length-take-le}
+use Rattle.vms_frames.proofs.Facade.{err_from_is_err_and, LONGEST_NAME, number_at, bytes_at, configuration_in, Good, nothing_known, configuration_seen}
 use Rattle.vms_spec.specs.declared.Reason.TheVariants as reasons
-use Rattle.vms_spec.specs.Lookup.{number_at, bytes_at}
-use Rattle.vms_marks.specs.Heads.{configuration_in}
 use Rattle.vms_marks.specs.declared.configuration.Configuration.{Configuration as AConfiguration}
 use Rattle.vms_frames.specs.declared.units.Step.TheVariants.{Configuration}
 use Rattle.vms_spec.specs.Units.{Configuration as AUnit}
 use Rattle.vms_stream.specs.Dues.{Between as IsBetween}
-use Rattle.vms_stream.specs.Seen.{Good}
-use Rattle.vms_stream.specs.Taking.{nothing_known}
-use Rattle.vms_frames.specs.Calls.{step_long, unit_of_step}
-use Rattle.vms_frames.specs.Reads.{configuration_seen}
 use Rattle.vms_frames.proofs.UnitLemmas.{bytes_of_unit}
 use Rattle.vms_frames.proofs.HeadLemmas.{text_begins, text_cut, text_above, text_whole}
-use Rattle.vms_frames.proofs.ReadsUnits.{unit_on, unit_whole, unit_refused, unit_short}
-use Rattle.vms_marks.specs.declared.head.TheConstants.{LONGEST_HEAD}
+use Rattle.vms_frames.proofs.ReadsUnits.{a_step, unit_on, unit_whole, unit_refused, unit_short}
 use Rattle.vms_frames.proofs.read.configuration.Goals as goal
 
 pub returns-in_err-grow-2 : goal.returns-in_err-grow-2
@@ -28,20 +19,21 @@ returns-in_err-grow-2 g c =
     let p = err_from_is_err_and c.from_residual-in_err-grow-2.result c.from_residual-in_err-grow-2.ensures.1 in
     rw (p.1, p.2) (record {
       reads =
-          unit_on (λ _. unit_of_step) step_long LONGEST_HEAD configuration_seen c.args.at (Err c.in_err-grow-2.field-0.0) one
-          (unit_short (λ _. unit_of_step) step_long LONGEST_HEAD configuration_seen unit c.args.at c.in_err-grow-2.field-0.0 (omega (arith, c.requires, one.long, low)) c.in_err-grow-2.ensures.cut
-          (λ rest lt. text_cut (IsBetween true false) nothing_known 0x07 LONGEST_NAME AUnit unit rest (omega (arith, c.requires, one.long)) (omega (arith, same, low)) (omega (arith, lt, same, c.requires, one.long))));
+          unit_on (a_step configuration_seen) c.args.at (Err c.in_err-grow-2.field-0.0) one
+          (unit_short (a_step configuration_seen) unit c.args.at c.in_err-grow-2.field-0.0 (omega arith) c.in_err-grow-2.ensures.cut
+          (λ rest lt. text_cut (IsBetween true false) nothing_known 0x07 LONGEST_NAME AUnit unit rest (omega arith) (omega arith) (omega arith)));
     })
 
 pub returns-then-length-gt-LONGEST_NAME : goal.returns-then-length-gt-LONGEST_NAME
 returns-then-length-gt-LONGEST_NAME g c =
     let one = c.in_ok-grow.ensures.grown in
     let unit = c.grow.new.unit.items in
-    let long : length unit ≡ 5 = omega (arith, c.requires, one.long) in
+    let long : length unit ≡ 5 = omega arith in
     let high : LONGEST_NAME < number_at 4 1 unit = search rules in
     record {
-      reads = unit_on (λ _. unit_of_step) step_long LONGEST_HEAD configuration_seen c.args.at (Err c.refused.result) one
-          (unit_refused (λ _. unit_of_step) step_long LONGEST_HEAD configuration_seen unit c.args.at 5 reasons.WrongMachine c.refused.result c.refused.ensures (g.met.S.Source.counted c.grow.new.source) long (omega arith)
+      reads = unit_on (a_step configuration_seen) c.args.at (Err c.refused.result) one
+          (unit_refused (a_step configuration_seen) unit c.args.at 5 reasons.WrongMachine c.refused.result c.refused.ensures
+          (g.met.S.Source.counted c.grow.new.source) long (omega arith)
           (λ rest. text_above (IsBetween true false) nothing_known 0x07 LONGEST_NAME AUnit unit rest long high));
     }
 
@@ -54,17 +46,17 @@ returns g c =
     let name = c.of.result.machine in
     let same : n ≡ number_at 4 1 unit = search rules in
     let low : n ≤ LONGEST_NAME = search rules in
-    let long : length unit ≡ 5 + n = omega (arith, c.requires, one.long, two.long) in
-    let named : name.items ≡ bytes_at (number_at 4 1 unit) 5 unit = ap (λ (x : AConfiguration). x.machine.items) (c.of.ensures ∙ ap configuration_in c.deref-2.ensures.0) in
-    let few : length name.items ≡ n = ap length named ∙ length-take-le (number_at 4 1 unit) (drop 5 unit) (omega (arith, long, same, length-drop 5 unit)) ∙ sym same in
+    let long : length unit ≡ 5 + n = omega arith in
+    let named : name.items ≡ bytes_at (number_at 4 1 unit) 5 unit = rw (c.of.ensures ∙ ap configuration_in c.deref-2.ensures.0) in
+    let few : length name.items ≡ n = ap length named ∙ length-take-le (number_at 4 1 unit) (drop 5 unit) (omega (arith, length-drop 5 unit)) ∙ sym same in
     record {
-      reads = unit_on (λ _. unit_of_step) step_long LONGEST_HEAD configuration_seen c.args.at (Ok (Configuration name)) one
-          (unit_on (λ _. unit_of_step) step_long LONGEST_HEAD configuration_seen c.args.at (Ok (Configuration name)) two
-          (unit_whole (λ _. unit_of_step) step_long LONGEST_HEAD configuration_seen unit c.args.at (Configuration name) (g.met.S.Source.counted c.grow-2.new.source) (omega (arith, long, few))
+      reads = unit_on (a_step configuration_seen) c.args.at (Ok (Configuration name)) one
+          (unit_on (a_step configuration_seen) c.args.at (Ok (Configuration name)) two
+          (unit_whole (a_step configuration_seen) unit c.args.at (Configuration name) (g.met.S.Source.counted c.grow-2.new.source) (omega arith)
           (λ rest.
-          text_whole (IsBetween true false) nothing_known 0x07 LONGEST_NAME AUnit unit rest (omega (arith, long)) (omega (arith, same, low)) (omega (arith, long, same))
-          ∙ ap (λ (l : List ℕ). Good (AUnit l) (5 + number_at 4 1 unit)) (bytes_of_unit (number_at 4 1 unit) 5 unit rest (omega (arith, long, same)) ∙ sym named)
-          ∙ ap (λ (k : ℕ). Good (AUnit name.items) (5 + k)) (sym same ∙ sym few))));
+          text_whole (IsBetween true false) nothing_known 0x07 LONGEST_NAME AUnit unit rest (omega arith) (omega arith) (omega arith)
+          ∙ ap (λ l. Good (AUnit l) (5 + number_at 4 1 unit)) (bytes_of_unit (number_at 4 1 unit) 5 unit rest (omega arith) ∙ sym named)
+          ∙ ap (λ k. Good (AUnit name.items) (5 + k)) (sym same ∙ sym few))));
     }
 
 pub returns-in_err-grow : goal.returns-in_err-grow
@@ -72,6 +64,6 @@ returns-in_err-grow g c =
     let p = err_from_is_err_and c.from_residual.result c.from_residual.ensures.1 in
     rw (p.1, p.2) (record {
       reads =
-          unit_short (λ _. unit_of_step) step_long LONGEST_HEAD configuration_seen c.args.unit.items c.args.at c.in_err-grow.field-0.0 (omega (arith, c.requires)) c.in_err-grow.ensures.cut
-          (λ rest lt. text_begins (IsBetween true false) nothing_known 0x07 LONGEST_NAME AUnit c.args.unit.items rest (omega (arith, lt, c.requires)));
+          unit_short (a_step configuration_seen) c.args.unit.items c.args.at c.in_err-grow.field-0.0 (omega arith) c.in_err-grow.ensures.cut
+          (λ rest lt. text_begins (IsBetween true false) nothing_known 0x07 LONGEST_NAME AUnit c.args.unit.items rest (omega arith));
     })

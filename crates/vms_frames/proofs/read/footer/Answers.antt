@@ -1,36 +1,32 @@
-use Rattle.std.proofs.Common.{rules, arith, ◌≡◌, length, Ok, Err}
-use Rattle.std.proofs.lemmas.Result.{err_from_is_err_and}
+use Rattle.vms_frames.proofs.Facade.{rules, arith, ◌≡◌, length, Ok, Err, err_from_is_err_and, number_at}
 use Rattle.vms_spec.specs.declared.Reason.TheVariants as reasons
-use Rattle.vms_spec.specs.Lookup.{number_at}
-use Rattle.vms_spec.specs.Units.{Foot}
-use Rattle.vms_frames.specs.Reads.{foot_seen}
 use Rattle.vms_frames.proofs.HeadLemmas.{foot_cut, foot_whole, foot_wrong}
-use Rattle.vms_frames.proofs.ReadsUnits.{unit_on, unit_whole, unit_refused, unit_short}
-use Rattle.vms_marks.specs.declared.sub_head.TheConstants.{LONGEST_SUB_HEAD}
+use Rattle.vms_frames.proofs.ReadsUnits.{a_foot, unit_on, unit_whole, unit_refused, unit_short}
 use Rattle.vms_frames.proofs.read.footer.Goals as goal
 
 pub returns-in_err-grow : goal.returns-in_err-grow
 returns-in_err-grow g c =
     let p = err_from_is_err_and c.from_residual.result c.from_residual.ensures.1 in
     rw (p.1, p.2)
-    (unit_short (λ _ (x : Unit {0}). Foot c.args.id) (λ (x : Unit {0}). 5) LONGEST_SUB_HEAD (foot_seen c.args.id) c.args.unit.items c.args.at c.in_err-grow.field-0.0 (omega (arith, c.requires)) c.in_err-grow.ensures.cut
-    (λ rest lt. foot_cut c.args.id c.args.unit.items rest (omega (arith, lt, c.requires))))
+    (unit_short (a_foot c.args.id) c.args.unit.items c.args.at c.in_err-grow.field-0.0 (omega arith) c.in_err-grow.ensures.cut
+    (λ rest lt. foot_cut c.args.id c.args.unit.items rest (omega arith)))
 
 pub returns-then-of-id : goal.returns-then-of-id
 returns-then-of-id g c =
     let one = c.in_ok-grow.ensures.grown in
     let unit = c.grow.new.unit.items in
-    let long : length unit ≡ 5 = omega (arith, c.requires, one.long) in
+    let long : length unit ≡ 5 = omega arith in
     let other : number_at 4 1 unit ≡ c.args.id → ⊥ = search rules in
-    unit_on (λ _ (x : Unit {0}). Foot c.args.id) (λ (x : Unit {0}). 5) LONGEST_SUB_HEAD (foot_seen c.args.id) c.args.at (Err c.no_footer.result) one
-    (unit_refused (λ _ (x : Unit {0}). Foot c.args.id) (λ (x : Unit {0}). 5) LONGEST_SUB_HEAD (foot_seen c.args.id) unit c.args.at 5 reasons.BadFooter c.no_footer.result c.no_footer.ensures (g.met.S.Source.counted c.grow.new.source) long (omega arith)
+    unit_on (a_foot c.args.id) c.args.at (Err c.no_footer.result) one
+    (unit_refused (a_foot c.args.id) unit c.args.at 5 reasons.BadFooter c.no_footer.result c.no_footer.ensures (g.met.S.Source.counted c.grow.new.source) long
+    (omega arith)
     (λ rest. foot_wrong c.args.id unit rest long other))
 
 pub returns : goal.returns
 returns g c =
     let one = c.in_ok-grow.ensures.grown in
     let unit = c.grow.new.unit.items in
-    let long : length unit ≡ 5 = omega (arith, c.requires, one.long) in
+    let long : length unit ≡ 5 = omega arith in
     let same : number_at 4 1 unit ≡ c.args.id = search rules in
-    unit_on (λ _ (x : Unit {0}). Foot c.args.id) (λ (x : Unit {0}). 5) LONGEST_SUB_HEAD (foot_seen c.args.id) c.args.at (Ok tt) one
-    (unit_whole (λ _ (x : Unit {0}). Foot c.args.id) (λ (x : Unit {0}). 5) LONGEST_SUB_HEAD (foot_seen c.args.id) unit c.args.at tt (g.met.S.Source.counted c.grow.new.source) long (λ rest. foot_whole c.args.id unit rest long same))
+    unit_on (a_foot c.args.id) c.args.at (Ok tt) one
+    (unit_whole (a_foot c.args.id) unit c.args.at tt (g.met.S.Source.counted c.grow.new.source) long (λ rest. foot_whole c.args.id unit rest long same))

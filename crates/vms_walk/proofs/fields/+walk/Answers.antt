@@ -1,43 +1,29 @@
-use Rattle.std.proofs.Common.{rules, arith, refl, sym, ap, ◌∙◌, subst, ◌≡◌, ℕ, ℤ, ◌+◌, ◌*◌, ◌<◌, ◌≤◌, List, [], ◌∷◌, ◌++◌, append-nil, length, drop, Bool, true, OnOk, IfErr, Option}
-use Rattle.std.proofs.lemmas.Bool.{ltb-true}
-use Rattle.std.proofs.lemmas.Result.{IfErr-weaker}
-use Rattle.vms_kinds.specs.declared.Item.{Item}
-use Rattle.vms_kinds.specs.declared.Item.TheVariants.{Struct}
-use Rattle.vms_spec.specs.declared.TheConstants.{MOST_ITEMS}
+use Rattle.vms_walk.proofs.Facade.{rules, arith, refl, sym, ap, ◌∙◌, subst, ◌≡◌, ℕ, ℤ, ◌+◌, ◌*◌, ◌<◌, ◌≤◌, List, [], ◌∷◌, ◌++◌, append-nil, length, drop, true}
+use Rattle.vms_walk.proofs.Facade.{OnOk, IfErr, Option, ltb-true, IfErr-weaker, on_ok_weaker, Item, Struct, Field, Desc, Set, uses_below, Slot, item_slots}
+use Rattle.vms_walk.proofs.Facade.{cells_from, capacity_of, all_hold, SameBelow, field_size, place_first, IsAbove, items_above, meanings_above, field_at}
+use Rattle.vms_walk.proofs.Facade.{described, desc_at, found_field, here_fields, good_of, PartAt, WalkStep, steps_of, table, cells_in, spot_numbers, holds_at}
+use Rattle.vms_walk.proofs.Facade.{spot_slots, slots_at, size_in, capacities_of, elements_slots, HasSpot, MayCome, run_of}
 use Rattle.vms_spec.specs.declared.Part.TheVariants as parts
-use Rattle.vms_spec.specs.Sets.{Field, Desc, Set}
-use Rattle.vms_spec.specs.Rules.{uses_below}
-use Rattle.vms_spec.specs.Layout.{Slot, item_slots, cells_from, capacity_of, all_hold}
-use Rattle.vms_spec.specs.Places.{own_cell_count}
-use Rattle.vms_bodies.proofs.Places.{SameBelow}
-use Rattle.vms_spec.proofs.Sizes.{field_size}
-use Rattle.vms_bodies.proofs.WalkLaws.{place_first}
-use Rattle.vms_bodies.proofs.AboveLaws.{IsAbove, items_above, meanings_above}
-use Rattle.vms_desc.specs.Asks.{field_at}
-use Rattle.vms_desc.specs.Described.{described}
-use Rattle.vms_desc.specs.Parts.{desc_at}
-use Rattle.vms_desc.proofs.AskLaws.{found_field, here_fields}
-use Rattle.vms_desc.proofs.Bounds.{good_of}
-use Rattle.vms_walk.specs.declared.fields.PartAt.{PartAt}
-use Rattle.vms_walk.specs.declared.step.WalkStep.{WalkStep}
 use Rattle.vms_walk.specs.declared.step.WalkStep.TheVariants as steps
-use Rattle.vms_walk.specs.Steps.{steps_of, table, cells_in, spot_numbers, holds_at, spot_slots, slots_at, size_in, capacities_of, elements_slots, HasSpot, MayCome}
-use Rattle.vms_walk.specs.Runs.{run_of}
-use Rattle.std.proofs.lemmas.Result.{on_ok_weaker}
 use Rattle.vms_walk.proofs.Kept.{err_is}
 use Rattle.vms_walk.proofs.Runs.{run_steps}
 use Rattle.vms_walk.proofs.Walking.{room_at, least_again}
 use Rattle.vms_walk.proofs.Spots.{Next, next_field, field_needs, size_code, width_code, spot_room, struct_spot, struct_size, own_is}
 use Rattle.vms_walk.proofs.Local.{keeps_below, keeps_first, next_place, set_settled, part_sound}
-use Rattle.vms_walk.proofs.Going.{Laws, items_next, items_stop, items_may, field_slots_are, fields_next, fields_stop, fields_may, rule_next, rule_stop, rule_may, same_rule}
+use Rattle.vms_walk.proofs.Going.{Laws, Walked, Past, items_next, items_stop, items_may, field_slots_are, fields_next, fields_stop, fields_may, rule_next, rule_stop, rule_may, same_rule}
 use Rattle.vms_walk.proofs.fields.+walk.Given.{Over}
-use Rattle.vms_walk.proofs.fields.+walk.Goals.{walk-After-field_cells-cell, walk-After-rules-arg-1, walk-After-walk_field-arg-1, walk_field-After-walk_row-arg-1, walk_struct-After-walk-arg-1}
+use Rattle.vms_walk.proofs.fields.+walk.Goals.{walk_items-After-walk_item-arg-1, walk-After-field_cells-cell, walk-After-rules-arg-1, walk-After-walk_field-arg-1, walk_field-After-walk_row-arg-1, walk_struct-After-walk-arg-1}
 use Rattle.vms_walk.proofs.fields.+walk.Goals as goal
 
 laws_of : (g : Over) → Laws g.W.Cells.numbers g.W.Walker.goes g.W.Walker.stops
 laws_of g = record { more = g.met.W.Walker.more; after = g.met.W.Walker.stops_after; before = g.met.W.Walker.stops_before; keeps = g.met.W.Walker.keeps; stopped = g.met.W.Walker.keeps_stopped }
 
 -- ---- items
+
+-- the elements before this one are done
+walked : (g : Over) (t : ℕ) (c : goal.walk_items-After-walk_item-arg-1 g t) → Walked g.W.Cells.numbers g.W.Walker.goes (described c.args.set.now) c.args.row.item.now c.args.row.most
+    c.args.row.first c.loop-turn._turn c.loop-turn.cell c.args.walker.now c.loop-turn.walker
+walked g t c = record { good = good_of _ c.args.set.now.well_formed c.args.set.now.heads; here = c.loop-turn.invariant.here; way = c.loop-turn.invariant.way }
 
 pub walk_items-loop-turn-preserved : goal.walk_items-loop-turn-preserved
 walk_items-loop-turn-preserved g t c =
@@ -50,7 +36,7 @@ walk_items-loop-turn-preserved g t c =
     let size : size_in set item ≡ c.item_cells-size.result = sym (size_code set item c.item_cells-size.result c.item_cells-size.ensures c.requires.small) in
     let one : (i + 1) * size_in set item ≡ i * size_in set item + size_in set item = grind arith in
     record {
-      way = items_next _ _ _ g.W.Walker.may laws set (good_of set c.args.set.now.well_formed c.args.set.now.heads) item c.args.row.most c.args.row.first i c.loop-turn.cell inv.here c.args.walker.now b inv.way c.walk_item.new.walker c.in_ok-walk_item.ensures.ok;
+      way = items_next laws (walked g t (goal.at.walk_items-loop-turn-preserved g t c).After-walk_item-arg-1) c.walk_item.new.walker c.in_ok-walk_item.ensures.ok;
       long = (laws.keeps _ b c.walk_item.new.walker c.in_ok-walk_item.ensures.ok).long ∙ inv.long;
       here = omega (arith, one, size, inv.here);
     }
@@ -59,15 +45,11 @@ pub walk_items-returns-in_err-walk_item-clause-err : goal.walk_items-returns-in_
 walk_items-returns-in_err-walk_item-clause-err g t c =
     let N = g.W.Cells.numbers in
     let set = described c.args.set.now in
-    let item = c.args.row.item.now in
-    let most = c.args.row.most in
-    let first = c.args.row.first in
-    let a = c.args.walker.now in
-    let inv = c.loop-turn.invariant in
+    let row = c.args.row in
     let d = c.walk_item.new.walker in
     let fault = c.in_err-walk_item.field-0.0 in
-    err_is (λ fault. g.W.Walker.stops (steps_of (elements_slots set item most (N d) c.args.row.count first)) a fault d) c.from_residual.result fault c.from_residual.ensures.1
-    (items_stop _ _ _ g.W.Walker.may (laws_of g) set (good_of set c.args.set.now.well_formed c.args.set.now.heads) item most first c.loop-turn._turn c.loop-turn.cell inv.here a c.loop-turn.walker inv.way c.args.row.count (omega arith) d fault c.in_err-walk_item.ensures.err)
+    err_is (λ fault. g.W.Walker.stops (steps_of (elements_slots set row.item.now row.most (N d) row.count row.first)) c.args.walker.now fault d) c.from_residual.result fault c.from_residual.ensures.1
+    (items_stop (laws_of g) (walked g t (goal.at.walk_items-returns-in_err-walk_item-clause-err g t c).After-walk_item-arg-1) c.args.row.count (omega arith) d fault c.in_err-walk_item.ensures.err)
 
 pub walk_items-walk_item-requires : goal.walk_items-walk_item-requires
 walk_items-walk_item-requires g t c =
@@ -85,8 +67,8 @@ walk_items-walk_item-requires g t c =
           (
             c.requires.reaches,
             (
-              items_may _ _ _ g.W.Walker.may (laws_of g) set (good_of set c.args.set.now.well_formed c.args.set.now.heads) item c.args.row.most c.args.row.first c.loop-turn._turn cell inv.here c.args.walker.now c.loop-turn.walker inv.way c.args.row.count (omega arith) c.requires.may,
-              (subst (λ (x : ℕ). cell + size_in set item ≤ x) (sym inv.long) room, subst (λ (x : ℕ). x ≤ MOST_ITEMS) (sym inv.long) c.requires.few),
+              items_may (laws_of g) (walked g t c) g.W.Walker.may c.args.row.count (omega arith) c.requires.may,
+              (rw inv.long room, rw inv.long c.requires.few),
             ),
           ),
         ),
@@ -179,8 +161,8 @@ steps_are : (g : Over) (t : ℕ) (c : goal.walk_field-After-walk_row-arg-1 g t) 
     → steps_of (slots_at (described c.args.set.now) c.args.spot m c.args.field c.args.cell) ≡ steps_of (elements_slots (described c.args.set.now) c.index-as_slice-field.result.item c.most-most.result m c.present-count.result c.args.cell)
 steps_are g t c m long s =
     let set = described c.args.set.now in
-    field_slots_are _ _ _ g.W.Walker.may (laws_of g) set (good_of set c.args.set.now.well_formed c.args.set.now.heads) c.args.spot c.requires.spot.part c.args.field c.args.cell c.requires.here c.args.set.now.well_formed
-    (g.W.Cells.numbers c.args.walker.now) m long c.requires.spot c.present-count.result c.index-as_slice-field.result.item c.most-most.result c.requires.field (item_is g t c) c.present-count.ensures c.most-most.ensures c.requires.room s
+    field_slots_are set (good_of set c.args.set.now.well_formed c.args.set.now.heads) c.args.set.now.well_formed c.args.spot c.args.field c.args.cell
+    (g.W.Cells.numbers c.args.walker.now) m c.requires.here long c.requires.spot c.present-count.result c.index-as_slice-field.result.item c.most-most.result c.requires.field (item_is g t c) c.present-count.ensures c.most-most.ensures c.requires.room s
 
 -- they have no cell below the field
 above : (g : Over) (t : ℕ) (c : goal.walk_field-After-walk_row-arg-1 g t) (m : List ℤ) → IsAbove c.args.cell (elements_slots (described c.args.set.now) c.index-as_slice-field.result.item c.most-most.result m c.present-count.result c.args.cell)
@@ -244,9 +226,9 @@ walk-loop-field-init g t c =
 -- the next field, with the numbers so far
 record Turn (g : Over) (t : ℕ) (c : goal.walk-After-walk_field-arg-1 g t) : Type 0 where
   inside : c.loop-field.field < length (desc_at (described c.args.set.now) c.args.spot.part).fields
-  behind : c.loop-field.field ≤ length (desc_at (described c.args.set.now) c.args.spot.part).fields
   has : HasSpot (described c.args.set.now) c.args.spot (g.W.Cells.numbers c.loop-field.walker)
   next : Next (described c.args.set.now) c.args.spot (g.W.Cells.numbers c.loop-field.walker) c.loop-field.field c.loop-field.cell
+  past : Past g.W.Cells.numbers g.W.Walker.goes (described c.args.set.now) c.args.spot c.loop-field.field c.loop-field.cell c.args.walker.now c.loop-field.walker
 
 turn : (g : Over) (t : ℕ) (c : goal.walk-After-walk_field-arg-1 g t) → Turn g t c
 turn g t c =
@@ -254,12 +236,13 @@ turn g t c =
     let spot = c.args.spot in
     let inv = c.loop-field.invariant in
     let lt : c.loop-field.field < length (desc_at set spot.part).fields = omega (arith, c.field_count-field-end.ensures) in
-    let has : HasSpot set spot (g.W.Cells.numbers c.loop-field.walker) = record {
-      part = c.requires.spot.part;
-      few = subst (λ (x : ℕ). x ≤ MOST_ITEMS) (sym inv.long) c.requires.spot.few;
-      room = subst (λ (x : ℕ). spot.base + own_cell_count set (desc_at set spot.part) ≤ x) (sym inv.long) c.requires.spot.room;
-    } in
-    record { inside = lt; behind = omega (arith, lt); has = has; next = next_field set c.args.set.now.well_formed spot (g.W.Cells.numbers c.loop-field.walker) has c.loop-field.field c.loop-field.cell lt inv.room }
+    let has : HasSpot set spot (g.W.Cells.numbers c.loop-field.walker) = record { part = c.requires.spot.part; few = rw inv.long c.requires.spot.few; room = rw inv.long c.requires.spot.room } in
+    record {
+      inside = lt;
+      has = has;
+      next = next_field set c.args.set.now.well_formed spot (g.W.Cells.numbers c.loop-field.walker) has c.loop-field.field c.loop-field.cell lt inv.room;
+      past = record { good = good_of set c.args.set.now.well_formed c.args.set.now.heads; has = c.requires.spot.part; le = omega (arith, lt); here = inv.here; way = inv.way };
+    }
 
 -- its width in the code
 wide : (g : Over) (t : ℕ) (c : goal.walk-After-field_cells-cell g t)
@@ -272,7 +255,6 @@ pub walk-loop-field-preserved : goal.walk-loop-field-preserved
 walk-loop-field-preserved g t c =
     let N = g.W.Cells.numbers in
     let set = described c.args.set.now in
-    let fine = good_of set c.args.set.now.well_formed c.args.set.now.heads in
     let spot = c.args.spot in
     let all = (desc_at set spot.part).fields in
     let i = c.loop-field.field in
@@ -283,32 +265,28 @@ walk-loop-field-preserved g t c =
     let d = c.walk_field.new.walker in
     let width = sym (wide g t (goal.at.walk-loop-field-preserved g t c).After-field_cells-cell) in
     let kept = (laws_of g).keeps _ b d c.in_ok-walk_field.ensures.ok in
-    let place = next_place (table set) (set_settled set fine) (desc_at set spot.part) (part_sound set fine spot.part c.requires.spot.part) spot.version spot.base i s.inside in
+    let place = next_place (table set) (set_settled set s.past.good) (desc_at set spot.part) (part_sound set s.past.good spot.part c.requires.spot.part) spot.version spot.base i s.inside in
     record {
-      way = fields_next _ _ _ g.W.Walker.may (laws_of g) set fine spot c.requires.spot.part i cell inv.here c.args.walker.now b s.behind inv.way s.inside d c.in_ok-walk_field.ensures.ok;
+      way = fields_next (laws_of g) s.past s.inside d c.in_ok-walk_field.ensures.ok;
       long = kept.long ∙ inv.long;
       here = omega (arith, place, inv.here, width, field_size (cells_in (table set)) all i (field_at set spot.part i));
-      room = subst (λ (x : ℕ). (cell + c.field_cells-cell.result) + length (cells_from (cells_in (table set)) all (i + 1) (drop (i + 1) all)) ≤ x) (sym kept.long)
-          (subst (λ (x : ℕ). (cell + x) + length (cells_from (cells_in (table set)) all (i + 1) (drop (i + 1) all)) ≤ length (N b)) width s.next.later);
+      room = rw kept.long (subst (λ x. (cell + x) + length (cells_from (cells_in (table set)) all (i + 1) (drop (i + 1) all)) ≤ length (N b)) width s.next.later);
     }
 
 pub walk-returns-in_err-walk_field-clause-err : goal.walk-returns-in_err-walk_field-clause-err
 walk-returns-in_err-walk_field-clause-err g t c =
     let set = described c.args.set.now in
     let a = c.args.walker.now in
-    let inv = c.loop-field.invariant in
     let s = turn g t (goal.at.walk-returns-in_err-walk_field-clause-err g t c).After-walk_field-arg-1 in
     let d = c.walk_field.new.walker in
     let fault = c.in_err-walk_field.field-0.0 in
     err_is (λ fault. g.W.Walker.stops (steps_of (spot_slots set c.args.spot (g.W.Cells.numbers d))) a fault d) c.from_residual.result fault c.from_residual.ensures.1
-    (fields_stop _ _ _ g.W.Walker.may (laws_of g) set (good_of set c.args.set.now.well_formed c.args.set.now.heads) c.args.spot c.requires.spot.part c.loop-field.field c.loop-field.cell inv.here a c.loop-field.walker s.behind inv.way s.inside d fault c.in_err-walk_field.ensures.err)
+    (fields_stop (laws_of g) s.past s.inside d fault c.in_err-walk_field.ensures.err)
 
 pub walk-walk_field-requires : goal.walk-walk_field-requires
 walk-walk_field-requires g t c =
-    let set = described c.args.set.now in
-    let inv = c.loop-field.invariant in
     let s = turn g t c in
-    λ κs h. (search rules, (search rules, (search rules, (s.has, (s.inside, (inv.here, (fields_may _ _ _ g.W.Walker.may (laws_of g) set (good_of set c.args.set.now.well_formed c.args.set.now.heads) c.args.spot c.requires.spot.part c.loop-field.field c.loop-field.cell inv.here c.args.walker.now c.loop-field.walker s.behind inv.way s.inside c.requires.may, s.next.room)))))))
+    λ κs h. (search rules, (search rules, (search rules, (s.has, (s.inside, (s.past.here, (fields_may (laws_of g) s.past g.W.Walker.may s.inside c.requires.may, s.next.room)))))))
 
 pub walk-overflow_add-cell : goal.walk-overflow_add-cell
 walk-overflow_add-cell g t c =
@@ -319,27 +297,27 @@ walk-overflow_add-cell g t c =
 end_of : (g : Over) (t : ℕ) (c : goal.walk-After-rules-arg-1 g t) → c.loop-field.field ≡ length (desc_at (described c.args.set.now) c.args.spot.part).fields
 end_of g t c = omega (arith, c.field_count-field-end.ensures)
 
+done : (g : Over) (t : ℕ) (c : goal.walk-After-rules-arg-1 g t) → Past g.W.Cells.numbers g.W.Walker.goes (described c.args.set.now) c.args.spot c.loop-field.field c.loop-field.cell c.args.walker.now c.loop-field.walker
+done g t c =
+    let set = c.args.set.now in
+    record { good = good_of (described set) set.well_formed set.heads; has = c.requires.spot.part; le = omega (arith, end_of g t c); here = c.loop-field.invariant.here; way = c.loop-field.invariant.way }
+
 holds_is : (set : Set) (spot : PartAt) (n : List ℤ) → holds_at set spot n ≡ all_hold (desc_at set spot.part).validate spot.version (spot_numbers set spot n)
 holds_is set spot n = ap (all_hold (desc_at set spot.part).validate spot.version) (own_is set spot n)
 
 pub walk-rules-requires-clause-may : goal.walk-rules-requires-clause-may
 walk-rules-requires-clause-may g t c =
-    let set = described c.args.set.now in
     let b = c.loop-field.walker in
-    let inv = c.loop-field.invariant in
-    let end = end_of g t c in
-    subst (λ (x : Bool). g.W.Walker.may b (steps.Rule x)) (sym (holds_is set c.args.spot (g.W.Cells.numbers b)))
-    (rule_may _ _ _ g.W.Walker.may (laws_of g) set (good_of set c.args.set.now.well_formed c.args.set.now.heads) c.args.spot c.requires.spot.part c.loop-field.field c.loop-field.cell inv.here c.args.walker.now b (omega (arith, end)) inv.way end c.requires.may)
+    rw (holds_is (described c.args.set.now) c.args.spot (g.W.Cells.numbers b)) (rule_may (laws_of g) (done g t c) (end_of g t c) g.W.Walker.may c.requires.may)
 
 pub walk-returns-clause-ok : goal.walk-returns-clause-ok
 walk-returns-clause-ok g t c =
     let N = g.W.Cells.numbers in
     let set = described c.args.set.now in
     let b = c.loop-field.walker in
-    let inv = c.loop-field.invariant in
-    let end = end_of g t (goal.at.walk-returns-clause-ok g t c).After-rules-arg-1 in
+    let at = (goal.at.walk-returns-clause-ok g t c).After-rules-arg-1 in
     let e = c.rules.new.self in
-    on_ok_weaker c.rules.result (λ h. rule_next _ _ _ g.W.Walker.may (laws_of g) set (good_of set c.args.set.now.well_formed c.args.set.now.heads) c.args.spot c.requires.spot.part c.loop-field.field c.loop-field.cell inv.here c.args.walker.now b (omega (arith, end)) inv.way end e (same_rule _ (N b) (N e) ((laws_of g).keeps _ b e h)) (subst (λ (x : Bool). g.W.Walker.goes (steps.Rule x ∷ []) b e) (holds_is set c.args.spot (N b)) h)) c.rules.ensures.ok
+    on_ok_weaker c.rules.result (λ h. rule_next (laws_of g) (done g t at) (end_of g t at) e (same_rule _ (N b) (N e) ((laws_of g).keeps _ b e h)) (rw (holds_is set c.args.spot (N b)) at h)) c.rules.ensures.ok
 
 pub walk-returns-clause-err : goal.walk-returns-clause-err
 walk-returns-clause-err g t c =
@@ -347,11 +325,10 @@ walk-returns-clause-err g t c =
     let set = described c.args.set.now in
     let a = c.args.walker.now in
     let b = c.loop-field.walker in
-    let inv = c.loop-field.invariant in
-    let end = end_of g t (goal.at.walk-returns-clause-err g t c).After-rules-arg-1 in
+    let at = (goal.at.walk-returns-clause-err g t c).After-rules-arg-1 in
     let e = c.rules.new.self in
     IfErr-weaker c.rules.result (λ fault. g.W.Walker.stops (steps.Rule (holds_at set c.args.spot (N b)) ∷ []) b fault e) (λ fault. g.W.Walker.stops (steps_of (spot_slots set c.args.spot (N e))) a fault e)
-    (λ fault h. rule_stop _ _ _ g.W.Walker.may (laws_of g) set (good_of set c.args.set.now.well_formed c.args.set.now.heads) c.args.spot c.requires.spot.part c.loop-field.field c.loop-field.cell inv.here a b (omega (arith, end)) inv.way end e fault (same_rule _ (N b) (N e) ((laws_of g).stopped _ b e fault h)) (subst (λ (x : Bool). g.W.Walker.stops (steps.Rule x ∷ []) b fault e) (holds_is set c.args.spot (N b)) h)) c.rules.ensures.err
+    (λ fault h. rule_stop (laws_of g) (done g t at) (end_of g t at) e fault (same_rule _ (N b) (N e) ((laws_of g).stopped _ b e fault h)) (rw (holds_is set c.args.spot (N b)) at h)) c.rules.ensures.err
 
 -- ---- one element
 

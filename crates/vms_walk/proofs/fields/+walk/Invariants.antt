@@ -1,9 +1,5 @@
-use Rattle.std.proofs.Common.{◌≡◌, ◌≤◌, ◌+◌, ◌*◌, length, take, drop}
-use Rattle.vms_spec.specs.Layout.{slots_from, cells_from}
-use Rattle.vms_desc.specs.Described.{described}
-use Rattle.vms_desc.specs.Parts.{desc_at}
-use Rattle.vms_walk.specs.Steps.{steps_of, table, cells_in, spot_numbers, size_in, elements_slots, cell_of}
-use Rattle.vms_desc.proofs.Ranks.{item_rank, part_rank}
+use Rattle.vms_walk.proofs.Facade.{◌≡◌, ◌≤◌, ◌+◌, ◌*◌, length, take, drop, slots_from, cells_from, described, desc_at, steps_of, table, cells_in, spot_numbers}
+use Rattle.vms_walk.proofs.Facade.{size_in, elements_slots, cell_of, item_rank, part_rank}
 use Rattle.vms_walk.proofs.fields.+walk.Given as goal
 
 abbrev pub decreases-walk_item : goal.decreases-walk_item

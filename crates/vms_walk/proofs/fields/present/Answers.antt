@@ -1,8 +1,4 @@
-use Rattle.std.proofs.Common.{ap, sym, ◌∙◌, Bool, ℕ, if◌then◌else◌}
-use Rattle.vms_spec.specs.Layout.{elements_of}
-use Rattle.vms_desc.specs.Asks.{field_at, own_numbers}
-use Rattle.vms_desc.specs.Described.{described}
-use Rattle.vms_walk.specs.Steps.{present_of}
+use Rattle.vms_walk.proofs.Facade.{ap, sym, ◌∙◌, Bool, ℕ, if◌then◌else◌, elements_of, field_at, own_numbers, described, present_of}
 use Rattle.vms_walk.proofs.Spots.{own_is, present_then}
 use Rattle.vms_walk.proofs.fields.present.Goals as goal
 

@@ -1,5 +1,4 @@
-use Rattle.std.proofs.Common.{rules, ◌≡◌, ◌+◌, ◌-◌, ◌≤◌, refl, ◌∙◌, subst, arith, zero, ℕ}
-use Rattle.vms_walk.specs.Runs.{run_of}
+use Rattle.vms_walk.proofs.Facade.{rules, ◌≡◌, ◌+◌, ◌-◌, ◌≤◌, refl, ◌∙◌, subst, arith, zero, ℕ, run_of}
 use Rattle.vms_walk.proofs.Going.{Laws}
 use Rattle.vms_walk.proofs.Kept.{err_is}
 use Rattle.vms_walk.proofs.Runs.{run_next, run_stop, run_may}

@@ -1,5 +1,4 @@
-use Rattle.std.proofs.Common.{◌≡◌, ◌+◌, ◌-◌, ◌≤◌, length}
-use Rattle.vms_walk.specs.Runs.{run_of}
+use Rattle.vms_walk.proofs.Facade.{◌≡◌, ◌+◌, ◌-◌, ◌≤◌, length, run_of}
 use Rattle.vms_walk.proofs.step.Walker.run.Given as goal
 
 abbrev pub invariant-loop-cell : goal.invariant-loop-cell
