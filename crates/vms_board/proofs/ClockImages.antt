@@ -1,21 +1,34 @@
--- Images of the newest clock set: the chip's, then those of the newest shipped set.
-use Rattle.std.proofs.Common.{◌≡◌, ℕ, zero, suc, ◌-◌, ◌≤◌, List, [], ◌∷◌, length, take, drop, map, get_or, Some, ℤ, refl, sym, ap, ◌∙◌, subst, arith}
-use Rattle.std.proofs.lemmas.Bool.{leb-true}
-use Rattle.std.proofs.lemmas.List.{take_rest}
-use Rattle.std.proofs.lemmas.Option.{slice_get-get_or}
-use Rattle.std.specs.List.{slice_get}
-use Rattle.arrayvec.specs.ArrayVec.{ArrayVec}
-use Rattle.vms_kinds.specs.declared.TheConstants.{MOST_CELLS}
-use Rattle.dev_base.specs.declared.limits.TheConstants.{NEWEST}
-use Rattle.dev_board.specs.declared.cells.BoardCells.{BoardCells}
-use Rattle.dev_clock.specs.declared.cells.ClockCells.{ClockCells}
-use Rattle.dev_clock_images.specs.Images.{cells_in}
+-- Images of the newest clock set, and the room for the numbers of the boards isa-1 to isa-4.
+use Rattle.vms_board.proofs.Facade.{◌≡◌, ℕ, zero, suc, ◌<◌, ◌≤◌, List, length, get_or, Some, refl, sym, ap, ◌∙◌, arith, ◌-◌, [], ◌∷◌, take, drop, map, ℤ, subst}
+use Rattle.vms_board.proofs.Facade.{slice_get, leb-true, slice_get-get_or, take_rest, MOST_CELLS, NEWEST, device_at, shipped_set, clock_set, Typed, AreImagesOf}
+use Rattle.vms_board.proofs.Facade.{IsImageOf, state_of, device_cells, first, ArrayVec, BoardCells, ClockCells, cells_in, NEWEST_CLOCK}
 use Rattle.dev_images.specs.Images.{cells_in as board_cells_in}
-use Rattle.vms_desc.specs.Described.{device_at}
-use Rattle.vms_desc.specs.Formed.{clock_set, shipped_set}
-use Rattle.vms_image.specs.Typed.{Typed, AreImagesOf, IsImageOf, state_of}
-use Rattle.vms_rtc.specs.declared.limits.TheConstants.{NEWEST_CLOCK}
-use Rattle.vms_spec.specs.Layout.{device_cells, first}
+
+-- ---- The room for the numbers of the devices of the boards isa-1 to isa-4.
+
+few : (k : ℕ) → k < 5 → length (device_cells (shipped_set NEWEST) (device_at (shipped_set NEWEST) k)) ≤ MOST_CELLS
+unfolding first
+few zero lt = leb-true (length (device_cells (shipped_set NEWEST) (device_at (shipped_set NEWEST) 0))) MOST_CELLS refl
+few (suc zero) lt = leb-true (length (device_cells (shipped_set NEWEST) (device_at (shipped_set NEWEST) 1))) MOST_CELLS refl
+few (suc (suc zero)) lt = leb-true (length (device_cells (shipped_set NEWEST) (device_at (shipped_set NEWEST) 2))) MOST_CELLS refl
+few (suc (suc (suc zero))) lt = leb-true (length (device_cells (shipped_set NEWEST) (device_at (shipped_set NEWEST) 3))) MOST_CELLS refl
+few (suc (suc (suc (suc zero)))) lt = leb-true (length (device_cells (shipped_set NEWEST) (device_at (shipped_set NEWEST) 4))) MOST_CELLS refl
+few (suc (suc (suc (suc (suc k))))) lt = absurd (omega (arith, lt))
+
+-- there are five images, each with room for its numbers among those of a device
+five_of : (images : List Typed) → AreImagesOf (shipped_set NEWEST) images → length images ≡ 5
+five_of images s = s.one_each
+
+pub room : (images : List Typed) (k : ℕ) (image : Typed) → AreImagesOf (shipped_set NEWEST) images → k < 5 → image ≡ get_or images k image
+    → length image.numbers ≤ MOST_CELLS
+room images k image s lt is =
+    let five = five_of images s in
+    let here : slice_get images k ≡ Some image = slice_get-get_or images k image (omega (arith, five, lt)) ∙ ap (λ (i : Typed). Some i) (sym is) in
+    let n = (s.each k image here).cells in
+    let most = few k lt in
+    omega (arith, n, most)
+
+-- ---- Images of the newest clock set: the chip's, then those of the newest shipped set.
 
 chip-few : length (device_cells (clock_set NEWEST_CLOCK) (device_at (clock_set NEWEST_CLOCK) 0)) ≤ MOST_CELLS
 unfolding first
@@ -25,7 +38,8 @@ chip-few = leb-true (length (device_cells (clock_set NEWEST_CLOCK) (device_at (c
 six_of : (images : List Typed) → AreImagesOf (clock_set NEWEST_CLOCK) images → length images ≡ 6
 six_of images are = are.one_each
 
-pub chip_room : (images : List Typed) (image : Typed) → AreImagesOf (clock_set NEWEST_CLOCK) images → image ≡ get_or images 0 image → length image.numbers ≤ MOST_CELLS
+pub chip_room : (images : List Typed) (image : Typed) → AreImagesOf (clock_set NEWEST_CLOCK) images → image ≡ get_or images 0 image
+    → length image.numbers ≤ MOST_CELLS
 chip_room images image are is =
     let six = six_of images are in
     let here : slice_get images 0 ≡ Some image = slice_get-get_or images 0 image (omega (arith, six)) ∙ ap (λ (i : Typed). Some i) (sym is) in
@@ -55,8 +69,10 @@ behind images are = subst (λ (i : List Typed). AreImagesOf (shipped_set NEWEST)
 abbrev both : List ℤ → BoardCells → ClockCells
 both numbers board = record { clock = record { items = numbers }; board = board }
 
-pub cells-behind : (images : List Typed) (image : Typed) (clock : ArrayVec ℤ) (board : BoardCells) → AreImagesOf (clock_set NEWEST_CLOCK) images → image ≡ get_or images 0 image
-    → clock.items ≡ image.numbers → board ≡ board_cells_in (map state_of (rest images)) → record { clock = clock; board = board } ≡ cells_in (map state_of images)
+pub cells-behind : (images : List Typed) (image : Typed) (clock : ArrayVec ℤ) (board : BoardCells) → AreImagesOf (clock_set NEWEST_CLOCK) images
+    → image ≡ get_or images 0 image
+    → clock.items ≡ image.numbers → board ≡ board_cells_in (map state_of (rest images))
+    → record { clock = clock; board = board } ≡ cells_in (map state_of images)
 cells-behind [] image clock board are is c b = let e = are.one_each in absurd (omega (arith, e))
 cells-behind (first ∷ images) image clock board are is c b =
     ap (λ (numbers : List ℤ). both numbers board) (c ∙ ap (λ (i : Typed). i.numbers) is)

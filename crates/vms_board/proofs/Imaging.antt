@@ -1,24 +1,13 @@
--- Images of numbers, made cell by cell and subsection by subsection.
-use Rattle.std.proofs.Common.{map, Some, subst, Bool, true, false, nat_lt, ◌≡◌, ℕ, zero, suc, ◌+◌, ◌<◌, ◌≤◌, List, [], ◌∷◌, ◌++◌, length, get_or, None, ℤ, pos, refl, sym, ap, ◌∙◌, arith}
-use Rattle.std.specs.List.{slice_get}
-use Rattle.std.proofs.lemmas.List.{ext_get_or, length-map, get_or-map, length-append, get_or_append_left}
-use Rattle.std.proofs.Math.Seq.{get_or-append_seam}
-use Rattle.std.proofs.lemmas.Bool.{ltb-true, ltb-false}
-use Rattle.std.proofs.lemmas.Option.{slice_get-get_or}
-use Rattle.vms_check.proofs.ListLaws.{same_at}
-use Rattle.vms_desc.specs.Spots.{kinds_at}
-use Rattle.vms_kinds.specs.Codes.{InRange}
-use Rattle.vms_kinds.specs.declared.Kind.{Kind}
-use Rattle.vms_kinds.specs.declared.Kind.TheVariants.{U8}
-use Rattle.vms_desc.specs.Described.{device_at}
-use Rattle.vms_image.proofs.Made.{same_image}
-use Rattle.vms_image.specs.Typed.{Typed, state_of, IsImageOf, AreImagesOf}
-use Rattle.vms_spec.specs.Images.{Image, FitCells}
-use Rattle.vms_spec.specs.Layout.{no_desc, no_cell, device_cells}
-use Rattle.vms_spec.specs.Sets.{AtLeast, Sub, Device, Set}
-use Rattle.dev_images.specs.Images.{bare, image_of, images_of, needed_from}
-use Rattle.vms_spec.specs.Streams.{AreReady}
-use Rattle.vms_board.specs.Imaging.{FitDevice, typed_of, needed_at, version_needed}
+-- Images of numbers, made cell by cell and subsection by subsection, and the bytes that a save writes for them.
+use Rattle.vms_board.proofs.Facade.{map, Some, subst, ◌≡◌, ℕ, zero, suc, ◌+◌, ◌<◌, ◌≤◌, List, [], ◌∷◌, length, get_or, None, ℤ, pos, refl, sym, ap, ◌∙◌, arith}
+use Rattle.vms_board.proofs.Facade.{◌-◌, Option, Result, Err, slice_get, ext_get_or, length-map, get_or-map, slice_get-get_or, same_at, kinds_at, InRange, Kind}
+use Rattle.vms_board.proofs.Facade.{U8, device_at, same_image, Typed, state_of, IsImageOf, AreImagesOf, Image, FitCells, no_desc, no_cell, device_cells}
+use Rattle.vms_board.proofs.Facade.{AtLeast, Sub, Device, Set, bare, image_of, images_of, needed_from, AreReady, written, FitDevice, typed_of, needed_at}
+use Rattle.vms_board.proofs.Facade.{version_needed, stops_as, Outlet, Stops, described_text, Family, MaySaveIn, Stands, images_saved, saved_stream, stream_with}
+use Rattle.vms_board.proofs.Facade.{Saves, SaveFault}
+use Rattle.vms_board.specs.declared.save.SaveFault.TheVariants as faults
+
+-- ---- Images of numbers, made cell by cell and subsection by subsection.
 
 -- the cells below an index have their numbers
 pub record Put (image old : Typed) (numbers : List ℤ) (cell : ℕ) : Type 0 where
@@ -48,7 +37,8 @@ needed-long set d image i (s ∷ subs) = ap suc (needed-long set d image (suc i)
 no_sub : Sub
 no_sub = record { desc = no_desc; needed = AtLeast 0 }
 
-needed-get : (set : Set) (d : Device) (image : Image) (i : ℕ) (subs : List Sub) (k : ℕ) → k < length subs → get_or (needed_from set d image i subs) k None ≡ version_needed set d image (get_or subs k no_sub) (i + k)
+needed-get : (set : Set) (d : Device) (image : Image) (i : ℕ) (subs : List Sub) (k : ℕ) → k < length subs
+    → get_or (needed_from set d image i subs) k None ≡ version_needed set d image (get_or subs k no_sub) (i + k)
 unfolding no_sub
 needed-get set d image i [] k lt = absurd (omega (arith, lt))
 needed-get set d image i (s ∷ subs) zero lt = let e : i ≡ i + zero = omega arith in ap (λ (n : ℕ). version_needed set d image s n) e
@@ -60,13 +50,15 @@ from-zero : (set : Set) (d : Device) (image : Image) (k : ℕ) → version_neede
 unfolding no_sub
 from-zero set d image k = let e : 0 + k ≡ k = omega arith in ap (λ (n : ℕ). version_needed set d image (get_or d.subs k no_sub) n) e
 
-pub marked_all : (set : Set) (d : Device) (image old : Typed) (sub : ℕ) → Marked set d image old sub → length d.subs ≤ sub → image ≡ record old { came = needed_from set d (state_of old) 0 d.subs }
+pub marked_all : (set : Set) (d : Device) (image old : Typed) (sub : ℕ) → Marked set d image old sub → length d.subs ≤ sub
+    → image ≡ record old { came = needed_from set d (state_of old) 0 d.subs }
 unfolding no_sub
 marked_all set d image old sub m all =
     let long = needed-long set d (state_of old) 0 d.subs in
     same_image image (record old { came = needed_from set d (state_of old) 0 d.subs }) m.version
     (ext_get_or None image.came (needed_from set d (state_of old) 0 d.subs) (m.long ∙ sym long)
-    (λ k lt. m.marked k (omega (arith, lt, m.long, all)) ∙ sym (needed-get set d (state_of old) 0 d.subs k (omega (arith, lt, m.long)) ∙ from-zero set d (state_of old) k)))
+    (λ k lt. m.marked k (omega (arith, lt, m.long, all)) ∙ sym
+    (needed-get set d (state_of old) 0 d.subs k (omega (arith, lt, m.long)) ∙ from-zero set d (state_of old) k)))
     m.numbers m.kinds
 
 -- ---- an image of each device
@@ -114,46 +106,21 @@ fit-device set k numbers f =
     }
 
 -- so do the numbers of ready images
-pub fit_each : (set : Set) (lists : List (List ℤ)) → AreReady set (images_of set set.devices lists) → (k : ℕ) → k < length set.devices → FitDevice set k (get_or lists k [])
+pub fit_each : (set : Set) (lists : List (List ℤ)) → AreReady set (images_of set set.devices lists) → (k : ℕ) → k < length set.devices
+    → FitDevice set k (get_or lists k [])
 unfolding no_device
 fit_each set lists r k lt =
     let images = images_of set set.devices lists in
     let all = r.one_each in
     let here : slice_get images k ≡ Some (image_of set (device_at set k) (get_or lists k [])) =
     slice_get-get_or images k no_image (omega (arith, lt, all)) ∙ ap (λ (i : Image). Some i) (image-get set lists r.one_each k lt) in
-    fit-device set k (get_or lists k []) (r.ready k (device_at set k) (image_of set (device_at set k) (get_or lists k [])) (slice_get-get_or set.devices k no_device lt) here).normal.cells
+    fit-device set k (get_or lists k [])
+    (r.ready k (device_at set k) (image_of set (device_at set k) (get_or lists k [])) (slice_get-get_or set.devices k no_device lt) here).normal.cells
 
 -- the images below an index are made
 pub record Made (set : Set) (lists : List (List ℤ)) (images : List Typed) (device : ℕ) : Type 0 where
   pub long : length images ≡ device
   pub each : (k : ℕ) → k < device → get_or images k no_typed ≡ typed_of set k (get_or lists k [])
-
--- one image more
-pub made_push : (set : Set) (lists : List (List ℤ)) (old new : List Typed) (image : Typed) (device next : ℕ) → Made set lists old device → new ≡ old ++ image ∷ [] → image ≡ typed_of set device (get_or lists device []) → next ≡ suc device
-    → Made set lists new next
-made_push set lists old new image device next m e f n =
-    let long = m.long in
-    let pushed : length (old ++ image ∷ []) ≡ length old + 1 = length-append old (image ∷ []) in
-    let count : length new ≡ length (old ++ image ∷ []) = ap length e in
-    record {
-      long = omega (arith, long, pushed, count, n);
-      each = λ k lt. ap (λ (l : List Typed). get_or l k no_typed) e ∙ each-of set lists old image device m f k (omega (arith, lt, n)) (nat_lt k device) refl;
-    }
-  where
-    last : (set : Set) (lists : List (List ℤ)) (old : List Typed) (image : Typed) (device : ℕ) → length old ≡ device → image ≡ typed_of set device (get_or lists device [])
-        → get_or (old ++ image ∷ []) device no_typed ≡ typed_of set device (get_or lists device [])
-    last set lists old image device l f = ap (λ (n : ℕ). get_or (old ++ image ∷ []) n no_typed) (sym l) ∙ get_or-append_seam old image [] no_typed ∙ f
-
-    each-of : (set : Set) (lists : List (List ℤ)) (old : List Typed) (image : Typed) (device : ℕ) → Made set lists old device → image ≡ typed_of set device (get_or lists device []) → (k : ℕ) → k < suc device
-        → (b : Bool) → nat_lt k device ≡ b → get_or (old ++ image ∷ []) k no_typed ≡ typed_of set k (get_or lists k [])
-    each-of set lists old image device m f k lt true b =
-        let below : k < device = ltb-true k device b in
-        let long = m.long in
-        get_or_append_left old (image ∷ []) no_typed k (omega (arith, below, long)) ∙ m.each k below
-    each-of set lists old image device m f k lt false b =
-        let at-least : device ≤ k = ltb-false k device b in
-        let same : device ≡ k = omega (arith, at-least, lt) in
-        subst (λ (n : ℕ). get_or (old ++ image ∷ []) n no_typed ≡ typed_of set n (get_or lists n [])) same (last set lists old image device m.long f)
 
 pub at_below : {X : Type 0} (xs : List X) (k : ℕ) (x : X) → slice_get xs k ≡ Some x → k < length xs
 at_below [] k x e = cc
@@ -162,10 +129,12 @@ at_below (y ∷ xs) (suc k) x e = let below = at_below xs k x e in omega (arith,
 
 -- an image with numbers for its device is one of it
 is-of : (set : Set) (k : ℕ) (numbers : List ℤ) → FitDevice set k numbers → IsImageOf set k (typed_of set k numbers)
-is-of set k numbers f = record { subs = needed-long set (device_at set k) (bare (device_at set k) numbers) 0 (device_at set k).subs; cells = f.long; kinds = refl }
+is-of set k numbers f =
+    record { subs = needed-long set (device_at set k) (bare (device_at set k) numbers) 0 (device_at set k).subs; cells = f.long; kinds = refl }
 
 -- all images are made: they have these states, and each is one of its device
-pub made_states : (set : Set) (lists : List (List ℤ)) (images : List Typed) (device : ℕ) → AreReady set (images_of set set.devices lists) → Made set lists images device → device ≡ length set.devices
+pub made_states : (set : Set) (lists : List (List ℤ)) (images : List Typed) (device : ℕ) → AreReady set (images_of set set.devices lists)
+    → Made set lists images device → device ≡ length set.devices
     → map state_of images ≡ images_of set set.devices lists
 made_states set lists images device r m e =
     let one = r.one_each in
@@ -176,31 +145,84 @@ made_states set lists images device r m e =
     get_or-map state_of images k no_typed no_image (omega (arith, lt, same)) ∙ ap state_of (m.each k (omega (arith, lt, same, long)))
     ∙ sym (image-get set lists one k (omega (arith, lt, same, long, e))))
 
-pub made_of : (set : Set) (lists : List (List ℤ)) (images : List Typed) (device : ℕ) → AreReady set (images_of set set.devices lists) → Made set lists images device → device ≡ length set.devices → AreImagesOf set images
+pub made_of : (set : Set) (lists : List (List ℤ)) (images : List Typed) (device : ℕ) → AreReady set (images_of set set.devices lists)
+    → Made set lists images device → device ≡ length set.devices → AreImagesOf set images
 made_of set lists images device r m e =
     let long = m.long in
     record {
       one_each = long ∙ e;
       each = λ k image here.
           let below = at_below images k image here in
-          let is : image ≡ typed_of set k (get_or lists k []) = same_at images k _ _ here (slice_get-get_or images k no_typed below) ∙ m.each k (omega (arith, below, long)) in
+          let is : image ≡ typed_of set k (get_or lists k []) =
+          same_at images k _ _ here (slice_get-get_or images k no_typed below) ∙ m.each k (omega (arith, below, long)) in
           subst (λ (i : Typed). IsImageOf set k i) (sym is) (is-of set k (get_or lists k []) (fit_each set lists r k (omega (arith, below, long, e))));
     }
 
 -- ---- the images of a board, under a set
 
-pub listed : (set own : Set) (lists : List (List ℤ)) (k : ℕ) → AreReady own (images_of own own.devices lists) → set ≡ own → k < length set.devices → k < length lists
+pub listed : (set own : Set) (lists : List (List ℤ)) (k : ℕ) → AreReady own (images_of own own.devices lists) → set ≡ own → k < length set.devices
+    → k < length lists
 listed set own lists k r e lt =
     let long = lists-long own own.devices lists r.one_each in
     let same : length set.devices ≡ length own.devices = ap (λ (x : Set). length x.devices) e in
     omega (arith, lt, long, same)
 
-pub fits_of : (set own : Set) (lists : List (List ℤ)) (k : ℕ) (numbers : List ℤ) → AreReady own (images_of own own.devices lists) → set ≡ own → numbers ≡ get_or lists k [] → k < length set.devices → FitDevice set k numbers
+pub fits_of : (set own : Set) (lists : List (List ℤ)) (k : ℕ) (numbers : List ℤ) → AreReady own (images_of own own.devices lists) → set ≡ own
+    → numbers ≡ get_or lists k [] → k < length set.devices → FitDevice set k numbers
 fits_of set own lists k numbers r e f lt =
     subst (λ (n : List ℤ). FitDevice set k n) (sym f) (fit_each set lists (subst (λ (x : Set). AreReady x (images_of x x.devices lists)) (sym e) r) k lt)
 
-pub all_made : (set own : Set) (lists : List (List ℤ)) (images : List Typed) (device : ℕ) → AreReady own (images_of own own.devices lists) → set ≡ own → Made set lists images device → device ≡ length set.devices
+pub all_made : (set own : Set) (lists : List (List ℤ)) (images : List Typed) (device : ℕ) → AreReady own (images_of own own.devices lists) → set ≡ own
+    → Made set lists images device → device ≡ length set.devices
     → (map state_of images ≡ images_of own own.devices lists) × AreImagesOf set images
 all_made set own lists images device r e m d =
     let ready = subst (λ (x : Set). AreReady x (images_of x x.devices lists)) (sym e) r in
     (made_states set lists images device ready m d ∙ ap (λ (x : Set). images_of x x.devices lists) e, made_of set lists images device ready m d)
+
+-- ---- The bytes that a save writes.
+
+module _ {S : Type 0} (f : Family S) {IsSound : S → Type 0} {AreTold : List (List ℤ) → Type 0} (stands : Stands f IsSound AreTold) where
+  -- a sound board's machine has its index in a set under which the board may be saved
+  pub machine_named : (d m : S) (s : ℕ) → IsSound d → d ≡ m → MaySaveIn f m s → slice_get (f.set s).machines (f.number m - 1) ≡ Some (f.machine (f.number m))
+  machine_named d m s sound e may =
+      stands.named (f.number m) s (subst (λ (x : S). 1 ≤ f.number x) e (stands.numbered d sound).first) may.level_le_set may.set_le_newest
+
+  pub machine_below : (d m : S) (s : ℕ) (set : Set) (machine : ℕ) → IsSound d → d ≡ m → MaySaveIn f m s → machine ≡ f.number d - 1 → set ≡ f.set s
+      → machine < length set.machines
+  machine_below d m s set machine sound e may is own =
+      let below = at_below (f.set s).machines (f.number m - 1) (f.machine (f.number m)) (machine_named d m s sound e may) in
+      let same : length set.machines ≡ length (f.set s).machines = ap (λ (x : Set). length x.machines) own in
+      let number : f.number d ≡ f.number m = ap f.number e in
+      omega (arith, below, same, is, number)
+
+module _ {S : Type 0} (f : Family S) where
+  -- the bytes written for the images that were made are the board's stream
+  pub saved_bytes : (s : ℕ) (m : S) (set : Set) (made listed sent : List Image) (told text : List ℕ) (machine : ℕ)
+      → slice_get (f.set s).machines (f.number m - 1) ≡ Some (f.machine (f.number m)) → machine ≡ f.number m - 1
+      → set ≡ f.set s → made ≡ images_saved f s m → listed ≡ made → sent ≡ made → told ≡ described_text set listed → text ≡ told
+      → written set (slice_get set.machines machine) sent (Some text) ≡ saved_stream f s m
+  unfolding saved_stream
+  saved_bytes s m set made listed sent told text machine named is e i g h t u =
+      ap (λ (n : ℕ). written set (slice_get set.machines n) sent (Some text)) is
+      ∙ ap (λ (x : Set). written x (slice_get x.machines (f.number m - 1)) sent (Some text)) e
+      ∙ ap (λ (o : Option (List ℕ)). written (f.set s) o sent (Some text)) named
+      ∙ ap (λ (l : List Image). written (f.set s) (Some (f.machine (f.number m))) l (Some text)) (h ∙ i)
+      ∙ ap (λ (x : List ℕ). written (f.set s) (Some (f.machine (f.number m))) (images_saved f s m) (Some x))
+      (u ∙ t ∙ ap (λ (x : Set). described_text x listed) e ∙ ap (λ (l : List Image). described_text (f.set s) l) (g ∙ i))
+
+  -- the bytes written for them without a description
+  pub bare_bytes : (s : ℕ) (m : S) (set : Set) (made sent : List Image) (machine : ℕ)
+      → slice_get (f.set s).machines (f.number m - 1) ≡ Some (f.machine (f.number m)) → machine ≡ f.number m - 1
+      → set ≡ f.set s → made ≡ images_saved f s m → sent ≡ made
+      → written set (slice_get set.machines machine) sent None ≡ stream_with f s m None
+  unfolding stream_with
+  bare_bytes s m set made sent machine named is e i h =
+      ap (λ (n : ℕ). written set (slice_get set.machines n) sent None) is
+      ∙ ap (λ (x : Set). written x (slice_get x.machines (f.number m - 1)) sent None) e
+      ∙ ap (λ (o : Option (List ℕ)). written (f.set s) o sent None) named
+      ∙ ap (λ (l : List Image). written (f.set s) (Some (f.machine (f.number m))) l None) (h ∙ i)
+
+pub saves_some : {bytes found : List ℕ} {old new : Outlet} (r : Result (Unit {0}) SaveFault) → found ≡ bytes → r ≡ Err faults.WriteFault
+    → Stops old new found → Saves bytes old new r
+saves_some {bytes} {found} {old} {new} r e f h =
+    subst (λ (x : Result (Unit {0}) SaveFault). Saves bytes old new x) (sym f) (stops_as e h)

@@ -1,15 +1,6 @@
 -- The result of a call that reads a board's stream from a known input, and the bytes that it reads.
-use Rattle.std.proofs.Common.{◌≡◌, ◌≤◌, ℕ, ◌+◌, inl, inr, List, Option, Some, None, IfSome, Result, Ok, Err, arith}
-use Rattle.vms_io.proofs.ReadingLemmas.{reads_told}
-use Rattle.vms_io.specs.Causes.{capped}
-use Rattle.vms_io.specs.Told.{Intake}
-use Rattle.vms_frames.specs.declared.fault.Refusal.{Refusal}
-use Rattle.vms_load.specs.Staging.{most_given}
-use Rattle.vms_board.specs.Comes.{ComesTo, IsRefused, RestoreReads}
-use Rattle.vms_board.specs.Family.{Family}
-use Rattle.vms_board.specs.Restoring.{Refused, Restores}
-use Rattle.vms_board.specs.Standing.{Standing}
-use Rattle.vms_board.specs.declared.restore.RestoreFault.{RestoreFault}
+use Rattle.vms_board.proofs.Facade.{◌≤◌, ℕ, ◌+◌, inl, inr, List, Option, Some, None, IfSome, Result, Ok, Err, arith, reads_told, Intake, Refusal, most_given}
+use Rattle.vms_board.proofs.Facade.{ComesTo, IsRefused, RestoreReads, Family, Refused, Restores, Standing, RestoreFault}
 use Rattle.vms_board.specs.declared.restore.RestoreFault.TheVariants as faults
 
 nothing : (old : Option (List ℕ)) → IfSome old (λ input. Unit {0})
@@ -22,14 +13,12 @@ module _ {S : Type 0} (f : Family S) (number : ℕ) (new : Standing S) {a b : In
   content (Err (faults.Refused r)) p = reads_told (λ input left. ComesTo f number new input left (Err (faults.Refused r))) tt p
   content (Err faults.ReadFault) p = nothing a.left
 
-  pub back_given : RestoreReads f number a b new (Ok tt) → b.given ≡ capped (a.given + new.taken)
-  back_given p = omega (arith, p.takes.given, p.long.0)
-
   pub within : (r : Result Unit RestoreFault) → RestoreReads f number a b new r → b.given ≤ a.given + most_given (f.set f.newest)
   within (Ok u) p = omega (arith, p.takes.given, p.long.0, p.long.1)
   within (Err fault) p = omega (arith, p.takes.given, p.long)
 
 -- bytes that are refused restore to that refusal
-pub refused_is : {S : Type 0} (f : Family S) (number : ℕ) (input : List ℕ) (left : Option (List ℕ)) (r : Refusal) → IsRefused f number input left r → Restores f number input (Refused r.at r.section r.reason)
+pub refused_is : {S : Type 0} (f : Family S) (number : ℕ) (input : List ℕ) (left : Option (List ℕ)) (r : Refusal) → IsRefused f number input left r
+    → Restores f number input (Refused r.at r.section r.reason)
 refused_is f number input left r (inl h) = inl h.0
 refused_is f number input left r (inr h) = inr h.0

@@ -8,4 +8,6 @@ pub cells_in-requires : goal.cells_in-requires
 cells_in-requires c = behind c.args.images.now c.requires
 
 pub returns : goal.returns
-returns c = cells-behind c.args.images.now c.index-images-0.result c.image_cells.result c.cells_in.result c.requires c.index-images-0.is c.image_cells.ensures c.cells_in.ensures
+returns c =
+    cells-behind c.args.images.now c.index-images-0.result c.image_cells.result c.cells_in.result c.requires c.index-images-0.is c.image_cells.ensures
+    c.cells_in.ensures

@@ -1,4 +1,4 @@
-use Rattle.vms_desc.specs.Described.{described, device_at}
+use Rattle.vms_board.proofs.Facade.{described, device_at}
 use Rattle.vms_board.proofs.Imaging.{Marked}
 use Rattle.vms_board.proofs.images.mark_needed.Given as goal
 

@@ -1,4 +1,4 @@
-use Rattle.std.proofs.Common.{arith}
+use Rattle.vms_board.proofs.Facade.{arith}
 use Rattle.vms_board.proofs.Imaging.{put_all}
 use Rattle.vms_board.proofs.images.put_numbers.Goals as goal
 
