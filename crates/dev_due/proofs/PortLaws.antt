@@ -1,19 +1,19 @@
 -- The serial port's line while time passes.
-use Rattle.std.proofs.Common.{◌≡◌, ℕ, zero, suc, ◌+◌, ◌*◌, ◌/◌, ◌<◌, ◌≤◌, ◌==◌, ◌⊎◌, inl, inr, Bool, true, false, not, ◌&&◌, cond, if◌then◌else◌, List, [], ◌∷◌, ◌++◌, length, Option, Some, None, refl, sym, ap, ◌∙◌, subst, arith, ⊎_elim}
+use Rattle.std.proofs.Common.{◌≡◌, ℕ, suc, ◌+◌, ◌*◌, ◌/◌, ◌<◌, ◌≤◌, ◌==◌, ◌⊎◌, inl, inr, Bool, true, false, ◌&&◌, if◌then◌else◌, List, [], ◌∷◌, ◌++◌, length, Option, Some, None, refl, sym, ap, ◌∙◌, subst, arith, ⊎_elim}
 use Rattle.std.proofs.lemmas.Bool.{cases_lt, le-leb, lt-leb}
 use Rattle.std.proofs.lemmas.Bool.Decides.{nat_tests}
 use Rattle.std.specs.Prelude.{is_some, nat_le, nat_lt}
 use Rattle.dev_base.proofs.Choices.{either}
 use Rattle.dev_base.specs.Bits.{has}
-use Rattle.dev_serial.specs.Access.{advanced, is_empty, leaving}
+use Rattle.dev_serial.specs.Access.{advanced}
 use Rattle.dev_serial.specs.Line.{character_time}
 use Rattle.dev_serial.specs.Parts.{ReceiverState, TransmitterState}
 use Rattle.dev_serial.specs.Port.{Port, has_come, interrupt, line_of, mode_of}
 use Rattle.dev_serial.specs.Receive.{received}
-use Rattle.dev_serial.specs.Transmit.{IsSentAfter, arrived, departures, gone, holding, run_until, staying, timetable, bytes_of}
+use Rattle.dev_serial.specs.Transmit.{IsSentAfter, departures, gone, holding, run_until, staying, timetable, bytes_of}
 use Rattle.dev_serial.specs.declared.shift.Shift.{Shift}
 use Rattle.dev_due.specs.Search.{SameLine}
-use Rattle.dev_serial.proofs.SendingLaws.{bytes_of-timetable, looped_none, advances_in_parts, character-positive, loops_at_moment, still, waits_until_due}
+use Rattle.dev_serial.proofs.SendingLaws.{bytes_of-timetable, advances_in_parts, character-positive, loops_at_moment, still, waits_until_due}
 
 -- ---- nothing leaves
 
@@ -58,7 +58,8 @@ module _ (base to : ℕ) (port : Port) (l : base ≤ to) (h : IsSentAfter to (af
 
   one : (c : ℕ) → base ≤ c → c ≤ to → has_come c p.receiver.timeout ≡ has_come to p.receiver.timeout → SameLine port c to
   one c low high e = record {
-    line = ap (λ (x : List ℕ × Port). line_of c x.1) (at c low high) ∙ line-same c to p e ∙ sym (ap (λ (x : List ℕ × Port). line_of to x.1) (at to l (omega arith)));
+    line = ap (λ (x : List ℕ × Port). line_of c x.1) (at c low high) ∙ line-same c to p e
+        ∙ sym (ap (λ (x : List ℕ × Port). line_of to x.1) (at to l (omega arith)));
     sent = ap (λ (x : List ℕ × Port). x.0) (at c low high ∙ sym (at to l (omega arith)));
   }
 
@@ -110,14 +111,16 @@ module _ (base to : ℕ) (port : Port) (l : base ≤ to) (h : IsSentAfter to (af
 
 -- ---- a byte leaves the shift register
 
-next-stays : (character due : ℕ) (bytes : List ℕ) → 1 ≤ character → staying due (timetable character (due + character) bytes) ≡ timetable character (due + character) bytes
+next-stays : (character due : ℕ) (bytes : List ℕ) → 1 ≤ character
+    → staying due (timetable character (due + character) bytes) ≡ timetable character (due + character) bytes
 unfolding staying timetable
 next-stays character due [] h = refl
 next-stays character due (byte ∷ bytes) h = rw (lt-leb (due + character) due (omega arith)) refl
 
 -- what the shift register and the list hold then
 sent-transmitter : (port : Port) (shift : Shift) → port.transmitter.shift ≡ Some shift
-    → (after shift.due port).transmitter ≡ holding (timetable (character_time port.divisor port.lcr) (shift.due + character_time port.divisor port.lcr) port.transmitter.waiting)
+    → (after shift.due port).transmitter ≡ holding
+    (timetable (character_time port.divisor port.lcr) (shift.due + character_time port.divisor port.lcr) port.transmitter.waiting)
 unfolding advanced run_until departures timetable staying
 sent-transmitter port shift e =
     let character = character_time port.divisor port.lcr in
@@ -136,7 +139,8 @@ received-timeout port byte at receiver =
     let P = λ (r : ReceiverState). IsTimeout receiver.timeout new r.timeout in
     let runs : IsTimeout receiver.timeout new (if (nat_le 3 port.level && is_some port.fifos) then Some new else receiver.timeout) =
     either (IsTimeout receiver.timeout new) (nat_le 3 port.level && is_some port.fifos) _ _ (inr refl) (inl refl) in
-    either P (is_some port.fifos) _ _ (either P (nat_lt (length receiver.held) 16) _ _ runs runs) (either P (length receiver.held == 0) _ _ (inl refl) (inl refl))
+    either P (is_some port.fifos) _ _ (either P (nat_lt (length receiver.held) 16) _ _ runs runs)
+    (either P (length receiver.held == 0) _ _ (inl refl) (inl refl))
 
 sent-timeout : (port : Port) (shift : Shift) → has port.mcr 4 ≡ true → port.transmitter.shift ≡ Some shift
     → IsTimeout port.receiver.timeout (shift.due + 4 * character_time port.divisor port.lcr) (after shift.due port).receiver.timeout
@@ -159,7 +163,8 @@ abbrev pub IsBase : Port → (now base : ℕ) → Type 0
 IsBase port now base =
     (base ≡ now) ⊎ ((port.receiver.timeout ≡ Some base)
     ⊎ ((shift : Shift) × (port.transmitter.shift ≡ Some shift) × ((k : ℕ) × (k ≤ length port.transmitter.waiting)
-    × ((base ≡ shift.due + k * character_time port.divisor port.lcr) ⊎ (base ≡ shift.due + k * character_time port.divisor port.lcr + 4 * character_time port.divisor port.lcr)))))
+    × ((base ≡ shift.due + k * character_time port.divisor port.lcr)
+    ⊎ (base ≡ shift.due + k * character_time port.divisor port.lcr + 4 * character_time port.divisor port.lcr)))))
 
 -- a span of time up to a moment begins at one of them
 pub record Covers (port : Port) (now to : ℕ) : Type 0 where
@@ -174,14 +179,16 @@ some-same a b e = cc
 -- a timeout is that of the port, or one that began with one of the first k bytes that left
 abbrev IsSince : Port → Shift → (k : ℕ) → Option ℕ → Type 0
 IsSince port shift k timeout =
-    (timeout ≡ port.receiver.timeout) ⊎ ((j : ℕ) × (j < k) × (timeout ≡ Some (shift.due + j * character_time port.divisor port.lcr + 4 * character_time port.divisor port.lcr)))
+    (timeout ≡ port.receiver.timeout)
+    ⊎ ((j : ℕ) × (j < k) × (timeout ≡ Some (shift.due + j * character_time port.divisor port.lcr + 4 * character_time port.divisor port.lcr)))
 
 module _ (port : Port) (shift : Shift) (k : ℕ) where
   abbrev time : ℕ
   time = character_time port.divisor port.lcr
 
   -- that of a port after one more byte left
-  since-next : (old new : Option ℕ) (at : ℕ) → at ≡ shift.due + k * time + 4 * time → IsSince port shift k old → IsTimeout old at new → IsSince port shift (k + 1) new
+  since-next : (old new : Option ℕ) (at : ℕ) → at ≡ shift.due + k * time + 4 * time → IsSince port shift k old → IsTimeout old at new
+      → IsSince port shift (k + 1) new
   since-next old new at d (inl own) (inl same) = inl (same ∙ own)
   since-next old new at d (inr (j, below, is)) (inl same) = inr (j, omega arith, same ∙ is)
   since-next old new at d since (inr same) = inr (k, omega arith, same ∙ ap (λ (n : ℕ). Some n) d)
@@ -191,7 +198,8 @@ module _ (port : Port) (now to : ℕ) (looped : has port.mcr 4 ≡ true) (shift 
   character = character_time port.divisor port.lcr
 
   -- a timeout of these is one of the port's moments
-  since-base : (k : ℕ) (timeout : Option ℕ) (base : ℕ) → k ≤ length port.transmitter.waiting + 1 → timeout ≡ Some base → IsSince port shift k timeout → IsBase port now base
+  since-base : (k : ℕ) (timeout : Option ℕ) (base : ℕ) → k ≤ length port.transmitter.waiting + 1 → timeout ≡ Some base → IsSince port shift k timeout
+      → IsBase port now base
   since-base k timeout base h e (inl own) = inr (inl (sym own ∙ e))
   since-base k timeout base h e (inr (j, below, is)) =
       inr (inr (shift, sends, (j, omega arith, inr (some-same base _ (sym e ∙ is)))))
@@ -212,8 +220,10 @@ module _ (port : Port) (now to : ℕ) (looped : has port.mcr 4 ≡ true) (shift 
       let b = begins base to port l (subst (λ (q : Port). IsSentAfter to q.transmitter.shift) r.is h) in
       by_begin b b.is
     where
-      by_begin : (b : Begins base to port l (subst (λ (q : Port). IsSentAfter to q.transmitter.shift) r.is h)) → (b.begin ≡ base) ⊎ ((after base port).receiver.timeout ≡ Some b.begin) → Covers port now to
-      by_begin b (inl own) = record { base = b.begin; from = omega (arith, r.from, b.from); is = subst (IsBase port now) (sym own) r.begins_there; span = b.span }
+      by_begin : (b : Begins base to port l (subst (λ (q : Port). IsSentAfter to q.transmitter.shift) r.is h))
+          → (b.begin ≡ base) ⊎ ((after base port).receiver.timeout ≡ Some b.begin) → Covers port now to
+      by_begin b (inl own) =
+          record { base = b.begin; from = omega (arith, r.from, b.from); is = subst (IsBase port now) (sym own) r.begins_there; span = b.span }
       by_begin b (inr timed) = record {
         base = b.begin;
         from = omega (arith, r.from, b.from);
@@ -227,7 +237,8 @@ module _ (port : Port) (now to : ℕ) (looped : has port.mcr 4 ≡ true) (shift 
     all : length bytes + k ≡ length port.transmitter.waiting + 1
 
   -- one more byte leaves
-  next-reached : (k base due : ℕ) (p : Port) (first : Shift) → Reached k base p → p.transmitter.shift ≡ Some first → first.due ≡ shift.due + k * character → k ≤ length port.transmitter.waiting
+  next-reached : (k base due : ℕ) (p : Port) (first : Shift) → Reached k base p → p.transmitter.shift ≡ Some first → first.due ≡ shift.due + k * character
+      → k ≤ length port.transmitter.waiting
       → base ≤ first.due → Reached (k + 1) first.due (after first.due p)
   unfolding advanced
   next-reached k base due p first r e d few later = record {
@@ -280,7 +291,8 @@ module _ (port : Port) (now to : ℕ) (looped : has port.mcr 4 ≡ true) (shift 
   whole =
       let due : shift.due + 0 * character ≡ shift.due = omega arith in
       ap (λ (s : Option Shift). let t : TransmitterState = record { waiting = port.transmitter.waiting; shift = s } in t) sends
-      ∙ ap (λ (w : List ℕ). let t : TransmitterState = record { waiting = w; shift = Some shift } in t) (sym (bytes_of-timetable character (shift.due + 0 * character + character) port.transmitter.waiting))
+      ∙ ap (λ (w : List ℕ). let t : TransmitterState = record { waiting = w; shift = Some shift } in t)
+      (sym (bytes_of-timetable character (shift.due + 0 * character + character) port.transmitter.waiting))
       ∙ ap (λ (d : ℕ). let t : TransmitterState = record { waiting = bytes_of (timetable character (shift.due + 0 * character + character) port.transmitter.waiting); shift = Some (record { byte = shift.byte; due = d }) } in t) (sym due)
 
   -- from the present moment
@@ -321,11 +333,13 @@ at-once port now to l h =
         })
         b.is
 
-by-mode : (looped : Bool) (port : Port) (now to : ℕ) (shift : Shift) → has port.mcr 4 ≡ looped → port.transmitter.shift ≡ Some shift → now ≤ to → now < shift.due → shift.due ≤ to → Covers port now to ⊎ LeavesBy port to
+by-mode : (looped : Bool) (port : Port) (now to : ℕ) (shift : Shift) → has port.mcr 4 ≡ looped → port.transmitter.shift ≡ Some shift → now ≤ to
+    → now < shift.due → shift.due ≤ to → Covers port now to ⊎ LeavesBy port to
 by-mode true port now to shift l e h d f = inl (cover-now port now to l shift e h d)
 by-mode false port now to shift l e h d f = inr (record { shift = shift; sends = e; by = f; some = leaves port shift l e })
 
-by-shift : (shift : Option Shift) (port : Port) (now to : ℕ) → port.transmitter.shift ≡ shift → now ≤ to → IsSentAfter now shift → Covers port now to ⊎ LeavesBy port to
+by-shift : (shift : Option Shift) (port : Port) (now to : ℕ) → port.transmitter.shift ≡ shift → now ≤ to → IsSentAfter now shift
+    → Covers port now to ⊎ LeavesBy port to
 by-shift None port now to e h d = inl (at-once port now to h (subst (IsSentAfter to) (sym e) tt))
 by-shift (Some shift) port now to e h d = ⊎_elim
     (λ (f : to < shift.due). inl (at-once port now to h (subst (IsSentAfter to) (sym e) f)))

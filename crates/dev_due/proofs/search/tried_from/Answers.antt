@@ -1,5 +1,4 @@
-use Rattle.dev_due.proofs.Covers.{found_from}
-use Rattle.dev_due.proofs.Finding.{finds_on, keep_tried}
+use Rattle.dev_due.proofs.DueLaws.{found_from, finds_on, keep_tried}
 use Rattle.dev_due.proofs.search.tried_from.Goals as goal
 
 pub returns-clause-finds : goal.returns-clause-finds

@@ -1,8 +1,8 @@
-use Rattle.std.proofs.Common.{◌≡◌, ℕ, ◌≤◌, Option, sym, subst, arith}
+use Rattle.std.proofs.Common.{◌≡◌, ◌≤◌, Option, sym, subst, arith}
 use Rattle.std.specs.Prelude.{IfSome}
 use Rattle.dev_serial.specs.declared.shift.Shift.{Shift}
 use Rattle.dev_due.specs.Search.{FoundSends}
-use Rattle.dev_due.proofs.Finding.{finds_on, finds_same, next_sends}
+use Rattle.dev_due.proofs.DueLaws.{finds_on, finds_same, next_sends}
 use Rattle.dev_due.proofs.search.tried_sends.Goals as goal
 
 pub loop-init : goal.loop-init
@@ -18,7 +18,8 @@ loop-preserved c =
     let before = c.loop.invariant in
     record {
       finds = finds_on before.finds c.tried_send-first.ensures.finds;
-      sends = next_sends c.args.board c.loop.first c.tried_send-first.result c.in-Some.shift.due c.loop.counter c.loop.sent before.sends c.tried_send-first.ensures.finds before.sent c.tried_send-first.ensures.send;
+      sends = next_sends c.args.board c.loop.first c.tried_send-first.result c.in-Some.shift.due c.loop.counter c.loop.sent before.sends
+          c.tried_send-first.ensures.finds before.sent c.tried_send-first.ensures.send;
       sent = omega (arith, before.sent, c.character-time.ensures.time);
       bound = omega (arith, before.bound, c.character-time.ensures.longest);
     }

@@ -4,7 +4,7 @@ use Rattle.dev_pit.specs.Pit.{counter_of}
 use Rattle.dev_pit.specs.Turns.{AreTurns}
 use Rattle.dev_pit.specs.declared.pit.Pit.{Pit}
 use Rattle.dev_due.specs.Boards.{devices_of}
-use Rattle.dev_due.proofs.BoardLaws.{loaded_later, loaded_now}
+use Rattle.dev_due.proofs.DueLaws.{loaded_later, loaded_now}
 use Rattle.dev_due.proofs.boards.Board.turns.Goals as goal
 
 pub turns-requires-clause-loaded : goal.turns-requires-clause-loaded
