@@ -1,17 +1,7 @@
 -- The image of the chip's cells is ready.
-use Rattle.std.proofs.Common.{◌≡◌, ℕ, Bool, true, false, List, get_or, ℤ, pos, codes, refl, arith}
-use Rattle.dev_base.specs.Cells.{AreOf}
-use Rattle.dev_images.proofs.ChipReady.{needs, unneeded}
-use Rattle.dev_images.proofs.ReadyOf.{are_kept, ready-plain}
-use Rattle.dev_images.specs.Images.{image_of}
-use Rattle.dev_images.specs.Laws.{ReadyOf}
-use Rattle.vms_fields.specs.Clock.{mc146818_rows}
-use Rattle.vms_fields.specs.Fields.{place_under}
-use Rattle.vms_rtc.specs.Cells.{kinds}
-use Rattle.vms_shipped.specs.ClockSets.{clock_1, clock_2, mc146818_at_1, mc146818_at_2}
-use Rattle.vms_spec.specs.Images.{image_slots, IsValid}
-use Rattle.vms_spec.specs.Layout.{first, device_cells}
-use Rattle.dev_clock_images.specs.Laws.{ChipIsReady}
+use Rattle.dev_clock_images.proofs.Facade.{◌≡◌, ℕ, Bool, true, false, List, get_or, ℤ, pos, codes, refl, arith, AreOf, needs, unneeded, are_kept, ready-plain}
+use Rattle.dev_clock_images.proofs.Facade.{image_of, ReadyOf, mc146818_rows, place_under, kinds, clock_1, clock_2, mc146818_at_1, mc146818_at_2, image_slots}
+use Rattle.dev_clock_images.proofs.Facade.{IsValid, first, device_cells, ChipIsReady}
 
 -- The place of the flag's cell in a clock set, and the number that it holds.
 abbrev pub flag_place : ℕ → ℕ

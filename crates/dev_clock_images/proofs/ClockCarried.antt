@@ -1,42 +1,29 @@
 -- What is saved of sound devices is carried to the newest clock set as their tables say, and can be
 -- restored.
-use Rattle.std.proofs.Common.{◌≡◌, ℕ, zero, suc, ◌≤◌, Bool, true, false, List, ◌∷◌, ℤ, pos, refl, sym, ap, subst, ◌∙◌, arith}
-use Rattle.arrayvec.specs.ArrayVec.{ArrayVec}
-use Rattle.dev_base.specs.Cells.{AreOf}
-use Rattle.dev_base.specs.declared.limits.TheConstants.{NEWEST}
+use Rattle.dev_clock_images.proofs.Facade.{◌≡◌, ℕ, zero, suc, ◌≤◌, Bool, true, false, List, ◌∷◌, ℤ, pos, refl, sym, ap, subst, ◌∙◌, arith, ArrayVec, AreOf}
+use Rattle.dev_clock_images.proofs.Facade.{NEWEST, BoardCells, saved_are_cells, saved_comes_back, saved_goes_on, saved, MaySaveUnder, restored, ComesBack}
+use Rattle.dev_clock_images.proofs.Facade.{IsSound, ClockState, ClockCells, needs, unneeded, image_of, images_of, list_at, board_from, numbers_in, carried}
+use Rattle.dev_clock_images.proofs.Facade.{carried_device, clock_set, kinds, saved_cells, NEWEST_CLOCK, clock_1, clock_2, mc146818_at_1, mc146818_at_2, first}
+use Rattle.dev_clock_images.proofs.Facade.{Set, Device, set_4, cells_in, SavedIsCarried, ImagesComeBack}
 use Rattle.dev_board.specs.Saved.{saved as board_saved, carried as board_carried}
-use Rattle.dev_board.specs.declared.cells.BoardCells.{BoardCells}
-use Rattle.dev_clock.proofs.SavedLaws.{saved_are_cells, saved_comes_back, saved_goes_on}
-use Rattle.dev_clock.specs.Saved.{saved, carried as clock_carried, MaySaveUnder, restored}
-use Rattle.dev_clock.specs.SavedLaws.{ComesBack}
-use Rattle.dev_clock.specs.Sound.{IsSound}
-use Rattle.dev_clock.specs.State.{ClockState}
-use Rattle.dev_clock.specs.declared.cells.ClockCells.{ClockCells}
+use Rattle.dev_clock.specs.Saved.{carried as clock_carried}
 use Rattle.dev_images.proofs.BoardCarried.{saved_is_carried as board-is-carried}
-use Rattle.dev_images.proofs.ChipReady.{needs, unneeded}
-use Rattle.dev_images.specs.Images.{image_of, images_of, lists_of as board_lists, cells_in as board_cells_in, list_at, board_from, numbers_in}
-use Rattle.vms_check.specs.Carrying.{carried, carried_device}
-use Rattle.vms_desc.specs.Formed.{clock_set}
-use Rattle.vms_rtc.specs.Cells.{kinds, saved_cells, carried as chip_carried}
-use Rattle.vms_rtc.specs.declared.limits.TheConstants.{NEWEST_CLOCK}
-use Rattle.vms_shipped.specs.ClockSets.{clock_1, clock_2, mc146818_at_1, mc146818_at_2}
-use Rattle.vms_spec.specs.Layout.{first}
-use Rattle.vms_spec.specs.Sets.{Set, Device}
-use Rattle.vms_spec.specs.Shipped.{set_4}
+use Rattle.dev_images.specs.Images.{lists_of as board_lists, cells_in as board_cells_in}
+use Rattle.vms_rtc.specs.Cells.{carried as chip_carried}
 use Rattle.dev_clock_images.proofs.ChipReady.{flag_place, flag_in}
-use Rattle.dev_clock_images.specs.Images.{cells_in}
-use Rattle.dev_clock_images.specs.Laws.{SavedIsCarried, ImagesComeBack}
 
 -- The chip's numbers in the newest clock set.
 abbrev chip_numbers : Set → Device → List ℤ → List ℤ
 chip_numbers set d numbers = (carried_device set clock_2 d mc146818_at_2 (image_of set d numbers)).numbers
 
-flag-1 : (numbers : List ℤ) (needed : Bool) → needs (flag_in 1 numbers) ≡ needed → (needed ≡ false → flag_in 1 numbers ≡ pos 0) → chip_numbers clock_1 mc146818_at_1 numbers ≡ chip_carried 1 numbers
+flag-1 : (numbers : List ℤ) (needed : Bool) → needs (flag_in 1 numbers) ≡ needed → (needed ≡ false → flag_in 1 numbers ≡ pos 0)
+    → chip_numbers clock_1 mc146818_at_1 numbers ≡ chip_carried 1 numbers
 unfolding first
 flag-1 numbers true e off = rw e refl
 flag-1 numbers false e off = rw (e, off refl) refl
 
-flag-2 : (numbers : List ℤ) (needed : Bool) → needs (flag_in 2 numbers) ≡ needed → (needed ≡ false → flag_in 2 numbers ≡ pos 0) → chip_numbers clock_2 mc146818_at_2 numbers ≡ chip_carried 2 numbers
+flag-2 : (numbers : List ℤ) (needed : Bool) → needs (flag_in 2 numbers) ≡ needed → (needed ≡ false → flag_in 2 numbers ≡ pos 0)
+    → chip_numbers clock_2 mc146818_at_2 numbers ≡ chip_carried 2 numbers
 unfolding first
 flag-2 numbers true e off = rw e refl
 flag-2 numbers false e off = rw (e, off refl) refl
@@ -94,7 +81,8 @@ cells-carried set m s may =
     let own = saved_are_cells.of_set set m s may in
     let at-level = s.devices.level in
     by-set set (saved_cells set m.clock) (board_saved NEWEST m.board) (omega (arith, least, le)) may.set_le_newest own.clock
-    ∙ ap (both (items (chip_carried set (saved_cells set m.clock)))) (board-is-carried.cells NEWEST m.board s.board (record { level_le_set = omega (arith, at-level); set_le_newest = omega arith }))
+    ∙ ap (both (items (chip_carried set (saved_cells set m.clock))))
+    (board-is-carried.cells NEWEST m.board s.board (record { level_le_set = omega (arith, at-level); set_le_newest = omega arith }))
 
 pub saved_is_carried : SavedIsCarried
 unfolding saved clock_carried
@@ -102,6 +90,8 @@ saved_is_carried = record { cells = cells-carried }
 
 pub images_come_back : ImagesComeBack
 images_come_back = record {
-  back = λ set m s may. subst (λ (cells : ClockCells). ComesBack m.clock.version cells m) (sym (saved_is_carried.cells set m s may)) (saved_comes_back.back set m s may);
-  answers = λ set m back events s may e. saved_goes_on.answers set m back events s may (ap (restored m.clock.version) (sym (saved_is_carried.cells set m s may)) ∙ e);
+  back = λ set m s may. subst (λ (cells : ClockCells). ComesBack m.clock.version cells m) (sym (saved_is_carried.cells set m s may))
+      (saved_comes_back.back set m s may);
+  answers = λ set m back events s may e. saved_goes_on.answers set m back events s may
+      (ap (restored m.clock.version) (sym (saved_is_carried.cells set m s may)) ∙ e);
 }

@@ -1,25 +1,12 @@
 -- Sound devices are saved in ready images.
-use Rattle.std.proofs.Common.{◌≡◌, ℕ, zero, suc, ◌≤◌, List, ◌∷◌, length, Some, ℤ, ap, subst, ◌∙◌, arith}
-use Rattle.std.specs.List.{slice_get}
-use Rattle.dev_base.specs.declared.limits.TheConstants.{NEWEST}
+use Rattle.dev_clock_images.proofs.Facade.{◌≡◌, ℕ, zero, suc, ◌≤◌, List, ◌∷◌, length, Some, ℤ, ap, subst, ◌∙◌, arith, slice_get, NEWEST, saved_are_cells}
+use Rattle.dev_clock_images.proofs.Facade.{MaySaveUnder, AreSavedCells, saved, IsSound, ClockState, image_of, images_of, clock_set, saved_cells, NEWEST_CLOCK}
+use Rattle.dev_clock_images.proofs.Facade.{clock_1, clock_2, mc146818_at_1, mc146818_at_2, Image, Device, set_4, IsReady, AreReady, SavedAreReady}
 use Rattle.dev_board.specs.Saved.{saved as board_saved}
-use Rattle.dev_clock.proofs.SavedLaws.{saved_are_cells}
-use Rattle.dev_clock.specs.Saved.{MaySaveUnder, AreSavedCells, saved}
-use Rattle.dev_clock.specs.Sound.{IsSound}
-use Rattle.dev_clock.specs.State.{ClockState}
 use Rattle.dev_images.proofs.BoardReady.{saved_are_ready as board-ready}
-use Rattle.dev_images.specs.Images.{image_of, images_of, lists_of as board_lists}
-use Rattle.vms_desc.specs.Formed.{clock_set}
-use Rattle.vms_rtc.specs.Cells.{saved_cells}
-use Rattle.vms_rtc.specs.declared.limits.TheConstants.{NEWEST_CLOCK}
-use Rattle.vms_shipped.specs.ClockSets.{clock_1, clock_2, mc146818_at_1, mc146818_at_2}
-use Rattle.vms_spec.specs.Images.{Image}
-use Rattle.vms_spec.specs.Sets.{Device}
-use Rattle.vms_spec.specs.Shipped.{set_4}
-use Rattle.vms_spec.specs.Streams.{IsReady, AreReady}
+use Rattle.dev_images.specs.Images.{lists_of as board_lists}
 use Rattle.dev_clock_images.proofs.ChipReady.{chip_is_ready}
-use Rattle.dev_clock_images.proofs.Inner.{outer, inner_ready, images_same}
-use Rattle.dev_clock_images.specs.Laws.{SavedAreReady}
+use Rattle.dev_clock_images.proofs.NormalClock.{outer, inner_ready, images_same}
 
 -- A device's image before those of set 4.
 module _ (machines : List (List ℕ)) (d : Device) (numbers : List ℤ) (lists : List (List ℤ)) where
@@ -33,25 +20,30 @@ module _ (machines : List (List ℕ)) (d : Device) (numbers : List ℤ) (lists :
   each first r zero e image h i =
       let same_device : d ≡ e = cc in
       let same_image : image_of (outer machines d) d numbers ≡ image = cc in
-      subst (λ (x : Image). IsReady (outer machines d) e x) same_image (subst (λ (x : Device). IsReady (outer machines d) x (image_of (outer machines d) d numbers)) same_device first)
+      subst (λ (x : Image). IsReady (outer machines d) e x) same_image
+      (subst (λ (x : Device). IsReady (outer machines d) x (image_of (outer machines d) d numbers)) same_device first)
   each first r (suc k) e image h i =
-      inner_ready machines d e image (r.ready k e image h (subst (λ (images : List Image). slice_get images k ≡ Some image) (images_same machines d set_4.devices lists) i))
+      inner_ready machines d e image
+      (r.ready k e image h (subst (λ (images : List Image). slice_get images k ≡ Some image) (images_same machines d set_4.devices lists) i))
 
-  in-front : IsReady (outer machines d) d (image_of (outer machines d) d numbers) → AreReady set_4 (images_of set_4 set_4.devices lists) → AreReady (outer machines d) (images_of (outer machines d) (d ∷ set_4.devices) (numbers ∷ lists))
+  in-front : IsReady (outer machines d) d (image_of (outer machines d) d numbers) → AreReady set_4 (images_of set_4 set_4.devices lists)
+      → AreReady (outer machines d) (images_of (outer machines d) (d ∷ set_4.devices) (numbers ∷ lists))
   in-front first r = record { one_each = ap suc (counted r); ready = each first r }
 
 module _ (m : ClockState) (s : IsSound m) where
   board : AreReady set_4 (images_of set_4 set_4.devices (board_lists (board_saved NEWEST m.board)))
   board = board-ready.images NEWEST m.board s.board (record { level_le_set = let e = s.devices.level in omega (arith, e); set_le_newest = omega arith })
 
-  by-set : (set : ℕ) → 1 ≤ set → set ≤ NEWEST_CLOCK → AreSavedCells set (saved set m) → AreReady (clock_set set) (images_of (clock_set set) (clock_set set).devices (saved_cells set m.clock ∷ board_lists (board_saved NEWEST m.board)))
+  by-set : (set : ℕ) → 1 ≤ set → set ≤ NEWEST_CLOCK → AreSavedCells set (saved set m)
+      → AreReady (clock_set set) (images_of (clock_set set) (clock_set set).devices (saved_cells set m.clock ∷ board_lists (board_saved NEWEST m.board)))
   unfolding saved
   by-set zero l h a = absurd (omega (arith, l))
   by-set (suc zero) l h a = in-front clock_1.machines mc146818_at_1 (saved_cells 1 m.clock) (board_lists (board_saved NEWEST m.board)) (chip_is_ready.first (saved_cells 1 m.clock) a.clock) board
   by-set (suc (suc zero)) l h a = in-front clock_2.machines mc146818_at_2 (saved_cells 2 m.clock) (board_lists (board_saved NEWEST m.board)) (chip_is_ready.second (saved_cells 2 m.clock) a.clock) board
   by-set (suc (suc (suc set))) l h a = absurd (omega (arith, h))
 
-images-ready : (set : ℕ) (m : ClockState) → IsSound m → MaySaveUnder m.clock.version set → AreReady (clock_set set) (images_of (clock_set set) (clock_set set).devices (saved_cells set m.clock ∷ board_lists (board_saved NEWEST m.board)))
+images-ready : (set : ℕ) (m : ClockState) → IsSound m → MaySaveUnder m.clock.version set
+    → AreReady (clock_set set) (images_of (clock_set set) (clock_set set).devices (saved_cells set m.clock ∷ board_lists (board_saved NEWEST m.board)))
 images-ready set m s may =
     let least = s.devices.clock.version.first in
     let le = may.level_le_set in

@@ -1,11 +1,6 @@
 -- The clock sets are compatible, and their cells are those that the devices save.
-use Rattle.std.proofs.Common.{ℕ, zero, suc, ◌≤◌, refl, arith}
-use Rattle.vms_check.specs.Comparing.{Compatible, first_mismatch}
-use Rattle.vms_desc.specs.Formed.{clock_set}
-use Rattle.vms_rtc.specs.declared.limits.TheConstants.{NEWEST_CLOCK}
-use Rattle.vms_shipped.specs.ClockSets.{clock_1, clock_2}
-use Rattle.vms_spec.specs.Layout.{first}
-use Rattle.dev_clock_images.specs.Laws.{KindsLaw, SetsAreCompatible}
+use Rattle.dev_clock_images.proofs.Facade.{ℕ, zero, suc, ◌≤◌, refl, arith, Compatible, first_mismatch, clock_set, NEWEST_CLOCK, clock_1, clock_2, first}
+use Rattle.dev_clock_images.proofs.Facade.{KindsLaw, SetsAreCompatible}
 
 pub kinds_are : KindsLaw
 unfolding first

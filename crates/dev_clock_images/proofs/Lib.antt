@@ -2,6 +2,6 @@ pub mod ChipReady
 pub mod ClockCarried
 pub mod ClockReady
 pub mod ClockSets
-pub mod Inner
+pub mod Facade
 pub mod NormalClock
 pub mod Places

@@ -1,6 +1,5 @@
 -- The places of the devices, by computation.
-use Rattle.std.proofs.Common.{refl}
-use Rattle.dev_clock_images.specs.Places.{PlacesLaw}
+use Rattle.dev_clock_images.proofs.Facade.{refl, PlacesLaw}
 
 pub places_are : PlacesLaw
 places_are = record {
