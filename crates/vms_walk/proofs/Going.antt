@@ -42,7 +42,8 @@ module _ {S F : Type 0} {N : S → List ℤ} {goes : List WalkStep → S → S �
   go_on : (xs ys whole : List Slot) (a b c : S) → whole ≡ xs ++ ys → goes (steps_of xs) a b → goes (steps_of ys) b c → goes (steps_of whole) a c
   go_on xs ys whole a b c e h k = rw (e, steps_append xs ys) (laws.more (steps_of xs) (steps_of ys) a b c h k)
 
-  stop_at : (xs ys rest whole : List Slot) (a b c : S) (f : F) → whole ≡ xs ++ (ys ++ rest) → goes (steps_of xs) a b → stops (steps_of ys) b f c → stops (steps_of whole) a f c
+  stop_at : (xs ys rest whole : List Slot) (a b c : S) (f : F) → whole ≡ xs ++ (ys ++ rest) → goes (steps_of xs) a b → stops (steps_of ys) b f c
+      → stops (steps_of whole) a f c
   stop_at xs ys rest whole a b c f e h k =
       rw (e, steps_append xs (ys ++ rest), steps_append ys rest)
       (laws.after (steps_of xs) (steps_of ys ++ steps_of rest) a b c f h (laws.before (steps_of ys) (steps_of rest) b c f k))
@@ -50,7 +51,8 @@ module _ {S F : Type 0} {N : S → List ℤ} {goes : List WalkStep → S → S �
 -- ---- elements
 
 -- the first `i` elements are done, from `a` to `b`, and the next one's cells begin at `cell`
-pub record Walked {S : Type 0} (N : S → List ℤ) (goes : List WalkStep → S → S → Type 0) (set : Set) (item : Item) (most : Option ℕ) (first i cell : ℕ) (a b : S) : Type 0 where
+pub record Walked {S : Type 0} (N : S → List ℤ) (goes : List WalkStep → S → S → Type 0) (set : Set) (item : Item) (most : Option ℕ) (first i cell : ℕ)
+    (a b : S) : Type 0 where
   pub good : IsGood set
   pub here : cell ≡ first + i * size_in set item
   pub way : goes (steps_of (elements_slots set item most (N b) i first)) a b
@@ -69,11 +71,13 @@ module _ {S F : Type 0} {N : S → List ℤ} {goes : List WalkStep → S → S �
       go_on laws (elements_slots set item most (N c) i first) (element set item most (N c) cell) (elements_slots set item most (N c) (i + 1) first) a b c
       (rw done.here (times_more i (element set item most (N c)) first (size_in set item))) (way_at (N c) s) h
 
-  pub items_stop : (count : ℕ) → i < count → (c : S) (f : F) → stops (steps_of (element set item most (N c) cell)) b f c → stops (steps_of (elements_slots set item most (N c) count first)) a f c
+  pub items_stop : (count : ℕ) → i < count → (c : S) (f : F) → stops (steps_of (element set item most (N c) cell)) b f c
+      → stops (steps_of (elements_slots set item most (N c) count first)) a f c
   items_stop count lt c f h =
       let s = keeps_below cell (element set item most (N c) cell) (N b) (N c) (above (N c)) (laws.stopped _ b c f h) in
       let parts = times_split count i (element set item most (N c)) first (size_in set item) lt in
-      stop_at laws (elements_slots set item most (N c) i first) (element set item most (N c) cell) parts.0 (elements_slots set item most (N c) count first) a b c f
+      stop_at laws (elements_slots set item most (N c) i first) (element set item most (N c) cell) parts.0
+      (elements_slots set item most (N c) count first) a b c f
       (rw done.here parts.1) (way_at (N c) s) h
 
   pub items_may : (may : S → WalkStep → Type 0) (count : ℕ) → i < count → MayCome goes N may (λ n. elements_slots set item most n count first) a
@@ -82,19 +86,23 @@ module _ {S F : Type 0} {N : S → List ℤ} {goes : List WalkStep → S → S �
       let s = keeps_first cell (element set item most (N d) cell) ys (ws ++ (x ∷ zs)) (N b) (N d) e (above (N d)) (laws.keeps ys b d h) in
       let parts = times_split count i (element set item most (N d)) first (size_in set item) lt in
       all (steps_of (elements_slots set item most (N d) i first) ++ ys) ws (zs ++ steps_of parts.0) x d (laws.more _ ys a b d (way_at (N d) s) h)
-      (part_left (elements_slots set item most (N d) i first) (element set item most (N d) cell) parts.0 (elements_slots set item most (N d) count first) ys ws zs x
+      (part_left (elements_slots set item most (N d) i first) (element set item most (N d) cell) parts.0
+      (elements_slots set item most (N d) count first) ys ws zs x
       (rw done.here parts.1) e)
 
 -- ---- fields
 
 -- the slots of a field are those of its elements, whose number the numbers below it say
-pub field_slots_are : (set : Set) (good : IsGood set) (well : is_well_formed set ≡ true) (spot : PartAt) (i cell : ℕ) (n m : List ℤ) → cell ≡ cell_of set spot i → length m ≡ length n → HasSpot set spot n
+pub field_slots_are : (set : Set) (good : IsGood set) (well : is_well_formed set ≡ true) (spot : PartAt) (i cell : ℕ) (n m : List ℤ)
+    → cell ≡ cell_of set spot i → length m ≡ length n → HasSpot set spot n
     → (count : ℕ) (item : Item) (most : Option ℕ) → i < length (fields set spot) → item ≡ (field_at set spot.part i).item
     → count ≡ present_of (field_at set spot.part i) spot.version (spot_numbers set spot n) → most ≡ least_of (counted i (fields set spot))
     → cell + capacity_of (field_at set spot.part i).count * size_in set (field_at set spot.part i).item ≤ length n → SameBelow cell n m
     → steps_of (slots_at set spot m i cell) ≡ steps_of (elements_slots set item most m count cell)
 field_slots_are set good well spot i cell n m here long h count item most lt is there least room s =
-    let same = present_local (table set) (set_settled set good) (desc_at set spot.part) (part_sound set good spot.part h.part) spot.version spot.base i n m lt (rw here at s) in
+    let same =
+    present_local (table set) (set_settled set good) (desc_at set spot.part) (part_sound set good spot.part h.part) spot.version spot.base i n m lt
+    (rw here at s) in
     let few : HasSpot set spot m = record { part = h.part; few = rw long h.few; room = rw long h.room } in
     (field_needs set well spot m few i cell count item most lt is (there ∙ sym same) least (rw long room)).steps
 
@@ -109,17 +117,21 @@ pub record Past {S : Type 0} (N : S → List ℤ) (goes : List WalkStep → S �
 module _ {S F : Type 0} {N : S → List ℤ} {goes : List WalkStep → S → S → Type 0} {stops : List WalkStep → S → F → S → Type 0} (laws : Laws N goes stops)
     {set : Set} {spot : PartAt} {i cell : ℕ} {a b : S} (past : Past N goes set spot i cell a b) where
   field_up : (n : List ℤ) → IsAbove cell (slots_at set spot n i cell)
-  field_up n = field_above (table set) (meanings_above set.structs (length set.structs)) (fields set spot) spot.version (spot_numbers set spot n) n i cell (field_at set spot.part i)
+  field_up n =
+      field_above (table set) (meanings_above set.structs (length set.structs)) (fields set spot) spot.version (spot_numbers set spot n) n i cell
+      (field_at set spot.part i)
 
   fields_way : (n : List ℤ) → SameBelow cell (N b) n → goes (steps_of (firsts set spot i n)) a b
   fields_way n s =
-      rw (fields_local (table set) (set_settled set past.good) (desc_at set spot.part) (part_sound set past.good spot.part past.has) spot.version spot.base i (N b) n past.le (rw past.here at s))
+      rw (fields_local (table set) (set_settled set past.good) (desc_at set spot.part) (part_sound set past.good spot.part past.has) spot.version spot.base i
+      (N b) n past.le (rw past.here at s))
       past.way
 
   below : (n : List ℤ) (xs : Keeps (steps_of (slots_at set spot n i cell)) (N b) n) → SameBelow cell (N b) n
   below n k = keeps_below cell (slots_at set spot n i cell) (N b) n (field_up n) k
 
-  pub fields_next : i < length (fields set spot) → (c : S) → goes (steps_of (slots_at set spot (N c) i cell)) b c → goes (steps_of (firsts set spot (i + 1) (N c))) a c
+  pub fields_next : i < length (fields set spot) → (c : S) → goes (steps_of (slots_at set spot (N c) i cell)) b c
+      → goes (steps_of (firsts set spot (i + 1) (N c))) a c
   fields_next lt c h =
       let own = spot_numbers set spot (N c) in
       go_on laws (firsts set spot i (N c)) (slots_at set spot (N c) i cell) (firsts set spot (i + 1) (N c)) a b c
@@ -136,16 +148,18 @@ module _ {S F : Type 0} {N : S → List ℤ} {goes : List WalkStep → S → S �
       let parts = fields_split (table set) d.fields spot.version own n d.fields 0 spot.base i i (omega arith) lt in
       let at = λ (x : ℕ). field_slots (table set) d.fields spot.version own n i x (field_at set spot.part i) in (
         parts.0 ++ rule,
-        ap (λ l. l ++ rule) (parts.1 ∙ ap (λ x. firsts set spot i n ++ (at x ++ parts.0)) (sym past.here)) ∙ rw (append_assoc (firsts set spot i n), append_assoc (at cell)),
+        rw (parts.1 ∙ ap (λ x. firsts set spot i n ++ (at x ++ parts.0)) (sym past.here)) (rw (append_assoc (firsts set spot i n), append_assoc (at cell))),
       )
 
-  pub fields_stop : i < length (fields set spot) → (c : S) (f : F) → stops (steps_of (slots_at set spot (N c) i cell)) b f c → stops (steps_of (spot_slots set spot (N c))) a f c
+  pub fields_stop : i < length (fields set spot) → (c : S) (f : F) → stops (steps_of (slots_at set spot (N c) i cell)) b f c
+      → stops (steps_of (spot_slots set spot (N c))) a f c
   fields_stop lt c f h =
       let parts = whole_split lt (N c) in
       stop_at laws (firsts set spot i (N c)) (slots_at set spot (N c) i cell) parts.0 (spot_slots set spot (N c)) a b c f parts.1
       (fields_way (N c) (below (N c) (laws.stopped _ b c f h))) h
 
-  pub fields_may : (may : S → WalkStep → Type 0) → i < length (fields set spot) → MayCome goes N may (spot_slots set spot) a → MayCome goes N may (λ n. slots_at set spot n i cell) b
+  pub fields_may : (may : S → WalkStep → Type 0) → i < length (fields set spot) → MayCome goes N may (spot_slots set spot) a
+      → MayCome goes N may (λ n. slots_at set spot n i cell) b
   fields_may may lt all ys ws zs x d h e =
       let s = keeps_first cell (slots_at set spot (N d) i cell) ys (ws ++ (x ∷ zs)) (N b) (N d) e (field_up (N d)) (laws.keeps ys b d h) in
       let parts = whole_split lt (N d) in

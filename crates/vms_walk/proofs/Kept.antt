@@ -12,14 +12,14 @@ err_is Q (Err x) e h q = subst Q (sym h) q
 
 pub has_append : (xs ys : List WalkStep) (c : ℕ) → has_step (xs ++ ys) c ≡ (has_step xs c || has_step ys c)
 has_append [] ys c = refl
-has_append (Number k kind most ∷ xs) ys c = ap (λ (b : Bool). (k == c) || b) (has_append xs ys c) ∙ sym (or_assoc (k == c) (has_step xs c) (has_step ys c))
+has_append (Number k kind most ∷ xs) ys c = rw (has_append xs ys c) (sym (or_assoc (k == c) (has_step xs c) (has_step ys c)))
 has_append (Constant kind z ∷ xs) ys c = has_append xs ys c
 has_append (Filler k ∷ xs) ys c = has_append xs ys c
 has_append (Rule b ∷ xs) ys c = has_append xs ys c
 
 -- no number is put
 pub keeps_same : (xs : List WalkStep) (n m : List ℤ) → m ≡ n → Keeps xs n m
-keeps_same xs n m e = record { long = ap length e; same = λ c h. ap (λ (l : List ℤ). get_or l c (pos 0)) e }
+keeps_same xs n m e = record { long = ap length e; same = λ c h. rw e }
 
 -- steps and further ones
 pub keeps_more : (xs ys : List WalkStep) (n m k : List ℤ) → Keeps xs n m → Keeps ys m k → Keeps (xs ++ ys) n k
@@ -44,6 +44,6 @@ keeps_put cell kind most n z = record {
   where
     by_false : (c : ℕ) → c ≡ cell → ((cell == c) || false) ≡ false → ⊥
     by_false c f e =
-        let t : ((cell == cell) || false) ≡ false = subst (λ (k : ℕ). ((cell == k) || false) ≡ false) f e in
-        let u = ap (λ (b : Bool). b || false) (eq-eqb cell cell refl) in
+        let t : ((cell == cell) || false) ≡ false = rw f at e in
+        let u = ap (λ b. b || false) (eq-eqb cell cell refl) in
         cc

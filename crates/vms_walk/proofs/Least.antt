@@ -26,13 +26,14 @@ above_lesser k m n = same_tests (nat_lt (min k m) n) (nat_lt k n || nat_lt m n) 
 exceeds_lesser : (o : Option ℕ) (m : ℕ) (z : ℤ) → exceeds (capacities_of (lesser o m)) z ≡ (exceeds (capacities_of o) z || is_above z m)
 exceeds_lesser None m z = or-false (is_above z m)
 exceeds_lesser (Some k) m (pos n) =
-    or-false (nat_lt (min k m) n) ∙ above_lesser k m n ∙ ap (λ (b : Bool). b || nat_lt m n) (sym (or-false (nat_lt k n)))
+    or-false (nat_lt (min k m) n) ∙ above_lesser k m n ∙ ap (λ b. b || nat_lt m n) (sym (or-false (nat_lt k n)))
 exceeds_lesser (Some k) m (negsuc n) = refl
 
 exceeds_from : (o : Option ℕ) (caps : List ℕ) (z : ℤ) → exceeds (capacities_of (least_from o caps)) z ≡ (exceeds (capacities_of o) z || exceeds caps z)
 exceeds_from o [] z = sym (or-false (exceeds (capacities_of o) z))
 exceeds_from o (m ∷ caps) z =
-    exceeds_from (lesser o m) caps z ∙ ap (λ (b : Bool). b || exceeds caps z) (exceeds_lesser o m z) ∙ or_assoc (exceeds (capacities_of o) z) (is_above z m) (exceeds caps z)
+    exceeds_from (lesser o m) caps z ∙ ap (λ b. b || exceeds caps z) (exceeds_lesser o m z)
+    ∙ or_assoc (exceeds (capacities_of o) z) (is_above z m) (exceeds caps z)
 
 -- a number is above the least of these capacities if it is above one of them
 pub exceeds_least : (caps : List ℕ) (z : ℤ) → exceeds (capacities_of (least_of caps)) z ≡ exceeds caps z

@@ -21,7 +21,7 @@ below_from from end [] h c lt = refl
 below_from from end (Number k kind caps ∷ xs) h c lt =
     let up = h.0 in
     let less : c < k = omega arith in
-    ap (λ (b : Bool). b || has_cell xs c) (ne_eqb k c (λ e. omega (arith, e, less))) ∙ below_from (k + 1) end xs h.1 c (omega arith)
+    rw (ne_eqb k c (λ e. omega (arith, e, less))) (below_from (k + 1) end xs h.1 c (omega arith))
 below_from from end (Constant kind z ∷ xs) h c lt = below_from from end xs h c lt
 below_from from end (Filler n ∷ xs) h c lt = below_from from end xs h c lt
 below_from from end (Rule b ∷ xs) h c lt = below_from from end xs h c lt
@@ -73,38 +73,43 @@ module _ (ms : List Meaning) (known : MeanAscends ms) where
   item_ascends (Equal kind z) caps n at = omega arith
   item_ascends (Unused k) caps n at = omega arith
   item_ascends (Struct j) caps n at =
-      subst (λ (cs : List Cell). Ascends at (at + length cs) ((get_or ms j no_meaning).slots n at)) (sym (get_or-map (λ (m : Meaning). m.cells) ms j no_meaning)) ((known j).means at n)
+      subst (λ cs. Ascends at (at + length cs) ((get_or ms j no_meaning).slots n at)) (sym (get_or-map (λ m. m.cells) ms j no_meaning)) ((known j).means at n)
 
-  items_ascend : (item : Item) (caps : List ℕ) (n : List ℤ) (k at : ℕ) → Ascends at (at + k * item_size (cells_in ms) item) (times k (item_slots ms item caps n) at (item_size (cells_in ms) item))
+  items_ascend : (item : Item) (caps : List ℕ) (n : List ℤ) (k at : ℕ)
+      → Ascends at (at + k * item_size (cells_in ms) item) (times k (item_slots ms item caps n) at (item_size (cells_in ms) item))
   items_ascend item caps n zero at = omega arith
   items_ascend item caps n (suc k) at =
       let size = item_size (cells_in ms) item in
       let e : (at + size) + k * size ≡ at + suc k * size = grind arith in
-      subst (λ (x : ℕ). Ascends at x (times (suc k) (item_slots ms item caps n) at size)) e
-      (join at (at + size) ((at + size) + k * size) (item_slots ms item caps n at) (times k (item_slots ms item caps n) (at + size) size) (item_ascends item caps n at) (items_ascend item caps n k (at + size)))
+      rw e at (join at (at + size) ((at + size) + k * size) (item_slots ms item caps n at) (times k (item_slots ms item caps n) (at + size) size)
+      (item_ascends item caps n at) (items_ascend item caps n k (at + size)))
 
-  field_ascends : (fields : List Field) (v : ℕ) (own : ℕ → ℕ) (n : List ℤ) (i at : ℕ) (f : Field) → Ascends at (at + length (field_cells (cells_in ms) fields i f)) (field_slots ms fields v own n i at f)
+  field_ascends : (fields : List Field) (v : ℕ) (own : ℕ → ℕ) (n : List ℤ) (i at : ℕ) (f : Field)
+      → Ascends at (at + length (field_cells (cells_in ms) fields i f)) (field_slots ms fields v own n i at f)
   field_ascends fields v own n i at f =
       let size = item_size (cells_in ms) f.item in
       let count = elements_of f.count own in
       let long = field_size (cells_in ms) fields i f in
       let room = room_for_less count (capacity_of f.count) size at (at + capacity_of f.count * size) (elements_fit f.count own) (omega arith) in
       by_test (is_there f.test f.since v own no_parent) (times count (item_slots ms f.item (counted i fields) n) at size)
-      (wider at (at + count * size) (at + length (field_cells (cells_in ms) fields i f)) (times count (item_slots ms f.item (counted i fields) n) at size) (omega (arith, long, room)) (items_ascend f.item (counted i fields) n count at))
+      (wider at (at + count * size) (at + length (field_cells (cells_in ms) fields i f)) (times count (item_slots ms f.item (counted i fields) n) at size)
+      (omega arith) (items_ascend f.item (counted i fields) n count at))
     where
-      by_test : (b : Bool) (xs : List Slot) → Ascends at (at + length (field_cells (cells_in ms) fields i f)) xs → Ascends at (at + length (field_cells (cells_in ms) fields i f)) (if b then xs else [])
+      by_test : (b : Bool) (xs : List Slot) → Ascends at (at + length (field_cells (cells_in ms) fields i f)) xs
+          → Ascends at (at + length (field_cells (cells_in ms) fields i f)) (if b then xs else [])
       by_test true xs h = h
       by_test false xs h = omega arith
 
-  fields_ascend : (fields : List Field) (v : ℕ) (own : ℕ → ℕ) (n : List ℤ) (i at : ℕ) (fs : List Field) → Ascends at (at + length (cells_from (cells_in ms) fields i fs)) (slots_from ms fields v own n i at fs)
+  fields_ascend : (fields : List Field) (v : ℕ) (own : ℕ → ℕ) (n : List ℤ) (i at : ℕ) (fs : List Field)
+      → Ascends at (at + length (cells_from (cells_in ms) fields i fs)) (slots_from ms fields v own n i at fs)
   fields_ascend fields v own n i at [] = omega arith
   fields_ascend fields v own n i at (f ∷ fs) =
       let here = field_cells (cells_in ms) fields i f in
       let later = cells_from (cells_in ms) fields (suc i) fs in
       let next = at + length here in
       let e : next + length later ≡ at + length (here ++ later) = omega (arith, length-append here later) in
-      subst (λ (x : ℕ). Ascends at x (slots_from ms fields v own n i at (f ∷ fs))) e
-      (join at next (next + length later) (field_slots ms fields v own n i at f) (slots_from ms fields v own n (suc i) next fs) (field_ascends fields v own n i at f) (fields_ascend fields v own n (suc i) next fs))
+      rw e at (join at next (next + length later) (field_slots ms fields v own n i at f) (slots_from ms fields v own n (suc i) next fs)
+      (field_ascends fields v own n i at f) (fields_ascend fields v own n (suc i) next fs))
 
   pub desc_ascends : (d : Desc) (v : ℕ) (n : List ℤ) (at : ℕ) → Ascends at (at + length (desc_cells (cells_in ms) d)) (desc_slots ms d v n at)
   desc_ascends d v n at =

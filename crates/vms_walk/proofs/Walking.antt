@@ -13,13 +13,12 @@ times_more zero part at step =
     let e : at ≡ at + 0 * step = grind arith in
     let one : 0 + 1 ≡ suc 0 = omega arith in
     let none = append-nil (part at) in
-    ap (λ (k : ℕ). times k part at step) one ∙ none ∙ ap part e
+    ap (λ k. times k part at step) one ∙ none ∙ ap part e
 times_more (suc i) part at step =
     let e : (at + step) + i * step ≡ at + suc i * step = grind arith in
     let one : suc i + 1 ≡ suc (i + 1) = omega arith in
-    ap (λ (k : ℕ). times k part at step) one
-    ∙ ap (λ (l : List _). part at ++ l) (times_more i part (at + step) step ∙ ap (λ (k : ℕ). times i part (at + step) step ++ part k) e)
-    ∙ sym (append_assoc (part at) (times i part (at + step) step) (part (at + suc i * step)))
+    rw (one, times_more i part (at + step) step ∙ ap (λ (k : ℕ). times i part (at + step) step ++ part k) e)
+    (sym (append_assoc (part at) (times i part (at + step) step) (part (at + suc i * step))))
 
 -- the elements before element i, it, and the others
 pub times_split : {B : Type 0} (n i : ℕ) (part : ℕ → List B) (at step : ℕ) → i < n
@@ -27,13 +26,13 @@ pub times_split : {B : Type 0} (n i : ℕ) (part : ℕ → List B) (at step : �
 times_split zero i part at step lt = absurd (omega arith)
 times_split (suc n) zero part at step lt =
     let e : at ≡ at + 0 * step = grind arith in
-    (times n part (at + step) step, ap (λ (k : ℕ). part k ++ times n part (at + step) step) e)
+    (times n part (at + step) step, ap (λ k. part k ++ times n part (at + step) step) e)
 times_split (suc n) (suc i) part at step lt =
     let more = times_split n i part (at + step) step (omega arith) in
     let e : (at + step) + i * step ≡ at + suc i * step = grind arith in (
       more.0,
-      ap (λ (l : List _). part at ++ l) (more.1 ∙ ap (λ (k : ℕ). times i part (at + step) step ++ (part k ++ more.0)) e)
-          ∙ sym (append_assoc (part at) (times i part (at + step) step) (part (at + suc i * step) ++ more.0)),
+      rw (more.1 ∙ ap (λ (k : ℕ). times i part (at + step) step ++ (part k ++ more.0)) e)
+          (sym (append_assoc (part at) (times i part (at + step) step) (part (at + suc i * step) ++ more.0))),
     )
 
 -- ---- fields
@@ -41,18 +40,18 @@ times_split (suc n) (suc i) part at step lt =
 module _ (ms : List Meaning) (fields : List Field) (v : ℕ) (own : ℕ → ℕ) (n : List ℤ) where
   -- the fields before field i, it, and the others
   pub fields_split : (fs : List Field) (j at i k : ℕ) → k ≡ j + i → i < length fs → (rest : List Slot) × (slots_from ms fields v own n j at fs
-      ≡ slots_from ms fields v own n j at (take i fs) ++ (field_slots ms fields v own n k (place_of (cells_in ms) fields j at fs i) (get_or fs i no_field) ++ rest))
+      ≡ slots_from ms fields v own n j at (take i fs)
+      ++ (field_slots ms fields v own n k (place_of (cells_in ms) fields j at fs i) (get_or fs i no_field) ++ rest))
   fields_split [] j at i k e lt = absurd (omega arith)
   fields_split (f ∷ fs) j at zero k e lt =
       let same : j ≡ k = omega arith in
       let next = at + length (field_cells (cells_in ms) fields j f) in
-      (slots_from ms fields v own n (suc j) next fs, ap (λ (x : ℕ). field_slots ms fields v own n x at f ++ slots_from ms fields v own n (suc j) next fs) same)
+      (slots_from ms fields v own n (suc j) next fs, rw same)
   fields_split (f ∷ fs) j at (suc i) k e lt =
       let next = at + length (field_cells (cells_in ms) fields j f) in
       let more = fields_split fs (suc j) next i k (omega arith) (omega arith) in (
         more.0,
-        ap (λ (l : List Slot). field_slots ms fields v own n j at f ++ l) more.1
-            ∙ sym (append_assoc (field_slots ms fields v own n j at f) (slots_from ms fields v own n (suc j) next (take i fs)) _),
+        rw (more.1) (sym (append_assoc (field_slots ms fields v own n j at f) (slots_from ms fields v own n (suc j) next (take i fs)) _)),
       )
 
   pub fields_more : (fs : List Field) (j at i k : ℕ) → k ≡ j + i → i < length fs → slots_from ms fields v own n j at (take (i + 1) fs)
@@ -63,36 +62,37 @@ module _ (ms : List Meaning) (fields : List Field) (v : ℕ) (own : ℕ → ℕ)
       let one : 0 + 1 ≡ suc 0 = omega arith in
       let next = at + length (field_cells (cells_in ms) fields j f) in
       let none = append-nil (field_slots ms fields v own n j at f) in
-      ap (λ (m : ℕ). slots_from ms fields v own n j at (take m (f ∷ fs))) one ∙ none ∙ ap (λ (x : ℕ). field_slots ms fields v own n x at f) same
+      ap (λ m. slots_from ms fields v own n j at (take m (f ∷ fs))) one ∙ none ∙ ap (λ x. field_slots ms fields v own n x at f) same
   fields_more (f ∷ fs) j at (suc i) k e lt =
       let one : suc i + 1 ≡ suc (i + 1) = omega arith in
       let next = at + length (field_cells (cells_in ms) fields j f) in
-      ap (λ (m : ℕ). slots_from ms fields v own n j at (take m (f ∷ fs))) one
-      ∙ ap (λ (l : List Slot). field_slots ms fields v own n j at f ++ l) (fields_more fs (suc j) next i k (omega arith) (omega arith))
-      ∙ sym (append_assoc (field_slots ms fields v own n j at f) (slots_from ms fields v own n (suc j) next (take i fs)) _)
+      rw (one, fields_more fs (suc j) next i k (omega arith) (omega arith))
+      (sym (append_assoc (field_slots ms fields v own n j at f) (slots_from ms fields v own n (suc j) next (take i fs)) _))
 
 -- ---- The slots of fields and elements, one after the other.
 
 pub steps_append : (xs ys : List Slot) → steps_of (xs ++ ys) ≡ steps_of xs ++ steps_of ys
 steps_append [] ys = refl
-steps_append (x ∷ xs) ys = ap (λ (l : List WalkStep). step_of x ∷ l) (steps_append xs ys)
+steps_append (x ∷ xs) ys = rw (steps_append xs ys)
 
 -- what remains of some of the steps remains of all
-pub left_within : (before here rest whole ys ws zs : List WalkStep) (x : WalkStep) → whole ≡ before ++ (here ++ rest) → here ≡ ys ++ (ws ++ (x ∷ zs)) → whole ≡ (before ++ ys) ++ (ws ++ (x ∷ (zs ++ rest)))
+pub left_within : (before here rest whole ys ws zs : List WalkStep) (x : WalkStep) → whole ≡ before ++ (here ++ rest) → here ≡ ys ++ (ws ++ (x ∷ zs))
+    → whole ≡ (before ++ ys) ++ (ws ++ (x ∷ (zs ++ rest)))
 left_within before here rest whole ys ws zs x e f =
-    let behind = append_assoc ys (ws ++ (x ∷ zs)) rest ∙ ap (λ (l : List WalkStep). ys ++ l) (append_assoc ws (x ∷ zs) rest) in
-    e ∙ ap (λ (l : List WalkStep). before ++ l) (ap (λ (l : List WalkStep). l ++ rest) f ∙ behind) ∙ sym (append_assoc before ys (ws ++ (x ∷ (zs ++ rest))))
+    let behind = append_assoc ys (ws ++ (x ∷ zs)) rest ∙ ap (λ l. ys ++ l) (append_assoc ws (x ∷ zs) rest) in
+    e ∙ ap (λ l. before ++ l) (rw f (behind)) ∙ sym (append_assoc before ys (ws ++ (x ∷ (zs ++ rest))))
 
 -- a step of a part that is left is one of the whole
-pub part_left : (before here rest whole : List Slot) (ys ws zs : List WalkStep) (x : WalkStep) → whole ≡ before ++ (here ++ rest) → steps_of here ≡ ys ++ (ws ++ (x ∷ zs))
+pub part_left : (before here rest whole : List Slot) (ys ws zs : List WalkStep) (x : WalkStep) → whole ≡ before ++ (here ++ rest)
+    → steps_of here ≡ ys ++ (ws ++ (x ∷ zs))
     → steps_of whole ≡ (steps_of before ++ ys) ++ (ws ++ (x ∷ (zs ++ steps_of rest)))
 part_left before here rest whole ys ws zs x e f =
     left_within (steps_of before) (steps_of here) (steps_of rest) (steps_of whole) ys ws zs x
-    (ap steps_of e ∙ steps_append before (here ++ rest) ∙ ap (λ (l : List WalkStep). steps_of before ++ l) (steps_append here rest)) f
+    (ap steps_of e ∙ steps_append before (here ++ rest) ∙ ap (λ l. steps_of before ++ l) (steps_append here rest)) f
 
 -- the first of the elements that are left
 pub times_next : {B : Type 0} (part : ℕ → List B) (n m at step : ℕ) → n ≡ suc m → times n part at step ≡ part at ++ times m part (at + step) step
-times_next part n m at step e = ap (λ (k : ℕ). times k part at step) e
+times_next part n m at step e = rw e
 
 -- ---- the least of the capacities that a number counts is enough
 
@@ -113,23 +113,22 @@ steps_bare ms n (Struct j) caps k at step = refl
 -- ---- the next field
 
 -- the field's slots, and those of the fields after it, `size` cells on
-pub slots_next : (ms : List Meaning) (fields : List Field) (v : ℕ) (own : ℕ → ℕ) (n : List ℤ) (i at size : ℕ) (f : Field) (left more : List Field) → left ≡ f ∷ more
+pub slots_next : (ms : List Meaning) (fields : List Field) (v : ℕ) (own : ℕ → ℕ) (n : List ℤ) (i at size : ℕ) (f : Field) (left more : List Field)
+    → left ≡ f ∷ more
     → size ≡ capacity_of f.count * item_size (cells_in ms) f.item
     → slots_from ms fields v own n i at left ≡ field_slots ms fields v own n i at f ++ slots_from ms fields v own n (i + 1) (at + size) more
 slots_next ms fields v own n i at size f left more e s =
     let step : length (field_cells (cells_in ms) fields i f) ≡ size = field_size (cells_in ms) fields i f ∙ sym s in
     let one : suc i ≡ i + 1 = omega arith in
-    ap (λ (l : List Field). slots_from ms fields v own n i at l) e
-    ∙ ap (λ (k : ℕ). field_slots ms fields v own n i at f ++ slots_from ms fields v own n (suc i) (at + k) more) step
-    ∙ ap (λ (k : ℕ). field_slots ms fields v own n i at f ++ slots_from ms fields v own n k (at + size) more) one
+    rw (e, step, one)
 
 pub room_next : (cs : List (List Cell)) (fields : List Field) (i at size most : ℕ) (f : Field) (left more : List Field) → left ≡ f ∷ more
     → size ≡ capacity_of f.count * item_size cs f.item → at + length (cells_from cs fields i left) ≤ most
     → (at + size ≤ most) × ((at + size) + length (cells_from cs fields (i + 1) more) ≤ most)
 room_next cs fields i at size most f left more e s h =
     let one : suc i ≡ i + 1 = omega arith in
-    let long = ap (λ (l : List Field). length (cells_from cs fields i l)) e ∙ length-append (field_cells cs fields i f) (cells_from cs fields (suc i) more)
-    ∙ ap (λ (k : ℕ). length (field_cells cs fields i f) + length (cells_from cs fields k more)) one in
+    let long = ap (λ l. length (cells_from cs fields i l)) e ∙ length-append (field_cells cs fields i f) (cells_from cs fields (suc i) more)
+    ∙ ap (λ k. length (field_cells cs fields i f) + length (cells_from cs fields k more)) one in
     let step : length (field_cells cs fields i f) ≡ size = field_size cs fields i f ∙ sym s in
     (omega arith, omega arith)
 
@@ -157,4 +156,4 @@ fields_at all i lt = drop_more all i no_field lt
 pub room_at : (turn count size first cell most : ℕ) → turn < count → cell ≡ first + turn * size → first + count * size ≤ most → cell + size ≤ most
 room_at turn count size first cell most lt e h =
     let one : (turn + 1) * size ≡ turn * size + size = grind arith in
-    omega (arith, one, room_for_less (turn + 1) count size first most (omega arith) h)
+    omega (arith, room_for_less (turn + 1) count size first most (omega arith) h)

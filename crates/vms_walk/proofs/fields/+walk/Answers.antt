@@ -16,12 +16,20 @@ use Rattle.vms_walk.proofs.fields.+walk.Goals.{walk_items-After-walk_item-arg-1,
 use Rattle.vms_walk.proofs.fields.+walk.Goals as goal
 
 laws_of : (g : Over) → Laws g.W.Cells.numbers g.W.Walker.goes g.W.Walker.stops
-laws_of g = record { more = g.met.W.Walker.more; after = g.met.W.Walker.stops_after; before = g.met.W.Walker.stops_before; keeps = g.met.W.Walker.keeps; stopped = g.met.W.Walker.keeps_stopped }
+laws_of g =
+    record {
+      more = g.met.W.Walker.more;
+      after = g.met.W.Walker.stops_after;
+      before = g.met.W.Walker.stops_before;
+      keeps = g.met.W.Walker.keeps;
+      stopped = g.met.W.Walker.keeps_stopped;
+    }
 
 -- ---- items
 
 -- the elements before this one are done
-walked : (g : Over) (t : ℕ) (c : goal.walk_items-After-walk_item-arg-1 g t) → Walked g.W.Cells.numbers g.W.Walker.goes (described c.args.set.now) c.args.row.item.now c.args.row.most
+walked : (g : Over) (t : ℕ) (c : goal.walk_items-After-walk_item-arg-1 g t)
+    → Walked g.W.Cells.numbers g.W.Walker.goes (described c.args.set.now) c.args.row.item.now c.args.row.most
     c.args.row.first c.loop-turn._turn c.loop-turn.cell c.args.walker.now c.loop-turn.walker
 walked g t c = record { good = good_of _ c.args.set.now.well_formed c.args.set.now.heads; here = c.loop-turn.invariant.here; way = c.loop-turn.invariant.way }
 
@@ -36,9 +44,10 @@ walk_items-loop-turn-preserved g t c =
     let size : size_in set item ≡ c.item_cells-size.result = sym (size_code set item c.item_cells-size.result c.item_cells-size.ensures c.requires.small) in
     let one : (i + 1) * size_in set item ≡ i * size_in set item + size_in set item = grind arith in
     record {
-      way = items_next laws (walked g t (goal.at.walk_items-loop-turn-preserved g t c).After-walk_item-arg-1) c.walk_item.new.walker c.in_ok-walk_item.ensures.ok;
+      way = items_next laws
+          (walked g t (goal.at.walk_items-loop-turn-preserved g t c).After-walk_item-arg-1) c.walk_item.new.walker c.in_ok-walk_item.ensures.ok;
       long = (laws.keeps _ b c.walk_item.new.walker c.in_ok-walk_item.ensures.ok).long ∙ inv.long;
-      here = omega (arith, one, size, inv.here);
+      here = omega arith;
     }
 
 pub walk_items-returns-in_err-walk_item-clause-err : goal.walk_items-returns-in_err-walk_item-clause-err
@@ -48,8 +57,11 @@ walk_items-returns-in_err-walk_item-clause-err g t c =
     let row = c.args.row in
     let d = c.walk_item.new.walker in
     let fault = c.in_err-walk_item.field-0.0 in
-    err_is (λ fault. g.W.Walker.stops (steps_of (elements_slots set row.item.now row.most (N d) row.count row.first)) c.args.walker.now fault d) c.from_residual.result fault c.from_residual.ensures.1
-    (items_stop (laws_of g) (walked g t (goal.at.walk_items-returns-in_err-walk_item-clause-err g t c).After-walk_item-arg-1) c.args.row.count (omega arith) d fault c.in_err-walk_item.ensures.err)
+    err_is (λ fault. g.W.Walker.stops
+    (steps_of (elements_slots set row.item.now row.most
+    (N d) row.count row.first)) c.args.walker.now fault d) c.from_residual.result fault c.from_residual.ensures.1
+    (items_stop (laws_of g) (walked g t (goal.at.walk_items-returns-in_err-walk_item-clause-err g t c).After-walk_item-arg-1) c.args.row.count
+    (omega arith) d fault c.in_err-walk_item.ensures.err)
 
 pub walk_items-walk_item-requires : goal.walk_items-walk_item-requires
 walk_items-walk_item-requires g t c =
@@ -57,7 +69,9 @@ walk_items-walk_item-requires g t c =
     let item = c.args.row.item.now in
     let cell = c.loop-turn.cell in
     let inv = c.loop-turn.invariant in
-    let room = room_at c.loop-turn._turn c.args.row.count (size_in set item) c.args.row.first cell (length (g.W.Cells.numbers c.args.walker.now)) (omega arith) inv.here c.requires.room in
+    let room =
+    room_at c.loop-turn._turn c.args.row.count (size_in set item) c.args.row.first cell (length (g.W.Cells.numbers c.args.walker.now))
+    (omega arith) inv.here c.requires.room in
     λ κs h. (
       search rules,
       (
@@ -79,22 +93,28 @@ pub walk_items-overflow_add-cell : goal.walk_items-overflow_add-cell
 walk_items-overflow_add-cell g t c =
     let set = described c.args.set.now in
     let item = c.args.row.item.now in
-    let room = room_at c.loop-turn._turn c.args.row.count (size_in set item) c.args.row.first c.loop-turn.cell (length (g.W.Cells.numbers c.args.walker.now)) (omega arith) c.loop-turn.invariant.here c.requires.room in
-    omega (arith, size_code set item c.item_cells-size.result c.item_cells-size.ensures c.requires.small, room, c.requires.few)
+    let room =
+    room_at c.loop-turn._turn c.args.row.count (size_in set item) c.args.row.first c.loop-turn.cell (length (g.W.Cells.numbers c.args.walker.now))
+    (omega arith) c.loop-turn.invariant.here c.requires.room in
+    omega (arith, size_code set item c.item_cells-size.result c.item_cells-size.ensures c.requires.small)
 
 -- numbers that count nothing
 
 pub walk_items-walk_run-requires-clause-may : goal.walk_items-walk_run-requires-clause-may
 walk_items-walk_run-requires-clause-may g t c =
     λ xs ys rest x b h e.
-    c.requires.may xs ys rest x b h (run_steps (described c.args.set.now) c.args.row.item.now c.args.row.most c.in-Some.kind (search rules) (search rules) (g.W.Cells.numbers b) c.args.row.first c.args.row.count ∙ e)
+    c.requires.may xs ys rest x b h
+    (run_steps (described c.args.set.now) c.args.row.item.now c.args.row.most c.in-Some.kind (search rules) (search rules)
+    (g.W.Cells.numbers b) c.args.row.first c.args.row.count ∙ e)
 
 pub walk_items-returns-in-Some-clause-ok : goal.walk_items-returns-in-Some-clause-ok
 walk_items-returns-in-Some-clause-ok g t c =
     let a = c.args.walker.now in
     let b = c.walk_run.new.walker in
-    let same = run_steps (described c.args.set.now) c.args.row.item.now c.args.row.most c.in-Some.kind (search rules) (search rules) (g.W.Cells.numbers b) c.args.row.first c.args.row.count in
-    on_ok_weaker c.walk_run.result (λ h. subst (λ (l : List WalkStep). g.W.Walker.goes l a b) (sym same) h) c.walk_run.ensures.ok
+    let same =
+    run_steps (described c.args.set.now) c.args.row.item.now c.args.row.most c.in-Some.kind (search rules) (search rules)
+    (g.W.Cells.numbers b) c.args.row.first c.args.row.count in
+    on_ok_weaker c.walk_run.result (λ h. rw same h) c.walk_run.ensures.ok
 
 pub walk_items-returns-in-Some-clause-err : goal.walk_items-returns-in-Some-clause-err
 walk_items-returns-in-Some-clause-err g t c =
@@ -104,15 +124,16 @@ walk_items-returns-in-Some-clause-err g t c =
     let kind = c.in-Some.kind in
     let slots = elements_slots set c.args.row.item.now c.args.row.most (g.W.Cells.numbers b) c.args.row.count c.args.row.first in
     let same = run_steps set c.args.row.item.now c.args.row.most kind (search rules) (search rules) (g.W.Cells.numbers b) c.args.row.first c.args.row.count in
-    IfErr-weaker c.walk_run.result (λ fault. g.W.Walker.stops (run_of c.args.row.first c.args.row.count kind) a fault b) (λ fault. g.W.Walker.stops (steps_of slots) a fault b)
-    (λ fault h. subst (λ (l : List WalkStep). g.W.Walker.stops l a fault b) (sym same) h) c.walk_run.ensures.err
+    IfErr-weaker c.walk_run.result (λ fault. g.W.Walker.stops (run_of c.args.row.first c.args.row.count kind) a fault b)
+    (λ fault. g.W.Walker.stops (steps_of slots) a fault b)
+    (λ fault h. rw same h) c.walk_run.ensures.err
 
 -- ---- a row
 
 -- the slots of a row of one element are the element's
 one_slots : (set : Set) (item : Item) (most : Option ℕ) (n : List ℤ) (count first : ℕ) → count ≡ 1
     → steps_of (elements_slots set item most n count first) ≡ steps_of (item_slots (table set) item (capacities_of most) n first)
-one_slots set item most n count first is = ap (λ (k : ℕ). steps_of (elements_slots set item most n k first)) is ∙ ap steps_of (append-nil (item_slots (table set) item (capacities_of most) n first))
+one_slots set item most n count first is = rw is (ap steps_of (append-nil (item_slots (table set) item (capacities_of most) n first)))
 
 pub walk_row-walk_item-requires : goal.walk_row-walk_item-requires
 walk_row-walk_item-requires g t c =
@@ -124,8 +145,8 @@ walk_row-walk_item-requires g t c =
     let slots = λ (m : List ℤ). item_slots (table set) item (capacities_of row.most) m row.first in
     let come : MayCome g.W.Walker.goes N g.W.Walker.may slots c.args.walker.now = λ ys ws zs x d h e.
     c.requires.may ys ws zs x d h (one_slots set item row.most (N d) row.count row.first one ∙ e) in
-    let width : row.count * size_in set item ≡ 1 * size_in set item = ap (λ (k : ℕ). k * size_in set item) one in
-    λ κs h. (search rules, (search rules, (search rules, (c.requires.reaches, (come, (omega (arith, width, c.requires.room), c.requires.few))))))
+    let width : row.count * size_in set item ≡ 1 * size_in set item = rw one in
+    λ κs h. (search rules, (search rules, (search rules, (c.requires.reaches, (come, (omega arith, c.requires.few))))))
 
 pub walk_row-returns-clause-ok : goal.walk_row-returns-clause-ok
 walk_row-returns-clause-ok g t c =
@@ -133,7 +154,7 @@ walk_row-returns-clause-ok g t c =
     let b = c.walk_item.new.walker in
     let row = c.args.row in
     let same = one_slots (described c.args.set.now) row.item.now row.most (g.W.Cells.numbers b) row.count row.first (omega arith) in
-    on_ok_weaker c.walk_item.result (λ h. subst (λ (l : List WalkStep). g.W.Walker.goes l a b) (sym same) h) c.walk_item.ensures.ok
+    on_ok_weaker c.walk_item.result (λ h. rw same h) c.walk_item.ensures.ok
 
 pub walk_row-returns-clause-err : goal.walk_row-returns-clause-err
 walk_row-returns-clause-err g t c =
@@ -145,31 +166,38 @@ walk_row-returns-clause-err g t c =
     let all = elements_slots set row.item.now row.most (g.W.Cells.numbers b) row.count row.first in
     let same = one_slots set row.item.now row.most (g.W.Cells.numbers b) row.count row.first (omega arith) in
     IfErr-weaker c.walk_item.result (λ fault. g.W.Walker.stops (steps_of one) a fault b) (λ fault. g.W.Walker.stops (steps_of all) a fault b)
-    (λ fault h. subst (λ (l : List WalkStep). g.W.Walker.stops l a fault b) (sym same) h) c.walk_item.ensures.err
+    (λ fault h. rw same h) c.walk_item.ensures.err
 
 -- ---- one field
 
-item_is : (g : Over) (t : ℕ) (c : goal.walk_field-After-walk_row-arg-1 g t) → c.index-as_slice-field.result.item ≡ (field_at (described c.args.set.now) c.args.spot.part c.args.field).item
+item_is : (g : Over) (t : ℕ) (c : goal.walk_field-After-walk_row-arg-1 g t)
+    → c.index-as_slice-field.result.item ≡ (field_at (described c.args.set.now) c.args.spot.part c.args.field).item
 item_is g t c =
     let set = described c.args.set.now in
-    ap (λ (x : Field). x.item)
-    (found_field c.as_slice.result.now (desc_at set c.args.spot.part).fields c.args.field c.index-as_slice-field.result (here_fields set c.args.spot.part c.desc.result.now c.as_slice.result.now c.desc.ensures c.as_slice.ensures)
+    ap (λ x. x.item)
+    (found_field c.as_slice.result.now (desc_at set c.args.spot.part).fields c.args.field c.index-as_slice-field.result
+    (here_fields set c.args.spot.part c.desc.result.now c.as_slice.result.now c.desc.ensures c.as_slice.ensures)
     c.requires.field c.index-as_slice-field.is)
 
 -- the steps of the field are those of its elements
-steps_are : (g : Over) (t : ℕ) (c : goal.walk_field-After-walk_row-arg-1 g t) (m : List ℤ) → length m ≡ length (g.W.Cells.numbers c.args.walker.now) → SameBelow c.args.cell (g.W.Cells.numbers c.args.walker.now) m
-    → steps_of (slots_at (described c.args.set.now) c.args.spot m c.args.field c.args.cell) ≡ steps_of (elements_slots (described c.args.set.now) c.index-as_slice-field.result.item c.most-most.result m c.present-count.result c.args.cell)
+steps_are : (g : Over) (t : ℕ) (c : goal.walk_field-After-walk_row-arg-1 g t) (m : List ℤ) → length m ≡ length (g.W.Cells.numbers c.args.walker.now)
+    → SameBelow c.args.cell (g.W.Cells.numbers c.args.walker.now) m
+    → steps_of (slots_at (described c.args.set.now) c.args.spot m c.args.field c.args.cell) ≡ steps_of
+    (elements_slots (described c.args.set.now) c.index-as_slice-field.result.item c.most-most.result m c.present-count.result c.args.cell)
 steps_are g t c m long s =
     let set = described c.args.set.now in
     field_slots_are set (good_of set c.args.set.now.well_formed c.args.set.now.heads) c.args.set.now.well_formed c.args.spot c.args.field c.args.cell
-    (g.W.Cells.numbers c.args.walker.now) m c.requires.here long c.requires.spot c.present-count.result c.index-as_slice-field.result.item c.most-most.result c.requires.field (item_is g t c) c.present-count.ensures c.most-most.ensures c.requires.room s
+    (g.W.Cells.numbers c.args.walker.now) m c.requires.here long c.requires.spot c.present-count.result c.index-as_slice-field.result.item c.most-most.result
+    c.requires.field (item_is g t c) c.present-count.ensures c.most-most.ensures c.requires.room s
 
 -- they have no cell below the field
-above : (g : Over) (t : ℕ) (c : goal.walk_field-After-walk_row-arg-1 g t) (m : List ℤ) → IsAbove c.args.cell (elements_slots (described c.args.set.now) c.index-as_slice-field.result.item c.most-most.result m c.present-count.result c.args.cell)
+above : (g : Over) (t : ℕ) (c : goal.walk_field-After-walk_row-arg-1 g t) (m : List ℤ)
+    → IsAbove c.args.cell (elements_slots (described c.args.set.now) c.index-as_slice-field.result.item c.most-most.result m c.present-count.result c.args.cell)
 above g t c m =
     let set = described c.args.set.now in
     let item = c.index-as_slice-field.result.item in
-    items_above (table set) (meanings_above set.structs (length set.structs)) item (capacities_of c.most-most.result) m c.present-count.result c.args.cell (size_in set item)
+    items_above (table set) (meanings_above set.structs (length set.structs)) item (capacities_of c.most-most.result) m c.present-count.result c.args.cell
+    (size_in set item)
 
 pub walk_field-walk_row-requires : goal.walk_field-walk_row-requires
 walk_field-walk_row-requires g t c =
@@ -178,10 +206,14 @@ walk_field-walk_row-requires g t c =
     let a = c.args.walker.now in
     let cell = c.args.cell in
     let slots = λ (m : List ℤ). elements_slots set c.index-as_slice-field.result.item c.most-most.result m c.present-count.result cell in
-    let needs = field_needs set c.args.set.now.well_formed c.args.spot (N a) c.requires.spot c.args.field cell c.present-count.result c.index-as_slice-field.result.item c.most-most.result c.requires.field (item_is g t c) c.present-count.ensures c.most-most.ensures c.requires.room in
+    let needs =
+    field_needs set c.args.set.now.well_formed c.args.spot
+    (N a) c.requires.spot c.args.field cell c.present-count.result c.index-as_slice-field.result.item c.most-most.result c.requires.field
+    (item_is g t c) c.present-count.ensures c.most-most.ensures c.requires.room in
     let come : MayCome g.W.Walker.goes N g.W.Walker.may slots a = λ ys ws zs x d h e.
     let kept = (laws_of g).keeps ys a d h in
-    c.requires.may ys ws zs x d h (steps_are g t c (N d) kept.long (keeps_first cell (slots (N d)) ys (ws ++ (x ∷ zs)) (N a) (N d) e (above g t c (N d)) kept) ∙ e) in
+    c.requires.may ys ws zs x d h
+    (steps_are g t c (N d) kept.long (keeps_first cell (slots (N d)) ys (ws ++ (x ∷ zs)) (N a) (N d) e (above g t c (N d)) kept) ∙ e) in
     λ κs h. (search rules, (search rules, (search rules, (needs.uses, (come, (needs.small, (needs.room, c.requires.spot.few)))))))
 
 pub walk_field-returns-clause-ok : goal.walk_field-returns-clause-ok
@@ -193,7 +225,7 @@ walk_field-returns-clause-ok g t c =
     on_ok_weaker c.walk_row.result
     (λ h.
     let kept = (laws_of g).keeps _ a b h in
-    subst (λ (l : List WalkStep). g.W.Walker.goes l a b) (sym (steps_are g t at (N b) kept.long (keeps_below c.args.cell _ (N a) (N b) (above g t at (N b)) kept))) h)
+    rw (steps_are g t at (N b) kept.long (keeps_below c.args.cell _ (N a) (N b) (above g t at (N b)) kept)) h)
     c.walk_row.ensures.ok
 
 pub walk_field-returns-clause-err : goal.walk_field-returns-clause-err
@@ -204,10 +236,11 @@ walk_field-returns-clause-err g t c =
     let b = c.walk_row.new.walker in
     let at = (goal.at.walk_field-returns-clause-err g t c).After-walk_row-arg-1 in
     let slots = elements_slots set c.index-as_slice-field.result.item c.most-most.result (N b) c.present-count.result c.args.cell in
-    IfErr-weaker c.walk_row.result (λ fault. g.W.Walker.stops (steps_of slots) a fault b) (λ fault. g.W.Walker.stops (steps_of (slots_at set c.args.spot (N b) c.args.field c.args.cell)) a fault b)
+    IfErr-weaker c.walk_row.result (λ fault. g.W.Walker.stops (steps_of slots) a fault b)
+    (λ fault. g.W.Walker.stops (steps_of (slots_at set c.args.spot (N b) c.args.field c.args.cell)) a fault b)
     (λ fault h.
     let kept = (laws_of g).stopped _ a b fault h in
-    subst (λ (l : List WalkStep). g.W.Walker.stops l a fault b) (sym (steps_are g t at (N b) kept.long (keeps_below c.args.cell slots (N a) (N b) (above g t at (N b)) kept))) h)
+    rw (steps_are g t at (N b) kept.long (keeps_below c.args.cell slots (N a) (N b) (above g t at (N b)) kept)) h)
     c.walk_row.ensures.err
 
 -- ---- the fields of a description
@@ -228,28 +261,38 @@ record Turn (g : Over) (t : ℕ) (c : goal.walk-After-walk_field-arg-1 g t) : Ty
   inside : c.loop-field.field < length (desc_at (described c.args.set.now) c.args.spot.part).fields
   has : HasSpot (described c.args.set.now) c.args.spot (g.W.Cells.numbers c.loop-field.walker)
   next : Next (described c.args.set.now) c.args.spot (g.W.Cells.numbers c.loop-field.walker) c.loop-field.field c.loop-field.cell
-  past : Past g.W.Cells.numbers g.W.Walker.goes (described c.args.set.now) c.args.spot c.loop-field.field c.loop-field.cell c.args.walker.now c.loop-field.walker
+  past : Past g.W.Cells.numbers g.W.Walker.goes
+      (described c.args.set.now) c.args.spot c.loop-field.field c.loop-field.cell c.args.walker.now c.loop-field.walker
 
 turn : (g : Over) (t : ℕ) (c : goal.walk-After-walk_field-arg-1 g t) → Turn g t c
 turn g t c =
     let set = described c.args.set.now in
     let spot = c.args.spot in
     let inv = c.loop-field.invariant in
-    let lt : c.loop-field.field < length (desc_at set spot.part).fields = omega (arith, c.field_count-field-end.ensures) in
-    let has : HasSpot set spot (g.W.Cells.numbers c.loop-field.walker) = record { part = c.requires.spot.part; few = rw inv.long c.requires.spot.few; room = rw inv.long c.requires.spot.room } in
+    let lt : c.loop-field.field < length (desc_at set spot.part).fields = omega arith in
+    let has : HasSpot set spot (g.W.Cells.numbers c.loop-field.walker) =
+    record { part = c.requires.spot.part; few = rw inv.long c.requires.spot.few; room = rw inv.long c.requires.spot.room } in
     record {
       inside = lt;
       has = has;
       next = next_field set c.args.set.now.well_formed spot (g.W.Cells.numbers c.loop-field.walker) has c.loop-field.field c.loop-field.cell lt inv.room;
-      past = record { good = good_of set c.args.set.now.well_formed c.args.set.now.heads; has = c.requires.spot.part; le = omega (arith, lt); here = inv.here; way = inv.way };
+      past = record {
+        good = good_of set c.args.set.now.well_formed c.args.set.now.heads;
+        has = c.requires.spot.part;
+        le = omega arith;
+        here = inv.here;
+        way = inv.way;
+      };
     }
 
 -- its width in the code
 wide : (g : Over) (t : ℕ) (c : goal.walk-After-field_cells-cell g t)
-    → (let f = field_at (described c.args.set.now) c.args.spot.part c.loop-field.field in c.field_cells-cell.result ≡ capacity_of f.count * size_in (described c.args.set.now) f.item)
+    → (let f = field_at (described c.args.set.now) c.args.spot.part c.loop-field.field in c.field_cells-cell.result
+    ≡ capacity_of f.count * size_in (described c.args.set.now) f.item)
 wide g t c =
     let s = turn g t (goal.at.walk-overflow_add-cell g t c).After-walk_field-arg-1 in
-    width_code (described c.args.set.now) (field_at (described c.args.set.now) c.args.spot.part c.loop-field.field) c.field_cells-cell.result c.field_cells-cell.ensures (omega (arith, s.next.room, s.has.few))
+    width_code (described c.args.set.now)
+    (field_at (described c.args.set.now) c.args.spot.part c.loop-field.field) c.field_cells-cell.result c.field_cells-cell.ensures (omega arith)
 
 pub walk-loop-field-preserved : goal.walk-loop-field-preserved
 walk-loop-field-preserved g t c =
@@ -265,12 +308,14 @@ walk-loop-field-preserved g t c =
     let d = c.walk_field.new.walker in
     let width = sym (wide g t (goal.at.walk-loop-field-preserved g t c).After-field_cells-cell) in
     let kept = (laws_of g).keeps _ b d c.in_ok-walk_field.ensures.ok in
-    let place = next_place (table set) (set_settled set s.past.good) (desc_at set spot.part) (part_sound set s.past.good spot.part c.requires.spot.part) spot.version spot.base i s.inside in
+    let place =
+    next_place (table set) (set_settled set s.past.good) (desc_at set spot.part)
+    (part_sound set s.past.good spot.part c.requires.spot.part) spot.version spot.base i s.inside in
     record {
       way = fields_next (laws_of g) s.past s.inside d c.in_ok-walk_field.ensures.ok;
       long = kept.long ∙ inv.long;
-      here = omega (arith, place, inv.here, width, field_size (cells_in (table set)) all i (field_at set spot.part i));
-      room = rw kept.long (subst (λ x. (cell + x) + length (cells_from (cells_in (table set)) all (i + 1) (drop (i + 1) all)) ≤ length (N b)) width s.next.later);
+      here = omega (arith, field_size (cells_in (table set)) all i (field_at set spot.part i));
+      room = rw kept.long (rw width at s.next.later);
     }
 
 pub walk-returns-in_err-walk_field-clause-err : goal.walk-returns-in_err-walk_field-clause-err
@@ -280,27 +325,44 @@ walk-returns-in_err-walk_field-clause-err g t c =
     let s = turn g t (goal.at.walk-returns-in_err-walk_field-clause-err g t c).After-walk_field-arg-1 in
     let d = c.walk_field.new.walker in
     let fault = c.in_err-walk_field.field-0.0 in
-    err_is (λ fault. g.W.Walker.stops (steps_of (spot_slots set c.args.spot (g.W.Cells.numbers d))) a fault d) c.from_residual.result fault c.from_residual.ensures.1
+    err_is (λ fault. g.W.Walker.stops
+    (steps_of (spot_slots set c.args.spot (g.W.Cells.numbers d))) a fault d) c.from_residual.result fault c.from_residual.ensures.1
     (fields_stop (laws_of g) s.past s.inside d fault c.in_err-walk_field.ensures.err)
 
 pub walk-walk_field-requires : goal.walk-walk_field-requires
 walk-walk_field-requires g t c =
     let s = turn g t c in
-    λ κs h. (search rules, (search rules, (search rules, (s.has, (s.inside, (s.past.here, (fields_may (laws_of g) s.past g.W.Walker.may s.inside c.requires.may, s.next.room)))))))
+    λ κs h. (
+      search rules,
+      (
+        search rules,
+        (
+          search rules,
+          (s.has, (s.inside, (s.past.here, (fields_may (laws_of g) s.past g.W.Walker.may s.inside c.requires.may, s.next.room)))),
+        ),
+      ),
+    )
 
 pub walk-overflow_add-cell : goal.walk-overflow_add-cell
 walk-overflow_add-cell g t c =
     let s = turn g t (goal.at.walk-overflow_add-cell g t c).After-walk_field-arg-1 in
-    omega (arith, wide g t c, s.next.room, s.has.few)
+    omega (arith, wide g t c)
 
 -- after the last field
 end_of : (g : Over) (t : ℕ) (c : goal.walk-After-rules-arg-1 g t) → c.loop-field.field ≡ length (desc_at (described c.args.set.now) c.args.spot.part).fields
-end_of g t c = omega (arith, c.field_count-field-end.ensures)
+end_of g t c = omega arith
 
-done : (g : Over) (t : ℕ) (c : goal.walk-After-rules-arg-1 g t) → Past g.W.Cells.numbers g.W.Walker.goes (described c.args.set.now) c.args.spot c.loop-field.field c.loop-field.cell c.args.walker.now c.loop-field.walker
+done : (g : Over) (t : ℕ) (c : goal.walk-After-rules-arg-1 g t)
+    → Past g.W.Cells.numbers g.W.Walker.goes (described c.args.set.now) c.args.spot c.loop-field.field c.loop-field.cell c.args.walker.now c.loop-field.walker
 done g t c =
     let set = c.args.set.now in
-    record { good = good_of (described set) set.well_formed set.heads; has = c.requires.spot.part; le = omega (arith, end_of g t c); here = c.loop-field.invariant.here; way = c.loop-field.invariant.way }
+    record {
+      good = good_of (described set) set.well_formed set.heads;
+      has = c.requires.spot.part;
+      le = omega (arith, end_of g t c);
+      here = c.loop-field.invariant.here;
+      way = c.loop-field.invariant.way;
+    }
 
 holds_is : (set : Set) (spot : PartAt) (n : List ℤ) → holds_at set spot n ≡ all_hold (desc_at set spot.part).validate spot.version (spot_numbers set spot n)
 holds_is set spot n = ap (all_hold (desc_at set spot.part).validate spot.version) (own_is set spot n)
@@ -317,7 +379,9 @@ walk-returns-clause-ok g t c =
     let b = c.loop-field.walker in
     let at = (goal.at.walk-returns-clause-ok g t c).After-rules-arg-1 in
     let e = c.rules.new.self in
-    on_ok_weaker c.rules.result (λ h. rule_next (laws_of g) (done g t at) (end_of g t at) e (same_rule _ (N b) (N e) ((laws_of g).keeps _ b e h)) (rw (holds_is set c.args.spot (N b)) at h)) c.rules.ensures.ok
+    on_ok_weaker c.rules.result
+    (λ h. rule_next (laws_of g) (done g t at) (end_of g t at) e (same_rule _ (N b) (N e) ((laws_of g).keeps _ b e h))
+    (rw (holds_is set c.args.spot (N b)) at h)) c.rules.ensures.ok
 
 pub walk-returns-clause-err : goal.walk-returns-clause-err
 walk-returns-clause-err g t c =
@@ -327,25 +391,35 @@ walk-returns-clause-err g t c =
     let b = c.loop-field.walker in
     let at = (goal.at.walk-returns-clause-err g t c).After-rules-arg-1 in
     let e = c.rules.new.self in
-    IfErr-weaker c.rules.result (λ fault. g.W.Walker.stops (steps.Rule (holds_at set c.args.spot (N b)) ∷ []) b fault e) (λ fault. g.W.Walker.stops (steps_of (spot_slots set c.args.spot (N e))) a fault e)
-    (λ fault h. rule_stop (laws_of g) (done g t at) (end_of g t at) e fault (same_rule _ (N b) (N e) ((laws_of g).stopped _ b e fault h)) (rw (holds_is set c.args.spot (N b)) at h)) c.rules.ensures.err
+    IfErr-weaker c.rules.result (λ fault. g.W.Walker.stops (steps.Rule (holds_at set c.args.spot (N b)) ∷ []) b fault e)
+    (λ fault. g.W.Walker.stops (steps_of (spot_slots set c.args.spot (N e))) a fault e)
+    (λ fault h. rule_stop (laws_of g) (done g t at) (end_of g t at) e fault (same_rule _ (N b) (N e) ((laws_of g).stopped _ b e fault h))
+    (rw (holds_is set c.args.spot (N b)) at h)) c.rules.ensures.err
 
 -- ---- one element
 
 pub walk_item-step-requires-clause-may : goal.walk_item-step-requires-clause-may
 walk_item-step-requires-clause-may g t c =
-    let here = λ (x : Item). steps_of (item_slots (table (described c.args.set.now)) x (capacities_of c.args.most) (g.W.Cells.numbers c.args.walker.now) c.args.cell) in
-    c.requires.may [] [] [] _ c.args.walker.now (g.met.W.Walker.none c.args.walker.now) (ap here c.in-Num.is ∙ ap (λ (o : Option ℕ). steps.Number c.args.cell c.in-Num.kind o ∷ []) (least_again c.args.most))
+    let here =
+    λ (x : Item). steps_of
+    (item_slots (table (described c.args.set.now)) x (capacities_of c.args.most) (g.W.Cells.numbers c.args.walker.now) c.args.cell) in
+    c.requires.may [] [] [] _ c.args.walker.now (g.met.W.Walker.none c.args.walker.now)
+    (ap here c.in-Num.is ∙ ap (λ o. steps.Number c.args.cell c.in-Num.kind o ∷ []) (least_again c.args.most))
 
 pub walk_item-step-requires-in-Equal-clause-may : goal.walk_item-step-requires-in-Equal-clause-may
 walk_item-step-requires-in-Equal-clause-may g t c =
-    let here = λ (x : Item). steps_of (item_slots (table (described c.args.set.now)) x (capacities_of c.args.most) (g.W.Cells.numbers c.args.walker.now) c.args.cell) in
-    let may : g.W.Walker.may c.args.walker.now (steps.Constant c.in-Equal.kind c.in-Equal.value) = c.requires.may [] [] [] _ c.args.walker.now (g.met.W.Walker.none c.args.walker.now) (ap here c.in-Equal.is) in
+    let here =
+    λ (x : Item). steps_of
+    (item_slots (table (described c.args.set.now)) x (capacities_of c.args.most) (g.W.Cells.numbers c.args.walker.now) c.args.cell) in
+    let may : g.W.Walker.may c.args.walker.now (steps.Constant c.in-Equal.kind c.in-Equal.value) =
+    c.requires.may [] [] [] _ c.args.walker.now (g.met.W.Walker.none c.args.walker.now) (ap here c.in-Equal.is) in
     search rules
 
 pub walk_item-step-requires-in-Unused-clause-may : goal.walk_item-step-requires-in-Unused-clause-may
 walk_item-step-requires-in-Unused-clause-may g t c =
-    let here = λ (x : Item). steps_of (item_slots (table (described c.args.set.now)) x (capacities_of c.args.most) (g.W.Cells.numbers c.args.walker.now) c.args.cell) in
+    let here =
+    λ (x : Item). steps_of
+    (item_slots (table (described c.args.set.now)) x (capacities_of c.args.most) (g.W.Cells.numbers c.args.walker.now) c.args.cell) in
     c.requires.may [] [] [] _ c.args.walker.now (g.met.W.Walker.none c.args.walker.now) (ap here c.in-Unused.is)
 
 pub walk_item-walk_struct-requires : goal.walk_item-walk_struct-requires
@@ -353,29 +427,40 @@ walk_item-walk_struct-requires g t c =
     let set = described c.args.set.now in
     let N = g.W.Cells.numbers in
     let is = c.in-Struct.is in
-    let reaches = subst (λ (x : Item). uses_below (length set.structs) x ≡ true) is c.requires.reaches in
-    let room = subst (λ (x : Item). c.args.cell + size_in set x ≤ length (N c.args.walker.now)) is c.requires.room in
-    let slots = λ (m : List ℤ). ap (λ (x : Item). item_slots (table set) x (capacities_of c.args.most) m c.args.cell) is in
-    λ κs h. (search rules, (search rules, (search rules, (reaches, (λ ys ws zs x d k e. c.requires.may ys ws zs x d k (ap steps_of (slots (N d)) ∙ e), (room, c.requires.few))))))
+    let reaches = rw is at c.requires.reaches in
+    let room = rw is at c.requires.room in
+    let slots = λ (m : List ℤ). ap (λ x. item_slots (table set) x (capacities_of c.args.most) m c.args.cell) is in
+    λ κs h. (
+      search rules,
+      (
+        search rules,
+        (
+          search rules,
+          (reaches, (λ ys ws zs x d k e. c.requires.may ys ws zs x d k (ap steps_of (slots (N d)) ∙ e), (room, c.requires.few))),
+        ),
+      ),
+    )
 
 pub walk_item-returns-in-Struct-clause-ok : goal.walk_item-returns-in-Struct-clause-ok
 walk_item-returns-in-Struct-clause-ok g t c =
-    let slots = λ (m : List ℤ). ap (λ (x : Item). item_slots (table (described c.args.set.now)) x (capacities_of c.args.most) m c.args.cell) c.in-Struct.is in
-    subst (λ (l : List Slot). OnOk c.walk_struct.result (g.W.Walker.goes (steps_of l) c.args.walker.now c.walk_struct.new.walker)) (sym (slots (g.W.Cells.numbers c.walk_struct.new.walker))) c.walk_struct.ensures.ok
+    let slots = λ (m : List ℤ). ap (λ x. item_slots (table (described c.args.set.now)) x (capacities_of c.args.most) m c.args.cell) c.in-Struct.is in
+    rw (slots (g.W.Cells.numbers c.walk_struct.new.walker)) c.walk_struct.ensures.ok
 
 pub walk_item-returns-in-Struct-clause-err : goal.walk_item-returns-in-Struct-clause-err
 walk_item-returns-in-Struct-clause-err g t c =
-    let slots = λ (m : List ℤ). ap (λ (x : Item). item_slots (table (described c.args.set.now)) x (capacities_of c.args.most) m c.args.cell) c.in-Struct.is in
-    subst (λ (l : List Slot). IfErr c.walk_struct.result (λ fault. g.W.Walker.stops (steps_of l) c.args.walker.now fault c.walk_struct.new.walker)) (sym (slots (g.W.Cells.numbers c.walk_struct.new.walker))) c.walk_struct.ensures.err
+    let slots = λ (m : List ℤ). ap (λ x. item_slots (table (described c.args.set.now)) x (capacities_of c.args.most) m c.args.cell) c.in-Struct.is in
+    rw (slots (g.W.Cells.numbers c.walk_struct.new.walker)) c.walk_struct.ensures.err
 
 -- ---- an element of a structure
 
 -- the slots of the structure's element are those of its fields
 slots_are : (g : Over) (t : ℕ) (c : goal.walk_struct-After-walk-arg-1 g t) (m : List ℤ)
-    → item_slots (table (described c.args.set.now)) (Struct c.args.number) [] m c.args.cell ≡ spot_slots (described c.args.set.now) (record { part = parts.Struct c.args.number; version = c.desc.result.now.version; base = c.args.cell }) m
+    → item_slots (table (described c.args.set.now)) (Struct c.args.number) [] m c.args.cell ≡ spot_slots (described c.args.set.now)
+    (record { part = parts.Struct c.args.number; version = c.desc.result.now.version; base = c.args.cell }) m
 slots_are g t c m =
     let set = described c.args.set.now in
-    struct_spot set c.args.set.now.well_formed c.args.number (ltb-true c.args.number (length set.structs) c.requires.reaches) c.desc.result.now.version c.args.cell m (ap (λ (d : Desc). d.version) c.desc.ensures) []
+    struct_spot set c.args.set.now.well_formed c.args.number
+    (ltb-true c.args.number (length set.structs) c.requires.reaches) c.desc.result.now.version c.args.cell m (ap (λ d. d.version) c.desc.ensures) []
 
 pub walk_struct-walk-requires : goal.walk_struct-walk-requires
 walk_struct-walk-requires g t c =
@@ -384,15 +469,15 @@ walk_struct-walk-requires g t c =
     let j = c.args.number in
     let lt : j < length set.structs = ltb-true j (length set.structs) c.requires.reaches in
     let spot : HasSpot set (record { part = parts.Struct j; version = c.desc.result.now.version; base = c.args.cell }) (N c.args.walker.now) =
-    record { part = lt; few = c.requires.few; room = omega (arith, (struct_size set c.args.set.now.well_formed j lt), c.requires.room) } in
+    record { part = lt; few = c.requires.few; room = omega (arith, (struct_size set c.args.set.now.well_formed j lt)) } in
     λ κs h. (search rules, (search rules, (search rules, (spot, λ ys ws zs x d k e. c.requires.may ys ws zs x d k (ap steps_of (slots_are g t c (N d)) ∙ e)))))
 
 pub walk_struct-returns-clause-ok : goal.walk_struct-returns-clause-ok
 walk_struct-returns-clause-ok g t c =
     let slots = slots_are g t (goal.at.walk_struct-returns-clause-ok g t c).After-walk-arg-1 (g.W.Cells.numbers c.walk.new.walker) in
-    subst (λ (l : List Slot). OnOk c.walk.result (g.W.Walker.goes (steps_of l) c.args.walker.now c.walk.new.walker)) (sym slots) c.walk.ensures.ok
+    rw slots c.walk.ensures.ok
 
 pub walk_struct-returns-clause-err : goal.walk_struct-returns-clause-err
 walk_struct-returns-clause-err g t c =
     let slots = slots_are g t (goal.at.walk_struct-returns-clause-err g t c).After-walk-arg-1 (g.W.Cells.numbers c.walk.new.walker) in
-    subst (λ (l : List Slot). IfErr c.walk.result (λ fault. g.W.Walker.stops (steps_of l) c.args.walker.now fault c.walk.new.walker)) (sym slots) c.walk.ensures.err
+    rw slots c.walk.ensures.err

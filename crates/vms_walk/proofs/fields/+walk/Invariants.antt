@@ -36,7 +36,8 @@ invariant-walk-loop-field g l =
     let n = g.W.Cells.numbers l.walker in
     let all = (desc_at set l.spot.part).fields in
     record {
-      way : g.W.Walker.goes (steps_of (slots_from (table set) all l.spot.version (spot_numbers set l.spot n) n 0 l.spot.base (take l.field all))) l.initial.walker l.walker;
+      way : g.W.Walker.goes
+          (steps_of (slots_from (table set) all l.spot.version (spot_numbers set l.spot n) n 0 l.spot.base (take l.field all))) l.initial.walker l.walker;
       long : length n ≡ length (g.W.Cells.numbers l.initial.walker);
       here : l.cell ≡ cell_of set l.spot l.field;
       room : l.cell + length (cells_from (cells_in (table set)) all l.field (drop l.field all)) ≤ length n;

@@ -5,7 +5,8 @@ use Rattle.vms_walk.proofs.fields.present.Goals as goal
 pub returns-then-is_there : goal.returns-then-is_there
 returns-then-is_there g c =
     let set = described c.args.set.now in
-    present_then set c.args.spot (g.C.Cells.numbers c.args.cells.now) (field_at set c.args.spot.part c.args.field) c.is_there.result c.elements.result c.is_there.ensures c.if-is_there.true c.elements.ensures
+    present_then set c.args.spot (g.C.Cells.numbers c.args.cells.now)
+    (field_at set c.args.spot.part c.args.field) c.is_there.result c.elements.result c.is_there.ensures c.if-is_there.true c.elements.ensures
 
 pub returns-else-is_there : goal.returns-else-is_there
 returns-else-is_there g c =
@@ -13,5 +14,5 @@ returns-else-is_there g c =
     let n = g.C.Cells.numbers c.args.cells.now in
     let f = field_at set c.args.spot.part c.args.field in
     let own = own_numbers set c.args.spot.part n c.args.spot.base in
-    ap (λ (x : Bool). if x then elements_of f.count own else 0) (sym c.if-is_there.false ∙ c.is_there.ensures)
-    ∙ ap (λ (o : ℕ → ℕ). present_of f c.args.spot.version o) (own_is set c.args.spot n)
+    ap (λ x. if x then elements_of f.count own else 0) (sym c.if-is_there.false ∙ c.is_there.ensures)
+    ∙ ap (λ o. present_of f c.args.spot.version o) (own_is set c.args.spot n)

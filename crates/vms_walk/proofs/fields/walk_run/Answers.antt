@@ -6,13 +6,20 @@ use Rattle.vms_walk.proofs.fields.walk_run.Given.{Over}
 use Rattle.vms_walk.proofs.fields.walk_run.Goals as goal
 
 laws_of : (g : Over) → Laws g.W.Cells.numbers g.W.Walker.goes g.W.Walker.stops
-laws_of g = record { more = g.met.W.Walker.more; after = g.met.W.Walker.stops_after; before = g.met.W.Walker.stops_before; keeps = g.met.W.Walker.keeps; stopped = g.met.W.Walker.keeps_stopped }
+laws_of g =
+    record {
+      more = g.met.W.Walker.more;
+      after = g.met.W.Walker.stops_after;
+      before = g.met.W.Walker.stops_before;
+      keeps = g.met.W.Walker.keeps;
+      stopped = g.met.W.Walker.keeps_stopped;
+    }
 
 pub loop-cell-init : goal.loop-cell-init
 loop-cell-init g c =
     let none : zero ≡ c.args.first - c.args.first = omega arith in
     record {
-      way = subst (λ (n : ℕ). g.W.Walker.goes (run_of c.args.first n c.args.kind) c.args.walker.now c.args.walker.now) none (g.met.W.Walker.none c.args.walker.now);
+      way = rw (← none) (g.met.W.Walker.none c.args.walker.now);
       long = refl;
       from = omega arith;
       within = omega arith;
@@ -28,7 +35,7 @@ loop-cell-preserved g c =
     record {
       way = run_next _ _ _ laws c.args.first c.loop-cell.cell c.args.kind c.args.walker.now b inv.from inv.way c.min-some.result d c.in_ok-run.ensures.ok;
       long = (laws.keeps _ b d c.in_ok-run.ensures.ok).long ∙ inv.long;
-      from = omega (arith, inv.from);
+      from = omega arith;
       within = le;
     }
 
@@ -36,7 +43,8 @@ pub run-requires-clause-may : goal.run-requires-clause-may
 run-requires-clause-may g c =
     let inv = c.loop-cell.invariant in
     let le : c.loop-cell.cell + c.min-some.result ≤ c.args.first + c.args.count = search rules in
-    run_may _ _ _ (laws_of g) c.args.first c.loop-cell.cell c.args.kind c.args.walker.now c.loop-cell.walker inv.from inv.way c.min-some.result c.args.count le g.W.Walker.may c.requires.may
+    run_may _ _ _ (laws_of g) c.args.first c.loop-cell.cell c.args.kind c.args.walker.now c.loop-cell.walker inv.from inv.way c.min-some.result c.args.count
+    le g.W.Walker.may c.requires.may
 
 pub returns-in_err-run-clause-err : goal.returns-in_err-run-clause-err
 returns-in_err-run-clause-err g c =
@@ -46,4 +54,5 @@ returns-in_err-run-clause-err g c =
     let fault = c.in_err-run.field-0.0 in
     let le : c.loop-cell.cell + c.min-some.result ≤ c.args.first + c.args.count = search rules in
     err_is (λ fault. g.W.Walker.stops (run_of c.args.first c.args.count c.args.kind) a fault d) c.from_residual.result fault c.from_residual.ensures.1
-    (run_stop _ _ _ (laws_of g) c.args.first c.loop-cell.cell c.args.kind a c.loop-cell.walker inv.from inv.way c.min-some.result c.args.count le d fault c.in_err-run.ensures.err)
+    (run_stop _ _ _ (laws_of g) c.args.first c.loop-cell.cell c.args.kind a c.loop-cell.walker inv.from inv.way c.min-some.result c.args.count le d fault
+    c.in_err-run.ensures.err)

@@ -18,7 +18,7 @@ pub loop-cell-init : goal.loop-cell-init
 loop-cell-init g c =
     let none : zero ≡ c.args.first - c.args.first = omega arith in
     record {
-      way = subst (λ (n : ℕ). g.Self.Walker.goes (run_of c.args.first n c.args.kind) c.args.self.now c.args.self.now) none (g.met.Self.Walker.none c.args.self.now);
+      way = rw (← none) (g.met.Self.Walker.none c.args.self.now);
       long = refl;
       within = omega arith;
     }
@@ -32,21 +32,21 @@ loop-cell-preserved g c =
     record {
       way = run_next _ _ _ laws c.args.first c.loop-cell.cell c.args.kind c.args.self.now b c.loop-cell.auto.cell inv.way 1 d c.in_ok-step.ensures.ok;
       long = (laws.keeps _ b d c.in_ok-step.ensures.ok).long ∙ inv.long;
-      within = omega (arith, c.loop-cell-test.true);
+      within = omega arith;
     }
 
 pub step-requires-clause-inside : goal.step-requires-clause-inside
-step-requires-clause-inside g c = omega (arith, c.loop-cell.invariant.long, c.loop-cell-test.true, c.requires.room)
+step-requires-clause-inside g c = omega arith
 
 pub step-requires-clause-may : goal.step-requires-clause-may
 step-requires-clause-may g c =
     run_may _ _ _ (laws_of g) c.args.first c.loop-cell.cell c.args.kind c.args.self.now c.loop-cell.self c.loop-cell.auto.cell c.loop-cell.invariant.way
-    1 c.args.count (omega (arith, c.loop-cell-test.true)) g.Self.Walker.may c.requires.may [] [] [] _ c.loop-cell.self (g.met.Self.Walker.none c.loop-cell.self) refl
+    1 c.args.count (omega arith) g.Self.Walker.may c.requires.may [] [] [] _ c.loop-cell.self (g.met.Self.Walker.none c.loop-cell.self) refl
 
 pub returns-clause-ok : goal.returns-clause-ok
 returns-clause-ok g c =
-    let all : c.loop-cell.cell - c.args.first ≡ c.args.count = omega (arith, c.loop-cell-test.false, c.loop-cell.invariant.within) in
-    subst (λ (n : ℕ). g.Self.Walker.goes (run_of c.args.first n c.args.kind) c.args.self.now c.loop-cell.self) all c.loop-cell.invariant.way
+    let all : c.loop-cell.cell - c.args.first ≡ c.args.count = omega arith in
+    rw all at c.loop-cell.invariant.way
 
 pub returns-in_err-step-clause-err : goal.returns-in_err-step-clause-err
 returns-in_err-step-clause-err g c =
@@ -55,4 +55,4 @@ returns-in_err-step-clause-err g c =
     let fault = c.in_err-step.field-0.0 in
     err_is (λ fault. g.Self.Walker.stops (run_of c.args.first c.args.count c.args.kind) a fault d) c.from_residual.result fault c.from_residual.ensures.1
     (run_stop _ _ _ (laws_of g) c.args.first c.loop-cell.cell c.args.kind a c.loop-cell.self c.loop-cell.auto.cell c.loop-cell.invariant.way
-    1 c.args.count (omega (arith, c.loop-cell-test.true)) d fault c.in_err-step.ensures.err)
+    1 c.args.count (omega arith) d fault c.in_err-step.ensures.err)
