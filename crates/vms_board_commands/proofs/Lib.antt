@@ -1,4 +1,10 @@
 pub mod CourseLemmas
+pub mod DrillEventLaws
+pub mod DrillFoldLaws
+pub mod DrillLaws
+pub mod DrillRounds
+pub mod DrillRows
+pub mod DrillSteps
 pub mod LoadLemmas
 pub mod LoadOutcome
 pub mod PlayLemmas

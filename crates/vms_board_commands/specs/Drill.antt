@@ -5,7 +5,7 @@ use Rattle.vms_board.specs.Isa.{machine_of}
 use Rattle.vms_commands.specs.Steps.{Gives}
 use Rattle.vms_board_commands.specs.Causes.{drill_course}
 use Rattle.vms_board_commands.specs.Runs.{Task, text_task}
-use Rattle.vms_drill.specs.Drill.{Summary, drill_begun, drilled_on, summary_of}
+use Rattle.vms_board_commands.specs.Drills.{Summary, drill_begun, drilled_on, summary_of}
 
 -- The first part of the line: the board and the seed.
 unfoldable pub drill_text : (level seed : ℕ) → List ℕ

@@ -1,5 +1,12 @@
 pub mod Causes
 pub mod Drill
+pub mod DrillEventLaws
+pub mod DrillEvents
+pub mod DrillLaws
+pub mod DrillProgress
+pub mod DrillTallies
+pub mod DrillViews
+pub mod Drills
 pub mod Load
 pub mod Play
 pub mod Runs

@@ -1,16 +1,16 @@
 // The command `drill`: events that a seed selects, with saves between them.
 ghost use Rattle.std.specs.Prelude.{◌≡◌, IfOk, string_bytes};
 ghost use Rattle.dev_base.specs.Levels.{IsLevel};
-ghost use Rattle.vms_drill.specs.Views.{summary_view};
+ghost use Rattle.vms_board_commands.specs.DrillViews.{summary_view};
 ghost use Rattle.vms_io.specs.Told.{Stock, outlet};
 ghost use Rattle.vms_commands.specs.Endings.{ending_of};
 ghost use Rattle.vms_board_commands.specs.Drill.{drill_line, drill_task, drill_text, events_text, saves_text, summary_line};
 ghost use Rattle.vms_board_commands.specs.Runs.{RunsAside};
 
+use crate::drills::{Summary, drill};
 use std::alloc::Global;
 use vms_board::machine_name;
 use vms_commands::{Ending, write_text};
-use vms_drill::{Summary, drill};
 use vms_io::{NoMemory, Sink};
 
 /// Writes the result of `count` events that `seed` selects to `out`, as one line.

@@ -1,11 +1,12 @@
 //! The commands of boards: `save`, `load`, `drill` and `play`.
 //!
 //! This crate has the outcome, the possible endings and the code of each. The top call reads their
-//! arguments.
+//! arguments. A drill is also a call of the library ([`drills::drill`]).
 #![tactic(auto)]
 
 mod asked;
 mod drill;
+pub mod drills;
 mod load;
 mod play;
 mod save;

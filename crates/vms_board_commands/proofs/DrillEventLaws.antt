@@ -1,0 +1,55 @@
+-- The events of a drill are such that there are.
+use Rattle.std.proofs.Common.{◌≡◌, ℕ, zero, suc, ◌+◌, ◌<◌, ◌%◌, true, IsTrue, get_or, arith, refl}
+use Rattle.std.proofs.Math.Nat.{mod-add-mod}
+use Rattle.dev_board.specs.Laws.{IsEvent, AreEvents}
+use Rattle.dev_board.proofs.WireBits.{names}
+use Rattle.dev_board.specs.Step.{names_wire}
+use Rattle.dev_board.specs.Wires.{is_wire}
+use Rattle.vms_board_commands.specs.DrillEvents.{next_number, wires, event_by, event_of, events_after}
+use Rattle.vms_board_commands.specs.DrillEventLaws.{EventsAreGood}
+
+-- the remainder of a sum depends only on that of its first part
+pub sum_rest : (n k m : ℕ) → (n % m + k) % m ≡ (n + k) % m
+sum_rest n k m = mod-add-mod n m k
+
+pub wire-is : (n : ℕ) → n < 13 → is_wire (get_or wires n 0) ≡ true
+wire-is zero l = refl
+wire-is (suc zero) l = refl
+wire-is (suc (suc zero)) l = refl
+wire-is (suc (suc (suc zero))) l = refl
+wire-is (suc (suc (suc (suc zero)))) l = refl
+wire-is (suc (suc (suc (suc (suc zero))))) l = refl
+wire-is (suc (suc (suc (suc (suc (suc zero)))))) l = refl
+wire-is (suc (suc (suc (suc (suc (suc (suc zero))))))) l = refl
+wire-is (suc (suc (suc (suc (suc (suc (suc (suc zero)))))))) l = refl
+wire-is (suc (suc (suc (suc (suc (suc (suc (suc (suc zero))))))))) l = refl
+wire-is (suc (suc (suc (suc (suc (suc (suc (suc (suc (suc zero)))))))))) l = refl
+wire-is (suc (suc (suc (suc (suc (suc (suc (suc (suc (suc (suc zero))))))))))) l = refl
+wire-is (suc (suc (suc (suc (suc (suc (suc (suc (suc (suc (suc (suc zero)))))))))))) l = refl
+wire-is (suc (suc (suc (suc (suc (suc (suc (suc (suc (suc (suc (suc (suc n))))))))))))) l = absurd (omega (arith, l))
+
+by-is : (what value place : ℕ) → value < 256 → IsEvent (event_by what value place)
+unfolding event_by
+by-is zero value place v = tt
+by-is (suc zero) value place v = tt
+by-is (suc (suc zero)) value place v = v
+by-is (suc (suc (suc zero))) value place v = v
+by-is (suc (suc (suc (suc zero)))) value place v = v
+by-is (suc (suc (suc (suc (suc zero))))) value place v = tt
+by-is (suc (suc (suc (suc (suc (suc zero)))))) value place v = tt
+by-is (suc (suc (suc (suc (suc (suc (suc what))))))) value place v = wire-is (place % 13) (omega arith)
+
+pub event-is : (x : ℕ) → IsEvent (event_of x)
+unfolding event_of
+event-is x = by-is _ _ _ (omega arith)
+
+-- a wire that such an event names is one
+pub names_a_wire : (x : ℕ) → IsTrue (names_wire (event_of x))
+names_a_wire x = names (event_of x) (event-is x)
+
+are-events : (count seed : ℕ) → AreEvents (events_after seed count)
+are-events zero seed = tt
+are-events (suc count) seed = (event-is (next_number seed), are-events count (next_number seed))
+
+pub events_are_good : EventsAreGood
+events_are_good = record { are = are-events }

@@ -1,0 +1,65 @@
+-- A drill with its streams, and its progress without them.
+use Rattle.std.proofs.Common.{◌≡◌, ℕ, zero, suc, ◌+◌, ◌*◌, ◌-◌, ◌<◌, ◌≤◌, Bool, true, false, if◌then◌else◌, arith, refl, sym, ap, subst, ◌∙◌}
+use Rattle.dev_board.proofs.SoundLaws.{sound_stays_on}
+use Rattle.dev_board.specs.Sound.{IsSound, Alike}
+use Rattle.dev_board.specs.State.{State, power_on}
+use Rattle.dev_board.specs.Step.{step, after_all}
+use Rattle.vms_board_commands.proofs.DrillEventLaws.{event-is}
+use Rattle.vms_board_commands.proofs.DrillFoldLaws.{saves_leave_counts, save_may, save-left}
+use Rattle.vms_board_commands.specs.DrillEvents.{next_number, event_of, events_after}
+use Rattle.vms_board_commands.specs.DrillProgress.{Progress, drilled, is_save_due, saves_of}
+use Rattle.vms_board_streams.proofs.IsaBytes.{streams_are_short}
+use Rattle.vms_board_streams.specs.declared.memory.TheConstants.{STREAM_ROOM}
+use Rattle.vms_board_commands.specs.Drills.{Drill, drill_begun, bytes_after, stream_long, with_drill_event, drilled_on}
+use Rattle.vms_board_commands.specs.DrillLaws.{ProgressIsSame, SizesAreSmall, NumbersAre}
+
+progress-same : (count : ℕ) (drill : Drill) → (drilled_on count drill).progress ≡ drilled count drill.progress
+progress-same zero drill = refl
+progress-same (suc count) drill = progress-same count (with_drill_event drill)
+
+pub progress_is_same : ProgressIsSame
+progress_is_same = record {
+  same = λ level seed count l.
+      let progress = progress-same count (drill_begun level seed) in
+      let all = saves_leave_counts.same level seed count l in
+      record {
+        progress = progress;
+        counts = ap (λ (c : Progress). c.counts) progress ∙ all.counts;
+        events = ap (λ (c : Progress). c.events) progress ∙ all.events;
+        alike = subst (λ (c : Progress). Alike (after_all (events_after seed count) (power_on level)) c.board) (sym progress) all.alike;
+        sound = subst (λ (c : Progress). IsSound c.board) (sym progress) all.sound;
+      };
+}
+
+-- ---- sizes
+
+due-small : (due : Bool) (bytes long : ℕ) → long < STREAM_ROOM → (if due then bytes + long else bytes) ≤ bytes + STREAM_ROOM
+due-small true bytes long l = omega (arith, l)
+due-small false bytes long l = omega arith
+
+after-small : (events : ℕ) (m : State) (bytes : ℕ) → IsSound m → bytes_after events m bytes ≤ bytes + STREAM_ROOM
+unfolding bytes_after
+after-small events m bytes s =
+    due-small (is_save_due events) bytes (stream_long events m)
+    (streams_are_short.short _ m s (save_may m.level (saves_of events - 1) s.devices.level.last))
+
+small : (count : ℕ) (drill : Drill) → IsSound drill.progress.board → (drilled_on count drill).bytes ≤ drill.bytes + STREAM_ROOM * count
+small zero drill s = omega arith
+small (suc count) drill s =
+    let stepped = sound_stays_on.event (event_of (next_number drill.progress.number)) drill.progress.board (event-is (next_number drill.progress.number)) s in
+    let here = after-small (drill.progress.events + 1) (step (event_of (next_number drill.progress.number)) drill.progress.board).1 drill.bytes stepped in
+    let left = save-left (drill.progress.events + 1) (step (event_of (next_number drill.progress.number)) drill.progress.board).1 stepped in
+    let rest = small count (with_drill_event drill) left.sound in
+    omega (arith, here, rest)
+
+pub sizes_are_small : SizesAreSmall
+sizes_are_small = record {
+  bytes = λ level seed count l.
+      let e = small count (drill_begun level seed) (sound_stays_on.power_on level l) in
+      omega (arith, e);
+}
+
+-- ---- numbers
+
+pub numbers_are : NumbersAre
+numbers_are = record { wait = refl; saves = refl; room = refl }

@@ -1,0 +1,31 @@
+-- A board goes on as the one that its own stream restores.
+use Rattle.std.proofs.Common.{◌≡◌, ℕ, List, length, Option, sym, ap, ◌∙◌, subst}
+use Rattle.dev_board.specs.Saved.{MaySaveUnder, restored}
+use Rattle.dev_board.specs.Sound.{IsSound}
+use Rattle.dev_board.specs.State.{State}
+use Rattle.vms_board_commands.specs.DrillProgress.{back_of, came_back}
+use Rattle.dev_images.proofs.BoardCarried.{saved_is_carried}
+use Rattle.vms_board.specs.Isa.{isa}
+use Rattle.vms_board.specs.Restoring.{Back, Refused, Restores}
+use Rattle.vms_board.specs.Saving.{saved_stream}
+use Rattle.vms_board_streams.proofs.IsaLaws.{streams_come_back}
+use Rattle.vms_spec.specs.declared.Reason.{Reason}
+
+module _ (set : ℕ) (m : State) (stream : List ℕ) (s : IsSound m) (may : MaySaveUnder m.level set) (is : stream ≡ saved_stream isa set m) where
+  pub board_back : (other : State) (taken : ℕ) → Restores isa m.level stream (Back other taken) → other ≡ came_back set m
+  unfolding came_back
+  board_back other taken r =
+      let back = streams_come_back.stream set m s may in
+      let one = back.only other taken (subst (λ (l : List ℕ). Restores isa m.level l (Back other taken)) is r) in
+      one.0 ∙ sym (ap (back_of m) (ap (restored m.level) (sym (saved_is_carried.cells set m s may)) ∙ back.carried))
+
+  pub long_back : (other : State) (taken : ℕ) → Restores isa m.level stream (Back other taken) → taken ≡ length stream
+  long_back other taken r =
+      let back = streams_come_back.stream set m s may in
+      let one = back.only other taken (subst (λ (l : List ℕ). Restores isa m.level l (Back other taken)) is r) in
+      one.1 ∙ ap length (sym is)
+
+  pub never_refused : (place : ℕ) (section : Option ℕ) (reason : Reason) → Restores isa m.level stream (Refused place section reason) → ⊥
+  never_refused place section reason r =
+      let back = streams_come_back.stream set m s may in
+      back.accepted place section reason (subst (λ (l : List ℕ). Restores isa m.level l (Refused place section reason)) is r)

@@ -1,7 +1,0 @@
--- What the code's counts mean.
-use Rattle.vms_drill.specs.Fold.{Counts}
-use Rattle.vms_drill.specs.declared.tally.Tally.{Tally}
-
--- The counts of the specification.
-abbrev pub tally_view : Tally → Counts
-tally_view t = record { sent = t.sent; raised = t.raised }
