@@ -1,35 +1,17 @@
 -- From what the listing of an input says to how `analyze` ends.
-use Rattle.std.proofs.Common.{◌≡◌, ℕ, ◌+◌, ◌≤◌, true, false, List, ◌++◌, length, length-append, Option, Some, Result, Ok, Err, IfSome, IsSomeAnd, IsErrAnd, refl, sym, subst, ap, ◌∙◌, arith, None}
-use Rattle.std.proofs.lemmas.List.{drop_at}
-use Rattle.std.specs.Io.KnownBytes.{Keeps}
-use Rattle.std.specs.Result.{MatchResult}
-use Rattle.vms_io.proofs.ShelvingLemmas.{reaches_none}
-use Rattle.vms_io.specs.Reading.{Takes, Reads, Course, Last, MayFollow}
-use Rattle.vms_io.specs.Shelves.{Held}
-use Rattle.vms_io.specs.Told.{Intake, Outlet, Stock}
-use Rattle.vms_io.proofs.ReadingLemmas.{nothing_follows, reads_as}
-use Rattle.arrayvec.specs.ArrayVec.{ArrayVec}
-use Rattle.vms_kinds.specs.Bytes.{IsBytes}
-use Rattle.vms_analyze.specs.Calls.{Analyzes, IsListed, IsTooMuch, ListsTaken}
-use Rattle.vms_analyze.specs.Laws.{HasListing}
-use Rattle.vms_analyze.specs.Listing.{Listing, Text, Refused, Lists, longest_input}
-use Rattle.vms_analyze.specs.declared.fault.AnalyzeFault.{AnalyzeFault}
+use Rattle.vms_cli.proofs.Facade.{◌≡◌, ℕ, ◌+◌, ◌≤◌, true, false, List, ◌++◌, length, length-append, Option, Some, Result, Ok, Err, IfSome, IsSomeAnd, IsErrAnd}
+use Rattle.vms_cli.proofs.Facade.{refl, sym, subst, ap, ◌∙◌, arith, None, drop_at, Keeps, MatchResult, reaches_none, Reads, Course, Last, MayFollow, Held}
+use Rattle.vms_cli.proofs.Facade.{Intake, Outlet, Stock, nothing_follows, reads_as, ArrayVec, IsBytes, Analyzes, IsListed, IsTooMuch, ListsTaken, HasListing}
+use Rattle.vms_cli.proofs.Facade.{Listing, Text, Lists, longest_input, AnalyzeFault, AnalyzeReason, one_holds, total_holds, Ending, wrong, EndsSo, Risen}
+use Rattle.vms_cli.proofs.Facade.{is_among, EndsAs, WritesAs, ending_of, status_of, Outcome, done, ended, comes_to_nothing, same_keeps, Seen, SeenAs, Sees}
+use Rattle.vms_cli.proofs.Facade.{TakesSo, content_seen, other_seen, reads_all, seen_refused, seen_written, analyze_course, EndsLike, IsRefused, FailsReading}
+use Rattle.vms_cli.proofs.Facade.{FailsWriting, GivesListed, IsListing, bytes_taken, listing_outcome, unlisted_line}
+use Rattle.vms_io.specs.Reading.{Takes}
+use Rattle.vms_analyze.specs.Listing.{Refused}
 use Rattle.vms_analyze.specs.declared.fault.AnalyzeFault.TheVariants as faults
-use Rattle.vms_analyze.specs.declared.fault.AnalyzeReason.{AnalyzeReason}
 use Rattle.vms_analyze.specs.declared.fault.AnalyzeReason.TheVariants as reasons
-use Rattle.vms_analyze.proofs.One.{one_holds}
-use Rattle.vms_analyze.proofs.Total.{total_holds}
-use Rattle.vms_commands.specs.declared.ending.Ending.{Ending}
 use Rattle.vms_commands.specs.declared.ending.Ending.TheVariants as endings
-use Rattle.vms_commands.proofs.CourseLemmas.{wrong}
-use Rattle.vms_commands.specs.Courses.{EndsSo, Risen, is_among}
-use Rattle.vms_commands.specs.Endings.{EndsAs, WritesAs, ending_of, status_of}
-use Rattle.vms_commands.specs.Outcomes.{Outcome, done, ended}
-use Rattle.vms_commands.proofs.EndLemmas.{comes_to_nothing, same_keeps}
-use Rattle.vms_board_commands.specs.Seen.{Seen, SeenAs, Sees}
-use Rattle.vms_board_commands.proofs.SeenLemmas.{TakesSo, content_seen, other_seen, reads_all, seen_refused, seen_written}
-use Rattle.vms_cli.specs.Statuses.{analyze_course}
-use Rattle.vms_cli.specs.Analyze.{EndsLike, IsDone, IsRefused, FailsReading, FailsWriting, LacksMemory, GivesListed, IsListing, bytes_taken, listing_outcome, unlisted_line}
+use Rattle.vms_cli.specs.Analyze.{IsDone, LacksMemory}
 
 -- ---- how it ends, by the result of the call
 
@@ -59,7 +41,8 @@ HasListed listing input n = Lists input listing × (bytes_taken input ≡ n)
 abbrev Took : Intake → Intake → Listing → Type 0
 Took i i' listing = Reads Last i i' (λ n. n ≤ longest_input + 1) (TakesSo (HasListed listing))
 
-took_so : (listing : Listing) (bytes more : List ℕ) → length bytes ≡ bytes_taken (bytes ++ more) → Lists (bytes ++ more) listing → TakesSo (HasListed listing) (bytes ++ more) more
+took_so : (listing : Listing) (bytes more : List ℕ) → length bytes ≡ bytes_taken (bytes ++ more) → Lists (bytes ++ more) listing
+    → TakesSo (HasListed listing) (bytes ++ more) more
 took_so listing bytes more all lists = record {
   taken = bytes_taken (bytes ++ more);
   says = (lists, refl);
@@ -67,7 +50,8 @@ took_so listing bytes more all lists = record {
   rest = ap (λ (l : List ℕ). Some l) (sym (drop_at bytes more (bytes_taken (bytes ++ more)) all));
 }
 
-took_by : {course : Course} {i i' : Intake} {IsLong : ℕ → Type 0} {Says : List ℕ → List ℕ → Type 0} {listing : Listing} (r : Reads course i i' IsLong Says) → length r.bytes ≤ longest_input + 1
+took_by : {course : Course} {i i' : Intake} {IsLong : ℕ → Type 0} {Says : List ℕ → List ℕ → Type 0} {listing : Listing} (r : Reads course i i' IsLong Says)
+    → length r.bytes ≤ longest_input + 1
     → ((more : List ℕ) → MayFollow Last i'.left more → TakesSo (HasListed listing) (r.bytes ++ more) more) → Took i i' listing
 took_by r few says = record { bytes = r.bytes; takes = r.takes; long = few; says = says; cause = tt }
 
@@ -93,7 +77,8 @@ refused_took at reasons.Mismatch p = listed_took p
 
 module _ (i i' : Intake) (o o' : Outlet) where
   -- this outcome is that of the listing, with as many bytes as were taken
-  listing_sees : (s : Stock) (listing : Listing) (t : Took i i' listing) (x : Outcome) → ((n : ℕ) (input : List ℕ) → bytes_taken input ≡ n → n ≡ length t.bytes → x ≡ listing_outcome listing input s.held)
+  listing_sees : (s : Stock) (listing : Listing) (t : Took i i' listing) (x : Outcome)
+      → ((n : ℕ) (input : List ℕ) → bytes_taken input ≡ n → n ≡ length t.bytes → x ≡ listing_outcome listing input s.held)
       → x.taken ≡ length t.bytes → Sees (IsListing s.held) i i' x
   listing_sees s listing t x same all =
       let r = reads_all (HasListed listing) t (λ input left so. so) in
@@ -107,7 +92,8 @@ module _ (i i' : Intake) (o o' : Outlet) where
       seen_written {P = IsListing s.held} text n e refl
       (listing_sees s (Text text) t (done text s.held n) (λ k input all is. ap (λ (m : ℕ). done text s.held m) (sym (all ∙ is))) refl) w
 
-  refusal_seen : (s : Stock) (at : ℕ) (reason : AnalyzeReason) (line : ArrayVec ℕ) → ListsTaken i i' (Err (faults.Refused at reason)) → line.items ≡ unlisted_line at reason
+  refusal_seen : (s : Stock) (at : ℕ) (reason : AnalyzeReason) (line : ArrayVec ℕ) → ListsTaken i i' (Err (faults.Refused at reason))
+      → line.items ≡ unlisted_line at reason
       → Seen (IsListing s.held) i i' o o' s s (Some (endings.Refused line))
   refusal_seen s at reason line p said =
       let t = refused_took at reason p in
@@ -116,7 +102,8 @@ module _ (i i' : Intake) (o o' : Outlet) where
       (listing_sees s (Refused at reason) t (ended 1 line.items n)
       (λ k input all is. ap (λ (l : List ℕ). ended 1 l n) said ∙ ap (λ (m : ℕ). ended 1 (unlisted_line at reason) m) (sym (all ∙ is))) refl)
 
-  pub list_seen : (r : Result (Unit {0}) AnalyzeFault) (e : Option Ending) → EndsLike r e → Analyzes i i' o o' r → (s : Stock) → SeenAs (IsListing s.held) i i' o o' s s e
+  pub list_seen : (r : Result (Unit {0}) AnalyzeFault) (e : Option Ending) → EndsLike r e → Analyzes i i' o o' r → (s : Stock)
+      → SeenAs (IsListing s.held) i i' o o' s s e
   list_seen _ _ (IsDone u) a s = λ among. text_seen s a.text None a.listed a.written
   list_seen _ _ (IsRefused at reason line said) a s = λ among. refusal_seen s at reason line a.0 said
   list_seen _ _ FailsReading a s = other_seen (Some endings.ReadFault) refl
@@ -124,15 +111,20 @@ module _ (i i' : Intake) (o o' : Outlet) where
   list_seen _ _ LacksMemory a s = other_seen (Some endings.NoMemory) refl
 
   -- the outcome of a known input
-  told_content : (s : Stock) (e : Option Ending) (x : Outcome) → IfSome i.left IsBytes → Seen (IsListing s.held) i i' o o' s s e → IsSomeAnd i.left (λ bytes. IsListing s.held bytes x) → EndsAs i i' o o' s s e x
-  told_content s e x octets v is = content_seen {o = o} {o' = o'} {s = s} {s' = s} {P = IsListing s.held} e x (λ bytes y ok p q. only_listing bytes s.held y x q p) octets v is
+  told_content : (s : Stock) (e : Option Ending) (x : Outcome) → IfSome i.left IsBytes → Seen (IsListing s.held) i i' o o' s s e
+      → IsSomeAnd i.left (λ bytes. IsListing s.held bytes x) → EndsAs i i' o o' s s e x
+  told_content s e x octets v is =
+      content_seen {o = o} {o' = o'} {s = s} {s' = s} {P = IsListing s.held} e x (λ bytes y ok p q. only_listing bytes s.held y x q p) octets v is
 
-  pub list_content : (r : Result (Unit {0}) AnalyzeFault) (e : Option Ending) → EndsLike r e → Analyzes i i' o o' r → IfSome i.left IsBytes → (s : Stock) (x : Outcome)
+  pub list_content : (r : Result (Unit {0}) AnalyzeFault) (e : Option Ending) → EndsLike r e → Analyzes i i' o o' r → IfSome i.left IsBytes
+      → (s : Stock) (x : Outcome)
       → IsSomeAnd i.left (λ bytes. IsListing s.held bytes x) → EndsAs i i' o o' s s e x
   list_content _ _ (IsDone u) a octets s x is = told_content s None x octets (text_seen s a.text None a.listed a.written) is
-  list_content _ _ (IsRefused at reason line said) a octets s x is = told_content s (Some (endings.Refused line)) x octets (refusal_seen s at reason line a.0 said) is
+  list_content _ _ (IsRefused at reason line said) a octets s x is =
+      told_content s (Some (endings.Refused line)) x octets (refusal_seen s at reason line a.0 said) is
   list_content _ _ FailsReading a octets s x is = comes_to_nothing o o' s s x.parts (same_keeps o o' a.1) refl
-  list_content _ _ FailsWriting a octets s x is = told_content s (Some endings.WriteFault) x octets (text_seen s a.text (Some endings.WriteFault) a.listed a.written) is
+  list_content _ _ FailsWriting a octets s x is =
+      told_content s (Some endings.WriteFault) x octets (text_seen s a.text (Some endings.WriteFault) a.listed a.written) is
   list_content _ _ LacksMemory a octets s x is = comes_to_nothing o o' s s x.parts (same_keeps o o' a.1) refl
 
   -- ---- known or unknown
@@ -177,7 +169,8 @@ module _ (i i' : Intake) (o o' : Outlet) where
   -- ---- what it touches
 
   -- nothing of the shelf
-  so_by : (s : Stock) (e : Option Ending) → is_among analyze_course.statuses (status_of e) ≡ true → is_among analyze_course.takes (status_of e) ≡ true → Risen i i' o o' s s e
+  so_by : (s : Stock) (e : Option Ending) → is_among analyze_course.statuses (status_of e) ≡ true → is_among analyze_course.takes (status_of e) ≡ true
+      → Risen i i' o o' s s e
       → (is_among analyze_course.writes (status_of e) ≡ false → Keeps o.written o'.written) → Stands → EndsSo i i' o o' s s analyze_course e
   so_by s e can takes risen out stands = record {
     can = can;
@@ -191,9 +184,11 @@ module _ (i i' : Intake) (o o' : Outlet) where
     reaches = reaches_none s;
   }
 
-  pub list_so : (r : Result (Unit {0}) AnalyzeFault) (e : Option Ending) → EndsLike r e → Analyzes i i' o o' r → (s : Stock) → EndsSo i i' o o' s s analyze_course e
+  pub list_so : (r : Result (Unit {0}) AnalyzeFault) (e : Option Ending) → EndsLike r e → Analyzes i i' o o' r → (s : Stock)
+      → EndsSo i i' o o' s s analyze_course e
   list_so _ _ (IsDone u) a s = so_by s None refl refl tt (λ f. absurd (wrong f)) (list_stands (Ok u) a)
-  list_so _ _ (IsRefused at reason line said) a s = so_by s (Some (endings.Refused line)) refl refl tt (λ f. same_keeps o o' a.1) (list_stands (Err (faults.Refused at reason)) a)
+  list_so _ _ (IsRefused at reason line said) a s =
+      so_by s (Some (endings.Refused line)) refl refl tt (λ f. same_keeps o o' a.1) (list_stands (Err (faults.Refused at reason)) a)
   list_so _ _ FailsReading a s = so_by s (Some endings.ReadFault) refl refl a.0.rose (λ f. same_keeps o o' a.1) (list_stands (Err faults.ReadFault) a)
   list_so _ _ FailsWriting a s = so_by s (Some endings.WriteFault) refl refl a.written.rose (λ f. absurd (wrong f)) (list_stands (Err faults.WriteFault) a)
   list_so _ _ LacksMemory a s = so_by s (Some endings.NoMemory) refl refl tt (λ f. same_keeps o o' a.1) (list_stands (Err faults.NoMemory) a)

@@ -1,31 +1,9 @@
 -- The outcomes of `save` and `load`, on boards of either kind.
-use Rattle.std.proofs.Common.{◌≡◌, ℕ, List, Option, Some, None, refl, sym, subst}
-use Rattle.std.proofs.lemmas.Option.{none-some}
-use Rattle.vms_io.specs.Shelves.{Held}
-use Rattle.vms_kinds.specs.Bytes.{IsBytes}
-use Rattle.vms_spec.specs.Heads.{FitsHeads}
-use Rattle.vms_spec.specs.WellFormed.{WellFormed}
-use Rattle.vms_commands.specs.Outcomes.{Outcome, done, ended}
-use Rattle.vms_commands.specs.Steps.{Step, Untold, Gives, Ends, HasText, next}
-use Rattle.vms_commands.proofs.StepLemmas.{IsSound as IsStepSound, one_text}
-use Rattle.vms_board.specs.Clock.{clock}
-use Rattle.vms_board.specs.ClockStands.{clock_stands}
-use Rattle.vms_board.specs.Family.{Family}
-use Rattle.vms_board.specs.Isa.{isa}
-use Rattle.vms_board.specs.IsaStands.{isa_stands}
-use Rattle.vms_board.specs.Restoring.{Back, Restores}
-use Rattle.vms_board.specs.Saving.{saved_stream}
-use Rattle.vms_board_commands.proofs.ScriptSteps.{script_gives, sound_saved, sound_script}
-use Rattle.vms_board_commands.proofs.LoadOutcome.{loads_one}
-use Rattle.vms_board_commands.specs.Load.{LoadsBy, Traces}
-use Rattle.vms_board_commands.specs.Save.{saved_after}
-use Rattle.vms_board_commands.specs.Scripts.{scripted}
-use Rattle.vms_board_streams.specs.Streams.{after_events, answers_to, trace_of}
-use Rattle.vms_session.specs.Events.{events_of}
-use Rattle.vms_script.specs.Lines.{ScriptLine}
-use Rattle.vms_cli.specs.Answers.{saved_on}
-use Rattle.vms_cli.specs.Commands.{IsaBoard, Save, Load, BoardWord, ClockBoard}
-use Rattle.vms_cli.specs.Laws.{HasOneOutcome, CanBeRead}
+use Rattle.vms_cli.proofs.Facade.{◌≡◌, ℕ, List, Option, Some, None, refl, sym, subst, none-some, Held, IsBytes, FitsHeads, WellFormed, Outcome, done, ended}
+use Rattle.vms_cli.proofs.Facade.{Step, Untold, Gives, Ends, HasText, next, one_text, clock, clock_stands, Family, isa, isa_stands, Back, Restores}
+use Rattle.vms_cli.proofs.Facade.{saved_stream, script_gives, sound_saved, sound_script, loads_one, LoadsBy, Traces, saved_after, scripted, after_events}
+use Rattle.vms_cli.proofs.Facade.{answers_to, trace_of, events_of, ScriptLine, saved_on, IsaBoard, Save, Load, BoardWord, ClockBoard, HasOneOutcome, CanBeRead}
+use Rattle.vms_commands.proofs.StepLemmas.{IsSound as IsStepSound}
 
 -- one outcome of `load`
 record OneLoads {S : Type 0} (f : Family S) (number : ℕ) (step : Step (List ScriptLine)) (input : List ℕ) (held : Held) : Type 0 where
@@ -43,7 +21,8 @@ one_saved board set script input held =
     record { outcome = one.outcome; is = one.is; only = one.only }
 
 module _ {S : Type 0} (f : Family S) (well : WellFormed (f.set f.newest)) (heads : FitsHeads (f.set f.newest)) where
-  one_loads : (number : ℕ) (s : Step (List ScriptLine)) (input : List ℕ) (held : Held) → IsBytes input → IsStepSound (Some held) s → OneLoads f number s input held
+  one_loads : (number : ℕ) (s : Step (List ScriptLine)) (input : List ℕ) (held : Held) → IsBytes input → IsStepSound (Some held) s
+      → OneLoads f number s input held
   one_loads number Untold input held ok sound = absurd (none-some {A = Held} held (sym sound))
   one_loads number (Ends status line) input held ok sound = record { outcome = ended status line 0; is = refl; only = λ other e. e }
   one_loads number (Gives lines) input held ok sound =
@@ -63,10 +42,13 @@ one_loaded (ClockBoard version) script input held ok =
 
 -- the board after a script is saved, and goes on
 module _ {S : Type 0} (f : Family S) (number : ℕ) (script : List ℕ) (map : Held) (can : CanBeRead None script map) where
-  pub saved_then : (set : ℕ) → HasText (Some map) (saved_after f number set (Some map) script) (done (saved_stream f set (after_events f (events_of can.lines) (f.power_on number))) (Some map) 0)
+  pub saved_then : (set : ℕ)
+      → HasText (Some map) (saved_after f number set (Some map) script)
+      (done (saved_stream f set (after_events f (events_of can.lines) (f.power_on number))) (Some map) 0)
   saved_then set =
       let outcome = done (saved_stream f set (after_events f (events_of can.lines) (f.power_on number))) (Some map) 0 in
-      subst (λ (s : Step (List ScriptLine)). HasText (Some map) (next s (λ lines. Gives (saved_stream f set (after_events f (events_of lines) (f.power_on number))))) outcome)
+      subst (λ (s : Step (List ScriptLine)). HasText (Some map)
+      (next s (λ lines. Gives (saved_stream f set (after_events f (events_of lines) (f.power_on number))))) outcome)
       (sym (script_gives None map script can.text can.lines can.held can.short can.reads)) refl
 
   pub loaded_then : (bytes : List ℕ) (board : S) (taken : ℕ) → Restores f number bytes (Back board taken)

@@ -1,20 +1,8 @@
 -- `check @c1 @c2` accepts.
-use Rattle.std.proofs.Common.{◌≡◌, ℕ, zero, suc, ◌+◌, ◌≤◌, ◌++◌, if◌then◌else◌, List, [], ◌∷◌, Option, Some, None, codes, ap, ◌∙◌, sym, subst, refl, arith}
-use Rattle.std.specs.Option.{option_map}
-use Rattle.std.specs.Str.{bytes_eq}
-use Rattle.std.proofs.lemmas.Fmt.{decimal_digit}
-use Rattle.vms_spec.specs.Lists.{or_else}
-use Rattle.dev_base.specs.declared.limits.TheConstants.{NEWEST}
-use Rattle.vms_rtc.specs.declared.limits.TheConstants.{NEWEST_CLOCK}
-use Rattle.dev_clock_images.proofs.ClockSets.{sets_are_compatible}
-use Rattle.vms_check.specs.declared.mismatch.Mismatch.{Mismatch}
-use Rattle.vms_commands.specs.Outcomes.{done}
-use Rattle.vms_commands.specs.SetWords.{Isa, Clock, Shipped, ShippedSet, SetWord, named_set, number_after, set_word, shipped_word}
-use Rattle.vms_commands.specs.Steps.{HasText}
-use Rattle.vms_cli.specs.Answers.{HasOutcome}
-use Rattle.vms_cli.specs.Check.{compatible_text, verdict}
-use Rattle.vms_cli.specs.ClockSets.{ClockSetsLaw}
-use Rattle.vms_cli.specs.Commands.{Asked, Check, asked_of, check_of, pair_of}
+use Rattle.vms_cli.proofs.Facade.{◌≡◌, ℕ, zero, suc, ◌+◌, ◌≤◌, ◌++◌, if◌then◌else◌, List, [], ◌∷◌, Option, Some, None, codes, ap, ◌∙◌, sym, subst, refl, arith}
+use Rattle.vms_cli.proofs.Facade.{option_map, bytes_eq, decimal_digit, or_else, NEWEST, NEWEST_CLOCK, sets_are_compatible, Mismatch, done, Isa, Clock, Shipped}
+use Rattle.vms_cli.proofs.Facade.{SetWord, named_set, number_after, set_word, shipped_word, HasText, HasOutcome, compatible_text, verdict, ClockSetsLaw, Asked}
+use Rattle.vms_cli.proofs.Facade.{Check, asked_of, check_of, pair_of}
 
 -- ---- numbers of one digit, whose words are computed
 
@@ -25,14 +13,17 @@ digit_after front first (suc count) word = if bytes_eq word (front ++ (48 + firs
 by_digits : (front : List ℕ) (first count : ℕ) (word : List ℕ) → first + count ≤ 10 → number_after front first count word ≡ digit_after front first count word
 by_digits front first zero word le = refl
 by_digits front first (suc count) word le =
-    ap (λ (digits : List ℕ). if bytes_eq word (front ++ digits) then Some first else number_after front (suc first) count word) (decimal_digit first (omega (arith, le)))
+    ap (λ (digits : List ℕ). if bytes_eq word (front ++ digits) then Some first else number_after front (suc first) count word)
+    (decimal_digit first (omega (arith, le)))
     ∙ ap (λ (o : Option ℕ). if bytes_eq word (front ++ (48 + first) ∷ []) then Some first else o) (by_digits front (suc first) count word (omega (arith, le)))
 
 shipped_is : (word : List ℕ) → shipped_word word
     ≡ or_else (option_map Isa (digit_after (codes "@") 0 (suc NEWEST) word)) (option_map Clock (digit_after (codes "@c") 1 NEWEST_CLOCK word))
 shipped_is word =
-    ap (λ (o : Option ℕ). or_else (option_map Isa o) (option_map Clock (number_after (codes "@c") 1 NEWEST_CLOCK word))) (by_digits (codes "@") 0 (suc NEWEST) word (omega arith))
-    ∙ ap (λ (o : Option ℕ). or_else (option_map Isa (digit_after (codes "@") 0 (suc NEWEST) word)) (option_map Clock o)) (by_digits (codes "@c") 1 NEWEST_CLOCK word (omega arith))
+    ap (λ (o : Option ℕ). or_else (option_map Isa o) (option_map Clock (number_after (codes "@c") 1 NEWEST_CLOCK word)))
+    (by_digits (codes "@") 0 (suc NEWEST) word (omega arith))
+    ∙ ap (λ (o : Option ℕ). or_else (option_map Isa (digit_after (codes "@") 0 (suc NEWEST) word)) (option_map Clock o))
+    (by_digits (codes "@c") 1 NEWEST_CLOCK word (omega arith))
 
 -- ---- the words of both sets
 
@@ -49,4 +40,5 @@ asks = ap (λ (o : Option SetWord). check_of o (set_word (codes "@c2"))) first �
 pub clock_sets_hold : ClockSetsLaw
 clock_sets_hold input held =
     subst (λ (a : Option Asked). HasOutcome a input held (done compatible_text held 0)) (sym asks)
-    (subst (λ (m : Option Mismatch). HasText held (verdict m) (done compatible_text held 0)) (sym (sets_are_compatible.newest 1 (omega arith) (omega arith))) refl)
+    (subst (λ (m : Option Mismatch). HasText held (verdict m) (done compatible_text held 0))
+    (sym (sets_are_compatible.newest 1 (omega arith) (omega arith))) refl)

@@ -1,31 +1,119 @@
--- What follows of a stream that `convert` writes.
-use Rattle.std.proofs.Common.{◌≡◌, ℕ, List, [], append-nil, length, Option, Some, None, refl, sym, ap, subst}
-use Rattle.vms_io.specs.Shelves.{Held}
-use Rattle.vms_spec.specs.Good.{IsFit}
-use Rattle.vms_spec.specs.Images.{Image}
-use Rattle.vms_spec.specs.Sets.{Set}
-use Rattle.vms_stream.specs.Streams.{Takes}
-use Rattle.vms_load.proofs.ExactLoads.{taken_kept}
-use Rattle.vms_selfdesc.specs.Tree.{described_text}
-use Rattle.vms_check.specs.Comparing.{Compatible, first_mismatch}
-use Rattle.vms_check.specs.declared.mismatch.Mismatch.{Mismatch}
-use Rattle.vms_convert.specs.Calls.{IsStreamFor}
-use Rattle.vms_convert.specs.Laws.{AreRecastOf, Converts as StaysSo}
-use Rattle.vms_convert.proofs.Converts.{converts_stand, ready}
-use Rattle.vms_convert.proofs.RecastLaws.{newest_kinds}
-use Rattle.vms_commands.specs.Fetching.{word_set}
-use Rattle.vms_commands.specs.Outcomes.{Outcome, done}
-use Rattle.vms_commands.specs.SetWords.{SetWord}
-use Rattle.vms_commands.specs.Steps.{Step, Untold, Gives, Ends, next}
-use Rattle.vms_commands.proofs.FileSets.{FitStep, fit_word}
-use Rattle.vms_cli.specs.AnalyzeLaws.{PrintsAlike}
-use Rattle.vms_cli.specs.Convert.{Converts, ConvertsBy, Refuses, Rewrites, WouldLose, agreed, agrees, newest}
-use Rattle.vms_cli.specs.ConvertLaws.{ConvertAgainLaw, ConvertThenAnalyzeLaw, StandsFor}
+-- The outcome of `convert`, and what follows of a stream that it writes.
+use Rattle.vms_cli.proofs.Facade.{◌≡◌, ◌⊎◌, ℕ, ◌+◌, List, Option, Some, None, inl, inr, refl, sym, ap, ◌∙◌, subst, arith, [], append-nil, length, ◌-◌, Bool}
+use Rattle.vms_cli.proofs.Facade.{true, false, ◌||◌, ◌∷◌, IfSome, ℤ, if◌then◌else◌, none-some, length-map, bytes_eq-Decides, bytes_eq, Held, IsBytes, IsFit}
+use Rattle.vms_cli.proofs.Facade.{Image, Set, Answer, Taken, Faulty, Takes, either_holds, one_stream_holds, taken_kept, Compatible, first_mismatch, Mismatch}
+use Rattle.vms_cli.proofs.Facade.{IsStreamFor, LosesFirst, word_set, refused_line, Outcome, done, ended, SetWord, Step, Untold, Gives, Ends, next, FitStep}
+use Rattle.vms_cli.proofs.Facade.{fit_word, IsSound, sound_next, sound_word_set, Convert, ConvertsBy, Rewrites, WouldLose, agreed, agrees, lost_line, newest}
+use Rattle.vms_cli.proofs.Facade.{target, Converts, CanBeConverted, HasOneOutcome, described_text, AreRecastOf, converts_stand, ready, newest_kinds}
+use Rattle.vms_cli.proofs.Facade.{PrintsAlike, ConvertAgainLaw, ConvertThenAnalyzeLaw, StandsFor, ConvertThenLoadLaw, IsLevel, NEWEST, by_device, joined}
+use Rattle.vms_cli.proofs.Facade.{moment_of, numbers_back, pair_back, pit_back, timed, State, recast_restores, recast_cells, IsConfiguration, is_one_of}
+use Rattle.vms_cli.proofs.Facade.{recast_each, numbers_in, wants_arrays, lists_in, takes_under, cells_of, isa, isa_stands, Back, Restores, Loads, LoadsBy}
+use Rattle.vms_cli.proofs.Facade.{Traces, Unfit, scripted, ScriptLine}
+use Rattle.vms_cli.specs.Convert.{Refuses}
+use Rattle.vms_cli.proofs.ConvertLemmas.{is_answered, newest_fit, agreed_gives, lost_is, refused_is, rewritten_is}
+use Rattle.vms_convert.specs.Laws.{Converts as StaysSo}
 use Rattle.vms_cli.specs.Show.{Values as Printed}
-use Rattle.vms_cli.proofs.Conversions.{newest_fit}
-use Rattle.vms_cli.proofs.ConvertOutcome.{target_gives}
-use Rattle.vms_cli.proofs.RoundTrips.{done_apart, fits_text, machine_of_set, same_text}
-use Rattle.vms_cli.proofs.SaveLaws.{written_prints}
+use Rattle.vms_cli.proofs.RoundTrips.{done_apart, fits_text, machine_of_set, same_text, written_prints}
+use Rattle.vms_check.proofs.SelfLaws.{is_among}
+use Rattle.vms_board.specs.Isa.{machine_of}
+use Rattle.vms_board_commands.specs.Load.{Faulty as NotRead}
+
+-- ---- The outcome of `convert`: there is one, and what can be converted is.
+
+record OneConverted (step : Step Set) (input : List ℕ) (held : Held) : Type 0 where
+  outcome : Outcome
+  is : ConvertsBy step (Some input) (Some held) outcome
+  only : (other : Outcome) → ConvertsBy step (Some input) (Some held) other → other ≡ outcome
+
+-- whether the input begins with a stream or is invalid
+module _ (to : Set) (fit : IsFit to) (compatible : Compatible to newest) (input : List ℕ) (held : Held) (ok : IsBytes input) where
+  of_taken : (n : ℕ) (machine : Option (List ℕ)) (images : List Image) → Takes newest newest.machines input n machine images
+      → ((bytes : List ℕ) × IsStreamFor to newest machine images bytes)
+      ⊎ ((section : Option ℕ) × (cell : Option ℕ) × LosesFirst to newest machine images section cell)
+      → OneConverted (Gives to) input held
+  of_taken n machine images takes (inl stream) = record {
+    outcome = done stream.0 (Some held) n;
+    is = Rewrites n machine images stream.0 takes stream.1;
+    only = λ other p. rewritten_is to fit compatible input (Some held) ok n machine images stream.0 other takes stream.1 p;
+  }
+  of_taken n machine images takes (inr lost) = record {
+    outcome = ended 11 (lost_line newest lost.0 lost.1) n;
+    is = WouldLose n machine images lost.0 lost.1 takes lost.2;
+    only = λ other p. lost_is to fit compatible input (Some held) ok n machine images lost.0 lost.1 other takes lost.2 p;
+  }
+
+  one_answered : Answer newest newest.machines input → OneConverted (Gives to) input held
+  one_answered (Taken n machine images takes) =
+      of_taken n machine images takes (is_answered to fit compatible machine images (taken_kept newest newest.machines input n machine images takes))
+  one_answered (Faulty place section reason size fault) = record {
+    outcome = ended 1 (refused_line newest place section reason) (place + size);
+    is = Refuses place section reason size fault;
+    only = λ other p. refused_is to fit compatible input (Some held) ok place section reason size other fault p;
+  }
+
+-- ---- the step that gives the set
+
+-- a set that is well formed, and that the newest reads
+abbrev Suits : Step Set → Type 0
+Suits Untold = Unit {0}
+Suits (Gives to) = IsFit to × Compatible to newest
+Suits (Ends status line) = Unit {0}
+
+suits_agreed : (to : Set) (m : Option Mismatch) → first_mismatch to newest ≡ m → IsFit to → Suits (agreed to m)
+suits_agreed to None e fit = (fit, e)
+suits_agreed to (Some m) e fit = tt
+
+suits_next : (s : Step Set) → FitStep s → Suits (next s agrees)
+suits_next Untold fit = tt
+suits_next (Gives to) fit = suits_agreed to (first_mismatch to newest) refl fit
+suits_next (Ends status line) fit = tt
+
+sound_agreed : (held : Option Held) (to : Set) (m : Option Mismatch) → IsSound held (agreed to m)
+sound_agreed held to None = tt
+sound_agreed held to (Some m) = omega arith
+
+sound_target : (held : Option Held) (word : SetWord) → IsSound held (target held word)
+sound_target held word = sound_next held (word_set held word) agrees (sound_word_set held word) (λ to. sound_agreed held to (first_mismatch to newest))
+
+one_by : (s : Step Set) (input : List ℕ) (held : Held) → IsBytes input → IsSound (Some held) s → Suits s → OneConverted s input held
+one_by Untold input held ok sound suits = absurd (none-some {A = Held} held (sym sound))
+one_by (Gives to) input held ok sound suits =
+    one_answered to suits.0 suits.1 input held ok (either_holds newest newest.machines newest_fit.well newest_fit.heads input ok)
+one_by (Ends status line) input held ok sound suits = record { outcome = ended status line 0; is = refl; only = λ other e. e }
+
+pub one_converted : (word : SetWord) (input : List ℕ) (held : Held) → IsBytes input → HasOneOutcome (Some (Convert word)) input held
+one_converted word input held ok =
+    let s = target (Some held) word in
+    let one = one_by s input held ok (sound_target (Some held) word) (suits_next (word_set (Some held) word) (fit_word (Some held) word)) in
+    record { outcome = one.outcome; is = one.is; only = one.only }
+
+-- ---- what can be converted is
+
+pub target_gives : (held : Option Held) (word : SetWord) (to : Set) → word_set held word ≡ Gives to → Compatible to newest → target held word ≡ Gives to
+target_gives held word to there compatible = ap (λ (s : Step Set). next s agrees) there ∙ agreed_gives to compatible
+
+module _ (word : SetWord) (held : Option Held) where
+  pub converted_then : (input : Option (List ℕ)) → CanBeConverted word input held
+      → (stream : List ℕ) × (taken : ℕ) × ConvertsBy (target held word) input held (done stream held taken)
+  converted_then None can = absurd can.3
+  converted_then (Some bytes) can =
+      let to = can.0 in
+      let c = can.3 in
+      let fit : IsFit to = subst FitStep can.1 (fit_word held word) in
+      by (is_answered to fit can.2 c.1 c.2 (taken_kept newest newest.machines bytes c.0 c.1 c.2 c.3))
+    where
+      by : ((stream : List ℕ) × IsStreamFor can.0 newest can.3.1 can.3.2 stream)
+          ⊎ ((section : Option ℕ) × (cell : Option ℕ) × LosesFirst can.0 newest can.3.1 can.3.2 section cell)
+          → (stream : List ℕ) × (taken : ℕ) × ConvertsBy (target held word) (Some bytes) held (done stream held taken)
+      by (inl stream) = (
+        stream.0,
+        can.3.0,
+        subst (λ (s : Step Set). ConvertsBy s (Some bytes) held (done stream.0 held can.3.0)) (sym (target_gives held word can.0 can.1 can.2))
+            (Rewrites can.3.0 can.3.1 can.3.2 stream.0 can.3.3 stream.1),
+      )
+      by (inr lost) = absurd (can.3.4 lost.0 lost.1 lost.2)
+
+-- ---- What follows of a stream that `convert` writes.
 
 module _ (input stream : List ℕ) (held : Option Held) (n : ℕ) where
   -- the stream is that of what the input takes
@@ -49,7 +137,8 @@ module _ (input stream : List ℕ) (held : Option Held) (n : ℕ) where
   by_outcome to fit compatible x same (WouldLose taken machine images section cell takes loses) = absurd (done_apart 11 _ stream held taken n (sym same))
   by_outcome to fit compatible x same (Refuses place section reason size fault) = absurd (done_apart 1 _ stream held _ n (sym same))
 
-  by_compared : (to : Set) → IsFit to → (m : Option Mismatch) → first_mismatch to newest ≡ m → ConvertsBy (agreed to m) (Some input) held (done stream held n) → Written to
+  by_compared : (to : Set) → IsFit to → (m : Option Mismatch) → first_mismatch to newest ≡ m → ConvertsBy (agreed to m) (Some input) held (done stream held n)
+      → Written to
   by_compared to fit None e has = by_outcome to fit e (done stream held n) refl has
   by_compared to fit (Some m) e has = absurd (done_apart 4 _ stream held 0 n has)
 
@@ -65,11 +154,13 @@ module _ (input stream : List ℕ) (held : Option Held) (n : ℕ) where
     kinds = newest_kinds to newest refl w.images (taken_kept newest newest.machines input n w.machine w.images w.takes)
 
     stays : StaysSo to newest (described_text to) w.machine w.images stream
-    stays = converts_stand to newest w.fit newest_fit.well w.compatible (described_text to) (λ backs. fits_text to w.fit backs) w.machine w.images kinds stream w.is
+    stays =
+        converts_stand to newest w.fit newest_fit.well w.compatible (described_text to) (λ backs. fits_text to w.fit backs) w.machine w.images kinds stream w.is
 
     prints : (word : SetWord) → word_set held word ≡ Gives to → PrintsAlike word stream held
     prints word there =
-        let all = ready to newest w.fit newest_fit.well w.compatible (described_text to) (λ backs. fits_text to w.fit backs) w.machine w.images kinds stream w.is in
+        let all =
+        ready to newest w.fit newest_fit.well w.compatible (described_text to) (λ backs. fits_text to w.fit backs) w.machine w.images kinds stream w.is in
         subst (λ (l : List ℕ). PrintsAlike word l held) (sym w.is.is)
         (written_prints held word to there w.machine w.is.backs (machine_of_set to w.machine w.is.keeps.machine_is) all)
 
@@ -88,7 +179,8 @@ module _ (input stream : List ℕ) (held : Option Held) (n : ℕ) where
           loads = loads;
           cells = c.cells;
           shown = Printed (length stream) w.machine c.loaded loads;
-          again = subst (λ (s : Step Set). ConvertsBy s (Some stream) held (done stream held (length stream))) (sym (target_gives held word to there w.compatible))
+          again =
+              subst (λ (s : Step Set). ConvertsBy s (Some stream) held (done stream held (length stream))) (sym (target_gives held word to there w.compatible))
               (Rewrites (length stream) w.machine c.loaded stream loads c.again);
         }
 
@@ -101,3 +193,88 @@ pub convert_again : ConvertAgainLaw
 convert_again word input stream held n has =
     let w = by_step input stream held n (word_set held word) (fit_word held word) has in
     stands_for input stream held n w.0 w.2 word w.1
+
+-- ---- Boards go on from what `convert` writes as from its input.
+
+-- ---- recast cells restore the same board
+
+module _ (to : Set) (level : ℕ) where
+  of_five : (a b c d e : List ℤ) → isa.restored level (recast_each to newest.devices (a ∷ b ∷ c ∷ d ∷ e ∷ [])) ≡ isa.restored level (a ∷ b ∷ c ∷ d ∷ e ∷ [])
+  of_five a b c d e = go (wants_arrays to) where
+    go : (w : Bool) → isa.restored level (a ∷ b ∷ c ∷ d ∷ (if w then recast_cells e else e) ∷ []) ≡ isa.restored level (a ∷ b ∷ c ∷ d ∷ e ∷ [])
+    go true =
+        let now = moment_of (cells_of (a ∷ b ∷ c ∷ d ∷ e ∷ [])) in
+        ap (λ r. joined level (timed now) (pair_back level b c) (pit_back level now d) (by_device 4 r)) (recast_restores (numbers_back level now) e)
+    go false = refl
+
+  same_board : (lists : List (List ℤ)) → length lists ≡ 5 → isa.restored level (recast_each to newest.devices lists) ≡ isa.restored level lists
+  same_board (a ∷ b ∷ c ∷ d ∷ e ∷ []) five = of_five a b c d e
+  same_board [] five = absurd (omega (arith, five))
+  same_board (a ∷ []) five = absurd (omega (arith, five))
+  same_board (a ∷ b ∷ []) five = absurd (omega (arith, five))
+  same_board (a ∷ b ∷ c ∷ []) five = absurd (omega (arith, five))
+  same_board (a ∷ b ∷ c ∷ d ∷ []) five = absurd (omega (arith, five))
+  same_board (a ∷ b ∷ c ∷ d ∷ e ∷ f ∷ lists) five = absurd (omega (arith, five))
+
+-- ---- a stream whose machine is one of some names
+
+-- the machines that a stream of this machine or none may name
+named_in : (names : List (List ℕ)) (machine : Option (List ℕ)) (bytes : List ℕ) → IsConfiguration names machine bytes
+    → IfSome machine (λ name. is_one_of names name ≡ true)
+named_in names None bytes c = tt
+named_in names (Some name) bytes c = c.0
+
+of_level : (level : ℕ) → IsLevel level → is_one_of newest.machines (machine_of level) ≡ true
+of_level level is =
+    is_among newest.machines (level - 1) (machine_of level) (isa_stands.named level NEWEST is.first is.last (omega arith))
+
+known : (level : ℕ) → IsLevel level → (machine : Option (List ℕ)) → IfSome machine (λ name. is_one_of (machine_of level ∷ []) name ≡ true)
+    → IfSome machine (λ name. is_one_of newest.machines name ≡ true)
+known level is None h = tt
+known level is (Some name) h = by (bytes_eq (machine_of level) name) refl h
+  where
+    by : (b : Bool) → bytes_eq (machine_of level) name ≡ b → b || false ≡ true → is_one_of newest.machines name ≡ true
+    by true e h = ap (is_one_of newest.machines) (sym ((bytes_eq-Decides (machine_of level) name).0 e)) ∙ of_level level is
+    by false e h = cc
+
+-- ---- what is loaded
+
+module _ (level : ℕ) (is : IsLevel level) (input stream : List ℕ) (held : Option Held) where
+  abbrev alone : List (List ℕ)
+  alone = machine_of level ∷ []
+
+  restored_too : {word : _} {n : ℕ} → StandsFor word input stream held n → (board : State) (k : ℕ) → Restores isa level input (Back board k)
+      → Restores isa level stream (Back board (length stream))
+  restored_too s board k r =
+      let images = r.0 in
+      let machine = r.1.0 in
+      let takes = r.1.1 in
+      let named = named_in alone machine takes.stream.named takes.stream.configured in
+      let lifted = takes_under newest alone newest.machines input k machine images (known level is machine named) takes in
+      let one = one_stream_holds newest newest.machines newest_fit.well newest_fit.heads input k _ machine s.machine images s.images lifted s.takes in
+      let mine = subst (λ (m : Option (List ℕ)). IfSome m (λ name. is_one_of alone name ≡ true)) one.machines named in
+      let loads = takes_under newest newest.machines alone stream (length stream) s.machine s.loaded mine s.loads in
+      let five = length-map images (λ (image : Image). image.numbers) ∙ (taken_kept newest newest.machines input k machine images lifted).one_each in
+      let lists : lists_in s.loaded ≡ recast_each s.to newest.devices (lists_in images) =
+      s.cells ∙ ap (λ (l : List Image). recast_each s.to newest.devices (numbers_in l)) (sym one.states) in
+      (s.loaded, (s.machine, loads), ap (isa.restored level) lists ∙ same_board s.to level (lists_in images) five ∙ r.2)
+
+  traced_too : {word : _} {n : ℕ} → StandsFor word input stream held n → (lines : List ScriptLine) (trace : List ℕ) (k : ℕ) (x : Outcome)
+      → x ≡ done trace held k → Loads isa level lines input held x
+      → Loads isa level lines stream held (done trace held (length stream))
+  traced_too s lines trace k _ same (Traces board taken r) =
+      subst (λ (t : List ℕ). Loads isa level lines stream held (done t held (length stream))) (same_text _ _ same)
+      (Traces board (length stream) (restored_too s board taken r))
+  traced_too s lines trace k _ same (NotRead place section reason size fault) = absurd (done_apart 1 _ trace held _ k (sym same))
+  traced_too s lines trace k _ same (Unfit place section reason misfit) = absurd (done_apart 1 _ trace held _ k (sym same))
+
+  by_script : {word : _} {n : ℕ} → StandsFor word input stream held n → (s : Step (List ScriptLine)) (trace : List ℕ) (k : ℕ)
+      → LoadsBy isa level s (Some input) held (done trace held k)
+      → LoadsBy isa level s (Some stream) held (done trace held (length stream))
+  by_script stands Untold trace k has = absurd has
+  by_script stands (Gives lines) trace k has = traced_too stands lines trace k (done trace held k) refl has
+  by_script stands (Ends status line) trace k has = absurd (done_apart status line trace held 0 k has)
+
+pub convert_then_load : ConvertThenLoadLaw
+convert_then_load word level input stream script trace held n k is converted loaded =
+    by_script level is input stream held (convert_again word input stream held n converted) (scripted None held script) trace k loaded

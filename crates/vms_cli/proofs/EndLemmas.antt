@@ -1,25 +1,122 @@
 -- From how a call ends and why to what it answers.
-use Rattle.std.proofs.Common.{◌≡◌, ℕ, List, None, IfSome, Option}
-use Rattle.vms_io.specs.Shelves.{HoldsAll}
-use Rattle.vms_io.specs.Told.{Intake, Outlet, Stock}
-use Rattle.vms_io.specs.Writing.{Serves}
-use Rattle.vms_commands.specs.declared.ending.Ending.{Ending}
-use Rattle.vms_commands.specs.Endings.{Tells}
-use Rattle.vms_commands.specs.Outcomes.{Outcome, DoesOrStops}
-use Rattle.vms_commands.proofs.EndLemmas.{around, outcome_so}
-use Rattle.vms_cli.specs.Answers.{Answers, HasOutcome}
-use Rattle.vms_cli.specs.Commands.{asked_of}
-use Rattle.vms_cli.proofs.ContinuationLemmas.{continues_so}
-use Rattle.vms_cli.proofs.EndsSo.{caused_so}
-use Rattle.vms_cli.proofs.RowLemmas.{row_so}
-use Rattle.vms_board_commands.specs.Runs.{Runs, moment}
-use Rattle.vms_cli.specs.Runs.{task_of}
-use Rattle.vms_cli.proofs.UpgradeLemmas.{upgrade_so}
-use Rattle.vms_cli.proofs.VerdictLaws.{verdict_so}
+use Rattle.vms_cli.proofs.Facade.{ℕ, List, length, Option, None, Some, sym, subst, ◌≡◌, [], append-nil, IsSomeAnd, refl, ap, ◌∙◌, IfSome, ReachesSet, Alike}
+use Rattle.vms_cli.proofs.Facade.{clock, Family, isa, Back, Restores, Loads, LoadsBy, Traces, scripted, boards_go_on, stream_with, BoardsGoOn, Outcome, Outside}
+use Rattle.vms_cli.proofs.Facade.{DoesOrStops, done, Step, Untold, Gives, Ends, Both, both, next, ScriptLine, events_of, HasOutcome, Asked, IsaBoard}
+use Rattle.vms_cli.proofs.Facade.{ClockBoard, Load, Show, Check, asked_of, Continuation, ContinuesBy, goes_on, Held, HoldsAll, Image, Set, written, WellFormed}
+use Rattle.vms_cli.proofs.Facade.{IsFit, Compatible, carried, Takes, upgrade_stands, SetText, fetched_set, named_sets, set_in, sets_in, word_set, SetWord}
+use Rattle.vms_cli.proofs.Facade.{FitStep, fit_word, AreCompatible, Verdict, CheckThenShowLaw, Shows, ShowsBy, IsWritten, Upgrade, UpgradesTo, shown_newer}
+use Rattle.vms_cli.proofs.Facade.{Intake, Outlet, Stock, Serves, Ending, Tells, around, outcome_so, Runs, moment, task_of}
+use Rattle.dev_board.specs.Sound.{IsSound}
+use Rattle.dev_clock.specs.Sound.{Alike as AlikeClocks, IsSound as IsSoundClock}
+use Rattle.vms_board_streams.proofs.ClockLaws.{boards_go_on as clocks_go_on}
+use Rattle.vms_cli.specs.Answers.{Answers}
+use Rattle.vms_cli.specs.Show.{Values as Printed}
+use Rattle.vms_cli.proofs.RowLemmas.{caused_so, row_so}
+use Rattle.vms_cli.proofs.CheckLemmas.{verdict_so}
+
+-- ---- A stream that a board wrote is loaded as that board going on.
+
+module _ {S : Type 0} (f : Family S) (Alike : S → S → Type 0) (IsSound : S → Type 0) (going : BoardsGoOn f Alike IsSound) where
+  continues_by : (number : ℕ) (step : Step (List ScriptLine)) (status : ℕ) (old new : Outside)
+      → ((o : Outcome) → LoadsBy f number step old.input.left old.shelf.held o → DoesOrStops status old new o)
+      → ContinuesBy f IsSound number step status old new
+  continues_by number Untold status old new all = tt
+  continues_by number (Ends own line) status old new all = tt
+  continues_by number (Gives lines) status old new all = λ set m text sound same may room left.
+      let stream = stream_with f set m text in
+      let there = (going.on set m text (events_of lines) sound (subst (λ (n : ℕ). ReachesSet f.newest n set) (sym same) may) room).there in
+      let restores : Restores f number stream (Back there.board (length stream)) =
+      subst (λ (n : ℕ). Restores f n stream (Back there.board (length stream))) same there.restored in
+      let loads : Loads f number lines stream old.shelf.held (goes_on f set m text lines old) =
+      subst (λ (t : List ℕ). Loads f number lines stream old.shelf.held (done t old.shelf.held (length stream))) (sym there.trace_is)
+      (Traces there.board (length stream) restores) in
+      all (goes_on f set m text lines old)
+      (subst (λ (input : Option (List ℕ)). IsSomeAnd input (λ bytes. Loads f number lines bytes old.shelf.held (goes_on f set m text lines old)))
+      (sym left) loads)
+
+pub continues_so : (asked : Option Asked) (status : ℕ) (old new : Outside)
+    → ((o : Outcome) → HasOutcome asked old.input.left old.shelf.held o → DoesOrStops status old new o) → Continuation asked status old new
+continues_so (Some (Load (IsaBoard level) script)) status old new all =
+    continues_by isa Alike IsSound boards_go_on level (scripted None old.shelf.held script) status old new all
+continues_so (Some (Load (ClockBoard version) script)) status old new all =
+    continues_by clock AlikeClocks IsSoundClock clocks_go_on version (scripted None old.shelf.held script) status old new all
+continues_so asked status old new all = tt
+
+-- ---- What an older set wrote is shown as carried.
+
+-- the newer set takes the stream whole
+takes_all : (older newer : Set) → WellFormed older → WellFormed newer → Compatible older newer → (machine text : Option (List ℕ)) (images : List Image)
+    → IsWritten older machine text images
+    → Takes newer newer.machines (written older machine images text) (length (written older machine images text)) machine (carried older newer images)
+takes_all older newer well_older well_newer compatible machine text images w =
+    let bytes = written older machine images text in
+    subst (λ (l : List ℕ). Takes newer newer.machines l (length bytes) machine (carried older newer images)) (append-nil bytes)
+    ((upgrade_stands older newer well_older well_newer compatible machine text images w.named w.short w.ready).taken [] (λ none. refl))
+
+upgrades_by : (s : Step Set) → FitStep s → (status : ℕ) (old new : Outside)
+    → ((o : Outcome) → ShowsBy s old.input.left old.shelf.held o → DoesOrStops status old new o) → UpgradesTo s status old new
+upgrades_by Untold fit status old new all = tt
+upgrades_by (Ends own line) fit status old new all = tt
+upgrades_by (Gives newer) fit status old new all = λ older machine text images well compatible w left.
+    let outcome = shown_newer older newer machine text images old in
+    let bytes = written older machine images text in
+    all outcome (subst (λ (input : Option (List ℕ)). IsSomeAnd input (λ taken. Shows newer taken old.shelf.held outcome)) (sym left)
+    (Printed (length bytes) machine (carried older newer images) (takes_all older newer well fit.well compatible machine text images w)))
+
+pub upgrade_so : (asked : Option Asked) (status : ℕ) (old new : Outside)
+    → ((o : Outcome) → HasOutcome asked old.input.left old.shelf.held o → DoesOrStops status old new o) → Upgrade asked status old new
+upgrade_so (Some (Show word)) status old new all =
+    upgrades_by (word_set old.shelf.held word) (fit_word old.shelf.held word) status old new all
+upgrade_so asked status old new all = tt
+
+-- ---- check, and then show
+
+-- what two words give
+module _ (sets : Both Set) where
+  read_both : (one other : Step Set) → both one other ≡ Gives sets → (one ≡ Gives sets.old) × (other ≡ Gives sets.new)
+  read_both Untold other e = cc
+  read_both (Ends status line) other e = cc
+  read_both (Gives x) Untold e = cc
+  read_both (Gives x) (Ends status line) e = cc
+  read_both (Gives x) (Gives y) e = (ap Gives (ap (λ (b : Both Set). b.old) (same e)), ap Gives (ap (λ (b : Both Set). b.new) (same e))) where
+    same : Gives (record { old = x; new = y }) ≡ Gives sets → record { old = x; new = y } ≡ sets
+    same e = cc
+
+  fetched_both : (one other : Step SetText) → next (both one other) sets_in ≡ Gives sets
+      → (next one set_in ≡ Gives sets.old) × (next other set_in ≡ Gives sets.new)
+  fetched_both Untold other e = cc
+  fetched_both (Ends status line) other e = cc
+  fetched_both (Gives x) Untold e = cc
+  fetched_both (Gives x) (Ends status line) e = cc
+  fetched_both (Gives x) (Gives y) e = read_both (set_in x) (set_in y) e
+
+pub named_both : (sets : Both Set) (held : Option Held) (old new : SetWord) → named_sets held old new ≡ Gives sets
+    → (word_set held old ≡ Gives sets.old) × (word_set held new ≡ Gives sets.new)
+named_both sets held old new gives = fetched_both sets (fetched_set held old) (fetched_set held new) gives
+
+are_so : (s : Step (Both Set)) (sets : Both Set) → s ≡ Gives sets → AreCompatible s → Compatible sets.old sets.new
+are_so s sets e h = subst AreCompatible e h
+
+fit_so : (s : Step Set) (set : Set) → s ≡ Gives set → FitStep s → IsFit set
+fit_so s set e h = subst FitStep e h
+
+pub check_then_show : CheckThenShowLaw
+check_then_show one other old new sets a b c d status checks shows gives checked held shown machine text images w left =
+    let words = named_both sets a.shelf.held old new gives in
+    let verdict : Verdict (Some (Check old new)) a.shelf.held 0 = subst (λ (x : Option Asked). Verdict x a.shelf.held 0) checks checked.verdict in
+    let compatible : Compatible sets.old sets.new = are_so (named_sets a.shelf.held old new) sets gives (verdict refl) in
+    let upgrade : Upgrade (Some (Show new)) status c d = subst (λ (x : Option Asked). Upgrade x status c d) shows shown.upgrade in
+    let newer : word_set c.shelf.held new ≡ Gives sets.new = ap (λ (h : Option Held). word_set h new) held ∙ words.1 in
+    let clause : UpgradesTo (Gives sets.new) status c d = subst (λ (s : Step Set). UpgradesTo s status c d) newer upgrade in
+    clause sets.old machine text images (fit_so (word_set a.shelf.held old) sets.old words.0 (fit_word a.shelf.held old)).well compatible w left
+
+-- ---- From how a call ends and why to what it answers.
 
 module _ (i i' : Intake) (o o' n n' : Outlet) (s s' : Stock) where
   -- what the call answers
-  pub answers : (words : List (List ℕ)) (e : Option Ending) (status : ℕ) → Runs (task_of (asked_of words)) (moment i o s) (moment i' o' s') e → (asked_of words ≡ None → o' ≡ o) → Tells n n' e status → Serves n n' → IfSome s.held HoldsAll → Answers words status (around i o n s) (around i' o' n' s')
+  pub answers : (words : List (List ℕ)) (e : Option Ending) (status : ℕ) → Runs (task_of (asked_of words)) (moment i o s) (moment i' o' s') e
+      → (asked_of words ≡ None → o' ≡ o) → Tells n n' e status → Serves n n' → IfSome s.held HoldsAll
+      → Answers words status (around i o n s) (around i' o' n' s')
   answers words e status run unnamed t serves octets =
       let so = run.so in
       let outcome : (x : Outcome) → HasOutcome (asked_of words) i.left s.held x → DoesOrStops status (around i o n s) (around i' o' n' s') x =

@@ -1,57 +1,24 @@
 -- Each call has one outcome, and what can be done is done.
-use Rattle.std.proofs.Common.{◌≡◌, ℕ, zero, suc, ◌+◌, ◌<◌, ◌≤◌, max, ◌⊎◌, List, ◌∷◌, length, length-append, take, Option, Some, None, IfSome, IsSomeAnd, refl, sym, ap, ◌∙◌, subst, arith, inl, inr, []}
-use Rattle.std.proofs.Math.Nat.{le-max_left, le-max_right}
-use Rattle.std.proofs.lemmas.List.{length-take}
-use Rattle.std.specs.Io.KnownBytes.{Appends}
-use Rattle.std.proofs.lemmas.Option.{none-some}
-use Rattle.vms_io.specs.Causes.{Rose, AppendsPrefix, KeepsPromise}
-use Rattle.vms_io.specs.Shelves.{Held, HoldsAll}
-use Rattle.vms_io.specs.Told.{Outlet}
-use Rattle.vms_kinds.specs.Bytes.{IsBytes}
-use Rattle.vms_spec.specs.Values.{values_text}
-use Rattle.vms_spec.specs.Images.{Image}
-use Rattle.vms_spec.specs.Good.{IsFit}
-use Rattle.vms_stream.specs.StreamLaws.{Answer, Taken, Faulty}
-use Rattle.vms_stream.specs.Streams.{Takes}
-use Rattle.vms_stream.proofs.Stated.{either_holds}
-use Rattle.vms_analyze.specs.Listing.{Text}
-use Rattle.vms_check.specs.declared.mismatch.Mismatch.{Mismatch}
-use Rattle.vms_spec.specs.Sets.{Set}
-use Rattle.vms_commands.specs.Fetching.{longest_file, named_sets, word_set}
-use Rattle.vms_commands.specs.Lines.{bad_words, read_fault, write_fault, shelf_fault, out_of_memory, refused_line}
-use Rattle.vms_commands.specs.Courses.{Stands}
-use Rattle.vms_commands.specs.Outcomes.{Part, Outcome, ComesTo, FailsToStore, TellsShelfFault, DoesOrStops, done, ended, text_of, text_begun, Outside, HasPart}
-use Rattle.vms_commands.specs.SetWords.{SetWord}
-use Rattle.vms_commands.specs.Steps.{Step, Untold, Gives, Ends, Both, HasText, next}
-use Rattle.vms_commands.proofs.FileSets.{FitStep, fit_word}
-use Rattle.vms_commands.proofs.StepLemmas.{IsSound as IsStepSound, fetched_gives, one_text, sound_word_set}
-use Rattle.vms_board.specs.Clock.{clock}
-use Rattle.vms_board.specs.Isa.{isa}
-use Rattle.vms_board_commands.proofs.ScriptSteps.{AreStepLines, script_gives, scripted_lines, sound_script}
-use Rattle.vms_board_commands.specs.Drill.{drill_line}
-use Rattle.dev_base.specs.Levels.{IsLevel}
-use Rattle.vms_board_commands.proofs.PlayOutcome.{has_end, one_outcome}
-use Rattle.vms_board_commands.specs.Play.{PlaysBy}
-use Rattle.vms_board_commands.specs.Scripts.{scripted}
-use Rattle.vms_script.proofs.GrammarOnly.{reads_exactly}
-use Rattle.vms_script.specs.Grammar.{AreLines}
-use Rattle.vms_script.specs.Lines.{ScriptLine}
-use Rattle.vms_cli.specs.Answers.{HasOutcome}
-use Rattle.vms_cli.specs.Check.{checked, compared, compatible_text, verdict}
-use Rattle.vms_cli.specs.Commands.{Asked, IsaBoard, Show, Convert, Analyze, Pack, Check, Counter, Save, Load, Drill, Play, asked_of, ClockBoard}
-use Rattle.vms_counter_laws.specs.Computed.{computed}
-use Rattle.vms_cli.specs.Counter.{CountersBy, counted, counter_text}
+use Rattle.vms_cli.proofs.Facade.{◌≡◌, ℕ, zero, suc, ◌+◌, ◌<◌, ◌≤◌, max, ◌⊎◌, List, ◌∷◌, length, length-append, take, Option, Some, None, IfSome, IsSomeAnd}
+use Rattle.vms_cli.proofs.Facade.{refl, sym, ap, ◌∙◌, subst, arith, inl, inr, [], le-max_left, le-max_right, length-take, Appends, none-some, Rose}
+use Rattle.vms_cli.proofs.Facade.{AppendsPrefix, KeepsPromise, Held, HoldsAll, Outlet, IsBytes, values_text, Image, IsFit, Answer, Taken, Faulty, Takes}
+use Rattle.vms_cli.proofs.Facade.{either_holds, Text, Mismatch, Set, longest_file, named_sets, word_set, bad_words, read_fault, write_fault, shelf_fault}
+use Rattle.vms_cli.proofs.Facade.{out_of_memory, refused_line, Stands, Part, Outcome, ComesTo, FailsToStore, TellsShelfFault, DoesOrStops, done, ended}
+use Rattle.vms_cli.proofs.Facade.{text_begun, Outside, HasPart, SetWord, Step, Untold, Gives, Ends, Both, HasText, next, FitStep, fit_word, fetched_gives}
+use Rattle.vms_cli.proofs.Facade.{one_text, sound_word_set, clock, isa, AreStepLines, script_gives, scripted_lines, sound_script, drill_line, IsLevel, has_end}
+use Rattle.vms_cli.proofs.Facade.{one_outcome, PlaysBy, scripted, reads_exactly, AreLines, ScriptLine, HasOutcome, checked, compared, compatible_text, verdict}
+use Rattle.vms_cli.proofs.Facade.{Asked, IsaBoard, Show, Convert, Analyze, Pack, Check, Counter, Save, Load, Drill, Play, asked_of, ClockBoard, computed}
+use Rattle.vms_cli.proofs.Facade.{CountersBy, counted, counter_text, CanBeAsked, HasOneOutcome, OutcomeLaw, CanBePacked, CanBeDone, HasRoom, IsAmple, NoneRises}
+use Rattle.vms_cli.proofs.Facade.{PromisesKept, CompleteLaw, AmpleLaw, described_stream, packed_by, packs, ShowsBy, Refuses}
+use Rattle.vms_commands.specs.Outcomes.{text_of}
+use Rattle.vms_commands.proofs.StepLemmas.{IsSound as IsStepSound}
 use Rattle.vms_cli.proofs.WordLaws.{words_ask}
-use Rattle.vms_cli.specs.Laws.{CanBeAsked, HasOneOutcome, OutcomeLaw, CanBePacked, CanBeDone, HasRoom, IsAmple, NoneRises, PromisesKept, CompleteLaw, AmpleLaw}
-use Rattle.vms_cli.specs.Pack.{described_stream, packed_by, packs}
-use Rattle.vms_cli.specs.Show.{ShowsBy, Values as Printed, Refuses}
+use Rattle.vms_cli.specs.Show.{Values as Printed}
 use Rattle.vms_cli.proofs.AnalyzeLemmas.{has_listing, only_listing}
-use Rattle.vms_cli.proofs.CheckLemmas.{sound_check}
-use Rattle.vms_cli.proofs.CounterLemmas.{AreFit, counters_text, fit_sets, sound_counter, text_counters}
+use Rattle.vms_cli.proofs.CheckLemmas.{sound_check, StopsAt}
+use Rattle.vms_cli.proofs.ShowLemmas.{AreFit, counters_text, fit_sets, sound_counter, text_counters, shown_is, refused_is}
 use Rattle.vms_cli.proofs.PackLemmas.{pack_gives, sound_pack}
-use Rattle.vms_cli.proofs.ConvertOutcome.{converted_then, one_converted}
-use Rattle.vms_cli.proofs.ShowLemmas.{shown_is, refused_is}
-use Rattle.vms_cli.proofs.VerdictLaws.{StopsAt}
+use Rattle.vms_cli.proofs.ConvertLaws.{converted_then, one_converted}
 use Rattle.vms_cli.proofs.BoardOutcomes.{loaded_then, one_loaded, one_saved, saved_then}
 
 -- ---- the outcome of `show`
@@ -114,7 +81,8 @@ record OnePlays (level : ℕ) (step : Step (List ScriptLine)) (held : Held) : Ty
   is : PlaysBy level step (Some held) outcome
   only : (other : Outcome) → PlaysBy level step (Some held) other → other ≡ outcome
 
-one_plays : (level : ℕ) (s : Step (List ScriptLine)) (held : Held) → AreStepLines (Some level) s → IsLevel level → HoldsAll held → IsStepSound (Some held) s → OnePlays level s held
+one_plays : (level : ℕ) (s : Step (List ScriptLine)) (held : Held) → AreStepLines (Some level) s → IsLevel level → HoldsAll held → IsStepSound (Some held) s
+    → OnePlays level s held
 one_plays level Untold held are is holds sound = absurd (none-some {A = Held} held (sym sound))
 one_plays level (Ends status line) held are is holds sound = record { outcome = ended status line 0; is = refl; only = λ other e. e }
 one_plays level (Gives lines) held are is holds sound =
@@ -162,11 +130,13 @@ record IsDone (asked : Option Asked) (input : Option (List ℕ)) (held : Option 
   is : HasOutcome asked input held outcome
   status : outcome.status ≡ 0
 
-can_be : (asked : Option Asked) (input : Option (List ℕ)) (held : Option Held) → CanBeAsked asked → IfSome held HoldsAll → CanBeDone asked input held → IsDone asked input held
+can_be : (asked : Option Asked) (input : Option (List ℕ)) (held : Option Held) → CanBeAsked asked → IfSome held HoldsAll → CanBeDone asked input held
+    → IsDone asked input held
 can_be None input held ask octets can = absurd can
 can_be (Some (Show word)) input held ask octets can = by input can.2
   where
-    by : (left : Option (List ℕ)) → IsSomeAnd left (λ bytes. (taken : ℕ) × (machine : Option (List ℕ)) × (images : List Image) × Takes can.0 can.0.machines bytes taken machine images)
+    by : (left : Option (List ℕ))
+        → IsSomeAnd left (λ bytes. (taken : ℕ) × (machine : Option (List ℕ)) × (images : List Image) × Takes can.0 can.0.machines bytes taken machine images)
         → IsDone (Some (Show word)) left held
     by None takes = absurd takes
     by (Some bytes) takes =
@@ -249,7 +219,8 @@ done_short (part ∷ parts) (suc k) =
     omega (arith, done_short parts k, length-append part.text (text_of (take k parts)), length-append part.text (text_of parts))
 
 -- a sink with room for what was written has no fault
-room_kept : (p p' : Option ℕ) (w w' : Option (List ℕ)) (faults n : ℕ) (text : List ℕ) → IsSomeAnd p (λ room. IsSomeAnd w (λ old. length old + n < room)) → length text ≤ n
+room_kept : (p p' : Option ℕ) (w w' : Option (List ℕ)) (faults n : ℕ) (text : List ℕ) → IsSomeAnd p (λ room. IsSomeAnd w (λ old. length old + n < room))
+    → length text ≤ n
     → Appends w w' text → p' ≡ p → KeepsPromise p' w' faults → faults ≡ 0
 room_kept None p' w w' faults n text room short appends same keeps = absurd room
 room_kept (Some most) p' None w' faults n text room short appends same keeps = absurd room
@@ -264,18 +235,22 @@ never_rose before now none rose = omega (arith, none, rose)
 line_short : (line : List ℕ) (k n : ℕ) → length line ≤ n → length (take k line) ≤ n
 line_short line k n short = omega (arith, short, length-take k line)
 
-note_room : (line : List ℕ) (old new : Outlet) (n : ℕ) → length line ≤ n → HasRoom old n → AppendsPrefix old.written new.written line → new.promise ≡ old.promise
+note_room : (line : List ℕ) (old new : Outlet) (n : ℕ) → length line ≤ n → HasRoom old n → AppendsPrefix old.written new.written line
+    → new.promise ≡ old.promise
     → KeepsPromise new.promise new.written new.faults → new.faults ≡ 0
 note_room line old new n short room part same keeps =
     room_kept old.promise new.promise old.written new.written new.faults n (take part.0 line) room (line_short line part.0 n short) part.2 same keeps
 
-part_room : (note : List ℕ) (old new : Outlet) (n : ℕ) → 14 ≤ n → length note ≤ n → HasRoom old n → HasPart note old.written new.written → new.promise ≡ old.promise
+part_room : (note : List ℕ) (old new : Outlet) (n : ℕ) → 14 ≤ n → length note ≤ n → HasRoom old n → HasPart note old.written new.written
+    → new.promise ≡ old.promise
     → KeepsPromise new.promise new.written new.faults → new.faults ≡ 0
 part_room note old new n enough short room (inl part) same keeps = note_room note old new n short room part same keeps
 part_room note old new n enough short room (inr (inl part)) same keeps = note_room read_fault old new n (omega (arith, enough)) room part same keeps
 part_room note old new n enough short room (inr (inr (inl part))) same keeps = note_room write_fault old new n (omega (arith, enough)) room part same keeps
-part_room note old new n enough short room (inr (inr (inr (inl part)))) same keeps = note_room shelf_fault old new n (omega (arith, enough)) room part same keeps
-part_room note old new n enough short room (inr (inr (inr (inr part)))) same keeps = note_room out_of_memory old new n (omega (arith, enough)) room part same keeps
+part_room note old new n enough short room (inr (inr (inr (inl part)))) same keeps =
+    note_room shelf_fault old new n (omega (arith, enough)) room part same keeps
+part_room note old new n enough short room (inr (inr (inr (inr part)))) same keeps =
+    note_room out_of_memory old new n (omega (arith, enough)) room part same keeps
 
 -- what is written on notes of a call that stops is short
 notes_short : (status : ℕ) (old new : Outside) (o : Outcome) (n : ℕ) → 14 ≤ n → length o.note ≤ n → HasRoom old.notes n → new.notes.promise ≡ old.notes.promise
@@ -284,7 +259,8 @@ notes_short status old new o n enough short room same keeps why = by why
   where
     line : (text : List ℕ) → length text ≤ 14 → Appends old.notes.written new.notes.written text → new.notes.faults ≡ 0
     line text few appends =
-        room_kept old.notes.promise new.notes.promise old.notes.written new.notes.written new.notes.faults n text room (omega (arith, few, enough)) appends same keeps
+        room_kept old.notes.promise new.notes.promise old.notes.written new.notes.written new.notes.faults n text room
+        (omega (arith, few, enough)) appends same keeps
 
     by : StopsAt status old new o → new.notes.faults ≡ 0
     by (inl read) = line read_fault (omega arith) read.3
@@ -296,9 +272,11 @@ notes_short status old new o n enough short room same keeps why = by why
 module _ (status : ℕ) (old new : Outside) (o : Outcome) (ample : IsAmple old o) (kept : PromisesKept new) (stay : Stands old new) where
   out_short : (text : List ℕ) → length text ≤ length (text_of o.parts) → Appends old.out.written new.out.written text → new.out.faults ≡ 0
   out_short text short appends =
-      room_kept old.out.promise new.out.promise old.out.written new.out.written new.out.faults (length (text_of o.parts)) text ample.out short appends stay.out.promise kept.out
+      room_kept old.out.promise new.out.promise old.out.written new.out.written new.out.faults
+      (length (text_of o.parts)) text ample.out short appends stay.out.promise kept.out
 
-  come_short : ComesTo old.out new.out old.shelf new.shelf o.parts ⊎ (TellsShelfFault status old new × FailsToStore old.out new.out old.shelf new.shelf o.parts) → new.out.faults ≡ 0
+  come_short : ComesTo old.out new.out old.shelf new.shelf o.parts ⊎ (TellsShelfFault status old new × FailsToStore old.out new.out old.shelf new.shelf o.parts)
+      → new.out.faults ≡ 0
   come_short (inl comes) = out_short (text_begun o.parts comes.begun comes.bytes) (begun_short o.parts comes.begun comes.bytes) comes.text
   come_short (inr fails) = out_short (text_of (take fails.1.done o.parts)) (done_short o.parts fails.1.done) fails.1.text
 
@@ -313,10 +291,12 @@ module _ (status : ℕ) (old new : Outside) (o : Outcome) (ample : IsAmple old o
   rises_never : DoesOrStops status old new o → NoneRises old new
   rises_never (inl does) =
       none-rises (out_short (text_of o.parts) (omega arith) does.text)
-      (room_kept old.notes.promise new.notes.promise old.notes.written new.notes.written new.notes.faults (max 14 (length o.note)) o.note ample.notes (le-max_right 14 (length o.note)) does.note stay.notes.promise kept.notes)
+      (room_kept old.notes.promise new.notes.promise old.notes.written new.notes.written new.notes.faults (max 14 (length o.note)) o.note ample.notes
+      (le-max_right 14 (length o.note)) does.note stay.notes.promise kept.notes)
   rises_never (inr stops) =
       none-rises (come_short stops.come)
-      (notes_short status old new o (max 14 (length o.note)) (le-max_left 14 (length o.note)) (le-max_right 14 (length o.note)) ample.notes stay.notes.promise kept.notes stops.why)
+      (notes_short status old new o (max 14 (length o.note)) (le-max_left 14 (length o.note))
+      (le-max_right 14 (length o.note)) ample.notes stay.notes.promise kept.notes stops.why)
 
 pub ample_holds : AmpleLaw
 ample_holds words status old new o is ample kept a = rises_never status old new o ample kept a.stands (a.outcome o is)

@@ -1,36 +1,14 @@
 -- From what a reading and a write say to how `pack` ends.
-use Rattle.std.proofs.Common.{◌≡◌, ℕ, ◌<◌, List, length, map, Option, Some, None, Ok, Err, refl, sym, ap, ◌∙◌, subst, arith, []}
-use Rattle.std.specs.Option.{ForSome}
-use Rattle.std.specs.Prelude.{string_bytes}
-use Rattle.std.specs.declared.string.String.{String}
-use Rattle.std.specs.declared.alloc.Global.{Global}
-use Rattle.std.proofs.lemmas.Option.{slice_get-get_or}
-use Rattle.vms_io.specs.Shelves.{Held}
-use Rattle.vms_io.specs.Told.{Outlet}
-use Rattle.vms_spec.specs.Lists.{at_option}
-use Rattle.vms_spec.specs.Sets.{Set}
-use Rattle.vms_spec.specs.Images.{Image}
-use Rattle.vms_spec.specs.Streams.{AreReady}
-use Rattle.vms_spec.specs.Good.{IsFit}
-use Rattle.vms_spec.specs.ValuesReading.{ValuesRead, Values, Bad, values_read}
-use Rattle.vms_spec.specs.declared.ValuesReason.{ValuesReason}
-use Rattle.vms_image.specs.Typed.{state_of}
-use Rattle.vms_values.specs.Printing.{machine_of}
-use Rattle.vms_values.specs.Reading.{ReadsAs}
+use Rattle.vms_cli.proofs.Facade.{◌≡◌, ℕ, ◌<◌, List, length, map, Option, Some, None, Ok, refl, sym, ap, ◌∙◌, subst, arith, [], ForSome, slice_get-get_or, Held}
+use Rattle.vms_cli.proofs.Facade.{Outlet, at_option, Set, Image, AreReady, IsFit, ValuesRead, Values, Bad, values_read, state_of, machine_of, ReadsAs}
+use Rattle.vms_cli.proofs.Facade.{accepted_holds, Ending, SetText, fetched, fetched_set, longest_file, set_in, word_set, SetWord, TextEnds, WrittenAs, Step}
+use Rattle.vms_cli.proofs.Facade.{Untold, Gives, Ends, next, IsSound, sound_fetch, sound_next, sound_set, sound_word, described_stream, named_parts, packed}
+use Rattle.vms_cli.proofs.Facade.{packed_by, packed_parts, packs, with_values}
 use Rattle.vms_values.specs.declared.fault.Values.{Values as Given}
 use Rattle.vms_values.specs.declared.fault.ValuesFault.TheVariants as faults
-use Rattle.vms_values_laws.proofs.Stated.{accepted_holds}
-use Rattle.vms_commands.specs.declared.ending.Ending.{Ending}
-use Rattle.vms_commands.specs.declared.ending.Ending.TheVariants.{BadText}
-use Rattle.vms_commands.specs.Fetching.{SetText, fetched, fetched_set, longest_file, set_in, word_set}
-use Rattle.vms_commands.specs.SetWords.{SetWord}
-use Rattle.vms_commands.specs.StepEndings.{TextEnds, WrittenAs}
-use Rattle.vms_commands.specs.Steps.{Step, Untold, Gives, Ends, next}
-use Rattle.vms_commands.proofs.StepLemmas.{IsSound, sound_fetch, sound_next, sound_set, sound_word}
-use Rattle.vms_cli.specs.Pack.{described_stream, named_parts, packed, packed_by, packed_parts, packs, with_values}
-use Rattle.vms_cli.specs.ValuesLines.{values_line}
 
-ready_of : (set : Set) → IsFit set → (text : List ℕ) (r : ValuesRead) (v : Given) → values_read set text ≡ r → ReadsAs set r (Ok v) → AreReady set (map state_of v.images.items)
+ready_of : (set : Set) → IsFit set → (text : List ℕ) (r : ValuesRead) (v : Given) → values_read set text ≡ r → ReadsAs set r (Ok v)
+    → AreReady set (map state_of v.images.items)
 ready_of set fit text (Values machine images) v e reads =
     subst (λ (l : List Image). AreReady set l) (sym reads.0) (accepted_holds set text machine images fit e).ready
 ready_of set fit text (Bad line reason) v e reads = absurd reads
@@ -54,21 +32,10 @@ read_by set (Values machine images) v o o' e reads w =
     subst (λ (l : List ℕ). WrittenAs l o o' e) stream w
 read_by set (Bad line reason) v o o' e reads w = absurd reads
 
--- a text that is refused
-bad_by : (set : Set) (r : ValuesRead) (l : ℕ) (why : ValuesReason) (line : String Global) (o o' : Outlet) → ReadsAs set r (Err (faults.Bad l why))
-    → string_bytes line ≡ values_line l why → TextEnds (packed_by set r) o o' (Some (BadText line))
-bad_by set (Values machine images) l why line o o' reads said = absurd reads
-bad_by set (Bad m reason) l why line o o' reads said =
-    (refl, ap (λ (k : ℕ). values_line k reason) (sym reads.0) ∙ ap (λ (w : ValuesReason). values_line l w) (sym reads.1) ∙ sym said)
-
 module _ (set : Set) (text : List ℕ) (o o' : Outlet) where
   pub packs_read : (v : Given) (e : Option Ending) → ReadsAs set (values_read set text) (Ok v)
       → WrittenAs (described_stream set (at_option set.machines v.machine) (map state_of v.images.items)) o o' e → TextEnds (packed set text) o o' e
   packs_read v e reads w = read_by set (values_read set text) v o o' e reads w
-
-  pub packs_bad : (l : ℕ) (why : ValuesReason) (line : String Global) → ReadsAs set (values_read set text) (Err (faults.Bad l why))
-      → string_bytes line ≡ values_line l why → TextEnds (packed set text) o o' (Some (BadText line))
-  packs_bad l why line reads said = bad_by set (values_read set text) l why line o o' reads said
 
 -- ---- what the words name
 

@@ -1,13 +1,6 @@
 -- The paths of the newest set's cells are short.
-use Rattle.std.proofs.Common.{◌≡◌, ℕ, zero, suc, ◌<◌, Bool, true, false, nat_lt, ◌&&◌, List, [], ◌∷◌, length, get_or, refl, arith}
-use Rattle.std.proofs.lemmas.Bool.{ltb-true}
-use Rattle.std.specs.Fmt.{digits}
-use Rattle.std.specs.List.{list_all}
-use Rattle.vms_spec.specs.Images.{default_image}
-use Rattle.vms_spec.specs.Layout.{first}
-use Rattle.vms_desc.specs.Described.{device_at}
-use Rattle.vms_elements.specs.Parts.{cell_name, device_elements, names_of}
-use Rattle.vms_cli.specs.Convert.{newest}
+use Rattle.vms_cli.proofs.Facade.{◌≡◌, ℕ, zero, suc, ◌<◌, Bool, true, false, nat_lt, ◌&&◌, List, [], ◌∷◌, length, get_or, refl, arith, ltb-true, digits}
+use Rattle.vms_cli.proofs.Facade.{list_all, default_image, first, device_at, cell_name, device_elements, names_of, newest}
 
 abbrev are_short : List (List ℕ) → Bool
 are_short names = list_all (λ name. nat_lt (length name) 64) names

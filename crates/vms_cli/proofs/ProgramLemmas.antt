@@ -1,9 +1,6 @@
 -- The flush of the program's texts.
-use Rattle.std.proofs.Common.{◌≡◌, ℕ, List, length, Option, None, sym, subst, take_all, le_refl, inl, inr, Some}
-use Rattle.std.specs.Io.KnownBytes.{Appends, Keeps}
-use Rattle.vms_io.specs.Causes.{AppendsPrefix}
-use Rattle.vms_commands.specs.Endings.{Tells}
-use Rattle.vms_commands.specs.Lines.{write_fault}
+use Rattle.vms_cli.proofs.Facade.{◌≡◌, ℕ, List, length, Option, None, sym, subst, take_all, le_refl, inl, inr, Some, Appends, Keeps, AppendsPrefix, Tells}
+use Rattle.vms_cli.proofs.Facade.{write_fault}
 use Rattle.vms_commands.specs.declared.ending.Ending.TheVariants as endings
 
 -- what was written is what the writer has
@@ -12,10 +9,13 @@ kept_flushed old new writer kept same = subst (Keeps old) same kept
 
 -- a line that was appended whole is a front of it
 appends_front : (old new : Option (List ℕ)) (line : List ℕ) → Appends old new line → AppendsPrefix old new line
-appends_front old new line h = (length line, le_refl (length line), subst (λ (l : List ℕ). Appends old new l) (sym (take_all (length line) line (le_refl (length line)))) h)
+appends_front old new line h =
+    (length line, le_refl (length line), subst (λ (l : List ℕ). Appends old new l) (sym (take_all (length line) line (le_refl (length line)))) h)
 
 -- what standard error has if standard output failed at the flush
 pub told_late : (old new : Option (List ℕ)) (faults faults' status : ℕ)
-    → Tells (record { written = old; faults = faults; promise = None }) (record { written = new; faults = faults'; promise = None }) (Some endings.WriteFault) status → AppendsPrefix old new write_fault
+    → Tells (record { written = old; faults = faults; promise = None }) (record { written = new; faults = faults'; promise = None })
+    (Some endings.WriteFault) status
+    → AppendsPrefix old new write_fault
 told_late old new faults faults' status (inl told) = appends_front old new write_fault told.1
 told_late old new faults faults' status (inr told) = told.2

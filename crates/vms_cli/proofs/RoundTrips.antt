@@ -1,33 +1,28 @@
--- Packing and showing, one after the other.
-use Rattle.std.proofs.Common.{◌≡◌, ℕ, ◌<◌, ◌≤◌, Bool, true, false, nat_le, if◌then◌else◌, List, [], ◌∷◌, length, Option, Some, None, IfSome, refl, sym, ap, subst, arith, ◌∙◌}
-use Rattle.vms_spec.specs.declared.TheConstants.{LONGEST_TEXT}
-use Rattle.vms_io.specs.Shelves.{Held}
-use Rattle.vms_spec.specs.Images.{Image}
-use Rattle.vms_spec.specs.Sets.{Set}
-use Rattle.vms_spec.specs.Streams.{AreReady, is_one_of}
-use Rattle.vms_spec.specs.Values.{values_text}
-use Rattle.vms_spec.specs.ValuesReading.{ValuesRead, Values, Bad, values_read}
-use Rattle.vms_spec.specs.Good.{IsFit}
-use Rattle.vms_stream.specs.Streams.{Takes}
-use Rattle.vms_elements.specs.Reading.{IsMachineOf}
-use Rattle.vms_values_laws.specs.Rounds.{ShowsAs}
-use Rattle.vms_values_laws.proofs.Stated.{accepted_holds, packed_holds, shown_holds, written_only}
-use Rattle.vms_selfdesc.specs.Tree.{described_text}
-use Rattle.vms_selfdesc.proofs.Bounds.{short_holds}
-use Rattle.vms_analyze.specs.Listing.{Listing, Text, Lists, IsTooLong, HasNone, HasNoShape, IsRead, longest_input}
+-- One command after the other: what was written is read again.
+use Rattle.vms_cli.proofs.Facade.{◌≡◌, ℕ, ◌<◌, ◌≤◌, Bool, true, false, nat_le, if◌then◌else◌, List, [], ◌∷◌, length, Option, Some, None, IfSome, refl, sym, ap}
+use Rattle.vms_cli.proofs.Facade.{subst, arith, ◌∙◌, ◌-◌, ℤ, ◌+◌, ◌++◌, append-nil, LONGEST_TEXT, Held, Image, Set, AreReady, is_one_of, configuration}
+use Rattle.vms_cli.proofs.Facade.{end_mark, optional, stream_head, trailer, written, written_sections, values_text, ValuesRead, Values, Bad, values_read, IsFit}
+use Rattle.vms_cli.proofs.Facade.{Takes, IsMachineOf, ShowsAs, accepted_holds, packed_holds, shown_holds, written_only, printed_holds, described_text}
+use Rattle.vms_cli.proofs.Facade.{short_holds, Listing, Text, Lists, IsTooLong, HasNone, HasNoShape, IsRead, longest_input, SetText, fetched_set, longest_file}
+use Rattle.vms_cli.proofs.Facade.{set_in, text_under, word_set, named_sets, too_large_line, refused_line, Part, Outcome, done, ended, Step, Untold, Gives, Ends}
+use Rattle.vms_cli.proofs.Facade.{HasText, next, Both, FitStep, fit_word, fetched_gives, IsListing, PackThenAnalyzeLaw, ShowThenAnalyzeLaw, PrintsAlike}
+use Rattle.vms_cli.proofs.Facade.{SaveThenAnalyzeLaw, PackThenShowLaw, ShowThenPackLaw, CanBeAsked, described_stream, packed_by, packed_parts, packs}
+use Rattle.vms_cli.proofs.Facade.{with_values, Shows, ShowsBy, Refuses, ReachesSet, sound_stays_on, AreEvents, Event, clock, clock_stands, Family, IsNumber}
+use Rattle.vms_cli.proofs.Facade.{images_saved, isa, isa_stands, saved_stream, AreStepLines, scripted_lines, saved_after, scripted, after_events, Isa, Clock}
+use Rattle.vms_cli.proofs.Facade.{SetWord, Shipped, ScriptLine, after_number, lines_are_events, events_of, IsaBoard, ClockBoard, Fault, further_holds, Mismatch}
+use Rattle.vms_cli.proofs.Facade.{Counters, Finds, always_holds, named_holds, machine_known, Answers, CountersBy, counter_text, AlwaysNamedLaw, Prints}
+use Rattle.vms_cli.proofs.Facade.{RefusesSo, StateLaw}
 use Rattle.vms_analyze.proofs.Shown.{shown_holds as shown_listing}
-use Rattle.vms_commands.specs.Fetching.{SetText, fetched_set, longest_file, set_in, text_under}
-use Rattle.vms_commands.specs.Lines.{too_large_line}
-use Rattle.vms_commands.specs.Outcomes.{Part, Outcome, done, ended}
-use Rattle.vms_commands.specs.Steps.{Step, Untold, Gives, Ends, HasText, next}
-use Rattle.vms_commands.proofs.FileSets.{FitStep, fit_word}
-use Rattle.vms_commands.proofs.StepLemmas.{fetched_gives}
-use Rattle.vms_cli.specs.Analyze.{IsListing}
-use Rattle.vms_cli.specs.AnalyzeLaws.{PackThenAnalyzeLaw, ShowThenAnalyzeLaw}
-use Rattle.vms_cli.specs.Laws.{PackThenShowLaw, ShowThenPackLaw}
-use Rattle.vms_cli.specs.Pack.{described_stream, packed_by, packed_parts, packs, with_values}
-use Rattle.vms_cli.specs.Show.{Shows, ShowsBy, Values as Printed, Refuses}
+use Rattle.vms_cli.specs.Show.{Values as Printed}
 use Rattle.vms_cli.proofs.PackLemmas.{pack_gives}
+use Rattle.dev_clock.proofs.SoundLaws.{sound_stays_on as clock_stays_sound}
+use Rattle.vms_board.specs.Family.{Stands}
+use Rattle.vms_check.proofs.SelfLaws.{is_among}
+use Rattle.vms_cli.proofs.WordLaws.{words_ask}
+use Rattle.vms_counter_laws.specs.Counters.{Refusal, State}
+use Rattle.vms_cli.proofs.EndLemmas.{named_both}
+
+-- ---- Packing and showing, one after the other.
 
 abbrev pub first_text : List Part → List ℕ
 first_text [] = []
@@ -87,7 +82,8 @@ module _ (map : Held) (text stream : List ℕ) where
       let shows : Shows set bytes (Some map) (done (values_text set shown.machine shown.images) (Some map) (length bytes)) =
       Printed (length bytes) shown.machine shown.images shown.whole in
       let is = accepted_holds set text machine images fit e in
-      let lists : Lists bytes (Text text) = subst (λ (t : List ℕ). Lists bytes (Text t)) (sym is.printed) (shown_listed set fit machine images is.named is.ready) in
+      let lists : Lists bytes (Text text) =
+      subst (λ (t : List ℕ). Lists bytes (Text t)) (sym is.printed) (shown_listed set fit machine images is.named is.ready) in
       let written_is : bytes ≡ stream = sym (same_text _ _ has) in (
         subst (λ (l : List ℕ). Shows set l (Some map) (done text (Some map) (length l))) written_is
             (subst (λ (t : List ℕ). Shows set bytes (Some map) (done t (Some map) (length bytes))) shown.printed shows),
@@ -101,7 +97,8 @@ module _ (map : Held) (text stream : List ℕ) where
   set_shown (Ends status line) fit has = absurd (done_apart status _ stream (Some map) 0 0 has)
 
   within_shown : (name : List ℕ) (t : SetText) (b : Bool) → FitStep (set_in t)
-      → is_packed (next (next (if b then Gives text else Ends 9 (too_large_line name)) (λ v. next (set_in t) (λ set. Gives (record { set = set; values = v })))) packed_parts)
+      → is_packed (next (next (if b then Gives text else Ends 9 (too_large_line name))
+      (λ v. next (set_in t) (λ set. Gives (record { set = set; values = v })))) packed_parts)
       → is_shown (set_in t)
   within_shown name t true fit has = set_shown (set_in t) fit has
   within_shown name t false fit has = absurd (done_apart 9 _ stream (Some map) 0 0 has)
@@ -111,7 +108,8 @@ module _ (map : Held) (text stream : List ℕ) where
   text_shown name Untold under fit has = absurd has
   text_shown name (Gives t) under fit has =
       within_shown name t (nat_le (length text) longest_file) fit
-      (subst (λ (u : Option (List ℕ)). is_packed (next (next (text_under longest_file name u) (λ v. next (set_in t) (λ set. Gives (record { set = set; values = v })))) packed_parts)) under has)
+      (subst (λ (u : Option (List ℕ)). is_packed
+      (next (next (text_under longest_file name u) (λ v. next (set_in t) (λ set. Gives (record { set = set; values = v })))) packed_parts)) under has)
   text_shown name (Ends status line) under fit has = absurd (done_apart status _ stream (Some map) 0 0 has)
 
 pub pack_then_show : PackThenShowLaw
@@ -131,7 +129,8 @@ machine_of_set set (Some name) h = h
 module _ (set : Set) (fit : IsFit set) (machine : Option (List ℕ)) (images : List Image) (named : IsMachineOf set machine) (ready : AreReady set images)
     (text : List ℕ) (held : Option Held) (n : ℕ) where
   -- the text that is shown of a stream that was written is the one that it lists
-  listed_too : (x : Outcome) → x ≡ done text held n → Shows set (described_stream set machine images) held x → IsListing held (described_stream set machine images) x
+  listed_too : (x : Outcome) → x ≡ done text held n → Shows set (described_stream set machine images) held x
+      → IsListing held (described_stream set machine images) x
   listed_too x same (Printed taken other others whole) =
       let described : Option (List ℕ) = Some (described_text set images) in
       let bytes = described_stream set machine images in
@@ -139,7 +138,8 @@ module _ (set : Set) (fit : IsFit set) (machine : Option (List ℕ)) (images : L
       let printed : values_text set machine images ≡ values_text set other others =
       ap (λ (o : Option (List ℕ)). values_text set o images) (sym all.1) ∙ ap (values_text set other) (sym all.2) in
       subst (λ (k : ℕ). IsListing held bytes (done (values_text set other others) held k)) (sym all.0)
-      (lists_all bytes (values_text set other others) held (subst (λ (t : List ℕ). Lists bytes (Text t)) printed (shown_listed set fit machine images named ready)))
+      (lists_all bytes (values_text set other others) held
+      (subst (λ (t : List ℕ). Lists bytes (Text t)) printed (shown_listed set fit machine images named ready)))
   listed_too x same (Refuses place section reason size fault) =
       absurd (done_apart 1 _ text held _ n (sym same))
 
@@ -180,3 +180,131 @@ show_then_pack word set machine images name text input map there ready named und
     let gives : packs (Some map) word name ≡ Gives stream =
     pack_gives (Some map) word name set text stream there (fetched_gives longest_file map name text under short) (ap (packed_by set) reads) in
     subst (λ (s : Step (List ℕ)). HasText (Some map) s (done stream (Some map) 0)) (sym gives) refl
+
+-- ---- What `save` writes, `show` and `analyze` print alike.
+
+module _ (held : Option Held) (word : SetWord) (set : Set) (there : word_set held word ≡ Gives set) where
+  fit : IsFit set
+  fit = subst FitStep there (fit_word held word)
+
+  -- a stream that is written of images that may be written, with its description
+  pub written_prints : (machine : Option (List ℕ)) (images : List Image) → IsMachineOf set machine → AreReady set images
+      → PrintsAlike word (described_stream set machine images) held
+  written_prints machine images named ready =
+      let bytes = described_stream set machine images in
+      let text = values_text set machine images in
+      let outcome = done text held (length bytes) in
+      let whole = (written_only set machine (Some (described_text set images)) images fit named (fits_text set fit images) ready).whole in
+      record {
+        text = text;
+        shown = subst (λ (s : Step Set). ShowsBy s (Some bytes) held outcome) (sym there) (Printed (length bytes) machine images whole);
+        listed = lists_all bytes text held (shown_listed set fit machine images named ready);
+      }
+
+-- boards of a kind, which are sound at power on and remain so, after a script
+module _ {S : Type 0} (f : Family S) {IsSound : S → Type 0} {AreTold : List (List ℤ) → Type 0} (stands : Stands f IsSound AreTold)
+    (begins : (number : ℕ) → IsNumber f number → IsSound (f.power_on number))
+    (stays : (events : List Event) (m : S) → AreEvents events → IsSound m → IsSound (after_events f events m))
+    (held : Option Held) (word : SetWord) (number set : ℕ) (there : word_set held word ≡ Gives (f.set set)) (is : IsNumber f number)
+    (may : ReachesSet f.newest number set) where
+  own_stream : (m : S) → saved_stream f set m ≡ described_stream (f.set set) (Some (f.machine (f.number m))) (images_saved f set m)
+  unfolding saved_stream
+  own_stream m = refl
+
+  sound_prints : (m : S) → IsSound m → f.number m ≡ number → PrintsAlike word (saved_stream f set m) held
+  sound_prints m sound same =
+      let reaches : ReachesSet f.newest (f.number m) set = subst (λ (n : ℕ). ReachesSet f.newest n set) (sym same) may in
+      let named : is_one_of (f.set set).machines (f.machine (f.number m)) ≡ true =
+      is_among (f.set set).machines (f.number m - 1) (f.machine (f.number m))
+      (stands.named (f.number m) set (stands.numbered m sound).first reaches.level_le_set reaches.set_le_newest) in
+      subst (λ (stream : List ℕ). PrintsAlike word stream held) (sym (own_stream m))
+      (written_prints held word (f.set set) there (Some (f.machine (f.number m))) (images_saved f set m) named (stands.ready set m sound reaches))
+
+  lines_print : (lines : List ScriptLine) → AreEvents (events_of lines)
+      → PrintsAlike word (saved_stream f set (after_events f (events_of lines) (f.power_on number))) held
+  lines_print lines are =
+      let events = events_of lines in
+      sound_prints (after_events f events (f.power_on number)) (stays events (f.power_on number) are (begins number is))
+      (after_number f stands.stays events (f.power_on number) ∙ stands.begun number)
+
+  by_step : (s : Step (List ScriptLine)) (stream : List ℕ) → AreStepLines None s
+      → HasText held (next s (λ lines. Gives (saved_stream f set (after_events f (events_of lines) (f.power_on number))))) (done stream held 0)
+      → PrintsAlike word stream held
+  by_step Untold stream are has = absurd has
+  by_step (Gives lines) stream are has =
+      subst (λ (l : List ℕ). PrintsAlike word l held) (sym (same_text _ _ has)) (lines_print lines (lines_are_events None lines are))
+  by_step (Ends status line) stream are has = absurd (done_apart status line stream held 0 0 has)
+
+  saved_prints : (script stream : List ℕ) → HasText held (saved_after f number set held script) (done stream held 0) → PrintsAlike word stream held
+  saved_prints script stream has = by_step (scripted None held script) stream (scripted_lines None held script) has
+
+pub save_then_analyze : SaveThenAnalyzeLaw
+save_then_analyze words (IsaBoard level) set script stream input held asked has =
+    let can = subst CanBeAsked asked (words_ask words) in
+    saved_prints isa isa_stands sound_stays_on.power_on sound_stays_on.events held (Shipped (Isa set)) level set refl can.0 can.1 script stream has
+save_then_analyze words (ClockBoard version) set script stream input held asked has =
+    let can = subst CanBeAsked asked (words_ask words) in
+    saved_prints clock clock_stands clock_stays_sound.power_on clock_stays_sound.events held
+    (Shipped (Clock set)) version set refl can.0 can.1 script stream has
+
+-- ---- What follows where `counter` names a state.
+
+-- ---- what words give
+
+prints_so : (old new : SetWord) (sets : Both Set) (held : Option Held) (m : Mismatch) (machine : Option (List ℕ)) (images : List Image) (r : Refusal)
+    → named_sets held old new ≡ Gives sets → Counters sets.old sets.new (State m machine images r) → Prints old new sets held m machine images r
+prints_so old new sets held m machine images r gives c = λ input.
+    subst (λ (s : Step (Both Set)). CountersBy s held (done (counter_text sets.old sets.new (State m machine images r)) held 0)) (sym gives)
+    (Answers (State m machine images r) c)
+
+refused_so : (new : SetWord) (set : Set) (held : Option Held) (r : Refusal) (size : ℕ) (bytes : List ℕ) → word_set held new ≡ Gives set
+    → Fault set set.machines bytes r.place r.section r.reason size → RefusesSo new set held r size bytes
+refused_so new set held r size bytes gives fault =
+    subst (λ (s : Step Set). ShowsBy s (Some bytes) held (ended 1 (refused_line set r.place r.section r.reason) (r.place + size))) (sym gives)
+    (Refuses r.place r.section r.reason size fault)
+
+-- the description is after everything else
+described_behind : (set : Set) (machine : Option (List ℕ)) (images : List Image)
+    → written set machine images None ++ trailer (described_text set images) ≡ described_stream set machine images
+described_behind set machine images =
+    ap (λ (l : List ℕ). l ++ trailer (described_text set images))
+    (append-nil (stream_head ++ optional configuration machine ++ written_sections set 0 set.devices images ++ end_mark))
+
+-- the machine that a state's stream names is one of the older set
+machine_stands : (old new : Set) (m : Mismatch) (machine : Option (List ℕ)) (images : List Image) (r : Refusal) → Counters old new (State m machine images r)
+    → IsMachineOf old machine
+machine_stands old new m _ images r (Finds _ _ _ size first is fault) = machine_of_set old _ (machine_known old new m)
+
+pub state_stands : StateLaw
+state_stands old new sets held m machine images r gives c =
+    let words = named_both sets held old new gives in
+    let named = named_holds sets.old sets.new m machine images r c in
+    let fit : IsFit sets.old = subst FitStep words.0 (fit_word held old) in
+    let reads = printed_holds sets.old machine images fit (machine_stands sets.old sets.new m machine images r c) named.ready in
+    let stream = described_stream sets.old machine images in
+    record {
+      prints = prints_so old new sets held m machine images r gives c;
+      size = named.size;
+      ready = named.ready;
+      refused = refused_so new sets.new held r named.size (written sets.old machine images None) words.1 named.fault;
+      packed = λ map name input is under short.
+          let text = values_text sets.old machine images in
+          let there : word_set (Some map) old ≡ Gives sets.old = ap (λ (h : Option Held). word_set h old) (sym is) ∙ words.0 in
+          let gives : packs (Some map) old name ≡ Gives stream =
+          pack_gives (Some map) old name sets.old text stream there (fetched_gives longest_file map name text under short) (ap (packed_by sets.old) reads) in
+          subst (λ (h : Option Held). HasText h (packs h old name) (done stream h 0)) (sym is)
+          (subst (λ (s : Step (List ℕ)). HasText (Some map) s (done stream (Some map) 0)) (sym gives) refl);
+      packed_refused = λ whole.
+          refused_so new sets.new held r named.size stream words.1
+          (subst (λ (l : List ℕ). Fault sets.new sets.new.machines l r.place r.section r.reason named.size) (described_behind sets.old machine images)
+          (further_holds sets.new sets.new.machines (written sets.old machine images None)
+          (trailer (described_text sets.old images)) r.place r.section r.reason named.size whole named.fault));
+    }
+
+pub always_named : AlwaysNamedLaw
+always_named old new sets held m gives first kind ready =
+    let words = named_both sets held old new gives in
+    let fit : IsFit sets.old = subst FitStep words.0 (fit_word held old) in
+    let fit' : IsFit sets.new = subst FitStep words.1 (fit_word held new) in
+    let found = always_holds sets.old sets.new fit.well fit'.well fit.heads fit'.heads m first kind ready in
+    (found.0, prints_so old new sets held m _ _ found.0 gives found.1)

@@ -1,25 +1,180 @@
--- From how a command ends and why to its row.
-use Rattle.std.proofs.Common.{◌≡◌, ◌⊎◌, ℕ, Bool, true, false, List, [], ◌∷◌, Option, None, inl, inr, refl, sym, ap, ◌∙◌, subst, arith, Some}
-use Rattle.std.specs.Io.KnownBytes.{Appends, Keeps}
-use Rattle.vms_io.specs.Causes.{Rose}
-use Rattle.vms_io.specs.Told.{Intake, Outlet, Stock}
-use Rattle.vms_board_commands.specs.Seen.{SeenAs}
-use Rattle.vms_commands.specs.declared.ending.Ending.{Ending}
-use Rattle.vms_commands.specs.declared.ending.Ending.TheVariants.{BadWords, ReadFault, WriteFault, ShelfFault, NoMemory}
-use Rattle.vms_commands.specs.Courses.{EndsSo, is_among}
-use Rattle.vms_commands.specs.Endings.{Caused, Tells, line_of, status_of}
-use Rattle.vms_commands.specs.Outcomes.{Does, DoesOrStops, Outcome, Outside}
-use Rattle.vms_commands.proofs.CourseLemmas.{wrong}
-use Rattle.vms_commands.proofs.EndLemmas.{around, kept_none, outcome_so, same_keeps}
-use Rattle.vms_cli.specs.Commands.{Asked}
-use Rattle.vms_board_commands.specs.Runs.{Runs, moment}
-use Rattle.vms_cli.specs.Runs.{task_of}
-use Rattle.vms_cli.specs.Rows.{CanAnswer, ComesSeen, DoesSeen, HasCause, OutcomeWith}
-use Rattle.vms_cli.specs.Statuses.{course_of, statuses_of, stores_at, takes_at, writes_at}
-use Rattle.vms_cli.proofs.EndsSo.{caused_so}
-use Rattle.vms_cli.proofs.VerdictLaws.{StopsAt}
-use Rattle.vms_cli.proofs.RowTables.{HasSix, at_six, six_among, stores_six, takes_six, writes_six}
-use Rattle.vms_commands.specs.Lines.{bad_words, out_of_memory, read_fault, shelf_fault, write_fault}
+-- From how a command ends, and why, to its row.
+use Rattle.vms_cli.proofs.Facade.{◌≡◌, ◌⊎◌, ℕ, true, false, List, [], ◌∷◌, Option, Some, None, inl, inr, refl, sym, ◌∙◌, subst, Err, Bool, ◌++◌, ap, arith}
+use Rattle.vms_cli.proofs.Facade.{Keeps, Appends, is_among, EndsSo, Risen, of_shelf, text_course, wrong, draws_none, so_since, writes_serve, Asked, Show}
+use Rattle.vms_cli.proofs.Facade.{Convert, Analyze, Load, Play, statuses_of, stores_at, takes_at, writes_at, check_course, counter_course, course_of, Looks}
+use Rattle.vms_cli.proofs.Facade.{looks_reaches, Intake, Outlet, Stock, Serves, save_course, Ending, BadText, NotCompatible, ReadFault, WriteFault, NoMemory}
+use Rattle.vms_cli.proofs.Facade.{BadWords, Caused, Quiet, WritesAs, status_of, Tells, line_of, AsksIf, HadCause, among_left, shelf_has, text_asks, unset_so}
+use Rattle.vms_cli.proofs.Facade.{WriteCause, WritesBy, Rose, SeenAs, Does, DoesOrStops, Outcome, Outside, around, kept_none, outcome_so, same_keeps, Runs}
+use Rattle.vms_cli.proofs.Facade.{moment, task_of, CanAnswer, ComesSeen, DoesSeen, HasCause, OutcomeWith, bad_words, out_of_memory, read_fault, shelf_fault}
+use Rattle.vms_cli.proofs.Facade.{write_fault}
+use Rattle.vms_commands.specs.declared.ending.Ending.TheVariants.{ShelfFault}
+use Rattle.vms_cli.proofs.CheckLemmas.{StopsAt}
+
+-- ---- The tables of statuses, each as one of a few lists.
+
+pub writes_one : (P : List ℕ → Type 0) → P [] → P (0 ∷ 6 ∷ []) → P (0 ∷ 6 ∷ 7 ∷ 10 ∷ []) → (asked : Option Asked) → P (writes_at asked)
+writes_one P none text play None = none
+writes_one P none text play (Some (Play level script)) = play
+writes_one P none text play (Some asked) = text
+
+pub takes_one : (P : List ℕ → Type 0) → P [] → P (0 ∷ 1 ∷ 5 ∷ 6 ∷ []) → P (0 ∷ 1 ∷ 5 ∷ 6 ∷ 11 ∷ []) → P (0 ∷ 1 ∷ 5 ∷ 6 ∷ 10 ∷ []) → (asked : Option Asked)
+    → P (takes_at asked)
+takes_one P none stream rewritten input (Some (Show set)) = stream
+takes_one P none stream rewritten input (Some (Convert set)) = rewritten
+takes_one P none stream rewritten input (Some Analyze) = input
+takes_one P none stream rewritten input (Some (Load board script)) = stream
+takes_one P none stream rewritten input asked = none
+
+pub stores_one : (P : List ℕ → Type 0) → P [] → P (0 ∷ 6 ∷ 7 ∷ 10 ∷ []) → (asked : Option Asked) → P (stores_at asked)
+stores_one P none play (Some (Play level script)) = play
+stores_one P none play asked = none
+
+-- standard error may fail with every command
+pub six_among : (asked : Option Asked) → is_among (statuses_of asked) 6 ≡ true
+six_among None = refl
+six_among (Some (Show set)) = refl
+six_among (Some asked) = refl
+
+-- 6 is in the list, or the list has none
+abbrev pub HasSix : List ℕ → Type 0
+HasSix l = (is_among l 6 ≡ true) ⊎ (l ≡ [])
+
+pub writes_six : (asked : Option Asked) → HasSix (writes_at asked)
+writes_six asked = writes_one HasSix (inr refl) (inl refl) (inl refl) asked
+
+pub takes_six : (asked : Option Asked) → HasSix (takes_at asked)
+takes_six asked = takes_one HasSix (inr refl) (inl refl) (inl refl) (inl refl) asked
+
+pub stores_six : (asked : Option Asked) → HasSix (stores_at asked)
+stores_six asked = stores_one HasSix (inr refl) (inl refl) asked
+
+-- what holds but at the statuses of such a list holds too where notes failed
+pub at_six : (l : List ℕ) → HasSix l → (k status : ℕ) → status ≡ 6 → (P : Type 0) → (is_among l k ≡ false → P) → is_among l status ≡ false → P
+at_six l (inl has) k status six P h none = absurd (wrong (sym (subst (λ (n : ℕ). is_among l n ≡ true) (sym six) has) ∙ none))
+at_six l (inr is) k status six P h none = h (subst (λ (m : List ℕ). is_among m k ≡ false) (sym is) refl)
+
+-- ---- Each ending of a command, by what it touches.
+
+-- ---- the cause of a command that writes one text
+
+pub write_quiet : (asks compares : Bool) (o o' : Outlet) (e : Option Ending) → WriteCause asks compares o o' e → Quiet o o' e
+write_quiet asks compares o o' None c = tt
+write_quiet asks compares o o' (Some (BadText line)) c = c.1
+write_quiet asks compares o o' (Some (NotCompatible line)) c = c.1
+write_quiet asks compares o o' (Some WriteFault) c = tt
+write_quiet asks compares o o' (Some NoMemory) c = c
+write_quiet asks compares o o' e c = absurd c
+
+-- a text was written
+pub written_by : (asks compares : Bool) (text : List ℕ) (o o' : Outlet) (e : Option Ending) → WritesAs text o o' e → WritesBy asks compares o o' e
+written_by asks compares text o o' None w = record { cause = tt; serves = writes_serve text o o' None w }
+written_by asks compares text o o' (Some WriteFault) w = record { cause = w.rose; serves = writes_serve text o o' (Some WriteFault) w }
+written_by asks compares text o o' e w = absurd w
+
+-- ---- a set that a word names
+
+-- where it isn't had, input and out aren't touched
+pub lacks_so : {T : Type 0} (own takes : List ℕ) → is_among own 10 ≡ true → {b : Bool} (i : Intake) (o : Outlet) {s s' : Stock} {e : Ending}
+    → AsksIf (HadCause {T = T}) b s s' (Err e) → EndsSo i i o o s s' (text_course own takes b) (Some e)
+lacks_so own takes ten {b} i o {s} {s'} {e} a = unset_so (text_course own takes b) b (text_asks own takes b ten) i o a.looks a.unasked (Some e) a.cause
+
+-- what follows the fetch depends on the shelf as it was before
+pub behind_so : (own takes : List ℕ) (b : Bool) {i i' : Intake} {o o' : Outlet} {s s' : Stock} (e : Option Ending) → (b ≡ false → s' ≡ s) → Looks s s'
+    → EndsSo i i' o o' s' s' (text_course own takes b) e
+    → EndsSo i i' o o' s s' (text_course own takes b) e
+behind_so own takes true e same looks g = so_since e refl looks g
+behind_so own takes false {i} {i'} {o} {o'} {s} {s'} e same looks g = subst (λ (x : Stock). EndsSo i i' o o' x s' (text_course own takes false) e) (same refl) g
+
+-- ---- a text
+
+-- a list of own statuses has those of each text, and that of sets that are compared
+record HasOwn (own : List ℕ) (compares : Bool) : Type 0 where
+  none : is_among own 0 ≡ true
+  six : is_among own 6 ≡ true
+  ten : is_among own 10 ≡ true
+  four : compares ≡ true → is_among own 4 ≡ true
+
+compares_none : (own : List ℕ) → is_among own 0 ≡ true → is_among own 6 ≡ true → is_among own 10 ≡ true → HasOwn own false
+compares_none own none six ten = record { none = none; six = six; ten = ten; four = λ f. absurd (wrong (sym f)) }
+
+module _ (i i' : Intake) (o o' : Outlet) (s s' : Stock) where
+  -- ---- the cause of an ending, as the outcome wants it
+
+  -- at these statuses nothing is written or stored
+  abbrev Lacks : ℕ → List ℕ → Type 0
+  Lacks k l = is_among l k ≡ false
+
+  own_ends : (asked : Option Asked) (e : Option Ending) → EndsSo i i' o o' s s' (course_of asked) e → Lacks (status_of e) (writes_at asked)
+      → Lacks (status_of e) (stores_at asked)
+      → Keeps o.written o'.written × (s'.held ≡ s.held)
+  own_ends asked e h writes stores = (h.out writes, h.held stores)
+
+  pub caused_so : (asked : Option Asked) (e : Option Ending) → EndsSo i i' o o' s s' (course_of asked) e → Caused i i' o o' s s' e
+  caused_so asked None h = tt
+  caused_so asked (Some ReadFault) h = (h.risen, h.out (writes_one (Lacks 5) refl refl refl asked))
+  caused_so asked (Some WriteFault) h = h.risen
+  caused_so asked (Some ShelfFault) h = h.risen
+  caused_so asked (Some NoMemory) h = tt
+  caused_so asked e h = own_ends asked e h (writes_one (Lacks (status_of e)) refl refl refl asked) (stores_one (Lacks (status_of e)) refl refl asked)
+
+-- of a command that reads nothing of the input
+module _ (i : Intake) (o o' : Outlet) (s s' : Stock) where
+  -- which ending it is, by the lists of a command
+  abbrev IsOf : List ℕ → Option Ending → Type 0
+  IsOf all e = (is_among all (status_of e) ≡ true) × Risen i i o o' s s' e × (is_among (0 ∷ 6 ∷ []) (status_of e) ≡ false → Keeps o.written o'.written)
+
+  module _ (own : List ℕ) (asks compares : Bool) (has : HasOwn own compares) where
+    own_has : (k : ℕ) → is_among own k ≡ true → is_among (own ++ of_shelf asks) k ≡ true
+    own_has k is = among_left own (of_shelf asks) k is
+
+    text_so : (e : Option Ending) → WriteCause asks compares o o' e → IsOf (own ++ of_shelf asks) e
+    text_so None c = (own_has 0 has.none, tt, λ f. absurd (wrong f))
+    text_so (Some (BadText line)) c = (shelf_has own asks 3 c.0 refl, tt, λ f. c.1)
+    text_so (Some (NotCompatible line)) c = (own_has 4 (has.four c.0), tt, λ f. c.1)
+    text_so (Some WriteFault) c = (own_has 6 has.six, c, λ f. absurd (wrong f))
+    text_so (Some NoMemory) c = (own_has 10 has.ten, tt, λ f. c)
+    text_so e c = absurd c
+
+    -- if the shelf was only read
+    text_by : (e : Option Ending) → WriteCause asks compares o o' e → Serves o o' → Looks s s' → (asks ≡ false → s' ≡ s)
+        → EndsSo i i o o' s s' (text_course own [] asks) e
+    text_by e c serves looks unasked =
+        let r = text_so e c in
+        record {
+          can = r.0;
+          risen = r.1;
+          out = r.2;
+          input = λ f. refl;
+          held = λ f. looks.held;
+          shelf = unasked;
+          draws = draws_none i;
+          serves = serves;
+          reaches = looks_reaches looks;
+        }
+
+  pub pack_ends : (e : Option Ending) → WritesBy true false o o' e → Looks s s' → EndsSo i i o o' s s' save_course e
+  pack_ends e w looks = text_by (0 ∷ 6 ∷ 10 ∷ []) true false (compares_none (0 ∷ 6 ∷ 10 ∷ []) refl refl refl) e w.cause w.serves looks (λ f. absurd (wrong f))
+
+  -- once all sets are there, no text is bad
+  written_so : (asks compares : Bool) (e : Option Ending) → WriteCause false compares o o' e → WriteCause asks compares o o' e
+  written_so asks compares None c = tt
+  written_so asks compares (Some (BadText line)) c = absurd (wrong (sym c.0))
+  written_so asks compares (Some (NotCompatible line)) c = c
+  written_so asks compares (Some WriteFault) c = c
+  written_so asks compares (Some NoMemory) c = c
+  written_so asks compares e c = absurd c
+
+  pub check_ends : (b : Bool) (e : Option Ending) → WritesBy false true o o' e → Looks s s' → (b ≡ false → s' ≡ s) → EndsSo i i o o' s s' (check_course b) e
+  check_ends b e w looks unasked =
+      text_by (0 ∷ 4 ∷ 6 ∷ 10 ∷ []) b true (record { none = refl; six = refl; ten = refl; four = λ f. refl }) e
+      (written_so b true e w.cause) w.serves looks unasked
+
+  pub counter_ends : (b : Bool) (e : Option Ending) → WritesBy false false o o' e → Looks s s' → (b ≡ false → s' ≡ s)
+      → EndsSo i i o o' s s' (counter_course b) e
+  counter_ends b e w looks unasked =
+      text_by (0 ∷ 6 ∷ 10 ∷ []) b false (compares_none (0 ∷ 6 ∷ 10 ∷ []) refl refl refl) e (written_so b false e w.cause) w.serves looks unasked
+
+-- ---- From how a command ends and why to its row.
 
 -- the statuses of refusals, of texts, of sets and of what would be lost
 abbrev is_own : ℕ → Bool
@@ -104,7 +259,8 @@ module _ (i i' : Intake) (o o' n n' : Outlet) (s s' : Stock) where
     memory = λ e. same_why why Memory (sym is ∙ e) h;
   }
 
-  has_cause : (asked : Option Asked) (e : Option Ending) (status : ℕ) → EndsSo i i' o o' s s' (course_of asked) e → Tells n n' e status → HasCause status old new
+  has_cause : (asked : Option Asked) (e : Option Ending) (status : ℕ) → EndsSo i i' o o' s s' (course_of asked) e → Tells n n' e status
+      → HasCause status old new
   has_cause asked None status h t = why_cause Well status t.0 t.1
   has_cause asked (Some BadWords) status h (inl t) = why_cause Words status t.0 t.1
   has_cause asked (Some ReadFault) status h (inl t) = why_cause Input status t.0 (h.risen, t.1)
@@ -117,11 +273,13 @@ module _ (i i' : Intake) (o o' n n' : Outlet) (s s' : Stock) where
   -- ---- what is touched
 
   -- what holds at the status of an ending, but at those of a list, holds at the status that was answered
-  but_at : (l : List ℕ) → HasSix l → (e : Option Ending) (status : ℕ) → Told e status → (P : Type 0) → (is_among l (status_of e) ≡ false → P) → is_among l status ≡ false → P
+  but_at : (l : List ℕ) → HasSix l → (e : Option Ending) (status : ℕ) → Told e status → (P : Type 0) → (is_among l (status_of e) ≡ false → P)
+      → is_among l status ≡ false → P
   but_at l six e status (inl t) P h none = h (subst (λ (k : ℕ). is_among l k ≡ false) t.0 none)
   but_at l six e status (inr t) P h none = at_six l six (status_of e) status t.0 P h none
 
-  can_be : (asked : Option Asked) (e : Option Ending) (status : ℕ) → Told e status → is_among (statuses_of asked) (status_of e) ≡ true → is_among (statuses_of asked) status ≡ true
+  can_be : (asked : Option Asked) (e : Option Ending) (status : ℕ) → Told e status → is_among (statuses_of asked) (status_of e) ≡ true
+      → is_among (statuses_of asked) status ≡ true
   can_be asked e status (inl t) h = subst (λ (k : ℕ). is_among (statuses_of asked) k ≡ true) (sym t.0) h
   can_be asked e status (inr t) h = subst (λ (k : ℕ). is_among (statuses_of asked) k ≡ true) (sym t.0) (six_among asked)
 
@@ -156,7 +314,8 @@ module _ (i i' : Intake) (o o' n n' : Outlet) (s s' : Stock) where
       by (inr (inr (inr (inl shelf)))) = beyond 7 status shelf.0 refl which
       by (inr (inr (inr (inr memory)))) = beyond 10 status memory.0 refl which
 
-  seen_so : (P : List ℕ → Outcome → Type 0) (e : Option Ending) (status : ℕ) → SeenAs P i i' o o' s s' e → Caused i i' o o' s s' e → Tells n n' e status → IsSeen status → DoesSeen P status old new
+  seen_so : (P : List ℕ → Outcome → Type 0) (e : Option Ending) (status : ℕ) → SeenAs P i i' o o' s s' e → Caused i i' o o' s s' e → Tells n n' e status
+      → IsSeen status → DoesSeen P status old new
   seen_so P e status seen cause t which =
       let v = seen (ended_among e status (told e status t) which) in
       record {
@@ -165,7 +324,8 @@ module _ (i i' : Intake) (o o' n n' : Outlet) (s s' : Stock) where
         does = does_so status v.outcome (outcome_so i i' o o' n n' s s' e status v.outcome v.ends cause t) which;
       }
 
-  stopped_so : (P : List ℕ → Outcome → Type 0) (e : Option Ending) (status : ℕ) → SeenAs P i i' o o' s s' e → Caused i i' o o' s s' e → Tells n n' e status → status ≡ 6
+  stopped_so : (P : List ℕ → Outcome → Type 0) (e : Option Ending) (status : ℕ) → SeenAs P i i' o o' s s' e → Caused i i' o o' s s' e → Tells n n' e status
+      → status ≡ 6
       → ComesSeen P status old new ⊎ Rose old.notes.faults new.notes.faults
   stopped_so P None status seen cause t six = absurd (omega (arith, t.0, six))
   stopped_so P e status seen cause (inr t) six = inr t.1
@@ -179,7 +339,8 @@ module _ (i i' : Intake) (o o' n n' : Outlet) (s s' : Stock) where
 
   -- ---- the row
 
-  pub row_so : (asked : Option Asked) (e : Option Ending) (status : ℕ) → Runs (task_of asked) (moment i o s) (moment i' o' s') e → (asked ≡ None → o' ≡ o) → Tells n n' e status → CanAnswer asked status old new
+  pub row_so : (asked : Option Asked) (e : Option Ending) (status : ℕ) → Runs (task_of asked) (moment i o s) (moment i' o' s') e → (asked ≡ None → o' ≡ o)
+      → Tells n n' e status → CanAnswer asked status old new
   row_so asked e status c unnamed t =
       let h = c.so in
       let said = told e status t in

@@ -1,41 +1,21 @@
--- From what a load and a write say to the outcome of `show`.
-use Rattle.std.proofs.Common.{◌≡◌, ℕ, suc, ◌+◌, ◌<◌, ◌≤◌, true, List, ◌∷◌, length, get_or, map, inl, inr, Option, Some, None, Ok, Err, IsSomeAnd, refl, sym, ap, ◌∙◌, subst, arith, []}
-use Rattle.std.proofs.lemmas.List.{length-map, get_or-map}
-use Rattle.std.specs.Option.{ForSome}
-use Rattle.arrayvec.specs.ArrayVec.{ArrayVec}
-use Rattle.vms_io.proofs.ReadingLemmas.{reads_as}
-use Rattle.vms_io.specs.Shelves.{Held}
-use Rattle.vms_io.specs.Told.{Intake, Outlet, Stock}
-use Rattle.vms_spec.specs.declared.Reason.{Reason}
-use Rattle.vms_kinds.specs.Bytes.{IsBytes}
-use Rattle.vms_spec.specs.Layout.{no_desc}
-use Rattle.vms_spec.specs.Sets.{Device, Set}
-use Rattle.vms_spec.specs.Images.{Image}
-use Rattle.vms_spec.specs.Values.{values_text}
-use Rattle.vms_spec.specs.WellFormed.{WellFormed}
-use Rattle.vms_spec.specs.Good.{IsFit}
-use Rattle.vms_stream.specs.Faults.{Fault}
-use Rattle.vms_stream.specs.Streams.{Takes}
-use Rattle.vms_stream.proofs.Stated.{one_stream_holds, never_both_holds, one_fault_holds}
-use Rattle.vms_frames.specs.declared.fault.Refusal.{Refusal}
-use Rattle.vms_load.specs.Going.{LoadReads}
-use Rattle.vms_load.specs.Staging.{IsMachine, AreShaped, no_image, name_of, accepted_of, most_given}
+-- The outcomes of `show` and of `counter`.
+use Rattle.vms_cli.proofs.Facade.{◌≡◌, ℕ, suc, ◌+◌, ◌<◌, ◌≤◌, true, List, ◌∷◌, length, get_or, map, inl, inr, Option, Some, None, Ok, Err, IsSomeAnd, refl, sym}
+use Rattle.vms_cli.proofs.Facade.{ap, ◌∙◌, subst, arith, [], ◌++◌, length-map, get_or-map, ForSome, Global, Vec, slice_get-get_or, ArrayVec, reads_as, Held}
+use Rattle.vms_cli.proofs.Facade.{Intake, Outlet, Stock, Reason, IsBytes, no_desc, Device, Set, Image, values_text, WellFormed, IsFit, Fault, Takes}
+use Rattle.vms_cli.proofs.Facade.{one_stream_holds, never_both_holds, one_fault_holds, Refusal, LoadReads, IsMachine, AreShaped, no_image, name_of, accepted_of}
+use Rattle.vms_cli.proofs.Facade.{most_given, device_at, is_well_formed, few_cells, Typed, state_of, AreImagesOf, AreOf, IsOf, machine_of, Ending, Refused}
+use Rattle.vms_cli.proofs.Facade.{WritesAs, refused_line, Outcome, done, ended, StepAs, Step, Untold, Gives, Ends, Both, HasText, both, next, Seen, load_seen}
+use Rattle.vms_cli.proofs.Facade.{seen_written, sees_as, GivesWithin, Shows, ShowsWell, Refuses, at_option, Mismatch, Counters, computed, one_answer_holds}
+use Rattle.vms_cli.proofs.Facade.{computed_holds, Finding, answer_of, fetched_set, named_sets, SetText, set_in, sets_in, mismatch_line, SetWord, FitStep}
+use Rattle.vms_cli.proofs.Facade.{fit_text, IsSound, sound_next, sound_sets, Answers, CountersBy, counted, counter_text, no_state}
+use Rattle.vms_frames.specs.declared.fault.Refusal.{Refusal as RefusedAt}
+use Rattle.vms_cli.specs.Show.{Values}
+use Rattle.vms_counter_laws.specs.Counters.{Answer}
+use Rattle.vms_cli.specs.Counter.{Tells}
 use Rattle.vms_load.specs.declared.fault.LoadFault.TheVariants as faults
-use Rattle.vms_desc.specs.Described.{device_at}
-use Rattle.vms_desc.specs.Formed.{is_well_formed}
-use Rattle.vms_desc.proofs.AskLaws.{few_cells}
-use Rattle.vms_image.specs.Typed.{Typed, state_of}
-use Rattle.vms_values.specs.Printing.{AreOf, IsOf, machine_of}
-use Rattle.vms_commands.specs.declared.ending.Ending.{Ending}
-use Rattle.vms_commands.specs.declared.ending.Ending.TheVariants.{Refused}
-use Rattle.vms_commands.specs.Endings.{WritesAs}
-use Rattle.vms_commands.specs.Lines.{refused_line}
-use Rattle.vms_commands.specs.Outcomes.{Outcome, done, ended}
-use Rattle.vms_commands.specs.StepEndings.{StepAs}
-use Rattle.vms_commands.specs.Steps.{Step, Untold, Gives, Ends}
-use Rattle.vms_board_commands.specs.Seen.{Seen}
-use Rattle.vms_board_commands.proofs.SeenLemmas.{load_seen, seen_written, sees_as}
-use Rattle.vms_cli.specs.Show.{GivesWithin, Shows, ShowsWell, Values, Refuses}
+use Rattle.vms_counter.specs.declared.finding.Finding.TheVariants as findings
+
+-- ---- From what a load and a write say to the outcome of `show`.
 
 abbrev no_device : Device
 no_device = record { instance = 0; desc = no_desc; subs = [] }
@@ -49,7 +29,8 @@ abbrev pub shows_under : Option (List ℕ) → Option Held → Set → Outcome �
 shows_under input held set x = IsSomeAnd input (λ bytes. Shows set bytes held x)
 
 -- the outcome of an input that takes a stream
-pub shown_is : (set : Set) → IsFit set → (bytes : List ℕ) (held : Option Held) (taken : ℕ) (machine : Option (List ℕ)) (images : List Image) (x : Outcome) → IsBytes bytes
+pub shown_is : (set : Set) → IsFit set → (bytes : List ℕ) (held : Option Held) (taken : ℕ) (machine : Option (List ℕ)) (images : List Image) (x : Outcome)
+    → IsBytes bytes
     → Takes set set.machines bytes taken machine images → Shows set bytes held x → x ≡ done (values_text set machine images) held taken
 shown_is set fit bytes held taken machine images x ok takes (Values taken' machine' images' takes') =
     let same = one_stream_holds set set.machines fit.well fit.heads bytes taken' taken machine' machine images' images takes' takes in
@@ -71,14 +52,17 @@ same_refusal set bytes ok place place' section section' reason reason' size size
     ∙ ap (λ (n : ℕ). ended 1 (refused_line set place section reason) (place + n)) same.sizes
 
 -- the outcome of an invalid input
-pub refused_is : (set : Set) → IsFit set → (bytes : List ℕ) (held : Option Held) (place : ℕ) (section : Option ℕ) (reason : Reason) (size : ℕ) (x : Outcome) → IsBytes bytes
+pub refused_is : (set : Set) → IsFit set → (bytes : List ℕ) (held : Option Held) (place : ℕ) (section : Option ℕ) (reason : Reason) (size : ℕ) (x : Outcome)
+    → IsBytes bytes
     → Fault set set.machines bytes place section reason size → Shows set bytes held x → x ≡ ended 1 (refused_line set place section reason) (place + size)
 refused_is set fit bytes held place section reason size x ok fault (Values taken machine images takes) =
     absurd (never_both_holds set set.machines fit.well fit.heads bytes ok taken machine images place section reason size takes fault)
-refused_is set fit bytes held place section reason size x ok fault (Refuses place' section' reason' size' fault') = same_refusal set bytes ok place place' section section' reason reason' size size' fault fault'
+refused_is set fit bytes held place section reason size x ok fault (Refuses place' section' reason' size' fault') =
+    same_refusal set bytes ok place place' section section' reason reason' size size' fault fault'
 
 -- so an input has one
-pub shows_same : (set : Set) → IsFit set → (bytes : List ℕ) (held : Option Held) (x y : Outcome) → IsBytes bytes → Shows set bytes held x → Shows set bytes held y → y ≡ x
+pub shows_same : (set : Set) → IsFit set → (bytes : List ℕ) (held : Option Held) (x y : Outcome) → IsBytes bytes → Shows set bytes held x
+    → Shows set bytes held y → y ≡ x
 shows_same set fit bytes held x y ok (Values taken machine images takes) q = shown_is set fit bytes held taken machine images y ok takes q
 shows_same set fit bytes held x y ok (Refuses place section reason size fault) q = refused_is set fit bytes held place section reason size y ok fault q
 
@@ -90,7 +74,8 @@ module _ (set : Set) where
 
   -- a stream was taken, and its text was written, or some of it
   pub text_seen : {i i' : Intake} {o o' : Outlet} {s s' : Stock} (images : List Image) (taken : ℕ) (machine : Option ℕ) (e : Option Ending) → s'.held ≡ s.held
-      → LoadReads i i' set (accepted_of set None) images taken (Ok machine) → WritesAs (values_text set (machine_of set machine) images) o o' e → Seen (OfSet s.held) i i' o o' s s' e
+      → LoadReads i i' set (accepted_of set None) images taken (Ok machine) → WritesAs (values_text set (machine_of set machine) images) o o' e
+      → Seen (OfSet s.held) i i' o o' s s' e
   text_seen {i} {i'} {o} {o'} {s} images taken machine e held reads w =
       let name = machine_of set machine in
       let text = values_text set name images in
@@ -100,13 +85,15 @@ module _ (set : Set) where
       reads) w
 
   pub refusal_seen : {i i' : Intake} {o o' : Outlet} {s s' : Stock} (images : List Image) (taken : ℕ) (r : Refusal) (line : ArrayVec ℕ)
-      → LoadReads i i' set (accepted_of set None) images taken (Err (faults.Refused r)) → line.items ≡ refused_line set r.at r.section r.reason → Seen (OfSet s.held) i i' o o' s s' (Some (Refused line))
+      → LoadReads i i' set (accepted_of set None) images taken (Err (faults.Refused r)) → line.items ≡ refused_line set r.at r.section r.reason
+      → Seen (OfSet s.held) i i' o o' s s' (Some (Refused line))
   refusal_seen {i} {i'} {o} {o'} {s} images taken r line reads said =
       load_seen {P = OfSet s.held} set (accepted_of set None) images taken r line reads
       (λ input size fault. subst (λ (l : List ℕ). OfSet s.held input (ended 1 l (r.at + size))) (sym said) (Refuses r.at r.section r.reason size fault))
 
   -- under a set that is well formed
-  pub well_seen : {i i' : Intake} {o o' : Outlet} {s s' : Stock} {e : Option Ending} → IsFit set → Seen (OfSet s.held) i i' o o' s s' e → Seen (ShowsWell s.held set) i i' o o' s s' e
+  pub well_seen : {i i' : Intake} {o o' : Outlet} {s s' : Stock} {e : Option Ending} → IsFit set → Seen (OfSet s.held) i i' o o' s s' e
+      → Seen (ShowsWell s.held set) i i' o o' s s' e
   well_seen {i} {i'} {o} {o'} {s} fit v = sees_as {P = OfSet s.held} {Q = ShowsWell s.held set} (λ bytes x shows. (fit.well, shows)) v
 
 -- ---- what is printed
@@ -129,7 +116,8 @@ module _ (set : Set) where
   pub are_of : is_well_formed set ≡ true → (images : List Typed) → AreShaped set images → AreOf set set.devices (map state_of images)
   are_of well images h = are_from set.devices (map state_of images) (length-map images state_of ∙ h.all) (λ k lt.
       let shape = h.each k lt in
-      let is : IsOf set (device_at set k) (state_of (get_or images k no_image)) = record { cells = shape.cells; subs = shape.subs; few = omega (arith, shape.cells, few_cells set well k) } in
+      let is : IsOf set (device_at set k) (state_of (get_or images k no_image)) =
+      record { cells = shape.cells; subs = shape.subs; few = omega (arith, shape.cells, few_cells set well k) } in
       subst (λ (x : Image). IsOf set (device_at set k) x) (sym (get_or-map state_of images k no_image (state_of no_image) (omega (arith, lt, h.all)))) is)
 
 -- ---- how many bytes the input gives
@@ -144,3 +132,78 @@ pub gives_within : {T : Type 0} (m : T → Set) (step : Step Set) (t : T) (i i' 
 gives_within m Untold t i i' h within well = inr (m t, well, within)
 gives_within m (Gives set) t i i' h within well = subst (λ (y : Set). i'.given ≤ i.given + most_given y) h within
 gives_within m (Ends status line) t i i' h within well = absurd h
+
+-- ---- Of `counter`: what is answered is the text that its steps give.
+
+-- ---- both sets are well formed
+
+abbrev pub AreFit : Step (Both Set) → Type 0
+AreFit Untold = Unit {0}
+AreFit (Gives sets) = IsFit sets.old × IsFit sets.new
+AreFit (Ends status line) = Unit {0}
+
+fit_second : (old : Set) (s : Step Set) → IsFit old → FitStep s → AreFit (next s (λ new. Gives (record { old = old; new = new })))
+fit_second old Untold a b = tt
+fit_second old (Gives new) a b = (a, b)
+fit_second old (Ends status line) a b = tt
+
+fit_both : (s r : Step Set) → FitStep s → FitStep r → AreFit (both s r)
+fit_both Untold r a b = tt
+fit_both (Gives old) r a b = fit_second old r a b
+fit_both (Ends status line) r a b = tt
+
+fit_after : (s : Step (Both SetText)) → AreFit (next s sets_in)
+fit_after Untold = tt
+fit_after (Gives texts) = fit_both (set_in texts.old) (set_in texts.new) (fit_text texts.old) (fit_text texts.new)
+fit_after (Ends status line) = tt
+
+pub fit_sets : (held : Option Held) (old new : SetWord) → AreFit (named_sets held old new)
+fit_sets held old new = fit_after (both (fetched_set held old) (fetched_set held new))
+
+-- ---- the text
+
+-- there is one answer, the one that is computed
+pub answered : (old new : Set) → IsFit old → IsFit new → (answer : Answer) → Counters old new answer → answer ≡ computed old new
+answered old new fit fit' answer c = one_answer_holds old new fit.well answer (computed old new) c (computed_holds old new fit.well fit'.well fit'.heads)
+
+pub counters_text : (held : Option Held) (s : Step (Both Set)) (o : Outcome) → AreFit s → CountersBy s held o → HasText held (next s counted) o
+counters_text held Untold o fit has = has
+counters_text held (Gives sets) _ fit (Answers answer c) =
+    ap (λ (a : Answer). done (counter_text sets.old sets.new a) held 0) (answered sets.old sets.new fit.0 fit.1 answer c)
+counters_text held (Ends status line) o fit has = has
+
+pub text_counters : (held : Option Held) (s : Step (Both Set)) (o : Outcome) → AreFit s → HasText held (next s counted) o → CountersBy s held o
+text_counters held Untold o fit has = has
+text_counters held (Gives sets) o fit has =
+    subst (λ (x : Outcome). Tells held sets x) (sym has)
+    (Answers (computed sets.old sets.new) (computed_holds sets.old sets.new fit.0.well fit.1.well fit.1.heads))
+text_counters held (Ends status line) o fit has = has
+
+pub sound_counter : (held : Option Held) (old new : SetWord) → IsSound held (next (named_sets held old new) counted)
+sound_counter held old new = sound_next held (named_sets held old new) counted (sound_sets held old new) (λ sets. tt)
+
+-- ---- what is written
+
+are_shaped : (set : Set) (images : List Typed) → AreImagesOf set images → AreShaped set images
+are_shaped set images are = record {
+  all = are.one_each;
+  each = λ k lt. are.each k (get_or images k no_image) (slice_get-get_or images k no_image (omega (arith, lt, are.one_each)));
+}
+
+-- one image for each device is what is printed
+pub printed_of : (set : Set) → is_well_formed set ≡ true → (images : List Typed) → AreImagesOf set images → AreOf set set.devices (map state_of images)
+printed_of set well images are = are_of set well images (are_shaped set images are)
+
+-- the text of what is found
+module _ (old new : Set) (f : Finding) (m : Mismatch) where
+  pub no_state_is : (text : List ℕ) → f ≡ findings.NoState m → text ≡ mismatch_line m ++ no_state → text ≡ counter_text old new (answer_of old f)
+  no_state_is text is e = e ∙ ap (λ (x : Finding). counter_text old new (answer_of old x)) (sym is)
+
+  pub state_is : (machine : Option ℕ) (images : Vec Typed Global) (r : RefusedAt) (head : List ℕ) (items : List Typed) → f ≡ findings.State m machine images r
+      → head ≡ mismatch_line m ++ refused_line new r.at r.section r.reason → items ≡ images.items
+      → head ++ values_text old (at_option old.machines machine) (map state_of items) ≡ counter_text old new (answer_of old f)
+  state_is machine images r head items is e e' =
+      ap (λ (h : List ℕ). h ++ values_text old (at_option old.machines machine) (map state_of items)) e
+      ∙ ap (λ (l : List Typed). (mismatch_line m ++ refused_line new r.at r.section r.reason) ++ values_text old (at_option old.machines machine)
+      (map state_of l)) e'
+      ∙ ap (λ (x : Finding). counter_text old new (answer_of old x)) (sym is)

@@ -1,16 +1,11 @@
--- Two steps, one after the other: what is said of the first that ends the command, or of what both give.
-use Rattle.std.proofs.Common.{◌≡◌, ℕ, ◌<◌, ◌^◌, Bool, List, Ok, Err, Option, Some}
-use Rattle.vms_io.specs.Shelving.{Looks}
-use Rattle.vms_io.specs.Told.{Intake, Outlet, Stock}
-use Rattle.vms_commands.specs.declared.ending.Ending.{Ending}
-use Rattle.vms_commands.specs.Endings.{EndsAs}
-use Rattle.vms_commands.specs.Outcomes.{Outcome}
-use Rattle.vms_commands.specs.StepEndings.{StepAs, TextEnds}
-use Rattle.vms_commands.specs.Steps.{Both, Gives, HasText, Step, both, next}
-use Rattle.vms_commands.proofs.EndLemmas.{quiet_same}
-use Rattle.vms_commands.proofs.StepLemmas.{err_text, first_err, text_ends, then_as, then_text}
-use Rattle.vms_cli.specs.Causes.{WritesBy}
-use Rattle.vms_cli.proofs.EndsSo.{write_quiet}
+-- Two steps, one after the other, and the two steps of `convert`.
+use Rattle.vms_cli.proofs.Facade.{◌≡◌, ℕ, ◌<◌, ◌^◌, Bool, List, Ok, Err, Option, Some, ◌+◌, ◌≤◌, refl, ap, subst, arith, Looks, Intake, Outlet, Stock, Ending}
+use Rattle.vms_cli.proofs.Facade.{EndsAs, Outcome, StepAs, TextEnds, Both, Gives, HasText, Step, both, next, Untold, Ends, HasBy, quiet_same, err_text}
+use Rattle.vms_cli.proofs.Facade.{first_err, text_ends, then_as, then_text, WritesBy, Held, most_given, Set, IsGiven, SeenAs, WithGiven, sees_as, ConvertGives}
+use Rattle.vms_cli.proofs.Facade.{ConvertsBy, agrees, newest}
+use Rattle.vms_cli.proofs.RowLemmas.{write_quiet}
+
+-- ---- Two steps, one after the other: what is said of the first that ends the command, or of what both give.
 
 module _ {A T U : Type 0} (m : T → A) (n : U → Both A) where
   -- the first ended it
@@ -18,7 +13,8 @@ module _ {A T U : Type 0} (m : T → A) (n : U → Both A) where
   first_of s r e h = first_err m n (λ a. next r (λ b. Gives (record { old = a; new = b }))) s e h
 
   -- the second did
-  pub second_of : (s r : Step A) (t : T) (e : Ending) → StepAs m s (Ok t) → StepAs {A = A} {T = T} m r (Err e) → StepAs {A = Both A} {T = U} n (both s r) (Err e)
+  pub second_of : (s r : Step A) (t : T) (e : Ending) → StepAs m s (Ok t) → StepAs {A = A} {T = T} m r (Err e)
+      → StepAs {A = Both A} {T = U} n (both s r) (Err e)
   second_of s r t e h k =
       then_as m n (λ a. next r (λ b. Gives (record { old = a; new = b }))) s t (Err e) h
       (first_err m n (λ b. Gives (record { old = m t; new = b })) r e k)
@@ -31,11 +27,58 @@ module _ {A T U : Type 0} (m : T → A) (n : U → Both A) where
 
 -- ---- a command that writes the text of a step, by a step before
 
-module _ {A T : Type 0} (m : T → A) (f : A → Step (List ℕ)) (step : Step A) (i : Intake) (o : Outlet) (s s' : Stock) (few : i.given < 2 ^ 64) (looks : Looks s s') (x : Outcome) (has : HasText s.held (next step f) x) where
+module _ {A T : Type 0} (m : T → A) (f : A → Step (List ℕ)) (step : Step A) (i : Intake) (o : Outlet) (s s' : Stock) (few : i.given < 2 ^ 64)
+    (looks : Looks s s') (x : Outcome) (has : HasText s.held (next step f) x) where
   -- where it gave something
-  pub had_text : (o' : Outlet) (t : T) (e : Option Ending) (asks compares : Bool) → StepAs m step (Ok t) → WritesBy asks compares o o' e → TextEnds (f (m t)) o o' e → EndsAs i i o o' s s' e x
-  had_text o' t e asks compares h w k = text_ends (next step f) i o o' s s' e x few looks.held (write_quiet asks compares o o' e w.cause) (then_text m f o o' e step t h k) has
+  pub had_text : (o' : Outlet) (t : T) (e : Option Ending) (asks compares : Bool) → StepAs m step (Ok t) → WritesBy asks compares o o' e
+      → TextEnds (f (m t)) o o' e → EndsAs i i o o' s s' e x
+  had_text o' t e asks compares h w k =
+      text_ends (next step f) i o o' s s' e x few looks.held (write_quiet asks compares o o' e w.cause) (then_text m f o o' e step t h k) has
 
   -- where it ended the command
   pub lacks_text : (e : Ending) → StepAs {A = A} {T = T} m step (Err e) → EndsAs i i o o s s' (Some e) x
   lacks_text e h = text_ends (next step f) i o o s s' (Some e) x few looks.held (quiet_same o (Some e)) (err_text m f o o e step h) has
+
+-- ---- `convert`, by the step that gives its set and the one that compares it.
+
+-- the outcome once the set is there
+abbrev pub converts_after : Option (List ℕ) → Option Held → Set → Outcome → Type 0
+converts_after input held to x = ConvertsBy (agrees to) input held x
+
+-- the outcome after both steps is that after the second one, by the first
+pub converts_next : (input : Option (List ℕ)) (held : Option Held) (s : Step Set) (x : Outcome) → ConvertsBy (next s agrees) input held x
+    → HasBy (converts_after input held) s x
+converts_next input held Untold x h = h
+converts_next input held (Gives to) x h = h
+converts_next input held (Ends status line) x h = h
+
+module _ {A B T : Type 0} (m : T → A) (f : A → Step B) where
+  -- what the second step gave, both gave
+  given_next : (s : Step A) (t : T) (b : B) → StepAs m s (Ok t) → IsGiven (f (m t)) b → IsGiven (next s f) b
+  given_next Untold t b h g = tt
+  given_next (Gives a) t b h g = subst (λ (x : A). IsGiven (f x) b) h g
+  given_next (Ends status line) t b h g = absurd h
+
+  pub seen_next : (P : B → List ℕ → Outcome → Type 0) {i i' : Intake} {o o' : Outlet} {shelf shelf' : Stock} (e : Option Ending) (s : Step A) (t : T)
+      → StepAs m s (Ok t)
+      → SeenAs (WithGiven (f (m t)) P) i i' o o' shelf shelf' e → SeenAs (WithGiven (next s f) P) i i' o o' shelf shelf' e
+  seen_next P e s t h seen = λ among.
+      sees_as {P = WithGiven (f (m t)) P} {Q = WithGiven (next s f) P} (λ bytes x p. (p.0, given_next s t p.0 h p.1, p.2)) (seen among)
+
+-- ---- how many bytes the input gives
+
+pub gives_none : (step : Step Set) (i : Intake) → ConvertGives step i i
+gives_none Untold i = omega arith
+gives_none (Gives to) i = omega arith
+gives_none (Ends status line) i = refl
+
+gives_few : (step : Step Set) (i i' : Intake) → ConvertGives step i i' → i'.given ≤ i.given + most_given newest
+gives_few Untold i i' h = h
+gives_few (Gives to) i i' h = h
+gives_few (Ends status line) i i' h = omega (arith, ap (λ (x : Intake). x.given) h)
+
+pub gives_next : {A T : Type 0} (m : T → A) (f : A → Step Set) (s : Step A) (t : T) (i i' : Intake) → StepAs m s (Ok t) → ConvertGives (f (m t)) i i'
+    → ConvertGives (next s f) i i'
+gives_next m f Untold t i i' h g = gives_few (f (m t)) i i' g
+gives_next {A} m f (Gives a) t i i' h g = subst (λ (x : A). ConvertGives (f x) i i') h g
+gives_next m f (Ends status line) t i i' h g = absurd h

@@ -1,18 +1,10 @@
 -- Words name boards that there are.
-use Rattle.std.proofs.Common.{◌≡◌, ℕ, zero, suc, ◌+◌, ◌<◌, ◌≤◌, ◌++◌, Bool, true, false, if◌then◌else◌, List, [], ◌∷◌, Option, Some, None, codes, arith, refl, sym, ap, ◌∙◌}
-use Rattle.std.specs.Fmt.{decimal}
-use Rattle.std.specs.Option.{option_map}
-use Rattle.std.proofs.lemmas.Bool.Decides.{nat_tests}
-use Rattle.std.specs.Str.{bytes_eq}
-use Rattle.dev_base.specs.Levels.{IsLevel, ReachesSet}
-use Rattle.dev_base.specs.declared.limits.TheConstants.{NEWEST}
-use Rattle.vms_rtc.specs.declared.limits.TheConstants.{NEWEST_CLOCK}
-use Rattle.vms_spec.specs.Lists.{or_else}
-use Rattle.vms_commands.specs.SetWords.{Isa, Clock, ShippedSet, SetWord, Shipped, OnShelf, number_after, set_word, shipped_word}
-use Rattle.vms_script.specs.Lines.{is_set_of}
-use Rattle.vms_script.specs.Names.{is_shelf_name}
-use Rattle.vms_cli.specs.Commands.{Asked, BoardWord, IsaBoard, ClockBoard, Analyze, Pack, board_word, check_of, convert_of, counter_of, drill_of, few_events, isa_level, load_of, number_word, on_board, pack_of, pair_of, play_of, save_of, save_under, show_of, single_of, triple_of}
-use Rattle.vms_cli.specs.Laws.{AskedLaw, CanBeAsked, IsBoard, MaySaveOn}
+use Rattle.vms_cli.proofs.Facade.{◌≡◌, ℕ, zero, suc, ◌+◌, ◌<◌, ◌≤◌, ◌++◌, Bool, true, false, if◌then◌else◌, List, [], ◌∷◌, Option, Some, None, codes, arith}
+use Rattle.vms_cli.proofs.Facade.{refl, sym, ap, ◌∙◌, decimal, option_map, nat_tests, bytes_eq, IsLevel, ReachesSet, NEWEST, NEWEST_CLOCK, or_else, Isa, Clock}
+use Rattle.vms_cli.proofs.Facade.{ShippedSet, SetWord, Shipped, OnShelf, number_after, set_word, shipped_word, is_set_of, is_shelf_name, Asked, BoardWord}
+use Rattle.vms_cli.proofs.Facade.{IsaBoard, ClockBoard, Analyze, Pack, board_word, check_of, convert_of, counter_of, drill_of, few_events, isa_level, load_of}
+use Rattle.vms_cli.proofs.Facade.{number_word, on_board, pack_of, pair_of, play_of, save_of, save_under, show_of, single_of, triple_of, AskedLaw, CanBeAsked}
+use Rattle.vms_cli.proofs.Facade.{IsBoard, MaySaveOn}
 
 -- ---- boards
 
@@ -28,7 +20,8 @@ after-range front word first (suc count) n e = by (bytes_eq word (front ++ decim
   found : Bool → Option ℕ
   found b = if b then Some first else number_after front (suc first) count word
 
-  by : (b : Bool) → bytes_eq word (front ++ decimal first) ≡ b → (number_after front (suc first) count word ≡ Some n → (suc first ≤ n) × (n < suc first + count))
+  by : (b : Bool) → bytes_eq word (front ++ decimal first) ≡ b
+      → (number_after front (suc first) count word ≡ Some n → (suc first ≤ n) × (n < suc first + count))
       → (first ≤ n) × (n < first + suc count)
   by true t next = let is : Some first ≡ Some n = sym (ap found t) ∙ e in let same : first ≡ n = cc in (omega (arith, same), omega (arith, same))
   by false t next = let r = next (sym (ap found t) ∙ e) in (omega (arith, r.0), omega (arith, r.1))
@@ -95,7 +88,8 @@ pack-asked None values = tt
 pack-asked (Some set) values = either-asked (is_shelf_name values) (Some (Pack set values)) None tt tt
 
 -- of a word with its script, where the script's name is one of the shelf
-scripted-asked : {A : Type 0} (ask : Option (A × List ℕ) → Option Asked) (b : Bool) (x : A) (script : List ℕ) → CanBeAsked (ask (Some (x, script))) → CanBeAsked (ask None)
+scripted-asked : {A : Type 0} (ask : Option (A × List ℕ) → Option Asked) (b : Bool) (x : A) (script : List ℕ) → CanBeAsked (ask (Some (x, script)))
+    → CanBeAsked (ask None)
     → CanBeAsked (ask (if b then Some (x, script) else None))
 scripted-asked ask true x script p q = p
 scripted-asked ask false x script p q = q
@@ -156,7 +150,8 @@ pair-asked name one other =
     (either-asked (bytes_eq name (codes "counter")) (counter_of (set_word one) (set_word other)) _ (counter-asked (set_word one) (set_word other))
     (either-asked (bytes_eq name (codes "pack")) (pack_of (set_word one) other) _ (pack-asked (set_word one) other)
     (either-asked (bytes_eq name (codes "load")) (load_of (on_board (board_word one) other)) _ (load-asked (board_word one) other (word-board one))
-    (either-asked (bytes_eq name (codes "play")) (play_of (on_board (isa_level (board_word one)) other)) None (play-asked (isa_level (board_word one)) other (word-level one)) tt))))
+    (either-asked (bytes_eq name (codes "play")) (play_of (on_board (isa_level (board_word one)) other)) None
+    (play-asked (isa_level (board_word one)) other (word-level one)) tt))))
 
 triple-asked : (name one two three : List ℕ) → CanBeAsked (triple_of name one two three)
 unfolding triple_of

@@ -1,7 +1,6 @@
-use Rattle.vms_io.specs.Told.{intake, outlet}
+use Rattle.vms_cli.proofs.Facade.{intake, outlet, ending_of}
 use Rattle.vms_cli.proofs.AnalyzeLemmas.{list_content, list_given, list_seen, list_so, listed_like}
 use Rattle.vms_cli.proofs.analyze.analyze_input.Goals as goal
-use Rattle.vms_commands.specs.Endings.{ending_of}
 
 pub returns : goal.returns
 returns g c = λ shelf.

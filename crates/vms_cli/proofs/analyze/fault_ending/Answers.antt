@@ -1,13 +1,13 @@
-use Rattle.std.proofs.Common.{Err, sym, subst, Some}
-use Rattle.vms_analyze.specs.declared.fault.AnalyzeFault.{AnalyzeFault}
+use Rattle.vms_cli.proofs.Facade.{Err, sym, subst, Some, AnalyzeFault, EndsLike, IsRefused, FailsReading, FailsWriting}
 use Rattle.vms_commands.specs.declared.ending.Ending.TheVariants as endings
-use Rattle.vms_cli.specs.Analyze.{EndsLike, IsRefused, FailsReading, FailsWriting, LacksMemory}
+use Rattle.vms_cli.specs.Analyze.{LacksMemory}
 use Rattle.vms_cli.proofs.analyze.fault_ending.Goals as goal
 
 pub returns-in-Refused : goal.returns-in-Refused
 returns-in-Refused c =
     let line = c.unlisted_line.result in
-    subst (λ (f : AnalyzeFault). EndsLike (Err f) (Some (endings.Refused line))) (sym c.in-Refused.is) (IsRefused c.in-Refused.at c.in-Refused.reason line c.unlisted_line.ensures)
+    subst (λ (f : AnalyzeFault). EndsLike (Err f) (Some (endings.Refused line))) (sym c.in-Refused.is)
+    (IsRefused c.in-Refused.at c.in-Refused.reason line c.unlisted_line.ensures)
 
 pub returns-in-ReadFault : goal.returns-in-ReadFault
 returns-in-ReadFault c = subst (λ (f : AnalyzeFault). EndsLike (Err f) (Some endings.ReadFault)) (sym c.in-ReadFault.is) FailsReading

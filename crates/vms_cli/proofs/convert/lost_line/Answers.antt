@@ -1,8 +1,5 @@
-use Rattle.std.proofs.Common.{List, ℕ, Option, Some, ap, ◌∙◌, ◌<◌, length, sym, subst, codes}
-use Rattle.vms_desc.specs.Described.{device_at}
-use Rattle.vms_elements.specs.Parts.{cell_name}
-use Rattle.vms_spec.specs.Sets.{Set}
-use Rattle.vms_cli.specs.Convert.{IsInNewest, line_of, lost_line, newest}
+use Rattle.vms_cli.proofs.Facade.{List, ℕ, Option, Some, ap, ◌∙◌, ◌<◌, length, sym, subst, codes, device_at, cell_name, Set, IsInNewest, lost_line, newest}
+use Rattle.vms_cli.specs.Convert.{line_of}
 use Rattle.vms_cli.proofs.PathRoom.{path_short}
 use Rattle.vms_cli.proofs.convert.lost_line.Goals as goal
 
@@ -10,14 +7,18 @@ pub put_path-requires-clause-short : goal.put_path-requires-clause-short
 put_path-requires-clause-short c =
     let device = c.in-Some-Some.device in
     let cell = c.in-Some-Some.cell in
-    let inside = subst (λ (o : Option ℕ). IsInNewest (Some device) o) c.in-Some-Some.is-1 (subst (λ (o : Option ℕ). IsInNewest o c.args.cell) c.in-Some-Some.is-0 c.requires.named) in
+    let inside =
+    subst (λ (o : Option ℕ). IsInNewest (Some device) o) c.in-Some-Some.is-1
+    (subst (λ (o : Option ℕ). IsInNewest o c.args.cell) c.in-Some-Some.is-0 c.requires.named) in
     subst (λ (s : Set). length (cell_name s (device_at s device) cell) < 64) (sym c.requires.newest) (path_short device cell inside.0)
 
 pub line_of-requires : goal.line_of-requires
 line_of-requires c =
     let device = c.in-Some-Some.device in
     let cell = c.in-Some-Some.cell in
-    let inside = subst (λ (o : Option ℕ). IsInNewest (Some device) o) c.in-Some-Some.is-1 (subst (λ (o : Option ℕ). IsInNewest o c.args.cell) c.in-Some-Some.is-0 c.requires.named) in
+    let inside =
+    subst (λ (o : Option ℕ). IsInNewest (Some device) o) c.in-Some-Some.is-1
+    (subst (λ (o : Option ℕ). IsInNewest o c.args.cell) c.in-Some-Some.is-0 c.requires.named) in
     let name = c.bytes.ensures ∙ c.put_path.ensures ∙ ap (λ (s : Set). cell_name s (device_at s device) cell) c.requires.newest in
     subst (λ (l : List ℕ). length l < 64) (sym name) (path_short device cell inside.0)
 

@@ -1,15 +1,12 @@
-use Rattle.std.proofs.Common.{◌≡◌, Err, Result, ap, ◌∙◌, sym, subst, Option}
-use Rattle.vms_convert.specs.declared.fault.ConvertFault.{ConvertFault}
+use Rattle.vms_cli.proofs.Facade.{◌≡◌, Err, Result, ap, ◌∙◌, sym, subst, Option, ConvertFault, ending_passed, refused_line, Ending, Set, IsDone, IsLost}
+use Rattle.vms_cli.proofs.Facade.{IsMismatch, LacksLine, LacksMemory}
 use Rattle.vms_convert.specs.declared.fault.ConvertFault.TheVariants as faults
-use Rattle.vms_commands.proofs.StepLemmas.{ending_passed}
-use Rattle.vms_commands.specs.Lines.{refused_line}
-use Rattle.vms_commands.specs.declared.ending.Ending.{Ending}
-use Rattle.vms_spec.specs.Sets.{Set}
-use Rattle.vms_cli.specs.Convert.{EndsLike, FailsReading, FailsWriting, IsDone, IsLost, IsMismatch, IsRefused, LacksLine, LacksMemory}
+use Rattle.vms_cli.specs.Convert.{EndsLike, FailsReading, FailsWriting, IsRefused}
 use Rattle.vms_cli.proofs.convert.with_line.Goals as goal
 
 -- by the fault that the call answered
-by_fault : {converted : Result (Unit {0}) ConvertFault} {answered fault : ConvertFault} {e : Option Ending} → converted ≡ Err answered → answered ≡ fault → EndsLike (Err fault) e → EndsLike converted e
+by_fault : {converted : Result (Unit {0}) ConvertFault} {answered fault : ConvertFault} {e : Option Ending} → converted ≡ Err answered → answered ≡ fault
+    → EndsLike (Err fault) e → EndsLike converted e
 by_fault {e = e} is same like = subst (λ (r : Result (Unit {0}) ConvertFault). EndsLike r e) (sym (is ∙ ap Err same)) like
 
 pub returns-in-Ok : goal.returns-in-Ok
@@ -18,7 +15,8 @@ returns-in-Ok c = rw c.in-Ok.is (IsDone c.in-Ok.field-0)
 pub returns-in_ok-mismatch_line-in-Err-NotCompatible : goal.returns-in_ok-mismatch_line-in-Err-NotCompatible
 returns-in_ok-mismatch_line-in-Err-NotCompatible c =
     let line = c.in_ok-mismatch_line-in-Err-NotCompatible in
-    by_fault c.in-Err-NotCompatible.is (rw c.in-Err-NotCompatible.is at c.in-Err-NotCompatible.field-0-is) (IsMismatch c.in-Err-NotCompatible.mismatch line.field-0 line.ensures)
+    by_fault c.in-Err-NotCompatible.is (rw c.in-Err-NotCompatible.is at c.in-Err-NotCompatible.field-0-is)
+    (IsMismatch c.in-Err-NotCompatible.mismatch line.field-0 line.ensures)
 
 pub returns-in_err-mismatch_line-in-Err-NotCompatible : goal.returns-in_err-mismatch_line-in-Err-NotCompatible
 returns-in_err-mismatch_line-in-Err-NotCompatible c =

@@ -1,14 +1,8 @@
-use Rattle.std.proofs.Common.{[], ◌∷◌, refl}
-use Rattle.vms_io.specs.Told.{outlet, stock}
-use Rattle.vms_commands.specs.Asks.{set_asked}
-use Rattle.vms_commands.specs.Fetching.{named_sets}
-use Rattle.vms_cli.specs.TwoSets.{sets_of}
-use Rattle.vms_cli.specs.Counter.{counted}
-use Rattle.vms_cli.proofs.CounterLemmas.{counters_text, fit_sets}
-use Rattle.vms_cli.proofs.EndsSo.{counter_ends, lacks_so}
+use Rattle.vms_cli.proofs.Facade.{[], ◌∷◌, refl, outlet, stock, set_asked, named_sets, sets_of, counted, ending_passed}
+use Rattle.vms_cli.proofs.ShowLemmas.{counters_text, fit_sets}
+use Rattle.vms_cli.proofs.RowLemmas.{counter_ends, lacks_so}
 use Rattle.vms_cli.proofs.StepsOfTwo.{had_text, lacks_text}
 use Rattle.vms_cli.proofs.counter.counter.Goals as goal
-use Rattle.vms_commands.proofs.StepLemmas.{ending_passed}
 
 pub returns : goal.returns
 returns g c = λ input few.
@@ -18,7 +12,8 @@ returns g c = λ input few.
     let sets = named_sets held old new in
     let had = c.in_ok-sets.ensures in
     record {
-      content = λ o has. had_text sets_of counted sets input _ (stock g.H.Shelf c.args.shelf.now) _ few had.asks.looks o (counters_text held sets o (fit_sets held old new) has) _ c.in_ok-sets.sets _ _ _ had.had c.find.ensures.so c.find.ensures.ends;
+      content = λ o has. had_text sets_of counted sets input _ (stock g.H.Shelf c.args.shelf.now) _ few had.asks.looks o
+          (counters_text held sets o (fit_sets held old new) has) _ c.in_ok-sets.sets _ _ _ had.had c.find.ensures.so c.find.ensures.ends;
       so = counter_ends input _ _ _ _ _ _ c.find.ensures.so had.asks.looks had.asks.unasked;
       given = tt;
       seen = λ reads. cc;
@@ -33,7 +28,8 @@ returns-in_err-sets g c = rw (ending_passed c.from_residual.result c.from_residu
     let out = outlet g.O.Sink c.args.out.now in
     let had = c.in_err-sets.ensures in
     record {
-      content = λ o has. lacks_text sets_of counted sets input out (stock g.H.Shelf c.args.shelf.now) _ few had.asks.looks o (counters_text held sets o (fit_sets held old new) has) c.in_err-sets.field-0.0 had.had;
+      content = λ o has. lacks_text sets_of counted sets input out (stock g.H.Shelf c.args.shelf.now) _ few had.asks.looks o
+          (counters_text held sets o (fit_sets held old new) has) c.in_err-sets.field-0.0 had.had;
       so = lacks_so (0 ∷ 6 ∷ 10 ∷ []) [] refl input out had.asks;
       given = tt;
       seen = λ reads. cc;

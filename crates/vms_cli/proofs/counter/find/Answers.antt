@@ -1,18 +1,8 @@
-use Rattle.std.proofs.Common.{◌∙◌, subst}
-use Rattle.vms_io.specs.Told.{outlet}
-use Rattle.vms_spec.specs.Good.{IsFit}
-use Rattle.vms_spec.specs.Sets.{Set}
-use Rattle.vms_desc.specs.Described.{described}
+use Rattle.vms_cli.proofs.Facade.{◌∙◌, subst, outlet, IsFit, Set, described, well_of, answer_of, WrittenAs, computed, counter_text, ending_of}
 use Rattle.vms_load.specs.Kept.{loads}
-use Rattle.vms_load.proofs.SetFacts.{well_of}
 use Rattle.vms_counter_laws.specs.Counters.{Answer}
-use Rattle.vms_counter.specs.Found.{answer_of}
-use Rattle.vms_commands.specs.StepEndings.{WrittenAs}
-use Rattle.vms_counter_laws.specs.Computed.{computed}
-use Rattle.vms_cli.specs.Counter.{counter_text}
-use Rattle.vms_cli.proofs.CounterLemmas.{answered}
+use Rattle.vms_cli.proofs.ShowLemmas.{answered}
 use Rattle.vms_cli.proofs.counter.find.Goals as goal
-use Rattle.vms_commands.specs.Endings.{ending_of}
 
 pub returns-clause-ends : goal.returns-clause-ends
 returns-clause-ends g c =

@@ -1,13 +1,5 @@
-use Rattle.std.proofs.Common.{List, ℕ, ◌∙◌, subst}
-use Rattle.std.specs.Io.KnownBytes.{Appends}
-use Rattle.vms_io.specs.Causes.{AppendsPrefix}
-use Rattle.vms_io.specs.Told.{outlet}
-use Rattle.vms_desc.specs.Described.{described}
-use Rattle.vms_commands.proofs.CourseLemmas.{writes_end}
-use Rattle.vms_commands.proofs.StepLemmas.{ending_passed}
-use Rattle.vms_commands.specs.Endings.{ending_of}
-use Rattle.vms_commands.specs.StepEndings.{WrittenAs}
-use Rattle.vms_cli.proofs.CounterLemmas.{no_state_is, state_is}
+use Rattle.vms_cli.proofs.Facade.{List, ℕ, ◌∙◌, subst, Appends, AppendsPrefix, outlet, described, writes_end, ending_passed, ending_of, WrittenAs}
+use Rattle.vms_cli.proofs.ShowLemmas.{no_state_is, state_is}
 use Rattle.vms_cli.proofs.counter.write_finding.Goals as goal
 
 pub returns-in_ok-text-in-NoState-clause-ends : goal.returns-in_ok-text-in-NoState-clause-ends
@@ -25,7 +17,8 @@ returns-in_ok-write_state-in-State-clause-ends g c =
     let out = outlet g.O.Sink c.args.out.now in
     let out' = outlet g.O.Sink c.write_state.new.out in
     subst (λ (l : List ℕ). Appends out.written out'.written l)
-    (state_is (described c.args.old.now) (described c.args.new.now) c.args.finding.now c.in-State.mismatch c.in-State.machine c.in-State.images c.in-State.refusal
+    (state_is (described c.args.old.now)
+    (described c.args.new.now) c.args.finding.now c.in-State.mismatch c.in-State.machine c.in-State.images c.in-State.refusal
     c.deref.result.now c.deref-in-State.result.now c.in-State.is
     (c.deref.ensures.value ∙ c.in_ok-head-in-State.ensures) c.deref-in-State.ensures.value)
     c.in_ok-write_state-in-State.ensures.told
@@ -37,7 +30,8 @@ returns-in_err-write_state-in-State-clause-ends g c =
     let stops = c.in_err-write_state-in-State.ensures in
     rw (ending_passed c.from_residual-in_err-write_state-in-State.result c.from_residual-in_err-write_state-in-State.ensures.1)
     (subst (λ (l : List ℕ). AppendsPrefix out.written out'.written l)
-    (state_is (described c.args.old.now) (described c.args.new.now) c.args.finding.now c.in-State.mismatch c.in-State.machine c.in-State.images c.in-State.refusal
+    (state_is (described c.args.old.now)
+    (described c.args.new.now) c.args.finding.now c.in-State.mismatch c.in-State.machine c.in-State.images c.in-State.refusal
     c.deref.result.now c.deref-in-State.result.now c.in-State.is
     (c.deref.ensures.value ∙ c.in_ok-head-in-State.ensures) c.deref-in-State.ensures.value)
     (stops.n, stops.within, stops.puts.told))

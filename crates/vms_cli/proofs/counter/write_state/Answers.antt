@@ -1,12 +1,6 @@
-use Rattle.std.proofs.Common.{ℕ, ◌<◌, List, ◌++◌, length, map, Option, IfSome, sym, subst}
-use Rattle.vms_io.specs.Told.{outlet}
-use Rattle.vms_io.specs.Writing.{Wrote}
-use Rattle.vms_io.proofs.WritingLemmas.{wrote_behind}
-use Rattle.vms_spec.specs.Values.{values_text}
-use Rattle.vms_desc.specs.Described.{described}
-use Rattle.vms_image.specs.Typed.{state_of}
-use Rattle.vms_values.specs.Printing.{machine_of}
-use Rattle.vms_cli.proofs.CounterLemmas.{printed_of}
+use Rattle.vms_cli.proofs.Facade.{ℕ, ◌<◌, List, ◌++◌, length, map, Option, IfSome, sym, subst, outlet, Wrote, wrote_behind, values_text, described, state_of}
+use Rattle.vms_cli.proofs.Facade.{machine_of}
+use Rattle.vms_cli.proofs.ShowLemmas.{printed_of}
 use Rattle.vms_cli.proofs.PackLemmas.{named}
 use Rattle.vms_cli.proofs.counter.write_state.Goals as goal
 

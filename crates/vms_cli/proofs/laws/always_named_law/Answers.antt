@@ -1,4 +1,4 @@
-use Rattle.vms_cli.proofs.StateLaws.{always_named}
+use Rattle.vms_cli.proofs.RoundTrips.{always_named}
 use Rattle.vms_cli.proofs.laws.always_named_law.Goals as goal
 
 pub returns : goal.returns

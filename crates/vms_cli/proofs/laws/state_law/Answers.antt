@@ -1,4 +1,4 @@
-use Rattle.vms_cli.proofs.StateLaws.{state_stands}
+use Rattle.vms_cli.proofs.RoundTrips.{state_stands}
 use Rattle.vms_cli.proofs.laws.state_law.Goals as goal
 
 pub returns : goal.returns

@@ -1,19 +1,7 @@
-use Rattle.std.proofs.Common.{◌≡◌, List, ℕ, Option, Ok, Err, Result, refl, subst}
-use Rattle.std.proofs.lemmas.Result.{err_from_is_err_and}
-use Rattle.std.specs.declared.vec.Vec.{Vec}
-use Rattle.std.specs.declared.alloc.Global.{Global}
-use Rattle.vms_io.specs.Shelves.{Held}
-use Rattle.vms_desc.specs.Described.{described}
-use Rattle.vms_commands.specs.Asks.{set_asked}
-use Rattle.vms_commands.specs.Fetching.{SetText, fetched, fetched_set, longest_file, set_in}
-use Rattle.vms_commands.specs.SetWords.{SetWord}
-use Rattle.vms_commands.specs.StepEndings.{StepAs, text_of}
-use Rattle.vms_commands.specs.Steps.{Step, Gives, next}
-use Rattle.vms_commands.specs.declared.ending.Ending.{Ending}
+use Rattle.vms_cli.proofs.Facade.{◌≡◌, List, ℕ, Option, Ok, Err, Result, refl, subst, err_from_is_err_and, Vec, Global, Held, described, set_asked, SetText}
+use Rattle.vms_cli.proofs.Facade.{fetched, fetched_set, longest_file, set_in, SetWord, StepAs, text_of, Step, Gives, next, Ending, first_err, then_as, Parts}
+use Rattle.vms_cli.proofs.Facade.{named_parts, parts_of, with_values, PackParts}
 use Rattle.vms_commands.specs.declared.fetching.SetText.{SetText as Fetched}
-use Rattle.vms_commands.proofs.StepLemmas.{first_err, then_as}
-use Rattle.vms_cli.specs.Pack.{Parts, named_parts, parts_of, with_values}
-use Rattle.vms_cli.specs.declared.pack.PackParts.{PackParts}
 use Rattle.vms_cli.proofs.pack.pack_parts.Goals as goal
 
 abbrev bytes : Vec ℕ Global → List ℕ
@@ -23,7 +11,8 @@ abbrev rest : SetText → List ℕ → Step Parts
 rest text values = next (set_in text) (λ set. Gives (record { set = set; values = values }))
 
 -- after the set's text and the values text comes what the words name
-module _ (held held' : Option Held) (same : held' ≡ held) (word : SetWord) (name : List ℕ) (t : Fetched) (first : StepAs text_of (fetched_set held word) (Ok t)) (r : Result PackParts Ending) where
+module _ (held held' : Option Held) (same : held' ≡ held) (word : SetWord) (name : List ℕ) (t : Fetched)
+    (first : StepAs text_of (fetched_set held word) (Ok t)) (r : Result PackParts Ending) where
   behind_text : StepAs parts_of (with_values held' name (text_of t)) r → StepAs parts_of (named_parts held word name) r
   behind_text h =
       then_as text_of parts_of (with_values held name) (fetched_set held word) t r first
@@ -38,20 +27,25 @@ returns-in_err-values-clause-had g c =
     let p = err_from_is_err_and c.from_residual-in_err-values.result c.from_residual-in_err-values.ensures.1 in
     let e = c.in_err-values.field-0.0 in
     let held = g.H.Shelf.held c.fetch_set.new.shelf in
-    rw (p.1, p.2) (behind_text (g.H.Shelf.held c.args.shelf.now) held c.in_ok-text.ensures.asks.looks.held (set_asked c.args.set) c.args.values.now c.in_ok-text.text c.in_ok-text.ensures.fetched (Err e)
+    rw (p.1, p.2) (behind_text (g.H.Shelf.held c.args.shelf.now) held c.in_ok-text.ensures.asks.looks.held
+    (set_asked c.args.set) c.args.values.now c.in_ok-text.text c.in_ok-text.ensures.fetched (Err e)
     (first_err bytes parts_of (rest (text_of c.in_ok-text.text)) (fetched longest_file held c.args.values.now) e c.in_err-values.ensures.fetched))
 
 pub returns-in_err-set-clause-had : goal.returns-in_err-set-clause-had
 returns-in_err-set-clause-had g c =
     let p = err_from_is_err_and c.from_residual-in_err-set.result c.from_residual-in_err-set.ensures.1 in
     let e = c.in_err-set.field-0.0 in
-    rw (p.1, p.2) (behind_values (g.H.Shelf.held c.args.shelf.now) (g.H.Shelf.held c.fetch_set.new.shelf) c.in_ok-text.ensures.asks.looks.held (set_asked c.args.set) c.args.values.now c.in_ok-text.text c.in_ok-text.ensures.fetched (Err e)
+    rw (p.1, p.2) (behind_values (g.H.Shelf.held c.args.shelf.now) (g.H.Shelf.held c.fetch_set.new.shelf) c.in_ok-text.ensures.asks.looks.held
+    (set_asked c.args.set) c.args.values.now c.in_ok-text.text c.in_ok-text.ensures.fetched (Err e)
     c.in_ok-values.values c.in_ok-values.ensures.fetched
-    (first_err described parts_of (λ set. Gives (record { set = set; values = c.in_ok-values.values.items })) (set_in (text_of c.in_ok-text.text)) e c.in_err-set.ensures.read))
+    (first_err described parts_of (λ set. Gives (record { set = set; values = c.in_ok-values.values.items }))
+    (set_in (text_of c.in_ok-text.text)) e c.in_err-set.ensures.read))
 
 pub returns-clause-had : goal.returns-clause-had
 returns-clause-had g c =
     let parts : PackParts = record { set = c.in_ok-set.set; values = c.in_ok-values.values } in
-    behind_values (g.H.Shelf.held c.args.shelf.now) (g.H.Shelf.held c.fetch_set.new.shelf) c.in_ok-text.ensures.asks.looks.held (set_asked c.args.set) c.args.values.now c.in_ok-text.text c.in_ok-text.ensures.fetched (Ok parts)
+    behind_values (g.H.Shelf.held c.args.shelf.now) (g.H.Shelf.held c.fetch_set.new.shelf) c.in_ok-text.ensures.asks.looks.held
+    (set_asked c.args.set) c.args.values.now c.in_ok-text.text c.in_ok-text.ensures.fetched (Ok parts)
     c.in_ok-values.values c.in_ok-values.ensures.fetched
-    (then_as described parts_of (λ set. Gives (record { set = set; values = c.in_ok-values.values.items })) (set_in (text_of c.in_ok-text.text)) c.in_ok-set.set (Ok parts) c.in_ok-set.ensures.read refl)
+    (then_as described parts_of (λ set. Gives (record { set = set; values = c.in_ok-values.values.items }))
+    (set_in (text_of c.in_ok-text.text)) c.in_ok-set.set (Ok parts) c.in_ok-set.ensures.read refl)

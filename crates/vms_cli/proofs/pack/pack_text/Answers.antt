@@ -1,9 +1,6 @@
-use Rattle.vms_io.specs.Told.{outlet}
-use Rattle.vms_desc.specs.Described.{described}
+use Rattle.vms_cli.proofs.Facade.{outlet, described, fit_of, ending_of}
 use Rattle.vms_cli.proofs.PackLemmas.{packs_read, read_ready}
 use Rattle.vms_cli.proofs.pack.pack_text.Goals as goal
-use Rattle.vms_desc.proofs.Bounds.{fit_of}
-use Rattle.vms_commands.specs.Endings.{ending_of}
 
 pub write-requires-clause-ready : goal.write-requires-clause-ready
 write-requires-clause-ready g c =

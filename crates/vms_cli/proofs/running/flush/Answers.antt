@@ -1,4 +1,4 @@
-use Rattle.vms_cli.specs.Program.{OutFlushed, OutLate}
+use Rattle.vms_cli.proofs.Facade.{OutFlushed, OutLate}
 use Rattle.vms_cli.proofs.ProgramLemmas.{kept_flushed}
 use Rattle.vms_cli.proofs.running.flush.Goals as goal
 

@@ -1,4 +1,4 @@
-use Rattle.std.proofs.Common.{refl, inl, inr}
+use Rattle.vms_cli.proofs.Facade.{refl, inl, inr}
 use Rattle.vms_cli.proofs.ProgramLemmas.{kept_flushed}
 use Rattle.vms_cli.proofs.running.flush_notes.Goals as goal
 

@@ -1,23 +1,8 @@
-use Rattle.std.proofs.Common.{None, Ok, Err, ap, ◌∙◌, refl, subst, Some}
-use Rattle.std.proofs.KnownBytes.{Keeps-refl}
-use Rattle.vms_io.specs.Told.{outlet}
-use Rattle.vms_spec.specs.Sets.{Set}
-use Rattle.vms_spec.specs.Values.{values_text}
-use Rattle.vms_values.specs.Printing.{machine_of}
-use Rattle.vms_load.proofs.ExactLoads.{within}
-use Rattle.vms_load.specs.Lean.{loads, has, taken_by}
-use Rattle.vms_load.specs.Staging.{accepted_of}
-use Rattle.vms_commands.specs.Endings.{ending_of, WritesAs}
-use Rattle.vms_commands.specs.Lines.{refused_line}
-use Rattle.vms_commands.proofs.CourseLemmas.{draws_took}
-use Rattle.vms_commands.proofs.EndLemmas.{comes_to_nothing}
-use Rattle.vms_commands.specs.declared.ending.Ending.TheVariants.{ReadFault, Refused}
-use Rattle.vms_board_commands.proofs.CourseLemmas.{refused_so, traced_so, unread_so}
-use Rattle.vms_board_commands.proofs.SeenLemmas.{content_seen, other_seen}
-use Rattle.vms_cli.specs.Show.{Shows}
+use Rattle.vms_cli.proofs.Facade.{None, Ok, Err, ap, ◌∙◌, refl, subst, Some, Keeps-refl, outlet, Set, values_text, machine_of, within, loads, has, taken_by}
+use Rattle.vms_cli.proofs.Facade.{accepted_of, ending_of, WritesAs, refused_line, draws_took, comes_to_nothing, ReadFault, Refused, refused_so, traced_so}
+use Rattle.vms_cli.proofs.Facade.{unread_so, content_seen, other_seen, Shows, fit_of}
 use Rattle.vms_cli.proofs.ShowLemmas.{refusal_seen, shows_same, text_seen, well_seen}
 use Rattle.vms_cli.proofs.show.show_stream.Goals as goal
-use Rattle.vms_desc.proofs.Bounds.{fit_of}
 
 pub returns-in-Ok : goal.returns-in-Ok
 returns-in-Ok g c =
@@ -33,7 +18,9 @@ returns-in-Ok g c =
     let written = subst (λ (s : Set). WritesAs (values_text s (machine_of s machine) images) out out' e) c.in-Ok.ensures.set c.write_values.ensures in
     record {
       runs = record {
-        content = λ shelf shelf' o held shows. content_seen {s = shelf} {s' = shelf'} {P = λ bytes x. Shows set bytes shelf.held x} e o (λ bytes y ok p q. shows_same set fit bytes shelf.held o y ok p q) (g.met.I.Source.octets c.args.input.now) (text_seen set images taken machine e held reads written) shows;
+        content = λ shelf shelf' o held shows. content_seen {s = shelf} {s' = shelf'} {P = λ bytes x. Shows set bytes shelf.held x} e o
+            (λ bytes y ok p q. shows_same set fit bytes shelf.held o y ok p q) (g.met.I.Source.octets c.args.input.now)
+            (text_seen set images taken machine e held reads written) shows;
         so = λ shelf asks. traced_so shelf (draws_took reads.takes) _ out out' e c.write_values.ensures;
         seen = λ shelf shelf' held among. well_seen set fit (text_seen set images taken machine e held reads written);
       };
@@ -53,7 +40,9 @@ returns-in-Err-Refused g c =
     let said = c.refused_line.ensures ∙ ap (λ (s : Set). refused_line s r.at r.section r.reason) (c.set.ensures ∙ c.in-Err-Refused.ensures.set) in
     record {
       runs = record {
-        content = λ shelf shelf' o held shows. content_seen {o = out} {o' = out} {s = shelf} {s' = shelf'} {P = λ bytes x. Shows set bytes shelf.held x} (Some (Refused line)) o (λ bytes y ok p q. shows_same set fit bytes shelf.held o y ok p q) (g.met.I.Source.octets c.args.input.now) (refusal_seen set images taken r line reads said) shows;
+        content = λ shelf shelf' o held shows. content_seen {o = out} {o' = out} {s = shelf} {s' = shelf'} {P = λ bytes x. Shows set bytes shelf.held x}
+            (Some (Refused line)) o (λ bytes y ok p q. shows_same set fit bytes shelf.held o y ok p q) (g.met.I.Source.octets c.args.input.now)
+            (refusal_seen set images taken r line reads said) shows;
         so = λ shelf asks. refused_so shelf (draws_took reads.takes) out line;
         seen = λ shelf shelf' held among. well_seen set fit (refusal_seen set images taken r line reads said);
       };
@@ -71,5 +60,6 @@ returns-in-Err-ReadFault g c =
         so = λ shelf asks. unread_so shelf (draws_took reads.takes) out reads.cause;
         seen = λ shelf shelf' held. other_seen (Some ReadFault) refl;
       };
-      given = within set (accepted_of set None) (has c.load.new.self) (taken_by c.load.new.self) (Err c.in-Err-ReadFault.field-0) c.in-Err-ReadFault.ensures.reads;
+      given = within set (accepted_of set None) (has c.load.new.self) (taken_by c.load.new.self)
+          (Err c.in-Err-ReadFault.field-0) c.in-Err-ReadFault.ensures.reads;
     }

@@ -1,8 +1,4 @@
-use Rattle.std.proofs.Common.{map, sym, subst}
-use Rattle.vms_spec.specs.Sets.{Set}
-use Rattle.vms_load.specs.Lean.{loads}
-use Rattle.vms_image.specs.Typed.{state_of}
-use Rattle.vms_values.specs.Printing.{AreOf}
+use Rattle.vms_cli.proofs.Facade.{map, sym, subst, Set, loads, state_of, AreOf}
 use Rattle.vms_cli.proofs.ShowLemmas.{are_of}
 use Rattle.vms_cli.proofs.show.write_values.Goals as goal
 

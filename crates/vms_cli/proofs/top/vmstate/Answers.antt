@@ -1,7 +1,4 @@
-use Rattle.std.proofs.Common.{refl}
-use Rattle.vms_io.specs.Told.{intake, outlet, stock}
-use Rattle.vms_io.proofs.WritingLemmas.{serves_none}
-use Rattle.vms_commands.specs.Endings.{ending_of}
+use Rattle.vms_cli.proofs.Facade.{refl, intake, outlet, stock, serves_none, ending_of}
 use Rattle.vms_cli.proofs.EndLemmas.{answers}
 use Rattle.vms_cli.proofs.top.vmstate.Goals as goal
 

@@ -1,16 +1,6 @@
-use Rattle.std.proofs.Common.{Option, Ok, Err, Result, refl, sym, ap, subst, ◌∙◌}
-use Rattle.std.proofs.lemmas.Result.{err_from_is_err_and}
-use Rattle.vms_io.specs.Shelves.{Held}
-use Rattle.vms_desc.specs.Described.{described}
-use Rattle.vms_commands.specs.Asks.{set_asked}
-use Rattle.vms_commands.specs.Fetching.{SetText, fetched_set, named_sets, set_in, sets_in}
-use Rattle.vms_commands.specs.StepEndings.{StepAs, text_of}
-use Rattle.vms_commands.specs.Steps.{Both, both}
-use Rattle.vms_commands.specs.declared.ending.Ending.{Ending}
+use Rattle.vms_cli.proofs.Facade.{Option, Ok, Err, Result, refl, sym, ap, subst, ◌∙◌, err_from_is_err_and, Held, described, set_asked, SetText, fetched_set}
+use Rattle.vms_cli.proofs.Facade.{named_sets, set_in, sets_in, StepAs, text_of, Both, both, Ending, then_as, sets_of, TwoSets}
 use Rattle.vms_commands.specs.declared.fetching.SetText.{SetText as Fetched}
-use Rattle.vms_commands.proofs.StepLemmas.{then_as}
-use Rattle.vms_cli.specs.TwoSets.{sets_of}
-use Rattle.vms_cli.specs.declared.two_sets.TwoSets.{TwoSets}
 use Rattle.vms_cli.proofs.StepsOfTwo.{second_of, two_of}
 use Rattle.vms_cli.proofs.two_sets.two_sets.Given.{Over}
 use Rattle.vms_cli.proofs.two_sets.two_sets.Goals.{In_ok-new_text}
@@ -20,7 +10,8 @@ abbrev texts_of : Both Fetched → Both SetText
 texts_of texts = record { old = text_of texts.old; new = text_of texts.new }
 
 -- both are fetched from the same shelf, and what is read of both is what the words name
-named : (g : Over) (c : In_ok-new_text g) (r : Result TwoSets Ending) → StepAs sets_of (sets_in (record { old = text_of c.in_ok-old_text.old_text; new = text_of c.in_ok-new_text.new_text })) r
+named : (g : Over) (c : In_ok-new_text g) (r : Result TwoSets Ending)
+    → StepAs sets_of (sets_in (record { old = text_of c.in_ok-old_text.old_text; new = text_of c.in_ok-new_text.new_text })) r
     → StepAs sets_of (named_sets (g.H.Shelf.held c.args.shelf.now) (set_asked c.args.old) (set_asked c.args.new)) r
 named g c r h =
     let held = g.H.Shelf.held c.args.shelf.now in
@@ -28,20 +19,25 @@ named g c r h =
     let new = fetched_set held (set_asked c.args.new) in
     let texts : Both Fetched = record { old = c.in_ok-old_text.old_text; new = c.in_ok-new_text.new_text } in
     let second : StepAs text_of new (Ok c.in_ok-new_text.new_text) =
-    subst (λ (h : Option Held). StepAs text_of (fetched_set h (set_asked c.args.new)) (Ok c.in_ok-new_text.new_text)) c.in_ok-old_text.ensures.asks.looks.held c.in_ok-new_text.ensures.fetched in
-    then_as texts_of sets_of sets_in (both old new) texts r (two_of text_of texts_of old new c.in_ok-old_text.old_text c.in_ok-new_text.new_text texts refl c.in_ok-old_text.ensures.fetched second) h
+    subst (λ (h : Option Held). StepAs text_of (fetched_set h (set_asked c.args.new))
+    (Ok c.in_ok-new_text.new_text)) c.in_ok-old_text.ensures.asks.looks.held c.in_ok-new_text.ensures.fetched in
+    then_as texts_of sets_of sets_in (both old new) texts r
+    (two_of text_of texts_of old new c.in_ok-old_text.old_text c.in_ok-new_text.new_text texts refl c.in_ok-old_text.ensures.fetched second) h
 
 pub returns-in_err-new-clause-had : goal.returns-in_err-new-clause-had
 returns-in_err-new-clause-had g c =
     let p = err_from_is_err_and c.from_residual-in_err-new.result c.from_residual-in_err-new.ensures.1 in
     let e = c.in_err-new.field-0.0 in
     let failed : StepAs sets_of (sets_in (record { old = text_of c.in_ok-old_text.old_text; new = text_of c.in_ok-new_text.new_text })) (Err e) =
-    second_of described sets_of (set_in (text_of c.in_ok-old_text.old_text)) (set_in (text_of c.in_ok-new_text.new_text)) c.in_ok-old.old e c.in_ok-old.ensures.read c.in_err-new.ensures.read in
+    second_of described sets_of (set_in (text_of c.in_ok-old_text.old_text))
+    (set_in (text_of c.in_ok-new_text.new_text)) c.in_ok-old.old e c.in_ok-old.ensures.read c.in_err-new.ensures.read in
     named g (goal.at.returns-in_err-new-clause-had g c).In_ok-new_text c.from_residual-in_err-new.result
-    (subst (λ (r : Result TwoSets Ending). StepAs sets_of (sets_in (record { old = text_of c.in_ok-old_text.old_text; new = text_of c.in_ok-new_text.new_text })) r) (sym (p.1 ∙ ap Err p.2)) failed)
+    (subst (λ (r : Result TwoSets Ending). StepAs sets_of
+    (sets_in (record { old = text_of c.in_ok-old_text.old_text; new = text_of c.in_ok-new_text.new_text })) r) (sym (p.1 ∙ ap Err p.2)) failed)
 
 pub returns-clause-had : goal.returns-clause-had
 returns-clause-had g c =
     let sets : TwoSets = record { old = c.in_ok-old.old; new = c.in_ok-new.new } in
     named g (goal.at.returns-clause-had g c).In_ok-new_text (Ok sets)
-    (two_of described sets_of (set_in (text_of c.in_ok-old_text.old_text)) (set_in (text_of c.in_ok-new_text.new_text)) c.in_ok-old.old c.in_ok-new.new sets refl c.in_ok-old.ensures.read c.in_ok-new.ensures.read)
+    (two_of described sets_of (set_in (text_of c.in_ok-old_text.old_text))
+    (set_in (text_of c.in_ok-new_text.new_text)) c.in_ok-old.old c.in_ok-new.new sets refl c.in_ok-old.ensures.read c.in_ok-new.ensures.read)
