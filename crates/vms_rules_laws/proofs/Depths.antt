@@ -32,15 +32,11 @@ shallow_test (suc n) (Not t) h = omega (arith, shallow_test n t (λ nests. h (t,
 shallow_test (suc n) (And s t) h =
     let both = max-le (shallow_test n s (λ nests. h (s, inl refl, nests))) (shallow_test n t (λ nests. h (t, inr refl, nests))) in omega (arith, both)
 shallow_test (suc n) (Or s t) h =
-    let both = max-le (shallow_test n s (λ nests. h (s, inl refl, nests))) (shallow_test n t (λ nests. h (t, inr refl, nests))) in omega (arith, both)
+    let both = max-le (shallow_test n s (λ nests. h (s, inl refl, nests))) (shallow_test n t (λ nests. h (t, inr refl, nests))) in omega arith
 
 some_depth : (t : Formula) → 1 ≤ depth t
 some_depth (AtLeast m) = omega arith
-some_depth (Below m) = omega arith
-some_depth (Cell whose field mask rel value) = omega arith
-some_depth (Not t) = omega arith
-some_depth (And s t) = omega arith
-some_depth (Or s t) = omega arith
+some_depth _ = omega arith
 
 -- a test within another has fewer levels
 within_less : (s t : Formula) → IsWithinTest s t → depth s < depth t
@@ -61,7 +57,7 @@ within_less s (Or t u) w = either t u w
 
 pub deep_test : (n : ℕ) (t : Formula) → Nests n t → n < depth t
 deep_test zero t h = some_depth t
-deep_test (suc n) t h = let inner = deep_test n h.0 h.2 in let less = within_less h.0 t h.1 in omega (arith, inner, less)
+deep_test (suc n) t h = let inner = deep_test n h.0 h.2 in let less = within_less h.0 t h.1 in omega arith
 
 -- ---- structures
 
@@ -75,12 +71,12 @@ depth_at ds i = get_or (struct_depths ds) i 0
 pub at-there : {X : Type 0} (xs : List X) (i : ℕ) (x none : X) → At xs i x → (i < length xs) × (get_or xs i none ≡ x)
 at-there [] i x none e = absurd (cc)
 at-there (y ∷ xs) zero x none e = (omega arith, cc)
-at-there (y ∷ xs) (suc i) x none e = let r = at-there xs i x none e in (omega (arith, r.0), r.1)
+at-there (y ∷ xs) (suc i) x none e = let r = at-there xs i x none e in (omega arith, r.1)
 
 there-at : {X : Type 0} (xs : List X) (i : ℕ) (none : X) → i < length xs → At xs i (get_or xs i none)
-there-at [] i none l = absurd (omega (arith, l))
+there-at [] i none l = absurd (omega arith)
 there-at (x ∷ xs) zero none l = refl
-there-at (x ∷ xs) (suc i) none l = there-at xs i none (omega (arith, l))
+there-at (x ∷ xs) (suc i) none l = there-at xs i none (omega arith)
 
 most-deep : (sizes : List ℕ) (n : ℕ) (fs : List Field) → ((k : ℕ) (f : Field) → At fs k f → item_depth sizes f.item ≤ n) → deepest sizes fs ≤ n
 most-deep sizes n [] h = omega arith
@@ -89,36 +85,36 @@ most-deep sizes n (f ∷ fs) h = max-le (h 0 f refl) (most-deep sizes n fs (λ k
 as-deep : (sizes : List ℕ) (fs : List Field) (k : ℕ) (f : Field) → At fs k f → item_depth sizes f.item ≤ deepest sizes fs
 as-deep sizes [] k f e = absurd (cc)
 as-deep sizes (g ∷ fs) zero f e =
-    let same : g ≡ f = cc in subst (λ (h : Field). item_depth sizes h.item ≤ max (item_depth sizes g.item) (deepest sizes fs)) same (le-max_left (item_depth sizes g.item) (deepest sizes fs))
+    let same : g ≡ f = cc in rw (← same) (le-max_left (item_depth sizes g.item) (deepest sizes fs))
 as-deep sizes (g ∷ fs) (suc k) f e =
-    let inner = as-deep sizes fs k f e in let l = le-max_right (item_depth sizes g.item) (deepest sizes fs) in omega (arith, inner, l)
+    let inner = as-deep sizes fs k f e in let l = le-max_right (item_depth sizes g.item) (deepest sizes fs) in omega arith
 
 module _ (ds : List Desc) where
   own-depth : (i : ℕ) (d : Desc) → At ds i d → depth_at ds i ≡ 1 + deepest (depths ds i) d.fields
   own-depth i d e =
       let there = at-there ds i d no_desc e in
-      first_at (λ earlier d. 1 + deepest earlier d.fields) ds 0 (length ds) i there.0 ∙ ap (λ (x : Desc). 1 + deepest (depths ds i) x.fields) there.1
+      first_at (λ earlier d. 1 + deepest earlier d.fields) ds 0 (length ds) i there.0 ∙ ap (λ x. 1 + deepest (depths ds i) x.fields) there.1
 
   -- the depth of an earlier structure
   earlier-depth : (i j : ℕ) → i < length ds → j < i → get_or (depths ds i) j 0 ≡ depth_at ds j
   earlier-depth i j l e =
-      first_at (λ earlier d. 1 + deepest earlier d.fields) ds 0 i j e ∙ sym (first_at (λ earlier d. 1 + deepest earlier d.fields) ds 0 (length ds) j (omega (arith, l, e)))
+      first_at (λ earlier d. 1 + deepest earlier d.fields) ds 0 i j e ∙ sym (first_at (λ earlier d. 1 + deepest earlier d.fields) ds 0 (length ds) j (omega arith))
 
   later-depth : (i j : ℕ) → i ≤ j → get_or (depths ds i) j 0 ≡ 0
-  later-depth i j l = let long = first_long (λ earlier d. 1 + deepest earlier d.fields) ds i in get_or_past (depths ds i) j 0 (omega (arith, l, long))
+  later-depth i j l = let long = first_long (λ earlier d. 1 + deepest earlier d.fields) ds i in get_or_past (depths ds i) j 0 (omega arith)
 
   pub deep_struct : (n i : ℕ) → i < length ds → UsesOn ds n i → n < depth_at ds i
-  deep_struct zero i l h = let own = own-depth i (get_or ds i no_desc) (there-at ds i no_desc l) in omega (arith, own)
+  deep_struct zero i l h = let own = own-depth i (get_or ds i no_desc) (there-at ds i no_desc l) in omega arith
   deep_struct (suc n) i l h =
       let j = h.0 in
       let uses = h.1 in
       let less = uses.earlier in
-      let inner = deep_struct n j (omega (arith, less, l)) h.2 in
+      let inner = deep_struct n j (omega arith) h.2 in
       let own = own-depth i uses.desc uses.there in
       let same = earlier-depth i j l less in
       let among : item_depth (depths ds i) uses.field.item ≤ deepest (depths ds i) uses.desc.fields = as-deep (depths ds i) uses.desc.fields uses.place uses.field uses.among in
-      let here : get_or (depths ds i) j 0 ≤ deepest (depths ds i) uses.desc.fields = subst (λ (item : Item). item_depth (depths ds i) item ≤ deepest (depths ds i) uses.desc.fields) uses.is among in
-      omega (arith, inner, own, same, here)
+      let here : get_or (depths ds i) j 0 ≤ deepest (depths ds i) uses.desc.fields = rw uses.is at among in
+      omega arith
 
   -- a structure in which uses nest less than n times has depth at most n
   abbrev IsBounded : ℕ → Type 0
@@ -135,13 +131,13 @@ module _ (ds : List Desc) where
           let less : j < i = ltb-true j i before_i in
           let l = (at-there ds i d no_desc there).0 in
           let same = earlier-depth i j l less in
-          let most = before j (get_or ds j no_desc) (there-at ds j no_desc (omega (arith, less, l))) (λ on. h (j, record { desc = d; there = there; place = k; field = f; among = e; is = is; earlier = less }, on)) in
-          omega (arith, same, most)
-      by (inr behind_i) = let past = later-depth i j (grind (arith, nat_tests, behind_i)) in omega (arith, past)
+          let most = before j (get_or ds j no_desc) (there-at ds j no_desc (omega arith)) (λ on. h (j, record { desc = d; there = there; place = k; field = f; among = e; is = is; earlier = less }, on)) in
+          omega arith
+      by (inr behind_i) = let past = later-depth i j (grind (arith, nat_tests, behind_i)) in omega arith
 
   pub shallow_struct : (n i : ℕ) (d : Desc) → At ds i d → (UsesOn ds n i → ⊥) → depth_at ds i ≤ n
   shallow_struct zero i d e h = absurd (h tt)
   shallow_struct (suc n) i d e h =
       let own = own-depth i d e in
       let most = most-deep (depths ds i) n d.fields (λ k f g. bounded-item n i d e (shallow_struct n) h k f g f.item refl) in
-      omega (arith, own, most)
+      omega arith

@@ -37,11 +37,11 @@ none_answers : {X Y : Type 0} (f : ℕ → X → Option Y) (i : ℕ) (xs : List 
 none_answers f i [] h = refl
 none_answers f i (x ∷ xs) h =
     let plus : i + 0 ≡ i = omega arith in
-    both_none (f i x) (first_answer f (suc i) xs) (subst (λ (k : ℕ). f k x ≡ None) plus (h 0 x refl))
-    (none_answers f (suc i) xs (λ j y e. let more : i + suc j ≡ suc i + j = omega arith in subst (λ (k : ℕ). f k y ≡ None) more (h (suc j) y e)))
+    both_none (f i x) (first_answer f (suc i) xs) (rw plus at (h 0 x refl))
+    (none_answers f (suc i) xs (λ j y e. let more : i + suc j ≡ suc i + j = omega arith in rw more at (h (suc j) y e)))
 
 from_zero : {X Y : Type 0} (f : ℕ → X → Option Y) (xs : List X) → ((j : ℕ) (x : X) → At xs j x → f j x ≡ None) → first_answer f 0 xs ≡ None
-from_zero f xs h = none_answers f 0 xs (λ j x e. let same : j ≡ 0 + j = omega arith in subst (λ (k : ℕ). f k x ≡ None) same (h j x e))
+from_zero f xs h = none_answers f 0 xs (λ j x e. let same : j ≡ 0 + j = omega arith in rw same at (h j x e))
 
 -- ---- devices of one name and instance
 
@@ -54,10 +54,10 @@ any_found p (x ∷ xs) (suc i) e = elim (split (p x) (list_any p (take i xs)) e)
 ]
 
 any_there : {X : Type 0} (p : X → Bool) (xs : List X) (i k : ℕ) (x : X) → k < i → At xs k x → p x ≡ true → list_any p (take i xs) ≡ true
-any_there p xs zero k x lt e t = absurd (omega (arith, lt))
+any_there p xs zero k x lt e t = absurd (omega arith)
 any_there p [] (suc i) k x lt e t = absurd (cc)
-any_there p (y ∷ xs) (suc i) zero x lt e t = let same : x ≡ y = cc in or_left (p y) (list_any p (take i xs)) (subst (λ (z : _). p z ≡ true) same t)
-any_there p (y ∷ xs) (suc i) (suc k) x lt e t = or_right (p y) (list_any p (take i xs)) (any_there p xs i k x (omega (arith, lt)) e t)
+any_there p (y ∷ xs) (suc i) zero x lt e t = let same : x ≡ y = cc in or_left (p y) (list_any p (take i xs)) (rw same at t)
+any_there p (y ∷ xs) (suc i) (suc k) x lt e t = or_right (p y) (list_any p (take i xs)) (any_there p xs i k x (omega arith) e t)
 
 abbrev AreNone : Set → ℕ → Device → Type 0
 AreNone set i d = (j : ℕ) (e : Device) → j < i → At set.devices j e → (e.desc.name ≡ d.desc.name) × (e.instance ≡ d.instance) → ⊥
@@ -112,7 +112,7 @@ struct_on structs i d there c =
       named = (name_decides 100 d.name).0 own.0;
       new = (new_decides (λ e. e.name) structs i d.name).0 own.1.0;
       is = desc_on i d (struct_rules structs i d) c own.1.1.0 limits.0;
-      shallow = λ on. let deep = deep_struct structs 4 i (at-there structs i d d there).0 on in absurd (omega (arith, deep, few));
+      shallow = λ on. let deep = deep_struct structs 4 i (at-there structs i d d there).0 on in absurd (omega arith);
       some = leb-true 1 (length d.fields) own.1.1.1.1.1.1.1.0;
     }
 
@@ -231,9 +231,6 @@ device_back set i d h =
 
 -- ---- the set
 
-abbrev few_parts : Set → Bool
-few_parts set = nat_le (length set.machines) 16 && nat_le (length set.structs) 64 && nat_le (length set.devices) 64
-
 module _ (set : Set) (well : WellFormed set) where
   abbrev first_rules : Option SetFault
   first_rules = failing 1 (set_rules set) (here parts.Set)
@@ -270,7 +267,7 @@ module _ (set : Set) (well : WellFormed set) where
         few_devices = leb-true (length set.devices) 64 few.1;
         structs = λ i d e. struct_on set.structs i d e (struct_clean set well i d e);
         devices = λ i d e. device_on set i d (device_parts set well i d e).0 (λ j s f. sub_on (length set.structs) d j s (sub_clean set well i j d s e f));
-        items = let most = leb-true (devices_items (struct_items set.structs) set.devices) MOST_ITEMS own_size.1.1.1.1.1.1.0 in omega (arith, most, set_counts set set.devices);
+        items = let most = leb-true (devices_items (struct_items set.structs) set.devices) MOST_ITEMS own_size.1.1.1.1.1.1.0 in omega (arith, set_counts set set.devices);
       }
 
 well_formed : (set : Set) → ObeysRules set → WellFormed set
@@ -300,7 +297,7 @@ well_formed set h =
         ),
       ),
     ) in
-    let most : devices_items (struct_items set.structs) set.devices ≤ MOST_ITEMS = let l = h.items in omega (arith, l, set_counts set set.devices) in
+    let most : devices_items (struct_items set.structs) set.devices ≤ MOST_ITEMS = let l = h.items in omega (arith, set_counts set set.devices) in
     let size : AllTrue (size_rules set) =
     (refl, (refl, (refl, (refl, (refl, (refl, (le-leb (devices_items (struct_items set.structs) set.devices) MOST_ITEMS most, (refl, tt)))))))) in
     let structs = first_answer (struct_fault set.structs) 0 set.structs in

@@ -75,7 +75,7 @@ count_decides d i (Counted k n) = (λ e. so e, λ h. back (h k n refl))
         let s = (earlier_decides d i k).0 both.0 in
         let here : (steady : IsEarlier d i k) × IsCounting steady.1.field.item = (s, (counting_decides s.1.field.item).0 (sym (item_at s.1) ∙ both.1)) in
         let is : k ≡ by = cc in
-        subst (λ (m : ℕ). (steady : IsEarlier d i m) × IsCounting steady.1.field.item) is here
+        rw is at here
 
     back : ((steady : IsEarlier d i k) × IsCounting steady.1.field.item) → count_names_well d i (Counted k n) ≡ true
     back h = and_from (is_earlier_in d i k) (is_counting (slice_get d.fields k)) ((earlier_decides d i k).1 h.0) (item_at h.0.1 ∙ (counting_decides h.0.1.field.item).1 h.1)
@@ -85,14 +85,14 @@ uses_decides k (Num kind) = (λ e j same. absurd (cc), λ h. refl)
 uses_decides k (Equal kind z) = (λ e j same. absurd (cc), λ h. refl)
 uses_decides k (Unused n) = (λ e j same. absurd (cc), λ h. refl)
 uses_decides k (Struct i) =
-    (λ e j same. let is : i ≡ j = cc in subst (λ (n : ℕ). n < k) is ((Decides-ltb i k).0 e), λ h. (Decides-ltb i k).1 (h i refl))
+    (λ e j same. let is : i ≡ j = cc in subst (λ n. n < k) is ((Decides-ltb i k).0 e), λ h. (Decides-ltb i k).1 (h i refl))
 
 unused_decides : (item : Item) → Decides (is_small_item item) ((n : ℕ) → item ≡ Unused n → IsWithin 1 MOST_UNUSED n)
 unused_decides (Num kind) = (λ e n same. absurd (cc), λ h. refl)
 unused_decides (Equal kind z) = (λ e n same. absurd (cc), λ h. refl)
 unused_decides (Struct j) = (λ e n same. absurd (cc), λ h. refl)
 unused_decides (Unused m) =
-    (λ e n same. let is : m ≡ n = cc in subst (λ (k : ℕ). IsWithin 1 MOST_UNUSED k) is ((within_decides 1 MOST_UNUSED m).0 e), λ h. (within_decides 1 MOST_UNUSED m).1 (h m refl))
+    (λ e n same. let is : m ≡ n = cc in subst (λ k. IsWithin 1 MOST_UNUSED k) is ((within_decides 1 MOST_UNUSED m).0 e), λ h. (within_decides 1 MOST_UNUSED m).1 (h m refl))
 
 good_count_decides : (item : Item) (c : Count) → Decides (has_good_count item c) (CountFits item c)
 good_count_decides (Equal kind z) c = one_decides c
@@ -115,8 +115,7 @@ range_decides kind z = (ranges kind z, ranged kind z)
 default_decides : (item : Item) (z : ℤ) → Decides (defaults_well item z) (DefaultFits item z)
 default_decides (Num kind) z = range_decides kind z
 default_decides (Equal kind y) z = Decides-and (in_range kind y) (same_number z (pos 0)) (range_decides kind y) (zero_decides z)
-default_decides (Unused n) z = zero_decides z
-default_decides (Struct j) z = zero_decides z
+default_decides _ z = zero_decides z
 
 -- a property of the capacities of the arrays that field i counts
 module _ (P : ℕ → Type 0) (i : ℕ) where
@@ -134,7 +133,7 @@ module _ (P : ℕ → Type 0) (i : ℕ) where
   pick-on f fs by most false e h = (λ m same. let is : by ≡ i = cc in absurd (never (sym e ∙ eq-eqb by i is)), h)
 
   pick-back : (f : Field) (fs : List Field) (by most : ℕ) (b : Bool) → (by == i) ≡ b → OfOne (Counted by most) → AllByRecursion P (counted i fs) → AllByRecursion P ((if b then most ∷ [] else []) ++ counted i fs)
-  pick-back f fs by most true e one h = (one most (ap (λ (n : ℕ). Counted n most) (eqb-true by i e)), h)
+  pick-back f fs by most true e one h = (one most (ap (λ n. Counted n most) (eqb-true by i e)), h)
   pick-back f fs by most false e one h = h
 
   first-on : (c : Count) (f : Field) (fs : List Field) → AllByRecursion P (counted i (of_count c f ∷ fs)) → OfOne c × AllByRecursion P (counted i fs)

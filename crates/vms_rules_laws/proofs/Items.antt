@@ -19,15 +19,15 @@ items_append (x ∷ xs) ys = omega (arith, items_append xs ys)
 
 items_behind : (step : ℕ × ℕ) (text : List ℕ) (c p : Bool) (xs : List Element) → items_among (map (behind step text c p) xs) ≡ items_among xs
 items_behind step text c p [] = refl
-items_behind step text c p (x ∷ xs) = ap (λ (n : ℕ). item_number x.what + n) (items_behind step text c p xs)
+items_behind step text c p (x ∷ xs) = ap (λ n. item_number x.what + n) (items_behind step text c p xs)
 
 items_dotted : (xs : List Element) → items_among (map dotted xs) ≡ items_among xs
 items_dotted [] = refl
-items_dotted (x ∷ xs) = ap (λ (n : ℕ). item_number x.what + n) (items_dotted xs)
+items_dotted (x ∷ xs) = ap (λ n. item_number x.what + n) (items_dotted xs)
 
 items_absent : (xs : List Element) → items_among (map absent xs) ≡ items_among xs
 items_absent [] = refl
-items_absent (x ∷ xs) = ap (λ (n : ℕ). item_number x.what + n) (items_absent xs)
+items_absent (x ∷ xs) = ap (λ n. item_number x.what + n) (items_absent xs)
 
 -- each structure's elements have the number of items that its size says
 abbrev AreCounted : List Shape → List ℕ → Type 0
@@ -48,7 +48,7 @@ module _ (ss : List Shape) (sizes : List ℕ) (good : AreCounted ss sizes) where
       let later = array_elements f stand part step (suc e) n (at + step) in
       let own = items_behind (stand.number, e) (f.name ++ index_text f.count e) (nat_lt e stand.count) (stand.there && nat_lt e stand.count) (part at) ∙ h at in
       let rest = array_counts f stand part size h step (suc e) n (at + step) in
-      items_append here later ∙ omega (arith, own, rest, suc-mul n size)
+      items_append here later ∙ omega (arith, suc-mul n size)
 
   field_counts : (fields : List Field) (v : ℕ) (own : ℕ → ℕ) (n : List ℤ) (i at : ℕ) (f : Field) → items_among (field_elements ss fields v own n i at f) ≡ capacity_of f.count * item_count sizes f.item
   field_counts fields v own n i at f =
@@ -69,7 +69,7 @@ module _ (ss : List Shape) (sizes : List ℕ) (good : AreCounted ss sizes) where
       let end = single (at + length (desc_cells (cells_in ss) d)) (Rule (all_hold d.validate v own)) in
       let all = items_append fields (end ∷ []) in
       let each = fields_count d.fields v own n 0 at d.fields in
-      omega (arith, all, each)
+      omega arith
 
 are_counted : (ds : List Desc) (k : ℕ) → AreCounted (first shape ds k) (first (λ sizes d. items_in sizes d.fields) ds k)
 unfolding first
@@ -94,7 +94,7 @@ module _ (set : Set) where
       let all = items_append here later in
       let own = items_absent (elements_in set s.desc s.desc.version n at) ∙ part_counts s.desc s.desc.version n at in
       let rest = subs_count subs n next in
-      omega (arith, all, own, rest)
+      omega arith
 
   pub set_counts : (devices : List Device) → items_of set devices ≡ devices_items (struct_items set.structs) devices
   set_counts [] = refl
@@ -106,4 +106,4 @@ module _ (set : Set) where
       let here = part_counts d.desc image.version image.numbers 0 in
       let later = subs_count d.subs image.numbers (own_cells set d) in
       let rest = set_counts devices in
-      omega (arith, all, here, later, rest)
+      omega arith

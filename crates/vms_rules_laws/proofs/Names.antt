@@ -62,7 +62,7 @@ sub_name_decides device name = (parts, back)
         let front : take n name ≡ device ++ 47 ∷ [] = (bytes_eq-Decides (take n name) (device ++ 47 ∷ [])).0 both.0 in
         record {
           tail = drop n name;
-          is = sym (take-append-drop n name) ∙ ap (λ (l : List ℕ). l ++ drop n name) front ∙ append_assoc device (47 ∷ []) (drop n name);
+          is = sym (take-append-drop n name) ∙ ap (λ l. l ++ drop n name) front ∙ append_assoc device (47 ∷ []) (drop n name);
           named = (name_decides 64 (drop n name)).0 both.1;
         }
 
@@ -72,7 +72,7 @@ sub_name_decides device name = (parts, back)
         let front : take n name ≡ device ++ 47 ∷ [] = ap (take n) whole ∙ take_at (device ++ 47 ∷ []) h.tail n long in
         let rest : drop n name ≡ h.tail = ap (drop n) whole ∙ drop_at (device ++ 47 ∷ []) h.tail n long in
         and_from (bytes_eq (take n name) (device ++ 47 ∷ [])) (is_name 64 (drop n name)) ((bytes_eq-Decides (take n name) (device ++ 47 ∷ [])).1 front)
-        (subst (λ (l : List ℕ). is_name 64 l ≡ true) (sym rest) ((name_decides 64 h.tail).1 h.named))
+        (rw rest ((name_decides 64 h.tail).1 h.named))
 
 -- ---- distinct names
 
@@ -84,15 +84,15 @@ distinct_decides (n ∷ names) =
       λ e. let both = and_parts (not (is_one_of names n)) (are_distinct names) e in apart (none.0 both.0) (later.0 both.1),
       λ h.
           and_from (not (is_one_of names n)) (are_distinct names) (none.1 (λ m. h 0 (suc m.0) n (omega arith) refl m.1))
-          (later.1 (λ j k name lt x y. h (suc j) (suc k) name (omega (arith, lt)) x y)),
+          (later.1 (λ j k name lt x y. h (suc j) (suc k) name (omega arith) x y)),
     )
   where
     apart : (((k : ℕ) × At names k n) → ⊥) → ((j k : ℕ) (name : List ℕ) → j < k → At names j name → At names k name → ⊥)
         → (j k : ℕ) (name : List ℕ) → j < k → At (n ∷ names) j name → At (n ∷ names) k name → ⊥
-    apart none later zero zero name lt x y = omega (arith, lt)
-    apart none later zero (suc k) name lt x y = let same : n ≡ name = cc in none (k, subst (λ (m : List ℕ). At names k m) (sym same) y)
-    apart none later (suc j) zero name lt x y = omega (arith, lt)
-    apart none later (suc j) (suc k) name lt x y = later j k name (omega (arith, lt)) x y
+    apart none later zero zero name lt x y = omega arith
+    apart none later zero (suc k) name lt x y = let same : n ≡ name = cc in none (k, rw same y)
+    apart none later (suc j) zero name lt x y = omega arith
+    apart none later (suc j) (suc k) name lt x y = later j k name (omega arith) x y
 
 -- the names are distinct, and none of them is among the earlier ones
 record AreAllNew (earlier names : List (List ℕ)) : Type 0 where
@@ -108,18 +108,18 @@ all_new_decides (m ∷ names) earlier =
           let both = and_parts (not (is_one_of earlier m)) (are_new (m ∷ earlier) names) e in
           let r = later.0 both.1 in
           record { new = new-so (none.0 both.0) r; once = once-so r },
-      λ h. and_from (not (is_one_of earlier m)) (are_new (m ∷ earlier) names) (none.1 (λ k. h.new k.0 0 m k.1 refl)) (later.1 (record { new = before h; once = λ a b name lt x y. h.once (suc a) (suc b) name (omega (arith, lt)) x y })),
+      λ h. and_from (not (is_one_of earlier m)) (are_new (m ∷ earlier) names) (none.1 (λ k. h.new k.0 0 m k.1 refl)) (later.1 (record { new = before h; once = λ a b name lt x y. h.once (suc a) (suc b) name (omega arith) x y })),
     )
   where
     new-so : (((k : ℕ) × At earlier k m) → ⊥) → AreAllNew (m ∷ earlier) names → (a b : ℕ) (name : List ℕ) → At earlier a name → At (m ∷ names) b name → ⊥
-    new-so none r a zero name x y = let same : m ≡ name = cc in none (a, subst (λ (n : List ℕ). At earlier a n) (sym same) x)
+    new-so none r a zero name x y = let same : m ≡ name = cc in none (a, rw same x)
     new-so none r a (suc b) name x y = r.new (suc a) b name x y
 
     once-so : AreAllNew (m ∷ earlier) names → (a b : ℕ) (name : List ℕ) → a < b → At (m ∷ names) a name → At (m ∷ names) b name → ⊥
-    once-so r zero zero name lt x y = omega (arith, lt)
+    once-so r zero zero name lt x y = omega arith
     once-so r zero (suc b) name lt x y = r.new zero b name x y
-    once-so r (suc a) zero name lt x y = omega (arith, lt)
-    once-so r (suc a) (suc b) name lt x y = r.once a b name (omega (arith, lt)) x y
+    once-so r (suc a) zero name lt x y = omega arith
+    once-so r (suc a) (suc b) name lt x y = r.once a b name (omega arith) x y
 
     before : AreAllNew earlier (m ∷ names) → (a b : ℕ) (name : List ℕ) → At (m ∷ earlier) a name → At names b name → ⊥
     before h zero b name x y = h.once 0 (suc b) name (omega arith) x y
@@ -151,7 +151,7 @@ record IsBefore (fields : List Field) (i : ℕ) (n : List ℕ) : Type 0 where
   named : At (names_of is) name n
 
 later-before : (f : Field) (fs : List Field) (i : ℕ) (n : List ℕ) → IsBefore fs i n → IsBefore (f ∷ fs) (suc i) n
-later-before f fs i n r = record { field = suc r.field; name = r.name; is = r.is; early = omega (arith, r.early); there = r.there; named = r.named }
+later-before f fs i n r = record { field = suc r.field; name = r.name; is = r.is; early = omega arith; there = r.there; named = r.named }
 
 named-before : (fields : List Field) (i a : ℕ) (n : List ℕ) → At (all_names (take i fields)) a n → IsBefore fields i n
 named-before fields zero a n e = absurd (cc)
@@ -167,13 +167,13 @@ first-named f rest zero n e = (0, e)
 first-named f rest (suc c) n e = (suc c, append-left f.former rest c n e)
 
 before-named : (fields : List Field) (i j : ℕ) (g : Field) (c : ℕ) (n : List ℕ) → j < i → At fields j g → At (names_of g) c n → (a : ℕ) × At (all_names (take i fields)) a n
-before-named fields zero j g c n lt there named = absurd (omega (arith, lt))
+before-named fields zero j g c n lt there named = absurd (omega arith)
 before-named [] (suc i) j g c n lt there named = absurd (cc)
 before-named (f ∷ fs) (suc i) zero g c n lt there named =
     let same : f ≡ g = cc in
-    first-named f (all_names (take i fs)) c n (subst (λ (x : Field). At (names_of x) c n) (sym same) named)
+    first-named f (all_names (take i fs)) c n (subst (λ x. At (names_of x) c n) (sym same) named)
 before-named (f ∷ fs) (suc i) (suc j) g c n lt there named =
-    let r = before-named fs i j g c n (omega (arith, lt)) there named in
+    let r = before-named fs i j g c n (omega arith) there named in
     let s = append-later f.former (all_names (take i fs)) r.0 n r.1 in
     (suc s.0, s.1)
 

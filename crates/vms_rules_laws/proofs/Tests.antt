@@ -47,7 +47,7 @@ one_of_decides [] name = (λ e. absurd (never e), λ h. absurd (cc))
 one_of_decides (m ∷ names) name = more (one_of_decides names name)
   where
     found : ((bytes_eq m name ≡ true) ⊎ (is_one_of names name ≡ true)) → Decides (is_one_of names name) ((k : ℕ) × At names k name) → (k : ℕ) × At (m ∷ names) k name
-    found (inl a) later = (0, ap (λ (n : List ℕ). Some n) ((bytes_eq-Decides m name).0 a))
+    found (inl a) later = (0, ap (λ n. Some n) ((bytes_eq-Decides m name).0 a))
     found (inr b) later = let r = later.0 b in (suc r.0, r.1)
 
     there : Decides (is_one_of names name) ((k : ℕ) × At names k name) → (k : ℕ) → At (m ∷ names) k name → is_one_of (m ∷ names) name ≡ true
@@ -65,15 +65,15 @@ mapped f (y ∷ ys) (suc i) zero n e = let same : f y ≡ n = cc in (y, omega ar
 mapped f (y ∷ ys) (suc i) (suc k) n e = let r = mapped f ys i k n e in (r.0, omega (arith, r.1), r.2, r.3)
 
 unmapped : {X : Type 0} (f : X → List ℕ) (xs : List X) (i k : ℕ) (x : X) → k < i → At xs k x → At (map f (take i xs)) k (f x)
-unmapped f xs zero k x lt e = absurd (omega (arith, lt))
+unmapped f xs zero k x lt e = absurd (omega arith)
 unmapped f [] (suc i) k x lt e = absurd (cc)
-unmapped f (y ∷ ys) (suc i) zero x lt e = let same : y ≡ x = cc in ap (λ (z : _). Some (f z)) same
-unmapped f (y ∷ ys) (suc i) (suc k) x lt e = unmapped f ys i k x (omega (arith, lt)) e
+unmapped f (y ∷ ys) (suc i) zero x lt e = let same : y ≡ x = cc in ap (λ z. Some (f z)) same
+unmapped f (y ∷ ys) (suc i) (suc k) x lt e = unmapped f ys i k x (omega arith) e
 
 pub new_decides : {X : Type 0} (f : X → List ℕ) (xs : List X) (i : ℕ) (name : List ℕ) → Decides (not (is_one_of (map f (take i xs)) name)) (IsNew f xs i name)
 new_decides f xs i name =
     let none = Decides-not (is_one_of (map f (take i xs)) name) (one_of_decides (map f (take i xs)) name) in (
-      λ e j x lt there same. none.0 e (j, subst (λ (n : List ℕ). At (map f (take i xs)) j n) same (unmapped f xs i j x lt there)),
+      λ e j x lt there same. none.0 e (j, rw same at (unmapped f xs i j x lt there)),
       λ h. none.1 (λ m. let r = mapped f xs i m.0 name m.1 in h m.0 r.0 r.1 r.2 r.3),
     )
 
@@ -84,21 +84,18 @@ small_decides t = (
   λ e. let both = and_parts (nat_le (nodes t) 64) (nat_le (depth t) 16) e in
       let few = leb-true (nodes t) 64 both.0 in
       let shallow = leb-true (depth t) 16 both.1 in
-      record { few = omega (arith, few, part_count t); shallow = λ nests. let deep = deep_test 16 t nests in absurd (omega (arith, deep, shallow)) },
+      record { few = omega (arith, part_count t); shallow = λ nests. let deep = deep_test 16 t nests in absurd (omega arith) },
   λ h. let few = h.few in
-      and_from (nat_le (nodes t) 64) (nat_le (depth t) 16) (le-leb (nodes t) 64 (omega (arith, few, part_count t))) (le-leb (depth t) 16 (shallow_test 16 t h.shallow)),
+      and_from (nat_le (nodes t) 64) (nat_le (depth t) 16) (le-leb (nodes t) 64 (omega (arith, part_count t))) (le-leb (depth t) 16 (shallow_test 16 t h.shallow)),
 )
 
 numbered : (item : Item) → is_num item ≡ true → (kind : _) × (item ≡ Num kind)
 numbered (Num kind) e = (kind, refl)
-numbered (Equal kind z) e = absurd (never e)
-numbered (Unused n) e = absurd (never e)
-numbered (Struct j) e = absurd (never e)
+numbered _ e = absurd (never e)
 
 single : (c : Count) → is_one c ≡ true → c ≡ One
 single One e = refl
-single (Fixed n) e = absurd (never e)
-single (Counted by most) e = absurd (never e)
+single _ e = absurd (never e)
 
 pub one_decides : (c : Count) → Decides (is_one c) (c ≡ One)
 one_decides c = (single c, λ e. ap is_one e)
@@ -126,8 +123,7 @@ steady_decides d k = (by (slice_get d.fields k) refl, back)
     back : IsSteady d k → is_steady_in d k ≡ true
     back s =
         let f = s.field in
-        subst (λ (o : Option Field). is_steady d.minimum o ≡ true) (sym s.there)
-        (and_from (is_num f.item && is_one f.count && has_no_test f.test) (nat_le f.since d.minimum)
+        rw s.there (and_from (is_num f.item && is_one f.count && has_no_test f.test) (nat_le f.since d.minimum)
         (and_from (is_num f.item && is_one f.count) (has_no_test f.test) (and_from (is_num f.item) (is_one f.count) (ap is_num s.number) (ap is_one s.one)) (ap has_no_test s.untested))
         (le-leb f.since d.minimum s.since))
 
