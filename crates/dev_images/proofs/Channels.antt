@@ -1,17 +1,20 @@
 -- A channel of the timer chip among an image's cells, by the place of its first. Two of its cells
 -- may be absent.
-use Rattle.std.proofs.Common.{◌≡◌, ℕ, zero, suc, ◌==◌, Bool, true, false, not, ◌&&◌, ◌||◌, cond, List, [], ◌∷◌, ◌++◌, get_or, map, ℤ, pos, refl, sym, ap, ◌∙◌, subst}
+use Rattle.std.proofs.Common.{◌≡◌, ℕ, zero, suc, ◌==◌, Bool, true, false, not, ◌&&◌, ◌||◌, cond, List, [], ◌∷◌, ◌++◌, get_or, map, Option, Some, None, ℤ, pos, refl, sym, ap, ◌∙◌, subst}
 use Rattle.std.proofs.lemmas.Bool.{and_parts, and_from, eq-eqb, not-true, or_from}
 use Rattle.std.proofs.Math.Bool.{and-true}
 use Rattle.vms_bodies.proofs.ReadyLaws.{is_same}
 use Rattle.vms_bodies.proofs.SpellLaws.{rules_append}
+use Rattle.vms_fields.specs.Fields.{Row}
+use Rattle.vms_fields.specs.Pit.{channel_rows}
+use Rattle.vms_fields.specs.declared.pit.TheConstants.{WLOW_HELD, WLOW, LATCHED, LATCH}
 use Rattle.vms_kinds.specs.declared.Kind.{Kind}
-use Rattle.vms_kinds.specs.declared.Kind.TheVariants.{U8, U16, U64, Bool as Truth}
 use Rattle.vms_spec.specs.Images.{has_cell, RulesHold}
 use Rattle.vms_spec.specs.Layout.{first, struct_cells, meanings, no_meaning, Cell, Slot, Number, Rule}
 use Rattle.vms_spec.specs.Numbers.{same_number}
 use Rattle.vms_spec.specs.Sets.{Set}
 use Rattle.vms_spec.specs.Shipped.{set_1}
+use Rattle.dev_pit.specs.Cells.{channel_place}
 use Rattle.dev_images.proofs.ChipReady.{needs}
 use Rattle.dev_images.proofs.ReadyOf.{are_kept, kept-left, kept-right, or-lift, has-none}
 
@@ -36,10 +39,12 @@ settled : (there : Bool) (z default : ℤ) → (there ≡ false → z ≡ defaul
 settled true z default off = refl
 settled false z default off = is_same z default (off refl)
 
-has-first : (there : Bool) (at : ℕ) (cell : Cell) (slots : List Slot) → there ≡ true → has_cell (cond there (Number at cell.kind cell.capacities ∷ []) [] ++ slots) at ≡ true
+has-first : (there : Bool) (at : ℕ) (cell : Cell) (slots : List Slot) → there ≡ true
+    → has_cell (cond there (Number at cell.kind cell.capacities ∷ []) [] ++ slots) at ≡ true
 has-first there at cell slots e = rw e (ap (λ b. b || has_cell slots at) (eq-eqb at at refl))
 
-run-kept : (numbers : List ℤ) (at : ℕ) (cells : List (Bool × Cell)) (rest : List Slot) → all_settled numbers at cells ≡ true → are_kept (run_slots at cells rest) numbers at (map (λ c. c.1) cells) ≡ true
+run-kept : (numbers : List ℤ) (at : ℕ) (cells : List (Bool × Cell)) (rest : List Slot) → all_settled numbers at cells ≡ true
+    → are_kept (run_slots at cells rest) numbers at (map (λ c. c.1) cells) ≡ true
 run-kept numbers at [] rest e = refl
 run-kept numbers at (c ∷ cells) rest e =
     let p = and_parts (c.0 || same_number (get_or numbers at (pos 0)) c.1.default) (all_settled numbers (suc at) cells) e in
@@ -52,7 +57,8 @@ run-rules at [] rest h = h
 run-rules at ((true, cell) ∷ cells) rest h = run-rules (suc at) cells rest h
 run-rules at ((false, cell) ∷ cells) rest h = run-rules (suc at) cells rest h
 
-run-none : (at : ℕ) (cells : List (Bool × Cell)) (rest : List Slot) (k : ℕ) → none_at at cells k ≡ true → has_cell rest k ≡ false → has_cell (run_slots at cells rest) k ≡ false
+run-none : (at : ℕ) (cells : List (Bool × Cell)) (rest : List Slot) (k : ℕ) → none_at at cells k ≡ true → has_cell rest k ≡ false
+    → has_cell (run_slots at cells rest) k ≡ false
 run-none at [] rest k e out = out
 run-none at ((true, cell) ∷ cells) rest k e out =
     let p = and_parts (not ((at == k) && true)) (none_at (suc at) cells k) e in
@@ -62,6 +68,13 @@ run-none at ((false, cell) ∷ cells) rest k e out =
 
 -- ---- a channel
 
+-- The places of the first cells of the second and the third channel.
+abbrev pub second_at : ℕ
+second_at = channel_place 1
+
+abbrev pub third_at : ℕ
+third_at = channel_place 2
+
 -- The place a number of cells after another.
 abbrev pub behind : ℕ → ℕ → ℕ
 behind zero at = at
@@ -70,17 +83,19 @@ behind (suc n) at = behind n (suc at)
 abbrev plain : Kind → Cell
 plain kind = record { kind = kind; capacities = []; default = pos 0 }
 
--- Its cells: the ninth and the last are in the bytes if the flag before them is set.
+-- Whether a field is in the bytes: the flag that holds it, if there is one, is set.
+abbrev is_there : List ℤ → ℕ → Option ℕ → Bool
+is_there numbers at None = true
+is_there numbers at (Some flag) = needs (get_or numbers (behind flag at) (pos 0))
+
+-- Its cells, each with whether it is in the bytes.
 abbrev pub channel : List ℤ → ℕ → List (Bool × Cell)
-channel numbers at =
-    (true, plain U16) ∷ (true, plain U8) ∷ (true, plain U8) ∷ (true, plain Truth) ∷ (true, plain Truth) ∷ (true, plain U64) ∷ (true, plain Truth)
-    ∷ (true, plain Truth) ∷ (needs (get_or numbers (behind 7 at) (pos 0)), plain U8)
-    ∷ (true, plain Truth) ∷ (needs (get_or numbers (behind 9 at) (pos 0)), plain U16) ∷ []
+channel numbers at = map (λ (row : Row). (is_there numbers at row.shape.held_by, plain row.shape.kind)) channel_rows
 
 -- These two are 0 if their flags are clear.
 pub record IsKeptAt (numbers : List ℤ) (at : ℕ) : Type 0 where
-  pub wlow : needs (get_or numbers (behind 7 at) (pos 0)) ≡ false → get_or numbers (behind 8 at) (pos 0) ≡ pos 0
-  pub latch : needs (get_or numbers (behind 9 at) (pos 0)) ≡ false → get_or numbers (behind 10 at) (pos 0) ≡ pos 0
+  pub wlow : needs (get_or numbers (behind WLOW_HELD at) (pos 0)) ≡ false → get_or numbers (behind WLOW at) (pos 0) ≡ pos 0
+  pub latch : needs (get_or numbers (behind LATCHED at) (pos 0)) ≡ false → get_or numbers (behind LATCH at) (pos 0) ≡ pos 0
 
 -- Its slots in a set.
 abbrev pub slots_in : Set → List ℤ → ℕ → List Slot
@@ -98,18 +113,21 @@ pub record IsFine (set : Set) (numbers : List ℤ) (at : ℕ) : Type 0 where
   pub kept : are_kept (slots_in set numbers at) numbers at channel_cells ≡ true
   pub rules : RulesHold (slots_in set numbers at)
 
-pub channel-fine : (set : Set) (numbers : List ℤ) (at : ℕ) (last : Slot) → IsChannel set numbers at last → RulesHold (last ∷ []) → IsKeptAt numbers at → IsFine set numbers at
+pub channel-fine : (set : Set) (numbers : List ℤ) (at : ℕ) (last : Slot) → IsChannel set numbers at last → RulesHold (last ∷ []) → IsKeptAt numbers at
+    → IsFine set numbers at
 unfolding first
 channel-fine set numbers at last is rules k =
     let slots = run_slots at (channel numbers at) (last ∷ []) in
     let each = and_from _ _ (settled _ _ (pos 0) k.wlow) (and_from _ _ (settled _ _ (pos 0) k.latch) refl) in
     record {
-      kept = ap (λ (s : List Slot). are_kept s numbers at channel_cells) is ∙ kept-left slots (Rule true ∷ []) numbers at channel_cells (run-kept numbers at (channel numbers at) (last ∷ []) each);
+      kept = ap (λ (s : List Slot). are_kept s numbers at channel_cells) is
+          ∙ kept-left slots (Rule true ∷ []) numbers at channel_cells (run-kept numbers at (channel numbers at) (last ∷ []) each);
       rules = subst RulesHold (sym is) (rules_append slots (Rule true ∷ []) (run-rules at (channel numbers at) (last ∷ []) rules) (refl, tt));
     }
 
 -- It has no cell that isn't its own, nor its own absent ones.
-pub channel-none : (set : Set) (numbers : List ℤ) (at : ℕ) (last : Slot) (k : ℕ) → IsChannel set numbers at last → has_cell (last ∷ []) k ≡ false → none_at at (channel numbers at) k ≡ true → has_cell (slots_in set numbers at) k ≡ false
+pub channel-none : (set : Set) (numbers : List ℤ) (at : ℕ) (last : Slot) (k : ℕ) → IsChannel set numbers at last → has_cell (last ∷ []) k ≡ false
+    → none_at at (channel numbers at) k ≡ true → has_cell (slots_in set numbers at) k ≡ false
 channel-none set numbers at last k is out none =
     ap (λ (s : List Slot). has_cell s k) is
     ∙ has-none (run_slots at (channel numbers at) (last ∷ [])) (Rule true ∷ []) k (run-none at (channel numbers at) (last ∷ []) k none out) refl

@@ -1,6 +1,7 @@
 -- Normal images of the newest set have the cells that a restore of a board requires.
-use Rattle.std.proofs.Common.{◌≡◌, ℕ, zero, suc, ◌+◌, ◌*◌, ◌<◌, ◌≤◌, true, false, ◌==◌, List, ◌∷◌, ◌++◌, get_or, map, Option, ℤ, pos, negsuc, refl, sym, ap, ◌∙◌, subst, arith, []}
+use Rattle.std.proofs.Common.{◌≡◌, ℕ, zero, suc, ◌+◌, ◌<◌, ◌≤◌, true, false, ◌==◌, List, ◌∷◌, ◌++◌, get_or, map, Option, ℤ, pos, negsuc, refl, sym, ap, ◌∙◌, subst, arith, []}
 use Rattle.std.proofs.lemmas.Int.{ints}
+use Rattle.vms_fields.specs.declared.pit.TheConstants.{WLOW_HELD, WLOW, LATCHED, LATCH, STATUS_LATCHED, CELLS}
 use Rattle.vms_kinds.specs.Codes.{InRange}
 use Rattle.vms_kinds.specs.declared.Kind.{Kind}
 use Rattle.vms_kinds.specs.declared.Kind.TheVariants.{Bool as Truth}
@@ -9,12 +10,12 @@ use Rattle.vms_spec.specs.Layout.{Cell, no_cell, first, device_cells, Slot, Rule
 use Rattle.dev_base.specs.declared.limits.TheConstants.{NEWEST}
 use Rattle.vms_desc.specs.Formed.{shipped_set}
 use Rattle.vms_spec.specs.Shipped.{set_2, timer, i8259_at_4, i8254_at_2}
-use Rattle.dev_base.specs.Cells.{AreOf, kind_at, nat_of}
+use Rattle.dev_base.specs.Cells.{AreOf, kind_at, nat_of, flag_at, number_at}
 use Rattle.dev_board.specs.Saved.{timer_kinds}
 use Rattle.dev_pic.specs.Cells.{kinds as pic_kinds}
-use Rattle.dev_pit.specs.Cells.{AreCellsOf}
+use Rattle.dev_pit.specs.Cells.{AreCellsOf, channel_place}
 use Rattle.dev_images.proofs.ChipReady.{needs}
-use Rattle.dev_images.proofs.Channels.{channel, none_at, channel-none, slots_in}
+use Rattle.dev_images.proofs.Channels.{channel, second_at, third_at, none_at, channel-none, slots_in}
 use Rattle.dev_images.proofs.PitReady.{chip_slots, status_slots, no_gate}
 use Rattle.dev_images.proofs.ReadyOf.{kind-of, count-of, has-none, before-none}
 
@@ -25,7 +26,8 @@ of-kinds cells numbers fit =
     let long = fit.long in
     record {
       count = omega (arith, count, long);
-      in_range = λ place lt. subst (λ (kind : Kind). InRange kind (get_or numbers place (pos 0))) (sym (kind-of cells place)) (fit.fits place (omega (arith, count, lt))).0;
+      in_range = λ place lt. subst (λ (kind : Kind). InRange kind (get_or numbers place (pos 0))) (sym (kind-of cells place))
+          (fit.fits place (omega (arith, count, lt))).0;
     }
 
 pub timer-of : (image : Image) → IsNormal (shipped_set NEWEST) timer image → AreOf timer_kinds image.numbers
@@ -39,10 +41,12 @@ chip-of instance image n = of-kinds (device_cells (shipped_set NEWEST) (i8259_at
 -- ---- the timer chip
 
 -- If a cell is in no channel's slots and not in those that follow, it is in none of a chip's slots.
-chip-none : (a b c rest : List Slot) (k : ℕ) → has_cell a k ≡ false → has_cell b k ≡ false → has_cell c k ≡ false → has_cell rest k ≡ false → has_cell (chip_slots a b c rest) k ≡ false
+chip-none : (a b c rest : List Slot) (k : ℕ) → has_cell a k ≡ false → has_cell b k ≡ false → has_cell c k ≡ false → has_cell rest k ≡ false
+    → has_cell (chip_slots a b c rest) k ≡ false
 chip-none a b c rest k p q r s =
     has-none (((a ++ (b ++ (c ++ []))) ++ rest) ++ Rule true ∷ []) [] k
-    (has-none ((a ++ (b ++ (c ++ []))) ++ rest) (Rule true ∷ []) k (has-none (a ++ (b ++ (c ++ []))) rest k (has-none a (b ++ (c ++ [])) k p (has-none b (c ++ []) k q (has-none c [] k r refl))) s) refl) refl
+    (has-none ((a ++ (b ++ (c ++ []))) ++ rest) (Rule true ∷ []) k
+    (has-none (a ++ (b ++ (c ++ []))) rest k (has-none a (b ++ (c ++ [])) k p (has-none b (c ++ []) k q (has-none c [] k r refl))) s) refl) refl
 
 -- A clear flag.
 flag-off : (z : ℤ) → InRange Truth z → (nat_of z == 1) ≡ false → needs z ≡ false
@@ -54,14 +58,15 @@ flag-off (negsuc n) r e = absurd (let least = r.0 in omega (arith, ints, least))
 -- The slots of an image of the chip, at either version.
 record HasSlots (numbers : List ℤ) (slots : List Slot) : Type 0 where
   rest : List Slot
-  same : slots ≡ chip_slots (slots_in set_2 numbers 0) (slots_in set_2 numbers 11) (slots_in set_2 numbers 22) rest
-  none : (k : ℕ) → k < 33 → has_cell rest k ≡ false
+  same : slots ≡ chip_slots (slots_in set_2 numbers 0) (slots_in set_2 numbers second_at) (slots_in set_2 numbers third_at) rest
+  none : (k : ℕ) → k < STATUS_LATCHED → has_cell rest k ≡ false
 
-slots-at : (v : ℕ) (came : List (Option ℕ)) (numbers : List ℤ) → 1 ≤ v → v ≤ 2 → AreVersionsOf [] came → HasSlots numbers (image_slots (shipped_set NEWEST) i8254_at_2 (record { version = v; came = came; numbers = numbers }))
+slots-at : (v : ℕ) (came : List (Option ℕ)) (numbers : List ℤ) → 1 ≤ v → v ≤ 2 → AreVersionsOf [] came
+    → HasSlots numbers (image_slots (shipped_set NEWEST) i8254_at_2 (record { version = v; came = came; numbers = numbers }))
 unfolding first
 slots-at zero came numbers l h a = absurd (omega (arith, l))
 slots-at (suc zero) [] numbers l h a = record { rest = []; same = refl; none = λ k lt. refl }
-slots-at (suc (suc zero)) [] numbers l h a = record { rest = status_slots; same = refl; none = λ k lt. before-none 33 39 status_slots k refl lt }
+slots-at (suc (suc zero)) [] numbers l h a = record { rest = status_slots; same = refl; none = λ k lt. before-none STATUS_LATCHED CELLS status_slots k refl lt }
 slots-at (suc (suc (suc v))) came numbers l h a = absurd (omega (arith, h))
 slots-at v (o ∷ came) numbers l h a = absurd a
 
@@ -75,33 +80,38 @@ module _ (image : Image) (n : IsNormal (shipped_set NEWEST) i8254_at_2 image) wh
   slots : HasSlots numbers (image_slots (shipped_set NEWEST) i8254_at_2 image)
   slots = slots-at image.version image.came numbers n.version.0 n.version.1 n.subs
 
-  truth : (place : ℕ) → place < 39 → kind_at (map (λ cell. cell.kind) (device_cells (shipped_set NEWEST) i8254_at_2)) place ≡ Truth → InRange Truth (get_or numbers place (pos 0))
+  truth : (place : ℕ) → place < CELLS → kind_at (map (λ cell. cell.kind) (device_cells (shipped_set NEWEST) i8254_at_2)) place ≡ Truth
+      → InRange Truth (get_or numbers place (pos 0))
   unfolding first
   truth place lt e = subst (λ (kind : Kind). InRange kind (get_or numbers place (pos 0))) e (kinds.in_range place (omega (arith, lt)))
 
   -- A cell that no channel has is at its default, 0.
-  lacks : (k : ℕ) → k < 33 → (get_or (device_cells (shipped_set NEWEST) i8254_at_2) k no_cell).default ≡ pos 0 → none_at 0 (channel numbers 0) k ≡ true → none_at 11 (channel numbers 11) k ≡ true → none_at 22 (channel numbers 22) k ≡ true → nat_of (get_or numbers k (pos 0)) ≡ 0
+  lacks : (k : ℕ) → k < STATUS_LATCHED → (get_or (device_cells (shipped_set NEWEST) i8254_at_2) k no_cell).default ≡ pos 0
+      → none_at 0 (channel numbers 0) k ≡ true → none_at second_at (channel numbers second_at) k ≡ true → none_at third_at (channel numbers third_at) k ≡ true
+      → nat_of (get_or numbers k (pos 0)) ≡ 0
   unfolding first
   lacks k lt d a b c =
       let long = n.cells.long in
-      let none = chip-none (slots_in set_2 numbers 0) (slots_in set_2 numbers 11) (slots_in set_2 numbers 22) slots.rest k
-      (channel-none set_2 numbers 0 no_gate k refl refl a) (channel-none set_2 numbers 11 no_gate k refl refl b) (channel-none set_2 numbers 22 no_gate k refl refl c) (slots.none k lt) in
+      let none = chip-none (slots_in set_2 numbers 0) (slots_in set_2 numbers second_at) (slots_in set_2 numbers third_at) slots.rest k
+      (channel-none set_2 numbers 0 no_gate k refl refl a) (channel-none set_2 numbers second_at no_gate k refl refl b)
+      (channel-none set_2 numbers third_at no_gate k refl refl c) (slots.none k lt) in
       ap nat_of (n.absent k (omega (arith, lt, long)) (ap (λ (s : List Slot). has_cell s k) slots.same ∙ none) ∙ d)
 
-  off : (place : ℕ) → place < 39 → kind_at (map (λ cell. cell.kind) (device_cells (shipped_set NEWEST) i8254_at_2)) place ≡ Truth → (nat_of (get_or numbers place (pos 0)) == 1) ≡ false → needs (get_or numbers place (pos 0)) ≡ false
+  off : (place : ℕ) → place < CELLS → kind_at (map (λ cell. cell.kind) (device_cells (shipped_set NEWEST) i8254_at_2)) place ≡ Truth
+      → (nat_of (get_or numbers place (pos 0)) == 1) ≡ false → needs (get_or numbers place (pos 0)) ≡ false
   off place lt kind e = flag-off _ (truth place lt kind) e
 
   pub pit-of : AreCellsOf NEWEST numbers
   unfolding first
   pit-of = record { of_kinds = kinds; wlow = wlow; latch = latch } where
-    wlow : (k : ℕ) → k < 3 → (nat_of (get_or numbers (11 * k + 7) (pos 0)) == 1) ≡ false → nat_of (get_or numbers (11 * k + 8) (pos 0)) ≡ 0
-    wlow zero lt e = lacks 8 (omega arith) refl (rw (off 7 (omega arith) refl e) refl) refl refl
-    wlow (suc zero) lt e = lacks 19 (omega arith) refl refl (rw (off 18 (omega arith) refl e) refl) refl
-    wlow (suc (suc zero)) lt e = lacks 30 (omega arith) refl refl refl (rw (off 29 (omega arith) refl e) refl)
+    wlow : (k : ℕ) → k < 3 → flag_at numbers (channel_place k + WLOW_HELD) ≡ false → number_at numbers (channel_place k + WLOW) ≡ 0
+    wlow zero lt e = lacks WLOW (omega arith) refl (rw (off WLOW_HELD (omega arith) refl e) refl) refl refl
+    wlow (suc zero) lt e = lacks (second_at + WLOW) (omega arith) refl refl (rw (off (second_at + WLOW_HELD) (omega arith) refl e) refl) refl
+    wlow (suc (suc zero)) lt e = lacks (third_at + WLOW) (omega arith) refl refl refl (rw (off (third_at + WLOW_HELD) (omega arith) refl e) refl)
     wlow (suc (suc (suc k))) lt e = absurd (omega (arith, lt))
 
-    latch : (k : ℕ) → k < 3 → (nat_of (get_or numbers (11 * k + 9) (pos 0)) == 1) ≡ false → nat_of (get_or numbers (11 * k + 10) (pos 0)) ≡ 0
-    latch zero lt e = lacks 10 (omega arith) refl (rw (off 9 (omega arith) refl e) refl) refl refl
-    latch (suc zero) lt e = lacks 21 (omega arith) refl refl (rw (off 20 (omega arith) refl e) refl) refl
-    latch (suc (suc zero)) lt e = lacks 32 (omega arith) refl refl refl (rw (off 31 (omega arith) refl e) refl)
+    latch : (k : ℕ) → k < 3 → flag_at numbers (channel_place k + LATCHED) ≡ false → number_at numbers (channel_place k + LATCH) ≡ 0
+    latch zero lt e = lacks LATCH (omega arith) refl (rw (off LATCHED (omega arith) refl e) refl) refl refl
+    latch (suc zero) lt e = lacks (second_at + LATCH) (omega arith) refl refl (rw (off (second_at + LATCHED) (omega arith) refl e) refl) refl
+    latch (suc (suc zero)) lt e = lacks (third_at + LATCH) (omega arith) refl refl refl (rw (off (third_at + LATCHED) (omega arith) refl e) refl)
     latch (suc (suc (suc k))) lt e = absurd (omega (arith, lt))

@@ -1,6 +1,7 @@
 -- The cells of the timer chip are carried as its own table says.
-use Rattle.std.proofs.Common.{◌≡◌, ℕ, ◌==◌, Bool, true, false, cond, List, [], ◌∷◌, ◌++◌, get_or, ℤ, pos, negsuc, ◌≤ℤ◌, refl, sym, ap, ◌∙◌, arith}
+use Rattle.std.proofs.Common.{◌≡◌, ℕ, zero, suc, ◌+◌, ◌==◌, Bool, true, false, cond, List, [], ◌∷◌, ◌++◌, get_or, ℤ, pos, negsuc, ◌≤ℤ◌, refl, sym, ap, ◌∙◌, arith}
 use Rattle.std.proofs.lemmas.Int.{ints}
+use Rattle.vms_fields.specs.declared.pit.TheConstants.{COUNTERS, WLOW_HELD, WLOW, LATCHED, LATCH, STATUS_LATCHED, STATUS}
 use Rattle.vms_kinds.specs.Codes.{InRange}
 use Rattle.vms_kinds.specs.declared.Item.TheVariants.{Num}
 use Rattle.vms_kinds.specs.declared.Kind.{Kind}
@@ -16,7 +17,7 @@ use Rattle.dev_pit.specs.Cells.{AreCellsOf, carried as pit_carried}
 use Rattle.dev_images.specs.Laws.{carried_numbers, PitIsCarried}
 use Rattle.vms_check.specs.Comparing.{same_kind}
 use Rattle.dev_images.proofs.ChipReady.{needs, unneeded}
-use Rattle.dev_images.proofs.Channels.{behind, IsKeptAt}
+use Rattle.dev_images.proofs.Channels.{behind, second_at, third_at, IsKeptAt}
 
 -- A channel of the newest set from one of older sets.
 abbrev channel_in : Set → List ℤ → ℕ → List ℤ
@@ -28,29 +29,34 @@ abbrev may_lack : Set → List ℤ → Kind → Bool → ℕ → List ℤ
 may_lack old numbers kind there at =
     carry_items [] (struct_cells old) (struct_cells (shipped_set NEWEST)) numbers (Num kind) (Num kind) (pos 0 ∷ []) 1 (cond there 1 0) 1 at
 
-may_lack-is : (old : Set) (numbers : List ℤ) (kind : Kind) (there : Bool) (at : ℕ) → same_kind kind kind ≡ true → (there ≡ false → get_or numbers at (pos 0) ≡ pos 0) → may_lack old numbers kind there at ≡ get_or numbers at (pos 0) ∷ []
+may_lack-is : (old : Set) (numbers : List ℤ) (kind : Kind) (there : Bool) (at : ℕ) → same_kind kind kind ≡ true
+    → (there ≡ false → get_or numbers at (pos 0) ≡ pos 0) → may_lack old numbers kind there at ≡ get_or numbers at (pos 0) ∷ []
 may_lack-is old numbers kind true at e off = rw e refl
 may_lack-is old numbers kind false at e off = ap (λ z. z ∷ []) (sym (off refl))
 
+-- The numbers of `n` cells from a place on.
+abbrev run : ℕ → List ℤ → ℕ → List ℤ
+run zero numbers at = []
+run (suc n) numbers at = get_or numbers at (pos 0) ∷ run n numbers (suc at)
+
 -- A channel that is carried number by number, except these two.
 abbrev lacking : List ℤ → ℕ → List ℤ → List ℤ → List ℤ
-lacking numbers at wlow latch =
-    get_or numbers at (pos 0) ∷ get_or numbers (behind 1 at) (pos 0) ∷ get_or numbers (behind 2 at) (pos 0) ∷ get_or numbers (behind 3 at) (pos 0)
-    ∷ get_or numbers (behind 4 at) (pos 0) ∷ get_or numbers (behind 5 at) (pos 0) ∷ get_or numbers (behind 6 at) (pos 0) ∷ get_or numbers (behind 7 at) (pos 0)
-    ∷ (wlow ++ (get_or numbers (behind 9 at) (pos 0) ∷ (latch ++ [])))
+lacking numbers at wlow latch = run WLOW numbers at ++ (wlow ++ (get_or numbers (behind LATCHED at) (pos 0) ∷ (latch ++ [])))
 
 abbrev plain : List ℤ → ℕ → List ℤ
-plain numbers at = lacking numbers at (get_or numbers (behind 8 at) (pos 0) ∷ []) (get_or numbers (behind 10 at) (pos 0) ∷ [])
+plain numbers at = lacking numbers at (get_or numbers (behind WLOW at) (pos 0) ∷ []) (get_or numbers (behind LATCH at) (pos 0) ∷ [])
 
 abbrev IsLacking : Set → List ℤ → ℕ → Type 0
 IsLacking old numbers at =
-    channel_in old numbers at ≡ lacking numbers at (may_lack old numbers U8 (needs (get_or numbers (behind 7 at) (pos 0))) (behind 8 at)) (may_lack old numbers U16 (needs (get_or numbers (behind 9 at) (pos 0))) (behind 10 at))
+    channel_in old numbers at ≡ lacking numbers at (may_lack old numbers U8 (needs (get_or numbers (behind WLOW_HELD at) (pos 0))) (behind WLOW at))
+    (may_lack old numbers U16 (needs (get_or numbers (behind LATCHED at) (pos 0))) (behind LATCH at))
 
 channel-carried : (old : Set) (numbers : List ℤ) (at : ℕ) → IsLacking old numbers at → IsKeptAt numbers at → channel_in old numbers at ≡ plain numbers at
 channel-carried old numbers at is k =
     is
-    ∙ ap (λ l. lacking numbers at l (may_lack old numbers U16 (needs (get_or numbers (behind 9 at) (pos 0))) (behind 10 at))) (may_lack-is old numbers U8 _ (behind 8 at) refl k.wlow)
-    ∙ ap (λ l. lacking numbers at (get_or numbers (behind 8 at) (pos 0) ∷ []) l) (may_lack-is old numbers U16 _ (behind 10 at) refl k.latch)
+    ∙ ap (λ l. lacking numbers at l (may_lack old numbers U16 (needs (get_or numbers (behind LATCHED at) (pos 0))) (behind LATCH at)))
+    (may_lack-is old numbers U8 _ (behind WLOW at) refl k.wlow)
+    ∙ ap (λ l. lacking numbers at (get_or numbers (behind WLOW at) (pos 0) ∷ []) l) (may_lack-is old numbers U16 _ (behind LATCH at) refl k.latch)
 
 -- An absent number is 0 if its flag is clear.
 off : (flag number : ℤ) → InRange Truth flag → pos 0 ≤ℤ number → ((nat_of flag == 1) ≡ false → nat_of number ≡ 0) → needs flag ≡ false → number ≡ pos 0
@@ -61,51 +67,75 @@ off flag (negsuc n) r l h e = absurd (omega (arith, ints, l))
 abbrev with_channels : List ℤ → List ℤ → List ℤ → List ℤ → List ℤ
 with_channels first second third rest = ((first ++ (second ++ (third ++ []))) ++ rest) ++ []
 
-same-channels : (numbers first second third rest : List ℤ) → first ≡ plain numbers 0 → second ≡ plain numbers 11 → third ≡ plain numbers 22 → with_channels first second third rest ≡ with_channels (plain numbers 0) (plain numbers 11) (plain numbers 22) rest
+same-channels : (numbers first second third rest : List ℤ) → first ≡ plain numbers 0 → second ≡ plain numbers second_at → third ≡ plain numbers third_at
+    → with_channels first second third rest ≡ with_channels (plain numbers 0) (plain numbers second_at) (plain numbers third_at) rest
 same-channels numbers first second third rest a b c =
-    ap (λ l. with_channels l second third rest) a ∙ ap (λ l. with_channels (plain numbers 0) l third rest) b ∙ ap (λ l. with_channels (plain numbers 0) (plain numbers 11) l rest) c
+    ap (λ l. with_channels l second third rest) a ∙ ap (λ l. with_channels (plain numbers 0) l third rest) b
+    ∙ ap (λ l. with_channels (plain numbers 0) (plain numbers second_at) l rest) c
 
 abbrev six_zeros : List ℤ
 six_zeros = pos 0 ∷ pos 0 ∷ pos 0 ∷ pos 0 ∷ pos 0 ∷ pos 0 ∷ []
 
+-- The latched statuses.
 abbrev statuses : List ℤ → List ℤ
-statuses numbers =
-    get_or numbers 33 (pos 0) ∷ get_or numbers 34 (pos 0) ∷ get_or numbers 35 (pos 0) ∷ get_or numbers 36 (pos 0) ∷ get_or numbers 37 (pos 0) ∷ get_or numbers 38 (pos 0) ∷ []
+statuses numbers = run COUNTERS numbers STATUS_LATCHED ++ run COUNTERS numbers STATUS
 
-joined-1 : (numbers : List ℤ) → carried_numbers set_1 i8254_at_1 i8254_at_2 numbers ≡ with_channels (channel_in set_1 numbers 0) (channel_in set_1 numbers 11) (channel_in set_1 numbers 22) six_zeros
+joined-1 : (numbers : List ℤ)
+    → carried_numbers set_1 i8254_at_1 i8254_at_2 numbers ≡ with_channels (channel_in set_1 numbers 0) (channel_in set_1 numbers second_at)
+    (channel_in set_1 numbers third_at) six_zeros
 unfolding first
 joined-1 numbers = refl
 
-joined-2 : (numbers : List ℤ) → carried_numbers set_2 i8254_at_2 i8254_at_2 numbers ≡ with_channels (channel_in set_2 numbers 0) (channel_in set_2 numbers 11) (channel_in set_2 numbers 22) (statuses numbers)
+joined-2 : (numbers : List ℤ)
+    → carried_numbers set_2 i8254_at_2 i8254_at_2 numbers ≡ with_channels (channel_in set_2 numbers 0) (channel_in set_2 numbers second_at)
+    (channel_in set_2 numbers third_at) (statuses numbers)
 unfolding first
 joined-2 numbers = refl
 
-joined-3 : (numbers : List ℤ) → carried_numbers set_3 i8254_at_2 i8254_at_2 numbers ≡ with_channels (channel_in set_2 numbers 0) (channel_in set_2 numbers 11) (channel_in set_2 numbers 22) (statuses numbers)
+joined-3 : (numbers : List ℤ)
+    → carried_numbers set_3 i8254_at_2 i8254_at_2 numbers ≡ with_channels (channel_in set_2 numbers 0) (channel_in set_2 numbers second_at)
+    (channel_in set_2 numbers third_at) (statuses numbers)
 unfolding first
 joined-3 numbers = refl
 
-joined-4 : (numbers : List ℤ) → carried_numbers set_4 i8254_at_2 i8254_at_2 numbers ≡ with_channels (channel_in set_2 numbers 0) (channel_in set_2 numbers 11) (channel_in set_2 numbers 22) (statuses numbers)
+joined-4 : (numbers : List ℤ)
+    → carried_numbers set_4 i8254_at_2 i8254_at_2 numbers ≡ with_channels (channel_in set_2 numbers 0) (channel_in set_2 numbers second_at)
+    (channel_in set_2 numbers third_at) (statuses numbers)
 unfolding first
 joined-4 numbers = refl
 
 -- `wlow` and `latch` of each channel, which are absent if their flags are clear.
 pub record IsKept (numbers : List ℤ) : Type 0 where
   pub first : IsKeptAt numbers 0
-  pub second : IsKeptAt numbers 11
-  pub third : IsKeptAt numbers 22
+  pub second : IsKeptAt numbers second_at
+  pub third : IsKeptAt numbers third_at
 
 pub absent-kept : (set : ℕ) (numbers : List ℤ) → AreCellsOf set numbers → IsKept numbers
 absent-kept set numbers are =
     let range = are.of_kinds.in_range in
     record {
-      first = record { wlow = off _ _ (range 7 (omega arith)) (range 8 (omega arith)).0 (are.wlow 0 (omega arith)); latch = off _ _ (range 9 (omega arith)) (range 10 (omega arith)).0 (are.latch 0 (omega arith)) };
-      second = record { wlow = off _ _ (range 18 (omega arith)) (range 19 (omega arith)).0 (are.wlow 1 (omega arith)); latch = off _ _ (range 20 (omega arith)) (range 21 (omega arith)).0 (are.latch 1 (omega arith)) };
-      third = record { wlow = off _ _ (range 29 (omega arith)) (range 30 (omega arith)).0 (are.wlow 2 (omega arith)); latch = off _ _ (range 31 (omega arith)) (range 32 (omega arith)).0 (are.latch 2 (omega arith)) };
+      first = record {
+        wlow = off _ _ (range WLOW_HELD (omega arith)) (range WLOW (omega arith)).0 (are.wlow 0 (omega arith));
+        latch = off _ _
+            (range LATCHED (omega arith)) (range LATCH (omega arith)).0 (are.latch 0 (omega arith));
+      };
+      second = record {
+        wlow = off _ _ (range (second_at + WLOW_HELD) (omega arith)) (range (second_at + WLOW) (omega arith)).0 (are.wlow 1 (omega arith));
+        latch = off _ _ (range (second_at + LATCHED) (omega arith)) (range (second_at + LATCH) (omega arith)).0 (are.latch 1 (omega arith));
+      };
+      third = record {
+        wlow = off _ _ (range (third_at + WLOW_HELD) (omega arith)) (range (third_at + WLOW) (omega arith)).0 (are.wlow 2 (omega arith));
+        latch = off _ _ (range (third_at + LATCHED) (omega arith)) (range (third_at + LATCH) (omega arith)).0 (are.latch 2 (omega arith));
+      };
     }
 
-channels-carried : (old : Set) (numbers rest : List ℤ) → IsKept numbers → IsLacking old numbers 0 → IsLacking old numbers 11 → IsLacking old numbers 22 → with_channels (channel_in old numbers 0) (channel_in old numbers 11) (channel_in old numbers 22) rest ≡ with_channels (plain numbers 0) (plain numbers 11) (plain numbers 22) rest
+channels-carried : (old : Set) (numbers rest : List ℤ) → IsKept numbers → IsLacking old numbers 0 → IsLacking old numbers second_at
+    → IsLacking old numbers third_at
+    → with_channels (channel_in old numbers 0) (channel_in old numbers second_at) (channel_in old numbers third_at) rest ≡ with_channels (plain numbers 0)
+    (plain numbers second_at) (plain numbers third_at) rest
 channels-carried old numbers rest k a b c =
-    same-channels numbers _ _ _ rest (channel-carried old numbers 0 a k.first) (channel-carried old numbers 11 b k.second) (channel-carried old numbers 22 c k.third)
+    same-channels numbers _ _ _ rest (channel-carried old numbers 0 a k.first) (channel-carried old numbers second_at b k.second)
+    (channel-carried old numbers third_at c k.third)
 
 pit-1 : (numbers : List ℤ) → AreCellsOf 1 numbers → carried_numbers set_1 i8254_at_1 i8254_at_2 numbers ≡ pit_carried 1 numbers
 unfolding first

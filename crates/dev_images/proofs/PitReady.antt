@@ -1,12 +1,13 @@
 -- The image of the timer chip is ready.
 use Rattle.std.proofs.Common.{◌≡◌, ℕ, true, List, ◌∷◌, ◌++◌, ℤ, pos, refl, arith, []}
+use Rattle.vms_fields.specs.declared.pit.TheConstants.{STATUS_LATCHED}
 use Rattle.vms_kinds.specs.declared.Kind.TheVariants.{U8, Bool as Truth}
 use Rattle.vms_spec.specs.Images.{RulesHold}
 use Rattle.vms_spec.specs.Layout.{first, Cell, Slot, Number, Constant, Filler, Rule}
 use Rattle.vms_spec.specs.Shipped.{set_1, set_2, set_3, set_4, i8254_at_1, i8254_at_2}
-use Rattle.dev_pit.specs.Cells.{AreCellsOf}
+use Rattle.dev_pit.specs.Cells.{AreCellsOf, latched_place, status_place}
 use Rattle.dev_images.specs.Laws.{ReadyOf, PitIsReady}
-use Rattle.dev_images.proofs.Channels.{channel_cells, slots_in, channel-fine}
+use Rattle.dev_images.proofs.Channels.{channel_cells, second_at, third_at, slots_in, channel-fine}
 use Rattle.dev_images.proofs.PitCarried.{IsKept, absent-kept}
 use Rattle.dev_images.proofs.ReadyOf.{are_kept, ready-plain, kept-left, kept-right, kept-both}
 use Rattle.vms_bodies.proofs.SpellLaws.{rules_append}
@@ -19,7 +20,8 @@ abbrev chip_cells : List Cell → List Cell
 chip_cells rest = channel_cells ++ (channel_cells ++ (channel_cells ++ rest))
 
 module _ (numbers : List ℤ) (a b c rest : List Slot) where
-  lift : (from : ℕ) (cells : List Cell) → are_kept (a ++ (b ++ (c ++ []))) numbers from cells ≡ true → are_kept (chip_slots a b c rest) numbers from cells ≡ true
+  lift : (from : ℕ) (cells : List Cell) → are_kept (a ++ (b ++ (c ++ []))) numbers from cells ≡ true
+      → are_kept (chip_slots a b c rest) numbers from cells ≡ true
   lift from cells e =
       kept-left (((a ++ (b ++ (c ++ []))) ++ rest) ++ Rule true ∷ []) [] numbers from cells
       (kept-left ((a ++ (b ++ (c ++ []))) ++ rest) (Rule true ∷ []) numbers from cells (kept-left (a ++ (b ++ (c ++ []))) rest numbers from cells e))
@@ -29,21 +31,34 @@ module _ (numbers : List ℤ) (a b c rest : List Slot) where
       kept-left (((a ++ (b ++ (c ++ []))) ++ rest) ++ Rule true ∷ []) [] numbers from cells
       (kept-left ((a ++ (b ++ (c ++ []))) ++ rest) (Rule true ∷ []) numbers from cells (kept-right (a ++ (b ++ (c ++ []))) rest numbers from cells e))
 
-  all-kept : (cells : List Cell) → are_kept a numbers 0 channel_cells ≡ true → are_kept b numbers 11 channel_cells ≡ true → are_kept c numbers 22 channel_cells ≡ true → are_kept rest numbers 33 cells ≡ true → are_kept (chip_slots a b c rest) numbers 0 (chip_cells cells) ≡ true
+  all-kept : (cells : List Cell) → are_kept a numbers 0 channel_cells ≡ true → are_kept b numbers second_at channel_cells ≡ true
+      → are_kept c numbers third_at channel_cells ≡ true → are_kept rest numbers STATUS_LATCHED cells ≡ true
+      → are_kept (chip_slots a b c rest) numbers 0 (chip_cells cells) ≡ true
   unfolding first
   all-kept cells p q r s =
-      kept-both (chip_slots a b c rest) numbers 0 11 channel_cells (channel_cells ++ (channel_cells ++ cells)) refl (lift 0 channel_cells (kept-left a (b ++ (c ++ [])) numbers 0 channel_cells p))
-      (kept-both (chip_slots a b c rest) numbers 11 22 channel_cells (channel_cells ++ cells) refl (lift 11 channel_cells (kept-right a (b ++ (c ++ [])) numbers 11 channel_cells (kept-left b (c ++ []) numbers 11 channel_cells q)))
-      (kept-both (chip_slots a b c rest) numbers 22 33 channel_cells cells refl (lift 22 channel_cells (kept-right a (b ++ (c ++ [])) numbers 22 channel_cells (kept-right b (c ++ []) numbers 22 channel_cells (kept-left c [] numbers 22 channel_cells r))))
-      (lift-rest 33 cells s)))
+      kept-both (chip_slots a b c rest) numbers 0 second_at channel_cells (channel_cells ++ (channel_cells ++ cells)) refl
+      (lift 0 channel_cells (kept-left a (b ++ (c ++ [])) numbers 0 channel_cells p))
+      (kept-both (chip_slots a b c rest) numbers second_at third_at channel_cells (channel_cells ++ cells) refl
+      (lift second_at channel_cells
+      (kept-right a (b ++ (c ++ [])) numbers second_at channel_cells (kept-left b (c ++ []) numbers second_at channel_cells q)))
+      (kept-both (chip_slots a b c rest) numbers third_at STATUS_LATCHED channel_cells cells refl
+      (lift third_at channel_cells
+      (kept-right a (b ++ (c ++ [])) numbers third_at channel_cells
+      (kept-right b (c ++ []) numbers third_at channel_cells (kept-left c [] numbers third_at channel_cells r))))
+      (lift-rest STATUS_LATCHED cells s)))
 
   all-hold : RulesHold a → RulesHold b → RulesHold c → RulesHold rest → RulesHold (chip_slots a b c rest)
   all-hold p q r s =
-      rules_append (((a ++ (b ++ (c ++ []))) ++ rest) ++ Rule true ∷ []) [] (rules_append ((a ++ (b ++ (c ++ []))) ++ rest) (Rule true ∷ []) (rules_append (a ++ (b ++ (c ++ []))) rest (rules_append a (b ++ (c ++ [])) p (rules_append b (c ++ []) q (rules_append c [] r tt))) s) (refl, tt)) tt
+      rules_append (((a ++ (b ++ (c ++ []))) ++ rest) ++ Rule true ∷ []) []
+      (rules_append ((a ++ (b ++ (c ++ []))) ++ rest) (Rule true ∷ [])
+      (rules_append (a ++ (b ++ (c ++ []))) rest (rules_append a (b ++ (c ++ [])) p (rules_append b (c ++ []) q (rules_append c [] r tt))) s)
+      (refl, tt)) tt
 
 -- The statuses of later sets.
 abbrev pub status_slots : List Slot
-status_slots = Number 33 Truth [] ∷ Number 34 Truth [] ∷ Number 35 Truth [] ∷ Number 36 U8 [] ∷ Number 37 U8 [] ∷ Number 38 U8 [] ∷ []
+status_slots =
+    Number (latched_place 0) Truth [] ∷ Number (latched_place 1) Truth [] ∷ Number (latched_place 2) Truth []
+    ∷ Number (status_place 0) U8 [] ∷ Number (status_place 1) U8 [] ∷ Number (status_place 2) U8 [] ∷ []
 
 abbrev status_cells : List Cell
 status_cells =
@@ -63,11 +78,11 @@ unfolding first
 pit-1 numbers are =
     let k = absent-kept 1 numbers are in
     let a = channel-fine set_1 numbers 0 gate refl tt k.first in
-    let b = channel-fine set_1 numbers 11 gate refl tt k.second in
-    let c = channel-fine set_1 numbers 22 gate refl tt k.third in
+    let b = channel-fine set_1 numbers second_at gate refl tt k.second in
+    let c = channel-fine set_1 numbers third_at gate refl tt k.third in
     ready-plain set_1 i8254_at_1 numbers (omega arith) tt are.of_kinds refl
-    (all-kept numbers (slots_in set_1 numbers 0) (slots_in set_1 numbers 11) (slots_in set_1 numbers 22) [] [] a.kept b.kept c.kept refl)
-    (all-hold numbers (slots_in set_1 numbers 0) (slots_in set_1 numbers 11) (slots_in set_1 numbers 22) [] a.rules b.rules c.rules tt)
+    (all-kept numbers (slots_in set_1 numbers 0) (slots_in set_1 numbers second_at) (slots_in set_1 numbers third_at) [] [] a.kept b.kept c.kept refl)
+    (all-hold numbers (slots_in set_1 numbers 0) (slots_in set_1 numbers second_at) (slots_in set_1 numbers third_at) [] a.rules b.rules c.rules tt)
 
 -- Later sets have the same structure, and statuses after the channels.
 module _ (numbers : List ℤ) (k : IsKept numbers) where
@@ -75,22 +90,24 @@ module _ (numbers : List ℤ) (k : IsKept numbers) where
   first-slots = slots_in set_2 numbers 0
 
   abbrev second-slots : List Slot
-  second-slots = slots_in set_2 numbers 11
+  second-slots = slots_in set_2 numbers second_at
 
   abbrev third-slots : List Slot
-  third-slots = slots_in set_2 numbers 22
+  third-slots = slots_in set_2 numbers third_at
 
   later-kept : are_kept (chip_slots first-slots second-slots third-slots status_slots) numbers 0 (chip_cells status_cells) ≡ true
   unfolding first
   later-kept =
       all-kept numbers first-slots second-slots third-slots status_slots status_cells
-      (channel-fine set_2 numbers 0 no_gate refl tt k.first).kept (channel-fine set_2 numbers 11 no_gate refl tt k.second).kept (channel-fine set_2 numbers 22 no_gate refl tt k.third).kept refl
+      (channel-fine set_2 numbers 0 no_gate refl tt k.first).kept (channel-fine set_2 numbers second_at no_gate refl tt k.second).kept
+      (channel-fine set_2 numbers third_at no_gate refl tt k.third).kept refl
 
   later-holds : RulesHold (chip_slots first-slots second-slots third-slots status_slots)
   unfolding first
   later-holds =
       all-hold numbers first-slots second-slots third-slots status_slots
-      (channel-fine set_2 numbers 0 no_gate refl tt k.first).rules (channel-fine set_2 numbers 11 no_gate refl tt k.second).rules (channel-fine set_2 numbers 22 no_gate refl tt k.third).rules tt
+      (channel-fine set_2 numbers 0 no_gate refl tt k.first).rules (channel-fine set_2 numbers second_at no_gate refl tt k.second).rules
+      (channel-fine set_2 numbers third_at no_gate refl tt k.third).rules tt
 
 pit-2 : (numbers : List ℤ) → AreCellsOf 2 numbers → ReadyOf set_2 i8254_at_2 numbers
 unfolding first

@@ -3,4 +3,4 @@ use Rattle.std.proofs.Common.{refl}
 use Rattle.dev_pic.specs.SheetNumbers.{NumbersAre}
 
 pub numbers_are : NumbersAre
-numbers_are = record { elcr = refl; ltim = refl }
+numbers_are = record { elcr = refl; ltim = refl; cells = refl }

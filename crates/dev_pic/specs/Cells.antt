@@ -2,6 +2,7 @@
 use Rattle.std.specs.Prelude.{ℕ, ℤ, pos, ◌%◌, ◌==◌, Bool, ◌&&◌, ◌||◌, nat_le, not, if◌then◌else◌, List, [], ◌∷◌, bit_and, Result, codes}
 use Rattle.vms_fields.specs.Fields.{Named, kinds_under, cells_under}
 use Rattle.vms_fields.specs.Pic.{i8259_rows, place_of_pic}
+use Rattle.vms_fields.specs.declared.pic.TheConstants.{CELLS}
 use Rattle.vms_kinds.specs.declared.Kind.{Kind}
 use Rattle.dev_base.specs.Cells.{cell_at, number_at, flag_at, flag_number, AreOf}
 use Rattle.dev_base.specs.Rules.{judged}
@@ -20,7 +21,7 @@ kinds set = kinds_under i8259_rows set
 
 -- The number of cells of a chip in the newest set.
 abbrev pub cell_count : ℕ
-cell_count = 17
+cell_count = CELLS
 
 -- `IsChipCells cells`: the cells are those of a chip in the newest set, each in its kind's range.
 abbrev pub IsChipCells : List ℤ → Type 0

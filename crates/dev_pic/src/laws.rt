@@ -166,7 +166,8 @@ pub fn restored_law()
     ensures { RestoredIsSound }
 {}
 
-/// States the first levels with edge/level registers, 2, and with the level mode of ICW1, 4.
+/// States the first levels with edge/level registers, 2, and with the level mode of ICW1, 4, and
+/// that a chip has 17 cells in the newest set.
 #[tactic(auto, using(crate::proofs::SheetNumbers::numbers_are))]
 pub fn numbers_law()
     ensures { NumbersAre }

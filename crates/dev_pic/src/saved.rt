@@ -9,6 +9,7 @@ use crate::fault::ChipFault;
 use crate::pair::PicPair;
 use arrayvec::ArrayVec;
 use dev_base::{HasHooks, hook_result};
+use vms_fields::pic::CELLS;
 use vms_hooks::{HookFault, Hooked, Pass};
 use vms_kinds::DevCells;
 
@@ -17,9 +18,6 @@ const MASTER: u8 = 0;
 
 /// The number of the slave among the two chips.
 const SLAVE: u8 = 1;
-
-/// The number of cells of a chip in the newest set.
-const CELL_COUNT: usize = 17;
 
 impl Hooked for PicPair {
     ghost use Rattle.dev_pic.specs.Saved.{CanSave, CanRestore, pair_cells, hook_restored};
@@ -107,7 +105,7 @@ impl HasHooks for PicPair {
     /// Returns the pair that `cells` describe. A rule of the slave has 10 added to its number.
     #[tactic(auto, unfolding(crate::specs::Saved::by_number))]
     fn load(pass: &Pass, cells: &DevCells) -> Result<PicPair, HookFault> {
-        let (master, slave) = cells.split_at(CELL_COUNT);
+        let (master, slave) = cells.split_at(CELLS);
         let pair = PicPair::of_cells(pass, &chip_cells(master), &chip_cells(slave));
         hook_result(pair.map_err(hook_rule))
     }
@@ -124,7 +122,7 @@ fn hook_rule(fault: ChipFault) -> u8
     }
 }
 
-// Copies at most 17 cells, those of one chip, into a list of their own.
+// Copies the cells of one chip into a list of their own.
 fn chip_cells(cells: &[i128]) -> DevCells
     requires { length cells.now ≤ cell_count }
     ensures { result.items ≡ cells.now }

@@ -1,12 +1,20 @@
 -- The number of cells of a chip.
-use Rattle.std.proofs.Common.{ℕ, ◌≤◌, List, ℤ, ◌++◌, length, arith}
+use Rattle.std.proofs.Common.{ℕ, ◌≤◌, Bool, true, false, cond, List, [], ◌++◌, ℤ, length, codes, arith}
 use Rattle.std.specs.Prelude.{nat_le}
-use Rattle.dev_pit.specs.Cells.{channel_cells, status_cells, three_cells}
+use Rattle.vms_fields.specs.Fields.{numbers_of}
+use Rattle.vms_fields.specs.declared.pit.TheConstants.{STATUS_SINCE, CELLS}
+use Rattle.dev_pit.specs.Cells.{named_statuses, channel_cells, status_cells, three_cells}
 use Rattle.dev_pit.specs.declared.channel.Channel.{Channel}
-use Rattle.dev_pit.specs.declared.limits.TheConstants.{STATUS_SET, CELLS}
-use Rattle.dev_base.proofs.Choices.{either}
+
+-- The cells of the statuses, by whether the set has them.
+abbrev statuses_where : Bool → Channel → Channel → Channel → List ℤ
+statuses_where has first second third =
+    cond has (numbers_of (named_statuses first second third) (codes "status_latched")) []
+    ++ (cond has (numbers_of (named_statuses first second third) (codes "status")) [] ++ [])
 
 pub three_cells_fit : (set : ℕ) (first second third : Channel) → length (three_cells set first second third) ≤ CELLS
 unfolding three_cells channel_cells status_cells
-three_cells_fit set first second third =
-    either (λ (xs : List ℤ). length (channel_cells first ++ channel_cells second ++ channel_cells third ++ xs) ≤ CELLS) (nat_le STATUS_SET set) _ _ (omega arith) (omega arith)
+three_cells_fit set first second third = by_test (nat_le STATUS_SINCE set) where
+  by_test : (has : Bool) → length (channel_cells first ++ channel_cells second ++ channel_cells third ++ statuses_where has first second third) ≤ CELLS
+  by_test true = omega arith
+  by_test false = omega arith

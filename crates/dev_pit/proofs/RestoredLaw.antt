@@ -3,14 +3,13 @@ use Rattle.std.proofs.Common.{◌≡◌, ℕ, ◌+◌, ◌^◌, ◌<◌, ◌≤�
 use Rattle.std.proofs.lemmas.Bool.Decides.{nat_tests}
 use Rattle.std.specs.Prelude.{nat_le}
 use Rattle.std.proofs.lemmas.Bool.{and_parts, cases_Bool}
-use Rattle.dev_base.specs.Cells.{cell_at}
 use Rattle.dev_base.specs.Levels.{IsLevel}
 use Rattle.dev_base.specs.declared.limits.TheConstants.{LAST_MOMENT}
-use Rattle.vms_kinds.specs.Codes.{InRange}
 use Rattle.vms_kinds.specs.declared.Kind.TheVariants.{U8, U16, U64}
 use Rattle.dev_base.proofs.CellLaws.{number-lt}
 use Rattle.dev_base.proofs.RuleLaws.{AllTrue, judged-ok, hook-ok}
-use Rattle.dev_pit.specs.Cells.{channel_place, status_place, channel_at, IsPitCells}
+use Rattle.vms_fields.specs.declared.pit.TheConstants.{COUNT, LOAD_TIME, WLOW, LATCH}
+use Rattle.dev_pit.specs.Cells.{channel_at, IsChannelAt, IsPitCells}
 use Rattle.dev_pit.specs.Channel.{held_if, counter_from, moment_holds, status_holds, toggles_hold}
 use Rattle.dev_pit.specs.Counter.{LoadedBy, powered_on}
 use Rattle.dev_pit.specs.Laws.{RestoredIsSound}
@@ -22,6 +21,7 @@ use Rattle.dev_pit.specs.declared.limits.TheConstants.{READ_BACK_LEVEL}
 use Rattle.dev_pit.specs.declared.mode.Access.{Access}
 use Rattle.dev_pit.specs.declared.mode.Access.TheVariants.{LowByte, HighByte, LowThenHigh}
 use Rattle.dev_pit.specs.declared.pit.Pit.{Pit}
+use Rattle.dev_pit.proofs.ChannelPlaces.{is_channel}
 use Rattle.dev_pit.proofs.Chips.{each_of}
 use Rattle.dev_pit.proofs.PlainSound.{PlainSound, StatusFits, TogglesFit, sound-from_plain}
 
@@ -57,13 +57,15 @@ halves LowThenHigh read_high held n e = tt
 three : (rw_number : ℕ) → (rw_number == 3) ≡ true → access_of rw_number ≡ LowThenHigh
 three rw_number e = let h : rw_number ≡ 3 = grind (arith, nat_tests) in rw h refl
 
-if-toggles : (rw_number : ℕ) (read_high held : Bool) (n : ℕ) → ((rw_number == 3) || (not read_high && not held)) ≡ true → TogglesFit (access_of rw_number) read_high (held_if held n)
+if-toggles : (rw_number : ℕ) (read_high held : Bool) (n : ℕ) → ((rw_number == 3) || (not read_high && not held)) ≡ true
+    → TogglesFit (access_of rw_number) read_high (held_if held n)
 if-toggles rw_number read_high held n h =
     ⊎_elim (λ e. let both : TogglesFit LowThenHigh read_high (held_if held n) = tt in rw (three rw_number e) both)
     (λ e. let rest : (not read_high && not held) ≡ true = rw e at h in halves (access_of rw_number) read_high held n rest)
     (cases_Bool (rw_number == 3))
 
-counter-sound : (level now : ℕ) (channel : Channel) → HasRanges channel → moment_holds now channel ≡ true → status_holds level channel ≡ true → toggles_hold channel ≡ true → PlainSound level now (counter_from channel)
+counter-sound : (level now : ℕ) (channel : Channel) → HasRanges channel → moment_holds now channel ≡ true → status_holds level channel ≡ true
+    → toggles_hold channel ≡ true → PlainSound level now (counter_from channel)
 unfolding counter_from moment_holds status_holds toggles_hold
 counter-sound level now channel r m s t = record {
   widths = record {
@@ -79,23 +81,15 @@ counter-sound level now channel r m s t = record {
 }
 
 -- The ranges of each channel's fields.
-ranges-at : (cells : List ℤ) (k : ℕ) → InRange U16 (cell_at cells (channel_place k)) → InRange U64 (cell_at cells (channel_place k + 5)) → InRange U8 (cell_at cells (channel_place k + 8)) → InRange U16 (cell_at cells (channel_place k + 10)) → InRange U8 (cell_at cells (status_place k)) → HasRanges (channel_at k cells)
+ranges-at : (k : ℕ) (cells : List ℤ) → IsChannelAt k cells → HasRanges (channel_at k cells)
 unfolding channel_at
-ranges-at cells k count load wlow latch status = record {
-  count = number-lt U16 _ count;
-  load_time = number-lt U64 _ load;
-  wlow = number-lt U8 _ wlow;
-  latch = number-lt U16 _ latch;
-  status = number-lt U8 _ status;
+ranges-at k cells h = record {
+  count = number-lt U16 _ (h.channel COUNT (omega arith));
+  load_time = number-lt U64 _ (h.channel LOAD_TIME (omega arith));
+  wlow = number-lt U8 _ (h.channel WLOW (omega arith));
+  latch = number-lt U16 _ (h.channel LATCH (omega arith));
+  status = number-lt U8 _ h.status;
 }
-
-channel-ranges : (cells : List ℤ) → IsPitCells cells → (k : ℕ) → k < 3 → HasRanges (channel_at k cells)
-channel-ranges cells h =
-    let range = h.of_kinds.in_range in
-    each_of (λ k. HasRanges (channel_at k cells))
-    (ranges-at cells 0 (range 0 (omega arith)) (range 5 (omega arith)) (range 8 (omega arith)) (range 10 (omega arith)) (range 36 (omega arith)))
-    (ranges-at cells 1 (range 11 (omega arith)) (range 16 (omega arith)) (range 19 (omega arith)) (range 21 (omega arith)) (range 37 (omega arith)))
-    (ranges-at cells 2 (range 22 (omega arith)) (range 27 (omega arith)) (range 30 (omega arith)) (range 32 (omega arith)) (range 38 (omega arith)))
 
 -- A rule that holds for three channels holds for each.
 each : (rule : Channel → Bool) (cells : List ℤ) → three_hold rule cells ≡ true → (k : ℕ) → k < 3 → rule (channel_at k cells) ≡ true
@@ -104,22 +98,29 @@ each rule cells e =
     let b : (rule (channel_at 1 cells) ≡ true) × (rule (channel_at 2 cells) ≡ true) = and_parts _ _ a.1 in
     each_of (λ k. rule (channel_at k cells) ≡ true) a.0 b.0 b.1
 
-pit_of-sound : (level now : ℕ) (cells : List ℤ) → IsLevel level → now ≤ LAST_MOMENT → IsPitCells cells → AllTrue (rules level now cells) → IsSoundPit now (pit_of level cells)
+pit_of-sound : (level now : ℕ) (cells : List ℤ) → IsLevel level → now ≤ LAST_MOMENT → IsPitCells cells → AllTrue (rules level now cells)
+    → IsSoundPit now (pit_of level cells)
 unfolding pit_of
 pit_of-sound level now cells l m h hold =
-    let counter : (k : ℕ) → k < 3 → IsSoundCounter level now (counter_from (channel_at k cells)) = λ k b. sound-from_plain level now _ (counter-sound level now (channel_at k cells) (channel-ranges cells h k b) (each (moment_holds now) cells hold.1.0 k b) (each (status_holds level) cells hold.1.1.0 k b) (each toggles_hold cells hold.1.1.1.0 k b)) in
+    let counter : (k : ℕ) → k < 3 → IsSoundCounter level now (counter_from (channel_at k cells)) =
+    λ k b. sound-from_plain level now _
+    (counter-sound level now (channel_at k cells) (ranges-at k cells (is_channel k cells b h)) (each (moment_holds now) cells hold.1.0 k b)
+    (each (status_holds level) cells hold.1.1.0 k b) (each toggles_hold cells hold.1.1.1.0 k b)) in
     record {
       level = l;
       moment = m;
       count = refl;
-      counters = each_of (λ k. IsSoundCounter level now (slice_index_or (counter_from (channel_at 0 cells) ∷ counter_from (channel_at 1 cells) ∷ counter_from (channel_at 2 cells) ∷ []) k powered_on)) (counter 0 (omega arith)) (counter 1 (omega arith)) (counter 2 (omega arith));
+      counters = each_of (λ k. IsSoundCounter level now
+          (slice_index_or (counter_from (channel_at 0 cells) ∷ counter_from (channel_at 1 cells) ∷ counter_from (channel_at 2 cells) ∷ []) k powered_on))
+          (counter 0 (omega arith)) (counter 1 (omega arith)) (counter 2 (omega arith));
     }
 
 pit_of-level : (level : ℕ) (cells : List ℤ) → (pit_of level cells).level ≡ level
 unfolding pit_of
 pit_of-level level cells = refl
 
-pub pit-restored : (level now : ℕ) (cells : List ℤ) (pit : Pit) → IsLevel level → now ≤ LAST_MOMENT → IsPitCells cells → restored_pit level now cells ≡ Ok pit → IsSoundPit now pit × (pit.level ≡ level)
+pub pit-restored : (level now : ℕ) (cells : List ℤ) (pit : Pit) → IsLevel level → now ≤ LAST_MOMENT → IsPitCells cells → restored_pit level now cells ≡ Ok pit
+    → IsSoundPit now pit × (pit.level ≡ level)
 pit-restored level now cells pit l m h e =
     let ok = judged-ok (rules level now cells) (pit_of level cells) pit e in
     subst (λ (p : Pit). IsSoundPit now p × (p.level ≡ level)) ok.1 (pit_of-sound level now cells l m h ok.0, pit_of-level level cells)

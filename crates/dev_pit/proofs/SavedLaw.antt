@@ -1,16 +1,19 @@
 -- A saved chip is restored as it was.
-use Rattle.std.proofs.Common.{◌≡◌, ℕ, ◌^◌, ◌+◌, ◌<◌, ◌≤◌, ◌==◌, Bool, true, false, cond, Option, Some, None, Ok, List, [], ◌∷◌, ◌++◌, length, ℤ, pos, refl, ap, sym, subst, ◌∙◌, arith}
+use Rattle.std.proofs.Common.{◌≡◌, ℕ, ◌^◌, ◌+◌, ◌<◌, ◌≤◌, ◌==◌, Bool, true, false, Option, Some, None, Ok, List, [], ◌∷◌, ◌++◌, length, replicate, ℤ, pos, codes, refl, ap, sym, subst, ◌∙◌, arith}
 use Rattle.std.proofs.lemmas.Bool.Decides.{nat_tests}
 use Rattle.std.specs.Prelude.{nat_le, is_some}
+use Rattle.vms_fields.specs.Fields.{kinds_under}
+use Rattle.vms_fields.specs.Pit.{channel_rows, status_rows}
+use Rattle.vms_fields.specs.declared.pit.TheConstants.{STATUS_LATCHED, STATUS_SINCE}
 use Rattle.vms_hooks.specs.Numbers.{Numbers}
 use Rattle.dev_base.specs.Cells.{flag_number, flag_at, number_at, AreOf}
 use Rattle.dev_base.specs.Levels.{IsLevel, MayRestore}
 use Rattle.dev_base.specs.Rules.{first_failing}
-use Rattle.dev_base.specs.Tables.{carried_by, places}
 use Rattle.dev_base.specs.declared.limits.TheConstants.{NEWEST, LAST_MOMENT}
-use Rattle.dev_base.proofs.CellLaws.{of_none, of_more, of_both, of_where, byte, word, long, flag, flag-back}
+use Rattle.dev_base.proofs.CellLaws.{of_none, of_more, of_both, byte, word, long, flag, flag-back}
+use Rattle.dev_base.proofs.ListLaws.{AllHold, one_holds, of_rows, carried_rows}
 use Rattle.dev_base.proofs.RuleLaws.{AllTrue, none_failing, all_true, judged-all, ok-hook}
-use Rattle.dev_pit.specs.Cells.{channel_kinds, status_kinds, kinds_of, channel_cells, status_cells, three_cells, channel_in, pit_cells, six_defaults, carried, channel_place, channel_at, HasDefault, AreCellsOf, IsPitCells}
+use Rattle.dev_pit.specs.Cells.{channel_kinds, kinds_of, named, named_statuses, channel_cells, status_cells, three_cells, channel_in, pit_cells, carried, field_place, channel_at, HasDefault, AreCellsOf, IsPitCells}
 use Rattle.dev_pit.specs.Channel.{held_if, channel_of, counter_from, registers_hold, moment_holds, status_holds, toggles_hold}
 use Rattle.dev_pit.specs.Counter.{held_or, powered_on}
 use Rattle.dev_pit.specs.Laws.{SoundMeetsRules, SavedAreCells, SavedIsRestored}
@@ -20,7 +23,7 @@ use Rattle.dev_pit.specs.Saved.{CanSave, CanRestore, three_hold, rules, pit_of, 
 use Rattle.dev_pit.specs.Sound.{HasWidths, IsSoundPit}
 use Rattle.dev_pit.specs.declared.channel.Channel.{Channel}
 use Rattle.dev_pit.specs.declared.counter.Counter.{Counter}
-use Rattle.dev_pit.specs.declared.limits.TheConstants.{READ_BACK_LEVEL, STATUS_SET}
+use Rattle.dev_pit.specs.declared.limits.TheConstants.{READ_BACK_LEVEL}
 use Rattle.dev_pit.specs.declared.mode.Access.{Access}
 use Rattle.dev_pit.specs.declared.mode.Access.TheVariants.{LowByte, HighByte, LowThenHigh}
 use Rattle.dev_pit.specs.declared.mode.Mode.{Mode}
@@ -66,7 +69,8 @@ third-back : (first second third : Channel) → channel_at 2 (three_cells NEWEST
 unfolding channel_at three_cells channel_cells status_cells
 third-back first second third = simp flag-back
 
-rule-saved : (rule : Channel → Bool) (first second third : Channel) → rule first ≡ true → rule second ≡ true → rule third ≡ true → three_hold rule (three_cells NEWEST first second third) ≡ true
+rule-saved : (rule : Channel → Bool) (first second third : Channel) → rule first ≡ true → rule second ≡ true → rule third ≡ true
+    → three_hold rule (three_cells NEWEST first second third) ≡ true
 rule-saved rule first second third a b c =
     rw (first-back first second third, second-back first second third, third-back first second third, a, b, c)
 
@@ -89,59 +93,81 @@ met now pit s =
     let a = s.counters 0 (omega arith) in
     let b = s.counters 1 (omega arith) in
     let c = s.counters 2 (omega arith) in
-    let hold : (rule : Channel → Bool) → rule (channel_in 0 pit) ≡ true → rule (channel_in 1 pit) ≡ true → rule (channel_in 2 pit) ≡ true → three_hold rule (three_cells NEWEST (channel_in 0 pit) (channel_in 1 pit) (channel_in 2 pit)) ≡ true = λ rule. rule-saved rule (channel_in 0 pit) (channel_in 1 pit) (channel_in 2 pit) in
-    (hold registers_hold a.registers b.registers c.registers, (hold (moment_holds now) a.moment b.moment c.moment, (hold (status_holds pit.level) a.status b.status c.status, (hold toggles_hold a.toggles b.toggles c.toggles, tt))))
+    let hold : (rule : Channel → Bool) → rule (channel_in 0 pit) ≡ true → rule (channel_in 1 pit) ≡ true → rule (channel_in 2 pit) ≡ true → three_hold rule
+    (three_cells NEWEST (channel_in 0 pit) (channel_in 1 pit) (channel_in 2 pit)) ≡ true =
+    λ rule. rule-saved rule (channel_in 0 pit) (channel_in 1 pit) (channel_in 2 pit) in (
+      hold registers_hold a.registers b.registers c.registers,
+      (
+        hold (moment_holds now) a.moment b.moment c.moment,
+        (hold (status_holds pit.level) a.status b.status c.status, (hold toggles_hold a.toggles b.toggles c.toggles, tt)),
+      ),
+    )
 
 pub restored-newest : (now : ℕ) (pit : Pit) → IsSoundPit now pit → restored_pit pit.level now (pit_cells NEWEST pit) ≡ Ok pit
 restored-newest now pit s =
     judged-all (rules pit.level now (pit_cells NEWEST pit)) (pit_of pit.level (pit_cells NEWEST pit)) (met now pit s) ∙ ap Ok (pit_of-saved pit s.count)
 
--- The cells of a chip fit their kinds.
+-- The cells of a chip fit their kinds: each field has as many numbers of its kind as it counts.
+channel-holds : (counter : Counter) → HasWidths counter → AllHold (named (channel_of counter)) channel_rows
+unfolding channel_of
+channel-holds counter h =
+    one_holds _ _ (word _ h.count)
+    (one_holds _ _ (byte _ (omega (arith, mode-small counter.mode))) (one_holds _ _ (byte _ (omega (arith, access-small counter.access)))
+    (one_holds _ _ (flag _) (one_holds _ _ (flag _) (one_holds _ _ (long _ (held-below (2 ^ 64) 0 counter.loaded_at h.loaded_at (omega arith)))
+    (one_holds _ _ (flag _) (one_holds _ _ (flag _) (one_holds _ _ (byte _ (held-below (2 ^ 8) 0 counter.held_low h.held_low (omega arith)))
+    (one_holds _ _ (flag _) (one_holds _ _ (word _ (held-below (2 ^ 16) 0 counter.latch h.latch (omega arith))) tt))))))))))
+
 channel-of : (counter : Counter) → HasWidths counter → AreOf channel_kinds (channel_cells (channel_of counter))
-unfolding channel_cells channel_of
-channel-of counter h =
-    of_more _ _ _ _ (word _ h.count) (of_more _ _ _ _ (byte _ (omega (arith, mode-small counter.mode))) (of_more _ _ _ _ (byte _ (omega (arith, access-small counter.access)))
-    (of_more _ _ _ _ (flag _) (of_more _ _ _ _ (flag _) (of_more _ _ _ _ (long _ (held-below (2 ^ 64) 0 counter.loaded_at h.loaded_at (omega arith)))
-    (of_more _ _ _ _ (flag _) (of_more _ _ _ _ (flag _) (of_more _ _ _ _ (byte _ (held-below (2 ^ 8) 0 counter.held_low h.held_low (omega arith)))
-    (of_more _ _ _ _ (flag _) (of_more _ _ _ _ (word _ (held-below (2 ^ 16) 0 counter.latch h.latch (omega arith))) of_none))))))))))
+unfolding channel_cells
+channel-of counter h = of_rows (named (channel_of counter)) NEWEST channel_rows (channel-holds counter h)
 
-status-of : (first second third : Counter) → HasWidths first → HasWidths second → HasWidths third → AreOf status_kinds (status_cells (channel_of first) (channel_of second) (channel_of third))
-unfolding status_cells channel_of
-status-of first second third a b c =
-    of_more _ _ _ _ (flag _) (of_more _ _ _ _ (flag _) (of_more _ _ _ _ (flag _)
-    (of_more _ _ _ _ (byte _ (held-below (2 ^ 8) 0 first.status a.status (omega arith))) (of_more _ _ _ _ (byte _ (held-below (2 ^ 8) 0 second.status b.status (omega arith)))
-    (of_more _ _ _ _ (byte _ (held-below (2 ^ 8) 0 third.status c.status (omega arith))) of_none)))))
+statuses-hold : (first second third : Counter) → HasWidths first → HasWidths second → HasWidths third
+    → AllHold (named_statuses (channel_of first) (channel_of second) (channel_of third)) status_rows
+unfolding channel_of
+statuses-hold first second third a b c =
+    let low : (counter : Counter) → HasWidths counter → held_or counter.status 0 < 2 ^ 8 =
+    λ counter h. held-below (2 ^ 8) 0 counter.status h.status (omega arith) in (
+      of_more _ _ _ _ (flag _) (of_more _ _ _ _ (flag _) (of_more _ _ _ _ (flag _) of_none)),
+      (of_more _ _ _ _ (byte _ (low first a)) (of_more _ _ _ _ (byte _ (low second b)) (of_more _ _ _ _ (byte _ (low third c)) of_none)), tt),
+    )
 
-set-of : (set : ℕ) (first second third : Counter) → HasWidths first → HasWidths second → HasWidths third → AreOf (kinds_of set) (three_cells set (channel_of first) (channel_of second) (channel_of third))
-unfolding three_cells channel_cells channel_of
+set-of : (set : ℕ) (first second third : Counter) → HasWidths first → HasWidths second → HasWidths third
+    → AreOf (kinds_of set) (three_cells set (channel_of first) (channel_of second) (channel_of third))
+unfolding three_cells channel_cells status_cells
 set-of set first second third a b c =
-    of_both channel_kinds _ (channel_cells (channel_of first)) _ (channel-of first a) (of_both channel_kinds _ (channel_cells (channel_of second)) _ (channel-of second b)
-    (of_both channel_kinds _ (channel_cells (channel_of third)) _ (channel-of third c)
-    (of_where (nat_le STATUS_SET set) status_kinds (status_cells (channel_of first) (channel_of second) (channel_of third)) (status-of first second third a b c))))
+    of_both channel_kinds (channel_kinds ++ channel_kinds ++ kinds_under status_rows set) (channel_cells (channel_of first)) _ (channel-of first a)
+    (of_both channel_kinds (channel_kinds ++ kinds_under status_rows set) (channel_cells (channel_of second)) _ (channel-of second b)
+    (of_both channel_kinds (kinds_under status_rows set) (channel_cells (channel_of third)) _ (channel-of third c)
+    (of_rows (named_statuses (channel_of first) (channel_of second) (channel_of third)) set status_rows (statuses-hold first second third a b c))))
 
 -- An absent cell is 0.
 no_held : (held : Option ℕ) → (flag_number (is_some held) == 1) ≡ false → held_or held 0 ≡ 0
 no_held None e = refl
 no_held (Some held) e = cc
 
-wlow-default : (first second third : Counter) (late : List ℤ) → HasDefault 7 8 (channel_cells (channel_of first) ++ channel_cells (channel_of second) ++ channel_cells (channel_of third) ++ late)
-unfolding channel_cells channel_of
-wlow-default first second third late =
-    each_of (λ k. flag_at (channel_cells (channel_of first) ++ channel_cells (channel_of second) ++ channel_cells (channel_of third) ++ late) (channel_place k + 7) ≡ false → number_at (channel_cells (channel_of first) ++ channel_cells (channel_of second) ++ channel_cells (channel_of third) ++ late) (channel_place k + 8) ≡ 0)
-    (no_held first.held_low) (no_held second.held_low) (no_held third.held_low)
+module _ (first second third : Counter) (late : List ℤ) where
+  abbrev with_late : List ℤ
+  with_late = channel_cells (channel_of first) ++ channel_cells (channel_of second) ++ channel_cells (channel_of third) ++ late
 
-latch-default : (first second third : Counter) (late : List ℤ) → HasDefault 9 10 (channel_cells (channel_of first) ++ channel_cells (channel_of second) ++ channel_cells (channel_of third) ++ late)
-unfolding channel_cells channel_of
-latch-default first second third late =
-    each_of (λ k. flag_at (channel_cells (channel_of first) ++ channel_cells (channel_of second) ++ channel_cells (channel_of third) ++ late) (channel_place k + 9) ≡ false → number_at (channel_cells (channel_of first) ++ channel_cells (channel_of second) ++ channel_cells (channel_of third) ++ late) (channel_place k + 10) ≡ 0)
-    (no_held first.latch) (no_held second.latch) (no_held third.latch)
+  wlow-default : HasDefault (codes "wlow_held") (codes "wlow") with_late
+  unfolding channel_cells channel_of
+  wlow-default =
+      each_of (λ k. flag_at with_late (field_place k (codes "wlow_held")) ≡ false → number_at with_late (field_place k (codes "wlow")) ≡ 0)
+      (no_held first.held_low) (no_held second.held_low) (no_held third.held_low)
+
+  latch-default : HasDefault (codes "latched") (codes "latch") with_late
+  unfolding channel_cells channel_of
+  latch-default =
+      each_of (λ k. flag_at with_late (field_place k (codes "latched")) ≡ false → number_at with_late (field_place k (codes "latch")) ≡ 0)
+      (no_held first.latch) (no_held second.latch) (no_held third.latch)
 
 cells-of : (set now : ℕ) (pit : Pit) → IsSoundPit now pit → AreCellsOf set (pit_cells set pit)
 unfolding pit_cells three_cells
 cells-of set now pit s =
-    let late : List ℤ = cond (nat_le STATUS_SET set) (status_cells (channel_in 0 pit) (channel_in 1 pit) (channel_in 2 pit)) [] in
+    let late : List ℤ = status_cells set (channel_in 0 pit) (channel_in 1 pit) (channel_in 2 pit) in
     record {
-      of_kinds = set-of set (counter_of 0 pit) (counter_of 1 pit) (counter_of 2 pit) (s.counters 0 (omega arith)).widths (s.counters 1 (omega arith)).widths (s.counters 2 (omega arith)).widths;
+      of_kinds = set-of set (counter_of 0 pit) (counter_of 1 pit) (counter_of 2 pit) (s.counters 0 (omega arith)).widths (s.counters 1 (omega arith)).widths
+          (s.counters 2 (omega arith)).widths;
       wlow = wlow-default (counter_of 0 pit) (counter_of 1 pit) (counter_of 2 pit) late;
       latch = latch-default (counter_of 0 pit) (counter_of 1 pit) (counter_of 2 pit) late;
     }
@@ -150,44 +176,68 @@ pub saved_are_cells : SavedAreCells
 saved_are_cells = record { of_set = λ numbers pit can s. cells-of numbers.set numbers.moment pit s }
 
 -- A chip is sound if its cells break no rule, and conversely.
-is_sound : (now : ℕ) (pit : Pit) → IsLevel pit.level → now ≤ LAST_MOMENT → length pit.counters ≡ 3 → IsPitCells (pit_cells NEWEST pit) × (first_failing (rules pit.level now (pit_cells NEWEST pit)) ≡ None) → IsSoundPit now pit
+is_sound : (now : ℕ) (pit : Pit) → IsLevel pit.level → now ≤ LAST_MOMENT → length pit.counters ≡ 3
+    → IsPitCells (pit_cells NEWEST pit) × (first_failing (rules pit.level now (pit_cells NEWEST pit)) ≡ None) → IsSoundPit now pit
 is_sound now pit l m three h =
-    let restored = judged-all (rules pit.level now (pit_cells NEWEST pit)) (pit_of pit.level (pit_cells NEWEST pit)) (all_true (rules pit.level now (pit_cells NEWEST pit)) h.1) ∙ ap Ok (pit_of-saved pit three) in
+    let restored =
+    judged-all (rules pit.level now (pit_cells NEWEST pit)) (pit_of pit.level (pit_cells NEWEST pit))
+    (all_true (rules pit.level now (pit_cells NEWEST pit)) h.1)
+    ∙ ap Ok (pit_of-saved pit three) in
     (pit-restored pit.level now (pit_cells NEWEST pit) pit l m h.0 restored).0
 
 pub sound_meets_rules : SoundMeetsRules
 sound_meets_rules = record {
-  pit = λ now pit l m three. ((λ s. (cells-of NEWEST now pit s, none_failing (rules pit.level now (pit_cells NEWEST pit)) (met now pit s))), is_sound now pit l m three);
+  pit = λ now pit l m three. (
+    (λ s. (cells-of NEWEST now pit s, none_failing (rules pit.level now (pit_cells NEWEST pit)) (met now pit s))),
+    is_sound now pit l m three,
+  );
 }
 
--- Carried cells are those of the newest set, if what the set lacks is 0.
-tests-carried : (first second third : Channel) (has : Bool) → (has ≡ false → status_cells first second third ≡ (pos 0 ∷ pos 0 ∷ pos 0 ∷ pos 0 ∷ pos 0 ∷ pos 0 ∷ [])) → carried_by (places 0 33 ++ cond has (places 33 6) six_defaults) (channel_cells first ++ channel_cells second ++ channel_cells third ++ cond has (status_cells first second third) []) ≡ channel_cells first ++ channel_cells second ++ channel_cells third ++ status_cells first second third
-unfolding channel_cells status_cells
-tests-carried first second third true zeros = refl
-tests-carried first second third false zeros = rw (zeros refl) refl
-
+-- Carried cells are those of the newest set, since what a set lacks is 0.
 no-status : (level : ℕ) (status : Option ℕ) → level < READ_BACK_LEVEL → StatusFits level status → status ≡ None
 no-status level None h f = refl
 no-status level (Some status) h f = absurd (omega arith)
 
-zeros : (first second third : Counter) → first.status ≡ None → second.status ≡ None → third.status ≡ None → status_cells (channel_of first) (channel_of second) (channel_of third) ≡ (pos 0 ∷ pos 0 ∷ pos 0 ∷ pos 0 ∷ pos 0 ∷ pos 0 ∷ [])
-unfolding status_cells channel_of
-zeros first second third a b c = rw (a, b, c) refl
+no-flags : (first second third : Option ℕ) → first ≡ None → second ≡ None → third ≡ None
+    → (pos (flag_number (is_some first)) ∷ pos (flag_number (is_some second)) ∷ pos (flag_number (is_some third)) ∷ []) ≡ replicate 3 (pos 0)
+no-flags first second third a b c = rw (a, b, c) refl
+
+no-bytes : (first second third : Option ℕ) → first ≡ None → second ≡ None → third ≡ None
+    → (pos (held_or first 0) ∷ pos (held_or second 0) ∷ pos (held_or third 0) ∷ []) ≡ replicate 3 (pos 0)
+no-bytes first second third a b c = rw (a, b, c) refl
+
+three-carried : (set : ℕ) (first second third : Counter) → HasWidths first → HasWidths second → HasWidths third
+    → (nat_le STATUS_SINCE set ≡ false → (first.status ≡ None) × ((second.status ≡ None) × (third.status ≡ None)))
+    → carried set (three_cells set (channel_of first) (channel_of second) (channel_of third)) ≡ three_cells NEWEST (channel_of first) (channel_of second)
+    (channel_of third)
+unfolding three_cells channel_cells status_cells channel_of
+three-carried set first second third a b c none =
+    ap (λ (late : List ℤ). channel_cells (channel_of first) ++ channel_cells (channel_of second) ++ channel_cells (channel_of third) ++ late)
+    (carried_rows (named_statuses (channel_of first) (channel_of second) (channel_of third)) set status_rows (statuses-hold first second third a b c) (
+      (λ e. no-flags first.status second.status third.status (none e).0 (none e).1.0 (none e).1.1),
+      ((λ e. no-bytes first.status second.status third.status (none e).0 (none e).1.0 (none e).1.1), tt),
+    )
+    (channel_cells (channel_of first) ++ channel_cells (channel_of second) ++ channel_cells (channel_of third)) STATUS_LATCHED refl)
 
 pub carried-saved : (set now : ℕ) (pit : Pit) → pit.level ≤ set → IsSoundPit now pit → carried set (pit_cells set pit) ≡ pit_cells NEWEST pit
-unfolding pit_cells three_cells
+unfolding pit_cells
 carried-saved set now pit le s =
-    tests-carried (channel_in 0 pit) (channel_in 1 pit) (channel_in 2 pit) (nat_le STATUS_SET set)
+    let widths : (k : ℕ) → k < 3 → HasWidths (counter_of k pit) = λ k l. (s.counters k l).widths in
+    three-carried set (counter_of 0 pit) (counter_of 1 pit) (counter_of 2 pit) (widths 0 (omega arith)) (widths 1 (omega arith)) (widths 2 (omega arith))
     (λ e. let h : pit.level < READ_BACK_LEVEL = grind (arith, nat_tests) in
-    let none : (k : ℕ) → k < 3 → (counter_of k pit).status ≡ None = λ k l. no-status pit.level (counter_of k pit).status h (plain-from_sound pit.level now (counter_of k pit) (s.counters k l)).status in
-    zeros (counter_of 0 pit) (counter_of 1 pit) (counter_of 2 pit) (none 0 (omega arith)) (none 1 (omega arith)) (none 2 (omega arith)))
+    let none : (k : ℕ) → k < 3 → (counter_of k pit).status ≡ None =
+    λ k l. no-status pit.level (counter_of k pit).status h (plain-from_sound pit.level now (counter_of k pit) (s.counters k l)).status in
+    (none 0 (omega arith), (none 1 (omega arith), none 2 (omega arith))))
 
-restored-back : (numbers back : Numbers) (pit : Pit) → CanSave numbers pit → IsSoundPit numbers.moment pit → MayRestore back → back.level ≡ pit.level → back.moment ≡ numbers.moment → CanRestore back (carried numbers.set (pit_cells numbers.set pit)) × (hook_restored back (carried numbers.set (pit_cells numbers.set pit)) ≡ Ok pit)
+restored-back : (numbers back : Numbers) (pit : Pit) → CanSave numbers pit → IsSoundPit numbers.moment pit → MayRestore back → back.level ≡ pit.level
+    → back.moment ≡ numbers.moment
+    → CanRestore back (carried numbers.set (pit_cells numbers.set pit)) × (hook_restored back (carried numbers.set (pit_cells numbers.set pit)) ≡ Ok pit)
 restored-back numbers back pit can s may level moment =
     let le : pit.level ≤ numbers.set = let own = can.own_level in let l = can.level_le_set in omega (arith, own, l) in
     let same = carried-saved numbers.set numbers.moment pit le s in
     let newest : restored_pit back.level back.moment (pit_cells NEWEST pit) ≡ Ok pit =
-    ap (λ l. restored_pit l back.moment (pit_cells NEWEST pit)) level ∙ ap (λ m. restored_pit pit.level m (pit_cells NEWEST pit)) moment ∙ restored-newest numbers.moment pit s
+    ap (λ l. restored_pit l back.moment (pit_cells NEWEST pit)) level ∙ ap (λ m. restored_pit pit.level m (pit_cells NEWEST pit)) moment
+    ∙ restored-newest numbers.moment pit s
     in (
       record { pass = may; normal = subst IsPitCells (sym same) (cells-of NEWEST numbers.moment pit s) },
       subst (λ (cells : List ℤ). hook_restored back cells ≡ Ok pit) (sym same) (ok-hook _ pit newest),

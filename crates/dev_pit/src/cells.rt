@@ -1,16 +1,20 @@
 // The cells that the chip is saved in.
 ghost use Rattle.std.specs.Prelude.{◌≡◌, ◌≤◌, length};
+ghost use Rattle.dev_base.specs.declared.limits.TheConstants.{NEWEST};
 ghost use Rattle.dev_pit.specs.Cells.{channel_cells, status_cells, three_cells, channel_at, IsChannelAt};
 
 use crate::channel::Channel;
-use crate::limits::{CELLS, CHANNEL_CELLS, STATUS_SET};
 use dev_base::{append, byte_at, flag_at, moment_at, word_at};
+use vms_fields::pit::{
+    BCD, CELLS, CHANNEL_CELLS, COUNT, LATCH, LATCHED, LOAD_TIME, LOADED, MODE, READ_HIGH, RW,
+    STATUS, STATUS_LATCHED, STATUS_SINCE, WLOW, WLOW_HELD,
+};
 use vms_kinds::DevCells;
 
 // Returns the cells for the statuses of three channels: the three flags, then the three bytes.
 #[tactic(auto, unfolding(crate::specs::Cells::status_cells))]
 fn statuses_of(first: &Channel, second: &Channel, third: &Channel) -> [i128; 6]
-    ensures { result ≡ status_cells first.now second.now third.now }
+    ensures { result ≡ status_cells NEWEST first.now second.now third.now }
 {
     [
         i128::from(first.status_latched),
@@ -35,21 +39,20 @@ impl Channel {
         ensures { result ≡ channel_at k cells.now.items }
     {
         let first = CHANNEL_CELLS * k;
-        let late = CHANNEL_CELLS * 3 + k;
         Channel {
-            count: word_at(cells, first),
-            mode: byte_at(cells, first + 1),
-            rw: byte_at(cells, first + 2),
-            bcd: flag_at(cells, first + 3),
-            loaded: flag_at(cells, first + 4),
-            load_time: moment_at(cells, first + 5),
-            read_high: flag_at(cells, first + 6),
-            wlow_held: flag_at(cells, first + 7),
-            wlow: byte_at(cells, first + 8),
-            latched: flag_at(cells, first + 9),
-            latch: word_at(cells, first + 10),
-            status_latched: flag_at(cells, late),
-            status: byte_at(cells, late + 3),
+            count: word_at(cells, first + COUNT),
+            mode: byte_at(cells, first + MODE),
+            rw: byte_at(cells, first + RW),
+            bcd: flag_at(cells, first + BCD),
+            loaded: flag_at(cells, first + LOADED),
+            load_time: moment_at(cells, first + LOAD_TIME),
+            read_high: flag_at(cells, first + READ_HIGH),
+            wlow_held: flag_at(cells, first + WLOW_HELD),
+            wlow: byte_at(cells, first + WLOW),
+            latched: flag_at(cells, first + LATCHED),
+            latch: word_at(cells, first + LATCH),
+            status_latched: flag_at(cells, STATUS_LATCHED + k),
+            status: byte_at(cells, STATUS + k),
         }
     }
 
@@ -75,7 +78,7 @@ impl Channel {
 
     /// Returns the cells of three channels in set `set`, with their statuses if `set` has cells for
     /// them.
-    #[tactic(auto, using(crate::proofs::CellCounts::three_cells_fit), unfolding(crate::specs::Cells::three_cells))]
+    #[tactic(auto, using(crate::proofs::CellCounts::three_cells_fit), unfolding(crate::specs::Cells::three_cells, crate::specs::Cells::status_cells))]
     pub fn cells_of(set: u8, first: &Channel, second: &Channel, third: &Channel) -> DevCells
         ensures cells { result.items ≡ three_cells set first.now second.now third.now }
         ensures count { length result.items ≤ CELLS }
@@ -84,7 +87,7 @@ impl Channel {
         append(&mut cells, &first.cells());
         append(&mut cells, &second.cells());
         append(&mut cells, &third.cells());
-        if set >= STATUS_SET {
+        if set >= STATUS_SINCE {
             append(&mut cells, &statuses_of(first, second, third));
         }
         cells

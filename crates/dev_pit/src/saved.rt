@@ -2,9 +2,9 @@
 ghost use Rattle.std.specs.Prelude.{◌≡◌, ◌≤◌, length, IfErr};
 
 use crate::channel::Channel;
-use crate::limits::CELLS;
 use crate::pit::Pit;
 use dev_base::{HasHooks, first_failing, hook_result};
+use vms_fields::pit::CELLS;
 use vms_hooks::{HookFault, Hooked, Pass};
 use vms_kinds::DevCells;
 

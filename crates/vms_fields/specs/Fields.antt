@@ -1,11 +1,14 @@
 -- The meaning of a list of a device's fields.
-use Rattle.std.specs.Prelude.{ℕ, zero, suc, ℤ, ◌+◌, ◌==◌, ◌&&◌, Bool, true, nat_le, if◌then◌else◌, List, [], ◌∷◌, replicate, None}
+use Rattle.std.specs.Prelude.{ℕ, zero, suc, ℤ, ◌+◌, ◌==◌, ◌&&◌, Bool, true, nat_le, if◌then◌else◌, List, [], ◌∷◌, replicate}
 use Rattle.std.specs.List.{flat_map}
+use Rattle.std.specs.Option.{option_map}
 use Rattle.std.specs.Str.{bytes_eq}
 use Rattle.vms_kinds.specs.declared.Kind.{Kind}
 use Rattle.vms_kinds.specs.declared.Item.TheVariants.{Num}
 use Rattle.vms_spec.specs.Layout.{capacity_of}
-use Rattle.vms_spec.specs.Sets.{Field}
+use Rattle.vms_spec.specs.Sets.{Field, Formula, Cell}
+use Rattle.vms_spec.specs.declared.Rel.TheVariants.{Eq}
+use Rattle.vms_spec.specs.declared.Whose.TheVariants.{Own}
 use Rattle.vms_fields.specs.declared.Shape.{Shape}
 
 -- A row: a field's name and its former names as bytes, and its shape.
@@ -32,6 +35,10 @@ name_at version named name former = if nat_le named version then name else first
 abbrev pub former_at : ℕ → ℕ → List (List ℕ) → List (List ℕ)
 former_at version named former = if nat_le named version then former else []
 
+-- The test whether the flag that is field `flag` of the same description is set.
+abbrev pub is_set : ℕ → Formula
+is_set flag = Cell Own flag 1 Eq 1
+
 -- The field that a row describes at `version`.
 abbrev pub field_of_row : ℕ → Row → Field
 field_of_row version row = record {
@@ -40,7 +47,7 @@ field_of_row version row = record {
   item = Num row.shape.kind;
   count = row.shape.count;
   since = row.shape.since;
-  test = None;
+  test = option_map is_set row.shape.held_by;
   default = row.shape.default;
 }
 

@@ -1,4 +1,5 @@
 pub mod Clock
 pub mod Fields
 pub mod Pic
+pub mod Pit
 pub mod Serial

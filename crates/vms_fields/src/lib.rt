@@ -7,6 +7,7 @@
 /// The fields of the clock chip, an MC146818.
 pub mod clock;
 pub mod pic;
+pub mod pit;
 pub mod serial;
 
 use vms_kinds::Kind;
@@ -30,6 +31,9 @@ pub struct Shape {
     pub named: u32,
     /// The number in each cell if a stream doesn't have the field.
     pub default: i128,
+    /// The number, in the same description, of the flag that says whether the field is present. A
+    /// field without one is always present.
+    pub held_by: Option<u32>,
     /// The number of the subsection that has the field, from 1 on; 0 is the section.
     pub part: u8,
 }
@@ -42,6 +46,7 @@ pub const BYTE: Shape = Shape {
     since: 0,
     named: 0,
     default: 0,
+    held_by: None,
     part: 0,
 };
 

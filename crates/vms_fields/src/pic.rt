@@ -78,3 +78,6 @@ pub const NESTED: usize = ROTATE + 1;
 pub const ELCR: usize = NESTED + 1;
 
 pub const LTIM: usize = ELCR + 1;
+
+/// The number of cells of an 8259A in the newest set.
+pub const CELLS: usize = LTIM + 1;

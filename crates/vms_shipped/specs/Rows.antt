@@ -1,15 +1,14 @@
 -- What the rows of the tables of shipped sets stand for.
 use Rattle.std.specs.Prelude.{ℕ, List, [], ◌∷◌, ◌++◌, map}
 use Rattle.std.specs.Borrow.{Bor}
-use Rattle.std.specs.Option.{option_map}
 use Rattle.vms_fields.specs.Fields.{Row, fields_at}
 use Rattle.vms_fields.specs.declared.Shape.{Shape}
 use Rattle.vms_spec.specs.Sets as sets
 use Rattle.vms_spec.specs.declared.Whose.TheVariants.{Own}
-use Rattle.vms_spec.specs.Shipped.{desc, device, numbers}
+use Rattle.vms_spec.specs.Shipped.{field, desc, device}
 use Rattle.vms_shipped.specs.declared.rows.FieldRow.{FieldRow}
 use Rattle.vms_shipped.specs.declared.rows.Rows.{Rows}
-use Rattle.vms_shipped.specs.declared.rows.Rows.TheVariants.{Numbers, One, Of}
+use Rattle.vms_shipped.specs.declared.rows.Rows.TheVariants.{One, Of}
 use Rattle.vms_shipped.specs.declared.rows.DescRow.{DescRow}
 use Rattle.vms_shipped.specs.declared.rows.Asked.{Asked}
 use Rattle.vms_shipped.specs.declared.rows.Needed.{Needed}
@@ -24,7 +23,7 @@ asked_in a = sets.Cell Own a.field a.mask a.rel a.value
 
 -- the field of a row
 abbrev pub field_in : FieldRow → sets.Field
-field_in r = record { name = r.name.now; former = map (λ n. n.now) r.former.now; item = r.item; count = r.count; since = r.since; test = option_map asked_in r.asked; default = r.default }
+field_in r = record (field r.name.now r.item) { count = r.count }
 
 -- a row of a device's list
 abbrev pub listed_row : (Bor (List ℕ) × Bor (List (Bor (List ℕ))) × Shape) → Row
@@ -32,7 +31,6 @@ listed_row r = record { name = r.0.now; former = map (λ n. n.now) r.1.now; shap
 
 -- the fields of a row
 abbrev pub fields_in : Rows → List sets.Field
-fields_in (Numbers kind names) = numbers kind (map (λ n. n.now) names.now)
 fields_in (One row) = field_in row ∷ []
 fields_in (Of rows version part) = fields_at version part (map listed_row rows.now)
 

@@ -1,6 +1,7 @@
 // The tables of the timer, the interrupt controllers and the timer chip.
-use crate::rows::{Asked, BYTE, DescRow, DeviceRow, FieldRow, Needed, Rows, SubRow};
+use crate::rows::{Asked, DescRow, DeviceRow, FieldRow, Needed, Rows, SubRow};
 use vms_fields::pic::I8259 as I8259_FIELDS;
+use vms_fields::pit::{COUNTERS, I8254, PIT_CHANNEL};
 use vms_kinds::{Item, Kind};
 use vms_parts::{Count, Rel};
 
@@ -9,7 +10,11 @@ pub(crate) const TIMER: DeviceRow = DeviceRow {
     desc: DescRow {
         name: "timer",
         version: 1,
-        rows: &[Rows::Numbers(Kind::U64, &["now"])],
+        rows: &[Rows::One(FieldRow {
+            name: "now",
+            item: Item::Num(Kind::U64),
+            count: Count::One,
+        })],
     },
     subs: &[],
 };
@@ -78,96 +83,39 @@ pub(crate) const SECOND_AT_4: DeviceRow = DeviceRow {
 
 // ---- the timer chip
 
-const COUNT: Rows = Rows::Numbers(Kind::U16, &["count"]);
-
-const MODES: Rows = Rows::Numbers(Kind::U8, &["mode", "rw"]);
-
-const COUNTING: Rows = Rows::Numbers(Kind::Bool, &["bcd", "loaded"]);
-
-const LOAD_TIME: Rows = Rows::Numbers(Kind::U64, &["load_time"]);
-
-const HALVES: Rows = Rows::Numbers(Kind::Bool, &["read_high", "wlow_held"]);
-
-// The low half of a count that is being written, if one is held.
-const WLOW: Rows = Rows::One(FieldRow {
-    name: "wlow",
-    asked: Some(Asked {
-        field: 7,
-        mask: 1,
-        rel: Rel::Eq,
-        value: 1,
-    }),
-    ..BYTE
-});
-
-const LATCHED: Rows = Rows::Numbers(Kind::Bool, &["latched"]);
-
-// The latched count, if one is latched.
-const LATCH: Rows = Rows::One(FieldRow {
-    name: "latch",
-    item: Item::Num(Kind::U16),
-    asked: Some(Asked {
-        field: 9,
-        mask: 1,
-        rel: Rel::Eq,
-        value: 1,
-    }),
-    ..BYTE
-});
-
 const GATE: Rows = Rows::One(FieldRow {
     name: "gate",
     item: Item::Equal {
         kind: Kind::U8,
         value: 1,
     },
-    ..BYTE
+    count: Count::One,
 });
 
 // From version 2 on, the byte of the gate is unused.
 const NO_GATE: Rows = Rows::One(FieldRow {
     name: "gate",
     item: Item::Unused { bytes: 1 },
-    ..BYTE
+    count: Count::One,
 });
 
 // The structure of one counter.
 pub(crate) const CHANNEL_AT_1: DescRow = DescRow {
     name: "pit_channel",
     version: 1,
-    rows: &[
-        COUNT, MODES, COUNTING, LOAD_TIME, HALVES, WLOW, LATCHED, LATCH, GATE,
-    ],
+    rows: &[Rows::Of(&PIT_CHANNEL, 1, 0), GATE],
 };
 
 pub(crate) const CHANNEL_AT_2: DescRow = DescRow {
     name: "pit_channel",
     version: 1,
-    rows: &[
-        COUNT, MODES, COUNTING, LOAD_TIME, HALVES, WLOW, LATCHED, LATCH, NO_GATE,
-    ],
+    rows: &[Rows::Of(&PIT_CHANNEL, 1, 0), NO_GATE],
 };
 
 const CHANNELS: Rows = Rows::One(FieldRow {
     name: "channels",
     item: Item::Struct(0),
-    count: Count::Fixed(3),
-    ..BYTE
-});
-
-const STATUS_LATCHED: Rows = Rows::One(FieldRow {
-    name: "status_latched",
-    item: Item::Num(Kind::Bool),
-    count: Count::Fixed(3),
-    since: 2,
-    ..BYTE
-});
-
-const STATUS: Rows = Rows::One(FieldRow {
-    name: "status",
-    count: Count::Fixed(3),
-    since: 2,
-    ..BYTE
+    count: Count::Fixed(COUNTERS as u32),
 });
 
 pub(crate) const I8254_AT_1: DeviceRow = DeviceRow {
@@ -185,7 +133,7 @@ pub(crate) const I8254_AT_2: DeviceRow = DeviceRow {
     desc: DescRow {
         name: "i8254",
         version: 2,
-        rows: &[CHANNELS, STATUS_LATCHED, STATUS],
+        rows: &[CHANNELS, Rows::Of(&I8254, 2, 0)],
     },
     subs: &[],
 };

@@ -1,16 +1,15 @@
 // The parts that the rows of the tables describe.
 ghost use Rattle.std.specs.Prelude.{◌≡◌, ◌++◌, map, option_map, IfOk, OnOk};
-ghost use Rattle.vms_fields.specs.Fields.{name_at, former_at, field_of_row, listed_at, fields_at};
-ghost use Rattle.vms_spec.specs.Shipped.{numbers};
+ghost use Rattle.vms_fields.specs.Fields.{name_at, former_at, is_set, field_of_row, listed_at, fields_at};
 ghost use Rattle.vms_parts.specs.Views.{formula, formula_in, field_of, desc_of, device_of, sub_of, set_of};
 ghost use Rattle.vms_shipped.specs.Rows.{listed_row, field_in, fields_in, all_in, desc_in, asked_in, needed_in, sub_in, device_in, set_in};
 
-use crate::rows::{Asked, BYTE, DescRow, DeviceRow, FieldRow, Needed, Rows, SetRow, SubRow};
+use crate::rows::{Asked, DescRow, DeviceRow, FieldRow, Needed, Rows, SetRow, SubRow};
 use std::alloc::Global;
 use vms_fields::Row;
 use vms_io::NoMemory;
-use vms_kinds::{Item, Kind};
-use vms_parts::{Desc, Device, Field, Listed, Parts, Sub, Test, Text, Whose};
+use vms_kinds::Item;
+use vms_parts::{Desc, Device, Field, Listed, Parts, Rel, Sub, Test, Text, Whose};
 
 fn text(alloc: Global, bytes: &str) -> Result<Text, NoMemory>
     ensures { IfOk result (λ t. t ≡ bytes.now) }
@@ -56,34 +55,13 @@ fn field(alloc: Global, row: &FieldRow) -> Result<Field, NoMemory>
 {
     Ok(Field {
         name: text(alloc, row.name)?,
-        former: texts(alloc, row.former)?,
+        former: Listed::new(Vec::new(alloc)),
         item: row.item,
         count: row.count,
-        since: row.since,
-        test: boxed(alloc, row.asked)?,
-        default: row.default,
+        since: 0,
+        test: None,
+        default: 0,
     })
-}
-
-// Appends a number of this kind for each name.
-fn put_numbers(
-    alloc: Global,
-    fields: &mut Vec<Field>,
-    kind: Kind,
-    names: &'static [&'static str],
-) -> Result<(), NoMemory>
-    ensures { OnOk result (map field_of fields.new.items
-        ≡ map field_of fields.old.items ++ numbers kind (map (λ n. n.now) names.now)) }
-{
-    for name in names {
-        let row = FieldRow {
-            name: *name,
-            item: Item::Num(kind),
-            ..BYTE
-        };
-        fields.push(field(alloc, &row)?)?;
-    }
-    Ok(())
 }
 
 // Returns the name and the former names of a field at a version.
@@ -105,6 +83,21 @@ fn names_at(
     }
 }
 
+// Returns the test of a field that the flag `held_by` holds, if one does.
+fn held(held_by: Option<u32>) -> Option<Asked>
+    ensures { option_map asked_in result ≡ option_map is_set held_by }
+{
+    match held_by {
+        Some(field) => Some(Asked {
+            field,
+            mask: 1,
+            rel: Rel::Eq,
+            value: 1,
+        }),
+        None => None,
+    }
+}
+
 // Returns the field of a row of a device's list at `version`.
 fn listed(alloc: Global, row: &Row, version: u32) -> Result<Field, NoMemory>
     ensures { IfOk result (λ f. field_of f ≡ field_of_row version (listed_row row.now)) }
@@ -117,7 +110,7 @@ fn listed(alloc: Global, row: &Row, version: u32) -> Result<Field, NoMemory>
         item: Item::Num(shape.kind),
         count: shape.count,
         since: shape.since,
-        test: None,
+        test: boxed(alloc, held(shape.held_by))?,
         default: shape.default,
     })
 }
@@ -162,7 +155,6 @@ fn put(alloc: Global, fields: &mut Vec<Field>, rows: &Rows) -> Result<(), NoMemo
         (map field_of fields.new.items ≡ map field_of fields.old.items ++ fields_in rows.now) }
 {
     match rows {
-        Rows::Numbers(kind, names) => put_numbers(alloc, fields, *kind, *names),
         Rows::One(row) => Ok(fields.push(field(alloc, row)?)?),
         Rows::Of(rows, version, part) => put_list(alloc, fields, *rows, *version, *part),
     }
@@ -173,7 +165,6 @@ fn most_fields(rows: &[Rows]) -> usize {
     let mut most: usize = 0;
     for row in rows {
         most = most.saturating_add(match row {
-            Rows::Numbers(_, names) => names.len(),
             Rows::One(_) => 1,
             Rows::Of(rows, _, _) => rows.len(),
         });

@@ -1,13 +1,11 @@
 // The rows of the tables of the shipped sets.
 use vms_fields::Row;
-use vms_kinds::{Item, Kind};
+use vms_kinds::Item;
 use vms_parts::{Count, Rel};
 
 /// Some fields of a description.
 #[derive(Clone, Copy)]
 pub(crate) enum Rows {
-    /// A number of this kind for each of the names.
-    Numbers(Kind, &'static [&'static str]),
     /// One field.
     One(FieldRow),
     /// The fields of a device's list that are in a part at a version: first the list, then the
@@ -15,29 +13,14 @@ pub(crate) enum Rows {
     Of(&'static [Row], u32, u8),
 }
 
-/// A field of a description.
+/// A field of a description that is in no device's list. It has no former names and no test, is in
+/// every version, and its default is 0.
 #[derive(Clone, Copy)]
 pub(crate) struct FieldRow {
     pub(crate) name: &'static str,
-    pub(crate) former: &'static [&'static str],
     pub(crate) item: Item,
     pub(crate) count: Count,
-    pub(crate) since: u32,
-    /// The test of the field, if it has one.
-    pub(crate) asked: Option<Asked>,
-    pub(crate) default: i128,
 }
-
-/// A number of one byte, from which other rows are made.
-pub(crate) const BYTE: FieldRow = FieldRow {
-    name: "",
-    former: &[],
-    item: Item::Num(Kind::U8),
-    count: Count::One,
-    since: 0,
-    asked: None,
-    default: 0,
-};
 
 /// A description, whose minimum version is 1 and which has no validations.
 #[derive(Clone, Copy)]
