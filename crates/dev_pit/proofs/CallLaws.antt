@@ -1,36 +1,23 @@
 -- What calls leave unchanged in a counter.
-use Rattle.std.proofs.Common.{◌≡◌, ℕ, ◌+◌, ◌-◌, ◌<◌, ◌≤◌, ◌==◌, Bool, true, false, ◌&&◌, Option, Some, None, refl, arith, subst, ⊎_elim}
-use Rattle.std.proofs.lemmas.Bool.Decides.{nat_tests}
-use Rattle.std.specs.Prelude.{nat_le, is_some}
-use Rattle.std.proofs.lemmas.Bool.{cases_Bool}
-use Rattle.dev_pit.specs.Calls.{reads, writes, called, programs, sets_mode_of, loads, completes}
-use Rattle.dev_pit.specs.Control.{control_word}
-use Rattle.dev_pit.specs.Count.{out_at, ticks}
-use Rattle.dev_pit.specs.Counter.{out_of, out_since, written, written_by, written_low_first, read_of, latched}
-use Rattle.dev_pit.specs.GoesOn.{GoesOn}
-use Rattle.dev_pit.specs.Laws.{CountingGoesOn, TerminalCountStays}
-use Rattle.dev_pit.specs.Pit.{counter_of, pit_read, pit_out, asked_back, controlled, pit_written}
-use Rattle.dev_pit.specs.declared.control.ControlWord.{ControlWord}
-use Rattle.dev_pit.specs.declared.control.ControlWord.TheVariants.{LatchCount, SetMode, ReadBack}
-use Rattle.dev_pit.specs.declared.counter.Counter.{Counter}
-use Rattle.dev_pit.specs.declared.limits.TheConstants.{READ_BACK_LEVEL}
-use Rattle.dev_pit.specs.declared.mode.Access.{Access}
-use Rattle.dev_pit.specs.declared.mode.Access.TheVariants.{LowByte, HighByte, LowThenHigh}
-use Rattle.dev_pit.specs.declared.mode.Mode.TheVariants.{TerminalCount}
-use Rattle.dev_pit.specs.declared.pit.Pit.{Pit}
-use Rattle.dev_base.proofs.Choices.{either}
+use Rattle.dev_pit.proofs.Facade.{◌≡◌, ℕ, ◌+◌, ◌-◌, ◌<◌, ◌≤◌, ◌==◌, Bool, true, false, ◌&&◌, Option, Some, None, refl, arith, subst, ⊎_elim, nat_tests, nat_le}
+use Rattle.dev_pit.proofs.Facade.{is_some, cases_Bool, reads, writes, called, programs, sets_mode_of, loads, completes, control_word, out_at, ticks, out_of}
+use Rattle.dev_pit.proofs.Facade.{out_since, written, written_by, written_low_first, read_of, latched, GoesOn, CountingGoesOn, TerminalCountStays, counter_of}
+use Rattle.dev_pit.proofs.Facade.{pit_read, pit_out, asked_back, controlled, pit_written, ControlWord, LatchCount, SetMode, ReadBack, Counter, READ_BACK_LEVEL}
+use Rattle.dev_pit.proofs.Facade.{Access, LowByte, HighByte, LowThenHigh, TerminalCount, Pit, either}
 use Rattle.dev_pit.proofs.Chips.{at_counter}
 use Rattle.dev_pit.proofs.CounterSteps.{same, goes-on, latched-goes_on, read_back-goes_on, read-goes_on}
 use Rattle.dev_pit.proofs.Edges.{ticks-mono}
 
-asked-go_on : (count status : Bool) (j k now : ℕ) (before : Counter) (pit : Pit) → GoesOn before (counter_of k pit) → GoesOn before (counter_of k (asked_back count status j now pit))
+asked-go_on : (count status : Bool) (j k now : ℕ) (before : Counter) (pit : Pit) → GoesOn before (counter_of k pit)
+    → GoesOn before (counter_of k (asked_back count status j now pit))
 unfolding asked_back
 asked-go_on count status j k now before pit g =
     at_counter (GoesOn before) k j _ pit
     (λ here. goes-on before (counter_of j pit) _ (subst (λ (i : ℕ). GoesOn before (counter_of i pit)) here g) (read_back-goes_on _ _ now (counter_of j pit))) g
 
 -- A control word that doesn't set the mode of counter k leaves it counting.
-control-goes_on : (word : ControlWord) (k now : ℕ) (pit : Pit) → sets_mode_of k word ≡ false → GoesOn (counter_of k pit) (counter_of k (controlled word now pit))
+control-goes_on : (word : ControlWord) (k now : ℕ) (pit : Pit) → sets_mode_of k word ≡ false
+    → GoesOn (counter_of k pit) (counter_of k (controlled word now pit))
 unfolding controlled
 control-goes_on (LatchCount j) k now pit e =
     at_counter (GoesOn (counter_of k pit)) k j _ pit
@@ -67,7 +54,8 @@ write-goes_on k now port value pit h c programs loads =
     rw control (control-goes_on (control_word value) k now pit unset))
     (λ data_port. let j : ℕ = port - 0x40 in
     rw data_port (at_counter (GoesOn (counter_of k pit)) k j _ pit
-    (λ here. subst (λ (i : ℕ). GoesOn (counter_of k pit) (written value now (counter_of i pit))) here (written-goes_on value now (counter_of k pit) (completing port k _ c.0 here loads)))
+    (λ here. subst (λ (i : ℕ). GoesOn (counter_of k pit) (written value now (counter_of i pit))) here
+    (written-goes_on value now (counter_of k pit) (completing port k _ c.0 here loads)))
     (same (counter_of k pit))))
     (cases_Bool (port == 0x43))
 
@@ -80,7 +68,8 @@ counting_goes_on k now (reads j) pit h c p l =
 counting_goes_on k now (writes port value) pit h c p l = write-goes_on k now port value pit h (c.0.0, c.0.1, c.1) p l
 
 -- OUT after terminal count
-terminal-later : (load : Option ℕ) (count now later : ℕ) → now ≤ later → out_since load TerminalCount count now ≡ true → out_since load TerminalCount count later ≡ true
+terminal-later : (load : Option ℕ) (count now later : ℕ) → now ≤ later → out_since load TerminalCount count now ≡ true
+    → out_since load TerminalCount count later ≡ true
 unfolding out_at
 terminal-later None count now later h e = cc
 terminal-later (Some load) count now later h e = let l : ticks load now ≤ ticks load later = ticks-mono load now later h in grind (arith, nat_tests)
@@ -98,5 +87,6 @@ unfolding pit_out
 terminal_count_stays = record {
   in_time = λ k now later pit m h e. out-later (counter_of k pit) now later m h e;
   in_calls = λ k now later moment call pit small valid p l m h e.
-      rw (out-goes_on (counter_of k pit) (counter_of k (called call moment pit)) later (counting_goes_on k moment call pit small valid p l)) (out-later (counter_of k pit) now later m h e);
+      rw (out-goes_on (counter_of k pit) (counter_of k (called call moment pit)) later (counting_goes_on k moment call pit small valid p l))
+      (out-later (counter_of k pit) now later m h e);
 }

@@ -1,10 +1,6 @@
 -- The number of cells of a chip.
-use Rattle.std.proofs.Common.{ℕ, ◌≤◌, Bool, true, false, cond, List, [], ◌++◌, ℤ, length, codes, arith}
-use Rattle.std.specs.Prelude.{nat_le}
-use Rattle.vms_fields.specs.Fields.{numbers_of}
-use Rattle.vms_fields.specs.declared.pit.TheConstants.{STATUS_SINCE, CELLS}
-use Rattle.dev_pit.specs.Cells.{named_statuses, channel_cells, status_cells, three_cells}
-use Rattle.dev_pit.specs.declared.channel.Channel.{Channel}
+use Rattle.dev_pit.proofs.Facade.{ℕ, ◌≤◌, Bool, true, false, cond, List, [], ◌++◌, ℤ, length, codes, arith, nat_le, numbers_of, STATUS_SINCE, CELLS}
+use Rattle.dev_pit.proofs.Facade.{named_statuses, channel_cells, status_cells, three_cells, Channel}
 
 -- The cells of the statuses, by whether the set has them.
 abbrev statuses_where : Bool → Channel → Channel → Channel → List ℤ

@@ -1,14 +1,11 @@
 -- The counters of a chip, and what holds for each after one was replaced.
-use Rattle.std.proofs.Common.{◌≡◌, ℕ, zero, suc, ◌<◌, List, [], ◌∷◌, length, slice_index_or, slice_set, refl, ap, arith}
-use Rattle.std.proofs.lemmas.List.{length-set}
-use Rattle.dev_pit.specs.Counter.{powered_on}
-use Rattle.dev_pit.specs.Pit.{counter_of, with_counter}
-use Rattle.dev_pit.specs.declared.counter.Counter.{Counter}
-use Rattle.dev_pit.specs.declared.pit.Pit.{Pit}
+use Rattle.dev_pit.proofs.Facade.{◌≡◌, ℕ, zero, suc, ◌<◌, List, [], ◌∷◌, length, slice_index_or, slice_set, refl, ap, arith, length-set, powered_on, counter_of}
+use Rattle.dev_pit.proofs.Facade.{with_counter, Counter, Pit}
 
 -- A fact of an element after another or the same was replaced: of the new one at its place, of the
 -- old one elsewhere.
-read-set : (P : Counter → Type 0) (xs : List Counter) (k j : ℕ) (counter default : Counter) → (k ≡ j → P counter) → P (slice_index_or xs k default) → P (slice_index_or (slice_set xs j counter) k default)
+read-set : (P : Counter → Type 0) (xs : List Counter) (k j : ℕ) (counter default : Counter) → (k ≡ j → P counter) → P (slice_index_or xs k default)
+    → P (slice_index_or (slice_set xs j counter) k default)
 read-set P [] k j counter default here there = there
 read-set P (x ∷ xs) zero zero counter default here there = here refl
 read-set P (x ∷ xs) zero (suc j) counter default here there = there
@@ -16,7 +13,8 @@ read-set P (x ∷ xs) (suc k) zero counter default here there = there
 read-set P (x ∷ xs) (suc k) (suc j) counter default here there = read-set P xs k j counter default (λ e. here (ap suc e)) there
 
 -- A fact of counter `k` after counter `j` was replaced.
-pub at_counter : (P : Counter → Type 0) (k j : ℕ) (counter : Counter) (pit : Pit) → (k ≡ j → P counter) → P (counter_of k pit) → P (counter_of k (with_counter j counter pit))
+pub at_counter : (P : Counter → Type 0) (k j : ℕ) (counter : Counter) (pit : Pit) → (k ≡ j → P counter) → P (counter_of k pit)
+    → P (counter_of k (with_counter j counter pit))
 at_counter P k j counter pit here there = read-set P pit.counters k j counter powered_on here there
 
 -- The number of counters stays.
@@ -24,7 +22,8 @@ pub count-with : (j : ℕ) (counter : Counter) (pit : Pit) → length (with_coun
 count-with j counter pit = length-set pit.counters j counter
 
 -- Three counters are those numbered 0 to 2.
-pub three_counters : (xs : List Counter) (default : Counter) → length xs ≡ 3 → slice_index_or xs 0 default ∷ slice_index_or xs 1 default ∷ slice_index_or xs 2 default ∷ [] ≡ xs
+pub three_counters : (xs : List Counter) (default : Counter) → length xs ≡ 3
+    → slice_index_or xs 0 default ∷ slice_index_or xs 1 default ∷ slice_index_or xs 2 default ∷ [] ≡ xs
 three_counters (a ∷ b ∷ c ∷ []) default e = refl
 three_counters [] default e = absurd (omega (arith, e))
 three_counters (a ∷ []) default e = absurd (omega (arith, e))

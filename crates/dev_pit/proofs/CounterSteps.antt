@@ -1,11 +1,6 @@
 -- Which steps of a counter leave its counting as it was.
-use Rattle.std.proofs.Common.{ℕ, Bool, true, false, Option, Some, None, refl, ◌∙◌}
-use Rattle.dev_base.proofs.Choices.{either}
-use Rattle.dev_pit.specs.Counter.{latched, status_latched, read_back, read_of, read_by, counted_of, counted_by}
-use Rattle.dev_pit.specs.GoesOn.{GoesOn}
-use Rattle.dev_pit.specs.declared.counter.Counter.{Counter}
-use Rattle.dev_pit.specs.declared.mode.Access.{Access}
-use Rattle.dev_pit.specs.declared.mode.Access.TheVariants.{LowByte, HighByte, LowThenHigh}
+use Rattle.dev_pit.proofs.Facade.{ℕ, Bool, true, false, Option, Some, None, refl, ◌∙◌, either, latched, status_latched, read_back, read_of, read_by, counted_of}
+use Rattle.dev_pit.proofs.Facade.{counted_by, GoesOn, Counter, Access, LowByte, HighByte, LowThenHigh}
 
 pub same : (counter : Counter) → GoesOn counter counter
 same counter = record { count = refl; mode = refl; loaded_at = refl }
@@ -36,7 +31,8 @@ counted_by-goes_on : (access : Access) (count : ℕ) (counter : Counter) → Goe
 counted_by-goes_on LowByte count counter = record { after = record { count = refl; mode = refl; loaded_at = refl } }
 counted_by-goes_on HighByte count counter = record { after = record { count = refl; mode = refl; loaded_at = refl } }
 counted_by-goes_on LowThenHigh count counter =
-    either (Goes counter) counter.read_high _ _ (record { after = record { count = refl; mode = refl; loaded_at = refl } }) (record { after = record { count = refl; mode = refl; loaded_at = refl } })
+    either (Goes counter) counter.read_high _ _ (record { after = record { count = refl; mode = refl; loaded_at = refl } })
+    (record { after = record { count = refl; mode = refl; loaded_at = refl } })
 
 read_by-goes_on : (status : Option ℕ) (now : ℕ) (counter : Counter) → Goes counter (read_by status now counter)
 unfolding counted_of

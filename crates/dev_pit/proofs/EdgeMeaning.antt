@@ -1,15 +1,8 @@
 -- An edge is a tick at which OUT turns high.
-use Rattle.std.proofs.Common.{◌≡◌, ℕ, ◌+◌, ◌-◌, ◌*◌, ◌/◌, ◌%◌, ◌<◌, ◌≤◌, ◌==◌, true, false, not, ◌&&◌, Option, Some, None, refl, arith, subst, sym, ⊎_elim}
-use Rattle.std.proofs.lemmas.Bool.{cases_lt, cases_Bool}
-use Rattle.std.proofs.lemmas.Bool.Decides.{nat_tests}
-use Rattle.std.proofs.Math.Nat.{div-mul-le_self, div-lt_iff_lt-mul}
-use Rattle.std.proofs.lemmas.Nat.{le-div, mod-mul-add, div-add-mod'}
-use Rattle.std.specs.Prelude.{nat_lt, nat_le}
-use Rattle.dev_pit.specs.Count.{rises, out_at, period, high_part, ticks}
-use Rattle.dev_pit.specs.Counter.{edge_of, edge_since}
-use Rattle.dev_pit.specs.Laws.{EdgeTurnsHigh}
-use Rattle.dev_pit.specs.declared.mode.Mode.{Mode}
-use Rattle.dev_pit.specs.declared.mode.Mode.TheVariants.{TerminalCount, OneShot, RateGenerator, SquareWave, SoftwareStrobe, HardwareStrobe}
+use Rattle.dev_pit.proofs.Facade.{◌≡◌, ℕ, ◌+◌, ◌-◌, ◌*◌, ◌/◌, ◌%◌, ◌<◌, ◌≤◌, ◌==◌, true, false, not, ◌&&◌, Option, Some, None, refl, arith, subst, sym, ⊎_elim}
+use Rattle.dev_pit.proofs.Facade.{cases_lt, cases_Bool, nat_tests, div-mul-le_self, div-lt_iff_lt-mul, le-div, mod-mul-add, div-add-mod', nat_lt, nat_le, rises}
+use Rattle.dev_pit.proofs.Facade.{out_at, period, high_part, ticks, edge_of, edge_since, EdgeTurnsHigh, Mode, TerminalCount, OneShot, RateGenerator, SquareWave}
+use Rattle.dev_pit.proofs.Facade.{SoftwareStrobe, HardwareStrobe}
 use Rattle.dev_pit.proofs.Edges.{period-pos}
 
 -- OUT is low after tick - 1 ticks and high after tick, for some tick of the span
@@ -103,7 +96,8 @@ unfolding out_at
 square-below count k one e = grind (arith, nat_tests)
 
 -- The modes with periods; `low_last`, `high_first` and `last` say what OUT is in the mode.
-periodic-turns : (mode : Mode) (count before after : ℕ) → (count == 1) ≡ false → ((k : ℕ) → k % period count ≡ period count - 1 → out_at mode count k ≡ false) → ((k : ℕ) → k % period count ≡ 0 → out_at mode count k ≡ true) → before / period count < after / period count → Turns mode count before after
+periodic-turns : (mode : Mode) (count before after : ℕ) → (count == 1) ≡ false → ((k : ℕ) → k % period count ≡ period count - 1 → out_at mode count k ≡ false)
+    → ((k : ℕ) → k % period count ≡ 0 → out_at mode count k ≡ true) → before / period count < after / period count → Turns mode count before after
 periodic-turns mode count before after one low_last high_first l =
     let h : 2 ≤ period count = two count one in
     let s : Starts (period count) before after = starts (period count) before after h l in
@@ -116,7 +110,8 @@ periodic-turns mode count before after one low_last high_first l =
     }
 
 rate-grown : (count before after : ℕ) → (count == 1) ≡ false → Turns RateGenerator count before after → before / period count < after / period count
-rate-grown count before after one t = grown-from_last (period count) before after t.tick (two count one) t.above t.within (rate-last count (t.tick - 1) one t.low)
+rate-grown count before after one t =
+    grown-from_last (period count) before after t.tick (two count one) t.above t.within (rate-last count (t.tick - 1) one t.low)
 
 square-grown : (count before after : ℕ) → (count == 1) ≡ false → Turns SquareWave count before after → before / period count < after / period count
 square-grown count before after one t =
@@ -135,7 +130,8 @@ square-grown count before after one t =
 
 -- For a count of 1, OUT is high at each tick.
 no_turns : (mode : Mode) (count before after : ℕ) → ((k : ℕ) → out_at mode count k ≡ true) → Turns mode count before after → ⊥
-no_turns mode count before after high t = let e : out_at mode count (t.tick - 1) ≡ true = high (t.tick - 1) in let l : out_at mode count (t.tick - 1) ≡ false = t.low in cc
+no_turns mode count before after high t =
+    let e : out_at mode count (t.tick - 1) ≡ true = high (t.tick - 1) in let l : out_at mode count (t.tick - 1) ≡ false = t.low in cc
 
 rate-one : (count k : ℕ) → (count == 1) ≡ true → out_at RateGenerator count k ≡ true
 unfolding out_at
@@ -209,11 +205,13 @@ turns-from_rises TerminalCount count before after e = terminal-turns count befor
 turns-from_rises OneShot count before after e = cc
 turns-from_rises RateGenerator count before after e =
     ⊎_elim (λ one. absurd (periodic-not_one count _ _ one e))
-    (λ one. periodic-turns RateGenerator count before after one (λ k h. rate-low count k one h) (λ k h. rate-high count k one h) (grown-periodic count _ _ one e))
+    (λ one. periodic-turns RateGenerator count before after one (λ k h. rate-low count k one h) (λ k h. rate-high count k one h)
+    (grown-periodic count _ _ one e))
     (cases_Bool (count == 1))
 turns-from_rises SquareWave count before after e =
     ⊎_elim (λ one. absurd (periodic-not_one count _ _ one e))
-    (λ one. periodic-turns SquareWave count before after one (λ k h. square-low count k one h) (λ k h. square-high count k one h) (grown-periodic count _ _ one e))
+    (λ one. periodic-turns SquareWave count before after one (λ k h. square-low count k one h) (λ k h. square-high count k one h)
+    (grown-periodic count _ _ one e))
     (cases_Bool (count == 1))
 turns-from_rises SoftwareStrobe count before after e = strobe-turns count before after e
 turns-from_rises HardwareStrobe count before after e = cc
@@ -235,17 +233,29 @@ rises-from_turns SoftwareStrobe count before after t = strobe-rises count before
 rises-from_turns HardwareStrobe count before after t = absurd (no_turns HardwareStrobe count before after (λ k. strobe-high count k) t)
 
 -- The same for a counter and moments.
-since-turns : (load : Option ℕ) (mode : Mode) (count from to : ℕ) → edge_since load mode count from to ≡ true → (start : ℕ) × (load ≡ Some start) × Turns mode count (ticks start from) (ticks start to)
+since-turns : (load : Option ℕ) (mode : Mode) (count from to : ℕ) → edge_since load mode count from to ≡ true
+    → (start : ℕ) × (load ≡ Some start) × Turns mode count (ticks start from) (ticks start to)
 since-turns None mode count from to e = cc
 since-turns (Some load) mode count from to e = (load, refl, turns-from_rises mode count _ _ e)
 
-turns-since : (load : Option ℕ) (mode : Mode) (count from to start : ℕ) → load ≡ Some start → Turns mode count (ticks start from) (ticks start to) → edge_since load mode count from to ≡ true
+turns-since : (load : Option ℕ) (mode : Mode) (count from to start : ℕ) → load ≡ Some start → Turns mode count (ticks start from) (ticks start to)
+    → edge_since load mode count from to ≡ true
 turns-since load mode count from to start e t = rw e (rises-from_turns mode count _ _ t)
 
 pub edge_turns_high : EdgeTurnsHigh
 unfolding edge_of
 edge_turns_high counter from to = (
-  λ e. let found : (start : ℕ) × (counter.loaded_at ≡ Some start) × Turns counter.mode counter.count (ticks start from) (ticks start to) = since-turns counter.loaded_at counter.mode counter.count from to e in
-      record { load = found.0; is_loaded = found.1; tick = found.2.tick; after = found.2.above; not_after = found.2.within; low = found.2.low; high = found.2.high },
-  λ t. turns-since counter.loaded_at counter.mode counter.count from to t.load t.is_loaded (record { tick = t.tick; above = t.after; within = t.not_after; low = t.low; high = t.high }),
+  λ e. let found : (start : ℕ) × (counter.loaded_at ≡ Some start) × Turns counter.mode counter.count (ticks start from)
+      (ticks start to) = since-turns counter.loaded_at counter.mode counter.count from to e in
+      record {
+        load = found.0;
+        is_loaded = found.1;
+        tick = found.2.tick;
+        after = found.2.above;
+        not_after = found.2.within;
+        low = found.2.low;
+        high = found.2.high;
+      },
+  λ t. turns-since counter.loaded_at counter.mode counter.count from to t.load t.is_loaded
+      (record { tick = t.tick; above = t.after; within = t.not_after; low = t.low; high = t.high }),
 )

@@ -1,13 +1,7 @@
 -- An edge in a span of time is one in a part of it.
-use Rattle.std.proofs.Common.{◌≡◌, ℕ, ◌+◌, ◌/◌, ◌<◌, ◌≤◌, ◌==◌, Bool, true, false, not, ◌&&◌, ◌||◌, Option, Some, None, refl, arith}
-use Rattle.std.proofs.lemmas.Bool.Decides.{nat_tests}
-use Rattle.std.specs.Prelude.{nat_lt, nat_le}
-use Rattle.dev_base.proofs.Quotients.{grown, quotient_mono}
-use Rattle.dev_pit.specs.Count.{rises, ticks, period}
-use Rattle.dev_pit.specs.Counter.{edge_of, edge_since}
-use Rattle.dev_pit.specs.Laws.{TicksGoOn, SecondsHaveTicks, EdgeInParts}
-use Rattle.dev_pit.specs.declared.mode.Mode.{Mode}
-use Rattle.dev_pit.specs.declared.mode.Mode.TheVariants.{TerminalCount, OneShot, RateGenerator, SquareWave, SoftwareStrobe, HardwareStrobe}
+use Rattle.dev_pit.proofs.Facade.{◌≡◌, ℕ, ◌+◌, ◌/◌, ◌<◌, ◌≤◌, ◌==◌, Bool, true, false, not, ◌&&◌, ◌||◌, Option, Some, None, refl, arith, nat_tests, nat_lt}
+use Rattle.dev_pit.proofs.Facade.{nat_le, grown, quotient_mono, rises, ticks, period, edge_of, edge_since, TicksGoOn, SecondsHaveTicks, EdgeInParts, Mode}
+use Rattle.dev_pit.proofs.Facade.{TerminalCount, OneShot, RateGenerator, SquareWave, SoftwareStrobe, HardwareStrobe}
 
 -- Ticks never go back.
 pub ticks-mono : (load now later : ℕ) → now ≤ later → ticks load now ≤ ticks load later
@@ -44,7 +38,8 @@ rises-parts SquareWave count a b c h l = periods count a b c h l
 rises-parts SoftwareStrobe count a b c h l = passed (period count + 1) a b c h l
 rises-parts HardwareStrobe count a b c h l = refl
 
-since-parts : (load : Option ℕ) (mode : Mode) (count from between to : ℕ) → from ≤ between → between ≤ to → edge_since load mode count from to ≡ (edge_since load mode count from between || edge_since load mode count between to)
+since-parts : (load : Option ℕ) (mode : Mode) (count from between to : ℕ) → from ≤ between → between ≤ to
+    → edge_since load mode count from to ≡ (edge_since load mode count from between || edge_since load mode count between to)
 since-parts None mode count from between to h l = refl
 since-parts (Some load) mode count from between to h l = rises-parts mode count _ _ _ (ticks-mono load from between h) (ticks-mono load between to l)
 

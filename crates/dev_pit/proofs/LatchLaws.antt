@@ -1,21 +1,9 @@
 -- A latched count stays until it is read or the counter is programmed.
-use Rattle.std.proofs.Common.{◌≡◌, ℕ, ◌-◌, ◌<◌, ◌≤◌, ◌==◌, Bool, true, false, not, ◌&&◌, Option, Some, None, refl, arith, subst, ⊎_elim}
-use Rattle.std.proofs.lemmas.Bool.Decides.{nat_tests}
-use Rattle.std.specs.Prelude.{nat_le, is_some}
-use Rattle.std.proofs.lemmas.Bool.{cases_Bool}
-use Rattle.dev_pit.specs.Calls.{Call, reads, writes, IsCall, called, programs, sets_mode_of, reads_latch, is_last}
-use Rattle.dev_pit.specs.Control.{control_word}
-use Rattle.dev_pit.specs.Counter.{loaded, written, written_by, written_low_first, read_of, read_by, counted_of, counted_by, latched, status_latched, read_back}
-use Rattle.dev_pit.specs.Laws.{LatchStays}
-use Rattle.dev_pit.specs.Pit.{counter_of, pit_read, asked_back, controlled, pit_written}
-use Rattle.dev_pit.specs.declared.control.ControlWord.{ControlWord}
-use Rattle.dev_pit.specs.declared.control.ControlWord.TheVariants.{LatchCount, SetMode, ReadBack}
-use Rattle.dev_pit.specs.declared.counter.Counter.{Counter}
-use Rattle.dev_pit.specs.declared.limits.TheConstants.{READ_BACK_LEVEL}
-use Rattle.dev_pit.specs.declared.mode.Access.{Access}
-use Rattle.dev_pit.specs.declared.mode.Access.TheVariants.{LowByte, HighByte, LowThenHigh}
-use Rattle.dev_pit.specs.declared.pit.Pit.{Pit}
-use Rattle.dev_base.proofs.Choices.{either}
+use Rattle.dev_pit.proofs.Facade.{◌≡◌, ℕ, ◌-◌, ◌<◌, ◌≤◌, ◌==◌, Bool, true, false, not, ◌&&◌, Option, Some, None, refl, arith, subst, ⊎_elim, nat_tests, nat_le}
+use Rattle.dev_pit.proofs.Facade.{is_some, cases_Bool, Call, reads, writes, IsCall, called, programs, sets_mode_of, reads_latch, is_last, control_word, loaded}
+use Rattle.dev_pit.proofs.Facade.{written, written_by, written_low_first, read_of, read_by, counted_of, counted_by, latched, status_latched, read_back}
+use Rattle.dev_pit.proofs.Facade.{LatchStays, counter_of, pit_read, asked_back, controlled, pit_written, ControlWord, LatchCount, SetMode, ReadBack, Counter}
+use Rattle.dev_pit.proofs.Facade.{READ_BACK_LEVEL, Access, LowByte, HighByte, LowThenHigh, Pit, either}
 use Rattle.dev_pit.proofs.Chips.{at_counter}
 
 -- A counter with this latched count.
@@ -57,28 +45,33 @@ unfolding written
 written-holds value held now counter h = by-holds counter.access value held now counter h
 
 -- A read that returns a status or a first byte keeps it.
-counted_by-holds : (access : Access) (count held : ℕ) (counter : Counter) → is_last access counter ≡ false → Holds held counter → Holds held (counted_by access count counter).1
+counted_by-holds : (access : Access) (count held : ℕ) (counter : Counter) → is_last access counter ≡ false → Holds held counter
+    → Holds held (counted_by access count counter).1
 counted_by-holds LowByte count held counter e h = cc
 counted_by-holds HighByte count held counter e h = cc
 counted_by-holds LowThenHigh count held counter e h = rw e (record { latch = h.latch })
 
-read_by-holds : (status : Option ℕ) (held now : ℕ) (counter : Counter) → (not (is_some status) && is_last counter.access counter) ≡ false → Holds held counter → Holds held (read_by status now counter).1
+read_by-holds : (status : Option ℕ) (held now : ℕ) (counter : Counter) → (not (is_some status) && is_last counter.access counter) ≡ false → Holds held counter
+    → Holds held (read_by status now counter).1
 unfolding counted_of
 read_by-holds None held now counter e h = counted_by-holds counter.access _ held counter e h
 read_by-holds (Some status) held now counter e h = record { latch = h.latch }
 
-read-holds : (held now : ℕ) (counter : Counter) → (not (is_some counter.status) && is_last counter.access counter) ≡ false → Holds held counter → Holds held (read_of now counter).1
+read-holds : (held now : ℕ) (counter : Counter) → (not (is_some counter.status) && is_last counter.access counter) ≡ false → Holds held counter
+    → Holds held (read_of now counter).1
 unfolding read_of
 read-holds held now counter e h = read_by-holds counter.status held now counter e h
 
 -- The whole chip.
-asked-holds : (count status : Bool) (j k held now : ℕ) (pit : Pit) → Holds held (counter_of k pit) → Holds held (counter_of k (asked_back count status j now pit))
+asked-holds : (count status : Bool) (j k held now : ℕ) (pit : Pit) → Holds held (counter_of k pit)
+    → Holds held (counter_of k (asked_back count status j now pit))
 unfolding asked_back
 asked-holds count status j k held now pit h =
     at_counter (Holds held) k j _ pit
     (λ here. read_back-holds _ _ held now (counter_of j pit) (subst (λ (i : ℕ). Holds held (counter_of i pit)) here h)) h
 
-control-holds : (word : ControlWord) (k held now : ℕ) (pit : Pit) → sets_mode_of k word ≡ false → Holds held (counter_of k pit) → Holds held (counter_of k (controlled word now pit))
+control-holds : (word : ControlWord) (k held now : ℕ) (pit : Pit) → sets_mode_of k word ≡ false → Holds held (counter_of k pit)
+    → Holds held (counter_of k (controlled word now pit))
 unfolding controlled
 control-holds (LatchCount j) k held now pit e h =
     at_counter (Holds held) k j _ pit
@@ -100,7 +93,8 @@ write-holds k held now port value pit l c e h =
     h))
     (cases_Bool (port == 0x43))
 
-call-holds : (k held now : ℕ) (call : Call) (pit : Pit) → k < 3 → IsCall call → programs k call ≡ false → reads_latch k call pit ≡ false → Holds held (counter_of k pit) → Holds held (counter_of k (called call now pit))
+call-holds : (k held now : ℕ) (call : Call) (pit : Pit) → k < 3 → IsCall call → programs k call ≡ false → reads_latch k call pit ≡ false
+    → Holds held (counter_of k pit) → Holds held (counter_of k (called call now pit))
 unfolding called programs reads_latch pit_read
 call-holds k held now (reads j) pit l c p r h =
     at_counter (Holds held) k j _ pit
@@ -111,7 +105,8 @@ call-holds k held now (reads j) pit l c p r h =
 call-holds k held now (writes port value) pit l c p r h = write-holds k held now port value pit l (c.0.0, c.0.1, c.1) p h
 
 -- What is read of a latched count is the same at any moment.
-read_by-held : (status : Option ℕ) (now later held : ℕ) (counter : Counter) → counter.latch ≡ Some held → read_by status now counter ≡ read_by status later counter
+read_by-held : (status : Option ℕ) (now later held : ℕ) (counter : Counter) → counter.latch ≡ Some held
+    → read_by status now counter ≡ read_by status later counter
 read_by-held None now later held counter e = rw e refl
 read_by-held (Some status) now later held counter e = refl
 

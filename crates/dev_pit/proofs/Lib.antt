@@ -1,14 +1,13 @@
 pub mod CallLaws
 pub mod CellCounts
-pub mod ChannelPlaces
 pub mod Chips
 pub mod CounterSteps
 pub mod EdgeMeaning
 pub mod Edges
+pub mod Facade
 pub mod LatchLaws
 pub mod Marks
 pub mod Moments
-pub mod PlainSound
 pub mod ReadBackLaw
 pub mod RestoredLaw
 pub mod SavedLaw
@@ -16,4 +15,3 @@ pub mod SheetNumbers
 pub mod SoundLaws
 pub mod SoundSteps
 pub mod StatusLaw
-pub mod TurnLaws

@@ -1,20 +1,9 @@
 -- A counter that was loaded by a moment was loaded by each later one.
-use Rattle.std.proofs.Common.{◌≡◌, ℕ, ◌<◌, ◌≤◌, Bool, Option, Some, None, length, slice_index_or, subst, sym, ap, ◌∙◌, arith}
-use Rattle.std.specs.Prelude.{nat_le}
-use Rattle.std.proofs.lemmas.List.{get_or_default}
-use Rattle.dev_pit.specs.Counter.{LoadedBy, loaded, written, written_by, written_low_first, programmed, powered_on, read_of, read_back, latched}
-use Rattle.dev_pit.specs.GoesOn.{GoesOn}
-use Rattle.dev_pit.specs.Pit.{IsLoadedBy, counter_of, with_counter, asked_back, controlled}
-use Rattle.dev_pit.specs.declared.control.ControlWord.{ControlWord}
-use Rattle.dev_pit.specs.declared.control.ControlWord.TheVariants.{LatchCount, SetMode, ReadBack}
-use Rattle.dev_pit.specs.declared.counter.Counter.{Counter}
-use Rattle.dev_pit.specs.declared.limits.TheConstants.{READ_BACK_LEVEL}
-use Rattle.dev_pit.specs.declared.mode.Access.{Access}
-use Rattle.dev_pit.specs.declared.mode.Access.TheVariants.{LowByte, HighByte, LowThenHigh}
-use Rattle.dev_pit.specs.declared.mode.Mode.{Mode}
-use Rattle.dev_pit.specs.declared.pit.Pit.{Pit}
+use Rattle.dev_pit.proofs.Facade.{◌≡◌, ℕ, ◌<◌, ◌≤◌, Bool, Option, Some, None, length, slice_index_or, subst, sym, ap, ◌∙◌, arith, nat_le, get_or_default}
+use Rattle.dev_pit.proofs.Facade.{LoadedBy, loaded, written, written_by, written_low_first, programmed, powered_on, read_of, read_back, latched, GoesOn}
+use Rattle.dev_pit.proofs.Facade.{IsLoadedBy, counter_of, with_counter, asked_back, controlled, ControlWord, LatchCount, SetMode, ReadBack, Counter}
+use Rattle.dev_pit.proofs.Facade.{READ_BACK_LEVEL, Access, LowByte, HighByte, LowThenHigh, Mode, Pit, either}
 use Rattle.dev_pit.proofs.Chips.{at_counter}
-use Rattle.dev_base.proofs.Choices.{either}
 use Rattle.dev_pit.proofs.CounterSteps.{read-goes_on, latched-goes_on, read_back-goes_on}
 
 pub loaded_by-later : (load : Option ℕ) (now later : ℕ) → LoadedBy now load → now ≤ later → LoadedBy later load
@@ -54,7 +43,8 @@ unfolding programmed powered_on
 programmed-loaded access mode bcd now counter = record { by = tt }
 
 -- A step of counter j that doesn't load it, or loads it now.
-step-loaded : (now j : ℕ) (step : Counter → Counter) (pit : Pit) → ((counter : Counter) → Loaded now counter → Loaded now (step counter)) → IsLoadedBy now pit → IsLoadedBy now (with_counter j (step (counter_of j pit)) pit)
+step-loaded : (now j : ℕ) (step : Counter → Counter) (pit : Pit) → ((counter : Counter) → Loaded now counter → Loaded now (step counter)) → IsLoadedBy now pit
+    → IsLoadedBy now (with_counter j (step (counter_of j pit)) pit)
 step-loaded now j step pit keeps h k within =
     (at_counter (Loaded now) k j (step (counter_of j pit)) pit
     (λ here. keeps (counter_of j pit) (record { by = subst (λ (i : ℕ). LoadedBy now (counter_of i pit).loaded_at) here (h k within) }))
@@ -84,20 +74,27 @@ there : (k : ℕ) (default : Counter) (pit : Pit) → k < length pit.counters �
 there k default pit h = get_or_default pit.counters k default powered_on h
 
 -- The chip after a step of one counter.
-pub read_keeps : (k now later value : ℕ) (after default : Counter) (pit : Pit) → k < length pit.counters → (value, after) ≡ read_of now (slice_index_or pit.counters k default) → IsLoadedBy now pit → now ≤ later → IsLoadedBy later (with_counter k after pit)
+pub read_keeps : (k now later value : ℕ) (after default : Counter) (pit : Pit) → k < length pit.counters
+    → (value, after) ≡ read_of now (slice_index_or pit.counters k default) → IsLoadedBy now pit → now ≤ later → IsLoadedBy later (with_counter k after pit)
 read_keeps k now later value after default pit within e h l =
-    let same : (read_of now (counter_of k pit)).1 ≡ after = sym (ap (λ (a : ℕ × Counter). a.1) e ∙ ap (λ (c : Counter). (read_of now c).1) (there k default pit within)) in
+    let same : (read_of now (counter_of k pit)).1 ≡ after =
+    sym (ap (λ (a : ℕ × Counter). a.1) e ∙ ap (λ (c : Counter). (read_of now c).1) (there k default pit within)) in
     pit-later now later (with_counter k after pit) (subst (λ (c : Counter). IsLoadedBy now (with_counter k c pit)) same (step-loaded now k (λ c. (read_of now c).1) pit (λ c p. goes_on-loaded now c _ (read-goes_on now c) p) h)) l
 
-pub written_keeps : (k now later value : ℕ) (after default : Counter) (pit : Pit) → k < length pit.counters → after ≡ written value now (slice_index_or pit.counters k default) → IsLoadedBy now pit → now ≤ later → IsLoadedBy later (with_counter k after pit)
+pub written_keeps : (k now later value : ℕ) (after default : Counter) (pit : Pit) → k < length pit.counters
+    → after ≡ written value now (slice_index_or pit.counters k default) → IsLoadedBy now pit → now ≤ later → IsLoadedBy later (with_counter k after pit)
 written_keeps k now later value after default pit within e h l =
     let same = e ∙ ap (written value now) (there k default pit within) in
     pit-later now later (with_counter k after pit) (subst (λ (c : Counter). IsLoadedBy now (with_counter k c pit)) (sym same) (step-loaded now k (written value now) pit (λ c p. written-loaded value now c p) h)) l
 
-pub asked_keeps : (count status : Bool) (k now : ℕ) (after default : Counter) (pit : Pit) → k < length pit.counters → after ≡ read_back count status now (slice_index_or pit.counters k default) → IsLoadedBy now pit → IsLoadedBy now (with_counter k after pit)
+pub asked_keeps : (count status : Bool) (k now : ℕ) (after default : Counter) (pit : Pit) → k < length pit.counters
+    → after ≡ read_back count status now (slice_index_or pit.counters k default) → IsLoadedBy now pit → IsLoadedBy now (with_counter k after pit)
 asked_keeps count status k now after default pit within e h =
     let same = e ∙ ap (read_back count status now) (there k default pit within) in
-    subst (λ (c : Counter). IsLoadedBy now (with_counter k c pit)) (sym same) (step-loaded now k (read_back count status now) pit (λ c p. goes_on-loaded now c _ (read_back-goes_on _ _ now c) p) h)
+    subst (λ (c : Counter). IsLoadedBy now (with_counter k c pit)) (sym same)
+    (step-loaded now k (read_back count status now) pit (λ c p. goes_on-loaded now c _ (read_back-goes_on _ _ now c) p) h)
 
-pub controlled_keeps : (word : ControlWord) (now later : ℕ) (after pit : Pit) → after ≡ controlled word now pit → IsLoadedBy now pit → now ≤ later → IsLoadedBy later after
-controlled_keeps word now later after pit e h l = subst (IsLoadedBy later) (sym e) (pit-later now later (controlled word now pit) (controlled-loaded word now pit h) l)
+pub controlled_keeps : (word : ControlWord) (now later : ℕ) (after pit : Pit) → after ≡ controlled word now pit → IsLoadedBy now pit → now ≤ later
+    → IsLoadedBy later after
+controlled_keeps word now later after pit e h l =
+    subst (IsLoadedBy later) (sym e) (pit-later now later (controlled word now pit) (controlled-loaded word now pit h) l)

@@ -1,20 +1,16 @@
 -- The read-back command by the chip's level.
-use Rattle.std.proofs.Common.{◌≡◌, ℕ, ◌≤◌, ◌==◌, ◌&&◌, ◌||◌, not, nat_le, Bool, true, false, cond, refl, sym, ap, arith}
-use Rattle.std.proofs.lemmas.Bool.Decides.{nat_tests}
-use Rattle.dev_pit.specs.Channel.{status_holds}
-use Rattle.dev_pit.specs.Laws.{ReadBackByLevel}
-use Rattle.dev_pit.specs.Pit.{asked_back, controlled}
-use Rattle.dev_pit.specs.declared.channel.Channel.{Channel}
-use Rattle.dev_pit.specs.declared.control.ControlWord.TheVariants.{ReadBack}
-use Rattle.dev_pit.specs.declared.limits.TheConstants.{READ_BACK_LEVEL}
-use Rattle.dev_pit.specs.declared.pit.Pit.{Pit}
+use Rattle.dev_pit.proofs.Facade.{◌≡◌, ℕ, ◌≤◌, ◌==◌, ◌&&◌, ◌||◌, not, Bool, true, false, cond, refl, sym, ap, arith, nat_tests, status_holds, ReadBackByLevel}
+use Rattle.dev_pit.proofs.Facade.{asked_back, controlled, Channel, ReadBack, READ_BACK_LEVEL, Pit}
+use Rattle.std.proofs.Common.{nat_le}
 
 -- The chip after each of the chosen counters has latched.
 abbrev all-asked : Bool → Bool → Bool → Bool → Bool → ℕ → Pit → Pit
 all-asked count status first second third now pit =
-    asked_back (count && third) (status && third) 2 now (asked_back (count && second) (status && second) 1 now (asked_back (count && first) (status && first) 0 now pit))
+    asked_back (count && third) (status && third) 2 now
+    (asked_back (count && second) (status && second) 1 now (asked_back (count && first) (status && first) 0 now pit))
 
-none-asked : (count status first second third : Bool) (now : ℕ) (pit : Pit) → pit.level ≡ 1 → controlled (ReadBack count status first second third) now pit ≡ pit
+none-asked : (count status first second third : Bool) (now : ℕ) (pit : Pit) → pit.level ≡ 1
+    → controlled (ReadBack count status first second third) now pit ≡ pit
 unfolding controlled
 none-asked count status first second third now pit e = ap (λ (l : ℕ). cond (nat_le READ_BACK_LEVEL l) (all-asked count status first second third now pit) pit) e
 

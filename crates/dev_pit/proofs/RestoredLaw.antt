@@ -1,29 +1,74 @@
 -- A restored chip is sound.
-use Rattle.std.proofs.Common.{◌≡◌, ℕ, ◌+◌, ◌^◌, ◌<◌, ◌≤◌, ◌==◌, Bool, true, false, not, ◌&&◌, Ok, List, ◌∷◌, slice_index_or, ℤ, refl, arith, subst, ⊎_elim, ◌||◌, []}
-use Rattle.std.proofs.lemmas.Bool.Decides.{nat_tests}
-use Rattle.std.specs.Prelude.{nat_le}
-use Rattle.std.proofs.lemmas.Bool.{and_parts, cases_Bool}
-use Rattle.dev_base.specs.Levels.{IsLevel}
-use Rattle.dev_base.specs.declared.limits.TheConstants.{LAST_MOMENT}
-use Rattle.vms_kinds.specs.declared.Kind.TheVariants.{U8, U16, U64}
-use Rattle.dev_base.proofs.CellLaws.{number-lt}
-use Rattle.dev_base.proofs.RuleLaws.{AllTrue, judged-ok, hook-ok}
-use Rattle.vms_fields.specs.declared.pit.TheConstants.{COUNT, LOAD_TIME, WLOW, LATCH}
-use Rattle.dev_pit.specs.Cells.{channel_at, IsChannelAt, IsPitCells}
-use Rattle.dev_pit.specs.Channel.{held_if, counter_from, moment_holds, status_holds, toggles_hold}
-use Rattle.dev_pit.specs.Counter.{LoadedBy, powered_on}
-use Rattle.dev_pit.specs.Laws.{RestoredIsSound}
-use Rattle.dev_pit.specs.Mode.{access_of}
-use Rattle.dev_pit.specs.Saved.{three_hold, rules, pit_of, restored_pit}
-use Rattle.dev_pit.specs.Sound.{HeldBelow, IsSoundCounter, IsSoundPit}
-use Rattle.dev_pit.specs.declared.channel.Channel.{Channel}
-use Rattle.dev_pit.specs.declared.limits.TheConstants.{READ_BACK_LEVEL}
-use Rattle.dev_pit.specs.declared.mode.Access.{Access}
-use Rattle.dev_pit.specs.declared.mode.Access.TheVariants.{LowByte, HighByte, LowThenHigh}
-use Rattle.dev_pit.specs.declared.pit.Pit.{Pit}
-use Rattle.dev_pit.proofs.ChannelPlaces.{is_channel}
+use Rattle.dev_pit.proofs.Facade.{◌≡◌, ℕ, ◌+◌, ◌<◌, List, ◌++◌, ℤ, arith, subst, ◌∙◌, ◌^◌, ◌≤◌, ◌==◌, Bool, true, false, not, ◌&&◌, Ok, ◌∷◌, slice_index_or}
+use Rattle.dev_pit.proofs.Facade.{refl, ⊎_elim, ◌||◌, [], get_or-append, get_or-append-add, nat_tests, nat_le, and_parts, cases_Bool, InRange, Kind, U8, U16}
+use Rattle.dev_pit.proofs.Facade.{U64, kinds_under, status_rows, CHANNEL_CELLS, COUNT, LOAD_TIME, WLOW, LATCH, cell_at, kind_at, NEWEST, LAST_MOMENT}
+use Rattle.dev_pit.proofs.Facade.{channel_kinds, channel_place, latched_place, status_place, IsChannelAt, IsPitCells, channel_at, IsLevel, number-lt, AllTrue}
+use Rattle.dev_pit.proofs.Facade.{judged-ok, hook-ok, held_if, counter_from, moment_holds, status_holds, toggles_hold, LoadedBy, powered_on, RestoredIsSound}
+use Rattle.dev_pit.proofs.Facade.{access_of, three_hold, pit_of, restored_pit, HeldBelow, IsSoundCounter, IsSoundPit, Channel, READ_BACK_LEVEL, Access, LowByte}
+use Rattle.dev_pit.proofs.Facade.{HighByte, LowThenHigh, Pit}
 use Rattle.dev_pit.proofs.Chips.{each_of}
-use Rattle.dev_pit.proofs.PlainSound.{PlainSound, StatusFits, TogglesFit, sound-from_plain}
+use Rattle.dev_pit.specs.Saved.{rules}
+use Rattle.dev_pit.proofs.SoundSteps.{PlainSound, StatusFits, TogglesFit, sound-from_plain}
+
+-- ---- normal cells are those of three channels
+
+front : (rest : List Kind) (place : ℕ) → place < CHANNEL_CELLS → kind_at (channel_kinds ++ rest) place ≡ kind_at channel_kinds place
+front rest place h = get_or-append channel_kinds rest U8 place h
+
+after : (rest : List Kind) (place : ℕ) → kind_at (channel_kinds ++ rest) (channel_place 1 + place) ≡ kind_at rest place
+after rest place = get_or-append-add channel_kinds rest place U8
+
+abbrev status_kinds : List Kind
+status_kinds = kinds_under status_rows NEWEST
+
+abbrev two_more : List Kind
+two_more = channel_kinds ++ channel_kinds ++ status_kinds
+
+abbrev one_more : List Kind
+one_more = channel_kinds ++ status_kinds
+
+zero_plus : (place : ℕ) → place ≡ channel_place 0 + place
+zero_plus place = omega arith
+
+module _ (cells : List ℤ) (h : IsPitCells cells) where
+  -- The cell at a place fits the kind.
+  abbrev Fits : ℕ → Kind → Type 0
+  Fits place kind = InRange kind (cell_at cells place)
+
+  first : IsChannelAt 0 cells
+  first = record {
+    within = (omega arith, h.of_kinds.count);
+    channel = λ place l. subst (λ (n : ℕ). Fits n (kind_at channel_kinds place)) (zero_plus place)
+        (subst (Fits place) (front two_more place l) (h.of_kinds.in_range place (omega (arith, l))));
+    latched = h.of_kinds.in_range (latched_place 0) (omega arith);
+    status = h.of_kinds.in_range (status_place 0) (omega arith);
+  }
+
+  second : IsChannelAt 1 cells
+  second = record {
+    within = (omega arith, h.of_kinds.count);
+    channel = λ place l. subst (Fits (channel_place 1 + place)) (after two_more place ∙ front one_more place l)
+        (h.of_kinds.in_range (channel_place 1 + place) (omega (arith, l)));
+    latched = h.of_kinds.in_range (latched_place 1) (omega arith);
+    status = h.of_kinds.in_range (status_place 1) (omega arith);
+  }
+
+  further : (place : ℕ) → kind_at (channel_kinds ++ two_more) (channel_place 2 + place) ≡ kind_at one_more place
+  further place = get_or-append-add (channel_kinds ++ channel_kinds) one_more place U8
+
+  third : IsChannelAt 2 cells
+  third = record {
+    within = (omega arith, h.of_kinds.count);
+    channel = λ place l. subst (Fits (channel_place 2 + place)) (further place ∙ front status_kinds place l)
+        (h.of_kinds.in_range (channel_place 2 + place) (omega (arith, l)));
+    latched = h.of_kinds.in_range (latched_place 2) (omega arith);
+    status = h.of_kinds.in_range (status_place 2) (omega arith);
+  }
+
+pub is_channel : (k : ℕ) (cells : List ℤ) → k < 3 → IsPitCells cells → IsChannelAt k cells
+is_channel k cells l h = each_of (λ k. IsChannelAt k cells) (first cells h) (second cells h) (third cells h) k l
+
+-- ---- the chip
 
 -- The fields of a channel, each in its range.
 record HasRanges (channel : Channel) : Type 0 where

@@ -1,38 +1,18 @@
 -- A saved chip is restored as it was.
-use Rattle.std.proofs.Common.{◌≡◌, ℕ, ◌^◌, ◌+◌, ◌<◌, ◌≤◌, ◌==◌, Bool, true, false, Option, Some, None, Ok, List, [], ◌∷◌, ◌++◌, length, replicate, ℤ, pos, codes, refl, ap, sym, subst, ◌∙◌, arith}
-use Rattle.std.proofs.lemmas.Bool.Decides.{nat_tests}
-use Rattle.std.specs.Prelude.{nat_le, is_some}
-use Rattle.vms_fields.specs.Fields.{kinds_under}
-use Rattle.vms_fields.specs.Pit.{channel_rows, status_rows}
-use Rattle.vms_fields.specs.declared.pit.TheConstants.{STATUS_LATCHED, STATUS_SINCE}
-use Rattle.vms_hooks.specs.Numbers.{Numbers}
-use Rattle.dev_base.specs.Cells.{flag_number, flag_at, number_at, AreOf}
-use Rattle.dev_base.specs.Levels.{IsLevel, MayRestore}
-use Rattle.dev_base.specs.Rules.{first_failing}
-use Rattle.dev_base.specs.declared.limits.TheConstants.{NEWEST, LAST_MOMENT}
-use Rattle.dev_base.proofs.CellLaws.{of_none, of_more, of_both, byte, word, long, flag, flag-back}
-use Rattle.dev_base.proofs.ListLaws.{AllHold, one_holds, of_rows, carried_rows}
-use Rattle.dev_base.proofs.RuleLaws.{AllTrue, none_failing, all_true, judged-all, ok-hook}
-use Rattle.dev_pit.specs.Cells.{channel_kinds, kinds_of, named, named_statuses, channel_cells, status_cells, three_cells, channel_in, pit_cells, carried, field_place, channel_at, HasDefault, AreCellsOf, IsPitCells}
-use Rattle.dev_pit.specs.Channel.{held_if, channel_of, counter_from, registers_hold, moment_holds, status_holds, toggles_hold}
-use Rattle.dev_pit.specs.Counter.{held_or, powered_on}
-use Rattle.dev_pit.specs.Laws.{SoundMeetsRules, SavedAreCells, SavedIsRestored}
-use Rattle.dev_pit.specs.Mode.{mode_number, mode_of, access_number, access_of}
-use Rattle.dev_pit.specs.Pit.{counter_of}
-use Rattle.dev_pit.specs.Saved.{CanSave, CanRestore, three_hold, rules, pit_of, restored_pit, hook_restored}
-use Rattle.dev_pit.specs.Sound.{HasWidths, IsSoundPit}
-use Rattle.dev_pit.specs.declared.channel.Channel.{Channel}
-use Rattle.dev_pit.specs.declared.counter.Counter.{Counter}
-use Rattle.dev_pit.specs.declared.limits.TheConstants.{READ_BACK_LEVEL}
-use Rattle.dev_pit.specs.declared.mode.Access.{Access}
-use Rattle.dev_pit.specs.declared.mode.Access.TheVariants.{LowByte, HighByte, LowThenHigh}
-use Rattle.dev_pit.specs.declared.mode.Mode.{Mode}
-use Rattle.dev_pit.specs.declared.mode.Mode.TheVariants.{TerminalCount, OneShot, RateGenerator, SquareWave, SoftwareStrobe, HardwareStrobe}
-use Rattle.dev_pit.specs.declared.pit.Pit.{Pit}
+use Rattle.dev_pit.proofs.Facade.{◌≡◌, ℕ, ◌^◌, ◌<◌, ◌≤◌, ◌==◌, Bool, true, false, Option, Some, None, Ok, List, [], ◌∷◌, ◌++◌, length, replicate, ℤ, pos, codes}
+use Rattle.dev_pit.proofs.Facade.{refl, ap, sym, subst, ◌∙◌, arith, nat_tests, nat_le, is_some, kinds_under, channel_rows, status_rows, STATUS_LATCHED}
+use Rattle.dev_pit.proofs.Facade.{STATUS_SINCE, Numbers, flag_number, flag_at, number_at, AreOf, IsLevel, MayRestore, first_failing, NEWEST, LAST_MOMENT}
+use Rattle.dev_pit.proofs.Facade.{of_none, of_more, of_both, byte, word, long, flag, flag-back, AllHold, one_holds, of_rows, carried_rows, AllTrue}
+use Rattle.dev_pit.proofs.Facade.{none_failing, all_true, judged-all, ok-hook, channel_kinds, kinds_of, named, named_statuses, channel_cells, status_cells}
+use Rattle.dev_pit.proofs.Facade.{three_cells, channel_in, pit_cells, carried, field_place, channel_at, HasDefault, AreCellsOf, IsPitCells, held_if, channel_of}
+use Rattle.dev_pit.proofs.Facade.{counter_from, registers_hold, moment_holds, status_holds, toggles_hold, held_or, powered_on, SoundMeetsRules, SavedAreCells}
+use Rattle.dev_pit.proofs.Facade.{SavedIsRestored, mode_number, mode_of, access_number, access_of, counter_of, CanSave, CanRestore, three_hold, pit_of}
+use Rattle.dev_pit.proofs.Facade.{restored_pit, hook_restored, HasWidths, IsSoundPit, Channel, Counter, READ_BACK_LEVEL, Access, LowByte, HighByte, LowThenHigh}
+use Rattle.dev_pit.proofs.Facade.{Mode, TerminalCount, OneShot, RateGenerator, SquareWave, SoftwareStrobe, HardwareStrobe, Pit}
+use Rattle.dev_pit.specs.Saved.{rules}
 use Rattle.dev_pit.proofs.Chips.{three_counters, each_of}
-use Rattle.dev_pit.proofs.PlainSound.{StatusFits, plain-from_sound, mode-small, access-small}
+use Rattle.dev_pit.proofs.SoundSteps.{StatusFits, plain-from_sound, mode-small, access-small, held-below}
 use Rattle.dev_pit.proofs.RestoredLaw.{pit-restored}
-use Rattle.dev_pit.proofs.SoundSteps.{held-below}
 
 mode-back : (mode : Mode) → mode_of (mode_number mode) ≡ mode
 mode-back TerminalCount = refl

@@ -1,25 +1,11 @@
 -- A chip is sound at power on, and time and every call keep it so.
-use Rattle.std.proofs.Common.{◌≡◌, ℕ, ◌-◌, ◌<◌, ◌≤◌, ◌==◌, Bool, ◌&&◌, ◌∷◌, slice_index_or, refl, subst, ◌∙◌, arith, ⊎_elim, []}
-use Rattle.std.proofs.lemmas.Bool.Decides.{nat_tests}
-use Rattle.std.specs.Prelude.{nat_le}
-use Rattle.std.proofs.lemmas.Bool.{cases_Bool}
-use Rattle.dev_base.specs.Levels.{IsLevel}
-use Rattle.dev_base.specs.declared.limits.TheConstants.{LAST_MOMENT}
-use Rattle.dev_pit.specs.Control.{control_word}
-use Rattle.dev_pit.specs.Laws.{SoundStays, StepsKeepLevel}
-use Rattle.dev_pit.specs.Pit.{counter_of, with_counter, new_pit, pit_read, asked_back, controlled, pit_written}
-use Rattle.dev_pit.specs.Sound.{IsSoundCounter, IsSoundPit}
-use Rattle.dev_pit.specs.declared.control.ControlWord.{ControlWord}
-use Rattle.dev_pit.specs.declared.control.ControlWord.TheVariants.{LatchCount, SetMode, ReadBack}
-use Rattle.dev_pit.specs.declared.counter.Counter.{Counter}
-use Rattle.dev_pit.specs.declared.limits.TheConstants.{READ_BACK_LEVEL}
-use Rattle.dev_pit.specs.declared.pit.Pit.{Pit}
-use Rattle.dev_base.proofs.Choices.{either}
+use Rattle.dev_pit.proofs.Facade.{◌≡◌, ℕ, ◌-◌, ◌<◌, ◌≤◌, ◌==◌, Bool, ◌&&◌, ◌∷◌, slice_index_or, refl, subst, ◌∙◌, arith, ⊎_elim, [], nat_tests, nat_le}
+use Rattle.dev_pit.proofs.Facade.{cases_Bool, IsLevel, LAST_MOMENT, control_word, SoundStays, StepsKeepLevel, counter_of, with_counter, new_pit, pit_read}
+use Rattle.dev_pit.proofs.Facade.{asked_back, controlled, pit_written, IsSoundCounter, IsSoundPit, ControlWord, LatchCount, SetMode, ReadBack, Counter}
+use Rattle.dev_pit.proofs.Facade.{READ_BACK_LEVEL, Pit, either, powered_on, read_of, read_back, latched, programmed, written}
 use Rattle.dev_pit.proofs.Chips.{at_counter, count-with, each_of}
-use Rattle.dev_pit.specs.Counter.{powered_on, read_of, read_back, latched, programmed, written}
 use Rattle.dev_pit.proofs.Moments.{loaded_by-later}
-use Rattle.dev_pit.proofs.PlainSound.{PlainSound, sound-from_plain, plain-from_sound}
-use Rattle.dev_pit.proofs.SoundSteps.{powered_on-sound, latched-sound, read_back-sound, programmed-sound, written-sound, read-sound}
+use Rattle.dev_pit.proofs.SoundSteps.{PlainSound, sound-from_plain, plain-from_sound, powered_on-sound, latched-sound, read_back-sound, programmed-sound, written-sound, read-sound}
 
 new-sound : (level now : ℕ) → IsLevel level → now ≤ LAST_MOMENT → IsSoundPit now (new_pit level)
 unfolding new_pit
@@ -34,7 +20,8 @@ new-sound level now l m = record {
 later : (level now after : ℕ) (counter : Counter) → now ≤ after → IsSoundCounter level now counter → IsSoundCounter level after counter
 later level now after counter h s =
     let p = plain-from_sound level now counter s in
-    sound-from_plain level after counter (record { widths = p.widths; loaded = loaded_by-later counter.loaded_at now after p.loaded h; status = p.status; toggles = p.toggles })
+    sound-from_plain level after counter
+    (record { widths = p.widths; loaded = loaded_by-later counter.loaded_at now after p.loaded h; status = p.status; toggles = p.toggles })
 
 pit-later : (now after : ℕ) (pit : Pit) → now ≤ after → after ≤ LAST_MOMENT → IsSoundPit now pit → IsSoundPit after pit
 pit-later now after pit h m s = record {
@@ -58,7 +45,8 @@ pit_read-sound : (k now : ℕ) (pit : Pit) → IsSoundPit now pit → IsSoundPit
 unfolding pit_read
 pit_read-sound k now pit s = step-sound k now (λ c. (read_of now c).1) pit (λ c p. read-sound pit.level now c p) s
 
-asked-sound : (count status : Bool) (k now : ℕ) (pit : Pit) → READ_BACK_LEVEL ≤ pit.level → IsSoundPit now pit → IsSoundPit now (asked_back count status k now pit)
+asked-sound : (count status : Bool) (k now : ℕ) (pit : Pit) → READ_BACK_LEVEL ≤ pit.level → IsSoundPit now pit
+    → IsSoundPit now (asked_back count status k now pit)
 unfolding asked_back
 asked-sound count status k now pit h s =
     step-sound k now (read_back count status now) pit (λ c p. read_back-sound _ _ pit.level now c h p) s
@@ -71,7 +59,8 @@ all-asked count status first second third now pit h s =
 controlled-sound : (word : ControlWord) (now : ℕ) (pit : Pit) → IsSoundPit now pit → IsSoundPit now (controlled word now pit)
 unfolding controlled
 controlled-sound (LatchCount k) now pit s = step-sound k now (latched now) pit (λ c p. latched-sound pit.level now c p) s
-controlled-sound (SetMode k access mode bcd) now pit s = step-sound k now (programmed access mode bcd) pit (λ c p. programmed-sound access mode bcd pit.level now c p) s
+controlled-sound (SetMode k access mode bcd) now pit s =
+    step-sound k now (programmed access mode bcd) pit (λ c p. programmed-sound access mode bcd pit.level now c p) s
 controlled-sound (ReadBack count status first second third) now pit s =
     ⊎_elim (λ e. let h : READ_BACK_LEVEL ≤ pit.level = grind (arith, nat_tests) in
     rw e (all-asked count status first second third now pit h s))

@@ -1,20 +1,106 @@
 -- Every step of a counter keeps it sound.
-use Rattle.std.proofs.Common.{◌≡◌, ℕ, ◌+◌, ◌*◌, ◌%◌, ◌^◌, ◌<◌, ◌≤◌, ◌==◌, Bool, true, false, Option, Some, None, refl, arith, subst, sym}
-use Rattle.std.specs.Prelude.{nat_lt}
-use Rattle.dev_base.specs.Cells.{flag_number}
-use Rattle.dev_base.specs.declared.limits.TheConstants.{LAST_MOMENT}
-use Rattle.dev_pit.specs.Count.{live_at, square, high_part}
-use Rattle.dev_pit.specs.Counter.{held_or, live_of, live_since, out_of, status_of, loaded, written, written_by, written_low_first, programmed, powered_on, read_of, read_by, counted_of, counted_by, latched, status_latched, read_back}
-use Rattle.dev_pit.specs.Mode.{mode_number, access_number}
-use Rattle.dev_pit.specs.Sound.{HasWidths, HeldBelow}
-use Rattle.dev_pit.specs.declared.counter.Counter.{Counter}
-use Rattle.dev_pit.specs.declared.limits.TheConstants.{READ_BACK_LEVEL}
-use Rattle.dev_pit.specs.declared.mode.Access.{Access}
-use Rattle.dev_pit.specs.declared.mode.Access.TheVariants.{LowByte, HighByte, LowThenHigh}
-use Rattle.dev_pit.specs.declared.mode.Mode.{Mode}
-use Rattle.dev_pit.specs.declared.mode.Mode.TheVariants.{TerminalCount, OneShot, RateGenerator, SquareWave, SoftwareStrobe, HardwareStrobe}
-use Rattle.dev_base.proofs.Choices.{either}
-use Rattle.dev_pit.proofs.PlainSound.{PlainSound, TogglesFit, mode-small, access-small}
+use Rattle.dev_pit.proofs.Facade.{◌≡◌, ℕ, ◌≤◌, ◌==◌, Bool, true, false, not, ◌&&◌, ◌||◌, Option, Some, None, refl, arith, ◌+◌, ◌*◌, ◌%◌, ◌^◌, ◌<◌, subst, sym}
+use Rattle.dev_pit.proofs.Facade.{le-leb, nat_tests, nat_le, is_some, nat_lt, channel_of, registers_hold, moment_holds, status_holds, toggles_hold, LoadedBy}
+use Rattle.dev_pit.proofs.Facade.{held_or, live_of, live_since, out_of, status_of, written, written_by, written_low_first, programmed, powered_on, read_of}
+use Rattle.dev_pit.proofs.Facade.{read_by, counted_of, counted_by, latched, status_latched, read_back, mode_number, access_number, HasWidths, IsSoundCounter}
+use Rattle.dev_pit.proofs.Facade.{HeldBelow, Counter, READ_BACK_LEVEL, Access, LowByte, HighByte, LowThenHigh, Mode, TerminalCount, OneShot, RateGenerator}
+use Rattle.dev_pit.proofs.Facade.{SquareWave, SoftwareStrobe, HardwareStrobe, flag_number, LAST_MOMENT, live_at, square, high_part, either}
+use Rattle.dev_pit.specs.Counter.{loaded as loading}
+
+-- ---- what the rules say about a counter itself
+
+-- A status is latched only from the first level of the 8254 on.
+abbrev pub StatusFits : ℕ → Option ℕ → Type 0
+StatusFits level None = Unit {0}
+StatusFits level (Some status) = READ_BACK_LEVEL ≤ level
+
+-- Only a counter of two bytes is between them.
+abbrev pub TogglesFit : Access → Bool → Option ℕ → Type 0
+TogglesFit LowByte read_high held_low = (read_high ≡ false) × (held_low ≡ None)
+TogglesFit HighByte read_high held_low = (read_high ≡ false) × (held_low ≡ None)
+TogglesFit LowThenHigh read_high held_low = Unit {0}
+
+pub record PlainSound (level now : ℕ) (counter : Counter) : Type 0 where
+  pub widths : HasWidths counter
+  pub loaded : LoadedBy now counter.loaded_at
+  pub status : StatusFits level counter.status
+  pub toggles : TogglesFit counter.access counter.read_high counter.held_low
+
+pub mode-small : (mode : Mode) → mode_number mode ≤ 5
+mode-small TerminalCount = omega arith
+mode-small OneShot = omega arith
+mode-small RateGenerator = omega arith
+mode-small SquareWave = omega arith
+mode-small SoftwareStrobe = omega arith
+mode-small HardwareStrobe = omega arith
+
+pub access-small : (access : Access) → (1 ≤ access_number access) × (access_number access ≤ 3)
+access-small LowByte = (omega arith, omega arith)
+access-small HighByte = (omega arith, omega arith)
+access-small LowThenHigh = (omega arith, omega arith)
+
+pub registers-hold : (counter : Counter) → registers_hold (channel_of counter) ≡ true
+unfolding registers_hold channel_of
+registers-hold counter =
+    let mode = mode-small counter.mode in
+    let access = access-small counter.access in
+    rw (le-leb _ 5 mode, le-leb 1 _ access.0, le-leb _ 3 access.1)
+
+moment-from : (now : ℕ) (load : Option ℕ) → LoadedBy now load → (nat_le (held_or load 0) now && (is_some load || (held_or load 0 == 0))) ≡ true
+moment-from now None h = grind (arith, nat_tests)
+moment-from now (Some load) h = grind (arith, nat_tests)
+
+moment-back : (now : ℕ) (load : Option ℕ) → (nat_le (held_or load 0) now && (is_some load || (held_or load 0 == 0))) ≡ true → LoadedBy now load
+moment-back now None e = tt
+moment-back now (Some load) e = grind (arith, nat_tests)
+
+status-from : (level : ℕ) (status : Option ℕ) → StatusFits level status
+    → ((is_some status || (held_or status 0 == 0)) && (nat_le READ_BACK_LEVEL level || not (is_some status))) ≡ true
+status-from level None h = grind (arith, nat_tests)
+status-from level (Some status) h = grind (arith, nat_tests)
+
+status-back : (level : ℕ) (status : Option ℕ) → ((is_some status || (held_or status 0 == 0)) && (nat_le READ_BACK_LEVEL level || not (is_some status))) ≡ true
+    → StatusFits level status
+status-back level None e = tt
+status-back level (Some status) e = grind (arith, nat_tests)
+
+toggles-from : (access : Access) (read_high : Bool) (held : Option ℕ) → TogglesFit access read_high held
+    → ((access_number access == 3) || (not read_high && not (is_some held))) ≡ true
+toggles-from LowByte read_high held h = rw (h.0, h.1) refl
+toggles-from HighByte read_high held h = rw (h.0, h.1) refl
+toggles-from LowThenHigh read_high held h = refl
+
+halves-back : (read_high : Bool) (held : Option ℕ) → (not read_high && not (is_some held)) ≡ true → (read_high ≡ false) × (held ≡ None)
+halves-back true held e = cc
+halves-back false None e = (refl, refl)
+halves-back false (Some held) e = cc
+
+toggles-back : (access : Access) (read_high : Bool) (held : Option ℕ) → ((access_number access == 3) || (not read_high && not (is_some held))) ≡ true
+    → TogglesFit access read_high held
+toggles-back LowByte read_high held e = halves-back read_high held e
+toggles-back HighByte read_high held e = halves-back read_high held e
+toggles-back LowThenHigh read_high held e = tt
+
+pub sound-from_plain : (level now : ℕ) (counter : Counter) → PlainSound level now counter → IsSoundCounter level now counter
+unfolding channel_of moment_holds status_holds toggles_hold
+sound-from_plain level now counter s = record {
+  widths = s.widths;
+  registers = registers-hold counter;
+  moment = moment-from now counter.loaded_at s.loaded;
+  status = status-from level counter.status s.status;
+  toggles = toggles-from counter.access counter.read_high counter.held_low s.toggles;
+}
+
+pub plain-from_sound : (level now : ℕ) (counter : Counter) → IsSoundCounter level now counter → PlainSound level now counter
+unfolding channel_of moment_holds status_holds toggles_hold
+plain-from_sound level now counter s = record {
+  widths = s.widths;
+  loaded = moment-back now counter.loaded_at s.moment;
+  status = status-back level counter.status s.status;
+  toggles = toggles-back counter.access counter.read_high counter.held_low s.toggles;
+}
+
+-- ---- steps
 
 -- A number of sixteen bits.
 record IsWord (n : ℕ) : Type 0 where
@@ -78,7 +164,8 @@ latched-sound level now counter s = record {
   toggles = s.toggles;
 }
 
-status_latched-sound : (level now : ℕ) (counter : Counter) → READ_BACK_LEVEL ≤ level → PlainSound level now counter → PlainSound level now (status_latched now counter)
+status_latched-sound : (level now : ℕ) (counter : Counter) → READ_BACK_LEVEL ≤ level → PlainSound level now counter
+    → PlainSound level now (status_latched now counter)
 unfolding status_latched
 status_latched-sound level now counter h s = record {
   widths = record {
@@ -93,7 +180,8 @@ status_latched-sound level now counter h s = record {
   toggles = s.toggles;
 }
 
-pub read_back-sound : (count status : Bool) (level now : ℕ) (counter : Counter) → READ_BACK_LEVEL ≤ level → PlainSound level now counter → PlainSound level now (read_back count status now counter)
+pub read_back-sound : (count status : Bool) (level now : ℕ) (counter : Counter) → READ_BACK_LEVEL ≤ level → PlainSound level now counter
+    → PlainSound level now (read_back count status now counter)
 unfolding read_back
 read_back-sound true true level now counter h s = status_latched-sound level now _ h (latched-sound level now counter s)
 read_back-sound true false level now counter h s = latched-sound level now counter s
@@ -115,7 +203,8 @@ fresh-toggles LowByte = (refl, refl)
 fresh-toggles HighByte = (refl, refl)
 fresh-toggles LowThenHigh = tt
 
-pub programmed-sound : (access : Access) (mode : Mode) (bcd : Bool) (level now : ℕ) (counter : Counter) → PlainSound level now counter → PlainSound level now (programmed access mode bcd counter)
+pub programmed-sound : (access : Access) (mode : Mode) (bcd : Bool) (level now : ℕ) (counter : Counter) → PlainSound level now counter
+    → PlainSound level now (programmed access mode bcd counter)
 unfolding programmed powered_on
 programmed-sound access mode bcd level now counter s = record {
   widths = record { count = s.widths.count; loaded_at = tt; held_low = tt; latch = tt; status = tt };
@@ -125,8 +214,9 @@ programmed-sound access mode bcd level now counter s = record {
 }
 
 -- Loading.
-loaded-sound : (count level now : ℕ) (counter : Counter) → now ≤ LAST_MOMENT → count < 2 ^ 16 → PlainSound level now counter → PlainSound level now (loaded count now counter)
-unfolding loaded
+loaded-sound : (count level now : ℕ) (counter : Counter) → now ≤ LAST_MOMENT → count < 2 ^ 16 → PlainSound level now counter
+    → PlainSound level now (loading count now counter)
+unfolding loading
 loaded-sound count level now counter m c s = record {
   widths = record {
     count = c;
@@ -141,7 +231,8 @@ loaded-sound count level now counter m c s = record {
 }
 
 -- A counter of two bytes may hold one or not.
-holding : (level now : ℕ) (low : Option ℕ) (counter : Counter) → counter.access ≡ LowThenHigh → HeldBelow (2 ^ 8) low → PlainSound level now counter → PlainSound level now (record counter { held_low = low })
+holding : (level now : ℕ) (low : Option ℕ) (counter : Counter) → counter.access ≡ LowThenHigh → HeldBelow (2 ^ 8) low → PlainSound level now counter
+    → PlainSound level now (record counter { held_low = low })
 holding level now low counter e h s = record {
   widths = record {
     count = s.widths.count;
@@ -155,16 +246,19 @@ holding level now low counter e h s = record {
   toggles = subst (λ (a : Access). TogglesFit a counter.read_high low) (sym e) tt;
 }
 
-first-sound : (low : Option ℕ) (value level now : ℕ) (counter : Counter) → now ≤ LAST_MOMENT → value < 256 → counter.access ≡ LowThenHigh → HeldBelow (2 ^ 8) low → PlainSound level now counter → PlainSound level now (written_low_first low value now counter)
+first-sound : (low : Option ℕ) (value level now : ℕ) (counter : Counter) → now ≤ LAST_MOMENT → value < 256 → counter.access ≡ LowThenHigh
+    → HeldBelow (2 ^ 8) low → PlainSound level now counter → PlainSound level now (written_low_first low value now counter)
 first-sound None value level now counter m v e h s = holding level now (Some value) counter e v s
 first-sound (Some low) value level now counter m v e h s = loaded-sound (256 * value + low) level now _ m (omega arith) (holding level now None counter e tt s)
 
-by-sound : (access : Access) (value level now : ℕ) (counter : Counter) → now ≤ LAST_MOMENT → value < 256 → counter.access ≡ access → PlainSound level now counter → PlainSound level now (written_by access value now counter)
+by-sound : (access : Access) (value level now : ℕ) (counter : Counter) → now ≤ LAST_MOMENT → value < 256 → counter.access ≡ access
+    → PlainSound level now counter → PlainSound level now (written_by access value now counter)
 by-sound LowByte value level now counter m v e s = loaded-sound value level now counter m (omega arith) s
 by-sound HighByte value level now counter m v e s = loaded-sound (256 * value) level now counter m (omega arith) s
 by-sound LowThenHigh value level now counter m v e s = first-sound counter.held_low value level now counter m v e s.widths.held_low s
 
-pub written-sound : (value level now : ℕ) (counter : Counter) → now ≤ LAST_MOMENT → value < 256 → PlainSound level now counter → PlainSound level now (written value now counter)
+pub written-sound : (value level now : ℕ) (counter : Counter) → now ≤ LAST_MOMENT → value < 256 → PlainSound level now counter
+    → PlainSound level now (written value now counter)
 unfolding written
 written-sound value level now counter m v s = by-sound counter.access value level now counter m v refl s
 
@@ -177,7 +271,8 @@ no_latch level now counter s = record {
   toggles = s.toggles;
 }
 
-turned : (level now : ℕ) (read_high : Bool) (latch : Option ℕ) (counter : Counter) → counter.access ≡ LowThenHigh → HeldBelow (2 ^ 16) latch → PlainSound level now counter → PlainSound level now (record counter { read_high = read_high; latch = latch })
+turned : (level now : ℕ) (read_high : Bool) (latch : Option ℕ) (counter : Counter) → counter.access ≡ LowThenHigh → HeldBelow (2 ^ 16) latch
+    → PlainSound level now counter → PlainSound level now (record counter { read_high = read_high; latch = latch })
 turned level now read_high latch counter e h s = record {
   widths = record { count = s.widths.count; loaded_at = s.widths.loaded_at; held_low = s.widths.held_low; latch = h; status = s.widths.status };
   loaded = s.loaded;
@@ -189,11 +284,13 @@ turned level now read_high latch counter e h s = record {
 record Sounds (level now : ℕ) (answer : ℕ × Counter) : Type 0 where
   after : PlainSound level now answer.1
 
-counted_by-sound : (access : Access) (count level now : ℕ) (counter : Counter) → counter.access ≡ access → PlainSound level now counter → Sounds level now (counted_by access count counter)
+counted_by-sound : (access : Access) (count level now : ℕ) (counter : Counter) → counter.access ≡ access → PlainSound level now counter
+    → Sounds level now (counted_by access count counter)
 counted_by-sound LowByte count level now counter e s = record { after = no_latch level now counter s }
 counted_by-sound HighByte count level now counter e s = record { after = no_latch level now counter s }
 counted_by-sound LowThenHigh count level now counter e s =
-    either (Sounds level now) counter.read_high _ _ (record { after = turned level now false None counter e tt s }) (record { after = turned level now true counter.latch counter e s.widths.latch s })
+    either (Sounds level now) counter.read_high _ _ (record { after = turned level now false None counter e tt s })
+    (record { after = turned level now true counter.latch counter e s.widths.latch s })
 
 read_by-sound : (status : Option ℕ) (level now : ℕ) (counter : Counter) → PlainSound level now counter → Sounds level now (read_by status now counter)
 unfolding counted_of

@@ -1,13 +1,7 @@
 -- The status byte holds its four parts.
-use Rattle.std.proofs.Common.{◌≡◌, ℕ, ◌+◌, ◌*◌, ◌/◌, ◌%◌, ◌≤◌, ◌==◌, ap, ◌∙◌, arith}
-use Rattle.dev_base.specs.Cells.{flag_number}
-use Rattle.dev_pit.specs.Counter.{out_of, status_of}
-use Rattle.dev_pit.specs.Laws.{TellsStatus, StatusTells}
-use Rattle.dev_pit.specs.Mode.{mode_number, access_number}
-use Rattle.dev_pit.specs.declared.counter.Counter.{Counter}
-use Rattle.dev_base.proofs.CellLaws.{flag-back}
-use Rattle.dev_pit.proofs.SoundSteps.{flag-small}
-use Rattle.dev_pit.proofs.PlainSound.{mode-small, access-small}
+use Rattle.dev_pit.proofs.Facade.{◌≡◌, ℕ, ◌+◌, ◌*◌, ◌/◌, ◌%◌, ◌≤◌, ◌==◌, ap, ◌∙◌, arith, flag_number, out_of, status_of, TellsStatus, StatusTells, mode_number}
+use Rattle.dev_pit.proofs.Facade.{access_number, Counter, flag-back}
+use Rattle.dev_pit.proofs.SoundSteps.{flag-small, mode-small, access-small}
 
 -- The parts of a byte that is composed of them.
 module _ (out access mode bcd : ℕ) (o : out ≤ 1) (a : access ≤ 3) (m : mode ≤ 5) (b : bcd ≤ 1) where

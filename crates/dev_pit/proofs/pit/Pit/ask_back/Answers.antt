@@ -1,4 +1,4 @@
-use Rattle.std.proofs.Common.{rules, ◌<◌, length}
+use Rattle.dev_pit.proofs.Facade.{rules, ◌<◌, length}
 use Rattle.dev_pit.proofs.Moments.{asked_keeps}
 use Rattle.dev_pit.proofs.pit.Pit.ask_back.Goals as goal
 

@@ -1,5 +1,5 @@
-use Rattle.std.proofs.Common.{arith}
-use Rattle.dev_pit.proofs.ChannelPlaces.{is_channel}
+use Rattle.dev_pit.proofs.Facade.{arith}
+use Rattle.dev_pit.proofs.RestoredLaw.{is_channel}
 use Rattle.dev_pit.proofs.pit.Pit.of_cells.Goals as goal
 
 pub at-first-requires : goal.at-first-requires

@@ -1,8 +1,4 @@
-use Rattle.std.proofs.Common.{rules, ◌<◌, length, subst}
-use Rattle.std.proofs.lemmas.List.{get_or_default}
-use Rattle.dev_pit.specs.Counter.{powered_on}
-use Rattle.dev_pit.specs.Turns.{AreTurns}
-use Rattle.dev_pit.specs.declared.counter.Counter.{Counter}
+use Rattle.dev_pit.proofs.Facade.{rules, ◌<◌, length, subst, get_or_default, powered_on, AreTurns, Counter}
 use Rattle.dev_pit.proofs.pit.Pit.turns.Goals as goal
 
 pub returns : goal.returns
