@@ -3,7 +3,7 @@
 #
 #     sh examples/guest/try.sh [LIBRARY]
 #
-# LIBRARY is a folder with libvmstate_board_c.a. Without it the library is proved and built first, which takes two hours of
+# LIBRARY is a folder with libvmstate_board_c.a. Without it the library is proved and built first, which takes about an hour of
 # processor time from nothing. Nothing is installed: Debian's packages are fetched to examples/guest/out (or the folder WORK),
 # 60 MB with their lists, and built there. They come from the first mirror of Debian that apt-get knows, or from DEBIAN_MIRROR. A
 # second run fetches and builds only what isn't there.
