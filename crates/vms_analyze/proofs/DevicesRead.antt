@@ -1,30 +1,15 @@
 -- What is read of a description is exactly what it says.
-use Rattle.std.proofs.Common.{◌≡◌, ℕ, Bool, true, false, ◌&&◌, ◌||◌, ◌==◌, nat_le, if◌then◌else◌, List, [], Option, Some, None, ℤ, codes, refl, sym, ap, ap₂, ◌∙◌, ◌∷◌, map, IfSome, Ordering, Less, Equal, Greater, subst, ◌+◌, drop}
-use Rattle.std.specs.Str.{bytes_eq, is_utf8}
-use Rattle.std.proofs.lemmas.Bool.{and_parts, eqb-true, and_from, eq-eqb}
-use Rattle.std.proofs.lemmas.Slice.Eq.{bytes_eq-Decides}
-use Rattle.serde_json.specs.Data.{Data, number, string, object, no_members, member, array, Items, Members}
-use Rattle.serde_json.specs.Find.{of_integer, get, get_member, as_array}
-use Rattle.vms_json.specs.Keys.{fits}
-use Rattle.vms_kinds.specs.declared.Kind.{Kind}
-use Rattle.vms_kinds.specs.Codes.{width}
-use Rattle.vms_spec.specs.declared.TheConstants.{MOST_UNUSED, LONGEST_NAME}
-use Rattle.vms_spec.specs.Rules.{in_range}
-use Rattle.vms_words.specs.Words.{kind_word, kind_named}
-use Rattle.vms_words.proofs.WordLaws.{word_named, tells_kind}
-use Rattle.vms_selfdesc.specs.Tree.{natural, entry_tree, list_tree}
-use Rattle.vms_analyze.specs.declared.elements.TheConstants.{LONGEST_PATH}
-use Rattle.vms_analyze.specs.Told.{Told, Sent, Kept, Fixed, Skipped, told_entry, is_path, is_good, ToldSub, told_sub, ToldDevice, told_device, told_tree, fits_four, is_kept, is_good_sub, is_good_device}
-use Rattle.vms_analyze.specs.Sorted.{IsSorted, AreSorted, HoldSorted}
-use Rattle.vms_analyze.specs.Read.{only, text_at, path_at, natural_at, whole_at, sent_keys, kept_keys, unprinted, sent_as, sent_in, kept_as, kept_in, element_in, next, four_at, flag_at, list_at, each, elements_in, sub_keys, sub_in, subs_in, device_keys, device_in, devices_in}
+use Rattle.vms_analyze.proofs.Facade.{map-map, ◌≡◌, ℕ, Bool, true, false, ◌&&◌, ◌||◌, ◌==◌, nat_le, if◌then◌else◌, List, [], Option, Some, None, ℤ, codes, refl}
+use Rattle.vms_analyze.proofs.Facade.{sym, ap, ap₂, ◌∙◌, ◌∷◌, map, IfSome, Ordering, Less, Equal, Greater, subst, ◌+◌, drop, bytes_eq, is_utf8, and_parts}
+use Rattle.vms_analyze.proofs.Facade.{eqb-true, and_from, eq-eqb, bytes_eq-Decides, list_all, nat_cmp, match_ordering, slice_cmp, Data, number, string, object}
+use Rattle.vms_analyze.proofs.Facade.{no_members, member, array, Items, Members, of_integer, get, get_member, as_array, fits, Kind, width, MOST_UNUSED}
+use Rattle.vms_analyze.proofs.Facade.{LONGEST_NAME, in_range, kind_word, kind_named, word_named, tells_kind, natural, entry_tree, list_tree, LONGEST_PATH, Told}
+use Rattle.vms_analyze.proofs.Facade.{Sent, Kept, Fixed, Skipped, told_entry, is_path, is_good, ToldSub, told_sub, ToldDevice, told_device, told_tree}
+use Rattle.vms_analyze.proofs.Facade.{fits_four, is_kept, is_good_sub, is_good_device, IsSorted, AreSorted, HoldSorted, only, text_at, path_at, natural_at}
+use Rattle.vms_analyze.proofs.Facade.{whole_at, sent_keys, kept_keys, unprinted, sent_as, sent_in, kept_as, kept_in, element_in, next, four_at, flag_at}
+use Rattle.vms_analyze.proofs.Facade.{list_at, each, sub_keys, sub_in, subs_in, device_keys, device_in, devices_in, items_of, read, value_in, Tells}
+use Rattle.vms_analyze.specs.Read.{elements_in}
 use Rattle.vms_analyze.proofs.MembersRead.{is_picked, after, first_then, only_is, only_so, text_is, path_is, natural_is, whole_is, whole_back, Says, under, IsPathAt, four_is, flag_is, list_is, each_says, each_back, read_sorted}
-use Rattle.std.specs.List.{list_all}
-use Rattle.std.specs.Ordering.{nat_cmp, match_ordering}
-use Rattle.std.specs.Cmp.Lexicographic.{slice_cmp}
-use Rattle.serde_json.specs.View.{items_of}
-use Rattle.serde_json.specs.Read.{read}
-use Rattle.vms_json.specs.Texts.{value_in}
-use Rattle.vms_analyze.specs.Listing.{Tells}
 use Rattle.vms_analyze.proofs.Parts.{sub_parts, sub_from, device_parts, device_from}
 
 -- ---- What is read of an element is the element whose entry the value is, and of each good element's entry that element is read.
@@ -157,10 +142,7 @@ element_says d sorted t e = go (fits sent_keys [] d) (fits kept_keys [] d) refl 
 pub element_back : (t : Told) → is_good t ≡ true → element_in (element_tree t) ≡ Some t
 element_back (Sent path kind) e =
     first_then _ (only_so (is_path LONGEST_PATH path) path e)
-    (ap (sent_as path (width kind) (kind_word kind)) (word_named kind) ∙ only_so (width kind == width kind) (Sent path kind) (itself (width kind)))
-  where
-    itself : (n : ℕ) → (n == n) ≡ true
-    itself n = eq-eqb n n refl
+    (ap (sent_as path (width kind) (kind_word kind)) (word_named kind) ∙ only_so (width kind == width kind) (Sent path kind) (eq-eqb (width kind) (width kind) refl))
 element_back (Kept path kind value) e =
     let p = and_parts (is_path LONGEST_PATH path) (in_range kind value) e in
     first_then _ (only_so (is_path LONGEST_PATH path) path p.0)
@@ -213,16 +195,12 @@ module _ {A : Type 0} (tree : A → Data) (good : A → Bool) (says : Data → O
       let s = each_says tree good says one a.value (list_sorted key d a.value sorted a.first) list a.then in
       record { is = list_is key d a.value a.first ∙ ap array s.trees_are; fine = s.good_are }
 
-twice : (ts : List Told) → map entry_tree (map told_entry ts) ≡ map element_tree ts
-twice [] = refl
-twice (t ∷ ts) = ap (λ (l : List Data). element_tree t ∷ l) (twice ts)
-
 entries_back : (ts : List Told) → list_all is_good ts ≡ true → each element_in (items_of (map entry_tree (map told_entry ts))) ≡ Some ts
-entries_back ts h = ap (λ (l : List Data). each element_in (items_of l)) (twice ts) ∙ each_back element_tree is_good element_in element_back ts h
+entries_back ts h = ap (λ (l : List Data). each element_in (items_of l)) (map-map entry_tree told_entry ts) ∙ each_back element_tree is_good element_in element_back ts h
 
 entries_are : (d : Data) (ts : List Told) → under (codes "fields") d ≡ list_tree element_tree ts
     → under (codes "fields") d ≡ list_tree entry_tree (map told_entry ts)
-entries_are d ts e = e ∙ ap (λ (l : List Data). array (items_of l)) (sym (twice ts))
+entries_are d ts e = e ∙ ap (λ (l : List Data). array (items_of l)) (sym (map-map entry_tree told_entry ts))
 
 -- ---- subsections
 
@@ -337,7 +315,4 @@ pub told_back : (input : List ℕ) (p : ℕ) (devices : List ToldDevice) → Tel
 told_back input p devices t = first_then devices_in t.tree (devices_back devices t.good)
 
 pub not_told : (input : List ℕ) (p : ℕ) → next (value_in (drop (p + 5) input)) devices_in ≡ None → (devices : List ToldDevice) → Tells input p devices → ⊥
-not_told input p e devices t = no (sym (told_back input p devices t) ∙ e)
-  where
-    no : Some devices ≡ None → ⊥
-    no f = cc
+not_told input p e devices t = let back = told_back input p devices t in cc

@@ -1,16 +1,9 @@
 -- What is required, one after the other, is taken if it is at the front.
-use Rattle.std.proofs.Common.{◌≡◌, ℕ, ◌+◌, ◌<◌, ◌^◌, Bool, true, false, ◌&&◌, nat_le, List, [], ◌∷◌, ◌++◌, length, length-append, append_assoc, take, Some, ℤ, refl, sym, ap, ◌∙◌, arith, codes, decimal}
-use Rattle.std.proofs.lemmas.Bool.{le-leb, and_from}
-use Rattle.vms_kinds.specs.declared.Kind.{Kind}
-use Rattle.vms_kinds.specs.Codes.{width, code, value_of, InRange}
-use Rattle.vms_spec.specs.Lookup.{number_at}
-use Rattle.vms_spec.specs.Rules.{in_range}
-use Rattle.vms_spec.specs.Streams.{be32, section_head, foot}
-use Rattle.vms_spec.proofs.KindLaws.{length-code, value_code, be32_read}
-use Rattle.vms_bodies.proofs.BodyOnly.{front_take, front_drop}
-use Rattle.vms_bodies.proofs.ReadyLaws.{ranged}
-use Rattle.vms_values_laws.proofs.Rights.{begins_itself}
-use Rattle.vms_analyze.specs.Wanted.{Want, Bytes, Any, Number, Head, Foot, Line, number_line, Took, took, only_if, take_number, take_head, taken, Found, Lines, Differs, behind, found_after, found}
+use Rattle.vms_analyze.proofs.Facade.{◌≡◌, ℕ, ◌+◌, ◌<◌, ◌^◌, Bool, true, false, ◌&&◌, nat_le, List, [], ◌∷◌, ◌++◌, length, length-append, append_assoc, take}
+use Rattle.vms_analyze.proofs.Facade.{Some, ℤ, refl, sym, ap, ◌∙◌, arith, codes, decimal, le-leb, and_from, Kind, width, code, value_of, InRange, number_at}
+use Rattle.vms_analyze.proofs.Facade.{in_range, be32, section_head, foot, length-code, value_code, be32_read, front_take, front_drop, ranged, begins_itself}
+use Rattle.vms_analyze.proofs.Facade.{Want, Bytes, Any, Number, Head, Foot, Line, number_line, Took, took, only_if, take_number, take_head, taken, Found, Lines}
+use Rattle.vms_analyze.proofs.Facade.{Differs, behind, found_after, found}
 
 -- ---- one
 

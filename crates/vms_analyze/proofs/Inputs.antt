@@ -1,25 +1,13 @@
 -- Inputs that are taken piece by piece, and lists that are read one item after the other.
-use Rattle.std.proofs.Common.{◌≡◌, ℕ, ◌+◌, ◌<◌, ◌≤◌, Bool, true, false, ◌==◌, List, length, take, refl, ◌∙◌, arith, slice_index, ◌++◌, length-append, Err, sym, ap, subst, append-nil, Vec, Global, Result, ◌≢◌, [], ◌∷◌, drop, ◌-◌, Ok, length-drop, map, Option, Some, None, append_assoc, ⊎_elim}
-use Rattle.std.proofs.lemmas.Bool.{eq-eqb, cases_lt}
-use Rattle.std.proofs.lemmas.List.{get_or-take, length-take, drop_all, take_all, map-append}
-use Rattle.memchr.specs.Find.{NoneAfter, Nowhere, Passes, is_byte}
-use Rattle.vms_analyze.specs.Listing.{IsPlace, IsLastPlace, longest_input, Listing, Refused, listing_of, Lists, IsTooLong, HasNone, HasNoShape, IsRead, Text}
-use Rattle.vms_io.specs.Told.{Intake}
-use Rattle.vms_io.proofs.ReadingLemmas.{takes_both, takes_as, breaks_more, nothing_follows}
-use Rattle.vms_io.specs.Reading.{Takes}
-use Rattle.vms_analyze.specs.Inputs.{Appended, IsWhole, TakesPiece, TakesInput, HasMore}
-use Rattle.vms_analyze.specs.declared.input.NoInput.{NoInput}
-use Rattle.vms_analyze.specs.declared.fault.AnalyzeFault.{AnalyzeFault}
-use Rattle.vms_analyze.specs.Calls.{ListsAs, IsListed, IsTooMuch, ListsTaken, ShowsAs}
-use Rattle.vms_analyze.specs.Wanted.{Found, Lines, Differs, Want, behind, found}
-use Rattle.vms_elements.specs.Lines.{text_of}
-use Rattle.vms_analyze.specs.declared.walk.Walk.{Walk}
-use Rattle.vms_analyze.specs.Walking.{left, Goes, Stops, WhyStopped, AtStart, WhyNone}
-use Rattle.vms_analyze.specs.declared.walk.Stop.{Stop}
-use Rattle.serde_json.specs.Data.{Data, Items, no_items, item}
-use Rattle.vms_analyze.specs.Read.{next, each}
-use Rattle.vms_analyze.specs.Typed.{ReadsAs}
-use Rattle.vms_analyze.specs.declared.members.Unread.{Unread}
+use Rattle.vms_analyze.proofs.Facade.{◌≡◌, ℕ, ◌+◌, ◌<◌, ◌≤◌, Bool, true, false, ◌==◌, List, length, take, refl, ◌∙◌, arith, slice_index, ◌++◌, length-append}
+use Rattle.vms_analyze.proofs.Facade.{Err, sym, ap, subst, append-nil, Vec, Global, Result, ◌≢◌, [], ◌∷◌, drop, ◌-◌, Ok, length-drop, map, Option, Some, None}
+use Rattle.vms_analyze.proofs.Facade.{append_assoc, ⊎_elim, eq-eqb, cases_lt, get_or-take, drop_all, take_all, map-append, NoneAfter, Nowhere, Passes, is_byte}
+use Rattle.vms_analyze.proofs.Facade.{IsPlace, IsLastPlace, longest_input, Listing, Refused, listing_of, Lists, IsTooLong, HasNone, HasNoShape, IsRead, Text}
+use Rattle.vms_analyze.proofs.Facade.{Intake, takes_both, takes_as, breaks_more, nothing_follows, Takes, Appended, IsWhole, TakesPiece, TakesInput, HasMore}
+use Rattle.vms_analyze.proofs.Facade.{NoInput, AnalyzeFault, ListsAs, IsListed, IsTooMuch, ListsTaken, ShowsAs, Found, Lines, Differs, Want, behind, found}
+use Rattle.vms_analyze.proofs.Facade.{text_of, Walk, left, Goes, Stops, WhyStopped, AtStart, WhyNone, Stop, Data, Items, no_items, item, next, each, ReadsAs}
+use Rattle.vms_analyze.proofs.Facade.{Unread}
+use Rattle.std.proofs.lemmas.List.{length-take}
 use Rattle.vms_analyze.specs.declared.input.NoInput.TheVariants as none
 use Rattle.vms_analyze.specs.declared.fault.AnalyzeFault.TheVariants as faults
 use Rattle.vms_analyze.specs.declared.fault.AnalyzeReason.TheVariants as reasons

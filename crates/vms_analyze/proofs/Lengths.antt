@@ -1,22 +1,11 @@
 -- How many bytes are as required: no more than the description allows.
-use Rattle.std.proofs.Common.{◌≡◌, ℕ, ◌+◌, ◌*◌, ◌≤◌, Bool, true, false, ◌&&◌, ◌||◌, ◌==◌, nat_le, if◌then◌else◌, List, [], ◌∷◌, ◌++◌, length, length-append, length-drop, get_or, map, drop, Option, Some, None, ℤ, refl, sym, ap, arith}
-use Rattle.std.proofs.lemmas.Bool.{and_parts, leb-true}
-use Rattle.std.specs.List.{flat_map, list_all}
-use Rattle.vms_kinds.specs.Codes.{width}
-use Rattle.vms_spec.specs.declared.TheConstants.{LONGEST_NAME, MOST_UNUSED}
-use Rattle.vms_spec.specs.Lookup.{number_at, bytes_at}
-use Rattle.vms_spec.specs.Names.{is_name_byte}
-use Rattle.vms_spec.specs.Sets.{Sub, Device, Set, Desc}
-use Rattle.vms_spec.specs.Layout.{desc_cells, struct_cells}
-use Rattle.vms_spec.specs.Images.{Image, own_cells}
-use Rattle.vms_spec.specs.Spelling.{begins_with}
-use Rattle.vms_spec.specs.Streams.{be32, configuration}
-use Rattle.vms_spec.specs.WellFormed.{struct_items, items_in, subs_items, devices_items}
-use Rattle.vms_spec.proofs.KindLaws.{width_small}
-use Rattle.vms_analyze.specs.declared.elements.TheConstants.{LONGEST_PATH}
-use Rattle.vms_analyze.specs.Told.{Told, Sent, Kept, Fixed, Skipped, is_path, is_good}
-use Rattle.vms_analyze.specs.Wanted.{Want, Bytes, Any, Number, Machine, Head, Foot, Line, element_want, sub_wants, device_wants, Took, took, only_if, take_machine, is_machine, taken, Found, Lines, Differs, behind, found_after, found}
-use Rattle.vms_analyze.specs.Telling.{told_part, told_subs, told_devices, told_device_of, told_sub_of}
+use Rattle.vms_analyze.proofs.Facade.{◌≡◌, ℕ, ◌+◌, ◌*◌, ◌≤◌, Bool, true, false, ◌&&◌, ◌||◌, ◌==◌, nat_le, if◌then◌else◌, List, [], ◌∷◌, ◌++◌, length}
+use Rattle.vms_analyze.proofs.Facade.{length-append, length-drop, get_or, map, drop, Option, Some, None, ℤ, refl, sym, ap, arith, and_parts, leb-true, flat_map}
+use Rattle.vms_analyze.proofs.Facade.{list_all, width, LONGEST_NAME, MOST_UNUSED, number_at, bytes_at, is_name_byte, Sub, Device, Set, Desc, desc_cells}
+use Rattle.vms_analyze.proofs.Facade.{struct_cells, Image, own_cells, begins_with, be32, configuration, struct_items, items_in, subs_items, devices_items}
+use Rattle.vms_analyze.proofs.Facade.{width_small, LONGEST_PATH, Told, Sent, Kept, Fixed, Skipped, is_path, is_good, Want, Bytes, Any, Number, Machine, Head}
+use Rattle.vms_analyze.proofs.Facade.{Foot, Line, element_want, sub_wants, device_wants, Took, took, only_if, take_machine, is_machine, taken, Found, Lines}
+use Rattle.vms_analyze.proofs.Facade.{Differs, behind, found_after, found, told_part, told_subs, told_devices, told_device_of, told_sub_of}
 use Rattle.vms_analyze.proofs.Shapes.{IsGoodPart, AreGoodSubs, IsGoodDevice, AreGoodDevices}
 use Rattle.vms_analyze.proofs.Parts.{fixed_small}
 

@@ -1,25 +1,16 @@
 -- Names of a well-formed set and paths are of the bytes that a description may have.
-use Rattle.std.proofs.Common.{◌≡◌, ℕ, zero, suc, ◌+◌, ◌<◌, ◌≤◌, ◌%◌, ◌/◌, Bool, true, false, ◌&&◌, ◌||◌, ◌==◌, nat_le, if◌then◌else◌, List, [], ◌∷◌, ◌++◌, length, length-append, refl, ap, ◌∙◌, subst, arith, nat_lt, get_or, map, ℤ}
-use Rattle.std.specs.List.{list_all, AllByRecursion}
-use Rattle.std.proofs.Math.Nat.{mod-lt}
-use Rattle.std.proofs.lemmas.Bool.{and_parts, leb-true, le-leb, lt-ltb, and_from}
-use Rattle.std.specs.Fmt.{decimal, digits, digits_onto, digit_glyph}
-use Rattle.vms_spec.specs.declared.Count.{Count}
-use Rattle.vms_spec.specs.declared.Count.TheVariants.{One, Fixed, Counted}
-use Rattle.vms_spec.specs.Names.{is_name_byte, is_name, is_sub_name}
-use Rattle.vms_elements.specs.Elements.{index_text, What, Number, Constant, Filler, Rule, Element, Shape, no_shape, shape, shapes, cells_in, dotted, behind, single, item_elements, Stand, stand_of, array_elements, field_elements, elements_from, desc_elements}
-use Rattle.vms_analyze.specs.Told.{is_path_byte, is_path}
-use Rattle.vms_selfdesc.proofs.Plain.{sub_name_is}
-use Rattle.vms_kinds.specs.declared.Item.{Item}
-use Rattle.vms_kinds.specs.declared.Item.TheVariants.{Num, Equal, Unused, Struct}
-use Rattle.vms_spec.specs.declared.TheConstants.{MOST_UNUSED}
-use Rattle.vms_spec.specs.Rules.{in_range, defaults_well, is_small_item}
-use Rattle.vms_spec.specs.Sets.{Field, Desc, Set}
-use Rattle.vms_spec.specs.Layout.{no_desc, first, counted, capacity_of, item_size, field_cells, desc_cells, numbers_of, all_hold}
-use Rattle.vms_spec.proofs.Tables.{one_more}
-use Rattle.vms_elements.specs.Parts.{elements_in}
-use Rattle.vms_elements.proofs.Members.{Each, each_append, each_map}
-use Rattle.std.proofs.lemmas.List.Folds.{list_all-append}
+use Rattle.vms_analyze.proofs.Facade.{◌≡◌, ℕ, zero, suc, ◌+◌, ◌<◌, ◌≤◌, ◌%◌, ◌/◌, Bool, true, false, ◌&&◌, ◌||◌, ◌==◌, nat_le, if◌then◌else◌, List, [], ◌∷◌}
+use Rattle.vms_analyze.proofs.Facade.{◌++◌, length, length-append, refl, ap, ◌∙◌, subst, arith, nat_lt, get_or, map, ℤ, list_all, AllByRecursion, mod-lt}
+use Rattle.vms_analyze.proofs.Facade.{and_parts, leb-true, le-leb, lt-ltb, and_from, digits, digits_onto, digit_glyph, list_all-append, Count, One, Counted}
+use Rattle.vms_analyze.proofs.Facade.{is_name_byte, is_name, is_sub_name, index_text, What, Constant, Filler, Rule, Shape, no_shape, shape, shapes, cells_in}
+use Rattle.vms_analyze.proofs.Facade.{dotted, single, item_elements, Stand, stand_of, array_elements, field_elements, elements_from, desc_elements}
+use Rattle.vms_analyze.proofs.Facade.{is_path_byte, is_path, sub_name_is, Item, Num, Unused, Struct, MOST_UNUSED, in_range, defaults_well, is_small_item, Field}
+use Rattle.vms_analyze.proofs.Facade.{Desc, Set, no_desc, first, counted, capacity_of, item_size, field_cells, desc_cells, numbers_of, all_hold, one_more}
+use Rattle.vms_analyze.proofs.Facade.{elements_in, Each, each_append, each_map}
+use Rattle.std.specs.Fmt.{decimal}
+use Rattle.vms_spec.specs.declared.Count.TheVariants.{Fixed}
+use Rattle.vms_elements.specs.Elements.{Number, Element, behind}
+use Rattle.vms_kinds.specs.declared.Item.TheVariants.{Equal}
 
 -- ---- Names of a well-formed set and paths are of the bytes that a description may have.
 

@@ -1,17 +1,18 @@
-pub mod Parts
+mod Rows
+pub mod DevicesRead
+pub mod Facade
 pub mod Following
+pub mod Inputs
+pub mod Lengths
+pub mod Letters
+pub mod Longest
+pub mod MembersRead
+pub mod One
+pub mod Parts
+pub mod Shapes
+pub mod Shown
 pub mod Streams
 pub mod Texts
-pub mod Shapes
-pub mod Letters
-pub mod Lengths
-pub mod Shown
-pub mod One
-mod Rows
-pub mod Inputs
-pub mod Walks
-pub mod MembersRead
-pub mod WalkHeads
-pub mod DevicesRead
 pub mod Total
-pub mod Longest
+pub mod WalkHeads
+pub mod Walks

@@ -1,6 +1,5 @@
 -- Greatest lengths.
-use Rattle.std.proofs.Common.{refl}
-use Rattle.vms_analyze.specs.Laws.{LongestLaw}
+use Rattle.vms_analyze.proofs.Facade.{refl, LongestLaw}
 
 pub longest_are : LongestLaw
 longest_are = record { input = refl; path = refl }

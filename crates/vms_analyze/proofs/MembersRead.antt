@@ -1,24 +1,13 @@
 -- What was read of an object's members and of a list's items, and keys in order.
-use Rattle.std.proofs.Common.{Ordering, Less, Equal, Greater, ◌≡◌, ℕ, Bool, true, false, ◌&&◌, ◌||◌, List, [], ◌∷◌, ◌++◌, append-nil, is_some, unwrap_or, Option, Some, None, refl, sym, ap, ap₂, ◌∙◌, subst, IfSome, option_map, option_and_then, map, ℤ, pos, negsuc, arith}
-use Rattle.std.proofs.lemmas.Bool.{and_parts, le-ltb}
-use Rattle.std.proofs.lemmas.Cmp.{nat_list_cmp_total}
-use Rattle.std.proofs.lemmas.Map.Lookups.{exact_bytes}
-use Rattle.std.proofs.lemmas.Map.Text.{is_eq-slice_cmp}
-use Rattle.std.specs.Ordering.{nat_cmp, match_ordering, ordering_reverse, is_eq}
-use Rattle.std.specs.Cmp.Lexicographic.{slice_cmp}
-use Rattle.std.specs.Str.{bytes_eq}
-use Rattle.serde_json.specs.Data.{Data, null, boolean, number, string, array, object, Members, no_members, member, put, Items, item, Num, unsigned, negative, float, no_items}
-use Rattle.serde_json.specs.Find.{get, get_member, as_bool, as_number, as_str, as_array, as_u64, of_integer}
-use Rattle.vms_spec.specs.Streams.{is_one_of}
-use Rattle.vms_json.specs.Keys.{has, has_no_others, has_all, fits}
-use Rattle.vms_analyze.specs.Sorted.{IsLess, IsBefore, AreOrdered, keys_of, IsSorted, AreSorted, HoldSorted}
-use Rattle.json.specs.Lex.{tokens}
-use Rattle.serde_json.specs.Read.{number_of, of_json, of_items, of_members, max_depth, read}
-use Rattle.std.specs.List.{list_all}
-use Rattle.serde_json.specs.View.{items_of}
-use Rattle.vms_selfdesc.specs.Tree.{natural}
-use Rattle.vms_analyze.specs.Told.{is_path, fits_four}
-use Rattle.vms_analyze.specs.Read.{next, only, text_at, path_at, natural_at, four_at, flag_at, list_at, whole_of, whole_at, each}
+use Rattle.vms_analyze.proofs.Facade.{Ordering, Less, Equal, Greater, ◌≡◌, ℕ, Bool, true, false, ◌&&◌, ◌||◌, List, [], ◌∷◌, ◌++◌, append-nil, is_some}
+use Rattle.vms_analyze.proofs.Facade.{unwrap_or, Option, Some, None, refl, sym, ap, ap₂, ◌∙◌, subst, IfSome, option_map, option_and_then, map, ℤ, pos, negsuc}
+use Rattle.vms_analyze.proofs.Facade.{arith, and_parts, le-ltb, nat_list_cmp_total, exact_bytes, is_eq-slice_cmp, nat_cmp, match_ordering, ordering_reverse}
+use Rattle.vms_analyze.proofs.Facade.{is_eq, slice_cmp, bytes_eq, list_all, Data, null, boolean, number, string, array, object, Members, no_members, member}
+use Rattle.vms_analyze.proofs.Facade.{put, Items, item, unsigned, negative, float, no_items, get, get_member, as_bool, as_number, as_str, as_array, as_u64}
+use Rattle.vms_analyze.proofs.Facade.{of_integer, is_one_of, has, has_no_others, has_all, fits, IsLess, IsBefore, AreOrdered, keys_of, IsSorted, AreSorted}
+use Rattle.vms_analyze.proofs.Facade.{HoldSorted, tokens, number_of, of_json, of_items, of_members, max_depth, read, items_of, natural, is_path, fits_four}
+use Rattle.vms_analyze.proofs.Facade.{next, only, text_at, path_at, natural_at, four_at, flag_at, list_at, whole_of, whole_at, each}
+use Rattle.serde_json.specs.Data.{Num}
 use Rattle.json.specs.Json as json
 
 -- ---- An object whose keys are in order and are exactly these has them one after the other.

@@ -1,32 +1,17 @@
 -- An input has at most one listing.
-use Rattle.std.proofs.Common.{◌≡◌, ℕ, Bool, true, false, List, [], ◌∷◌, map, take, Some, None, ℤ, pos, negsuc, refl, sym, ap, ap₂, ◌∙◌, subst, arith, codes, ⊎_elim, ◌≤◌, ◌<◌}
-use Rattle.serde_json.specs.Data.{Data, number, string, boolean, array, object, Members, no_members, member}
-use Rattle.serde_json.specs.Find.{of_integer}
-use Rattle.serde_json.specs.View.{items_of}
-use Rattle.vms_kinds.specs.declared.Kind.{Kind}
-use Rattle.vms_kinds.specs.Codes.{width}
-use Rattle.vms_words.specs.Words.{kind_word, kind_named}
-use Rattle.vms_selfdesc.specs.Tree.{natural, entry_tree, list_tree}
-use Rattle.vms_analyze.specs.Told.{Told, Sent, Kept, Fixed, Skipped, told_entry, ToldSub, told_sub, ToldDevice, told_device, told_tree}
-use Rattle.vms_analyze.specs.Wanted.{wants, found}
-use Rattle.vms_analyze.specs.Listing.{IsLastPlace, Tells, listing_of, IsTooLong, HasNone, HasNoShape, IsRead, Refused}
-use Rattle.vms_analyze.specs.Laws.{OneLaw}
-use Rattle.vms_analyze.proofs.Texts.{map_twice}
-use Rattle.vms_words.proofs.WordLaws.{word_named}
-use Rattle.std.proofs.lemmas.Bool.{cases_lt}
+use Rattle.vms_analyze.proofs.Facade.{map-map, same_Some, ◌≡◌, ℕ, Bool, true, false, List, [], ◌∷◌, map, take, None, ℤ, pos, negsuc, refl, sym, ap, ap₂, ◌∙◌}
+use Rattle.vms_analyze.proofs.Facade.{subst, arith, codes, ⊎_elim, ◌≤◌, ◌<◌, cases_lt, Data, number, string, boolean, array, object, Members, no_members}
+use Rattle.vms_analyze.proofs.Facade.{member, of_integer, items_of, Kind, width, kind_word, kind_named, natural, entry_tree, list_tree, Told, Sent, Kept, Fixed}
+use Rattle.vms_analyze.proofs.Facade.{Skipped, told_entry, ToldSub, told_sub, ToldDevice, told_device, told_tree, wants, found, IsLastPlace, Tells, listing_of}
+use Rattle.vms_analyze.proofs.Facade.{IsTooLong, HasNone, HasNoShape, IsRead, Refused, OneLaw, word_named}
 
 -- ---- one tree has one list of devices
 
-some_same : {A : Type 0} (x y : A) → Some x ≡ Some y → x ≡ y
-some_same x y e = cc
-
 pub word_same : (k l : Kind) → kind_word k ≡ kind_word l → k ≡ l
-word_same k l e = some_same k l (sym (word_named k) ∙ ap kind_named e ∙ word_named l)
+word_same k l e = same_Some k l (sym (word_named k) ∙ ap kind_named e ∙ word_named l)
 
 no_word : (k : Kind) (word : List ℕ) → kind_named word ≡ None → kind_word k ≡ word → ⊥
-no_word k word none e = no k (sym (word_named k) ∙ ap kind_named e ∙ none) where
-  no : (k : Kind) → Some k ≡ None → ⊥
-  no k e = cc
+no_word k word none e = let named = word_named k in cc
 
 integer_same : (y z : ℤ) → of_integer y ≡ of_integer z → y ≡ z
 integer_same (pos m) (pos n) e = cc
@@ -96,7 +81,7 @@ module _ {A : Type 0} (tree : A → Data) (one : (x y : A) → tree x ≡ tree y
 elements_same : (ts us : List Told) → list_tree entry_tree (map told_entry ts) ≡ list_tree entry_tree (map told_entry us) → ts ≡ us
 elements_same ts us e =
     let f : items_of (map entry_tree (map told_entry ts)) ≡ items_of (map entry_tree (map told_entry us)) = cc in
-    items_same (λ t. entry_tree (told_entry t)) element_same ts us (ap items_of (map_twice ts) ∙ f ∙ ap items_of (sym (map_twice us)))
+    items_same (λ t. entry_tree (told_entry t)) element_same ts us (ap items_of (sym (map-map entry_tree told_entry ts)) ∙ f ∙ ap items_of (map-map entry_tree told_entry us))
 
 abbrev sub_object : Data → List ℕ → Bool → ℕ → Data
 sub_object fields name sent version =
@@ -165,7 +150,7 @@ last_same input p q a b =
     (λ (ge : q ≤ p). ⊎_elim (λ (lt : q < p). absurd (b.last p lt a.is)) (λ (le : p ≤ q). let same : p ≡ q = omega arith in same) (cases_lt q p)) (cases_lt p q)
 
 tells_same : (input : List ℕ) (p : ℕ) (ds es : List ToldDevice) → Tells input p ds → Tells input p es → ds ≡ es
-tells_same input p ds es a b = told_same ds es (some_same (told_tree ds) (told_tree es) (sym a.tree ∙ b.tree))
+tells_same input p ds es a b = told_same ds es (same_Some (told_tree ds) (told_tree es) (sym a.tree ∙ b.tree))
 
 pub one_holds : OneLaw
 one_holds input _ _ (IsTooLong lt) (IsTooLong lt') = refl

@@ -1,9 +1,6 @@
 -- What a subsection and a device that are described consist of, if they are good.
-use Rattle.std.proofs.Common.{◌≡◌, ℕ, suc, ◌<◌, ◌≤◌, ◌==◌, List, [], ◌∷◌, length, get_or, arith, Bool, true, false, ◌&&◌, ◌||◌, refl}
-use Rattle.std.specs.List.{list_all, AllByRecursion}
-use Rattle.std.proofs.lemmas.Bool.{and_parts, and_from, eqb-true}
-use Rattle.vms_spec.specs.declared.TheConstants.{LONGEST_NAME}
-use Rattle.vms_analyze.specs.Told.{ToldSub, ToldDevice, is_path, fits_four, is_good, is_kept, is_good_sub, is_good_device}
+use Rattle.vms_analyze.proofs.Facade.{nat_tests, ◌≡◌, ℕ, suc, ◌<◌, ◌≤◌, ◌==◌, List, [], ◌∷◌, length, get_or, arith, true, ◌&&◌, ◌||◌, list_all, AllByRecursion}
+use Rattle.vms_analyze.proofs.Facade.{and_parts, and_from, LONGEST_NAME, ToldSub, ToldDevice, is_path, fits_four, is_good, is_kept, is_good_sub, is_good_device}
 
 pub record SubParts (s : ToldSub) : Type 0 where
   pub name : is_path LONGEST_NAME s.name ≡ true
@@ -47,11 +44,4 @@ all_at P d (x ∷ xs) h = (h 0 (omega arith), all_at P d xs (λ i lt. h (suc i) 
 
 -- a number that is one of these
 pub fixed_small : (n : ℕ) → (n == 1 || n == 2 || n == 4 || n == 8) ≡ true → n ≤ 8
-fixed_small n e = go (n == 1) (n == 2) (n == 4) (n == 8) (λ h. eqb-true n 1 h) (λ h. eqb-true n 2 h) (λ h. eqb-true n 4 h) (λ h. eqb-true n 8 h) e
-  where
-    go : (a b c d : Bool) → (a ≡ true → n ≡ 1) → (b ≡ true → n ≡ 2) → (c ≡ true → n ≡ 4) → (d ≡ true → n ≡ 8) → (a || b || c || d) ≡ true → n ≤ 8
-    go true b c d p q r s h = let i = p refl in omega (arith, i)
-    go false true c d p q r s h = let i = q refl in omega (arith, i)
-    go false false true d p q r s h = let i = r refl in omega (arith, i)
-    go false false false true p q r s h = let i = s refl in omega (arith, i)
-    go false false false false p q r s h = cc
+fixed_small n e = grind (arith, nat_tests)

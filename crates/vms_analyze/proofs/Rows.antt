@@ -1,23 +1,10 @@
 -- Worked listings.
-use Rattle.std.proofs.Common.{◌≡◌, ℕ, zero, suc, true, false, not, ◌==◌, List, [], ◌∷◌, ◌++◌, map, get_or, take, drop, Some, None, pos, refl, sym, ap, ◌∙◌, arith, codes}
-use Rattle.std.specs.List.{list_all}
-use Rattle.std.proofs.lemmas.Bool.{and_parts, eq-eqb}
-use Rattle.std.specs.Fmt.{digits}
-use Rattle.std.specs.Str.{is_utf8, chars}
-use Rattle.serde_json.specs.Data.{Data, string, array, object, Items, no_items, item, Members, no_members, put}
-use Rattle.serde_json.proofs.OnLiterals.{serde_json_on_literals}
-use Rattle.vms_kinds.specs.Codes.{width, code}
-use Rattle.vms_kinds.specs.declared.Kind.TheVariants.{U64}
-use Rattle.vms_spec.specs.Images.{Image}
-use Rattle.vms_spec.specs.Streams.{trailer}
-use Rattle.serde_json.specs.View.{items_of}
-use Rattle.vms_words.specs.Words.{kind_word, kind_named}
-use Rattle.vms_selfdesc.specs.Tree.{natural, entry_tree}
-use Rattle.vms_json.specs.Texts.{value_in}
+use Rattle.vms_analyze.proofs.Facade.{same_Some, ◌≡◌, ℕ, zero, suc, true, false, not, ◌==◌, List, [], ◌∷◌, ◌++◌, map, get_or, take, drop, Some, None, pos, refl}
+use Rattle.vms_analyze.proofs.Facade.{sym, ap, ◌∙◌, arith, codes, list_all, and_parts, eq-eqb, digits, is_utf8, chars, Data, string, array, object, Items}
+use Rattle.vms_analyze.proofs.Facade.{no_items, item, Members, no_members, put, serde_json_on_literals, width, code, U64, Image, trailer, items_of, kind_word}
+use Rattle.vms_analyze.proofs.Facade.{kind_named, natural, entry_tree, value_in, Told, Sent, Kept, Fixed, Skipped, told_entry, ToldDevice, told_tree}
+use Rattle.vms_analyze.proofs.Facade.{is_good_device, Lines, Differs, wants, found, Refused, Lists, HasNone, HasNoShape}
 use Rattle.vms_analyze.specs.declared.fault.AnalyzeReason.TheVariants as reasons
-use Rattle.vms_analyze.specs.Told.{Told, Sent, Kept, Fixed, Skipped, told_entry, ToldDevice, told_tree, is_good_device}
-use Rattle.vms_analyze.specs.Wanted.{Lines, Differs, wants, found}
-use Rattle.vms_analyze.specs.Listing.{Refused, Lists, HasNone, HasNoShape}
 use Rattle.vms_analyze.proofs.One.{members, same_members, word_same}
 use Rattle.vms_analyze.proofs.Texts.{last_place}
 
@@ -104,13 +91,9 @@ no_element (Sent p k) e =
     let w = ap width (word_same k U64 h.type) in
     omega (arith, w, h.size)
 no_element (Kept p k z) e = cc
-no_element (Fixed p n) e = let h = same_members p (codes "now") (codes "equal") (codes "u64") n 4 no_members no_members e in other (ap kind_named h.type) where
-  other : None ≡ Some U64 → ⊥
-  other e = cc
+no_element (Fixed p n) e = let h = same_members p (codes "now") (codes "equal") (codes "u64") n 4 no_members no_members e in let other : None ≡ Some U64 = ap kind_named h.type in cc
 no_element (Skipped p n) e =
-    let h = same_members p (codes "now") (codes "unused") (codes "u64") n 4 no_members no_members e in other (ap kind_named h.type) where
-      other : None ≡ Some U64 → ⊥
-      other e = cc
+    let h = same_members p (codes "now") (codes "unused") (codes "u64") n 4 no_members no_members e in let other : None ≡ Some U64 = ap kind_named h.type in cc
 
 first_element : (ts : List Told) (rest : Items) → items_of (map entry_tree (map told_entry ts)) ≡ item four_entry rest → ⊥
 first_element [] rest e = cc
@@ -124,7 +107,4 @@ first_device (d ∷ ds) e = let h : items_of (map entry_tree (map told_entry d.e
 refuses_four_bytes : Lists (smallest 0x7e ++ trailer four_bytes) (Refused 41 reasons.Shape)
 refuses_four_bytes =
     HasNoShape 41 (omega arith) (last_place (smallest 0x7e) (drop 4 four_bytes) (record { none = no_six four_bytes refl }) (omega arith))
-    (λ devices h. first_device devices (some_tree (told_tree devices) four_tree (sym h.tree ∙ reads_four_bytes)))
-  where
-    some_tree : (a b : Data) → Some a ≡ Some b → a ≡ b
-    some_tree a b e = cc
+    (λ devices h. first_device devices (same_Some (told_tree devices) four_tree (sym h.tree ∙ reads_four_bytes)))

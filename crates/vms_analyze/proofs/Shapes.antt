@@ -1,49 +1,21 @@
 -- The description of a well-formed set has the right shape.
-use Rattle.std.proofs.Common.{◌≡◌, ℕ, ◌+◌, Bool, true, false, ◌&&◌, is_some, List, [], ◌∷◌, ◌++◌, length, map, Option, ℤ, refl, ap, ◌∙◌, codes, suc, ◌*◌, ◌<◌, ◌≤◌, cond, ◌||◌, ◌==◌, nat_lt, nat_le, length-append, get_or, sym, subst, arith, zero, is_none, Some, None, ⊎_elim, ◌/◌, ◌%◌}
-use Rattle.std.proofs.lemmas.List.{map-append, length-map}
-use Rattle.serde_json.specs.Data.{Data, array, object, no_members, put, Members, member, number, string}
-use Rattle.serde_json.specs.View.{items_of}
-use Rattle.vms_spec.specs.Sets.{Desc, Sub, Device, Set, AtLeast}
-use Rattle.vms_spec.specs.Layout.{desc_cells, struct_cells, no_desc, no_field, counted}
-use Rattle.vms_spec.specs.Images.{Image, own_cells}
-use Rattle.vms_elements.specs.Elements.{What, Number, Constant, Filler, Rule, Element, shapes}
-use Rattle.vms_elements.specs.Parts.{elements_in}
-use Rattle.vms_selfdesc.specs.Entries.{Entry, entry_of, entries_of, part_entries}
-use Rattle.vms_selfdesc.specs.Tree.{sub_members, sub_tree, sub_trees, device_members, device_tree, device_trees, described_tree, natural, entry_tree}
-use Rattle.vms_analyze.specs.Told.{told_entry, told_sub, told_device, told_tree, Told, Sent, Kept, Fixed, Skipped, is_path_byte, is_good, is_kept, fits_four, is_good_sub, is_good_device}
-use Rattle.vms_analyze.specs.Telling.{told_what, tolds, told_part, told_subs, told_devices, told, told_sub_of, told_device_of}
-use Rattle.std.specs.List.{list_all, AllByRecursion}
-use Rattle.std.proofs.lemmas.Bool.{and_parts, and_from, lt-ltb, cases_lt}
-use Rattle.std.proofs.Math.ListN.{get_or-eq_default}
-use Rattle.json.specs.Print.{escape, escape_byte, escape_letter}
-use Rattle.serde_json.specs.Written.{compact_text, members_text}
-use Rattle.vms_kinds.specs.declared.Kind.{Kind}
-use Rattle.vms_kinds.specs.Codes.{width}
-use Rattle.vms_words.specs.Words.{kind_word}
-use Rattle.serde_json.specs.Find.{of_integer}
-use Rattle.vms_spec.specs.declared.Part.{Part}
-use Rattle.vms_spec.specs.declared.TheConstants.{MOST_UNUSED, LONGEST_NAME}
-use Rattle.vms_spec.specs.Names.{is_name}
-use Rattle.vms_spec.specs.Rules.{in_range, defaults_well, counts_well, is_small_item, is_small_optional}
-use Rattle.vms_spec.specs.WellFormed.{WellFormed, struct_items, struct_depths, items_in, deepest, subs_items, devices_items}
-use Rattle.vms_elements.proofs.Members.{Each}
-use Rattle.vms_desc.specs.Parts.{HasPart, desc_at, sub_at}
-use Rattle.vms_desc.proofs.Clean.{field_sound, few_subs, device_clean, sub_clean}
-use Rattle.vms_selfdesc.proofs.EntryLong.{member_long}
-use Rattle.vms_selfdesc.proofs.Fits.{AreLong, longer, entries_few, entries_long}
-use Rattle.vms_selfdesc.proofs.Lengths.{fit}
-use Rattle.vms_selfdesc.proofs.Soundness.{part_sound, fields_flat}
-use Rattle.vms_analyze.specs.declared.elements.TheConstants.{LONGEST_PATH}
+use Rattle.vms_analyze.proofs.Facade.{◌≡◌, ℕ, ◌+◌, Bool, true, false, ◌&&◌, is_some, List, [], ◌∷◌, ◌++◌, length, map, Option, ℤ, refl, ap, ◌∙◌, codes, suc}
+use Rattle.vms_analyze.proofs.Facade.{◌*◌, ◌<◌, ◌≤◌, cond, ◌||◌, ◌==◌, nat_lt, nat_le, length-append, get_or, sym, subst, arith, zero, is_none, Some, None}
+use Rattle.vms_analyze.proofs.Facade.{⊎_elim, ◌/◌, ◌%◌, map-append, length-map, list_all, AllByRecursion, and_parts, and_from, lt-ltb, cases_lt}
+use Rattle.vms_analyze.proofs.Facade.{get_or-eq_default, slice_get-get_or, list_all-append, digit_char, Data, array, object, no_members, put, Members, member}
+use Rattle.vms_analyze.proofs.Facade.{number, string, items_of, Desc, Sub, Device, Set, AtLeast, desc_cells, struct_cells, no_desc, no_field, counted, Image}
+use Rattle.vms_analyze.proofs.Facade.{own_cells, What, Constant, Filler, Rule, shapes, elements_in, Entry, entry_of, entries_of, part_entries, sub_members}
+use Rattle.vms_analyze.proofs.Facade.{sub_tree, sub_trees, device_members, device_tree, device_trees, described_tree, natural, entry_tree, told_entry, told_sub}
+use Rattle.vms_analyze.proofs.Facade.{told_device, told_tree, Told, Sent, Kept, Fixed, Skipped, is_path_byte, is_good, is_kept, fits_four, is_good_sub}
+use Rattle.vms_analyze.proofs.Facade.{is_good_device, told_what, tolds, told_part, told_subs, told_devices, told, told_sub_of, told_device_of, escape}
+use Rattle.vms_analyze.proofs.Facade.{escape_byte, escape_letter, compact_text, members_text, Kind, width, kind_word, of_integer, Part, MOST_UNUSED}
+use Rattle.vms_analyze.proofs.Facade.{LONGEST_NAME, is_name, in_range, defaults_well, counts_well, is_small_item, is_small_optional, WellFormed, struct_items}
+use Rattle.vms_analyze.proofs.Facade.{struct_depths, items_in, deepest, subs_items, devices_items, Each, HasPart, desc_at, sub_at, field_sound, few_subs}
+use Rattle.vms_analyze.proofs.Facade.{device_clean, sub_clean, member_long, AreLong, longer, entries_few, entries_long, fit, part_sound, fields_flat}
+use Rattle.vms_analyze.proofs.Facade.{LONGEST_PATH, FitsHeads, device_at, is_well_formed, few_items, all_both}
+use Rattle.vms_elements.specs.Elements.{Number, Element}
 use Rattle.vms_analyze.proofs.Letters.{named_path, IsNamed, named_within, name_named, sub_named, IsGoodWhat, HasPath, IsGoodElement, IsGoodField, AreGoodFields, elements_good}
-use Rattle.std.proofs.lemmas.Option.{slice_get-get_or}
-use Rattle.vms_spec.specs.Heads.{FitsHeads}
-use Rattle.vms_desc.specs.Described.{device_at}
-use Rattle.vms_desc.specs.Formed.{is_well_formed}
-use Rattle.vms_desc.proofs.Bounds.{few_items}
 use Rattle.vms_analyze.proofs.Parts.{sub_from, device_from, all_at}
-use Rattle.vms_values_laws.proofs.SaidLaws.{all_both}
-use Rattle.std.proofs.lemmas.List.Folds.{list_all-append}
-use Rattle.std.specs.Char.{digit_char}
 use Rattle.vms_kinds.specs.declared.Kind.TheVariants as kinds
 use Rattle.vms_spec.specs.declared.Part.TheVariants as parts
 

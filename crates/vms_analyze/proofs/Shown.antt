@@ -1,34 +1,11 @@
 -- What is written of ready images with their description lists the values text.
-use Rattle.std.proofs.Common.{◌≡◌, ℕ, ◌+◌, ◌<◌, ◌≤◌, true, List, [], ◌∷◌, ◌++◌, length, length-append, append_assoc, take, drop, is_none, Option, Some, refl, sym, ap, ◌∙◌, subst, arith, Bool, if◌then◌else◌, None}
-use Rattle.std.specs.Str.{is_utf8}
-use Rattle.serde_json.specs.Written.{compact_text}
-use Rattle.vms_json.specs.Texts.{value_in}
+use Rattle.vms_analyze.proofs.Facade.{◌≡◌, ℕ, ◌+◌, ◌<◌, ◌≤◌, true, List, [], ◌∷◌, ◌++◌, length, length-append, append_assoc, take, drop, is_none, Option, Some}
+use Rattle.vms_analyze.proofs.Facade.{refl, sym, ap, ◌∙◌, subst, arith, Bool, if◌then◌else◌, None, is_utf8, flat_map, compact_text, value_in, escape_byte, Data}
+use Rattle.vms_analyze.proofs.Facade.{read, FitsHeads, Set, Image, AreReady, be32, end_mark, trailer, written, WellFormed, few_devices, front_take, front_drop}
+use Rattle.vms_analyze.proofs.Facade.{IsMachineOf, values_lines, text_law, few_items, IsSound, described_tree, described_text, short_holds, described_plain}
+use Rattle.vms_analyze.proofs.Facade.{reads_whole, told_tree, Bytes, Lines, device_wants, wants, found, IsLastPlace, Tells, Listing, Text, listing_of, Lists}
+use Rattle.vms_analyze.proofs.Facade.{IsRead, told, ReadBackLaw, ShownLaw}
 use Rattle.vms_analyze.proofs.Texts.{told_text, HasNoMark, last_place, tree_sound, text_printed, no_mark}
-use Rattle.std.specs.List.{flat_map}
-use Rattle.json.specs.Print.{escape_byte}
-use Rattle.serde_json.specs.Data.{Data}
-use Rattle.serde_json.specs.Read.{read}
-use Rattle.vms_spec.specs.Heads.{FitsHeads}
-use Rattle.vms_spec.specs.Sets.{Set}
-use Rattle.vms_spec.specs.Images.{Image}
-use Rattle.vms_spec.specs.Streams.{AreReady, be32, end_mark, trailer, written}
-use Rattle.vms_spec.specs.WellFormed.{WellFormed}
-use Rattle.vms_spec.proofs.Faultless.{few_devices}
-use Rattle.vms_bodies.proofs.BodyOnly.{front_take, front_drop}
-use Rattle.vms_elements.specs.Reading.{IsMachineOf}
-use Rattle.vms_elements.specs.Lines.{values_lines}
-use Rattle.vms_elements.proofs.Stated.{text_law}
-use Rattle.vms_desc.proofs.Bounds.{few_items}
-use Rattle.vms_selfdesc.specs.Drafts.{IsSound}
-use Rattle.vms_selfdesc.specs.Tree.{described_tree, described_text}
-use Rattle.vms_selfdesc.proofs.Bounds.{short_holds}
-use Rattle.vms_selfdesc.proofs.Shapes.{described_plain}
-use Rattle.vms_selfdesc.proofs.WholeText.{reads_whole}
-use Rattle.vms_analyze.specs.Told.{told_tree}
-use Rattle.vms_analyze.specs.Wanted.{Bytes, Lines, device_wants, wants, found}
-use Rattle.vms_analyze.specs.Listing.{IsLastPlace, Tells, Listing, Text, listing_of, Lists, IsRead}
-use Rattle.vms_analyze.specs.Telling.{told}
-use Rattle.vms_analyze.specs.Laws.{ReadBackLaw, ShownLaw}
 use Rattle.vms_analyze.proofs.Shapes.{all_good, told_good, tree_same}
 use Rattle.vms_analyze.proofs.Lengths.{total_append, found_long, devices_long}
 use Rattle.vms_analyze.proofs.Streams.{front, front_found}

@@ -1,42 +1,22 @@
 -- What is written for ready images is found as described: elements, devices and streams.
-use Rattle.std.proofs.Common.{◌≡◌, ℕ, Bool, true, false, ◌&&◌, List, [], ◌∷◌, ◌++◌, append_assoc, append-nil, get_or, map, replicate, None, ℤ, pos, refl, sym, ap, ◌∙◌, codes, if◌then◌else◌, suc, ◌+◌, ◌<◌, ◌≤◌, ◌^◌, length, Option, Some, arith, ◌==◌, nat_le}
-use Rattle.std.specs.Fmt.{signed_decimal}
-use Rattle.std.proofs.lemmas.List.{map-append, length-replicate}
-use Rattle.std.proofs.lemmas.Bool.{and_parts, le-leb, and_from}
-use Rattle.vms_kinds.specs.Codes.{width, code, InRange}
-use Rattle.vms_spec.proofs.KindLaws.{length-code, be32_read}
-use Rattle.vms_spec.specs.Layout.{Slot, desc_cells, struct_cells, meanings, desc_slots, Cell}
-use Rattle.vms_spec.specs.Images.{zeroed, Image, own_cells, own_slots, sub_slots}
-use Rattle.vms_spec.proofs.NumberLaws.{same_number_is}
-use Rattle.vms_elements.specs.Elements.{What, Number, Constant, Filler, Rule, Element}
-use Rattle.vms_elements.specs.Parts.{is_number, slot_of, slots_of, elements_in}
-use Rattle.vms_elements.specs.Lines.{printed, number_line, number_lines, section_line, sub_line, subs_lines, device_lines, devices_lines, machine_lines, values_lines}
-use Rattle.vms_elements.specs.Entries.{OfNumber, has_default, have_defaults, line_reason, if_not, came_well, number_entries, subs_entries, device_entries, devices_entries, entries}
-use Rattle.vms_elements.specs.Reading.{AreFine, AreAtVersions, IsShaped, AreShaped, IsMachineOf}
-use Rattle.vms_elements.proofs.Members.{Each}
-use Rattle.vms_values_laws.proofs.Rights.{line_number, reason_fits, fine_rest, begins_itself, IsFitting}
-use Rattle.vms_values_laws.proofs.Numbers.{AreShort, of_numbers}
-use Rattle.vms_elements.proofs.Walk.{IsCounted, AreCounted, walks}
-use Rattle.vms_analyze.specs.Told.{Kept}
-use Rattle.vms_analyze.specs.Wanted.{element_want, Bytes, sub_wants, device_wants, Want, Machine, wants, took, take_machine, is_machine, taken, Found, Lines, behind, found_after, found}
-use Rattle.vms_analyze.specs.Telling.{told_what, tolds, told_part, told_subs, told_device_of, told_devices, told}
+use Rattle.vms_analyze.proofs.Facade.{◌≡◌, ℕ, Bool, true, false, ◌&&◌, List, [], ◌∷◌, ◌++◌, append_assoc, append-nil, get_or, map, replicate, None, ℤ, pos}
+use Rattle.vms_analyze.proofs.Facade.{refl, sym, ap, ◌∙◌, codes, if◌then◌else◌, suc, ◌+◌, ◌<◌, ◌≤◌, ◌^◌, length, Option, Some, arith, ◌==◌, nat_le}
+use Rattle.vms_analyze.proofs.Facade.{signed_decimal, map-append, length-replicate, and_parts, le-leb, and_from, and-false, and-true, flat_map, list_all, width}
+use Rattle.vms_analyze.proofs.Facade.{code, InRange, length-code, be32_read, Slot, desc_cells, struct_cells, meanings, desc_slots, Cell, zeroed, Image}
+use Rattle.vms_analyze.proofs.Facade.{own_cells, own_slots, sub_slots, same_number_is, What, Constant, Filler, Rule, is_number, slot_of, slots_of, elements_in}
+use Rattle.vms_analyze.proofs.Facade.{printed, number_lines, section_line, sub_line, subs_lines, device_lines, devices_lines, machine_lines, values_lines}
+use Rattle.vms_analyze.proofs.Facade.{OfNumber, has_default, have_defaults, line_reason, if_not, came_well, number_entries, subs_entries, device_entries}
+use Rattle.vms_analyze.proofs.Facade.{devices_entries, entries, AreFine, AreAtVersions, IsShaped, AreShaped, IsMachineOf, Each, line_number, reason_fits}
+use Rattle.vms_analyze.proofs.Facade.{fine_rest, begins_itself, IsFitting, AreShort, of_numbers, IsCounted, AreCounted, walks, Kept, element_want, Bytes}
+use Rattle.vms_analyze.proofs.Facade.{sub_wants, device_wants, Want, Machine, wants, took, take_machine, is_machine, taken, Found, Lines, behind, found_after}
+use Rattle.vms_analyze.proofs.Facade.{found, told_what, tolds, told_part, told_subs, told_device_of, told_devices, told, Desc, Sub, Device, Set, sub_head}
+use Rattle.vms_analyze.proofs.Facade.{section_head, foot, is_needed, written_subs, written_section, written_sections, AreReady, is_one_of, be32, magic}
+use Rattle.vms_analyze.proofs.Facade.{stream_head, configuration, end_mark, optional, elements_slots, short_are, fine_both, AreGood, good_both, big_number}
+use Rattle.vms_analyze.proofs.Facade.{LONGEST_NAME, number_at, bytes_at, is_name, is_name_byte, values_text, WellFormed, failing, first_fault, here, set_rules}
+use Rattle.vms_analyze.proofs.Facade.{machine_short, few_devices, all_true, or_else_none, every_one, front_take, text_says}
+use Rattle.vms_elements.specs.Elements.{Number, Element}
+use Rattle.vms_elements.specs.Lines.{number_line}
 use Rattle.vms_analyze.proofs.Following.{Follows, none_follows, one_follows, both_follow, follows_as, takes_line, takes_any, takes_number, takes_bytes, takes_foot, takes_head, Takes, if_so}
-use Rattle.std.proofs.Math.Bool.{and-false, and-true}
-use Rattle.std.specs.List.{flat_map, list_all}
-use Rattle.vms_spec.specs.Sets.{Desc, Sub, Device, Set}
-use Rattle.vms_spec.specs.Streams.{sub_head, section_head, foot, is_needed, written_subs, written_section, written_sections, AreReady, is_one_of, be32, magic, stream_head, configuration, end_mark, optional}
-use Rattle.vms_elements.proofs.SlotsOf.{elements_slots}
-use Rattle.vms_values_laws.proofs.AllCome.{short_are}
-use Rattle.vms_values_laws.proofs.ReadyParts.{fine_both, AreGood, good_both}
-use Rattle.byteorder.specs.Endian.{big_number}
-use Rattle.vms_spec.specs.declared.TheConstants.{LONGEST_NAME}
-use Rattle.vms_spec.specs.Lookup.{number_at, bytes_at}
-use Rattle.vms_spec.specs.Names.{is_name, is_name_byte}
-use Rattle.vms_spec.specs.Values.{values_text}
-use Rattle.vms_spec.specs.WellFormed.{WellFormed, failing, first_fault, here, set_rules}
-use Rattle.vms_spec.proofs.Faultless.{machine_short, few_devices, all_true, or_else_none, every_one}
-use Rattle.vms_bodies.proofs.BodyOnly.{front_take}
-use Rattle.vms_values_laws.proofs.ReadyBack.{text_says}
 use Rattle.vms_spec.specs.declared.ValuesReason.TheVariants as reasons
 use Rattle.vms_spec.specs.declared.Part.TheVariants as parts
 

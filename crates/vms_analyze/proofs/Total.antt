@@ -1,12 +1,7 @@
 -- Each input has a listing.
-use Rattle.std.proofs.Common.{◌≡◌, ℕ, zero, suc, ◌+◌, ◌≤◌, Bool, true, false, ◌&&◌, ◌==◌, nat_le, List, length, get_or, drop, Option, Some, None, refl, sym, ap, ◌∙◌, arith}
-use Rattle.std.proofs.lemmas.Bool.{and_parts, eqb-true, eq-eqb, leb-true, leb-false}
-use Rattle.vms_json.specs.Texts.{value_in}
-use Rattle.vms_spec.specs.Lookup.{number_at}
-use Rattle.vms_analyze.specs.Told.{ToldDevice}
-use Rattle.vms_analyze.specs.Listing.{longest_input, IsPlace, IsLastPlace, TellsPlace, IsTooLong, HasNone, HasNoShape, IsRead}
-use Rattle.vms_analyze.specs.Laws.{HasListing, TotalLaw}
-use Rattle.vms_analyze.specs.Read.{next, devices_in}
+use Rattle.vms_analyze.proofs.Facade.{sym, ⊎_elim, cases_lt, ◌<◌, ◌≡◌, ℕ, zero, suc, ◌+◌, ◌≤◌, Bool, true, false, ◌&&◌, ◌==◌, List, length, get_or, drop}
+use Rattle.vms_analyze.proofs.Facade.{Option, Some, None, refl, ap, ◌∙◌, arith, and_parts, eqb-true, eq-eqb, value_in, number_at, ToldDevice, longest_input}
+use Rattle.vms_analyze.proofs.Facade.{IsPlace, IsLastPlace, TellsPlace, IsTooLong, HasNone, HasNoShape, IsRead, HasListing, TotalLaw, next, devices_in}
 use Rattle.vms_analyze.proofs.Inputs.{NoneFrom}
 use Rattle.vms_analyze.proofs.DevicesRead.{tells_if, not_told}
 
@@ -35,17 +30,9 @@ search_below input (suc n) none = go (is_place input n) refl (search_below input
   where
     go : (b : Bool) → is_place input n ≡ b → (NoneFrom input n → HasPlace input) → HasPlace input
     go true e more = record { place = Some n; tells = record { is = is_there input n e; last = λ q lt h. none q (omega arith) h } }
-    go false e more = more (λ q low h. at_or_above q low h (nat_le (suc n) q) refl)
-      where
-        no : true ≡ false → ⊥
-        no f = cc
-
-        at_or_above : (q : ℕ) → n ≤ q → IsPlace input q → (b : Bool) → nat_le (suc n) q ≡ b → ⊥
-        at_or_above q low h true f = none q (leb-true (suc n) q f) h
-        at_or_above q low h false f =
-            let ge = leb-false (suc n) q f in
-            let same : q ≡ n = omega arith in
-            no (sym (there_is input q h) ∙ ap (is_place input) same ∙ e)
+    go false e more = more (λ q low h. ⊎_elim (λ (lt : n < q). none q (omega arith) h) (λ (ge : q ≤ n).
+        let same : q ≡ n = omega arith in
+        let there : is_place input n ≡ true = ap (is_place input) (sym same) ∙ there_is input q h in cc) (cases_lt n q))
 
 last_place : (input : List ℕ) → HasPlace input
 last_place input = search_below input (length input) (λ q ge h. let long = h.long in omega arith)
@@ -62,8 +49,6 @@ by_place input few None none = record { listing = _; lists = HasNone few none }
 by_place input few (Some p) last = by_shape input p few last (next (value_in (drop (p + 5) input)) devices_in) refl
 
 pub total_holds : TotalLaw
-total_holds input = go (nat_le (length input) longest_input) refl
-  where
-    go : (b : Bool) → nat_le (length input) longest_input ≡ b → HasListing input
-    go true e = let p = last_place input in by_place input (leb-true (length input) longest_input e) p.place p.tells
-    go false e = record { listing = _; lists = IsTooLong (leb-false (length input) longest_input e) }
+total_holds input =
+    ⊎_elim (λ (lt : longest_input < length input). record { listing = _; lists = IsTooLong lt })
+    (λ (le : length input ≤ longest_input). let p = last_place input in by_place input le p.place p.tells) (cases_lt longest_input (length input))

@@ -1,28 +1,15 @@
 -- A walk over what is required, part after part.
-use Rattle.std.proofs.Common.{◌≡◌, ℕ, ◌+◌, List, [], ◌∷◌, ◌++◌, length, append_assoc, append-nil, take, drop, Vec, Global, ℤ, refl, sym, ap, ◌∙◌, subst, arith, ◌<◌, get_or, Result, Ok, Err, IfErr, suc, zero, ◌≤◌, Bool, true, ◌&&◌, nat_le, map}
-use Rattle.std.proofs.lemmas.List.{take-append-drop, drop-drop, take_more}
-use Rattle.vms_kinds.specs.declared.Kind.{Kind}
-use Rattle.vms_kinds.specs.Codes.{code, InRange}
-use Rattle.vms_elements.specs.Lines.{text_of}
-use Rattle.vms_analyze.specs.Wanted.{Want, Number, Line, number_line, behind, found, Bytes, Machine, Head, Foot, element_want, sub_head_wants, sub_wants, device_wants, start_wants, wants}
-use Rattle.vms_analyze.specs.Walking.{left, IsInside, Goes, Stops, Prints, WhyStopped}
-use Rattle.vms_analyze.specs.declared.walk.Walk.{Walk}
-use Rattle.vms_analyze.proofs.Following.{Takes, one_follows, takes_line, takes_number, behind_none, behind_both}
-use Rattle.vms_elements.proofs.LinesOf.{text_append}
-use Rattle.std.specs.List.{flat_map, list_all}
-use Rattle.std.proofs.lemmas.Grind.{flat_map-append}
-use Rattle.vms_analyze.specs.declared.walk.Stop.{Stop}
-use Rattle.std.proofs.lemmas.Bool.{and_parts, leb-true}
-use Rattle.std.proofs.lemmas.List.Concat.{flat_map_single}
-use Rattle.std.proofs.lemmas.List.Folds.{flat_map-map}
-use Rattle.vms_spec.specs.declared.TheConstants.{LONGEST_NAME}
-use Rattle.vms_spec.specs.Streams.{magic, be32, end_mark}
-use Rattle.vms_analyze.specs.Told.{ToldSub, ToldDevice, is_path, is_path_byte, is_good_sub, is_good_device}
-use Rattle.vms_analyze.specs.Typed.{told_of, sub_of, device_of, element_wants, subs_wants, devices_wants}
-use Rattle.vms_analyze.specs.declared.told.Element.{Element}
+use Rattle.vms_analyze.proofs.Facade.{map-map, ◌≡◌, ℕ, ◌+◌, List, [], ◌∷◌, ◌++◌, length, append_assoc, append-nil, take, drop, Vec, Global, ℤ, refl, sym, ap}
+use Rattle.vms_analyze.proofs.Facade.{◌∙◌, subst, arith, ◌<◌, get_or, ◌≤◌, true, ◌&&◌, nat_le, map, take-append-drop, drop-drop, take_more, flat_map, list_all}
+use Rattle.vms_analyze.proofs.Facade.{flat_map-append, and_parts, leb-true, flat_map_single, flat_map-map, Kind, code, InRange, text_of, Want, Number, Line}
+use Rattle.vms_analyze.proofs.Facade.{number_line, behind, found, Bytes, Machine, Head, Foot, element_want, sub_head_wants, sub_wants, device_wants}
+use Rattle.vms_analyze.proofs.Facade.{start_wants, wants, left, IsInside, Goes, Stops, Prints, WhyStopped, Walk, text_append, Stop, LONGEST_NAME, magic, be32}
+use Rattle.vms_analyze.proofs.Facade.{end_mark, ToldDevice, is_path, is_path_byte, is_good_device, told_of, sub_of, device_of, element_wants, subs_wants}
+use Rattle.vms_analyze.proofs.Facade.{devices_wants, Element}
+use Rattle.vms_analyze.proofs.Following.{Takes, one_follows, takes_line, takes_number, behind_both}
 use Rattle.vms_analyze.specs.declared.told.Sub.{Sub}
 use Rattle.vms_analyze.specs.declared.told.Device.{Device}
-use Rattle.vms_analyze.proofs.Parts.{sub_parts, device_parts}
+use Rattle.vms_analyze.proofs.Parts.{device_parts}
 use Rattle.vms_analyze.specs.declared.walk.Stop.TheVariants as stops
 
 -- ---- One step of a walk, by what is taken.
@@ -82,16 +69,6 @@ number_goes {old = old} path kind z fits p id prints =
 
 -- ---- one step after the other
 
-pub goes_none : (walk : Walk) → IsInside walk → Goes [] walk walk
-goes_none walk inside =
-    record {
-      lines = [];
-      taken = λ more. sym (behind_none (found more walk.id walk.place (left walk)));
-      printed = sym (append-nil _);
-      inside = inside;
-      input = refl;
-    }
-
 pub goes_then : {ws vs : List Want} {a b c : Walk} → Goes ws a b → Goes vs b c → Goes (ws ++ vs) a c
 goes_then {ws = ws} {vs = vs} {a = a} {c = c} g h = record {
   lines = g.lines ++ h.lines;
@@ -139,9 +116,6 @@ module _ {X : Type 0} (one : X → List Want) where
       → Goes (flat_map one (take (i + 1) xs)) a c
   more_goes xs i d a b c lt g h = subst (λ (ws : List Want). Goes ws a c) (sym (more_of xs i d lt)) (goes_then g h)
 
-  pub all_go : (xs : List X) (i : ℕ) (a b : Walk) → take i xs ≡ xs → Goes (flat_map one (take i xs)) a b → Goes (flat_map one xs) a b
-  all_go xs i a b e g = subst (λ (l : List X). Goes (flat_map one l) a b) e g
-
   pub one_stops : (xs : List X) (i : ℕ) (d : X) (a b c : Walk) (stop : Stop) → i < length xs → Goes (flat_map one (take i xs)) a b
       → WhyStopped (one (get_or xs i d)) b c stop → WhyStopped (flat_map one xs) a c stop
   one_stops xs i d a b c stops.Differs lt g s =
@@ -162,12 +136,6 @@ pub why_then : {ws : List Want} {a b : Walk} (vs : List Want) (c : Walk) (stop :
 why_then vs c stops.Differs g s = stops_then g s
 why_then vs c stops.NoMemory g s = tt
 
--- ---- of the last call
-
-pub if_err : {T E : Type 0} {P Q : E → Type 0} (r : Result T E) → ((e : E) → P e → Q e) → IfErr r P → IfErr r Q
-if_err (Ok x) f p = tt
-if_err (Err e) f p = f e p
-
 -- ---- A walk over a subsection, a device and a stream, part after part.
 
 -- ---- what is good
@@ -177,16 +145,8 @@ path_short most text e =
     let p = and_parts (nat_le 1 (length text) && nat_le (length text) most) (list_all is_path_byte text) e in
     leb-true (length text) most (and_parts (nat_le 1 (length text)) (nat_le (length text) most) p.0).1
 
-pub sub_short : (s : ToldSub) → is_good_sub s ≡ true → length s.name ≤ LONGEST_NAME
-sub_short s e = path_short LONGEST_NAME s.name (sub_parts s e).name
-
 pub device_short : (d : ToldDevice) → is_good_device d ≡ true → length d.name ≤ LONGEST_NAME
 device_short d e = path_short LONGEST_NAME d.name (device_parts d e).name
-
-pub one_good : {X : Type 0} (good : X → Bool) (xs : List X) (i : ℕ) (d : X) → list_all good xs ≡ true → i < length xs → good (get_or xs i d) ≡ true
-one_good good [] i d e lt = absurd (omega arith)
-one_good good (x ∷ xs) zero d e lt = (and_parts (good x) (list_all good xs) e).0
-one_good good (x ∷ xs) (suc i) d e lt = one_good good xs i d (and_parts (good x) (list_all good xs) e).1 (omega arith)
 
 pub all_good : {X : Type 0} (xs : List X) → list_all (λ _. true) xs ≡ true
 all_good [] = refl
@@ -195,11 +155,7 @@ all_good (x ∷ xs) = all_good xs
 -- ---- what is required
 
 elements_are : (es : List Element) → element_wants es ≡ map element_want (map told_of es)
-elements_are es = flat_map_single (λ e. element_want (told_of e)) es ∙ twice es
-  where
-    twice : (es : List Element) → map (λ e. element_want (told_of e)) es ≡ map element_want (map told_of es)
-    twice [] = refl
-    twice (e ∷ es) = ap (λ (l : List Want). element_want (told_of e) ∷ l) (twice es)
+elements_are es = flat_map_single (λ e. element_want (told_of e)) es ∙ sym (map-map element_want told_of es)
 
 subs_are : (ss : List Sub) → subs_wants ss ≡ flat_map sub_wants (map sub_of ss)
 subs_are ss = sym (flat_map-map sub_wants sub_of ss)
@@ -215,9 +171,6 @@ sub_as s = ap (λ (l : List Want). sub_head_wants (sub_of s) s.sent ++ l) (eleme
 pub sub_goes : {a b c : Walk} (s : Sub) → Goes (sub_head_wants (sub_of s) s.sent) a b → Goes (element_wants s.elements.items) b c
     → Goes (sub_wants (sub_of s)) a c
 sub_goes {a = a} {c = c} s g h = subst (λ (ws : List Want). Goes ws a c) (sub_as s) (goes_then g h)
-
-pub sub_head_stops : (s : Sub) (a c : Walk) (stop : Stop) → WhyStopped (sub_head_wants (sub_of s) s.sent) a c stop → WhyStopped (sub_wants (sub_of s)) a c stop
-sub_head_stops s a c stop w = subst (λ (ws : List Want). WhyStopped ws a c stop) (sub_as s) (why_before _ _ a c stop w)
 
 pub sub_elements_stop : {a b : Walk} (s : Sub) (c : Walk) (stop : Stop) → Goes (sub_head_wants (sub_of s) s.sent) a b
     → WhyStopped (element_wants s.elements.items) b c stop → WhyStopped (sub_wants (sub_of s)) a c stop

@@ -2,18 +2,18 @@
 use Rattle.vms_load.proofs.Facade.{◌≡◌, ℕ, ◌+◌, ◌<◌, List, length, map, drop, slice_set, Option, Some, None, Bool, true, false, Result, Ok, Err, refl, sym, ap}
 use Rattle.vms_load.proofs.Facade.{◌∙◌, subst, zero, suc, ◌-◌, ◌≤◌, [], ◌∷◌, get_or, nat_lt, if◌then◌else◌, IfSome, arith, map-set, drop_all, slice_get-get_or}
 use Rattle.vms_load.proofs.Facade.{slice_get, bytes_eq, Set, Device, Sub, at_option, position, Image, Piece, SubHead, Foot, fresh, mark_come, part_slots}
-use Rattle.vms_load.proofs.Facade.{put_version, subs_of, Verdict, Goes, Reading, reading_after, find_device, find_sub, did_come, reading_on, set_twice, at_set}
-use Rattle.vms_load.proofs.Facade.{put_image, judge, owes, ask, judge_seen, begins_section, State, Free, Inside, inside, after, by_state, or_none, slots_at}
-use Rattle.vms_load.proofs.Facade.{due_by, known_at, Head, Stand, Tail, Refusal, Typed, Unfit, opened_at, section_opened, unfit, opened_unless}
-use Rattle.vms_load.proofs.Facade.{reason_against_sub, sub_opened, Onward, Reads, ReadsOn, ReadsBehind, behind, Settles, concerning, state_in, in_fields}
-use Rattle.vms_load.proofs.Facade.{after_part, bytes_of, subs_due, spot_in, all_passed, after_fields, image_at, state_of, LoadFault, Section, Staged, Slot}
-use Rattle.vms_load.proofs.Facade.{AfterFields, Due, begins_next, rules_hold, due_field, Good, seen, judged_holds, next_holds, seen_holds, device_at, sub_at}
-use Rattle.vms_load.proofs.Facade.{ahead, AnswersBehind, in_section, tail_of, FrameFault, Open, LONGEST_SUB_HEAD}
+use Rattle.vms_load.proofs.Facade.{put_version, subs_of, Verdict, Goes, Reading, reading_after, find_device, find_sub, reading_on, set_twice, at_set, put_image}
+use Rattle.vms_load.proofs.Facade.{judge, owes, ask, judge_seen, begins_section, State, Free, Inside, inside, after, by_state, or_none, slots_at, due_by}
+use Rattle.vms_load.proofs.Facade.{known_at, Head, Stand, Tail, Refusal, Typed, Unfit, opened_at, section_opened, opened_unless, reason_against_sub, sub_opened}
+use Rattle.vms_load.proofs.Facade.{Onward, Reads, ReadsOn, ReadsBehind, behind, Settles, concerning, state_in, in_fields, after_part, bytes_of, subs_due}
+use Rattle.vms_load.proofs.Facade.{spot_in, all_passed, after_fields, image_at, state_of, LoadFault, Section, Staged, Slot, AfterFields, Due, begins_next}
+use Rattle.vms_load.proofs.Facade.{rules_hold, due_field, Good, seen, judged_holds, next_holds, seen_holds, device_at, sub_at, ahead, AnswersBehind, in_section}
+use Rattle.vms_load.proofs.Facade.{tail_of, FrameFault, Open, LONGEST_SUB_HEAD}
 use Rattle.vms_spec.specs.Units.{Head as HeadUnit}
 use Rattle.vms_stream.specs.SoFar.{Tail as StreamTail, Bare as IsBare}
 use Rattle.vms_stream.specs.State.{image_at as open_image}
 use Rattle.vms_image.specs.Typed.{state_of as untyped}
-use Rattle.vms_load.proofs.HeadLemmas.{device_is, unknown_sub, known_sub, sub_below, sub_is, verdict, section_judged, sub_judged}
+use Rattle.vms_load.proofs.HeadLemmas.{device_is, known_sub, sub_below, sub_is, verdict, section_judged, sub_judged}
 use Rattle.vms_load.proofs.ReadLemmas.{IsLong, refused_here, unit_fails, unit_settled, unit_of}
 use Rattle.vms_load.specs.declared.fault.LoadFault.TheVariants as faults
 use Rattle.vms_spec.specs.declared.Reason.TheVariants as reasons
@@ -40,10 +40,9 @@ module _ (set : Set) (names : List (List ℕ)) (staged : Staged) (first configur
 
   refuses : {X : Type 0} (x : Piece) (n place to : ℕ) (end : Stand) (bytes rest : List ℕ) (left : Option (List ℕ)) (next : X → Onward) (o : Result ℕ Unfit) (e : LoadFault) → Err e ≡ opened_at place o → left ≡ Some (drop n bytes)
       → Reads (behind go place (verdict set names state x n o) to rest) next place end bytes left (Err e)
-  refuses x n place to end bytes rest left next (Ok k) e h is = cc
   refuses x n place to end bytes rest left next (Err why) (faults.Refused r) h is =
       refused_here place bytes left why.section why.reason n r (refusal_is r (record { section = why.section; at = place; reason = why.reason }) cc) is
-  refuses x n place to end bytes rest left next (Err why) faults.ReadFault h is = cc
+  refuses x n place to end bytes rest left next _ _ h is = cc
 
   -- the device has come
   abbrev pub begun : ℕ → State
@@ -113,9 +112,8 @@ pub ends_later : (machine named : Option (List ℕ)) (images first : List Typed)
     → ended_in machine (slice_set (map untyped first) j (untyped new)) (slice_set came k true) tail ≡ ended_in named (map untyped (slice_set images k new)) now tail
 ends_later machine named images first came now k j image new tail m i c same =
     let twice : slice_set images k new ≡ slice_set first k new = ap (λ (l : List Typed). slice_set l k new) i ∙ set_twice first k image new in
-    let states : slice_set (map untyped first) k (untyped new) ≡ map untyped (slice_set images k new) = sym (map-set untyped first k new) ∙ ap (map untyped) (sym twice) in
     ap (λ (n : ℕ). ended_in machine (slice_set (map untyped first) n (untyped new)) (slice_set came k true) tail) same
-    ∙ ap (λ (l : List Image). ended_in machine l (slice_set came k true) tail) states
+    ∙ ap (λ (l : List Image). ended_in machine l (slice_set came k true) tail) (sym (map-set untyped first k new) ∙ ap (map untyped) (sym twice))
     ∙ ap (λ (l : List Bool). ended_in machine (map untyped (slice_set images k new)) l tail) (sym c)
     ∙ ap (λ (o : Option (List ℕ)). ended_in o (map untyped (slice_set images k new)) now tail) (sym m)
 
@@ -144,9 +142,8 @@ module _ (set : Set) (names : List (List ℕ)) (state : State) (section : Sectio
   none_left : slots_at set inner (Inside section.device section.id part done) ≡ []
   none_left =
       let all = part_slots set (Some (device_at set section.device)) image part in
-      let enough : length all ≤ length all = omega arith in
       ap (λ (o : Option Device). drop done (part_slots set o (open_image inner) part)) there
-      ∙ ap (λ (i : Image). drop done (part_slots set (Some (device_at set section.device)) i part)) image_is ∙ drop_all (length all) all enough
+      ∙ ap (λ (i : Image). drop done (part_slots set (Some (device_at set section.device)) i part)) image_is ∙ drop_all (length all) all (omega arith)
 
   due_is : due_by set inner (Inside section.device section.id part done) ≡ AfterFields section.device t
   due_is = ap (λ (l : List Slot). due_field t (Some section.device) l) none_left
@@ -176,13 +173,12 @@ module _ (set : Set) (names : List (List ℕ)) (state : State) (section : Sectio
   pub after_fault : {Y : Type 0} (from to : Stand) (old left : Option (List ℕ)) (next : Y → Onward) (fault : FrameFault) → from.held ≡ None
       → IfSome old (λ rest. AnswersBehind t section.id from.at rest to.held left (Err fault))
       → ReadsOn (after_fields set names state section part image) next from to old left (Err (concerning (Some section.device) fault))
-  after_fault from to None left next fault before a = tt
-  after_fault from to (Some rest) left next frames.ReadFault before a = tt
   after_fault from to (Some rest) left next (frames.Refused place reason) before a =
       let P : List ℕ → Type 0 = λ l. Reads (onward inner from.at l) next from.at to l left (Err (faults.Refused (record { section = Some section.device; at = place; reason = reason }))) in
       subst P (sym (ap (λ (o : Option ℕ). ahead o rest) before))
       (subst (λ (x : Option (Reading State)). Reads x next from.at to rest left (Err (faults.Refused (record { section = Some section.device; at = place; reason = reason })))) (sym (after_is from.at rest a.0))
       (unit_fails onward (Some section.device) (ask set names inner) from.at rest (seen (AfterFields 0 t) (in_section section.id) rest) left next to place reason a.1 a.2))
+  after_fault from to _ left next _ before a = tt
 
   -- a unit after the fields that is judged
   pub after_settled : (from to : Stand) (old left : Option (List ℕ)) (x : Piece) (n : ℕ) (now : Section) (new : Image) (result : Result (Option Open) LoadFault) → from.held ≡ None → to.held ≡ None
@@ -245,9 +241,8 @@ module _ (set : Set) (names : List (List ℕ)) (state : State) (section : Sectio
     sub_ok (Err why) j f e = cc
 
     sub_err : {X : Type 0} (o : Result ℕ Unfit) (e : LoadFault) (next : X → State) → Err e ≡ opened_at place o → Settles (verdict set names inner (SubHead name v) n o) place next n (Err e)
-    sub_err (Ok i) e next h = cc
     sub_err (Err why) (faults.Refused r) next h = let same : faults.Refused r ≡ faults.Refused (record { section = why.section; at = place; reason = why.reason }) = cc in (refusal_is r _ same, refl)
-    sub_err (Err why) faults.ReadFault next h = cc
+    sub_err _ _ next h = cc
 
     -- a subsection that is opened, or not
     pub sub_settled : (j : ℕ) → Ok j ≡ opened_at place (sub_opened section.device (device_at set section.device) image.came name v)
@@ -263,33 +258,28 @@ module _ (set : Set) (names : List (List ℕ)) (state : State) (section : Sectio
 
 -- ---- a subsection that is opened hasn't come
 
-unless_came : (k j : ℕ) (s : Sub) (came : Option ℕ) (v i place : ℕ) → Ok i ≡ opened_at place (opened_unless (Some k) j (reason_against_sub s came v)) → (i ≡ j) × (came ≡ None)
-unless_came k j s came v i place e = by_tests (nat_lt s.desc.version v) (nat_lt v s.desc.minimum) came e
+unless_came : (k j : ℕ) (s : Sub) (came : Option ℕ) (v place : ℕ) → Ok j ≡ opened_at place (opened_unless (Some k) j (reason_against_sub s came v)) → came ≡ None
+unless_came k j s None v place e = refl
+unless_came k j s (Some w) v place e = by_tests (nat_lt s.desc.version v) (nat_lt v s.desc.minimum) e
   where
-    by_tests : (a b : Bool) (came : Option ℕ)
-        → Ok i ≡ opened_at place (opened_unless (Some k) j (if a then Some reasons.TooNew else (if b then Some reasons.TooOld else (if did_come came then Some reasons.RepeatedSubsection else None)))) → (i ≡ j) × (came ≡ None)
-    by_tests true b came e = cc
-    by_tests false true came e = cc
-    by_tests false false (Some w) e = cc
-    by_tests false false None e = (cc, refl)
+    by_tests : (a b : Bool)
+        → Ok j ≡ opened_at place (opened_unless (Some k) j (if a then Some reasons.TooNew else (if b then Some reasons.TooOld else Some reasons.RepeatedSubsection))) → Some w ≡ None
+    by_tests true b e = cc
+    by_tests false true e = cc
+    by_tests false false e = cc
 
 pub sub_new : (k : ℕ) (d : Device) (came : List (Option ℕ)) (name : List ℕ) (v j place : ℕ) → length came ≡ length d.subs → Ok j ≡ opened_at place (sub_opened k d came name v)
     → (j < length d.subs) × (slice_get came j ≡ Some None)
-sub_new k d came name v j place long e = by_found (find_sub 0 d.subs name) refl
-  where
-    by_found : (found : Option ℕ) → find_sub 0 d.subs name ≡ found → (j < length d.subs) × (slice_get came j ≡ Some None)
-    by_found None f = let h : Ok j ≡ opened_at place (unfit (Some k) reasons.UnknownSubsection) = e ∙ ap (opened_at place) (unknown_sub k d came name v f) in cc
-    by_found (Some i) f =
-        let u = unless_came k i (sub_at d i) (get_or came i None) v j place (e ∙ ap (opened_at place) (known_sub k d came name v i long f)) in
-        let lt : i < length d.subs = sub_below d.subs name i f in
-        let new : slice_get came i ≡ Some None = slice_get-get_or came i None (omega (arith, lt, long)) ∙ ap (λ (o : Option ℕ). Some o) u.1 in
-        (omega (arith, u.0, lt), ap (λ (n : ℕ). slice_get came n) u.0 ∙ new)
+sub_new k d came name v j place long e =
+    let f = sub_is k d came name v place j long e in
+    let lt : j < length d.subs = sub_below d.subs name j f in
+    let new = unless_came k j (sub_at d j) (get_or came j None) v place (e ∙ ap (opened_at place) (known_sub k d came name v j long f)) in
+    (lt, slice_get-get_or came j None (omega arith) ∙ ap (λ (o : Option ℕ). Some o) new)
 
 pub subs_taken : (set : Set) (subs : List Sub) (came : List (Option ℕ)) (j v : ℕ) (none : Sub) → length came ≡ length subs → slice_get came j ≡ Some None
     → subs_due set subs (slice_set came j (Some v)) + (LONGEST_SUB_HEAD + bytes_of set (get_or subs j none).desc) ≡ subs_due set subs came
-subs_taken set subs [] j v none long e = cc
 subs_taken set [] (o ∷ came) j v none long e = absurd (omega arith)
 subs_taken set (s ∷ subs) (None ∷ came) zero v none long e = omega arith
-subs_taken set (s ∷ subs) (Some w ∷ came) zero v none long e = cc
 subs_taken set (s ∷ subs) (None ∷ came) (suc j) v none long e = omega (arith, subs_taken set subs came j v none (omega arith) e)
 subs_taken set (s ∷ subs) (Some w ∷ came) (suc j) v none long e = subs_taken set subs came j v none (omega arith) e
+subs_taken set _ _ _ v none long e = cc

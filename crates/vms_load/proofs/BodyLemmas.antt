@@ -1,9 +1,9 @@
 -- Readings of the fields of a part that go on: numbers, constants and rules.
-use Rattle.vms_load.proofs.Facade.{◌≡◌, ℕ, ◌+◌, ◌≤◌, List, [], length, take, drop, slice_set, Option, Some, Result, Ok, Err, OnOk, ℤ, refl, sym, ap, ◌∙◌, subst}
-use Rattle.vms_load.proofs.Facade.{arith, Bool, true, false, not, ◌&&◌, nat_lt, ◌<◌, ◌^◌, IfErr, drop_all, Kind, width, value_of, Reason, same_number, exceeds}
-use Rattle.vms_load.proofs.Facade.{is_truth, is_above, Slot, Rule, Taken, Progress, take_slot, Piece, raw, Seen, Good, Bad, Short, seen, nothing_known, put}
-use Rattle.vms_load.proofs.Facade.{taken_by, IsUnit, by_tests, tested, slot_seen, AnswersSeen, Fails, ReadsNumber, ReadsFiller, FrameFault, TakesAs}
-use Rattle.vms_load.proofs.Facade.{ReadsCapped, ReadsConstant, TakesOn, progress, same_number_is, Intake, takes_none, reads_as, reads_last, ReadsAs}
+use Rattle.vms_load.proofs.Facade.{false_from_ne_true, ◌≡◌, ℕ, ◌+◌, ◌≤◌, List, [], length, take, drop, slice_set, Option, Some, Result, Ok, Err, OnOk, ℤ, refl}
+use Rattle.vms_load.proofs.Facade.{sym, ap, ◌∙◌, subst, arith, Bool, true, false, not, ◌&&◌, nat_lt, ◌<◌, ◌^◌, IfErr, drop_all, Kind, width, value_of, Reason}
+use Rattle.vms_load.proofs.Facade.{same_number, exceeds, is_truth, is_above, Slot, Rule, Taken, Progress, take_slot, Piece, raw, Seen, Good, Bad, Short, seen}
+use Rattle.vms_load.proofs.Facade.{nothing_known, put, taken_by, IsUnit, by_tests, tested, slot_seen, AnswersSeen, Fails, ReadsNumber, ReadsFiller, FrameFault}
+use Rattle.vms_load.proofs.Facade.{TakesAs, ReadsCapped, ReadsConstant, TakesOn, progress, same_number_is, Intake, takes_none, reads_as, reads_last, ReadsAs}
 use Rattle.vms_spec.specs.Layout.{Number as NumberSlot, Constant as ConstantSlot, Filler as FillerSlot}
 use Rattle.vms_spec.specs.Units.{Number, Constant, Filler}
 use Rattle.vms_stream.specs.Dues.{Field}
@@ -39,10 +39,8 @@ good_is : (x y : Piece) (n m : ℕ) → Good x n ≡ Good y m → x ≡ y
 good_is x y n m e = cc
 
 passed : (a b e : Bool) (x y : Piece) (n : ℕ) (why : Reason) → by_tests a b e x n why ≡ Good y n → Passed a b e x y
-passed true b e x y n why h = cc
-passed false true e x y n why h = cc
-passed false false true x y n why h = cc
 passed false false false x y n why h = record { cut = refl; bad = refl; other = refl; same = good_is x y n n h }
+passed _ _ _ x y n why h = cc
 
 to_good : (a b e : Bool) (x y : Piece) (n : ℕ) (why : Reason) → a ≡ false → b ≡ false → e ≡ false → x ≡ y → by_tests a b e x n why ≡ Good y n
 to_good a b e x y n why f g h same =
@@ -57,15 +55,12 @@ number_same kind z y e = cc
 
 -- a fault without the slot's own checks is the same with them
 fails_with : (a b e : Bool) (x y : Piece) (n : ℕ) (why other : Reason) (rest : List ℕ) (left : Option (List ℕ)) (reason : Reason) → Fails (by_tests a b false x n why) rest left reason → Fails (by_tests a b e y n other) rest left reason
-fails_with true b e x y n why other rest left reason h = h
-fails_with false true e x y n why other rest left reason h = h
 fails_with false false e x y n why other rest left reason h = absurd h
+fails_with _ _ e x y n why other rest left reason h = h
 
 fails_alike : (a b e : Bool) (x y : Piece) (n : ℕ) (why : Reason) (rest : List ℕ) (left : Option (List ℕ)) (reason : Reason) → Fails (by_tests a b e x n why) rest left reason → Fails (by_tests a b e y n why) rest left reason
-fails_alike true b e x y n why rest left reason h = h
-fails_alike false true e x y n why rest left reason h = h
-fails_alike false false true x y n why rest left reason h = h
 fails_alike false false false x y n why rest left reason h = absurd h
+fails_alike _ _ _ x y n why rest left reason h = h
 
 module _ (kind : Kind) (at : ℕ) (new : Option (List ℕ)) where
   -- what is read of a number passed the tests
@@ -122,9 +117,7 @@ module _ (kind : Kind) (at : ℕ) (new : Option (List ℕ)) where
 fails_taken : (p : Progress) (s : Seen) (n : List ℤ) (to : ℕ) (left : Option (List ℕ)) (place : ℕ) (reason : Reason) → place ≡ p.place → Fails s p.rest left reason → TakesAs (taken_by p s) n to left (Err (faults.Refused place reason))
 fails_taken p (Good x m) n to left place reason e h = absurd h
 fails_taken p (Bad m why) n to left place reason e h = (e, h.0, h.1)
-fails_taken p Short n to left place reason e h =
-    let enough : length p.rest ≤ length p.rest = omega arith in
-    (e, h.0, h.1 ∙ ap (λ (l : List ℕ). Some l) (sym (drop_all (length p.rest) p.rest enough)))
+fails_taken p Short n to left place reason e h = (e, h.0, h.1 ∙ ap (λ (l : List ℕ). Some l) (sym (drop_all (length p.rest) p.rest (omega arith))))
 
 good_taken : (p : Progress) (s : Seen) (x : Piece) (m to : ℕ) (left : Option (List ℕ)) → s ≡ Good x m → to ≡ p.place + m → left ≡ Some (drop m p.rest) → TakesAs (taken_by p s) (put x p.numbers) to left (Ok tt)
 good_taken p s x m to left e far l = subst (λ (s : Seen). TakesAs (taken_by p s) (put x p.numbers) to left (Ok tt)) (sym e) (refl, far, l)
@@ -173,11 +166,7 @@ module _ (rest : List ℕ) (new : Option (List ℕ)) (at to : ℕ) (numbers : Li
 -- ---- What is read of a number that is capped, of a constant, and of a rule.
 
 pub are_others : (x y : ℤ) → (x ≡ y → ⊥) → same_number x y ≡ false
-are_others x y other = by (same_number x y) refl
-  where
-    by : (b : Bool) → same_number x y ≡ b → same_number x y ≡ false
-    by true e = absurd (other (same_number_is x y e))
-    by false e = e
+are_others x y other = false_from_ne_true (same_number x y) (λ e. other (same_number_is x y e))
 
 module _ (a b : Intake) (kind : Kind) (at : ℕ) where
   abbrev Plain : Result ℤ FrameFault → Type 0
@@ -197,7 +186,7 @@ module _ {a b : Intake} (kind : Kind) (at : ℕ) where
   pub reads_large : (caps : List ℕ) (v : ℤ) (place : ℕ) → place ≡ at → exceeds caps v ≡ true → Plain a b kind at (Ok v) → Capped a b kind at caps (Err (faults.Refused place reasons.CountTooLarge))
   reads_large caps v place here large p =
       subst (λ (k : ℕ). Capped a b kind at caps (Err (faults.Refused k reasons.CountTooLarge))) (sym here)
-      (reads_last (reads_as (λ n l. omega (arith, l)) (λ rest left h. capped_large kind at (Some left) caps rest v h large) p))
+      (reads_last (reads_as (λ n l. omega arith) (λ rest left h. capped_large kind at (Some left) caps rest v h large) p))
 
   pub reads_no_number : (caps : List ℕ) (e : FrameFault) → Plain a b kind at (Err e) → Capped a b kind at caps (Err e)
   reads_no_number caps e p = reads_as (λ n l. l) (λ rest left h. capped_err kind at (Some left) caps rest e h) p
@@ -209,7 +198,7 @@ module _ {a b : Intake} (kind : Kind) (at : ℕ) where
   pub reads_other : (y v : ℤ) (place : ℕ) → place ≡ at → same_number v y ≡ false → Plain a b kind at (Ok v) → Fixed a b kind at y (Err (faults.Refused place reasons.NotEqual))
   reads_other y v place here other p =
       subst (λ (k : ℕ). Fixed a b kind at y (Err (faults.Refused k reasons.NotEqual))) (sym here)
-      (reads_last (reads_as (λ n l. omega (arith, l)) (λ rest left h. constant_other kind at (Some left) y rest v h other) p))
+      (reads_last (reads_as (λ n l. omega arith) (λ rest left h. constant_other kind at (Some left) y rest v h other) p))
 
   pub reads_no_constant : (y : ℤ) (e : FrameFault) → Plain a b kind at (Err e) → Fixed a b kind at y (Err e)
   reads_no_constant y e p = reads_as (λ n l. l) (λ rest left h. constant_err kind at (Some left) y rest e h) p

@@ -1,11 +1,11 @@
 -- What a load returns: images that are normal and valid, and exactly what the input is.
-use Rattle.vms_load.proofs.Facade.{◌≡◌, ℕ, Bool, true, false, List, [], ◌∷◌, slice_set, Option, Some, None, map, suc, zero, ◌==◌, refl, sym, ap, subst, ◌∙◌}
-use Rattle.vms_load.proofs.Facade.{◌+◌, ◌++◌, drop, Result, Ok, Err, IfSome, inl, inr, ◌≤◌, arith, length, length-append, length-drop, slice_get, eqb-true}
-use Rattle.vms_load.proofs.Facade.{eq-eqb, same_Some, Device, Set, Image, EachOnce, none_left, HasSection, SectionsSpell, Takes, at_other, IsKept, AreKept}
-use Rattle.vms_load.proofs.Facade.{IsBytes, WellFormed, Reading, Accepted, Refused, FitsHeads, reading, State, by_state, at_start, accepted_holds}
-use Rattle.vms_load.proofs.Facade.{one_stream_holds, never_both_holds, one_fault_holds, state_refuses, Refusal, Intake, Last, MayFollow, bytes_both, no_bytes}
-use Rattle.vms_load.proofs.Facade.{reads_as, reads_told, Loads, GoesThrough, LoadReads, ReadsAll, name_of, most_given, LoadFault, Staged, capped, Piece, spell}
-use Rattle.vms_load.proofs.Facade.{spelled, Reason, Fault, Why, Cut, Wrong, EndsAtUnit, GivesStream, IsRefusedAt, ExactLaw, UnitLaw}
+use Rattle.vms_load.proofs.Facade.{⊎_elim, cases_eq, ◌≡◌, ℕ, Bool, true, false, List, [], ◌∷◌, slice_set, Option, Some, None, map, suc, zero, refl, sym, ap}
+use Rattle.vms_load.proofs.Facade.{subst, ◌∙◌, ◌+◌, ◌++◌, drop, Result, Ok, Err, IfSome, inl, inr, ◌≤◌, arith, length, length-append, length-drop, slice_get}
+use Rattle.vms_load.proofs.Facade.{same_Some, Device, Set, Image, EachOnce, none_left, HasSection, SectionsSpell, Takes, at_other, IsKept, AreKept, IsBytes}
+use Rattle.vms_load.proofs.Facade.{WellFormed, Reading, Accepted, Refused, FitsHeads, reading, State, by_state, at_start, accepted_holds, one_stream_holds}
+use Rattle.vms_load.proofs.Facade.{never_both_holds, one_fault_holds, state_refuses, Refusal, Intake, Last, MayFollow, bytes_both, no_bytes, reads_as}
+use Rattle.vms_load.proofs.Facade.{reads_told, Loads, GoesThrough, LoadReads, ReadsAll, name_of, most_given, LoadFault, Staged, capped, Piece, spell, spelled}
+use Rattle.vms_load.proofs.Facade.{Reason, Fault, Why, Cut, Wrong, EndsAtUnit, GivesStream, IsRefusedAt, ExactLaw, UnitLaw}
 use Rattle.vms_image.specs.Typed.{state_of as untyped}
 use Rattle.vms_stream.specs.Faults.{Fails}
 use Rattle.vms_load.specs.declared.fault.LoadFault.TheVariants as faults
@@ -27,15 +27,10 @@ module _ (set : Set) (footed : Bool) (images : List Image) (k : ℕ) (d : Device
   -- a device that has not come yet comes in what follows
   by_order : (order : List ℕ) (came : List Bool) (bytes : List ℕ) → EachOnce came order → SectionsSpell set footed images order bytes → slice_get came k ≡ Some false → IsKept set d image
   by_order [] came bytes once spelled e = absurd (none_left came k once e)
-  by_order (j ∷ order) came bytes once spelled e = go (k == j) refl (λ f. by_order order (slice_set came j true) spelled.1 once.1 spelled.3 f)
-    where
-      go : (b : Bool) → (k == j) ≡ b → (slice_get (slice_set came j true) k ≡ Some false → IsKept set d image) → IsKept set d image
-      go true t h =
-          let same : k ≡ j = eqb-true k j t in
-          section_is set footed j d image (slice_get set.devices j) (slice_get images j) spelled.0 (ap (λ (n : ℕ). slice_get set.devices n) (sym same) ∙ there) (ap (λ (n : ℕ). slice_get images n) (sym same) ∙ here) spelled.2
-      go false t h =
-          let ne : k ≡ j → ⊥ = λ same. (let g = eq-eqb k j same in cc) in
-          h (at_other came j k true ne ∙ e)
+  by_order (j ∷ order) came bytes once spelled e =
+      ⊎_elim (λ (same : k ≡ j). section_is set footed j d image (slice_get set.devices j) (slice_get images j) spelled.0
+      (ap (λ (n : ℕ). slice_get set.devices n) (sym same) ∙ there) (ap (λ (n : ℕ). slice_get images n) (sym same) ∙ here) spelled.2)
+      (λ ne. by_order order (slice_set came j true) spelled.1 once.1 spelled.3 (at_other came j k true ne ∙ e)) (cases_eq k j)
 
 pub taken_kept : (set : Set) (names : List (List ℕ)) (input : List ℕ) (n : ℕ) (machine : Option (List ℕ)) (images : List Image) → Takes set names input n machine images → AreKept set images
 taken_kept set names input n machine images t = record {
@@ -63,9 +58,8 @@ module _ (set : Set) (names : List (List ℕ)) (well : WellFormed set) (heads : 
     (state_refuses set names).refused input r.at r.section r.reason long ok (e ∙ ap (λ (y : _). Some (Refused y.at y.section y.reason long)) (sym h.0)),
     h.1 ∙ ap (λ (y : Refusal). Some (drop (y.at + long) input)) (sym h.0),
   )
-  refused_by images taken (faults.Refused r) (Some (Accepted n end)) e h = absurd h
-  refused_by images taken (faults.Refused r) None e h = absurd h
   refused_by images taken faults.ReadFault x e h = tt
+  refused_by images taken (faults.Refused r) _ e h = absurd h
 
 -- what may follow at the end are bytes
 last_bytes : (left : Option (List ℕ)) (more : List ℕ) → IfSome left IsBytes → MayFollow Last left more → IsBytes more
@@ -108,20 +102,19 @@ loads_kept set names images taken machine h = taken_kept set names _ taken _ ima
 
 module _ (set : Set) (names : List (List ℕ)) (images : List Image) (taken : ℕ) {a b : Intake} where
   pub content : (r : Result (Option ℕ) LoadFault) → LoadReads a b set names images taken r → IfSome a.left (λ input. Loads set names input b.left images taken r)
-  content (Ok machine) p = reads_told (λ input left. Loads set names input left images taken (Ok machine)) tt p
-  content (Err (faults.Refused e)) p = reads_told (λ input left. Loads set names input left images taken (Err (faults.Refused e))) tt p
   content (Err faults.ReadFault) p = none a.left
     where
       none : (old : Option (List ℕ)) → IfSome old (λ input. Unit {0})
       none None = tt
       none (Some input) = tt
+  content r p = reads_told (λ input left. Loads set names input left images taken r) tt p
 
   pub given : (machine : Option ℕ) → LoadReads a b set names images taken (Ok machine) → b.given ≡ capped (a.given + taken)
-  given machine p = omega (arith, p.takes.given, p.long.0)
+  given machine p = omega arith
 
   pub within : (r : Result (Option ℕ) LoadFault) → LoadReads a b set names images taken r → b.given ≤ a.given + most_given set
-  within (Ok machine) p = omega (arith, p.takes.given, p.long.0, p.long.1)
-  within (Err fault) p = omega (arith, p.takes.given, p.long)
+  within (Ok machine) p = omega arith
+  within (Err fault) p = omega arith
 
 -- ---- The result of a load says exactly what the input is.
 
@@ -160,7 +153,7 @@ unit_within set names u rest section reason size (Wrong x s r h w e) = omega (ar
 
 pub fault_within : (set : Set) (names : List (List ℕ)) (input : List ℕ) (place : ℕ) (section : Option ℕ) (reason : Reason) (size : ℕ) → Fault set names input place section reason size → place + size ≤ length input
 fault_within set names input place section reason size f =
-    omega (arith, ap length f.whole, length-append (spelled f.units) f.rest, f.long, unit_within set names f.units f.rest section reason size f.why)
+    omega (arith, ap length f.whole, length-append (spelled f.units) f.rest, unit_within set names f.units f.rest section reason size f.why)
 
 ends_at : (set : Set) (names : List (List ℕ)) (r : Refusal) (images : List Image) (taken : ℕ) (input left : List ℕ) → Loads set names input (Some left) images taken (Err (faults.Refused r)) → EndsAtUnit set names r input left
 ends_at set names r images taken input left l =

@@ -1,14 +1,13 @@
 -- The names of other crates, and of this crate's `specs`, that the proofs use.
 pub use Rattle.std.proofs.Common.{Bool, Err, IfErr, IfSome, List, None, Ok, OnOk, Option, Result, SFits, Some, [], ap, append-nil, append_assoc, arith, drop}
 pub use Rattle.std.proofs.Common.{false, get_or, if◌then◌else◌, inl, inr, length, length-append, length-drop, map, nat_le, nat_lt, not, of_z, refl, replicate}
-pub use Rattle.std.proofs.Common.{rules, slice_set, subst, suc, sym, take, to_z, true, zero, ℕ, ℤ, ◌&&◌, ◌*◌, ◌++◌, ◌+◌, ◌-◌, ◌/◌, ◌<◌, ◌==◌, ◌^◌, ◌||◌, ◌∙◌}
-pub use Rattle.std.proofs.Common.{◌∷◌, ◌≡◌, ◌≤◌}
-pub use Rattle.std.proofs.Math.Nat.{div-le_of_le-mul, div-lt_iff_lt-mul, div-mul-le_self, lt-div-mul-add, mul-le-mul_right, suc-mul}
-pub use Rattle.std.proofs.lemmas.Bool.{and_parts, eq-eqb, eqb-true, le-ltb, leb-true, lt-ltb, ltb-false, ltb-true, or_parts}
+pub use Rattle.std.proofs.Common.{rules, slice_set, subst, suc, sym, take, to_z, true, zero, ℕ, ℤ, ⊎_elim, ◌&&◌, ◌*◌, ◌++◌, ◌+◌, ◌-◌, ◌/◌, ◌<◌, ◌==◌, ◌^◌, ◌||◌}
+pub use Rattle.std.proofs.Common.{◌∙◌, ◌∷◌, ◌≡◌, ◌≤◌}
+pub use Rattle.std.proofs.Math.Nat.{div-le_of_le-mul, div-lt_iff_lt-mul, div-mul-le_self, lt-div-mul-add, mul-le-mul_right}
+pub use Rattle.std.proofs.lemmas.Bool.{and_parts, cases_eq, cases_lt, eq-eqb, false_from_ne_true, le-ltb, leb-true, lt-ltb, or_parts}
 pub use Rattle.std.proofs.lemmas.Int.{to_z-of_z}
-pub use Rattle.std.proofs.lemmas.List.{drop-append-le, drop-drop, drop_all, ext_get_or, get_or-map, length-map, length-replicate, length-set, length-take-le}
-pub use Rattle.std.proofs.lemmas.List.{map-set, take-append-drop, take-append-le, take-take, with_items_is}
-pub use Rattle.std.proofs.lemmas.Nat.{mul-le}
+pub use Rattle.std.proofs.lemmas.List.{drop-append-le, drop-drop, drop_all, ext_get_or, get_or-map, get_or-set_other, get_or-set_same, length-map}
+pub use Rattle.std.proofs.lemmas.List.{length-replicate, length-set, length-take-le, map-set, take-append-drop, take-append-le, take-take, with_items_is}
 pub use Rattle.std.proofs.lemmas.Option.{get_or_from_slice_get, same_Some, slice_get-get_or, slice_get_within}
 pub use Rattle.std.proofs.lemmas.Result.{IfErr-weaker, err_from_is_err_and}
 pub use Rattle.std.specs.Int.{w128}

@@ -13,10 +13,10 @@ use Rattle.vms_spec.specs.declared.Reason.TheVariants as reasons
 -- ---- what a search finds
 
 pub device_below : (devices : List Device) (name : List ℕ) (instance k : ℕ) → find_device 0 devices name instance ≡ Some k → k < length devices
-device_below devices name instance k e = let r = found_inside _ 0 devices k e in omega (arith, r.0, r.1)
+device_below devices name instance k e = let r = found_inside _ 0 devices k e in omega arith
 
 pub sub_below : (subs : List Sub) (name : List ℕ) (j : ℕ) → find_sub 0 subs name ≡ Some j → j < length subs
-sub_below subs name j e = let r = found_inside _ 0 subs j e in omega (arith, r.0, r.1)
+sub_below subs name j e = let r = found_inside _ 0 subs j e in omega arith
 
 -- ---- section heads
 
@@ -104,9 +104,8 @@ head_opened set names k id name instance v long = by (device_named set name inst
     by None e = refl
     by (Some j) e =
         let f = found_is set.devices 0 name instance j e in
-        let i : f.i ≡ j = (let x = f.is in omega arith) in
-        let d : slice_get set.devices j ≡ Some f.device = ap (slice_get set.devices) (sym i) ∙ f.there in
-        let inside : j < length k.came = (let x = slice_get_within set.devices j f.device d in omega (arith, long)) in
+        let d : slice_get set.devices j ≡ Some f.device = ap (slice_get set.devices) (sym (omega arith)) ∙ f.there in
+        let inside : j < length k.came = (let x = slice_get_within set.devices j f.device d in omega arith) in
         ap (λ (o : Option Device). head_rows (Some j) o (slice_get k.came j) v) d ∙ ap (λ (o : Option Bool). head_rows (Some j) (Some f.device) o v) (slice_get-get_or k.came j false inside)
         ∙ known_head j f.device (get_or k.came j false) v ∙ ap (λ (o : Option Device). unfit_for (device_opened v (Some j) o (get_or k.came j false))) (sym d)
 
@@ -147,9 +146,8 @@ sub_is_opened set names y k d name v section here long =
     by None e = refl
     by (Some j) e =
         let f = sub_found d.subs 0 name j e in
-        let i : f.i ≡ j = (let x = f.is in omega arith) in
-        let s : slice_get d.subs j ≡ Some f.sub = ap (slice_get d.subs) (sym i) ∙ f.there in
-        let inside : j < length y.image.came = (let x = slice_get_within d.subs j f.sub s in omega (arith, long)) in
+        let s : slice_get d.subs j ≡ Some f.sub = ap (slice_get d.subs) (sym (omega arith)) ∙ f.there in
+        let inside : j < length y.image.came = (let x = slice_get_within d.subs j f.sub s in omega arith) in
         let c = slice_get-get_or y.image.came j None inside in
         ap (λ (o : Option Sub). sub_rows (Some k) (Some j) o (slice_get y.image.came j) v) s ∙ ap (λ (o : Option (Option ℕ)). sub_rows (Some k) (Some j) (Some f.sub) o v) c
         ∙ known_rows k j f.sub (get_or y.image.came j None) v

@@ -1,14 +1,14 @@
 -- The fields of a part: its steps take what the structural reader takes, and the judge reads the same.
 use Rattle.vms_load.proofs.Facade.{◌≡◌, ℕ, ◌+◌, ◌≤◌, List, [], ◌∷◌, ◌++◌, length, take, slice_set, append_assoc, append-nil, ℤ, Option, Some, Ok, Err, Bool}
-use Rattle.vms_load.proofs.Facade.{true, false, ◌||◌, ◌==◌, nat_lt, if◌then◌else◌, refl, sym, ap, ◌∙◌, subst, ◌-◌, ◌<◌, drop, None, Result, IfSome, OnOk, arith}
-use Rattle.vms_load.proofs.Facade.{eq-eqb, ltb-true, ltb-false, or_parts, drop-drop, drop_all, slice_get, slice_get-get_or, Kind, width, value_of, is_bad_bool}
-use Rattle.vms_load.proofs.Facade.{Desc, Set, Sub, Device, has_cell, Image, Slot, Number, Constant, Filler, Rule, meanings, desc_slots, Taken, Progress, ◌>>=◌}
-use Rattle.vms_load.proofs.Facade.{takers, take_desc, refuse, on, if_whole, take_slot, IsSound, AreSound, IsAbove, desc_above, meanings_above, SameBelow}
-use Rattle.vms_load.proofs.Facade.{same_refl, same_trans, Keeps, Keeping, Gives, ComesTo, IsFrom, slot_keeps, set_desc_comes, FrameFault, WalkStep, step_of}
-use Rattle.vms_load.proofs.Facade.{steps_of, steps_append, exceeds_least, TakesAs, slot_of, take_steps, last_numbers, numbers_then, take_append, last_taken}
-use Rattle.vms_load.proofs.Facade.{Told, from, IsTaken, IsStopped, Reason, Reading, Refused, part_slots, slots_of_sub, State, Inside, by_state, judge}
-use Rattle.vms_load.proofs.Facade.{reading_on, body_read, after_read, Stand, ahead, tail_of, IsGood, Leaves, desc_leaves, device_at, sub_at, Reads, ReadsOn}
-use Rattle.vms_load.proofs.Facade.{concerning, IsIn, IsOpen, part_desc, part_base, state_in, in_fields, after_fields, Section}
+use Rattle.vms_load.proofs.Facade.{◌||◌, ◌==◌, if◌then◌else◌, refl, sym, ap, ◌∙◌, subst, ◌-◌, ◌<◌, drop, None, Result, IfSome, OnOk, arith, eq-eqb, or_parts}
+use Rattle.vms_load.proofs.Facade.{drop-drop, drop_all, slice_get, slice_get-get_or, ⊎_elim, cases_lt, Kind, width, value_of, is_bad_bool, Desc, Set, Sub}
+use Rattle.vms_load.proofs.Facade.{Device, has_cell, Image, Slot, Number, Constant, Filler, Rule, meanings, desc_slots, Taken, Progress, ◌>>=◌, takers}
+use Rattle.vms_load.proofs.Facade.{take_desc, refuse, on, if_whole, take_slot, IsSound, AreSound, IsAbove, desc_above, meanings_above, SameBelow, same_refl}
+use Rattle.vms_load.proofs.Facade.{same_trans, Keeps, Keeping, Gives, ComesTo, IsFrom, slot_keeps, set_desc_comes, FrameFault, WalkStep, step_of, steps_of}
+use Rattle.vms_load.proofs.Facade.{steps_append, exceeds_least, TakesAs, slot_of, take_steps, last_numbers, numbers_then, take_append, last_taken, Told, from}
+use Rattle.vms_load.proofs.Facade.{IsTaken, IsStopped, Reason, Reading, Refused, part_slots, slots_of_sub, State, Inside, by_state, judge, reading_on}
+use Rattle.vms_load.proofs.Facade.{body_read, after_read, Stand, ahead, tail_of, IsGood, Leaves, desc_leaves, device_at, sub_at, Reads, ReadsOn, concerning}
+use Rattle.vms_load.proofs.Facade.{IsIn, IsOpen, part_desc, part_base, state_in, in_fields, after_fields, Section}
 use Rattle.vms_spec.specs.Taking.{Refusal}
 use Rattle.vms_stream.proofs.Bodies.Body.{Reads as ReadsBody}
 use Rattle.vms_spec.specs.declared.Reason.TheVariants as reasons
@@ -23,32 +23,22 @@ slot_taken (Number c kind caps) p =
     (λ (b : Bool). if_whole w p (if is_bad_bool kind (take w p.rest) then refuse p reasons.BadBool w else if b then refuse p reasons.CountTooLarge w else on w (slice_set p.numbers c z) p))
     (exceeds_least caps z)
 slot_taken (Constant kind z) p = refl
-slot_taken (Filler n) p = refl
-slot_taken (Rule b) p = refl
+slot_taken _ p = refl
 
 -- ---- steps leave the numbers below them
 
 first_above : (cell c : ℕ) (kind : Kind) (caps : List ℕ) (xs : List Slot) → IsAbove cell (Number c kind caps ∷ xs) → cell ≤ c
-first_above cell c kind caps xs above = go (nat_lt c cell) refl
-  where
-    go : (b : Bool) → nat_lt c cell ≡ b → cell ≤ c
-    go true e =
-        let t = above.below c (ltb-true c cell e) in
-        let u = ap (λ (b : Bool). b || has_cell xs c) (eq-eqb c c refl) in
-        cc
-    go false e = ltb-false c cell e
+first_above cell c kind caps xs above =
+    ⊎_elim (λ (lt : c < cell). let t = above.below c lt in let u = ap (λ (b : Bool). b || has_cell xs c) (eq-eqb c c refl) in cc)
+    (λ (ge : cell ≤ c). ge) (cases_lt c cell)
 
 rest_above : (cell : ℕ) (x : Slot) (xs : List Slot) → IsAbove cell (x ∷ xs) → IsAbove cell xs
 rest_above cell (Number c kind caps) xs above = record { below = λ k lt. (or_parts (c == k) (has_cell xs k) (above.below k lt)).1 }
-rest_above cell (Constant kind z) xs above = record { below = λ k lt. above.below k lt }
-rest_above cell (Filler n) xs above = record { below = λ k lt. above.below k lt }
-rest_above cell (Rule b) xs above = record { below = λ k lt. above.below k lt }
+rest_above cell _ xs above = record { below = λ k lt. above.below k lt }
 
 first_from : (cell : ℕ) (x : Slot) (xs : List Slot) → IsAbove cell (x ∷ xs) → IsFrom cell x
 first_from cell (Number c kind caps) xs above = first_above cell c kind caps xs above
-first_from cell (Constant kind z) xs above = tt
-first_from cell (Filler n) xs above = tt
-first_from cell (Rule b) xs above = tt
+first_from cell _ xs above = tt
 
 last_below : (cell : ℕ) (xs : List Slot) (p : Progress) → IsAbove cell xs → SameBelow cell p.numbers (last_numbers (steps_of xs) p)
 last_below cell [] p above = same_refl cell p.numbers
@@ -101,15 +91,12 @@ module _ (set : Set) (structs : AreSound set.structs) (d : Desc) (sound : IsSoun
 
     ended : (cell : ℕ) (t : Taken) → ComesTo slots Holds Fails cell (λ m. []) t → take_steps (steps_of (slots n)) p ≡ t
     ended cell (Err e) c = c
-    ended cell (Ok q) c =
-        let done = c.0 in
-        ap (λ (l : List Slot). take_steps (steps_of l) p) (c.1.split n c.1.holds.1 ∙ append-nil done) ∙ c.1.holds.0
+    ended cell (Ok q) c = ap (λ (l : List Slot). take_steps (steps_of l) p) (c.1.split n c.1.holds.1 ∙ append-nil c.0) ∙ c.1.holds.0
 
     steps_taken : take_steps (steps_of (slots n)) p ≡ take_desc (takers set.structs (length set.structs)) d v base p
     steps_taken =
         let above = desc_above (meanings set.structs (length set.structs)) (meanings_above set.structs (length set.structs)) d v n base in
-        let first : Holds base [] p = (refl, later base [] (slots n) p refl refl above) in
-        let c = set_desc_comes slots Holds Fails keeping set.structs structs d v base p sound (λ m. refl) first in
+        let c = set_desc_comes slots Holds Fails keeping set.structs structs d v base p sound (λ m. refl) (refl, later base [] (slots n) p refl refl above) in
         ended _ (take_desc (takers set.structs (length set.structs)) d v base p) c.comes
 
   -- ---- by what a walk says
@@ -194,9 +181,8 @@ module _ (set : Set) (good : IsGood set) (section : Section) (here : section.dev
         ≡ after_fields set names state section sub (record image { numbers = q.numbers }) q.place q.rest
     all_done room done q h =
         let all = part_slots set (Some device) (record image { numbers = q.numbers }) sub in
-        let enough : length all ≤ length all = omega arith in
         after_read set names outer device image section.device section.id sub there room done q h
-        ∙ sym (after_read set names outer device image section.device section.id sub there room (length all) q (drop_all (length all) all enough))
+        ∙ sym (after_read set names outer device image section.device section.id sub there room (length all) q (drop_all (length all) all (omega arith)))
 
     -- the rest after what was taken, or from the offending unit on
     front_left : IsIn device sub → (place : ℕ) (rest : List ℕ) (t : Taken) → taken place rest ≡ t → Leaves place rest t
@@ -212,18 +198,17 @@ module _ (set : Set) (good : IsGood set) (section : Section) (here : section.dev
           r.2 ∙ all_done room r.0 q r.1 ∙ ap (λ (n : List ℤ). now None n q.place) (sym h.0) ∙ ap (λ (p : ℕ). now None numbers p) (sym h.1) ∙ ap (λ (o : Option ℕ). now o numbers to.at) (sym held),
           ap (λ (o : Option ℕ). ahead o q.rest) held ∙ (front_left inside place rest (Ok q) e).is ∙ ap (λ (p : ℕ). drop (p - place) rest) (sym h.1),
         )
-    by_taken room inside place rest numbers to left (Ok x) (Err r) e b held h = absurd h
-    by_taken room inside place rest numbers to left (Err (faults.Refused p reason)) (Ok q) e b held h = absurd h
     by_taken room inside place rest numbers to left (Err (faults.Refused p reason)) (Err r) e b held h =
         let l = front_left inside place rest (Err r) e in
-        let same : r.place - place + r.long ≡ p - place + r.long = omega (arith, h.0) in
+        let same : r.place - place + r.long ≡ p - place + r.long = omega arith in
         record {
           long = r.long;
           is = b ∙ ap (λ (n : ℕ). Some (Refused n (Some section.device) r.reason r.long)) (sym h.0) ∙ ap (λ (w : Reason). Some (Refused p (Some section.device) w r.long)) (sym h.1);
-          from = omega (arith, l.from, h.0);
+          from = omega arith;
           taken = h.2 ∙ ap (λ (b : List ℕ). Some (drop r.long b)) l.is ∙ ap (λ (b : List ℕ). Some b) (drop-drop r.long (r.place - place) rest ∙ ap (λ (k : ℕ). drop k rest) same);
         }
     by_taken room inside place rest numbers to left (Err faults.ReadFault) t e b held h = tt
+    by_taken room inside place rest numbers to left _ _ e b held h = absurd h
 
     -- the fields of a part are read as they are taken, by what the code has of the set
     pub fields_answer : (d : Desc) (base : ℕ) → d ≡ part_desc device sub → base ≡ part_base set device sub

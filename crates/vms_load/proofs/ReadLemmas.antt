@@ -35,12 +35,12 @@ drop_between at to end rest h i = drop-drop (end - to) (to - at) rest ∙ ap (λ
 pub still_behind : {X Y : Type 0} (reading same : Option (Reading State)) (next : X → Onward) (other : Y → Onward) (at to : ℕ) (end last : Stand) (rest left : List ℕ) (new : Option (List ℕ)) (e : LoadFault) → at ≤ to
     → left ≡ drop (to - at) rest → reading ≡ same → Reads same next to end left new (Err e) → Reads reading other at last rest new (Err e)
 still_behind reading same next other at to end last rest left new (faults.Refused r) le there e h =
-    let far : to - at + (r.at - to + h.long) ≡ r.at - at + h.long = omega (arith, h.from) in
+    let far : to - at + (r.at - to + h.long) ≡ r.at - at + h.long = omega arith in
     record {
       long = h.long;
       is = e ∙ h.is;
-      from = omega (arith, h.from);
-      taken = h.taken ∙ ap (λ (l : List ℕ). Some (drop (r.at - to + h.long) l)) there ∙ ap (λ (l : List ℕ). Some l) (drop-drop (r.at - to + h.long) (to - at) rest ∙ ap (λ (k : ℕ). drop k rest) (omega (arith, far)));
+      from = omega arith;
+      taken = h.taken ∙ ap (λ (l : List ℕ). Some (drop (r.at - to + h.long) l)) there ∙ ap (λ (l : List ℕ). Some l) (drop-drop (r.at - to + h.long) (to - at) rest ∙ ap (λ (k : ℕ). drop k rest) (omega arith));
     }
 still_behind reading same next other at to end last rest left new faults.ReadFault le there e h = tt
 
@@ -82,9 +82,8 @@ IsLong n (Over end) = ⊥
 pub refused_here : (at : ℕ) (rest : List ℕ) (left : Option (List ℕ)) (section : Option ℕ) (reason : Reason) (n : ℕ) (r : Refusal) → r ≡ record { section = section; at = at; reason = reason } → left ≡ Some (drop n rest)
     → Refuses (Some (Refused at section reason n)) at rest left r
 refused_here at rest left section reason n r same is =
-    let all : n ≡ at - at + n = omega arith in
     subst (λ (x : Refusal). Refuses (Some (Refused at section reason n)) at rest left x) (sym same)
-    (record { long = n; is = refl; from = omega arith; taken = is ∙ ap (λ (k : ℕ). Some (drop k rest)) all })
+    (record { long = n; is = refl; from = omega arith; taken = is ∙ ap (λ (k : ℕ). Some (drop k rest)) (omega arith) })
 
 abbrev refusal : Option ℕ → ℕ → Reason → Refusal
 refusal section at reason = record { section = section; at = at; reason = reason }
@@ -113,18 +112,14 @@ module _ (go : State → Onward) (section : Option ℕ) (it : Piece → ℕ → 
   by_verdict : {Y : Type 0} (v : Verdict State) (n : ℕ) (to : Stand) (left : Option (List ℕ)) (next : Y → State) (result : Result Y LoadFault)
       → left ≡ Some (drop n rest) → to.at ≡ at + n → to.held ≡ None → Settles v at next n result → Reads (reading_after go at rest v) (λ y. go (next y)) at to rest left result
   by_verdict (Goes m s) n to left next (Ok y) e far held h =
-      let ahead_is : n ≡ to.at - at = omega (arith, far) in
       subst (λ (o : Option (List ℕ)). Leads (go s (at + m) (drop m rest)) (go (next y)) at to rest o) (sym e) (
         ap (λ (x : State). go x (at + m) (drop m rest)) h.0 ∙ ap (λ (k : ℕ). go (next y) (at + k) (drop k rest)) h.1 ∙ ap (λ (k : ℕ). go (next y) k (drop n rest)) (sym far)
             ∙ ap (λ (o : Option ℕ). go (next y) to.at (ahead o (drop n rest))) (sym held),
-        ap (λ (o : Option ℕ). ahead o (drop n rest)) held ∙ ap (λ (k : ℕ). drop k rest) ahead_is,
+        ap (λ (o : Option ℕ). ahead o (drop n rest)) held ∙ ap (λ (k : ℕ). drop k rest) (omega arith),
       )
-  by_verdict (Goes m s) n to left next (Err e) g far held h = absurd h
-  by_verdict (Faulty section' reason m) n to left next (Ok y) e far held h = absurd h
   by_verdict (Faulty section' reason m) n to left next (Err (faults.Refused r)) e far held h =
       refused_here at rest left section' reason m r h.0 (e ∙ ap (λ (k : ℕ). Some (drop k rest)) (sym h.1))
-  by_verdict (Faulty section' reason m) n to left next (Err faults.ReadFault) e far held h = absurd h
-  by_verdict (Over end) n to left next result e far held h = absurd h
+  by_verdict _ n to left next _ _ far held h = absurd h
 
   -- a whole unit was found and judged
   pub unit_settled : {Y : Type 0} (found : Seen) (x : Piece) (n : ℕ) (left : Option (List ℕ)) (to : Stand) (next : Y → State) (result : Result Y LoadFault)
@@ -150,20 +145,19 @@ pub read_behind : {X : Type 0} (go : State → Onward) (v : Verdict State) (next
     → ReadsBehind go v next at long bytes end new result
 read_behind go v next long at bytes to end left new result b up r =
     let start : Stand = record { at = at; held = None } in
-    let far : long ≡ to.at - at = omega (arith, b.place) in
     let lead : LeadsOn (λ place rest. behind go at v (at + long) (drop long bytes)) (behind go at v) start to (Some bytes) (Some (drop long bytes)) = (
       ap (λ (k : ℕ). behind go at v k (drop long bytes)) (sym b.place) ∙ ap (λ (o : Option ℕ). behind go at v to.at (ahead o (drop long bytes))) (sym b.held),
-      ap (λ (o : Option ℕ). ahead o (drop long bytes)) b.held ∙ ap (λ (k : ℕ). drop k bytes) far,
+      ap (λ (o : Option ℕ). ahead o (drop long bytes)) b.held ∙ ap (λ (k : ℕ). drop k bytes) (omega arith),
     ) in
-    reads_on (Some bytes) (Some (drop long bytes)) new (λ place rest. behind go at v (at + long) (drop long bytes)) (behind go at v) next start to end result (omega (arith, b.place)) up
+    reads_on (Some bytes) (Some (drop long bytes)) new (λ place rest. behind go at v (at + long) (drop long bytes)) (behind go at v) next start to end result (omega arith) up
     lead (subst (λ (o : Option (List ℕ)). ReadsOn (behind go at v) next to end o new result) b.taken r)
 
 -- ---- Calls of a load, one after the other.
 
 spent_on : {X : Type 0} (from to end : Stand) (some most : ℕ) (result : Result X LoadFault) → reach from ≤ reach to → OnOk result (reach to ≤ reach end) → reach to + some ≤ reach from + most
     → (k n : ℕ) → k ≡ reach to - reach from → IsSpent to end some result n → IsSpent from end most result (k + n)
-spent_on from to end some most (Ok x) up more le k n e l = omega (arith, up, more, e, l)
-spent_on from to end some most (Err fault) up more le k n e l = omega (arith, up, le, e, l)
+spent_on from to end some most (Ok x) up more le k n e l = omega arith
+spent_on from to end some most (Err fault) up more le k n e l = omega arith
 
 -- whatever a call returns, it took the bytes by which the cursor has advanced
 pub spent_by : {X : Type 0} (from to : Stand) (most : ℕ) (result : Result X LoadFault) (n : ℕ) → n ≡ reach to - reach from → n ≤ most → IsSpent from to most result n
@@ -178,7 +172,7 @@ goes_here a next from counted = record { bytes = []; takes = takes_none a counte
 pub goes_further : {a b c : Intake} (reading middle next : Onward) (from to end : Stand) → from.at ≤ to.at → to.at ≤ end.at → reach from ≤ reach to → reach to ≤ reach end
     → GoesSoFar a b reading middle from to → GoesSoFar b c middle next to end → GoesSoFar a c reading next from end
 goes_further reading middle next from to end h i up more p q =
-    reads_both (λ k n e l. omega (arith, up, more, e, l)) (λ all rest left l r. leads_on (Some all) (Some rest) (Some left) reading middle next from to end h i l r) p q
+    reads_both (λ k n e l. omega arith) (λ all rest left l r. leads_on (Some all) (Some rest) (Some left) reading middle next from to end h i l r) p q
 
 pub goes_on : {X : Type 0} {a b c : Intake} (some most : ℕ) (reading middle : Onward) (next : X → Onward) (from to end : Stand) (result : Result X LoadFault) → from.at ≤ to.at → OnOk result (to.at ≤ end.at)
     → reach from ≤ reach to → OnOk result (reach to ≤ reach end) → reach to + some ≤ reach from + most → GoesSoFar a b reading middle from to → GoesOn b c some middle next to end result → GoesOn a c most reading next from end result

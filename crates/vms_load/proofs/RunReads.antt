@@ -43,7 +43,7 @@ module _ (x : WalkStep) where
 
     pub step_ok : (r : Result (Unit {0}) FrameFault) → OneReads r → b.image ≡ record a.image { numbers = b.image.numbers } → Keeps (x ∷ []) a.image.numbers b.image.numbers → OnOk r (Took (x ∷ []) a b)
     step_ok (Ok y) reads kept keeps = record {
-      reads = reads_as (λ n p. (omega (arith, p.0), p.1)) (λ rest left h. one_taken (Ok tt) rest left h) reads;
+      reads = reads_as (λ n p. (omega arith, p.1)) (λ rest left h. one_taken (Ok tt) rest left h) reads;
       kept = kept;
       keeps = keeps;
     }
@@ -53,7 +53,7 @@ module _ (x : WalkStep) where
         → IfErr r (λ e. Failed (x ∷ []) a e b)
     step_err (Ok y) reads kept keeps same = tt
     step_err (Err e) reads kept keeps same = record {
-      reads = reads_as (λ n p. (omega (arith, p.0), tt)) (λ rest left h. one_stopped e rest left (ap (λ (i : Typed). i.numbers) same) h) reads;
+      reads = reads_as (λ n p. (omega arith, tt)) (λ rest left h. one_stopped e rest left (ap (λ (i : Typed). i.numbers) same) h) reads;
       kept = kept;
       keeps = keeps;
     }
@@ -62,16 +62,8 @@ module _ (x : WalkStep) where
 -- one that is cut.
 
 any_good : (kind : Kind) (bytes : List ℕ) → (kind ≡ Bool → ⊥) → is_bad_bool kind bytes ≡ false
-any_good U8 bytes any = refl
-any_good U16 bytes any = refl
-any_good U32 bytes any = refl
-any_good U64 bytes any = refl
-any_good I8 bytes any = refl
-any_good I16 bytes any = refl
-any_good I32 bytes any = refl
-any_good I64 bytes any = refl
 any_good Bool bytes any = absurd (any refl)
-any_good Timer bytes any = refl
+any_good _ bytes any = refl
 
 pub values_long : (kind : Kind) (count : ℕ) (bytes : List ℕ) → length (values_of kind count bytes) ≡ count
 values_long kind zero bytes = refl
@@ -81,15 +73,15 @@ pub run_long : (kind : Kind) (first count : ℕ) → steps_long (run_of first co
 run_long kind first zero = omega arith
 run_long kind first (suc count) =
     let more : suc count * width kind ≡ width kind + count * width kind = grind arith in
-    omega (arith, more, run_long kind (first + 1) count)
+    omega (arith, run_long kind (first + 1) count)
 
 -- the first few cells get numbers
 pub run_keeps : (kind : Kind) (count first : ℕ) (numbers zs : List ℤ) → length zs ≤ count → Keeps (run_of first count kind) numbers (put_from numbers first zs)
 run_keeps kind count first numbers [] le = keeps_same (run_of first count kind) numbers numbers refl
-run_keeps kind zero first numbers (z ∷ zs) le = absurd (omega (arith, le))
+run_keeps kind zero first numbers (z ∷ zs) le = absurd (omega arith)
 run_keeps kind (suc count) first numbers (z ∷ zs) le =
     keeps_more (Number first kind None ∷ []) (run_of (first + 1) count kind) numbers (slice_set numbers first z) (put_from (slice_set numbers first z) (first + 1) zs)
-    (keeps_put first kind None numbers z) (run_keeps kind count (first + 1) (slice_set numbers first z) zs (omega (arith, le)))
+    (keeps_put first kind None numbers z) (run_keeps kind count (first + 1) (slice_set numbers first z) zs (omega arith))
 
 module _ (kind : Kind) (any : kind ≡ Bool → ⊥) where
   abbrev w : ℕ
@@ -118,22 +110,19 @@ module _ (kind : Kind) (any : kind ≡ Bool → ⊥) where
 
   pub run_taken : (count first place : ℕ) (numbers : List ℤ) (bytes more : List ℕ) → length bytes ≡ count * width kind
       → take_steps (run_of first count kind) (progress numbers place (bytes ++ more)) ≡ Ok (progress (put_from numbers first (values_of kind count bytes)) (place + count * width kind) more)
-  run_taken zero first place numbers [] more long =
-      let e : place ≡ place + 0 * width kind = omega arith in
-      ap (λ (n : ℕ). let t : Taken = Ok (progress numbers n more) in t) e
-  run_taken zero first place numbers (x ∷ bytes) more long = absurd (omega (arith, long))
+  run_taken zero first place numbers [] more long = ap (λ (n : ℕ). let t : Taken = Ok (progress numbers n more) in t) (omega arith)
+  run_taken zero first place numbers (x ∷ bytes) more long = absurd (omega arith)
   run_taken (suc count) first place numbers bytes more long =
       let all : suc count * width kind ≡ width kind + count * width kind = grind arith in
-      let le : width kind ≤ length bytes = omega (arith, long, all) in
+      let le : width kind ≤ length bytes = omega arith in
       let v = value_of kind (take w bytes) in
       let front : take w (bytes ++ more) ≡ take w bytes = take-append-le w bytes more le in
-      let behind : drop w (bytes ++ more) ≡ drop w bytes ++ more = drop-append-le w bytes more le in
-      let far : (place + w) + count * w ≡ place + suc count * w = omega (arith, all) in
-      let one = number_whole first place numbers (bytes ++ more) (omega (arith, le, length-append bytes more)) in
+      let far : (place + w) + count * w ≡ place + suc count * w = omega arith in
+      let one = number_whole first place numbers (bytes ++ more) (omega (arith, length-append bytes more)) in
       ap (λ (t : Taken). t >>= take_steps (run_of (first + 1) count kind)) one
       ∙ ap (λ (l : List ℕ). take_steps (run_of (first + 1) count kind) (progress (slice_set numbers first (value_of kind l)) (place + w) (drop w (bytes ++ more)))) front
-      ∙ ap (λ (l : List ℕ). take_steps (run_of (first + 1) count kind) (progress (slice_set numbers first v) (place + w) l)) behind
-      ∙ run_taken count (first + 1) (place + w) (slice_set numbers first v) (drop w bytes) more (omega (arith, long, all, length-drop w bytes))
+      ∙ ap (λ (l : List ℕ). take_steps (run_of (first + 1) count kind) (progress (slice_set numbers first v) (place + w) l)) (drop-append-le w bytes more le)
+      ∙ run_taken count (first + 1) (place + w) (slice_set numbers first v) (drop w bytes) more (omega (arith, length-drop w bytes))
       ∙ ap (λ (n : ℕ). let t : Taken = Ok (progress (put_from (slice_set numbers first v) (first + 1) (values_of kind count (drop w bytes))) n more) in t) far
 
   -- ---- the input ends within them
@@ -168,7 +157,7 @@ module _ (kind : Kind) (any : kind ≡ Bool → ⊥) where
 
 -- the first of them
 pub run_first : (first count : ℕ) (kind : Kind) → 0 < count → (rest : List WalkStep) × (run_of first count kind ≡ Number first kind None ∷ rest)
-run_first first zero kind some = absurd (omega (arith, some))
+run_first first zero kind some = absurd (omega arith)
 run_first first (suc count) kind some = (run_of (first + 1) count kind, refl)
 
 -- an image with the numbers of some codes, from a cell on
@@ -182,7 +171,7 @@ module _ (old new : Intake) (image : Typed) (first count place : ℕ) (kind : Ki
     reads = record {
       bytes = bytes;
       takes = takes;
-      long = (omega (arith, long, run_long kind first count), omega (arith, long));
+      long = (omega (arith, run_long kind first count), omega arith);
       says = λ more f.
           let put = put_from image.numbers first (values_of kind count bytes) in
           subst (λ (t : Taken). TakesAs t put (place + count * width kind) (Some more) (Ok tt)) (sym (run_taken kind any count first place image.numbers bytes more long)) (refl, refl, refl);
@@ -197,7 +186,7 @@ module _ (old new : Intake) (image : Typed) (first count place : ℕ) (kind : Ki
     reads = record {
       bytes = breaks.bytes;
       takes = breaks.takes;
-      long = (omega (arith, le, breaks.few, run_long kind first count), tt);
+      long = (omega (arith, run_long kind first count), tt);
       says = λ more f. absurd f;
       cause = breaks.rose;
     };
@@ -228,12 +217,12 @@ module _ (old new : Intake) (image : Typed) (first count place : ℕ) (kind : Ki
       reads = record {
         bytes = bytes ++ last;
         takes = takes;
-        long = (omega (arith, fewer, run_long kind first count), tt);
+        long = (omega (arith, run_long kind first count), tt);
         says = λ more f. stopped more (nothing_follows new.left more end f);
         cause = tt;
       };
       kept = refl;
-      keeps = run_keeps kind count first image.numbers (values_of kind whole bytes) (omega (arith, values_long kind whole bytes, lt));
+      keeps = run_keeps kind count first image.numbers (values_of kind whole bytes) (omega (arith, values_long kind whole bytes));
     }
 
 -- ---- how the bytes that came are parted
@@ -246,7 +235,7 @@ module _ (kind : Kind) (count n : ℕ) (buf : List ℕ) (room : length buf ≡ c
   below = div-mul-le_self n wide
 
   front_long : length (take (n / width kind * width kind) buf) ≡ n / width kind * width kind
-  front_long = length-take-le (n / wide * wide) buf (omega (arith, below, bound))
+  front_long = length-take-le (n / wide * wide) buf (omega arith)
 
   -- all of them are whole
   pub record AllCame : Type 0 where
@@ -257,9 +246,9 @@ module _ (kind : Kind) (count n : ℕ) (buf : List ℕ) (room : length buf ≡ c
   pub all_came : count ≤ n / width kind → AllCame
   all_came enough =
       let swap : count * wide ≡ wide * count = grind arith in
-      let most : n / wide ≤ count = div-le_of_le-mul wide (omega (arith, bound, room, swap)) in
-      let whole : n / wide ≡ count = omega (arith, most, enough) in
-      let all : n / wide * wide ≡ n = omega (arith, ap (λ (k : ℕ). k * wide) whole, below, bound, room) in
+      let most : n / wide ≤ count = div-le_of_le-mul wide (omega arith) in
+      let whole : n / wide ≡ count = omega arith in
+      let all : n / wide * wide ≡ n = omega (arith, ap (λ (k : ℕ). k * wide) whole) in
       record { whole = whole; all = all; long = length-take-le n buf bound ∙ sym all ∙ ap (λ (k : ℕ). k * wide) whole }
 
   -- the rest is part of a code
@@ -278,7 +267,7 @@ module _ (kind : Kind) (count n : ℕ) (buf : List ℕ) (room : length buf ≡ c
       record {
         parts = parts;
         long = front_long;
-        cut = omega (arith, long, length-drop m (take n buf), lt-div-mul-add {a = n} {b = wide} (width_positive kind), below);
-        fewer = omega (arith, ap length parts, long, bound, room);
-        short = omega (arith, room, (div-lt_iff_lt-mul {k = wide} {x = n} {y = count} (width_positive kind)).0 lt);
+        cut = omega (arith, length-drop m (take n buf), lt-div-mul-add {a = n} {b = wide} (width_positive kind));
+        fewer = omega (arith, ap length parts);
+        short = omega (arith, (div-lt_iff_lt-mul {k = wide} {x = n} {y = count} (width_positive kind)).0 lt);
       }

@@ -1,15 +1,16 @@
 -- What each description set has, and the most bytes of its streams.
 use Rattle.vms_load.proofs.Facade.{◌≡◌, ℕ, ◌+◌, ◌<◌, ◌≤◌, List, [], ◌∷◌, ◌++◌, length, map, Option, Some, None, ℤ, refl, sym, ap, ◌∙◌, subst, arith, true}
 use Rattle.vms_load.proofs.Facade.{nat_le, suc, get_or, Bool, ◌&&◌, zero, ◌*◌, ◌^◌, false, and_parts, leb-true, get_or-map, slice_get-get_or, slice_get_within}
-use Rattle.vms_load.proofs.Facade.{get_or_from_slice_get, slice_get, Set, Sub, Desc, AtLeast, Field, Device, Slot, Number, Constant, Filler, Rule, Cell}
-use Rattle.vms_load.proofs.Facade.{no_cell, no_desc, desc_slots, device_cells, first, capacity_of, own_cells, own_slots, sub_place, sub_slots, Kind, U8}
-use Rattle.vms_load.proofs.Facade.{own_cell_count, first_fault, WellFormed, has_few, here, item_count, items_in, struct_items, subs_items, devices_items, Part}
-use Rattle.vms_load.proofs.Facade.{AreCells, sub_are, own_are, device_parts, Clean, struct_clean, sub_clean, device_at, is_well_formed, first_cell, HasPart}
-use Rattle.vms_load.proofs.Facade.{desc_at, sub_at, kinds_at, few_cells, own_inside_device, sub_inside, none_is, few_items, few_devices, IsIn, part_of}
+use Rattle.vms_load.proofs.Facade.{get_or_from_slice_get, slice_get, State, at_start, Set, Sub, Desc, AtLeast, Field, Device, Slot, Number, Constant, Filler}
+use Rattle.vms_load.proofs.Facade.{Rule, Cell, no_cell, no_desc, desc_slots, device_cells, first, capacity_of, own_cells, own_slots, sub_place, sub_slots, Kind}
+use Rattle.vms_load.proofs.Facade.{U8, own_cell_count, first_fault, WellFormed, has_few, here, item_count, items_in, struct_items, subs_items, devices_items}
+use Rattle.vms_load.proofs.Facade.{Part, AreCells, sub_are, own_are, device_parts, Clean, struct_clean, sub_clean, device_at, is_well_formed, first_cell}
+use Rattle.vms_load.proofs.Facade.{HasPart, desc_at, sub_at, kinds_at, few_cells, own_inside_device, sub_inside, none_is, few_items, few_devices, IsIn, part_of}
 use Rattle.vms_load.proofs.Facade.{part_desc, part_base, bytes_of, subs_due, HasSpot, table, spot_slots, steps_of, WalkStep, IsOfKind, AreOfKinds, PartAt}
 use Rattle.vms_load.proofs.Facade.{is_small_item, is_small_optional, Item, Num, Equal, Unused, Struct, MOST_UNUSED, first_long, width_small, item_bytes}
 use Rattle.vms_load.proofs.Facade.{fields_bytes, desc_bytes, struct_bytes, section_bytes, sections_due, subs_bytes, devices_most, FOOT_LENGTH, LONGEST_HEAD}
 use Rattle.vms_load.proofs.Facade.{LONGEST_SUB_HEAD}
+use Rattle.vms_load.proofs.StreamLengths.{two_more}
 use Rattle.vms_spec.specs.declared.Part.TheVariants as parts
 
 pub well_of : (set : Set) → is_well_formed set ≡ true → WellFormed set
@@ -40,8 +41,8 @@ module _ (set : Set) (well : is_well_formed set ≡ true) (k : ℕ) (lt : k < le
       let size = ap (λ (p : Part). own_cell_count set (desc_at set p)) part in
       record {
         part = subst (HasPart set) (sym part) (has_part sub h);
-        few = omega (arith, long, few_cells set well k);
-        room = omega (arith, here, size, long, inside sub h);
+        few = omega (arith, few_cells set well k);
+        room = omega (arith, inside sub h);
       }
 
 -- the numbers of a part are of the kinds of the device's cells
@@ -57,8 +58,7 @@ desc_kinds : (set : Set) (k : ℕ) (sub : Option ℕ) → IsIn (device_at set k)
 desc_kinds set k None h v n = of_kinds (device_cells set (device_at set k)) (own_slots set (device_at set k) v n) (own_are set (device_at set k) v n)
 desc_kinds set k (Some j) h v n =
     let d = device_at set k in
-    let none : Sub = record { desc = no_desc; needed = AtLeast 0 } in
-    of_kinds (device_cells set d) (sub_slots set (sub_at d j) v n (sub_place set (own_cells set d) d.subs j)) (sub_are set d j (sub_at d j) v n (slice_get-get_or d.subs j none h))
+    of_kinds (device_cells set d) (sub_slots set (sub_at d j) v n (sub_place set (own_cells set d) d.subs j)) (sub_are set d j (sub_at d j) v n (slice_get-get_or d.subs j _ h))
 
 pub part_kinds : (set : Set) (k : ℕ) (sub : Option ℕ) → IsIn (device_at set k) sub → (spot : PartAt) → spot.part ≡ part_of k sub → spot.base ≡ first_cell set spot.part → (n : List ℤ)
     → AreOfKinds (kinds_at set k) (spot_slots set spot n)
@@ -119,8 +119,11 @@ module _ (set : Set) (well : WellFormed set) where
 
 -- ---- no item has more than 4,096 bytes
 
+abbrev IsSmall : ℕ → ℕ → Type 0
+IsSmall bytes items = bytes ≤ MOST_UNUSED * items
+
 abbrev Small : List ℕ → List ℕ → Type 0
-Small bytes items = (j : ℕ) → get_or bytes j 0 ≤ MOST_UNUSED * get_or items j 0
+Small bytes items = (j : ℕ) → IsSmall (get_or bytes j 0) (get_or items j 0)
 
 item_small : (bytes items : List ℕ) → Small bytes items → (item : Item) → is_small_item item ≡ true → item_bytes bytes item ≤ MOST_UNUSED * item_count items item
 item_small bytes items s (Num kind) h = omega (arith, width_small kind)
@@ -133,21 +136,12 @@ times_small zero b i h = omega arith
 times_small (suc n) b i h =
     let e : suc n * b ≡ b + n * b = grind arith in
     let f : suc n * i ≡ i + n * i = grind arith in
-    let g : n * b ≤ MOST_UNUSED * (n * i) = times_small n b i h in
-    omega (arith, e, f, g, h)
+    omega (arith, times_small n b i h)
 
 fields_small : (bytes items : List ℕ) → Small bytes items → (fs : List Field) → AreSmall fs → fields_bytes bytes fs ≤ MOST_UNUSED * items_in items fs
 fields_small bytes items s [] h = omega arith
 fields_small bytes items s (f ∷ fs) h =
     omega (arith, times_small (capacity_of f.count) (item_bytes bytes f.item) (item_count items f.item) (item_small bytes items s f.item h.0), fields_small bytes items s fs h.1)
-
-small_append : (bytes items : List ℕ) (b i : ℕ) → length bytes ≡ length items → Small bytes items → b ≤ MOST_UNUSED * i → Small (bytes ++ b ∷ []) (items ++ i ∷ [])
-small_append [] [] b i e s h zero = h
-small_append [] [] b i e s h (suc j) = omega arith
-small_append [] (y ∷ items) b i e s h j = absurd (omega arith)
-small_append (x ∷ bytes) [] b i e s h j = absurd (omega arith)
-small_append (x ∷ bytes) (y ∷ items) b i e s h zero = s zero
-small_append (x ∷ bytes) (y ∷ items) b i e s h (suc j) = small_append bytes items b i (omega arith) (λ n. s (suc n)) h j
 
 abbrev items_to : List Desc → ℕ → List ℕ
 items_to ds k = first (λ sizes d. items_in sizes d.fields) ds k
@@ -161,7 +155,7 @@ structs_small ds small zero le j = omega arith
 structs_small ds small (suc k) le j =
     let s = structs_small ds small k (omega arith) in
     let d = get_or ds k no_desc in
-    small_append (struct_bytes ds k) (items_to ds k) (desc_bytes (struct_bytes ds k) d) (items_in (items_to ds k) d.fields) (same_long ds k) s
+    two_more IsSmall 0 0 (omega arith) (struct_bytes ds k) (items_to ds k) (same_long ds k) s (desc_bytes (struct_bytes ds k) d) (items_in (items_to ds k) d.fields)
     (fields_small (struct_bytes ds k) (items_to ds k) s d.fields (small k (omega arith))) j
 
 -- ---- the parts of a set
@@ -179,7 +173,7 @@ module _ (set : Set) (well : is_well_formed set ≡ true) where
   devices_small [] h = omega arith
   devices_small (d ∷ devices) h =
       let here = h 0 d refl in
-      omega (arith, here.1, desc_small d.desc here.0, subs_small d.subs here.2, devices_small devices (λ k e x. h (suc k) e x))
+      omega (arith, desc_small d.desc here.0, subs_small d.subs here.2, devices_small devices (λ k e x. h (suc k) e x))
 
   part_of_device : (k : ℕ) (d : Device) → slice_get set.devices k ≡ Some d → AreSmall d.desc.fields × (length d.subs ≤ 32) × ((j : ℕ) (s : Sub) → slice_get d.subs j ≡ Some s → AreSmall s.desc.fields)
   part_of_device k d e =
@@ -205,6 +199,9 @@ subs_all set (s ∷ subs) = omega (arith, subs_all set subs)
 section_is : (set : Set) (d : Device) → section_bytes set d ≡ LONGEST_HEAD + FOOT_LENGTH + LONGEST_SUB_HEAD * length d.subs + (bytes_of set d.desc + subs_bytes set d.subs)
 section_is set d = omega (arith, subs_all set d.subs)
 
-pub all_due : (set : Set) (devices : List Device) → sections_due set devices (map (λ d. false) devices) ≡ devices_most set devices
+all_due : (set : Set) (devices : List Device) → sections_due set devices (map (λ d. false) devices) ≡ devices_most set devices
 all_due set [] = refl
 all_due set (d ∷ devices) = omega (arith, section_is set d, all_due set devices)
+
+pub start_due : (set : Set) {state : State} → state ≡ at_start set → sections_due set set.devices state.came ≡ devices_most set set.devices
+start_due set e = ap (λ (s : State). sections_due set set.devices s.came) e ∙ all_due set set.devices

@@ -21,8 +21,7 @@ use Rattle.vms_load.specs.declared.fault.LoadFault.TheVariants as faults
 
 due_is : (between : Between) → IsBetween (is_first between) (is_configured between) ≡ due_of between
 due_is First = refl
-due_is AfterConfiguration = refl
-due_is Later = refl
+due_is _ = refl
 
 module _ (set : Set) (names : List (List ℕ)) where
   abbrev go : State → Onward
@@ -128,16 +127,15 @@ module _ (set : Set) (names : List (List ℕ)) (state : State) where
       let four : 4 ≡ (place + 4) - place = omega arith in
       let start : Stand = record { at = place; held = None } in
       let middle : Stand = record { at = place + 4; held = None } in
-      let lead : LeadsOn (λ p l. go set names (at_spot Headed) (place + 4) (drop 4 l)) (go set names (at_spot Headed)) start middle (Some rest) (Some (drop 4 rest)) = (refl, ap (λ (n : ℕ). drop n rest) four) in
       reads_on {X = Unit {0}} (Some rest) (Some (drop 4 rest)) left (λ p l. go set names (at_spot Headed) (place + 4) (drop 4 l)) (go set names (at_spot Headed)) onward start middle to (concerns None result)
-      (omega arith) (up result far) lead (version_read (place + 4) to (drop 4 rest) left result (further result far) free a)
+      (omega arith) (up result far) (refl, ap (λ (n : ℕ). drop n rest) four) (version_read (place + 4) to (drop 4 rest) left result (further result far) free a)
     where
       up : (result : Result (Unit {0}) FrameFault) → OnOk result (to.at ≡ place + 8) → OnOk (concerns None result) (place + 4 ≤ to.at)
-      up (Ok x) h = omega (arith, h)
+      up (Ok x) h = omega arith
       up (Err e) h = tt
 
       further : (result : Result (Unit {0}) FrameFault) → OnOk result (to.at ≡ place + 8) → OnOk result (to.at ≡ (place + 4) + 4)
-      further (Ok x) h = omega (arith, h)
+      further (Ok x) h = omega arith
       further (Err e) h = tt
 
   by_magic : (place : ℕ) (to : Stand) (rest : List ℕ) (left : Option (List ℕ)) (result : Result (Unit {0}) FrameFault) (found : Seen) → IsMagic rest found → OnOk result (to.at ≡ place + 8) → OnOk result (to.held ≡ None)
@@ -145,12 +143,11 @@ module _ (set : Set) (names : List (List ℕ)) (state : State) where
   by_magic place to rest left result (Good x n) is far free a =
       let goes : asked Before x n ≡ Goes 4 (at_spot Headed) = ap (λ (y : Piece). asked Before y n) is.0 ∙ ap (λ (m : ℕ). asked Before (Magic (take 4 rest)) m) is.1 in
       subst (λ (v : Verdict State). Reads (reading_after (go set names) place rest v) onward place to rest left (concerns None result)) (sym goes) (on_version place to rest left result far free a)
-  by_magic place to rest left (Ok x) (Bad n reason) is far free a = let h = a.0 in cc
-  by_magic place to rest left (Ok x) Short is far free a = let h = a.0 in cc
   by_magic place to rest left (Err fault) (Bad n reason) is far free a =
       unit_fault (go set names) None (asked Before) place rest {X = Unit {0}} (λ _. Magic (take 4 rest)) (λ _. 4) (Bad n reason) left onward to fault a
   by_magic place to rest left (Err fault) Short is far free a =
       unit_fault (go set names) None (asked Before) place rest {X = Unit {0}} (λ _. Magic (take 4 rest)) (λ _. 4) Short left onward to fault a
+  by_magic place to rest left (Ok x) _ is far free a = let h = a.0 in cc
 
   pub head_read : (from to : Stand) (old left : Option (List ℕ)) (result : Result (Unit {0}) FrameFault) → from.held ≡ None → OnOk result (to.at ≡ from.at + 8) → OnOk result (to.held ≡ None)
       → IfSome old (λ rest. AnswersHead from.at rest left result) → ReadsOn (go set names (at_spot Before)) onward from to old left (concerns None result)
@@ -187,7 +184,7 @@ module _ (set : Set) (names : List (List ℕ)) where
   all_refused : {X : Type 0} (x : Option (Reading State)) (staged : Staged) (input : List ℕ) (left : Option (List ℕ)) (next : X → Onward) (from : ℕ) (to : Stand) (e : LoadFault) → from ≡ 0
       → Reads x next from to input left (Err e) → ReadsAll set x staged input left (Err e)
   all_refused x staged input left next from to (faults.Refused r) zero h =
-      let all : r.at - from + h.long ≡ r.at + h.long = omega (arith, zero) in
+      let all : r.at - from + h.long ≡ r.at + h.long = omega arith in
       subst (λ (y : Option (Reading State)). ReadsAll set y staged input left (Err (faults.Refused r))) (sym h.is) (refl, h.taken ∙ ap (λ (k : ℕ). Some (drop k input)) all)
   all_refused x staged input left next from to faults.ReadFault zero h = all_fault x staged input left
 
@@ -262,14 +259,12 @@ module _ (set : Set) (names : List (List ℕ)) where
     closed_fault : (place end : ℕ) (input rest : List ℕ) (left : Option (List ℕ)) (at : ℕ) (reason : Reason) (f : Seen) → rest ≡ drop place input → at ≡ place → Fails f rest left reason
         → ReadsAll set (by_rest place rest f) staged input left (Err (concerning None (frames.Refused at reason)))
     closed_fault place end input rest left at reason f there here h =
-        let start : 0 ≤ place = omega arith in
-        let all : place ≡ place - 0 = omega arith in
         let judged = by_rest place rest f in
         let next : Unit {0} → Onward = λ x. goes ended in
         let to : Stand = record { at = end; held = None } in
         let e = concerning None (frames.Refused at reason) in
         all_refused judged staged input left next 0 to e refl
-        (still_behind judged judged next next 0 place to to input rest left e start (there ∙ ap (λ (k : ℕ). drop k input) all) refl
+        (still_behind judged judged next next 0 place to to input rest left e (omega arith) (there ∙ ap (λ (k : ℕ). drop k input) (omega arith)) refl
         (unit_fails goes None (ask set names ended) place rest f left next to at reason here h))
 
     by_last : (place end b : ℕ) (input more : List ℕ) (left : Option (List ℕ)) (result : Result (Unit {0}) FrameFault) (f : Seen) → IsLast f → b ∷ more ≡ drop place input
@@ -277,12 +272,11 @@ module _ (set : Set) (names : List (List ℕ)) where
     by_last place end b input more left (Ok x) (Good unit n) is there h =
         let rest = b ∷ more in
         accepts place n end input rest left closed_state (by_rest place rest (Good unit n)) (ap (λ (v : Verdict State). reading_after goes place rest v) is ∙ unit_of set names closed_state (place + n) (drop n rest)) refl refl h.0 h.1 there
-    by_last place end b input more left (Ok x) (Bad n reason) is there h = absurd h
-    by_last place end b input more left (Ok x) Short is there h = absurd h
     by_last place end b input more left (Err (frames.Refused at reason)) (Good unit n) is there h = absurd h.1
     by_last place end b input more left (Err (frames.Refused at reason)) (Bad n why) is there h = closed_fault place end input (b ∷ more) left at reason (Bad n why) there h.0 h.1
     by_last place end b input more left (Err (frames.Refused at reason)) Short is there h = closed_fault place end input (b ∷ more) left at reason Short there h.0 h.1
     by_last place end b input more left (Err frames.ReadFault) f is there h = all_fault (by_rest place (b ∷ more) f) staged input left
+    by_last place end b input more left (Ok x) _ is there h = absurd h
 
     closed_at : (place end : ℕ) (input rest : List ℕ) (left : Option (List ℕ)) (result : Result (Unit {0}) FrameFault) → rest ≡ drop place input → AnswersEnd rest (seen AfterEnd nothing_known rest) place end left result
         → ReadsAll set (goes ended place rest) staged input left (closes_at end result)
@@ -302,7 +296,7 @@ module _ (set : Set) (names : List (List ℕ)) where
     closed start None mid left from to end result is zero held free l h = tt
     closed start (Some input) None left from to end result is zero held free l h = absurd l
     closed start (Some input) (Some rest) left from to end result is zero held free l h =
-        let all : to.at - from.at ≡ to.at = omega (arith, zero) in
+        let all : to.at - from.at ≡ to.at = omega arith in
         let here : ahead to.held rest ≡ rest = ap (λ (o : Option ℕ). ahead o rest) free in
         let there : rest ≡ drop to.at input = sym here ∙ l.1 ∙ ap (λ (n : ℕ). drop n (ahead from.held input)) all ∙ ap (λ (o : Option ℕ). drop to.at (ahead o input)) held in
         subst (λ (x : Option (Reading State)). ReadsAll set x staged input left (closes_at end result))

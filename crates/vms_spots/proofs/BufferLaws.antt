@@ -1,15 +1,9 @@
 -- What contracts see of a buffer, and what is unchanged when a number is set.
-use Rattle.std.proofs.Common.{◌≡◌, ℕ, ◌+◌, ◌-◌, ◌<◌, ◌≤◌, List, [], ◌∷◌, ◌++◌, length, get_or, take, drop, map, replicate, set, ℤ, pos, negsuc, sym, ap, ◌∙◌, subst, arith, length-append}
-use Rattle.std.proofs.lemmas.Int.{ints}
-use Rattle.std.proofs.lemmas.List.{length-replicate, get_or_read, length-map, get_or-map, get_or-replicate, replicate-append-replicate}
-use Rattle.vms_kinds.specs.declared.Kind.{Kind}
-use Rattle.vms_kinds.specs.declared.Kind.TheVariants.{U8, U16, U32, U64, I8, I16, I32, I64, Bool, Timer}
-use Rattle.vms_kinds.specs.Codes.{width, code, InRange, IsBadBool}
-use Rattle.vms_spec.specs.declared.TheConstants.{MOST_ITEMS}
-use Rattle.vms_spec.proofs.KindLaws.{length-code}
-use Rattle.vms_spots.specs.declared.layout.TheConstants.{MOST_BYTES}
-use Rattle.vms_spots.specs.declared.layout.Spot.{Spot}
-use Rattle.vms_spots.specs.Spots.{aligned, spots_of, end_from, bytes_of, no_spot, kinds_of, raw_from, raw_of, AreOf, number_at, Held, held, IsHeld}
+use Rattle.vms_spots.proofs.Facade.{◌≡◌, ℕ, ◌+◌, ◌-◌, ◌<◌, ◌≤◌, List, [], ◌∷◌, ◌++◌, length, get_or, take, drop, map, replicate, set, ℤ, pos, negsuc, sym, ap}
+use Rattle.vms_spots.proofs.Facade.{◌∙◌, subst, arith, length-append, ints, length-replicate, get_or_read, length-map, get_or-map, get_or-replicate}
+use Rattle.vms_spots.proofs.Facade.{replicate-append-replicate, Kind, U8, U16, U32, U64, I8, I16, I32, I64, Bool, Timer, width, code, InRange, IsBadBool}
+use Rattle.vms_spots.proofs.Facade.{MOST_ITEMS, length-code, MOST_BYTES, Spot, aligned, spots_of, end_from, bytes_of, no_spot, kinds_of, raw_from, raw_of}
+use Rattle.vms_spots.proofs.Facade.{AreOf, number_at, Held, held, IsHeld}
 use Rattle.vms_spots.proofs.SpotLaws.{aligned_is, spot_is, code_at, numbers_are, set_fits, set_raw, code_0, range_0, end_after}
 use Rattle.vms_spots.proofs.LayoutLaws.{few_bytes, laid_again, kinds_again}
 
@@ -19,13 +13,11 @@ raw_long e [] [] long = omega arith
 raw_long e [] (z ∷ numbers) long = absurd (omega arith)
 raw_long e (kind ∷ kinds) [] long = absurd (omega arith)
 raw_long e (kind ∷ kinds) (z ∷ numbers) long =
-    let a = aligned_is kind e in
     let at = aligned (width kind) e in
-    let r = raw_long (at + width kind) kinds numbers (omega (arith, long)) in
     omega (
       arith,
-      a.below,
-      r,
+      (aligned_is kind e).below,
+      raw_long (at + width kind) kinds numbers (omega arith),
       length-append (replicate (at - e) 0) (code kind z ++ raw_from (at + width kind) kinds numbers),
       length-append (code kind z) (raw_from (at + width kind) kinds numbers),
       length-replicate {A = ℕ} (at - e) 0,
@@ -35,17 +27,9 @@ raw_long e (kind ∷ kinds) (z ∷ numbers) long =
 -- a number in range is no invalid bool
 good_bool : (kind : Kind) (z : ℤ) → InRange kind z → IsBadBool kind (code kind z) → ⊥
 unfolding code
-good_bool U8 z h b = cc
-good_bool U16 z h b = cc
-good_bool U32 z h b = cc
-good_bool U64 z h b = cc
-good_bool I8 z h b = cc
-good_bool I16 z h b = cc
-good_bool I32 z h b = cc
-good_bool I64 z h b = cc
-good_bool Timer z h b = cc
 good_bool Bool (pos n) h b = omega (arith, ints, b.1)
-good_bool Bool (negsuc n) h b = omega (arith, ints)
+good_bool Bool (negsuc n) h b = omega arith
+good_bool _ z h b = cc
 
 -- ---- one number
 
@@ -63,15 +47,14 @@ at_spot spots bytes cell s h lt is =
     let kinds = kinds_of spots in
     let numbers = map (number_at bytes) spots in
     let long : length kinds ≡ length spots = length-map spots (λ s. s.kind) in
-    let here : cell < length kinds = omega (arith, long) in
+    let here : cell < length kinds = omega arith in
     let same : s ≡ get_or (spots_of kinds) cell no_spot = is ∙ ap (λ (l : List Spot). get_or l cell no_spot) h.laid in
     let spot = spot_is 0 kinds cell here in
     let kind : s.kind ≡ get_or kinds cell U8 = ap (λ (x : Spot). x.kind) same ∙ spot.kind_is in
     let offset : s.offset ≡ (get_or (spots_of kinds) cell no_spot).offset = ap (λ (x : Spot). x.offset) same in
     let all : length bytes ≡ bytes_of kinds = omega (arith, ap length h.raw, raw_long 0 kinds numbers h.fit.long) in
-    let few : bytes_of kinds ≤ MOST_BYTES = few_bytes kinds (omega (arith, long, h.few)) in
-    let wide : width s.kind ≡ width (get_or kinds cell U8) = ap width kind in
-    let inside : s.offset + width s.kind ≤ length bytes = omega (arith, offset, wide, all, spot.inside) in
+    let few : bytes_of kinds ≤ MOST_BYTES = few_bytes kinds (omega arith) in
+    let inside : s.offset + width s.kind ≤ length bytes = omega (arith, offset, (ap width kind), all, spot.inside) in
     let number : number_at bytes s ≡ get_or numbers cell (pos 0) =
     ap (number_at bytes) is ∙ sym (get_or-map (number_at bytes) spots cell no_spot (pos 0) lt) in
     let fits : InRange s.kind (number_at bytes s) =
@@ -85,7 +68,7 @@ at_spot spots bytes cell s h lt is =
     code_is ∙ ap (λ (k : Kind). code k (get_or numbers cell (pos 0))) (sym kind)
     ∙ ap (code s.kind) (sym number) in
     record {
-      small = omega (arith, inside, all, few);
+      small = omega arith;
       inside = inside;
       kind = kind;
       number = number;
@@ -98,8 +81,7 @@ at_spot spots bytes cell s h lt is =
 pub at_cell : (spots : List Spot) (bytes : List ℕ) (cell : ℕ) (s : Spot) (seen : Held) → held spots bytes ≡ seen → IsHeld spots bytes → cell < length seen.numbers
     → s ≡ get_or spots cell s → AtSpot spots bytes cell s
 at_cell spots bytes cell s seen same h lt is =
-    let all : cell < length (map (number_at bytes) spots) = subst (λ (x : Held). cell < length x.numbers) (sym same) lt in
-    let within : cell < length spots = omega (arith, all, length-map spots (number_at bytes)) in
+    let within : cell < length spots = omega (arith, subst (λ (x : Held). cell < length x.numbers) (sym same) lt, length-map spots (number_at bytes)) in
     at_spot spots bytes cell s h within (get_or_read spots cell s within is no_spot)
 
 -- ---- bytes of numbers
@@ -135,13 +117,11 @@ puts spots bytes new part cell n z s h lt is fits p w e =
     let kinds = kinds_of spots in
     let numbers = map (number_at bytes) spots in
     let a = at_spot spots bytes cell s h lt is in
-    let long : length kinds ≡ length spots = length-map spots (λ s. s.kind) in
-    let here : cell < length kinds = omega (arith, long) in
     let offset : (get_or (spots_of kinds) cell no_spot).offset ≡ s.offset = ap (λ (l : List Spot). (get_or l cell no_spot).offset) (sym h.laid) ∙ ap (λ (x : Spot). x.offset) (sym is) in
     let raw : new ≡ raw_of kinds (set numbers cell z) =
     e ∙ ap (λ (l : List ℕ). take s.offset bytes ++ (l ++ drop n (drop s.offset bytes))) (p ∙ ap (λ (k : Kind). code k z) a.kind)
     ∙ ap (λ (l : List ℕ). take s.offset l ++ (code (get_or kinds cell U8) z ++ drop n (drop s.offset l))) h.raw
-    ∙ set_raw kinds numbers cell z s.offset n here h.fit.long offset (ap width (sym a.kind) ∙ sym w) in
+    ∙ set_raw kinds numbers cell z s.offset n (omega (arith, length-map spots (λ s. s.kind))) h.fit.long offset (ap width (sym a.kind) ∙ sym w) in
     holds spots (set numbers cell z) new h.few h.laid (set_fits kinds numbers cell z h.fit (subst (λ (k : Kind). InRange k z) a.kind fits)) raw
 
 -- the same by what contracts see
@@ -150,33 +130,29 @@ pub puts_seen : (spots : List Spot) (bytes new part : List ℕ) (cell n : ℕ) (
     → new ≡ take s.offset bytes ++ (part ++ drop n (drop s.offset bytes))
     → IsHeld spots new × (held spots new ≡ record seen { numbers = set seen.numbers cell z }) × (length new ≡ length bytes)
 puts_seen spots bytes new part cell n z s seen same h lt is fits p w e =
-    let kinds = kinds_of spots in
     let numbers = map (number_at bytes) spots in
     let all : cell < length numbers = subst (λ (x : Held). cell < length x.numbers) (sym same) lt in
-    let within : cell < length spots = omega (arith, all, length-map spots (number_at bytes)) in
+    let within : cell < length spots = omega (arith, length-map spots (number_at bytes)) in
     let is_at : s ≡ get_or spots cell no_spot = get_or_read spots cell s within is no_spot in
     let a = at_spot spots bytes cell s h within is_at in
     let ranged : InRange s.kind z = subst (λ (k : Kind). InRange k z) (sym a.kind) (subst (λ (x : Held). InRange (get_or x.kinds cell U8) z) (sym same) fits) in
     let r = puts spots bytes new part cell n z s h within is_at ranged p w e in
     let seen_is : held spots new ≡ record seen { numbers = set seen.numbers cell z } =
     r.seen ∙ ap (λ (x : Held). let y : Held = record x { numbers = set x.numbers cell z } in y) same in
-    (r.held_is, seen_is, omega (arith, r.long, ap length h.raw, raw_long 0 kinds numbers h.fit.long))
+    (r.held_is, seen_is, omega (arith, ap length h.raw, raw_long 0 (kinds_of spots) numbers h.fit.long))
 
 -- ---- all numbers 0
 
 pub zeros : (e : ℕ) (kinds : List Kind) → raw_from e kinds (replicate (length kinds) (pos 0)) ≡ replicate (end_from e kinds - e) 0
 zeros e [] = let none : e - e ≡ 0 = omega arith in ap (λ (n : ℕ). replicate n 0) (sym none)
 zeros e (kind ∷ kinds) =
-    let a = aligned_is kind e in
     let at = aligned (width kind) e in
     let end = end_from (at + width kind) kinds in
-    let after = end_after (at + width kind) kinds in
-    let sum : (at - e) + (width kind + (end - (at + width kind))) ≡ end - e = omega (arith, a.below, after) in
     ap (λ (l : List ℕ). replicate (at - e) 0 ++ (l ++ raw_from (at + width kind) kinds (replicate (length kinds) (pos 0)))) (code_0 kind)
     ∙ ap (λ (l : List ℕ). replicate (at - e) 0 ++ (replicate (width kind) 0 ++ l)) (zeros (at + width kind) kinds)
     ∙ ap (λ (l : List ℕ). replicate (at - e) 0 ++ l) (replicate-append-replicate (width kind) (end - (at + width kind)) 0)
     ∙ replicate-append-replicate (at - e) (width kind + (end - (at + width kind))) 0
-    ∙ ap (λ (n : ℕ). replicate n 0) sum
+    ∙ ap (λ (n : ℕ). replicate n 0) (omega (arith, end_after (at + width kind) kinds, aligned_is kind e))
 
 zeros_fit : (kinds : List Kind) → AreOf kinds (replicate (length kinds) (pos 0))
 zeros_fit kinds = record {
@@ -188,11 +164,9 @@ pub starts : (spots : List Spot) (bytes : List ℕ) (n : ℕ) → length spots �
     → n ≡ bytes_of (kinds_of spots) → bytes ≡ replicate n 0 → Holds spots (replicate (length spots) (pos 0)) bytes
 starts spots bytes n few laid size e =
     let kinds = kinds_of spots in
-    let long : length kinds ≡ length spots = length-map spots (λ s. s.kind) in
-    let all : end_from 0 kinds - 0 ≡ bytes_of kinds = omega arith in
-    subst (λ (m : ℕ). Holds spots (replicate m (pos 0)) bytes) long
+    subst (λ (m : ℕ). Holds spots (replicate m (pos 0)) bytes) (length-map spots (λ s. s.kind))
     (holds spots (replicate (length kinds) (pos 0)) bytes few laid (zeros_fit kinds)
-    (e ∙ ap (λ (m : ℕ). replicate m 0) (size ∙ sym all) ∙ sym (zeros 0 kinds)))
+    (e ∙ ap (λ (m : ℕ). replicate m 0) (size ∙ sym (omega arith)) ∙ sym (zeros 0 kinds)))
 
 -- a new buffer of these kinds
 pub begun : (kinds : List Kind) (spots : List Spot) (bytes : List ℕ) (n : ℕ) → length kinds ≤ MOST_ITEMS → spots ≡ spots_of kinds
@@ -214,4 +188,4 @@ same_spots spots others bytes more seen other s o h k same =
     let kinds : kinds_of spots ≡ kinds_of others = ap (λ (x : Held). x.kinds) s ∙ same ∙ sym (ap (λ (x : Held). x.kinds) o) in
     let long = raw_long 0 (kinds_of spots) (map (number_at bytes) spots) h.fit.long in
     let longer = raw_long 0 (kinds_of others) (map (number_at more) others) k.fit.long in
-    (h.laid ∙ ap spots_of kinds ∙ sym k.laid, omega (arith, ap length h.raw, ap length k.raw, long, longer, ap (end_from 0) kinds))
+    (h.laid ∙ ap spots_of kinds ∙ sym k.laid, omega (arith, ap length h.raw, ap length k.raw, ap (end_from 0) kinds))

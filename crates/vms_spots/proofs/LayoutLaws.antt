@@ -1,14 +1,7 @@
 -- Spots that are laid out in order.
-use Rattle.vms_spec.specs.declared.TheConstants.{MOST_ITEMS}
-use Rattle.std.proofs.Common.{◌≡◌, Some, ℕ, suc, ◌+◌, ◌-◌, ◌*◌, ◌<◌, ◌≤◌, List, [], ◌∷◌, ◌++◌, length, get_or, drop, map, refl, sym, ap, ◌∙◌, arith, append_assoc, append-nil}
-use Rattle.std.proofs.lemmas.List.{drop_all, drop_more, length-map}
-use Rattle.std.proofs.lemmas.Option.{slice_get_within, get_or_from_slice_get}
-use Rattle.std.specs.List.{slice_get}
-use Rattle.vms_kinds.specs.declared.Kind.{Kind}
-use Rattle.vms_kinds.specs.Codes.{width}
-use Rattle.vms_spots.specs.declared.layout.TheConstants.{MOST_BYTES}
-use Rattle.vms_spots.specs.declared.layout.Spot.{Spot}
-use Rattle.vms_spots.specs.Spots.{aligned, spots_from, spots_of, bytes_of, no_spot, kinds_of}
+use Rattle.vms_spots.proofs.Facade.{◌≡◌, Some, ℕ, suc, ◌+◌, ◌-◌, ◌*◌, ◌<◌, ◌≤◌, List, [], ◌∷◌, ◌++◌, length, get_or, drop, refl, sym, ap, ◌∙◌, arith}
+use Rattle.vms_spots.proofs.Facade.{append_assoc, append-nil, drop_all, drop_more, length-map, slice_get_within, get_or_from_slice_get, slice_get, MOST_ITEMS}
+use Rattle.vms_spots.proofs.Facade.{Kind, width, MOST_BYTES, Spot, aligned, spots_from, spots_of, bytes_of, no_spot, kinds_of}
 use Rattle.vms_spots.proofs.SpotLaws.{aligned_is, kinds_are, last_end, end_small}
 
 -- the spots so far and the remaining ones are the whole
@@ -64,13 +57,12 @@ is_last spots s n few laid long is =
     let all : length kinds ≡ suc n = length-map spots (λ s. s.kind) ∙ long in
     let same : s ≡ get_or (spots_of kinds) n no_spot = is ∙ ap (λ (l : List Spot). get_or l n no_spot) laid in
     let end : s.offset + width s.kind ≡ bytes_of kinds = ap (λ (x : Spot). x.offset + width x.kind) same ∙ last_end 0 kinds n all in
-    let bound : bytes_of kinds ≤ MOST_BYTES = few_bytes kinds (omega (arith, all, long)) in
-    record { small = omega (arith, end, bound); end = end; bound = bound }
+    let bound : bytes_of kinds ≤ MOST_BYTES = few_bytes kinds (omega arith) in
+    record { small = omega arith; end = end; bound = bound }
 
 -- the same if the list has a last spot
 pub last_is : (spots : List Spot) (s : Spot) → length spots ≤ MOST_ITEMS → spots ≡ spots_of (kinds_of spots)
     → slice_get spots (length spots - 1) ≡ Some s → IsLast (kinds_of spots) s
 last_is spots s few laid got =
     let n = length spots - 1 in
-    let within : n < length spots = slice_get_within spots n s got in
-    is_last spots s n few laid (omega (arith, within)) (sym (get_or_from_slice_get spots n s no_spot got))
+    is_last spots s n few laid (omega (arith, slice_get_within spots n s got)) (sym (get_or_from_slice_get spots n s no_spot got))

@@ -1,4 +1,5 @@
 pub mod BufferLaws
+pub mod Facade
 pub mod LayoutLaws
 pub mod PutLaws
 pub mod RunLaws

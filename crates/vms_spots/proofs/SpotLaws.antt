@@ -1,47 +1,21 @@
 -- The spots of kinds: each at a multiple of its width, inside of the buffer, apart from the others;
 -- and the bytes there.
-use Rattle.std.proofs.Common.{◌≡◌, ◌⊎◌, inl, inr, ℕ, zero, suc, ◌+◌, ◌-◌, ◌*◌, ◌%◌, ◌<◌, ◌≤◌, List, [], ◌∷◌, ◌++◌, length, get_or, take, drop, map, replicate, set, ℤ, pos, refl, sym, ap, ◌∙◌, subst, arith, append_assoc, length-append}
-use Rattle.std.proofs.lemmas.Int.{ints}
-use Rattle.std.proofs.lemmas.List.{length-replicate, length-map, length-set, drop_at, take_at, get_or-map, set-get_or, ext_get_or, get_or-set_same, get_or-set_other}
-use Rattle.std.proofs.lemmas.Bool.{cases_eq}
-use Rattle.vms_kinds.specs.declared.Kind.{Kind}
-use Rattle.vms_kinds.specs.declared.Kind.TheVariants.{U8, U16, U32, U64, I8, I16, I32, I64, Bool, Timer}
-use Rattle.vms_kinds.specs.Codes.{width, code, value_of, InRange}
-use Rattle.vms_spec.proofs.KindLaws.{length-code, value_code}
-use Rattle.vms_spots.specs.declared.layout.Spot.{Spot}
-use Rattle.vms_spots.specs.Spots.{aligned, spots_from, spots_of, end_from, no_spot, kinds_of, raw_from, raw_of, AreOf, number_at, AreApart}
+use Rattle.vms_spots.proofs.Facade.{◌≡◌, ◌⊎◌, inl, inr, ℕ, zero, suc, ◌+◌, ◌-◌, ◌*◌, ◌%◌, ◌<◌, ◌≤◌, List, [], ◌∷◌, ◌++◌, length, get_or, take, drop, map}
+use Rattle.vms_spots.proofs.Facade.{replicate, set, ℤ, pos, refl, sym, ap, ◌∙◌, subst, arith, append_assoc, length-append, ints, length-replicate, length-map}
+use Rattle.vms_spots.proofs.Facade.{length-set, drop_at, take_at, get_or-map, set-get_or, ext_get_or, get_or-set_same, get_or-set_other, cases_eq, Kind, U8}
+use Rattle.vms_spots.proofs.Facade.{U16, U32, U64, I8, I16, I32, I64, Bool, Timer, width, code, value_of, InRange, length-code, value_code, Spot, aligned}
+use Rattle.vms_spots.proofs.Facade.{spots_from, spots_of, end_from, no_spot, kinds_of, raw_from, raw_of, AreOf, number_at, AreApart}
 
 -- ---- the least multiple
 
 pub record Aligned (w n at : ℕ) : Type 0 where
   pub below : n ≤ at
-  pub near : at < n + w
   pub whole : at % w ≡ 0
   pub eighth : (k : ℕ) → n ≤ 8 * k → at + w ≤ 8 * k + 8
 
-aligned_1 : (n : ℕ) → Aligned 1 n (aligned 1 n)
-aligned_1 n = record { below = omega arith; near = omega arith; whole = omega arith; eighth = λ k h. omega arith }
-
-aligned_2 : (n : ℕ) → Aligned 2 n (aligned 2 n)
-aligned_2 n = record { below = omega arith; near = omega arith; whole = omega arith; eighth = λ k h. omega arith }
-
-aligned_4 : (n : ℕ) → Aligned 4 n (aligned 4 n)
-aligned_4 n = record { below = omega arith; near = omega arith; whole = omega arith; eighth = λ k h. omega arith }
-
-aligned_8 : (n : ℕ) → Aligned 8 n (aligned 8 n)
-aligned_8 n = record { below = omega arith; near = omega arith; whole = omega arith; eighth = λ k h. omega arith }
-
 pub aligned_is : (kind : Kind) (n : ℕ) → Aligned (width kind) n (aligned (width kind) n)
-aligned_is U8 n = aligned_1 n
-aligned_is U16 n = aligned_2 n
-aligned_is U32 n = aligned_4 n
-aligned_is U64 n = aligned_8 n
-aligned_is I8 n = aligned_1 n
-aligned_is I16 n = aligned_2 n
-aligned_is I32 n = aligned_4 n
-aligned_is I64 n = aligned_8 n
-aligned_is Bool n = aligned_1 n
-aligned_is Timer n = aligned_8 n
+aligned_is U8 n = record { below = omega arith; whole = omega arith; eighth = λ k h. omega arith }
+aligned_is _ n = record { below = omega arith; whole = omega arith; eighth = λ k h. omega arith }
 
 -- ---- the spots of kinds
 
@@ -55,17 +29,13 @@ spots_long e (kind ∷ kinds) = ap (λ (n : ℕ). suc n) (spots_long (aligned (w
 
 pub end_after : (e : ℕ) (kinds : List Kind) → e ≤ end_from e kinds
 end_after e [] = omega arith
-end_after e (kind ∷ kinds) =
-    let a = aligned_is kind e in
-    let r = end_after (aligned (width kind) e + width kind) kinds in
-    omega (arith, a.below, r)
+end_after e (kind ∷ kinds) = omega (arith, end_after (aligned (width kind) e + width kind) kinds, aligned_is kind e)
 
 pub end_small : (e : ℕ) (kinds : List Kind) (k : ℕ) → e ≤ 8 * k → end_from e kinds ≤ 8 * (k + length kinds)
 end_small e [] k h = omega arith
 end_small e (kind ∷ kinds) k h =
     let a : aligned (width kind) e + width kind ≤ 8 * k + 8 = (aligned_is kind e).eighth k h in
-    let r : end_from (aligned (width kind) e + width kind) kinds ≤ 8 * ((k + 1) + length kinds) = end_small (aligned (width kind) e + width kind) kinds (k + 1) (omega (arith, a)) in
-    omega (arith, r)
+    omega (arith, end_small (aligned (width kind) e + width kind) kinds (k + 1) (omega arith))
 
 pub record IsSpot (e end : ℕ) (kind : Kind) (s : Spot) : Type 0 where
   pub kind_is : s.kind ≡ kind
@@ -81,7 +51,7 @@ spot_is e (kind ∷ kinds) zero lt =
 spot_is e (kind ∷ kinds) (suc k) lt =
     let a = aligned_is kind e in
     let r = spot_is (aligned (width kind) e + width kind) kinds k (omega arith) in
-    record { kind_is = r.kind_is; multiple = r.multiple; behind = omega (arith, a.below, r.behind); inside = r.inside }
+    record { kind_is = r.kind_is; multiple = r.multiple; behind = omega arith; inside = r.inside }
 
 pub apart : (e : ℕ) (kinds : List Kind) (j k : ℕ) → j < k → k < length kinds
     → (get_or (spots_from e kinds) j no_spot).offset + width (get_or kinds j U8) ≤ (get_or (spots_from e kinds) k no_spot).offset
@@ -122,23 +92,22 @@ pub split : (e : ℕ) (kinds : List Kind) (numbers : List ℤ) (k : ℕ) → k <
 split e [] numbers k lt long = absurd (omega arith)
 split e (kind ∷ kinds) [] k lt long = absurd (omega arith)
 split e (kind ∷ kinds) (y ∷ numbers) zero lt long =
-    let a = aligned_is kind e in
     let at = aligned (width kind) e in
     record {
       before = replicate (at - e) 0;
       after = raw_from (at + width kind) kinds numbers;
-      long = omega (arith, a.below, length-replicate {A = ℕ} (at - e) 0);
+      long = omega (arith, aligned_is kind e, length-replicate {A = ℕ} (at - e) 0);
       whole = λ z. refl;
     }
 split e (kind ∷ kinds) (y ∷ numbers) (suc k) lt long =
     let a = aligned_is kind e in
     let at = aligned (width kind) e in
-    let r = split (at + width kind) kinds numbers k (omega arith) (omega (arith, long)) in
+    let r = split (at + width kind) kinds numbers k (omega arith) (omega arith) in
     let front : List ℕ = replicate (at - e) 0 in
     record {
       before = front ++ (code kind y ++ r.before);
       after = r.after;
-      long = omega (arith, a.below, r.long, length-append front (code kind y ++ r.before), length-append (code kind y) r.before, length-code kind y, length-replicate {A = ℕ} (at - e) 0);
+      long = omega (arith, length-append front (code kind y ++ r.before), length-append (code kind y) r.before, length-code kind y, length-replicate {A = ℕ} (at - e) 0);
       whole = λ z. ap (λ (l : List ℕ). front ++ (code kind y ++ l)) (r.whole z)
           ∙ ap (λ (l : List ℕ). front ++ l) (sym (append_assoc (code kind y) r.before (code (get_or kinds k U8) z ++ r.after)))
           ∙ sym (append_assoc front (code kind y ++ r.before) (code (get_or kinds k U8) z ++ r.after));
@@ -157,14 +126,13 @@ code_at kinds numbers k lt long =
     let z = get_or numbers k (pos 0) in
     let now : raw_of kinds numbers ≡ s.before ++ (code kind z ++ s.after) = ap (λ (l : List ℤ). raw_from 0 kinds l) (sym (set-get_or numbers k (pos 0))) ∙ s.whole z in
     ap (λ (l : List ℕ). take (width kind) (drop (get_or (spots_of kinds) k no_spot).offset l)) now
-    ∙ part_is s.before (code kind z) s.after (get_or (spots_of kinds) k no_spot).offset (width kind) (omega (arith, s.long)) (length-code kind z)
+    ∙ part_is s.before (code kind z) s.after (get_or (spots_of kinds) k no_spot).offset (width kind) (omega arith) (length-code kind z)
 
 pub number_is : (kinds : List Kind) (numbers : List ℤ) (k : ℕ) → k < length kinds → AreOf kinds numbers
     → number_at (raw_of kinds numbers) (get_or (spots_of kinds) k no_spot) ≡ get_or numbers k (pos 0)
 number_is kinds numbers k lt are =
-    let s = get_or (spots_of kinds) k no_spot in
     let kind = get_or kinds k U8 in
-    ap (λ (x : Kind). value_of x (take (width x) (drop s.offset (raw_of kinds numbers)))) ((spot_is 0 kinds k lt).kind_is)
+    ap (λ (x : Kind). value_of x (take (width x) (drop (get_or (spots_of kinds) k no_spot).offset (raw_of kinds numbers)))) ((spot_is 0 kinds k lt).kind_is)
     ∙ ap (λ (l : List ℕ). value_of kind l) (code_at kinds numbers k lt are.long)
     ∙ value_code kind (get_or numbers k (pos 0)) (are.fits k lt)
 
@@ -174,8 +142,8 @@ numbers_are kinds numbers are =
     let spots = spots_of kinds in
     let long : length (map (number_at (raw_of kinds numbers)) spots) ≡ length numbers = length-map spots (number_at (raw_of kinds numbers)) ∙ spots_long 0 kinds ∙ sym are.long in
     ext_get_or (pos 0) (map (number_at (raw_of kinds numbers)) spots) numbers long
-    (λ k lt. get_or-map (number_at (raw_of kinds numbers)) spots k no_spot (pos 0) (omega (arith, lt, length-map spots (number_at (raw_of kinds numbers))))
-    ∙ number_is kinds numbers k (omega (arith, lt, long, are.long)) are)
+    (λ k lt. get_or-map (number_at (raw_of kinds numbers)) spots k no_spot (pos 0) (omega (arith, length-map spots (number_at (raw_of kinds numbers))))
+    ∙ number_is kinds numbers k (omega arith) are)
 
 -- ---- one number changes
 
@@ -187,7 +155,7 @@ set_fits kinds numbers cell z are fits = record {
   at : (k : ℕ) → k < length kinds → (k ≡ cell) ⊎ (k ≡ cell → ⊥) → InRange (get_or kinds k U8) (get_or (set numbers cell z) k (pos 0))
   at k lt (inl e) =
       subst (λ (i : ℕ). InRange (get_or kinds i U8) (get_or (set numbers cell z) i (pos 0))) (sym e)
-      (subst (λ (y : ℤ). InRange (get_or kinds cell U8) y) (sym (get_or-set_same numbers cell z (pos 0) (omega (arith, lt, e, are.long)))) fits)
+      (subst (λ (y : ℤ). InRange (get_or kinds cell U8) y) (sym (get_or-set_same numbers cell z (pos 0) (omega arith))) fits)
   at k lt (inr n) = subst (λ (y : ℤ). InRange (get_or kinds k U8) y) (sym (get_or-set_other numbers cell k z (pos 0) n)) (are.fits k lt)
 
 -- the bytes of a spot are replaced
@@ -207,31 +175,15 @@ set_raw kinds numbers cell z at n lt long a w =
     let kind = get_or kinds cell U8 in
     let y = get_or numbers cell (pos 0) in
     let now : raw_of kinds numbers ≡ s.before ++ (code kind y ++ s.after) = ap (λ (l : List ℤ). raw_from 0 kinds l) (sym (set-get_or numbers cell (pos 0))) ∙ s.whole y in
-    put_is s.before (code kind y) (code kind z) s.after (raw_of kinds numbers) at n now (omega (arith, s.long, a)) (length-code kind y ∙ w) ∙ sym (s.whole z)
+    put_is s.before (code kind y) (code kind z) s.after (raw_of kinds numbers) at n now (omega arith) (length-code kind y ∙ w) ∙ sym (s.whole z)
 
 -- ---- all numbers 0
 
 pub code_0 : (kind : Kind) → code kind (pos 0) ≡ replicate (width kind) 0
 unfolding code
 code_0 U8 = refl
-code_0 U16 = refl
-code_0 U32 = refl
-code_0 U64 = refl
-code_0 I8 = refl
-code_0 I16 = refl
-code_0 I32 = refl
-code_0 I64 = refl
-code_0 Bool = refl
-code_0 Timer = refl
+code_0 _ = refl
 
 pub range_0 : (kind : Kind) → InRange kind (pos 0)
-range_0 U8 = omega (arith, ints)
-range_0 U16 = omega (arith, ints)
-range_0 U32 = omega (arith, ints)
-range_0 U64 = omega (arith, ints)
-range_0 I8 = omega (arith, ints)
-range_0 I16 = omega (arith, ints)
-range_0 I32 = omega (arith, ints)
-range_0 I64 = omega (arith, ints)
-range_0 Bool = omega (arith, ints)
-range_0 Timer = omega (arith, ints)
+range_0 U8 = omega arith
+range_0 _ = omega arith

@@ -1,9 +1,5 @@
 -- Worked examples of spots and bytes.
-use Rattle.std.proofs.Common.{◌≡◌, ℕ, List, [], ◌∷◌, map, pos, refl}
-use Rattle.vms_kinds.specs.declared.Kind.{Kind}
-use Rattle.vms_kinds.specs.declared.Kind.TheVariants.{U8, U16}
-use Rattle.vms_kinds.specs.Codes.{code}
-use Rattle.vms_spots.specs.Spots.{spots_of, bytes_of, raw_of}
+use Rattle.vms_spots.proofs.Facade.{◌≡◌, ℕ, List, [], ◌∷◌, map, pos, refl, Kind, U8, U16, code, spots_of, bytes_of, raw_of}
 
 offsets : List Kind → List ℕ
 offsets kinds = map (λ s. s.offset) (spots_of kinds)

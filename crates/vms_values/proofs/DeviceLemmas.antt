@@ -1,14 +1,15 @@
 -- Devices that are read one after the other: their images, their subsections, and what is judged of them.
-use Rattle.vms_values.proofs.Facade.{◌≡◌, ℕ, ◌+◌, ◌<◌, true, zero, suc, List, [], ◌∷◌, ◌++◌, Some, length, ap, sym, ◌∙◌, subst, arith, length-append, Option}
-use Rattle.vms_values.proofs.Facade.{None, Result, Ok, Err, refl, rules, ◌≤◌, Bool, false, map, take, drop, if◌then◌else◌, append_assoc, append-nil, slice_set}
-use Rattle.vms_values.proofs.Facade.{flat_map, slice_get, length-map, drop_more, drop_all, take_more, take_all, map-append, take_more_set, ForSome, Set, Device}
-use Rattle.vms_values.proofs.Facade.{Sub, AtLeast, Typed, state_of, default_at, IsOfDevice, IsImageOf, AreImagesOf, device_cells, desc_cells, struct_cells}
-use Rattle.vms_values.proofs.Facade.{no_desc, device_at, is_well_formed, kinds_at, few_cells, sub_next, HasSpot, IsKept, place_of, IsAlike, with_came}
-use Rattle.vms_values.proofs.Facade.{said_read, sub_read, SubReached, SubsReached, first_line, BadLine, ReadDevice, ReadAll, ValuesRead, read_devices, ended}
-use Rattle.vms_values.proofs.Facade.{values_read, after_machine, machine_named, rest_of, Standing, ReadSubs, readers, read_desc, read_subs, next_line}
-use Rattle.vms_values.proofs.Facade.{then_subs, section_line, is_line, with_device, read_device, or_bad, judge_device, judge_devices, Read, sub_said, also}
-use Rattle.vms_values.proofs.Facade.{read_sub, LineFault, StartsAt, NamesMachine, Start, machine_of, ReadsBy, Image, own_cells, Reading, bad_of, found}
-use Rattle.vms_values.proofs.Facade.{device_read, start_of, DeviceRead, AllRead, or_bad_assoc, MOST_ITEMS, first_cell, sub_at, Taken}
+use Rattle.vms_values.proofs.Facade.{length-take-le, ◌≡◌, ℕ, ◌+◌, ◌<◌, true, zero, suc, List, [], ◌∷◌, ◌++◌, Some, length, ap, sym, ◌∙◌, subst, arith}
+use Rattle.vms_values.proofs.Facade.{length-append, Option, None, Result, Ok, Err, refl, rules, ◌≤◌, Bool, false, map, take, drop, if◌then◌else◌, append_assoc}
+use Rattle.vms_values.proofs.Facade.{append-nil, slice_set, flat_map, slice_get, length-map, drop_more, drop_all, take_more, take_all, map-append}
+use Rattle.vms_values.proofs.Facade.{take_more_set, ForSome, Set, Device, Sub, AtLeast, Typed, state_of, default_at, IsOfDevice, IsImageOf, AreImagesOf}
+use Rattle.vms_values.proofs.Facade.{device_cells, desc_cells, struct_cells, no_desc, device_at, is_well_formed, kinds_at, few_cells, sub_next, HasSpot, IsKept}
+use Rattle.vms_values.proofs.Facade.{place_of, IsAlike, with_came, said_read, sub_read, SubReached, SubsReached, first_line, BadLine, ReadDevice, ReadAll}
+use Rattle.vms_values.proofs.Facade.{ValuesRead, read_devices, ended, values_read, after_machine, machine_named, rest_of, Standing, ReadSubs, readers}
+use Rattle.vms_values.proofs.Facade.{read_desc, read_subs, next_line, then_subs, section_line, is_line, with_device, read_device, or_bad, judge_device}
+use Rattle.vms_values.proofs.Facade.{judge_devices, Read, sub_said, also, read_sub, LineFault, StartsAt, NamesMachine, Start, machine_of, ReadsBy, Image}
+use Rattle.vms_values.proofs.Facade.{own_cells, Reading, bad_of, found, device_read, start_of, DeviceRead, AllRead, or_bad_assoc, MOST_ITEMS, first_cell}
+use Rattle.vms_values.proofs.Facade.{sub_at, Taken}
 use Rattle.vms_spec.specs.ValuesReading.{device_read as device_reads}
 use Rattle.vms_values.specs.declared.fault.Values.{Values}
 use Rattle.vms_spec.specs.declared.Part.TheVariants as parts
@@ -153,12 +154,6 @@ judge_more set (c ∷ ds) (x ∷ rs) d r e =
     let less : length ds ≡ length rs = omega (arith, e) in
     ap (or_bad (judge_device set c x)) (judge_more set ds rs d r less) ∙ sym (or_bad_assoc (judge_device set c x) (judge_devices set ds rs) (judge_device set d r))
 
-long_take : {X : Type 0} (xs : List X) (n : ℕ) → n ≤ length xs → length (take n xs) ≡ n
-long_take [] zero le = refl
-long_take [] (suc n) le = absurd (omega arith)
-long_take (x ∷ xs) zero le = refl
-long_take (x ∷ xs) (suc n) le = ap suc (long_take xs n (omega (arith, le)))
-
 -- ---- all devices
 
 -- the first n devices have these images and this first bad line of the second pass; the rest is the whole reading
@@ -217,7 +212,7 @@ module _ (set : Set) (i : ℕ) (lt : i < length set.devices) where
       let d = device_at set i in
       let k = given (device_read set d (start_of set d old)) old new image refl h in
       let rest = λ (line : ℕ) (rest : List ℕ). read_devices set (drop (i + 1) set.devices) line rest in
-      let lengths : length (take i set.devices) ≡ length g.done = long_take set.devices i (omega (arith, lt)) ∙ sym g.count in
+      let lengths : length (take i set.devices) ≡ length g.done = length-take-le i set.devices (omega arith) ∙ sym g.count in
       record {
         done = g.done ++ k.r ∷ [];
         count = length-append g.done (k.r ∷ []) ∙ ap (λ (n : ℕ). n + 1) g.count;

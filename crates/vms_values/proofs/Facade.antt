@@ -1,16 +1,15 @@
 -- The names of other crates, and of this crate's `specs`, that the proofs use.
 pub use Rattle.std.proofs.Common.{Bool, Err, IfOk, List, MatchOption, None, Ok, Option, Result, SFits, Some, [], ap, append-nil, append_assoc, arith, codes}
-pub use Rattle.std.proofs.Common.{drop, drop-drop, false, get_or, if◌then◌else◌, length, length-append, length-drop, length-take, map, nat_le, nat_lt, not, pos}
-pub use Rattle.std.proofs.Common.{refl, rules, slice_set, subst, suc, sum_by, sym, take, true, zero, ℕ, ℤ, ◌%◌, ◌&&◌, ◌*◌, ◌++◌, ◌+◌, ◌-◌, ◌/◌, ◌<◌, ◌==◌, ◌^◌}
-pub use Rattle.std.proofs.Common.{◌||◌, ◌∙◌, ◌∷◌, ◌≡◌, ◌≤◌}
+pub use Rattle.std.proofs.Common.{drop, drop-drop, false, get_or, if◌then◌else◌, length, length-append, length-drop, length-take, lt_of_mul-lt-mul_right, map}
+pub use Rattle.std.proofs.Common.{nat_le, nat_lt, not, pos, refl, rules, slice_set, subst, suc, sum_by, sym, take, true, zero, ℕ, ℤ, ◌%◌, ◌&&◌, ◌*◌, ◌++◌, ◌+◌}
+pub use Rattle.std.proofs.Common.{◌-◌, ◌/◌, ◌<◌, ◌==◌, ◌^◌, ◌||◌, ◌∙◌, ◌∷◌, ◌≡◌, ◌≤◌}
 pub use Rattle.std.proofs.Math.Bool.{and-true, and_assoc}
 pub use Rattle.std.proofs.Math.Facts.{to_z-of_z}
 pub use Rattle.std.proofs.Math.Nat.{mod-lt, pow-suc}
 pub use Rattle.std.proofs.Math.Seq.{drop-append_seam, get_or-append_right}
-pub use Rattle.std.proofs.lemmas.Bool.{and_parts, eqb-true, leb-true, ltb-false, ltb-true}
-pub use Rattle.std.proofs.lemmas.Bool.Decides.{nat_tests}
-pub use Rattle.std.proofs.lemmas.List.{drop-map, drop_all, drop_more, get_or-map, get_or_append_left, length-map, map-append, take-append-drop, take_all}
-pub use Rattle.std.proofs.lemmas.List.{take_more, take_more_set}
+pub use Rattle.std.proofs.lemmas.Bool.{and_parts, eqb-true, le-ltb, leb-true, lt-ltb, ltb-false, ltb-true}
+pub use Rattle.std.proofs.lemmas.List.{drop-map, drop_all, drop_more, get_or-drop, get_or-map, get_or_append_left, length-map, length-take-le, map-append}
+pub use Rattle.std.proofs.lemmas.List.{nil_from_length, take-append-drop, take-take, take_all, take_more, take_more_set}
 pub use Rattle.std.proofs.lemmas.List.Sums.{sum_by-cons}
 pub use Rattle.std.proofs.lemmas.Nat.{div-add-mod'}
 pub use Rattle.std.proofs.lemmas.Option.{slice_get-get_or}

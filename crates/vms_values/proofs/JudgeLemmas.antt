@@ -1,14 +1,14 @@
 -- Validations along steps, also of a set that has none, and defaults of cells.
-use Rattle.vms_values.proofs.Facade.{◌≡◌, ℕ, suc, zero, ◌+◌, ◌<◌, ◌≤◌, Bool, true, false, not, if◌then◌else◌, Option, Some, None, ◌&&◌, List, [], ◌∷◌, ◌++◌}
-use Rattle.vms_values.proofs.Facade.{length, get_or, drop, map, ℤ, pos, refl, sym, ap, ◌∙◌, arith, append_assoc, length-append, ◌==◌, flat_map, list_all}
-use Rattle.vms_values.proofs.Facade.{drop_more, drop_all, drop-map, map-append, drop-append_seam, eqb-true, and_parts, and-true, same_number, Set, Sub, AtLeast}
-use Rattle.vms_values.proofs.Facade.{Field, Desc, Formula, ValuesReason, sub_first, sub_next, Image, sub_place, own_cells, own_slots, own_cell_count}
-use Rattle.vms_values.proofs.Facade.{first_cell, own_numbers, device_at, sub_at, desc_at, Cell, Slot, no_desc, desc_cells, struct_cells, device_cells, Number}
-use Rattle.vms_values.proofs.Facade.{Constant, Filler, Rule, Meaning, no_meaning, item_slots, item_size, times, field_slots, slots_from, desc_slots}
-use Rattle.vms_values.proofs.Facade.{field_cells, numbers_of, elements_of, counted, all_hold, no_parent, first, meaning, meanings, rules_are_true, BadLine}
-use Rattle.vms_values.proofs.Facade.{ReadDevice, are_defaults, or_bad, if_bad, sub_fails, is_said_well, judge_subs, judge_device, CellForm, form_of, desc_of}
-use Rattle.vms_values.proofs.Facade.{formula, steps_of, spot_slots, no_form, settle, steps_hold, sub_judged, sub_defaults, Item, Num, Equal, Unused, Struct}
-use Rattle.vms_values.proofs.Facade.{is_there, cells_first, one_more, Test, PartAt}
+use Rattle.vms_values.proofs.Facade.{get_or-drop, drop-drop, ◌≡◌, ℕ, suc, zero, ◌+◌, ◌<◌, ◌≤◌, Bool, true, false, not, if◌then◌else◌, Option, Some, None, ◌&&◌}
+use Rattle.vms_values.proofs.Facade.{List, [], ◌∷◌, ◌++◌, length, get_or, drop, map, ℤ, pos, refl, sym, ap, ◌∙◌, arith, append_assoc, length-append, ◌==◌}
+use Rattle.vms_values.proofs.Facade.{flat_map, list_all, drop_more, drop_all, drop-map, map-append, drop-append_seam, eqb-true, and_parts, and-true}
+use Rattle.vms_values.proofs.Facade.{same_number, Set, Sub, AtLeast, Field, Desc, Formula, ValuesReason, sub_first, sub_next, Image, sub_place, own_cells}
+use Rattle.vms_values.proofs.Facade.{own_slots, own_cell_count, first_cell, own_numbers, device_at, sub_at, desc_at, Cell, Slot, no_desc, desc_cells}
+use Rattle.vms_values.proofs.Facade.{struct_cells, device_cells, Number, Constant, Filler, Rule, Meaning, no_meaning, item_slots, item_size, times, field_slots}
+use Rattle.vms_values.proofs.Facade.{slots_from, desc_slots, field_cells, numbers_of, elements_of, counted, all_hold, no_parent, first, meaning, meanings}
+use Rattle.vms_values.proofs.Facade.{rules_are_true, BadLine, ReadDevice, are_defaults, or_bad, if_bad, sub_fails, is_said_well, judge_subs, judge_device}
+use Rattle.vms_values.proofs.Facade.{CellForm, form_of, desc_of, formula, steps_of, spot_slots, no_form, settle, steps_hold, sub_judged, sub_defaults, Item}
+use Rattle.vms_values.proofs.Facade.{Num, Equal, Unused, Struct, is_there, cells_first, one_more, Test, PartAt}
 use Rattle.vms_parts.specs.declared.types.Desc.{Desc as Described}
 use Rattle.vms_spec.specs.declared.Part.TheVariants as parts
 use Rattle.vms_spec.specs.declared.ValuesReason.TheVariants as reasons
@@ -27,25 +27,13 @@ pub settle_defaults : (cells : List Cell) (forms rest : List CellForm) (numbers 
     → settle [] forms numbers at (length cells) ≡ are_defaults cells (drop at numbers)
 settle_defaults [] forms rest numbers at e le = refl
 settle_defaults (c ∷ cells) forms rest numbers at e le =
-    let same : get_or forms at no_form ≡ form_of c = first_of forms at (form_of c) (map form_of cells ++ rest) e in
-    let later : drop (at + 1) forms ≡ map form_of cells ++ rest = next_of forms at (form_of c) (map form_of cells ++ rest) e in
+    let here : at ≡ at + 0 = omega arith in
+    let same : get_or forms at no_form ≡ form_of c =
+    ap (λ (k : ℕ). get_or forms k no_form) here ∙ sym (get_or-drop at forms 0 no_form) ∙ ap (λ (l : List CellForm). get_or l 0 no_form) e in
+    let later : drop (at + 1) forms ≡ map form_of cells ++ rest = sym (drop-drop 1 at forms) ∙ ap (drop 1) e in
     ap (λ (f : CellForm). same_number (get_or numbers at (pos 0)) f.default && settle [] forms numbers (at + 1) (length cells)) same
     ∙ ap (λ (t : Bool). same_number (get_or numbers at (pos 0)) c.default && t) (settle_defaults cells forms rest numbers (at + 1) later (omega (arith, le)))
     ∙ sym (ap (are_defaults (c ∷ cells)) (drop_more numbers at (pos 0) (omega (arith, le))))
-  where
-    first_of : (xs : List CellForm) (i : ℕ) (x : CellForm) (ys : List CellForm) → drop i xs ≡ x ∷ ys → get_or xs i no_form ≡ x
-    first_of [] zero x ys e = cc
-    first_of [] (suc i) x ys e = cc
-    first_of (y ∷ xs) zero x ys e = cc
-    first_of (y ∷ xs) (suc i) x ys e = first_of xs i x ys e
-
-    next_of : (xs : List CellForm) (i : ℕ) (x : CellForm) (ys : List CellForm) → drop i xs ≡ x ∷ ys → drop (i + 1) xs ≡ ys
-    next_of [] zero x ys e = cc
-    next_of [] (suc i) x ys e = cc
-    next_of (y ∷ xs) zero x ys e = cc
-    next_of (y ∷ xs) (suc i) x ys e =
-        let one : suc i + 1 ≡ suc (i + 1) = omega arith in
-        ap (λ (k : ℕ). drop k (y ∷ xs)) one ∙ next_of xs i x ys e
 
 -- ---- the cells of a subsection among those of its device
 
@@ -96,16 +84,14 @@ module _ (set : Set) (i : ℕ) (image : Image) (lines : List ℕ) (j line : ℕ)
       let at = first_cell set (parts.Sub i j) in
       let s = sub_at d j in
       let o = get_or image.came j None in
+      let one : suc j ≡ j + 1 = omega arith in
       ap (λ (l : List Sub). judge_subs set d image j at l (drop j image.came) (drop j lines)) (drop_more d.subs j none lt)
       ∙ ap (λ (l : List (Option ℕ)). judge_subs set d image j at (s ∷ drop (j + 1) d.subs) l (drop j lines)) (drop_more image.came j None lc)
       ∙ ap (λ (l : List ℕ). judge_subs set d image j at (s ∷ drop (j + 1) d.subs) (o ∷ drop (j + 1) image.came) l) (drop_more lines j 0 ll ∙ ap (λ (x : ℕ). x ∷ drop (j + 1) lines) (sym is))
       ∙ by (sub_fails set s o image.numbers at) (is_said_well set d image j s o at) (judge_subs set d image (suc j) (at + length (desc_cells (struct_cells set) s.desc)) (drop (j + 1) d.subs) (drop (j + 1) image.came) (drop (j + 1) lines))
-      ∙ ap (λ (k : ℕ). with_reason line (sub_judged set i j image) (judge_subs set d image k (at + length (desc_cells (struct_cells set) s.desc)) (drop (j + 1) d.subs) (drop (j + 1) image.came) (drop (j + 1) lines))) (one j)
+      ∙ ap (λ (k : ℕ). with_reason line (sub_judged set i j image) (judge_subs set d image k (at + length (desc_cells (struct_cells set) s.desc)) (drop (j + 1) d.subs) (drop (j + 1) image.came) (drop (j + 1) lines))) one
       ∙ ap (λ (x : ℕ). with_reason line (sub_judged set i j image) (judge_subs set d image (j + 1) x (drop (j + 1) d.subs) (drop (j + 1) image.came) (drop (j + 1) lines))) (sym (sub_next set (own_cells set d) d.subs j none lt))
     where
-      one : (j : ℕ) → suc j ≡ j + 1
-      one j = omega arith
-
       by : (fails well : Bool) (next : Option BadLine) → or_bad (if_bad fails line reasons.Invalid) (or_bad (if_bad (not well) line reasons.Needed) next)
           ≡ with_reason line (if fails then Some reasons.Invalid else if not well then Some reasons.Needed else None) next
       by true well next = refl

@@ -1,10 +1,10 @@
 -- The kinds of cells that are among those of an image.
 use Rattle.vms_values.proofs.Facade.{◌≡◌, ℕ, zero, suc, ◌+◌, ◌*◌, ◌<◌, List, [], ◌∷◌, ◌++◌, length, get_or, map, drop, ℤ, pos, refl, sym, ap, ◌∙◌, subst, arith}
-use Rattle.vms_values.proofs.Facade.{append_assoc, append-nil, Some, true, flat_map, slice_get, map-append, length-map, slice_get-get_or, Item, Num, Equal}
-use Rattle.vms_values.proofs.Facade.{Unused, Struct, Kind, U8, Set, Field, Device, Sub, AtLeast, own_cells, Cell, no_desc, item_cells, item_size, field_cells}
-use Rattle.vms_values.proofs.Facade.{cells_from, desc_cells, struct_cells, times, capacity_of, counted, size_same, field_size, cells_of_sub, first_cell}
-use Rattle.vms_values.proofs.Facade.{device_at, is_well_formed, sub_at, kinds_at, table, cells_in, all_below, struct_cells_at, cells_table, struct_clean}
-use Rattle.vms_values.proofs.Facade.{AreKinds, ElementKinds, part_cells, drop_on}
+use Rattle.vms_values.proofs.Facade.{append_assoc, append-nil, Some, true, flat_map, slice_get, map-append, length-map, slice_get-get_or, get_or-drop, Item}
+use Rattle.vms_values.proofs.Facade.{Num, Equal, Unused, Struct, Kind, U8, Set, Field, Device, Sub, AtLeast, own_cells, Cell, no_desc, item_cells, item_size}
+use Rattle.vms_values.proofs.Facade.{field_cells, cells_from, desc_cells, struct_cells, times, capacity_of, counted, size_same, field_size, cells_of_sub}
+use Rattle.vms_values.proofs.Facade.{first_cell, device_at, is_well_formed, sub_at, kinds_at, table, cells_in, all_below, struct_cells_at, cells_table}
+use Rattle.vms_values.proofs.Facade.{struct_clean, AreKinds, ElementKinds, part_cells, drop_on}
 use Rattle.vms_spec.specs.declared.Part.TheVariants as parts
 
 abbrev kinds_in : List Cell → List Kind
@@ -70,14 +70,10 @@ field_kinds cs fields kinds k at f left more e s =
     }
 
 -- the number of an element, and its fields
-first_kind : (kinds : List Kind) (at : ℕ) (kind : Kind) (more : List Kind) → drop at kinds ≡ kind ∷ more → get_or kinds at U8 ≡ kind
-first_kind [] zero kind more e = cc
-first_kind [] (suc at) kind more e = cc
-first_kind (x ∷ kinds) zero kind more e = cc
-first_kind (x ∷ kinds) (suc at) kind more e = first_kind kinds at kind more e
-
 pub number_kind : (cs : List (List Cell)) (kinds : List Kind) (at : ℕ) (kind : Kind) → AreKinds kinds at (item_cells cs (Num kind) [] (pos 0)) → get_or kinds at U8 ≡ kind
-number_kind cs kinds at kind s = first_kind kinds at kind s.more s.is
+number_kind cs kinds at kind s =
+    let here : at ≡ at + 0 = omega arith in
+    ap (λ (k : ℕ). get_or kinds k U8) here ∙ sym (get_or-drop at kinds 0 U8) ∙ ap (λ (l : List Kind). get_or l 0 U8) s.is
 
 pub struct_kinds : (set : Set) → is_well_formed set ≡ true → (j : ℕ) → j < length set.structs → (kinds : List Kind) (at : ℕ)
     → AreKinds kinds at (item_cells (cells_in (table set)) (Struct j) [] (pos 0)) → AreKinds kinds at (part_cells set (parts.Struct j))

@@ -1,16 +1,15 @@
 -- Names from cells: a part's fields one after the other, one element, and the subsections of a device.
-use Rattle.vms_values.proofs.Facade.{◌≡◌, ℕ, zero, suc, ◌+◌, ◌*◌, ◌<◌, List, [], ◌∷◌, ◌++◌, length, get_or, map, drop, ℤ, pos, refl, sym, ap, ◌∙◌, subst, arith}
-use Rattle.vms_values.proofs.Facade.{append_assoc, append-nil, true, ◌-◌, ◌≤◌, ◌/◌, ◌%◌, length-append, codes, Bool, false, nat_lt, None, flat_map, length-map}
-use Rattle.vms_values.proofs.Facade.{get_or_append_left, get_or-map, drop_more, ltb-true, ltb-false, get_or-append_right, div-add-mod', mod-lt, decimal, Item}
+use Rattle.vms_values.proofs.Facade.{lt_of_mul-lt-mul_right, ◌≡◌, ℕ, zero, suc, ◌+◌, ◌*◌, ◌<◌, List, [], ◌∷◌, ◌++◌, length, get_or, map, drop, ℤ, pos, refl}
+use Rattle.vms_values.proofs.Facade.{sym, ap, ◌∙◌, subst, arith, append_assoc, append-nil, true, ◌-◌, ◌≤◌, ◌/◌, ◌%◌, length-append, codes, None, flat_map}
+use Rattle.vms_values.proofs.Facade.{length-map, get_or_append_left, get_or-map, drop_more, ltb-true, get_or-append_right, div-add-mod', mod-lt, decimal, Item}
 use Rattle.vms_values.proofs.Facade.{Num, Equal, Unused, Struct, Set, Field, Device, Sub, AtLeast, Desc, own_cells, default_image, Cell, no_desc, item_size}
 use Rattle.vms_values.proofs.Facade.{field_cells, desc_cells, struct_cells, capacity_of, counted, first, numbers_of, no_parent, device_cells, field_size}
-use Rattle.vms_values.proofs.Facade.{field_at, device_at, is_well_formed, sub_at, HasPart, desc_at, size_in, cells_table, struct_size, reach}
-use Rattle.vms_values.proofs.Facade.{field_clean, Count, One, Fixed, Counted, Part, uses_below, own_cell_count, item_rank, part_rank, reach_whole, uses_more}
-use Rattle.vms_values.proofs.Facade.{rank_below, fields_at, Shape, no_shape, shape, shapes, dotted, item_elements, stand_of, field_elements, elements_from}
-use Rattle.vms_values.proofs.Facade.{desc_elements, index_text, names_of, absent, elements_in, subs_elements, cell_name, first_at, shapes_cells, AreWalked}
-use Rattle.vms_values.proofs.Facade.{are_walked, is_dotted, names_append, names_long, names_map, item_walks, field_walks, fields_walk, desc_walks}
-use Rattle.vms_values.proofs.Facade.{desc_names_are, walks, array_name, names_absent, usable, part_names, item_names, field_name, IsInPart, sub_inside}
-use Rattle.vms_values.proofs.Facade.{own_inside_device, few_cells}
+use Rattle.vms_values.proofs.Facade.{field_at, device_at, is_well_formed, sub_at, HasPart, desc_at, size_in, cells_table, struct_size, reach, field_clean}
+use Rattle.vms_values.proofs.Facade.{Count, One, Fixed, Counted, Part, uses_below, own_cell_count, item_rank, part_rank, reach_whole, uses_more, rank_below}
+use Rattle.vms_values.proofs.Facade.{fields_at, Shape, no_shape, shape, shapes, dotted, item_elements, stand_of, field_elements, elements_from, desc_elements}
+use Rattle.vms_values.proofs.Facade.{index_text, names_of, absent, elements_in, subs_elements, cell_name, first_at, shapes_cells, AreWalked, are_walked}
+use Rattle.vms_values.proofs.Facade.{is_dotted, names_append, names_long, names_map, item_walks, field_walks, fields_walk, desc_walks, desc_names_are, walks}
+use Rattle.vms_values.proofs.Facade.{array_name, names_absent, usable, part_names, item_names, field_name, IsInPart, sub_inside, own_inside_device, few_cells}
 use Rattle.vms_elements.specs.Elements.{cells_in}
 use Rattle.vms_spec.specs.declared.Part.TheVariants as parts
 
@@ -19,16 +18,7 @@ positive n zero c lt = let none : n * 0 ≡ 0 = grind arith in absurd (omega (ar
 positive n (suc size) c lt = omega arith
 
 fewer : (q n size r left : ℕ) → q * size + r ≡ left → left < n * size → q < n
-fewer q n size r left e lt = by_test (nat_lt q n) refl
-  where
-    by_test : (b : Bool) → nat_lt q n ≡ b → q < n
-    by_test true t = ltb-true q n t
-    by_test false t =
-        let le : n ≤ q = ltb-false q n t in
-        let d = q - n in
-        let is : q ≡ n + d = omega arith in
-        let product : (n + d) * size ≡ n * size + d * size = grind arith in
-        absurd (omega (arith, ap (λ (k : ℕ). k * size) is, product, e, lt))
+fewer q n size r left e lt = lt_of_mul-lt-mul_right size (omega arith)
 
 module _ (set : Set) where
   -- the table of a part is one of the first tables

@@ -1,9 +1,9 @@
 -- A text that is printed piece by piece, and lines that grow after a front that they keep.
-use Rattle.vms_values.proofs.Facade.{◌≡◌, ℕ, ◌+◌, ◌<◌, List, ◌++◌, length, get_or, drop, ap, suc, [], ◌∷◌, Result, Ok, Err, codes, refl, sym, ◌∙◌, subst, arith}
-use Rattle.vms_values.proofs.Facade.{append_assoc, length-drop, zero, ◌*◌, ◌≤◌, take, true, length-take, drop_more, Bor, is_ok, ltb-true, joined, Outlet, Puts}
-use Rattle.vms_values.proofs.Facade.{Wrote, wrote_as, wrote_behind, Device, Set, Field, device_at, no_desc, Image, device_lines, devices_lines, IsOf, AreOf}
-use Rattle.vms_values.proofs.Facade.{below, below_part, Stays, take-append-le, Item, Num, Equal, Unused, Struct, uses_below, Part, field_at, is_well_formed}
-use Rattle.vms_values.proofs.Facade.{HasPart, desc_at, few_structs, reach, field_clean, reach_whole, LONGEST, PART_ROOM}
+use Rattle.vms_values.proofs.Facade.{take-take, ◌≡◌, ℕ, ◌+◌, ◌<◌, List, ◌++◌, length, get_or, drop, ap, suc, [], ◌∷◌, Result, Ok, Err, codes, refl, sym, ◌∙◌}
+use Rattle.vms_values.proofs.Facade.{subst, arith, append_assoc, length-drop, ◌*◌, ◌≤◌, take, true, length-take, drop_more, Bor, is_ok, ltb-true, joined}
+use Rattle.vms_values.proofs.Facade.{Outlet, Puts, Wrote, wrote_as, wrote_behind, Device, Set, Field, device_at, no_desc, Image, device_lines, devices_lines}
+use Rattle.vms_values.proofs.Facade.{IsOf, AreOf, below, below_part, Stays, take-append-le, Item, Num, Equal, Unused, Struct, uses_below, Part, field_at}
+use Rattle.vms_values.proofs.Facade.{is_well_formed, HasPart, desc_at, few_structs, reach, field_clean, reach_whole, LONGEST, PART_ROOM}
 use Rattle.std.proofs.Common.{take_all}
 use Rattle.vms_spec.specs.declared.Part.TheVariants as parts
 
@@ -71,14 +71,7 @@ front_long line other s = omega (arith, sym (ap length s), length-take (length l
 
 pub stays_then : (a b c : List ℕ) → Stays a b → Stays b c → Stays a c
 stays_then a b c p q =
-    let long = front_long a b p in
-    sym (shorter (length a) (length b) c long) ∙ ap (take (length a)) q ∙ p
-  where
-    shorter : (m n : ℕ) (l : List ℕ) → m ≤ n → take m (take n l) ≡ take m l
-    shorter zero n l le = refl
-    shorter (suc m) zero l le = absurd (omega arith)
-    shorter (suc m) (suc n) [] le = refl
-    shorter (suc m) (suc n) (x ∷ l) le = ap (λ (t : List ℕ). x ∷ t) (shorter m n l (omega arith))
+    sym (take-take (length a) (length b) c (front_long a b p)) ∙ ap (take (length a)) q ∙ p
 
 -- what is kept of a line is its front
 pub cut_is : (front line new : List ℕ) (n : ℕ) → new ≡ take n line → n ≡ length front → Stays front line → new ≡ front

@@ -39,12 +39,9 @@ module _ (j : ℕ) (ps Ps : List Printer) (agree : (i : ℕ) → i < j → get_o
 
   array_same : (item : Item) (c : Count) (own : ℕ → ℕ) (path : List ℕ) (n : List ℤ) (at : ℕ) → ItemBelow j item → array_lines ps item c own path n at ≡ array_lines Ps item c own path n at
   array_same item One own path n at e = item_same item path n at e
-  array_same item (Fixed k) own path n at e =
-      elements_same item path n at (item_size (cells_of ps) item) 0 (elements_of (Fixed k) own) e
-      ∙ ap (λ (s : ℕ). element_lines Ps item path n at s 0 (elements_of (Fixed k) own)) (ap length (item_cells_same j (cells_of ps) (cells_of Ps) cells item [] (pos 0) e))
-  array_same item (Counted by most) own path n at e =
-      elements_same item path n at (item_size (cells_of ps) item) 0 (elements_of (Counted by most) own) e
-      ∙ ap (λ (s : ℕ). element_lines Ps item path n at s 0 (elements_of (Counted by most) own)) (ap length (item_cells_same j (cells_of ps) (cells_of Ps) cells item [] (pos 0) e))
+  array_same item c own path n at e =
+      elements_same item path n at (item_size (cells_of ps) item) 0 (elements_of c own) e
+      ∙ ap (λ (s : ℕ). element_lines Ps item path n at s 0 (elements_of c own)) (ap length (item_cells_same j (cells_of ps) (cells_of Ps) cells item [] (pos 0) e))
 
   fields_same : (fields : List Field) (own : ℕ → ℕ) (path : List ℕ) (n : List ℤ) (i at : ℕ) (fs : List Field) → FieldsBelow j fs → field_lines ps fields own path n i at fs ≡ field_lines Ps fields own path n i at fs
   fields_same fields own path n i at [] b = refl

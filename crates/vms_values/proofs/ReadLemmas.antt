@@ -1,11 +1,11 @@
 -- A text that is read line by line: fronts, numbers as they are spelled, and the line of a cell.
-use Rattle.vms_values.proofs.Facade.{◌≡◌, ℕ, Bool, true, false, ◌&&◌, ◌==◌, List, [], ◌∷◌, ◌++◌, length, drop, refl, sym, ap, ◌∙◌, ◌+◌, Option, Some, None, Ok}
-use Rattle.vms_values.proofs.Facade.{Err, subst, arith, drop-drop, length-append, MatchOption, ◌-◌, ◌*◌, ◌^◌, ◌<◌, ◌≤◌, not, ◌||◌, nat_le, nat_lt, zero, suc}
-use Rattle.vms_values.proofs.Facade.{take, get_or, if◌then◌else◌, length-drop, ℤ, pos, slice_set, Result, codes, bytes_eq, and_assoc, and-true, eqb-true}
-use Rattle.vms_values.proofs.Facade.{ltb-true, ltb-false, leb-true, and_parts, Bor, list_all, pow-suc, drop_more, drop_all, take_all, take-append-drop}
-use Rattle.vms_values.proofs.Facade.{nat_tests, option_and_then, begins_with, is_digit, are_digits, natural_from, number_spelled, BadLine, Standing, Read, bad}
-use Rattle.vms_values.proofs.Facade.{put_line, put_number, LineFault, Strips, with_digit, natural_spelled, read_from, held, IsBad, Reaches, natural_up, Kind}
-use Rattle.vms_values.proofs.Facade.{InRange, ranges, ValuesReason, same_number, exceeds, in_range, IsFirstLine, NextLine, number_judged}
+use Rattle.vms_values.proofs.Facade.{le-ltb, lt-ltb, ◌≡◌, ℕ, Bool, true, false, ◌&&◌, ◌==◌, List, [], ◌∷◌, ◌++◌, length, drop, refl, sym, ap, ◌∙◌, ◌+◌, Option}
+use Rattle.vms_values.proofs.Facade.{Some, None, Ok, Err, subst, arith, drop-drop, length-append, MatchOption, ◌-◌, ◌*◌, ◌^◌, ◌<◌, ◌≤◌, not, ◌||◌, nat_le}
+use Rattle.vms_values.proofs.Facade.{nat_lt, zero, suc, take, get_or, if◌then◌else◌, length-drop, ℤ, pos, slice_set, Result, codes, bytes_eq, and_assoc}
+use Rattle.vms_values.proofs.Facade.{and-true, ltb-true, ltb-false, leb-true, and_parts, Bor, list_all, pow-suc, drop_more, drop_all, take_all}
+use Rattle.vms_values.proofs.Facade.{take-append-drop, option_and_then, begins_with, is_digit, are_digits, natural_from, number_spelled, BadLine, Standing}
+use Rattle.vms_values.proofs.Facade.{Read, bad, put_line, put_number, LineFault, Strips, with_digit, natural_spelled, read_from, held, IsBad, Reaches}
+use Rattle.vms_values.proofs.Facade.{natural_up, Kind, InRange, ranges, ValuesReason, same_number, exceeds, in_range, IsFirstLine, NextLine, number_judged}
 use Rattle.vms_values.specs.declared.fault.LineFault.TheVariants as faults
 use Rattle.vms_spec.specs.declared.ValuesReason.TheVariants as reasons
 
@@ -67,10 +67,6 @@ stopped (Err b) whole now later e h r = subst (λ (x : Read). Reaches x later (E
 pub is_bad : (e : LineFault) (b : BadLine) → e ≡ faults.Bad b.line b.reason → IsBad b e
 is_bad e b s = subst (IsBad b) (sym s) (refl, refl)
 
-pub nil_of : (xs : List ℕ) → (length xs == 0) ≡ true → xs ≡ []
-nil_of [] e = refl
-nil_of (x ∷ xs) e = let f : length (x ∷ xs) ≡ 0 = eqb-true (length (x ∷ xs)) 0 e in absurd (omega arith)
-
 pub some_of : (xs : List ℕ) → (length xs == 0) ≡ false → xs ≡ [] → ⊥
 some_of [] e f = cc
 some_of (x ∷ xs) e f = cc
@@ -81,12 +77,6 @@ some_of (x ∷ xs) e f = cc
 
 abbrev bounded : Bool → ℕ → Option ℕ
 bounded good n = if good && nat_lt n (2 ^ 64) then Some n else None
-
-not_lt : (a b : ℕ) → b ≤ a → nat_lt a b ≡ false
-not_lt a b h = grind (arith, nat_tests)
-
-is_lt : (a b : ℕ) → a < b → nat_lt a b ≡ true
-is_lt a b h = grind (arith, nat_tests)
 
 none_if : (a : Bool) (n : ℕ) → (if a && false then Some n else None) ≡ None
 none_if true n = refl
@@ -105,14 +95,14 @@ read_more n b m bs is true true e f later =
     ∙ sym (ap (λ (t : Bool). bounded (t && list_all is_digit bs) (natural_from m bs)) e)
 read_more n b m bs is true false e f later =
     let up : 2 ^ 64 ≤ m = ltb-false m (2 ^ 64) f in
-    let over : nat_lt (natural_from m bs) (2 ^ 64) ≡ false = not_lt (natural_from m bs) (2 ^ 64) (omega (arith, natural_up m bs)) in
+    let over : nat_lt (natural_from m bs) (2 ^ 64) ≡ false = le-ltb (natural_from m bs) (2 ^ 64) (omega (arith, natural_up m bs)) in
     ap (λ (t : Bool). option_and_then (λ k. read_from k bs) (if t && nat_lt m (2 ^ 64) then Some m else None)) e
     ∙ ap (λ (t : Bool). option_and_then (λ k. read_from k bs) (if t then Some m else None)) f ∙ sym (none_if (list_all is_digit bs) (natural_from m bs))
     ∙ sym (ap (λ (t : Bool). if list_all is_digit bs && t then Some (natural_from m bs) else None) over)
     ∙ sym (ap (λ (t : Bool). bounded (t && list_all is_digit bs) (natural_from m bs)) e)
 
 pub read_is : (n : ℕ) (bs : List ℕ) → n < 2 ^ 64 → read_from n bs ≡ bounded (list_all is_digit bs) (natural_from n bs)
-read_is n [] lt = sym (ap (λ (t : Bool). if t then Some n else None) (is_lt n (2 ^ 64) lt))
+read_is n [] lt = sym (ap (λ (t : Bool). if t then Some n else None) (lt-ltb n (2 ^ 64) lt))
 read_is n (b ∷ bs) lt = read_more n b (n * 10 + (b - 48)) bs refl (is_digit b) (nat_lt (n * 10 + (b - 48)) (2 ^ 64)) refl refl (read_is (n * 10 + (b - 48)) bs)
 
 -- a digit, and no zero before others

@@ -1,12 +1,12 @@
 -- What is read of structures, arrays and parts.
 use Rattle.vms_values.proofs.Facade.{refl, ◌∙◌, ◌≡◌, ℕ, zero, suc, ◌+◌, ◌<◌, Bool, true, ◌&&◌, List, [], ◌∷◌, ◌++◌, length, get_or, Ok, Err, pos, ap, arith}
-use Rattle.vms_values.proofs.Facade.{codes, ◌-◌, ◌*◌, not, ◌||◌, if◌then◌else◌, drop, slice_set, Option, Some, None, ℤ, sym, decimal, Typed, IsKept, run_read}
-use Rattle.vms_values.proofs.Facade.{Item, Num, Equal, Unused, Struct, Count, One, Fixed, Counted, Field, Desc, Set, is_there, Cell, no_desc, no_parent, first}
-use Rattle.vms_values.proofs.Facade.{item_size, field_cells, numbers_of, elements_of, counted, no_field, struct_cells, capacity_of, Reader, Standing, Read}
-use Rattle.vms_values.proofs.Facade.{◌>>=◌, no_reader, reader, readers, cells_of, read_item, read_elements, read_array, read_field, read_fields, read_desc}
-use Rattle.vms_values.proofs.Facade.{BadLine, CellLine, bad, put_line, put_number, ItemBelow, FieldsBelow, all_below, item_cells_same, field_cells_same}
-use Rattle.vms_values.proofs.Facade.{own_same, row_same, first_same, readers_cells, first_at, is_well_formed, struct_clean, same_number, in_range, first_line}
-use Rattle.vms_values.proofs.Facade.{begins_with, number_spelled, field_size, least_of, size_in, capacities_of, cells_table, fields_at, exceeds_least}
+use Rattle.vms_values.proofs.Facade.{codes, ◌-◌, ◌*◌, not, ◌||◌, if◌then◌else◌, drop, slice_set, Option, Some, None, ℤ, sym, decimal, CellLine, exceeds_least}
+use Rattle.vms_values.proofs.Facade.{Typed, IsKept, run_read, Item, Num, Equal, Unused, Struct, Count, One, Fixed, Counted, Field, Desc, Set, is_there, Cell}
+use Rattle.vms_values.proofs.Facade.{no_desc, no_parent, first, item_size, field_cells, numbers_of, elements_of, counted, no_field, struct_cells, capacity_of}
+use Rattle.vms_values.proofs.Facade.{Reader, Standing, Read, ◌>>=◌, no_reader, reader, readers, cells_of, read_item, read_elements, read_array, read_field}
+use Rattle.vms_values.proofs.Facade.{read_fields, read_desc, BadLine, bad, put_line, put_number, ItemBelow, FieldsBelow, all_below, item_cells_same}
+use Rattle.vms_values.proofs.Facade.{field_cells_same, own_same, row_same, first_same, readers_cells, first_at, is_well_formed, struct_clean, same_number}
+use Rattle.vms_values.proofs.Facade.{in_range, first_line, begins_with, number_spelled, field_size, least_of, size_in, capacities_of, cells_table, fields_at}
 use Rattle.vms_spec.specs.declared.ValuesReason.TheVariants as reasons
 
 pub kept_none : (a : Typed) → IsKept a a
@@ -53,8 +53,7 @@ module _ (j : ℕ) (rs Rs : List Reader) (agree : (i : ℕ) → i < j → get_or
   array_same : (f : Field) (caps path : List ℕ) (present : Bool) (at : ℕ) (c : Count) (own : ℕ → ℕ) (p : Standing) → ItemBelow j f.item
       → read_array rs f caps path present at c own p ≡ read_array Rs f caps path present at c own p
   array_same f caps path present at One own p e = item_same f caps path present at f.item p e
-  array_same f caps path present at (Fixed k) own p e = many_same f caps path present at (elements_of (Fixed k) own) p e
-  array_same f caps path present at (Counted by most) own p e = many_same f caps path present at (elements_of (Counted by most) own) p e
+  array_same f caps path present at c own p e = many_same f caps path present at (elements_of c own) p e
 
   field_same : (d : Desc) (v : ℕ) (path : List ℕ) (present : Bool) (base i at : ℕ) (f : Field) (p : Standing) → FieldsBelow j d.fields → ItemBelow j f.item
       → read_field rs d v path present base i at f p ≡ read_field Rs d v path present base i at f p
@@ -141,10 +140,7 @@ module _ (rs : List Reader) (f : Field) (caps path : List ℕ) (present : Bool) 
 run_is : (rs : List Reader) (f : Field) (c : Count) (own : ℕ → ℕ) (count : ℕ) (caps path : List ℕ) (present : Bool) (at : ℕ) (p : Standing) → count ≡ elements_of c own
     → read_array rs f caps (path ++ f.name) present at c own p ≡ run_read rs f c (capacities_of (least_of caps)) path present at count p
 run_is rs f One own count caps path present at p e = sym (item_least rs f caps (path ++ f.name) present at f.item p)
-run_is rs f (Fixed k) own count caps path present at p e =
-    ap (λ (m : ℕ). read_elements rs f caps (path ++ f.name) present at (item_size (cells_of rs) f.item) 0 m p) (sym e)
-    ∙ sym (elements_least rs f caps (path ++ f.name) present at (item_size (cells_of rs) f.item) 0 count p)
-run_is rs f (Counted by most) own count caps path present at p e =
+run_is rs f _ own count caps path present at p e =
     ap (λ (m : ℕ). read_elements rs f caps (path ++ f.name) present at (item_size (cells_of rs) f.item) 0 m p) (sym e)
     ∙ sym (elements_least rs f caps (path ++ f.name) present at (item_size (cells_of rs) f.item) 0 count p)
 

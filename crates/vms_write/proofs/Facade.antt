@@ -1,10 +1,11 @@
 -- The names of other crates, and of this crate's `specs`, that the proofs use.
 pub use Rattle.std.proofs.Common.{Bool, Err, IfErr, IfSome, List, None, Ok, OnOk, Option, Some, [], ap, append_assoc, arith, drop, false, get_or, length}
-pub use Rattle.std.proofs.Common.{length-append, length-drop, map, nat_le, nat_lt, negsuc, not, pos, refl, replicate, rules, subst, suc, sym, take, true, zero}
-pub use Rattle.std.proofs.Common.{ℕ, ℤ, ◌&&◌, ◌++◌, ◌+◌, ◌-◌, ◌<◌, ◌==◌, ◌||◌, ◌∙◌, ◌∷◌, ◌≡◌, ◌≤◌}
+pub use Rattle.std.proofs.Common.{length-append, length-drop, map, nat_le, negsuc, not, pos, refl, replicate, rules, subst, suc, sym, take, true, zero, ℕ, ℤ}
+pub use Rattle.std.proofs.Common.{⊎_elim, ◌&&◌, ◌++◌, ◌+◌, ◌-◌, ◌<◌, ◌==◌, ◌||◌, ◌∙◌, ◌∷◌, ◌≡◌, ◌≤◌}
 pub use Rattle.std.proofs.Math.Bool.{and-true, and_assoc}
-pub use Rattle.std.proofs.lemmas.Bool.{and_from, and_parts, eq-eqb, eqb-true, leb-true, ltb-false, ltb-true, ne_eqb}
+pub use Rattle.std.proofs.lemmas.Bool.{OnFalse_at, OnFalse_from, OnTrue_at, OnTrue_from, and_from, and_parts, cases_lt, eq-eqb, eqb-true, leb-true, ne_eqb}
 pub use Rattle.std.proofs.lemmas.List.{drop_more, get_or-map, length-map, length-replicate, replicate-append-replicate, take-replicate}
+pub use Rattle.std.proofs.lemmas.List.Sums.{AllPass-from_list_all}
 pub use Rattle.std.proofs.lemmas.Option.{get_or_from_slice_get, slice_get-get_or, slice_get_within}
 pub use Rattle.std.proofs.lemmas.Result.{err_from_is_err_and}
 pub use Rattle.std.specs.Bool.{OnFalse, OnTrue}
@@ -12,20 +13,18 @@ pub use Rattle.std.specs.List.{flat_map, list_all, slice_get}
 pub use Rattle.std.specs.Option.{option_copied}
 pub use Rattle.std.specs.Prelude.{Result}
 pub use Rattle.vms_kinds.specs.Codes.{code}
-pub use Rattle.vms_kinds.specs.declared.Item.{Item}
 pub use Rattle.vms_kinds.specs.declared.Kind.{Kind}
 pub use Rattle.vms_kinds.specs.declared.Kind.TheVariants.{U8}
 pub use Rattle.vms_spec.proofs.Faultless.{AllTrue, all_true, or_else_none}
 pub use Rattle.vms_spec.proofs.ListLaws.{and_swap, both_below, or_second, versions_long}
 pub use Rattle.vms_spec.proofs.NumberLaws.{same_number_is}
-pub use Rattle.vms_spec.proofs.Sizes.{size_same}
 pub use Rattle.vms_spec.proofs.WellFormedLaws.{ranges, within}
 pub use Rattle.vms_spec.specs.Good.{DefaultsFit, IsGood}
 pub use Rattle.vms_spec.specs.Heads.{FitsHeads}
 pub use Rattle.vms_spec.specs.Images.{AreVersionsOf, FitsCell, Image, RulesHold, came_slots, has_cell, image_slots, own_cells, own_slots, sub_place, sub_slots}
 pub use Rattle.vms_spec.specs.Images.{zeroed}
-pub use Rattle.vms_spec.specs.Layout.{Cell, Constant, Filler, Meaning, Number, Rule, Slot, desc_cells, desc_slots, device_cells, item_cells, item_size}
-pub use Rattle.vms_spec.specs.Layout.{item_slots, meanings, no_cell, no_desc, struct_cells}
+pub use Rattle.vms_spec.specs.Layout.{Cell, Constant, Filler, Meaning, Number, Rule, Slot, desc_cells, desc_slots, device_cells, meanings, no_cell, no_desc}
+pub use Rattle.vms_spec.specs.Layout.{struct_cells}
 pub use Rattle.vms_spec.specs.Lists.{at_option, first_answer, or_else}
 pub use Rattle.vms_spec.specs.Names.{is_name, is_name_byte}
 pub use Rattle.vms_spec.specs.Numbers.{same_number}
@@ -40,7 +39,7 @@ unfoldable pub use Rattle.vms_spec.specs.WellFormed.{first_fault}
 pub use Rattle.vms_spec.specs.declared.TheConstants.{MOST_ITEMS}
 pub use Rattle.vms_bodies.proofs.AboveLaws.{IsAbove, above_append, above_less, above_none, desc_above, meanings_above}
 pub use Rattle.vms_bodies.proofs.AgreeLaws.{stands_behind}
-pub use Rattle.vms_bodies.proofs.CellLaws.{MeanCells, cells_first, desc_are, item_are, meanings_are}
+pub use Rattle.vms_bodies.proofs.CellLaws.{MeanCells, cells_first, desc_are, meanings_are}
 pub use Rattle.vms_bodies.proofs.ConstantLaws.{constants_append, own_constants, part_constants}
 pub use Rattle.vms_bodies.proofs.FineLaws.{image_are}
 pub use Rattle.vms_bodies.proofs.Names.{names_append}

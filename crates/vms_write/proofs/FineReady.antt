@@ -1,14 +1,15 @@
 -- What the judging walk finds fine is ready, and what is ready it finds fine.
-use Rattle.vms_write.proofs.Facade.{◌≡◌, ℕ, zero, suc, ◌+◌, ◌<◌, ◌≤◌, List, [], ◌∷◌, ◌++◌, length, length-append, get_or, map, Option, Some, None, ℤ, pos, refl}
-use Rattle.vms_write.proofs.Facade.{sym, ap, ◌∙◌, subst, arith, Bool, true, false, not, ◌&&◌, ◌||◌, ◌==◌, OnTrue, OnFalse, flat_map, slice_get, and_parts}
-use Rattle.vms_write.proofs.Facade.{leb-true, eqb-true, eq-eqb, and_from, slice_get-get_or, same_number, Set, Device, Sub, Desc, AtLeast, Cell, no_cell}
-use Rattle.vms_write.proofs.Facade.{no_desc, Slot, Number, Constant, Filler, Rule, meanings, desc_cells, desc_slots, struct_cells, device_cells, Image}
-use Rattle.vms_write.proofs.Facade.{has_cell, own_cells, own_slots, sub_slots, came_slots, image_slots, AreVersionsOf, FitsCell, RulesHold, is_needed, IsReady}
-use Rattle.vms_write.proofs.Facade.{come_as_needed, in_range, counts_well, AreCells, IsGood, DefaultsFit, IsAbove, above_none, above_append, above_less}
-use Rattle.vms_write.proofs.Facade.{desc_above, meanings_above, cells_first, meanings_are, constants_append, own_constants, part_constants, image_are}
-use Rattle.vms_write.proofs.Facade.{named_fits, parts_together, same_number_is, ranged, counted_well, is_same, needed_are, are_needed, AreConstants, fit_slots}
-use Rattle.vms_write.proofs.Facade.{FitSlots, ranges, within, or_second, and_swap, form_of, CellForm, device_at, is_well_formed, sub_at, device_clean}
-use Rattle.vms_write.proofs.Facade.{sub_clean, no_form, are_fit, settle, is_fine, sub_size, subs_fine}
+use Rattle.vms_write.proofs.Facade.{OnTrue_from, OnFalse_from, get_or_from_slice_get, slice_get_within, ◌≡◌, ℕ, zero, suc, ◌+◌, ◌<◌, ◌≤◌, List, [], ◌∷◌, ◌++◌}
+use Rattle.vms_write.proofs.Facade.{length, length-append, get_or, map, Option, Some, None, ℤ, pos, refl, sym, ap, ◌∙◌, subst, arith, Bool, true, false, not}
+use Rattle.vms_write.proofs.Facade.{◌&&◌, ◌||◌, ◌==◌, OnTrue, OnFalse, flat_map, slice_get, and_parts, leb-true, eqb-true, eq-eqb, and_from, slice_get-get_or}
+use Rattle.vms_write.proofs.Facade.{same_number, Set, Device, Sub, Desc, AtLeast, Cell, no_cell, no_desc, Slot, Number, Constant, Filler, Rule, meanings}
+use Rattle.vms_write.proofs.Facade.{desc_cells, desc_slots, struct_cells, device_cells, Image, has_cell, own_cells, own_slots, sub_slots, came_slots}
+use Rattle.vms_write.proofs.Facade.{image_slots, AreVersionsOf, FitsCell, RulesHold, is_needed, IsReady, come_as_needed, in_range, counts_well, AreCells}
+use Rattle.vms_write.proofs.Facade.{IsGood, DefaultsFit, IsAbove, above_none, above_append, above_less, desc_above, meanings_above, cells_first, meanings_are}
+use Rattle.vms_write.proofs.Facade.{constants_append, own_constants, part_constants, image_are, named_fits, parts_together, same_number_is, ranged}
+use Rattle.vms_write.proofs.Facade.{counted_well, is_same, needed_are, are_needed, AreConstants, fit_slots, FitSlots, ranges, within, or_second, and_swap}
+use Rattle.vms_write.proofs.Facade.{form_of, CellForm, device_at, is_well_formed, sub_at, device_clean, sub_clean, no_form, are_fit, settle, is_fine, sub_size}
+use Rattle.vms_write.proofs.Facade.{subs_fine}
 use Rattle.vms_write.proofs.StepsFine.{IsBelow, fine_parts, desc_below}
 
 -- ---- slots that fit
@@ -182,19 +183,8 @@ module _ (set : Set) (well : is_well_formed set ≡ true) (good : IsGood set) (i
   lowest : (k : ℕ) (s : Sub) → slice_get (device_at set i).subs k ≡ Some s → s.desc.minimum ≤ s.desc.version
   lowest k s e =
       let d = device_at set i in
-      let inside = within_list d.subs k s e in
-      let same : sub_at d k ≡ s = there d.subs k (record { desc = no_desc; needed = AtLeast 0 }) s e in
-      subst (λ (x : Sub). x.desc.minimum ≤ x.desc.version) same (leb-true (sub_at d k).desc.minimum (sub_at d k).desc.version (sub_clean set well i k lt inside).own.1.1.0)
-    where
-      within_list : (xs : List Sub) (k : ℕ) (s : Sub) → slice_get xs k ≡ Some s → k < length xs
-      within_list [] k s e = cc
-      within_list (x ∷ xs) zero s e = omega arith
-      within_list (x ∷ xs) (suc k) s e = omega (arith, within_list xs k s e)
-
-      there : (xs : List Sub) (k : ℕ) (none s : Sub) → slice_get xs k ≡ Some s → get_or xs k none ≡ s
-      there [] k none s e = cc
-      there (x ∷ xs) zero none s e = cc
-      there (x ∷ xs) (suc k) none s e = there xs k none s e
+      let same : sub_at d k ≡ s = get_or_from_slice_get d.subs k s (record { desc = no_desc; needed = AtLeast 0 }) e in
+      subst (λ (x : Sub). x.desc.minimum ≤ x.desc.version) same (leb-true (sub_at d k).desc.minimum (sub_at d k).desc.version (sub_clean set well i k lt (slice_get_within d.subs k s e)).own.1.1.0)
 
   default_at : (c : ℕ) → (get_or forms c no_form).default ≡ (get_or (device_cells set (device_at set i)) c no_cell).default
   default_at c = ap (λ (fs : List CellForm). (get_or fs c no_form).default) is ∙ form_default (device_cells set (device_at set i)) c
@@ -251,12 +241,7 @@ module _ (set : Set) (well : is_well_formed set ≡ true) (good : IsGood set) (i
       (settle_all slots forms n 0 (length all) (λ c l bare. ready.normal.absent c (omega arith) bare ∙ sym (default_at c))))
 
   pub ready_by : (b : Bool) → b ≡ device_fine set (device_at set i) forms image → OnTrue b (IsReady set (device_at set i) image)
-  ready_by true e = fine_ready (sym e)
-  ready_by false e = tt
+  ready_by b e = OnTrue_from b _ (λ is. fine_ready (sym e ∙ is))
 
   pub other_by : (b : Bool) → b ≡ device_fine set (device_at set i) forms image → OnFalse b (IsReady set (device_at set i) image → ⊥)
-  other_by true e = tt
-  other_by false e = λ ready. apart (e ∙ ready_fine ready)
-    where
-      apart : false ≡ true → ⊥
-      apart e = cc
+  other_by b e = OnFalse_from b _ (λ is ready. let fine = ready_fine ready in cc)

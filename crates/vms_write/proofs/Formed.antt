@@ -1,16 +1,11 @@
 -- Names of a well-formed set are short; the forms of a device's cells, by the numbers that a set keeps of it.
-use Rattle.vms_write.proofs.Facade.{◌≡◌, ℕ, zero, suc, ◌+◌, ◌<◌, ◌≤◌, List, [], ◌∷◌, length, length-drop, get_or, drop, sym, subst, arith, Bool, true, ◌&&◌}
-use Rattle.vms_write.proofs.Facade.{nat_le, map, ℤ, pos, refl, ap, ◌∙◌, list_all, and_parts, leb-true, length-map, or_else, first_answer, Set, is_name}
+use Rattle.vms_write.proofs.Facade.{AllPass-from_list_all, ◌≡◌, ℕ, zero, suc, ◌+◌, ◌<◌, ◌≤◌, List, [], ◌∷◌, length, length-drop, get_or, drop, sym, arith, true}
+use Rattle.vms_write.proofs.Facade.{◌&&◌, nat_le, map, ℤ, pos, refl, ap, ◌∙◌, list_all, and_parts, leb-true, length-map, or_else, first_answer, Set, is_name}
 use Rattle.vms_write.proofs.Facade.{is_name_byte, failing, here, set_rules, size_rules, struct_fault, device_fault, first_fault, is_well_formed, device_at}
 use Rattle.vms_write.proofs.Facade.{sub_at, AllTrue, all_true, or_else_none, none_is, device_clean, sub_clean, Kind, Cell, device_cells, form_of, CellForm}
 use Rattle.vms_write.proofs.Facade.{Held, defaults_at, no_form, formed_of, formed, forms_of}
 use Rattle.vms_parts.specs.Devices.{device_at as device_in}
 use Rattle.vms_spec.specs.declared.Part.TheVariants as parts
-
-every_at : {X : Type 0} (p : X → Bool) (xs : List X) (i : ℕ) (d : X) → list_all p xs ≡ true → i < length xs → p (get_or xs i d) ≡ true
-every_at p [] i d e lt = absurd (omega arith)
-every_at p (x ∷ xs) zero d e lt = (and_parts (p x) (list_all p xs) e).0
-every_at p (x ∷ xs) (suc i) d e lt = every_at p xs i d (and_parts (p x) (list_all p xs) e).1 (omega arith)
 
 name_short : (most : ℕ) (name : List ℕ) → is_name most name ≡ true → length name ≤ most
 name_short most name e =
@@ -27,7 +22,7 @@ module _ (set : Set) (well : is_well_formed set ≡ true) where
       all_true 1 (set_rules set) (here parts.Set) a.0
 
   pub machine_short : (m : ℕ) (name : List ℕ) → m < length set.machines → name ≡ get_or set.machines m name → length name ≤ 64
-  machine_short m name lt e = name_short 64 name (subst (λ (n : List ℕ). is_name 64 n ≡ true) (sym e) (every_at (is_name 64) set.machines m name set_clean.0 lt))
+  machine_short m name lt e = name_short 64 name (rw e (AllPass-from_list_all (is_name 64) set.machines set_clean.0 m name lt))
 
   pub device_short : (i : ℕ) → i < length set.devices → length (device_at set i).desc.name ≤ 100
   device_short i lt = name_short 100 (device_at set i).desc.name (device_clean set well i lt).own.0

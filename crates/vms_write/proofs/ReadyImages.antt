@@ -1,10 +1,9 @@
 -- What ready images have, one after the other.
-use Rattle.vms_write.proofs.Facade.{◌≡◌, ℕ, ◌<◌, ◌≤◌, List, [], ◌∷◌, length, map, ℤ, ◌∙◌, arith, true, ◌+◌, Bool, false, nat_lt, get_or, Some, refl, sym, ap}
-use Rattle.vms_write.proofs.Facade.{subst, get_or-map, slice_get-get_or, slice_get_within, get_or_from_slice_get, slice_get, ltb-true, ltb-false, U8}
-use Rattle.vms_write.proofs.Facade.{MOST_ITEMS, Set, Sub, AtLeast, Device, Slot, Number, Constant, Filler, Rule, Cell, no_cell, no_desc, device_cells, Image}
-use Rattle.vms_write.proofs.Facade.{own_cells, own_slots, sub_place, sub_slots, IsReady, AreReady, AreCells, FitsHeads, own_constants, part_constants, sub_are}
-use Rattle.vms_write.proofs.Facade.{fit_slots, own_are, FitSlots, versions_long, device_at, is_well_formed, sub_at, kinds_at, few_cells, good_of, CanWrite}
-use Rattle.vms_write.proofs.Facade.{Typed, IsImageOf, AreImagesOf}
+use Rattle.vms_write.proofs.Facade.{cases_lt, ⊎_elim, ◌≡◌, ℕ, ◌<◌, ◌≤◌, List, [], ◌∷◌, length, map, ℤ, ◌∙◌, arith, true, ◌+◌, get_or, Some, sym, ap, subst}
+use Rattle.vms_write.proofs.Facade.{get_or-map, slice_get-get_or, slice_get_within, get_or_from_slice_get, slice_get, U8, MOST_ITEMS, Set, Sub, AtLeast, Device}
+use Rattle.vms_write.proofs.Facade.{Slot, Number, Constant, Filler, Rule, Cell, no_cell, no_desc, device_cells, Image, own_cells, own_slots, sub_place}
+use Rattle.vms_write.proofs.Facade.{sub_slots, IsReady, AreReady, AreCells, FitsHeads, own_constants, part_constants, sub_are, fit_slots, own_are, FitSlots}
+use Rattle.vms_write.proofs.Facade.{versions_long, device_at, is_well_formed, sub_at, kinds_at, few_cells, good_of, CanWrite, Typed, IsImageOf, AreImagesOf}
 
 can_write : (cells : List Cell) (m : List ℤ) (slots : List Slot) → AreCells cells slots → FitSlots m slots → CanWrite (map (λ c. c.kind) cells) slots
 can_write cells m [] are f = tt
@@ -56,16 +55,15 @@ pub none_so_far : (set : Set) (images : List Image) → length images ≡ length
 none_so_far set images long = record { long = long; ready = λ k d image lt. absurd (omega arith) }
 
 module _ (set : Set) (images : List Image) (n : ℕ) (image : Image) (sofar : AreSoFar set images n) (lt : n < length images) (is : image ≡ get_or images n image) where
-  ready_by : IsReady set (device_at set n) image → (k : ℕ) (d : Device) (other : Image) → k < n + 1 → slice_get set.devices k ≡ Some d → slice_get images k ≡ Some other → (b : Bool) → nat_lt k n ≡ b → IsReady set d other
-  ready_by r k d other less e f true g = sofar.ready k d other (ltb-true k n g) e f
-  ready_by r k d other less e f false g =
-      let same : k ≡ n = omega (arith, ltb-false k n g) in
-      let device : device_at set n ≡ d = get_or_from_slice_get set.devices n d _ (ap (slice_get set.devices) (sym same) ∙ e) in
-      let there : image ≡ other = is ∙ get_or_from_slice_get images n other image (ap (slice_get images) (sym same) ∙ f) in
-      subst (λ (x : Device). IsReady set x other) device (subst (IsReady set (device_at set n)) there r)
-
   pub one_more : IsReady set (device_at set n) image → AreSoFar set images (n + 1)
-  one_more r = record { long = sofar.long; ready = λ k d other less e f. ready_by r k d other less e f (nat_lt k n) refl }
+  one_more r = record {
+    long = sofar.long;
+    ready = λ k d other less e f. ⊎_elim (λ (below : k < n). sofar.ready k d other below e f) (λ (above : n ≤ k).
+        let same : k ≡ n = omega arith in
+        let device : device_at set n ≡ d = get_or_from_slice_get set.devices n d _ (ap (slice_get set.devices) (sym same) ∙ e) in
+        let there : image ≡ other = is ∙ get_or_from_slice_get images n other image (ap (slice_get images) (sym same) ∙ f) in
+        subst (λ (x : Device). IsReady set x other) device (subst (IsReady set (device_at set n)) there r)) (cases_lt k n);
+  }
 
   -- if one isn't ready, not all are
   pub not_all : (IsReady set (device_at set n) image → ⊥) → AreReady set images → ⊥
@@ -87,15 +85,13 @@ pub none_of : (set : Set) (images : List Typed) → AreOfSoFar set images 0
 none_of set images = record { each = λ k image lt. absurd (omega arith) }
 
 module _ (set : Set) (images : List Typed) (n : ℕ) (image : Typed) (sofar : AreOfSoFar set images n) (lt : n < length images) (is : image ≡ get_or images n image) where
-  of_by : IsImageOf set n image → (k : ℕ) (other : Typed) → k < n + 1 → slice_get images k ≡ Some other → (b : Bool) → nat_lt k n ≡ b → IsImageOf set k other
-  of_by o k other less f true g = sofar.each k other (ltb-true k n g) f
-  of_by o k other less f false g =
-      let same : k ≡ n = omega (arith, ltb-false k n g) in
-      let there : image ≡ other = is ∙ get_or_from_slice_get images n other image (ap (slice_get images) (sym same) ∙ f) in
-      subst (λ (m : ℕ). IsImageOf set m other) (sym same) (subst (IsImageOf set n) there o)
-
   pub one_more_of : IsImageOf set n image → AreOfSoFar set images (n + 1)
-  one_more_of o = record { each = λ k other less f. of_by o k other less f (nat_lt k n) refl }
+  one_more_of o = record {
+    each = λ k other less f. ⊎_elim (λ (below : k < n). sofar.each k other below f) (λ (above : n ≤ k).
+        let same : k ≡ n = omega arith in
+        let there : image ≡ other = is ∙ get_or_from_slice_get images n other image (ap (slice_get images) (sym same) ∙ f) in
+        subst (λ (m : ℕ). IsImageOf set m other) (sym same) (subst (IsImageOf set n) there o)) (cases_lt k n);
+  }
 
 pub all_of : (set : Set) (images : List Typed) (n : ℕ) → AreOfSoFar set images n → length images ≡ length set.devices → length images ≤ n → AreImagesOf set images
 all_of set images n sofar long le = record {

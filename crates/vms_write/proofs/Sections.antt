@@ -81,13 +81,11 @@ subs_fine_next set i forms image j lt lt' =
     let none : Sub = record { desc = no_desc; needed = AtLeast 0 } in
     let at = first_cell set (parts.Sub i j) in
     let here = sub_fine set d forms image j at (sub_at d j) (get_or image.came j None) in
+    let one : suc j ≡ j + 1 = omega arith in
     ap (λ (xs : List Sub). subs_fine set d forms image j at xs (drop j image.came)) (drop_more d.subs j none lt)
     ∙ ap (λ (ys : List (Option ℕ)). subs_fine set d forms image j at (sub_at d j ∷ drop (j + 1) d.subs) ys) (drop_more image.came j None lt')
-    ∙ ap (λ (k : ℕ). here && subs_fine set d forms image k (at + sub_size set (sub_at d j)) (drop (j + 1) d.subs) (drop (j + 1) image.came)) (one j)
+    ∙ ap (λ (k : ℕ). here && subs_fine set d forms image k (at + sub_size set (sub_at d j)) (drop (j + 1) d.subs) (drop (j + 1) image.came)) one
     ∙ ap (λ (x : ℕ). here && subs_fine set d forms image (j + 1) x (drop (j + 1) d.subs) (drop (j + 1) image.came)) (sym (sub_next set (own_cells set d) d.subs j none lt))
-  where
-    one : (j : ℕ) → suc j ≡ j + 1
-    one j = omega arith
 
 -- ---- The sections of a stream, one after the other.
 
@@ -98,10 +96,7 @@ pub sections_next : (set : Set) (i : ℕ) (ds : List Device) (images : List Imag
 sections_next set i ds images d image lt lt' =
     ap (λ (xs : List Device). written_sections set i xs (drop i images)) (drop_more ds i d lt)
     ∙ ap (λ (ys : List Image). written_sections set i (get_or ds i d ∷ drop (i + 1) ds) ys) (drop_more images i image lt')
-    ∙ ap (λ (k : ℕ). written_section set (get_or ds i d) (get_or images i image) i ++ written_sections set k (drop (i + 1) ds) (drop (i + 1) images)) (next i)
-  where
-    next : (i : ℕ) → suc i ≡ i + 1
-    next i = omega arith
+    ∙ ap (λ (k : ℕ). written_section set (get_or ds i d) (get_or images i image) i ++ written_sections set k (drop (i + 1) ds) (drop (i + 1) images)) (omega arith)
 
 pub sections_at : (set : Set) (i : ℕ) (images : List Image) (image : Image) → i < length set.devices → i < length images → image ≡ get_or images i image
     → written_sections set i (drop i set.devices) (drop i images)

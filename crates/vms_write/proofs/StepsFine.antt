@@ -1,11 +1,11 @@
 -- When the slots of a part are fine, joined and step by step.
 use Rattle.vms_write.proofs.Facade.{◌≡◌, ℕ, zero, suc, ◌+◌, ◌<◌, ◌≤◌, List, [], ◌∷◌, ◌++◌, length, length-append, get_or, replicate, ℤ, pos, refl, sym, ap, ◌∙◌}
 use Rattle.vms_write.proofs.Facade.{subst, arith, Bool, true, false, ◌&&◌, ◌||◌, ◌-◌, Option, Some, None, negsuc, ◌==◌, length-replicate, ne_eqb, eq-eqb}
-use Rattle.vms_write.proofs.Facade.{and-true, and_assoc, Item, same_number, in_range, counts_well, int_le, Desc, Set, Cell, no_cell, Slot, Number, Constant}
-use Rattle.vms_write.proofs.Facade.{Filler, Rule, Meaning, item_slots, item_cells, item_size, desc_slots, desc_cells, has_cell, AreCells, IsAbove, MeanCells}
-use Rattle.vms_write.proofs.Facade.{item_are, desc_are, cells_first, names_append, size_same, and_swap, both_below, CellForm, no_form, are_fit, settle, is_fine}
-use Rattle.vms_write.proofs.Facade.{is_within, cells_in, steps_of, table, spot_slots, stands_behind, Kind, own_cell_count, lesser, least_from, least_of}
-use Rattle.vms_write.proofs.Facade.{desc_at, PartAt, Ascends, below_from, from_end, desc_ascends, meanings_ascend, is_number_fine, behind, are_steps_fine}
+use Rattle.vms_write.proofs.Facade.{and-true, and_assoc, same_number, in_range, counts_well, int_le, Desc, Set, Cell, no_cell, Slot, Number, Constant, Filler}
+use Rattle.vms_write.proofs.Facade.{Rule, Meaning, desc_slots, desc_cells, has_cell, AreCells, IsAbove, MeanCells, desc_are, cells_first, names_append}
+use Rattle.vms_write.proofs.Facade.{and_swap, both_below, CellForm, no_form, are_fit, settle, is_fine, is_within, cells_in, steps_of, table, spot_slots}
+use Rattle.vms_write.proofs.Facade.{stands_behind, Kind, own_cell_count, lesser, least_from, least_of, desc_at, PartAt, Ascends, below_from, from_end}
+use Rattle.vms_write.proofs.Facade.{desc_ascends, meanings_ascend, is_number_fine, behind, are_steps_fine}
 
 -- ---- tests
 
@@ -78,21 +78,12 @@ are_below all slots h = record { above = λ c le. none slots h c le }
     none (Filler m ∷ slots) h c le = none slots h c le
     none (Rule b ∷ slots) h c le = none slots h c le
 
-below_end : (at size : ℕ) (cells : List Cell) (slots : List Slot) → length cells ≡ size → AreCells (replicate at no_cell ++ cells) slots → IsBelow (at + size) slots
-below_end at size cells slots e h =
-    let long : length (replicate at no_cell ++ cells) ≡ at + size = omega (arith, length-append (replicate at no_cell) cells, length-replicate at no_cell) in
-    subst (λ (k : ℕ). IsBelow k slots) long (are_below (replicate at no_cell ++ cells) slots h)
-
-module _ (ms : List Meaning) (known : MeanCells ms) (n : List ℤ) where
-  pub item_below : (item : Item) (caps : List ℕ) (at : ℕ) → IsBelow (at + item_size (cells_in ms) item) (item_slots ms item caps n at)
-  item_below item caps at =
-      let cells = item_cells (cells_in ms) item caps (pos 0) in
-      below_end at (item_size (cells_in ms) item) cells (item_slots ms item caps n at) (size_same (cells_in ms) item caps (pos 0)) (item_are ms known item caps (pos 0) (replicate at no_cell ++ cells) at n (stands_behind at cells))
-
-  pub desc_below : (d : Desc) (v at : ℕ) → IsBelow (at + length (desc_cells (cells_in ms) d)) (desc_slots ms d v n at)
-  desc_below d v at =
-      let cells = desc_cells (cells_in ms) d in
-      below_end at (length cells) cells (desc_slots ms d v n at) refl (desc_are ms known d v at n (replicate at no_cell ++ cells) (stands_behind at cells))
+pub desc_below : (ms : List Meaning) → MeanCells ms → (n : List ℤ) (d : Desc) (v at : ℕ) → IsBelow (at + length (desc_cells (cells_in ms) d)) (desc_slots ms d v n at)
+desc_below ms known n d v at =
+    let cells = desc_cells (cells_in ms) d in
+    let all = replicate at no_cell ++ cells in
+    let long : length all ≡ at + length cells = omega (arith, length-append (replicate at no_cell) cells, length-replicate at no_cell) in
+    subst (λ (k : ℕ). IsBelow k (desc_slots ms d v n at)) long (are_below all (desc_slots ms d v n at) (desc_are ms known d v at n all (stands_behind at cells)))
 
 -- ---- The steps of a part are fine, and the cells after them at their defaults, exactly if its slots are fine.
 
@@ -157,14 +148,12 @@ slots_fine forms n at end (Number c kind caps ∷ xs) h =
     ∙ ap (λ (b : Bool). (fits && gap) && b) (slots_fine forms n (c + 1) end xs h.1)
     ∙ and_swap fits gap (are_fit n xs) (settle xs forms n (c + 1) (end - (c + 1)))
     ∙ ap (λ (b : Bool). (fits && are_fit n xs) && b) (sym (settle_number forms n at end c kind caps xs h.0 h.1))
-slots_fine forms n at end (Constant kind z ∷ xs) h =
-    slots_fine forms n at end xs h ∙ ap (λ (b : Bool). are_fit n xs && b) (settle_other forms n xs (Constant kind z ∷ xs) at (end - at) (λ c. refl))
-slots_fine forms n at end (Filler k ∷ xs) h =
-    slots_fine forms n at end xs h ∙ ap (λ (b : Bool). are_fit n xs && b) (settle_other forms n xs (Filler k ∷ xs) at (end - at) (λ c. refl))
 slots_fine forms n at end (Rule b ∷ xs) h =
     and_assoc b (are_steps_fine forms n at (steps_of xs)) (settle [] forms n (behind at (steps_of xs)) (end - behind at (steps_of xs)))
     ∙ ap (λ (x : Bool). b && x) (slots_fine forms n at end xs h) ∙ sym (and_assoc b (are_fit n xs) (settle xs forms n at (end - at)))
     ∙ ap (λ (x : Bool). (b && are_fit n xs) && x) (settle_other forms n xs (Rule b ∷ xs) at (end - at) (λ c. refl))
+slots_fine forms n at end (x ∷ xs) h =
+    slots_fine forms n at end xs h ∙ ap (λ (b : Bool). are_fit n xs && b) (settle_other forms n xs (x ∷ xs) at (end - at) (λ c. refl))
 
 -- ---- a part of a set
 

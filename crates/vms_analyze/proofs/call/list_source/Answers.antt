@@ -1,6 +1,4 @@
-use Rattle.std.proofs.Common.{ℕ, List, subst}
-use Rattle.vms_io.specs.Told.{intake}
-use Rattle.vms_analyze.specs.Calls.{ListsAs}
+use Rattle.vms_analyze.proofs.Facade.{ℕ, List, subst, intake, ListsAs}
 use Rattle.vms_analyze.proofs.Inputs.{lists_taken, is_too_much}
 use Rattle.vms_analyze.proofs.call.list_source.Goals as goal
 

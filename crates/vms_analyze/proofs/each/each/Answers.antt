@@ -1,6 +1,4 @@
-use Rattle.std.proofs.Common.{ap, map, sym, ◌∙◌, Vec, Global}
-use Rattle.vms_json.specs.Nodes.{view, items_left}
-use Rattle.vms_analyze.specs.Read.{each}
+use Rattle.vms_analyze.proofs.Facade.{ap, map, sym, ◌∙◌, Vec, Global, view, items_left, each}
 use Rattle.vms_analyze.proofs.Inputs.{before, before_none, goes_on, stops, ends}
 use Rattle.vms_analyze.proofs.each.each.Goals as goal
 

@@ -1,6 +1,4 @@
-use Rattle.std.proofs.Common.{◌≡◌, length, map}
-use Rattle.vms_json.specs.Nodes.{items_left}
-use Rattle.vms_analyze.specs.Read.{each}
+use Rattle.vms_analyze.proofs.Facade.{◌≡◌, length, map, items_left, each}
 use Rattle.vms_analyze.proofs.Inputs.{before}
 use Rattle.vms_analyze.proofs.each.each.Given as goal
 

@@ -1,5 +1,4 @@
-use Rattle.std.proofs.Common.{◌≡◌, length, take, rules, arith, sym}
-use Rattle.vms_io.proofs.ReadingLemmas.{takes_none, takes_as}
+use Rattle.vms_analyze.proofs.Facade.{◌≡◌, length, take, rules, arith, sym, takes_none, takes_as}
 use Rattle.vms_analyze.proofs.Inputs.{piece_ends, piece_takes, piece_few, piece_grows, piece_fails}
 use Rattle.vms_analyze.proofs.input.read_input.Goals as goal
 

@@ -1,7 +1,4 @@
-use Rattle.std.proofs.Common.{length, ◌-◌, ◌+◌, ◌≤◌}
-use Rattle.vms_io.specs.Told.{intake}
-use Rattle.vms_analyze.specs.Listing.{longest_input}
-use Rattle.vms_io.specs.Reading.{Takes}
+use Rattle.vms_analyze.proofs.Facade.{length, ◌-◌, ◌+◌, ◌≤◌, intake, longest_input, Takes}
 use Rattle.vms_analyze.proofs.input.read_input.Given as goal
 
 abbrev pub invariant-loop-piece : goal.invariant-loop-piece

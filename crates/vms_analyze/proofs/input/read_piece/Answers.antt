@@ -1,5 +1,4 @@
-use Rattle.std.proofs.Common.{length, length-take, take, arith}
-use Rattle.std.proofs.lemmas.Bool.{ltb-true, ltb-false}
+use Rattle.vms_analyze.proofs.Facade.{length, length-take, take, arith, ltb-true, ltb-false}
 use Rattle.vms_analyze.proofs.input.read_piece.Goals as goal
 
 pub returns-in-Ok-extend_from_slice : goal.returns-in-Ok-extend_from_slice

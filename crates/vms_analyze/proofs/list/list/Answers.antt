@@ -1,4 +1,4 @@
-use Rattle.vms_analyze.specs.Listing.{HasNone}
+use Rattle.vms_analyze.proofs.Facade.{HasNone}
 use Rattle.vms_analyze.proofs.list.list.Goals as goal
 
 pub returns-in-None : goal.returns-in-None

@@ -1,11 +1,5 @@
-use Rattle.std.proofs.Common.{◌≡◌, ℕ, ◌+◌, List, map, take, drop, Some, None, sym, ap, ◌∙◌, subst}
-use Rattle.std.specs.List.{list_all}
-use Rattle.vms_json.specs.Texts.{value_in}
-use Rattle.vms_analyze.specs.Told.{is_good_device}
-use Rattle.vms_analyze.specs.Listing.{Tells, listing_of, IsRead, HasNoShape}
-use Rattle.vms_analyze.specs.Read.{next, devices_in}
-use Rattle.vms_analyze.specs.Typed.{device_of}
-use Rattle.vms_analyze.specs.Wanted.{found, wants}
+use Rattle.vms_analyze.proofs.Facade.{◌≡◌, ℕ, ◌+◌, List, map, take, drop, Some, None, sym, ap, ◌∙◌, subst, list_all, value_in, is_good_device, Tells}
+use Rattle.vms_analyze.proofs.Facade.{listing_of, IsRead, HasNoShape, next, devices_in, device_of, found, wants}
 use Rattle.vms_analyze.specs.declared.told.Device.{Device}
 use Rattle.vms_analyze.proofs.Inputs.{lists_as, text_behind}
 use Rattle.vms_analyze.proofs.DevicesRead.{tells_if, not_told}

@@ -6,7 +6,7 @@ use Rattle.vms_load.proofs.body.read_step.Goals as goal
 
 -- all bytes of an item, by which the cursor moves
 moved : (most at to : ℕ) (result : Result (Unit {0}) FrameFault) (n : ℕ) → OnOk result (to ≡ at + most) → IsLong (λ _. most) most result n → HasMoved most at to result n
-moved most at to (Ok x) n far l = (omega (arith, l), omega (arith, l, far))
+moved most at to (Ok x) n far l = (omega arith, omega arith)
 moved most at to (Err e) n far l = (l, tt)
 
 pub set-requires-clause-range : goal.set-requires-clause-range
@@ -32,11 +32,10 @@ returns-in_ok-number-in-Number-clause-reads g c =
     let at = c.args.cursor.now.at in
     let to = c.number.new.cursor.at in
     let z = c.in_ok-number-in-Number.number in
-    let f : SFits w128 z = search rules in
     let P : WalkStep → Type 0 = λ x. TakesOn (intake g.S.Source c.args.source.now) (intake g.S.Source c.number.new.source) (step_long x) at to
     (λ rest. take_slot (slot_of x) (progress numbers at rest)) c.set.new.self.numbers (Ok tt) in
     subst P (sym c.in-Number.is)
-    (rw (c.set.ensures, to_z-of_z w128 z f)
+    (rw (c.set.ensures, to_z-of_z w128 z (search rules))
     (reads_as (λ n l. (omega (arith, l), omega (arith, l, c.in_ok-number-in-Number.ensures.place)))
     (λ rest left h. number_ok rest (Some left) at to numbers c.in-Number.kind (capacities_of c.in-Number.most) c.in-Number.cell z c.in_ok-number-in-Number.ensures.place h)
     c.in_ok-number-in-Number.ensures.reads))

@@ -9,7 +9,7 @@ device-requires c = device_below (described c.args.set.now).devices c.deref.resu
 pub bounds-came-number : goal.bounds-came-number
 bounds-came-number c =
     let lt : c.in-Some.number < length (described c.args.set.now).devices = device_below (described c.args.set.now).devices c.deref.result.now c.args.head.now.instance c.in-Some.number (sym c.find.ensures ∙ c.in-Some.is) in
-    omega (arith, lt, c.requires)
+    omega arith
 
 pub returns-in-None-against_device-clause-opened : goal.returns-in-None-against_device-clause-opened
 returns-in-None-against_device-clause-opened c =

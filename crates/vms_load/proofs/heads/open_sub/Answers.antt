@@ -32,12 +32,12 @@ judged c it =
 pub bounds-as_slice-sub : goal.bounds-as_slice-sub
 bounds-as_slice-sub c =
     let below = below_subs c.args.device.now.subs c.args.name.now.items c.in-Some.sub (found (goal.at.bounds-as_slice-sub c).In-Some) in
-    omega (arith, below, ap length c.as_slice-2.ensures)
+    omega (arith, ap length c.as_slice-2.ensures)
 
 pub came-requires : goal.came-requires
 came-requires c =
     let below = below_subs c.args.device.now.subs c.args.name.now.items c.in-Some.sub (found (goal.at.came-requires c).In-Some) in
-    omega (arith, below, length-map c.args.device.now.subs sub_of, c.requires.long)
+    omega (arith, length-map c.args.device.now.subs sub_of)
 
 pub returns-in-None-against_sub-clause-opened : goal.returns-in-None-against_sub-clause-opened
 returns-in-None-against_sub-clause-opened c = λ k.

@@ -16,7 +16,5 @@ pub returns-clause-reads : goal.returns-clause-reads
 returns-clause-reads g c =
     let v = c.in_ok-found.found in
     let y = c.args.value in
-    let f : SFits w128 v = search rules in
-    let h : SFits w128 y = search rules in
-    let is : v ≡ y = sym (to_z-of_z w128 v f) ∙ ap (to_z w128) c.if-found-value.false ∙ to_z-of_z w128 y h in
+    let is : v ≡ y = sym (to_z-of_z w128 v (search rules)) ∙ ap (to_z w128) c.if-found-value.false ∙ to_z-of_z w128 y (search rules) in
     reads_constant c.args.kind c.args.cursor.now.at y v (is_same v y is) is c.in_ok-found.ensures.reads

@@ -47,7 +47,7 @@ read_part-requires-clause-kinds g c = λ n.
 
 pub read_part-requires-clause-place : goal.read_part-requires-clause-place
 read_part-requires-clause-place g c =
-    omega (arith, ap (bytes_of (described c.args.set.now)) (desc g (goal.at.read_part-requires-clause-place g c).After-first_cell-base), c.requires.place)
+    omega (arith, ap (bytes_of (described c.args.set.now)) (desc g (goal.at.read_part-requires-clause-place g c).After-first_cell-base))
 
 pub returns-in-Ok-clause-reads : goal.returns-in-Ok-clause-reads
 returns-in-Ok-clause-reads g c = λ names state room.
@@ -57,9 +57,7 @@ returns-in-Ok-clause-reads g c = λ names state room.
     let h = at.After-first_cell-base in
     let part = c.part_of-number.result in
     let first = c.first_cell-base.result in
-    let before = ap held_long c.requires.held in
-    let now = ap held_long c.in-Ok.ensures.held in
-    reads_as (λ n l. omega (arith, l.1, before, now))
+    reads_as (λ n l. omega (arith, ap held_long c.in-Ok.ensures.held, ap held_long c.requires.held))
     (λ rest left took. fields_answer set good c.args.section c.requires.device c.args.part.sub c.args.part.version names state (untyped c.args.image.now) (desc_at set part) first (desc g h) (base g h)
     room c.requires.open c.args.cursor.now c.read_part.new.image.numbers (untyped c.read_part.new.image) c.read_part.new.cursor
     (Some rest) (Some left) (Ok c.in-Ok.field-0) (ap untyped c.in-Ok.ensures.ok.kept) c.requires.held c.in-Ok.ensures.held
@@ -73,9 +71,8 @@ returns-in-Err-clause-reads g c = λ names state room.
     let h = at.After-first_cell-base in
     let part = c.part_of-number.result in
     let first = c.first_cell-base.result in
-    let bound = part_bound set (spot_of g h) c.read_part.new.image.numbers in
     rw (c.concerning.ensures, ← same_course (Some c.args.section.device) c.in-Err.fault)
-    (reads_as (λ n l. omega (arith, l.0, bound, ap (bytes_of set) (desc g h)))
+    (reads_as (λ n l. omega (arith, part_bound set (spot_of g h) c.read_part.new.image.numbers, ap (bytes_of set) (desc g h)))
     (λ rest left took. fields_answer set good c.args.section c.requires.device c.args.part.sub c.args.part.version names state (untyped c.args.image.now) (desc_at set part) first (desc g h) (base g h)
     room c.requires.open c.args.cursor.now c.read_part.new.image.numbers (untyped c.read_part.new.image) c.read_part.new.cursor
     (Some rest) (Some left) (Err c.in-Err.fault) (ap untyped c.in-Err.ensures.err.kept) c.requires.held tt

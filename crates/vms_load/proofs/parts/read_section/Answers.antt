@@ -37,18 +37,18 @@ loop-next-preserved g c =
       same = (still.0 ∙ same.0, still.1 ∙ same.1);
       held = c.in_ok-next.ensures.held;
       reads = λ names state room.
-          let inside : section.device < length state.images = omega (arith, room, same.0) in
+          let inside : section.device < length state.images = omega arith in
           let here = in_fields set names state c.args.section.now None (untyped c.args.image.now) in
           let middle = after_fields set names state section sub (untyped c.read_fields.new.image) in
           goes_further here middle (after_part set names state c.read_after_fields.new.section (untyped c.read_after_fields.new.image) c.in_ok-next.next) from mid c.read_after_fields.new.cursor
-          (omega (arith, loop.invariant.from, one.0)) two.0 (omega (arith, loop.invariant.onward, one.1)) two.1
+          (omega arith) two.0 (omega arith) two.1
           (goes_further here (after_part set names state section (untyped loop.image) (Some c.in-Some.part)) middle from loop.cursor mid loop.invariant.from one.0 loop.invariant.onward one.1
           (rw c.in-Some.is at (loop.invariant.reads names state room)) (c.in_ok-read_fields.ensures.reads names state inside)) (c.in_ok-next.ensures.reads names state sub inside);
       next_is = rw still.0 c.in_ok-next.ensures.open;
       shaped = rw still.0 c.in_ok-next.ensures.shaped;
-      from = omega (arith, loop.invariant.from, one.0, two.0);
-      onward = omega (arith, loop.invariant.onward, one.1, two.1);
-      place = omega (arith, loop.invariant.place, due, kept, later, one.2, two.2);
+      from = omega arith;
+      onward = omega arith;
+      place = omega arith;
     }
 
 pub returns-in_err-read_fields-clause-reads : goal.returns-in_err-read_fields-clause-reads
@@ -56,7 +56,7 @@ returns-in_err-read_fields-clause-reads g c = λ names state room.
     let set = described c.args.set.now in
     let loop = c.loop-next in
     let section = loop.section in
-    let inside : section.device < length state.images = omega (arith, room, loop.invariant.same.0) in
+    let inside : section.device < length state.images = omega arith in
     let from = c.args.cursor.now in
     let end = c.read_fields.new.cursor in
     let here = in_fields set names state c.args.section.now None (untyped c.args.image.now) in
@@ -68,14 +68,14 @@ returns-in_err-read_fields-clause-reads g c = λ names state room.
     rw (p.1, p.2)
     (goes_still (Unit {0}) (Unit {0}) most here next (λ x. after_part set names state section (untyped c.read_fields.new.image) None) from end end e
     (goes_on {X = Unit {0}} (bytes_of_part set (device_at set section.device) c.in-Some.part.sub) most here (after_part set names state section (untyped loop.image) (Some c.in-Some.part)) next from loop.cursor end (Err e)
-    loop.invariant.from tt loop.invariant.onward tt (omega (arith, due, loop.invariant.place)) (rw c.in-Some.is at (loop.invariant.reads names state room)) (c.in_err-read_fields.ensures.reads names state inside)))
+    loop.invariant.from tt loop.invariant.onward tt (omega arith) (rw c.in-Some.is at (loop.invariant.reads names state room)) (c.in_err-read_fields.ensures.reads names state inside)))
 
 pub returns-in_err-next-clause-reads : goal.returns-in_err-next-clause-reads
 returns-in_err-next-clause-reads g c = λ names state room.
     let set = described c.args.set.now in
     let loop = c.loop-next in
     let section = loop.section in
-    let inside : section.device < length state.images = omega (arith, room, loop.invariant.same.0) in
+    let inside : section.device < length state.images = omega arith in
     let from = c.args.cursor.now in
     let mid = c.read_fields.new.cursor in
     let end = c.read_after_fields.new.cursor in
@@ -90,7 +90,7 @@ returns-in_err-next-clause-reads g c = λ names state room.
     let p = err_from_is_err_and c.from_residual-in_err-next.result c.from_residual-in_err-next.ensures.1 in
     rw (p.1, p.2)
     (goes_still (Option Open) (Unit {0}) most here next (λ x. next None) from end end e
-    (goes_on {X = Option Open} LONGEST_SUB_HEAD most here middle next from mid end (Err e) (omega (arith, loop.invariant.from, one.0)) tt (omega (arith, loop.invariant.onward, one.1)) tt (omega (arith, due, loop.invariant.place, one.2))
+    (goes_on {X = Option Open} LONGEST_SUB_HEAD most here middle next from mid end (Err e) (omega arith) tt (omega arith) tt (omega arith)
     (goes_further here (after_part set names state section (untyped loop.image) (Some c.in-Some.part)) middle from loop.cursor mid loop.invariant.from one.0 loop.invariant.onward one.1
     (rw c.in-Some.is at (loop.invariant.reads names state room)) (c.in_ok-read_fields.ensures.reads names state inside)) (c.in_err-next.ensures.reads names state sub inside)))
 
@@ -98,7 +98,7 @@ returns-in_err-next-clause-reads g c = λ names state room.
 less : (set : Set) (d : Device) (came : List (Option ℕ)) (next : Option Open) (from to : Stand) (most : ℕ) → from.held ≡ None → IsMoved from to next → reach to + part_due set d came next ≤ reach from + most → 0 < most
     → part_due set d came next < most
 less set d came None from to most free moved h some = some
-less set d came (Some part) from to most free moved h some = omega (arith, moved, h, ap held_long free)
+less set d came (Some part) from to most free moved h some = omega (arith, ap held_long free)
 
 pub loop-next-smaller : goal.loop-next-smaller
 loop-next-smaller g c =
@@ -111,7 +111,7 @@ loop-next-smaller g c =
     let most = subs_due set d.subs c.read_fields.new.image.came + FOOT_LENGTH in
     let some : 0 < most = omega arith in
     let now = less set d c.read_after_fields.new.image.came c.in_ok-next.next c.read_fields.new.cursor c.read_after_fields.new.cursor most c.in_ok-read_fields.ensures.held c.in_ok-next.ensures.moved (c.in_ok-next.ensures.moves.2) some in
-    omega (arith, due, same, still, now)
+    omega arith
 
 pub returns-clause-reads : goal.returns-clause-reads
 returns-clause-reads g c = λ names state room.

@@ -19,7 +19,7 @@ returns-in-Ok-Configuration-clause-reads g c =
     let now = ap held_long held in
     let settled = rw c.at-at.ensures at (c.configure.ensures.settles (is_first at) (is_configured at)) in
     goes_judged c.configure.result c.configure.ensures.refused
-    (reads_as (λ n l. spent_by from to _ c.configure.result n (omega (arith, l, place, now)) (omega (arith, l, c.configure.ensures.short)))
+    (reads_as (λ n l. spent_by from to _ c.configure.result n (omega arith) (omega arith))
     (λ rest left h. turn_settled set names c.args.staged.now at {Y = Option Between} from to (Some rest) (Some left) step (λ next. state_of set c.configure.new.staged (spot_at next)) c.configure.result h place held settled) reads)
 
 pub returns-in-Ok-End-clause-reads : goal.returns-in-Ok-End-clause-reads
@@ -35,7 +35,7 @@ returns-in-Ok-End-clause-reads g c =
     let now = ap held_long held in
     let settled = rw c.at-at.ensures at (c.take_end_mark.ensures.settles set names (is_first at) (is_configured at)) in
     goes_judged c.take_end_mark.result c.take_end_mark.ensures.refused
-    (reads_as (λ n l. spent_by from to _ c.take_end_mark.result n (omega (arith, l, place, now)) (omega (arith, l)))
+    (reads_as (λ n l. spent_by from to _ c.take_end_mark.result n (omega arith) (omega arith))
     (λ rest left h. turn_settled set names c.args.staged.now at {Y = Option Between} from to (Some rest) (Some left) steps.End (λ next. state_of set c.args.staged.now (spot_at next)) c.take_end_mark.result h place held settled) reads)
 
 pub returns-in_err-stage_section-in-Ok-Section-clause-reads : goal.returns-in_err-stage_section-in-Ok-Section-clause-reads
@@ -54,7 +54,7 @@ returns-in_err-stage_section-in-Ok-Section-clause-reads g c =
     let p = err_from_is_err_and c.from_residual.result c.from_residual.ensures.1 in
     rw (p.1, p.2)
     (goes_still (Unit {0}) (Option Between) _ (go (state_of set c.args.staged.now (spot_of at))) (λ x. go (state_of set c.stage_section.new.staged (Free false false))) (λ next. go (state_of set c.stage_section.new.staged (spot_at next))) from end end e
-    (reads_both (λ k n l m. omega (arith, l, m, c.stage_section.ensures.short))
+    (reads_both (λ k n l m. omega arith)
     (λ all rest left h r. turn_section set names c.args.staged.now at from c.between.new.self end (Some all) (Some rest) (Some left) head c.at-at.result (state_of set c.stage_section.new.staged (Free false false)) (Err e)
     c.requires.whole.came h place held c.at-at.ensures r) reads (c.in_err-stage_section-in-Ok-Section.ensures.reads names (is_first at) (is_configured at))))
 
@@ -78,5 +78,5 @@ returns-in-Err-clause-reads g c =
     let set = described c.args.set.now in
     let names = accepted_of set c.args.only in
     rw (c.concerning.ensures, ← same_course None c.in-Err.fault)
-    (reads_as (λ n l. omega (arith, l)) (λ rest left h. turn_fault set names c.args.staged.now c.args.between {Y = Option Between} c.args.cursor.now c.between.new.self (Some rest) (Some left)
+    (reads_as (λ n l. omega arith) (λ rest left h. turn_fault set names c.args.staged.now c.args.between {Y = Option Between} c.args.cursor.now c.between.new.self (Some rest) (Some left)
     (λ next. reading_on (judge (by_state set names)) (state_of set c.args.staged.now (spot_at next))) c.in-Err.fault h) c.in-Err.ensures.reads)

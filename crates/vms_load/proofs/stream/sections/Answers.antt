@@ -29,9 +29,9 @@ loop-place-preserved g c =
       reads = goes_further here mid (go (state_of set c.read_between.new.staged (spot_at c.in_ok-place.place))) c.args.cursor.now loop.cursor c.read_between.new.cursor loop.invariant.from moves.0 loop.invariant.onward moves.1 (rw c.in-Some.is at loop.invariant.reads) c.in_ok-place.ensures.reads;
       held = c.in_ok-place.ensures.held;
       whole = c.in_ok-place.ensures.whole;
-      from = omega (arith, loop.invariant.from, moves.0);
-      onward = omega (arith, loop.invariant.onward, moves.1);
-      due = omega (arith, loop.invariant.due, due, moves.2);
+      from = omega arith;
+      onward = omega arith;
+      due = omega arith;
     }
 
 pub returns-in_err-place-clause-reads : goal.returns-in_err-place-clause-reads
@@ -49,7 +49,7 @@ returns-in_err-place-clause-reads g c =
     rw (p.1, p.2)
     (goes_still (Option Between) (Unit {0}) most here next (λ x. go (state_of set c.read_between.new.staged (spot_at None))) c.args.cursor.now c.read_between.new.cursor c.read_between.new.cursor e
     (goes_on {X = Option Between} (stream_due set loop.staged.came.items (Some c.in-Some.between) + LONGEST_HEAD) most here mid next c.args.cursor.now loop.cursor c.read_between.new.cursor (Err e) loop.invariant.from tt loop.invariant.onward tt
-    (omega (arith, due, loop.invariant.due)) (rw c.in-Some.is at loop.invariant.reads) c.in_err-place.ensures.reads))
+    (omega arith) (rw c.in-Some.is at loop.invariant.reads) c.in_err-place.ensures.reads))
 
 pub loop-place-smaller : goal.loop-place-smaller
 loop-place-smaller g c =

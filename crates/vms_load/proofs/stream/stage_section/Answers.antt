@@ -41,7 +41,7 @@ read_section-requires-clause-shaped g c =
     let k = c.in_ok-device.device in
     let new = rw c.deref.ensures.0 at c.in_ok-device.ensures.fresh in
     let began = begun_here set c.begin_section.new.staged.images.items c.args.staged.now.images.items k head.version c.begin_section.ensures.images (c.requires.whole.fresh k new.1) in
-    let image = image_begun c.begin_section.new.staged.images.items c.args.staged.now.images.items k (begun_at set k head.version) c.index_mut-image.result.now c.index_mut-image.ensures.value began (omega (arith, new.0, c.requires.whole.images.all)) in
+    let image = image_begun c.begin_section.new.staged.images.items c.args.staged.now.images.items k (begun_at set k head.version) c.index_mut-image.result.now c.index_mut-image.ensures.value began (omega arith) in
     subst (λ (x : Typed). IsImageOf set k x) (sym image) (default_shaped set k head.version)
 
 pub read_section-requires-clause-place : goal.read_section-requires-clause-place
@@ -51,10 +51,9 @@ read_section-requires-clause-place g c =
     let k = c.in_ok-device.device in
     let new = rw c.deref.ensures.0 at c.in_ok-device.ensures.fresh in
     let began = begun_here set c.begin_section.new.staged.images.items c.args.staged.now.images.items k head.version c.begin_section.ensures.images (c.requires.whole.fresh k new.1) in
-    let image = image_begun c.begin_section.new.staged.images.items c.args.staged.now.images.items k (begun_at set k head.version) c.index_mut-image.result.now c.index_mut-image.ensures.value began (omega (arith, new.0, c.requires.whole.images.all)) in
+    let image = image_begun c.begin_section.new.staged.images.items c.args.staged.now.images.items k (begun_at set k head.version) c.index_mut-image.result.now c.index_mut-image.ensures.value began (omega arith) in
     let due = sections_taken set set.devices c.args.staged.now.came.items k (record { instance = 0; desc = no_desc; subs = [] }) c.requires.whole.came new.1 in
-    let same = ap (λ (x : Typed). subs_due set (device_at set k).subs x.came) image in
-    omega (arith, due, same, c.requires.place)
+    omega (arith, ap (λ (x : Typed). subs_due set (device_at set k).subs x.came) image)
 
 pub returns-in_err-read_section-clause-reads : goal.returns-in_err-read_section-clause-reads
 returns-in_err-read_section-clause-reads g c = λ names first after.
@@ -65,7 +64,7 @@ returns-in_err-read_section-clause-reads g c = λ names first after.
     let is = sym (c.in_ok-device.was) ∙ c.open_section.ensures.opened ∙ ap (λ (came : List Bool). opened_at c.args.at (section_opened set came head.name.items head.instance head.version)) c.deref.ensures.0 in
     let new = rw c.deref.ensures.0 at c.in_ok-device.ensures.fresh in
     let began = begun_here set c.begin_section.new.staged.images.items old.images.items k head.version c.begin_section.ensures.images (c.requires.whole.fresh k new.1) in
-    let room : k < length old.images.items = omega (arith, new.0, c.requires.whole.images.all) in
+    let room : k < length old.images.items = omega arith in
     let image = image_begun c.begin_section.new.staged.images.items old.images.items k (begun_at set k head.version) c.index_mut-image.result.now c.index_mut-image.ensures.value began room in
     let now = c.read_section.new.section in
     let final = ended_in (name_of set c.begin_section.new.staged.machine) (map untyped (slice_set c.begin_section.new.staged.images.items k c.read_section.new.image)) c.begin_section.new.staged.came.items (tail_of now.tail) in
@@ -79,11 +78,11 @@ returns-in_err-read_section-clause-reads g c = λ names first after.
     let e = c.in_err-read_section.field-0.0 in
     let p = err_from_is_err_and c.from_residual-in_err-read_section.result c.from_residual-in_err-read_section.ensures.1 in
     rw (p.1, p.2)
-    (reads_as (λ n l. omega (arith, l, due, same))
+    (reads_as (λ n l. omega arith)
     (λ rest left r bytes behind. read_behind {X = Unit {0}} go v (λ x. go final) (head_long head) c.args.at bytes c.args.cursor.now c.read_section.new.cursor (Some rest) (Some left) (Err e) behind tt
     (section_reads set names old first after head k c.args.at c.args.cursor.now c.read_section.new.cursor (untyped c.index_mut-image.result.now) (untyped c.read_section.new.image) c.begin_section.new.staged.tail now final
     (Some rest) (Some left) (Err e) c.requires.whole.came new.0 is (ap untyped image) c.begin_section.ensures.tail last r))
-    (c.in_err-read_section.ensures.reads names (begun set names old first after k) (omega (arith, room, length-map old.images.items untyped))))
+    (c.in_err-read_section.ensures.reads names (begun set names old first after k) (omega (arith, length-map old.images.items untyped))))
 
 pub returns-clause-reads : goal.returns-clause-reads
 returns-clause-reads g c = λ names first after.
@@ -94,7 +93,7 @@ returns-clause-reads g c = λ names first after.
     let is = sym (c.in_ok-device.was) ∙ c.open_section.ensures.opened ∙ ap (λ (came : List Bool). opened_at c.args.at (section_opened set came head.name.items head.instance head.version)) c.deref.ensures.0 in
     let new = rw c.deref.ensures.0 at c.in_ok-device.ensures.fresh in
     let began = begun_here set c.begin_section.new.staged.images.items old.images.items k head.version c.begin_section.ensures.images (c.requires.whole.fresh k new.1) in
-    let room : k < length old.images.items = omega (arith, new.0, c.requires.whole.images.all) in
+    let room : k < length old.images.items = omega arith in
     let image = image_begun c.begin_section.new.staged.images.items old.images.items k (begun_at set k head.version) c.index_mut-image.result.now c.index_mut-image.ensures.value began room in
     let now = c.read_section.new.section in
     let final = ended_in (name_of set c.begin_section.new.staged.machine) (map untyped (slice_set c.begin_section.new.staged.images.items k c.read_section.new.image)) c.begin_section.new.staged.came.items (tail_of now.tail) in
@@ -107,7 +106,7 @@ returns-clause-reads g c = λ names first after.
     (λ rest left r bytes behind. read_behind {X = Unit {0}} go v (λ x. go final) (head_long head) c.args.at bytes c.args.cursor.now c.read_section.new.cursor (Some rest) (Some left) (Ok c.in_ok-read_section.field-0) behind c.in_ok-read_section.ensures.moves.0
     (section_reads set names old first after head k c.args.at c.args.cursor.now c.read_section.new.cursor (untyped c.index_mut-image.result.now) (untyped c.read_section.new.image) c.begin_section.new.staged.tail now final
     (Some rest) (Some left) (Ok c.in_ok-read_section.field-0) c.requires.whole.came new.0 is (ap untyped image) c.begin_section.ensures.tail last r))
-    (c.in_ok-read_section.ensures.reads names (begun set names old first after k) (omega (arith, room, length-map old.images.items untyped)))
+    (c.in_ok-read_section.ensures.reads names (begun set names old first after k) (omega (arith, length-map old.images.items untyped)))
 
 pub returns-clause-moves : goal.returns-clause-moves
 returns-clause-moves g c =
@@ -116,12 +115,11 @@ returns-clause-moves g c =
     let k = c.in_ok-device.device in
     let new = rw c.deref.ensures.0 at c.in_ok-device.ensures.fresh in
     let began = begun_here set c.begin_section.new.staged.images.items c.args.staged.now.images.items k head.version c.begin_section.ensures.images (c.requires.whole.fresh k new.1) in
-    let image = image_begun c.begin_section.new.staged.images.items c.args.staged.now.images.items k (begun_at set k head.version) c.index_mut-image.result.now c.index_mut-image.ensures.value began (omega (arith, new.0, c.requires.whole.images.all)) in
+    let image = image_begun c.begin_section.new.staged.images.items c.args.staged.now.images.items k (begun_at set k head.version) c.index_mut-image.result.now c.index_mut-image.ensures.value began (omega arith) in
     let due = sections_taken set set.devices c.args.staged.now.came.items k (record { instance = 0; desc = no_desc; subs = [] }) c.requires.whole.came new.1 in
-    let same = ap (λ (x : Typed). subs_due set (device_at set k).subs x.came) image in
     let came = ap (λ (l : List Bool). sections_due set set.devices l) c.begin_section.ensures.came in
     let moves = c.in_ok-read_section.ensures.moves in
-    (moves.0, moves.1, omega (arith, due, same, came, moves.2))
+    (moves.0, moves.1, omega (arith, ap (λ (x : Typed). subs_due set (device_at set k).subs x.came) image))
 
 pub returns-in_err-read_section-clause-whole : goal.returns-in_err-read_section-clause-whole
 returns-in_err-read_section-clause-whole g c =
@@ -137,7 +135,7 @@ returns-in_err-read_section-clause-whole g c =
       came = search rules;
       machine = search rules;
       fresh = still_fresh set old.images.items c.begin_section.new.staged.images.items old.came.items c.begin_section.new.staged.came.items k (begun_at set k head.version) c.read_section.new.image
-          (omega (arith, c.requires.whole.came, new.0)) c.begin_section.ensures.came began c.requires.whole.fresh;
+          (omega arith) c.begin_section.ensures.came began c.requires.whole.fresh;
     }
 
 pub returns-clause-whole : goal.returns-clause-whole
@@ -154,5 +152,5 @@ returns-clause-whole g c =
       came = search rules;
       machine = search rules;
       fresh = still_fresh set old.images.items c.begin_section.new.staged.images.items old.came.items c.begin_section.new.staged.came.items k (begun_at set k head.version) c.read_section.new.image
-          (omega (arith, c.requires.whole.came, new.0)) c.begin_section.ensures.came began c.requires.whole.fresh;
+          (omega arith) c.begin_section.ensures.came began c.requires.whole.fresh;
     }

@@ -1,8 +1,6 @@
-use Rattle.std.proofs.Common.{subst, sym, List}
-use Rattle.vms_spots.specs.declared.layout.Spot.{Spot}
+use Rattle.vms_spots.proofs.Facade.{subst, sym, List, Spot, AreApart}
 use Rattle.vms_spots.proofs.LayoutLaws.{LaidOut, begins, goes, ends}
 use Rattle.vms_spots.proofs.SpotLaws.{are_apart}
-use Rattle.vms_spots.specs.Spots.{AreApart}
 use Rattle.vms_spots.proofs.layout.lay_out.Goals as goal
 
 pub loop-kind-init : goal.loop-kind-init

@@ -1,6 +1,5 @@
-use Rattle.std.proofs.Common.{arith, sym, ◌∙◌}
+use Rattle.vms_spots.proofs.Facade.{arith, sym, ◌∙◌, kinds_of}
 use Rattle.vms_spots.proofs.LayoutLaws.{IsLast, last_is}
-use Rattle.vms_spots.specs.Spots.{kinds_of}
 use Rattle.vms_spots.proofs.layout.size.Goals as goal
 
 pub end-requires : goal.end-requires
@@ -10,6 +9,4 @@ pub returns-in-Some-clause-size : goal.returns-in-Some-clause-size
 returns-in-Some-clause-size c = c.end.ensures ∙ (last_is c.args.spots.now c.in-Some.last.now c.requires.few c.requires.laid (sym c.in-Some.ensures.value)).end
 
 pub returns-in-Some-clause-bound : goal.returns-in-Some-clause-bound
-returns-in-Some-clause-bound c =
-    let l : IsLast (kinds_of c.args.spots.now) c.in-Some.last.now = last_is c.args.spots.now c.in-Some.last.now c.requires.few c.requires.laid (sym c.in-Some.ensures.value) in
-    omega (arith, l.end, l.bound, c.end.ensures)
+returns-in-Some-clause-bound c = omega (arith, last_is c.args.spots.now c.in-Some.last.now c.requires.few c.requires.laid (sym c.in-Some.ensures.value))

@@ -1,9 +1,9 @@
-use Rattle.vms_values.proofs.Facade.{Err, Option, Some, None, Result, IfOk, rules, length, ap, refl, sym, ◌∙◌, subst, arith, err_from_is_err_and, Set}
-use Rattle.vms_values.proofs.Facade.{read_devices, ended, described, AreImagesOf, ToldAs, ReadsBy, LineFault, few_machines}
+use Rattle.vms_values.proofs.Facade.{length, eqb-true, nil_from_length, Err, Option, Some, None, Result, IfOk, rules, ap, refl, sym, ◌∙◌, subst, arith}
+use Rattle.vms_values.proofs.Facade.{err_from_is_err_and, Set, read_devices, ended, described, AreImagesOf, ToldAs, ReadsBy, LineFault, few_machines}
 use Rattle.vms_values.specs.declared.judge.BadLine.{BadLine}
 use Rattle.vms_values.specs.declared.fault.Values.{Values as Given}
 use Rattle.vms_values.proofs.DeviceLemmas.{top, said_so}
-use Rattle.vms_values.proofs.ReadLemmas.{nil_of, some_of}
+use Rattle.vms_values.proofs.ReadLemmas.{some_of}
 use Rattle.vms_values.proofs.WholeText.{text_told, text_longer, text_refused}
 use Rattle.vms_values.proofs.devices.read_lines.Goals as goal
 
@@ -38,7 +38,7 @@ returns-clause-read c =
     let new = c.read_images.new.reading in
     let v : Given = record { machine = start.machine; images = c.in_ok-images.images } in
     said_so set c.args.text.now _ c.told.result s.is
-    (text_told set s.name _ _ new v c.told.result c.in_ok-images.ensures.read (nil_of new.lines.rest.now (sym c.is_empty.ensures ∙ c.if-not-is_empty.false)) refl s.machine s.known c.told.ensures)
+    (text_told set s.name _ _ new v c.told.result c.in_ok-images.ensures.read (nil_from_length new.lines.rest.now (eqb-true (length new.lines.rest.now) 0 (sym c.is_empty.ensures ∙ c.if-not-is_empty.false))) refl s.machine s.known c.told.ensures)
 
 told_of : (o : Option BadLine) (v : Given) (result : Result Given LineFault) (set : Set) → ToldAs o v result → AreImagesOf set v.images.items → IfOk result (λ w. AreImagesOf set w.images.items)
 told_of None v result set t of = subst (λ (r : Result Given LineFault). IfOk r (λ w. AreImagesOf set w.images.items)) (sym t) (search (rules, of))

@@ -1,4 +1,4 @@
-use Rattle.vms_write.proofs.Facade.{◌≡◌, ◌<◌, ◌≤◌, length, map, sym, ap, ◌∙◌, arith, Bool, true, false, OnTrue, OnFalse, length-map, Set, device_of, described}
+use Rattle.vms_write.proofs.Facade.{OnTrue_at, OnFalse_at, ◌<◌, ◌≤◌, length, map, sym, ap, ◌∙◌, arith, true, false, length-map, Set, device_of, described}
 use Rattle.vms_write.proofs.Facade.{state_of, states_long, state_at, image_at}
 use Rattle.vms_write.proofs.ReadyImages.{none_so_far, none_of, one_more, one_more_of, not_all, all_so_far, all_of}
 use Rattle.vms_write.proofs.readiness.are_ready.Goals as goal
@@ -10,14 +10,6 @@ loop-device-init c = record {
   of = none_of (described c.args.set.now) c.args.images.now;
 }
 
-if_true : {P : Type 0} (b : Bool) → b ≡ true → OnTrue b P → P
-if_true true e h = h
-if_true false e h = cc
-
-if_false : {P : Type 0} (b : Bool) → b ≡ false → OnFalse b P → P
-if_false true e h = cc
-if_false false e h = h
-
 pub loop-device-preserved : goal.loop-device-preserved
 loop-device-preserved c =
     let images = c.args.images.now in
@@ -26,8 +18,8 @@ loop-device-preserved c =
     let lt : k < length (map state_of images) = omega (arith, c.loop-device-test.true, states_long images) in
     record {
       ready = one_more (described c.args.set.now) (map state_of images) k (state_of image) c.loop-device.invariant.ready lt (state_at images k image c.loop-device-test.true c.index-images-device.is)
-          (if_true _ c.if-not-may_be_written.false c.may_be_written.ensures.ready);
-      of = one_more_of (described c.args.set.now) images k image c.loop-device.invariant.of c.loop-device-test.true c.index-images-device.is (if_true _ c.if-not-may_be_written.false c.may_be_written.ensures.of);
+          (OnTrue_at c.if-not-may_be_written.false c.may_be_written.ensures.ready);
+      of = one_more_of (described c.args.set.now) images k image c.loop-device.invariant.of c.loop-device-test.true c.index-images-device.is (OnTrue_at c.if-not-may_be_written.false c.may_be_written.ensures.of);
     }
 
 pub returns-then-not-may_be_written-clause-other : goal.returns-then-not-may_be_written-clause-other
@@ -37,7 +29,7 @@ returns-then-not-may_be_written-clause-other c =
     let k = c.loop-device.device in
     let lt : k < length (map state_of images) = omega (arith, c.loop-device-test.true, states_long images) in
     λ of. not_all (described c.args.set.now) (map state_of images) k (state_of image) c.loop-device.invariant.ready lt (state_at images k image c.loop-device-test.true c.index-images-device.is)
-    (if_false _ c.if-not-may_be_written.true c.may_be_written.ensures.other (of.each k image (image_at images k image c.loop-device-test.true c.index-images-device.is)))
+    (OnFalse_at c.if-not-may_be_written.true c.may_be_written.ensures.other (of.each k image (image_at images k image c.loop-device-test.true c.index-images-device.is)))
 
 pub returns-clause-ready : goal.returns-clause-ready
 returns-clause-ready c =

@@ -1,6 +1,4 @@
-use Rattle.std.proofs.Common.{sym, subst}
-use Rattle.vms_analyze.specs.Read.{element_in}
-use Rattle.vms_analyze.specs.Typed.{ReadsAs, told_of}
+use Rattle.vms_analyze.proofs.Facade.{sym, subst, element_in, ReadsAs, told_of}
 use Rattle.vms_analyze.proofs.elements.ElementReads.read.Goals as goal
 
 pub returns-in-Some : goal.returns-in-Some

@@ -1,12 +1,7 @@
-use Rattle.std.proofs.Common.{List, map, ap, ◌∙◌, subst}
-use Rattle.std.specs.List.{list_all}
-use Rattle.vms_analyze.specs.Told.{is_good_sub}
-use Rattle.vms_analyze.specs.Typed.{sub_of, device_of, element_wants, subs_wants}
-use Rattle.vms_analyze.specs.Walking.{WhyStopped}
-use Rattle.vms_analyze.specs.declared.told.Element.{Element}
+use Rattle.vms_analyze.proofs.Facade.{IfErr-weaker, List, map, ap, ◌∙◌, subst, list_all, on_ok_weaker, is_good_sub, sub_of, device_of, element_wants}
+use Rattle.vms_analyze.proofs.Facade.{subs_wants, WhyStopped, Element}
 use Rattle.vms_analyze.specs.declared.told.Sub.{Sub}
-use Rattle.std.proofs.lemmas.Result.{on_ok_weaker}
-use Rattle.vms_analyze.proofs.Walks.{if_err, device_short, device_goes, head_stops, elements_stop, subs_stop, foot_stops}
+use Rattle.vms_analyze.proofs.Walks.{device_short, device_goes, head_stops, elements_stop, subs_stop, foot_stops}
 use Rattle.vms_analyze.proofs.Parts.{device_parts}
 use Rattle.vms_analyze.proofs.walk.Walk.device.Goals as goal
 
@@ -41,7 +36,7 @@ returns-clause-ok c =
 
 pub returns-clause-err : goal.returns-clause-err
 returns-clause-err c =
-    if_err c.foot.result
+    IfErr-weaker c.foot.result _ _
     (λ stop why. foot_stops c.args.device.now c.foot.new.self stop c.in_default.ensures.ok (rw (c.deref.ensures.value) at c.in_default-elements.ensures.ok)
     (rw (c.deref-2.ensures.value) at c.in_default-subs.ensures.ok) why)
     c.foot.ensures.err

@@ -1,6 +1,5 @@
-use Rattle.std.proofs.Common.{ap, ◌∙◌, subst}
-use Rattle.vms_analyze.specs.Walking.{Goes, WhyStopped}
-use Rattle.vms_analyze.proofs.Walks.{more_goes, one_stops, one_good}
+use Rattle.vms_analyze.proofs.Facade.{AllPass-from_list_all, ap, ◌∙◌, subst, Goes, WhyStopped}
+use Rattle.vms_analyze.proofs.Walks.{more_goes, one_stops}
 use Rattle.vms_analyze.proofs.walk.Walk.each.Goals as goal
 
 pub seek-requires-clause-inside : goal.seek-requires-clause-inside
@@ -9,7 +8,7 @@ seek-requires-clause-inside g c = c.loop-item.invariant.inside
 pub seek-requires-clause-good : goal.seek-requires-clause-good
 seek-requires-clause-good g c =
     ap g.T.Sought.is_good c.item-item.is
-    ∙ one_good g.T.Sought.is_good c.args.items.now c.loop-item.item-index c.item-item.result c.requires.good c.loop-item-test.true
+    ∙ AllPass-from_list_all g.T.Sought.is_good c.args.items.now c.requires.good c.loop-item.item-index c.item-item.result c.loop-item-test.true
 
 pub loop-item-preserved : goal.loop-item-preserved
 loop-item-preserved g c =

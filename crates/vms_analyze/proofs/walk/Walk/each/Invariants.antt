@@ -1,6 +1,4 @@
-use Rattle.std.proofs.Common.{take}
-use Rattle.std.specs.List.{flat_map}
-use Rattle.vms_analyze.specs.Walking.{Goes}
+use Rattle.vms_analyze.proofs.Facade.{take, flat_map, Goes}
 use Rattle.vms_analyze.proofs.walk.Walk.each.Given as goal
 
 abbrev pub invariant-loop-item : goal.invariant-loop-item

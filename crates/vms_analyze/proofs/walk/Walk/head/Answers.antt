@@ -1,9 +1,4 @@
-use Rattle.std.proofs.Common.{rules, ◌≡◌, ℕ, ◌+◌, ◌<◌, ◌^◌, List, length, true, refl, sym, ap, ◌∙◌}
-use Rattle.vms_spec.specs.Spelling.{begins_with}
-use Rattle.vms_spec.specs.Streams.{section_head}
-use Rattle.vms_analyze.specs.Walking.{left}
-use Rattle.vms_analyze.specs.declared.walk.Walk.{Walk}
-use Rattle.std.proofs.lemmas.Result.{on_ok_weaker}
+use Rattle.vms_analyze.proofs.Facade.{rules, ◌≡◌, ℕ, ◌+◌, ◌<◌, ◌^◌, List, length, true, refl, sym, ap, ◌∙◌, on_ok_weaker, begins_with, section_head, left, Walk}
 use Rattle.vms_analyze.proofs.WalkHeads.{head_goes}
 use Rattle.vms_analyze.proofs.walk.Walk.head.Goals as goal
 

@@ -1,8 +1,4 @@
-use Rattle.std.proofs.Common.{◌≤◌, ◌+◌, ◌-◌, length, length-take, take, drop, sym, ap, ◌∙◌, arith}
-use Rattle.std.specs.List.{list_all}
-use Rattle.vms_spec.specs.declared.TheConstants.{LONGEST_NAME}
-use Rattle.vms_spec.specs.Names.{is_name_byte}
-use Rattle.vms_analyze.specs.Walking.{left}
+use Rattle.vms_analyze.proofs.Facade.{◌≤◌, ◌+◌, ◌-◌, length, length-take, take, drop, sym, ap, ◌∙◌, arith, list_all, LONGEST_NAME, is_name_byte, left}
 use Rattle.vms_analyze.proofs.WalkHeads.{name_there, is_name_of, no_name}
 use Rattle.vms_analyze.proofs.walk.Walk.machine_name.Goals as goal
 

@@ -1,7 +1,4 @@
-use Rattle.std.proofs.Common.{◌≡◌, ℕ, List, [], ◌∷◌, ap, ◌∙◌, subst}
-use Rattle.vms_spec.specs.Streams.{sub_head}
-use Rattle.vms_analyze.specs.Wanted.{Bytes, Line, sent_line}
-use Rattle.vms_analyze.specs.Walking.{Goes, WhyStopped}
+use Rattle.vms_analyze.proofs.Facade.{◌≡◌, ℕ, List, [], ◌∷◌, ap, ◌∙◌, subst, sub_head, Bytes, Line, sent_line, Goes, WhyStopped}
 use Rattle.vms_analyze.proofs.Walks.{goes_then, line_goes, why_before}
 use Rattle.vms_analyze.proofs.walk.Walk.sent_head.Goals as goal
 

@@ -1,5 +1,5 @@
-use Rattle.std.proofs.lemmas.Result.{on_ok_weaker}
-use Rattle.vms_analyze.proofs.Walks.{if_err, start_goes, magic_stops, version_stops, machine_stops}
+use Rattle.vms_analyze.proofs.Facade.{IfErr-weaker, on_ok_weaker}
+use Rattle.vms_analyze.proofs.Walks.{start_goes, magic_stops, version_stops, machine_stops}
 use Rattle.vms_analyze.proofs.walk.Walk.start.Goals as goal
 
 pub returns-in-Err-clause-err : goal.returns-in-Err-clause-err
@@ -15,4 +15,4 @@ returns-clause-ok c =
 
 pub returns-clause-err : goal.returns-clause-err
 returns-clause-err c =
-    if_err c.machine.result (λ stop why. machine_stops c.machine.new.self stop c.in_default.ensures.ok c.in_default-bytes.ensures.ok why) c.machine.ensures.err
+    IfErr-weaker c.machine.result _ _ (λ stop why. machine_stops c.machine.new.self stop c.in_default.ensures.ok c.in_default-bytes.ensures.ok why) c.machine.ensures.err

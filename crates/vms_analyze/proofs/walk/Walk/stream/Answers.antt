@@ -1,8 +1,5 @@
-use Rattle.std.proofs.Common.{ℕ, [], ◌∷◌, subst}
-use Rattle.vms_analyze.specs.Wanted.{Bytes}
-use Rattle.vms_analyze.specs.Walking.{WhyStopped}
-use Rattle.std.proofs.lemmas.Result.{on_ok_weaker}
-use Rattle.vms_analyze.proofs.Walks.{if_err, stream_goes, start_stops, devices_stop, end_stops}
+use Rattle.vms_analyze.proofs.Facade.{IfErr-weaker, ℕ, [], ◌∷◌, subst, on_ok_weaker, Bytes, WhyStopped}
+use Rattle.vms_analyze.proofs.Walks.{stream_goes, start_stops, devices_stop, end_stops}
 use Rattle.vms_analyze.proofs.walk.Walk.stream.Goals as goal
 
 pub returns-in-Err-clause-err : goal.returns-in-Err-clause-err
@@ -19,7 +16,7 @@ returns-clause-ok c =
 
 pub returns-clause-err : goal.returns-clause-err
 returns-clause-err c =
-    if_err c.bytes.result
+    IfErr-weaker c.bytes.result _ _
     (λ stop why. end_stops c.args.devices.now c.bytes.new.self stop c.in_default.ensures.ok c.in_default-devices.ensures.ok
     (subst (λ (b : ℕ). WhyStopped (Bytes (b ∷ []) ∷ []) c.devices.new.self c.bytes.new.self stop) c.byte.ensures why))
     c.bytes.ensures.err

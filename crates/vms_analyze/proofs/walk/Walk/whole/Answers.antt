@@ -1,6 +1,4 @@
-use Rattle.std.proofs.Common.{◌≡◌, ◌≢◌, map, length, arith, ap}
-use Rattle.vms_analyze.specs.Typed.{device_of}
-use Rattle.vms_analyze.specs.Wanted.{wants}
+use Rattle.vms_analyze.proofs.Facade.{◌≡◌, ◌≢◌, map, length, arith, ap, device_of, wants}
 use Rattle.vms_analyze.proofs.Inputs.{is_shown, has_more, why_none}
 use Rattle.vms_analyze.proofs.walk.Walk.whole.Goals as goal
 

@@ -23,7 +23,7 @@ put_codes-requires-clause-one g c = λ k from below.
     let a = c.args.self.now in
     let most : c.in_ok-came.came / c.width-width.result ≤ c.args.count = search rules in
     run_each (IsOfKind a.image.now.kinds) c.args.first c.args.count c.args.kind
-    (λ ys rest x e. (c.requires.may [] ys rest x a (refl, refl, refl, took_none _ (g.met.S.Source.counted a.source.now), λ e. e) e).2) k from (omega (arith, below, most))
+    (λ ys rest x e. (c.requires.may [] ys rest x a (refl, refl, refl, took_none _ (g.met.S.Source.counted a.source.now), λ e. e) e).2) k from (omega arith)
 
 pub returns-in_err-came-clause-err : goal.returns-in_err-came-clause-err
 returns-in_err-came-clause-err g c =
@@ -43,11 +43,8 @@ returns-clause-ok g c =
     let old = intake g.S.Source a.source.now in
     let new = intake g.S.Source c.codes.new.source in
     let wide = c.width-width.ensures in
-    let long : length buf ≡ count * c.width-width.result = search rules in
-    let bound : n ≤ length buf = search rules in
-    let room : length buf ≡ count * width kind = long ∙ ap (λ (k : ℕ). count * k) wide in
-    let enough : count ≤ n / c.width-width.result = omega (arith, c.if-whole-count.false) in
-    let all = all_came kind count n buf room bound (subst (λ (k : ℕ). count ≤ n / k) wide enough) in
+    let enough : count ≤ n / c.width-width.result = omega arith in
+    let all = all_came kind count n buf ((search rules) ∙ ap (λ (k : ℕ). count * k) wide) (search rules) (subst (λ (k : ℕ). count ≤ n / k) wide enough) in
     let image : c.put_codes.new.self ≡ filled a.image.now c.args.first kind count (take n buf) =
     c.put_codes.ensures ∙ ap (λ (k : ℕ). filled a.image.now c.args.first kind (n / k) (take (n / k * k) buf)) wide
     ∙ ap (λ (m : ℕ). filled a.image.now c.args.first kind m (take (n / width kind * width kind) buf)) all.whole
@@ -74,12 +71,8 @@ returns-then-whole-count-clause-err g c =
     let old = intake g.S.Source a.source.now in
     let new = intake g.S.Source c.codes.new.source in
     let wide = c.width-width.ensures in
-    let long : length buf ≡ count * c.width-width.result = search rules in
-    let bound : n ≤ length buf = search rules in
-    let room : length buf ≡ count * width kind = long ∙ ap (λ (k : ℕ). count * k) wide in
-    let lt : n / width kind < count = subst (λ (k : ℕ). n / k < count) wide (omega (arith, c.if-whole-count.true)) in
-    let part = part_came kind count n buf room bound lt in
-    let short : n < length buf = part.short in
+    let lt : n / width kind < count = subst (λ (k : ℕ). n / k < count) wide (omega arith) in
+    let part = part_came kind count n buf ((search rules) ∙ ap (λ (k : ℕ). count * k) wide) (search rules) lt in
     let whole = n / width kind in
     let codes = take (whole * width kind) buf in
     let image : c.put_codes.new.self ≡ filled a.image.now c.args.first kind whole codes =
@@ -89,7 +82,7 @@ returns-then-whole-count-clause-err g c =
     let place : c.codes.new.self.at ≡ a.cursor.now.at + whole * width kind = c.in_ok-came.ensures.place in
     let at : c.at.result ≡ a.cursor.now.at + whole * width kind = c.at.ensures ∙ place in
     let failed = cut_run old new a.image.now c.args.first count a.cursor.now.at kind c.requires.number whole codes (drop (whole * width kind) (take n buf)) (takes_as (sym part.parts) c.in_ok-came.ensures.came)
-    (c.in_ok-came.ensures.end (search (rules, short))) part.long part.cut lt part.fewer in (
+    (c.in_ok-came.ensures.end (search (rules, part.short))) part.long part.cut lt part.fewer in (
       refl,
       refl,
       refl,

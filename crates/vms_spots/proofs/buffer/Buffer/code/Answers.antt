@@ -1,7 +1,4 @@
-use Rattle.std.proofs.Common.{◌≡◌, ◌∙◌, ap, pos, arith, rules, ℕ, List, get_or, take, drop, ◌-◌}
-use Rattle.vms_kinds.specs.Codes.{width, code}
-use Rattle.vms_kinds.specs.declared.Kind.TheVariants.{U8}
-use Rattle.vms_spots.specs.Spots.{Held}
+use Rattle.vms_spots.proofs.Facade.{◌≡◌, ◌∙◌, ap, pos, arith, rules, ℕ, List, get_or, take, drop, ◌-◌, width, code, U8, Held}
 use Rattle.vms_spots.proofs.BufferLaws.{at_cell, AtSpot}
 use Rattle.vms_spots.proofs.buffer.Buffer.code.Goals as goal
 
@@ -21,7 +18,5 @@ returns c =
     let bytes = c.self.inside.bytes.items in
     let a : AtSpot c.self.inside.spots.items bytes c.args.cell s =
     at_cell c.self.inside.spots.items bytes c.args.cell s c.args.self.now c.self.view_is c.self.invariant c.requires c.index-spot.ensures in
-    let wide : c.end-end.result - s.offset ≡ width s.kind = omega (arith, c.end-end.ensures) in
-    ap (λ (n : ℕ). take n (drop s.offset c.deref.result.now)) wide
-    ∙ ap (λ (l : List ℕ). take (width s.kind) (drop s.offset l)) c.deref.ensures.value
+    ap (λ (n : ℕ). take n (drop s.offset c.deref.result.now)) (omega arith) ∙ ap (λ (l : List ℕ). take (width s.kind) (drop s.offset l)) c.deref.ensures.value
     ∙ a.code_is ∙ ap (λ (x : Held). code (get_or x.kinds c.args.cell U8) (get_or x.numbers c.args.cell (pos 0))) c.self.view_is

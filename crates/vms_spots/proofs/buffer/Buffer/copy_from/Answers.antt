@@ -1,4 +1,4 @@
-use Rattle.std.proofs.Common.{rules, ◌≡◌, ap, length}
+use Rattle.vms_spots.proofs.Facade.{rules, ◌≡◌, ap, length}
 use Rattle.vms_spots.proofs.BufferLaws.{same_spots}
 use Rattle.vms_spots.proofs.buffer.Buffer.copy_from.Goals as goal
 

@@ -1,11 +1,5 @@
-use Rattle.std.proofs.Common.{◌≡◌, refl, ◌∙◌, sym, ap, subst, pos, arith, rules, ℕ, ℤ, List, get_or, take, drop, ◌-◌}
-use Rattle.std.specs.Int.{w128}
-use Rattle.std.proofs.lemmas.Int.{to_z-of_z}
-use mir.Val.{SFits}
-use Rattle.vms_kinds.specs.Codes.{width, value_of, InRange, IsBadBool}
-use Rattle.vms_kinds.specs.declared.Kind.{Kind}
-use Rattle.vms_kinds.specs.declared.Kind.TheVariants.{U8}
-use Rattle.vms_spots.specs.Spots.{Held}
+use Rattle.vms_spots.proofs.Facade.{◌≡◌, refl, ◌∙◌, sym, ap, subst, pos, arith, rules, ℕ, ℤ, List, get_or, take, drop, ◌-◌, w128, to_z-of_z, SFits, width}
+use Rattle.vms_spots.proofs.Facade.{value_of, InRange, IsBadBool, Kind, U8, Held}
 use Rattle.vms_spots.proofs.BufferLaws.{at_cell, AtSpot}
 use Rattle.vms_spots.proofs.buffer.Buffer.get.Goals as goal
 use Rattle.vms_spots.proofs.buffer.Buffer.get.Goals.{After-end-end}
@@ -19,12 +13,10 @@ at_spot : (c : goal.After-end-end) → AtSpot c.self.inside.spots.items c.self.i
 at_spot c = at_cell c.self.inside.spots.items c.self.inside.bytes.items c.args.cell c.index-spot.result.now c.args.self.now c.self.view_is c.self.invariant c.requires c.index-spot.ensures
 
 wide : (c : goal.After-end-end) → c.end-end.result - c.index-spot.result.now.offset ≡ width c.index-spot.result.now.kind
-wide c = omega (arith, c.end-end.ensures)
+wide c = omega arith
 
 pub slice_bounds-take-end : goal.slice_bounds-take-end
-slice_bounds-take-end c =
-    let inside = (at_spot (goal.at.slice_bounds-take-end c).After-end-end).inside in
-    search (rules, inside, c.end-end.ensures, c.deref.ensures.value)
+slice_bounds-take-end c = search (rules, ((at_spot (goal.at.slice_bounds-take-end c).After-end-end).inside), c.end-end.ensures, c.deref.ensures.value)
 
 pub unreachable-requires : goal.unreachable-requires
 unreachable-requires c =
@@ -37,8 +29,7 @@ pub returns-clause-number : goal.returns-clause-number
 returns-clause-number c =
     let s = c.index-spot.result.now in
     let h = (goal.at.returns-clause-number c).After-end-end in
-    let fits : SFits w128 c.in-Some.number = search rules in
-    to_z-of_z w128 c.in-Some.number fits ∙ c.in-Some.ensures.value
+    to_z-of_z w128 c.in-Some.number (search rules) ∙ c.in-Some.ensures.value
     ∙ ap (λ (n : ℕ). value_of s.kind (take n (drop s.offset c.deref.result.now))) (wide h)
     ∙ ap (λ (l : List ℕ). value_of s.kind (take (width s.kind) (drop s.offset l))) c.deref.ensures.value
     ∙ (at_spot h).number ∙ ap (λ (x : Held). get_or x.numbers c.args.cell (pos 0)) c.self.view_is

@@ -1,8 +1,4 @@
-use Rattle.std.proofs.Common.{◌≡◌, ◌∙◌, List, ap, arith, length}
-use Rattle.std.proofs.lemmas.List.{length-map}
-use Rattle.vms_kinds.specs.declared.Kind.{Kind}
-use Rattle.vms_spots.specs.declared.layout.Spot.{Spot}
-use Rattle.vms_spots.specs.Spots.{spots_of, kinds_of, bytes_of}
+use Rattle.vms_spots.proofs.Facade.{◌≡◌, ◌∙◌, List, ap, arith, length, length-map, Spot, spots_of, kinds_of, bytes_of}
 use Rattle.vms_spots.proofs.LayoutLaws.{laid_again, kinds_again}
 use Rattle.vms_spots.proofs.BufferLaws.{begun}
 use Rattle.vms_spots.proofs.buffer.Buffer.new.Goals as goal
@@ -10,8 +6,7 @@ use Rattle.vms_spots.proofs.buffer.Buffer.new.Goals as goal
 pub size-requires-clause-few : goal.size-requires-clause-few
 size-requires-clause-few c =
     let spots = c.deref.result.now in
-    let laid : spots ≡ spots_of c.args.kinds.now = c.deref.ensures.value ∙ c.in_ok-spots.ensures.spots in
-    omega (arith, c.requires, length-map spots (λ s. s.kind), ap length (kinds_again c.args.kinds.now spots laid))
+    omega (arith, length-map spots (λ s. s.kind), ap length (kinds_again c.args.kinds.now spots (c.deref.ensures.value ∙ c.in_ok-spots.ensures.spots)))
 
 pub size-requires-clause-laid : goal.size-requires-clause-laid
 size-requires-clause-laid c = laid_again c.args.kinds.now c.deref.result.now (c.deref.ensures.value ∙ c.in_ok-spots.ensures.spots)

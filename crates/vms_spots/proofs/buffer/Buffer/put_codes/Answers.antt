@@ -1,8 +1,5 @@
-use Rattle.std.proofs.Common.{rules, ◌≡◌, ◌∙◌, sym, ap, subst, arith, ℕ, List, take, drop, ◌+◌, ◌-◌, ◌<◌, ◌≤◌, ◌++◌, length}
-use Rattle.std.specs.Vec.{with_items}
-use Rattle.std.proofs.lemmas.List.{with_items_is}
-use Rattle.vms_kinds.specs.Bytes.{IsBytes}
-use Rattle.vms_spots.specs.Spots.{held, IsHeld, put_from, values_of}
+use Rattle.vms_spots.proofs.Facade.{rules, ◌≡◌, ◌∙◌, sym, ap, subst, arith, ℕ, List, take, drop, ◌+◌, ◌-◌, ◌<◌, ◌≤◌, ◌++◌, length, with_items, with_items_is}
+use Rattle.vms_spots.proofs.Facade.{IsBytes, held, IsHeld, put_from, values_of}
 use Rattle.vms_spots.proofs.RunLaws.{codes_seen}
 use Rattle.vms_spots.proofs.PutLaws.{puts_codes}
 use Rattle.vms_spots.proofs.buffer.Buffer.put_codes.Goals as goal
@@ -10,7 +7,7 @@ use Rattle.vms_spots.proofs.buffer.Buffer.put_codes.Goals as goal
 pub slice_bounds-copy_from_slice-end : goal.slice_bounds-copy_from_slice-end
 slice_bounds-copy_from_slice-end c =
     let s = c.index.result.now in
-    let some : 0 < c.args.count = omega (arith, c.if-count-eq0.false) in
+    let some : 0 < c.args.count = omega arith in
     let seen = codes_seen c.self.inside.spots.items c.self.inside.bytes.items c.args.first c.args.count c.args.kind s c.args.self.now c.self.view_is c.self.invariant some c.requires.room c.requires.one c.index.ensures in
     let inside : s.offset + length c.args.codes.now ≤ length c.deref_mut.result.now = omega (arith, seen.0, c.requires.long, ap length c.deref_mut.ensures.value) in
     search (rules, inside)
@@ -31,18 +28,16 @@ stored c =
     let s = c.index.result.now in
     let codes = c.args.codes.now in
     let n = (s.offset + length codes) - s.offset in
-    let some : 0 < c.args.count = omega (arith, c.if-count-eq0.false) in
-    let size : n ≡ length codes = omega arith in
-    let octets : IsBytes codes = λ i. omega (arith, c.type_inv.codes i) in
+    let some : 0 < c.args.count = omega arith in
     let new : after c ≡ take s.offset c.self.inside.bytes.items ++ (codes ++ drop n (drop s.offset c.self.inside.bytes.items)) =
     ap (λ (l : List ℕ). take s.offset l ++ (c.copy_from_slice.new.self ++ drop n (drop s.offset l))) c.deref_mut.ensures.value
     ∙ ap (λ (l : List ℕ). take s.offset c.self.inside.bytes.items ++ (l ++ drop n (drop s.offset c.self.inside.bytes.items))) c.copy_from_slice.ensures.after in
     let r = puts_codes c.self.inside.spots.items c.self.inside.bytes.items (after c) codes c.args.first c.args.count n c.args.kind s c.args.self.now c.self.view_is c.self.invariant some
-    c.requires.room c.requires.one c.requires.number c.requires.long octets c.index.ensures size new in
+    c.requires.room c.requires.one c.requires.number c.requires.long (λ i. omega (arith, c.type_inv.codes i)) c.index.ensures (omega arith) new in
     record {
       held_is = r.0;
       seen = r.1;
-      items = with_items_is c.self.inside.bytes (after c) (omega (arith, r.2, c.deref_mut.ensures.len, ap length c.deref_mut.ensures.value));
+      items = with_items_is c.self.inside.bytes (after c) (omega (arith, ap length c.deref_mut.ensures.value));
     }
 
 pub invariant_of-self : goal.invariant_of-self

@@ -1,13 +1,6 @@
-use Rattle.std.proofs.Common.{◌≡◌, ◌∙◌, sym, ap, subst, arith, rules, ℕ, ℤ, List, get_or, take, drop, ◌-◌, ◌++◌, length, set, [], length-take}
-use mir.Val.{to_z, of_z}
-use Rattle.std.specs.Int.{w128}
-use Rattle.std.specs.Vec.{with_items}
-use Rattle.std.proofs.lemmas.Int.{to_z-of_z}
-use Rattle.std.proofs.lemmas.List.{append-nil, drop_all, with_items_is}
-use Rattle.vms_kinds.specs.Codes.{width, code, InRange}
-use Rattle.vms_kinds.specs.declared.Kind.{Kind}
-use Rattle.vms_kinds.specs.declared.Kind.TheVariants.{U8}
-use Rattle.vms_spots.specs.Spots.{Held, held, IsHeld}
+use Rattle.vms_spots.proofs.Facade.{◌≡◌, ◌∙◌, sym, ap, subst, arith, rules, ℕ, ℤ, List, get_or, take, drop, ◌-◌, ◌++◌, length, set, [], length-take, w128}
+use Rattle.vms_spots.proofs.Facade.{with_items, to_z-of_z, drop_all, with_items_is, to_z, of_z, width, code, InRange, Kind, U8, Held, held, IsHeld}
+use Rattle.std.proofs.lemmas.List.{append-nil}
 use Rattle.vms_spots.proofs.BufferLaws.{at_cell, AtSpot, puts_seen}
 use Rattle.vms_spots.proofs.buffer.Buffer.set.Goals as goal
 
@@ -43,9 +36,8 @@ record Stored (c : goal.After-self-1) : Type 0 where
 stored : (c : goal.After-self-1) → Stored c
 stored c =
     let s = c.index-spot.result.now in
-    let wide : c.end-end.result - s.offset ≡ width s.kind = omega (arith, c.end-end.ensures) in
     let old : List ℕ = take (c.end-end.result - s.offset) (drop s.offset c.deref_mut.result.now) in
-    let none : drop (width s.kind) old ≡ [] = drop_all (width s.kind) old (omega (arith, wide, length-take (c.end-end.result - s.offset) (drop s.offset c.deref_mut.result.now))) in
+    let none : drop (width s.kind) old ≡ [] = drop_all (width s.kind) old (omega (arith, length-take (c.end-end.result - s.offset) (drop s.offset c.deref_mut.result.now))) in
     let part : c.write.new.bytes ≡ code s.kind c.args.value =
     c.write.ensures ∙ ap (λ (l : List ℕ). code s.kind (to_z w128 (of_z w128 c.args.value)) ++ l) none
     ∙ append-nil (code s.kind (to_z w128 (of_z w128 c.args.value))) ∙ ap (code s.kind) (to_z-of_z w128 c.args.value c.ranges.value) in
@@ -55,11 +47,11 @@ stored c =
     × (held c.self.inside.spots.items (after c) ≡ record c.args.self.now { numbers = set c.args.self.now.numbers c.args.cell c.args.value })
     × (length (after c) ≡ length c.self.inside.bytes.items) =
     puts_seen c.self.inside.spots.items c.self.inside.bytes.items (after c) c.write.new.bytes c.args.cell (c.end-end.result - s.offset) c.args.value s
-    c.args.self.now c.self.view_is c.self.invariant c.requires.cell c.index-spot.ensures c.requires.range part wide new in
+    c.args.self.now c.self.view_is c.self.invariant c.requires.cell c.index-spot.ensures c.requires.range part (omega arith) new in
     record {
       held_is = r.0;
       seen = r.1;
-      items = with_items_is c.self.inside.bytes (after c) (omega (arith, r.2, c.deref_mut.ensures.len, ap length c.deref_mut.ensures.value));
+      items = with_items_is c.self.inside.bytes (after c) (omega (arith, ap length c.deref_mut.ensures.value));
     }
 
 pub invariant_of-self : goal.invariant_of-self
