@@ -14,7 +14,7 @@ use Rattle.vms_spec.specs.declared.Part.{Part}
 use Rattle.vms_spec.specs.declared.Part.TheVariants as parts
 use Rattle.vms_spec.specs.declared.TheConstants.{MOST_ITEMS}
 use Rattle.vms_spec.specs.declared.Whose.TheVariants.{Own, Parent}
-use Rattle.vms_spec.specs.Layout.{Cell as OneCell, first, no_desc, times, counted, capacity_of, item_cells, item_size, field_cells, cells_from, desc_cells}
+use Rattle.vms_spec.specs.Layout.{Cell as OneCell, first, no_desc, no_field, times, counted, capacity_of, item_cells, item_size, field_cells, cells_from, desc_cells}
 use Rattle.vms_spec.specs.Layout.{struct_cells, device_cells, numbers_of, place_of}
 use Rattle.vms_spec.specs.Rules.{is_num, is_one, names_well}
 use Rattle.vms_spec.specs.Sets.{Formula, AtLeast, Below, Cell, Not, And, Or, Field, Desc, Sub, Device, Set}
@@ -130,10 +130,28 @@ place_is cs fields i base [] (suc k) = omega arith
 place_is cs fields i base [] zero = omega arith
 place_is cs fields i base (f ∷ fs) zero = omega arith
 
+-- the field after field k begins where field k ends
+pub place_after : (cs : List (List OneCell)) (fields : List Field) (i base : ℕ) (fs : List Field) (k : ℕ) → k < length fs
+    → place_of cs fields i base fs (k + 1)
+    ≡ place_of cs fields i base fs k + capacity_of (get_or fs k no_field).count * item_size cs (get_or fs k no_field).item
+place_after cs fields i base [] k lt = absurd (omega arith)
+place_after cs fields i base (f ∷ fs) zero lt =
+    let one : 0 + 1 ≡ suc 0 = omega arith in
+    ap (λ k. place_of cs fields i base (f ∷ fs) k) one
+    ∙ omega (arith, field_size cs fields i f, place_is cs fields (suc i) (base + length (field_cells cs fields i f)) fs 0)
+place_after cs fields i base (f ∷ fs) (suc k) lt =
+    let one : suc k + 1 ≡ suc (k + 1) = omega arith in
+    rw one (place_after cs fields (suc i) (base + length (field_cells cs fields i f)) fs k (omega arith))
+
 pub take_less : (sizes : List ℕ) (fs : List Field) (k : ℕ) → fields_size Cells sizes (take k fs) ≤ fields_size Cells sizes fs
 take_less sizes (f ∷ fs) (suc k) = omega (arith, take_less sizes fs k)
 take_less sizes [] (suc k) = omega arith
 take_less sizes fs zero = omega arith
+
+-- a field begins within the cells of all fields, or at their end
+pub place_within : (cs : List (List OneCell)) (fields : List Field) (i base : ℕ) (fs : List Field) (k : ℕ)
+    → place_of cs fields i base fs k ≤ base + length (cells_from cs fields i fs)
+place_within cs fields i base fs k = omega (arith, place_is cs fields i base fs k, take_less (map length cs) fs k, cells_size cs fields i fs)
 
 -- sizes that are cut at 2 ^ 32 - 1 are exact if there are few cells
 pub exact : (cs : List (List OneCell)) (fs : List Field) → fields_size Cells (map length cs) fs ≤ MOST_ITEMS
@@ -153,13 +171,20 @@ module _ (set : Set) (d : Desc) (few : length (desc_cells (struct_cells set) d) 
         let m = min k (length d.fields) in
         rw (← take_min k d.fields) (omega (arith, h.start m (omega arith), take_less (sizes_of set) d.fields m, inside_is))
 
-    number_is : (numbers : List ℤ) (base k : ℕ) → number_in starts d.fields numbers base k ≡ numbers_of (struct_cells set) d numbers base k
-    number_is numbers base k =
+    place_in_is : (base k : ℕ) → place_in starts d.fields base k ≡ place_of (struct_cells set) d.fields 0 base d.fields k
+    place_in_is base k =
         let less = take_less (map length (struct_cells set)) d.fields k in
         let x = exact (struct_cells set) (take k d.fields) (omega (arith, all_cells)) in
-        let place : place_in starts d.fields base k ≡ place_of (struct_cells set) d.fields 0 base d.fields k =
-        omega (arith, start_is k, place_is (struct_cells set) d.fields 0 base d.fields k) in
-        rw place
+        omega (arith, start_is k, place_is (struct_cells set) d.fields 0 base d.fields k)
+
+    -- the first cell of a field
+    pub start_at : (base k : ℕ) → k < length d.fields → base + get_or starts k 0 ≡ place_of (struct_cells set) d.fields 0 base d.fields k
+    start_at base k lt =
+        let same : k ≡ min k (length d.fields) = omega arith in
+        ap (λ m. base + get_or starts m 0) same ∙ place_in_is base k
+
+    number_is : (numbers : List ℤ) (base k : ℕ) → number_in starts d.fields numbers base k ≡ numbers_of (struct_cells set) d numbers base k
+    number_is numbers base k = rw (place_in_is base k)
 
     -- the cells of the fields that may be named are among n cells
     cells_inside : (base n : ℕ) → base + length (desc_cells (struct_cells set) d) ≤ n → (k : ℕ) → is_number_in d.fields k ≡ true

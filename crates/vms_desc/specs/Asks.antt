@@ -3,7 +3,7 @@ use Rattle.std.specs.Prelude.{ℕ, ◌+◌, ◌≤◌, Bool, List, [], length, g
 use Rattle.vms_spec.specs.declared.Part.{Part}
 use Rattle.vms_spec.specs.declared.Part.TheVariants as parts
 use Rattle.vms_spec.specs.Sets.{Field, Set}
-use Rattle.vms_spec.specs.Layout.{no_field, numbers_of, struct_cells}
+use Rattle.vms_spec.specs.Layout.{no_field, numbers_of, place_of, struct_cells}
 use Rattle.vms_spec.specs.Images.{own_cells, sub_place}
 use Rattle.vms_spec.specs.Places.{own_cell_count}
 use Rattle.vms_spec.specs.Streams.{is_needed}
@@ -18,6 +18,10 @@ first_cell set part = 0
 -- field k of a part
 abbrev pub field_at : Set → Part → ℕ → Field
 field_at set part k = get_or (desc_at set part).fields k no_field
+
+-- the first cell of field k of a part, or of one element of a structure, whose cells begin at a place
+abbrev pub field_start : Set → Part → ℕ → ℕ → ℕ
+field_start set part base k = place_of (struct_cells set) (desc_at set part).fields 0 base (desc_at set part).fields k
 
 -- the numbers of the fields of a part, or of one element of a structure, whose cells begin at a
 -- place

@@ -1,12 +1,13 @@
 // What a walk over a set needs to know about it.
 ghost use Rattle.vms_spec.specs.declared.TheConstants.{MOST_ITEMS};
-ghost use Rattle.std.specs.Prelude.{◌≡◌, ◌<◌, ◌≤◌, ◌*◌, length};
+ghost use Rattle.std.specs.Prelude.{◌≡◌, ◌<◌, ◌≤◌, ◌+◌, ◌*◌, length};
 ghost use Rattle.vms_spec.specs.Layout.{capacity_of, elements_of, counted, all_hold, item_size, struct_cells, device_cells, no_parent};
+ghost use Rattle.vms_spec.specs.Places.{own_cell_count};
 ghost use Rattle.vms_spec.specs.Tests.{is_there};
 ghost use Rattle.vms_spec.specs.declared.Part.TheVariants as parts;
 ghost use Rattle.vms_parts.specs.Capacities.{least_of};
 ghost use Rattle.vms_parts.specs.Sizes.{in_u32};
-ghost use Rattle.vms_desc.specs.Asks.{first_cell, field_at, own_numbers, needed_at, HasCells};
+ghost use Rattle.vms_desc.specs.Asks.{first_cell, field_at, field_start, own_numbers, needed_at, HasCells};
 ghost use Rattle.vms_desc.specs.Parts.{HasPart, desc_at};
 ghost use Rattle.vms_desc.specs.Scopes.{IsScope};
 
@@ -91,6 +92,25 @@ impl DescSet {
     {
         let field = &self.desc(part).fields.as_slice()[field as usize];
         capacity(field.count).saturating_mul(self.item_cells(field.item))
+    }
+
+    /// Returns the first cell of field `field` of `part`.
+    ///
+    /// `base` is the first cell of the part, or of one element of a structure.
+    ///
+    /// # Requires
+    ///
+    /// The set has `part`, the part has the field, and its cells end at most
+    /// [`MOST_ITEMS`](vms_spec::MOST_ITEMS) cells after the device's first.
+    #[inline(always)]
+    pub fn field_start(&self, part: Part, base: u32, field: u32) -> u32
+        requires part { HasPart (described self.now) part }
+        requires field { field < length (desc_at (described self.now) part).fields }
+        requires few { let set = described self.now in
+            base + own_cell_count set (desc_at set part) ≤ MOST_ITEMS }
+        ensures { result ≡ field_start (described self.now) part base field }
+    {
+        base + self.table(part).starts.as_slice()[field as usize]
     }
 
     /// Returns the least capacity of the arrays whose elements field `field` of `part` counts, or

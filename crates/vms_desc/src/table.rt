@@ -30,7 +30,7 @@ fn table_of(alloc: Global, sizes: &[u32], fields: &[Field]) -> Result<Table, All
 fn starts(alloc: Global, sizes: &[u32], fields: &[Field]) -> Result<Vec<u32>, AllocError>
     ensures { IfOk result (λ starts. AreStarts sizes.now (map field_of fields.now) starts.items) }
 {
-    let mut starts = Vec::new(alloc);
+    let mut starts = Vec::with_capacity(alloc, fields.len() + 1)?;
     let mut sum: u32 = 0;
     starts.push(sum)?;
     for field in fields {
@@ -50,7 +50,7 @@ pub(crate) fn struct_tables(
     ensures { IfOk result (λ tables.
         AreTables sizes.now (map (λ d. d.fields) (map desc_of structs.now)) tables.items) }
 {
-    let mut tables = Vec::new(alloc);
+    let mut tables = Vec::with_capacity(alloc, structs.len())?;
     for desc in structs {
         tables.push(table_of(alloc, sizes, desc.fields.as_slice())?)?;
     }
@@ -84,7 +84,7 @@ pub(crate) fn device_tables(
         AreDeviceTables sizes.now (map device_of devices.now) tables.items) }
     ensures heads { OnOk result (HeadsFit (map device_of devices.now)) }
 {
-    let mut tables = Vec::new(alloc);
+    let mut tables = Vec::with_capacity(alloc, devices.len())?;
     for device in devices {
         tables.push(Listed::new(part_tables(alloc, sizes, device)?))?;
     }
