@@ -33,12 +33,12 @@ pub use Rattle.vms_bodies.proofs.AboveLaws.{IsAbove, field_above, item_above, it
 pub use Rattle.vms_bodies.proofs.CellLaws.{cells_first}
 pub use Rattle.vms_bodies.proofs.Places.{SameBelow, elements_same, own_same, place_next, same_less, there_same}
 pub use Rattle.vms_bodies.proofs.SettledLaws.{MeanSettled, SameIn, field_settled, item_settled, meanings_settled}
-pub use Rattle.vms_bodies.proofs.WalkLaws.{place_first}
 pub use Rattle.vms_desc.proofs.AskLaws.{found_field, here_fields}
 pub use Rattle.vms_desc.proofs.Bounds.{good_of}
 pub use Rattle.vms_desc.proofs.Clean.{field_clean, reach, struct_clean}
+pub use Rattle.vms_desc.proofs.EvalLaws.{place_after, place_within}
 pub use Rattle.vms_desc.proofs.Ranks.{item_rank, part_rank, rank_below, reach_whole, uses_more}
-pub use Rattle.vms_desc.specs.Asks.{field_at, own_numbers}
+pub use Rattle.vms_desc.specs.Asks.{field_at, field_start, own_numbers}
 pub use Rattle.vms_desc.specs.Described.{described, device_at}
 pub use Rattle.vms_desc.specs.Formed.{is_well_formed}
 pub use Rattle.vms_desc.specs.Parts.{HasPart, desc_at, sub_at}

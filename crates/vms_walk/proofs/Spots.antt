@@ -1,13 +1,13 @@
 -- The spots of a walk: where fields and structures are, and what they have.
 use Rattle.vms_walk.proofs.Facade.{◌≡◌, ℕ, ◌+◌, ◌*◌, ◌<◌, ◌≤◌, List, ◌++◌, length, get_or, drop, ℤ, refl, sym, ap, ◌∙◌, subst, arith, Bool, true, if◌then◌else◌}
 use Rattle.vms_walk.proofs.Facade.{Option, Item, Struct, MOST_ITEMS, Set, Field, is_there, uses_below, least_of, Cell, no_desc, no_parent, item_slots}
-use Rattle.vms_walk.proofs.Facade.{item_size, slots_from, desc_slots, desc_cells, cells_from, struct_cells, numbers_of, elements_of, capacity_of, counted}
+use Rattle.vms_walk.proofs.Facade.{item_size, slots_from, desc_slots, desc_cells, struct_cells, numbers_of, elements_of, capacity_of, counted}
 use Rattle.vms_walk.proofs.Facade.{times, FieldsBelow, all_below, struct_slots, struct_cells_at, room_for_less, one_fits, cells_first, in_u32, field_at}
 use Rattle.vms_walk.proofs.Facade.{own_numbers, is_well_formed, desc_at, reach, field_clean, struct_clean, PartAt, table, cells_in, HasSpot, spot_numbers}
 use Rattle.vms_walk.proofs.Facade.{spot_slots, slots_at, present_of, size_in, capacities_of, elements_slots, steps_of, item_rank, part_rank, reach_whole}
-use Rattle.vms_walk.proofs.Facade.{uses_more, rank_below}
+use Rattle.vms_walk.proofs.Facade.{uses_more, rank_below, place_of, place_after, place_within, field_start, cell_of}
 use Rattle.vms_spec.specs.declared.Part.TheVariants as parts
-use Rattle.vms_walk.proofs.Walking.{slots_next, room_next, fields_at, present_slots, present_fits, steps_bare}
+use Rattle.vms_walk.proofs.Walking.{slots_next, fields_at, present_slots, present_fits, steps_bare}
 
 pub cells_table : (set : Set) → cells_in (table set) ≡ struct_cells set
 cells_table set = cells_first set.structs (length set.structs)
@@ -58,6 +58,19 @@ module _ (set : Set) (well : is_well_formed set ≡ true) (j : ℕ) (lt : j < le
 
 -- ---- the next field
 
+-- the first cell of a field, as the code has it
+pub start_code : (set : Set) (spot : PartAt) (k cell : ℕ) → cell ≡ field_start set spot.part spot.base k → cell ≡ cell_of set spot k
+start_code set spot k cell e =
+    let all = (desc_at set spot.part).fields in
+    e ∙ ap (λ cs. place_of cs all 0 spot.base all k) (sym (cells_table set))
+
+-- the first cell of the field after it
+pub start_after : (set : Set) (spot : PartAt) (k cell : ℕ) → cell ≡ cell_of set spot k → k < length (desc_at set spot.part).fields
+    → cell + capacity_of (field_at set spot.part k).count * size_in set (field_at set spot.part k).item ≡ cell_of set spot (k + 1)
+start_after set spot k cell e lt =
+    let all = (desc_at set spot.part).fields in
+    omega (arith, e, place_after (cells_in (table set)) all 0 spot.base all k lt)
+
 pub record Next (set : Set) (spot : PartAt) (n : List ℤ) (k cell : ℕ) : Type 0 where
   pub slots : slots_from (table set) (desc_at set spot.part).fields spot.version (spot_numbers set spot n) n k cell (drop k (desc_at set spot.part).fields)
       ≡ slots_at set spot n k cell
@@ -65,26 +78,22 @@ pub record Next (set : Set) (spot : PartAt) (n : List ℤ) (k cell : ℕ) : Type
       (cell + capacity_of (field_at set spot.part k).count * size_in set (field_at set spot.part k).item)
       (drop (k + 1) (desc_at set spot.part).fields)
   pub room : cell + capacity_of (field_at set spot.part k).count * size_in set (field_at set spot.part k).item ≤ length n
-  pub later : (cell + capacity_of (field_at set spot.part k).count * size_in set (field_at set spot.part k).item)
-      + length (cells_from (cells_in (table set)) (desc_at set spot.part).fields (k + 1) (drop (k + 1) (desc_at set spot.part).fields)) ≤ length n
   pub uses : uses_below (reach set spot.part) (field_at set spot.part k).item ≡ true
   pub some : 1 ≤ capacity_of (field_at set spot.part k).count
 
 pub next_field : (set : Set) → is_well_formed set ≡ true → (spot : PartAt) (n : List ℤ) → HasSpot set spot n → (k cell : ℕ)
     → k < length (desc_at set spot.part).fields
-    → cell + length (cells_from (cells_in (table set)) (desc_at set spot.part).fields k (drop k (desc_at set spot.part).fields)) ≤ length n
+    → cell ≡ cell_of set spot k
     → Next set spot n k cell
-next_field set well spot n h k cell lt room =
+next_field set well spot n h k cell lt here =
     let all = (desc_at set spot.part).fields in
     let f = field_at set spot.part k in
     let w = capacity_of f.count * size_in set f.item in
     let at = fields_at all k lt in
     let clean = field_clean set well spot.part h.part k lt in
-    let fits = room_next (cells_in (table set)) all k cell w (length n) f (drop k all) (drop (k + 1) all) at refl room in
     record {
       slots = slots_next (table set) all spot.version (spot_numbers set spot n) n k cell w f (drop k all) (drop (k + 1) all) at refl;
-      room = fits.0;
-      later = fits.1;
+      room = omega (arith, start_after set spot k cell here lt, place_within (cells_in (table set)) all 0 spot.base all (k + 1), spot_room set spot n h);
       uses = clean.uses;
       some = clean.some;
     }

@@ -1,7 +1,7 @@
 -- The slots of fields and elements, taken apart at one of them.
 use Rattle.vms_walk.proofs.Facade.{◌≡◌, ℕ, zero, suc, ◌+◌, ◌*◌, ◌<◌, List, [], ◌∷◌, ◌++◌, length, get_or, take, ℤ, sym, ap, ◌∙◌, arith, append_assoc}
-use Rattle.vms_walk.proofs.Facade.{append-nil, ◌≤◌, drop, refl, length-append, Bool, true, false, if◌then◌else◌, Option, Some, None, drop_more, Field, Slot}
-use Rattle.vms_walk.proofs.Facade.{Meaning, times, field_slots, slots_from, field_cells, place_of, no_field, Cell, item_slots, item_size, cells_from}
+use Rattle.vms_walk.proofs.Facade.{append-nil, ◌≤◌, drop, refl, Bool, true, false, if◌then◌else◌, Option, Some, None, drop_more, Field, Slot}
+use Rattle.vms_walk.proofs.Facade.{Meaning, times, field_slots, slots_from, field_cells, place_of, no_field, item_slots, item_size}
 use Rattle.vms_walk.proofs.Facade.{elements_of, capacity_of, counted, no_parent, cells_in, step_of, steps_of, present_of, capacities_of, Item, Num, Equal}
 use Rattle.vms_walk.proofs.Facade.{Unused, Struct, is_there, field_size, elements_fit, room_for_less, least_of, WalkStep}
 use Rattle.vms_walk.specs.declared.step.WalkStep.TheVariants as steps
@@ -121,16 +121,6 @@ slots_next ms fields v own n i at size f left more e s =
     let step : length (field_cells (cells_in ms) fields i f) ≡ size = field_size (cells_in ms) fields i f ∙ sym s in
     let one : suc i ≡ i + 1 = omega arith in
     rw (e, step, one)
-
-pub room_next : (cs : List (List Cell)) (fields : List Field) (i at size most : ℕ) (f : Field) (left more : List Field) → left ≡ f ∷ more
-    → size ≡ capacity_of f.count * item_size cs f.item → at + length (cells_from cs fields i left) ≤ most
-    → (at + size ≤ most) × ((at + size) + length (cells_from cs fields (i + 1) more) ≤ most)
-room_next cs fields i at size most f left more e s h =
-    let one : suc i ≡ i + 1 = omega arith in
-    let long = ap (λ l. length (cells_from cs fields i l)) e ∙ length-append (field_cells cs fields i f) (cells_from cs fields (suc i) more)
-    ∙ ap (λ k. length (field_cells cs fields i f) + length (cells_from cs fields k more)) one in
-    let step : length (field_cells cs fields i f) ≡ size = field_size cs fields i f ∙ sym s in
-    (omega arith, omega arith)
 
 -- the elements that are there, or none
 pub present_slots : (ms : List Meaning) (fields : List Field) (v : ℕ) (own : ℕ → ℕ) (n : List ℤ) (i at : ℕ) (f : Field)

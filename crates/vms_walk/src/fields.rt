@@ -281,10 +281,9 @@ pub fn walk<W: Walker>(set: &DescSet, spot: PartAt, walker: &mut W) -> Result<()
     ensures err { let slots = spot_slots (described set.now) spot (W.numbers walker.new) in
         IfErr result (λ fault. W.stops (steps_of slots) walker.old fault walker.new) }
 {
-    let mut cell = spot.base;
     for field in 0..set.field_count(spot.part) {
+        let cell = set.field_start(spot.part, spot.base, field);
         walk_field(set, spot, field, cell, walker)?;
-        cell += set.field_cells(spot.part, field);
     }
     walker.rules(set, spot)
 }

@@ -1,18 +1,18 @@
-use Rattle.vms_walk.proofs.Facade.{rules, arith, refl, sym, ap, ◌∙◌, subst, ◌≡◌, ℕ, ℤ, ◌+◌, ◌*◌, ◌<◌, ◌≤◌, List, [], ◌∷◌, ◌++◌, append-nil, length, drop, true}
+use Rattle.vms_walk.proofs.Facade.{rules, arith, refl, sym, ap, ◌∙◌, subst, ◌≡◌, ℕ, ℤ, ◌+◌, ◌*◌, ◌<◌, ◌≤◌, List, [], ◌∷◌, ◌++◌, append-nil, length, true}
 use Rattle.vms_walk.proofs.Facade.{OnOk, IfErr, Option, ltb-true, IfErr-weaker, on_ok_weaker, Item, Struct, Field, Desc, Set, uses_below, Slot, item_slots}
-use Rattle.vms_walk.proofs.Facade.{cells_from, capacity_of, all_hold, SameBelow, field_size, place_first, IsAbove, items_above, meanings_above, field_at}
-use Rattle.vms_walk.proofs.Facade.{described, desc_at, found_field, here_fields, good_of, PartAt, WalkStep, steps_of, table, cells_in, spot_numbers, holds_at}
+use Rattle.vms_walk.proofs.Facade.{all_hold, SameBelow, IsAbove, items_above, meanings_above, field_at}
+use Rattle.vms_walk.proofs.Facade.{described, desc_at, found_field, here_fields, good_of, PartAt, WalkStep, steps_of, table, spot_numbers, holds_at, cell_of}
 use Rattle.vms_walk.proofs.Facade.{spot_slots, slots_at, size_in, capacities_of, elements_slots, HasSpot, MayCome, run_of}
 use Rattle.vms_spec.specs.declared.Part.TheVariants as parts
 use Rattle.vms_walk.specs.declared.step.WalkStep.TheVariants as steps
 use Rattle.vms_walk.proofs.Kept.{err_is}
 use Rattle.vms_walk.proofs.Runs.{run_steps}
 use Rattle.vms_walk.proofs.Walking.{room_at, least_again}
-use Rattle.vms_walk.proofs.Spots.{Next, next_field, field_needs, size_code, width_code, spot_room, struct_spot, struct_size, own_is}
-use Rattle.vms_walk.proofs.Local.{keeps_below, keeps_first, next_place, set_settled, part_sound}
+use Rattle.vms_walk.proofs.Spots.{Next, next_field, field_needs, size_code, start_code, struct_spot, struct_size, own_is}
+use Rattle.vms_walk.proofs.Local.{keeps_below, keeps_first}
 use Rattle.vms_walk.proofs.Going.{Laws, Walked, Past, items_next, items_stop, items_may, field_slots_are, fields_next, fields_stop, fields_may, rule_next, rule_stop, rule_may, same_rule}
 use Rattle.vms_walk.proofs.fields.+walk.Given.{Over}
-use Rattle.vms_walk.proofs.fields.+walk.Goals.{walk_items-After-walk_item-arg-1, walk-After-field_cells-cell, walk-After-rules-arg-1, walk-After-walk_field-arg-1, walk_field-After-walk_row-arg-1, walk_struct-After-walk-arg-1}
+use Rattle.vms_walk.proofs.fields.+walk.Goals.{walk_items-After-walk_item-arg-1, walk-After-rules-arg-1, walk-After-walk_field-arg-1, walk_field-After-walk_row-arg-1, walk_struct-After-walk-arg-1}
 use Rattle.vms_walk.proofs.fields.+walk.Goals as goal
 
 laws_of : (g : Over) → Laws g.W.Cells.numbers g.W.Walker.goes g.W.Walker.stops
@@ -246,23 +246,15 @@ walk_field-returns-clause-err g t c =
 -- ---- the fields of a description
 
 pub walk-loop-field-init : goal.walk-loop-field-init
-walk-loop-field-init g t c =
-    let set = described c.args.set.now in
-    let spot = c.args.spot in
-    record {
-      way = g.met.W.Walker.none c.args.walker.now;
-      long = refl;
-      here = sym (place_first (cells_in (table set)) (desc_at set spot.part).fields 0 spot.base (desc_at set spot.part).fields);
-      room = spot_room set spot (g.W.Cells.numbers c.args.walker.now) c.requires.spot;
-    }
+walk-loop-field-init g t c = record { way = g.met.W.Walker.none c.args.walker.now; long = refl }
 
 -- the next field, with the numbers so far
 record Turn (g : Over) (t : ℕ) (c : goal.walk-After-walk_field-arg-1 g t) : Type 0 where
   inside : c.loop-field.field < length (desc_at (described c.args.set.now) c.args.spot.part).fields
   has : HasSpot (described c.args.set.now) c.args.spot (g.W.Cells.numbers c.loop-field.walker)
-  next : Next (described c.args.set.now) c.args.spot (g.W.Cells.numbers c.loop-field.walker) c.loop-field.field c.loop-field.cell
+  next : Next (described c.args.set.now) c.args.spot (g.W.Cells.numbers c.loop-field.walker) c.loop-field.field c.field_start-cell.result
   past : Past g.W.Cells.numbers g.W.Walker.goes
-      (described c.args.set.now) c.args.spot c.loop-field.field c.loop-field.cell c.args.walker.now c.loop-field.walker
+      (described c.args.set.now) c.args.spot c.loop-field.field c.field_start-cell.result c.args.walker.now c.loop-field.walker
 
 turn : (g : Over) (t : ℕ) (c : goal.walk-After-walk_field-arg-1 g t) → Turn g t c
 turn g t c =
@@ -272,50 +264,27 @@ turn g t c =
     let lt : c.loop-field.field < length (desc_at set spot.part).fields = omega arith in
     let has : HasSpot set spot (g.W.Cells.numbers c.loop-field.walker) =
     record { part = c.requires.spot.part; few = rw inv.long c.requires.spot.few; room = rw inv.long c.requires.spot.room } in
+    let here = start_code set spot c.loop-field.field c.field_start-cell.result c.field_start-cell.ensures in
     record {
       inside = lt;
       has = has;
-      next = next_field set c.args.set.now.well_formed spot (g.W.Cells.numbers c.loop-field.walker) has c.loop-field.field c.loop-field.cell lt inv.room;
+      next = next_field set c.args.set.now.well_formed spot (g.W.Cells.numbers c.loop-field.walker) has c.loop-field.field c.field_start-cell.result lt here;
       past = record {
         good = good_of set c.args.set.now.well_formed c.args.set.now.heads;
         has = c.requires.spot.part;
         le = omega arith;
-        here = inv.here;
+        here = here;
         way = inv.way;
       };
     }
 
--- its width in the code
-wide : (g : Over) (t : ℕ) (c : goal.walk-After-field_cells-cell g t)
-    → (let f = field_at (described c.args.set.now) c.args.spot.part c.loop-field.field in c.field_cells-cell.result
-    ≡ capacity_of f.count * size_in (described c.args.set.now) f.item)
-wide g t c =
-    let s = turn g t (goal.at.walk-overflow_add-cell g t c).After-walk_field-arg-1 in
-    width_code (described c.args.set.now)
-    (field_at (described c.args.set.now) c.args.spot.part c.loop-field.field) c.field_cells-cell.result c.field_cells-cell.ensures (omega arith)
-
 pub walk-loop-field-preserved : goal.walk-loop-field-preserved
 walk-loop-field-preserved g t c =
-    let N = g.W.Cells.numbers in
-    let set = described c.args.set.now in
-    let spot = c.args.spot in
-    let all = (desc_at set spot.part).fields in
-    let i = c.loop-field.field in
-    let cell = c.loop-field.cell in
-    let b = c.loop-field.walker in
-    let inv = c.loop-field.invariant in
     let s = turn g t (goal.at.walk-loop-field-preserved g t c).After-walk_field-arg-1 in
     let d = c.walk_field.new.walker in
-    let width = sym (wide g t (goal.at.walk-loop-field-preserved g t c).After-field_cells-cell) in
-    let kept = (laws_of g).keeps _ b d c.in_ok-walk_field.ensures.ok in
-    let place =
-    next_place (table set) (set_settled set s.past.good) (desc_at set spot.part)
-    (part_sound set s.past.good spot.part c.requires.spot.part) spot.version spot.base i s.inside in
     record {
       way = fields_next (laws_of g) s.past s.inside d c.in_ok-walk_field.ensures.ok;
-      long = kept.long ∙ inv.long;
-      here = omega (arith, field_size (cells_in (table set)) all i (field_at set spot.part i));
-      room = rw kept.long (rw width at s.next.later);
+      long = ((laws_of g).keeps _ c.loop-field.walker d c.in_ok-walk_field.ensures.ok).long ∙ c.loop-field.invariant.long;
     }
 
 pub walk-returns-in_err-walk_field-clause-err : goal.walk-returns-in_err-walk_field-clause-err
@@ -328,6 +297,9 @@ walk-returns-in_err-walk_field-clause-err g t c =
     err_is (λ fault. g.W.Walker.stops
     (steps_of (spot_slots set c.args.spot (g.W.Cells.numbers d))) a fault d) c.from_residual.result fault c.from_residual.ensures.1
     (fields_stop (laws_of g) s.past s.inside d fault c.in_err-walk_field.ensures.err)
+
+pub walk-field_start-cell-requires-clause-few : goal.walk-field_start-cell-requires-clause-few
+walk-field_start-cell-requires-clause-few g t c = omega (arith, c.requires.spot.room, c.requires.spot.few)
 
 pub walk-walk_field-requires : goal.walk-walk_field-requires
 walk-walk_field-requires g t c =
@@ -343,24 +315,20 @@ walk-walk_field-requires g t c =
       ),
     )
 
-pub walk-overflow_add-cell : goal.walk-overflow_add-cell
-walk-overflow_add-cell g t c =
-    let s = turn g t (goal.at.walk-overflow_add-cell g t c).After-walk_field-arg-1 in
-    omega (arith, wide g t c)
-
 -- after the last field
 end_of : (g : Over) (t : ℕ) (c : goal.walk-After-rules-arg-1 g t) → c.loop-field.field ≡ length (desc_at (described c.args.set.now) c.args.spot.part).fields
 end_of g t c = omega arith
 
 done : (g : Over) (t : ℕ) (c : goal.walk-After-rules-arg-1 g t)
-    → Past g.W.Cells.numbers g.W.Walker.goes (described c.args.set.now) c.args.spot c.loop-field.field c.loop-field.cell c.args.walker.now c.loop-field.walker
+    → Past g.W.Cells.numbers g.W.Walker.goes (described c.args.set.now) c.args.spot c.loop-field.field
+    (cell_of (described c.args.set.now) c.args.spot c.loop-field.field) c.args.walker.now c.loop-field.walker
 done g t c =
     let set = c.args.set.now in
     record {
       good = good_of (described set) set.well_formed set.heads;
       has = c.requires.spot.part;
       le = omega (arith, end_of g t c);
-      here = c.loop-field.invariant.here;
+      here = refl;
       way = c.loop-field.invariant.way;
     }
 

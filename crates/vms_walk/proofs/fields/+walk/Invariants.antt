@@ -1,5 +1,5 @@
-use Rattle.vms_walk.proofs.Facade.{◌≡◌, ◌≤◌, ◌+◌, ◌*◌, length, take, drop, slots_from, cells_from, described, desc_at, steps_of, table, cells_in, spot_numbers}
-use Rattle.vms_walk.proofs.Facade.{size_in, elements_slots, cell_of, item_rank, part_rank}
+use Rattle.vms_walk.proofs.Facade.{◌≡◌, ◌+◌, ◌*◌, length, take, slots_from, described, desc_at, steps_of, table, spot_numbers}
+use Rattle.vms_walk.proofs.Facade.{size_in, elements_slots, item_rank, part_rank}
 use Rattle.vms_walk.proofs.fields.+walk.Given as goal
 
 abbrev pub decreases-walk_item : goal.decreases-walk_item
@@ -39,6 +39,4 @@ invariant-walk-loop-field g l =
       way : g.W.Walker.goes
           (steps_of (slots_from (table set) all l.spot.version (spot_numbers set l.spot n) n 0 l.spot.base (take l.field all))) l.initial.walker l.walker;
       long : length n ≡ length (g.W.Cells.numbers l.initial.walker);
-      here : l.cell ≡ cell_of set l.spot l.field;
-      room : l.cell + length (cells_from (cells_in (table set)) all l.field (drop l.field all)) ≤ length n;
     }
