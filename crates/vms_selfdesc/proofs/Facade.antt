@@ -39,7 +39,7 @@ pub use Rattle.vms_spec.proofs.Sizes.{elements_fit, field_size, one_fits, room_f
 pub use Rattle.vms_spec.proofs.Tables.{first_at, first_long}
 pub use Rattle.vms_spec.specs.Heads.{FitsHeads}
 pub use Rattle.vms_spec.specs.Images.{Image, own_cells}
-pub use Rattle.vms_spec.specs.Layout.{Cell, all_hold, capacity_of, cells_from, counted, desc_cells, elements_of, field_cells, item_size, no_desc, no_field}
+pub use Rattle.vms_spec.specs.Layout.{Cell, all_hold, capacity_of, counted, desc_cells, elements_of, field_cells, item_size, no_desc, no_field}
 pub use Rattle.vms_spec.specs.Layout.{no_parent, numbers_of, struct_cells}
 unfoldable pub use Rattle.vms_spec.specs.Layout.{first}
 pub use Rattle.vms_spec.specs.Names.{is_name, is_name_byte, is_sub_name}
@@ -62,15 +62,15 @@ pub use Rattle.vms_desc.proofs.AskLaws.{few_cells, found_field, here_fields, own
 pub use Rattle.vms_desc.proofs.Bounds.{few_devices, few_items, few_structs, none_is}
 pub use Rattle.vms_desc.proofs.Clean.{device_clean, few_subs, field_clean, field_sound, reach, struct_clean, sub_clean}
 pub use Rattle.vms_desc.proofs.ClockHeads.{clock_heads}
+pub use Rattle.vms_desc.proofs.EvalLaws.{place_after, place_is, place_within}
 pub use Rattle.vms_desc.proofs.Formed.{by_number, clock_formed, fit_number}
 pub use Rattle.vms_desc.proofs.Ranks.{item_rank, part_rank, rank_below, reach_whole, uses_more}
-pub use Rattle.vms_desc.specs.Asks.{field_at, first_cell, own_numbers}
+pub use Rattle.vms_desc.specs.Asks.{field_at, field_start, first_cell, own_numbers}
 pub use Rattle.vms_desc.specs.Described.{described, device_at}
 pub use Rattle.vms_desc.specs.Formed.{clock_set, is_well_formed, shipped_set}
 pub use Rattle.vms_desc.specs.Parts.{HasPart, desc_at, sub_at}
 pub use Rattle.vms_image.proofs.States.{state_at, states_long}
 pub use Rattle.vms_image.specs.Typed.{IsOfDevice, state_of}
-pub use Rattle.vms_parts.specs.Sizes.{in_u32}
 pub use Rattle.vms_parts.specs.Views.{field_of}
 pub use Rattle.vms_rules.proofs.StructLaws.{deepest_small}
 pub use Rattle.vms_selfdesc.specs.Drafts.{Adds, AreSound, Begins, Extends, IsEmpty, IsPlain, IsSound, Lays, Puts, absent_tail, after, cell_tail, member_text}

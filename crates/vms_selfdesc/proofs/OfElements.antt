@@ -6,7 +6,7 @@ use Rattle.vms_selfdesc.proofs.Facade.{item_size, field_cells, desc_cells, struc
 use Rattle.vms_selfdesc.proofs.Facade.{no_parent, ItemBelow, FieldsBelow, item_cells_same, field_cells_same, desc_cells_same, own_same, row_same, first_same}
 use Rattle.vms_selfdesc.proofs.Facade.{all_below, first_at, Element, Shape, no_shape, shape, shapes, cells_in, dotted, single, Rule, stand_of, item_elements}
 use Rattle.vms_selfdesc.proofs.Facade.{array_elements, field_elements, elements_from, desc_elements, What, Number, index_text, behind, Stand, shapes_cells}
-use Rattle.vms_selfdesc.proofs.Facade.{MOST_ITEMS, Count, One, Fixed, Counted, Part, uses_below, defaults_well, counts_well, in_u32, field_at, own_numbers}
+use Rattle.vms_selfdesc.proofs.Facade.{MOST_ITEMS, Count, One, Fixed, Counted, Part, uses_below, defaults_well, counts_well, field_at, own_numbers}
 use Rattle.vms_selfdesc.proofs.Facade.{is_well_formed, desc_at, reach, field_clean, struct_clean, field_sound, Entry, entries_of, cell_entry, sent_entry}
 use Rattle.vms_selfdesc.proofs.Facade.{listed_if, entry_of, is_field_sent, array_entries, element_entries, item_entries, item_list, field_list, part_list}
 use Rattle.vms_selfdesc.proofs.Facade.{element_path, HasPlace, HasElements, item_rank, part_rank, reach_whole, uses_more, rank_below, room_for_less, one_fits}
@@ -316,8 +316,3 @@ module _ (set : Set) (well : is_well_formed set ≡ true) (item : Item) (j : ℕ
       ∙ ap (λ (xs : List Element). entries_of sent (path ++ 46 ∷ []) xs) (sym (struct_elements_are set j struct_there below n cell))
       ∙ sym (of_dotted sent path ((get_or (shapes set) j no_shape).elements n cell))
       ∙ sym (ap (λ x. item_entries (shapes set) x z sent n path cell) is)
-
--- ---- widths as the code has them
-
-pub width_code : (width w cell n : ℕ) → width ≡ in_u32 w → cell + w ≤ n → n ≤ MOST_ITEMS → width ≡ w
-width_code width w cell n e room few = omega (arith, e, room, few)

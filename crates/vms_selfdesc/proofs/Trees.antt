@@ -1,22 +1,23 @@
 -- Entries of elements and fields, written one after the other.
-use Rattle.vms_selfdesc.proofs.Facade.{◌≡◌, ℕ, suc, ◌+◌, ◌*◌, ◌-◌, ◌<◌, ◌≤◌, List, ◌∷◌, ◌++◌, length, string_bytes, refl, subst, length-append, append_assoc}
+use Rattle.vms_selfdesc.proofs.Facade.{◌≡◌, ℕ, suc, ◌+◌, ◌*◌, ◌-◌, ◌<◌, ◌≤◌, List, ◌∷◌, ◌++◌, length, string_bytes, refl, subst, append_assoc}
 use Rattle.vms_selfdesc.proofs.Facade.{get_or, map, drop, ℤ, sym, ap, ◌∙◌, arith, Bool, true, [], false, codes, None, drop_more, drop_all, append-nil}
 use Rattle.vms_selfdesc.proofs.Facade.{map-append, Data, string, boolean, array, object, Members, no_members, member, put, compact_text, comma_if, items_text}
-use Rattle.vms_selfdesc.proofs.Facade.{members_text, Part, Field, Set, Sub, AtLeast, Cell, no_field, field_cells, cells_from, item_size, struct_cells}
+use Rattle.vms_selfdesc.proofs.Facade.{members_text, Part, Field, Set, Sub, AtLeast, Cell, no_field, field_cells, item_size, struct_cells}
 use Rattle.vms_selfdesc.proofs.Facade.{capacity_of, numbers_of, no_desc, field_size, shapes, cells_in, field_elements, elements_from, field_at, own_numbers}
 use Rattle.vms_selfdesc.proofs.Facade.{first_cell, desc_at, sub_at, Entry, entries_of, texts, after, AreSound, Adds, IsSound, Extends, Begins, Lays}
 use Rattle.vms_selfdesc.proofs.Facade.{member_text, Lists, element_path, element_entries, field_list, part_list, entry_tree, natural, sub_tree, sub_trees}
 use Rattle.vms_selfdesc.proofs.Facade.{device_tree, device_trees, Draft, Path, escape_byte, quoted, items_of, Image, own_cells, device_at, sub_next, sub_first}
-use Rattle.vms_selfdesc.proofs.Facade.{Text}
+use Rattle.vms_selfdesc.proofs.Facade.{Text, HasPlace, field_start, place_after, place_is, place_within}
 use Rattle.vms_selfdesc.proofs.Plain.{further, same, unchanged, member_last}
 use Rattle.vms_selfdesc.proofs.OfElements.{of_append, of_desc, cells_are}
 use Rattle.vms_selfdesc.proofs.ReadBack.{array_sound, whole_sound}
 use Rattle.vms_spec.specs.declared.Part.TheVariants as parts
 
--- what is listed of the fields from k on of a part that begins at a place, the first of which begins at another
-abbrev pub fields_list : Set → Part → ℕ → ℕ → Bool → List ℤ → List ℕ → ℕ → List Entry
-fields_list set part base k sent n path at =
+-- what is listed of the fields from k on of a part that begins at a place
+abbrev pub fields_list : Set → Part → ℕ → ℕ → Bool → List ℤ → List ℕ → List Entry
+fields_list set part base k sent n path =
     let d = desc_at set part in
+    let at = field_start set part base k in
     entries_of sent path (elements_from (shapes set) d.fields d.version (own_numbers set part n base) n k at (drop k d.fields))
 
 -- of the whole that is to be listed, the entries `done` were, and these are left
@@ -102,12 +103,9 @@ next_element size first i cell e =
 
 -- field k of a description, and the fields after it
 module _ (set : Set) (part : Part) (base : ℕ) (sent : Bool) (path : List ℕ) (n : List ℤ) where
-  pub fields_next : (at k : ℕ) → k < length (desc_at set part).fields
-      → let f = field_at set part k in
-      fields_list set part base k sent n path at
-      ≡ field_list set part base k sent n path at ++ fields_list set part base (k + 1) sent n path
-      (at + capacity_of f.count * item_size (struct_cells set) f.item)
-  fields_next at k lt =
+  pub fields_next : (at k : ℕ) → at ≡ field_start set part base k → k < length (desc_at set part).fields
+      → fields_list set part base k sent n path ≡ field_list set part base k sent n path at ++ fields_list set part base (k + 1) sent n path
+  fields_next at k begins lt =
       let d = desc_at set part in
       let f = field_at set part k in
       let own = own_numbers set part n base in
@@ -115,36 +113,31 @@ module _ (set : Set) (part : Part) (base : ℕ) (sent : Bool) (path : List ℕ) 
       let next : suc k ≡ k + 1 = omega arith in
       let left = λ (i x : ℕ). entries_of sent path (elements_from ss d.fields d.version own n i x (drop (k + 1) d.fields)) in
       let width = field_size (cells_in ss) d.fields k f ∙ ap (λ (cs : List (List Cell)). capacity_of f.count * item_size cs f.item) (cells_are set) in
-      ap (λ (fs : List Field). entries_of sent path (elements_from ss d.fields d.version own n k at fs)) (drop_more d.fields k no_field lt)
+      let after : at + capacity_of f.count * item_size (struct_cells set) f.item ≡ field_start set part base (k + 1) =
+      omega (arith, begins, place_after (struct_cells set) d.fields 0 base d.fields k lt) in
+      ap (λ (x : ℕ). entries_of sent path (elements_from ss d.fields d.version own n k x (drop k d.fields))) (sym begins)
+      ∙ ap (λ (fs : List Field). entries_of sent path (elements_from ss d.fields d.version own n k at fs)) (drop_more d.fields k no_field lt)
       ∙ of_append sent path (field_elements ss d.fields d.version own n k at f)
       (elements_from ss d.fields d.version own n (suc k) (at + length (field_cells (cells_in ss) d.fields k f)) (drop (k + 1) d.fields))
       ∙ ap (λ (i : ℕ). field_list set part base k sent n path at ++ left i (at + length (field_cells (cells_in ss) d.fields k f))) next
       ∙ ap (λ (w : ℕ). field_list set part base k sent n path at ++ left (k + 1) (at + w)) width
+      ∙ ap (λ (x : ℕ). field_list set part base k sent n path at ++ left (k + 1) x) after
 
-  pub fields_whole : fields_list set part base 0 sent n path base ≡ part_list set part sent n path base
+  pub fields_whole : fields_list set part base 0 sent n path ≡ part_list set part sent n path base
   fields_whole =
       let d = desc_at set part in
-      ap (λ (cs : List (List Cell)). entries_of sent path (elements_from (shapes set) d.fields d.version (numbers_of cs d n base) n 0 base d.fields))
+      let first : field_start set part base 0 ≡ base = omega (arith, place_is (struct_cells set) d.fields 0 base d.fields 0) in
+      ap (λ (x : ℕ). entries_of sent path (elements_from (shapes set) d.fields d.version (own_numbers set part n base) n 0 x d.fields)) first
+      ∙ ap (λ (cs : List (List Cell)). entries_of sent path (elements_from (shapes set) d.fields d.version (numbers_of cs d n base) n 0 base d.fields))
       (sym (cells_are set))
       ∙ sym (of_desc (shapes set) d d.version sent path n base)
 
--- there is room for field k of these, and for the fields after it
-pub record FieldRoom (cs : List (List Cell)) (fs : List Field) (k cell most : ℕ) : Type 0 where
-  pub here : cell + capacity_of (get_or fs k no_field).count * item_size cs (get_or fs k no_field).item ≤ most
-  pub later : (cell + capacity_of (get_or fs k no_field).count * item_size cs (get_or fs k no_field).item) + length
-      (cells_from cs fs (k + 1) (drop (k + 1) fs)) ≤ most
-
-pub field_room : (cs : List (List Cell)) (fs : List Field) (k cell most : ℕ) → k < length fs → cell + length (cells_from cs fs k (drop k fs)) ≤ most
-    → FieldRoom cs fs k cell most
-field_room cs fs k cell most lt room =
-    let f = get_or fs k no_field in
-    let next : suc k ≡ k + 1 = omega arith in
-    let long =
-    ap (λ l. length (cells_from cs fs k l)) (drop_more fs k no_field lt)
-    ∙ length-append (field_cells cs fs k f) (cells_from cs fs (suc k) (drop (k + 1) fs))
-    ∙ ap (λ i. length (field_cells cs fs k f) + length (cells_from cs fs i (drop (k + 1) fs))) next in
-    let size = field_size cs fs k f in
-    record { here = omega (arith, long, size, room); later = omega (arith, long, size, room) }
+-- there is room for a field of a part
+pub field_room : (set : Set) (part : Part) (base k : ℕ) (n : List ℤ) → HasPlace set part base n → k < length (desc_at set part).fields
+    → field_start set part base k + capacity_of (field_at set part k).count * item_size (struct_cells set) (field_at set part k).item ≤ length n
+field_room set part base k n place lt =
+    let fs = (desc_at set part).fields in
+    omega (arith, place.room, place_after (struct_cells set) fs 0 base fs k lt, place_within (struct_cells set) fs 0 base fs (k + 1))
 
 -- ---- Trees that are written one after the other.
 

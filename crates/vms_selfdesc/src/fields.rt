@@ -180,9 +180,8 @@ pub(crate) fn list_part(lister: &Lister, part: Part, place: Place, draft: &mut D
     ensures { let entries = part_at lister.now part place draft.old in
         Lists draft.old draft.new entries }
 {
-    let mut cell = place.cell;
     for field in 0..lister.set.field_count(part) {
+        let cell = lister.set.field_start(part, place.cell, field);
         list_field(lister, part, place, At { field, cell }, draft);
-        cell += lister.set.field_cells(part, field);
     }
 }

@@ -1,9 +1,9 @@
-use Rattle.vms_selfdesc.proofs.Facade.{subst, rules, arith, sym, ap, ◌∙◌, ◌≡◌, ℕ, ◌+◌, ◌*◌, ◌-◌, ◌<◌, ◌^◌, List, ◌++◌, length, length-append, codes}
-use Rattle.vms_selfdesc.proofs.Facade.{string_bytes, decimal, refl, Entry, Lists, Field, item_size, struct_cells, capacity_of, elements_fit, field_of, field_at}
+use Rattle.vms_selfdesc.proofs.Facade.{subst, rules, arith, sym, ap, ◌∙◌, ◌≡◌, ℕ, ◌+◌, ◌-◌, ◌<◌, ◌^◌, List, ◌++◌, length, length-append, codes}
+use Rattle.vms_selfdesc.proofs.Facade.{string_bytes, decimal, refl, Entry, Lists, Field, item_size, struct_cells, elements_fit, field_of, field_at}
 use Rattle.vms_selfdesc.proofs.Facade.{own_numbers, described, desc_at, found_field, here_fields, element_path, element_entries, item_list, elements_list}
-use Rattle.vms_selfdesc.proofs.Facade.{field_list, part_list, Draft, IsPlain, HasElements, item_levels}
-use Rattle.vms_selfdesc.proofs.Trees.{fields_list, fields_whole, leaves_same, leaves_rest, leave_path, element_room, elements_next, next_element, fields_next, field_room}
-use Rattle.vms_selfdesc.proofs.OfElements.{field_needs, some_elements, array_many, field_run, struct_place, struct_lower, struct_list, width_code}
+use Rattle.vms_selfdesc.proofs.Facade.{field_list, Draft, IsPlain, HasElements, item_levels}
+use Rattle.vms_selfdesc.proofs.Trees.{fields_whole, leaves_same, leaves_rest, leave_path, element_room, elements_next, next_element, fields_next, field_room}
+use Rattle.vms_selfdesc.proofs.OfElements.{field_needs, some_elements, array_many, field_run, struct_place, struct_lower, struct_list}
 use Rattle.vms_selfdesc.proofs.Plain.{plain_append, element_plain, dot_plain, name_plain, field_name}
 use Rattle.vms_selfdesc.proofs.Paths.{enters, index_long, item_levels_are, levels_are}
 use Rattle.vms_selfdesc.proofs.fields.+list.Goals as goal
@@ -199,65 +199,39 @@ list_field-returns t c =
 
 -- ---- the fields of a part
 
+pub list_part-field_start-cell-requires-clause-few : goal.list_part-field_start-cell-requires-clause-few
+list_part-field_start-cell-requires-clause-few t c = omega (arith, c.requires.place.room, c.requires.place.few)
+
 pub list_part-list_field-requires : goal.list_part-list_field-requires
 list_part-list_field-requires t c =
     let set = described c.args.lister.now.set.now in
-    let n = c.args.lister.now.image.now.numbers in
-    let fs = (desc_at set c.args.part).fields in
     let k = c.loop-field.field in
-    let lt : k < length fs = omega (arith, c.field_count-field-end.ensures) in
-    let room = field_room (struct_cells set) fs k c.loop-field.cell (length n) lt c.loop-field.invariant.room in
-    let same = c.loop-field.invariant.lists.lists.path in
-    (search rules, (c.requires.place, (lt, (room.here, (rw same c.requires.path, omega (arith, c.requires.deep, ap length same))))))
-
-pub list_part-overflow_add-cell : goal.list_part-overflow_add-cell
-list_part-overflow_add-cell t c =
-    let set = described c.args.lister.now.set.now in
-    let n = c.args.lister.now.image.now.numbers in
-    let fs = (desc_at set c.args.part).fields in
-    let k = c.loop-field.field in
-    let lt : k < length fs = omega (arith, c.field_count-field-end.ensures) in
-    let f = field_at set c.args.part k in
-    let w = capacity_of f.count * item_size (struct_cells set) f.item in
-    let room = field_room (struct_cells set) fs k c.loop-field.cell (length n) lt c.loop-field.invariant.room in
-    let width = width_code c.field_cells-cell.result w c.loop-field.cell (length n) c.field_cells-cell.ensures room.here c.requires.place.few in
-    omega (arith, width, room.here, c.requires.place.few)
+    let lt : k < length (desc_at set c.args.part).fields = omega (arith, c.field_count-field-end.ensures) in
+    let room = field_room set c.args.part c.args.place.cell k c.args.lister.now.image.now.numbers c.requires.place lt in
+    let same = c.loop-field.invariant.lists.path in (
+      search rules,
+      (c.requires.place, (lt, (rw c.field_start-cell.ensures room, (rw same c.requires.path, omega (arith, c.requires.deep, ap length same))))),
+    )
 
 pub list_part-loop-field-init : goal.list_part-loop-field-init
 list_part-loop-field-init t c =
     let set = described c.args.lister.now.set.now in
-    let part = c.args.part in
     let place = c.args.place in
-    let n = c.args.lister.now.image.now.numbers in
     let path = string_bytes c.args.draft.now.path.text in
-    record {
-      lists = leaves_same c.args.draft.now (part_list set part place.sent n path place.cell) (fields_list set part place.cell 0 place.sent n path place.cell)
-          (sym (fields_whole set part place.cell place.sent path n));
-      room = c.requires.place.room;
-    }
+    leaves_same c.args.draft.now _ _ (sym (fields_whole set c.args.part place.cell place.sent path c.args.lister.now.image.now.numbers))
 
 pub list_part-loop-field-preserved : goal.list_part-loop-field-preserved
 list_part-loop-field-preserved t c =
     let set = described c.args.lister.now.set.now in
     let n = c.args.lister.now.image.now.numbers in
     let part = c.args.part in
-    let d = desc_at set part in
+    let place = c.args.place in
     let k = c.loop-field.field in
-    let cell = c.loop-field.cell in
+    let cell = c.field_start-cell.result in
     let path = string_bytes c.args.draft.now.path.text in
-    let lt : k < length d.fields = omega (arith, c.field_count-field-end.ensures) in
-    let f = field_at set part k in
-    let w = capacity_of f.count * item_size (struct_cells set) f.item in
+    let lt : k < length (desc_at set part).fields = omega (arith, c.field_count-field-end.ensures) in
     let inv = c.loop-field.invariant in
-    let room = field_room (struct_cells set) d.fields k cell (length n) lt inv.room in
-    let width = width_code c.field_cells-cell.result w cell (length n) c.field_cells-cell.ensures room.here c.requires.place.few in
-    let moved : cell + c.field_cells-cell.result ≡ cell + w = omega (arith, width) in
-    record {
-      lists = leaves_rest c.args.draft.now c.loop-field.draft c.list_field.new.draft
-          (part_list set part c.args.place.sent n path c.args.place.cell) (fields_list set part c.args.place.cell k c.args.place.sent n path cell)
-          (field_list set part c.args.place.cell k c.args.place.sent n path cell) _
-          (rw moved (fields_next set part c.args.place.cell c.args.place.sent path n cell k lt)) inv.lists
-          (subst (λ (p : List ℕ). Lists c.loop-field.draft c.list_field.new.draft (field_list set part c.args.place.cell k c.args.place.sent n p cell))
-          inv.lists.lists.path c.list_field.ensures);
-      room = omega (arith, moved, room.later);
-    }
+    leaves_rest c.args.draft.now c.loop-field.draft c.list_field.new.draft _ _ (field_list set part place.cell k place.sent n path cell) _
+    (fields_next set part place.cell place.sent path n cell k c.field_start-cell.ensures lt) inv
+    (subst (λ (p : List ℕ). Lists c.loop-field.draft c.list_field.new.draft (field_list set part place.cell k place.sent n p cell))
+    inv.lists.path c.list_field.ensures)

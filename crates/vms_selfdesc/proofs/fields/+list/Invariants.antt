@@ -1,4 +1,4 @@
-use Rattle.vms_selfdesc.proofs.Facade.{◌≡◌, ◌≤◌, ◌+◌, ◌-◌, ◌*◌, length, drop, string_bytes, item_size, cells_from, struct_cells, field_of, described, desc_at}
+use Rattle.vms_selfdesc.proofs.Facade.{◌≡◌, ◌+◌, ◌-◌, ◌*◌, string_bytes, item_size, struct_cells, field_of, described}
 use Rattle.vms_selfdesc.proofs.Facade.{element_entries, item_list, elements_list, part_list, item_rank, part_rank}
 use Rattle.vms_selfdesc.proofs.Trees.{fields_list, Leaves}
 use Rattle.vms_selfdesc.proofs.fields.+list.Given as goal
@@ -39,9 +39,5 @@ invariant-list_part-loop-field l =
     let set = described l.lister.set.now in
     let n = l.lister.image.now.numbers in
     let path = string_bytes l.initial.draft.path.text in
-    let d = desc_at set l.part in
-    record {
-      lists : Leaves l.initial.draft l.draft (part_list set l.part l.place.sent n path l.place.cell)
-          (fields_list set l.part l.place.cell l.field l.place.sent n path l.cell);
-      room : l.cell + length (cells_from (struct_cells set) d.fields l.field (drop l.field d.fields)) ≤ length n;
-    }
+    Leaves l.initial.draft l.draft (part_list set l.part l.place.sent n path l.place.cell)
+    (fields_list set l.part l.place.cell l.field l.place.sent n path)
