@@ -62,6 +62,7 @@ pub use Rattle.vms_words.specs.Lines.{IsFirstLine}
 pub use Rattle.vms_words.specs.declared.line.NextLine.{NextLine}
 pub use Rattle.vms_bodies.proofs.CellLaws.{cells_first}
 pub use Rattle.vms_bodies.proofs.PartLaws.{cells_of_sub}
+pub use Rattle.vms_bodies.proofs.WalkLaws.{place_first}
 pub use Rattle.vms_elements.proofs.Names.{array_name, names_absent}
 pub use Rattle.vms_elements.proofs.Tables.{shapes_cells}
 pub use Rattle.vms_elements.proofs.Walk.{AreWalked, are_walked, desc_names_are, desc_walks, field_walks, fields_walk, is_dotted, item_walks, names_append}
@@ -86,7 +87,6 @@ pub use Rattle.vms_io.proofs.WritingLemmas.{wrote_as, wrote_behind}
 pub use Rattle.vms_io.specs.Told.{Outlet, outlet}
 pub use Rattle.vms_io.specs.Writing.{Puts, Wrote}
 pub use Rattle.vms_parts.specs.Capacities.{least_of}
-pub use Rattle.vms_parts.specs.Sizes.{in_u32}
 pub use Rattle.vms_parts.specs.Views.{desc_of, device_of, field_of, form_of, formula}
 pub use Rattle.vms_parts.specs.declared.types.CellForm.{CellForm}
 pub use Rattle.vms_parts.specs.declared.types.Test.{Test}
@@ -110,9 +110,9 @@ pub use Rattle.vms_values_laws.proofs.SecondPass.{or_bad_assoc}
 pub use Rattle.vms_values_laws.proofs.Stated.{line_holds, read_holds}
 pub use Rattle.vms_values_laws.specs.Laws.{most_lines}
 pub use Rattle.vms_walk.proofs.Least.{exceeds_least}
-pub use Rattle.vms_walk.proofs.Spots.{cells_table, next_field, size_code, spot_room, struct_size, width_code}
+pub use Rattle.vms_walk.proofs.Spots.{cells_table, next_field, size_code, start_after, start_code, struct_size, width_code}
 pub use Rattle.vms_walk.proofs.Walking.{fields_at, room_at}
-pub use Rattle.vms_walk.specs.Steps.{HasSpot, capacities_of, cells_in, size_in, spot_slots, steps_of, table}
+pub use Rattle.vms_walk.specs.Steps.{HasSpot, capacities_of, cell_of, cells_in, size_in, spot_slots, steps_of, table}
 pub use Rattle.vms_walk.specs.declared.fields.PartAt.{PartAt}
 pub use Rattle.vms_write.specs.Fine.{no_form, settle}
 pub use lib.Seq.{take-append-le}

@@ -2,13 +2,13 @@
 use Rattle.vms_values.proofs.Facade.{◌≡◌, ℕ, zero, suc, ◌+◌, ◌<◌, List, [], ◌∷◌, ◌++◌, length, get_or, map, ℤ, pos, refl, ap, ◌∙◌, arith, true, codes, ◌-◌, ◌*◌}
 use Rattle.vms_values.proofs.Facade.{◌≤◌, drop, sym, subst, Option, None, append_assoc, decimal, drop_all, drop_more, Item, Num, Equal, Unused, Struct, Count}
 use Rattle.vms_values.proofs.Facade.{One, Fixed, Counted, Field, Desc, Set, Device, Sub, AtLeast, Cell, no_desc, first, item_size, desc_cells, field_cells}
-use Rattle.vms_values.proofs.Facade.{numbers_of, elements_of, cells_from, struct_cells, capacity_of, Printer, no_printer, printer, printers, item_lines}
+use Rattle.vms_values.proofs.Facade.{numbers_of, elements_of, struct_cells, capacity_of, Printer, no_printer, printer, printers, item_lines}
 use Rattle.vms_values.proofs.Facade.{element_lines, array_lines, field_lines, desc_lines, line_end, version_text, sub_lines, device_lines, ItemBelow}
 use Rattle.vms_values.proofs.Facade.{FieldsBelow, all_below, item_cells_same, field_cells_same, own_same, row_same, first_cells, first_same, first_at}
-use Rattle.vms_values.proofs.Facade.{is_well_formed, struct_clean, reach, MOST_ITEMS, uses_below, field_size, elements_fit, one_fits, room_for_less, in_u32}
+use Rattle.vms_values.proofs.Facade.{is_well_formed, struct_clean, reach, MOST_ITEMS, uses_below, field_size, elements_fit, one_fits, room_for_less, place_first}
 use Rattle.vms_values.proofs.Facade.{desc_of, field_of, field_at, own_numbers, first_cell, desc_at, sub_at, found_field, here_fields, sub_next, sub_inside}
 use Rattle.vms_values.proofs.Facade.{own_inside_device, few_cells, PartAt, HasSpot, size_in, table, cells_in, item_rank, part_rank, reach_whole, uses_more}
-use Rattle.vms_values.proofs.Facade.{rank_below, next_field, cells_table, width_code, fields_at, IsRun, run_lines, IsOf, section_text, whole_sub, Image}
+use Rattle.vms_values.proofs.Facade.{rank_below, next_field, cells_table, start_after, cell_of, fields_at, IsRun, run_lines, IsOf, section_text, whole_sub, Image}
 use Rattle.vms_values.proofs.Facade.{own_cells, sub_place, device_at}
 use Rattle.vms_parts.specs.declared.types.Desc.{Desc as CodeDesc}
 use Rattle.vms_parts.specs.declared.types.Field.{Field as CodeField}
@@ -106,26 +106,34 @@ module _ (set : Set) where
       by_count (Fixed k) other = ap (λ (s : ℕ). element_lines (printers set) f.item (path ++ f.name) n at s 0 count) (sym (printed_size f.item))
       by_count (Counted by most) other = ap (λ (s : ℕ). element_lines (printers set) f.item (path ++ f.name) n at s 0 count) (sym (printed_size f.item))
 
+  -- the lines of a part's fields from field k on
+  abbrev pub fields_left : PartAt → List ℕ → List ℤ → ℕ → List ℕ
+  fields_left spot path n k =
+      let d = desc_at set spot.part in
+      field_lines (printers set) d.fields (numbers_of (cells_of (printers set)) d n spot.base) path n k (cell_of set spot k) (drop k d.fields)
+
+  pub fields_whole : (spot : PartAt) (path : List ℕ) (n : List ℤ)
+      → desc_lines (printers set) (desc_at set spot.part) path n spot.base ≡ fields_left spot path n 0
+  fields_whole spot path n =
+      let d = desc_at set spot.part in
+      ap (λ at. field_lines (printers set) d.fields (numbers_of (cells_of (printers set)) d n spot.base) path n 0 at d.fields)
+      (sym (place_first (cells_in (table set)) d.fields 0 spot.base d.fields))
+
   -- the next field: its elements are among the numbers, and its lines come next
   pub record NextRun (spot : PartAt) (path : List ℕ) (n : List ℤ) (k cell count : ℕ) (f : Field) : Type 0 where
     pub run : IsRun set f cell count n
     pub lower : item_rank f.item + 1 < part_rank set spot.part + 2
-    pub room : cell + capacity_of f.count * size_in set f.item ≤ length n
-    pub later : (cell + capacity_of f.count * size_in set f.item) + length (cells_from (cells_in (table set)) (desc_at set spot.part).fields (k + 1) (drop (k + 1) (desc_at set spot.part).fields)) ≤ length n
-    pub lines : field_lines (printers set) (desc_at set spot.part).fields (numbers_of (cells_of (printers set)) (desc_at set spot.part) n spot.base) path n k cell (drop k (desc_at set spot.part).fields)
-        ≡ run_lines (printers set) f f.count count path n cell
-        ++ field_lines (printers set) (desc_at set spot.part).fields (numbers_of (cells_of (printers set)) (desc_at set spot.part) n spot.base) path n (k + 1)
-        (cell + capacity_of f.count * size_in set f.item) (drop (k + 1) (desc_at set spot.part).fields)
+    pub lines : fields_left spot path n k ≡ run_lines (printers set) f f.count count path n cell ++ fields_left spot path n (k + 1)
 
   pub next_run : is_well_formed set ≡ true → (spot : PartAt) (path : List ℕ) (n : List ℤ) → HasSpot set spot n → (k cell count : ℕ) (f : Field) → k < length (desc_at set spot.part).fields
       → f ≡ field_at set spot.part k → count ≡ elements_of f.count (own_numbers set spot.part n spot.base)
-      → cell + length (cells_from (cells_in (table set)) (desc_at set spot.part).fields k (drop k (desc_at set spot.part).fields)) ≤ length n → NextRun spot path n k cell count f
-  next_run well spot path n h k cell count f lt is there room =
+      → cell ≡ cell_of set spot k → NextRun spot path n k cell count f
+  next_run well spot path n h k cell count f lt is there begins =
       let all = (desc_at set spot.part).fields in
       let g = field_at set spot.part k in
       let ps = printers set in
       let own = numbers_of (cells_of ps) (desc_at set spot.part) n spot.base in
-      let next = next_field set well spot n h k cell lt room in
+      let next = next_field set well spot n h k cell lt begins in
       let fewer : count ≤ capacity_of f.count = omega (arith, there, elements_fit f.count (own_numbers set spot.part n spot.base)) in
       let here = λ (P : Field → Type 0) (p : P g). subst P (sym is) p in
       let uses = here (λ (x : Field). uses_below (reach set spot.part) x.item ≡ true) next.uses in
@@ -136,6 +144,7 @@ module _ (set : Set) where
       let width : length (field_cells (cells_of ps) all k f) ≡ capacity_of f.count * size_in set f.item =
       field_size (cells_of ps) all k f ∙ ap (λ (s : ℕ). capacity_of f.count * s) (printed_size f.item) in
       let one : suc k ≡ k + 1 = omega arith in
+      let after = here (λ (x : Field). cell + capacity_of x.count * size_in set x.item ≡ cell_of set spot (k + 1)) (start_after set spot k cell begins lt) in
       let at : drop k all ≡ f ∷ drop (k + 1) all = fields_at all k lt ∙ ap (λ (x : Field). x ∷ drop (k + 1) all) (sym is) in
       record {
         run = record {
@@ -146,12 +155,12 @@ module _ (set : Set) where
           few = h.few;
         };
         lower = omega (arith, rank_below (reach set spot.part) f.item uses);
-        room = fits;
-        later = here (λ (x : Field). (cell + capacity_of x.count * size_in set x.item) + length (cells_from (cells_in (table set)) all (k + 1) (drop (k + 1) all)) ≤ length n) next.later;
-        lines = ap (λ (l : List Field). field_lines ps all own path n k cell l) at
+        lines = ap (λ (x : ℕ). field_lines ps all own path n k x (drop k all)) (sym begins)
+            ∙ ap (λ (l : List Field). field_lines ps all own path n k cell l) at
             ∙ ap (λ (l : List ℕ). l ++ field_lines ps all own path n (suc k) (cell + length (field_cells (cells_of ps) all k f)) (drop (k + 1) all)) (run_is ps f f.count own count path n cell counts)
             ∙ ap (λ (w : ℕ). run_lines ps f f.count count path n cell ++ field_lines ps all own path n (suc k) (cell + w) (drop (k + 1) all)) width
-            ∙ ap (λ (i : ℕ). run_lines ps f f.count count path n cell ++ field_lines ps all own path n i (cell + capacity_of f.count * size_in set f.item) (drop (k + 1) all)) one;
+            ∙ ap (λ (i : ℕ). run_lines ps f f.count count path n cell ++ field_lines ps all own path n i (cell + capacity_of f.count * size_in set f.item) (drop (k + 1) all)) one
+            ∙ ap (λ (x : ℕ). run_lines ps f f.count count path n cell ++ field_lines ps all own path n (k + 1) x (drop (k + 1) all)) after;
       }
 
   -- the same of the field that the code found by its number
@@ -161,22 +170,17 @@ module _ (set : Set) where
 
   pub found_run : is_well_formed set ≡ true → (spot : PartAt) (path : List ℕ) (n : List ℤ) → HasSpot set spot n → (k cell count : ℕ) (d : CodeDesc) (fields : List CodeField) (f : CodeField) → k < length (desc_at set spot.part).fields
       → desc_of d ≡ desc_at set spot.part → fields ≡ d.fields → f ≡ get_or fields k f → count ≡ elements_of (field_at set spot.part k).count (own_numbers set spot.part n spot.base)
-      → cell + length (cells_from (cells_in (table set)) (desc_at set spot.part).fields k (drop k (desc_at set spot.part).fields)) ≤ length n → FoundRun spot path n k cell count f
-  found_run well spot path n h k cell count d fields f lt desc are is there room =
+      → cell ≡ cell_of set spot k → FoundRun spot path n k cell count f
+  found_run well spot path n h k cell count d fields f lt desc are is there begins =
       let found = found_field fields (desc_at set spot.part).fields k f (here_fields set spot.part d fields desc are) lt is in
       let count_is = there ∙ ap (λ (x : Field). elements_of x.count (own_numbers set spot.part n spot.base)) (sym found) in
-      record { found = found; next = next_run well spot path n h k cell count (field_of f) lt found count_is room }
+      record { found = found; next = next_run well spot path n h k cell count (field_of f) lt found count_is begins }
 
-  -- its width in the code
-  pub found_width : (spot : PartAt) (path : List ℕ) (n : List ℤ) (k cell count width : ℕ) (f : CodeField) → FoundRun spot path n k cell count f → length n ≤ MOST_ITEMS
-      → width ≡ in_u32 (capacity_of (field_at set spot.part k).count * item_size (struct_cells set) (field_at set spot.part k).item) → width ≡ capacity_of f.count * size_in set f.item
-  found_width spot path n k cell count width f r few e =
-      let same = e ∙ ap (λ (x : Field). in_u32 (capacity_of x.count * item_size (struct_cells set) x.item)) (sym r.found) in
-      let room = r.next.room in
-      width_code set (field_of f) width same (omega (arith, room, few))
-
-  pub no_fields : (all : List Field) (own : ℕ → ℕ) (path : List ℕ) (n : List ℤ) (k cell : ℕ) → k ≡ length all → field_lines (printers set) all own path n k cell (drop k all) ≡ []
-  no_fields all own path n k cell e = ap (λ (l : List Field). field_lines (printers set) all own path n k cell l) (drop_all k all (omega arith))
+  pub no_fields : (spot : PartAt) (path : List ℕ) (n : List ℤ) (k : ℕ) → k ≡ length (desc_at set spot.part).fields → fields_left spot path n k ≡ []
+  no_fields spot path n k e =
+      let d = desc_at set spot.part in
+      let own = numbers_of (cells_of (printers set)) d n spot.base in
+      ap (λ (l : List Field). field_lines (printers set) d.fields own path n k (cell_of set spot k) l) (drop_all k d.fields (omega arith))
 
 -- ---- The lines of subsections, one after the other, and of a whole device.
 

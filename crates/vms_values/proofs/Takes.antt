@@ -192,12 +192,14 @@ module _ (set : Set) where
       ∙ ap (λ (i : ℕ). run_read rs g g.count (capacities_of most) path now cell count p >>= λ q. rest i (capacity_of g.count * size_in set g.item) q) one
       ∙ ap (λ (x : Field). run_read rs x x.count (capacities_of most) path now cell count p >>= λ q. rest (k + 1) (capacity_of x.count * size_in set x.item) q) (sym n.found)
 
-  pub fields_go : (d : Desc) (v : ℕ) (path : List ℕ) (present : Bool) (base k cell count : ℕ) (most : Option ℕ) (now : Bool) (f : Field) (p q : Standing) (width : ℕ)
-      → IsNext d v present base k count most now f p → width ≡ capacity_of f.count * size_in set f.item
+  pub fields_go : (d : Desc) (v : ℕ) (path : List ℕ) (present : Bool) (base k cell count : ℕ) (most : Option ℕ) (now : Bool) (f : Field)
+      (p q : Standing) (next : ℕ)
+      → IsNext d v present base k count most now f p → cell + capacity_of f.count * size_in set f.item ≡ next
       → run_read (readers set) f f.count (capacities_of most) path now cell count p ≡ Ok q
-      → read_fields (readers set) d v path present base (k + 1) (cell + width) (drop (k + 1) d.fields) q ≡ read_fields (readers set) d v path present base k cell (drop k d.fields) p
-  fields_go d v path present base k cell count most now f p q width n wide e =
-      ap (λ (w : ℕ). read_fields (readers set) d v path present base (k + 1) (cell + w) (drop (k + 1) d.fields) q) wide
+      → read_fields (readers set) d v path present base (k + 1) next (drop (k + 1) d.fields) q
+      ≡ read_fields (readers set) d v path present base k cell (drop k d.fields) p
+  fields_go d v path present base k cell count most now f p q next n after e =
+      ap (λ (x : ℕ). read_fields (readers set) d v path present base (k + 1) x (drop (k + 1) d.fields) q) (sym after)
       ∙ sym (next_read d v path present base k cell count most now f p n
       ∙ ap (λ (r : Read). r >>= λ x. read_fields (readers set) d v path present base (k + 1) (cell + capacity_of f.count * size_in set f.item) (drop (k + 1) d.fields) x) e)
 

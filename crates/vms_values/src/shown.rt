@@ -67,16 +67,14 @@ fn print_part<K: Sink>(
 {
     let set = shown.set;
     let kept = line.len();
-    let mut cell = spot.base;
     for field in 0..set.field_count(spot.part) {
         let run = Run {
-            first: cell,
+            first: set.field_start(spot.part, spot.base, field),
             count: set.elements(spot.part, spot.base, field, shown.image),
         };
         let described = &set.desc(spot.part).fields.as_slice()[field as usize];
         line.cut(kept);
         print_field(shown, described, run, line, sink)?;
-        cell += set.field_cells(spot.part, field);
     }
     Ok(())
 }

@@ -97,18 +97,16 @@ fn read_under(
     ensures path { Stays path.old path.new }
 {
     let kept = path.len();
-    let mut cell = spot.base;
     for field in 0..set.field_count(spot.part) {
         let run = Run {
             field: &set.desc(spot.part).fields.as_slice()[field as usize],
-            first: cell,
+            first: set.field_start(spot.part, spot.base, field),
             count: set.elements(spot.part, spot.base, field, &taken.image),
             most: set.most(spot.part, field),
             present: is_present(set, spot, field, present, &taken.image),
         };
         path.cut(kept);
         read_field(set, run, path, taken)?;
-        cell += set.field_cells(spot.part, field);
     }
     Ok(())
 }

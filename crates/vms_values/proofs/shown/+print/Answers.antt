@@ -1,12 +1,12 @@
-use Rattle.vms_values.proofs.Facade.{rules, arith, ◌≡◌, ◌+◌, ◌*◌, ◌-◌, ◌<◌, ◌≤◌, List, ◌++◌, ℕ, length, length-append, get_or, drop, codes, refl, sym, ap, ◌∙◌}
-use Rattle.vms_values.proofs.Facade.{subst, err_from_is_err_and, ltb-true, decimal, Item, no_desc, numbers_of, capacity_of, cells_from, printers, element_lines}
-use Rattle.vms_values.proofs.Facade.{item_lines, field_lines, desc_lines, field_of, described, desc_at, size_in, table, cells_in, size_code, struct_size}
-use Rattle.vms_values.proofs.Facade.{spot_room, room_at, run_lines, below, Stays, wrote_as, leaves_all, leaves_rest, leaves_stop, leaves_none, LONGEST}
+use Rattle.vms_values.proofs.Facade.{rules, arith, ◌≡◌, ◌+◌, ◌*◌, ◌-◌, ◌<◌, ◌≤◌, List, ◌++◌, ℕ, length, length-append, get_or, codes, sym, ap, ◌∙◌}
+use Rattle.vms_values.proofs.Facade.{subst, err_from_is_err_and, ltb-true, decimal, Item, no_desc, printers, element_lines}
+use Rattle.vms_values.proofs.Facade.{item_lines, desc_lines, field_of, described, desc_at, size_in, size_code, start_code, struct_size}
+use Rattle.vms_values.proofs.Facade.{room_at, run_lines, below, Stays, wrote_as, leaves_all, leaves_rest, leaves_stop, leaves_none, LONGEST}
 use Rattle.vms_values.proofs.Facade.{NUMBER_ROOM, INDEX_ROOM, PART_ROOM}
-use Rattle.vms_values.proofs.Printers.{cells_of, struct_lines, FoundRun, array_run, elements_left, no_elements, no_fields, found_run, found_width}
+use Rattle.vms_values.proofs.Printers.{struct_lines, FoundRun, array_run, elements_left, no_elements, fields_left, fields_whole, no_fields, found_run}
 use Rattle.vms_values.proofs.PrintLemmas.{stays, stays_is, stays_then, stays_element, cut_is, field_short}
 use Rattle.vms_values.proofs.shown.+print.Given.{Over}
-use Rattle.vms_values.proofs.shown.+print.Goals.{print_elements-After-print_item-arg-in-loop-index-1, print_part-After-field_cells-cell, print_part-After-print_field-arg-in-loop-field-1}
+use Rattle.vms_values.proofs.shown.+print.Goals.{print_elements-After-print_item-arg-in-loop-index-1, print_part-After-print_field-arg-in-loop-field-1}
 use Rattle.vms_values.proofs.shown.+print.Goals as goal
 
 -- ---- elements
@@ -169,16 +169,14 @@ print_struct-returns-clause-written g t c =
 
 pub print_part-loop-field-init : goal.print_part-loop-field-init
 print_part-loop-field-init g t c =
-    record {
-      owes = leaves_all _ _ _ refl;
-      line = stays c.args.line.now;
-      room = spot_room (described c.args.shown.set.now) c.args.spot c.args.shown.image.now.numbers c.requires.spot;
-    }
+    let set = described c.args.shown.set.now in
+    record { owes = leaves_all _ _ _ (fields_whole set c.args.spot c.args.line.now c.args.shown.image.now.numbers); line = stays c.args.line.now }
 
 -- the next field
 record Turn (g : Over) (t : ℕ) (c : goal.print_part-After-print_field-arg-in-loop-field-1 g t) : Type 0 where
   inside : c.loop-field.field < length (desc_at (described c.args.shown.set.now) c.args.spot.part).fields
-  run : FoundRun (described c.args.shown.set.now) c.args.spot c.args.line.now c.args.shown.image.now.numbers c.loop-field.field c.loop-field.cell c.elements.result c.index-as_slice-field.result
+  run : FoundRun (described c.args.shown.set.now) c.args.spot c.args.line.now c.args.shown.image.now.numbers
+      c.loop-field.field c.field_start.result c.elements.result c.index-as_slice-field.result
   kept : c.cut.new.self ≡ c.args.line.now
 
 turn : (g : Over) (t : ℕ) (c : goal.print_part-After-print_field-arg-in-loop-field-1 g t) → Turn g t c
@@ -186,16 +184,15 @@ turn g t c =
     let lt : c.loop-field.field < length (desc_at (described c.args.shown.set.now) c.args.spot.part).fields = omega (arith, c.field_count-field-end.ensures, c.loop-field-test.true) in
     record {
       inside = lt;
-      run = found_run (described c.args.shown.set.now) c.args.shown.set.now.well_formed c.args.spot c.args.line.now c.args.shown.image.now.numbers c.requires.spot c.loop-field.field c.loop-field.cell c.elements.result
-          c.desc.result.now c.as_slice.result.now c.index-as_slice-field.result lt c.desc.ensures c.as_slice.ensures c.index-as_slice-field.is c.elements.ensures c.loop-field.invariant.room;
+      run = found_run (described c.args.shown.set.now) c.args.shown.set.now.well_formed c.args.spot c.args.line.now c.args.shown.image.now.numbers c.requires.spot
+          c.loop-field.field c.field_start.result c.elements.result c.desc.result.now c.as_slice.result.now c.index-as_slice-field.result
+          lt c.desc.ensures c.as_slice.ensures c.index-as_slice-field.is c.elements.ensures
+          (start_code (described c.args.shown.set.now) c.args.spot c.loop-field.field c.field_start.result c.field_start.ensures);
       kept = cut_is c.args.line.now c.loop-field.line c.cut.new.self c.len-kept.result c.cut.ensures c.len-kept.ensures c.loop-field.invariant.line;
     }
 
-wide : (g : Over) (t : ℕ) (c : goal.print_part-After-field_cells-cell g t)
-    → c.field_cells-cell.result ≡ capacity_of c.index-as_slice-field.result.count * size_in (described c.args.shown.set.now) c.index-as_slice-field.result.item
-wide g t c =
-    found_width (described c.args.shown.set.now) c.args.spot c.args.line.now c.args.shown.image.now.numbers c.loop-field.field c.loop-field.cell c.elements.result c.field_cells-cell.result c.index-as_slice-field.result
-    (turn g t (goal.at.print_part-overflow_add-cell g t c).After-print_field-arg-in-loop-field-1).run c.requires.spot.few c.field_cells-cell.ensures
+pub print_part-field_start-requires-clause-few : goal.print_part-field_start-requires-clause-few
+print_part-field_start-requires-clause-few g t c = omega (arith, c.requires.spot.room, c.requires.spot.few)
 
 pub print_part-print_field-requires : goal.print_part-print_field-requires
 print_part-print_field-requires g t c =
@@ -204,20 +201,28 @@ print_part-print_field-requires g t c =
     let short = field_short (described c.args.shown.set.now) c.args.shown.set.now.well_formed c.args.spot.part c.requires.spot.part c.loop-field.field s.inside (field_of c.index-as_slice-field.result) s.run.found in
     λ κs h. (search rules, (search rules, (s.run.next.run, (short.0, omega (arith, ap length s.kept, short.1, c.requires.short)))))
 
+-- its lines, under the path of the code, and those of the fields after it
+lines : (g : Over) (t : ℕ) (c : goal.print_part-After-print_field-arg-in-loop-field-1 g t)
+    → (let set = described c.args.shown.set.now in
+    let n = c.args.shown.image.now.numbers in
+    let f = field_of c.index-as_slice-field.result in
+    fields_left set c.args.spot c.args.line.now n c.loop-field.field
+    ≡ run_lines (printers set) f f.count c.elements.result c.cut.new.self n c.field_start.result
+    ++ fields_left set c.args.spot c.args.line.now n (c.loop-field.field + 1))
+lines g t c =
+    let set = described c.args.shown.set.now in
+    let n = c.args.shown.image.now.numbers in
+    let f = field_of c.index-as_slice-field.result in
+    let s = turn g t c in
+    let rest = fields_left set c.args.spot c.args.line.now n (c.loop-field.field + 1) in
+    s.run.next.lines ∙ ap (λ (l : List ℕ). run_lines (printers set) f f.count c.elements.result l n c.field_start.result ++ rest) (sym s.kept)
+
 pub print_part-returns-in_err-print_field-clause-written :
     goal.print_part-returns-in_err-print_field-clause-written
 print_part-returns-in_err-print_field-clause-written g t c =
-    let set = described c.args.shown.set.now in
-    let n = c.args.shown.image.now.numbers in
-    let k = c.loop-field.field in
-    let f = c.index-as_slice-field.result in
-    let d = desc_at set c.args.spot.part in
-    let s = turn g t (goal.at.print_part-returns-in_err-print_field-clause-written g t c).After-print_field-arg-in-loop-field-1 in
-    let own = numbers_of (cells_of (printers set)) d n c.args.spot.base in
-    let rest = field_lines (printers set) d.fields own c.args.line.now n (k + 1) (c.loop-field.cell + capacity_of f.count * size_in set f.item) (drop (k + 1) d.fields) in
+    let at = (goal.at.print_part-returns-in_err-print_field-clause-written g t c).After-print_field-arg-in-loop-field-1 in
     let p = err_from_is_err_and c.from_residual.result c.from_residual.ensures.1 in
-    rw p.1 (leaves_stop _
-    (s.run.next.lines ∙ ap (λ (l : List ℕ). run_lines (printers set) (field_of f) f.count c.elements.result l n c.loop-field.cell ++ rest) (sym s.kept)) c.loop-field.invariant.owes c.in_err-print_field.ensures.written)
+    rw p.1 (leaves_stop _ (lines g t at) c.loop-field.invariant.owes c.in_err-print_field.ensures.written)
 
 pub print_part-returns-in_err-print_field-clause-line :
     goal.print_part-returns-in_err-print_field-clause-line
@@ -225,38 +230,17 @@ print_part-returns-in_err-print_field-clause-line g t c =
     let s = turn g t (goal.at.print_part-returns-in_err-print_field-clause-line g t c).After-print_field-arg-in-loop-field-1 in
     stays_then _ _ _ (subst (Stays c.args.line.now) (sym s.kept) (stays c.args.line.now)) c.in_err-print_field.ensures.line
 
-pub print_part-overflow_add-cell : goal.print_part-overflow_add-cell
-print_part-overflow_add-cell g t c =
-    let s = turn g t (goal.at.print_part-overflow_add-cell g t c).After-print_field-arg-in-loop-field-1 in
-    omega (arith, wide g t c, s.run.next.room, c.requires.spot.few)
-
 pub print_part-loop-field-preserved : goal.print_part-loop-field-preserved
 print_part-loop-field-preserved g t c =
-    let set = described c.args.shown.set.now in
-    let n = c.args.shown.image.now.numbers in
-    let k = c.loop-field.field in
-    let cell = c.loop-field.cell in
-    let f = c.index-as_slice-field.result in
-    let d = desc_at set c.args.spot.part in
     let path = c.args.line.now in
-    let s = turn g t (goal.at.print_part-loop-field-preserved g t c).After-print_field-arg-in-loop-field-1 in
-    let width = wide g t (goal.at.print_part-loop-field-preserved g t c).After-field_cells-cell in
-    let own = numbers_of (cells_of (printers set)) d n c.args.spot.base in
-    let rest = λ (w : ℕ). field_lines (printers set) d.fields own path n (k + 1) (cell + w) (drop (k + 1) d.fields) in
+    let at = (goal.at.print_part-loop-field-preserved g t c).After-print_field-arg-in-loop-field-1 in
     record {
-      owes = leaves_rest _
-          (s.run.next.lines ∙ ap (λ (w : ℕ). run_lines (printers set) (field_of f) f.count c.elements.result path n cell ++ rest w) (sym width)
-          ∙ ap (λ (l : List ℕ). run_lines (printers set) (field_of f) f.count c.elements.result l n cell ++ rest c.field_cells-cell.result) (sym s.kept)) c.loop-field.invariant.owes c.in_ok-print_field.ensures.written;
-      line = stays_then _ _ _ (subst (Stays path) (sym s.kept) (stays path)) c.in_ok-print_field.ensures.line;
-      room = subst (λ (w : ℕ). (cell + w) + length (cells_from (cells_in (table set)) d.fields (k + 1) (drop (k + 1) d.fields)) ≤ length n) (sym width) s.run.next.later;
+      owes = leaves_rest _ (lines g t at) c.loop-field.invariant.owes c.in_ok-print_field.ensures.written;
+      line = stays_then _ _ _ (subst (Stays path) (sym (turn g t at).kept) (stays path)) c.in_ok-print_field.ensures.line;
     }
 
 pub print_part-returns-clause-written : goal.print_part-returns-clause-written
 print_part-returns-clause-written g t c =
     let set = described c.args.shown.set.now in
-    let spot = c.args.spot in
-    let n = c.args.shown.image.now.numbers in
-    let d = desc_at set spot.part in
-    let end : c.loop-field.field ≡ length d.fields = omega (arith, c.field_count-field-end.ensures) in
-    leaves_none
-    (no_fields set d.fields (numbers_of (cells_of (printers set)) d n spot.base) c.args.line.now n c.loop-field.field c.loop-field.cell end) c.loop-field.invariant.owes
+    let end : c.loop-field.field ≡ length (desc_at set c.args.spot.part).fields = omega (arith, c.field_count-field-end.ensures) in
+    leaves_none (no_fields set c.args.spot c.args.line.now c.args.shown.image.now.numbers c.loop-field.field end) c.loop-field.invariant.owes

@@ -1,6 +1,6 @@
-use Rattle.vms_values.proofs.Facade.{◌≡◌, ◌+◌, ◌-◌, ◌*◌, ◌≤◌, length, drop, cells_from, numbers_of, printers, desc_lines, element_lines, field_lines, described}
-use Rattle.vms_values.proofs.Facade.{desc_at, size_in, table, cells_in, item_rank, part_rank, Stays, outlet, Leaves}
-use Rattle.vms_values.proofs.Printers.{cells_of}
+use Rattle.vms_values.proofs.Facade.{◌≡◌, ◌+◌, ◌-◌, ◌*◌, printers, desc_lines, element_lines, described, desc_at, size_in, item_rank, part_rank, Stays, outlet}
+use Rattle.vms_values.proofs.Facade.{Leaves}
+use Rattle.vms_values.proofs.Printers.{fields_left}
 use Rattle.vms_values.proofs.shown.+print.Given as goal
 
 abbrev pub decreases-print_elements : goal.decreases-print_elements
@@ -37,12 +37,9 @@ abbrev pub invariant-print_part-loop-field : goal.invariant-print_part-loop-fiel
 invariant-print_part-loop-field g l =
     let set = described l.shown.set.now in
     let n = l.shown.image.now.numbers in
-    let ps = printers set in
-    let d = desc_at set l.spot.part in
-    let own = numbers_of (cells_of ps) d n l.spot.base in
+    let path = l.initial.line in
     record {
       owes : Leaves (outlet g.K.Sink l.initial.sink) (outlet g.K.Sink l.sink)
-          (desc_lines ps d l.initial.line n l.spot.base) (field_lines ps d.fields own l.initial.line n l.field l.cell (drop l.field d.fields));
-      line : Stays l.initial.line l.line;
-      room : l.cell + length (cells_from (cells_in (table set)) d.fields l.field (drop l.field d.fields)) ≤ length n;
+          (desc_lines (printers set) (desc_at set l.spot.part) path n l.spot.base) (fields_left set l.spot path n l.field);
+      line : Stays path l.line;
     }

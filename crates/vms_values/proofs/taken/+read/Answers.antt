@@ -1,15 +1,15 @@
-use Rattle.vms_values.proofs.Facade.{rules, ◌≡◌, ℕ, ◌+◌, ◌-◌, ◌*◌, ◌<◌, ◌≤◌, ◌++◌, List, length, length-append, get_or, drop, codes, refl, sym, ap, ◌∙◌, subst}
+use Rattle.vms_values.proofs.Facade.{rules, ◌≡◌, ℕ, ◌+◌, ◌-◌, ◌*◌, ◌<◌, ◌≤◌, ◌++◌, List, length, length-append, get_or, drop, codes, sym, ap, ◌∙◌, subst}
 use Rattle.vms_values.proofs.Facade.{arith, ltb-true, err_from_is_err_and, decimal, Item, Kind, MOST_ITEMS, elements_fit, Field, Desc, no_desc, cells_from}
-use Rattle.vms_values.proofs.Facade.{capacity_of, own_cell_count, Read, readers, read_item, read_elements, read_desc, field_of, field_at, own_numbers}
-use Rattle.vms_values.proofs.Facade.{described, desc_at, HasSpot, size_in, table, cells_in, capacities_of, size_code, spot_room, struct_size, room_at}
-use Rattle.vms_values.proofs.Facade.{fields_at, below, Stays, Reaches, AreKinds, element_cells, place_of, LONGEST, NUMBER_ROOM, INDEX_ROOM, PART_ROOM}
+use Rattle.vms_values.proofs.Facade.{capacity_of, own_cell_count, Read, place_first, readers, read_item, read_elements, read_fields, read_desc, field_of, field_at, own_numbers}
+use Rattle.vms_values.proofs.Facade.{described, desc_at, HasSpot, size_in, table, cell_of, cells_in, capacities_of, size_code, start_after, start_code, struct_size, room_at}
+use Rattle.vms_values.proofs.Facade.{fields_at, below, Stays, Reaches, AreKinds, element_cells, part_cells, place_of, LONGEST, NUMBER_ROOM, INDEX_ROOM, PART_ROOM}
 use Rattle.vms_spec.specs.declared.Part.TheVariants as parts
 use Rattle.vms_values.proofs.PrintLemmas.{stays, stays_is, stays_then, stays_element, cut_is, field_short}
 use Rattle.vms_values.proofs.KindsAt.{FieldKinds, field_kinds, number_kind, struct_kinds}
 use Rattle.vms_values.proofs.Takes.{kept_none, kept_more, struct_reads, elements_go, elements_stop, array_read, IsNext, fields_go, fields_stop}
 use Rattle.vms_values.proofs.ReadLemmas.{reached, stopped}
-use Rattle.vms_values.proofs.Printers.{FoundRun, found_run, found_width}
-use Rattle.vms_values.proofs.taken.+read.Goals.{read_elements-After-read_item-arg-in-loop-index-1, read_under-After-field_cells-cell, read_under-After-read_field-arg-in-loop-field-1}
+use Rattle.vms_values.proofs.Printers.{FoundRun, found_run}
+use Rattle.vms_values.proofs.taken.+read.Goals.{read_elements-After-read_item-arg-in-loop-index-1, read_under-After-read_field-arg-in-loop-field-1}
 use Rattle.vms_values.proofs.taken.+read.Goals as goal
 
 -- ---- the elements of an array
@@ -160,22 +160,34 @@ read_item-returns-in-Struct-clause-read t c =
 
 pub read_under-loop-field-init : goal.read_under-loop-field-init
 read_under-loop-field-init t c =
+    let set = described c.args.set.now in
+    let d = desc_at set c.args.spot.part in
+    let path = c.args.path.now in
+    let p = place_of c.args.taken.now in
+    let first = place_first (cells_in (table set)) d.fields 0 c.args.spot.base d.fields in
     record {
-      reads = refl;
-      room = spot_room (described c.args.set.now) c.args.spot c.args.taken.now.image.numbers c.requires.spot;
-      kinds = c.requires.kinds;
+      reads = ap (λ (x : ℕ). read_fields (readers set) d c.args.spot.version path c.args.present c.args.spot.base 0 x d.fields p) first;
+      kinds = subst (λ (x : ℕ). AreKinds c.args.taken.now.image.kinds x (part_cells set c.args.spot.part)) (sym first) c.requires.kinds;
       kept = kept_none c.args.taken.now.image;
-      path = stays c.args.path.now;
+      path = stays path;
     }
 
 -- the next field, with the numbers so far
 record Turn (t : ℕ) (c : goal.read_under-After-read_field-arg-in-loop-field-1 t) : Type 0 where
-  run : FoundRun (described c.args.set.now) c.args.spot c.args.path.now c.loop-field.taken.image.numbers c.loop-field.field c.loop-field.cell c.elements.result c.index-as_slice-field.result
-  comes : IsNext (described c.args.set.now) (desc_at (described c.args.set.now) c.args.spot.part) c.args.spot.version c.args.present c.args.spot.base c.loop-field.field c.elements.result c.most.result c.is_present.result (field_of c.index-as_slice-field.result)
-      (place_of c.loop-field.taken)
-  kinds : FieldKinds (cells_in (table (described c.args.set.now))) (desc_at (described c.args.set.now) c.args.spot.part).fields c.loop-field.taken.image.kinds c.loop-field.field c.loop-field.cell (field_of c.index-as_slice-field.result)
+  run : FoundRun (described c.args.set.now) c.args.spot c.args.path.now c.loop-field.taken.image.numbers
+      c.loop-field.field c.field_start.result c.elements.result c.index-as_slice-field.result
+  after : c.field_start.result + capacity_of c.index-as_slice-field.result.count * size_in (described c.args.set.now) c.index-as_slice-field.result.item
+      ≡ cell_of (described c.args.set.now) c.args.spot (c.loop-field.field + 1)
+  reads : read_fields (readers (described c.args.set.now)) (desc_at (described c.args.set.now) c.args.spot.part) c.args.spot.version c.args.path.now
+      c.args.present c.args.spot.base c.loop-field.field c.field_start.result
+      (drop c.loop-field.field (desc_at (described c.args.set.now) c.args.spot.part).fields) (place_of c.loop-field.taken)
+      ≡ read_desc (readers (described c.args.set.now)) (desc_at (described c.args.set.now) c.args.spot.part) c.args.spot.version c.args.path.now
+      c.args.present c.args.spot.base (place_of c.args.taken.now)
+  comes : IsNext (described c.args.set.now) (desc_at (described c.args.set.now) c.args.spot.part) c.args.spot.version c.args.present c.args.spot.base
+      c.loop-field.field c.elements.result c.most.result c.is_present.result (field_of c.index-as_slice-field.result) (place_of c.loop-field.taken)
+  kinds : FieldKinds (cells_in (table (described c.args.set.now))) (desc_at (described c.args.set.now) c.args.spot.part).fields
+      c.loop-field.taken.image.kinds c.loop-field.field c.field_start.result (field_of c.index-as_slice-field.result)
       (drop (c.loop-field.field + 1) (desc_at (described c.args.set.now) c.args.spot.part).fields)
-  few : length c.loop-field.taken.image.numbers ≤ MOST_ITEMS
   front : c.cut.new.self ≡ c.args.path.now
 
 turn : (t : ℕ) (c : goal.read_under-After-read_field-arg-in-loop-field-1 t) → Turn t c
@@ -183,31 +195,36 @@ turn t c =
     let set = described c.args.set.now in
     let spot = c.args.spot in
     let k = c.loop-field.field in
-    let cell = c.loop-field.cell in
+    let cell = c.field_start.result in
     let d = desc_at set spot.part in
+    let cs = cells_in (table set) in
+    let numbers = c.loop-field.taken.image.numbers in
+    let kinds = c.loop-field.taken.image.kinds in
     let lt : k < length d.fields = omega (arith, c.field_count-field-end.ensures, c.loop-field-test.true) in
     let long = c.loop-field.invariant.kept.long in
-    let has : HasSpot set spot c.loop-field.taken.image.numbers = record {
+    let has : HasSpot set spot numbers = record {
       part = c.requires.spot.part;
       few = subst (λ (x : ℕ). x ≤ MOST_ITEMS) (sym long) c.requires.spot.few;
       room = subst (λ (x : ℕ). spot.base + own_cell_count set d ≤ x) (sym long) c.requires.spot.room;
     } in
-    let run = found_run set c.args.set.now.well_formed spot c.args.path.now c.loop-field.taken.image.numbers has k cell c.elements.result c.desc.result.now c.as_slice.result.now c.index-as_slice-field.result
-    lt c.desc.ensures c.as_slice.ensures c.index-as_slice-field.is c.elements.ensures c.loop-field.invariant.room in
+    let begins = start_code set spot k cell c.field_start.ensures in
+    let run = found_run set c.args.set.now.well_formed spot c.args.path.now numbers has k cell c.elements.result c.desc.result.now c.as_slice.result.now
+    c.index-as_slice-field.result lt c.desc.ensures c.as_slice.ensures c.index-as_slice-field.is c.elements.ensures begins in
+    let here : AreKinds kinds cell (cells_from cs d.fields k (drop k d.fields)) =
+    subst (λ (x : ℕ). AreKinds kinds x (cells_from cs d.fields k (drop k d.fields))) (sym begins) c.loop-field.invariant.kinds in
     record {
       run = run;
+      after = ap (λ (x : Field). cell + capacity_of x.count * size_in set x.item) run.found ∙ start_after set spot k cell begins lt;
+      reads = ap (λ (x : ℕ). read_fields (readers set) d spot.version c.args.path.now c.args.present spot.base k x (drop k d.fields) (place_of c.loop-field.taken))
+          begins ∙ c.loop-field.invariant.reads;
       comes = record { inside = lt; found = run.found; counts = c.elements.ensures; least = c.most.ensures; is = c.is_present.ensures };
-      kinds = subst (λ (x : Field). FieldKinds (cells_in (table set)) d.fields c.loop-field.taken.image.kinds k cell x (drop (k + 1) d.fields)) (sym run.found)
-          (field_kinds (cells_in (table set)) d.fields c.loop-field.taken.image.kinds k cell (field_at set spot.part k) (drop k d.fields) (drop (k + 1) d.fields) (fields_at d.fields k lt) c.loop-field.invariant.kinds);
-      few = has.few;
+      kinds = subst (λ (x : Field). FieldKinds cs d.fields kinds k cell x (drop (k + 1) d.fields)) (sym run.found)
+          (field_kinds cs d.fields kinds k cell (field_at set spot.part k) (drop k d.fields) (drop (k + 1) d.fields) (fields_at d.fields k lt) here);
       front = cut_is c.args.path.now c.loop-field.path c.cut.new.self c.len-kept.result c.cut.ensures c.len-kept.ensures c.loop-field.invariant.path;
     }
 
-wide : (t : ℕ) (c : goal.read_under-After-field_cells-cell t) → c.field_cells-cell.result ≡ capacity_of c.index-as_slice-field.result.count * size_in (described c.args.set.now) c.index-as_slice-field.result.item
-wide t c =
-    let s = turn t (goal.at.read_under-overflow_add-cell t c).After-read_field-arg-in-loop-field-1 in
-    found_width (described c.args.set.now) c.args.spot c.args.path.now c.loop-field.taken.image.numbers c.loop-field.field c.loop-field.cell c.elements.result c.field_cells-cell.result c.index-as_slice-field.result
-    s.run s.few c.field_cells-cell.ensures
+pub read_under-field_start-requires-clause-few : goal.read_under-field_start-requires-clause-few
+read_under-field_start-requires-clause-few t c = omega (arith, c.requires.spot.room, c.requires.spot.few)
 
 pub read_under-read_field-requires : goal.read_under-read_field-requires
 read_under-read_field-requires t c =
@@ -224,8 +241,9 @@ read_under-returns-in_err-read_field-clause-read t c =
     let s = turn t (goal.at.read_under-returns-in_err-read_field-clause-read t c).After-read_field-arg-in-loop-field-1 in
     let p = err_from_is_err_and c.from_residual.result c.from_residual.ensures.1 in
     rw (p.1, p.2) (stopped _ _ _ _ _
-    (λ b same. sym c.loop-field.invariant.reads ∙ fields_stop set (desc_at set spot.part) spot.version c.args.path.now c.args.present spot.base c.loop-field.field c.loop-field.cell c.elements.result c.most.result c.is_present.result
-    (field_of c.index-as_slice-field.result) (place_of c.loop-field.taken) b s.comes same)
+    (λ b same. sym s.reads ∙ fields_stop set (desc_at set spot.part) spot.version c.args.path.now c.args.present spot.base c.loop-field.field
+    c.field_start.result c.elements.result c.most.result c.is_present.result (field_of c.index-as_slice-field.result)
+    (place_of c.loop-field.taken) b s.comes same)
     (rw s.front at c.in_err-read_field.ensures.read))
 
 pub read_under-returns-in_err-read_field-clause-path : goal.read_under-returns-in_err-read_field-clause-path
@@ -233,30 +251,21 @@ read_under-returns-in_err-read_field-clause-path t c =
     let s = turn t (goal.at.read_under-returns-in_err-read_field-clause-path t c).After-read_field-arg-in-loop-field-1 in
     stays_then _ _ _ (subst (Stays c.args.path.now) (sym s.front) (stays c.args.path.now)) c.in_err-read_field.ensures.path
 
-pub read_under-overflow_add-cell : goal.read_under-overflow_add-cell
-read_under-overflow_add-cell t c =
-    let s = turn t (goal.at.read_under-overflow_add-cell t c).After-read_field-arg-in-loop-field-1 in
-    omega (arith, wide t c, s.run.next.room, s.few)
-
 pub read_under-loop-field-preserved : goal.read_under-loop-field-preserved
 read_under-loop-field-preserved t c =
     let set = described c.args.set.now in
     let spot = c.args.spot in
     let k = c.loop-field.field in
-    let cell = c.loop-field.cell in
     let d = desc_at set spot.part in
     let left = cells_from (cells_in (table set)) d.fields (k + 1) (drop (k + 1) d.fields) in
     let s = turn t (goal.at.read_under-loop-field-preserved t c).After-read_field-arg-in-loop-field-1 in
-    let width = wide t (goal.at.read_under-loop-field-preserved t c).After-field_cells-cell in
     let kept = c.in_ok-read_field.ensures.kept in
     record {
-      reads = fields_go set d spot.version c.args.path.now c.args.present spot.base k cell c.elements.result c.most.result c.is_present.result (field_of c.index-as_slice-field.result)
-          (place_of c.loop-field.taken) _ c.field_cells-cell.result s.comes width (reached _ _ (rw s.front at c.in_ok-read_field.ensures.read))
-          ∙ c.loop-field.invariant.reads;
-      room = subst (λ (x : ℕ). (cell + c.field_cells-cell.result) + length left ≤ x) (sym kept.long)
-          (subst (λ (w : ℕ). (cell + w) + length left ≤ length c.loop-field.taken.image.numbers) (sym width) s.run.next.later);
-      kinds = subst (λ (ks : List Kind). AreKinds ks (cell + c.field_cells-cell.result) left) (sym kept.kinds)
-          (subst (λ (w : ℕ). AreKinds c.loop-field.taken.image.kinds (cell + w) left) (sym width) s.kinds.later);
+      reads = fields_go set d spot.version c.args.path.now c.args.present spot.base k c.field_start.result c.elements.result c.most.result
+          c.is_present.result (field_of c.index-as_slice-field.result) (place_of c.loop-field.taken) _ _ s.comes s.after
+          (reached _ _ (rw s.front at c.in_ok-read_field.ensures.read)) ∙ s.reads;
+      kinds = subst (λ (ks : List Kind). AreKinds ks (cell_of set spot (k + 1)) left) (sym kept.kinds)
+          (subst (λ (x : ℕ). AreKinds c.loop-field.taken.image.kinds x left) s.after s.kinds.later);
       kept = kept_more _ _ _ c.loop-field.invariant.kept kept;
       path = stays_then _ _ _ (subst (Stays c.args.path.now) (sym s.front) (stays c.args.path.now)) c.in_ok-read_field.ensures.path;
     }

@@ -1,5 +1,5 @@
-use Rattle.vms_values.proofs.Facade.{◌≡◌, ◌+◌, ◌-◌, ◌*◌, ◌≤◌, length, drop, cells_from, readers, read_desc, read_elements, read_fields, field_of, described}
-use Rattle.vms_values.proofs.Facade.{desc_at, size_in, table, cells_in, capacities_of, item_rank, part_rank, Stays, IsKept, AreKinds, place_of}
+use Rattle.vms_values.proofs.Facade.{◌≡◌, ◌+◌, ◌-◌, ◌*◌, drop, cells_from, readers, read_desc, read_elements, read_fields, field_of, described}
+use Rattle.vms_values.proofs.Facade.{desc_at, size_in, table, cell_of, cells_in, capacities_of, item_rank, part_rank, Stays, IsKept, AreKinds, place_of}
 use Rattle.vms_values.proofs.taken.+read.Given as goal
 
 abbrev pub decreases-read_elements : goal.decreases-read_elements
@@ -36,11 +36,11 @@ invariant-read_under-loop-field l =
     let set = described l.set in
     let d = desc_at set l.spot.part in
     let path = l.initial.path in
+    let cell = cell_of set l.spot l.field in
     record {
-      reads : read_fields (readers set) d l.spot.version path l.present l.spot.base l.field l.cell (drop l.field d.fields) (place_of l.taken)
+      reads : read_fields (readers set) d l.spot.version path l.present l.spot.base l.field cell (drop l.field d.fields) (place_of l.taken)
           ≡ read_desc (readers set) d l.spot.version path l.present l.spot.base (place_of l.initial.taken);
-      room : l.cell + length (cells_from (cells_in (table set)) d.fields l.field (drop l.field d.fields)) ≤ length l.taken.image.numbers;
-      kinds : AreKinds l.taken.image.kinds l.cell (cells_from (cells_in (table set)) d.fields l.field (drop l.field d.fields));
+      kinds : AreKinds l.taken.image.kinds cell (cells_from (cells_in (table set)) d.fields l.field (drop l.field d.fields));
       kept : IsKept l.initial.taken.image l.taken.image;
       path : Stays l.initial.path l.path;
     }
