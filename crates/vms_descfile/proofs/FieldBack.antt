@@ -25,6 +25,7 @@ use Rattle.vms_descfile.specs.Tests.{test_of}
 use Rattle.vms_descfile.specs.Fields.{sort_named, sort_of, counts_fit, values_fit, sort_fits, field_needs, field_allows, field_fits, count_as, count_of, item_as, front_of, field_after, field_in, field_of}
 use Rattle.vms_descfile.specs.Fitting.{FitsField}
 use Rattle.vms_descfile.specs.Written.{natural_file, integer_file, is_zero, item_word, capacity_in, length_in, counter_in, equal_in, size_in, struct_in, test_file, front_file, field_file}
+use Rattle.vms_descfile.proofs.PlainLaws.{number_named}
 use Rattle.vms_descfile.proofs.ObjectLaws.{Table, put_if, members_in, object_of, or_none, got, table_fits, kept, listed, given_if, unless_if, list_if}
 use Rattle.vms_descfile.proofs.AnswerLaws.{next_good, judged_good, at_good, maybe_good, default_good, list_or_good, natural_good, integer_good}
 use Rattle.vms_descfile.proofs.ShownLaws.{number_shown, test_shown, count_shown, field_shown, map_same}
@@ -89,18 +90,6 @@ item_sort (items.Num kind) = sorts.Number kind
 item_sort (items.Equal kind value) = sorts.Number kind
 item_sort (items.Unused n) = sorts.Unused
 item_sort (items.Struct j) = sorts.Struct
-
-number_named : (kind : Kind) → sort_named (item_word (items.Num kind)) ≡ Some (sorts.Number kind)
-number_named kinds.U8 = refl
-number_named kinds.U16 = refl
-number_named kinds.U32 = refl
-number_named kinds.U64 = refl
-number_named kinds.I8 = refl
-number_named kinds.I16 = refl
-number_named kinds.I32 = refl
-number_named kinds.I64 = refl
-number_named kinds.Bool = refl
-number_named kinds.Timer = refl
 
 item_named : (item : Item) → sort_named (item_word item) ≡ Some (item_sort item)
 item_named (items.Num kind) = number_named kind

@@ -1,8 +1,6 @@
 // The forms of tests, and tests on numbers.
 ghost use Rattle.std.specs.Prelude.{◌≡◌, Option, Some, None, IfSome};
-ghost use Rattle.serde_json.specs.Data as Data;
-ghost use Rattle.serde_json.specs.Data.{put};
-ghost use Rattle.vms_json.specs.Nodes.{view, members_on};
+ghost use Rattle.vms_json.specs.Nodes.{view};
 ghost use Rattle.vms_spec.specs.Sets as sets;
 ghost use Rattle.vms_spec.specs.declared.Rel.{Rel as TheRel};
 ghost use Rattle.vms_parts.specs.Views.{formula};
@@ -11,7 +9,7 @@ ghost use Rattle.vms_json.specs.Names.{scope_seen, names_seen};
 ghost use Rattle.vms_descfile.specs.Tests.{form_of, key_of, rel_named, rel_of, own_cell, own_seen, own_said, parent_cell};
 
 use std::alloc::Global;
-use vms_json::{Fault, Members, NameIn, Names, Node, Reads, Scope, U64, at, fits, said};
+use vms_json::{Fault, NameIn, Names, Node, Reads, Scope, U64, at, fits, said};
 use vms_parts::{Rel, Test, Whose};
 
 // The form of a test, by its keys.
@@ -123,10 +121,10 @@ pub(crate) fn own_in<'t, 'a>(value: &Node<'t, 'a>) -> Option<OwnCell<'t, 'a>>
     ensures { IfSome result (λ own. view value.now ≡ own_seen own) }
 {
     let mut members = value.as_members()?;
-    let field = next_of(&mut members, "field")?;
-    let rel = next_of(&mut members, "is")?;
-    let mask = next_of(&mut members, "mask")?;
-    let number = next_of(&mut members, "value")?;
+    let field = members.next_of("field")?;
+    let rel = members.next_of("is")?;
+    let mask = members.next_of("mask")?;
+    let number = members.next_of("value")?;
     if members.next().is_some() {
         return None;
     }
@@ -136,16 +134,6 @@ pub(crate) fn own_in<'t, 'a>(value: &Node<'t, 'a>) -> Option<OwnCell<'t, 'a>>
         mask,
         value: number,
     })
-}
-
-// Returns the next member, if it has this key.
-#[inline(always)]
-fn next_of<'t, 'a>(members: &mut Members<'t, 'a>, key: &str) -> Option<Node<'t, 'a>>
-    ensures { IfSome result (λ v. (found : Data.Members)
-        → members_on members.old found ≡ members_on members.new (put key.now (view v) found)) }
-{
-    let (name, value) = members.next()?;
-    if name == key { Some(value) } else { None }
 }
 
 #[inline(always)]

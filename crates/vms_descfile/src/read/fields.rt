@@ -270,10 +270,8 @@ fn number_kind(value: &Node) -> Option<Kind>
     ensures { IfSome result (λ kind.
         option_and_then sort_named (as_str (view value.now)) ≡ Some (Number kind)) }
 {
-    match value.as_str().and_then(sort_named) {
-        Some(Sort::Number(kind)) => Some(kind),
-        _ => None,
-    }
+    let word = value.as_str()?;
+    kind_named(word)
 }
 
 fn plain_field(alloc: Global, plain: Plain) -> Result<Field, Fault>

@@ -1,7 +1,7 @@
 use Rattle.std.proofs.Common.{◌≡◌, sym, ap, ◌∙◌, codes}
 use Rattle.serde_json.specs.Data.{object, no_members, put}
 use Rattle.vms_json.specs.Nodes.{view, members_left}
-use Rattle.vms_descfile.proofs.PlainLaws.{none_left, object_is}
+use Rattle.vms_json.proofs.KeyLaws.{none_left, object_is}
 use Rattle.vms_descfile.proofs.read.cells.own_in.Goals as goal
 
 pub returns : goal.returns
@@ -13,4 +13,4 @@ returns c =
     let all : members_left c.in_ok-members.members ≡ four =
     c.in_ok-field.ensures no_members ∙ c.in_ok-rel.ensures one ∙ c.in_ok-mask.ensures two ∙ c.in_ok-number.ensures three
     ∙ none_left c.next.result _ _ (sym c.is_some.ensures ∙ c.if-is_some.false) (c.next.ensures.value four) in
-    object_is (view c.args.value.now) (members_left c.in_ok-members.members) c.in_ok-members.ensures ∙ ap object all
+    object_is _ _ c.in_ok-members.ensures ∙ ap object all

@@ -3,7 +3,8 @@ use Rattle.std.proofs.lemmas.Slice.Eq.{bytes_eq-Decides}
 use Rattle.serde_json.specs.Data.{no_members, put}
 use Rattle.vms_json.specs.Nodes.{view, members_left, members_on}
 use Rattle.vms_descfile.specs.Fields.{IsPlain, kind_and_name}
-use Rattle.vms_descfile.proofs.PlainLaws.{none_left, kind_first, name_first}
+use Rattle.vms_json.proofs.KeyLaws.{none_left}
+use Rattle.vms_descfile.proofs.PlainLaws.{kind_first, name_first}
 use Rattle.vms_descfile.proofs.read.fields.plain_in.Goals as goal
 
 pub returns-then-eq-2 : goal.returns-then-eq-2

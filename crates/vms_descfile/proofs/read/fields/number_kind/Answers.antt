@@ -1,0 +1,5 @@
+use Rattle.vms_descfile.proofs.PlainLaws.{kind_told}
+use Rattle.vms_descfile.proofs.read.fields.number_kind.Goals as goal
+
+pub returns : goal.returns
+returns c = kind_told c.kind_named.result c.in_ok-word.word.now _ c.kind_named.ensures.right c.in_ok-word.ensures
