@@ -1,5 +1,5 @@
 -- The value of rows, and rows that are laid in order.
-use Rattle.std.proofs.Common.{◌≡◌, Bool, true, false, cond, if◌then◌else◌, Option, Some, None, ℕ, zero, suc, ◌+◌, ◌*◌, ◌<◌, ◌≤◌, List, [], ◌∷◌, length, take, drop, refl, sym, ap, ap₂, subst, ◌∙◌, arith, length-take, length-drop, ◌++◌, option_map, append_assoc}
+use Rattle.std.proofs.Common.{◌≡◌, Bool, true, false, cond, if◌then◌else◌, Option, Some, None, ℕ, zero, suc, ◌+◌, ◌*◌, ◌<◌, ◌≤◌, List, [], ◌∷◌, length, take, drop, refl, sym, ap, ap₂, subst, ◌∙◌, arith, length-take, length-drop, ◌++◌, option_map, append_assoc, ◌||◌, is_some}
 use Rattle.std.specs.Borrow.{Bor}
 use Rattle.serde_json.specs.Data.{Data, null, array, object, Members, no_members, put, no_items, item, number}
 use Rattle.std.specs.Str.{bytes_eq}
@@ -10,6 +10,7 @@ use Rattle.serde_json.specs.Find.{get_member, as_number, as_str, as_bool, as_arr
 use Rattle.vms_json.specs.declared.node.Row.{Row}
 use Rattle.vms_json.specs.Nodes.{flag_at, is_list, is_object, key_at, number_at, text_at, front, data_in, items_in, members_in, rows_view, count_at}
 use Rattle.std.proofs.lemmas.List.{append-nil, length-append}
+use Rattle.std.proofs.Math.Bool.{or-false, or-true}
 use Rattle.std.proofs.Math.ListN.{set}
 use Rattle.std.proofs.Math.Seq.{take-append_seam, drop-append_seam, set-append_seam}
 use Rattle.json.specs.Token.{Token}
@@ -21,6 +22,7 @@ use Rattle.serde_json.specs.View.{number_view}
 use Rattle.serde_json.specs.declared.number.Number.{Number}
 use Rattle.serde_json.specs.Read.{number_of, of_json, converted}
 use Rattle.vms_json.specs.Frames.{Frame, in_list, in_object, before}
+use Rattle.vms_json.specs.Keys.{has_one}
 use Rattle.vms_json.specs.Laying.{AreBelow, IsRowOf, items_of, members_of, IsRun, AreItems, AreMembers, InList, InObject, IsLaid, HasValue}
 use Rattle.vms_json.proofs.FrameLaws.{before_one}
 use Rattle.vms_json.specs.declared.node.Row.TheVariants as rows
@@ -151,6 +153,23 @@ put_found true q k d ms e =
     let same : k ≡ q = (bytes_eq-Decides k q).0 e in
     ap (λ n. get_member n (put k d ms)) (sym same) ∙ get_member-put k d ms
 put_found false q k d ms e = get_member-put_other q k d ms (λ same. false≢true (sym e ∙ (bytes_eq-Decides k q).1 (sym same)))
+
+has_put : (q k : List ℕ) (d : Data) (ms : Members) (b : Bool) → bytes_eq k q ≡ b
+    → is_some (get_member q (put k d ms)) ≡ (is_some (get_member q ms) || b)
+has_put q k d ms true e = ap is_some (put_found true q k d ms e) ∙ sym (or-true (is_some (get_member q ms)))
+has_put q k d ms false e = ap is_some (put_found false q k d ms e) ∙ sym (or-false (is_some (get_member q ms)))
+
+both_or : (x y a b : Bool) → ((x || a) || (y || b)) ≡ ((x || y) || (a || b))
+both_or true y a b = refl
+both_or false true true b = refl
+both_or false true false b = refl
+both_or false false a b = refl
+
+-- one of two keys
+pub one_put : (q r k : List ℕ) (d : Data) (ms : Members) (b : Bool) → b ≡ (bytes_eq k q || bytes_eq k r) → has_one q r (put k d ms) ≡ (has_one q r ms || b)
+one_put q r k d ms b e =
+    ap₂ (λ x y. x || y) (has_put q k d ms (bytes_eq k q) refl) (has_put r k d ms (bytes_eq k r) refl)
+    ∙ both_or (is_some (get_member q ms)) (is_some (get_member r ms)) (bytes_eq k q) (bytes_eq k r) ∙ ap (λ c. has_one q r ms || c) (sym e)
 
 -- ---- Rows that are laid in order: of a value, of the items of a list, of the members of an object.
 

@@ -1,12 +1,16 @@
 -- The keys of an object.
-use Rattle.std.specs.Prelude.{ℕ, Bool, true, false, ◌&&◌, List, [], ◌∷◌, ◌++◌, is_some, Option, Some, None}
+use Rattle.std.specs.Prelude.{ℕ, Bool, true, false, ◌&&◌, ◌||◌, List, [], ◌∷◌, ◌++◌, is_some, Option, Some, None}
 use Rattle.serde_json.specs.Data.{Data, Members, no_members, member}
-use Rattle.serde_json.specs.Find.{get, as_object}
+use Rattle.serde_json.specs.Find.{get, get_member, as_object}
 use Rattle.vms_spec.specs.Streams.{is_one_of}
 
 -- an object has a member of this key
 abbrev pub has : List ℕ → Data → Bool
 has key d = is_some (get key d)
+
+-- the members have one of two keys
+abbrev pub has_one : List ℕ → List ℕ → Members → Bool
+has_one key other ms = is_some (get_member key ms) || is_some (get_member other ms)
 
 -- the members have no key but these
 abbrev pub has_no_others : List (List ℕ) → Members → Bool

@@ -6,7 +6,7 @@ ghost use Rattle.vms_json.specs.Keys.{has};
 ghost use Rattle.vms_json.specs.Nodes.{view, items_left};
 ghost use Rattle.vms_json.specs.Asked.{asks_a_name, some_ask, asks_in, asks_names};
 
-use crate::keys::has;
+use crate::keys::{has, has_either};
 use crate::node::{Items, Node};
 
 /// Returns whether a walk that looks up names finds one in the description `value`: in a
@@ -42,5 +42,5 @@ fn any_asks(mut fields: Items) -> bool
 fn asks_a_name(field: &Node) -> bool
     ensures { result ≡ asks_a_name (view field.now) }
 {
-    has(field, "test") || has(field, "counted")
+    has_either(field, "test", "counted")
 }

@@ -4,7 +4,7 @@ ghost use Rattle.std.specs.List.{list_all, list_any};
 ghost use Rattle.std.specs.Str.{bytes_eq};
 ghost use Rattle.vms_json.specs.Nodes.{view, members_left};
 ghost use Rattle.vms_spec.specs.Streams.{is_one_of};
-ghost use Rattle.vms_json.specs.Keys.{has, has_all, fits, has_no_others};
+ghost use Rattle.vms_json.specs.Keys.{has, has_one, has_all, fits, has_no_others};
 
 use crate::node::{Members, Node, is_key};
 
@@ -25,6 +25,35 @@ pub fn has(value: &Node, key: &str) -> bool
     ensures { result ≡ has key.now (view value.now) }
 {
     value.get(key).is_some()
+}
+
+// Returns whether `value` is an object with a member `key` or a member `other`, in one walk.
+pub(crate) fn has_either(value: &Node, key: &str, other: &str) -> bool
+    ensures { result ≡ (has key.now (view value.now) || has other.now (view value.now)) }
+{
+    match value.as_members() {
+        Some(members) => have_either(members, key, other),
+        None => false,
+    }
+}
+
+fn have_either(mut members: Members, key: &str, other: &str) -> bool
+    ensures { result ≡ has_one key.now other.now (members_left members.entry) }
+{
+    let mut found = false;
+    while let Some((name, _value)) = members.next() {
+        if is_either(name, key, other) {
+            found = true;
+        }
+    }
+    found
+}
+
+#[inline(always)]
+fn is_either(name: &str, key: &str, other: &str) -> bool
+    ensures { result ≡ (bytes_eq name.now key.now || bytes_eq name.now other.now) }
+{
+    is_key(name, key) || is_key(name, other)
 }
 
 fn has_all(value: &Node, keys: &[&str]) -> bool

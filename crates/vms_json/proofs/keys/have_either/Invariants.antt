@@ -1,0 +1,11 @@
+use Rattle.std.proofs.Common.{◌≡◌, length}
+use Rattle.serde_json.specs.Data.{Members}
+use Rattle.vms_json.specs.Keys.{has_one}
+use Rattle.vms_json.specs.Nodes.{members_left, members_on}
+use Rattle.vms_json.proofs.keys.have_either.Given as goal
+
+abbrev pub invariant-loop-name : goal.invariant-loop-name
+invariant-loop-name l = (before : Members) × (members_left l.fn.members ≡ members_on l.members before) × (l.found ≡ has_one l.key l.other before)
+
+abbrev pub decreases-loop-name : goal.decreases-loop-name
+decreases-loop-name l = length l.members.rows.now
