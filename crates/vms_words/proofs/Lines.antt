@@ -24,8 +24,6 @@ pub number_line : (z : ℤ) (rest : List ℕ) → IsShort z → first_line (sign
 number_line (pos n) rest h = digits_line (decimal n) rest (digits_decimal numerals n h)
 number_line (negsuc n) rest h = ap (longer_line 45) (digits_line (decimal (suc n)) rest (digits_decimal numerals (suc n) (omega arith)))
 
--- ---- the rest after a line
-
 abbrev front_of : Option (List ℕ × List ℕ) → List ℕ
 front_of None = []
 front_of (Some (a, b)) = a

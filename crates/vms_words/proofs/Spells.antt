@@ -58,8 +58,6 @@ unpadded_decimal (suc n) h =
       first_same [] c d some = absurd (omega arith)
       first_same (b ∷ text) c d some = refl
 
--- ---- natural numbers
-
 digits_of_decimal : (n : ℕ) → n < 2 ^ 64 → are_digits (decimal n) ≡ true
 digits_of_decimal n h = and_from (list_all is_digit (decimal n)) (unpadded (decimal n)) (digits_decimal numerals n h) (unpadded_decimal n h)
 
@@ -76,8 +74,6 @@ decimal_of_value text e h =
 minus_no_digit : (text : List ℕ) → are_digits (45 ∷ text) ≡ false
 minus_no_digit text = refl
 
--- ---- numbers with their signs
-
 if_digits : (text : List ℕ) (b : Bool) → are_digits text ≡ b → number_spelled text
     ≡ (if b then Some (pos (natural_from 0 text))
     else if get_or text 0 0 == 45 && are_digits (drop 1 text) && not (natural_from 0 (drop 1 text) == 0)
@@ -92,8 +88,7 @@ number_holds (negsuc n) h =
     let value : natural_from 0 (decimal (suc n)) ≡ suc n = value_of_decimal (suc n) (omega arith) in
     let some : (suc n == 0) ≡ false = ne_eqb (suc n) 0 (λ e. omega arith) in
     let one : suc n - 1 ≡ n = omega arith in
-    if_digits (45 ∷ decimal (suc n)) false (minus_no_digit (decimal (suc n)))
-    ∙ (rw (digits, value, some, one) refl)
+    if_digits (45 ∷ decimal (suc n)) false (minus_no_digit (decimal (suc n))) ∙ (rw (digits, value, some, one) refl)
 
 pos_injective : (m n : ℕ) → pos m ≡ pos n → m ≡ n
 pos_injective m n e = cc
@@ -102,8 +97,7 @@ negative_first : (text : List ℕ) → get_or text 0 0 ≡ 45 → text ≡ 45 �
 negative_first [] e = absurd (omega (arith, e))
 negative_first (c ∷ text) e = ap (λ (x : ℕ). x ∷ text) e
 
-spelled_pos : (text : List ℕ) (n : ℕ) → n < 2 ^ 64 → (b : Bool) → are_digits text ≡ b
-    → (if b then Some (pos (natural_from 0 text))
+spelled_pos : (text : List ℕ) (n : ℕ) → n < 2 ^ 64 → (b : Bool) → are_digits text ≡ b → (if b then Some (pos (natural_from 0 text))
     else if get_or text 0 0 == 45 && are_digits (drop 1 text) && not (natural_from 0 (drop 1 text) == 0)
     then Some (negative (natural_from 0 (drop 1 text)))
     else None) ≡ Some (pos n)
@@ -137,8 +131,7 @@ minus_number text n h e is =
       positive zero n e some = absurd (some refl)
       positive (suc m) n e some = omega (arith, e)
 
-spelled_neg : (text : List ℕ) (n : ℕ) → n < 2 ^ 63 → (b : Bool) → are_digits text ≡ b
-    → (if b then Some (pos (natural_from 0 text))
+spelled_neg : (text : List ℕ) (n : ℕ) → n < 2 ^ 63 → (b : Bool) → are_digits text ≡ b → (if b then Some (pos (natural_from 0 text))
     else if get_or text 0 0 == 45 && are_digits (drop 1 text) && not (natural_from 0 (drop 1 text) == 0)
     then Some (negative (natural_from 0 (drop 1 text)))
     else None) ≡ Some (negsuc n)

@@ -43,8 +43,6 @@ tells_kind word kind = (has_word word kind, λ same. ap kind_named same ∙ word
 pub told : (word : List ℕ) (named : Option Kind) → kind_named word ≡ named → TellsKind word named
 told word named e = subst (TellsKind word) e (tells_kind word)
 
--- ---- the kinds, tried in order
-
 -- the first of these kinds whose word this is
 abbrev pub named_in : List ℕ → List Kind → Option Kind
 named_in word [] = None
