@@ -35,8 +35,6 @@ matched (t ∷ taken) (e ∷ es) (x ∷ fs) f a g l =
     let lines : lines_of taken ≡ map entry_line fs = cc in
     (f.0 ∙ sym g.0, a.0 ∙ line, matched taken es fs (f.1 a.0) a.1 (g.1 (sym line)) lines)
 
--- ---- sections
-
 abbrev for_section : Demand → Bool
 for_section (ForSection d) = true
 for_section _ = false
@@ -92,8 +90,6 @@ module _ (P : Entry → Type 0) (set : Set) (d : Device) (image : Image) (number
       all_both P (number_entries set d.desc image.numbers 0) _ (numbers_all (printed (elements_in set d.desc d.desc.version image.numbers 0)))
       (subs_all 0 (own_cells set d) d.subs image.came h)
 
--- ---- numbers
-
 abbrev of_demand : ℕ → Demand → Bool
 of_demand c (ForNumber x) = x.cell == c
 of_demand c _ = false
@@ -104,8 +100,7 @@ by_demand c _ = refl
 
 line_same : (es fs : List Entry) → Match es fs → (c : ℕ) → has_line es c ≡ has_line fs c
 line_same [] [] m c = refl
-line_same (e ∷ es) (f ∷ fs) m c =
-    rw (by_demand c e ∙ ap (of_demand c) m.0 ∙ sym (by_demand c f), line_same es fs m.2 c) refl
+line_same (e ∷ es) (f ∷ fs) m c = rw (by_demand c e ∙ ap (of_demand c) m.0 ∙ sym (by_demand c f), line_same es fs m.2 c) refl
 line_same _ _ m c = absurd m
 
 -- the numbers of entries are those of this state
@@ -130,8 +125,6 @@ module _ (n m : List ℤ) (short : AreShort n) (short' : AreShort m) where
   agree (OfNumber x k ∷ es) (f ∷ fs) a b h c e =
       either_of (x.cell == c) _ e (λ t. one_number x k f c a.0 b.0 h.0 h.1 (eqb-true x.cell c t)) (λ g. agree es fs a.1 b.1 h.2 c g)
   agree (_ ∷ es) (f ∷ fs) a b h c e = agree es fs a.1 b.1 h.2 c e
-
--- ---- subsections
 
 abbrev came_with : Entry → List (Option ℕ) → List (Option ℕ)
 came_with (OfSub d image j s at o) came = o ∷ came
@@ -176,8 +169,6 @@ came_same [] [] a b m = refl
 came_same (e ∷ es) (f ∷ fs) a b m = ap (came_with e) (came_same es fs a.1 b.1 m.2) ∙ came_one e f (came_of fs) a.0 b.0 m.0 m.1
 came_same _ _ a b m = absurd m
 
--- ---- a device
-
 module _ (set : Set) (d : Device) (image : Image) where
   subs_came : (j at : ℕ) (subs : List Sub) (came : List (Option ℕ)) → length came ≡ length subs → came_of (subs_entries set d image j at subs came) ≡ came
   subs_came j at [] [] long = refl
@@ -218,8 +209,6 @@ device_same set d image image' a b short short' u u' m =
     by_line c lt lt' true t = agree image.numbers image'.numbers short short' _ _ (whole_of set d image a.versions) (whole_of set d image' b.versions) m c t
     by_line c lt lt' false t = u c lt t ∙ sym (u' c lt' (sym (line_same (inside_of set d image) (inside_of set d image') m c) ∙ t))
 
--- ---- all of them
-
 begins_new : (set : Set) (devices : List Device) (images : List Image) → BeginsNew (devices_entries set devices images)
 begins_new set (d ∷ devices) (image ∷ images) = refl
 begins_new set _ _ = tt
@@ -239,8 +228,6 @@ devices_same set (d ∷ devices) (i ∷ images) (j ∷ images') a b s s' u u' m 
 
 -- ---- A text in which no line is bad says a state; the second pass finds its first bad part, or the state is ready.
 
--- ---- what a text says
-
 named_machine : (set : Set) (text : List ℕ) (machine : Option (List ℕ)) → machine ≡ machine_named set.machines (first_line text) → IsMachineOf set machine
 named_machine set text None e = tt
 named_machine set text (Some name) e = named_is set.machines (first_line text) name (sym e)
@@ -250,8 +237,6 @@ none_says set text v n =
     let f = n.first in
     let fine = fine_text set text n.machine n.all f n.ends in
     record { named = named_machine set text n.machine f.named; shaped = f.shaped; unsaid = f.unsaid; fine = fine.0; printed = fine.1 }
-
--- ---- the second pass over entries
 
 abbrev pub answer_by : Option (List ℕ) → List Image → Option BadLine → ValuesRead
 answer_by machine images (Some b) = Bad b.line b.reason
@@ -275,8 +260,6 @@ none_good set line (e ∷ es) h = go (part_reason set e) refl h (λ g. none_good
         → (parts_from set (suc line) es ≡ None → AreGood set es) → (part_reason set e ≡ None) × AreGood set es
     go None is h more = (is, more h)
     go (Some reason) is h more = cc
-
--- ---- ready
 
 module _ (set : Set) (well : WellFormed set) (good : IsGood set) where
   low : (k : ℕ) (d : Device) → slice_get set.devices k ≡ Some d → d.desc.minimum ≤ d.desc.version

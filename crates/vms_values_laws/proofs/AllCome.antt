@@ -18,8 +18,6 @@ use Rattle.vms_spec.specs.declared.ValuesReason.TheVariants as reasons
 
 -- ---- The devices of a set one after the other, read as entries.
 
--- ---- numbers of at most 64 bits
-
 short_set : (n : List ℤ) (i : ℕ) (z : ℤ) → IsShort z → AreShort n → AreShort (slice_set n i z)
 short_set n i z h short = short_within (slice_set n i z) (λ c lt. by_same c lt (c == i) refl)
   where
@@ -69,8 +67,6 @@ pub all_short : (set : Set) (devices : List Device) (images : List Image) → Ar
 all_short set [] [] h = tt
 all_short set (d ∷ devices) (image ∷ images) h = (short_are image.numbers h.0.short, all_short set devices images h.1)
 all_short set _ _ h = absurd h
-
--- ---- devices
 
 -- what reading requires of the devices
 abbrev pub AreGoodDevices : Set → List Device → Type 0
@@ -214,10 +210,8 @@ module _ (set : Set) (d : Device) (devices : List Device) (line : ℕ) (text : L
 
     others_come : (o : Result ReadAll BadLine) → AllCome set devices r.place.line r.place.rest o
         → AllCome set (d ∷ devices) line text (with_device (record { image = image; line = line; sub_lines = r.lines }) o)
-    others_come (Ok all) a =
-        record { whole = all_behind a.whole; unsaid = (image_unsaid, a.unsaid); lined = (image_lined, rw after_it at a.lined) }
-    others_come (Err e) a =
-        record { demand = a.demand; images = image ∷ a.images; rest = a.rest; before = all_behind a.before; wrong = a.wrong }
+    others_come (Ok all) a = record { whole = all_behind a.whole; unsaid = (image_unsaid, a.unsaid); lined = (image_lined, rw after_it at a.lined) }
+    others_come (Err e) a = record { demand = a.demand; images = image ∷ a.images; rest = a.rest; before = all_behind a.before; wrong = a.wrong }
 
   by_device : (r : Result ReadSubs BadLine) (go : ℕ → List ℕ → Result ReadAll BadLine) → AreGoodDevices set devices → DeviceComes set d line text r
       → ((line : ℕ) (text : List ℕ) → AllCome set devices line text (go line text)) → AllCome set (d ∷ devices) line text (device_read d line r go)

@@ -15,8 +15,6 @@ use Rattle.vms_spec.specs.declared.ValuesReason.TheVariants as reasons
 
 -- ---- What the first pass finds in a whole text.
 
--- ---- entries that follow what was taken and have its lines
-
 pub record Split (taken : List Taken) (P : List Entry → Type 0) (es : List Entry) : Type 0 where
   pub before : List Entry
   pub after : List Entry
@@ -45,8 +43,6 @@ split (t ∷ taken) P Q (e ∷ es) fine f a =
       rest = s.rest;
     }
 
--- ---- the first bad line
-
 -- the relation says of it that it is bad
 pub record FirstBad (set : Set) (text : List ℕ) (line : ℕ) (reason : ValuesReason) : Type 0 where
   pub machine : Option (List ℕ)
@@ -57,8 +53,6 @@ pub record FirstBad (set : Set) (text : List ℕ) (line : ℕ) (reason : ValuesR
       → Follows taken (λ es. front_reason es rest ≡ Some reason) (entries set machine images)
   pub moved : Moved 1 text taken line rest
   pub is_bad : IsBadLine set text line reason
-
--- ---- a text without one
 
 pub record FirstFine (set : Set) (text : List ℕ) (machine : Option (List ℕ)) (all : ReadAll) : Type 0 where
   pub taken : List Taken
@@ -84,12 +78,9 @@ fine_text set text machine all f e =
           (λ (l : List Entry). text_of (map entry_line l)) (sym whole),
     )
 
--- ---- both, of a whole text
-
 front_of : (demand : Demand) (rest : List ℕ) (reason : ValuesReason) (es : List Entry) → reason_for demand (first_line rest) ≡ Some reason → Begins demand es
     → front_reason es rest ≡ Some reason
-front_of demand rest reason es wrong b =
-    rw (b.is) (reason_same b.first (first_line rest) ∙ rw (b.demands) wrong)
+front_of demand rest reason es wrong b = rw (b.is) (reason_same b.first (first_line rest) ∙ rw (b.demands) wrong)
 
 pub follows_ends : (taken : List Taken) (P Q : List Entry → Type 0) (es : List Entry) → Follows taken P es → ((xs : List Entry) → P xs → Q xs)
     → Follows taken Q es
@@ -164,14 +155,12 @@ module _ (set : Set) (text : List ℕ) (machine : Option (List ℕ)) (line : ℕ
       }
 
   pub stopped_first : (e : BadLine) → AllStop set set.devices line after e → FirstBad set text e.line e.reason
-  stopped_first e a =
-      first_bad e.reason a.before (λ es b. front_of a.demand a.rest e.reason es a.wrong b)
+  stopped_first e a = first_bad e.reason a.before (λ es b. front_of a.demand a.rest e.reason es a.wrong b)
 
   -- something comes after the last line
   pub more_first : (all : ReadAll) (b : ℕ) (rest : List ℕ) → all.rest ≡ b ∷ rest → AllRead set set.devices line after all
       → FirstBad set text all.line reasons.Form
-  more_first all b rest e a =
-      first_bad reasons.Form a.whole (λ es is. rw (is, e) refl)
+  more_first all b rest e a = first_bad reasons.Form a.whole (λ es is. rw (is, e) refl)
 
   pub fine_first : (all : ReadAll) → AllRead set set.devices line after all → FirstFine set text machine all
   fine_first all a =
@@ -189,8 +178,6 @@ module _ (set : Set) (text : List ℕ) (machine : Option (List ℕ)) (line : ℕ
       }
 
 -- ---- The first pass over a text: a bad line, or what its lines say.
-
--- ---- the line of the machine
 
 machine_line : (machines : List (List ℕ)) (line name : List ℕ) (b : Bool) → begins_with (codes "machine ") line ≡ b → (c : Bool)
     → is_one_of machines (drop 8 line) ≡ c → (if b && c then Some (drop 8 line) else None) ≡ Some name → line ≡ codes "machine " ++ name
@@ -218,8 +205,6 @@ headed set text name e =
           (line_taken text (codes "machine " ++ name) line.0 line.1)
           (let f = (bytes_eq-Decides (codes "machine " ++ name) (codes "machine " ++ name)).1 refl in rw f refl);
     }
-
--- ---- the pass
 
 -- no line was bad
 pub record NoneBad (set : Set) (text : List ℕ) (v : ValuesRead) : Type 0 where

@@ -129,8 +129,6 @@ AllKnown (c ∷ cells) said = Knows said c × AllKnown cells said
 pub knows_grows : (said more : List Said) (c : ℕ) → ((m : List ℤ) → Agrees more m → Agrees said m) → Knows said c → Knows more c
 knows_grows said more c g k = record { known = λ m n a b. k.known m n (g m a) (g n b) }
 
--- ---- one more line
-
 abbrev said_of : (x : Element) (p q : Standing) → Put x p q → Said
 said_of x p q put = record { element = x; number = put.number }
 
@@ -220,8 +218,6 @@ module _ (total : List ℤ → List Element) (start : Standing) (low : ℕ) wher
       → Comes further known' before left' (r >>= f)
   then_comes (Ok q) f c h = let x = c.comes in earlier (f q) x.grows (h q x.said x.stands x.grows x.knows)
   then_comes (Err e) f c h = record { comes = c.comes }
-
-  -- ---- one line
 
   module _ (x : Element) (p : Standing) (said : List Said) (left : List ℤ → List Element) (room : x.cell < length start.numbers)
       (a : At x.cell p said (λ m. x ∷ left m)) where

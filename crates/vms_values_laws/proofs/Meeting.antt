@@ -63,8 +63,6 @@ pub signed_feed : (z : ℤ) → NoFeed (signed_decimal z)
 signed_feed (pos n) = decimal_feed n
 signed_feed (negsuc n) = (refl, decimal_feed (suc n))
 
--- ---- fine lines
-
 -- what is demanded has no line feed
 abbrev pub IsClean : Demand → Type 0
 IsClean (ForMachine name) = NoFeed name
@@ -86,8 +84,7 @@ by_spelled cell present text None e f = cc
 by_spelled cell present text (Some z) e f = by_range (in_range cell.kind z) refl f
   where
     by_range : (b : Bool) → in_range cell.kind z ≡ b → or_else (if_not b reasons.Number)
-        (or_else (if_not (not (exceeds cell.capacities z)) reasons.Count)
-        (if_not (present || same_number z cell.default) reasons.Absent)) ≡ None
+        (or_else (if_not (not (exceeds cell.capacities z)) reasons.Count) (if_not (present || same_number z cell.default) reasons.Absent)) ≡ None
         → NoFeed text
     by_range true r f = rw (spelled_holds text z (short cell.kind z r) e) (signed_feed z)
     by_range false r f = cc
@@ -164,8 +161,7 @@ pub meet : (taken : List Taken) (before after : List Entry) (rest rest' : List �
     → Follows taken (λ es. Ends o rest es) (before ++ after) → AreClean (before ++ after)
     → AreFineTaken taken → AreFine before → text_of (lines_of taken) ++ rest ≡ text_of (map entry_line before) ++ rest' → Ends o' rest' after
     → Same taken before o o'
-meet [] [] after rest rest' o o' f clean fine fine' e ends =
-    record { long = refl; lines = refl; reason = both_end o o' rest after f (rw e ends) }
+meet [] [] after rest rest' o o' f clean fine fine' e ends = record { long = refl; lines = refl; reason = both_end o o' rest after f (rw e ends) }
 meet [] (x ∷ before) after rest rest' o o' f clean fine fine' e ends =
     let feed = fine_feed (demand_of x) (entry_line x) clean.0 (fine_entry x fine'.0) in
     let is : rest ≡ entry_line x ++ 10 ∷ (text_of (map entry_line before) ++ rest') =
@@ -246,8 +242,6 @@ shapes_named ds clean (suc k) j =
     one_more NamesShape no_shape (record { named = λ n at. tt }) (first shape ds k) (shapes_named ds clean k) (shape (first shape ds k) (get_or ds k no_desc))
     (record { named = λ n at. desc_named (first shape ds k) (shapes_named ds clean k) (get_or ds k no_desc) (get_or ds k no_desc).version n at (clean k) }) j
 
--- ---- entries
-
 clean_numbers : (n : List ℤ) (xs : List Element) → AreNamed xs → AreClean (map (λ x. OfNumber x n) (printed xs))
 clean_numbers n [] h = tt
 clean_numbers n (x ∷ xs) h = go (x.counted && is_number x.what) (clean_numbers n xs h.1)
@@ -293,8 +287,6 @@ module _ (set : Set) (structs : (j : ℕ) → AreCleanFields (get_or set.structs
 
 -- ---- No name of a well-formed set has a line feed.
 
--- ---- names
-
 name_byte : (b : ℕ) → is_name_byte b ≡ true → (b == 10) ≡ false
 name_byte b e = ne_eqb b 10 (λ same. let h = name_byte_high b e in omega (arith, h, same))
 
@@ -311,8 +303,6 @@ clean_sub_name device name h e =
     let p = and_parts (bytes_eq (take n name) (device ++ 47 ∷ [])) (is_name 64 (drop n name)) e in
     let front : NoFeed (take n name) = rw ((bytes_eq-Decides (take n name) (device ++ 47 ∷ [])).0 p.0) (feed_append device (47 ∷ []) h (refl, tt)) in
     rw (take-append-drop n name) at (feed_append (take n name) (drop n name) front (clean_name 64 (drop n name) p.1))
-
--- ---- parts of a set
 
 all_from : {A : Type 0} (P : A → Type 0) (xs : List A) → ((k : ℕ) (x : A) → slice_get xs k ≡ Some x → P x) → AllByRecursion P xs
 all_from P [] h = tt

@@ -64,8 +64,7 @@ abbrev pub AreShort : List ℤ → Type 0
 AreShort numbers = (c : ℕ) → IsShort (get_or numbers c (pos 0))
 
 pub short_within : (n : List ℤ) → ((c : ℕ) → c < length n → IsShort (get_or n c (pos 0))) → AreShort n
-short_within n h c =
-    ⊎_elim (λ (lt : c < length n). h c lt) (λ (ge : length n ≤ c). rw (get_or-eq_default n (pos 0) ge) (omega arith)) (cases_lt c (length n))
+short_within n h c = ⊎_elim (λ (lt : c < length n). h c lt) (λ (ge : length n ≤ c). rw (get_or-eq_default n (pos 0) ge) (omega arith)) (cases_lt c (length n))
 
 -- entries of these elements, in a state
 abbrev pub of_numbers : List ℤ → List Element → List Entry
@@ -104,10 +103,7 @@ pub along_meets : (said : List Said) (left : List Element) (n : List ℤ) (xs : 
     → Meets said left n xs → P (of_numbers n left ++ more) → Along (all_taken said) P (of_numbers n xs ++ more)
 along_meets [] left n xs more P a h p = rw h p
 along_meets (s ∷ said) left n [] more P a h p = absurd h
-along_meets (s ∷ said) left n (x ∷ xs) more P a h p = (
-  rw (h.0, a.0) refl,
-  along_meets said left n xs more P a.1 (h.1 a.0) p,
-)
+along_meets (s ∷ said) left n (x ∷ xs) more P a h p = (rw (h.0, a.0) refl, along_meets said left n xs more P a.1 (h.1 a.0) p)
 
 fine_taken : (said : List Said) → AreFineLines said → AreFineTaken (all_taken said)
 fine_taken [] f = tt

@@ -15,8 +15,6 @@ use Rattle.vms_spec.specs.Layout as slots
 
 -- ---- A state that a text says, with good parts, is ready.
 
--- ---- entries of a part
-
 pub fine_both : (es fs : List Entry) → AreFine (es ++ fs) → AreFine es × AreFine fs
 fine_both [] fs h = (tt, h)
 fine_both (e ∷ es) fs h = let p = fine_both es fs h.1 in ((h.0, p.0), p.1)
@@ -41,8 +39,6 @@ two_none true true e = (refl, refl)
 two_none true false e = cc
 two_none false b e = cc
 
--- ---- a description
-
 module _ (set : Set) (n : List ℤ) (short : AreShort n) where
   abbrev cells : Desc → List Cell
   cells d = desc_cells (struct_cells set) d
@@ -58,8 +54,7 @@ module _ (set : Set) (n : List ℤ) (short : AreShort n) where
       (said_right n short at (elements_in set d d.version n at) w.up fine (rw (w.cells_are) defaults) (rw (w.cells_are) bare))
 
   desc_bare : (d : Desc) (at : ℕ) → have_defaults n (elements_in set d d.version n at) ≡ true → AreBare n at (cells d) (λ k. false)
-  desc_bare d at h =
-      let w = walks set d d.version d.version n n at at in rw (w.cells_are) at (have_each n at (elements_in set d d.version n at) w.up h)
+  desc_bare d at h = let w = walks set d d.version d.version n n at at in rw (w.cells_are) at (have_each n at (elements_in set d d.version n at) w.up h)
 
   -- what is at its default is right, whatever is in the bytes
   pub default_right : (at : ℕ) (cs : List Cell) (ss : List Slot) → DefaultsFit cs → AreBare n at cs (λ k. false) → AreRight n at cs ss
@@ -91,8 +86,6 @@ module _ (set : Set) (n : List ℤ) (short : AreShort n) where
 -- the cells of subsections
 abbrev pub sub_cells : Set → List Sub → List Cell
 sub_cells set subs = flat_map (λ s. desc_cells (struct_cells set) s.desc) subs
-
--- ---- a device
 
 module _ (set : Set) (d : Device) (image : Image) (short : AreShort image.numbers) where
   abbrev n : List ℤ
@@ -168,8 +161,6 @@ module _ (set : Set) (d : Device) (image : Image) (short : AreShort image.number
       (subs_ready (suc j) next subs came (omega (arith, long)) versions.1 f.1 g.1 p.1 b.1)
   subs_ready j at _ _ long versions fine good defaults bare = absurd (omega (arith, long))
 
-  -- ---- the whole
-
   versions_of : (subs : List Sub) (came : List (Option ℕ)) → length came ≡ length subs → AreAtVersions subs came
       → ((j : ℕ) (s : Sub) → slice_get subs j ≡ Some s → s.desc.minimum ≤ s.desc.version) → AreVersionsOf subs came
   versions_of [] [] long h low = tt
@@ -190,8 +181,7 @@ module _ (set : Set) (d : Device) (image : Image) (short : AreShort image.number
       let f = fine_both numbers others fine.1 in
       let g = good_both set numbers others good.1 in
       let next : own_cells set d ≡ 0 + length own = omega arith in
-      let bare : AreBare n 0 (own ++ sub_cells set d.subs) (λ k. has_line (device_entries set d image) k) =
-      λ c k lt e h. let same : k ≡ c = omega arith in
+      let bare : AreBare n 0 (own ++ sub_cells set d.subs) (λ k. has_line (device_entries set d image) k) = λ c k lt e h. let same : k ≡ c = omega arith in
       unsaid k (omega (arith, shaped.cells)) h ∙ ap (λ (i : ℕ). (get_or (device_cells set d) i no_cell).default) same in
       let b = bare_parts set n short d.desc 0 (own_cells set d) (sub_cells set d.subs) others next
       (λ k lt. below_subs 0 (own_cells set d) d.subs image.came k lt) bare in

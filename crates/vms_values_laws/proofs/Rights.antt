@@ -12,16 +12,13 @@ use Rattle.vms_spec.specs.Layout as slots
 
 -- ---- What a fine line says of its number, and which numbers have fine lines.
 
--- ---- the text after a front
-
 pub begins_itself : (front text : List ℕ) → begins_with front (front ++ text) ≡ true
 begins_itself [] text = refl
 begins_itself (b ∷ front) text = let e = eq-eqb b b refl in let f = begins_itself front text in rw (e, f) refl
 
 by_front : (front line text : List ℕ) (what : What) (present : Bool) → line ≡ front ++ text
     → (if begins_with front line then element_reason what present (drop (length front) line) else Some reasons.Form) ≡ element_reason what present text
-by_front front line text what present e =
-    rw (e, begins_itself front text, drop-append_seam front text) refl
+by_front front line text what present e = rw (e, begins_itself front text, drop-append_seam front text) refl
 
 -- the line of a number is judged by this number
 pub line_number : (x : Element) (n : List ℤ) (cell : Cell) → x.what ≡ Number cell → IsShort (get_or n x.cell (pos 0))
@@ -30,8 +27,6 @@ line_number x n cell e short =
     let z = get_or n x.cell (pos 0) in
     by_front (x.name ++ codes " = ") (number_line n x) (signed_decimal z) x.what x.present (sym (append_assoc x.name (codes " = ") (signed_decimal z)))
     ∙ rw (e, number_holds z short) refl
-
--- ---- the three reasons
 
 -- a number that fits its cell, and is the default if it is absent
 pub record IsFitting (cell : Cell) (present : Bool) (z : ℤ) : Type 0 where
@@ -97,21 +92,15 @@ right_both n at next xs ys ss ts is a b = record {
     bare : (k : ℕ) → has_cell (ss ++ ts) k ≡ false → (has_cell ss k ≡ false) × (has_cell ts k ≡ false)
     bare k h = or_parts (has_cell ss k) (has_cell ts k) (sym (names_append ss ts k) ∙ h)
 
--- ---- defaults that fit
-
 pub fit_parts : (xs ys : List Cell) → DefaultsFit (xs ++ ys) → DefaultsFit xs × DefaultsFit ys
 fit_parts xs ys h = (
   λ c lt. rw (get_or_append_left xs ys no_cell c lt) at (h c (omega (arith, length-append xs ys))),
   λ c lt. rw (get_or-append-add xs ys c no_cell) at (h (length xs + c) (omega (arith, length-append xs ys))),
 )
 
--- ---- cells without a line
-
 -- the numbers of cells for which a test is false are defaults
 abbrev pub AreBare : List ℤ → ℕ → List Cell → (ℕ → Bool) → Type 0
 AreBare n at cells test = (c k : ℕ) → c < length cells → k ≡ at + c → test k ≡ false → get_or n k (pos 0) ≡ (get_or cells c no_cell).default
-
--- ---- one element more
 
 -- slots with that of a number, if it has bytes
 abbrev pub with_slot : Element → Cell → List Slot → List Slot
@@ -168,8 +157,6 @@ view x xs = by_what x.what refl
       defaults = λ n. rw e refl;
     })
 
--- ---- lines of elements
-
 no_line : (n : List ℤ) (x : Element) (xs : List Element) (k : ℕ) (b : Bool) → (x.cell ≡ k → ⊥) → has_line (of_numbers n xs) k ≡ false
     → has_line (of_numbers n (if b then x ∷ xs else xs)) k ≡ false
 no_line n x xs k true ne h = rw (ne_eqb x.cell k ne) h
@@ -194,8 +181,6 @@ none_outside n at (x ∷ xs) up k h =
     (λ (v : IsNoNumber x xs).
     let later = none_outside n at xs (rw (v.numbers) at up) k (rw (v.cells) at h) in
     (rw (v.lines) later.0, v.bytes k ∙ later.1)) (view x xs)
-
--- ---- elements whose lines are fine
 
 pub fine_rest : (n : List ℤ) (x : Element) (xs : List Element) (b : Bool) → AreFine (of_numbers n (if b then x ∷ printed xs else printed xs))
     → AreFine (of_numbers n (printed xs))
@@ -265,8 +250,6 @@ module _ (n : List ℤ) (short : AreShort n) where
           more at (rw (v.numbers) at up) (rw (v.lines) at fine) (rw (v.cells) at defaults)
           (subst (λ (l : List Element). AreBare n at (cells_of xs) (λ k. has_line (of_numbers n l) k)) v.lines (rw (v.cells) at bare)) in
           rw (v.cells) (record { right = λ c k lt e. right_by (λ h. sym (v.bytes k) ∙ h) (later.right c k lt e) })
-
--- ---- elements at their defaults
 
 pub have_each : (n : List ℤ) (at : ℕ) (xs : List Element) → CountsUp at (numbers_in xs) → have_defaults n xs ≡ true → AreBare n at (cells_of xs) (λ k. false)
 have_each n at [] up h = λ c k lt e f. absurd (omega arith)

@@ -4,8 +4,6 @@ use Rattle.vms_values_laws.proofs.Facade.{get_or-set_other, Bool, true, false, �
 use Rattle.vms_values_laws.proofs.Facade.{AllByRecursion, Standing, Element, text_of, text_append, Said, said_line, AreFineLines, Agrees, Meets, AreBelow}
 use Rattle.vms_values_laws.proofs.Facade.{AreFrom, put_all, Ran, Entry, OfNumber, is_of_cell, has_line, IsShort}
 
--- ---- meeting
-
 pub all_both : {A : Type 0} (P : A → Type 0) (xs ys : List A) → AllByRecursion P xs → AllByRecursion P ys → AllByRecursion P (xs ++ ys)
 all_both P [] ys a b = b
 all_both P (x ∷ xs) ys a b = (a.0, all_both P xs ys a.1 b)
@@ -28,10 +26,7 @@ pub meets_all : (said : List Said) (left : List Element) (n : List ℤ) (xs : Li
     → xs ≡ map (λ (s : Said). s.element) said ++ left
 meets_all [] left n xs a h = h
 meets_all (s ∷ said) left n [] a h = absurd h
-meets_all (s ∷ said) left n (x ∷ xs) a h =
-    rw (h.0, meets_all said left n xs a.1 (h.1 a.0)) refl
-
--- ---- agreeing
+meets_all (s ∷ said) left n (x ∷ xs) a h = rw (h.0, meets_all said left n xs a.1 (h.1 a.0)) refl
 
 pub agrees_front : (said more : List Said) (n : List ℤ) → Agrees (said ++ more) n → Agrees said n
 agrees_front [] more n a = tt
@@ -51,8 +46,6 @@ agrees_put [] cell n z b a = tt
 agrees_put (s ∷ said) cell n z b a =
     let ne : s.element.cell ≢ cell = let lt = b.0 in omega arith in
     (get_or-set_other n cell s.element.cell z (pos 0) ne ∙ a.0, agrees_put said cell n z b.1 a.1)
-
--- ---- below
 
 pub below_less : (cell further : ℕ) (said : List Said) → cell ≤ further → AreBelow cell said → AreBelow further said
 below_less cell further [] le b = tt
@@ -78,8 +71,6 @@ agrees_kept said (s ∷ more) cell n b f a =
     agrees_kept said more cell (slice_set n s.element.cell s.number) b f.1
     (agrees_put said s.element.cell n s.number (below_less cell s.element.cell said le b) a)
 
--- ---- lines
-
 pub fine_more : (said more : List Said) → AreFineLines said → AreFineLines more → AreFineLines (said ++ more)
 fine_more [] more f g = g
 fine_more (s ∷ said) more f g = (f.0, fine_more said more f.1 g)
@@ -100,8 +91,6 @@ ran_more p q r said more f g =
       numbers = rw (g.numbers, f.numbers) (sym (put_more p.numbers said more));
       fine = fine_more said more f.fine g.fine;
     }
-
--- ---- what was said in two parts
 
 -- numbers of at most 64 bits were said
 abbrev pub AreShortSaid : List Said → Type 0

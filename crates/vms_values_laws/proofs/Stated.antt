@@ -45,8 +45,6 @@ module _ (set : Set) (text : List ℕ) (line : ℕ) (reason : ValuesReason) (x :
 
 -- ---- What a text says, if no line is bad, is what is read of it.
 
--- ---- the machine
-
 -- the first line of a text that has this line first
 first_is : (text line : List ℕ) (lines : List (List ℕ)) → NoFeed line → text ≡ text_of (line ∷ lines) → first_line text ≡ Some (line, text_of lines)
 first_is text line lines clean e = ap first_line e ∙ line_first line (text_of lines) clean
@@ -81,8 +79,6 @@ clean_says set well None images named = clean_entries set (clean_structs set wel
 clean_says set well (Some name) images named =
     clean_entries set (clean_structs set well) (Some name) images (clean_devices set well)
     (λ other e. rw (same_Some name other e) at (clean_named set well name named))
-
--- ---- the state
 
 module _ (set : Set) (well : WellFormed set) (text : List ℕ) (machine : Option (List ℕ)) (images : List Image) (says : Says set text machine images) where
   its_machine : machine_named set.machines (first_line text) ≡ machine
@@ -125,15 +121,12 @@ module _ (set : Set) (well : WellFormed set) (text : List ℕ) (machine : Option
       let f = b.first in
       let e = (beside f.machine f.taken f.rest (Some b.reason) (taken_before set text v b)).reason in
       cc
-  says_answers v (inr n) =
-      none_answers set text v n ∙ rw (same_machine v n, same_images v n) refl
+  says_answers v (inr n) = none_answers set text v n ∙ rw (same_machine v n, same_images v n) refl
 
 -- ---- The laws of reading, as they are stated.
 
 its_first_pass : (set : Set) (text : List ℕ) → IsFit set → FirstPass set text (values_read set text)
 its_first_pass set text fit = let good = well_good set fit.well fit.heads in first_pass set text good.structs (good_devices set good)
-
--- ---- what is read
 
 text_of_ready : (set : Set) (text : List ℕ) (machine : Option (List ℕ)) (images : List Image) → IsFit set → Says set text machine images
     → AreGood set (entries set machine images) → IsText set text machine images
@@ -167,16 +160,13 @@ by_parts set text machine images None fit says e = text_of_ready set text machin
 
 by_pass : (set : Set) (text : List ℕ) (v : ValuesRead) → IsFit set → FirstPass set text v → Reads set text v
 by_pass set text v fit (inl b) = rw (b.is) (inl b.first.is_bad)
-by_pass set text v fit (inr n) =
-    rw (none_answers set text v n) (by_parts set text n.machine (images_of n.all.devices) _ fit (none_says set text v n) refl)
+by_pass set text v fit (inr n) = rw (none_answers set text v n) (by_parts set text n.machine (images_of n.all.devices) _ fit (none_says set text v n) refl)
 
 pub read_holds : ReadLaw
 read_holds set text fit = by_pass set text (values_read set text) fit (its_first_pass set text fit)
 
 pub accepted_holds : AcceptedLaw
 accepted_holds set text machine images fit e = rw e at (read_holds set text fit)
-
--- ---- and nothing else
 
 line_back : (set : Set) (text : List ℕ) (line : ℕ) (reason : ValuesReason) → IsFit set → IsBadLine set text line reason → values_read set text ≡ Bad line reason
 line_back set text line reason fit x =
@@ -317,11 +307,9 @@ few_entries set None images = omega (arith, few_all set set.devices images)
 few_entries set (Some name) images = omega (arith, few_all set set.devices images)
 
 by_refused : (set : Set) (text : List ℕ) (line : ℕ) (reason : ValuesReason) → Refused set text line reason → line ≤ suc (most_lines set)
-by_refused set text line reason (inl x) =
-    omega (arith, x.number, ap length x.state, length-append x.before x.after, few_entries set x.machine x.images)
+by_refused set text line reason (inl x) = omega (arith, x.number, ap length x.state, length-append x.before x.after, few_entries set x.machine x.images)
 by_refused set text line reason (inr x) =
     omega (arith, x.number, ap length x.state, length-append x.before (x.entry ∷ x.after), few_entries set x.machine x.images)
 
 pub line_holds : LineLaw
-line_holds set text line reason fit e =
-    by_refused set text line reason (rw e at (read_holds set text fit))
+line_holds set text line reason fit e = by_refused set text line reason (rw e at (read_holds set text fit))

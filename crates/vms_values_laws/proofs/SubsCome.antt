@@ -11,8 +11,6 @@ use Rattle.vms_values_laws.proofs.Numbers.{follows_on, along_on, heard_on, lines
 use Rattle.vms_values_laws.proofs.SecondPass.{sub_numbers}
 use Rattle.vms_values_laws.proofs.SaidLaws.{agrees_front, agrees_later, Told, told_none, told_both, has_said}
 
--- ---- the line of a subsection
-
 pub line_taken : (text line rest : List ℕ) → first_line text ≡ Some (line, rest) → text ≡ line ++ 10 ∷ rest_of (first_line text)
 line_taken text line rest e = line_splits text line rest e ∙ rw e refl
 
@@ -71,8 +69,6 @@ pub record Went (subs : List Sub) (at : ℕ) (p : Standing) (came : List (Option
   pub follows : Behind taken
   pub along : Lined taken said
   pub moved : Moved p.line p.rest taken line rest
-
--- ---- all of them
 
 module _ (set : Set) (d : Device) where
   abbrev pub cells_long : List Sub → ℕ

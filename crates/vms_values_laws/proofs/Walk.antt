@@ -99,13 +99,11 @@ known_next : (cs : List (List Cell)) (d : Desc) (base i at : ℕ) (f : Field) (f
     → ((j : ℕ) → IsEarlier d.fields i j → Knows said (place_of cs d.fields 0 base d.fields j)) → AllKnown (known_cell f.count f.item at) more
     → (j : ℕ) → IsEarlier d.fields (suc i) j → Knows more (place_of cs d.fields 0 base d.fields j)
 known_next cs d base i at f fs said more is here grows known k j x =
-    ⊎_elim
-    (λ (lt : j < i). knows_grows said more _ grows (known j (record { earlier = lt; there = x.there; number = x.number; one = x.one })))
+    ⊎_elim (λ (lt : j < i). knows_grows said more _ grows (known j (record { earlier = lt; there = x.there; number = x.number; one = x.one })))
     (λ (ge : i ≤ j).
     let same : j ≡ i = omega (arith, x.earlier) in
     let this : get_or d.fields j no_field ≡ f = rw same (dropped d.fields i f fs is) in
-    rw (same, ← here) (is_known f.count f.item at more (rw this at x.number) (rw this at x.one) k))
-    (cases_lt j i)
+    rw (same, ← here) (is_known f.count f.item at more (rw this at x.number) (rw this at x.one) k)) (cases_lt j i)
 
 module _ (total : List ℤ → List Element) (start : Standing) (low : ℕ) where
   abbrev Here : ℕ → Standing → List Said → (List ℤ → List Element) → Type 0
@@ -277,8 +275,6 @@ module _ (total : List ℤ → List Element) (start : Standing) (low : ℕ) wher
           (at_left total start low
           (λ m g. ap (λ (cs : List (List Cell)). lines (elements_from ss d.fields v (numbers_of cs d m base) m 0 base d.fields ++ last cs m) ++ left m) cells
           ∙ ap (λ (l : List Element). l ++ left m) (wrapped_append steps path present (fields m) (last cs m) ∙ append-nil (lines (fields m)))) a)
-
-  -- ---- structures
 
   same_cells : (ds : List Desc) (k : ℕ) → cells_in (first shape ds k) ≡ cells_of (first reader ds k)
   same_cells ds k = shapes_cells ds k ∙ sym (readers_cells ds k)
