@@ -31,7 +31,7 @@ MeanAbove ms = (j : ℕ) → MeansAbove (get_or ms j no_meaning)
 
 module _ (ms : List Meaning) (h : MeanAbove ms) where
   pub item_above : (item : Item) (caps : List ℕ) (numbers : List ℤ) (at : ℕ) → IsAbove at (item_slots ms item caps numbers at)
-  item_above (Num kind) caps numbers at = record { below = λ c lt. rw (ne_eqb at c (λ e. omega (arith, e, lt))) refl }
+  item_above (Num kind) caps numbers at = record { below = λ c lt. rw (ne_eqb at c (λ e. omega arith)) refl }
   item_above (Struct j) caps numbers at = (h j).means at numbers
   item_above _ caps numbers at = record { below = λ c lt. refl }
 

@@ -35,7 +35,7 @@ fits_agree n k (_ ∷ xs) h f = fits_agree n k xs h f
 -- a named cell is one of these
 pub named_inside : (all : List Cell) (xs : List Slot) (c : ℕ) → AreCells all xs → has_cell xs c ≡ true → c < length all
 named_inside all [] c a e = cc
-named_inside all (Number k kind caps ∷ xs) c a e = either_of (k == c) _ e (λ t. let f = eqb-true k c t in omega (arith, a.0.within)) (named_inside all xs c a.1)
+named_inside all (Number k kind caps ∷ xs) c a e = either_of (k == c) _ e (λ t. let f = eqb-true k c t in omega arith) (named_inside all xs c a.1)
 named_inside all (_ ∷ xs) c a e = named_inside all xs c a e
 
 pub skip : (n : ℕ) (cells : List Cell) → drop n (replicate n no_cell ++ cells) ≡ cells

@@ -8,6 +8,5 @@ at_set (y ∷ ys) zero x h = refl
 at_set (y ∷ ys) (suc k) x h = at_set ys k x (omega arith)
 
 pub set_twice : {A : Type 0} (xs : List A) (k : ℕ) (x y : A) → slice_set (slice_set xs k x) k y ≡ slice_set xs k y
-set_twice [] k x y = refl
-set_twice (z ∷ zs) zero x y = refl
-set_twice (z ∷ zs) (suc k) x y = ap (λ (l : List _). z ∷ l) (set_twice zs k x y)
+set_twice (z ∷ zs) (suc k) x y = rw (set_twice zs k x y)
+set_twice _ _ x y = refl

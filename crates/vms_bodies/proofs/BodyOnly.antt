@@ -37,7 +37,7 @@ front_take n xs ys rest e len = ap (take n) e ∙ take-append-le n xs ys (omega 
     take_all zero [] h = refl
     take_all (suc n) [] h = refl
     take_all zero (x ∷ xs) h = absurd (omega arith)
-    take_all (suc n) (x ∷ xs) h = ap (λ (l : List ℕ). x ∷ l) (take_all n xs (omega arith))
+    take_all (suc n) (x ∷ xs) h = rw (take_all n xs (omega arith))
 
 pub front_drop : (n : ℕ) (xs ys rest : List ℕ) → rest ≡ xs ++ ys → length xs ≡ n → drop n rest ≡ ys
 front_drop n xs ys rest e len = rw (e, ← len) (drop-append_seam xs ys)
@@ -98,9 +98,7 @@ module _ (all : List Cell) (total : List ℤ → List Slot) (n : List ℤ) (end 
   split_of cell done left q l = l.split n (record { same = λ c lt. l.holds.rest.same c (l.holds.high.below c lt) })
 
   rest_of : (cell : ℕ) (done : List Slot) (left : List ℤ → List Slot) (q : Progress) → Here cell q done left → Rest n end tail (left n) q
-  rest_of cell done left q l =
-      subst (λ (xs : List Slot). Rest n end tail xs q)
-      (append_cancel_left done l.holds.more (left n) (sym l.holds.split ∙ split_of cell done left q l)) l.holds.rest
+  rest_of cell done left q l = rw (append_cancel_left done l.holds.more (left n) (sym l.holds.split ∙ split_of cell done left q l)) at l.holds.rest
 
   -- at a cell that was set to its number, and at each other
   number_same : (cell c : ℕ) (numbers : List ℤ) → cell < length numbers → ((cell == c) ≡ false → get_or n c (pos 0) ≡ get_or numbers c (pos 0))
@@ -117,8 +115,7 @@ module _ (all : List Cell) (total : List ℤ → List Slot) (n : List ℤ) (end 
       → Here cell p done (λ m. slot ∷ left m) → take_slot slot p ≡ Ok q → Rest n end tail (left n) q
       → Gives total (Spelling total n end tail) Never further (done ++ slot ∷ []) (take_slot slot p)
   passed cell further slot done left p q up l is r =
-      subst (λ (t : Taken). Gives total (Spelling total n end tail) Never further (done ++ slot ∷ []) t) (sym is)
-      (record { more = left n; split = split_of cell done (λ m. slot ∷ left m) p l ∙ sym (append_assoc done (slot ∷ []) (left n)); high = up n; rest = r })
+      rw is (record { more = left n; split = split_of cell done (λ m. slot ∷ left m) p l ∙ sym (append_assoc done (slot ∷ []) (left n)); high = up n; rest = r })
 
   number_spelling : length all ≤ length n → ((m : List ℤ) → AreCells all (total m)) → (cell : ℕ) (kind : Kind) (caps : List ℕ) (done : List Slot)
       → (left : List ℤ → List Slot) (p : Progress) → ((m : List ℤ) → IsAbove (cell + 1) (left m)) → Here cell p done (λ m. Number cell kind caps ∷ left m)
@@ -140,7 +137,7 @@ module _ (all : List Cell) (total : List ℤ → List Slot) (n : List ℤ) (end 
       (record {
         bytes = r.spells.0;
         front = refl;
-        place = omega (arith, r.place, ap length r.spells.1, length-append (code kind z) r.spells.0, length-code kind z);
+        place = omega (arith, ap length r.spells.1, length-append (code kind z) r.spells.0, length-code kind z);
         spells = r.spells.2;
         fits = r.fits.2;
         rules = r.rules;
@@ -166,11 +163,11 @@ module _ (all : List Cell) (total : List ℤ → List Slot) (n : List ℤ) (end 
       (value_taken kind reasons.NotEqual (λ y. not (same_number y z)) (λ y. p.numbers) z p _ r.fits.0 (ap not (same_number_itself z))
       (r.front ∙ rw (r.spells.1, append_assoc) refl))
       (unchanged (Constant kind z) (left n) p (width kind) r.spells.0 r
-      (omega (arith, r.place, ap length r.spells.1, length-append (code kind z) r.spells.0, length-code kind z)) r.spells.2 r.fits.1 r.rules (λ c. refl))
+      (omega (arith, ap length r.spells.1, length-append (code kind z) r.spells.0, length-code kind z)) r.spells.2 r.fits.1 r.rules (λ c. refl))
   other_spelling cell (Filler k) done left p o up l =
       let r = rest_of cell done (λ m. Filler k ∷ left m) p l in
       passed cell cell (Filler k) done left p _ up l (filler_taken r.spells.0 _ p k r.spells.2 (r.front ∙ rw (r.spells.3, append_assoc) refl))
-      (unchanged (Filler k) (left n) p k r.spells.1 r (omega (arith, r.place, ap length r.spells.3, length-append r.spells.0 r.spells.1, r.spells.2))
+      (unchanged (Filler k) (left n) p k r.spells.1 r (omega (arith, ap length r.spells.3, length-append r.spells.0 r.spells.1))
       r.spells.4 r.fits r.rules (λ c. refl))
   other_spelling cell (Rule b) done left p o up l =
       let r = rest_of cell done (λ m. Rule b ∷ left m) p l in
@@ -201,8 +198,7 @@ ends_so total n end cell tail (Ok q) c =
     let r = rest_of [] total n end tail cell c.0 (λ m. []) q c.1 in
     let numbers : q.numbers ≡ n = ext_get_or (pos 0) q.numbers n r.long (λ k lt. sym (r.same k refl)) in
     let place : q.place ≡ end = omega (arith, r.place, ap length r.spells) in
-    let rest : q.rest ≡ tail = r.front ∙ ap (λ (l : List ℕ). l ++ tail) r.spells in
-    rw (← numbers, ← place, ← rest) refl
+    rw (← numbers, ← place, ← (r.front ∙ ap (λ l. l ++ tail) r.spells)) refl
 
 -- a body of a description of the set is taken, and gives the numbers that it was made of
 pub body_only : (all : List Cell) (ds : List Desc) → AreSound ds → (d : Desc) (v base : ℕ) (n : List ℤ) (p : Progress) (bytes tail : List ℕ) → IsSound d

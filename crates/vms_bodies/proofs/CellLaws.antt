@@ -49,7 +49,7 @@ module _ (ms : List Meaning) (h : MeanCells ms) where
       → Stands all at (item_cells (cells_in ms) item caps z) → AreCells all (item_slots ms item caps numbers at)
   item_are (Num kind) caps z all at numbers s =
       let x = first_is all at (record { kind = kind; capacities = caps; default = z }) s.more s.is in
-      (record { within = x.0; kind = ap (λ (c : Cell). c.kind) x.1; capacities = ap (λ (c : Cell). c.capacities) x.1 }, tt)
+      (record { within = x.0; kind = rw (x.1); capacities = rw (x.1) }, tt)
   item_are (Struct j) caps z all at numbers s = (h j).means all at numbers (rw (get_or-map (λ (m : Meaning). m.cells) ms j no_meaning) at s)
   item_are _ caps z all at numbers s = tt
 

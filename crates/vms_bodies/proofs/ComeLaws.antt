@@ -27,9 +27,8 @@ defaults_of set [] = refl
 defaults_of set (d ∷ ds) = ap suc (defaults_of set ds)
 
 pub never_true : (ds : List Device) (k : ℕ) → slice_get (map (λ (d : Device). false) ds) k ≡ Some true → ⊥
-never_true [] k e = cc
-never_true (d ∷ ds) zero e = cc
 never_true (d ∷ ds) (suc k) e = never_true ds k e
+never_true _ _ e = cc
 
 pub none_missing : (k : ℕ) (came : List Bool) → Streams.AllCame came → first_missing k came ≡ None
 none_missing k [] h = refl

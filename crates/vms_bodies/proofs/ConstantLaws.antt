@@ -22,10 +22,9 @@ pub record MeansConstants (m : Meaning) : Type 0 where
 
 module _ (ms : List Meaning) (h : (j : ℕ) → MeansConstants (get_or ms j no_meaning)) where
   item_constants : (item : Item) → ConstantFits item → (caps : List ℕ) (numbers : List ℤ) (at : ℕ) → AreConstants (item_slots ms item caps numbers at)
-  item_constants (Num kind) f caps numbers at = tt
   item_constants (Equal kind y) f caps numbers at = (f, tt)
-  item_constants (Unused n) f caps numbers at = tt
   item_constants (Struct j) f caps numbers at = (h j).means at numbers
+  item_constants _ f caps numbers at = tt
 
   items_constants : (item : Item) → ConstantFits item → (caps : List ℕ) (numbers : List ℤ) (n at step : ℕ)
       → AreConstants (times n (item_slots ms item caps numbers) at step)

@@ -44,7 +44,6 @@ pub body_found : (all : List Cell) (ds : List Desc) → AreSound ds → (d : Des
     → IsBody (λ m. desc_slots (meanings ds (length ds)) d v m base) (base + length (desc_cells (cells_of (takers ds (length ds))) d)) p q
 body_found all ds structs d v base p q sound ok room cells e =
     let slots : List ℤ → List Slot = λ m. desc_slots (meanings ds (length ds)) d v m base in
-    let end = base + length (desc_cells (cells_of (takers ds (length ds))) d) in
     let c = set_desc_comes slots (Spelled p) Anything (spelled_keeps all slots p ok room cells) ds structs d v base p sound (λ m. refl)
     (spelled_first all slots p base) in
-    body_of slots end p q (subst (λ (t : Taken). ComesTo slots (Spelled p) Anything end (λ m. []) t) e c.comes)
+    body_of slots (base + length (desc_cells (cells_of (takers ds (length ds))) d)) p q (rw e at c.comes)

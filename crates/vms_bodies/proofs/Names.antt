@@ -7,7 +7,7 @@ use Rattle.vms_spec.specs.Images.{has_cell}
 
 pub names_append : (xs ys : List Slot) (k : ℕ) → has_cell (xs ++ ys) k ≡ (has_cell xs k || has_cell ys k)
 names_append [] ys k = refl
-names_append (Number c kind caps ∷ xs) ys k = ap (λ (b : Truth). (c == k) || b) (names_append xs ys k) ∙ sym (or_assoc (c == k) (has_cell xs k) (has_cell ys k))
+names_append (Number c kind caps ∷ xs) ys k = rw (names_append xs ys k) (sym (or_assoc (c == k) (has_cell xs k) (has_cell ys k)))
 names_append (_ ∷ xs) ys k = names_append xs ys k
 
 pub none_in_both : (c : ℕ) (xs ys : List Slot) → has_cell (xs ++ ys) c ≡ false → (has_cell xs c ≡ false) × (has_cell ys c ≡ false)

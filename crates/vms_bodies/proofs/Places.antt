@@ -79,18 +79,15 @@ place_end cs fields i at (f ∷ fs) =
 pub own_same : (cs : List (List OneCell)) (d : Desc) (base i cell j : ℕ) (n m : List ℤ) → cell ≡ place_of cs d.fields 0 base d.fields i → SameBelow cell n m
     → IsEarlier d.fields i j → numbers_of cs d m base j ≡ numbers_of cs d n base j
 own_same cs d base i cell j n m e s x =
-    ap (λ (z : ℤ). residue (width (kind_of (get_or d.fields j no_field).item)) z)
-    (s.same (place_of cs d.fields 0 base d.fields j) (omega (arith, place_below cs d.fields 0 base d.fields j i x.earlier x.there x.number x.one)))
+    rw (s.same (place_of cs d.fields 0 base d.fields j) (omega (arith, place_below cs d.fields 0 base d.fields j i x.earlier x.there x.number x.one)))
 
 module _ (fields : List Field) (i v : ℕ) (own now : ℕ → ℕ) (h : (j : ℕ) → IsEarlier fields i j → now j ≡ own j) where
   pub truth_same : (t : Formula) → NamesEarlier fields i t → truth t v now no_parent ≡ truth t v own no_parent
-  truth_same (AtLeast n) x = refl
-  truth_same (Below n) x = refl
-  truth_same (Cell Own j mask rel value) x = ap (λ (k : ℕ). compares rel (bit_and k mask) value) (h j x)
-  truth_same (Cell Parent j mask rel value) x = refl
+  truth_same (Cell Own j mask rel value) x = rw (h j x)
   truth_same (Not t) x = ap not (truth_same t x)
   truth_same (And s t) x = rw (truth_same s x.0, truth_same t x.1) refl
   truth_same (Or s t) x = rw (truth_same s x.0, truth_same t x.1) refl
+  truth_same _ x = refl
 
   pub hold_same : (ts : List Formula) → AllByRecursion (NamesEarlier fields i) ts → all_hold ts v now ≡ all_hold ts v own
   hold_same [] x = refl
@@ -103,5 +100,5 @@ there_same fields i v since own now h (Some t) x = truth_same fields i v own now
 
 pub elements_same : (fields : List Field) (i : ℕ) (own now : ℕ → ℕ) → ((j : ℕ) → IsEarlier fields i j → now j ≡ own j) → (c : Count)
     → IsSoundCount fields i c → elements_of c now ≡ elements_of c own
-elements_same fields i own now h (Counted by most) x = ap (λ (k : ℕ). min k most) (h by x)
+elements_same fields i own now h (Counted by most) x = rw (h by x)
 elements_same fields i own now h _ x = refl

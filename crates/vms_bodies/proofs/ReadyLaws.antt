@@ -44,17 +44,15 @@ is_version d v h = and_from _ _ (le-leb d.minimum v h.0) (le-leb v d.version h.1
 
 versions_are : (subs : List Sub) (came : List (Option ℕ)) → are_versions_of subs came ≡ true → AreVersionsOf subs came
 versions_are [] [] e = tt
-versions_are [] (o ∷ came) e = cc
-versions_are (s ∷ subs) [] e = cc
 versions_are (s ∷ subs) (None ∷ came) e = versions_are subs came e
 versions_are (s ∷ subs) (Some v ∷ came) e = let p = and_parts (is_version_of s.desc v) _ e in (version_is s.desc v p.0, versions_are subs came p.1)
+versions_are _ _ e = cc
 
 are_versions : (subs : List Sub) (came : List (Option ℕ)) → AreVersionsOf subs came → are_versions_of subs came ≡ true
 are_versions [] [] h = refl
-are_versions [] (o ∷ came) h = absurd h
-are_versions (s ∷ subs) [] h = absurd h
 are_versions (s ∷ subs) (None ∷ came) h = are_versions subs came h
 are_versions (s ∷ subs) (Some v ∷ came) h = and_from _ _ (is_version s.desc v h.0) (are_versions subs came h.1)
+are_versions _ _ h = absurd h
 
 -- ---- cells
 
@@ -158,14 +156,13 @@ are_rules (_ ∷ slots) h = are_rules slots h
 module _ (set : Set) (d : Device) (image : Image) where
   pub needed_are : (j : ℕ) (subs : List Sub) (came : List (Option ℕ)) → come_as_needed set d image j subs came ≡ true → ComeAsNeeded set d image j subs came
   needed_are j [] [] e = refl
-  needed_are j [] (o ∷ came) e = cc
-  needed_are j (s ∷ subs) [] e = cc
   needed_are j (s ∷ subs) (None ∷ came) e =
       let p = and_parts (not (is_needed set d image s j)) _ e in (not-true _ p.0, needed_are (suc j) subs came p.1)
   needed_are j (s ∷ subs) (Some v ∷ came) e =
       let p = and_parts (is_needed set d image s j && v == s.desc.version) _ e in
       let q = and_parts (is_needed set d image s j) _ p.0 in
       (q.0, eqb-true v s.desc.version q.1, needed_are (suc j) subs came p.1)
+  needed_are j _ _ e = cc
 
   pub are_needed : (j : ℕ) (subs : List Sub) (came : List (Option ℕ)) → ComeAsNeeded set d image j subs came → come_as_needed set d image j subs came ≡ true
   are_needed j [] [] h = refl

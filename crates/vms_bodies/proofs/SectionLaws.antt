@@ -31,9 +31,8 @@ own_are set d v m =
     (record { more = flat_map (λ s. desc_cells (struct_cells set) s.desc) d.subs; is = rw (cells_first set.structs n) refl })
 
 pub defaults_at : (cells : List Cell) (c : ℕ) → get_or (map (λ (x : Cell). x.default) cells) c (pos 0) ≡ (get_or cells c no_cell).default
-defaults_at [] c = refl
-defaults_at (x ∷ cells) zero = refl
 defaults_at (x ∷ cells) (suc c) = defaults_at cells c
+defaults_at _ _ = refl
 
 pub defaults_long : (cells : List Cell) → length (map (λ (x : Cell). x.default) cells) ≡ length cells
 defaults_long [] = refl

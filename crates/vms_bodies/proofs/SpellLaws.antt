@@ -30,7 +30,7 @@ pub value_law : (kind : Kind) (bs : List ℕ) → length bs ≡ width kind → I
 value_law kind bs len ok good = value_taken kind bs len ok (not_bad kind good)
   where
     not_bad : (kind : Kind) → is_bad_bool kind bs ≡ false → IsBadBool kind bs → ⊥
-    not_bad Bool good x = omega (arith, ltb-false 1 (big_number 1 bs) good, x.1)
+    not_bad Bool good x = omega (arith, ltb-false 1 (big_number 1 bs) good)
     not_bad _ good x = let e = x.0 in cc
 
 -- ---- lists of slots
@@ -153,14 +153,12 @@ module _ (all : List Cell) (total : List ℤ → List Slot) (start : Progress) w
     number_spelled room cells cell kind caps done left p l =
         let h = l.holds in
         let z = value_of kind (take (width kind) p.rest) in
-        let numbers = slice_set p.numbers cell z in
         value_gives (Gives total (Spelled start) Anything (cell + 1) (done ++ Number cell kind caps ∷ [])) p (λ reason n. tt) kind reasons.CountTooLarge
         (exceeds caps) (slice_set p.numbers cell) (λ e1 e2 e3.
         let law = value_here kind h e1 e2 in
         let is : IsCell all cell kind caps = cell_in all done _ cell kind caps (rw (l.split p.numbers (same_refl cell p.numbers)) at (cells p.numbers)) in
-        let inside : cell < length p.numbers = omega (arith, is.within, h.long) in
-        let here : (m : List ℤ) → SameBelow (cell + 1) numbers m → get_or m cell (pos 0) ≡ z = λ m s.
-        s.same cell (omega arith) ∙ get_or-set_same p.numbers cell z (pos 0) inside in
+        let here : (m : List ℤ) → SameBelow (cell + 1) (slice_set p.numbers cell z) m → get_or m cell (pos 0) ≡ z = λ m s.
+        s.same cell (omega arith) ∙ get_or-set_same p.numbers cell z (pos 0) (omega arith) in
         added done h (record {
           front = sym (take-append-drop (width kind) p.rest);
           place = omega (arith, length-take-le (width kind) p.rest (ltb-false _ _ e1));

@@ -173,10 +173,9 @@ module _ (set : Set) (names : List (List ℕ)) (good : IsGood set) (k id : ℕ) 
       (its_spelled set s.desc w base good.structs sound n m body same spells) (its_fit set s.desc w base good.structs sound n m same fits)
       (its_hold set s.desc w base good.structs sound n m same rules)
       (λ c e.
-      let f : has_cell (part j w s) c ≡ false = rw (its_same set s.desc w base good.structs sound n m same) at e in
       pick_same n (own ++ parts came1) (own ++ parts came) all c
-      (names_append own (parts came1) c ∙ ap (λ (b : Bool). has_cell own c || b)
-      (names_next set d n c (own_cells set d) d.subs came j s w there new ∙ rw f refl)
+      (names_append own (parts came1) c ∙ ap (λ b. has_cell own c || b)
+      (names_next set d n c (own_cells set d) d.subs came j s w there new ∙ rw (rw (its_same set s.desc w base good.structs sound n m same) at e) refl)
       ∙ sym (names_append own (parts came) c)))
       refl
 
