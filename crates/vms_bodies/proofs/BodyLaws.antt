@@ -1,6 +1,5 @@
 -- The judge, in a body, does what the structural reader does.
-use Rattle.std.proofs.Common.{◌≡◌, ℕ, zero, suc, ◌<◌, List, [], ◌∷◌, length, slice_set, Some, refl, ap, arith}
-use Rattle.std.specs.List.{slice_get}
+use Rattle.vms_bodies.proofs.Facade.{◌≡◌, ℕ, zero, suc, ◌<◌, List, [], ◌∷◌, length, slice_set, Some, refl, arith, slice_get}
 
 pub at_set : {A : Type 0} (xs : List A) (k : ℕ) (x : A) → k < length xs → slice_get (slice_set xs k x) k ≡ Some x
 at_set [] k x h = absurd (omega arith)

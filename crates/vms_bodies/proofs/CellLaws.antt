@@ -1,16 +1,9 @@
 -- The numbers that are in the bytes of a description are its cells.
-use Rattle.std.proofs.Common.{◌≡◌, ℕ, zero, suc, ◌+◌, ◌<◌, ◌≤◌, List, ◌∷◌, ◌++◌, length, get_or, map, drop, ℤ, ap, ◌∙◌, refl, arith, append_assoc, []}
-use Rattle.std.proofs.Math.ListN.{get_or-map}
-use Rattle.vms_kinds.specs.declared.Item.{Item}
-use Rattle.vms_kinds.specs.declared.Item.TheVariants.{Num, Struct}
-use Rattle.vms_spec.specs.Sets.{Field, Desc}
-use Rattle.vms_spec.specs.Tests.{is_there}
-use Rattle.vms_spec.specs.Layout.{Slot, Number, Cell, no_cell, Meaning, no_meaning, no_desc, item_cells, item_slots, item_size, times, field_slots, slots_from, desc_slots, desc_cells, cells_from, field_cells, elements_of, capacity_of, counted, no_parent, first, meaning, meanings}
-use Rattle.vms_bodies.specs.Cells.{AreCells}
-use Rattle.vms_spec.proofs.Sizes.{size_same, elements_fit}
-use Rattle.vms_spec.proofs.Prefixes.{first_cells}
-use Rattle.vms_spec.proofs.Tables.{one_more}
-use Rattle.vms_spec.proofs.ListLaws.{drop_on}
+use Rattle.vms_bodies.proofs.Facade.{◌≡◌, ℕ, zero, suc, ◌+◌, ◌<◌, ◌≤◌, List, ◌∷◌, ◌++◌, length, get_or, map, drop, ℤ, ◌∙◌, refl, arith, append_assoc, []}
+use Rattle.vms_bodies.proofs.Facade.{get_or-map, Item, Num, Struct, Field, Desc, is_there, Slot, Number, Cell, no_cell, Meaning, no_meaning, no_desc}
+use Rattle.vms_bodies.proofs.Facade.{item_cells, item_slots, item_size, times, field_slots, slots_from, desc_slots, desc_cells, cells_from, field_cells}
+use Rattle.vms_bodies.proofs.Facade.{elements_of, capacity_of, counted, no_parent, first, meaning, meanings, AreCells, size_same, elements_fit, first_cells}
+use Rattle.vms_bodies.proofs.Facade.{one_more, drop_on}
 use Rattle.vms_bodies.proofs.Names.{if_there}
 
 -- from an index on, these cells are in a list

@@ -1,12 +1,7 @@
 -- What was taken as a description is a body of it.
-use Rattle.std.proofs.Common.{◌≡◌, ℕ, ◌+◌, ◌≤◌, List, [], ◌++◌, length, get_or, Ok, ℤ, pos, refl, ◌∙◌, subst, append-nil, false}
-use Rattle.vms_kinds.specs.Bytes.{IsBytes}
-use Rattle.vms_spec.specs.Sets.{Desc}
-use Rattle.vms_spec.specs.Layout.{Slot, Cell, meanings, desc_slots, desc_cells}
-use Rattle.vms_spec.specs.Images.{Spells, RulesHold, has_cell}
-use Rattle.vms_spec.specs.Taking.{Taken, Progress, takers, cells_of, take_desc}
-use Rattle.vms_spec.specs.Sound.{IsSound, AreSound}
-use Rattle.vms_bodies.specs.Cells.{AreCells}
+use Rattle.vms_bodies.proofs.Facade.{◌≡◌, ℕ, ◌+◌, ◌≤◌, List, [], ◌++◌, length, get_or, Ok, ℤ, pos, refl, ◌∙◌, append-nil, false, IsBytes, Desc, Slot, Cell}
+use Rattle.vms_bodies.proofs.Facade.{meanings, desc_slots, desc_cells, Spells, RulesHold, has_cell, Progress, takers, cells_of, take_desc, IsSound, AreSound}
+use Rattle.vms_bodies.proofs.Facade.{AreCells}
 use Rattle.vms_bodies.proofs.Places.{SameBelow}
 use Rattle.vms_bodies.proofs.WalkLaws.{ComesTo, set_desc_comes}
 use Rattle.vms_bodies.proofs.SpellLaws.{Spelled, Anything, FitSlots, spelled_keeps, spelled_first}

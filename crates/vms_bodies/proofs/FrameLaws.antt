@@ -1,7 +1,7 @@
 -- Readings: the allowed number of units doesn't matter, if it is enough.
-use Rattle.std.proofs.Common.{◌≡◌, ℕ, zero, suc, ◌+◌, ◌<◌, List, ◌++◌, length, drop, Option, refl, ◌∙◌, drop_at, arith, length-drop}
-use Rattle.vms_spec.specs.Readings.{Verdict, Goes, Faulty, Over, Reading, reading_from, reading_after}
-use Rattle.vms_bodies.specs.Whole.{reading_on, Advances}
+use Rattle.vms_bodies.proofs.Facade.{◌≡◌, ℕ, zero, suc, ◌+◌, ◌<◌, List, ◌++◌, length, drop, Option, refl, ◌∙◌, arith, length-drop, Verdict, Goes, Reading}
+use Rattle.vms_bodies.proofs.Facade.{reading_from, reading_after, reading_on, Advances}
+use Rattle.std.proofs.Common.{drop_at}
 
 -- what is read after a verdict depends only on the reading that goes on from there
 after_same : {S : Type 0} (go on : S → ℕ → List ℕ → Option (Reading S)) (at : ℕ) (rest : List ℕ) (v : Verdict S)
@@ -29,7 +29,5 @@ one_unit judge a state at rest =
 
 -- a unit that is spelled is read
 pub unit_read : {S : Type 0} (judge : S → List ℕ → Verdict S) → Advances judge → (state next : S) (at : ℕ) (unit rest : List ℕ)
-    → judge state (unit ++ rest) ≡ Goes (length unit) next
-    → reading_on judge state at (unit ++ rest) ≡ reading_on judge next (at + length unit) rest
-unit_read judge a state next at unit rest e =
-    one_unit judge a state at (unit ++ rest) ∙ rw (e, drop_at unit rest (length unit) refl) refl
+    → judge state (unit ++ rest) ≡ Goes (length unit) next → reading_on judge state at (unit ++ rest) ≡ reading_on judge next (at + length unit) rest
+unit_read judge a state next at unit rest e = one_unit judge a state at (unit ++ rest) ∙ rw (e, drop_at unit rest (length unit) refl) refl

@@ -1,24 +1,13 @@
 -- A section head that is read is spelled so.
-use Rattle.std.proofs.Common.{◌≡◌, ℕ, zero, suc, ◌+◌, ◌<◌, ◌≤◌, List, ◌∷◌, ◌++◌, length, get_or, slice_index, take, drop, Some, refl, sym, ap, ◌∙◌, arith, append_assoc, length-drop, Bool, true, false, if◌then◌else◌, ◌==◌, ◌&&◌, []}
-use Rattle.std.specs.List.{slice_get}
-use Rattle.std.specs.Str.{bytes_eq}
-use Rattle.std.proofs.lemmas.List.{drop-drop, take-append-drop, length-take-le, get_or-take}
-use Rattle.std.proofs.Math.Seq.{drop-cons}
-use Rattle.std.proofs.lemmas.Bool.{eqb-true, and_parts}
-use Rattle.byteorder.specs.Endian.{big_number, big_from, big_bytes}
-use Rattle.vms_kinds.specs.declared.Kind.TheVariants.{U32}
-use Rattle.vms_kinds.proofs.CodeLemmas.{again}
-use Rattle.vms_kinds.proofs.ByteLemmas.{bytes_first}
-use Rattle.vms_kinds.specs.Bytes.{IsBytes}
-use Rattle.vms_spec.specs.Sets.{Device}
-use Rattle.vms_spec.specs.Streams.{be32, section_head}
-use Rattle.vms_spec.specs.Lookup.{number_at, bytes_at, find_device}
+use Rattle.vms_bodies.proofs.Facade.{◌≡◌, ℕ, zero, suc, ◌+◌, ◌<◌, ◌≤◌, List, ◌∷◌, ◌++◌, length, get_or, take, drop, Some, refl, sym, ap, ◌∙◌, arith}
+use Rattle.vms_bodies.proofs.Facade.{append_assoc, length-drop, Bool, true, false, if◌then◌else◌, ◌==◌, ◌&&◌, [], slice_get, bytes_eq, drop-drop}
+use Rattle.vms_bodies.proofs.Facade.{take-append-drop, length-take-le, get_or-take, drop-cons, eqb-true, and_parts, big_number, big_from, big_bytes, U32, again}
+use Rattle.vms_bodies.proofs.Facade.{bytes_first, bytes_rest, IsBytes, Device, be32, section_head, number_at, bytes_at, find_device}
 
 -- ---- bytes
 
 pub is_bytes_drop : (n : ℕ) (xs : List ℕ) → IsBytes xs → IsBytes (drop n xs)
-is_bytes_drop (suc n) (x ∷ xs) h i = is_bytes_drop n xs (λ j. h (suc j)) i
-is_bytes_drop _ _ h i = h i
+is_bytes_drop n xs h = bytes_rest (take n xs) _ (rw take-append-drop h)
 
 pub four_low : (xs : List ℕ) → IsBytes xs → big_number 4 xs < 4294967296
 four_low xs ok = omega (arith, ok 0, ok 1, ok 2, ok 3)

@@ -1,15 +1,9 @@
 -- The parts of a section: where they begin, and what their slots are together.
-use Rattle.std.proofs.Common.{◌≡◌, ℕ, zero, suc, ◌+◌, ◌<◌, ◌≤◌, List, ◌∷◌, ◌++◌, length, map, slice_set, Option, Some, None, ℤ, refl, sym, ap, ◌∙◌, arith, append-nil, Bool, true, false, nat_lt, [], ◌||◌}
-use Rattle.std.specs.List.{flat_map, slice_get}
-use Rattle.std.proofs.Math.Bool.{or_assoc}
-use Rattle.std.proofs.lemmas.Bool.{ltb-true, ltb-false}
-use Rattle.std.proofs.Math.Seq.{drop-append_seam}
-use Rattle.vms_spec.specs.Sets.{Sub, Device, Set}
-use Rattle.vms_spec.specs.Layout.{Slot, Cell, desc_cells, device_cells, struct_cells}
-use Rattle.vms_spec.specs.Images.{sub_place, sub_slots, own_cells, came_slots, has_cell, AreVersionsOf, IsVersionOf}
+use Rattle.vms_bodies.proofs.Facade.{◌≡◌, ℕ, zero, suc, ◌+◌, ◌<◌, ◌≤◌, List, ◌∷◌, ◌++◌, length, map, slice_set, Option, Some, None, ℤ, refl, sym, ap, ◌∙◌}
+use Rattle.vms_bodies.proofs.Facade.{arith, append-nil, [], ◌||◌, flat_map, slice_get, or_assoc, cases_lt, ⊎_elim, drop-append_seam, Sub, Device, Set, Slot}
+use Rattle.vms_bodies.proofs.Facade.{Cell, desc_cells, device_cells, struct_cells, sub_place, sub_slots, own_cells, came_slots, has_cell, AreVersionsOf}
+use Rattle.vms_bodies.proofs.Facade.{IsVersionOf, or_turned, AreCells}
 use Rattle.vms_spec.specs.Streams
-use Rattle.vms_spec.proofs.ListLaws.{or_turned}
-use Rattle.vms_bodies.specs.Cells.{AreCells}
 use Rattle.vms_bodies.proofs.Names.{names_append}
 use Rattle.vms_bodies.proofs.CellLaws.{Stands, front_stands, rest_stands, desc_are, meanings_are, cells_first}
 
@@ -44,11 +38,9 @@ places_apart set from (t ∷ subs) (suc i) (suc j) s e lt = places_apart set (fr
 pub parts_apart : (set : Set) (from : ℕ) (subs : List Sub) (i j : ℕ) (s t : Sub) → slice_get subs i ≡ Some s → slice_get subs j ≡ Some t → (i ≡ j → ⊥) → (c : ℕ)
     → sub_place set from subs i ≤ c → c < sub_place set from subs i + sub_size set s → sub_place set from subs j ≤ c
     → sub_place set from subs j + sub_size set t ≤ c
-parts_apart set from subs i j s t e f ne c up lt le = go (nat_lt i j) refl
-  where
-    go : (b : Bool) → nat_lt i j ≡ b → sub_place set from subs j + sub_size set t ≤ c
-    go true l = absurd (omega (arith, places_apart set from subs i j s e (ltb-true i j l)))
-    go false l = let ge = ltb-false i j l in omega (arith, places_apart set from subs j i t f (omega arith))
+parts_apart set from subs i j s t e f ne c up lt le =
+    ⊎_elim (λ (l : i < j). absurd (omega (arith, places_apart set from subs i j s e l)))
+    (λ (l : j ≤ i). omega (arith, places_apart set from subs j i t f (omega arith))) (cases_lt i j)
 
 -- ---- cells
 
@@ -97,9 +89,7 @@ module _ (set : Set) (d : Device) (n : List ℤ) (P : List Slot → Type 0) wher
 
 -- what is named when one part more came
 pub names_next : (set : Set) (d : Device) (n : List ℤ) (c from : ℕ) (subs : List Sub) (came : List (Option ℕ)) (j : ℕ) (s : Sub) (v : ℕ)
-    → slice_get subs j ≡ Some s
-    → slice_get came j ≡ Some None
-    → has_cell (came_slots set d n from subs (slice_set came j (Some v))) c
+    → slice_get subs j ≡ Some s → slice_get came j ≡ Some None → has_cell (came_slots set d n from subs (slice_set came j (Some v))) c
     ≡ (has_cell (sub_slots set s v n (sub_place set from subs j)) c || has_cell (came_slots set d n from subs came) c)
 names_next set d n c from (t ∷ subs) (None ∷ came) zero s v e f =
     let a : t ≡ s = cc in rw (← a) (names_append (sub_slots set t v n from) (came_slots set d n _ subs came) c)
@@ -116,8 +106,7 @@ names_next set d n c from _ _ _ s v e f = cc
 -- ---- versions
 
 pub versions_next : (subs : List Sub) (came : List (Option ℕ)) (j : ℕ) (s : Sub) (v : ℕ) → slice_get subs j ≡ Some s → IsVersionOf s.desc v
-    → AreVersionsOf subs came
-    → AreVersionsOf subs (slice_set came j (Some v))
+    → AreVersionsOf subs came → AreVersionsOf subs (slice_set came j (Some v))
 versions_next [] came j s v e i h = cc
 versions_next (t ∷ subs) [] j s v e i h = absurd h
 versions_next (t ∷ subs) (None ∷ came) zero s v e i h = (let a : t ≡ s = cc in rw a i, h)

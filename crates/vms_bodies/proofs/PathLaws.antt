@@ -1,17 +1,10 @@
 -- The cell of a path is one of the device's.
-use Rattle.std.proofs.Common.{◌≡◌, ℕ, zero, suc, ◌+◌, ◌*◌, ◌<◌, ◌≤◌, List, ◌∷◌, length, length-append, Option, Some, None, refl, arith, Bool, true, false, nat_lt, if◌then◌else◌, []}
-use Rattle.std.specs.List.{flat_map, slice_get}
-use Rattle.std.proofs.lemmas.Bool.{ltb-true}
-use Rattle.std.proofs.lemmas.Option.{get_or_from_slice_get}
-use Rattle.vms_kinds.specs.declared.Item.{Item}
-use Rattle.vms_kinds.specs.declared.Item.TheVariants.{Num, Struct}
-use Rattle.vms_spec.specs.Sets.{Field, Desc, Sub, Device, Set}
-use Rattle.vms_spec.specs.Layout.{Cell, no_desc, first, item_size, capacity_of, place_of, field_cells, cells_from, desc_cells, struct_cells, device_cells}
-use Rattle.vms_spec.specs.Images.{sub_place, own_cells}
-use Rattle.vms_spec.specs.Places.{item_at, element_at, path_at, desc_of_sub, cell_in, cell_at, size_of_device, cell_count}
+use Rattle.vms_bodies.proofs.Facade.{◌≡◌, ℕ, zero, suc, ◌+◌, ◌*◌, ◌<◌, ◌≤◌, List, ◌∷◌, length, length-append, Option, Some, None, refl, arith, Bool, true}
+use Rattle.vms_bodies.proofs.Facade.{false, nat_lt, if◌then◌else◌, [], flat_map, slice_get, ltb-true, get_or_from_slice_get, Item, Num, Struct, Field, Desc}
+use Rattle.vms_bodies.proofs.Facade.{Sub, Device, Set, Cell, no_desc, first, item_size, capacity_of, place_of, field_cells, cells_from, desc_cells}
+use Rattle.vms_bodies.proofs.Facade.{struct_cells, device_cells, sub_place, own_cells, item_at, element_at, path_at, desc_of_sub, cell_in, cell_at}
+use Rattle.vms_bodies.proofs.Facade.{size_of_device, cell_count, field_size, element_room, first_at}
 use Rattle.vms_bodies.proofs.Places.{place_up}
-use Rattle.vms_spec.proofs.Sizes.{field_size, element_room}
-use Rattle.vms_spec.proofs.Tables.{first_at}
 
 -- ---- places
 

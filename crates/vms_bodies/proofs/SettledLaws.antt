@@ -1,17 +1,10 @@
 -- The slots of a description depend only on its own cells.
-use Rattle.std.proofs.Common.{◌≡◌, ℕ, zero, suc, ◌+◌, ◌*◌, ◌<◌, ◌≤◌, List, ◌∷◌, ◌++◌, length, length-append, get_or, map, drop, ℤ, pos, refl, sym, ap, ◌∙◌, arith, Bool, if◌then◌else◌, []}
-use Rattle.std.proofs.Math.ListN.{get_or-map}
-use Rattle.std.proofs.Math.Nat.{mul-le-mul_right}
-use Rattle.vms_kinds.specs.Codes.{width, residue}
-use Rattle.vms_kinds.specs.declared.Item.{Item}
-use Rattle.vms_kinds.specs.declared.Item.TheVariants.{Struct}
-use Rattle.vms_spec.specs.Sets.{Field, Desc}
-use Rattle.vms_spec.specs.Tests.{is_there}
-use Rattle.vms_spec.specs.Layout.{Slot, Rule, Cell, Meaning, no_meaning, no_desc, item_slots, item_size, times, field_slots, slots_from, desc_slots, desc_cells, cells_from, field_cells, place_of, numbers_of, no_field, kind_of, elements_of, capacity_of, counted, all_hold, no_parent, first, meaning, meanings}
-use Rattle.vms_spec.specs.Sound.{IsSound, AreSound, IsSoundField, AreSoundFields, IsEarlier}
+use Rattle.vms_bodies.proofs.Facade.{◌≡◌, ℕ, zero, suc, ◌+◌, ◌*◌, ◌<◌, ◌≤◌, List, ◌∷◌, length, length-append, get_or, map, drop, ℤ, pos, refl, sym, ap, arith}
+use Rattle.vms_bodies.proofs.Facade.{[], get_or-map, mul-le-mul_right, Item, Struct, Field, Desc, is_there, Cell, Meaning, no_meaning, no_desc, item_slots}
+use Rattle.vms_bodies.proofs.Facade.{item_size, times, field_slots, slots_from, desc_slots, desc_cells, cells_from, field_cells, place_of, numbers_of}
+use Rattle.vms_bodies.proofs.Facade.{elements_of, capacity_of, counted, no_parent, first, meaning, meanings, IsSound, AreSound, IsSoundField, AreSoundFields}
+use Rattle.vms_bodies.proofs.Facade.{IsEarlier, field_size, elements_fit, one_more}
 use Rattle.vms_bodies.proofs.Places.{there_same, elements_same, hold_same, place_next, place_end, place_up, place_below}
-use Rattle.vms_spec.proofs.Sizes.{field_size, elements_fit}
-use Rattle.vms_spec.proofs.Tables.{one_more}
 use Rattle.vms_bodies.proofs.WalkLaws.{drop_next, place_first, zero_plus}
 
 -- the numbers of the cells from low on and below end are the same
@@ -55,8 +48,7 @@ module _ (ms : List Meaning) (h : MeanSettled ms) where
     own n = numbers_of (cells_in ms) d n base
 
     pub field_settled : (i cell low end : ℕ) (f : Field) (n k : List ℤ) → IsSoundField d.fields i f → low ≤ base
-        → cell ≡ place_of (cells_in ms) d.fields 0 base d.fields i
-        → cell + length (field_cells (cells_in ms) d.fields i f) ≤ end → SameIn low end n k
+        → cell ≡ place_of (cells_in ms) d.fields 0 base d.fields i → cell + length (field_cells (cells_in ms) d.fields i f) ≤ end → SameIn low end n k
         → field_slots ms d.fields v (own k) k i cell f ≡ field_slots ms d.fields v (own n) n i cell f
     field_settled i cell low end f n k sound up here le s =
         let cs = cells_in ms in
@@ -72,8 +64,7 @@ module _ (ms : List Meaning) (h : MeanSettled ms) where
 
     fields_settled : (i cell low end : ℕ) (fs : List Field) (n k : List ℤ) → AreSoundFields d.fields i fs → low ≤ base
         → cell ≡ place_of (cells_in ms) d.fields 0 base d.fields i → drop i d.fields ≡ fs → cell + length (cells_from (cells_in ms) d.fields i fs) ≤ end
-        → SameIn low end n k
-        → slots_from ms d.fields v (own k) k i cell fs ≡ slots_from ms d.fields v (own n) n i cell fs
+        → SameIn low end n k → slots_from ms d.fields v (own k) k i cell fs ≡ slots_from ms d.fields v (own n) n i cell fs
     fields_settled i cell low end [] n k sound up here is le s = refl
     fields_settled i cell low end (f ∷ fs) n k sound up here is le s =
         let cs = cells_in ms in

@@ -1,8 +1,6 @@
 -- A reading slot by slot, with the slots computed anew after each number, does what the structural reader does.
-use Rattle.std.proofs.Common.{◌≡◌, ℕ, suc, ◌+◌, List, [], ◌∷◌, ◌++◌, length, drop, Ok, Err, ℤ, ap, ◌∙◌, arith, length-append}
-use Rattle.std.proofs.Math.Seq.{drop-append_seam}
-use Rattle.vms_spec.specs.Layout.{Slot, Number}
-use Rattle.vms_spec.specs.Taking.{Taken, Progress, Refusal, take_slot}
+use Rattle.vms_bodies.proofs.Facade.{◌≡◌, ℕ, suc, ◌+◌, List, [], ◌∷◌, ◌++◌, length, drop, Ok, Err, ℤ, ap, ◌∙◌, arith, length-append, drop-append_seam, Slot}
+use Rattle.vms_bodies.proofs.Facade.{Number, Taken, Progress, Refusal, take_slot}
 use Rattle.vms_bodies.proofs.Places.{same_refl}
 use Rattle.vms_bodies.proofs.WalkLaws.{Left, Gives, Keeping}
 

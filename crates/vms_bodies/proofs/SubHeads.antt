@@ -1,12 +1,6 @@
 -- Heads of subsections: what is spelled is read, and what is read is spelled.
-use Rattle.std.proofs.Common.{◌≡◌, ℕ, suc, ◌+◌, ◌≤◌, List, [], ◌∷◌, ◌++◌, length, get_or, drop, Some, refl, sym, ap, ◌∙◌, arith, append_assoc, Bool, true, false, if◌then◌else◌}
-use Rattle.std.specs.List.{slice_get}
-use Rattle.std.specs.Str.{bytes_eq}
-use Rattle.std.proofs.Math.Seq.{drop-cons}
-use Rattle.vms_kinds.specs.Bytes.{IsBytes}
-use Rattle.vms_spec.specs.Sets.{Sub}
-use Rattle.vms_spec.specs.Streams.{be32, sub_head}
-use Rattle.vms_spec.specs.Lookup.{number_at, bytes_at, find_sub}
+use Rattle.vms_bodies.proofs.Facade.{◌≡◌, ℕ, suc, ◌+◌, ◌≤◌, List, [], ◌∷◌, ◌++◌, length, get_or, drop, Some, refl, sym, ap, ◌∙◌, arith, append_assoc, Bool}
+use Rattle.vms_bodies.proofs.Facade.{true, false, if◌then◌else◌, slice_get, bytes_eq, drop-cons, IsBytes, Sub, be32, sub_head, number_at, bytes_at, find_sub}
 use Rattle.vms_bodies.proofs.HeadFound.{split_one, four_at, text_at, text_long}
 
 -- ---- what is found

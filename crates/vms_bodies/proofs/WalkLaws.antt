@@ -1,21 +1,17 @@
 -- What the structural reader takes, by the slots that it goes through: whatever each slot keeps, the whole keeps.
-use Rattle.std.proofs.Common.{◌≡◌, ◌≢◌, ℕ, zero, suc, ◌+◌, ◌*◌, ◌≤◌, List, ◌∷◌, ◌++◌, length, get_or, map, take, drop, Ok, Err, IfOk, ℤ, refl, sym, ap, ◌∙◌, arith, append_assoc, append-nil, length-append, Bool, true, false, not, if◌then◌else◌, nat_lt, slice_set, get_or-set_other, []}
-use Rattle.std.proofs.Math.Nat.{mul-le-mul_right}
-use Rattle.vms_kinds.specs.declared.Kind.{Kind}
-use Rattle.vms_kinds.specs.declared.Item.{Item}
-use Rattle.vms_kinds.specs.declared.Item.TheVariants.{Num, Equal, Unused, Struct}
-use Rattle.vms_kinds.specs.Codes.{width, value_of}
-use Rattle.vms_spec.specs.declared.Reason.{Reason}
+use Rattle.vms_bodies.proofs.Facade.{◌≡◌, ◌≢◌, ℕ, zero, suc, ◌+◌, ◌*◌, ◌≤◌, List, ◌∷◌, ◌++◌, length, get_or, map, take, drop, Ok, Err, IfOk, ℤ, refl, sym, ap}
+use Rattle.vms_bodies.proofs.Facade.{◌∙◌, arith, append_assoc, append-nil, length-append, Bool, true, false, not, if◌then◌else◌, nat_lt, slice_set}
+use Rattle.vms_bodies.proofs.Facade.{get_or-set_other, [], mul-le-mul_right, Kind, Item, Num, Equal, Unused, Struct, width, value_of, Reason, is_bad_bool}
+use Rattle.vms_bodies.proofs.Facade.{Field, Desc, is_there, Slot, Number, Constant, Filler, Rule, Meaning, no_meaning, no_desc, item_slots, item_size, times}
+use Rattle.vms_bodies.proofs.Facade.{field_slots, slots_from, desc_slots, desc_cells, cells_from, field_cells, place_of, numbers_of, elements_of, capacity_of}
+use Rattle.vms_bodies.proofs.Facade.{counted, all_hold, no_parent, first, meaning, meanings, Taken, Progress, Refusal, Taker, no_taker, takers, taker_of}
+use Rattle.vms_bodies.proofs.Facade.{cells_of, take_value, take_slot, take_item, take_items, take_field, take_fields, take_desc, check_rules, refuse, on}
+use Rattle.vms_bodies.proofs.Facade.{if_whole, ◌>>=◌, IsSound, AreSound, IsSoundField, AreSoundFields, IsEarlier, field_size, elements_fit}
 use Rattle.vms_spec.specs.declared.Reason.TheVariants as reasons
-use Rattle.vms_spec.specs.Lookup.{exceeds, is_bad_bool, same_number}
-use Rattle.vms_spec.specs.Sets.{Field, Desc}
-use Rattle.vms_spec.specs.Tests.{is_there}
-use Rattle.vms_spec.specs.Layout.{Slot, Number, Constant, Filler, Rule, Cell, Meaning, no_meaning, no_desc, item_slots, item_size, times, field_slots, slots_from, desc_slots, desc_cells, cells_from, field_cells, place_of, numbers_of, elements_of, capacity_of, counted, all_hold, no_parent, first, meaning, meanings}
-use Rattle.vms_spec.specs.Taking.{Taken, Progress, Refusal, Taker, no_taker, takers, taker_of, cells_of, take_value, take_slot, take_item, take_items, take_field, take_fields, take_desc, check_rules, refuse, on, if_whole, ◌>>=◌}
-use Rattle.vms_spec.specs.Sound.{IsSound, AreSound, IsSoundField, AreSoundFields, IsEarlier}
+use Rattle.vms_spec.specs.Lookup.{exceeds, same_number}
 use Rattle.vms_bodies.proofs.AboveLaws.{IsAbove, MeanAbove, above_none, above_append, above_less, items_above, fields_above, meanings_above}
 use Rattle.vms_bodies.proofs.Places.{SameBelow, same_refl, same_less, same_trans, own_same, there_same, elements_same, hold_same, place_next, place_end}
-use Rattle.vms_spec.proofs.Sizes.{field_size, elements_fit}
+pub use Rattle.vms_bodies.proofs.Places.{place_first}
 
 -- ---- what one slot gives
 
@@ -78,10 +74,6 @@ drop_next [] zero x more e = cc
 drop_next [] (suc i) x more e = cc
 drop_next (y ∷ ys) zero x more e = cc
 drop_next (y ∷ ys) (suc i) x more e = drop_next ys i x more e
-
-pub place_first : (cs : List (List Cell)) (fields : List Field) (i at : ℕ) (fs : List Field) → place_of cs fields i at fs 0 ≡ at
-place_first cs fields i at [] = refl
-place_first cs fields i at (f ∷ fs) = refl
 
 -- ---- readings by slots
 
@@ -326,5 +318,4 @@ module _ (total : List ℤ → List Slot) (Holds : ℕ → List Slot → Progres
         → Comes (base + length (desc_cells (cells_of (takers ds (length ds))) d)) (λ m. []) (take_desc (takers ds (length ds)) d v base p)
     set_desc_comes ds structs d v base p sound is h =
         desc_comes _ _ (pairs_first ds structs (length ds) (omega arith)) (meanings_above ds (length ds)) d v base _ p [] (λ m. []) sound refl
-        (λ m. above_none _)
-        (record { split = λ m s. is m ∙ sym (append-nil (desc_slots (meanings ds (length ds)) d v m base)); holds = h })
+        (λ m. above_none _) (record { split = λ m s. is m ∙ sym (append-nil (desc_slots (meanings ds (length ds)) d v m base)); holds = h })
