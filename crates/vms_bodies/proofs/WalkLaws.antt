@@ -1,21 +1,17 @@
 -- What the structural reader takes, by the slots that it goes through: whatever each slot keeps, the whole keeps.
-use Rattle.std.proofs.Common.{◌≡◌, ◌≢◌, ℕ, zero, suc, ◌+◌, ◌*◌, ◌≤◌, List, ◌∷◌, ◌++◌, length, get_or, map, take, drop, Ok, Err, IfOk, ℤ, refl, sym, ap, ◌∙◌, arith, append_assoc, append-nil, length-append, Bool, true, false, not, if◌then◌else◌, nat_lt, slice_set, get_or-set_other, []}
-use Rattle.std.proofs.Math.Nat.{mul-le-mul_right}
-use Rattle.vms_kinds.specs.declared.Kind.{Kind}
-use Rattle.vms_kinds.specs.declared.Item.{Item}
-use Rattle.vms_kinds.specs.declared.Item.TheVariants.{Num, Equal, Unused, Struct}
-use Rattle.vms_kinds.specs.Codes.{width, value_of}
-use Rattle.vms_spec.specs.declared.Reason.{Reason}
+use Rattle.vms_bodies.proofs.Facade.{◌≡◌, ◌≢◌, ℕ, zero, suc, ◌+◌, ◌*◌, ◌≤◌, List, ◌∷◌, ◌++◌, length, get_or, map, take, drop, Ok, Err, IfOk, ℤ, refl, sym, ap}
+use Rattle.vms_bodies.proofs.Facade.{◌∙◌, arith, append_assoc, append-nil, length-append, Bool, true, false, not, if◌then◌else◌, nat_lt, slice_set}
+use Rattle.vms_bodies.proofs.Facade.{get_or-set_other, [], mul-le-mul_right, Kind, Item, Num, Equal, Unused, Struct, width, value_of, Reason, is_bad_bool}
+use Rattle.vms_bodies.proofs.Facade.{Field, Desc, is_there, Slot, Number, Constant, Filler, Rule, Meaning, no_meaning, no_desc, item_slots, item_size, times}
+use Rattle.vms_bodies.proofs.Facade.{field_slots, slots_from, desc_slots, desc_cells, cells_from, field_cells, place_of, numbers_of, elements_of, capacity_of}
+use Rattle.vms_bodies.proofs.Facade.{counted, all_hold, no_parent, first, meaning, meanings, Taken, Progress, Refusal, Taker, no_taker, takers, taker_of}
+use Rattle.vms_bodies.proofs.Facade.{cells_of, take_value, take_slot, take_item, take_items, take_field, take_fields, take_desc, check_rules, refuse, on}
+use Rattle.vms_bodies.proofs.Facade.{if_whole, ◌>>=◌, IsSound, AreSound, IsSoundField, AreSoundFields, IsEarlier, field_size, elements_fit}
 use Rattle.vms_spec.specs.declared.Reason.TheVariants as reasons
-use Rattle.vms_spec.specs.Lookup.{exceeds, is_bad_bool, same_number}
-use Rattle.vms_spec.specs.Sets.{Field, Desc}
-use Rattle.vms_spec.specs.Tests.{is_there}
-use Rattle.vms_spec.specs.Layout.{Slot, Number, Constant, Filler, Rule, Cell, Meaning, no_meaning, no_desc, item_slots, item_size, times, field_slots, slots_from, desc_slots, desc_cells, cells_from, field_cells, place_of, numbers_of, elements_of, capacity_of, counted, all_hold, no_parent, first, meaning, meanings}
-use Rattle.vms_spec.specs.Taking.{Taken, Progress, Refusal, Taker, no_taker, takers, taker_of, cells_of, take_value, take_slot, take_item, take_items, take_field, take_fields, take_desc, check_rules, refuse, on, if_whole, ◌>>=◌}
-use Rattle.vms_spec.specs.Sound.{IsSound, AreSound, IsSoundField, AreSoundFields, IsEarlier}
+use Rattle.vms_spec.specs.Lookup.{exceeds, same_number}
 use Rattle.vms_bodies.proofs.AboveLaws.{IsAbove, MeanAbove, above_none, above_append, above_less, items_above, fields_above, meanings_above}
 use Rattle.vms_bodies.proofs.Places.{SameBelow, same_refl, same_less, same_trans, own_same, there_same, elements_same, hold_same, place_next, place_end}
-use Rattle.vms_spec.proofs.Sizes.{field_size, elements_fit}
+pub use Rattle.vms_bodies.proofs.Places.{place_first}
 
 -- ---- what one slot gives
 
@@ -59,7 +55,7 @@ IsFrom cell (Number c kind capacities) = cell ≤ c
 IsFrom cell slot = Unit {0}
 
 sets_from : (cell : ℕ) (slot : Slot) (old new : List ℤ) → IsFrom cell slot → Sets slot old new → SameBelow cell old new
-sets_from cell (Number c kind capacities) old new le s = record { same = λ k h. let ne : k ≢ c = omega (arith, le, h) in rw (s.1, get_or-set_other) refl }
+sets_from cell (Number c kind capacities) old new le s = record { same = λ k h. let ne : k ≢ c = omega arith in rw (s.1, get_or-set_other) refl }
 sets_from cell _ old new le s = rw s (same_refl cell old)
 
 -- the numbers below its cell are final
@@ -78,10 +74,6 @@ drop_next [] zero x more e = cc
 drop_next [] (suc i) x more e = cc
 drop_next (y ∷ ys) zero x more e = cc
 drop_next (y ∷ ys) (suc i) x more e = drop_next ys i x more e
-
-pub place_first : (cs : List (List Cell)) (fields : List Field) (i at : ℕ) (fs : List Field) → place_of cs fields i at fs 0 ≡ at
-place_first cs fields i at [] = refl
-place_first cs fields i at (f ∷ fs) = refl
 
 -- ---- readings by slots
 
@@ -115,7 +107,7 @@ module _ (total : List ℤ → List Slot) (Holds : ℕ → List Slot → Progres
 
   left_ap : {cell : ℕ} {p : Progress} {done : List Slot} {left left' : List ℤ → List Slot}
       → ((m : List ℤ) → SameBelow cell p.numbers m → left m ≡ left' m) → Left cell p done left → Left cell p done left'
-  left_ap {done = done} e l = record { split = λ m s. l.split m s ∙ ap (λ (xs : List Slot). done ++ xs) (e m s); holds = l.holds }
+  left_ap {done = done} e l = record { split = λ m s. l.split m s ∙ ap (λ xs. done ++ xs) (e m s); holds = l.holds }
 
   abbrev pub ComesTo : ℕ → (List ℤ → List Slot) → Taken → Type 0
   ComesTo cell left (Err e) = Fails e
@@ -161,20 +153,17 @@ module _ (total : List ℤ → List Slot) (Holds : ℕ → List Slot → Progres
   pairs_cells : (ts : List Taker) (ms : List Meaning) → Pairs ts ms → map (λ (m : Meaning). m.cells) ms ≡ cells_of ts
   pairs_cells [] [] p = refl
   pairs_cells (t ∷ ts) (m ∷ ms) p = let e = pairs_cells ts ms p.2 in let f : t.cells ≡ m.cells = p.0 in cc
-  pairs_cells [] (m ∷ ms) p = absurd p
-  pairs_cells (t ∷ ts) [] p = absurd p
+  pairs_cells _ _ p = absurd p
 
   pairs_append : (ts : List Taker) (ms : List Meaning) (t : Taker) (m : Meaning) → Pairs ts ms → (t.cells ≡ m.cells) → TakesSlots t m
       → Pairs (ts ++ t ∷ []) (ms ++ m ∷ [])
   pairs_append [] [] t m p e h = (e, h, tt)
   pairs_append (x ∷ ts) (y ∷ ms) t m p e h = (p.0, p.1, pairs_append ts ms t m p.2 e h)
-  pairs_append [] (y ∷ ms) t m p e h = absurd p
-  pairs_append (x ∷ ts) [] t m p e h = absurd p
+  pairs_append _ _ t m p e h = absurd p
 
   cells_get : (ts : List Taker) (j : ℕ) → (get_or ts j no_taker).cells ≡ get_or (cells_of ts) j []
-  cells_get [] j = refl
-  cells_get (t ∷ ts) zero = refl
   cells_get (t ∷ ts) (suc j) = cells_get ts j
+  cells_get _ _ = refl
 
   module _ (w : Keeping) where
     left_less : (cell further : ℕ) (p : Progress) (done : List Slot) (left : List ℤ → List Slot) → cell ≤ further → Up further left → Left cell p done left
@@ -202,8 +191,7 @@ module _ (total : List ℤ → List Slot) (Holds : ℕ → List Slot → Progres
     pair_at [] [] j p = record { takes = λ cell end p done left e up l. stay cell end left done p (omega arith) up l }
     pair_at (t ∷ ts) (m ∷ ms) zero p = p.1
     pair_at (t ∷ ts) (m ∷ ms) (suc j) p = pair_at ts ms j p.2
-    pair_at [] (m ∷ ms) j p = absurd p
-    pair_at (t ∷ ts) [] j p = absurd p
+    pair_at _ _ j p = absurd p
 
     module _ (ts : List Taker) (ms : List Meaning) (pairs : Pairs ts ms) (ab : MeanAbove ms) where
       item_comes : (item : Item) (caps : List ℕ) (cell end : ℕ) (p : Progress) (done : List Slot) (left : List ℤ → List Slot)
@@ -226,13 +214,12 @@ module _ (total : List ℤ → List Slot) (Holds : ℕ → List Slot → Progres
       items_comes item caps (suc n) cell end p done left e up l =
           let size = item_size (cells_of ts) item in
           let later : List ℤ → List Slot = λ m. times n (item_slots ms item caps m) (cell + size) size ++ left m in
-          let e' : end ≡ (cell + size) + n * size = grind arith in
           then_comes (cell + size) end later left (take_item ts item caps cell p) (λ q. take_items ts item caps size n (cell + size) q)
           (item_comes item caps cell (cell + size) p done later refl
           (λ m. above_append (cell + size) _ (left m) (items_above ms ab item caps m n (cell + size) size)
           (above_less (cell + size) end _ (omega arith) (up m)))
           (left_ap (λ m s. append_assoc (item_slots ms item caps m cell) _ (left m)) l))
-          (λ q done' l'. items_comes item caps n (cell + size) end q done' left e' up l')
+          (λ q done' l'. items_comes item caps n (cell + size) end q done' left (grind arith) up l')
 
       if_comes : (b : Bool) (cell end : ℕ) (t : Taken) (p : Progress) (done : List Slot) (slots left : List ℤ → List Slot) → cell ≤ end → Up end left
           → (Left cell p done (λ m. slots m ++ left m) → Comes end left t) → Left cell p done (λ m. (if b then slots m else []) ++ left m)
@@ -264,14 +251,7 @@ module _ (total : List ℤ → List Slot) (Holds : ℕ → List Slot → Progres
             (left_ap (λ m s.
             let now = numbers_of cs d m base in
             let h : (j : ℕ) → IsEarlier d.fields i j → now j ≡ old j = λ j x. own_same cs d base i cell j p.numbers m here s x in
-            ap (λ (cs : List (List Cell)).
-            (if is_there f.test f.since v (numbers_of cs d m base) no_parent
-            then times (elements_of f.count (numbers_of cs d m base)) (item_slots ms f.item caps m) cell (item_size cs f.item) else []) ++ left m)
-            (pairs_cells ts ms pairs)
-            ∙ ap (λ (b : Bool). (if b then times (elements_of f.count now) (item_slots ms f.item caps m) cell size else []) ++ left m)
-            (there_same d.fields i v f.since old now h f.test sound.test)
-            ∙ ap (λ (n : ℕ). (if b then times n (item_slots ms f.item caps m) cell size else []) ++ left m)
-            (elements_same d.fields i old now h f.count sound.count)) l)
+            rw (pairs_cells ts ms pairs, there_same d.fields i v f.since old now h f.test sound.test, elements_same d.fields i old now h f.count sound.count)) l)
 
         fields_comes : (i cell end : ℕ) (fs : List Field) (p : Progress) (done : List Slot) (left : List ℤ → List Slot)
             → AreSoundFields d.fields i fs → cell ≡ place_of (cells_of ts) d.fields 0 base d.fields i → drop i d.fields ≡ fs
@@ -283,17 +263,17 @@ module _ (total : List ℤ → List Slot) (Holds : ℕ → List Slot → Progres
             let size = length (field_cells cs d.fields i f) in
             let next = cell + size in
             let same : length (field_cells (map (λ (m : Meaning). m.cells) ms) d.fields i f) ≡ size =
-            ap (λ (cs : List (List Cell)). length (field_cells cs d.fields i f)) (pairs_cells ts ms pairs) in
+            ap (λ cs. length (field_cells cs d.fields i f)) (pairs_cells ts ms pairs) in
             let later : List ℤ → List Slot = λ m. slots_from ms d.fields v (own m) m (suc i) next fs ++ left m in
             let e' : end ≡ next + length (cells_from cs d.fields (suc i) fs) =
             omega (arith, length-append (field_cells cs d.fields i f) (cells_from cs d.fields (suc i) fs)) in
             let there : next ≡ place_of cs d.fields 0 base d.fields (suc i) =
-            omega (arith, place_next cs d.fields 0 base d.fields i f fs is, ap (λ (k : ℕ). length (field_cells cs d.fields k f)) (zero_plus i)) in
+            omega (arith, place_next cs d.fields 0 base d.fields i f fs is, ap (λ k. length (field_cells cs d.fields k f)) (zero_plus i)) in
             then_comes next end later left (take_field ts d v base i cell f p) (λ q. take_fields ts d v base (suc i) next fs q)
             (field_comes i cell next f p done later sound.0 here refl
             (λ m. above_append next _ (left m) (fields_above ms ab d.fields v (own m) m (suc i) next fs) (above_less next end _ (omega arith) (up m)))
             (left_ap (λ m s.
-            ap (λ (k : ℕ). (field_slots ms d.fields v (own m) m i cell f ++ slots_from ms d.fields v (own m) m (suc i) (cell + k) fs) ++ left m) same
+            ap (λ k. (field_slots ms d.fields v (own m) m i cell f ++ slots_from ms d.fields v (own m) m (suc i) (cell + k) fs) ++ left m) same
             ∙ append_assoc (field_slots ms d.fields v (own m) m i cell f) _ (left m)) l))
             (λ q done' l'. fields_comes (suc i) next end fs q done' left sound.1 there (drop_next d.fields i f fs is) e' up l')
 
@@ -313,9 +293,11 @@ module _ (total : List ℤ → List Slot) (Holds : ℕ → List Slot → Progres
             (λ q done' l'.
             one_other end end (Rule (all_hold d.validate v (numbers_of cs d q.numbers base))) done' left q (omega arith) tt up
             (left_ap (λ m s.
-            ap (λ (cs : List (List Cell)). Rule (all_hold d.validate v (numbers_of cs d m base)) ∷ left m) (pairs_cells ts ms pairs)
-            ∙ ap (λ (b : Bool). Rule b ∷ left m) (hold_same d.fields (length d.fields) v (numbers_of cs d q.numbers base) (numbers_of cs d m base)
-            (λ j x. own_same cs d base (length d.fields) end j q.numbers m last s x) d.validate sound.validate)) l'))
+            rw (
+              pairs_cells ts ms pairs,
+              hold_same d.fields (length d.fields) v (numbers_of cs d q.numbers base) (numbers_of cs d m base)
+                  (λ j x. own_same cs d base (length d.fields) end j q.numbers m last s x) d.validate sound.validate,
+            )) l'))
 
     pub pairs_first : (ds : List Desc) → AreSound ds → (k : ℕ) → k ≤ length ds → Pairs (takers ds k) (meanings ds k)
     unfolding first
@@ -324,7 +306,7 @@ module _ (total : List ℤ → List Slot) (Holds : ℕ → List Slot → Progres
         let pairs : Pairs (takers ds k) (meanings ds k) = pairs_first ds sound k (omega arith) in
         let d = get_or ds k no_desc in
         pairs_append (takers ds k) (meanings ds k) (taker_of (takers ds k) d) (meaning (meanings ds k) d) pairs
-        (ap (λ (cs : List (List Cell)). desc_cells cs d) (sym (pairs_cells (takers ds k) (meanings ds k) pairs)))
+        (rw (sym (pairs_cells (takers ds k) (meanings ds k) pairs)))
         (record {
           takes = λ cell end p done left e up l. desc_comes _ _ pairs (meanings_above ds k) d d.version cell end p done left
               (sound k (omega arith)) e up l;
@@ -336,5 +318,4 @@ module _ (total : List ℤ → List Slot) (Holds : ℕ → List Slot → Progres
         → Comes (base + length (desc_cells (cells_of (takers ds (length ds))) d)) (λ m. []) (take_desc (takers ds (length ds)) d v base p)
     set_desc_comes ds structs d v base p sound is h =
         desc_comes _ _ (pairs_first ds structs (length ds) (omega arith)) (meanings_above ds (length ds)) d v base _ p [] (λ m. []) sound refl
-        (λ m. above_none _)
-        (record { split = λ m s. is m ∙ sym (append-nil (desc_slots (meanings ds (length ds)) d v m base)); holds = h })
+        (λ m. above_none _) (record { split = λ m s. is m ∙ sym (append-nil (desc_slots (meanings ds (length ds)) d v m base)); holds = h })
