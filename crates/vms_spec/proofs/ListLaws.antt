@@ -42,9 +42,7 @@ both_below n a b = same_tests (nat_le n (min a b)) (nat_le n a && nat_le n b) fo
     back : (nat_le n a && nat_le n b) ≡ true → nat_le n (min a b) ≡ true
     back e =
         let p = and_parts (nat_le n a) (nat_le n b) e in
-        let l : n ≤ a = leb-true n a p.0 in
-        let m : n ≤ b = leb-true n b p.1 in
-        le-leb n (min a b) (omega arith)
+        le-leb n (min a b) (omega (arith, leb-true n b p.1, leb-true n a p.0))
 
 pub either_of : {C : Type 0} (a b : Bool) → (a || b) ≡ true → (a ≡ true → C) → (b ≡ true → C) → C
 either_of true b e f g = f refl
@@ -74,7 +72,7 @@ found_inside p i (x ∷ xs) k e = by (λ h. found_inside p (suc i) xs k h) (p x)
   where
     by : (position p (suc i) xs ≡ Some k → (suc i ≤ k) × (k - suc i < length xs)) → (t : Bool) → (if t then Some i else position p (suc i) xs) ≡ Some k → (i ≤ k) × (k - i < suc (length xs))
     by rest true e = let same : i ≡ k = cc in (omega arith, omega arith)
-    by rest false e = let h = rest e in (omega (arith, h.0), omega (arith, h.0, h.1))
+    by rest false e = let h = rest e in (omega arith, omega arith)
 
 pub one_of_both : (xs ys : List (List ℕ)) (n : List ℕ) → is_one_of (xs ++ ys) n ≡ (is_one_of xs n || is_one_of ys n)
 one_of_both [] ys n = refl
@@ -83,17 +81,15 @@ one_of_both (x ∷ xs) ys n = ap (λ (b : Bool). bytes_eq x n || b) (one_of_both
 -- ---- lists of a stream and of an image
 
 pub none_left : (came : List Bool) (k : ℕ) → AllCame came → slice_get came k ≡ Some false → ⊥
-none_left [] k all e = cc
-none_left (true ∷ came) zero all e = cc
 none_left (true ∷ came) (suc k) all e = none_left came k all e
 none_left (false ∷ came) k all e = absurd all
+none_left _ _ all e = cc
 
 pub versions_long : (subs : List Sub) (came : List (Option ℕ)) → AreVersionsOf subs came → length came ≡ length subs
 versions_long [] [] h = refl
-versions_long [] (o ∷ came) h = absurd h
-versions_long (s ∷ subs) [] h = absurd h
 versions_long (s ∷ subs) (None ∷ came) h = ap suc (versions_long subs came h)
 versions_long (s ∷ subs) (Some v ∷ came) h = ap suc (versions_long subs came h.1)
+versions_long _ _ h = absurd h
 
 -- a number doesn't shrink if digits are added
 pub natural_up : (n : ℕ) (bs : List ℕ) → n ≤ natural_from n bs

@@ -24,10 +24,8 @@ FieldsBelow k [] = Unit {0}
 FieldsBelow k (f ∷ fs) = ItemBelow k f.item × FieldsBelow k fs
 
 pub item_below : (k : ℕ) (item : Item) → uses_below k item ≡ true → ItemBelow k item
-item_below k (Num kind) e = tt
-item_below k (Equal kind z) e = tt
-item_below k (Unused n) e = tt
 item_below k (Struct j) e = ltb-true j k e
+item_below k _ e = tt
 
 pub all_below : (k : ℕ) (fs : List Field) → ((i : ℕ) → i < length fs → uses_below k (get_or fs i no_field).item ≡ true) → FieldsBelow k fs
 all_below k [] h = tt
@@ -38,10 +36,8 @@ all_below k (f ∷ fs) h = (item_below k f.item (h 0 (omega arith)), all_below k
 -- two lists have the same cells of structures of numbers below j
 module _ (j : ℕ) (cs cs' : List (List Cell)) (same : (i : ℕ) → i < j → get_or cs i [] ≡ get_or cs' i []) where
   pub item_cells_same : (item : Item) (caps : List ℕ) (z : ℤ) → ItemBelow j item → item_cells cs item caps z ≡ item_cells cs' item caps z
-  item_cells_same (Num kind) caps z h = refl
-  item_cells_same (Equal kind y) caps z h = refl
-  item_cells_same (Unused n) caps z h = refl
   item_cells_same (Struct i) caps z h = same i h
+  item_cells_same _ caps z h = refl
 
   pub field_cells_same : (all : List Field) (i : ℕ) (f : Field) → ItemBelow j f.item → field_cells cs all i f ≡ field_cells cs' all i f
   field_cells_same all i f h = ap (λ (l : List Cell). times (capacity_of f.count) (λ _. l) 0 0) (item_cells_same f.item (counted i all) f.default h)
@@ -56,11 +52,10 @@ module _ (j : ℕ) (cs cs' : List (List Cell)) (same : (i : ℕ) → i < j → g
   desc_cells_same d h = cells_from_same d.fields 0 d.fields h
 
   place_same : (all fs : List Field) (i at k : ℕ) → FieldsBelow j fs → place_of cs all i at fs k ≡ place_of cs' all i at fs k
-  place_same all [] i at k h = refl
-  place_same all (f ∷ fs) i at zero h = refl
   place_same all (f ∷ fs) i at (suc k) h =
       ap (λ (l : List Cell). place_of cs all (suc i) (at + length l) fs k) (field_cells_same all i f h.0)
       ∙ place_same all fs (suc i) (at + length (field_cells cs' all i f)) k h.1
+  place_same all _ i at _ h = refl
 
   -- the numbers of its fields
   pub own_same : (d : Desc) (numbers : List ℤ) (at : ℕ) → FieldsBelow j d.fields → numbers_of cs d numbers at ≡ numbers_of cs' d numbers at
@@ -88,9 +83,7 @@ readers_cells ds k = first_cells (λ (r : Reader). r.cells) reader (λ rs d. ref
 -- the tables of the first j and of the first k descriptions agree below j
 pub first_same : {B : Type 0} (f : List B → Desc → B) (ds : List Desc) (none : B) (j k i : ℕ) → j ≤ k → i < j
     → get_or (first f ds j) i none ≡ get_or (first f ds k) i none
-first_same f ds none j k i le lt =
-    let lt' : i < k = omega arith in
-    first_at f ds none j i lt ∙ sym (first_at f ds none k i lt')
+first_same f ds none j k i le lt = first_at f ds none j i lt ∙ sym (first_at f ds none k i (omega arith))
 
 -- ---- slots
 
@@ -102,10 +95,8 @@ module _ (j : ℕ) (ms ms' : List Meaning) (same : (i : ℕ) → i < j → get_o
   cells_row i h = row_same (λ (m : Meaning). m.cells) no_meaning ms ms' i (same i h)
 
   item_slots_same : (item : Item) (caps : List ℕ) (numbers : List ℤ) → ItemBelow j item → item_slots ms item caps numbers ≡ item_slots ms' item caps numbers
-  item_slots_same (Num kind) caps numbers h = refl
-  item_slots_same (Equal kind y) caps numbers h = refl
-  item_slots_same (Unused n) caps numbers h = refl
   item_slots_same (Struct i) caps numbers h = fun_ext (λ at. ap (λ (m : Meaning). m.slots numbers at) (same i h))
+  item_slots_same _ caps numbers h = refl
 
   slots_same : (all : List Field) (v : ℕ) (own : ℕ → ℕ) (numbers : List ℤ) (i at : ℕ) (fs : List Field) → FieldsBelow j fs
       → slots_from ms all v own numbers i at fs ≡ slots_from ms' all v own numbers i at fs
@@ -138,7 +129,6 @@ struct_slots ds k j numbers at h below =
 pub struct_cells_at : (ds : List Desc) (k j : ℕ) → j < k → FieldsBelow j (get_or ds j no_desc).fields
     → get_or (cells_in (meanings ds k)) j [] ≡ desc_cells (cells_in (meanings ds k)) (get_or ds j no_desc)
 struct_cells_at ds k j h below =
-    get_or-map (λ (m : Meaning). m.cells) (meanings ds k) j no_meaning
-    ∙ ap (λ (m : Meaning). m.cells) (first_at meaning ds no_meaning k j h)
+    get_or-map (λ (m : Meaning). m.cells) (meanings ds k) j no_meaning ∙ ap (λ (m : Meaning). m.cells) (first_at meaning ds no_meaning k j h)
     ∙ desc_cells_same j (cells_in (meanings ds j)) (cells_in (meanings ds k))
     (λ i lt. row_same (λ (m : Meaning). m.cells) no_meaning (meanings ds j) (meanings ds k) i (first_same meaning ds no_meaning j k i (omega arith) lt)) (get_or ds j no_desc) below
