@@ -19,9 +19,9 @@ or_else_none None y e = (refl, e)
 -- the element at a number is tested with that number
 pub answers_none : {X Y : Type 0} (f : ℕ → X → Option Y) (i : ℕ) (xs : List X) → first_answer f i xs ≡ None → (j : ℕ) (x : X) → slice_get xs j ≡ Some x → f (i + j) x ≡ None
 answers_none f i [] e j x h = cc
-answers_none f i (y ∷ xs) e zero x h = ap (λ (k : ℕ). f k x) (omega arith) ∙ ap (f i) (sym cc) ∙ (or_else_none (f i y) (first_answer f (suc i) xs) e).0
+answers_none f i (y ∷ xs) e zero x h = ap (λ k. f k x) (omega arith) ∙ ap (f i) (sym cc) ∙ (or_else_none (f i y) (first_answer f (suc i) xs) e).0
 answers_none f i (y ∷ xs) e (suc j) x h =
-    ap (λ (k : ℕ). f k x) (omega arith) ∙ answers_none f (suc i) xs (or_else_none (f i y) (first_answer f (suc i) xs) e).1 j x h
+    ap (λ k. f k x) (omega arith) ∙ answers_none f (suc i) xs (or_else_none (f i y) (first_answer f (suc i) xs) e).1 j x h
 
 -- ---- rules
 

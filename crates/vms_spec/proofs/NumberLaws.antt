@@ -28,4 +28,4 @@ within_all (most ∷ caps) z e = let h = or_parts (is_above z most) (exceeds cap
 
 pub not_exceeds : (caps : List ℕ) (z : ℤ) → AllByRecursion (λ most. z ≤ℤ pos most) caps → exceeds caps z ≡ false
 not_exceeds [] z h = refl
-not_exceeds (most ∷ caps) z h = ap (λ (b : Bool). b || exceeds caps z) (is_below z most h.0) ∙ not_exceeds caps z h.1
+not_exceeds (most ∷ caps) z h = rw (is_below z most h.0) (not_exceeds caps z h.1)

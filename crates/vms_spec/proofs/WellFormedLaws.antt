@@ -50,7 +50,7 @@ clean k d part rules e =
     field_clean : (i : ℕ) (f : Field) → slice_get d.fields i ≡ Some f → fields_fault k d part ≡ None → failing 1 (field_rules k d i f) (in_field part i) ≡ None
     field_clean i f h e =
         let plus : 0 + i ≡ i = omega arith in
-        subst (λ (i : ℕ). failing 1 (field_rules k d i f) (in_field part i) ≡ None) plus (answers_none (λ i f. failing 1 (field_rules k d i f) (in_field part i)) 0 d.fields e i f h)
+        rw plus at (answers_none (λ i f. failing 1 (field_rules k d i f) (in_field part i)) 0 d.fields e i f h)
 
 -- ---- tests and counts name earlier single numbers
 
@@ -88,8 +88,8 @@ earlier d k j lt e = go (slice_get d.fields j) refl e
         record {
           earlier = lt;
           there = slice_get_within d.fields j f h;
-          number = subst (λ (f : Field). IsNumber f.item) g (is_number f.item c.0);
-          one = subst (λ (f : Field). IsOne f.count) g (is_single f.count c.1);
+          number = rw g at (is_number f.item c.0);
+          one = rw g at (is_single f.count c.1);
         }
 
 names_earlier : (fields : List Field) (k : ℕ) (own : ℕ → Bool) → ((j : ℕ) → own j ≡ true → IsEarlier fields k j) → (t : Formula) → names_well own nobody t ≡ true → NamesEarlier fields k t
@@ -121,7 +121,7 @@ sound_fields fields i (f ∷ fs) h =
     (subst (λ (k : ℕ). IsSoundField fields k f) (omega arith) (h 0 f refl), sound_fields fields (suc i) fs (λ j g e. next j g (h (suc j) g e)))
   where
     next : (j : ℕ) (g : Field) → IsSoundField fields (i + suc j) g → IsSoundField fields (suc i + j) g
-    next j g s = let plus : i + suc j ≡ suc i + j = omega arith in subst (λ (k : ℕ). IsSoundField fields k g) plus s
+    next j g s = let plus : i + suc j ≡ suc i + j = omega arith in rw plus at s
 
 sound_validations : (fields : List Field) (ts : List Formula) → ((i : ℕ) (t : Formula) → slice_get ts i ≡ Some t → NamesEarlier fields (length fields) t) → AllByRecursion (NamesEarlier fields (length fields)) ts
 sound_validations fields [] h = tt
@@ -139,7 +139,7 @@ sound k d rules c = record {
       record { test = sound_test d j f.test p.0; count = sound_count d j f.count p.1 }
 
   at_zero : (j : ℕ) (f : Field) → IsSoundField d.fields j f → IsSoundField d.fields (0 + j) f
-  at_zero j f s = let plus : j ≡ 0 + j = omega arith in subst (λ (k : ℕ). IsSoundField d.fields k f) plus s
+  at_zero j f s = let plus : j ≡ 0 + j = omega arith in rw plus at s
 
   inside : (j : ℕ) → is_steady_in d j ≡ true → j < length d.fields
   inside j h = by_field (slice_get d.fields j) refl h
@@ -208,7 +208,7 @@ fit_fields structs all fields i (f ∷ fs) h =
   where
     next : (j : ℕ) (g : Field) → (defaults_well g.item g.default ≡ true) × (counts_well (counted (i + suc j) fields) g.default ≡ true)
         → (defaults_well g.item g.default ≡ true) × (counts_well (counted (suc i + j) fields) g.default ≡ true)
-    next j g p = let plus : i + suc j ≡ suc i + j = omega arith in (p.0, subst (λ (k : ℕ). counts_well (counted k fields) g.default ≡ true) plus p.1)
+    next j g p = let plus : i + suc j ≡ suc i + j = omega arith in (p.0, rw plus at p.1)
 
 fields_fit : (k : ℕ) (d : Desc) (rules : List Bool) → Clean k d rules → FieldsFit d.fields 0 d.fields
 fields_fit k d rules c = record {
@@ -217,7 +217,7 @@ fields_fit k d rules c = record {
       (p.0, at_zero j f p.1);
 } where
   at_zero : (j : ℕ) (f : Field) → counts_well (counted j d.fields) f.default ≡ true → counts_well (counted (0 + j) d.fields) f.default ≡ true
-  at_zero j f e = let plus : j ≡ 0 + j = omega arith in subst (λ (k : ℕ). counts_well (counted k d.fields) f.default ≡ true) plus e
+  at_zero j f e = let plus : j ≡ 0 + j = omega arith in rw plus at e
 
 constants_of : (k : ℕ) (d : Desc) (rules : List Bool) → Clean k d rules → ConstantsFit d.fields
 constants_of k d rules c = constants_fit d.fields (λ i f e. constant_fits f.item f.default (and_parts (defaults_well f.item f.default) (counts_well (counted i d.fields) f.default) (c.fields i f e).1.1.1.1.1.0).0)
@@ -238,14 +238,14 @@ first_of p i [] k x e t f = cc
 first_of p i (y ∷ xs) zero x e t f =
     let same : y ≡ x = cc in
     let plus : i ≡ i + 0 = omega arith in
-    ap (λ (b : Bool). if b then Some i else position p (suc i) xs) (ap p same ∙ t) ∙ ap (λ (k : ℕ). Some k) plus
+    ap (λ b. if b then Some i else position p (suc i) xs) (ap p same ∙ t) ∙ ap (λ k. Some k) plus
 first_of p i (y ∷ xs) (suc k) x e t f =
     let g = or_parts (p y) (list_any p (take k xs)) f in
-    ap (λ (b : Bool). if b then Some i else position p (suc i) xs) g.0 ∙ first_of p (suc i) xs k x e t g.1 ∙ ap (λ (k : ℕ). Some k) (omega arith)
+    rw (g.0) (first_of p (suc i) xs k x e t g.1 ∙ ap (λ (k : ℕ). Some k) (omega arith))
 
 some_names : (name : List ℕ) (subs : List Sub) → list_any (λ (s : Sub). bytes_eq s.desc.name name) subs ≡ is_one_of (map (λ (s : Sub). s.desc.name) subs) name
 some_names name [] = refl
-some_names name (s ∷ subs) = ap (λ (b : Bool). bytes_eq s.desc.name name || b) (some_names name subs)
+some_names name (s ∷ subs) = rw (some_names name subs)
 
 -- ---- the set
 
@@ -276,14 +276,13 @@ module _ (set : Set) (well : WellFormed set) where
   sub_clean k j d s e f =
       let plus : 0 + j ≡ j = omega arith in
       clean (length set.structs) s.desc (parts.Sub k j) (sub_rules d j s)
-      (subst (λ (i : ℕ). sub_fault (length set.structs) k d i s ≡ None) plus (answers_none (sub_fault (length set.structs) k d) 0 d.subs (device_parts k d e).1 j s f))
+      (rw plus at (answers_none (sub_fault (length set.structs) k d) 0 d.subs (device_parts k d e).1 j s f))
 
   -- structure m, which may not exist
   struct_fits : (structs : List (List OneCell)) → AllFit structs → (m : ℕ) (o : Option Desc) → slice_get set.structs m ≡ o → Fit (desc_cells structs (get_or set.structs m no_desc))
-  struct_fits structs all m None e = subst (λ (d : Desc). Fit (desc_cells structs d)) (sym (get_none set.structs m no_desc e)) tt
+  struct_fits structs all m None e = rw (get_none set.structs m no_desc e) tt
   struct_fits structs all m (Some d) e =
-      subst (λ (d : Desc). Fit (desc_cells structs d)) (sym (get_or_from_slice_get set.structs m d no_desc e))
-      (fit_fields structs all d.fields 0 d.fields (fields_fit m d (struct_rules set.structs m d) (struct_clean m d e)))
+      rw (get_or_from_slice_get set.structs m d no_desc e) (fit_fields structs all d.fields 0 d.fields (fields_fit m d (struct_rules set.structs m d) (struct_clean m d e)))
 
   structs_fit : (m : ℕ) → AllFit (first desc_cells set.structs m)
   unfolding first
@@ -311,22 +310,22 @@ module _ (set : Set) (well : WellFormed set) where
       let new = not-true (list_any (is_same_device d.desc.name d.instance) (take k set.devices)) (device_parts k d e).0.own.1.0 in
       first_of (is_same_device d.desc.name d.instance) 0 set.devices k d e
       (and_from (bytes_eq d.desc.name d.desc.name) (d.instance == d.instance) ((bytes_eq-Decides d.desc.name d.desc.name).1 refl) (eq-eqb d.instance d.instance refl)) new
-      ∙ ap (λ (k : ℕ). Some k) (omega arith)
+      ∙ ap (λ k. Some k) (omega arith)
 
   pub sub_found : (k j : ℕ) (d : Device) (s : Sub) → slice_get set.devices k ≡ Some d → slice_get d.subs j ≡ Some s → find_sub 0 d.subs s.desc.name ≡ Some j
   sub_found k j d s e f =
       let name = s.desc.name in
       let new = not-true (is_one_of (map (λ (e : Sub). e.desc.name) (take j d.subs)) name) (sub_clean k j d s e f).own.1.0 in
       let plus : 0 + j ≡ j = omega arith in
-      first_of (λ (s : Sub). bytes_eq s.desc.name name) 0 d.subs j s f ((bytes_eq-Decides name name).1 refl) (some_names name (take j d.subs) ∙ new) ∙ ap (λ (k : ℕ). Some k) plus
+      first_of (λ (s : Sub). bytes_eq s.desc.name name) 0 d.subs j s f ((bytes_eq-Decides name name).1 refl) (some_names name (take j d.subs) ∙ new) ∙ ap (λ k. Some k) plus
 
   struct_sound : (j : ℕ) → j < length set.structs → (o : Option Desc) → slice_get set.structs j ≡ o → IsSound (get_or set.structs j no_desc)
   struct_sound j lt None e = absurd (beyond set.structs j lt e)
   struct_sound j lt (Some d) e = subst IsSound (sym (get_or_from_slice_get set.structs j d no_desc e)) (sound j d (struct_rules set.structs j d) (struct_clean j d e))
 
   struct_constants : (j : ℕ) (o : Option Desc) → slice_get set.structs j ≡ o → ConstantsFit (get_or set.structs j no_desc).fields
-  struct_constants j None e = subst (λ (d : Desc). ConstantsFit d.fields) (sym (get_none set.structs j no_desc e)) tt
-  struct_constants j (Some d) e = subst (λ (d : Desc). ConstantsFit d.fields) (sym (get_or_from_slice_get set.structs j d no_desc e)) (constants_of j d (struct_rules set.structs j d) (struct_clean j d e))
+  struct_constants j None e = rw (get_none set.structs j no_desc e) tt
+  struct_constants j (Some d) e = rw (get_or_from_slice_get set.structs j d no_desc e) (constants_of j d (struct_rules set.structs j d) (struct_clean j d e))
 
   pub well_good : FitsHeads set → IsGood set
   well_good heads = record {
