@@ -77,11 +77,11 @@ module _ (all : List Cell) (total : List ℤ → List Slot) (n : List ℤ) (end 
   abbrev Here : ℕ → Progress → List Slot → (List ℤ → List Slot) → Type 0
   Here cell q done left = Left total (Spelling total n end tail) Never cell q done left
 
-  split_of : (cell : ℕ) (done : List Slot) (left : List ℤ → List Slot) (q : Progress) → Here cell q done left → total n ≡ done ++ left n
-  split_of cell done left q l = l.split n (record { same = λ c lt. l.holds.rest.same c (l.holds.high.below c lt) })
+  split_of : {cell : ℕ} {done : List Slot} {left : List ℤ → List Slot} {q : Progress} → Here cell q done left → total n ≡ done ++ left n
+  split_of l = l.split n (record { same = λ c lt. l.holds.rest.same c (l.holds.high.below c lt) })
 
-  rest_of : (cell : ℕ) (done : List Slot) (left : List ℤ → List Slot) (q : Progress) → Here cell q done left → Rest n end tail (left n) q
-  rest_of cell done left q l = rw (append_cancel_left done l.holds.more (left n) (sym l.holds.split ∙ split_of cell done left q l)) at l.holds.rest
+  rest_of : {cell : ℕ} {done : List Slot} {left : List ℤ → List Slot} {q : Progress} → Here cell q done left → Rest n end tail (left n) q
+  rest_of {done = done} {left = left} l = rw (append_cancel_left done l.holds.more (left n) (sym l.holds.split ∙ split_of l)) at l.holds.rest
 
   -- at a cell that was set to its number, and at each other
   number_same : (cell c : ℕ) (numbers : List ℤ) → cell < length numbers → ((cell == c) ≡ false → get_or n c (pos 0) ≡ get_or numbers c (pos 0))
@@ -91,27 +91,21 @@ module _ (all : List Cell) (total : List ℤ → List Slot) (n : List ℤ) (end 
       (λ (ne : c ≢ cell). h (ne_eqb cell c (λ e. ne (sym e))) ∙ sym (set_other numbers c cell (get_or n cell (pos 0)) ne)) (cases_eq c cell)
 
   -- a slot that is taken leaves the others
-  passed : (cell further : ℕ) (slot : Slot) (done : List Slot) (left : List ℤ → List Slot) (p : Progress) (q : Progress)
+  passed : {cell further : ℕ} {slot : Slot} {done : List Slot} {left : List ℤ → List Slot} {p q : Progress}
       → ((m : List ℤ) → IsAbove further (left m)) → Here cell p done (λ m. slot ∷ left m) → take_slot slot p ≡ Ok q → Rest n end tail (left n) q
       → Gives total (Spelling total n end tail) Never further (done ++ slot ∷ []) (take_slot slot p)
-  passed cell further slot done left p q up l is r =
-      rw is (record { more = left n; split = split_of cell done (λ m. slot ∷ left m) p l ∙ sym (append_assoc done (slot ∷ []) (left n)); high = up n; rest = r })
+  passed {slot = slot} {done = done} {left = left} up l is r =
+      rw is (record { more = left n; split = split_of l ∙ sym (append_assoc done (slot ∷ []) (left n)); high = up n; rest = r })
 
   number_spelling : length all ≤ length n → ((m : List ℤ) → AreCells all (total m)) → (cell : ℕ) (kind : Kind) (caps : List ℕ) (done : List Slot)
       → (left : List ℤ → List Slot) (p : Progress) → ((m : List ℤ) → IsAbove (cell + 1) (left m)) → Here cell p done (λ m. Number cell kind caps ∷ left m)
       → Gives total (Spelling total n end tail) Never (cell + 1) (done ++ Number cell kind caps ∷ []) (take_slot (Number cell kind caps) p)
   number_spelling room cells cell kind caps done left p up l =
-      let r = rest_of cell done (λ m. Number cell kind caps ∷ left m) p l in
+      let r = rest_of l in
       let z = get_or n cell (pos 0) in
       let inside : cell < length p.numbers =
-      omega (
-        arith,
-        r.long,
-        (cell_in all done (left n) cell kind caps
-            (rw (split_of cell done (λ m. Number cell kind caps ∷ left m) p l) at (cells n))).within,
-      ) in
-      passed cell (cell + 1) (Number cell kind caps) done left p
-      (record { numbers = slice_set p.numbers cell z; place = p.place + width kind; rest = r.spells.0 ++ tail }) up l
+      omega (arith, r.long, (cell_in all done (left n) cell kind caps (rw (split_of l) at (cells n))).within) in
+      passed {cell = cell} {further = cell + 1} {slot = Number cell kind caps} {done = done} {left = left} up l
       (value_taken kind reasons.CountTooLarge (exceeds caps) (slice_set p.numbers cell) z p _ r.fits.0 (not_exceeds caps z r.fits.1)
       (r.front ∙ rw (r.spells.1, append_assoc) refl))
       (record {
@@ -126,10 +120,10 @@ module _ (all : List Cell) (total : List ℤ → List Slot) (n : List ℤ) (end 
       })
 
   -- a slot without a cell changes no number
-  unchanged : (slot : Slot) (left : List Slot) (p : Progress) (size : ℕ) (bytes : List ℕ) → Rest n end tail (slot ∷ left) p
+  unchanged : {slot : Slot} {left : List Slot} {p : Progress} (size : ℕ) (bytes : List ℕ) → Rest n end tail (slot ∷ left) p
       → p.place + size + length bytes ≡ end → Spells n left bytes → FitSlots n left → RulesHold left → ((c : ℕ) → has_cell (slot ∷ left) c ≡ has_cell left c)
       → Rest n end tail left (record { numbers = p.numbers; place = p.place + size; rest = bytes ++ tail })
-  unchanged slot left p size bytes r long spells fits rules none =
+  unchanged size bytes r long spells fits rules none =
       record { bytes = bytes; front = refl; place = long; spells = spells; fits = fits; rules = rules; same = λ c e. r.same c (none c ∙ e); long = r.long }
 
   other_spelling : (cell : ℕ) (slot : Slot) (done : List Slot) (left : List ℤ → List Slot) (p : Progress) → IsOther total (Spelling total n end tail) Never slot
@@ -137,33 +131,25 @@ module _ (all : List Cell) (total : List ℤ → List Slot) (n : List ℤ) (end 
       → Gives total (Spelling total n end tail) Never cell (done ++ slot ∷ []) (take_slot slot p)
   other_spelling cell (Number c kind caps) done left p o up l = absurd o
   other_spelling cell (Constant kind z) done left p o up l =
-      let r = rest_of cell done (λ m. Constant kind z ∷ left m) p l in
-      passed cell cell (Constant kind z) done left p _ up l
+      let r = rest_of l in
+      passed {cell = cell} {further = cell} {slot = Constant kind z} {done = done} {left = left} up l
       (value_taken kind reasons.NotEqual (λ y. not (same_number y z)) (λ y. p.numbers) z p _ r.fits.0 (ap not (same_number_itself z))
       (r.front ∙ rw (r.spells.1, append_assoc) refl))
-      (unchanged (Constant kind z) (left n) p (width kind) r.spells.0 r
+      (unchanged (width kind) r.spells.0 r
       (omega (arith, ap length r.spells.1, length-append (code kind z) r.spells.0, length-code kind z)) r.spells.2 r.fits.1 r.rules (λ c. refl))
   other_spelling cell (Filler k) done left p o up l =
-      let r = rest_of cell done (λ m. Filler k ∷ left m) p l in
-      passed cell cell (Filler k) done left p _ up l (filler_taken r.spells.0 _ p k r.spells.2 (r.front ∙ rw (r.spells.3, append_assoc) refl))
-      (unchanged (Filler k) (left n) p k r.spells.1 r (omega (arith, ap length r.spells.3, length-append r.spells.0 r.spells.1))
+      let r = rest_of l in
+      passed {cell = cell} {further = cell} {slot = Filler k} {done = done} {left = left} up l (filler_taken r.spells.0 _ p k r.spells.2 (r.front ∙ rw (r.spells.3, append_assoc) refl))
+      (unchanged k r.spells.1 r (omega (arith, ap length r.spells.3, length-append r.spells.0 r.spells.1))
       r.spells.4 r.fits r.rules (λ c. refl))
   other_spelling cell (Rule b) done left p o up l =
-      let r = rest_of cell done (λ m. Rule b ∷ left m) p l in
-      passed cell cell (Rule b) done left p p up l (if_true b (Ok p) _ r.rules.0) (record {
-        bytes = r.bytes;
-        front = r.front;
-        place = r.place;
-        spells = r.spells;
-        fits = r.fits;
-        rules = r.rules.1;
-        same = r.same;
-        long = r.long;
-      })
+      let r = rest_of l in
+      passed {cell = cell} {further = cell} {slot = Rule b} {done = done} {left = left} up l (if_true b (Ok p) _ r.rules.0)
+      (record { bytes = r.bytes; front = r.front; place = r.place; spells = r.spells; fits = r.fits; rules = r.rules.1; same = r.same; long = r.long })
 
   pub spelling_keeps : length all ≤ length n → ((m : List ℤ) → AreCells all (total m)) → Keeping total (Spelling total n end tail) Never
   spelling_keeps room cells = record {
-    less = λ cell further done left p le up l. record { more = left n; split = split_of cell done left p l; high = up n; rest = rest_of cell done left p l };
+    less = λ cell further done left p le up l. record { more = left n; split = split_of l; high = up n; rest = rest_of l };
     number = λ cell kind caps done left p up l. number_spelling room cells cell kind caps done left p up l;
     other = λ cell slot done left p o up l. other_spelling cell slot done left p o up l;
   }
@@ -173,7 +159,7 @@ ends_so : (total : List ℤ → List Slot) (n : List ℤ) (end cell : ℕ) (tail
     → ComesTo total (Spelling total n end tail) Never cell (λ m. []) t → t ≡ Ok (record { numbers = n; place = end; rest = tail })
 ends_so total n end cell tail (Err e) c = absurd c
 ends_so total n end cell tail (Ok q) c =
-    let r = rest_of [] total n end tail cell c.0 (λ m. []) q c.1 in
+    let r = rest_of [] total n end tail c.1 in
     let numbers : q.numbers ≡ n = ext_get_or (pos 0) q.numbers n r.long (λ k lt. sym (r.same k refl)) in
     let place : q.place ≡ end = omega (arith, r.place, ap length r.spells) in
     rw (← numbers, ← place, ← (r.front ∙ ap (λ l. l ++ tail) r.spells)) refl

@@ -60,7 +60,8 @@ module _ (ms : List Meaning) (h : MeanSettled ms) where
         λ j x. own_in cs d base i cell j n k here (in_less low base cell end n k up (omega arith) s) x in
         let most : elements_of f.count (own n) * size ≤ capacity_of f.count * size =
         mul-le-mul_right {m = elements_of f.count (own n)} {n = capacity_of f.count} size (elements_fit f.count (own n)) in
-        rw (there_same d.fields i v f.since (own n) (own k) same f.test sound.test, elements_same d.fields i (own n) (own k) same f.count sound.count, items_settled f.item caps (elements_of f.count (own n)) cell low end n k (omega arith) (omega (arith, field_size cs d.fields i f)) s)
+        rw (there_same d.fields i v f.since (own n) (own k) same f.test sound.test, elements_same d.fields i (own n) (own k) same f.count sound.count)
+        (rw (items_settled f.item caps (elements_of f.count (own n)) cell low end n k (omega arith) (omega (arith, field_size cs d.fields i f)) s))
 
     fields_settled : (i cell low end : ℕ) (fs : List Field) (n k : List ℤ) → AreSoundFields d.fields i fs → low ≤ base
         → cell ≡ place_of (cells_in ms) d.fields 0 base d.fields i → drop i d.fields ≡ fs → cell + length (cells_from (cells_in ms) d.fields i fs) ≤ end
@@ -72,7 +73,8 @@ module _ (ms : List Meaning) (h : MeanSettled ms) where
         let parts = length-append (field_cells cs d.fields i f) (cells_from cs d.fields (suc i) fs) in
         let there : next ≡ place_of cs d.fields 0 base d.fields (suc i) =
         omega (arith, place_next cs d.fields 0 base d.fields i f fs is, ap (λ k. length (field_cells cs d.fields k f)) (zero_plus i)) in
-        rw (field_settled i cell low end f n k sound.0 up here (omega (arith, parts)) s, fields_settled (suc i) next low end fs n k sound.1 up there (drop_next d.fields i f fs is) (omega (arith, parts)) s)
+        rw (field_settled i cell low end f n k sound.0 up here (omega (arith, parts)) s)
+        (rw (fields_settled (suc i) next low end fs n k sound.1 up there (drop_next d.fields i f fs is) (omega (arith, parts)) s))
 
     pub desc_settled : (low end : ℕ) (n k : List ℤ) → IsSound d → low ≤ base → base + length (desc_cells (cells_in ms) d) ≤ end → SameIn low end n k
         → desc_slots ms d v k base ≡ desc_slots ms d v n base

@@ -42,7 +42,8 @@ picks : (n m : List ℤ) (xs : List Slot) (cells : List Cell) (c : ℕ) → leng
     → get_or (pick n xs 0 cells) c (pos 0) ≡ get_or m c (pos 0)
 picks n m xs cells c long h =
     ⊎_elim (λ (lt : c < length cells). pick_from n xs 0 c cells c (omega arith) lt ∙ h lt)
-    (λ (le : length cells ≤ c). get_or-eq_default (pick n xs 0 cells) (pos 0) (omega (arith, pick_long n xs 0 cells)) ∙ sym (get_or-eq_default m (pos 0) (omega arith))) (cases_lt c (length cells))
+    (λ (le : length cells ≤ c). get_or-eq_default (pick n xs 0 cells) (pos 0) (omega (arith, pick_long n xs 0 cells))
+    ∙ sym (get_or-eq_default m (pos 0) (omega arith))) (cases_lt c (length cells))
 
 -- if the same cells are named, the same is picked
 pick_same : (n : List ℤ) (xs ys : List Slot) (cells : List Cell) (c : ℕ) → has_cell xs c ≡ has_cell ys c
