@@ -1,14 +1,13 @@
 -- A text that was accepted is the one of its machine and images.
 use Rattle.vms_values_laws.proofs.Facade.{◌≡◌, ℕ, suc, ◌+◌, ◌<◌, Bool, true, false, ◌==◌, List, [], ◌∷◌, ◌++◌, length, get_or, map, Option, Some, None, ℤ, pos}
-use Rattle.vms_values_laws.proofs.Facade.{refl, sym, ap, ◌∙◌, arith, codes, zero, ◌≤◌, AllByRecursion, slice_get, eqb-true, leb-true, ext_get_or, Sub, Device}
-use Rattle.vms_values_laws.proofs.Facade.{Set, desc_cells, struct_cells, Image, own_cells, version_text, Element, elements_in, printed, sub_line, Entry}
-use Rattle.vms_values_laws.proofs.Facade.{OfMachine, OfSub, OfNumber, number_entries, subs_entries, devices_entries, entry_line, device_entries, entries}
-use Rattle.vms_values_laws.proofs.Facade.{part_reason, is_of_cell, has_line, IsShaped, AreShaped, AreUnsaid, AllUnsaid, IsAtVersion, AreAtVersions, IsMachineOf}
-use Rattle.vms_values_laws.proofs.Facade.{AreFine, Says, Demand, ForSection, ForNumber, demand_of, Taken, lines_of, Follows, Along, either_of, ValuesReason}
-use Rattle.vms_values_laws.proofs.Facade.{first_line, IsReady, AreReady, BadLine, ReadDevice, ValuesRead, Values, Bad, machine_named, answer_of, or_bad}
-use Rattle.vms_values_laws.proofs.Facade.{WellFormed, IsGood, device_parts, sub_clean}
-use Rattle.vms_values_laws.proofs.Numbers.{AreShort, of_numbers, cancel, number_same}
-use Rattle.vms_values_laws.proofs.DevicesCome.{AllShort}
+use Rattle.vms_values_laws.proofs.Facade.{append_cancel_left, refl, sym, ap, ◌∙◌, arith, codes, zero, ◌≤◌, AllByRecursion, slice_get, eqb-true, leb-true}
+use Rattle.vms_values_laws.proofs.Facade.{ext_get_or, Sub, Device, Set, desc_cells, struct_cells, Image, own_cells, version_text, Element, elements_in, printed}
+use Rattle.vms_values_laws.proofs.Facade.{sub_line, Entry, OfMachine, OfSub, OfNumber, number_entries, subs_entries, devices_entries, entry_line}
+use Rattle.vms_values_laws.proofs.Facade.{device_entries, entries, part_reason, is_of_cell, has_line, IsShaped, AreShaped, AreUnsaid, AllUnsaid, IsAtVersion}
+use Rattle.vms_values_laws.proofs.Facade.{AreAtVersions, IsMachineOf, AreFine, Says, Demand, ForSection, ForNumber, demand_of, Taken, lines_of, Follows, Along}
+use Rattle.vms_values_laws.proofs.Facade.{either_of, ValuesReason, first_line, IsReady, AreReady, BadLine, ReadDevice, ValuesRead, Values, Bad, machine_named}
+use Rattle.vms_values_laws.proofs.Facade.{answer_of, or_bad, WellFormed, IsGood, device_parts, sub_clean}
+use Rattle.vms_values_laws.proofs.Numbers.{AreShort, of_numbers, number_same}
 use Rattle.vms_values_laws.proofs.SecondPass.{as_bad, parts_from}
 use Rattle.vms_values_laws.proofs.AllCome.{images_of, short_are}
 use Rattle.vms_values_laws.proofs.BadLines.{fine_text, NoneBad}
@@ -147,8 +146,7 @@ numbers_came n (x ∷ xs) es = numbers_came n xs es
 
 not_both : (s : Sub) (v : ℕ) → sub_line s None ≡ sub_line s (Some v) → ⊥
 not_both s v e =
-    let f = cancel (codes " ") (version_text None) (version_text (Some v))
-    (cancel s.desc.name (codes " " ++ version_text None) (codes " " ++ version_text (Some v)) (cancel (codes "sub ") _ _ e)) in
+    let f = append_cancel_left (codes " ") (version_text None) _ (append_cancel_left s.desc.name _ _ (append_cancel_left (codes "sub ") _ _ e)) in
     cc
 
 one_came : (s t : Sub) (o p : Option ℕ) → s ≡ t → IsAtVersion s o → IsAtVersion t p → sub_line s o ≡ sub_line t p → o ≡ p
@@ -194,9 +192,9 @@ module _ (set : Set) (d : Device) (image : Image) where
 same_image : (i j : Image) → i.version ≡ j.version → i.came ≡ j.came → i.numbers ≡ j.numbers → i ≡ j
 same_image i j e f g = let same : i ≡ record { version = j.version; came = j.came; numbers = j.numbers } = rw (← e, ← f, ← g) refl in same
 
-device_same : (set : Set) (d : Device) (image image' : Image) → IsShaped set d image → IsShaped set d image' → AreShort image.numbers → AreShort image'.numbers
+device_same : (set : Set) (d : Device) (image image' : Image) → IsShaped set d image → IsShaped set d image'
     → AreUnsaid set d image → AreUnsaid set d image' → Match (inside_of set d image) (inside_of set d image') → image ≡ image'
-device_same set d image image' a b short short' u u' m =
+device_same set d image image' a b u u' m =
     let es = inside_of set d image in
     let fs = inside_of set d image' in
     let long : length image.numbers ≡ length image'.numbers = a.cells ∙ sym b.cells in
@@ -206,7 +204,8 @@ device_same set d image image' a b short short' u u' m =
   where
     by_line : (c : ℕ) → c < length image.numbers → c < length image'.numbers → (t : Bool) → has_line (inside_of set d image) c ≡ t
         → get_or image.numbers c (pos 0) ≡ get_or image'.numbers c (pos 0)
-    by_line c lt lt' true t = agree image.numbers image'.numbers short short' _ _ (whole_of set d image a.versions) (whole_of set d image' b.versions) m c t
+    by_line c lt lt' true t =
+        agree image.numbers _ (short_are _ a.short) (short_are _ b.short) _ _ (whole_of set d image a.versions) (whole_of set d image' b.versions) m c t
     by_line c lt lt' false t = u c lt t ∙ sym (u' c lt' (sym (line_same (inside_of set d image) (inside_of set d image') m c) ∙ t))
 
 begins_new : (set : Set) (devices : List Device) (images : List Image) → BeginsNew (devices_entries set devices images)
@@ -214,17 +213,17 @@ begins_new set (d ∷ devices) (image ∷ images) = refl
 begins_new set _ _ = tt
 
 pub devices_same : (set : Set) (devices : List Device) (images images' : List Image) → AreShaped set devices images → AreShaped set devices images'
-    → AllShort images → AllShort images' → AllUnsaid set devices images → AllUnsaid set devices images'
-    → Match (devices_entries set devices images) (devices_entries set devices images') → images ≡ images'
-devices_same set [] [] [] a b s s' u u' m = refl
-devices_same set [] (i ∷ images) images' a b s s' u u' m = absurd a
-devices_same set [] [] (i ∷ images') a b s s' u u' m = absurd b
-devices_same set (d ∷ devices) [] images' a b s s' u u' m = absurd a
-devices_same set (d ∷ devices) (i ∷ images) [] a b s s' u u' m = absurd b
-devices_same set (d ∷ devices) (i ∷ images) (j ∷ images') a b s s' u u' m =
+    → AllUnsaid set devices images → AllUnsaid set devices images' → Match (devices_entries set devices images) (devices_entries set devices images')
+    → images ≡ images'
+devices_same set [] [] [] a b u u' m = refl
+devices_same set [] (i ∷ images) images' a b u u' m = absurd a
+devices_same set [] [] (i ∷ images') a b u u' m = absurd b
+devices_same set (d ∷ devices) [] images' a b u u' m = absurd a
+devices_same set (d ∷ devices) (i ∷ images) [] a b u u' m = absurd b
+devices_same set (d ∷ devices) (i ∷ images) (j ∷ images') a b u u' m =
     let p = parted (inside_of set d i) (devices_entries set devices images) (inside_of set d j) (devices_entries set devices images')
     (whole_inside set d i a.0.versions) (whole_inside set d j b.0.versions) (begins_new set devices images) (begins_new set devices images') m.2 in
-    rw (device_same set d i j a.0 b.0 s.0 s'.0 u.0 u'.0 p.inside, devices_same set devices images images' a.1 b.1 s.1 s'.1 u.1 u'.1 p.rest) refl
+    rw (device_same set d i j a.0 b.0 u.0 u'.0 p.inside, devices_same set devices images images' a.1 b.1 u.1 u'.1 p.rest) refl
 
 -- ---- A text in which no line is bad says a state; the second pass finds its first bad part, or the state is ready.
 

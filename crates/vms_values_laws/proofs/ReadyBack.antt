@@ -8,6 +8,7 @@ use Rattle.vms_values_laws.proofs.Facade.{number_line, text_of, sub_line, sectio
 use Rattle.vms_values_laws.proofs.Facade.{subs_entries, device_entries, devices_entries, entries, if_not, sub_holds, AreFine, has_line, IsShaped, AreShaped}
 use Rattle.vms_values_laws.proofs.Facade.{AreUnsaid, AllUnsaid, AreAtVersions, IsText, Says, AreCounted, walks, Desc, Sub, Device, Set, is_needed, ComeAsNeeded}
 use Rattle.vms_values_laws.proofs.Facade.{IsReady, rules_split, elements_slots, entry_law, text_is}
+use Rattle.vms_values_laws.proofs.SaidLaws.{if_holds, all_both, lines_both}
 use Rattle.vms_values_laws.proofs.Rights.{line_number, fits_reason, IsRight, AreRight, AreBare, IsNumberOf, IsNoNumber, view, no_bytes, none_outside, right_by}
 use Rattle.vms_values_laws.proofs.Rights.{with_slot}
 use Rattle.vms_values_laws.proofs.Numbers.{AreShort, of_numbers, short_within}
@@ -15,7 +16,6 @@ use Rattle.vms_values_laws.proofs.Coming.{short}
 use Rattle.vms_values_laws.proofs.SecondPass.{desc_rules}
 use Rattle.vms_values_laws.proofs.AllCome.{are_short}
 use Rattle.vms_values_laws.proofs.ReadyParts.{AreGood, sub_cells}
-use Rattle.vms_values_laws.proofs.SaidLaws.{all_both, lines_both}
 use Rattle.vms_spec.specs.Layout as slots
 use Rattle.vms_spec.specs.declared.ValuesReason.TheVariants as reasons
 
@@ -74,16 +74,12 @@ module _ (n : List ℤ) (short : AreShort n) where
       let r : AreRight n at (v.cell ∷ cells_of xs) all = rw (v.cells, v.bytes) at a in
       let later = right_said (at + 1) xs u.1
       (right_later n at v.cell (cells_of xs) all (slots_of xs) (λ k le h. no_bytes x v.cell (slots_of xs) k x.present (λ e. omega (arith, u.0)) h) r) in
-      rw (v.lines) (either x.counted (right_line x xs v at u.0 u.1 (r.right 0 at (omega arith) (omega arith))) later))
+      rw (v.lines) (if_holds (λ l. AreFine (of_numbers n l)) x.counted (x ∷ printed xs) (printed xs)
+      (right_line x xs v at u.0 u.1 (r.right 0 at (omega arith) (omega arith)), later) later))
       (λ (v : IsNoNumber x xs).
       let r : AreRight n at (cells_of xs) (slots_of (x ∷ xs)) = rw (v.cells) at a in
       rw (v.lines) (right_said at xs (rw (v.numbers) at up)
       (record { right = λ c k lt e. right_by (λ bare. v.bytes k ∙ bare) (r.right c k lt e) }))) (view x xs)
-    where
-      either : (b : Bool) → line_reason (OfNumber x n) (number_line n x) ≡ None → AreFine (of_numbers n (printed xs))
-          → AreFine (of_numbers n (if b then x ∷ printed xs else printed xs))
-      either true h later = (h, later)
-      either false h later = later
 
 pub bare_have : (n : List ℤ) (at : ℕ) (xs : List Element) → CountsUp at (numbers_in xs) → AreBare n at (cells_of xs) (λ k. false) → have_defaults n xs ≡ true
 bare_have n at [] up b = refl

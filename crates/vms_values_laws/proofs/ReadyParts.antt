@@ -1,15 +1,15 @@
 -- Images that may be written, part by part, and the first bad part.
 use Rattle.vms_values_laws.proofs.Facade.{◌≡◌, ℕ, suc, ◌+◌, ◌<◌, ◌≤◌, Bool, true, false, List, ◌∷◌, ◌++◌, length, get_or, Option, Some, None, ℤ, refl, sym, ap}
 use Rattle.vms_values_laws.proofs.Facade.{◌∙◌, arith, [], map, flat_map, slice_get, AllByRecursion, or_from, get_or_append_left, get_or-append-add}
-use Rattle.vms_values_laws.proofs.Facade.{length-append, ValuesReason, or_else, Desc, Sub, Device, Set, Cell, no_cell, Slot, desc_cells, struct_cells}
-use Rattle.vms_values_laws.proofs.Facade.{device_cells, Image, own_cells, own_slots, sub_slots, came_slots, image_slots, RulesHold, AreVersionsOf, is_needed}
-use Rattle.vms_values_laws.proofs.Facade.{ComeAsNeeded, IsReady, DefaultsFit, rules_append, rules_are, elements_in, Entry, OfSub, number_entries, subs_entries}
-use Rattle.vms_values_laws.proofs.Facade.{device_entries, if_not, rules_hold, have_defaults, sub_holds, came_well, part_reason, AreFine, has_line, IsShaped}
-use Rattle.vms_values_laws.proofs.Facade.{AreUnsaid, IsAtVersion, AreAtVersions, walks, elements_slots, BadLine, or_bad}
+use Rattle.vms_values_laws.proofs.Facade.{length-append, or_else_none, ValuesReason, or_else, Desc, Sub, Device, Set, Cell, no_cell, Slot, desc_cells}
+use Rattle.vms_values_laws.proofs.Facade.{struct_cells, device_cells, Image, own_cells, own_slots, sub_slots, came_slots, image_slots, RulesHold, AreVersionsOf}
+use Rattle.vms_values_laws.proofs.Facade.{is_needed, ComeAsNeeded, IsReady, DefaultsFit, rules_append, rules_are, elements_in, Entry, OfSub, number_entries}
+use Rattle.vms_values_laws.proofs.Facade.{subs_entries, device_entries, if_not, rules_hold, have_defaults, sub_holds, came_well, part_reason, AreFine, has_line}
+use Rattle.vms_values_laws.proofs.Facade.{IsShaped, AreUnsaid, IsAtVersion, AreAtVersions, walks, elements_slots, BadLine, or_bad}
 use Rattle.vms_values_laws.proofs.SecondPass.{desc_rules, as_bad, parts_from}
 use Rattle.vms_values_laws.proofs.Numbers.{AreShort}
 use Rattle.vms_values_laws.proofs.Rights.{AreRight, right_none, right_both, AreBare, none_outside, said_right, have_each, fit_parts}
-use Rattle.vms_values_laws.proofs.SaidLaws.{lines_both}
+use Rattle.vms_values_laws.proofs.SaidLaws.{lines_both, if_none}
 use Rattle.vms_spec.specs.declared.ValuesReason.TheVariants as reasons
 use Rattle.vms_spec.specs.Layout as slots
 
@@ -30,14 +30,8 @@ pub good_both : (set : Set) (es fs : List Entry) → AreGood set (es ++ fs) → 
 good_both set [] fs h = (tt, h)
 good_both set (e ∷ es) fs h = let p = good_both set es fs h.1 in ((h.0, p.0), p.1)
 
-if_none : (b : Bool) (reason : ValuesReason) → if_not b reason ≡ None → b ≡ true
-if_none true reason e = refl
-if_none false reason e = cc
-
 two_none : (a b : Bool) → or_else (if_not a reasons.Invalid) (if_not b reasons.Needed) ≡ None → (a ≡ true) × (b ≡ true)
-two_none true true e = (refl, refl)
-two_none true false e = cc
-two_none false b e = cc
+two_none a b e = let p = or_else_none _ _ e in (if_none a _ p.0, if_none b _ p.1)
 
 module _ (set : Set) (n : List ℤ) (short : AreShort n) where
   abbrev cells : Desc → List Cell

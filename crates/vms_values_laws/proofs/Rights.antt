@@ -1,11 +1,12 @@
 -- Which numbers have fine lines, and which entries.
-use Rattle.vms_values_laws.proofs.Facade.{◌≡◌, ℕ, Bool, true, false, not, List, ◌∷◌, ◌++◌, length, get_or, drop, Some, None, ℤ, pos, refl, sym, ap, ◌∙◌, codes}
-use Rattle.vms_values_laws.proofs.Facade.{append_assoc, if◌then◌else◌, ◌||◌, [], ◌⊎◌, inl, inr, zero, suc, ◌+◌, ◌-◌, ◌<◌, ◌≤◌, ◌&&◌, ◌==◌, subst, arith, ⊎_elim}
-use Rattle.vms_values_laws.proofs.Facade.{signed_decimal, eq-eqb, ne_eqb, and_parts, or_parts, drop-append_seam, get_or_append_left, get_or-append-add}
-use Rattle.vms_values_laws.proofs.Facade.{length-append, cases_lt, or_else, exceeds, same_number, Cell, no_cell, Slot, FitsCell, has_cell, in_range}
+use Rattle.vms_values_laws.proofs.Facade.{◌≡◌, ℕ, Bool, true, false, List, ◌∷◌, ◌++◌, length, get_or, drop, Some, None, ℤ, pos, refl, sym, ap, ◌∙◌, codes}
+use Rattle.vms_values_laws.proofs.Facade.{not-true, append_assoc, if◌then◌else◌, ◌||◌, [], ◌⊎◌, inl, inr, zero, suc, ◌+◌, ◌-◌, ◌<◌, ◌≤◌, ◌&&◌, ◌==◌, subst}
+use Rattle.vms_values_laws.proofs.Facade.{arith, ⊎_elim, signed_decimal, eq-eqb, ne_eqb, and_parts, or_parts, drop-append_seam, get_or_append_left}
+use Rattle.vms_values_laws.proofs.Facade.{get_or-append-add, length-append, cases_lt, or_else_none, same_number, Cell, no_cell, Slot, FitsCell, has_cell}
 use Rattle.vms_values_laws.proofs.Facade.{begins_with, is_same, ranged, ranges, or_second, same_number_is, within_all, not_exceeds, IsShort, number_holds}
 use Rattle.vms_values_laws.proofs.Facade.{Number, Element, What, number_line, printed, OfNumber, if_not, number_reason, element_reason, line_reason}
 use Rattle.vms_values_laws.proofs.Facade.{have_defaults, DefaultsFit, names_append, cells_of, slots_of, numbers_in, CountsUp, AreFine, has_line}
+use Rattle.vms_values_laws.proofs.SaidLaws.{if_none, if_holds}
 use Rattle.vms_values_laws.proofs.Numbers.{AreShort, of_numbers}
 use Rattle.vms_spec.specs.declared.ValuesReason.TheVariants as reasons
 use Rattle.vms_spec.specs.Layout as slots
@@ -33,29 +34,23 @@ pub record IsFitting (cell : Cell) (present : Bool) (z : ℤ) : Type 0 where
   pub fits : FitsCell cell z
   pub absent : present ≡ false → z ≡ cell.default
 
-by_tests : (cell : Cell) (present : Bool) (z : ℤ) (a b c : Bool) → in_range cell.kind z ≡ a → exceeds cell.capacities z ≡ b
-    → (present || same_number z cell.default) ≡ c
-    → or_else (if_not a reasons.Number) (or_else (if_not (not b) reasons.Count) (if_not c reasons.Absent)) ≡ None → IsFitting cell present z
-by_tests cell present z true false true e f g h =
-    record {
-      fits = (ranges cell.kind z e, within_all cell.capacities z f);
-      absent = λ p. same_number_is z cell.default (or_second present (same_number z cell.default) g p);
-    }
-by_tests cell present z _ _ _ e f g h = cc
-
 pub reason_fits : (cell : Cell) (present : Bool) (z : ℤ) → number_reason cell present z ≡ None → IsFitting cell present z
 reason_fits cell present z h =
-    by_tests cell present z (in_range cell.kind z) (exceeds cell.capacities z) (present || same_number z cell.default) refl refl refl h
+    let p = or_else_none _ _ h in
+    let q = or_else_none _ _ p.1 in
+    record {
+      fits = (ranges cell.kind z (if_none _ _ p.0), within_all cell.capacities z (not-true _ (if_none _ _ q.0)));
+      absent = λ e. same_number_is z cell.default (or_second present _ (if_none _ _ q.1) e);
+    }
 
 pub fits_reason : (cell : Cell) (present : Bool) (z : ℤ) → IsFitting cell present z → number_reason cell present z ≡ None
 fits_reason cell present z f =
     let e = ranged cell.kind z f.fits.0 in
     let g = not_exceeds cell.capacities z f.fits.1 in
-    rw (e, g) (here present f.absent)
-  where
-    here : (p : Bool) → (p ≡ false → z ≡ cell.default) → if_not (p || same_number z cell.default) reasons.Absent ≡ None
-    here true h = refl
-    here false h = rw (is_same z cell.default (h refl)) refl
+    rw (e, g) (here present f.absent) where
+      here : (p : Bool) → (p ≡ false → z ≡ cell.default) → if_not (p || same_number z cell.default) reasons.Absent ≡ None
+      here true h = refl
+      here false h = rw (is_same z cell.default (h refl)) refl
 
 -- ---- When the numbers of a part of a state are right: each fits its cell, and is the default if it has no byte.
 
@@ -159,13 +154,11 @@ view x xs = by_what x.what refl
 
 no_line : (n : List ℤ) (x : Element) (xs : List Element) (k : ℕ) (b : Bool) → (x.cell ≡ k → ⊥) → has_line (of_numbers n xs) k ≡ false
     → has_line (of_numbers n (if b then x ∷ xs else xs)) k ≡ false
-no_line n x xs k true ne h = rw (ne_eqb x.cell k ne) h
-no_line n x xs k false ne h = h
+no_line n x xs k b ne h = if_holds (λ l. has_line (of_numbers n l) k ≡ false) b (x ∷ xs) xs (rw (ne_eqb x.cell k ne) h) h
 
 pub no_bytes : (x : Element) (cell : Cell) (ss : List Slot) (k : ℕ) (b : Bool) → (x.cell ≡ k → ⊥) → has_cell ss k ≡ false
     → has_cell (if b then slots.Number x.cell cell.kind cell.capacities ∷ ss else ss) k ≡ false
-no_bytes x cell ss k true ne h = rw (ne_eqb x.cell k ne) h
-no_bytes x cell ss k false ne h = h
+no_bytes x cell ss k b ne h = if_holds (λ ss. has_cell ss k ≡ false) b _ ss (rw (ne_eqb x.cell k ne) h) h
 
 -- cells before those of the elements and after them have no line and no byte
 pub none_outside : (n : List ℤ) (at : ℕ) (xs : List Element) → CountsUp at (numbers_in xs) → (k : ℕ) → (at ≤ k → at + length (cells_of xs) ≤ k)
@@ -199,9 +192,7 @@ module _ (n : List ℤ) (short : AreShort n) where
       }
     where
       hidden : (b : Bool) → has_cell (if b then slots.Number x.cell cell.kind cell.capacities ∷ ss else ss) k ≡ false → b ≡ false
-      hidden true h = no (sym (eq-eqb x.cell k at) ∙ (or_parts (x.cell == k) (has_cell ss k) h).0) where
-        no : true ≡ false → true ≡ false
-        no e = e
+      hidden true h = sym (eq-eqb x.cell k at) ∙ (or_parts (x.cell == k) (has_cell ss k) h).0
       hidden false h = refl
 
   bare_later : (b : Bool) (at : ℕ) (kind : Rattle.vms_kinds.specs.declared.Kind.Kind) (caps : List ℕ) (ss : List Slot) (k : ℕ)

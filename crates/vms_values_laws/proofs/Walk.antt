@@ -50,7 +50,7 @@ module _ (steps : List (ℕ × ℕ)) (text : List ℕ) (present : Bool) where
 
   pub wrapped_dotted : (xs : List Element) → wrapped steps text present (map dotted xs) ≡ wrapped steps (text ++ codes ".") present xs
   wrapped_dotted xs =
-      printed_map dotted (under steps text present) (under steps (text ++ codes ".") present) (λ x. rw (append_assoc text (codes ".") x.name) refl) (λ x. refl) xs
+      printed_map dotted (under steps text present) _ (λ x. rw (append_assoc text (codes ".") x.name) refl) (λ x. refl) xs
 
 -- ---- Reading the fields of a description, beside its elements.
 
@@ -119,7 +119,7 @@ module _ (total : List ℤ → List Element) (start : Standing) (low : ℕ) wher
         → Came end [] said left (r.reads path present at p)
 
   none_reads : ReadsShape no_reader no_shape
-  none_reads = record { shape_comes = λ steps path present at end p said left e room a. stay total start low at end p said left (omega arith) a }
+  none_reads = record { shape_comes = λ steps path present at end p said left e room a. stay total start low (omega arith) a }
 
   module _ (rs : List Reader) (ss : List Shape) (cells : cells_in ss ≡ cells_of rs)
       (reads : (j : ℕ) → ReadsShape (get_or rs j no_reader) (get_or ss j no_shape)) where
@@ -141,7 +141,7 @@ module _ (total : List ℤ → List Element) (start : Standing) (low : ℕ) wher
     item_comes f (Struct j) caps steps path present at end p said left e room a =
         (reads j).shape_comes steps (path ++ codes ".") present at end p said left (omega (arith, ap length (cells_get rs j))) room
         (at_left total start low (λ m g. ap (λ (l : List Element). l ++ left m) (wrapped_dotted steps path present ((get_or ss j no_shape).elements m at))) a)
-    item_comes f _ caps steps path present at end p said left e room a = stay total start low at end p said left (omega arith) a
+    item_comes f _ caps steps path present at end p said left e room a = stay total start low (omega arith) a
 
     module _ (f : Field) (stand : Stand) (caps : List ℕ) (steps : List (ℕ × ℕ)) (path : List ℕ) (present : Bool) where
       abbrev size : ℕ
@@ -160,9 +160,8 @@ module _ (total : List ℤ → List Element) (start : Standing) (low : ℕ) wher
           → Came end [] said left (read_elements rs f caps (path ++ f.name) (present && stand.there) at size e m p)
       unfolding brackets
       items_comes many e k zero at end p said left c le is room a =
-          stay total start low at end p said left (omega arith)
-          (at_left total start low (λ n g. ap (λ (l : List Element). l ++ left n)
-          (past_count steps path present f stand (part n) size e k at (omega (arith, c)))) a)
+          stay total start low (omega arith)
+          (at_left total start low (λ n g. ap (λ l. l ++ left n) (past_count steps path present f stand (part n) size e k at (omega (arith, c)))) a)
       items_comes many e zero (suc m) at end p said left c le is room a = absurd (omega arith)
       items_comes many e (suc k) (suc m) at end p said left c le is room a =
           let b = present && stand.there in
@@ -241,7 +240,7 @@ module _ (total : List ℤ → List Element) (start : Standing) (low : ℕ) wher
           → end ≡ at + length (cells_from (cells_of rs) d.fields i fs) → end ≤ length start.numbers
           → Here at p said (λ m. lines (elements_from ss d.fields v (own m) m i at fs) ++ left m)
           → Came end [] said left (read_fields rs d v path present base i at fs p)
-      fields_comes i at end [] p said left sound here is known e room a = stay total start low at end p said left (omega arith) a
+      fields_comes i at end [] p said left sound here is known e room a = stay total start low (omega arith) a
       fields_comes i at end (f ∷ fs) p said left sound here is known e room a =
           let cs = cells_of rs in
           let next = at + length (field_cells cs d.fields i f) in
