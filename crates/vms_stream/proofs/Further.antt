@@ -8,8 +8,7 @@ use Rattle.vms_stream.specs.Faults.{IsWhole, Why, Fails, Cut, Wrong}
 use Rattle.vms_stream.specs.StreamLaws.{FurtherLaw}
 
 whole_on : (set : Set) (u : List Piece) (rest more : List ℕ) (x : Piece) → IsWhole set u rest x → IsWhole set u (rest ++ more) x
-whole_on set u rest more x w =
-    record { may = w.may; more = w.more ++ more; there = ap (λ (l : List ℕ). l ++ more) w.there ∙ append_assoc (spell x) w.more more }
+whole_on set u rest more x w = record { may = w.may; more = w.more ++ more; there = rw (w.there) (append_assoc (spell x) w.more more) }
 
 why_on : (set : Set) (names : List (List ℕ)) (u : List Piece) (rest more : List ℕ) (section : Option ℕ) (reason : Reason) (size : ℕ)
     → (reason ≡ reasons.Truncated → ⊥)
@@ -23,7 +22,7 @@ further_holds set names input more place section reason size other f = record {
   units = f.units;
   rest = f.rest ++ more;
   front = f.front;
-  whole = ap (λ (l : List ℕ). l ++ more) f.whole ∙ append_assoc (spelled f.units) f.rest more;
+  whole = rw (f.whole) (append_assoc (spelled f.units) f.rest more);
   long = f.long;
   why = why_on set names f.units f.rest more section reason size other f.why;
 }

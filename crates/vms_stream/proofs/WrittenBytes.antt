@@ -123,9 +123,7 @@ head_bytes id instance version name p short =
     )
 
 sub-head-bytes : (name : List ℕ) (v : ℕ) → AreBytes name → length name < 256 → AreBytes (sub_head name v)
-sub-head-bytes name v p short =
-    let named : AreBytes (length name ∷ name) = (short, p) in
-    (omega arith, bytes_append (length name ∷ name) (be32 v) named (be32_bytes v))
+sub-head-bytes name v p short = (omega arith, bytes_append (length name ∷ name) (be32 v) (short, p) (be32_bytes v))
 
 pub foot_bytes : (id : ℕ) → AreBytes (foot id)
 foot_bytes id = (omega arith, be32_bytes id)
@@ -133,8 +131,6 @@ foot_bytes id = (omega arith, be32_bytes id)
 module _ (set : Set) where
   subs-bytes : (d : Device) (image : Image) (at : ℕ) (subs : List Sub) (came : List (Option ℕ)) → AreNamedSubs subs
       → AreBytes (written_subs set d image at subs came)
-  subs-bytes d image at [] came named = tt
-  subs-bytes d image at (s ∷ subs) [] named = tt
   subs-bytes d image at (s ∷ subs) (None ∷ came) named = subs-bytes d image (at + length (desc_cells (struct_cells set) s.desc)) subs came named.1
   subs-bytes d image at (s ∷ subs) (Some v ∷ came) named =
       let next = at + length (desc_cells (struct_cells set) s.desc) in
@@ -143,6 +139,7 @@ module _ (set : Set) where
       (sub-head-bytes s.desc.name v named.0.octets named.0.short)
       (zeroed-bytes image.numbers (sub_slots set s v image.numbers at)))
       (subs-bytes d image next subs came named.1)
+  subs-bytes d image at _ _ named = tt
 
   section-bytes : (d : Device) (image : Image) (id : ℕ) → IsNamed d.desc.name → AreNamedSubs d.subs → AreBytes (written_section set d image id)
   section-bytes d image id named subs =
@@ -157,11 +154,10 @@ module _ (set : Set) where
       (foot_bytes id)
 
   sections-bytes : (id : ℕ) (devices : List Device) (images : List Image) → AreNamed devices → AreBytes (written_sections set id devices images)
-  sections-bytes id [] images named = tt
-  sections-bytes id (d ∷ devices) [] named = tt
   sections-bytes id (d ∷ devices) (image ∷ images) named =
       bytes_append (written_section set d image id) (written_sections set (suc id) devices images)
       (section-bytes d image id named.0 named.1) (sections-bytes (suc id) devices images named.2)
+  sections-bytes id _ _ named = tt
 
   config-bytes : (machine : Option (List ℕ)) → IfSome machine AreBytes → AreBytes (optional configuration machine)
   config-bytes None p = tt
@@ -189,7 +185,7 @@ module _ (set : Set) where
 every_bytes : (name : List ℕ) → list_all is_name_byte name ≡ true → AreBytes name
 every_bytes [] e = tt
 every_bytes (b ∷ name) e =
-    let p = and_parts (is_name_byte b) (list_all is_name_byte name) e in let low = name_byte_low b p.0 in (omega (arith, low), every_bytes name p.1)
+    let p = and_parts (is_name_byte b) (list_all is_name_byte name) e in let low = name_byte_low b p.0 in (omega arith, every_bytes name p.1)
 
 pub is_named : (most : ℕ) (name : List ℕ) → most < 256 → is_name most name ≡ true → IsNamed name
 is_named most name lt e =
@@ -207,8 +203,7 @@ sub_named device name d e =
     let most : length device ≤ 100 = leb-true (length device) 100 (and_parts (nat_le 1 (length device)) (nat_le (length device) 100) q.0).1 in
     let r = and_parts (nat_le 1 (length rest) && nat_le (length rest) 64) (list_all is_name_byte rest) p.1 in
     let tail : length rest ≤ 64 = leb-true (length rest) 64 (and_parts (nat_le 1 (length rest)) (nat_le (length rest) 64) r.0).1 in
-    let whole : (device ++ 47 ∷ []) ++ rest ≡ name = subst (λ (l : List ℕ). l ++ rest ≡ name) front (take-append-drop (length device + 1) name) in
-    subst IsNamed whole (record {
+    subst IsNamed (rw front at (take-append-drop (length device + 1) name)) (record {
       octets = bytes_append (device ++ 47 ∷ []) rest (bytes_append device (47 ∷ []) own.octets (omega arith, tt)) (every_bytes rest r.1);
       short = omega (arith, length-append (device ++ 47 ∷ []) rest, length-append device (47 ∷ []));
     })

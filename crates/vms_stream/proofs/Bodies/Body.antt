@@ -72,7 +72,7 @@ module _ (k : ℕ) (known : Known) where
       → first_row (alone (Field k slot) known x) ≡ two_rows known.section bad other reason
       → seen_in (Field k slot) known (if cut then Cut else Whole x n) ≡ by_tests cut bad other x n reason
   tested slot true bad other x n reason e = refl
-  tested slot false bad other x n reason e = ap (λ (r : Option (Option ℕ × Reason)). seen_by r x n) e ∙ rows_tested known.section bad other x n reason
+  tested slot false bad other x n reason e = rw e (rows_tested known.section bad other x n reason)
 
   module _ (p : Progress) where
     value_seen : (slot : Slot) (kind : Kind) (unit : ℤ → Piece) (reason : Reason) (fails : ℤ → Bool)
@@ -88,7 +88,7 @@ module _ (k : ℕ) (known : Known) where
         λ z b. if_whole w p (if b then refuse p reasons.BadBool w else if fails z then refuse p reason w else on w (put (unit z) p.numbers) p) in
         ap (taken_by p) (tested slot cut (is_truth kind && is_above z 1) (fails z) (unit z) w reason (rows z))
         ∙ tests_taken p cut (is_truth kind && is_above z 1) (fails z) (unit z) w reason
-        ∙ ap (of z) (bad_same kind bytes) ∙ ap (λ (z : ℤ). of z (is_bad_bool kind bytes)) (raw_same kind bytes)
+        ∙ ap (of z) (bad_same kind bytes) ∙ ap (λ z. of z (is_bad_bool kind bytes)) (raw_same kind bytes)
 
     pub slot_seen : (slot : Slot) → IsUnit slot → taken_by p (seen (Field k slot) known p.rest) ≡ take_slot slot p
     slot_seen (NumberSlot c kind caps) u = value_seen (NumberSlot c kind caps) kind (Number c kind) reasons.CountTooLarge (exceeds caps) (λ z. refl)
@@ -145,10 +145,7 @@ module _ (set : Set) (names : List (List ℕ)) (state : State) (d : Device) (ima
 
     -- by the slots that are left
     by_slots : (i : ℕ) (p : Progress) (slots : List Slot) → drop i (total p.numbers) ≡ slots → judge g (in_body p.numbers i) p.rest ≡ judged i p slots
-    by_slots i p slots h =
-        let s = in_body p.numbers i in
-        ap (λ (v : Verdict State). if g.holds s then v else Faulty (Some k) reasons.Invalid 0) (same i p (unit_at (g.due s) p.rest))
-        ∙ ap (judged i p) (ap (drop i) (part_now p.numbers i) ∙ h)
+    by_slots i p slots h = rw (same i p (unit_at (g.due (in_body p.numbers i)) p.rest)) (ap (judged i p) (ap (drop i) (part_now p.numbers i) ∙ h))
 
     so : (i : ℕ) (p : Progress) (slots : List Slot) → drop i (total p.numbers) ≡ slots → goes_on i p ≡ reads p (judged i p slots)
     so i p slots h = one i p ∙ ap (reads p) (by_slots i p slots h)
@@ -158,7 +155,7 @@ module _ (set : Set) (names : List (List ℕ)) (state : State) (d : Device) (ima
         → beyond i (part_at set (in_body numbers i) (Inside k id part i)) ≡ suc i
     counted numbers i slots h z =
         let f : skipped (drop i (part_slots set (slice_get set.devices k) (image_at (in_body numbers i)) part)) ≡ 0 =
-        ap (λ (l : List Slot). skipped (drop i l)) (part_now numbers i) ∙ ap skipped h ∙ z in
+        rw (part_now numbers i) (ap skipped h ∙ z) in
         omega arith
 
     -- what is taken, as the judge resumes from there
@@ -170,9 +167,8 @@ module _ (set : Set) (names : List (List ℕ)) (state : State) (d : Device) (ima
         → after set (in_body p.numbers i) x ≡ in_body (put x p.numbers) (suc i)
         → reads p (by_row g (two_rows (Some k) bad other why) n (after set (in_body p.numbers i) x)) ≡ goes i
         (taken_by p (seen_by (two_rows (Some k) bad other why) x n))
-    by_rows i p x n true other why e = refl
-    by_rows i p x n false true why e = refl
-    by_rows i p x n false false why e = ap (λ (s : State). reading_on (judge g) s (p.place + n) (drop n p.rest)) e
+    by_rows i p x n false false why e = rw e
+    by_rows i p x n _ _ why e = refl
 
     -- as it is seen, so the judge goes on
     as_seen : (i : ℕ) (p : Progress) (slot : Slot) (cut : Bool) (x : Piece) (n : ℕ)
@@ -221,7 +217,7 @@ module _ (set : Set) (names : List (List ℕ)) (state : State) (d : Device) (ima
     after_same : (numbers : List ℤ) (i j : ℕ)
         → beyond i (part_at set (in_body numbers i) (Inside k id part i)) ≡ beyond j (part_at set (in_body numbers j) (Inside k id part j)) → (x : Piece)
         → after set (in_body numbers i) x ≡ after set (in_body numbers j) x
-    after_same numbers i j c (Number cell kind z) = ap (λ (n : ℕ). record (after set (in_body numbers i) (Number cell kind z)) { spot = Inside k id part n }) c
+    after_same numbers i j c (Number cell kind z) = rw c
     after_same numbers i j c (Constant kind z) = ap (in_body numbers) c
     after_same numbers i j c (Filler bytes) = ap (in_body numbers) c
     after_same numbers i j c x = refl
@@ -235,9 +231,7 @@ module _ (set : Set) (names : List (List ℕ)) (state : State) (d : Device) (ima
     judged_same : (i j : ℕ) (p : Progress) (slots : List Slot)
         → beyond i (part_at set (in_body p.numbers i) (Inside k id part i)) ≡ beyond j (part_at set (in_body p.numbers j) (Inside k id part j))
         → judged i p slots ≡ judged j p slots
-    judged_same i j p slots c =
-        ap (λ (v : Verdict State). if rules_hold slots then v else Faulty (Some k) reasons.Invalid 0)
-        (by (unit_at (due_field state.tail (Some k) slots) p.rest))
+    judged_same i j p slots c = rw (by (unit_at (due_field state.tail (Some k) slots) p.rest))
       where
         by : (f : Found) → verdict i p (due_field state.tail (Some k) slots) f ≡ verdict j p (due_field state.tail (Some k) slots) f
         by (Whole x n) =
@@ -250,10 +244,9 @@ module _ (set : Set) (names : List (List ℕ)) (state : State) (d : Device) (ima
     skips i p slot more h z v =
         let next = drop_next (total p.numbers) i slot more h in
         let all = part_slots set (slice_get set.devices k) (image_at (in_body p.numbers i)) part in
-        let a : skipped (drop i all) ≡ suc (skipped more) = ap (λ (l : List Slot). skipped (drop i l)) (part_now p.numbers i) ∙ ap skipped h ∙ z in
-        let b : skipped (drop (suc i) all) ≡ skipped more = ap (λ (l : List Slot). skipped (drop (suc i) l)) (part_now p.numbers i) ∙ ap skipped next in
-        let c : suc (i + skipped (drop i all)) ≡ suc (suc i + skipped (drop (suc i) all)) = omega arith in
-        so i p (slot ∷ more) h ∙ ap (reads p) (v ∙ judged_same i (suc i) p more c) ∙ sym (so (suc i) p more next)
+        let a : skipped (drop i all) ≡ suc (skipped more) = rw (part_now p.numbers i) (ap skipped h ∙ z) in
+        let b : skipped (drop (suc i) all) ≡ skipped more = rw (part_now p.numbers i) (ap skipped next) in
+        so i p (slot ∷ more) h ∙ ap (reads p) (v ∙ judged_same i (suc i) p more (omega arith)) ∙ sym (so (suc i) p more next)
 
     walk : (i : ℕ) (p : Progress) (slots : List Slot) → drop i (total p.numbers) ≡ slots → goes_on i p ≡ step total goes_on goes_on is_refused slots i p
     walk i p [] h = refl

@@ -67,9 +67,7 @@ module _ (set : Set) where
         long = long_put (images set u) o y ∙ long;
         here = λ k e.
             let f = found_is set.devices 0 name instance k e in
-            let lt : f.i < length set.devices = slice_get_within set.devices f.i f.device f.there in
-            let is : k ≡ 0 + f.i = f.is in
-            put_here (images set u) o y k e (omega arith);
+            put_here (images set u) o y k e (omega (arith, slice_get_within set.devices f.i f.device f.there));
       }
   images_of (Number c kind z ∷ u) = let r = put_on u _ (images_of u) in record { long = r.0; here = r.1 }
   images_of (SubHead name v ∷ u) = let r = put_on u _ (images_of u) in record { long = r.0; here = r.1 }

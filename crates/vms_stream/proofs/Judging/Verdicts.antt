@@ -46,7 +46,7 @@ module _ {S : Type 0} (judge : S → List ℕ → Verdict S) (a : Advances judge
   told_from zero state at rest h = absurd (omega arith)
   told_from (suc m) state at rest h =
       by (judge state rest) (λ n next e. let b : (0 < n) × (n ≤ length rest) = a.goes state rest n next e in told_from m next (at + n) (drop n rest)
-      (omega (arith, b.0, b.1, length-drop n rest)))
+      (omega (arith, length-drop n rest)))
     where
       by : (v : Verdict S) → ((n : ℕ) (next : S) → v ≡ Goes n next → (x : Reading S) × (reading_from judge m next (at + n) (drop n rest) ≡ Some x))
           → (x : Reading S) × (reading_after (reading_from judge m) at rest v ≡ Some x)
@@ -105,7 +105,7 @@ module _ {S : Type 0} (set : Set) (names : List (List ℕ)) (g : Grammar S) (sol
         → judge g s rest ≡ by_row g o (length (spell x)) (g.after s x)
     by_reason x more o held may there e =
         verdict (Whole x (length (spell x))) held (ap (unit_at (due set u)) there ∙ only (due set u) x more may)
-        ∙ ap (λ (o : Option (Option ℕ × Reason)). by_row g o (length (spell x)) (g.after s x)) (m.reason_is u s x r may ∙ e)
+        ∙ ap (λ o. by_row g o (length (spell x)) (g.after s x)) (m.reason_is u s x r may ∙ e)
 
     told : (section : Option ℕ) (reason : Reason) (size : ℕ) → IsBytes rest → Why set names u rest section reason size
         → judge g s rest ≡ Faulty section reason size
@@ -183,7 +183,7 @@ module _ {S : Type 0} (set : Set) (names : List (List ℕ)) (g : Grammar S) (sol
         reads = ap (reading_on (judge g) start 0) (append_assoc (spelled u) (spell x) rest) ∙ t.reads
             ∙ unit_read (judge g) (advances g solid) t.state (g.after t.state x) (length (spelled u)) (spell x) rest
             (by_reason u t.state (spell x ++ rest) t.mirrors x rest None front.1 front.2 refl front.3)
-            ∙ ap (λ (k : ℕ). reading_on (judge g) (g.after t.state x) k rest) (sym (length-append (spelled u) (spell x)));
+            ∙ ap (λ k. reading_on (judge g) (g.after t.state x) k rest) (sym (length-append (spelled u) (spell x)));
       }
 
   module _ (start : S) (r : Mirrors [] start) where
@@ -198,7 +198,7 @@ module _ {S : Type 0} (set : Set) (names : List (List ℕ)) (g : Grammar S) (sol
             t.state,
             ap (reading_on (judge g) start 0) f.whole ∙ t.reads
                 ∙ ap (reading_after (reading_from (judge g) (length f.rest)) (length (spelled u)) f.rest) (over_is u t.state f.rest t.mirrors ok2 f.held f.over)
-                ∙ ap (λ (k : ℕ). Some (Accepted k t.state)) f.long,
+                ∙ ap (λ k. Some (Accepted k t.state)) f.long,
             t.mirrors,
           );
     }
@@ -210,11 +210,10 @@ module _ {S : Type 0} (set : Set) (names : List (List ℕ)) (g : Grammar S) (sol
           (Refused place section reason size) refl ok tt r refl h;
       faulty = λ input place section reason size ok f.
           let t = reaches start f.units f.rest r f.front in
-          let ok2 = bytes_rest (spelled f.units) f.rest (subst IsBytes f.whole ok) in
           ap (reading_on (judge g) start 0) f.whole ∙ t.reads
           ∙ ap (reading_after (reading_from (judge g) (length f.rest)) (length (spelled f.units)) f.rest)
-          (told f.units t.state f.rest t.mirrors section reason size ok2 f.why)
-          ∙ ap (λ (k : ℕ). Some (Refused k section reason size)) f.long;
+          (told f.units t.state f.rest t.mirrors section reason size (bytes_rest (spelled f.units) f.rest (subst IsBytes f.whole ok)) f.why)
+          ∙ ap (λ k. Some (Refused k section reason size)) f.long;
     }
 
 module _ (set : Set) (names : List (List ℕ)) where
@@ -223,8 +222,8 @@ module _ (set : Set) (names : List (List ℕ)) where
     due_is = λ u s e. ap (due set) e;
     holds_is = λ u s e. ap (holds set) e;
     section_is = λ u s e. ap (opened set) e;
-    reason_is = λ u s x e may. ap (λ (u : List Piece). reason_of set names u x) e;
-    after_is = λ u s x e held may none. ap (λ (u : List Piece). x ∷ u) e;
+    reason_is = λ u s x e may. rw e;
+    after_is = λ u s x e held may none. rw e;
   }
 
   pub units_refuse : Refuses set names (by_units set names) []

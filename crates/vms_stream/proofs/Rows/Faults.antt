@@ -88,7 +88,7 @@ refuses_a_cut_number = record {
 }
 
 in_64 : InRange U64 (pos 0)
-in_64 = (omega (arith, ints), omega (arith, ints))
+in_64 = (omega arith, omega arith)
 
 abbrev fielded : List Piece
 fielded = Number 0 U64 (pos 0) ∷ headed

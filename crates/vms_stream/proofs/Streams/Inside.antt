@@ -63,9 +63,8 @@ next_agrees k Bare b e = (refl, refl)
 -- a mark that is neither of a subsection head nor of a footer
 other_never : (set : Set) (names : List (List ℕ)) (k : ℕ) (t : Tail) (so_far : Known) (b : ℕ) → is_foot t b ≡ true → (b == 0x7e) ≡ false
     → first_of set names (AfterFields k t) so_far (Mark b) ≡ None → ⊥
-other_never set names k Unknown so_far b f e h = cc
 other_never set names k Footed so_far b f e h = foot_mark_never set names (AfterFields k Footed) so_far b refl h
-other_never set names k Bare so_far b f e h = cc
+other_never set names k _ so_far b f e h = cc
 
 -- the section of a device, and the state of which it is a part
 pub record Section (set : Set) : Type 0 where
@@ -127,15 +126,13 @@ module _ {r : Run} (c : Section r.set) (image : Image) (part : Option ℕ) (n : 
       → rest ≡ spell x ++ more → Goes r (after r.set (stands c image part n) x) (place + length (spell x)) more → Behind r c image place rest
   by_unit {more = more} ok _ (AtSubHead _ _ name v f) none e goes =
       let d = AfterFields c.k c.state.tail in
-      let known = knows c image part n in
-      let h = sub_is_one r.set r.names d known c.device.subs name v (subs_are c image part n)
-      (subst (λ (k : Known). first_of r.set r.names d k (SubHead name v) ≡ None) (known_is c image part n) none) in
+      let h = sub_is_one r.set r.names d (knows c image part n) c.device.subs name v (subs_are c image part n)
+      (subst (λ k. first_of r.set r.names d k (SubHead name v) ≡ None) (known_is c image part n) none) in
       let lt : h.j < length c.device.subs = slice_get_within c.device.subs h.j h.sub h.there in
       ASub h.j v h.sub more (rw h.name_is e) h.there (none_from image.came h.j (omega arith) h.new) h.version
       (rw (h.name_is, ← sub_after c image part n h.j name v h.named) goes)
   by_unit {more = more} ok _ (AtFoot _ _ its f g) none e goes =
-      let is = foot_is r.set r.names (AfterFields c.k c.state.tail) (known_at r.set (stands c image part n)) its none in
-      let e2 = rw is at e in
+      let e2 = rw (foot_is r.set r.names (AfterFields c.k c.state.tail) (known_at r.set (stands c image part n)) its none) at e in
       AnEnd true more (foot_agrees c.state.tail f) e2 (free_opens false false refl (bytes_rest (foot c.id) more (subst IsBytes e2 ok)) long goes)
   by_unit ok _ (AtOther _ _ b f g) none e goes = absurd (other_never r.set r.names c.k c.state.tail (known_at r.set (stands c image part n)) b f g none)
   by_unit {place} {rest} ok x (AtNext _ _ _ f m) none e goes =
@@ -147,9 +144,8 @@ module _ {r : Run} (c : Section r.set) (image : Image) (part : Option ℕ) (n : 
       → Goes r (stands c image part n) place rest → Behind r c image place rest
   behind_found {rest = rest} done ok h =
       let is = due_is c image part n done in
-      let u = steps ok h (ap (λ (d : Due). owes d rest) is) in
-      by_unit ok u.unit (subst (λ (d : Due). May d u.unit) is u.may)
-      (subst (λ (d : Due). first_of r.set r.names d (known_at r.set (stands c image part n)) u.unit ≡ None) is u.none) u.there u.goes
+      let u = steps ok h (rw is) in
+      by_unit ok u.unit (rw is at u.may) (rw is at u.none) u.there u.goes
 
 abbrev pub image_so : ℕ → List (Option ℕ) → List ℤ → Image
 image_so v came n = record { version = v; came = came; numbers = n }
@@ -240,7 +236,7 @@ module _ (r : Run) (good : IsGood r.set) (c : Section r.set) (long : length c.st
         let p : Progress = record { numbers = n; place = place + length head; rest = more } in
         let sound = good.subs c.k j c.device s c.there there in
         let okm : IsBytes more = bytes_rest head more (subst IsBytes spelled ok) in
-        let b = body_found (device_cells r.set c.device) r.set.structs good.structs s.desc w base p q sound okm (omega (arith, fine.long))
+        let b = body_found (device_cells r.set c.device) r.set.structs good.structs s.desc w base p q sound okm (omega arith)
         (λ m. sub_are r.set c.device j s w m there) is in
         let last : IsBytes q.rest = bytes_rest b.bytes q.rest (subst IsBytes b.front okm) in
         let same = same_refl (base + length (desc_cells (cells_of (takers r.set.structs (length r.set.structs))) s.desc)) q.numbers in
@@ -248,7 +244,7 @@ module _ (r : Run) (good : IsGood r.set) (c : Section r.set) (long : length c.st
         let fine' = fine_next r.set c.device v so_far n q.numbers j w s good.structs (good.devices c.k c.device c.there)
         (λ j s e. good.subs c.k j c.device s c.there e) there new version b.long
         (b.fits q.numbers same) (b.rules q.numbers same) kept fine in
-        let spelled' : rest ≡ head ++ (b.bytes ++ q.rest) = spelled ∙ ap (λ (l : List ℕ). head ++ l) b.front in
+        let spelled' : rest ≡ head ++ (b.bytes ++ q.rest) = spelled ∙ ap (λ l. head ++ l) b.front in
         let later = on (Some j) reads.0 next q.numbers q.place q.rest reads.1
         (omega (arith, ap length spelled', length-append head (b.bytes ++ q.rest), length-append b.bytes q.rest)) last fine'
         (record { is = sym reads.2 ∙ h.is }) in

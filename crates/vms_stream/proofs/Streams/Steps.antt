@@ -42,8 +42,7 @@ module _ (set : Set) (names : List (List ℕ)) where
       → reading_on (judge (by_state set names)) s place (spell x ++ more) ≡ reading_on (judge (by_state set names)) (after set s x)
       (place + length (spell x)) more
   unit_on s x place more held may none =
-      unit_read (judge (by_state set names)) forward s (after set s x) place (spell x) more
-      (rw (held, only (g.due s) x more may) (ap (λ (o : Option (Option ℕ × Reason)). by_row (by_state set names) o (length (spell x)) (after set s x)) none))
+      unit_read (judge (by_state set names)) forward s (after set s x) place (spell x) more (rw (held, only (g.due s) x more may) (rw none))
 
 -- what is read of what, and how that ends
 pub record Run : Type 0 where
@@ -86,7 +85,7 @@ module _ {r : Run} {s : State} {place : ℕ} {rest : List ℕ} (ok : IsBytes res
     may = w.may;
     there = w.there;
     none = e;
-    goes = record { is = ap (λ (k : ℕ). reading_on (judge gr) (after r.set s x) (place + k) (drop m rest)) w.long ∙ h };
+    goes = record { is = rw (w.long) (h) };
   }
   by_row_of x m w (Some (section, reason)) e h = cc
 

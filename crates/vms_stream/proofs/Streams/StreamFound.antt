@@ -99,7 +99,6 @@ module _ (r : Run) (good : IsGood r.set) where
         let okm : IsBytes more = bytes_rest head more (subst IsBytes spelled ok) in
         let sound = good.devices k d there in
         let b = body_found all r.set.structs good.structs d.desc v 0 start q sound okm (omega (arith, defaults_long all)) (own_are r.set d v) is in
-        let last : IsBytes q.rest = bytes_rest b.bytes q.rest (subst IsBytes b.front okm) in
         let m = same_refl (0 + length (desc_cells (cells_of (takers r.set.structs (length r.set.structs))) d.desc)) q.numbers in
         let so_far : Fine r.set d v none q.numbers = record {
           versions = none_versions d.subs;
@@ -112,7 +111,7 @@ module _ (r : Run) (good : IsGood r.set) where
         } in
         let q' =
         subs_found r good c (length-set s.came k true ∙ long) v (suc (length q.rest)) None reads.0 none q.numbers q.place q.rest reads.1
-        (omega arith) last so_far (record { is = sym reads.2 ∙ h.is }) in
+        (omega arith) (bytes_rest b.bytes q.rest (subst IsBytes b.front okm)) so_far (record { is = sym reads.2 ∙ h.is }) in
         let close = closing q'.footed id in
         record {
           id = id;
@@ -133,7 +132,7 @@ module _ (r : Run) (good : IsGood r.set) where
             subs = q'.subs;
             whole = refl;
           };
-          spelled = spelled ∙ ap (λ (l : List ℕ). head ++ l) (b.front ∙ ap (λ (l : List ℕ). b.bytes ++ l) q'.spelled)
+          spelled = spelled ∙ ap (λ l. head ++ l) (b.front ∙ ap (λ l. b.bytes ++ l) q'.spelled)
               ∙ rw (
                 append_assoc ((head ++ b.bytes) ++ q'.tail) close q'.after,
                 append_assoc (head ++ b.bytes) q'.tail
@@ -164,7 +163,6 @@ module _ (r : Run) (good : IsGood r.set) where
       → (h : HasRead r s k d place rest) → SectionsRead r (came_to s k h.image h.footed) (place + length h.bytes) h.after → SectionsRead r s place rest
   sections_next {s} {place} {rest} {k} {d} came_long images_long there new h q =
       let inside : k < length r.set.devices = slice_get_within r.set.devices k d there in
-      let here : slice_get q.states k ≡ Some h.image = q.kept k (at_set s.came k true (omega arith)) ∙ at_set s.images k h.image (omega arith) in
       record {
         order = k ∷ q.order;
         each_once = (new, q.each_once);
@@ -177,9 +175,8 @@ module _ (r : Run) (good : IsGood r.set) where
         sections_are = (
           h.bytes,
           q.sections,
-          rw (there, here) (h.id, h.is),
-          subst (λ (b : Bool). SectionsSpell r.set b q.states q.order q.sections)
-              (same_footed h.footed q.footed q.agrees) q.sections_are,
+          rw (there, (q.kept k (at_set s.came k true (omega arith)) ∙ at_set s.images k h.image (omega arith))) (h.id, h.is),
+          rw (same_footed h.footed q.footed q.agrees) at q.sections_are,
           refl,
         );
         long = q.long ∙ length-set s.images k h.image;
@@ -219,10 +216,9 @@ module _ (r : Run) (good : IsGood r.set) where
   sections_found (suc most) s {place} {rest} came_long images_long less ok (Opens k id v d more f e there new version goes) =
       let inside : k < length r.set.devices = slice_get_within r.set.devices k d there in
       let h = section_found s place k id v d more there (omega arith) came_long ok f e version goes in
-      let ok2 : IsBytes h.after = bytes_rest h.bytes h.after (subst IsBytes h.spelled ok) in
       sections_next came_long images_long there new h
       (sections_found most (came_to s k h.image h.footed) (length-set s.came k true ∙ came_long) (length-set s.images k h.image ∙ images_long)
-      (omega (arith, ap length h.spelled, length-append h.bytes h.after, has_bytes h.is)) ok2 h.opens)
+      (omega (arith, ap length h.spelled, length-append h.bytes h.after, has_bytes h.is)) (bytes_rest h.bytes h.after (subst IsBytes h.spelled ok)) h.opens)
     where
       has_bytes : {image : Image} {footed : Bool} {bytes : List ℕ} {id : ℕ} → IsSection r.set d image id footed bytes → 0 < length bytes
       has_bytes {image = image} {footed = footed} {bytes = bytes} {id = id} s =
@@ -259,7 +255,7 @@ module _ {r : Run} (s : State) {place : ℕ} {rest : List ℕ} (ok : IsBytes res
   -- if nothing is due, a reading has ended
   over_is : s.spot ≡ Over → Goes r s place rest → (place ≡ r.taken) × (s ≡ r.end)
   over_is over h = elim (next ok h) [
-    | inl t ↦ absurd (nothing_may t.unit (subst (λ (p : Spot). May (due_by r.set s p) t.unit) over t.may))
+    | inl t ↦ absurd (nothing_may t.unit (rw over at t.may))
     | inr t ↦ (t.place_is, t.end_is)
   ]
 
@@ -282,8 +278,8 @@ module _ {r : Run} (s : State) {place : ℕ} {rest : List ℕ} (ok : IsBytes res
         described = (le, refl);
         all = λ f. cc;
         long = sym o.0;
-        machine_is = ap (λ (s : State). s.machine) (sym o.1);
-        images_are = ap (λ (s : State). s.images) (sym o.1);
+        machine_is = rw (sym o.1);
+        images_are = rw (sym o.1);
       }
 
   ending_found : Goes r (last s) place rest → Ending r s place rest
@@ -297,8 +293,8 @@ module _ {r : Run} (s : State) {place : ℕ} {rest : List ℕ} (ok : IsBytes res
       described = refl;
       all = λ f. none_left rest u.over;
       long = sym u.place_is ∙ sym (add-zero place);
-      machine_is = ap (λ (s : State). s.machine) (sym u.end_is);
-      images_are = ap (λ (s : State). s.images) (sym u.end_is);
+      machine_is = rw (sym u.end_is);
+      images_are = rw (sym u.end_is);
     }
   ]
 
@@ -323,20 +319,20 @@ module _ (r : Run) (good : IsGood r.set) (input : List ℕ) where
         text = d.text;
         stream = record {
           named = named;
-          configured = subst (λ (m : Option (List ℕ)). IsConfiguration r.names m named) (sym d.machine_is) c;
+          configured = rw d.machine_is c;
           one_each = ap length d.images_are ∙ q.long ∙ defaults_of r.set r.set.devices;
           order = q.order;
           each_once = q.each_once;
           sections = q.sections;
           footed = q.footed;
           bare = λ f. d.machine_is ∙ bare q.footed q.agrees f;
-          spelled = subst (λ (l : List Image). SectionsSpell r.set q.footed l q.order q.sections) (sym d.images_are) q.sections_are;
+          spelled = subst (λ l. SectionsSpell r.set q.footed l q.order q.sections) (sym d.images_are) q.sections_are;
           tail = d.tail;
           described = d.described;
           whole = refl;
         };
         rest = d.after;
-        prefix = e ∙ ap (λ (l : List ℕ). stream_head ++ (named ++ l)) (q.spelled ∙ ap (λ (l : List ℕ). q.sections ++ (0x00 ∷ l)) d.spelled) ∙ rw (
+        prefix = e ∙ ap (λ l. stream_head ++ (named ++ l)) (q.spelled ∙ ap (λ l. q.sections ++ (0x00 ∷ l)) d.spelled) ∙ rw (
           append_assoc front d.tail d.after,
           append_assoc ((stream_head ++ named) ++ q.sections) end_mark (d.tail ++ d.after),
           append_assoc (stream_head ++ named) q.sections (end_mark ++ (d.tail ++ d.after)),
@@ -361,8 +357,7 @@ module _ (r : Run) (good : IsGood r.set) (input : List ℕ) where
   first_found rest ok e (Names name more first f one le goes) =
       let okm : IsBytes more = bytes_rest (configuration name) more (subst IsBytes f ok) in
       stream_of (configuration name) more Footed (Some name) okm (one, le, refl) (λ footed a b. let wrong = sym a ∙ b in cc)
-      (e ∙ ap (λ (l : List ℕ). stream_head ++ l) f)
-      (free_opens false true refl okm (falses r.set.devices) goes)
+      (e ∙ ap (λ l. stream_head ++ l) f) (free_opens false true refl okm (falses r.set.devices) goes)
 
   by_version : {rest more : List ℕ} → IsBytes rest → input ≡ magic ++ rest → (x : Piece) → May AVersion x
       → first_of r.set r.names AVersion (known_at r.set (record (at_start r.set) { spot = Headed })) x ≡ None
@@ -370,7 +365,7 @@ module _ (r : Run) (good : IsGood r.set) (input : List ℕ) where
   by_version {more = more} ok e _ (AtVersion v f) none g goes =
       let g3 = rw (version_is_3 r.set r.names AVersion (known_at r.set (record (at_start r.set) { spot = Headed })) v none) at g in
       let okm : IsBytes more = bytes_rest (be32 3) more (subst IsBytes g3 ok) in
-      first_found more okm (e ∙ ap (λ (l : List ℕ). magic ++ l) g3) (free_opens true false refl okm (falses r.set.devices) goes)
+      first_found more okm (e ∙ ap (λ l. magic ++ l) g3) (free_opens true false refl okm (falses r.set.devices) goes)
 
   by_magic : {more : List ℕ} → IsBytes input → (x : Piece) → May AMagic x → first_of r.set r.names AMagic (known_at r.set (at_start r.set)) x ≡ None
       → input ≡ spell x ++ more

@@ -130,12 +130,10 @@ module _ (set : Set) (names : List (List ℕ)) (d : Due) (so_far : Known) where
       by None n = let f = rw n at e in cc
       by (Some j) n =
           let f = found_is set.devices 0 name instance j n in
-          let same : f.i ≡ j = (let e = f.is in omega arith) in
+          let same : f.i ≡ j = (omega arith) in
           let there = rw same at f.there in
-          let g = rw n at e in
-          let a = not_taken _ _ _ g in
+          let a = not_taken _ _ _ (rw n at e) in
           let b = not_taken _ _ _ (rw there at a.1) in
-          let c = not_taken _ _ _ b.1 in
           record {
             k = j;
             device = f.device;
@@ -144,7 +142,7 @@ module _ (set : Set) (names : List (List ℕ)) (d : Due) (so_far : Known) where
             name_is = (bytes_eq-Decides f.device.desc.name name).0 f.name_is;
             instance_is = f.instance_is;
             new = a.0;
-            version = (ltb-false v f.device.desc.minimum c.0, ltb-false f.device.desc.version v b.0);
+            version = (ltb-false v f.device.desc.minimum (not_taken _ _ _ b.1).0, ltb-false f.device.desc.version v b.0);
           }
 
   pub head_passes : (id : ℕ) (name : List ℕ) (instance v k : ℕ) (device : Device) → device_named set name instance ≡ Some k
@@ -171,19 +169,17 @@ module _ (set : Set) (names : List (List ℕ)) (d : Due) (so_far : Known) where
       by None n = let f = rw (is, n) at e in cc
       by (Some j) n =
           let f = sub_is subs 0 name j n in
-          let same : f.i ≡ j = (let e = f.is in omega arith) in
+          let same : f.i ≡ j = (omega arith) in
           let there = rw same at f.there in
-          let g = rw (is, n, there) at e in
-          let a = not_taken _ _ _ g in
+          let a = not_taken _ _ _ (rw (is, n, there) at e) in
           let b = not_taken _ _ _ a.1 in
-          let c = not_taken _ _ _ b.1 in
           record {
             j = j;
             sub = f.sub;
             named = n;
             there = there;
             name_is = (bytes_eq-Decides f.sub.desc.name name).0 f.name_is;
-            new = c.0;
+            new = (not_taken _ _ _ b.1).0;
             version = (ltb-false v f.sub.desc.minimum b.0, ltb-false f.sub.desc.version v a.0);
           }
 

@@ -45,8 +45,6 @@ subs_spell : (set : Set) (d : Device) (image : Image) (subs : List Sub) (came : 
     → drop j image.came ≡ came → sub_place set (own_cells set d) d.subs j ≡ at
     → Streams.SubsSpell set d image (those_come j came) (Streams.written_subs set d image at subs came)
 subs_spell set d image [] [] at j v s c p = refl
-subs_spell set d image [] (o ∷ came) at j v s c p = absurd v
-subs_spell set d image (x ∷ subs) [] at j v s c p = absurd v
 subs_spell set d image (x ∷ subs) (None ∷ came) at j v s c p =
     subs_spell set d image subs came _ (suc j) v (drop_next d.subs j x subs s) (drop_next image.came j None came c)
     (rw (← p) (place_next set (own_cells set d) d.subs j x subs s))
@@ -60,6 +58,7 @@ subs_spell set d image (x ∷ subs) (Some v ∷ came) at j vs s c p =
           (rw (← p) (place_next set (own_cells set d) d.subs j x subs s)),
       refl,
     )
+subs_spell set d image _ _ at j v s c p = absurd v
 
 at_seam : {A : Type 0} (before : List A) (o : A) (came : List A) → slice_get (before ++ o ∷ came) (length before) ≡ Some o
 at_seam [] o came = refl
