@@ -1,38 +1,22 @@
 -- The laws as they are stated.
-use Rattle.std.proofs.Common.{get_or, ◌+◌, take, length, Option, Some, None, IfSome, arith, suc, ◌≡◌, ◌≤◌, true, ℕ, List, ◌++◌, refl, sym, ap, ◌∙◌, subst, drop}
-use Rattle.std.proofs.Common.{false}
-use Rattle.vms_spec.specs.declared.TheConstants.{LONGEST_NAME}
-use Rattle.vms_spec.specs.Units.{Piece, spell, spelled}
-use Rattle.vms_stream.specs.Dues.{Due}
-use Rattle.vms_stream.specs.Finding.{Whole, unit_at}
-use Rattle.vms_stream.specs.Laws.{IsThere, FoundLaw, Ends}
+use Rattle.vms_stream.proofs.Facade.{get_or, ◌+◌, take, length, Option, Some, None, IfSome, arith, suc, ◌≡◌, ◌≤◌, true, ℕ, List, ◌++◌, refl, sym, ap, ◌∙◌, drop}
+use Rattle.vms_stream.proofs.Facade.{false, slice_get_within, take-append-drop, LONGEST_NAME, Piece, spell, spelled, Due, Whole, unit_at, IsThere, FoundLaw}
+use Rattle.vms_stream.proofs.Facade.{Reason, is_one_of, longest_text, IsConfiguration, IsTrailer, optional, configuration, trailer, written, Reading, Accepted}
+use Rattle.vms_stream.proofs.Facade.{Refused, well_good, Tail, Unknown, Footed, Bare, images, machine, judge, reading, by_units, State, between, by_state}
+use Rattle.vms_stream.proofs.Facade.{at_start, SectionReadLaw, BeginsSection, SectionFoundLaw, ToldLaw, AcceptedLaw, TakenLaw, LocalLaw, UnitsLaw, StreamLaw}
+use Rattle.vms_stream.proofs.Facade.{GoesOn, FrontLaw, OneStreamLaw, Answer, EitherLaw, NeverBothLaw, OneFaultLaw, SectionLaw, WrittenLaw, WholeLaw}
+use Rattle.vms_stream.proofs.Facade.{AreOneFault, reading_on, IsBytes, bytes_rest, front_take}
 use Rattle.vms_stream.proofs.Finding.There.{only}
-use Rattle.vms_stream.proofs.Finding.Shown.{Shows, shows}
-use Rattle.vms_spec.specs.declared.Reason.{Reason}
-use Rattle.vms_spec.specs.Streams.{is_one_of, longest_text, IsConfiguration, IsTrailer, optional, configuration, trailer, written}
-use Rattle.vms_spec.specs.Readings.{Reading, Accepted, Refused}
-use Rattle.vms_spec.proofs.WellFormedLaws.{well_good}
-use Rattle.vms_stream.specs.SoFar.{Tail, Unknown, Footed, Bare, images, machine}
-use Rattle.vms_stream.specs.Judge.{judge, reading, by_units}
-use Rattle.vms_stream.specs.State.{State, between, by_state, at_start}
-use Rattle.vms_stream.specs.Streams.{Takes}
-use Rattle.vms_stream.specs.StreamLaws.{SectionReadLaw, BeginsSection, SectionFoundLaw, ToldLaw, AcceptedLaw, TakenLaw, LocalLaw, UnitsLaw, StreamLaw, GoesOn}
-use Rattle.vms_stream.specs.StreamLaws.{FrontLaw, OneStreamLaw, Answer, Taken, Faulty, EitherLaw, NeverBothLaw, OneFaultLaw, SectionLaw, WrittenLaw, WholeLaw}
-use Rattle.vms_stream.specs.StreamLaws.{AreOneFault}
+use Rattle.vms_stream.proofs.Finding.Shown.{shows}
+use Rattle.vms_stream.specs.StreamLaws.{Taken, Faulty}
 use Rattle.vms_stream.proofs.Finding.Advancing.{advances, due_solid}
 use Rattle.vms_stream.proofs.Judging.Mirrors.{solid, state_accepts, state_refuses}
 use Rattle.vms_stream.proofs.Streams.StreamFound.{found, section_found}
 use Rattle.vms_stream.proofs.Streams.StreamRead.{read, free_is, section_on}
-use Rattle.vms_stream.proofs.Streams.Steps.{Run, Goes, Opening, Closes, Opens, Names, settled, free_opens}
+use Rattle.vms_stream.proofs.Streams.Steps.{Goes, Opening, Closes, Opens, Names, settled, free_opens}
 use Rattle.vms_stream.proofs.Streams.Inside.{Agrees}
-use Rattle.vms_bodies.specs.Whole.{reading_on}
-use Rattle.std.proofs.lemmas.Option.{slice_get_within}
 use Rattle.vms_stream.proofs.Streams.Written.{written_section_is, written_is_stream}
 use Rattle.vms_stream.proofs.Judging.Verdicts.{cut_is, told_from, Says, says, units_mirror}
-use Rattle.vms_kinds.specs.Bytes.{IsBytes}
-use Rattle.vms_kinds.proofs.ByteLemmas.{bytes_rest}
-use Rattle.vms_bodies.proofs.BodyOnly.{front_take}
-use Rattle.std.proofs.lemmas.List.{take-append-drop}
 
 shown : (d : Due) (rest : List ℕ) (x : Piece) (n : ℕ) → IsBytes rest → unit_at d rest ≡ Whole x n → IsThere d rest x n
 shown d rest x n ok e = rw e at (shows d rest ok)
@@ -120,8 +104,7 @@ never_both_holds set names well heads input ok n machine images place section re
     cc
 
 same_refusal : {place other_place : ℕ} {section other_section : Option ℕ} {reason other_reason : Reason} {size other_size : ℕ} (x y : Reading State)
-    → Some x ≡ Some y
-    → x ≡ Refused place section reason size → y ≡ Refused other_place other_section other_reason other_size
+    → Some x ≡ Some y → x ≡ Refused place section reason size → y ≡ Refused other_place other_section other_reason other_size
     → AreOneFault place other_place section other_section reason other_reason size other_size
 same_refusal x y e f g = record { places = cc; sections = cc; reasons = cc; sizes = cc }
 

@@ -1,28 +1,15 @@
 -- What a cursor's call sees, and what the judge says; a unit between sections after the fields.
-use Rattle.std.proofs.Common.{◌≡◌, ℕ, ◌+◌, List, ◌∷◌, length, get_or, Option, Some, None, refl, ap, ◌∙◌, Bool, true, false, not, nat_lt, ◌==◌, ◌&&◌}
-use Rattle.std.proofs.Common.{if◌then◌else◌, [], ◌||◌, zero, suc, ◌++◌, take, sym, subst}
-use Rattle.std.proofs.lemmas.Bool.{both_ways, not-true}
-use Rattle.std.proofs.Math.Bool.{or-not_self}
-use Rattle.vms_spec.specs.declared.TheConstants.{LONGEST_NAME}
-use Rattle.vms_spec.specs.declared.Reason.{Reason}
-use Rattle.vms_spec.specs.Sets.{Set}
-use Rattle.vms_spec.specs.Images.{Image}
-use Rattle.vms_spec.specs.Lookup.{number_at, bytes_at}
-use Rattle.vms_spec.specs.Readings.{Verdict, Faulty, Over}
-use Rattle.vms_spec.specs.Units.{Piece, Configuration, Long, Head, End, Start, Mark, Number, Constant, Filler, SubHead, Foot}
-use Rattle.vms_bodies.proofs.BodyOnly.{if_true}
-use Rattle.vms_stream.specs.SoFar.{Tail, Unknown, Footed, Bare, Known}
-use Rattle.vms_stream.specs.Dues.{Due, Between, AfterFields, begins_next, rules_hold, AMagic, AVersion, Field, AfterEnd, Nothing, is_foot, is_next, due_field}
-use Rattle.vms_stream.specs.Finding.{Found, Whole, Cut, needs, between_at, unit_at, sub_at, behind_at}
-use Rattle.vms_stream.specs.Faults.{cut_in}
-use Rattle.vms_stream.specs.Table.{first_of, is_between, wants_foot, is_ram, Row, first_row, alone, asking, other_constant, large_count, bad_foot}
-use Rattle.vms_stream.specs.Judge.{judge, judge_found, by_row, owes}
-use Rattle.vms_stream.specs.State.{State, Free, Inside, due_by, known_at, slots_at, after, by_state, Spot, Before, Headed, Ended, Over as IsOver, open_at}
+use Rattle.vms_stream.proofs.Facade.{◌≡◌, ℕ, ◌+◌, List, ◌∷◌, length, get_or, Option, Some, None, refl, ap, ◌∙◌, Bool, true, false, not, nat_lt, ◌==◌, ◌&&◌}
+use Rattle.vms_stream.proofs.Facade.{if◌then◌else◌, [], ◌||◌, zero, suc, ◌++◌, take, both_ways, not-true, or-not_self, LONGEST_NAME, Reason, Set, Image}
+use Rattle.vms_stream.proofs.Facade.{number_at, bytes_at, Verdict, Faulty, Over, Piece, Configuration, Long, Head, End, Start, Mark, Number, Constant, Filler}
+use Rattle.vms_stream.proofs.Facade.{SubHead, Foot, if_true, Tail, Unknown, Footed, Bare, Known, Due, Between, AfterFields, begins_next, rules_hold, AMagic}
+use Rattle.vms_stream.proofs.Facade.{AVersion, Field, AfterEnd, Nothing, is_foot, is_next, due_field, Found, Whole, Cut, needs, between_at, unit_at, sub_at}
+use Rattle.vms_stream.proofs.Facade.{behind_at, cut_in, first_of, is_between, wants_foot, is_ram, Row, first_row, alone, asking, other_constant, large_count}
+use Rattle.vms_stream.proofs.Facade.{bad_foot, judge, judge_found, by_row, owes, State, Free, Inside, due_by, known_at, slots_at, after, by_state, Spot, Before}
+use Rattle.vms_stream.proofs.Facade.{Headed, Ended, open_at, width, Slot, Bad, seen_in, seen_by, judge_seen, ask, begins_section, JudgedLaw, NextLaw, SeenLaw}
+use Rattle.vms_stream.specs.State.{Over as IsOver}
 use Rattle.vms_stream.proofs.Finding.There.{next_at}
-use Rattle.vms_kinds.specs.Codes.{width}
-use Rattle.vms_spec.specs.Layout.{Slot, Number as NumberSlot, Constant as ConstantSlot, Filler as FillerSlot, Rule as RuleSlot}
-use Rattle.vms_stream.specs.Seen.{Bad, seen_in, seen_by}
-use Rattle.vms_stream.specs.Judged.{judge_seen, ask, begins_section, JudgedLaw, NextLaw, SeenLaw}
+use Rattle.vms_spec.specs.Layout.{Number as NumberSlot, Constant as ConstantSlot, Filler as FillerSlot, Rule as RuleSlot}
 use Rattle.vms_spec.specs.declared.Reason.TheVariants as reasons
 
 -- what begins there is between sections, and no footer

@@ -1,29 +1,17 @@
 -- What is found may come, and is spelled at the front.
-use Rattle.std.proofs.Common.{◌≡◌, ℕ, ◌+◌, ◌<◌, ◌≤◌, List, ◌∷◌, ◌++◌, length, get_or, take, drop, refl, sym, ap, ◌∙◌, arith, append_assoc, length-append}
-use Rattle.std.proofs.Common.{length-drop, get_or-drop, Bool, true, false, not, nat_lt, ◌==◌, ◌&&◌, if◌then◌else◌, [], ◌||◌}
-use Rattle.std.proofs.lemmas.Bool.{ltb-true, ltb-false, eqb-true, or_from, and_parts}
-use Rattle.std.proofs.lemmas.List.{length-take-le, drop-drop, take-append-drop}
-use Rattle.vms_kinds.specs.Codes.{width, code, value_of, InRange}
-use Rattle.vms_kinds.specs.declared.Kind.{Kind}
-use Rattle.vms_kinds.proofs.ByteLemmas.{bytes_first}
-use Rattle.vms_spec.specs.declared.TheConstants.{LONGEST_NAME}
-use Rattle.vms_spec.specs.Layout.{Number as NumberSlot, Constant as ConstantSlot, Filler as FillerSlot, Rule as RuleSlot}
-use Rattle.vms_kinds.specs.Bytes.{IsBytes}
-use Rattle.vms_spec.specs.Streams.{be32, longest_text}
-use Rattle.vms_spec.specs.Lookup.{number_at, bytes_at}
-use Rattle.vms_spec.specs.Units.{Piece, Magic, Version, Configuration, Long, Head, Number, Constant, Filler, SubHead, Foot, End, Description, Start, Mark}
-use Rattle.vms_spec.specs.Units.{spell}
-use Rattle.vms_stream.specs.Dues.{Due, AMagic, AVersion, Between, Field, AfterFields, AfterEnd, Nothing, May, AtMagic, AtVersion, AtConfiguration, AtLongName}
-use Rattle.vms_stream.specs.Dues.{AtStart, AtHead, AtEnd, AtMark, AtNumber, AtConstant, AtFiller, AtSubHead, AtFoot, AtOther, AtNext, is_foot, is_next}
-use Rattle.vms_stream.specs.Dues.{first_byte, AtDescription, AtLongText, AtTrailing, raw, fits_four}
-use Rattle.vms_spec.proofs.KindLaws.{length-code}
-use Rattle.vms_bodies.proofs.HeadFound.{is_bytes_drop, four_low, split_one, split_four, head_bytes}
-use Rattle.vms_bodies.proofs.SubHeads.{sub_bytes}
-use Rattle.vms_bodies.proofs.FaultFields.{raw_take}
-use Rattle.vms_stream.specs.Finding.{Found, Whole, Cut, needs, start_at, head_at, sub_at, text_at, between_at, behind_at, trailer_at, unit_at}
+use Rattle.vms_stream.proofs.Facade.{◌≡◌, ℕ, ◌+◌, ◌<◌, ◌≤◌, List, ◌∷◌, ◌++◌, length, get_or, take, drop, refl, sym, ap, ◌∙◌, arith, append_assoc, length-append}
+use Rattle.vms_stream.proofs.Facade.{length-drop, get_or-drop, Bool, true, false, not, nat_lt, ◌==◌, ◌&&◌, if◌then◌else◌, [], ◌||◌, ltb-true, ltb-false}
+use Rattle.vms_stream.proofs.Facade.{eqb-true, or_from, and_parts, length-take-le, drop-drop, take-append-drop, width, code, value_of, InRange, Kind}
+use Rattle.vms_stream.proofs.Facade.{bytes_first, LONGEST_NAME, IsBytes, be32, longest_text, number_at, bytes_at, Piece, Magic, Version, Configuration, Long}
+use Rattle.vms_stream.proofs.Facade.{Head, Number, Constant, Filler, SubHead, Foot, End, Description, Start, Mark, spell, Due, AMagic, AVersion, Between, Field}
+use Rattle.vms_stream.proofs.Facade.{AfterFields, AfterEnd, May, AtMagic, AtVersion, AtConfiguration, AtLongName, AtStart, AtHead, AtEnd, AtMark, AtNumber}
+use Rattle.vms_stream.proofs.Facade.{AtConstant, AtFiller, AtSubHead, AtFoot, AtOther, AtNext, is_foot, is_next, first_byte, AtDescription, AtLongText}
+use Rattle.vms_stream.proofs.Facade.{AtTrailing, raw, fits_four, length-code, is_bytes_drop, four_low, split_one, split_four, head_bytes, text_long, sub_bytes}
+use Rattle.vms_stream.proofs.Facade.{raw_take, Found, Whole, Cut, needs, start_at, head_at, sub_at, text_at, between_at, behind_at, trailer_at, unit_at}
+use Rattle.vms_stream.proofs.Facade.{IsThere, Tail}
+use Rattle.vms_spec.specs.Layout.{Number as NumberSlot, Constant as ConstantSlot, Filler as FillerSlot}
+use Rattle.vms_bodies.proofs.HeadFound.{text_at as what_follows}
 use Rattle.vms_stream.proofs.Finding.There.{begins}
-use Rattle.vms_stream.specs.Laws.{IsThere}
-use Rattle.vms_stream.specs.SoFar.{Tail}
 
 abbrev pub Shows : Due → List ℕ → Found → Type 0
 Shows d rest (Whole x n) = IsThere d rest x n
@@ -46,13 +34,6 @@ mark_four rest m ok e le =
     ∙ ap (λ l. m ∷ l) (split_four (drop 1 rest) (is_bytes_drop 1 rest ok) (omega (arith, length-drop 1 rest)) ∙ ap
     (λ (l : List ℕ). be32 (number_at 4 1 rest) ++ l) (drop-drop 4 1 rest))
 
--- n bytes from a place on, and what follows
-parts : (rest : List ℕ) (n k : ℕ) → drop k rest ≡ bytes_at n k rest ++ drop (k + n) rest
-parts rest n k = sym (take-append-drop n (drop k rest)) ∙ ap (λ l. bytes_at n k rest ++ l) (drop-drop n k rest)
-
-long_at : (rest : List ℕ) (n k : ℕ) → k + n ≤ length rest → length (bytes_at n k rest) ≡ n
-long_at rest n k le = length-take-le n (drop k rest) (omega (arith, length-drop k rest))
-
 number_low : (rest : List ℕ) (k : ℕ) → IsBytes rest → fits_four (number_at 4 k rest)
 number_low rest k ok = four_low (drop k rest) (is_bytes_drop k rest ok)
 
@@ -67,8 +48,7 @@ number_there kind rest ok le =
 -- mark, length and text
 text_shown : (d : Due) (rest : List ℕ) (mark longest : ℕ) (unit : List ℕ → Piece) → IsBytes rest → get_or rest 0 0 ≡ mark
     → ((name : List ℕ) → spell (unit name) ≡ mark ∷ be32 (length name) ++ name) → ((name : List ℕ) → length name ≤ longest → May d (unit name))
-    → ((n : ℕ) → longest < n → fits_four n → May d (Long mark n))
-    → Shows d rest (text_at mark longest unit rest (number_at 4 1 rest))
+    → ((n : ℕ) → longest < n → fits_four n → May d (Long mark n)) → Shows d rest (text_at mark longest unit rest (number_at 4 1 rest))
 text_shown d rest mark longest unit ok e spelled may_text may_long =
     let n = number_at 4 1 rest in
     let name = bytes_at n 5 rest in
@@ -76,13 +56,13 @@ text_shown d rest mark longest unit ok e spelled may_text may_long =
     (λ t. whole d rest 5 (Long mark n)
     (λ le. record { may = may_long n (ltb-true longest n t) (number_low rest 1 ok); long = refl; there = mark_four rest mark ok e le }))
     (λ f. whole d rest (5 + n) (unit name) (λ le.
-    let len : length name ≡ n = long_at rest n 5 le in
+    let len : length name ≡ n = text_long n 5 rest le in
     let low : n ≤ longest = ltb-false longest n f in
     record {
       may = may_text name (omega arith);
       long = omega (arith, ap length (spelled name), len);
       there = rw (spelled name, append_assoc (be32 (length name)) name (drop (5 + n) rest), len)
-          (mark_four rest mark ok e (omega arith) ∙ ap (λ l. mark ∷ (be32 n ++ l)) (parts rest n 5));
+          (mark_four rest mark ok e (omega arith) ∙ ap (λ l. mark ∷ (be32 n ++ l)) (what_follows n 5 rest));
     }))
 
 mark_shown : (d : Due) (rest : List ℕ) (x : Piece) (m : ℕ) → get_or rest 0 0 ≡ m → spell x ≡ m ∷ [] → May d x → Shows d rest (needs 1 rest x)
@@ -95,14 +75,14 @@ start_shown first after rest n ok mark size =
     let id = number_at 4 1 rest in
     let name = bytes_at n 6 rest in
     whole (Between first after) rest (6 + n) (Start id name) (λ le.
-    let len : length name ≡ n = long_at rest n 6 le in
+    let len : length name ≡ n = text_long n 6 rest le in
     let e3 : drop 5 rest ≡ n ∷ drop 6 rest =
     split_one (drop 5 rest) (omega (arith, length-drop 5 rest)) ∙ ap (λ b. b ∷ drop 1 (drop 5 rest)) (get_or-drop 5 rest 0 0 ∙ size) ∙ ap
     (λ (l : List ℕ). n ∷ l) (drop-drop 1 5 rest) in
     record {
       may = AtStart first after id name (number_low rest 1 ok);
       long = omega (arith, len);
-      there = mark_four rest 0x01 ok mark (omega arith) ∙ ap (λ l. 0x01 ∷ (be32 id ++ l)) (e3 ∙ ap (λ l. n ∷ l) (parts rest n 6))
+      there = mark_four rest 0x01 ok mark (omega arith) ∙ ap (λ l. 0x01 ∷ (be32 id ++ l)) (e3 ∙ ap (λ l. n ∷ l) (what_follows n 6 rest))
           ∙ ap (λ k. 0x01 ∷ (be32 id ++ (k ∷ (name ++ drop (6 + n) rest)))) (sym len);
     })
 
@@ -115,7 +95,7 @@ head_shown first after rest n ok mark size =
     let v = number_at 4 (10 + n) rest in
     whole (Between first after) rest (14 + n) (Head id name instance v) (λ le. record {
       may = AtHead first after id name instance v (number_low rest 1 ok) (number_low rest (6 + n) ok) (number_low rest (10 + n) ok);
-      long = omega (arith, long_at rest n 6 (omega arith), length-append (name ++ be32 instance) (be32 v), length-append name (be32 instance));
+      long = omega (arith, text_long n 6 rest (omega arith), length-append (name ++ be32 instance) (be32 v), length-append name (be32 instance));
       there = head_bytes rest n ok mark size le;
     })
 
@@ -126,7 +106,7 @@ sub_shown k tail rest n ok mark size =
     let v = number_at 4 (2 + n) rest in
     whole (AfterFields k tail) rest (6 + n) (SubHead name v) (λ le. record {
       may = AtSubHead k tail name v (number_low rest (2 + n) ok);
-      long = omega (arith, long_at rest n 2 (omega arith), length-append name (be32 v));
+      long = omega (arith, text_long n 2 rest (omega arith), length-append name (be32 v));
       there = sub_bytes rest n ok mark size le;
     })
 
@@ -183,8 +163,7 @@ unfolding trailer_at
 trailer_shown m rest ok e =
     by_test AfterEnd rest (m == 0x06) (text_at 0x06 longest_text Description rest (number_at 4 1 rest)) (needs 1 rest (Mark m))
     (λ t. text_shown AfterEnd rest 0x06 longest_text Description ok (e ∙ eqb-true m 6 t) (λ name. refl) (λ name le. AtDescription name le)
-    (λ n lt f. AtLongText n lt f))
-    (λ f. mark_shown AfterEnd rest (Mark m) m e refl (AtTrailing m f))
+    (λ n lt f. AtLongText n lt f)) (λ f. mark_shown AfterEnd rest (Mark m) m e refl (AtTrailing m f))
 
 pub shows : (d : Due) (rest : List ℕ) → IsBytes rest → Shows d rest (unit_at d rest)
 shows AMagic rest ok =

@@ -1,23 +1,13 @@
 -- A unit that may come and is spelled at the front is the one that is found.
-use Rattle.std.proofs.Common.{◌≡◌, ℕ, ◌+◌, ◌<◌, ◌≤◌, List, ◌∷◌, ◌++◌, length, get_or, take, drop, ℤ, refl, sym, ap, ◌∙◌, arith, append_assoc, length-append}
-use Rattle.std.proofs.Common.{true, false, ◌==◌, ◌&&◌, if◌then◌else◌, ◌||◌}
-use Rattle.std.proofs.lemmas.List.{drop-drop}
-use Rattle.std.proofs.lemmas.Bool.{lt-ltb, le-ltb, eqb-true, or_parts, not-true}
-use Rattle.byteorder.specs.Endian.{big_number}
-use Rattle.vms_kinds.specs.declared.Kind.{Kind}
-use Rattle.vms_kinds.specs.declared.Kind.TheVariants.{U8, Bool as Truth}
-use Rattle.vms_kinds.specs.Codes.{width, code, value_of, InRange}
-use Rattle.vms_spec.specs.declared.TheConstants.{LONGEST_NAME}
-use Rattle.vms_spec.specs.Streams.{be32, longest_text}
-use Rattle.vms_spec.specs.Lookup.{number_at, bytes_at}
-use Rattle.vms_spec.specs.Units.{Piece, Magic, Version, Configuration, Long, Head, Number, Constant, Filler, SubHead, Foot, End, Description, Start, Mark}
-use Rattle.vms_spec.specs.Units.{spell}
-use Rattle.vms_stream.specs.Dues.{Due, Between, May, AtMagic, AtVersion, AtConfiguration, AtLongName, AtStart, AtHead, AtEnd, AtMark, AtNumber, AtConstant}
-use Rattle.vms_stream.specs.Dues.{AtFiller, AtSubHead, AtFoot, AtOther, AtNext, is_foot, is_next, first_byte, AtDescription, AtLongText, AtTrailing, raw}
-use Rattle.vms_spec.proofs.KindLaws.{length-code, value_code, be32_read}
-use Rattle.vms_bodies.proofs.BodyOnly.{front_take, front_drop}
-use Rattle.vms_stream.specs.Finding.{Whole, needs, text_at, between_at, behind_at, trailer_at, unit_at}
-use Rattle.vms_stream.specs.SoFar.{Bare, Footed, Tail, Unknown}
+use Rattle.vms_stream.proofs.Facade.{◌≡◌, ℕ, ◌+◌, ◌<◌, ◌≤◌, List, ◌∷◌, ◌++◌, length, get_or, take, drop, ℤ, refl, sym, ap, ◌∙◌, arith, append_assoc}
+use Rattle.vms_stream.proofs.Facade.{length-append, true, false, ◌==◌, ◌&&◌, if◌then◌else◌, ◌||◌, drop-drop, lt-ltb, le-ltb, eqb-true, or_parts, not-true}
+use Rattle.vms_stream.proofs.Facade.{big_number, Kind, U8, width, code, value_of, InRange, LONGEST_NAME, be32, longest_text, number_at, bytes_at, Piece, Magic}
+use Rattle.vms_stream.proofs.Facade.{Version, Configuration, Long, Head, Number, Constant, Filler, SubHead, Foot, End, Description, Start, Mark, spell, Due}
+use Rattle.vms_stream.proofs.Facade.{Between, May, AtMagic, AtVersion, AtConfiguration, AtLongName, AtStart, AtHead, AtEnd, AtMark, AtNumber, AtConstant}
+use Rattle.vms_stream.proofs.Facade.{AtFiller, AtSubHead, AtFoot, AtOther, AtNext, is_foot, is_next, first_byte, AtDescription, AtLongText, AtTrailing, raw}
+use Rattle.vms_stream.proofs.Facade.{length-code, value_code, be32_read, front_take, front_drop, Whole, needs, text_at, between_at, behind_at, trailer_at}
+use Rattle.vms_stream.proofs.Facade.{unit_at, Bare, Footed, Tail, Unknown}
+use Rattle.vms_kinds.specs.declared.Kind.TheVariants.{Bool as Truth}
 
 by_kind : (kind : Kind) (z : ℤ) → InRange (raw kind) z → value_of (raw kind) (code kind z) ≡ z
 unfolding code
@@ -42,8 +32,7 @@ text_there mark longest unit name more low le e =
     let r = spell (unit name) ++ more in
     let n : number_at 4 1 r ≡ length name = ap (λ l. number_at 4 1 (l ++ more)) e ∙ be32_read (length name) (name ++ more) (omega arith) in
     let t : bytes_at (length name) 5 r ≡ name = front_take (length name) name more (drop 5 r) (rw e) refl in
-    ap (text_at mark longest unit r) n
-    ∙ rw (le-ltb longest (length name) le)
+    ap (text_at mark longest unit r) n ∙ rw (le-ltb longest (length name) le)
     (there (5 + length name) (unit name) (unit (bytes_at (length name) 5 r)) more (ap unit t) (omega (arith, ap length e)))
 
 long_there : (mark longest : ℕ) (unit : List ℕ → Piece) (n : ℕ) (more : List ℕ) → longest < n → n < 4294967296

@@ -1,37 +1,17 @@
 -- What is accepted is a stream at the front of the input: its sections, in any order and each once, and all of it.
-use Rattle.std.proofs.Common.{◌≡◌, ℕ, zero, suc, ◌+◌, ◌<◌, List, ◌∷◌, ◌++◌, length, slice_set, Some, None, Ok, Err, refl, sym, ap, ◌∙◌, subst, arith}
-use Rattle.std.proofs.Common.{append_assoc, length-append, Bool, true, false, [], inl, inr, map, Option}
-use Rattle.std.specs.List.{slice_get}
-use Rattle.std.proofs.lemmas.List.{length-set}
-use Rattle.vms_kinds.specs.Bytes.{IsBytes}
-use Rattle.vms_kinds.proofs.ByteLemmas.{bytes_rest}
-use Rattle.vms_spec.specs.Sets.{Device, Set}
-use Rattle.vms_spec.specs.Layout.{device_cells, desc_cells}
-use Rattle.vms_spec.specs.Images.{Image, default_image, IsVersionOf}
-use Rattle.vms_spec.specs.Streams.{section_head, EachOnce, be32, magic, stream_head, configuration, end_mark, trailer, IsConfiguration, IsTrailer}
-use Rattle.vms_spec.specs.Taking.{Taken, Progress, take_desc, takers, cells_of}
-use Rattle.vms_spec.specs.Good.{IsGood}
-use Rattle.vms_bodies.proofs.Places.{same_refl}
-use Rattle.vms_bodies.proofs.BodyLaws.{at_set}
-use Rattle.vms_bodies.proofs.FoundLaws.{body_found}
-use Rattle.vms_bodies.proofs.SectionLaws.{own_are, defaults_at, defaults_long}
-use Rattle.vms_bodies.proofs.ComeLaws.{none_versions, all_came, falses, defaults_of}
-use Rattle.vms_bodies.proofs.AgreeLaws.{its_spelled}
-use Rattle.std.proofs.lemmas.Option.{slice_get_within}
-use Rattle.std.proofs.Math.Nat.{add-zero}
-use Rattle.vms_bodies.proofs.PartLaws.{at_other, none_of, none_came, beside_start}
-use Rattle.vms_bodies.proofs.FineLaws.{Fine, fine_normal, fine_valid}
-use Rattle.vms_stream.specs.SoFar.{Tail, Unknown, Footed, Bare}
-use Rattle.vms_stream.specs.State.{State, Free, Ended, Spot, due_by, Headed, Over, known_at, after, between, by_state, at_start}
-use Rattle.vms_stream.specs.Streams.{IsSection, SectionsSpell, Takes}
+use Rattle.vms_stream.proofs.Facade.{◌≡◌, ℕ, zero, suc, ◌+◌, ◌<◌, List, ◌∷◌, ◌++◌, length, slice_set, Some, None, Ok, Err, refl, sym, ap, ◌∙◌, subst, arith}
+use Rattle.vms_stream.proofs.Facade.{append_assoc, length-append, Bool, true, false, [], inl, inr, map, Option, slice_get, length-set, slice_get_within}
+use Rattle.vms_stream.proofs.Facade.{add-zero, IsBytes, bytes_rest, Device, Set, device_cells, desc_cells, Image, default_image, IsVersionOf, section_head}
+use Rattle.vms_stream.proofs.Facade.{EachOnce, be32, magic, stream_head, configuration, end_mark, trailer, IsConfiguration, IsTrailer, Taken, Progress}
+use Rattle.vms_stream.proofs.Facade.{take_desc, takers, cells_of, IsGood, same_refl, at_set, body_found, own_are, defaults_at, defaults_long, none_versions}
+use Rattle.vms_stream.proofs.Facade.{all_came, falses, defaults_of, its_spelled, at_other, none_of, none_came, beside_start, Fine, fine_normal, fine_valid}
+use Rattle.vms_stream.proofs.Facade.{Tail, Unknown, Footed, Bare, State, Free, Ended, Headed, known_at, after, between, by_state, at_start, IsSection}
+use Rattle.vms_stream.proofs.Facade.{SectionsSpell, Takes, Piece, spell, Accepted, AMagic, AVersion, AfterEnd, Nothing, May, AtMagic, AtVersion, AtDescription}
+use Rattle.vms_stream.proofs.Facade.{AtLongText, AtTrailing, first_of, owes, reading}
+use Rattle.vms_stream.specs.State.{Over}
 use Rattle.vms_stream.proofs.Bodies.Body.{Reads, body_read}
 use Rattle.vms_stream.proofs.Streams.Steps.{Run, Goes, Opening, Closes, Opens, Names, opened, next, steps, free_opens}
 use Rattle.vms_stream.proofs.Streams.Inside.{Agrees, tail_of, closing, Section, image_so, subs_found}
-use Rattle.vms_spec.specs.Units.{Piece, spell}
-use Rattle.vms_spec.specs.Readings.{Accepted}
-use Rattle.vms_stream.specs.Dues.{AMagic, AVersion, AfterEnd, Nothing, May, AtMagic, AtVersion, AtDescription, AtLongText, AtTrailing}
-use Rattle.vms_stream.specs.Table.{first_of}
-use Rattle.vms_stream.specs.Judge.{owes, reading}
 use Rattle.vms_stream.proofs.Streams.UnitRows.{magic_is, version_is_3, trailing_never}
 
 -- the state after device k's section
@@ -151,8 +131,7 @@ module _ (r : Run) (good : IsGood r.set) where
         }
 
     pub section_found : {rest : List ℕ} → length s.came ≡ length r.set.devices → IsBytes rest → id < 4294967296 → rest ≡ head ++ more → IsVersionOf d.desc v
-        → Goes r (opened r.set s k id d v) (place + length head) more
-        → HasRead r s k d place rest
+        → Goes r (opened r.set s k id d v) (place + length head) more → HasRead r s k d place rest
     section_found long ok id_fits spelled version h =
         by_taken long ok id_fits spelled version h (take_desc (takers r.set.structs (length r.set.structs)) d.desc v 0 start) refl
         (body_read r.set r.names c.state d (record (default_image r.set d) { version = v }) k id None there room good.structs d.desc v 0
@@ -191,8 +170,7 @@ module _ (r : Run) (good : IsGood r.set) where
 
   -- the sections, in any order, each once
   pub sections_found : (most : ℕ) (s : State) {place : ℕ} {rest : List ℕ} → length s.came ≡ length r.set.devices → length s.images ≡ length r.set.devices
-      → length rest < most → IsBytes rest
-      → Opening r false s place rest → SectionsRead r s place rest
+      → length rest < most → IsBytes rest → Opening r false s place rest → SectionsRead r s place rest
   sections_found zero s came_long images_long less ok o = absurd (omega arith)
   sections_found (suc most) s {place} came_long images_long less ok (Closes more e all goes) =
       let a = any s.tail in
@@ -264,8 +242,7 @@ last s = record s { spot = Ended }
 
 module _ {r : Run} (s : State) {place : ℕ} {rest : List ℕ} (ok : IsBytes rest) where
   by_text : {more : List ℕ} (x : Piece) → May AfterEnd x → first_of r.set r.names AfterEnd (known_at r.set (last s)) x ≡ None → rest ≡ spell x ++ more
-      → Goes r (after r.set (last s) x) (place + length (spell x)) more
-      → Ending r s place rest
+      → Goes r (after r.set (last s) x) (place + length (spell x)) more → Ending r s place rest
   by_text _ (AtLongText size lt f) none e goes = cc
   by_text _ (AtTrailing b f) none e goes = absurd (trailing_never r.set r.names AfterEnd (known_at r.set (last s)) b refl none)
   by_text {more} _ (AtDescription text le) none e goes =
@@ -368,8 +345,7 @@ module _ (r : Run) (good : IsGood r.set) (input : List ℕ) where
       first_found more okm (e ∙ ap (λ l. magic ++ l) g3) (free_opens true false refl okm (falses r.set.devices) goes)
 
   by_magic : {more : List ℕ} → IsBytes input → (x : Piece) → May AMagic x → first_of r.set r.names AMagic (known_at r.set (at_start r.set)) x ≡ None
-      → input ≡ spell x ++ more
-      → Goes r (after r.set (at_start r.set) x) (0 + length (spell x)) more → IsTaken
+      → input ≡ spell x ++ more → Goes r (after r.set (at_start r.set) x) (0 + length (spell x)) more → IsTaken
   by_magic {more} ok _ (AtMagic bytes four) none e goes =
       let e1 : input ≡ magic ++ more = rw (magic_is r.set r.names AMagic (known_at r.set (at_start r.set)) bytes none) at e in
       let okm : IsBytes more = bytes_rest magic more (subst IsBytes e1 ok) in

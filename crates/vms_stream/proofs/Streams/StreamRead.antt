@@ -1,38 +1,21 @@
 -- What an input takes is accepted, so it takes at most one stream: its sections are read, and all of it.
-use Rattle.std.proofs.Common.{◌≡◌, ℕ, ◌+◌, ◌^◌, ◌<◌, ◌≤◌, List, ◌∷◌, ◌++◌, length, drop, slice_set, Option, Some, None, ℤ, refl, sym, ap, ◌∙◌, subst, arith}
-use Rattle.std.proofs.Common.{append_assoc, length-append, Bool, true, false, not, ◌==◌, [], map}
-use Rattle.std.specs.List.{slice_get}
-use Rattle.std.proofs.lemmas.List.{length-set}
-use Rattle.vms_spec.specs.Lists.{position}
-use Rattle.vms_spec.specs.Sets.{Device, Set}
-use Rattle.vms_spec.specs.Images.{Image, default_image, own_slots, Spells, IsNormal, IsValid}
-use Rattle.vms_spec.specs.Streams.{section_head, sub_head, ComesOnce, SubsSpell, EachOnce, be32, magic, stream_head, configuration, end_mark, IsTrailer}
-use Rattle.vms_spec.specs.SoFar.{part_slots}
-use Rattle.vms_spec.specs.Units.{Head, SubHead, Foot, End, Magic, Version, Configuration, Description}
-use Rattle.vms_spec.specs.Taking.{Progress}
-use Rattle.vms_spec.specs.Readings.{Reading, Accepted}
-use Rattle.vms_bodies.specs.Whole.{reading_on}
-use Rattle.vms_spec.specs.Good.{IsGood}
-use Rattle.vms_bodies.proofs.BodyLaws.{at_set}
-use Rattle.std.proofs.lemmas.Option.{slice_get_within}
-use Rattle.std.proofs.Math.Nat.{add-zero}
-use Rattle.vms_bodies.proofs.PartLaws.{none_of, version_at, Beside, beside_first, beside_next, beside_end}
-use Rattle.vms_bodies.proofs.FineLaws.{part_place}
-use Rattle.vms_bodies.proofs.SubsOnly.{so_far, image_at, so_at_last, own_taken, part_taken, sub_so}
-use Rattle.vms_bodies.proofs.ComeLaws.{none_missing, came_at, same_lists, agrees, falses, defaults_of, never_true}
-use Rattle.vms_stream.specs.SoFar.{Tail, Unknown, Footed, Bare, Known}
-use Rattle.vms_stream.specs.Dues.{Due, Between, AfterFields, fits_four, is_foot, is_next, May, AtHead, AtEnd, AtSubHead, AtFoot, AtNext, AtMagic, AtVersion}
-use Rattle.vms_stream.specs.Dues.{AtConfiguration, AtDescription}
-use Rattle.vms_stream.specs.Table.{first_of}
-use Rattle.vms_stream.specs.Judge.{judge, reading}
-use Rattle.vms_stream.specs.State.{State, Spot, Free, Ended, known_at, after, by_state, Headed, Over, between, at_start}
-use Rattle.vms_stream.specs.Streams.{IsSection, HasSection, SectionsSpell, IsStream, Takes}
-use Rattle.vms_stream.proofs.Bodies.Body.{Reads, body_read}
+use Rattle.vms_stream.proofs.Facade.{◌≡◌, ℕ, ◌+◌, ◌^◌, ◌<◌, ◌≤◌, List, ◌∷◌, ◌++◌, length, drop, slice_set, Option, Some, None, refl, sym, ap, ◌∙◌, subst, arith}
+use Rattle.vms_stream.proofs.Facade.{append_assoc, length-append, Bool, true, false, not, ◌==◌, [], map, slice_get, length-set, slice_get_within, add-zero}
+use Rattle.vms_stream.proofs.Facade.{position, Device, Set, Image, default_image, own_slots, Spells, IsNormal, IsValid, section_head, sub_head, ComesOnce}
+use Rattle.vms_stream.proofs.Facade.{SubsSpell, EachOnce, be32, magic, stream_head, configuration, end_mark, IsTrailer, part_slots, Head, SubHead, Foot, End}
+use Rattle.vms_stream.proofs.Facade.{Magic, Version, Configuration, Description, Progress, Reading, Accepted, reading_on, IsGood, at_set, none_of, version_at}
+use Rattle.vms_stream.proofs.Facade.{Beside, beside_first, beside_next, beside_end, part_place, so_far, so_at_last, own_taken, part_taken, sub_so, none_missing}
+use Rattle.vms_stream.proofs.Facade.{came_at, same_lists, agrees, falses, defaults_of, never_true, Tail, Unknown, Footed, Bare, Between, AfterFields, fits_four}
+use Rattle.vms_stream.proofs.Facade.{is_foot, is_next, May, AtHead, AtEnd, AtSubHead, AtFoot, AtNext, AtMagic, AtVersion, AtConfiguration, AtDescription}
+use Rattle.vms_stream.proofs.Facade.{first_of, judge, reading, State, Free, Ended, known_at, after, by_state, Headed, between, at_start, IsSection, HasSection}
+use Rattle.vms_stream.proofs.Facade.{SectionsSpell, IsStream, Takes, trailer_at}
+use Rattle.vms_bodies.proofs.SubsOnly.{image_at}
+use Rattle.vms_stream.specs.State.{Over}
+use Rattle.vms_stream.proofs.Bodies.Body.{body_read}
 use Rattle.vms_stream.proofs.Streams.UnitRows.{head_passes, sub_passes, foot_passes, end_passes, name_passes}
 use Rattle.vms_stream.proofs.Streams.Steps.{g, unit_on, opened, settled, head_after}
 use Rattle.vms_stream.proofs.Streams.Inside.{Agrees, tail_of, closing, Section, stands, over, knows, known_is, due_is, held_is, subs_are, sub_after}
 use Rattle.vms_stream.proofs.Streams.StreamFound.{came_to}
-use Rattle.vms_stream.specs.Finding.{trailer_at}
 
 -- a section may begin, and the end mark may come
 pub record IsFree (set : Set) (names : List (List ℕ)) (s : State) : Type 0 where
@@ -71,8 +54,7 @@ read_from : {set : Set} {names : List (List ℕ)} {s to : State} {place : ℕ} {
 read_from earlier at all r reads = record { state = r.state; free = r.free; is = r.is; at = r.at; reads = reads }
 
 module _ (set : Set) (names : List (List ℕ)) (good : IsGood set) (c : Section set) (image : Image) (normal : IsNormal set c.device image)
-    (valid : IsValid set c.device image) (id_fits : c.id < 4294967296) (footed : Bool)
-    (fits : Agrees c.state.tail footed) where
+    (valid : IsValid set c.device image) (id_fits : c.id < 4294967296) (footed : Bool) (fits : Agrees c.state.tail footed) where
   abbrev J : State → ℕ → List ℕ → Option (Reading State)
   J = reading_on (judge (by_state set names))
 
@@ -145,7 +127,8 @@ module _ (set : Set) (names : List (List ℕ)) (good : IsGood set) (c : Section 
       ∙ ap (λ x. first_of set names (AfterFields c.k c.state.tail) x (SubHead name w)) (known_is c (so now) part i)
       ∙ sub_passes set names (AfterFields c.k c.state.tail) (knows c (so now) part i) c.device.subs name w j sub
       (subs_are c (so now) part i) named s.there b.0 s.version in
-      let reads = rw (part_taken set names good c.k c.id c.device c.there image normal valid now j w sub (place + length head) s.body more s.there b.0 b.1 s.spells) at (body_read set names c.state c.device image1 c.k c.id (Some j) c.there c.room good.structs sub.desc w (part_place set c.device j)
+      let reads = rw (part_taken set names good c.k c.id c.device c.there image normal valid now j w sub (place + length head) s.body more s.there b.0 b.1 s.spells)
+      at (body_read set names c.state c.device image1 c.k c.id (Some j) c.there c.room good.structs sub.desc w (part_place set c.device j)
       (good.subs c.k j c.device sub c.there s.there) (λ m. rw (s.there, (at_set now j (Some w) (slice_get_within now j None b.0)))) p) in
       let r = subs_read order (Some j) reads.0 now1 (slice_set left j None) reads.1 b.2 once.1 ((place + length head) + length s.body) later rest spell.3 in
       let is : (tail ++ closing footed c.id) ++ rest ≡ head ++ (s.body ++ more) =
@@ -175,14 +158,14 @@ module _ (set : Set) (names : List (List ℕ)) (good : IsGood set) (c : Section 
   section_read place body tail rest order spells once spell =
       let fresh : Image = record (default_image set c.device) { version = image.version } in
       let more = (tail ++ closing footed c.id) ++ rest in
-      let reads = rw (own_taken set names good c.k c.id c.device c.there image normal valid place body more spells) at (body_read set names c.state c.device fresh c.k c.id None c.there c.room good.structs c.device.desc image.version 0 (good.devices c.k c.device c.there)
-      (λ m. refl) (record { numbers = fresh.numbers; place = place; rest = body ++ more })) in
+      let reads = rw (own_taken set names good c.k c.id c.device c.there image normal valid place body more spells)
+      at (body_read set names c.state c.device fresh c.k c.id None c.there c.room good.structs c.device.desc image.version 0
+      (good.devices c.k c.device c.there) (λ m. refl) (record { numbers = fresh.numbers; place = place; rest = body ++ more })) in
       let r = subs_read order None reads.0 (none_of c.device.subs) image.came reads.1 (beside_first c.device.subs image.came normal.subs) once
       (place + length body) tail rest spell in
       read_from (stands c fresh None 0) place (body ++ (tail ++ closing footed c.id)) r
       (ap (J (stands c fresh None 0) place) (append_assoc body (tail ++ closing footed c.id) rest)
-      ∙ reads.2
-      ∙ r.reads
+      ∙ reads.2 ∙ r.reads
       ∙ ap (λ x. J r.state x rest) (omega (arith, length-append body (tail ++ closing footed c.id))))
 
 -- between sections, these devices' sections and the end mark are read
@@ -238,8 +221,7 @@ module _ (set : Set) (names : List (List ℕ)) (good : IsGood set) where
       ∙ ap (λ y. J r.state y rest) (omega (arith, ap length whole, length-append head more)))
 
   pub sections_read : (footed : Bool) (images : List Image) → length images ≡ length set.devices → (order : List ℕ) (s to : State) → settled set s ≡ to
-      → IsFree set names s → Agrees to.tail footed
-      → length to.came ≡ length set.devices → length to.images ≡ length set.devices
+      → IsFree set names s → Agrees to.tail footed → length to.came ≡ length set.devices → length to.images ≡ length set.devices
       → ((k : ℕ) → slice_get to.came k ≡ Some true → slice_get to.images k ≡ slice_get images k) → EachOnce to.came order
       → (place : ℕ) (sections after : List ℕ) → SectionsSpell set footed images order sections → ReadsOn set names s to images place sections after
   sections_read footed images one_each [] s to e free fits came long agree once place sections after spell =
@@ -269,9 +251,7 @@ module _ (set : Set) (names : List (List ℕ)) (good : IsGood set) where
         came = q.came;
         tail = q.tail;
         reads = rw (spell.4) (ap (J s place) (append_assoc front later (0x00 ∷ after))
-            ∙ r.reads
-            ∙ q.reads
-            ∙ ap (λ (x : ℕ). J (record to { images = images; came = q.came; tail = q.tail; spot = Ended }) x after)
+            ∙ r.reads ∙ q.reads ∙ ap (λ (x : ℕ). J (record to { images = images; came = q.came; tail = q.tail; spot = Ended }) x after)
             (omega (arith, ap length spell.4, length-append front later)));
       }
 
