@@ -139,9 +139,9 @@ module _ (all : List Cell) (total : List ℤ → List Slot) (n : List ℤ) (end 
       (omega (arith, ap length r.spells.1, length-append (code kind z) r.spells.0, length-code kind z)) r.spells.2 r.fits.1 r.rules (λ c. refl))
   other_spelling cell (Filler k) done left p o up l =
       let r = rest_of l in
-      passed {cell = cell} {further = cell} {slot = Filler k} {done = done} {left = left} up l (filler_taken r.spells.0 _ p k r.spells.2 (r.front ∙ rw (r.spells.3, append_assoc) refl))
-      (unchanged k r.spells.1 r (omega (arith, ap length r.spells.3, length-append r.spells.0 r.spells.1))
-      r.spells.4 r.fits r.rules (λ c. refl))
+      passed {cell = cell} {further = cell} {slot = Filler k} {done = done} {left = left} up l
+      (filler_taken r.spells.0 _ p k r.spells.2 (r.front ∙ rw (r.spells.3, append_assoc) refl))
+      (unchanged k r.spells.1 r (omega (arith, ap length r.spells.3, length-append r.spells.0 r.spells.1)) r.spells.4 r.fits r.rules (λ c. refl))
   other_spelling cell (Rule b) done left p o up l =
       let r = rest_of l in
       passed {cell = cell} {further = cell} {slot = Rule b} {done = done} {left = left} up l (if_true b (Ok p) _ r.rules.0)

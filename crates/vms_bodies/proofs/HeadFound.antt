@@ -1,8 +1,8 @@
 -- A section head that is read is spelled so.
-use Rattle.vms_bodies.proofs.Facade.{◌≡◌, ℕ, zero, suc, ◌+◌, ◌<◌, ◌≤◌, List, ◌∷◌, ◌++◌, length, get_or, take, drop, Some, refl, sym, ap, ◌∙◌, arith}
-use Rattle.vms_bodies.proofs.Facade.{append_assoc, length-drop, Bool, true, false, if◌then◌else◌, ◌==◌, ◌&&◌, [], slice_get, bytes_eq, drop-drop}
-use Rattle.vms_bodies.proofs.Facade.{take-append-drop, length-take-le, get_or-take, drop-cons, eqb-true, and_parts, big_number, big_from, big_bytes, U32, again}
-use Rattle.vms_bodies.proofs.Facade.{bytes_first, bytes_rest, IsBytes, Device, be32, section_head, number_at, bytes_at, find_device}
+use Rattle.vms_bodies.proofs.Facade.{⊎_elim, cases_Bool, ◌≡◌, ℕ, zero, suc, ◌+◌, ◌<◌, ◌≤◌, List, ◌∷◌, ◌++◌, length, get_or, take, drop, Some, refl, sym, ap}
+use Rattle.vms_bodies.proofs.Facade.{◌∙◌, arith, append_assoc, length-drop, true, false, ◌==◌, ◌&&◌, [], slice_get, bytes_eq, drop-drop, take-append-drop}
+use Rattle.vms_bodies.proofs.Facade.{length-take-le, get_or-take, drop-cons, eqb-true, and_parts, big_number, big_from, big_bytes, U32, again, bytes_first}
+use Rattle.vms_bodies.proofs.Facade.{bytes_rest, IsBytes, Device, be32, section_head, number_at, bytes_at, find_device}
 
 -- ---- bytes
 
@@ -66,18 +66,14 @@ pub record Found (devices : List Device) (j : ℕ) (name : List ℕ) (instance k
   pub name_is : bytes_eq device.desc.name name ≡ true
   pub instance_is : device.instance ≡ instance
 
-found_here : (d : Device) (devices : List Device) (j : ℕ) (name : List ℕ) (instance k : ℕ)
-    → (find_device (suc j) devices name instance ≡ Some k → Found devices (suc j) name instance k)
-    → (b : Bool) → (bytes_eq d.desc.name name && d.instance == instance) ≡ b → (if b then Some j else find_device (suc j) devices name instance) ≡ Some k
-    → Found (d ∷ devices) j name instance k
-found_here d devices j name instance k later true t e =
-    let h = and_parts (bytes_eq d.desc.name name) _ t in
-    let same : j ≡ k = cc in
-    record { i = 0; is = omega arith; device = d; there = refl; name_is = h.0; instance_is = eqb-true d.instance instance h.1 }
-found_here d devices j name instance k later false f e =
-    let h = later e in
-    record { i = suc h.i; is = omega arith; device = h.device; there = h.there; name_is = h.name_is; instance_is = h.instance_is }
-
 pub found_is : (devices : List Device) (j : ℕ) (name : List ℕ) (instance k : ℕ) → find_device j devices name instance ≡ Some k → Found devices j name instance k
 found_is [] j name instance k e = cc
-found_is (d ∷ devices) j name instance k e = found_here d devices j name instance k (found_is devices (suc j) name instance k) _ refl e
+found_is (d ∷ devices) j name instance k e =
+    ⊎_elim (λ (t : (bytes_eq d.desc.name name && d.instance == instance) ≡ true).
+    let h = and_parts (bytes_eq d.desc.name name) _ t in
+    let one : Some j ≡ Some k = rw t at e in
+    let same : j ≡ k = cc in
+    record { i = 0; is = omega arith; device = d; there = refl; name_is = h.0; instance_is = eqb-true d.instance instance h.1 })
+    (λ (f : (bytes_eq d.desc.name name && d.instance == instance) ≡ false).
+    let h = found_is devices (suc j) name instance k (rw f at e) in
+    record { i = suc h.i; is = omega arith; device = h.device; there = h.there; name_is = h.name_is; instance_is = h.instance_is }) (cases_Bool _)

@@ -239,7 +239,7 @@ module _ (total : List ℤ → List Slot) (Holds : ℕ → List Slot → Progres
             (left_ap (λ m s.
             let now = numbers_of cs d m base in
             let h : (j : ℕ) → IsEarlier d.fields i j → now j ≡ old j = λ j x. own_same cs d base i cell j p.numbers m here s x in
-            rw (pairs_cells ts ms pairs, there_same d.fields i v f.since old now h f.test sound.test, elements_same d.fields i old now h f.count sound.count)) l)
+            rw (pairs_cells _ _ pairs, there_same d.fields i v f.since old now h f.test sound.test, elements_same d.fields i old now h f.count sound.count)) l)
 
         fields_comes : (i cell end : ℕ) (fs : List Field) {p : Progress} {done : List Slot} {left : List ℤ → List Slot}
             → AreSoundFields d.fields i fs → cell ≡ place_of (cells_of ts) d.fields 0 base d.fields i → drop i d.fields ≡ fs
