@@ -11,6 +11,9 @@ use std::io::{ErrorKind, Read, Write};
 use std::rt::Files;
 use std::{fs, io};
 
+// The number of bytes that are read from a file at once.
+const PIECE: usize = 4096;
+
 /// A shelf over the files of one folder, by their names in it. Its contents are unknown: no
 /// contract says what the files hold.
 #[derive(Drop)]
@@ -102,12 +105,23 @@ impl<R: Files + Drop> FileShelf<R> {
 }
 
 // Reads the first `most` bytes of a file.
+//
+// `read_to_end` clears the room for each byte before it reads it. So the bytes pass through a buffer
+// of fixed length, and `read_to_end` is called last: it finds the end, or tries again what failed.
 fn read_front<F: Read + Drop>(alloc: Global, file: F, most: u64) -> io::Result<Vec<u8>>
     ensures { IfOk result (λ bytes.
         IfSome (F.remaining file) (λ held. bytes.items ≡ take most held)) }
 {
+    let mut file = file.take(most);
     let mut bytes = Vec::new(alloc);
-    file.take(most).read_to_end(&mut bytes)?;
+    let mut piece = [0; PIECE];
+    while let Ok(count) = file.read(&mut piece) {
+        if count == 0 {
+            break;
+        }
+        bytes.extend_from_slice(&piece[..count])?;
+    }
+    file.read_to_end(&mut bytes)?;
     Ok(bytes)
 }
 
