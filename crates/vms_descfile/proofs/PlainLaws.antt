@@ -1,21 +1,57 @@
--- Objects with a kind and a name and nothing else, and the kinds that words name.
-use Rattle.std.proofs.Common.{◌≡◌, ℕ, List, Option, Some, None, IfSome, option_and_then, refl, sym, ap, ap₂, ◌∙◌, codes}
-use Rattle.serde_json.specs.Data.{Data, object, Members, no_members, put}
-use Rattle.serde_json.specs.Find.{as_object}
-use Rattle.vms_json.proofs.KeyLaws.{object_is}
+-- Fields with a kind of number, a name and at most former names, and the kinds that words name.
+use Rattle.std.proofs.Common.{◌≡◌, ℕ, List, [], Option, Some, None, IfSome, option_and_then, true, pos, refl, sym, ap, ◌∙◌, codes}
+use Rattle.serde_json.specs.Data.{Data, object}
+use Rattle.serde_json.specs.Find.{as_str}
+use Rattle.vms_json.specs.Answers.{Answer, good, bad, given, next, under}
+use Rattle.vms_json.specs.Members.{judged}
+use Rattle.vms_json.specs.Names.{Names}
 use Rattle.vms_kinds.specs.declared.Kind.{Kind}
 use Rattle.vms_kinds.specs.declared.Kind.TheVariants as kinds
+use Rattle.vms_spec.specs.declared.Count.TheVariants.{One}
 use Rattle.vms_words.specs.Words.{TellsKind, kind_word}
+use Rattle.vms_descfile.specs.declared.read.sort.Sort.{Sort}
 use Rattle.vms_descfile.specs.declared.read.sort.Sort.TheVariants.{Number}
-use Rattle.vms_descfile.specs.Fields.{kind_and_name, sort_named}
+use Rattle.vms_descfile.specs.Fields.{Front, IsPlain, field_after, field_fits, field_in, plain_field, plain_members, sort_fits, sort_named, sort_of}
 
-pub kind_first : (d a b : Data) (k l : List ℕ) (ms : Members) → Some ms ≡ as_object d → ms ≡ put l b (put k a no_members)
-    → k ≡ codes "kind" → l ≡ codes "name" → d ≡ kind_and_name a b
-kind_first d a b k l ms e are one two = object_is _ _ e ∙ ap object (are ∙ ap₂ (λ q r. put r b (put q a no_members)) one two)
+-- ---- the field
 
-pub name_first : (d a b : Data) (k l : List ℕ) (ms : Members) → Some ms ≡ as_object d → ms ≡ put k a (put l b no_members)
-    → k ≡ codes "kind" → l ≡ codes "name" → d ≡ kind_and_name a b
-name_first d a b k l ms e are one two = object_is _ _ e ∙ ap object (are ∙ ap₂ (λ q r. put q a (put r b no_members)) one two)
+-- the members before the kind, if there are only former names
+abbrev fronted : List (List ℕ) → Front
+fronted names = record { count = One; default = pos 0; equal = None; former = names }
+
+module _ (kind : Kind) (k n : Data) (name : List ℕ) (named : option_and_then sort_named (as_str k) ≡ Some (Number kind)) (called : Some name ≡ as_str n) where
+  sort_told : sort_of k ≡ good (Number kind)
+  sort_told = by (as_str k) ∙ ap given named
+    where
+      by : (word : Option (List ℕ)) → next (given word) (λ w. given (sort_named w)) ≡ given (option_and_then sort_named word)
+      by None = refl
+      by (Some word) = refl
+
+  abbrev whole : Option Data → Data
+  whole former = object (plain_members former (Some k) (Some n))
+
+  fits_plain : (former : Option Data) → field_fits (whole former) ≡ true
+  fits_plain None = ap (λ (s : Option Sort). sort_fits s (whole None)) named
+  fits_plain (Some f) = ap (λ (s : Option Sort). sort_fits s (whole (Some f))) named
+
+  after_plain : (names : Names) (former : Option Data) (fs : List (List ℕ)) → field_after names (fronted fs) (whole former) ≡ good (plain_field kind name fs)
+  after_plain names None fs = rw (sort_told, ← called)
+  after_plain names (Some f) fs = rw (sort_told, ← called)
+
+  then_after : (names : Names) (d : Data) (answer : Answer (List (List ℕ)))
+      → ((fs : List (List ℕ)) → field_after names (fronted fs) d ≡ good (plain_field kind name fs))
+      → next (next (under (codes "former") answer) (λ fs. good (fronted fs))) (λ front. field_after names front d)
+      ≡ next (under (codes "former") answer) (λ fs. good (plain_field kind name fs))
+  then_after names d (good fs) after = after fs
+  then_after names d (bad path) after = refl
+
+  pub field_plain : (former : Option Data) → IsPlain former kind name (whole former)
+  field_plain None names = ap (λ b. judged b (field_in names (whole None))) (fits_plain None) ∙ after_plain names None []
+  field_plain (Some f) names =
+      ap (λ b. judged b (field_in names (whole (Some f)))) (fits_plain (Some f))
+      ∙ then_after names (whole (Some f)) _ (after_plain names (Some f))
+
+-- ---- words
 
 pub number_named : (kind : Kind) → sort_named (kind_word kind) ≡ Some (Number kind)
 number_named kinds.U8 = refl

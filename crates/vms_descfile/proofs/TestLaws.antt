@@ -1,5 +1,5 @@
 -- Faults inside tests, and a test by its form.
-use Rattle.std.proofs.Common.{◌≡◌, ℕ, zero, suc, ◌-◌, ◌<◌, List, refl, ap, sym, subst, ◌∙◌, arith, Result}
+use Rattle.std.proofs.Common.{◌≡◌, ℕ, zero, suc, ◌-◌, ◌<◌, List, ap, sym, subst, ◌∙◌, arith, Result}
 use native.Mathlib.Numerals.{unary_clauses}
 use Rattle.serde_json.specs.Data.{Data}
 use Rattle.vms_parts.specs.Views.{formula}
@@ -7,7 +7,7 @@ use Rattle.vms_parts.specs.declared.types.Test.{Test}
 use Rattle.vms_descfile.specs.declared.read.cells.Form.{Form}
 use Rattle.vms_json.specs.declared.fault.Fault.{Fault}
 use Rattle.vms_json.specs.declared.fault.Fault.TheVariants as faults
-use Rattle.vms_json.specs.Answers.{Answer, good, bad, under, next, changed, Refuses, Answers, IsUnder}
+use Rattle.vms_json.specs.Answers.{Answer, bad, under, next, changed, Refuses, Answers, IsUnder}
 use Rattle.vms_json.specs.Names.{Scope}
 use Rattle.vms_descfile.specs.Tests.{test_within, test_as, form_of}
 

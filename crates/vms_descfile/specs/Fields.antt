@@ -1,7 +1,7 @@
 -- What the fields of a file say (docs/sets.md).
 use Rattle.std.specs.Prelude.{◌≡◌, ℕ, Bool, true, ◌&&◌, not, if◌then◌else◌, List, [], ◌∷◌, Option, Some, None, option_map, option_and_then, ℤ, pos, codes}
 use Rattle.std.specs.Str.{bytes_eq}
-use Rattle.serde_json.specs.Data.{Data, object, member, no_members}
+use Rattle.serde_json.specs.Data.{Data, Members, member, no_members}
 use Rattle.serde_json.specs.Find.{get, as_str}
 use Rattle.vms_kinds.specs.declared.Kind.{Kind}
 use Rattle.vms_kinds.specs.declared.Item.{Item}
@@ -12,7 +12,7 @@ use Rattle.vms_spec.specs.Sets.{Formula, Field}
 use Rattle.vms_words.specs.Words.{kind_named}
 use Rattle.vms_json.specs.Answers.{Answer, good, next, given, list_of}
 use Rattle.vms_json.specs.Keys.{has, fits}
-use Rattle.vms_json.specs.Members.{judged, at, at_or, maybe_at, u16_of, u32_of, integer_of, text_of}
+use Rattle.vms_json.specs.Members.{judged, at, at_or, maybe_at, member_or, u16_of, u32_of, integer_of, text_of}
 use Rattle.vms_json.specs.Names.{Names, name_in}
 use Rattle.vms_descfile.specs.Tests.{test_of}
 use Rattle.vms_descfile.specs.declared.read.fields.Front as declared
@@ -108,13 +108,17 @@ pub record Front : Type 0 where
 abbrev pub front_seen : declared.Front → Front
 front_seen f = record { count = f.count; default = f.default; equal = f.equal; former = f.former }
 
+-- the former names, given the value under `former`, if there is one
+abbrev pub former_of : Option Data → Answer (List (List ℕ))
+former_of former = member_or [] (list_of text_of) (codes "former") former
+
 -- the members before the kind
 abbrev pub front_of : Names → Data → Answer Front
 front_of names d =
     next (count_of names d) (λ count.
     next (at_or (pos 0) integer_of (codes "default") d) (λ default.
     next (maybe_at integer_of (codes "equal") d) (λ equal.
-    next (at_or [] (list_of text_of) (codes "former") d) (λ former.
+    next (former_of (get (codes "former") d)) (λ former.
     good (record { count = count; default = default; equal = equal; former = former })))))
 
 -- the test by which a field is present, if there is one
@@ -148,13 +152,13 @@ field_in names d = next (front_of names d) (λ front. field_after names front d)
 abbrev pub field_of : Names → Data → Answer Field
 field_of names d = judged (field_fits d) (field_in names d)
 
--- ---- fields with a kind of number, a name and nothing else
+-- ---- fields with a kind of number, a name and at most former names
 
--- the field of a kind and a name
-abbrev pub plain_field : Kind → List ℕ → Field
-plain_field kind name = record {
+-- the field of a kind, a name and former names
+abbrev pub plain_field : Kind → List ℕ → List (List ℕ) → Field
+plain_field kind name former = record {
   name = name;
-  former = [];
+  former = former;
   item = items.Num kind;
   count = One;
   since = 0;
@@ -162,10 +166,20 @@ plain_field kind name = record {
   default = pos 0;
 }
 
--- the value says such a field, whatever the names of its description are
-abbrev pub IsPlain : Kind → List ℕ → Data → Type 0
-IsPlain kind name d = (names : Names) → field_of names d ≡ good (plain_field kind name)
+-- the field of a kind, a name and the value under `former`, if there is one
+abbrev pub plain_of : Option Data → Kind → List ℕ → Answer Field
+plain_of former kind name = next (former_of former) (λ names. good (plain_field kind name names))
 
--- the object of a kind and a name
-abbrev pub kind_and_name : Data → Data → Data
-kind_and_name kind name = object (member (codes "kind") kind (member (codes "name") name no_members))
+-- the value says such a field, whatever the names of its description are
+abbrev pub IsPlain : Option Data → Kind → List ℕ → Data → Type 0
+IsPlain former kind name d = (names : Names) → field_of names d ≡ plain_of former kind name
+
+-- a member before others, if there is one
+abbrev pub maybe_member : List ℕ → Option Data → Members → Members
+maybe_member key None ms = ms
+maybe_member key (Some d) ms = member key d ms
+
+-- the members of such a field, of which each may be there
+abbrev pub plain_members : Option Data → Option Data → Option Data → Members
+plain_members former kind name =
+    maybe_member (codes "former") former (maybe_member (codes "kind") kind (maybe_member (codes "name") name no_members))

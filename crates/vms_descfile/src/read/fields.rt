@@ -2,21 +2,21 @@
 ghost use Rattle.std.specs.Prelude.{◌≡◌, map, option_and_then, codes, Some, IfSome};
 ghost use Rattle.std.specs.Option.{option_map};
 ghost use Rattle.serde_json.specs.Find.{get, as_str};
-ghost use Rattle.vms_json.specs.Nodes.{view};
+ghost use Rattle.vms_json.specs.Nodes.{view, members_left};
 ghost use Rattle.vms_spec.specs.Sets as sets;
 ghost use Rattle.vms_parts.specs.Views.{field_of as field_seen, formula_in};
 ghost use Rattle.vms_descfile.specs.declared.read.sort.Sort.{Sort as TheSort};
 ghost use Rattle.vms_descfile.specs.declared.read.sort.Sort.TheVariants.{Number};
-ghost use Rattle.vms_json.specs.Answers.{Answers, good};
+ghost use Rattle.vms_json.specs.Answers.{Answers};
 ghost use Rattle.vms_json.specs.Names.{names_seen};
-ghost use Rattle.vms_descfile.specs.Fields.{sort_named, sort_of, counts_fit, values_fit, sort_fits, field_fits, count_as, count_of, item_as, front_seen, front_of, presence_of, field_after, field_in, field_of, plain_field, kind_and_name, IsPlain};
+ghost use Rattle.vms_descfile.specs.Fields.{sort_named, sort_of, counts_fit, values_fit, sort_fits, field_fits, count_as, count_of, item_as, front_seen, front_of, presence_of, field_after, field_in, field_of, former_of, plain_of, plain_members, IsPlain};
 
 use super::sort::Sort;
 use super::tests::BoxedTestIn;
 use std::alloc::Global;
 use vms_json::{
-    Fault, Integer, ListOf, NameIn, Names, Node, Reads, Scope, TextOf, U16, U32, at, at_or, fits,
-    has, maybe_at,
+    Fault, Integer, ListOf, Members, NameIn, Names, Node, Reads, Scope, TextOf, U16, U32, at,
+    at_or, fits, has, maybe_at, said,
 };
 use vms_kinds::{Item, Kind};
 use vms_parts::{Count, Field, Listed, Test, Text};
@@ -170,14 +170,23 @@ pub(crate) struct Front {
     former: Listed<Text>,
 }
 
+// Reads the names under `former`, if there are any.
+fn read_former(alloc: Global, former: Option<Node>) -> Result<Listed<Text>, Fault>
+    ensures { Answers (λ names. names) (former_of (option_map view former.entry)) result }
+{
+    match former {
+        Some(names) => said(alloc, &ListOf(TextOf), "former", &names),
+        None => Ok(Listed::new(Vec::new(alloc))),
+    }
+}
+
 fn read_front(alloc: Global, names: Names, value: &Node) -> Result<Front, Fault>
     ensures { Answers front_seen (front_of (names_seen names.entry) (view value.now)) result }
 {
     let count = read_count(alloc, names, value)?;
     let default = at_or(alloc, &Integer, "default", value, 0)?;
     let equal = maybe_at(alloc, &Integer, "equal", value)?;
-    let none = Listed::new(Vec::new(alloc));
-    let former = at_or(alloc, &ListOf(TextOf), "former", value, none)?;
+    let former = read_former(alloc, value.get("former"))?;
     Ok(Front {
         count,
         default,
@@ -228,42 +237,60 @@ fn read_field(alloc: Global, names: Names, value: &Node) -> Result<Field, Fault>
     read_after(alloc, names, front, value)
 }
 
-// A field with a kind of number, a name and nothing else, as most have.
+// A field with a kind of number, a name and at most former names, as most have.
 #[derive(Clone, Copy)]
-struct Plain<'a> {
+struct Plain<'t, 'a> {
+    former: Option<Node<'t, 'a>>,
     kind: Kind,
     name: &'a str,
 }
 
-fn plain_in<'a>(value: &Node<'_, 'a>) -> Option<Plain<'a>>
-    ensures { IfSome result (λ p. IsPlain p.kind p.name.now (view value.now)) }
+fn plain_in<'t, 'a>(value: Node<'t, 'a>) -> Option<Plain<'t, 'a>>
+    ensures { IfSome result
+        (λ p. IsPlain (option_map view p.former) p.kind p.name.now (view value.entry)) }
 {
-    let mut members = value.as_members()?;
-    let first = members.next()?;
-    let second = members.next()?;
-    if members.next().is_some() {
-        return None;
-    }
-    let one = first.0;
-    let two = second.0;
-    if one == "kind" && two == "name" {
-        plain_by(&first.1, &second.1)
-    } else if one == "name" && two == "kind" {
-        plain_by(&second.1, &first.1)
-    } else {
-        None
-    }
+    let members = value.as_members()?;
+    let seen = seen_in(members)?;
+    let kind = seen.kind?;
+    let name = seen.name?;
+    let number = number_kind(&kind)?;
+    let text = name.as_str()?;
+    Some(Plain {
+        former: seen.former,
+        kind: number,
+        name: text,
+    })
 }
 
-// Returns such a field by the values under its two keys.
-fn plain_by<'a>(kind: &Node, name: &Node<'_, 'a>) -> Option<Plain<'a>>
-    ensures { IfSome result
-        (λ p. IsPlain p.kind p.name.now (kind_and_name (view kind.now) (view name.now))) }
+// The members of such a field.
+#[derive(Clone, Copy)]
+struct Seen<'t, 'a> {
+    former: Option<Node<'t, 'a>>,
+    kind: Option<Node<'t, 'a>>,
+    name: Option<Node<'t, 'a>>,
+}
+
+// Returns the members by their keys, or `None` if one has another key.
+fn seen_in<'t, 'a>(mut members: Members<'t, 'a>) -> Option<Seen<'t, 'a>>
+    ensures { IfSome result (λ s. members_left members.entry
+        ≡ plain_members (option_map view s.former) (option_map view s.kind)
+        (option_map view s.name)) }
 {
-    match (number_kind(kind), name.as_str()) {
-        (Some(kind), Some(name)) => Some(Plain { kind, name }),
-        _ => None,
+    let mut former = None;
+    let mut kind = None;
+    let mut name = None;
+    while let Some((key, member)) = members.next() {
+        if key == "former" {
+            former = Some(member);
+        } else if key == "kind" {
+            kind = Some(member);
+        } else if key == "name" {
+            name = Some(member);
+        } else {
+            return None;
+        }
     }
+    Some(Seen { former, kind, name })
 }
 
 fn number_kind(value: &Node) -> Option<Kind>
@@ -275,11 +302,13 @@ fn number_kind(value: &Node) -> Option<Kind>
 }
 
 fn plain_field(alloc: Global, plain: Plain) -> Result<Field, Fault>
-    ensures { Answers field_seen (good (plain_field plain.entry.kind plain.entry.name.now)) result }
+    ensures { Answers field_seen (plain_of (option_map view plain.entry.former) plain.entry.kind
+        plain.entry.name.now) result }
 {
+    let former = read_former(alloc, plain.former)?;
     Ok(Field {
         name: Text::new(String::from_str(alloc, plain.name)?),
-        former: Listed::new(Vec::new(alloc)),
+        former,
         item: Item::Num(plain.kind),
         count: Count::One,
         since: 0,
@@ -302,7 +331,7 @@ impl<'a> Reads for FieldIn<'a> {
     ghost says = { λ s. field_of (names_seen s.0) };
 
     fn read(&self, alloc: Global, value: &Node) -> Result<Field, Fault> {
-        if let Some(plain) = plain_in(value) {
+        if let Some(plain) = plain_in(*value) {
             return plain_field(alloc, plain);
         }
         if field_fits(value) {
