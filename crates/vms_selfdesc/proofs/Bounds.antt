@@ -1,10 +1,9 @@
 -- Ready images are images of their devices.
 use Rattle.vms_selfdesc.proofs.Facade.{◌≡◌, ℕ, ◌<◌, List, length, get_or, Some, ap, sym, ◌∙◌, arith, true, [], ◌≤◌, zero, suc, ◌*◌, ◌∷◌, refl, Bool, is_none}
 use Rattle.vms_selfdesc.proofs.Facade.{slice_get-get_or, list_all, ltb-true, Set, Sub, Device, AtLeast, no_desc, first, Image, AreReady, longest_text}
-use Rattle.vms_selfdesc.proofs.Facade.{versions_long, device_at, is_well_formed, shipped_set, clock_set, few_cells, IsOfDevice, depth, read, max_depth}
-use Rattle.vms_selfdesc.proofs.Facade.{FitsHeads, first_fault, none_is, few_items, few_devices, IsSound, described_tree, described_text, NEWEST_SET}
-use Rattle.vms_selfdesc.proofs.Facade.{shipped_sets, sub_at, few_subs, device_clean, sub_clean, clock_heads, by_number, clock_formed, fit_number, ShortLaw}
-use Rattle.vms_selfdesc.proofs.Facade.{ShippedLaw, ClockLaw}
+use Rattle.vms_selfdesc.proofs.Facade.{versions_long, device_at, is_well_formed, shipped_set, clock_set, few_cells, IsOfDevice, read, FitsHeads, first_fault}
+use Rattle.vms_selfdesc.proofs.Facade.{none_is, few_items, few_devices, IsSound, described_tree, described_text, shipped_sets, sub_at, few_subs, device_clean}
+use Rattle.vms_selfdesc.proofs.Facade.{sub_clean, clock_heads, by_number, clock_formed, fit_number, ShortLaw, ShippedLaw, ClockLaw}
 use Rattle.vms_selfdesc.proofs.Shapes.{described_plain}
 use Rattle.vms_selfdesc.proofs.WholeText.{reads_whole}
 use Rattle.std.specs.Prelude.{nat_lt}
@@ -13,28 +12,25 @@ use Rattle.vms_selfdesc.proofs.Plain.{name_short, sub_name_short}
 use Rattle.vms_selfdesc.proofs.Soundness.{part_sound}
 use Rattle.vms_spec.specs.declared.Part.TheVariants as parts
 
-pub ready_device : (set : Set) → is_well_formed set ≡ true → (images : List Image) → AreReady set images → (i : ℕ) (image : Image) → i < length images
-    → image ≡ get_or images i image → IsOfDevice set i image
-ready_device set well images ready i image lt is =
-    let there : i < length set.devices = omega (arith, ready.one_each) in
-    let d = device_at set i in
-    let r =
-    ready.ready i d image (slice_get-get_or set.devices i (record { instance = 0; desc = no_desc; subs = [] }) there)
-    (slice_get-get_or images i image lt ∙ ap (λ (x : Image). Some x) (sym is)) in
-    record {
-      is_device = there;
-      cells = r.normal.cells.long;
-      subs = versions_long d.subs image.came r.normal.subs;
-      few = omega (arith, few_cells set well i, r.normal.cells.long);
-    }
-
--- ---- The text of every well-formed set is shorter than what a description section may have, and that of a shipped set is short.
-
 abbrev no_device : Device
 no_device = record { instance = 0; desc = no_desc; subs = [] }
 
 abbrev no_sub : Sub
 no_sub = record { desc = no_desc; needed = AtLeast 0 }
+
+pub ready_device : (set : Set) → is_well_formed set ≡ true → (images : List Image) → AreReady set images → (i : ℕ) (image : Image) → i < length images
+    → image ≡ get_or images i image → IsOfDevice set i image
+ready_device set well images ready i image lt is =
+    let there : i < length set.devices = omega (arith, ready.one_each) in
+    let r = ready.ready i (device_at set i) image (slice_get-get_or set.devices i no_device there) (slice_get-get_or images i image lt ∙ ap (λ x. Some x) (sym is)) in
+    record {
+      is_device = there;
+      cells = r.normal.cells.long;
+      subs = versions_long (device_at set i).subs image.came r.normal.subs;
+      few = omega (arith, few_cells set well i, r.normal.cells.long);
+    }
+
+-- ---- The text of every well-formed set is shorter than what a description section may have, and that of a shipped set is short.
 
 all_subs : (subs : List Sub) → ((j : ℕ) → j < length subs → IsShortDesc 165 (get_or subs j no_sub).desc) → AreShortSubs subs
 all_subs [] h = tt
@@ -54,28 +50,22 @@ all_devices (d ∷ devices) h =
 
 few_of : (devices : List Device) → ((i : ℕ) → i < length devices → IsShortDevice (get_or devices i no_device)) → subs_of devices ≤ 32 * length devices
 few_of [] h = omega arith
-few_of (d ∷ devices) h =
-    let here = (h 0 (omega arith)).few in
-    let rest = few_of devices (λ i lt. h (suc i) (omega arith)) in
-    omega (arith, here, rest)
+few_of (d ∷ devices) h = let here = h 0 (omega arith) in omega (arith, here.few, few_of devices (λ i lt. h (suc i) (omega arith)))
 
 module _ (set : Set) (well : is_well_formed set ≡ true) (heads : FitsHeads set) where
   short_device : (i : ℕ) → i < length set.devices → IsShortDevice (device_at set i)
   short_device i lt =
       let d = device_at set i in
       let here = slice_get-get_or set.devices i no_device lt in
-      let rules = (device_clean set well i lt).own in
-      let name = name_short 100 d.desc.name rules.0 in
+      let name = name_short 100 d.desc.name (device_clean set well i lt).own.0 in
       record {
         desc = record { sound = part_sound set well (parts.Device i) lt; name = name; version = omega (arith, (heads.instance i d here).1) };
         instance = omega (arith, (heads.instance i d here).0);
         subs = all_subs d.subs (λ j l.
-            let s = sub_at d j in
-            let own = (sub_clean set well i j lt l).own in
             record {
               sound = part_sound set well (parts.Sub i j) (lt, l);
-              name = sub_name_short d.desc.name s.desc.name name own.0;
-              version = omega (arith, heads.sub_version i j d s here (slice_get-get_or d.subs j no_sub l));
+              name = sub_name_short d.desc.name (sub_at d j).desc.name name (sub_clean set well i j lt l).own.0;
+              version = omega (arith, heads.sub_version i j d (sub_at d j) here (slice_get-get_or d.subs j no_sub l));
             });
         few = few_subs set well i lt;
       }
@@ -98,13 +88,12 @@ rooms : list_all has_room shipped_sets ≡ true
 unfolding first
 rooms = refl
 
-short_number : (s : ℕ) → s ≤ NEWEST_SET → (images : List Image) → length (described_text (shipped_set s) images) < 60000
-short_number s le images =
-    let f = fit_number s in
-    omega (arith, set_long (shipped_set s) (ap is_none f.well) f.heads images, ltb-true (set_room (shipped_set s)) 60000 (by_number has_room rooms s))
-
 pub shipped_holds : ShippedLaw
-shipped_holds = record { shipped = short_number }
+shipped_holds = record {
+  shipped = λ s le images.
+      let f = fit_number s in
+      omega (arith, set_long (shipped_set s) (ap is_none f.well) f.heads images, ltb-true (set_room (shipped_set s)) 60000 (by_number has_room rooms s));
+}
 
 -- ---- sets of clock boards
 
@@ -115,7 +104,7 @@ clock_room (suc zero) = omega arith
 clock_room (suc (suc s)) = omega arith
 
 pub clock_holds : ClockLaw
-clock_holds = record { clock = λ s images. let long = set_long (clock_set s) (clock_formed s) (clock_heads s) images in omega (arith, long, clock_room s) }
+clock_holds = record { clock = λ s images. omega (arith, set_long (clock_set s) (clock_formed s) (clock_heads s) images, clock_room s) }
 
 -- ---- What is known of a description by its text.
 
@@ -123,9 +112,7 @@ module _ (set : Set) (images : List Image) where
   pub text_reads : IsSound (described_tree set images) → (bytes : List ℕ) → bytes ≡ described_text set images → read bytes ≡ Some (described_tree set images)
   text_reads sound bytes is =
       let plain = described_plain set images in
-      let flat = plain.flat in
-      let shallow : depth (described_tree set images) ≤ max_depth = omega arith in
-      reads_whole (described_tree set images) bytes is sound shallow
+      reads_whole (described_tree set images) bytes is sound (omega (arith, plain.flat))
 
   pub text_short : is_well_formed set ≡ true → FitsHeads set → length (described_text set images) < longest_text
   text_short well heads = short_holds.short set (none_is (first_fault set) well) heads images

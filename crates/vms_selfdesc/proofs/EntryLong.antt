@@ -1,19 +1,17 @@
 -- How long the text of an entry is.
-use Rattle.vms_selfdesc.proofs.Facade.{◌≡◌, ℕ, suc, ◌+◌, ◌<◌, ◌≤◌, List, ◌∷◌, ◌++◌, length, length-append, ℤ, refl, ap, ◌∙◌, arith, Bool, true, false, decimal}
-use Rattle.vms_selfdesc.proofs.Facade.{codes, length-decimal-le, quoted, Data, Members, no_members, member, string, number, of_integer, compact_text}
+use Rattle.vms_selfdesc.proofs.Facade.{◌≡◌, ℕ, suc, ◌+◌, ◌<◌, ◌≤◌, List, length, length-append, ℤ, refl, arith, Bool, true, false, decimal, codes}
+use Rattle.vms_selfdesc.proofs.Facade.{length-decimal-le, escape_byte, quoted, Data, Members, no_members, member, string, number, of_integer, compact_text}
 use Rattle.vms_selfdesc.proofs.Facade.{members_text, number_text, comma_if, Kind, MOST_UNUSED, kind_word, sent_entry, absent_entry, natural, entry_tree}
 use Rattle.vms_selfdesc.proofs.Facade.{IsPlain}
+use Rattle.vms_selfdesc.proofs.Plain.{quoted_long}
 use Rattle.vms_kinds.specs.declared.Kind.TheVariants as kinds
-use Rattle.vms_selfdesc.proofs.Plain.{quoted_long, key_long, word_plain}
+use Rattle.vms_selfdesc.proofs.Plain.{key_long, word_plain}
 
 -- a member of an object, with what comes after it
 pub member_long : (later : Bool) (k : List ℕ) (d : Data) (ms : Members)
     → length (members_text later (member k d ms)) ≡ length
     (comma_if later) + (length (quoted k) + suc (length (compact_text d) + length (members_text true ms)))
-member_long later k d ms =
-    length-append (comma_if later) (quoted k ++ 58 ∷ (compact_text d ++ members_text true ms))
-    ∙ ap (λ x. length (comma_if later) + x) (length-append (quoted k) (58 ∷ (compact_text d ++ members_text true ms)))
-    ∙ ap (λ x. length (comma_if later) + (length (quoted k) + suc x)) (length-append (compact_text d) (members_text true ms))
+member_long later k d ms = simp length-append
 
 -- a type is one of at most 6 bytes
 pub word_short : (kind : Kind) → length (quoted (kind_word kind)) ≤ 8
@@ -31,21 +29,16 @@ number_short n lt = length-decimal-le 10 n (omega arith) (omega arith) (omega ar
 sent_members_long : (path type : List ℕ) (size : ℕ) (ms : Members) → IsPlain path → size ≤ MOST_UNUSED → length (quoted type) ≤ 8
     → length (members_text false (member (codes "name") (string path) (member (codes "size") (natural size) (member (codes "type") (string type) ms))))
     ≤ length path + 37 + length (members_text true ms)
+unfolding escape_byte
 sent_members_long path type size ms p small word =
-    let third = member_long true (codes "type") (string type) ms in
-    let second = member_long true (codes "size") (natural size) (member (codes "type") (string type) ms) in
-    let front = member_long false (codes "name") (string path) (member (codes "size") (natural size) (member (codes "type") (string type) ms)) in
+    let rest = member (codes "type") (string type) ms in
     omega (
       arith,
-      front,
-      second,
-      third,
-      key_long (codes "name") refl,
-      key_long (codes "size") refl,
-      key_long (codes "type") refl,
+      member_long false (codes "name") (string path) (member (codes "size") (natural size) rest),
+      member_long true (codes "size") (natural size) rest,
+      member_long true (codes "type") (string type) ms,
       quoted_long path p,
       size_short size small,
-      word,
     )
 
 pub sent_long : (path : List ℕ) (size : ℕ) (type : List ℕ) → IsPlain path → size ≤ MOST_UNUSED → length (quoted type) ≤ 8
@@ -56,5 +49,4 @@ pub absent_long : (path type : List ℕ) (z : ℤ) → IsPlain path → length (
     → length (compact_text (entry_tree (absent_entry path type z))) ≤ length path + 68
 absent_long path type z p word short =
     let ms = member (codes "value") (number (of_integer z)) no_members in
-    let last = member_long true (codes "value") (number (of_integer z)) no_members in
-    omega (arith, sent_members_long path type 0 ms p (omega arith) word, last, key_long (codes "value") refl, short)
+    omega (arith, sent_members_long path type 0 ms p (omega arith) word, member_long true (codes "value") (number (of_integer z)) no_members, key_long (codes "value") refl)

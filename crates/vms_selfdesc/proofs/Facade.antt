@@ -1,16 +1,17 @@
 -- The names of other crates, and of this crate's `specs`, that the proofs use.
-pub use Rattle.std.proofs.Common.{Bool, List, None, Option, Some, String, [], ap, append_assoc, ap₂, arith, codes, cond, decimal, drop, false, get_or}
-pub use Rattle.std.proofs.Common.{if◌then◌else◌, int_lt, is_none, is_some, length, length-append, map, max, nat_le, nat_lt, negsuc, pos, refl, rules}
-pub use Rattle.std.proofs.Common.{string_bytes, subst, suc, sym, take, true, w64, zero, ℕ, ℤ, ◌%◌, ◌&&◌, ◌*◌, ◌++◌, ◌+◌, ◌-◌, ◌/◌, ◌<◌, ◌==◌, ◌^◌, ◌||◌, ◌∙◌}
-pub use Rattle.std.proofs.Common.{◌∷◌, ◌≡◌, ◌≤◌}
+pub use Rattle.std.proofs.Common.{Bool, List, None, Option, Some, String, [], add-one, ap, append_assoc, ap₂, arith, codes, cond, decimal, drop, false, get_or}
+pub use Rattle.std.proofs.Common.{if◌then◌else◌, inl, inr, int_lt, is_none, is_some, length, length-append, map, max, nat_le, nat_lt, negsuc, option_and_then}
+pub use Rattle.std.proofs.Common.{pos, refl, rules, string_bytes, subst, suc, sym, take, true, w64, zero, ℕ, ℤ, ◌%◌, ◌&&◌, ◌*◌, ◌++◌, ◌+◌, ◌-◌, ◌/◌, ◌<◌, ◌==◌}
+pub use Rattle.std.proofs.Common.{◌^◌, ◌||◌, ◌∙◌, ◌∷◌, ◌≡◌, ◌≤◌}
 pub use Rattle.std.proofs.Math.Bool.{and-false, and-true, and_assoc}
 pub use Rattle.std.proofs.Math.Facts.{to_z-of_z}
 pub use Rattle.std.proofs.Math.ListN.{get_or-eq_default}
 pub use Rattle.std.proofs.Math.Nat.{mul-le-mul_left, mul-le-mul_right}
 pub use Rattle.std.proofs.Math.Seq.{take-append_seam}
-pub use Rattle.std.proofs.lemmas.Bool.{and_parts, eqb-true, le-ltb, leb-true, lt-ltb, ltb-false, ltb-true, ne_eqb, or_from}
+pub use Rattle.std.proofs.lemmas.Bool.{and_parts, cases_lt, eqb-true, leb-true, lt-ltb, ltb-false, ltb-true, or_from}
+pub use Rattle.std.proofs.lemmas.Bool.Decides.{nat_tests}
 pub use Rattle.std.proofs.lemmas.Fmt.{decimal_by_steps, length-decimal-le}
-pub use Rattle.std.proofs.lemmas.List.{append-nil, drop_all, drop_more, map-append, take-append-drop}
+pub use Rattle.std.proofs.lemmas.List.{append-nil, drop_all, drop_more, map-append, map-id, take-append-drop}
 pub use Rattle.std.proofs.lemmas.Option.{slice_get-get_or}
 pub use Rattle.std.proofs.lemmas.Result.{IfOk-weaker}
 pub use Rattle.std.proofs.lemmas.Slice.Eq.{bytes_eq-Decides}
@@ -21,7 +22,7 @@ unfoldable pub use Rattle.std.specs.Fmt.{digits}
 pub use Rattle.std.specs.Int.{w128}
 pub use Rattle.std.specs.Int.Signed.{mag}
 pub use Rattle.std.specs.List.{AllByRecursion, list_all}
-pub use Rattle.std.specs.Option.{option_and_then, option_map}
+pub use Rattle.std.specs.Option.{option_map}
 pub use Rattle.std.specs.Str.{IsUtf8, bytes_eq}
 pub use Rattle.vms_kinds.specs.Codes.{highest, lowest, width}
 unfoldable pub use Rattle.vms_kinds.specs.Codes.{code}
@@ -29,22 +30,21 @@ pub use Rattle.vms_kinds.specs.declared.Item.{Item}
 pub use Rattle.vms_kinds.specs.declared.Item.TheVariants.{Equal, Num, Struct, Unused}
 pub use Rattle.vms_kinds.specs.declared.Kind.{Kind}
 pub use Rattle.vms_kinds.specs.declared.Kind.TheVariants.{U8}
-pub use Rattle.vms_kinds.specs.declared.TheConstants.{NEWEST_SET}
 pub use Rattle.vms_spec.proofs.Boxes.{constant_set, counted_set, mixed_set, subsection_set, tested_set}
 pub use Rattle.vms_spec.proofs.Faultless.{AllTrue}
 pub use Rattle.vms_spec.proofs.KindLaws.{width_small}
-pub use Rattle.vms_spec.proofs.ListLaws.{either_of, versions_long}
+pub use Rattle.vms_spec.proofs.ListLaws.{versions_long}
 pub use Rattle.vms_spec.proofs.Prefixes.{FieldsBelow, ItemBelow, all_below, desc_cells_same, field_cells_same, first_same, item_cells_same, own_same, row_same}
 pub use Rattle.vms_spec.proofs.Sizes.{elements_fit, field_size, one_fits, room_for_less}
 pub use Rattle.vms_spec.proofs.Tables.{first_at, first_long}
 pub use Rattle.vms_spec.specs.Heads.{FitsHeads}
 pub use Rattle.vms_spec.specs.Images.{Image, own_cells}
-pub use Rattle.vms_spec.specs.Layout.{Cell, all_hold, capacity_of, counted, desc_cells, elements_of, field_cells, item_size, no_desc, no_field}
-pub use Rattle.vms_spec.specs.Layout.{no_parent, numbers_of, struct_cells}
+pub use Rattle.vms_spec.specs.Layout.{capacity_of, counted, desc_cells, elements_of, field_cells, item_size, no_desc, no_field, no_parent, numbers_of}
+pub use Rattle.vms_spec.specs.Layout.{struct_cells}
 unfoldable pub use Rattle.vms_spec.specs.Layout.{first}
 pub use Rattle.vms_spec.specs.Names.{is_name, is_name_byte, is_sub_name}
 pub use Rattle.vms_spec.specs.Rules.{counts_well, defaults_well, field_rules, in_range, int_le, is_small_item, is_small_optional, uses_below}
-pub use Rattle.vms_spec.specs.Sets.{AtLeast, Desc, Device, Field, Formula, Set, Sub}
+pub use Rattle.vms_spec.specs.Sets.{AtLeast, Desc, Device, Field, Set, Sub}
 pub use Rattle.vms_spec.specs.Shipped.{set_0, shipped_sets}
 pub use Rattle.vms_spec.specs.Streams.{AreReady, longest_text, written}
 pub use Rattle.vms_spec.specs.Tests.{is_there}
@@ -55,9 +55,10 @@ pub use Rattle.vms_spec.specs.declared.Count.TheVariants.{Counted, Fixed, One}
 pub use Rattle.vms_spec.specs.declared.Part.{Part}
 pub use Rattle.vms_spec.specs.declared.TheConstants.{MOST_ITEMS, MOST_UNUSED}
 pub use Rattle.vms_words.specs.Words.{kind_word}
+pub use Rattle.vms_elements.proofs.Arrays.{array_of, outs}
 pub use Rattle.vms_elements.proofs.Tables.{shapes_cells}
-pub use Rattle.vms_elements.specs.Elements.{Element, Number, Rule, Shape, Stand, What, array_elements, behind, cells_in, desc_elements, dotted, elements_from}
-pub use Rattle.vms_elements.specs.Elements.{field_elements, index_text, item_elements, no_shape, shape, shapes, single, stand_of}
+pub use Rattle.vms_elements.specs.Elements.{Element, Number, Shape, What, array_elements, behind, cells_in, desc_elements, dotted, elements_from}
+pub use Rattle.vms_elements.specs.Elements.{field_elements, index_text, item_elements, no_shape, shape, shapes}
 pub use Rattle.vms_desc.proofs.AskLaws.{few_cells, found_field, here_fields, own_inside_device, sub_first, sub_inside, sub_next}
 pub use Rattle.vms_desc.proofs.Bounds.{few_devices, few_items, few_structs, none_is}
 pub use Rattle.vms_desc.proofs.Clean.{device_clean, few_subs, field_clean, field_sound, reach, struct_clean, sub_clean}
@@ -98,7 +99,7 @@ pub use Rattle.serde_json.proofs.Texts.{print-outline}
 pub use Rattle.serde_json.specs.Data.{Data, Items, Members, array, boolean, depth, float, item, items_depth, member, members_depth, negative, no_items}
 pub use Rattle.serde_json.specs.Data.{no_members, null, number, object, put, string, unsigned}
 pub use Rattle.serde_json.specs.Find.{of_integer}
-pub use Rattle.serde_json.specs.Read.{max_depth, of_items, of_json, of_members, read}
+pub use Rattle.serde_json.specs.Read.{max_depth, of_items, of_json, read}
 pub use Rattle.serde_json.specs.View.{items_of}
 pub use Rattle.serde_json.specs.Written.{comma_if, compact_text, has_float, items_have_float, items_outline, items_text, members_outline, members_text}
 pub use Rattle.serde_json.specs.Written.{number_text, outline}

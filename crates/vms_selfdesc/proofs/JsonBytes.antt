@@ -156,15 +156,7 @@ module _ {Letter Good : ℕ → Type 0} (allows : Allows Letter Good) where
 
   pub kind_letters : (kind : Kind) → AllByRecursion Letter (kind_word kind)
   kind_letters kinds.U8 = word (kind_word kinds.U8) refl
-  kind_letters kinds.U16 = word (kind_word kinds.U16) refl
-  kind_letters kinds.U32 = word (kind_word kinds.U32) refl
-  kind_letters kinds.U64 = word (kind_word kinds.U64) refl
-  kind_letters kinds.I8 = word (kind_word kinds.I8) refl
-  kind_letters kinds.I16 = word (kind_word kinds.I16) refl
-  kind_letters kinds.I32 = word (kind_word kinds.I32) refl
-  kind_letters kinds.I64 = word (kind_word kinds.I64) refl
-  kind_letters kinds.Bool = word (kind_word kinds.Bool) refl
-  kind_letters kinds.Timer = word (kind_word kinds.Timer) refl
+  kind_letters kind = word (kind_word kind) refl
 
   entry_letters : (path type : List ℕ) (size : ℕ) (absent : Option ℤ) → AllByRecursion Letter path → AllByRecursion Letter type
       → HasLetters Letter (entry_tree (record { path = path; size = size; type = type; absent = absent }))

@@ -1,14 +1,16 @@
 -- How long the text of the described tree is, by the depth of structures and the number of items: at most 300 bytes for each item,
 -- subsection and device, and fewer for the items of a part without structures.
-use Rattle.vms_selfdesc.proofs.Facade.{◌≡◌, ℕ, suc, ◌+◌, ◌*◌, ◌<◌, ◌≤◌, List, [], ◌∷◌, length, length-append, map, ℤ, Bool, true, false, refl, ap, arith}
-use Rattle.vms_selfdesc.proofs.Facade.{Option, is_some, codes, mul-le-mul_left, mul-le-mul_right, Data, no_members, member, object, array, string, boolean}
-use Rattle.vms_selfdesc.proofs.Facade.{items_of, compact_text, items_text, MOST_ITEMS, Field, Desc, Sub, Device, Set, desc_cells, struct_cells, Image}
-use Rattle.vms_selfdesc.proofs.Facade.{own_cells, items_in, struct_items, subs_items, devices_items, struct_depths, deepest, is_well_formed, shapes, Entry}
-use Rattle.vms_selfdesc.proofs.Facade.{part_entries, natural, entry_tree, list_tree, sub_members, sub_trees, device_members, device_trees, described_text}
+use Rattle.vms_selfdesc.proofs.Facade.{◌≡◌, ℕ, suc, ◌+◌, ◌*◌, ◌<◌, ◌≤◌, List, [], ◌∷◌, length, length-append, map, ℤ, Bool, true, false, arith, Option, is_some}
+use Rattle.vms_selfdesc.proofs.Facade.{codes, mul-le-mul_left, mul-le-mul_right, list_tree, natural, string, escape_byte, Data, no_members, member, object}
+use Rattle.vms_selfdesc.proofs.Facade.{array, boolean, items_of, compact_text, items_text, MOST_ITEMS, Field, Desc, Sub, Device, Set, desc_cells, struct_cells}
+use Rattle.vms_selfdesc.proofs.Facade.{Image, own_cells, items_in, struct_items, subs_items, devices_items, struct_depths, deepest, is_well_formed, shapes}
+use Rattle.vms_selfdesc.proofs.Facade.{Entry, part_entries, entry_tree, sub_members, sub_trees, device_members, device_trees, described_text}
+use Rattle.vms_selfdesc.proofs.EntryLong.{member_long}
+use Rattle.vms_selfdesc.proofs.Plain.{quoted_long}
 use Rattle.vms_spec.specs.declared.Part.TheVariants as parts
-use Rattle.vms_selfdesc.proofs.EntryLong.{member_long, number_short}
+use Rattle.vms_selfdesc.proofs.EntryLong.{number_short}
 use Rattle.vms_selfdesc.proofs.Fits.{AreLong, longer, AreSound, FitTables, tables_fit, entries_few, entries_long}
-use Rattle.vms_selfdesc.proofs.Plain.{IsShort, quoted_long, key_long}
+use Rattle.vms_selfdesc.proofs.Plain.{IsShort}
 use Rattle.vms_selfdesc.proofs.Soundness.{part_sound, fields_flat}
 
 -- ---- lists
@@ -29,10 +31,8 @@ array_long ds = omega (arith, items_long false ds)
 entries_weight : (es : List Entry) (most : ℕ) → AreLong most es → weight (map entry_tree es) ≤ (most + 1) * length es
 entries_weight [] most p = omega arith
 entries_weight (e ∷ es) most p =
-    let rest = entries_weight es most p.1 in
-    let here = p.0 in
     let more : (most + 1) * suc (length es) ≡ (most + 1) + (most + 1) * length es = grind arith in
-    omega (arith, rest, here, more)
+    omega (arith, entries_weight es most p.1, p.0, more)
 
 flag_short : (b : Bool) → length (compact_text (boolean b)) ≤ 5
 flag_short true = omega arith
@@ -42,20 +42,16 @@ flag_short false = omega arith
 
 sub_long : (es : List Entry) (name : List ℕ) (sent : Bool) (version : ℕ) → IsShort 165 name → version < 4294967296
     → length (compact_text (object (sub_members es name sent version))) ≤ weight (map entry_tree es) + 299
+unfolding escape_byte
 sub_long es name sent version short small =
     let last = member (codes "version") (natural version) no_members in
     let third = member (codes "sent") (boolean sent) last in
-    let second = member (codes "name") (string name) third in
     omega (
       arith,
-      member_long false (codes "fields") (list_tree entry_tree es) second,
+      member_long false (codes "fields") (list_tree entry_tree es) (member (codes "name") (string name) third),
       member_long true (codes "name") (string name) third,
       member_long true (codes "sent") (boolean sent) last,
       member_long true (codes "version") (natural version) no_members,
-      key_long (codes "fields") refl,
-      key_long (codes "name") refl,
-      key_long (codes "sent") refl,
-      key_long (codes "version") refl,
       array_long (map entry_tree es),
       quoted_long name short.plain,
       short.short,
@@ -66,23 +62,18 @@ sub_long es name sent version short small =
 device_long : (es : List Entry) (instance : ℕ) (name : List ℕ) (subs : List Data) (version : ℕ) → IsShort 100 name → instance < 4294967296
     → version < 4294967296
     → length (compact_text (object (device_members es instance name subs version))) ≤ weight (map entry_tree es) + weight subs + 299
+unfolding escape_byte
 device_long es instance name subs version short few small =
     let last = member (codes "version") (natural version) no_members in
     let fourth = member (codes "subsections") (array (items_of subs)) last in
     let third = member (codes "name") (string name) fourth in
-    let second = member (codes "instance_id") (natural instance) third in
     omega (
       arith,
-      member_long false (codes "fields") (list_tree entry_tree es) second,
+      member_long false (codes "fields") (list_tree entry_tree es) (member (codes "instance_id") (natural instance) third),
       member_long true (codes "instance_id") (natural instance) third,
       member_long true (codes "name") (string name) fourth,
       member_long true (codes "subsections") (array (items_of subs)) last,
       member_long true (codes "version") (natural version) no_members,
-      key_long (codes "fields") refl,
-      key_long (codes "instance_id") refl,
-      key_long (codes "name") refl,
-      key_long (codes "subsections") refl,
-      key_long (codes "version") refl,
       array_long (map entry_tree es),
       array_long subs,
       quoted_long name short.plain,
@@ -92,7 +83,8 @@ device_long es instance name subs version short few small =
     )
 
 whole_long : (ds : List Data) → length (compact_text (object (member (codes "devices") (array (items_of ds)) no_members))) ≤ weight ds + 14
-whole_long ds = omega (arith, member_long false (codes "devices") (array (items_of ds)) no_members, key_long (codes "devices") refl, array_long ds)
+unfolding escape_byte
+whole_long ds = omega (arith, member_long false (codes "devices") (array (items_of ds)) no_members, array_long ds)
 
 -- ---- the parts of a well-formed set
 
@@ -119,7 +111,7 @@ AreShortDevices (d ∷ devices) = IsShortDesc 100 d.desc × (d.instance < 429496
 
 -- entries, each with its comma
 abbrev pub fields_room : List ℕ → List ℕ → List Field → ℕ
-fields_room sizes depths fs = (40 * deepest depths fs + 108) * items_in sizes fs
+fields_room sizes depths fs = (40 * deepest depths fs + 107 + 1) * items_in sizes fs
 
 abbrev pub subs_room : List ℕ → List ℕ → List Sub → ℕ
 subs_room sizes depths [] = 0
@@ -143,41 +135,34 @@ module _ (set : Set) (well : is_well_formed set ≡ true) where
       let depths = struct_depths set.structs in
       let es = part_entries set d sent n at in
       let most = 40 * deepest depths d.fields + 107 in
+      let long = longer _ most es (omega arith) (entries_long (shapes set) sizes depths fit d d.version sent [] n at tt sound few) in
       let count = entries_few (shapes set) sizes depths fit d d.version sent [] n at in
-      let long =
-      longer (0 + 40 * deepest depths d.fields + 107) most es (omega arith)
-      (entries_long (shapes set) sizes depths fit d d.version sent [] n at tt sound few) in
-      let each : most + 1 ≡ 40 * deepest depths d.fields + 108 = omega arith in
-      omega (
-        arith,
-        entries_weight es most long,
-        ap (λ k. k * length es) each,
-        mul-le-mul_left {m = length es} {n = items_in sizes d.fields}
-            (40 * deepest depths d.fields + 108) count,
-      )
+      omega (arith, entries_weight es most long, mul-le-mul_left {m = length es} {n = items_in sizes d.fields} (most + 1) count)
 
   subs_weight : (n : List ℤ) (at : ℕ) (subs : List Sub) (came : List (Option ℕ)) → AreShortSubs subs → subs_items (struct_items set.structs) subs ≤ MOST_ITEMS
       → weight (sub_trees set n at subs came) ≤ subs_room (struct_items set.structs) (struct_depths set.structs) subs
   subs_weight n at (s ∷ subs) (c ∷ came) p few =
       let short = p.0 in
-      let es = part_entries set s.desc (is_some c) n at in
-      let here = part_weight s.desc (is_some c) n at short.sound (omega arith) in
-      let one = sub_long es s.desc.name (is_some c) s.desc.version short.name short.version in
-      let rest = subs_weight n (at + length (desc_cells (struct_cells set) s.desc)) subs came p.1 (omega arith) in
-      omega (arith, here, one, rest)
+      omega (
+        arith,
+        part_weight s.desc (is_some c) n at short.sound (omega arith),
+        sub_long (part_entries set s.desc (is_some c) n at) s.desc.name (is_some c) s.desc.version short.name short.version,
+        subs_weight n (at + length (desc_cells (struct_cells set) s.desc)) subs came p.1 (omega arith),
+      )
   subs_weight n at _ _ p few = omega arith
 
   devices_weight : (devices : List Device) (images : List Image) → AreShortDevices devices → devices_items (struct_items set.structs) devices ≤ MOST_ITEMS
       → weight (device_trees set devices images) ≤ devices_room (struct_items set.structs) (struct_depths set.structs) devices
   devices_weight (d ∷ devices) (image ∷ images) p few =
       let short = p.0 in
-      let es = part_entries set d.desc true image.numbers 0 in
       let trees = sub_trees set image.numbers (own_cells set d) d.subs image.came in
-      let here = part_weight d.desc true image.numbers 0 short.sound (omega arith) in
-      let subs = subs_weight image.numbers (own_cells set d) d.subs image.came p.2 (omega arith) in
-      let one = device_long es d.instance d.desc.name trees d.desc.version short.name p.1 short.version in
-      let rest = devices_weight devices images p.3 (omega arith) in
-      omega (arith, here, subs, one, rest)
+      omega (
+        arith,
+        part_weight d.desc true image.numbers 0 short.sound (omega arith),
+        subs_weight image.numbers (own_cells set d) d.subs image.came p.2 (omega arith),
+        device_long (part_entries set d.desc true image.numbers 0) d.instance d.desc.name trees d.desc.version short.name p.1 short.version,
+        devices_weight devices images p.3 (omega arith),
+      )
   devices_weight _ _ p few = omega arith
 
   pub text_long : (images : List Image) → AreShortDevices set.devices → devices_items (struct_items set.structs) set.devices ≤ MOST_ITEMS
@@ -188,9 +173,8 @@ module _ (set : Set) (well : is_well_formed set ≡ true) where
 
   fields_less : (fs : List Field) → fields_room (struct_items set.structs) (struct_depths set.structs) fs ≤ 300 * items_in (struct_items set.structs) fs
   fields_less fs =
-      let depth = deepest (struct_depths set.structs) fs in
       let flat = fields_flat set well fs in
-      mul-le-mul_right {m = 40 * depth + 108} {n = 300} (items_in (struct_items set.structs) fs) (omega arith)
+      mul-le-mul_right {m = 40 * deepest (struct_depths set.structs) fs + 107 + 1} {n = 300} (items_in (struct_items set.structs) fs) (omega arith)
 
   subs_less : (subs : List Sub)
       → subs_room (struct_items set.structs) (struct_depths set.structs) subs ≤ 300 * subs_items (struct_items set.structs) subs + 300 * length subs

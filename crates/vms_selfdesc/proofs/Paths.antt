@@ -1,24 +1,20 @@
 -- Paths that are gone into and left again, and how long they get.
-use Rattle.vms_selfdesc.proofs.Facade.{◌≡◌, ℕ, ◌+◌, ◌*◌, ◌<◌, ◌≤◌, ◌^◌, List, [], ◌∷◌, ◌++◌, length, length-append, take, decimal, String, string_bytes, sym}
-use Rattle.vms_selfdesc.proofs.Facade.{ap, ◌∙◌, subst, arith, true, IsUtf8, IsUtf8-string_bytes, take-append_seam, length-decimal-le, Item, Num, Equal, Unused}
-use Rattle.vms_selfdesc.proofs.Facade.{Struct, Part, Set, is_well_formed, HasPart, few_structs, item_rank, part_rank, element_path, item_levels, part_levels}
+use Rattle.vms_selfdesc.proofs.Facade.{◌≡◌, ℕ, ◌+◌, ◌*◌, ◌<◌, ◌≤◌, ◌^◌, List, [], ◌∷◌, ◌++◌, length, length-append, take, decimal, String, string_bytes, ap}
+use Rattle.vms_selfdesc.proofs.Facade.{arith, true, IsUtf8, IsUtf8-string_bytes, take-append_seam, length-decimal-le, Item, Struct, Part, Set, is_well_formed}
+use Rattle.vms_selfdesc.proofs.Facade.{HasPart, few_structs, item_rank, part_rank, element_path, item_levels, part_levels}
 use Rattle.vms_spec.specs.declared.Part.TheVariants as parts
 
--- the first bytes of a path are the path before it
-pub record Enters {Z : Type 0} (old now : String Z) (kept : ℕ) : Type 0 where
-  pub within : kept ≤ length (string_bytes now)
-  pub text : IsUtf8 (take kept (string_bytes now))
-  pub back : take kept (string_bytes now) ≡ string_bytes old
+-- the first bytes of these are the path before
+pub record Enters {Z : Type 0} (old : String Z) (now : List ℕ) (kept : ℕ) : Type 0 where
+  pub within : kept ≤ length now
+  pub text : IsUtf8 (take kept now)
+  pub back : take kept now ≡ string_bytes old
 
-pub enters : {Z : Type 0} (old now : String Z) (kept : ℕ) (more : List ℕ) → kept ≡ length (string_bytes old) → string_bytes now ≡ string_bytes old ++ more
+pub enters : {Z : Type 0} (old : String Z) {now : List ℕ} {kept : ℕ} (more : List ℕ) → kept ≡ length (string_bytes old) → now ≡ string_bytes old ++ more
     → Enters old now kept
-enters old now kept more is e =
-    let back = ap (λ (k : ℕ). take k (string_bytes now)) is ∙ ap (take (length (string_bytes old))) e ∙ take-append_seam (string_bytes old) more in
-    record {
-      within = omega (arith, is, ap length e, length-append (string_bytes old) more);
-      text = subst IsUtf8 (sym back) (IsUtf8-string_bytes old);
-      back = back;
-    }
+enters old {now} {kept} more is e =
+    let back : take kept now ≡ string_bytes old = rw (is, e) (take-append_seam (string_bytes old) more) in
+    record { within = omega (arith, ap length e, length-append (string_bytes old) more); text = rw back (IsUtf8-string_bytes old); back = back }
 
 -- ---- lengths
 
@@ -29,9 +25,7 @@ index_long path i lt =
 
 pub item_levels_are : (item : Item) → item_rank item ≡ 5 * item_levels item
 item_levels_are (Struct j) = omega arith
-item_levels_are (Num kind) = omega arith
-item_levels_are (Equal kind z) = omega arith
-item_levels_are (Unused n) = omega arith
+item_levels_are _ = omega arith
 
 pub levels_are : (set : Set) (part : Part) → part_rank set part ≡ 5 * part_levels set part
 levels_are set parts.Set = omega arith

@@ -1,8 +1,8 @@
 -- The described tree has no number with a fraction, and nests little.
-use Rattle.vms_selfdesc.proofs.Facade.{◌≡◌, ℕ, suc, ◌+◌, ◌≤◌, length, List, ◌∷◌, map, Bool, true, false, Option, Some, None, ℤ, pos, negsuc, refl, arith}
-use Rattle.vms_selfdesc.proofs.Facade.{is_some, [], ◌||◌, or_from, Data, object, array, depth, items_depth, items_of, has_float, items_have_float, Sub, Device}
-use Rattle.vms_selfdesc.proofs.Facade.{Set, desc_cells, struct_cells, Image, own_cells, Entry, part_entries, with_value, sent_members, entry_tree, list_tree}
-use Rattle.vms_selfdesc.proofs.Facade.{sub_members, sub_trees, device_members, device_trees, described_tree}
+use Rattle.vms_selfdesc.proofs.Facade.{◌≡◌, ℕ, suc, ◌+◌, ◌≤◌, length, List, ◌∷◌, map, Bool, false, Option, Some, None, ℤ, pos, negsuc, refl, arith, is_some, []}
+use Rattle.vms_selfdesc.proofs.Facade.{◌||◌, or_from, Data, object, array, depth, items_depth, items_of, has_float, items_have_float, Sub, Device, Set}
+use Rattle.vms_selfdesc.proofs.Facade.{desc_cells, struct_cells, Image, own_cells, Entry, with_value, sent_members, entry_tree, list_tree, sub_members}
+use Rattle.vms_selfdesc.proofs.Facade.{sub_trees, device_members, device_trees, described_tree}
 
 -- without a fraction, and nested at most so deep
 pub record IsPlainTree (deepest : ℕ) (d : Data) : Type 0 where
@@ -19,10 +19,10 @@ items_whole deepest (d ∷ ds) p = or_from (has_float d) (items_have_float (item
 
 items_flat : (deepest : ℕ) (ds : List Data) → ArePlain deepest ds → items_depth (items_of ds) ≤ deepest
 items_flat deepest [] p = omega arith
-items_flat deepest (d ∷ ds) p = let rest = items_flat deepest ds p.1 in let here = p.0.flat in omega arith
+items_flat deepest (d ∷ ds) p = omega (arith, items_flat deepest ds p.1, p.0.flat)
 
 list_plain : (deepest : ℕ) (ds : List Data) → ArePlain deepest ds → IsPlainTree (suc deepest) (array (items_of ds))
-list_plain deepest ds p = let flat = items_flat deepest ds p in record { whole = items_whole deepest ds p; flat = omega arith }
+list_plain deepest ds p = record { whole = items_whole deepest ds p; flat = omega (arith, items_flat deepest ds p) }
 
 entry_plain : (e : Entry) → IsPlainTree 1 (entry_tree e)
 entry_plain e = by_absent e.absent
@@ -39,15 +39,11 @@ entries_plain (e ∷ es) = (entry_plain e, entries_plain es)
 sub_plain : (es : List Entry) (name : List ℕ) (sent : Bool) (version : ℕ) → IsPlainTree 3 (object (sub_members es name sent version))
 sub_plain es name sent version =
     let list = list_plain 1 (map entry_tree es) (entries_plain es) in
-    let flat = list.flat in
-    record { whole = or_from (has_float (list_tree entry_tree es)) false list.whole refl; flat = omega arith }
+    record { whole = or_from (has_float (list_tree entry_tree es)) false list.whole refl; flat = omega (arith, list.flat) }
 
 subs_plain : (set : Set) (n : List ℤ) (at : ℕ) (subs : List Sub) (came : List (Option ℕ)) → ArePlain 3 (sub_trees set n at subs came)
-subs_plain set n at (s ∷ subs) (c ∷ came) = (
-  sub_plain (part_entries set s.desc (is_some c) n at) s.desc.name (is_some c) s.desc.version,
-  subs_plain set n
-      (at + length (desc_cells (struct_cells set) s.desc)) subs came,
-)
+subs_plain set n at (s ∷ subs) (c ∷ came) =
+    (sub_plain _ s.desc.name (is_some c) s.desc.version, subs_plain set n (at + length (desc_cells (struct_cells set) s.desc)) subs came)
 subs_plain set n at _ _ = tt
 
 device_plain : (es : List Entry) (instance : ℕ) (name : List ℕ) (subs : List Data) (version : ℕ) → ArePlain 3 subs
@@ -55,26 +51,18 @@ device_plain : (es : List Entry) (instance : ℕ) (name : List ℕ) (subs : List
 device_plain es instance name subs version p =
     let list = list_plain 1 (map entry_tree es) (entries_plain es) in
     let inner = list_plain 3 subs p in
-    let flat = list.flat in
-    let flat' = inner.flat in
     record {
       whole = or_from (has_float (list_tree entry_tree es)) (has_float (array (items_of subs)) || false) list.whole
           (or_from (has_float (array (items_of subs))) false inner.whole refl);
-      flat = omega arith;
+      flat = omega (arith, list.flat, inner.flat);
     }
 
 devices_plain : (set : Set) (devices : List Device) (images : List Image) → ArePlain 5 (device_trees set devices images)
-devices_plain set [] images = tt
-devices_plain set (d ∷ devices) [] = tt
-devices_plain set (d ∷ devices) (image ∷ images) = (
-  device_plain (part_entries set d.desc true image.numbers 0) d.instance d.desc.name
-      (sub_trees set image.numbers (own_cells set d) d.subs image.came) d.desc.version
-      (subs_plain set image.numbers (own_cells set d) d.subs image.came),
-  devices_plain set devices images,
-)
+devices_plain set (d ∷ devices) (image ∷ images) =
+    (device_plain _ d.instance d.desc.name _ d.desc.version (subs_plain set image.numbers (own_cells set d) d.subs image.came), devices_plain set devices images)
+devices_plain set _ _ = tt
 
 pub described_plain : (set : Set) (images : List Image) → IsPlainTree 7 (described_tree set images)
 described_plain set images =
     let list = list_plain 5 (device_trees set set.devices images) (devices_plain set set.devices images) in
-    let flat = list.flat in
-    record { whole = or_from (has_float (array (items_of (device_trees set set.devices images)))) false list.whole refl; flat = omega arith }
+    record { whole = or_from (has_float (array (items_of (device_trees set set.devices images)))) false list.whole refl; flat = omega (arith, list.flat) }

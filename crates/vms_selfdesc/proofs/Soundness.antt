@@ -1,9 +1,9 @@
 -- What well-formed sets say of names, sizes and depths.
-use Rattle.vms_selfdesc.proofs.Facade.{◌≡◌, ℕ, suc, ◌+◌, ◌<◌, ◌≤◌, ◌^◌, List, [], ◌∷◌, length, get_or, ℤ, pos, negsuc, Bool, true, false, ◌&&◌, nat_lt, nat_le}
-use Rattle.vms_selfdesc.proofs.Facade.{refl, arith, list_all, and_parts, leb-true, ltb-true, ltb-false, length-decimal-le, get_or-eq_default, number_text}
-use Rattle.vms_selfdesc.proofs.Facade.{of_integer, Kind, Item, Num, Unused, lowest, highest, MOST_UNUSED, Part, Field, Desc, Set, no_desc, counted, no_field}
-use Rattle.vms_selfdesc.proofs.Facade.{is_name, int_le, in_range, defaults_well, counts_well, is_small_item, is_small_optional, field_rules, struct_depths}
-use Rattle.vms_selfdesc.proofs.Facade.{has_few, deepest, first_long, deepest_small, is_well_formed, HasPart, desc_at, AllTrue, reach, field_sound, struct_clean}
+use Rattle.vms_selfdesc.proofs.Facade.{cases_lt, inl, inr, ◌≡◌, ℕ, suc, ◌+◌, ◌<◌, ◌≤◌, ◌^◌, List, [], ◌∷◌, length, get_or, ℤ, pos, negsuc, Bool, true, ◌&&◌}
+use Rattle.vms_selfdesc.proofs.Facade.{nat_le, arith, list_all, and_parts, leb-true, length-decimal-le, get_or-eq_default, number_text, of_integer, Kind, Item}
+use Rattle.vms_selfdesc.proofs.Facade.{Num, Unused, lowest, highest, MOST_UNUSED, Part, Field, Desc, Set, no_desc, counted, no_field, is_name, int_le, in_range}
+use Rattle.vms_selfdesc.proofs.Facade.{defaults_well, counts_well, is_small_item, is_small_optional, field_rules, struct_depths, has_few, deepest, first_long}
+use Rattle.vms_selfdesc.proofs.Facade.{deepest_small, is_well_formed, HasPart, desc_at, AllTrue, reach, field_sound, struct_clean}
 use Rattle.vms_kinds.specs.declared.Kind.TheVariants as kinds
 use Rattle.vms_selfdesc.proofs.Fits.{IsSmall, IsSoundField, AreSound}
 use Rattle.vms_selfdesc.proofs.Plain.{name_short}
@@ -60,19 +60,13 @@ module _ (set : Set) (well : is_well_formed set ≡ true) where
 
   -- structures nest at most four deep
   struct_flat : (j : ℕ) → get_or (struct_depths set.structs) j 0 ≤ 4
-  struct_flat j = by_place (nat_lt j (length set.structs)) refl
-    where
-      by_place : (b : Bool) → nat_lt j (length set.structs) ≡ b → get_or (struct_depths set.structs) j 0 ≤ 4
-      by_place true e =
-          let lt = ltb-true j (length set.structs) e in
-          let d = get_or set.structs j no_desc in
-          let rules = (struct_clean set well j lt).own in
-          leb-true (get_or (struct_depths set.structs) j 0) 4 (and_parts (has_few d) (nat_le (get_or (struct_depths set.structs) j 0) 4) rules.1.1.1.1.1.1.0).1
-      by_place false e =
-          let le = ltb-false j (length set.structs) e in
-          let long : length (struct_depths set.structs) ≤ j =
-          omega (arith, le, first_long (λ depths d. 1 + deepest depths d.fields) set.structs (length set.structs)) in
-          omega (arith, get_or-eq_default (struct_depths set.structs) 0 long)
+  struct_flat j = elim (cases_lt j (length set.structs)) as (λ _. get_or (struct_depths set.structs) j 0 ≤ 4) [
+    | inl lt ↦ leb-true (get_or (struct_depths set.structs) j 0) 4 (and_parts (has_few (get_or set.structs j no_desc))
+        (nat_le (get_or (struct_depths set.structs) j 0) 4) (struct_clean set well j lt).own.1.1.1.1.1.1.0).1
+    | inr le ↦
+        let long = first_long (λ depths d. 1 + deepest depths d.fields) set.structs (length set.structs) in
+        omega (arith, get_or-eq_default (struct_depths set.structs) 0 {n = j} (omega (arith, long)))
+  ]
 
   pub fields_flat : (fs : List Field) → deepest (struct_depths set.structs) fs ≤ 4
   fields_flat fs = deepest_small (struct_depths set.structs) 4 fs struct_flat

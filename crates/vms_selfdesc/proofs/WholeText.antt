@@ -1,9 +1,9 @@
 -- A description is read back from its text.
-use Rattle.vms_selfdesc.proofs.Facade.{◌≡◌, ℕ, suc, max, ◌≤◌, List, [], Option, Some, refl, sym, ap, ap₂, ◌∙◌, arith, Token, tokens, tokens-print}
-use Rattle.vms_selfdesc.proofs.Facade.{value-json_tokens, ArePrintable-json_tokens, Data, array, object, Items, no_items, item, Members, no_members, member}
-use Rattle.vms_selfdesc.proofs.Facade.{depth, items_depth, members_depth, of_json, read, max_depth, outline, items_outline, members_outline, compact_text}
-use Rattle.vms_selfdesc.proofs.Facade.{print-outline, IsSound}
-use Rattle.std.proofs.Common.{append-nil, option_and_then}
+use Rattle.vms_selfdesc.proofs.Facade.{◌≡◌, ℕ, suc, max, ◌≤◌, List, [], Option, Some, refl, sym, ap, ap₂, ◌∙◌, arith, option_and_then, Token, tokens}
+use Rattle.vms_selfdesc.proofs.Facade.{tokens-print, value-json_tokens, ArePrintable-json_tokens, Data, array, object, Items, no_items, item, Members}
+use Rattle.vms_selfdesc.proofs.Facade.{no_members, member, depth, items_depth, members_depth, of_json, read, max_depth, outline, items_outline, members_outline}
+use Rattle.vms_selfdesc.proofs.Facade.{compact_text, print-outline, IsSound}
+use Rattle.std.proofs.Common.{append-nil}
 use Rattle.json.specs.Json as json
 use Rattle.json.specs.Tree as tree
 

@@ -13,8 +13,5 @@ put_text-requires-clause-value c = rw c.as_str.ensures c.requires
 
 pub returns : goal.returns
 returns c =
-    let a = c.args.text.now in
-    let numbered = c.put_natural.new.text in
-    let end = c.put_text.new.text in
     let name = rw c.as_str.ensures at c.put_text.ensures in
-    record { text = further a numbered end _ _ c.put_natural.ensures.text name.text; sound = c.put_natural.ensures.sound }
+    record { text = further c.put_natural.ensures.text name.text; sound = c.put_natural.ensures.sound }

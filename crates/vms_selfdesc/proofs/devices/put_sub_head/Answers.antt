@@ -16,10 +16,6 @@ put_natural-requires c = name_plain (codes "version") refl
 
 pub returns : goal.returns
 returns c =
-    let a = c.args.text.now in
-    let named = c.put_text.new.text in
-    let flagged = c.put_flag.new.text in
-    let end = c.put_natural.new.text in
     let name = rw c.as_str.ensures at c.put_text.ensures in
     let version = c.put_natural.ensures in
-    record { text = further a named end _ _ name.text (further named flagged end _ _ c.put_flag.ensures.text version.text); sound = version.sound }
+    record { text = further name.text (further c.put_flag.ensures.text version.text); sound = version.sound }

@@ -1,8 +1,8 @@
 use Rattle.vms_selfdesc.proofs.Facade.{true, ap, ◌∙◌, arith, refl, codes, array, object, items_of, Device, own_cells, described, device_at, state_of}
-use Rattle.vms_selfdesc.proofs.Facade.{own_inside_device, part_entries, entry_tree, list_tree, sub_trees, device_members, Draft}
+use Rattle.vms_selfdesc.proofs.Facade.{own_inside_device, part_entries, sub_trees, device_members}
 use Rattle.vms_selfdesc.proofs.Plain.{further, device_plain, name_plain}
 use Rattle.vms_selfdesc.proofs.ReadBack.{device_sound}
-use Rattle.vms_selfdesc.proofs.Trees.{fields_adds, tail_members, device_text}
+use Rattle.vms_selfdesc.proofs.Trees.{fields_adds, device_text}
 use Rattle.vms_selfdesc.proofs.devices.write_device.Goals as goal
 
 pub write_fields-requires-clause-place : goal.write_fields-requires-clause-place
@@ -28,27 +28,17 @@ put_natural-requires c = name_plain (codes "version") refl
 
 pub returns : goal.returns
 returns c =
-    let lister = c.args.lister.now in
-    let set = described lister.set.now in
-    let image = state_of lister.image.now in
-    let d = device_at set c.args.device in
-    let code = c.device-described.result.now in
     let fields = c.write_fields.ensures in
     let name = c.put_name.ensures in
     let subs = c.write_subs.ensures in
     let version = c.put_natural.ensures in
+    let image = state_of c.args.lister.now.image.now in
+    let set = described c.args.lister.now.set.now in
+    let d = device_at set c.args.device in
     let entries = part_entries set d.desc true image.numbers 0 in
     let trees = sub_trees set image.numbers (own_cells set d) d.subs image.came in
-    let laid = c.write_fields.new.draft in
-    let end : Draft = record { text = c.push-2.new.self; path = c.write_subs.new.draft.path; later = true } in
-    let last = further c.write_subs.new.draft.text c.put_natural.new.text end.text _ _ version.text c.push-2.ensures in
-    let inner = further c.push.new.self c.write_subs.new.draft.text end.text _ _ subs.text last in
-    let rest = further laid.text c.put_name.new.text end.text _ _ name.text (further c.put_name.new.text c.push.new.self end.text _ _ c.push.ensures inner) in
-    let adds =
-    fields_adds c.args.draft.now c.begin.new.draft laid end (object (device_members entries code.instance code.desc.name trees code.desc.version))
-    (list_tree entry_tree entries)
-    (tail_members code.instance code.desc.name (array (items_of trees)) code.desc.version) _ c.begin.ensures fields rest
-    (device_text code.instance code.desc.name (array (items_of trees)) code.desc.version) refl
-    (device_sound entries code.instance code.desc.name trees code.desc.version fields.sound name.sound subs.sound version.sound) refl subs.path in
-    let same = ap (λ (x : Device). object (device_members entries x.instance x.desc.name trees x.desc.version)) c.device-described.ensures in
-    rw same at adds
+    let code = c.device-described.result.now in
+    let rest = further name.text (further c.push.ensures (further subs.text (further version.text c.push-2.ensures))) in
+    rw (← ap (λ (x : Device). object (device_members entries x.instance x.desc.name trees x.desc.version)) c.device-described.ensures)
+    (fields_adds c.begin.ensures fields rest (device_text code.instance code.desc.name (array (items_of trees)) code.desc.version)
+    (device_sound entries code.instance code.desc.name trees code.desc.version fields.sound name.sound subs.sound version.sound) refl subs.path)

@@ -1,4 +1,4 @@
-use Rattle.vms_selfdesc.proofs.Facade.{ℕ, List, false, map, subst, length, ap, refl, arith, Adds, numbers_in, part_list, entry_tree, set_in, Draft}
+use Rattle.vms_selfdesc.proofs.Facade.{Draft, List, ℕ, false, map, subst, length, ap, refl, arith, Adds, entry_tree, numbers_in, part_list, set_in}
 use Rattle.vms_selfdesc.proofs.Paths.{few_levels}
 use Rattle.vms_selfdesc.proofs.Trees.{lays}
 use Rattle.vms_selfdesc.proofs.devices.write_fields.Goals as goal
@@ -16,6 +16,4 @@ returns c =
     let lister = c.args.lister.now in
     let trees = λ (path : List ℕ). map entry_tree (part_list (set_in lister) c.args.part c.args.place.sent (numbers_in lister) path c.args.place.cell) in
     let begun : Draft = record { text = c.push.new.self; path = c.args.draft.now.path; later = false } in
-    let end : Draft = record { text = c.push-2.new.self; path = c.list_part.new.draft.path; later = c.list_part.new.draft.later } in
-    let listed = subst (λ (path : List ℕ). Adds begun c.list_part.new.draft (trees path)) c.requires.no_path c.list_part.ensures in
-    lays c.args.draft.now c.push.new.self c.list_part.new.draft end _ c.push.ensures listed c.push-2.ensures refl
+    lays c.push.ensures (subst (λ path. Adds begun c.list_part.new.draft (trees path)) c.requires.no_path c.list_part.ensures) c.push-2.ensures refl

@@ -1,5 +1,5 @@
-use Rattle.vms_selfdesc.proofs.Facade.{true, ℕ, Bool, List, None, is_some, get_or, ap, ◌∙◌, arith, codes, refl, string, boolean, object, no_members, member}
-use Rattle.vms_selfdesc.proofs.Facade.{Desc, described, desc_at, sub_inside, part_entries, numbers_in, natural, entry_tree, list_tree, sub_members, Draft}
+use Rattle.vms_selfdesc.proofs.Facade.{List, ℕ, Bool, None, is_some, get_or, ap, ◌∙◌, arith, refl, object, Desc, described, desc_at, sub_inside, part_entries}
+use Rattle.vms_selfdesc.proofs.Facade.{numbers_in, sub_members}
 use Rattle.vms_spec.specs.declared.Part.TheVariants as parts
 use Rattle.vms_selfdesc.proofs.Plain.{further, sub_plain}
 use Rattle.vms_selfdesc.proofs.ReadBack.{sub_sound}
@@ -30,23 +30,15 @@ returns c =
     let lister = c.args.lister.now in
     let set = described lister.set.now in
     let part = parts.Sub c.args.device c.args.sub in
-    let sent = c.is_some-sent.result in
-    let cell = c.first_cell-cell.result in
     let desc = c.desc.result.now in
     let fields = c.write_fields.ensures in
     let head = c.put_sub_head.ensures in
-    let entries = λ (sent : Bool) (cell : ℕ). part_entries set (desc_at set part) sent (numbers_in lister) cell in
-    let tree = λ (sent : Bool) (name : List ℕ) (version cell : ℕ). object (sub_members (entries sent cell) name sent version) in
-    let laid = c.write_fields.new.draft in
-    let end : Draft = record { text = c.push.new.self; path = laid.path; later = true } in
-    let adds = fields_adds c.args.draft.now c.begin.new.draft laid end (tree sent desc.name desc.version cell) (list_tree entry_tree (entries sent cell))
-    (member (codes "name") (string desc.name) (member (codes "sent") (boolean sent) (member (codes "version") (natural desc.version) no_members))) _
-    c.begin.ensures fields
-    (further laid.text c.put_sub_head.new.text end.text _ _ head.text c.push.ensures) (head_text desc.name sent desc.version) refl
-    (sub_sound (entries sent cell) desc.name sent desc.version fields.sound head.sound) refl refl in
+    let sent = c.is_some-sent.result in
+    let tree = λ (sent : Bool) (name : List ℕ) (version cell : ℕ). object (sub_members (part_entries set (desc_at set part) sent (numbers_in lister) cell) name sent version) in
     let same =
-    ap (λ (x : Bool). tree x desc.name desc.version cell) (c.is_some-sent.ensures ∙ ap is_some c.came.ensures)
-    ∙ ap (λ (d : Desc). tree (is_some (get_or lister.image.now.came c.args.sub None)) d.name d.version cell) c.desc.ensures
-    ∙ ap (λ (x : ℕ). tree (is_some (get_or lister.image.now.came c.args.sub None)) (desc_at set part).name
-    (desc_at set part).version x) c.first_cell-cell.ensures in
-    rw same at adds
+    ap (λ (x : Bool). tree x desc.name desc.version c.first_cell-cell.result) (c.is_some-sent.ensures ∙ ap is_some c.came.ensures)
+    ∙ ap (λ (d : Desc). tree (is_some (get_or lister.image.now.came c.args.sub None)) d.name d.version c.first_cell-cell.result) c.desc.ensures
+    ∙ ap (λ (x : ℕ). tree (is_some (get_or lister.image.now.came c.args.sub None)) (desc_at set part).name (desc_at set part).version x)
+    c.first_cell-cell.ensures in
+    rw (← same) (fields_adds c.begin.ensures fields (further head.text c.push.ensures) (head_text desc.name sent desc.version)
+    (sub_sound (part_entries set (desc_at set part) sent (numbers_in lister) c.first_cell-cell.result) desc.name sent desc.version fields.sound head.sound) refl refl)

@@ -1,9 +1,6 @@
-use Rattle.vms_selfdesc.proofs.Facade.{boolean}
 use Rattle.vms_selfdesc.proofs.Plain.{puts}
 use Rattle.vms_selfdesc.proofs.ReadBack.{flag_sound}
 use Rattle.vms_selfdesc.proofs.draft.put_flag.Goals as goal
 
 pub returns : goal.returns
-returns c =
-    puts c.args.text.now c.put_key.new.text c.push.new.self c.args.key.now c.flag_word.result.now (boolean c.args.flag) c.requires c.put_key.ensures
-    c.push.ensures c.flag_word.ensures (flag_sound c.args.flag)
+returns c = puts c.requires c.put_key.ensures c.push.ensures c.flag_word.ensures (flag_sound c.args.flag)

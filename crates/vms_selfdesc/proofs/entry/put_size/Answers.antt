@@ -9,8 +9,4 @@ pub put_text-requires-clause-key : goal.put_text-requires-clause-key
 put_text-requires-clause-key c = name_plain (codes "type") refl
 
 pub returns : goal.returns
-returns c =
-    record {
-      text = further c.args.text.now c.put_natural.new.text c.put_text.new.text _ _ c.put_natural.ensures.text c.put_text.ensures.text;
-      sound = c.put_natural.ensures.sound;
-    }
+returns c = record { text = further c.put_natural.ensures.text c.put_text.ensures.text; sound = c.put_natural.ensures.sound }

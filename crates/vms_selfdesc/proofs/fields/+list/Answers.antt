@@ -1,9 +1,8 @@
-use Rattle.vms_selfdesc.proofs.Facade.{subst, rules, arith, sym, ap, ◌∙◌, ◌≡◌, ℕ, ◌+◌, ◌-◌, ◌<◌, ◌^◌, List, ◌++◌, length, length-append, codes}
-use Rattle.vms_selfdesc.proofs.Facade.{string_bytes, decimal, refl, Entry, Lists, Field, item_size, struct_cells, elements_fit, field_of, field_at}
-use Rattle.vms_selfdesc.proofs.Facade.{own_numbers, described, desc_at, found_field, here_fields, element_path, element_entries, item_list, elements_list}
-use Rattle.vms_selfdesc.proofs.Facade.{field_list, Draft, IsPlain, HasElements, item_levels}
-use Rattle.vms_selfdesc.proofs.Trees.{fields_whole, leaves_same, leaves_rest, leave_path, element_room, elements_next, next_element, fields_next, field_room}
-use Rattle.vms_selfdesc.proofs.OfElements.{field_needs, some_elements, array_many, field_run, struct_place, struct_lower, struct_list}
+use Rattle.vms_selfdesc.proofs.Facade.{subst, rules, arith, sym, ap, ◌∙◌, ◌≡◌, ℕ, ◌+◌, ◌<◌, List, ◌++◌, length, length-append, codes, string_bytes, refl, Lists}
+use Rattle.vms_selfdesc.proofs.Facade.{Draft, Field, item_size, struct_cells, elements_fit, field_of, field_at, own_numbers, described, desc_at, found_field}
+use Rattle.vms_selfdesc.proofs.Facade.{here_fields, element_path, item_list, field_list, IsPlain, HasElements, item_levels}
+use Rattle.vms_selfdesc.proofs.Trees.{fields_whole, leaves_all, leaves_rest, leave_path, element_room, elements_next, next_element, fields_next, field_room}
+use Rattle.vms_selfdesc.proofs.OfElements.{field_needs, array_many, field_run, struct_place, struct_lower, struct_list}
 use Rattle.vms_selfdesc.proofs.Plain.{plain_append, element_plain, dot_plain, name_plain, field_name}
 use Rattle.vms_selfdesc.proofs.Paths.{enters, index_long, item_levels_are, levels_are}
 use Rattle.vms_selfdesc.proofs.fields.+list.Goals as goal
@@ -12,45 +11,29 @@ use Rattle.vms_selfdesc.proofs.fields.+list.Goals as goal
 
 pub list_item-list_struct-requires : goal.list_item-list_struct-requires
 list_item-list_struct-requires t c =
-    let set = described c.args.lister.now.set.now in
-    let well = c.args.lister.now.set.now.well_formed in
-    let item = c.args.field.now.item in
-    let j = c.in-Struct.number in
-    let lower = struct_lower set well item j c.in-Struct.is c.requires.cells.reaches in
-    let place =
-    struct_place set well item j c.in-Struct.is c.requires.cells.reaches c.args.lister.now.image.now.numbers c.args.place.cell c.requires.cells.few
-    c.requires.cells.room in
+    let lister = c.args.lister.now in
+    let cells = c.requires.cells in
+    let set = described lister.set.now in
+    let lower = struct_lower set lister.set.now.well_formed c.args.field.now.item c.in-Struct.number c.in-Struct.is cells.reaches in
+    let place = struct_place set lister.set.now.well_formed c.args.field.now.item c.in-Struct.number c.in-Struct.is cells.reaches lister.image.now.numbers
+    c.args.place.cell cells.few cells.room in
     let path = string_bytes c.args.draft.now.path.text in
-    let long = ap length c.enter.ensures ∙ length-append path (codes ".") in (
-      search rules,
-      (
-        place,
-        (rw c.enter.ensures (dot_plain path c.requires.path), omega (arith, c.requires.deep, ap item_levels c.in-Struct.is, long)),
-      ),
-    )
+    let long = ap length c.enter.ensures ∙ length-append path (codes ".") in
+    (search rules, (place, (rw c.enter.ensures (dot_plain path c.requires.path), omega (arith, c.requires.deep, ap item_levels c.in-Struct.is, long))))
 
 pub list_item-enter-requires : goal.list_item-enter-requires
 list_item-enter-requires t c = omega (arith, c.requires.deep, ap item_levels c.in-Struct.is)
 
 pub list_item-leave-requires-clause-text : goal.list_item-leave-requires-clause-text
-list_item-leave-requires-clause-text t c =
-    (enters c.args.draft.now.path.text c.list_struct.new.draft.path.text c.len-kept.result (codes ".") c.len-kept.ensures
-    (c.list_struct.ensures.path ∙ c.enter.ensures)).text
+list_item-leave-requires-clause-text t c = (enters c.args.draft.now.path.text _ c.len-kept.ensures (c.list_struct.ensures.path ∙ c.enter.ensures)).text
 
 pub list_item-returns-in-Struct : goal.list_item-returns-in-Struct
 list_item-returns-in-Struct t c =
-    let set = described c.args.lister.now.set.now in
-    let well = c.args.lister.now.set.now.well_formed in
-    let item = c.args.field.now.item in
-    let j = c.in-Struct.number in
-    let draft = c.args.draft.now in
-    let same = struct_list set well item j c.in-Struct.is c.requires.cells.reaches c.args.field.now.default c.args.place.sent (string_bytes draft.path.text)
-    (string_bytes c.enter.new.self.text) c.args.lister.now.image.now.numbers c.args.place.cell c.enter.ensures in
-    let entered =
-    enters draft.path.text c.list_struct.new.draft.path.text c.len-kept.result (codes ".") c.len-kept.ensures
-    (c.list_struct.ensures.path ∙ c.enter.ensures) in
-    subst (λ (l : List Entry). Lists draft (record { text = c.list_struct.new.draft.text; path = c.leave.new.self; later = c.list_struct.new.draft.later }) l)
-    same (leave_path draft c.enter.new.self c.leave.new.self c.list_struct.new.draft _ c.list_struct.ensures (c.leave.ensures ∙ entered.back))
+    let lister = c.args.lister.now in
+    let same = struct_list (described lister.set.now) lister.set.now.well_formed c.args.field.now.item c.in-Struct.number c.in-Struct.is c.requires.cells.reaches
+    c.args.field.now.default c.args.place.sent (string_bytes c.args.draft.now.path.text) (string_bytes c.enter.new.self.text) lister.image.now.numbers
+    c.args.place.cell c.enter.ensures in
+    rw (← same) (leave_path c.list_struct.ensures (c.leave.ensures ∙ (enters c.args.draft.now.path.text _ c.len-kept.ensures (c.list_struct.ensures.path ∙ c.enter.ensures)).back))
 
 pub list_item-list_sent-requires-clause-word : goal.list_item-list_sent-requires-clause-word
 list_item-list_sent-requires-clause-word t c = name_plain (codes "equal") refl
@@ -75,9 +58,8 @@ list_elements-list_item-requires t c =
       room = element_room (item_size (struct_cells set) c.args.field.now.item) c.args.place.cell i c.args.count c.loop-number.cell
           (length c.args.lister.now.image.now.numbers) c.loop-number-test.true inv.here cells.room;
     } in
-    let small : i < 2 ^ 64 = omega (arith, c.loop-number-test.true, c.ranges.count.fits) in
     let plain : IsPlain (string_bytes c.enter_element.new.self.text) =
-    rw (c.enter_element.ensures, inv.lists.lists.path) (element_plain path i small c.requires.path) in
+    rw (c.enter_element.ensures, inv.lists.lists.path) (element_plain path i (omega (arith, c.loop-number-test.true, c.ranges.count.fits)) c.requires.path) in
     let long = index_long (string_bytes c.loop-number.draft.path.text) i (omega (arith, c.loop-number-test.true, c.ranges.count.fits)) in
     (search rules, (elements, (plain, omega (arith, c.requires.deep, ap length c.enter_element.ensures, long, ap length inv.lists.lists.path))))
 
@@ -86,44 +68,33 @@ list_elements-enter_element-requires t c = omega (arith, c.requires.deep, ap len
 
 pub list_elements-leave-requires-clause-text : goal.list_elements-leave-requires-clause-text
 list_elements-leave-requires-clause-text t c =
-    let now = c.loop-number.draft.path in
-    let kept = c.len-kept.ensures ∙ ap length (sym c.loop-number.invariant.lists.lists.path) in
-    (enters now.text c.list_item.new.draft.path.text c.len-kept.result (codes "[" ++ (decimal c.loop-number.number ++ codes "]")) kept
-    (c.list_item.ensures.path ∙ c.enter_element.ensures)).text
+    (enters c.loop-number.draft.path.text _ (c.len-kept.ensures ∙ ap length (sym c.loop-number.invariant.lists.lists.path)) (c.list_item.ensures.path ∙ c.enter_element.ensures)).text
 
 pub list_elements-loop-number-preserved : goal.list_elements-loop-number-preserved
 list_elements-loop-number-preserved t c =
-    let set = described c.args.lister.now.set.now in
     let f = field_of c.args.field.now in
-    let n = c.args.lister.now.image.now.numbers in
+    let set = described c.args.lister.now.set.now in
     let path = string_bytes c.args.draft.now.path.text in
     let size = item_size (struct_cells set) f.item in
-    let one = item_list set f c.args.place.sent n in
+    let one = item_list set f c.args.place.sent c.args.lister.now.image.now.numbers in
     let i = c.loop-number.number in
-    let now = c.loop-number.draft in
     let inv = c.loop-number.invariant in
-    let width : c.item_cells-size.result ≡ size = omega (arith, c.item_cells-size.ensures, c.requires.cells.small) in
-    let moved : c.loop-number.cell + c.item_cells-size.result ≡ c.loop-number.cell + size = omega (arith, width) in
+    let moved : c.loop-number.cell + c.item_cells-size.result ≡ c.loop-number.cell + size = omega (arith, c.item_cells-size.ensures, c.requires.cells.small) in
     let kept = c.len-kept.ensures ∙ ap length (sym inv.lists.lists.path) in
-    let entered = enters now.path.text c.list_item.new.draft.path.text c.len-kept.result (codes "[" ++ (decimal i ++ codes "]")) kept
-    (c.list_item.ensures.path ∙ c.enter_element.ensures) in
+    let now = c.loop-number.draft in
     let new : Draft = record { text = c.list_item.new.draft.text; path = c.leave.new.self; later = c.list_item.new.draft.later } in
-    let listed = leave_path now c.enter_element.new.self c.leave.new.self c.list_item.new.draft _ c.list_item.ensures (c.leave.ensures ∙ entered.back) in
     record {
-      lists = leaves_rest c.args.draft.now now new
-          (elements_list set f c.args.place.sent n path c.args.place.cell c.args.count) (element_entries one path c.loop-number.cell size i (c.args.count - i))
-          (one (element_path path i) c.loop-number.cell) _
-          (rw moved (elements_next one path c.loop-number.cell size i c.args.count c.loop-number-test.true)) inv.lists
-          (subst (λ (p : List ℕ). Lists now new (one p c.loop-number.cell))
-          (c.enter_element.ensures ∙ ap (λ (p : List ℕ). element_path p i) inv.lists.lists.path) listed);
+      lists = leaves_rest (one (element_path path i) c.loop-number.cell) inv.lists
+          (rw moved (elements_next one path c.loop-number.cell size i c.args.count c.loop-number-test.true))
+          (subst (λ p. Lists now new (one p c.loop-number.cell)) (c.enter_element.ensures ∙ ap (λ p. element_path p i) inv.lists.lists.path)
+          (leave_path c.list_item.ensures (c.leave.ensures ∙ (enters now.path.text _ kept (c.list_item.ensures.path ∙ c.enter_element.ensures)).back)));
       here = moved ∙ next_element size c.args.place.cell i c.loop-number.cell inv.here;
     }
 
 -- ---- one field
 
 pub list_run-returns-in-One : goal.list_run-returns-in-One
-list_run-returns-in-One t c =
-    rw c.in-One.is c.list_item.ensures
+list_run-returns-in-One t c = rw c.in-One.is c.list_item.ensures
 
 pub list_run-returns-in_default : goal.list_run-returns-in_default
 list_run-returns-in_default t c =
@@ -144,22 +115,17 @@ list_field-list_run-requires t c =
     let fields = here_fields set part c.desc.result.now c.as_slice.result.now c.desc.ensures c.as_slice.ensures in
     let is : field_of f ≡ field_at set part k =
     found_field c.as_slice.result.now (desc_at set part).fields k f fields c.requires.field c.index-as_slice-at.is in
-    let needs = field_needs set well part c.args.within.cell n c.requires.place k c.args.at.cell 1 (field_of f) c.requires.field is
-    (some_elements set well part c.args.within.cell n c.requires.place k c.requires.field) c.requires.room in
-    let fewer = elements_fit (field_at set part k).count (own_numbers set part n c.args.within.cell) in
-    let all = field_needs set well part c.args.within.cell n c.requires.place k c.args.at.cell c.elements-count.result (field_of f) c.requires.field is
-    (omega (arith, fewer, c.elements-count.ensures)) c.requires.room in
+    let needs = field_needs set well part c.args.within.cell n c.requires.place k c.args.at.cell (field_of f) c.requires.field is c.requires.room in
     let lower = needs.lower in
+    let fewer = elements_fit (field_at set part k).count (own_numbers set part n c.args.within.cell) in
+    let all = needs.elements c.elements-count.result (omega (arith, fewer, c.elements-count.ensures)) in
     let name = field_name set well part k c.requires.place.has c.requires.field in
     let named = c.enter.ensures ∙ ap (λ (x : List ℕ). string_bytes c.args.draft.now.path.text ++ x) (c.as_str.ensures ∙ ap (λ (x : Field). x.name) is) in
     let plain : IsPlain (string_bytes c.enter.new.self.text) =
     rw named (plain_append (string_bytes c.args.draft.now.path.text) (field_at set part k).name c.requires.path name.plain) in
     let long = ap length named ∙ length-append (string_bytes c.args.draft.now.path.text) (field_at set part k).name in (
       search rules,
-      (
-        needs.elements,
-        (all.elements, (plain, omega (arith, c.requires.deep, name.short, long, needs.lower, levels_are set part, item_levels_are f.item))),
-      ),
+      (needs.elements 1 needs.some, (all, (plain, omega (arith, c.requires.deep, name.short, long, levels_are set part, item_levels_are f.item)))),
     )
 
 pub list_field-enter-requires : goal.list_field-enter-requires
@@ -173,29 +139,19 @@ list_field-enter-requires t c =
     omega (arith, c.requires.deep, name.short, ap length (c.as_str.ensures ∙ ap (λ (x : Field). x.name) is))
 
 pub list_field-leave-requires-clause-text : goal.list_field-leave-requires-clause-text
-list_field-leave-requires-clause-text t c =
-    (enters c.args.draft.now.path.text c.list_run.new.draft.path.text c.len-kept.result c.as_str.result.now c.len-kept.ensures
-    (c.list_run.ensures.path ∙ c.enter.ensures)).text
+list_field-leave-requires-clause-text t c = (enters c.args.draft.now.path.text _ c.len-kept.ensures (c.list_run.ensures.path ∙ c.enter.ensures)).text
 
 pub list_field-returns : goal.list_field-returns
 list_field-returns t c =
     let set = described c.args.lister.now.set.now in
     let part = c.args.part in
-    let k = c.args.at.field in
-    let f = c.index-as_slice-at.result in
-    let n = c.args.lister.now.image.now.numbers in
-    let draft = c.args.draft.now in
+    let path = string_bytes c.args.draft.now.path.text in
     let fields = here_fields set part c.desc.result.now c.as_slice.result.now c.desc.ensures c.as_slice.ensures in
-    let is : field_of f ≡ field_at set part k =
-    found_field c.as_slice.result.now (desc_at set part).fields k f fields c.requires.field c.index-as_slice-at.is in
-    let same = field_run set part c.args.within.cell k c.args.within.sent n (string_bytes draft.path.text) c.args.at.cell (field_of f) c.is_sent-sent.result
-    (string_bytes c.enter.new.self.text) c.elements-count.result is c.is_sent-sent.ensures
-    (c.enter.ensures ∙ ap (λ (name : List ℕ). string_bytes draft.path.text ++ name) c.as_str.ensures) c.elements-count.ensures in
-    let entered =
-    enters draft.path.text c.list_run.new.draft.path.text c.len-kept.result c.as_str.result.now c.len-kept.ensures
-    (c.list_run.ensures.path ∙ c.enter.ensures) in
-    subst (λ (l : List Entry). Lists draft (record { text = c.list_run.new.draft.text; path = c.leave.new.self; later = c.list_run.new.draft.later }) l) same
-    (leave_path draft c.enter.new.self c.leave.new.self c.list_run.new.draft _ c.list_run.ensures (c.leave.ensures ∙ entered.back))
+    let is = found_field c.as_slice.result.now (desc_at set part).fields c.args.at.field c.index-as_slice-at.result fields c.requires.field c.index-as_slice-at.is in
+    let same = field_run set part c.args.within.cell c.args.at.field c.args.within.sent c.args.lister.now.image.now.numbers path c.args.at.cell
+    (field_of c.index-as_slice-at.result) c.is_sent-sent.result (string_bytes c.enter.new.self.text) c.elements-count.result is c.is_sent-sent.ensures
+    (rw c.as_str.ensures at c.enter.ensures) c.elements-count.ensures in
+    rw (← same) (leave_path c.list_run.ensures (c.leave.ensures ∙ (enters c.args.draft.now.path.text _ c.len-kept.ensures (c.list_run.ensures.path ∙ c.enter.ensures)).back))
 
 -- ---- the fields of a part
 
@@ -208,30 +164,24 @@ list_part-list_field-requires t c =
     let k = c.loop-field.field in
     let lt : k < length (desc_at set c.args.part).fields = omega (arith, c.field_count-field-end.ensures) in
     let room = field_room set c.args.part c.args.place.cell k c.args.lister.now.image.now.numbers c.requires.place lt in
-    let same = c.loop-field.invariant.lists.path in (
-      search rules,
-      (c.requires.place, (lt, (rw c.field_start-cell.ensures room, (rw same c.requires.path, omega (arith, c.requires.deep, ap length same))))),
-    )
+    let same = c.loop-field.invariant.lists.path in
+    (search rules, (c.requires.place, (lt, (rw c.field_start-cell.ensures room, (rw same c.requires.path, omega (arith, c.requires.deep, ap length same))))))
 
 pub list_part-loop-field-init : goal.list_part-loop-field-init
 list_part-loop-field-init t c =
-    let set = described c.args.lister.now.set.now in
-    let place = c.args.place in
-    let path = string_bytes c.args.draft.now.path.text in
-    leaves_same c.args.draft.now _ _ (sym (fields_whole set c.args.part place.cell place.sent path c.args.lister.now.image.now.numbers))
+    leaves_all c.args.draft.now (sym (fields_whole (described c.args.lister.now.set.now) c.args.part c.args.place.cell c.args.place.sent
+    (string_bytes c.args.draft.now.path.text) c.args.lister.now.image.now.numbers))
 
 pub list_part-loop-field-preserved : goal.list_part-loop-field-preserved
 list_part-loop-field-preserved t c =
     let set = described c.args.lister.now.set.now in
     let n = c.args.lister.now.image.now.numbers in
-    let part = c.args.part in
     let place = c.args.place in
     let k = c.loop-field.field in
-    let cell = c.field_start-cell.result in
     let path = string_bytes c.args.draft.now.path.text in
-    let lt : k < length (desc_at set part).fields = omega (arith, c.field_count-field-end.ensures) in
+    let lt : k < length (desc_at set c.args.part).fields = omega (arith, c.field_count-field-end.ensures) in
     let inv = c.loop-field.invariant in
-    leaves_rest c.args.draft.now c.loop-field.draft c.list_field.new.draft _ _ (field_list set part place.cell k place.sent n path cell) _
-    (fields_next set part place.cell place.sent path n cell k c.field_start-cell.ensures lt) inv
-    (subst (λ (p : List ℕ). Lists c.loop-field.draft c.list_field.new.draft (field_list set part place.cell k place.sent n p cell))
+    leaves_rest (field_list set c.args.part place.cell k place.sent n path c.field_start-cell.result) inv
+    (fields_next set c.args.part place.cell place.sent path n c.field_start-cell.result k c.field_start-cell.ensures lt)
+    (subst (λ p. Lists c.loop-field.draft c.list_field.new.draft (field_list set c.args.part place.cell k place.sent n p c.field_start-cell.result))
     inv.lists.path c.list_field.ensures)

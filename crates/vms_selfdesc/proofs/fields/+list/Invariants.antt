@@ -1,5 +1,5 @@
-use Rattle.vms_selfdesc.proofs.Facade.{◌≡◌, ◌+◌, ◌-◌, ◌*◌, string_bytes, item_size, struct_cells, field_of, described}
-use Rattle.vms_selfdesc.proofs.Facade.{element_entries, item_list, elements_list, part_list, item_rank, part_rank}
+use Rattle.vms_selfdesc.proofs.Facade.{◌≡◌, ◌+◌, ◌-◌, ◌*◌, string_bytes, item_size, struct_cells, field_of, described, element_entries, entry_tree, item_list}
+use Rattle.vms_selfdesc.proofs.Facade.{elements_list, part_list, item_rank, part_rank}
 use Rattle.vms_selfdesc.proofs.Trees.{fields_list, Leaves}
 use Rattle.vms_selfdesc.proofs.fields.+list.Given as goal
 
@@ -29,7 +29,7 @@ invariant-list_elements-loop-number l =
     let path = string_bytes l.initial.draft.path.text in
     let size = item_size (struct_cells set) f.item in
     record {
-      lists : Leaves l.initial.draft l.draft (elements_list set f l.place.sent n path l.place.cell l.count)
+      lists : Leaves entry_tree l.initial.draft l.draft (elements_list set f l.place.sent n path l.place.cell l.count)
           (element_entries (item_list set f l.place.sent n) path l.cell size l.number (l.count - l.number));
       here : l.cell ≡ l.place.cell + l.number * size;
     }
@@ -39,5 +39,5 @@ invariant-list_part-loop-field l =
     let set = described l.lister.set.now in
     let n = l.lister.image.now.numbers in
     let path = string_bytes l.initial.draft.path.text in
-    Leaves l.initial.draft l.draft (part_list set l.part l.place.sent n path l.place.cell)
+    Leaves entry_tree l.initial.draft l.draft (part_list set l.part l.place.sent n path l.place.cell)
     (fields_list set l.part l.place.cell l.field l.place.sent n path)

@@ -5,9 +5,7 @@ use Rattle.vms_selfdesc.proofs.tree.describe.Goals as goal
 
 pub returns-clause-text : goal.returns-clause-text
 returns-clause-text c =
-    let start = c.in_ok-draft.draft.text in
-    let end = c.write_tree.new.draft.text in
-    IfOk-weaker c.finish.result _ _ (λ s h. ap string_bytes h.1 ∙ wrote start end _ _ c.in_ok-draft.ensures.text c.write_tree.ensures.text h.0) c.finish.ensures
+    IfOk-weaker c.finish.result _ _ (λ s h. ap string_bytes h.1 ∙ wrote c.in_ok-draft.ensures.text c.write_tree.ensures.text h.0) c.finish.ensures
 
 pub returns-clause-reads : goal.returns-clause-reads
 returns-clause-reads c =

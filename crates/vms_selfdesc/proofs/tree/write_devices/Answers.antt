@@ -1,10 +1,10 @@
-use Rattle.vms_selfdesc.proofs.Facade.{◌<◌, ◌≤◌, ◌∙◌, length, map, refl, arith, described, state_of, states_long, state_at}
+use Rattle.vms_selfdesc.proofs.Facade.{◌<◌, ◌∙◌, ◌∷◌, [], length, map, refl, arith, described, state_of, states_long, state_at}
 use Rattle.vms_selfdesc.proofs.Bounds.{ready_device}
-use Rattle.vms_selfdesc.proofs.Trees.{remain_all, remain_rest, remain_none, devices_next, devices_end}
+use Rattle.vms_selfdesc.proofs.Trees.{leaves_all, leaves_rest, leaves_none, devices_next, devices_end}
 use Rattle.vms_selfdesc.proofs.tree.write_devices.Goals as goal
 
 pub loop-device-init : goal.loop-device-init
-loop-device-init c = remain_all c.args.draft.now _ _ refl
+loop-device-init c = leaves_all c.args.draft.now refl
 
 pub write_device-requires-clause-device : goal.write_device-requires-clause-device
 write_device-requires-clause-device c =
@@ -17,7 +17,7 @@ write_device-requires-clause-device c =
     (state_at images k image c.loop-device-test.true c.index-images-device.is)
 
 pub write_device-requires-clause-no_path : goal.write_device-requires-clause-no_path
-write_device-requires-clause-no_path c = c.loop-device.invariant.adds.path ∙ c.requires.no_path
+write_device-requires-clause-no_path c = c.loop-device.invariant.lists.path ∙ c.requires.no_path
 
 pub loop-device-preserved : goal.loop-device-preserved
 loop-device-preserved c =
@@ -27,15 +27,12 @@ loop-device-preserved c =
     let k = c.loop-device.device in
     let image = c.index-images-device.result in
     let lt : k < length states = omega (arith, c.loop-device-test.true, states_long images) in
-    let device : k < length set.devices = omega (arith, lt, c.requires.ready.one_each) in
-    remain_rest c.args.draft.now c.loop-device.draft c.write_device.new.draft _ _ _ _
-    (devices_next set states k (state_of image) device lt (state_at images k image c.loop-device-test.true c.index-images-device.is)) c.loop-device.invariant
-    c.write_device.ensures
+    leaves_rest (_ ∷ []) c.loop-device.invariant
+    (devices_next set states k (state_of image) (omega (arith, lt, c.requires.ready.one_each)) lt
+    (state_at images k image c.loop-device-test.true c.index-images-device.is)) c.write_device.ensures
 
 pub returns : goal.returns
 returns c =
-    let set = described c.args.set.now in
     let images = c.args.images.now in
-    let k = c.loop-device.device in
-    let past : length set.devices ≤ k = omega (arith, c.loop-device-test.false, states_long images, c.requires.ready.one_each) in
-    remain_none c.args.draft.now c.loop-device.draft _ _ (devices_end set (map state_of images) k past) c.loop-device.invariant
+    leaves_none (devices_end (described c.args.set.now) (map state_of images) c.loop-device.device
+    (omega (arith, c.loop-device-test.false, states_long images, c.requires.ready.one_each))) c.loop-device.invariant

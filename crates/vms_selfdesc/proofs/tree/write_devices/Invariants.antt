@@ -1,9 +1,9 @@
 use Rattle.vms_selfdesc.proofs.Facade.{drop, map, described, state_of, device_trees}
-use Rattle.vms_selfdesc.proofs.Trees.{Remain}
+use Rattle.vms_selfdesc.proofs.Trees.{Leaves}
 use Rattle.vms_selfdesc.proofs.tree.write_devices.Given as goal
 
 abbrev pub invariant-loop-device : goal.invariant-loop-device
 invariant-loop-device l =
     let set = described l.set in
     let states = map state_of l.images in
-    Remain l.initial.draft l.draft (device_trees set set.devices states) (device_trees set (drop l.device set.devices) (drop l.device states))
+    Leaves (λ d. d) l.initial.draft l.draft (device_trees set set.devices states) (device_trees set (drop l.device set.devices) (drop l.device states))

@@ -7,11 +7,9 @@ pub returns : goal.returns
 returns c =
     let set = c.args.set.now in
     let states = map state_of c.args.images.now in
-    let start = c.clear.new.self.text in
-    let end = c.write_tree.new.draft.text in
     let empty = c.clear.ensures.text in
     let tree = c.write_tree.ensures in
     let short = text_short (described set) states set.well_formed set.heads in
-    let whole = enough start end _ _ empty tree.text (omega (arith, short, c.args.self.now.roomy)) in
-    let text : c.as_str.result.now ≡ described_text (described set) states = c.as_str.ensures.value ∙ wrote start end _ _ empty tree.text whole in
+    let whole = enough empty tree.text (omega (arith, short, c.args.self.now.roomy)) in
+    let text : c.as_str.result.now ≡ described_text (described set) states = c.as_str.ensures.value ∙ wrote empty tree.text whole in
     (text, (text_reads (described set) states tree.sound _ text, omega (arith, ap length text, short)))
