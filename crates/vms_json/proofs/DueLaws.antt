@@ -1,21 +1,11 @@
 -- What is due while a text is read, one token later, with the rows that are laid.
-use Rattle.std.proofs.Common.{◌≡◌, ℕ, suc, ◌-◌, ◌<◌, ◌≤◌, List, [], ◌∷◌, ◌++◌, length, true, false, Option, Some, None, refl, sym, ap, subst, ◌∙◌, arith}
-use Rattle.std.proofs.lemmas.List.{length-append}
-use Rattle.std.specs.Borrow.{Bor}
-use Rattle.json.specs.Token.{Token}
-use Rattle.json.specs.Json.{after_end_array, read_key, value}
-use Rattle.json.specs.Reads.{token_of}
+use Rattle.vms_json.proofs.Facade.{◌≡◌, ℕ, suc, ◌-◌, ◌<◌, ◌≤◌, List, [], ◌∷◌, ◌++◌, length, true, false, Option, Some, None, refl, sym, ap, subst, ◌∙◌, arith}
+use Rattle.vms_json.proofs.Facade.{length-append, Bor, Token, after_end_array, read_key, value, token_of, value_is, read_key-shorter, Data, array, object}
+use Rattle.vms_json.proofs.Facade.{no_items, no_members, of_json, converted, max_depth, Row, Laid, rows_view, Frame, in_list, in_object, before, room, after}
+use Rattle.vms_json.proofs.Facade.{value_due, due, AreBelow, AreEnough, InList, IsLaid, HasValue, IsRowOf, is_in_list, IsUnder, HasEnded}
 use Rattle.json.specs.declared.token.Token.{Token as TokenRead}
 use Rattle.json.specs.declared.token.Token.TheVariants as reads
-use Rattle.json.proofs.Grammar.{value_is, read_key-shorter}
-use Rattle.serde_json.specs.Data.{Data, array, object, no_items, no_members}
-use Rattle.serde_json.specs.Read.{of_json, converted, max_depth}
-use Rattle.vms_json.specs.declared.node.Row.{Row}
 use Rattle.vms_json.specs.declared.node.Row.TheVariants as rows
-use Rattle.vms_json.specs.declared.parse.Laid.{Laid}
-use Rattle.vms_json.specs.Nodes.{rows_view}
-use Rattle.vms_json.specs.Frames.{Frame, in_list, in_object, before, room, after, value_due, due}
-use Rattle.vms_json.specs.Laying.{AreBelow, AreEnough, InList, IsLaid, HasValue, IsRowOf, is_in_list, IsUnder, HasEnded}
 use Rattle.vms_json.proofs.FrameLaws.{value_ends, value_refused, list_begins, object_begins, list_ends, no_tokens, item_due, object_ends, no_key, member_due}
 use Rattle.vms_json.proofs.LaidLaws.{no_members_laid, object_laid, value_in_list, list_begun, object_begun, key_laid, run_laid, row_laid, starts_below, below_more}
 

@@ -1,21 +1,11 @@
 -- What is due after a value that isn't in a list, and at the end of a list or an object.
-use Rattle.std.proofs.Common.{◌≡◌, ℕ, ◌-◌, ◌<◌, ◌≤◌, List, [], ◌∷◌, ◌++◌, length, false, Option, Some, None, sym, ap, subst, ◌∙◌, arith, zero, suc, ◌+◌, get_or, Bool, refl, append_assoc}
-use Rattle.std.proofs.lemmas.List.{length-append, get_or_at, same_from_push}
-use Rattle.std.specs.Borrow.{Bor}
-use Rattle.json.specs.Token.{Token}
-use Rattle.json.specs.Json.{read_key}
-use Rattle.json.proofs.Grammar.{read_key-shorter}
-use Rattle.serde_json.specs.Data.{Data, Members, object, put, array, no_items}
-use Rattle.vms_json.specs.declared.parse.Laid.{Laid}
-use Rattle.vms_json.specs.Frames.{Frame, in_list, in_object, after, members_due, before}
-use Rattle.vms_json.specs.Laying.{AreEnough, InObject, IsLaid, HasValue, IsRun, is_in_list, IsUnder, HasEnded, IsWhole, AreBelow, InList}
+use Rattle.vms_json.proofs.Facade.{◌≡◌, ℕ, ◌-◌, ◌<◌, ◌≤◌, List, [], ◌∷◌, ◌++◌, length, false, Option, Some, None, sym, ap, subst, ◌∙◌, arith, zero, suc, ◌+◌}
+use Rattle.vms_json.proofs.Facade.{get_or, Bool, refl, append_assoc, length-append, get_or_at, same_from_push, Bor, set, slice_get, Token, read_key}
+use Rattle.vms_json.proofs.Facade.{read_key-shorter, Data, Members, object, put, array, no_items, Laid, Frame, in_list, in_object, after, members_due, before}
+use Rattle.vms_json.proofs.Facade.{AreEnough, InObject, IsLaid, HasValue, IsRun, is_in_list, IsUnder, HasEnded, IsWhole, AreBelow, InList, Row, is_list}
 use Rattle.vms_json.proofs.FrameLaws.{object_ends, no_key, member_due}
 use Rattle.vms_json.proofs.LaidLaws.{value_in_object, key_laid, list_closed, object_closed, ended}
 use Rattle.vms_json.proofs.DueLaws.{enough_fewer}
-use Rattle.std.proofs.Math.ListN.{set}
-use Rattle.std.specs.Prelude.{slice_get}
-use Rattle.vms_json.specs.declared.node.Row.{Row}
-use Rattle.vms_json.specs.Nodes.{is_list}
 use Rattle.vms_json.specs.declared.node.Row.TheVariants as rows
 
 -- ---- What is due after a value that isn't in a list.

@@ -1,30 +1,12 @@
 -- Lists of keys, lists of answers of items, the value of bytes, and members one after the other.
-use Rattle.std.specs.Prelude.{MatchOption}
-use Rattle.std.proofs.lemmas.Option.{same_Some}
-use Rattle.std.proofs.Common.{◌≡◌, ℕ, zero, suc, take, drop, false, List, ◌∷◌, ◌++◌, ◌&&◌, Bool, map, Ordering, Less, Equal, Greater, is_eq, refl, ap, ap₂, true, sym, ◌∙◌, [], ◌||◌, ◌+◌, subst, decimal, append_assoc, if◌then◌else◌, Option, Some, None, is_some, Result, Ok, Err, IfOk, IsUtf8}
-use Rattle.std.proofs.lemmas.Map.Text.{is_eq-slice_cmp}
-use Rattle.std.proofs.lemmas.Slice.Eq.{bytes_eq-Decides}
-use Rattle.std.specs.Cmp.Lexicographic.{slice_cmp}
-use Rattle.std.specs.Ordering.{nat_cmp, match_ordering}
-use Rattle.std.specs.List.{list_all, list_any}
-use Rattle.std.specs.Str.{bytes_eq, is_utf8}
-use Rattle.std.proofs.Math.Bool.{and-false, and_assoc, and_comm, and_self_left}
-use Rattle.std.specs.Borrow.{Bor}
-use Rattle.serde_json.specs.Data.{Data, object, Members, no_members, member, put, Items, no_items, item}
-use Rattle.serde_json.specs.Find.{as_object}
-use Rattle.vms_json.specs.declared.node.Row.{Row}
-use Rattle.vms_json.specs.Nodes.{front, data_in, members_in, tree_view}
-use Rattle.vms_spec.specs.Streams.{is_one_of}
-use Rattle.vms_spec.proofs.ListLaws.{one_of_both}
-use Rattle.vms_json.specs.Keys.{has, has_all, has_no_others}
-use Rattle.std.proofs.lemmas.List.{append-nil, map-append}
-use Rattle.vms_json.specs.declared.fault.Fault.{Fault}
-use Rattle.vms_json.specs.Answers.{Answer, good, bad, under, next, changed, each_from, Refuses, IsUnder}
-use Rattle.std.proofs.lemmas.Str.{IsUtf8-from_is_utf8, is_utf8-from_IsUtf8}
-use Rattle.serde_json.specs.Read.{read}
-use Rattle.vms_json.specs.Texts.{value_in}
-use Rattle.vms_json.specs.declared.node.Tree.{Tree}
-use Rattle.vms_json.specs.declared.parse.NoNode.{NoNode}
+use Rattle.vms_json.proofs.Facade.{MatchOption, same_Some, ◌≡◌, ℕ, zero, suc, take, drop, false, List, ◌∷◌, ◌++◌, ◌&&◌, Bool, map, Ordering, Less, Equal}
+use Rattle.vms_json.proofs.Facade.{Greater, is_eq, refl, ap, ap₂, true, sym, ◌∙◌, [], ◌||◌, ◌+◌, subst, decimal, append_assoc, if◌then◌else◌, Option, Some}
+use Rattle.vms_json.proofs.Facade.{None, is_some, Result, Ok, Err, IfOk, IsUtf8, is_eq-slice_cmp, bytes_eq-Decides, slice_cmp, nat_cmp, match_ordering}
+use Rattle.vms_json.proofs.Facade.{list_all, list_any, bytes_eq, is_utf8, and-false, and_assoc, and_comm, and_self_left, Bor, append-nil, map-append}
+use Rattle.vms_json.proofs.Facade.{IsUtf8-from_is_utf8, is_utf8-from_IsUtf8, Data, object, Members, no_members, member, put, Items, no_items, item, as_object}
+use Rattle.vms_json.proofs.Facade.{Row, front, data_in, members_in, tree_view, is_one_of, one_of_both, has, has_all, has_no_others, Fault, Answer, good, bad}
+use Rattle.vms_json.proofs.Facade.{under, next, changed, each_from, Refuses, read, value_in, Tree, NoNode}
+use Rattle.vms_json.specs.Answers.{IsUnder}
 use Rattle.vms_json.specs.declared.node.Row.TheVariants as rows
 use Rattle.vms_json.specs.declared.fault.Fault.TheVariants as faults
 
@@ -81,8 +63,7 @@ one_needed needed allowed k d ms a e = one_more needed allowed k d ms ∙ ap₂ 
 
 pub one_allowed : (needed allowed : List (List ℕ)) (k : List ℕ) (d : Data) (ms : Members) → is_one_of needed k ≡ false → is_one_of allowed k ≡ true
     → has_no_others (needed ++ allowed) ms ≡ true → has_no_others (needed ++ allowed) (put k d ms) ≡ true
-one_allowed needed allowed k d ms a b e =
-    one_more needed allowed k d ms ∙ ap₂ (λ (x y : Bool). (x || y) && has_no_others (needed ++ allowed) ms) a b ∙ e
+one_allowed needed allowed k d ms a b e = one_more needed allowed k d ms ∙ ap₂ (λ (x y : Bool). (x || y) && has_no_others (needed ++ allowed) ms) a b ∙ e
 
 -- ---- Lists of answers of items.
 

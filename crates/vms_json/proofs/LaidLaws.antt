@@ -1,29 +1,13 @@
 -- The value of rows, and rows that are laid in order.
-use Rattle.std.proofs.Common.{◌≡◌, Bool, true, false, cond, if◌then◌else◌, Option, Some, None, ℕ, zero, suc, ◌+◌, ◌*◌, ◌<◌, ◌≤◌, List, [], ◌∷◌, length, take, drop, refl, sym, ap, ap₂, subst, ◌∙◌, arith, length-take, length-drop, ◌++◌, option_map, append_assoc, ◌||◌, is_some}
-use Rattle.std.specs.Borrow.{Bor}
-use Rattle.serde_json.specs.Data.{Data, null, array, object, Members, no_members, put, no_items, item, number}
-use Rattle.std.specs.Str.{bytes_eq}
-use Rattle.std.proofs.lemmas.Bool.{false≢true}
-use Rattle.std.proofs.lemmas.Slice.Eq.{bytes_eq-Decides}
-use Rattle.serde_json.proofs.Views.{get_member-put, get_member-put_other}
-use Rattle.serde_json.specs.Find.{get_member, as_number, as_str, as_bool, as_array, as_object}
-use Rattle.vms_json.specs.declared.node.Row.{Row}
-use Rattle.vms_json.specs.Nodes.{flag_at, is_list, is_object, key_at, number_at, text_at, front, data_in, items_in, members_in, rows_view, count_at}
-use Rattle.std.proofs.lemmas.List.{append-nil, length-append}
-use Rattle.std.proofs.Math.Bool.{or-false, or-true}
-use Rattle.std.proofs.Math.ListN.{set}
-use Rattle.std.proofs.Math.Seq.{take-append_seam, drop-append_seam, set-append_seam}
-use Rattle.json.specs.Token.{Token}
-use Rattle.json.specs.Reads.{token_of}
+use Rattle.vms_json.proofs.Facade.{◌≡◌, Bool, true, false, cond, if◌then◌else◌, Option, Some, None, ℕ, zero, suc, ◌+◌, ◌*◌, ◌<◌, ◌≤◌, List, [], ◌∷◌, length}
+use Rattle.vms_json.proofs.Facade.{take, drop, refl, sym, ap, ap₂, subst, ◌∙◌, arith, length-take, length-drop, ◌++◌, option_map, append_assoc, ◌||◌, is_some}
+use Rattle.vms_json.proofs.Facade.{Bor, bytes_eq, false≢true, bytes_eq-Decides, append-nil, length-append, or-false, or-true, set, take-append_seam}
+use Rattle.vms_json.proofs.Facade.{drop-append_seam, set-append_seam, Data, null, array, object, Members, no_members, put, no_items, item, number}
+use Rattle.vms_json.proofs.Facade.{get_member-put, get_member-put_other, get_member, as_number, as_str, as_bool, as_array, as_object, Row, flag_at, is_list}
+use Rattle.vms_json.proofs.Facade.{is_object, key_at, number_at, text_at, front, data_in, items_in, members_in, rows_view, count_at, Token, token_of, value}
+use Rattle.vms_json.proofs.Facade.{value_is, number_view, Number, number_of, of_json, converted, Frame, in_list, in_object, before, has_one, AreBelow, IsRowOf}
+use Rattle.vms_json.proofs.Facade.{items_of, members_of, IsRun, AreItems, AreMembers, InList, InObject, IsLaid, HasValue}
 use Rattle.json.specs.declared.token.Token.{Token as TokenRead}
-use Rattle.json.specs.Json.{value}
-use Rattle.json.proofs.Grammar.{value_is}
-use Rattle.serde_json.specs.View.{number_view}
-use Rattle.serde_json.specs.declared.number.Number.{Number}
-use Rattle.serde_json.specs.Read.{number_of, of_json, converted}
-use Rattle.vms_json.specs.Frames.{Frame, in_list, in_object, before}
-use Rattle.vms_json.specs.Keys.{has_one}
-use Rattle.vms_json.specs.Laying.{AreBelow, IsRowOf, items_of, members_of, IsRun, AreItems, AreMembers, InList, InObject, IsLaid, HasValue}
 use Rattle.vms_json.proofs.FrameLaws.{before_one}
 use Rattle.vms_json.specs.declared.node.Row.TheVariants as rows
 use Rattle.json.specs.declared.token.Token.TheVariants as reads
@@ -154,8 +138,7 @@ put_found true q k d ms e =
     ap (λ n. get_member n (put k d ms)) (sym same) ∙ get_member-put k d ms
 put_found false q k d ms e = get_member-put_other q k d ms (λ same. false≢true (sym e ∙ (bytes_eq-Decides k q).1 (sym same)))
 
-has_put : (q k : List ℕ) (d : Data) (ms : Members) (b : Bool) → bytes_eq k q ≡ b
-    → is_some (get_member q (put k d ms)) ≡ (is_some (get_member q ms) || b)
+has_put : (q k : List ℕ) (d : Data) (ms : Members) (b : Bool) → bytes_eq k q ≡ b → is_some (get_member q (put k d ms)) ≡ (is_some (get_member q ms) || b)
 has_put q k d ms true e = ap is_some (put_found true q k d ms e) ∙ sym (or-true (is_some (get_member q ms)))
 has_put q k d ms false e = ap is_some (put_found false q k d ms e) ∙ sym (or-false (is_some (get_member q ms)))
 

@@ -1,16 +1,8 @@
 -- The number of the first field of each name.
-use Rattle.std.proofs.Common.{◌≡◌, ℕ, ◌+◌, ◌<◌, ◌≤◌, List, [], ◌∷◌, ◌++◌, Bool, true, false, cond, eqb, ltb, if◌then◌else◌, Option, Some, None, is_some, option_and_then, length, append_assoc, refl, ap, sym, ◌∙◌, codes, arith, ⊎_elim}
-use Rattle.std.specs.List.{position, position_or_len}
-use Rattle.std.specs.Str.{bytes_eq}
-use Rattle.std.proofs.lemmas.Bool.{cases_lt, lt-ltb, le-ltb, eq-eqb, ne_eqb, false≢true}
-use Rattle.std.proofs.lemmas.List.{length-append, append-nil}
-use Rattle.std.proofs.lemmas.List.Folds.{position_or_len_push}
-use Rattle.std.proofs.lemmas.List.Sums.{prefix_len-le-length}
-use Rattle.std.proofs.lemmas.Slice.Eq.{bytes_eq-Decides}
-use Rattle.serde_json.specs.Data.{Data, Items, no_items, item}
-use Rattle.serde_json.specs.Find.{get, as_str}
-use Rattle.vms_spec.specs.Lists.{or_else}
-use Rattle.vms_json.specs.Index.{at_name, text_or_none, names_of, first_of}
+use Rattle.vms_json.proofs.Facade.{◌≡◌, ℕ, ◌+◌, ◌<◌, ◌≤◌, List, [], ◌∷◌, ◌++◌, Bool, true, false, cond, eqb, ltb, if◌then◌else◌, Option, Some, None, is_some}
+use Rattle.vms_json.proofs.Facade.{option_and_then, length, append_assoc, refl, ap, sym, ◌∙◌, codes, arith, ⊎_elim, position, position_or_len, bytes_eq}
+use Rattle.vms_json.proofs.Facade.{cases_lt, lt-ltb, le-ltb, eq-eqb, ne_eqb, false≢true, length-append, append-nil, position_or_len_push, prefix_len-le-length}
+use Rattle.vms_json.proofs.Facade.{bytes_eq-Decides, Data, Items, no_items, item, get, as_str, or_else, at_name, text_or_none, names_of, first_of}
 
 -- ---- one more at the end
 
@@ -72,8 +64,7 @@ by_name false number old none = sym (or_else_none old)
 -- a name that wasn't in the index
 pub put_one : (name q : List ℕ) (number : ℕ) (old : List ℕ → Option ℕ) (new : Option ℕ) → old name ≡ None → new ≡ cond (bytes_eq name q) (Some number) (old q)
     → new ≡ or_else (old q) (if bytes_eq name q then Some number else None)
-put_one name q number old new none is =
-    is ∙ by_name (bytes_eq name q) number (old q) (λ same. ap old (sym ((bytes_eq-Decides name q).0 same)) ∙ none)
+put_one name q number old new none is = is ∙ by_name (bytes_eq name q) number (old q) (λ same. ap old (sym ((bytes_eq-Decides name q).0 same)) ∙ none)
 
 pub is_none_of : (o : Option ℕ) → is_some o ≡ false → o ≡ None
 is_none_of None e = refl

@@ -1,6 +1,4 @@
-use Rattle.std.proofs.Common.{◌≡◌, length}
-use Rattle.vms_json.specs.Asked.{some_ask}
-use Rattle.vms_json.specs.Nodes.{items_left}
+use Rattle.vms_json.proofs.Facade.{◌≡◌, length, some_ask, items_left}
 use Rattle.vms_json.proofs.asked.any_asks.Given as goal
 
 abbrev pub invariant-loop-field : goal.invariant-loop-field

@@ -1,8 +1,4 @@
-use Rattle.std.proofs.Common.{◌++◌, [], ◌∷◌, refl, ap, sym, subst, ◌∙◌, arith, rules}
-use Rattle.std.proofs.lemmas.List.{length-append}
-use Rattle.vms_spec.specs.Lists.{or_else}
-use Rattle.vms_json.specs.Nodes.{view, items_left}
-use Rattle.vms_json.specs.Index.{IsIndex, at_name, names_of}
+use Rattle.vms_json.proofs.Facade.{◌++◌, [], ◌∷◌, refl, ap, sym, subst, ◌∙◌, arith, rules, length-append, or_else, view, items_left, IsIndex, at_name, names_of}
 use Rattle.vms_json.proofs.NameLaws.{one_named, names_on, names_end}
 use Rattle.vms_json.proofs.field_names.index_of.Goals as goal
 

@@ -1,6 +1,4 @@
-use Rattle.std.proofs.Common.{◌≡◌, ℕ, ◌+◌, ◌≤◌, ◌++◌, List, length}
-use Rattle.vms_json.specs.Nodes.{items_left}
-use Rattle.vms_json.specs.Index.{names_of, IsIndex}
+use Rattle.vms_json.proofs.Facade.{◌≡◌, ℕ, ◌+◌, ◌≤◌, ◌++◌, List, length, items_left, names_of, IsIndex}
 use Rattle.vms_json.proofs.field_names.index_of.Given as goal
 
 abbrev pub invariant-loop-field : goal.invariant-loop-field

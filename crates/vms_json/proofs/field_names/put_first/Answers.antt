@@ -1,7 +1,5 @@
-use Rattle.std.proofs.Common.{◌≡◌, ap, sym, ◌∙◌, string_bytes}
-use Rattle.std.proofs.lemmas.Map.Text.{btree_map_updates_text}
-use Rattle.vms_spec.specs.Lists.{or_else}
-use Rattle.vms_json.specs.Index.{number_of, at_name}
+use Rattle.vms_json.proofs.Facade.{◌≡◌, ap, sym, ◌∙◌, string_bytes, btree_map_updates_text, or_else, at_name}
+use Rattle.vms_json.specs.Index.{number_of}
 use Rattle.vms_json.proofs.NameLaws.{put_one, is_none_of}
 use Rattle.vms_json.proofs.field_names.put_first.Goals as goal
 

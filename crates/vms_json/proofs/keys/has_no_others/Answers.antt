@@ -1,7 +1,5 @@
-use Rattle.std.proofs.Common.{◌≡◌, ◌+◌, ◌*◌, ◌++◌, ℕ, true, List, length, refl, sym, ap, ◌∙◌, map, Bor}
-use Rattle.serde_json.specs.Data.{no_members, put}
-use Rattle.vms_json.specs.Keys.{has_no_others}
-use Rattle.vms_json.specs.Nodes.{view}
+use Rattle.vms_json.proofs.Facade.{◌≡◌, ◌+◌, ◌*◌, ◌++◌, ℕ, true, List, length, refl, sym, ap, ◌∙◌, map, no_members, put, has_no_others, view}
+use Rattle.std.proofs.Common.{Bor}
 use Rattle.vms_json.proofs.KeyLaws.{others_stay, one_other, one_needed, one_allowed}
 use Rattle.vms_json.proofs.keys.has_no_others.Goals.{else-not-is_one_of-via-then-not-is_one_of+else-not-is_one_of-2, else-not-is_one_of-via-else-not-is_one_of}
 use Rattle.vms_json.proofs.keys.has_no_others.Goals as goal

@@ -1,7 +1,4 @@
-use Rattle.std.proofs.Common.{◌≡◌, ◌++◌, true, length, map}
-use Rattle.serde_json.specs.Data.{Members}
-use Rattle.vms_json.specs.Keys.{has_no_others}
-use Rattle.vms_json.specs.Nodes.{members_left, members_on}
+use Rattle.vms_json.proofs.Facade.{◌≡◌, ◌++◌, true, length, map, Members, has_no_others, members_left, members_on}
 use Rattle.vms_json.proofs.keys.has_no_others.Given as goal
 
 abbrev pub invariant-loop-key : goal.invariant-loop-key

@@ -1,8 +1,4 @@
-use Rattle.std.proofs.Common.{true, false, refl, sym, ◌∙◌}
-use Rattle.std.proofs.Math.Bool.{or-false, or-true}
-use Rattle.serde_json.specs.Data.{no_members, put}
-use Rattle.vms_json.specs.Keys.{has_one}
-use Rattle.vms_json.specs.Nodes.{view}
+use Rattle.vms_json.proofs.Facade.{true, false, refl, sym, ◌∙◌, or-false, or-true, no_members, put, has_one, view}
 use Rattle.vms_json.proofs.LaidLaws.{one_put}
 use Rattle.vms_json.proofs.keys.have_either.Goals as goal
 

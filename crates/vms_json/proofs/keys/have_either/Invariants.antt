@@ -1,7 +1,4 @@
-use Rattle.std.proofs.Common.{◌≡◌, length}
-use Rattle.serde_json.specs.Data.{Members}
-use Rattle.vms_json.specs.Keys.{has_one}
-use Rattle.vms_json.specs.Nodes.{members_left, members_on}
+use Rattle.vms_json.proofs.Facade.{◌≡◌, length, Members, has_one, members_left, members_on}
 use Rattle.vms_json.proofs.keys.have_either.Given as goal
 
 abbrev pub invariant-loop-name : goal.invariant-loop-name

@@ -1,6 +1,4 @@
-use Rattle.std.proofs.Common.{◌+◌, ap, map, sym, ◌∙◌, arith}
-use Rattle.vms_json.specs.Answers.{each_from}
-use Rattle.vms_json.specs.Nodes.{view, items_left}
+use Rattle.vms_json.proofs.Facade.{◌+◌, ap, map, sym, ◌∙◌, arith, each_from, view, items_left}
 use Rattle.vms_json.proofs.KeyLaws.{before, before_none, goes_on, stops, ends}
 use Rattle.vms_json.proofs.lists.read_each.Goals as goal
 

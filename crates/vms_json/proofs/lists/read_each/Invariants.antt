@@ -1,6 +1,4 @@
-use Rattle.std.proofs.Common.{◌≡◌, ◌+◌, ◌≤◌, length, map}
-use Rattle.vms_json.specs.Answers.{each_from}
-use Rattle.vms_json.specs.Nodes.{items_left}
+use Rattle.vms_json.proofs.Facade.{◌≡◌, ◌+◌, ◌≤◌, length, map, each_from, items_left}
 use Rattle.vms_json.proofs.KeyLaws.{before}
 use Rattle.vms_json.proofs.lists.read_each.Given as goal
 

@@ -1,6 +1,4 @@
-use Rattle.std.proofs.Common.{◌≡◌, ◌+◌, ◌≤◌, ◌-◌}
-use Rattle.serde_json.specs.Events.{items_len}
-use Rattle.vms_json.specs.Nodes.{items_left}
+use Rattle.vms_json.proofs.Facade.{◌≡◌, ◌+◌, ◌≤◌, ◌-◌, items_len, items_left}
 use Rattle.vms_json.proofs.lists.room_for.Given as goal
 
 abbrev pub invariant-loop-room : goal.invariant-loop-room

@@ -1,6 +1,4 @@
-use Rattle.std.proofs.Common.{true, false, refl, sym, ◌∙◌}
-use Rattle.serde_json.specs.Data.{no_members, put}
-use Rattle.vms_json.specs.Nodes.{view}
+use Rattle.vms_json.proofs.Facade.{true, false, refl, sym, ◌∙◌, no_members, put, view}
 use Rattle.vms_json.proofs.LaidLaws.{put_found}
 use Rattle.vms_json.proofs.node.find.Goals as goal
 

@@ -1,12 +1,8 @@
-use Rattle.std.proofs.Common.{◌≡◌, length, option_map}
-use Rattle.serde_json.specs.Data.{Members}
-use Rattle.serde_json.specs.Find.{get_member}
-use Rattle.vms_json.specs.Nodes.{view, members_left, members_on}
+use Rattle.vms_json.proofs.Facade.{◌≡◌, length, option_map, Members, get_member, view, members_left, members_on}
 use Rattle.vms_json.proofs.node.find.Given as goal
 
 abbrev pub invariant-loop-name : goal.invariant-loop-name
-invariant-loop-name l =
-    (before : Members) × (members_left l.fn.members ≡ members_on l.members before) × (get_member l.key before ≡ option_map view l.found)
+invariant-loop-name l = (before : Members) × (members_left l.fn.members ≡ members_on l.members before) × (get_member l.key before ≡ option_map view l.found)
 
 abbrev pub decreases-loop-name : goal.decreases-loop-name
 decreases-loop-name l = length l.members.rows.now

@@ -1,8 +1,4 @@
-use Rattle.std.proofs.Common.{◌≡◌, ◌<◌, length, Some, None, refl, sym, arith}
-use Rattle.std.proofs.lemmas.Bool.{eqb-true, eqb-false}
-use Rattle.std.proofs.lemmas.List.{nil_from_length}
-use Rattle.json.specs.Json.{read_key}
-use Rattle.json.proofs.Grammar.{read_key-shorter}
+use Rattle.vms_json.proofs.Facade.{◌≡◌, ◌<◌, length, Some, None, refl, sym, arith, eqb-true, eqb-false, nil_from_length, read_key, read_key-shorter}
 use Rattle.vms_json.proofs.DueLaws.{item_ended}
 use Rattle.vms_json.proofs.GoLaws.{whole_ended, member_ended, member_no_key, member_goes_on, member_was_last}
 use Rattle.vms_json.proofs.parse.go_on.Goals as goal

@@ -1,7 +1,4 @@
-use Rattle.std.proofs.Common.{◌≤◌, List, length, Option}
-use Rattle.json.specs.Token.{Token}
-use Rattle.serde_json.specs.Data.{Data}
-use Rattle.vms_json.specs.Laying.{AreBelow, HasEnded}
+use Rattle.vms_json.proofs.Facade.{◌≤◌, List, length, Option, Token, Data, AreBelow, HasEnded}
 use Rattle.vms_json.proofs.parse.go_on.Given as goal
 
 abbrev pub invariant-loop-laid : goal.invariant-loop-laid

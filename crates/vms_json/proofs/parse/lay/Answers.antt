@@ -1,8 +1,4 @@
-use Rattle.std.proofs.Common.{◌≡◌, ◌∷◌, Err, refl, ap, subst, ◌∙◌, arith, rules}
-use Rattle.json.specs.Reads.{token_of}
-use Rattle.serde_json.specs.Read.{of_json, converted}
-use Rattle.vms_json.specs.Laying.{IsUnder}
-use Rattle.vms_json.specs.declared.parse.NoNode.TheVariants.{Syntax}
+use Rattle.vms_json.proofs.Facade.{◌≡◌, ◌∷◌, Err, refl, ap, subst, ◌∙◌, arith, rules, token_of, of_json, converted, IsUnder, Syntax}
 use Rattle.vms_json.proofs.DueLaws.{list_too_deep, list_opened, list_over, no_list_over, token_laid, token_refused, no_end, at_any_depth}
 use Rattle.vms_json.proofs.parse.lay.Goals as goal
 

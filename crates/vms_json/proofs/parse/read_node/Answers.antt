@@ -1,8 +1,5 @@
-use Rattle.std.proofs.Common.{◌≡◌, [], ◌∷◌, Bool, true, false, refl, sym, subst, arith, rules}
-use Rattle.std.specs.Prelude.{MatchBool}
-use Rattle.std.proofs.lemmas.Bool.{MatchBool-at_true, MatchBool-at_false}
-use Rattle.json.specs.Reads.{token_of}
-use Rattle.vms_json.specs.Laying.{IsUnder, HasEnded}
+use Rattle.vms_json.proofs.Facade.{◌≡◌, [], ◌∷◌, Bool, true, false, refl, sym, subst, arith, rules, MatchBool, MatchBool-at_true, MatchBool-at_false, token_of}
+use Rattle.vms_json.proofs.Facade.{IsUnder, HasEnded}
 use Rattle.vms_json.proofs.DueLaws.{none_left, under_below, ended_below, item_ended}
 use Rattle.vms_json.proofs.FrameLaws.{said_by, whole_due, nothing_said}
 use Rattle.vms_json.proofs.parse.read_node.Goals.{else-is_value-via-then-is_value+else-not-laid, else-is_value-via-else-is_value}

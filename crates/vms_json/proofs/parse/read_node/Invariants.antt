@@ -1,6 +1,4 @@
-use Rattle.std.proofs.Common.{length}
-use Rattle.std.specs.Prelude.{MatchBool}
-use Rattle.vms_json.specs.Laying.{IsUnder, IsWhole}
+use Rattle.vms_json.proofs.Facade.{length, MatchBool, IsUnder, IsWhole}
 use Rattle.vms_json.proofs.FrameLaws.{said_by}
 use Rattle.vms_json.proofs.parse.read_node.Given as goal
 

@@ -1,9 +1,5 @@
-use Rattle.std.proofs.Common.{◌≡◌, ◌∷◌, None, sym, subst}
-use Rattle.json.specs.Json.{value}
-use Rattle.json.specs.Reads.{token_of}
-use Rattle.serde_json.specs.Read.{of_json, converted}
+use Rattle.vms_json.proofs.Facade.{◌≡◌, ◌∷◌, None, sym, subst, value, token_of, of_json, converted, IsRowOf}
 use Rattle.vms_json.specs.declared.node.Row.TheVariants as rows
-use Rattle.vms_json.specs.Laying.{IsRowOf}
 use Rattle.vms_json.proofs.LaidLaws.{text_row, flag_row, null_row, number_row, no_number, no_row}
 use Rattle.vms_json.proofs.parse.row_of.Goals as goal
 

@@ -1,6 +1,4 @@
-use Rattle.std.proofs.Common.{◌≡◌, suc, ◌+◌, sym, ap, ◌∙◌, arith}
-use Rattle.serde_json.specs.Events.{items_len}
-use Rattle.vms_json.specs.Nodes.{items_left}
+use Rattle.vms_json.proofs.Facade.{◌≡◌, suc, ◌+◌, sym, ap, ◌∙◌, arith, items_len, items_left}
 use Rattle.vms_json.proofs.node.Items.count.Goals as goal
 
 pub loop-item-init : goal.loop-item-init

@@ -1,6 +1,4 @@
-use Rattle.std.proofs.Common.{◌≡◌, ◌+◌, ◌≤◌, length}
-use Rattle.serde_json.specs.Events.{items_len}
-use Rattle.vms_json.specs.Nodes.{items_left}
+use Rattle.vms_json.proofs.Facade.{◌≡◌, ◌+◌, ◌≤◌, length, items_len, items_left}
 use Rattle.vms_json.proofs.node.Items.count.Given as goal
 
 abbrev pub invariant-loop-item : goal.invariant-loop-item

@@ -1,4 +1,4 @@
-use Rattle.std.proofs.Common.{arith}
+use Rattle.vms_json.proofs.Facade.{arith}
 use Rattle.vms_json.proofs.LaidLaws.{no_items_left, an_item_left}
 use Rattle.vms_json.proofs.node.Items.next.Goals as goal
 

@@ -1,7 +1,4 @@
-use Rattle.std.proofs.Common.{◌≡◌, sym, ap, ◌∙◌}
-use Rattle.std.proofs.lemmas.Slice.Eq.{bytes_eq-Decides}
-use Rattle.serde_json.specs.Data.{put}
-use Rattle.vms_json.specs.Nodes.{view, members_on}
+use Rattle.vms_json.proofs.Facade.{◌≡◌, sym, ap, ◌∙◌, bytes_eq-Decides, put, view, members_on}
 use Rattle.vms_json.proofs.node.Members.next_of.Goals as goal
 
 pub returns-then-eq : goal.returns-then-eq

@@ -1,5 +1,4 @@
-use Rattle.std.proofs.Common.{refl, sym, ◌∙◌, arith}
-use Rattle.serde_json.specs.Find.{as_number}
+use Rattle.vms_json.proofs.Facade.{refl, sym, ◌∙◌, arith, as_number}
 use Rattle.vms_json.proofs.LaidLaws.{none_in, says}
 use Rattle.vms_json.proofs.node.Node.as_number.Goals as goal
 

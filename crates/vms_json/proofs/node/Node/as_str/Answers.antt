@@ -1,5 +1,4 @@
-use Rattle.std.proofs.Common.{refl, sym, ◌∙◌, arith}
-use Rattle.serde_json.specs.Find.{as_str}
+use Rattle.vms_json.proofs.Facade.{refl, sym, ◌∙◌, arith, as_str}
 use Rattle.vms_json.proofs.LaidLaws.{none_in, says}
 use Rattle.vms_json.proofs.node.Node.as_str.Goals as goal
 

@@ -1,7 +1,4 @@
-use Rattle.std.proofs.Common.{◌≡◌, ◌-◌, length, get_or, ap, ◌∙◌, arith}
-use Rattle.std.specs.Prelude.{slice_get}
-use Rattle.std.proofs.lemmas.List.{get_or_default}
-use Rattle.vms_json.specs.Nodes.{is_list}
+use Rattle.vms_json.proofs.Facade.{◌≡◌, ◌-◌, length, get_or, ap, ◌∙◌, arith, slice_get, get_or_default, is_list}
 use Rattle.vms_json.proofs.GoLaws.{at_last, below_at, one_place}
 use Rattle.vms_json.proofs.parse.Laid.is_in_list.Goals as goal
 
