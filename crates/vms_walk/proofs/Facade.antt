@@ -1,5 +1,5 @@
 -- The names of other crates, and of this crate's `specs`, that the proofs use.
-pub use Rattle.std.proofs.Common.{Bool, Err, IfErr, List, None, Ok, OnOk, Option, Result, Some, [], ap, append-nil, append_assoc, arith, drop, false, get_or}
+pub use Rattle.std.proofs.Common.{Bool, Err, IfErr, List, None, Ok, Option, Result, Some, [], ap, append-nil, append_assoc, arith, drop, false, get_or}
 pub use Rattle.std.proofs.Common.{if◌then◌else◌, length, length-append, length-set, min, nat_lt, negsuc, pos, refl, rules, slice_set, subst, suc, sym, take}
 pub use Rattle.std.proofs.Common.{true, zero, ℕ, ℤ, ◌*◌, ◌++◌, ◌+◌, ◌-◌, ◌<◌, ◌==◌, ◌||◌, ◌∙◌, ◌∷◌, ◌≡◌, ◌≤◌}
 pub use Rattle.std.proofs.Math.Bool.{or-false, or_assoc}
@@ -18,9 +18,9 @@ pub use Rattle.vms_spec.proofs.Sizes.{elements_fit, field_size, one_fits, room_f
 pub use Rattle.vms_spec.proofs.Tables.{one_more}
 pub use Rattle.vms_spec.specs.Good.{IsGood}
 pub use Rattle.vms_spec.specs.Images.{has_cell}
-pub use Rattle.vms_spec.specs.Layout.{Cell, Constant, Filler, Meaning, Rule, Slot, all_hold, capacity_of, cells_from, counted, desc_cells, desc_slots}
-pub use Rattle.vms_spec.specs.Layout.{elements_of, field_cells, field_slots, item_size, item_slots, meaning, meanings, no_desc, no_field, no_meaning, no_parent}
-pub use Rattle.vms_spec.specs.Layout.{numbers_of, place_of, slots_from, struct_cells, times}
+pub use Rattle.vms_spec.specs.Layout.{Constant, Filler, Meaning, Rule, Slot, all_hold, capacity_of, cells_from, counted, desc_cells, desc_slots, elements_of}
+pub use Rattle.vms_spec.specs.Layout.{field_cells, field_slots, item_size, item_slots, meaning, meanings, no_desc, no_field, no_meaning, no_parent, numbers_of}
+pub use Rattle.vms_spec.specs.Layout.{place_of, slots_from, struct_cells, times}
 unfoldable pub use Rattle.vms_spec.specs.Layout.{first}
 pub use Rattle.vms_spec.specs.Numbers.{exceeds, is_above}
 pub use Rattle.vms_spec.specs.Rules.{uses_below}
@@ -47,7 +47,7 @@ pub use Rattle.vms_parts.specs.Sizes.{in_u32}
 pub use Rattle.vms_walk.specs.Inside.{Keeps, has_step}
 pub use Rattle.vms_walk.specs.Runs.{MayRun, run_of}
 pub use Rattle.vms_walk.specs.Steps.{HasSpot, MayCome, capacities_of, cell_of, cells_in, elements_slots, holds_at, present_of, size_in, slots_at, spot_numbers}
-pub use Rattle.vms_walk.specs.Steps.{spot_slots, step_of, steps_of, table}
+pub use Rattle.vms_walk.specs.Steps.{spot_slots, steps_of, table}
 pub use Rattle.vms_walk.specs.declared.fields.PartAt.{PartAt}
 pub use Rattle.vms_walk.specs.declared.step.WalkStep.{WalkStep}
 pub use Rattle.vms_walk.specs.declared.step.WalkStep.TheVariants.{Number}

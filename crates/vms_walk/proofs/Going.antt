@@ -77,8 +77,7 @@ module _ {S F : Type 0} {N : S → List ℤ} {goes : List WalkStep → S → S �
       let s = keeps_below cell (element set item most (N c) cell) (N b) (N c) (above (N c)) (laws.stopped _ b c f h) in
       let parts = times_split count i (element set item most (N c)) first (size_in set item) lt in
       stop_at laws (elements_slots set item most (N c) i first) (element set item most (N c) cell) parts.0
-      (elements_slots set item most (N c) count first) a b c f
-      (rw done.here parts.1) (way_at (N c) s) h
+      (elements_slots set item most (N c) count first) a b c f (rw done.here parts.1) (way_at (N c) s) h
 
   pub items_may : (may : S → WalkStep → Type 0) (count : ℕ) → i < count → MayCome goes N may (λ n. elements_slots set item most n count first) a
       → MayCome goes N may (λ n. element set item most n cell) b

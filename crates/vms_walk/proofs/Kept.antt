@@ -1,7 +1,6 @@
 -- What steps keep of the numbers, one after the other.
-use Rattle.vms_walk.proofs.Facade.{IsErrAnd, Result, Ok, Err, IfErr, ◌≡◌, sym, subst, ℕ, List, ◌∷◌, ◌++◌, length, length-set, get_or, slice_set, Option, ℤ, pos}
-use Rattle.vms_walk.proofs.Facade.{refl, ap, ◌∙◌, Bool, false, ◌==◌, [], ◌||◌, get_or-set_other, eq-eqb, or_parts, or_assoc, Kind, WalkStep, Number, has_step}
-use Rattle.vms_walk.proofs.Facade.{Keeps}
+use Rattle.vms_walk.proofs.Facade.{IsErrAnd, Result, Ok, Err, IfErr, ◌≡◌, sym, subst, ℕ, List, ◌∷◌, ◌++◌, length, length-set, slice_set, Option, ℤ, pos, refl}
+use Rattle.vms_walk.proofs.Facade.{ap, ◌∙◌, false, ◌==◌, [], ◌||◌, get_or-set_other, eq-eqb, or_parts, or_assoc, Kind, WalkStep, Number, has_step, Keeps}
 use Rattle.vms_walk.specs.declared.step.WalkStep.TheVariants.{Constant, Filler, Rule}
 
 pub err_is : {T E : Type 0} (Q : E → Type 0) (r : Result T E) (e : E) → IsErrAnd r (λ x. x ≡ e) → Q e → IfErr r Q

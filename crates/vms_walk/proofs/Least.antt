@@ -25,8 +25,7 @@ above_lesser k m n = same_tests (nat_lt (min k m) n) (nat_lt k n || nat_lt m n) 
 
 exceeds_lesser : (o : Option ℕ) (m : ℕ) (z : ℤ) → exceeds (capacities_of (lesser o m)) z ≡ (exceeds (capacities_of o) z || is_above z m)
 exceeds_lesser None m z = or-false (is_above z m)
-exceeds_lesser (Some k) m (pos n) =
-    or-false (nat_lt (min k m) n) ∙ above_lesser k m n ∙ ap (λ b. b || nat_lt m n) (sym (or-false (nat_lt k n)))
+exceeds_lesser (Some k) m (pos n) = or-false (nat_lt (min k m) n) ∙ above_lesser k m n ∙ ap (λ b. b || nat_lt m n) (sym (or-false (nat_lt k n)))
 exceeds_lesser (Some k) m (negsuc n) = refl
 
 exceeds_from : (o : Option ℕ) (caps : List ℕ) (z : ℤ) → exceeds (capacities_of (least_from o caps)) z ≡ (exceeds (capacities_of o) z || exceeds caps z)

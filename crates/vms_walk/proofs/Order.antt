@@ -1,9 +1,9 @@
 -- The slots of a description have their cells in ascending order, between its first cell and its end.
-use Rattle.vms_walk.proofs.Facade.{◌≡◌, ℕ, zero, suc, ◌+◌, ◌*◌, ◌<◌, ◌≤◌, List, ◌∷◌, ◌++◌, length, length-append, get_or, ℤ, refl, sym, ap, ◌∙◌, subst, arith}
-use Rattle.vms_walk.proofs.Facade.{Bool, true, false, if◌then◌else◌, [], ◌||◌, ne_eqb, get_or-map, Item, Num, Equal, Unused, Struct, Field, Desc, is_there}
-use Rattle.vms_walk.proofs.Facade.{has_cell, Slot, Constant, Filler, Rule, Cell, Meaning, no_meaning, no_desc, item_slots, item_size, times, field_slots}
-use Rattle.vms_walk.proofs.Facade.{slots_from, desc_slots, desc_cells, cells_from, field_cells, numbers_of, elements_of, capacity_of, counted, all_hold}
-use Rattle.vms_walk.proofs.Facade.{no_parent, first, meaning, meanings, field_size, elements_fit, room_for_less, one_more, cells_in}
+use Rattle.vms_walk.proofs.Facade.{◌≡◌, ℕ, zero, suc, ◌+◌, ◌*◌, ◌<◌, ◌≤◌, List, ◌∷◌, ◌++◌, length, length-append, get_or, ℤ, refl, sym, subst, arith, Bool}
+use Rattle.vms_walk.proofs.Facade.{true, false, if◌then◌else◌, [], ne_eqb, get_or-map, Item, Num, Equal, Unused, Struct, Field, Desc, is_there, has_cell, Slot}
+use Rattle.vms_walk.proofs.Facade.{Constant, Filler, Rule, Meaning, no_meaning, no_desc, item_slots, item_size, times, field_slots, slots_from, desc_slots}
+use Rattle.vms_walk.proofs.Facade.{desc_cells, cells_from, field_cells, numbers_of, elements_of, capacity_of, counted, all_hold, no_parent, first, meaning}
+use Rattle.vms_walk.proofs.Facade.{meanings, field_size, elements_fit, room_for_less, one_more, cells_in}
 use Rattle.vms_spec.specs.Layout.{Number}
 
 -- the cells ascend, from one on and below an end

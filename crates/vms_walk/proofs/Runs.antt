@@ -1,6 +1,7 @@
 -- Numbers of one kind whose cells follow one another are the elements of an array.
-use Rattle.vms_walk.proofs.Facade.{◌≡◌, ℕ, zero, suc, ◌+◌, ◌-◌, ◌*◌, ◌<◌, ◌≤◌, List, [], ◌∷◌, ◌++◌, ℤ, Option, None, refl, sym, ap, ◌∙◌, subst, arith}
-use Rattle.vms_walk.proofs.Facade.{append_assoc, Kind, Item, Num, Set, WalkStep, Number, run_of, MayRun, steps_of, elements_slots}
+use Rattle.vms_walk.proofs.Facade.{◌≡◌, ℕ, zero, suc, ◌+◌, ◌-◌, ◌*◌, ◌<◌, ◌≤◌, List, [], ◌∷◌, ◌++◌, ℤ, Option, None, refl, ap, ◌∙◌, arith, append_assoc}
+use Rattle.vms_walk.proofs.Facade.{append-nil, Kind, Item, Num, Set, WalkStep, Number, run_of, MayRun, steps_of, elements_slots, table, capacities_of}
+use Rattle.vms_walk.proofs.Facade.{item_slots}
 use Rattle.vms_walk.proofs.Going.{Laws}
 use Rattle.vms_walk.proofs.Walking.{times_split, left_within}
 
@@ -10,8 +11,16 @@ run_is set kind n first (suc count) = rw (run_is set kind n (first + 1) count)
 
 pub run_steps : (set : Set) (item : Item) (most : Option ℕ) (kind : Kind) → item ≡ Num kind → most ≡ None → (n : List ℤ) (first count : ℕ)
     → steps_of (elements_slots set item most n count first) ≡ run_of first count kind
-run_steps set item most kind e f n first count =
-    rw (e, f) (run_is set kind n first count)
+run_steps set item most kind e f n first count = rw (e, f) (run_is set kind n first count)
+
+-- the steps of an element of each form
+abbrev pub steps_at : Set → Option ℕ → List ℤ → ℕ → Item → List WalkStep
+steps_at set most n cell item = steps_of (item_slots (table set) item (capacities_of most) n cell)
+
+-- a row of one element
+pub one_slots : (set : Set) (item : Item) (most : Option ℕ) (n : List ℤ) (count first : ℕ) → count ≡ 1
+    → steps_of (elements_slots set item most n count first) ≡ steps_at set most n first item
+one_slots set item most n count first is = rw is (ap steps_of (append-nil (item_slots (table set) item (capacities_of most) n first)))
 
 -- those before one of them, it, and the others
 pub run_split : (first count n : ℕ) (kind : Kind) → n < count

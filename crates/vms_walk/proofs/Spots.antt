@@ -1,11 +1,11 @@
 -- The spots of a walk: where fields and structures are, and what they have.
-use Rattle.vms_walk.proofs.Facade.{◌≡◌, ℕ, ◌+◌, ◌*◌, ◌<◌, ◌≤◌, List, ◌++◌, length, get_or, drop, ℤ, refl, sym, ap, ◌∙◌, subst, arith, Bool, true, if◌then◌else◌}
-use Rattle.vms_walk.proofs.Facade.{Option, Item, Struct, MOST_ITEMS, Set, Field, is_there, uses_below, least_of, Cell, no_desc, no_parent, item_slots}
-use Rattle.vms_walk.proofs.Facade.{item_size, slots_from, desc_slots, desc_cells, struct_cells, numbers_of, elements_of, capacity_of, counted}
-use Rattle.vms_walk.proofs.Facade.{times, FieldsBelow, all_below, struct_slots, struct_cells_at, room_for_less, one_fits, cells_first, in_u32, field_at}
-use Rattle.vms_walk.proofs.Facade.{own_numbers, is_well_formed, desc_at, reach, field_clean, struct_clean, PartAt, table, cells_in, HasSpot, spot_numbers}
-use Rattle.vms_walk.proofs.Facade.{spot_slots, slots_at, present_of, size_in, capacities_of, elements_slots, steps_of, item_rank, part_rank, reach_whole}
-use Rattle.vms_walk.proofs.Facade.{uses_more, rank_below, place_of, place_after, place_within, field_start, cell_of}
+use Rattle.vms_walk.proofs.Facade.{◌≡◌, ℕ, ◌+◌, ◌*◌, ◌<◌, ◌≤◌, List, ◌++◌, length, get_or, drop, ℤ, refl, sym, ap, ◌∙◌, arith, Bool, true, if◌then◌else◌}
+use Rattle.vms_walk.proofs.Facade.{Option, Item, Struct, MOST_ITEMS, Set, Field, is_there, uses_below, least_of, no_desc, no_parent, item_slots, item_size}
+use Rattle.vms_walk.proofs.Facade.{slots_from, desc_slots, desc_cells, struct_cells, elements_of, capacity_of, counted, times, FieldsBelow, all_below}
+use Rattle.vms_walk.proofs.Facade.{struct_slots, struct_cells_at, room_for_less, one_fits, cells_first, in_u32, field_at, own_numbers, is_well_formed, desc_at}
+use Rattle.vms_walk.proofs.Facade.{reach, field_clean, struct_clean, PartAt, table, cells_in, HasSpot, spot_numbers, spot_slots, slots_at, present_of, size_in}
+use Rattle.vms_walk.proofs.Facade.{capacities_of, elements_slots, steps_of, item_rank, part_rank, reach_whole, uses_more, rank_below, place_of, place_after}
+use Rattle.vms_walk.proofs.Facade.{place_within, field_start, cell_of, all_hold, holds_at}
 use Rattle.vms_spec.specs.declared.Part.TheVariants as parts
 use Rattle.vms_walk.proofs.Walking.{slots_next, fields_at, present_slots, present_fits, steps_bare}
 
@@ -19,6 +19,9 @@ spot_room set spot n h = rw (cells_table set) h.room
 pub own_is : (set : Set) (spot : PartAt) (n : List ℤ) → own_numbers set spot.part n spot.base ≡ spot_numbers set spot n
 own_is set spot n = rw (sym (cells_table set))
 
+pub holds_is : (set : Set) (spot : PartAt) (n : List ℤ) → holds_at set spot n ≡ all_hold (desc_at set spot.part).validate spot.version (spot_numbers set spot n)
+holds_is set spot n = ap (all_hold (desc_at set spot.part).validate spot.version) (own_is set spot n)
+
 -- sizes as the code has them
 pub size_code : (set : Set) (item : Item) (size : ℕ) → size ≡ in_u32 (item_size (struct_cells set) item) → size_in set item ≤ MOST_ITEMS
     → size ≡ size_in set item
@@ -27,8 +30,7 @@ size_code set item size e small =
     omega arith
 
 pub width_code : (set : Set) (f : Field) (width : ℕ) → width ≡ in_u32 (capacity_of f.count * item_size (struct_cells set) f.item)
-    → capacity_of f.count * size_in set f.item ≤ MOST_ITEMS
-    → width ≡ capacity_of f.count * size_in set f.item
+    → capacity_of f.count * size_in set f.item ≤ MOST_ITEMS → width ≡ capacity_of f.count * size_in set f.item
 width_code set f width e small =
     let same : capacity_of f.count * item_size (struct_cells set) f.item ≡ capacity_of f.count * size_in set f.item = rw (sym (cells_table set)) in
     omega arith
@@ -75,16 +77,13 @@ pub record Next (set : Set) (spot : PartAt) (n : List ℤ) (k cell : ℕ) : Type
   pub slots : slots_from (table set) (desc_at set spot.part).fields spot.version (spot_numbers set spot n) n k cell (drop k (desc_at set spot.part).fields)
       ≡ slots_at set spot n k cell
       ++ slots_from (table set) (desc_at set spot.part).fields spot.version (spot_numbers set spot n) n (k + 1)
-      (cell + capacity_of (field_at set spot.part k).count * size_in set (field_at set spot.part k).item)
-      (drop (k + 1) (desc_at set spot.part).fields)
+      (cell + capacity_of (field_at set spot.part k).count * size_in set (field_at set spot.part k).item) (drop (k + 1) (desc_at set spot.part).fields)
   pub room : cell + capacity_of (field_at set spot.part k).count * size_in set (field_at set spot.part k).item ≤ length n
   pub uses : uses_below (reach set spot.part) (field_at set spot.part k).item ≡ true
   pub some : 1 ≤ capacity_of (field_at set spot.part k).count
 
 pub next_field : (set : Set) → is_well_formed set ≡ true → (spot : PartAt) (n : List ℤ) → HasSpot set spot n → (k cell : ℕ)
-    → k < length (desc_at set spot.part).fields
-    → cell ≡ cell_of set spot k
-    → Next set spot n k cell
+    → k < length (desc_at set spot.part).fields → cell ≡ cell_of set spot k → Next set spot n k cell
 next_field set well spot n h k cell lt here =
     let all = (desc_at set spot.part).fields in
     let f = field_at set spot.part k in
@@ -131,8 +130,7 @@ field_needs set well spot n h k cell count item most lt is there least room =
       steps = ap steps_of (present_slots (table set) all spot.version own n k cell f)
           ∙ ap (λ x. steps_of (times x (item_slots (table set) f.item caps n) cell (size_in set f.item))) (sym there)
           ∙ ap (λ x. steps_of (times count (item_slots (table set) x caps n) cell (size_in set x))) (sym is)
-          ∙ steps_bare (table set) n item caps count cell (size_in set item)
-          ∙ ap (λ o. steps_of (elements_slots set item o n count cell)) (sym least);
+          ∙ steps_bare (table set) n item caps count cell (size_in set item) ∙ ap (λ o. steps_of (elements_slots set item o n count cell)) (sym least);
     }
 
 -- the next of the elements that are left

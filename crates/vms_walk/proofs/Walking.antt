@@ -1,9 +1,9 @@
 -- The slots of fields and elements, taken apart at one of them.
 use Rattle.vms_walk.proofs.Facade.{◌≡◌, ℕ, zero, suc, ◌+◌, ◌*◌, ◌<◌, List, [], ◌∷◌, ◌++◌, length, get_or, take, ℤ, sym, ap, ◌∙◌, arith, append_assoc}
-use Rattle.vms_walk.proofs.Facade.{append-nil, ◌≤◌, drop, refl, Bool, true, false, if◌then◌else◌, Option, Some, None, drop_more, Field, Slot}
-use Rattle.vms_walk.proofs.Facade.{Meaning, times, field_slots, slots_from, field_cells, place_of, no_field, item_slots, item_size}
-use Rattle.vms_walk.proofs.Facade.{elements_of, capacity_of, counted, no_parent, cells_in, step_of, steps_of, present_of, capacities_of, Item, Num, Equal}
-use Rattle.vms_walk.proofs.Facade.{Unused, Struct, is_there, field_size, elements_fit, room_for_less, least_of, WalkStep}
+use Rattle.vms_walk.proofs.Facade.{append-nil, ◌≤◌, drop, refl, Bool, true, false, if◌then◌else◌, Option, Some, None, drop_more, Field, Slot, Meaning, times}
+use Rattle.vms_walk.proofs.Facade.{field_slots, slots_from, field_cells, place_of, no_field, item_slots, item_size, elements_of, capacity_of, counted}
+use Rattle.vms_walk.proofs.Facade.{no_parent, cells_in, steps_of, present_of, capacities_of, Item, Num, Equal, Unused, Struct, is_there, field_size}
+use Rattle.vms_walk.proofs.Facade.{elements_fit, room_for_less, least_of, WalkStep}
 use Rattle.vms_walk.specs.declared.step.WalkStep.TheVariants as steps
 
 -- ---- elements
@@ -84,8 +84,7 @@ left_within before here rest whole ys ws zs x e f =
 
 -- a step of a part that is left is one of the whole
 pub part_left : (before here rest whole : List Slot) (ys ws zs : List WalkStep) (x : WalkStep) → whole ≡ before ++ (here ++ rest)
-    → steps_of here ≡ ys ++ (ws ++ (x ∷ zs))
-    → steps_of whole ≡ (steps_of before ++ ys) ++ (ws ++ (x ∷ (zs ++ steps_of rest)))
+    → steps_of here ≡ ys ++ (ws ++ (x ∷ zs)) → steps_of whole ≡ (steps_of before ++ ys) ++ (ws ++ (x ∷ (zs ++ steps_of rest)))
 part_left before here rest whole ys ws zs x e f =
     left_within (steps_of before) (steps_of here) (steps_of rest) (steps_of whole) ys ws zs x
     (ap steps_of e ∙ steps_append before (here ++ rest) ∙ ap (λ l. steps_of before ++ l) (steps_append here rest)) f
@@ -114,8 +113,7 @@ steps_bare ms n (Struct j) caps k at step = refl
 
 -- the field's slots, and those of the fields after it, `size` cells on
 pub slots_next : (ms : List Meaning) (fields : List Field) (v : ℕ) (own : ℕ → ℕ) (n : List ℤ) (i at size : ℕ) (f : Field) (left more : List Field)
-    → left ≡ f ∷ more
-    → size ≡ capacity_of f.count * item_size (cells_in ms) f.item
+    → left ≡ f ∷ more → size ≡ capacity_of f.count * item_size (cells_in ms) f.item
     → slots_from ms fields v own n i at left ≡ field_slots ms fields v own n i at f ++ slots_from ms fields v own n (i + 1) (at + size) more
 slots_next ms fields v own n i at size f left more e s =
     let step : length (field_cells (cells_in ms) fields i f) ≡ size = field_size (cells_in ms) fields i f ∙ sym s in

@@ -1,14 +1,13 @@
-use Rattle.vms_walk.proofs.Facade.{rules, arith, refl, sym, ap, ◌∙◌, subst, ◌≡◌, ℕ, ℤ, ◌+◌, ◌*◌, ◌<◌, ◌≤◌, List, [], ◌∷◌, ◌++◌, append-nil, length, true}
-use Rattle.vms_walk.proofs.Facade.{OnOk, IfErr, Option, ltb-true, IfErr-weaker, on_ok_weaker, Item, Struct, Field, Desc, Set, uses_below, Slot, item_slots}
-use Rattle.vms_walk.proofs.Facade.{all_hold, SameBelow, IsAbove, items_above, meanings_above, field_at}
-use Rattle.vms_walk.proofs.Facade.{described, desc_at, found_field, here_fields, good_of, PartAt, WalkStep, steps_of, table, spot_numbers, holds_at, cell_of}
-use Rattle.vms_walk.proofs.Facade.{spot_slots, slots_at, size_in, capacities_of, elements_slots, HasSpot, MayCome, run_of}
+use Rattle.vms_walk.proofs.Facade.{rules, arith, refl, sym, ap, ◌∙◌, ◌≡◌, ℕ, ℤ, ◌+◌, ◌*◌, ◌<◌, List, [], ◌∷◌, ◌++◌, length, ltb-true, IfErr-weaker}
+use Rattle.vms_walk.proofs.Facade.{on_ok_weaker, Struct, item_slots, SameBelow, IsAbove, items_above, meanings_above, field_at, described, desc_at, found_field}
+use Rattle.vms_walk.proofs.Facade.{here_fields, good_of, steps_of, table, holds_at, cell_of, spot_slots, slots_at, size_in, capacities_of, elements_slots}
+use Rattle.vms_walk.proofs.Facade.{HasSpot, MayCome, run_of}
 use Rattle.vms_spec.specs.declared.Part.TheVariants as parts
 use Rattle.vms_walk.specs.declared.step.WalkStep.TheVariants as steps
 use Rattle.vms_walk.proofs.Kept.{err_is}
-use Rattle.vms_walk.proofs.Runs.{run_steps}
+use Rattle.vms_walk.proofs.Runs.{run_steps, steps_at, one_slots}
 use Rattle.vms_walk.proofs.Walking.{room_at, least_again}
-use Rattle.vms_walk.proofs.Spots.{Next, next_field, field_needs, size_code, start_code, struct_spot, struct_size, own_is}
+use Rattle.vms_walk.proofs.Spots.{Next, next_field, field_needs, size_code, start_code, struct_spot, struct_size, holds_is}
 use Rattle.vms_walk.proofs.Local.{keeps_below, keeps_first}
 use Rattle.vms_walk.proofs.Going.{Laws, Walked, Past, items_next, items_stop, items_may, field_slots_are, fields_next, fields_stop, fields_may, rule_next, rule_stop, rule_may, same_rule}
 use Rattle.vms_walk.proofs.fields.+walk.Given.{Over}
@@ -57,9 +56,8 @@ walk_items-returns-in_err-walk_item-clause-err g t c =
     let row = c.args.row in
     let d = c.walk_item.new.walker in
     let fault = c.in_err-walk_item.field-0.0 in
-    err_is (λ fault. g.W.Walker.stops
-    (steps_of (elements_slots set row.item.now row.most
-    (N d) row.count row.first)) c.args.walker.now fault d) c.from_residual.result fault c.from_residual.ensures.1
+    let slots = elements_slots set row.item.now row.most (N d) row.count row.first in
+    err_is (λ fault. g.W.Walker.stops (steps_of slots) c.args.walker.now fault d) c.from_residual.result fault c.from_residual.ensures.1
     (items_stop (laws_of g) (walked g t (goal.at.walk_items-returns-in_err-walk_item-clause-err g t c).After-walk_item-arg-1) c.args.row.count
     (omega arith) d fault c.in_err-walk_item.ensures.err)
 
@@ -69,33 +67,16 @@ walk_items-walk_item-requires g t c =
     let item = c.args.row.item.now in
     let cell = c.loop-turn.cell in
     let inv = c.loop-turn.invariant in
-    let room =
-    room_at c.loop-turn._turn c.args.row.count (size_in set item) c.args.row.first cell (length (g.W.Cells.numbers c.args.walker.now))
-    (omega arith) inv.here c.requires.room in
-    λ κs h. (
-      search rules,
-      (
-        search rules,
-        (
-          search rules,
-          (
-            c.requires.reaches,
-            (
-              items_may (laws_of g) (walked g t c) g.W.Walker.may c.args.row.count (omega arith) c.requires.may,
-              (rw inv.long room, rw inv.long c.requires.few),
-            ),
-          ),
-        ),
-      ),
-    )
+    let room = room_at c.loop-turn._turn c.args.row.count (size_in set item) c.args.row.first cell _ (omega arith) inv.here c.requires.room in
+    let may = items_may (laws_of g) (walked g t c) g.W.Walker.may c.args.row.count (omega arith) c.requires.may in
+    λ κs h. (search rules, (search rules, (search rules, (c.requires.reaches, (may, (rw inv.long room, rw inv.long c.requires.few))))))
 
 pub walk_items-overflow_add-cell : goal.walk_items-overflow_add-cell
 walk_items-overflow_add-cell g t c =
     let set = described c.args.set.now in
     let item = c.args.row.item.now in
-    let room =
-    room_at c.loop-turn._turn c.args.row.count (size_in set item) c.args.row.first c.loop-turn.cell (length (g.W.Cells.numbers c.args.walker.now))
-    (omega arith) c.loop-turn.invariant.here c.requires.room in
+    let inv = c.loop-turn.invariant in
+    let room = room_at c.loop-turn._turn c.args.row.count (size_in set item) c.args.row.first c.loop-turn.cell _ (omega arith) inv.here c.requires.room in
     omega (arith, size_code set item c.item_cells-size.result c.item_cells-size.ensures c.requires.small)
 
 -- numbers that count nothing
@@ -109,7 +90,6 @@ walk_items-walk_run-requires-clause-may g t c =
 
 pub walk_items-returns-in-Some-clause-ok : goal.walk_items-returns-in-Some-clause-ok
 walk_items-returns-in-Some-clause-ok g t c =
-    let a = c.args.walker.now in
     let b = c.walk_run.new.walker in
     let same =
     run_steps (described c.args.set.now) c.args.row.item.now c.args.row.most c.in-Some.kind (search rules) (search rules)
@@ -125,15 +105,9 @@ walk_items-returns-in-Some-clause-err g t c =
     let slots = elements_slots set c.args.row.item.now c.args.row.most (g.W.Cells.numbers b) c.args.row.count c.args.row.first in
     let same = run_steps set c.args.row.item.now c.args.row.most kind (search rules) (search rules) (g.W.Cells.numbers b) c.args.row.first c.args.row.count in
     IfErr-weaker c.walk_run.result (λ fault. g.W.Walker.stops (run_of c.args.row.first c.args.row.count kind) a fault b)
-    (λ fault. g.W.Walker.stops (steps_of slots) a fault b)
-    (λ fault h. rw same h) c.walk_run.ensures.err
+    (λ fault. g.W.Walker.stops (steps_of slots) a fault b) (λ fault h. rw same h) c.walk_run.ensures.err
 
 -- ---- a row
-
--- the slots of a row of one element are the element's
-one_slots : (set : Set) (item : Item) (most : Option ℕ) (n : List ℤ) (count first : ℕ) → count ≡ 1
-    → steps_of (elements_slots set item most n count first) ≡ steps_of (item_slots (table set) item (capacities_of most) n first)
-one_slots set item most n count first is = rw is (ap steps_of (append-nil (item_slots (table set) item (capacities_of most) n first)))
 
 pub walk_row-walk_item-requires : goal.walk_row-walk_item-requires
 walk_row-walk_item-requires g t c =
@@ -150,7 +124,6 @@ walk_row-walk_item-requires g t c =
 
 pub walk_row-returns-clause-ok : goal.walk_row-returns-clause-ok
 walk_row-returns-clause-ok g t c =
-    let a = c.args.walker.now in
     let b = c.walk_item.new.walker in
     let row = c.args.row in
     let same = one_slots (described c.args.set.now) row.item.now row.most (g.W.Cells.numbers b) row.count row.first (omega arith) in
@@ -207,8 +180,7 @@ walk_field-walk_row-requires g t c =
     let cell = c.args.cell in
     let slots = λ (m : List ℤ). elements_slots set c.index-as_slice-field.result.item c.most-most.result m c.present-count.result cell in
     let needs =
-    field_needs set c.args.set.now.well_formed c.args.spot
-    (N a) c.requires.spot c.args.field cell c.present-count.result c.index-as_slice-field.result.item c.most-most.result c.requires.field
+    field_needs set c.args.set.now.well_formed c.args.spot (N a) c.requires.spot c.args.field cell _ _ c.most-most.result c.requires.field
     (item_is g t c) c.present-count.ensures c.most-most.ensures c.requires.room in
     let come : MayCome g.W.Walker.goes N g.W.Walker.may slots a = λ ys ws zs x d h e.
     let kept = (laws_of g).keeps ys a d h in
@@ -294,8 +266,8 @@ walk-returns-in_err-walk_field-clause-err g t c =
     let s = turn g t (goal.at.walk-returns-in_err-walk_field-clause-err g t c).After-walk_field-arg-1 in
     let d = c.walk_field.new.walker in
     let fault = c.in_err-walk_field.field-0.0 in
-    err_is (λ fault. g.W.Walker.stops
-    (steps_of (spot_slots set c.args.spot (g.W.Cells.numbers d))) a fault d) c.from_residual.result fault c.from_residual.ensures.1
+    let slots = spot_slots set c.args.spot (g.W.Cells.numbers d) in
+    err_is (λ fault. g.W.Walker.stops (steps_of slots) a fault d) c.from_residual.result fault c.from_residual.ensures.1
     (fields_stop (laws_of g) s.past s.inside d fault c.in_err-walk_field.ensures.err)
 
 pub walk-field_start-cell-requires-clause-few : goal.walk-field_start-cell-requires-clause-few
@@ -304,16 +276,8 @@ walk-field_start-cell-requires-clause-few g t c = omega (arith, c.requires.spot.
 pub walk-walk_field-requires : goal.walk-walk_field-requires
 walk-walk_field-requires g t c =
     let s = turn g t c in
-    λ κs h. (
-      search rules,
-      (
-        search rules,
-        (
-          search rules,
-          (s.has, (s.inside, (s.past.here, (fields_may (laws_of g) s.past g.W.Walker.may s.inside c.requires.may, s.next.room)))),
-        ),
-      ),
-    )
+    let may = fields_may (laws_of g) s.past g.W.Walker.may s.inside c.requires.may in
+    λ κs h. (search rules, (search rules, (search rules, (s.has, (s.inside, (s.past.here, (may, s.next.room)))))))
 
 -- after the last field
 end_of : (g : Over) (t : ℕ) (c : goal.walk-After-rules-arg-1 g t) → c.loop-field.field ≡ length (desc_at (described c.args.set.now) c.args.spot.part).fields
@@ -331,9 +295,6 @@ done g t c =
       here = refl;
       way = c.loop-field.invariant.way;
     }
-
-holds_is : (set : Set) (spot : PartAt) (n : List ℤ) → holds_at set spot n ≡ all_hold (desc_at set spot.part).validate spot.version (spot_numbers set spot n)
-holds_is set spot n = ap (all_hold (desc_at set spot.part).validate spot.version) (own_is set spot n)
 
 pub walk-rules-requires-clause-may : goal.walk-rules-requires-clause-may
 walk-rules-requires-clause-may g t c =
@@ -368,26 +329,20 @@ walk-returns-clause-err g t c =
 
 pub walk_item-step-requires-clause-may : goal.walk_item-step-requires-clause-may
 walk_item-step-requires-clause-may g t c =
-    let here =
-    λ (x : Item). steps_of
-    (item_slots (table (described c.args.set.now)) x (capacities_of c.args.most) (g.W.Cells.numbers c.args.walker.now) c.args.cell) in
+    let here = steps_at (described c.args.set.now) c.args.most (g.W.Cells.numbers c.args.walker.now) c.args.cell in
     c.requires.may [] [] [] _ c.args.walker.now (g.met.W.Walker.none c.args.walker.now)
     (ap here c.in-Num.is ∙ ap (λ o. steps.Number c.args.cell c.in-Num.kind o ∷ []) (least_again c.args.most))
 
 pub walk_item-step-requires-in-Equal-clause-may : goal.walk_item-step-requires-in-Equal-clause-may
 walk_item-step-requires-in-Equal-clause-may g t c =
-    let here =
-    λ (x : Item). steps_of
-    (item_slots (table (described c.args.set.now)) x (capacities_of c.args.most) (g.W.Cells.numbers c.args.walker.now) c.args.cell) in
+    let here = steps_at (described c.args.set.now) c.args.most (g.W.Cells.numbers c.args.walker.now) c.args.cell in
     let may : g.W.Walker.may c.args.walker.now (steps.Constant c.in-Equal.kind c.in-Equal.value) =
     c.requires.may [] [] [] _ c.args.walker.now (g.met.W.Walker.none c.args.walker.now) (ap here c.in-Equal.is) in
     search rules
 
 pub walk_item-step-requires-in-Unused-clause-may : goal.walk_item-step-requires-in-Unused-clause-may
 walk_item-step-requires-in-Unused-clause-may g t c =
-    let here =
-    λ (x : Item). steps_of
-    (item_slots (table (described c.args.set.now)) x (capacities_of c.args.most) (g.W.Cells.numbers c.args.walker.now) c.args.cell) in
+    let here = steps_at (described c.args.set.now) c.args.most (g.W.Cells.numbers c.args.walker.now) c.args.cell in
     c.requires.may [] [] [] _ c.args.walker.now (g.met.W.Walker.none c.args.walker.now) (ap here c.in-Unused.is)
 
 pub walk_item-walk_struct-requires : goal.walk_item-walk_struct-requires
@@ -397,17 +352,8 @@ walk_item-walk_struct-requires g t c =
     let is = c.in-Struct.is in
     let reaches = rw is at c.requires.reaches in
     let room = rw is at c.requires.room in
-    let slots = λ (m : List ℤ). ap (λ x. item_slots (table set) x (capacities_of c.args.most) m c.args.cell) is in
-    λ κs h. (
-      search rules,
-      (
-        search rules,
-        (
-          search rules,
-          (reaches, (λ ys ws zs x d k e. c.requires.may ys ws zs x d k (ap steps_of (slots (N d)) ∙ e), (room, c.requires.few))),
-        ),
-      ),
-    )
+    let steps = λ (m : List ℤ). ap (steps_at set c.args.most m c.args.cell) is in
+    λ κs h. (search rules, (search rules, (search rules, (reaches, (λ ys ws zs x d k e. c.requires.may ys ws zs x d k (steps (N d) ∙ e), (room, c.requires.few))))))
 
 pub walk_item-returns-in-Struct-clause-ok : goal.walk_item-returns-in-Struct-clause-ok
 walk_item-returns-in-Struct-clause-ok g t c =

@@ -1,4 +1,4 @@
-use Rattle.vms_walk.proofs.Facade.{ap, sym, ◌∙◌, Bool, ℕ, if◌then◌else◌, elements_of, field_at, own_numbers, described, present_of}
+use Rattle.vms_walk.proofs.Facade.{ap, sym, ◌∙◌, if◌then◌else◌, elements_of, field_at, own_numbers, described, present_of}
 use Rattle.vms_walk.proofs.Spots.{own_is, present_then}
 use Rattle.vms_walk.proofs.fields.present.Goals as goal
 

@@ -1,4 +1,4 @@
-use Rattle.vms_walk.proofs.Facade.{rules, ◌≡◌, ◌+◌, ◌-◌, ◌≤◌, refl, ◌∙◌, subst, arith, zero, ℕ, run_of}
+use Rattle.vms_walk.proofs.Facade.{rules, ◌≡◌, ◌+◌, ◌-◌, ◌≤◌, refl, ◌∙◌, arith, zero, run_of}
 use Rattle.vms_walk.proofs.Going.{Laws}
 use Rattle.vms_walk.proofs.Kept.{err_is}
 use Rattle.vms_walk.proofs.Runs.{run_next, run_stop, run_may}
