@@ -107,7 +107,7 @@ impl<R: Files + Drop> FileShelf<R> {
 // Reads the first `most` bytes of a file.
 //
 // `read_to_end` clears the room for each byte before it reads it. So the bytes pass through a buffer
-// of fixed length, and `read_to_end` is called last: it finds the end, or tries again what failed.
+// of fixed length, and `read_to_end` is called only after an error, to try again what failed.
 fn read_front<F: Read + Drop>(alloc: Global, file: F, most: u64) -> io::Result<Vec<u8>>
     ensures { IfOk result (λ bytes.
         IfSome (F.remaining file) (λ held. bytes.items ≡ take most held)) }
@@ -117,7 +117,7 @@ fn read_front<F: Read + Drop>(alloc: Global, file: F, most: u64) -> io::Result<V
     let mut piece = [0; PIECE];
     while let Ok(count) = file.read(&mut piece) {
         if count == 0 {
-            break;
+            return Ok(bytes);
         }
         bytes.extend_from_slice(&piece[..count])?;
     }
