@@ -93,7 +93,7 @@ module _ (k : ℕ) (d : Desc) where
   defaults_good i (f ∷ fs) h =
       let z : i + 0 ≡ i = omega arith in
       let here : FieldFacts k d i f = rw z at (h 0 f refl) in
-      (here.default, defaults_good (suc i) fs (λ j g e. (let s : i + suc j ≡ suc i + j = omega arith in rw (← s) (h (suc j) g e))))
+      (here.default, defaults_good (suc i) fs (λ j g e. (let s : i + suc j ≡ suc i + j = omega arith in rw s at (h (suc j) g e))))
 
   rules_named : (ts : List Formula) → ((i : ℕ) (t : Formula) → slice_get ts i ≡ Some t → AllTrue (validation_rules d t)) → RulesNamed (is_steady_in d) ts
   rules_named [] h = tt
@@ -102,18 +102,12 @@ module _ (k : ℕ) (d : Desc) where
   desc_good : (rules : List Bool) → Clean k d rules → DescGood k d
   desc_good rules c = record {
     old = λ i f e. let q = facts i f e in record { item = q.item; single = q.single; count = count_known d i f.count q.count };
-    new = λ i f e. let q = facts i f e in record {
-      item = q.item;
-      single = q.single;
-      count = count_named d i f.count q.count;
-      test = test_named d i f.test q.test;
-    };
-    earlier = λ i f e. let q = facts i f e in record {
-      item = q.item;
-      single = q.single;
-      count = count_earlier d i f.count q.count;
-      test = test_earlier d i f.test q.test;
-    };
+    new = λ i f e.
+        let q = facts i f e in
+        record { item = q.item; single = q.single; count = count_named d i f.count q.count; test = test_named d i f.test q.test };
+    earlier = λ i f e.
+        let q = facts i f e in
+        record { item = q.item; single = q.single; count = count_earlier d i f.count q.count; test = test_earlier d i f.test q.test };
     defaults = defaults_good 0 d.fields (λ j f e. (let z : 0 + j ≡ j = omega arith in rw z (facts j f e)));
     rules = rules_named d.validate c.validations;
   } where

@@ -48,12 +48,11 @@ module _ (two : Two) where
 
   pub zip_of : (es fs : List Entry) → compare_fields ks a b v w part part' o n es fs ≡ None → Zip es fs
   zip_of [] [] h = tt
-  zip_of (e ∷ es) [] h = cc
-  zip_of [] (f ∷ fs) h = cc
   zip_of (e ∷ es) (f ∷ fs) h =
       let p = or_else_none _ _ h in
       let q = or_else_none _ _ p.1 in
       (record { rules = p.0; structs = q.0 }, zip_of es fs q.1)
+  zip_of _ _ h = cc
 
   -- new's unused bytes over old's constant or numbers, or rules 7 to 12
   pub record Matched (e f : Entry) : Type 0 where
@@ -256,7 +255,7 @@ kind_back U8 = refl
 kind_back _ = refl
 
 pub kinds_same : (k l : Kind) → same_kind k l ≡ true → k ≡ l
-kinds_same k l h = sym (kind_back k) ∙ ap kind_at (eqb-true (kind_number k) (kind_number l) h) ∙ kind_back l
+kinds_same k l h = cc (kind_back k, eqb-true (kind_number k) (kind_number l) h, kind_back l)
 
 -- ---- slots by entries
 
@@ -326,11 +325,10 @@ module _ (structs : List Meaning) (all : List Field) (v : ℕ) (numbers : List �
       let e : (base + p) + len ≡ base + (p + len) = omega arith in
       entry_known i p f _ _ refl (at_first (slice_get all) i items) (at_first place i places) (λ whole. fits_left _ (fits whole))
       (entries_known (suc i) (p + len) fs (one_on (slice_get all) i items)
-      (λ k. one_on place i places k ∙ ap (λ (j : ℕ). place_of (cells_in structs) all (suc i) j fs k) e)
+      (λ k. one_on place i places k ∙ rw e)
       (λ whole. fits_at (omega arith) (fits_right (field_cells (cells_in structs) all i f) (fits whole))))
 
   pub all_known : AreKnown (present_from (cells_in structs) all v 0 0 all)
   all_known =
       let z : base ≡ base + 0 = omega arith in
-      entries_known 0 0 all
-      (from_zero (slice_get all)) (λ k. from_zero place k ∙ ap (λ (j : ℕ). place_of (cells_in structs) all 0 j all k) z) (λ whole. fits_at z whole)
+      entries_known 0 0 all (from_zero (slice_get all)) (λ k. from_zero place k ∙ rw (← z)) (λ whole. fits_at z whole)
