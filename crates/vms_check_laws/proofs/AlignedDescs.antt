@@ -2,12 +2,12 @@
 -- newer set reads the same number of bytes for its field as the older set wrote for its own. A number that tests
 -- and counts may name is the same then. This is repeated position by position. Also a position at which two
 -- constants differ, which the newer set can't read.
-use Rattle.vms_check_laws.proofs.Facade.{cells_in, ◌≡◌, inl, inr, ℕ, zero, suc, ◌+◌, ◌<◌, ◌≤◌, Bool, true, List, ◌∷◌, ◌++◌, length, get_or, Some, None, sym, ap}
-use Rattle.vms_check_laws.proofs.Facade.{◌∙◌, arith, ℤ, pos, if◌then◌else◌, ◌⊎◌, nat_lt, take, refl, slice_get, take_all, eqb-true, and_parts, ltb-true}
-use Rattle.vms_check_laws.proofs.Facade.{eq-or-lt_of_le, Kind, Item, Num, Equal, Unused, Struct, width, residue, code, Count, One, is_steady_in, is_num, is_one}
-use Rattle.vms_check_laws.proofs.Facade.{is_earlier_in, Slot, Number, no_parent, times, counted, item_cells, elements_of, item_slots, numbers_of, kind_of}
-use Rattle.vms_check_laws.proofs.Facade.{Spells, zeroed, length-code, size_same, elements_fit, Entry, same_count, same_item, FitsAt, Aligns, Cell, desc_cells}
-use Rattle.vms_check_laws.proofs.Facade.{[]}
+use Rattle.vms_check_laws.proofs.Facade.{◌≡◌, inl, inr, ℕ, zero, suc, ◌+◌, ◌<◌, ◌≤◌, Bool, true, List, ◌∷◌, ◌++◌, length, get_or, Some, None, sym, ap, ◌∙◌}
+use Rattle.vms_check_laws.proofs.Facade.{arith, ℤ, pos, if◌then◌else◌, ◌⊎◌, nat_lt, take, refl, slice_get, take_all, eqb-true, and_parts, ltb-true}
+use Rattle.vms_check_laws.proofs.Facade.{eq-or-lt_of_le, [], cells_in, Kind, Item, Num, Equal, Unused, Struct, width, residue, code, Count, One, is_steady_in}
+use Rattle.vms_check_laws.proofs.Facade.{is_num, is_one, is_earlier_in, Slot, Number, no_parent, times, counted, item_cells, elements_of, item_slots}
+use Rattle.vms_check_laws.proofs.Facade.{numbers_of, kind_of, Spells, zeroed, length-code, size_same, elements_fit, Entry, same_count, same_item, FitsAt}
+use Rattle.vms_check_laws.proofs.Facade.{Aligns, Cell, desc_cells}
 use Rattle.vms_check_laws.proofs.Presence.{Agree, filler_length}
 use Rattle.vms_check_laws.proofs.Segments.{fits_left, fits_right, fits_at, apart, same_bytes, aligns_nil, aligns_append, aligns_number, aligns_constant}
 use Rattle.vms_check_laws.proofs.Segments.{aligns_filler, spells_split, behind_first, same_code}

@@ -1,11 +1,11 @@
 -- A number that fits its cell is at most every capacity that it counts, and one that fits the older capacities fits the newer.
 use Rattle.vms_check_laws.proofs.Facade.{◌≤ℤ◌, ◌≡◌, ◌⊎◌, inl, inr, ℕ, zero, suc, ◌+◌, ◌*◌, ◌^◌, ◌≤◌, true, ◌==◌, List, ◌∷◌, ◌++◌, length, get_or, Some, refl}
-use Rattle.vms_check_laws.proofs.Facade.{arith, ℤ, pos, negsuc, if◌then◌else◌, AllByRecursion, slice_get, mod-le, eq-eqb, ints, Kind, U8, U16, U32, Item, Num}
-use Rattle.vms_check_laws.proofs.Facade.{width, residue, Count, One, Fixed, Counted, Field, Cell, times, counted, capacity_of, item_cells, field_cells}
-use Rattle.vms_check_laws.proofs.Facade.{cells_from, place_of, no_field, kind_of, FitsCell, is_num, is_one, ItemBelow, FitsAt, all_right, Desc, ap}
-use Rattle.vms_check_laws.proofs.Facade.{is_steady_in, no_desc, ◌<◌, ◌∙◌, [], Struct, min, Bool, false, ◌&&◌, Option, None, sym, nat_le, and_parts, eqb-true}
-use Rattle.vms_check_laws.proofs.Facade.{leb-true, highest, Formula, presence, Entry, entry_of, present_from, position_from, same_place, same_count, is_covered}
-use Rattle.vms_check_laws.proofs.Facade.{holds_as_much, absent_hold, is_nothing, bound, least_of, greatest, has_room, cells_in}
+use Rattle.vms_check_laws.proofs.Facade.{arith, ℤ, pos, negsuc, if◌then◌else◌, AllByRecursion, slice_get, mod-le, eq-eqb, ints, ◌<◌, [], min, Bool, false, ◌&&◌}
+use Rattle.vms_check_laws.proofs.Facade.{Option, None, sym, nat_le, and_parts, eqb-true, leb-true, Kind, U8, U16, U32, Item, Num, width, residue, Count, One}
+use Rattle.vms_check_laws.proofs.Facade.{Counted, Field, Cell, times, counted, capacity_of, item_cells, field_cells, cells_from, place_of, no_field, kind_of}
+use Rattle.vms_check_laws.proofs.Facade.{FitsCell, is_num, is_one, ItemBelow, FitsAt, all_right, Desc, is_steady_in, no_desc, Struct, highest, Formula}
+use Rattle.vms_check_laws.proofs.Facade.{presence, Entry, entry_of, present_from, position_from, same_place, same_count, is_covered, holds_as_much, absent_hold}
+use Rattle.vms_check_laws.proofs.Facade.{bound, least_of, greatest, has_room, cells_in}
 use Rattle.vms_check_laws.proofs.Segments.{fits_right}
 use Rattle.vms_check_laws.proofs.Presence.{Steady, covers_unused}
 use Rattle.vms_check_laws.proofs.Premises.{IsSingle, CountFits, OldFields, DefaultsGood, NamesEarlier, NewFields, RulesNamed, Sides, PairGood, Zip, Matched}

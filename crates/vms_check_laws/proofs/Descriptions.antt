@@ -1,10 +1,10 @@
 -- A description on each side: its bytes carry, what isn't in them is at its default, and at one front the newer set
 -- takes exactly the bytes that the older one wrote. Validations that hold in the older set hold in the newer.
-use Rattle.vms_check_laws.proofs.Facade.{cells_in, ◌≡◌, ℕ, ◌+◌, List, ◌∷◌, Option, None, sym, ap, ◌∙◌, arith, ℤ, inr, ◌++◌, Desc, Slot, Rule, Meaning}
-use Rattle.vms_check_laws.proofs.Facade.{desc_cells, slots_from, desc_slots, numbers_of, all_hold, Part, is_steady_in, Entry, present, position_from, Comparer}
-use Rattle.vms_check_laws.proofs.Facade.{compare_desc, Carrier, carry_desc, Holds, FitsAt, Aligns, or_else_none, Spells, zeroed, [], Bool, Carries, Formula}
-use Rattle.vms_check_laws.proofs.Facade.{Known, Open, Reduced, and_from, and_parts, compare_validations, false, here, is_kept, list_all, list_any, no_parent}
-use Rattle.vms_check_laws.proofs.Facade.{passes, reduced, reduced_holds, refl, same_reduced, true, truth, truth_of, ◌||◌}
+use Rattle.vms_check_laws.proofs.Facade.{◌≡◌, ℕ, ◌+◌, List, ◌∷◌, Option, None, sym, ◌∙◌, arith, ℤ, inr, ◌++◌, [], Bool, and_from, and_parts, false, list_all}
+use Rattle.vms_check_laws.proofs.Facade.{list_any, refl, true, ◌||◌, cells_in, Desc, Rule, Meaning, desc_cells, slots_from, desc_slots, numbers_of, all_hold}
+use Rattle.vms_check_laws.proofs.Facade.{Part, is_steady_in, Entry, present, position_from, Comparer, compare_desc, Carrier, carry_desc, Holds, FitsAt, Aligns}
+use Rattle.vms_check_laws.proofs.Facade.{or_else_none, Spells, zeroed, Carries, Formula, Known, Open, Reduced, compare_validations, here, is_kept, no_parent}
+use Rattle.vms_check_laws.proofs.Facade.{passes, reduced, reduced_holds, same_reduced, truth, truth_of}
 use Rattle.vms_check_laws.proofs.Presence.{Agree, Named, named_left, same_reduced_truth}
 use Rattle.vms_check_laws.proofs.Segments.{holds_at, carries_append, spells_split, behind_first, aligns_append, aligns_rule, carries_rule}
 use Rattle.vms_check_laws.proofs.Premises.{entries_slots, slots_entries, all_known, AreKnown, Two, zip_of, Zip, Sides, Table, OldFields, Meets, Reads}
@@ -154,5 +154,5 @@ module _ (ks : List Comparer) (cs : List Carrier) (ms ns : List Meaning) (a b : 
         → body ++ r' ≡ zeroed numbers (desc_slots ms a v numbers at) ++ r → ⊥
     desc_clashes at' clashes body r r' s h =
         let t = spells_split numbers' (slots_from ns b.fields w (own' at') numbers' 0 at' b.fields) (Rule (all_hold b.validate w (own' at')) ∷ []) body s in
-        let split = behind_first numbers (slots_from ms a.fields v own numbers 0 at a.fields) (Rule (all_hold a.validate v own) ∷ []) t.0 t.1 r r' (rw t.2 at h) in
+        let split = behind_first numbers (slots_from ms a.fields v own numbers 0 at a.fields) (Rule _ ∷ []) t.0 t.1 r r' (rw t.2 at h) in
         entries_clash (sides at') good.earlier old fits es fs 0 0 clashes (first_state at') t.0 _ _ (rw (← (new_same at')) t.3) (rw old_same at split)

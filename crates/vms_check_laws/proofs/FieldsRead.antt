@@ -1,13 +1,13 @@
 -- Fields of both sides at one position: the newer set reads what the older one writes with the carried numbers, and what isn't in the
 -- bytes is at its default.
-use Rattle.vms_check_laws.proofs.Facade.{cells_in, ◌≡◌, inl, inr, ℕ, zero, suc, ◌+◌, ◌*◌, ◌≤◌, Bool, true, false, List, ◌∷◌, length, get_or, Option, None, refl}
-use Rattle.vms_check_laws.proofs.Facade.{sym, ◌∙◌, arith, ℤ, pos, if◌then◌else◌, ◌++◌, Some, eqb-true, leb-true, Kind, Item, Num, Equal, Unused, Struct, width}
-use Rattle.vms_check_laws.proofs.Facade.{Count, One, Fixed, Counted, Formula, Field, is_there, Slot, Number, Filler, no_parent, times, counted, capacity_of}
-use Rattle.vms_check_laws.proofs.Facade.{item_cells, field_cells, elements_of, item_slots, numbers_of, Entry, same_rest, same_count, same_kind, same_constant}
-use Rattle.vms_check_laws.proofs.Facade.{holds_as_much, entry_of, present_from, defaults, carry_item, carry_items, carry_field, Holds, FitsAt, Carries}
-use Rattle.vms_check_laws.proofs.Facade.{size_same, elements_fit, ItemBelow, same_number_is, here, presence, slice_get, Cell, cells_from, slots_from, kind_of}
-use Rattle.vms_check_laws.proofs.Facade.{is_steady_in, is_num, is_one, same_item, position_from, same_place, carry_next, carry_from, entries_left, field_size}
-use Rattle.vms_check_laws.proofs.Facade.{FieldsBelow, residue, desc_cells, ap, subst, [], length-append}
+use Rattle.vms_check_laws.proofs.Facade.{◌≡◌, inl, inr, ℕ, zero, suc, ◌+◌, ◌*◌, ◌≤◌, Bool, true, false, List, ◌∷◌, length, get_or, Option, None, refl, sym, ◌∙◌}
+use Rattle.vms_check_laws.proofs.Facade.{arith, ℤ, pos, if◌then◌else◌, ◌++◌, Some, eqb-true, leb-true, slice_get, ap, [], length-append, cells_in, Kind, Item}
+use Rattle.vms_check_laws.proofs.Facade.{Num, Equal, Unused, Struct, width, Count, One, Fixed, Counted, Formula, Field, is_there, Slot, Number, Filler}
+use Rattle.vms_check_laws.proofs.Facade.{no_parent, times, counted, capacity_of, item_cells, field_cells, elements_of, item_slots, numbers_of, Entry, same_rest}
+use Rattle.vms_check_laws.proofs.Facade.{same_count, same_kind, same_constant, holds_as_much, entry_of, present_from, defaults, carry_item, carry_items}
+use Rattle.vms_check_laws.proofs.Facade.{carry_field, Holds, FitsAt, Carries, size_same, elements_fit, ItemBelow, same_number_is, here, presence, Cell}
+use Rattle.vms_check_laws.proofs.Facade.{cells_from, slots_from, kind_of, is_steady_in, is_num, is_one, same_item, position_from, same_place, carry_next}
+use Rattle.vms_check_laws.proofs.Facade.{carry_from, entries_left, field_size, FieldsBelow, residue, desc_cells}
 use Rattle.vms_check_laws.proofs.Presence.{Agree, same_there, presence_named, there_here, not_covered, steady, steady_rest, rest_none, one_number, Steady}
 use Rattle.vms_check_laws.proofs.Presence.{filler_length}
 use Rattle.vms_check_laws.proofs.Segments.{holds_left, holds_right, holds_at, fits_left, fits_right, fits_at, carries_nil, carries_append, carries_number}
@@ -68,7 +68,8 @@ module _ (sides : Sides) where
   -- ---- how long it is
 
   item_sized : (i j : Item) (d : ℤ) (k : ℕ) → ItemBelow below' j → length (one_item i j d k) ≡ new_size j
-  item_sized (Num k) (Num l) d p lt = elim (same_kind k l) as (λ c. length (if c then get_or numbers p (pos 0) ∷ [] else d ∷ []) ≡ 1) [ true ↦ refl | false ↦ refl ]
+  item_sized (Num k) (Num l) d p lt =
+      elim (same_kind k l) as (λ c. length (if c then get_or numbers p (pos 0) ∷ [] else d ∷ []) ≡ 1) [ true ↦ refl | false ↦ refl ]
   item_sized (Struct i) (Struct j) d p lt = table.sized j i p lt
   item_sized _ (Struct j) d p lt = defaults_size _
   item_sized _ _ d p lt = refl
@@ -287,8 +288,8 @@ module _ (sides : Sides) where
         let empty : length (one_field e f.field) ≡ 0 =
         field_sized e f.index f.field p.new.item ∙ rw (field_size news, covered_empty news e.field.item e.field.count f.field.item c.covers) (omega arith) in
         let s =
-        covered_slots ms ns numbers numbers' own own' e.field.item e.field.count f.field.item f.field.count (counted e.index a.fields) (counted f.index b.fields)
-        (at + e.place) (at' + f.place) (old_size e.field.item) (new_size f.field.item) c.covers p.old.single p.new.single in
+        covered_slots ms ns numbers numbers' own own' e.field.item e.field.count f.field.item f.field.count (counted e.index a.fields)
+        (counted f.index b.fields) (at + e.place) (at' + f.place) (old_size e.field.item) (new_size f.field.item) c.covers p.old.single p.new.single in
         let settled : (xs : List Slot) → Settled xs (at' + f.place) (cells_at f.index f.field) (one_field e f.field) = λ xs. settled_empty xs _ _ _ empty in
         (record { carries = carries_nil; settled = settled [] }, record { carries = rw s.1 (carries_filler numbers numbers' _ s.0 s.2); settled = settled _ })
 

@@ -1,12 +1,12 @@
 -- What is carried of a device, cell by cell.
 use Rattle.vms_check_laws.proofs.Facade.{◌≡◌, ◌⊎◌, inl, inr, ℕ, ◌+◌, ◌-◌, ◌<◌, ◌≤◌, Bool, true, false, ◌||◌, List, ◌++◌, length, get_or, Option, Some, None, ℤ}
 use Rattle.vms_check_laws.proofs.Facade.{pos, refl, sym, ◌∙◌, arith, flat_map, slice_get, get_or_append_left, get_or-append-add, or_parts, slice_get_within}
-use Rattle.vms_check_laws.proofs.Facade.{at_option, Sub, Device, Set, Cell, no_cell, desc_cells, device_cells, struct_cells, Image, has_cell, image_slots}
-use Rattle.vms_check_laws.proofs.Facade.{own_slots, own_cells, came_slots, sub_slots, sub_place, find_sub, index, WellFormed, names_append, none_in_both}
-use Rattle.vms_check_laws.proofs.Facade.{its_below, its_in, sub_size, sub_place_up, part_apart, defaults_at, defaults_long, device_parts, sub_clean, sub_found}
-use Rattle.vms_check_laws.proofs.Facade.{defaults, carrying, carry_sub, carried_sub, carried_device, IsCellOf, IsCarried, IsAtVersions, part_partners}
-use Rattle.vms_check_laws.proofs.Facade.{sub_partners, named_partners, device_partners, length-append, ap, parts_together, or-false, zero, suc, ◌∷◌}
-use Rattle.vms_check_laws.proofs.Facade.{cases_eq, ext_get_or, CarriedLaw, []}
+use Rattle.vms_check_laws.proofs.Facade.{length-append, ap, or-false, zero, suc, ◌∷◌, cases_eq, ext_get_or, [], Sub, Device, Set, Cell, no_cell, desc_cells}
+use Rattle.vms_check_laws.proofs.Facade.{device_cells, struct_cells, Image, has_cell, image_slots, own_slots, own_cells, came_slots, sub_slots, sub_place}
+use Rattle.vms_check_laws.proofs.Facade.{find_sub, index, WellFormed, names_append, none_in_both, its_below, its_in, sub_size, sub_place_up, part_apart}
+use Rattle.vms_check_laws.proofs.Facade.{defaults_at, defaults_long, device_parts, sub_clean, sub_found, defaults, carrying, carry_sub, carried_sub}
+use Rattle.vms_check_laws.proofs.Facade.{carried_device, IsCellOf, IsCarried, IsAtVersions, part_partners, named_partners, device_partners, parts_together}
+use Rattle.vms_check_laws.proofs.Facade.{CarriedLaw}
 use Rattle.vms_check_laws.proofs.PairLists.{Goes, IsBehind, at_left, at_right, at_none, before_or_behind, behind_at}
 use Rattle.vms_check_laws.proofs.GoesFields.{part_goes}
 use Rattle.vms_check_laws.proofs.SubParts.{Found, found, own_or_sub, StandsIn, all_long, part_in, part_number, stands_in, has_part, one_part, or_split}
@@ -215,7 +215,7 @@ module _ (old new : Set) (good_old : WellFormed old) (good_new : WellFormed new)
         let u : 0 + c ≡ c = omega arith in
         let place_is : slice_get ps c ≡ Some (Some k) = rw z at f in
         rw u (parts_none c (none c (at_left ps qs c (slice_get_within ps c (Some k) place_is) ∙ place_is))).0) in
-        rw (get_or_append_left own_segment rest (pos 0) k (omega (arith, own_goes.long)), get_or_append_left new_own (flat_map new_cells e.subs) no_cell k lt) own
+        rw (get_or_append_left own_segment rest (pos 0) k (omega (arith, own_goes.long)), get_or_append_left new_own _ no_cell k lt) own
 
     default_at : (l : ℕ) (t : Sub) (r : ℕ) → slice_get e.subs l ≡ Some t → r < sub_size new t
         → (get_or (device_cells new e) (place' l + r) no_cell).default ≡ (get_or (new_cells t) r no_cell).default

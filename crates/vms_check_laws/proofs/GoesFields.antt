@@ -1,15 +1,15 @@
 -- What is carried of a description, cell by cell, and of structures, each by the earlier ones.
-use Rattle.vms_check_laws.proofs.Facade.{◌≡◌, ◌⊎◌, inl, inr, ℕ, zero, suc, ◌+◌, ◌*◌, ◌<◌, ◌≤◌, Bool, true, false, List, ◌∷◌, ◌++◌, length, get_or, replicate}
-use Rattle.vms_check_laws.proofs.Facade.{Option, Some, None, ℤ, pos, refl, sym, ap, ◌∙◌, arith, if◌then◌else◌, slice_get, cases_lt, eq-eqb, or-false, Kind}
-use Rattle.vms_check_laws.proofs.Facade.{Item, Num, Struct, Formula, Field, Desc, is_there, Cell, no_cell, Slot, Number, Rule, Meaning, no_meaning, no_parent}
-use Rattle.vms_check_laws.proofs.Facade.{times, counted, capacity_of, item_cells, item_size, field_cells, cells_from, desc_cells, elements_of, item_slots}
-use Rattle.vms_check_laws.proofs.Facade.{field_slots, slots_from, desc_slots, numbers_of, has_cell, size_same, field_size, elements_fit, ItemBelow, FieldsBelow}
-use Rattle.vms_check_laws.proofs.Facade.{AreCells, MeanAbove, IsAbove, item_above, field_above, MeanCells, item_are, field_are, named_inside, skip_long}
-use Rattle.vms_check_laws.proofs.Facade.{stands_behind, names_append, cells_in, presence, Entry, entry_of, present_from, same_kind, Carrier, no_carrier}
-use Rattle.vms_check_laws.proofs.Facade.{defaults, carry_item, carry_items, carry_field, carry_next, carry_from, carry_desc, default_field, entries_left}
-use Rattle.vms_check_laws.proofs.Facade.{Pairer, no_pairer, unpaired, item_partners, array_partners, field_partners, fields_left, partners_from, desc_partners}
-use Rattle.vms_check_laws.proofs.Facade.{Set, no_desc, meanings, struct_cells, WellFormed, first_at, struct_slots, struct_cells_at, meanings_above}
-use Rattle.vms_check_laws.proofs.Facade.{meanings_are, cells_first, carriers, carrying, pairer_of, pairers, part_partners, within, []}
+use Rattle.vms_check_laws.proofs.Facade.{◌≡◌, inl, inr, ℕ, zero, suc, ◌+◌, ◌*◌, ◌<◌, ◌≤◌, Bool, true, false, List, ◌∷◌, ◌++◌, length, get_or, replicate, Option}
+use Rattle.vms_check_laws.proofs.Facade.{Some, None, ℤ, pos, refl, sym, ap, ◌∙◌, arith, if◌then◌else◌, slice_get, cases_lt, eq-eqb, or-false, [], Kind, Item}
+use Rattle.vms_check_laws.proofs.Facade.{Num, Struct, Formula, Field, Desc, is_there, Cell, no_cell, Slot, Number, Rule, Meaning, no_meaning, no_parent, times}
+use Rattle.vms_check_laws.proofs.Facade.{counted, capacity_of, item_cells, item_size, field_cells, cells_from, desc_cells, elements_of, item_slots, field_slots}
+use Rattle.vms_check_laws.proofs.Facade.{slots_from, desc_slots, numbers_of, has_cell, size_same, field_size, elements_fit, ItemBelow, FieldsBelow, AreCells}
+use Rattle.vms_check_laws.proofs.Facade.{MeanAbove, IsAbove, item_above, field_above, MeanCells, item_are, field_are, named_inside, skip_long, stands_behind}
+use Rattle.vms_check_laws.proofs.Facade.{names_append, cells_in, presence, Entry, entry_of, present_from, same_kind, Carrier, no_carrier, defaults, carry_item}
+use Rattle.vms_check_laws.proofs.Facade.{carry_items, carry_field, carry_next, carry_from, carry_desc, default_field, entries_left, Pairer, no_pairer, unpaired}
+use Rattle.vms_check_laws.proofs.Facade.{item_partners, array_partners, field_partners, fields_left, partners_from, desc_partners, Set, no_desc, meanings}
+use Rattle.vms_check_laws.proofs.Facade.{struct_cells, WellFormed, first_at, struct_slots, struct_cells_at, meanings_above, meanings_are, cells_first, carriers}
+use Rattle.vms_check_laws.proofs.Facade.{carrying, pairer_of, pairers, part_partners, within}
 use Rattle.vms_check_laws.proofs.PairLists.{same_defaults, defaults_append, AreFrom, paired_none, one_cell, Goes, IsWithin, goes_absent, goes_alone}
 use Rattle.vms_check_laws.proofs.PairLists.{goes_append}
 use Rattle.vms_check_laws.proofs.PairDevices.{Structs, item_paired, array_paired, struct_below, struct_is, tables}

@@ -1,16 +1,16 @@
 -- The partners of a description's cells are cells of the other's, one for each; those of structures, each by the earlier ones.
 use Rattle.vms_check_laws.proofs.Facade.{◌≡◌, ℕ, zero, suc, ◌+◌, ◌*◌, ◌<◌, Bool, true, false, List, ◌∷◌, ◌++◌, length, get_or, Option, Some, None, ℤ, refl, sym}
-use Rattle.vms_check_laws.proofs.Facade.{arith, append_assoc, if◌then◌else◌, slice_get, Kind, Item, Num, Struct, Formula, Field, Desc, Cell, times, capacity_of}
-use Rattle.vms_check_laws.proofs.Facade.{item_cells, item_size, field_cells, cells_from, desc_cells, size_same, field_size, ItemBelow, FieldsBelow, presence}
-use Rattle.vms_check_laws.proofs.Facade.{Entry, entry_of, present_from, same_kind, Pairer, no_pairer, unpaired, item_partners, array_partners, field_partners}
-use Rattle.vms_check_laws.proofs.Facade.{fields_left, partners_from, desc_partners, ◌≤◌, ap, ◌∙◌, cases_lt, slice_get-get_or, Set, first}
-use Rattle.vms_check_laws.proofs.Facade.{no_desc, struct_cells, WellFormed, first_at, first_long, item_below, desc_cells_same, first_same, Clean, struct_clean}
-use Rattle.vms_check_laws.proofs.Facade.{pairer_of, pairers, part_partners, length-append, [], get_or_past, ◌⊎◌, inl, inr, flat_map, get_or_append_left}
-use Rattle.vms_check_laws.proofs.Facade.{get_or-append-add, length-replicate, Sub, Device, no_cell, device_cells, own_cells, sub_place, find_sub, sub_size}
+use Rattle.vms_check_laws.proofs.Facade.{arith, append_assoc, if◌then◌else◌, slice_get, ◌≤◌, ap, ◌∙◌, cases_lt, slice_get-get_or, length-append, []}
+use Rattle.vms_check_laws.proofs.Facade.{get_or_past, ◌⊎◌, inl, inr, flat_map, get_or_append_left, get_or-append-add, length-replicate, Kind, Item, Num, Struct}
+use Rattle.vms_check_laws.proofs.Facade.{Formula, Field, Desc, Cell, times, capacity_of, item_cells, item_size, field_cells, cells_from, desc_cells, size_same}
+use Rattle.vms_check_laws.proofs.Facade.{field_size, ItemBelow, FieldsBelow, presence, Entry, entry_of, present_from, same_kind, Pairer, no_pairer, unpaired}
+use Rattle.vms_check_laws.proofs.Facade.{item_partners, array_partners, field_partners, fields_left, partners_from, desc_partners, Set, first, no_desc}
+use Rattle.vms_check_laws.proofs.Facade.{struct_cells, WellFormed, first_at, first_long, item_below, desc_cells_same, first_same, Clean, struct_clean}
+use Rattle.vms_check_laws.proofs.Facade.{pairer_of, pairers, part_partners, Sub, Device, no_cell, device_cells, own_cells, sub_place, find_sub, sub_size}
 use Rattle.vms_check_laws.proofs.Facade.{sub_place_up, device_parts, sub_clean, sub_found, PartnersLaw, ArePartners, sub_partners, named_partners}
 use Rattle.vms_check_laws.proofs.Facade.{device_partners}
 use Rattle.vms_check_laws.proofs.Premises.{kinds_same, by_less, fields_below}
-use Rattle.vms_check_laws.proofs.PairLists.{AreFrom, IsPair, paired_none, paired_append, paired_behind, paired_skip, one_cell, IsBehind, at_left, at_right}
+use Rattle.vms_check_laws.proofs.PairLists.{AreFrom, IsPair, paired_none, paired_append, paired_behind, paired_skip, one_cell, IsBehind, at_left}
 use Rattle.vms_check_laws.proofs.PairLists.{at_none, before_or_behind, behind_at, IsOnce, Apart, once_append}
 use Rattle.vms_check_laws.proofs.SubParts.{found, part_in, part_number, one_part, StandsIn, all_long, stands_in}
 

@@ -1,8 +1,8 @@
 -- Partners of cells among the cells from a place on; numbers that are in the bytes, or at their defaults.
 use Rattle.vms_check_laws.proofs.Facade.{◌≡◌, ◌⊎◌, inl, inr, ℕ, zero, suc, ◌+◌, ◌-◌, ◌<◌, ◌≤◌, List, ◌∷◌, ◌++◌, length, get_or, replicate, Option, Some, None}
-use Rattle.vms_check_laws.proofs.Facade.{refl, sym, ap, ◌∙◌, arith, slice_get, get_or_append_left, get_or-append-add, length-replicate, cases_lt, Cell, no_cell}
-use Rattle.vms_check_laws.proofs.Facade.{ℤ, pos, true, length-append, length-map, eq-eqb, Kind, Item, Num, Slot, Number, item_cells, has_cell, has_left}
-use Rattle.vms_check_laws.proofs.Facade.{has_right, defaults, Bool, if◌then◌else◌, [], false, ◌||◌, or-false, or_parts, false_from_ne_true, slice_get_within}
+use Rattle.vms_check_laws.proofs.Facade.{refl, sym, ap, ◌∙◌, arith, slice_get, get_or_append_left, get_or-append-add, length-replicate, cases_lt, ℤ, pos, true}
+use Rattle.vms_check_laws.proofs.Facade.{length-append, length-map, eq-eqb, Bool, if◌then◌else◌, [], false, ◌||◌, or-false, or_parts, false_from_ne_true}
+use Rattle.vms_check_laws.proofs.Facade.{slice_get_within, Cell, no_cell, Kind, Item, Num, Slot, Number, item_cells, has_cell, has_left, has_right, defaults}
 use Rattle.vms_check_laws.proofs.Facade.{or_second, names_append, defaults_at, defaults_long}
 
 abbrev pub one_cell : Kind → List ℕ → ℤ → List Cell

@@ -1,9 +1,9 @@
 -- Structures on both sides, by induction on the number of the newer one, and parts of devices.
-use Rattle.vms_check_laws.proofs.Facade.{cells_in, ◌≡◌, ℕ, ◌<◌, ◌≤◌, List, length, get_or, None, sym, ap, ◌∙◌, arith, ℤ, Desc, no_desc, Cell, Meaning}
-use Rattle.vms_check_laws.proofs.Facade.{no_meaning, meanings, desc_cells, first_long, struct_slots, struct_cells_at, Comparer, no_comparer, comparer_of}
-use Rattle.vms_check_laws.proofs.Facade.{comparers, Carrier, no_carrier, carrier_of, carriers, FitsAt, [], first_at, Part, Set, struct_cells, desc_slots}
-use Rattle.vms_check_laws.proofs.Facade.{WellFormed, compare_desc, comparing, carry_desc, carrying, cells_first, Holds, ◌⊎◌, inl, inr, zero, suc, ◌+◌, ◌∷◌, map}
-use Rattle.vms_check_laws.proofs.Facade.{Option, Some, refl, flat_map, slice_get, Sub, Device, Image, IsVersionOf, AreVersionsOf, RulesHold, sub_slots}
+use Rattle.vms_check_laws.proofs.Facade.{◌≡◌, ℕ, ◌<◌, ◌≤◌, List, length, get_or, None, sym, ap, ◌∙◌, arith, ℤ, [], ◌⊎◌, inl, inr, zero, suc, ◌+◌, ◌∷◌, map}
+use Rattle.vms_check_laws.proofs.Facade.{Option, Some, refl, flat_map, slice_get, cells_in, Desc, no_desc, Cell, Meaning, no_meaning, meanings, desc_cells}
+use Rattle.vms_check_laws.proofs.Facade.{first_long, struct_slots, struct_cells_at, Comparer, no_comparer, comparer_of, comparers, Carrier, no_carrier}
+use Rattle.vms_check_laws.proofs.Facade.{carrier_of, carriers, FitsAt, first_at, Part, Set, struct_cells, desc_slots, WellFormed, compare_desc, comparing}
+use Rattle.vms_check_laws.proofs.Facade.{carry_desc, carrying, cells_first, Holds, Sub, Device, Image, IsVersionOf, AreVersionsOf, RulesHold, sub_slots}
 use Rattle.vms_check_laws.proofs.Facade.{sub_place, came_slots, carried_sub, defaults, rules_append}
 use Rattle.vms_spec.specs.declared.Part.TheVariants as parts
 use Rattle.vms_check_laws.proofs.Premises.{Table, by_less, Meets, fields_below, Reads, GoodCells, FitCells, fit_append, fit_defaults, fit_length}
@@ -12,7 +12,7 @@ use Rattle.vms_check_laws.proofs.Descriptions.{desc_meets, sides}
 use Rattle.vms_check_laws.proofs.FieldsRead.{fields_sized}
 use Rattle.vms_check_laws.proofs.Fitting.{good_fields}
 use Rattle.vms_check_laws.proofs.PairLists.{Settled, settled_defaults, settled_append, settled_empty}
-use Rattle.vms_check_laws.proofs.Segments.{holds_left, holds_right, holds_at}
+use Rattle.vms_check_laws.proofs.Segments.{holds_left, holds_right}
 use Rattle.vms_check_laws.proofs.Good.{structs_good}
 
 abbrev pub meanings_of : List Desc → List Meaning

@@ -1,9 +1,9 @@
 -- One position, and the first positions, of two descriptions anywhere in two sets: the structures by their numbers at one front, devices
 -- whose constants differ, and the sets' own cells.
-use Rattle.vms_check_laws.proofs.Facade.{cells_in, ◌≡◌, ℕ, List, ◌++◌, length, Some, ℤ, slice_get, Part, Device, Set, Desc, Cell, meanings, struct_cells}
-use Rattle.vms_check_laws.proofs.Facade.{desc_cells, Spells, zeroed, own_slots, WellFormed, present, position_from, comparers, carriers, FitsAt, inl, inr, zero}
-use Rattle.vms_check_laws.proofs.Facade.{suc, ◌+◌, ◌∷◌, refl, flat_map, is_earlier_in, Field, Meaning, numbers_of, field_slots, Entry, IsPartOf, IsRead}
-use Rattle.vms_check_laws.proofs.Facade.{PositionLaw, AlignedLaw, FrontAligns, []}
+use Rattle.vms_check_laws.proofs.Facade.{◌≡◌, ℕ, List, ◌++◌, length, Some, ℤ, slice_get, inl, inr, zero, suc, ◌+◌, ◌∷◌, refl, flat_map, [], cells_in, Part}
+use Rattle.vms_check_laws.proofs.Facade.{Device, Set, Desc, Cell, meanings, struct_cells, desc_cells, Spells, zeroed, own_slots, WellFormed, present}
+use Rattle.vms_check_laws.proofs.Facade.{position_from, comparers, carriers, FitsAt, is_earlier_in, Field, Meaning, numbers_of, field_slots, Entry, IsPartOf}
+use Rattle.vms_check_laws.proofs.Facade.{IsRead, PositionLaw, AlignedLaw, FrontAligns}
 use Rattle.vms_check_laws.proofs.Premises.{IsKnown, AreKnown, all_known, entries_slots, PairGood, Two, Sides, OldFields}
 use Rattle.vms_check_laws.proofs.Counts.{old_fields, DescGood}
 use Rattle.vms_check_laws.proofs.Good.{device_good, sub_good}

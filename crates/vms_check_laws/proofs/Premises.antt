@@ -1,13 +1,13 @@
 -- What is known of fields and structures on both sides: present fields paired by position, numbers that fit cells, and premises.
-use Rattle.vms_check_laws.proofs.Facade.{◌≡◌, ◌⊎◌, inl, inr, ℕ, Bool, true, List, ◌∷◌, Option, None, and_parts, Item, Desc, counted, in_field, Part, Entry}
-use Rattle.vms_check_laws.proofs.Facade.{same_rest, same_count, same_item, same_constant, is_covered, holds_as_much, absent_hold, bound, Comparer, failing_pair}
-use Rattle.vms_check_laws.proofs.Facade.{pair_rules, pair_structs, compare_fields, passes, ItemBelow, or_else_none, [], names_match, ◌&&◌, zero, suc, ◌+◌, ◌<◌}
-use Rattle.vms_check_laws.proofs.Facade.{◌++◌, length, get_or, refl, arith, ℤ, pos, Cell, no_cell, times, defaults, FitsCell, cells_in, ◌≤◌, Some, Equal}
-use Rattle.vms_check_laws.proofs.Facade.{Unused, Count, Counted, Formula, Field, Meaning, no_meaning, item_cells, names_well, nobody, is_one, no_comparer}
-use Rattle.vms_check_laws.proofs.Facade.{Carrier, no_carrier, Holds, FitsAt, Carries, Aligns, FieldsBelow, Slot, is_earlier_in, slice_get, Num, Filler, Fixed}
-use Rattle.vms_check_laws.proofs.Facade.{Kind, One, ap, cells_from, elements_of, entry_of, eqb-true, field_cells, here, if◌then◌else◌, is_there, item_slots}
-use Rattle.vms_check_laws.proofs.Facade.{kind_of, no_parent, presence, present_from, residue, same_kind, slots_from, sym, width, zeroed, ◌*◌, ◌∙◌, ◌==◌, U8}
-use Rattle.vms_check_laws.proofs.Facade.{U16, U32, U64, I8, I16, I32, I64, Timer, no_field, field_slots, place_of, kind_number, get_or_from_slice_get}
+use Rattle.vms_check_laws.proofs.Facade.{◌≡◌, ◌⊎◌, inl, inr, ℕ, Bool, true, List, ◌∷◌, Option, None, and_parts, [], ◌&&◌, zero, suc, ◌+◌, ◌<◌, ◌++◌, length}
+use Rattle.vms_check_laws.proofs.Facade.{get_or, refl, arith, ℤ, pos, ◌≤◌, Some, slice_get, eqb-true, if◌then◌else◌, ◌*◌, ◌∙◌, ◌==◌, get_or_from_slice_get}
+use Rattle.vms_check_laws.proofs.Facade.{Item, Desc, counted, in_field, Part, Entry, same_rest, same_count, same_item, same_constant, is_covered, holds_as_much}
+use Rattle.vms_check_laws.proofs.Facade.{absent_hold, bound, Comparer, failing_pair, pair_rules, pair_structs, compare_fields, passes, ItemBelow, or_else_none}
+use Rattle.vms_check_laws.proofs.Facade.{names_match, Cell, no_cell, times, defaults, FitsCell, cells_in, Equal, Unused, Count, Counted, Formula, Field}
+use Rattle.vms_check_laws.proofs.Facade.{Meaning, no_meaning, item_cells, names_well, nobody, is_one, no_comparer, Carrier, no_carrier, Holds, FitsAt, Carries}
+use Rattle.vms_check_laws.proofs.Facade.{Aligns, FieldsBelow, Slot, is_earlier_in, Num, Filler, Fixed, Kind, One, cells_from, elements_of, entry_of}
+use Rattle.vms_check_laws.proofs.Facade.{field_cells, here, is_there, item_slots, kind_of, no_parent, presence, present_from, residue, same_kind, slots_from}
+use Rattle.vms_check_laws.proofs.Facade.{width, zeroed, U8, U16, U32, U64, I8, I16, I32, I64, Timer, no_field, field_slots, place_of, kind_number}
 use Rattle.vms_spec.specs.Images.{FitCells as AreFit}
 use Rattle.vms_kinds.specs.declared.Kind.TheVariants.{Bool as Truth}
 use Rattle.vms_check_laws.proofs.Positioned.{if_is}

@@ -1,12 +1,11 @@
 -- A field is there exactly where what its presence at a version leaves of the test holds. The same remaining tests have the same truth
 -- where the numbers that they name are the same. Small facts of two descriptions: what covers, and how long numbers are.
-use Rattle.vms_check_laws.proofs.Facade.{◌≡◌, ℕ, Bool, true, false, Option, Some, None, refl, sym, ◌∙◌, nat_le, if◌then◌else◌, Formula, truth, is_there}
-use Rattle.vms_check_laws.proofs.Facade.{Reduced, Known, Open, reduced, left_of, presence, truth_of, reduced_holds, not, ◌&&◌, ◌||◌, ◌==◌, bit_and, and_parts}
-use Rattle.vms_check_laws.proofs.Facade.{eqb-true, and_from, Rel, Eq, Ne, Lt, Ge, Own, Not, And, Or, compares, names_well, nobody, same_place, same_test}
-use Rattle.vms_check_laws.proofs.Facade.{same_rest, same_reduced, rel_number, IfOpen, IsByParts, open_reduced, zero, suc, ◌+◌, ◌*◌, List, ◌∷◌, ◌++◌, length}
-use Rattle.vms_check_laws.proofs.Facade.{get_or, arith, ℤ, pos, length-append, Kind, Item, Num, Equal, Unused, width, code, Count, One, Fixed, Field, Number}
-use Rattle.vms_check_laws.proofs.Facade.{Constant, times, zeroed, is_steady, is_num, is_one, has_no_test, length-code, is_covered, Holds, Filler}
-use Rattle.vms_check_laws.proofs.Facade.{length-replicate, replicate, ap, []}
+use Rattle.vms_check_laws.proofs.Facade.{◌≡◌, ℕ, Bool, true, false, Option, Some, None, refl, sym, ◌∙◌, nat_le, if◌then◌else◌, ◌&&◌, ◌==◌, and_parts, eqb-true}
+use Rattle.vms_check_laws.proofs.Facade.{and_from, zero, suc, ◌+◌, ◌*◌, List, ◌∷◌, ◌++◌, length, get_or, arith, ℤ, pos, length-append, length-replicate, []}
+use Rattle.vms_check_laws.proofs.Facade.{Formula, truth, is_there, Reduced, Known, Open, reduced, left_of, presence, truth_of, reduced_holds, Rel, Eq, Ne, Lt}
+use Rattle.vms_check_laws.proofs.Facade.{Ge, Own, Not, And, Or, names_well, nobody, same_place, same_test, same_rest, same_reduced, rel_number, IfOpen}
+use Rattle.vms_check_laws.proofs.Facade.{IsByParts, open_reduced, Kind, Item, Num, Equal, Unused, width, Count, One, Fixed, Field, Number, Constant, times}
+use Rattle.vms_check_laws.proofs.Facade.{zeroed, is_steady, is_num, is_one, has_no_test, length-code, is_covered, Holds, Filler}
 use Rattle.vms_spec.specs.Sets.{Cell}
 
 -- presence at a version, and then the remaining test, say whether a field is there

@@ -1,9 +1,9 @@
 -- Segments of numbers, and slots of one side whose bytes are those of the other's. Bytes of both sides at one front: if slots of the
 -- newer set are at the front of what the older set wrote, they take exactly the bytes that it wrote for its own slots.
 use Rattle.vms_check_laws.proofs.Facade.{◌≡◌, ℕ, suc, ◌+◌, List, ◌∷◌, ◌++◌, length, get_or, Bool, IsTrue, refl, ◌∙◌, arith, append_assoc, ℤ, pos, length-append}
-use Rattle.vms_check_laws.proofs.Facade.{get_or_append_left, get_or-append-add, append-nil, Kind, Cell, no_cell, Slot, Number, Constant, Filler, Rule, zeroed}
-use Rattle.vms_check_laws.proofs.Facade.{Holds, FitsAt, Carries, rules_append, spells_append, ap, big_number, width, residue, code, Spells, length-code}
-use Rattle.vms_check_laws.proofs.Facade.{code_read, Aligns, sym, [], slice_get, rules_split}
+use Rattle.vms_check_laws.proofs.Facade.{get_or_append_left, get_or-append-add, append-nil, ap, sym, [], slice_get, Kind, Cell, no_cell, Slot, Number, Constant}
+use Rattle.vms_check_laws.proofs.Facade.{Filler, Rule, zeroed, Holds, FitsAt, Carries, rules_append, spells_append, width, residue, code, Spells, length-code}
+use Rattle.vms_check_laws.proofs.Facade.{code_read, Aligns, rules_split}
 
 -- the elements from a place on
 abbrev pub RestAt : {A : Type 0} → List A → ℕ → List A → Type 0

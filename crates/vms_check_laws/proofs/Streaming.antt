@@ -1,13 +1,13 @@
 -- What the older set writes is a stream of the newer, with the carried images: each device's section is one of the newer set's, and the
 -- order takes each device once.
-use Rattle.vms_check_laws.proofs.Facade.{◌≡◌, ℕ, suc, ◌+◌, Bool, true, false, ◌&&◌, ◌==◌, List, ◌∷◌, Option, Some, None, refl, ◌∙◌, subst, arith, if◌then◌else◌}
-use Rattle.vms_check_laws.proofs.Facade.{slice_get, bytes_eq, bytes_eq-Decides, and_parts, eqb-true, first_answer, Device, Set, find_device, index, WellFormed}
-use Rattle.vms_check_laws.proofs.Facade.{here, Mismatch, failing_pair, compare_device, paired_device, is_found, is_in, passes, device_found, inr, zero, ◌<◌}
-use Rattle.vms_check_laws.proofs.Facade.{◌≤◌, length, map, get_or, list_all, Image, HasSection, SectionsSpell, IsReady, EachOnce, is_one_of, written_section}
-use Rattle.vms_check_laws.proofs.Facade.{written_sections, is_version_of, Compatible, first_mismatch, comparing, compare_subs, carried, carried_device}
-use Rattle.vms_check_laws.proofs.Facade.{carried_at, no_image, ArePaired, DeviceLaw, or_else_none, IfSome, length-map, IsStream, IsConfiguration, configuration}
-use Rattle.vms_check_laws.proofs.Facade.{trailer, optional, longest_text, written, AreReady, every_one, machine_short, few_devices, UpgradeLaw, trailed}
-use Rattle.vms_check_laws.proofs.Facade.{answers_none, ap, [], inl, sym}
+use Rattle.vms_check_laws.proofs.Facade.{◌≡◌, ℕ, suc, ◌+◌, Bool, true, false, ◌&&◌, ◌==◌, List, ◌∷◌, Option, Some, None, refl, ◌∙◌, arith, if◌then◌else◌}
+use Rattle.vms_check_laws.proofs.Facade.{slice_get, bytes_eq, bytes_eq-Decides, and_parts, eqb-true, inr, zero, ◌<◌, ◌≤◌, length, map, get_or, list_all, IfSome}
+use Rattle.vms_check_laws.proofs.Facade.{length-map, ap, [], inl, sym, first_answer, Device, Set, find_device, index, WellFormed, here, Mismatch, failing_pair}
+use Rattle.vms_check_laws.proofs.Facade.{compare_device, paired_device, is_found, is_in, passes, device_found, Image, HasSection, SectionsSpell, IsReady}
+use Rattle.vms_check_laws.proofs.Facade.{EachOnce, is_one_of, written_section, written_sections, is_version_of, Compatible, first_mismatch, comparing}
+use Rattle.vms_check_laws.proofs.Facade.{compare_subs, carried, carried_device, carried_at, no_image, ArePaired, DeviceLaw, or_else_none, IsStream}
+use Rattle.vms_check_laws.proofs.Facade.{IsConfiguration, configuration, trailer, optional, longest_text, written, AreReady, every_one, machine_short}
+use Rattle.vms_check_laws.proofs.Facade.{few_devices, UpgradeLaw, trailed, answers_none}
 use Rattle.vms_spec.specs.declared.Part.TheVariants as parts
 use Rattle.vms_check_laws.proofs.SubFacts.{saved}
 use Rattle.vms_check_laws.proofs.Segments.{one_on, at_first, from_zero, RestAt}

@@ -1,10 +1,9 @@
 -- What two well-formed sets without a mismatch give for each subsection of new.
-use Rattle.vms_check_laws.proofs.Facade.{◌≡◌, ◌⊎◌, inl, inr, ℕ, zero, suc, ◌+◌, ◌≤◌, true, List, ◌∷◌, Option, Some, None, refl, ◌∙◌, arith, ℤ, nat_le, flat_map}
-use Rattle.vms_check_laws.proofs.Facade.{slice_get, and_parts, leb-true, first_answer, Sub, Device, Set, Cell, struct_cells, desc_cells, device_cells, Image}
-use Rattle.vms_check_laws.proofs.Facade.{FitCells, AreVersionsOf, RulesHold, own_slots, own_cells, sub_slots, sub_place, came_slots, IsReady, ComeAsNeeded}
-use Rattle.vms_check_laws.proofs.Facade.{find_sub, index, is_version_of, WellFormed, here, failing_pair, comparing, compare_sub, compare_subs, carried_sub}
-use Rattle.vms_check_laws.proofs.Facade.{sub_came, defaults, passes, sub_found, IsSaved, FitsAt, or_else_none, answers_none, sym, ap, [], rules_split}
-use Rattle.vms_check_laws.proofs.Facade.{sub_size}
+use Rattle.vms_check_laws.proofs.Facade.{◌≡◌, ◌⊎◌, inl, inr, ℕ, zero, suc, ◌+◌, ◌≤◌, true, List, ◌∷◌, Option, Some, None, refl, arith, ℤ, nat_le, flat_map}
+use Rattle.vms_check_laws.proofs.Facade.{slice_get, and_parts, leb-true, [], first_answer, Sub, Device, Set, Cell, struct_cells, desc_cells, device_cells}
+use Rattle.vms_check_laws.proofs.Facade.{Image, FitCells, AreVersionsOf, RulesHold, own_slots, own_cells, sub_slots, sub_place, came_slots, IsReady}
+use Rattle.vms_check_laws.proofs.Facade.{ComeAsNeeded, find_sub, index, is_version_of, WellFormed, here, failing_pair, comparing, compare_sub, compare_subs}
+use Rattle.vms_check_laws.proofs.Facade.{carried_sub, sub_came, defaults, passes, sub_found, IsSaved, FitsAt, or_else_none, answers_none, rules_split, sub_size}
 use Rattle.vms_spec.specs.declared.Part.TheVariants as parts
 use Rattle.vms_check_laws.proofs.SubParts.{found as found_sub}
 use Rattle.vms_check_laws.proofs.Segments.{fits_left, fits_right, one_on, at_first, from_zero, RestAt}

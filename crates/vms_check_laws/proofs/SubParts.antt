@@ -1,10 +1,9 @@
 -- The subsections of a device: by name, the part that each has of a list, and the cells that are in the bytes. Each cell of a device
 -- after its own fields is one of a subsection.
 use Rattle.vms_check_laws.proofs.Facade.{◌≡◌, ◌⊎◌, inl, inr, ℕ, zero, suc, ◌+◌, ◌<◌, ◌≤◌, Bool, true, false, ◌||◌, List, ◌∷◌, ◌++◌, length, get_or, Option}
-use Rattle.vms_check_laws.proofs.Facade.{Some, None, ℤ, refl, sym, ◌∙◌, arith, flat_map, slice_get, Sub, Device, Set, Cell, desc_cells, device_cells}
-use Rattle.vms_check_laws.proofs.Facade.{struct_cells, has_cell, own_cells, came_slots, sub_slots, sub_place, find_sub, names_append, sub_size, places_apart}
-use Rattle.vms_check_laws.proofs.Facade.{IsCellOf, length-append, if◌then◌else◌, bytes_eq, bytes_eq-Decides, cases_lt, []}
-use Rattle.vms_check_laws.proofs.Facade.{slice_get-get_or}
+use Rattle.vms_check_laws.proofs.Facade.{Some, None, ℤ, refl, sym, ◌∙◌, arith, flat_map, slice_get, length-append, if◌then◌else◌, bytes_eq, bytes_eq-Decides}
+use Rattle.vms_check_laws.proofs.Facade.{cases_lt, [], slice_get-get_or, Sub, Device, Set, Cell, desc_cells, device_cells, struct_cells, has_cell, own_cells}
+use Rattle.vms_check_laws.proofs.Facade.{came_slots, sub_slots, sub_place, find_sub, names_append, sub_size, places_apart, IsCellOf}
 use Rattle.vms_check_laws.proofs.PairLists.{IsBehind, at_left, at_right, before_or_behind, behind_at}
 
 -- ---- what has a name, and where it is
@@ -131,14 +130,16 @@ has_part set d numbers from (s ∷ subs) (Some v ∷ came) c e =
       }
     ]
 
+-- two numbers of which neither is below the other are one
+pub one_number : (i j : ℕ) → (i < j → ⊥) → (j < i → ⊥) → i ≡ j
+one_number i j f g = omega arith
+
 -- two subsections that have one cell are one
 pub one_part : (set : Set) (from : ℕ) (subs : List Sub) (i j c : ℕ) (s t : Sub) → slice_get subs i ≡ Some s → slice_get subs j ≡ Some t
     → sub_place set from subs i ≤ c → c < sub_place set from subs i + sub_size set s
     → sub_place set from subs j ≤ c → c < sub_place set from subs j + sub_size set t → i ≡ j
 one_part set from subs i j c s t e f low high low' high' =
-    let before : i < j → ⊥ = λ lt. omega (arith, places_apart set from subs i j s e lt) in
-    let after : j < i → ⊥ = λ lt. omega (arith, places_apart set from subs j i t f lt) in
-    omega arith
+    one_number i j (λ lt. omega (arith, places_apart set from subs i j s e lt)) (λ lt. omega (arith, places_apart set from subs j i t f lt))
 
 -- ---- each cell
 

@@ -1,13 +1,12 @@
 -- A device with subsections: what the older set writes is a section of the newer with the carried image. An order that names each remaining
 -- one, and none twice, takes each once.
-use Rattle.vms_check_laws.proofs.Facade.{◌≡◌, ◌⊎◌, inl, inr, ℕ, zero, suc, Bool, true, false, cases_eq, slice_get-map, List, ◌∷◌, slice_set, Option, Some, None, refl, sym, ap}
-use Rattle.vms_check_laws.proofs.Facade.{◌∙◌, slice_get, AreAll, ComesOnce, AllCame, EachOnce, at_other, [], ◌+◌, ◌<◌, ◌++◌, length, map}
-use Rattle.vms_check_laws.proofs.Facade.{get_or, subst, arith, ℤ, pos, flat_map, Part, first_answer, Sub, Device, Set, Slot, no_cell, struct_cells, desc_cells}
-use Rattle.vms_check_laws.proofs.Facade.{device_cells, Image, zeroed, own_slots, own_cells, sub_slots, sub_place, came_slots, has_cell, IsSection, SubSpells}
-use Rattle.vms_check_laws.proofs.Facade.{SubsSpell, sub_head, section_head, foot, written_subs, written_section, find_sub, index, is_version_of, WellFormed}
-use Rattle.vms_check_laws.proofs.Facade.{comparing, compare_sub, compare_subs, carrying, carried_sub, carried_device, defaults, sub_came, sub_found}
-use Rattle.vms_check_laws.proofs.Facade.{defaults_at, version_is, rules_append, IsSaved, Holds, FitsAt, answers_none, at_set, rules_split, slice_get_within}
-use Rattle.vms_check_laws.proofs.Facade.{sub_size}
+use Rattle.vms_check_laws.proofs.Facade.{◌≡◌, ◌⊎◌, inl, inr, ℕ, zero, suc, Bool, true, false, cases_eq, slice_get-map, List, ◌∷◌, slice_set, Option, Some, None}
+use Rattle.vms_check_laws.proofs.Facade.{refl, sym, ap, ◌∙◌, slice_get, [], ◌+◌, ◌<◌, ◌++◌, length, map, get_or, arith, ℤ, pos, flat_map, slice_get_within}
+use Rattle.vms_check_laws.proofs.Facade.{AreAll, ComesOnce, AllCame, EachOnce, at_other, Part, first_answer, Sub, Device, Set, Slot, no_cell, struct_cells}
+use Rattle.vms_check_laws.proofs.Facade.{desc_cells, device_cells, Image, zeroed, own_slots, own_cells, sub_slots, sub_place, came_slots, has_cell, IsSection}
+use Rattle.vms_check_laws.proofs.Facade.{SubSpells, SubsSpell, sub_head, written_subs, written_section, find_sub, index, is_version_of, WellFormed, comparing}
+use Rattle.vms_check_laws.proofs.Facade.{compare_sub, compare_subs, carrying, carried_sub, carried_device, defaults, sub_came, sub_found, defaults_at}
+use Rattle.vms_check_laws.proofs.Facade.{version_is, rules_append, IsSaved, Holds, FitsAt, answers_none, at_set, rules_split, sub_size}
 use Rattle.vms_check_laws.proofs.SubParts.{found as found_sub}
 use Rattle.vms_check_laws.proofs.Segments.{holds_left, holds_right, holds_at, fits_left, one_on, at_first, from_zero, RestAt}
 use Rattle.vms_check_laws.proofs.PairLists.{Settled, settled_append}
