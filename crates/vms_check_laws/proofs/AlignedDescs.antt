@@ -2,12 +2,12 @@
 -- newer set reads the same number of bytes for its field as the older set wrote for its own. A number that tests
 -- and counts may name is the same then. This is repeated position by position. Also a position at which two
 -- constants differ, which the newer set can't read.
-use Rattle.vms_check_laws.proofs.Facade.{cells_in, ◌≡◌, inl, inr, ℕ, zero, suc, ◌+◌, ◌<◌, ◌≤◌, Bool, true, List, ◌∷◌, ◌++◌, length, get_or, Some, None, sym, ap}
-use Rattle.vms_check_laws.proofs.Facade.{◌∙◌, arith, ℤ, pos, if◌then◌else◌, ◌⊎◌, nat_lt, take, refl, slice_get, take_all, eqb-true, and_parts, ltb-true}
-use Rattle.vms_check_laws.proofs.Facade.{eq-or-lt_of_le, Kind, Item, Num, Equal, Unused, Struct, width, residue, code, Count, One, is_steady_in, is_num, is_one}
-use Rattle.vms_check_laws.proofs.Facade.{is_earlier_in, Slot, Number, no_parent, times, counted, item_cells, elements_of, item_slots, numbers_of, kind_of}
-use Rattle.vms_check_laws.proofs.Facade.{Spells, zeroed, length-code, size_same, elements_fit, Entry, same_count, same_item, FitsAt, Aligns, Cell, desc_cells}
-use Rattle.vms_check_laws.proofs.Facade.{[]}
+use Rattle.vms_check_laws.proofs.Facade.{◌≡◌, inl, inr, ℕ, zero, suc, ◌+◌, ◌<◌, ◌≤◌, Bool, true, List, ◌∷◌, ◌++◌, length, get_or, Some, None, sym, ap, ◌∙◌}
+use Rattle.vms_check_laws.proofs.Facade.{arith, ℤ, pos, if◌then◌else◌, ◌⊎◌, nat_lt, take, refl, slice_get, take_all, eqb-true, and_parts, ltb-true}
+use Rattle.vms_check_laws.proofs.Facade.{eq-or-lt_of_le, [], cells_in, Kind, Item, Num, Equal, Unused, Struct, width, residue, code, Count, One, is_steady_in}
+use Rattle.vms_check_laws.proofs.Facade.{is_num, is_one, is_earlier_in, Slot, Number, no_parent, times, counted, item_cells, elements_of, item_slots}
+use Rattle.vms_check_laws.proofs.Facade.{numbers_of, kind_of, Spells, zeroed, length-code, size_same, elements_fit, Entry, same_count, same_item, FitsAt}
+use Rattle.vms_check_laws.proofs.Facade.{Aligns, Cell, desc_cells}
 use Rattle.vms_check_laws.proofs.Presence.{Agree, filler_length}
 use Rattle.vms_check_laws.proofs.Segments.{fits_left, fits_right, fits_at, apart, same_bytes, aligns_nil, aligns_append, aligns_number, aligns_constant}
 use Rattle.vms_check_laws.proofs.Segments.{aligns_filler, spells_split, behind_first, same_code}
@@ -43,7 +43,7 @@ module _ (two : Two) where
   zip_first [] [] zip = (tt, refl)
   zip_first [] (f ∷ fs) zip = absurd zip
   zip_first (e ∷ es) [] zip = absurd zip
-  zip_first (e ∷ es) (f ∷ fs) zip = let more = zip_first es fs zip.1 in ((zip.0, more.0), ap suc more.1)
+  zip_first (e ∷ es) (f ∷ fs) zip = let more = zip_first es fs zip.1 in ((zip.0, more.0), rw more.1)
 
   pub good_first : (k : ℕ) (es fs : List Entry) → k ≤ length es → k ≤ length fs
       → ((q : ℕ) (e f : Entry) → q < k → slice_get es q ≡ Some e → slice_get fs q ≡ Some f → PairGood two e f) → GoodFirst k es fs
@@ -108,9 +108,8 @@ module _ (sides : Sides) where
   pair_aligns ok e f p = pair_by sides ok SlotsAlign e f p
       (λ c.
       let s =
-      covered_slots ms ns numbers numbers' own own' e.field.item e.field.count f.field.item f.field.count (counted e.index a.fields)
-      (counted f.index b.fields) (at + e.place) (at' + f.place)
-      (old_size e.field.item) (length (item_cells news f.field.item [] (pos 0))) c.covers p.old.single p.new.single in
+      covered_slots ms ns numbers numbers' own own' e.field.item e.field.count f.field.item f.field.count (counted e.index a.fields) (counted f.index b.fields)
+      (at + e.place) (at' + f.place) (old_size e.field.item) (length (item_cells news f.field.item [] (pos 0))) c.covers p.old.single p.new.single in
       (aligns_nil numbers numbers', rw s.1 (aligns_filler numbers numbers' _ s.0 s.2)))
       (λ m t is.
       items_align e.field.item f.field.item _ _ e.field.default _ _ 0 0 _ _ _
@@ -124,8 +123,9 @@ module _ (sides : Sides) where
       let z = get_or numbers x (pos 0) in
       let u = get_or numbers' y (pos 0) in
       let same = same_bytes numbers _ numbers' _ (aligns_number numbers numbers' x y k l caps caps' e) body r r' s h in
-      let codes = (apart (code l u) (code k z) [] s.0 (length-code l u ∙ ap width (sym e) ∙ sym (length-code k z)) (sym s.1 ∙ same)).0 in
-      same_code k z u (sym codes ∙ ap (λ (i : Kind). code i u) (sym e)) ∙ ap (λ (i : Kind). residue (width i) u) e
+      let long : length (code l u) ≡ length (code k z) = rw (length-code, length-code, e) in
+      let codes = (apart (code l u) (code k z) [] s.0 long (sym s.1 ∙ same)).0 in
+      rw (← e) (same_code k z u (rw (← codes, e)))
 
   number_same : (j i : Item) (d c : Count) (t t' : Bool) (caps caps' : List ℕ) (x y step step' : ℕ) → is_num j ≡ true → is_one d ≡ true → same_item i j ≡ true
       → same_count o n c d ≡ true → t ≡ true → t' ≡ true
@@ -173,11 +173,11 @@ module _ (sides : Sides) where
 
   same_next : (p i : ℕ) (e f : Entry) (es fs : List Entry) → State p i (e ∷ es) (f ∷ fs) → (is_steady_in b f.index ≡ true → own e.index ≡ own' f.index)
       → Same (suc p)
-  same_next p _ e f es fs st here i j q named oi nj lt = elim (eq-or-lt_of_le (omega arith)) [
+  same_next p _ e f es fs st here i j q named oi nj lt = let le : q ≤ p = omega arith in elim (eq-or-lt_of_le le) [
     | inl is ↦
-        let ei : e.index ≡ i = upto_here o p e es st.upto i (oi ∙ ap Some is) in
-        let fj : f.index ≡ j = upto_here n p f fs st.upto' j (nj ∙ ap Some is) in
-        ap own (sym ei) ∙ here (ap (is_steady_in b) fj ∙ named) ∙ ap own' fj
+        let ei : e.index ≡ i = upto_here o p e es st.upto i (rw is at oi) in
+        let fj : f.index ≡ j = upto_here n p f fs st.upto' j (rw is at nj) in
+        rw (← ei, ← fj) (here (rw fj named))
     | inr less ↦ st.same i j q named oi nj less
   ]
 
@@ -186,16 +186,11 @@ module _ (sides : Sides) where
     here_aligns p i e f es fs st good =
         let k = st.known.0 in
         let k' = st.known'.0 in
+        let old_f = old e.index e.field k.field in
+        let new_f = named f.index f.field k'.field in
+        let agree = earlier_agree p i _ f fs st in
         pair_aligns (λ j. is_earlier_in b f.index j) e f
-        (record {
-          known = k;
-          known' = k';
-          good = good;
-          old = old e.index e.field k.field;
-          new = named f.index f.field k'.field;
-          fits = k.fits fits;
-          agree = earlier_agree p i _ f fs st;
-        })
+        (record { known = k; known' = k'; good = good; old = old_f; new = new_f; fits = k.fits fits; agree = agree })
 
     -- the front after one more pair: the bytes are split there
     pub record Past (p i : ℕ) (e f : Entry) (es fs : List Entry) (more_old more_new : List Slot) (r r' : List ℕ) : Type 0 where
@@ -225,9 +220,9 @@ module _ (sides : Sides) where
             upto = upto_next o p e es st.upto;
             upto' = upto_next n p f fs st.upto';
             above = st.above.1;
-            same = same_next p i e f es fs st (λ is. pair_same e f st.known.0 st.known'.0 good is t.0 (zeroed numbers more_old ++ r) (t.1 ++ r') t.3 split);
+            same = same_next p i e f es fs st (λ is. pair_same e f st.known.0 st.known'.0 good is t.0 _ _ t.3 split);
           };
-          rests = λ good. (here_aligns p i e f es fs st good).rests t.0 (zeroed numbers more_old ++ r) (t.1 ++ r') t.3 split;
+          rests = λ good. (here_aligns p i e f es fs st good).rests t.0 _ _ t.3 split;
         }
 
     pub front_aligns : (k : ℕ) (es fs : List Entry) (p i : ℕ) → GoodFirst two k es fs → State p i es fs → SlotsAlign (all_old (take k es)) (all_new (take k fs))
@@ -243,9 +238,7 @@ module _ (sides : Sides) where
     pub entries_align : (es fs : List Entry) (p i : ℕ) → Zip two es fs → State p i es fs → SlotsAlign (all_old es) (all_new fs)
     entries_align es fs p i zip st =
         let whole = zip_first two es fs zip in
-        rw (← (take_all (length es) es (omega arith)))
-        (rw (← (take_all (length es) fs (omega arith)))
-        (front_aligns (length es) es fs p i whole.0 st))
+        rw (← (take_all (length es) es (omega arith)), ← (take_all (length es) fs (omega arith))) (front_aligns (length es) es fs p i whole.0 st)
 
     -- ---- two constants that differ
 
@@ -266,9 +259,8 @@ module _ (sides : Sides) where
         let there_is' = known_there ns b.fields w numbers' at' f known' clash.rest' own' no_parent in
         let one : IsSingle (Equal d.kind d.value) e.field.count = rw d.item at (old e.index e.field known.field).single in
         let one' : IsSingle (Equal d.kind d.other) f.field.count = rw d.item' at (named f.index f.field known'.field).single in
-        d.differ (constants_same d.kind d.value d.other _ _ e.field.count f.field.count (counted e.index a.fields)
-        (counted f.index b.fields) _ _ _ _ one one' there_is there_is' body r r'
-        (rw d.item' at spells) (rw d.item at h))
+        d.differ (constants_same d.kind d.value d.other _ _ e.field.count f.field.count (counted e.index a.fields) (counted f.index b.fields) _ _ _ _ one one'
+        there_is there_is' body r r' (rw d.item' at spells) (rw d.item at h))
 
     pub entries_clash : (es fs : List Entry) (p i : ℕ) → Clashes two es fs → State p i es fs → (body r r' : List ℕ) → Spells numbers' (all_new fs) body
         → body ++ r' ≡ zeroed numbers (all_old es) ++ r → ⊥

@@ -1,11 +1,11 @@
 -- A number that fits its cell is at most every capacity that it counts, and one that fits the older capacities fits the newer.
 use Rattle.vms_check_laws.proofs.Facade.{◌≤ℤ◌, ◌≡◌, ◌⊎◌, inl, inr, ℕ, zero, suc, ◌+◌, ◌*◌, ◌^◌, ◌≤◌, true, ◌==◌, List, ◌∷◌, ◌++◌, length, get_or, Some, refl}
-use Rattle.vms_check_laws.proofs.Facade.{arith, ℤ, pos, negsuc, if◌then◌else◌, AllByRecursion, slice_get, mod-le, eq-eqb, ints, Kind, U8, U16, U32, Item, Num}
-use Rattle.vms_check_laws.proofs.Facade.{width, residue, Count, One, Fixed, Counted, Field, Cell, times, counted, capacity_of, item_cells, field_cells}
-use Rattle.vms_check_laws.proofs.Facade.{cells_from, place_of, no_field, kind_of, FitsCell, is_num, is_one, ItemBelow, FitsAt, all_right, Desc, ap}
-use Rattle.vms_check_laws.proofs.Facade.{is_steady_in, no_desc, ◌<◌, ◌∙◌, [], Struct, min, Bool, false, ◌&&◌, Option, None, sym, nat_le, and_parts, eqb-true}
-use Rattle.vms_check_laws.proofs.Facade.{leb-true, highest, Formula, presence, Entry, entry_of, present_from, position_from, same_place, same_count, is_covered}
-use Rattle.vms_check_laws.proofs.Facade.{holds_as_much, absent_hold, is_nothing, bound, least_of, greatest, has_room, cells_in}
+use Rattle.vms_check_laws.proofs.Facade.{arith, ℤ, pos, negsuc, if◌then◌else◌, AllByRecursion, slice_get, mod-le, eq-eqb, ints, ◌<◌, [], min, Bool, false, ◌&&◌}
+use Rattle.vms_check_laws.proofs.Facade.{Option, None, sym, nat_le, and_parts, eqb-true, leb-true, Kind, U8, U16, U32, Item, Num, width, residue, Count, One}
+use Rattle.vms_check_laws.proofs.Facade.{Counted, Field, Cell, times, counted, capacity_of, item_cells, field_cells, cells_from, place_of, no_field, kind_of}
+use Rattle.vms_check_laws.proofs.Facade.{FitsCell, is_num, is_one, ItemBelow, FitsAt, all_right, Desc, is_steady_in, no_desc, Struct, highest, Formula}
+use Rattle.vms_check_laws.proofs.Facade.{presence, Entry, entry_of, present_from, position_from, same_place, same_count, is_covered, holds_as_much, absent_hold}
+use Rattle.vms_check_laws.proofs.Facade.{bound, least_of, greatest, has_room, cells_in}
 use Rattle.vms_check_laws.proofs.Segments.{fits_right}
 use Rattle.vms_check_laws.proofs.Presence.{Steady, covers_unused}
 use Rattle.vms_check_laws.proofs.Premises.{IsSingle, CountFits, OldFields, DefaultsGood, NamesEarlier, NewFields, RulesNamed, Sides, PairGood, Zip, Matched}
@@ -23,19 +23,13 @@ HasArray by most (f ∷ fs) = (f.count ≡ Counted by most) ⊎ HasArray by most
 
 counted_head : (P : ℕ → Type 0) (by most : ℕ) (f : Field) (fs : List Field) → f.count ≡ Counted by most → AllByRecursion P (counted by (f ∷ fs)) → P most
 counted_head P by most f fs e h =
-    let k : AllByRecursion P (counted by (record f { count = Counted by most } ∷ fs)) = rw (e) at h in
-    let l : AllByRecursion P ((if by == by then most ∷ [] else []) ++ counted by fs) = k in
-    let m : AllByRecursion P (most ∷ counted by fs) = rw (eq-eqb by by refl) at l in
+    let m : AllByRecursion P (most ∷ counted by fs) = rw (e, eq-eqb by by refl) at h in
     m.0
 
 pub counted_has : (P : ℕ → Type 0) (by most : ℕ) (fs : List Field) → HasArray by most fs → AllByRecursion P (counted by fs) → P most
 counted_has P by most [] has h = absurd has
 counted_has P by most (f ∷ fs) has h =
-    let go : (f.count ≡ Counted by most) ⊎ HasArray by most fs → P most = elim [
-      | inl here ↦ counted_head P by most f fs here h
-      | inr more ↦ counted_has P by most fs more (all_right P _ (counted by fs) h)
-    ] in
-    go has
+    elim has [ inl here ↦ counted_head P by most f fs here h | inr more ↦ counted_has P by most fs more (all_right P _ (counted by fs) h) ]
 
 first_fits : (cs : List (List Cell)) (item : Item) (count : Count) (caps : List ℕ) (d : ℤ) (more : List Cell) (numbers : List ℤ) (at : ℕ) → is_num item ≡ true
     → is_one count ≡ true → FitsAt (times (capacity_of count) (λ _. item_cells cs item caps d) 0 0 ++ more) numbers at
@@ -56,11 +50,10 @@ pub single_at : (cs : List (List Cell)) (all fs : List Field) (i k : ℕ) (numbe
 single_at cs all [] i k numbers at g e s fits = absurd (cc)
 single_at cs all (f ∷ fs) i zero numbers at g e s fits =
     let same : f ≡ g = cc in
-    let z : i ≡ i + 0 = omega arith in
+    let z : i + 0 ≡ i = omega arith in
     let at_f : Steady f = rw same s in
-    rw (← same)
-    (rw (← z)
-    (record { number = get_or numbers at (pos 0); fits = first_fits cs f.item f.count _ f.default _ numbers at at_f.item at_f.count fits; is = refl }))
+    let fits_at = first_fits cs f.item f.count _ f.default _ numbers at at_f.item at_f.count fits in
+    rw (← same, z) (record { number = get_or numbers at (pos 0); fits = fits_at; is = refl })
 single_at cs all (f ∷ fs) i (suc k) numbers at g e s fits =
     let z : suc i + k ≡ i + suc k = omega arith in
     rw (← z) (single_at cs all fs (suc i) k numbers (at + length (field_cells cs all i f)) g e s (fits_right _ fits))
@@ -114,14 +107,13 @@ OldPlains below all = (j : ℕ) (f : Field) → slice_get all j ≡ Some f → O
 
 pub array_of : (fs : List Field) (i by most : ℕ) (f : Field) → slice_get fs i ≡ Some f → f.count ≡ Counted by most → HasArray by most fs
 array_of [] i by most f is e = absurd (cc)
-array_of (g ∷ fs) zero by most f is e = let same : g ≡ f = cc in inl (ap (λ (x : Field). x.count) same ∙ e)
+array_of (g ∷ fs) zero by most f is e = let same : g ≡ f = cc in inl (rw same e)
 array_of (g ∷ fs) (suc i) by most f is e = inr (array_of fs i by most f is e)
 
 fits_count : (cs : List (List Cell)) (all : List Field) (numbers : List ℤ) (at : ℕ) (c : Count) → FitsAt (cells_from cs all 0 all) numbers at → CountKnown all c
     → ((by most : ℕ) → c ≡ Counted by most → HasArray by most all) → CountFits (λ k. field_number cs all all 0 numbers at k) c
-fits_count cs all numbers at One fits known has = tt
-fits_count cs all numbers at (Fixed n) fits known has = tt
 fits_count cs all numbers at (Counted by most) fits known has = count_fits cs all numbers at by most known (has by most refl) fits
+fits_count cs all numbers at _ fits known has = tt
 
 pub old_fields : (cs : List (List Cell)) (below : ℕ) (all : List Field) (numbers : List ℤ) (at : ℕ) → FitsAt (cells_from cs all 0 all) numbers at
     → OldPlains below all → OldFields below (λ k. field_number cs all all 0 numbers at k) all
@@ -159,22 +151,17 @@ module _ (o n : ℕ → Option ℕ) where
   indexed p low [] fs rising h = tt
   indexed p low (e ∷ es) [] rising h = tt
   indexed p low (e ∷ es) (f ∷ fs) rising h = (
-    λ by k. elim (at_or_later by f.index p e f es fs (h by f.index rising.0 k)) [
-      | inl here ↦ sym here.0
-      | inr later ↦ let bad : true ≡ false = sym (eq-eqb f.index f.index refl) ∙ later.0 in absurd (cc)
-    ],
-    indexed (suc p) (suc f.index) es fs rising.1 (λ by j le k. elim (at_or_later by j p e f es fs (h by j (omega arith) k)) [
-      | inl here ↦ absurd (omega arith)
-      | inr later ↦ later.1
-    ]),
+    λ by k.
+        elim (at_or_later by f.index p e f es fs (h by f.index rising.0 k)) [ inl here ↦ sym here.0 | inr later ↦ absurd (cc (eq-eqb f.index f.index refl)) ],
+    indexed (suc p) (suc f.index) es fs rising.1
+        (λ by j le k. elim (at_or_later by j p e f es fs (h by j (omega arith) k)) [ inl here ↦ absurd (omega arith) | inr later ↦ later.1 ]),
   )
 
 -- ---- bounds
 
 at_most_least : (z : ℤ) (m : ℕ) (ms : List ℕ) → z ≤ℤ pos m → AllByRecursion (λ k. z ≤ℤ pos k) ms → z ≤ℤ pos (least_of m ms)
 at_most_least z m [] h all = h
-at_most_least (pos a) m (k ∷ ms) h all = at_most_least (pos a) (min m k) ms (omega (arith, ints)) all.1
-at_most_least (negsuc a) m (k ∷ ms) h all = at_most_least (negsuc a) (min m k) ms (omega (arith, ints)) all.1
+at_most_least z m (k ∷ ms) h all = at_most_least z (min m k) ms (omega (arith, ints)) all.1
 
 greatest_kind : (kind : Kind) → highest kind ≡ pos (greatest (Num kind))
 greatest_kind U8 = refl
@@ -195,9 +182,8 @@ all_counted P by (g ∷ gs) h = head g.count refl (all_counted P by gs (λ most 
   caps false most p rest = rest
 
   head : (c : Count) → g.count ≡ c → AllByRecursion P (counted by gs) → AllByRecursion P (counted by (record g { count = c } ∷ gs))
-  head One e rest = rest
-  head (Fixed m) e rest = rest
-  head (Counted by' most) e rest = caps (by' == by) most (λ is. h most (inl (e ∙ ap (λ (k : ℕ). Counted k most) (eqb-true by' by is)))) rest
+  head (Counted by' most) e rest = caps (by' == by) most (λ is. h most (inl (rw (← (eqb-true by' by is)) e))) rest
+  head _ e rest = rest
 
 pub covered_one : (i : Item) (c : Count) (j : Item) (d : Count) → is_covered i c j ≡ true → IsSingle j d → is_one d ≡ true
 covered_one i c j d is_so single = rw ((covers_unused i c j is_so).1) at single
@@ -210,11 +196,11 @@ pub record Paired (o n : ℕ → Option ℕ) (c : Count) (i most : ℕ) : Type 0
   pub room : most' ≤ most
 
 paired : (o n : ℕ → Option ℕ) (c d : Count) (i most : ℕ) → d ≡ Counted i most → same_count o n c d ≡ true → holds_as_much c d ≡ true → Paired o n c i most
-paired o n c d i most e same room =
-    at_count c (rw (← e) same) (rw (← e) room) where
-      at_count : (c : Count) → same_count o n c (Counted i most) ≡ true → holds_as_much c (Counted i most) ≡ true → Paired o n c i most
-      at_count (Counted by most') h k = record { by = by; most' = most'; is = refl; same = h; room = leb-true most' most k }
-      at_count _ h k = absurd (cc)
+paired o n (Counted by most') (Counted j m) i most e same room =
+    let one : j ≡ i = cc in
+    let much : m ≡ most = cc in
+    record { by = by; most' = most'; is = refl; same = rw one at same; room = omega (arith, leb-true most' m room) }
+paired o n _ _ i most e same room = absurd (cc)
 
 module _ (sides : Sides) where
   open sides use {two, ms, ns, numbers, numbers', at, at', below'}
@@ -228,15 +214,12 @@ module _ (sides : Sides) where
   FitsArrays z i [] = Unit {0}
   FitsArrays z i (f ∷ fs) = ((most : ℕ) → f.field.count ≡ Counted i most → z ≤ℤ pos most) × FitsArrays z i fs
 
-  no_array : (d : Count) (i most : ℕ) → is_one d ≡ true → d ≡ Counted i most → ⊥
-  no_array d i most one e = let k : is_one (Counted i most) ≡ true = rw (e) at one in absurd (cc)
-
   fits_array : (z : ℤ) (i j : ℕ) (e f : Entry) → ((by : ℕ) → same_place (o by) (n j) ≡ true → by ≡ i) → AllByRecursion (λ m. z ≤ℤ pos m) (counted i a.fields)
       → PairGood two e f → IsKnown ms a.fields v numbers at e → IsSingle f.field.item f.field.count → (most : ℕ) → f.field.count ≡ Counted j most
       → z ≤ℤ pos most
   fits_array z i j e f at_i all good known single most is =
       elim (decoded two e f good) [
-        | inl c ↦ absurd (no_array f.field.count j most (covered_one e.field.item e.field.count f.field.item f.field.count c.covers single) is)
+        | inl c ↦ let one = covered_one e.field.item e.field.count f.field.item f.field.count c.covers single in let bad = rw is at one in absurd (cc)
         | inr m ↦
             let p = paired o n e.field.count f.field.count j most is m.count m.room in
             let has_i : HasArray i p.most' a.fields = rw (← (at_i p.by p.same)) (array_of a.fields e.index p.by p.most' e.field known.field p.is) in
@@ -257,15 +240,8 @@ module _ (sides : Sides) where
   absent_array : (z : ℤ) (j n most : ℕ) (g : Field) (gs : List Field) → g.count ≡ Counted j most → presence w g.test g.since ≡ None → z ≤ℤ pos n
       → absent_hold w j n (g ∷ gs) ≡ true → z ≤ℤ pos most
   absent_array z j n most g gs is none le h =
-      let at_count : (has_room w j n g (Counted j most) && absent_hold w j n gs) ≡ true = rw (is) at h in
-      let first : ((if j == j && is_nothing (presence w g.test g.since) then nat_le n most else true) && absent_hold w j n gs) ≡ true = at_count in
-      let at_true : ((if true && is_nothing (presence w g.test g.since) then nat_le n most else true) && absent_hold w j n gs) ≡ true =
-      rw (eq-eqb j j refl) at first in
-      let at_none : (nat_le n most && absent_hold w j n gs) ≡ true = rw (none) at at_true in
+      let at_none : (nat_le n most && absent_hold w j n gs) ≡ true = rw (is, eq-eqb j j refl, none) at h in
       at_most_more z n most le (leb-true n most (and_parts (nat_le n most) (absent_hold w j n gs) at_none).0)
-
-  absent_rest : (j n : ℕ) (g : Field) (gs : List Field) → absent_hold w j n (g ∷ gs) ≡ true → absent_hold w j n gs ≡ true
-  absent_rest j n g gs h = (and_parts (has_room w j n g g.count) (absent_hold w j n gs) h).1
 
   arrays_rest : (z : ℤ) (j i q : ℕ) (g : Field) (pr : Option (Option Formula)) (fs : List Entry) → FitsArrays z j (entry_of i q g pr ++ fs) → FitsArrays z j fs
   arrays_rest z j i q g None fs h = h
@@ -284,7 +260,9 @@ module _ (sides : Sides) where
       let after = present_from news b.fields w (suc i) next gs in
       elim has [
         | inl is ↦ array_here z j n most i q g gs _ after refl is le absent h
-        | inr more ↦ each_array z j n (suc i) next gs le (absent_rest j n g gs absent) (arrays_rest z j i q g _ after h) most more
+        | inr more ↦
+            let absent_rest = (and_parts (has_room w j n g g.count) (absent_hold w j n gs) absent).1 in
+            each_array z j n (suc i) next gs le absent_rest (arrays_rest z j i q g _ after h) most more
       ]
 
   -- a number of old that fits, at a pair of numbers, fits all of new's capacities

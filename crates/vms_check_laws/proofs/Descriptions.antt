@@ -1,10 +1,10 @@
 -- A description on each side: its bytes carry, what isn't in them is at its default, and at one front the newer set
 -- takes exactly the bytes that the older one wrote. Validations that hold in the older set hold in the newer.
-use Rattle.vms_check_laws.proofs.Facade.{cells_in, ◌≡◌, ℕ, ◌+◌, List, ◌∷◌, Option, None, sym, ap, ◌∙◌, arith, ℤ, inr, ◌++◌, Desc, Slot, Rule, Meaning}
-use Rattle.vms_check_laws.proofs.Facade.{desc_cells, slots_from, desc_slots, numbers_of, all_hold, Part, is_steady_in, Entry, present, position_from, Comparer}
-use Rattle.vms_check_laws.proofs.Facade.{compare_desc, Carrier, carry_desc, Holds, FitsAt, Aligns, or_else_none, Spells, zeroed, [], Bool, Carries, Formula}
-use Rattle.vms_check_laws.proofs.Facade.{Known, Open, Reduced, and_from, and_parts, compare_validations, false, here, is_kept, list_all, list_any, no_parent}
-use Rattle.vms_check_laws.proofs.Facade.{passes, reduced, reduced_holds, refl, same_reduced, true, truth, truth_of, ◌||◌}
+use Rattle.vms_check_laws.proofs.Facade.{◌≡◌, ℕ, ◌+◌, List, ◌∷◌, Option, None, sym, ◌∙◌, arith, ℤ, inr, ◌++◌, [], Bool, and_from, and_parts, false, list_all}
+use Rattle.vms_check_laws.proofs.Facade.{list_any, refl, true, ◌||◌, cells_in, Desc, Rule, Meaning, desc_cells, slots_from, desc_slots, numbers_of, all_hold}
+use Rattle.vms_check_laws.proofs.Facade.{Part, is_steady_in, Entry, present, position_from, Comparer, compare_desc, Carrier, carry_desc, Holds, FitsAt, Aligns}
+use Rattle.vms_check_laws.proofs.Facade.{or_else_none, Spells, zeroed, Carries, Formula, Known, Open, Reduced, compare_validations, here, is_kept, no_parent}
+use Rattle.vms_check_laws.proofs.Facade.{passes, reduced, reduced_holds, same_reduced, truth, truth_of}
 use Rattle.vms_check_laws.proofs.Presence.{Agree, Named, named_left, same_reduced_truth}
 use Rattle.vms_check_laws.proofs.Segments.{holds_at, carries_append, spells_split, behind_first, aligns_append, aligns_rule, carries_rule}
 use Rattle.vms_check_laws.proofs.Premises.{entries_slots, slots_entries, all_known, AreKnown, Two, zip_of, Zip, Sides, Table, OldFields, Meets, Reads}
@@ -32,8 +32,7 @@ module _ (sides : Sides) (ok : ℕ → Bool) where
       → truth s v old_number no_parent ≡ true
       → (d ≡ true → truth_of r w new_number no_parent ≡ true) → (c || d) ≡ true → truth_of r w new_number no_parent ≡ true
   found_same r true d s e named agree holds go h =
-      sym (same_reduced_truth o n ok old_number new_number no_parent no_parent v w agree (reduced v s) r named (sym e))
-      ∙ reduced_holds s v old_number no_parent ∙ holds
+      rw (← (same_reduced_truth o n ok old_number new_number no_parent no_parent v w agree (reduced v s) r named (sym e)), reduced_holds) holds
   found_same r false d s e named agree holds go h = go h
 
   some_same : (r : Reduced) (ss : List Formula) → Named ok r → Agree o n ok old_number new_number → all_hold ss v old_number ≡ true
@@ -47,23 +46,22 @@ module _ (sides : Sides) (ok : ℕ → Bool) where
   kept_holds : (r : Reduced) → Named ok r → Agree o n ok old_number new_number → all_hold a.validate v old_number ≡ true
       → is_kept ks a b v w part part' o n r ≡ true → truth_of r w new_number no_parent ≡ true
   kept_holds (Known true) named agree holds h = refl
-  kept_holds (Known false) named agree holds h = some_same (Known false) a.validate named agree holds h
-  kept_holds (Open t) named agree holds h = some_same (Open t) a.validate named agree holds h
+  kept_holds (Known false) named agree holds h = some_same _ a.validate named agree holds h
+  kept_holds (Open t) named agree holds h = some_same _ a.validate named agree holds h
 
   rules_hold : (ts : List Formula) → RulesNamed ok ts → Agree o n ok old_number new_number → all_hold a.validate v old_number ≡ true
       → list_all (λ t. is_kept ks a b v w part part' o n (reduced w t)) ts ≡ true → all_hold ts w new_number ≡ true
   rules_hold [] named agree holds h = refl
   rules_hold (t ∷ ts) named agree holds h =
       let p = and_parts (is_kept ks a b v w part part' o n (reduced w t)) (list_all (λ t. is_kept ks a b v w part part' o n (reduced w t)) ts) h in
-      and_from (truth t w new_number no_parent) (all_hold ts w new_number)
-      (sym (reduced_holds t w new_number no_parent) ∙ kept_holds (reduced w t) (named_left ok w t named.0) agree holds p.0)
-      (rules_hold ts named.1 agree holds p.1)
+      let here = kept_holds (reduced w t) (named_left ok w t named.0) agree holds p.0 in
+      and_from _ _ (sym (reduced_holds t w new_number no_parent) ∙ here) (rules_hold ts named.1 agree holds p.1)
 
   pub rule_carries : compare_validations ks a b v w part part' o n ≡ None → RulesNamed ok b.validate → Agree o n ok old_number new_number
       → Carries numbers (Rule (all_hold a.validate v old_number) ∷ []) numbers' (Rule (all_hold b.validate w new_number) ∷ [])
   rule_carries h named agree =
       let every_is = (passes 15 (list_all (λ t. is_kept ks a b v w part part' o n (reduced w t)) b.validate) [] (here part) (here part') h).0 in
-      carries_rule numbers numbers' (all_hold a.validate v old_number) (all_hold b.validate w new_number) (λ r. rules_hold b.validate named agree r every_is)
+      carries_rule numbers numbers' _ _ (λ r. rules_hold b.validate named agree r every_is)
 
 -- ---- whole descriptions
 
@@ -100,14 +98,10 @@ module _ (ks : List Comparer) (cs : List Carrier) (ms ns : List Meaning) (a b : 
 
   -- the fields' slots are those of the present ones
   old_same : slots_from ms a.fields v own numbers 0 at a.fields ≡ entries_slots ms a.fields v own numbers at es
-  old_same =
-      let z : at ≡ at + 0 = omega arith in ap (λ (k : ℕ). slots_from ms a.fields v own numbers 0 k a.fields) z
-      ∙ slots_entries ms a.fields v own numbers at 0 0 a.fields
+  old_same = let z : at + 0 ≡ at = omega arith in rw z at (slots_entries ms a.fields v own numbers at 0 0 a.fields)
 
   new_same : (at' : ℕ) → slots_from ns b.fields w (own' at') numbers' 0 at' b.fields ≡ entries_slots ns b.fields w (own' at') numbers' at' fs
-  new_same at' =
-      let z : at' ≡ at' + 0 = omega arith in ap (λ (k : ℕ). slots_from ns b.fields w (own' at') numbers' 0 k b.fields) z
-      ∙ slots_entries ns b.fields w (own' at') numbers' at' 0 0 b.fields
+  new_same at' = let z : at' + 0 ≡ at' = omega arith in rw z at (slots_entries ns b.fields w (own' at') numbers' at' 0 0 b.fields)
 
   pub first_state : (at' : ℕ) → State (sides at') 0 0 es fs
   first_state at' = record {
@@ -159,8 +153,6 @@ module _ (ks : List Comparer) (cs : List Carrier) (ms ns : List Meaning) (a b : 
     pub desc_clashes : (at' : ℕ) → Clashes two es fs → (body r r' : List ℕ) → Spells numbers' (desc_slots ns b w numbers' at') body
         → body ++ r' ≡ zeroed numbers (desc_slots ms a v numbers at) ++ r → ⊥
     desc_clashes at' clashes body r r' s h =
-        let rule = Rule (all_hold a.validate v own) ∷ [] in
         let t = spells_split numbers' (slots_from ns b.fields w (own' at') numbers' 0 at' b.fields) (Rule (all_hold b.validate w (own' at')) ∷ []) body s in
-        let split = behind_first numbers (slots_from ms a.fields v own numbers 0 at a.fields) rule t.0 t.1 r r' (ap (λ (l : List ℕ). l ++ r') (sym t.2) ∙ h) in
-        entries_clash (sides at') good.earlier old fits es fs 0 0 clashes (first_state at') t.0 (zeroed numbers rule ++ r) (t.1 ++ r')
-        (rw (← (new_same at')) t.3) (split ∙ ap (λ (l : List Slot). zeroed numbers l ++ (zeroed numbers rule ++ r)) old_same)
+        let split = behind_first numbers (slots_from ms a.fields v own numbers 0 at a.fields) (Rule _ ∷ []) t.0 t.1 r r' (rw t.2 at h) in
+        entries_clash (sides at') good.earlier old fits es fs 0 0 clashes (first_state at') t.0 _ _ (rw (← (new_same at')) t.3) (rw old_same at split)

@@ -1,18 +1,17 @@
 -- The names of other crates, and of this crate's `specs`, that the proofs use.
-pub use Rattle.std.proofs.Common.{Bool, IfSome, IsTrue, List, None, Option, Some, [], ap, append_assoc, arith, bit_and, false, get_or, if◌then◌else◌, inl, inr}
-pub use Rattle.std.proofs.Common.{length, map, min, nat_le, nat_lt, negsuc, not, pos, refl, replicate, slice_set, subst, suc, sym, take, true, zero, ℕ, ℤ, ◌&&◌}
-pub use Rattle.std.proofs.Common.{◌*◌, ◌++◌, ◌+◌, ◌-◌, ◌<◌, ◌==◌, ◌^◌, ◌||◌, ◌∙◌, ◌∷◌, ◌≡◌, ◌≤ℤ◌, ◌≤◌, ◌⊎◌}
+pub use Rattle.std.proofs.Common.{Bool, IfSome, IsTrue, List, None, Option, Some, [], ap, append_assoc, arith, false, get_or, if◌then◌else◌, inl, inr, length}
+pub use Rattle.std.proofs.Common.{map, min, nat_le, nat_lt, negsuc, pos, refl, replicate, slice_set, suc, sym, take, true, zero, ℕ, ℤ, ◌&&◌, ◌*◌, ◌++◌, ◌+◌}
+pub use Rattle.std.proofs.Common.{◌-◌, ◌<◌, ◌==◌, ◌^◌, ◌||◌, ◌∙◌, ◌∷◌, ◌≡◌, ◌≤ℤ◌, ◌≤◌, ◌⊎◌}
 pub use Rattle.std.proofs.Math.Bool.{or-false}
 pub use Rattle.std.proofs.Math.Nat.{eq-or-lt_of_le, mod-le}
-pub use Rattle.std.proofs.lemmas.Bool.{and_from, and_parts, cases_lt, eq-eqb, eqb-true, false_from_ne_true, leb-true, ltb-false, ltb-true, or_parts}
+pub use Rattle.std.proofs.lemmas.Bool.{and_from, and_parts, cases_eq, cases_lt, eq-eqb, eqb-true, false_from_ne_true, leb-true, ltb-true, or_parts}
 pub use Rattle.std.proofs.lemmas.Int.{ints}
 pub use Rattle.std.proofs.lemmas.List.{append-nil, ext_get_or, get_or-append-add, get_or_append_left, get_or_past, length-append, length-map, length-replicate}
 pub use Rattle.std.proofs.lemmas.List.{take_all}
-pub use Rattle.std.proofs.lemmas.Option.{get_or_from_slice_get, slice_get-get_or, slice_get_within}
+pub use Rattle.std.proofs.lemmas.Option.{get_or_from_slice_get, slice_get-get_or, slice_get-map, slice_get_within}
 pub use Rattle.std.proofs.lemmas.Slice.Eq.{bytes_eq-Decides}
 pub use Rattle.std.specs.List.{AllByRecursion, flat_map, list_all, list_any, slice_get}
 pub use Rattle.std.specs.Str.{bytes_eq}
-pub use Rattle.byteorder.specs.Endian.{big_number}
 pub use Rattle.vms_kinds.specs.Codes.{InRange, code, highest, residue, width}
 pub use Rattle.vms_kinds.specs.declared.Item.{Item}
 pub use Rattle.vms_kinds.specs.declared.Item.TheVariants.{Equal, Num, Struct, Unused}
@@ -31,28 +30,27 @@ pub use Rattle.vms_spec.specs.Images.{own_slots, sub_place, sub_slots, zeroed}
 pub use Rattle.vms_spec.specs.Layout.{Cell, Constant, Filler, Meaning, Number, Rule, Slot, all_hold, capacity_of, cells_from, counted, desc_cells, desc_slots}
 pub use Rattle.vms_spec.specs.Layout.{device_cells, elements_of, field_cells, field_slots, first, item_cells, item_size, item_slots, kind_of, meanings, no_cell}
 pub use Rattle.vms_spec.specs.Layout.{no_desc, no_field, no_meaning, no_parent, numbers_of, place_of, slots_from, struct_cells, times}
-pub use Rattle.vms_spec.specs.Lists.{at_option, first_answer}
+pub use Rattle.vms_spec.specs.Lists.{first_answer}
 pub use Rattle.vms_spec.specs.Lookup.{find_device, find_sub, index}
 pub use Rattle.vms_spec.specs.Readiness.{is_version_of}
 pub use Rattle.vms_spec.specs.Rules.{count_names_well, counts_well, defaults_well, field_rules, has_good_count, has_no_test, is_counting, is_earlier_in, is_num}
-pub use Rattle.vms_spec.specs.Rules.{is_one, is_steady, is_steady_in, names_well, nobody, test_names_well, uses_below, validation_rules}
+pub use Rattle.vms_spec.specs.Rules.{is_one, is_steady, is_steady_in, names_well, nobody, test_names_well, validation_rules}
 pub use Rattle.vms_spec.specs.Sets.{And, AtLeast, Below, Desc, Device, Field, Formula, Not, Or, Set, Sub}
 pub use Rattle.vms_spec.specs.Streams.{AllCame, AreAll, AreReady, ComeAsNeeded, ComesOnce, EachOnce, IsConfiguration, IsReady, SubSpells, SubsSpell}
-pub use Rattle.vms_spec.specs.Streams.{configuration, foot, is_one_of, longest_text, optional, section_head, sub_head, trailer, written, written_section}
-pub use Rattle.vms_spec.specs.Streams.{written_sections, written_subs}
-pub use Rattle.vms_spec.specs.Tests.{compares, is_there, truth}
-pub use Rattle.vms_spec.specs.WellFormed.{WellFormed, device_rules, here, in_field, struct_rules, sub_rules}
+pub use Rattle.vms_spec.specs.Streams.{configuration, is_one_of, longest_text, optional, sub_head, trailer, written, written_section, written_sections}
+pub use Rattle.vms_spec.specs.Streams.{written_subs}
+pub use Rattle.vms_spec.specs.Tests.{is_there, truth}
+pub use Rattle.vms_spec.specs.WellFormed.{WellFormed, here, in_field}
 pub use Rattle.vms_spec.specs.declared.Count.{Count}
 pub use Rattle.vms_spec.specs.declared.Count.TheVariants.{Counted, Fixed, One}
 pub use Rattle.vms_spec.specs.declared.Part.{Part}
-pub use Rattle.vms_spec.specs.declared.Place.{Place}
 pub use Rattle.vms_spec.specs.declared.Rel.{Rel}
 pub use Rattle.vms_spec.specs.declared.Rel.TheVariants.{Eq, Ge, Lt, Ne}
 pub use Rattle.vms_spec.specs.declared.Whose.TheVariants.{Own, Parent}
-pub use Rattle.vms_bodies.proofs.AboveLaws.{IsAbove, MeanAbove, field_above, item_above, items_above, meanings_above}
+pub use Rattle.vms_bodies.proofs.AboveLaws.{IsAbove, MeanAbove, field_above, item_above, meanings_above}
 pub use Rattle.vms_bodies.proofs.AgreeLaws.{its_below, its_in, named_inside, skip_long, stands_behind}
-pub use Rattle.vms_bodies.proofs.CellLaws.{MeanCells, cells_first, field_are, item_are, items_are, meanings_are}
 pub use Rattle.vms_bodies.proofs.BodyLaws.{at_set}
+pub use Rattle.vms_bodies.proofs.CellLaws.{MeanCells, cells_first, field_are, item_are, meanings_are}
 pub use Rattle.vms_bodies.proofs.Names.{has_left, has_right, names_append, none_in_both}
 pub use Rattle.vms_bodies.proofs.PartLaws.{at_other, part_apart, parts_together, places_apart, sub_place_up, sub_size}
 pub use Rattle.vms_bodies.proofs.ReadyLaws.{version_is}
@@ -71,9 +69,9 @@ pub use Rattle.vms_check.specs.Carrying.{sub_came}
 unfoldable pub use Rattle.vms_check.specs.Carrying.{carried}
 pub use Rattle.vms_check.specs.Comparing.{Comparer, Compatible, Entry, absent_hold, bound, compare_desc, compare_device, compare_fields, compare_sub}
 pub use Rattle.vms_check.specs.Comparing.{compare_subs, compare_validations, comparer_of, comparers, comparing, entry_of, failing_pair, greatest, has_room}
-pub use Rattle.vms_check.specs.Comparing.{holds_as_much, is_covered, is_found, is_in, is_kept, is_nothing, kind_number, least_of, names_match, no_comparer}
-pub use Rattle.vms_check.specs.Comparing.{pair_rules, pair_structs, paired_device, position_from, present, present_from, rel_number, same_constant, same_count}
-pub use Rattle.vms_check.specs.Comparing.{same_item, same_kind, same_place, same_reduced, same_rest, same_test}
+pub use Rattle.vms_check.specs.Comparing.{holds_as_much, is_covered, is_found, is_in, is_kept, kind_number, least_of, names_match, no_comparer, pair_rules}
+pub use Rattle.vms_check.specs.Comparing.{pair_structs, paired_device, position_from, present, present_from, rel_number, same_constant, same_count, same_item}
+pub use Rattle.vms_check.specs.Comparing.{same_kind, same_place, same_reduced, same_rest, same_test}
 unfoldable pub use Rattle.vms_check.specs.Comparing.{first_mismatch}
 pub use Rattle.vms_check.specs.Partners.{Pairer, array_partners, desc_partners, field_partners, fields_left, item_partners, named_partners, no_pairer}
 pub use Rattle.vms_check.specs.Partners.{pairer_of, pairers, part_partners, partners_from, sub_partners, unpaired}

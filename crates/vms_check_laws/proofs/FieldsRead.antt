@@ -1,13 +1,13 @@
 -- Fields of both sides at one position: the newer set reads what the older one writes with the carried numbers, and what isn't in the
 -- bytes is at its default.
-use Rattle.vms_check_laws.proofs.Facade.{cells_in, ◌≡◌, inl, inr, ℕ, zero, suc, ◌+◌, ◌*◌, ◌≤◌, Bool, true, false, List, ◌∷◌, length, get_or, Option, None, refl}
-use Rattle.vms_check_laws.proofs.Facade.{sym, ◌∙◌, arith, ℤ, pos, if◌then◌else◌, ◌++◌, Some, eqb-true, leb-true, Kind, Item, Num, Equal, Unused, Struct, width}
-use Rattle.vms_check_laws.proofs.Facade.{Count, One, Fixed, Counted, Formula, Field, is_there, Slot, Number, Filler, no_parent, times, counted, capacity_of}
-use Rattle.vms_check_laws.proofs.Facade.{item_cells, field_cells, elements_of, item_slots, numbers_of, Entry, same_rest, same_count, same_kind, same_constant}
-use Rattle.vms_check_laws.proofs.Facade.{holds_as_much, entry_of, present_from, defaults, carry_item, carry_items, carry_field, Holds, FitsAt, Carries}
-use Rattle.vms_check_laws.proofs.Facade.{size_same, elements_fit, ItemBelow, same_number_is, here, presence, slice_get, Cell, cells_from, slots_from, kind_of}
-use Rattle.vms_check_laws.proofs.Facade.{is_steady_in, is_num, is_one, same_item, position_from, same_place, carry_next, carry_from, entries_left, field_size}
-use Rattle.vms_check_laws.proofs.Facade.{FieldsBelow, residue, desc_cells, ap, subst, [], length-append}
+use Rattle.vms_check_laws.proofs.Facade.{◌≡◌, inl, inr, ℕ, zero, suc, ◌+◌, ◌*◌, ◌≤◌, Bool, true, false, List, ◌∷◌, length, get_or, Option, None, refl, sym, ◌∙◌}
+use Rattle.vms_check_laws.proofs.Facade.{arith, ℤ, pos, if◌then◌else◌, ◌++◌, Some, eqb-true, leb-true, slice_get, ap, [], length-append, cells_in, Kind, Item}
+use Rattle.vms_check_laws.proofs.Facade.{Num, Equal, Unused, Struct, width, Count, One, Fixed, Counted, Formula, Field, is_there, Slot, Number, Filler}
+use Rattle.vms_check_laws.proofs.Facade.{no_parent, times, counted, capacity_of, item_cells, field_cells, elements_of, item_slots, numbers_of, Entry, same_rest}
+use Rattle.vms_check_laws.proofs.Facade.{same_count, same_kind, same_constant, holds_as_much, entry_of, present_from, defaults, carry_item, carry_items}
+use Rattle.vms_check_laws.proofs.Facade.{carry_field, Holds, FitsAt, Carries, size_same, elements_fit, ItemBelow, same_number_is, here, presence, Cell}
+use Rattle.vms_check_laws.proofs.Facade.{cells_from, slots_from, kind_of, is_steady_in, is_num, is_one, same_item, position_from, same_place, carry_next}
+use Rattle.vms_check_laws.proofs.Facade.{carry_from, entries_left, field_size, FieldsBelow, residue, desc_cells}
 use Rattle.vms_check_laws.proofs.Presence.{Agree, same_there, presence_named, there_here, not_covered, steady, steady_rest, rest_none, one_number, Steady}
 use Rattle.vms_check_laws.proofs.Presence.{filler_length}
 use Rattle.vms_check_laws.proofs.Segments.{holds_left, holds_right, holds_at, fits_left, fits_right, fits_at, carries_nil, carries_append, carries_number}
@@ -68,10 +68,8 @@ module _ (sides : Sides) where
   -- ---- how long it is
 
   item_sized : (i j : Item) (d : ℤ) (k : ℕ) → ItemBelow below' j → length (one_item i j d k) ≡ new_size j
-  item_sized (Num k) (Num l) d p lt = choice (same_kind k l) where
-    choice : (c : Bool) → length (if c then get_or numbers p (pos 0) ∷ [] else d ∷ []) ≡ 1
-    choice true = refl
-    choice false = refl
+  item_sized (Num k) (Num l) d p lt =
+      elim (same_kind k l) as (λ c. length (if c then get_or numbers p (pos 0) ∷ [] else d ∷ []) ≡ 1) [ true ↦ refl | false ↦ refl ]
   item_sized (Struct i) (Struct j) d p lt = table.sized j i p lt
   item_sized _ (Struct j) d p lt = defaults_size _
   item_sized _ _ d p lt = refl
@@ -79,12 +77,8 @@ module _ (sides : Sides) where
   items_sized : (i j : Item) (d : ℤ) (m most k : ℕ) → ItemBelow below' j → length (some_items i j d m most k) ≡ most * new_size j
   items_sized i j d m zero k lt = omega arith
   items_sized i j d zero (suc most) k lt =
-      length-append (fallback j d) _
-      ∙ ap (λ (r : ℕ). r + length (some_items i j d zero most k)) (defaults_size (item_cells news j [] d) ∙ size_same news j [] d)
-      ∙ ap (λ (r : ℕ). new_size j + r) (items_sized i j d zero most k lt) ∙ grind arith
-  items_sized i j d (suc m) (suc most) k lt =
-      length-append (one_item i j d k) _ ∙ ap (λ (r : ℕ). r + length (some_items i j d m most (k + old_size i))) (item_sized i j d k lt)
-      ∙ ap (λ (r : ℕ). new_size j + r) (items_sized i j d m most (k + old_size i) lt) ∙ grind arith
+      rw (length-append, defaults_size (item_cells news j [] d), size_same news j [] d, items_sized i j d zero most k lt) (grind arith)
+  items_sized i j d (suc m) (suc most) k lt = rw (length-append, item_sized i j d k lt, items_sized i j d m most (k + old_size i) lt) (grind arith)
 
   field_sized : (e : Entry) (i : ℕ) (f : Field) → ItemBelow below' f.item → length (one_field e f) ≡ length (cells_at i f)
   field_sized e i f lt = items_sized e.field.item f.item f.default _ _ _ lt ∙ sym (field_size news b.fields i f)
@@ -99,14 +93,7 @@ module _ (sides : Sides) where
   fields_sized i [] es lt = refl
   fields_sized i (g ∷ gs) es lt =
       let pr = presence w g.test g.since in
-      let here = next_sized i g pr es lt.0 in
-      let more = fields_sized (suc i) gs (left_of_old pr es) lt.1 in
-      omega (
-        arith,
-        length-append (next_field i g pr es) (all_fields (suc i) gs (left_of_old pr es)),
-        length-append (cells_at i g)
-            (cells_from news b.fields (suc i) gs),
-      )
+      simp length-append (rw (next_sized i g pr es lt.0, fields_sized (suc i) gs (left_of_old pr es) lt.1))
 
   -- ---- the carried numbers are at each pair
 
@@ -162,9 +149,7 @@ module _ (sides : Sides) where
       → residue (width (kind_of i)) (get_or numbers x (pos 0)) ≡ residue (width (kind_of j)) (get_or numbers' y (pos 0))
   number_pair (Num l) (Num k) One One z true x y num one same counts there_is held =
       let zero_more : y + 0 ≡ y = omega arith in
-      ap (λ (i : Kind). residue (width i) (get_or numbers x (pos 0))) (kinds_same k l same)
-      ∙ ap (λ (u : ℤ). residue (width l) u) (sym (one_number (same_kind k l) numbers' y (get_or numbers x (pos 0)) z same held))
-      ∙ ap (λ (p : ℕ). residue (width l) (get_or numbers' p (pos 0))) zero_more
+      rw (kinds_same k l same, ← (one_number (same_kind k l) numbers' y (get_or numbers x (pos 0)) z same held), zero_more)
   number_pair _ _ _ _ z _ x y num one same counts there_is held = absurd (cc)
 
   pair_agrees : (e f : Entry) → IsKnown ms a.fields v numbers at e → IsKnown ns b.fields w numbers' at' f → PairGood two e f
@@ -191,8 +176,7 @@ module _ (sides : Sides) where
   number_reads true k l caps caps' d x y same is held =
       let e : y + 0 ≡ y = omega arith in
       record {
-        carries = carries_number numbers numbers' x y k l caps caps' (kinds_same k l same)
-            (sym (held.each 0 (omega arith)) ∙ ap (λ (p : ℕ). get_or numbers' p (pos 0)) e);
+        carries = carries_number numbers numbers' x y k l caps caps' (kinds_same k l same) (sym (rw e at (held.each 0 (omega arith))));
         settled = record { each = λ c lt. let z : y ≡ y + c = omega arith in inl (rw (← z) (has_itself y l caps')) };
       }
   number_reads false k l caps caps' d x y same is held = absurd (cc)
@@ -221,26 +205,20 @@ module _ (sides : Sides) where
   items_read i j caps caps' d d' (suc m) most zero p p' step step' x y pair constant le le' fits held = absurd (omega arith)
   items_read i j caps caps' d d' (suc m) zero (suc most') p p' step step' x y pair constant le le' fits held = absurd (omega arith)
   items_read i j caps caps' d d' zero most (suc most') p p' step step' x y pair constant le le' fits held =
-      let first : Settled [] y (item_cells news j caps' d') (fallback j d') =
-      rw (same_defaults news j [] caps' d') (settled_defaults [] y (item_cells news j caps' d')) in
+      let first : Settled [] y (item_cells news j caps' d') (fallback j d') = rw (same_defaults news j [] caps' d') (settled_defaults [] y _) in
       let more =
-      items_read i j caps caps' d d' zero most most' p (p' + step') step step' x _ pair constant (omega arith) (omega arith) fits
-      (holds_right (fallback j d') held) in
-      record {
-        carries = carries_nil;
-        settled = settled_append (defaults_size (item_cells news j [] d') ∙ size_same news j [] d' ∙ sym (size_same news j caps' d')) first refl more.settled;
-      }
+      items_read i j caps caps' d d' zero most most' p (p' + step') step step' x _ pair constant (omega arith) (omega arith) fits (holds_right _ held) in
+      let size = defaults_size (item_cells news j [] d') ∙ size_same news j [] d' ∙ sym (size_same news j caps' d') in
+      record { carries = carries_nil; settled = settled_append size first refl more.settled }
   items_read i j caps caps' d d' (suc m) (suc most) (suc most') p p' step step' x y pair constant le le' fits held =
       let sized = item_sized i j d' x pair.low' in
       let first = item_reads i j caps caps' d d' x y pair constant (fits_left _ fits) (holds_left _ held) in
       let more =
-      items_read i j caps caps' d d' m most most' (p + step) (p' + step') step step' (x + old_size i) (y + new_size j) pair constant (omega arith)
-      (omega arith) (fits_at (omega (arith, size_same olds i caps d)) (fits_right (item_cells olds i caps d) fits))
+      items_read i j caps caps' d d' m most most' (p + step) (p' + step') step step' (x + old_size i) (y + new_size j) pair constant (omega arith) (omega arith)
+      (fits_at (omega (arith, size_same olds i caps d)) (fits_right (item_cells olds i caps d) fits))
       (holds_at (omega arith) (holds_right (one_item i j d' x) held)) in
-      record {
-        carries = carries_append first.carries more.carries;
-        settled = settled_append (sized ∙ sym (size_same news j caps' d')) first.settled (omega arith) more.settled;
-      }
+      let settled = settled_append (sized ∙ sym (size_same news j caps' d')) first.settled (omega arith) more.settled in
+      record { carries = carries_append first.carries more.carries; settled = settled }
 
   module _ (ok : ℕ → Bool) where
     -- two present fields at which no rule fails, and what is known of them
@@ -308,15 +286,12 @@ module _ (sides : Sides) where
         → ReadsHere e f [] [] × Both (ReadsHere e f) e f (elements_of e.field.count own) (elements_of f.field.count own')
     covers e f p c =
         let empty : length (one_field e f.field) ≡ 0 =
-        field_sized e f.index f.field p.new.item ∙ field_size news b.fields f.index f.field
-        ∙ ap (λ (k : ℕ). capacity_of f.field.count * k) (covered_empty news e.field.item e.field.count f.field.item c.covers) ∙ omega arith in
+        field_sized e f.index f.field p.new.item ∙ rw (field_size news, covered_empty news e.field.item e.field.count f.field.item c.covers) (omega arith) in
         let s =
         covered_slots ms ns numbers numbers' own own' e.field.item e.field.count f.field.item f.field.count (counted e.index a.fields)
-        (counted f.index b.fields) (at + e.place) (at' + f.place)
-        (old_size e.field.item) (new_size f.field.item) c.covers p.old.single p.new.single in (
-          record { carries = carries_nil; settled = settled_empty _ _ _ _ empty },
-          record { carries = rw s.1 (carries_filler numbers numbers' _ s.0 s.2); settled = settled_empty _ _ _ _ empty },
-        )
+        (counted f.index b.fields) (at + e.place) (at' + f.place) (old_size e.field.item) (new_size f.field.item) c.covers p.old.single p.new.single in
+        let settled : (xs : List Slot) → Settled xs (at' + f.place) (cells_at f.index f.field) (one_field e f.field) = λ xs. settled_empty xs _ _ _ empty in
+        (record { carries = carries_nil; settled = settled [] }, record { carries = rw s.1 (carries_filler numbers numbers' _ s.0 s.2); settled = settled _ })
 
     abbrev carried_if : (e f : Entry) → Bool → List ℤ
     carried_if e f t = some_items e.field.item f.field.item f.field.default (count_if t e) (capacity_of f.field.count) (at + e.place)
@@ -327,11 +302,8 @@ module _ (sides : Sides) where
         let le = if_least t _ _ (elements_fit e.field.count own) in
         let le' = if_least t _ _ (elements_room e.field.count f.field.count m.count m.room) in
         let pair : Pairs two below below' e.field.item f.field.item = record { same = m.item; structs = p.good.structs; low = p.old.item; low' = p.new.item } in
-        subst (λ (q : Bool). Reads numbers numbers' (old_slots (count_if t e) e) (new_slots (count_if t e) f) (at' + f.place) (cells_at f.index f.field)
-        (carried_if e f q)) (sym is)
-        (items_read e.field.item f.field.item (counted e.index a.fields) (counted f.index b.fields) e.field.default f.field.default (count_if t e) _ _ 0 0 0 0
-        (at + e.place) (at' + f.place) pair m.constant
-        le le' p.fits (subst (λ (q : Bool). Holds numbers' (at' + f.place) (carried_if e f q)) is held))
+        let held' : Holds numbers' (at' + f.place) (carried_if e f t) = rw is at held in
+        rw is (items_read e.field.item f.field.item _ _ e.field.default f.field.default _ _ _ 0 0 0 0 _ _ pair m.constant le le' p.fits held')
 
     pub pair_reads : (e f : Entry) → Opposite e f → Holds numbers' (at' + f.place) (one_field e f.field)
         → ReadsHere e f (slots_at ms a.fields v own numbers at e.index e.place e.field) (slots_at ns b.fields w own' numbers' at' f.index f.place f.field)
@@ -350,16 +322,9 @@ module _ (sides : Sides) where
     opposites (e ∷ es) (f ∷ fs) linked known known' old new fits agree =
         let k = known.0 in
         let k' = known'.0 in
-        let here : Opposite e f =
-        record {
-          known = k;
-          known' = k';
-          good = linked.0.0;
-          old = old e.index e.field k.field;
-          new = new f.index f.field k'.field;
-          fits = k.fits fits;
-          agree = agree;
-        } in
+        let old_f = old e.index e.field k.field in
+        let new_f = new f.index f.field k'.field in
+        let here : Opposite e f = record { known = k; known' = k'; good = linked.0.0; old = old_f; new = new_f; fits = k.fits fits; agree = agree } in
         ((here, linked.0.1), opposites es fs linked.1 known.1 known'.1 old new fits agree)
 
     pub fields_carry : (es fs : List Entry) → Opposites es fs

@@ -1,9 +1,9 @@
 -- The carried numbers fit new's cells.
-use Rattle.vms_check_laws.proofs.Facade.{cells_in, ◌≤ℤ◌, ◌≡◌, inl, inr, ℕ, zero, suc, ◌+◌, ◌<◌, ◌≤◌, Bool, true, false, List, ◌∷◌, ◌++◌, length, get_or, Option}
-use Rattle.vms_check_laws.proofs.Facade.{Some, None, refl, arith, ℤ, pos, if◌then◌else◌, AllByRecursion, Kind, Item, Num, Struct, Formula, Field, Cell, times}
-use Rattle.vms_check_laws.proofs.Facade.{counted, item_cells, field_cells, cells_from, Entry, entry_of, present_from, same_kind, pair_structs, defaults}
+use Rattle.vms_check_laws.proofs.Facade.{◌≤ℤ◌, ◌≡◌, inl, inr, ℕ, zero, suc, ◌+◌, ◌<◌, ◌≤◌, Bool, true, false, List, ◌∷◌, ◌++◌, length, get_or, Option, Some}
+use Rattle.vms_check_laws.proofs.Facade.{None, refl, arith, ℤ, pos, if◌then◌else◌, AllByRecursion, [], cells_in, Kind, Item, Num, Struct, Formula, Field, Cell}
+use Rattle.vms_check_laws.proofs.Facade.{times, counted, item_cells, field_cells, cells_from, Entry, entry_of, present_from, same_kind, pair_structs, defaults}
 use Rattle.vms_check_laws.proofs.Facade.{carry_item, carry_items, carry_next, carry_from, entries_left, FitsAt, size_same, elements_fit, highest, InRange}
-use Rattle.vms_check_laws.proofs.Facade.{is_num, FitsCell, ItemBelow, FieldsBelow, desc_cells, numbers_of, is_steady_in, present, []}
+use Rattle.vms_check_laws.proofs.Facade.{is_num, FitsCell, ItemBelow, FieldsBelow, desc_cells, numbers_of, is_steady_in, present}
 use Rattle.vms_check_laws.proofs.Segments.{fits_left, fits_right, fits_at}
 use Rattle.vms_check_laws.proofs.Premises.{kinds_same, AreKnown, Zip, Matched, decoded, OldFields, NewFields, DefaultsGood, ItemDefault, Sides, fields_below}
 use Rattle.vms_check_laws.proofs.Premises.{FitCells, GoodCells, fit_append, fit_defaults, good_append, good_times}

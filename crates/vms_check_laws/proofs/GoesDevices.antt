@@ -1,13 +1,13 @@
 -- What is carried of a device, cell by cell.
 use Rattle.vms_check_laws.proofs.Facade.{◌≡◌, ◌⊎◌, inl, inr, ℕ, ◌+◌, ◌-◌, ◌<◌, ◌≤◌, Bool, true, false, ◌||◌, List, ◌++◌, length, get_or, Option, Some, None, ℤ}
 use Rattle.vms_check_laws.proofs.Facade.{pos, refl, sym, ◌∙◌, arith, flat_map, slice_get, get_or_append_left, get_or-append-add, or_parts, slice_get_within}
-use Rattle.vms_check_laws.proofs.Facade.{at_option, Sub, Device, Set, Cell, no_cell, desc_cells, device_cells, struct_cells, Image, has_cell, image_slots}
-use Rattle.vms_check_laws.proofs.Facade.{own_slots, own_cells, came_slots, sub_slots, sub_place, find_sub, index, WellFormed, names_append, none_in_both}
-use Rattle.vms_check_laws.proofs.Facade.{its_below, its_in, sub_size, sub_place_up, part_apart, defaults_at, defaults_long, device_parts, sub_clean, sub_found}
-use Rattle.vms_check_laws.proofs.Facade.{defaults, carrying, carry_sub, carried_sub, carried_device, IsCellOf, IsCarried, IsAtVersions, part_partners}
-use Rattle.vms_check_laws.proofs.Facade.{sub_partners, named_partners, device_partners, length-append, ap, parts_together, or-false, zero, suc, ◌==◌, ◌∷◌}
-use Rattle.vms_check_laws.proofs.Facade.{eqb-true, eq-eqb, ext_get_or, CarriedLaw, []}
-use Rattle.vms_check_laws.proofs.PairLists.{Goes, IsBehind, at_left, at_right, at_none, before_or_behind}
+use Rattle.vms_check_laws.proofs.Facade.{length-append, ap, or-false, zero, suc, ◌∷◌, cases_eq, ext_get_or, [], Sub, Device, Set, Cell, no_cell, desc_cells}
+use Rattle.vms_check_laws.proofs.Facade.{device_cells, struct_cells, Image, has_cell, image_slots, own_slots, own_cells, came_slots, sub_slots, sub_place}
+use Rattle.vms_check_laws.proofs.Facade.{find_sub, index, WellFormed, names_append, none_in_both, its_below, its_in, sub_size, sub_place_up, part_apart}
+use Rattle.vms_check_laws.proofs.Facade.{defaults_at, defaults_long, device_parts, sub_clean, sub_found, defaults, carrying, carry_sub, carried_sub}
+use Rattle.vms_check_laws.proofs.Facade.{carried_device, IsCellOf, IsCarried, IsAtVersions, part_partners, named_partners, device_partners, parts_together}
+use Rattle.vms_check_laws.proofs.Facade.{CarriedLaw}
+use Rattle.vms_check_laws.proofs.PairLists.{Goes, IsBehind, at_left, at_right, at_none, before_or_behind, behind_at}
 use Rattle.vms_check_laws.proofs.GoesFields.{part_goes}
 use Rattle.vms_check_laws.proofs.SubParts.{Found, found, own_or_sub, StandsIn, all_long, part_in, part_number, stands_in, has_part, one_part, or_split}
 use Rattle.vms_check_laws.proofs.PairDevices.{below_of, device_paired, one_sub}
@@ -34,6 +34,9 @@ module _ (old new : Set) (good_old : WellFormed old) (good_new : WellFormed new)
 
   abbrev new_cells : Sub → List Cell
   new_cells s = desc_cells (struct_cells new) s.desc
+
+  abbrev new_own : List Cell
+  new_own = desc_cells (struct_cells new) e.desc
 
   -- what is in the bytes, and what is carried
   abbrev has : ℕ → Bool
@@ -104,18 +107,14 @@ module _ (old new : Set) (good_old : WellFormed old) (good_new : WellFormed new)
   goes_of l t at_l h = sub_goes h.m l h.s t h.v h.at_m at_l (versions.subs h.m h.s h.v h.at_m h.is_come)
 
   sized' : (l : ℕ) (t : Sub) → slice_get e.subs l ≡ Some t → length (carried t) ≡ sub_size new t
-  sized' l t at_l = elim (comes t) [
-    | inl h ↦ ap length h ∙ defaults_long _
-    | inr h ↦ ap length h.segment ∙ (goes_of l t at_l h).long
-  ]
+  sized' l t at_l = elim (comes t) [ inl h ↦ ap length h ∙ defaults_long _ | inr h ↦ ap length h.segment ∙ (goes_of l t at_l h).long ]
 
   -- ---- the partners of a subsection
 
   named_is : (s t : Sub) (l : ℕ) → slice_get e.subs l ≡ Some t → s.desc.name ≡ t.desc.name
       → named_partners old new e s ≡ part_partners old new s.desc.version s.desc t.desc (place' l)
   named_is s t l at_l names =
-      let h : find_sub 0 e.subs s.desc.name ≡ Some l = ap (λ (n : List ℕ). find_sub 0 e.subs n) names ∙ sub_found new good_new i' l e t at_k at_l in
-      ap (λ (o : Option ℕ). sub_partners old new e s o (at_option e.subs o)) h ∙ ap (λ (o : Option Sub). sub_partners old new e s (Some l) o) at_l
+      rw (names, sub_found new good_new i' l e t at_k at_l, at_l)
 
   abbrev ps : List (Option ℕ)
   ps = part_partners old new d.desc.version d.desc e.desc 0
@@ -136,19 +135,16 @@ module _ (old new : Set) (good_old : WellFormed old) (good_new : WellFormed new)
     own_has c e lt = sym (or-false (has_own c)) ∙ ap (λ (b : Bool). has_own c || b) (sym (came_none c lt)) ∙ sym (has_both c) ∙ e
 
     came_has : (c : ℕ) → has c ≡ true → own_cells old d ≤ c → has_come c ≡ true
-    came_has c e le = elim (or_split (has_own c) (has_come c) (sym (has_both c) ∙ e)) [
-      | inl f ↦ let h = own_goes.within.in_range c f in absurd (omega arith)
-      | inr f ↦ f.1
-    ]
+    came_has c e le =
+        elim (or_split (has_own c) (has_come c) (sym (has_both c) ∙ e)) [ inl f ↦ let h = own_goes.within.in_range c f in absurd (omega arith) | inr f ↦ f.1 ]
 
     taken_own : (c k : ℕ) → slice_get ps c ≡ Some (Some k) → has_own c ≡ true → get_or whole k (pos 0) ≡ get_or numbers c (pos 0)
     taken_own c k e f =
         let p = own_goes.paired.pairs c k e in
-        let k_is : k ≡ 0 + p.r = p.is in
         let z : c ≡ 0 + c = omega arith in
-        let r_is : p.r ≡ k = omega (arith, p.is) in
-        let own : get_or own_segment p.r (pos 0) ≡ get_or numbers (0 + c) (pos 0) = own_goes.taken c p.r (rw (← k_is) e) (rw (← z) f) in
-        rw (← r_is, get_or_append_left own_segment rest (pos 0) p.r (omega (arith, p.inside, own_goes.long)), own, ← z)
+        let own : get_or own_segment p.r (pos 0) ≡ get_or numbers (0 + c) (pos 0) = own_goes.taken c p.r (rw (← p.is) e) (rw (← z) f) in
+        let r_is : p.r ≡ k = omega arith in
+        rw (← r_is, get_or_append_left own_segment rest (pos 0) p.r (omega (arith, own_goes.long)), own, ← z)
 
     rest_at : (l : ℕ) (t : Sub) (r : ℕ) → slice_get e.subs l ≡ Some t → r < sub_size new t → get_or whole (place' l + r) (pos 0) ≡ get_or (carried t) r (pos 0)
     rest_at l t r at_l lt =
@@ -186,14 +182,12 @@ module _ (old new : Set) (good_old : WellFormed old) (good_new : WellFormed new)
         let h = has_part old d numbers _ d.subs image.came x (came_has x is_in (omega arith)) in
         let range = its_in old h.sub.desc h.version _ numbers x h.has in
         let same : h.j ≡ w.m = one_part old _ d.subs h.j w.m x h.sub w.sub h.there w.there range.0 range.1 (omega arith) (omega arith) in
-        let some_same : Some h.sub ≡ Some w.sub = sym h.there ∙ ap (slice_get d.subs) same ∙ w.there in
         let sub_same : h.sub ≡ w.sub = cc in
-        let is_come : slice_get image.came w.m ≡ Some (Some h.version) = ap (slice_get image.came) (sym same) ∙ h.is_come in
+        let is_come : slice_get image.came w.m ≡ Some (Some h.version) = rw same at h.is_come in
         let p = paired_sub w.sub w.c k w.here in
         let goes = sub_goes w.m p.l w.sub p.t h.version w.there p.at_l (versions.subs w.m w.sub h.version w.there is_come) in
         let pair = goes.paired.pairs w.c k p.here in
-        let back : find_sub 0 d.subs p.t.desc.name ≡ Some w.m =
-        ap (λ (n : List ℕ). find_sub 0 d.subs n) (sym p.name_is) ∙ sub_found old good_old i w.m d w.sub at_i w.there in
+        let back : find_sub 0 d.subs p.t.desc.name ≡ Some w.m = rw (← p.name_is) (sub_found old good_old i w.m d w.sub at_i w.there) in
         let has_here : has_cell (sub_slots old w.sub h.version numbers (place w.m)) (place w.m + w.c) ≡ true = rw (← w.is, ← same, ← sub_same) h.has in
         let segment : carried p.t ≡ carrying old new numbers h.version w.sub.desc p.t.desc (place w.m) = rw (back, w.there, is_come) in
         let k_is = pair.is in
@@ -204,7 +198,7 @@ module _ (old new : Set) (good_old : WellFormed old) (good_new : WellFormed new)
     taken c k f is_in (inl lt) = taken_own c k (sym (at_left ps qs c lt) ∙ f) (own_has c is_in (omega (arith, own_goes.paired.long)))
     taken c k f is_in (inr b) =
         let c_is : c ≡ own_cells old d + b.more = omega (arith, own_goes.paired.long) in
-        rw c_is (taken_sub b.more k (stands_in old _ _ d.subs b.more (Some k) sized (sym (at_right ps qs b.more) ∙ rw b.is at f)) (rw c_is at is_in))
+        rw c_is (taken_sub b.more k (stands_in old _ _ d.subs b.more (Some k) sized (behind_at ps qs c b f)) (rw c_is at is_in))
 
     -- ---- all others
 
@@ -221,21 +215,14 @@ module _ (old new : Set) (good_old : WellFormed old) (good_new : WellFormed new)
         let u : 0 + c ≡ c = omega arith in
         let place_is : slice_get ps c ≡ Some (Some k) = rw z at f in
         rw u (parts_none c (none c (at_left ps qs c (slice_get_within ps c (Some k) place_is) ∙ place_is))).0) in
-        rw (
-          get_or_append_left own_segment rest (pos 0) k (omega (arith, own_goes.long)),
-          get_or_append_left (desc_cells (struct_cells new) e.desc)
-              (flat_map new_cells e.subs) no_cell k lt,
-        ) own
+        rw (get_or_append_left own_segment rest (pos 0) k (omega (arith, own_goes.long)), get_or_append_left new_own _ no_cell k lt) own
 
     default_at : (l : ℕ) (t : Sub) (r : ℕ) → slice_get e.subs l ≡ Some t → r < sub_size new t
         → (get_or (device_cells new e) (place' l + r) no_cell).default ≡ (get_or (new_cells t) r no_cell).default
     default_at l t r at_l lt =
         let h = part_in new new_cells (own_cells new e) e.subs l t (λ m s f. refl) at_l in
         let z : place' l + r ≡ own_cells new e + (h.q + r) = omega arith in
-        let cell =
-        get_or-append-add (desc_cells (struct_cells new) e.desc) (flat_map new_cells e.subs) (h.q + r) no_cell
-        ∙ part_number new new_cells (own_cells new e) e.subs l t h no_cell r lt in
-        rw z (ap (λ (x : Cell). x.default) cell)
+        rw (z, get_or-append-add new_own (flat_map new_cells e.subs) (h.q + r) no_cell, part_number new new_cells (own_cells new e) e.subs l t h no_cell r lt)
 
     other_come : (l : ℕ) (t : Sub) (r : ℕ) → slice_get e.subs l ≡ Some t → r < sub_size new t → NoneHas (place' l + r) → Comes t
         → get_or (carried t) r (pos 0) ≡ (get_or (new_cells t) r no_cell).default
@@ -268,14 +255,7 @@ module _ (old new : Set) (good_old : WellFormed old) (good_new : WellFormed new)
     pub carried_by_cell : IsCarried old new d e image (carried_device old new d e image).numbers
     unfolding device_partners
     carried_by_cell = record {
-      long = omega (
-        arith,
-        own_goes.long,
-        all_long new _ e.subs sized',
-        length-append own_segment rest,
-        length-append (desc_cells (struct_cells new) e.desc)
-            (flat_map new_cells e.subs),
-      );
+      long = simp length-append (rw (own_goes.long, all_long new _ e.subs sized'));
       taken = λ c k f is_in. taken c k f is_in (before_or_behind _ c);
       other = λ k lt none. other k lt none (own_or_sub new e k lt);
     }
@@ -285,10 +265,7 @@ module _ (old new : Set) (good_old : WellFormed old) (good_new : WellFormed new)
 -- where a partner is, if there is one
 is_some_of : (o : Option ℕ) (k : ℕ) → (o ≡ Some k) ⊎ (o ≡ Some k → ⊥)
 is_some_of None k = inr (λ e. cc)
-is_some_of (Some j) k = go (j == k) refl where
-  go : (b : Bool) → (j == k) ≡ b → (Some j ≡ Some k) ⊎ (Some j ≡ Some k → ⊥)
-  go true e = inl (ap (λ (n : ℕ). Some n) (eqb-true j k e))
-  go false e = inr (λ f. (let g = eq-eqb j k cc in cc))
+is_some_of (Some j) k = elim (cases_eq j k) [ inl e ↦ inl (rw e) | inr ne ↦ inr (λ f. ne cc) ]
 
 search_in : (ps : List (Option ℕ)) (k : ℕ) → ((c : ℕ) × (slice_get ps c ≡ Some (Some k))) ⊎ ((c : ℕ) → slice_get ps c ≡ Some (Some k) → ⊥)
 search_in [] k = inr (λ c e. cc)
@@ -299,7 +276,7 @@ search_in (o ∷ ps) k = go (is_some_of o k) (search_in ps k) where
 
   go : ((o ≡ Some k) ⊎ (o ≡ Some k → ⊥)) → (((c : ℕ) × (slice_get ps c ≡ Some (Some k))) ⊎ ((c : ℕ) → slice_get ps c ≡ Some (Some k) → ⊥))
       → ((c : ℕ) × (slice_get (o ∷ ps) c ≡ Some (Some k))) ⊎ ((c : ℕ) → slice_get (o ∷ ps) c ≡ Some (Some k) → ⊥)
-  go (inl h) r = inl (0, ap (λ (o : Option ℕ). Some o) h)
+  go (inl h) r = inl (0, rw h)
   go (inr h) (inl r) = inl (suc r.0, r.1)
   go (inr h) (inr r) = inr (none h r)
 
@@ -309,22 +286,21 @@ module _ (old new : Set) (good_old : WellFormed old) (good_new : WellFormed new)
   one_carried a b p q =
       ext_get_or (pos 0) a b (omega arith) (λ k lt. each k (omega arith) (search_in _ k))
     where
+      none_has : (k : ℕ) → k < length (device_cells new e)
+          → ((c : ℕ) → slice_get (device_partners old new d e) c ≡ Some (Some k) → has_cell (image_slots old d image) c ≡ false)
+          → get_or a k (pos 0) ≡ get_or b k (pos 0)
+      none_has k lt none = p.other k lt none ∙ sym (q.other k lt none)
+
       by_has : (k c : ℕ) → k < length (device_cells new e) → slice_get (device_partners old new d e) c ≡ Some (Some k) → (h : Bool)
           → has_cell (image_slots old d image) c ≡ h → get_or a k (pos 0) ≡ get_or b k (pos 0)
       by_has k c lt f true h = p.taken c k f h ∙ sym (q.taken c k f h)
-      by_has k c lt f false h =
-          let none : (c' : ℕ) → slice_get (device_partners old new d e) c' ≡ Some (Some k) → has_cell (image_slots old d image) c' ≡ false =
-          λ c' g. ap (has_cell (image_slots old d image)) ((device_paired old new good_old good_new i d e there).once c' c k g f) ∙ h in
-          p.other k lt none ∙ sym (q.other k lt none)
+      by_has k c lt f false h = none_has k lt (λ c' g. rw ((device_paired old new good_old good_new i d e there).once c' c k g f) h)
 
       each : (k : ℕ) → k < length (device_cells new e) → (((c : ℕ) × (slice_get (device_partners old new d e) c ≡ Some (Some k)))
           ⊎ ((c : ℕ) → slice_get (device_partners old new d e) c ≡ Some (Some k) → ⊥))
           → get_or a k (pos 0) ≡ get_or b k (pos 0)
       each k lt (inl h) = by_has k h.0 lt h.1 _ refl
-      each k lt (inr h) =
-          let none : (c : ℕ) → slice_get (device_partners old new d e) c ≡ Some (Some k) → has_cell (image_slots old d image) c ≡ false =
-          λ c g. absurd (h c g) in
-          p.other k lt none ∙ sym (q.other k lt none)
+      each k lt (inr h) = none_has k lt (λ c g. absurd (h c g))
 
 pub carried_stands : CarriedLaw
 carried_stands old new good_old good_new i k d e at_i at_k image versions numbers carried =

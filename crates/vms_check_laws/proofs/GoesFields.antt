@@ -1,16 +1,15 @@
 -- What is carried of a description, cell by cell, and of structures, each by the earlier ones.
-use Rattle.vms_check_laws.proofs.Facade.{◌≡◌, ◌⊎◌, inl, inr, ℕ, zero, suc, ◌+◌, ◌*◌, ◌<◌, ◌≤◌, Bool, true, false, List, ◌∷◌, ◌++◌, length, get_or, replicate}
-use Rattle.vms_check_laws.proofs.Facade.{Option, Some, None, ℤ, pos, refl, sym, ap, ◌∙◌, arith, if◌then◌else◌, slice_get, cases_lt, eq-eqb, or-false, Kind}
-use Rattle.vms_check_laws.proofs.Facade.{Item, Num, Struct, Formula, Field, Desc, is_there, Cell, no_cell, Slot, Number, Rule, Meaning, no_meaning, no_parent}
-use Rattle.vms_check_laws.proofs.Facade.{times, counted, capacity_of, item_cells, item_size, field_cells, cells_from, desc_cells, elements_of, item_slots}
-use Rattle.vms_check_laws.proofs.Facade.{field_slots, slots_from, desc_slots, numbers_of, has_cell, size_same, field_size, elements_fit, ItemBelow, FieldsBelow}
-use Rattle.vms_check_laws.proofs.Facade.{AreCells, MeanAbove, IsAbove, item_above, field_above, MeanCells, item_are, field_are, named_inside, skip_long}
-use Rattle.vms_check_laws.proofs.Facade.{stands_behind, names_append, cells_in, presence, Entry, entry_of, present_from, same_kind, Carrier, no_carrier}
-use Rattle.vms_check_laws.proofs.Facade.{defaults, carry_item, carry_items, carry_field, carry_next, carry_from, carry_desc, default_field, entries_left}
-use Rattle.vms_check_laws.proofs.Facade.{Pairer, no_pairer, unpaired, item_partners, array_partners, field_partners, fields_left, partners_from, desc_partners}
-use Rattle.vms_check_laws.proofs.Facade.{Set, no_desc, meanings, struct_cells, WellFormed, first_at, struct_slots, struct_cells_at, meanings_above}
-use Rattle.vms_check_laws.proofs.Facade.{meanings_are, cells_first, carriers, carrying, pairer_of, pairers, part_partners, within, []}
-use Rattle.vms_check_laws.proofs.Presence.{there, presence_there}
+use Rattle.vms_check_laws.proofs.Facade.{◌≡◌, inl, inr, ℕ, zero, suc, ◌+◌, ◌*◌, ◌<◌, ◌≤◌, Bool, true, false, List, ◌∷◌, ◌++◌, length, get_or, replicate, Option}
+use Rattle.vms_check_laws.proofs.Facade.{Some, None, ℤ, pos, refl, sym, ap, ◌∙◌, arith, if◌then◌else◌, slice_get, cases_lt, eq-eqb, or-false, [], Kind, Item}
+use Rattle.vms_check_laws.proofs.Facade.{Num, Struct, Formula, Field, Desc, is_there, Cell, no_cell, Slot, Number, Rule, Meaning, no_meaning, no_parent, times}
+use Rattle.vms_check_laws.proofs.Facade.{counted, capacity_of, item_cells, item_size, field_cells, cells_from, desc_cells, elements_of, item_slots, field_slots}
+use Rattle.vms_check_laws.proofs.Facade.{slots_from, desc_slots, numbers_of, has_cell, size_same, field_size, elements_fit, ItemBelow, FieldsBelow, AreCells}
+use Rattle.vms_check_laws.proofs.Facade.{MeanAbove, IsAbove, item_above, field_above, MeanCells, item_are, field_are, named_inside, skip_long, stands_behind}
+use Rattle.vms_check_laws.proofs.Facade.{names_append, cells_in, presence, Entry, entry_of, present_from, same_kind, Carrier, no_carrier, defaults, carry_item}
+use Rattle.vms_check_laws.proofs.Facade.{carry_items, carry_field, carry_next, carry_from, carry_desc, default_field, entries_left, Pairer, no_pairer, unpaired}
+use Rattle.vms_check_laws.proofs.Facade.{item_partners, array_partners, field_partners, fields_left, partners_from, desc_partners, Set, no_desc, meanings}
+use Rattle.vms_check_laws.proofs.Facade.{struct_cells, WellFormed, first_at, struct_slots, struct_cells_at, meanings_above, meanings_are, cells_first, carriers}
+use Rattle.vms_check_laws.proofs.Facade.{carrying, pairer_of, pairers, part_partners, within}
 use Rattle.vms_check_laws.proofs.PairLists.{same_defaults, defaults_append, AreFrom, paired_none, one_cell, Goes, IsWithin, goes_absent, goes_alone}
 use Rattle.vms_check_laws.proofs.PairLists.{goes_append}
 use Rattle.vms_check_laws.proofs.PairDevices.{Structs, item_paired, array_paired, struct_below, struct_is, tables}
@@ -22,11 +21,10 @@ use Rattle.vms_check_laws.proofs.Parts.{carrier_at}
 within_of : (at : ℕ) (cells : List Cell) (slots : List Slot) → IsAbove at slots → AreCells (replicate at no_cell ++ cells) slots
     → IsWithin at (length cells) slots
 within_of at cells slots above are = record {
-  in_range = λ c e. (low c e (cases_lt c at), omega (arith, named_inside _ slots c are e, skip_long at cells));
-} where
-  low : (c : ℕ) → has_cell slots c ≡ true → (c < at) ⊎ (at ≤ c) → at ≤ c
-  low c e (inl lt) = let f = above.below c lt in absurd (cc)
-  low c e (inr le) = le
+  in_range = λ c e.
+      let low : at ≤ c = elim (cases_lt c at) [ inl lt ↦ let f = above.below c lt in absurd (cc) | inr le ↦ le ] in
+      (low, omega (arith, named_inside _ slots c are e, skip_long at cells));
+}
 
 module _ (structs : List Pairer) (cs : List Carrier) (ms : List Meaning) (y : List (List Cell)) (numbers : List ℤ) (k k' : ℕ) (above : MeanAbove ms)
     (means : MeanCells ms) where
@@ -63,8 +61,7 @@ module _ (structs : List Pairer) (cs : List Carrier) (ms : List Meaning) (y : Li
           let k_is : at' ≡ at' + r = omega arith in
           let z : at + 0 ≡ at = omega arith in
           let has : has_cell (Number at l caps ∷ []) (at + 0) ≡ true = rw (z, eq-eqb at at refl) in
-          let bad = f 0 (ap (λ (i : ℕ). Some (Some i)) k_is) in
-          absurd (cc)
+          absurd (cc (has, f 0 (ap (λ i. Some (Some i)) k_is)))
     one_goes l m caps caps' d d' at at' false same h w = goes_alone 1 refl w refl
 
     item_goes : (a b : Item) (caps caps' : List ℕ) (d d' : ℤ) (at at' : ℕ) → ItemBelow k a → ItemBelow k' b
@@ -109,10 +106,6 @@ module _ (structs : List Pairer) (cs : List Carrier) (ms : List Meaning) (y : Li
       field_within i p f =
           within_of (at + p) _ _ (field_above ms above all v own numbers i (at + p) f)
           (field_are ms means all v own numbers i (at + p) f _ (stands_behind (at + p) _))
-
-      -- a field that the older version doesn't have
-      not_there : (i p : ℕ) (f : Field) → presence v f.test f.since ≡ None → slots_of i p f ≡ []
-      not_there i p f e = rw (presence_there f.test f.since v own no_parent ∙ ap (λ (o : Option (Option Formula)). there o v own no_parent) e)
 
       -- two present fields of one position, of the older of which so many elements are in the bytes
       abbrev PairGoes : (i i' p p' : ℕ) → (f g : Field) → List Slot → ℕ → Type 0

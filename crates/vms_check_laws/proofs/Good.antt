@@ -1,10 +1,10 @@
 -- What well-formedness gives to the laws on pairs of sets.
 use Rattle.vms_check_laws.proofs.Facade.{◌≡◌, ℕ, suc, ◌+◌, Bool, true, List, ◌∷◌, length, Option, Some, None, refl, arith, ℤ, nat_lt, slice_get, and_parts}
-use Rattle.vms_check_laws.proofs.Facade.{and_from, slice_get-get_or, U8, U16, U32, Item, Num, Equal, Unused, Count, Counted, Own, Parent, Formula, AtLeast}
+use Rattle.vms_check_laws.proofs.Facade.{and_from, slice_get-get_or, [], U8, U16, U32, Item, Num, Equal, Unused, Count, Counted, Own, Parent, Formula, AtLeast}
 use Rattle.vms_check_laws.proofs.Facade.{Below, Not, And, Or, Field, Desc, Sub, Device, Set, no_desc, counted, names_well, nobody, is_steady, is_steady_in}
 use Rattle.vms_check_laws.proofs.Facade.{is_earlier_in, test_names_well, count_names_well, is_counting, defaults_well, counts_well, has_good_count, field_rules}
 use Rattle.vms_check_laws.proofs.Facade.{validation_rules, WellFormed, AllTrue, item_below, Clean, ranges, within, struct_clean, device_parts, sub_clean}
-use Rattle.vms_check_laws.proofs.Facade.{ItemBelow, defaults, []}
+use Rattle.vms_check_laws.proofs.Facade.{ItemBelow, defaults}
 use Rattle.vms_spec.specs.Sets.{Cell}
 use Rattle.vms_check_laws.proofs.Presence.{NamedRest, steady}
 use Rattle.vms_check_laws.proofs.Premises.{IsSingle, CountNamed, RulesNamed, ItemDefault, DefaultsGood}
@@ -93,7 +93,7 @@ module _ (k : ℕ) (d : Desc) where
   defaults_good i (f ∷ fs) h =
       let z : i + 0 ≡ i = omega arith in
       let here : FieldFacts k d i f = rw z at (h 0 f refl) in
-      (here.default, defaults_good (suc i) fs (λ j g e. (let s : i + suc j ≡ suc i + j = omega arith in rw (← s) (h (suc j) g e))))
+      (here.default, defaults_good (suc i) fs (λ j g e. (let s : i + suc j ≡ suc i + j = omega arith in rw s at (h (suc j) g e))))
 
   rules_named : (ts : List Formula) → ((i : ℕ) (t : Formula) → slice_get ts i ≡ Some t → AllTrue (validation_rules d t)) → RulesNamed (is_steady_in d) ts
   rules_named [] h = tt
@@ -102,18 +102,12 @@ module _ (k : ℕ) (d : Desc) where
   desc_good : (rules : List Bool) → Clean k d rules → DescGood k d
   desc_good rules c = record {
     old = λ i f e. let q = facts i f e in record { item = q.item; single = q.single; count = count_known d i f.count q.count };
-    new = λ i f e. let q = facts i f e in record {
-      item = q.item;
-      single = q.single;
-      count = count_named d i f.count q.count;
-      test = test_named d i f.test q.test;
-    };
-    earlier = λ i f e. let q = facts i f e in record {
-      item = q.item;
-      single = q.single;
-      count = count_earlier d i f.count q.count;
-      test = test_earlier d i f.test q.test;
-    };
+    new = λ i f e.
+        let q = facts i f e in
+        record { item = q.item; single = q.single; count = count_named d i f.count q.count; test = test_named d i f.test q.test };
+    earlier = λ i f e.
+        let q = facts i f e in
+        record { item = q.item; single = q.single; count = count_earlier d i f.count q.count; test = test_earlier d i f.test q.test };
     defaults = defaults_good 0 d.fields (λ j f e. (let z : 0 + j ≡ j = omega arith in rw z (facts j f e)));
     rules = rules_named d.validate c.validations;
   } where

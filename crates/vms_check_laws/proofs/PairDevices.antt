@@ -1,17 +1,17 @@
 -- The partners of a description's cells are cells of the other's, one for each; those of structures, each by the earlier ones.
 use Rattle.vms_check_laws.proofs.Facade.{◌≡◌, ℕ, zero, suc, ◌+◌, ◌*◌, ◌<◌, Bool, true, false, List, ◌∷◌, ◌++◌, length, get_or, Option, Some, None, ℤ, refl, sym}
-use Rattle.vms_check_laws.proofs.Facade.{arith, append_assoc, if◌then◌else◌, slice_get, Kind, Item, Num, Struct, Formula, Field, Desc, Cell, times, capacity_of}
-use Rattle.vms_check_laws.proofs.Facade.{item_cells, item_size, field_cells, cells_from, desc_cells, size_same, field_size, ItemBelow, FieldsBelow, presence}
-use Rattle.vms_check_laws.proofs.Facade.{Entry, entry_of, present_from, same_kind, Pairer, no_pairer, unpaired, item_partners, array_partners, field_partners}
-use Rattle.vms_check_laws.proofs.Facade.{fields_left, partners_from, desc_partners, ◌≤◌, ap, ◌∙◌, nat_lt, ltb-true, ltb-false, slice_get-get_or, Set, first}
-use Rattle.vms_check_laws.proofs.Facade.{no_desc, struct_cells, WellFormed, first_at, first_long, item_below, desc_cells_same, first_same, Clean, struct_clean}
-use Rattle.vms_check_laws.proofs.Facade.{pairer_of, pairers, part_partners, length-append, [], get_or_past, ◌⊎◌, inl, inr, flat_map, get_or_append_left}
-use Rattle.vms_check_laws.proofs.Facade.{get_or-append-add, length-replicate, Sub, Device, no_cell, device_cells, own_cells, sub_place, find_sub, sub_size}
+use Rattle.vms_check_laws.proofs.Facade.{arith, append_assoc, if◌then◌else◌, slice_get, ◌≤◌, ap, ◌∙◌, cases_lt, slice_get-get_or, length-append, []}
+use Rattle.vms_check_laws.proofs.Facade.{get_or_past, ◌⊎◌, inl, inr, flat_map, get_or_append_left, get_or-append-add, length-replicate, Kind, Item, Num, Struct}
+use Rattle.vms_check_laws.proofs.Facade.{Formula, Field, Desc, Cell, times, capacity_of, item_cells, item_size, field_cells, cells_from, desc_cells, size_same}
+use Rattle.vms_check_laws.proofs.Facade.{field_size, ItemBelow, FieldsBelow, presence, Entry, entry_of, present_from, same_kind, Pairer, no_pairer, unpaired}
+use Rattle.vms_check_laws.proofs.Facade.{item_partners, array_partners, field_partners, fields_left, partners_from, desc_partners, Set, first, no_desc}
+use Rattle.vms_check_laws.proofs.Facade.{struct_cells, WellFormed, first_at, first_long, item_below, desc_cells_same, first_same, Clean, struct_clean}
+use Rattle.vms_check_laws.proofs.Facade.{pairer_of, pairers, part_partners, Sub, Device, no_cell, device_cells, own_cells, sub_place, find_sub, sub_size}
 use Rattle.vms_check_laws.proofs.Facade.{sub_place_up, device_parts, sub_clean, sub_found, PartnersLaw, ArePartners, sub_partners, named_partners}
 use Rattle.vms_check_laws.proofs.Facade.{device_partners}
 use Rattle.vms_check_laws.proofs.Premises.{kinds_same, by_less, fields_below}
-use Rattle.vms_check_laws.proofs.PairLists.{AreFrom, IsPair, paired_none, paired_append, paired_behind, paired_skip, one_cell, IsBehind, at_left, at_right}
-use Rattle.vms_check_laws.proofs.PairLists.{at_none, before_or_behind, IsOnce, Apart, once_append}
+use Rattle.vms_check_laws.proofs.PairLists.{AreFrom, IsPair, paired_none, paired_append, paired_behind, paired_skip, one_cell, IsBehind, at_left}
+use Rattle.vms_check_laws.proofs.PairLists.{at_none, before_or_behind, behind_at, IsOnce, Apart, once_append}
 use Rattle.vms_check_laws.proofs.SubParts.{found, part_in, part_number, one_part, StandsIn, all_long, stands_in}
 
 -- ---- the present fields of the other side are in its cells
@@ -64,7 +64,7 @@ module _ (structs : List Pairer) (x y : List (List Cell)) (k : ℕ) (table : Str
     pair zero n e = let s : at ≡ n = cc in record { r = 0; is = omega arith; inside = omega arith; kind = kinds_same l m same }
     pair (suc c) n e = absurd (cc)
 
-    both : (b c n : ℕ) → slice_get (Some at ∷ []) b ≡ Some (Some n) → slice_get (Some at ∷ []) c ≡ Some (Some n) → b ≡ c
+    both : IsOnce (Some at ∷ [])
     both zero zero n e f = refl
     both _ _ n e f = absurd (cc)
   one_pair l m caps caps' d d' at false same = paired_none _ _ at 1 refl
@@ -124,20 +124,16 @@ module _ (set : Set) (well : WellFormed set) where
   struct_below j lt = below_of j _ _ (struct_clean set well j (get_or set.structs j no_desc) (slice_get-get_or set.structs j no_desc lt))
 
   pub struct_is : (j : ℕ) → get_or (struct_cells set) j [] ≡ desc_cells (struct_cells set) (get_or set.structs j no_desc)
-  struct_is j = go (nat_lt j (length set.structs)) refl where
-    go : (b : Bool) → nat_lt j (length set.structs) ≡ b → get_or (struct_cells set) j [] ≡ desc_cells (struct_cells set) (get_or set.structs j no_desc)
-    go true e =
-        let ds = set.structs in
-        let k = length set.structs in
-        let lt : j < k = ltb-true j k e in
-        first_at desc_cells ds [] k j lt
-        ∙ desc_cells_same j (first desc_cells ds j) (first desc_cells ds k) (λ i l. first_same desc_cells ds [] j k i (omega arith) l) (get_or ds j no_desc)
-        (struct_below j lt)
-    go false e =
-        let k = length set.structs in
-        let le : k ≤ j = ltb-false j k e in
-        let long = first_long desc_cells set.structs k in
-        get_or_past _ j [] (omega arith) ∙ sym (ap (λ (d : Desc). desc_cells (struct_cells set) d) (get_or_past set.structs j no_desc le))
+  struct_is j =
+      let ds = set.structs in
+      let k = length ds in
+      elim (cases_lt j k) [
+        | inl lt ↦
+            first_at desc_cells ds [] k j lt
+            ∙ desc_cells_same j (first desc_cells ds j) (first desc_cells ds k) (λ i l. first_same desc_cells ds [] j k i (omega arith) l) (get_or ds j no_desc)
+            (struct_below j lt)
+        | inr le ↦ rw (get_or_past ds j no_desc le) (get_or_past _ j [] (omega (arith, first_long desc_cells ds k)))
+      ]
 
 -- ---- their partners
 
@@ -200,11 +196,9 @@ module _ (old new : Set) (good_old : WellFormed old) (good_new : WellFormed new)
     pub once : IsOnce partners
 
   no_sub : (s : Sub) → OneSub s (sub_partners old new e s None None)
-  no_sub s = record {
-    long = length-replicate (length (old_cells s)) None;
-    pairs = λ c k h. absurd (at_none (length (old_cells s)) c k h);
-    once = λ b c k h g. absurd (at_none (length (old_cells s)) b k h);
-  }
+  no_sub s =
+      let none = at_none (length (old_cells s)) in
+      record { long = length-replicate _ None; pairs = λ c k h. absurd (none c k h); once = λ b c k h g. absurd (none b k h) }
 
   pub one_sub : (j : ℕ) (s : Sub) → slice_get d.subs j ≡ Some s → OneSub s (named_partners old new e s)
   one_sub j s at_j = by_name _ refl where
@@ -225,15 +219,12 @@ module _ (old new : Set) (good_old : WellFormed old) (good_new : WellFormed new)
   names_of : (s s' : Sub) (c c' k : ℕ) → IsSubPair s c k → IsSubPair s' c' k → s.desc.name ≡ s'.desc.name
   names_of s s' c c' k p q =
       let same : p.l ≡ q.l = one_part new (own_cells new e) e.subs p.l q.l k p.t q.t p.there q.there (omega arith) (omega arith) (omega arith) (omega arith) in
-      let subs_same : Some p.t ≡ Some q.t = sym p.there ∙ ap (slice_get e.subs) same ∙ q.there in
       let one : p.t ≡ q.t = cc in
-      sym p.name_is ∙ ap (λ (u : Sub). u.desc.name) one ∙ q.name_is
+      cc
 
   distinct : (m m' : ℕ) (s s' : Sub) → slice_get d.subs m ≡ Some s → slice_get d.subs m' ≡ Some s' → s.desc.name ≡ s'.desc.name → m ≡ m'
   distinct m m' s s' f f' n =
-      let same : Some m ≡ Some m' =
-      sym (sub_found old good_old i m d s at_i f) ∙ ap (λ (name : List ℕ). find_sub 0 d.subs name) n ∙ sub_found old good_old i m' d s' at_i f' in
-      cc
+      cc (sub_found old good_old i m d s at_i f, sub_found old good_old i m' d s' at_i f')
 
   -- ---- the device
 
@@ -269,7 +260,7 @@ module _ (old new : Set) (good_old : WellFormed old) (good_new : WellFormed new)
       record { stands = w; pair = (one_sub w.m w.sub w.there).pairs w.c k w.here }
 
   sub_pair : (c k : ℕ) (b : IsBehind (length ps) c) → slice_get (ps ++ qs) c ≡ Some (Some k) → InSub b.more k
-  sub_pair c k b f = in_sub b.more k (sym (at_right ps qs b.more) ∙ rw b.is at f)
+  sub_pair c k b f = in_sub b.more k (behind_at ps qs c b f)
 
   once_in : IsOnce qs
   once_in b c k f g =
@@ -278,12 +269,9 @@ module _ (old new : Set) (good_old : WellFormed old) (good_new : WellFormed new)
       let v = x.stands in
       let w = y.stands in
       let same : v.m ≡ w.m = distinct v.m w.m v.sub w.sub v.there w.there (names_of v.sub w.sub v.c w.c k x.pair y.pair) in
-      let subs_same : Some v.sub ≡ Some w.sub = sym v.there ∙ ap (slice_get d.subs) same ∙ w.there in
       let one : v.sub ≡ w.sub = cc in
-      let here : slice_get (named_partners old new e w.sub) v.c ≡ Some (Some k) = rw one at v.here in
-      let cells_same : v.c ≡ w.c = (one_sub w.m w.sub w.there).once v.c w.c k here w.here in
-      let places : sub_place old (own_cells old d) d.subs v.m ≡ sub_place old (own_cells old d) d.subs w.m = ap (sub_place old (own_cells old d) d.subs) same in
-      omega arith
+      let cells_same : v.c ≡ w.c = (one_sub w.m w.sub w.there).once v.c w.c k (rw one at v.here) w.here in
+      omega (arith, ap (sub_place old (own_cells old d) d.subs) same)
 
   kinds : (c k : ℕ) → slice_get (ps ++ qs) c ≡ Some (Some k) → (c < length ps) ⊎ IsBehind (length ps) c
       → (k < length (device_cells new e)) × ((get_or (device_cells old d) c no_cell).kind ≡ (get_or (device_cells new e) k no_cell).kind)
@@ -308,16 +296,13 @@ module _ (old new : Set) (good_old : WellFormed old) (good_new : WellFormed new)
       get_or-append-add us (flat_map new_cells e.subs) (h'.q + p.r) no_cell
       ∙ part_number new new_cells (own_cells new e) e.subs p.l p.t h' no_cell p.r p.inside in
       let kind : (get_or (device_cells old d) (length xs + (h.q + w.c)) no_cell).kind ≡ (get_or (device_cells new e) (length us + (h'.q + p.r)) no_cell).kind =
-      rw (before, after) p.kind in (
-        omega (arith, length-append us (flat_map new_cells e.subs)),
-        ap (λ (n : ℕ). (get_or (device_cells old d) n no_cell).kind) c_is ∙ kind ∙ sym (ap (λ (n : ℕ). (get_or (device_cells new e) n no_cell).kind) k_is),
-      )
+      rw (before, after) p.kind in
+      (omega (arith, length-append us (flat_map new_cells e.subs)), rw (← c_is, ← k_is) at kind)
 
   apart_own : Apart ps qs
   apart_own b c k lt behind f g =
-      let p = own_pair b k lt f in
       let z = sub_pair c k behind g in
-      omega (arith, sub_place_up new (own_cells new e) e.subs z.pair.l)
+      omega (arith, own_pair b k lt f, sub_place_up new (own_cells new e) e.subs z.pair.l)
 
   pub device_paired : ArePartners (device_cells old d) (device_cells new e) (device_partners old new d e)
   unfolding device_partners

@@ -1,8 +1,8 @@
 -- Partners of cells among the cells from a place on; numbers that are in the bytes, or at their defaults.
 use Rattle.vms_check_laws.proofs.Facade.{◌≡◌, ◌⊎◌, inl, inr, ℕ, zero, suc, ◌+◌, ◌-◌, ◌<◌, ◌≤◌, List, ◌∷◌, ◌++◌, length, get_or, replicate, Option, Some, None}
-use Rattle.vms_check_laws.proofs.Facade.{refl, sym, ap, ◌∙◌, arith, slice_get, get_or_append_left, get_or-append-add, length-replicate, cases_lt, Cell, no_cell}
-use Rattle.vms_check_laws.proofs.Facade.{ℤ, pos, true, length-append, length-map, eq-eqb, Kind, Item, Num, Slot, Number, item_cells, has_cell, has_left}
-use Rattle.vms_check_laws.proofs.Facade.{has_right, defaults, Bool, if◌then◌else◌, [], false, ◌||◌, or-false, or_parts, false_from_ne_true, slice_get_within}
+use Rattle.vms_check_laws.proofs.Facade.{refl, sym, ap, ◌∙◌, arith, slice_get, get_or_append_left, get_or-append-add, length-replicate, cases_lt, ℤ, pos, true}
+use Rattle.vms_check_laws.proofs.Facade.{length-append, length-map, eq-eqb, Bool, if◌then◌else◌, [], false, ◌||◌, or-false, or_parts, false_from_ne_true}
+use Rattle.vms_check_laws.proofs.Facade.{slice_get_within, Cell, no_cell, Kind, Item, Num, Slot, Number, item_cells, has_cell, has_left, has_right, defaults}
 use Rattle.vms_check_laws.proofs.Facade.{or_second, names_append, defaults_at, defaults_long}
 
 abbrev pub one_cell : Kind → List ℕ → ℤ → List Cell
@@ -54,11 +54,8 @@ at_none (suc n) (suc c) k e = at_none n c k e
 -- ---- joined
 
 pub paired_none : (cells others : List Cell) (at n : ℕ) → n ≡ length cells → AreFrom cells others at (replicate n None)
-paired_none cells others at n e = record {
-  long = length-replicate n None ∙ e;
-  pairs = λ c k h. absurd (at_none n c k h);
-  once = λ b c k h g. absurd (at_none n b k h);
-}
+paired_none cells others at n e =
+    record { long = length-replicate n None ∙ e; pairs = λ c k h. absurd (at_none n c k h); once = λ b c k h g. absurd (at_none n b k h) }
 
 -- in the first list, or in the second by so much
 pub record IsBehind (n c : ℕ) : Type 0 where
@@ -66,63 +63,44 @@ pub record IsBehind (n c : ℕ) : Type 0 where
   pub is : c ≡ n + more
 
 pub before_or_behind : (n c : ℕ) → (c < n) ⊎ IsBehind n c
-before_or_behind n c = go (cases_lt c n) where
-  go : (c < n) ⊎ (n ≤ c) → (c < n) ⊎ IsBehind n c
-  go (inl lt) = inl lt
-  go (inr le) = inr (record { more = c - n; is = omega arith })
+before_or_behind n c = elim (cases_lt c n) [ inl lt ↦ inl lt | inr le ↦ inr (record { more = c - n; is = omega arith }) ]
 
 -- no number is the partner of one before and of one after
 abbrev pub Apart : List (Option ℕ) → List (Option ℕ) → Type 0
 Apart p q = (b c k : ℕ) → b < length p → IsBehind (length p) c → slice_get (p ++ q) b ≡ Some (Some k) → slice_get (p ++ q) c ≡ Some (Some k) → ⊥
 
-module _ (p q : List (Option ℕ)) (first : IsOnce p) (second : IsOnce q) (apart : Apart p q) where
-  once_either : (b c k : ℕ) → slice_get (p ++ q) b ≡ Some (Some k) → slice_get (p ++ q) c ≡ Some (Some k) → (b < length p) ⊎ IsBehind (length p) b
-      → (c < length p) ⊎ IsBehind (length p) c → b ≡ c
-  once_either b c k e f (inl lb) (inl lc) = first b c k (sym (at_left p q b lb) ∙ e) (sym (at_left p q c lc) ∙ f)
-  once_either b c k e f (inl lb) (inr dc) = absurd (apart b c k lb dc e f)
-  once_either b c k e f (inr db) (inl lc) = absurd (apart c b k lc db f e)
-  once_either b c k e f (inr db) (inr dc) =
-      omega (
-        arith,
-        second db.more dc.more k (sym (at_right p q db.more) ∙ ap (slice_get (p ++ q)) (sym db.is) ∙ e)
-            (sym (at_right p q dc.more) ∙ ap (slice_get (p ++ q)) (sym dc.is) ∙ f),
-      )
+-- an element of the second list
+pub behind_at : {A : Type 0} (xs ys : List A) (c : ℕ) (b : IsBehind (length xs) c) {o : Option A} → slice_get (xs ++ ys) c ≡ o → slice_get ys b.more ≡ o
+behind_at xs ys c b e = rw (b.is, at_right xs ys b.more) at e
 
-  pub once_append : IsOnce (p ++ q)
-  once_append b c k e f = once_either b c k e f (before_or_behind _ b) (before_or_behind _ c)
+pub once_append : (p q : List (Option ℕ)) → IsOnce p → IsOnce q → Apart p q → IsOnce (p ++ q)
+once_append p q first second apart b c k e f = either (before_or_behind _ b) (before_or_behind _ c) where
+  either : (b < length p) ⊎ IsBehind (length p) b → (c < length p) ⊎ IsBehind (length p) c → b ≡ c
+  either (inl lb) (inl lc) = first b c k (sym (at_left p q b lb) ∙ e) (sym (at_left p q c lc) ∙ f)
+  either (inl lb) (inr dc) = absurd (apart b c k lb dc e f)
+  either (inr db) (inl lc) = absurd (apart c b k lc db f e)
+  either (inr db) (inr dc) = omega (arith, second db.more dc.more k (behind_at p q b db e) (behind_at p q c dc f))
 
 module _ (xs ys us vs : List Cell) (at : ℕ) (p q : List (Option ℕ)) (h : AreFrom xs us at p) (g : AreFrom ys vs (at + length us) q) where
   pair_left : (c k : ℕ) → c < length p → slice_get (p ++ q) c ≡ Some (Some k) → IsPair xs us at c k
   pair_left c k lt e = h.pairs c k (sym (at_left p q c lt) ∙ e)
 
   pair_right : (c k : ℕ) (b : IsBehind (length p) c) → slice_get (p ++ q) c ≡ Some (Some k) → IsPair ys vs (at + length us) b.more k
-  pair_right c k b e = g.pairs b.more k (sym (at_right p q b.more) ∙ ap (slice_get (p ++ q)) (sym b.is) ∙ e)
+  pair_right c k b e = g.pairs b.more k (behind_at p q c b e)
 
   pair_either : (c k : ℕ) → slice_get (p ++ q) c ≡ Some (Some k) → (c < length p) ⊎ IsBehind (length p) c → IsPair (xs ++ ys) (us ++ vs) at c k
   pair_either c k e (inl lt) =
       let i = pair_left c k lt e in
-      record {
-        r = i.r;
-        is = i.is;
-        inside = omega (arith, length-append us vs);
-        kind = rw (get_or_append_left xs ys no_cell c (omega arith), get_or_append_left us vs no_cell i.r i.inside) i.kind;
-      }
+      let kind = rw (← (get_or_append_left xs ys no_cell c (omega arith)), ← (get_or_append_left us vs no_cell i.r i.inside)) at i.kind in
+      record { r = i.r; is = i.is; inside = omega (arith, length-append us vs); kind = kind }
   pair_either c k e (inr b) =
       let i = pair_right c k b e in
-      let place : c ≡ length xs + b.more = omega arith in
-      record {
-        r = length us + i.r;
-        is = omega arith;
-        inside = omega (arith, length-append us vs);
-        kind = ap (λ (n : ℕ). (get_or (xs ++ ys) n no_cell).kind) place
-            ∙ rw (get_or-append-add xs ys b.more no_cell, get_or-append-add us vs i.r no_cell) i.kind;
-      }
+      let place : length xs + b.more ≡ c = omega arith in
+      let kind = rw (← (get_or-append-add xs ys b.more no_cell), ← (get_or-append-add us vs i.r no_cell), place) at i.kind in
+      record { r = length us + i.r; is = omega arith; inside = omega (arith, length-append us vs); kind = kind }
 
   apart : Apart p q
-  apart b c k lt d e f =
-      let i = pair_left b k lt e in
-      let j = pair_right c k d f in
-      omega arith
+  apart b c k lt d e f = omega (arith, pair_left b k lt e, pair_right c k d f)
 
   joined : AreFrom (xs ++ ys) (us ++ vs) at (p ++ q)
   joined = record {
@@ -173,28 +151,16 @@ settled_append {s} {t} {at} {next} {xs} {ys} {zs} {us} size h e k = record { eac
       → (has_cell (s ++ t) (at + c) ≡ true) ⊎ (get_or (zs ++ us) c (pos 0) ≡ get_or (defaults (xs ++ ys)) c (pos 0))
   by c lt (inl less) =
       rw (defaults_append, get_or_append_left zs us (pos 0) c less, get_or_append_left (defaults xs) (defaults ys) (pos 0) c (omega (arith, sizes)))
-      (elim (h.each c less) [
-        | inl has ↦ inl (has_left s t (at + c) has)
-        | inr is ↦ inr is
-      ])
+      (elim (h.each c less) [ inl has ↦ inl (has_left s t (at + c) has) | inr is ↦ inr is ])
   by c lt (inr b) =
       let place : next + b.more ≡ at + (length (defaults xs) + b.more) = omega (arith, sizes) in
       rw (defaults_append, b.is, get_or-append-add zs us b.more (pos 0), ← sizes, get_or-append-add (defaults xs) (defaults ys) b.more (pos 0))
-      (elim (k.each b.more (omega (arith, length-append zs us))) [
-        | inl has ↦ inl (has_right s t _ (rw place at has))
-        | inr is ↦ inr is
-      ])
+      (elim (k.each b.more (omega (arith, length-append zs us))) [ inl has ↦ inl (has_right s t _ (rw place at has)) | inr is ↦ inr is ])
 
 pub settled_more : (s t : List Slot) (at : ℕ) (xs : List Cell) (zs : List ℤ) → Settled s at xs zs → Settled (s ++ t) at xs zs
 settled_more s t at xs zs h = record {
-  each = λ c lt. elim (h.each c lt) [
-    | inl has ↦ inl (has_left s t (at + c) has)
-    | inr is ↦ inr is
-  ];
+  each = λ c lt. elim (h.each c lt) [ inl has ↦ inl (has_left s t (at + c) has) | inr is ↦ inr is ];
 }
-
-pub settled_at : (s : List Slot) (at at' : ℕ) (xs : List Cell) (zs : List ℤ) → at ≡ at' → Settled s at xs zs → Settled s at' xs zs
-settled_at s at at' xs zs e h = rw e at h
 
 -- defaults don't depend on what is counted
 pub same_defaults : (y : List (List Cell)) (j : Item) (caps caps' : List ℕ) (d : ℤ) → defaults (item_cells y j caps d) ≡ defaults (item_cells y j caps' d)
@@ -280,46 +246,40 @@ module _ (cells_a cells_b others_a others_b : List Cell) (numbers : List ℤ) (x
       let pair = h.paired.pairs c (at' + r) place in
       get_or_append_left s t (pos 0) r (omega arith) ∙ h.taken c r place (sym (has_first (at + c) (omega arith)) ∙ f)
   taken_at c r e f (inr b) =
-      let place : slice_get q b.more ≡ Some (Some (at' + r)) = sym (at_right p q b.more) ∙ ap (slice_get (p ++ q)) (sym b.is) ∙ e in
+      let place = behind_at p q c b e in
       let pair = g.paired.pairs b.more (at' + r) place in
       let r_is : r ≡ length s + pair.r = omega arith in
-      let k_is : at' + r ≡ (at' + length others_a) + pair.r = omega arith in
       let c_is : at + c ≡ next + b.more = omega arith in
-      ap (λ (i : ℕ). get_or (s ++ t) i (pos 0)) r_is ∙ get_or-append-add s t pair.r (pos 0) ∙ g.taken b.more pair.r (rw (← k_is) place)
-      (ap (has_cell ys) (sym c_is) ∙ sym (has_second (at + c) (omega arith)) ∙ f) ∙ ap (λ (i : ℕ). get_or numbers i (pos 0)) (sym c_is)
+      let has : has_cell ys (next + b.more) ≡ true = rw (has_second (at + c) (omega arith), c_is) at f in
+      rw (r_is, get_or-append-add s t pair.r (pos 0), c_is) (g.taken b.more pair.r (rw (← pair.is) place) has)
 
   other_at : (r : ℕ) → r < length (others_a ++ others_b) → ((c : ℕ) → HasIt c r → has_cell (xs ++ ys) (at + c) ≡ false)
       → (r < length others_a) ⊎ IsBehind (length others_a) r → get_or (s ++ t) r (pos 0) ≡ (get_or (others_a ++ others_b) r no_cell).default
   other_at r lt f (inl less) =
-      get_or_append_left s t (pos 0) r (omega arith)
-      ∙ h.other r less (λ c e. (or_parts _ _ (sym (names_append xs ys (at + c)) ∙ f c (at_left p q c (in_p c e) ∙ e))).0)
-      ∙ sym (ap (λ (x : Cell). x.default) (get_or_append_left others_a others_b no_cell r less))
-    where
-      in_p : (c : ℕ) → slice_get p c ≡ Some (Some (at' + r)) → c < length p
-      in_p c e = slice_get_within p c (Some (at' + r)) e
+      rw (get_or_append_left s t (pos 0) r (omega arith), get_or_append_left others_a others_b no_cell r less)
+      (h.other r less (λ c e.
+      (or_parts _ _ (sym (names_append xs ys (at + c)) ∙ f c (at_left p q c (slice_get_within p c (Some (at' + r)) e) ∙ e))).0))
   other_at r lt f (inr b) =
-      let r_is : r ≡ length s + b.more = omega arith in
-      ap (λ (i : ℕ). get_or (s ++ t) i (pos 0)) r_is ∙ get_or-append-add s t b.more (pos 0)
-      ∙ g.other b.more (omega (arith, length-append others_a others_b)) (λ c e.
+      let s_is : length s ≡ length others_a = omega arith in
       let k_is : (at' + length others_a) + b.more ≡ at' + r = omega arith in
+      let none : (c : ℕ) → slice_get q c ≡ Some (Some ((at' + length others_a) + b.more)) → has_cell ys (next + c) ≡ false = λ c e.
       let c_is : at + (length p + c) ≡ next + c = omega arith in
-      ap (has_cell ys) (sym c_is) ∙ sym (has_second _ (omega arith)) ∙ f (length p + c) (at_right p q c ∙ rw (← k_is) e))
-      ∙ sym (ap (λ (x : Cell). x.default) (ap (λ (i : ℕ). get_or (others_a ++ others_b) i no_cell) b.is ∙ get_or-append-add others_a others_b b.more no_cell))
+      rw (has_second (at + (length p + c)) (omega arith), c_is) at (f (length p + c) (at_right p q c ∙ rw k_is at e)) in
+      rw (b.is, get_or-append-add others_a others_b b.more no_cell, ← s_is, get_or-append-add s t b.more (pos 0))
+      (g.other b.more (omega (arith, length-append others_a others_b)) none)
 
   runs_joined : Goes (cells_a ++ cells_b) (others_a ++ others_b) numbers (xs ++ ys) at at' (p ++ q) (s ++ t)
-  runs_joined =
-      record {
-        paired = paired;
-        within = rw length-append (within_append at _ _ xs ys h.within g.within);
-        long = omega (arith, length-append s t, length-append others_a others_b);
-        taken = λ c r e f. taken_at c r e f (before_or_behind _ c);
-        other = λ r lt f. other_at r lt f (before_or_behind _ r);
-      }
+  runs_joined = record {
+    paired = paired;
+    within = rw length-append (within_append at _ _ xs ys h.within g.within);
+    long = omega (arith, length-append s t, length-append others_a others_b);
+    taken = λ c r e f. taken_at c r e f (before_or_behind _ c);
+    other = λ r lt f. other_at r lt f (before_or_behind _ r);
+  }
 
 -- one run after the other
-pub goes_append : {cells_a cells_b others_a others_b : List Cell} {numbers : List ℤ} {xs ys : List Slot} {at at' next next' : ℕ} {p q : List
-    (Option ℕ)} {s t : List ℤ}
-    → Goes cells_a others_a numbers xs at at' p s
+pub goes_append : {cells_a cells_b others_a others_b : List Cell} {numbers : List ℤ} {xs ys : List Slot} {at at' next next' : ℕ} {p q : List (Option ℕ)}
+    {s t : List ℤ} → Goes cells_a others_a numbers xs at at' p s
     → next ≡ at + length cells_a → next' ≡ at' + length others_a → Goes cells_b others_b numbers ys next next' q t
     → Goes (cells_a ++ cells_b) (others_a ++ others_b) numbers (xs ++ ys) at at' (p ++ q) (s ++ t)
 goes_append h e e' g = runs_joined _ _ _ _ _ _ _ _ _ _ _ _ _ h (rw (e, e') at g)

@@ -1,9 +1,9 @@
 -- Structures on both sides, by induction on the number of the newer one, and parts of devices.
-use Rattle.vms_check_laws.proofs.Facade.{cells_in, ◌≡◌, ℕ, ◌<◌, ◌≤◌, List, length, get_or, None, sym, ap, ◌∙◌, arith, ℤ, Desc, no_desc, Cell, Meaning}
-use Rattle.vms_check_laws.proofs.Facade.{no_meaning, meanings, desc_cells, first_long, struct_slots, struct_cells_at, Comparer, no_comparer, comparer_of}
-use Rattle.vms_check_laws.proofs.Facade.{comparers, Carrier, no_carrier, carrier_of, carriers, FitsAt, [], first_at, Part, Set, struct_cells, desc_slots}
-use Rattle.vms_check_laws.proofs.Facade.{WellFormed, compare_desc, comparing, carry_desc, carrying, cells_first, Holds, ◌⊎◌, inl, inr, zero, suc, ◌+◌, ◌∷◌, map}
-use Rattle.vms_check_laws.proofs.Facade.{Option, Some, refl, flat_map, slice_get, Sub, Device, Image, IsVersionOf, AreVersionsOf, RulesHold, sub_slots}
+use Rattle.vms_check_laws.proofs.Facade.{◌≡◌, ℕ, ◌<◌, ◌≤◌, List, length, get_or, None, sym, ap, ◌∙◌, arith, ℤ, [], ◌⊎◌, inl, inr, zero, suc, ◌+◌, ◌∷◌, map}
+use Rattle.vms_check_laws.proofs.Facade.{Option, Some, refl, flat_map, slice_get, cells_in, Desc, no_desc, Cell, Meaning, no_meaning, meanings, desc_cells}
+use Rattle.vms_check_laws.proofs.Facade.{first_long, struct_slots, struct_cells_at, Comparer, no_comparer, comparer_of, comparers, Carrier, no_carrier}
+use Rattle.vms_check_laws.proofs.Facade.{carrier_of, carriers, FitsAt, first_at, Part, Set, struct_cells, desc_slots, WellFormed, compare_desc, comparing}
+use Rattle.vms_check_laws.proofs.Facade.{carry_desc, carrying, cells_first, Holds, Sub, Device, Image, IsVersionOf, AreVersionsOf, RulesHold, sub_slots}
 use Rattle.vms_check_laws.proofs.Facade.{sub_place, came_slots, carried_sub, defaults, rules_append}
 use Rattle.vms_spec.specs.declared.Part.TheVariants as parts
 use Rattle.vms_check_laws.proofs.Premises.{Table, by_less, Meets, fields_below, Reads, GoodCells, FitCells, fit_append, fit_defaults, fit_length}
@@ -12,7 +12,7 @@ use Rattle.vms_check_laws.proofs.Descriptions.{desc_meets, sides}
 use Rattle.vms_check_laws.proofs.FieldsRead.{fields_sized}
 use Rattle.vms_check_laws.proofs.Fitting.{good_fields}
 use Rattle.vms_check_laws.proofs.PairLists.{Settled, settled_defaults, settled_append, settled_empty}
-use Rattle.vms_check_laws.proofs.Segments.{holds_left, holds_right, holds_at}
+use Rattle.vms_check_laws.proofs.Segments.{holds_left, holds_right}
 use Rattle.vms_check_laws.proofs.Good.{structs_good}
 
 abbrev pub meanings_of : List Desc → List Meaning
@@ -34,7 +34,7 @@ module _ (x y : List (List Cell)) (olds news : List Desc) where
       → get_or (comparers x y olds news k) j no_comparer ≡ comparer_of (comparers x y olds news j) x y olds j (get_or news j no_desc)
   comparer_at k j lt =
       let row = λ (earlier : List Comparer) (d : Desc). comparer_of earlier x y olds (length earlier) d in
-      first_at row news no_comparer k j lt ∙ ap (λ (q : ℕ). comparer_of (comparers x y olds news j) x y olds q (get_or news j no_desc)) (first_long row news j)
+      first_at row news no_comparer k j lt ∙ rw (first_long row news j)
 
   pub carrier_at : (k j : ℕ) → j < k → get_or (carriers x y olds news k) j no_carrier ≡ carrier_of (carriers x y olds news j) x y olds (get_or news j no_desc)
   carrier_at k j lt = first_at (λ (earlier : List Carrier) (d : Desc). carrier_of earlier x y olds d) news no_carrier k j lt
@@ -133,10 +133,10 @@ module _ (old new : Set) (good_old : WellFormed old) (good_new : WellFormed new)
 
   -- the cells of structures, made either way
   to_meanings : (P : (x y : List (List Cell)) → Type 0) → P (struct_cells old) (struct_cells new) → P (cells_in ms) (cells_in ns)
-  to_meanings P h = rw (cells_first old.structs _) (rw (cells_first new.structs _) h)
+  to_meanings P h = rw (cells_first old.structs _, cells_first new.structs _) h
 
   pub to_cells : (P : (x y : List (List Cell)) → Type 0) → P (cells_in ms) (cells_in ns) → P (struct_cells old) (struct_cells new)
-  to_cells P h = rw (← (cells_first old.structs _)) (rw (← (cells_first new.structs _)) h)
+  to_cells P h = rw (← (cells_first old.structs _), ← (cells_first new.structs _)) h
 
   pub all_tables : (numbers numbers' : List ℤ)
       → Table (ks (cells_in ms) (cells_in ns)) (cs (cells_in ms) (cells_in ns)) ms ns numbers numbers' (length old.structs) (length new.structs)
@@ -219,7 +219,7 @@ module _ (old new : Set) (good_old : WellFormed old) (good_new : WellFormed new)
 
   next_place : (t : Sub) (ts : List Sub) (place : ℕ) → Stayed t ⊎ Came t → Holds numbers' place (flat_map carried_of (t ∷ ts))
       → Holds numbers' (place + length (sub_cells t)) (flat_map carried_of ts)
-  next_place t ts place f held = holds_at (ap (λ (n : ℕ). place + n) (one_size t f)) (holds_right _ held)
+  next_place t ts place f held = rw (one_size t f) at (holds_right (carried_of t) held)
 
   -- what is read of the subsections from one on, whose cells begin at a place
   pub record SubsRead (ts : List Sub) (place : ℕ) : Type 0 where
@@ -231,18 +231,14 @@ module _ (old new : Set) (good_old : WellFormed old) (good_new : WellFormed new)
       → SubsRead ts (place + length (sub_cells t)) → SubsRead (t ∷ ts) place
   one_reads t ts place (inl s) held size h =
       let first : Settled [] place (sub_cells t) (carried_of t) = rw s.numbers (settled_defaults [] place (sub_cells t)) in
-      record {
-        versions = rw s.came h.versions;
-        rules = rw s.came h.rules;
-        settled = rw s.came (settled_append size first (ap (λ (n : ℕ). place + n) (sym size)) h.settled);
-      }
+      record { versions = rw s.came h.versions; rules = rw s.came h.rules; settled = rw s.came (settled_append size first (omega arith) h.settled) }
   one_reads t ts place (inr c) held size h =
       let r = sub_reads t c place held in
       record {
         versions = rw c.came (c.within, h.versions);
         rules = rw c.came (rules_append (sub_slots new t c.version numbers' place)
             (came_slots new e numbers' (place + length (sub_cells t)) ts (map came_of ts)) (r.carries.rules c.rules) h.rules);
-        settled = rw c.came (settled_append size r.settled (ap (λ (n : ℕ). place + n) (sym size)) h.settled);
+        settled = rw c.came (settled_append size r.settled (omega arith) h.settled);
       }
 
   pub subs_read : (ts : List Sub) (place : ℕ) → Facts ts → Holds numbers' place (flat_map carried_of ts) → SubsRead ts place
@@ -254,7 +250,5 @@ module _ (old new : Set) (good_old : WellFormed old) (good_new : WellFormed new)
   pub sub_held : (ts : List Sub) (place l : ℕ) (t : Sub) → slice_get ts l ≡ Some t → Facts ts → Holds numbers' place (flat_map carried_of ts)
       → Holds numbers' (sub_place new place ts l) (carried_of t)
   sub_held [] place l t is h held = absurd (cc)
-  sub_held (u ∷ ts) place zero t is h held =
-      let same : u ≡ t = cc in
-      rw (← same) (holds_left _ held)
+  sub_held (u ∷ ts) place zero t is h held = let same : u ≡ t = cc in rw (← same) (holds_left _ held)
   sub_held (u ∷ ts) place (suc l) t is h held = sub_held ts (place + length (sub_cells u)) l t is h.1 (next_place u ts place h.0 held)

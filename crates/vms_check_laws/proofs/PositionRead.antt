@@ -1,10 +1,10 @@
 -- One position, and the first positions, of two descriptions anywhere in two sets: the structures by their numbers at one front, devices
 -- whose constants differ, and the sets' own cells.
-use Rattle.vms_check_laws.proofs.Facade.{cells_in, ◌≡◌, ℕ, List, ◌++◌, length, Some, ℤ, slice_get, Part, Device, Set, Desc, Cell, meanings, struct_cells}
-use Rattle.vms_check_laws.proofs.Facade.{desc_cells, Spells, zeroed, own_slots, WellFormed, present, position_from, comparers, carriers, FitsAt, inl, inr, zero}
-use Rattle.vms_check_laws.proofs.Facade.{suc, ◌+◌, ◌∷◌, refl, flat_map, is_earlier_in, Field, Meaning, numbers_of, field_slots, Entry, IsPartOf, IsRead}
-use Rattle.vms_check_laws.proofs.Facade.{PositionLaw, AlignedLaw, FrontAligns, []}
-use Rattle.vms_check_laws.proofs.Premises.{IsKnown, AreKnown, all_known, entries_slots, Two, Sides, OldFields}
+use Rattle.vms_check_laws.proofs.Facade.{◌≡◌, ℕ, List, ◌++◌, length, Some, ℤ, slice_get, inl, inr, zero, suc, ◌+◌, ◌∷◌, refl, flat_map, [], cells_in, Part}
+use Rattle.vms_check_laws.proofs.Facade.{Device, Set, Desc, Cell, meanings, struct_cells, desc_cells, Spells, zeroed, own_slots, WellFormed, present}
+use Rattle.vms_check_laws.proofs.Facade.{position_from, comparers, carriers, FitsAt, is_earlier_in, Field, Meaning, numbers_of, field_slots, Entry, IsPartOf}
+use Rattle.vms_check_laws.proofs.Facade.{IsRead, PositionLaw, AlignedLaw, FrontAligns}
+use Rattle.vms_check_laws.proofs.Premises.{IsKnown, AreKnown, all_known, entries_slots, PairGood, Two, Sides, OldFields}
 use Rattle.vms_check_laws.proofs.Counts.{old_fields, DescGood}
 use Rattle.vms_check_laws.proofs.Good.{device_good, sub_good}
 use Rattle.vms_check_laws.proofs.Parts.{to_cells, all_tables}
@@ -92,26 +92,19 @@ module _ (old new : Set) (good_old : WellFormed old) (good_new : WellFormed new)
   read_in p e f h =
       let k = known_at ms a.fields v numbers at es p e h.on_old (all_known ms a.fields v numbers at) in
       let k' = known_at ns b.fields v numbers' at' fs p f h.on_new (all_known ns b.fields v numbers' at') in
+      let pair : PairGood here.two e f = record { rules = h.rules; structs = h.structs } in
+      let old_f = plain h.fits e.index e.field k.field in
+      let new_f = good.earlier f.index f.field k'.field in
       (pair_reads here (is_earlier_in b f.index) e f
-      (record {
-        known = k;
-        known' = k';
-        good = record { rules = h.rules; structs = h.structs };
-        old = plain h.fits e.index e.field k.field;
-        new = good.earlier f.index f.field k'.field;
-        fits = k.fits h.fits;
-        agree = h.agree;
-      }) h.held).carries
+      (record { known = k; known' = k'; good = pair; old = old_f; new = new_f; fits = k.fits h.fits; agree = h.agree }) h.held).carries
 
   front_in : FrontAligns old new a b v part part' numbers numbers' at at' (cells_in ms) (cells_in ns)
   front_in p h =
       let first =
       good_first here.two p es fs h.on_old h.on_new (λ q e f lt x y. let d = h.paired q e f lt x y in record { rules = d.rules; structs = d.structs }) in
-      let own : ℕ → ℕ = λ i. numbers_of (cells_in ms) a numbers at i in
-      let own' : ℕ → ℕ = λ j. numbers_of (cells_in ns) b numbers' at' j in
       let aligned = front_aligns here good.earlier (plain h.fits) h.fits p es fs 0 0 first
       (first_state _ _ ms ns a b v v part part' numbers numbers' at _ _ (all_tables old new good_old good_new numbers numbers') at') in
-      rw (← (entries_flat ms a.fields v own numbers at _)) (rw (← (entries_flat ns b.fields v own' numbers' at' _)) aligned)
+      rw (entries_flat ms a.fields v, entries_flat ns b.fields v) at aligned
 
 pub position_stands : PositionLaw
 position_stands old new good_old good_new a b of_old of_new v part part' numbers numbers' at at' =

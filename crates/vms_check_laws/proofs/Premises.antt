@@ -1,13 +1,13 @@
 -- What is known of fields and structures on both sides: present fields paired by position, numbers that fit cells, and premises.
-use Rattle.vms_check_laws.proofs.Facade.{◌≡◌, ◌⊎◌, inl, inr, ℕ, Bool, true, List, ◌∷◌, Option, None, and_parts, Item, Desc, counted, in_field, Part, Entry}
-use Rattle.vms_check_laws.proofs.Facade.{same_rest, same_count, same_item, same_constant, is_covered, holds_as_much, absent_hold, bound, Comparer, failing_pair}
-use Rattle.vms_check_laws.proofs.Facade.{pair_rules, pair_structs, compare_fields, passes, ItemBelow, or_else_none, [], names_match, ◌&&◌, zero, suc, ◌+◌, ◌<◌}
-use Rattle.vms_check_laws.proofs.Facade.{◌++◌, length, get_or, refl, arith, ℤ, pos, Cell, no_cell, times, defaults, FitsCell, cells_in, ◌≤◌, Some, Equal}
-use Rattle.vms_check_laws.proofs.Facade.{Unused, Count, Counted, Formula, Field, Meaning, no_meaning, item_cells, names_well, nobody, is_one, no_comparer}
-use Rattle.vms_check_laws.proofs.Facade.{Carrier, no_carrier, Holds, FitsAt, Carries, Aligns, FieldsBelow, Slot, is_earlier_in, slice_get, Num, Filler, Fixed}
-use Rattle.vms_check_laws.proofs.Facade.{Kind, One, ap, cells_from, elements_of, entry_of, eqb-true, field_cells, here, if◌then◌else◌, is_there, item_slots}
-use Rattle.vms_check_laws.proofs.Facade.{kind_of, no_parent, presence, present_from, residue, same_kind, slots_from, sym, width, zeroed, ◌*◌, ◌∙◌, ◌==◌, U8}
-use Rattle.vms_check_laws.proofs.Facade.{U16, U32, U64, I8, I16, I32, I64, Timer, no_field, field_slots, place_of, kind_number, get_or_from_slice_get}
+use Rattle.vms_check_laws.proofs.Facade.{◌≡◌, ◌⊎◌, inl, inr, ℕ, Bool, true, List, ◌∷◌, Option, None, and_parts, [], ◌&&◌, zero, suc, ◌+◌, ◌<◌, ◌++◌, length}
+use Rattle.vms_check_laws.proofs.Facade.{get_or, refl, arith, ℤ, pos, ◌≤◌, Some, slice_get, eqb-true, if◌then◌else◌, ◌*◌, ◌∙◌, ◌==◌, get_or_from_slice_get}
+use Rattle.vms_check_laws.proofs.Facade.{Item, Desc, counted, in_field, Part, Entry, same_rest, same_count, same_item, same_constant, is_covered, holds_as_much}
+use Rattle.vms_check_laws.proofs.Facade.{absent_hold, bound, Comparer, failing_pair, pair_rules, pair_structs, compare_fields, passes, ItemBelow, or_else_none}
+use Rattle.vms_check_laws.proofs.Facade.{names_match, Cell, no_cell, times, defaults, FitsCell, cells_in, Equal, Unused, Count, Counted, Formula, Field}
+use Rattle.vms_check_laws.proofs.Facade.{Meaning, no_meaning, item_cells, names_well, nobody, is_one, no_comparer, Carrier, no_carrier, Holds, FitsAt, Carries}
+use Rattle.vms_check_laws.proofs.Facade.{Aligns, FieldsBelow, Slot, is_earlier_in, Num, Filler, Fixed, Kind, One, cells_from, elements_of, entry_of}
+use Rattle.vms_check_laws.proofs.Facade.{field_cells, here, is_there, item_slots, kind_of, no_parent, presence, present_from, residue, same_kind, slots_from}
+use Rattle.vms_check_laws.proofs.Facade.{width, zeroed, U8, U16, U32, U64, I8, I16, I32, I64, Timer, no_field, field_slots, place_of, kind_number}
 use Rattle.vms_spec.specs.Images.{FitCells as AreFit}
 use Rattle.vms_kinds.specs.declared.Kind.TheVariants.{Bool as Truth}
 use Rattle.vms_check_laws.proofs.Positioned.{if_is}
@@ -48,12 +48,11 @@ module _ (two : Two) where
 
   pub zip_of : (es fs : List Entry) → compare_fields ks a b v w part part' o n es fs ≡ None → Zip es fs
   zip_of [] [] h = tt
-  zip_of (e ∷ es) [] h = cc
-  zip_of [] (f ∷ fs) h = cc
   zip_of (e ∷ es) (f ∷ fs) h =
       let p = or_else_none _ _ h in
       let q = or_else_none _ _ p.1 in
       (record { rules = p.0; structs = q.0 }, zip_of es fs q.1)
+  zip_of _ _ h = cc
 
   -- new's unused bytes over old's constant or numbers, or rules 7 to 12
   pub record Matched (e f : Entry) : Type 0 where
@@ -256,7 +255,7 @@ kind_back U8 = refl
 kind_back _ = refl
 
 pub kinds_same : (k l : Kind) → same_kind k l ≡ true → k ≡ l
-kinds_same k l h = sym (kind_back k) ∙ ap kind_at (eqb-true (kind_number k) (kind_number l) h) ∙ kind_back l
+kinds_same k l h = cc (kind_back k, eqb-true (kind_number k) (kind_number l) h, kind_back l)
 
 -- ---- slots by entries
 
@@ -326,11 +325,10 @@ module _ (structs : List Meaning) (all : List Field) (v : ℕ) (numbers : List �
       let e : (base + p) + len ≡ base + (p + len) = omega arith in
       entry_known i p f _ _ refl (at_first (slice_get all) i items) (at_first place i places) (λ whole. fits_left _ (fits whole))
       (entries_known (suc i) (p + len) fs (one_on (slice_get all) i items)
-      (λ k. one_on place i places k ∙ ap (λ (j : ℕ). place_of (cells_in structs) all (suc i) j fs k) e)
+      (λ k. one_on place i places k ∙ rw e)
       (λ whole. fits_at (omega arith) (fits_right (field_cells (cells_in structs) all i f) (fits whole))))
 
   pub all_known : AreKnown (present_from (cells_in structs) all v 0 0 all)
   all_known =
       let z : base ≡ base + 0 = omega arith in
-      entries_known 0 0 all
-      (from_zero (slice_get all)) (λ k. from_zero place k ∙ ap (λ (j : ℕ). place_of (cells_in structs) all 0 j all k) z) (λ whole. fits_at z whole)
+      entries_known 0 0 all (from_zero (slice_get all)) (λ k. from_zero place k ∙ rw (← z)) (λ whole. fits_at z whole)

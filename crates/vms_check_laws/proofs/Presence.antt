@@ -1,12 +1,11 @@
 -- A field is there exactly where what its presence at a version leaves of the test holds. The same remaining tests have the same truth
 -- where the numbers that they name are the same. Small facts of two descriptions: what covers, and how long numbers are.
-use Rattle.vms_check_laws.proofs.Facade.{◌≡◌, ℕ, Bool, true, false, Option, Some, None, refl, sym, ◌∙◌, nat_le, if◌then◌else◌, Formula, truth, is_there}
-use Rattle.vms_check_laws.proofs.Facade.{Reduced, Known, Open, reduced, left_of, presence, truth_of, reduced_holds, not, ◌&&◌, ◌||◌, ◌==◌, bit_and, and_parts}
-use Rattle.vms_check_laws.proofs.Facade.{eqb-true, and_from, Rel, Eq, Ne, Lt, Ge, Own, Not, And, Or, compares, names_well, nobody, same_place, same_test}
-use Rattle.vms_check_laws.proofs.Facade.{same_rest, same_reduced, rel_number, IfOpen, IsByParts, open_reduced, zero, suc, ◌+◌, ◌*◌, List, ◌∷◌, ◌++◌, length}
-use Rattle.vms_check_laws.proofs.Facade.{get_or, arith, ℤ, pos, length-append, Kind, Item, Num, Equal, Unused, width, code, Count, One, Fixed, Field, Number}
-use Rattle.vms_check_laws.proofs.Facade.{Constant, times, zeroed, is_steady, is_num, is_one, has_no_test, length-code, is_covered, Holds, Filler}
-use Rattle.vms_check_laws.proofs.Facade.{length-replicate, replicate, ap, []}
+use Rattle.vms_check_laws.proofs.Facade.{◌≡◌, ℕ, Bool, true, false, Option, Some, None, refl, sym, ◌∙◌, nat_le, if◌then◌else◌, ◌&&◌, ◌==◌, and_parts, eqb-true}
+use Rattle.vms_check_laws.proofs.Facade.{and_from, zero, suc, ◌+◌, ◌*◌, List, ◌∷◌, ◌++◌, length, get_or, arith, ℤ, pos, length-append, length-replicate, []}
+use Rattle.vms_check_laws.proofs.Facade.{Formula, truth, is_there, Reduced, Known, Open, reduced, left_of, presence, truth_of, reduced_holds, Rel, Eq, Ne, Lt}
+use Rattle.vms_check_laws.proofs.Facade.{Ge, Own, Not, And, Or, names_well, nobody, same_place, same_test, same_rest, same_reduced, rel_number, IfOpen}
+use Rattle.vms_check_laws.proofs.Facade.{IsByParts, open_reduced, Kind, Item, Num, Equal, Unused, width, Count, One, Fixed, Field, Number, Constant, times}
+use Rattle.vms_check_laws.proofs.Facade.{zeroed, is_steady, is_num, is_one, has_no_test, length-code, is_covered, Holds, Filler}
 use Rattle.vms_spec.specs.Sets.{Cell}
 
 -- presence at a version, and then the remaining test, say whether a field is there
@@ -34,12 +33,10 @@ rel_of k = if k == 0 then Eq else if k == 1 then Ne else if k == 2 then Lt else 
 
 rel_back : (r : Rel) → rel_of (rel_number r) ≡ r
 rel_back Eq = refl
-rel_back Ne = refl
-rel_back Lt = refl
-rel_back Ge = refl
+rel_back _ = refl
 
 same_rel : (r s : Rel) → (rel_number r == rel_number s) ≡ true → r ≡ s
-same_rel r s h = sym (rel_back r) ∙ ap rel_of (eqb-true (rel_number r) (rel_number s) h) ∙ rel_back s
+same_rel r s h = cc (rel_back r, eqb-true (rel_number r) (rel_number s) h, rel_back s)
 
 -- numbers that may be named are the same where their positions are
 abbrev pub Agree : (o n : ℕ → Option ℕ) → (ok : ℕ → Bool) → (own own' : ℕ → ℕ) → Type 0
@@ -68,10 +65,9 @@ module _ (ok : ℕ → Bool) where
   NamedRest (Some t) = names_well ok nobody t ≡ true
 
   left_named : (r : Reduced) (rest : Option Formula) → Named r → left_of r ≡ Some rest → NamedRest rest
-  left_named (Known true) None named h = tt
+  left_named r None named h = tt
   left_named (Known true) (Some t) named h = cc
-  left_named (Known false) rest named h = cc
-  left_named (Open t) None named h = tt
+  left_named (Known false) (Some t) named h = cc
   left_named (Open t) (Some s) named h = let e : t ≡ s = cc in rw (← e) named
 
   since_named : (b : Bool) (rest : Option Formula) → (if b then Some None else None) ≡ Some rest → NamedRest rest
@@ -89,19 +85,16 @@ module _ (o n : ℕ → Option ℕ) (ok : ℕ → Bool) (own own' parent parent'
       let r = and_parts (same_place (o i) (n j) && mask == mask' && rel_number rel == rel_number rel') (value == value') h in
       let q = and_parts (same_place (o i) (n j) && mask == mask') (rel_number rel == rel_number rel') r.0 in
       let p = and_parts (same_place (o i) (n j)) (mask == mask') q.0 in
-      ap (λ (k : ℕ). compares rel (bit_and k mask) value) (agree i j good p.0)
-      ∙ ap (λ (k : ℕ). compares rel (bit_and (own' j) k) value) (eqb-true mask mask' p.1)
-      ∙ ap (λ (x : Rel). compares x (bit_and (own' j) mask') value) (same_rel rel rel' q.1)
-      ∙ ap (λ (k : ℕ). compares rel' (bit_and (own' j) mask') k) (eqb-true value value' r.1)
-  same_truth (Not s) (Not t) good h = ap not (same_truth s t good h)
+      rw (agree i j good p.0, eqb-true mask mask' p.1, same_rel rel rel' q.1, eqb-true value value' r.1)
+  same_truth (Not s) (Not t) good h = rw (same_truth s t good h)
   same_truth (And s s') (And t t') good h =
       let p = and_parts (same_test o n s t) (same_test o n s' t') h in
       let q = and_parts (names_well ok nobody t) (names_well ok nobody t') good in
-      ap (λ (b : Bool). b && truth s' v own parent) (same_truth s t q.0 p.0) ∙ ap (λ (b : Bool). truth t w own' parent' && b) (same_truth s' t' q.1 p.1)
+      rw (same_truth s t q.0 p.0, same_truth s' t' q.1 p.1)
   same_truth (Or s s') (Or t t') good h =
       let p = and_parts (same_test o n s t) (same_test o n s' t') h in
       let q = and_parts (names_well ok nobody t) (names_well ok nobody t') good in
-      ap (λ (b : Bool). b || truth s' v own parent) (same_truth s t q.0 p.0) ∙ ap (λ (b : Bool). truth t w own' parent' || b) (same_truth s' t' q.1 p.1)
+      rw (same_truth s t q.0 p.0, same_truth s' t' q.1 p.1)
   same_truth _ _ good h = cc
 
   pub same_reduced_truth : (r q : Reduced) → Named ok q → same_reduced o n r q ≡ true → truth_of r v own parent ≡ truth_of q w own' parent'
@@ -125,23 +118,20 @@ covers_unused _ _ _ covers = absurd (cc)
 
 pub not_covered : (i : Item) (c : Count) (j : Item) → is_covered i c j ≡ true → is_num j ≡ true → ⊥
 not_covered i c j covers number =
-    let unused : is_num (Unused (covers_unused i c j covers).0) ≡ true = rw ((covers_unused i c j covers).1) at number in
-    absurd (cc)
+    let unused = rw ((covers_unused i c j covers).1) at number in absurd (cc)
 
 -- the bytes of n numbers
 pub numbers_length : (numbers : List ℤ) (kind : Kind) (caps : List ℕ) (n at step : ℕ)
     → length (zeroed numbers (times n (λ c. Number c kind caps ∷ []) at step)) ≡ n * width kind
 numbers_length numbers kind caps zero at step = omega arith
 numbers_length numbers kind caps (suc n) at step =
-    length-append (code kind (get_or numbers at (pos 0))) _
-    ∙ ap (λ (k : ℕ). k + length (zeroed numbers (times n (λ c. Number c kind caps ∷ []) (at + step) step))) (length-code kind (get_or numbers at (pos 0)))
-    ∙ ap (λ (k : ℕ). width kind + k) (numbers_length numbers kind caps n (at + step) step) ∙ grind arith
+    rw (length-append, length-code kind (get_or numbers at (pos 0)), numbers_length numbers kind caps n (at + step) step) (grind arith)
 
 pub constant_length : (numbers : List ℤ) (kind : Kind) (z : ℤ) → length (zeroed numbers (Constant kind z ∷ [])) ≡ width kind
-constant_length numbers kind z = length-append (code kind z) [] ∙ ap (λ (k : ℕ). k + 0) (length-code kind z) ∙ omega arith
+constant_length numbers kind z = rw (length-append, length-code kind z) (omega arith)
 
 pub filler_length : (numbers : List ℤ) (n : ℕ) → length (zeroed numbers (Filler n ∷ [])) ≡ n
-filler_length numbers n = length-append (replicate n 0) [] ∙ ap (λ (k : ℕ). k + 0) (length-replicate n 0) ∙ omega arith
+filler_length numbers n = rw (length-append, length-replicate {A = ℕ} n 0) (omega arith)
 
 -- a field that tests and counts may name
 pub record Steady (f : Field) : Type 0 where
@@ -173,7 +163,7 @@ rest_none o n _ _ h k = absurd (cc)
 
 pub there_here : (v : ℕ) (test : Option Formula) (since : ℕ) (rest : Option Formula) (own parent : ℕ → ℕ) → presence v test since ≡ Some rest
     → is_there test since v own parent ≡ there (Some rest) v own parent
-there_here v test since rest own parent h = presence_there test since v own parent ∙ ap (λ (q : Option (Option Formula)). there q v own parent) h
+there_here v test since rest own parent h = rw (presence_there test since v own parent, h)
 
 pub one_number : (c : Bool) (numbers' : List ℤ) (y : ℕ) (z d : ℤ) → c ≡ true → Holds numbers' y ((if c then z ∷ [] else d ∷ []) ++ [])
     → get_or numbers' (y + 0) (pos 0) ≡ z

@@ -1,9 +1,9 @@
 -- Segments of numbers, and slots of one side whose bytes are those of the other's. Bytes of both sides at one front: if slots of the
 -- newer set are at the front of what the older set wrote, they take exactly the bytes that it wrote for its own slots.
 use Rattle.vms_check_laws.proofs.Facade.{◌≡◌, ℕ, suc, ◌+◌, List, ◌∷◌, ◌++◌, length, get_or, Bool, IsTrue, refl, ◌∙◌, arith, append_assoc, ℤ, pos, length-append}
-use Rattle.vms_check_laws.proofs.Facade.{get_or_append_left, get_or-append-add, append-nil, Kind, Cell, no_cell, Slot, Number, Constant, Filler, Rule, zeroed}
-use Rattle.vms_check_laws.proofs.Facade.{Holds, FitsAt, Carries, rules_append, spells_append, ap, big_number, width, residue, code, Spells, length-code}
-use Rattle.vms_check_laws.proofs.Facade.{code_read, Aligns, sym, [], slice_get, rules_split}
+use Rattle.vms_check_laws.proofs.Facade.{get_or_append_left, get_or-append-add, append-nil, ap, sym, [], slice_get, Kind, Cell, no_cell, Slot, Number, Constant}
+use Rattle.vms_check_laws.proofs.Facade.{Filler, Rule, zeroed, Holds, FitsAt, Carries, rules_append, spells_append, width, residue, code, Spells, length-code}
+use Rattle.vms_check_laws.proofs.Facade.{code_read, Aligns, rules_split}
 
 -- the elements from a place on
 abbrev pub RestAt : {A : Type 0} → List A → ℕ → List A → Type 0
@@ -20,9 +20,7 @@ pub from_zero : {A : Type 0} (f : ℕ → A) (m : ℕ) → f (0 + m) ≡ f m
 from_zero f m = let z : 0 + m ≡ m = omega arith in rw z
 
 pub holds_left : {numbers : List ℤ} {at : ℕ} {xs : List ℤ} (ys : List ℤ) → Holds numbers at (xs ++ ys) → Holds numbers at xs
-holds_left {xs = xs} ys h = record {
-  each = λ c lt. h.each c (omega (arith, length-append xs ys)) ∙ get_or_append_left xs ys (pos 0) c lt;
-}
+holds_left {xs = xs} ys h = record { each = λ c lt. h.each c (omega (arith, length-append xs ys)) ∙ get_or_append_left xs ys (pos 0) c lt }
 
 pub holds_right : {numbers : List ℤ} {at : ℕ} (xs : List ℤ) {ys : List ℤ} → Holds numbers at (xs ++ ys) → Holds numbers (at + length xs) ys
 holds_right {at = at} xs {ys = ys} h = record {
@@ -88,7 +86,7 @@ apart (x ∷ xs) [] r r' e h = absurd (omega arith)
 apart (x ∷ xs) (y ∷ ys) r r' e h =
     let heads : x ≡ y = cc in
     let more = apart xs ys r r' (omega arith) cc in
-    (ap (λ (z : ℕ). z ∷ xs) heads ∙ ap (λ (l : List ℕ). y ∷ l) more.0, more.1)
+    (rw (heads, more.0), more.1)
 
 -- the bytes are the same
 pub same_bytes : (x : List ℤ) (a : List Slot) (y : List ℤ) (b : List Slot) → Aligns x a y b → (body r r' : List ℕ) → Spells y b body
@@ -101,21 +99,20 @@ pub spells_split : (y : List ℤ) (b c : List Slot) (body : List ℕ) → Spells
 spells_split y [] c body s = ([], body, refl, refl, s)
 spells_split y (Number k kind caps ∷ b) c body s =
     let t = spells_split y b c s.0 s.2 in
-    let here = code kind (get_or y k (pos 0)) in
-    (here ++ t.0, t.1, s.1 ∙ ap (λ (l : List ℕ). here ++ l) t.2 ∙ sym (append_assoc here t.0 t.1), (t.0, refl, t.3), t.4)
+    (code kind (get_or y k (pos 0)) ++ t.0, t.1, rw (append_assoc, ← t.2) s.1, (t.0, refl, t.3), t.4)
 spells_split y (Constant kind z ∷ b) c body s =
     let t = spells_split y b c s.0 s.2 in
-    (code kind z ++ t.0, t.1, s.1 ∙ ap (λ (l : List ℕ). code kind z ++ l) t.2 ∙ sym (append_assoc (code kind z) t.0 t.1), (t.0, refl, t.3), t.4)
+    (code kind z ++ t.0, t.1, rw (append_assoc, ← t.2) s.1, (t.0, refl, t.3), t.4)
 spells_split y (Filler n ∷ b) c body s =
     let t = spells_split y b c s.1 s.4 in
-    (s.0 ++ t.0, t.1, s.3 ∙ ap (λ (l : List ℕ). s.0 ++ l) t.2 ∙ sym (append_assoc s.0 t.0 t.1), (s.0, t.0, s.2, refl, t.3), t.4)
+    (s.0 ++ t.0, t.1, rw (append_assoc, ← t.2) s.3, (s.0, t.0, s.2, refl, t.3), t.4)
 spells_split y (Rule r ∷ b) c body s = spells_split y b c body s
 
 -- the rest after the first of two parts
 pub behind_first : (x : List ℤ) (a c : List Slot) (front rest r r' : List ℕ) → (front ++ rest) ++ r' ≡ zeroed x (a ++ c) ++ r
     → front ++ (rest ++ r') ≡ zeroed x a ++ (zeroed x c ++ r)
 behind_first x a c front rest r r' h =
-    sym (append_assoc front rest r') ∙ h ∙ ap (λ (l : List ℕ). l ++ r) (zeroed_append x a c) ∙ append_assoc (zeroed x a) (zeroed x c) r
+    rw (append_assoc front rest r', zeroed_append, append_assoc (zeroed x a) (zeroed x c) r) at h
 
 -- ---- slots
 
@@ -130,24 +127,20 @@ pub aligns_append : (x y : List ℤ) (a b c d : List Slot) → Aligns x a y b �
 aligns_append x y a b c d p q = record {
   rests = λ body r r' s h.
       let t = spells_split y b d body s in
-      let e = behind_first x a c t.0 t.1 r r' (ap (λ (l : List ℕ). l ++ r') (sym t.2) ∙ h) in
-      q.rests t.1 r r' t.4 (p.rests t.0 (zeroed x c ++ r) (t.1 ++ r') t.3 e);
+      q.rests t.1 r r' t.4 (p.rests t.0 _ _ t.3 (behind_first x a c t.0 t.1 r r' (rw t.2 at h)));
 }
 
 code_alone : (kind : Kind) (z : ℤ) (body rest : List ℕ) → body ≡ code kind z ++ rest → rest ≡ [] → length body ≡ width kind
 code_alone kind z body rest e f = omega (arith, ap length e, length-append (code kind z) rest, length-code kind z, ap length f)
 
 pub aligns_number : (x y : List ℤ) (c d : ℕ) (k l : Kind) (p q : List ℕ) → k ≡ l → Aligns x (Number c k p ∷ []) y (Number d l q ∷ [])
-aligns_number x y c d k l p q e = aligns_sized x _ y _
-    (λ body s. code_alone l _ body s.0 s.1 s.2 ∙ ap width (sym e) ∙ sym (code_alone k _ _ [] refl refl))
+aligns_number x y c d k l p q e = aligns_sized x _ y _ (λ body s. code_alone l _ body s.0 s.1 s.2 ∙ ap width (sym e) ∙ sym (code_alone k _ _ [] refl refl))
 
 pub aligns_constant : (x y : List ℤ) (k l : Kind) (z u : ℤ) → k ≡ l → Aligns x (Constant k z ∷ []) y (Constant l u ∷ [])
-aligns_constant x y k l z u e = aligns_sized x _ y _
-    (λ body s. code_alone l u body s.0 s.1 s.2 ∙ ap width (sym e) ∙ sym (code_alone k z _ [] refl refl))
+aligns_constant x y k l z u e = aligns_sized x _ y _ (λ body s. rw (code_alone l u body s.0 s.1 s.2, code_alone k z _ [] refl refl, e))
 
 pub aligns_filler : (x y : List ℤ) (a : List Slot) (n : ℕ) → length (zeroed x a) ≡ n → Aligns x a y (Filler n ∷ [])
-aligns_filler x y a n e = aligns_sized x a y _
-    (λ body s. omega (arith, ap length s.3, length-append s.0 s.1, ap length s.4))
+aligns_filler x y a n e = aligns_sized x a y _ (λ body s. omega (arith, ap length s.3, length-append s.0 s.1, ap length s.4))
 
 pub aligns_rule : (x y : List ℤ) (r s : Bool) → Aligns x (Rule r ∷ []) y (Rule s ∷ [])
 aligns_rule x y r s = aligns_sized x _ y _ (λ body t. ap length t)
@@ -156,4 +149,4 @@ aligns_rule x y r s = aligns_sized x _ y _ (λ body t. ap length t)
 
 -- numbers of the same bytes are the same modulo 2 ^ (8 w)
 pub same_code : (kind : Kind) (z u : ℤ) → code kind z ≡ code kind u → residue (width kind) z ≡ residue (width kind) u
-same_code kind z u h = sym (code_read kind z) ∙ ap (big_number (width kind)) h ∙ code_read kind u
+same_code kind z u h = rw (← (code_read kind z), h) (code_read kind u)

@@ -1,13 +1,13 @@
 -- What the older set writes is a stream of the newer, with the carried images: each device's section is one of the newer set's, and the
 -- order takes each device once.
-use Rattle.vms_check_laws.proofs.Facade.{◌≡◌, ℕ, suc, ◌+◌, Bool, true, false, ◌&&◌, ◌==◌, List, ◌∷◌, Option, Some, None, refl, ◌∙◌, subst, arith, if◌then◌else◌}
-use Rattle.vms_check_laws.proofs.Facade.{slice_get, bytes_eq, bytes_eq-Decides, and_parts, eqb-true, first_answer, Device, Set, find_device, index, WellFormed}
-use Rattle.vms_check_laws.proofs.Facade.{here, Mismatch, failing_pair, compare_device, paired_device, is_found, is_in, passes, device_found, inr, zero, ◌<◌}
-use Rattle.vms_check_laws.proofs.Facade.{◌≤◌, length, map, get_or, list_all, Image, HasSection, SectionsSpell, IsReady, EachOnce, is_one_of, written_section}
-use Rattle.vms_check_laws.proofs.Facade.{written_sections, is_version_of, Compatible, first_mismatch, comparing, compare_subs, carried, carried_device}
-use Rattle.vms_check_laws.proofs.Facade.{carried_at, no_image, ArePaired, DeviceLaw, or_else_none, IfSome, length-map, IsStream, IsConfiguration, configuration}
-use Rattle.vms_check_laws.proofs.Facade.{trailer, optional, longest_text, written, AreReady, every_one, machine_short, few_devices, UpgradeLaw, trailed}
-use Rattle.vms_check_laws.proofs.Facade.{answers_none, ap, [], inl, sym}
+use Rattle.vms_check_laws.proofs.Facade.{◌≡◌, ℕ, suc, ◌+◌, Bool, true, false, ◌&&◌, ◌==◌, List, ◌∷◌, Option, Some, None, refl, ◌∙◌, arith, if◌then◌else◌}
+use Rattle.vms_check_laws.proofs.Facade.{slice_get, bytes_eq, bytes_eq-Decides, and_parts, eqb-true, inr, zero, ◌<◌, ◌≤◌, length, map, get_or, list_all, IfSome}
+use Rattle.vms_check_laws.proofs.Facade.{length-map, ap, [], inl, sym, first_answer, Device, Set, find_device, index, WellFormed, here, Mismatch, failing_pair}
+use Rattle.vms_check_laws.proofs.Facade.{compare_device, paired_device, is_found, is_in, passes, device_found, Image, HasSection, SectionsSpell, IsReady}
+use Rattle.vms_check_laws.proofs.Facade.{EachOnce, is_one_of, written_section, written_sections, is_version_of, Compatible, first_mismatch, comparing}
+use Rattle.vms_check_laws.proofs.Facade.{compare_subs, carried, carried_device, carried_at, no_image, ArePaired, DeviceLaw, or_else_none, IsStream}
+use Rattle.vms_check_laws.proofs.Facade.{IsConfiguration, configuration, trailer, optional, longest_text, written, AreReady, every_one, machine_short}
+use Rattle.vms_check_laws.proofs.Facade.{few_devices, UpgradeLaw, trailed, answers_none}
 use Rattle.vms_spec.specs.declared.Part.TheVariants as parts
 use Rattle.vms_check_laws.proofs.SubFacts.{saved}
 use Rattle.vms_check_laws.proofs.Segments.{one_on, at_first, from_zero, RestAt}
@@ -74,8 +74,8 @@ module _ (old new : Set) (good_old : WellFormed old)
         stands = stands;
         name_is = f.2.name_is;
         instance_is = f.2.instance_is;
-        compared_is = ap (λ (r : Option ℕ). compare_device old new i d r (slice_get new.devices (index r))) some_k.1
-            ∙ ap (λ (r : Option Device). compare_device old new i d (Some some_k.0) r) stands;
+        compared_is = ap (λ r. compare_device old new i d r (slice_get new.devices (index r))) some_k.1
+            ∙ ap (compare_device old new i d (Some some_k.0)) stands;
       }
 
   pub back : (i : ℕ) (d : Device) → slice_get old.devices i ≡ Some d → (p : Pair i d) → find_device 0 old.devices p.device.desc.name p.device.instance ≡ Some i
@@ -112,12 +112,8 @@ module _ (old new : Set) (good_old : WellFormed old) (good_new : WellFormed new)
       let q = or_else_none (first_answer (λ i d. failing_pair ((2, is_in new d) ∷ []) (here (parts.Device i)) (here parts.Set)) 0 old.devices) _ p.1 in
       let r = or_else_none (first_answer (λ i d. failing_pair ((3, is_in old d) ∷ []) (here parts.Set) (here (parts.Device i))) 0 new.devices)
       (first_answer (λ i d. compared old new i d) 0 old.devices) q.1 in
-      record {
-        machines = (passes 1 (list_all (is_one_of new.machines) old.machines) [] (here parts.Set) (here parts.Set) p.0).0;
-        olds = q.0;
-        news = r.0;
-        devices = r.1;
-      }
+      let first = passes 1 (list_all (is_one_of new.machines) old.machines) [] (here parts.Set) (here parts.Set) p.0 in
+      record { machines = first.0; olds = q.0; news = r.0; devices = r.1 }
 
   -- each device of old is one of new
   pub all_in : first_answer (λ i d. failing_pair ((2, is_in new d) ∷ []) (here (parts.Device i)) (here parts.Set)) 0 old.devices ≡ None
@@ -128,7 +124,7 @@ module _ (old new : Set) (good_old : WellFormed old) (good_new : WellFormed new)
       → compare_device old new i d (Some p.number) (Some p.device) ≡ None
   compared_none i d e p =
       let z : i ≡ 0 + i = omega arith in
-      sym p.compared_is ∙ ap (λ (n : ℕ). compared old new n d) z ∙ answers_none (λ i d. compared old new i d) 0 old.devices rules.devices i d e
+      rw (← p.compared_is, z) (answers_none (λ i d. compared old new i d) 0 old.devices rules.devices i d e)
 
   -- ---- each of new's devices has one section
 
@@ -137,7 +133,7 @@ module _ (old new : Set) (good_old : WellFormed old) (good_new : WellFormed new)
   order_has [] i k d e h = absurd (cc)
   order_has (x ∷ ds) zero k d e h =
       let same : x ≡ d = cc in
-      inl (sym (ap (λ (u : Device). index (find_device 0 new.devices u.desc.name u.instance)) same ∙ ap index h))
+      inl (rw (same, h))
   order_has (x ∷ ds) (suc i) k d e h = inr (order_has ds i k d e h)
 
   each_new : (k : ℕ) → slice_get (map (λ (d : Device). false) new.devices) k ≡ Some false → Among k (device_order new old.devices)
@@ -196,8 +192,7 @@ module _ (old new : Set) (good_old : WellFormed old) (good_new : WellFormed new)
     image_at i d e p =
         at_map (λ e. carried_at old new images e (find_device 0 old.devices e.desc.name e.instance)
         (slice_get old.devices (index (find_device 0 old.devices e.desc.name e.instance)))) new.devices p.number p.device p.stands
-        ∙ ap (λ (r : Option ℕ). Some (carried_at old new images p.device r (slice_get old.devices (index r)))) (back old new good_old all_in i d e p)
-        ∙ ap (λ (r : Option Device). Some (carried_at old new images p.device (Some i) r)) e
+        ∙ rw (back old new good_old all_in i d e p, e)
 
     -- each section of old, in old's order
     pub spell : (i : ℕ) (ds : List Device) (ims : List Image) → length ims ≡ length ds → RestAt old.devices i ds
@@ -211,24 +206,16 @@ module _ (old new : Set) (good_old : WellFormed old) (good_new : WellFormed new)
         let im_is : get_or images i (no_image old new) ≡ im = at_first (λ k. get_or images k (no_image old new)) i images_are in
         let p = pair old new good_old all_in i d e in
         let front = written_section old d im i in
-        let image_is : slice_get (carried old new images) p.number ≡ Some (carried_device old new d p.device im) =
-        image_at i d e p ∙ ap (λ (m : Image). Some (carried_device old new d p.device m)) im_is in
+        let image_is : slice_get (carried old new images) p.number ≡ Some (carried_device old new d p.device im) = image_at i d e p ∙ rw im_is in
         let paired : ArePaired old new i p.number d p.device =
         record { in_old = e; in_new = p.stands; names = sym p.name_is; instances = sym p.instance_is; rules = compared_none i d e p } in
         let at_number : HasSection new true p.number (slice_get new.devices p.number) (slice_get (carried old new images) p.number) front =
-        rw p.stands
-        (rw image_is (i, device_stands old new good_old good_new i p.number d p.device paired im i (saved old d im (ready 0 d im refl refl)) (omega arith))) in
-        let here_section =
-        subst (λ (k : ℕ). HasSection new true k (slice_get new.devices k) (slice_get (carried old new images) k) front)
-        (sym (ap index p.found)) at_number in (
-          front,
-          (written_sections old (suc i) ds ims),
-          here_section,
-          spell (suc i) ds ims (omega arith)
-              (one_on (slice_get old.devices) i devices_are) (one_on (λ k. get_or images k (no_image old new)) i images_are)
-              (λ j. ready (suc j)) (omega arith),
-          refl,
-        )
+        rw (p.stands, image_is)
+        (i, device_stands old new good_old good_new i p.number d p.device paired im i (saved old d im (ready 0 d im refl refl)) (omega arith)) in
+        let more =
+        spell (suc i) ds ims (omega arith) (one_on (slice_get old.devices) i devices_are) (one_on (λ k. get_or images k (no_image old new)) i images_are)
+        (λ j. ready (suc j)) (omega arith) in
+        (front, written_sections old (suc i) ds ims, rw p.found at_number, more, refl)
 
 module _ (old new : Set) (good_old : WellFormed old) (good_new : WellFormed new) (none : Compatible old new) where
   configured : (machine : Option (List ℕ)) → IfSome machine (λ m. is_one_of old.machines m ≡ true)
@@ -254,10 +241,8 @@ module _ (old new : Set) (good_old : WellFormed old) (good_new : WellFormed new)
     sections = written_sections old 0 old.devices images;
     footed = true;
     bare = λ e. cc;
-    spelled = spell old new good_old good_new none images 0 old.devices images ready.one_each
-        (λ j. let s : 0 + j ≡ j = omega arith in ap (λ (k : ℕ). slice_get old.devices k) s)
-        (λ j. let s : 0 + j ≡ j = omega arith in ap (λ (k : ℕ). get_or images k (no_image old new)) s)
-        ready.ready (omega (arith, few_devices old good_old));
+    spelled = spell old new good_old good_new none images 0 old.devices images ready.one_each (from_zero (slice_get old.devices))
+        (from_zero (λ k. get_or images k (no_image old new))) ready.ready (omega (arith, few_devices old good_old));
     tail = optional trailer text;
     described = trailed text short;
     whole = refl;

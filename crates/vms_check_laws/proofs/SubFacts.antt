@@ -1,10 +1,9 @@
 -- What two well-formed sets without a mismatch give for each subsection of new.
-use Rattle.vms_check_laws.proofs.Facade.{◌≡◌, ◌⊎◌, inl, inr, ℕ, zero, suc, ◌+◌, ◌≤◌, true, List, ◌∷◌, Option, Some, None, refl, ◌∙◌, arith, ℤ, nat_le, flat_map}
-use Rattle.vms_check_laws.proofs.Facade.{slice_get, and_parts, leb-true, first_answer, Sub, Device, Set, Cell, struct_cells, desc_cells, device_cells, Image}
-use Rattle.vms_check_laws.proofs.Facade.{FitCells, AreVersionsOf, RulesHold, own_slots, own_cells, sub_slots, sub_place, came_slots, IsReady, ComeAsNeeded}
-use Rattle.vms_check_laws.proofs.Facade.{find_sub, index, is_version_of, WellFormed, here, failing_pair, comparing, compare_sub, compare_subs, carried_sub}
-use Rattle.vms_check_laws.proofs.Facade.{sub_came, defaults, passes, sub_found, IsSaved, FitsAt, or_else_none, answers_none, sym, ap, [], rules_split}
-use Rattle.vms_check_laws.proofs.Facade.{sub_size}
+use Rattle.vms_check_laws.proofs.Facade.{◌≡◌, ◌⊎◌, inl, inr, ℕ, zero, suc, ◌+◌, ◌≤◌, true, List, ◌∷◌, Option, Some, None, refl, arith, ℤ, nat_le, flat_map}
+use Rattle.vms_check_laws.proofs.Facade.{slice_get, and_parts, leb-true, [], first_answer, Sub, Device, Set, Cell, struct_cells, desc_cells, device_cells}
+use Rattle.vms_check_laws.proofs.Facade.{Image, FitCells, AreVersionsOf, RulesHold, own_slots, own_cells, sub_slots, sub_place, came_slots, IsReady}
+use Rattle.vms_check_laws.proofs.Facade.{ComeAsNeeded, find_sub, index, is_version_of, WellFormed, here, failing_pair, comparing, compare_sub, compare_subs}
+use Rattle.vms_check_laws.proofs.Facade.{carried_sub, sub_came, defaults, passes, sub_found, IsSaved, FitsAt, or_else_none, answers_none, rules_split, sub_size}
 use Rattle.vms_spec.specs.declared.Part.TheVariants as parts
 use Rattle.vms_check_laws.proofs.SubParts.{found as found_sub}
 use Rattle.vms_check_laws.proofs.Segments.{fits_left, fits_right, one_on, at_first, from_zero, RestAt}
@@ -12,11 +11,7 @@ use Rattle.vms_check_laws.proofs.Good.{sub_good}
 use Rattle.vms_check_laws.proofs.Parts.{good_cells, Came, Stayed, Facts}
 
 pub fits_whole : (cells : List Cell) (numbers : List ℤ) → FitCells cells numbers → FitsAt cells numbers 0
-fits_whole cells numbers h = record {
-  each = λ c lt.
-      let z : c ≡ 0 + c = omega arith in
-      rw (← z) (h.fits c lt);
-}
+fits_whole cells numbers h = record { each = λ c lt. let z : c ≡ 0 + c = omega arith in rw (← z) (h.fits c lt) }
 
 pub came_at : (subs : List Sub) (came : List (Option ℕ)) (j : ℕ) (s : Sub) → AreVersionsOf subs came → slice_get subs j ≡ Some s
     → (o : Option ℕ) × (slice_get came j ≡ Some o)
@@ -32,7 +27,7 @@ come_version set d image k (x ∷ subs) [] j s v h e e' = absurd h
 come_version set d image k (x ∷ subs) (Some u ∷ came) zero s v h e e' =
     let same : x ≡ s = cc in
     let same' : u ≡ v = cc in
-    sym same' ∙ h.1 ∙ ap (λ (y : Sub). y.desc.version) same
+    cc
 come_version set d image k (x ∷ subs) (None ∷ came) (suc j) s v h e e' = come_version set d image (suc k) subs came j s v h.1 e e'
 come_version set d image k (x ∷ subs) (Some u ∷ came) (suc j) s v h e e' = come_version set d image (suc k) subs came j s v h.2 e e'
 come_version set d image k _ _ _ s v h e e' = absurd (cc)
@@ -86,10 +81,8 @@ module _ (old new : Set) (good_old : WellFormed old) (good_new : WellFormed new)
       → (is_version_of t.desc s.desc.version ≡ true) × (comparing old new s.desc t.desc s.desc.version (parts.Sub i j) (parts.Sub k l) ≡ None)
   compared j l s t at_j at_l names =
       let z : 0 + j ≡ j = omega arith in
-      let at_s : compare_subs old new i k e j s ≡ None = rw (z) at (answers_none _ 0 d.subs none j s at_j) in
-      let found : find_sub 0 e.subs s.desc.name ≡ Some l = ap (λ (n : List ℕ). find_sub 0 e.subs n) names ∙ sub_found new good_new k l e t at_k at_l in
-      let at_l' : compare_sub old new i k j s (Some l) (slice_get e.subs l) ≡ None = rw (found) at at_s in
-      let at_t : compare_sub old new i k j s (Some l) (Some t) ≡ None = rw (at_l) at at_l' in
+      let found : find_sub 0 e.subs s.desc.name ≡ Some l = rw names (sub_found new good_new k l e t at_k at_l) in
+      let at_t : compare_sub old new i k j s (Some l) (Some t) ≡ None = rw (z, found, at_l) at (answers_none _ 0 d.subs none j s at_j) in
       let p = or_else_none (failing_pair ((14, is_version_of t.desc s.desc.version) ∷ []) (here (parts.Sub i j)) (here (parts.Sub k l))) _ at_t in
       ((passes 14 (is_version_of t.desc s.desc.version) [] (here (parts.Sub i j)) (here (parts.Sub k l)) p.0).0, p.1)
 

@@ -1,11 +1,10 @@
 -- The subsections of a device: by name, the part that each has of a list, and the cells that are in the bytes. Each cell of a device
 -- after its own fields is one of a subsection.
 use Rattle.vms_check_laws.proofs.Facade.{◌≡◌, ◌⊎◌, inl, inr, ℕ, zero, suc, ◌+◌, ◌<◌, ◌≤◌, Bool, true, false, ◌||◌, List, ◌∷◌, ◌++◌, length, get_or, Option}
-use Rattle.vms_check_laws.proofs.Facade.{Some, None, ℤ, refl, sym, ◌∙◌, arith, flat_map, slice_get, Sub, Device, Set, Cell, desc_cells, device_cells}
-use Rattle.vms_check_laws.proofs.Facade.{struct_cells, has_cell, own_cells, came_slots, sub_slots, sub_place, find_sub, names_append, sub_size, places_apart}
-use Rattle.vms_check_laws.proofs.Facade.{IsCellOf, length-append, nat_lt, if◌then◌else◌, bytes_eq, bytes_eq-Decides, ltb-true, ltb-false, [], ap}
-use Rattle.vms_check_laws.proofs.Facade.{slice_get-get_or}
-use Rattle.vms_check_laws.proofs.PairLists.{IsBehind, at_left, at_right, before_or_behind}
+use Rattle.vms_check_laws.proofs.Facade.{Some, None, ℤ, refl, sym, ◌∙◌, arith, flat_map, slice_get, length-append, if◌then◌else◌, bytes_eq, bytes_eq-Decides}
+use Rattle.vms_check_laws.proofs.Facade.{cases_lt, [], slice_get-get_or, Sub, Device, Set, Cell, desc_cells, device_cells, struct_cells, has_cell, own_cells}
+use Rattle.vms_check_laws.proofs.Facade.{came_slots, sub_slots, sub_place, find_sub, names_append, sub_size, places_apart, IsCellOf}
+use Rattle.vms_check_laws.proofs.PairLists.{IsBehind, at_left, at_right, before_or_behind, behind_at}
 
 -- ---- what has a name, and where it is
 
@@ -54,10 +53,9 @@ module _ {A : Type 0} (set : Set) (f : Sub → List A) where
       go : (b < length (f s)) ⊎ IsBehind (length (f s)) b → ((b' : ℕ) → slice_get (flat_map f subs) b' ≡ Some o → StandsIn (from + sub_size set s) subs b' o)
           → StandsIn from (s ∷ subs) b o
       go (inl lt) more =
-          let long = size 0 s refl in
-          record { m = 0; sub = s; there = refl; c = b; is = refl; inside = omega arith; here = sym (at_left (f s) _ b lt) ∙ e }
+          record { m = 0; sub = s; there = refl; c = b; is = refl; inside = omega (arith, size 0 s refl); here = sym (at_left (f s) _ b lt) ∙ e }
       go (inr behind) more =
-          let h = more behind.more (sym (at_right (f s) _ behind.more) ∙ ap (slice_get (f s ++ flat_map f subs)) (sym behind.is) ∙ e) in
+          let h = more behind.more (behind_at (f s) _ b behind e) in
           record { m = suc h.m; sub = h.sub; there = h.there; c = h.c; is = omega (arith, size 0 s refl); inside = h.inside; here = h.here }
 
   -- a part is at its subsection's place
@@ -90,22 +88,11 @@ module _ {A : Type 0} (set : Set) (f : Sub → List A) where
   pub part_number : (from : ℕ) (subs : List Sub) (m : ℕ) (s : Sub) (h : PartIn from subs m s) (z : A) (c : ℕ) → c < sub_size set s
       → get_or (flat_map f subs) (h.q + c) z ≡ get_or (f s) c z
   part_number from subs m s h z c lt =
-      let whole = slice_get-get_or (flat_map f subs) (h.q + c) z (omega arith) in
-      let part = slice_get-get_or (f s) c z (omega arith) in
-      let at = h.at c lt in
-      cc
+      cc (slice_get-get_or (flat_map f subs) (h.q + c) z (omega arith), slice_get-get_or (f s) c z (omega arith), h.at c lt)
 
   pub all_long : (subs : List Sub) → Sized subs → length (flat_map f subs) ≡ length (flat_map (λ s. desc_cells (struct_cells set) s.desc) subs)
   all_long [] size = refl
-  all_long (s ∷ subs) size =
-      omega (
-        arith,
-        size 0 s refl,
-        all_long subs (λ m t e. size (suc m) t e),
-        length-append (f s) (flat_map f subs),
-        length-append
-            (desc_cells (struct_cells set) s.desc) (flat_map (λ s. desc_cells (struct_cells set) s.desc) subs),
-      )
+  all_long (s ∷ subs) size = simp length-append (rw (size 0 s refl, all_long subs (λ m t e. size (suc m) t e)))
 
 -- ---- which part a cell in the bytes is of
 
@@ -170,22 +157,18 @@ module _ (set : Set) where
 
   in_one : (from : ℕ) (subs : List Sub) (c : ℕ) → from ≤ c → c < from + length (flat_map cells_of subs) → IsIn from subs c
   in_one from [] c low high = absurd (omega arith)
-  in_one from (s ∷ subs) c low high =
-      go (λ le. in_one (from + sub_size set s) subs c le (omega (arith, high, length-append (cells_of s) (flat_map cells_of subs))))
-      (nat_lt c (from + sub_size set s)) refl
-    where
-      go : (from + sub_size set s ≤ c → IsIn (from + sub_size set s) subs c) → (b : Bool) → nat_lt c (from + sub_size set s) ≡ b → IsIn from (s ∷ subs) c
-      go more true e = record { j = 0; sub = s; is = refl; low = low; high = ltb-true c (from + sub_size set s) e }
-      go more false e =
-          let rest = more (ltb-false c (from + sub_size set s) e) in
-          record { j = suc rest.j; sub = rest.sub; is = rest.is; low = rest.low; high = rest.high }
+  in_one from (s ∷ subs) c low high = elim (cases_lt c (from + sub_size set s)) [
+    | inl lt ↦ record { j = 0; sub = s; is = refl; low = low; high = lt }
+    | inr le ↦
+        let rest = in_one (from + sub_size set s) subs c le (omega (arith, length-append (cells_of s) (flat_map cells_of subs))) in
+        record { j = suc rest.j; sub = rest.sub; is = rest.is; low = rest.low; high = rest.high }
+  ]
 
   -- a cell of the device is its own, or one of a subsection
   pub own_or_sub : (d : Device) (c : ℕ) → c < length (device_cells set d) → (c < own_cells set d) ⊎ ((j : ℕ) × (s : Sub) × IsCellOf set d j s c)
-  own_or_sub d c lt = go (nat_lt c (own_cells set d)) refl where
-    go : (b : Bool) → nat_lt c (own_cells set d) ≡ b → (c < own_cells set d) ⊎ ((j : ℕ) × (s : Sub) × IsCellOf set d j s c)
-    go true e = inl (ltb-true c (own_cells set d) e)
-    go false e =
-        let le = ltb-false c (own_cells set d) e in
+  own_or_sub d c lt = elim (cases_lt c (own_cells set d)) [
+    | inl own ↦ inl own
+    | inr le ↦
         let i = in_one _ d.subs c le (omega (arith, length-append (desc_cells (struct_cells set) d.desc) (flat_map cells_of d.subs))) in
         inr (i.j, i.sub, record { is = i.is; low = i.low; high = i.high })
+  ]

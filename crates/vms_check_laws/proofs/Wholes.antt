@@ -1,13 +1,12 @@
 -- A device with subsections: what the older set writes is a section of the newer with the carried image. An order that names each remaining
 -- one, and none twice, takes each once.
-use Rattle.vms_check_laws.proofs.Facade.{◌≡◌, ◌⊎◌, inl, inr, ℕ, zero, suc, Bool, true, false, ◌==◌, List, ◌∷◌, slice_set, Option, Some, None, refl, sym, ap}
-use Rattle.vms_check_laws.proofs.Facade.{◌∙◌, slice_get, eqb-true, eq-eqb, AreAll, ComesOnce, AllCame, EachOnce, at_other, [], ◌+◌, ◌<◌, ◌++◌, length, map}
-use Rattle.vms_check_laws.proofs.Facade.{get_or, subst, arith, ℤ, pos, flat_map, Part, first_answer, Sub, Device, Set, Slot, no_cell, struct_cells, desc_cells}
-use Rattle.vms_check_laws.proofs.Facade.{device_cells, Image, zeroed, own_slots, own_cells, sub_slots, sub_place, came_slots, has_cell, IsSection, SubSpells}
-use Rattle.vms_check_laws.proofs.Facade.{SubsSpell, sub_head, section_head, foot, written_subs, written_section, find_sub, index, is_version_of, WellFormed}
-use Rattle.vms_check_laws.proofs.Facade.{comparing, compare_sub, compare_subs, carrying, carried_sub, carried_device, defaults, sub_came, sub_found}
-use Rattle.vms_check_laws.proofs.Facade.{defaults_at, version_is, rules_append, IsSaved, Holds, FitsAt, answers_none, at_set, rules_split, slice_get_within}
-use Rattle.vms_check_laws.proofs.Facade.{sub_size}
+use Rattle.vms_check_laws.proofs.Facade.{◌≡◌, ◌⊎◌, inl, inr, ℕ, zero, suc, Bool, true, false, cases_eq, slice_get-map, List, ◌∷◌, slice_set, Option, Some, None}
+use Rattle.vms_check_laws.proofs.Facade.{refl, sym, ap, ◌∙◌, slice_get, [], ◌+◌, ◌<◌, ◌++◌, length, map, get_or, arith, ℤ, pos, flat_map, slice_get_within}
+use Rattle.vms_check_laws.proofs.Facade.{AreAll, ComesOnce, AllCame, EachOnce, at_other, Part, first_answer, Sub, Device, Set, Slot, no_cell, struct_cells}
+use Rattle.vms_check_laws.proofs.Facade.{desc_cells, device_cells, Image, zeroed, own_slots, own_cells, sub_slots, sub_place, came_slots, has_cell, IsSection}
+use Rattle.vms_check_laws.proofs.Facade.{SubSpells, SubsSpell, sub_head, written_subs, written_section, find_sub, index, is_version_of, WellFormed, comparing}
+use Rattle.vms_check_laws.proofs.Facade.{compare_sub, compare_subs, carrying, carried_sub, carried_device, defaults, sub_came, sub_found, defaults_at}
+use Rattle.vms_check_laws.proofs.Facade.{version_is, rules_append, IsSaved, Holds, FitsAt, answers_none, at_set, rules_split, sub_size}
 use Rattle.vms_check_laws.proofs.SubParts.{found as found_sub}
 use Rattle.vms_check_laws.proofs.Segments.{holds_left, holds_right, holds_at, fits_left, one_on, at_first, from_zero, RestAt}
 use Rattle.vms_check_laws.proofs.PairLists.{Settled, settled_append}
@@ -32,27 +31,16 @@ Apart (a ∷ rest) = NotIn a rest × Apart rest
 pub found_same : {A : Type 0} (xs : List A) (back : A → Option ℕ) (n n' i i' : ℕ) (x x' : A) → n ≡ n' → slice_get xs n ≡ Some x → slice_get xs n' ≡ Some x'
     → back x ≡ Some i → back x' ≡ Some i' → i ≡ i'
 found_same xs back n n' i i' x x' same e e' b b' =
-    let some_same : Some x ≡ Some x' = sym e ∙ ap (slice_get xs) same ∙ e' in
     let one : x ≡ x' = cc in
-    let founds : Some i ≡ Some i' = sym b ∙ ap back one ∙ b' in
     cc
 
 -- what is still open after one is done is among the rest
 still : {A : Type 0} (xs : List A) (j k : ℕ) (order : List ℕ) (done x y : A) → slice_get xs j ≡ Some y → (x ≡ done → ⊥)
     → slice_get (slice_set xs j done) k ≡ Some x → (slice_get xs k ≡ Some x → Among k (j ∷ order)) → Among k order
-still xs j k order done x y e ne h covers = by (k == j) refl
-  where
-    by : (b : Bool) → (k == j) ≡ b → Among k order
-    by true s =
-        let gone = at_set xs j done (slice_get_within xs j y e) in
-        let here : slice_get (slice_set xs j done) j ≡ Some x = ap (slice_get (slice_set xs j done)) (sym (eqb-true k j s)) ∙ h in
-        absurd (ne cc)
-    by false s =
-        let other : k ≡ j → ⊥ = λ q. let bad : (k == j) ≡ true = eq-eqb k j q in absurd (cc) in
-        elim (covers (sym (at_other xs j k done other) ∙ h)) [
-          | inl q ↦ absurd (other q)
-          | inr more ↦ more
-        ]
+still xs j k order done x y e ne h covers = elim (cases_eq k j) [
+  | inl same ↦ let gone = at_set xs j done (slice_get_within xs j y e) in absurd (ne cc)
+  | inr other ↦ elim (covers (sym (at_other xs j k done other) ∙ h)) [ inl q ↦ absurd (other q) | inr more ↦ more ]
+]
 
 -- ---- subsections
 
@@ -105,9 +93,7 @@ each_comes came (j ∷ order) apart wait covers = (
 -- ---- a device with subsections
 
 pub at_map : {A B : Type 0} (f : A → B) (xs : List A) (j : ℕ) (x : A) → slice_get xs j ≡ Some x → slice_get (map f xs) j ≡ Some (f x)
-at_map f [] j x e = absurd (cc)
-at_map f (y ∷ xs) zero x e = let same : y ≡ x = cc in ap (λ u. Some (f u)) same
-at_map f (y ∷ xs) (suc j) x e = at_map f xs j x e
+at_map f xs j x e = rw (slice_get-map f xs j, e)
 
 pub from_map : {A B : Type 0} (f : A → B) (xs : List A) (j : ℕ) (y : B) → slice_get (map f xs) j ≡ Some y → (x : A) × (slice_get xs j ≡ Some x) × (f x ≡ y)
 from_map f [] j y e = absurd (cc)
@@ -115,7 +101,7 @@ from_map f (x ∷ xs) zero y e = let is : f x ≡ y = cc in (x, refl, is)
 from_map f (x ∷ xs) (suc j) y e = from_map f xs j y e
 
 holds_whole : (numbers : List ℤ) → Holds numbers 0 numbers
-holds_whole numbers = record { each = λ c lt. let z : 0 + c ≡ c = omega arith in ap (λ (k : ℕ). get_or numbers k (pos 0)) z }
+holds_whole numbers = record { each = λ c lt. let z : 0 + c ≡ c = omega arith in rw z }
 
 abbrev pub sub_order : Device → List Sub → List (Option ℕ) → List ℕ
 sub_order e [] came = []
@@ -174,7 +160,7 @@ module _ (old new : Set) (good_old : WellFormed old) (good_new : WellFormed new)
       → index (find_sub 0 e.subs s.desc.name) ≡ l → Among l (sub_order e subs cs)
   order_has (x ∷ subs) (Some u ∷ cs) zero l v s h h' is =
       let same : x ≡ s = cc in
-      inl (sym (ap (λ (y : Sub). index (find_sub 0 e.subs y.desc.name)) same ∙ is))
+      inl (sym (rw (← same) at is))
   order_has (x ∷ subs) (None ∷ cs) (suc j) l v s h h' is = order_has subs cs j l v s h h' is
   order_has (x ∷ subs) (Some u ∷ cs) (suc j) l v s h h' is = inr (order_has subs cs j l v s h h' is)
   order_has _ _ _ l v s h h' is = absurd (cc)
@@ -225,10 +211,7 @@ module _ (old new : Set) (good_old : WellFormed old) (good_new : WellFormed new)
         let body = zeroed image.numbers (sub_slots old s v image.numbers (sub_place old (own_cells old d) d.subs j)) in
         let held_t = sub_held old new good_old good_new d e image numbers' came e.subs _ p.number p.sub p.stands all_facts held in
         let spells = (sub_reads old new good_old good_new d e image numbers' came p.sub c _ held_t).carries.spells in
-        let bytes = sub_head s.desc.name v ++ body in
-        rw p.stands
-        (rw (at_map came e.subs p.number p.sub p.stands ∙ ap Some c.came)
-        (body, spells, ap (λ (name : List ℕ). sub_head name v ++ body) (sym p.name_is)))
+        rw (p.stands, at_map came e.subs p.number p.sub p.stands, c.came) (body, spells, rw p.name_is)
 
     -- the subsections from one on: their bytes, and each that is present once
     record Walk (subs : List Sub) (cs : List (Option ℕ)) (place : ℕ) : Type 0 where
@@ -252,19 +235,11 @@ module _ (old new : Set) (good_old : WellFormed old) (good_new : WellFormed new)
         let at_came = at_first (slice_get image.came) j h' in
         let p = sub_pair j s at_j in
         let c = came_here j s v at_j at_came p in
-        let one =
-        subst (λ (q : ℕ). SubSpells new e image' p.number (slice_get e.subs p.number) (slice_get image'.came p.number)
-        (sub_head s.desc.name v ++ zeroed image.numbers (sub_slots old s v image.numbers q)))
-        (at_first (sub_place old (own_cells old d) d.subs) j h'') (one_spell j s v at_j at_came p) in
+        let one = rw (at_first (sub_place old (own_cells old d) d.subs) j h'') at (one_spell j s v at_j at_came p) in
+        let bytes = sub_head s.desc.name v ++ zeroed image.numbers (sub_slots old s v image.numbers place) in
         record {
-          spells = (
-            (sub_head s.desc.name v ++ (zeroed image.numbers (sub_slots old s v image.numbers place))),
-            (written_subs old d image next subs cs),
-            rw (← (sym (ap index p.found))) one,
-            more.spells,
-            refl,
-          );
-          within = ((v, ap (λ (n : ℕ). slice_get image'.came n) (ap index p.found) ∙ at_map came e.subs p.number p.sub p.stands ∙ ap Some c.came), more.within);
+          spells = (bytes, written_subs old d image next subs cs, rw p.found one, more.spells, refl);
+          within = ((v, rw (p.found, at_map came e.subs p.number p.sub p.stands, c.came)), more.within);
           apart = (one_apart j (suc j) s subs cs (omega arith) at_j rest_subs, more.apart);
         }
 
@@ -280,7 +255,7 @@ module _ (old new : Set) (good_old : WellFormed old) (good_new : WellFormed new)
 
   absent_default : (slots : List Slot) (c : ℕ) → (has_cell slots c ≡ true) ⊎ (get_or numbers' c (pos 0) ≡ get_or (defaults (device_cells new e)) c (pos 0))
       → has_cell slots c ≡ false → get_or numbers' c (pos 0) ≡ (get_or (device_cells new e) c no_cell).default
-  absent_default slots c (inl has) absent = let bad : true ≡ false = sym has ∙ absent in absurd (cc)
+  absent_default slots c (inl has) absent = absurd (cc (has, absent))
   absent_default slots c (inr is) absent = is ∙ defaults_at _ c
 
   pub section_whole : (part part' : Part) → comparing old new d.desc e.desc d.desc.version part part' ≡ None → is_version_of e.desc d.desc.version ≡ true
@@ -315,11 +290,7 @@ module _ (old new : Set) (good_old : WellFormed old) (good_new : WellFormed new)
           subs = subs.versions;
           cells = (are_fit (device_cells new e) numbers'
               (fit_append cells sub_cells own rest own_meets.fits (subs_fit old new good_old good_new d e image numbers' came e.subs all_facts)));
-          absent = λ c below absent.
-              let z : 0 + c ≡ c = omega arith in
-              absent_default (slots ++ more) c
-              (subst (λ (q : ℕ). (has_cell (slots ++ more) q ≡ true) ⊎ (get_or numbers' c (pos 0) ≡ get_or (defaults (device_cells new e)) c (pos 0))) z
-              (settled.each c below)) absent;
+          absent = λ c below absent. let z : 0 + c ≡ c = omega arith in absent_default (slots ++ more) c (rw z at (settled.each c below)) absent;
         };
         valid = rules_append slots more (own_reads.carries.rules rules_old) subs.rules;
         body = body;
@@ -328,6 +299,5 @@ module _ (old new : Set) (good_old : WellFormed old) (good_new : WellFormed new)
         each_once = each_once held_rest;
         tail = tail;
         subs = (walked held_rest).spells;
-        whole = ap (λ (name : List ℕ). section_head id name d.instance v ++ body ++ tail ++ foot id) names
-            ∙ ap (λ (i : ℕ). section_head id e.desc.name i v ++ body ++ tail ++ foot id) instances;
+        whole = rw (names, instances);
       }
