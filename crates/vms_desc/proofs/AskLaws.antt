@@ -1,36 +1,17 @@
 -- The fields that tests and counts of a well-formed set name exist, and the code's answers are
 -- those of the definitions.
-use Rattle.std.proofs.Common.{◌≡◌, ℕ, zero, suc, ◌+◌, ◌<◌, ◌≤◌, List, [], ◌∷◌, length, length-append, get_or, map, Option, Some, None, refl, sym, ap, ◌∙◌}
-use Rattle.std.proofs.Common.{arith, Bool, true, ◌&&◌, ℤ}
-use Rattle.std.specs.List.{flat_map, slice_get, list_all}
-use Rattle.std.proofs.lemmas.Bool.{and_parts}
-use Rattle.std.proofs.lemmas.List.{length-map}
-use Rattle.std.proofs.lemmas.Option.{get_or_from_slice_get}
-use Rattle.std.proofs.Math.ListN.{get_or-map}
-use Rattle.vms_spec.specs.declared.TheConstants.{MOST_ITEMS}
-use Rattle.vms_spec.specs.declared.Count.TheVariants.{Counted}
-use Rattle.vms_spec.specs.declared.Whose.TheVariants.{Own, Parent}
-use Rattle.vms_spec.specs.declared.Part.{Part}
+use Rattle.vms_desc.proofs.Facade.{◌≡◌, ℕ, zero, suc, ◌+◌, ◌<◌, ◌≤◌, List, [], ◌∷◌, length, length-append, get_or, map, Option, Some, None, refl, sym, ap, ◌∙◌}
+use Rattle.vms_desc.proofs.Facade.{arith, Bool, true, ◌&&◌, ℤ, flat_map, slice_get, list_all, and_parts, length-map, get_or_from_slice_get, get_or-map}
+use Rattle.vms_desc.proofs.Facade.{MOST_ITEMS, Counted, Own, Parent, Part, Formula, AtLeast, Below, Cell, Not, And, Or, Field, Desc, Sub, Device, Set, truth}
+use Rattle.vms_desc.proofs.Facade.{own_cells, sub_place, no_desc, no_field, no_parent, all_hold, desc_cells, struct_cells, device_cells, is_num, is_one}
+use Rattle.vms_desc.proofs.Facade.{has_no_test, is_steady, is_steady_in, is_earlier_in, is_counting, names_well, nobody, test_names_well, count_names_well}
+use Rattle.vms_desc.proofs.Facade.{device_at, field_of, desc_of, sub_of, device_of, form_of, get_map_at, Scope, own_numbers, HasCells, is_well_formed}
+use Rattle.vms_desc.proofs.Facade.{fields_in, number_of, IsScope, HasPart, desc_at, sub_at, is_number, is_number_in, is_placed}
 use Rattle.vms_spec.specs.declared.Part.TheVariants as parts
-use Rattle.vms_spec.specs.Sets.{Formula, AtLeast, Below, Cell, Not, And, Or, Field, Desc, Sub, Device, Set}
-use Rattle.vms_spec.specs.Tests.{truth}
-use Rattle.vms_spec.specs.Images.{own_cells, sub_place}
-use Rattle.vms_spec.specs.Layout.{no_desc, no_field, no_parent, all_hold, desc_cells, struct_cells, device_cells}
-use Rattle.vms_spec.specs.Rules.{is_num, is_one, has_no_test, is_steady, is_steady_in, is_earlier_in, is_counting, names_well, nobody, test_names_well}
-use Rattle.vms_spec.specs.Rules.{count_names_well}
-use Rattle.vms_parts.specs.Devices.{device_at}
-use Rattle.vms_parts.specs.Views.{field_of, desc_of, sub_of, device_of, form_of}
 use Rattle.vms_parts.specs.declared.types.Desc.{Desc as CodeDesc}
 use Rattle.vms_parts.specs.declared.types.Device.{Device as CodeDevice}
 use Rattle.vms_parts.specs.declared.types.Field.{Field as CodeField}
 use Rattle.vms_parts.specs.declared.types.Sub.{Sub as CodeSub}
-use Rattle.vms_parts.proofs.Items.{get_map_at}
-use Rattle.vms_desc.specs.declared.eval.Scope.{Scope}
-use Rattle.vms_desc.specs.Asks.{own_numbers, HasCells}
-use Rattle.vms_desc.specs.Formed.{is_well_formed}
-use Rattle.vms_desc.specs.Numbers.{fields_in, number_of}
-use Rattle.vms_desc.specs.Scopes.{IsScope}
-use Rattle.vms_desc.specs.Parts.{HasPart, desc_at, sub_at, is_number, is_number_in, is_placed}
 use Rattle.vms_desc.proofs.Bounds.{small_layout}
 use Rattle.vms_desc.proofs.Clean.{field_clean, validate_clean, sub_clean}
 use Rattle.vms_desc.proofs.EvalLaws.{truth_same, own_number}
@@ -88,8 +69,7 @@ module _ (set : Set) (well : is_well_formed set ≡ true) where
 
   -- the validations
   pub rules_name : (part : Part) → HasPart set part → (own : Scope) → fields_in own ≡ (desc_at set part).fields → (ts : List Formula)
-      → ts ≡ (desc_at set part).validate
-      → list_all (names_well (is_number_in (fields_in own)) nobody) ts ≡ true
+      → ts ≡ (desc_at set part).validate → list_all (names_well (is_number_in (fields_in own)) nobody) ts ≡ true
   rules_name part h own e ts is =
       let d = desc_at set part in
       rw (e, is) (every_more (is_steady_in d) (is_number_in d.fields) nobody nobody (steady_number d) (λ j x. x) d.validate (validate_clean set well part h))
@@ -101,15 +81,13 @@ module _ (set : Set) (well : is_well_formed set ≡ true) where
       let d = device_at set i in
       let s = sub_at d j in
       names_more (is_steady_in s.desc) (is_number_in s.desc.fields) (is_steady_in d.desc) (is_number_in d.desc.fields) (steady_number s.desc)
-      (steady_number d.desc) s.needed
-      (sub_clean set well i j h lt).own.1.1.1.0
+      (steady_number d.desc) s.needed (sub_clean set well i j h lt).own.1.1.1.0
 
 -- ---- the answers of the code
 
 -- a subsection that the code found is that of the set
 pub found_sub : (set : Set) (i j : ℕ) (device : CodeDevice) (subs : List CodeSub) (s : CodeSub) → device_of device ≡ device_at set i → subs ≡ device.subs
-    → j < length (device_at set i).subs → s ≡ get_or subs j s
-    → sub_of s ≡ sub_at (device_at set i) j
+    → j < length (device_at set i).subs → s ≡ get_or subs j s → sub_of s ≡ sub_at (device_at set i) j
 found_sub set i j device subs s d e lt is =
     let none : Sub = record { desc = no_desc; needed = AtLeast 0 } in
     let same : map sub_of subs ≡ (device_at set i).subs = ap (map sub_of) e ∙ ap (λ (x : Device). x.subs) d in
@@ -165,8 +143,7 @@ all_long : (set : Set) (d : Device) → length (device_cells set d) ≡ own_cell
 all_long set d = length-append (desc_cells (struct_cells set) d.desc) (flat_map (λ s. desc_cells (struct_cells set) s.desc) d.subs)
 
 -- a subsection's cells are among its device's
-pub sub_inside : (set : Set) (i j : ℕ) → j < length (device_at set i).subs
-    → sub_place set (own_cells set (device_at set i)) (device_at set i).subs j + length
+pub sub_inside : (set : Set) (i j : ℕ) → j < length (device_at set i).subs → sub_place set (own_cells set (device_at set i)) (device_at set i).subs j + length
     (desc_cells (struct_cells set) (sub_at (device_at set i) j).desc) ≤ length (device_cells set (device_at set i))
 sub_inside set i j lt =
     let d = device_at set i in

@@ -1,29 +1,11 @@
 -- The limits of well-formed sets.
-use Rattle.std.proofs.Common.{◌≡◌, ℕ, zero, suc, ◌+◌, ◌*◌, ◌≤◌, List, ◌∷◌, ◌++◌, length, length-append, get_or, map, refl, sym, ap, ◌∙◌, arith, true, ◌&&◌}
-use Rattle.std.proofs.Common.{nat_le, Option, Some, None, is_none, []}
-use Rattle.std.specs.List.{flat_map}
-use Rattle.std.proofs.lemmas.Bool.{and_parts, leb-true}
-use Rattle.std.proofs.lemmas.List.{length-map}
-use Rattle.std.proofs.lemmas.Simd.{map-map}
-use Rattle.vms_kinds.specs.declared.Item.{Item}
-use Rattle.vms_kinds.specs.declared.Item.TheVariants.{Struct}
-use Rattle.vms_spec.specs.declared.TheConstants.{MOST_ITEMS}
+use Rattle.vms_desc.proofs.Facade.{◌≡◌, ℕ, zero, suc, ◌*◌, ◌≤◌, List, ◌∷◌, ◌++◌, length, length-append, get_or, map, refl, sym, ap, ◌∙◌, arith, true, ◌&&◌}
+use Rattle.vms_desc.proofs.Facade.{nat_le, Option, Some, None, is_none, [], flat_map, and_parts, leb-true, length-map, map-map, Item, Struct, MOST_ITEMS}
+use Rattle.vms_desc.proofs.Facade.{first_answer, Field, Desc, Sub, Device, Set, first, no_desc, capacity_of, desc_cells, struct_cells, device_cells, failing}
+use Rattle.vms_desc.proofs.Facade.{here, struct_fault, device_fault, set_rules, size_rules, first_fault, items_in, struct_items, subs_items, devices_items}
+use Rattle.vms_desc.proofs.Facade.{IsFit, IsGood, FitsHeads, or_else_none, AllTrue, all_true, first_long, well_good, Cells, Items, in_u32, size_of, fields_size}
+use Rattle.vms_desc.proofs.Facade.{sizes_to, form_of, layout_of, items_are, items_to, is_well_formed}
 use Rattle.vms_spec.specs.declared.Part.TheVariants as parts
-use Rattle.vms_spec.specs.Lists.{first_answer}
-use Rattle.vms_spec.specs.Sets.{Field, Desc, Sub, Device, Set}
-use Rattle.vms_spec.specs.Layout.{first, no_desc, capacity_of, desc_cells, struct_cells, device_cells}
-use Rattle.vms_spec.specs.WellFormed.{failing, here, struct_fault, device_fault, set_rules, size_rules, first_fault, items_in, struct_items, subs_items}
-use Rattle.vms_spec.specs.WellFormed.{devices_items}
-use Rattle.vms_spec.specs.Good.{IsFit, IsGood}
-use Rattle.vms_spec.specs.Heads.{FitsHeads}
-use Rattle.vms_spec.proofs.Faultless.{or_else_none, AllTrue, all_true}
-use Rattle.vms_spec.proofs.Tables.{first_long}
-use Rattle.vms_spec.proofs.WellFormedLaws.{well_good}
-use Rattle.vms_parts.specs.declared.sizes.Measure.TheVariants.{Cells, Items}
-use Rattle.vms_parts.specs.Sizes.{in_u32, size_of, fields_size, sizes_to}
-use Rattle.vms_parts.specs.Views.{form_of, layout_of}
-use Rattle.vms_parts.proofs.ItemLaws.{items_are, items_to}
-use Rattle.vms_desc.specs.Formed.{is_well_formed}
 use Rattle.vms_desc.proofs.EvalLaws.{cells_size, struct_sizes}
 
 -- ---- no fault at the set

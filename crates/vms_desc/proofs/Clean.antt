@@ -1,24 +1,11 @@
 -- The properties of a well-formed set, part by part.
-use Rattle.std.proofs.Common.{◌≡◌, ℕ, suc, ◌<◌, ◌≤◌, List, ◌∷◌, length, get_or, Some, refl, ◌∙◌, arith, Bool, true, ◌&&◌, nat_le, []}
-use Rattle.std.specs.List.{list_all, slice_get}
-use Rattle.std.proofs.lemmas.Bool.{leb-true, and_parts}
-use Rattle.std.proofs.lemmas.Option.{slice_get-get_or}
-use Rattle.vms_kinds.specs.declared.Item.{Item}
-use Rattle.vms_kinds.specs.declared.Item.TheVariants.{Equal, Unused}
-use Rattle.vms_spec.specs.declared.Count.{Count}
-use Rattle.vms_spec.specs.declared.Count.TheVariants.{One, Fixed, Counted}
-use Rattle.vms_spec.specs.declared.Part.{Part}
+use Rattle.vms_desc.proofs.Facade.{◌≡◌, ℕ, suc, ◌<◌, ◌≤◌, List, ◌∷◌, length, get_or, Some, refl, arith, Bool, true, ◌&&◌, nat_le, [], list_all, slice_get}
+use Rattle.vms_desc.proofs.Facade.{leb-true, and_parts, slice_get-get_or, Item, Equal, Unused, Count, One, Fixed, Counted, Part, Formula, AtLeast, Field, Desc}
+use Rattle.vms_desc.proofs.Facade.{Set, capacity_of, no_desc, no_field, is_name, is_name_byte, is_steady_in, names_well, nobody, test_names_well}
+use Rattle.vms_desc.proofs.Facade.{count_names_well, uses_below, has_good_count, field_rules, validation_rules, has_few, struct_rules, sub_rules, device_rules}
+use Rattle.vms_desc.proofs.Facade.{first_fault, WellFormed, device_at, is_well_formed, HasPart, desc_at, sub_at, AllTrue, Clean, device_parts}
 use Rattle.vms_spec.specs.declared.Part.TheVariants as parts
-use Rattle.vms_spec.specs.Sets.{Formula, AtLeast, Field, Desc, Set}
-use Rattle.vms_spec.specs.Layout.{capacity_of, no_desc, no_field}
-use Rattle.vms_spec.specs.Names.{is_name, is_name_byte}
-use Rattle.vms_spec.specs.Rules.{is_steady_in, names_well, nobody, test_names_well, count_names_well, uses_below, has_good_count, field_rules, validation_rules}
-use Rattle.vms_spec.specs.WellFormed.{has_few, struct_rules, sub_rules, device_rules, first_fault, WellFormed}
-use Rattle.vms_parts.specs.Devices.{device_at}
-use Rattle.vms_desc.specs.Formed.{is_well_formed}
-use Rattle.vms_desc.specs.Parts.{HasPart, desc_at, sub_at}
-use Rattle.vms_spec.proofs.Faultless.{AllTrue}
-use Rattle.vms_spec.proofs.WellFormedLaws.{Clean, struct_clean as struct_at, device_parts, sub_clean as sub_of}
+use Rattle.vms_spec.proofs.WellFormedLaws.{struct_clean as struct_at, sub_clean as sub_of}
 use Rattle.vms_desc.proofs.Bounds.{none_is}
 
 -- ---- one description
@@ -81,8 +68,7 @@ of_part : {k : ℕ} {d : Desc} {rules : List Bool} → IsClean k d rules → len
 of_part c few = record { each = c.each; validate = c.validate; few = few }
 
 few : (d : Desc) (more : Bool) → has_few d && more ≡ true → length d.fields ≤ 256
-few d more e =
-    leb-true (length d.fields) 256 (and_parts (nat_le (length d.fields) 256) (nat_le (length d.validate) 16) (and_parts (has_few d) more e).0).0
+few d more e = leb-true (length d.fields) 256 (and_parts (nat_le (length d.fields) 256) (nat_le (length d.validate) 16) (and_parts (has_few d) more e).0).0
 
 -- ---- the parts of a set
 

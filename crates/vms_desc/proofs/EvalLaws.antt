@@ -1,37 +1,16 @@
 -- Numbers by sizes, and the numbers of cells: those of the definition.
-use Rattle.std.proofs.Common.{◌≡◌, ℕ, zero, suc, ◌+◌, ◌*◌, ◌<◌, ◌≤◌, List, [], ◌∷◌, length, length-append, get_or, take, map, min, refl, sym, ap, ◌∙◌, arith}
-use Rattle.std.proofs.Common.{Bool, true, ◌&&◌, Option, Some, None, ℤ}
-use Rattle.std.specs.List.{flat_map, slice_get}
-use Rattle.std.proofs.lemmas.Bool.{and_parts}
-use Rattle.std.proofs.lemmas.List.{map-append, take_min}
-use Rattle.std.proofs.lemmas.Simd.{map-map}
-use Rattle.std.proofs.Math.ListN.{get_or-map}
-use Rattle.vms_kinds.specs.declared.Item.{Item}
-use Rattle.vms_kinds.specs.declared.Item.TheVariants.{Num, Struct}
-use Rattle.vms_spec.specs.declared.Count.{Count}
-use Rattle.vms_spec.specs.declared.Count.TheVariants.{One}
-use Rattle.vms_spec.specs.declared.Part.{Part}
+use Rattle.vms_desc.proofs.Facade.{◌≡◌, ℕ, zero, suc, ◌+◌, ◌*◌, ◌<◌, ◌≤◌, List, [], ◌∷◌, length, length-append, get_or, take, map, min, refl, sym, ap, ◌∙◌}
+use Rattle.vms_desc.proofs.Facade.{arith, Bool, true, ◌&&◌, Option, Some, None, ℤ, flat_map, slice_get, and_parts, map-append, take_min, map-map, get_or-map}
+use Rattle.vms_desc.proofs.Facade.{Item, Num, Struct, Count, One, Part, MOST_ITEMS, Own, Parent, first, no_desc, no_field, times, counted, capacity_of}
+use Rattle.vms_desc.proofs.Facade.{item_cells, item_size, field_cells, cells_from, desc_cells, struct_cells, device_cells, numbers_of, place_of, is_num, is_one}
+use Rattle.vms_desc.proofs.Facade.{names_well, Formula, AtLeast, Below, Cell, Not, And, Or, Field, Desc, Sub, Device, Set, truth, field_size, Cells, device_at}
+use Rattle.vms_desc.proofs.Facade.{in_u32, size_of, fields_size, sizes_to, field_of, form_of, capped_fields, Scope, item_forms, fields_forms, subs_forms}
+use Rattle.vms_desc.proofs.Facade.{device_forms, forms_to, sizes_of, place_in, number_in, number_of, number_of_parent, desc_at, is_number, is_number_in}
+use Rattle.vms_desc.proofs.Facade.{is_number_of_parent, is_placed, parent_of, HasParentCells, may_ask, may_ask_parent, IsInside, IsInsideParent, IsScope}
+use Rattle.vms_desc.proofs.Facade.{IsParent, AreStarts}
 use Rattle.vms_spec.specs.declared.Part.TheVariants as parts
-use Rattle.vms_spec.specs.declared.TheConstants.{MOST_ITEMS}
-use Rattle.vms_spec.specs.declared.Whose.TheVariants.{Own, Parent}
-use Rattle.vms_spec.specs.Layout.{Cell as OneCell, first, no_desc, no_field, times, counted, capacity_of, item_cells, item_size, field_cells, cells_from, desc_cells}
-use Rattle.vms_spec.specs.Layout.{struct_cells, device_cells, numbers_of, place_of}
-use Rattle.vms_spec.specs.Rules.{is_num, is_one, names_well}
-use Rattle.vms_spec.specs.Sets.{Formula, AtLeast, Below, Cell, Not, And, Or, Field, Desc, Sub, Device, Set}
-use Rattle.vms_spec.specs.Tests.{truth}
-use Rattle.vms_spec.proofs.Sizes.{field_size}
-use Rattle.vms_parts.specs.declared.sizes.Measure.TheVariants.{Cells}
+use Rattle.vms_spec.specs.Layout.{Cell as OneCell}
 use Rattle.vms_parts.specs.declared.types.Field.{Field as CodeField}
-use Rattle.vms_parts.specs.Devices.{device_at}
-use Rattle.vms_parts.specs.Sizes.{in_u32, size_of, fields_size, sizes_to}
-use Rattle.vms_parts.specs.Views.{field_of, form_of}
-use Rattle.vms_parts.proofs.SizeLaws.{capped_fields}
-use Rattle.vms_desc.specs.declared.eval.Scope.{Scope}
-use Rattle.vms_desc.specs.Forms.{item_forms, fields_forms, subs_forms, device_forms, forms_to}
-use Rattle.vms_desc.specs.Numbers.{sizes_of, place_in, number_in, number_of, number_of_parent}
-use Rattle.vms_desc.specs.Parts.{desc_at, is_number, is_number_in, is_number_of_parent, is_placed, parent_of, HasParentCells}
-use Rattle.vms_desc.specs.Scopes.{may_ask, may_ask_parent, IsInside, IsInsideParent, IsScope, IsParent}
-use Rattle.vms_desc.specs.Tables.{AreStarts}
 
 -- ---- the cells of the fields' numbers
 
@@ -68,8 +47,7 @@ cells_size cs fields i (f ∷ fs) = rw length-append (omega (arith, rw (item_siz
 pub struct_sizes : (ds : List Desc) (k : ℕ) → sizes_to Cells ds k ≡ map length (first desc_cells ds k)
 unfolding first
 struct_sizes ds zero = refl
-struct_sizes ds (suc k) =
-    let d = get_or ds k no_desc in rw (struct_sizes ds k, map-append, cells_size (first desc_cells ds k) d.fields 0 d.fields)
+struct_sizes ds (suc k) = let d = get_or ds k no_desc in rw (struct_sizes ds k, map-append, cells_size (first desc_cells ds k) d.fields 0 d.fields)
 
 -- ---- the forms of cells are those of their structures
 
@@ -98,8 +76,7 @@ forms_fields cs fields i (f ∷ fs) =
 struct_forms_all : (ds : List Desc) (k : ℕ) → forms_to ds k ≡ map (map form_of) (first desc_cells ds k)
 unfolding first
 struct_forms_all ds zero = refl
-struct_forms_all ds (suc k) =
-    let d = get_or ds k no_desc in rw (struct_forms_all ds k, map-append, forms_fields (first desc_cells ds k) d.fields 0 d.fields)
+struct_forms_all ds (suc k) = let d = get_or ds k no_desc in rw (struct_forms_all ds k, map-append, forms_fields (first desc_cells ds k) d.fields 0 d.fields)
 
 forms_subs : (cs : List (List OneCell)) (subs : List Sub) → map form_of (flat_map (λ s. desc_cells cs s.desc) subs) ≡ subs_forms (map (map form_of) cs) subs
 forms_subs cs [] = refl
@@ -205,8 +182,7 @@ parent_asked set part None p = refl
 parent_asked set part (Some s) p = absurd p
 
 pub placed : (set : Set) (part : Part) (base : ℕ) (own : Scope) (parent : Option Scope) (t : Formula) → IsScope set (desc_at set part) base own
-    → IsParent set part parent
-    → is_placed set part t ≡ true → names_well (may_ask own) (may_ask_parent parent) t ≡ true
+    → IsParent set part parent → is_placed set part t ≡ true → names_well (may_ask own) (may_ask_parent parent) t ≡ true
 placed set part base own parent t s p h =
     ap (λ (fs : List Field). names_well (is_number_in fs) (may_ask_parent parent) t) s.fields
     ∙ ap (λ (f : ℕ → Bool). names_well (is_number_in (desc_at set part).fields) f t) (parent_asked set part parent p) ∙ h
@@ -246,5 +222,4 @@ pub truth_is : (set : Set) (part : Part) (base : ℕ) (own : Scope) (parent : Op
     (parent_of set part numbers)
 truth_is set part base own parent numbers t v s p few room h =
     truth_same v (number_of numbers own) (numbers_of (struct_cells set) (desc_at set part) numbers base) (number_of_parent numbers parent)
-    (parent_of set part numbers)
-    (own_number set (desc_at set part) base own numbers s few room) (parent_number set part parent numbers p few h) t
+    (parent_of set part numbers) (own_number set (desc_at set part) base own numbers s few room) (parent_number set part parent numbers p few h) t

@@ -1,36 +1,17 @@
 -- Forms that are appended, and the numbers of a device's cells at their defaults.
-use Rattle.std.proofs.Common.{◌≡◌, ℕ, zero, suc, ◌+◌, ◌-◌, ◌*◌, ◌<◌, ◌≤◌, List, [], ◌∷◌, ◌++◌, length, get_or, drop, take, map, refl, sym, ap, ◌∙◌, arith, ℤ}
-use Rattle.std.proofs.Common.{pos}
-use Rattle.std.proofs.Common.{append_assoc, append-nil, length-append, take_all, true}
-use Rattle.std.proofs.lemmas.List.{drop_all, drop_at, ext_get_or, get_or-map, length-map, map-append, take-map, length-take-le, take_at, get_or_past}
-use Rattle.std.proofs.lemmas.Nat.{mul-le}
-use Rattle.std.proofs.lemmas.Option.{slice_get-get_or}
-use Rattle.std.proofs.lemmas.Simd.{map-map}
-use Rattle.vms_kinds.specs.declared.Kind.{Kind}
-use Rattle.vms_kinds.specs.declared.Kind.TheVariants.{U8}
-use Rattle.vms_kinds.specs.Codes.{InRange}
+use Rattle.vms_desc.proofs.Facade.{◌≡◌, ℕ, zero, suc, ◌+◌, ◌-◌, ◌*◌, ◌<◌, ◌≤◌, List, [], ◌∷◌, ◌++◌, length, get_or, drop, take, map, refl, sym, ap, ◌∙◌, arith}
+use Rattle.vms_desc.proofs.Facade.{ℤ, pos, append_assoc, append-nil, length-append, true, drop_all, drop_at, ext_get_or, length-map, map-append, take-map}
+use Rattle.vms_desc.proofs.Facade.{take_at, get_or_past, mul-le, slice_get-get_or, map-map, Kind, U8, InRange, FitsHeads, no_desc, no_cell, times, device_cells}
+use Rattle.vms_desc.proofs.Facade.{first_fault, DefaultsFit, first_at, first_take, first_long, well_good, device_at, CellForm, Parts, field_of, desc_of, sub_of}
+use Rattle.vms_desc.proofs.Facade.{device_of, set_of, form_of, layout_of, drop_is, get_map_at, Held, Forms, is_well_formed, field_forms, fields_forms}
+use Rattle.vms_desc.proofs.Facade.{subs_forms, device_forms, forms_to, AreForms, Puts, kinds_at, form_numbers, defaults_at}
+use Rattle.std.proofs.Common.{take_all}
+use Rattle.std.proofs.lemmas.List.{get_or-map, length-take-le}
 use Rattle.vms_spec.specs.Sets as sets
-use Rattle.vms_spec.specs.Heads.{FitsHeads}
-use Rattle.vms_spec.specs.Layout.{no_desc, no_cell, times, device_cells}
-use Rattle.vms_spec.specs.WellFormed.{first_fault}
-use Rattle.vms_spec.specs.Good.{DefaultsFit}
-use Rattle.vms_spec.proofs.Tables.{first_at, first_take, first_long}
-use Rattle.vms_spec.proofs.WellFormedLaws.{well_good}
-use Rattle.vms_parts.specs.Devices.{device_at}
-use Rattle.vms_parts.specs.declared.types.CellForm.{CellForm}
 use Rattle.vms_parts.specs.declared.types.Desc.{Desc}
 use Rattle.vms_parts.specs.declared.types.Device.{Device}
 use Rattle.vms_parts.specs.declared.types.Field.{Field}
-use Rattle.vms_parts.specs.declared.types.Parts.{Parts}
 use Rattle.vms_parts.specs.declared.types.Sub.{Sub}
-use Rattle.vms_parts.specs.Views.{field_of, desc_of, sub_of, device_of, set_of, form_of, layout_of}
-use Rattle.vms_parts.proofs.Items.{drop_is, get_map_at}
-use Rattle.vms_spots.specs.Spots.{Held}
-use Rattle.vms_desc.specs.declared.forms.Forms.{Forms}
-use Rattle.vms_desc.specs.Formed.{is_well_formed}
-use Rattle.vms_desc.specs.Forms.{field_forms, fields_forms, subs_forms, device_forms, forms_to}
-use Rattle.vms_desc.specs.Put.{AreForms, Puts}
-use Rattle.vms_desc.specs.Spots.{kinds_at, form_numbers, defaults_at}
 use Rattle.vms_desc.proofs.Bounds.{none_is}
 use Rattle.vms_desc.proofs.EvalLaws.{device_forms_are}
 
@@ -99,13 +80,11 @@ module _ {X : Type 0} (part : List X) where
 
   repeated_both : (n m k : ℕ) → k ≡ n + m → repeated k ≡ repeated n ++ repeated m
   repeated_both zero m k is = let e : k ≡ m = omega arith in rw e
-  repeated_both (suc n) m k is =
-      let e : k ≡ suc (n + m) = omega arith in rw (e, append_assoc, repeated_both n m (n + m) refl)
+  repeated_both (suc n) m k is = let e : k ≡ suc (n + m) = omega arith in rw (e, append_assoc, repeated_both n m (n + m) refl)
 
   -- more of them are appended
   pub repeats_more : (front items new : List X) (done more start size : ℕ) → start ≡ length front → size ≡ length part → items ≡ front ++ repeated done
-      → more ≤ done
-      → new ≡ items ++ take ((start + size * more) - start) (drop start items) → new ≡ front ++ repeated (done + more)
+      → more ≤ done → new ≡ items ++ take ((start + size * more) - start) (drop start items) → new ≡ front ++ repeated (done + more)
   repeats_more front items new done more start size at wide is le e =
       let span : (start + size * more) - start ≡ length part * more = omega (arith, ap (λ (k : ℕ). k * more) wide) in
       let behind : drop start items ≡ repeated done = ap (drop start) is ∙ drop_at front (repeated done) start (sym at) in
@@ -213,8 +192,7 @@ module _ (forms : Forms) (cells : List CellForm) (are : AreForms forms cells) wh
   numbers_seen h e = e ∙ cc (are.kinds, are.defaults)
 
   pub kept_fit : (set : sets.Set) (k : ℕ) → cells ≡ map form_of (device_cells set (device_at set k)) → is_well_formed set ≡ true → FitsHeads set
-      → k < length set.devices
-      → (c : ℕ) → c < length forms.kinds.items → InRange (get_or forms.kinds.items c U8) (get_or forms.defaults.items c (pos 0))
+      → k < length set.devices → (c : ℕ) → c < length forms.kinds.items → InRange (get_or forms.kinds.items c U8) (get_or forms.defaults.items c (pos 0))
   kept_fit set k laid well heads lt c inside = rw (are.kinds, are.defaults) (defaults_fit set k cells laid well heads lt c (omega (arith, kinds_long)))
 
 abbrev no_device : sets.Device
@@ -233,11 +211,9 @@ entry_is set defaults k here tabled lt is =
 
 -- the forms that a call made
 pub forms_are : (parts : Parts) (i : ℕ) (d : Device) (forms : List CellForm) → i < length parts.devices → d ≡ get_or parts.devices i d → {structs : List Desc}
-    → structs ≡ parts.structs
-    → forms ≡ device_forms (forms_to (map desc_of structs) (length structs)) (device_of d)
+    → structs ≡ parts.structs → forms ≡ device_forms (forms_to (map desc_of structs) (length structs)) (device_of d)
     → forms ≡ map form_of (device_cells (set_of parts) (device_at (set_of parts) i))
-forms_are parts i d forms lt is {structs} same e =
-    rw (get_map_at device_of parts.devices i d no_device lt is) (e ∙ rw same (forms_of parts d))
+forms_are parts i d forms lt is {structs} same e = rw (get_map_at device_of parts.devices i d no_device lt is) (e ∙ rw same (forms_of parts d))
 
 -- the whole table
 pub defaults_made : (parts : Parts) (defaults : List Held) (i : ℕ) → length parts.devices ≤ i

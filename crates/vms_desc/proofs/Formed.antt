@@ -1,14 +1,6 @@
 -- The shipped sets and the clock sets are well formed.
-use Rattle.std.proofs.Common.{◌≡◌, ℕ, zero, suc, ◌<◌, length, get_or, Bool, true, refl, arith}
-use Rattle.std.specs.List.{list_all}
-use Rattle.std.proofs.lemmas.Bool.{and_parts}
-use Rattle.vms_spec.specs.Sets.{Set}
-use Rattle.vms_spec.specs.Layout.{first}
-use Rattle.vms_spec.specs.WellFormed.{first_fault}
-use Rattle.vms_spec.specs.Shipped.{shipped_sets, set_0, set_1, set_2, set_3, set_4}
-use Rattle.vms_spec.specs.Good.{IsFit}
-use Rattle.vms_spec.proofs.ShippedSets.{all_fit, device_fits, each, fit, is_fit}
-use Rattle.vms_desc.specs.Formed.{is_well_formed, shipped_set, clock_set}
+use Rattle.vms_desc.proofs.Facade.{◌≡◌, ℕ, zero, suc, ◌<◌, length, get_or, Bool, true, refl, arith, list_all, and_parts, Set, first, first_fault, shipped_sets}
+use Rattle.vms_desc.proofs.Facade.{set_0, set_1, set_2, set_3, set_4, IsFit, all_fit, device_fits, each, fit, is_fit, is_well_formed, shipped_set, clock_set}
 
 -- a property of each shipped set of the list holds of the set of each number
 pub by_number : (p : Set → Bool) → list_all p shipped_sets ≡ true → (s : ℕ) → p (shipped_set s) ≡ true

@@ -1,32 +1,14 @@
 -- The cell of a path, given the numbers of cells of the structures, and the first cell of a path.
-use Rattle.std.proofs.Common.{◌≡◌, ℕ, zero, suc, ◌+◌, ◌*◌, ◌<◌, ◌≤◌, List, ◌∷◌, length, length-append, length-take-le, get_or, take, map, refl, sym, ap, subst}
-use Rattle.std.proofs.Common.{◌∙◌}
-use Rattle.std.proofs.Common.{arith, Bool, true, false, inl, inr, Option, Some, None, []}
-use Rattle.std.specs.Prelude.{nat_lt, if◌then◌else◌}
-use Rattle.std.specs.List.{flat_map, slice_get}
-use Rattle.std.proofs.lemmas.Bool.{ltb-true, lt-ltb, cases_lt}
-use Rattle.std.proofs.lemmas.List.{length-map, take_all, take-append-le, take-map}
-use Rattle.std.proofs.lemmas.Simd.{map-map}
-use Rattle.std.proofs.Math.ListN.{get_or-map}
-use Rattle.vms_kinds.specs.declared.Kind.{Kind}
-use Rattle.vms_kinds.specs.declared.Item.{Item}
-use Rattle.vms_kinds.specs.declared.Item.TheVariants.{Num, Struct}
-use Rattle.vms_spec.specs.declared.TheConstants.{MOST_ITEMS}
+use Rattle.vms_desc.proofs.Facade.{◌≡◌, ℕ, zero, suc, ◌+◌, ◌*◌, ◌<◌, ◌≤◌, List, ◌∷◌, length, length-append, length-take-le, get_or, take, map, refl, sym, ap}
+use Rattle.vms_desc.proofs.Facade.{subst, ◌∙◌, arith, Bool, true, false, inl, inr, Option, Some, None, [], nat_lt, if◌then◌else◌, flat_map, slice_get, ltb-true}
+use Rattle.vms_desc.proofs.Facade.{lt-ltb, cases_lt, length-map, take_all, take-append-le, take-map, map-map, get_or-map, Kind, Item, Num, Struct, MOST_ITEMS}
+use Rattle.vms_desc.proofs.Facade.{first, no_desc, capacity_of, place_of, item_size, desc_cells, struct_cells, device_cells, sub_place, own_cells, item_at}
+use Rattle.vms_desc.proofs.Facade.{element_at, path_at, cell_in, desc_of_sub, element_room, first_long, first_at, Cells, in_u32, size_of, fields_size}
+use Rattle.vms_desc.proofs.Facade.{subs_size, field_of, desc_of, form_of, layout_of, capped_fields, capped_subs, Placed, Element, sizes_of, element_in}
+use Rattle.vms_desc.proofs.Facade.{element_of, begin_desc, begin_base, Begins, Enters, IsPlaced}
 use Rattle.vms_spec.specs.Sets as sets
-use Rattle.vms_spec.specs.Layout.{Cell, first, no_desc, capacity_of, place_of, item_size, desc_cells, struct_cells, device_cells}
-use Rattle.vms_spec.specs.Images.{sub_place, own_cells}
-use Rattle.vms_spec.specs.Places.{item_at, element_at, path_at, cell_in, desc_of_sub}
-use Rattle.vms_spec.proofs.Sizes.{element_room}
-use Rattle.vms_spec.proofs.Tables.{first_long, first_at}
-use Rattle.vms_parts.specs.declared.sizes.Measure.TheVariants.{Cells}
+use Rattle.vms_spec.specs.Layout.{Cell}
 use Rattle.vms_parts.specs.declared.types.Field.{Field}
-use Rattle.vms_parts.specs.Sizes.{in_u32, size_of, fields_size, subs_size}
-use Rattle.vms_parts.specs.Views.{field_of, desc_of, form_of, layout_of}
-use Rattle.vms_parts.proofs.SizeLaws.{capped_fields, capped_subs}
-use Rattle.vms_desc.specs.declared.path.Placed.{Placed}
-use Rattle.vms_desc.specs.declared.path.Element.{Element}
-use Rattle.vms_desc.specs.Numbers.{sizes_of}
-use Rattle.vms_desc.specs.Paths.{element_in, element_of, begin_desc, begin_base, Begins, Enters, IsPlaced}
 use Rattle.vms_desc.proofs.EvalLaws.{cells_size, place_is, take_less, exact}
 
 -- ---- one element
@@ -51,12 +33,10 @@ element_fits sizes fs base i e f there lt few =
 -- the fields before it have few cells too
 pub before_fits : (sizes : List ℕ) (fields : List Field) (base i before : ℕ) → base + fields_size Cells sizes (map field_of fields) ≤ MOST_ITEMS
     → before ≡ in_u32 (fields_size Cells sizes (map field_of (take i fields))) → before ≡ fields_size Cells sizes (take i (map field_of fields))
-before_fits sizes fields base i before few e =
-    rw take-map (omega (arith, rw (take-map field_of i fields) at (take_less sizes (map field_of fields) i)))
+before_fits sizes fields base i before few e = rw take-map (omega (arith, rw (take-map field_of i fields) at (take_less sizes (map field_of fields) i)))
 
 pub element_is : (sizes : List ℕ) (d : sets.Desc) (base cell : ℕ) (step : ℕ × ℕ) (f : sets.Field) → slice_get d.fields step.0 ≡ Some f
-    → step.1 < capacity_of f.count
-    → cell ≡ base + fields_size Cells sizes (take step.0 d.fields) + step.1 * size_of Cells sizes f.item
+    → step.1 < capacity_of f.count → cell ≡ base + fields_size Cells sizes (take step.0 d.fields) + step.1 * size_of Cells sizes f.item
     → Some (record { item = f.item; cell = cell }) ≡ element_of sizes d base step
 element_is sizes d base cell step f there lt is = rw (there, lt-ltb step.1 (capacity_of f.count) lt, is)
 
@@ -65,8 +45,7 @@ cell_by sizes d base step f = base + fields_size Cells sizes (take step.0 d.fiel
 
 -- an element ends among the cells
 within_in : (sizes : List ℕ) (d : sets.Desc) (base : ℕ) (step : ℕ × ℕ) (el : Element) (o : Option sets.Field) → slice_get d.fields step.0 ≡ o
-    → base + fields_size Cells sizes d.fields ≤ MOST_ITEMS
-    → Some el ≡ element_in sizes d base step o → el.cell + size_of Cells sizes el.item ≤ MOST_ITEMS
+    → base + fields_size Cells sizes d.fields ≤ MOST_ITEMS → Some el ≡ element_in sizes d base step o → el.cell + size_of Cells sizes el.item ≤ MOST_ITEMS
 within_in sizes d base step el None there few e = cc
 within_in sizes d base step el (Some f) there few e = by_test (nat_lt step.1 (capacity_of f.count)) refl e where
   by_test : (b : Bool) → nat_lt step.1 (capacity_of f.count) ≡ b
@@ -110,8 +89,7 @@ module _ (set : sets.Set) (p : Placed) (placed : IsPlaced set p) where
   few_by_sizes = rw placed.sized (omega (arith, exact cells fields (omega (arith, few_cells)), few_cells))
 
   -- the cell of an element
-  same_cell : (i e : ℕ) (f : sets.Field) → slice_get fields i ≡ Some f → e < capacity_of f.count
-      → p.base + fields_size Cells p.sizes.now
+  same_cell : (i e : ℕ) (f : sets.Field) → slice_get fields i ≡ Some f → e < capacity_of f.count → p.base + fields_size Cells p.sizes.now
       (take i fields) + e * size_of Cells p.sizes.now f.item ≡ place_of cells fields 0 p.base fields i + e * item_size cells f.item
   same_cell i e f there lt =
       let front : fields_size Cells p.sizes.now (take i fields) ≡ fields_size Cells (map length cells) (take i fields) =

@@ -1,13 +1,6 @@
 -- How many levels of structures the calls can still go down.
-use Rattle.std.proofs.Common.{◌≡◌, ℕ, ◌+◌, ◌*◌, ◌<◌, ◌≤◌, length, refl, arith, true}
-use Rattle.std.proofs.lemmas.Bool.{ltb-true, lt-ltb}
-use Rattle.vms_kinds.specs.declared.Item.{Item}
-use Rattle.vms_kinds.specs.declared.Item.TheVariants.{Struct}
-use Rattle.vms_spec.specs.declared.Part.{Part}
+use Rattle.vms_desc.proofs.Facade.{◌≡◌, ℕ, ◌+◌, ◌*◌, ◌<◌, ◌≤◌, length, refl, arith, true, ltb-true, lt-ltb, Item, Struct, Part, uses_below, Set, HasPart}
 use Rattle.vms_spec.specs.declared.Part.TheVariants as parts
-use Rattle.vms_spec.specs.Rules.{uses_below}
-use Rattle.vms_spec.specs.Sets.{Set}
-use Rattle.vms_desc.specs.Parts.{HasPart}
 use Rattle.vms_desc.proofs.Clean.{reach}
 
 abbrev pub item_rank : Item → ℕ

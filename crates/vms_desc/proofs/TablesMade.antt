@@ -1,25 +1,11 @@
 -- Tables and heads, made row by row.
-use Rattle.std.proofs.Common.{◌≡◌, ℕ, zero, suc, ◌+◌, ◌*◌, ◌<◌, List, ◌∷◌, ◌++◌, append_assoc, length, length-append, get_or, take, map, ◌∙◌, arith, Some, inl}
-use Rattle.std.proofs.Common.{inr, []}
-use Rattle.std.specs.List.{slice_get}
-use Rattle.std.proofs.Math.ListN.{get_or-map}
-use Rattle.std.proofs.lemmas.Bool.{cases_lt}
-use Rattle.std.proofs.lemmas.List.{get_or_append_left, length-map, map-append, map_more, get_or_default}
-use Rattle.vms_spec.specs.Heads.{FitsHeads}
-use Rattle.vms_spec.specs.Layout.{capacity_of, no_field, no_desc}
-use Rattle.vms_spec.specs.Sets.{Field, Sub, Device, AtLeast}
-use Rattle.vms_spec.proofs.Tables.{last_is}
-use Rattle.vms_parts.specs.declared.sizes.Measure.TheVariants.{Cells}
+use Rattle.vms_desc.proofs.Facade.{◌≡◌, ℕ, zero, suc, ◌+◌, ◌*◌, ◌<◌, List, ◌∷◌, ◌++◌, append_assoc, length, length-append, get_or, take, map, ◌∙◌, arith, Some}
+use Rattle.vms_desc.proofs.Facade.{inl, inr, [], slice_get, get_or-map, cases_lt, get_or_append_left, length-map, map-append, map_more, get_or_default}
+use Rattle.vms_desc.proofs.Facade.{FitsHeads, capacity_of, no_field, no_desc, Field, Sub, Device, AtLeast, last_is, Cells, Parts, in_u32, size_of, fields_size}
+use Rattle.vms_desc.proofs.Facade.{set_of, field_of, device_of, get_map_at, Table, HeadsFit, sub_at, IsTable, no_table, AreTables, device_fields}
+use Rattle.vms_desc.proofs.Facade.{AreDeviceTables}
 use Rattle.vms_parts.specs.declared.types.Device.{Device as CodeDevice}
 use Rattle.vms_parts.specs.declared.types.Field.{Field as CodeField}
-use Rattle.vms_parts.specs.declared.types.Parts.{Parts}
-use Rattle.vms_parts.specs.Sizes.{in_u32, size_of, fields_size}
-use Rattle.vms_parts.specs.Views.{set_of, field_of, device_of}
-use Rattle.vms_parts.proofs.Items.{get_map_at}
-use Rattle.vms_desc.specs.declared.table.Table.{Table}
-use Rattle.vms_desc.specs.Heads.{HeadsFit}
-use Rattle.vms_desc.specs.Parts.{sub_at}
-use Rattle.vms_desc.specs.Tables.{IsTable, no_table, AreTables, device_fields, AreDeviceTables}
 
 -- ---- numbers of heads, device by device
 
@@ -85,8 +71,7 @@ starts_more sizes fields i sum more starts f lt is e h = record { long = omega (
 -- ---- lists of tables
 
 pub tables_more : (sizes : List ℕ) (descs : List (List Field)) (tables : List Table) (fields : List Field) (t : Table) → AreTables sizes descs tables
-    → IsTable sizes fields t
-    → AreTables sizes (descs ++ fields ∷ []) (tables ++ t ∷ [])
+    → IsTable sizes fields t → AreTables sizes (descs ++ fields ∷ []) (tables ++ t ∷ [])
 tables_more sizes descs tables fields t h x = record {
   long = omega (arith, length-append descs (fields ∷ []), length-append tables (t ∷ []), h.long);
   table = λ k lt. pairs_more (IsTable sizes) descs tables fields [] t no_table h.long h.table x k (omega (arith, length-append descs (fields ∷ [])));
@@ -108,8 +93,7 @@ abbrev none : Device
 none = record { instance = 0; desc = no_desc; subs = [] }
 
 pub devices_next : (sizes : List ℕ) (devices : List CodeDevice) (i : ℕ) (x : CodeDevice) (tables : List (List Table)) (t : List Table) → i < length devices
-    → x ≡ get_or devices i x
-    → AreDeviceTables sizes (map device_of (take i devices)) tables → AreTables sizes (device_fields (device_of x)) t
+    → x ≡ get_or devices i x → AreDeviceTables sizes (map device_of (take i devices)) tables → AreTables sizes (device_fields (device_of x)) t
     → AreDeviceTables sizes (map device_of (take (i + 1) devices)) (tables ++ t ∷ [])
 devices_next sizes devices i x tables t lt is h y =
     let before = map device_of (take i devices) in
@@ -123,8 +107,7 @@ devices_next sizes devices i x tables t lt is h y =
 -- ---- the table of a part
 
 pub sub_table : (sizes : List ℕ) (d : Device) (tables : List Table) (j : ℕ) (t : Table) → AreTables sizes (device_fields d) tables → j < length d.subs
-    → t ≡ get_or tables (j + 1) t
-    → IsTable sizes (sub_at d j).desc.fields t
+    → t ≡ get_or tables (j + 1) t → IsTable sizes (sub_at d j).desc.fields t
 sub_table sizes d tables j t h lt is =
     let none : Sub = record { desc = no_desc; needed = AtLeast 0 } in
     let rows = length-map d.subs (λ (s : Sub). s.desc.fields) in

@@ -1,13 +1,7 @@
-use Rattle.std.proofs.Common.{◌≡◌, ◌<◌, ◌∙◌, ◌++◌, ◌∷◌, [], ap, sym, get_or, List, length, map, take, arith, refl}
-use Rattle.std.proofs.lemmas.List.{length-map, map_more}
-use Rattle.vms_parts.specs.Devices.{device_at}
-use Rattle.vms_parts.specs.Views.{set_of, desc_of, device_of, form_of}
+use Rattle.vms_desc.proofs.Facade.{◌≡◌, ◌<◌, ◌∙◌, ◌++◌, ◌∷◌, [], ap, sym, get_or, List, length, map, take, arith, refl, length-map, map_more, device_at, set_of}
+use Rattle.vms_desc.proofs.Facade.{desc_of, device_of, form_of, device_cells, Held, device_forms, forms_to, form_numbers}
 use Rattle.vms_parts.specs.declared.types.Desc.{Desc}
 use Rattle.vms_parts.specs.declared.types.Device.{Device}
-use Rattle.vms_spec.specs.Layout.{device_cells}
-use Rattle.vms_spots.specs.Spots.{Held}
-use Rattle.vms_desc.specs.Forms.{device_forms, forms_to}
-use Rattle.vms_desc.specs.Spots.{form_numbers}
 use Rattle.vms_desc.proofs.AskLaws.{few_cells}
 use Rattle.vms_desc.proofs.FormLaws.{forms_are, forms_in, form_count, kinds_long, defaults_long, numbers_seen, kept_fit, defaults_made}
 use Rattle.vms_desc.proofs.defaults.device_defaults.Goals.{In_ok-forms}

@@ -1,5 +1,4 @@
-use Rattle.std.proofs.Common.{◌≡◌, map, take}
-use Rattle.vms_desc.specs.Spots.{form_numbers}
+use Rattle.vms_desc.proofs.Facade.{◌≡◌, map, take, form_numbers}
 use Rattle.vms_desc.proofs.FormLaws.{forms_in}
 use Rattle.vms_desc.proofs.defaults.device_defaults.Given as goal
 

@@ -1,5 +1,4 @@
-use Rattle.std.proofs.Common.{◌∙◌, ◌≤◌, ℕ, sym, ap, arith, length, replicate, pos}
-use Rattle.vms_spots.specs.Spots.{Held}
+use Rattle.vms_desc.proofs.Facade.{◌∙◌, ℕ, sym, ap, arith, length, replicate, pos, Held}
 use Rattle.vms_desc.proofs.FormLaws.{same_held}
 use Rattle.vms_desc.proofs.defaults.numbers_of.Goals as goal
 

@@ -1,5 +1,4 @@
-use Rattle.std.proofs.Common.{◌≡◌, ◌<◌, ◌≤◌, ℕ, ℤ, List, pos, length, get_or}
-use Rattle.vms_kinds.specs.declared.Kind.{Kind}
+use Rattle.vms_desc.proofs.Facade.{◌≡◌, ◌<◌, ◌≤◌, ℕ, ℤ, List, pos, length, get_or, Kind}
 use Rattle.vms_desc.proofs.defaults.put_defaults.Given as goal
 
 pub record Put (numbers defaults : List ℤ) (kinds old : List Kind) (cell : ℕ) : Type 0 where

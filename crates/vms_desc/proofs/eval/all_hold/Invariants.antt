@@ -1,10 +1,4 @@
-use Rattle.std.proofs.Common.{◌≡◌, true, drop, map}
-use Rattle.std.specs.List.{list_all}
-use Rattle.vms_spec.specs.Layout.{all_hold}
-use Rattle.vms_spec.specs.Rules.{names_well, nobody}
-use Rattle.vms_parts.specs.Views.{formula}
-use Rattle.vms_desc.specs.Numbers.{number_of}
-use Rattle.vms_desc.specs.Scopes.{may_ask}
+use Rattle.vms_desc.proofs.Facade.{◌≡◌, true, drop, map, list_all, all_hold, names_well, nobody, formula, number_of, may_ask}
 use Rattle.vms_desc.proofs.eval.all_hold.Given as goal
 
 abbrev pub invariant-loop-test : goal.invariant-loop-test

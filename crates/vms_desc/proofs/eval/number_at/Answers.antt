@@ -1,15 +1,7 @@
-use Rattle.std.proofs.Common.{◌≡◌, sym, ap, rules, ◌∙◌, arith, length, ℕ, get_or, map, ◌+◌, ◌<◌, min}
-use Rattle.std.proofs.lemmas.Int.{to_z-of_z}
-use Rattle.std.proofs.lemmas.List.{length-map}
-use mir.Syntax.{w128}
-use mir.Val.{SFits}
-use Rattle.vms_spec.specs.Layout.{kind_of, no_field}
+use Rattle.vms_desc.proofs.Facade.{◌≡◌, sym, ap, rules, ◌∙◌, arith, length, ℕ, get_or, map, ◌+◌, ◌<◌, min, to_z-of_z, length-map, w128, SFits, kind_of}
+use Rattle.vms_desc.proofs.Facade.{no_field, field_of, get_map_at, place_in, Scope}
 use Rattle.vms_spec.specs.Sets as sets
 use Rattle.vms_parts.specs.declared.types.Field.{Field}
-use Rattle.vms_parts.specs.Views.{field_of}
-use Rattle.vms_parts.proofs.Items.{get_map_at}
-use Rattle.vms_desc.specs.Numbers.{place_in}
-use Rattle.vms_desc.specs.declared.eval.Scope.{Scope}
 use Rattle.vms_desc.proofs.EvalLaws.{number_num, number_there}
 use Rattle.vms_desc.proofs.eval.number_at.Goals as goal
 

@@ -1,7 +1,4 @@
-use Rattle.std.proofs.Common.{rules, ◌≡◌, ap, ◌∙◌, length, map, take}
-use Rattle.vms_kinds.specs.declared.Item.{Item}
-use Rattle.vms_desc.specs.Forms.{item_forms, fields_forms, forms_to}
-use Rattle.vms_parts.specs.Views.{desc_of, field_of}
+use Rattle.vms_desc.proofs.Facade.{rules, ◌≡◌, ap, ◌∙◌, length, map, take, Item, item_forms, fields_forms, forms_to, desc_of, field_of}
 use Rattle.vms_desc.proofs.FormLaws.{puts_none, left_all, left_goes, left_none, fields_next, fields_over, repeated_put, struct_forms, no_struct_forms}
 use Rattle.vms_desc.proofs.forms.+forms.Goals as goal
 

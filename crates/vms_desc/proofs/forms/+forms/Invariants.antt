@@ -1,6 +1,4 @@
-use Rattle.std.proofs.Common.{◌+◌, ◌*◌, length, map, drop}
-use Rattle.vms_desc.specs.Forms.{fields_forms, forms_to}
-use Rattle.vms_parts.specs.Views.{desc_of, field_of}
+use Rattle.vms_desc.proofs.Facade.{◌+◌, ◌*◌, length, map, drop, fields_forms, forms_to, desc_of, field_of}
 use Rattle.vms_desc.proofs.FormLaws.{Left}
 use Rattle.vms_desc.proofs.forms.+forms.Given as goal
 

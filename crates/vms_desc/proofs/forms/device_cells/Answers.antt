@@ -1,4 +1,3 @@
-use Rattle.std.proofs.Common.{◌++◌}
 use Rattle.vms_desc.proofs.FormLaws.{are_both}
 use Rattle.vms_desc.proofs.forms.device_cells.Goals as goal
 

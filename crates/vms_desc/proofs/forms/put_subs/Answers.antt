@@ -1,6 +1,4 @@
-use Rattle.std.proofs.Common.{length, map}
-use Rattle.vms_desc.specs.Forms.{forms_to}
-use Rattle.vms_parts.specs.Views.{desc_of}
+use Rattle.vms_desc.proofs.Facade.{length, map, forms_to, desc_of}
 use Rattle.vms_desc.proofs.FormLaws.{left_all, left_goes, left_none, subs_next, subs_over}
 use Rattle.vms_desc.proofs.forms.put_subs.Goals as goal
 

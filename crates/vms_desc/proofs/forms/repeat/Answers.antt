@@ -1,4 +1,4 @@
-use Rattle.std.proofs.Common.{rules, ◌≡◌, ◌+◌, ◌-◌, ◌*◌, ◌≤◌, ◌++◌, ℕ, List, length, length-drop, length-take-le, take, drop, sym, arith}
+use Rattle.vms_desc.proofs.Facade.{rules, ◌≡◌, ◌+◌, ◌-◌, ◌*◌, ◌≤◌, ◌++◌, ℕ, List, length, length-drop, length-take-le, take, drop, sym, arith}
 use Rattle.vms_desc.proofs.FormLaws.{repeated, repeats_more, repeated_room}
 use Rattle.vms_desc.proofs.forms.repeat.Goals as goal
 
@@ -9,8 +9,7 @@ at_place old len start all within = (sym (length-take-le start old within), omeg
 
 -- the copied elements exist
 room_for : {X : Type 0} (old items : List X) (len start done more : ℕ) → len ≡ length old → start ≤ length old
-    → items ≡ take start old ++ repeated (drop start old) done → more ≤ done
-    → start + (len - start) * more ≤ length items
+    → items ≡ take start old ++ repeated (drop start old) done → more ≤ done → start + (len - start) * more ≤ length items
 room_for old items len start done more all within is few =
     let at = at_place old len start all within in repeated_room (drop start old) (take start old) items done more start (len - start) at.0 at.1 is few
 

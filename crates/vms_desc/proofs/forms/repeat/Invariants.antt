@@ -1,4 +1,4 @@
-use Rattle.std.proofs.Common.{◌≡◌, ◌++◌, ◌-◌, ◌<◌, ◌≤◌, take, drop}
+use Rattle.vms_desc.proofs.Facade.{◌≡◌, ◌++◌, ◌-◌, ◌<◌, ◌≤◌, take, drop}
 use Rattle.vms_desc.proofs.FormLaws.{repeated}
 use Rattle.vms_desc.proofs.forms.repeat.Given as goal
 

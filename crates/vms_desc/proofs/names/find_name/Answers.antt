@@ -1,5 +1,4 @@
-use Rattle.std.proofs.Common.{sym, ◌∙◌}
-use Rattle.vms_spec.proofs.ListLaws.{found_one}
+use Rattle.vms_desc.proofs.Facade.{sym, ◌∙◌, found_one}
 use Rattle.vms_desc.proofs.names.find_name.Goals as goal
 
 pub returns-then-eq-clause-one : goal.returns-then-eq-clause-one

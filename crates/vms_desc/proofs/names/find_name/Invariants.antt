@@ -1,8 +1,4 @@
-use Rattle.std.proofs.Common.{◌≡◌, ℕ, List, drop}
-use Rattle.std.specs.Str.{bytes_eq}
-use Rattle.vms_spec.specs.Lists.{position}
-use Rattle.vms_spec.specs.Streams.{is_one_of}
-use Rattle.vms_desc.specs.Names.{first_named}
+use Rattle.vms_desc.proofs.Facade.{◌≡◌, ℕ, List, drop, bytes_eq, position, is_one_of, first_named}
 use Rattle.vms_desc.proofs.names.find_name.Given as goal
 
 abbrev pub invariant-loop-number : goal.invariant-loop-number

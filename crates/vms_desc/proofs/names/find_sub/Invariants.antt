@@ -1,6 +1,4 @@
-use Rattle.std.proofs.Common.{◌≡◌, drop, map}
-use Rattle.vms_spec.specs.Lookup.{find_sub}
-use Rattle.vms_parts.specs.Views.{sub_of}
+use Rattle.vms_desc.proofs.Facade.{◌≡◌, drop, map, find_sub, sub_of}
 use Rattle.vms_desc.proofs.names.find_sub.Given as goal
 
 abbrev pub invariant-loop-number : goal.invariant-loop-number

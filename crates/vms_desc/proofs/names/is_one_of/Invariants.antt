@@ -1,5 +1,4 @@
-use Rattle.std.proofs.Common.{◌≡◌, drop}
-use Rattle.vms_spec.specs.Streams.{is_one_of}
+use Rattle.vms_desc.proofs.Facade.{◌≡◌, drop, is_one_of}
 use Rattle.vms_desc.proofs.names.is_one_of.Given as goal
 
 abbrev pub invariant-loop-known : goal.invariant-loop-known

@@ -1,11 +1,5 @@
-use Rattle.std.proofs.Common.{◌≡◌, ◌+◌, ◌≤◌, Some, None, length, length-take-le, sym, ap, ◌∙◌, arith}
-use Rattle.std.specs.Prelude.{nat_lt, if◌then◌else◌}
-use Rattle.std.specs.List.{slice_get}
-use Rattle.std.proofs.lemmas.Bool.{eqb-true}
-use Rattle.std.proofs.lemmas.Option.{slice_get-get_or}
-use Rattle.vms_spec.specs.Layout.{no_desc}
-use Rattle.vms_spec.specs.Places.{path_at}
-use Rattle.vms_parts.specs.Views.{desc_of, set_of}
+use Rattle.vms_desc.proofs.Facade.{◌≡◌, Some, None, length, length-take-le, sym, ap, ◌∙◌, arith, nat_lt, if◌then◌else◌, slice_get, eqb-true, slice_get-get_or}
+use Rattle.vms_desc.proofs.Facade.{no_desc, path_at, desc_of, set_of}
 use Rattle.vms_desc.proofs.PathLaws.{few_by_sizes, inner_placed, element_within, path_is, in_struct, at_number, no_items}
 use Rattle.vms_desc.proofs.path.+path_cell.Goals as goal
 

@@ -1,4 +1,4 @@
-use Rattle.std.proofs.Common.{length}
+use Rattle.vms_desc.proofs.Facade.{length}
 use Rattle.vms_desc.proofs.path.+path_cell.Given as goal
 
 abbrev pub decreases-path_cell : goal.decreases-path_cell

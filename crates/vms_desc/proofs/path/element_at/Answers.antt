@@ -1,11 +1,5 @@
-use Rattle.std.proofs.Common.{◌≡◌, ◌+◌, ◌*◌, ◌≤◌, ℕ, Some, take, arith}
-use Rattle.std.specs.List.{slice_get}
-use Rattle.vms_spec.specs.declared.TheConstants.{MOST_ITEMS}
-use Rattle.vms_parts.specs.declared.sizes.Measure.TheVariants.{Cells}
+use Rattle.vms_desc.proofs.Facade.{◌≡◌, ◌+◌, ◌*◌, ◌≤◌, ℕ, Some, take, arith, slice_get, MOST_ITEMS, Cells, size_of, fields_size, field_of, desc_of, Placed}
 use Rattle.vms_parts.specs.declared.types.Field.{Field}
-use Rattle.vms_parts.specs.Sizes.{size_of, fields_size}
-use Rattle.vms_parts.specs.Views.{field_of, desc_of}
-use Rattle.vms_desc.specs.declared.path.Placed.{Placed}
 use Rattle.vms_desc.proofs.PathLaws.{at_there, element_fits, element_is, before_fits}
 use Rattle.vms_desc.proofs.path.element_at.Goals.{After-size_of_fields-before}
 use Rattle.vms_desc.proofs.path.element_at.Goals as goal

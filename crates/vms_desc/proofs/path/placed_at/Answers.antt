@@ -1,10 +1,4 @@
-use Rattle.std.proofs.Common.{◌≡◌, ◌+◌, take, refl, sym, ap, ◌∙◌}
-use Rattle.std.proofs.lemmas.List.{take-map}
-use Rattle.vms_spec.specs.Places.{desc_of_sub}
-use Rattle.vms_parts.specs.declared.sizes.Measure.TheVariants.{Cells}
-use Rattle.vms_parts.specs.Sizes.{in_u32, fields_size, subs_size}
-use Rattle.vms_parts.specs.Views.{sub_of, device_of}
-use Rattle.vms_desc.specs.Paths.{begin_base}
+use Rattle.vms_desc.proofs.Facade.{◌≡◌, take, refl, sym, ap, ◌∙◌, take-map, desc_of_sub, Cells, in_u32, fields_size, subs_size, sub_of, device_of, begin_base}
 use Rattle.vms_desc.proofs.PathLaws.{at_there}
 use Rattle.vms_desc.proofs.path.placed_at.Goals as goal
 

@@ -1,6 +1,4 @@
-use Rattle.std.proofs.Common.{◌≡◌, drop, map}
-use Rattle.vms_spec.specs.Lookup.{find_device}
-use Rattle.vms_parts.specs.Views.{device_of}
+use Rattle.vms_desc.proofs.Facade.{◌≡◌, drop, map, find_device, device_of}
 use Rattle.vms_desc.proofs.set.find_from.Given as goal
 
 abbrev pub invariant-loop-i : goal.invariant-loop-i

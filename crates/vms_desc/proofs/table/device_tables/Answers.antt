@@ -1,10 +1,5 @@
-use Rattle.std.proofs.Common.{◌≡◌, map, ℕ, Some, arith, below_more}
-use Rattle.std.specs.List.{slice_get}
-use Rattle.std.proofs.lemmas.List.{length-map}
-use Rattle.std.proofs.lemmas.Option.{slice_get_within}
+use Rattle.vms_desc.proofs.Facade.{◌≡◌, map, ℕ, Some, arith, below_more, slice_get, length-map, slice_get_within, device_of, FitsHead}
 use Rattle.vms_spec.specs.Sets as sets
-use Rattle.vms_parts.specs.Views.{device_of}
-use Rattle.vms_desc.specs.Heads.{FitsHead}
 use Rattle.vms_desc.proofs.TablesMade.{at_mapped, devices_next}
 use Rattle.vms_desc.proofs.table.device_tables.Goals as goal
 

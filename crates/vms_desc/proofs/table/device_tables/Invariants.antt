@@ -1,9 +1,5 @@
-use Rattle.std.proofs.Common.{◌≡◌, ℕ, ◌<◌, map, take, Some}
-use Rattle.std.specs.List.{slice_get}
+use Rattle.vms_desc.proofs.Facade.{◌≡◌, ℕ, ◌<◌, map, take, Some, slice_get, device_of, FitsHead, AreDeviceTables}
 use Rattle.vms_spec.specs.Sets as sets
-use Rattle.vms_parts.specs.Views.{device_of}
-use Rattle.vms_desc.specs.Heads.{FitsHead}
-use Rattle.vms_desc.specs.Tables.{AreDeviceTables}
 use Rattle.vms_desc.proofs.table.device_tables.Given as goal
 
 abbrev pub invariant-loop-device : goal.invariant-loop-device

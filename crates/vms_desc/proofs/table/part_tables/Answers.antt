@@ -1,10 +1,6 @@
-use Rattle.std.proofs.Common.{◌≡◌, ap, map, ◌∷◌, ◌<◌, length, get_or, arith, ℕ, Some, below_more, []}
-use Rattle.std.specs.List.{slice_get}
-use Rattle.std.proofs.lemmas.List.{length-map}
-use Rattle.std.proofs.lemmas.Option.{slice_get_within}
+use Rattle.vms_desc.proofs.Facade.{◌≡◌, ap, map, ◌∷◌, ◌<◌, length, get_or, arith, ℕ, Some, below_more, [], slice_get, length-map, slice_get_within, sub_of}
+use Rattle.vms_desc.proofs.Facade.{device_of, FitsSub}
 use Rattle.vms_spec.specs.Sets as sets
-use Rattle.vms_parts.specs.Views.{sub_of, device_of}
-use Rattle.vms_desc.specs.Heads.{FitsSub}
 use Rattle.vms_desc.proofs.TablesMade.{at_mapped, tables_next}
 use Rattle.vms_desc.proofs.table.part_tables.Goals as goal
 

@@ -1,9 +1,5 @@
-use Rattle.std.proofs.Common.{◌≡◌, ℕ, ◌<◌, map, take, ◌∷◌, Some}
-use Rattle.std.specs.List.{slice_get}
+use Rattle.vms_desc.proofs.Facade.{◌≡◌, ℕ, ◌<◌, map, take, ◌∷◌, Some, slice_get, device_of, sub_of, FitsSub, AreTables}
 use Rattle.vms_spec.specs.Sets as sets
-use Rattle.vms_parts.specs.Views.{device_of, sub_of}
-use Rattle.vms_desc.specs.Heads.{FitsSub}
-use Rattle.vms_desc.specs.Tables.{AreTables}
 use Rattle.vms_desc.proofs.table.part_tables.Given as goal
 
 abbrev pub invariant-loop-sub : goal.invariant-loop-sub

@@ -1,7 +1,4 @@
-use Rattle.std.proofs.Common.{◌≡◌, ◌+◌, ◌*◌, arith}
-use Rattle.vms_spec.specs.Layout.{capacity_of}
-use Rattle.vms_parts.specs.declared.sizes.Measure.TheVariants.{Cells}
-use Rattle.vms_parts.specs.Sizes.{in_u32, size_of}
+use Rattle.vms_desc.proofs.Facade.{◌≡◌, ◌+◌, ◌*◌, arith, capacity_of, Cells, in_u32, size_of}
 use Rattle.vms_desc.proofs.TablesMade.{starts_more}
 use Rattle.vms_desc.proofs.table.starts.Goals as goal
 

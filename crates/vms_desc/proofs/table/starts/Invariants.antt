@@ -1,5 +1,4 @@
-use Rattle.std.proofs.Common.{map}
-use Rattle.vms_parts.specs.Views.{field_of}
+use Rattle.vms_desc.proofs.Facade.{map, field_of}
 use Rattle.vms_desc.proofs.TablesMade.{StartsTo}
 use Rattle.vms_desc.proofs.table.starts.Given as goal
 

@@ -1,6 +1,4 @@
-use Rattle.std.proofs.Common.{map, take}
-use Rattle.vms_parts.specs.Views.{desc_of}
-use Rattle.vms_desc.specs.Tables.{AreTables}
+use Rattle.vms_desc.proofs.Facade.{map, take, desc_of, AreTables}
 use Rattle.vms_desc.proofs.table.struct_tables.Given as goal
 
 abbrev pub invariant-loop-desc : goal.invariant-loop-desc

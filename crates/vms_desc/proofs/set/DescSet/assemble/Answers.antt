@@ -1,7 +1,4 @@
-use Rattle.std.proofs.Common.{◌≡◌, ◌∙◌, arith}
-use Rattle.std.proofs.lemmas.List.{length-map}
-use Rattle.vms_parts.specs.Views.{set_of, desc_of, device_of}
-use Rattle.vms_desc.specs.Numbers.{sizes_of}
+use Rattle.vms_desc.proofs.Facade.{◌≡◌, ◌∙◌, arith, length-map, set_of, desc_of, device_of, sizes_of}
 use Rattle.vms_desc.proofs.Bounds.{few_devices, sizes_are}
 use Rattle.vms_desc.proofs.TablesMade.{heads_of}
 use Rattle.vms_desc.proofs.set.DescSet.assemble.Goals as goal

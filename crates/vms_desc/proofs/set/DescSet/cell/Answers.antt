@@ -1,12 +1,5 @@
-use Rattle.std.proofs.Common.{◌≡◌, ◌≤◌, Some, length, sym, ap, ◌∙◌}
-use Rattle.std.specs.List.{slice_get}
-use Rattle.vms_spec.specs.declared.TheConstants.{MOST_ITEMS}
-use Rattle.vms_spec.specs.Layout.{device_cells}
+use Rattle.vms_desc.proofs.Facade.{◌≡◌, ◌≤◌, Some, length, sym, ap, ◌∙◌, slice_get, MOST_ITEMS, device_cells, device_of, described, sizes_of, Begins}
 use Rattle.vms_spec.specs.Sets as sets
-use Rattle.vms_parts.specs.Views.{device_of}
-use Rattle.vms_desc.specs.Described.{described}
-use Rattle.vms_desc.specs.Numbers.{sizes_of}
-use Rattle.vms_desc.specs.Paths.{Begins}
 use Rattle.vms_desc.proofs.Bounds.{small_layout}
 use Rattle.vms_desc.proofs.PathLaws.{at_there, base_of, begins_placed, same_base, begins_at, nowhere, few_of_device, long_sizes}
 use Rattle.vms_desc.proofs.set.DescSet.cell.Goals.{In_ok-device}

@@ -1,7 +1,4 @@
-use Rattle.std.proofs.Common.{◌≡◌, ◌-◌, ap, arith, length}
-use Rattle.std.proofs.lemmas.List.{take_all}
-use Rattle.vms_desc.specs.Described.{described}
-use Rattle.vms_desc.specs.Parts.{desc_at}
+use Rattle.vms_desc.proofs.Facade.{◌≡◌, ◌-◌, ap, arith, length, take_all, described, desc_at}
 use Rattle.vms_desc.proofs.EvalLaws.{capped_cells}
 use Rattle.vms_desc.proofs.set.DescSet.cells_of.Goals as goal
 

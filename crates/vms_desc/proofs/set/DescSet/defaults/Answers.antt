@@ -1,9 +1,5 @@
-use Rattle.std.proofs.Common.{◌≡◌, length, map, ◌≤◌, arith}
-use Rattle.std.proofs.lemmas.List.{length-map}
-use Rattle.vms_spec.specs.declared.TheConstants.{MOST_ITEMS}
-use Rattle.vms_spec.specs.Layout.{device_cells}
-use Rattle.vms_desc.specs.Described.{described, device_at}
-use Rattle.vms_desc.specs.Spots.{defaults_at}
+use Rattle.vms_desc.proofs.Facade.{◌≡◌, length, map, ◌≤◌, arith, length-map, MOST_ITEMS, device_cells, described, defaults_at}
+use Rattle.vms_desc.specs.Described.{device_at}
 use Rattle.vms_desc.proofs.AskLaws.{few_cells}
 use Rattle.vms_desc.proofs.FormLaws.{entry_is}
 use Rattle.vms_desc.proofs.set.DescSet.defaults.Goals as goal

@@ -1,11 +1,4 @@
-use Rattle.std.proofs.Common.{◌≡◌, ◌∙◌, sym, ap, get_or}
-use Rattle.vms_spec.specs.declared.Count.{Count}
-use Rattle.vms_spec.specs.Sets.{Field}
-use Rattle.vms_spec.specs.Layout.{elements_of, no_field}
-use Rattle.vms_parts.specs.Views.{field_of}
-use Rattle.vms_desc.specs.Asks.{own_numbers}
-use Rattle.vms_desc.specs.Described.{described}
-use Rattle.vms_desc.specs.Parts.{desc_at}
+use Rattle.vms_desc.proofs.Facade.{◌≡◌, ◌∙◌, sym, ap, get_or, Count, Field, elements_of, no_field, field_of, own_numbers, described, desc_at}
 use Rattle.vms_desc.proofs.EvalLaws.{own_inside}
 use Rattle.vms_desc.proofs.AskLaws.{here_fields, found_field, field_counts, same_number}
 use Rattle.vms_desc.proofs.set.DescSet.elements.Given.{Over}

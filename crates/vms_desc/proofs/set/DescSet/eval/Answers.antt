@@ -1,9 +1,4 @@
-use Rattle.std.proofs.Common.{◌∙◌}
-use Rattle.std.specs.Option.{option_copied}
-use Rattle.vms_desc.specs.Described.{described}
-use Rattle.vms_desc.specs.Parts.{desc_at}
-use Rattle.vms_desc.specs.Scopes.{IsParent}
-use Rattle.vms_parts.specs.Views.{formula}
+use Rattle.vms_desc.proofs.Facade.{◌∙◌, option_copied, described, desc_at, IsParent, formula}
 use Rattle.vms_desc.proofs.EvalLaws.{placed, own_inside, parent_inside, truth_is}
 use Rattle.vms_desc.proofs.set.DescSet.eval.Goals as goal
 
@@ -25,6 +20,5 @@ pub returns : goal.returns
 returns g c =
     let set = described c.args.self.now in
     let is : IsParent set c.args.desc (option_copied c.as_ref.result) = rw c.as_ref.ensures.value c.parent-parent.ensures in
-    c.holds.ensures
-    ∙ truth_is set c.args.desc c.args.base c.scope-own.result (option_copied c.as_ref.result) (g.C.Cells.numbers c.args.cells.now)
+    c.holds.ensures ∙ truth_is set c.args.desc c.args.base c.scope-own.result (option_copied c.as_ref.result) (g.C.Cells.numbers c.args.cells.now)
     (formula c.args.test.now) c.args.version c.scope-own.ensures is c.requires.few c.requires.own c.requires.parent

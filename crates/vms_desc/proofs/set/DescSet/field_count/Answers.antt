@@ -1,9 +1,4 @@
-use Rattle.std.proofs.Common.{◌≡◌, ◌∙◌, ap, arith, length, map}
-use Rattle.std.proofs.lemmas.List.{length-map}
-use Rattle.vms_spec.specs.Sets.{Desc}
-use Rattle.vms_parts.specs.Views.{field_of}
-use Rattle.vms_desc.specs.Described.{described}
-use Rattle.vms_desc.specs.Parts.{desc_at}
+use Rattle.vms_desc.proofs.Facade.{◌≡◌, ◌∙◌, ap, arith, length, map, length-map, Desc, field_of, described, desc_at}
 use Rattle.vms_desc.proofs.Clean.{few_fields}
 use Rattle.vms_desc.proofs.set.DescSet.field_count.Goals as goal
 

@@ -1,7 +1,4 @@
-use Rattle.std.proofs.Common.{arith}
-use Rattle.vms_spec.specs.Layout.{struct_cells}
-use Rattle.vms_desc.specs.Described.{described}
-use Rattle.vms_desc.specs.Parts.{desc_at}
+use Rattle.vms_desc.proofs.Facade.{arith, struct_cells, described, desc_at}
 use Rattle.vms_desc.proofs.EvalLaws.{place_within, start_at}
 use Rattle.vms_desc.proofs.set.DescSet.field_start.Goals as goal
 
@@ -15,7 +12,5 @@ pub overflow_add-result : goal.overflow_add-result
 overflow_add-result c =
     let set = described c.args.self.now in
     let fields = (desc_at set c.args.part).fields in
-    let here =
-    start_at set (desc_at set c.args.part) (omega (arith, c.requires.few)) _ c.table.ensures.starts c.args.base c.args.field c.requires.field in
-    rw c.as_slice.ensures
-    (omega (arith, here, place_within (struct_cells set) fields 0 c.args.base fields c.args.field, c.requires.few))
+    let here = start_at set (desc_at set c.args.part) (omega (arith, c.requires.few)) _ c.table.ensures.starts c.args.base c.args.field c.requires.field in
+    rw c.as_slice.ensures (omega (arith, here, place_within (struct_cells set) fields 0 c.args.base fields c.args.field, c.requires.few))

@@ -1,10 +1,5 @@
-use Rattle.std.proofs.Common.{◌≡◌, ◌<◌, length, arith}
-use Rattle.vms_spec.specs.Sets.{AtLeast}
-use Rattle.vms_spec.specs.Layout.{no_desc}
-use Rattle.vms_spec.specs.Images.{own_cells}
-use Rattle.vms_spec.specs.Places.{own_cell_count}
-use Rattle.vms_desc.specs.Described.{described, device_at}
-use Rattle.vms_desc.specs.Parts.{sub_at}
+use Rattle.vms_desc.proofs.Facade.{◌≡◌, ◌<◌, length, arith, AtLeast, no_desc, own_cells, own_cell_count, described, sub_at}
+use Rattle.vms_desc.specs.Described.{device_at}
 use Rattle.vms_desc.proofs.AskLaws.{few_cells, sub_first, sub_next, sub_inside, own_inside_device}
 use Rattle.vms_desc.proofs.set.DescSet.first_cell_of_sub.Goals.{After-cells_of-cell-in-loop-earlier}
 use Rattle.vms_desc.proofs.set.DescSet.first_cell_of_sub.Goals as goal

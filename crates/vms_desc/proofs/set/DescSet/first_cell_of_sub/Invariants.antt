@@ -1,6 +1,5 @@
-use Rattle.std.proofs.Common.{◌≡◌}
-use Rattle.vms_spec.specs.Images.{own_cells, sub_place}
-use Rattle.vms_desc.specs.Described.{described, device_at}
+use Rattle.vms_desc.proofs.Facade.{◌≡◌, own_cells, sub_place, described}
+use Rattle.vms_desc.specs.Described.{device_at}
 use Rattle.vms_desc.proofs.set.DescSet.first_cell_of_sub.Given as goal
 
 abbrev pub invariant-loop-earlier : goal.invariant-loop-earlier

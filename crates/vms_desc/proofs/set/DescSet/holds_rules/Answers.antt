@@ -1,10 +1,4 @@
-use Rattle.std.proofs.Common.{◌≡◌, ◌∙◌, ap, List, map}
-use Rattle.vms_spec.specs.Sets.{Formula, Desc}
-use Rattle.vms_spec.specs.Layout.{all_hold}
-use Rattle.vms_parts.specs.Views.{formula}
-use Rattle.vms_desc.specs.Asks.{own_numbers}
-use Rattle.vms_desc.specs.Described.{described}
-use Rattle.vms_desc.specs.Parts.{desc_at}
+use Rattle.vms_desc.proofs.Facade.{◌≡◌, ◌∙◌, ap, List, map, Formula, Desc, all_hold, formula, own_numbers, described, desc_at}
 use Rattle.vms_desc.proofs.EvalLaws.{own_inside}
 use Rattle.vms_desc.proofs.AskLaws.{rules_name, same_rules}
 use Rattle.vms_desc.proofs.set.DescSet.holds_rules.Goals as goal
@@ -27,7 +21,6 @@ returns g c =
     let numbers = g.C.Cells.numbers c.args.cells.now in
     let tests : map formula c.as_slice-tests.result.now ≡ (desc_at set c.args.part).validate =
     ap (map formula) c.as_slice-tests.ensures ∙ ap (λ (d : Desc). d.validate) c.desc.ensures in
-    c.all_hold.ensures
-    ∙ same_rules set c.args.part c.args.base c.scope.result numbers c.scope.ensures c.requires.few c.requires.own
+    c.all_hold.ensures ∙ same_rules set c.args.part c.args.base c.scope.result numbers c.scope.ensures c.requires.few c.requires.own
     (map formula c.as_slice-tests.result.now) c.args.version
     ∙ ap (λ (ts : List Formula). all_hold ts c.args.version (own_numbers set c.args.part numbers c.args.base)) tests

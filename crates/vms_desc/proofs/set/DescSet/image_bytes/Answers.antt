@@ -1,8 +1,4 @@
-use Rattle.std.proofs.Common.{◌∙◌, ap}
-use Rattle.vms_spots.specs.Spots.{bytes_of}
-use Rattle.vms_desc.specs.Described.{described}
-use Rattle.vms_desc.specs.Spots.{kinds_at}
-use Rattle.vms_spots.proofs.LayoutLaws.{laid_again, kinds_again}
+use Rattle.vms_desc.proofs.Facade.{◌∙◌, ap, bytes_of, described, kinds_at, laid_again, kinds_again}
 use Rattle.vms_desc.proofs.set.DescSet.image_bytes.Goals as goal
 
 pub size-requires-clause-laid : goal.size-requires-clause-laid

@@ -1,8 +1,5 @@
-use Rattle.std.proofs.Common.{◌∙◌, ap, arith}
+use Rattle.vms_desc.proofs.Facade.{◌∙◌, ap, arith, Sub, described, is_placed}
 use Rattle.vms_spec.specs.declared.Part.TheVariants as parts
-use Rattle.vms_spec.specs.Sets.{Sub}
-use Rattle.vms_desc.specs.Described.{described}
-use Rattle.vms_desc.specs.Parts.{is_placed}
 use Rattle.vms_desc.proofs.AskLaws.{found_sub, needed_placed, sub_inside}
 use Rattle.vms_desc.proofs.set.DescSet.is_needed.Goals as goal
 

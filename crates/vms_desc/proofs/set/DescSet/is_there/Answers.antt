@@ -1,12 +1,5 @@
-use Rattle.std.proofs.Common.{◌≡◌, ◌∙◌, sym, ap, Option, Some}
-use Rattle.std.specs.Option.{option_map}
-use Rattle.vms_spec.specs.Sets.{Field, Formula}
-use Rattle.vms_spec.specs.Tests.{is_there}
-use Rattle.vms_spec.specs.Layout.{no_parent}
-use Rattle.vms_parts.specs.Views.{field_of, formula, formula_in}
-use Rattle.vms_desc.specs.Asks.{field_at, own_numbers}
-use Rattle.vms_desc.specs.Described.{described}
-use Rattle.vms_desc.specs.Parts.{desc_at}
+use Rattle.vms_desc.proofs.Facade.{◌≡◌, ◌∙◌, sym, ap, Option, Some, option_map, Field, Formula, is_there, no_parent, field_of, formula, formula_in, field_at}
+use Rattle.vms_desc.proofs.Facade.{own_numbers, described, desc_at}
 use Rattle.vms_desc.proofs.EvalLaws.{own_inside}
 use Rattle.vms_desc.proofs.AskLaws.{here_fields, found_field, field_names, same_truth}
 use Rattle.vms_desc.proofs.set.DescSet.is_there.Given.{Over}
@@ -32,8 +25,7 @@ pub holds-requires-clause-names : goal.holds-requires-clause-names
 holds-requires-clause-names g c =
     let here = is_here g (goal.at.holds-requires-clause-names g c).After-deref in
     field_names (described c.args.self.now) c.args.self.now.well_formed c.args.part c.requires.part c.args.field c.requires.field
-    (field_of c.index-as_slice-field.result) here.found
-    (formula c.deref.result.now) here.test c.scope.result c.scope.ensures.fields
+    (field_of c.index-as_slice-field.result) here.found (formula c.deref.result.now) here.test c.scope.result c.scope.ensures.fields
 
 pub holds-requires-clause-own : goal.holds-requires-clause-own
 holds-requires-clause-own g c =

@@ -1,5 +1,4 @@
-use Rattle.std.proofs.Common.{ap, ◌∙◌}
-use Rattle.vms_desc.specs.Formed.{is_well_formed}
+use Rattle.vms_desc.proofs.Facade.{ap, ◌∙◌, is_well_formed}
 use Rattle.vms_desc.proofs.Formed.{formed}
 use Rattle.vms_desc.proofs.set.DescSet.shipped.Goals as goal
 

@@ -1,8 +1,4 @@
-use Rattle.std.proofs.Common.{◌∙◌, ap, arith}
-use Rattle.vms_spots.specs.Spots.{Held, spots_of}
-use Rattle.vms_spots.proofs.SpotLaws.{are_apart}
-use Rattle.vms_desc.specs.Described.{described}
-use Rattle.vms_desc.specs.Spots.{kinds_at}
+use Rattle.vms_desc.proofs.Facade.{◌∙◌, ap, arith, Held, spots_of, are_apart, described, kinds_at}
 use Rattle.vms_desc.proofs.set.DescSet.spots.Goals as goal
 
 pub returns-clause-spots : goal.returns-clause-spots

@@ -1,8 +1,5 @@
-use Rattle.std.proofs.Common.{◌≡◌, ◌∙◌, ap, arith, length, map}
-use Rattle.std.proofs.lemmas.List.{length-map}
-use Rattle.vms_spec.specs.Sets.{Device}
-use Rattle.vms_parts.specs.Views.{sub_of}
-use Rattle.vms_desc.specs.Described.{described, device_at}
+use Rattle.vms_desc.proofs.Facade.{◌≡◌, ◌∙◌, ap, arith, length, map, length-map, Device, sub_of, described}
+use Rattle.vms_desc.specs.Described.{device_at}
 use Rattle.vms_desc.proofs.Clean.{few_subs}
 use Rattle.vms_desc.proofs.set.DescSet.sub_count.Goals as goal
 
