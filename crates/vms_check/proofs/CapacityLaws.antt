@@ -20,11 +20,11 @@ some_least m (n ∷ caps) = some_least (min m n) caps
 
 pub bound_some : (item : Item) (caps : List ℕ) (most : ℕ) → Some most ≡ least_of caps → most ≡ bound item caps
 bound_some item [] most e = absurd (cc)
-bound_some item (m ∷ caps) most e = let h : Some most ≡ Some (comparing.least_of m caps) = e ∙ some_least m caps in cc
+bound_some item (m ∷ caps) most e = cc (some_least m caps)
 
 pub bound_none : (item : Item) (caps : List ℕ) → None ≡ least_of caps → greatest item ≡ bound item caps
 bound_none item [] e = refl
-bound_none item (m ∷ caps) e = let h : None ≡ Some (comparing.least_of m caps) = e ∙ some_least m caps in absurd (cc)
+bound_none item (m ∷ caps) e = absurd (cc (some_least m caps))
 
 pub ruleset bound_laws = (bound_some, bound_none)
 
@@ -36,7 +36,7 @@ Holds n [] = Unit {0}
 Holds n (m ∷ caps) = (n ≤ m) × Holds n caps
 
 below : (k : ℕ) (caps : List ℕ) (l : ℕ) → least_from (Some k) caps ≡ Some l → l ≤ k
-below k [] l e = let h : k ≡ l = cc in omega (arith, h)
+below k [] l e = let h : k ≡ l = cc in omega arith
 below k (m ∷ caps) l e = omega (arith, below (min k m) caps l e)
 
 below_first : (least : Option ℕ) (m : ℕ) (caps : List ℕ) (l : ℕ) → least_from least (m ∷ caps) ≡ Some l → l ≤ m
@@ -49,7 +49,7 @@ all_above least (m ∷ caps) l n e h = (omega (arith, below_first least m caps l
 
 all_none : (caps : List ℕ) (n : ℕ) → least_of caps ≡ None → Holds n caps
 all_none [] n e = tt
-all_none (m ∷ caps) n e = let h : Some (comparing.least_of m caps) ≡ None = sym (some_least m caps) ∙ e in absurd (cc)
+all_none (m ∷ caps) n e = absurd (cc (some_least m caps))
 
 of_count : Count → Field → Field
 of_count c f = record f { count = c }

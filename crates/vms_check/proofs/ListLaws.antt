@@ -20,20 +20,20 @@ pass rule false rules p q e f = absurd (cc)
 
 pub every_at : {X : Type 0} (p : X → Bool) (xs : List X) (i : ℕ) (x : X) → list_all p xs ≡ true → slice_get xs i ≡ Some x → p x ≡ true
 every_at p [] i x e h = absurd (cc)
-every_at p (y ∷ xs) zero x e h = let same : y ≡ x = cc in ap p (sym same) ∙ (and_parts (p y) (list_all p xs) e).0
+every_at p (y ∷ xs) zero x e h = let same : y ≡ x = cc in rw same at (and_parts (p y) (list_all p xs) e).0
 every_at p (y ∷ xs) (suc i) x e h = every_at p xs i x (and_parts (p y) (list_all p xs) e).1 h
 
 pub at_every : {X : Type 0} (p : X → Bool) (xs : List X) → ((i : ℕ) (x : X) → slice_get xs i ≡ Some x → p x ≡ true) → list_all p xs ≡ true
 at_every p [] h = refl
-at_every p (x ∷ xs) h = ap (λ (b : Bool). b && list_all p xs) (h 0 x refl) ∙ at_every p xs (λ i y e. h (suc i) y e)
+at_every p (x ∷ xs) h = rw (h 0 x refl) (at_every p xs (λ i y e. h (suc i) y e))
 
 pub none_answers : {X Y : Type 0} (f : ℕ → X → Option Y) (i : ℕ) (xs : List X) → ((j : ℕ) (x : X) → slice_get xs j ≡ Some x → f (i + j) x ≡ None)
     → first_answer f i xs ≡ None
 none_answers f i [] h = refl
 none_answers f i (x ∷ xs) h =
     let plus : i ≡ i + 0 = omega arith in
-    both_none (f i x) (first_answer f (suc i) xs) (ap (λ (k : ℕ). f k x) plus ∙ h 0 x refl)
-    (none_answers f (suc i) xs (λ j y e. let more : suc i + j ≡ i + suc j = omega arith in ap (λ (k : ℕ). f k y) more ∙ h (suc j) y e))
+    both_none (f i x) (first_answer f (suc i) xs) (rw (← plus) at (h 0 x refl))
+    (none_answers f (suc i) xs (λ j y e. let more : suc i + j ≡ i + suc j = omega arith in rw more (h (suc j) y e)))
 
 pub same_at : {X : Type 0} (xs : List X) (i : ℕ) (x y : X) → slice_get xs i ≡ Some x → slice_get xs i ≡ Some y → x ≡ y
-same_at xs i x y e f = let same : Some x ≡ Some y = sym e ∙ f in cc
+same_at xs i x y e f = cc

@@ -22,10 +22,7 @@ use Rattle.vms_check.proofs.ListLaws.{passes, pass, every_at, at_every}
 -- ---- The rests of the tests of two present fields.
 
 pub presence_is : (v : ℕ) (test : Option Formula) (since : ℕ) → presence v test since ≡ left_of (field_reduced v test since)
-presence_is v None since = by_since _ where
-  by_since : (b : Bool) → (if b then Some None else None) ≡ left_of (Known b)
-  by_since true = refl
-  by_since false = refl
+presence_is v None since = elim (nat_le since v) as (λ b. (if b then Some None else None) ≡ left_of (Known b)) [ true ↦ refl | false ↦ refl ]
 presence_is v (Some t) since = refl
 
 -- where both are there
@@ -44,8 +41,7 @@ left_same o n (Open s) (Known false) x y = absurd (cc)
 -- ---- arrays that aren't there
 
 room_there : (w i n : ℕ) (g : Field) (most : ℕ) → is_absent w g ≡ true → has_room w i n g (Counted i most) ≡ true → n ≤ most
-room_there w i n g most absent e =
-    leb-true n most (rw (eq-eqb i i refl, absent) at e)
+room_there w i n g most absent e = leb-true n most (rw (eq-eqb i i refl, absent) at e)
 
 room_needed : (w i n : ℕ) (g : Field) (c : Count) → ((most : ℕ) → is_absent w g ≡ true → c ≡ Counted i most → n ≤ most) → has_room w i n g c ≡ true
 room_needed w i n g One h = refl
@@ -56,7 +52,7 @@ room_needed w i n g (Counted by most) h = by_test (by == i && is_absent w g) ref
     by_test false e = refl
     by_test true e =
         let p = and_parts (by == i) (is_absent w g) e in
-        le-leb n most (h most p.1 (ap (λ (k : ℕ). Counted k most) (eqb-true by i p.0)))
+        le-leb n most (h most p.1 (rw (eqb-true by i p.0)))
 
 -- ---- one pair
 
@@ -67,9 +63,6 @@ module _ (same : ℕ → ℕ → Bool) (structs : List Comparer) (a b : Desc) (v
   abbrev uncovered : Entry → Entry → List (ℕ × Bool)
   uncovered e f = uncovered_rules structs a b v w in_a in_b (in_old same a b v w) (in_new same a b v w) e f
 
-  abbrev items : Item → Item → Option Mismatch
-  items x y = pair_structs structs a b v w in_a in_b (in_old same a b v w) (in_new same a b v w) x y
-
   alike_so : (e f : Entry) (p q : Place) → failing_pair (uncovered e f) p q ≡ None
       → ((i j : ℕ) → e.field.item ≡ Struct i → f.field.item ≡ Struct j → same i j ≡ true) → AreAlike same a b v w e f
   alike_so e f p q none structs_same =
@@ -79,8 +72,8 @@ module _ (same : ℕ → ℕ → Bool) (structs : List Comparer) (a b : Desc) (v
       let ten = passes 10 _ _ p q nine.1 in
       let eleven = passes 11 _ _ p q ten.1 in
       let twelve = passes 12 _ _ p q eleven.1 in
-      let room =
-      and_parts (holds_as_much e.field.count f.field.count) (absent_hold w f.index (bound e.field.item (counted e.index a.fields)) b.fields) eleven.0 in
+      let n = bound e.field.item (counted e.index a.fields) in
+      let room = and_parts (holds_as_much e.field.count f.field.count) (absent_hold w f.index n b.fields) eleven.0 in
       record {
         counts = seven.0;
         kinds = eight.0;
@@ -88,8 +81,7 @@ module _ (same : ℕ → ℕ → Bool) (structs : List Comparer) (a b : Desc) (v
         names = ten.0;
         capacities = room.0;
         room = λ k g most there absent is.
-            room_there w f.index (bound e.field.item (counted e.index a.fields)) g most absent
-            (rw is at (every_at (λ (g : Field). has_room w f.index (bound e.field.item (counted e.index a.fields)) g g.count) b.fields k g room.1 there));
+            room_there w f.index n g most absent (rw is at (every_at (λ (g : Field). has_room w f.index n g g.count) b.fields k g room.1 there));
         constants = twelve.0;
         structs = structs_same;
       }
@@ -100,17 +92,14 @@ module _ (same : ℕ → ℕ → Bool) (structs : List Comparer) (a b : Desc) (v
       let hold : absent_hold w f.index n b.fields ≡ true =
       at_every (λ (g : Field). has_room w f.index n g g.count) b.fields
       (λ k g there. room_needed w f.index n g g.count (λ most absent is. h.room k g most there absent is)) in
-      pass 7 _ _ p q h.counts (pass 8 _ _ p q h.kinds
-      (pass 9 _ _ p q h.tests (pass 10 _ _ p q h.names (pass 11 _ _ p q (ap (λ (c : Bool). c && absent_hold w f.index n b.fields) h.capacities ∙ hold) (pass 12 _ _ p q h.constants refl)))))
+      let both : (holds_as_much e.field.count f.field.count && absent_hold w f.index n b.fields) ≡ true = rw h.capacities hold in
+      pass 7 _ _ p q h.counts (pass 8 _ _ p q h.kinds (pass 9 _ _ p q h.tests (pass 10 _ _ p q h.names
+      (pass 11 _ _ p q both (pass 12 _ _ p q h.constants refl)))))
 
   pub paired_so : (e f : Entry) (p q : Place) → failing_pair (rules e f) p q ≡ None
       → ((i j : ℕ) → e.field.item ≡ Struct i → f.field.item ≡ Struct j → same i j ≡ true) → ArePaired same a b v w e f
-  paired_so e f p q none structs_same = record {
-    covered = λ c. (passes 9 _ [] p q (subst (λ (x : Bool). failing_pair (chosen x) p q ≡ None) c none)).0;
-    alike = λ c. alike_so e f p q (subst (λ (x : Bool). failing_pair (chosen x) p q ≡ None) c none) structs_same;
-  } where
-    chosen : Bool → List (ℕ × Bool)
-    chosen x = if x then (9, same_rest (in_old same a b v w) (in_new same a b v w) e.rest f.rest) ∷ [] else uncovered e f
+  paired_so e f p q none structs_same =
+      record { covered = λ c. (passes 9 _ [] p q (rw c at none)).0; alike = λ c. alike_so e f p q (rw c at none) structs_same }
 
   pub so_paired : (e f : Entry) (p q : Place) → ArePaired same a b v w e f → failing_pair (rules e f) p q ≡ None
   so_paired e f p q h = by_cover (is_covered e.field.item e.field.count f.field.item) refl

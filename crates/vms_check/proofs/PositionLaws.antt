@@ -30,9 +30,6 @@ either : {X : Type 0} (b : Bool) (x y z : X) → x ≡ z → y ≡ z → (if b t
 either true x y z left right = left
 either false x y z left right = right
 
-later_number : (i k : ℕ) → (i == i + suc k) ≡ false
-later_number i k = ne_eqb i (i + suc k) (λ (e : i ≡ i + suc k). omega (arith, e))
-
 none_before : (v p i : ℕ) (fs : List Field) (k : ℕ) → k < i → position_from p (fields_from v i fs) k ≡ None
 none_before v p i [] k lt = refl
 none_before v p i (f ∷ fs) k lt =
@@ -46,7 +43,7 @@ next_position v p f = (if is_absent v f then 0 else 1) + p
 found_from : (v p i : ℕ) (f : Field) (fs : List Field) (k : ℕ)
     → position_from p (fields_from v i (f ∷ fs)) (i + suc k) ≡ position_from (next_position v p f) (fields_from v (suc i) fs) (suc i + k)
 found_from v p i f fs k =
-    next_is v p i f fs (i + suc k) ∙ rw (later_number i k, plus) (by_case (is_absent v f))
+    next_is v p i f fs (i + suc k) ∙ rw (ne_eqb i (i + suc k) (λ e. omega (arith, e)), plus) (by_case (is_absent v f))
   where
     plus : i + suc k ≡ suc i + k
     plus = omega arith
@@ -64,15 +61,13 @@ found_here v p i f fs false e = next_is v p i f fs i ∙ rw (e, eq-eqb i i refl)
 there_from : (v p i : ℕ) (fs : List Field) (k : ℕ) (b : Bool) → k < length fs → is_absent v (get_or fs k no_field) ≡ b
     → position_from p (fields_from v i fs) (i + k) ≡ (if b then None else Some (count_present v (take k fs) + p))
 there_from v p i [] k b lt e = absurd (omega arith)
-there_from v p i (f ∷ fs) zero b lt e = let plus : i + 0 ≡ i = omega arith in
-    let none : p ≡ count_present v (take 0 (f ∷ fs)) + p = omega arith in
-    ap (position_from p (fields_from v i (f ∷ fs))) plus ∙ found_here v p i f fs b e ∙ ap (λ (n : ℕ). if b then None else Some n) none
+there_from v p i (f ∷ fs) zero b lt e =
+    let plus : i + 0 ≡ i = omega arith in
+    let none : 0 + p ≡ p = omega arith in
+    rw (plus, none) (found_here v p i f fs b e)
 there_from v p i (f ∷ fs) (suc k) b lt e =
-    found_from v p i f fs k ∙ there_from v (next_position v p f) (suc i) fs k b (omega arith) e
-    ∙ ap (λ (n : ℕ). if b then None else Some n) plus
-  where
-    plus : count_present v (take k fs) + next_position v p f ≡ ((if is_absent v f then 0 else 1) + count_present v (take k fs)) + p
-    plus = omega arith
+    let plus : count_present v (take k fs) + next_position v p f ≡ ((if is_absent v f then 0 else 1) + count_present v (take k fs)) + p = omega arith in
+    found_from v p i f fs k ∙ rw plus at (there_from v (next_position v p f) (suc i) fs k b (omega arith) e)
 
 pub flipped : (b c : Bool) → not b ≡ c → b ≡ not c
 flipped true false e = refl
@@ -82,13 +77,9 @@ flipped _ _ e = sym e
 pub there_is : (v : ℕ) (fs : List Field) (k : ℕ) (b : Bool) → k < length fs → is_absent v (get_or fs k no_field) ≡ b
     → position_in v fs k ≡ (if b then None else Some (count_present v (take k fs)))
 there_is v fs k b lt e =
-    ap (position_from 0 (fields_from v 0 fs)) (zero_plus k) ∙ there_from v 0 0 fs k b lt e ∙ ap (λ (n : ℕ). if b then None else Some n) plus
-  where
-    zero_plus : (n : ℕ) → n ≡ 0 + n
-    zero_plus n = omega arith
-
-    plus : count_present v (take k fs) + 0 ≡ count_present v (take k fs)
-    plus = omega arith
+    let zero_plus : 0 + k ≡ k = omega arith in
+    let plus : count_present v (take k fs) + 0 ≡ count_present v (take k fs) = omega arith in
+    rw (zero_plus, plus) at (there_from v 0 0 fs k b lt e)
 
 beyond_from : (v p i : ℕ) (fs : List Field) (k : ℕ) → length fs ≤ k → position_from p (fields_from v i fs) (i + k) ≡ None
 beyond_from v p i [] k le = refl
@@ -96,9 +87,7 @@ beyond_from v p i (f ∷ fs) zero le = absurd (omega arith)
 beyond_from v p i (f ∷ fs) (suc k) le = found_from v p i f fs k ∙ beyond_from v (next_position v p f) (suc i) fs k (omega arith)
 
 pub beyond_is : (v : ℕ) (fs : List Field) (k : ℕ) → length fs ≤ k → position_in v fs k ≡ None
-beyond_is v fs k le = ap (position_from 0 (fields_from v 0 fs)) zero_plus ∙ beyond_from v 0 0 fs k le where
-  zero_plus : k ≡ 0 + k
-  zero_plus = omega arith
+beyond_is v fs k le = let zero_plus : 0 + k ≡ k = omega arith in rw zero_plus at (beyond_from v 0 0 fs k le)
 
 -- ---- as the code has it
 
@@ -111,19 +100,17 @@ none_at (suc n) (suc k) = none_at n k
 position_there : (v : ℕ) (fields : List CodeField) (k : ℕ) (f : CodeField) → k < length fields → f ≡ get_or fields k f → is_absent v (field_of f) ≡ false
     → position_in v (map field_of fields) k ≡ Some (count_present v (map field_of (take k fields)))
 position_there v fields k f lt is e =
-    there_is v (map field_of fields) k false (omega (arith, length-map fields field_of)) (ap (is_absent v) (get_map_at field_of fields k f no_field lt is) ∙ e)
-    ∙ ap (λ (fs : List Field). Some (count_present v fs)) (take-map field_of k fields)
+    there_is v (map field_of fields) k false (omega (arith, length-map fields field_of)) (rw (get_map_at field_of fields k f no_field lt is) e)
+    ∙ rw (take-map field_of k fields)
 
 position_absent : (v : ℕ) (fields : List CodeField) (k : ℕ) (f : CodeField) → k < length fields → f ≡ get_or fields k f → is_absent v (field_of f) ≡ true
     → position_in v (map field_of fields) k ≡ None
 position_absent v fields k f lt is e =
-    there_is v (map field_of fields) k true (omega (arith, length-map fields field_of)) (ap (is_absent v) (get_map_at field_of fields k f no_field lt is) ∙ e)
+    there_is v (map field_of fields) k true (omega (arith, length-map fields field_of)) (rw (get_map_at field_of fields k f no_field lt is) e)
 
 count-append : (v : ℕ) (fs gs : List Field) → count_present v (fs ++ gs) ≡ count_present v fs + count_present v gs
-count-append v [] gs = let e : count_present v gs ≡ 0 + count_present v gs = omega arith in e
-count-append v (f ∷ fs) gs = let one = if is_absent v f then 0 else 1 in
-    let plus : one + (count_present v fs + count_present v gs) ≡ (one + count_present v fs) + count_present v gs = omega arith in
-    ap (λ (n : ℕ). one + n) (count-append v fs gs) ∙ plus
+count-append v [] gs = omega arith
+count-append v (f ∷ fs) gs = omega (arith, count-append v fs gs)
 
 -- a field that is there or isn't
 module _ (v : ℕ) (fields : List CodeField) (k : ℕ) (f : CodeField) (is_there : Bool) (count : ℕ) (lt : k < length fields) (is : f ≡ get_or fields k f)
@@ -139,20 +126,12 @@ module _ (v : ℕ) (fields : List CodeField) (k : ℕ) (f : CodeField) (is_there
   -- how many are there with it
   pub counted_is : (if is_there then suc count else count) ≡ count_present v (map field_of (take (k + 1) fields))
   counted_is =
-      by is_there e ∙ sym (ap (count_present v) (ap (map field_of) (take_more fields k f lt) ∙ map-append field_of (take k fields) (get_or fields k f ∷ []))
-      ∙ count-append v (map field_of (take k fields)) (field_of (get_or fields k f) ∷ [])
-      ∙ ap (λ (g : CodeField). count_present v (map field_of (take k fields)) + count_present v (field_of g ∷ [])) (sym is))
+      rw (take_more fields k f lt, map-append field_of (take k fields) (get_or fields k f ∷ []), count-append, ← is) (by is_there e)
     where
       by : (b : Bool) → b ≡ not (is_absent v (field_of f))
           → (if b then suc count else count) ≡ count_present v (map field_of (take k fields)) + count_present v (field_of f ∷ [])
-      by true h =
-          let one : suc count ≡ count_present v (map field_of (take k fields)) + (1 + 0) = omega (arith, n) in
-          one ∙ ap (λ (b : Bool). count_present v (map field_of (take k fields)) + ((if b then 0 else 1) + 0))
-          (sym (flipped (is_absent v (field_of f)) true (sym h)))
-      by false h =
-          let none : count ≡ count_present v (map field_of (take k fields)) + (0 + 0) = omega (arith, n) in
-          none ∙ ap (λ (b : Bool). count_present v (map field_of (take k fields)) + ((if b then 0 else 1) + 0))
-          (sym (flipped (is_absent v (field_of f)) false (sym h)))
+      by true h = rw (flipped (is_absent v (field_of f)) true (sym h)) (omega arith)
+      by false h = rw (flipped (is_absent v (field_of f)) false (sym h)) (omega arith)
 
 pub counted_small : (b : Bool) (count n : ℕ) → count ≤ n → (if b then suc count else count) ≤ n + 1
 counted_small true count n h = omega arith
@@ -179,25 +158,19 @@ module _ (v : ℕ) (fields : List Field) (i : ℕ) (lt : i < length fields) wher
   here : fields_from v i (drop i fields)
       ≡ entry_of i 0 (get_or fields i no_field) (presence v (get_or fields i no_field).test (get_or fields i no_field).since) ++ fields_from v (i + 1)
       (drop (i + 1) fields)
-  here =
-      let f = get_or fields i no_field in
-      ap (fields_from v i) (drop_more fields i no_field lt) ∙ ap
-      (λ (n : ℕ). entry_of i 0 f (presence v f.test f.since) ++ fields_from v n (drop (i + 1) fields)) (sym (add-one i))
+  here = rw (drop_more fields i no_field lt, add-one i)
 
   pub skips : is_absent v (get_or fields i no_field) ≡ true → fields_from v (i + 1) (drop (i + 1) fields) ≡ fields_from v i (drop i fields)
   skips e =
       let f = get_or fields i no_field in
-      sym (here ∙ ap (λ (es : List Entry). es ++ fields_from v (i + 1) (drop (i + 1) fields)) (absent i f (presence v f.test f.since) e))
+      sym (here ∙ rw (absent i f (presence v f.test f.since) e))
 
   pub finds : is_absent v (get_or fields i no_field) ≡ false
       → fields_from v i (drop i fields) ≡ found v i (get_or fields i no_field) ∷ fields_from v (i + 1) (drop (i + 1) fields)
   finds e =
       let f = get_or fields i no_field in
       let is = presence_is v f.test f.since in
-      here
-      ∙ ap (λ (o : Option (Option Formula)). entry_of i 0 f o ++ fields_from v (i + 1) (drop (i + 1) fields)) is
-      ∙ ap (λ (es : List Entry). es ++ fields_from v (i + 1) (drop (i + 1) fields))
-      (there i f (field_reduced v f.test f.since) (subst (λ (o : Option (Option Formula)). is_nothing o ≡ false) is e))
+      here ∙ rw (is, there i f (field_reduced v f.test f.since) (rw is at e))
 
 -- ---- as the code has it
 
@@ -207,13 +180,12 @@ module _ (side : Side) (fields : List CodeField) (same : map field_of fields ≡
   inside = omega (arith, length-map fields field_of, ap length same)
 
   field_is : field_of f ≡ get_or (desc_on side).fields i no_field
-  field_is = sym (get_map_at field_of fields i f no_field lt is) ∙ ap (λ (l : List Field). get_or l i no_field) same
+  field_is = rw same at (sym (get_map_at field_of fields i f no_field lt is))
 
   pub skip_absent : (present : Bool) → present ≡ not (is_absent side.version (field_of f)) → present ≡ false
       → fields_from side.version (i + 1) (drop (i + 1) (desc_on side).fields) ≡ fields_from side.version i (drop i (desc_on side).fields)
   skip_absent present e absent =
-      skips side.version (desc_on side).fields i inside
-      (ap (is_absent side.version) (sym field_is) ∙ flipped (is_absent side.version (field_of f)) false (sym e ∙ absent))
+      skips side.version (desc_on side).fields i inside (rw (← field_is) (flipped (is_absent side.version (field_of f)) false (sym e ∙ absent)))
 
   pub first_found : (from : ℕ) (p : Present) → p.number ≡ i → p.field.now ≡ f → from ≤ i
       → fields_from side.version i (drop i (desc_on side).fields) ≡ fields_from side.version from (drop from (desc_on side).fields)
@@ -221,21 +193,13 @@ module _ (side : Side) (fields : List CodeField) (same : map field_of fields ≡
   first_found from p number field le e present is_present holds =
       let v = side.version in
       let there' : is_absent v (field_of f) ≡ false = flipped (is_absent v (field_of f)) true (sym is_present ∙ holds) in
+      let here = rw (← field_is) at (finds v (desc_on side).fields i inside (rw (← field_is) there')) in
       record {
         on = record {
-          inside = subst (λ (n : ℕ). n < length (desc_on side).fields) (sym number) inside;
-          is = ap field_of field ∙ field_is ∙ ap (λ (n : ℕ). get_or (desc_on side).fields n no_field) (sym number);
-          there = ap (λ (g : CodeField). is_absent v (field_of g)) field ∙ there';
+          inside = rw number inside;
+          is = rw (field, number) field_is;
+          there = rw field there';
         };
-        later = subst (λ (n : ℕ). from ≤ n) (sym number) le;
-        entries = sym e ∙ finds v (desc_on side).fields i inside (ap (is_absent v) (sym field_is) ∙ there')
-            ∙ ap (λ (n : ℕ). found v n (get_or (desc_on side).fields i no_field) ∷ fields_from v (n + 1) (drop (n + 1) (desc_on side).fields)) (sym number)
-            ∙ ap (λ (g : Field). found v p.number g ∷ fields_from v (p.number + 1) (drop (p.number + 1) (desc_on side).fields))
-            (sym (ap field_of field ∙ field_is));
+        later = rw number le;
+        entries = sym e ∙ rw (number, field) here;
       }
-
-pub none_left : (side : Side) (fields : List CodeField) → map field_of fields ≡ (desc_on side).fields → (i from : ℕ) → length fields ≤ i
-    → fields_from side.version i (drop i (desc_on side).fields) ≡ fields_from side.version from (drop from (desc_on side).fields)
-    → fields_from side.version from (drop from (desc_on side).fields) ≡ []
-none_left side fields same i from all e =
-    sym e ∙ ap (fields_from side.version i) (drop_all i (desc_on side).fields (omega (arith, length-map fields field_of, ap length same)))

@@ -35,13 +35,9 @@ module _ (v : ℕ) (own parent : ℕ → ℕ) where
   reduced_holds_at (AtLeast n) = refl
   reduced_holds_at (Below n) = refl
   reduced_holds_at (Cell whose field mask rel value) = refl
-  reduced_holds_at (Not t) = not_holds (reduced v t) ∙ ap not (reduced_holds_at t)
-  reduced_holds_at (And s t) =
-      and_holds (reduced v s) (reduced v t) ∙ ap (λ (b : Bool). b && holds (reduced v t)) (reduced_holds_at s)
-      ∙ ap (λ (b : Bool). truth s v own parent && b) (reduced_holds_at t)
-  reduced_holds_at (Or s t) =
-      or_holds (reduced v s) (reduced v t) ∙ ap (λ (b : Bool). b || holds (reduced v t)) (reduced_holds_at s)
-      ∙ ap (λ (b : Bool). truth s v own parent || b) (reduced_holds_at t)
+  reduced_holds_at (Not t) = not_holds (reduced v t) ∙ rw (reduced_holds_at t)
+  reduced_holds_at (And s t) = and_holds (reduced v s) (reduced v t) ∙ rw (reduced_holds_at s, reduced_holds_at t)
+  reduced_holds_at (Or s t) = or_holds (reduced v s) (reduced v t) ∙ rw (reduced_holds_at s, reduced_holds_at t)
 
 pub reduced_holds : (t : Formula) (v : ℕ) (own parent : ℕ → ℕ) → truth_of (reduced v t) v own parent ≡ truth t v own parent
 reduced_holds t v own parent = reduced_holds_at v own parent t

@@ -1,6 +1,6 @@
 -- A well-formed set is compatible to itself.
 use Rattle.std.proofs.Common.{◌≡◌, ℕ, zero, suc, ◌≤◌, min, List, ◌∷◌, ◌++◌, Bool, true, false, Some, refl, sym, ap, ◌∙◌, subst, arith, [], Option, None, inr}
-use Rattle.std.proofs.Common.{◌+◌, ◌<◌, length, get_or}
+use Rattle.std.proofs.Common.{◌+◌, ◌<◌, length, get_or, append_assoc}
 use Rattle.std.specs.Prelude.{◌==◌, if◌then◌else◌, ◌&&◌, nat_le, nat_lt, ◌||◌}
 use Rattle.std.specs.List.{slice_get}
 use Rattle.std.proofs.lemmas.Bool.{eq-eqb, and_parts, le-leb, leb-true, and_from, eqb-true, or_left, or_right}
@@ -39,10 +39,10 @@ use Rattle.vms_check.proofs.SetsFit.{so_fits}
 
 pub least_below : (n : ℕ) (ms : List ℕ) → least_of n ms ≤ n
 least_below n [] = omega arith
-least_below n (m ∷ ms) = let le : least_of (min n m) ms ≤ min n m = least_below (min n m) ms in omega (arith, le)
+least_below n (m ∷ ms) = omega (arith, least_below (min n m) ms)
 
 least_within : (n : ℕ) (xs : List ℕ) (most : ℕ) (ys : List ℕ) → least_of n (xs ++ most ∷ ys) ≤ most
-least_within n [] most ys = let le : least_of (min n most) ys ≤ min n most = least_below (min n most) ys in omega (arith, le)
+least_within n [] most ys = omega (arith, least_below (min n most) ys)
 least_within n (x ∷ xs) most ys = least_within (min n x) xs most ys
 
 bound_within : (item : Item) (xs : List ℕ) (most : ℕ) (ys : List ℕ) → bound item (xs ++ most ∷ ys) ≤ most
@@ -67,30 +67,21 @@ counted_next i f fs = counted_by i f.count f fs
 
 counted_here : (i most : ℕ) (f : Field) (fs : List Field) → f.count ≡ Counted i most → counted i (f ∷ fs) ≡ most ∷ counted i fs
 unfolding of_count
-counted_here i most f fs e =
-    ap (λ (c : Count). counted i (of_count c f ∷ fs)) e ∙ ap (λ (b : Bool). (if b then most ∷ [] else []) ++ counted i fs) (eq-eqb i i refl)
-
-append_same : (xs ys zs : List ℕ) → (xs ++ ys) ++ zs ≡ xs ++ (ys ++ zs)
-append_same [] ys zs = refl
-append_same (x ∷ xs) ys zs = ap (λ (l : List ℕ). x ∷ l) (append_same xs ys zs)
+counted_here i most f fs e = rw (e, eq-eqb i i refl)
 
 counted_has : (i : ℕ) (fs : List Field) (k : ℕ) (g : Field) (most : ℕ) → slice_get fs k ≡ Some g → g.count ≡ Counted i most
     → (xs : List ℕ) × (ys : List ℕ) × (counted i fs ≡ xs ++ most ∷ ys)
 counted_has i [] k g most there is = absurd (cc)
-counted_has i (f ∷ fs) zero g most there is = let same : f ≡ g = cc in ([], counted i fs, counted_here i most f fs (ap (λ (h : Field). h.count) same ∙ is))
+counted_has i (f ∷ fs) zero g most there is = let same : f ≡ g = cc in ([], counted i fs, counted_here i most f fs (rw same is))
 counted_has i (f ∷ fs) (suc k) g most there is =
-    let rest = counted_has i fs k g most there is in (
-      counted i (f ∷ []) ++ rest.0,
-      rest.1,
-      counted_next i f fs ∙ ap (λ (l : List ℕ). counted i (f ∷ []) ++ l) rest.2 ∙ sym
-          (append_same (counted i (f ∷ [])) rest.0 (most ∷ rest.1)),
-    )
+    let rest = counted_has i fs k g most there is in
+    (counted i (f ∷ []) ++ rest.0, rest.1, rw (counted_next i f fs, rest.2, append_assoc (counted i (f ∷ [])) rest.0 (most ∷ rest.1)))
 
 pub bound_counts : (item : Item) (i : ℕ) (fs : List Field) (k : ℕ) (g : Field) (most : ℕ) → slice_get fs k ≡ Some g → g.count ≡ Counted i most
     → bound item (counted i fs) ≤ most
 bound_counts item i fs k g most there is =
     let has = counted_has i fs k g most there is in
-    subst (λ (l : List ℕ). bound item l ≤ most) (sym has.2) (bound_within item has.0 most has.1)
+    rw has.2 (bound_within item has.0 most has.1)
 
 -- ---- The rest of a test is the same as itself, if each number that it names has a position.
 
@@ -103,7 +94,7 @@ abbrev pub HasPosition : (ℕ → Option ℕ) → ℕ → Type 0
 HasPosition o k = (p : ℕ) × (o k ≡ Some p)
 
 same_here : (x : Option ℕ) (p : ℕ) → x ≡ Some p → same_place x x ≡ true
-same_here x p e = ap (λ (y : Option ℕ). same_place y y) e ∙ itself p
+same_here x p e = rw e (itself p)
 
 -- a steady field is there from the minimum on
 pub steady_there : (d : Desc) (v k : ℕ) → d.minimum ≤ v → is_steady_in d k ≡ true → HasPosition (position_in v d.fields) k
@@ -114,11 +105,8 @@ steady_there d v k low e = by_field (slice_get d.fields k) refl e
     by_field (Some f) is s =
         let a = and_parts (is_num f.item && is_one f.count && has_no_test f.test) (nat_le f.since d.minimum) s in
         let b = and_parts (is_num f.item && is_one f.count) (has_no_test f.test) a.0 in
-        let since : f.since ≤ d.minimum = leb-true f.since d.minimum a.1 in
-        let there : is_absent v f ≡ false =
-        ap (λ (t : Option Formula). is_nothing (presence v t f.since)) (untested f.test b.1) ∙ ap (λ (x : Bool). is_nothing (if x then Some None else None))
-        (le-leb f.since v (omega (arith, since, low))) in
-        (_, there_is v d.fields k false (slice_get_within d.fields k f is) (ap (is_absent v) (get_or_from_slice_get d.fields k f no_field is) ∙ there))
+        let there : is_absent v f ≡ false = rw (untested f.test b.1, le-leb f.since v (omega (arith, leb-true f.since d.minimum a.1))) in
+        (_, there_is v d.fields k false (slice_get_within d.fields k f is) (rw (get_or_from_slice_get d.fields k f no_field is) there))
 
 -- ---- tests
 
@@ -141,9 +129,7 @@ module _ (o : ℕ → Option ℕ) where
     cell : (k mask : ℕ) (rel : Rel) (value : ℕ) → ok k ≡ true → IsSame (Cell Own k mask rel value)
     cell k mask rel value e =
         let p = has k e in
-        and_from (same_place (o k) (o k) && mask == mask && rel_number rel == rel_number rel) (value == value)
-        (and_from (same_place (o k) (o k) && mask == mask) (rel_number rel == rel_number rel)
-        (and_from (same_place (o k) (o k)) (mask == mask) (same_here (o k) p.0 p.1) (itself mask)) (itself (rel_number rel))) (itself value)
+        rw (same_here (o k) p.0 p.1, itself mask, itself (rel_number rel)) (itself value)
 
   pub same_self : (r : Reduced) → IsSelf r → same_reduced o o r r ≡ true
   same_self (Known true) h = refl
@@ -152,8 +138,8 @@ module _ (o : ℕ → Option ℕ) where
 
   rest_by : (r : Reduced) (rest : Option Formula) → IsSelf r → left_of r ≡ Some rest → same_rest o o rest rest ≡ true
   rest_by (Known false) rest h e = absurd (cc)
-  rest_by (Known true) rest h e = let none : None ≡ rest = cc in ap (λ (x : Option Formula). same_rest o o x x) (sym none)
-  rest_by (Open t) rest h e = let some : Some t ≡ rest = cc in ap (λ (x : Option Formula). same_rest o o x x) (sym some) ∙ h
+  rest_by (Known true) rest h e = let none : None ≡ rest = cc in rw (← none)
+  rest_by (Open t) rest h e = let some : Some t ≡ rest = cc in rw (← some) h
 
   pub rest_self : (v : ℕ) (test : Option Formula) (since : ℕ) (rest : Option Formula) → IsSelf (field_reduced v test since)
       → presence v test since ≡ Some rest → same_rest o o rest rest ≡ true
@@ -197,7 +183,7 @@ entry_is v i [] p e h = absurd (cc)
 entry_is v i (f ∷ fs) p e h = by_presence (λ q g. entry_is v (suc i) fs q e g) (presence v f.test f.since) refl p h
   where
     later : IsEntry v (suc i) fs e → IsEntry v i (f ∷ fs) e
-    later x = let is = x.index in record { number = suc x.number; there = x.there; index = omega (arith, is); left = x.left }
+    later x = record { number = suc x.number; there = x.there; index = omega arith; left = x.left }
 
     by_presence : ((q : ℕ) → slice_get (fields_from v (suc i) fs) q ≡ Some e → IsEntry v (suc i) fs e)
         → (o : Option (Option Formula)) → presence v f.test f.since ≡ o → (p : ℕ) → slice_get (entry_of i 0 f o ++ fields_from v (suc i) fs) p ≡ Some e
@@ -205,7 +191,7 @@ entry_is v i (f ∷ fs) p e h = by_presence (λ q g. entry_is v (suc i) fs q e g
     by_presence rec None is p h = later (rec p h)
     by_presence rec (Some rest) is zero h =
         let same : record { index = i; place = 0; field = f; rest = rest } ≡ e = cc in
-        subst (λ (x : Entry). IsEntry v i (f ∷ fs) x) same (record { number = 0; there = refl; index = omega arith; left = is })
+        rw (← same) (record { number = 0; there = refl; index = omega arith; left = is })
     by_presence rec (Some rest) is (suc p) h = later (rec p h)
 
 -- ---- one description
@@ -232,11 +218,10 @@ module _ (d : Desc) (v : ℕ) (low : d.minimum ≤ v) where
   test_self i (Some t) since e = reduced_self positions (is_earlier_in d i) (earlier i) v t e
 
   counts : (i : ℕ) (c : Count) → count_names_well d i c ≡ true → (by most : ℕ) → c ≡ Counted by most → HasPosition positions by
-  counts i c e by most is =
-      earlier i by (and_parts (is_earlier_in d i by) (is_counting (slice_get d.fields by)) (subst (λ (x : Count). count_names_well d i x ≡ true) is e)).0
+  counts i c e by most is = earlier i by (and_parts (is_earlier_in d i by) (is_counting (slice_get d.fields by)) (rw is at e)).0
 
   structs_equal : (x : Item) (i j : ℕ) → x ≡ Struct i → x ≡ Struct j → (i == j) ≡ true
-  structs_equal x i j is_i is_j = let same : Struct i ≡ Struct j = sym is_i ∙ is_j in let numbers : i ≡ j = cc in eq-eqb i j numbers
+  structs_equal x i j is_i is_j = eq-eqb i j cc
 
   pair_self : IsNamedWell → (p : ℕ) (e : Entry) → slice_get (fields_at d v) p ≡ Some e → ArePaired equal d d v v e e
   pair_self well p e h =
@@ -249,7 +234,7 @@ module _ (d : Desc) (v : ℕ) (low : d.minimum ≤ v) where
           counts = count_self positions e.field.count (counts x.number e.field.count names.1);
           kinds = item_self e.field.item;
           tests = tests;
-          names = ap (λ (b : Bool). b || is_one_of e.field.former e.field.name) ((bytes_eq-Decides e.field.name e.field.name).1 refl);
+          names = rw ((bytes_eq-Decides e.field.name e.field.name).1 refl);
           capacities = holds_self e.field.count;
           room = λ k g most there absent is. bound_counts e.field.item e.index d.fields k g most there is;
           constants = constant_self e.field.item;
@@ -260,7 +245,7 @@ module _ (d : Desc) (v : ℕ) (low : d.minimum ≤ v) where
   desc_self : IsNamedWell → DescsFit equal d d v v
   desc_self well = record {
     as_many = refl;
-    pairs = λ p e f left right. subst (λ (x : Entry). ArePaired equal d d v v e x) (same_at (fields_at d v) p e f left right) (pair_self well p e left);
+    pairs = λ p e f left right. rw (← (same_at (fields_at d v) p e f left right)) (pair_self well p e left);
     validations = λ k t there.
         inr (any_passes_from_place (λ (s : Formula). same_reduced positions positions (reduced v s) (reduced v t)) d.validate k t there
         (same_self positions (reduced v t) (reduced_self positions (is_steady_in d) steady v t (well.validations k t there))));
@@ -276,7 +261,7 @@ clean_self : (k : ℕ) (d : Desc) (rules : List Bool) → Clean k d rules → d.
 clean_self k d rules c low = desc_self d d.version low (named_well k d rules d.version low c)
 
 own_version : (d : Desc) → d.minimum ≤ d.version → is_version_of d d.version ≡ true
-own_version d low = ap (λ (b : Bool). b && nat_le d.version d.version) (le-leb d.minimum d.version low) ∙ le-leb d.version d.version (omega arith)
+own_version d low = rw (le-leb d.minimum d.version low) (le-leb d.version d.version (omega arith))
 
 -- ---- the set
 
@@ -298,16 +283,13 @@ module _ (set : Set) (well : WellFormed set) where
   struct_at j None e lt = absurd (beyond set.structs j lt e)
   struct_at j (Some d) e lt =
       let c = struct_clean set well j d e in
-      subst (λ (x : Desc). DescsFit same x x x.version x.version) (sym (get_or_from_slice_get set.structs j d no_desc e))
+      rw (get_or_from_slice_get set.structs j d no_desc e)
       (clean_self j d (struct_rules set.structs j d) c (leb-true d.minimum d.version c.own.1.1.0))
 
   structs_self : (i j : ℕ) → j < length set.structs → same i j ≡ true
       → DescsFit same (get_or set.structs i no_desc) (get_or set.structs j no_desc) (get_or set.structs i no_desc).version
       (get_or set.structs j no_desc).version
-  structs_self i j lt e =
-      subst (λ (k : ℕ). DescsFit same (get_or set.structs k no_desc) (get_or set.structs j no_desc) (get_or set.structs k no_desc).version
-      (get_or set.structs j no_desc).version) (sym (eqb-true i j e))
-      (struct_at j (slice_get set.structs j) refl lt)
+  structs_self i j lt e = rw (eqb-true i j e) (struct_at j (slice_get set.structs j) refl lt)
 
   sub_self : (k j : ℕ) (d : Device) (s : Sub) → slice_get set.devices k ≡ Some d → slice_get d.subs j ≡ Some s → IsSubFor same s d j s
   sub_self k j d s there inside =
@@ -333,10 +315,9 @@ module _ (set : Set) (well : WellFormed set) where
   found_self : (i k : ℕ) (d e : Device) → slice_get set.devices i ≡ Some d → find_device 0 set.devices d.desc.name d.instance ≡ Some k
       → slice_get set.devices k ≡ Some e → DevicesFit same d e
   found_self i k d e inside found there =
-      let both : Some i ≡ Some k = sym (device_found set well i d inside) ∙ found in
-      let number : i ≡ k = cc in
-      let same_device : d ≡ e = same_at set.devices i d e inside (ap (slice_get set.devices) number ∙ there) in
-      subst (λ (x : Device). DevicesFit same d x) same_device (device_self i d inside)
+      let number : i ≡ k = cc (device_found set well i d inside) in
+      let same_device : d ≡ e = cc in
+      rw (← same_device) (device_self i d inside)
 
   pub reflexive : Compatible set set
   reflexive = so_fits set set well (

@@ -73,8 +73,7 @@ module _ (same : ℕ → ℕ → Bool) (structs : List Comparer) (k : ℕ) (a b 
 
   said_by : Said → (e f : Entry) → uses_below k f.field.item ≡ true → struct_of e f ≡ None → (i j : ℕ) → e.field.item ≡ Struct i → f.field.item ≡ Struct j
       → same i j ≡ true
-  said_by said e f below none i j is_i is_j =
-      said i j (rw is_j at below) (rw (is_i, is_j) at none)
+  said_by said e f below none i j is_i is_j = said i j (rw is_j at below) (rw (is_i, is_j) at none)
 
   fields_so : Said → (es fs : List Entry) → AllBelow k fs → compares es fs ≡ None → FieldsFit es fs
   fields_so said [] [] below none = record { as_many = refl; pairs = λ p e f x y. absurd (cc) }
@@ -82,11 +81,8 @@ module _ (same : ℕ → ℕ → Bool) (structs : List Comparer) (k : ℕ) (a b 
       let first = or_else_none (rule_of e f) (or_else (struct_of e f) (compares es fs)) none in
       let later = or_else_none (struct_of e f) (compares es fs) first.1 in
       let rest = fields_so said es fs below.1 later.1 in
-      record {
-        as_many = ap suc rest.as_many;
-        pairs = by_place (paired_so same structs a b v w in_a in_b e f (in_field in_a e.index) (in_field in_b f.index) first.0
-            (said_by said e f below.0 later.0)) rest.pairs;
-      }
+      let here = paired_so same structs a b v w in_a in_b e f (in_field in_a e.index) (in_field in_b f.index) first.0 (said_by said e f below.0 later.0) in
+      record { as_many = rw rest.as_many; pairs = by_place here rest.pairs }
     where
       by_place : ArePaired same a b v w e f → ((p : ℕ) (g h : Entry) → slice_get es p ≡ Some g → slice_get fs p ≡ Some h → ArePaired same a b v w g h)
           → (p : ℕ) (g h : Entry) → slice_get (e ∷ es) p ≡ Some g → slice_get (f ∷ fs) p ≡ Some h → ArePaired same a b v w g h
@@ -109,10 +105,8 @@ module _ (same : ℕ → ℕ → Bool) (structs : List Comparer) (k : ℕ) (a b 
 
   -- structures are never covered
   paired_structs : (e f : Entry) → ArePaired same a b v w e f → (i j : ℕ) → e.field.item ≡ Struct i → f.field.item ≡ Struct j → same i j ≡ true
-  paired_structs e f h i j is_i is_j = (h.alike (uncovered is_i)).structs i j is_i is_j
-    where
-      uncovered : e.field.item ≡ Struct i → is_covered e.field.item e.field.count f.field.item ≡ false
-      uncovered is = ap (λ (x : Item). is_covered x e.field.count f.field.item) is
+  paired_structs e f h i j is_i is_j =
+      let uncovered : is_covered e.field.item e.field.count f.field.item ≡ false = rw is_i in (h.alike uncovered).structs i j is_i is_j
 
   so_fields : Meant → (es fs : List Entry) → AllBelow k fs → FieldsFit es fs → compares es fs ≡ None
   so_fields meant [] [] below h = refl
@@ -148,8 +142,7 @@ module _ (same : ℕ → ℕ → Bool) (structs : List Comparer) (k : ℕ) (a b 
       record {
         as_many = fields.as_many;
         pairs = fields.pairs;
-        validations = λ i t e. kept_so (reduced w t)
-            (every_at (λ (t : Formula). keeps (reduced w t)) b.validate i t kept e);
+        validations = λ i t e. kept_so (reduced w t) (every_at (λ (t : Formula). keeps (reduced w t)) b.validate i t kept e);
       }
 
   pub so_descs : (x y : List (List Cell)) → Meant → AllBelow k (fields_at b w) → DescsFit same a b v w → compare_desc structs x y a b v w in_a in_b ≡ None
@@ -162,7 +155,7 @@ module _ (same : ℕ → ℕ → Bool) (structs : List Comparer) (k : ℕ) (a b 
 -- ---- Two sets: the walk finds no mismatch exactly where all rules hold.
 
 none_so : {X : Type 0} (o : Option X) → o ≡ None → is_none o ≡ true
-none_so o e = ap is_none e
+none_so o e = rw e
 
 clean_below : (k : ℕ) (d : Desc) (rules : List Bool) (v : ℕ) → Clean k d rules → AllBelow k (fields_at d v)
 clean_below k d rules v c = all_uses k v 0 d.fields (λ j f e. (c.fields j f e).1.1.1.1.0)
@@ -239,9 +232,7 @@ module _ (old new : Set) (well : WellFormed new) where
       → slice_get new.devices k ≡ Some e
       → device_mismatch old new (0 + i) d ≡ None → DevicesFit same d e
   found_fits i k d e inside found there none =
-      device_fits (0 + i) k d e there
-      (ap (compare_device old new (0 + i) d (Some k)) (sym there) ∙ ap
-      (λ (o : Option ℕ). compare_device old new (0 + i) d o (slice_get new.devices (index o))) (sym found) ∙ none)
+      device_fits (0 + i) k d e there (rw (found, there) at none)
 
   pub fits_so : Compatible old new → Fits old new
   fits_so none =
@@ -272,7 +263,7 @@ module _ (old new : Set) (well : WellFormed new) where
         let b = get_or new.structs j no_desc in
         structs_are old new (none_so (first_fault new) well) i j a.version b.version lt refl refl
         ∙ so_descs with structs j a b a.version b.version (parts.Struct i) (parts.Struct j) (struct_cells old) (struct_cells new)
-        (λ h l below said. let low : l < j = ltb-true l j below in structs_meant k h l (omega (arith, low, less)) (omega (arith, low, lt)) said)
+        (λ h l below said. let low : l < j = ltb-true l j below in structs_meant k h l (omega arith) (omega arith) said)
         (struct_below j b.version lt) (fit.structs i j lt is)
 
     meant : (i j : ℕ) → uses_below count (Struct j) ≡ true → with i j ≡ true → get_or structs j no_comparer i ≡ None
@@ -282,10 +273,10 @@ module _ (old new : Set) (well : WellFormed new) where
         → compare_subs old new i k e j s ≡ None
     so_sub i k j e s device l t h =
         let v = s.desc.version in
-        ap (λ (o : Option ℕ). compare_sub old new i k j s o (slice_get e.subs (index o))) h.found ∙ ap (compare_sub old new i k j s (Some l)) h.there
-        ∙ both_none _ _ (pass 14 _ [] _ _ h.version refl)
+        rw (h.found, h.there)
+        (both_none _ _ (pass 14 _ [] _ _ h.version refl)
         (so_descs with structs count s.desc t.desc v v (parts.Sub i j) (parts.Sub k l) (struct_cells old) (struct_cells new) meant
-        (sub_below k l v e t device h.there) h.fits)
+        (sub_below k l v e t device h.there) h.fits))
 
     so_device : (i k : ℕ) (d e : Device) → slice_get new.devices k ≡ Some e → DevicesFit with d e → compare_device old new i d (Some k) (Some e) ≡ None
     so_device i k d e there h =

@@ -41,16 +41,16 @@ both (Some a) y z = refl
 both None y z = refl
 
 pub first_is : {X : Type 0} (x y : Option X) (a : X) → x ≡ Some a → or_else x y ≡ Some a
-first_is x y a e = ap (λ o. or_else o y) e
+first_is x y a e = rw e
 
 pub later_is : {X : Type 0} (x y : Option X) → x ≡ None → or_else x y ≡ y
-later_is x y e = ap (λ o. or_else o y) e
+later_is x y e = rw e
 
 pub failing_some : (rules : List (ℕ × Bool)) (a b : Place) (r : ℕ) → failing_number rules ≡ Some r
     → failing_pair rules a b ≡ Some (record { rule = r; in_old = a; in_new = b })
 failing_some [] a b r e = absurd (cc)
 failing_some ((rule, true) ∷ rules) a b r e = failing_some rules a b r e
-failing_some ((rule, false) ∷ rules) a b r e = let same : rule ≡ r = cc in ap (λ (n : ℕ). Some (record { rule = n; in_old = a; in_new = b })) same
+failing_some ((rule, false) ∷ rules) a b r e = let same : rule ≡ r = cc in rw same
 
 pub failing_none : (rules : List (ℕ × Bool)) (a b : Place) → failing_number rules ≡ None → failing_pair rules a b ≡ None
 failing_none [] a b e = refl
@@ -65,32 +65,28 @@ unplaced e = record { index = e.index; place = 0; field = e.field; rest = e.rest
 one_unplaced : (i at : ℕ) (f : Field) (o : Option (Option Formula)) (es fs : List Entry) → map unplaced es ≡ fs
     → map unplaced (entry_of i at f o ++ es) ≡ entry_of i 0 f o ++ fs
 one_unplaced i at f None es fs e = e
-one_unplaced i at f (Some rest) es fs e = ap (λ (l : List Entry). record { index = i; place = 0; field = f; rest = rest } ∷ l) e
+one_unplaced i at f (Some rest) es fs e = rw e
 
 present_unplaced : (structs : List (List Cell)) (all : List Field) (v i at : ℕ) (fs : List Field)
     → map unplaced (present_from structs all v i at fs) ≡ fields_from v i fs
 present_unplaced structs all v i at [] = refl
 present_unplaced structs all v i at (f ∷ fs) =
-    one_unplaced i at f (presence v f.test f.since) (present_from structs all v (suc i) (at + length (field_cells structs all i f)) fs)
-    (fields_from v (suc i) fs)
-    (present_unplaced structs all v (suc i) (at + length (field_cells structs all i f)) fs)
+    one_unplaced i at f (presence v f.test f.since) _ _ (present_unplaced structs all v (suc i) (at + length (field_cells structs all i f)) fs)
 
 position_unplaced : (p : ℕ) (es : List Entry) (k : ℕ) → position_from p (map unplaced es) k ≡ position_from p es k
 position_unplaced p [] k = refl
-position_unplaced p (e ∷ es) k = ap (λ (o : Option ℕ). if e.index == k then Some p else o) (position_unplaced (suc p) es k)
+position_unplaced p (e ∷ es) k = rw (position_unplaced (suc p) es k)
 
 pub positions_are : (structs : List (List Cell)) (d : Desc) (v : ℕ) → position_from 0 (present structs d v) ≡ position_in v d.fields
 positions_are structs d v =
-    fun_ext (λ (k : ℕ). sym (position_unplaced 0 (present structs d v) k) ∙ ap (λ (es : List Entry). position_from 0 es k)
-    (present_unplaced structs d.fields v 0 0 d.fields))
+    fun_ext (λ (k : ℕ). rw (← (position_unplaced 0 (present structs d v) k), present_unplaced structs d.fields v 0 0 d.fields))
 
 module _ (structs : List Comparer) (a b : Desc) (v w : ℕ) (in_a in_b : Part) (o n : ℕ → Option ℕ) where
   abbrev compares : List Entry → List Entry → Option Mismatch
   compares es fs = compare_fields structs a b v w in_a in_b o n es fs
 
   fields_unplaced : (es fs : List Entry) → compares (map unplaced es) (map unplaced fs) ≡ compares es fs
-  fields_unplaced (e ∷ es) (f ∷ fs) =
-      cc (fields_unplaced es fs)
+  fields_unplaced (e ∷ es) (f ∷ fs) = cc (fields_unplaced es fs)
   fields_unplaced [] [] = refl
   fields_unplaced (e ∷ es) [] = refl
   fields_unplaced [] (f ∷ fs) = refl
@@ -99,18 +95,8 @@ pub desc_split : (structs : List Comparer) (x y : List (List Cell)) (a b : Desc)
     ≡ or_else (compare_fields structs a b v w in_a in_b (position_in v a.fields) (position_in w b.fields) (fields_from v 0 a.fields) (fields_from w 0 b.fields))
     (compare_validations structs a b v w in_a in_b (position_in v a.fields) (position_in w b.fields))
 desc_split structs x y a b v w in_a in_b =
-    let es = present x a v in
-    let fs = present y b w in
-    ap (λ (o : ℕ → Option ℕ). or_else (compare_fields structs a b v w in_a in_b o (position_from 0 fs) es fs)
-    (compare_validations structs a b v w in_a in_b o (position_from 0 fs))) (positions_are x a v)
-    ∙ ap (λ (n : ℕ → Option ℕ). or_else (compare_fields structs a b v w in_a in_b (position_in v a.fields) n es fs)
-    (compare_validations structs a b v w in_a in_b (position_in v a.fields) n)) (positions_are y b w)
-    ∙ ap (λ (m : Option Mismatch). or_else m (compare_validations structs a b v w in_a in_b (position_in v a.fields) (position_in w b.fields)))
-    (sym (fields_unplaced structs a b v w in_a in_b (position_in v a.fields) (position_in w b.fields) es fs)
-    ∙ ap (λ (l : List Entry). compare_fields structs a b v w in_a in_b (position_in v a.fields) (position_in w b.fields) l (map unplaced fs))
-    (present_unplaced x a.fields v 0 0 a.fields)
-    ∙ ap (λ (l : List Entry). compare_fields structs a b v w in_a in_b (position_in v a.fields) (position_in w b.fields) (fields_from v 0 a.fields) l)
-    (present_unplaced y b.fields w 0 0 b.fields))
+    let plain = fields_unplaced structs a b v w in_a in_b (position_in v a.fields) (position_in w b.fields) (present x a v) (present y b w) in
+    rw (positions_are x a v, positions_are y b w, ← plain, present_unplaced x a.fields v 0 0 a.fields, present_unplaced y b.fields w 0 0 b.fields)
 
 -- ---- The walk over the present fields of both sides, one pair after the other.
 
@@ -124,10 +110,7 @@ module _ (s t : Side) where
   step : (i j : ℕ) (p q : Present) → IsFirst s i p → IsFirst t j q
       → fields_on s t (old_from i) (new_from j) ≡ or_else (pair_mismatch s t p q) (fields_on s t (old_from (p.number + 1)) (new_from (q.number + 1)))
   step i j p q f g =
-      ap (λ (es : List Entry). fields_on s t es (new_from j)) f.entries
-      ∙ ap (λ (es : List Entry). fields_on s t (entry s.version p ∷ old_from (p.number + 1)) es) g.entries
-      ∙ both (failing_pair (rules_on s t p q) (in_field s.part p.number) (in_field t.part q.number)) (structs_on s t p q)
-      (fields_on s t (old_from (p.number + 1)) (new_from (q.number + 1)))
+      rw (f.entries, g.entries) (both (failing_pair (rules_on s t p q) (in_field s.part p.number) (in_field t.part q.number)) (structs_on s t p q) _)
 
   pub pair_passes : (i j : ℕ) (p q : Present) (r whole : Option Mismatch) → IsFirst s i p → IsFirst t j q → r ≡ pair_mismatch s t p q → r ≡ None
       → fields_on s t (old_from i) (new_from j) ≡ whole → fields_on s t (old_from (p.number + 1)) (new_from (q.number + 1)) ≡ whole
@@ -143,12 +126,11 @@ module _ (s t : Side) where
       → b ≡ in_field t.part q.number
       → Some (record { rule = r; in_old = a; in_new = b }) ≡ pair_mismatch s t p q
   rule_fails p q o r a b is some in_a in_b =
-      rw (in_a, in_b) (sym (first_is _ (structs_on s t p q) _
-      (failing_some (rules_on s t p q) (in_field s.part p.number) (in_field t.part q.number) r (sym is ∙ some))))
+      rw (in_a, in_b, failing_some (rules_on s t p q) (in_field s.part p.number) (in_field t.part q.number) r (sym is ∙ some))
 
   pub rules_pass : (p q : Present) (o : Option ℕ) → o ≡ failing_number (rules_on s t p q) → o ≡ None → structs_on s t p q ≡ pair_mismatch s t p q
   rules_pass p q o is none =
-      sym (later_is _ (structs_on s t p q) (failing_none (rules_on s t p q) (in_field s.part p.number) (in_field t.part q.number) (sym is ∙ none)))
+      rw (failing_none (rules_on s t p q) (in_field s.part p.number) (in_field t.part q.number) (sym is ∙ none))
 
   abbrev items_on : Item → Item → Option Mismatch
   items_on a b = pair_structs (table_on s t) (desc_on s) (desc_on t) s.version t.version s.part t.part (position_on s) (position_on t) a b
@@ -190,8 +172,7 @@ module _ (k : ℕ) (ts us : List Comparer) (agree : (j : ℕ) → j < k → get_
 
   fields_same : (o n : ℕ → Option ℕ) (es fs : List Entry) → AllBelow k fs
       → compare_fields ts a b v w in_a in_b o n es fs ≡ compare_fields us a b v w in_a in_b o n es fs
-  fields_same o n (e ∷ es) (f ∷ fs) h =
-      cc (structs_same o n e.field.item f.field.item h.0, fields_same o n es fs h.1)
+  fields_same o n (e ∷ es) (f ∷ fs) h = cc (structs_same o n e.field.item f.field.item h.0, fields_same o n es fs h.1)
   fields_same o n es fs h = refl
 
   descs_same : (x y : List (List Cell)) → ((j : ℕ) → j < length b.fields → uses_below k (get_or b.fields j no_field).item ≡ true)
@@ -212,8 +193,7 @@ module _ (old new : Set) (well : is_well_formed new ≡ true) where
 
   agrees : (j : ℕ) → j < length new.structs → (l : ℕ) → l < j → get_or (rows j) l no_comparer ≡ get_or (table old new) l no_comparer
   agrees j lt l less =
-      let lt' : l < length new.structs = omega arith in first_at at_number new.structs no_comparer j l less ∙ sym
-      (first_at at_number new.structs no_comparer (length new.structs) l lt')
+      first_at at_number new.structs no_comparer j l less ∙ sym (first_at at_number new.structs no_comparer (length new.structs) l (omega arith))
 
   -- each side at its own version
   pub structs_are : (i j v w : ℕ) → j < length new.structs → v ≡ (get_or old.structs i no_desc).version → w ≡ (get_or new.structs j no_desc).version
@@ -225,12 +205,9 @@ module _ (old new : Set) (well : is_well_formed new ≡ true) where
       let b = get_or new.structs j no_desc in
       let x = struct_cells old in
       let y = struct_cells new in
-      ap (λ (c : Comparer). c i) (first_at at_number new.structs no_comparer (length new.structs) j lt)
-      ∙ ap (λ (l : ℕ). compare_desc (rows j) x y a b a.version b.version (parts.Struct i) (parts.Struct l)) (first_long at_number new.structs j)
-      ∙ descs_same j (rows j) (table old new) (agrees j lt) a b a.version b.version (parts.Struct i) (parts.Struct j) x y
-      (λ l less. ((struct_clean new well j lt).fields l less).uses)
-      ∙ ap (λ (u : ℕ). compare_desc (table old new) x y a b u b.version (parts.Struct i) (parts.Struct j)) (sym is_v)
-      ∙ ap (λ (u : ℕ). compare_desc (table old new) x y a b v u (parts.Struct i) (parts.Struct j)) (sym is_w)
+      rw (first_at at_number new.structs no_comparer (length new.structs) j lt, first_long at_number new.structs j, is_v, is_w)
+      (descs_same j (rows j) (table old new) (agrees j lt) a b a.version b.version (parts.Struct i) (parts.Struct j) x y
+      (λ l less. ((struct_clean new well j lt).fields l less).uses))
 
 -- ---- which structures a part uses
 
@@ -238,10 +215,8 @@ pub uses_at : (set : Set) → is_well_formed set ≡ true → (part : Part) → 
     → f ≡ get_or (desc_at set part).fields k no_field → (j : ℕ) → f.item ≡ Struct j
     → (j < reach set part) × (j < length set.structs)
 uses_at set well part h k lt f is j e =
-    let uses : uses_below (reach set part) (Struct j) ≡ true =
-    ap (uses_below (reach set part)) (sym (sym (ap (λ (g : Field). g.item) is) ∙ e)) ∙ (field_clean set well part h k lt).uses in
-    let low : j < reach set part = ltb-true j (reach set part) uses in
-    (low, omega (arith, low, reach_whole set part h))
+    let low : j < reach set part = ltb-true j (reach set part) (rw (← is, e) at (field_clean set well part h k lt).uses) in
+    (low, omega (arith, reach_whole set part h))
 
 -- ---- Two whole sets: the devices that one of them doesn't have, and those that are found by their names.
 
@@ -251,10 +226,8 @@ pub whole_is : (old new : Set)
     → first_mismatch old new ≡ or_else (machines_mismatch old new) (or_else (lost_mismatch old new) (first_answer (device_mismatch old new) 0 old.devices))
 unfolding first_mismatch
 whole_is old new =
-    ap (λ (m : Option Mismatch). or_else (machines_mismatch old new) m)
-    (both (first_answer (λ i d. failing_pair ((2, is_in new d) ∷ []) (here (parts.Device i)) (here parts.Set)) 0 old.devices)
-    (first_answer (λ i d. failing_pair ((3, is_in old d) ∷ []) (here parts.Set) (here (parts.Device i))) 0 new.devices)
-    (first_answer (device_mismatch old new) 0 old.devices))
+    let one = first_answer (λ i d. failing_pair ((2, is_in new d) ∷ []) (here (parts.Device i)) (here parts.Set)) 0 old.devices in
+    ap (or_else (machines_mismatch old new)) (both one _ _)
 
 -- ---- devices that a set doesn't have
 
@@ -300,41 +273,23 @@ module _ (old new : Set) where
 
 -- ---- what is found by its name
 
-inside_by : {X : Type 0} (p : X → Bool) (i : ℕ) (x : X) (xs : List X) (k : ℕ) → (position p (suc i) xs ≡ Some k → (suc i ≤ k) × (k - suc i < length xs))
-    → (b : Bool)
-    → (if b then Some i else position p (suc i) xs) ≡ Some k → (i ≤ k) × (k - i < length (x ∷ xs))
-inside_by p i x xs k rest true e = let same : i ≡ k = cc in (omega (arith, same), omega (arith, same))
-inside_by p i x xs k rest false e =
-    let r = rest e in let le : suc i ≤ k = r.0 in let lt : k - suc i < length xs = r.1 in (omega (arith, le), omega (arith, le, lt))
-
 pub device_in : (devices : List Device) (name : List ℕ) (instance : ℕ) (o : Option ℕ) (k : ℕ) → o ≡ find_device 0 devices name instance → o ≡ Some k
     → k < length devices
-device_in devices name instance o k e some = let r = found_inside _ 0 devices k (sym e ∙ some) in omega (arith, r.1)
+device_in devices name instance o k e some = omega (arith, (found_inside _ 0 devices k (sym e ∙ some)).1)
 
 pub sub_in : (subs : List Sub) (name : List ℕ) (o : Option ℕ) (k : ℕ) → o ≡ find_sub 0 subs name → o ≡ Some k → k < length subs
-sub_in subs name o k e some = let r = found_inside _ 0 subs k (sym e ∙ some) in omega (arith, r.1)
+sub_in subs name o k e some = omega (arith, (found_inside _ 0 subs k (sym e ∙ some)).1)
 
 pub device_found : (old new : Set) (i : ℕ) (d : Device) (name : List ℕ) (instance : ℕ) (o : Option ℕ) (k : ℕ) → name ≡ d.desc.name → instance ≡ d.instance
     → o ≡ find_device 0 new.devices name instance → o ≡ Some k
     → compare_device old new i d (Some k) (Some (device_at new k)) ≡ device_mismatch old new i d
 device_found old new i d name instance o k is_name is_instance e some =
-    let inside = device_in new.devices name instance o k e some in
-    let found : find_device 0 new.devices d.desc.name d.instance ≡ Some k =
-    ap (λ (n : List ℕ). find_device 0 new.devices n d.instance) (sym is_name) ∙ ap (find_device 0 new.devices name) (sym is_instance) ∙ sym e ∙ some in
-    ap (compare_device old new i d (Some k)) (sym (slice_get-get_or new.devices k _ inside)) ∙ ap
-    (λ (x : Option ℕ). compare_device old new i d x (slice_get new.devices (index x))) (sym found)
+    let found : find_device 0 new.devices d.desc.name d.instance ≡ Some k = rw (← is_name, ← is_instance, ← e) some in
+    rw found (ap (compare_device old new i d (Some k)) (sym (slice_get-get_or new.devices k _ (device_in new.devices name instance o k e some))))
 
 pub sub_found : (old new : Set) (i k j : ℕ) (e : Device) (s : Sub) (name : List ℕ) (o : Option ℕ) (l : ℕ) → name ≡ s.desc.name → o ≡ find_sub 0 e.subs name
     → o ≡ Some l
     → compare_sub old new i k j s (Some l) (Some (sub_at e l)) ≡ compare_subs old new i k e j s
 sub_found old new i k j e s name o l is_name is some =
-    let inside = sub_in e.subs name o l is some in
-    let found : find_sub 0 e.subs s.desc.name ≡ Some l = ap (find_sub 0 e.subs) (sym is_name) ∙ sym is ∙ some in
-    ap (compare_sub old new i k j s (Some l)) (sym (slice_get-get_or e.subs l _ inside)) ∙ ap
-    (λ (x : Option ℕ). compare_sub old new i k j s x (slice_get e.subs (index x))) (sym found)
-
-pub sub_unknown : (old new : Set) (i k j : ℕ) (e : Device) (s : Sub) (name : List ℕ) (o : Option ℕ) → name ≡ s.desc.name → o ≡ find_sub 0 e.subs name → o ≡ None
-    → Some (record { rule = 13; in_old = here (parts.Sub i j); in_new = here (parts.Device k) }) ≡ compare_subs old new i k e j s
-sub_unknown old new i k j e s name o is_name is none =
-    let found : find_sub 0 e.subs s.desc.name ≡ None = ap (find_sub 0 e.subs) (sym is_name) ∙ sym is ∙ none in
-    ap (λ (x : Option ℕ). compare_sub old new i k j s x (slice_get e.subs (index x))) (sym found)
+    let found : find_sub 0 e.subs s.desc.name ≡ Some l = rw (← is_name, ← is) some in
+    rw found (ap (compare_sub old new i k j s (Some l)) (sym (slice_get-get_or e.subs l _ (sub_in e.subs name o l is some))))

@@ -12,6 +12,7 @@ pub use Rattle.std.proofs.lemmas.Option.{get_or_from_slice_get, slice_get-get_or
 pub use Rattle.std.proofs.lemmas.Slice.Eq.{bytes_eq-Decides}
 pub use Rattle.std.specs.List.{AllByRecursion, flat_map, list_all, list_any, slice_get}
 pub use Rattle.std.specs.Str.{bytes_eq}
+pub use Rattle.byteorder.specs.Endian.{big_number}
 pub use Rattle.vms_kinds.specs.Codes.{InRange, code, highest, residue, width}
 pub use Rattle.vms_kinds.specs.declared.Item.{Item}
 pub use Rattle.vms_kinds.specs.declared.Item.TheVariants.{Equal, Num, Struct, Unused}

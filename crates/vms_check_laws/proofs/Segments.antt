@@ -3,7 +3,7 @@
 use Rattle.vms_check_laws.proofs.Facade.{◌≡◌, ℕ, suc, ◌+◌, List, ◌∷◌, ◌++◌, length, get_or, Bool, IsTrue, refl, ◌∙◌, arith, append_assoc, ℤ, pos, length-append}
 use Rattle.vms_check_laws.proofs.Facade.{get_or_append_left, get_or-append-add, append-nil, ap, sym, [], slice_get, Kind, Cell, no_cell, Slot, Number, Constant}
 use Rattle.vms_check_laws.proofs.Facade.{Filler, Rule, zeroed, Holds, FitsAt, Carries, rules_append, spells_append, width, residue, code, Spells, length-code}
-use Rattle.vms_check_laws.proofs.Facade.{code_read, Aligns, rules_split}
+use Rattle.vms_check_laws.proofs.Facade.{code_read, Aligns, rules_split, big_number}
 
 -- the elements from a place on
 abbrev pub RestAt : {A : Type 0} → List A → ℕ → List A → Type 0
@@ -149,4 +149,4 @@ aligns_rule x y r s = aligns_sized x _ y _ (λ body t. ap length t)
 
 -- numbers of the same bytes are the same modulo 2 ^ (8 w)
 pub same_code : (kind : Kind) (z u : ℤ) → code kind z ≡ code kind u → residue (width kind) z ≡ residue (width kind) u
-same_code kind z u h = rw (← (code_read kind z), h) (code_read kind u)
+same_code kind z u h = sym (code_read kind z) ∙ ap (big_number (width kind)) h ∙ code_read kind u
