@@ -96,7 +96,7 @@ pub use Rattle.dev_pit.specs.declared.turns.Turns.{Turns}
 pub use Rattle.dev_serial.proofs.AlikeLaws.{advances_alike, alike_back, alike_itself, alike_on, bytes_in_alike, lines_alike, reads_alike, writes_alike}
 pub use Rattle.dev_serial.proofs.KeepLaws.{advances_keep_sound, bytes_in_keep_sound, power_on_is_sound, reads_keep_sound, writes_keep_sound}
 pub use Rattle.dev_serial.proofs.RegisterLaws.{advances_keep_level, bytes_in_keep_level, reads_keep_level, writes_keep_level}
-pub use Rattle.dev_serial.proofs.SavedCells.{numbers-back}
+pub use Rattle.dev_serial.proofs.CarriedCells.{numbers-back}
 pub use Rattle.dev_serial.proofs.SavedLaw.{restored-saved}
 pub use Rattle.dev_serial.specs.Access.{advanced, came_in, lsr_read, read_of, written}
 unfoldable pub use Rattle.dev_serial.specs.Access.{lsr_of}

@@ -4,6 +4,7 @@ pub mod Facade
 pub mod KeepLaws
 pub mod KeptLaws
 pub mod PortLaws
+pub mod QuietLaws
 pub mod RestoredLaws
 pub mod RuleLaws
 pub mod SavedLaws

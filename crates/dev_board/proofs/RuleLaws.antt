@@ -7,7 +7,7 @@ use Rattle.dev_board.proofs.Facade.{lines_alike, restored-saved, Port, line_of, 
 use Rattle.dev_board.proofs.Facade.{BoardCells}
 use Rattle.dev_pic.proofs.SavedLaws.{carried-saved as chip-carried}
 use Rattle.dev_pit.proofs.SavedLaw.{carried-saved as pit-carried}
-use Rattle.dev_serial.proofs.SavedCells.{carried-saved as serial-carried}
+use Rattle.dev_serial.proofs.CarriedCells.{carried-saved as serial-carried}
 use Rattle.dev_serial.proofs.SoundRules.{sound_meets_rules as port-meets}
 use Rattle.dev_serial.specs.PortNumbers.{saved as port-saved}
 use Rattle.dev_serial.specs.Rules.{restored as port-restored}

@@ -9,7 +9,8 @@ use Rattle.dev_base.specs.Bits.{same}
 use Rattle.dev_pic.specs.Cells.{kinds as pic_kinds, carried as pic_carried}
 use Rattle.dev_pit.proofs.SavedLaw.{saved_are_cells as pit-saved, saved_is_restored as pit-is-restored}
 use Rattle.dev_pit.specs.Cells.{carried as pit_carried}
-use Rattle.dev_serial.proofs.SavedCells.{saved_comes_back as serial-comes-back, saved_are_cells as serial-saved}
+use Rattle.dev_serial.proofs.SavedCells.{saved_are_cells as serial-saved}
+use Rattle.dev_serial.proofs.CarriedCells.{saved_comes_back as serial-comes-back}
 use Rattle.dev_serial.specs.Cells.{carried as serial_carried}
 use Rattle.dev_serial.specs.Laws.{ComesBack as PortComesBack}
 use Rattle.dev_serial.specs.Sound.{Alike as AlikePorts}

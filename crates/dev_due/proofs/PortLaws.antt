@@ -13,7 +13,8 @@ use Rattle.dev_serial.specs.Receive.{received}
 use Rattle.dev_serial.specs.Transmit.{IsSentAfter, departures, gone, holding, run_until, staying, timetable, bytes_of}
 use Rattle.dev_serial.specs.declared.shift.Shift.{Shift}
 use Rattle.dev_due.specs.Search.{SameLine}
-use Rattle.dev_serial.proofs.SendingLaws.{bytes_of-timetable, advances_in_parts, character-positive, loops_at_moment, still, waits_until_due}
+use Rattle.dev_serial.proofs.SendingLaws.{bytes_of-timetable}
+use Rattle.dev_serial.proofs.WaitLaws.{advances_in_parts, character-positive, loops_at_moment, still, waits_until_due}
 
 -- ---- nothing leaves
 

@@ -15,3 +15,4 @@ pub mod SheetNumbers
 pub mod SoundLaws
 pub mod SoundSteps
 pub mod StatusLaw
+pub mod TurnLaws

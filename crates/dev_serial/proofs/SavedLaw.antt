@@ -7,7 +7,7 @@ use Rattle.dev_serial.proofs.Facade.{is_stored_once, longest_timeout, registers_
 use Rattle.dev_serial.proofs.Facade.{latch_holds, id_holds, once_holds, rings_hold, rules, restored, IsShift, IsTimeout, IsSound, Alike, counted_of, ring_of}
 use Rattle.dev_serial.proofs.Facade.{Shift, Trigger, One, Four, Eight, Fourteen, LONGEST_CHARACTER, NEVER, AllTrue, judged-all, Port, is_data_ready, has_come}
 use Rattle.dev_serial.proofs.Facade.{interrupt, id_number}
-use Rattle.dev_serial.proofs.KeepLaws.{not_empty}
+use Rattle.dev_serial.proofs.SoundLaws.{not_empty}
 use Rattle.dev_serial.proofs.StoredLaws.{counted-back, ring-back, ring_of-holds}
 use Rattle.dev_serial.proofs.AlikeLaws.{IsStatus, lsr-status, latch_back, IsLatchBack, latch_comes_back}
 

@@ -1,5 +1,5 @@
-use Rattle.dev_serial.proofs.SendingLaws.{advances_in_parts, waits_until_due, loops_at_moment}
-use Rattle.dev_serial.proofs.KeepLaws.{longest_character}
+use Rattle.dev_serial.proofs.WaitLaws.{advances_in_parts, waits_until_due, loops_at_moment}
+use Rattle.dev_serial.proofs.SoundLaws.{longest_character}
 use Rattle.dev_serial.proofs.laws.time_law.Goals as goal
 
 pub returns : goal.returns

@@ -1,5 +1,5 @@
 use Rattle.std.proofs.Common.{◌≡◌, ℕ, Bool, true, false, not, List, [], refl, ap, subst}
-use Rattle.dev_serial.proofs.SendingLaws.{still}
+use Rattle.dev_serial.proofs.WaitLaws.{still}
 use Rattle.dev_serial.specs.Access.{advanced}
 use Rattle.dev_serial.specs.Port.{Port}
 use Rattle.dev_board.specs.State.{State}

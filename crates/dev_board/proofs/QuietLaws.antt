@@ -1,0 +1,318 @@
+-- Which inputs leave the board unchanged.
+use Rattle.dev_board.proofs.Facade.{◌≡◌, ℕ, ◌+◌, ◌-◌, ◌*◌, ◌/◌, ◌%◌, ◌<◌, ◌≤◌, ◌^◌, Bool, true, false, ◌==◌, cond, min, max, bit_and, bit_or, arith, refl, ap}
+use Rattle.dev_board.proofs.Facade.{◌∙◌, sym, ⊎_elim, ◌≢◌, not, ◌&&◌, ◌||◌, Option, Some, None, subst, zero, suc, cases_lt, cases_eq, cond_both, w8, bit_at}
+use Rattle.dev_board.proofs.Facade.{and_numeral, and_le_l, or_of_8, pow_below, bit_at_and, bit_at_or, bit_at_not, bit_at-lt, bit_at-zero, same_from_bits}
+use Rattle.dev_board.proofs.Facade.{same_from_bits_below, bit_at_cat_low, bit_at_cat_high, bit_at-pow_other, and_pow, Decides-eqb, nat_tests, is_some, IfSome}
+use Rattle.dev_board.proofs.Facade.{has, bits_where, but_not, without_input, requests_hold, level_inputs_of, taken, answered, cascaded, lines_of, slave_int_of}
+use Rattle.dev_board.proofs.Facade.{settled_pair, with_cascade, written_pair, acked, acked_for, from_slave, Chip, PicPair, HasTaken, IsSettled, is_command}
+use Rattle.dev_board.proofs.Facade.{Stays, is_nothing, asks_timer, asks_port, is_access, is_quiet, is_untouched, DRIVEN, WIRES, level_inputs-lt, and-twice}
+use Rattle.dev_board.proofs.Facade.{each_input, without_input-lt, either, Keeps, even-keeps, odd-keeps, winner-lt, State, inputs_of, Before, Touch, Untouched}
+use Rattle.dev_board.proofs.Facade.{Command}
+use Rattle.dev_pic.specs.Chip.{settled}
+use Rattle.dev_board.specs.Step.{settled as settled_board}
+
+-- ---- updating the lines again changes nothing
+
+-- Requests of edge inputs stay, and those of level inputs are their lines.
+parts : (r l e : ℕ) → r < 256 → l < 256 → e < 256
+    → bit_or (bit_and (bit_or r (bit_or (bit_and l (255 - l)) 0)) (255 - e)) (bit_and r e) ≡ r
+parts r l e hr hl he =
+    let risen = bit_or (bit_and l (255 - l)) 0 in
+    let risen-lt : risen < 256 = or_of_8 (bit_and l (255 - l)) 0 (omega (arith, and_le_l l (255 - l))) (omega arith) in
+    let all-lt : bit_or r risen < 256 = or_of_8 r risen hr risen-lt in
+    let kept-lt : bit_and (bit_or r risen) (255 - e) < 256 = omega (arith, and_le_l (bit_or r risen) (255 - e)) in
+    let levels-lt : bit_and r e < 256 = omega (arith, and_le_l r e) in
+    same_from_bits_below 8 _ _ (or_of_8 (bit_and (bit_or r risen) (255 - e)) (bit_and r e) kept-lt levels-lt) hr
+    (λ k h. simp (bit_at_and, bit_at_or, bit_at-zero, bit_at_not w8 l k hl h, bit_at_not w8 e k he h)
+    (omega (arith, bit_at-lt r k, bit_at-lt l k, bit_at-lt e k)))
+
+-- A settled chip that takes its own lines stays unchanged.
+chip_again : (chip : Chip) → IsSettled chip → settled chip.lines 0 chip ≡ chip
+unfolding settled but_not requests_hold
+chip_again chip h =
+    let e = level_inputs_of chip in
+    let he : e < 256 = level_inputs-lt chip.ltim chip.elcr h.elcr in
+    let same : bit_and chip.irr e ≡ bit_and chip.lines e = (Decides-eqb (bit_and chip.irr e) (bit_and chip.lines e)).0 h.requests in
+    let kept = bit_and (bit_or chip.irr (bit_or (bit_and chip.lines (255 - chip.lines)) 0)) (255 - e) in
+    ap (λ (n : ℕ). record chip { irr = n }) (ap (bit_or kept) (sym same) ∙ parts chip.irr chip.lines e h.irr h.lines he)
+
+-- The inputs of two bytes.
+and-bytes : (a b c d : ℕ) → b < 256 → d < 256 → bit_and (a * 256 + b) (c * 256 + d) ≡ bit_and a c * 256 + bit_and b d
+and-bytes a b c d hb hd =
+    same_from_bits _ _ (λ k. bit_at_and (a * 256 + b) (c * 256 + d) k ∙ ⊎_elim
+    (λ (l : k < 8). ap (λ n. min n (bit_at (c * 256 + d) k)) (bit_at_cat_low a 8 b k l) ∙ ap (min (bit_at b k)) (bit_at_cat_low c 8 d k l)
+    ∙ sym (bit_at_and b d k) ∙ sym (bit_at_cat_low (bit_and a c) 8 (bit_and b d) k l))
+    (λ (l : 8 ≤ k). ap (λ n. min n (bit_at (c * 256 + d) k)) (bit_at_cat_high a 8 b k hb l) ∙ ap (min (bit_at a (k - 8))) (bit_at_cat_high c 8 d k hd l)
+    ∙ sym (bit_at_and a c (k - 8)) ∙ sym (bit_at_cat_high (bit_and a c) 8 (bit_and b d) k (omega (arith, hb, and_le_l b d)) l))
+    (cases_lt k 8))
+
+-- The lines without the cascade, and with it again.
+driven : (s m : ℕ) → s < 256 → m < 256 → bit_and (s * 256 + m) DRIVEN ≡ s * 256 + bit_and m 0xfb
+driven s m hs hm = and-bytes s m 0xff 0xfb hm (omega arith) ∙ ap (λ n. n * 256 + bit_and m 0xfb) (and_numeral s 254 refl ∙ omega (arith, hs))
+
+cascaded-bit : (m k : ℕ) → (m / 2 ^ 2 % 2) ≡ 1 → k < 8 → bit_at (bit_or (bit_and m 0xfb) 4) k ≡ bit_at m k
+cascaded-bit m k e =
+    each_input (λ k. bit_at (bit_or (bit_and m 0xfb) 4) k ≡ bit_at m k)
+    (bit 0 (omega (arith, bit_at-lt m 0))) (bit 1 (omega (arith, bit_at-lt m 1))) (bit 2 (omega (arith, e))) (bit 3 (omega (arith, bit_at-lt m 3)))
+    (bit 4 (omega (arith, bit_at-lt m 4))) (bit 5 (omega (arith, bit_at-lt m 5))) (bit 6 (omega (arith, bit_at-lt m 6)))
+    (bit 7 (omega (arith, bit_at-lt m 7))) k where
+      bit : (k : ℕ) → max (min (bit_at m k) (bit_at 0xfb k)) (bit_at 4 k) ≡ bit_at m k → bit_at (bit_or (bit_and m 0xfb) 4) k ≡ bit_at m k
+      bit k h = bit_at_or (bit_and m 0xfb) 4 k ∙ ap (λ n. max n (bit_at 4 k)) (bit_at_and m 0xfb k) ∙ h
+
+plain-bit : (m k : ℕ) → (m / 2 ^ 2 % 2) ≡ 0 → k < 8 → bit_at (bit_or (bit_and m 0xfb) 0) k ≡ bit_at m k
+plain-bit m k e =
+    each_input (λ k. bit_at (bit_or (bit_and m 0xfb) 0) k ≡ bit_at m k)
+    (bit 0 (omega (arith, bit_at-lt m 0))) (bit 1 (omega (arith, bit_at-lt m 1))) (bit 2 (omega (arith, e))) (bit 3 (omega (arith, bit_at-lt m 3)))
+    (bit 4 (omega (arith, bit_at-lt m 4))) (bit 5 (omega (arith, bit_at-lt m 5))) (bit 6 (omega (arith, bit_at-lt m 6)))
+    (bit 7 (omega (arith, bit_at-lt m 7))) k where
+      bit : (k : ℕ) → max (min (bit_at m k) (bit_at 0xfb k)) (bit_at 0 k) ≡ bit_at m k → bit_at (bit_or (bit_and m 0xfb) 0) k ≡ bit_at m k
+      bit k h = bit_at_or (bit_and m 0xfb) 0 k ∙ ap (λ n. max n (bit_at 0 k)) (bit_at_and m 0xfb k) ∙ h
+
+with-again : (b : Bool) (m : ℕ) → m < 256 → has m 2 ≡ b → bit_or (bit_and m 0xfb) (cond b 4 0) ≡ m
+with-again true m h e =
+    let one : (m / 2 ^ 2 % 2) ≡ 1 = grind (arith, nat_tests) in
+    same_from_bits_below 8 _ _ (or_of_8 (bit_and m 0xfb) 4 (omega (arith, h, and_le_l m 0xfb)) (omega arith)) h (λ k l. cascaded-bit m k one l)
+with-again false m h e =
+    let none : (m / 2 ^ 2 % 2) ≡ 0 = grind (arith, nat_tests) in
+    same_from_bits_below 8 _ _ (or_of_8 (bit_and m 0xfb) 0 (omega (arith, h, and_le_l m 0xfb)) (omega arith)) h (λ k l. plain-bit m k none l)
+
+cascade-again : (b : Bool) (m : ℕ) → m < 256 → has m 2 ≡ b → with_cascade b (bit_and m 0xfb) ≡ m
+unfolding without_input but_not
+cascade-again b m h e = ap (λ n. bit_or n (cond b 4 0)) (and-twice m 0xfb) ∙ with-again b m h e
+
+pub low-two : (s m : ℕ) → m < 256 → has (s * 256 + m) 2 ≡ has m 2
+low-two s m h = ap (λ n. n == 1) (omega (arith, h))
+
+-- So does a pair.
+pub pair-again : (pair : PicPair) → HasTaken (lines_of pair) pair → settled_pair (bit_and (lines_of pair) DRIVEN) 0 pair ≡ pair
+unfolding settled_pair lines_of slave_int_of without_input but_not
+pair-again pair h =
+    let s = pair.slave.lines in
+    let m = pair.master.lines in
+    let hs : s < 256 = h.slave.lines in
+    let hm : m < 256 = h.master.lines in
+    let high : bit_and (s * 256 + m) DRIVEN / 256 ≡ s = ap (λ n. n / 256) (driven s m hs hm) ∙ omega (arith, hm, and_le_l m 0xfb) in
+    let low : bit_and (s * 256 + m) DRIVEN % 256 ≡ bit_and m 0xfb = ap (λ n. n % 256) (driven s m hs hm) ∙ omega (arith, hm, and_le_l m 0xfb) in
+    let slave : settled (bit_and (s * 256 + m) DRIVEN / 256) 0 pair.slave ≡ pair.slave =
+    ap (λ n. settled n 0 pair.slave) high ∙ chip_again pair.slave h.slave in
+    let bit : has m 2 ≡ slave_int_of pair = sym (low-two s m hm) ∙ h.cascade in
+    let after : Chip → PicPair = (λ chip. record pair { slave = chip; master = settled (with_cascade (slave_int_of (record pair { slave = chip })) (bit_and (s * 256 + m) DRIVEN % 256)) 0 pair.master }) in
+    ap after slave
+    ∙ ap (λ n. record pair { master = settled n 0 pair.master }) (ap (with_cascade (slave_int_of pair)) low ∙ cascade-again (slave_int_of pair) m hm bit)
+    ∙ ap (λ chip. record pair { master = chip }) (chip_again pair.master h.master)
+
+-- ---- accesses of the pair after which it has still taken its lines
+
+kept-settled : (chip after : Chip) → Keeps chip after → IsSettled chip → IsSettled after
+kept-settled chip after k h = record {
+  irr = rw k.irr h.irr;
+  lines = rw k.lines h.lines;
+  elcr = rw k.elcr h.elcr;
+  requests = rw (k.irr, k.lines, k.elcr, k.ltim) h.requests;
+}
+
+-- The master of a pair changes, and its lines are the same.
+module _ (lines : ℕ) (pair : PicPair) (h : HasTaken lines pair) where
+  with-master : (chip : Chip) → IsSettled chip → chip.lines ≡ pair.master.lines → HasTaken lines (record pair { master = chip })
+  unfolding lines_of slave_int_of
+  with-master chip settled e = record {
+    master = settled;
+    slave = h.slave;
+    cascade = rw e h.cascade;
+    same = h.same ∙ ap (λ (n : ℕ). pair.slave.lines * 256 + n) (sym e);
+  }
+
+  kept-taken : (chip : Chip) → Keeps pair.master chip → HasTaken lines (record pair { master = chip })
+  kept-taken chip k = with-master chip (kept-settled pair.master chip k h.master) k.lines
+
+  -- A command to the master.
+  odd-from : (even odd bit : Bool) → even ≡ false → (odd || (even && not bit)) ≡ true → odd ≡ true
+  odd-from true odd bit f e = cc
+  odd-from false true bit f e = refl
+  odd-from false false bit f e = cc
+
+  bit-from : (even odd bit : Bool) → odd ≡ false → (odd || (even && not bit)) ≡ true → bit ≡ false
+  bit-from even true bit f e = cc
+  bit-from true false true f e = cc
+  bit-from true false false f e = refl
+  bit-from false false bit f e = cc
+
+  pub command-taken : (port value : ℕ) → is_command port value ≡ true → HasTaken lines (written_pair port value pair)
+  unfolding is_command written_pair
+  command-taken port value e =
+      let has-taken : PicPair → Type 0 = λ p. HasTaken lines p in
+      cond_both (port == 0x20) _ _ has-taken
+      (λ even. let other : (port == 0x21) ≡ false = grind (arith, nat_tests) in
+      kept-taken _ (even-keeps pair.level value pair.master (bit-from (port == 0x20) (port == 0x21) (has value 4) other e)))
+      (λ even. let odd : (port == 0x21) ≡ true = odd-from (port == 0x20) (port == 0x21) (has value 4) even e in
+      rw odd (kept-taken _ (odd-keeps pair.master.init_state value pair.master)))
+
+-- The bits of a register without an input.
+bit-without : (r w k : ℕ) → w < 8 → k < 8 → bit_at (without_input r w) k ≡ min (bit_at r k) (1 - bit_at (2 ^ w) k)
+unfolding without_input but_not
+bit-without r w k h l = bit_at_and r (255 - 2 ^ w) k ∙ ap (min (bit_at r k)) (bit_at_not w8 (2 ^ w) k (pow_below w 8 h) l)
+
+no_bit : (r w : ℕ) → has r w ≡ false → bit_at r w ≡ 0
+no_bit r w e = let b = bit_at-lt r w in grind (arith, nat_tests)
+
+without-and : (r w e : ℕ) → r < 256 → w < 8 → has e w ≡ false → bit_and (without_input r w) e ≡ bit_and r e
+without-and r w e hr hw none =
+    let b : without_input r w < 256 = without_input-lt r w hr in
+    same_from_bits_below 8 _ _ (omega (arith, and_le_l (without_input r w) e)) (omega (arith, and_le_l r e))
+    (λ k l. bit_at_and (without_input r w) e k ∙ ap (λ n. min n (bit_at e k)) (bit-without r w k hw l) ∙ ⊎_elim
+    (λ (is : k ≡ w). let zero : bit_at e k ≡ 0 = subst (λ (i : ℕ). bit_at e i ≡ 0) (sym is) (no_bit e w none) in
+    rw (bit_at_and r e k, zero) (omega arith))
+    (λ (other : k ≢ w). rw (bit_at_and r e k, bit_at-pow_other w k other) (omega (arith, bit_at-lt r k)))
+    (cases_eq k w))
+
+without-none : (r w : ℕ) → r < 256 → w < 8 → has r w ≡ false → without_input r w ≡ r
+without-none r w hr hw none =
+    same_from_bits_below 8 _ _ (without_input-lt r w hr) hr
+    (λ k l. bit-without r w k hw l ∙ ⊎_elim
+    (λ (is : k ≡ w). let zero : bit_at r k ≡ 0 = subst (λ (i : ℕ). bit_at r i ≡ 0) (sym is) (no_bit r w none) in rw zero (omega arith))
+    (λ (other : k ≢ w). rw (bit_at-pow_other w k other) (omega (arith, bit_at-lt r k)))
+    (cases_eq k w))
+
+-- A winner that is taken.
+module _ (chip : Chip) (w : ℕ) (h : IsSettled chip) (hw : w < 8) where
+  served-settled : (isr lowest : ℕ) → IsSettled (record chip { isr = isr; lowest = lowest })
+  served-settled isr lowest = record { irr = h.irr; lines = h.lines; elcr = h.elcr; requests = h.requests }
+
+  ended-settled : has (level_inputs_of chip) w ≡ false → (isr lowest : ℕ)
+      → IsSettled (record chip { isr = isr; lowest = lowest; irr = without_input chip.irr w })
+  unfolding requests_hold
+  ended-settled none isr lowest = record {
+    irr = without_input-lt chip.irr w h.irr;
+    lines = h.lines;
+    elcr = h.elcr;
+    requests = rw (without-and chip.irr w (level_inputs_of chip) h.irr hw none) h.requests;
+  }
+
+  taken-settled : IsSettled (taken w chip)
+  unfolding taken
+  taken-settled =
+      cond_both (has (level_inputs_of chip) w) _ _ IsSettled
+      (λ level. either IsSettled chip.auto_eoi _ _ (either IsSettled chip.rotate _ _ (served-settled _ _) h) (served-settled _ _))
+      (λ edge. let ends : Chip → Type 0 = λ c. IsSettled (record c { irr = without_input chip.irr w }) in
+      either ends chip.auto_eoi _ _ (either ends chip.rotate _ _ (ended-settled edge _ _) (ended-settled edge _ _)) (ended-settled edge _ _))
+
+  taken-lines : (taken w chip).lines ≡ chip.lines
+  unfolding taken
+  taken-lines =
+      let lines-same : Chip → Type 0 = λ c. c.lines ≡ chip.lines in
+      either lines-same (has (level_inputs_of chip) w) _ _
+      (either lines-same chip.auto_eoi _ _ (either lines-same chip.rotate _ _ refl refl) refl)
+      (either lines-same chip.auto_eoi _ _ (either lines-same chip.rotate _ _ refl refl) refl)
+
+  -- With its line low, the cascade is taken as any other input.
+  cascaded-is : (low : has chip.lines 2 ≡ false) (two : w ≡ 2) → cascaded chip ≡ taken w chip
+  unfolding cascaded
+  cascaded-is low two =
+      rw two (ap (λ (n : ℕ). record (taken 2 chip) { lines = n })
+      (ap (λ (n : ℕ). without_input n 2) at-two ∙ without-none chip.lines 2 h.lines (omega arith) low ∙ sym at-two)) where
+        at-two : (taken 2 chip).lines ≡ chip.lines
+        at-two = subst (λ (i : ℕ). (taken i chip).lines ≡ chip.lines) two taken-lines
+
+-- An acknowledge while the slave's output is low.
+module _ (lines : ℕ) (pair : PicPair) (h : HasTaken lines pair) (none : has lines 2 ≡ false) where
+  low : has pair.master.lines 2 ≡ false
+  unfolding lines_of
+  low = sym (low-two pair.slave.lines pair.master.lines h.master.lines) ∙ ap (λ (n : ℕ). has n 2) (sym h.same) ∙ none
+
+  slave-low : slave_int_of pair ≡ false
+  slave-low = sym h.cascade ∙ ap (λ (n : ℕ). has n 2) (sym h.same) ∙ none
+
+  abbrev Taken : ℕ × PicPair → Type 0
+  Taken answer = HasTaken lines answer.1
+
+  -- The slave has no winner.
+  by_slave : (o : Option ℕ) → is_some o ≡ false → (master : Chip) → HasTaken lines (record pair { master = master })
+      → Taken (from_slave (record pair { master = master }) (answered o pair.slave))
+  unfolding answered
+  by_slave None e master k = k
+  by_slave (Some w) e master k = cc
+
+  by_winner : (o : Option ℕ) → IfSome o (λ w. w < 8) → Taken (acked_for o pair)
+  unfolding acked_for answered slave_int_of
+  by_winner None l = h
+  by_winner (Some w) l =
+      let master : HasTaken lines (record pair { master = taken w pair.master }) =
+      with-master lines pair h _ (taken-settled pair.master w h.master l) (taken-lines pair.master w h.master l) in
+      cond_both (w == 2) _ _ Taken
+      (λ e. let two : w ≡ 2 = grind (arith, nat_tests) in
+      by_slave _ slave-low (cascaded pair.master) (rw (cascaded-is pair.master w h.master l low two) master))
+      (λ e. master)
+
+  pub ack-taken : HasTaken lines (acked pair).1
+  ack-taken = by_winner _ (winner-lt _ pair.master)
+
+-- ---- inputs that leave the board unchanged
+
+-- What quiet inputs are.
+record Quiet (pair edge same : Bool) : Type 0 where
+  no_access : pair ≡ false
+  no_edge : edge ≡ false
+  equal : same ≡ true
+
+quiet : (pair edge same : Bool) → (not pair && (not edge && same)) ≡ true → Quiet pair edge same
+quiet false false true e = record { no_access = refl; no_edge = refl; equal = refl }
+quiet false false false e = cc
+quiet false true same e = cc
+quiet true edge same e = cc
+
+again : (lines inputs : ℕ) (pair : PicPair) → HasTaken lines pair → inputs ≡ bit_and lines DRIVEN → settled_pair inputs 0 pair ≡ pair
+again lines inputs pair h e =
+    ap (λ n. settled_pair n 0 pair) (e ∙ ap (λ n. bit_and n DRIVEN) h.same)
+    ∙ pair-again pair (record { master = h.master; slave = h.slave; cascade = h.cascade; same = refl })
+
+pub quiet-settled : (wires inputs : ℕ) (before : Before) (edge : Bool) (touch : Touch) (m : State) → Stays touch before m → inputs ≡ inputs_of wires m
+    → is_quiet touch edge inputs before.lines ≡ true → settled_board wires edge m ≡ m
+unfolding settled_board is_quiet
+quiet-settled wires inputs before edge touch m stays is e =
+    let q = quiet (is_access touch) edge (inputs == bit_and before.lines DRIVEN) e in
+    let test : (inputs == bit_and before.lines DRIVEN) ≡ true = q.equal in
+    let same : inputs ≡ bit_and before.lines DRIVEN = grind (arith, nat_tests) in
+    ap (λ (pair : PicPair). record m { pair = pair })
+    (ap (λ (b : Bool). settled_pair (inputs_of wires m) (bits_where b 0x01) m.pair) q.no_edge ∙ again before.lines (inputs_of wires m) m.pair
+    (stays.pair q.no_access) (sym is ∙ same))
+
+-- If nothing was touched, the inputs are the lines.
+record AreUntouched (touch : Touch) (edge same : Bool) : Type 0 where
+  timer : asks_timer touch ≡ false
+  port : asks_port touch ≡ false
+  quiet : Quiet (is_access touch) edge same
+
+untouched : (touch : Touch) (edge same : Bool) → (is_nothing touch && (not edge && same)) ≡ true → AreUntouched touch edge same
+untouched Untouched edge same e = record { timer = refl; port = refl; quiet = quiet false edge same e }
+untouched Command edge same e = record { timer = refl; port = refl; quiet = quiet false edge same e }
+untouched _ edge same e = cc
+
+two-parts : (n a b : ℕ) → bit_or (bit_and n a) (bit_and n b) ≡ bit_and n (bit_or a b)
+two-parts n a b = same_from_bits _ _ (λ k. simp (bit_at_and, bit_at_or) (omega (arith, bit_at-lt n k, bit_at-lt a k, bit_at-lt b k)))
+
+one-bit : (b place : ℕ) → b < 2 → bits_where (b == 1) place ≡ b * place
+one-bit zero place h = omega arith
+one-bit (suc zero) place h = omega arith
+one-bit (suc (suc b)) place h = absurd (omega arith)
+
+line-bit : (n k : ℕ) → bits_where (has n k) (2 ^ k) ≡ bit_and n (2 ^ k)
+line-bit n k = one-bit (bit_at n k) (2 ^ k) (bit_at-lt n k) ∙ sym (and_pow n k)
+
+own-inputs : (n : ℕ) → bit_or (bit_or (bit_and n WIRES) (bits_where (has n 0) 0x01)) (bits_where (has n 4) 0x10) ≡ bit_and n DRIVEN
+own-inputs n =
+    ap (λ b. bit_or (bit_or (bit_and n WIRES) b) (bits_where (has n 4) 0x10)) (line-bit n 0)
+    ∙ ap (bit_or (bit_or (bit_and n WIRES) (bit_and n 0x01))) (line-bit n 4)
+    ∙ ap (λ b. bit_or b (bit_and n 0x10)) (two-parts n WIRES 0x01)
+    ∙ two-parts n 0xffeb 0x10
+
+pub untouched-settled : (wires : ℕ) (before : Before) (edge : Bool) (touch : Touch) (m : State) → Stays touch before m
+    → is_untouched touch edge wires before.lines ≡ true → settled_board wires edge m ≡ m
+unfolding settled_board is_untouched inputs_of
+untouched-settled wires before edge touch m stays e =
+    let q = untouched touch edge (wires == bit_and before.lines WIRES) e in
+    let test : (wires == bit_and before.lines WIRES) ≡ true = q.quiet.equal in
+    let same : wires ≡ bit_and before.lines WIRES = grind (arith, nat_tests) in
+    let is : inputs_of wires m ≡ bit_and before.lines DRIVEN = rw (same, sym (stays.out q.timer), sym (stays.serial q.port)) (own-inputs before.lines) in
+    ap (λ (pair : PicPair). record m { pair = pair })
+    (ap (λ (b : Bool). settled_pair (inputs_of wires m) (bits_where b 0x01) m.pair) q.quiet.no_edge ∙ again before.lines (inputs_of wires m) m.pair
+    (stays.pair q.quiet.no_access) is)

@@ -1,0 +1,260 @@
+-- Each step of a part keeps it sound.
+use Rattle.dev_serial.proofs.Facade.{◌≡◌, ℕ, ◌+◌, ◌*◌, ◌<◌, ◌≤◌, ◌==◌, Bool, true, false, not, ◌&&◌, cond, List, ◌∷◌, ◌++◌, length, Option, Some, None, refl}
+use Rattle.dev_serial.proofs.Facade.{sym, arith, length-append, ◌⊎◌, ⊎_elim, mul-le-mul, false≢true, ltb-true, ltb-false, ne_eqb, cond_both, leb-true, []}
+use Rattle.dev_serial.proofs.Facade.{leb-false, nat_le, nat_lt, max, is_some, is_empty, has, bits_where, character_time, character_bits, ReceiverState}
+use Rattle.dev_serial.proofs.Facade.{TransmitterState, IsShort, received, taken_at, emptied, longest_timeout, LongestCharacter, AreBytes, IsTimeout, IsReceiver}
+use Rattle.dev_serial.proofs.Facade.{IsShift, IsTransmitter, queued, loaded, timetable, departures, gone, staying, holding, arrived, run_until, gone_by, Mode}
+use Rattle.dev_serial.proofs.Facade.{Shift, LONGEST_CHARACTER}
+use Rattle.dev_serial.proofs.SendingLaws.{bytes_of-timetable, fewer}
+use Rattle.dev_serial.proofs.WaitLaws.{stays_empty}
+
+-- ---- each step of a part
+
+pub not_empty : (byte : ℕ) (bytes : List ℕ) → is_empty (byte ∷ bytes) ≡ false
+not_empty byte bytes = ne_eqb (length (byte ∷ bytes)) 0 (λ e. omega arith)
+
+pub AreBytes-push : (bytes : List ℕ) (byte : ℕ) → AreBytes bytes → byte < 256 → AreBytes (bytes ++ byte ∷ [])
+AreBytes-push [] byte h b = (b, tt)
+AreBytes-push (x ∷ bytes) byte h b = (h.0, AreBytes-push bytes byte h.1 b)
+
+pushed-full : (bytes : List ℕ) (byte : ℕ) → is_empty (bytes ++ byte ∷ []) ≡ false
+pushed-full [] byte = refl
+pushed-full (x ∷ bytes) byte = not_empty x (bytes ++ byte ∷ [])
+
+many-full : (bytes : List ℕ) → 16 ≤ length bytes → is_empty bytes ≡ false
+many-full bytes h = ne_eqb (length bytes) 0 (λ e. omega arith)
+
+bit-one : (b : Bool) → bits_where b 1 ≤ 1
+bit-one true = omega arith
+bit-one false = omega arith
+
+pub character-longest : (divisor lcr : ℕ) → divisor < 65536 → character_time divisor lcr ≤ LONGEST_CHARACTER
+unfolding character_time
+character-longest divisor lcr h =
+    let bits : character_bits lcr ≤ 12 = omega (arith, bit-one (has lcr 3), bit-one (has lcr 2)) in
+    let most : max divisor 1 ≤ 65535 = omega arith in
+    let product : character_bits lcr * max divisor 1 ≤ 12 * 65535 = mul-le-mul bits most in
+    omega arith
+
+pub longest_character : LongestCharacter
+unfolding character_time
+longest_character = record { reached = refl; most = λ divisor lcr h. character-longest divisor lcr h }
+
+-- a moment that a character after now starts anew
+abbrev pub mode_at : ℕ → Bool → Bool → Bool → Mode
+mode_at character on has_timeout looped = record { character = character; has_fifos = on; times_out = has_timeout && on; is_looped = looped }
+
+module _ (now at character byte : ℕ) (looped : Bool) (receiver : ReceiverState) (early : at ≤ now) (quick : character ≤ LONGEST_CHARACTER) where
+  in_time : at + 4 * character ≤ now + longest_timeout
+  in_time = omega arith
+
+  received-short : (on has_timeout : Bool) → IsShort on receiver.held → IsShort on (received (mode_at character on has_timeout looped) byte at receiver).held
+  unfolding received
+  received-short true has_timeout s =
+      cond_both (nat_lt (length receiver.held) 16) _ _ (λ (r : ReceiverState). IsShort true r.held)
+      (λ e. let l = ltb-true (length receiver.held) 16 e in record { short = simp length-append (omega arith); one = λ f. absurd (false≢true (sym f)) })
+      (λ e. record { short = s.short; one = λ f. absurd (false≢true (sym f)) })
+  received-short false has_timeout s =
+      cond_both (length receiver.held == 0) _ _ (λ (r : ReceiverState). IsShort false r.held)
+      (λ e. record { short = omega arith; one = λ f. omega arith }) (λ e. record { short = omega arith; one = λ f. omega arith })
+
+  received-bytes : (on has_timeout : Bool) → byte < 256 → AreBytes receiver.held
+      → AreBytes (received (mode_at character on has_timeout looped) byte at receiver).held
+  unfolding received
+  received-bytes true has_timeout b s =
+      cond_both (nat_lt (length receiver.held) 16) _ _ (λ (r : ReceiverState). AreBytes r.held) (λ e. AreBytes-push receiver.held byte s b) (λ e. s)
+  received-bytes false has_timeout b s =
+      cond_both (length receiver.held == 0) _ _ (λ (r : ReceiverState). AreBytes r.held) (λ e. (b, tt)) (λ e. (b, tt))
+
+  received-timeout : (on has_timeout : Bool) → IsTimeout now (has_timeout && (on && not (is_empty receiver.held))) receiver.timeout → IsTimeout now (has_timeout && (on && not (is_empty (received (mode_at character on has_timeout looped) byte at receiver).held))) (received (mode_at character on has_timeout looped) byte at receiver).timeout
+  unfolding received
+  received-timeout true true s =
+      cond_both (nat_lt (length receiver.held) 16) _ _ (λ (r : ReceiverState). IsTimeout now (not (is_empty r.held)) r.timeout)
+      (λ e. record { runs_now = rw (pushed-full receiver.held byte); in_time = in_time })
+      (λ e. record { runs_now = rw (many-full receiver.held (ltb-false (length receiver.held) 16 e)); in_time = in_time })
+  received-timeout true false s =
+      cond_both (nat_lt (length receiver.held) 16) _ _ (λ (r : ReceiverState). IsTimeout now false r.timeout) (λ e. s) (λ e. s)
+  received-timeout false true s =
+      cond_both (length receiver.held == 0) _ _ (λ (r : ReceiverState). IsTimeout now false r.timeout) (λ e. s) (λ e. s)
+  received-timeout false false s =
+      cond_both (length receiver.held == 0) _ _ (λ (r : ReceiverState). IsTimeout now false r.timeout) (λ e. s) (λ e. s)
+
+  pub received-sound : (level : ℕ) (on : Bool) → byte < 256 → IsReceiver now level on receiver
+      → IsReceiver now level on (received (mode_at character on (nat_le 3 level) looped) byte at receiver)
+  received-sound level on b s = record {
+    short = received-short on (nat_le 3 level) s.short;
+    bytes = received-bytes on (nat_le 3 level) b s.bytes;
+    timeout = received-timeout on (nat_le 3 level) s.timeout;
+  }
+
+-- the first byte leaves
+module _ (now at character : ℕ) (looped : Bool) (early : at ≤ now) (quick : character ≤ LONGEST_CHARACTER) where
+  taken-timeout : (on has_timeout : Bool) (byte : ℕ) (rest : List ℕ) (timeout : Option ℕ) → IsTimeout now (has_timeout && (on && not (is_empty (byte ∷ rest)))) timeout → IsTimeout now (has_timeout && (on && not (is_empty rest))) (cond (has_timeout && on) (cond (is_empty rest) None (Some (at + 4 * character))) timeout)
+  taken-timeout true true byte rest timeout s =
+      cond_both (is_empty rest) None (Some (at + 4 * character)) (λ (t : Option ℕ). IsTimeout now (not (is_empty rest)) t)
+      (λ e. rw e) (λ e. record { runs_now = rw e; in_time = omega arith })
+  taken-timeout true false byte rest timeout s = s
+  taken-timeout false true byte rest timeout s = s
+  taken-timeout false false byte rest timeout s = s
+
+  pub taken-held : (level : ℕ) (on : Bool) (held : List ℕ) (receiver : ReceiverState) → receiver.held ≡ held → IsReceiver now level on receiver
+      → IsReceiver now level on (taken_at (mode_at character on (nat_le 3 level) looped) at held receiver).1
+  unfolding taken_at
+  taken-held level on [] receiver e s = s
+  taken-held level on (byte ∷ rest) receiver e s =
+      let short = rw e at s.short in
+      let bytes = rw e at s.bytes in
+      record {
+        short = record { short = let h = short.short in omega arith; one = λ f. let h = short.one f in omega arith };
+        bytes = bytes.1;
+        timeout = taken-timeout on (nat_le 3 level) byte rest receiver.timeout (rw e at s.timeout);
+      }
+
+-- the receiver without its bytes, with FIFOs or not
+pub emptied-sound : (now level : ℕ) (on : Bool) (receiver : ReceiverState) → IsReceiver now level on (emptied receiver)
+emptied-sound now level on receiver = record {
+  short = record { short = omega arith; one = λ _. omega arith };
+  bytes = tt;
+  timeout = none (nat_le 3 level) on;
+} where
+  none : (has_timeout on : Bool) → (has_timeout && (on && false)) ≡ false
+  none true true = refl
+  none true false = refl
+  none false on = refl
+
+-- a later moment
+pub later-timeout : (now to : ℕ) (runs : Bool) (timeout : Option ℕ) → now ≤ to → IsTimeout now runs timeout → IsTimeout to runs timeout
+later-timeout now to runs None h t = t
+later-timeout now to runs (Some timeout) h t = record { runs_now = t.runs_now; in_time = let l = t.in_time in omega arith }
+
+-- a byte is written
+queued-short : (on : Bool) (byte : ℕ) (waiting : List ℕ) → IsShort on waiting → IsShort on (queued on byte waiting)
+unfolding queued
+queued-short true byte waiting s =
+    cond_both (nat_lt (length waiting) 16) _ _ (λ (xs : List ℕ). IsShort true xs)
+    (λ e. let l = ltb-true (length waiting) 16 e in record { short = simp length-append (omega arith); one = λ f. absurd (false≢true (sym f)) }) (λ e. s)
+queued-short false byte waiting s = record { short = omega arith; one = λ _. omega arith }
+
+queued-bytes : (on : Bool) (byte : ℕ) (waiting : List ℕ) → byte < 256 → AreBytes waiting → AreBytes (queued on byte waiting)
+unfolding queued
+queued-bytes true byte waiting b s =
+    cond_both (nat_lt (length waiting) 16) _ _ (λ (xs : List ℕ). AreBytes xs) (λ e. AreBytes-push waiting byte s b) (λ e. s)
+queued-bytes false byte waiting b s = (b, tt)
+
+loaded-sound : (now due : ℕ) (on : Bool) (shift : Option Shift) (waiting : List ℕ) → now < due → due ≤ now + LONGEST_CHARACTER → IsShort on waiting
+    → AreBytes waiting → IsShift now shift → IsTransmitter now on (loaded due shift waiting) (is_empty (loaded due shift waiting).waiting)
+unfolding loaded
+loaded-sound now due on (Some shift) waiting l h s b t = record { short = s; bytes = b; shift = t; idle = λ e. absurd (false≢true (sym e)); latched = λ e. e }
+loaded-sound now due on None [] l h s b t = record { short = s; bytes = b; shift = tt; idle = λ e. refl; latched = λ e. e }
+loaded-sound now due on None (byte ∷ rest) l h s b t = record {
+  short = record { short = let k = s.short in omega arith; one = λ f. let k = s.one f in omega arith };
+  bytes = b.1;
+  shift = record { byte = b.0; later = l; in_time = h };
+  idle = λ e. absurd (false≢true (sym e));
+  latched = λ e. e;
+}
+
+pub thr-sound : (now character byte : ℕ) (on latch : Bool) (transmitter : TransmitterState) → 1 ≤ character → character ≤ LONGEST_CHARACTER → byte < 256 → IsTransmitter now on transmitter latch → IsTransmitter now on (loaded (now + character) transmitter.shift (queued on byte transmitter.waiting)) (is_empty (loaded (now + character) transmitter.shift (queued on byte transmitter.waiting)).waiting)
+thr-sound now character byte on latch transmitter p q b s =
+    loaded-sound now (now + character) on transmitter.shift (queued on byte transmitter.waiting) (omega arith) (omega arith)
+    (queued-short on byte transmitter.waiting s.short) (queued-bytes on byte transmitter.waiting b s.bytes) s.shift
+
+-- another latch
+pub latched-sound : (now : ℕ) (on first second : Bool) (transmitter : TransmitterState) → (second ≡ true → (first ≡ true) ⊎ (is_empty transmitter.waiting ≡ true)) → IsTransmitter now on transmitter first → IsTransmitter now on transmitter second
+latched-sound now on first second transmitter h s = record {
+  short = s.short;
+  bytes = s.bytes;
+  shift = s.shift;
+  idle = s.idle;
+  latched = λ e. ⊎_elim (λ f. s.latched f) (λ f. f) (h e);
+}
+
+-- no byte waits any more, with FIFOs or not
+pub cleared-sound : (now : ℕ) (on other latch new_latch : Bool) (transmitter : TransmitterState) → IsTransmitter now on transmitter latch
+    → IsTransmitter now other (record { waiting = []; shift = transmitter.shift }) new_latch
+cleared-sound now on other latch new_latch transmitter s = record {
+  short = record { short = omega arith; one = λ _. omega arith };
+  bytes = tt;
+  shift = s.shift;
+  idle = λ _. refl;
+  latched = λ _. refl;
+}
+
+-- ---- the passing of time
+
+-- the bytes that a transmitter holds after a moment
+record HoldsSound (to : ℕ) (transmitter : TransmitterState) : Type 0 where
+  shift : IsShift to transmitter.shift
+  bytes : AreBytes transmitter.waiting
+  idle : is_some transmitter.shift ≡ false → is_empty transmitter.waiting ≡ true
+
+holding-sound : (character to due : ℕ) (bytes : List ℕ) → character ≤ LONGEST_CHARACTER → due ≤ to + LONGEST_CHARACTER → AreBytes bytes
+    → HoldsSound to (holding (staying to (timetable character due bytes)))
+unfolding timetable staying holding
+holding-sound character to due [] q h b = record { shift = tt; bytes = tt; idle = λ _. refl }
+holding-sound character to due (byte ∷ bytes) q h b =
+    cond_both (nat_le due to) _ _ (λ (shifts : List Shift). HoldsSound to (holding shifts))
+    (λ e. let l = leb-true due to e in holding-sound character to (due + character) bytes q (omega arith) b.1)
+    (λ e. record {
+      shift = record { byte = b.0; later = leb-false due to e; in_time = h };
+      bytes = rw (bytes_of-timetable character (due + character) bytes) b.1;
+      idle = λ n. absurd (false≢true (sym n));
+    })
+
+run-sound : (character now to : ℕ) (shift : Option Shift) (waiting : List ℕ) → character ≤ LONGEST_CHARACTER → now ≤ to → IsShift now shift → AreBytes waiting
+    → (is_some shift ≡ false → is_empty waiting ≡ true) → HoldsSound to (run_until character to shift waiting)
+unfolding run_until departures
+run-sound character now to None waiting q l s b i = record { shift = tt; bytes = b; idle = i }
+run-sound character now to (Some shift) waiting q l s b i =
+    holding-sound character to shift.due (shift.byte ∷ waiting) q (let h = s.in_time in omega arith) (s.byte, b)
+
+stays_short : (on : Bool) (few many : List ℕ) → length few ≤ length many → IsShort on many → IsShort on few
+stays_short on few many h s = record { short = let k = s.short in omega arith; one = λ f. let k = s.one f in omega arith }
+
+latched : (end before latch : Bool) → (latch ≡ true → end ≡ true) → cond (end && not before) true latch ≡ true → end ≡ true
+latched true before latch h e = refl
+latched false before latch h e = h e
+
+pub advance-transmitter : (character now to : ℕ) (on latch : Bool) (transmitter : TransmitterState) → character ≤ LONGEST_CHARACTER → now ≤ to → IsTransmitter now on transmitter latch → IsTransmitter to on (run_until character to transmitter.shift transmitter.waiting) (cond (is_empty (run_until character to transmitter.shift transmitter.waiting).waiting && not (is_empty transmitter.waiting)) true latch)
+advance-transmitter character now to on latch transmitter q l s =
+    let few = fewer character to transmitter.shift transmitter.waiting in
+    let holds = run-sound character now to transmitter.shift transmitter.waiting q l s.shift s.bytes s.idle in
+    record {
+      short = stays_short on _ transmitter.waiting few s.short;
+      bytes = holds.bytes;
+      shift = holds.shift;
+      idle = holds.idle;
+      latched = latched _ (is_empty transmitter.waiting) latch (λ e. stays_empty _ transmitter.waiting few (s.latched e));
+    }
+
+-- the bytes that leave are bytes, and left by the moment
+AreGone : ℕ → List Shift → Type 0
+AreGone to [] = Unit {0}
+AreGone to (shift ∷ later) = (shift.due ≤ to) × (shift.byte < 256) × AreGone to later
+
+gone-are : (character to due : ℕ) (bytes : List ℕ) → AreBytes bytes → AreGone to (gone to (timetable character due bytes))
+unfolding timetable gone AreGone
+gone-are character to due [] b = tt
+gone-are character to due (byte ∷ bytes) b =
+    cond_both (nat_le due to) _ _ (AreGone to) (λ e. (leb-true due to e, b.0, gone-are character to (due + character) bytes b.1)) (λ e. tt)
+
+gone_by-are : (character now to : ℕ) (shift : Option Shift) (waiting : List ℕ) → IsShift now shift → AreBytes waiting
+    → AreGone to (gone_by character to shift waiting)
+unfolding departures gone AreGone
+gone_by-are character now to None waiting s b = tt
+gone_by-are character now to (Some shift) waiting s b = gone-are character to shift.due (shift.byte ∷ waiting) (s.byte, b)
+
+arrived-sound : (character to level : ℕ) (on looped : Bool) (shifts : List Shift) (receiver : ReceiverState) → character ≤ LONGEST_CHARACTER
+    → AreGone to shifts → IsReceiver to level on receiver → IsReceiver to level on (arrived (mode_at character on (nat_le 3 level) looped) shifts receiver)
+unfolding arrived AreGone
+arrived-sound character to level on looped [] receiver q g s = s
+arrived-sound character to level on looped (shift ∷ later) receiver q g s =
+    arrived-sound character to level on looped later _ q g.2 (received-sound to shift.due character shift.byte looped receiver g.0 q level on g.1 s)
+
+later-receiver : (now to level : ℕ) (on : Bool) (receiver : ReceiverState) → now ≤ to → IsReceiver now level on receiver → IsReceiver to level on receiver
+later-receiver now to level on receiver l s = record { short = s.short; bytes = s.bytes; timeout = later-timeout now to _ receiver.timeout l s.timeout }
+
+pub advance-receiver : (character now to level : ℕ) (on looped : Bool) (shift : Option Shift) (waiting : List ℕ) (receiver : ReceiverState) → character ≤ LONGEST_CHARACTER → now ≤ to → IsShift now shift → AreBytes waiting → IsReceiver now level on receiver → IsReceiver to level on (cond looped (arrived (mode_at character on (nat_le 3 level) looped) (gone_by character to shift waiting) receiver) receiver)
+advance-receiver character now to level on true shift waiting receiver q l h b s =
+    arrived-sound character to level on true _ receiver q (gone_by-are character now to shift waiting h b) (later-receiver now to level on receiver l s)
+advance-receiver character now to level on false shift waiting receiver q l h b s = later-receiver now to level on receiver l s

@@ -1,0 +1,153 @@
+-- A span in two parts, and a span in which no byte is due.
+use Rattle.dev_serial.proofs.Facade.{◌≡◌, ℕ, ◌+◌, ◌<◌, ◌≤◌, Bool, true, false, cond, List, ◌∷◌, ◌++◌, length, Some, None, refl, sym, ap, ◌∙◌, arith, Option, []}
+use Rattle.dev_serial.proofs.Facade.{not, ◌&&◌, le-leb, lt-leb, eqb-true, eq-eqb, map-append, le-max_right, le-div, ReceiverState, TransmitterState, timetable}
+use Rattle.dev_serial.proofs.Facade.{departures, gone, staying, holding, arrived, on_line, looped_in, bytes_of, run_until, gone_by, IsSentAfter, Mode, Shift}
+use Rattle.dev_serial.proofs.Facade.{is_empty, advanced, leaving, has, character_time, Port, mode_of, received, AdvancesInParts, WaitsUntilDue, LoopsAtMoment}
+use Rattle.dev_serial.specs.Transmit.{byte_of}
+use Rattle.dev_serial.proofs.SendingLaws.{bytes_of-timetable, looped_none, run-twice, gone_by-twice, fewer}
+
+-- the bytes of two spans, one after the other
+on_line-append : (mode : Mode) (looped : Bool) (xs ys : List Shift)
+    → cond looped [] (bytes_of (xs ++ ys)) ≡ cond looped [] (bytes_of xs) ++ cond looped [] (bytes_of ys)
+on_line-append mode true xs ys = refl
+on_line-append mode false xs ys = map-append byte_of xs ys
+
+arrived-append : (mode : Mode) (xs ys : List Shift) (receiver : ReceiverState) → arrived mode (xs ++ ys) receiver ≡ arrived mode ys (arrived mode xs receiver)
+unfolding arrived
+arrived-append mode [] ys receiver = refl
+arrived-append mode (shift ∷ xs) ys receiver = arrived-append mode xs ys (received mode shift.byte shift.due receiver)
+
+looped-append : (mode : Mode) (looped : Bool) (xs ys : List Shift) (receiver : ReceiverState) → cond looped (arrived mode (xs ++ ys) receiver) receiver ≡ cond looped (arrived mode ys (cond looped (arrived mode xs receiver) receiver)) (cond looped (arrived mode xs receiver) receiver)
+looped-append mode true xs ys receiver = arrived-append mode xs ys receiver
+looped-append mode false xs ys receiver = refl
+
+-- the latch over two spans
+latch-twice : (before between end latch : Bool) → (before ≡ true → between ≡ true) → (between ≡ true → end ≡ true)
+    → cond (end && not between) true (cond (between && not before) true latch) ≡ cond (end && not before) true latch
+latch-twice true between end latch p q = rw (p refl, q (p refl))
+latch-twice false true end latch p q = rw (q refl)
+latch-twice false false end latch p q = refl
+
+pub stays_empty : (few many : List ℕ) → length few ≤ length many → is_empty many ≡ true → is_empty few ≡ true
+stays_empty few many h e = let z = eqb-true (length many) 0 e in eq-eqb (length few) 0 (omega arith)
+
+-- a port with what a span changes
+outcome : Port → List ℕ → ReceiverState → TransmitterState → Bool → List ℕ × Port
+outcome port line receiver transmitter latch = (line, record port { receiver = receiver; transmitter = transmitter; thr_empty = latch })
+
+same_outcome : (port : Port) (line line' : List ℕ) (receiver receiver' : ReceiverState) (transmitter transmitter' : TransmitterState) (latch latch' : Bool) → line ≡ line' → receiver ≡ receiver' → transmitter ≡ transmitter' → latch ≡ latch' → outcome port line receiver transmitter latch ≡ outcome port line' receiver' transmitter' latch'
+same_outcome port line line' receiver receiver' transmitter transmitter' latch latch' l r t h = rw (l, r, t, h) refl
+
+module _ (first second : ℕ) (port : Port) (h : first ≤ second) where
+  character : ℕ
+  character = character_time port.divisor port.lcr
+
+  between : TransmitterState
+  between = run_until (character_time port.divisor port.lcr) first port.transmitter.shift port.transmitter.waiting
+
+  end : TransmitterState
+  end = run_until (character_time port.divisor port.lcr) second between.shift between.waiting
+
+  end-same : end ≡ run_until (character_time port.divisor port.lcr) second port.transmitter.shift port.transmitter.waiting
+  unfolding end between
+  end-same = run-twice (character_time port.divisor port.lcr) first second port.transmitter.shift port.transmitter.waiting h
+
+  gone-both : leaving first port ++ gone_by (character_time port.divisor port.lcr) second between.shift between.waiting ≡ leaving second port
+  unfolding between
+  gone-both = gone_by-twice (character_time port.divisor port.lcr) first second port.transmitter.shift port.transmitter.waiting h
+
+  latch-same : cond (is_empty end.waiting && not (is_empty between.waiting)) true (cond (is_empty between.waiting && not (is_empty port.transmitter.waiting)) true port.thr_empty) ≡ cond (is_empty end.waiting && not (is_empty port.transmitter.waiting)) true port.thr_empty
+  unfolding end between
+  latch-same =
+      latch-twice (is_empty port.transmitter.waiting) (is_empty between.waiting) (is_empty end.waiting) port.thr_empty
+      (stays_empty between.waiting port.transmitter.waiting
+      (fewer (character_time port.divisor port.lcr) first port.transmitter.shift port.transmitter.waiting))
+      (stays_empty end.waiting between.waiting (fewer (character_time port.divisor port.lcr) second between.shift between.waiting))
+
+  in-parts : advanced second port ≡ ((advanced first port).0 ++ (advanced second (advanced first port).1).0, (advanced second (advanced first port).1).1)
+  unfolding advanced outcome end between
+  in-parts =
+      same_outcome port _ _ _ _ _ _ _ _
+      (ap (on_line (mode_of port)) (sym gone-both) ∙ on_line-append (mode_of port) (has port.mcr 4) _ _)
+      (ap (λ (xs : List Shift). looped_in (mode_of port) xs port.receiver) (sym gone-both) ∙ looped-append (mode_of port) (has port.mcr 4) _ _ port.receiver)
+      (sym end-same)
+      (ap (λ (t : TransmitterState). cond (is_empty t.waiting && not (is_empty port.transmitter.waiting)) true port.thr_empty) (sym end-same) ∙ sym latch-same)
+
+pub advances_in_parts : AdvancesInParts
+advances_in_parts first second port h = in-parts first second port h
+
+waits : (to : ℕ) (shift : Shift) (character : ℕ) (waiting : List ℕ) → to < shift.due → gone_by character to (Some shift) waiting ≡ []
+unfolding departures timetable gone
+waits to shift character waiting h = rw (lt-leb shift.due to h)
+
+stays : (to : ℕ) (shift : Shift) (character : ℕ) (waiting : List ℕ) → to < shift.due
+    → run_until character to (Some shift) waiting ≡ record { waiting = waiting; shift = Some shift }
+unfolding run_until departures timetable staying holding
+stays to shift character waiting h = rw (lt-leb shift.due to h, bytes_of-timetable character (shift.due + character) waiting)
+
+stays-whole : (to : ℕ) (shift : Shift) (character : ℕ) (transmitter : TransmitterState) → transmitter.shift ≡ Some shift → to < shift.due
+    → run_until character to transmitter.shift transmitter.waiting ≡ transmitter
+stays-whole to shift character transmitter e h =
+    ap (λ (s : Option Shift). run_until character to s transmitter.waiting) e
+    ∙ stays to shift character transmitter.waiting h
+    ∙ ap (λ (s : Option Shift). let t : TransmitterState = record { waiting = transmitter.waiting; shift = s } in t) (sym e)
+
+no_line : (looped : Bool) → cond {A = List ℕ} looped [] [] ≡ []
+no_line true = refl
+no_line false = refl
+
+no_change : (empty latch : Bool) → cond (empty && not empty) true latch ≡ latch
+no_change true latch = refl
+no_change false latch = refl
+
+pub waits_until_due : WaitsUntilDue
+unfolding advanced arrived outcome
+waits_until_due to port shift e h =
+    let none : leaving to port ≡ [] = rw e (waits to shift (character_time port.divisor port.lcr) port.transmitter.waiting h) in
+    let still : run_until (character_time port.divisor port.lcr) to port.transmitter.shift port.transmitter.waiting ≡ port.transmitter =
+    stays-whole to shift (character_time port.divisor port.lcr) port.transmitter e h in
+    same_outcome port _ [] _ port.receiver _ port.transmitter _ port.thr_empty
+    (rw none (no_line (has port.mcr 4)))
+    (rw none (looped_none (has port.mcr 4) (mode_of port) port.receiver))
+    still
+    (rw still (no_change (is_empty port.transmitter.waiting) port.thr_empty))
+
+idle : (to : ℕ) (port : Port) → port.transmitter.shift ≡ None → advanced to port ≡ ([], port)
+unfolding advanced departures gone run_until arrived outcome
+idle to port e =
+    let character = character_time port.divisor port.lcr in
+    let none : leaving to port ≡ [] = rw e refl in
+    let same : run_until character to port.transmitter.shift port.transmitter.waiting ≡ port.transmitter =
+    ap (λ (s : Option Shift). run_until character to s port.transmitter.waiting) e
+    ∙ ap (λ (s : Option Shift). let t : TransmitterState = record { waiting = port.transmitter.waiting; shift = s } in t) (sym e) in
+    same_outcome port _ [] _ port.receiver _ port.transmitter _ port.thr_empty
+    (rw none (no_line (has port.mcr 4)))
+    (rw none (looped_none (has port.mcr 4) (mode_of port) port.receiver))
+    same
+    (rw same (no_change (is_empty port.transmitter.waiting) port.thr_empty))
+
+still-by : (shift : Option Shift) (to : ℕ) (port : Port) → port.transmitter.shift ≡ shift → IsSentAfter to shift → advanced to port ≡ ([], port)
+still-by None to port e h = idle to port e
+still-by (Some shift) to port e h = waits_until_due to port shift e h
+
+-- nothing leaves before it is due
+pub still : (to : ℕ) (port : Port) → IsSentAfter to port.transmitter.shift → advanced to port ≡ ([], port)
+still to port h = still-by port.transmitter.shift to port refl h
+
+pub character-positive : (divisor lcr : ℕ) → 1 ≤ character_time divisor lcr
+unfolding character_time
+character-positive divisor lcr = le-div 1 _ 115200 (omega arith) (omega (arith, le-max_right divisor 1))
+
+next-waits : (character due : ℕ) (bytes : List ℕ) → 1 ≤ character → gone due (timetable character (due + character) bytes) ≡ []
+unfolding gone timetable
+next-waits character due [] h = refl
+next-waits character due (byte ∷ bytes) h = rw (lt-leb (due + character) due (omega arith))
+
+alone : (character : ℕ) (shift : Shift) (waiting : List ℕ) → 1 ≤ character → gone_by character shift.due (Some shift) waiting ≡ shift ∷ []
+unfolding departures timetable gone
+alone character shift waiting h = rw (le-leb shift.due shift.due (omega arith), next-waits character shift.due waiting h)
+
+pub loops_at_moment : LoopsAtMoment
+unfolding advanced arrived
+loops_at_moment port shift l e =
+    rw (l, e, alone (character_time port.divisor port.lcr) shift port.transmitter.waiting (character-positive port.divisor port.lcr)) (refl, refl)
