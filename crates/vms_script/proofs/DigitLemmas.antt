@@ -12,12 +12,12 @@ use Rattle.vms_script.specs.Words.{digit_spelled, joined, byte_spelled, port_spe
 -- ---- from a value to its digit and back
 
 low_char : (d : ℕ) → d < 10 → digit_char d ≡ 48 + d
-low_char d h = ap (λ (t : Bool). cond t (48 + d) (87 + d)) (is_lt d h) where
+low_char d h = rw (is_lt d h) where
   is_lt : (d : ℕ) → d < 10 → nat_lt d 10 ≡ true
   is_lt d h = grind (arith, nat_tests)
 
 high_char : (d : ℕ) → 10 ≤ d → digit_char d ≡ 87 + d
-high_char d h = ap (λ (t : Bool). cond t (48 + d) (87 + d)) (not_lt d h) where
+high_char d h = rw (not_lt d h) where
   not_lt : (d : ℕ) → 10 ≤ d → nat_lt d 10 ≡ false
   not_lt d h = grind (arith, nat_tests)
 
@@ -27,13 +27,13 @@ spelled_by low high b = if low then Some (b - 48) else if high then Some (b - 87
 digit_low : (b : ℕ) → 48 ≤ b → b ≤ 57 → digit_spelled b ≡ Some (b - 48)
 digit_low b h i =
     let low : is_digit b ≡ true = rw (le-leb 48 b h, le-leb b 57 i) refl in
-    ap (λ (t : Bool). spelled_by t (nat_le 97 b && nat_le b 102) b) low
+    ap (λ t. spelled_by t (nat_le 97 b && nat_le b 102) b) low
 
 digit_high : (b : ℕ) → 97 ≤ b → b ≤ 102 → digit_spelled b ≡ Some (b - 87)
 digit_high b h i =
     let low : is_digit b ≡ false = rw (le-leb 48 b (omega (arith, h)), lt-leb b 57 (omega (arith, h))) refl in
     let high : (nat_le 97 b && nat_le b 102) ≡ true = rw (le-leb 97 b h, le-leb b 102 i) refl in
-    ap (λ (t : Bool). spelled_by t (nat_le 97 b && nat_le b 102) b) low ∙ ap (λ (t : Bool). spelled_by false t b) high
+    ap (λ t. spelled_by t (nat_le 97 b && nat_le b 102) b) low ∙ ap (λ t. spelled_by false t b) high
 
 pub digit_back : (d : ℕ) → d < 16 → digit_spelled (digit_char d) ≡ Some d
 digit_back d h = by (nat_lt d 10) refl where
@@ -68,26 +68,19 @@ digit_is b d e = by (is_digit b) (nat_le 97 b && nat_le b 102) refl refl where
   by : (l h : Bool) → is_digit b ≡ l → (nat_le 97 b && nat_le b 102) ≡ h → IsDigitOf b d
   by true h p q =
       let (from, to) = bounds 48 57 b p in
-      let back : 48 + (b - 48) ≡ b = omega (arith, from) in
-      digit_at b d 48 e (digit_low b from to) (omega (arith, to)) (low_char (b - 48) (omega (arith, to)) ∙ back)
+      digit_at b d 48 e (digit_low b from to) (omega arith) (low_char (b - 48) (omega arith) ∙ (omega arith))
   by false true p q =
       let (from, to) = bounds 97 102 b q in
-      let back : 87 + (b - 87) ≡ b = omega (arith, from) in
-      digit_at b d 87 e (digit_high b from to) (omega (arith, to)) (high_char (b - 87) (omega (arith, from)) ∙ back)
-  by false false p q =
-      let none : None ≡ Some d = sym (ap (λ (t : Bool). spelled_by t (nat_le 97 b && nat_le b 102) b) p ∙ ap (λ (t : Bool). spelled_by false t b) q) ∙ e in cc
+      digit_at b d 87 e (digit_high b from to) (omega arith) (high_char (b - 87) (omega arith) ∙ (omega arith))
+  by false false p q = let none : None ≡ Some d = sym (rw (p, q)) ∙ e in cc
 
 pub byte_back : (v : ℕ) → v < 256 → byte_spelled (byte_text v) ≡ Some v
 byte_back v h =
-    let whole : v / 16 * 16 + v % 16 ≡ v = omega arith in
-    ap (λ (o : Option ℕ). joined 16 o (digit_spelled (digit_char (v % 16)))) (digit_back (v / 16) (omega (arith, h)))
-    ∙ ap (joined 16 (Some (v / 16))) (digit_back (v % 16) (omega arith)) ∙ ap (λ (n : ℕ). Some n) whole
+    rw (digit_back (v / 16) (omega (arith, h))) (ap (joined 16 (Some (v / 16))) (digit_back (v % 16) (omega arith)) ∙ ap (λ (n : ℕ). Some n) (omega arith))
 
 pub port_back : (p : ℕ) → p < 65536 → port_spelled (port_text p) ≡ Some p
 port_back p h =
-    let whole : p / 256 * 256 + p % 256 ≡ p = omega arith in
-    ap (λ (o : Option ℕ). joined 256 o (byte_spelled (byte_text (p % 256)))) (byte_back (p / 256) (omega (arith, h)))
-    ∙ ap (joined 256 (Some (p / 256))) (byte_back (p % 256) (omega arith)) ∙ ap (λ (n : ℕ). Some n) whole
+    rw (byte_back (p / 256) (omega (arith, h))) (ap (joined 256 (Some (p / 256))) (byte_back (p % 256) (omega arith)) ∙ ap (λ (n : ℕ). Some n) (omega arith))
 
 pub record Joins (base : ℕ) (high low : Option ℕ) (v : ℕ) : Type 0 where
   pub a : ℕ
@@ -97,16 +90,15 @@ pub record Joins (base : ℕ) (high low : Option ℕ) (v : ℕ) : Type 0 where
   pub value : v ≡ a * base + b
 
 joins : (base : ℕ) (high low : Option ℕ) (v : ℕ) → joined base high low ≡ Some v → Joins base high low v
-joins base None low v e = cc
-joins base (Some a) None v e = cc
 joins base (Some a) (Some b) v e = record { a = a; b = b; first = refl; second = refl; value = some_same (a * base + b) v e }
+joins base _ _ v e = cc
 
 -- two texts of the parts of a number
 both : (base v a b : ℕ) (text_of : ℕ → List ℕ) (first second : List ℕ) → v ≡ a * base + b → b < base → first ≡ text_of a → second ≡ text_of b → first ++ second ≡ text_of (v / base) ++ text_of (v % base)
 both base v a b text_of first second value small f s =
     let high : v / base ≡ a = ap (λ n. n / base) value ∙ div-mul-add a base b small in
     let low : v % base ≡ b = ap (λ n. n % base) value ∙ mod-mul-add a base b small in
-    ap (λ (t : List ℕ). t ++ second) (f ∙ ap text_of (sym high)) ∙ ap (λ (t : List ℕ). text_of (v / base) ++ t) (s ∙ ap text_of (sym low))
+    ap (λ t. t ++ second) (f ∙ ap text_of (sym high)) ∙ ap (λ t. text_of (v / base) ++ t) (s ∙ ap text_of (sym low))
 
 -- a text that is read, of a number below a limit
 pub record IsTextOf (limit : ℕ) (text_of : ℕ → List ℕ) (text : List ℕ) (n : ℕ) : Type 0 where
@@ -114,8 +106,6 @@ pub record IsTextOf (limit : ℕ) (text_of : ℕ → List ℕ) (text : List ℕ)
   pub text_is : text ≡ text_of n
 
 pub byte_is : (text : List ℕ) (v : ℕ) → byte_spelled text ≡ Some v → IsTextOf 256 byte_text text v
-byte_is [] v e = cc
-byte_is (a ∷ []) v e = cc
 byte_is (a ∷ b ∷ []) v e =
     let j = joins 16 (digit_spelled a) (digit_spelled b) v e in
     let x = digit_is a j.a j.first in
@@ -124,13 +114,9 @@ byte_is (a ∷ b ∷ []) v e =
       small = omega (arith, j.value, x.small, y.small);
       text_is = both 16 v j.a j.b (λ d. digit_char d ∷ []) (a ∷ []) (b ∷ []) j.value y.small (ap (λ c. c ∷ []) x.char) (ap (λ c. c ∷ []) y.char);
     }
-byte_is (a ∷ b ∷ c ∷ text) v e = cc
+byte_is _ v e = cc
 
 pub port_is : (text : List ℕ) (p : ℕ) → port_spelled text ≡ Some p → IsTextOf 65536 port_text text p
-port_is [] p e = cc
-port_is (a ∷ []) p e = cc
-port_is (a ∷ b ∷ []) p e = cc
-port_is (a ∷ b ∷ c ∷ []) p e = cc
 port_is (a ∷ b ∷ c ∷ d ∷ []) p e =
     let j = joins 256 (byte_spelled (a ∷ b ∷ [])) (byte_spelled (c ∷ d ∷ [])) p e in
     let x = byte_is (a ∷ b ∷ []) j.a j.first in
@@ -139,7 +125,7 @@ port_is (a ∷ b ∷ c ∷ d ∷ []) p e =
       small = omega (arith, j.value, x.small, y.small);
       text_is = both 256 p j.a j.b byte_text (a ∷ b ∷ []) (c ∷ d ∷ []) j.value y.small x.text_is y.text_is;
     }
-port_is (a ∷ b ∷ c ∷ d ∷ f ∷ text) p e = cc
+port_is _ p e = cc
 
 -- ---- digits are neither spaces nor line feeds
 
@@ -149,11 +135,11 @@ lacks byte text = list_all (λ b. not (b == byte)) text
 char_up : (d : ℕ) → 48 ≤ digit_char d
 char_up d = by (nat_lt d 10) refl where
   by : (t : Bool) → nat_lt d 10 ≡ t → 48 ≤ digit_char d
-  by true e = let same = low_char d (ltb-true d 10 e) in omega (arith, same)
-  by false e = let same = high_char d (ltb-false d 10 e) in omega (arith, same)
+  by true e = let same = low_char d (ltb-true d 10 e) in omega arith
+  by false e = let same = high_char d (ltb-false d 10 e) in omega arith
 
 other : (b byte : ℕ) → byte < 48 → 48 ≤ b → not (b == byte) ≡ true
-other b byte h i = ap not (ne_eqb b byte (λ e. omega (arith, e, h, i)))
+other b byte h i = ap not (ne_eqb b byte (λ e. omega arith))
 
 pub byte_lacks : (byte v : ℕ) → byte < 48 → lacks byte (byte_text v) ≡ true
 byte_lacks byte v h = rw (other (digit_char (v / 16)) byte h (char_up (v / 16)), other (digit_char (v % 16)) byte h (char_up (v % 16))) refl
@@ -171,5 +157,4 @@ pub digits_lack : (byte : ℕ) (text : List ℕ) → byte < 48 → list_all is_d
 digits_lack byte [] h e = refl
 digits_lack byte (b ∷ text) h e =
     let parts = and_parts (is_digit b) (list_all is_digit text) e in
-    let up : 48 ≤ b = leb-true 48 b (and_parts (nat_le 48 b) (nat_le b 57) parts.0).0 in
-    rw (other b byte h up, digits_lack byte text h parts.1) refl
+    rw (other b byte h (leb-true 48 b (and_parts (nat_le 48 b) (nat_le b 57) parts.0).0), digits_lack byte text h parts.1) refl

@@ -27,21 +27,19 @@ word_front : (word rest : List ℕ) → lacks 32 word ≡ true → first_word (w
 word_front [] rest h = refl
 word_front (b ∷ word) rest h =
     let parts = and_parts (not (b == 32)) (lacks 32 word) h in
-    ap (λ (t : Bool). if t then ([], Some (word ++ 32 ∷ rest)) else longer_word b (first_word (word ++ 32 ∷ rest))) (not-true (b == 32) parts.0)
-    ∙ ap (longer_word b) (word_front word rest parts.1)
+    rw (not-true (b == 32) parts.0) (ap (longer_word b) (word_front word rest parts.1))
 
 lines_front : (line text : List ℕ) → lacks 10 line ≡ true → lines_of (line ++ 10 ∷ text) ≡ record { lines = line ∷ (lines_of text).lines; tail = (lines_of text).tail }
 lines_front [] text h = refl
 lines_front (b ∷ line) text h =
     let parts = and_parts (not (b == 10)) (lacks 10 line) h in
-    ap (λ (t : Bool). if t then record { lines = [] ∷ (lines_of (line ++ 10 ∷ text)).lines; tail = (lines_of (line ++ 10 ∷ text)).tail } else begun b (lines_of (line ++ 10 ∷ text)).lines (lines_of (line ++ 10 ∷ text)).tail) (not-true (b == 10) parts.0)
-    ∙ ap (λ (s : Split). begun b s.lines s.tail) (lines_front line text parts.1)
+    rw (not-true (b == 10) parts.0, lines_front line text parts.1)
 
 decimal_lacks : (byte n : ℕ) → byte < 48 → n < 2 ^ 64 → lacks byte (decimal n) ≡ true
 decimal_lacks byte n h i = digits_lack byte (decimal n) h (digits_decimal numerals n i)
 
 name_byte : (b : ℕ) → is_name_byte b ≡ true → not (b == 10) ≡ true
-name_byte b e = let high = name_byte_high b e in ap not (ne_eqb b 10 (λ same. omega (arith, high, same)))
+name_byte b e = let high = name_byte_high b e in ap not (ne_eqb b 10 (λ same. omega arith))
 
 name_lacks : (name : List ℕ) → list_all is_name_byte name ≡ true → lacks 10 name ≡ true
 name_lacks [] e = refl
@@ -61,19 +59,17 @@ early_small holds n early h = by (nat_lt n (2 ^ 64)) refl where
   by false e = let none : true ≡ false = sym h ∙ early n (ltb-false n (2 ^ 64) e) in cc
 
 number_good : (holds : ℕ → Bool) (line : ℕ → ScriptLine) (n : ℕ) → EndsEarly holds → holds n ≡ true → number_in holds line (decimal n) ≡ Ok (line n)
-number_good holds line n early h =
-    ap (λ (o : Option ℤ). or_form o (or_range holds line)) (number_holds (pos n) (early_small holds n early h))
-    ∙ ap (λ (t : Bool). if t then Ok (line n) else Err reasons.Range) h
+number_good holds line n early h = rw (number_holds (pos n) (early_small holds n early h), h)
 
 -- ---- a good line is read as it is spelled
 
 event_good : (play : Option ℕ) (event : Event) → IsEvent event → line_read play (event_text event) ≡ Ok (Happens event)
-event_good play (events.Read port) h = ap (λ (o : Option ℕ). or_form o (λ p. Ok (Happens (events.Read p)))) (port_back port h)
+event_good play (events.Read port) h = rw (port_back port h)
 event_good play (events.Write port value) h =
     ap out_line (word_front (port_text port) (byte_text value) (port_lacks 32 port (omega arith)))
-    ∙ ap (λ (o : Option ℕ). or_form o (λ p. or_form (byte_spelled (byte_text value)) (λ v. Ok (Happens (events.Write p v))))) (port_back port h.0)
-    ∙ ap (λ (o : Option ℕ). or_form o (λ v. Ok (Happens (events.Write port v)))) (byte_back value h.1)
-event_good play (events.Byte value) h = ap (λ (o : Option ℕ). or_form o (λ v. Ok (Happens (events.Byte v)))) (byte_back value h)
+    ∙ ap (λ o. or_form o (λ p. or_form (byte_spelled (byte_text value)) (λ v. Ok (Happens (events.Write p v))))) (port_back port h.0)
+    ∙ ap (λ o. or_form o (λ v. Ok (Happens (events.Write port v)))) (byte_back value h.1)
+event_good play (events.Byte value) h = rw (byte_back value h)
 event_good play (events.Wait ns) h = number_good is_wait (λ ns. Happens (events.Wait ns)) ns waits_end h
 event_good play (events.Wire input true) h =
     ap wire_line (word_front (decimal input) (codes "1") (decimal_lacks 32 input (omega arith) (early_small is_wire input wires_end h)))
@@ -85,13 +81,12 @@ event_good play events.Ack h = refl
 
 line_good : (play : Option ℕ) (line : ScriptLine) → IsLine play line → line_read play (line_text line) ≡ Ok line
 line_good play (Happens event) h = event_good play event h
-line_good None (Saves set name) h = absurd h
-line_good None (Restores name) h = absurd h
 line_good (Some level) (Saves set name) h =
     ap (save_line level) (word_front (64 ∷ decimal set) name (decimal_lacks 32 set (omega arith) (early_small (is_set_of NEWEST level) set (sets_end level) h.0)))
-    ∙ ap (λ (t : Bool). or_form (if t then Some name else None) (λ name. or_form (set_spelled (64 ∷ decimal set)) (λ number. number_in (is_set_of NEWEST level) (λ set. Saves set name) number))) h.1
+    ∙ ap (λ t. or_form (if t then Some name else None) (λ name. or_form (set_spelled (64 ∷ decimal set)) (λ number. number_in (is_set_of NEWEST level) (λ set. Saves set name) number))) h.1
     ∙ number_good (is_set_of NEWEST level) (λ set. Saves set name) set (sets_end level) h.0
-line_good (Some level) (Restores name) h = ap (λ (t : Bool). or_form (if t then Some name else None) (λ name. Ok (Restores name))) h
+line_good (Some level) (Restores name) h = rw h
+line_good None _ h = absurd h
 
 event_lacks : (event : Event) → IsEvent event → lacks 10 (event_text event) ≡ true
 event_lacks (events.Read port) h = port_lacks 10 port (omega arith)
@@ -104,11 +99,10 @@ event_lacks events.Ack h = refl
 
 line_lacks : (play : Option ℕ) (line : ScriptLine) → IsLine play line → lacks 10 (line_text line) ≡ true
 line_lacks play (Happens event) h = event_lacks event h
-line_lacks None (Saves set name) h = absurd h
-line_lacks None (Restores name) h = absurd h
 line_lacks (Some level) (Saves set name) h =
     lacks-append 10 (decimal set) (32 ∷ name) (decimal_lacks 10 set (omega arith) (early_small (is_set_of NEWEST level) set (sets_end level) h.0)) (shelf_lacks name h.1)
 line_lacks (Some level) (Restores name) h = shelf_lacks name h
+line_lacks None _ h = absurd h
 
 -- ---- a good script is read as it is spelled
 
@@ -119,7 +113,7 @@ text_good : (play : Option ℕ) (number : ℕ) (lines : List ScriptLine) → Are
 text_good play number [] h = refl
 text_good play number (line ∷ lines) h =
     ap (read_split play number) (lines_front (line_text line) (script_text lines) (line_lacks play line h.0))
-    ∙ ap (λ (r : Read). with_line number r (text_read play (number + 1) (script_text lines))) (line_good play line h.0)
+    ∙ ap (λ r. with_line number r (text_read play (number + 1) (script_text lines))) (line_good play line h.0)
     ∙ ap (also line) (text_good play (number + 1) lines h.1)
 
 pub spelled_read : (play : Option ℕ) (lines : List ScriptLine) → AreLines play lines → script_read play (script_text lines) ≡ Ok lines

@@ -54,18 +54,12 @@ number_is holds make text line C early e f = formed (number_spelled text) (or_ra
   by (pos n) s is = choose (holds n) (Ok (make n)) (Err reasons.Range) line C is (λ h i. good n s h i) (λ none. cc)
 
 level_is : (text : List ℕ) (up : Bool) → level_spelled text ≡ Some up → text ≡ level_text up
-level_is [] up e = cc
-level_is (b ∷ c ∷ text) up e = cc
 level_is (b ∷ []) up e = by (b == 48) (b == 49) refl refl where
   by : (s t : Bool) → (b == 48) ≡ s → (b == 49) ≡ t → b ∷ [] ≡ level_text up
-  by true t p q =
-      let is : false ≡ up = same_Some false up (sym (ap (λ (x : Bool). if x then Some false else (if b == 49 then Some true else None)) p) ∙ e) in
-      ap (λ (c : ℕ). c ∷ []) (eqb-true b 48 p) ∙ ap level_text is
-  by false true p q =
-      let is : true ≡ up = same_Some true up (sym (ap (λ (x : Bool). if x then Some false else (if b == 49 then Some true else None)) p ∙ ap (λ (x : Bool). if x then Some true else None) q) ∙ e) in
-      ap (λ (c : ℕ). c ∷ []) (eqb-true b 49 q) ∙ ap level_text is
-  by false false p q =
-      let none : None ≡ Some up = sym (ap (λ (x : Bool). if x then Some false else (if b == 49 then Some true else None)) p ∙ ap (λ (x : Bool). if x then Some true else None) q) ∙ e in cc
+  by true t p q = ap (λ c. c ∷ []) (eqb-true b 48 p) ∙ ap level_text (same_Some false up (sym (rw p) ∙ e))
+  by false true p q = ap (λ c. c ∷ []) (eqb-true b 49 q) ∙ ap level_text (same_Some true up (sym (rw (p, q)) ∙ e))
+  by false false p q = let none : None ≡ Some up = sym (rw (p, q)) ∙ e in cc
+level_is _ up e = cc
 
 abbrev rejoined : List ℕ × Option (List ℕ) → List ℕ
 rejoined (word, None) = word
@@ -79,33 +73,30 @@ word_split : (line : List ℕ) → line ≡ rejoined (first_word line)
 word_split [] = refl
 word_split (b ∷ line) = by (b == 32) refl (word_split line) where
   by : (t : Bool) → (b == 32) ≡ t → line ≡ rejoined (first_word line) → b ∷ line ≡ rejoined (first_word (b ∷ line))
-  by true e later =
-      ap (λ (c : ℕ). c ∷ line) (eqb-true b 32 e) ∙ sym (ap (λ (t : Bool). rejoined (if t then ([], Some line) else longer_word b (first_word line))) e)
-  by false e later =
-      ap (λ (rest : List ℕ). b ∷ rest) later ∙ sym (longer_joined b (first_word line))
-      ∙ sym (ap (λ (t : Bool). rejoined (if t then ([], Some line) else longer_word b (first_word line))) e)
+  by true e later = ap (λ c. c ∷ line) (eqb-true b 32 e) ∙ sym (rw e)
+  by false e later = ap (λ rest. b ∷ rest) later ∙ sym (longer_joined b (first_word line)) ∙ sym (rw e)
 
 -- a text is what a line says
 abbrev pub Says : Option ℕ → List ℕ → ScriptLine → Type 0
 Says play text line = IsLine play line × (text ≡ line_text line)
 
 says_by : (play : Option ℕ) (text : List ℕ) (a b : ScriptLine) → a ≡ b → Says play text a → Says play text b
-says_by play text a b e h = subst (Says play text) e h
+says_by play text a b e h = rw e at h
 
 in_is : (play : Option ℕ) (rest : List ℕ) (line : ScriptLine) → in_line rest ≡ Ok line → Says play (codes "in " ++ rest) line
 in_is play rest line e =
     formed (port_spelled rest) (λ p. Ok (Happens (events.Read p))) line (Says play (codes "in " ++ rest) line) e
-    (λ p s is. let q = port_is rest p s in says_by play (codes "in " ++ rest) (Happens (events.Read p)) line (ok_same (Happens (events.Read p)) line is) (q.small, ap (λ (r : List ℕ). codes "in " ++ r) q.text_is))
+    (λ p s is. let q = port_is rest p s in says_by play (codes "in " ++ rest) (Happens (events.Read p)) line (ok_same (Happens (events.Read p)) line is) (q.small, rw (q.text_is)))
 
 byte_line_is : (play : Option ℕ) (rest : List ℕ) (line : ScriptLine) → byte_line rest ≡ Ok line → Says play (codes "byte " ++ rest) line
 byte_line_is play rest line e =
     formed (byte_spelled rest) (λ v. Ok (Happens (events.Byte v))) line (Says play (codes "byte " ++ rest) line) e
-    (λ v s is. let q = byte_is rest v s in says_by play (codes "byte " ++ rest) (Happens (events.Byte v)) line (ok_same (Happens (events.Byte v)) line is) (q.small, ap (λ (r : List ℕ). codes "byte " ++ r) q.text_is))
+    (λ v s is. let q = byte_is rest v s in says_by play (codes "byte " ++ rest) (Happens (events.Byte v)) line (ok_same (Happens (events.Byte v)) line is) (q.small, rw (q.text_is)))
 
 wait_is : (play : Option ℕ) (rest : List ℕ) (line : ScriptLine) → wait_line rest ≡ Ok line → Says play (codes "wait " ++ rest) line
 wait_is play rest line e =
     number_is is_wait (λ ns. Happens (events.Wait ns)) rest line (Says play (codes "wait " ++ rest) line) waits_end e
-    (λ n h is t. says_by play (codes "wait " ++ rest) (Happens (events.Wait n)) line is (h, ap (λ (r : List ℕ). codes "wait " ++ r) t))
+    (λ n h is t. says_by play (codes "wait " ++ rest) (Happens (events.Wait n)) line is (h, rw t))
 
 out_is : (play : Option ℕ) (split : List ℕ × Option (List ℕ)) (line : ScriptLine) → out_line split ≡ Ok line → Says play (codes "out " ++ rejoined split) line
 out_is play (port, rest) line e =
@@ -115,8 +106,7 @@ out_is play (port, rest) line e =
     (λ v t is. let q = port_is port p s in let w = byte_is value v t in
     says_by play (codes "out " ++ rejoined (port, rest)) (Happens (events.Write p v)) line (ok_same (Happens (events.Write p v)) line is) (
       (q.small, w.small),
-      ap (λ (o : Option (List ℕ)). codes "out " ++ rejoined (port, o)) r
-          ∙ ap (λ (x : List ℕ). codes "out " ++ (x ++ 32 ∷ value)) q.text_is ∙ ap (λ (x : List ℕ). codes "out " ++ (port_text p ++ 32 ∷ x)) w.text_is,
+      rw (r, q.text_is, w.text_is),
     ))))
 
 wire_line_is : (play : Option ℕ) (split : List ℕ × Option (List ℕ)) (line : ScriptLine) → wire_line split ≡ Ok line → Says play (codes "wire " ++ rejoined split) line
@@ -126,26 +116,23 @@ wire_line_is play (number, rest) line e =
     (λ up s e3. number_is is_wire (λ input. Happens (events.Wire input up)) number line (Says play (codes "wire " ++ rejoined (number, rest)) line) wires_end e3
     (λ n h is t. says_by play (codes "wire " ++ rejoined (number, rest)) (Happens (events.Wire n up)) line is (
       h,
-      ap (λ (o : Option (List ℕ)). codes "wire " ++ rejoined (number, o)) r
-          ∙ ap (λ (x : List ℕ). codes "wire " ++ (x ++ 32 ∷ level)) t ∙ ap (λ (x : List ℕ). codes "wire " ++ (decimal n ++ 32 ∷ x)) (level_is level up s),
+      rw (r, t, level_is level up s),
     ))))
 
 named : (text name : List ℕ) → name_spelled text ≡ Some name → (is_shelf_name name ≡ true) × (text ≡ name)
 named text name e = by (is_shelf_name text) refl where
   by : (t : Bool) → is_shelf_name text ≡ t → (is_shelf_name name ≡ true) × (text ≡ name)
   by true p =
-      let is : text ≡ name = same_Some text name (sym (ap (λ (t : Bool). if t then Some text else None) p) ∙ e) in
+      let is : text ≡ name = same_Some text name (sym (rw p) ∙ e) in
       (sym (ap is_shelf_name is) ∙ p, is)
-  by false p = let none : None ≡ Some name = sym (ap (λ (t : Bool). if t then Some text else None) p) ∙ e in cc
+  by false p = let none : None ≡ Some name = sym (rw p) ∙ e in cc
 
 set_is : (word number : List ℕ) → set_spelled word ≡ Some number → word ≡ 64 ∷ number
 set_is [] number e = cc
 set_is (b ∷ word) number e = by (begins_with (codes "@") (b ∷ word)) refl where
   by : (t : Bool) → begins_with (codes "@") (b ∷ word) ≡ t → b ∷ word ≡ 64 ∷ number
-  by true p =
-      let is : word ≡ number = same_Some word number (sym (ap (λ (t : Bool). if t then Some word else None) p) ∙ e) in
-      ap (λ (c : ℕ). c ∷ word) (eqb-true b 64 (and_parts (b == 64) true p).0) ∙ ap (λ (w : List ℕ). 64 ∷ w) is
-  by false p = let none : None ≡ Some number = sym (ap (λ (t : Bool). if t then Some word else None) p) ∙ e in cc
+  by true p = rw (eqb-true b 64 (and_parts (b == 64) true p).0, (same_Some word number (sym (rw p) ∙ e)))
+  by false p = let none : None ≡ Some number = sym (rw p) ∙ e in cc
 
 save_line_is : (level : ℕ) (split : List ℕ × Option (List ℕ)) (line : ScriptLine) → save_line level split ≡ Ok line → Says (Some level) (codes "save " ++ rejoined split) line
 save_line_is level (word, rest) line e =
@@ -156,23 +143,21 @@ save_line_is level (word, rest) line e =
     (λ n h is t. let k = named text name s in
     says_by (Some level) (codes "save " ++ rejoined (word, rest)) (Saves n name) line is (
       (h, k.0),
-      ap (λ (o : Option (List ℕ)). codes "save " ++ rejoined (word, o)) r
-          ∙ ap (λ (x : List ℕ). codes "save " ++ (x ++ 32 ∷ text)) (set_is word number w) ∙ ap (λ (x : List ℕ). codes "save @" ++ (x ++ 32 ∷ text)) t
-          ∙ ap (λ (x : List ℕ). codes "save @" ++ (decimal n ++ 32 ∷ x)) k.1,
+      rw (r, set_is word number w, t, k.1),
     )))))
 
 restore_is : (level : ℕ) (rest : List ℕ) (line : ScriptLine) → restore_line rest ≡ Ok line → Says (Some level) (codes "restore " ++ rest) line
 restore_is level rest line e =
     formed (name_spelled rest) (λ name. Ok (Restores name)) line (Says (Some level) (codes "restore " ++ rest) line) e
-    (λ name s is. let k = named rest name s in says_by (Some level) (codes "restore " ++ rest) (Restores name) line (ok_same (Restores name) line is) (k.0, ap (λ (r : List ℕ). codes "restore " ++ r) k.1))
+    (λ name s is. let k = named rest name s in says_by (Some level) (codes "restore " ++ rest) (Restores name) line (ok_same (Restores name) line is) (k.0, rw (k.1)))
 
 -- a word that is known, before the rest
 with_word : (play : Option ℕ) (word known rest : List ℕ) (line : ScriptLine) → bytes_eq word known ≡ true → Says play (known ++ 32 ∷ rest) line → Says play (word ++ 32 ∷ rest) line
-with_word play word known rest line e h = (h.0, ap (λ (w : List ℕ). w ++ 32 ∷ rest) ((bytes_eq-Decides word known).0 e) ∙ h.1)
+with_word play word known rest line e h = (h.0, rw ((bytes_eq-Decides word known).0 e) (h.1))
 
 -- the rest of a line by its own first word
 with_rest : (play : Option ℕ) (front rest : List ℕ) (line : ScriptLine) → Says play (front ++ rejoined (first_word rest)) line → Says play (front ++ rest) line
-with_rest play front rest line h = (h.0, ap (λ (r : List ℕ). front ++ r) (word_split rest) ∙ h.1)
+with_rest play front rest line h = (h.0, rw (word_split rest) (h.1))
 
 session_is : (level : ℕ) (word rest : List ℕ) (line : ScriptLine) → session_line level word rest ≡ Ok line → Says (Some level) (word ++ 32 ∷ rest) line
 session_is level word rest line e =
@@ -238,12 +223,8 @@ pub text_split : (text : List ℕ) → text ≡ text_of (lines_of text)
 text_split [] = refl
 text_split (b ∷ text) = by (b == 10) refl (text_split text) where
   by : (t : Bool) → (b == 10) ≡ t → text ≡ text_of (lines_of text) → b ∷ text ≡ text_of (lines_of (b ∷ text))
-  by true e later =
-      ap (λ (c : ℕ). c ∷ text) (eqb-true b 10 e) ∙ ap (λ (rest : List ℕ). 10 ∷ rest) later
-      ∙ sym (ap (λ (t : Bool). text_of (if t then record { lines = [] ∷ (lines_of text).lines; tail = (lines_of text).tail } else begun b (lines_of text).lines (lines_of text).tail)) e)
-  by false e later =
-      ap (λ (rest : List ℕ). b ∷ rest) later ∙ sym (begun_unsplit b (lines_of text).lines (lines_of text).tail)
-      ∙ sym (ap (λ (t : Bool). text_of (if t then record { lines = [] ∷ (lines_of text).lines; tail = (lines_of text).tail } else begun b (lines_of text).lines (lines_of text).tail)) e)
+  by true e later = ap (λ c. c ∷ text) (eqb-true b 10 e) ∙ ap (λ rest. 10 ∷ rest) later ∙ sym (rw e)
+  by false e later = ap (λ rest. b ∷ rest) later ∙ sym (begun_unsplit b (lines_of text).lines (lines_of text).tail) ∙ sym (rw e)
 
 -- lines that were read are those that are spelled
 abbrev AreSaid : Option ℕ → List ℕ → List ScriptLine → Type 0
@@ -274,7 +255,7 @@ lines_are play number (text ∷ texts) tail lines e =
           let first = line_is play text line p in
           let others = go more q in
           subst (AreSaid play (text ++ 10 ∷ unsplit texts tail)) (ok_lines (line ∷ more) lines i)
-          ((first.0, others.0), ap (λ (t : List ℕ). t ++ 10 ∷ unsplit texts tail) first.1 ∙ ap (λ (t : List ℕ). line_text line ++ 10 ∷ t) others.1)
+          ((first.0, others.0), ap (λ t. t ++ 10 ∷ unsplit texts tail) first.1 ∙ ap (λ t. line_text line ++ 10 ∷ t) others.1)
 
 only_read : (play : Option ℕ) (text : List ℕ) (lines : List ScriptLine) → script_read play text ≡ Ok lines → AreLines play lines × (text ≡ script_text lines)
 unfolding script_read

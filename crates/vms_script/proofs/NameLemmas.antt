@@ -9,7 +9,7 @@ use Rattle.vms_script.specs.Names.{is_shelf_name}
 
 bytes_ascii : (bytes : List ℕ) → list_all is_name_byte bytes ≡ true → (i : ℕ) → slice_index bytes i < 128
 bytes_ascii [] e i = omega arith
-bytes_ascii (b ∷ bytes) e zero = let low = name_byte_low b (and_parts (is_name_byte b) (list_all is_name_byte bytes) e).0 in omega (arith, low)
+bytes_ascii (b ∷ bytes) e zero = let low = name_byte_low b (and_parts (is_name_byte b) (list_all is_name_byte bytes) e).0 in omega arith
 bytes_ascii (b ∷ bytes) e (suc i) = bytes_ascii bytes (and_parts (is_name_byte b) (list_all is_name_byte bytes) e).1 i
 
 pub name_ascii : (name : List ℕ) → is_shelf_name name ≡ true → IsAscii name

@@ -34,15 +34,13 @@ line_first : (line after : List ℕ) → lacks 10 line ≡ true → first_line (
 line_first [] after h = refl
 line_first (b ∷ line) after h =
     let parts = and_parts (not (b == 10)) (lacks 10 line) h in
-    ap (λ (t : Bool). if t then Some ([], line ++ 10 ∷ after) else longer_line b (first_line (line ++ 10 ∷ after))) (not-true (b == 10) parts.0)
-    ∙ ap (longer_line b) (line_first line after parts.1)
+    rw (not-true (b == 10) parts.0) (ap (longer_line b) (line_first line after parts.1))
 
 no_first : (text : List ℕ) → lacks 10 text ≡ true → first_line text ≡ None
 no_first [] h = refl
 no_first (b ∷ text) h =
     let parts = and_parts (not (b == 10)) (lacks 10 text) h in
-    ap (λ (t : Bool). if t then Some ([], text) else longer_line b (first_line text)) (not-true (b == 10) parts.0)
-    ∙ ap (longer_line b) (no_first text parts.1)
+    rw (not-true (b == 10) parts.0) (ap (longer_line b) (no_first text parts.1))
 
 abbrev refused : BadLine → Reading
 refused fault = Err fault
@@ -62,7 +60,7 @@ here play number left found reason fault first is h =
       good = tt;
       whole = refl;
       number = omega arith;
-      bad = subst (λ (o : Option (List ℕ × List ℕ)). IsBadHere play left o reason) (sym first) h;
+      bad = rw first h;
     })
 
 tail_bad : (play : Option ℕ) (number : ℕ) (tail : List ℕ) (fault : BadLine) → lacks 10 tail ≡ true → tail_read play number tail ≡ refused fault → IsRefused play number tail fault
@@ -90,8 +88,8 @@ lines_bad play number (text ∷ texts) tail fault h i e =
             before = line ∷ r.before;
             left = r.left;
             good = (said.0, r.good);
-            whole = ap (λ (t : List ℕ). t ++ 10 ∷ unsplit texts tail) said.1 ∙ ap (λ (t : List ℕ). line_text line ++ 10 ∷ t) r.whole ∙ sym (append_assoc (line_text line) (10 ∷ script_text r.before) r.left);
-            number = omega (arith, r.number);
+            whole = rw (said.1, r.whole) (sym (append_assoc (line_text line) (10 ∷ script_text r.before) r.left));
+            number = omega arith;
             bad = r.bad;
           })
 
@@ -99,7 +97,7 @@ refused_at : (play : Option ℕ) (text : List ℕ) (fault : BadLine) → script_
 unfolding script_read
 refused_at play text fault e =
     let lack = lines_lack text in
-    subst (λ (t : List ℕ). IsRefused play 1 t fault) (sym (text_split text)) (lines_bad play 1 (lines_of text).lines (lines_of text).tail fault lack.0 lack.1 e)
+    rw (text_split text) (lines_bad play 1 (lines_of text).lines (lines_of text).tail fault lack.0 lack.1 e)
 
 pub refuses_first : RefusesFirst
 refuses_first = record { at = refused_at }

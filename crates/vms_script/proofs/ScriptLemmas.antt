@@ -25,7 +25,7 @@ at_byte : (b : ℕ) (text : List ℕ) (t : Bool) → lines_of text ≡ by_first 
     → (if t then record { lines = [] ∷ (lines_of text).lines; tail = (lines_of text).tail } else begun b (lines_of text).lines (lines_of text).tail)
     ≡ by_first (if t then Some ([], text) else longer_line b (first_line text)) (b ∷ text)
 at_byte b text true is = refl
-at_byte b text false is = ap (λ (s : Split). begun b s.lines s.tail) is ∙ begun_first b text (first_line text)
+at_byte b text false is = rw is (begun_first b text (first_line text))
 
 lines_first : (text : List ℕ) → lines_of text ≡ by_first (first_line text) text
 lines_first [] = refl
@@ -36,19 +36,17 @@ read_split play number split = lines_read play number split.lines split.tail
 
 text_first : (play : Option ℕ) (number : ℕ) (text line after : List ℕ) → first_line text ≡ Some (line, after)
     → text_read play number text ≡ with_line number (line_read play line) (text_read play (number + 1) after)
-text_first play number text line after e =
-    ap (read_split play number) (lines_first text) ∙ ap (λ (o : Option (List ℕ × List ℕ)). read_split play number (by_first o text)) e
+text_first play number text line after e = ap (read_split play number) (lines_first text) ∙ ap (λ o. read_split play number (by_first o text)) e
 
 text_last : (play : Option ℕ) (number : ℕ) (text : List ℕ) → first_line text ≡ None → text_read play number text ≡ tail_read play number text
-text_last play number text e =
-    ap (read_split play number) (lines_first text) ∙ ap (λ (o : Option (List ℕ × List ℕ)). read_split play number (by_first o text)) e
+text_last play number text e = ap (read_split play number) (lines_first text) ∙ ap (λ o. read_split play number (by_first o text)) e
 
 abbrev pub after_lines : List ScriptLine → Reading → Reading
 after_lines before (Ok lines) = Ok (before ++ lines)
 after_lines before (Err fault) = Err fault
 
 after_also : (before : List ScriptLine) (line : ScriptLine) (reading : Reading) → after_lines (before ++ line ∷ []) reading ≡ after_lines before (also line reading)
-after_also before line (Ok lines) = ap (λ (all : List ScriptLine). Ok all) (append_assoc before (line ∷ []) lines)
+after_also before line (Ok lines) = rw (append_assoc before (line ∷ []) lines)
 after_also before line (Err fault) = refl
 
 -- a good line
@@ -57,17 +55,17 @@ pub line_goes : (before : List ScriptLine) (play : Option ℕ) (number : ℕ) (t
 line_goes before play number text line after said first good =
     after_also before said (text_read play (number + 1) after)
     ∙ sym (ap (after_lines before) (text_first play number text line after first
-    ∙ ap (λ (r : Read). with_line number r (text_read play (number + 1) after)) good))
+    ∙ ap (λ r. with_line number r (text_read play (number + 1) after)) good))
 
 -- a bad line
 pub line_stops : (before : List ScriptLine) (play : Option ℕ) (number : ℕ) (text line after : List ℕ) (reason : ScriptReason) → first_line text ≡ Some (line, after) → line_read play line ≡ Err reason
     → after_lines before (text_read play number text) ≡ bad number reason
 line_stops before play number text line after reason first is =
-    ap (after_lines before) (text_first play number text line after first ∙ ap (λ (r : Read). with_line number r (text_read play (number + 1) after)) is)
+    ap (after_lines before) (text_first play number text line after first ∙ ap (λ r. with_line number r (text_read play (number + 1) after)) is)
 
 -- the end of the text, or a last line without its end
 pub text_ends : (before : List ScriptLine) (play : Option ℕ) (number : ℕ) (text : List ℕ) → first_line text ≡ None → length text ≡ 0 → after_lines before (text_read play number text) ≡ Ok before
-text_ends before play number [] first none = ap (λ (all : List ScriptLine). Ok all) (append-nil before)
+text_ends before play number [] first none = rw (append-nil before)
 text_ends before play number (b ∷ text) first none = absurd (omega arith)
 
 abbrev pub tail_reason : Read → ScriptReason
@@ -85,18 +83,17 @@ tail_stops before play number (b ∷ text) first some =
     ap (after_lines before) (text_last play number (b ∷ text) first) ∙ unended_is before number (line_read play (b ∷ text))
 
 pub reads_lines : (reading : Reading) (lines : List ScriptLine) → reading ≡ Ok lines → SaysLines reading lines
-reads_lines reading lines e = subst (λ (r : Reading). SaysLines r lines) (sym e) refl
+reads_lines reading lines e = rw e refl
 
 pub reads_bad : (reading : Reading) (number : ℕ) (reason : ScriptReason) → reading ≡ bad number reason → IsBadAt reading number reason
-reads_bad reading number reason e = subst (λ (r : Reading). IsBadAt r number reason) (sym e) (refl, refl)
+reads_bad reading number reason e = rw e (refl, refl)
 
 -- what a line says is after what was said before
 pub line_put : (before : List ScriptLine) (play : Option ℕ) (number : ℕ) (text line after : List ℕ) (all : List ScriptLine) → first_line text ≡ Some (line, after) → IsPut (line_read play line) before all
     → after_lines all (text_read play (number + 1) after) ≡ after_lines before (text_read play number text)
 line_put before play number text line after all first put = by (line_read play line) refl put where
   by : (read : Read) → line_read play line ≡ read → IsPut read before all → after_lines all (text_read play (number + 1) after) ≡ after_lines before (text_read play number text)
-  by (Ok said) good h =
-      ap (λ (lines : List ScriptLine). after_lines lines (text_read play (number + 1) after)) h ∙ line_goes before play number text line after said first good
+  by (Ok said) good h = rw h (line_goes before play number text line after said first good)
   by (Err reason) bad h = absurd h
 
 -- a last line that says something lacks only its end
@@ -109,7 +106,7 @@ pub refused : {V : Type 0} (lines : V) (items : V → List ScriptLine) (reading 
     → ((reason : ScriptReason) → read ≡ Err reason → reading ≡ bad number reason) → IsRefusal read number fault → ReadsLines items reading (Err fault)
 refused lines items reading (Ok line) number (Bad n reason) is h = absurd h
 refused lines items reading (Err why) number (Bad n reason) is h =
-    reads_bad reading n reason (is why refl ∙ ap (λ (k : ℕ). bad k why) (sym h.0) ∙ ap (λ (r : ScriptReason). bad n r) (sym h.1))
+    reads_bad reading n reason (is why refl ∙ ap (λ k. bad k why) (sym h.0) ∙ ap (λ r. bad n r) (sym h.1))
 refused lines items reading read number NoMemory is h = tt
 
 pub is_empty : (text : List ℕ) → (length text == 0) ≡ true → length text ≡ 0

@@ -7,7 +7,7 @@ use Rattle.vms_script.proofs.event.read_event.Goals as goal
 short : (play : Option ℕ) (word rest : List ℕ) → length word < 2 → line_of_words play word rest ≡ play_line play word rest
 short play [] rest below = refl
 short play (a ∷ []) rest below = simp and-false refl
-short play (a ∷ b ∷ more) rest below = absurd (omega (arith, below))
+short play (a ∷ b ∷ more) rest below = absurd (omega arith)
 
 pub returns-in_default : goal.returns-in_default
 returns-in_default c = λ play. short play c.args.word.now c.args.rest.now c.in_default.len_below

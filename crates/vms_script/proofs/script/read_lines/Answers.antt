@@ -43,7 +43,7 @@ returns-in-Ok-put_line g c =
     (sym c.loop-next.invariant.reads
     ∙ tail_stops (map g.L.Kept.said c.loop-next.lines.items) c.args.play c.loop-next.number c.loop-next.rest.now
     (first_none (first_line c.loop-next.rest.now) c.in_default.ensures.first) (is_some c.loop-next.rest.now (sym c.is_empty.ensures ∙ c.if-is_empty.false))
-    ∙ ap (λ (reason : ScriptReason). bad c.loop-next.number reason)
+    ∙ ap (λ reason. bad c.loop-next.number reason)
     (put_unended (map g.L.Kept.said c.loop-next.lines.items) (map g.L.Kept.said c.put_line-2.new.lines.items) (line_read c.args.play c.loop-next.rest.now) c.in-Ok-put_line.ensures.put)))
 
 pub returns : goal.returns

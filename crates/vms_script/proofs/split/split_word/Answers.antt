@@ -11,20 +11,16 @@ loop-place-preserved c = none_here 32 c.args.line.now c.loop-place.place c.if-by
 
 pub returns-then-byte-eq32-clause-word : goal.returns-then-byte-eq32-clause-word
 returns-then-byte-eq32-clause-word c =
-    sym (ap (λ (s : List ℕ × Option (List ℕ)). s.0)
-    (found_word c.args.line.now c.loop-place.place c.loop-place-test.true c.if-byte-eq32.true c.loop-place.invariant))
+    sym (rw (found_word c.args.line.now c.loop-place.place c.loop-place-test.true c.if-byte-eq32.true c.loop-place.invariant))
 
 pub returns-then-byte-eq32-clause-rest : goal.returns-then-byte-eq32-clause-rest
 returns-then-byte-eq32-clause-rest c =
     let rest : take (length c.args.line.now - (c.loop-place.place + 1)) (drop (c.loop-place.place + 1) c.args.line.now) ≡ drop (c.loop-place.place + 1) c.args.line.now = grind (arith, common_steps) in
     ap (λ (r : List ℕ). Some r) rest
-    ∙ sym (ap (λ (s : List ℕ × Option (List ℕ)). s.1)
-    (found_word c.args.line.now c.loop-place.place c.loop-place-test.true c.if-byte-eq32.true c.loop-place.invariant))
+    ∙ sym (rw (found_word c.args.line.now c.loop-place.place c.loop-place-test.true c.if-byte-eq32.true c.loop-place.invariant))
 
 pub returns-clause-word : goal.returns-clause-word
-returns-clause-word c =
-    sym (ap (λ (s : List ℕ × Option (List ℕ)). s.0) (no_blank c.args.line.now c.loop-place.place c.loop-place-test.false c.loop-place.invariant))
+returns-clause-word c = sym (rw (no_blank c.args.line.now c.loop-place.place c.loop-place-test.false c.loop-place.invariant))
 
 pub returns-clause-rest : goal.returns-clause-rest
-returns-clause-rest c =
-    sym (ap (λ (s : List ℕ × Option (List ℕ)). s.1) (no_blank c.args.line.now c.loop-place.place c.loop-place-test.false c.loop-place.invariant))
+returns-clause-rest c = sym (rw (no_blank c.args.line.now c.loop-place.place c.loop-place-test.false c.loop-place.invariant))
