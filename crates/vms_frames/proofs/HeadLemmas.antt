@@ -44,9 +44,7 @@ head_same n unit rest long =
     )
 
 pub head_long : (unit : List ℕ) → length unit ≡ 14 + get_or unit 5 0 → length unit ≡ step_long (Section (head_in unit))
-head_long unit long =
-    let n = get_or unit 5 0 in
-    rw (length-take-le n (drop 6 unit) (omega (arith, length-drop 6 unit))) long
+head_long unit long = rw (length-take-le (get_or unit 5 0) (drop 6 unit) (omega (arith, length-drop 6 unit))) long
 
 pub head_whole : (unit rest : List ℕ) → length unit ≡ 14 + get_or unit 5 0
     → head_seen (unit ++ rest) ≡ Good (unit_of_step (Section (head_in unit))) (step_long (Section (head_in unit)))
@@ -72,9 +70,7 @@ sub_cut unit rest some few =
     cut_short (AfterFields 0 tails.Unknown) nothing_known (6 + get_or (unit ++ rest) 1 0) (unit ++ rest) _ (omega (arith, length-append unit rest))
 
 pub sub_whole_long : (unit : List ℕ) → length unit ≡ 6 + get_or unit 1 0 → length unit ≡ 6 + length (sub_head_in unit).name.items
-sub_whole_long unit long =
-    let n = get_or unit 1 0 in
-    rw (length-take-le n (drop 2 unit) (omega (arith, length-drop 2 unit))) long
+sub_whole_long unit long = rw (length-take-le (get_or unit 1 0) (drop 2 unit) (omega (arith, length-drop 2 unit))) long
 
 pub sub_whole : (unit rest : List ℕ) → length unit ≡ 6 + get_or unit 1 0
     → sub_seen (unit ++ rest) ≡ Good (ASub (sub_head_in unit).name.items (sub_head_in unit).version) (6 + length (sub_head_in unit).name.items)
@@ -166,7 +162,7 @@ module _ (d : Due) (k : Known) (mark longest : ℕ) (piece : List ℕ → Piece)
   text_came : (unit rest : List ℕ) → 5 ≤ length unit
       → text_seen (unit ++ rest) ≡ text_by (unit ++ rest) (number_at 4 1 unit) (nat_lt longest (number_at 4 1 unit))
   unfolding text_by
-  text_came unit rest some = rw (number_of_unit 4 1 unit rest (omega (arith, some)))
+  text_came unit rest some = rw (number_of_unit 4 1 unit rest (omega arith))
 
   pub text_cut : (unit rest : List ℕ) → 5 ≤ length unit → number_at 4 1 unit ≤ longest → length unit + length rest < 5 + number_at 4 1 unit
       → text_seen (unit ++ rest) ≡ Short

@@ -29,16 +29,14 @@ calls_behind t id at Done h = reads_as (λ n l. omega arith) (λ rest left p. p)
 -- a fault says nothing about the byte that is held
 pub calls_none_behind : {a b : Intake} (t : Tail) (id at : ℕ) (held : Option ℕ) (e : FrameFault) → ReadsBehind a b t id [] at (Err e)
     → BehindReads a b t id at held (Err e)
-calls_none_behind t id at held _ h = reads_as (λ n l. omega (arith, l)) (λ rest left p. p) h
+calls_none_behind t id at held _ h = reads_as (λ n l. omega arith) (λ rest left p. p) h
 
 -- ---- after the end mark, where a fault says nothing about the offset
 
 end_fault : (rest : List ℕ) (s : Seen) (at x y : ℕ) (left : Option (List ℕ)) (e : FrameFault) → AnswersEnd rest s at x left (Err e)
     → AnswersEnd rest s at y left (Err e)
 end_fault [] s at x y left (Refused place reason) h = h
-end_fault [] s at x y left ReadFault h = h
-end_fault (b ∷ more) s at x y left (Refused place reason) h = h
-end_fault (b ∷ more) s at x y left ReadFault h = h
+end_fault _ s at x y left _ h = h
 
 pub calls_no_end : {a b : Intake} (at behind : ℕ) (e : FrameFault) → EndReads a b at at (Err e) → EndReads a b at behind (Err e)
 calls_no_end at behind e h = reads_as (λ k l. l) (λ rest left p. end_fault rest _ at at behind (Some left) e p) h

@@ -21,7 +21,7 @@ other_there : (b : ℕ) (more : List ℕ) → (b ≡ 0x06 → ⊥) → seen Afte
 unfolding trailer_at
 other_there b more other =
     rw (ne_eqb b 0x06 other)
-    (seen_whole AfterEnd nothing_known 1 (b ∷ more) (Mark b) (omega arith) ∙ ap (λ (o : Option (Option ℕ × Reason)). seen_by o (Mark b) 1)
+    (seen_whole AfterEnd nothing_known 1 (b ∷ more) (Mark b) (omega arith) ∙ ap (λ o. seen_by o (Mark b) 1)
     (trailing_row b))
 
 -- the read of its first byte failed

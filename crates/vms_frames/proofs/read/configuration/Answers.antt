@@ -29,12 +29,11 @@ returns-then-length-gt-LONGEST_NAME g c =
     let one = c.in_ok-grow.ensures.grown in
     let unit = c.grow.new.unit.items in
     let long : length unit ≡ 5 = omega arith in
-    let high : LONGEST_NAME < number_at 4 1 unit = search rules in
     record {
       reads = unit_on (a_step configuration_seen) c.args.at (Err c.refused.result) one
           (unit_refused (a_step configuration_seen) unit c.args.at 5 reasons.WrongMachine c.refused.result c.refused.ensures
           (g.met.S.Source.counted c.grow.new.source) long (omega arith)
-          (λ rest. text_above (IsBetween true false) nothing_known 0x07 LONGEST_NAME AUnit unit rest long high));
+          (λ rest. text_above (IsBetween true false) nothing_known 0x07 LONGEST_NAME AUnit unit rest long (search rules)));
     }
 
 pub returns : goal.returns

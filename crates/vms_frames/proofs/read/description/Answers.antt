@@ -21,11 +21,10 @@ returns-then-length-gt-LONGEST_TEXT-clause-reads g c =
     let unit = 0x06 ∷ bytes in
     let four : length bytes ≡ 4 = search rules in
     let long : length unit ≡ 5 = omega arith in
-    let high : LONGEST_TEXT < number_at 4 1 unit = search rules in
     unit_behind a_text (0x06 ∷ []) unit c.args.at (Err c.refused.result) refl c.in_ok-fill.ensures.came
     (unit_refused a_text unit c.args.at 5 reasons.DescriptionTooLong c.refused.result c.refused.ensures (g.met.S.Source.counted c.fill.new.source) long
     (omega arith)
-    (λ rest. sym (description_there (bytes ++ rest)) ∙ text_above AfterEnd nothing_known 0x06 LONGEST_TEXT Description unit rest long high))
+    (λ rest. sym (description_there (bytes ++ rest)) ∙ text_above AfterEnd nothing_known 0x06 LONGEST_TEXT Description unit rest long (search rules)))
 
 pub returns-in_err-pass-clause-reads : goal.returns-in_err-pass-clause-reads
 returns-in_err-pass-clause-reads g c =
@@ -50,7 +49,6 @@ returns-clause-reads g c =
     let n = c.read_u32-length.result in
     let four : length bytes ≡ 4 = search rules in
     let long : length unit ≡ 5 = omega arith in
-    let same : n ≡ number_at 4 1 unit = search rules in
     let low : n ≤ LONGEST_TEXT = search rules in
     unit_behind a_text (0x06 ∷ []) unit c.args.at (Ok (5 + n)) refl c.in_ok-fill.ensures.came
     (unit_passed a_text unit c.args.at (5 + n) (omega arith)
@@ -58,4 +56,4 @@ returns-clause-reads g c =
     sym (description_there (bytes ++ rest))
     ∙ text_whole AfterEnd nothing_known 0x06 LONGEST_TEXT Description unit rest (omega arith) (omega arith) (omega arith)
     ∙ ap (λ k. Good (Description (bytes_at k 5 (unit ++ rest))) (5 + number_at 4 1 unit)) (sym (number_of_unit 4 1 unit rest (omega arith)))
-    ∙ ap (λ k. Good (described (unit ++ rest)) (5 + k)) (sym same)) c.in_ok-pass.ensures.passed)
+    ∙ ap (λ k. Good (described (unit ++ rest)) (5 + k)) (sym (search rules))) c.in_ok-pass.ensures.passed)

@@ -16,11 +16,10 @@ returns-then-of-id g c =
     let one = c.in_ok-grow.ensures.grown in
     let unit = c.grow.new.unit.items in
     let long : length unit ≡ 5 = omega arith in
-    let other : number_at 4 1 unit ≡ c.args.id → ⊥ = search rules in
     unit_on (a_foot c.args.id) c.args.at (Err c.no_footer.result) one
     (unit_refused (a_foot c.args.id) unit c.args.at 5 reasons.BadFooter c.no_footer.result c.no_footer.ensures (g.met.S.Source.counted c.grow.new.source) long
     (omega arith)
-    (λ rest. foot_wrong c.args.id unit rest long other))
+    (λ rest. foot_wrong c.args.id unit rest long (search rules)))
 
 pub returns : goal.returns
 returns g c =
