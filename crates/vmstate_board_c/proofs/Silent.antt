@@ -1,21 +1,10 @@
 -- By an access no byte leaves a board.
-use Rattle.std.proofs.Common.{◌≡◌, ℕ, ◌-◌, ◌≤◌, ◌==◌, Bool, true, false, List, [], ◌++◌, Option, None, Some, refl, sym, ap, ◌∙◌, append-nil, arith, inl, inr}
-use Rattle.std.proofs.lemmas.Bool.Decides.{nat_tests}
-use Rattle.std.specs.Prelude.{nat_lt, is_some, IfSome, MatchOption}
-use Rattle.dev_base.proofs.Choices.{either}
-use Rattle.dev_board.specs.State.{State}
-use Rattle.dev_board.specs.Step.{acted, after_act, step}
-use Rattle.dev_board.specs.declared.event.Answer.{Answer}
-use Rattle.dev_board.specs.declared.event.Event.{Event}
-use Rattle.dev_board.specs.declared.event.Event.TheVariants.{Read, Write, Byte, Wait, Wire, Ack}
-use Rattle.dev_clock.specs.State.{ClockState}
-use Rattle.dev_board.specs.Touch.{saying}
-use Rattle.dev_clock.specs.Step.{acted as clock_acted, follows_line, saying as clock_saying, step as clock_step}
-use Rattle.vmstate_board_c.specs.Answers.{IsAccess, Reaches, acts, acts_after, event_at, said, time_to}
-use Rattle.vmstate_board_c.specs.Kinds.{now_of, step_of}
-use Rattle.vmstate_board_c.specs.declared.answer.CAnswer.{CAnswer}
-use Rattle.vmstate_board_c.specs.declared.held.AnyBoard.{AnyBoard}
-use Rattle.vmstate_board_c.specs.declared.held.AnyBoard.TheVariants.{Isa, Clock}
+use Rattle.vmstate_board_c.proofs.Facade.{ℕ, ◌-◌, ◌≤◌, ◌==◌, Bool, true, false, Option, ap, ◌∙◌, append-nil, arith, inl, inr, nat_tests, nat_lt, is_some}
+use Rattle.vmstate_board_c.proofs.Facade.{IfSome, MatchOption, either, State, acted, after_act, step, Answer, Event, Read, Write, Byte, Wait, Wire, Ack}
+use Rattle.vmstate_board_c.proofs.Facade.{ClockState, saying, follows_line, IsAccess, Reaches, acts, acts_after, event_at, said, time_to, now_of, step_of}
+use Rattle.vmstate_board_c.proofs.Facade.{CAnswer, AnyBoard, Isa, Clock}
+use Rattle.std.proofs.Common.{◌≡◌, List, [], ◌++◌, None, Some, refl, sym}
+use Rattle.dev_clock.specs.Step.{acted as clock_acted, saying as clock_saying, step as clock_step}
 
 silent-isa : (event : Event) (m : State) → IsAccess event → (step event m).0.sent.items ≡ []
 unfolding step after_act acted

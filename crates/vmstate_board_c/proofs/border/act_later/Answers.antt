@@ -1,5 +1,5 @@
-use Rattle.std.proofs.Common.{ℕ, List, ap, ◌∙◌}
-use Rattle.vmstate_board_c.specs.Answers.{said}
+use Rattle.vmstate_board_c.proofs.Facade.{ℕ, ap, ◌∙◌, said}
+use Rattle.std.proofs.Common.{List}
 use Rattle.vmstate_board_c.proofs.Silent.{later_said}
 use Rattle.vmstate_board_c.proofs.border.act_later.Goals as goal
 

@@ -1,6 +1,5 @@
-use Rattle.std.proofs.Common.{rules, ◌≡◌}
-use Rattle.vmstate_board_c.specs.Kinds.{step_of}
-use Rattle.vmstate_board_c.specs.declared.held.AnyBoard.TheVariants.{Isa}
+use Rattle.vmstate_board_c.proofs.Facade.{rules, step_of, Isa}
+use Rattle.std.proofs.Common.{◌≡◌}
 use Rattle.vmstate_board_c.proofs.Silent.{at_reached}
 use Rattle.vmstate_board_c.proofs.held.AnyBoard.quick_event.Goals as goal
 
