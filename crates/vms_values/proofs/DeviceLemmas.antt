@@ -87,18 +87,17 @@ from_start set text start None v e s =
       machine = ap (machine_of set) s.0;
       known = subst (λ (m : Option ℕ). ForSome m (λ k. k < length set.machines)) (sym s.0) (search rules);
     }
-from_start set text start (Some name) v e s = by start.machine refl s.0
-  where
-    by : (m : Option ℕ) → start.machine ≡ m → NamesMachine set.machines name m → Said set v start
-    by None q h = absurd h
-    by (Some m) q h =
-        record {
-          name = Some name;
-          is = e ∙ ap (λ (n : ℕ). ended set (Some name) (read_devices set set.devices n (rest_of (first_line text)))) (sym s.1)
-              ∙ ap (λ (l : List ℕ). ended set (Some name) (read_devices set set.devices start.lines.line l)) (sym s.2);
-          machine = ap (machine_of set) q ∙ ap (λ (n : List ℕ). Some n) h.1;
-          known = subst (λ (x : Option ℕ). ForSome x (λ k. k < length set.machines)) (sym q) (search (rules, h.0));
-        }
+from_start set text start (Some name) v e s = by start.machine refl s.0 where
+  by : (m : Option ℕ) → start.machine ≡ m → NamesMachine set.machines name m → Said set v start
+  by None q h = absurd h
+  by (Some m) q h =
+      record {
+        name = Some name;
+        is = e ∙ ap (λ (n : ℕ). ended set (Some name) (read_devices set set.devices n (rest_of (first_line text)))) (sym s.1)
+            ∙ ap (λ (l : List ℕ). ended set (Some name) (read_devices set set.devices start.lines.line l)) (sym s.2);
+        machine = ap (machine_of set) q ∙ ap (λ (n : List ℕ). Some n) h.1;
+        known = subst (λ (x : Option ℕ). ForSome x (λ k. k < length set.machines)) (sym q) (search (rules, h.0));
+      }
 
 pub top : (set : Set) (machines : List (List ℕ)) (text : List ℕ) (start : Start) → machines ≡ set.machines → StartsAt machines text (machine_named machines (first_line text)) start → Said set (values_read set text) start
 unfolding values_read
@@ -116,20 +115,19 @@ after_device go (Ok (r, p)) = with_device r (go p.line p.rest)
 after_device go (Err b) = Err b
 
 one_device : (set : Set) (d : Device) (p : Standing) (go : ℕ → List ℕ → Result ReadAll BadLine) → read_device set d p go ≡ after_device go (device_read set d p)
-one_device set d p go = by (is_line (section_line d) (first_line p.rest))
-  where
-    subs : Result ReadSubs BadLine
-    subs = then_subs (read_desc (readers set) d.desc d.desc.version [] true 0 (next_line p)) (read_subs set (own_cells set d) d.subs)
+one_device set d p go = by (is_line (section_line d) (first_line p.rest)) where
+  subs : Result ReadSubs BadLine
+  subs = then_subs (read_desc (readers set) d.desc d.desc.version [] true 0 (next_line p)) (read_subs set (own_cells set d) d.subs)
 
-    whole : (x : Result ReadSubs BadLine) → device_reads d p.line x go ≡ after_device go (found d p.line x)
-    whole (Ok r) = refl
-    whole (Err b) = refl
+  whole : (x : Result ReadSubs BadLine) → device_reads d p.line x go ≡ after_device go (found d p.line x)
+  whole (Ok r) = refl
+  whole (Err b) = refl
 
-    by : (t : Bool)
-        → (if t then device_reads d p.line (then_subs (read_desc (readers set) d.desc d.desc.version [] true 0 (next_line p)) (read_subs set (own_cells set d) d.subs)) go else Err (record { line = p.line; reason = reasons.Form }))
-        ≡ after_device go (if t then found d p.line (then_subs (read_desc (readers set) d.desc d.desc.version [] true 0 (next_line p)) (read_subs set (own_cells set d) d.subs)) else Err (record { line = p.line; reason = reasons.Form }))
-    by true = whole (then_subs (read_desc (readers set) d.desc d.desc.version [] true 0 (next_line p)) (read_subs set (own_cells set d) d.subs))
-    by false = refl
+  by : (t : Bool)
+      → (if t then device_reads d p.line (then_subs (read_desc (readers set) d.desc d.desc.version [] true 0 (next_line p)) (read_subs set (own_cells set d) d.subs)) go else Err (record { line = p.line; reason = reasons.Form }))
+      ≡ after_device go (if t then found d p.line (then_subs (read_desc (readers set) d.desc d.desc.version [] true 0 (next_line p)) (read_subs set (own_cells set d) d.subs)) else Err (record { line = p.line; reason = reasons.Form }))
+  by true = whole (then_subs (read_desc (readers set) d.desc d.desc.version [] true 0 (next_line p)) (read_subs set (own_cells set d) d.subs))
+  by false = refl
 
 or_none : (o : Option BadLine) → or_bad o None ≡ o
 or_none None = refl
@@ -238,11 +236,10 @@ after_sub line go (Err b) = Err b
 
 one_sub : (set : Set) (s : Sub) (at : ℕ) (p : Standing) (o : Option (Option ℕ)) (go : Standing → Result ReadSubs BadLine) → read_sub set s at p o go ≡ after_sub p.line go (said_read set s at p o)
 one_sub set s at p None go = refl
-one_sub set s at p (Some came) go = by (read_desc (readers set) s.desc s.desc.version [] true at (next_line p))
-  where
-    by : (r : Read) → also came p.line (then_subs r go) ≡ after_sub p.line go (with_came came r)
-    by (Ok q) = refl
-    by (Err b) = refl
+one_sub set s at p (Some came) go = by (read_desc (readers set) s.desc s.desc.version [] true at (next_line p)) where
+  by : (r : Read) → also came p.line (then_subs r go) ≡ after_sub p.line go (with_came came r)
+  by (Ok q) = refl
+  by (Err b) = refl
 
 next_sub : (set : Set) (i j : ℕ) (p : Standing) → j < length (device_at set i).subs
     → read_subs set (first_cell set (parts.Sub i j)) (drop j (device_at set i).subs) p
@@ -265,11 +262,10 @@ pub record Follows (start : Result ReadSubs BadLine) (n : ℕ) (came : List (Opt
   pub whole : with_subs (take n came) lines left ≡ start
 
 pub follows_none : (start : Result ReadSubs BadLine) (came : List (Option ℕ)) (lines : List ℕ) (left : Result ReadSubs BadLine) → lines ≡ [] → left ≡ start → Follows start 0 came lines left
-follows_none start came lines left e f = record { whole = ap (λ (l : List ℕ). with_subs [] l left) e ∙ by left ∙ f }
-  where
-    by : (r : Result ReadSubs BadLine) → with_subs [] [] r ≡ r
-    by (Ok r) = refl
-    by (Err b) = refl
+follows_none start came lines left e f = record { whole = ap (λ (l : List ℕ). with_subs [] l left) e ∙ by left ∙ f } where
+  by : (r : Result ReadSubs BadLine) → with_subs [] [] r ≡ r
+  by (Ok r) = refl
+  by (Err b) = refl
 
 more_subs : (came : List (Option ℕ)) (lines : List ℕ) (o : Option ℕ) (line : ℕ) (r : Result ReadSubs BadLine) → with_subs came lines (also o line r) ≡ with_subs (came ++ o ∷ []) (lines ++ line ∷ []) r
 more_subs came lines o line (Err b) = refl

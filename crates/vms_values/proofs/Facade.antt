@@ -3,7 +3,7 @@ pub use Rattle.std.proofs.Common.{Bool, Err, IfOk, List, MatchOption, None, Ok, 
 pub use Rattle.std.proofs.Common.{drop, drop-drop, false, get_or, if◌then◌else◌, length, length-append, length-drop, length-take, lt_of_mul-lt-mul_right, map}
 pub use Rattle.std.proofs.Common.{nat_le, nat_lt, not, pos, refl, rules, slice_set, subst, suc, sum_by, sym, take, true, zero, ℕ, ℤ, ◌%◌, ◌&&◌, ◌*◌, ◌++◌, ◌+◌}
 pub use Rattle.std.proofs.Common.{◌-◌, ◌/◌, ◌<◌, ◌==◌, ◌^◌, ◌||◌, ◌∙◌, ◌∷◌, ◌≡◌, ◌≤◌}
-pub use Rattle.std.proofs.Math.Bool.{and-true, and_assoc}
+pub use Rattle.std.proofs.Math.Bool.{and-false, and-true, and_assoc}
 pub use Rattle.std.proofs.Math.Facts.{to_z-of_z}
 pub use Rattle.std.proofs.Math.Nat.{mod-lt, pow-suc}
 pub use Rattle.std.proofs.Math.Seq.{drop-append_seam, get_or-append_right}

@@ -141,14 +141,13 @@ module _ (ms : List Meaning) (all : AllTrue ms) where
   item_true (Struct j) caps n at = all j n at
 
   field_true : (fields : List Field) (v : ℕ) (own : ℕ → ℕ) (n : List ℤ) (i at : ℕ) (f : Field) → rules_are_true (field_slots ms fields v own n i at f) ≡ true
-  field_true fields v own n i at f = by (is_there f.test f.since v own no_parent)
-    where
-      part : ℕ → List Slot
-      part = item_slots ms f.item (counted i fields) n
+  field_true fields v own n i at f = by (is_there f.test f.since v own no_parent) where
+    part : ℕ → List Slot
+    part = item_slots ms f.item (counted i fields) n
 
-      by : (b : Bool) → rules_are_true (if b then times (elements_of f.count own) part at (item_size (map (λ m. m.cells) ms) f.item) else []) ≡ true
-      by true = times_true part (λ at. item_true f.item (counted i fields) n at) (elements_of f.count own) at (item_size (map (λ m. m.cells) ms) f.item)
-      by false = refl
+    by : (b : Bool) → rules_are_true (if b then times (elements_of f.count own) part at (item_size (map (λ m. m.cells) ms) f.item) else []) ≡ true
+    by true = times_true part (λ at. item_true f.item (counted i fields) n at) (elements_of f.count own) at (item_size (map (λ m. m.cells) ms) f.item)
+    by false = refl
 
   fields_true : (fields : List Field) (v : ℕ) (own : ℕ → ℕ) (n : List ℤ) (i at : ℕ) (fs : List Field) → rules_are_true (slots_from ms fields v own n i at fs) ≡ true
   fields_true fields v own n i at [] = refl
@@ -175,13 +174,12 @@ meanings_true ds none (suc k) j n at =
 -- no structure has validations
 unruled_at : (ds : List Described) → list_all (λ d. length d.validate == 0) ds ≡ true → (k : ℕ) → (get_or (map desc_of ds) k no_desc).validate ≡ []
 unruled_at [] h k = refl
-unruled_at (d ∷ ds) h k = by d.validate (list_all (λ d. length d.validate == 0) ds) h (unruled_at ds) k
-  where
-    by : (ts : List Test) (rest : Bool) → ((length ts == 0) && rest) ≡ true → (rest ≡ true → (k : ℕ) → (get_or (map desc_of ds) k no_desc).validate ≡ [])
-        → (k : ℕ) → (get_or (record { name = d.name; version = d.version; minimum = d.minimum; fields = (desc_of d).fields; validate = map formula ts } ∷ map desc_of ds) k no_desc).validate ≡ []
-    by [] rest h later zero = refl
-    by [] rest h later (suc k) = later h k
-    by (t ∷ ts) rest h later k = absurd (omega (arith, eqb-true (length (t ∷ ts)) 0 (and_parts _ _ h).0))
+unruled_at (d ∷ ds) h k = by d.validate (list_all (λ d. length d.validate == 0) ds) h (unruled_at ds) k where
+  by : (ts : List Test) (rest : Bool) → ((length ts == 0) && rest) ≡ true → (rest ≡ true → (k : ℕ) → (get_or (map desc_of ds) k no_desc).validate ≡ [])
+      → (k : ℕ) → (get_or (record { name = d.name; version = d.version; minimum = d.minimum; fields = (desc_of d).fields; validate = map formula ts } ∷ map desc_of ds) k no_desc).validate ≡ []
+  by [] rest h later zero = refl
+  by [] rest h later (suc k) = later h k
+  by (t ∷ ts) rest h later k = absurd (omega (arith, eqb-true (length (t ∷ ts)) 0 (and_parts _ _ h).0))
 
 pub own_rules : (set : Set) (ds : List Described) (spot : PartAt) (n : List ℤ) → map desc_of ds ≡ set.structs → list_all (λ d. length d.validate == 0) ds ≡ true
     → all_hold (desc_at set spot.part).validate spot.version (own_numbers set spot.part n spot.base) ≡ rules_are_true (spot_slots set spot n)

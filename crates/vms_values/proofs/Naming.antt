@@ -74,16 +74,18 @@ module _ (set : Set) where
       let own = numbers_of (cells_in (usable set part)) d [] 0 in
       desc_names_are (usable set part) (walked_in part h) d 0 [] 0 ∙ (fields_walk (usable set part) (walked_in part h) d.fields 0 0 own no_parent [] [] 0 0 0 d.fields).names
 
+  item_step : (part : Part) → HasPart set part → (item : Item) → uses_below (reach set part) item ≡ true
+      → item_size (cells_in (usable set part)) item ≡ size_in set item
+  item_step part h item uses =
+      sym (long_in (usable set part) (walked_in part h) item) ∙ ap (λ (t : List Shape). length (names_of (item_elements t item [] (pos 0) [] 0))) (usable_is part h)
+      ∙ ap length (item_in (reach set part) (reach_whole set part h) item uses [] (pos 0) [] 0) ∙ item_long item
+
   field_long : (part : Part) → HasPart set part → (k : ℕ) (f : Field) → uses_below (reach set part) f.item ≡ true
       → length (names_of (field_elements (usable set part) (desc_at set part).fields 0 no_parent [] k 0 f)) ≡ capacity_of f.count * size_in set f.item
   field_long part h k f uses =
       let all = (desc_at set part).fields in
       let ss = usable set part in
-      let le = reach_whole set part h in
-      let one : item_size (cells_in ss) f.item ≡ size_in set f.item =
-      sym (long_in ss (walked_in part h) f.item) ∙ ap (λ (t : List Shape). length (names_of (item_elements t f.item [] (pos 0) [] 0))) (usable_is part h)
-      ∙ ap length (item_in (reach set part) le f.item uses [] (pos 0) [] 0) ∙ item_long f.item in
-      names_long (field_elements ss all 0 no_parent [] k 0 f) ∙ ap length (field_walks ss (walked_in part h) all 0 0 no_parent no_parent [] [] k 0 0 f).cells_are ∙ field_size (cells_in ss) all k f ∙ ap (λ (s : ℕ). capacity_of f.count * s) one
+      names_long (field_elements ss all 0 no_parent [] k 0 f) ∙ ap length (field_walks ss (walked_in part h) all 0 0 no_parent no_parent [] [] k 0 0 f).cells_are ∙ field_size (cells_in ss) all k f ∙ ap (λ (s : ℕ). capacity_of f.count * s) (item_step part h f.item uses)
 
   in_field : (part : Part) → HasPart set part → (k : ℕ) (f : Field) → uses_below (reach set part) f.item ≡ true → (left : ℕ) → left < capacity_of f.count * size_in set f.item
       → get_or (names_of (field_elements (usable set part) (desc_at set part).fields 0 no_parent [] k 0 f)) left [] ≡ field_name set f left
@@ -96,9 +98,7 @@ module _ (set : Set) where
       let le = reach_whole set part h in
       let names : (a : ℕ) → names_of (item_elements ss f.item (counted k all) f.default [] a) ≡ item_names set f.item =
       λ a. ap (λ (t : List Shape). names_of (item_elements t f.item (counted k all) f.default [] a)) (usable_is part h) ∙ item_in (reach set part) le f.item uses (counted k all) f.default [] a in
-      let step_is : item_size (cells_in ss) f.item ≡ size =
-      sym (long_in ss (walked_in part h) f.item) ∙ ap (λ (t : List Shape). length (names_of (item_elements t f.item [] (pos 0) [] 0))) (usable_is part h)
-      ∙ ap length (item_in (reach set part) le f.item uses [] (pos 0) [] 0) ∙ item_long f.item in
+      let step_is : item_size (cells_in ss) f.item ≡ size = item_step part h f.item uses in
       let divided : q * size + r ≡ left = div-add-mod' left size in
       let some : 0 < size = positive (capacity_of f.count) size left small in
       let rest : r < size = mod-lt left some in
@@ -178,12 +178,11 @@ module _ (set : Set) where
       let joined : ((path ++ f.name) ++ codes "[" ++ decimal e ++ codes "]") ++ rest ≡ path ++ ((f.name ++ (codes "[" ++ (decimal e ++ codes "]"))) ++ rest) = simp append_assoc refl in
       ap (λ (l : List ℕ). ((path ++ l) ++ codes "[" ++ decimal (cell / step) ++ codes "]") ++ get_or (item_names set f.item) (cell % step) []) n
       ∙ ap (λ (k : ℕ). ((path ++ f.name) ++ codes "[" ++ decimal (cell / k) ++ codes "]") ++ get_or (item_names set f.item) (cell % k) []) s ∙ joined
-      ∙ ap (λ (l : List ℕ). path ++ ((f.name ++ l) ++ rest)) (sym (index_is f.count many e))
-    where
-      index_is : (c : Count) → (c ≡ One → ⊥) → (e : ℕ) → index_text c e ≡ codes "[" ++ (decimal e ++ codes "]")
-      index_is One other e = absurd (other refl)
-      index_is (Fixed n) other e = refl
-      index_is (Counted by most) other e = refl
+      ∙ ap (λ (l : List ℕ). path ++ ((f.name ++ l) ++ rest)) (sym (index_is f.count many e)) where
+        index_is : (c : Count) → (c ≡ One → ⊥) → (e : ℕ) → index_text c e ≡ codes "[" ++ (decimal e ++ codes "]")
+        index_is One other e = absurd (other refl)
+        index_is (Fixed n) other e = refl
+        index_is (Counted by most) other e = refl
 
 -- ---- Names from cells: a device's own fields, and its subsections one after the other.
 

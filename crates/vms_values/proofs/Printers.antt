@@ -2,14 +2,14 @@
 use Rattle.vms_values.proofs.Facade.{◌≡◌, ℕ, zero, suc, ◌+◌, ◌<◌, List, [], ◌∷◌, ◌++◌, length, get_or, map, ℤ, pos, refl, ap, ◌∙◌, arith, true, codes, ◌-◌, ◌*◌}
 use Rattle.vms_values.proofs.Facade.{◌≤◌, drop, sym, subst, Option, None, append_assoc, decimal, drop_all, drop_more, Item, Num, Equal, Unused, Struct, Count}
 use Rattle.vms_values.proofs.Facade.{One, Fixed, Counted, Field, Desc, Set, Device, Sub, AtLeast, Cell, no_desc, first, item_size, desc_cells, field_cells}
-use Rattle.vms_values.proofs.Facade.{numbers_of, elements_of, struct_cells, capacity_of, Printer, no_printer, printer, printers, item_lines}
-use Rattle.vms_values.proofs.Facade.{element_lines, array_lines, field_lines, desc_lines, line_end, version_text, sub_lines, device_lines, ItemBelow}
-use Rattle.vms_values.proofs.Facade.{FieldsBelow, all_below, item_cells_same, field_cells_same, own_same, row_same, first_cells, first_same, first_at}
-use Rattle.vms_values.proofs.Facade.{is_well_formed, struct_clean, reach, MOST_ITEMS, uses_below, field_size, elements_fit, one_fits, room_for_less, place_first}
-use Rattle.vms_values.proofs.Facade.{desc_of, field_of, field_at, own_numbers, first_cell, desc_at, sub_at, found_field, here_fields, sub_next, sub_inside}
-use Rattle.vms_values.proofs.Facade.{own_inside_device, few_cells, PartAt, HasSpot, size_in, table, cells_in, item_rank, part_rank, reach_whole, uses_more}
-use Rattle.vms_values.proofs.Facade.{rank_below, next_field, cells_table, start_after, cell_of, fields_at, IsRun, run_lines, IsOf, section_text, whole_sub, Image}
-use Rattle.vms_values.proofs.Facade.{own_cells, sub_place, device_at}
+use Rattle.vms_values.proofs.Facade.{numbers_of, elements_of, struct_cells, capacity_of, Printer, no_printer, printer, printers, item_lines, element_lines}
+use Rattle.vms_values.proofs.Facade.{array_lines, field_lines, desc_lines, line_end, version_text, sub_lines, device_lines, ItemBelow, FieldsBelow, all_below}
+use Rattle.vms_values.proofs.Facade.{item_cells_same, field_cells_same, own_same, row_same, first_cells, first_same, first_at, is_well_formed, struct_clean}
+use Rattle.vms_values.proofs.Facade.{reach, MOST_ITEMS, uses_below, field_size, elements_fit, one_fits, room_for_less, place_first, desc_of, field_of, field_at}
+use Rattle.vms_values.proofs.Facade.{own_numbers, first_cell, desc_at, sub_at, found_field, here_fields, sub_next, sub_inside, own_inside_device, few_cells}
+use Rattle.vms_values.proofs.Facade.{PartAt, HasSpot, size_in, table, cells_in, item_rank, part_rank, reach_whole, uses_more, rank_below, next_field}
+use Rattle.vms_values.proofs.Facade.{cells_table, start_after, cell_of, fields_at, IsRun, run_lines, IsOf, section_text, whole_sub, Image, own_cells, sub_place}
+use Rattle.vms_values.proofs.Facade.{device_at}
 use Rattle.vms_parts.specs.declared.types.Desc.{Desc as CodeDesc}
 use Rattle.vms_parts.specs.declared.types.Field.{Field as CodeField}
 use Rattle.vms_spec.specs.declared.Part.TheVariants as parts
@@ -99,12 +99,11 @@ module _ (set : Set) where
 
   pub array_run : (f : Field) (count : ℕ) (path : List ℕ) (n : List ℤ) (at : ℕ) → (f.count ≡ One → ⊥)
       → element_lines (printers set) f.item (path ++ f.name) n at (size_in set f.item) 0 count ≡ run_lines (printers set) f f.count count path n at
-  array_run f count path n at other = by_count f.count other
-    where
-      by_count : (c : Count) → (c ≡ One → ⊥) → element_lines (printers set) f.item (path ++ f.name) n at (size_in set f.item) 0 count ≡ run_lines (printers set) f c count path n at
-      by_count One other = absurd (other refl)
-      by_count (Fixed k) other = ap (λ (s : ℕ). element_lines (printers set) f.item (path ++ f.name) n at s 0 count) (sym (printed_size f.item))
-      by_count (Counted by most) other = ap (λ (s : ℕ). element_lines (printers set) f.item (path ++ f.name) n at s 0 count) (sym (printed_size f.item))
+  array_run f count path n at other = by_count f.count other where
+    by_count : (c : Count) → (c ≡ One → ⊥) → element_lines (printers set) f.item (path ++ f.name) n at (size_in set f.item) 0 count ≡ run_lines (printers set) f c count path n at
+    by_count One other = absurd (other refl)
+    by_count (Fixed k) other = ap (λ (s : ℕ). element_lines (printers set) f.item (path ++ f.name) n at s 0 count) (sym (printed_size f.item))
+    by_count (Counted by most) other = ap (λ (s : ℕ). element_lines (printers set) f.item (path ++ f.name) n at s 0 count) (sym (printed_size f.item))
 
   -- the lines of a part's fields from field k on
   abbrev pub fields_left : PartAt → List ℕ → List ℤ → ℕ → List ℕ

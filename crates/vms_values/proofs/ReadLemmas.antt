@@ -1,7 +1,7 @@
 -- A text that is read line by line: fronts, numbers as they are spelled, and the line of a cell.
 use Rattle.vms_values.proofs.Facade.{le-ltb, lt-ltb, ◌≡◌, ℕ, Bool, true, false, ◌&&◌, ◌==◌, List, [], ◌∷◌, ◌++◌, length, drop, refl, sym, ap, ◌∙◌, ◌+◌, Option}
-use Rattle.vms_values.proofs.Facade.{Some, None, Ok, Err, subst, arith, drop-drop, length-append, MatchOption, ◌-◌, ◌*◌, ◌^◌, ◌<◌, ◌≤◌, not, ◌||◌, nat_le}
-use Rattle.vms_values.proofs.Facade.{nat_lt, zero, suc, take, get_or, if◌then◌else◌, length-drop, ℤ, pos, slice_set, Result, codes, bytes_eq, and_assoc}
+use Rattle.vms_values.proofs.Facade.{and-false, Some, None, Ok, Err, subst, arith, drop-drop, length-append, MatchOption, ◌-◌, ◌*◌, ◌^◌, ◌<◌, ◌≤◌, not, ◌||◌}
+use Rattle.vms_values.proofs.Facade.{nat_le, nat_lt, zero, suc, take, get_or, if◌then◌else◌, length-drop, ℤ, pos, slice_set, Result, codes, bytes_eq, and_assoc}
 use Rattle.vms_values.proofs.Facade.{and-true, ltb-true, ltb-false, leb-true, and_parts, Bor, list_all, pow-suc, drop_more, drop_all, take_all}
 use Rattle.vms_values.proofs.Facade.{take-append-drop, option_and_then, begins_with, is_digit, are_digits, natural_from, number_spelled, BadLine, Standing}
 use Rattle.vms_values.proofs.Facade.{Read, bad, put_line, put_number, LineFault, Strips, with_digit, natural_spelled, read_from, held, IsBad, Reaches}
@@ -24,13 +24,11 @@ begins-append (y ∷ line) (x ∷ front) more =
 pub joined_on : (rest more piece left after : List ℕ) (whole : Bool) → bytes_eq rest left ≡ whole → left ≡ piece ++ after → begins_with piece rest ≡ true
     → more ≡ drop (length piece) rest → bytes_eq more after ≡ whole
 joined_on rest more piece left after whole inv split begins is =
-    ap (λ (l : List ℕ). bytes_eq l after) is ∙ ap (λ (t : Bool). t && bytes_eq (drop (length piece) rest) after) (sym begins)
-    ∙ sym (equal-append rest piece after) ∙ ap (bytes_eq rest) (sym split) ∙ inv
+    rw is (ap (λ t. t && bytes_eq (drop (length piece) rest) after) (sym begins) ∙ sym (equal-append rest piece after) ∙ rw (← split) inv)
 
 pub joined_off : (rest piece left after : List ℕ) (whole : Bool) → bytes_eq rest left ≡ whole → left ≡ piece ++ after → begins_with piece rest ≡ false → false ≡ whole
 joined_off rest piece left after whole inv split begins =
-    ap (λ (t : Bool). t && bytes_eq (drop (length piece) rest) after) (sym begins)
-    ∙ sym (equal-append rest piece after) ∙ ap (bytes_eq rest) (sym split) ∙ inv
+    ap (λ t. t && bytes_eq (drop (length piece) rest) after) (sym begins) ∙ sym (equal-append rest piece after) ∙ rw (← split) inv
 
 -- ---- A text that is read line by line.
 
@@ -69,28 +67,16 @@ some_of (x ∷ xs) e f = cc
 abbrev bounded : Bool → ℕ → Option ℕ
 bounded good n = if good && nat_lt n (2 ^ 64) then Some n else None
 
-none_if : (a : Bool) (n : ℕ) → (if a && false then Some n else None) ≡ None
-none_if true n = refl
-none_if false n = refl
-
 -- one more digit, if those after it are read so
 read_more : (n b m : ℕ) (bs : List ℕ) → m ≡ n * 10 + (b - 48) → (d s : Bool) → is_digit b ≡ d → nat_lt m (2 ^ 64) ≡ s
     → (m < 2 ^ 64 → read_from m bs ≡ bounded (list_all is_digit bs) (natural_from m bs))
     → option_and_then (λ k. read_from k bs) (if is_digit b && nat_lt m (2 ^ 64) then Some m else None) ≡ bounded (is_digit b && list_all is_digit bs) (natural_from m bs)
-read_more n b m bs is false s e f later =
-    ap (λ (t : Bool). option_and_then (λ k. read_from k bs) (if t && nat_lt m (2 ^ 64) then Some m else None)) e
-    ∙ sym (ap (λ (t : Bool). bounded (t && list_all is_digit bs) (natural_from m bs)) e)
-read_more n b m bs is true true e f later =
-    ap (λ (t : Bool). option_and_then (λ k. read_from k bs) (if t && nat_lt m (2 ^ 64) then Some m else None)) e
-    ∙ ap (λ (t : Bool). option_and_then (λ k. read_from k bs) (if t then Some m else None)) f ∙ later (ltb-true m (2 ^ 64) f)
-    ∙ sym (ap (λ (t : Bool). bounded (t && list_all is_digit bs) (natural_from m bs)) e)
+read_more n b m bs is false s e f later = rw e refl
+read_more n b m bs is true true e f later = rw (e, f) (later (ltb-true m (2 ^ 64) f))
 read_more n b m bs is true false e f later =
     let up : 2 ^ 64 ≤ m = ltb-false m (2 ^ 64) f in
     let over : nat_lt (natural_from m bs) (2 ^ 64) ≡ false = le-ltb (natural_from m bs) (2 ^ 64) (omega (arith, natural_up m bs)) in
-    ap (λ (t : Bool). option_and_then (λ k. read_from k bs) (if t && nat_lt m (2 ^ 64) then Some m else None)) e
-    ∙ ap (λ (t : Bool). option_and_then (λ k. read_from k bs) (if t then Some m else None)) f ∙ sym (none_if (list_all is_digit bs) (natural_from m bs))
-    ∙ sym (ap (λ (t : Bool). if list_all is_digit bs && t then Some (natural_from m bs) else None) over)
-    ∙ sym (ap (λ (t : Bool). bounded (t && list_all is_digit bs) (natural_from m bs)) e)
+    rw (e, f, over, and-false (list_all is_digit bs)) refl
 
 pub read_is : (n : ℕ) (bs : List ℕ) → n < 2 ^ 64 → read_from n bs ≡ bounded (list_all is_digit bs) (natural_from n bs)
 read_is n [] lt = sym (ap (λ (t : Bool). if t then Some n else None) (lt-ltb n (2 ^ 64) lt))
@@ -119,11 +105,10 @@ digits_end value i text le = sym (ap (read_from value) (drop_all i text le))
 -- those of a front, and then the others
 pub read_append : (n : ℕ) (xs ys : List ℕ) → read_from n (xs ++ ys) ≡ option_and_then (λ m. read_from m ys) (read_from n xs)
 read_append n [] ys = refl
-read_append n (b ∷ xs) ys = by (with_digit n b) (λ m. read_append m xs ys)
-  where
-    by : (o : Option ℕ) → ((m : ℕ) → read_from m (xs ++ ys) ≡ option_and_then (λ k. read_from k ys) (read_from m xs)) → option_and_then (λ m. read_from m (xs ++ ys)) o ≡ option_and_then (λ m. read_from m ys) (option_and_then (λ m. read_from m xs) o)
-    by None later = refl
-    by (Some m) later = later m
+read_append n (b ∷ xs) ys = by (with_digit n b) (λ m. read_append m xs ys) where
+  by : (o : Option ℕ) → ((m : ℕ) → read_from m (xs ++ ys) ≡ option_and_then (λ k. read_from k ys) (read_from m xs)) → option_and_then (λ m. read_from m (xs ++ ys)) o ≡ option_and_then (λ m. read_from m ys) (option_and_then (λ m. read_from m xs) o)
+  by None later = refl
+  by (Some m) later = later m
 
 pub read_rest : (few : ℕ) (text : List ℕ) → few ≤ length text
     → read_from 0 text ≡ option_and_then (λ m. read_from m (take (length text - few) (drop few text))) (read_from 0 (take few text))
@@ -134,9 +119,7 @@ read_rest few text le =
     ∙ ap (λ (l : List ℕ). option_and_then (λ m. read_from m l) (read_from 0 (take few text))) (sym rest)
 
 ten_up : (i k : ℕ) → 10 ^ i ≤ 10 ^ (i + k)
-ten_up i zero =
-    let same : i + 0 ≡ i = omega arith in
-    omega (arith, ap (λ (n : ℕ). 10 ^ n) same)
+ten_up i zero = let same : i + 0 ≡ i = omega arith in omega (arith, ap (λ n. 10 ^ n) same)
 ten_up i (suc k) =
     let next : i + suc k ≡ suc (i + k) = omega arith in
     let more : 10 ^ (i + suc k) ≡ 10 ^ (i + k) * 10 = ap (λ (n : ℕ). 10 ^ n) next ∙ pow-suc 10 (i + k) in
@@ -153,14 +136,13 @@ digit_low : (b : ℕ) → is_digit b ≡ true → b ≤ 57
 digit_low b e = leb-true b 57 (and_parts (nat_le 48 b) (nat_le b 57) e).1
 
 digit_up : (n b m : ℕ) → with_digit n b ≡ Some m → m ≤ n * 10 + 9
-digit_up n b m e = by (is_digit b) (nat_lt (n * 10 + (b - 48)) (2 ^ 64)) refl e
-  where
-    by : (d s : Bool) → is_digit b ≡ d → (if d && s then Some (n * 10 + (b - 48)) else None) ≡ Some m → m ≤ n * 10 + 9
-    by true true h e =
-        let is : n * 10 + (b - 48) ≡ m = cc in
-        omega (arith, is, digit_low b h)
-    by true false h e = cc
-    by false s h e = cc
+digit_up n b m e = by (is_digit b) (nat_lt (n * 10 + (b - 48)) (2 ^ 64)) refl e where
+  by : (d s : Bool) → is_digit b ≡ d → (if d && s then Some (n * 10 + (b - 48)) else None) ≡ Some m → m ≤ n * 10 + 9
+  by true true h e =
+      let is : n * 10 + (b - 48) ≡ m = cc in
+      omega (arith, is, digit_low b h)
+  by true false h e = cc
+  by false s h e = cc
 
 pub few_next : (i n d m : ℕ) (text : List ℕ) → n < 10 ^ i → with_digit n (get_or text i d) ≡ Some m → m < 10 ^ (i + 1)
 few_next i n d m text lt e =
@@ -169,12 +151,11 @@ few_next i n d m text lt e =
     omega (arith, more, lt, digit_up n (get_or text i d) m e)
 
 pub spelled_is : (text : List ℕ) (value : ℕ) → Some value ≡ natural_spelled text → number_spelled text ≡ Some (pos value)
-spelled_is text value e = by (natural_from 0 text) _ (are_digits text) (nat_lt (natural_from 0 text) (2 ^ 64)) e
-  where
-    by : (n : ℕ) (other : Option ℤ) (a b : Bool) → Some value ≡ (if a && b then Some n else None) → (if a then Some (pos n) else other) ≡ Some (pos value)
-    by n other true true e = let same : value ≡ n = cc in ap (λ (k : ℕ). Some (pos k)) (sym same)
-    by n other true false e = cc
-    by n other false b e = cc
+spelled_is text value e = by (natural_from 0 text) _ (are_digits text) (nat_lt (natural_from 0 text) (2 ^ 64)) e where
+  by : (n : ℕ) (other : Option ℤ) (a b : Bool) → Some value ≡ (if a && b then Some n else None) → (if a then Some (pos n) else other) ≡ Some (pos value)
+  by n other true true e = let same : value ≡ n = cc in ap (λ (k : ℕ). Some (pos k)) (sym same)
+  by n other true false e = cc
+  by n other false b e = cc
 
 -- ---- The line of a cell that may count arrays and may not be there.
 

@@ -19,11 +19,10 @@ kept_more a b c h k = record { version = k.version ∙ h.version; came = k.came 
 
 -- a reading goes on in the same way after the same reading
 pub then_same : (r s : Read) (f g : Standing → Read) → r ≡ s → ((p : Standing) → f p ≡ g p) → (r >>= f) ≡ (s >>= g)
-then_same r s f g e h = ap (λ (x : Read). x >>= f) e ∙ by s
-  where
-    by : (s : Read) → (s >>= f) ≡ (s >>= g)
-    by (Ok p) = h p
-    by (Err b) = refl
+then_same r s f g e h = ap (λ (x : Read). x >>= f) e ∙ by s where
+  by : (s : Read) → (s >>= f) ≡ (s >>= g)
+  by (Ok p) = h p
+  by (Err b) = refl
 
 -- two tables have the same structures of numbers below j
 module _ (j : ℕ) (rs Rs : List Reader) (agree : (i : ℕ) → i < j → get_or rs i no_reader ≡ get_or Rs i no_reader) where
@@ -147,12 +146,11 @@ module _ (set : Set) where
 
   pub array_read : (f : Field) (count : ℕ) (caps path : List ℕ) (present : Bool) (at : ℕ) (p : Standing) → (f.count ≡ One → ⊥)
       → read_elements (readers set) f caps (path ++ f.name) present at (size_in set f.item) 0 count p ≡ run_read (readers set) f f.count caps path present at count p
-  array_read f count caps path present at p other = by_count f.count other
-    where
-      by_count : (c : Count) → (c ≡ One → ⊥) → read_elements (readers set) f caps (path ++ f.name) present at (size_in set f.item) 0 count p ≡ run_read (readers set) f c caps path present at count p
-      by_count One other = absurd (other refl)
-      by_count (Fixed k) other = ap (λ (s : ℕ). read_elements (readers set) f caps (path ++ f.name) present at s 0 count p) (sym (read_size f.item))
-      by_count (Counted by most) other = ap (λ (s : ℕ). read_elements (readers set) f caps (path ++ f.name) present at s 0 count p) (sym (read_size f.item))
+  array_read f count caps path present at p other = by_count f.count other where
+    by_count : (c : Count) → (c ≡ One → ⊥) → read_elements (readers set) f caps (path ++ f.name) present at (size_in set f.item) 0 count p ≡ run_read (readers set) f c caps path present at count p
+    by_count One other = absurd (other refl)
+    by_count (Fixed k) other = ap (λ (s : ℕ). read_elements (readers set) f caps (path ++ f.name) present at s 0 count p) (sym (read_size f.item))
+    by_count (Counted by most) other = ap (λ (s : ℕ). read_elements (readers set) f caps (path ++ f.name) present at s 0 count p) (sym (read_size f.item))
 
   -- field k of a description, by the numbers so far: how many of its elements are read, and the most that its number counts
   pub record IsNext (d : Desc) (v : ℕ) (present : Bool) (base k count : ℕ) (most : Option ℕ) (now : Bool) (f : Field) (p : Standing) : Type 0 where

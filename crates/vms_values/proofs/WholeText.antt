@@ -27,28 +27,25 @@ few_lines set well =
 
 -- such a number is known as the line of the text
 pub line_fits : (set : Set) → is_well_formed set ≡ true → FitsHeads set → (text : List ℕ) (line : ℕ) (reason : ValuesReason) → ReadsBy set (values_read set text) (Err (faults.Bad line reason)) → line < 2 ^ 32
-line_fits set well heads text line reason h = go (values_read set text) refl h
-  where
-    go : (v : ValuesRead) → values_read set text ≡ v → ReadsBy set v (Err (faults.Bad line reason)) → line < 2 ^ 32
-    go (Values machine images) e h = absurd h
-    go (Bad l why) e h = omega (arith, h.0, line_holds set text l why (fit_of set well heads) e, few_lines set well)
+line_fits set well heads text line reason h = go (values_read set text) refl h where
+  go : (v : ValuesRead) → values_read set text ≡ v → ReadsBy set v (Err (faults.Bad line reason)) → line < 2 ^ 32
+  go (Values machine images) e h = absurd h
+  go (Bad l why) e h = omega (arith, h.0, line_holds set text l why (fit_of set well heads) e, few_lines set well)
 
 -- what is read of a text is what it means
 pub read_means : (set : Set) → is_well_formed set ≡ true → FitsHeads set → (text : List ℕ) (v : Given) → ReadsBy set (values_read set text) (Ok v) → MeansAs set text (Ok v)
-read_means set well heads text v h = go (values_read set text) (read_holds set text (fit_of set well heads)) h
-  where
-    go : (r : ValuesRead) → Reads set text r → ReadsBy set r (Ok v) → MeansAs set text (Ok v)
-    go (Values machine images) m h =
-        subst (λ (o : Option (List ℕ)). IsText set text o (map state_of v.images.items)) (sym h.1) (subst (λ (l : List Image). IsText set text machine l) (sym h.0) m)
-    go (Bad l why) m h = absurd h
+read_means set well heads text v h = go (values_read set text) (read_holds set text (fit_of set well heads)) h where
+  go : (r : ValuesRead) → Reads set text r → ReadsBy set r (Ok v) → MeansAs set text (Ok v)
+  go (Values machine images) m h =
+      subst (λ (o : Option (List ℕ)). IsText set text o (map state_of v.images.items)) (sym h.1) (subst (λ (l : List Image). IsText set text machine l) (sym h.0) m)
+  go (Bad l why) m h = absurd h
 
 pub bad_means : (set : Set) → is_well_formed set ≡ true → FitsHeads set → (text : List ℕ) (line : ℕ) (reason : ValuesReason) → ReadsBy set (values_read set text) (Err (faults.Bad line reason))
     → Refused set text line reason
-bad_means set well heads text line reason h = go (values_read set text) (read_holds set text (fit_of set well heads)) h
-  where
-    go : (r : ValuesRead) → Reads set text r → ReadsBy set r (Err (faults.Bad line reason)) → Refused set text line reason
-    go (Values machine images) m h = absurd h
-    go (Bad l why) m h = subst (λ (n : ℕ). Refused set text n reason) (sym h.0) (subst (λ (w : ValuesReason). Refused set text l w) (sym h.1) m)
+bad_means set well heads text line reason h = go (values_read set text) (read_holds set text (fit_of set well heads)) h where
+  go : (r : ValuesRead) → Reads set text r → ReadsBy set r (Err (faults.Bad line reason)) → Refused set text line reason
+  go (Values machine images) m h = absurd h
+  go (Bad l why) m h = subst (λ (n : ℕ). Refused set text n reason) (sym h.0) (subst (λ (w : ValuesReason). Refused set text l w) (sym h.1) m)
 
 -- ---- What the whole text says, by its devices and their second pass.
 
@@ -78,11 +75,10 @@ text_judged set m (Ok all) old new images b h none first found =
 pub text_longer : (set : Set) (m : Option (List ℕ)) (r : Result ReadAll BadLine) (old new : Reading) (images : List Image) → AllRead set r old new (Ok images) → (new.lines.rest.now ≡ [] → ⊥)
     → ReadsBy set (ended set m r) (Err (faults.Bad new.lines.line reasons.Form))
 text_longer set m (Err b) old new images h some = absurd h
-text_longer set m (Ok all) old new images h some = by all.rest h.2
-  where
-    by : (rest : List ℕ) → rest ≡ new.lines.rest.now → ReadsBy set (judged set m all rest) (Err (faults.Bad new.lines.line reasons.Form))
-    by [] e = absurd (some (sym e))
-    by (b ∷ rest) e = (sym h.1, refl)
+text_longer set m (Ok all) old new images h some = by all.rest h.2 where
+  by : (rest : List ℕ) → rest ≡ new.lines.rest.now → ReadsBy set (judged set m all rest) (Err (faults.Bad new.lines.line reasons.Form))
+  by [] e = absurd (some (sym e))
+  by (b ∷ rest) e = (sym h.1, refl)
 
 in_any : (set : Set) (x : ValuesRead) → ReadsBy set x (Err faults.NoMemory)
 in_any set (Values machine images) = tt
@@ -95,8 +91,7 @@ text_refused set m r old new faults.NoMemory h = in_any set (ended set m r)
 
 pub text_told : (set : Set) (m : Option (List ℕ)) (r : Result ReadAll BadLine) (old new : Reading) (v : Given) (result : Result Given LineFault) → AllRead set r old new (Ok (map state_of v.images.items)) → new.lines.rest.now ≡ []
     → old.judged ≡ None → machine_of set v.machine ≡ m → ForSome v.machine (λ k. k < length set.machines) → ToldAs new.judged v result → ReadsBy set (ended set m r) result
-text_told set m r old new v result h none first is known t = by new.judged refl t
-  where
-    by : (o : Option Found) → new.judged ≡ o → ToldAs o v result → ReadsBy set (ended set m r) result
-    by None e t = subst (ReadsBy set (ended set m r)) (sym t) (text_read set m r old new v h none first e is known)
-    by (Some b) e t = subst (ReadsBy set (ended set m r)) (sym t) (text_judged set m r old new (map state_of v.images.items) b h none first e)
+text_told set m r old new v result h none first is known t = by new.judged refl t where
+  by : (o : Option Found) → new.judged ≡ o → ToldAs o v result → ReadsBy set (ended set m r) result
+  by None e t = subst (ReadsBy set (ended set m r)) (sym t) (text_read set m r old new v h none first e is known)
+  by (Some b) e t = subst (ReadsBy set (ended set m r)) (sym t) (text_judged set m r old new (map state_of v.images.items) b h none first e)

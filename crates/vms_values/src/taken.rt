@@ -157,11 +157,8 @@ fn read_elements(
     path: &mut Line,
     taken: &mut Taken,
 ) -> Result<(), LineFault>
-    requires reaches { uses_below (length (described set.now).structs) run.field.now.item ≡ true }
-    requires small { size_in (described set.now) run.field.now.item ≤ MOST_ITEMS }
-    requires room { let size = size_in (described set.now) run.field.now.item in
-        run.first + run.count * size ≤ length taken.old.image.numbers }
-    requires few { length taken.old.image.numbers ≤ MOST_ITEMS }
+    requires fits { let numbers = taken.old.image.numbers in
+        IsRun (described set.now) (field_of run.field.now) run.first run.count numbers }
     requires kinds { let structs = cells_in (table (described set.now)) in
         ElementKinds structs run.field.now.item taken.old.image.kinds run.first run.count }
     requires short { let item = run.field.now.item in

@@ -1,8 +1,7 @@
-use Rattle.vms_values.proofs.Facade.{rules, arith, ◌≡◌, ◌+◌, ◌*◌, ◌-◌, ◌<◌, ◌≤◌, List, ◌++◌, ℕ, length, length-append, get_or, codes, sym, ap, ◌∙◌}
-use Rattle.vms_values.proofs.Facade.{subst, err_from_is_err_and, ltb-true, decimal, Item, no_desc, printers, element_lines}
-use Rattle.vms_values.proofs.Facade.{item_lines, desc_lines, field_of, described, desc_at, size_in, size_code, start_code, struct_size}
-use Rattle.vms_values.proofs.Facade.{room_at, run_lines, below, Stays, wrote_as, leaves_all, leaves_rest, leaves_stop, leaves_none, LONGEST}
-use Rattle.vms_values.proofs.Facade.{NUMBER_ROOM, INDEX_ROOM, PART_ROOM}
+use Rattle.vms_values.proofs.Facade.{rules, arith, ◌≡◌, ◌+◌, ◌*◌, ◌-◌, ◌<◌, ◌≤◌, List, ◌++◌, ℕ, length, length-append, get_or, codes, sym, ap, ◌∙◌, subst}
+use Rattle.vms_values.proofs.Facade.{err_from_is_err_and, ltb-true, decimal, Item, no_desc, printers, element_lines, item_lines, desc_lines, field_of}
+use Rattle.vms_values.proofs.Facade.{described, desc_at, size_in, size_code, start_code, struct_size, room_at, run_lines, below, Stays, wrote_as, leaves_all}
+use Rattle.vms_values.proofs.Facade.{leaves_rest, leaves_stop, leaves_none, LONGEST, NUMBER_ROOM, INDEX_ROOM, PART_ROOM}
 use Rattle.vms_values.proofs.Printers.{struct_lines, FoundRun, array_run, elements_left, no_elements, fields_left, fields_whole, no_fields, found_run}
 use Rattle.vms_values.proofs.PrintLemmas.{stays, stays_is, stays_then, stays_element, cut_is, field_short}
 use Rattle.vms_values.proofs.shown.+print.Given.{Over}

@@ -1,8 +1,9 @@
-use Rattle.vms_values.proofs.Facade.{rules, ◌≡◌, ℕ, ◌+◌, ◌-◌, ◌*◌, ◌<◌, ◌≤◌, ◌++◌, List, length, length-append, get_or, drop, codes, sym, ap, ◌∙◌, subst}
-use Rattle.vms_values.proofs.Facade.{arith, ltb-true, err_from_is_err_and, decimal, Item, Kind, MOST_ITEMS, elements_fit, Field, Desc, no_desc, cells_from}
-use Rattle.vms_values.proofs.Facade.{capacity_of, own_cell_count, Read, place_first, readers, read_item, read_elements, read_fields, read_desc, field_of, field_at, own_numbers}
-use Rattle.vms_values.proofs.Facade.{described, desc_at, HasSpot, size_in, table, cell_of, cells_in, capacities_of, size_code, start_after, start_code, struct_size, room_at}
-use Rattle.vms_values.proofs.Facade.{fields_at, below, Stays, Reaches, AreKinds, element_cells, part_cells, place_of, LONGEST, NUMBER_ROOM, INDEX_ROOM, PART_ROOM}
+use Rattle.vms_values.proofs.Facade.{rules, ◌≡◌, ℕ, ◌+◌, ◌-◌, ◌*◌, ◌<◌, ◌≤◌, ◌++◌, List, length, length-append, get_or, drop, codes, sym, ap, ◌∙◌, subst, arith}
+use Rattle.vms_values.proofs.Facade.{ltb-true, err_from_is_err_and, decimal, Item, Kind, MOST_ITEMS, elements_fit, Field, Desc, no_desc, cells_from}
+use Rattle.vms_values.proofs.Facade.{capacity_of, own_cell_count, Read, place_first, readers, read_item, read_elements, read_fields, read_desc, field_of}
+use Rattle.vms_values.proofs.Facade.{field_at, own_numbers, described, desc_at, HasSpot, size_in, table, cell_of, cells_in, capacities_of, size_code}
+use Rattle.vms_values.proofs.Facade.{start_after, start_code, struct_size, room_at, fields_at, below, Stays, Reaches, AreKinds, element_cells, part_cells}
+use Rattle.vms_values.proofs.Facade.{place_of, LONGEST, NUMBER_ROOM, INDEX_ROOM, PART_ROOM}
 use Rattle.vms_spec.specs.declared.Part.TheVariants as parts
 use Rattle.vms_values.proofs.PrintLemmas.{stays, stays_is, stays_then, stays_element, cut_is, field_short}
 use Rattle.vms_values.proofs.KindsAt.{FieldKinds, field_kinds, number_kind, struct_kinds}
@@ -39,16 +40,16 @@ pub read_elements-overflow_add-first : goal.read_elements-overflow_add-first
 read_elements-overflow_add-first t c =
     let set = described c.args.set.now in
     let item = c.args.run.field.now.item in
-    let size = size_code set item c.item_cells-size.result c.item_cells-size.ensures c.requires.small in
-    let room = room_at c.loop-index.index c.args.run.count (size_in set item) c.args.run.first c.loop-index.first _ (omega (arith, c.loop-index-test.true)) c.loop-index.invariant.here c.requires.room in
-    omega (arith, size, room, c.requires.few)
+    let size = size_code set item c.item_cells-size.result c.item_cells-size.ensures c.requires.fits.small in
+    let room = room_at c.loop-index.index c.args.run.count (size_in set item) c.args.run.first c.loop-index.first _ (omega (arith, c.loop-index-test.true)) c.loop-index.invariant.here c.requires.fits.room in
+    omega (arith, size, room, c.requires.fits.few)
 
 pub read_elements-loop-index-preserved : goal.read_elements-loop-index-preserved
 read_elements-loop-index-preserved t c =
     let set = described c.args.set.now in
     let f = field_of c.args.run.field.now in
     let i = c.loop-index.index in
-    let size = size_code set f.item c.item_cells-size.result c.item_cells-size.ensures c.requires.small in
+    let size = size_code set f.item c.item_cells-size.result c.item_cells-size.ensures c.requires.fits.small in
     let one : (i + 1) * size_in set f.item ≡ i * size_in set f.item + size_in set f.item = grind arith in
     let caps = capacities_of c.args.run.most in
     let named = (element t (goal.at.read_elements-loop-index-preserved t c).After-read_item-arg-in-loop-index-1).0 in
@@ -69,13 +70,13 @@ read_elements-read_item-requires t c =
     let cs = cells_in (table set) in
     let item = c.args.run.field.now.item in
     let kept = c.loop-index.invariant.kept in
-    let room = room_at c.loop-index.index c.args.run.count (size_in set item) c.args.run.first c.loop-index.first _ (omega (arith, c.loop-index-test.true)) c.loop-index.invariant.here c.requires.room in
+    let room = room_at c.loop-index.index c.args.run.count (size_in set item) c.args.run.first c.loop-index.first _ (omega (arith, c.loop-index-test.true)) c.loop-index.invariant.here c.requires.fits.room in
     let here : AreKinds c.args.taken.now.image.kinds c.loop-index.first (element_cells cs item) =
     subst (λ (p : ℕ). AreKinds c.args.taken.now.image.kinds p (element_cells cs item)) (sym c.loop-index.invariant.here) (c.requires.kinds c.loop-index.index (omega (arith, c.loop-index-test.true))) in
     let fits : c.loop-index.first + size_in set item ≤ length c.loop-index.taken.image.numbers = omega (arith, room, kept.long) in
-    let few : length c.loop-index.taken.image.numbers ≤ MOST_ITEMS = omega (arith, kept.long, c.requires.few) in
+    let few : length c.loop-index.taken.image.numbers ≤ MOST_ITEMS = omega (arith, kept.long, c.requires.fits.few) in
     let short : length c.push_index.new.self + NUMBER_ROOM + below item ≤ LONGEST = omega (arith, (element t c).1, c.requires.short) in
-    (omega arith, (c.requires.reaches, (fits, (few, (subst (λ (ks : List Kind). AreKinds ks c.loop-index.first (element_cells cs item)) (sym kept.kinds) here, short)))))
+    (omega arith, (c.requires.fits.reaches, (fits, (few, (subst (λ (ks : List Kind). AreKinds ks c.loop-index.first (element_cells cs item)) (sym kept.kinds) here, short)))))
 
 pub read_field-read_item-requires : goal.read_field-read_item-requires
 read_field-read_item-requires t c =
@@ -97,7 +98,7 @@ read_field-read_elements-requires t c =
     let named : c.push.new.self ≡ c.args.path.now ++ (field_of c.args.run.field.now).name = c.push.ensures ∙ ap (λ (l : List ℕ). c.args.path.now ++ l) c.as_bytes.ensures in
     let short : length c.push.new.self + INDEX_ROOM + NUMBER_ROOM + below c.args.run.field.now.item ≤ LONGEST =
     omega (arith, ap length named, length-append c.args.path.now (field_of c.args.run.field.now).name, c.requires.name, c.requires.short) in
-    (omega arith, (c.requires.fits.reaches, (c.requires.fits.small, (c.requires.fits.room, (c.requires.fits.few, (c.requires.kinds, short))))))
+    (omega arith, (c.requires.fits, (c.requires.kinds, short)))
 
 pub read_field-returns-in_default : goal.read_field-returns-in_default
 read_field-returns-in_default t c =

@@ -1,5 +1,5 @@
-use Rattle.vms_values.proofs.Facade.{◌≡◌, ◌+◌, ◌-◌, ◌*◌, drop, cells_from, readers, read_desc, read_elements, read_fields, field_of, described}
-use Rattle.vms_values.proofs.Facade.{desc_at, size_in, table, cell_of, cells_in, capacities_of, item_rank, part_rank, Stays, IsKept, AreKinds, place_of}
+use Rattle.vms_values.proofs.Facade.{◌≡◌, ◌+◌, ◌-◌, ◌*◌, drop, cells_from, readers, read_desc, read_elements, read_fields, field_of, described, desc_at}
+use Rattle.vms_values.proofs.Facade.{size_in, table, cell_of, cells_in, capacities_of, item_rank, part_rank, Stays, IsKept, AreKinds, place_of}
 use Rattle.vms_values.proofs.taken.+read.Given as goal
 
 abbrev pub decreases-read_elements : goal.decreases-read_elements
