@@ -22,7 +22,8 @@ pub ready_device : (set : Set) → is_well_formed set ≡ true → (images : Lis
     → image ≡ get_or images i image → IsOfDevice set i image
 ready_device set well images ready i image lt is =
     let there : i < length set.devices = omega (arith, ready.one_each) in
-    let r = ready.ready i (device_at set i) image (slice_get-get_or set.devices i no_device there) (slice_get-get_or images i image lt ∙ ap (λ x. Some x) (sym is)) in
+    let at = slice_get-get_or images i image lt ∙ ap (λ x. Some x) (sym is) in
+    let r = ready.ready i (device_at set i) image (slice_get-get_or set.devices i no_device there) at in
     record {
       is_device = there;
       cells = r.normal.cells.long;

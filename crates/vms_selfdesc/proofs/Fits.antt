@@ -99,7 +99,8 @@ module _ (ss : List Shape) (sizes depths : List ℕ) (fit : FitTables ss sizes d
 
 -- ---- elements one after the other, at most m of them; if each has an entry, m is small
 
-few_each : (c i m most : ℕ) (es : List Entry) → i < m → m * c ≤ MOST_ITEMS → length es ≤ c → (i < MOST_ITEMS → c ≤ MOST_ITEMS → AreLong most es) → AreLong most es
+few_each : (c i m most : ℕ) (es : List Entry) → i < m → m * c ≤ MOST_ITEMS → length es ≤ c → (i < MOST_ITEMS → c ≤ MOST_ITEMS → AreLong most es)
+    → AreLong most es
 few_each zero i m most es lt items few long = none_long most es few
 few_each (suc c) i m most es lt items few long =
     let whole : m * suc c ≡ m + m * c = grind arith in
@@ -141,7 +142,8 @@ module _ (ss : List Shape) (sizes depths : List ℕ) (fit : FitTables ss sizes d
         (length path + 40 * item_depth depths f.item + 107) (entries_of sent path (field_elements ss fields v own n i at f))
     field_listed i at f =
         let there = sent && is_there f.test f.since v own no_parent in
-        let es = array_listed (item_entries ss f.item f.default there n) (40 * item_depth depths f.item + 68) (item_count sizes f.item) (IsSmall f.item f.default)
+        let es =
+        array_listed (item_entries ss f.item f.default there n) (40 * item_depth depths f.item + 68) (item_count sizes f.item) (IsSmall f.item f.default)
         (λ path at. item_listed ss sizes depths fit f.item f.default there n path at) f.count (elements_of f.count own) (path ++ f.name) at
         (item_size (cells_in ss) f.item) (elements_fit f.count own) in
         rw (of_field ss fields v own sent path n i at f) (record {
@@ -202,7 +204,7 @@ module _ (ds : List Desc) (most : ℕ) (sound : (j : ℕ) → j < most → AreSo
 
   -- what is in the first k, where each of them fits
   at_number : (k : ℕ) → ((j : ℕ) → j < k → made j) → FitTables (first shape ds k) (first items_of_desc ds k) (first depth_of_desc ds k)
-  at_number k each j = elim (cases_lt j k) as (λ _. Fits (get_or (first shape ds k) j no_shape) (get_or (first items_of_desc ds k) j 0) (get_or (first depth_of_desc ds k) j 0)) [
+  at_number k each j = elim (cases_lt j k) [
     | inl lt ↦ rw (first_at shape ds no_shape k j lt, first_at items_of_desc ds 0 k j lt, first_at depth_of_desc ds 0 k j lt) (each j lt)
     | inr le ↦ rw (
       get_or-eq_default (first shape ds k) no_shape {n = j} (omega (arith, first_long shape ds k)),

@@ -94,7 +94,8 @@ element_plain path i lt p =
 
 pub element_long : (path : List ℕ) (i : ℕ) → i < MOST_ITEMS → length (element_path path i) ≤ length path + 7
 element_long path i lt =
-    omega (arith, length-append path (91 ∷ (decimal i ++ 93 ∷ [])), length-append (decimal i) (93 ∷ []), length-decimal-le 5 i (omega arith) (omega arith) (omega arith))
+    let digits = length-decimal-le 5 i (omega arith) (omega arith) (omega arith) in
+    omega (arith, length-append path (91 ∷ (decimal i ++ 93 ∷ [])), length-append (decimal i) (93 ∷ []))
 
 pub dot_plain : (path : List ℕ) → IsPlain path → IsPlain (path ++ 46 ∷ [])
 dot_plain path p = plain_append path (46 ∷ []) p (mark 46 (omega arith) (λ e. omega arith))

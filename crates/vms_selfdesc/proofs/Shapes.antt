@@ -58,8 +58,10 @@ device_plain es instance name subs version p =
     }
 
 devices_plain : (set : Set) (devices : List Device) (images : List Image) → ArePlain 5 (device_trees set devices images)
-devices_plain set (d ∷ devices) (image ∷ images) =
-    (device_plain _ d.instance d.desc.name _ d.desc.version (subs_plain set image.numbers (own_cells set d) d.subs image.came), devices_plain set devices images)
+devices_plain set (d ∷ devices) (image ∷ images) = (
+  device_plain _ d.instance d.desc.name _ d.desc.version (subs_plain set image.numbers (own_cells set d) d.subs image.came),
+  devices_plain set devices images,
+)
 devices_plain set _ _ = tt
 
 pub described_plain : (set : Set) (images : List Image) → IsPlainTree 7 (described_tree set images)

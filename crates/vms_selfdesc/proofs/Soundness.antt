@@ -60,7 +60,7 @@ module _ (set : Set) (well : is_well_formed set ≡ true) where
 
   -- structures nest at most four deep
   struct_flat : (j : ℕ) → get_or (struct_depths set.structs) j 0 ≤ 4
-  struct_flat j = elim (cases_lt j (length set.structs)) as (λ _. get_or (struct_depths set.structs) j 0 ≤ 4) [
+  struct_flat j = elim (cases_lt j (length set.structs)) [
     | inl lt ↦ leb-true (get_or (struct_depths set.structs) j 0) 4 (and_parts (has_few (get_or set.structs j no_desc))
         (nat_le (get_or (struct_depths set.structs) j 0) 4) (struct_clean set well j lt).own.1.1.1.1.1.1.0).1
     | inr le ↦

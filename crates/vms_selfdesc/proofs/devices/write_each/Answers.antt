@@ -18,4 +18,5 @@ loop-sub-preserved c =
 pub returns : goal.returns
 returns c =
     let set = described c.args.lister.now.set.now in
-    leaves_none (subs_end set c.args.device (state_of c.args.lister.now.image.now) c.loop-sub.sub (omega (arith, c.sub_count-sub-end.ensures))) c.loop-sub.invariant
+    leaves_none (subs_end set c.args.device (state_of c.args.lister.now.image.now) c.loop-sub.sub
+    (omega (arith, c.sub_count-sub-end.ensures))) c.loop-sub.invariant

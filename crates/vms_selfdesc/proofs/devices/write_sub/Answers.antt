@@ -34,11 +34,12 @@ returns c =
     let fields = c.write_fields.ensures in
     let head = c.put_sub_head.ensures in
     let sent = c.is_some-sent.result in
-    let tree = λ (sent : Bool) (name : List ℕ) (version cell : ℕ). object (sub_members (part_entries set (desc_at set part) sent (numbers_in lister) cell) name sent version) in
+    let entries = λ (sent : Bool) (cell : ℕ). part_entries set (desc_at set part) sent (numbers_in lister) cell in
+    let tree = λ (sent : Bool) (name : List ℕ) (version cell : ℕ). object (sub_members (entries sent cell) name sent version) in
     let same =
     ap (λ (x : Bool). tree x desc.name desc.version c.first_cell-cell.result) (c.is_some-sent.ensures ∙ ap is_some c.came.ensures)
     ∙ ap (λ (d : Desc). tree (is_some (get_or lister.image.now.came c.args.sub None)) d.name d.version c.first_cell-cell.result) c.desc.ensures
     ∙ ap (λ (x : ℕ). tree (is_some (get_or lister.image.now.came c.args.sub None)) (desc_at set part).name (desc_at set part).version x)
     c.first_cell-cell.ensures in
     rw (← same) (fields_adds c.begin.ensures fields (further head.text c.push.ensures) (head_text desc.name sent desc.version)
-    (sub_sound (part_entries set (desc_at set part) sent (numbers_in lister) c.first_cell-cell.result) desc.name sent desc.version fields.sound head.sound) refl refl)
+    (sub_sound (entries sent c.first_cell-cell.result) desc.name sent desc.version fields.sound head.sound) refl refl)

@@ -30,10 +30,12 @@ list_item-leave-requires-clause-text t c = (enters c.args.draft.now.path.text _ 
 pub list_item-returns-in-Struct : goal.list_item-returns-in-Struct
 list_item-returns-in-Struct t c =
     let lister = c.args.lister.now in
-    let same = struct_list (described lister.set.now) lister.set.now.well_formed c.args.field.now.item c.in-Struct.number c.in-Struct.is c.requires.cells.reaches
+    let same =
+    struct_list (described lister.set.now) lister.set.now.well_formed c.args.field.now.item c.in-Struct.number c.in-Struct.is c.requires.cells.reaches
     c.args.field.now.default c.args.place.sent (string_bytes c.args.draft.now.path.text) (string_bytes c.enter.new.self.text) lister.image.now.numbers
     c.args.place.cell c.enter.ensures in
-    rw (← same) (leave_path c.list_struct.ensures (c.leave.ensures ∙ (enters c.args.draft.now.path.text _ c.len-kept.ensures (c.list_struct.ensures.path ∙ c.enter.ensures)).back))
+    rw (← same) (leave_path c.list_struct.ensures
+    (c.leave.ensures ∙ (enters c.args.draft.now.path.text _ c.len-kept.ensures (c.list_struct.ensures.path ∙ c.enter.ensures)).back))
 
 pub list_item-list_sent-requires-clause-word : goal.list_item-list_sent-requires-clause-word
 list_item-list_sent-requires-clause-word t c = name_plain (codes "equal") refl
@@ -68,7 +70,8 @@ list_elements-enter_element-requires t c = omega (arith, c.requires.deep, ap len
 
 pub list_elements-leave-requires-clause-text : goal.list_elements-leave-requires-clause-text
 list_elements-leave-requires-clause-text t c =
-    (enters c.loop-number.draft.path.text _ (c.len-kept.ensures ∙ ap length (sym c.loop-number.invariant.lists.lists.path)) (c.list_item.ensures.path ∙ c.enter_element.ensures)).text
+    (enters c.loop-number.draft.path.text _ (c.len-kept.ensures ∙ ap length (sym c.loop-number.invariant.lists.lists.path))
+    (c.list_item.ensures.path ∙ c.enter_element.ensures)).text
 
 pub list_elements-loop-number-preserved : goal.list_elements-loop-number-preserved
 list_elements-loop-number-preserved t c =
@@ -147,11 +150,13 @@ list_field-returns t c =
     let part = c.args.part in
     let path = string_bytes c.args.draft.now.path.text in
     let fields = here_fields set part c.desc.result.now c.as_slice.result.now c.desc.ensures c.as_slice.ensures in
-    let is = found_field c.as_slice.result.now (desc_at set part).fields c.args.at.field c.index-as_slice-at.result fields c.requires.field c.index-as_slice-at.is in
+    let is =
+    found_field c.as_slice.result.now (desc_at set part).fields c.args.at.field c.index-as_slice-at.result fields c.requires.field c.index-as_slice-at.is in
     let same = field_run set part c.args.within.cell c.args.at.field c.args.within.sent c.args.lister.now.image.now.numbers path c.args.at.cell
     (field_of c.index-as_slice-at.result) c.is_sent-sent.result (string_bytes c.enter.new.self.text) c.elements-count.result is c.is_sent-sent.ensures
     (rw c.as_str.ensures at c.enter.ensures) c.elements-count.ensures in
-    rw (← same) (leave_path c.list_run.ensures (c.leave.ensures ∙ (enters c.args.draft.now.path.text _ c.len-kept.ensures (c.list_run.ensures.path ∙ c.enter.ensures)).back))
+    rw (← same) (leave_path c.list_run.ensures
+    (c.leave.ensures ∙ (enters c.args.draft.now.path.text _ c.len-kept.ensures (c.list_run.ensures.path ∙ c.enter.ensures)).back))
 
 -- ---- the fields of a part
 
