@@ -21,14 +21,14 @@ no_sub = record { desc = no_desc; needed = AtLeast 0 }
 pub ready_device : (set : Set) → is_well_formed set ≡ true → (images : List Image) → AreReady set images → (i : ℕ) (image : Image) → i < length images
     → image ≡ get_or images i image → IsOfDevice set i image
 ready_device set well images ready i image lt is =
-    let there : i < length set.devices = omega (arith, ready.one_each) in
+    let there : i < length set.devices = omega arith in
     let at = slice_get-get_or images i image lt ∙ ap (λ x. Some x) (sym is) in
     let r = ready.ready i (device_at set i) image (slice_get-get_or set.devices i no_device there) at in
     record {
       is_device = there;
       cells = r.normal.cells.long;
       subs = versions_long (device_at set i).subs image.came r.normal.subs;
-      few = omega (arith, few_cells set well i, r.normal.cells.long);
+      few = omega (arith, few_cells set well i);
     }
 
 -- ---- The text of every well-formed set is shorter than what a description section may have, and that of a shipped set is short.
@@ -51,7 +51,7 @@ all_devices (d ∷ devices) h =
 
 few_of : (devices : List Device) → ((i : ℕ) → i < length devices → IsShortDevice (get_or devices i no_device)) → subs_of devices ≤ 32 * length devices
 few_of [] h = omega arith
-few_of (d ∷ devices) h = let here = h 0 (omega arith) in omega (arith, here.few, few_of devices (λ i lt. h (suc i) (omega arith)))
+few_of (d ∷ devices) h = let here = h 0 (omega arith) in omega (arith, few_of devices (λ i lt. h (suc i) (omega arith)))
 
 module _ (set : Set) (well : is_well_formed set ≡ true) (heads : FitsHeads set) where
   short_device : (i : ℕ) → i < length set.devices → IsShortDevice (device_at set i)
@@ -111,9 +111,7 @@ clock_holds = record { clock = λ s images. omega (arith, set_long (clock_set s)
 
 module _ (set : Set) (images : List Image) where
   pub text_reads : IsSound (described_tree set images) → (bytes : List ℕ) → bytes ≡ described_text set images → read bytes ≡ Some (described_tree set images)
-  text_reads sound bytes is =
-      let plain = described_plain set images in
-      reads_whole (described_tree set images) bytes is sound (omega (arith, plain.flat))
+  text_reads sound bytes is = reads_whole (described_tree set images) bytes is sound (omega (arith, described_plain set images))
 
   pub text_short : is_well_formed set ≡ true → FitsHeads set → length (described_text set images) < longest_text
   text_short well heads = short_holds.short set (none_is (first_fault set) well) heads images

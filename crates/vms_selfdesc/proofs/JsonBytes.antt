@@ -84,8 +84,8 @@ module _ {Letter Good : ℕ → Type 0} (allows : Allows Letter Good) where
       go : (a b c d e f g : Bool) → (a ≡ true → x ≡ 34) → (b ≡ true → x ≡ 92)
           → nat_lt 0 (cond (a || b) x (cond c 98 (cond d 102 (cond e 110 (cond f 114 (cond g 116 0)))))) ≡ true
           → Good (cond (a || b) x (cond c 98 (cond d 102 (cond e 110 (cond f 114 (cond g 116 0))))))
-      go true b c d e f g p q h = let i = p refl in allows.own x (omega (arith, i)) (omega (arith, i))
-      go false true c d e f g p q h = let i = q refl in allows.own x (omega (arith, i)) (omega (arith, i))
+      go true b c d e f g p q h = let i = p refl in allows.own x (omega arith) (omega arith)
+      go false true c d e f g p q h = let i = q refl in allows.own x (omega arith) (omega arith)
       go false false true d e f g p q h = own 98 refl
       go false false false true e f g p q h = own 102 refl
       go false false false false true f g p q h = own 110 refl
@@ -97,7 +97,7 @@ module _ {Letter Good : ℕ → Type 0} (allows : Allows Letter Good) where
   hex d lt = go (nat_lt d 10) (λ h. ltb-true d 10 h)
     where
       go : (b : Bool) → (b ≡ true → d < 10) → Good (cond b (48 + d) (87 + d))
-      go true p = let i = p refl in allows.own (48 + d) (omega arith) (omega (arith, i))
+      go true p = let i = p refl in allows.own (48 + d) (omega arith) (omega arith)
       go false p = allows.own (87 + d) (omega arith) (omega arith)
 
   byte_good : (x : ℕ) → Letter x → AllByRecursion Good (escape_byte x)
@@ -108,7 +108,7 @@ module _ {Letter Good : ℕ → Type 0} (allows : Allows Letter Good) where
           → AllByRecursion Good (cond a (92 ∷ escape_letter x ∷ []) (cond b (92 ∷ 117 ∷ 48 ∷ 48 ∷ digit_char (x / 16) ∷ digit_char (x % 16) ∷ []) (x ∷ [])))
       go true b p r q = (own 92 refl, (p refl, tt))
       go false true p r q =
-          let i = r refl in (own 92 refl, (own 117 refl, (own 48 refl, (own 48 refl, (hex (x / 16) (omega (arith, i)), (hex (x % 16) (omega arith), tt))))))
+          let i = r refl in (own 92 refl, (own 117 refl, (own 48 refl, (own 48 refl, (hex (x / 16) (omega arith), (hex (x % 16) (omega arith), tt))))))
       go false false p r q = (allows.letter x (q refl) l, tt)
 
   escape_good : (s : List ℕ) → AllByRecursion Letter s → AllByRecursion Good (escape s)

@@ -32,7 +32,7 @@ entries_weight : (es : List Entry) (most : ℕ) → AreLong most es → weight (
 entries_weight [] most p = omega arith
 entries_weight (e ∷ es) most p =
     let more : (most + 1) * suc (length es) ≡ (most + 1) + (most + 1) * length es = grind arith in
-    omega (arith, entries_weight es most p.1, p.0, more)
+    omega (arith, entries_weight es most p.1)
 
 flag_short : (b : Bool) → length (compact_text (boolean b)) ≤ 5
 flag_short true = omega arith

@@ -65,7 +65,7 @@ module _ (set : Set) (well : is_well_formed set ≡ true) where
         (nat_le (get_or (struct_depths set.structs) j 0) 4) (struct_clean set well j lt).own.1.1.1.1.1.1.0).1
     | inr le ↦
         let long = first_long (λ depths d. 1 + deepest depths d.fields) set.structs (length set.structs) in
-        omega (arith, get_or-eq_default (struct_depths set.structs) 0 {n = j} (omega (arith, long)))
+        omega (arith, get_or-eq_default (struct_depths set.structs) 0 {n = j} (omega arith))
   ]
 
   pub fields_flat : (fs : List Field) → deepest (struct_depths set.structs) fs ≤ 4

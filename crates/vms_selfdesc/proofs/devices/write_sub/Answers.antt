@@ -8,12 +8,11 @@ use Rattle.vms_selfdesc.proofs.devices.write_sub.Goals as goal
 
 pub write_fields-requires-clause-place : goal.write_fields-requires-clause-place
 write_fields-requires-clause-place c =
-    let set = described c.args.lister.now.set.now in
     let device = c.requires.device in
     record {
       has = (device.is_device, c.requires.is_sub);
       few = device.few;
-      room = omega (arith, c.first_cell-cell.ensures, sub_inside set c.args.device c.args.sub c.requires.is_sub, device.cells);
+      room = omega (arith, sub_inside (described c.args.lister.now.set.now) c.args.device c.args.sub c.requires.is_sub);
     }
 
 pub write_fields-requires-clause-no_path : goal.write_fields-requires-clause-no_path
