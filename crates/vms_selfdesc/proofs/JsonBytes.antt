@@ -1,10 +1,10 @@
 -- The bytes in the text of a JSON value without spaces: those of its strings, escaped, and others from 34 to 125.
-use Rattle.vms_selfdesc.proofs.Facade.{◌≡◌, ℕ, zero, suc, ◌<◌, ◌≤◌, ◌%◌, ◌/◌, ◌+◌, Bool, true, false, cond, ◌&&◌, ◌||◌, ◌==◌, nat_lt, nat_le, if◌then◌else◌}
-use Rattle.vms_selfdesc.proofs.Facade.{List, [], ◌∷◌, ◌++◌, map, Option, Some, None, ℤ, pos, negsuc, refl, arith, codes, AllByRecursion, list_all, and_parts}
-use Rattle.vms_selfdesc.proofs.Facade.{eqb-true, leb-true, ltb-true, ltb-false, lt-ltb, digit_char, digits, digits_onto, digit_glyph, escape, escape_byte}
-use Rattle.vms_selfdesc.proofs.Facade.{escape_letter, quoted, unsigned, negative, float, Data, null, boolean, number, string, array, object, Items, no_items}
-use Rattle.vms_selfdesc.proofs.Facade.{item, Members, no_members, member, items_of, number_text, comma_if, compact_text, items_text, members_text, Kind}
-use Rattle.vms_selfdesc.proofs.Facade.{kind_word, Entry, entry_tree, sub_members, device_members}
+use Rattle.vms_selfdesc.proofs.Facade.{cases_lt, inl, inr, le-ltb, ◌≡◌, ℕ, zero, suc, ◌<◌, ◌≤◌, ◌%◌, ◌/◌, ◌+◌, Bool, true, false, cond, ◌&&◌, ◌||◌, ◌==◌}
+use Rattle.vms_selfdesc.proofs.Facade.{nat_lt, nat_le, if◌then◌else◌, List, [], ◌∷◌, ◌++◌, map, Option, Some, None, ℤ, pos, negsuc, refl, arith, codes}
+use Rattle.vms_selfdesc.proofs.Facade.{AllByRecursion, list_all, and_parts, eqb-true, leb-true, ltb-true, ltb-false, lt-ltb, digit_char, digits, digits_onto}
+use Rattle.vms_selfdesc.proofs.Facade.{digit_glyph, escape, escape_byte, escape_letter, quoted, unsigned, negative, float, Data, null, boolean, number, string}
+use Rattle.vms_selfdesc.proofs.Facade.{array, object, Items, no_items, item, Members, no_members, member, items_of, number_text, comma_if, compact_text}
+use Rattle.vms_selfdesc.proofs.Facade.{items_text, members_text, Kind, kind_word, Entry, entry_tree, sub_members, device_members}
 use Rattle.std.specs.Fmt.{decimal}
 use Rattle.serde_json.specs.Data.{Num}
 use Rattle.vms_kinds.specs.declared.Kind.TheVariants as kinds
@@ -94,11 +94,10 @@ module _ {Letter Good : ℕ → Type 0} (allows : Allows Letter Good) where
       go false false false false false false false p q h = cc
 
   hex : (d : ℕ) → d < 16 → Good (digit_char d)
-  hex d lt = go (nat_lt d 10) (λ h. ltb-true d 10 h)
-    where
-      go : (b : Bool) → (b ≡ true → d < 10) → Good (cond b (48 + d) (87 + d))
-      go true p = let i = p refl in allows.own (48 + d) (omega arith) (omega arith)
-      go false p = allows.own (87 + d) (omega arith) (omega arith)
+  hex d lt = elim (cases_lt d 10) [
+    | inl low ↦ rw (lt-ltb d 10 low) (allows.own (48 + d) (omega arith) (omega arith))
+    | inr le ↦ rw (le-ltb d 10 le) (allows.own (87 + d) (omega arith) (omega arith))
+  ]
 
   byte_good : (x : ℕ) → Letter x → AllByRecursion Good (escape_byte x)
   unfolding escape_byte

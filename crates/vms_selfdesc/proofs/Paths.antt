@@ -28,10 +28,8 @@ item_levels_are (Struct j) = omega arith
 item_levels_are _ = omega arith
 
 pub levels_are : (set : Set) (part : Part) → part_rank set part ≡ 5 * part_levels set part
-levels_are set parts.Set = omega arith
 levels_are set (parts.Struct j) = omega arith
-levels_are set (parts.Device i) = omega arith
-levels_are set (parts.Sub i j) = omega arith
+levels_are set _ = omega arith
 
 pub few_levels : (set : Set) → is_well_formed set ≡ true → (part : Part) → HasPart set part → part_levels set part ≤ 64
 few_levels set well parts.Set h = absurd h

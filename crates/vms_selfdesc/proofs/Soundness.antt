@@ -1,7 +1,7 @@
 -- What well-formed sets say of names, sizes and depths.
-use Rattle.vms_selfdesc.proofs.Facade.{cases_lt, inl, inr, ◌≡◌, ℕ, suc, ◌+◌, ◌<◌, ◌≤◌, ◌^◌, List, [], ◌∷◌, length, get_or, ℤ, pos, negsuc, Bool, true, ◌&&◌}
-use Rattle.vms_selfdesc.proofs.Facade.{nat_le, arith, list_all, and_parts, leb-true, length-decimal-le, get_or-eq_default, number_text, of_integer, Kind, Item}
-use Rattle.vms_selfdesc.proofs.Facade.{Num, Unused, lowest, highest, MOST_UNUSED, Part, Field, Desc, Set, no_desc, counted, no_field, is_name, int_le, in_range}
+use Rattle.vms_selfdesc.proofs.Facade.{cases_lt, inl, inr, ◌≡◌, ℕ, suc, ◌+◌, ◌<◌, ◌≤◌, ◌^◌, List, [], ◌∷◌, length, get_or, ℤ, pos, negsuc, true, ◌&&◌, nat_le}
+use Rattle.vms_selfdesc.proofs.Facade.{arith, list_all, and_parts, leb-true, length-decimal-le, get_or-eq_default, number_text, of_integer, Kind, Item, Num}
+use Rattle.vms_selfdesc.proofs.Facade.{Unused, lowest, highest, MOST_UNUSED, Part, Field, Desc, Set, no_desc, counted, no_field, is_name, int_le, in_range}
 use Rattle.vms_selfdesc.proofs.Facade.{defaults_well, counts_well, is_small_item, is_small_optional, field_rules, struct_depths, has_few, deepest, first_long}
 use Rattle.vms_selfdesc.proofs.Facade.{deepest_small, is_well_formed, HasPart, desc_at, AllTrue, reach, field_sound, struct_clean}
 use Rattle.vms_kinds.specs.declared.Kind.TheVariants as kinds
@@ -12,14 +12,7 @@ use Rattle.vms_selfdesc.proofs.Plain.{name_short}
 
 pub natural_fits : (kind : Kind) (n : ℕ) → int_le (pos n) (highest kind) ≡ true → n < 2 ^ 64
 natural_fits kinds.U8 n e = omega (arith, leb-true n 0xff e)
-natural_fits kinds.U16 n e = omega (arith, leb-true n 0xffff e)
-natural_fits kinds.U32 n e = omega (arith, leb-true n 0xffff_ffff e)
-natural_fits kinds.I8 n e = omega (arith, leb-true n 0x7f e)
-natural_fits kinds.I16 n e = omega (arith, leb-true n 0x7fff e)
-natural_fits kinds.I32 n e = omega (arith, leb-true n 0x7fff_ffff e)
-natural_fits kinds.I64 n e = omega (arith, leb-true n 0x7fff_ffff_ffff_ffff e)
-natural_fits kinds.Bool n e = omega (arith, leb-true n 1 e)
-natural_fits _ n e = omega (arith, leb-true n 0xffff_ffff_ffff_ffff e)
+natural_fits _ n e = omega (arith, leb-true n _ e)
 
 pub negative_fits : (kind : Kind) (n : ℕ) → int_le (lowest kind) (negsuc n) ≡ true → n < 2 ^ 63
 negative_fits kinds.I8 n e = omega (arith, leb-true n 0x7f e)

@@ -1,4 +1,4 @@
-use Rattle.vms_selfdesc.proofs.Facade.{◌<◌, ◌∙◌, ◌∷◌, [], length, arith, described, device_at, state_of}
+use Rattle.vms_selfdesc.proofs.Facade.{◌∙◌, ◌∷◌, [], arith, described, state_of}
 use Rattle.vms_selfdesc.proofs.Trees.{leaves_all, leaves_rest, leaves_none, subs_begin, subs_next, subs_end}
 use Rattle.vms_selfdesc.proofs.devices.write_each.Goals as goal
 
