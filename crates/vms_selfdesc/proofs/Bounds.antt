@@ -1,56 +1,36 @@
 -- Ready images are images of their devices.
 use Rattle.vms_selfdesc.proofs.Facade.{◌≡◌, ℕ, ◌<◌, List, length, get_or, Some, ap, sym, ◌∙◌, arith, true, [], ◌≤◌, zero, suc, ◌*◌, ◌∷◌, refl, Bool, is_none}
-use Rattle.vms_selfdesc.proofs.Facade.{slice_get-get_or, list_all, ltb-true, Set, Sub, Device, AtLeast, no_desc, first, Image, AreReady, longest_text}
-use Rattle.vms_selfdesc.proofs.Facade.{versions_long, device_at, is_well_formed, shipped_set, clock_set, few_cells, IsOfDevice, read, FitsHeads, first_fault}
-use Rattle.vms_selfdesc.proofs.Facade.{none_is, few_items, few_devices, IsSound, described_tree, described_text, shipped_sets, sub_at, few_subs, device_clean}
-use Rattle.vms_selfdesc.proofs.Facade.{sub_clean, clock_heads, by_number, clock_formed, fit_number, ShortLaw, ShippedLaw, ClockLaw}
+use Rattle.vms_selfdesc.proofs.Facade.{slice_get-get_or, list_all, ltb-true, Set, Sub, Device, first, Image, AreReady, longest_text, versions_long, device_at}
+use Rattle.vms_selfdesc.proofs.Facade.{is_well_formed, shipped_set, clock_set, few_cells, IsOfDevice, read, FitsHeads, first_fault, none_is, few_items}
+use Rattle.vms_selfdesc.proofs.Facade.{few_devices, IsSound, described_tree, described_text, shipped_sets, sub_at, few_subs, device_clean, sub_clean}
+use Rattle.vms_selfdesc.proofs.Facade.{clock_heads, by_number, clock_formed, fit_number, ShortLaw, ShippedLaw, ClockLaw}
+use Rattle.vms_selfdesc.proofs.Lengths.{IsShortDevice, no_device, no_sub}
 use Rattle.vms_selfdesc.proofs.Shapes.{described_plain}
 use Rattle.vms_selfdesc.proofs.WholeText.{reads_whole}
 use Rattle.std.specs.Prelude.{nat_lt}
-use Rattle.vms_selfdesc.proofs.Lengths.{IsShortDesc, AreShortSubs, AreShortDevices, subs_of, set_room, text_long, room_less}
+use Rattle.vms_selfdesc.proofs.Lengths.{AreShortDevices, subs_of, set_room, text_long, room_less}
 use Rattle.vms_selfdesc.proofs.Plain.{name_short, sub_name_short}
 use Rattle.vms_selfdesc.proofs.Soundness.{part_sound}
 use Rattle.vms_spec.specs.declared.Part.TheVariants as parts
 
-abbrev no_device : Device
-no_device = record { instance = 0; desc = no_desc; subs = [] }
-
-abbrev no_sub : Sub
-no_sub = record { desc = no_desc; needed = AtLeast 0 }
-
 pub ready_device : (set : Set) → is_well_formed set ≡ true → (images : List Image) → AreReady set images → (i : ℕ) (image : Image) → i < length images
     → image ≡ get_or images i image → IsOfDevice set i image
 ready_device set well images ready i image lt is =
-    let there : i < length set.devices = omega (arith, ready.one_each) in
-    let r = ready.ready i (device_at set i) image (slice_get-get_or set.devices i no_device there) (slice_get-get_or images i image lt ∙ ap (λ x. Some x) (sym is)) in
+    let there : i < length set.devices = omega arith in
+    let at = slice_get-get_or images i image lt ∙ ap (λ x. Some x) (sym is) in
+    let r = ready.ready i (device_at set i) image (slice_get-get_or set.devices i no_device there) at in
     record {
       is_device = there;
       cells = r.normal.cells.long;
       subs = versions_long (device_at set i).subs image.came r.normal.subs;
-      few = omega (arith, few_cells set well i, r.normal.cells.long);
+      few = omega (arith, few_cells set well i);
     }
 
 -- ---- The text of every well-formed set is shorter than what a description section may have, and that of a shipped set is short.
 
-all_subs : (subs : List Sub) → ((j : ℕ) → j < length subs → IsShortDesc 165 (get_or subs j no_sub).desc) → AreShortSubs subs
-all_subs [] h = tt
-all_subs (s ∷ subs) h = (h 0 (omega arith), all_subs subs (λ j lt. h (suc j) (omega arith)))
-
-record IsShortDevice (d : Device) : Type 0 where
-  pub desc : IsShortDesc 100 d.desc
-  pub instance : d.instance < 4294967296
-  pub subs : AreShortSubs d.subs
-  pub few : length d.subs ≤ 32
-
-all_devices : (devices : List Device) → ((i : ℕ) → i < length devices → IsShortDevice (get_or devices i no_device)) → AreShortDevices devices
-all_devices [] h = tt
-all_devices (d ∷ devices) h =
-    let here = h 0 (omega arith) in
-    (here.desc, here.instance, here.subs, all_devices devices (λ i lt. h (suc i) (omega arith)))
-
-few_of : (devices : List Device) → ((i : ℕ) → i < length devices → IsShortDevice (get_or devices i no_device)) → subs_of devices ≤ 32 * length devices
+few_of : (devices : List Device) → AreShortDevices devices → subs_of devices ≤ 32 * length devices
 few_of [] h = omega arith
-few_of (d ∷ devices) h = let here = h 0 (omega arith) in omega (arith, here.few, few_of devices (λ i lt. h (suc i) (omega arith)))
+few_of (d ∷ devices) h = let here = h 0 (omega arith) in omega (arith, few_of devices (λ i lt. h (suc i) (omega arith)))
 
 module _ (set : Set) (well : is_well_formed set ≡ true) (heads : FitsHeads set) where
   short_device : (i : ℕ) → i < length set.devices → IsShortDevice (device_at set i)
@@ -61,17 +41,17 @@ module _ (set : Set) (well : is_well_formed set ≡ true) (heads : FitsHeads set
       record {
         desc = record { sound = part_sound set well (parts.Device i) lt; name = name; version = omega (arith, (heads.instance i d here).1) };
         instance = omega (arith, (heads.instance i d here).0);
-        subs = all_subs d.subs (λ j l.
+        subs = λ j l.
             record {
               sound = part_sound set well (parts.Sub i j) (lt, l);
               name = sub_name_short d.desc.name (sub_at d j).desc.name name (sub_clean set well i j lt l).own.0;
               version = omega (arith, heads.sub_version i j d (sub_at d j) here (slice_get-get_or d.subs j no_sub l));
-            });
+            };
         few = few_subs set well i lt;
       }
 
   pub set_long : (images : List Image) → length (described_text set images) ≤ set_room set
-  set_long images = text_long set well images (all_devices set.devices short_device) (few_items set well)
+  set_long images = text_long set well images short_device (few_items set well)
 
   set_short : (images : List Image) → length (described_text set images) < longest_text
   set_short images = omega (arith, set_long images, room_less set well, few_items set well, few_of set.devices short_device, few_devices set well)
@@ -110,9 +90,7 @@ clock_holds = record { clock = λ s images. omega (arith, set_long (clock_set s)
 
 module _ (set : Set) (images : List Image) where
   pub text_reads : IsSound (described_tree set images) → (bytes : List ℕ) → bytes ≡ described_text set images → read bytes ≡ Some (described_tree set images)
-  text_reads sound bytes is =
-      let plain = described_plain set images in
-      reads_whole (described_tree set images) bytes is sound (omega (arith, plain.flat))
+  text_reads sound bytes is = reads_whole (described_tree set images) bytes is sound (omega (arith, described_plain set images))
 
   pub text_short : is_well_formed set ≡ true → FitsHeads set → length (described_text set images) < longest_text
   text_short well heads = short_holds.short set (none_is (first_fault set) well) heads images

@@ -48,5 +48,5 @@ sent_long path size type p small word = omega (arith, sent_members_long path typ
 pub absent_long : (path type : List ℕ) (z : ℤ) → IsPlain path → length (quoted type) ≤ 8 → length (number_text (of_integer z)) ≤ 20
     → length (compact_text (entry_tree (absent_entry path type z))) ≤ length path + 68
 absent_long path type z p word short =
-    let ms = member (codes "value") (number (of_integer z)) no_members in
-    omega (arith, sent_members_long path type 0 ms p (omega arith) word, member_long true (codes "value") (number (of_integer z)) no_members, key_long (codes "value") refl)
+    let last = member_long true (codes "value") (number (of_integer z)) no_members in
+    omega (arith, sent_members_long path type 0 (member (codes "value") (number (of_integer z)) no_members) p (omega arith) word, key_long (codes "value") refl)

@@ -22,7 +22,7 @@ append_long most (x ∷ xs) ys p q = (p.0, append_long most xs ys p.1 q)
 
 pub longer : (a b : ℕ) (es : List Entry) → a ≤ b → AreLong a es → AreLong b es
 longer a b [] le p = tt
-longer a b (e ∷ es) le p = let here = p.0 in (omega arith, longer a b es le p.1)
+longer a b (e ∷ es) le p = (omega arith, longer a b es le p.1)
 
 none_long : (most : ℕ) (es : List Entry) → length es ≤ 0 → AreLong most es
 none_long most [] le = tt
@@ -53,7 +53,7 @@ pub record Listed (C : Type 0) (items most : ℕ) (es : List Entry) : Type 0 whe
 both : {C D E : Type 0} {a b v w : ℕ} {xs ys : List Entry} (most : ℕ) → Listed C a v xs → Listed D b w ys → v ≤ most → w ≤ most → (E → C × D)
     → Listed E (a + b) most (xs ++ ys)
 both {xs = xs} {ys = ys} most f g le le' part = record {
-  few = omega (arith, length-append xs ys, f.few, g.few);
+  few = omega (arith, length-append xs ys);
   long = λ e. append_long most xs ys (longer _ most xs le (f.long (part e).0)) (longer _ most ys le' (g.long (part e).1));
 }
 
@@ -99,7 +99,8 @@ module _ (ss : List Shape) (sizes depths : List ℕ) (fit : FitTables ss sizes d
 
 -- ---- elements one after the other, at most m of them; if each has an entry, m is small
 
-few_each : (c i m most : ℕ) (es : List Entry) → i < m → m * c ≤ MOST_ITEMS → length es ≤ c → (i < MOST_ITEMS → c ≤ MOST_ITEMS → AreLong most es) → AreLong most es
+few_each : (c i m most : ℕ) (es : List Entry) → i < m → m * c ≤ MOST_ITEMS → length es ≤ c → (i < MOST_ITEMS → c ≤ MOST_ITEMS → AreLong most es)
+    → AreLong most es
 few_each zero i m most es lt items few long = none_long most es few
 few_each (suc c) i m most es lt items few long =
     let whole : m * suc c ≡ m + m * c = grind arith in
@@ -130,7 +131,7 @@ module _ (one : List ℕ → ℕ → List Entry) (w c : ℕ) (S : Type 0)
       record { few = omega (arith, e.few); long = λ h. longer _ _ _ (omega arith) (e.long (h.0, h.1, omega (arith, h.2))) }
   array_listed count n path at step le =
       let es = elements_listed path at step 0 n (capacity_of count) (omega arith) in
-      record { few = omega (arith, es.few, mul-le-mul_right {m = n} {n = capacity_of count} c le); long = es.long }
+      record { few = omega (arith, mul-le-mul_right {m = n} {n = capacity_of count} c le); long = es.long }
 
 -- ---- fields
 
@@ -141,12 +142,13 @@ module _ (ss : List Shape) (sizes depths : List ℕ) (fit : FitTables ss sizes d
         (length path + 40 * item_depth depths f.item + 107) (entries_of sent path (field_elements ss fields v own n i at f))
     field_listed i at f =
         let there = sent && is_there f.test f.since v own no_parent in
-        let es = array_listed (item_entries ss f.item f.default there n) (40 * item_depth depths f.item + 68) (item_count sizes f.item) (IsSmall f.item f.default)
+        let es =
+        array_listed (item_entries ss f.item f.default there n) (40 * item_depth depths f.item + 68) (item_count sizes f.item) (IsSmall f.item f.default)
         (λ path at. item_listed ss sizes depths fit f.item f.default there n path at) f.count (elements_of f.count own) (path ++ f.name) at
         (item_size (cells_in ss) f.item) (elements_fit f.count own) in
         rw (of_field ss fields v own sent path n i at f) (record {
           few = es.few;
-          long = λ h. longer _ _ _ (omega (arith, length-append path f.name, h.1.name.short))
+          long = λ h. longer _ _ _ (omega (arith, length-append path f.name))
               (es.long (plain_append path f.name h.0 h.1.name.plain, h.1.small, h.2));
         })
 
@@ -156,7 +158,7 @@ module _ (ss : List Shape) (sizes depths : List ℕ) (fit : FitTables ss sizes d
     fields_listed i at [] = record { few = omega arith; long = λ h. tt }
     fields_listed i at (f ∷ fs) =
         rw of_append (both _ (field_listed i at f) (fields_listed (suc i) (at + length (field_cells (cells_in ss) fields i f)) fs) (omega arith) (omega arith)
-        (λ h. ((h.0, h.1.0, omega (arith, h.2)), (h.0, h.1.1, omega (arith, h.2)))))
+        (λ h. ((h.0, h.1.0, omega arith), (h.0, h.1.1, omega arith))))
 
   -- ---- a description
 
@@ -202,7 +204,7 @@ module _ (ds : List Desc) (most : ℕ) (sound : (j : ℕ) → j < most → AreSo
 
   -- what is in the first k, where each of them fits
   at_number : (k : ℕ) → ((j : ℕ) → j < k → made j) → FitTables (first shape ds k) (first items_of_desc ds k) (first depth_of_desc ds k)
-  at_number k each j = elim (cases_lt j k) as (λ _. Fits (get_or (first shape ds k) j no_shape) (get_or (first items_of_desc ds k) j 0) (get_or (first depth_of_desc ds k) j 0)) [
+  at_number k each j = elim (cases_lt j k) [
     | inl lt ↦ rw (first_at shape ds no_shape k j lt, first_at items_of_desc ds 0 k j lt, first_at depth_of_desc ds 0 k j lt) (each j lt)
     | inr le ↦ rw (
       get_or-eq_default (first shape ds k) no_shape {n = j} (omega (arith, first_long shape ds k)),

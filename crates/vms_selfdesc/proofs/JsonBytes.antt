@@ -1,10 +1,10 @@
 -- The bytes in the text of a JSON value without spaces: those of its strings, escaped, and others from 34 to 125.
-use Rattle.vms_selfdesc.proofs.Facade.{◌≡◌, ℕ, zero, suc, ◌<◌, ◌≤◌, ◌%◌, ◌/◌, ◌+◌, Bool, true, false, cond, ◌&&◌, ◌||◌, ◌==◌, nat_lt, nat_le, if◌then◌else◌}
-use Rattle.vms_selfdesc.proofs.Facade.{List, [], ◌∷◌, ◌++◌, map, Option, Some, None, ℤ, pos, negsuc, refl, arith, codes, AllByRecursion, list_all, and_parts}
-use Rattle.vms_selfdesc.proofs.Facade.{eqb-true, leb-true, ltb-true, ltb-false, lt-ltb, digit_char, digits, digits_onto, digit_glyph, escape, escape_byte}
-use Rattle.vms_selfdesc.proofs.Facade.{escape_letter, quoted, unsigned, negative, float, Data, null, boolean, number, string, array, object, Items, no_items}
-use Rattle.vms_selfdesc.proofs.Facade.{item, Members, no_members, member, items_of, number_text, comma_if, compact_text, items_text, members_text, Kind}
-use Rattle.vms_selfdesc.proofs.Facade.{kind_word, Entry, entry_tree, sub_members, device_members}
+use Rattle.vms_selfdesc.proofs.Facade.{cases_lt, inl, inr, le-ltb, ◌≡◌, ℕ, zero, suc, ◌<◌, ◌≤◌, ◌%◌, ◌/◌, ◌+◌, Bool, true, false, cond, ◌&&◌, ◌||◌, ◌==◌}
+use Rattle.vms_selfdesc.proofs.Facade.{nat_lt, nat_le, if◌then◌else◌, List, [], ◌∷◌, ◌++◌, map, Option, Some, None, ℤ, pos, negsuc, refl, arith, codes}
+use Rattle.vms_selfdesc.proofs.Facade.{AllByRecursion, list_all, and_parts, eqb-true, leb-true, ltb-true, ltb-false, lt-ltb, digit_char, digits, digits_onto}
+use Rattle.vms_selfdesc.proofs.Facade.{digit_glyph, escape, escape_byte, escape_letter, quoted, unsigned, negative, float, Data, null, boolean, number, string}
+use Rattle.vms_selfdesc.proofs.Facade.{array, object, Items, no_items, item, Members, no_members, member, items_of, number_text, comma_if, compact_text}
+use Rattle.vms_selfdesc.proofs.Facade.{items_text, members_text, Kind, kind_word, Entry, entry_tree, sub_members, device_members}
 use Rattle.std.specs.Fmt.{decimal}
 use Rattle.serde_json.specs.Data.{Num}
 use Rattle.vms_kinds.specs.declared.Kind.TheVariants as kinds
@@ -84,8 +84,8 @@ module _ {Letter Good : ℕ → Type 0} (allows : Allows Letter Good) where
       go : (a b c d e f g : Bool) → (a ≡ true → x ≡ 34) → (b ≡ true → x ≡ 92)
           → nat_lt 0 (cond (a || b) x (cond c 98 (cond d 102 (cond e 110 (cond f 114 (cond g 116 0)))))) ≡ true
           → Good (cond (a || b) x (cond c 98 (cond d 102 (cond e 110 (cond f 114 (cond g 116 0))))))
-      go true b c d e f g p q h = let i = p refl in allows.own x (omega (arith, i)) (omega (arith, i))
-      go false true c d e f g p q h = let i = q refl in allows.own x (omega (arith, i)) (omega (arith, i))
+      go true b c d e f g p q h = let i = p refl in allows.own x (omega arith) (omega arith)
+      go false true c d e f g p q h = let i = q refl in allows.own x (omega arith) (omega arith)
       go false false true d e f g p q h = own 98 refl
       go false false false true e f g p q h = own 102 refl
       go false false false false true f g p q h = own 110 refl
@@ -94,11 +94,10 @@ module _ {Letter Good : ℕ → Type 0} (allows : Allows Letter Good) where
       go false false false false false false false p q h = cc
 
   hex : (d : ℕ) → d < 16 → Good (digit_char d)
-  hex d lt = go (nat_lt d 10) (λ h. ltb-true d 10 h)
-    where
-      go : (b : Bool) → (b ≡ true → d < 10) → Good (cond b (48 + d) (87 + d))
-      go true p = let i = p refl in allows.own (48 + d) (omega arith) (omega (arith, i))
-      go false p = allows.own (87 + d) (omega arith) (omega arith)
+  hex d lt = elim (cases_lt d 10) [
+    | inl low ↦ rw (lt-ltb d 10 low) (allows.own (48 + d) (omega arith) (omega arith))
+    | inr le ↦ rw (le-ltb d 10 le) (allows.own (87 + d) (omega arith) (omega arith))
+  ]
 
   byte_good : (x : ℕ) → Letter x → AllByRecursion Good (escape_byte x)
   unfolding escape_byte
@@ -108,7 +107,7 @@ module _ {Letter Good : ℕ → Type 0} (allows : Allows Letter Good) where
           → AllByRecursion Good (cond a (92 ∷ escape_letter x ∷ []) (cond b (92 ∷ 117 ∷ 48 ∷ 48 ∷ digit_char (x / 16) ∷ digit_char (x % 16) ∷ []) (x ∷ [])))
       go true b p r q = (own 92 refl, (p refl, tt))
       go false true p r q =
-          let i = r refl in (own 92 refl, (own 117 refl, (own 48 refl, (own 48 refl, (hex (x / 16) (omega (arith, i)), (hex (x % 16) (omega arith), tt))))))
+          let i = r refl in (own 92 refl, (own 117 refl, (own 48 refl, (own 48 refl, (hex (x / 16) (omega arith), (hex (x % 16) (omega arith), tt))))))
       go false false p r q = (allows.letter x (q refl) l, tt)
 
   escape_good : (s : List ℕ) → AllByRecursion Letter s → AllByRecursion Good (escape s)

@@ -1,10 +1,11 @@
 -- How long the text of the described tree is, by the depth of structures and the number of items: at most 300 bytes for each item,
 -- subsection and device, and fewer for the items of a part without structures.
-use Rattle.vms_selfdesc.proofs.Facade.{◌≡◌, ℕ, suc, ◌+◌, ◌*◌, ◌<◌, ◌≤◌, List, [], ◌∷◌, length, length-append, map, ℤ, Bool, true, false, arith, Option, is_some}
-use Rattle.vms_selfdesc.proofs.Facade.{codes, mul-le-mul_left, mul-le-mul_right, list_tree, natural, string, escape_byte, Data, no_members, member, object}
-use Rattle.vms_selfdesc.proofs.Facade.{array, boolean, items_of, compact_text, items_text, MOST_ITEMS, Field, Desc, Sub, Device, Set, desc_cells, struct_cells}
-use Rattle.vms_selfdesc.proofs.Facade.{Image, own_cells, items_in, struct_items, subs_items, devices_items, struct_depths, deepest, is_well_formed, shapes}
-use Rattle.vms_selfdesc.proofs.Facade.{Entry, part_entries, entry_tree, sub_members, sub_trees, device_members, device_trees, described_text}
+use Rattle.vms_selfdesc.proofs.Facade.{get_or, ◌≡◌, ℕ, suc, ◌+◌, ◌*◌, ◌<◌, ◌≤◌, List, [], ◌∷◌, length, length-append, map, ℤ, Bool, true, false, arith, Option}
+use Rattle.vms_selfdesc.proofs.Facade.{is_some, codes, mul-le-mul_left, mul-le-mul_right, AtLeast, no_desc, list_tree, natural, string, escape_byte, Data}
+use Rattle.vms_selfdesc.proofs.Facade.{no_members, member, object, array, boolean, items_of, compact_text, items_text, MOST_ITEMS, Field, Desc, Sub, Device}
+use Rattle.vms_selfdesc.proofs.Facade.{Set, desc_cells, struct_cells, Image, own_cells, items_in, struct_items, subs_items, devices_items, struct_depths}
+use Rattle.vms_selfdesc.proofs.Facade.{deepest, is_well_formed, shapes, Entry, part_entries, entry_tree, sub_members, sub_trees, device_members, device_trees}
+use Rattle.vms_selfdesc.proofs.Facade.{described_text}
 use Rattle.vms_selfdesc.proofs.EntryLong.{member_long}
 use Rattle.vms_selfdesc.proofs.Plain.{quoted_long}
 use Rattle.vms_spec.specs.declared.Part.TheVariants as parts
@@ -32,7 +33,7 @@ entries_weight : (es : List Entry) (most : ℕ) → AreLong most es → weight (
 entries_weight [] most p = omega arith
 entries_weight (e ∷ es) most p =
     let more : (most + 1) * suc (length es) ≡ (most + 1) + (most + 1) * length es = grind arith in
-    omega (arith, entries_weight es most p.1, p.0, more)
+    omega (arith, entries_weight es most p.1)
 
 flag_short : (b : Bool) → length (compact_text (boolean b)) ≤ 5
 flag_short true = omega arith
@@ -99,13 +100,23 @@ pub record IsShortDesc (most : ℕ) (d : Desc) : Type 0 where
   pub name : IsShort most d.name
   pub version : d.version < 4294967296
 
+abbrev pub no_sub : Sub
+no_sub = record { desc = no_desc; needed = AtLeast 0 }
+
+abbrev pub no_device : Device
+no_device = record { instance = 0; desc = no_desc; subs = [] }
+
 abbrev pub AreShortSubs : List Sub → Type 0
-AreShortSubs [] = Unit {0}
-AreShortSubs (s ∷ subs) = IsShortDesc 165 s.desc × AreShortSubs subs
+AreShortSubs subs = (j : ℕ) → j < length subs → IsShortDesc 165 (get_or subs j no_sub).desc
+
+pub record IsShortDevice (d : Device) : Type 0 where
+  pub desc : IsShortDesc 100 d.desc
+  pub instance : d.instance < 4294967296
+  pub subs : AreShortSubs d.subs
+  pub few : length d.subs ≤ 32
 
 abbrev pub AreShortDevices : List Device → Type 0
-AreShortDevices [] = Unit {0}
-AreShortDevices (d ∷ devices) = IsShortDesc 100 d.desc × (d.instance < 4294967296) × AreShortSubs d.subs × AreShortDevices devices
+AreShortDevices devices = (i : ℕ) → i < length devices → IsShortDevice (get_or devices i no_device)
 
 -- ---- how long a part may be
 
@@ -142,26 +153,26 @@ module _ (set : Set) (well : is_well_formed set ≡ true) where
   subs_weight : (n : List ℤ) (at : ℕ) (subs : List Sub) (came : List (Option ℕ)) → AreShortSubs subs → subs_items (struct_items set.structs) subs ≤ MOST_ITEMS
       → weight (sub_trees set n at subs came) ≤ subs_room (struct_items set.structs) (struct_depths set.structs) subs
   subs_weight n at (s ∷ subs) (c ∷ came) p few =
-      let short = p.0 in
+      let short = p 0 (omega arith) in
       omega (
         arith,
         part_weight s.desc (is_some c) n at short.sound (omega arith),
         sub_long (part_entries set s.desc (is_some c) n at) s.desc.name (is_some c) s.desc.version short.name short.version,
-        subs_weight n (at + length (desc_cells (struct_cells set) s.desc)) subs came p.1 (omega arith),
+        subs_weight n (at + length (desc_cells (struct_cells set) s.desc)) subs came (λ j lt. p (suc j) (omega arith)) (omega arith),
       )
   subs_weight n at _ _ p few = omega arith
 
   devices_weight : (devices : List Device) (images : List Image) → AreShortDevices devices → devices_items (struct_items set.structs) devices ≤ MOST_ITEMS
       → weight (device_trees set devices images) ≤ devices_room (struct_items set.structs) (struct_depths set.structs) devices
   devices_weight (d ∷ devices) (image ∷ images) p few =
-      let short = p.0 in
+      let short = p 0 (omega arith) in
       let trees = sub_trees set image.numbers (own_cells set d) d.subs image.came in
       omega (
         arith,
-        part_weight d.desc true image.numbers 0 short.sound (omega arith),
-        subs_weight image.numbers (own_cells set d) d.subs image.came p.2 (omega arith),
-        device_long (part_entries set d.desc true image.numbers 0) d.instance d.desc.name trees d.desc.version short.name p.1 short.version,
-        devices_weight devices images p.3 (omega arith),
+        part_weight d.desc true image.numbers 0 short.desc.sound (omega arith),
+        subs_weight image.numbers (own_cells set d) d.subs image.came short.subs (omega arith),
+        device_long (part_entries set d.desc true image.numbers 0) d.instance d.desc.name trees d.desc.version short.desc.name short.instance short.desc.version,
+        devices_weight devices images (λ i lt. p (suc i) (omega arith)) (omega arith),
       )
   devices_weight _ _ p few = omega arith
 

@@ -57,7 +57,8 @@ module _ (set : Set) (j : ℕ) (lt : j < length set.structs) (below : FieldsBelo
   pub struct_cells_are : get_or (struct_cells set) j [] ≡ desc_cells (struct_cells set) (get_or set.structs j no_desc)
   struct_cells_are =
       let ds = set.structs in
-      first_at desc_cells ds [] (length ds) j lt ∙ desc_cells_same j _ _ (λ i l. first_same desc_cells ds [] j (length ds) i (omega arith) l) (get_or ds j no_desc) below
+      first_at desc_cells ds [] (length ds) j lt
+      ∙ desc_cells_same j _ _ (λ i l. first_same desc_cells ds [] j (length ds) i (omega arith) l) (get_or ds j no_desc) below
 
   pub struct_elements_are : (n : List ℤ) (at : ℕ)
       → (get_or (shapes set) j no_shape).elements n at ≡ desc_elements (shapes set) (get_or set.structs j no_desc) (get_or set.structs j no_desc).version n at
@@ -155,7 +156,8 @@ pub of_field : (shapes : List Shape) (fields : List Field) (v : ℕ) (own : ℕ 
 of_field shapes fields v own sent path n i at f =
     let there = is_there f.test f.since v own no_parent in
     of_count f i there (item_elements shapes f.item (counted i fields) f.default n) (item_size (cells_in shapes) f.item) sent path
-    (item_entries shapes f.item f.default (sent && there) n) (λ p a. any_capacities shapes f.item (counted i fields) f.default (sent && there) n p a) own f.count at refl
+    (item_entries shapes f.item f.default (sent && there) n)
+    (λ p a. any_capacities shapes f.item (counted i fields) f.default (sent && there) n p a) own f.count at refl
 
 -- ---- descriptions
 

@@ -21,19 +21,17 @@ enters old {now} {kept} more is e =
 pub index_long : (path : List ℕ) (i : ℕ) → i < 2 ^ 32 → length (element_path path i) ≤ length path + 12
 index_long path i lt =
     let digits = length-decimal-le 10 i (omega arith) (omega arith) (omega arith) in
-    omega (arith, length-append path (91 ∷ (decimal i ++ 93 ∷ [])), length-append (decimal i) (93 ∷ []), digits)
+    omega (arith, length-append path (91 ∷ (decimal i ++ 93 ∷ [])), length-append (decimal i) (93 ∷ []))
 
 pub item_levels_are : (item : Item) → item_rank item ≡ 5 * item_levels item
 item_levels_are (Struct j) = omega arith
 item_levels_are _ = omega arith
 
 pub levels_are : (set : Set) (part : Part) → part_rank set part ≡ 5 * part_levels set part
-levels_are set parts.Set = omega arith
 levels_are set (parts.Struct j) = omega arith
-levels_are set (parts.Device i) = omega arith
-levels_are set (parts.Sub i j) = omega arith
+levels_are set _ = omega arith
 
 pub few_levels : (set : Set) → is_well_formed set ≡ true → (part : Part) → HasPart set part → part_levels set part ≤ 64
 few_levels set well parts.Set h = absurd h
-few_levels set well (parts.Struct j) h = omega (arith, h, few_structs set well)
+few_levels set well (parts.Struct j) h = omega (arith, few_structs set well)
 few_levels set well _ h = few_structs set well

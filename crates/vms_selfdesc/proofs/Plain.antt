@@ -54,8 +54,7 @@ pub record IsShort (most : ℕ) (name : List ℕ) : Type 0 where
 pub name_short : (most : ℕ) (name : List ℕ) → is_name most name ≡ true → IsShort most name
 name_short most name e =
     let p = and_parts (nat_le 1 (length name) && nat_le (length name) most) (list_all is_name_byte name) e in
-    let q = and_parts (nat_le 1 (length name)) (nat_le (length name) most) p.0 in
-    record { plain = name_plain name p.1; short = leb-true (length name) most q.1 }
+    record { plain = name_plain name p.1; short = leb-true (length name) most (and_parts (nat_le 1 (length name)) (nat_le (length name) most) p.0).1 }
 
 -- a subsection's name: its device's, a slash and a name
 pub record IsSubName (device name : List ℕ) : Type 0 where
@@ -94,7 +93,8 @@ element_plain path i lt p =
 
 pub element_long : (path : List ℕ) (i : ℕ) → i < MOST_ITEMS → length (element_path path i) ≤ length path + 7
 element_long path i lt =
-    omega (arith, length-append path (91 ∷ (decimal i ++ 93 ∷ [])), length-append (decimal i) (93 ∷ []), length-decimal-le 5 i (omega arith) (omega arith) (omega arith))
+    let digits = length-decimal-le 5 i (omega arith) (omega arith) (omega arith) in
+    omega (arith, length-append path (91 ∷ (decimal i ++ 93 ∷ [])), length-append (decimal i) (93 ∷ []))
 
 pub dot_plain : (path : List ℕ) → IsPlain path → IsPlain (path ++ 46 ∷ [])
 dot_plain path p = plain_append path (46 ∷ []) p (mark 46 (omega arith) (λ e. omega arith))
@@ -125,8 +125,8 @@ further {a} {b} {c} {xs} {ys} f g = record {
       (early.0, rw (late.1, early.1, append_assoc));
   fits = λ e le.
       let there = f.fits e (omega (arith, length-append xs ys)) in
-      g.fits there (omega (arith, ap length (f.whole there).1, length-append (string_bytes a.written) xs, length-append xs ys, f.room));
-  room = omega (arith, f.room, g.room);
+      g.fits there (omega (arith, ap length (f.whole there).1, length-append (string_bytes a.written) xs, length-append xs ys));
+  room = omega arith;
 }
 
 pub same : {a b : Text} {xs ys : List ℕ} → Extends a b xs → xs ≡ ys → Extends a b ys
@@ -141,7 +141,7 @@ pub wrote : {a b : Text} {room : ℕ} {bytes : List ℕ} → IsEmpty a room → 
 wrote empty more e = rw ((more.whole e).1, empty.bytes)
 
 pub enough : {a b : Text} {room : ℕ} {bytes : List ℕ} → IsEmpty a room → Extends a b bytes → length bytes ≤ room → b.whole ≡ true
-enough empty more le = more.fits empty.whole (omega (arith, ap length empty.bytes, empty.room))
+enough empty more le = more.fits empty.whole (omega (arith, ap length empty.bytes))
 
 -- ---- The texts of members and entries, piece by piece.
 

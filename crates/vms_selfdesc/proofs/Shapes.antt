@@ -19,7 +19,7 @@ items_whole deepest (d ∷ ds) p = or_from (has_float d) (items_have_float (item
 
 items_flat : (deepest : ℕ) (ds : List Data) → ArePlain deepest ds → items_depth (items_of ds) ≤ deepest
 items_flat deepest [] p = omega arith
-items_flat deepest (d ∷ ds) p = omega (arith, items_flat deepest ds p.1, p.0.flat)
+items_flat deepest (d ∷ ds) p = omega (arith, items_flat deepest ds p.1)
 
 list_plain : (deepest : ℕ) (ds : List Data) → ArePlain deepest ds → IsPlainTree (suc deepest) (array (items_of ds))
 list_plain deepest ds p = record { whole = items_whole deepest ds p; flat = omega (arith, items_flat deepest ds p) }
@@ -58,11 +58,13 @@ device_plain es instance name subs version p =
     }
 
 devices_plain : (set : Set) (devices : List Device) (images : List Image) → ArePlain 5 (device_trees set devices images)
-devices_plain set (d ∷ devices) (image ∷ images) =
-    (device_plain _ d.instance d.desc.name _ d.desc.version (subs_plain set image.numbers (own_cells set d) d.subs image.came), devices_plain set devices images)
+devices_plain set (d ∷ devices) (image ∷ images) = (
+  device_plain _ d.instance d.desc.name _ d.desc.version (subs_plain set image.numbers (own_cells set d) d.subs image.came),
+  devices_plain set devices images,
+)
 devices_plain set _ _ = tt
 
 pub described_plain : (set : Set) (images : List Image) → IsPlainTree 7 (described_tree set images)
 described_plain set images =
     let list = list_plain 5 (device_trees set set.devices images) (devices_plain set set.devices images) in
-    record { whole = or_from (has_float (array (items_of (device_trees set set.devices images)))) false list.whole refl; flat = omega (arith, list.flat) }
+    record { whole = or_from (has_float (array (items_of (device_trees set set.devices images)))) false list.whole refl; flat = omega arith }

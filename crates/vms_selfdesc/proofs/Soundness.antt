@@ -1,7 +1,7 @@
 -- What well-formed sets say of names, sizes and depths.
-use Rattle.vms_selfdesc.proofs.Facade.{cases_lt, inl, inr, ◌≡◌, ℕ, suc, ◌+◌, ◌<◌, ◌≤◌, ◌^◌, List, [], ◌∷◌, length, get_or, ℤ, pos, negsuc, Bool, true, ◌&&◌}
-use Rattle.vms_selfdesc.proofs.Facade.{nat_le, arith, list_all, and_parts, leb-true, length-decimal-le, get_or-eq_default, number_text, of_integer, Kind, Item}
-use Rattle.vms_selfdesc.proofs.Facade.{Num, Unused, lowest, highest, MOST_UNUSED, Part, Field, Desc, Set, no_desc, counted, no_field, is_name, int_le, in_range}
+use Rattle.vms_selfdesc.proofs.Facade.{cases_lt, inl, inr, ◌≡◌, ℕ, suc, ◌+◌, ◌<◌, ◌≤◌, ◌^◌, List, [], ◌∷◌, length, get_or, ℤ, pos, negsuc, true, ◌&&◌, nat_le}
+use Rattle.vms_selfdesc.proofs.Facade.{arith, list_all, and_parts, leb-true, length-decimal-le, get_or-eq_default, number_text, of_integer, Kind, Item, Num}
+use Rattle.vms_selfdesc.proofs.Facade.{Unused, lowest, highest, MOST_UNUSED, Part, Field, Desc, Set, no_desc, counted, no_field, is_name, int_le, in_range}
 use Rattle.vms_selfdesc.proofs.Facade.{defaults_well, counts_well, is_small_item, is_small_optional, field_rules, struct_depths, has_few, deepest, first_long}
 use Rattle.vms_selfdesc.proofs.Facade.{deepest_small, is_well_formed, HasPart, desc_at, AllTrue, reach, field_sound, struct_clean}
 use Rattle.vms_kinds.specs.declared.Kind.TheVariants as kinds
@@ -12,14 +12,7 @@ use Rattle.vms_selfdesc.proofs.Plain.{name_short}
 
 pub natural_fits : (kind : Kind) (n : ℕ) → int_le (pos n) (highest kind) ≡ true → n < 2 ^ 64
 natural_fits kinds.U8 n e = omega (arith, leb-true n 0xff e)
-natural_fits kinds.U16 n e = omega (arith, leb-true n 0xffff e)
-natural_fits kinds.U32 n e = omega (arith, leb-true n 0xffff_ffff e)
-natural_fits kinds.I8 n e = omega (arith, leb-true n 0x7f e)
-natural_fits kinds.I16 n e = omega (arith, leb-true n 0x7fff e)
-natural_fits kinds.I32 n e = omega (arith, leb-true n 0x7fff_ffff e)
-natural_fits kinds.I64 n e = omega (arith, leb-true n 0x7fff_ffff_ffff_ffff e)
-natural_fits kinds.Bool n e = omega (arith, leb-true n 1 e)
-natural_fits _ n e = omega (arith, leb-true n 0xffff_ffff_ffff_ffff e)
+natural_fits _ n e = omega (arith, leb-true n _ e)
 
 pub negative_fits : (kind : Kind) (n : ℕ) → int_le (lowest kind) (negsuc n) ≡ true → n < 2 ^ 63
 negative_fits kinds.I8 n e = omega (arith, leb-true n 0x7f e)
@@ -60,12 +53,12 @@ module _ (set : Set) (well : is_well_formed set ≡ true) where
 
   -- structures nest at most four deep
   struct_flat : (j : ℕ) → get_or (struct_depths set.structs) j 0 ≤ 4
-  struct_flat j = elim (cases_lt j (length set.structs)) as (λ _. get_or (struct_depths set.structs) j 0 ≤ 4) [
+  struct_flat j = elim (cases_lt j (length set.structs)) [
     | inl lt ↦ leb-true (get_or (struct_depths set.structs) j 0) 4 (and_parts (has_few (get_or set.structs j no_desc))
         (nat_le (get_or (struct_depths set.structs) j 0) 4) (struct_clean set well j lt).own.1.1.1.1.1.1.0).1
     | inr le ↦
         let long = first_long (λ depths d. 1 + deepest depths d.fields) set.structs (length set.structs) in
-        omega (arith, get_or-eq_default (struct_depths set.structs) 0 {n = j} (omega (arith, long)))
+        omega (arith, get_or-eq_default (struct_depths set.structs) 0 {n = j} (omega arith))
   ]
 
   pub fields_flat : (fs : List Field) → deepest (struct_depths set.structs) fs ≤ 4

@@ -17,8 +17,7 @@ use Rattle.vms_spec.specs.declared.Part.TheVariants as parts
 abbrev pub fields_list : Set → Part → ℕ → ℕ → Bool → List ℤ → List ℕ → List Entry
 fields_list set part base k sent n path =
     let d = desc_at set part in
-    let at = field_start set part base k in
-    entries_of sent path (elements_from (shapes set) d.fields d.version (own_numbers set part n base) n k at (drop k d.fields))
+    entries_of sent path (elements_from (shapes set) d.fields d.version (own_numbers set part n base) n k (field_start set part base k) (drop k d.fields))
 
 -- of the whole, `done` was written, and this is left; f makes the trees
 pub record Leaves {A : Type 0} (f : A → Data) (old now : Draft) (whole left : List A) : Type 0 where
@@ -90,7 +89,7 @@ element_room size first i n cell most lt e room =
 pub next_element : (size first i cell : ℕ) → cell ≡ first + i * size → cell + size ≡ first + (i + 1) * size
 next_element size first i cell e =
     let one : (i + 1) * size ≡ i * size + size = grind arith in
-    omega (arith, one)
+    omega arith
 
 -- ---- fields
 
@@ -118,7 +117,7 @@ pub field_room : (set : Set) (part : Part) (base k : ℕ) (n : List ℤ) → Has
     → field_start set part base k + capacity_of (field_at set part k).count * item_size (struct_cells set) (field_at set part k).item ≤ length n
 field_room set part base k n place lt =
     let fs = (desc_at set part).fields in
-    omega (arith, place.room, place_after (struct_cells set) fs 0 base fs k lt, place_within (struct_cells set) fs 0 base fs (k + 1))
+    omega (arith, place_after (struct_cells set) fs 0 base fs k lt, place_within (struct_cells set) fs 0 base fs (k + 1))
 
 -- ---- trees in an array
 

@@ -29,5 +29,4 @@ pub reads_whole : (d : Data) (text : List ℕ) → text ≡ compact_text d → I
 reads_whole d text e sound shallow =
     let ts = tree.json_tokens (outline d) in
     let found = ap tokens (e ∙ sym (print-outline d)) ∙ tokens-print ts (ArePrintable-json_tokens (outline d) sound.numbers) in
-    ap whole (ap (json.value max_depth) (found ∙ sym (append-nil ts)) ∙ value-json_tokens (outline d) max_depth [] (omega (arith, tree_depth d, shallow)))
-    ∙ sound.read
+    ap whole (ap (json.value max_depth) (found ∙ sym (append-nil ts)) ∙ value-json_tokens (outline d) max_depth [] (omega (arith, tree_depth d))) ∙ sound.read

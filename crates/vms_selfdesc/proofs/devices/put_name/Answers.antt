@@ -12,6 +12,4 @@ pub put_text-requires-clause-value : goal.put_text-requires-clause-value
 put_text-requires-clause-value c = rw c.as_str.ensures c.requires
 
 pub returns : goal.returns
-returns c =
-    let name = rw c.as_str.ensures at c.put_text.ensures in
-    record { text = further c.put_natural.ensures.text name.text; sound = c.put_natural.ensures.sound }
+returns c = record { text = further c.put_natural.ensures.text (rw c.as_str.ensures at c.put_text.ensures).text; sound = c.put_natural.ensures.sound }

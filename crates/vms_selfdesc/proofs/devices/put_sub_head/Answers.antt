@@ -16,6 +16,5 @@ put_natural-requires c = name_plain (codes "version") refl
 
 pub returns : goal.returns
 returns c =
-    let name = rw c.as_str.ensures at c.put_text.ensures in
     let version = c.put_natural.ensures in
-    record { text = further name.text (further c.put_flag.ensures.text version.text); sound = version.sound }
+    record { text = further (rw c.as_str.ensures at c.put_text.ensures).text (further c.put_flag.ensures.text version.text); sound = version.sound }

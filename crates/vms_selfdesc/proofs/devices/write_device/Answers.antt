@@ -7,18 +7,16 @@ use Rattle.vms_selfdesc.proofs.devices.write_device.Goals as goal
 
 pub write_fields-requires-clause-place : goal.write_fields-requires-clause-place
 write_fields-requires-clause-place c =
-    let set = described c.args.lister.now.set.now in
     let device = c.requires.device in
-    record { has = device.is_device; few = device.few; room = omega (arith, own_inside_device set c.args.device, device.cells) }
+    record { has = device.is_device; few = device.few; room = omega (arith, own_inside_device (described c.args.lister.now.set.now) c.args.device) }
 
 pub write_fields-requires-clause-no_path : goal.write_fields-requires-clause-no_path
 write_fields-requires-clause-no_path c = c.begin.ensures.keeps.path ∙ c.requires.no_path
 
 pub put_name-requires : goal.put_name-requires
 put_name-requires c =
-    let set = described c.args.lister.now.set.now in
     rw (ap (λ (d : Device). d.desc.name) c.device-described.ensures)
-    (device_plain set c.args.lister.now.set.now.well_formed c.args.device c.requires.device.is_device)
+    (device_plain (described c.args.lister.now.set.now) c.args.lister.now.set.now.well_formed c.args.device c.requires.device.is_device)
 
 pub write_subs-requires-clause-no_path : goal.write_subs-requires-clause-no_path
 write_subs-requires-clause-no_path c = c.write_fields.ensures.path ∙ c.begin.ensures.keeps.path ∙ c.requires.no_path

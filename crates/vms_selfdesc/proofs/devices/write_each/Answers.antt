@@ -1,4 +1,4 @@
-use Rattle.vms_selfdesc.proofs.Facade.{◌<◌, ◌∙◌, ◌∷◌, [], length, arith, described, device_at, state_of}
+use Rattle.vms_selfdesc.proofs.Facade.{◌∙◌, ◌∷◌, [], arith, described, state_of}
 use Rattle.vms_selfdesc.proofs.Trees.{leaves_all, leaves_rest, leaves_none, subs_begin, subs_next, subs_end}
 use Rattle.vms_selfdesc.proofs.devices.write_each.Goals as goal
 
@@ -11,11 +11,10 @@ write_sub-requires-clause-no_path c = c.loop-sub.invariant.lists.path ∙ c.requ
 pub loop-sub-preserved : goal.loop-sub-preserved
 loop-sub-preserved c =
     let set = described c.args.lister.now.set.now in
-    let lt : c.loop-sub.sub < length (device_at set c.args.device).subs = omega (arith, c.sub_count-sub-end.ensures) in
     leaves_rest (_ ∷ []) c.loop-sub.invariant
-    (subs_next set c.args.device (state_of c.args.lister.now.image.now) c.loop-sub.sub lt (omega (arith, c.requires.device.subs))) c.write_sub.ensures
+    (subs_next set c.args.device (state_of c.args.lister.now.image.now) c.loop-sub.sub (omega arith) (omega arith)) c.write_sub.ensures
 
 pub returns : goal.returns
 returns c =
-    let set = described c.args.lister.now.set.now in
-    leaves_none (subs_end set c.args.device (state_of c.args.lister.now.image.now) c.loop-sub.sub (omega (arith, c.sub_count-sub-end.ensures))) c.loop-sub.invariant
+    leaves_none (subs_end (described c.args.lister.now.set.now) c.args.device (state_of c.args.lister.now.image.now) c.loop-sub.sub
+    (omega arith)) c.loop-sub.invariant

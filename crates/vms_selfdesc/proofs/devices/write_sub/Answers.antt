@@ -8,12 +8,11 @@ use Rattle.vms_selfdesc.proofs.devices.write_sub.Goals as goal
 
 pub write_fields-requires-clause-place : goal.write_fields-requires-clause-place
 write_fields-requires-clause-place c =
-    let set = described c.args.lister.now.set.now in
     let device = c.requires.device in
     record {
       has = (device.is_device, c.requires.is_sub);
       few = device.few;
-      room = omega (arith, c.first_cell-cell.ensures, sub_inside set c.args.device c.args.sub c.requires.is_sub, device.cells);
+      room = omega (arith, sub_inside (described c.args.lister.now.set.now) c.args.device c.args.sub c.requires.is_sub);
     }
 
 pub write_fields-requires-clause-no_path : goal.write_fields-requires-clause-no_path
@@ -34,11 +33,12 @@ returns c =
     let fields = c.write_fields.ensures in
     let head = c.put_sub_head.ensures in
     let sent = c.is_some-sent.result in
-    let tree = λ (sent : Bool) (name : List ℕ) (version cell : ℕ). object (sub_members (part_entries set (desc_at set part) sent (numbers_in lister) cell) name sent version) in
+    let entries = λ (sent : Bool) (cell : ℕ). part_entries set (desc_at set part) sent (numbers_in lister) cell in
+    let tree = λ (sent : Bool) (name : List ℕ) (version cell : ℕ). object (sub_members (entries sent cell) name sent version) in
     let same =
     ap (λ (x : Bool). tree x desc.name desc.version c.first_cell-cell.result) (c.is_some-sent.ensures ∙ ap is_some c.came.ensures)
     ∙ ap (λ (d : Desc). tree (is_some (get_or lister.image.now.came c.args.sub None)) d.name d.version c.first_cell-cell.result) c.desc.ensures
     ∙ ap (λ (x : ℕ). tree (is_some (get_or lister.image.now.came c.args.sub None)) (desc_at set part).name (desc_at set part).version x)
     c.first_cell-cell.ensures in
     rw (← same) (fields_adds c.begin.ensures fields (further head.text c.push.ensures) (head_text desc.name sent desc.version)
-    (sub_sound (part_entries set (desc_at set part) sent (numbers_in lister) c.first_cell-cell.result) desc.name sent desc.version fields.sound head.sound) refl refl)
+    (sub_sound (entries sent c.first_cell-cell.result) desc.name sent desc.version fields.sound head.sound) refl refl)

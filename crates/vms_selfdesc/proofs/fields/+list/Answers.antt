@@ -19,10 +19,10 @@ list_item-list_struct-requires t c =
     c.args.place.cell cells.few cells.room in
     let path = string_bytes c.args.draft.now.path.text in
     let long = ap length c.enter.ensures ∙ length-append path (codes ".") in
-    (search rules, (place, (rw c.enter.ensures (dot_plain path c.requires.path), omega (arith, c.requires.deep, ap item_levels c.in-Struct.is, long))))
+    (search rules, (place, (rw c.enter.ensures (dot_plain path c.requires.path), omega (arith, ap item_levels c.in-Struct.is))))
 
 pub list_item-enter-requires : goal.list_item-enter-requires
-list_item-enter-requires t c = omega (arith, c.requires.deep, ap item_levels c.in-Struct.is)
+list_item-enter-requires t c = omega (arith, ap item_levels c.in-Struct.is)
 
 pub list_item-leave-requires-clause-text : goal.list_item-leave-requires-clause-text
 list_item-leave-requires-clause-text t c = (enters c.args.draft.now.path.text _ c.len-kept.ensures (c.list_struct.ensures.path ∙ c.enter.ensures)).text
@@ -30,10 +30,12 @@ list_item-leave-requires-clause-text t c = (enters c.args.draft.now.path.text _ 
 pub list_item-returns-in-Struct : goal.list_item-returns-in-Struct
 list_item-returns-in-Struct t c =
     let lister = c.args.lister.now in
-    let same = struct_list (described lister.set.now) lister.set.now.well_formed c.args.field.now.item c.in-Struct.number c.in-Struct.is c.requires.cells.reaches
+    let same =
+    struct_list (described lister.set.now) lister.set.now.well_formed c.args.field.now.item c.in-Struct.number c.in-Struct.is c.requires.cells.reaches
     c.args.field.now.default c.args.place.sent (string_bytes c.args.draft.now.path.text) (string_bytes c.enter.new.self.text) lister.image.now.numbers
     c.args.place.cell c.enter.ensures in
-    rw (← same) (leave_path c.list_struct.ensures (c.leave.ensures ∙ (enters c.args.draft.now.path.text _ c.len-kept.ensures (c.list_struct.ensures.path ∙ c.enter.ensures)).back))
+    rw (← same) (leave_path c.list_struct.ensures
+    (c.leave.ensures ∙ (enters c.args.draft.now.path.text _ c.len-kept.ensures (c.list_struct.ensures.path ∙ c.enter.ensures)).back))
 
 pub list_item-list_sent-requires-clause-word : goal.list_item-list_sent-requires-clause-word
 list_item-list_sent-requires-clause-word t c = name_plain (codes "equal") refl
@@ -49,7 +51,6 @@ list_elements-list_item-requires t c =
     let cells = c.requires.cells in
     let i = c.loop-number.number in
     let inv = c.loop-number.invariant in
-    let path = string_bytes c.args.draft.now.path.text in
     let elements : HasElements set (field_of c.args.field.now) c.loop-number.cell 1 c.args.lister.now.image.now.numbers = record {
       reaches = cells.reaches;
       default = cells.default;
@@ -59,16 +60,17 @@ list_elements-list_item-requires t c =
           (length c.args.lister.now.image.now.numbers) c.loop-number-test.true inv.here cells.room;
     } in
     let plain : IsPlain (string_bytes c.enter_element.new.self.text) =
-    rw (c.enter_element.ensures, inv.lists.lists.path) (element_plain path i (omega (arith, c.loop-number-test.true, c.ranges.count.fits)) c.requires.path) in
-    let long = index_long (string_bytes c.loop-number.draft.path.text) i (omega (arith, c.loop-number-test.true, c.ranges.count.fits)) in
-    (search rules, (elements, (plain, omega (arith, c.requires.deep, ap length c.enter_element.ensures, long, ap length inv.lists.lists.path))))
+    rw (c.enter_element.ensures, inv.lists.lists.path) (element_plain (string_bytes c.args.draft.now.path.text) i (omega arith) c.requires.path) in
+    let long = index_long (string_bytes c.loop-number.draft.path.text) i (omega arith) in
+    (search rules, (elements, (plain, omega (arith, ap length c.enter_element.ensures, ap length inv.lists.lists.path))))
 
 pub list_elements-enter_element-requires : goal.list_elements-enter_element-requires
-list_elements-enter_element-requires t c = omega (arith, c.requires.deep, ap length c.loop-number.invariant.lists.lists.path)
+list_elements-enter_element-requires t c = omega (arith, ap length c.loop-number.invariant.lists.lists.path)
 
 pub list_elements-leave-requires-clause-text : goal.list_elements-leave-requires-clause-text
 list_elements-leave-requires-clause-text t c =
-    (enters c.loop-number.draft.path.text _ (c.len-kept.ensures ∙ ap length (sym c.loop-number.invariant.lists.lists.path)) (c.list_item.ensures.path ∙ c.enter_element.ensures)).text
+    (enters c.loop-number.draft.path.text _ (c.len-kept.ensures ∙ ap length (sym c.loop-number.invariant.lists.lists.path))
+    (c.list_item.ensures.path ∙ c.enter_element.ensures)).text
 
 pub list_elements-loop-number-preserved : goal.list_elements-loop-number-preserved
 list_elements-loop-number-preserved t c =
@@ -79,7 +81,7 @@ list_elements-loop-number-preserved t c =
     let one = item_list set f c.args.place.sent c.args.lister.now.image.now.numbers in
     let i = c.loop-number.number in
     let inv = c.loop-number.invariant in
-    let moved : c.loop-number.cell + c.item_cells-size.result ≡ c.loop-number.cell + size = omega (arith, c.item_cells-size.ensures, c.requires.cells.small) in
+    let moved : c.loop-number.cell + c.item_cells-size.result ≡ c.loop-number.cell + size = omega arith in
     let kept = c.len-kept.ensures ∙ ap length (sym inv.lists.lists.path) in
     let now = c.loop-number.draft in
     let new : Draft = record { text = c.list_item.new.draft.text; path = c.leave.new.self; later = c.list_item.new.draft.later } in
@@ -116,16 +118,15 @@ list_field-list_run-requires t c =
     let is : field_of f ≡ field_at set part k =
     found_field c.as_slice.result.now (desc_at set part).fields k f fields c.requires.field c.index-as_slice-at.is in
     let needs = field_needs set well part c.args.within.cell n c.requires.place k c.args.at.cell (field_of f) c.requires.field is c.requires.room in
-    let lower = needs.lower in
     let fewer = elements_fit (field_at set part k).count (own_numbers set part n c.args.within.cell) in
-    let all = needs.elements c.elements-count.result (omega (arith, fewer, c.elements-count.ensures)) in
+    let all = needs.elements c.elements-count.result (omega arith) in
     let name = field_name set well part k c.requires.place.has c.requires.field in
     let named = c.enter.ensures ∙ ap (λ (x : List ℕ). string_bytes c.args.draft.now.path.text ++ x) (c.as_str.ensures ∙ ap (λ (x : Field). x.name) is) in
     let plain : IsPlain (string_bytes c.enter.new.self.text) =
     rw named (plain_append (string_bytes c.args.draft.now.path.text) (field_at set part k).name c.requires.path name.plain) in
     let long = ap length named ∙ length-append (string_bytes c.args.draft.now.path.text) (field_at set part k).name in (
       search rules,
-      (needs.elements 1 needs.some, (all, (plain, omega (arith, c.requires.deep, name.short, long, levels_are set part, item_levels_are f.item)))),
+      (needs.elements 1 needs.some, (all, (plain, omega (arith, levels_are set part, item_levels_are f.item)))),
     )
 
 pub list_field-enter-requires : goal.list_field-enter-requires
@@ -136,7 +137,7 @@ list_field-enter-requires t c =
     let fields = here_fields set part c.desc.result.now c.as_slice.result.now c.desc.ensures c.as_slice.ensures in
     let is = found_field c.as_slice.result.now (desc_at set part).fields k c.index-as_slice-at.result fields c.requires.field c.index-as_slice-at.is in
     let name = field_name set c.args.lister.now.set.now.well_formed part k c.requires.place.has c.requires.field in
-    omega (arith, c.requires.deep, name.short, ap length (c.as_str.ensures ∙ ap (λ (x : Field). x.name) is))
+    omega (arith, ap length (c.as_str.ensures ∙ ap (λ (x : Field). x.name) is))
 
 pub list_field-leave-requires-clause-text : goal.list_field-leave-requires-clause-text
 list_field-leave-requires-clause-text t c = (enters c.args.draft.now.path.text _ c.len-kept.ensures (c.list_run.ensures.path ∙ c.enter.ensures)).text
@@ -147,25 +148,27 @@ list_field-returns t c =
     let part = c.args.part in
     let path = string_bytes c.args.draft.now.path.text in
     let fields = here_fields set part c.desc.result.now c.as_slice.result.now c.desc.ensures c.as_slice.ensures in
-    let is = found_field c.as_slice.result.now (desc_at set part).fields c.args.at.field c.index-as_slice-at.result fields c.requires.field c.index-as_slice-at.is in
+    let is =
+    found_field c.as_slice.result.now (desc_at set part).fields c.args.at.field c.index-as_slice-at.result fields c.requires.field c.index-as_slice-at.is in
     let same = field_run set part c.args.within.cell c.args.at.field c.args.within.sent c.args.lister.now.image.now.numbers path c.args.at.cell
     (field_of c.index-as_slice-at.result) c.is_sent-sent.result (string_bytes c.enter.new.self.text) c.elements-count.result is c.is_sent-sent.ensures
     (rw c.as_str.ensures at c.enter.ensures) c.elements-count.ensures in
-    rw (← same) (leave_path c.list_run.ensures (c.leave.ensures ∙ (enters c.args.draft.now.path.text _ c.len-kept.ensures (c.list_run.ensures.path ∙ c.enter.ensures)).back))
+    rw (← same) (leave_path c.list_run.ensures
+    (c.leave.ensures ∙ (enters c.args.draft.now.path.text _ c.len-kept.ensures (c.list_run.ensures.path ∙ c.enter.ensures)).back))
 
 -- ---- the fields of a part
 
 pub list_part-field_start-cell-requires-clause-few : goal.list_part-field_start-cell-requires-clause-few
-list_part-field_start-cell-requires-clause-few t c = omega (arith, c.requires.place.room, c.requires.place.few)
+list_part-field_start-cell-requires-clause-few t c = omega arith
 
 pub list_part-list_field-requires : goal.list_part-list_field-requires
 list_part-list_field-requires t c =
     let set = described c.args.lister.now.set.now in
     let k = c.loop-field.field in
-    let lt : k < length (desc_at set c.args.part).fields = omega (arith, c.field_count-field-end.ensures) in
+    let lt : k < length (desc_at set c.args.part).fields = omega arith in
     let room = field_room set c.args.part c.args.place.cell k c.args.lister.now.image.now.numbers c.requires.place lt in
     let same = c.loop-field.invariant.lists.path in
-    (search rules, (c.requires.place, (lt, (rw c.field_start-cell.ensures room, (rw same c.requires.path, omega (arith, c.requires.deep, ap length same))))))
+    (search rules, (c.requires.place, (lt, (rw c.field_start-cell.ensures room, (rw same c.requires.path, omega (arith, ap length same))))))
 
 pub list_part-loop-field-init : goal.list_part-loop-field-init
 list_part-loop-field-init t c =
@@ -179,9 +182,8 @@ list_part-loop-field-preserved t c =
     let place = c.args.place in
     let k = c.loop-field.field in
     let path = string_bytes c.args.draft.now.path.text in
-    let lt : k < length (desc_at set c.args.part).fields = omega (arith, c.field_count-field-end.ensures) in
     let inv = c.loop-field.invariant in
     leaves_rest (field_list set c.args.part place.cell k place.sent n path c.field_start-cell.result) inv
-    (fields_next set c.args.part place.cell place.sent path n c.field_start-cell.result k c.field_start-cell.ensures lt)
+    (fields_next set c.args.part place.cell place.sent path n c.field_start-cell.result k c.field_start-cell.ensures (omega arith))
     (subst (λ p. Lists c.loop-field.draft c.list_field.new.draft (field_list set c.args.part place.cell k place.sent n p c.field_start-cell.result))
     inv.lists.path c.list_field.ensures)

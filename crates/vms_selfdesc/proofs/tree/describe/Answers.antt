@@ -17,4 +17,4 @@ pub returns-clause-short : goal.returns-clause-short
 returns-clause-short c =
     let set = c.args.set.now in
     let short = text_short (described set) (map state_of c.args.images.now) set.well_formed set.heads in
-    IfOk-weaker c.finish.result _ _ (λ s text. omega (arith, ap length text, short)) (returns-clause-text c)
+    IfOk-weaker c.finish.result _ _ (λ s text. omega (arith, ap length text)) (returns-clause-text c)

@@ -8,12 +8,11 @@ loop-device-init c = leaves_all c.args.draft.now refl
 
 pub write_device-requires-clause-device : goal.write_device-requires-clause-device
 write_device-requires-clause-device c =
-    let set = described c.args.set.now in
     let images = c.args.images.now in
     let k = c.loop-device.device in
     let image = c.index-images-device.result in
-    let lt : k < length (map state_of images) = omega (arith, c.loop-device-test.true, states_long images) in
-    ready_device set c.args.set.now.well_formed (map state_of images) c.requires.ready k (state_of image) lt
+    let lt : k < length (map state_of images) = omega (arith, states_long images) in
+    ready_device (described c.args.set.now) c.args.set.now.well_formed (map state_of images) c.requires.ready k (state_of image) lt
     (state_at images k image c.loop-device-test.true c.index-images-device.is)
 
 pub write_device-requires-clause-no_path : goal.write_device-requires-clause-no_path
@@ -35,4 +34,4 @@ pub returns : goal.returns
 returns c =
     let images = c.args.images.now in
     leaves_none (devices_end (described c.args.set.now) (map state_of images) c.loop-device.device
-    (omega (arith, c.loop-device-test.false, states_long images, c.requires.ready.one_each))) c.loop-device.invariant
+    (omega (arith, states_long images))) c.loop-device.invariant

@@ -10,6 +10,6 @@ returns c =
     let empty = c.clear.ensures.text in
     let tree = c.write_tree.ensures in
     let short = text_short (described set) states set.well_formed set.heads in
-    let whole = enough empty tree.text (omega (arith, short, c.args.self.now.roomy)) in
+    let whole = enough empty tree.text (omega arith) in
     let text : c.as_str.result.now ≡ described_text (described set) states = c.as_str.ensures.value ∙ wrote empty tree.text whole in
-    (text, (text_reads (described set) states tree.sound _ text, omega (arith, ap length text, short)))
+    (text, (text_reads (described set) states tree.sound _ text, omega (arith, ap length text)))
