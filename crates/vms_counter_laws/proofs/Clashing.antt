@@ -1,24 +1,10 @@
 -- Where the rule of constants is the first that fails, the fields before agree and two constants have other bytes.
-use Rattle.std.proofs.Common.{◌≡◌, ◌⊎◌, inl, inr, ℕ, zero, suc, ◌+◌, ◌<◌, Bool, true, false, ◌&&◌, List, [], ◌∷◌, ◌++◌, length, Option, Some, None, refl, sym, ap, ◌∙◌, subst, arith, ℤ, if◌then◌else◌}
-use Rattle.std.specs.List.{slice_get}
-use Rattle.vms_kinds.specs.declared.Kind.{Kind}
-use Rattle.vms_kinds.specs.declared.Item.{Item}
-use Rattle.vms_kinds.specs.declared.Item.TheVariants.{Equal, Struct}
-use Rattle.vms_kinds.specs.Codes.{InRange, code, value_of}
-use Rattle.vms_spec.specs.declared.Part.{Part}
-use Rattle.vms_spec.specs.declared.Place.{Place}
-use Rattle.vms_spec.specs.Numbers.{same_number}
-use Rattle.vms_spec.specs.Sets.{Formula, Field, Desc}
-use Rattle.vms_spec.specs.Layout.{Cell, field_cells, counted}
-use Rattle.vms_spec.specs.WellFormed.{here, in_field}
-use Rattle.vms_spec.proofs.KindLaws.{value_code}
-use Rattle.vms_spec.specs.Good.{ConstantFits, ConstantsFit}
-use Rattle.vms_bodies.proofs.ReadyLaws.{is_same}
-use Rattle.vms_check.specs.declared.mismatch.Mismatch.{Mismatch}
-use Rattle.vms_check.specs.Reducing.{presence}
-use Rattle.vms_check.specs.Comparing.{Entry, Comparer, absent_hold, bound, compare_fields, entry_of, failing_pair, holds_as_much, is_covered, names_match, pair_rules, pair_structs, present_from, same_constant, same_count, same_item, same_rest, uncovered_rules}
-use Rattle.vms_check_laws.proofs.Premises.{kinds_same, Two}
-use Rattle.vms_check_laws.proofs.AlignedDescs.{Clash, Clashes, Differ}
+use Rattle.vms_counter_laws.proofs.Facade.{◌≡◌, ◌⊎◌, inl, inr, ℕ, zero, suc, ◌+◌, ◌<◌, Bool, true, false, ◌&&◌, List, [], ◌∷◌, ◌++◌, length, Option, Some, None}
+use Rattle.vms_counter_laws.proofs.Facade.{refl, sym, arith, ℤ, if◌then◌else◌, slice_get, Kind, Item, Equal, Struct, InRange, code, Place, same_number, Formula}
+use Rattle.vms_counter_laws.proofs.Facade.{Field, Cell, field_cells, counted, here, in_field, value_code, ConstantFits, ConstantsFit, is_same, Mismatch}
+use Rattle.vms_counter_laws.proofs.Facade.{presence, Entry, absent_hold, bound, compare_fields, entry_of, failing_pair, holds_as_much, is_covered, names_match}
+use Rattle.vms_counter_laws.proofs.Facade.{pair_rules, pair_structs, present_from, same_constant, same_count, same_item, same_rest, uncovered_rules, RestAt}
+use Rattle.vms_counter_laws.proofs.Facade.{at_first, one_on, kinds_same, Two, Clash, Clashes, Differ}
 use Rattle.vms_counter_laws.proofs.Inverted.{else_some, one_rule, IsStruct, StructsWithin}
 
 -- ---- what is known of present fields
@@ -27,41 +13,32 @@ abbrev pub AreFields : List Field → ℕ → List Entry → Type 0
 AreFields all v [] = Unit {0}
 AreFields all v (e ∷ es) = ((slice_get all e.index ≡ Some e.field) × (presence v e.field.test e.field.since ≡ Some e.rest)) × AreFields all v es
 
-entry_field : (all : List Field) (v i p : ℕ) (f : Field) (pr : Option (Option Formula)) (es : List Entry) → presence v f.test f.since ≡ pr → slice_get all i ≡ Some f → AreFields all v es → AreFields all v (entry_of i p f pr ++ es)
+entry_field : (all : List Field) (v i p : ℕ) (f : Field) (pr : Option (Option Formula)) (es : List Entry) → presence v f.test f.since ≡ pr
+    → slice_get all i ≡ Some f → AreFields all v es → AreFields all v (entry_of i p f pr ++ es)
 entry_field all v i p f None es h e more = more
 entry_field all v i p f (Some rest) es h e more = ((e, h), more)
 
-pub present_fields : (y : List (List Cell)) (all : List Field) (v i p : ℕ) (fs : List Field) → ((k : ℕ) → slice_get all (i + k) ≡ slice_get fs k) → AreFields all v (present_from y all v i p fs)
+pub present_fields : (y : List (List Cell)) (all : List Field) (v i p : ℕ) (fs : List Field) → RestAt all i fs → AreFields all v (present_from y all v i p fs)
 present_fields y all v i p [] h = tt
 present_fields y all v i p (f ∷ fs) h =
-    let z : i ≡ i + 0 = omega arith in
-    entry_field all v i p f (presence v f.test f.since) _ refl (ap (slice_get all) z ∙ h 0)
-    (present_fields y all v (suc i) (p + length (field_cells y all i f)) fs (λ k. let s : suc i + k ≡ i + suc k = omega arith in ap (slice_get all) s ∙ h (suc k)))
+    entry_field all v i p f (presence v f.test f.since) _ refl (at_first (slice_get all) i h)
+    (present_fields y all v (suc i) (p + length (field_cells y all i f)) fs (one_on (slice_get all) i h))
 
 -- ---- constants
 
 pub constant_fits : (fs : List Field) (j : ℕ) (f : Field) → ConstantsFit fs → slice_get fs j ≡ Some f → ConstantFits f.item
 constant_fits [] j f h e = absurd (cc)
-constant_fits (g ∷ fs) zero f h e = let same : g ≡ f = cc in subst (λ (x : Field). ConstantFits x.item) same h.0
+constant_fits (g ∷ fs) zero f h e = let same : g ≡ f = cc in rw same at h.0
 constant_fits (g ∷ fs) (suc j) f h e = constant_fits fs j f h.1 e
 
 other_code : (k : Kind) (z u : ℤ) → InRange k z → InRange k u → same_number z u ≡ false → code k z ≡ code k u → ⊥
 other_code k z u fits fits' h e =
-    let same : z ≡ u = sym (value_code k z fits) ∙ ap (value_of k) e ∙ value_code k u fits' in
-    let f : true ≡ false = sym (is_same z z refl) ∙ ap (same_number z) same ∙ h in
-    cc
+    let same : z ≡ u = cc (value_code k z fits, value_code k u fits') in absurd (cc (is_same z z refl))
 
 differ : (i j : Item) → ConstantFits i → ConstantFits j → same_item i j ≡ true → same_constant i j ≡ false → Differ i j
 differ (Equal k z) (Equal l u) fits fits' same h =
     let kinds : l ≡ k = sym (kinds_same k l same) in
-    record {
-      kind = k;
-      value = z;
-      other = u;
-      item = refl;
-      item' = ap (λ (i : Kind). Equal i u) kinds;
-      differ = other_code k z u fits (subst (λ (i : Kind). InRange i u) kinds fits') h;
-    }
+    record { kind = k; value = z; other = u; item = refl; item' = rw kinds; differ = other_code k z u fits (rw kinds at fits') h }
 differ _ _ fits fits' same h = absurd (cc)
 
 -- ---- rules in order
@@ -71,14 +48,12 @@ next_rule : (r : ℕ) (b : Bool) (rules : List (ℕ × Bool)) (p q : Place) (m :
 next_rule r true rules p q m h = inr (refl, h)
 next_rule r false rules p q m h =
     let same : record { rule = r; in_old = p; in_new = q } ≡ m = cc in
-    inl (ap (λ (x : Mismatch). x.rule) (sym same), refl, ap (λ (x : Mismatch). x.in_old) (sym same))
+    inl (rw (← same), refl, rw (← same))
 
 -- a rule of another number doesn't fail
-not_this : (r : ℕ) (b : Bool) (rules : List (ℕ × Bool)) (p q : Place) (m : Mismatch) → (m.rule ≡ r → ⊥) → failing_pair ((r, b) ∷ rules) p q ≡ Some m → (b ≡ true) × (failing_pair rules p q ≡ Some m)
-not_this r b rules p q m other h = elim (next_rule r b rules p q m h) [
-  | inl e ↦ absurd (other e.0)
-  | inr e ↦ e
-]
+not_this : (r : ℕ) (b : Bool) (rules : List (ℕ × Bool)) (p q : Place) (m : Mismatch) → (m.rule ≡ r → ⊥) → failing_pair ((r, b) ∷ rules) p q ≡ Some m
+    → (b ≡ true) × (failing_pair rules p q ≡ Some m)
+not_this r b rules p q m other h = elim (next_rule r b rules p q m h) [ inl e ↦ absurd (other e.0) | inr e ↦ e ]
 
 no_left : (o n : ℕ → Option ℕ) (r s : Option Formula) → r ≡ None → same_rest o n r s ≡ true → s ≡ None
 no_left o n None None e h = refl
@@ -88,7 +63,7 @@ module _ (two : Two) (m : Mismatch) (twelve : m.rule ≡ 12) where
   open two use {ks, a, b, v, w, part, part', o, n}
 
   other : (r : ℕ) → r < 12 → m.rule ≡ r → ⊥
-  other r lt e = omega (arith, twelve, e, lt)
+  other r lt e = omega arith
 
   record Constants (e f : Entry) : Type 0 where
     item : same_item e.field.item f.field.item ≡ true
@@ -97,21 +72,18 @@ module _ (two : Two) (m : Mismatch) (twelve : m.rule ≡ 12) where
     place : m.in_old ≡ in_field part e.index
 
   by_cover : (c : Bool) (e f : Entry)
-      → failing_pair (if c then (9, same_rest o n e.rest f.rest) ∷ [] else uncovered_rules ks a b v w part part' o n e f) (in_field part e.index) (in_field part' f.index) ≡ Some m → Constants e f
+      → failing_pair (if c then (9, same_rest o n e.rest f.rest) ∷ [] else uncovered_rules ks a b v w part part' o n e f) (in_field part e.index)
+      (in_field part' f.index) ≡ Some m → Constants e f
   by_cover true e f h = absurd (other 9 (omega arith) (one_rule 9 (same_rest o n e.rest f.rest) (in_field part e.index) (in_field part' f.index) m h).1)
   by_cover false e f h =
       let p = in_field part e.index in
       let q = in_field part' f.index in
-      let r12 : List (ℕ × Bool) = (12, same_constant e.field.item f.field.item) ∷ [] in
-      let r11 : List (ℕ × Bool) = (11, holds_as_much e.field.count f.field.count && absent_hold w f.index (bound e.field.item (counted e.index a.fields)) b.fields) ∷ r12 in
-      let r10 : List (ℕ × Bool) = (10, names_match e.field f.field) ∷ r11 in
-      let r9 : List (ℕ × Bool) = (9, same_rest o n e.rest f.rest) ∷ r10 in
-      let r8 : List (ℕ × Bool) = (8, same_item e.field.item f.field.item) ∷ r9 in
-      let h8 = not_this 7 (same_count o n e.field.count f.field.count) r8 p q m (other 7 (omega arith)) h in
-      let h9 = not_this 8 (same_item e.field.item f.field.item) r9 p q m (other 8 (omega arith)) h8.1 in
-      let h10 = not_this 9 (same_rest o n e.rest f.rest) r10 p q m (other 9 (omega arith)) h9.1 in
-      let h11 = not_this 10 (names_match e.field f.field) r11 p q m (other 10 (omega arith)) h10.1 in
-      let h12 = not_this 11 (holds_as_much e.field.count f.field.count && absent_hold w f.index (bound e.field.item (counted e.index a.fields)) b.fields) r12 p q m (other 11 (omega arith)) h11.1 in
+      let room = holds_as_much e.field.count f.field.count && absent_hold w f.index (bound e.field.item (counted e.index a.fields)) b.fields in
+      let h8 = not_this 7 (same_count o n e.field.count f.field.count) _ p q m (other 7 (omega arith)) h in
+      let h9 = not_this 8 (same_item e.field.item f.field.item) _ p q m (other 8 (omega arith)) h8.1 in
+      let h10 = not_this 9 (same_rest o n e.rest f.rest) _ p q m (other 9 (omega arith)) h9.1 in
+      let h11 = not_this 10 (names_match e.field f.field) _ p q m (other 10 (omega arith)) h10.1 in
+      let h12 = not_this 11 room _ p q m (other 11 (omega arith)) h11.1 in
       let last = one_rule 12 (same_constant e.field.item f.field.item) p q m h12.1 in
       record { item = h9.0; rest = h10.0; constant = last.0; place = last.2 }
 
@@ -121,26 +93,25 @@ module _ (two : Two) (m : Mismatch) (twelve : m.rule ≡ 12) where
 
   module _ (within : StructsWithin ks) (not_struct : IsStruct m.in_old.part → ⊥) (fits : ConstantsFit a.fields) (fits' : ConstantsFit b.fields)
       (plain : (j : ℕ) (f : Field) → m.in_old.field ≡ Some j → slice_get a.fields j ≡ Some f → presence v f.test f.since ≡ Some None) where
-    clash_here : (e f : Entry) → slice_get a.fields e.index ≡ Some e.field → presence v e.field.test e.field.since ≡ Some e.rest → slice_get b.fields f.index ≡ Some f.field → Constants e f → Clash e f
+    clash_here : (e f : Entry) → slice_get a.fields e.index ≡ Some e.field → presence v e.field.test e.field.since ≡ Some e.rest
+        → slice_get b.fields f.index ≡ Some f.field → Constants e f → Clash e f
     clash_here e f is there is' c =
-        let d = differ e.field.item f.field.item (constant_fits a.fields e.index e.field fits is) (constant_fits b.fields f.index f.field fits' is') c.item c.constant in
-        let alone : Some e.rest ≡ Some None = sym there ∙ plain e.index e.field (ap (λ (p : Place). p.field) c.place) is in
-        let rest : e.rest ≡ None = cc in
-        record { constants = d; rest = rest; rest' = no_left o n e.rest f.rest rest c.rest }
+        let fit = constant_fits a.fields e.index e.field fits is in
+        let fit' = constant_fits b.fields f.index f.field fits' is' in
+        let rest : e.rest ≡ None = cc (there, plain e.index e.field (rw c.place) is) in
+        record { constants = differ e.field.item f.field.item fit fit' c.item c.constant; rest = rest; rest' = no_left o n e.rest f.rest rest c.rest }
 
     pub clashes : (es fs : List Entry) → AreFields a.fields v es → AreFields b.fields w fs → compare_fields ks a b v w part part' o n es fs ≡ Some m
         → Clashes two es fs
     clashes [] [] known known' h = absurd (cc)
     clashes (e ∷ es) [] known known' h =
-        let same : record { rule = 5; in_old = in_field part e.index; in_new = here part' } ≡ m = cc in
-        absurd (other 5 (omega arith) (ap (λ (x : Mismatch). x.rule) (sym same)))
+        let same : record { rule = 5; in_old = in_field part e.index; in_new = here part' } ≡ m = cc in absurd (other 5 (omega arith) (rw (← same)))
     clashes [] (f ∷ fs) known known' h =
-        let same : record { rule = 6; in_old = here part; in_new = in_field part' f.index } ≡ m = cc in
-        absurd (other 6 (omega arith) (ap (λ (x : Mismatch). x.rule) (sym same)))
+        let same : record { rule = 6; in_old = here part; in_new = in_field part' f.index } ≡ m = cc in absurd (other 6 (omega arith) (rw (← same)))
     clashes (e ∷ es) (f ∷ fs) known known' h =
         elim (else_some (failing_pair (pair_rules ks a b v w part part' o n e f) (in_field part e.index) (in_field part' f.index)) _ m h) [
           | inl k ↦ inl (clash_here e f known.0.0 known.0.1 known'.0.0 (by_cover (is_covered e.field.item e.field.count f.field.item) e f k))
-          | inr k ↦ elim (else_some (pair_structs ks a b v w part part' o n e.field.item f.field.item) (compare_fields ks a b v w part part' o n es fs) m k.1) [
+          | inr k ↦ elim (else_some (pair_structs ks a b v w part part' o n e.field.item f.field.item) _ m k.1) [
             | inl s ↦ absurd (not_struct (structs_answer within e.field.item f.field.item s))
             | inr s ↦ inr (record { rules = k.0; structs = s.0 }, clashes es fs known.1 known'.1 s.1)
           ]

@@ -1,22 +1,11 @@
 -- Which rule an answer of the comparison is of, and at which part.
-use Rattle.std.proofs.Common.{◌≡◌, ◌⊎◌, inl, inr, ℕ, zero, suc, ◌+◌, ◌<◌, Bool, true, false, List, [], ◌∷◌, length, get_or, if◌then◌else◌, Option, Some, None, refl, sym, ap, ◌∙◌, subst, arith}
-use Rattle.std.specs.List.{slice_get, list_all}
-use Rattle.vms_kinds.specs.declared.Item.{Item}
-use Rattle.vms_kinds.specs.declared.Item.TheVariants.{Struct}
-use Rattle.vms_spec.specs.declared.Part.{Part}
+use Rattle.vms_counter_laws.proofs.Facade.{◌≡◌, ◌⊎◌, inl, inr, ℕ, zero, suc, ◌+◌, ◌<◌, Bool, true, false, List, [], ◌∷◌, length, get_or, if◌then◌else◌, Option}
+use Rattle.vms_counter_laws.proofs.Facade.{Some, None, refl, arith, slice_get, list_all, Item, Struct, Part, Place, or_else, first_answer, Cell, first, no_desc}
+use Rattle.vms_counter_laws.proofs.Facade.{struct_cells, Desc, Sub, Device, Set, is_one_of, find_sub, index, is_version_of, here, in_field, Mismatch}
+use Rattle.vms_counter_laws.proofs.Facade.{first_mismatch, comparing, compare_device, compare_sub, compare_subs, paired_device, is_in, Entry, Comparer}
+use Rattle.vms_counter_laws.proofs.Facade.{no_comparer, comparer_of, comparers, compare_desc, compare_fields, compare_validations, failing_pair, is_covered}
+use Rattle.vms_counter_laws.proofs.Facade.{is_kept, pair_rules, pair_structs, present, position_from, same_rest, uncovered_rules, reduced, one_more, compared}
 use Rattle.vms_spec.specs.declared.Part.TheVariants as parts
-use Rattle.vms_spec.specs.declared.Place.{Place}
-use Rattle.vms_spec.specs.Lists.{or_else, first_answer}
-use Rattle.vms_spec.specs.Layout.{Cell, first, no_desc, struct_cells}
-use Rattle.vms_spec.specs.Sets.{Desc, Sub, Device, Set}
-use Rattle.vms_spec.specs.Streams.{is_one_of}
-use Rattle.vms_spec.specs.Lookup.{find_sub, index}
-use Rattle.vms_spec.specs.Readiness.{is_version_of}
-use Rattle.vms_spec.specs.WellFormed.{here, in_field}
-use Rattle.vms_check.specs.declared.mismatch.Mismatch.{Mismatch}
-use Rattle.vms_check.specs.Comparing.{first_mismatch, comparing, compare_device, compare_sub, compare_subs, paired_device, is_in, Entry, Comparer, no_comparer, comparer_of, comparers, compare_desc, compare_fields, compare_validations, failing_pair, is_covered, is_kept, pair_rules, pair_structs, present, position_from, same_rest, uncovered_rules}
-use Rattle.vms_check.specs.Reducing.{reduced}
-use Rattle.vms_spec.proofs.Tables.{one_more}
 
 -- ---- answers
 
@@ -32,41 +21,32 @@ pub record FirstSome {X Y : Type 0} (f : ℕ → X → Option Y) (i : ℕ) (xs :
   pub answers : f (i + number) item ≡ Some m
   pub before : (k : ℕ) (x : X) → k < number → slice_get xs k ≡ Some x → f (i + k) x ≡ None
 
-first_before : {X Y : Type 0} (f : ℕ → X → Option Y) (i : ℕ) (x : X) (xs : List X) (n : ℕ) → f i x ≡ None → ((k : ℕ) (y : X) → suc k < n → slice_get xs k ≡ Some y → f (suc i + k) y ≡ None)
+first_before : {X Y : Type 0} (f : ℕ → X → Option Y) (i : ℕ) (x : X) (xs : List X) (n : ℕ) → f i x ≡ None
+    → ((k : ℕ) (y : X) → suc k < n → slice_get xs k ≡ Some y → f (suc i + k) y ≡ None)
     → (k : ℕ) (y : X) → k < n → slice_get (x ∷ xs) k ≡ Some y → f (i + k) y ≡ None
-first_before {X = X} f i x xs n none more zero y lt e =
-    let zero_more : i ≡ i + 0 = omega arith in
+first_before f i x xs n none more zero y lt e =
+    let zero_more : i + 0 ≡ i = omega arith in
     let same : x ≡ y = cc in
-    ap (λ (n : ℕ). f n y) (sym zero_more) ∙ ap (λ (z : X). f i z) (sym same) ∙ none
-first_before f i x xs n none more (suc k) y lt e =
-    let one_more : suc i + k ≡ i + suc k = omega arith in
-    ap (λ (n : ℕ). f n y) (sym one_more) ∙ more k y lt e
+    rw (zero_more, ← same) none
+first_before f i x xs n none more (suc k) y lt e = let one_more : suc i + k ≡ i + suc k = omega arith in rw one_more at (more k y lt e)
 
 pub first_some : {X Y : Type 0} (f : ℕ → X → Option Y) (i : ℕ) (xs : List X) (m : Y) → first_answer f i xs ≡ Some m → FirstSome f i xs m
 first_some f i [] m h = absurd (cc)
-first_some {X = X} f i (x ∷ xs) m h =
-    let zero_more : i ≡ i + 0 = omega arith in
-    let one_more : (k : ℕ) → suc i + k ≡ i + suc k = λ k. omega arith in
+first_some f i (x ∷ xs) m h =
+    let zero_more : i + 0 ≡ i = omega arith in
     elim (else_some (f i x) (first_answer f (suc i) xs) m h) [
-      | inl e ↦ record { number = 0; item = x; stands = refl; answers = ap (λ (n : ℕ). f n x) (sym zero_more) ∙ e; before = λ k y lt e. absurd (omega arith) }
+      | inl e ↦ record { number = 0; item = x; stands = refl; answers = rw zero_more e; before = λ k y lt e. absurd (omega arith) }
       | inr e ↦
           let r = first_some f (suc i) xs m e.1 in
-          record {
-            number = suc r.number;
-            item = r.item;
-            stands = r.stands;
-            answers = ap (λ (n : ℕ). f n r.item) (sym (one_more r.number)) ∙ r.answers;
-            before = first_before f i x xs (suc r.number) e.0 (λ k y lt same. r.before k y (omega arith) same);
-          }
+          let one_more : suc i + r.number ≡ i + suc r.number = omega arith in
+          let before = first_before f i x xs (suc r.number) e.0 (λ k y lt same. r.before k y (omega arith) same) in
+          record { number = suc r.number; item = r.item; stands = r.stands; answers = rw one_more at r.answers; before = before }
     ]
 
 -- one rule, at one pair of places
 pub one_rule : (r : ℕ) (b : Bool) (p q : Place) (m : Mismatch) → failing_pair ((r, b) ∷ []) p q ≡ Some m → (b ≡ false) × (m.rule ≡ r) × (m.in_old ≡ p)
 one_rule r true p q m h = absurd (cc)
-one_rule r false p q m h = (refl, ap (λ (x : Mismatch). x.rule) (sym same), ap (λ (x : Mismatch). x.in_old) (sym same))
-  where
-    same : record { rule = r; in_old = p; in_new = q } ≡ m
-    same = cc
+one_rule r false p q m h = let same : record { rule = r; in_old = p; in_new = q } ≡ m = cc in (refl, rw (← same), rw (← same))
 
 -- ---- parts
 
@@ -83,7 +63,7 @@ abbrev pub StructsWithin : List Comparer → Type 0
 StructsWithin structs = (i j : ℕ) (m : Mismatch) → get_or structs j no_comparer i ≡ Some m → (4 < m.rule) × IsStruct m.in_old.part
 
 within_of : (part : Part) (n m : Mismatch) → n ≡ m → IsWithin part n → IsWithin part m
-within_of part n m e h = subst (IsWithin part) e h
+within_of part n m e h = rw e at h
 
 abbrev AreLater : List (ℕ × Bool) → Type 0
 AreLater [] = Unit {0}
@@ -92,16 +72,17 @@ AreLater (rule ∷ rules) = (4 < rule.0) × AreLater rules
 failing_within : (rules : List (ℕ × Bool)) (p q : Place) (m : Mismatch) → AreLater rules → failing_pair rules p q ≡ Some m → IsWithin p.part m
 failing_within [] p q m h e = absurd (cc)
 failing_within ((r, true) ∷ rules) p q m h e = failing_within rules p q m h.1 e
-failing_within ((r, false) ∷ rules) p q m h e = within_of p.part (record { rule = r; in_old = p; in_new = q }) m (cc) (record { rule = h.0; place = inl refl })
+failing_within ((r, false) ∷ rules) p q m h e =
+    within_of p.part (record { rule = r; in_old = p; in_new = q }) m (cc) (record { rule = h.0; place = inl refl })
 
 module _ (structs : List Comparer) (within : StructsWithin structs) (a b : Desc) (v w : ℕ) (part part' : Part) (o n : ℕ → Option ℕ) where
-  pair_within : (e f : Entry) (m : Mismatch) → failing_pair (pair_rules structs a b v w part part' o n e f) (in_field part e.index) (in_field part' f.index) ≡ Some m → IsWithin part m
-  pair_within e f m h = by (is_covered e.field.item e.field.count f.field.item) h
-    where
-      by : (c : Bool) → failing_pair (if c then (9, same_rest o n e.rest f.rest) ∷ [] else uncovered_rules structs a b v w part part' o n e f) (in_field part e.index) (in_field part' f.index) ≡ Some m → IsWithin part m
-      by true h = failing_within ((9, same_rest o n e.rest f.rest) ∷ []) (in_field part e.index) (in_field part' f.index) m (omega arith, tt) h
-      by false h = failing_within (uncovered_rules structs a b v w part part' o n e f) (in_field part e.index) (in_field part' f.index) m
-          (omega arith, (omega arith, (omega arith, (omega arith, (omega arith, (omega arith, tt)))))) h
+  pair_within : (e f : Entry) (m : Mismatch)
+      → failing_pair (pair_rules structs a b v w part part' o n e f) (in_field part e.index) (in_field part' f.index) ≡ Some m → IsWithin part m
+  pair_within e f m h =
+      failing_within (pair_rules structs a b v w part part' o n e f) _ _ m (later (is_covered e.field.item e.field.count f.field.item)) h where
+        later : (c : Bool) → AreLater (if c then (9, same_rest o n e.rest f.rest) ∷ [] else uncovered_rules structs a b v w part part' o n e f)
+        later true = (omega arith, tt)
+        later false = (omega arith, (omega arith, (omega arith, (omega arith, (omega arith, (omega arith, tt))))))
 
   structs_within : (i j : Item) (m : Mismatch) → pair_structs structs a b v w part part' o n i j ≡ Some m → (4 < m.rule) × IsStruct m.in_old.part
   structs_within (Struct i) (Struct j) m h = within i j m h
@@ -109,38 +90,36 @@ module _ (structs : List Comparer) (within : StructsWithin structs) (a b : Desc)
 
   pub fields_within : (es fs : List Entry) (m : Mismatch) → compare_fields structs a b v w part part' o n es fs ≡ Some m → IsWithin part m
   fields_within [] [] m h = absurd (cc)
-  fields_within (e ∷ es) [] m h = within_of part (record { rule = 5; in_old = in_field part e.index; in_new = here part' }) m (cc) (record { rule = omega arith; place = inl refl })
-  fields_within [] (f ∷ fs) m h = within_of part (record { rule = 6; in_old = here part; in_new = in_field part' f.index }) m (cc) (record { rule = omega arith; place = inl refl })
-  fields_within (e ∷ es) (f ∷ fs) m h = elim (else_some (failing_pair (pair_rules structs a b v w part part' o n e f) (in_field part e.index) (in_field part' f.index)) _ m h) [
+  fields_within (e ∷ es) [] m h =
+      within_of part (record { rule = 5; in_old = in_field part e.index; in_new = here part' }) m (cc) (record { rule = omega arith; place = inl refl })
+  fields_within [] (f ∷ fs) m h =
+      within_of part (record { rule = 6; in_old = here part; in_new = in_field part' f.index }) m (cc) (record { rule = omega arith; place = inl refl })
+  fields_within (e ∷ es) (f ∷ fs) m h = elim (else_some (failing_pair (pair_rules structs a b v w part part' o n e f) _ _) _ m h) [
     | inl k ↦ pair_within e f m k
-    | inr k ↦ elim (else_some (pair_structs structs a b v w part part' o n e.field.item f.field.item) (compare_fields structs a b v w part part' o n es fs) m k.1) [
+    | inr k ↦ elim (else_some (pair_structs structs a b v w part part' o n e.field.item f.field.item) _ m k.1) [
       | inl s ↦ let r = structs_within e.field.item f.field.item m s in record { rule = r.0; place = inr r.1 }
       | inr s ↦ fields_within es fs m s.1
     ]
   ]
 
   validations_within : (m : Mismatch) → compare_validations structs a b v w part part' o n ≡ Some m → IsWithin part m
-  validations_within m h = failing_within ((15, list_all (λ t. is_kept structs a b v w part part' o n (reduced w t)) b.validate) ∷ []) (here part) (here part') m (omega arith, tt) h
+  validations_within m h =
+      failing_within ((15, list_all (λ t. is_kept structs a b v w part part' o n (reduced w t)) b.validate) ∷ []) _ _ m (omega arith, tt) h
 
-pub desc_within : (structs : List Comparer) (x y : List (List Cell)) (a b : Desc) (v w : ℕ) (part part' : Part) (m : Mismatch) → StructsWithin structs → compare_desc structs x y a b v w part part' ≡ Some m → IsWithin part m
+pub desc_within : (structs : List Comparer) (x y : List (List Cell)) (a b : Desc) (v w : ℕ) (part part' : Part) (m : Mismatch) → StructsWithin structs
+    → compare_desc structs x y a b v w part part' ≡ Some m → IsWithin part m
 desc_within structs x y a b v w part part' m within h =
     let es = present x a v in
     let fs = present y b w in
     let o : ℕ → Option ℕ = λ k. position_from 0 es k in
     let n : ℕ → Option ℕ = λ k. position_from 0 fs k in
-    elim (else_some (compare_fields structs a b v w part part' o n es fs) (compare_validations structs a b v w part part' o n) m h) [
+    elim (else_some (compare_fields structs a b v w part part' o n es fs) _ m h) [
       | inl k ↦ fields_within structs within a b v w part part' o n es fs m k
       | inr k ↦ validations_within structs within a b v w part part' o n m k.1
     ]
 
 struct_is : (i : ℕ) (m : Mismatch) → IsWithin (parts.Struct i) m → (4 < m.rule) × IsStruct m.in_old.part
-struct_is i m r = (
-  r.rule,
-  elim r.place [
-    | inl e ↦ subst IsStruct (sym e) tt
-    | inr s ↦ s
-  ],
-)
+struct_is i m r = (r.rule, elim r.place [ inl e ↦ rw e tt | inr s ↦ s ])
 
 -- the comparers of the structures answer within them
 pub tables_within : (x y : List (List Cell)) (olds news : List Desc) (k : ℕ) → StructsWithin (comparers x y olds news k)
@@ -150,9 +129,11 @@ tables_within x y olds news (suc k) i j m h =
     let earlier = comparers x y olds news k in
     let b = get_or news k no_desc in
     let within : StructsWithin earlier = tables_within x y olds news k in
-    one_more (λ (c : Comparer). (i : ℕ) (m : Mismatch) → c i ≡ Some m → (4 < m.rule) × IsStruct m.in_old.part) no_comparer (λ i m h. absurd (cc)) earlier (λ j i m h. within i j m h)
-    (comparer_of earlier x y olds (length earlier) b)
-    (λ i m h. let a = get_or olds i no_desc in struct_is i m (desc_within earlier x y a b a.version b.version (parts.Struct i) (parts.Struct (length earlier)) m within h)) j i m h
+    one_more (λ (c : Comparer). (i : ℕ) (m : Mismatch) → c i ≡ Some m → (4 < m.rule) × IsStruct m.in_old.part) no_comparer (λ i m h. absurd (cc)) earlier
+    (λ j i m h. within i j m h) (comparer_of earlier x y olds (length earlier) b)
+    (λ i m h.
+    let a = get_or olds i no_desc in
+    struct_is i m (desc_within earlier x y a b a.version b.version (parts.Struct i) (parts.Struct (length earlier)) m within h)) j i m h
 
 -- ---- subsections and devices
 
@@ -162,18 +143,10 @@ IsDevice _ = ⊥
 
 pub struct_no_device : (p : Part) → IsStruct p → IsDevice p → ⊥
 struct_no_device (parts.Struct i) s d = d
-struct_no_device (parts.Device i) s d = s
-struct_no_device (parts.Sub i j) s d = s
-struct_no_device parts.Set s d = s
+struct_no_device _ s d = s
 
 sub_part : (i j : ℕ) (m : Mismatch) → IsWithin (parts.Sub i j) m → (4 < m.rule) × (IsDevice m.in_old.part → ⊥)
-sub_part i j m r = (
-  r.rule,
-  λ d. elim r.place [
-    | inl e ↦ subst IsDevice e d
-    | inr s ↦ struct_no_device m.in_old.part s d
-  ],
-)
+sub_part i j m r = (r.rule, λ d. elim r.place [ inl e ↦ rw e at d | inr s ↦ struct_no_device m.in_old.part s d ])
 
 module _ (old new : Set) where
   set_tables : StructsWithin (comparers (struct_cells old) (struct_cells new) old.structs new.structs (length new.structs))
@@ -181,18 +154,21 @@ module _ (old new : Set) where
 
   pub part_within : (a b : Desc) (v : ℕ) (part part' : Part) (m : Mismatch) → comparing old new a b v part part' ≡ Some m → IsWithin part m
   part_within a b v part part' m h =
-      desc_within (comparers (struct_cells old) (struct_cells new) old.structs new.structs (length new.structs)) (struct_cells old) (struct_cells new) a b v v part part' m set_tables h
+      desc_within (comparers (struct_cells old) (struct_cells new) old.structs new.structs (length new.structs)) _ _ a b v v part part' m set_tables h
 
-  no_sub : (i j k : ℕ) (m : Mismatch) → record { rule = 13; in_old = here (parts.Sub i j); in_new = here (parts.Device k) } ≡ m → (4 < m.rule) × (IsDevice m.in_old.part → ⊥)
-  no_sub i j k m e = sub_part i j m (within_of (parts.Sub i j) (record { rule = 13; in_old = here (parts.Sub i j); in_new = here (parts.Device k) }) m e (record { rule = omega arith; place = inl refl }))
+  no_sub : (i j k : ℕ) (m : Mismatch) → record { rule = 13; in_old = here (parts.Sub i j); in_new = here (parts.Device k) } ≡ m
+      → (4 < m.rule) × (IsDevice m.in_old.part → ⊥)
+  no_sub i j k m e = sub_part i j m (within_of (parts.Sub i j) _ m e (record { rule = omega arith; place = inl refl }))
 
-  sub_within : (i k j : ℕ) (s : Sub) (l : Option ℕ) (t : Option Sub) (m : Mismatch) → compare_sub old new i k j s l t ≡ Some m → (4 < m.rule) × (IsDevice m.in_old.part → ⊥)
-  sub_within i k j s None t m h = no_sub i j k m (cc)
-  sub_within i k j s (Some l) None m h = no_sub i j k m (cc)
-  sub_within i k j s (Some l) (Some t) m h = elim (else_some (failing_pair ((14, is_version_of t.desc s.desc.version) ∷ []) (here (parts.Sub i j)) (here (parts.Sub k l))) _ m h) [
-    | inl e ↦ sub_part i j m (failing_within ((14, is_version_of t.desc s.desc.version) ∷ []) (here (parts.Sub i j)) (here (parts.Sub k l)) m (omega arith, tt) e)
-    | inr e ↦ sub_part i j m (part_within s.desc t.desc s.desc.version (parts.Sub i j) (parts.Sub k l) m e.1)
-  ]
+  sub_within : (i k j : ℕ) (s : Sub) (l : Option ℕ) (t : Option Sub) (m : Mismatch) → compare_sub old new i k j s l t ≡ Some m
+      → (4 < m.rule) × (IsDevice m.in_old.part → ⊥)
+  sub_within i k j s (Some l) (Some t) m h =
+      elim (else_some (failing_pair ((14, is_version_of t.desc s.desc.version) ∷ []) (here (parts.Sub i j)) (here (parts.Sub k l))) _ m h) [
+        | inl e ↦ sub_part i j m (failing_within ((14, is_version_of t.desc s.desc.version) ∷ []) _ _ m (omega arith, tt) e)
+        | inr e ↦ sub_part i j m (part_within s.desc t.desc s.desc.version (parts.Sub i j) (parts.Sub k l) m e.1)
+      ]
+  sub_within i k j s None t m h = no_sub i j k m cc
+  sub_within i k j s (Some l) None m h = no_sub i j k m cc
 
   -- of two devices: the version, the device's own fields and validations, or a subsection
   pub data OfDevice (i k : ℕ) (d e : Device) (m : Mismatch) : Type 0 where
@@ -201,78 +177,66 @@ module _ (old new : Set) where
     Below : 4 < m.rule → (IsDevice m.in_old.part → ⊥) → OfDevice i k d e m
 
   pub of_device : (i k : ℕ) (d e : Device) (m : Mismatch) → compare_device old new i d (Some k) (Some e) ≡ Some m → OfDevice i k d e m
-  of_device i k d e m h = elim (else_some (failing_pair ((4, is_version_of e.desc d.desc.version) ∷ []) (here (parts.Device i)) (here (parts.Device k))) _ m h) [
-    | inl r ↦ let o = one_rule 4 (is_version_of e.desc d.desc.version) (here (parts.Device i)) (here (parts.Device k)) m r in Version o.1 o.0
-    | inr r ↦ elim (else_some (comparing old new d.desc e.desc d.desc.version (parts.Device i) (parts.Device k)) (first_answer (compare_subs old new i k e) 0 d.subs) m r.1) [
-      | inl c ↦ Own (part_within d.desc e.desc d.desc.version (parts.Device i) (parts.Device k) m c).rule c
-      | inr c ↦
-          let f = first_some (compare_subs old new i k e) 0 d.subs m c.1 in
-          let s = sub_within i k (0 + f.number) f.item (find_sub 0 e.subs f.item.desc.name) (slice_get e.subs (index (find_sub 0 e.subs f.item.desc.name))) m f.answers in
-          Below s.0 s.1
-    ]
-  ]
+  of_device i k d e m h =
+      elim (else_some (failing_pair ((4, is_version_of e.desc d.desc.version) ∷ []) (here (parts.Device i)) (here (parts.Device k))) _ m h) [
+        | inl r ↦ let o = one_rule 4 (is_version_of e.desc d.desc.version) (here (parts.Device i)) (here (parts.Device k)) m r in Version o.1 o.0
+        | inr r ↦ elim (else_some (comparing old new d.desc e.desc d.desc.version (parts.Device i) (parts.Device k)) _ m r.1) [
+          | inl c ↦ Own (part_within d.desc e.desc d.desc.version (parts.Device i) (parts.Device k) m c).rule c
+          | inr c ↦
+              let f = first_some (compare_subs old new i k e) 0 d.subs m c.1 in
+              let s = sub_within i k (0 + f.number) f.item (find_sub 0 e.subs f.item.desc.name) _ m f.answers in
+              Below s.0 s.1
+        ]
+      ]
 
   pub not_early : (i k : ℕ) (d e : Device) (m : Mismatch) → OfDevice i k d e m → 3 < m.rule
-  not_early i k d e m (Version r f) = omega (arith, r)
+  not_early i k d e m (Version r f) = omega arith
   not_early i k d e m (Own lt c) = omega arith
   not_early i k d e m (Below lt c) = omega arith
 
   compared_early : (i : ℕ) (d : Device) (o : Option ℕ) (p : Option Device) (m : Mismatch) → compare_device old new i d o p ≡ Some m → 3 < m.rule
   compared_early i d (Some k) (Some e) m h = not_early i k d e m (of_device i k d e m h)
-  compared_early i d None p m h = absurd (cc)
-  compared_early i d (Some k) None m h = absurd (cc)
+  compared_early i d _ _ m h = absurd (cc)
 
   -- ---- which rule is the first
 
   -- a device that is in both sets
   pub record DeviceFails (m : Mismatch) : Type 0 where
     pub all_in : first_answer (λ i d. failing_pair ((2, is_in new d) ∷ []) (here (parts.Device i)) (here parts.Set)) 0 old.devices ≡ None
-    pub answers : FirstSome (λ i d. compare_device old new i d (paired_device old new d) (slice_get new.devices (index (paired_device old new d)))) 0 old.devices m
+    pub answers : FirstSome (λ i d. compared old new i d) 0 old.devices m
 
   -- which rule it is, and where
   which_fails : (m : Mismatch) → first_mismatch old new ≡ Some m
       → ((list_all (is_one_of new.machines) old.machines ≡ false) × (m.rule ≡ 1)) ⊎ ((m.rule ≡ 2) ⊎ ((m.rule ≡ 3) ⊎ DeviceFails m))
   unfolding first_mismatch
-  which_fails m h = elim (else_some (failing_pair ((1, list_all (is_one_of new.machines) old.machines) ∷ []) (here parts.Set) (here parts.Set)) _ m h) [
-    | inl r ↦ let one = one_rule 1 (list_all (is_one_of new.machines) old.machines) (here parts.Set) (here parts.Set) m r in inl (one.0, one.1)
-    | inr r ↦ elim (else_some (first_answer (λ i d. failing_pair ((2, is_in new d) ∷ []) (here (parts.Device i)) (here parts.Set)) 0 old.devices) _ m r.1) [
-      | inl s ↦
-          let f = first_some (λ i d. failing_pair ((2, is_in new d) ∷ []) (here (parts.Device i)) (here parts.Set)) 0 old.devices m s in
-          inr (inl (one_rule 2 (is_in new f.item) (here (parts.Device (0 + f.number))) (here parts.Set) m f.answers).1)
-      | inr s ↦ elim (else_some (first_answer (λ i d. failing_pair ((3, is_in old d) ∷ []) (here parts.Set) (here (parts.Device i))) 0 new.devices) _ m s.1) [
-        | inl t ↦
-            let f = first_some (λ i d. failing_pair ((3, is_in old d) ∷ []) (here parts.Set) (here (parts.Device i))) 0 new.devices m t in
-            inr (inr (inl (one_rule 3 (is_in old f.item) (here parts.Set) (here (parts.Device (0 + f.number))) m f.answers).1))
-        | inr t ↦ inr (inr (inr (record {
-          all_in = s.0;
-          answers = first_some (λ i d. compare_device old new i d (paired_device old new d) (slice_get new.devices (index (paired_device old new d)))) 0 old.devices m t.1;
-        })))
+  which_fails m h =
+      let old_in = λ (i : ℕ) (d : Device). failing_pair ((2, is_in new d) ∷ []) (here (parts.Device i)) (here parts.Set) in
+      let new_in = λ (i : ℕ) (d : Device). failing_pair ((3, is_in old d) ∷ []) (here parts.Set) (here (parts.Device i)) in
+      elim (else_some (failing_pair ((1, list_all (is_one_of new.machines) old.machines) ∷ []) (here parts.Set) (here parts.Set)) _ m h) [
+        | inl r ↦ let one = one_rule 1 (list_all (is_one_of new.machines) old.machines) (here parts.Set) (here parts.Set) m r in inl (one.0, one.1)
+        | inr r ↦ elim (else_some (first_answer old_in 0 old.devices) _ m r.1) [
+          | inl s ↦ let f = first_some old_in 0 old.devices m s in inr (inl (one_rule 2 (is_in new f.item) _ _ m f.answers).1)
+          | inr s ↦ elim (else_some (first_answer new_in 0 new.devices) _ m s.1) [
+            | inl t ↦ let f = first_some new_in 0 new.devices m t in inr (inr (inl (one_rule 3 (is_in old f.item) _ _ m f.answers).1))
+            | inr t ↦ inr (inr (inr (record { all_in = s.0; answers = first_some (λ i d. compared old new i d) 0 old.devices m t.1 })))
+          ]
+        ]
       ]
-    ]
-  ]
 
   pub machine_fails : (m : Mismatch) → first_mismatch old new ≡ Some m → m.rule ≡ 1 → list_all (is_one_of new.machines) old.machines ≡ false
   machine_fails m h one = elim (which_fails m h) [
     | inl r ↦ r.0
-    | inr r ↦ elim r [
-      | inl two ↦ absurd (omega (arith, one, two))
-      | inr s ↦ elim s [
-        | inl three ↦ absurd (omega (arith, one, three))
-        | inr d ↦
-            let f = d.answers in
-            absurd (omega (arith, one, compared_early (0 + f.number) f.item (paired_device old new f.item) (slice_get new.devices (index (paired_device old new f.item))) m f.answers))
-      ]
-    ]
+    | inr (inl two) ↦ absurd (omega arith)
+    | inr (inr (inl three)) ↦ absurd (omega arith)
+    | inr (inr (inr d)) ↦
+        let f = d.answers in
+        absurd (omega (arith, compared_early (0 + f.number) f.item (paired_device old new f.item) _ m f.answers))
   ]
 
   pub device_fails : (m : Mismatch) → first_mismatch old new ≡ Some m → 3 < m.rule → DeviceFails m
   device_fails m h late = elim (which_fails m h) [
-    | inl r ↦ absurd (omega (arith, late, r.1))
-    | inr r ↦ elim r [
-      | inl two ↦ absurd (omega (arith, late, two))
-      | inr s ↦ elim s [
-        | inl three ↦ absurd (omega (arith, late, three))
-        | inr d ↦ d
-      ]
-    ]
+    | inl r ↦ absurd (omega (arith, r.1))
+    | inr (inl two) ↦ absurd (omega arith)
+    | inr (inr (inl three)) ↦ absurd (omega arith)
+    | inr (inr (inr d)) ↦ d
   ]

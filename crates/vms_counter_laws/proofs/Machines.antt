@@ -1,22 +1,13 @@
 -- Streams with a machine, and their heads.
-use Rattle.std.proofs.Common.{◌≡◌, ℕ, ◌^◌, ◌<◌, List, [], ◌++◌, length, refl, sym, ap, ◌∙◌, append_assoc, Bool, true, false, ◌&&◌, ◌∷◌, get_or, Option, Some, None, arith, if◌then◌else◌}
-use Rattle.byteorder.specs.Endian.{big_number}
-use Rattle.vms_spec.specs.Streams.{be32, section_head, stream_head, configuration, end_mark, is_one_of, IsConfiguration}
-use Rattle.vms_spec.proofs.KindLaws.{be32_read}
-use Rattle.vms_check_laws.proofs.Segments.{apart}
-use Rattle.std.specs.List.{slice_get, list_all}
-use Rattle.std.specs.Str.{bytes_eq}
-use Rattle.std.proofs.lemmas.Bool.{or_left, or_right}
-use Rattle.std.proofs.lemmas.Slice.Eq.{bytes_eq-Decides}
-use Rattle.vms_spec.specs.Sets.{Device, Set}
-use Rattle.vms_spec.specs.Images.{Image}
-use Rattle.vms_stream.specs.Streams.{HasSection, SectionsSpell, Takes}
-use Rattle.vms_counter_laws.specs.Candidates.{lacking}
+use Rattle.vms_counter_laws.proofs.Facade.{◌≡◌, ℕ, ◌^◌, ◌<◌, List, [], ◌++◌, length, refl, sym, ap, ◌∙◌, append_assoc, Bool, true, false, ◌&&◌, ◌∷◌, get_or}
+use Rattle.vms_counter_laws.proofs.Facade.{Option, Some, None, arith, slice_get, list_all, bytes_eq, or_left, or_right, bytes_eq-Decides, be32, section_head}
+use Rattle.vms_counter_laws.proofs.Facade.{stream_head, configuration, is_one_of, IsConfiguration, be32_read, apart, Device, Set, Image, HasSection}
+use Rattle.vms_counter_laws.proofs.Facade.{SectionsSpell, Takes, lacking}
 
 -- ---- Two section heads at one front.
 
 pub same_be32 : (n m : ℕ) → n < 2 ^ 32 → m < 2 ^ 32 → be32 n ≡ be32 m → n ≡ m
-same_be32 n m lt lt' e = sym (be32_read n [] lt) ∙ ap (λ (l : List ℕ). big_number 4 (l ++ [])) e ∙ be32_read m [] lt'
+same_be32 n m lt lt' e = cc (be32_read n [] lt, be32_read m [] lt')
 
 pub record SameHead (name name' : List ℕ) (instance instance' v v' : ℕ) (rest rest' : List ℕ) : Type 0 where
   pub names : name ≡ name'
@@ -24,14 +15,13 @@ pub record SameHead (name name' : List ℕ) (instance instance' v v' : ℕ) (res
   pub versions : v ≡ v'
   pub rests : rest ≡ rest'
 
-pub same_head : (id id' : ℕ) (name name' : List ℕ) (instance instance' v v' : ℕ) (rest rest' : List ℕ) → instance < 2 ^ 32 → instance' < 2 ^ 32 → v < 2 ^ 32 → v' < 2 ^ 32
-    → section_head id name instance v ++ rest ≡ section_head id' name' instance' v' ++ rest' → SameHead name name' instance instance' v v' rest rest'
+pub same_head : (id id' : ℕ) (name name' : List ℕ) (instance instance' v v' : ℕ) (rest rest' : List ℕ) → instance < 2 ^ 32 → instance' < 2 ^ 32
+    → v < 2 ^ 32 → v' < 2 ^ 32 → section_head id name instance v ++ rest ≡ section_head id' name' instance' v' ++ rest'
+    → SameHead name name' instance instance' v v' rest rest'
 same_head id id' name name' instance instance' v v' rest rest' i_fits i_fits' v_fits v_fits' h =
     let long : length name ≡ length name' = cc in
     let more : ((name ++ be32 instance) ++ be32 v) ++ rest ≡ ((name' ++ be32 instance') ++ be32 v') ++ rest' = cc in
-    let split : name ++ (be32 instance ++ (be32 v ++ rest)) ≡ name' ++ (be32 instance' ++ (be32 v' ++ rest')) =
-    sym (append_assoc (name ++ be32 instance) (be32 v) rest ∙ append_assoc name (be32 instance) (be32 v ++ rest)) ∙ more
-    ∙ append_assoc (name' ++ be32 instance') (be32 v') rest' ∙ append_assoc name' (be32 instance') (be32 v' ++ rest') in
+    let split : name ++ (be32 instance ++ (be32 v ++ rest)) ≡ name' ++ (be32 instance' ++ (be32 v' ++ rest')) = simp append_assoc at more in
     let a = apart name name' (be32 instance' ++ (be32 v' ++ rest')) (be32 instance ++ (be32 v ++ rest)) long split in
     let b = apart (be32 instance) (be32 instance') (be32 v' ++ rest') (be32 v ++ rest) refl a.1 in
     let c = apart (be32 v) (be32 v') rest' rest refl b.1 in
@@ -53,49 +43,45 @@ lacks names (m ∷ machines) h =
     let by : (b : Bool) → is_one_of names m ≡ b → (b && list_all (is_one_of names) machines) ≡ false → Lacks names (m ∷ machines) = elim [
       | true ↦ λ e k.
           let r = lacks names machines k in
-          record { name = r.name; is = ap (λ (c : Bool). if c then lacking names machines else Some m) e ∙ r.is; unknown = r.unknown; known = or_right (bytes_eq m r.name) (is_one_of machines r.name) r.known }
-      | false ↦ λ e k. record { name = m; is = ap (λ (c : Bool). if c then lacking names machines else Some m) e; unknown = e; known = or_left (bytes_eq m m) (is_one_of machines m) ((bytes_eq-Decides m m).1 refl) }
+          record { name = r.name; is = rw e r.is; unknown = r.unknown; known = or_right (bytes_eq m r.name) (is_one_of machines r.name) r.known }
+      | false ↦ λ e k.
+          record { name = m; is = rw e; unknown = e; known = or_left (bytes_eq m m) (is_one_of machines m) ((bytes_eq-Decides m m).1 refl) }
     ] in
     by (is_one_of names m) refl h
 
 -- ---- bytes
 
 -- sections, and then the end mark, begin with no configuration's mark
-first_byte : (set : Set) (footed : Bool) (images : List Image) (order : List ℕ) (sections more : List ℕ) → SectionsSpell set footed images order sections → get_or (sections ++ (0x00 ∷ more)) 0 0 ≡ 0x07 → ⊥
-first_byte set footed images [] sections more spelled h = let f : ◌≡◌ {A = ℕ} 0x00 0x07 = ap (λ (l : List ℕ). get_or (l ++ (0x00 ∷ more)) 0 0) (sym spelled) ∙ h in cc
+first_byte : (set : Set) (footed : Bool) (images : List Image) (order : List ℕ) (sections more : List ℕ) → SectionsSpell set footed images order sections
+    → get_or (sections ++ (0x00 ∷ more)) 0 0 ≡ 0x07 → ⊥
+first_byte set footed images [] sections more spelled h = let f : ◌≡◌ {A = ℕ} 0x00 0x07 = rw spelled at h in cc
 first_byte set footed images (k ∷ order) sections more spelled h =
     by (slice_get set.devices k) (slice_get images k) spelled.2
   where
     by : (o : Option Device) (p : Option Image) → HasSection set footed k o p spelled.0 → ⊥
     by (Some d) (Some image) s =
-        let f : ◌≡◌ {A = ℕ} 0x04 0x07 = ap (λ (l : List ℕ). get_or ((l ++ spelled.1) ++ (0x00 ∷ more)) 0 0) (sym s.1.whole) ∙ ap (λ (l : List ℕ). get_or (l ++ (0x00 ∷ more)) 0 0) (sym spelled.4) ∙ h in
-        cc
+        let f : ◌≡◌ {A = ℕ} 0x04 0x07 = rw (spelled.4, s.1.whole) at h in cc
     by None p s = s
     by (Some d) None s = s
 
-by_machine : (names : List (List ℕ)) (machine : Option (List ℕ)) (name named more more' : List ℕ) → is_one_of names name ≡ false → length name < 2 ^ 32 → IsConfiguration names machine named
+by_machine : (names : List (List ℕ)) (machine : Option (List ℕ)) (name named more more' : List ℕ) → is_one_of names name ≡ false → length name < 2 ^ 32
+    → IsConfiguration names machine named
     → (named ≡ [] → get_or more 0 0 ≡ 0x07 → ⊥) → configuration name ++ more' ≡ named ++ more → ⊥
 by_machine names None name named more more' unknown short is no_mark h =
     no_mark is (sym (ap (λ (l : List ℕ). get_or (l ++ more) 0 0) is) ∙ sym (ap (λ (l : List ℕ). get_or l 0 0) h))
 by_machine names (Some other) name named more more' unknown short is no_mark h =
-    let h' : configuration name ++ more' ≡ configuration other ++ more = h ∙ ap (λ (l : List ℕ). l ++ more) is.2 in
+    let h' : configuration name ++ more' ≡ configuration other ++ more = rw is.2 at h in
     let bytes : be32 (length name) ≡ be32 (length other) = cc in
     let rest : name ++ more' ≡ other ++ more = cc in
-    let long = same_be32 (length name) (length other) short (omega (arith, is.1)) bytes in
-    let same = (apart name other more more' long rest).0 in
-    let f : true ≡ false = sym is.0 ∙ ap (is_one_of names) (sym same) ∙ unknown in
-    cc
+    let same = (apart name other more more' (same_be32 (length name) (length other) short (omega (arith, is.1)) bytes) rest).0 in
+    absurd (cc (is.0))
 
 pub machine_untaken : (set : Set) (names : List (List ℕ)) (name more : List ℕ) → is_one_of names name ≡ false → length name < 2 ^ 32
     → (n : ℕ) (machine : Option (List ℕ)) (images : List Image) → Takes set names (stream_head ++ (configuration name ++ more)) n machine images → ⊥
 machine_untaken set names name more unknown short n machine images t =
     let s = t.stream in
     let tail = 0x00 ∷ (s.tail ++ t.rest) in
-    let is : stream_head ++ (configuration name ++ more) ≡ stream_head ++ (s.named ++ (s.sections ++ tail)) =
-    t.prefix ∙ ap (λ (l : List ℕ). l ++ t.rest) s.whole
-    ∙ append_assoc (((stream_head ++ s.named) ++ s.sections) ++ end_mark) s.tail t.rest
-    ∙ append_assoc ((stream_head ++ s.named) ++ s.sections) end_mark (s.tail ++ t.rest)
-    ∙ append_assoc (stream_head ++ s.named) s.sections (end_mark ++ (s.tail ++ t.rest)) ∙ append_assoc stream_head s.named (s.sections ++ tail) in
+    let is : stream_head ++ (configuration name ++ more) ≡ stream_head ++ (s.named ++ (s.sections ++ tail)) = t.prefix ∙ rw s.whole (simp append_assoc) in
     by_machine names machine name s.named (s.sections ++ tail) more unknown short s.configured
     (λ none e. first_byte set s.footed images s.order s.sections (s.tail ++ t.rest) s.spelled e)
     (apart stream_head stream_head (s.named ++ (s.sections ++ tail)) (configuration name ++ more) refl (sym (sym is))).1

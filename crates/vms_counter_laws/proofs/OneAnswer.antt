@@ -1,25 +1,12 @@
 -- The streams of candidates are bytes.
-use Rattle.std.proofs.Common.{◌≡◌, ℕ, ◌==◌, Bool, true, false, List, [], ◌∷◌, Option, Some, None, IfSome, refl, if◌then◌else◌, sym, ap, ◌∙◌, subst}
-use Rattle.std.specs.Str.{bytes_eq}
-use Rattle.std.proofs.lemmas.Bool.{or_left, or_right}
-use Rattle.std.proofs.lemmas.Slice.Eq.{bytes_eq-Decides}
-use Rattle.vms_kinds.specs.Bytes.{IsBytes}
-use Rattle.vms_spec.specs.Sets.{Set}
-use Rattle.vms_spec.specs.Images.{Image}
-use Rattle.vms_spec.specs.Streams.{is_one_of}
-use Rattle.vms_spec.specs.WellFormed.{WellFormed}
-use Rattle.vms_stream.proofs.WrittenBytes.{bytes_at, machine_bytes, written_are_bytes}
-use Rattle.vms_check.specs.declared.mismatch.Mismatch.{Mismatch}
-use Rattle.vms_counter_laws.specs.Candidates.{lacking, machine_for, candidates}
-use Rattle.vms_counter_laws.specs.Counters.{stream_of, Refusal, Answer, NoState, State, IsFirst, Here, Later, NoneShows, Counters, Agree, Lacks, Finds}
-use Rattle.vms_spec.specs.declared.Reason.{Reason}
-use Rattle.vms_stream.specs.Faults.{Fault}
-use Rattle.vms_stream.proofs.Stated.{one_fault_holds}
-use Rattle.vms_check.specs.Comparing.{first_mismatch}
-use Rattle.vms_counter_laws.specs.Laws.{OneAnswerLaw}
+use Rattle.vms_counter_laws.proofs.Facade.{sym, subst, ◌≡◌, ℕ, ◌==◌, Bool, true, false, List, [], ◌∷◌, Option, Some, None, IfSome, refl, if◌then◌else◌, ap, ◌∙◌}
+use Rattle.vms_counter_laws.proofs.Facade.{bytes_eq, or_left, or_right, bytes_eq-Decides, IsBytes, Set, Image, is_one_of, WellFormed, bytes_at, machine_bytes}
+use Rattle.vms_counter_laws.proofs.Facade.{written_are_bytes, Mismatch, lacking, machine_for, candidates, stream_of, Refusal, Answer, State, IsFirst, Here}
+use Rattle.vms_counter_laws.proofs.Facade.{Later, NoneShows, Counters, Agree, Lacks, Finds, Reason, Fault, one_fault_holds, first_mismatch, OneAnswerLaw}
 
 -- what is lacking is one of the machines
-more_known : (m : List ℕ) (machines : List (List ℕ)) (o : Option (List ℕ)) → IfSome o (λ x. is_one_of machines x ≡ true) → IfSome o (λ x. is_one_of (m ∷ machines) x ≡ true)
+more_known : (m : List ℕ) (machines : List (List ℕ)) (o : Option (List ℕ)) → IfSome o (λ x. is_one_of machines x ≡ true)
+    → IfSome o (λ x. is_one_of (m ∷ machines) x ≡ true)
 more_known m machines None h = tt
 more_known m machines (Some x) h = or_right (bytes_eq m x) (is_one_of machines x) h
 
@@ -59,31 +46,34 @@ module _ (old new : Set) where
   one_first m a b _ (Later others more n first) (Later _ _ k second) = one_first m a b more first second
 
   one_mismatch : (m n : Mismatch) → first_mismatch old new ≡ Some m → first_mismatch old new ≡ Some n → m ≡ n
-  one_mismatch m n e f = let same : Some m ≡ Some n = sym e ∙ f in cc
+  one_mismatch m n e f = cc
 
-  one_refusal : (bytes : List ℕ) (r s : Refusal) (n k : ℕ) → IsBytes bytes → Fault new new.machines bytes r.place r.section r.reason n → Fault new new.machines bytes s.place s.section s.reason k → r ≡ s
+  -- the bytes of a stream have one fault
+  abbrev FaultOf : List ℕ → Refusal → ℕ → Type 0
+  FaultOf bytes r n = Fault new new.machines bytes r.place r.section r.reason n
+
+  one_refusal : (bytes : List ℕ) (r s : Refusal) (n k : ℕ) → IsBytes bytes → FaultOf bytes r n → FaultOf bytes s k → r ≡ s
   one_refusal bytes r s n k ok f g =
       let one = one_fault_holds new new.machines bytes ok r.place s.place r.section s.section r.reason s.reason n k f g in
       ap (λ (p : ℕ). record r { place = p }) one.places ∙ ap (λ (o : Option ℕ). record r { place = s.place; section = o }) one.sections
       ∙ ap (λ (x : Reason). record { place = s.place; section = s.section; reason = x }) one.reasons
 
-  both_found : (m : Mismatch) (a b : List Image) (r s : Refusal) (n k : ℕ) → IsBytes (stream_of old new m a) → IsFirst old new m a (candidates old new m) → IsFirst old new m b (candidates old new m)
-      → Fault new new.machines (stream_of old new m a) r.place r.section r.reason n → Fault new new.machines (stream_of old new m b) s.place s.section s.reason k
+  both_found : (m : Mismatch) (a b : List Image) (r s : Refusal) (n k : ℕ) → IsBytes (stream_of old new m a) → IsFirst old new m a (candidates old new m)
+      → IsFirst old new m b (candidates old new m) → FaultOf (stream_of old new m a) r n → FaultOf (stream_of old new m b) s k
       → State m (machine_for old new m) a r ≡ State m (machine_for old new m) b s
   both_found m a b r s n k ok x y f g =
       let same = one_first m a b (candidates old new m) x y in
-      let g' = subst (λ (i : List Image). Fault new new.machines (stream_of old new m i) s.place s.section s.reason k) (sym same) g in
-      ap (λ (i : List Image). State m (machine_for old new m) i r) same
-      ∙ ap (λ (q : Refusal). State m (machine_for old new m) b q) (one_refusal (stream_of old new m a) r s n k ok f g')
+      let refusals = one_refusal (stream_of old new m a) r s n k ok f (rw (← same) at g) in
+      rw (same, refusals)
 
   module _ (well : WellFormed old) where
     one_answer : (a b : Answer) → Counters old new a → Counters old new b → a ≡ b
     one_answer _ _ (Agree h) (Agree k) = refl
-    one_answer _ _ (Agree h) (Lacks m e none) = let f = sym h ∙ e in cc
-    one_answer _ _ (Agree h) (Finds m images r n e first fault) = let f = sym h ∙ e in cc
-    one_answer _ _ (Lacks m e none) (Agree h) = let f = sym h ∙ e in cc
-    one_answer _ _ (Finds m images r n e first fault) (Agree h) = let f = sym h ∙ e in cc
-    one_answer _ _ (Lacks m e none) (Lacks m' e' none') = ap NoState (one_mismatch m m' e e')
+    one_answer _ _ (Agree h) (Lacks m e none) = cc
+    one_answer _ _ (Agree h) (Finds m images r n e first fault) = cc
+    one_answer _ _ (Lacks m e none) (Agree h) = cc
+    one_answer _ _ (Finds m images r n e first fault) (Agree h) = cc
+    one_answer _ _ (Lacks m e none) (Lacks m' e' none') = rw (one_mismatch m m' e e')
     one_answer _ _ (Lacks m e none) (Finds m' images r n e' first fault) =
         let same = one_mismatch m m' e e' in
         absurd (none_first m' images (candidates old new m') (subst (λ (x : Mismatch). NoneShows old new x (candidates old new x)) same none) first)
@@ -93,8 +83,7 @@ module _ (old new : Set) where
     one_answer _ _ (Finds m a r n e x f) (Finds m' b s k e' y g) =
         let same = one_mismatch m' m e' e in
         both_found m a b r s n k (stream_bytes old new well m a) x (subst (λ (z : Mismatch). IsFirst old new z b (candidates old new z)) same y) f
-        (subst (λ (z : Mismatch). Fault new new.machines (stream_of old new z b) s.place s.section s.reason k) same g)
-        ∙ ap (λ (z : Mismatch). State z (machine_for old new z) b s) (sym same)
+        (subst (λ (z : Mismatch). FaultOf (stream_of old new z b) s k) same g) ∙ ap (λ (z : Mismatch). State z (machine_for old new z) b s) (sym same)
 
 pub one_answer_holds : OneAnswerLaw
 one_answer_holds old new well a b x y = one_answer old new well a b x y

@@ -1,24 +1,9 @@
 -- Worked pairs of sets.
-use Rattle.std.proofs.Common.{◌≡◌, ℕ, List, [], ◌∷◌, Some, None, pos, refl, codes}
-use Rattle.vms_kinds.specs.Codes.{code}
-use Rattle.vms_kinds.specs.declared.Kind.TheVariants.{U8, U16}
-use Rattle.vms_kinds.specs.declared.Item.TheVariants.{Struct}
-use Rattle.vms_spec.specs.declared.Count.TheVariants.{Counted}
+use Rattle.vms_counter_laws.proofs.Facade.{◌≡◌, ℕ, List, [], ◌∷◌, Some, None, pos, refl, codes, code, U8, U16, Struct, Counted, Place, first, Set, Desc, Field}
+use Rattle.vms_counter_laws.proofs.Facade.{set_1, set_3, here, in_field, number, box, box_set, sub_of, counted_set, subsection_set, reading, between_at}
+use Rattle.vms_counter_laws.proofs.Facade.{behind_at, trailer_at, Mismatch, first_mismatch, default_images, Answer, AreCompatible, NoState, State, computed}
 use Rattle.vms_spec.specs.declared.Part.TheVariants as parts
-use Rattle.vms_spec.specs.declared.Place.{Place}
 use Rattle.vms_spec.specs.declared.Reason.TheVariants as reasons
-use Rattle.vms_spec.specs.Layout.{first}
-use Rattle.vms_spec.specs.Sets.{Set, Desc, Field}
-use Rattle.vms_spec.specs.Shipped.{set_1, set_3}
-use Rattle.vms_spec.specs.WellFormed.{here, in_field}
-use Rattle.vms_spec.proofs.Boxes.{number, box, box_set, sub_of, counted_set, subsection_set}
-use Rattle.vms_stream.specs.Judge.{reading}
-use Rattle.vms_stream.specs.Finding.{between_at, behind_at, trailer_at}
-use Rattle.vms_check.specs.declared.mismatch.Mismatch.{Mismatch}
-use Rattle.vms_check.specs.Comparing.{first_mismatch}
-use Rattle.vms_counter_laws.specs.Candidates.{default_images}
-use Rattle.vms_counter_laws.specs.Counters.{Answer, AreCompatible, NoState, State}
-use Rattle.vms_counter_laws.specs.Computed.{computed}
 
 unfoldable told : Set → Set → Answer
 unfolding first_mismatch reading
@@ -42,7 +27,8 @@ newer_points = points (point 2 (number U8 (codes "x") ∷ record (number U8 (cod
 
 -- the newer set takes the footer's mark for y, and the stream is then bare
 takes_a_footer_for_a_field : told older_points newer_points
-    ≡ State (mismatch 6 (here (parts.Struct 0)) (in_field (parts.Struct 0) 1)) None (record { version = 1; came = []; numbers = pos 0 ∷ [] } ∷ []) (record { place = 28; section = None; reason = reasons.Trailing })
+    ≡ State (mismatch 6 (here (parts.Struct 0)) (in_field (parts.Struct 0) 1)) None (record { version = 1; came = []; numbers = pos 0 ∷ [] } ∷ [])
+    (record { place = 28; section = None; reason = reasons.Trailing })
 unfolding told first between_at behind_at trailer_at code
 takes_a_footer_for_a_field = refl
 
@@ -50,7 +36,8 @@ abbrev four : Set
 four = box_set (number U8 (codes "n") ∷ record (number U16 (codes "v")) { count = Counted 0 4 } ∷ []) [] []
 
 raises_a_count : told four counted_set
-    ≡ State (mismatch 11 (in_field (parts.Device 0) 1) (in_field (parts.Device 0) 1)) None (record { version = 1; came = []; numbers = pos 3 ∷ pos 0 ∷ pos 0 ∷ pos 0 ∷ pos 0 ∷ [] } ∷ [])
+    ≡ State (mismatch 11 (in_field (parts.Device 0) 1) (in_field (parts.Device 0) 1)) None
+    (record { version = 1; came = []; numbers = pos 3 ∷ pos 0 ∷ pos 0 ∷ pos 0 ∷ pos 0 ∷ [] } ∷ [])
     (record { place = 25; section = Some 0; reason = reasons.CountTooLarge })
 unfolding told first between_at behind_at trailer_at code
 raises_a_count = refl
@@ -62,7 +49,8 @@ has_no_state : told subsection_set without_q ≡ NoState (mismatch 13 (here (par
 unfolding told first between_at behind_at trailer_at code
 has_no_state = refl
 
-names_a_machine : told set_3 set_1 ≡ State (mismatch 1 (here parts.Set) (here parts.Set)) (Some (codes "isa-2")) (default_images set_3) (record { place = 8; section = None; reason = reasons.WrongMachine })
+names_a_machine : told set_3 set_1 ≡ State (mismatch 1 (here parts.Set) (here parts.Set)) (Some (codes "isa-2")) (default_images set_3)
+    (record { place = 8; section = None; reason = reasons.WrongMachine })
 unfolding told first between_at behind_at trailer_at code
 names_a_machine = refl
 

@@ -1,28 +1,13 @@
 -- The laws as they are stated.
-use Rattle.std.proofs.Common.{◌≡◌, ℕ, zero, suc, Bool, true, false, List, [], ◌∷◌, length, Option, Some, None, refl, sym, ap, ◌∙◌, subst, arith, if◌then◌else◌}
-use Rattle.std.specs.List.{slice_get}
-use Rattle.std.proofs.lemmas.Bool.{and_parts, and_from}
-use Rattle.vms_kinds.specs.Bytes.{IsBytes}
-use Rattle.vms_spec.specs.Sets.{Device, Set}
-use Rattle.vms_spec.specs.Heads.{FitsHeads}
-use Rattle.vms_spec.specs.Images.{Image}
-use Rattle.vms_spec.specs.Readings.{Reading, Accepted, Refused}
-use Rattle.vms_spec.specs.Readiness.{is_ready}
-use Rattle.vms_spec.specs.Streams.{AreReady, IsReady}
-use Rattle.vms_spec.specs.WellFormed.{WellFormed}
-use Rattle.vms_bodies.proofs.ReadyLaws.{ready_is, is_ready_all}
-use Rattle.vms_stream.specs.Faults.{Fault}
-use Rattle.vms_stream.specs.Judge.{reading}
-use Rattle.vms_stream.specs.State.{State as Standing, at_start, by_state}
-use Rattle.vms_stream.specs.StreamLaws.{Answer as Either, Taken, Faulty}
-use Rattle.vms_stream.proofs.Judging.Mirrors.{state_refuses}
-use Rattle.vms_stream.proofs.Stated.{accepted_holds, told_holds, either_holds, never_both_holds}
-use Rattle.vms_check.specs.declared.mismatch.Mismatch.{Mismatch}
-use Rattle.vms_check.specs.Comparing.{first_mismatch}
-use Rattle.vms_counter_laws.specs.Candidates.{candidates, default_images, machine_for}
-use Rattle.vms_counter_laws.specs.Counters.{Refusal, Answer, AreCompatible, NoState, State, stream_of, Shows, IsFirst, Here, Later, NoneShows, Counters, Agree, Lacks, Finds}
-use Rattle.vms_counter_laws.specs.Computed.{all_ready, answer_to, first_refused, or_next, refused, refusal_of}
-use Rattle.vms_counter_laws.specs.Laws.{NamedLaw, AlwaysLaw, ComputedLaw}
+use Rattle.vms_counter_laws.proofs.Facade.{◌≡◌, ℕ, zero, suc, Bool, true, false, List, [], ◌∷◌, length, Option, Some, None, refl, arith, if◌then◌else◌}
+use Rattle.vms_counter_laws.proofs.Facade.{slice_get, and_parts, and_from, IsBytes, Device, Set, FitsHeads, Image, Reading, Accepted, Refused, is_ready}
+use Rattle.vms_counter_laws.proofs.Facade.{AreReady, IsReady, WellFormed, ready_is, is_ready_all, Fault, reading, at_start, by_state, Taken, Faulty}
+use Rattle.vms_counter_laws.proofs.Facade.{state_refuses, accepted_holds, told_holds, either_holds, never_both_holds, Mismatch, first_mismatch, candidates}
+use Rattle.vms_counter_laws.proofs.Facade.{default_images, machine_for, Refusal, Answer, AreCompatible, NoState, State, stream_of, Shows, IsFirst, Here, Later}
+use Rattle.vms_counter_laws.proofs.Facade.{NoneShows, Counters, Agree, Lacks, Finds, all_ready, answer_to, first_refused, or_next, refused, refusal_of}
+use Rattle.vms_counter_laws.proofs.Facade.{NamedLaw, AlwaysLaw, ComputedLaw}
+use Rattle.vms_stream.specs.State.{State as Standing}
+use Rattle.vms_stream.specs.StreamLaws.{Answer as Either}
 use Rattle.vms_counter_laws.proofs.Always.{shown}
 use Rattle.vms_counter_laws.proofs.OneAnswer.{stream_bytes}
 
@@ -33,7 +18,8 @@ first_shows old new m images _ (Here more s) = s
 first_shows old new m images _ (Later others more none first) = first_shows old new m images more first
 
 pub named_holds : NamedLaw
-named_holds old new m _ images refusal (Finds _ _ _ size e first fault) = record { ready = (first_shows old new m images (candidates old new m) first).ready; size = size; fault = fault }
+named_holds old new m _ images refusal (Finds _ _ _ size e first fault) =
+    record { ready = (first_shows old new m images (candidates old new m) first).ready; size = size; fault = fault }
 
 -- ---- mismatches that always have one
 
@@ -43,7 +29,8 @@ always_holds old new good_old good_new heads_old heads m h kind ready =
     let s = shown old new good_old good_new heads_old heads ready m h kind ok in
     by s (either_holds new new.machines good_new heads (stream_of old new m (default_images old)) ok)
   where
-    by : Shows old new m (default_images old) → Either new new.machines (stream_of old new m (default_images old)) → (refusal : Refusal) × Counters old new (State m (machine_for old new m) (default_images old) refusal)
+    by : Shows old new m (default_images old) → Either new new.machines (stream_of old new m (default_images old))
+        → (refusal : Refusal) × Counters old new (State m (machine_for old new m) (default_images old) refusal)
     by s (Taken n machine states t) = absurd (s.untaken n machine states t)
     by s (Faulty place section reason size fault) =
         let refusal : Refusal = record { place = place; section = section; reason = reason } in
@@ -51,25 +38,30 @@ always_holds old new good_old good_new heads_old heads m h kind ready =
 
 -- ---- the answer
 
-all_ready_is : (set : Set) (ds : List Device) (ims : List Image) → all_ready set ds ims ≡ true → (length ims ≡ length ds) × ((k : ℕ) (d : Device) (image : Image) → slice_get ds k ≡ Some d → slice_get ims k ≡ Some image → IsReady set d image)
+abbrev EachReady : Set → List Device → List Image → Type 0
+EachReady set ds ims = (k : ℕ) (d : Device) (image : Image) → slice_get ds k ≡ Some d → slice_get ims k ≡ Some image → IsReady set d image
+
+all_ready_is : (set : Set) (ds : List Device) (ims : List Image) → all_ready set ds ims ≡ true → (length ims ≡ length ds) × EachReady set ds ims
 all_ready_is set [] [] h = (refl, λ k d image e f. absurd (cc))
-all_ready_is set [] (im ∷ ims) h = absurd (cc)
-all_ready_is set (x ∷ ds) [] h = absurd (cc)
 all_ready_is set (x ∷ ds) (im ∷ ims) h =
     let p = and_parts (is_ready set x im) (all_ready set ds ims) h in
     let r = all_ready_is set ds ims p.1 in
-    (ap suc r.0, each p.0 r.1)
+    (rw r.0, each p.0 r.1)
   where
-    each : is_ready set x im ≡ true → ((k : ℕ) (d : Device) (image : Image) → slice_get ds k ≡ Some d → slice_get ims k ≡ Some image → IsReady set d image)
-        → (k : ℕ) (d : Device) (image : Image) → slice_get (x ∷ ds) k ≡ Some d → slice_get (im ∷ ims) k ≡ Some image → IsReady set d image
-    each here more zero d image e f = let a : x ≡ d = cc in let b : im ≡ image = cc in subst (λ (u : Image). IsReady set d u) b (subst (λ (u : Device). IsReady set u im) a (ready_is set x im here))
+    each : is_ready set x im ≡ true → EachReady set ds ims → EachReady set (x ∷ ds) (im ∷ ims)
+    each here more zero d image e f =
+        let a : x ≡ d = cc in
+        let b : im ≡ image = cc in
+        rw (a, b) at (ready_is set x im here)
     each here more (suc k) d image e f = more k d image e f
+all_ready_is set _ _ h = absurd (cc)
 
-is_all_ready : (set : Set) (ds : List Device) (ims : List Image) → length ims ≡ length ds → ((k : ℕ) (d : Device) (image : Image) → slice_get ds k ≡ Some d → slice_get ims k ≡ Some image → IsReady set d image) → all_ready set ds ims ≡ true
+is_all_ready : (set : Set) (ds : List Device) (ims : List Image) → length ims ≡ length ds → EachReady set ds ims → all_ready set ds ims ≡ true
 is_all_ready set [] [] long h = refl
-is_all_ready set [] (im ∷ ims) long h = absurd (omega (arith, long))
-is_all_ready set (x ∷ ds) [] long h = absurd (omega (arith, long))
-is_all_ready set (x ∷ ds) (im ∷ ims) long h = and_from (is_ready set x im) (all_ready set ds ims) (is_ready_all set x im (h 0 x im refl refl)) (is_all_ready set ds ims (omega (arith, long)) (λ k. h (suc k)))
+is_all_ready set [] (im ∷ ims) long h = absurd (omega arith)
+is_all_ready set (x ∷ ds) [] long h = absurd (omega arith)
+is_all_ready set (x ∷ ds) (im ∷ ims) long h =
+    and_from _ _ (is_ready_all set x im (h 0 x im refl refl)) (is_all_ready set ds ims (omega arith) (λ k. h (suc k)))
 
 module _ (old new : Set) (well : WellFormed old) (good : WellFormed new) (heads : FitsHeads new) (m : Mismatch) where
   abbrev stream : List Image → List ℕ
@@ -83,27 +75,31 @@ module _ (old new : Set) (well : WellFormed old) (good : WellFormed new) (heads 
   Tried images None = Shows old new m images → ⊥
   Tried images (Some r) = Shows old new m images × ((size : ℕ) × Fault new new.machines (stream images) r.place r.section r.reason size)
 
-  by_reading : (images : List Image) → IsBytes (stream images) → AreReady old images → (o : Option (Reading Standing)) → read images ≡ o → Tried images (refusal_of o)
-  by_reading images ok ready None e = λ s. let t = told_holds new new.machines (stream images) in let f = sym e ∙ t.1 in cc
-  by_reading images ok ready (Some (Accepted n end)) e = λ s. s.untaken n end.machine end.images (accepted_holds new new.machines good heads (stream images) n end ok e)
+  by_reading : (images : List Image) → IsBytes (stream images) → AreReady old images → (o : Option (Reading Standing)) → read images ≡ o
+      → Tried images (refusal_of o)
+  by_reading images ok ready None e = λ s. absurd (cc (e, (told_holds new new.machines (stream images)).1))
+  by_reading images ok ready (Some (Accepted n end)) e =
+      λ s. s.untaken n end.machine end.images (accepted_holds new new.machines good heads (stream images) n end ok e)
   by_reading images ok ready (Some (Refused place section reason size)) e =
-      let fault = (state_refuses new new.machines).refused (stream images) place section reason size ok e in (
-        record { ready = ready; untaken = λ n machine states t. never_both_holds new new.machines good heads (stream images) ok n machine states place section reason size t fault },
-        (size, fault),
-      )
+      let fault = (state_refuses new new.machines).refused (stream images) place section reason size ok e in
+      let never = never_both_holds new new.machines good heads (stream images) ok in
+      (record { ready = ready; untaken = λ n machine states t. never n machine states place section reason size t fault }, (size, fault))
 
   tried : (images : List Image) → Tried images (refused old new m images)
   tried images = by (all_ready old old.devices images) refl
     where
       by : (b : Bool) → all_ready old old.devices images ≡ b → Tried images (if b then refusal_of (read images) else None)
-      by true e = let r = all_ready_is old old.devices images e in by_reading images (stream_bytes old new well m images) (record { one_each = r.0; ready = r.1 }) (read images) refl
-      by false e = λ s. let f : true ≡ false = sym (is_all_ready old old.devices images s.ready.one_each s.ready.ready) ∙ e in cc
+      by true e =
+          let r = all_ready_is old old.devices images e in
+          by_reading images (stream_bytes old new well m images) (record { one_each = r.0; ready = r.1 }) (read images) refl
+      by false e = λ s. absurd (cc (is_all_ready old old.devices images s.ready.one_each s.ready.ready, e))
 
   -- the result of the list of candidates
   abbrev Comes : List (List Image) → Answer → Type 0
   Comes list AreCompatible = ⊥
   Comes list (NoState n) = (n ≡ m) × NoneShows old new m list
-  Comes list (State n machine images r) = (n ≡ m) × (machine ≡ machine_for old new m) × IsFirst old new m images list × ((size : ℕ) × Fault new new.machines (stream images) r.place r.section r.reason size)
+  Comes list (State n machine images r) = (n ≡ m) × (machine ≡ machine_for old new m) × IsFirst old new m images list
+      × ((size : ℕ) × Fault new new.machines (stream images) r.place r.section r.reason size)
 
   later : (images : List Image) (more : List (List Image)) → (Shows old new m images → ⊥) → (a : Answer) → Comes more a → Comes (images ∷ more) a
   later images more never AreCompatible c = c
@@ -114,20 +110,19 @@ module _ (old new : Set) (well : WellFormed old) (good : WellFormed new) (heads 
   comes [] = (refl, tt)
   comes (images ∷ more) = by (refused old new m images) (tried images) (comes more)
     where
-      by : (o : Option Refusal) → Tried images o → Comes more (first_refused old new m more) → Comes (images ∷ more) (or_next old new m images o (first_refused old new m more))
+      by : (o : Option Refusal) → Tried images o → Comes more (first_refused old new m more)
+          → Comes (images ∷ more) (or_next old new m images o (first_refused old new m more))
       by None t c = later images more t (first_refused old new m more) c
       by (Some r) t c = (refl, refl, Here more t.0, t.1)
 
   counted : first_mismatch old new ≡ Some m → (a : Answer) → Comes (candidates old new m) a → Counters old new a
   counted e AreCompatible c = absurd c
-  counted e (NoState n) c = subst (λ (x : Mismatch). Counters old new (NoState x)) (sym c.0) (Lacks m e c.1)
-  counted e (State n machine images r) c =
-      subst (λ (x : Mismatch). Counters old new (State x machine images r)) (sym c.0)
-      (subst (λ (k : Option (List ℕ)). Counters old new (State m k images r)) (sym c.1) (Finds m images r c.3.0 e c.2 c.3.1))
+  counted e (NoState n) c = rw c.0 (Lacks m e c.1)
+  counted e (State n machine images r) c = rw (c.0, c.1) (Finds m images r c.3.0 e c.2 c.3.1)
 
 pub computed_holds : ComputedLaw
 computed_holds old new well good heads = by (first_mismatch old new) refl
   where
     by : (o : Option Mismatch) → first_mismatch old new ≡ o → Counters old new (answer_to old new o)
     by None e = Agree e
-    by (Some m) e = counted old new well good heads m e (first_refused old new m (candidates old new m)) (comes old new well good heads m (candidates old new m))
+    by (Some m) e = counted old new well good heads m e _ (comes old new well good heads m (candidates old new m))
