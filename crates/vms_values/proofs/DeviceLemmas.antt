@@ -27,7 +27,7 @@ default_of set well i lt image e =
       is_device = lt;
       cells = cells;
       subs = ap (λ (x : Typed). length x.came) e ∙ length-map d.subs (λ s. Rattle.std.proofs.Common.None);
-      few = omega (arith, cells, few_cells set well i);
+      few = omega (arith, few_cells set well i);
     }
 
 pub own_spot : (set : Set) (i v : ℕ) (image : Typed) → IsOfDevice set i (state_of image) → HasSpot set (record { part = parts.Device i; version = v; base = 0 }) image.numbers
@@ -36,7 +36,7 @@ own_spot set i v image h =
     record {
       part = h.is_device;
       few = h.few;
-      room = omega (arith, h.cells, length-append (desc_cells (struct_cells set) d.desc) (flat_map (λ s. desc_cells (struct_cells set) s.desc) d.subs));
+      room = omega (arith, length-append (desc_cells (struct_cells set) d.desc) (flat_map (λ s. desc_cells (struct_cells set) s.desc) d.subs));
     }
 
 pub image_of : (set : Set) (i : ℕ) (image : Typed) → IsOfDevice set i (state_of image) → image.kinds ≡ kinds_at set i → IsImageOf set i image
@@ -136,11 +136,10 @@ or_none (Some b) = refl
 judge_more : (set : Set) (ds : List Device) (rs : List ReadDevice) (d : Device) (r : ReadDevice) → length ds ≡ length rs
     → judge_devices set (ds ++ d ∷ []) (rs ++ r ∷ []) ≡ or_bad (judge_devices set ds rs) (judge_device set d r)
 judge_more set [] [] d r e = or_none (judge_device set d r)
-judge_more set [] (x ∷ rs) d r e = cc
-judge_more set (c ∷ ds) [] d r e = cc
 judge_more set (c ∷ ds) (x ∷ rs) d r e =
-    let less : length ds ≡ length rs = omega (arith, e) in
+    let less : length ds ≡ length rs = omega arith in
     ap (or_bad (judge_device set c x)) (judge_more set ds rs d r less) ∙ sym (or_bad_assoc (judge_device set c x) (judge_devices set ds rs) (judge_device set d r))
+judge_more set _ _ d r e = cc
 
 -- the first n devices have these images and this first bad line of the second pass; the rest is the whole reading
 pub record Gathered (set : Set) (n : ℕ) (start : Result ReadAll BadLine) (first judged : Option BadLine) (images : List Image) (left : Result ReadAll BadLine) : Type 0 where
@@ -179,9 +178,8 @@ module _ (set : Set) (i : ℕ) (lt : i < length set.devices) where
   refused : (x : Result (ReadDevice × Standing) BadLine) (start : Result ReadAll BadLine) (done : List ReadDevice) (go : ℕ → List ℕ → Result ReadAll BadLine) (begun old new : Reading) (e : LineFault)
       → with_devices done (after_device go x) ≡ start → DeviceRead set (device_at set i) x old new (Err e) → AllRead set start begun new (Err e)
   refused (Ok (r, p)) start done go begun old new (faults.Bad line reason) w h = absurd h
-  refused (Ok (r, p)) start done go begun old new faults.NoMemory w h = tt
   refused (Err b) start done go begun old new (faults.Bad line reason) w h = subst (λ (s : Result ReadAll BadLine). AllRead set s begun new (Err (faults.Bad line reason))) w h
-  refused (Err b) start done go begun old new faults.NoMemory w h = tt
+  refused _ start done go begun old new faults.NoMemory w h = tt
 
   pub gathered_refused : (start : Result ReadAll BadLine) (first judged : Option BadLine) (images : List Image) (begun old new : Reading) (e : LineFault)
       → Gathered set i start first judged images (read_devices set (drop i set.devices) old.lines.line old.lines.rest.now)
@@ -198,7 +196,6 @@ module _ (set : Set) (i : ℕ) (lt : i < length set.devices) where
       let d = device_at set i in
       let k = given (device_read set d (start_of set d old)) old new image refl h in
       let rest = λ (line : ℕ) (rest : List ℕ). read_devices set (drop (i + 1) set.devices) line rest in
-      let lengths : length (take i set.devices) ≡ length g.done = length-take-le i set.devices (omega arith) ∙ sym g.count in
       record {
         done = g.done ++ k.r ∷ [];
         count = length-append g.done (k.r ∷ []) ∙ ap (λ (n : ℕ). n + 1) g.count;
@@ -208,7 +205,7 @@ module _ (set : Set) (i : ℕ) (lt : i < length set.devices) where
             ∙ ap (with_devices g.done) (sym (next_device old ∙ ap (after_device rest) k.read)) ∙ g.whole;
         so_far = k.judged ∙ ap (λ (o : Option BadLine). or_bad o (judge_device set d k.r)) g.so_far
             ∙ or_bad_assoc first (judge_devices set (take i set.devices) g.done) (judge_device set d k.r)
-            ∙ ap (or_bad first) (sym (judge_more set (take i set.devices) g.done d k.r lengths))
+            ∙ ap (or_bad first) (sym (judge_more set (take i set.devices) g.done d k.r (length-take-le i set.devices (omega arith) ∙ sym g.count)))
             ∙ ap (λ (l : List Device). or_bad first (judge_devices set l (g.done ++ k.r ∷ []))) (sym (take_more set.devices i _ lt));
       }
 
@@ -217,8 +214,8 @@ pub gathered_all : (set : Set) (n : ℕ) (start : Result ReadAll BadLine) (image
     → Gathered set n start (bad_of begun.judged) (bad_of now.judged) images (read_devices set (drop n set.devices) now.lines.line now.lines.rest.now) → AllRead set start begun now (Ok images)
 gathered_all set n start images begun now e g =
     let first = bad_of begun.judged in
-    let none : drop n set.devices ≡ [] = drop_all n set.devices (omega (arith, e)) in
-    let all : take n set.devices ≡ set.devices = take_all n set.devices (omega (arith, e)) in
+    let none : drop n set.devices ≡ [] = drop_all n set.devices (omega arith) in
+    let all : take n set.devices ≡ set.devices = take_all n set.devices (omega arith) in
     let same : g.done ++ [] ≡ g.done = append-nil g.done in
     subst (λ (s : Result ReadAll BadLine). AllRead set s begun now (Ok images))
     (ap (λ (l : List Device). with_devices g.done (read_devices set l now.lines.line now.lines.rest.now)) (sym none) ∙ g.whole) (
@@ -246,12 +243,11 @@ next_sub : (set : Set) (i j : ℕ) (p : Standing) → j < length (device_at set 
     ≡ after_sub p.line (λ q. read_subs set (first_cell set (parts.Sub i (j + 1))) (drop (j + 1) (device_at set i).subs) q) (sub_read set (sub_at (device_at set i) j) (first_cell set (parts.Sub i j)) p)
 next_sub set i j p lt =
     let d = device_at set i in
-    let none : Sub = record { desc = no_desc; needed = AtLeast 0 } in
     let s = sub_at d j in
     let at = first_cell set (parts.Sub i j) in
-    ap (λ (l : List Sub). read_subs set at l p) (drop_more d.subs j none lt)
+    ap (λ (l : List Sub). read_subs set at l p) (drop_more d.subs j _ lt)
     ∙ one_sub set s at p (sub_said s (first_line p.rest)) (λ q. read_subs set (at + length (desc_cells (struct_cells set) s.desc)) (drop (j + 1) d.subs) q)
-    ∙ ap (λ (x : ℕ). after_sub p.line (λ q. read_subs set x (drop (j + 1) d.subs) q) (sub_read set s at p)) (sym (sub_next set (own_cells set d) d.subs j none lt))
+    ∙ ap (λ (x : ℕ). after_sub p.line (λ q. read_subs set x (drop (j + 1) d.subs) q) (sub_read set s at p)) (sym (sub_next set (own_cells set d) d.subs j _ lt))
 
 abbrev pub with_subs : List (Option ℕ) → List ℕ → Result ReadSubs BadLine → Result ReadSubs BadLine
 with_subs came lines (Err b) = Err b
@@ -314,14 +310,13 @@ subs_end start set at n subs old new lines f none all same =
     let left : read_subs set at subs (place_of new) ≡ Ok (record { place = place_of new; came = []; lines = [] }) = ap (λ (l : List Sub). read_subs set at l (place_of new)) none in
     let whole : start ≡ Ok (record { place = place_of new; came = take n new.image.came ++ []; lines = lines ++ [] }) = sym f.whole ∙ ap (with_subs (take n new.image.came) lines) left in
     subst (λ (r : Result ReadSubs BadLine). SubsReached r old new lines (Ok tt)) (sym whole)
-    (refl, append-nil (take n new.image.came) ∙ take_all n new.image.came (omega (arith, all)), append-nil lines, same)
+    (refl, append-nil (take n new.image.came) ∙ take_all n new.image.came (omega arith), append-nil lines, same)
 
 pub subs_bad : (start : Result ReadSubs BadLine) (r : Result (Option ℕ × Standing) BadLine) (j : ℕ) (old new mid : Taken) (lines : List ℕ) (e : LineFault)
     → ((b : BadLine) → r ≡ Err b → start ≡ Err b) → SubReached r j mid new (Err e) → SubsReached start old new lines (Err e)
-subs_bad start (Ok (o, q)) j old new mid lines e h f = absurd f
-subs_bad start (Err b) j old new mid lines faults.NoMemory h f = absurd f
 subs_bad start (Err b) j old new mid lines (faults.Bad line reason) h f =
     subst (λ (r : Result ReadSubs BadLine). SubsReached r old new lines (Err (faults.Bad line reason))) (sym (h b refl)) f
+subs_bad start _ j old new mid lines _ h f = absurd f
 
 pub alike_more : (a b c : Typed) → IsAlike a b → IsAlike b c → IsAlike a c
 alike_more a b c h k = record { version = k.version ∙ h.version; subs = k.subs ∙ h.subs; cells = k.cells ∙ h.cells; kinds = k.kinds ∙ h.kinds }

@@ -27,13 +27,12 @@ pub settle_defaults : (cells : List Cell) (forms rest : List CellForm) (numbers 
     → settle [] forms numbers at (length cells) ≡ are_defaults cells (drop at numbers)
 settle_defaults [] forms rest numbers at e le = refl
 settle_defaults (c ∷ cells) forms rest numbers at e le =
-    let here : at ≡ at + 0 = omega arith in
     let same : get_or forms at no_form ≡ form_of c =
-    ap (λ (k : ℕ). get_or forms k no_form) here ∙ sym (get_or-drop at forms 0 no_form) ∙ ap (λ (l : List CellForm). get_or l 0 no_form) e in
+    ap (λ (k : ℕ). get_or forms k no_form) (omega arith) ∙ sym (get_or-drop at forms 0 no_form) ∙ ap (λ (l : List CellForm). get_or l 0 no_form) e in
     let later : drop (at + 1) forms ≡ map form_of cells ++ rest = sym (drop-drop 1 at forms) ∙ ap (drop 1) e in
     ap (λ (f : CellForm). same_number (get_or numbers at (pos 0)) f.default && settle [] forms numbers (at + 1) (length cells)) same
-    ∙ ap (λ (t : Bool). same_number (get_or numbers at (pos 0)) c.default && t) (settle_defaults cells forms rest numbers (at + 1) later (omega (arith, le)))
-    ∙ sym (ap (are_defaults (c ∷ cells)) (drop_more numbers at (pos 0) (omega (arith, le))))
+    ∙ ap (λ (t : Bool). same_number (get_or numbers at (pos 0)) c.default && t) (settle_defaults cells forms rest numbers (at + 1) later (omega arith))
+    ∙ sym (ap (are_defaults (c ∷ cells)) (drop_more numbers at (pos 0) (omega arith)))
 
 -- ---- the cells of a subsection among those of its device
 
@@ -46,10 +45,9 @@ cells_from_sub set front at (s ∷ subs) zero none e lt =
     ∙ drop-append_seam front (flat_map (λ s. desc_cells (struct_cells set) s.desc) (s ∷ subs))
 cells_from_sub set front at (s ∷ subs) (suc j) none e lt =
     let own = desc_cells (struct_cells set) s.desc in
-    let rest = flat_map (λ s. desc_cells (struct_cells set) s.desc) subs in
     let one : suc j + 1 ≡ suc (j + 1) = omega arith in
-    ap (drop (sub_place set (at + length own) subs j)) (sym (append_assoc front own rest))
-    ∙ cells_from_sub set (front ++ own) (at + length own) subs j none (ap (λ (k : ℕ). k + length own) e ∙ sym (length-append front own)) (omega (arith, lt))
+    ap (drop (sub_place set (at + length own) subs j)) (sym (append_assoc front own (flat_map (λ s. desc_cells (struct_cells set) s.desc) subs)))
+    ∙ cells_from_sub set (front ++ own) (at + length own) subs j none (ap (λ (k : ℕ). k + length own) e ∙ sym (length-append front own)) (omega arith)
     ∙ ap (λ (k : ℕ). desc_cells (struct_cells set) (get_or subs j none).desc ++ flat_map (λ s. desc_cells (struct_cells set) s.desc) (drop k (s ∷ subs))) (sym one)
 
 -- the defaults of a subsection's cells
@@ -57,12 +55,11 @@ pub bare_defaults : (set : Set) (i j : ℕ) (numbers : List ℤ) → j < length 
     → settle [] (map form_of (device_cells set (device_at set i))) numbers (first_cell set (parts.Sub i j)) (own_cell_count set (sub_at (device_at set i) j).desc) ≡ sub_defaults set i j numbers
 bare_defaults set i j numbers lt room =
     let d = device_at set i in
-    let none : Sub = record { desc = no_desc; needed = AtLeast 0 } in
     let at = first_cell set (parts.Sub i j) in
     let cells = desc_cells (struct_cells set) (sub_at d j).desc in
     let rest = flat_map (λ s. desc_cells (struct_cells set) s.desc) (drop (j + 1) d.subs) in
     settle_defaults cells (map form_of (device_cells set d)) (map form_of rest) numbers at
-    (drop-map form_of at (device_cells set d) ∙ ap (map form_of) (cells_from_sub set (desc_cells (struct_cells set) d.desc) (own_cells set d) d.subs j none refl lt) ∙ map-append form_of cells rest)
+    (drop-map form_of at (device_cells set d) ∙ ap (map form_of) (cells_from_sub set (desc_cells (struct_cells set) d.desc) (own_cells set d) d.subs j _ refl lt) ∙ map-append form_of cells rest)
     room
 
 -- the first bad line of the subsections from number j on
@@ -78,17 +75,16 @@ module _ (set : Set) (i : ℕ) (image : Image) (lines : List ℕ) (j line : ℕ)
   judged_next : judged_from set i image lines j ≡ with_reason line (sub_judged set i j image) (judged_from set i image lines (j + 1))
   judged_next =
       let d = device_at set i in
-      let none : Sub = record { desc = no_desc; needed = AtLeast 0 } in
       let at = first_cell set (parts.Sub i j) in
       let s = sub_at d j in
       let o = get_or image.came j None in
       let one : suc j ≡ j + 1 = omega arith in
-      ap (λ (l : List Sub). judge_subs set d image j at l (drop j image.came) (drop j lines)) (drop_more d.subs j none lt)
+      ap (λ (l : List Sub). judge_subs set d image j at l (drop j image.came) (drop j lines)) (drop_more d.subs j _ lt)
       ∙ ap (λ (l : List (Option ℕ)). judge_subs set d image j at (s ∷ drop (j + 1) d.subs) l (drop j lines)) (drop_more image.came j None lc)
       ∙ ap (λ (l : List ℕ). judge_subs set d image j at (s ∷ drop (j + 1) d.subs) (o ∷ drop (j + 1) image.came) l) (drop_more lines j 0 ll ∙ ap (λ (x : ℕ). x ∷ drop (j + 1) lines) (sym is))
       ∙ by (sub_fails set s o image.numbers at) (is_said_well set d image j s o at) (judge_subs set d image (suc j) (at + length (desc_cells (struct_cells set) s.desc)) (drop (j + 1) d.subs) (drop (j + 1) image.came) (drop (j + 1) lines))
       ∙ ap (λ (k : ℕ). with_reason line (sub_judged set i j image) (judge_subs set d image k (at + length (desc_cells (struct_cells set) s.desc)) (drop (j + 1) d.subs) (drop (j + 1) image.came) (drop (j + 1) lines))) one
-      ∙ ap (λ (x : ℕ). with_reason line (sub_judged set i j image) (judge_subs set d image (j + 1) x (drop (j + 1) d.subs) (drop (j + 1) image.came) (drop (j + 1) lines))) (sym (sub_next set (own_cells set d) d.subs j none lt))
+      ∙ ap (λ (x : ℕ). with_reason line (sub_judged set i j image) (judge_subs set d image (j + 1) x (drop (j + 1) d.subs) (drop (j + 1) image.came) (drop (j + 1) lines))) (sym (sub_next set (own_cells set d) d.subs j _ lt))
     where
       by : (fails well : Bool) (next : Option BadLine) → or_bad (if_bad fails line reasons.Invalid) (or_bad (if_bad (not well) line reasons.Needed) next)
           ≡ with_reason line (if fails then Some reasons.Invalid else if not well then Some reasons.Needed else None) next
@@ -106,7 +102,7 @@ judged_stop set i image lines j line reason lt lc ll is e =
 
 pub judged_end : (set : Set) (i : ℕ) (image : Image) (lines : List ℕ) (j : ℕ) → length (device_at set i).subs ≡ j → judged_from set i image lines j ≡ None
 judged_end set i image lines j e =
-    ap (λ (l : List Sub). judge_subs set (device_at set i) image j (first_cell set (parts.Sub i j)) l (drop j image.came) (drop j lines)) (drop_all j (device_at set i).subs (omega (arith, e)))
+    ap (λ (l : List Sub). judge_subs set (device_at set i) image j (first_cell set (parts.Sub i j)) l (drop j image.came) (drop j lines)) (drop_all j (device_at set i).subs (omega arith))
 
 pub own_holds : (set : Set) (i : ℕ) (r : ReadDevice) → rules_are_true (own_slots set (device_at set i) r.image.version r.image.numbers) ≡ true
     → judge_device set (device_at set i) r ≡ judged_from set i r.image r.sub_lines 0
@@ -135,10 +131,8 @@ times_true part h (suc n) at step = true_append (part at) (times n part (at + st
 
 module _ (ms : List Meaning) (all : AllTrue ms) where
   item_true : (item : Item) (caps : List ℕ) (n : List ℤ) (at : ℕ) → rules_are_true (item_slots ms item caps n at) ≡ true
-  item_true (Num kind) caps n at = refl
-  item_true (Equal kind z) caps n at = refl
-  item_true (Unused k) caps n at = refl
   item_true (Struct j) caps n at = all j n at
+  item_true _ caps n at = refl
 
   field_true : (fields : List Field) (v : ℕ) (own : ℕ → ℕ) (n : List ℤ) (i at : ℕ) (f : Field) → rules_are_true (field_slots ms fields v own n i at f) ≡ true
   field_true fields v own n i at f = by (is_there f.test f.since v own no_parent) where

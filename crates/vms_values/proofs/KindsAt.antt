@@ -29,17 +29,14 @@ same_kinds kinds at xs ys e s = record { more = s.more; is = s.is ∙ ap (λ (l 
 
 bare : (cs : List (List Cell)) (item : Item) (caps : List ℕ) (z : ℤ) → kinds_in (item_cells cs item caps z) ≡ kinds_in (item_cells cs item [] (pos 0))
 bare cs (Num kind) caps z = refl
-bare cs (Equal kind y) caps z = refl
-bare cs (Unused n) caps z = refl
-bare cs (Struct j) caps z = refl
+bare cs _ caps z = refl
 
 elements_kinds : (cs : List (List Cell)) (item : Item) (caps : List ℕ) (z : ℤ) (kinds : List Kind) (n at a step : ℕ)
     → AreKinds kinds at (times n (λ _. item_cells cs item caps z) a step) → ElementKinds cs item kinds at n
 elements_kinds cs item caps z kinds zero at a step s i lt = absurd (omega arith)
 elements_kinds cs item caps z kinds (suc n) at a step s zero lt =
     let cells = item_cells cs item caps z in
-    let first : at ≡ at + 0 * item_size cs item = omega arith in
-    subst (λ (p : ℕ). AreKinds kinds p (item_cells cs item [] (pos 0))) first
+    subst (λ (p : ℕ). AreKinds kinds p (item_cells cs item [] (pos 0))) (omega arith)
     (same_kinds kinds at cells (item_cells cs item [] (pos 0)) (bare cs item caps z) (front_kinds kinds at cells (times n (λ _. cells) (a + step) step) s))
 elements_kinds cs item caps z kinds (suc n) at a step s (suc i) lt =
     let cells = item_cells cs item caps z in
@@ -60,18 +57,16 @@ field_kinds cs fields kinds k at f left more e s =
     let here = field_cells cs fields k f in
     let later = cells_from cs fields (suc k) more in
     let both : AreKinds kinds at (here ++ later) = subst (λ (l : List Field). AreKinds kinds at (cells_from cs fields k l)) e s in
-    let one : suc k ≡ k + 1 = omega arith in
     record {
       here = elements_kinds cs f.item (counted k fields) f.default kinds (capacity_of f.count) at 0 0 (front_kinds kinds at here later both);
-      later = subst (λ (j : ℕ). AreKinds kinds (at + capacity_of f.count * item_size cs f.item) (cells_from cs fields j more)) one
+      later = subst (λ (j : ℕ). AreKinds kinds (at + capacity_of f.count * item_size cs f.item) (cells_from cs fields j more)) (omega arith)
           (subst (λ (w : ℕ). AreKinds kinds (at + w) later) (field_size cs fields k f) (rest_kinds kinds at here later both));
     }
 
 -- the number of an element, and its fields
 pub number_kind : (cs : List (List Cell)) (kinds : List Kind) (at : ℕ) (kind : Kind) → AreKinds kinds at (item_cells cs (Num kind) [] (pos 0)) → get_or kinds at U8 ≡ kind
 number_kind cs kinds at kind s =
-    let here : at ≡ at + 0 = omega arith in
-    ap (λ (k : ℕ). get_or kinds k U8) here ∙ sym (get_or-drop at kinds 0 U8) ∙ ap (λ (l : List Kind). get_or l 0 U8) s.is
+    ap (λ (k : ℕ). get_or kinds k U8) (omega arith) ∙ sym (get_or-drop at kinds 0 U8) ∙ ap (λ (l : List Kind). get_or l 0 U8) s.is
 
 pub struct_kinds : (set : Set) → is_well_formed set ≡ true → (j : ℕ) → j < length set.structs → (kinds : List Kind) (at : ℕ)
     → AreKinds kinds at (item_cells (cells_in (table set)) (Struct j) [] (pos 0)) → AreKinds kinds at (part_cells set (parts.Struct j))
@@ -97,9 +92,6 @@ module _ (set : Set) (i : ℕ) (kinds : List Kind) (are : kinds ≡ kinds_at set
 
   pub sub_kinds : (j : ℕ) → j < length d.subs → AreKinds kinds (first_cell set (parts.Sub i j)) (part_cells set (parts.Sub i j))
   sub_kinds j lt =
-      let none : Sub = record { desc = no_desc; needed = AtLeast 0 } in
-      let from : 0 + length own ≡ own_cells set d = omega arith in
-      let rest : AreKinds kinds (own_cells set d) others = subst (λ (k : ℕ). AreKinds kinds k others) from (rest_kinds kinds 0 own others all_kinds) in
-      let here : slice_get d.subs j ≡ Some (sub_at d j) = slice_get-get_or d.subs j none lt in
+      let rest : AreKinds kinds (own_cells set d) others = subst (λ (k : ℕ). AreKinds kinds k others) (omega arith) (rest_kinds kinds 0 own others all_kinds) in
       subst (λ (cs : List (List Cell)). AreKinds kinds (first_cell set (parts.Sub i j)) (desc_cells cs (sub_at d j).desc)) (sym (cells_table set))
-      (cells_of_sub (AreKinds kinds) (front_kinds kinds) (rest_kinds kinds) set (own_cells set d) d.subs j (sub_at d j) here rest)
+      (cells_of_sub (AreKinds kinds) (front_kinds kinds) (rest_kinds kinds) set (own_cells set d) d.subs j (sub_at d j) (slice_get-get_or d.subs j _ lt) rest)

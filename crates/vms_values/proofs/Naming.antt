@@ -14,7 +14,7 @@ use Rattle.vms_elements.specs.Elements.{cells_in}
 use Rattle.vms_spec.specs.declared.Part.TheVariants as parts
 
 pub positive : (n size c : ℕ) → c < n * size → 0 < size
-positive n zero c lt = let none : n * 0 ≡ 0 = grind arith in absurd (omega (arith, none, lt))
+positive n zero c lt = let none : n * 0 ≡ 0 = grind arith in absurd (omega arith)
 positive n (suc size) c lt = omega arith
 
 fewer : (q n size r left : ℕ) → q * size + r ≡ left → left < n * size → q < n
@@ -24,9 +24,7 @@ module _ (set : Set) where
   -- the table of a part is one of the first tables
   usable_is : (part : Part) → HasPart set part → usable set part ≡ first shape set.structs (reach set part)
   usable_is parts.Set h = absurd h
-  usable_is (parts.Struct j) h = refl
-  usable_is (parts.Device i) h = refl
-  usable_is (parts.Sub i j) h = refl
+  usable_is _ h = refl
 
   walked_in : (part : Part) → HasPart set part → AreWalked (usable set part)
   walked_in part h = rw (usable_is part h) (are_walked set.structs (reach set part))
@@ -38,14 +36,12 @@ module _ (set : Set) where
   -- an item that a part may use has the names that it has among all
   item_in : (k : ℕ) → k ≤ length set.structs → (item : Item) → uses_below k item ≡ true → (caps : List ℕ) (z : ℤ) (n : List ℤ) (a : ℕ)
       → names_of (item_elements (first shape set.structs k) item caps z n a) ≡ item_names set item
-  item_in k le (Num kind) e caps z n a = refl
-  item_in k le (Equal kind y) e caps z n a = refl
-  item_in k le (Unused b) e caps z n a = refl
   item_in k le (Struct j) e caps z n a =
       let lt : j < k = ltb-true j k e in
       let lt' : j < length set.structs = omega arith in
       (item_walks (first shape set.structs k) (are_walked set.structs k) (Struct j) caps z n [] a 0).names
       ∙ ap (λ (s : Shape). names_of (map dotted (s.elements [] 0))) (first_at shape set.structs no_shape k j lt ∙ sym (first_at shape set.structs no_shape (length set.structs) j lt'))
+  item_in k le _ e caps z n a = refl
 
   item_long : (item : Item) → length (item_names set item) ≡ size_in set item
   item_long item =
@@ -61,7 +57,7 @@ module _ (set : Set) where
       let is : item_names set (Struct j) ≡ map (λ l. codes "." ++ l) names =
       ap (λ (s : Shape). names_of (map dotted (s.elements [] 0))) (first_at shape set.structs no_shape (length set.structs) j lt) ∙ names_map is_dotted (desc_elements ss d d.version [] 0) in
       let long : length names ≡ size_in set (Struct j) = sym (length-map names (λ l. codes "." ++ l)) ∙ ap length (sym is) ∙ item_long (Struct j) in
-      ap (λ (l : List (List ℕ)). get_or l c []) is ∙ get_or-map (λ l. codes "." ++ l) names c [] [] (omega (arith, long))
+      ap (λ (l : List (List ℕ)). get_or l c []) is ∙ get_or-map (λ l. codes "." ++ l) names c [] [] (omega arith)
       ∙ ap (λ (l : List (List ℕ)). codes "." ++ get_or l c []) (desc_walks ss (are_walked set.structs j) d d.version 0 [] [] 0 0).names
 
   -- the names of the fields from k on
@@ -100,10 +96,9 @@ module _ (set : Set) where
       λ a. ap (λ (t : List Shape). names_of (item_elements t f.item (counted k all) f.default [] a)) (usable_is part h) ∙ item_in (reach set part) le f.item uses (counted k all) f.default [] a in
       let step_is : item_size (cells_in ss) f.item ≡ size = item_step part h f.item uses in
       let divided : q * size + r ≡ left = div-add-mod' left size in
-      let some : 0 < size = positive (capacity_of f.count) size left small in
-      let rest : r < size = mod-lt left some in
+      let rest : r < size = mod-lt left (positive (capacity_of f.count) size left small) in
       let index : q < capacity_of f.count = fewer q (capacity_of f.count) size r left divided small in
-      array_name f (stand_of k f 0 no_parent) (item_elements ss f.item (counted k all) f.default []) (item_names set f.item) (item_size (cells_in ss) f.item) names (item_long f.item ∙ sym step_is) q 0 (capacity_of f.count) 0 r left q index (omega (arith, rest, step_is))
+      array_name f (stand_of k f 0 no_parent) (item_elements ss f.item (counted k all) f.default []) (item_names set f.item) (item_size (cells_in ss) f.item) names (item_long f.item ∙ sym step_is) q 0 (capacity_of f.count) 0 r left q index (omega arith)
       (sym (ap (λ (s : ℕ). q * s + r) step_is ∙ divided)) (omega arith)
 
   pub record NextNames (part : Part) (k left : ℕ) (f : Field) : Type 0 where
@@ -121,26 +116,23 @@ module _ (set : Set) where
       let clean = field_clean set well part h k lt in
       let here = λ (P : Field → Type 0) (p : P (field_at set part k)). subst P (sym is) p in
       let uses = here (λ (x : Field). uses_below (reach set part) x.item ≡ true) clean.uses in
-      let le = reach_whole set part h in
       let size = size_in set f.item in
       let step = item_size (cells_in ss) f.item in
       let mine = names_of (field_elements ss all 0 no_parent [] k 0 f) in
       let many = field_long part h k f uses in
-      let one : suc k ≡ k + 1 = omega arith in
-      let at : drop k all ≡ f ∷ drop (k + 1) all = fields_at all k lt ∙ ap (λ (x : Field). x ∷ drop (k + 1) all) (sym is) in
       let split : names_from part k ≡ mine ++ names_from part (k + 1) =
-      ap (λ (l : List Field). names_of (elements_from ss all 0 no_parent [] k 0 l)) at
+      ap (λ (l : List Field). names_of (elements_from ss all 0 no_parent [] k 0 l)) (fields_at all k lt ∙ ap (λ (x : Field). x ∷ drop (k + 1) all) (sym is))
       ∙ names_append (field_elements ss all 0 no_parent [] k 0 f) (elements_from ss all 0 no_parent [] (suc k) (0 + length (field_cells (cells_in ss) all k f)) (drop (k + 1) all))
       ∙ ap (λ (l : List (List ℕ)). mine ++ l) (fields_walk ss (walked_in part h) all 0 0 no_parent no_parent [] [] (suc k) (0 + length (field_cells (cells_in ss) all k f)) 0 (drop (k + 1) all)).names
-      ∙ ap (λ (i : ℕ). mine ++ names_of (elements_from ss all 0 no_parent [] i 0 (drop (k + 1) all))) one in
+      ∙ ap (λ (i : ℕ). mine ++ names_of (elements_from ss all 0 no_parent [] i 0 (drop (k + 1) all))) (omega arith) in
       record {
-        uses = uses_more (reach set part) (length set.structs) f.item le uses;
+        uses = uses_more (reach set part) (length set.structs) f.item (reach_whole set part h) uses;
         lower = omega (arith, rank_below (reach set part) f.item uses);
         some = here (λ (x : Field). 1 ≤ capacity_of x.count) clean.some;
         long = ap length split ∙ length-append mine (names_from part (k + 1)) ∙ ap (λ (n : ℕ). n + length (names_from part (k + 1))) many;
-        here = λ small. ap (λ (l : List (List ℕ)). get_or l left []) split ∙ get_or_append_left mine (names_from part (k + 1)) [] left (omega (arith, many, small))
+        here = λ small. ap (λ (l : List (List ℕ)). get_or l left []) split ∙ get_or_append_left mine (names_from part (k + 1)) [] left (omega arith)
             ∙ in_field part h k f uses left small;
-        later = λ past. ap (λ (l : List (List ℕ)). get_or l left []) split ∙ get_or-append_right mine (names_from part (k + 1)) left [] (omega (arith, many, past))
+        later = λ past. ap (λ (l : List (List ℕ)). get_or l left []) split ∙ get_or-append_right mine (names_from part (k + 1)) left [] (omega arith)
             ∙ ap (λ (n : ℕ). get_or (names_from part (k + 1)) (left - n) []) many;
       }
 
@@ -153,11 +145,10 @@ module _ (set : Set) where
     where
       by_part : (part : Part) → HasPart set part → length (desc_cells (first desc_cells set.structs (reach set part)) (desc_at set part)) ≡ own_cell_count set (desc_at set part)
       by_part parts.Set h = absurd h
-      by_part (parts.Device i) h = refl
-      by_part (parts.Sub i j) h = refl
       by_part (parts.Struct j) lt =
           ap length (sym (first_at desc_cells set.structs [] (length set.structs) j lt))
           ∙ ap (λ (cs : List (List Cell)). length (get_or cs j [])) (sym (cells_table set)) ∙ struct_size set well j lt
+      by_part _ h = refl
 
   -- a field's path and what comes after it
   pub single_is : (f : Field) → f.count ≡ One → (path name : List ℕ) (step cell : ℕ) → name ≡ f.name → step ≡ size_in set f.item
@@ -181,8 +172,7 @@ module _ (set : Set) where
       ∙ ap (λ (l : List ℕ). path ++ ((f.name ++ l) ++ rest)) (sym (index_is f.count many e)) where
         index_is : (c : Count) → (c ≡ One → ⊥) → (e : ℕ) → index_text c e ≡ codes "[" ++ (decimal e ++ codes "]")
         index_is One other e = absurd (other refl)
-        index_is (Fixed n) other e = refl
-        index_is (Counted by most) other e = refl
+        index_is _ other e = refl
 
 -- ---- Names from cells: a device's own fields, and its subsections one after the other.
 
@@ -252,14 +242,14 @@ module _ (set : Set) (well : is_well_formed set ≡ true) (i : ℕ) (lt : i < le
     small = omega (arith, sub_inside set i j lt', few_cells set well i);
     inside = small;
     same = sym (same ∙ ap (λ (l : List (List ℕ)). get_or l left []) (split j lt')
-        ∙ get_or_append_left (desc_names_of set (sub_at (device_at set i) j).desc) (names_of_subs set i (j + 1)) [] left (omega (arith, sub_long j lt', small)));
+        ∙ get_or_append_left (desc_names_of set (sub_at (device_at set i) j).desc) (names_of_subs set i (j + 1)) [] left (omega (arith, sub_long j lt')));
   }
 
   pub past_sub : (j left : ℕ) → j < length (device_at set i).subs → own_cell_count set (sub_at (device_at set i) j).desc ≤ left
       → get_or (names_of_subs set i j) left [] ≡ get_or (names_of_subs set i (j + 1)) (left - own_cell_count set (sub_at (device_at set i) j).desc) []
   past_sub j left lt' past =
       ap (λ (l : List (List ℕ)). get_or l left []) (split j lt')
-      ∙ get_or-append_right (desc_names_of set (sub_at (device_at set i) j).desc) (names_of_subs set i (j + 1)) left [] (omega (arith, sub_long j lt', past))
+      ∙ get_or-append_right (desc_names_of set (sub_at (device_at set i) j).desc) (names_of_subs set i (j + 1)) left [] (omega (arith, sub_long j lt'))
       ∙ ap (λ (n : ℕ). get_or (names_of_subs set i (j + 1)) (left - n) []) (sub_long j lt')
 
   pub subs_longer : (j : ℕ) → j < length (device_at set i).subs → length (names_of_subs set i j) ≡ own_cell_count set (sub_at (device_at set i) j).desc + length (names_of_subs set i (j + 1))
@@ -273,7 +263,7 @@ module _ (set : Set) (well : is_well_formed set ≡ true) (i : ℕ) (lt : i < le
   subs_all (s ∷ subs) h =
       let rest = subs_all subs (λ j l. h (suc j) (omega arith)) in
       let here = h 0 (omega arith) in
-      omega (arith, length-append (desc_names_of set s.desc) (subs_names set subs), length-append (desc_cells (struct_cells set) s.desc) (flat_map (λ s. desc_cells (struct_cells set) s.desc) subs), rest, here)
+      omega (arith, length-append (desc_names_of set s.desc) (subs_names set subs), length-append (desc_cells (struct_cells set) s.desc) (flat_map (λ s. desc_cells (struct_cells set) s.desc) subs))
 
   pub all_long : length (names_of_subs set i 0) + own_cell_count set (device_at set i).desc ≡ length (device_cells set (device_at set i))
   all_long =

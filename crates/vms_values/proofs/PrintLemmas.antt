@@ -23,10 +23,9 @@ element_text {a = a} path digits piece c result p e w =
 
 -- a call whose fault was passed on as another
 pub wrote_mapped : {T E F : Type 0} (a b : Outlet) (text : List ℕ) (r : Result T E) (mapped : Result T F) → is_ok mapped ≡ is_ok r → Wrote a b text r → Wrote a b text mapped
-wrote_mapped a b text (Ok x) (Ok y) e w = w
 wrote_mapped a b text (Ok x) (Err f) e w = cc
 wrote_mapped a b text (Err e) (Ok y) v w = cc
-wrote_mapped a b text (Err e) (Err f) v w = w
+wrote_mapped a b text _ _ _ w = w
 
 pub device_left : (set : Set) (k : ℕ) → k < length set.devices → drop k set.devices ≡ device_at set k ∷ drop (k + 1) set.devices
 device_left set k lt = drop_more set.devices k (record { instance = 0; desc = no_desc; subs = [] }) lt
@@ -36,9 +35,8 @@ images_at images i image lt is = drop_more images i image lt ∙ ap (λ (x : Ima
 
 pub of_long : (set : Set) (devices : List Device) (images : List Image) → AreOf set devices images → length images ≡ length devices
 of_long set [] [] a = refl
-of_long set [] (image ∷ images) a = absurd a
-of_long set (d ∷ devices) [] a = absurd a
 of_long set (d ∷ devices) (image ∷ images) a = ap (λ (n : ℕ). suc n) (of_long set devices images a.1)
+of_long set _ _ a = absurd a
 
 pub of_room : (set : Set) (k : ℕ) (all : List Device) (images : List Image) → AreOf set (drop k all) (drop k images) → k < length all → k < length images
 of_room set k all images a lt = omega (arith, of_long set (drop k all) (drop k images) a, length-drop k all, length-drop k images)
@@ -88,9 +86,7 @@ below_uses r (Struct j) e = let lt : j < r = ltb-true j r e in omega arith
 
 pub below_reach : (set : Set) (part : Part) → HasPart set part → below_part set part ≡ PART_ROOM * (reach set part + 1)
 below_reach set parts.Set h = refl
-below_reach set (parts.Struct j) h = refl
-below_reach set (parts.Device i) h = refl
-below_reach set (parts.Sub i j) h = refl
+below_reach set _ h = refl
 
 -- a field of a part
 pub field_short : (set : Set) → is_well_formed set ≡ true → (part : Part) → HasPart set part → (k : ℕ) → k < length (desc_at set part).fields
@@ -98,7 +94,7 @@ pub field_short : (set : Set) → is_well_formed set ≡ true → (part : Part) 
 field_short set well part h k lt f is =
     let clean = field_clean set well part h k lt in
     let uses : uses_below (reach set part) f.item ≡ true = ap (λ (x : Field). uses_below (reach set part) x.item) is ∙ clean.uses in
-    (omega (arith, ap (λ (x : Field). length x.name) is, clean.name), omega (arith, below_reach set part h, below_uses (reach set part) f.item uses))
+    (omega (arith, ap (λ (x : Field). length x.name) is), omega (arith, below_reach set part h, below_uses (reach set part) f.item uses))
 
 -- all of a part
 pub part_short : (set : Set) → is_well_formed set ≡ true → (part : Part) → HasPart set part → below_part set part ≤ LONGEST

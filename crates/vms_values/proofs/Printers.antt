@@ -26,10 +26,8 @@ module _ (j : ℕ) (ps Ps : List Printer) (agree : (i : ℕ) → i < j → get_o
   cells i lt = row_same (λ (p : Printer). p.cells) no_printer ps Ps i (agree i lt)
 
   item_same : (item : Item) (path : List ℕ) (n : List ℤ) (at : ℕ) → ItemBelow j item → item_lines ps item path n at ≡ item_lines Ps item path n at
-  item_same (Num kind) path n at e = refl
-  item_same (Equal kind y) path n at e = refl
-  item_same (Unused k) path n at e = refl
   item_same (Struct i) path n at e = ap (λ (p : Printer). p.lines (path ++ codes ".") n at) (agree i e)
+  item_same _ path n at e = refl
 
   elements_same : (item : Item) (path : List ℕ) (n : List ℤ) (at step i m : ℕ) → ItemBelow j item → element_lines ps item path n at step i m ≡ element_lines Ps item path n at step i m
   elements_same item path n at step i zero e = refl
@@ -84,8 +82,7 @@ no_elements ps item path n at step i left e = ap (λ (k : ℕ). element_lines ps
 pub run_is : (ps : List Printer) (f : Field) (c : Count) (own : ℕ → ℕ) (count : ℕ) (path : List ℕ) (n : List ℤ) (at : ℕ) → count ≡ elements_of c own
     → array_lines ps f.item c own (path ++ f.name) n at ≡ run_lines ps f c count path n at
 run_is ps f One own count path n at e = refl
-run_is ps f (Fixed k) own count path n at e = ap (λ (m : ℕ). element_lines ps f.item (path ++ f.name) n at (item_size (cells_of ps) f.item) 0 m) (sym e)
-run_is ps f (Counted by most) own count path n at e = ap (λ (m : ℕ). element_lines ps f.item (path ++ f.name) n at (item_size (cells_of ps) f.item) 0 m) (sym e)
+run_is ps f _ own count path n at e = ap (λ (m : ℕ). element_lines ps f.item (path ++ f.name) n at (item_size (cells_of ps) f.item) 0 m) (sym e)
 
 single_count : (c : Count) (own : ℕ → ℕ) → c ≡ One → elements_of c own ≡ 1
 single_count c own e = ap (λ (x : Count). elements_of x own) e
@@ -133,7 +130,7 @@ module _ (set : Set) where
       let ps = printers set in
       let own = numbers_of (cells_of ps) (desc_at set spot.part) n spot.base in
       let next = next_field set well spot n h k cell lt begins in
-      let fewer : count ≤ capacity_of f.count = omega (arith, there, elements_fit f.count (own_numbers set spot.part n spot.base)) in
+      let fewer : count ≤ capacity_of f.count = omega (arith, elements_fit f.count (own_numbers set spot.part n spot.base)) in
       let here = λ (P : Field → Type 0) (p : P g). subst P (sym is) p in
       let uses = here (λ (x : Field). uses_below (reach set spot.part) x.item ≡ true) next.uses in
       let some = here (λ (x : Field). 1 ≤ capacity_of x.count) next.some in
@@ -144,7 +141,6 @@ module _ (set : Set) where
       field_size (cells_of ps) all k f ∙ ap (λ (s : ℕ). capacity_of f.count * s) (printed_size f.item) in
       let one : suc k ≡ k + 1 = omega arith in
       let after = here (λ (x : Field). cell + capacity_of x.count * size_in set x.item ≡ cell_of set spot (k + 1)) (start_after set spot k cell begins lt) in
-      let at : drop k all ≡ f ∷ drop (k + 1) all = fields_at all k lt ∙ ap (λ (x : Field). x ∷ drop (k + 1) all) (sym is) in
       record {
         run = record {
           reaches = uses_more (reach set spot.part) (length set.structs) f.item (reach_whole set spot.part h.part) uses;
@@ -155,7 +151,7 @@ module _ (set : Set) where
         };
         lower = omega (arith, rank_below (reach set spot.part) f.item uses);
         lines = ap (λ (x : ℕ). field_lines ps all own path n k x (drop k all)) (sym begins)
-            ∙ ap (λ (l : List Field). field_lines ps all own path n k cell l) at
+            ∙ ap (λ (l : List Field). field_lines ps all own path n k cell l) (fields_at all k lt ∙ ap (λ (x : Field). x ∷ drop (k + 1) all) (sym is))
             ∙ ap (λ (l : List ℕ). l ++ field_lines ps all own path n (suc k) (cell + length (field_cells (cells_of ps) all k f)) (drop (k + 1) all)) (run_is ps f f.count own count path n cell counts)
             ∙ ap (λ (w : ℕ). run_lines ps f f.count count path n cell ++ field_lines ps all own path n (suc k) (cell + w) (drop (k + 1) all)) width
             ∙ ap (λ (i : ℕ). run_lines ps f f.count count path n cell ++ field_lines ps all own path n i (cell + capacity_of f.count * size_in set f.item) (drop (k + 1) all)) one
@@ -189,7 +185,6 @@ pub subs_left : (set : Set) (i : ℕ) (n : List ℤ) (came : List (Option ℕ)) 
     ≡ whole_sub set i j n (get_or came j None) ++ sub_lines set n (first_cell set (parts.Sub i (j + 1))) (drop (j + 1) (device_at set i).subs) (drop (j + 1) came)
 subs_left set i n came j lt lt' =
     let d = device_at set i in
-    let none : Sub = record { desc = no_desc; needed = AtLeast 0 } in
     let at = first_cell set (parts.Sub i j) in
     let s = sub_at d j in
     let o = get_or came j None in
@@ -197,9 +192,9 @@ subs_left set i n came j lt lt' =
     let own = desc_lines (printers set) s.desc [] n at in
     let left = rest (at + length (desc_cells (struct_cells set) s.desc)) in
     let joined : codes "sub " ++ (s.desc.name ++ (codes " " ++ (version_text o ++ (line_end ++ own)))) ++ left ≡ (codes "sub " ++ (s.desc.name ++ (codes " " ++ (version_text o ++ line_end)))) ++ own ++ left = simp append_assoc refl in
-    ap (λ (xs : List Sub). sub_lines set n at xs (drop j came)) (drop_more d.subs j none lt)
+    ap (λ (xs : List Sub). sub_lines set n at xs (drop j came)) (drop_more d.subs j _ lt)
     ∙ ap (λ (ys : List (Option ℕ)). sub_lines set n at (s ∷ drop (j + 1) d.subs) ys) (drop_more came j None lt') ∙ joined
-    ∙ ap (λ (x : ℕ). whole_sub set i j n o ++ rest x) (sym (sub_next set (own_cells set d) d.subs j none lt))
+    ∙ ap (λ (x : ℕ). whole_sub set i j n o ++ rest x) (sym (sub_next set (own_cells set d) d.subs j _ lt))
 
 pub no_subs : (set : Set) (n : List ℤ) (at j : ℕ) (subs : List Sub) (came : List (Option ℕ)) → j ≡ length subs → sub_lines set n at (drop j subs) came ≡ []
 no_subs set n at j subs came e = ap (λ (xs : List Sub). sub_lines set n at xs came) (drop_all j subs (omega arith))
@@ -217,11 +212,11 @@ device_is set d image =
 -- the cells of a device and of its subsections are among the numbers of its image
 module _ (set : Set) (well : is_well_formed set ≡ true) (i : ℕ) (image : Image) (of : IsOf set (device_at set i) image) where
   pub own_spot : (v : ℕ) → i < length set.devices → HasSpot set (record { part = parts.Device i; version = v; base = 0 }) image.numbers
-  own_spot v lt = record { part = lt; few = omega (arith, of.cells, few_cells set well i); room = omega (arith, of.cells, own_inside_device set i) }
+  own_spot v lt = record { part = lt; few = omega (arith, few_cells set well i); room = omega (arith, own_inside_device set i) }
 
   pub sub_spot : (v j at : ℕ) → i < length set.devices → j < length (device_at set i).subs → at ≡ first_cell set (parts.Sub i j)
       → HasSpot set (record { part = parts.Sub i j; version = v; base = at }) image.numbers
-  sub_spot v j at lt lt' e = record { part = (lt, lt'); few = omega (arith, of.cells, few_cells set well i); room = omega (arith, e, of.cells, sub_inside set i j lt') }
+  sub_spot v j at lt lt' e = record { part = (lt, lt'); few = omega (arith, few_cells set well i); room = omega (arith, sub_inside set i j lt') }
 
 -- all of the subsections are left at first
 pub first_sub : (set : Set) (i : ℕ) (n : List ℤ) (came : List (Option ℕ))

@@ -74,9 +74,7 @@ read_more : (n b m : ℕ) (bs : List ℕ) → m ≡ n * 10 + (b - 48) → (d s :
 read_more n b m bs is false s e f later = rw e refl
 read_more n b m bs is true true e f later = rw (e, f) (later (ltb-true m (2 ^ 64) f))
 read_more n b m bs is true false e f later =
-    let up : 2 ^ 64 ≤ m = ltb-false m (2 ^ 64) f in
-    let over : nat_lt (natural_from m bs) (2 ^ 64) ≡ false = le-ltb (natural_from m bs) (2 ^ 64) (omega (arith, natural_up m bs)) in
-    rw (e, f, over, and-false (list_all is_digit bs)) refl
+    rw (e, f, (le-ltb (natural_from m bs) (2 ^ 64) (omega (arith, ltb-false m (2 ^ 64) f, natural_up m bs))), and-false (list_all is_digit bs)) refl
 
 pub read_is : (n : ℕ) (bs : List ℕ) → n < 2 ^ 64 → read_from n bs ≡ bounded (list_all is_digit bs) (natural_from n bs)
 read_is n [] lt = sym (ap (λ (t : Bool). if t then Some n else None) (lt-ltb n (2 ^ 64) lt))
@@ -113,8 +111,7 @@ read_append n (b ∷ xs) ys = by (with_digit n b) (λ m. read_append m xs ys) wh
 pub read_rest : (few : ℕ) (text : List ℕ) → few ≤ length text
     → read_from 0 text ≡ option_and_then (λ m. read_from m (take (length text - few) (drop few text))) (read_from 0 (take few text))
 read_rest few text le =
-    let long : length (drop few text) ≡ length text - few = length-drop few text in
-    let rest : take (length text - few) (drop few text) ≡ drop few text = take_all (length text - few) (drop few text) (omega (arith, long)) in
+    let rest : take (length text - few) (drop few text) ≡ drop few text = take_all (length text - few) (drop few text) (omega (arith, length-drop few text)) in
     ap (read_from 0) (sym (take-append-drop few text)) ∙ read_append 0 (take few text) (drop few text)
     ∙ ap (λ (l : List ℕ). option_and_then (λ m. read_from m l) (read_from 0 (take few text))) (sym rest)
 
@@ -140,7 +137,7 @@ digit_up n b m e = by (is_digit b) (nat_lt (n * 10 + (b - 48)) (2 ^ 64)) refl e 
   by : (d s : Bool) → is_digit b ≡ d → (if d && s then Some (n * 10 + (b - 48)) else None) ≡ Some m → m ≤ n * 10 + 9
   by true true h e =
       let is : n * 10 + (b - 48) ≡ m = cc in
-      omega (arith, is, digit_low b h)
+      omega (arith, digit_low b h)
   by true false h e = cc
   by false s h e = cc
 
@@ -224,11 +221,9 @@ module _ (path : List ℕ) (kind : Kind) (caps : List ℕ) (cell : ℕ) (default
       → now.numbers ≡ slice_set p.numbers cell z → now.line ≡ p.line + 1 → now.rest ≡ line.after.now → Reaches (reads o) now (Ok tt)
   number_there None line number z now f n is j a b c = absurd f
   number_there (Some (text, rest)) line number z now f n is j a b c =
-      let up : now.line ≡ suc p.line = b ∙ omega arith in
-      let q : Standing = record { numbers = slice_set p.numbers cell z; line = suc p.line; rest = rest } in
-      let e : q ≡ now =
+      let e : (record { numbers = slice_set p.numbers cell z; line = suc p.line; rest = rest }) ≡ now =
       ap (λ (x : List ℤ). let r : Standing = record { numbers = x; line = suc p.line; rest = rest } in r) (sym a)
-      ∙ ap (λ (x : ℕ). let r : Standing = record { numbers = now.numbers; line = x; rest = rest } in r) (sym up)
+      ∙ ap (λ (x : ℕ). let r : Standing = record { numbers = now.numbers; line = x; rest = rest } in r) (sym (b ∙ omega arith))
       ∙ ap (λ (x : List ℕ). let r : Standing = record { numbers = now.numbers; line = now.line; rest = x } in r) (sym f.1 ∙ sym c) in
       subst (λ (r : Read). Reaches r now (Ok tt)) (sym (judged_there text rest number line (Ok z) f.0 n is j)) e
 

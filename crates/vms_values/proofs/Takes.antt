@@ -31,10 +31,8 @@ module _ (j : ℕ) (rs Rs : List Reader) (agree : (i : ℕ) → i < j → get_or
 
   item_same : (f : Field) (caps path : List ℕ) (present : Bool) (at : ℕ) (item : Item) (p : Standing) → ItemBelow j item
       → read_item rs f caps path present at item p ≡ read_item Rs f caps path present at item p
-  item_same f caps path present at (Num kind) p e = refl
-  item_same f caps path present at (Equal kind y) p e = refl
-  item_same f caps path present at (Unused k) p e = refl
   item_same f caps path present at (Struct i) p e = ap (λ (r : Reader). r.reads (path ++ codes ".") present at p) (agree i e)
+  item_same f caps path present at _ p e = refl
 
   elements_same : (f : Field) (caps path : List ℕ) (present : Bool) (at step i m : ℕ) (p : Standing) → ItemBelow j f.item
       → read_elements rs f caps path present at step i m p ≡ read_elements Rs f caps path present at step i m p
@@ -101,8 +99,7 @@ item_least : (rs : List Reader) (f : Field) (caps path : List ℕ) (present : Bo
 item_least rs f caps path present at (Num kind) p =
     put_least path at (record { cell = at; kind = kind; capacities = caps; default = f.default; present = present }) p (first_line p.rest)
 item_least rs f caps path present at (Equal kind z) p = refl
-item_least rs f caps path present at (Unused n) p = refl
-item_least rs f caps path present at (Struct j) p = refl
+item_least rs f caps path present at _ p = refl
 
 elements_least : (rs : List Reader) (f : Field) (caps path : List ℕ) (present : Bool) (at step i n : ℕ) (p : Standing)
     → read_elements rs f (capacities_of (least_of caps)) path present at step i n p ≡ read_elements rs f caps path present at step i n p
@@ -168,14 +165,13 @@ module _ (set : Set) where
       let rs = readers set in
       let g = get_or d.fields k no_field in
       let own = numbers_of (struct_cells set) d p.numbers base in
-      let there = is_there g.test g.since v own no_parent in
       let width : length (field_cells (cells_of rs) d.fields k g) ≡ capacity_of g.count * size_in set g.item =
       field_size (cells_of rs) d.fields k g ∙ ap (λ (s : ℕ). capacity_of g.count * s) (read_size g.item) in
       let one : suc k ≡ k + 1 = omega arith in
       let rest = λ (i w : ℕ) (q : Standing). read_fields rs d v path present base i (cell + w) (drop (k + 1) d.fields) q in
       let here : read_field rs d v path present base k cell g p ≡ run_read rs g g.count (capacities_of most) path now cell count p =
       ap (λ (cs : List (List Cell)). let o = numbers_of cs d p.numbers base in read_array rs g (counted k d.fields) (path ++ g.name) (present && is_there g.test g.since v o no_parent) cell g.count o p) read_cells
-      ∙ run_is rs g g.count own count (counted k d.fields) path (present && there) cell p n.counts
+      ∙ run_is rs g g.count own count (counted k d.fields) path (present && (is_there g.test g.since v own no_parent)) cell p n.counts
       ∙ ap (λ (b : Bool). run_read rs g g.count (capacities_of (least_of (counted k d.fields))) path b cell count p) (sym n.is)
       ∙ ap (λ (o : Option ℕ). run_read rs g g.count (capacities_of o) path now cell count p) (sym n.least) in
       ap (λ (l : List Field). read_fields rs d v path present base k cell l p) (fields_at d.fields k n.inside)

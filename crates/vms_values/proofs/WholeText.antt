@@ -17,20 +17,17 @@ few_each : (set : Set) (most : ℕ) (devices : List Device) → ((i : ℕ) → i
 few_each set most [] h = omega arith
 few_each set most (d ∷ devices) h =
     let here : device_lines set d ≤ most = h 0 (omega arith) in
-    let rest = few_each set most devices (λ i lt. h (suc i) (omega arith)) in
-    omega (arith, sum_by-cons (device_lines set) d devices, here, rest)
+    omega (arith, few_each set most devices (λ i lt. h (suc i) (omega arith)), sum_by-cons (device_lines set) d devices)
 
 few_lines : (set : Set) → is_well_formed set ≡ true → most_lines set ≤ 1 + 64 * 16417
-few_lines set well =
-    let each = few_each set 16417 set.devices (λ i lt. omega (arith, few_subs set well i lt, few_cells set well i)) in
-    omega (arith, each, few_devices set well)
+few_lines set well = omega (arith, few_each set 16417 set.devices (λ i lt. omega (arith, few_subs set well i lt, few_cells set well i)), few_devices set well)
 
 -- such a number is known as the line of the text
 pub line_fits : (set : Set) → is_well_formed set ≡ true → FitsHeads set → (text : List ℕ) (line : ℕ) (reason : ValuesReason) → ReadsBy set (values_read set text) (Err (faults.Bad line reason)) → line < 2 ^ 32
 line_fits set well heads text line reason h = go (values_read set text) refl h where
   go : (v : ValuesRead) → values_read set text ≡ v → ReadsBy set v (Err (faults.Bad line reason)) → line < 2 ^ 32
   go (Values machine images) e h = absurd h
-  go (Bad l why) e h = omega (arith, h.0, line_holds set text l why (fit_of set well heads) e, few_lines set well)
+  go (Bad l why) e h = omega (arith, line_holds set text l why (fit_of set well heads) e, few_lines set well)
 
 -- what is read of a text is what it means
 pub read_means : (set : Set) → is_well_formed set ≡ true → FitsHeads set → (text : List ℕ) (v : Given) → ReadsBy set (values_read set text) (Ok v) → MeansAs set text (Ok v)

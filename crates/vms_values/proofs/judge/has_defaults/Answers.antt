@@ -6,4 +6,4 @@ pub returns : goal.returns
 returns c =
     let set = described c.args.set.now in
     let inside = sub_inside set c.args.device c.args.sub c.requires.is_sub in
-    c.is_bare.ensures ∙ bare_defaults set c.args.device c.args.sub c.args.image.now.numbers c.requires.is_sub (omega (arith, inside, c.requires.device.cells))
+    c.is_bare.ensures ∙ bare_defaults set c.args.device c.args.sub c.args.image.now.numbers c.requires.is_sub (omega arith)

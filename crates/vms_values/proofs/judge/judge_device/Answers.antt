@@ -12,9 +12,7 @@ holds c =
 
 -- the next subsection is one of the device's, and has an entry
 inside : (c : goal.In-loop-sub) → (let j = c.loop-sub.sub in (j < length (device_at (described c.args.set.now) c.args.device).subs) × (j < length (state_of c.args.image.now).came) × (j < length c.args.sub_lines.now))
-inside c =
-    let lt : c.loop-sub.sub < length (device_at (described c.args.set.now) c.args.device).subs = omega (arith, c.sub_count-sub-end.ensures, c.loop-sub-test.true) in
-    (lt, omega (arith, lt, c.requires.device.subs), omega (arith, lt, c.requires.lines))
+inside c = ((omega arith), omega arith, omega arith)
 
 pub returns-in-Some : goal.returns-in-Some
 returns-in-Some c =
@@ -36,5 +34,5 @@ returns c =
     let set = described c.args.set.now in
     let image = state_of c.args.image.now in
     let lines = c.args.sub_lines.now in
-    let end : length (device_at set c.args.device).subs ≡ c.loop-sub.sub = omega (arith, c.sub_count-sub-end.ensures, c.loop-sub-test.false) in
+    let end : length (device_at set c.args.device).subs ≡ c.loop-sub.sub = omega arith in
     sym (own_holds set c.args.device (read_of image c.args.line lines) (holds (goal.at.returns c).After-sub_count-sub-end) ∙ sym c.loop-sub.invariant ∙ judged_end set c.args.device image lines c.loop-sub.sub end)

@@ -15,7 +15,7 @@ inside g t c =
     let item = c.args.field.now.item in
     let size = size_code set item c.item_cells-size.result c.item_cells-size.ensures c.requires.small in
     let some = positive (capacity_of c.args.field.now.count) (size_in set item) c.args.cell c.requires.cell in
-    (omega (arith, size, some), subst (λ (s : ℕ). c.args.cell % s < size_in set item) (sym size) (mod-lt c.args.cell some))
+    (omega arith, subst (λ (s : ℕ). c.args.cell % s < size_in set item) (sym size) (mod-lt c.args.cell some))
 
 pub print_element-nonzero_div-index : goal.print_element-nonzero_div-index
 print_element-nonzero_div-index g t c = omega (arith, (inside g t c).0)
@@ -55,18 +55,17 @@ print_inside-print_name-requires g t c =
     let small = rw c.in-Struct.is at c.requires.small in
     let cell = rw c.in-Struct.is at c.requires.cell in
     let size = struct_size set c.args.set.now.well_formed j lt in
-    λ κs h. (search rules, (search rules, (lt, (omega (arith, small, size), omega (arith, cell, size)))))
+    λ κs h. (search rules, (search rules, (lt, (omega arith, omega arith))))
 
 pub print_inside-returns-in-Struct : goal.print_inside-returns-in-Struct
 print_inside-returns-in-Struct g t c =
     let set = described c.args.set.now in
     let j = c.in-Struct.number in
-    let lt : j < length set.structs = ltb-true j (length set.structs) (rw c.in-Struct.is at c.requires.reaches) in
     let cell = rw c.in-Struct.is at c.requires.cell in
     let path = path_text c.args.path.now in
     wrote_as c.print_name.result _ _
     (append_assoc path (codes ".") (get_or (part_names set (parts.Struct j)) c.args.cell [])
-    ∙ ap (λ (l : List ℕ). path ++ l) (sym (struct_name set j lt c.args.cell cell))
+    ∙ ap (λ (l : List ℕ). path ++ l) (sym (struct_name set j (ltb-true j (length set.structs) (rw c.in-Struct.is at c.requires.reaches)) c.args.cell cell))
     ∙ ap (λ (i : Item). path ++ get_or (item_names set i) c.args.cell []) (sym c.in-Struct.is))
     c.print_name.ensures
 
@@ -77,8 +76,8 @@ print_name-loop-field-init g t c =
     let long = part_long set c.args.set.now.well_formed c.args.part c.requires.part in
     record {
       same = ap (λ (l : List (List ℕ)). get_or l c.args.cell []) all;
-      room = omega (arith, long, ap length all, c.requires.cell);
-      few = omega (arith, long, ap length all, c.requires.small);
+      room = omega (arith, ap length all);
+      few = omega (arith, ap length all);
       untouched = refl;
     }
 
@@ -94,9 +93,9 @@ turn g t c =
     let set = described c.args.set.now in
     let k = c.loop-field.field in
     let f = field_at set c.args.part k in
-    let lt : k < length (desc_at set c.args.part).fields = omega (arith, c.field_count-field-end.ensures, c.loop-field-test.true) in
+    let lt : k < length (desc_at set c.args.part).fields = omega arith in
     let next = next_names set c.args.set.now.well_formed c.args.part c.requires.part k c.loop-field.left f lt refl in
-    let small : capacity_of f.count * size_in set f.item ≤ MOST_ITEMS = omega (arith, next.long, c.loop-field.invariant.few) in
+    let small : capacity_of f.count * size_in set f.item ≤ MOST_ITEMS = omega arith in
     record { inside = lt; next = next; small = small; width = width_code set f c.field_cells-size.result c.field_cells-size.ensures small }
 
 pub print_name-print_element-requires : goal.print_name-print_element-requires
@@ -107,11 +106,10 @@ print_name-print_element-requires g t c =
     let code = c.index-as_slice-field.result in
     let found : field_of code ≡ f = found_field c.as_slice.result.now (desc_at set c.args.part).fields c.loop-field.field code (here_fields set c.args.part c.desc.result.now c.as_slice.result.now c.desc.ensures c.as_slice.ensures) s.inside c.index-as_slice-field.is in
     let at = λ (P : Field → Type 0) (p : P f). subst P (sym found) p in
-    let uses = at (λ (x : Field). uses_below (length set.structs) x.item ≡ true) s.next.uses in
     let lower = at (λ (x : Field). item_rank x.item + 1 < part_rank set c.args.part + 2) s.next.lower in
-    let one = at (λ (x : Field). size_in set x.item ≤ MOST_ITEMS) (one_fits (capacity_of f.count) (size_in set f.item) 0 MOST_ITEMS MOST_ITEMS s.next.some (omega (arith, s.small)) (omega arith)) in
-    let inside = at (λ (x : Field). c.loop-field.left < capacity_of x.count * size_in set x.item) (omega (arith, s.width, c.if-left-size.true)) in
-    λ κs h. (search rules, (search rules, (uses, (one, inside))))
+    let one = at (λ (x : Field). size_in set x.item ≤ MOST_ITEMS) (one_fits (capacity_of f.count) (size_in set f.item) 0 MOST_ITEMS MOST_ITEMS s.next.some (omega arith) (omega arith)) in
+    let inside = at (λ (x : Field). c.loop-field.left < capacity_of x.count * size_in set x.item) (omega arith) in
+    λ κs h. (search rules, (search rules, ((at (λ (x : Field). uses_below (length set.structs) x.item ≡ true) s.next.uses), (one, inside))))
 
 pub print_name-returns-then-left-size : goal.print_name-returns-then-left-size
 print_name-returns-then-left-size g t c =
@@ -120,17 +118,17 @@ print_name-returns-then-left-size g t c =
     let s = turn g t (goal.at.print_name-returns-then-left-size g t c).After-field_cells-size in
     let found = found_field c.as_slice.result.now (desc_at set c.args.part).fields c.loop-field.field c.index-as_slice-field.result (here_fields set c.args.part c.desc.result.now c.as_slice.result.now c.desc.ensures c.as_slice.ensures) s.inside c.index-as_slice-field.is in
     wrote_as c.print_element.result _ _
-    (ap (λ (x : Field). path ++ field_name set x c.loop-field.left) found ∙ ap (λ (l : List ℕ). path ++ l) (sym (c.loop-field.invariant.same ∙ s.next.here (omega (arith, s.width, c.if-left-size.true))))) (rw c.loop-field.invariant.untouched at c.print_element.ensures)
+    (ap (λ (x : Field). path ++ field_name set x c.loop-field.left) found ∙ ap (λ (l : List ℕ). path ++ l) (sym (c.loop-field.invariant.same ∙ s.next.here (omega arith)))) (rw c.loop-field.invariant.untouched at c.print_element.ensures)
 
 pub print_name-loop-field-preserved : goal.print_name-loop-field-preserved
 print_name-loop-field-preserved g t c =
     let set = described c.args.set.now in
     let f = field_at set c.args.part c.loop-field.field in
     let s = turn g t (goal.at.print_name-loop-field-preserved g t c).After-field_cells-size in
-    let past : capacity_of f.count * size_in set f.item ≤ c.loop-field.left = omega (arith, s.width, c.if-left-size.false) in
+    let past : capacity_of f.count * size_in set f.item ≤ c.loop-field.left = omega arith in
     record {
       same = c.loop-field.invariant.same ∙ s.next.later past ∙ ap (λ (n : ℕ). get_or (names_from set c.args.part (c.loop-field.field + 1)) (c.loop-field.left - n) []) (sym s.width);
-      room = omega (arith, s.width, s.next.long, c.loop-field.invariant.room, past);
-      few = omega (arith, s.next.long, c.loop-field.invariant.few);
+      room = omega arith;
+      few = omega arith;
       untouched = c.loop-field.invariant.untouched;
     }

@@ -6,19 +6,19 @@ use Rattle.vms_values.proofs.name.part_of.Goals as goal
 
 own_size : (c : goal.After-cells_of-size) → c.cells_of-size.result ≡ own_cell_count (described c.args.set.now) (device_at (described c.args.set.now) c.args.device).desc
 own_size c =
-    omega (arith, c.cells_of-size.ensures, own_inside_device (described c.args.set.now) c.args.device, few_cells (described c.args.set.now) c.args.set.now.well_formed c.args.device)
+    omega (arith, own_inside_device (described c.args.set.now) c.args.device, few_cells (described c.args.set.now) c.args.set.now.well_formed c.args.device)
 
 -- the next subsection is one of the device's, and the code has its size
 sub_size : (c : goal.After-cells_of-size-in-loop-sub) → (let d = device_at (described c.args.set.now) c.args.device in
     (c.loop-sub.sub < length d.subs) × (c.cells_of-size-in-loop-sub.result ≡ own_cell_count (described c.args.set.now) (sub_at d c.loop-sub.sub).desc))
 sub_size c =
     let set = described c.args.set.now in
-    let lt : c.loop-sub.sub < length (device_at set c.args.device).subs = omega (arith, c.sub_count-sub-end.ensures, c.loop-sub-test.true) in
-    (lt, omega (arith, c.cells_of-size-in-loop-sub.ensures, sub_inside set c.args.device c.loop-sub.sub lt, few_cells set c.args.set.now.well_formed c.args.device))
+    let lt : c.loop-sub.sub < length (device_at set c.args.device).subs = omega arith in
+    (lt, omega (arith, sub_inside set c.args.device c.loop-sub.sub lt, few_cells set c.args.set.now.well_formed c.args.device))
 
 pub returns-then-cell-size : goal.returns-then-cell-size
 returns-then-cell-size c =
-    in_own (described c.args.set.now) c.args.set.now.well_formed c.args.device c.requires.is_device c.args.cell (omega (arith, own_size (goal.at.returns-then-cell-size c).After-cells_of-size, c.if-cell-size.true))
+    in_own (described c.args.set.now) c.args.set.now.well_formed c.args.device c.requires.is_device c.args.cell (omega (arith, own_size (goal.at.returns-then-cell-size c).After-cells_of-size))
 
 pub loop-sub-init : goal.loop-sub-init
 loop-sub-init c =
@@ -26,16 +26,16 @@ loop-sub-init c =
     let well = c.args.set.now.well_formed in
     let i = c.args.device in
     let size = own_size (goal.at.loop-sub-init c).After-cells_of-size in
-    let past : own_cell_count set (device_at set i).desc ≤ c.args.cell = omega (arith, size, c.if-cell-size.false) in
+    let past : own_cell_count set (device_at set i).desc ≤ c.args.cell = omega arith in
     record {
       same = past_own set well i c.requires.is_device c.args.cell past ∙ ap (λ (n : ℕ). get_or (names_of_subs set i 0) (c.args.cell - n) []) (sym size);
-      room = omega (arith, size, past, all_long set well i c.requires.is_device, c.requires.is_cell);
+      room = omega (arith, all_long set well i c.requires.is_device);
     }
 
 pub returns-then-left-size : goal.returns-then-left-size
 returns-then-left-size c =
     let s = sub_size (goal.at.returns-then-left-size c).After-cells_of-size-in-loop-sub in
-    in_sub (described c.args.set.now) c.args.set.now.well_formed c.args.device c.requires.is_device c.args.cell c.loop-sub.sub c.loop-sub.left s.0 (omega (arith, s.1, c.if-left-size.true)) c.loop-sub.invariant.same
+    in_sub (described c.args.set.now) c.args.set.now.well_formed c.args.device c.requires.is_device c.args.cell c.loop-sub.sub c.loop-sub.left s.0 (omega arith) c.loop-sub.invariant.same
 
 pub loop-sub-preserved : goal.loop-sub-preserved
 loop-sub-preserved c =
@@ -43,8 +43,8 @@ loop-sub-preserved c =
     let well = c.args.set.now.well_formed in
     let j = c.loop-sub.sub in
     let s = sub_size (goal.at.loop-sub-preserved c).After-cells_of-size-in-loop-sub in
-    let past : own_cell_count set (sub_at (device_at set c.args.device) j).desc ≤ c.loop-sub.left = omega (arith, s.1, c.if-left-size.false) in
+    let past : own_cell_count set (sub_at (device_at set c.args.device) j).desc ≤ c.loop-sub.left = omega arith in
     record {
       same = c.loop-sub.invariant.same ∙ past_sub set well c.args.device c.requires.is_device j c.loop-sub.left s.0 past ∙ ap (λ (n : ℕ). get_or (names_of_subs set c.args.device (j + 1)) (c.loop-sub.left - n) []) (sym s.1);
-      room = omega (arith, s.1, past, subs_longer set well c.args.device c.requires.is_device j s.0, c.loop-sub.invariant.room);
+      room = omega (arith, subs_longer set well c.args.device c.requires.is_device j s.0);
     }

@@ -10,23 +10,21 @@ pub returns-in_err-value : goal.returns-in_err-value
 returns-in_err-value c =
     let text = c.args.digits.now in
     let few = c.min-few.result in
-    let form : unpadded text ≡ true = sym c.is_unpadded.ensures ∙ c.if-not-is_unpadded.false in
-    let none : read_from 0 text ≡ None = read_rest few text (omega (arith, c.min-few.ensures)) ∙ ap (option_and_then (λ m. read_from m (rest_of few text))) (sym c.read_few.ensures ∙ c.in_err-value.was) in
-    rw c.from_residual.ensures (sym none ∙ read_natural text form)
+    let none : read_from 0 text ≡ None = read_rest few text (omega arith) ∙ ap (option_and_then (λ m. read_from m (rest_of few text))) (sym c.read_few.ensures ∙ c.in_err-value.was) in
+    rw c.from_residual.ensures (sym none ∙ read_natural text (sym c.is_unpadded.ensures ∙ c.if-not-is_unpadded.false))
 
 pub loop-digit-init : goal.loop-digit-init
 loop-digit-init c =
     let text = c.args.digits.now in
     let few = c.min-few.result in
-    sym (read_rest few text (omega (arith, c.min-few.ensures)) ∙ ap (option_and_then (λ m. read_from m (rest_of few text))) (sym c.read_few.ensures ∙ c.in_ok-value.was))
+    sym (read_rest few text (omega arith) ∙ ap (option_and_then (λ m. read_from m (rest_of few text))) (sym c.read_few.ensures ∙ c.in_ok-value.was))
 
 pub returns-in_err-value-2 : goal.returns-in_err-value-2
 returns-in_err-value-2 c =
     let text = c.args.digits.now in
-    let form : unpadded text ≡ true = sym c.is_unpadded.ensures ∙ c.if-not-is_unpadded.false in
     rw c.from_residual-in_err-value-2.ensures
     (sym (digit_stops c.loop-digit.value c.loop-digit.digit-index _ (rest_of c.min-few.result text) c.loop-digit-test.true (sym c.next_value.ensures ∙ c.in_err-value-2.was))
-    ∙ c.loop-digit.invariant ∙ read_natural text form)
+    ∙ c.loop-digit.invariant ∙ read_natural text (sym c.is_unpadded.ensures ∙ c.if-not-is_unpadded.false))
 
 pub returns : goal.returns
 returns c =

@@ -4,8 +4,7 @@ use Rattle.vms_values.proofs.path.+write_path.Goals as goal
 
 pub returns-in_err-write_path-in-Field : goal.returns-in_err-write_path-in-Field
 returns-in_err-write_path-in-Field g t c =
-    let p = err_from_is_err_and c.from_residual.result c.from_residual.ensures.1 in
-    rw (c.in-Field.is, p.1) (stops_front _ c.in_err-write_path-in-Field.ensures)
+    rw (c.in-Field.is, (err_from_is_err_and c.from_residual.result c.from_residual.ensures.1).1) (stops_front _ c.in_err-write_path-in-Field.ensures)
 
 pub returns-in_ok-write_path-in-Field : goal.returns-in_ok-write_path-in-Field
 returns-in_ok-write_path-in-Field g t c = rw c.in-Field.is (wrote_behind c.write_all_of.result _ _ c.in_ok-write_path-in-Field.ensures c.write_all_of.ensures)

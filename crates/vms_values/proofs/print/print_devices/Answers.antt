@@ -9,7 +9,7 @@ pub bounds-images-device : goal.bounds-images-device
 bounds-images-device g c =
     let set = described c.args.set.now in
     let long : length c.as_slice.result.now ≡ length set.devices = ap length c.as_slice.ensures ∙ sym (length-map c.parts.result.now.devices device_of) ∙ ap (λ (s : Set). length s.devices) c.parts.ensures in
-    let lt : c.loop-device.device < length set.devices = omega (arith, long, c.loop-device-test.true) in
+    let lt : c.loop-device.device < length set.devices = omega arith in
     omega (arith, of_room set c.loop-device.device set.devices (map state_of c.args.images.now) c.loop-device.invariant.of lt, states_long c.args.images.now)
 
 -- the image of the next device, and its lines
@@ -22,9 +22,9 @@ here g c =
     let states = map state_of c.args.images.now in
     let image = state_of c.index-images-device.result in
     let long : length c.as_slice.result.now ≡ length set.devices = ap length c.as_slice.ensures ∙ sym (length-map c.parts.result.now.devices device_of) ∙ ap (λ (s : Set). length s.devices) c.parts.ensures in
-    let lt : k < length set.devices = omega (arith, long, c.loop-device-test.true) in
+    let lt : k < length set.devices = omega arith in
     let more : k < length states = of_room set k set.devices states c.loop-device.invariant.of lt in
-    let at = images_at states k image more (state_at c.args.images.now k c.index-images-device.result (omega (arith, more, states_long c.args.images.now)) c.index-images-device.is) in
+    let at = images_at states k image more (state_at c.args.images.now k c.index-images-device.result (omega (arith, states_long c.args.images.now)) c.index-images-device.is) in
     (of_next set k set.devices states (device_at set k) image (device_left set k lt) at c.loop-device.invariant.of, devices_next set k set.devices states (device_at set k) image (device_left set k lt) at)
 
 pub print_device-requires-clause-of : goal.print_device-requires-clause-of

@@ -8,15 +8,12 @@ use Rattle.vms_values.proofs.print.print_subs.Goals as goal
 
 pub loop-sub-init : goal.loop-sub-init
 loop-sub-init g c =
-    let set = described c.args.shown.set.now in
     let image = state_of c.args.shown.image.now in
-    leaves_all _ _ _ (first_sub set c.args.device image.numbers image.came)
+    leaves_all _ _ _ (first_sub (described c.args.shown.set.now) c.args.device image.numbers image.came)
 
 -- the next subsection is one of the device's, and the image says whether it came
 inside : (g : Over) (c : goal.In-loop-sub g) → (c.loop-sub.sub < length (device_at (described c.args.shown.set.now) c.args.device).subs) × (c.loop-sub.sub < length (state_of c.args.shown.image.now).came)
-inside g c =
-    let lt : c.loop-sub.sub < length (device_at (described c.args.shown.set.now) c.args.device).subs = omega (arith, c.sub_count-sub-end.ensures, c.loop-sub-test.true) in
-    (lt, omega (arith, lt, c.requires.of.subs))
+inside g c = ((omega arith), omega arith)
 
 pub returns-in_err-print_sub : goal.returns-in_err-print_sub
 returns-in_err-print_sub g c =
@@ -36,5 +33,5 @@ returns g c =
     let set = described c.args.shown.set.now in
     let image = state_of c.args.shown.image.now in
     let d = device_at set c.args.device in
-    let end : c.loop-sub.sub ≡ length d.subs = omega (arith, c.sub_count-sub-end.ensures) in
+    let end : c.loop-sub.sub ≡ length d.subs = omega arith in
     leaves_none (no_subs set image.numbers (first_cell set (parts.Sub c.args.device c.loop-sub.sub)) c.loop-sub.sub d.subs (drop c.loop-sub.sub image.came) end) c.loop-sub.invariant

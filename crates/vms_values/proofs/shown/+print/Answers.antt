@@ -22,14 +22,13 @@ print_elements-loop-index-init g t c =
 element : (g : Over) (t : ℕ) (c : goal.print_elements-After-print_item-arg-in-loop-index-1 g t) → (c.push_index.new.self ≡ c.args.line.now ++ codes "[" ++ decimal c.loop-index.index ++ codes "]") × (length c.push_index.new.self ≤ length c.args.line.now + INDEX_ROOM)
 element g t c =
     let kept = cut_is c.args.line.now c.loop-index.line c.cut.new.self c.len-kept.result c.cut.ensures c.len-kept.ensures c.loop-index.invariant.line in
-    (c.push_index.ensures.text ∙ ap (λ (l : List ℕ). l ++ codes "[" ++ decimal c.loop-index.index ++ codes "]") kept, omega (arith, ap length kept, c.push_index.ensures.long))
+    (c.push_index.ensures.text ∙ ap (λ (l : List ℕ). l ++ codes "[" ++ decimal c.loop-index.index ++ codes "]") kept, omega (arith, ap length kept))
 
 pub print_elements-print_item-requires : goal.print_elements-print_item-requires
 print_elements-print_item-requires g t c =
     let set = described c.args.shown.set.now in
     let room = room_at c.loop-index.index c.args.run.count (size_in set c.args.item.now) c.args.run.first c.loop-index.cell (length c.args.shown.image.now.numbers) c.loop-index-test.true c.loop-index.invariant.here c.requires.room in
-    let short : length c.push_index.new.self + NUMBER_ROOM + below c.args.item.now ≤ LONGEST = omega (arith, (element g t c).1, c.requires.short) in
-    λ κs h. (search rules, (search rules, (c.requires.reaches, (room, (c.requires.few, short)))))
+    λ κs h. (search rules, (search rules, (c.requires.reaches, (room, (c.requires.few, (omega (arith, (element g t c).1)))))))
 
 pub print_elements-returns-in_err-print_item-clause-written :
     goal.print_elements-returns-in_err-print_item-clause-written
@@ -41,8 +40,7 @@ print_elements-returns-in_err-print_item-clause-written g t c =
     let i = c.loop-index.index in
     let path = (element g t (goal.at.print_elements-returns-in_err-print_item-clause-written g t c).After-print_item-arg-in-loop-index-1).0 in
     let rest = element_lines ps item c.args.line.now n (c.loop-index.cell + size_in set item) (size_in set item) (i + 1) (c.args.run.count - (i + 1)) in
-    let p = err_from_is_err_and c.from_residual.result c.from_residual.ensures.1 in
-    rw p.1 (leaves_stop _
+    rw (err_from_is_err_and c.from_residual.result c.from_residual.ensures.1).1 (leaves_stop _
     (elements_left ps item c.args.line.now n c.loop-index.cell (size_in set item) i c.args.run.count c.loop-index-test.true
     ∙ ap (λ (l : List ℕ). item_lines ps item l n c.loop-index.cell ++ rest) (sym path))
     c.loop-index.invariant.owes c.in_err-print_item.ensures.written)
@@ -58,7 +56,7 @@ print_elements-overflow_add-cell g t c =
     let set = described c.args.shown.set.now in
     let item = c.args.item.now in
     let room = room_at c.loop-index.index c.args.run.count (size_in set item) c.args.run.first c.loop-index.cell (length c.args.shown.image.now.numbers) c.loop-index-test.true c.loop-index.invariant.here c.requires.room in
-    omega (arith, size_code set item c.item_cells-size.result c.item_cells-size.ensures c.requires.small, room, c.requires.few)
+    omega (arith, size_code set item c.item_cells-size.result c.item_cells-size.ensures c.requires.small)
 
 pub print_elements-loop-index-preserved : goal.print_elements-loop-index-preserved
 print_elements-loop-index-preserved g t c =
@@ -80,7 +78,7 @@ print_elements-loop-index-preserved g t c =
           ∙ ap (λ (l : List ℕ). item_lines ps item l n cell ++ rest c.item_cells-size.result) (sym named))
           c.loop-index.invariant.owes c.in_ok-print_item.ensures.written;
       line = stays_then _ _ _ (stays_element path (decimal i) c.push_index.new.self named) c.in_ok-print_item.ensures.line;
-      here = omega (arith, one, size, c.loop-index.invariant.here);
+      here = omega arith;
     }
 
 pub print_elements-returns-clause-written : goal.print_elements-returns-clause-written
@@ -99,15 +97,15 @@ print_field-print_item-requires g t c =
     let same : 1 * size ≡ size = grind arith in
     let named : c.push.new.self ≡ c.args.line.now ++ c.args.field.now.name = c.push.ensures ∙ ap (λ (l : List ℕ). c.args.line.now ++ l) c.as_bytes.ensures in
     let short : length c.push.new.self + NUMBER_ROOM + below c.args.field.now.item ≤ LONGEST =
-    omega (arith, ap length named, length-append c.args.line.now c.args.field.now.name, c.requires.name, c.requires.short) in
-    λ κs h. (search rules, (search rules, (fits.reaches, (omega (arith, room, same), (fits.few, short)))))
+    omega (arith, ap length named, length-append c.args.line.now c.args.field.now.name) in
+    λ κs h. (search rules, (search rules, (fits.reaches, (omega arith, (fits.few, short)))))
 
 pub print_field-print_elements-requires : goal.print_field-print_elements-requires
 print_field-print_elements-requires g t c =
     let fits = c.requires.fits in
     let named : c.push.new.self ≡ c.args.line.now ++ c.args.field.now.name = c.push.ensures ∙ ap (λ (l : List ℕ). c.args.line.now ++ l) c.as_bytes.ensures in
     let short : length c.push.new.self + INDEX_ROOM + NUMBER_ROOM + below c.args.field.now.item ≤ LONGEST =
-    omega (arith, ap length named, length-append c.args.line.now c.args.field.now.name, c.requires.name, c.requires.short) in
+    omega (arith, ap length named, length-append c.args.line.now c.args.field.now.name) in
     λ κs h. (search rules, (search rules, (fits.reaches, (fits.small, (fits.room, (fits.few, short))))))
 
 pub print_field-returns-in_default : goal.print_field-returns-in_default
@@ -127,10 +125,9 @@ pub print_item-print_struct-requires : goal.print_item-print_struct-requires
 print_item-print_struct-requires g t c =
     let set = described c.args.shown.set.now in
     let j = c.in-Struct.number in
-    let lt : j < length set.structs = ltb-true j (length set.structs) (rw c.in-Struct.is at c.requires.reaches) in
     let room = rw c.in-Struct.is at c.requires.room in
     let short = rw c.in-Struct.is at c.requires.short in
-    λ κs h. (search rules, (search rules, (lt, (room, (c.requires.few, short)))))
+    λ κs h. (search rules, (search rules, (ltb-true j (length set.structs) (rw c.in-Struct.is at c.requires.reaches), (room, (c.requires.few, short)))))
 
 pub print_item-returns-in-Struct-clause-written : goal.print_item-returns-in-Struct-clause-written
 print_item-returns-in-Struct-clause-written g t c =
@@ -144,8 +141,8 @@ print_struct-print_part-requires g t c =
     let j = c.args.number in
     let lt = c.requires.reaches in
     let size = struct_size set c.args.shown.set.now.well_formed j lt in
-    let grown : length c.push.new.self + PART_ROOM * (j + 1) ≤ LONGEST = omega (arith, ap length c.push.ensures, length-append c.args.line.now (codes "."), c.requires.short) in
-    λ κs h. (search rules, (search rules, (record { part = lt; few = c.requires.few; room = omega (arith, c.requires.room, size) }, grown)))
+    let grown : length c.push.new.self + PART_ROOM * (j + 1) ≤ LONGEST = omega (arith, ap length c.push.ensures, length-append c.args.line.now (codes ".")) in
+    λ κs h. (search rules, (search rules, (record { part = lt; few = c.requires.few; room = omega arith }, grown)))
 
 pub print_struct-returns-clause-written : goal.print_struct-returns-clause-written
 print_struct-returns-clause-written g t c =
@@ -170,7 +167,7 @@ record Turn (g : Over) (t : ℕ) (c : goal.print_part-After-print_field-arg-in-l
 
 turn : (g : Over) (t : ℕ) (c : goal.print_part-After-print_field-arg-in-loop-field-1 g t) → Turn g t c
 turn g t c =
-    let lt : c.loop-field.field < length (desc_at (described c.args.shown.set.now) c.args.spot.part).fields = omega (arith, c.field_count-field-end.ensures, c.loop-field-test.true) in
+    let lt : c.loop-field.field < length (desc_at (described c.args.shown.set.now) c.args.spot.part).fields = omega arith in
     record {
       inside = lt;
       run = found_run (described c.args.shown.set.now) c.args.shown.set.now.well_formed c.args.spot c.args.line.now c.args.shown.image.now.numbers c.requires.spot
@@ -181,14 +178,13 @@ turn g t c =
     }
 
 pub print_part-field_start-requires-clause-few : goal.print_part-field_start-requires-clause-few
-print_part-field_start-requires-clause-few g t c = omega (arith, c.requires.spot.room, c.requires.spot.few)
+print_part-field_start-requires-clause-few g t c = omega arith
 
 pub print_part-print_field-requires : goal.print_part-print_field-requires
 print_part-print_field-requires g t c =
     let s = turn g t c in
-    let lower = s.run.next.lower in
     let short = field_short (described c.args.shown.set.now) c.args.shown.set.now.well_formed c.args.spot.part c.requires.spot.part c.loop-field.field s.inside (field_of c.index-as_slice-field.result) s.run.found in
-    λ κs h. (search rules, (search rules, (s.run.next.run, (short.0, omega (arith, ap length s.kept, short.1, c.requires.short)))))
+    λ κs h. (search rules, (search rules, (s.run.next.run, (short.0, omega (arith, ap length s.kept)))))
 
 -- its lines, under the path of the code, and those of the fields after it
 lines : (g : Over) (t : ℕ) (c : goal.print_part-After-print_field-arg-in-loop-field-1 g t) → (let set = described c.args.shown.set.now in
@@ -230,5 +226,4 @@ print_part-loop-field-preserved g t c =
 pub print_part-returns-clause-written : goal.print_part-returns-clause-written
 print_part-returns-clause-written g t c =
     let set = described c.args.shown.set.now in
-    let end : c.loop-field.field ≡ length (desc_at set c.args.spot.part).fields = omega (arith, c.field_count-field-end.ensures) in
-    leaves_none (no_fields set c.args.spot c.args.line.now c.args.shown.image.now.numbers c.loop-field.field end) c.loop-field.invariant.owes
+    leaves_none (no_fields set c.args.spot c.args.line.now c.args.shown.image.now.numbers c.loop-field.field (omega arith)) c.loop-field.invariant.owes

@@ -8,10 +8,9 @@ pub loop-sub-init : goal.loop-sub-init
 loop-sub-init c =
     let set = described c.args.set.now in
     let d = device_at set c.args.device in
-    let p = place_of c.args.taken.now in
     record {
       follows = follows_none _ c.args.taken.now.image.came c.args.lines.now.items _ c.requires.none
-          (ap (λ (k : ℕ). read_subs set k d.subs p) (sub_first set (own_cells set d) d.subs));
+          (ap (λ (k : ℕ). read_subs set k d.subs (place_of c.args.taken.now)) (sub_first set (own_cells set d) d.subs));
       count = ap length c.requires.none;
       alike = alike_none c.args.taken.now.image;
     }
@@ -27,21 +26,20 @@ returns-in_err-read_sub-clause-read c =
     let set = described c.args.set.now in
     let i = c.args.device in
     let j = c.loop-sub.sub in
-    let lt : j < length (device_at set i).subs = omega (arith, c.sub_count-sub-end.ensures, c.loop-sub-test.true) in
     let p = err_from_is_err_and c.from_residual-in_err-read_sub.result c.from_residual-in_err-read_sub.ensures.1 in
     rw (p.1, p.2) (subs_bad _ _ j c.args.taken.now c.read_sub.new.taken c.loop-sub.taken c.push_line.new.lines.items _
-    (λ b same. follows_stop set i j lt _ c.loop-sub.taken c.loop-sub.lines.items b c.loop-sub.invariant.follows same) c.in_err-read_sub.ensures.read)
+    (λ b same. follows_stop set i j (omega arith) _ c.loop-sub.taken c.loop-sub.lines.items b c.loop-sub.invariant.follows same) c.in_err-read_sub.ensures.read)
 
 pub loop-sub-preserved : goal.loop-sub-preserved
 loop-sub-preserved c =
     let set = described c.args.set.now in
     let i = c.args.device in
     let j = c.loop-sub.sub in
-    let lt : j < length (device_at set i).subs = omega (arith, c.sub_count-sub-end.ensures, c.loop-sub-test.true) in
+    let lt : j < length (device_at set i).subs = omega arith in
     let old = c.loop-sub.taken in
     let new = c.read_sub.new.taken in
     let r = sub_came _ j old new c.in_ok-read_sub.ensures.read in
-    let room : j < length old.image.came = omega (arith, lt, c.loop-sub.invariant.alike.subs, c.requires.device.subs) in
+    let room : j < length old.image.came = omega arith in
     let pushed : c.push_line.new.lines.items ≡ c.loop-sub.lines.items ++ old.lines.line ∷ [] = c.in_ok-push_line.ensures in
     record {
       follows = follows_next set i j lt _ old new c.loop-sub.lines.items c.push_line.new.lines.items r.o r.q c.loop-sub.invariant.follows room r.read r.place r.came pushed;
@@ -54,9 +52,8 @@ returns c =
     let set = described c.args.set.now in
     let i = c.args.device in
     let d = device_at set i in
-    let end : c.loop-sub.sub ≡ length d.subs = omega (arith, c.sub_count-sub-end.ensures, c.loop-sub-test.false) in
     record {
       read = subs_end _ set (first_cell set (parts.Sub i c.loop-sub.sub)) c.loop-sub.sub _ c.args.taken.now c.loop-sub.taken c.loop-sub.lines.items c.loop-sub.invariant.follows
-          (drop_all c.loop-sub.sub d.subs (omega (arith, end))) (omega (arith, end, c.loop-sub.invariant.alike.subs, c.requires.device.subs)) c.loop-sub.invariant.alike;
-      count = c.loop-sub.invariant.count ∙ end;
+          (drop_all c.loop-sub.sub d.subs (omega arith)) (omega arith) c.loop-sub.invariant.alike;
+      count = c.loop-sub.invariant.count ∙ (omega arith);
     }

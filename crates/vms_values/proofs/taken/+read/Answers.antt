@@ -17,7 +17,7 @@ use Rattle.vms_values.proofs.taken.+read.Goals as goal
 element : (t : ℕ) (c : goal.read_elements-After-read_item-arg-in-loop-index-1 t) → (c.push_index.new.self ≡ c.args.path.now ++ codes "[" ++ decimal c.loop-index.index ++ codes "]") × (length c.push_index.new.self ≤ length c.args.path.now + INDEX_ROOM)
 element t c =
     let front = cut_is c.args.path.now c.loop-index.path c.cut.new.self c.len-kept.result c.cut.ensures c.len-kept.ensures c.loop-index.invariant.path in
-    (c.push_index.ensures.text ∙ ap (λ (l : List ℕ). l ++ codes "[" ++ decimal c.loop-index.index ++ codes "]") front, omega (arith, ap length front, c.push_index.ensures.long))
+    (c.push_index.ensures.text ∙ ap (λ (l : List ℕ). l ++ codes "[" ++ decimal c.loop-index.index ++ codes "]") front, omega (arith, ap length front))
 
 pub read_elements-returns-in_err-read_item-clause-read : goal.read_elements-returns-in_err-read_item-clause-read
 read_elements-returns-in_err-read_item-clause-read t c =
@@ -41,8 +41,8 @@ read_elements-overflow_add-first t c =
     let set = described c.args.set.now in
     let item = c.args.run.field.now.item in
     let size = size_code set item c.item_cells-size.result c.item_cells-size.ensures c.requires.fits.small in
-    let room = room_at c.loop-index.index c.args.run.count (size_in set item) c.args.run.first c.loop-index.first _ (omega (arith, c.loop-index-test.true)) c.loop-index.invariant.here c.requires.fits.room in
-    omega (arith, size, room, c.requires.fits.few)
+    let room = room_at c.loop-index.index c.args.run.count (size_in set item) c.args.run.first c.loop-index.first _ (omega arith) c.loop-index.invariant.here c.requires.fits.room in
+    omega arith
 
 pub read_elements-loop-index-preserved : goal.read_elements-loop-index-preserved
 read_elements-loop-index-preserved t c =
@@ -59,7 +59,7 @@ read_elements-loop-index-preserved t c =
           ∙ elements_go (readers set) f caps path c.args.run.present (size_in set f.item) c.loop-index.first i c.args.run.count (place_of c.loop-index.taken) _ c.loop-index-test.true
           (ap (λ (l : List ℕ). read_item (readers set) f caps l c.args.run.present c.loop-index.first f.item (place_of c.loop-index.taken)) (sym named)
           ∙ reached _ _ c.in_ok-read_item.ensures.read) ∙ c.loop-index.invariant.reads;
-      here = omega (arith, one, size, c.loop-index.invariant.here);
+      here = omega arith;
       kept = kept_more _ _ _ c.loop-index.invariant.kept c.in_ok-read_item.ensures.kept;
       path = stays_then _ _ _ (stays_element path (decimal i) c.push_index.new.self named) c.in_ok-read_item.ensures.path;
     }
@@ -70,12 +70,12 @@ read_elements-read_item-requires t c =
     let cs = cells_in (table set) in
     let item = c.args.run.field.now.item in
     let kept = c.loop-index.invariant.kept in
-    let room = room_at c.loop-index.index c.args.run.count (size_in set item) c.args.run.first c.loop-index.first _ (omega (arith, c.loop-index-test.true)) c.loop-index.invariant.here c.requires.fits.room in
+    let room = room_at c.loop-index.index c.args.run.count (size_in set item) c.args.run.first c.loop-index.first _ (omega arith) c.loop-index.invariant.here c.requires.fits.room in
     let here : AreKinds c.args.taken.now.image.kinds c.loop-index.first (element_cells cs item) =
-    subst (λ (p : ℕ). AreKinds c.args.taken.now.image.kinds p (element_cells cs item)) (sym c.loop-index.invariant.here) (c.requires.kinds c.loop-index.index (omega (arith, c.loop-index-test.true))) in
-    let fits : c.loop-index.first + size_in set item ≤ length c.loop-index.taken.image.numbers = omega (arith, room, kept.long) in
-    let few : length c.loop-index.taken.image.numbers ≤ MOST_ITEMS = omega (arith, kept.long, c.requires.fits.few) in
-    let short : length c.push_index.new.self + NUMBER_ROOM + below item ≤ LONGEST = omega (arith, (element t c).1, c.requires.short) in
+    subst (λ (p : ℕ). AreKinds c.args.taken.now.image.kinds p (element_cells cs item)) (sym c.loop-index.invariant.here) (c.requires.kinds c.loop-index.index (omega arith)) in
+    let fits : c.loop-index.first + size_in set item ≤ length c.loop-index.taken.image.numbers = omega arith in
+    let few : length c.loop-index.taken.image.numbers ≤ MOST_ITEMS = omega arith in
+    let short : length c.push_index.new.self + NUMBER_ROOM + below item ≤ LONGEST = omega (arith, (element t c).1) in
     (omega arith, (c.requires.fits.reaches, (fits, (few, (subst (λ (ks : List Kind). AreKinds ks c.loop-index.first (element_cells cs item)) (sym kept.kinds) here, short)))))
 
 pub read_field-read_item-requires : goal.read_field-read_item-requires
@@ -84,21 +84,18 @@ read_field-read_item-requires t c =
     let cs = cells_in (table set) in
     let item = c.args.run.field.now.item in
     let kinds = c.args.taken.now.image.kinds in
-    let one : c.args.run.count ≡ 1 = c.requires.fits.single c.in-One.is in
     let zero_on : c.args.run.first + 0 * size_in set item ≡ c.args.run.first = omega arith in
-    let width : c.args.run.count * size_in set item ≡ 1 * size_in set item = ap (λ (n : ℕ). n * size_in set item) one in
-    let room : c.args.run.first + size_in set item ≤ length c.args.taken.now.image.numbers = omega (arith, width, c.requires.fits.room) in
+    let width : c.args.run.count * size_in set item ≡ 1 * size_in set item = ap (λ (n : ℕ). n * size_in set item) (c.requires.fits.single c.in-One.is) in
+    let room : c.args.run.first + size_in set item ≤ length c.args.taken.now.image.numbers = omega arith in
     let named : c.push.new.self ≡ c.args.path.now ++ (field_of c.args.run.field.now).name = c.push.ensures ∙ ap (λ (l : List ℕ). c.args.path.now ++ l) c.as_bytes.ensures in
     let short : length c.push.new.self + NUMBER_ROOM + below c.args.run.field.now.item ≤ LONGEST =
-    omega (arith, ap length named, length-append c.args.path.now (field_of c.args.run.field.now).name, c.requires.name, c.requires.short) in
-    (omega arith, (c.requires.fits.reaches, (room, (c.requires.fits.few, (subst (λ (p : ℕ). AreKinds kinds p (element_cells cs item)) zero_on (c.requires.kinds 0 (omega (arith, one))), short)))))
+    omega (arith, ap length named, length-append c.args.path.now (field_of c.args.run.field.now).name) in
+    (omega arith, (c.requires.fits.reaches, (room, (c.requires.fits.few, (subst (λ (p : ℕ). AreKinds kinds p (element_cells cs item)) zero_on (c.requires.kinds 0 (omega arith)), short)))))
 
 pub read_field-read_elements-requires : goal.read_field-read_elements-requires
 read_field-read_elements-requires t c =
     let named : c.push.new.self ≡ c.args.path.now ++ (field_of c.args.run.field.now).name = c.push.ensures ∙ ap (λ (l : List ℕ). c.args.path.now ++ l) c.as_bytes.ensures in
-    let short : length c.push.new.self + INDEX_ROOM + NUMBER_ROOM + below c.args.run.field.now.item ≤ LONGEST =
-    omega (arith, ap length named, length-append c.args.path.now (field_of c.args.run.field.now).name, c.requires.name, c.requires.short) in
-    (omega arith, (c.requires.fits, (c.requires.kinds, short)))
+    (omega arith, (c.requires.fits, (c.requires.kinds, (omega (arith, ap length named, length-append c.args.path.now (field_of c.args.run.field.now).name)))))
 
 pub read_field-returns-in_default : goal.read_field-returns-in_default
 read_field-returns-in_default t c =
@@ -123,15 +120,14 @@ read_item-read_under-requires t c =
     let room = rw c.in-Struct.is at c.requires.room in
     let size = struct_size set c.args.set.now.well_formed j lt in
     let spot : HasSpot set (record { part = parts.Struct j; version = c.desc.result.now.version; base = c.args.run.first }) c.args.taken.now.image.numbers =
-    record { part = lt; few = c.requires.few; room = omega (arith, room, size) } in
+    record { part = lt; few = c.requires.few; room = omega arith } in
     let short = rw c.in-Struct.is at c.requires.short in
-    let grown : length c.push.new.self + PART_ROOM * (j + 1) ≤ LONGEST = omega (arith, ap length c.push.ensures, length-append c.args.path.now (codes "."), short) in
+    let grown : length c.push.new.self + PART_ROOM * (j + 1) ≤ LONGEST = omega (arith, ap length c.push.ensures, length-append c.args.path.now (codes ".")) in
     (search rules, (spot, (struct_kinds set c.args.set.now.well_formed j lt c.args.taken.now.image.kinds c.args.run.first (rw c.in-Struct.is at c.requires.kinds), grown)))
 
 pub read_item-read_number_line-requires-clause-of_kind : goal.read_item-read_number_line-requires-clause-of_kind
 read_item-read_number_line-requires-clause-of_kind t c =
-    let set = described c.args.set.now in
-    number_kind (cells_in (table set)) c.args.taken.now.image.kinds c.args.run.first c.in-Num.kind (rw c.in-Num.is at c.requires.kinds)
+    number_kind (cells_in (table (described c.args.set.now))) c.args.taken.now.image.kinds c.args.run.first c.in-Num.kind (rw c.in-Num.is at c.requires.kinds)
 
 pub read_item-returns-in-Struct-clause-read : goal.read_item-returns-in-Struct-clause-read
 read_item-returns-in-Struct-clause-read t c =
@@ -140,13 +136,12 @@ read_item-returns-in-Struct-clause-read t c =
     let f = field_of c.args.run.field.now in
     let lt : j < length set.structs = ltb-true j (length set.structs) (rw c.in-Struct.is at c.requires.reaches) in
     let d = get_or set.structs j no_desc in
-    let version : c.desc.result.now.version ≡ d.version = ap (λ (x : Desc). x.version) c.desc.ensures in
     let path = c.args.path.now in
     let p = place_of c.args.taken.now in
     let caps = capacities_of c.args.run.most in
     subst (λ (r : Read). Reaches r (place_of c.read_under.new.taken) c.read_under.result)
     (ap (λ (l : List ℕ). read_desc (readers set) d c.desc.result.now.version l c.args.run.present c.args.run.first p) c.push.ensures
-    ∙ ap (λ (v : ℕ). read_desc (readers set) d v (path ++ codes ".") c.args.run.present c.args.run.first p) version
+    ∙ ap (λ (v : ℕ). read_desc (readers set) d v (path ++ codes ".") c.args.run.present c.args.run.first p) (ap (λ (x : Desc). x.version) c.desc.ensures)
     ∙ sym (ap (λ (i : Item). read_item (readers set) f caps path c.args.run.present c.args.run.first i p) c.in-Struct.is
     ∙ struct_reads set c.args.set.now.well_formed j lt f caps path c.args.run.present c.args.run.first p))
     c.read_under.ensures.read
@@ -193,7 +188,7 @@ turn t c =
     let cs = cells_in (table set) in
     let numbers = c.loop-field.taken.image.numbers in
     let kinds = c.loop-field.taken.image.kinds in
-    let lt : k < length d.fields = omega (arith, c.field_count-field-end.ensures, c.loop-field-test.true) in
+    let lt : k < length d.fields = omega arith in
     let long = c.loop-field.invariant.kept.long in
     let has : HasSpot set spot numbers = record {
       part = c.requires.spot.part;
@@ -217,15 +212,14 @@ turn t c =
     }
 
 pub read_under-field_start-requires-clause-few : goal.read_under-field_start-requires-clause-few
-read_under-field_start-requires-clause-few t c = omega (arith, c.requires.spot.room, c.requires.spot.few)
+read_under-field_start-requires-clause-few t c = omega arith
 
 pub read_under-read_field-requires : goal.read_under-read_field-requires
 read_under-read_field-requires t c =
     let s = turn t c in
-    let lower = s.run.next.lower in
-    let fewer : c.elements.result ≤ capacity_of c.index-as_slice-field.result.count = omega (arith, s.comes.counts, ap (λ (x : Field). capacity_of x.count) s.run.found, elements_fit (field_at (described c.args.set.now) c.args.spot.part c.loop-field.field).count (own_numbers (described c.args.set.now) c.args.spot.part c.loop-field.taken.image.numbers c.args.spot.base)) in
+    let fewer : c.elements.result ≤ capacity_of c.index-as_slice-field.result.count = omega (arith, ap (λ (x : Field). capacity_of x.count) s.run.found, elements_fit (field_at (described c.args.set.now) c.args.spot.part c.loop-field.field).count (own_numbers (described c.args.set.now) c.args.spot.part c.loop-field.taken.image.numbers c.args.spot.base)) in
     let short = field_short (described c.args.set.now) c.args.set.now.well_formed c.args.spot.part c.requires.spot.part c.loop-field.field s.comes.inside (field_of c.index-as_slice-field.result) s.run.found in
-    (omega (arith, lower), (s.run.next.run, ((λ i inside. s.kinds.here i (omega (arith, inside, fewer))), (short.0, omega (arith, ap length s.front, short.1, c.requires.short)))))
+    (omega arith, (s.run.next.run, ((λ i inside. s.kinds.here i (omega arith)), (short.0, omega (arith, ap length s.front)))))
 
 pub read_under-returns-in_err-read_field-clause-read : goal.read_under-returns-in_err-read_field-clause-read
 read_under-returns-in_err-read_field-clause-read t c =

@@ -5,8 +5,7 @@ use Rattle.vms_values.proofs.taken.read_number_line.Goals as goal
 
 pub put-requires-clause-range : goal.put-requires-clause-range
 put-requires-clause-range c =
-    let f : SFits w128 c.in-Ok.number = search rules in
-    rw (to_z-of_z w128 c.in-Ok.number f) (subst (λ (k : Kind). InRange k c.in-Ok.number) (sym c.requires.of_kind)
+    rw (to_z-of_z w128 c.in-Ok.number (search rules)) (subst (λ (k : Kind). InRange k c.in-Ok.number) (sym c.requires.of_kind)
     (number_held c.args.kind (capacities_of c.args.run.most) c.args.run.field.now.default c.args.run.present _ c.in-Ok.number c.in-Ok.ensures))
 
 pub returns-in-Ok-clause-read : goal.returns-in-Ok-clause-read

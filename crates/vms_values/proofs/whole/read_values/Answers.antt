@@ -7,7 +7,7 @@ overflow_cast-result c =
     let set = described c.args.set.now in
     let fits = line_fits set c.args.set.now.well_formed c.args.set.now.heads c.args.text.now c.in-Err-Bad.line c.in-Err-Bad.reason
     (subst (λ (f : LineFault). ReadsBy set (values_read set c.args.text.now) (Err f)) c.in-Err-Bad.field-0-is c.in-Err-Bad.ensures.read) in
-    omega (arith, fits)
+    omega arith
 
 pub returns-in-Ok-clause-means : goal.returns-in-Ok-clause-means
 returns-in-Ok-clause-means c =
