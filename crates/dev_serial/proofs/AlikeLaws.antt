@@ -1,10 +1,10 @@
 -- Ports that are alike answer each call alike.
-use Rattle.dev_serial.proofs.Facade.{◌≡◌, ℕ, ℤ, Bool, true, false, not, ◌&&◌, cond, refl, pos, negsuc, ◌||◌, ◌==◌, Option, Some, None, sym, ap, ◌∙◌, false≢true}
-use Rattle.dev_serial.proofs.Facade.{int_eq, bit_and, bit_or, is_some, nat_le, is_empty, lsr_of, iir_of, read_of, id_read, thr_written, ier_written, switch_of}
+use Rattle.dev_serial.proofs.Facade.{◌≡◌, ℕ, ℤ, Bool, true, false, not, ◌&&◌, cond, refl, pos, negsuc, ◌||◌, ◌==◌, Option, Some, None, sym, ap, ◌∙◌, int_eq}
+use Rattle.dev_serial.proofs.Facade.{bit_and, bit_or, is_some, nat_le, is_empty, lsr_of, iir_of, read_of, id_read, thr_written, ier_written, switch_of}
 use Rattle.dev_serial.proofs.Facade.{fcr_cleared, fcr_written, receiver_cleared, transmitter_cleared, written, came_in, advanced, has, bits_where, ipending_of}
-use Rattle.dev_serial.proofs.Facade.{latch_of, saved, Port, id_number, is_thr_empty, is_data_ready, has_come, interrupt, line_of, Interrupt, LineStatus}
-use Rattle.dev_serial.proofs.Facade.{ReceivedData, CharacterTimeout, ThrEmpty, NonePending, character_time, run_until, AlikeItself, AlikeBack, AlikeOn}
-use Rattle.dev_serial.proofs.Facade.{AnswersAlike, ReadsAlike, WritesAlike, BytesInAlike, AdvancesAlike, SavesAlike, LinesAlike, Alike, Trigger}
+use Rattle.dev_serial.proofs.Facade.{latch_of, saved, Port, id_number, is_thr_empty, interrupt, line_of, Interrupt, LineStatus, ReceivedData, CharacterTimeout}
+use Rattle.dev_serial.proofs.Facade.{ThrEmpty, NonePending, AlikeItself, AlikeBack, AlikeOn, AnswersAlike, ReadsAlike, WritesAlike, BytesInAlike, AdvancesAlike}
+use Rattle.dev_serial.proofs.Facade.{SavesAlike, LinesAlike, Alike, Trigger, run_until, character_time}
 
 -- ---- the line status and the saved latch, as tables of truth
 
@@ -99,7 +99,7 @@ same_ipending false identified first second h = refl
 sampled : (was is empty first second : Bool) → (was ≡ true → second ≡ first) → is ≡ true → cond (not was && is) empty second ≡ cond (not was && is) empty first
 sampled true is empty first second h e = h refl
 sampled false true empty first second h e = refl
-sampled false false empty first second h e = absurd (false≢true e)
+sampled false false empty first second h e = cc
 
 -- the other port is the first with another latch
 module _ (port : Port) (latch : Bool) (h : has port.ier 1 ≡ true → latch ≡ port.thr_empty) where
@@ -111,7 +111,7 @@ module _ (port : Port) (latch : Bool) (h : has port.ier 1 ≡ true → latch ≡
 
   same_interrupt : (now : ℕ) → interrupt now other ≡ interrupt now port
   unfolding interrupt
-  same_interrupt now = same_identified (has port.ier 2 && port.receiver.overrun) (has port.ier 0 && is_data_ready port.fifos port.receiver.held) (has port.ier 0 && (nat_le 3 port.level && has_come now port.receiver.timeout)) (has port.ier 1) port.thr_empty latch h
+  same_interrupt now = same_identified _ _ _ (has port.ier 1) port.thr_empty latch h
 
   same_line : (now : ℕ) → line_of now other ≡ line_of now port
   unfolding line_of
@@ -119,10 +119,8 @@ module _ (port : Port) (latch : Bool) (h : has port.ier 1 ≡ true → latch ≡
 
   id-alike : (now : ℕ) → AnswersAlike (id_read now port) (id_read now other)
   unfolding iir_of
-  id-alike now = rw (same_interrupt now) (record {
-    value = refl;
-    alike = record { same = refl; enabled = λ e. ap (λ (b : Bool). cond (is_thr_empty (interrupt now port)) false b) (h e) };
-  })
+  id-alike now = rw (same_interrupt now)
+      (record { value = refl; alike = record { same = refl; enabled = λ e. ap (λ b. cond (is_thr_empty (interrupt now port)) false b) (h e) } })
 
   same_saved : (set now : ℕ) → saved set now other ≡ saved set now port
   unfolding saved lsr_of
@@ -158,8 +156,8 @@ module _ (port : Port) (latch : Bool) (h : has port.ier 1 ≡ true → latch ≡
       record { same = refl; enabled = sampled (has port.ier 1) (has (bit_and value 0x0f) 1) (is_empty port.transmitter.waiting) port.thr_empty latch h }
 
   cleared-alike : (clears_sent clears_held : Bool) (fifos : Option Trigger) → Alike (record (transmitter_cleared clears_sent (receiver_cleared clears_held port)) { fifos = fifos }) (record (transmitter_cleared clears_sent (receiver_cleared clears_held other)) { fifos = fifos })
-  cleared-alike true true fifos = record { same = refl; enabled = λ e. ap (λ (b : Bool). cond (is_empty port.transmitter.waiting) b true) (h e) }
-  cleared-alike true false fifos = record { same = refl; enabled = λ e. ap (λ (b : Bool). cond (is_empty port.transmitter.waiting) b true) (h e) }
+  cleared-alike true true fifos = record { same = refl; enabled = λ e. ap (λ b. cond (is_empty port.transmitter.waiting) b true) (h e) }
+  cleared-alike true false fifos = record { same = refl; enabled = λ e. ap (λ b. cond (is_empty port.transmitter.waiting) b true) (h e) }
   cleared-alike false true fifos = record { same = refl; enabled = h }
   cleared-alike false false fifos = record { same = refl; enabled = h }
 
@@ -192,10 +190,10 @@ module _ (port : Port) (latch : Bool) (h : has port.ier 1 ≡ true → latch ≡
 
   advance-alike : (to : ℕ) → AnswersAlike (advanced to port) (advanced to other)
   unfolding advanced
-  advance-alike to = record {
-    value = refl;
-    alike = record { same = refl; enabled = λ e. ap (λ (b : Bool). cond (is_empty (run_until (character_time port.divisor port.lcr) to port.transmitter.shift port.transmitter.waiting).waiting && not (is_empty port.transmitter.waiting)) true b) (h e) };
-  }
+  advance-alike to =
+      let left = run_until (character_time port.divisor port.lcr) to port.transmitter.shift port.transmitter.waiting in
+      let emptied = is_empty left.waiting && not (is_empty port.transmitter.waiting) in
+      record { value = refl; alike = record { same = refl; enabled = λ e. ap (λ b. cond emptied true b) (h e) } }
 
 pub reads_alike : ReadsAlike
 reads_alike offset now port other a = rw a.same (read-alike port other.thr_empty a.enabled offset now)

@@ -9,7 +9,7 @@ pub use Rattle.std.proofs.lemmas.Bool.{lt-ltb, ltb-false, ltb-true, ne_eqb, not-
 pub use Rattle.std.proofs.lemmas.Bool.Decides.{nat_tests}
 pub use Rattle.std.proofs.lemmas.Grind.{common_steps}
 pub use Rattle.std.proofs.lemmas.Int.{ints}
-pub use Rattle.std.proofs.lemmas.List.{get_or-append-add, get_or-map, get_or_append_left, get_or_past, length-map, length-set, map-append}
+pub use Rattle.std.proofs.lemmas.List.{get_or-append-add, get_or-map, get_or_append_left, get_or_past, length-map, length-set, map-append, nil_from_length}
 pub use Rattle.std.proofs.lemmas.List.Folds.{list_all_at, list_all_more}
 pub use Rattle.std.proofs.lemmas.List.FromFn.{get_or-map-range_with_len, get_or-range_with_len, length-map-range_with_len}
 pub use Rattle.std.proofs.lemmas.Nat.{and_le_r, le-div}
@@ -39,7 +39,7 @@ pub use Rattle.dev_base.specs.declared.limits.TheConstants.{LAST_MOMENT, NEWEST}
 pub use Rattle.dev_serial.specs.Access.{id_read, is_empty, leaving, lsr_read, receiver_cleared, room_of, switch_of, transmitter_cleared, with_taken}
 unfoldable pub use Rattle.dev_serial.specs.Access.{advanced, came_in, fcr_cleared, fcr_written, ier_written, iir_of, lsr_of, msr_of, read_of, thr_written}
 unfoldable pub use Rattle.dev_serial.specs.Access.{written}
-pub use Rattle.dev_serial.specs.Cells.{AreBytesIn, IsPortCells, array_at, bytes_at, field_kinds, kinds, named, ring_at}
+pub use Rattle.dev_serial.specs.Cells.{AreBytesIn, IsArray, IsPortCells, array_at, bytes_at, field_kinds, kinds, named, ring_at}
 unfoldable pub use Rattle.dev_serial.specs.Cells.{array_cells, carried, cells_of, field_cells, numbers_of, ring_cells}
 pub use Rattle.dev_serial.specs.Fifo.{trigger_of}
 pub use Rattle.dev_serial.specs.Laws.{AdvancesAlike, AdvancesKeepLevel, AdvancesKeepSound, AlikeBack, AlikeItself, AlikeOn, AnswersAlike, AreSaved}

@@ -1,10 +1,10 @@
 -- Each call keeps a port sound.
-use Rattle.dev_serial.proofs.Facade.{◌≡◌, ℕ, ◌+◌, ◌*◌, ◌<◌, ◌≤◌, ◌==◌, Bool, true, false, not, ◌&&◌, cond, Option, Some, None, refl, sym, arith, ◌⊎◌, ◌/◌, ◌%◌}
-use Rattle.dev_serial.proofs.Facade.{inl, inr, false≢true, cond_both, leb-true, nat_le, is_some, bit_and, and_le_r, and-false, is_empty, with_taken, read_of}
-use Rattle.dev_serial.proofs.Facade.{id_read, lsr_read, thr_written, ier_written, switch_of, fcr_cleared, fcr_written, receiver_cleared, transmitter_cleared}
-use Rattle.dev_serial.proofs.Facade.{written, came_in, advanced, has, character_time, received, taken, IsSound, HasRegisters, LONGEST_CHARACTER, either}
-use Rattle.dev_serial.proofs.Facade.{PowerOnIsSound, ReadsKeepSound, WritesKeepSound, BytesInKeepSound, AdvancesKeepSound, Port, power_on, mode_of, interrupt}
-use Rattle.dev_serial.proofs.Facade.{is_thr_empty, Trigger}
+use Rattle.dev_serial.proofs.Facade.{◌≡◌, ℕ, ◌+◌, ◌*◌, ◌<◌, ◌≤◌, ◌==◌, Bool, true, false, not, ◌&&◌, cond, Option, Some, None, refl, arith, ◌⊎◌, ◌/◌, ◌%◌, inl}
+use Rattle.dev_serial.proofs.Facade.{inr, cond_both, leb-true, nat_le, is_some, bit_and, and_le_r, and-false, is_empty, with_taken, read_of, id_read, lsr_read}
+use Rattle.dev_serial.proofs.Facade.{thr_written, ier_written, switch_of, fcr_cleared, fcr_written, receiver_cleared, transmitter_cleared, written, came_in}
+use Rattle.dev_serial.proofs.Facade.{advanced, has, character_time, received, taken, IsSound, HasRegisters, LONGEST_CHARACTER, either, PowerOnIsSound}
+use Rattle.dev_serial.proofs.Facade.{ReadsKeepSound, WritesKeepSound, BytesInKeepSound, AdvancesKeepSound, Port, power_on, mode_of, interrupt, is_thr_empty}
+use Rattle.dev_serial.proofs.Facade.{Trigger}
 use Rattle.dev_serial.proofs.WaitLaws.{character-positive}
 use Rattle.dev_serial.proofs.SoundLaws.{character-longest, received-sound, taken-held, emptied-sound, thr-sound, latched-sound, cleared-sound}
 use Rattle.dev_serial.proofs.SoundLaws.{advance-transmitter, advance-receiver}
@@ -19,7 +19,7 @@ power_on_is_sound level now is_level = record {
     lcr_range = omega arith;
     mcr_range = omega arith;
     scr_range = omega arith;
-    fifos = λ e. absurd (false≢true e);
+    fifos = λ e. cc;
   };
   receiver = record { short = record { short = omega arith; one = λ _. omega arith }; bytes = tt; timeout = and-false (nat_le 3 level) };
   transmitter = record {
@@ -27,8 +27,7 @@ power_on_is_sound level now is_level = record {
     bytes = tt;
     shift = tt;
     idle = λ _. refl;
-    latched = λ e. absurd
-        (false≢true e);
+    latched = λ e. cc;
   };
 }
 
@@ -50,7 +49,7 @@ module _ (now : ℕ) (port : Port) (sound : IsSound now port) where
     };
   } where
     was : (identified latch : Bool) → cond identified false latch ≡ true → latch ≡ true
-    was true latch e = absurd (false≢true e)
+    was true latch e = cc
     was false latch e = e
 
   here : (answer : ℕ) → Kept now (answer, port)
@@ -102,9 +101,9 @@ module _ (now : ℕ) (port : Port) (sound : IsSound now port) where
   unfolding advanced
   advance-kept to l = record {
     registers = sound.registers;
-    receiver = advance-receiver (character_time port.divisor port.lcr) now to port.level (is_some port.fifos) (has port.mcr 4) port.transmitter.shift port.transmitter.waiting port.receiver longest l sound.transmitter.shift sound.transmitter.bytes sound.receiver;
-    transmitter = advance-transmitter (character_time port.divisor port.lcr) now to
-        (is_some port.fifos) port.thr_empty port.transmitter longest l sound.transmitter;
+    receiver = advance-receiver _ now to port.level _ _ port.transmitter.shift port.transmitter.waiting port.receiver longest l
+        sound.transmitter.shift sound.transmitter.bytes sound.receiver;
+    transmitter = advance-transmitter _ now to _ port.thr_empty port.transmitter longest l sound.transmitter;
   }
 
   thr-kept : (byte : ℕ) → byte < 256 → IsSound now (thr_written byte now port)
@@ -169,26 +168,26 @@ module _ (now : ℕ) (port : Port) (sound : IsSound now port) where
   }
   switched true false fifos h s t = record {
     registers = switched-registers fifos h;
-    receiver = rw (t refl) (sound.receiver);
+    receiver = rw (t refl) sound.receiver;
     transmitter = cleared-sound now (is_some port.fifos) (is_some fifos) port.thr_empty _ port.transmitter sound.transmitter;
   }
   switched false true fifos h s t = record {
     registers = switched-registers fifos h;
     receiver = emptied-sound now port.level (is_some fifos) port.receiver;
-    transmitter = rw (s refl) (sound.transmitter);
+    transmitter = rw (s refl) sound.transmitter;
   }
   switched false false fifos h s t = record {
     registers = switched-registers fifos h;
-    receiver = rw (t refl) (sound.receiver);
-    transmitter = rw (s refl) (sound.transmitter);
+    receiver = rw (t refl) sound.receiver;
+    transmitter = rw (s refl) sound.transmitter;
   }
 
   fcr-kept-at : (value : ℕ) (before after : Option Trigger) → 2 ≤ port.level → port.fifos ≡ before
       → IsSound now (record (fcr_cleared before after value port) { fifos = after })
   unfolding fcr_cleared
   fcr-kept-at value None None h e = switched false false None (λ _. h) (λ _. rw e refl) (λ _. rw e refl)
-  fcr-kept-at value None (Some trigger) h e = switched true true (Some trigger) (λ _. h) (λ f. absurd (false≢true (sym f))) (λ f. absurd (false≢true (sym f)))
-  fcr-kept-at value (Some before) None h e = switched true true None (λ _. h) (λ f. absurd (false≢true (sym f))) (λ f. absurd (false≢true (sym f)))
+  fcr-kept-at value None (Some trigger) h e = switched true true (Some trigger) (λ _. h) (λ f. cc) (λ f. cc)
+  fcr-kept-at value (Some before) None h e = switched true true None (λ _. h) (λ f. cc) (λ f. cc)
   fcr-kept-at value (Some before) (Some after) h e = switched (has value 2) (has value 1) (Some after) (λ _. h) (λ _. rw e refl) (λ _. rw e refl)
 
   fcr-kept : (value : ℕ) → 2 ≤ port.level → IsSound now (fcr_written value port)
@@ -198,7 +197,6 @@ module _ (now : ℕ) (port : Port) (sound : IsSound now port) where
   write-kept : (offset value : ℕ) → value < 256 → IsSound now (written offset value now port)
   unfolding written
   write-kept offset value v =
-      let d = sound.registers.divisor_range in
       either (IsSound now) (offset == 0) _ _
       (either (IsSound now) (has port.lcr 7) _ _ (divisor-kept (port.divisor / 256 * 256 + value) (omega arith)) (thr-kept value v))
       (either (IsSound now) (offset == 1) _ _

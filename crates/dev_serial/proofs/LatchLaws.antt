@@ -1,7 +1,7 @@
 -- The divisor latch, and the modem status in loop mode.
-use Rattle.dev_serial.proofs.Facade.{◌≡◌, ℕ, ◌+◌, ◌*◌, ◌/◌, ◌%◌, ◌<◌, ◌==◌, Bool, true, false, if◌then◌else◌, refl, sym, arith, false≢true, nat_le, bit_or, has}
-use Rattle.dev_serial.proofs.Facade.{bits_where, either, msr_of, read_of, thr_written, ier_written, switch_of, fcr_written, written, Port, ReachesDivisor}
-use Rattle.dev_serial.proofs.Facade.{IsLooped, LoopsModem}
+use Rattle.dev_serial.proofs.Facade.{◌≡◌, ℕ, ◌+◌, ◌*◌, ◌/◌, ◌%◌, ◌<◌, ◌==◌, Bool, true, false, if◌then◌else◌, refl, arith, nat_le, bit_or, has, bits_where}
+use Rattle.dev_serial.proofs.Facade.{either, msr_of, read_of, thr_written, ier_written, switch_of, fcr_written, written, Port, ReachesDivisor, IsLooped}
+use Rattle.dev_serial.proofs.Facade.{LoopsModem}
 use Rattle.dev_serial.proofs.RegisterLaws.{switch_stays}
 
 -- ---- the divisor latch
@@ -41,7 +41,7 @@ module _ (port : Port) where
 
   -- a port is what a choice gives where its condition doesn't hold
   chosen : (b : Bool) (first second : Port) → b ≡ false → Keeps second → Keeps (if b then first else second)
-  chosen true first second e k = absurd (false≢true (sym e))
+  chosen true first second e k = cc
   chosen false first second e k = k
 
   hidden : (offset value now : ℕ) → has port.lcr 7 ≡ false → Keeps (written offset value now port)

@@ -12,15 +12,13 @@ use Rattle.dev_serial.proofs.StoredLaws.{counted-back, ring-back, ring_of-holds,
 
 all_three : (x y z : Bool) → x && y && z ≡ true → (y ≡ true) × (z ≡ true)
 all_three true true z e = (refl, e)
-all_three true false z e = cc
-all_three false y z e = cc
+all_three _ _ z e = cc
 
 -- a list in an array, with an empty ring, is stored there
 in_array : (bytes : List ℕ) → length bytes ≤ 16 → stored_bytes (counted_of bytes) (ring_of []) ≡ bytes
 in_array [] short = ring-back [] (omega arith)
 in_array (byte ∷ bytes) short =
-    ap (λ (b : Bool). if b then ring_bytes (ring_of []) else counted_bytes (counted_of (byte ∷ bytes)))
-    (ne_eqb (length (byte ∷ bytes)) 0 (λ e. omega (arith, e)))
+    ap (λ (b : Bool). if b then ring_bytes (ring_of []) else counted_bytes (counted_of (byte ∷ bytes))) (ne_eqb (length (byte ∷ bytes)) 0 (λ e. omega arith))
     ∙ counted-back (byte ∷ bytes) short
 
 module _ (array : Counted) (ring : Ring) where

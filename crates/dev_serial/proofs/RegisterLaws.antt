@@ -1,6 +1,6 @@
 -- The identified interrupt, the effects of the FIFO control register, and the level, which each call keeps.
-use Rattle.dev_serial.proofs.Facade.{◌≡◌, ℕ, ◌<◌, ◌≤◌, Bool, true, false, not, ◌&&◌, cond, Option, Some, None, refl, sym, ap, ◌∙◌, ◌/◌, arith, ◌==◌, false≢true}
-use Rattle.dev_serial.proofs.Facade.{cond_both, is_some, nat_le, is_empty, switch_of, fcr_cleared, fcr_written, receiver_cleared, transmitter_cleared, read_of}
+use Rattle.dev_serial.proofs.Facade.{◌≡◌, ℕ, ◌<◌, ◌≤◌, Bool, true, false, not, ◌&&◌, cond, Option, Some, None, refl, sym, ap, ◌∙◌, ◌/◌, arith, ◌==◌, cond_both}
+use Rattle.dev_serial.proofs.Facade.{is_some, nat_le, is_empty, switch_of, fcr_cleared, fcr_written, receiver_cleared, transmitter_cleared, read_of}
 use Rattle.dev_serial.proofs.Facade.{thr_written, ier_written, written, came_in, advanced, has, trigger_of, Port, asks, interrupt, is_pending, line_of, rank}
 use Rattle.dev_serial.proofs.Facade.{IsFirstAsking, IdentifiesFirst, SomeAsks, LineTellsAsking, HasNoBytes, SwitchClearsBoth, IsResetBy, ResetsByBits, StaysOff}
 use Rattle.dev_serial.proofs.Facade.{IsSwitched, WritesSwitch, Interrupt, LineStatus, ReceivedData, CharacterTimeout, ThrEmpty, NonePending, Trigger, either}
@@ -19,25 +19,20 @@ module _ (now : ℕ) (port : Port) where
   unfolding interrupt
   first =
       cond_both (asks now port LineStatus) _ _ (IsFirstAsking now port)
-      (λ h. record {
-        itself = h;
-        higher = none 0 (omega arith) (λ l. absurd (omega arith)) (λ l. absurd (omega arith)) (λ l. absurd (omega arith))
-            (λ l. absurd (omega arith));
-      }) (λ a.
-      cond_both (asks now port ReceivedData) _ _ (IsFirstAsking now port)
+      (λ h. record { itself = h; higher = λ other l. absurd (omega arith) })
+      (λ a. cond_both (asks now port ReceivedData) _ _ (IsFirstAsking now port)
       (λ h. record { itself = h; higher = none 1 (omega arith) (λ l. a) (λ l. absurd (omega arith)) (λ l. absurd (omega arith)) (λ l. absurd (omega arith)) })
-      (λ b.
-      cond_both (asks now port CharacterTimeout) _ _ (IsFirstAsking now port)
-      (λ h. record { itself = h; higher = none 2 (omega arith) (λ l. a) (λ l. b) (λ l. absurd (omega arith)) (λ l. absurd (omega arith)) }) (λ c.
-      cond_both (asks now port ThrEmpty) _ _ (IsFirstAsking now port)
-      (λ h. record { itself = h; higher = none 3 (omega arith) (λ l. a) (λ l. b) (λ l. c) (λ l. absurd (omega arith)) }) (λ d.
-      record { itself = refl; higher = none 4 (omega arith) (λ l. a) (λ l. b) (λ l. c) (λ l. d) }))))
+      (λ b. cond_both (asks now port CharacterTimeout) _ _ (IsFirstAsking now port)
+      (λ h. record { itself = h; higher = none 2 (omega arith) (λ l. a) (λ l. b) (λ l. absurd (omega arith)) (λ l. absurd (omega arith)) })
+      (λ c. cond_both (asks now port ThrEmpty) _ _ (IsFirstAsking now port)
+      (λ h. record { itself = h; higher = none 3 (omega arith) (λ l. a) (λ l. b) (λ l. c) (λ l. absurd (omega arith)) })
+      (λ d. record { itself = refl; higher = none 4 (omega arith) (λ l. a) (λ l. b) (λ l. c) (λ l. d) }))))
 
   -- an interrupt that is requested is pending unless a higher one hides it
   pending : (identified some : Interrupt) → IsFirstAsking now port identified → is_pending some ≡ true → asks now port some ≡ true
       → is_pending identified ≡ true
   pending NonePending NonePending f p h = p
-  pending NonePending some f p h = absurd (false≢true (sym (f.higher some (omega arith)) ∙ h))
+  pending NonePending some f p h = let l = f.higher some (omega arith) in cc
   pending other some f p h = refl
 
   line : (line_of now port ≡ true → SomeAsks now port) × (SomeAsks now port → line_of now port ≡ true)
@@ -57,10 +52,9 @@ switched_to value = elim (has value 0) as (λ is_on. is_some (cond is_on (Some (
 module _ (value : ℕ) (port : Port) where
   both : (before after : Option Trigger) → is_some after ≡ not (is_some before) → HasNoBytes (record (fcr_cleared before after value port) { fifos = after })
   unfolding fcr_cleared
-  both None None e = absurd (false≢true e)
   both None (Some after) e = record { held = refl; timeout = refl; waiting = refl }
   both (Some before) None e = record { held = refl; timeout = refl; waiting = refl }
-  both (Some before) (Some after) e = absurd (false≢true (sym e))
+  both _ _ e = cc
 
   flags : (second first : Bool) (fifos : Option Trigger) → (second ≡ has value 2) → (first ≡ has value 1)
       → IsResetBy value port (record (transmitter_cleared second (receiver_cleared first port)) { fifos = fifos })
@@ -72,16 +66,14 @@ module _ (value : ℕ) (port : Port) where
   reset : (before after : Option Trigger) → is_some before ≡ true → is_some after ≡ true
       → IsResetBy value port (record (fcr_cleared before after value port) { fifos = after })
   unfolding fcr_cleared
-  reset None after b a = absurd (false≢true b)
-  reset (Some before) None b a = absurd (false≢true a)
   reset (Some before) (Some after) b a = flags (has value 2) (has value 1) (Some after) refl refl
+  reset _ _ b a = cc
 
   off : (before after : Option Trigger) → port.fifos ≡ before → before ≡ None → is_some after ≡ false
       → record (fcr_cleared before after value port) { fifos = after } ≡ port
   unfolding fcr_cleared
-  off None None e b a = ap (λ (fifos : Option Trigger). record port { fifos = fifos }) (sym e)
-  off None (Some after) e b a = absurd (false≢true (sym a))
-  off (Some before) after e b a = cc
+  off None None e b a = ap (λ fifos. record port { fifos = fifos }) (sym e)
+  off _ _ e b a = cc
 
   latch_of : (second empty : Bool)
       → cond second (cond empty port.thr_empty true) port.thr_empty ≡ cond (not empty && cond second true empty) true port.thr_empty
@@ -153,9 +145,8 @@ module _ (port : Port) where
   pub switch_stays : (value : ℕ) (before after : Option Trigger) → Stays (fcr_cleared before after value port)
   unfolding fcr_cleared
   switch_stays value None None = (refl, refl)
-  switch_stays value None (Some after) = cleared true true
-  switch_stays value (Some before) None = cleared true true
   switch_stays value (Some before) (Some after) = cleared (has value 2) (has value 1)
+  switch_stays value _ _ = cleared true true
 
   write : (offset value now : ℕ) → Keeps (written offset value now port)
   unfolding written thr_written ier_written fcr_written

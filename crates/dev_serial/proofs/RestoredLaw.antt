@@ -52,7 +52,7 @@ pub is_on : (fcr : ℕ) → is_some (fifos_of fcr) ≡ not (fcr == 0)
 is_on fcr = switch (fcr == 0) _
 
 on_at : (off has_level bit : Bool) → (off || (has_level && bit)) ≡ true → not off ≡ true → has_level ≡ true
-on_at true has_level bit h n = absurd (false≢true n)
+on_at true has_level bit h n = cc
 on_at false has_level bit h n = (and_parts has_level bit h).0
 
 pub level-on : (level fcr : ℕ) → ((fcr == 0) || (nat_le 2 level && (fcr % 64 == 1))) ≡ true → is_some (fifos_of fcr) ≡ true → 2 ≤ level
@@ -61,7 +61,7 @@ level-on level fcr h n = leb-true 2 level (on_at (fcr == 0) (nat_le 2 level) (fc
 pub short : (off is_held : Bool) (byte : ℕ) (bytes : List ℕ) → length bytes ≤ 16 → IsShort (not off) (cond off (cond is_held (byte ∷ []) []) bytes)
 short true true byte bytes h = record { short = omega arith; one = λ _. omega arith }
 short true false byte bytes h = record { short = omega arith; one = λ _. omega arith }
-short false is_held byte bytes h = record { short = h; one = λ e. absurd (false≢true (sym e)) }
+short false is_held byte bytes h = record { short = h; one = λ e. cc }
 
 pub are_bytes : (off is_held : Bool) (byte : ℕ) (bytes : List ℕ) → byte < 256 → AreBytes bytes → AreBytes (cond off (cond is_held (byte ∷ []) []) bytes)
 are_bytes true true byte bytes b h = (b, tt)
@@ -71,8 +71,7 @@ are_bytes false is_held byte bytes b h = h
 ends : (runs : Bool) (now t : ℕ) → cond runs (not (t == NEVER) && nat_le t (now + longest_timeout)) (t == NEVER) ≡ true → IsTimeout now runs (moment_of t)
 ends true now t h =
     let p = and_parts _ _ h in
-    let e : (t == NEVER) ≡ false = not-true (t == NEVER) p.0 in
-    rw e (record { runs_now = refl; in_time = leb-true _ _ p.1 })
+    rw (not-true (t == NEVER) p.0) (record { runs_now = refl; in_time = leb-true _ _ p.1 })
 ends false now t h = rw h
 
 runs_at : (has_timeout off is_held : Bool) (byte : ℕ) (bytes : List ℕ)
@@ -90,22 +89,16 @@ module _ (now tsr due : ℕ) (empty : Bool) where
   shift false h b =
       let p = and_parts _ _ h in
       let q = and_parts _ _ p.1 in
-      let e : (due == NEVER) ≡ false = not-true (due == NEVER) p.0 in
-      rw e (record { byte = b; later = ltb-true _ _ q.0; in_time = leb-true _ _ q.1 })
+      rw (not-true (due == NEVER) p.0) (record { byte = b; later = ltb-true _ _ q.0; in_time = leb-true _ _ q.1 })
 
   pub idle-empty : (idle : Bool) → (same idle (due == NEVER) && cond idle (empty && (tsr == 0)) (nat_lt now due && nat_le due (now + LONGEST_CHARACTER))) ≡ true → is_some (shift_of tsr due) ≡ false → empty ≡ true
   idle-empty true h n = (and_parts _ _ (and_parts _ _ h).1).0
-  idle-empty false h n =
-      let e : (due == NEVER) ≡ false = not-true (due == NEVER) (and_parts _ _ h).0 in
-      absurd (false≢true (sym (rw e at n)))
-
-same-true : (b : Bool) → same true b ≡ true → b ≡ true
-same-true b h = h
+  idle-empty false h n = absurd (false≢true (sym (rw (not-true (due == NEVER) (and_parts _ _ h).0) at n)))
 
 pub waiting-empty : (off ready empty unused : Bool) (byte : ℕ) (first second some : Bool) (tx : List ℕ) → is_empty tx ≡ unused → cond off (first && second) (same ready some && same empty unused) ≡ true → empty ≡ true → is_empty (cond off (cond (not empty) (byte ∷ []) []) tx) ≡ true
 waiting-empty true ready empty unused byte first second some tx u h e = rw e refl
 waiting-empty false ready empty unused byte first second some tx u h e =
-    u ∙ (let p : same empty unused ≡ true = (and_parts _ _ h).1 in same-true unused (rw e at p))
+    u ∙ (let p : same empty unused ≡ true = (and_parts _ _ h).1 in rw e at p)
 
 -- ---- the whole port
 
@@ -122,20 +115,19 @@ record HasRanges (n : PortNumbers) : Type 0 where
 
 implied : (a b : Bool) → (not a || b) ≡ true → a ≡ true → b ≡ true
 implied true b h e = h
-implied false b h e = absurd (false≢true e)
+implied false b h e = cc
 
 module _ (level now : ℕ) (n : PortNumbers) (is_level : IsLevel level) (ranges : HasRanges n) (rules : Hold level now n) where
   registers : HasRegisters level n.divisor n.ier n.lcr n.mcr n.scr (is_some (fifos_of n.fcr))
   unfolding registers_hold fcr_holds
   registers =
       let low = and_parts _ _ rules.registers in
-      let high = and_parts _ _ low.1 in
       record {
         is_level = is_level;
         divisor_range = ranges.divisor;
         ier_range = leb-true _ _ low.0;
         lcr_range = ranges.lcr;
-        mcr_range = leb-true _ _ high.0;
+        mcr_range = leb-true _ _ (and_parts _ _ low.1).0;
         scr_range = ranges.scr;
         fifos = level-on level n.fcr rules.fcr;
       }
@@ -149,14 +141,19 @@ module _ (level now : ℕ) (n : PortNumbers) (is_level : IsLevel level) (ranges 
         (stored-empty n.rx n.rx_ring) rules.timeouts;
   })
 
+  none_waits : has n.lsr 5 ≡ true → is_empty (port_of level n).transmitter.waiting ≡ true
+  unfolding port_of status_holds
+  none_waits = waiting-empty (n.fcr == 0) (has n.lsr 0) (has n.lsr 5) (is_unused n.tx n.tx_ring) n.thr (has n.lsr 0 || (n.rbr == 0))
+      (not (has n.lsr 5) || (n.thr == 0)) (not (is_unused n.rx n.rx_ring)) (stored_bytes n.tx n.tx_ring) (stored-empty n.tx n.tx_ring) rules.status
+
   transmitter : IsTransmitter now (is_some (fifos_of n.fcr)) (port_of level n).transmitter (port_of level n).thr_empty
-  unfolding port_of shift_holds status_holds latch_holds
+  unfolding port_of shift_holds latch_holds
   transmitter = rw (is_on n.fcr) (record {
     short = short (n.fcr == 0) (not (has n.lsr 5)) n.thr (stored_bytes n.tx n.tx_ring) (stored-short n.tx n.tx_ring);
     bytes = are_bytes (n.fcr == 0) (not (has n.lsr 5)) n.thr (stored_bytes n.tx n.tx_ring) ranges.thr ranges.tx;
     shift = shift now n.tsr n.tx_due (has n.lsr 5) (has n.lsr 6) rules.shifts ranges.tsr;
-    idle = λ e. waiting-empty (n.fcr == 0) (has n.lsr 0) (has n.lsr 5) (is_unused n.tx n.tx_ring) n.thr (has n.lsr 0 || (n.rbr == 0)) (not (has n.lsr 5) || (n.thr == 0)) (not (is_unused n.rx n.rx_ring)) (stored_bytes n.tx n.tx_ring) (stored-empty n.tx n.tx_ring) rules.status (idle-empty now n.tsr n.tx_due (has n.lsr 5) (has n.lsr 6) rules.shifts e);
-    latched = λ e. waiting-empty (n.fcr == 0) (has n.lsr 0) (has n.lsr 5) (is_unused n.tx n.tx_ring) n.thr (has n.lsr 0 || (n.rbr == 0)) (not (has n.lsr 5) || (n.thr == 0)) (not (is_unused n.rx n.rx_ring)) (stored_bytes n.tx n.tx_ring) (stored-empty n.tx n.tx_ring) rules.status (implied _ _ (and_parts _ _ rules.latch).1 e);
+    idle = λ e. none_waits (idle-empty now n.tsr n.tx_due (has n.lsr 5) (has n.lsr 6) rules.shifts e);
+    latched = λ e. none_waits (implied _ _ (and_parts _ _ rules.latch).1 e);
   })
 
   sound : IsSound now (port_of level n)

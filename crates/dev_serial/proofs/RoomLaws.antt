@@ -16,23 +16,25 @@ one_held now byte port h = record {
   room = grind (arith, common_steps);
 }
 
-all_held : (now : ℕ) (bytes : List ℕ) (port : Port) → length bytes ≤ room_of port
-    → (all_came now bytes port).receiver.held ≡ port.receiver.held ++ bytes
-all_held now [] port h = sym (append-nil port.receiver.held)
+-- the port after all bytes came
+record AreHeld (bytes : List ℕ) (port after : Port) : Type 0 where
+  held : after.receiver.held ≡ port.receiver.held ++ bytes
+  overrun : after.receiver.overrun ≡ port.receiver.overrun
+
+all_held : (now : ℕ) (bytes : List ℕ) (port : Port) → length bytes ≤ room_of port → AreHeld bytes port (all_came now bytes port)
+all_held now [] port h = record { held = sym (append-nil port.receiver.held); overrun = refl }
 all_held now (byte ∷ bytes) port h =
     let one = one_held now byte port (omega arith) in
-    all_held now bytes (came_in byte now port) (omega arith) ∙ rw (one.held, append_assoc)
-
-none_lost : (now : ℕ) (bytes : List ℕ) (port : Port) → length bytes ≤ room_of port
-    → (all_came now bytes port).receiver.overrun ≡ port.receiver.overrun
-none_lost now [] port h = refl
-none_lost now (byte ∷ bytes) port h =
-    let one = one_held now byte port (omega arith) in
-    none_lost now bytes (came_in byte now port) (omega arith) ∙ one.overrun
+    let rest = all_held now bytes (came_in byte now port) (omega arith) in
+    record { held = rest.held ∙ rw (one.held, append_assoc); overrun = rest.overrun ∙ one.overrun }
 
 one_lost : (now byte : ℕ) (port : Port) → has port.mcr 4 ≡ false → room_of port ≡ 0 → (came_in byte now port).receiver.overrun ≡ true
 unfolding came_in received
 one_lost now byte port clear none = grind (arith, common_steps)
 
 pub room_is_held : RoomIsHeld
-room_is_held = record { held = all_held; overrun = none_lost; lost = one_lost }
+room_is_held = record {
+  held = λ now bytes port h. (all_held now bytes port h).held;
+  overrun = λ now bytes port h. (all_held now bytes port h).overrun;
+  lost = one_lost;
+}

@@ -1,13 +1,14 @@
 -- The saved cells are cells of their set.
 use Rattle.dev_serial.proofs.Facade.{◌≡◌, ℕ, zero, suc, ◌+◌, ◌<◌, ◌≤◌, ◌^◌, Bool, true, false, cond, List, ◌∷◌, ◌++◌, map, replicate, ℤ, pos, refl, ap, ◌∙◌, []}
-use Rattle.dev_serial.proofs.Facade.{arith, append_assoc, length, take, drop, Option, Some, None, sym, subst, ⊎_elim, range_with_len, nat_le, is_some, cases_lt}
-use Rattle.dev_serial.proofs.Facade.{ints, get_or-append-add, get_or_append_left, get_or-map, get_or_past, and_le_r, serial_rows, InRange, U8, I8, of_none}
-use Rattle.dev_serial.proofs.Facade.{of_more, byte, word, timer, AllHold, one_holds, of_rows, AreOf, firsts, cell_at, since, named, field_cells, array_cells}
-use Rattle.dev_serial.proofs.Facade.{ring_cells, cells_of, kinds, IsPortCells, FIFOS_SINCE, TIMEOUT_SINCE, RINGS_SINCE, PortNumbers, Counted, Ring, NEWEST}
-use Rattle.dev_serial.proofs.Facade.{LAST_MOMENT, lsr_of, has, AreSaved, SavedAreCells, IsShort, Port, interrupt, id_number, is_thr_empty, saved, ipending_of}
-use Rattle.dev_serial.proofs.Facade.{single_byte, fifo_bytes, in_array, in_ring, fcr_number, shift_number, due_number, moment_number, IsSound, AreBytes}
-use Rattle.dev_serial.proofs.Facade.{IsShift, IsTimeout, byte_of, padded, counted_of, ring_of, Interrupt, LineStatus, ReceivedData, CharacterTimeout, ThrEmpty}
-use Rattle.dev_serial.proofs.Facade.{NonePending, Shift, Trigger, One, Four, Eight, Fourteen, RX, TX_COUNT, TX, TIMEOUT_AT}
+use Rattle.dev_serial.proofs.Facade.{arith, append_assoc, length, take, drop, Option, Some, None, ⊎_elim, range_with_len, nat_le, is_some, cases_lt, ints}
+use Rattle.dev_serial.proofs.Facade.{get_or-append-add, get_or_append_left, get_or-map, get_or_past, and_le_r, nil_from_length, serial_rows, InRange, U8, I8}
+use Rattle.dev_serial.proofs.Facade.{of_none, of_more, byte, word, timer, AllHold, one_holds, of_rows, AreOf, firsts, cell_at, since, named, field_cells}
+use Rattle.dev_serial.proofs.Facade.{array_cells, ring_cells, cells_of, kinds, IsPortCells, FIFOS_SINCE, TIMEOUT_SINCE, RINGS_SINCE, PortNumbers, Counted, Ring}
+use Rattle.dev_serial.proofs.Facade.{NEWEST, LAST_MOMENT, lsr_of, has, AreSaved, SavedAreCells, IsShort, Port, interrupt, id_number, is_thr_empty, saved}
+use Rattle.dev_serial.proofs.Facade.{ipending_of, single_byte, fifo_bytes, in_array, in_ring, fcr_number, shift_number, due_number, moment_number, IsSound}
+use Rattle.dev_serial.proofs.Facade.{AreBytes, IsShift, IsTimeout, byte_of, padded, counted_of, ring_of, Interrupt, LineStatus, ReceivedData, CharacterTimeout}
+use Rattle.dev_serial.proofs.Facade.{ThrEmpty, NonePending, Shift, Trigger, One, Four, Eight, Fourteen, RX, TX_COUNT, TX, TIMEOUT_AT, number_at, RX_COUNT}
+use Rattle.dev_serial.proofs.Facade.{IsArray}
 use Rattle.dev_serial.proofs.SavedLaw.{array-short, ring-short}
 use Rattle.dev_serial.proofs.StoredLaws.{byte_of-lt, byte_of-padded}
 use Rattle.dev_serial.proofs.AlikeLaws.{lsr-status}
@@ -25,7 +26,7 @@ run f a (suc n) h =
     (run f (a + 1) n (λ i l m. h i (omega arith) (omega arith)))
 
 pub are_sixteen : (f : ℕ → ℕ) → ((i : ℕ) → i < 16 → f i < 256) → AreSixteen (firsts 16 f)
-are_sixteen f h = run f 0 16 (λ i l m. h i (omega (arith, m)))
+are_sixteen f h = run f 0 16 (λ i l m. h i (omega arith))
 
 pub record IsArrayOf (array : Counted) : Type 0 where
   pub count : array.count < 256
@@ -130,10 +131,7 @@ parts_are set n =
 -- the numbers of a sound port are in their kinds' ranges
 id-range : (interrupt : Interrupt) → id_number interrupt < 256
 id-range LineStatus = omega arith
-id-range ReceivedData = omega arith
-id-range CharacterTimeout = omega arith
-id-range ThrEmpty = omega arith
-id-range NonePending = omega arith
+id-range _ = omega arith
 
 single-range : (fifos : Option Trigger) (bytes : List ℕ) → AreBytes bytes → single_byte fifos bytes < 256
 single-range None [] b = omega arith
@@ -150,11 +148,11 @@ shift-range now (Some shift) s = s.byte
 
 due-range : (now : ℕ) (shift : Option Shift) → now ≤ LAST_MOMENT → IsShift now shift → due_number shift < 18446744073709551616
 due-range now None h s = omega arith
-due-range now (Some shift) h s = let l = s.in_time in omega arith
+due-range now (Some shift) h s = omega arith
 
 moment-range : (now : ℕ) (runs : Bool) (timeout : Option ℕ) → now ≤ LAST_MOMENT → IsTimeout now runs timeout → moment_number timeout < 18446744073709551616
 moment-range now runs None h t = omega arith
-moment-range now runs (Some timeout) h t = let l = t.in_time in omega arith
+moment-range now runs (Some timeout) h t = omega arith
 
 fcr-range : (fifos : Option Trigger) → fcr_number fifos < 256
 fcr-range None = omega arith
@@ -164,10 +162,8 @@ fcr-range (Some Eight) = omega arith
 fcr-range (Some Fourteen) = omega arith
 
 ipending-range : (enabled latch identified : Bool) → InRange I8 (ipending_of enabled latch identified)
-ipending-range true true true = (omega (arith, ints), omega (arith, ints))
-ipending-range true true false = (omega (arith, ints), omega (arith, ints))
-ipending-range true false identified = (omega (arith, ints), omega (arith, ints))
-ipending-range false latch identified = (omega (arith, ints), omega (arith, ints))
+ipending-range true true true = (omega arith, omega arith)
+ipending-range _ _ _ = (omega arith, omega arith)
 
 lsr-range : (now : ℕ) (port : Port) → now ≤ LAST_MOMENT → IsSound now port → lsr_of port < 256
 lsr-range now port h s = let m = (lsr-status port).mask in omega (arith, and_le_r (lsr_of port) 0x63)
@@ -201,10 +197,10 @@ module _ (set now : ℕ) (port : Port) (early : now ≤ LAST_MOMENT) (sound : Is
       let r = sound.registers in
       record {
         divisor = r.divisor_range;
-        ier = (let h = r.ier_range in omega arith);
+        ier = (omega arith);
         iir = id-range (interrupt now port);
         lcr = r.lcr_range;
-        mcr = (let h = r.mcr_range in omega arith);
+        mcr = (omega arith);
         lsr = lsr-range now port early sound;
         scr = r.scr_range;
         rbr = single-range port.fifos port.receiver.held sound.receiver.bytes;
@@ -221,11 +217,11 @@ module _ (set now : ℕ) (port : Port) (early : now ≤ LAST_MOMENT) (sound : Is
       }
 
 -- a number from 1 to 4 is one of these
-each_set : (P : ℕ → Type 0) (set : ℕ) → 1 ≤ set → set ≤ NEWEST → (set ≡ 1 → P 1) → (set ≡ 2 → P 2) → (set ≡ 3 → P 3) → (set ≡ 4 → P 4) → P set
+each_set : (P : ℕ → Type 0) (set : ℕ) → 1 ≤ set → set ≤ NEWEST → P 1 → P 2 → P 3 → P 4 → P set
 each_set P set low high a b c d =
-    ⊎_elim (λ below. let e : set ≡ 1 = omega arith in subst P (sym e) (a e)) (λ from2.
-    ⊎_elim (λ below. let e : set ≡ 2 = omega arith in subst P (sym e) (b e)) (λ from3.
-    ⊎_elim (λ below. let e : set ≡ 3 = omega arith in subst P (sym e) (c e)) (λ from4. let e : set ≡ 4 = omega arith in subst P (sym e) (d e))
+    ⊎_elim (λ below. let e : set ≡ 1 = omega arith in rw e a) (λ from2.
+    ⊎_elim (λ below. let e : set ≡ 2 = omega arith in rw e b) (λ from3.
+    ⊎_elim (λ below. let e : set ≡ 3 = omega arith in rw e c) (λ from4. let e : set ≡ 4 = omega arith in rw e d)
     (cases_lt set 4)) (cases_lt set 3)) (cases_lt set 2)
 
 -- a counted array by its index: the elements after the count are 0 from the count on
@@ -237,18 +233,19 @@ zero-from front back bytes i low high =
     ∙ get_or-map pos (padded bytes) i 0 (pos 0) high
     ∙ ap pos (byte_of-padded bytes i high ∙ get_or_past bytes i 0 low)
 
+-- The bytes and their count, as the cells have them.
+array_in : (cells front back : List ℤ) (bytes : List ℕ) (place : ℕ) → cells ≡ front ++ (map pos (padded bytes) ++ back) → place + 1 ≡ length front
+    → number_at cells place ≡ length bytes → length bytes ≤ 16 → IsArray cells place
+array_in cells front back bytes place e l n s = record { fits = rw n s; zeros = λ i low high. rw (e, l) (zero-from front back bytes i (rw n at low) high) }
+
 -- no bytes
 no-arrays : (first second : List ℕ) → length first ≡ 0 → length second ≡ 0
     → (pos (length first) ∷ map pos (padded first)) ++ (pos (length second) ∷ map pos (padded second)) ≡ replicate 34 (pos 0)
-no-arrays [] [] a b = refl
-no-arrays [] (x ∷ second) a b = absurd (omega arith)
-no-arrays (x ∷ first) second a b = absurd (omega arith)
+no-arrays first second a b = rw (nil_from_length first a, nil_from_length second b) refl
 
 no-rings : (first second : List ℕ) → length first ≡ 0 → length second ≡ 0
     → map pos (padded first) ++ pos 0 ∷ pos (length first) ∷ [] ++ (map pos (padded second) ++ pos 0 ∷ pos (length second) ∷ []) ≡ replicate 36 (pos 0)
-no-rings [] [] a b = refl
-no-rings [] (x ∷ second) a b = absurd (omega arith)
-no-rings (x ∷ first) second a b = absurd (omega arith)
+no-rings first second a b = rw (nil_from_length first a, nil_from_length second b) refl
 
 module _ (now : ℕ) (port : Port) (early : now ≤ LAST_MOMENT) (sound : IsSound now port) where
   abbrev first : ℕ → List ℕ
@@ -260,6 +257,15 @@ module _ (now : ℕ) (port : Port) (early : now ≤ LAST_MOMENT) (sound : IsSoun
   abbrev cells : ℕ → List ℤ
   cells set = cells_of set (saved set now port)
 
+  -- the two arrays of cells that hold a set's bytes
+  rx-in : (set : ℕ) (all : List ℤ) → all ≡ take RX all ++ (map pos (padded (first set)) ++ drop TX_COUNT all) → RX ≡ length (take RX all)
+      → number_at all RX_COUNT ≡ length (first set) → IsArray all RX_COUNT
+  rx-in set all e l n = array_in all _ _ (first set) RX_COUNT e l n (array-short set port.fifos port.receiver.held sound.receiver.short)
+
+  tx-in : (set : ℕ) (all : List ℤ) → all ≡ take TX all ++ (map pos (padded (second set)) ++ drop TIMEOUT_AT all) → TX ≡ length (take TX all)
+      → number_at all TX_COUNT ≡ length (second set) → IsArray all TX_COUNT
+  tx-in set all e l n = array_in all _ _ (second set) TX_COUNT e l n (array-short set port.fifos port.transmitter.waiting sound.transmitter.short)
+
   saved-1 : AreSaved 1 (cells 1)
   saved-1 = record { of_kinds = of_kinds 1 _ (in-ranges 1 now port early sound); rx = λ h. absurd (omega arith); tx = λ h. absurd (omega arith); no_fifo = λ h. absurd (omega arith); no_ring = λ h. absurd (omega arith) }
 
@@ -267,17 +273,9 @@ module _ (now : ℕ) (port : Port) (early : now ≤ LAST_MOMENT) (sound : IsSoun
   unfolding cells_of saved
   saved-2 = record {
     of_kinds = of_kinds 2 _ (in-ranges 2 now port early sound);
-    rx = λ h. record {
-      fits = array-short 2 port.fifos port.receiver.held sound.receiver.short;
-      zeros = zero-from (take RX (cells 2))
-          (drop TX_COUNT (cells 2)) (first 2);
-    };
-    tx = λ h. record {
-      fits = array-short 2 port.fifos port.transmitter.waiting sound.transmitter.short;
-      zeros = zero-from (take TX (cells 2))
-          (drop TIMEOUT_AT (cells 2)) (second 2);
-    };
-    no_fifo = λ h a b. no-arrays (first 2) (second 2) a b;
+    rx = λ h. rx-in 2 (cells 2) refl refl refl;
+    tx = λ h. tx-in 2 (cells 2) refl refl refl;
+    no_fifo = λ h. no-arrays (first 2) (second 2);
     no_ring = λ h. absurd (omega arith);
   }
 
@@ -285,17 +283,9 @@ module _ (now : ℕ) (port : Port) (early : now ≤ LAST_MOMENT) (sound : IsSoun
   unfolding cells_of saved
   saved-3 = record {
     of_kinds = of_kinds 3 _ (in-ranges 3 now port early sound);
-    rx = λ h. record {
-      fits = array-short 3 port.fifos port.receiver.held sound.receiver.short;
-      zeros = zero-from (take RX (cells 3))
-          (drop TX_COUNT (cells 3)) (first 3);
-    };
-    tx = λ h. record {
-      fits = array-short 3 port.fifos port.transmitter.waiting sound.transmitter.short;
-      zeros = zero-from (take TX (cells 3))
-          (drop TIMEOUT_AT (cells 3)) (second 3);
-    };
-    no_fifo = λ h a b. no-arrays (first 3) (second 3) a b;
+    rx = λ h. rx-in 3 (cells 3) refl refl refl;
+    tx = λ h. tx-in 3 (cells 3) refl refl refl;
+    no_fifo = λ h. no-arrays (first 3) (second 3);
     no_ring = λ h. absurd (omega arith);
   }
 
@@ -303,18 +293,10 @@ module _ (now : ℕ) (port : Port) (early : now ≤ LAST_MOMENT) (sound : IsSoun
   unfolding cells_of saved
   saved-4 = record {
     of_kinds = of_kinds 4 _ (in-ranges 4 now port early sound);
-    rx = λ h. record {
-      fits = array-short 4 port.fifos port.receiver.held sound.receiver.short;
-      zeros = zero-from (take RX (cells 4))
-          (drop TX_COUNT (cells 4)) (first 4);
-    };
-    tx = λ h. record {
-      fits = array-short 4 port.fifos port.transmitter.waiting sound.transmitter.short;
-      zeros = zero-from (take TX (cells 4))
-          (drop TIMEOUT_AT (cells 4)) (second 4);
-    };
-    no_fifo = λ h a b. no-arrays (first 4) (second 4) a b;
-    no_ring = λ h a b. no-rings (in_ring 4 port.fifos port.receiver.held) (in_ring 4 port.fifos port.transmitter.waiting) a b;
+    rx = λ h. rx-in 4 (cells 4) refl refl refl;
+    tx = λ h. tx-in 4 (cells 4) refl refl refl;
+    no_fifo = λ h. no-arrays (first 4) (second 4);
+    no_ring = λ h. no-rings (in_ring 4 port.fifos port.receiver.held) (in_ring 4 port.fifos port.transmitter.waiting);
   }
 
   -- the saved numbers, as the newest set's cells
@@ -322,26 +304,10 @@ module _ (now : ℕ) (port : Port) (early : now ≤ LAST_MOMENT) (sound : IsSoun
   unfolding cells_of saved
   newest-cells set =
       let all = cells_of 4 (saved set now port) in
-      record {
-        of_kinds = of_kinds 4 _ (in-ranges set now port early sound);
-        rx = record {
-          fits = array-short set port.fifos port.receiver.held sound.receiver.short;
-          zeros = zero-from (take RX all) (drop TX_COUNT all)
-              (first set);
-        };
-        tx = record {
-          fits = array-short set port.fifos port.transmitter.waiting sound.transmitter.short;
-          zeros = zero-from (take TX all)
-              (drop TIMEOUT_AT all) (second set);
-        };
-      }
+      record { of_kinds = of_kinds 4 _ (in-ranges set now port early sound); rx = rx-in set all refl refl refl; tx = tx-in set all refl refl refl }
 
   pub are-saved : (set : ℕ) → 1 ≤ set → set ≤ NEWEST → AreSaved set (cells set)
-  are-saved set low high = each_set (λ n. AreSaved n (cells n)) set low high (λ e. saved-1) (λ e. saved-2) (λ e. saved-3) (λ e. saved-4)
+  are-saved set low high = each_set (λ n. AreSaved n (cells n)) set low high saved-1 saved-2 saved-3 saved-4
 
 pub saved_are_cells : SavedAreCells
-saved_are_cells numbers port can sound =
-    let first = sound.registers.is_level.first in
-    let own = can.own_level in
-    let low = can.level_le_set in
-    are-saved numbers.moment port can.moment sound numbers.set (omega arith) can.set_le_newest
+saved_are_cells numbers port can sound = are-saved numbers.moment port can.moment sound numbers.set (omega arith) can.set_le_newest

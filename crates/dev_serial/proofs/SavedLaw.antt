@@ -1,12 +1,12 @@
 -- The saved numbers of a sound port meet every rule, and are restored as a port like it.
 use Rattle.dev_serial.proofs.Facade.{◌≡◌, ℕ, ◌+◌, ◌%◌, ◌≤◌, ◌==◌, Bool, true, false, not, ◌&&◌, ◌||◌, cond, List, [], ◌∷◌, length, Option, Some, None, refl}
-use Rattle.dev_serial.proofs.Facade.{arith, Ok, sym, ap, ◌∙◌, and-true, or-true, le-leb, lt-ltb, ne_eqb, and_from, or_right, eq-eqb, nat_le, nat_lt, is_some}
-use Rattle.dev_serial.proofs.Facade.{is_empty, lsr_of, LAST_MOMENT, moment_number, due_number, shift_number, single_byte, fifo_bytes, in_array, in_ring}
-use Rattle.dev_serial.proofs.Facade.{fcr_number, moment_of, shift_of, fifos_of, stored_bytes, bytes_held, saved, port_of, IsShort, same, has, is_unused}
-use Rattle.dev_serial.proofs.Facade.{is_stored_once, longest_timeout, registers_hold, fcr_holds, unused_hold, status_holds, shift_holds, timeout_holds}
-use Rattle.dev_serial.proofs.Facade.{latch_holds, id_holds, once_holds, rings_hold, rules, restored, IsShift, IsTimeout, IsSound, Alike, counted_of, ring_of}
-use Rattle.dev_serial.proofs.Facade.{Shift, Trigger, One, Four, Eight, Fourteen, LONGEST_CHARACTER, NEVER, AllTrue, judged-all, Port, is_data_ready, has_come}
-use Rattle.dev_serial.proofs.Facade.{interrupt, id_number}
+use Rattle.dev_serial.proofs.Facade.{arith, Ok, sym, ap, ◌∙◌, and-true, and-false, or-true, le-leb, lt-ltb, ne_eqb, and_from, or_right, eq-eqb, nat_le, nat_lt}
+use Rattle.dev_serial.proofs.Facade.{is_some, is_empty, lsr_of, LAST_MOMENT, moment_number, due_number, shift_number, single_byte, fifo_bytes, in_array}
+use Rattle.dev_serial.proofs.Facade.{in_ring, fcr_number, moment_of, shift_of, fifos_of, stored_bytes, bytes_held, saved, port_of, IsShort, same, has}
+use Rattle.dev_serial.proofs.Facade.{is_unused, is_stored_once, longest_timeout, registers_hold, fcr_holds, unused_hold, status_holds, shift_holds}
+use Rattle.dev_serial.proofs.Facade.{timeout_holds, latch_holds, id_holds, once_holds, rings_hold, rules, restored, IsShift, IsTimeout, IsSound, Alike}
+use Rattle.dev_serial.proofs.Facade.{counted_of, ring_of, Shift, Trigger, One, Four, Eight, Fourteen, LONGEST_CHARACTER, NEVER, AllTrue, judged-all, Port}
+use Rattle.dev_serial.proofs.Facade.{is_data_ready, has_come, interrupt, id_number}
 use Rattle.dev_serial.proofs.SoundLaws.{not_empty}
 use Rattle.dev_serial.proofs.StoredLaws.{counted-back, ring-back, ring_of-holds}
 use Rattle.dev_serial.proofs.AlikeLaws.{IsStatus, lsr-status, latch_back, IsLatchBack, latch_comes_back}
@@ -16,15 +16,11 @@ use Rattle.dev_serial.proofs.AlikeLaws.{IsStatus, lsr-status, latch_back, IsLatc
 -- FIFOs that are on have a number of their own
 pub on : (trigger : Trigger) → (fcr_number (Some trigger) == 0) ≡ false
 on One = refl
-on Four = refl
-on Eight = refl
-on Fourteen = refl
+on _ = refl
 
 on_bit : (trigger : Trigger) → (fcr_number (Some trigger) % 64 == 1) ≡ true
 on_bit One = refl
-on_bit Four = refl
-on_bit Eight = refl
-on_bit Fourteen = refl
+on_bit _ = refl
 
 pub fifos-back : (fifos : Option Trigger) → fifos_of (fcr_number fifos) ≡ fifos
 fifos-back None = refl
@@ -45,16 +41,14 @@ unused-saved (Some trigger) held waiting = rw (on trigger)
 -- the bytes held, if the line status says whether there are any
 pub bytes-back : (fifos : Option Trigger) (bytes : List ℕ) (is_held : Bool) → IsShort (is_some fifos) bytes → is_held ≡ not (is_empty bytes)
     → bytes_held (fcr_number fifos) is_held (single_byte fifos bytes) (fifo_bytes fifos bytes) ≡ bytes
-bytes-back None [] is_held s e = rw e
-bytes-back None (x ∷ []) is_held s e = rw e
 bytes-back None (x ∷ (y ∷ bytes)) is_held s e = let h = s.one refl in absurd (omega arith)
 bytes-back (Some trigger) bytes is_held s e = rw (on trigger)
+bytes-back None _ is_held s e = rw e
 
 single-none : (fifos : Option Trigger) (bytes : List ℕ) → (not (is_empty bytes) || (single_byte fifos bytes == 0)) ≡ true
 single-none None [] = refl
-single-none None (x ∷ bytes) = rw (not_empty x bytes)
 single-none (Some trigger) [] = refl
-single-none (Some trigger) (x ∷ bytes) = rw (not_empty x bytes)
+single-none _ (x ∷ bytes) = rw (not_empty x bytes)
 
 same-self : (b : Bool) → same b b ≡ true
 same-self true = refl
@@ -68,28 +62,25 @@ status-saved (Some trigger) held waiting ready empty r e = rw (on trigger, r, e)
 
 pub moment-back : (now : ℕ) (runs : Bool) (timeout : Option ℕ) → now ≤ LAST_MOMENT → IsTimeout now runs timeout → moment_of (moment_number timeout) ≡ timeout
 moment-back now runs None h t = refl
-moment-back now runs (Some moment) h t = rw (ne_eqb moment NEVER (λ e. let b = t.in_time in omega arith))
+moment-back now runs (Some moment) h t = rw (ne_eqb moment NEVER (λ e. omega arith))
 
 pub shift-back : (now : ℕ) (shift : Option Shift) → now ≤ LAST_MOMENT → IsShift now shift → shift_of (shift_number shift) (due_number shift) ≡ shift
 shift-back now None h s = refl
-shift-back now (Some shift) h s = rw (ne_eqb shift.due NEVER (λ e. let b = s.in_time in omega arith))
+shift-back now (Some shift) h s = rw (ne_eqb shift.due NEVER (λ e. omega arith))
 
 pub shift-saved : (now : ℕ) (shift : Option Shift) (idle empty : Bool) → now ≤ LAST_MOMENT → IsShift now shift → (is_some shift ≡ false → empty ≡ true)
     → idle ≡ (empty && not (is_some shift))
     → (same idle (due_number shift == NEVER) && cond idle (empty && (shift_number shift == 0))
     (nat_lt now (due_number shift) && nat_le (due_number shift) (now + LONGEST_CHARACTER))) ≡ true
 shift-saved now None idle empty h s i e = rw (e, i refl)
-shift-saved now (Some shift) idle true h s i e =
-    rw (e, ne_eqb shift.due NEVER (λ e. let b = s.in_time in omega arith)) (and_from _ _ (lt-ltb now shift.due s.later) (le-leb shift.due _ s.in_time))
-shift-saved now (Some shift) idle false h s i e =
-    rw (e, ne_eqb shift.due NEVER (λ e. let b = s.in_time in omega arith)) (and_from _ _ (lt-ltb now shift.due s.later) (le-leb shift.due _ s.in_time))
+shift-saved now (Some shift) idle empty h s i e = rw (e, and-false empty, ne_eqb shift.due NEVER (λ e. omega arith))
+    (and_from _ _ (lt-ltb now shift.due s.later) (le-leb shift.due _ s.in_time))
 
 -- a timeout that runs exactly when it may
 timeout_at : (now : ℕ) (runs : Bool) (timeout : Option ℕ) → now ≤ LAST_MOMENT → IsTimeout now runs timeout
     → cond runs (not (moment_number timeout == NEVER) && nat_le (moment_number timeout) (now + longest_timeout)) (moment_number timeout == NEVER) ≡ true
 timeout_at now runs None h t = rw t
-timeout_at now runs (Some moment) h t =
-    rw (t.runs_now, ne_eqb moment NEVER (λ e. let b = t.in_time in omega arith)) (le-leb moment _ t.in_time)
+timeout_at now runs (Some moment) h t = rw (t.runs_now, ne_eqb moment NEVER (λ e. omega arith)) (le-leb moment _ t.in_time)
 
 pub runs-same : (fifos : Option Trigger) (held : List ℕ)
     → (not (fcr_number fifos == 0) && not (is_empty (fifo_bytes fifos held))) ≡ (is_some fifos && not (is_empty held))
@@ -105,10 +96,7 @@ timeout-saved level now fifos held timeout h t = rw (runs-same fifos held) (time
 -- the FIFOs of a list, in the counted array or in the ring
 module _ (set : ℕ) (fifos : Option Trigger) (bytes : List ℕ) where
   pub fifo-short : IsShort (is_some fifos) bytes → length (fifo_bytes fifos bytes) ≤ 16
-  fifo-short s = at fifos s where
-    at : (f : Option Trigger) → IsShort (is_some f) bytes → length (fifo_bytes f bytes) ≤ 16
-    at None s = omega arith
-    at (Some trigger) s = s.short
+  fifo-short = elim fifos as (λ f. IsShort (is_some f) bytes → length (fifo_bytes f bytes) ≤ 16) [ None ↦ λ s. omega arith | Some trigger ↦ λ s. s.short ]
 
   pub array-short : IsShort (is_some fifos) bytes → length (in_array set fifos bytes) ≤ 16
   array-short s = elim (nat_le 4 set) as (λ b. length (cond b [] (fifo_bytes fifos bytes)) ≤ 16) [ true ↦ omega arith | false ↦ fifo-short s ]
@@ -117,17 +105,14 @@ module _ (set : ℕ) (fifos : Option Trigger) (bytes : List ℕ) where
   ring-short s = elim (nat_le 4 set) as (λ b. length (cond b (fifo_bytes fifos bytes) []) ≤ 16) [ true ↦ fifo-short s | false ↦ omega arith ]
 
   pub unused-at : is_unused (counted_of (in_array set fifos bytes)) (ring_of (in_ring set fifos bytes)) ≡ is_empty (fifo_bytes fifos bytes)
-  unused-at = at (nat_le 4 set) where
-    at : (b : Bool)
-        → is_unused (counted_of (cond b [] (fifo_bytes fifos bytes))) (ring_of (cond b (fifo_bytes fifos bytes) [])) ≡ is_empty (fifo_bytes fifos bytes)
-    at true = refl
-    at false = and-true (is_empty (fifo_bytes fifos bytes))
+  unused-at = let held = fifo_bytes fifos bytes in
+      elim (nat_le 4 set) as (λ b. is_unused (counted_of (cond b [] held)) (ring_of (cond b held [])) ≡ is_empty held)
+      [ true ↦ refl | false ↦ and-true (is_empty held) ]
 
   pub once-at : is_stored_once (counted_of (in_array set fifos bytes)) (ring_of (in_ring set fifos bytes)) ≡ true
-  once-at = at (nat_le 4 set) where
-    at : (b : Bool) → is_stored_once (counted_of (cond b [] (fifo_bytes fifos bytes))) (ring_of (cond b (fifo_bytes fifos bytes) [])) ≡ true
-    at true = refl
-    at false = or-true (is_empty (fifo_bytes fifos bytes))
+  once-at = let held = fifo_bytes fifos bytes in
+      elim (nat_le 4 set) as (λ b. is_stored_once (counted_of (cond b [] held)) (ring_of (cond b held [])) ≡ true)
+      [ true ↦ refl | false ↦ or-true (is_empty held) ]
 
   pub stored-at : IsShort (is_some fifos) bytes
       → stored_bytes (counted_of (in_array set fifos bytes)) (ring_of (in_ring set fifos bytes)) ≡ fifo_bytes fifos bytes
@@ -158,19 +143,21 @@ module _ (set now : ℕ) (port : Port) (early : now ≤ LAST_MOMENT) (sound : Is
 
   unused : unused_hold (saved set now port) ≡ true
   unfolding unused_hold saved
-  unused = rw (unused-at set port.fifos port.receiver.held, unused-at set port.fifos port.transmitter.waiting) (unused-saved port.fifos port.receiver.held port.transmitter.waiting)
+  unused = rw (unused-at set port.fifos port.receiver.held, unused-at set port.fifos port.transmitter.waiting) (unused-saved port.fifos _ _)
 
   line_status : status_holds (saved set now port) ≡ true
   unfolding status_holds saved
-  line_status = rw (unused-at set port.fifos port.receiver.held, unused-at set port.fifos port.transmitter.waiting) (status-saved port.fifos port.receiver.held port.transmitter.waiting (has (lsr_of port) 0) (has (lsr_of port) 5) lsr.ready_bit lsr.empty_bit)
+  line_status = rw (unused-at set port.fifos port.receiver.held, unused-at set port.fifos port.transmitter.waiting)
+      (status-saved port.fifos _ _ _ _ lsr.ready_bit lsr.empty_bit)
 
   shift : shift_holds now (saved set now port) ≡ true
   unfolding shift_holds saved
-  shift = rw (lsr.empty_bit) (shift-saved now port.transmitter.shift (has (lsr_of port) 6) (is_empty port.transmitter.waiting) early sound.transmitter.shift sound.transmitter.idle lsr.idle_bit)
+  shift = rw lsr.empty_bit (shift-saved now port.transmitter.shift _ _ early sound.transmitter.shift sound.transmitter.idle lsr.idle_bit)
 
   timeout : timeout_holds port.level now (saved set now port) ≡ true
   unfolding timeout_holds saved
-  timeout = rw (unused-at set port.fifos port.receiver.held) (timeout-saved port.level now port.fifos port.receiver.held port.receiver.timeout early sound.receiver.timeout)
+  timeout = rw (unused-at set port.fifos port.receiver.held)
+      (timeout-saved port.level now port.fifos port.receiver.held port.receiver.timeout early sound.receiver.timeout)
 
   once : once_holds (saved set now port) ≡ true
   unfolding once_holds saved
@@ -178,7 +165,8 @@ module _ (set now : ℕ) (port : Port) (early : now ≤ LAST_MOMENT) (sound : Is
 
   rings : rings_hold (saved set now port) ≡ true
   unfolding rings_hold saved
-  rings = and_from _ _ (ring_of-holds (in_ring set port.fifos port.receiver.held) (ring-short set port.fifos port.receiver.held sound.receiver.short)) (ring_of-holds (in_ring set port.fifos port.transmitter.waiting) (ring-short set port.fifos port.transmitter.waiting sound.transmitter.short))
+  rings = and_from _ _ (ring_of-holds _ (ring-short set port.fifos _ sound.receiver.short))
+      (ring_of-holds _ (ring-short set port.fifos _ sound.transmitter.short))
 
   -- the port that comes back
   back_latch : Bool
@@ -200,8 +188,8 @@ module _ (set now : ℕ) (port : Port) (early : now ≤ LAST_MOMENT) (sound : Is
     fifos-back port.fifos,
     stored-at set port.fifos port.receiver.held sound.receiver.short,
     stored-at set port.fifos port.transmitter.waiting sound.transmitter.short,
-    bytes-back port.fifos port.receiver.held (not (is_empty port.receiver.held)) sound.receiver.short refl,
-    bytes-back port.fifos port.transmitter.waiting (not (is_empty port.transmitter.waiting)) sound.transmitter.short refl,
+    bytes-back port.fifos port.receiver.held _ sound.receiver.short refl,
+    bytes-back port.fifos port.transmitter.waiting _ sound.transmitter.short refl,
     moment-back now _ port.receiver.timeout early sound.receiver.timeout,
     shift-back now port.transmitter.shift early sound.transmitter.shift,
   )

@@ -1,10 +1,9 @@
 -- Each step of a part keeps it sound.
 use Rattle.dev_serial.proofs.Facade.{◌≡◌, ℕ, ◌+◌, ◌*◌, ◌<◌, ◌≤◌, ◌==◌, Bool, true, false, not, ◌&&◌, cond, List, ◌∷◌, ◌++◌, length, Option, Some, None, refl}
-use Rattle.dev_serial.proofs.Facade.{sym, arith, length-append, ◌⊎◌, ⊎_elim, mul-le-mul, false≢true, ltb-true, ltb-false, ne_eqb, cond_both, leb-true, []}
-use Rattle.dev_serial.proofs.Facade.{leb-false, nat_le, nat_lt, max, is_some, is_empty, has, bits_where, character_time, character_bits, ReceiverState}
-use Rattle.dev_serial.proofs.Facade.{TransmitterState, IsShort, received, taken_at, emptied, longest_timeout, LongestCharacter, AreBytes, IsTimeout, IsReceiver}
-use Rattle.dev_serial.proofs.Facade.{IsShift, IsTransmitter, queued, loaded, timetable, departures, gone, staying, holding, arrived, run_until, gone_by, Mode}
-use Rattle.dev_serial.proofs.Facade.{Shift, LONGEST_CHARACTER}
+use Rattle.dev_serial.proofs.Facade.{arith, length-append, ◌⊎◌, ⊎_elim, mul-le-mul, ltb-true, ltb-false, ne_eqb, cond_both, leb-true, leb-false, nat_le, nat_lt}
+use Rattle.dev_serial.proofs.Facade.{max, is_some, is_empty, has, bits_where, character_time, character_bits, ReceiverState, TransmitterState, IsShort, []}
+use Rattle.dev_serial.proofs.Facade.{received, taken_at, emptied, longest_timeout, LongestCharacter, AreBytes, IsTimeout, IsReceiver, IsShift, IsTransmitter}
+use Rattle.dev_serial.proofs.Facade.{queued, loaded, timetable, departures, gone, staying, holding, arrived, run_until, gone_by, Mode, Shift, LONGEST_CHARACTER}
 use Rattle.dev_serial.proofs.SendingLaws.{bytes_of-timetable, fewer}
 use Rattle.dev_serial.proofs.WaitLaws.{stays_empty}
 
@@ -52,8 +51,8 @@ module _ (now at character byte : ℕ) (looped : Bool) (receiver : ReceiverState
   unfolding received
   received-short true has_timeout s =
       cond_both (nat_lt (length receiver.held) 16) _ _ (λ (r : ReceiverState). IsShort true r.held)
-      (λ e. let l = ltb-true (length receiver.held) 16 e in record { short = simp length-append (omega arith); one = λ f. absurd (false≢true (sym f)) })
-      (λ e. record { short = s.short; one = λ f. absurd (false≢true (sym f)) })
+      (λ e. let l = ltb-true (length receiver.held) 16 e in record { short = simp length-append (omega arith); one = λ f. cc })
+      (λ e. record { short = s.short; one = λ f. cc })
   received-short false has_timeout s =
       cond_both (length receiver.held == 0) _ _ (λ (r : ReceiverState). IsShort false r.held)
       (λ e. record { short = omega arith; one = λ f. omega arith }) (λ e. record { short = omega arith; one = λ f. omega arith })
@@ -72,12 +71,9 @@ module _ (now at character byte : ℕ) (looped : Bool) (receiver : ReceiverState
       cond_both (nat_lt (length receiver.held) 16) _ _ (λ (r : ReceiverState). IsTimeout now (not (is_empty r.held)) r.timeout)
       (λ e. record { runs_now = rw (pushed-full receiver.held byte); in_time = in_time })
       (λ e. record { runs_now = rw (many-full receiver.held (ltb-false (length receiver.held) 16 e)); in_time = in_time })
-  received-timeout true false s =
-      cond_both (nat_lt (length receiver.held) 16) _ _ (λ (r : ReceiverState). IsTimeout now false r.timeout) (λ e. s) (λ e. s)
-  received-timeout false true s =
-      cond_both (length receiver.held == 0) _ _ (λ (r : ReceiverState). IsTimeout now false r.timeout) (λ e. s) (λ e. s)
-  received-timeout false false s =
-      cond_both (length receiver.held == 0) _ _ (λ (r : ReceiverState). IsTimeout now false r.timeout) (λ e. s) (λ e. s)
+  received-timeout true false s = cond_both (nat_lt (length receiver.held) 16) _ _ (λ (r : ReceiverState). IsTimeout now false r.timeout) (λ e. s) (λ e. s)
+  received-timeout false true s = cond_both (length receiver.held == 0) _ _ (λ (r : ReceiverState). IsTimeout now false r.timeout) (λ e. s) (λ e. s)
+  received-timeout false false s = cond_both (length receiver.held == 0) _ _ (λ (r : ReceiverState). IsTimeout now false r.timeout) (λ e. s) (λ e. s)
 
   pub received-sound : (level : ℕ) (on : Bool) → byte < 256 → IsReceiver now level on receiver
       → IsReceiver now level on (received (mode_at character on (nat_le 3 level) looped) byte at receiver)
@@ -119,20 +115,19 @@ emptied-sound now level on receiver = record {
 } where
   none : (has_timeout on : Bool) → (has_timeout && (on && false)) ≡ false
   none true true = refl
-  none true false = refl
-  none false on = refl
+  none _ _ = refl
 
 -- a later moment
 pub later-timeout : (now to : ℕ) (runs : Bool) (timeout : Option ℕ) → now ≤ to → IsTimeout now runs timeout → IsTimeout to runs timeout
 later-timeout now to runs None h t = t
-later-timeout now to runs (Some timeout) h t = record { runs_now = t.runs_now; in_time = let l = t.in_time in omega arith }
+later-timeout now to runs (Some timeout) h t = record { runs_now = t.runs_now; in_time = omega arith }
 
 -- a byte is written
 queued-short : (on : Bool) (byte : ℕ) (waiting : List ℕ) → IsShort on waiting → IsShort on (queued on byte waiting)
 unfolding queued
 queued-short true byte waiting s =
     cond_both (nat_lt (length waiting) 16) _ _ (λ (xs : List ℕ). IsShort true xs)
-    (λ e. let l = ltb-true (length waiting) 16 e in record { short = simp length-append (omega arith); one = λ f. absurd (false≢true (sym f)) }) (λ e. s)
+    (λ e. let l = ltb-true (length waiting) 16 e in record { short = simp length-append (omega arith); one = λ f. cc }) (λ e. s)
 queued-short false byte waiting s = record { short = omega arith; one = λ _. omega arith }
 
 queued-bytes : (on : Bool) (byte : ℕ) (waiting : List ℕ) → byte < 256 → AreBytes waiting → AreBytes (queued on byte waiting)
@@ -144,13 +139,13 @@ queued-bytes false byte waiting b s = (b, tt)
 loaded-sound : (now due : ℕ) (on : Bool) (shift : Option Shift) (waiting : List ℕ) → now < due → due ≤ now + LONGEST_CHARACTER → IsShort on waiting
     → AreBytes waiting → IsShift now shift → IsTransmitter now on (loaded due shift waiting) (is_empty (loaded due shift waiting).waiting)
 unfolding loaded
-loaded-sound now due on (Some shift) waiting l h s b t = record { short = s; bytes = b; shift = t; idle = λ e. absurd (false≢true (sym e)); latched = λ e. e }
+loaded-sound now due on (Some shift) waiting l h s b t = record { short = s; bytes = b; shift = t; idle = λ e. cc; latched = λ e. e }
 loaded-sound now due on None [] l h s b t = record { short = s; bytes = b; shift = tt; idle = λ e. refl; latched = λ e. e }
 loaded-sound now due on None (byte ∷ rest) l h s b t = record {
   short = record { short = let k = s.short in omega arith; one = λ f. let k = s.one f in omega arith };
   bytes = b.1;
   shift = record { byte = b.0; later = l; in_time = h };
-  idle = λ e. absurd (false≢true (sym e));
+  idle = λ e. cc;
   latched = λ e. e;
 }
 
@@ -198,15 +193,14 @@ holding-sound character to due (byte ∷ bytes) q h b =
     (λ e. record {
       shift = record { byte = b.0; later = leb-false due to e; in_time = h };
       bytes = rw (bytes_of-timetable character (due + character) bytes) b.1;
-      idle = λ n. absurd (false≢true (sym n));
+      idle = λ n. cc;
     })
 
 run-sound : (character now to : ℕ) (shift : Option Shift) (waiting : List ℕ) → character ≤ LONGEST_CHARACTER → now ≤ to → IsShift now shift → AreBytes waiting
     → (is_some shift ≡ false → is_empty waiting ≡ true) → HoldsSound to (run_until character to shift waiting)
 unfolding run_until departures
 run-sound character now to None waiting q l s b i = record { shift = tt; bytes = b; idle = i }
-run-sound character now to (Some shift) waiting q l s b i =
-    holding-sound character to shift.due (shift.byte ∷ waiting) q (let h = s.in_time in omega arith) (s.byte, b)
+run-sound character now to (Some shift) waiting q l s b i = holding-sound character to shift.due (shift.byte ∷ waiting) q (omega arith) (s.byte, b)
 
 stays_short : (on : Bool) (few many : List ℕ) → length few ≤ length many → IsShort on many → IsShort on few
 stays_short on few many h s = record { short = let k = s.short in omega arith; one = λ f. let k = s.one f in omega arith }

@@ -1,9 +1,8 @@
 -- A port is sound exactly if a stream can describe it and the rules hold for what is saved.
-use Rattle.dev_serial.proofs.Facade.{◌≡◌, ℕ, ◌+◌, ◌≤◌, ◌==◌, Bool, true, false, not, ◌&&◌, ◌||◌, cond, Option, Some, None, refl, sym, arith, false≢true}
-use Rattle.dev_serial.proofs.Facade.{leb-true, ltb-true, eqb-true, and_parts, nat_le, nat_lt, is_some, LAST_MOMENT, is_empty, lsr_of, has, same}
-use Rattle.dev_serial.proofs.Facade.{SoundMeetsRules, Port, saved, fcr_number, moment_number, due_number, registers_hold, fcr_holds, shift_holds, timeout_holds}
-use Rattle.dev_serial.proofs.Facade.{longest_timeout, IsSound, IsHeld, IsTold, IsByte, IsShift, IsTimeout, HasRegisters, Shift, Trigger, LONGEST_CHARACTER}
-use Rattle.dev_serial.proofs.Facade.{NEVER}
+use Rattle.dev_serial.proofs.Facade.{◌≡◌, ℕ, ◌+◌, ◌≤◌, ◌==◌, Bool, true, false, not, ◌&&◌, ◌||◌, cond, Option, Some, None, refl, arith, leb-true, ltb-true, sym}
+use Rattle.dev_serial.proofs.Facade.{eqb-true, and_parts, nat_le, nat_lt, is_some, LAST_MOMENT, is_empty, lsr_of, has, same, SoundMeetsRules, Port, saved}
+use Rattle.dev_serial.proofs.Facade.{fcr_number, moment_number, due_number, registers_hold, fcr_holds, shift_holds, timeout_holds, longest_timeout, IsSound}
+use Rattle.dev_serial.proofs.Facade.{IsHeld, IsTold, IsByte, IsShift, IsTimeout, HasRegisters, Shift, Trigger, LONGEST_CHARACTER, NEVER, false≢true}
 use Rattle.dev_serial.proofs.RestoredLaw.{Hold, hold}
 use Rattle.dev_serial.proofs.SavedLaw.{restored-saved, on, runs-same, unused-at}
 use Rattle.dev_serial.proofs.AlikeLaws.{IsStatus, lsr-status}
@@ -11,7 +10,7 @@ use Rattle.dev_serial.proofs.AlikeLaws.{IsStatus, lsr-status}
 -- from sound to held
 told : (now : ℕ) (runs : Bool) (timeout : Option ℕ) → now ≤ LAST_MOMENT → IsTimeout now runs timeout → IsTold timeout
 told now runs None h t = tt
-told now runs (Some moment) h t = let l = t.in_time in omega arith
+told now runs (Some moment) h t = omega arith
 
 is-byte : (now : ℕ) (shift : Option Shift) → IsShift now shift → IsByte shift
 is-byte now None s = tt
@@ -34,7 +33,7 @@ held now port h s = let r = s.registers in record {
 
 -- and back, by the rules
 level-on : (level : ℕ) (fifos : Option Trigger) (rest : Bool) → ((fcr_number fifos == 0) || (nat_le 2 level && rest)) ≡ true → is_some fifos ≡ true → 2 ≤ level
-level-on level None rest h e = absurd (false≢true e)
+level-on level None rest h e = cc
 level-on level (Some trigger) rest h e = leb-true 2 level (and_parts _ _ (rw (on trigger) at h)).0
 
 shift-from : (now : ℕ) (shift : Option Shift) (idle empty five : Bool) → idle ≡ (empty && not (is_some shift)) → IsByte shift
@@ -42,7 +41,7 @@ shift-from : (now : ℕ) (shift : Option Shift) (idle empty five : Bool) → idl
     → IsShift now shift
 shift-from now None idle empty five e b h = tt
 shift-from now (Some shift) true true five e b h = absurd (false≢true (sym e))
-shift-from now (Some shift) true false five e b h = absurd (false≢true (sym e))
+shift-from now (Some shift) true false five e b h = cc
 shift-from now (Some shift) false empty five e b h =
     let p = and_parts _ _ (and_parts _ _ h).1 in
     record { byte = b; later = ltb-true _ _ p.0; in_time = leb-true _ _ p.1 }
@@ -50,12 +49,10 @@ shift-from now (Some shift) false empty five e b h =
 idle-from : (shift : Option Shift) (idle empty rest : Bool) → idle ≡ (empty && not (is_some shift)) → (same idle (due_number shift == NEVER) && rest) ≡ true
     → is_some shift ≡ false → empty ≡ true
 idle-from None idle true rest e h n = refl
-idle-from None true false rest e h n = absurd (false≢true (sym e))
-idle-from None false false rest e h n = absurd (false≢true h)
-idle-from (Some shift) idle empty rest e h n = absurd (false≢true (sym n))
+idle-from _ _ _ rest e h n = cc
 
 timeout-from : (now : ℕ) (runs : Bool) (timeout : Option ℕ) → IsTold timeout → cond runs (not (moment_number timeout == NEVER) && nat_le (moment_number timeout) (now + longest_timeout)) (moment_number timeout == NEVER) ≡ true → IsTimeout now runs timeout
-timeout-from now true None t h = absurd (false≢true h)
+timeout-from now true None t h = cc
 timeout-from now false None t h = refl
 timeout-from now true (Some moment) t h = record { runs_now = refl; in_time = leb-true _ _ (and_parts _ _ h).1 }
 timeout-from now false (Some moment) t h = absurd (let e = eqb-true moment NEVER h in omega arith)
@@ -69,13 +66,12 @@ module _ (now : ℕ) (port : Port) (is : IsHeld port) (rules : Hold port.level n
   unfolding registers_hold fcr_holds saved
   registers =
       let low = and_parts _ _ rules.registers in
-      let high = and_parts _ _ low.1 in
       record {
         is_level = is.is_level;
         divisor_range = is.divisor_range;
         ier_range = leb-true _ _ low.0;
         lcr_range = is.lcr_range;
-        mcr_range = leb-true _ _ high.0;
+        mcr_range = leb-true _ _ (and_parts _ _ low.1).0;
         scr_range = is.scr_range;
         fifos = level-on port.level port.fifos _ rules.fcr;
       }

@@ -2,10 +2,10 @@
 use Rattle.dev_serial.proofs.Facade.{◌≡◌, ℕ, ◌+◌, ◌<◌, Bool, true, false, take, ap, ◌∙◌, arith, zero, suc, ◌-◌, ◌%◌, ◌≤◌, ◌==◌, not, ◌&&◌, cond, List, [], ◌∷◌}
 use Rattle.dev_serial.proofs.Facade.{length, map, refl, sym, ⊎_elim, ◌++◌, ℤ, replicate, subst, and_from, cases_lt, lt-ltb, le-leb, ne_eqb, eq-eqb, or_right}
 use Rattle.dev_serial.proofs.Facade.{get_or-range_with_len, length-map-range_with_len, get_or-map-range_with_len, list_all_at, list_all_more, range_with_len}
-use Rattle.dev_serial.proofs.Facade.{list_all, min-eq_left, min-le_right, get_or_past, nat_lt, is_empty, ListsComeBack, HoldsWhatItGives, stored_bytes}
-use Rattle.dev_serial.proofs.Facade.{is_unused, AreBytes, firsts, cell_at, kind_at, number_at, AreOf, byte_of, padded, counted_of, counted_bytes, ring_of}
-use Rattle.dev_serial.proofs.Facade.{ring_bytes, behind_head, is_held_or_zero, ring_holds, Counted, Ring, all_set, bytes_within, InRange, U8, I8, Timer}
-use Rattle.dev_serial.proofs.Facade.{field_kinds, kinds, AreBytesIn, bytes_at, number-lt, RX_COUNT, TIMEOUT_AT, RX_DATA}
+use Rattle.dev_serial.proofs.Facade.{list_all, min-eq_left, min-le_right, get_or_past, nat_lt, cond_both, is_empty, ListsComeBack, HoldsWhatItGives}
+use Rattle.dev_serial.proofs.Facade.{stored_bytes, is_unused, AreBytes, firsts, cell_at, kind_at, number_at, AreOf, byte_of, padded, counted_of, counted_bytes}
+use Rattle.dev_serial.proofs.Facade.{ring_of, ring_bytes, behind_head, is_held_or_zero, ring_holds, Counted, Ring, all_set, bytes_within, InRange, U8, I8}
+use Rattle.dev_serial.proofs.Facade.{Timer, field_kinds, kinds, AreBytesIn, bytes_at, number-lt, RX_COUNT, TIMEOUT_AT, RX_DATA}
 use Rattle.std.specs.Prelude.{min}
 
 -- ---- a test of each of the sixteen elements of a ring
@@ -71,19 +71,18 @@ firsts-empty : (n : ℕ) (f : ℕ → ℕ) → is_empty (firsts (min n 16) f) �
 firsts-empty n f = ap (λ (m : ℕ). m == 0) (length-map-range_with_len f 0 (min n 16)) ∙ none n
 
 pub stored-empty : (array : Counted) (ring : Ring) → is_empty (stored_bytes array ring) ≡ is_unused array ring
-stored-empty array ring = at (array.count == 0) (firsts-empty array.count (byte_of array.bytes)) where
-  at : (b : Bool) → is_empty (counted_bytes array) ≡ b → is_empty (cond b (ring_bytes ring) (counted_bytes array)) ≡ (b && (ring.number == 0))
-  at true e = firsts-empty ring.number (λ i. byte_of ring.elements ((ring.head + i) % 16))
-  at false e = e
+stored-empty array ring =
+    elim (array.count == 0) as (λ b. is_empty (counted_bytes array) ≡ b → is_empty (cond b (ring_bytes ring) (counted_bytes array)) ≡ (b && (ring.number == 0)))
+    [ true ↦ λ e. firsts-empty ring.number (λ i. byte_of ring.elements ((ring.head + i) % 16)) | false ↦ λ e. e ]
+    (firsts-empty array.count (byte_of array.bytes))
 
 firsts-short : (n : ℕ) (f : ℕ → ℕ) → length (firsts (min n 16) f) ≤ 16
 firsts-short n f = rw (length-map-range_with_len f 0 (min n 16)) (min-le_right n 16)
 
 pub stored-short : (array : Counted) (ring : Ring) → length (stored_bytes array ring) ≤ 16
-stored-short array ring = at (array.count == 0) where
-  at : (b : Bool) → length (cond b (ring_bytes ring) (counted_bytes array)) ≤ 16
-  at true = firsts-short ring.number (λ i. byte_of ring.elements ((ring.head + i) % 16))
-  at false = firsts-short array.count (byte_of array.bytes)
+stored-short array ring =
+    cond_both (array.count == 0) (ring_bytes ring) (counted_bytes array) (λ bytes. length bytes ≤ 16)
+    (λ _. firsts-short ring.number (λ i. byte_of ring.elements ((ring.head + i) % 16))) (λ _. firsts-short array.count (byte_of array.bytes))
 
 -- bytes
 pub byte_of-lt : (bytes : List ℕ) (i : ℕ) → AreBytes bytes → byte_of bytes i < 256
@@ -96,10 +95,10 @@ firsts-bytes f a zero h = tt
 firsts-bytes f a (suc n) h = (h a (omega arith) (omega arith), firsts-bytes f (a + 1) n (λ k l m. h k (omega arith) (omega arith)))
 
 pub stored-bytes : (array : Counted) (ring : Ring) → AreBytes array.bytes → AreBytes ring.elements → AreBytes (stored_bytes array ring)
-stored-bytes array ring a r = at (array.count == 0) where
-  at : (b : Bool) → AreBytes (cond b (ring_bytes ring) (counted_bytes array))
-  at true = firsts-bytes (λ i. byte_of ring.elements ((ring.head + i) % 16)) 0 (min ring.number 16) (λ k l m. byte_of-lt ring.elements ((ring.head + k) % 16) r)
-  at false = firsts-bytes (byte_of array.bytes) 0 (min array.count 16) (λ k l m. byte_of-lt array.bytes k a)
+stored-bytes array ring a r =
+    cond_both (array.count == 0) (ring_bytes ring) (counted_bytes array) AreBytes
+    (λ _. firsts-bytes (λ i. byte_of ring.elements ((ring.head + i) % 16)) 0 (min ring.number 16) (λ k l m. byte_of-lt ring.elements ((ring.head + k) % 16) r))
+    (λ _. firsts-bytes (byte_of array.bytes) 0 (min array.count 16) (λ k l m. byte_of-lt array.bytes k a))
 
 -- the elements that a ring holds are those at (head + i) modulo 16 for i below its number
 held-place : (head i : ℕ) → head ≤ 15 → i < 16 → ((head + i) % 16 + 16 - head) % 16 ≡ i

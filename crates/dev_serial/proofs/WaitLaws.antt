@@ -39,39 +39,38 @@ same_outcome : (port : Port) (line line' : List ℕ) (receiver receiver' : Recei
 same_outcome port line line' receiver receiver' transmitter transmitter' latch latch' l r t h = rw (l, r, t, h) refl
 
 module _ (first second : ℕ) (port : Port) (h : first ≤ second) where
-  character : ℕ
+  abbrev character : ℕ
   character = character_time port.divisor port.lcr
 
   between : TransmitterState
-  between = run_until (character_time port.divisor port.lcr) first port.transmitter.shift port.transmitter.waiting
+  between = run_until character first port.transmitter.shift port.transmitter.waiting
 
   end : TransmitterState
-  end = run_until (character_time port.divisor port.lcr) second between.shift between.waiting
+  end = run_until character second between.shift between.waiting
 
-  end-same : end ≡ run_until (character_time port.divisor port.lcr) second port.transmitter.shift port.transmitter.waiting
+  end-same : end ≡ run_until character second port.transmitter.shift port.transmitter.waiting
   unfolding end between
-  end-same = run-twice (character_time port.divisor port.lcr) first second port.transmitter.shift port.transmitter.waiting h
+  end-same = run-twice character first second port.transmitter.shift port.transmitter.waiting h
 
-  gone-both : leaving first port ++ gone_by (character_time port.divisor port.lcr) second between.shift between.waiting ≡ leaving second port
+  gone-both : leaving first port ++ gone_by character second between.shift between.waiting ≡ leaving second port
   unfolding between
-  gone-both = gone_by-twice (character_time port.divisor port.lcr) first second port.transmitter.shift port.transmitter.waiting h
+  gone-both = gone_by-twice character first second port.transmitter.shift port.transmitter.waiting h
 
   latch-same : cond (is_empty end.waiting && not (is_empty between.waiting)) true (cond (is_empty between.waiting && not (is_empty port.transmitter.waiting)) true port.thr_empty) ≡ cond (is_empty end.waiting && not (is_empty port.transmitter.waiting)) true port.thr_empty
   unfolding end between
   latch-same =
       latch-twice (is_empty port.transmitter.waiting) (is_empty between.waiting) (is_empty end.waiting) port.thr_empty
-      (stays_empty between.waiting port.transmitter.waiting
-      (fewer (character_time port.divisor port.lcr) first port.transmitter.shift port.transmitter.waiting))
-      (stays_empty end.waiting between.waiting (fewer (character_time port.divisor port.lcr) second between.shift between.waiting))
+      (stays_empty between.waiting port.transmitter.waiting (fewer character first port.transmitter.shift port.transmitter.waiting))
+      (stays_empty end.waiting between.waiting (fewer character second between.shift between.waiting))
 
   in-parts : advanced second port ≡ ((advanced first port).0 ++ (advanced second (advanced first port).1).0, (advanced second (advanced first port).1).1)
   unfolding advanced outcome end between
   in-parts =
       same_outcome port _ _ _ _ _ _ _ _
       (ap (on_line (mode_of port)) (sym gone-both) ∙ on_line-append (mode_of port) (has port.mcr 4) _ _)
-      (ap (λ (xs : List Shift). looped_in (mode_of port) xs port.receiver) (sym gone-both) ∙ looped-append (mode_of port) (has port.mcr 4) _ _ port.receiver)
+      (ap (λ xs. looped_in (mode_of port) xs port.receiver) (sym gone-both) ∙ looped-append (mode_of port) (has port.mcr 4) _ _ port.receiver)
       (sym end-same)
-      (ap (λ (t : TransmitterState). cond (is_empty t.waiting && not (is_empty port.transmitter.waiting)) true port.thr_empty) (sym end-same) ∙ sym latch-same)
+      (ap (λ t. cond (is_empty t.waiting && not (is_empty port.transmitter.waiting)) true port.thr_empty) (sym end-same) ∙ sym latch-same)
 
 pub advances_in_parts : AdvancesInParts
 advances_in_parts first second port h = in-parts first second port h

@@ -1,7 +1,10 @@
 -- The transmitter's steps, and the timetable of the bytes that are sent.
-use Rattle.std.specs.Prelude.{ℕ, ◌+◌, ◌<◌, Bool, nat_le, nat_lt, if◌then◌else◌, List, [], ◌∷◌, ◌++◌, length, map, Option, Some, None}
+use Rattle.std.specs.Prelude.{◌≡◌, ℕ, ◌+◌, ◌<◌, ◌≤◌, Bool, nat_le, nat_lt, if◌then◌else◌, List, [], ◌∷◌, ◌++◌, length, map, Option, Some, None}
 use Rattle.dev_serial.specs.declared.fifo.TheConstants.{FIFO_BYTES}
-use Rattle.dev_serial.specs.Parts.{ReceiverState, TransmitterState}
+use Rattle.dev_serial.specs.declared.transmitter.TheConstants.{MOST_SENT}
+use Rattle.dev_serial.specs.declared.mode.TheConstants.{LONGEST_CHARACTER}
+use Rattle.dev_base.specs.declared.limits.TheConstants.{LAST_MOMENT}
+use Rattle.dev_serial.specs.Parts.{ReceiverState, TransmitterState, IsShort}
 use Rattle.dev_serial.specs.Receive.{received}
 use Rattle.dev_serial.specs.declared.mode.Mode.{Mode}
 use Rattle.dev_serial.specs.declared.shift.Shift.{Shift}
@@ -83,14 +86,6 @@ gone_by character to shift waiting = gone to (departures character shift waiting
 abbrev pub gone_from : Mode → ℕ → TransmitterState → List Shift
 gone_from mode to transmitter = gone_by mode.character to transmitter.shift transmitter.waiting
 
--- The bytes that leave up to `to`, if `first` is in the shift register and `waiting` follow it.
-abbrev pub gone_of : Mode → ℕ → Shift → List ℕ → List Shift
-gone_of mode to first waiting = gone to (departures mode.character (Some first) waiting)
-
--- The transmitter that is left after them.
-abbrev pub still_of : Mode → ℕ → Shift → List ℕ → TransmitterState
-still_of mode to first waiting = holding (staying to (departures mode.character (Some first) waiting))
-
 -- The transmitter with these bytes waiting and this shift register.
 abbrev pub transmitter_of : List ℕ → Option Shift → TransmitterState
 transmitter_of waiting shift = record { waiting = waiting; shift = shift }
@@ -104,3 +99,21 @@ IsSentAfter to (Some shift) = to < shift.due
 abbrev pub pending_of : Option Shift → List ℕ → List ℕ
 pending_of None waiting = waiting
 pending_of (Some shift) waiting = shift.byte ∷ waiting
+
+-- What sending up to `to` requires of the bytes that wait and of the receiver.
+pub record CanSend (mode : Mode) (to : ℕ) (waiting : List ℕ) (receiver : ReceiverState) : Type 0 where
+  pub longest : mode.character ≤ LONGEST_CHARACTER
+  pub moment : to ≤ LAST_MOMENT
+  pub few : length waiting ≤ FIFO_BYTES
+  pub few_held : IsShort mode.has_fifos receiver.held
+
+-- Sending up to `to` puts the bytes `sent` on the line, and leaves the transmitter `after` and the
+-- receiver `heard`.
+pub record Sends (mode : Mode) (to : ℕ) (before after : TransmitterState) (receiver heard : ReceiverState) (sent : List ℕ) : Type 0 where
+  pub left : after ≡ run_until mode.character to before.shift before.waiting
+  pub line : sent ≡ on_line mode (gone_from mode to before)
+  pub looped : heard ≡ looped_in mode (gone_from mode to before) receiver
+  pub few_sent : length sent ≤ MOST_SENT
+  pub none_due : IsSentAfter to after.shift
+  pub fewer : length after.waiting ≤ length before.waiting
+  pub still_few : IsShort mode.has_fifos heard.held

@@ -1,8 +1,7 @@
 // The sending half of a port.
 ghost use Rattle.std.specs.Prelude.{◌≡◌, ◌≤◌, ◌+◌, ◌++◌, length, Some, [], ◌∷◌, false};
-ghost use Rattle.dev_serial.specs.Transmit.{on_line, looped_in, gone_of, still_of, transmitter_of, IsSentAfter};
+ghost use Rattle.dev_serial.specs.Transmit.{CanSend, Sends, on_line, looped_in, transmitter_of};
 ghost use Rattle.dev_serial.specs.Parts.{IsShort};
-ghost use Rattle.dev_serial.specs.declared.transmitter.TheConstants.{MOST_SENT};
 ghost use Rattle.dev_serial.specs.declared.fifo.TheConstants.{FIFO_BYTES};
 
 use crate::fifo::{FIFO_BYTES, copied};
@@ -36,7 +35,7 @@ impl Model for Transmitter {
 }
 
 impl Transmitter {
-    ghost use Rattle.dev_serial.specs.Transmit.{after_write, gone_from, queued, run_until};
+    ghost use Rattle.dev_serial.specs.Transmit.{after_write, queued};
 
     /// Creates a transmitter with the bytes `waiting`, the oldest first, and the shift register
     /// `shift`.
@@ -121,17 +120,8 @@ impl Transmitter {
         to: u64,
         receiver: &mut Receiver,
     ) -> ArrayVec<u8, MOST_SENT>
-        requires longest { mode.character ≤ LONGEST_CHARACTER }
-        requires moment { to ≤ LAST_MOMENT }
-        requires few { length self.old.waiting ≤ FIFO_BYTES }
-        requires few_held { IsShort mode.has_fifos receiver.old.held }
-        ensures state { self.new ≡ run_until mode.character to self.old.shift self.old.waiting }
-        ensures line { result.items ≡ on_line mode (gone_from mode to self.old) }
-        ensures looped { receiver.new ≡ looped_in mode (gone_from mode to self.old) receiver.old }
-        ensures few_sent { length result.items ≤ MOST_SENT }
-        ensures none_due { IsSentAfter to self.new.shift }
-        ensures fewer { length self.new.waiting ≤ length self.old.waiting }
-        ensures still_few { IsShort mode.has_fifos receiver.new.held }
+        requires { CanSend mode to self.old.waiting receiver.old }
+        ensures { Sends mode to self.old self.new receiver.old receiver.new result.items }
     {
         let Some(first) = self.shift else {
             return ArrayVec::new();
@@ -150,19 +140,9 @@ fn send_due(
     waiting: &mut ArrayVec<u8, FIFO_BYTES>,
     receiver: &mut Receiver,
 ) -> (ArrayVec<u8, MOST_SENT>, Option<Shift>)
-    requires longest { mode.character ≤ LONGEST_CHARACTER }
-    requires moment { to ≤ LAST_MOMENT }
-    requires few { length waiting.old.items ≤ FIFO_BYTES }
-    requires few_held { IsShort mode.has_fifos receiver.old.held }
-    ensures left { transmitter_of waiting.new.items result.1
-        ≡ still_of mode to first waiting.old.items }
-    ensures line { result.0.items ≡ on_line mode (gone_of mode to first waiting.old.items) }
-    ensures looped { receiver.new
-        ≡ looped_in mode (gone_of mode to first waiting.old.items) receiver.old }
-    ensures few_sent { length result.0.items ≤ MOST_SENT }
-    ensures none_due { IsSentAfter to result.1 }
-    ensures fewer { length waiting.new.items ≤ length waiting.old.items }
-    ensures still_few { IsShort mode.has_fifos receiver.new.held }
+    requires { CanSend mode to waiting.old.items receiver.old }
+    ensures { Sends mode to (transmitter_of waiting.old.items (Some first))
+        (transmitter_of waiting.new.items result.1) receiver.old receiver.new result.0.items }
 {
     let mut line = ArrayVec::new();
     let mut shift = first;

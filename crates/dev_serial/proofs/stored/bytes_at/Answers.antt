@@ -5,7 +5,7 @@ pub loop-i-preserved : goal.loop-i-preserved
 loop-i-preserved c = record {
   len = simp length-set c.loop-i.invariant.len;
   set = one_set (λ i. number_at c.args.cells.now.items (c.args.place + i)) c.loop-i.bytes c.loop-i.i _
-      (omega (arith, c.loop-i.invariant.len, c.loop-i-test.true)) c.byte_at.ensures c.loop-i.invariant.set;
+      (omega arith) c.byte_at.ensures c.loop-i.invariant.set;
 }
 
 pub returns : goal.returns

@@ -5,7 +5,7 @@ pub loop-place-preserved : goal.loop-place-preserved
 loop-place-preserved c = record {
   len = simp length-set c.loop-place.invariant.len;
   set = one_set (byte_of c.args.bytes.now) c.loop-place.sixteen c.loop-place.place _
-      (omega (arith, c.loop-place.invariant.len, c.loop-place-test.true)) c.byte_or_zero.ensures c.loop-place.invariant.set;
+      (omega arith) c.byte_or_zero.ensures c.loop-place.invariant.set;
 }
 
 pub returns : goal.returns

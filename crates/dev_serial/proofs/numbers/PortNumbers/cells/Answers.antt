@@ -4,6 +4,4 @@ use Rattle.dev_serial.proofs.SavedCells.{parts, parts_are}
 use Rattle.dev_serial.proofs.numbers.PortNumbers.cells.Goals as goal
 
 pub returns-clause-cells : goal.returns-clause-cells
-returns-clause-cells c =
-    let appended : c.append_since-6.new.cells.items ≡ parts c.args.set c.args.self.now = search rules in
-    appended ∙ parts_are c.args.set c.args.self.now
+returns-clause-cells c = (search rules) ∙ parts_are c.args.set c.args.self.now

@@ -4,5 +4,5 @@ use Rattle.dev_serial.proofs.stored.Counted.list.Goals as goal
 pub loop-i-preserved : goal.loop-i-preserved
 loop-i-preserved c = record {
   items = firsts_more (byte_of c.args.self.now.bytes) c.loop-i.i _ _ _ c.loop-i.invariant.items refl c.push.ensures.items;
-  count = omega (arith, c.push.ensures.len, c.loop-i.invariant.count);
+  count = omega arith;
 }

@@ -5,5 +5,5 @@ pub loop-i-preserved : goal.loop-i-preserved
 loop-i-preserved c = record {
   items = firsts_more (λ i. byte_of c.args.self.now.elements
       ((c.args.self.now.head + i) % 16)) c.loop-i.i _ _ _ c.loop-i.invariant.items refl c.push.ensures.items;
-  count = omega (arith, c.push.ensures.len, c.loop-i.invariant.count);
+  count = omega arith;
 }
