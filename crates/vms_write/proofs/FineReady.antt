@@ -10,6 +10,7 @@ use Rattle.vms_write.proofs.Facade.{constants_append, own_constants, part_consta
 use Rattle.vms_write.proofs.Facade.{counted_well, is_same, needed_are, are_needed, AreConstants, fit_slots, FitSlots, ranges, within, or_second, and_swap}
 use Rattle.vms_write.proofs.Facade.{form_of, CellForm, device_at, is_well_formed, sub_at, device_clean, sub_clean, no_form, are_fit, settle, is_fine, sub_size}
 use Rattle.vms_write.proofs.Facade.{subs_fine}
+use Rattle.std.proofs.Math.ListN.{get_or-map}
 use Rattle.vms_write.proofs.StepsFine.{IsBelow, fine_parts, desc_below}
 
 -- ---- slots that fit
@@ -46,13 +47,11 @@ settle_at slots forms n from zero e c lt bare = absurd (omega arith)
 settle_at slots forms n from (suc k) e zero lt bare =
     let here : from ≡ from + 0 = omega arith in
     let p = and_parts (has_cell slots from || same_number (get_or n from (pos 0)) (get_or forms from no_form).default) (settle slots forms n (from + 1) k) e in
-    subst (λ (x : ℕ). get_or n x (pos 0) ≡ (get_or forms x no_form).default) here
-    (same_number_is (get_or n from (pos 0)) (get_or forms from no_form).default (or_second (has_cell slots from) (same_number (get_or n from (pos 0)) (get_or forms from no_form).default) p.0 (ap (has_cell slots) here ∙ bare)))
+    rw here at (same_number_is (get_or n from (pos 0)) (get_or forms from no_form).default (or_second (has_cell slots from) (same_number (get_or n from (pos 0)) (get_or forms from no_form).default) p.0 (ap (has_cell slots) here ∙ bare)))
 settle_at slots forms n from (suc k) e (suc c) lt bare =
     let next : (from + 1) + c ≡ from + suc c = omega arith in
     let p = and_parts (has_cell slots from || same_number (get_or n from (pos 0)) (get_or forms from no_form).default) (settle slots forms n (from + 1) k) e in
-    subst (λ (x : ℕ). get_or n x (pos 0) ≡ (get_or forms x no_form).default) next
-    (settle_at slots forms n (from + 1) k p.1 c (omega arith) (ap (has_cell slots) next ∙ bare))
+    rw next at (settle_at slots forms n (from + 1) k p.1 c (omega arith) (ap (has_cell slots) next ∙ bare))
 
 settle_all : (slots : List Slot) (forms : List CellForm) (n : List ℤ) (from k : ℕ) → ((c : ℕ) → c < from + k → has_cell slots c ≡ false → get_or n c (pos 0) ≡ (get_or forms c no_form).default)
     → settle slots forms n from k ≡ true
@@ -73,26 +72,25 @@ subs_size set (s ∷ subs) = sub_size set s + subs_size set subs
 
 subs_long : (set : Set) (subs : List Sub) → length (flat_map (λ s. desc_cells (struct_cells set) s.desc) subs) ≡ subs_size set subs
 subs_long set [] = refl
-subs_long set (s ∷ subs) = length-append (desc_cells (struct_cells set) s.desc) (flat_map (λ s. desc_cells (struct_cells set) s.desc) subs) ∙ ap (λ (k : ℕ). sub_size set s + k) (subs_long set subs)
+subs_long set (s ∷ subs) = length-append (desc_cells (struct_cells set) s.desc) (flat_map (λ s. desc_cells (struct_cells set) s.desc) subs) ∙ ap (λ k. sub_size set s + k) (subs_long set subs)
 
 cells_long : (set : Set) (d : Device) → own_cells set d + subs_size set d.subs ≡ length (device_cells set d)
-cells_long set d = sym (length-append (desc_cells (struct_cells set) d.desc) (flat_map (λ s. desc_cells (struct_cells set) s.desc) d.subs) ∙ ap (λ (k : ℕ). own_cells set d + k) (subs_long set d.subs))
+cells_long set d = sym (length-append (desc_cells (struct_cells set) d.desc) (flat_map (λ s. desc_cells (struct_cells set) s.desc) d.subs) ∙ ap (λ k. own_cells set d + k) (subs_long set d.subs))
 
 sub_above : (set : Set) (s : Sub) (v : ℕ) (n : List ℤ) (at : ℕ) → IsAbove at (sub_slots set s v n at)
 sub_above set s v n at = desc_above (meanings set.structs (length set.structs)) (meanings_above set.structs (length set.structs)) s.desc v n at
 
 part_below : (set : Set) (d : Desc) (v : ℕ) (n : List ℤ) (at : ℕ) → IsBelow (at + length (desc_cells (struct_cells set) d)) (desc_slots (meanings set.structs (length set.structs)) d v n at)
 part_below set d v n at =
-    subst (λ (cs : List (List Cell)). IsBelow (at + length (desc_cells cs d)) (desc_slots (meanings set.structs (length set.structs)) d v n at)) (cells_first set.structs (length set.structs))
+    subst (λ cs. IsBelow (at + length (desc_cells cs d)) (desc_slots (meanings set.structs (length set.structs)) d v n at)) (cells_first set.structs (length set.structs))
     (desc_below (meanings set.structs (length set.structs)) (meanings_are set.structs (length set.structs)) n d v at)
 
 came_above : (set : Set) (d : Device) (n : List ℤ) (at : ℕ) (subs : List Sub) (came : List (Option ℕ)) → IsAbove at (came_slots set d n at subs came)
-came_above set d n at [] came = above_none at
-came_above set d n at (s ∷ subs) [] = above_none at
 came_above set d n at (s ∷ subs) (None ∷ came) = above_less at (at + sub_size set s) _ (omega arith) (came_above set d n (at + sub_size set s) subs came)
 came_above set d n at (s ∷ subs) (Some v ∷ came) =
     above_append at (sub_slots set s v n at) (came_slots set d n (at + sub_size set s) subs came) (sub_above set s v n at)
     (above_less at (at + sub_size set s) _ (omega arith) (came_above set d n (at + sub_size set s) subs came))
+came_above set d n at _ _ = above_none at
 
 -- the subsections are fine and came as needed
 came_fine : (set : Set) (d : Device) (forms : List CellForm) (image : Image) (j at : ℕ) (subs : List Sub) (came : List (Option ℕ)) → length came ≡ length subs
@@ -106,18 +104,18 @@ came_fine set d forms image j at (s ∷ subs) (None ∷ came) e =
     let later = come_as_needed set d image (suc j) subs came in
     let rest = came_slots set d n (at + sub_size set s) subs came in
     let none : IsBelow (at + sub_size set s) [] = record { above = λ c le. refl } in
-    ap (λ (b : Bool). (unneeded && later) && b) (fine_parts forms n [] rest at (sub_size set s) (subs_size set subs) none (came_above set d n (at + sub_size set s) subs came))
+    ap (λ b. (unneeded && later) && b) (fine_parts forms n [] rest at (sub_size set s) (subs_size set subs) none (came_above set d n (at + sub_size set s) subs came))
     ∙ and_swap unneeded later (settle [] forms n at (sub_size set s)) (is_fine forms n rest (at + sub_size set s) (subs_size set subs))
-    ∙ ap (λ (b : Bool). (unneeded && settle [] forms n at (sub_size set s)) && b) (came_fine set d forms image (suc j) (at + sub_size set s) subs came (omega arith))
+    ∙ ap (λ b. (unneeded && settle [] forms n at (sub_size set s)) && b) (came_fine set d forms image (suc j) (at + sub_size set s) subs came (omega arith))
 came_fine set d forms image j at (s ∷ subs) (Some v ∷ came) e =
     let n = image.numbers in
     let needed = is_needed set d image s j && v == s.desc.version in
     let later = come_as_needed set d image (suc j) subs came in
     let here = sub_slots set s v n at in
     let rest = came_slots set d n (at + sub_size set s) subs came in
-    ap (λ (b : Bool). (needed && later) && b) (fine_parts forms n here rest at (sub_size set s) (subs_size set subs) (part_below set s.desc v n at) (came_above set d n (at + sub_size set s) subs came))
+    ap (λ b. (needed && later) && b) (fine_parts forms n here rest at (sub_size set s) (subs_size set subs) (part_below set s.desc v n at) (came_above set d n (at + sub_size set s) subs came))
     ∙ and_swap needed later (is_fine forms n here at (sub_size set s)) (is_fine forms n rest (at + sub_size set s) (subs_size set subs))
-    ∙ ap (λ (b : Bool). (needed && is_fine forms n here at (sub_size set s)) && b) (came_fine set d forms image (suc j) (at + sub_size set s) subs came (omega arith))
+    ∙ ap (λ b. (needed && is_fine forms n here at (sub_size set s)) && b) (came_fine set d forms image (suc j) (at + sub_size set s) subs came (omega arith))
 
 -- what the walk returns for a device
 abbrev pub device_fine : Set → Device → List CellForm → Image → Bool
@@ -135,13 +133,12 @@ whole_fine set d forms image e =
     let from = own_cells set d in
     let rest = came_slots set d n from d.subs image.came in
     let zero_first : from ≡ 0 + from = omega arith in
-    let below : IsBelow (0 + from) own = part_below set d.desc image.version n 0 in
-    let above : IsAbove (0 + from) rest = subst (λ (k : ℕ). IsAbove k rest) zero_first (came_above set d n from d.subs image.came) in
-    let parts = fine_parts forms n own rest 0 from (subs_size set d.subs) below above in
-    ap (λ (b : Bool). (version && is_fine forms n own 0 from) && b) (sym (came_fine set d forms image 0 from d.subs image.came e))
+    let above : IsAbove (0 + from) rest = subst (λ k. IsAbove k rest) zero_first (came_above set d n from d.subs image.came) in
+    let parts = fine_parts forms n own rest 0 from (subs_size set d.subs) (part_below set d.desc image.version n 0) above in
+    ap (λ b. (version && is_fine forms n own 0 from) && b) (sym (came_fine set d forms image 0 from d.subs image.came e))
     ∙ and_swap version (is_fine forms n own 0 from) come (is_fine forms n rest from (subs_size set d.subs))
-    ∙ ap (λ (k : ℕ). (version && come) && (is_fine forms n own 0 from && is_fine forms n rest k (subs_size set d.subs))) zero_first
-    ∙ ap (λ (b : Bool). (version && come) && b) (sym parts ∙ ap (is_fine forms n (own ++ rest) 0) (cells_long set d))
+    ∙ ap (λ k. (version && come) && (is_fine forms n own 0 from && is_fine forms n rest k (subs_size set d.subs))) zero_first
+    ∙ ap (λ b. (version && come) && b) (sym parts ∙ ap (is_fine forms n (own ++ rest) 0) (cells_long set d))
 
 -- ---- readiness
 
@@ -149,8 +146,6 @@ whole_fine set d forms image e =
 versions_are : (set : Set) (d : Device) (image : Image) (j : ℕ) (subs : List Sub) (came : List (Option ℕ)) → ((k : ℕ) (s : Sub) → slice_get subs k ≡ Some s → s.desc.minimum ≤ s.desc.version)
     → come_as_needed set d image j subs came ≡ true → AreVersionsOf subs came
 versions_are set d image j [] [] h e = tt
-versions_are set d image j [] (o ∷ came) h e = cc
-versions_are set d image j (s ∷ subs) [] h e = cc
 versions_are set d image j (s ∷ subs) (None ∷ came) h e =
     versions_are set d image (suc j) subs came (λ k t g. h (suc k) t g) (and_parts (not (is_needed set d image s j)) (come_as_needed set d image (suc j) subs came) e).1
 versions_are set d image j (s ∷ subs) (Some v ∷ came) h e =
@@ -158,16 +153,15 @@ versions_are set d image j (s ∷ subs) (Some v ∷ came) h e =
     let same = eqb-true v s.desc.version (and_parts (is_needed set d image s j) (v == s.desc.version) p.0).1 in
     let low : s.desc.minimum ≤ s.desc.version = h 0 s refl in
     ((omega arith, omega arith), versions_are set d image (suc j) subs came (λ k t g. h (suc k) t g) p.1)
+versions_are set d image j _ _ h e = cc
 
 form_default : (cells : List Cell) (c : ℕ) → (get_or (map form_of cells) c no_form).default ≡ (get_or cells c no_cell).default
-form_default [] c = refl
-form_default (x ∷ cells) zero = refl
-form_default (x ∷ cells) (suc c) = form_default cells c
+form_default cells c = rw (get_or-map form_of cells c no_cell)
 
 cell_fits : (all : List Cell) (n : List ℤ) (slots : List Slot) (c : ℕ) → c < length all → DefaultsFit all → AreCells all slots → FitSlots n slots → (has_cell slots c ≡ false → get_or n c (pos 0) ≡ (get_or all c no_cell).default)
     → (b : Bool) → has_cell slots c ≡ b → FitsCell (get_or all c no_cell) (get_or n c (pos 0))
 cell_fits all n slots c lt fine a f h true e = named_fits all n slots c e f a
-cell_fits all n slots c lt fine a f h false e = subst (λ (z : ℤ). FitsCell (get_or all c no_cell) z) (sym (h e)) (fine c lt)
+cell_fits all n slots c lt fine a f h false e = rw (h e) (fine c lt)
 
 image_constants : (set : Set) → IsGood set → (k : ℕ) (d : Device) (image : Image) → slice_get set.devices k ≡ Some d → AreConstants (image_slots set d image)
 image_constants set good k d image e =
@@ -184,10 +178,10 @@ module _ (set : Set) (well : is_well_formed set ≡ true) (good : IsGood set) (i
   lowest k s e =
       let d = device_at set i in
       let same : sub_at d k ≡ s = get_or_from_slice_get d.subs k s (record { desc = no_desc; needed = AtLeast 0 }) e in
-      subst (λ (x : Sub). x.desc.minimum ≤ x.desc.version) same (leb-true (sub_at d k).desc.minimum (sub_at d k).desc.version (sub_clean set well i k lt (slice_get_within d.subs k s e)).own.1.1.0)
+      rw same at (leb-true (sub_at d k).desc.minimum (sub_at d k).desc.version (sub_clean set well i k lt (slice_get_within d.subs k s e)).own.1.1.0)
 
   default_at : (c : ℕ) → (get_or forms c no_form).default ≡ (get_or (device_cells set (device_at set i)) c no_cell).default
-  default_at c = ap (λ (fs : List CellForm). (get_or fs c no_form).default) is ∙ form_default (device_cells set (device_at set i)) c
+  default_at c = rw is (form_default (device_cells set (device_at set i)) c)
 
   fine_ready : device_fine set (device_at set i) forms image ≡ true → IsReady set (device_at set i) image
   fine_ready e =
@@ -223,7 +217,7 @@ module _ (set : Set) (well : is_well_formed set ≡ true) (good : IsGood set) (i
       settled c l bare e =
           let slots = image_slots set (device_at set i) image in
           let here : 0 + c ≡ c = omega arith in
-          subst (λ (x : ℕ). get_or image.numbers x (pos 0) ≡ (get_or forms x no_form).default) here
+          subst (λ x. get_or image.numbers x (pos 0) ≡ (get_or forms x no_form).default) here
           (settle_at slots forms image.numbers 0 (length (device_cells set (device_at set i))) e c l (ap (has_cell slots) here ∙ bare)) ∙ default_at c
 
   ready_fine : IsReady set (device_at set i) image → device_fine set (device_at set i) forms image ≡ true

@@ -10,8 +10,7 @@ use Rattle.vms_spec.specs.declared.Part.TheVariants as parts
 name_short : (most : ℕ) (name : List ℕ) → is_name most name ≡ true → length name ≤ most
 name_short most name e =
     let p = and_parts (nat_le 1 (length name) && nat_le (length name) most) (list_all is_name_byte name) e in
-    let q = and_parts (nat_le 1 (length name)) (nat_le (length name) most) p.0 in
-    leb-true (length name) most q.1
+    leb-true (length name) most (and_parts (nat_le 1 (length name)) (nat_le (length name) most) p.0).1
 
 module _ (set : Set) (well : is_well_formed set ≡ true) where
   set_clean : AllTrue (set_rules set)
@@ -33,13 +32,13 @@ module _ (set : Set) (well : is_well_formed set ≡ true) where
       let name = (sub_at (device_at set i) j).desc.name in
       let tail = drop (length device + 1) name in
       let short = name_short 64 tail (and_parts _ (is_name 64 tail) (sub_clean set well i j lt lj).own.0).1 in
-      omega (arith, short, device_short i lt, length-drop (length device + 1) name)
+      omega (arith, device_short i lt, length-drop (length device + 1) name)
 
 -- ---- The forms of a device's cells, by the numbers that a set keeps of it.
 
 formed_cells : (cells : List Cell) → formed_of (map (λ c. c.kind) cells) (map (λ c. c.default) cells) ≡ map form_of cells
 formed_cells [] = refl
-formed_cells (c ∷ cells) = ap (λ (l : List CellForm). form_of c ∷ l) (formed_cells cells)
+formed_cells (c ∷ cells) = rw (formed_cells cells)
 
 pub formed_defaults : (set : Set) (device : ℕ) (defaults : Held) → defaults ≡ defaults_at set device → formed defaults ≡ forms_of set (device_in set device)
 formed_defaults set device defaults is = ap formed is ∙ formed_cells (device_cells set (device_in set device))
@@ -49,10 +48,10 @@ formed_long set device defaults numbers is long = ap length (formed_defaults set
 
 -- the number of a cell at its default
 default_in : (kinds : List Kind) (numbers : List ℤ) (k : ℕ) → k < length (formed_of kinds numbers) → (k < length numbers) × (get_or numbers k (pos 0) ≡ (get_or (formed_of kinds numbers) k no_form).default)
-default_in [] numbers k lt = absurd (omega (arith, lt))
-default_in (kind ∷ kinds) [] k lt = absurd (omega (arith, lt))
+default_in [] numbers k lt = absurd (omega arith)
+default_in (kind ∷ kinds) [] k lt = absurd (omega arith)
 default_in (kind ∷ kinds) (z ∷ numbers) zero lt = (omega arith, refl)
-default_in (kind ∷ kinds) (z ∷ numbers) (suc k) lt = let r = default_in kinds numbers k (omega (arith, lt)) in (omega (arith, r.0), r.1)
+default_in (kind ∷ kinds) (z ∷ numbers) (suc k) lt = let r = default_in kinds numbers k (omega arith) in (omega arith, r.1)
 
 pub default_of : (defaults : Held) (k : ℕ) → k < length (formed defaults) → (k < length defaults.numbers) × (get_or defaults.numbers k (pos 0) ≡ (get_or (formed defaults) k no_form).default)
 default_of defaults k lt = default_in defaults.kinds defaults.numbers k lt

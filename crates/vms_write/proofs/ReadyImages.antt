@@ -28,18 +28,16 @@ ready_writable set well heads i image lt r =
     let good = good_of set well heads in
     let normal = r.normal in
     let here = slice_get-get_or set.devices i (record { instance = 0; desc = no_desc; subs = [] }) lt in
-    let none : Sub = record { desc = no_desc; needed = AtLeast 0 } in
-    let long : length m ≡ length (device_cells set d) = normal.cells.long in
     record {
       few = omega (arith, few_cells set well i);
-      cells = long;
+      cells = normal.cells.long;
       came = versions_long d.subs image.came normal.subs;
       own = let are = own_are set d image.version m in
           can_write (device_cells set d) m (own_slots set d image.version m) are (fit_slots (device_cells set d) m (own_slots set d image.version m) normal.cells are (own_constants set good i d here image.version 0 m));
       subs = λ j v lj.
           let s = sub_at d j in
           let from = sub_place set (own_cells set d) d.subs j in
-          let there = slice_get-get_or d.subs j none lj in
+          let there = slice_get-get_or d.subs j _ lj in
           let are = sub_are set d j s v m there in
           can_write (device_cells set d) m (sub_slots set s v m from) are (fit_slots (device_cells set d) m (sub_slots set s v m from) normal.cells are (part_constants set good i j d s here there v from m));
     }
@@ -60,16 +58,14 @@ module _ (set : Set) (images : List Image) (n : ℕ) (image : Image) (sofar : Ar
     long = sofar.long;
     ready = λ k d other less e f. ⊎_elim (λ (below : k < n). sofar.ready k d other below e f) (λ (above : n ≤ k).
         let same : k ≡ n = omega arith in
-        let device : device_at set n ≡ d = get_or_from_slice_get set.devices n d _ (ap (slice_get set.devices) (sym same) ∙ e) in
         let there : image ≡ other = is ∙ get_or_from_slice_get images n other image (ap (slice_get images) (sym same) ∙ f) in
-        subst (λ (x : Device). IsReady set x other) device (subst (IsReady set (device_at set n)) there r)) (cases_lt k n);
+        rw (get_or_from_slice_get set.devices n d _ (ap (slice_get set.devices) (sym same) ∙ e)) at (rw there at r)) (cases_lt k n);
   }
 
   -- if one isn't ready, not all are
   pub not_all : (IsReady set (device_at set n) image → ⊥) → AreReady set images → ⊥
   not_all r all =
-      let here : slice_get images n ≡ Some image = slice_get-get_or images n image lt ∙ ap (λ (x : Image). Some x) (sym is) in
-      r (all.ready n (device_at set n) image (slice_get-get_or set.devices n _ (omega (arith, all.one_each))) here)
+      r (all.ready n (device_at set n) image (slice_get-get_or set.devices n _ (omega arith)) (slice_get-get_or images n image lt ∙ ap (λ x. Some x) (sym is)))
 
 pub all_so_far : (set : Set) (images : List Image) (n : ℕ) → AreSoFar set images n → length images ≤ n → AreReady set images
 all_so_far set images n sofar le = record {
@@ -89,8 +85,7 @@ module _ (set : Set) (images : List Typed) (n : ℕ) (image : Typed) (sofar : Ar
   one_more_of o = record {
     each = λ k other less f. ⊎_elim (λ (below : k < n). sofar.each k other below f) (λ (above : n ≤ k).
         let same : k ≡ n = omega arith in
-        let there : image ≡ other = is ∙ get_or_from_slice_get images n other image (ap (slice_get images) (sym same) ∙ f) in
-        subst (λ (m : ℕ). IsImageOf set m other) (sym same) (subst (IsImageOf set n) there o)) (cases_lt k n);
+        rw same (rw (is ∙ get_or_from_slice_get images n other image (ap (slice_get images) (sym same) ∙ f)) at o)) (cases_lt k n);
   }
 
 pub all_of : (set : Set) (images : List Typed) (n : ℕ) → AreOfSoFar set images n → length images ≡ length set.devices → length images ≤ n → AreImagesOf set images

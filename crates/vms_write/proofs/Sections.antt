@@ -8,9 +8,9 @@ use Rattle.vms_spec.specs.declared.Part.TheVariants as parts
 
 pub bytes_zeroed : (n : List ℤ) (xs : List Slot) → bytes_of n (steps_of xs) ≡ zeroed n xs
 bytes_zeroed n [] = refl
-bytes_zeroed n (Number c kind caps ∷ xs) = ap (λ (l : List ℕ). code kind (get_or n c (pos 0)) ++ l) (bytes_zeroed n xs)
-bytes_zeroed n (Constant kind z ∷ xs) = ap (λ (l : List ℕ). code kind z ++ l) (bytes_zeroed n xs)
-bytes_zeroed n (Filler k ∷ xs) = ap (λ (l : List ℕ). replicate k 0 ++ l) (bytes_zeroed n xs)
+bytes_zeroed n (Number c kind caps ∷ xs) = rw (bytes_zeroed n xs)
+bytes_zeroed n (Constant kind z ∷ xs) = rw (bytes_zeroed n xs)
+bytes_zeroed n (Filler k ∷ xs) = rw (bytes_zeroed n xs)
 bytes_zeroed n (Rule b ∷ xs) = bytes_zeroed n xs
 
 abbrev AllCan : List Kind → List WalkStep → Type 0
@@ -30,15 +30,14 @@ one_of kinds (y ∷ xs) rest x h = one_of kinds xs rest x h.1
 
 -- any step of these slots
 pub can_write_step : (kinds : List Kind) (slots : List Slot) (xs rest : List WalkStep) (x : WalkStep) → CanWrite kinds slots → steps_of slots ≡ xs ++ (x ∷ rest) → CanStep kinds x
-can_write_step kinds slots xs rest x h e = one_of kinds xs rest x (subst (AllCan kinds) e (all_can kinds slots h))
+can_write_step kinds slots xs rest x h e = one_of kinds xs rest x (rw e at (all_can kinds slots h))
 
 -- ---- The bytes of numbers of one kind whose cells follow one another.
 
 pub run_bytes : (numbers : List ℤ) (kind : Kind) (first count : ℕ) → first + count ≤ length numbers → codes_of kind (take count (drop first numbers)) ≡ bytes_of numbers (run_of first count kind)
 run_bytes numbers kind first zero room = refl
 run_bytes numbers kind first (suc count) room =
-    ap (λ (l : List ℤ). codes_of kind (take (suc count) l)) (drop_more numbers first (pos 0) (omega (arith, room)))
-    ∙ ap (λ (l : List ℕ). code kind (get_or numbers first (pos 0)) ++ l) (run_bytes numbers kind (first + 1) count (omega (arith, room)))
+    rw (drop_more numbers first (pos 0) (omega (arith, room)), run_bytes numbers kind (first + 1) count (omega (arith, room)))
 
 -- the result of a call that writes
 pub wrote_ok : {T E P : Type 0} (a b : Outlet) (xs : List ℕ) (r : Result T E) → (Puts a b xs → P) → Wrote a b xs r → OnOk r P
@@ -58,12 +57,10 @@ pub subs_next : (set : Set) (i : ℕ) (image : Image) (j : ℕ) → j < length (
     ++ written_subs set (device_at set i) image (first_cell set (parts.Sub i (j + 1))) (drop (j + 1) (device_at set i).subs) (drop (j + 1) image.came)
 subs_next set i image j lt lt' =
     let d = device_at set i in
-    let none : Sub = record { desc = no_desc; needed = AtLeast 0 } in
     let at = first_cell set (parts.Sub i j) in
-    ap (λ (xs : List Sub). written_subs set d image at xs (drop j image.came)) (drop_more d.subs j none lt)
-    ∙ ap (λ (ys : List (Option ℕ)). written_subs set d image at (sub_at d j ∷ drop (j + 1) d.subs) ys) (drop_more image.came j None lt')
-    ∙ one (get_or image.came j None)
-    ∙ ap (λ (x : ℕ). written_sub set i image j (get_or image.came j None) ++ written_subs set d image x (drop (j + 1) d.subs) (drop (j + 1) image.came)) (sym (sub_next set (own_cells set d) d.subs j none lt))
+    ap (λ xs. written_subs set d image at xs (drop j image.came)) (drop_more d.subs j _ lt)
+    ∙ ap (λ ys. written_subs set d image at (sub_at d j ∷ drop (j + 1) d.subs) ys) (drop_more image.came j None lt') ∙ one (get_or image.came j None)
+    ∙ ap (λ x. written_sub set i image j (get_or image.came j None) ++ written_subs set d image x (drop (j + 1) d.subs) (drop (j + 1) image.came)) (sym (sub_next set (own_cells set d) d.subs j _ lt))
   where
     one : (o : Option ℕ) → written_subs set (device_at set i) image (first_cell set (parts.Sub i j)) (sub_at (device_at set i) j ∷ drop (j + 1) (device_at set i).subs) (o ∷ drop (j + 1) image.came)
         ≡ written_sub set i image j o
@@ -81,11 +78,10 @@ subs_fine_next set i forms image j lt lt' =
     let none : Sub = record { desc = no_desc; needed = AtLeast 0 } in
     let at = first_cell set (parts.Sub i j) in
     let here = sub_fine set d forms image j at (sub_at d j) (get_or image.came j None) in
-    let one : suc j ≡ j + 1 = omega arith in
-    ap (λ (xs : List Sub). subs_fine set d forms image j at xs (drop j image.came)) (drop_more d.subs j none lt)
-    ∙ ap (λ (ys : List (Option ℕ)). subs_fine set d forms image j at (sub_at d j ∷ drop (j + 1) d.subs) ys) (drop_more image.came j None lt')
-    ∙ ap (λ (k : ℕ). here && subs_fine set d forms image k (at + sub_size set (sub_at d j)) (drop (j + 1) d.subs) (drop (j + 1) image.came)) one
-    ∙ ap (λ (x : ℕ). here && subs_fine set d forms image (j + 1) x (drop (j + 1) d.subs) (drop (j + 1) image.came)) (sym (sub_next set (own_cells set d) d.subs j none lt))
+    ap (λ xs. subs_fine set d forms image j at xs (drop j image.came)) (drop_more d.subs j none lt)
+    ∙ ap (λ ys. subs_fine set d forms image j at (sub_at d j ∷ drop (j + 1) d.subs) ys) (drop_more image.came j None lt')
+    ∙ ap (λ k. here && subs_fine set d forms image k (at + sub_size set (sub_at d j)) (drop (j + 1) d.subs) (drop (j + 1) image.came)) (omega arith)
+    ∙ ap (λ x. here && subs_fine set d forms image (j + 1) x (drop (j + 1) d.subs) (drop (j + 1) image.came)) (sym (sub_next set (own_cells set d) d.subs j none lt))
 
 -- ---- The sections of a stream, one after the other.
 
@@ -94,13 +90,13 @@ pub sections_next : (set : Set) (i : ℕ) (ds : List Device) (images : List Imag
     → written_sections set i (drop i ds) (drop i images)
     ≡ written_section set (get_or ds i d) (get_or images i image) i ++ written_sections set (i + 1) (drop (i + 1) ds) (drop (i + 1) images)
 sections_next set i ds images d image lt lt' =
-    ap (λ (xs : List Device). written_sections set i xs (drop i images)) (drop_more ds i d lt)
-    ∙ ap (λ (ys : List Image). written_sections set i (get_or ds i d ∷ drop (i + 1) ds) ys) (drop_more images i image lt')
-    ∙ ap (λ (k : ℕ). written_section set (get_or ds i d) (get_or images i image) i ++ written_sections set k (drop (i + 1) ds) (drop (i + 1) images)) (omega arith)
+    ap (λ xs. written_sections set i xs (drop i images)) (drop_more ds i d lt)
+    ∙ ap (λ ys. written_sections set i (get_or ds i d ∷ drop (i + 1) ds) ys) (drop_more images i image lt')
+    ∙ ap (λ k. written_section set (get_or ds i d) (get_or images i image) i ++ written_sections set k (drop (i + 1) ds) (drop (i + 1) images)) (omega arith)
 
 pub sections_at : (set : Set) (i : ℕ) (images : List Image) (image : Image) → i < length set.devices → i < length images → image ≡ get_or images i image
     → written_sections set i (drop i set.devices) (drop i images)
     ≡ written_section set (device_at set i) image i ++ written_sections set (i + 1) (drop (i + 1) set.devices) (drop (i + 1) images)
 sections_at set i images image lt lt' is =
     sections_next set i set.devices images (record { instance = 0; desc = no_desc; subs = [] }) image lt lt'
-    ∙ ap (λ (x : Image). written_section set (device_at set i) x i ++ written_sections set (i + 1) (drop (i + 1) set.devices) (drop (i + 1) images)) (sym is)
+    ∙ ap (λ x. written_section set (device_at set i) x i ++ written_sections set (i + 1) (drop (i + 1) set.devices) (drop (i + 1) images)) (sym is)

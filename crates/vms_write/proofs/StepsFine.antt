@@ -1,4 +1,7 @@
 -- When the slots of a part are fine, joined and step by step.
+use Rattle.std.proofs.Math.Bool.{or-false}
+use Rattle.std.proofs.lemmas.Bool.{false_from_ne_true}
+use Rattle.vms_bodies.proofs.AgreeLaws.{named_inside}
 use Rattle.vms_write.proofs.Facade.{◌≡◌, ℕ, zero, suc, ◌+◌, ◌<◌, ◌≤◌, List, [], ◌∷◌, ◌++◌, length, length-append, get_or, replicate, ℤ, pos, refl, sym, ap, ◌∙◌}
 use Rattle.vms_write.proofs.Facade.{subst, arith, Bool, true, false, ◌&&◌, ◌||◌, ◌-◌, Option, Some, None, negsuc, ◌==◌, length-replicate, ne_eqb, eq-eqb}
 use Rattle.vms_write.proofs.Facade.{and-true, and_assoc, same_number, in_range, counts_well, int_le, Desc, Set, Cell, no_cell, Slot, Number, Constant, Filler}
@@ -7,34 +10,23 @@ use Rattle.vms_write.proofs.Facade.{and_swap, both_below, CellForm, no_form, are
 use Rattle.vms_write.proofs.Facade.{stands_behind, Kind, own_cell_count, lesser, least_from, least_of, desc_at, PartAt, Ascends, below_from, from_end}
 use Rattle.vms_write.proofs.Facade.{desc_ascends, meanings_ascend, is_number_fine, behind, are_steps_fine}
 
--- ---- tests
-
-or_none : (a b : Bool) → b ≡ false → (a || b) ≡ a
-or_none true b e = refl
-or_none false b e = e
-
 -- ---- parts
 
 pub fit_append : (n : List ℤ) (xs ys : List Slot) → are_fit n (xs ++ ys) ≡ (are_fit n xs && are_fit n ys)
 fit_append n [] ys = refl
 fit_append n (Number c kind caps ∷ xs) ys =
-    ap (λ (b : Bool). (in_range kind (get_or n c (pos 0)) && counts_well caps (get_or n c (pos 0))) && b) (fit_append n xs ys)
-    ∙ sym (and_assoc (in_range kind (get_or n c (pos 0)) && counts_well caps (get_or n c (pos 0))) (are_fit n xs) (are_fit n ys))
+    rw (fit_append n xs ys) (sym (and_assoc (in_range kind (get_or n c (pos 0)) && counts_well caps (get_or n c (pos 0))) (are_fit n xs) (are_fit n ys)))
 fit_append n (Constant kind z ∷ xs) ys = fit_append n xs ys
 fit_append n (Filler k ∷ xs) ys = fit_append n xs ys
-fit_append n (Rule b ∷ xs) ys = ap (λ (x : Bool). b && x) (fit_append n xs ys) ∙ sym (and_assoc b (are_fit n xs) (are_fit n ys))
+fit_append n (Rule b ∷ xs) ys = rw (fit_append n xs ys) (sym (and_assoc b (are_fit n xs) (are_fit n ys)))
 
 pub settle_plus : (slots : List Slot) (forms : List CellForm) (n : List ℤ) (at a b : ℕ) → settle slots forms n at (a + b) ≡ (settle slots forms n at a && settle slots forms n (at + a) b)
-settle_plus slots forms n at zero b =
-    let none : 0 + b ≡ b = omega arith in
-    let here : at ≡ at + 0 = omega arith in
-    ap (settle slots forms n at) none ∙ ap (λ (x : ℕ). settle slots forms n x b) here
+settle_plus slots forms n at zero b = ap (settle slots forms n at) (omega arith) ∙ ap (λ x. settle slots forms n x b) (omega arith)
 settle_plus slots forms n at (suc a) b =
     let one : suc a + b ≡ suc (a + b) = omega arith in
-    let next : (at + 1) + a ≡ at + suc a = omega arith in
     let first = has_cell slots at || same_number (get_or n at (pos 0)) (get_or forms at no_form).default in
     ap (settle slots forms n at) one ∙ ap (λ (x : Bool). first && x) (settle_plus slots forms n (at + 1) a b)
-    ∙ ap (λ (x : ℕ). first && (settle slots forms n (at + 1) a && settle slots forms n x b)) next
+    ∙ ap (λ x. first && (settle slots forms n (at + 1) a && settle slots forms n x b)) (omega arith)
     ∙ sym (and_assoc first (settle slots forms n (at + 1) a) (settle slots forms n (at + suc a) b))
 
 pub record SameCells (low end : ℕ) (xs ys : List Slot) : Type 0 where
@@ -43,11 +35,7 @@ pub record SameCells (low end : ℕ) (xs ys : List Slot) : Type 0 where
 pub settle_same : (xs ys : List Slot) (forms : List CellForm) (n : List ℤ) (at k : ℕ) → SameCells at (at + k) xs ys → settle xs forms n at k ≡ settle ys forms n at k
 settle_same xs ys forms n at zero h = refl
 settle_same xs ys forms n at (suc k) h =
-    let zero_up : at ≤ at = omega arith in
-    let first : at < at + suc k = omega arith in
-    ap (λ (b : Bool). (b || same_number (get_or n at (pos 0)) (get_or forms at no_form).default) && settle xs forms n (at + 1) k) (h.same at zero_up first)
-    ∙ ap (λ (b : Bool). (has_cell ys at || same_number (get_or n at (pos 0)) (get_or forms at no_form).default) && b)
-    (settle_same xs ys forms n (at + 1) k (record { same = λ c low lt. h.same c (omega arith) (omega arith) }))
+    rw (h.same at (omega arith) (omega arith), settle_same xs ys forms n (at + 1) k (record { same = λ c low lt. h.same c (omega arith) (omega arith) }))
 
 -- no number of the slots is at the end or above
 pub record IsBelow (end : ℕ) (slots : List Slot) : Type 0 where
@@ -56,56 +44,43 @@ pub record IsBelow (end : ℕ) (slots : List Slot) : Type 0 where
 pub fine_parts : (forms : List CellForm) (n : List ℤ) (xs ys : List Slot) (at a b : ℕ) → IsBelow (at + a) xs → IsAbove (at + a) ys
     → is_fine forms n (xs ++ ys) at (a + b) ≡ (is_fine forms n xs at a && is_fine forms n ys (at + a) b)
 fine_parts forms n xs ys at a b below above =
-    let front : SameCells at (at + a) (xs ++ ys) xs = record { same = λ c low lt. names_append xs ys c ∙ or_none (has_cell xs c) (has_cell ys c) (above.below c lt) } in
-    let back : SameCells (at + a) ((at + a) + b) (xs ++ ys) ys = record { same = λ c low lt. names_append xs ys c ∙ ap (λ (x : Bool). x || has_cell ys c) (below.above c low) } in
-    ap (λ (x : Bool). x && settle (xs ++ ys) forms n at (a + b)) (fit_append n xs ys) ∙ ap (λ (x : Bool). (are_fit n xs && are_fit n ys) && x)
-    (settle_plus (xs ++ ys) forms n at a b ∙ ap (λ (x : Bool). x && settle (xs ++ ys) forms n (at + a) b) (settle_same (xs ++ ys) xs forms n at a front)
-    ∙ ap (λ (x : Bool). settle xs forms n at a && x) (settle_same (xs ++ ys) ys forms n (at + a) b back))
-    ∙ and_swap (are_fit n xs) (are_fit n ys) (settle xs forms n at a) (settle ys forms n (at + a) b)
+    let front : SameCells at (at + a) (xs ++ ys) xs = record { same = λ c low lt. rw (names_append, above.below c lt) (or-false (has_cell xs c)) } in
+    let back : SameCells (at + a) ((at + a) + b) (xs ++ ys) ys = record { same = λ c low lt. rw (names_append, below.above c low) refl } in
+    rw (
+      fit_append n xs ys,
+      settle_plus (xs ++ ys) forms n at a b ∙ ap (λ (x : Bool). x && settle (xs ++ ys) forms n (at + a) b) (settle_same (xs ++ ys) xs forms n at a front)
+          ∙ ap (λ (x : Bool). settle xs forms n at a && x) (settle_same (xs ++ ys) ys forms n (at + a) b back),
+    ) (and_swap (are_fit n xs) (are_fit n ys) (settle xs forms n at a) (settle ys forms n (at + a) b))
 
 -- ---- where parts end
 
 are_below : (all : List Cell) (slots : List Slot) → AreCells all slots → IsBelow (length all) slots
-are_below all slots h = record { above = λ c le. none slots h c le }
-  where
-    none : (slots : List Slot) → AreCells all slots → (c : ℕ) → length all ≤ c → has_cell slots c ≡ false
-    none [] h c le = refl
-    none (Number k kind caps ∷ slots) h c le =
-        let within = h.0.within in
-        let lt : k < c = omega arith in
-        ap (λ (b : Bool). b || has_cell slots c) (ne_eqb k c (λ e. omega (arith, e, lt))) ∙ none slots h.1 c le
-    none (Constant kind z ∷ slots) h c le = none slots h c le
-    none (Filler m ∷ slots) h c le = none slots h c le
-    none (Rule b ∷ slots) h c le = none slots h c le
+are_below all slots h = record { above = λ c le. false_from_ne_true _ (λ e. omega (arith, named_inside all slots c h e)) }
 
 pub desc_below : (ms : List Meaning) → MeanCells ms → (n : List ℤ) (d : Desc) (v at : ℕ) → IsBelow (at + length (desc_cells (cells_in ms) d)) (desc_slots ms d v n at)
 desc_below ms known n d v at =
     let cells = desc_cells (cells_in ms) d in
     let all = replicate at no_cell ++ cells in
     let long : length all ≡ at + length cells = omega (arith, length-append (replicate at no_cell) cells, length-replicate at no_cell) in
-    subst (λ (k : ℕ). IsBelow k (desc_slots ms d v n at)) long (are_below all (desc_slots ms d v n at) (desc_are ms known d v at n all (stands_behind at cells)))
+    rw long at (are_below all (desc_slots ms d v n at) (desc_are ms known d v at n all (stands_behind at cells)))
 
 -- ---- The steps of a part are fine, and the cells after them at their defaults, exactly if its slots are fine.
 
 -- ---- capacities and the least of them
 
 lesser_within : (o : Option ℕ) (m : ℕ) (z : ℤ) → is_within (lesser o m) z ≡ (is_within o z && int_le z (pos m))
-lesser_within None m z = refl
 lesser_within (Some k) m (pos a) = both_below a k m
-lesser_within (Some k) m (negsuc a) = refl
+lesser_within _ m _ = refl
 
 least_within : (o : Option ℕ) (caps : List ℕ) (z : ℤ) → is_within (least_from o caps) z ≡ (is_within o z && counts_well caps z)
 least_within o [] z = sym (and-true (is_within o z))
 least_within o (m ∷ caps) z =
-    least_within (lesser o m) caps z ∙ ap (λ (b : Bool). b && counts_well caps z) (lesser_within o m z) ∙ and_assoc (is_within o z) (int_le z (pos m)) (counts_well caps z)
+    least_within (lesser o m) caps z ∙ ap (λ b. b && counts_well caps z) (lesser_within o m z) ∙ and_assoc (is_within o z) (int_le z (pos m)) (counts_well caps z)
 
 number_fine : (kind : Kind) (caps : List ℕ) (z : ℤ) → is_number_fine kind (least_of caps) z ≡ (in_range kind z && counts_well caps z)
-number_fine kind caps z = ap (λ (b : Bool). in_range kind z && b) (least_within None caps z)
+number_fine kind caps z = rw (least_within None caps z)
 
 -- ---- slots one after the other
-
-or_right : (a b : Bool) → a ≡ false → (a || b) ≡ b
-or_right a b e = ap (λ (x : Bool). x || b) e
 
 -- the cells before a number, and those after it
 settle_number : (forms : List CellForm) (n : List ℤ) (at end c : ℕ) (kind : Kind) (caps : List ℕ) (xs : List Slot) → at ≤ c → Ascends (c + 1) end xs
@@ -113,24 +88,16 @@ settle_number : (forms : List CellForm) (n : List ℤ) (at end c : ℕ) (kind : 
 settle_number forms n at end c kind caps xs le asc =
     let all = Number c kind caps ∷ xs in
     let room = from_end (c + 1) end xs asc in
-    let parts : end - at ≡ (c - at) + suc (end - (c + 1)) = omega (arith, room) in
-    let here : at + (c - at) ≡ c = omega arith in
     let default = same_number (get_or n c (pos 0)) (get_or forms c no_form).default in
     let front : SameCells at (at + (c - at)) all [] = record {
-      same = λ k low lt.
-          let less : k < c = omega arith in
-          or_right (c == k) (has_cell xs k) (ne_eqb c k (λ e. omega (arith, e, less))) ∙ below_from (c + 1) end xs asc k (omega arith);
+      same = λ k low lt. rw (ne_eqb c k (λ e. omega arith)) (below_from (c + 1) end xs asc k (omega arith));
     } in
-    let back : SameCells (c + 1) ((c + 1) + (end - (c + 1))) all xs = record {
-      same = λ k low lt.
-          let less : c < k = omega arith in
-          or_right (c == k) (has_cell xs k) (ne_eqb c k (λ e. omega (arith, e, less)));
-    } in
-    ap (settle all forms n at) parts ∙ settle_plus all forms n at (c - at) (suc (end - (c + 1)))
-    ∙ ap (λ (b : Bool). b && settle all forms n (at + (c - at)) (suc (end - (c + 1)))) (settle_same all [] forms n at (c - at) front)
-    ∙ ap (λ (k : ℕ). settle [] forms n at (c - at) && settle all forms n k (suc (end - (c + 1)))) here
-    ∙ ap (λ (b : Bool). settle [] forms n at (c - at) && (((b || has_cell xs c) || default) && settle all forms n (c + 1) (end - (c + 1)))) (eq-eqb c c refl)
-    ∙ ap (λ (b : Bool). settle [] forms n at (c - at) && b) (settle_same all xs forms n (c + 1) (end - (c + 1)) back)
+    let back : SameCells (c + 1) ((c + 1) + (end - (c + 1))) all xs = record { same = λ k low lt. rw (ne_eqb c k (λ e. omega arith)) refl } in
+    ap (settle all forms n at) (omega arith) ∙ settle_plus all forms n at (c - at) (suc (end - (c + 1)))
+    ∙ ap (λ b. b && settle all forms n (at + (c - at)) (suc (end - (c + 1)))) (settle_same all [] forms n at (c - at) front)
+    ∙ ap (λ k. settle [] forms n at (c - at) && settle all forms n k (suc (end - (c + 1)))) (omega arith)
+    ∙ ap (λ b. settle [] forms n at (c - at) && (((b || has_cell xs c) || default) && settle all forms n (c + 1) (end - (c + 1)))) (eq-eqb c c refl)
+    ∙ ap (λ b. settle [] forms n at (c - at) && b) (settle_same all xs forms n (c + 1) (end - (c + 1)) back)
 
 settle_other : (forms : List CellForm) (n : List ℤ) (xs ys : List Slot) (at k : ℕ) → ((c : ℕ) → has_cell xs c ≡ has_cell ys c) → settle xs forms n at k ≡ settle ys forms n at k
 settle_other forms n xs ys at k h = settle_same xs ys forms n at k (record { same = λ c low lt. h c })
@@ -144,22 +111,21 @@ slots_fine forms n at end (Number c kind caps ∷ xs) h =
     let rest = are_steps_fine forms n (c + 1) (steps_of xs) in
     let tail = settle [] forms n (behind (c + 1) (steps_of xs)) (end - behind (c + 1) (steps_of xs)) in
     let fits = in_range kind z && counts_well caps z in
-    and_assoc (is_number_fine kind (least_of caps) z && gap) rest tail ∙ ap (λ (b : Bool). (b && gap) && (rest && tail)) (number_fine kind caps z)
-    ∙ ap (λ (b : Bool). (fits && gap) && b) (slots_fine forms n (c + 1) end xs h.1)
-    ∙ and_swap fits gap (are_fit n xs) (settle xs forms n (c + 1) (end - (c + 1)))
-    ∙ ap (λ (b : Bool). (fits && are_fit n xs) && b) (sym (settle_number forms n at end c kind caps xs h.0 h.1))
+    and_assoc (is_number_fine kind (least_of caps) z && gap) rest tail ∙ ap (λ b. (b && gap) && (rest && tail)) (number_fine kind caps z)
+    ∙ ap (λ b. (fits && gap) && b) (slots_fine forms n (c + 1) end xs h.1) ∙ and_swap fits gap (are_fit n xs) (settle xs forms n (c + 1) (end - (c + 1)))
+    ∙ ap (λ b. (fits && are_fit n xs) && b) (sym (settle_number forms n at end c kind caps xs h.0 h.1))
 slots_fine forms n at end (Rule b ∷ xs) h =
     and_assoc b (are_steps_fine forms n at (steps_of xs)) (settle [] forms n (behind at (steps_of xs)) (end - behind at (steps_of xs)))
-    ∙ ap (λ (x : Bool). b && x) (slots_fine forms n at end xs h) ∙ sym (and_assoc b (are_fit n xs) (settle xs forms n at (end - at)))
-    ∙ ap (λ (x : Bool). (b && are_fit n xs) && x) (settle_other forms n xs (Rule b ∷ xs) at (end - at) (λ c. refl))
+    ∙ ap (λ x. b && x) (slots_fine forms n at end xs h) ∙ sym (and_assoc b (are_fit n xs) (settle xs forms n at (end - at)))
+    ∙ ap (λ x. (b && are_fit n xs) && x) (settle_other forms n xs (Rule b ∷ xs) at (end - at) (λ c. refl))
 slots_fine forms n at end (x ∷ xs) h =
-    slots_fine forms n at end xs h ∙ ap (λ (b : Bool). are_fit n xs && b) (settle_other forms n xs (x ∷ xs) at (end - at) (λ c. refl))
+    slots_fine forms n at end xs h ∙ ap (λ b. are_fit n xs && b) (settle_other forms n xs (x ∷ xs) at (end - at) (λ c. refl))
 
 -- ---- a part of a set
 
 part_ascends : (set : Set) (spot : PartAt) (n : List ℤ) → Ascends spot.base (spot.base + own_cell_count set (desc_at set spot.part)) (spot_slots set spot n)
 part_ascends set spot n =
-    subst (λ (cs : List (List Cell)). Ascends spot.base (spot.base + length (desc_cells cs (desc_at set spot.part))) (spot_slots set spot n)) (cells_first set.structs (length set.structs))
+    subst (λ cs. Ascends spot.base (spot.base + length (desc_cells cs (desc_at set spot.part))) (spot_slots set spot n)) (cells_first set.structs (length set.structs))
     (desc_ascends (table set) (meanings_ascend set.structs (length set.structs)) (desc_at set spot.part) spot.version n spot.base)
 
 -- the walk over a part reaches its end
@@ -170,10 +136,9 @@ pub part_fine : (set : Set) (spot : PartAt) (forms : List CellForm) (n : List �
 part_fine set spot forms n end e fine =
     let steps = steps_of (spot_slots set spot n) in
     let size = own_cell_count set (desc_at set spot.part) in
-    let long : end - spot.base ≡ size = omega (arith, e) in
     let asc = subst (λ (k : ℕ). Ascends spot.base k (spot_slots set spot n)) (sym e) (part_ascends set spot n) in
-    ap (λ (b : Bool). b && settle [] forms n (behind spot.base steps) (end - behind spot.base steps)) (sym fine)
-    ∙ slots_fine forms n spot.base end (spot_slots set spot n) asc ∙ ap (is_fine forms n (spot_slots set spot n) spot.base) long
+    ap (λ b. b && settle [] forms n (behind spot.base steps) (end - behind spot.base steps)) (sym fine)
+    ∙ slots_fine forms n spot.base end (spot_slots set spot n) asc ∙ ap (is_fine forms n (spot_slots set spot n) spot.base) (omega (arith, e))
 
 -- it stops
 pub part_unfit : (set : Set) (spot : PartAt) (forms : List CellForm) (n : List ℤ) → are_steps_fine forms n spot.base (steps_of (spot_slots set spot n)) ≡ false
@@ -182,6 +147,5 @@ part_unfit set spot forms n fine =
     let steps = steps_of (spot_slots set spot n) in
     let size = own_cell_count set (desc_at set spot.part) in
     let end = spot.base + size in
-    let long : end - spot.base ≡ size = omega arith in
-    ap (λ (b : Bool). b && settle [] forms n (behind spot.base steps) (end - behind spot.base steps)) (sym fine)
-    ∙ slots_fine forms n spot.base end (spot_slots set spot n) (part_ascends set spot n) ∙ ap (is_fine forms n (spot_slots set spot n) spot.base) long
+    ap (λ b. b && settle [] forms n (behind spot.base steps) (end - behind spot.base steps)) (sym fine)
+    ∙ slots_fine forms n spot.base end (spot_slots set spot n) (part_ascends set spot n) ∙ ap (is_fine forms n (spot_slots set spot n) spot.base) (omega arith)

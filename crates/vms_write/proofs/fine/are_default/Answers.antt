@@ -13,4 +13,4 @@ loop-cell-preserved c =
     let cell = c.loop-cell.cell in
     let end = c.args.end in
     let next = one_more f n cell (end - cell) (end - (cell + 1)) (omega arith) in
-    ap (λ (b : Bool). b && settle [] f n (cell + 1) (end - (cell + 1))) (sym c.if-not-is_default.false ∙ c.is_default.ensures) ∙ sym next ∙ c.loop-cell.invariant
+    ap (λ b. b && settle [] f n (cell + 1) (end - (cell + 1))) (sym c.if-not-is_default.false ∙ c.is_default.ensures) ∙ sym next ∙ c.loop-cell.invariant

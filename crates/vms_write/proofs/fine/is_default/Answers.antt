@@ -3,9 +3,7 @@ use Rattle.vms_write.proofs.Formed.{default_of}
 use Rattle.vms_write.proofs.fine.is_default.Goals as goal
 
 pub get-requires-2 : goal.get-requires-2
-get-requires-2 c = (default_of c.args.defaults.now c.args.cell (omega (arith, c.requires.forms, c.requires.inside))).0
+get-requires-2 c = (default_of c.args.defaults.now c.args.cell (omega arith)).0
 
 pub returns : goal.returns
-returns c =
-    let default = (default_of c.args.defaults.now c.args.cell (omega (arith, c.requires.forms, c.requires.inside))).1 in
-    search (rules, default)
+returns c = search (rules, ((default_of c.args.defaults.now c.args.cell (omega arith)).1))

@@ -12,12 +12,11 @@ returns-in-Ok c =
     let judge = c.walk.new.walker in
     let went = c.in-Ok.ensures.ok in
     let steps = λ (m : List ℤ). steps_of (spot_slots set spot m) in
-    let same : judge.image.now.numbers ≡ n = ap (λ image. image.now.numbers) went.0 in
-    let fine : are_steps_fine forms n spot.base (steps n) ≡ true = ap (λ (m : List ℤ). are_steps_fine forms n spot.base (steps m)) (sym same) ∙ went.3 in
-    let next : judge.next ≡ behind spot.base (steps n) = went.2 ∙ ap (λ (m : List ℤ). behind spot.base (steps m)) same in
-    let size : c.cells_of.result ≡ in_u32 (own_cell_count set (desc_at set spot.part)) = c.cells_of.ensures in
+    let same : judge.image.now.numbers ≡ n = rw (went.0) in
+    let fine : are_steps_fine forms n spot.base (steps n) ≡ true = ap (λ m. are_steps_fine forms n spot.base (steps m)) (sym same) ∙ went.3 in
+    let next : judge.next ≡ behind spot.base (steps n) = went.2 ∙ ap (λ m. behind spot.base (steps m)) same in
     let end = spot.base + c.cells_of.result in
-    let whole : end ≡ spot.base + own_cell_count set (desc_at set spot.part) = omega (arith, size, c.requires.spot.room, c.requires.spot.few) in
+    let whole : end ≡ spot.base + own_cell_count set (desc_at set spot.part) = omega (arith, c.cells_of.ensures, c.requires.spot.room, c.requires.spot.few) in
     c.are_default.ensures ∙ ap (λ (k : ℕ). settle [] forms n k (end - k)) next ∙ part_fine set spot forms n end whole fine
 
 pub returns-in-Err : goal.returns-in-Err
@@ -26,4 +25,4 @@ returns-in-Err c =
     let n = c.args.image.now.numbers in
     let stopped = c.in-Err.ensures.err in
     let same : c.walk.new.walker.image.now.numbers ≡ n = ap (λ image. image.now.numbers) stopped.0 in
-    part_unfit set c.args.spot (formed c.args.defaults.now) n (ap (λ (m : List ℤ). are_steps_fine (formed c.args.defaults.now) n c.args.spot.base (steps_of (spot_slots set c.args.spot m))) (sym same) ∙ stopped.1)
+    part_unfit set c.args.spot (formed c.args.defaults.now) n (ap (λ m. are_steps_fine (formed c.args.defaults.now) n c.args.spot.base (steps_of (spot_slots set c.args.spot m))) (sym same) ∙ stopped.1)

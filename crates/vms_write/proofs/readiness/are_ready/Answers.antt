@@ -6,7 +6,7 @@ use Rattle.vms_write.proofs.readiness.are_ready.Goals as goal
 pub loop-device-init : goal.loop-device-init
 loop-device-init c = record {
   ready = none_so_far (described c.args.set.now) (map state_of c.args.images.now)
-      (states_long c.args.images.now ∙ c.if-images-as_slice.false ∙ ap length c.as_slice.ensures ∙ sym (length-map c.parts.result.now.devices device_of) ∙ ap (λ (s : Set). length s.devices) c.parts.ensures);
+      (states_long c.args.images.now ∙ c.if-images-as_slice.false ∙ ap length c.as_slice.ensures ∙ sym (length-map c.parts.result.now.devices device_of) ∙ ap (λ s. length s.devices) c.parts.ensures);
   of = none_of (described c.args.set.now) c.args.images.now;
 }
 
@@ -15,7 +15,7 @@ loop-device-preserved c =
     let images = c.args.images.now in
     let image = c.index-images-device.result in
     let k = c.loop-device.device in
-    let lt : k < length (map state_of images) = omega (arith, c.loop-device-test.true, states_long images) in
+    let lt : k < length (map state_of images) = omega (arith, states_long images) in
     record {
       ready = one_more (described c.args.set.now) (map state_of images) k (state_of image) c.loop-device.invariant.ready lt (state_at images k image c.loop-device-test.true c.index-images-device.is)
           (OnTrue_at c.if-not-may_be_written.false c.may_be_written.ensures.ready);
@@ -27,15 +27,14 @@ returns-then-not-may_be_written-clause-other c =
     let images = c.args.images.now in
     let image = c.index-images-device.result in
     let k = c.loop-device.device in
-    let lt : k < length (map state_of images) = omega (arith, c.loop-device-test.true, states_long images) in
+    let lt : k < length (map state_of images) = omega (arith, states_long images) in
     λ of. not_all (described c.args.set.now) (map state_of images) k (state_of image) c.loop-device.invariant.ready lt (state_at images k image c.loop-device-test.true c.index-images-device.is)
     (OnFalse_at c.if-not-may_be_written.true c.may_be_written.ensures.other (of.each k image (image_at images k image c.loop-device-test.true c.index-images-device.is)))
 
 pub returns-clause-ready : goal.returns-clause-ready
 returns-clause-ready c =
     let images = c.args.images.now in
-    let past : length (map state_of images) ≤ c.loop-device.device = omega (arith, c.loop-device-test.false, states_long images) in
-    all_so_far (described c.args.set.now) (map state_of images) c.loop-device.device c.loop-device.invariant.ready past
+    all_so_far (described c.args.set.now) (map state_of images) c.loop-device.device c.loop-device.invariant.ready (omega (arith, states_long images))
 
 pub returns-clause-of : goal.returns-clause-of
 returns-clause-of c =

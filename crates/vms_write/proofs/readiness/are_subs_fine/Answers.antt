@@ -9,7 +9,7 @@ loop-sub-init c =
     let set = described c.args.set.now in
     let d = device_at set c.args.device in
     let image = state_of c.args.image.now in
-    ap (λ (k : ℕ). subs_fine set d (forms_of set d) image 0 k d.subs image.came) (sub_first set (own_cells set d) d.subs)
+    rw (sub_first set (own_cells set d) d.subs)
 
 pub loop-sub-preserved : goal.loop-sub-preserved
 loop-sub-preserved c =
@@ -18,7 +18,6 @@ loop-sub-preserved c =
     let d = device_at set i in
     let image = state_of c.args.image.now in
     let j = c.loop-sub.sub in
-    let lt : j < length d.subs = omega (arith, c.sub_count-sub-end.ensures) in
     let rest = subs_fine set d (forms_of set d) image (j + 1) (first_cell set (parts.Sub i (j + 1))) (drop (j + 1) d.subs) (drop (j + 1) image.came) in
-    ap (λ (b : Bool). b && rest) (sym c.if-not-is_sub_fine.false ∙ c.is_sub_fine.ensures)
-    ∙ sym (subs_fine_next set i (forms_of set d) image j lt (omega (arith, c.requires.device.subs))) ∙ c.loop-sub.invariant
+    ap (λ b. b && rest) (sym c.if-not-is_sub_fine.false ∙ c.is_sub_fine.ensures)
+    ∙ sym (subs_fine_next set i (forms_of set d) image j (omega arith) (omega (arith, c.requires.device.subs))) ∙ c.loop-sub.invariant

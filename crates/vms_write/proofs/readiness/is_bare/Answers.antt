@@ -6,9 +6,7 @@ use Rattle.vms_write.proofs.readiness.is_bare.Goals as goal
 pub overflow_add-end : goal.overflow_add-end
 overflow_add-end c =
     let set = described c.args.set.now in
-    let size : c.cells_of.result ≡ in_u32 (own_cell_count set (sub_at (device_at set c.args.device) c.args.sub).desc) = c.cells_of.ensures in
-    let inside = sub_inside set c.args.device c.args.sub c.requires.is_sub in
-    omega (arith, size, c.first_cell-first.ensures, inside, c.requires.device.cells, c.requires.device.few)
+    omega (arith, sub_inside set c.args.device c.args.sub c.requires.is_sub)
 
 pub are_default-requires-clause-forms : goal.are_default-requires-clause-forms
 are_default-requires-clause-forms c = formed_long (described c.args.set.now) c.args.device c.defaults.result.now c.args.image.now.numbers c.defaults.ensures.defaults c.requires.device.cells
@@ -16,9 +14,7 @@ are_default-requires-clause-forms c = formed_long (described c.args.set.now) c.a
 pub are_default-requires-clause-end : goal.are_default-requires-clause-end
 are_default-requires-clause-end c =
     let set = described c.args.set.now in
-    let size : c.cells_of.result ≡ in_u32 (own_cell_count set (sub_at (device_at set c.args.device) c.args.sub).desc) = c.cells_of.ensures in
-    let inside = sub_inside set c.args.device c.args.sub c.requires.is_sub in
-    omega (arith, size, c.first_cell-first.ensures, inside, c.requires.device.cells, c.requires.device.few)
+    omega (arith, sub_inside set c.args.device c.args.sub c.requires.is_sub)
 
 pub returns : goal.returns
 returns c =
@@ -27,7 +23,5 @@ returns c =
     let n = c.args.image.now.numbers in
     let count = own_cell_count set (sub_at (device_at set c.args.device) c.args.sub).desc in
     let first = c.first_cell-first.result in
-    let size : c.cells_of.result ≡ in_u32 count = c.cells_of.ensures in
-    let inside = sub_inside set c.args.device c.args.sub c.requires.is_sub in
-    let exact : (first + c.cells_of.result) - first ≡ count = omega (arith, size, inside, c.requires.device.cells, c.requires.device.few) in
-    c.are_default.ensures ∙ ap (λ (fs : List CellForm). settle [] fs n first ((first + c.cells_of.result) - first)) (formed_defaults set c.args.device c.defaults.result.now c.defaults.ensures.defaults) ∙ ap (settle [] forms n first) exact ∙ ap (λ (k : ℕ). settle [] forms n k count) c.first_cell-first.ensures
+    let exact : (first + c.cells_of.result) - first ≡ count = omega (arith, sub_inside set c.args.device c.args.sub c.requires.is_sub) in
+    c.are_default.ensures ∙ ap (λ fs. settle [] fs n first ((first + c.cells_of.result) - first)) (formed_defaults set c.args.device c.defaults.result.now c.defaults.ensures.defaults) ∙ ap (settle [] forms n first) exact ∙ ap (λ k. settle [] forms n k count) c.first_cell-first.ensures

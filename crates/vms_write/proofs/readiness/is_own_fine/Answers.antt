@@ -7,5 +7,4 @@ is_part_fine-requires-clause-forms c = formed_long (described c.args.set.now) c.
 
 pub returns-then-version-device : goal.returns-then-version-device
 returns-then-version-device c =
-    let fine = rw (formed_defaults (described c.args.set.now) c.args.device c.defaults.result.now c.defaults.ensures.defaults) at c.is_part_fine.ensures in
-    search (rules, fine)
+    search (rules, (rw (formed_defaults (described c.args.set.now) c.args.device c.defaults.result.now c.defaults.ensures.defaults) at c.is_part_fine.ensures))

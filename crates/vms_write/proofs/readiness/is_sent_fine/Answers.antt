@@ -4,11 +4,10 @@ use Rattle.vms_write.proofs.readiness.is_sent_fine.Goals as goal
 
 pub is_part_fine-requires-clause-spot : goal.is_part_fine-requires-clause-spot
 is_part_fine-requires-clause-spot c =
-    let set = described c.args.set.now in
     record {
       part = (c.requires.device.is_device, c.requires.is_sub);
       few = c.requires.device.few;
-      room = omega (arith, c.first_cell.ensures, sub_inside set c.args.device c.args.sub c.requires.is_sub, c.requires.device.cells);
+      room = omega (arith, sub_inside (described c.args.set.now) c.args.device c.args.sub c.requires.is_sub);
     }
 
 pub is_part_fine-requires-clause-forms : goal.is_part_fine-requires-clause-forms
@@ -16,5 +15,4 @@ is_part_fine-requires-clause-forms c = formed_long (described c.args.set.now) c.
 
 pub returns-then-version-desc : goal.returns-then-version-desc
 returns-then-version-desc c =
-    let fine = rw (formed_defaults (described c.args.set.now) c.args.device c.defaults.result.now c.defaults.ensures.defaults) at c.is_part_fine.ensures in
-    search (rules, fine)
+    search (rules, (rw (formed_defaults (described c.args.set.now) c.args.device c.defaults.result.now c.defaults.ensures.defaults) at c.is_part_fine.ensures))

@@ -7,7 +7,7 @@ use Rattle.vms_write.proofs.readiness.ready.Goals as goal
 of_device : (c : goal.Start) → IsOfDevice (described c.args.set.now) c.args.device (state_of c.args.image.now)
 of_device c =
     let few = few_cells (described c.args.set.now) c.args.set.now.well_formed c.args.device in
-    record { is_device = c.requires.is_device; cells = c.requires.cells; subs = c.requires.subs; few = omega (arith, few, c.requires.cells) }
+    record { is_device = c.requires.is_device; cells = c.requires.cells; subs = c.requires.subs; few = omega arith }
 
 -- what says whether the device is fine says whether its image is ready
 judged : (c : goal.Start) (b : Bool) → (let set = described c.args.set.now in let d = device_at set c.args.device in let image = state_of c.args.image.now in
@@ -22,7 +22,7 @@ judged c b is =
     )
 
 fine : (c : goal.After-is_own_fine) → (let set = described c.args.set.now in let d = device_at set c.args.device in (b : Bool) → c.is_own_fine.result ≡ b → (b && all_subs_fine set d (state_of c.args.image.now)) ≡ device_fine set d (forms_of set d) (state_of c.args.image.now))
-fine c b is = ap (λ (b : Bool). b && all_subs_fine (described c.args.set.now) (device_at (described c.args.set.now) c.args.device) (state_of c.args.image.now)) (sym is ∙ c.is_own_fine.ensures)
+fine c b is = rw (sym is ∙ c.is_own_fine.ensures)
 
 pub is_own_fine-requires : goal.is_own_fine-requires
 is_own_fine-requires c = record { device = of_device c }

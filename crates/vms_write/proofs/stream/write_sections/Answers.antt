@@ -17,12 +17,11 @@ next_section g c =
     let i = c.loop-device.device in
     let image = c.index-images-device.result in
     let lt : i < length (map state_of c.args.images.now) = omega (arith, states_long c.args.images.now) in
-    sections_at set i (map state_of c.args.images.now) (state_of image) (omega (arith, c.requires.of.one_each)) lt (state_at c.args.images.now i image c.loop-device-test.true c.index-images-device.is)
+    sections_at set i (map state_of c.args.images.now) (state_of image) (omega arith) lt (state_at c.args.images.now i image c.loop-device-test.true c.index-images-device.is)
 
 pub loop-device-preserved : goal.loop-device-preserved
 loop-device-preserved g c =
-    let next = next_section g (goal.at.loop-device-preserved g c).After-write_section-arg-1 in
-    leaves_rest _ next c.loop-device.invariant c.in_ok-write_section.ensures
+    leaves_rest _ (next_section g (goal.at.loop-device-preserved g c).After-write_section-arg-1) c.loop-device.invariant c.in_ok-write_section.ensures
 
 pub write_section-requires-clause-kinds : goal.write_section-requires-clause-kinds
 write_section-requires-clause-kinds g c =
@@ -35,9 +34,8 @@ write_section-requires-clause-ready g c =
     let set = described c.args.set.now in
     let i = c.loop-device.device in
     let image = c.index-images-device.result in
-    let lt : i < length set.devices = omega (arith, c.requires.of.one_each) in
     let here : slice_get c.args.images.now i ≡ Some image = image_at c.args.images.now i image c.loop-device-test.true c.index-images-device.is in
-    c.requires.ready.ready i (device_at set i) (state_of image) (slice_get-get_or set.devices i _ lt) (at_state c.args.images.now i image here)
+    c.requires.ready.ready i (device_at set i) (state_of image) (slice_get-get_or set.devices i _ (omega arith)) (at_state c.args.images.now i image here)
 
 pub returns-in_err-write_section : goal.returns-in_err-write_section
 returns-in_err-write_section g c =
