@@ -32,8 +32,8 @@ use vms_io::{Shelf, Sink, Source, write_all_of};
 ///
 /// One line is written to `notes` for each status but 0. With a status other than 0 and 6 nothing
 /// is written to `out`, except by `play`: with 7 and 10 it has written the traces of its first
-/// lines, the last of them perhaps in part. Only `show`, `convert`, `analyze` and `load` read
-/// `input`.
+/// lines, the last of them perhaps in part. `input` is read only by the commands that need a stream:
+/// `docs/commands.md` lists them.
 pub fn vmstate<I: Source, O: Sink, N: Sink, H: Shelf>(
     alloc: Global,
     words: &Words,
