@@ -1,17 +1,17 @@
 -- What follows of a stream that `convert` writes.
-use Rattle.vms_cli.proofs.Facade.{◌≡◌, ◌⊎◌, ℕ, ◌+◌, List, Option, Some, None, inl, inr, refl, sym, ap, ◌∙◌, subst, arith, [], append-nil, length, ◌-◌, Bool}
-use Rattle.vms_cli.proofs.Facade.{true, false, ◌||◌, ◌∷◌, IfSome, ℤ, if◌then◌else◌, none-some, length-map, bytes_eq-Decides, bytes_eq, Held, IsBytes, IsFit}
-use Rattle.vms_cli.proofs.Facade.{Image, Set, Answer, Taken, Faulty, Takes, either_holds, one_stream_holds, taken_kept, Compatible, first_mismatch, Mismatch}
-use Rattle.vms_cli.proofs.Facade.{IsStreamFor, LosesFirst, word_set, refused_line, Outcome, done, ended, SetWord, Step, Untold, Gives, Ends, next, FitStep}
-use Rattle.vms_cli.proofs.Facade.{fit_word, IsSound, sound_next, sound_word_set, Convert, ConvertsBy, Rewrites, WouldLose, agreed, agrees, lost_line, newest}
-use Rattle.vms_cli.proofs.Facade.{target, Converts, CanBeConverted, HasOneOutcome, described_text, AreRecastOf, converts_stand, ready, newest_kinds}
+use Rattle.vms_cli.proofs.Facade.{◌≡◌, ℕ, List, Option, Some, None, refl, sym, ap, ◌∙◌, subst, arith, [], append-nil, length, ◌-◌, Bool}
+use Rattle.vms_cli.proofs.Facade.{true, false, ◌||◌, ◌∷◌, IfSome, ℤ, if◌then◌else◌, length-map, bytes_eq-Decides, bytes_eq, Held, IsFit}
+use Rattle.vms_cli.proofs.Facade.{Image, Set, Takes, one_stream_holds, taken_kept, Compatible, first_mismatch, Mismatch}
+use Rattle.vms_cli.proofs.Facade.{IsStreamFor, word_set, Outcome, done, SetWord, Step, Untold, Gives, Ends, next, FitStep}
+use Rattle.vms_cli.proofs.Facade.{fit_word, ConvertsBy, Rewrites, WouldLose, agreed, agrees, newest}
+use Rattle.vms_cli.proofs.Facade.{Converts, described_text, AreRecastOf, converts_stand, ready, newest_kinds}
 use Rattle.vms_cli.proofs.Facade.{PrintsAlike, ConvertAgainLaw, ConvertThenAnalyzeLaw, StandsFor, ConvertThenLoadLaw, IsLevel, NEWEST, by_device, joined}
 use Rattle.vms_cli.proofs.Facade.{moment_of, numbers_back, pair_back, pit_back, timed, State, recast_restores, recast_cells, IsConfiguration, is_one_of}
 use Rattle.vms_cli.proofs.Facade.{recast_each, numbers_in, wants_arrays, lists_in, takes_under, cells_of, isa, isa_stands, Back, Restores, Loads, LoadsBy}
 use Rattle.vms_cli.proofs.Facade.{Traces, Unfit, scripted, ScriptLine}
 use Rattle.vms_cli.specs.Commands.ConvertCommand.{Refuses}
 use Rattle.vms_cli.proofs.Entries.ConvertCommand.{target_gives}
-use Rattle.vms_cli.proofs.ConvertLemmas.{is_answered, newest_fit, agreed_gives, lost_is, refused_is, rewritten_is}
+use Rattle.vms_cli.proofs.ConvertLemmas.{newest_fit}
 use Rattle.vms_convert.specs.Laws.{Converts as StaysSo}
 use Rattle.vms_cli.specs.Commands.ShowCommand.{Values as Printed}
 use Rattle.vms_cli.proofs.RoundTrips.{done_apart, fits_text, machine_of_set, same_text, written_prints}

@@ -126,7 +126,7 @@ pub use Rattle.vms_commands.specs.Lines.{bad_words, out_of_memory, read_fault, r
 pub use Rattle.vms_commands.specs.Outcomes.{ComesTo, Does, DoesOrStops, FailsToStore, HasPart, NotesFault, OutFault, Outcome, Outside, Part, ShelfFault}
 pub use Rattle.vms_commands.specs.Outcomes.{TellsShelfFault, WantsMemory, done, ended, text_begun}
 pub use Rattle.vms_commands.specs.SetLines.{mismatch_line}
-pub use Rattle.vms_commands.specs.SetWords.{Clock, Isa, OnShelf, SetWord, Shipped, ShippedSet, named_set, number_after, set_word, shipped_word}
+pub use Rattle.vms_commands.specs.SetWords.{Clock, Isa, SetWord, Shipped, ShippedSet, named_set, number_after, set_word, shipped_word}
 pub use Rattle.vms_commands.specs.StepEndings.{AsksIf, HadCause, StepAs, TextEnds, WrittenAs, text_of}
 pub use Rattle.vms_commands.specs.Steps.{Both, Ends, Gives, HasBy, HasText, Step, Untold, both, next}
 pub use Rattle.vms_commands.specs.declared.ending.Ending.{Ending}

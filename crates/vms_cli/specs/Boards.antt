@@ -1,5 +1,5 @@
 -- Arguments that name a board, a script on it, or a number. See docs/commands.md, "Arguments".
-use Rattle.std.specs.Prelude.{◌≡◌, ℕ, if◌then◌else◌, nat_le, length, ◌≤◌, List, Option, Some, None, Result, Ok, Err, codes}
+use Rattle.std.specs.Prelude.{◌≡◌, ℕ, length, ◌≤◌, List, Option, Some, None, Result, Ok, Err, codes}
 use Rattle.std.specs.Option.{option_map}
 use Rattle.vms_io.specs.Shelves.{Held}
 use Rattle.vms_spec.specs.Lists.{or_else}

@@ -2,7 +2,7 @@
 use Rattle.vms_cli.proofs.Facade.{◌≡◌, ℕ, List, ◌∷◌, [], Option, Some, None, IfSome, refl, sym, ap, subst, inl, inr, none-some, Held, HoldsAll, Outcome, ended, Step}
 use Rattle.vms_cli.proofs.Facade.{Untold, Gives, Ends, IsSound, AreStepLines, script_gives, scripted_lines, sound_script, IsLevel, has_end, one_outcome, PlaysBy}
 use Rattle.vms_cli.proofs.Facade.{scripted, reads_exactly, AreLines, ScriptLine, HasOne, play_entry}
-use Rattle.vms_cli.proofs.RowFacts.{IsDone, IsRow, Spares, spares_none}
+use Rattle.vms_cli.proofs.RowFacts.{IsDone, IsRow, Spares}
 
 record OnePlays (level : ℕ) (step : Step (List ScriptLine)) (held : Held) : Type 0 where
   outcome : Outcome

@@ -1,6 +1,6 @@
 -- `show` has one outcome, and what can be shown is.
-use Rattle.vms_cli.proofs.Facade.{◌≡◌, ℕ, ◌+◌, List, Option, Some, None, IsSomeAnd, refl, sym, subst, inl, inr, none-some, Held, IsBytes, values_text, Image}
-use Rattle.vms_cli.proofs.Facade.{Set, IsFit, Answer, Taken, Faulty, Takes, either_holds, word_set, refused_line, Outcome, done, ended, SetWord, Step, Untold}
+use Rattle.vms_cli.proofs.Facade.{◌≡◌, ℕ, ◌+◌, List, Option, Some, None, refl, sym, subst, inl, inr, none-some, Held, IsBytes, values_text}
+use Rattle.vms_cli.proofs.Facade.{Set, IsFit, Answer, Taken, Faulty, either_holds, word_set, refused_line, Outcome, done, ended, SetWord, Step, Untold}
 use Rattle.vms_cli.proofs.Facade.{Gives, Ends, FitStep, fit_word, IsSound, sound_word_set, CanBeShown, ShowsBy, Refuses, HasOne, show_entry}
 use Rattle.vms_cli.specs.Commands.ShowCommand.{Values as Printed}
 use Rattle.vms_cli.proofs.RowFacts.{IsDone, IsRow, spares_none, spares_text}
