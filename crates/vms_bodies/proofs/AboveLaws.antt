@@ -1,13 +1,7 @@
 -- The numbers of a description's slots are at its place or above.
-use Rattle.std.proofs.Common.{◌≡◌, ℕ, zero, suc, ◌+◌, ◌<◌, ◌≤◌, List, ◌∷◌, ◌++◌, length, get_or, map, ℤ, refl, arith, false, []}
-use Rattle.std.proofs.lemmas.Bool.{ne_eqb}
-use Rattle.vms_kinds.specs.declared.Item.{Item}
-use Rattle.vms_kinds.specs.declared.Item.TheVariants.{Num, Struct}
-use Rattle.vms_spec.specs.Sets.{Field, Desc}
-use Rattle.vms_spec.specs.Tests.{is_there}
-use Rattle.vms_spec.specs.Layout.{Slot, Meaning, no_meaning, no_desc, item_slots, times, field_slots, slots_from, desc_slots, field_cells, elements_of, counted, no_parent, first, meaning, meanings}
-use Rattle.vms_spec.specs.Images.{has_cell}
-use Rattle.vms_spec.proofs.Tables.{one_more}
+use Rattle.vms_bodies.proofs.Facade.{◌≡◌, ℕ, zero, suc, ◌+◌, ◌<◌, ◌≤◌, List, ◌∷◌, ◌++◌, length, get_or, map, ℤ, refl, arith, false, [], ne_eqb, Item, Num}
+use Rattle.vms_bodies.proofs.Facade.{Struct, Field, Desc, is_there, Slot, Meaning, no_meaning, no_desc, item_slots, times, field_slots, slots_from, desc_slots}
+use Rattle.vms_bodies.proofs.Facade.{field_cells, elements_of, counted, no_parent, first, meaning, meanings, has_cell, one_more}
 use Rattle.vms_bodies.proofs.Names.{none_joined, if_there}
 
 -- none of the slots has a number below the cell
@@ -31,7 +25,7 @@ MeanAbove ms = (j : ℕ) → MeansAbove (get_or ms j no_meaning)
 
 module _ (ms : List Meaning) (h : MeanAbove ms) where
   pub item_above : (item : Item) (caps : List ℕ) (numbers : List ℤ) (at : ℕ) → IsAbove at (item_slots ms item caps numbers at)
-  item_above (Num kind) caps numbers at = record { below = λ c lt. rw (ne_eqb at c (λ e. omega (arith, e, lt))) refl }
+  item_above (Num kind) caps numbers at = record { below = λ c lt. rw (ne_eqb at c (λ e. omega arith)) refl }
   item_above (Struct j) caps numbers at = (h j).means at numbers
   item_above _ caps numbers at = record { below = λ c lt. refl }
 

@@ -1,16 +1,13 @@
 -- What is spelled depends on the cells that are named; a description's slots name cells between its place and its end.
-use Rattle.std.proofs.Common.{◌≡◌, ℕ, zero, suc, ◌+◌, ◌<◌, ◌≤◌, List, ◌∷◌, ◌++◌, length, get_or, drop, replicate, ℤ, pos, refl, arith, append-nil, Bool, true, false, nat_lt, ◌==◌, [], ◌||◌}
-use Rattle.std.proofs.lemmas.Bool.{eq-eqb, eqb-true, ltb-true, ltb-false, or_left, or_right}
-use Rattle.vms_spec.specs.Sets.{Desc, Set}
-use Rattle.vms_spec.specs.Layout.{Slot, Number, Constant, Filler, Rule, Cell, no_cell, meanings, desc_slots, desc_cells, struct_cells}
-use Rattle.vms_spec.specs.Images.{Spells, RulesHold, has_cell}
-use Rattle.vms_spec.specs.Sound.{IsSound, AreSound}
-use Rattle.vms_bodies.specs.Cells.{AreCells}
+use Rattle.vms_bodies.proofs.Facade.{◌≡◌, ℕ, ◌+◌, ◌<◌, ◌≤◌, List, ◌∷◌, ◌++◌, length, get_or, replicate, ℤ, pos, refl, arith, append-nil, true, false, ◌==◌, []}
+use Rattle.vms_bodies.proofs.Facade.{◌||◌, eq-eqb, eqb-true, cases_lt, false_from_ne_true, or_left, or_right, ⊎_elim, length-replicate, drop_at, Desc, Set}
+use Rattle.vms_bodies.proofs.Facade.{Slot, Number, Constant, Filler, Rule, Cell, no_cell, meanings, desc_slots, desc_cells, struct_cells, Spells, RulesHold}
+use Rattle.vms_bodies.proofs.Facade.{has_cell, IsSound, AreSound, AreCells, either_of}
+use Rattle.std.proofs.lemmas.List.{length-append}
 use Rattle.vms_bodies.proofs.AboveLaws.{desc_above, meanings_above}
 use Rattle.vms_bodies.proofs.CellLaws.{Stands, desc_are, meanings_are, cells_first}
 use Rattle.vms_bodies.proofs.SpellLaws.{FitSlots}
 use Rattle.vms_bodies.proofs.SettledLaws.{SameIn, slots_within, cells_in}
-use Rattle.vms_spec.proofs.ListLaws.{either_of}
 
 named : (c : ℕ) (xs : List Slot) → (c == c || has_cell xs c) ≡ true
 named c xs = or_left (c == c) _ (eq-eqb c c refl)
@@ -18,8 +15,7 @@ named c xs = or_left (c == c) _ (eq-eqb c c refl)
 pub spells_agree : (n k : List ℤ) (xs : List Slot) (bytes : List ℕ) → ((c : ℕ) → has_cell xs c ≡ true → get_or k c (pos 0) ≡ get_or n c (pos 0))
     → Spells n xs bytes → Spells k xs bytes
 spells_agree n k [] bytes h s = s
-spells_agree n k (Number c kind caps ∷ xs) bytes h s =
-    (s.0, rw (h c (named c xs)) s.1, spells_agree n k xs s.0 (λ j e. h j (or_right (c == j) _ e)) s.2)
+spells_agree n k (Number c kind caps ∷ xs) bytes h s = (s.0, rw (h c (named c xs)) s.1, spells_agree n k xs s.0 (λ j e. h j (or_right (c == j) _ e)) s.2)
 spells_agree n k (Constant kind z ∷ xs) bytes h s = (s.0, s.1, spells_agree n k xs s.0 h s.2)
 spells_agree n k (Filler m ∷ xs) bytes h s = (s.0, s.1, s.2, s.3, spells_agree n k xs s.1 h s.4)
 spells_agree n k (Rule b ∷ xs) bytes h s = spells_agree n k xs bytes h s
@@ -35,20 +31,15 @@ fits_agree n k (_ ∷ xs) h f = fits_agree n k xs h f
 -- a named cell is one of these
 pub named_inside : (all : List Cell) (xs : List Slot) (c : ℕ) → AreCells all xs → has_cell xs c ≡ true → c < length all
 named_inside all [] c a e = cc
-named_inside all (Number k kind caps ∷ xs) c a e = either_of (k == c) _ e (λ t. let f = eqb-true k c t in omega (arith, a.0.within)) (named_inside all xs c a.1)
+named_inside all (Number k kind caps ∷ xs) c a e = either_of (k == c) _ e (λ t. let f = eqb-true k c t in omega arith) (named_inside all xs c a.1)
 named_inside all (_ ∷ xs) c a e = named_inside all xs c a e
 
-pub skip : (n : ℕ) (cells : List Cell) → drop n (replicate n no_cell ++ cells) ≡ cells
-skip zero cells = refl
-skip (suc n) cells = skip n cells
-
 pub skip_long : (n : ℕ) (cells : List Cell) → length (replicate n no_cell ++ cells) ≡ n + length cells
-skip_long zero cells = omega arith
-skip_long (suc n) cells = omega (arith, skip_long n cells)
+skip_long n cells = rw (length-append, length-replicate) refl
 
 -- cells that begin at a place, with others before them
 pub stands_behind : (at : ℕ) (cells : List Cell) → Stands (replicate at no_cell ++ cells) at cells
-stands_behind at cells = record { more = []; is = rw append-nil (skip at cells) }
+stands_behind at cells = record { more = []; is = rw append-nil (drop_at _ cells at (length-replicate at no_cell)) }
 
 module _ (set : Set) (d : Desc) (v base : ℕ) where
   -- a description's slots, from its place on, and how many cells it has
@@ -69,26 +60,14 @@ module _ (set : Set) (d : Desc) (v base : ℕ) where
       omega (arith, named_inside _ (its n) c a e, skip_long base cells)
 
   pub its_above : (n : List ℤ) (c : ℕ) → base + size ≤ c → has_cell (its n) c ≡ false
-  its_above n c le = go (has_cell (its n) c) refl
-    where
-      go : (b : Bool) → has_cell (its n) c ≡ b → b ≡ false
-      go true e = absurd (omega (arith, its_inside n c e))
-      go false e = refl
+  its_above n c le = false_from_ne_true _ (λ e. omega (arith, its_inside n c e))
 
   pub its_in : (n : List ℤ) (c : ℕ) → has_cell (its n) c ≡ true → (base ≤ c) × (c < base + size)
-  its_in n c e = (low (nat_lt c base) refl, its_inside n c e)
-    where
-      low : (b : Bool) → nat_lt c base ≡ b → base ≤ c
-      low true lt = let f = its_below n c (ltb-true c base lt) in cc
-      low false ge = ltb-false c base ge
+  its_in n c e = (⊎_elim (λ (lt : c < base). let f = its_below n c lt in cc) (λ le. le) (cases_lt c base), its_inside n c e)
 
   -- a cell before the description or after it
   pub its_outside : (n : List ℤ) (c : ℕ) → (base ≤ c → base + size ≤ c) → has_cell (its n) c ≡ false
-  its_outside n c h = go (has_cell (its n) c) refl
-    where
-      go : (b : Bool) → has_cell (its n) c ≡ b → b ≡ false
-      go true e = absurd (omega (arith, its_in n c e))
-      go false e = refl
+  its_outside n c h = false_from_ne_true _ (λ e. omega (arith, its_in n c e))
 
   module _ (structs : AreSound set.structs) (sound : IsSound d) (n k : List ℤ) where
     pub its_same : SameIn base (base + size) n k → its k ≡ its n

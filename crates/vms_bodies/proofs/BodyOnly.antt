@@ -1,22 +1,11 @@
 -- A body of a description is taken as that description.
-use Rattle.std.proofs.Common.{◌≡◌, ℕ, zero, suc, ◌+◌, ◌<◌, ◌≤◌, List, ◌∷◌, ◌++◌, length, get_or, take, drop, slice_set, Ok, Err, ℤ, pos, refl, sym, ap, ◌∙◌, subst, arith, append_assoc, length-append, Bool, true, false, not, if◌then◌else◌, nat_lt, ◌==◌, []}
-use Rattle.std.proofs.Math.Seq.{drop-append_seam}
-use Rattle.std.proofs.lemmas.List.{take-append-le, append_cancel_left, ext_get_or, get_or-set_same, length-set}
-use Rattle.std.proofs.lemmas.Bool.{le-ltb, eq-eqb, eqb-true}
-use Rattle.std.proofs.Math.Nat.{add-zero}
-use Rattle.vms_kinds.specs.declared.Kind.{Kind}
-use Rattle.vms_kinds.specs.Codes.{width, code, InRange}
-use Rattle.vms_spec.specs.declared.Reason.{Reason}
+use Rattle.vms_bodies.proofs.Facade.{◌≡◌, ◌≢◌, ℕ, ◌+◌, ◌<◌, ◌≤◌, List, ◌∷◌, ◌++◌, length, get_or, take, drop, slice_set, Ok, Err, ℤ, pos, refl, sym, ap, ◌∙◌}
+use Rattle.vms_bodies.proofs.Facade.{arith, append_assoc, length-append, Bool, true, false, not, if◌then◌else◌, nat_lt, ◌==◌, [], drop-append_seam, take_all}
+use Rattle.vms_bodies.proofs.Facade.{take-append-le, append_cancel_left, ext_get_or, get_or-set_same, length-set, le-ltb, ne_eqb, cases_eq, ⊎_elim, add-zero}
+use Rattle.vms_bodies.proofs.Facade.{Kind, width, code, InRange, Reason, Desc, exceeds, same_number, Slot, Number, Constant, Filler, Rule, Cell, meanings}
+use Rattle.vms_bodies.proofs.Facade.{desc_slots, desc_cells, Spells, RulesHold, has_cell, Taken, Progress, Refusal, take_value, take_slot, take_desc, takers}
+use Rattle.vms_bodies.proofs.Facade.{cells_of, IsSound, AreSound, AreCells, length-code, value_code, good_code, same_number_itself, not_exceeds}
 use Rattle.vms_spec.specs.declared.Reason.TheVariants as reasons
-use Rattle.vms_spec.specs.Sets.{Desc}
-use Rattle.vms_spec.specs.Numbers.{exceeds, same_number}
-use Rattle.vms_spec.specs.Layout.{Slot, Number, Constant, Filler, Rule, Cell, meanings, desc_slots, desc_cells}
-use Rattle.vms_spec.specs.Images.{Spells, RulesHold, has_cell}
-use Rattle.vms_spec.specs.Taking.{Taken, Progress, Refusal, take_value, take_slot, take_desc, takers, cells_of}
-use Rattle.vms_spec.specs.Sound.{IsSound, AreSound}
-use Rattle.vms_bodies.specs.Cells.{AreCells}
-use Rattle.vms_spec.proofs.KindLaws.{length-code, value_code, good_code}
-use Rattle.vms_spec.proofs.NumberLaws.{same_number_itself, not_exceeds}
 use Rattle.vms_bodies.proofs.AboveLaws.{IsAbove, desc_above, meanings_above}
 use Rattle.vms_bodies.proofs.SpellLaws.{FitSlots, cell_in, set_other}
 use Rattle.vms_bodies.proofs.WalkLaws.{Left, Gives, IsOther, Keeping, ComesTo, set_desc_comes}
@@ -31,13 +20,7 @@ if_true b x y e = rw e refl
 
 -- the front of the rest, of a known length
 pub front_take : (n : ℕ) (xs ys rest : List ℕ) → rest ≡ xs ++ ys → length xs ≡ n → take n rest ≡ xs
-front_take n xs ys rest e len = ap (take n) e ∙ take-append-le n xs ys (omega arith) ∙ take_all n xs len
-  where
-    take_all : (n : ℕ) (xs : List ℕ) → length xs ≡ n → take n xs ≡ xs
-    take_all zero [] h = refl
-    take_all (suc n) [] h = refl
-    take_all zero (x ∷ xs) h = absurd (omega arith)
-    take_all (suc n) (x ∷ xs) h = ap (λ (l : List ℕ). x ∷ l) (take_all n xs (omega arith))
+front_take n xs ys rest e len = ap (take n) e ∙ take-append-le n xs ys (omega arith) ∙ take_all n xs (omega arith)
 
 pub front_drop : (n : ℕ) (xs ys rest : List ℕ) → rest ≡ xs ++ ys → length xs ≡ n → drop n rest ≡ ys
 front_drop n xs ys rest e len = rw (e, ← len) (drop-append_seam xs ys)
@@ -94,53 +77,41 @@ module _ (all : List Cell) (total : List ℤ → List Slot) (n : List ℤ) (end 
   abbrev Here : ℕ → Progress → List Slot → (List ℤ → List Slot) → Type 0
   Here cell q done left = Left total (Spelling total n end tail) Never cell q done left
 
-  split_of : (cell : ℕ) (done : List Slot) (left : List ℤ → List Slot) (q : Progress) → Here cell q done left → total n ≡ done ++ left n
-  split_of cell done left q l = l.split n (record { same = λ c lt. l.holds.rest.same c (l.holds.high.below c lt) })
+  split_of : {cell : ℕ} {done : List Slot} {left : List ℤ → List Slot} {q : Progress} → Here cell q done left → total n ≡ done ++ left n
+  split_of l = l.split n (record { same = λ c lt. l.holds.rest.same c (l.holds.high.below c lt) })
 
-  rest_of : (cell : ℕ) (done : List Slot) (left : List ℤ → List Slot) (q : Progress) → Here cell q done left → Rest n end tail (left n) q
-  rest_of cell done left q l =
-      subst (λ (xs : List Slot). Rest n end tail xs q)
-      (append_cancel_left done l.holds.more (left n) (sym l.holds.split ∙ split_of cell done left q l)) l.holds.rest
+  rest_of : {cell : ℕ} {done : List Slot} {left : List ℤ → List Slot} {q : Progress} → Here cell q done left → Rest n end tail (left n) q
+  rest_of {done = done} {left = left} l = rw (append_cancel_left done l.holds.more (left n) (sym l.holds.split ∙ split_of l)) at l.holds.rest
 
   -- at a cell that was set to its number, and at each other
   number_same : (cell c : ℕ) (numbers : List ℤ) → cell < length numbers → ((cell == c) ≡ false → get_or n c (pos 0) ≡ get_or numbers c (pos 0))
       → get_or n c (pos 0) ≡ get_or (slice_set numbers cell (get_or n cell (pos 0))) c (pos 0)
-  number_same cell c numbers inside h = go (cell == c) refl
-    where
-      go : (b : Bool) → (cell == c) ≡ b → get_or n c (pos 0) ≡ get_or (slice_set numbers cell (get_or n cell (pos 0))) c (pos 0)
-      go true e = rw (← (eqb-true cell c e), get_or-set_same numbers cell (get_or n cell (pos 0)) (pos 0) inside) refl
-      go false e = h e ∙ sym (set_other numbers c cell (get_or n cell (pos 0)) (λ same. let f = eq-eqb cell c (sym same) in cc))
+  number_same cell c numbers inside h =
+      ⊎_elim (λ (e : c ≡ cell). rw (e, get_or-set_same numbers cell (get_or n cell (pos 0)) (pos 0) inside) refl)
+      (λ (ne : c ≢ cell). h (ne_eqb cell c (λ e. ne (sym e))) ∙ sym (set_other numbers c cell (get_or n cell (pos 0)) ne)) (cases_eq c cell)
 
   -- a slot that is taken leaves the others
-  passed : (cell further : ℕ) (slot : Slot) (done : List Slot) (left : List ℤ → List Slot) (p : Progress) (q : Progress)
-      → ((m : List ℤ) → IsAbove further (left m))
-      → Here cell p done (λ m. slot ∷ left m) → take_slot slot p ≡ Ok q → Rest n end tail (left n) q
+  passed : {cell further : ℕ} {slot : Slot} {done : List Slot} {left : List ℤ → List Slot} {p q : Progress}
+      → ((m : List ℤ) → IsAbove further (left m)) → Here cell p done (λ m. slot ∷ left m) → take_slot slot p ≡ Ok q → Rest n end tail (left n) q
       → Gives total (Spelling total n end tail) Never further (done ++ slot ∷ []) (take_slot slot p)
-  passed cell further slot done left p q up l is r =
-      subst (λ (t : Taken). Gives total (Spelling total n end tail) Never further (done ++ slot ∷ []) t) (sym is)
-      (record { more = left n; split = split_of cell done (λ m. slot ∷ left m) p l ∙ sym (append_assoc done (slot ∷ []) (left n)); high = up n; rest = r })
+  passed {slot = slot} {done = done} {left = left} up l is r =
+      rw is (record { more = left n; split = split_of l ∙ sym (append_assoc done (slot ∷ []) (left n)); high = up n; rest = r })
 
   number_spelling : length all ≤ length n → ((m : List ℤ) → AreCells all (total m)) → (cell : ℕ) (kind : Kind) (caps : List ℕ) (done : List Slot)
       → (left : List ℤ → List Slot) (p : Progress) → ((m : List ℤ) → IsAbove (cell + 1) (left m)) → Here cell p done (λ m. Number cell kind caps ∷ left m)
       → Gives total (Spelling total n end tail) Never (cell + 1) (done ++ Number cell kind caps ∷ []) (take_slot (Number cell kind caps) p)
   number_spelling room cells cell kind caps done left p up l =
-      let r = rest_of cell done (λ m. Number cell kind caps ∷ left m) p l in
+      let r = rest_of l in
       let z = get_or n cell (pos 0) in
       let inside : cell < length p.numbers =
-      omega (
-        arith,
-        r.long,
-        (cell_in all done (left n) cell kind caps
-            (rw (split_of cell done (λ m. Number cell kind caps ∷ left m) p l) at (cells n))).within,
-      ) in
-      passed cell (cell + 1) (Number cell kind caps) done left p
-      (record { numbers = slice_set p.numbers cell z; place = p.place + width kind; rest = r.spells.0 ++ tail }) up l
+      omega (arith, r.long, (cell_in all done (left n) cell kind caps (rw (split_of l) at (cells n))).within) in
+      passed {cell = cell} {further = cell + 1} {slot = Number cell kind caps} {done = done} {left = left} up l
       (value_taken kind reasons.CountTooLarge (exceeds caps) (slice_set p.numbers cell) z p _ r.fits.0 (not_exceeds caps z r.fits.1)
       (r.front ∙ rw (r.spells.1, append_assoc) refl))
       (record {
         bytes = r.spells.0;
         front = refl;
-        place = omega (arith, r.place, ap length r.spells.1, length-append (code kind z) r.spells.0, length-code kind z);
+        place = omega (arith, ap length r.spells.1, length-append (code kind z) r.spells.0, length-code kind z);
         spells = r.spells.2;
         fits = r.fits.2;
         rules = r.rules;
@@ -149,11 +120,10 @@ module _ (all : List Cell) (total : List ℤ → List Slot) (n : List ℤ) (end 
       })
 
   -- a slot without a cell changes no number
-  unchanged : (slot : Slot) (left : List Slot) (p : Progress) (size : ℕ) (bytes : List ℕ) → Rest n end tail (slot ∷ left) p
-      → p.place + size + length bytes ≡ end
-      → Spells n left bytes → FitSlots n left → RulesHold left → ((c : ℕ) → has_cell (slot ∷ left) c ≡ has_cell left c)
+  unchanged : {slot : Slot} {left : List Slot} {p : Progress} (size : ℕ) (bytes : List ℕ) → Rest n end tail (slot ∷ left) p
+      → p.place + size + length bytes ≡ end → Spells n left bytes → FitSlots n left → RulesHold left → ((c : ℕ) → has_cell (slot ∷ left) c ≡ has_cell left c)
       → Rest n end tail left (record { numbers = p.numbers; place = p.place + size; rest = bytes ++ tail })
-  unchanged slot left p size bytes r long spells fits rules none =
+  unchanged size bytes r long spells fits rules none =
       record { bytes = bytes; front = refl; place = long; spells = spells; fits = fits; rules = rules; same = λ c e. r.same c (none c ∙ e); long = r.long }
 
   other_spelling : (cell : ℕ) (slot : Slot) (done : List Slot) (left : List ℤ → List Slot) (p : Progress) → IsOther total (Spelling total n end tail) Never slot
@@ -161,48 +131,38 @@ module _ (all : List Cell) (total : List ℤ → List Slot) (n : List ℤ) (end 
       → Gives total (Spelling total n end tail) Never cell (done ++ slot ∷ []) (take_slot slot p)
   other_spelling cell (Number c kind caps) done left p o up l = absurd o
   other_spelling cell (Constant kind z) done left p o up l =
-      let r = rest_of cell done (λ m. Constant kind z ∷ left m) p l in
-      passed cell cell (Constant kind z) done left p _ up l
+      let r = rest_of l in
+      passed {cell = cell} {further = cell} {slot = Constant kind z} {done = done} {left = left} up l
       (value_taken kind reasons.NotEqual (λ y. not (same_number y z)) (λ y. p.numbers) z p _ r.fits.0 (ap not (same_number_itself z))
       (r.front ∙ rw (r.spells.1, append_assoc) refl))
-      (unchanged (Constant kind z) (left n) p (width kind) r.spells.0 r
-      (omega (arith, r.place, ap length r.spells.1, length-append (code kind z) r.spells.0, length-code kind z)) r.spells.2 r.fits.1 r.rules (λ c. refl))
+      (unchanged (width kind) r.spells.0 r
+      (omega (arith, ap length r.spells.1, length-append (code kind z) r.spells.0, length-code kind z)) r.spells.2 r.fits.1 r.rules (λ c. refl))
   other_spelling cell (Filler k) done left p o up l =
-      let r = rest_of cell done (λ m. Filler k ∷ left m) p l in
-      passed cell cell (Filler k) done left p _ up l (filler_taken r.spells.0 _ p k r.spells.2 (r.front ∙ rw (r.spells.3, append_assoc) refl))
-      (unchanged (Filler k) (left n) p k r.spells.1 r (omega (arith, r.place, ap length r.spells.3, length-append r.spells.0 r.spells.1, r.spells.2))
-      r.spells.4 r.fits r.rules (λ c. refl))
+      let r = rest_of l in
+      passed {cell = cell} {further = cell} {slot = Filler k} {done = done} {left = left} up l
+      (filler_taken r.spells.0 _ p k r.spells.2 (r.front ∙ rw (r.spells.3, append_assoc) refl))
+      (unchanged k r.spells.1 r (omega (arith, ap length r.spells.3, length-append r.spells.0 r.spells.1)) r.spells.4 r.fits r.rules (λ c. refl))
   other_spelling cell (Rule b) done left p o up l =
-      let r = rest_of cell done (λ m. Rule b ∷ left m) p l in
-      passed cell cell (Rule b) done left p p up l (if_true b (Ok p) _ r.rules.0) (record {
-        bytes = r.bytes;
-        front = r.front;
-        place = r.place;
-        spells = r.spells;
-        fits = r.fits;
-        rules = r.rules.1;
-        same = r.same;
-        long = r.long;
-      })
+      let r = rest_of l in
+      passed {cell = cell} {further = cell} {slot = Rule b} {done = done} {left = left} up l (if_true b (Ok p) _ r.rules.0)
+      (record { bytes = r.bytes; front = r.front; place = r.place; spells = r.spells; fits = r.fits; rules = r.rules.1; same = r.same; long = r.long })
 
   pub spelling_keeps : length all ≤ length n → ((m : List ℤ) → AreCells all (total m)) → Keeping total (Spelling total n end tail) Never
   spelling_keeps room cells = record {
-    less = λ cell further done left p le up l. record { more = left n; split = split_of cell done left p l; high = up n; rest = rest_of cell done left p l };
+    less = λ cell further done left p le up l. record { more = left n; split = split_of l; high = up n; rest = rest_of l };
     number = λ cell kind caps done left p up l. number_spelling room cells cell kind caps done left p up l;
     other = λ cell slot done left p o up l. other_spelling cell slot done left p o up l;
   }
 
 -- what a body of these numbers gives
 ends_so : (total : List ℤ → List Slot) (n : List ℤ) (end cell : ℕ) (tail : List ℕ) (t : Taken)
-    → ComesTo total (Spelling total n end tail) Never cell (λ m. []) t
-    → t ≡ Ok (record { numbers = n; place = end; rest = tail })
+    → ComesTo total (Spelling total n end tail) Never cell (λ m. []) t → t ≡ Ok (record { numbers = n; place = end; rest = tail })
 ends_so total n end cell tail (Err e) c = absurd c
 ends_so total n end cell tail (Ok q) c =
-    let r = rest_of [] total n end tail cell c.0 (λ m. []) q c.1 in
+    let r = rest_of [] total n end tail c.1 in
     let numbers : q.numbers ≡ n = ext_get_or (pos 0) q.numbers n r.long (λ k lt. sym (r.same k refl)) in
     let place : q.place ≡ end = omega (arith, r.place, ap length r.spells) in
-    let rest : q.rest ≡ tail = r.front ∙ ap (λ (l : List ℕ). l ++ tail) r.spells in
-    rw (← numbers, ← place, ← rest) refl
+    rw (← numbers, ← place, ← (r.front ∙ ap (λ l. l ++ tail) r.spells)) refl
 
 -- a body of a description of the set is taken, and gives the numbers that it was made of
 pub body_only : (all : List Cell) (ds : List Desc) → AreSound ds → (d : Desc) (v base : ℕ) (n : List ℤ) (p : Progress) (bytes tail : List ℕ) → IsSound d
@@ -210,8 +170,7 @@ pub body_only : (all : List Cell) (ds : List Desc) → AreSound ds → (d : Desc
     → Spells n (desc_slots (meanings ds (length ds)) d v n base) bytes → FitSlots n (desc_slots (meanings ds (length ds)) d v n base)
     → RulesHold (desc_slots (meanings ds (length ds)) d v n base)
     → ((c : ℕ) → has_cell (desc_slots (meanings ds (length ds)) d v n base) c ≡ false → get_or n c (pos 0) ≡ get_or p.numbers c (pos 0))
-    → p.rest ≡ bytes ++ tail
-    → take_desc (takers ds (length ds)) d v base p ≡ Ok (record { numbers = n; place = p.place + length bytes; rest = tail })
+    → p.rest ≡ bytes ++ tail → take_desc (takers ds (length ds)) d v base p ≡ Ok (record { numbers = n; place = p.place + length bytes; rest = tail })
 body_only all ds structs d v base n p bytes tail sound room long cells spells fits rules same front =
     let total : List ℤ → List Slot = λ m. desc_slots (meanings ds (length ds)) d v m base in
     let end = p.place + length bytes in

@@ -1,16 +1,9 @@
 -- The numbers that are in the bytes of a description are its cells.
-use Rattle.std.proofs.Common.{◌≡◌, ℕ, zero, suc, ◌+◌, ◌<◌, ◌≤◌, List, ◌∷◌, ◌++◌, length, get_or, map, drop, ℤ, ap, ◌∙◌, refl, arith, append_assoc, []}
-use Rattle.std.proofs.Math.ListN.{get_or-map}
-use Rattle.vms_kinds.specs.declared.Item.{Item}
-use Rattle.vms_kinds.specs.declared.Item.TheVariants.{Num, Struct}
-use Rattle.vms_spec.specs.Sets.{Field, Desc}
-use Rattle.vms_spec.specs.Tests.{is_there}
-use Rattle.vms_spec.specs.Layout.{Slot, Number, Cell, no_cell, Meaning, no_meaning, no_desc, item_cells, item_slots, item_size, times, field_slots, slots_from, desc_slots, desc_cells, cells_from, field_cells, elements_of, capacity_of, counted, no_parent, first, meaning, meanings}
-use Rattle.vms_bodies.specs.Cells.{AreCells}
-use Rattle.vms_spec.proofs.Sizes.{size_same, elements_fit}
-use Rattle.vms_spec.proofs.Prefixes.{first_cells}
-use Rattle.vms_spec.proofs.Tables.{one_more}
-use Rattle.vms_spec.proofs.ListLaws.{drop_on}
+use Rattle.vms_bodies.proofs.Facade.{◌≡◌, ℕ, zero, suc, ◌+◌, ◌<◌, ◌≤◌, List, ◌∷◌, ◌++◌, length, get_or, map, drop, ℤ, ◌∙◌, refl, arith, append_assoc, []}
+use Rattle.vms_bodies.proofs.Facade.{get_or-map, Item, Num, Struct, Field, Desc, is_there, Slot, Number, Cell, no_cell, Meaning, no_meaning, no_desc}
+use Rattle.vms_bodies.proofs.Facade.{item_cells, item_slots, item_size, times, field_slots, slots_from, desc_slots, desc_cells, cells_from, field_cells}
+use Rattle.vms_bodies.proofs.Facade.{elements_of, capacity_of, counted, no_parent, first, meaning, meanings, AreCells, size_same, elements_fit, first_cells}
+use Rattle.vms_bodies.proofs.Facade.{one_more, drop_on}
 use Rattle.vms_bodies.proofs.Names.{if_there}
 
 -- from an index on, these cells are in a list
@@ -49,7 +42,7 @@ module _ (ms : List Meaning) (h : MeanCells ms) where
       → Stands all at (item_cells (cells_in ms) item caps z) → AreCells all (item_slots ms item caps numbers at)
   item_are (Num kind) caps z all at numbers s =
       let x = first_is all at (record { kind = kind; capacities = caps; default = z }) s.more s.is in
-      (record { within = x.0; kind = ap (λ (c : Cell). c.kind) x.1; capacities = ap (λ (c : Cell). c.capacities) x.1 }, tt)
+      (record { within = x.0; kind = rw (x.1); capacities = rw (x.1) }, tt)
   item_are (Struct j) caps z all at numbers s = (h j).means all at numbers (rw (get_or-map (λ (m : Meaning). m.cells) ms j no_meaning) at s)
   item_are _ caps z all at numbers s = tt
 

@@ -1,12 +1,8 @@
 -- Which devices and which subsections came.
-use Rattle.std.proofs.Common.{◌≡◌, sym, ◌∙◌, refl, ap, arith, ◌==◌, ℕ, zero, suc, ◌<◌, List, [], ◌∷◌, ◌++◌, length, map, slice_set, Option, Some, None, Bool, true, false}
-use Rattle.std.specs.List.{slice_get}
-use Rattle.std.proofs.lemmas.Bool.{eqb-true, eq-eqb}
-use Rattle.vms_spec.specs.Sets.{Device, Set, Sub}
-use Rattle.vms_spec.specs.Images.{Image, AreVersionsOf, Spells, sub_slots, default_image}
+use Rattle.vms_bodies.proofs.Facade.{◌≡◌, sym, ◌∙◌, refl, arith, ◌==◌, ℕ, zero, suc, ◌<◌, List, [], ◌∷◌, ◌++◌, length, map, slice_set, Option, Some, None, Bool}
+use Rattle.vms_bodies.proofs.Facade.{true, false, slice_get, length-map, eqb-true, eq-eqb, Device, Set, Sub, Image, AreVersionsOf, Spells, sub_slots}
+use Rattle.vms_bodies.proofs.Facade.{default_image, sub_head, first_missing}
 use Rattle.vms_spec.specs.Streams
-use Rattle.vms_spec.specs.Streams.{sub_head}
-use Rattle.vms_spec.specs.Lookup.{first_missing}
 use Rattle.vms_bodies.proofs.BodyLaws.{at_set}
 use Rattle.vms_bodies.proofs.FineLaws.{part_place}
 use Rattle.vms_bodies.proofs.PartLaws.{at_other, none_of}
@@ -19,17 +15,14 @@ all_came k (true ∷ came) e = all_came (suc k) came e
 all_came k (false ∷ came) e = cc
 
 pub falses : (ds : List Device) → length (map (λ (d : Device). false) ds) ≡ length ds
-falses [] = refl
-falses (d ∷ ds) = ap suc (falses ds)
+falses ds = length-map ds _
 
 pub defaults_of : (set : Set) (ds : List Device) → length (map (default_image set) ds) ≡ length ds
-defaults_of set [] = refl
-defaults_of set (d ∷ ds) = ap suc (defaults_of set ds)
+defaults_of set ds = length-map ds _
 
 pub never_true : (ds : List Device) (k : ℕ) → slice_get (map (λ (d : Device). false) ds) k ≡ Some true → ⊥
-never_true [] k e = cc
-never_true (d ∷ ds) zero e = cc
 never_true (d ∷ ds) (suc k) e = never_true ds k e
+never_true _ _ e = cc
 
 pub none_missing : (k : ℕ) (came : List Bool) → Streams.AllCame came → first_missing k came ≡ None
 none_missing k [] h = refl
@@ -66,7 +59,6 @@ none_versions [] = tt
 none_versions (s ∷ subs) = none_versions subs
 
 pub sub_front : (set : Set) (d : Device) (image : Image) (j w : ℕ) (s : Sub) (body : List ℕ) (o : Option Sub) (p : Option (Option ℕ)) → Some s ≡ o
-    → Some (Some w) ≡ p
-    → Spells image.numbers (sub_slots set s w image.numbers (part_place set d j)) body
+    → Some (Some w) ≡ p → Spells image.numbers (sub_slots set s w image.numbers (part_place set d j)) body
     → Streams.SubSpells set d image j o p (sub_head s.desc.name w ++ body)
 sub_front set d image j w s body o p e f h = rw (← e, ← f) (body, h, refl)

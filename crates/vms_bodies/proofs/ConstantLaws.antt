@@ -1,14 +1,7 @@
 -- The constants of slots are those of the descriptions.
-use Rattle.std.proofs.Common.{◌≡◌, Some, ℕ, zero, suc, List, [], ◌∷◌, ◌++◌, length, get_or, ℤ}
-use Rattle.std.specs.List.{slice_get}
-use Rattle.vms_kinds.specs.declared.Item.{Item}
-use Rattle.vms_kinds.specs.declared.Item.TheVariants.{Num, Equal, Unused, Struct}
-use Rattle.vms_spec.specs.Images.{sub_slots}
-use Rattle.vms_spec.specs.Sets.{Field, Desc, Device, Sub, Set}
-use Rattle.vms_spec.specs.Tests.{is_there}
-use Rattle.vms_spec.specs.Layout.{Slot, Constant, Meaning, no_meaning, no_desc, item_slots, times, field_slots, slots_from, desc_slots, elements_of, counted, no_parent, first, meaning, meanings}
-use Rattle.vms_spec.specs.Good.{IsGood, ConstantFits, ConstantsFit}
-use Rattle.vms_spec.proofs.Tables.{one_more}
+use Rattle.vms_bodies.proofs.Facade.{◌≡◌, Some, ℕ, zero, suc, List, [], ◌∷◌, ◌++◌, length, get_or, ℤ, slice_get, Item, Equal, Struct, sub_slots, Field, Desc}
+use Rattle.vms_bodies.proofs.Facade.{Device, Sub, Set, is_there, Slot, Constant, Meaning, no_meaning, no_desc, item_slots, times, field_slots, slots_from}
+use Rattle.vms_bodies.proofs.Facade.{desc_slots, elements_of, counted, no_parent, first, meaning, meanings, IsGood, ConstantFits, ConstantsFit, one_more}
 use Rattle.vms_bodies.proofs.Names.{if_there}
 use Rattle.vms_bodies.proofs.SectionLaws.{AreConstants}
 
@@ -22,10 +15,9 @@ pub record MeansConstants (m : Meaning) : Type 0 where
 
 module _ (ms : List Meaning) (h : (j : ℕ) → MeansConstants (get_or ms j no_meaning)) where
   item_constants : (item : Item) → ConstantFits item → (caps : List ℕ) (numbers : List ℤ) (at : ℕ) → AreConstants (item_slots ms item caps numbers at)
-  item_constants (Num kind) f caps numbers at = tt
   item_constants (Equal kind y) f caps numbers at = (f, tt)
-  item_constants (Unused n) f caps numbers at = tt
   item_constants (Struct j) f caps numbers at = (h j).means at numbers
+  item_constants _ f caps numbers at = tt
 
   items_constants : (item : Item) → ConstantFits item → (caps : List ℕ) (numbers : List ℤ) (n at step : ℕ)
       → AreConstants (times n (item_slots ms item caps numbers) at step)
@@ -39,8 +31,7 @@ module _ (ms : List Meaning) (h : (j : ℕ) → MeansConstants (get_or ms j no_m
   fields_constants fields v own numbers i at (f ∷ fs) a =
       constants_append (field_slots ms fields v own numbers i at f) _
       (if_there AreConstants tt (is_there f.test f.since v own no_parent) _
-      (items_constants f.item a.0 (counted i fields) numbers (elements_of f.count own) at _))
-      (fields_constants fields v own numbers (suc i) _ fs a.1)
+      (items_constants f.item a.0 (counted i fields) numbers (elements_of f.count own) at _)) (fields_constants fields v own numbers (suc i) _ fs a.1)
 
   pub desc_constants : (d : Desc) → ConstantsFit d.fields → (v : ℕ) (numbers : List ℤ) (at : ℕ) → AreConstants (desc_slots ms d v numbers at)
   desc_constants d a v numbers at =

@@ -1,12 +1,7 @@
 -- The judge counts slots, the relation counts units: how the two are related. And what bytes say as a number.
-use Rattle.std.proofs.Common.{◌≡◌, ℕ, List, length, refl, ◌&&◌}
-use Rattle.vms_kinds.specs.declared.Kind.{Kind}
-use Rattle.vms_kinds.specs.declared.Kind.TheVariants.{U8, Bool as Truth}
-use Rattle.vms_kinds.specs.Codes.{width, code, value_of, InRange}
-use Rattle.vms_kinds.proofs.CodeLemmas.{plain_take, value_taken}
-use Rattle.vms_spec.specs.Numbers.{is_truth, is_above}
-use Rattle.vms_kinds.specs.Bytes.{IsBytes}
-use Rattle.vms_spec.specs.Lookup.{is_bad_bool, raw}
+use Rattle.vms_bodies.proofs.Facade.{◌≡◌, ℕ, List, length, refl, ◌&&◌, Kind, U8, width, code, value_of, InRange, plain_take, value_taken, is_truth, is_above}
+use Rattle.vms_bodies.proofs.Facade.{IsBytes, is_bad_bool, raw}
+use Rattle.vms_kinds.specs.declared.Kind.TheVariants.{Bool as Truth}
 
 -- ---- numbers
 

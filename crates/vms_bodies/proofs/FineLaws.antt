@@ -1,22 +1,16 @@
 -- An image whose parts so far are read is normal and valid so far, and stays so when one part more is read.
-use Rattle.std.proofs.Common.{◌≡◌, ℕ, ◌+◌, ◌<◌, List, length, get_or, slice_set, Option, Some, None, ℤ, pos, refl, sym, ◌∙◌, arith, Bool, true, false, ◌==◌}
-use Rattle.std.specs.List.{slice_get}
-use Rattle.std.proofs.lemmas.Bool.{eqb-true, eq-eqb, or_parts}
-use Rattle.vms_spec.specs.Sets.{Sub, Device, Set}
-use Rattle.vms_spec.specs.Layout.{Slot, Cell, no_cell, device_cells}
-use Rattle.vms_spec.specs.Images.{Image, sub_place, sub_slots, own_slots, own_cells, came_slots, image_slots, RulesHold, has_cell, AreVersionsOf, IsVersionOf, IsNormal, IsValid, FitsCell}
-use Rattle.vms_bodies.specs.Cells.{AreCells}
-use Rattle.vms_spec.specs.Sound.{IsSound, AreSound}
+use Rattle.vms_bodies.proofs.Facade.{◌≡◌, ℕ, ◌+◌, ◌<◌, List, length, get_or, slice_set, Option, Some, None, ℤ, pos, refl, sym, ◌∙◌, arith, false, slice_get}
+use Rattle.vms_bodies.proofs.Facade.{cases_eq, cases_Bool, or_parts, ⊎_elim, slice_get_within, Sub, Device, Set, Slot, Cell, no_cell, device_cells, Image}
+use Rattle.vms_bodies.proofs.Facade.{sub_place, sub_slots, own_slots, own_cells, came_slots, image_slots, RulesHold, has_cell, AreVersionsOf, IsVersionOf}
+use Rattle.vms_bodies.proofs.Facade.{IsNormal, IsValid, FitsCell, AreCells, IsSound, AreSound, DefaultsFit}
 use Rattle.vms_bodies.proofs.Names.{none_in_both, none_joined}
 use Rattle.vms_bodies.proofs.CellLaws.{cells_append}
 use Rattle.vms_bodies.proofs.SpellLaws.{FitSlots, fit_append, rules_append}
 use Rattle.vms_bodies.proofs.SectionLaws.{own_are}
 use Rattle.vms_bodies.proofs.NormalFound.{named_fits}
-use Rattle.vms_spec.specs.Good.{DefaultsFit}
 use Rattle.vms_bodies.proofs.BodyLaws.{at_set}
 use Rattle.vms_bodies.proofs.SettledLaws.{SameIn}
 use Rattle.vms_bodies.proofs.AgreeLaws.{its_same, its_fit, its_hold, its_below, its_outside}
-use Rattle.std.proofs.lemmas.Option.{slice_get_within}
 use Rattle.vms_bodies.proofs.PartLaws.{at_other, sub_size, sub_place_up, parts_apart, sub_are, parts_together, part_apart, names_next, versions_next}
 
 -- where subsection j begins
@@ -81,19 +75,15 @@ stays_next set d came j w t n m there new kept =
 
 -- what holds of the new part and of those before holds of all
 pub next_parts : (subs : List Sub) (came : List (Option ℕ)) (j w : ℕ) (t : Sub) (P : ℕ → Sub → ℕ → Type 0) → slice_get subs j ≡ Some t
-    → slice_get came j ≡ Some None
-    → P j t w → ((i : ℕ) (s : Sub) (x : ℕ) → slice_get subs i ≡ Some s → slice_get came i ≡ Some (Some x) → P i s x)
+    → slice_get came j ≡ Some None → P j t w → ((i : ℕ) (s : Sub) (x : ℕ) → slice_get subs i ≡ Some s → slice_get came i ≡ Some (Some x) → P i s x)
     → (i : ℕ) (s : Sub) (x : ℕ) → slice_get subs i ≡ Some s → slice_get (slice_set came j (Some w)) i ≡ Some (Some x) → P i s x
-next_parts subs came j w t P there new here before i s x e f = go (i == j) refl
-  where
-    go : (b : Bool) → (i == j) ≡ b → P i s x
-    go true l =
-        let same : i ≡ j = eqb-true i j l in
-        let g = at_set came j (Some w) (slice_get_within came j None new) in
-        let ts : t ≡ s = cc in
-        let wx : w ≡ x = cc in
-        rw (same, ← ts, ← wx) here
-    go false l = before i s x e (sym (at_other came j i (Some w) (λ same. let g = eq-eqb i j same in cc)) ∙ f)
+next_parts subs came j w t P there new here before i s x e f =
+    ⊎_elim (λ (same : i ≡ j).
+    let g = at_set came j (Some w) (slice_get_within came j None new) in
+    let ts : t ≡ s = cc in
+    let wx : w ≡ x = cc in
+    rw (same, ← ts, ← wx) here)
+    (λ (ne : i ≡ j → ⊥). before i s x e (sym (at_other came j i (Some w) ne) ∙ f)) (cases_eq i j)
 
 -- the slots of the parts that came name the same cells
 pub names_stay : (set : Set) (d : Device) (came : List (Option ℕ)) (n m : List ℤ) (c : ℕ) → AreSound set.structs
@@ -137,15 +127,11 @@ image_are set d image =
 cell_fits : (all : List Cell) (n : List ℤ) (slots : List Slot) → DefaultsFit all → AreCells all slots → FitSlots n slots
     → ((c : ℕ) → has_cell slots c ≡ false → get_or n c (pos 0) ≡ (get_or all c no_cell).default) → (c : ℕ) → c < length all
     → FitsCell (get_or all c no_cell) (get_or n c (pos 0))
-cell_fits all n slots fine a f h c lt = go (has_cell slots c) refl
-  where
-    go : (b : Bool) → has_cell slots c ≡ b → FitsCell (get_or all c no_cell) (get_or n c (pos 0))
-    go true e = named_fits all n slots c e f a
-    go false e = rw (h c e) (fine c lt)
+cell_fits all n slots fine a f h c lt =
+    ⊎_elim (λ e. named_fits all n slots c e f a) (λ e. rw (h c e) (fine c lt)) (cases_Bool (has_cell slots c))
 
 pub fine_normal : (set : Set) (d : Device) (v : ℕ) (came : List (Option ℕ)) (n : List ℤ) → IsVersionOf d.desc v → DefaultsFit (device_cells set d)
-    → Fine set d v came n
-    → IsNormal set d (record { version = v; came = came; numbers = n })
+    → Fine set d v came n → IsNormal set d (record { version = v; came = came; numbers = n })
 fine_normal set d v came n version defaults f =
     let image : Image = record { version = v; came = came; numbers = n } in
     let fits : FitSlots n (image_slots set d image) =

@@ -1,12 +1,7 @@
 -- What was taken as a description is a body of it.
-use Rattle.std.proofs.Common.{◌≡◌, ℕ, ◌+◌, ◌≤◌, List, [], ◌++◌, length, get_or, Ok, ℤ, pos, refl, ◌∙◌, subst, append-nil, false}
-use Rattle.vms_kinds.specs.Bytes.{IsBytes}
-use Rattle.vms_spec.specs.Sets.{Desc}
-use Rattle.vms_spec.specs.Layout.{Slot, Cell, meanings, desc_slots, desc_cells}
-use Rattle.vms_spec.specs.Images.{Spells, RulesHold, has_cell}
-use Rattle.vms_spec.specs.Taking.{Taken, Progress, takers, cells_of, take_desc}
-use Rattle.vms_spec.specs.Sound.{IsSound, AreSound}
-use Rattle.vms_bodies.specs.Cells.{AreCells}
+use Rattle.vms_bodies.proofs.Facade.{◌≡◌, ℕ, ◌+◌, ◌≤◌, List, [], ◌++◌, length, get_or, Ok, ℤ, pos, refl, ◌∙◌, append-nil, false, IsBytes, Desc, Slot, Cell}
+use Rattle.vms_bodies.proofs.Facade.{meanings, desc_slots, desc_cells, Spells, RulesHold, has_cell, Progress, takers, cells_of, take_desc, IsSound, AreSound}
+use Rattle.vms_bodies.proofs.Facade.{AreCells}
 use Rattle.vms_bodies.proofs.Places.{SameBelow}
 use Rattle.vms_bodies.proofs.WalkLaws.{ComesTo, set_desc_comes}
 use Rattle.vms_bodies.proofs.SpellLaws.{Spelled, Anything, FitSlots, spelled_keeps, spelled_first}
@@ -44,7 +39,6 @@ pub body_found : (all : List Cell) (ds : List Desc) → AreSound ds → (d : Des
     → IsBody (λ m. desc_slots (meanings ds (length ds)) d v m base) (base + length (desc_cells (cells_of (takers ds (length ds))) d)) p q
 body_found all ds structs d v base p q sound ok room cells e =
     let slots : List ℤ → List Slot = λ m. desc_slots (meanings ds (length ds)) d v m base in
-    let end = base + length (desc_cells (cells_of (takers ds (length ds))) d) in
     let c = set_desc_comes slots (Spelled p) Anything (spelled_keeps all slots p ok room cells) ds structs d v base p sound (λ m. refl)
     (spelled_first all slots p base) in
-    body_of slots end p q (subst (λ (t : Taken). ComesTo slots (Spelled p) Anything end (λ m. []) t) e c.comes)
+    body_of slots (base + length (desc_cells (cells_of (takers ds (length ds))) d)) p q (rw e at c.comes)

@@ -1,10 +1,6 @@
 -- What the reader of a body leaves: the bytes from its offset on, also if a unit is invalid.
-use Rattle.std.proofs.Common.{◌≡◌, ℕ, ◌+◌, ◌-◌, ◌≤◌, List, [], ◌∷◌, ◌++◌, length, drop, Ok, Err, ℤ, refl, arith}
-use Rattle.std.proofs.lemmas.List.{drop-drop}
-use Rattle.vms_spec.specs.Sets.{Desc}
-use Rattle.vms_spec.specs.Layout.{Slot, Number, meanings, desc_slots}
-use Rattle.vms_spec.specs.Taking.{Taken, Progress, Refusal, take_slot, take_desc, takers}
-use Rattle.vms_spec.specs.Sound.{IsSound, AreSound}
+use Rattle.vms_bodies.proofs.Facade.{◌≡◌, ℕ, ◌+◌, ◌-◌, ◌≤◌, List, [], ◌∷◌, ◌++◌, length, drop, Ok, Err, ℤ, refl, arith, drop-drop, Desc, Slot, Number, meanings}
+use Rattle.vms_bodies.proofs.Facade.{desc_slots, Taken, Progress, Refusal, take_slot, take_desc, takers, IsSound, AreSound}
 use Rattle.vms_bodies.proofs.WalkLaws.{Gives, Keeping, ComesTo, slot_gives, set_desc_comes}
 
 module _ (at : ℕ) (input : List ℕ) where

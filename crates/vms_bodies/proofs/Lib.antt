@@ -5,6 +5,7 @@ pub mod BodyOnly
 pub mod CellLaws
 pub mod ComeLaws
 pub mod ConstantLaws
+pub mod Facade
 pub mod FaultFields
 pub mod FineLaws
 pub mod FoundLaws

@@ -1,13 +1,11 @@
 -- Which cells are in slots that are joined.
-use Rattle.std.proofs.Common.{◌≡◌, ℕ, List, ◌∷◌, ◌++◌, refl, sym, ap, ◌∙◌, Bool as Truth, true, false, ◌==◌, [], ◌||◌, if◌then◌else◌}
-use Rattle.std.proofs.lemmas.Bool.{or_parts, or_right}
-use Rattle.std.proofs.Math.Bool.{or_assoc}
-use Rattle.vms_spec.specs.Layout.{Slot, Number}
-use Rattle.vms_spec.specs.Images.{has_cell}
+use Rattle.vms_bodies.proofs.Facade.{◌≡◌, ℕ, List, ◌∷◌, ◌++◌, refl, sym, ◌∙◌, true, false, ◌==◌, [], ◌||◌, if◌then◌else◌, or_parts, or_right, or_assoc, Slot}
+use Rattle.vms_bodies.proofs.Facade.{Number, has_cell}
+use Rattle.std.proofs.Common.{Bool as Truth}
 
 pub names_append : (xs ys : List Slot) (k : ℕ) → has_cell (xs ++ ys) k ≡ (has_cell xs k || has_cell ys k)
 names_append [] ys k = refl
-names_append (Number c kind caps ∷ xs) ys k = ap (λ (b : Truth). (c == k) || b) (names_append xs ys k) ∙ sym (or_assoc (c == k) (has_cell xs k) (has_cell ys k))
+names_append (Number c kind caps ∷ xs) ys k = rw (names_append xs ys k) (sym (or_assoc (c == k) (has_cell xs k) (has_cell ys k)))
 names_append (_ ∷ xs) ys k = names_append xs ys k
 
 pub none_in_both : (c : ℕ) (xs ys : List Slot) → has_cell (xs ++ ys) c ≡ false → (has_cell xs c ≡ false) × (has_cell ys c ≡ false)

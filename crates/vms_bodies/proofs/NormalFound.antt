@@ -1,10 +1,6 @@
 -- A named cell of slots that fit fits.
-use Rattle.std.proofs.Common.{◌≡◌, ℕ, List, [], ◌∷◌, get_or, ℤ, pos, true, ◌==◌}
-use Rattle.std.proofs.lemmas.Bool.{eqb-true}
-use Rattle.vms_spec.specs.Layout.{Slot, Number, Constant, Cell, no_cell}
-use Rattle.vms_spec.specs.Images.{has_cell, FitsCell}
-use Rattle.vms_spec.proofs.ListLaws.{either_of}
-use Rattle.vms_bodies.specs.Cells.{AreCells}
+use Rattle.vms_bodies.proofs.Facade.{◌≡◌, ℕ, List, [], ◌∷◌, get_or, ℤ, pos, true, ◌==◌, eqb-true, Slot, Number, Constant, Cell, no_cell, has_cell, FitsCell}
+use Rattle.vms_bodies.proofs.Facade.{either_of, AreCells}
 use Rattle.vms_bodies.proofs.SpellLaws.{FitSlots}
 
 -- a named cell fits

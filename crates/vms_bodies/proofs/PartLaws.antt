@@ -1,15 +1,9 @@
 -- The parts of a section: where they begin, and what their slots are together.
-use Rattle.std.proofs.Common.{◌≡◌, ℕ, zero, suc, ◌+◌, ◌<◌, ◌≤◌, List, ◌∷◌, ◌++◌, length, map, slice_set, Option, Some, None, ℤ, refl, sym, ap, ◌∙◌, arith, append-nil, Bool, true, false, nat_lt, [], ◌||◌}
-use Rattle.std.specs.List.{flat_map, slice_get}
-use Rattle.std.proofs.Math.Bool.{or_assoc}
-use Rattle.std.proofs.lemmas.Bool.{ltb-true, ltb-false}
-use Rattle.std.proofs.Math.Seq.{drop-append_seam}
-use Rattle.vms_spec.specs.Sets.{Sub, Device, Set}
-use Rattle.vms_spec.specs.Layout.{Slot, Cell, desc_cells, device_cells, struct_cells}
-use Rattle.vms_spec.specs.Images.{sub_place, sub_slots, own_cells, came_slots, has_cell, AreVersionsOf, IsVersionOf}
+use Rattle.vms_bodies.proofs.Facade.{◌≡◌, ℕ, zero, suc, ◌+◌, ◌<◌, ◌≤◌, List, ◌∷◌, ◌++◌, length, map, slice_set, Option, Some, None, ℤ, refl, sym, ap, ◌∙◌}
+use Rattle.vms_bodies.proofs.Facade.{arith, append-nil, [], ◌||◌, flat_map, slice_get, or_assoc, cases_lt, ⊎_elim, drop-append_seam, Sub, Device, Set, Slot}
+use Rattle.vms_bodies.proofs.Facade.{Cell, desc_cells, device_cells, struct_cells, sub_place, sub_slots, own_cells, came_slots, has_cell, AreVersionsOf}
+use Rattle.vms_bodies.proofs.Facade.{IsVersionOf, or_turned, AreCells}
 use Rattle.vms_spec.specs.Streams
-use Rattle.vms_spec.proofs.ListLaws.{or_turned}
-use Rattle.vms_bodies.specs.Cells.{AreCells}
 use Rattle.vms_bodies.proofs.Names.{names_append}
 use Rattle.vms_bodies.proofs.CellLaws.{Stands, front_stands, rest_stands, desc_are, meanings_are, cells_first}
 
@@ -22,11 +16,9 @@ sub_cells set subs = flat_map (λ s. desc_cells (struct_cells set) s.desc) subs
 -- ---- lists
 
 pub at_other : {A : Type 0} (xs : List A) (k j : ℕ) (x : A) → (j ≡ k → ⊥) → slice_get (slice_set xs k x) j ≡ slice_get xs j
-at_other [] k j x ne = refl
 at_other (y ∷ ys) zero zero x ne = absurd (ne refl)
-at_other (y ∷ ys) zero (suc j) x ne = refl
-at_other (y ∷ ys) (suc k) zero x ne = refl
 at_other (y ∷ ys) (suc k) (suc j) x ne = at_other ys k j x (λ e. ne (ap suc e))
+at_other _ _ _ x ne = refl
 
 -- ---- places
 
@@ -46,11 +38,9 @@ places_apart set from (t ∷ subs) (suc i) (suc j) s e lt = places_apart set (fr
 pub parts_apart : (set : Set) (from : ℕ) (subs : List Sub) (i j : ℕ) (s t : Sub) → slice_get subs i ≡ Some s → slice_get subs j ≡ Some t → (i ≡ j → ⊥) → (c : ℕ)
     → sub_place set from subs i ≤ c → c < sub_place set from subs i + sub_size set s → sub_place set from subs j ≤ c
     → sub_place set from subs j + sub_size set t ≤ c
-parts_apart set from subs i j s t e f ne c up lt le = go (nat_lt i j) refl
-  where
-    go : (b : Bool) → nat_lt i j ≡ b → sub_place set from subs j + sub_size set t ≤ c
-    go true l = absurd (omega (arith, places_apart set from subs i j s e (ltb-true i j l)))
-    go false l = let ge = ltb-false i j l in omega (arith, places_apart set from subs j i t f (omega arith))
+parts_apart set from subs i j s t e f ne c up lt le =
+    ⊎_elim (λ (l : i < j). absurd (omega (arith, places_apart set from subs i j s e l)))
+    (λ (l : j ≤ i). omega (arith, places_apart set from subs j i t f (omega arith))) (cases_lt i j)
 
 -- ---- cells
 
@@ -80,18 +70,14 @@ module _ (set : Set) (d : Device) (n : List ℤ) (P : List Slot → Type 0) wher
   pub parts_together : P [] → ((xs ys : List Slot) → P xs → P ys → P (xs ++ ys)) → (from : ℕ) (subs : List Sub) (came : List (Option ℕ))
       → ((j : ℕ) (s : Sub) (v : ℕ) → slice_get subs j ≡ Some s → slice_get came j ≡ Some (Some v) → P (sub_slots set s v n (sub_place set from subs j)))
       → P (came_slots set d n from subs came)
-  parts_together none both from [] came h = none
-  parts_together none both from (s ∷ subs) [] h = none
   parts_together none both from (s ∷ subs) (None ∷ came) h = parts_together none both (from + sub_size set s) subs came (λ j t v e f. h (suc j) t v e f)
   parts_together none both from (s ∷ subs) (Some v ∷ came) h =
       both (sub_slots set s v n from) _ (h 0 s v refl refl) (parts_together none both (from + sub_size set s) subs came (λ j t v e f. h (suc j) t v e f))
+  parts_together none both from _ _ h = none
 
   pub part_apart : ((xs ys : List Slot) → P (xs ++ ys) → P xs × P ys) → (from : ℕ) (subs : List Sub) (came : List (Option ℕ))
       → P (came_slots set d n from subs came)
       → (j : ℕ) (s : Sub) (v : ℕ) → slice_get subs j ≡ Some s → slice_get came j ≡ Some (Some v) → P (sub_slots set s v n (sub_place set from subs j))
-  part_apart split from [] came h j s v e f = cc
-  part_apart split from (t ∷ subs) [] h j s v e f = cc
-  part_apart split from (t ∷ subs) (None ∷ came) h zero s v e f = cc
   part_apart split from (t ∷ subs) (None ∷ came) h (suc j) s v e f = part_apart split (from + sub_size set t) subs came h j s v e f
   part_apart split from (t ∷ subs) (Some w ∷ came) h zero s v e f =
       let a : t ≡ s = cc in
@@ -99,16 +85,12 @@ module _ (set : Set) (d : Device) (n : List ℤ) (P : List Slot → Type 0) wher
       rw (← a, ← b) (split (sub_slots set t w n from) (came_slots set d n _ subs came) h).0
   part_apart split from (t ∷ subs) (Some w ∷ came) h (suc j) s v e f =
       part_apart split (from + sub_size set t) subs came (split (sub_slots set t w n from) (came_slots set d n _ subs came) h).1 j s v e f
+  part_apart split from _ _ h _ s v e f = cc
 
 -- what is named when one part more came
 pub names_next : (set : Set) (d : Device) (n : List ℤ) (c from : ℕ) (subs : List Sub) (came : List (Option ℕ)) (j : ℕ) (s : Sub) (v : ℕ)
-    → slice_get subs j ≡ Some s
-    → slice_get came j ≡ Some None
-    → has_cell (came_slots set d n from subs (slice_set came j (Some v))) c
+    → slice_get subs j ≡ Some s → slice_get came j ≡ Some None → has_cell (came_slots set d n from subs (slice_set came j (Some v))) c
     ≡ (has_cell (sub_slots set s v n (sub_place set from subs j)) c || has_cell (came_slots set d n from subs came) c)
-names_next set d n c from [] came j s v e f = cc
-names_next set d n c from (t ∷ subs) [] j s v e f = cc
-names_next set d n c from (t ∷ subs) (Some w ∷ came) zero s v e f = cc
 names_next set d n c from (t ∷ subs) (None ∷ came) zero s v e f =
     let a : t ≡ s = cc in rw (← a) (names_append (sub_slots set t v n from) (came_slots set d n _ subs came) c)
 names_next set d n c from (t ∷ subs) (None ∷ came) (suc j) s v e f = names_next set d n c _ subs came j s v e f
@@ -117,15 +99,14 @@ names_next set d n c from (t ∷ subs) (Some w ∷ came) (suc j) s v e f =
     let here = sub_slots set t w n from in
     let part = has_cell (sub_slots set s v n (sub_place set next subs j)) c in
     names_append here (came_slots set d n next subs (slice_set came j (Some v))) c
-    ∙ ap (λ (b : Bool). has_cell here c || b) (names_next set d n c next subs came j s v e f)
-    ∙ or_turned (has_cell here c) part _ ∙ or_assoc part (has_cell here c) _
-    ∙ ap (λ (b : Bool). part || b) (sym (names_append here (came_slots set d n next subs came) c))
+    ∙ ap (λ b. has_cell here c || b) (names_next set d n c next subs came j s v e f) ∙ or_turned (has_cell here c) part _ ∙ or_assoc part (has_cell here c) _
+    ∙ ap (λ b. part || b) (sym (names_append here (came_slots set d n next subs came) c))
+names_next set d n c from _ _ _ s v e f = cc
 
 -- ---- versions
 
 pub versions_next : (subs : List Sub) (came : List (Option ℕ)) (j : ℕ) (s : Sub) (v : ℕ) → slice_get subs j ≡ Some s → IsVersionOf s.desc v
-    → AreVersionsOf subs came
-    → AreVersionsOf subs (slice_set came j (Some v))
+    → AreVersionsOf subs came → AreVersionsOf subs (slice_set came j (Some v))
 versions_next [] came j s v e i h = cc
 versions_next (t ∷ subs) [] j s v e i h = absurd h
 versions_next (t ∷ subs) (None ∷ came) zero s v e i h = (let a : t ≡ s = cc in rw a i, h)
@@ -135,21 +116,18 @@ versions_next (t ∷ subs) (Some w ∷ came) (suc j) s v e i h = (h.0, versions_
 
 pub version_at : (subs : List Sub) (came : List (Option ℕ)) (j : ℕ) (v : ℕ) → AreVersionsOf subs came → slice_get came j ≡ Some (Some v)
     → (s : Sub) × (slice_get subs j ≡ Some s) × IsVersionOf s.desc v
-version_at [] [] j v h e = cc
 version_at [] (o ∷ came) j v h e = absurd h
-version_at (t ∷ subs) [] j v h e = cc
-version_at (t ∷ subs) (None ∷ came) zero v h e = cc
 version_at (t ∷ subs) (Some w ∷ came) zero v h e = (t, refl, (let a : w ≡ v = cc in rw a at h.0))
 version_at (t ∷ subs) (None ∷ came) (suc j) v h e = version_at subs came j v h e
 version_at (t ∷ subs) (Some w ∷ came) (suc j) v h e = version_at subs came j v h.1 e
+version_at _ _ _ v h e = cc
 
 abbrev pub none_of : List Sub → List (Option ℕ)
 none_of subs = map (λ s. None) subs
 
 pub none_came : (subs : List Sub) (j : ℕ) (v : ℕ) → slice_get (none_of subs) j ≡ Some (Some v) → ⊥
-none_came [] j v e = cc
-none_came (s ∷ subs) zero v e = cc
 none_came (s ∷ subs) (suc j) v e = none_came subs j v e
+none_came _ _ v e = cc
 
 -- ---- what came, what is still to come, and both together
 
@@ -174,8 +152,7 @@ pub beside_next : (came left all : List (Option ℕ)) (j v : ℕ) → Beside cam
     → (slice_get came j ≡ Some None) × (slice_get all j ≡ Some (Some v)) × Beside (slice_set came j (Some v)) (slice_set left j None) all
 beside_next [] [] [] j v b e = cc
 beside_next (None ∷ came) (x ∷ left) (y ∷ all) zero v b e =
-    let i : x ≡ Some v = cc in
-    let f : y ≡ Some v = sym b.0 ∙ i in
+    let f : y ≡ Some v = sym b.0 ∙ cc in
     (refl, ap Some f, (refl, f, b.1))
 beside_next (Some w ∷ came) (x ∷ left) (y ∷ all) zero v b e = let f = b.0 in cc
 beside_next (None ∷ came) (x ∷ left) (y ∷ all) (suc j) v b e = let h = beside_next came left all j v b.1 e in (h.0, h.1, (b.0, h.2))
@@ -187,11 +164,10 @@ pub beside_back : (came left all : List (Option ℕ)) (j v : ℕ) → Beside (sl
     × Beside came (slice_set left j (Some v)) all
 beside_back [] left all j v b e = cc
 beside_back (Some w ∷ came) left all zero v b e = cc
-beside_back (None ∷ came) (x ∷ left) (y ∷ all) zero v b e = (ap Some b.1, refl, ap (λ (o : Option ℕ). o ∷ left) (sym b.0), (sym b.1, b.2))
-beside_back (None ∷ came) (x ∷ left) (y ∷ all) (suc j) v b e =
-    let h = beside_back came left all j v b.1 e in (h.0, h.1, ap (λ (l : List (Option ℕ)). x ∷ l) h.2, (b.0, h.3))
+beside_back (None ∷ came) (x ∷ left) (y ∷ all) zero v b e = (ap Some b.1, refl, rw (sym b.0), (sym b.1, b.2))
+beside_back (None ∷ came) (x ∷ left) (y ∷ all) (suc j) v b e = let h = beside_back came left all j v b.1 e in (h.0, h.1, ap (λ l. x ∷ l) h.2, (b.0, h.3))
 beside_back (Some w ∷ came) (x ∷ left) (y ∷ all) (suc j) v b e =
-    let h = beside_back came left all j v b.2 e in (h.0, h.1, ap (λ (l : List (Option ℕ)). x ∷ l) h.2, (b.0, b.1, h.3))
+    let h = beside_back came left all j v b.2 e in (h.0, h.1, ap (λ l. x ∷ l) h.2, (b.0, b.1, h.3))
 beside_back _ _ _ zero v b e = absurd b
 beside_back _ _ _ (suc j) v b e = absurd b
 

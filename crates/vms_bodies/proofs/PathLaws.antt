@@ -1,17 +1,10 @@
 -- The cell of a path is one of the device's.
-use Rattle.std.proofs.Common.{◌≡◌, ℕ, zero, suc, ◌+◌, ◌*◌, ◌<◌, ◌≤◌, List, ◌∷◌, length, length-append, Option, Some, None, refl, arith, Bool, true, false, nat_lt, if◌then◌else◌, []}
-use Rattle.std.specs.List.{flat_map, slice_get}
-use Rattle.std.proofs.lemmas.Bool.{ltb-true}
-use Rattle.std.proofs.lemmas.Option.{get_or_from_slice_get}
-use Rattle.vms_kinds.specs.declared.Item.{Item}
-use Rattle.vms_kinds.specs.declared.Item.TheVariants.{Num, Struct}
-use Rattle.vms_spec.specs.Sets.{Field, Desc, Sub, Device, Set}
-use Rattle.vms_spec.specs.Layout.{Cell, no_desc, first, item_size, capacity_of, place_of, field_cells, cells_from, desc_cells, struct_cells, device_cells}
-use Rattle.vms_spec.specs.Images.{sub_place, own_cells}
-use Rattle.vms_spec.specs.Places.{item_at, element_at, path_at, desc_of_sub, cell_in, cell_at, size_of_device, cell_count}
+use Rattle.vms_bodies.proofs.Facade.{◌≡◌, ℕ, zero, suc, ◌+◌, ◌*◌, ◌<◌, ◌≤◌, List, ◌∷◌, length, length-append, Option, Some, None, refl, arith, Bool, true}
+use Rattle.vms_bodies.proofs.Facade.{false, nat_lt, if◌then◌else◌, [], flat_map, slice_get, ltb-true, get_or_from_slice_get, Item, Num, Struct, Field, Desc}
+use Rattle.vms_bodies.proofs.Facade.{Sub, Device, Set, Cell, no_desc, first, item_size, capacity_of, place_of, field_cells, cells_from, desc_cells}
+use Rattle.vms_bodies.proofs.Facade.{struct_cells, device_cells, sub_place, own_cells, item_at, element_at, path_at, desc_of_sub, cell_in, cell_at}
+use Rattle.vms_bodies.proofs.Facade.{size_of_device, cell_count, field_size, element_room, first_at}
 use Rattle.vms_bodies.proofs.Places.{place_up}
-use Rattle.vms_spec.proofs.Sizes.{field_size, element_room}
-use Rattle.vms_spec.proofs.Tables.{first_at}
 
 -- ---- places
 
@@ -63,8 +56,7 @@ module _ (set : Set) where
   in_item [] inside below (Num kind) cell c h = let same : cell ≡ c = cc in record { low = omega arith; high = omega arith }
   in_item (step ∷ path) inside below (Struct j) cell c h =
       let t = some_if (nat_lt j below) _ c h in in_struct step path inside below j cell c (ltb-true j below t.0) (slice_get set.structs j) refl t.1
-  in_item [] inside below _ cell c h = cc
-  in_item (step ∷ path) inside below _ cell c h = cc
+  in_item _ inside below _ cell c h = cc
 
   in_element : (path : List (ℕ × ℕ)) → Inside path → (below : ℕ) (d : Desc) (base i e c : ℕ) (o : Option Field) → slice_get d.fields i ≡ o
       → element_at (first desc_cells set.structs below) d base i e o (item_at (further path below) path) ≡ Some c → Within base (size_below below d) c
@@ -76,7 +68,7 @@ module _ (set : Set) where
       let room = place_room cs d.fields 0 base d.fields i f there in
       let up = place_up cs d.fields 0 base d.fields i in
       let element = element_room e (capacity_of f.count) (item_size cs f.item) (ltb-true e (capacity_of f.count) t.0) in
-      record { low = omega (arith, w.low); high = omega (arith, w.high) }
+      record { low = omega arith; high = omega arith }
 
   path_inside : (path : List (ℕ × ℕ)) → Inside path
   path_inside [] below d base c h = cc
@@ -103,11 +95,11 @@ module _ (set : Set) where
   in_sub d j (step ∷ path) c None e h = cc
   in_sub d j path c (Some s) e h =
       let w = path_inside path (length set.structs) s.desc (sub_place set (own_cells set d) d.subs j) c h in
-      omega (arith, w.high, sub_room (own_cells set d) d.subs j s e, all_room d)
+      omega (arith, sub_room (own_cells set d) d.subs j s e, all_room d)
 
   in_device : (o : Option Device) (part : Option ℕ) (path : List (ℕ × ℕ)) (c : ℕ) → cell_in set o part path ≡ Some c → c < size_of_device set o
   in_device None part path c h = cc
-  in_device (Some d) None path c h = let w = path_inside path (length set.structs) d.desc 0 c h in omega (arith, w.high, all_room d)
+  in_device (Some d) None path c h = let w = path_inside path (length set.structs) d.desc 0 c h in omega (arith, all_room d)
   in_device (Some d) (Some j) path c h = in_sub d j path c (slice_get d.subs j) refl h
 
   pub cell_inside : (k : ℕ) (part : Option ℕ) (path : List (ℕ × ℕ)) (c : ℕ) → cell_at set k part path ≡ Some c → c < cell_count set k

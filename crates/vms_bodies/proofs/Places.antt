@@ -1,17 +1,10 @@
 -- Where fields begin, and which tests don't change.
-use Rattle.std.proofs.Common.{◌≡◌, ℕ, zero, suc, ◌+◌, ◌*◌, ◌<◌, ◌≤◌, List, [], ◌∷◌, length, get_or, drop, Option, Some, None, ℤ, pos, refl, ap, ◌∙◌, arith, length-append, not, bit_and, min}
-use Rattle.std.specs.List.{AllByRecursion}
-use Rattle.vms_kinds.specs.declared.Item.{Item}
-use Rattle.vms_kinds.specs.declared.Item.TheVariants.{Num}
-use Rattle.vms_kinds.specs.Codes.{width, residue}
-use Rattle.vms_spec.specs.declared.Count.{Count}
-use Rattle.vms_spec.specs.declared.Count.TheVariants.{One, Counted}
-use Rattle.vms_spec.specs.declared.Whose.TheVariants.{Own, Parent}
-use Rattle.vms_spec.specs.Sets.{Formula, AtLeast, Below, Cell, Not, And, Or, Field, Desc}
-use Rattle.vms_spec.specs.Tests.{truth, is_there, compares}
-use Rattle.vms_spec.specs.Layout.{Cell as OneCell, place_of, field_cells, item_size, capacity_of, cells_from, numbers_of, no_field, kind_of, no_parent, all_hold, elements_of}
-use Rattle.vms_spec.proofs.Sizes.{field_size}
-use Rattle.vms_spec.specs.Sound.{IsNumber, IsOne, IsEarlier, NamesEarlier, IsSoundTest, IsSoundCount}
+use Rattle.vms_bodies.proofs.Facade.{◌≡◌, ℕ, zero, suc, ◌+◌, ◌*◌, ◌<◌, ◌≤◌, List, [], ◌∷◌, length, get_or, drop, Option, Some, None, ℤ, pos, refl, ap, ◌∙◌}
+use Rattle.vms_bodies.proofs.Facade.{arith, length-append, not, AllByRecursion, Item, Num, Count, One, Counted, Own, Formula, Not, And, Or, Field, Desc, truth}
+use Rattle.vms_bodies.proofs.Facade.{is_there, place_of, field_cells, item_size, capacity_of, cells_from, numbers_of, no_field, no_parent, all_hold}
+use Rattle.vms_bodies.proofs.Facade.{elements_of, field_size, IsNumber, IsOne, IsEarlier, NamesEarlier, IsSoundTest, IsSoundCount}
+use Rattle.vms_spec.specs.Sets.{Cell}
+use Rattle.vms_spec.specs.Layout.{Cell as OneCell}
 
 -- the numbers below a cell stay
 pub record SameBelow (cell : ℕ) (before now : List ℤ) : Type 0 where
@@ -33,9 +26,9 @@ one_cell cs (Num kind) One p q = refl
 one_cell cs (Num kind) _ p q = absurd q
 one_cell cs _ c p q = absurd p
 
-place_zero : (cs : List (List OneCell)) (fields : List Field) (i at : ℕ) (fs : List Field) → place_of cs fields i at fs zero ≡ at
-place_zero cs fields i at [] = refl
-place_zero cs fields i at (f ∷ fs) = refl
+pub place_first : (cs : List (List OneCell)) (fields : List Field) (i at : ℕ) (fs : List Field) → place_of cs fields i at fs 0 ≡ at
+place_first cs fields i at [] = refl
+place_first cs fields i at (f ∷ fs) = refl
 
 pub place_up : (cs : List (List OneCell)) (fields : List Field) (i at : ℕ) (fs : List Field) (k : ℕ) → at ≤ place_of cs fields i at fs k
 place_up cs fields i at [] k = omega arith
@@ -58,7 +51,7 @@ place_next cs fields i at [] (suc k) f more e = cc
 place_next cs fields i at (g ∷ fs) zero f more e =
     let same : g ≡ f = cc in
     let z : i ≡ i + 0 = omega arith in
-    rw (← z, ← same) (place_zero cs fields (suc i) (at + length (field_cells cs fields i g)) fs)
+    rw (← z, ← same) (place_first cs fields (suc i) (at + length (field_cells cs fields i g)) fs)
 place_next cs fields i at (g ∷ fs) (suc k) f more e =
     let z : i + suc k ≡ suc i + k = omega arith in
     rw z (place_next cs fields (suc i) (at + length (field_cells cs fields i g)) fs k f more e)
@@ -79,18 +72,15 @@ place_end cs fields i at (f ∷ fs) =
 pub own_same : (cs : List (List OneCell)) (d : Desc) (base i cell j : ℕ) (n m : List ℤ) → cell ≡ place_of cs d.fields 0 base d.fields i → SameBelow cell n m
     → IsEarlier d.fields i j → numbers_of cs d m base j ≡ numbers_of cs d n base j
 own_same cs d base i cell j n m e s x =
-    ap (λ (z : ℤ). residue (width (kind_of (get_or d.fields j no_field).item)) z)
-    (s.same (place_of cs d.fields 0 base d.fields j) (omega (arith, place_below cs d.fields 0 base d.fields j i x.earlier x.there x.number x.one)))
+    rw (s.same (place_of cs d.fields 0 base d.fields j) (omega (arith, place_below cs d.fields 0 base d.fields j i x.earlier x.there x.number x.one)))
 
 module _ (fields : List Field) (i v : ℕ) (own now : ℕ → ℕ) (h : (j : ℕ) → IsEarlier fields i j → now j ≡ own j) where
   pub truth_same : (t : Formula) → NamesEarlier fields i t → truth t v now no_parent ≡ truth t v own no_parent
-  truth_same (AtLeast n) x = refl
-  truth_same (Below n) x = refl
-  truth_same (Cell Own j mask rel value) x = ap (λ (k : ℕ). compares rel (bit_and k mask) value) (h j x)
-  truth_same (Cell Parent j mask rel value) x = refl
+  truth_same (Cell Own j mask rel value) x = rw (h j x)
   truth_same (Not t) x = ap not (truth_same t x)
   truth_same (And s t) x = rw (truth_same s x.0, truth_same t x.1) refl
   truth_same (Or s t) x = rw (truth_same s x.0, truth_same t x.1) refl
+  truth_same _ x = refl
 
   pub hold_same : (ts : List Formula) → AllByRecursion (NamesEarlier fields i) ts → all_hold ts v now ≡ all_hold ts v own
   hold_same [] x = refl
@@ -103,5 +93,5 @@ there_same fields i v since own now h (Some t) x = truth_same fields i v own now
 
 pub elements_same : (fields : List Field) (i : ℕ) (own now : ℕ → ℕ) → ((j : ℕ) → IsEarlier fields i j → now j ≡ own j) → (c : Count)
     → IsSoundCount fields i c → elements_of c now ≡ elements_of c own
-elements_same fields i own now h (Counted by most) x = ap (λ (k : ℕ). min k most) (h by x)
+elements_same fields i own now h (Counted by most) x = rw (h by x)
 elements_same fields i own now h _ x = refl

@@ -1,20 +1,11 @@
 -- The tests of readiness are the relations.
-use Rattle.std.proofs.Common.{◌≡◌, ℕ, zero, suc, ◌+◌, ◌<◌, List, ◌∷◌, length, get_or, Option, Some, None, ℤ, pos, negsuc, ◌≤ℤ◌, refl, ap, arith, Bool, true, false, not, ◌&&◌, ◌==◌, nat_le, [], ◌||◌}
-use Rattle.std.specs.List.{AllByRecursion}
-use Rattle.std.proofs.lemmas.Bool.{and_parts, not-true, leb-true, le-leb, eqb-true, eq-eqb, and_from, not_from_false}
-use Rattle.std.proofs.lemmas.Int.{ints}
-use Rattle.vms_kinds.specs.declared.Kind.{Kind}
-use Rattle.vms_kinds.specs.Codes.{lowest, highest, InRange}
-use Rattle.vms_spec.specs.Numbers.{same_number}
-use Rattle.vms_spec.specs.Sets.{Desc, Sub, Device, Set}
-use Rattle.vms_spec.specs.Layout.{Cell, no_cell, device_cells, Slot, Rule}
-use Rattle.vms_spec.specs.Images.{Image, has_cell, image_slots, IsVersionOf, AreVersionsOf, FitsCell, FitCells, IsNormal, RulesHold}
-use Rattle.vms_spec.specs.Streams.{is_needed, ComeAsNeeded, IsReady}
-use Rattle.vms_spec.specs.Rules.{int_le, in_range, counts_well}
-use Rattle.vms_spec.specs.Readiness.{is_version_of, are_versions_of, fits_cell, fit_cells, are_settled, is_normal, rules_are_true, is_valid, come_as_needed, is_ready}
-use Rattle.vms_spec.proofs.WellFormedLaws.{ranges, within}
-use Rattle.vms_spec.proofs.ListLaws.{or_second}
-use Rattle.vms_spec.proofs.NumberLaws.{same_number_itself, same_number_is}
+use Rattle.vms_bodies.proofs.Facade.{◌≡◌, ℕ, zero, suc, ◌+◌, ◌<◌, List, ◌∷◌, length, get_or, Option, Some, None, ℤ, pos, negsuc, ◌≤ℤ◌, refl, ap, arith, Bool}
+use Rattle.vms_bodies.proofs.Facade.{true, false, not, ◌&&◌, ◌==◌, nat_le, [], ◌||◌, AllByRecursion, and_parts, not-true, leb-true, le-leb, eqb-true, eq-eqb}
+use Rattle.vms_bodies.proofs.Facade.{and_from, not_from_false, ints, Kind, lowest, highest, InRange, same_number, Desc, Sub, Device, Set, Cell, no_cell}
+use Rattle.vms_bodies.proofs.Facade.{device_cells, Slot, Rule, Image, has_cell, image_slots, IsVersionOf, AreVersionsOf, FitsCell, FitCells, IsNormal}
+use Rattle.vms_bodies.proofs.Facade.{RulesHold, is_needed, ComeAsNeeded, IsReady, int_le, in_range, counts_well, is_version_of, are_versions_of, fits_cell}
+use Rattle.vms_bodies.proofs.Facade.{fit_cells, are_settled, is_normal, rules_are_true, is_valid, come_as_needed, is_ready, ranges, within, or_second}
+use Rattle.vms_bodies.proofs.Facade.{same_number_itself, same_number_is}
 
 -- ---- numbers
 
@@ -44,17 +35,15 @@ is_version d v h = and_from _ _ (le-leb d.minimum v h.0) (le-leb v d.version h.1
 
 versions_are : (subs : List Sub) (came : List (Option ℕ)) → are_versions_of subs came ≡ true → AreVersionsOf subs came
 versions_are [] [] e = tt
-versions_are [] (o ∷ came) e = cc
-versions_are (s ∷ subs) [] e = cc
 versions_are (s ∷ subs) (None ∷ came) e = versions_are subs came e
 versions_are (s ∷ subs) (Some v ∷ came) e = let p = and_parts (is_version_of s.desc v) _ e in (version_is s.desc v p.0, versions_are subs came p.1)
+versions_are _ _ e = cc
 
 are_versions : (subs : List Sub) (came : List (Option ℕ)) → AreVersionsOf subs came → are_versions_of subs came ≡ true
 are_versions [] [] h = refl
-are_versions [] (o ∷ came) h = absurd h
-are_versions (s ∷ subs) [] h = absurd h
 are_versions (s ∷ subs) (None ∷ came) h = are_versions subs came h
 are_versions (s ∷ subs) (Some v ∷ came) h = and_from _ _ (is_version s.desc v h.0) (are_versions subs came h.1)
+are_versions _ _ h = absurd h
 
 -- ---- cells
 
@@ -88,8 +77,7 @@ Settled slots from cells numbers =
     (c k : ℕ) → c < length numbers → k ≡ from + c → has_cell slots k ≡ false → get_or numbers c (pos 0) ≡ (get_or cells c no_cell).default
 
 pub settled_are : (slots : List Slot) (from : ℕ) (cells : List Cell) (numbers : List ℤ) → length numbers ≡ length cells
-    → are_settled slots from cells numbers ≡ true
-    → Settled slots from cells numbers
+    → are_settled slots from cells numbers ≡ true → Settled slots from cells numbers
 settled_are slots from [] [] l e = λ c k lt is bare. absurd (omega arith)
 settled_are slots from [] (z ∷ numbers) l e = absurd (omega arith)
 settled_are slots from (cell ∷ cells) [] l e = absurd (omega arith)
@@ -158,14 +146,12 @@ are_rules (_ ∷ slots) h = are_rules slots h
 module _ (set : Set) (d : Device) (image : Image) where
   pub needed_are : (j : ℕ) (subs : List Sub) (came : List (Option ℕ)) → come_as_needed set d image j subs came ≡ true → ComeAsNeeded set d image j subs came
   needed_are j [] [] e = refl
-  needed_are j [] (o ∷ came) e = cc
-  needed_are j (s ∷ subs) [] e = cc
-  needed_are j (s ∷ subs) (None ∷ came) e =
-      let p = and_parts (not (is_needed set d image s j)) _ e in (not-true _ p.0, needed_are (suc j) subs came p.1)
+  needed_are j (s ∷ subs) (None ∷ came) e = let p = and_parts (not (is_needed set d image s j)) _ e in (not-true _ p.0, needed_are (suc j) subs came p.1)
   needed_are j (s ∷ subs) (Some v ∷ came) e =
       let p = and_parts (is_needed set d image s j && v == s.desc.version) _ e in
       let q = and_parts (is_needed set d image s j) _ p.0 in
       (q.0, eqb-true v s.desc.version q.1, needed_are (suc j) subs came p.1)
+  needed_are j _ _ e = cc
 
   pub are_needed : (j : ℕ) (subs : List Sub) (came : List (Option ℕ)) → ComeAsNeeded set d image j subs came → come_as_needed set d image j subs came ≡ true
   are_needed j [] [] h = refl
@@ -190,5 +176,4 @@ module _ (set : Set) (d : Device) (image : Image) where
   is_ready_all h =
       and_from _ _
       (and_from _ _ (and_from _ _ (is_normal_all set d image h.normal) (are_rules (image_slots set d image) h.valid))
-      (eq-eqb image.version d.desc.version h.version))
-      (are_needed 0 d.subs image.came h.needed)
+      (eq-eqb image.version d.desc.version h.version)) (are_needed 0 d.subs image.came h.needed)

@@ -1,11 +1,6 @@
 -- A section's cells, defaults and footer.
-use Rattle.std.proofs.Common.{◌≡◌, ℕ, zero, suc, List, [], ◌∷◌, length, get_or, map, ℤ, pos, refl, ap}
-use Rattle.std.specs.List.{flat_map}
-use Rattle.vms_kinds.specs.Codes.{InRange}
-use Rattle.vms_spec.specs.Sets.{Device, Set}
-use Rattle.vms_spec.specs.Layout.{Slot, Number, Constant, Cell, no_cell, desc_cells, device_cells, struct_cells}
-use Rattle.vms_spec.specs.Images.{own_slots, FitCells, FitsCell}
-use Rattle.vms_bodies.specs.Cells.{AreCells}
+use Rattle.vms_bodies.proofs.Facade.{◌≡◌, ℕ, List, [], ◌∷◌, length, get_or, map, ℤ, pos, refl, flat_map, get_or-map, length-map, InRange, Device, Set, Slot}
+use Rattle.vms_bodies.proofs.Facade.{Number, Constant, Cell, no_cell, desc_cells, device_cells, struct_cells, own_slots, FitCells, FitsCell, AreCells}
 use Rattle.vms_bodies.proofs.SpellLaws.{FitSlots}
 use Rattle.vms_bodies.proofs.CellLaws.{desc_are, meanings_are, cells_first}
 
@@ -31,10 +26,7 @@ own_are set d v m =
     (record { more = flat_map (λ s. desc_cells (struct_cells set) s.desc) d.subs; is = rw (cells_first set.structs n) refl })
 
 pub defaults_at : (cells : List Cell) (c : ℕ) → get_or (map (λ (x : Cell). x.default) cells) c (pos 0) ≡ (get_or cells c no_cell).default
-defaults_at [] c = refl
-defaults_at (x ∷ cells) zero = refl
-defaults_at (x ∷ cells) (suc c) = defaults_at cells c
+defaults_at cells c = get_or-map (λ x. x.default) cells c no_cell
 
 pub defaults_long : (cells : List Cell) → length (map (λ (x : Cell). x.default) cells) ≡ length cells
-defaults_long [] = refl
-defaults_long (x ∷ cells) = ap suc (defaults_long cells)
+defaults_long cells = length-map cells _

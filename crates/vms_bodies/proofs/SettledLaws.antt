@@ -1,17 +1,10 @@
 -- The slots of a description depend only on its own cells.
-use Rattle.std.proofs.Common.{◌≡◌, ℕ, zero, suc, ◌+◌, ◌*◌, ◌<◌, ◌≤◌, List, ◌∷◌, ◌++◌, length, length-append, get_or, map, drop, ℤ, pos, refl, sym, ap, ◌∙◌, arith, Bool, if◌then◌else◌, []}
-use Rattle.std.proofs.Math.ListN.{get_or-map}
-use Rattle.std.proofs.Math.Nat.{mul-le-mul_right}
-use Rattle.vms_kinds.specs.Codes.{width, residue}
-use Rattle.vms_kinds.specs.declared.Item.{Item}
-use Rattle.vms_kinds.specs.declared.Item.TheVariants.{Struct}
-use Rattle.vms_spec.specs.Sets.{Field, Desc}
-use Rattle.vms_spec.specs.Tests.{is_there}
-use Rattle.vms_spec.specs.Layout.{Slot, Rule, Cell, Meaning, no_meaning, no_desc, item_slots, item_size, times, field_slots, slots_from, desc_slots, desc_cells, cells_from, field_cells, place_of, numbers_of, no_field, kind_of, elements_of, capacity_of, counted, all_hold, no_parent, first, meaning, meanings}
-use Rattle.vms_spec.specs.Sound.{IsSound, AreSound, IsSoundField, AreSoundFields, IsEarlier}
+use Rattle.vms_bodies.proofs.Facade.{◌≡◌, ℕ, zero, suc, ◌+◌, ◌*◌, ◌<◌, ◌≤◌, List, ◌∷◌, length, length-append, get_or, map, drop, ℤ, pos, refl, sym, ap, arith}
+use Rattle.vms_bodies.proofs.Facade.{[], get_or-map, mul-le-mul_right, Item, Struct, Field, Desc, is_there, Cell, Meaning, no_meaning, no_desc, item_slots}
+use Rattle.vms_bodies.proofs.Facade.{item_size, times, field_slots, slots_from, desc_slots, desc_cells, cells_from, field_cells, place_of, numbers_of}
+use Rattle.vms_bodies.proofs.Facade.{elements_of, capacity_of, counted, no_parent, first, meaning, meanings, IsSound, AreSound, IsSoundField, AreSoundFields}
+use Rattle.vms_bodies.proofs.Facade.{IsEarlier, field_size, elements_fit, one_more}
 use Rattle.vms_bodies.proofs.Places.{there_same, elements_same, hold_same, place_next, place_end, place_up, place_below}
-use Rattle.vms_spec.proofs.Sizes.{field_size, elements_fit}
-use Rattle.vms_spec.proofs.Tables.{one_more}
 use Rattle.vms_bodies.proofs.WalkLaws.{drop_next, place_first, zero_plus}
 
 -- the numbers of the cells from low on and below end are the same
@@ -24,8 +17,7 @@ in_less low base cell end n k up le s = record { same = λ c h lt. s.same c (ome
 pub own_in : (cs : List (List Cell)) (d : Desc) (base i cell j : ℕ) (n m : List ℤ) → cell ≡ place_of cs d.fields 0 base d.fields i → SameIn base cell n m
     → IsEarlier d.fields i j → numbers_of cs d m base j ≡ numbers_of cs d n base j
 own_in cs d base i cell j n m e s x =
-    ap (λ (z : ℤ). residue (width (kind_of (get_or d.fields j no_field).item)) z)
-    (s.same _ (place_up cs d.fields 0 base d.fields j) (omega (arith, place_below cs d.fields 0 base d.fields j i x.earlier x.there x.number x.one)))
+    rw (s.same _ (place_up cs d.fields 0 base d.fields j) (omega (arith, place_below cs d.fields 0 base d.fields j i x.earlier x.there x.number x.one)))
 
 pub record MeansSettled (m : Meaning) : Type 0 where
   pub means : (at low end : ℕ) (n k : List ℤ) → low ≤ at → at + length m.cells ≤ end → SameIn low end n k → m.slots k at ≡ m.slots n at
@@ -56,8 +48,7 @@ module _ (ms : List Meaning) (h : MeanSettled ms) where
     own n = numbers_of (cells_in ms) d n base
 
     pub field_settled : (i cell low end : ℕ) (f : Field) (n k : List ℤ) → IsSoundField d.fields i f → low ≤ base
-        → cell ≡ place_of (cells_in ms) d.fields 0 base d.fields i
-        → cell + length (field_cells (cells_in ms) d.fields i f) ≤ end → SameIn low end n k
+        → cell ≡ place_of (cells_in ms) d.fields 0 base d.fields i → cell + length (field_cells (cells_in ms) d.fields i f) ≤ end → SameIn low end n k
         → field_slots ms d.fields v (own k) k i cell f ≡ field_slots ms d.fields v (own n) n i cell f
     field_settled i cell low end f n k sound up here le s =
         let cs = cells_in ms in
@@ -69,40 +60,33 @@ module _ (ms : List Meaning) (h : MeanSettled ms) where
         λ j x. own_in cs d base i cell j n k here (in_less low base cell end n k up (omega arith) s) x in
         let most : elements_of f.count (own n) * size ≤ capacity_of f.count * size =
         mul-le-mul_right {m = elements_of f.count (own n)} {n = capacity_of f.count} size (elements_fit f.count (own n)) in
-        ap (λ (b : Bool). if b then times (elements_of f.count (own k)) (item_slots ms f.item caps k) cell size else [])
-        (there_same d.fields i v f.since (own n) (own k) same f.test sound.test)
-        ∙ ap (λ (c : ℕ). if there then times c (item_slots ms f.item caps k) cell size else [])
-        (elements_same d.fields i (own n) (own k) same f.count sound.count)
-        ∙ ap (λ (xs : List Slot). if there then xs else [])
-        (items_settled f.item caps (elements_of f.count (own n)) cell low end n k (omega arith) (omega (arith, field_size cs d.fields i f)) s)
+        rw (there_same d.fields i v f.since (own n) (own k) same f.test sound.test, elements_same d.fields i (own n) (own k) same f.count sound.count)
+        (rw (items_settled f.item caps (elements_of f.count (own n)) cell low end n k (omega arith) (omega (arith, field_size cs d.fields i f)) s))
 
     fields_settled : (i cell low end : ℕ) (fs : List Field) (n k : List ℤ) → AreSoundFields d.fields i fs → low ≤ base
         → cell ≡ place_of (cells_in ms) d.fields 0 base d.fields i → drop i d.fields ≡ fs → cell + length (cells_from (cells_in ms) d.fields i fs) ≤ end
-        → SameIn low end n k
-        → slots_from ms d.fields v (own k) k i cell fs ≡ slots_from ms d.fields v (own n) n i cell fs
+        → SameIn low end n k → slots_from ms d.fields v (own k) k i cell fs ≡ slots_from ms d.fields v (own n) n i cell fs
     fields_settled i cell low end [] n k sound up here is le s = refl
     fields_settled i cell low end (f ∷ fs) n k sound up here is le s =
         let cs = cells_in ms in
         let next = cell + length (field_cells cs d.fields i f) in
         let parts = length-append (field_cells cs d.fields i f) (cells_from cs d.fields (suc i) fs) in
         let there : next ≡ place_of cs d.fields 0 base d.fields (suc i) =
-        omega (arith, place_next cs d.fields 0 base d.fields i f fs is, ap (λ (k : ℕ). length (field_cells cs d.fields k f)) (zero_plus i)) in
-        ap (λ (xs : List Slot). xs ++ slots_from ms d.fields v (own k) k (suc i) next fs)
-        (field_settled i cell low end f n k sound.0 up here (omega (arith, parts)) s)
-        ∙ ap (λ (xs : List Slot). field_slots ms d.fields v (own n) n i cell f ++ xs)
-        (fields_settled (suc i) next low end fs n k sound.1 up there (drop_next d.fields i f fs is) (omega (arith, parts)) s)
+        omega (arith, place_next cs d.fields 0 base d.fields i f fs is, ap (λ k. length (field_cells cs d.fields k f)) (zero_plus i)) in
+        rw (field_settled i cell low end f n k sound.0 up here (omega (arith, parts)) s)
+        (rw (fields_settled (suc i) next low end fs n k sound.1 up there (drop_next d.fields i f fs is) (omega (arith, parts)) s))
 
     pub desc_settled : (low end : ℕ) (n k : List ℤ) → IsSound d → low ≤ base → base + length (desc_cells (cells_in ms) d) ≤ end → SameIn low end n k
         → desc_slots ms d v k base ≡ desc_slots ms d v n base
     desc_settled low end n k sound up le s =
         let cs = cells_in ms in
         let last = base + length (desc_cells cs d) in
-        ap (λ (xs : List Slot). xs ++ Rule (all_hold d.validate v (own k)) ∷ [])
-        (fields_settled 0 base low end d.fields n k sound.fields up (sym (place_first cs d.fields 0 base d.fields)) refl le s)
-        ∙ ap (λ (b : Bool). slots_from ms d.fields v (own n) n 0 base d.fields ++ Rule b ∷ [])
-        (hold_same d.fields (length d.fields) v (own n) (own k)
-        (λ j x. own_in cs d base (length d.fields) last j n k (sym (place_end cs d.fields 0 base d.fields))
-        (in_less low base last end n k up le s) x) d.validate sound.validate)
+        rw (
+          fields_settled 0 base low end d.fields n k sound.fields up (sym (place_first cs d.fields 0 base d.fields)) refl le s,
+          hold_same d.fields (length d.fields) v (own n) (own k)
+              (λ j x. own_in cs d base (length d.fields) last j n k (sym (place_end cs d.fields 0 base d.fields))
+              (in_less low base last end n k up le s) x) d.validate sound.validate,
+        )
 
 pub meanings_settled : (ds : List Desc) → AreSound ds → (k : ℕ) → k ≤ length ds → MeanSettled (meanings ds k)
 unfolding first

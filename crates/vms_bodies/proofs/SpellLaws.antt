@@ -1,24 +1,13 @@
 -- What was taken of a body is spelled by its slots, as they are at last.
-use Rattle.std.proofs.Common.{◌≡◌, ◌≢◌, ℕ, ◌+◌, ◌<◌, ◌≤◌, ◌≤ℤ◌, List, ◌∷◌, ◌++◌, length, get_or, take, slice_set, ℤ, pos, refl, sym, ap, ◌∙◌, arith, append_assoc, append-nil, length-append, true, false, not, nat_lt, ◌==◌, get_or-set_other, get_or-set_same, []}
-use Rattle.std.specs.List.{AllByRecursion}
-use Rattle.std.proofs.lemmas.List.{take-append-drop, length-take-le, length-set}
-use Rattle.std.proofs.Math.Bool.{not-not}
-use Rattle.std.proofs.lemmas.Bool.{ltb-false, eq-eqb, or_parts}
-use Rattle.byteorder.specs.Endian.{big_number}
-use Rattle.vms_kinds.specs.declared.Kind.{Kind}
+use Rattle.vms_bodies.proofs.Facade.{◌≡◌, ◌≢◌, ℕ, ◌+◌, ◌≤◌, ◌≤ℤ◌, List, ◌∷◌, ◌++◌, length, get_or, take, slice_set, ℤ, pos, refl, sym, ap, ◌∙◌, arith}
+use Rattle.vms_bodies.proofs.Facade.{append_assoc, append-nil, length-append, true, false, not, nat_lt, ◌==◌, get_or-set_other, [], AllByRecursion}
+use Rattle.vms_bodies.proofs.Facade.{take-append-drop, length-take-le, length-set, not-not, ltb-false, eq-eqb, or_parts, big_number, Kind, width, value_of}
+use Rattle.vms_bodies.proofs.Facade.{code, InRange, IsBadBool, value_taken, bytes_first, bytes_rest, IsBytes, is_bad_bool, exceeds, same_number, Slot, Number}
+use Rattle.vms_bodies.proofs.Facade.{Constant, Filler, Rule, Cell, Spells, RulesHold, has_cell, Progress, Refusal, on, take_slot, same_number_is, within_all}
+use Rattle.vms_bodies.proofs.Facade.{IsCell, AreCells}
+use Rattle.std.proofs.Common.{get_or-set_same}
 use Rattle.vms_kinds.specs.declared.Kind.TheVariants.{Bool}
-use Rattle.vms_kinds.specs.Codes.{width, value_of, code, InRange, IsBadBool}
-use Rattle.vms_kinds.proofs.CodeLemmas.{value_taken}
-use Rattle.vms_kinds.proofs.ByteLemmas.{bytes_first, bytes_rest}
-use Rattle.vms_kinds.specs.Bytes.{IsBytes}
 use Rattle.vms_spec.specs.declared.Reason.TheVariants as reasons
-use Rattle.vms_spec.specs.Lookup.{is_bad_bool}
-use Rattle.vms_spec.specs.Numbers.{exceeds, same_number}
-use Rattle.vms_spec.specs.Layout.{Slot, Number, Constant, Filler, Rule, Cell}
-use Rattle.vms_spec.specs.Images.{Spells, RulesHold, has_cell}
-use Rattle.vms_spec.specs.Taking.{Progress, Refusal, on, take_slot}
-use Rattle.vms_spec.proofs.NumberLaws.{same_number_is, within_all}
-use Rattle.vms_bodies.specs.Cells.{IsCell, AreCells}
 use Rattle.vms_bodies.proofs.Places.{SameBelow, same_refl, same_less}
 use Rattle.vms_bodies.proofs.Names.{none_in_both}
 use Rattle.vms_bodies.proofs.WalkLaws.{Left, Gives, IsOther, Keeping, whole_gives, value_gives}
@@ -30,7 +19,7 @@ pub value_law : (kind : Kind) (bs : List ℕ) → length bs ≡ width kind → I
 value_law kind bs len ok good = value_taken kind bs len ok (not_bad kind good)
   where
     not_bad : (kind : Kind) → is_bad_bool kind bs ≡ false → IsBadBool kind bs → ⊥
-    not_bad Bool good x = omega (arith, ltb-false 1 (big_number 1 bs) good, x.1)
+    not_bad Bool good x = omega (arith, ltb-false 1 (big_number 1 bs) good)
     not_bad _ good x = let e = x.0 in cc
 
 -- ---- lists of slots
@@ -153,14 +142,12 @@ module _ (all : List Cell) (total : List ℤ → List Slot) (start : Progress) w
     number_spelled room cells cell kind caps done left p l =
         let h = l.holds in
         let z = value_of kind (take (width kind) p.rest) in
-        let numbers = slice_set p.numbers cell z in
         value_gives (Gives total (Spelled start) Anything (cell + 1) (done ++ Number cell kind caps ∷ [])) p (λ reason n. tt) kind reasons.CountTooLarge
         (exceeds caps) (slice_set p.numbers cell) (λ e1 e2 e3.
         let law = value_here kind h e1 e2 in
         let is : IsCell all cell kind caps = cell_in all done _ cell kind caps (rw (l.split p.numbers (same_refl cell p.numbers)) at (cells p.numbers)) in
-        let inside : cell < length p.numbers = omega (arith, is.within, h.long) in
-        let here : (m : List ℤ) → SameBelow (cell + 1) numbers m → get_or m cell (pos 0) ≡ z = λ m s.
-        s.same cell (omega arith) ∙ get_or-set_same p.numbers cell z (pos 0) inside in
+        let here : (m : List ℤ) → SameBelow (cell + 1) (slice_set p.numbers cell z) m → get_or m cell (pos 0) ≡ z = λ m s.
+        s.same cell (omega arith) ∙ get_or-set_same p.numbers cell z (pos 0) (omega arith) in
         added done h (record {
           front = sym (take-append-drop (width kind) p.rest);
           place = omega (arith, length-take-le (width kind) p.rest (ltb-false _ _ e1));

@@ -1,10 +1,7 @@
 -- The laws as they are stated.
-use Rattle.vms_spec.specs.Good.{GoodLaw, ShippedLaw}
-use Rattle.vms_spec.proofs.WellFormedLaws.{well_good}
-use Rattle.vms_spec.proofs.ShippedSets.{shipped_stands}
+use Rattle.vms_bodies.proofs.Facade.{GoodLaw, ShippedLaw, well_good, shipped_stands, CellLaw, ReadyLaw, ZeroedLaw}
 use Rattle.vms_bodies.proofs.PathLaws.{cell_inside}
 use Rattle.vms_bodies.proofs.ReadyLaws.{ready_is, is_ready_all}
-use Rattle.vms_bodies.specs.Laws.{CellLaw, ReadyLaw, ZeroedLaw}
 use Rattle.vms_bodies.proofs.WrittenLaws.{zeroed_spells}
 
 pub good_holds : GoodLaw

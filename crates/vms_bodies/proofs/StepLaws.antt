@@ -1,8 +1,6 @@
 -- A reading slot by slot, with the slots computed anew after each number, does what the structural reader does.
-use Rattle.std.proofs.Common.{◌≡◌, ℕ, suc, ◌+◌, List, [], ◌∷◌, ◌++◌, length, drop, Ok, Err, ℤ, ap, ◌∙◌, arith, length-append}
-use Rattle.std.proofs.Math.Seq.{drop-append_seam}
-use Rattle.vms_spec.specs.Layout.{Slot, Number}
-use Rattle.vms_spec.specs.Taking.{Taken, Progress, Refusal, take_slot}
+use Rattle.vms_bodies.proofs.Facade.{◌≡◌, ℕ, suc, ◌+◌, List, [], ◌∷◌, ◌++◌, length, drop, Ok, Err, ℤ, ap, ◌∙◌, arith, length-append, drop-append_seam, Slot}
+use Rattle.vms_bodies.proofs.Facade.{Number, Taken, Progress, Refusal, take_slot}
 use Rattle.vms_bodies.proofs.Places.{same_refl}
 use Rattle.vms_bodies.proofs.WalkLaws.{Left, Gives, Keeping}
 
@@ -36,9 +34,8 @@ module _ {X : Type 0} (total : List ℤ → List Slot) (R : ℕ → Progress →
   one_step : (w : Walks) (x : X) (cell : ℕ) (slot : Slot) (done : List Slot) (left : List ℤ → List Slot) (p : Progress)
       → Left total (Is x) (Refuses x) cell p done (λ m. slot ∷ left m) → x ≡ after (length done) (take_slot slot p)
   one_step w x cell slot done left p l =
-      l.holds ∙ w.walks (length done) p
-      ∙ ap (λ (xs : List Slot). step (drop (length done) xs) (length done) p) (l.split p.numbers (same_refl cell p.numbers))
-      ∙ ap (λ (xs : List Slot). step xs (length done) p) (drop-append_seam done (slot ∷ left p.numbers))
+      l.holds ∙ w.walks (length done) p ∙ ap (λ xs. step (drop (length done) xs) (length done) p) (l.split p.numbers (same_refl cell p.numbers))
+      ∙ ap (λ xs. step xs (length done) p) (drop-append_seam done (slot ∷ left p.numbers))
 
   pub steps_keep : (w : Walks) (x : X) → Keeping total (Is x) (Refuses x)
   steps_keep w x = record {

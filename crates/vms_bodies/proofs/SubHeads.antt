@@ -1,12 +1,6 @@
 -- Heads of subsections: what is spelled is read, and what is read is spelled.
-use Rattle.std.proofs.Common.{◌≡◌, ℕ, suc, ◌+◌, ◌≤◌, List, [], ◌∷◌, ◌++◌, length, get_or, drop, Some, refl, sym, ap, ◌∙◌, arith, append_assoc, Bool, true, false, if◌then◌else◌}
-use Rattle.std.specs.List.{slice_get}
-use Rattle.std.specs.Str.{bytes_eq}
-use Rattle.std.proofs.Math.Seq.{drop-cons}
-use Rattle.vms_kinds.specs.Bytes.{IsBytes}
-use Rattle.vms_spec.specs.Sets.{Sub}
-use Rattle.vms_spec.specs.Streams.{be32, sub_head}
-use Rattle.vms_spec.specs.Lookup.{number_at, bytes_at, find_sub}
+use Rattle.vms_bodies.proofs.Facade.{⊎_elim, cases_Bool, ◌≡◌, ℕ, suc, ◌+◌, ◌≤◌, List, [], ◌∷◌, ◌++◌, length, get_or, drop, Some, refl, sym, ap, ◌∙◌, arith}
+use Rattle.vms_bodies.proofs.Facade.{append_assoc, true, false, slice_get, bytes_eq, drop-cons, IsBytes, Sub, be32, sub_head, number_at, bytes_at, find_sub}
 use Rattle.vms_bodies.proofs.HeadFound.{split_one, four_at, text_at, text_long}
 
 -- ---- what is found
@@ -17,12 +11,11 @@ sub_bytes rest n ok mark size long =
     let name = bytes_at n 2 rest in
     let v = be32 (number_at 4 (2 + n) rest) in
     let tail = drop (6 + n) rest in
-    let e3 : drop 1 rest ≡ n ∷ drop 2 rest = drop-cons rest 1 0 (omega arith) ∙ ap (λ (b : ℕ). b ∷ drop 2 rest) size in
-    split_one rest (omega arith) ∙ ap (λ (b : ℕ). b ∷ drop 1 rest) mark
-    ∙ ap (λ (l : List ℕ). 0x05 ∷ l)
-    (e3 ∙ ap (λ (l : List ℕ). n ∷ l) (text_at n 2 rest ∙ ap (λ (l : List ℕ). name ++ l) (four_at (2 + n) (6 + n) rest ok (omega arith) long)
+    let e3 : drop 1 rest ≡ n ∷ drop 2 rest = drop-cons rest 1 0 (omega arith) ∙ ap (λ b. b ∷ drop 2 rest) size in
+    split_one rest (omega arith) ∙ ap (λ b. b ∷ drop 1 rest) mark ∙ ap (λ l. 0x05 ∷ l)
+    (e3 ∙ ap (λ l. n ∷ l) (text_at n 2 rest ∙ ap (λ l. name ++ l) (four_at (2 + n) (6 + n) rest ok (omega arith) long)
     ∙ sym (append_assoc name v tail)))
-    ∙ ap (λ (k : ℕ). 0x05 ∷ (k ∷ ((name ++ v) ++ tail))) (sym (text_long n 2 rest (omega arith)))
+    ∙ ap (λ k. 0x05 ∷ (k ∷ ((name ++ v) ++ tail))) (sym (text_long n 2 rest (omega arith)))
 
 -- a subsection of this name is at index k
 pub record FoundSub (subs : List Sub) (j : ℕ) (name : List ℕ) (k : ℕ) : Type 0 where
@@ -32,15 +25,13 @@ pub record FoundSub (subs : List Sub) (j : ℕ) (name : List ℕ) (k : ℕ) : Ty
   pub there : slice_get subs i ≡ Some sub
   pub name_is : bytes_eq sub.desc.name name ≡ true
 
-sub_here : (s : Sub) (subs : List Sub) (j : ℕ) (name : List ℕ) (k : ℕ) → (find_sub (suc j) subs name ≡ Some k → FoundSub subs (suc j) name k)
-    → (b : Bool) → bytes_eq s.desc.name name ≡ b → (if b then Some j else find_sub (suc j) subs name) ≡ Some k → FoundSub (s ∷ subs) j name k
-sub_here s subs j name k later true t e =
-    let same : j ≡ k = cc in
-    record { i = 0; is = omega arith; sub = s; there = refl; name_is = t }
-sub_here s subs j name k later false f e =
-    let h = later e in
-    record { i = suc h.i; is = omega (arith, h.is); sub = h.sub; there = h.there; name_is = h.name_is }
-
 pub sub_is : (subs : List Sub) (j : ℕ) (name : List ℕ) (k : ℕ) → find_sub j subs name ≡ Some k → FoundSub subs j name k
 sub_is [] j name k e = cc
-sub_is (s ∷ subs) j name k e = sub_here s subs j name k (sub_is subs (suc j) name k) _ refl e
+sub_is (s ∷ subs) j name k e =
+    ⊎_elim (λ (t : bytes_eq s.desc.name name ≡ true).
+    let one : Some j ≡ Some k = rw t at e in
+    let same : j ≡ k = cc in
+    record { i = 0; is = omega arith; sub = s; there = refl; name_is = t })
+    (λ (f : bytes_eq s.desc.name name ≡ false).
+    let h = sub_is subs (suc j) name k (rw f at e) in
+    record { i = suc h.i; is = omega arith; sub = h.sub; there = h.there; name_is = h.name_is }) (cases_Bool _)

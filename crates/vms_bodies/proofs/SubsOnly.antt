@@ -1,15 +1,10 @@
 -- A section with subsections in any order is read.
-use Rattle.std.proofs.Common.{◌≡◌, ℕ, zero, suc, ◌+◌, ◌<◌, ◌≤◌, List, ◌∷◌, ◌++◌, length, get_or, map, slice_set, Option, Some, None, Ok, ℤ, pos, refl, sym, ap, ◌∙◌, arith, Bool, true, false, if◌then◌else◌, nat_lt, ◌==◌, ◌||◌, []}
-use Rattle.std.specs.List.{slice_get}
-use Rattle.std.proofs.lemmas.List.{ext_get_or}
-use Rattle.std.proofs.Math.ListN.{get_or-eq_default}
-use Rattle.std.proofs.lemmas.Bool.{ltb-true, ltb-false, eqb-true, eq-eqb}
-use Rattle.vms_spec.specs.Sets.{Device, Set, Sub}
-use Rattle.vms_spec.specs.Layout.{Slot, Rule, Cell, no_cell, device_cells}
-use Rattle.vms_spec.specs.Images.{Image, default_image, own_slots, own_cells, sub_slots, came_slots, Spells, RulesHold, has_cell, IsNormal, IsValid, IsVersionOf}
+use Rattle.vms_bodies.proofs.Facade.{◌≡◌, ℕ, zero, suc, ◌+◌, ◌<◌, ◌≤◌, List, ◌∷◌, ◌++◌, length, get_or, map, slice_set, Option, Some, None, Ok, ℤ, pos, refl}
+use Rattle.vms_bodies.proofs.Facade.{sym, ap, ◌∙◌, arith, true, false, if◌then◌else◌, ◌||◌, [], slice_get, ext_get_or, get_or-eq_default, cases_lt, cases_eq}
+use Rattle.vms_bodies.proofs.Facade.{cases_Bool, ⊎_elim, slice_get_within, Device, Set, Sub, Slot, Rule, Cell, no_cell, device_cells, Image, default_image}
+use Rattle.vms_bodies.proofs.Facade.{own_slots, own_cells, sub_slots, came_slots, Spells, RulesHold, has_cell, IsNormal, IsValid, IsVersionOf, sub_head}
+use Rattle.vms_bodies.proofs.Facade.{take_desc, takers, IsGood}
 use Rattle.vms_spec.specs.Streams
-use Rattle.vms_spec.specs.Streams.{sub_head}
-use Rattle.vms_spec.specs.Taking.{take_desc, takers}
 use Rattle.vms_bodies.proofs.Names.{names_append, none_in_both, none_joined}
 use Rattle.vms_bodies.proofs.BodyLaws.{at_set}
 use Rattle.vms_bodies.proofs.SpellLaws.{FitSlots}
@@ -17,10 +12,8 @@ use Rattle.vms_bodies.proofs.BodyOnly.{body_only}
 use Rattle.vms_bodies.proofs.SectionLaws.{fit_slots, own_are, defaults_at, defaults_long}
 use Rattle.vms_bodies.proofs.SettledLaws.{SameIn}
 use Rattle.vms_bodies.proofs.AgreeLaws.{its_same, its_spelled, its_fit, its_hold, its_below, its_outside}
-use Rattle.std.proofs.lemmas.Option.{slice_get_within}
 use Rattle.vms_bodies.proofs.PartLaws.{sub_size, sub_are, sub_place_up, parts_apart, parts_together, part_apart, names_next, none_of, none_came}
 use Rattle.vms_bodies.proofs.FineLaws.{part_place}
-use Rattle.vms_spec.specs.Good.{IsGood}
 use Rattle.vms_bodies.proofs.ConstantLaws.{own_constants, part_constants}
 
 pub rules_split : (xs ys : List Slot) → RulesHold (xs ++ ys) → RulesHold xs × RulesHold ys
@@ -47,13 +40,10 @@ pick_from n xs i j (x ∷ cells) (suc c) e lt = pick_from n xs (suc i) j cells c
 picks : (n m : List ℤ) (xs : List Slot) (cells : List Cell) (c : ℕ) → length m ≡ length cells
     → (c < length cells → (if has_cell xs c then get_or n c (pos 0) else (get_or cells c no_cell).default) ≡ get_or m c (pos 0))
     → get_or (pick n xs 0 cells) c (pos 0) ≡ get_or m c (pos 0)
-picks n m xs cells c long h = go (nat_lt c (length cells)) refl
-  where
-    go : (b : Bool) → nat_lt c (length cells) ≡ b → get_or (pick n xs 0 cells) c (pos 0) ≡ get_or m c (pos 0)
-    go true l = let lt = ltb-true c (length cells) l in pick_from n xs 0 c cells c (omega arith) lt ∙ h lt
-    go false l =
-        let le : length cells ≤ c = ltb-false c (length cells) l in
-        get_or-eq_default (pick n xs 0 cells) (pos 0) (omega (arith, pick_long n xs 0 cells)) ∙ sym (get_or-eq_default m (pos 0) (omega arith))
+picks n m xs cells c long h =
+    ⊎_elim (λ (lt : c < length cells). pick_from n xs 0 c cells c (omega arith) lt ∙ h lt)
+    (λ (le : length cells ≤ c). get_or-eq_default (pick n xs 0 cells) (pos 0) (omega (arith, pick_long n xs 0 cells))
+    ∙ sym (get_or-eq_default m (pos 0) (omega arith))) (cases_lt c (length cells))
 
 -- if the same cells are named, the same is picked
 pick_same : (n : List ℤ) (xs ys : List Slot) (cells : List Cell) (c : ℕ) → has_cell xs c ≡ has_cell ys c
@@ -68,11 +58,8 @@ pick_default n xs cells c e = picks n _ xs cells c (defaults_long cells) (λ lt.
 -- if what isn't picked is at its default, the numbers are picked as they are
 pick_all : (n : List ℤ) (xs : List Slot) (cells : List Cell) (c : ℕ) → length n ≡ length cells
     → (c < length n → has_cell xs c ≡ false → get_or n c (pos 0) ≡ (get_or cells c no_cell).default) → get_or (pick n xs 0 cells) c (pos 0) ≡ get_or n c (pos 0)
-pick_all n xs cells c long h = picks n n xs cells c long (λ lt. which (has_cell xs c) refl (omega arith))
-  where
-    which : (b : Bool) → has_cell xs c ≡ b → c < length n → (if b then get_or n c (pos 0) else (get_or cells c no_cell).default) ≡ get_or n c (pos 0)
-    which true e lt = refl
-    which false e lt = sym (h lt e)
+pick_all n xs cells c long h = picks n n xs cells c long (λ lt.
+    ⊎_elim (λ (e : has_cell xs c ≡ true). rw e refl) (λ (e : has_cell xs c ≡ false). rw e (sym (h (omega arith) e))) (cases_Bool (has_cell xs c)))
 
 -- what a subsection that is spelled has
 pub record IsSub (set : Set) (d : Device) (image : Image) (j w : ℕ) (front : List ℕ) : Type 0 where
@@ -128,23 +115,14 @@ module _ (set : Set) (names : List (List ℕ)) (good : IsGood set) (k id : ℕ) 
       its_below set s.desc x (part_place set d i) image.numbers c (omega (arith, sub_place_up set (own_cells set d) d.subs i)))
 
   part_region : (came : List (Option ℕ)) (j w : ℕ) (s : Sub) → slice_get d.subs j ≡ Some s → slice_get came j ≡ Some (Some w)
-      → slice_get image.came j ≡ Some (Some w)
-      → SameIn (part_place set d j) (part_place set d j + sub_size set s) image.numbers (so_far came)
+      → slice_get image.came j ≡ Some (Some w) → SameIn (part_place set d j) (part_place set d j + sub_size set s) image.numbers (so_far came)
   part_region came j w s there f g = region came (part_place set d j) (part_place set d j + sub_size set s) (λ c up lt a b i t x e f'.
-      other c i t x e f' up lt (part_apart set d image.numbers (λ xs. has_cell xs c ≡ false) (none_in_both c) (own_cells set d) d.subs came b j s w there f)
-      (i == j) refl)
-    where
-      other : (c i : ℕ) (t : Sub) (x : ℕ) → slice_get d.subs i ≡ Some t → slice_get image.came i ≡ Some (Some x) → part_place set d j ≤ c
-          → c < part_place set d j + sub_size set s
-          → has_cell (part j w s) c ≡ false → (b : Bool) → (i == j) ≡ b → has_cell (part i x t) c ≡ false
-      other c i t x e f' up lt mine true l =
-          let same : i ≡ j = eqb-true i j l in
-          let st : t ≡ s = cc in
-          let xw : x ≡ w = cc in
-          rw (same, st, xw) mine
-      other c i t x e f' up lt mine false l =
-          its_outside set t.desc x (part_place set d i) image.numbers c
-          (parts_apart set (own_cells set d) d.subs j i s t there e (λ same. let g = eq-eqb i j (sym same) in cc) c up lt)
+      ⊎_elim (λ (same : j ≡ i).
+      let st : t ≡ s = cc in
+      let xw : x ≡ w = cc in
+      rw (← same, st, xw) (part_apart set d image.numbers (λ xs. has_cell xs c ≡ false) (none_in_both c) (own_cells set d) d.subs came b j s w there f))
+      (λ (ne : j ≡ i → ⊥). its_outside set t.desc x (part_place set d i) image.numbers c
+      (parts_apart set (own_cells set d) d.subs j i s t there e ne c up lt)) (cases_eq j i))
 
   -- at last all numbers are there
   pub so_at_last : so_far image.came ≡ image.numbers
@@ -173,10 +151,9 @@ module _ (set : Set) (names : List (List ℕ)) (good : IsGood set) (k id : ℕ) 
       (its_spelled set s.desc w base good.structs sound n m body same spells) (its_fit set s.desc w base good.structs sound n m same fits)
       (its_hold set s.desc w base good.structs sound n m same rules)
       (λ c e.
-      let f : has_cell (part j w s) c ≡ false = rw (its_same set s.desc w base good.structs sound n m same) at e in
       pick_same n (own ++ parts came1) (own ++ parts came) all c
-      (names_append own (parts came1) c ∙ ap (λ (b : Bool). has_cell own c || b)
-      (names_next set d n c (own_cells set d) d.subs came j s w there new ∙ rw f refl)
+      (names_append own (parts came1) c ∙ ap (λ b. has_cell own c || b)
+      (names_next set d n c (own_cells set d) d.subs came j s w there new ∙ rw (rw (its_same set s.desc w base good.structs sound n m same) at e) refl)
       ∙ sym (names_append own (parts came) c)))
       refl
 

@@ -1,21 +1,17 @@
 -- What the structural reader takes, by the slots that it goes through: whatever each slot keeps, the whole keeps.
-use Rattle.std.proofs.Common.{◌≡◌, ◌≢◌, ℕ, zero, suc, ◌+◌, ◌*◌, ◌≤◌, List, ◌∷◌, ◌++◌, length, get_or, map, take, drop, Ok, Err, IfOk, ℤ, refl, sym, ap, ◌∙◌, arith, append_assoc, append-nil, length-append, Bool, true, false, not, if◌then◌else◌, nat_lt, slice_set, get_or-set_other, []}
-use Rattle.std.proofs.Math.Nat.{mul-le-mul_right}
-use Rattle.vms_kinds.specs.declared.Kind.{Kind}
-use Rattle.vms_kinds.specs.declared.Item.{Item}
-use Rattle.vms_kinds.specs.declared.Item.TheVariants.{Num, Equal, Unused, Struct}
-use Rattle.vms_kinds.specs.Codes.{width, value_of}
-use Rattle.vms_spec.specs.declared.Reason.{Reason}
+use Rattle.vms_bodies.proofs.Facade.{◌≡◌, ◌≢◌, ℕ, zero, suc, ◌+◌, ◌*◌, ◌≤◌, List, ◌∷◌, ◌++◌, length, get_or, map, take, drop, Ok, Err, IfOk, ℤ, refl, sym, ap}
+use Rattle.vms_bodies.proofs.Facade.{◌∙◌, arith, append_assoc, append-nil, length-append, Bool, true, false, not, if◌then◌else◌, nat_lt, slice_set}
+use Rattle.vms_bodies.proofs.Facade.{get_or-set_other, [], mul-le-mul_right, Kind, Item, Num, Equal, Unused, Struct, width, value_of, Reason, is_bad_bool}
+use Rattle.vms_bodies.proofs.Facade.{Field, Desc, is_there, Slot, Number, Constant, Filler, Rule, Meaning, no_meaning, no_desc, item_slots, item_size, times}
+use Rattle.vms_bodies.proofs.Facade.{field_slots, slots_from, desc_slots, desc_cells, cells_from, field_cells, place_of, numbers_of, elements_of, capacity_of}
+use Rattle.vms_bodies.proofs.Facade.{counted, all_hold, no_parent, first, meaning, meanings, Taken, Progress, Refusal, Taker, no_taker, takers, taker_of}
+use Rattle.vms_bodies.proofs.Facade.{cells_of, take_value, take_slot, take_item, take_items, take_field, take_fields, take_desc, check_rules, refuse, on}
+use Rattle.vms_bodies.proofs.Facade.{if_whole, ◌>>=◌, IsSound, AreSound, IsSoundField, AreSoundFields, IsEarlier, field_size, elements_fit}
 use Rattle.vms_spec.specs.declared.Reason.TheVariants as reasons
-use Rattle.vms_spec.specs.Lookup.{exceeds, is_bad_bool, same_number}
-use Rattle.vms_spec.specs.Sets.{Field, Desc}
-use Rattle.vms_spec.specs.Tests.{is_there}
-use Rattle.vms_spec.specs.Layout.{Slot, Number, Constant, Filler, Rule, Cell, Meaning, no_meaning, no_desc, item_slots, item_size, times, field_slots, slots_from, desc_slots, desc_cells, cells_from, field_cells, place_of, numbers_of, elements_of, capacity_of, counted, all_hold, no_parent, first, meaning, meanings}
-use Rattle.vms_spec.specs.Taking.{Taken, Progress, Refusal, Taker, no_taker, takers, taker_of, cells_of, take_value, take_slot, take_item, take_items, take_field, take_fields, take_desc, check_rules, refuse, on, if_whole, ◌>>=◌}
-use Rattle.vms_spec.specs.Sound.{IsSound, AreSound, IsSoundField, AreSoundFields, IsEarlier}
+use Rattle.vms_spec.specs.Lookup.{exceeds, same_number}
 use Rattle.vms_bodies.proofs.AboveLaws.{IsAbove, MeanAbove, above_none, above_append, above_less, items_above, fields_above, meanings_above}
 use Rattle.vms_bodies.proofs.Places.{SameBelow, same_refl, same_less, same_trans, own_same, there_same, elements_same, hold_same, place_next, place_end}
-use Rattle.vms_spec.proofs.Sizes.{field_size, elements_fit}
+pub use Rattle.vms_bodies.proofs.Places.{place_first}
 
 -- ---- what one slot gives
 
@@ -59,7 +55,7 @@ IsFrom cell (Number c kind capacities) = cell ≤ c
 IsFrom cell slot = Unit {0}
 
 sets_from : (cell : ℕ) (slot : Slot) (old new : List ℤ) → IsFrom cell slot → Sets slot old new → SameBelow cell old new
-sets_from cell (Number c kind capacities) old new le s = record { same = λ k h. let ne : k ≢ c = omega (arith, le, h) in rw (s.1, get_or-set_other) refl }
+sets_from cell (Number c kind capacities) old new le s = record { same = λ k h. let ne : k ≢ c = omega arith in rw (s.1, get_or-set_other) refl }
 sets_from cell _ old new le s = rw s (same_refl cell old)
 
 -- the numbers below its cell are final
@@ -78,10 +74,6 @@ drop_next [] zero x more e = cc
 drop_next [] (suc i) x more e = cc
 drop_next (y ∷ ys) zero x more e = cc
 drop_next (y ∷ ys) (suc i) x more e = drop_next ys i x more e
-
-pub place_first : (cs : List (List Cell)) (fields : List Field) (i at : ℕ) (fs : List Field) → place_of cs fields i at fs 0 ≡ at
-place_first cs fields i at [] = refl
-place_first cs fields i at (f ∷ fs) = refl
 
 -- ---- readings by slots
 
@@ -115,7 +107,7 @@ module _ (total : List ℤ → List Slot) (Holds : ℕ → List Slot → Progres
 
   left_ap : {cell : ℕ} {p : Progress} {done : List Slot} {left left' : List ℤ → List Slot}
       → ((m : List ℤ) → SameBelow cell p.numbers m → left m ≡ left' m) → Left cell p done left → Left cell p done left'
-  left_ap {done = done} e l = record { split = λ m s. l.split m s ∙ ap (λ (xs : List Slot). done ++ xs) (e m s); holds = l.holds }
+  left_ap {done = done} e l = record { split = λ m s. l.split m s ∙ ap (λ xs. done ++ xs) (e m s); holds = l.holds }
 
   abbrev pub ComesTo : ℕ → (List ℤ → List Slot) → Taken → Type 0
   ComesTo cell left (Err e) = Fails e
@@ -125,23 +117,16 @@ module _ (total : List ℤ → List Slot) (Holds : ℕ → List Slot → Progres
   pub record Comes (cell : ℕ) (left : List ℤ → List Slot) (t : Taken) : Type 0 where
     pub comes : ComesTo cell left t
 
-  then_comes : (cell further : ℕ) (left left' : List ℤ → List Slot) (t : Taken) (f : Progress → Taken) → Comes cell left t
+  then_comes : {cell further : ℕ} {left left' : List ℤ → List Slot} (t : Taken) (f : Progress → Taken) → Comes cell left t
       → ((q : Progress) (done : List Slot) → Left cell q done left → Comes further left' (f q)) → Comes further left' (t >>= f)
-  then_comes cell further left left' (Err e) f c h = record { comes = c.comes }
-  then_comes cell further left left' (Ok q) f c h = h q c.comes.0 c.comes.1
+  then_comes (Err e) f c h = record { comes = c.comes }
+  then_comes (Ok q) f c h = h q _ c.comes.1
 
-  slot_comes : (cell further : ℕ) (slot : Slot) (done : List Slot) (left : List ℤ → List Slot) (p : Progress) (t : Taken) → cell ≤ further
+  slot_comes : {cell further : ℕ} {slot : Slot} {done : List Slot} {left : List ℤ → List Slot} {p : Progress} (t : Taken) → cell ≤ further
       → Left cell p done (λ m. slot ∷ left m) → Keeps cell p.numbers t → Gives further (done ++ slot ∷ []) t → Comes further left t
-  slot_comes cell further slot done left p (Err e) le l k x = record { comes = x }
-  slot_comes cell further slot done left p (Ok q) le l k x = record {
-    comes = (
-      done ++ slot ∷ [],
-      record {
-        split = λ m s. rw append_assoc (l.split m (same_trans cell p.numbers q.numbers m k.kept (same_less cell further q.numbers m le s)));
-        holds = x;
-      },
-    );
-  }
+  slot_comes (Err e) le l k x = record { comes = x }
+  slot_comes (Ok q) le l k x =
+      record { comes = (_, record { split = λ m s. rw append_assoc (l.split m (same_trans _ _ _ m k.kept (same_less _ _ _ m le s))); holds = x }) }
 
   other_from : (cell : ℕ) (slot : Slot) → IsOther slot → IsFrom cell slot
   other_from cell (Number c kind capacities) o = absurd o
@@ -161,95 +146,86 @@ module _ (total : List ℤ → List Slot) (Holds : ℕ → List Slot → Progres
   pairs_cells : (ts : List Taker) (ms : List Meaning) → Pairs ts ms → map (λ (m : Meaning). m.cells) ms ≡ cells_of ts
   pairs_cells [] [] p = refl
   pairs_cells (t ∷ ts) (m ∷ ms) p = let e = pairs_cells ts ms p.2 in let f : t.cells ≡ m.cells = p.0 in cc
-  pairs_cells [] (m ∷ ms) p = absurd p
-  pairs_cells (t ∷ ts) [] p = absurd p
+  pairs_cells _ _ p = absurd p
 
   pairs_append : (ts : List Taker) (ms : List Meaning) (t : Taker) (m : Meaning) → Pairs ts ms → (t.cells ≡ m.cells) → TakesSlots t m
       → Pairs (ts ++ t ∷ []) (ms ++ m ∷ [])
   pairs_append [] [] t m p e h = (e, h, tt)
   pairs_append (x ∷ ts) (y ∷ ms) t m p e h = (p.0, p.1, pairs_append ts ms t m p.2 e h)
-  pairs_append [] (y ∷ ms) t m p e h = absurd p
-  pairs_append (x ∷ ts) [] t m p e h = absurd p
+  pairs_append _ _ t m p e h = absurd p
 
   cells_get : (ts : List Taker) (j : ℕ) → (get_or ts j no_taker).cells ≡ get_or (cells_of ts) j []
-  cells_get [] j = refl
-  cells_get (t ∷ ts) zero = refl
   cells_get (t ∷ ts) (suc j) = cells_get ts j
+  cells_get _ _ = refl
 
   module _ (w : Keeping) where
-    left_less : (cell further : ℕ) (p : Progress) (done : List Slot) (left : List ℤ → List Slot) → cell ≤ further → Up further left → Left cell p done left
+    left_less : {cell further : ℕ} {p : Progress} {done : List Slot} {left : List ℤ → List Slot} → cell ≤ further → Up further left → Left cell p done left
         → Left further p done left
-    left_less cell further p done left le up l =
-        record { split = λ m s. l.split m (same_less cell further p.numbers m le s); holds = w.less cell further done left p le up l }
+    left_less le up l = record { split = λ m s. l.split m (same_less _ _ _ m le s); holds = w.less _ _ _ _ _ le up l }
 
-    comes_less : (cell further : ℕ) (left : List ℤ → List Slot) (t : Taken) → cell ≤ further → Up further left → Comes cell left t → Comes further left t
-    comes_less cell further left (Err e) le up c = record { comes = c.comes }
-    comes_less cell further left (Ok q) le up c = record { comes = (c.comes.0, left_less cell further q _ left le up c.comes.1) }
+    comes_less : {cell further : ℕ} {left : List ℤ → List Slot} (t : Taken) → cell ≤ further → Up further left → Comes cell left t → Comes further left t
+    comes_less (Err e) le up c = record { comes = c.comes }
+    comes_less (Ok q) le up c = record { comes = (c.comes.0, left_less le up c.comes.1) }
 
-    stay : (cell further : ℕ) (left : List ℤ → List Slot) (done : List Slot) (p : Progress) → cell ≤ further → Up further left → Left cell p done left
+    stay : {cell further : ℕ} {left : List ℤ → List Slot} {done : List Slot} {p : Progress} → cell ≤ further → Up further left → Left cell p done left
         → Comes further left (Ok p)
-    stay cell further left done p le up l = record { comes = (done, left_less cell further p done left le up l) }
+    stay le up l = record { comes = (_, left_less le up l) }
 
     -- a slot without a cell, which is this one whatever comes
-    one_other : (cell further : ℕ) (slot : Slot) (done : List Slot) (left : List ℤ → List Slot) (p : Progress) → cell ≤ further → IsOther slot → Up further left
+    one_other : {cell further : ℕ} (slot : Slot) {done : List Slot} {left : List ℤ → List Slot} {p : Progress} → cell ≤ further → IsOther slot → Up further left
         → Left cell p done (λ m. slot ∷ left m) → Comes further left (take_slot slot p)
-    one_other cell further slot done left p le o up l =
-        comes_less cell further left _ le up
-        (slot_comes cell cell slot done left p _ (omega arith) l (slot_keeps cell slot p (other_from cell slot o))
+    one_other {cell} {further} slot {done} {left} {p} le o up l =
+        comes_less _ le up (slot_comes {cell = cell} {further = cell} (take_slot slot p) (omega arith) l (slot_keeps cell slot p (other_from cell slot o))
         (w.other cell slot done left p o (λ m. above_less cell further _ le (up m)) l))
 
     pair_at : (ts : List Taker) (ms : List Meaning) (j : ℕ) → Pairs ts ms → TakesSlots (get_or ts j no_taker) (get_or ms j no_meaning)
-    pair_at [] [] j p = record { takes = λ cell end p done left e up l. stay cell end left done p (omega arith) up l }
+    pair_at [] [] j p = record { takes = λ cell end p done left e up l. stay (omega arith) up l }
     pair_at (t ∷ ts) (m ∷ ms) zero p = p.1
     pair_at (t ∷ ts) (m ∷ ms) (suc j) p = pair_at ts ms j p.2
-    pair_at [] (m ∷ ms) j p = absurd p
-    pair_at (t ∷ ts) [] j p = absurd p
+    pair_at _ _ j p = absurd p
 
     module _ (ts : List Taker) (ms : List Meaning) (pairs : Pairs ts ms) (ab : MeanAbove ms) where
-      item_comes : (item : Item) (caps : List ℕ) (cell end : ℕ) (p : Progress) (done : List Slot) (left : List ℤ → List Slot)
+      item_comes : (item : Item) (caps : List ℕ) (cell end : ℕ) {p : Progress} {done : List Slot} {left : List ℤ → List Slot}
           → end ≡ cell + item_size (cells_of ts) item
           → Up end left → Left cell p done (λ m. item_slots ms item caps m cell ++ left m) → Comes end left (take_item ts item caps cell p)
-      item_comes (Num kind) caps cell end p done left e up l =
-          comes_less (cell + 1) end left _ (omega arith) up
-          (slot_comes cell (cell + 1) (Number cell kind caps) done left p _ (omega arith) l (slot_keeps cell (Number cell kind caps) p (omega arith))
+      item_comes (Num kind) caps cell end {p} {done} {left} e up l =
+          comes_less _ (omega arith) up (slot_comes {cell = cell} {further = cell + 1} (take_slot (Number cell kind caps) p) (omega arith) l
+          (slot_keeps cell (Number cell kind caps) p (omega arith))
           (w.number cell kind caps done left p (λ m. above_less (cell + 1) end _ (omega arith) (up m)) l))
-      item_comes (Equal kind z) caps cell end p done left e up l = one_other cell end (Constant kind z) done left p (omega arith) tt up l
-      item_comes (Unused n) caps cell end p done left e up l = one_other cell end (Filler n) done left p (omega arith) tt up l
-      item_comes (Struct j) caps cell end p done left e up l =
-          (pair_at ts ms j pairs).takes cell end p done left (omega (arith, ap length (cells_get ts j))) up l
+      item_comes (Equal kind z) caps cell end e up l = one_other (Constant kind z) (omega arith) tt up l
+      item_comes (Unused n) caps cell end e up l = one_other (Filler n) (omega arith) tt up l
+      item_comes (Struct j) caps cell end e up l = (pair_at ts ms j pairs).takes cell end _ _ _ (omega (arith, ap length (cells_get ts j))) up l
 
-      items_comes : (item : Item) (caps : List ℕ) (n cell end : ℕ) (p : Progress) (done : List Slot) (left : List ℤ → List Slot)
+      items_comes : (item : Item) (caps : List ℕ) (n cell end : ℕ) {p : Progress} {done : List Slot} {left : List ℤ → List Slot}
           → end ≡ cell + n * item_size (cells_of ts) item → Up end left
           → Left cell p done (λ m. times n (item_slots ms item caps m) cell (item_size (cells_of ts) item) ++ left m)
           → Comes end left (take_items ts item caps (item_size (cells_of ts) item) n cell p)
-      items_comes item caps zero cell end p done left e up l = stay cell end left done p (omega arith) up l
-      items_comes item caps (suc n) cell end p done left e up l =
+      items_comes item caps zero cell end e up l = stay (omega arith) up l
+      items_comes item caps (suc n) cell end {p} {left = left} e up l =
           let size = item_size (cells_of ts) item in
-          let later : List ℤ → List Slot = λ m. times n (item_slots ms item caps m) (cell + size) size ++ left m in
-          let e' : end ≡ (cell + size) + n * size = grind arith in
-          then_comes (cell + size) end later left (take_item ts item caps cell p) (λ q. take_items ts item caps size n (cell + size) q)
-          (item_comes item caps cell (cell + size) p done later refl
+          then_comes (take_item ts item caps cell p) (λ q. take_items ts item caps size n (cell + size) q)
+          (item_comes item caps cell (cell + size) refl
           (λ m. above_append (cell + size) _ (left m) (items_above ms ab item caps m n (cell + size) size)
           (above_less (cell + size) end _ (omega arith) (up m)))
           (left_ap (λ m s. append_assoc (item_slots ms item caps m cell) _ (left m)) l))
-          (λ q done' l'. items_comes item caps n (cell + size) end q done' left e' up l')
+          (λ q done' l'. items_comes item caps n (cell + size) end (grind arith) up l')
 
-      if_comes : (b : Bool) (cell end : ℕ) (t : Taken) (p : Progress) (done : List Slot) (slots left : List ℤ → List Slot) → cell ≤ end → Up end left
-          → (Left cell p done (λ m. slots m ++ left m) → Comes end left t) → Left cell p done (λ m. (if b then slots m else []) ++ left m)
+      if_comes : {cell end : ℕ} (b : Bool) (t : Taken) {p : Progress} {done : List Slot} (slots : List ℤ → List Slot) {left : List ℤ → List Slot} → cell ≤ end
+          → Up end left → (Left cell p done (λ m. slots m ++ left m) → Comes end left t) → Left cell p done (λ m. (if b then slots m else []) ++ left m)
           → Comes end left (if b then t else Ok p)
-      if_comes true cell end t p done slots left le up h l = h l
-      if_comes false cell end t p done slots left le up h l = stay cell end left done p le up l
+      if_comes true t slots le up h l = h l
+      if_comes false t slots le up h l = stay le up l
 
       module _ (d : Desc) (v base : ℕ) where
         abbrev own : List ℤ → ℕ → ℕ
         own m = numbers_of (map (λ (m : Meaning). m.cells) ms) d m base
 
         -- whether a field is there, and how many elements it has, by the numbers before it
-        field_comes : (i cell end : ℕ) (f : Field) (p : Progress) (done : List Slot) (left : List ℤ → List Slot)
+        field_comes : (i cell end : ℕ) (f : Field) {p : Progress} {done : List Slot} {left : List ℤ → List Slot}
             → IsSoundField d.fields i f → cell ≡ place_of (cells_of ts) d.fields 0 base d.fields i
             → end ≡ cell + length (field_cells (cells_of ts) d.fields i f) → Up end left
             → Left cell p done (λ m. field_slots ms d.fields v (own m) m i cell f ++ left m) → Comes end left (take_field ts d v base i cell f p)
-        field_comes i cell end f p done left sound here e up l =
+        field_comes i cell end f {p} sound here e up l =
             let cs = cells_of ts in
             let old = numbers_of cs d p.numbers base in
             let size = item_size cs f.item in
@@ -258,64 +234,54 @@ module _ (total : List ℤ → List Slot) (Holds : ℕ → List Slot → Progres
             let b = is_there f.test f.since v old no_parent in
             let le : n * size ≤ capacity_of f.count * size = mul-le-mul_right {m = n} {n = capacity_of f.count} size (elements_fit f.count old) in
             let more : cell + n * size ≤ end = omega (arith, field_size cs d.fields i f) in
-            if_comes b cell end (take_items ts f.item caps size n cell p) p done (λ m. times n (item_slots ms f.item caps m) cell size) left (omega arith) up
-            (λ l. comes_less (cell + n * size) end left _ more up
-            (items_comes f.item caps n cell (cell + n * size) p done left refl (λ m. above_less (cell + n * size) end _ more (up m)) l))
+            if_comes b (take_items ts f.item caps size n cell p) (λ m. times n (item_slots ms f.item caps m) cell size) (omega arith) up
+            (λ l. comes_less _ more up (items_comes f.item caps n cell (cell + n * size) refl (λ m. above_less _ end _ more (up m)) l))
             (left_ap (λ m s.
             let now = numbers_of cs d m base in
             let h : (j : ℕ) → IsEarlier d.fields i j → now j ≡ old j = λ j x. own_same cs d base i cell j p.numbers m here s x in
-            ap (λ (cs : List (List Cell)).
-            (if is_there f.test f.since v (numbers_of cs d m base) no_parent
-            then times (elements_of f.count (numbers_of cs d m base)) (item_slots ms f.item caps m) cell (item_size cs f.item) else []) ++ left m)
-            (pairs_cells ts ms pairs)
-            ∙ ap (λ (b : Bool). (if b then times (elements_of f.count now) (item_slots ms f.item caps m) cell size else []) ++ left m)
-            (there_same d.fields i v f.since old now h f.test sound.test)
-            ∙ ap (λ (n : ℕ). (if b then times n (item_slots ms f.item caps m) cell size else []) ++ left m)
-            (elements_same d.fields i old now h f.count sound.count)) l)
+            rw (pairs_cells _ _ pairs, there_same d.fields i v f.since old now h f.test sound.test, elements_same d.fields i old now h f.count sound.count)) l)
 
-        fields_comes : (i cell end : ℕ) (fs : List Field) (p : Progress) (done : List Slot) (left : List ℤ → List Slot)
+        fields_comes : (i cell end : ℕ) (fs : List Field) {p : Progress} {done : List Slot} {left : List ℤ → List Slot}
             → AreSoundFields d.fields i fs → cell ≡ place_of (cells_of ts) d.fields 0 base d.fields i → drop i d.fields ≡ fs
             → end ≡ cell + length (cells_from (cells_of ts) d.fields i fs) → Up end left
             → Left cell p done (λ m. slots_from ms d.fields v (own m) m i cell fs ++ left m) → Comes end left (take_fields ts d v base i cell fs p)
-        fields_comes i cell end [] p done left sound here is e up l = stay cell end left done p (omega arith) up l
-        fields_comes i cell end (f ∷ fs) p done left sound here is e up l =
+        fields_comes i cell end [] sound here is e up l = stay (omega arith) up l
+        fields_comes i cell end (f ∷ fs) {p} {left = left} sound here is e up l =
             let cs = cells_of ts in
             let size = length (field_cells cs d.fields i f) in
             let next = cell + size in
-            let same : length (field_cells (map (λ (m : Meaning). m.cells) ms) d.fields i f) ≡ size =
-            ap (λ (cs : List (List Cell)). length (field_cells cs d.fields i f)) (pairs_cells ts ms pairs) in
-            let later : List ℤ → List Slot = λ m. slots_from ms d.fields v (own m) m (suc i) next fs ++ left m in
             let e' : end ≡ next + length (cells_from cs d.fields (suc i) fs) =
             omega (arith, length-append (field_cells cs d.fields i f) (cells_from cs d.fields (suc i) fs)) in
             let there : next ≡ place_of cs d.fields 0 base d.fields (suc i) =
-            omega (arith, place_next cs d.fields 0 base d.fields i f fs is, ap (λ (k : ℕ). length (field_cells cs d.fields k f)) (zero_plus i)) in
-            then_comes next end later left (take_field ts d v base i cell f p) (λ q. take_fields ts d v base (suc i) next fs q)
-            (field_comes i cell next f p done later sound.0 here refl
+            omega (arith, place_next cs d.fields 0 base d.fields i f fs is, ap (λ k. length (field_cells cs d.fields k f)) (zero_plus i)) in
+            then_comes (take_field ts d v base i cell f p) (λ q. take_fields ts d v base (suc i) next fs q) (field_comes i cell next f sound.0 here refl
             (λ m. above_append next _ (left m) (fields_above ms ab d.fields v (own m) m (suc i) next fs) (above_less next end _ (omega arith) (up m)))
             (left_ap (λ m s.
-            ap (λ (k : ℕ). (field_slots ms d.fields v (own m) m i cell f ++ slots_from ms d.fields v (own m) m (suc i) (cell + k) fs) ++ left m) same
+            ap (λ cs. (field_slots ms d.fields v (own m) m i cell f
+            ++ slots_from ms d.fields v (own m) m (suc i) (cell + length (field_cells cs d.fields i f)) fs) ++ left m) (pairs_cells ts ms pairs)
             ∙ append_assoc (field_slots ms d.fields v (own m) m i cell f) _ (left m)) l))
-            (λ q done' l'. fields_comes (suc i) next end fs q done' left sound.1 there (drop_next d.fields i f fs is) e' up l')
+            (λ q done' l'. fields_comes (suc i) next end fs sound.1 there (drop_next d.fields i f fs is) e' up l')
 
         -- reading a description's slots is taking it
-        pub desc_comes : (end : ℕ) (p : Progress) (done : List Slot) (left : List ℤ → List Slot) → IsSound d
+        pub desc_comes : (end : ℕ) {p : Progress} {done : List Slot} {left : List ℤ → List Slot} → IsSound d
             → end ≡ base + length (desc_cells (cells_of ts) d) → Up end left
             → Left base p done (λ m. desc_slots ms d v m base ++ left m) → Comes end left (take_desc ts d v base p)
         unfolding take_desc
-        desc_comes end p done left sound e up l =
+        desc_comes end {p} {left = left} sound e up l =
             let cs = cells_of ts in
-            let rule : List ℤ → List Slot = λ m. Rule (all_hold d.validate v (own m)) ∷ left m in
             let last : end ≡ place_of cs d.fields 0 base d.fields (length d.fields) = omega (arith, place_end cs d.fields 0 base d.fields) in
-            then_comes end end rule left (take_fields ts d v base 0 base d.fields p) (check_rules ts d v base)
-            (fields_comes 0 base end d.fields p done rule sound.fields (sym (place_first cs d.fields 0 base d.fields)) refl e
+            then_comes (take_fields ts d v base 0 base d.fields p) (check_rules ts d v base)
+            (fields_comes 0 base end d.fields sound.fields (sym (place_first cs d.fields 0 base d.fields)) refl e
             (λ m. above_append end (Rule (all_hold d.validate v (own m)) ∷ []) (left m) (record { below = λ c lt. refl }) (up m))
             (left_ap (λ m s. append_assoc (slots_from ms d.fields v (own m) m 0 base d.fields) _ (left m)) l))
             (λ q done' l'.
-            one_other end end (Rule (all_hold d.validate v (numbers_of cs d q.numbers base))) done' left q (omega arith) tt up
-            (left_ap (λ m s.
-            ap (λ (cs : List (List Cell)). Rule (all_hold d.validate v (numbers_of cs d m base)) ∷ left m) (pairs_cells ts ms pairs)
-            ∙ ap (λ (b : Bool). Rule b ∷ left m) (hold_same d.fields (length d.fields) v (numbers_of cs d q.numbers base) (numbers_of cs d m base)
-            (λ j x. own_same cs d base (length d.fields) end j q.numbers m last s x) d.validate sound.validate)) l'))
+            one_other (Rule (all_hold d.validate v (numbers_of cs d q.numbers base))) {left = left} (omega arith) tt up
+            (left_ap {left = λ m. Rule (all_hold d.validate v (own m)) ∷ left m} (λ m s.
+            rw (
+              pairs_cells ts ms pairs,
+              hold_same d.fields (length d.fields) v (numbers_of cs d q.numbers base) (numbers_of cs d m base)
+                  (λ j x. own_same cs d base (length d.fields) end j q.numbers m last s x) d.validate sound.validate,
+            )) l'))
 
     pub pairs_first : (ds : List Desc) → AreSound ds → (k : ℕ) → k ≤ length ds → Pairs (takers ds k) (meanings ds k)
     unfolding first
@@ -324,17 +290,13 @@ module _ (total : List ℤ → List Slot) (Holds : ℕ → List Slot → Progres
         let pairs : Pairs (takers ds k) (meanings ds k) = pairs_first ds sound k (omega arith) in
         let d = get_or ds k no_desc in
         pairs_append (takers ds k) (meanings ds k) (taker_of (takers ds k) d) (meaning (meanings ds k) d) pairs
-        (ap (λ (cs : List (List Cell)). desc_cells cs d) (sym (pairs_cells (takers ds k) (meanings ds k) pairs)))
-        (record {
-          takes = λ cell end p done left e up l. desc_comes _ _ pairs (meanings_above ds k) d d.version cell end p done left
-              (sound k (omega arith)) e up l;
-        })
+        (rw (sym (pairs_cells (takers ds k) (meanings ds k) pairs)))
+        (record { takes = λ cell end p done left e up l. desc_comes _ _ pairs (meanings_above ds k) d d.version cell end (sound k (omega arith)) e up l })
 
     -- the same with all structures of a set, from the front on
     pub set_desc_comes : (ds : List Desc) → AreSound ds → (d : Desc) (v base : ℕ) (p : Progress) → IsSound d
         → ((m : List ℤ) → total m ≡ desc_slots (meanings ds (length ds)) d v m base) → Holds base [] p
         → Comes (base + length (desc_cells (cells_of (takers ds (length ds))) d)) (λ m. []) (take_desc (takers ds (length ds)) d v base p)
     set_desc_comes ds structs d v base p sound is h =
-        desc_comes _ _ (pairs_first ds structs (length ds) (omega arith)) (meanings_above ds (length ds)) d v base _ p [] (λ m. []) sound refl
-        (λ m. above_none _)
-        (record { split = λ m s. is m ∙ sym (append-nil (desc_slots (meanings ds (length ds)) d v m base)); holds = h })
+        desc_comes _ _ (pairs_first ds structs (length ds) (omega arith)) (meanings_above ds (length ds)) d v base _ sound refl
+        (λ m. above_none _) (record { split = λ m s. is m ∙ sym (append-nil (desc_slots (meanings ds (length ds)) d v m base)); holds = h })

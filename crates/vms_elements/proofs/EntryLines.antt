@@ -20,17 +20,15 @@ then_rest : (set : Set) (d : Desc) (numbers : List ℤ) (at : ℕ) (es : List En
 then_rest set d numbers at es ls e = rw (map-append entry_line (number_entries set d numbers at) es, e, numbers_same numbers (printed (elements_in set d d.version numbers at))) refl
 
 subs_same : (set : Set) (d : Device) (image : Image) (j at : ℕ) (subs : List Sub) (came : List (Option ℕ)) → map entry_line (subs_entries set d image j at subs came) ≡ subs_lines set image.numbers at subs came
-subs_same set d image j at [] came = refl
-subs_same set d image j at (s ∷ subs) [] = refl
 subs_same set d image j at (s ∷ subs) (o ∷ came) = ap (λ l. sub_line s o ∷ l) (then_rest set s.desc image.numbers at _ _ (subs_same set d image (suc j) (at + length (desc_cells (struct_cells set) s.desc)) subs came))
+subs_same set d image j at _ _ = refl
 
 device_same : (set : Set) (d : Device) (image : Image) → map entry_line (device_entries set d image) ≡ device_lines set d image
 device_same set d image = ap (λ l. section_line d image.version ∷ l) (then_rest set d.desc image.numbers 0 _ _ (subs_same set d image 0 (own_cells set d) d.subs image.came))
 
 devices_same : (set : Set) (devices : List Device) (images : List Image) → map entry_line (devices_entries set devices images) ≡ devices_lines set devices images
-devices_same set [] images = refl
-devices_same set (d ∷ devices) [] = refl
 devices_same set (d ∷ devices) (image ∷ images) = map-append entry_line (device_entries set d image) _ ∙ both _ _ _ _ (device_same set d image) (devices_same set devices images)
+devices_same set _ _ = refl
 
 pub entry_law : EntryLaw
 entry_law set None images = devices_same set set.devices images

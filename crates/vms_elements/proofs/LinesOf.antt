@@ -125,11 +125,10 @@ pub six : (a b c d e g h : List ℕ) → (a ++ (b ++ (c ++ (d ++ (e ++ g))))) ++
 six a b c d e g h = simp append_assoc refl
 
 subs_text : (set : Set) (n : List ℤ) (at : ℕ) (subs : List Sub) (came : List (Option ℕ)) → text_of (subs_lines set n at subs came) ≡ texts.sub_lines set n at subs came
-subs_text set n at [] came = refl
-subs_text set n at (s ∷ subs) [] = refl
 subs_text set n at (s ∷ subs) (o ∷ came) =
     ap (λ (l : List ℕ). sub_line s o ++ (10 ∷ l)) (text_append _ _ ∙ both _ _ _ _ (numbers_text set s.desc n at) (subs_text set n (at + length (desc_cells (struct_cells set) s.desc)) subs came))
     ∙ four (codes "sub ") s.desc.name (codes " ") (version_text o) (10 ∷ desc_lines (printers set) s.desc [] n at) _
+subs_text set n at _ _ = refl
 
 device_text : (set : Set) (d : Device) (image : Image) → text_of (device_lines set d image) ≡ texts.device_lines set d image
 device_text set d image =
@@ -137,9 +136,8 @@ device_text set d image =
     ∙ six (codes "section ") d.desc.name (codes " ") (decimal d.instance) (codes " v") (decimal image.version) _
 
 devices_text : (set : Set) (devices : List Device) (images : List Image) → text_of (devices_lines set devices images) ≡ texts.devices_lines set devices images
-devices_text set [] images = refl
-devices_text set (d ∷ devices) [] = refl
 devices_text set (d ∷ devices) (image ∷ images) = text_append (device_lines set d image) _ ∙ both _ _ _ _ (device_text set d image) (devices_text set devices images)
+devices_text set _ _ = refl
 
 machine_text : (machine : Option (List ℕ)) → text_of (machine_lines machine) ≡ texts.machine_line machine
 machine_text None = refl

@@ -69,14 +69,10 @@ module _ (set : Set) where
       by_test true t =
           let lt : j < below = ltb-true j below t in
           let d = get_or set.structs j no_desc in
-          let same : get_or ss j no_shape ≡ shape (first shape set.structs j) d = first_at shape set.structs no_shape below j lt in
-          rw same
+          rw (first_at shape set.structs no_shape below j lt)
           (each_map (Tells j d place) (TellsItem below f place) dotted (dotted_tells below f j place d is t (slice_get-get_or set.structs j no_desc (omega arith)))
           (desc_elements (first shape set.structs j) d d.version n place) (earlier j lt d d.version n place))
-      by_test false t =
-          let le : below ≤ j = ltb-false j below t in
-          let long : length ss ≡ below = first_long shape set.structs below in
-          rw (get_or_past ss j no_shape (omega (arith, long))) tt
+      by_test false t = rw (get_or_past ss j no_shape (omega (arith, first_long shape set.structs below, ltb-false j below t))) tt
   item_tells below le earlier f caps n place _ is = (λ cell what. cc, tt)
 
   -- ---- fields
@@ -176,9 +172,8 @@ module _ (set : Set) where
       by_test false t h = cc
       by_test true t h =
           let lt : j < below = ltb-true j below t in
-          let same : get_or ss j no_shape ≡ shape (first shape set.structs j) d = first_at shape set.structs no_shape below j lt in
           let there = slice_get-get_or set.structs j no_desc (omega arith) in
-          subst (λ (q : Shape). Has (IsAt (s ∷ path) c) (map dotted (q.elements n place))) (sym same)
+          subst (λ (q : Shape). Has (IsAt (s ∷ path) c) (map dotted (q.elements n place))) (sym (first_at shape set.structs no_shape below j lt))
           (has_map (IsAt (s ∷ path) c) (IsAt (s ∷ path) c) dotted (λ x p. p) (desc_elements (first shape set.structs j) d d.version n place)
           (sound j d place c (omega arith) (ap (λ (o : Option Desc). path_at set (s ∷ path) j o place) (sym there) ∙ h) d.version n))
   in_item (s ∷ path) sound below few _ caps z n place c h = cc

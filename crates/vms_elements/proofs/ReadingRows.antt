@@ -106,9 +106,8 @@ refuses_a_validation =
     (record { says = record { named = tt; shaped = search; unsaid = (unsaid, tt); fine = search; printed = refl }; whole = refl; good = refl; number = refl; refused = refl })
   where
     unsaid : AreUnsaid tested_set (get_or tested_set.devices 0 no_device) ten
-    unsaid zero h e = cc
-    unsaid (suc zero) h e = cc
     unsaid (suc (suc c)) h e = absurd (omega arith)
+    unsaid _ h e = cc
 
 abbrev dashes : Image
 dashes = record { version = 1; came = None ∷ None ∷ []; numbers = pos 9 ∷ pos 8 ∷ pos 6 ∷ [] }
@@ -122,7 +121,5 @@ refuses_a_dash =
     (record { says = record { named = tt; shaped = search; unsaid = (unsaid, tt); fine = search; printed = refl }; whole = refl; good = refl; number = refl; refused = refl })
   where
     unsaid : AreUnsaid subsection_set (get_or subsection_set.devices 0 no_device) dashes
-    unsaid zero h e = cc
-    unsaid (suc zero) h e = cc
-    unsaid (suc (suc zero)) h e = cc
     unsaid (suc (suc (suc c))) h e = absurd (omega arith)
+    unsaid _ h e = cc

@@ -23,10 +23,9 @@ absent_slots [] = refl
 absent_slots (x ∷ xs) = absent_slots xs
 
 subs_slots : (set : Set) (d : Device) (subs : List Sub) (came : List (Option ℕ)) (n : List ℤ) (place : ℕ) → slots_of (subs_elements set subs came n place) ≡ came_slots set d n place subs came
-subs_slots set d [] came n place = refl
-subs_slots set d (s ∷ subs) [] n place = refl
 subs_slots set d (s ∷ subs) (None ∷ came) n place = rw (slots_append, absent_slots) (subs_slots set d subs came n _)
 subs_slots set d (s ∷ subs) (Some v ∷ came) n place = rw (slots_append, elements_slots set s.desc v n place, subs_slots set d subs came n _) refl
+subs_slots set d _ _ n place = refl
 
 sub_walks : (set : Set) (s : Sub) (o : Option ℕ) (n : List ℤ) (place : ℕ) → Walks (desc_cells (struct_cells set) s.desc) place (sub_elements set s o n place) (sub_elements set s o n place)
 sub_walks set s None n place = step_walks is_absent is_absent (walks set s.desc s.desc.version s.desc.version n n place place)

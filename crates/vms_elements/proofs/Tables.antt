@@ -23,6 +23,5 @@ pub shapes_cells : (ds : List Desc) (k : ℕ) → cells_in (first shape ds k) �
 shapes_cells ds k = first_cells (λ (s : Shape). s.cells) shape (λ ss d. refl) ds k
 
 pub cells_at : (ss : List Shape) (j : ℕ) → get_or (cells_in ss) j [] ≡ (get_or ss j no_shape).cells
-cells_at [] j = refl
-cells_at (s ∷ ss) zero = refl
 cells_at (s ∷ ss) (suc j) = cells_at ss j
+cells_at _ _ = refl

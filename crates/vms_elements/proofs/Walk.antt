@@ -130,7 +130,6 @@ no_walk at = record { cells_are = refl; up = tt; names = refl; counted = tt }
 other_walks : (at k l : ℕ) (w v : What) → is_number w ≡ false → is_number v ≡ false → Walks [] at (single k w ∷ []) (single l v ∷ [])
 other_walks at k l (Number c) v e f = cc
 other_walks at k l w (Number c) e f = cc
-other_walks at k l (Constant kind z) (Constant kind' z') e f = record { cells_are = refl; up = tt; names = refl; counted = (λ e. refl, tt) }
 other_walks at k l _ _ e f = record { cells_are = refl; up = tt; names = refl; counted = (λ e. refl, tt) }
 
 end_walks : {c : List Cell} {at : ℕ} {xs ys : List Element} (k l : ℕ) (p q : Bool) → Walks c at xs ys → Walks c at (xs ++ single k (Rule p) ∷ []) (ys ++ single l (Rule q) ∷ [])
@@ -142,9 +141,8 @@ AreWalked ss = (j : ℕ) (n m : List ℤ) (a b : ℕ) → Walks (get_or ss j no_
 module _ (ss : List Shape) (walked : AreWalked ss) where
   pub item_walks : (item : Item) (caps : List ℕ) (z : ℤ) (n m : List ℤ) (a b : ℕ) → Walks (item_cells (cells_in ss) item caps z) a (item_elements ss item caps z n a) (item_elements ss item caps z m b)
   item_walks (Num kind) caps z n m a b = record { cells_are = refl; up = (refl, tt); names = refl; counted = (λ e. refl, tt) }
-  item_walks (Equal kind y) caps z n m a b = other_walks a a b _ _ refl refl
-  item_walks (Unused k) caps z n m a b = other_walks a a b _ _ refl refl
   item_walks (Struct j) caps z n m a b = rw (cells_at ss j) (step_walks is_dotted is_dotted (walked j n m a b))
+  item_walks _ caps z n m a b = other_walks a a b _ _ refl refl
 
   array_walks : (f : Field) (s t : Stand) (p q : ℕ → List Element) (c : List Cell) (step : ℕ) → length c ≡ step → ((a b : ℕ) → Walks c a (p a) (q b))
       → (e n a b x y : ℕ) → Walks (times n (λ _. c) x y) a (array_elements f s p step e n a) (array_elements f t q step e n b)

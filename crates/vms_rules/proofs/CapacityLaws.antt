@@ -1,13 +1,7 @@
 -- The least capacity decides for all capacities that a number counts.
-use Rattle.std.proofs.Common.{◌≡◌, ℕ, ◌<◌, List, ◌∷◌, length, get_or, Bool, true, false, Option, Some, None, ℤ, pos, refl, ap, ◌∙◌, []}
-use Rattle.std.specs.Prelude.{◌&&◌}
-use Rattle.std.proofs.Math.Bool.{and_assoc}
-use Rattle.vms_spec.specs.Layout.{counted}
-use Rattle.vms_spec.specs.Rules.{int_le, counts_well}
+use Rattle.vms_rules.proofs.Facade.{◌≡◌, ℕ, ◌<◌, List, ◌∷◌, length, get_or, Bool, true, false, Option, Some, None, ℤ, pos, refl, ap, ◌∙◌, [], ◌&&◌, and_assoc}
+use Rattle.vms_rules.proofs.Facade.{counted, int_le, counts_well, both_below, lesser, least_from, AreLeast, fits}
 use Rattle.vms_spec.specs.Sets.{Field}
-use Rattle.vms_spec.proofs.ListLaws.{both_below}
-use Rattle.vms_parts.specs.Capacities.{lesser, least_from, AreLeast}
-use Rattle.vms_rules.specs.Capacities.{fits}
 
 fits_lesser : (o : Option ℕ) (most : ℕ) (z : ℤ) → fits (lesser o most) z ≡ (fits o z && int_le z (pos most))
 fits_lesser (Some least) most (pos n) = both_below n least most

@@ -1,20 +1,9 @@
 -- Devices and their subsections.
-use Rattle.std.proofs.Common.{◌≡◌, ℕ, ◌+◌, ◌<◌, List, ◌∷◌, ◌++◌, length, take, map, Bool, Option, None, refl, ◌∙◌, []}
-use Rattle.std.specs.Prelude.{◌&&◌, ◌==◌, ◌||◌}
-use Rattle.std.specs.List.{list_any}
-use Rattle.std.specs.Str.{bytes_eq}
-use Rattle.std.proofs.lemmas.List.{take-map}
-use Rattle.vms_spec.specs.declared.Whose.TheVariants.{Own, Parent}
-use Rattle.vms_spec.specs.Lists.{or_else, first_answer}
-use Rattle.vms_spec.specs.Rules.{names_well}
+use Rattle.vms_rules.proofs.Facade.{◌≡◌, ℕ, List, ◌∷◌, length, take, map, Bool, Option, None, refl, [], ◌&&◌, ◌==◌, list_any, bytes_eq, take-map, Own, Parent}
+use Rattle.vms_rules.proofs.Facade.{or_else, first_answer, names_well, Formula, Cell, Not, And, Or, SetFault, is_same_device, failing, here, device_rules}
+use Rattle.vms_rules.proofs.Facade.{device_fault, sub_fault, fields_fault, validations_fault, Device, device_of, DescFault, IsFirst}
 use Rattle.vms_spec.specs.Sets as sets
-use Rattle.vms_spec.specs.Sets.{Formula, Cell, Not, And, Or}
 use Rattle.vms_spec.specs.declared.Part.TheVariants as parts
-use Rattle.vms_spec.specs.WellFormed.{SetFault, is_same_device, failing, here, device_rules, device_fault, sub_fault, fields_fault, validations_fault}
-use Rattle.vms_parts.specs.declared.types.Device.{Device}
-use Rattle.vms_parts.specs.Views.{device_of}
-use Rattle.vms_rules.specs.declared.fault.DescFault.{DescFault}
-use Rattle.vms_rules.specs.Judged.{IsFirst}
 use Rattle.vms_rules.proofs.WalkLaws.{first_stops, first_good, later_stops, both_good}
 
 any_same : (name : List ℕ) (instance : ℕ) (devices : List Device)

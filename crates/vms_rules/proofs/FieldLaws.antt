@@ -1,23 +1,10 @@
 -- The earlier fields that a field may name.
-use Rattle.std.proofs.Common.{◌≡◌, ℕ, zero, suc, ◌+◌, ◌<◌, List, ◌∷◌, ◌++◌, append_assoc, length, get_or, take, map, Bool, true, false, refl, sym, ap, ◌∙◌}
-use Rattle.std.proofs.Common.{arith, []}
-use Rattle.std.specs.Prelude.{◌&&◌, not, nat_lt, ◌||◌}
-use Rattle.std.specs.List.{slice_get}
-use Rattle.std.proofs.lemmas.Bool.Decides.{nat_tests}
+use Rattle.vms_rules.proofs.Facade.{◌≡◌, ℕ, zero, suc, ◌+◌, ◌<◌, List, ◌∷◌, ◌++◌, append_assoc, length, get_or, take, map, Bool, true, false, refl, sym, ap}
+use Rattle.vms_rules.proofs.Facade.{◌∙◌, arith, [], ◌&&◌, not, nat_lt, ◌||◌, slice_get, nat_tests, bytes_eq, take_more, map-append, take-map, and-false}
+use Rattle.vms_rules.proofs.Facade.{or-false, or_comm, Formula, is_steady, names_well, all_names, are_new, is_one_of, one_of_both, are_new_to, Field, field_of}
 use Rattle.vms_spec.specs.Sets as sets
-use Rattle.vms_spec.specs.Sets.{Formula}
-use Rattle.vms_spec.specs.Rules.{is_steady, names_well}
-use Rattle.std.specs.Str.{bytes_eq}
-use Rattle.std.proofs.lemmas.List.{take_more, map-append, take-map}
-use Rattle.std.proofs.Math.Bool.{and-false, or-false, or_comm}
-use Rattle.vms_spec.specs.Names.{all_names, are_new}
-use Rattle.vms_spec.specs.Streams.{is_one_of}
-use Rattle.vms_spec.proofs.ListLaws.{one_of_both}
-use Rattle.vms_rules.specs.NameSets.{are_new_to}
 use Rattle.vms_rules.proofs.DeviceLaws.{needed_names}
 use Rattle.vms_rules.proofs.NameLaws.{same_new}
-use Rattle.vms_parts.specs.declared.types.Field.{Field}
-use Rattle.vms_parts.specs.Views.{field_of}
 
 one_less : (i k : ℕ) → nat_lt (suc i) (suc k) ≡ nat_lt i k
 one_less i k = grind (arith, nat_tests)

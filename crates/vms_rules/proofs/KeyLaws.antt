@@ -1,25 +1,10 @@
 -- Names whose keys differ are distinct.
-use Rattle.std.proofs.Common.{◌≡◌, ℕ, ◌+◌, ◌<◌, List, [], ◌∷◌, ◌++◌, append_assoc, append-nil, length, get_or, take, drop, map, Bool, true, false, refl, sym}
-use Rattle.std.proofs.Common.{ap, ◌∙◌, subst}
-use Rattle.std.specs.Prelude.{◌&&◌, not, ◌||◌}
-use Rattle.std.specs.List.{IsDistinct, AllByRecursion}
-use Rattle.std.specs.List.Sorted.{IsStrictlyIncreasing, IsPermutation}
-use Rattle.std.specs.Ordering.{nat_cmp, eq_by_cmp}
-use Rattle.std.specs.Cmp.{nat_cmp_total}
-use Rattle.std.specs.Str.{bytes_eq}
-use Rattle.std.proofs.lemmas.Cmp.{eq_by_cmp_equiv}
-use Rattle.std.proofs.lemmas.List.{take_more, map-append, take-map, take-append-drop}
-use Rattle.std.proofs.lemmas.List.Sorted.{IsPermutation-sym}
-use Rattle.std.proofs.lemmas.Map.Keys.{IsDistinct-IsPermutation, IsDistinct-from_sorted, sorted_from_strictly_increasing}
-use Rattle.std.proofs.lemmas.Slice.Eq.{bytes_eq-Decides}
+use Rattle.vms_rules.proofs.Facade.{◌≡◌, ℕ, ◌+◌, ◌<◌, List, [], ◌∷◌, ◌++◌, append_assoc, append-nil, length, get_or, take, drop, map, Bool, true, false, refl}
+use Rattle.vms_rules.proofs.Facade.{sym, ap, ◌∙◌, subst, ◌&&◌, not, ◌||◌, IsDistinct, AllByRecursion, IsStrictlyIncreasing, IsPermutation, nat_cmp, eq_by_cmp}
+use Rattle.vms_rules.proofs.Facade.{nat_cmp_total, bytes_eq, eq_by_cmp_equiv, take_more, map-append, take-map, take-append-drop, IsPermutation-sym}
+use Rattle.vms_rules.proofs.Facade.{IsDistinct-IsPermutation, IsDistinct-from_sorted, sorted_from_strictly_increasing, bytes_eq-Decides, all_names, are_new}
+use Rattle.vms_rules.proofs.Facade.{is_one_of, all_right, either_of, Field, field_of, drop_is, key, are_new_to, with_name}
 use Rattle.vms_spec.specs.Sets as sets
-use Rattle.vms_spec.specs.Names.{all_names, are_new}
-use Rattle.vms_spec.specs.Streams.{is_one_of}
-use Rattle.vms_spec.proofs.ListLaws.{all_right, either_of}
-use Rattle.vms_parts.specs.declared.types.Field.{Field}
-use Rattle.vms_parts.specs.Views.{field_of}
-use Rattle.vms_parts.proofs.Items.{drop_is}
-use Rattle.vms_rules.specs.NameSets.{key, are_new_to, with_name}
 use Rattle.vms_rules.proofs.FieldLaws.{names_of_both, new_is, names_new}
 
 abbrev pub same : ℕ → ℕ → Bool

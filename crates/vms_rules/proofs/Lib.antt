@@ -1,7 +1,8 @@
 pub mod CapacityLaws
 pub mod DeviceLaws
-pub mod KeyLaws
+pub mod Facade
 pub mod FieldLaws
+pub mod KeyLaws
 pub mod NameLaws
 pub mod RuleLaws
 pub mod SetLaws

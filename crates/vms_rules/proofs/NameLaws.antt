@@ -1,25 +1,11 @@
 -- Names and sets of names.
-use Rattle.std.proofs.Common.{◌≡◌, ℕ, ◌+◌, ◌<◌, ◌≤◌, List, ◌∷◌, ◌++◌, length, length-take, length-append, get_or, drop, take, map, Bool, true, false, Ordering}
-use Rattle.std.proofs.Common.{Equal, refl, sym, ap, subst, ◌∙◌, arith, []}
-use Rattle.std.specs.Prelude.{◌&&◌, not, nat_eq, ◌||◌}
-use Rattle.std.specs.BTreeSet.{BTreeSet, UpdatesBy}
-use Rattle.std.specs.Set.{KeepsOthers}
-use Rattle.std.specs.Map.{IsKeyTest, AreApart}
-use Rattle.std.specs.Cmp.{IsTotalOrder, eq_by_cmp_equiv, then_total, on_total, nat_cmp_total}
-use Rattle.std.specs.Cmp.Lexicographic.{unequal, slice_cmp, nat_list_cmp_total}
-use Rattle.std.specs.Ordering.{nat_cmp, is_eq, eq_by_cmp, ordering_then}
-use Rattle.std.specs.List.{list_any}
-use Rattle.std.specs.Str.{bytes_eq}
-use Rattle.std.proofs.lemmas.List.{length-map, map-append, take_more}
-use Rattle.std.proofs.lemmas.Map.Text.{is_eq-slice_cmp}
-use Rattle.std.proofs.lemmas.Slice.Eq.{bytes_eq-Decides}
-use Rattle.std.proofs.Math.Bool.{and-true, or-false, and_assoc, or_assoc, or_comm}
-use denote.Ref.{Bor}
-use Rattle.vms_spec.specs.Names.{is_name, is_sub_name}
-use Rattle.vms_spec.specs.Streams.{is_one_of}
-use Rattle.vms_spec.proofs.ListLaws.{or_turned}
-use Rattle.vms_parts.proofs.Items.{drop_is, get_map_at}
-use Rattle.vms_rules.specs.NameSets.{key, by_key, has_name, with_name, are_new_to}
+use Rattle.vms_rules.proofs.Facade.{◌≡◌, ℕ, ◌+◌, ◌<◌, ◌≤◌, List, ◌∷◌, ◌++◌, length, length-take, length-append, get_or, drop, take, map, Bool, true, false}
+use Rattle.vms_rules.proofs.Facade.{Ordering, Equal, refl, sym, ap, subst, ◌∙◌, arith, [], ◌&&◌, not, nat_eq, ◌||◌, BTreeSet, UpdatesBy, KeepsOthers, IsKeyTest}
+use Rattle.vms_rules.proofs.Facade.{AreApart, IsTotalOrder, then_total, on_total, nat_cmp_total, unequal, slice_cmp, nat_list_cmp_total, nat_cmp, is_eq}
+use Rattle.vms_rules.proofs.Facade.{eq_by_cmp, ordering_then, list_any, bytes_eq, length-map, map-append, take_more, is_eq-slice_cmp, bytes_eq-Decides}
+use Rattle.vms_rules.proofs.Facade.{and-true, or-false, and_assoc, or_assoc, or_comm, Bor, is_name, is_sub_name, is_one_of, or_turned, drop_is, get_map_at, key}
+use Rattle.vms_rules.proofs.Facade.{by_key, has_name, with_name, are_new_to}
+use Rattle.std.specs.Cmp.{eq_by_cmp_equiv}
 
 -- ---- sets
 

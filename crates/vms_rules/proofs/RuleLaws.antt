@@ -1,8 +1,6 @@
 -- The rules at a place, in order.
-use Rattle.std.proofs.Common.{◌≡◌, ℕ, ◌+◌, ◌<◌, ◌≤◌, List, ◌∷◌, length, get_or, drop, Bool, true, false, Some, None, sym, ap, ◌∙◌, add-one}
-use Rattle.std.proofs.lemmas.List.{drop_all, drop_more}
-use Rattle.vms_spec.specs.declared.Place.{Place}
-use Rattle.vms_spec.specs.WellFormed.{failing}
+use Rattle.vms_rules.proofs.Facade.{◌≡◌, ℕ, ◌+◌, ◌<◌, ◌≤◌, List, ◌∷◌, length, get_or, drop, Bool, true, false, Some, None, sym, ap, ◌∙◌, add-one, drop_all}
+use Rattle.vms_rules.proofs.Facade.{drop_more, Place, failing}
 
 head_is : (rules : List Bool) (i : ℕ) (b d : Bool) (place : Place) → i < length rules → get_or rules i d ≡ b
     → failing (i + 1) (drop i rules) place ≡ failing (i + 1) (b ∷ drop (i + 1) rules) place

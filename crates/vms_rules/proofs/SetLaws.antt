@@ -1,24 +1,11 @@
 -- The machines of a set, and the whole walk.
-use Rattle.std.proofs.Common.{sym, ◌≡◌, ℕ, List, ◌∷◌, Bool, true, false, Option, None, refl, ap, ◌∙◌, []}
-use Rattle.std.specs.Prelude.{◌&&◌, not, ◌||◌}
-use Rattle.std.specs.BTreeMap.{is_at}
-use Rattle.std.specs.BTreeSet.{BTreeSet}
-use Rattle.std.specs.Cmp.Lexicographic.{nat_list_eq_equiv}
-use Rattle.std.specs.List.{list_any}
-use denote.Ref.{Bor}
-use Rattle.std.specs.Str.{bytes_eq}
-use Rattle.std.proofs.Math.Bool.{and_assoc}
+use Rattle.vms_rules.proofs.Facade.{sym, ◌≡◌, ℕ, List, ◌∷◌, Bool, true, false, Option, None, refl, ap, ◌∙◌, [], ◌&&◌, not, ◌||◌, is_at, BTreeSet}
+use Rattle.vms_rules.proofs.Facade.{nat_list_eq_equiv, list_any, bytes_eq, and_assoc, Bor, or_else, is_one_of, SetFault, failing, here, are_distinct, set_rules}
+use Rattle.vms_rules.proofs.Facade.{size_rules, first_fault, and_swap, DescFault, IsFirst, structs_from, devices_from, key, by_key, has_name, with_name}
+use Rattle.vms_rules.proofs.Facade.{are_new_to}
 use Rattle.vms_spec.specs.declared.Part.TheVariants as parts
-use Rattle.vms_spec.specs.Lists.{or_else}
 use Rattle.vms_spec.specs.Sets as sets
-use Rattle.vms_spec.specs.Streams.{is_one_of}
-use Rattle.vms_spec.specs.WellFormed.{SetFault, failing, here, are_distinct, set_rules, size_rules, first_fault}
-use Rattle.vms_spec.proofs.ListLaws.{and_swap}
-use Rattle.vms_rules.specs.declared.fault.DescFault.{DescFault}
-use Rattle.vms_rules.specs.Judged.{IsFirst}
-use Rattle.vms_rules.specs.Walks.{structs_from, devices_from}
 use Rattle.vms_rules.proofs.WalkLaws.{first_stops, first_good, later_stops}
-use Rattle.vms_rules.specs.NameSets.{key, by_key, has_name, with_name, are_new_to}
 
 -- ---- distinct names
 

@@ -1,14 +1,7 @@
 -- The number of items of a set, with sums that are cut at 2 ^ 32 - 1.
-use Rattle.std.proofs.Common.{◌≡◌, ℕ, ◌+◌, List, ◌∷◌, length, map, refl, sym, ap, ◌∙◌, arith, []}
-use Rattle.std.specs.Prelude.{nat_le}
-use Rattle.std.proofs.lemmas.Bool.Decides.{nat_tests}
-use Rattle.vms_spec.specs.declared.TheConstants.{MOST_ITEMS}
+use Rattle.vms_rules.proofs.Facade.{◌≡◌, ℕ, ◌+◌, List, ◌∷◌, length, map, refl, sym, ap, ◌∙◌, arith, [], nat_le, nat_tests, MOST_ITEMS, items_in, struct_items}
+use Rattle.vms_rules.proofs.Facade.{subs_items, devices_items, Items, in_u32, fields_size, subs_size, sizes_to, capped_fields, capped_subs, items_are, items_to}
 use Rattle.vms_spec.specs.Sets as sets
-use Rattle.vms_spec.specs.WellFormed.{items_in, struct_items, subs_items, devices_items}
-use Rattle.vms_parts.specs.declared.sizes.Measure.TheVariants.{Items}
-use Rattle.vms_parts.specs.Sizes.{in_u32, fields_size, subs_size, sizes_to}
-use Rattle.vms_parts.proofs.SizeLaws.{capped_fields, capped_subs}
-use Rattle.vms_parts.proofs.ItemLaws.{items_are, items_to}
 
 -- ---- items by sizes
 

@@ -1,15 +1,7 @@
 -- Structures: their depths and their names.
-use Rattle.std.proofs.Common.{◌≡◌, ℕ, zero, suc, ◌+◌, ◌<◌, ◌≤◌, List, [], ◌∷◌, ◌++◌, length, get_or, map, ◌||◌, ap, ◌∙◌, arith, add-one}
-use Rattle.std.proofs.lemmas.List.{length-map}
-use Rattle.vms_kinds.specs.declared.Item.{Item}
-use Rattle.vms_kinds.specs.declared.Item.TheVariants.{Struct}
-use Rattle.vms_spec.specs.Layout.{first, no_desc}
+use Rattle.vms_rules.proofs.Facade.{◌≡◌, ℕ, zero, suc, ◌+◌, ◌<◌, ◌≤◌, List, [], ◌∷◌, ◌++◌, length, get_or, map, ap, ◌∙◌, arith, add-one, length-map, Item}
+use Rattle.vms_rules.proofs.Facade.{Struct, first, no_desc, item_depth, deepest, struct_depths, Desc, field_of, desc_of, get_map_at, first_long}
 use Rattle.vms_spec.specs.Sets as sets
-use Rattle.vms_spec.specs.WellFormed.{item_depth, deepest, struct_depths}
-use Rattle.vms_parts.specs.declared.types.Desc.{Desc}
-use Rattle.vms_parts.specs.Views.{field_of, desc_of}
-use Rattle.vms_parts.proofs.Items.{get_map_at}
-use Rattle.vms_spec.proofs.Tables.{first_long}
 
 -- ---- depths
 

@@ -1,14 +1,7 @@
 -- Walks over lists of places that have no fault so far.
-use Rattle.std.proofs.Common.{◌≡◌, ℕ, ◌+◌, ◌<◌, ◌≤◌, List, ◌∷◌, length, get_or, drop, map, Option, None, Result, sym, ap, ◌∙◌, add-one}
-use Rattle.std.specs.Result.{IsErrAnd}
-use Rattle.std.proofs.lemmas.Result.{err_from_is_err_and}
-use Rattle.std.proofs.lemmas.List.{drop_all, drop_more}
-use Rattle.vms_spec.specs.Lists.{or_else, first_answer}
-use Rattle.vms_spec.specs.WellFormed.{SetFault}
-use Rattle.vms_parts.proofs.Items.{drop_is}
-use Rattle.vms_rules.specs.declared.fault.DescFault.{DescFault}
-use Rattle.vms_rules.specs.declared.fault.DescFault.TheVariants.{IllFormed, NoMemory}
-use Rattle.vms_rules.specs.Judged.{IsFirst, Judges}
+use Rattle.vms_rules.proofs.Facade.{◌≡◌, ℕ, ◌+◌, ◌<◌, ◌≤◌, List, ◌∷◌, length, get_or, drop, map, Option, None, Result, sym, ap, ◌∙◌, add-one, IsErrAnd}
+use Rattle.vms_rules.proofs.Facade.{err_from_is_err_and, drop_all, drop_more, or_else, first_answer, SetFault, drop_is, DescFault, IllFormed, NoMemory, IsFirst}
+use Rattle.vms_rules.proofs.Facade.{Judges}
 
 -- ---- the exit of a `?`
 

@@ -61,8 +61,7 @@ digit_at b d base e f small char =
     record { small = omega (arith, is, small); char = sym (ap digit_char is ∙ char) }
 
 bounds : (low high b : ℕ) → (nat_le low b && nat_le b high) ≡ true → (low ≤ b) × (b ≤ high)
-bounds low high b e =
-    let parts = and_parts (nat_le low b) (nat_le b high) e in (leb-true low b parts.0, leb-true b high parts.1)
+bounds low high b e = let parts = and_parts (nat_le low b) (nat_le b high) e in (leb-true low b parts.0, leb-true b high parts.1)
 
 pub digit_is : (b d : ℕ) → digit_spelled b ≡ Some d → IsDigitOf b d
 digit_is b d e = by (is_digit b) (nat_le 97 b && nat_le b 102) refl refl where
@@ -77,8 +76,6 @@ digit_is b d e = by (is_digit b) (nat_le 97 b && nat_le b 102) refl refl where
       digit_at b d 87 e (digit_high b from to) (omega (arith, to)) (high_char (b - 87) (omega (arith, from)) ∙ back)
   by false false p q =
       let none : None ≡ Some d = sym (ap (λ (t : Bool). spelled_by t (nat_le 97 b && nat_le b 102) b) p ∙ ap (λ (t : Bool). spelled_by false t b) q) ∙ e in cc
-
--- ---- bytes and ports
 
 pub byte_back : (v : ℕ) → v < 256 → byte_spelled (byte_text v) ≡ Some v
 byte_back v h =

@@ -54,8 +54,6 @@ shelf_lacks name e =
     name_lacks name (and_parts (nat_le 1 (length name) && nat_le (length name) 64) (list_all is_name_byte name)
     (and_parts (is_name 64 name) (not (get_or name 0 46 == 46)) e).0).1
 
--- ---- numbers within a range
-
 early_small : (holds : ℕ → Bool) (n : ℕ) → EndsEarly holds → holds n ≡ true → n < 2 ^ 64
 early_small holds n early h = by (nat_lt n (2 ^ 64)) refl where
   by : (t : Bool) → nat_lt n (2 ^ 64) ≡ t → n < 2 ^ 64

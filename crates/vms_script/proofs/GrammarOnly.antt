@@ -22,8 +22,6 @@ use Rattle.vms_script.proofs.DigitLemmas.{byte_is, port_is}
 use Rattle.vms_script.proofs.GrammarLemmas.{spelled_read}
 use Rattle.vms_script.proofs.NumberLemmas.{EndsEarly, waits_end, wires_end, sets_end}
 
--- ---- choices
-
 choose : (t : Bool) (a b : Read) (line : ScriptLine) (C : Type 0) → (if t then a else b) ≡ Ok line → (t ≡ true → a ≡ Ok line → C) → (b ≡ Ok line → C) → C
 choose true a b line C e f g = f refl e
 choose false a b line C e f g = g e
@@ -41,8 +39,6 @@ ok_line line = Ok line
 
 ok_same : (a b : ScriptLine) → ok_line a ≡ ok_line b → a ≡ b
 ok_same a b e = cc
-
--- ---- numbers
 
 number_is : (holds : ℕ → Bool) (make : ℕ → ScriptLine) (text : List ℕ) (line : ScriptLine) (C : Type 0) → EndsEarly holds → number_in holds make text ≡ Ok line
     → ((n : ℕ) → holds n ≡ true → make n ≡ line → text ≡ decimal n → C) → C
@@ -70,8 +66,6 @@ level_is (b ∷ []) up e = by (b == 48) (b == 49) refl refl where
       ap (λ (c : ℕ). c ∷ []) (eqb-true b 49 q) ∙ ap level_text is
   by false false p q =
       let none : None ≡ Some up = sym (ap (λ (x : Bool). if x then Some false else (if b == 49 then Some true else None)) p ∙ ap (λ (x : Bool). if x then Some true else None) q) ∙ e in cc
-
--- ---- a line by its words
 
 abbrev rejoined : List ℕ × Option (List ℕ) → List ℕ
 rejoined (word, None) = word
@@ -122,8 +116,7 @@ out_is play (port, rest) line e =
     says_by play (codes "out " ++ rejoined (port, rest)) (Happens (events.Write p v)) line (ok_same (Happens (events.Write p v)) line is) (
       (q.small, w.small),
       ap (λ (o : Option (List ℕ)). codes "out " ++ rejoined (port, o)) r
-          ∙ ap (λ (x : List ℕ). codes "out " ++ (x ++ 32 ∷ value)) q.text_is
-          ∙ ap (λ (x : List ℕ). codes "out " ++ (port_text p ++ 32 ∷ x)) w.text_is,
+          ∙ ap (λ (x : List ℕ). codes "out " ++ (x ++ 32 ∷ value)) q.text_is ∙ ap (λ (x : List ℕ). codes "out " ++ (port_text p ++ 32 ∷ x)) w.text_is,
     ))))
 
 wire_line_is : (play : Option ℕ) (split : List ℕ × Option (List ℕ)) (line : ScriptLine) → wire_line split ≡ Ok line → Says play (codes "wire " ++ rejoined split) line
@@ -134,11 +127,8 @@ wire_line_is play (number, rest) line e =
     (λ n h is t. says_by play (codes "wire " ++ rejoined (number, rest)) (Happens (events.Wire n up)) line is (
       h,
       ap (λ (o : Option (List ℕ)). codes "wire " ++ rejoined (number, o)) r
-          ∙ ap (λ (x : List ℕ). codes "wire " ++ (x ++ 32 ∷ level)) t
-          ∙ ap (λ (x : List ℕ). codes "wire " ++ (decimal n ++ 32 ∷ x)) (level_is level up s),
+          ∙ ap (λ (x : List ℕ). codes "wire " ++ (x ++ 32 ∷ level)) t ∙ ap (λ (x : List ℕ). codes "wire " ++ (decimal n ++ 32 ∷ x)) (level_is level up s),
     ))))
-
--- ---- lines of a session
 
 named : (text name : List ℕ) → name_spelled text ≡ Some name → (is_shelf_name name ≡ true) × (text ≡ name)
 named text name e = by (is_shelf_name text) refl where
@@ -167,8 +157,7 @@ save_line_is level (word, rest) line e =
     says_by (Some level) (codes "save " ++ rejoined (word, rest)) (Saves n name) line is (
       (h, k.0),
       ap (λ (o : Option (List ℕ)). codes "save " ++ rejoined (word, o)) r
-          ∙ ap (λ (x : List ℕ). codes "save " ++ (x ++ 32 ∷ text)) (set_is word number w)
-          ∙ ap (λ (x : List ℕ). codes "save @" ++ (x ++ 32 ∷ text)) t
+          ∙ ap (λ (x : List ℕ). codes "save " ++ (x ++ 32 ∷ text)) (set_is word number w) ∙ ap (λ (x : List ℕ). codes "save @" ++ (x ++ 32 ∷ text)) t
           ∙ ap (λ (x : List ℕ). codes "save @" ++ (decimal n ++ 32 ∷ x)) k.1,
     )))))
 
@@ -176,8 +165,6 @@ restore_is : (level : ℕ) (rest : List ℕ) (line : ScriptLine) → restore_lin
 restore_is level rest line e =
     formed (name_spelled rest) (λ name. Ok (Restores name)) line (Says (Some level) (codes "restore " ++ rest) line) e
     (λ name s is. let k = named rest name s in says_by (Some level) (codes "restore " ++ rest) (Restores name) line (ok_same (Restores name) line is) (k.0, ap (λ (r : List ℕ). codes "restore " ++ r) k.1))
-
--- ---- any line
 
 -- a word that is known, before the rest
 with_word : (play : Option ℕ) (word known rest : List ℕ) (line : ScriptLine) → bytes_eq word known ≡ true → Says play (known ++ 32 ∷ rest) line → Says play (word ++ 32 ∷ rest) line
@@ -233,10 +220,7 @@ split_is play (word, None) line e =
 split_is play (word, Some rest) line e = words_are play word rest line e
 
 pub line_is : (play : Option ℕ) (text : List ℕ) (line : ScriptLine) → line_read play text ≡ Ok line → Says play text line
-line_is play text line e =
-    let h = split_is play (first_word text) line e in (h.0, word_split text ∙ h.1)
-
--- ---- a whole script
+line_is play text line e = let h = split_is play (first_word text) line e in (h.0, word_split text ∙ h.1)
 
 -- lines with their line feeds, and the rest after them
 abbrev pub unsplit : List (List ℕ) → List ℕ → List ℕ
@@ -294,8 +278,7 @@ lines_are play number (text ∷ texts) tail lines e =
 
 only_read : (play : Option ℕ) (text : List ℕ) (lines : List ScriptLine) → script_read play text ≡ Ok lines → AreLines play lines × (text ≡ script_text lines)
 unfolding script_read
-only_read play text lines e =
-    let h = lines_are play 1 (lines_of text).lines (lines_of text).tail lines e in (h.0, text_split text ∙ h.1)
+only_read play text lines e = let h = lines_are play 1 (lines_of text).lines (lines_of text).tail lines e in (h.0, text_split text ∙ h.1)
 
 pub reads_exactly : ReadsExactly
 reads_exactly = record { spelled = spelled_read; only = only_read }

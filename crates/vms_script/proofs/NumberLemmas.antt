@@ -14,14 +14,11 @@ use Rattle.vms_script.specs.Views.{number_read, below_2_64}
 use Rattle.vms_script.specs.declared.line.ScriptReason.{ScriptReason}
 use Rattle.vms_script.specs.declared.line.ScriptReason.TheVariants as reasons
 
--- ---- digits, one by one
-
 pub below_none : (n : ℕ) → below_2_64 n ≡ None → 2 ^ 64 ≤ n
 below_none n e = by (nat_lt n (2 ^ 64)) refl
   where
     by : (t : Bool) → nat_lt n (2 ^ 64) ≡ t → 2 ^ 64 ≤ n
-    by true q =
-        let f : Some n ≡ None = sym (ap (λ (t : Bool). if t then Some n else None) q) ∙ e in cc
+    by true q = let f : Some n ≡ None = sym (ap (λ (t : Bool). if t then Some n else None) q) ∙ e in cc
     by false q = ltb-false n (2 ^ 64) q
 
 pub none_below : (n : ℕ) → 2 ^ 64 ≤ n → None ≡ below_2_64 n
@@ -38,8 +35,7 @@ natural_stops value i d digits lt e inv =
     none_below (natural_from 0 digits) (omega (arith, up, is, over))
 
 pub natural_ends : (value i : ℕ) (digits : List ℕ) → length digits ≤ i → value < 2 ^ 64 → natural_from value (drop i digits) ≡ natural_from 0 digits → Some value ≡ below_2_64 (natural_from 0 digits)
-natural_ends value i digits le lt inv =
-    some_below value lt ∙ ap below_2_64 (sym (ap (natural_from value) (drop_all i digits le)) ∙ inv)
+natural_ends value i digits le lt inv = some_below value lt ∙ ap below_2_64 (sym (ap (natural_from value) (drop_all i digits le)) ∙ inv)
 
 -- ---- ranges that end below 2 ^ 64
 
@@ -53,8 +49,7 @@ number_fails holds line (Some (negsuc n)) reason early e = cc
 number_fails holds line (Some (pos n)) reason early e = by (nat_lt n (2 ^ 64)) refl
   where
     by : (t : Bool) → nat_lt n (2 ^ 64) ≡ t → or_form (Some (pos n)) (or_range holds line) ≡ Err reason
-    by true q =
-        let f : Ok n ≡ Err reason = sym (ap (λ (t : Bool). if t then Ok n else Err reasons.Range) q) ∙ e in cc
+    by true q = let f : Ok n ≡ Err reason = sym (ap (λ (t : Bool). if t then Ok n else Err reasons.Range) q) ∙ e in cc
     by false q =
         let f : Err reasons.Range ≡ Err reason = sym (ap (λ (t : Bool). if t then Ok n else Err reasons.Range) q) ∙ e in
         ap (λ (t : Bool). if t then Ok (line n) else Err reasons.Range) (early n (ltb-false n (2 ^ 64) q)) ∙ cc
@@ -70,8 +65,7 @@ number_holds holds line (Some (pos n)) v e = by (nat_lt n (2 ^ 64)) refl
         let f : Ok n ≡ Ok v = sym (ap (λ (t : Bool). if t then Ok n else Err reasons.Range) q) ∙ e in
         let g : n ≡ v = cc in
         ap (λ (m : ℕ). if holds m then Ok (line m) else Err reasons.Range) g
-    by false q =
-        let f : Err reasons.Range ≡ Ok v = sym (ap (λ (t : Bool). if t then Ok n else Err reasons.Range) q) ∙ e in cc
+    by false q = let f : Err reasons.Range ≡ Ok v = sym (ap (λ (t : Bool). if t then Ok n else Err reasons.Range) q) ∙ e in cc
 
 -- the same of the whole line
 pub in_good : (holds : ℕ → Bool) (line : ℕ → ScriptLine) (text : List ℕ) (v : ℕ) → Ok v ≡ number_read (number_spelled text) → true ≡ holds v → Ok (line v) ≡ number_in holds line text

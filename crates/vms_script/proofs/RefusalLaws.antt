@@ -30,8 +30,6 @@ lines_lack (b ∷ text) = by (b == 10) refl (lines_lack text) where
   by true e h = ((refl, h.0), h.1)
   by false e h = begun_lacks b (lines_of text).lines (lines_of text).tail e h.0 h.1
 
--- ---- the first line of the rest
-
 line_first : (line after : List ℕ) → lacks 10 line ≡ true → first_line (line ++ 10 ∷ after) ≡ Some (line, after)
 line_first [] after h = refl
 line_first (b ∷ line) after h =
@@ -45,8 +43,6 @@ no_first (b ∷ text) h =
     let parts = and_parts (not (b == 10)) (lacks 10 text) h in
     ap (λ (t : Bool). if t then Some ([], text) else longer_line b (first_line text)) (not-true (b == 10) parts.0)
     ∙ ap (longer_line b) (no_first text parts.1)
-
--- ---- refusals
 
 abbrev refused : BadLine → Reading
 refused fault = Err fault

@@ -6,8 +6,6 @@ use Rattle.vms_script.specs.Lines.{Happens, Saves, Restores, line_read}
 use Rattle.vms_script.specs.Script.{bad, script_read}
 use Rattle.vms_script.specs.declared.line.ScriptReason.TheVariants as reasons
 
--- ---- whole scripts
-
 record WholeScripts : Type 0 where
   reads_two_lines : script_read None (codes "out 0020 19\nwire 3 1\n") ≡ Ok (Happens (events.Write 0x20 0x19) ∷ Happens (events.Wire 3 true) ∷ [])
   refuses_a_line_without_its_end : script_read None (codes "ack") ≡ bad 1 reasons.NoEnd
@@ -27,8 +25,6 @@ whole_scripts = record {
   answers_the_lowest_reason = refl;
 }
 
--- ---- lines
-
 reads_a_port : line_read None (codes "in 03fd") ≡ Ok (Happens (events.Read 0x3fd))
 reads_a_port = refl
 
@@ -40,8 +36,6 @@ reads_an_acknowledge = refl
 
 reads_the_longest_wait : line_read None (codes "wait 1000000000000000") ≡ Ok (Happens (events.Wait 1000000000000000))
 reads_the_longest_wait = refl
-
--- ---- lines of a session
 
 reads_a_save : line_read (Some 2) (codes "save @4 s.1") ≡ Ok (Saves 4 (codes "s.1"))
 reads_a_save = refl

@@ -43,8 +43,6 @@ text_last : (play : Option ℕ) (number : ℕ) (text : List ℕ) → first_line 
 text_last play number text e =
     ap (read_split play number) (lines_first text) ∙ ap (λ (o : Option (List ℕ × List ℕ)). read_split play number (by_first o text)) e
 
--- ---- what was read before
-
 abbrev pub after_lines : List ScriptLine → Reading → Reading
 after_lines before (Ok lines) = Ok (before ++ lines)
 after_lines before (Err fault) = Err fault
@@ -65,8 +63,7 @@ line_goes before play number text line after said first good =
 pub line_stops : (before : List ScriptLine) (play : Option ℕ) (number : ℕ) (text line after : List ℕ) (reason : ScriptReason) → first_line text ≡ Some (line, after) → line_read play line ≡ Err reason
     → after_lines before (text_read play number text) ≡ bad number reason
 line_stops before play number text line after reason first is =
-    ap (after_lines before) (text_first play number text line after first
-    ∙ ap (λ (r : Read). with_line number r (text_read play (number + 1) after)) is)
+    ap (after_lines before) (text_first play number text line after first ∙ ap (λ (r : Read). with_line number r (text_read play (number + 1) after)) is)
 
 -- the end of the text, or a last line without its end
 pub text_ends : (before : List ScriptLine) (play : Option ℕ) (number : ℕ) (text : List ℕ) → first_line text ≡ None → length text ≡ 0 → after_lines before (text_read play number text) ≡ Ok before
@@ -87,8 +84,6 @@ tail_stops before play number [] first some = absurd (omega arith)
 tail_stops before play number (b ∷ text) first some =
     ap (after_lines before) (text_last play number (b ∷ text) first) ∙ unended_is before number (line_read play (b ∷ text))
 
--- ---- answers
-
 pub reads_lines : (reading : Reading) (lines : List ScriptLine) → reading ≡ Ok lines → SaysLines reading lines
 reads_lines reading lines e = subst (λ (r : Reading). SaysLines r lines) (sym e) refl
 
@@ -101,8 +96,7 @@ pub line_put : (before : List ScriptLine) (play : Option ℕ) (number : ℕ) (te
 line_put before play number text line after all first put = by (line_read play line) refl put where
   by : (read : Read) → line_read play line ≡ read → IsPut read before all → after_lines all (text_read play (number + 1) after) ≡ after_lines before (text_read play number text)
   by (Ok said) good h =
-      ap (λ (lines : List ScriptLine). after_lines lines (text_read play (number + 1) after)) h
-      ∙ line_goes before play number text line after said first good
+      ap (λ (lines : List ScriptLine). after_lines lines (text_read play (number + 1) after)) h ∙ line_goes before play number text line after said first good
   by (Err reason) bad h = absurd h
 
 -- a last line that says something lacks only its end

@@ -66,5 +66,4 @@ words_long (b ∷ xs) rest some = omega arith
 
 -- what a line of one word that isn't `ack` says
 pub other_says : (play : Option ℕ) (xs : List ℕ) → bytes_eq xs (codes "ack") ≡ false → (first_word xs).1 ≡ None → line_read play xs ≡ Err reasons.Form
-other_says play xs other none =
-    ap (line_split play) (lone_word xs none) ∙ ap (λ (t : Bool). if t then Ok (Happens Ack) else Err reasons.Form) other
+other_says play xs other none = ap (line_split play) (lone_word xs none) ∙ ap (λ (t : Bool). if t then Ok (Happens Ack) else Err reasons.Form) other

@@ -12,11 +12,8 @@ abbrev pub number : Kind → List ℕ → Field
 number kind name = record { name = name; former = []; item = Num kind; count = One; since = 0; test = None; default = pos 0 }
 
 abbrev pub box : ℕ → List Field → List Formula → List Sub → Device
-box version fields validate subs = record {
-  instance = 0;
-  desc = record { name = codes "box"; version = version; minimum = 1; fields = fields; validate = validate };
-  subs = subs;
-}
+box version fields validate subs =
+    record { instance = 0; desc = record { name = codes "box"; version = version; minimum = 1; fields = fields; validate = validate }; subs = subs }
 
 abbrev pub box_set : List Field → List Formula → List Sub → Set
 box_set fields validate subs = record { machines = codes "lab" ∷ []; structs = []; devices = box 1 fields validate subs ∷ [] }
@@ -73,8 +70,7 @@ mixed_set = record {
       ∷ record (number U8 (codes "ps")) { item = Struct 0; count = Counted 0 3 }
       ∷ number Truth (codes "flag")
       ∷ record (number U16 (codes "t")) { test = Some (And (Cell Own 2 1 Eq 1) (AtLeast 2)); since = 7 }
-      ∷ record (number I8 (codes "w")) { since = 2; default = negsuc 2 } ∷ [])
-      (Cell Own 0 255 Lt 3 ∷ [])
+      ∷ record (number I8 (codes "w")) { since = 2; default = negsuc 2 } ∷ []) (Cell Own 0 255 Lt 3 ∷ [])
       (record {
         desc = record {
           name = codes "box/s";

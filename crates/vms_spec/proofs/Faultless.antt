@@ -19,15 +19,9 @@ or_else_none None y e = (refl, e)
 -- the element at a number is tested with that number
 pub answers_none : {X Y : Type 0} (f : ℕ → X → Option Y) (i : ℕ) (xs : List X) → first_answer f i xs ≡ None → (j : ℕ) (x : X) → slice_get xs j ≡ Some x → f (i + j) x ≡ None
 answers_none f i [] e j x h = cc
-answers_none f i (y ∷ xs) e zero x h =
-    let p = or_else_none (f i y) (first_answer f (suc i) xs) e in
-    let same : y ≡ x = cc in
-    let plus : i + 0 ≡ i = omega arith in
-    ap (λ (k : ℕ). f k x) plus ∙ ap (f i) (sym same) ∙ p.0
+answers_none f i (y ∷ xs) e zero x h = ap (λ k. f k x) (omega arith) ∙ ap (f i) (sym cc) ∙ (or_else_none (f i y) (first_answer f (suc i) xs) e).0
 answers_none f i (y ∷ xs) e (suc j) x h =
-    let p = or_else_none (f i y) (first_answer f (suc i) xs) e in
-    let plus : i + suc j ≡ suc i + j = omega arith in
-    ap (λ (k : ℕ). f k x) plus ∙ answers_none f (suc i) xs p.1 j x h
+    ap (λ k. f k x) (omega arith) ∙ answers_none f (suc i) xs (or_else_none (f i y) (first_answer f (suc i) xs) e).1 j x h
 
 -- ---- rules
 

@@ -18,27 +18,11 @@ read_back w x h = ap (big_from 0 w) (sym (append-nil (big_bytes w x))) ∙ big_n
 pub length-code : (kind : Kind) (z : ℤ) → length (code kind z) ≡ width kind
 unfolding code
 length-code U8 z = refl
-length-code U16 z = refl
-length-code U32 z = refl
-length-code U64 z = refl
-length-code I8 z = refl
-length-code I16 z = refl
-length-code I32 z = refl
-length-code I64 z = refl
-length-code Bool z = refl
-length-code Timer z = refl
+length-code _ z = refl
 
 pub width_small : (kind : Kind) → width kind ≤ MOST_UNUSED
 width_small U8 = omega arith
-width_small U16 = omega arith
-width_small U32 = omega arith
-width_small U64 = omega arith
-width_small I8 = omega arith
-width_small I16 = omega arith
-width_small I32 = omega arith
-width_small I64 = omega arith
-width_small Bool = omega arith
-width_small Timer = omega arith
+width_small _ = omega arith
 
 -- ---- numbers by their bytes
 
@@ -61,12 +45,6 @@ value_code U32 (pos n) h = ap pos (code_read U32 (pos n) ∙ omega (arith, ints)
 value_code U64 (pos n) h = ap pos (code_read U64 (pos n) ∙ omega (arith, ints))
 value_code Bool (pos n) h = ap pos (code_read Bool (pos n) ∙ omega (arith, ints))
 value_code Timer (pos n) h = ap pos (code_read Timer (pos n) ∙ omega (arith, ints))
-value_code U8 (negsuc n) h = absurd (omega (arith, ints))
-value_code U16 (negsuc n) h = absurd (omega (arith, ints))
-value_code U32 (negsuc n) h = absurd (omega (arith, ints))
-value_code U64 (negsuc n) h = absurd (omega (arith, ints))
-value_code Bool (negsuc n) h = absurd (omega (arith, ints))
-value_code Timer (negsuc n) h = absurd (omega (arith, ints))
 value_code I8 (pos n) h = ap (twos_complement 1) (code_read I8 (pos n)) ∙ grind (arith, ints)
 value_code I8 (negsuc n) h = ap (twos_complement 1) (code_read I8 (negsuc n)) ∙ grind (arith, ints)
 value_code I16 (pos n) h = ap (twos_complement 2) (code_read I16 (pos n)) ∙ grind (arith, ints)
@@ -75,20 +53,13 @@ value_code I32 (pos n) h = ap (twos_complement 4) (code_read I32 (pos n)) ∙ gr
 value_code I32 (negsuc n) h = ap (twos_complement 4) (code_read I32 (negsuc n)) ∙ grind (arith, ints)
 value_code I64 (pos n) h = ap (twos_complement 8) (code_read I64 (pos n)) ∙ grind (arith, ints)
 value_code I64 (negsuc n) h = ap (twos_complement 8) (code_read I64 (negsuc n)) ∙ grind (arith, ints)
+value_code _ (negsuc n) h = absurd (omega (arith, ints))
 
 pub good_code : (kind : Kind) (z : ℤ) → InRange kind z → is_bad_bool kind (code kind z) ≡ false
 unfolding code
-good_code U8 z h = refl
-good_code U16 z h = refl
-good_code U32 z h = refl
-good_code U64 z h = refl
-good_code I8 z h = refl
-good_code I16 z h = refl
-good_code I32 z h = refl
-good_code I64 z h = refl
-good_code Timer z h = refl
 good_code Bool (pos n) h = let e = read_back 1 (n % 256) (omega arith) in le-ltb 1 (big_number 1 (big_bytes 1 (n % 256))) (omega (arith, ints))
-good_code Bool (negsuc n) h = absurd (omega (arith, ints))
+good_code Bool (negsuc n) h = absurd (omega arith)
+good_code _ z h = refl
 
 pub be32_read : (n : ℕ) (rest : List ℕ) → n < 2 ^ 32 → big_number 4 (be32 n ++ rest) ≡ n
 be32_read n rest h = big_number-reads_back 4 n rest (omega arith)

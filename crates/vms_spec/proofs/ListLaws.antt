@@ -25,7 +25,7 @@ or_second true b e f = cc
 or_second false b e f = e
 
 pub or_turned : (a b c : Bool) → (a || (b || c)) ≡ ((b || a) || c)
-or_turned a b c = sym (or_assoc a b c) ∙ ap (λ (t : Bool). t || c) (or_comm a b)
+or_turned a b c = sym (or_assoc a b c) ∙ ap (λ t. t || c) (or_comm a b)
 
 pub and_swap : (a b c d : Bool) → ((a && b) && (c && d)) ≡ ((a && c) && (b && d))
 and_swap false b c d = refl
@@ -42,9 +42,7 @@ both_below n a b = same_tests (nat_le n (min a b)) (nat_le n a && nat_le n b) fo
     back : (nat_le n a && nat_le n b) ≡ true → nat_le n (min a b) ≡ true
     back e =
         let p = and_parts (nat_le n a) (nat_le n b) e in
-        let l : n ≤ a = leb-true n a p.0 in
-        let m : n ≤ b = leb-true n b p.1 in
-        le-leb n (min a b) (omega arith)
+        le-leb n (min a b) (omega (arith, leb-true n b p.1, leb-true n a p.0))
 
 pub either_of : {C : Type 0} (a b : Bool) → (a || b) ≡ true → (a ≡ true → C) → (b ≡ true → C) → C
 either_of true b e f g = f refl
@@ -54,7 +52,7 @@ either_of false b e f g = g e
 
 -- the first of a list, if it is taken
 pub pick_append : {B : Type 0} (b : Bool) (x : B) (xs ys zs : List B) → xs ≡ ys ++ zs → (if b then x ∷ xs else xs) ≡ (if b then x ∷ ys else ys) ++ zs
-pick_append true x xs ys zs e = ap (λ l. x ∷ l) e
+pick_append true x xs ys zs e = rw e
 pick_append false x xs ys zs e = e
 
 pub all_right : (P : ℕ → Type 0) (xs ys : List ℕ) → AllByRecursion P (xs ++ ys) → AllByRecursion P ys
@@ -62,7 +60,7 @@ all_right P [] ys h = h
 all_right P (x ∷ xs) ys h = all_right P xs ys h.1
 
 pub both_none : {X : Type 0} (x y : Option X) → x ≡ None → y ≡ None → or_else x y ≡ None
-both_none x y e f = ap (λ o. or_else o y) e ∙ f
+both_none x y e f = rw e (f)
 
 pub drop_on : {A : Type 0} (all : List A) (at : ℕ) (xs ys : List A) → drop at all ≡ xs ++ ys → drop (at + length xs) all ≡ ys
 drop_on all at xs ys e = sym (drop-drop (length xs) at all) ∙ ap (λ l. drop (length xs) l) e ∙ drop-append_seam xs ys
@@ -74,26 +72,24 @@ found_inside p i (x ∷ xs) k e = by (λ h. found_inside p (suc i) xs k h) (p x)
   where
     by : (position p (suc i) xs ≡ Some k → (suc i ≤ k) × (k - suc i < length xs)) → (t : Bool) → (if t then Some i else position p (suc i) xs) ≡ Some k → (i ≤ k) × (k - i < suc (length xs))
     by rest true e = let same : i ≡ k = cc in (omega arith, omega arith)
-    by rest false e = let h = rest e in (omega (arith, h.0), omega (arith, h.0, h.1))
+    by rest false e = let h = rest e in (omega arith, omega arith)
 
 pub one_of_both : (xs ys : List (List ℕ)) (n : List ℕ) → is_one_of (xs ++ ys) n ≡ (is_one_of xs n || is_one_of ys n)
 one_of_both [] ys n = refl
-one_of_both (x ∷ xs) ys n = ap (λ (b : Bool). bytes_eq x n || b) (one_of_both xs ys n) ∙ sym (or_assoc (bytes_eq x n) (is_one_of xs n) (is_one_of ys n))
+one_of_both (x ∷ xs) ys n = rw (one_of_both xs ys n) (sym (or_assoc (bytes_eq x n) (is_one_of xs n) (is_one_of ys n)))
 
 -- ---- lists of a stream and of an image
 
 pub none_left : (came : List Bool) (k : ℕ) → AllCame came → slice_get came k ≡ Some false → ⊥
-none_left [] k all e = cc
-none_left (true ∷ came) zero all e = cc
 none_left (true ∷ came) (suc k) all e = none_left came k all e
 none_left (false ∷ came) k all e = absurd all
+none_left _ _ all e = cc
 
 pub versions_long : (subs : List Sub) (came : List (Option ℕ)) → AreVersionsOf subs came → length came ≡ length subs
 versions_long [] [] h = refl
-versions_long [] (o ∷ came) h = absurd h
-versions_long (s ∷ subs) [] h = absurd h
 versions_long (s ∷ subs) (None ∷ came) h = ap suc (versions_long subs came h)
 versions_long (s ∷ subs) (Some v ∷ came) h = ap suc (versions_long subs came h.1)
+versions_long _ _ h = absurd h
 
 -- a number doesn't shrink if digits are added
 pub natural_up : (n : ℕ) (bs : List ℕ) → n ≤ natural_from n bs
@@ -104,8 +100,7 @@ natural_up n (b ∷ bs) = omega (arith, natural_up (n * 10 + (b - 48)) bs)
 pub found_one : (names : List (List ℕ)) (i : ℕ) (name one : List ℕ) → i < length names → one ≡ get_or names i one → bytes_eq one name ≡ true → is_one_of (drop i names) name ≡ is_one_of names name
     → (is_one_of names name ≡ true) × (get_or names i [] ≡ name)
 found_one names i name one lt is same inv = (
-  sym inv ∙ ap (λ (l : List (List ℕ)). is_one_of l name) (drop_more names i one lt)
-      ∙ ap (λ (l : List ℕ). bytes_eq l name || is_one_of (drop (i + 1) names) name) (sym is)
-      ∙ ap (λ (t : Bool). t || is_one_of (drop (i + 1) names) name) same,
+  sym inv ∙ ap (λ l. is_one_of l name) (drop_more names i one lt)
+      ∙ ap (λ l. bytes_eq l name || is_one_of (drop (i + 1) names) name) (sym is) ∙ ap (λ t. t || is_one_of (drop (i + 1) names) name) same,
   sym (get_or_read names i one lt is []) ∙ (bytes_eq-Decides one name).0 same,
 )

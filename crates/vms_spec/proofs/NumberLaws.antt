@@ -12,12 +12,11 @@ same_number_itself (negsuc n) = eq-eqb n n refl
 pub same_number_is : (a b : ℤ) → same_number a b ≡ true → a ≡ b
 same_number_is (pos a) (pos b) e = ap pos (eqb-true a b e)
 same_number_is (negsuc a) (negsuc b) e = ap negsuc (eqb-true a b e)
-same_number_is (pos a) (negsuc b) e = cc
-same_number_is (negsuc a) (pos b) e = cc
+same_number_is _ _ e = cc
 
 pub not_above : (z : ℤ) (most : ℕ) → is_above z most ≡ false → z ≤ℤ pos most
 not_above (pos n) most e = let h = ltb-false most n e in omega (arith, ints)
-not_above (negsuc n) most e = omega (arith, ints)
+not_above (negsuc n) most e = omega arith
 
 pub is_below : (z : ℤ) (most : ℕ) → z ≤ℤ pos most → is_above z most ≡ false
 is_below (pos n) most h = le-ltb most n (omega (arith, ints))
@@ -29,4 +28,4 @@ within_all (most ∷ caps) z e = let h = or_parts (is_above z most) (exceeds cap
 
 pub not_exceeds : (caps : List ℕ) (z : ℤ) → AllByRecursion (λ most. z ≤ℤ pos most) caps → exceeds caps z ≡ false
 not_exceeds [] z h = refl
-not_exceeds (most ∷ caps) z h = ap (λ (b : Bool). b || exceeds caps z) (is_below z most h.0) ∙ not_exceeds caps z h.1
+not_exceeds (most ∷ caps) z h = rw (is_below z most h.0) (not_exceeds caps z h.1)

@@ -26,7 +26,7 @@ is_fit set = is_none (first_fault set) && list_all device_fits set.devices
 
 pub each : {X : Type 0} (p : X → Bool) (xs : List X) (k : ℕ) (x : X) → list_all p xs ≡ true → slice_get xs k ≡ Some x → p x ≡ true
 each p [] k x all e = cc
-each p (y ∷ xs) zero x all e = let same : y ≡ x = cc in subst (λ x. p x ≡ true) same (and_parts (p y) (list_all p xs) all).0
+each p (y ∷ xs) zero x all e = let same : y ≡ x = cc in rw same at (and_parts (p y) (list_all p xs) all).0
 each p (y ∷ xs) (suc k) x all e = each p xs k x (and_parts (p y) (list_all p xs) all).1 e
 
 word : (n : ℕ) → is_word n ≡ true → n < 2 ^ 32

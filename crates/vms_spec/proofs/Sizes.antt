@@ -11,19 +11,15 @@ use Rattle.vms_spec.specs.Layout.{Cell, field_cells, item_cells, item_size, capa
 pub length-times : {B : Type 0} (n : ℕ) (xs : List B) (at step : ℕ) → length (times n (λ _. xs) at step) ≡ n * length xs
 length-times zero xs at step = omega arith
 length-times (suc n) xs at step =
-    let e : length (times n (λ _. xs) (at + step) step) ≡ n * length xs = length-times n xs (at + step) step in
-    let f : suc n * length xs ≡ length xs + n * length xs = grind arith in
-    length-append xs (times n (λ _. xs) (at + step) step) ∙ ap (λ (k : ℕ). length xs + k) e ∙ sym f
+    length-append xs (times n (λ _. xs) (at + step) step) ∙ ap (λ k. length xs + k) (length-times n xs (at + step) step) ∙ sym (grind arith)
 
 pub size_same : (cs : List (List Cell)) (item : Item) (caps : List ℕ) (z : ℤ) → length (item_cells cs item caps z) ≡ item_size cs item
 size_same cs (Num kind) caps z = refl
-size_same cs (Equal kind y) caps z = refl
-size_same cs (Unused n) caps z = refl
-size_same cs (Struct j) caps z = refl
+size_same cs _ caps z = refl
 
 pub field_size : (cs : List (List Cell)) (fields : List Field) (i : ℕ) (f : Field) → length (field_cells cs fields i f) ≡ capacity_of f.count * item_size cs f.item
 field_size cs fields i f =
-    length-times (capacity_of f.count) (item_cells cs f.item (counted i fields) f.default) 0 0 ∙ ap (λ (k : ℕ). capacity_of f.count * k) (size_same cs f.item (counted i fields) f.default)
+    length-times (capacity_of f.count) (item_cells cs f.item (counted i fields) f.default) 0 0 ∙ ap (λ k. capacity_of f.count * k) (size_same cs f.item (counted i fields) f.default)
 
 pub elements_fit : (c : Count) (own : ℕ → ℕ) → elements_of c own ≤ capacity_of c
 elements_fit One own = omega arith

@@ -8,9 +8,7 @@ use Rattle.vms_spec.specs.Layout.{first, no_desc}
 pub first_long : {B : Type 0} (f : List B → Desc → B) (ds : List Desc) (k : ℕ) → length (first f ds k) ≡ k
 unfolding first
 first_long f ds zero = refl
-first_long f ds (suc k) =
-    let e = first_long f ds k in
-    length-append (first f ds k) (f (first f ds k) (get_or ds k no_desc) ∷ []) ∙ omega (arith, e)
+first_long f ds (suc k) = length-append (first f ds k) (f (first f ds k) (get_or ds k no_desc) ∷ []) ∙ omega (arith, first_long f ds k)
 
 pub last_is : {B : Type 0} (xs : List B) (x d : B) (k : ℕ) → length xs ≡ k → get_or (xs ++ x ∷ []) k d ≡ x
 last_is [] x d zero e = refl
@@ -25,11 +23,9 @@ at_step f ds d k j lt earlier true e =
     let long = first_long f ds k in
     get_or_append_left (first f ds k) (f (first f ds k) (get_or ds k no_desc) ∷ []) d j (omega (arith, long)) ∙ earlier l
 at_step f ds d k j lt earlier false e =
-    let le : k ≤ j = ltb-false j k e in
-    let same : k ≡ j = omega arith in
-    ap (λ (i : ℕ). get_or (first f ds k ++ f (first f ds k) (get_or ds k no_desc) ∷ []) i d) (sym same)
-    ∙ last_is (first f ds k) (f (first f ds k) (get_or ds k no_desc)) d k (first_long f ds k)
-    ∙ ap (λ (i : ℕ). f (first f ds i) (get_or ds i no_desc)) same
+    let same : k ≡ j = omega (arith, ltb-false j k e) in
+    ap (λ i. get_or (first f ds k ++ f (first f ds k) (get_or ds k no_desc) ∷ []) i d) (sym same)
+    ∙ last_is (first f ds k) (f (first f ds k) (get_or ds k no_desc)) d k (first_long f ds k) ∙ ap (λ i. f (first f ds i) (get_or ds i no_desc)) same
 
 -- a property of each element of a list and of one more
 pub one_more : {A : Type 0} (P : A → Type 0) (a0 : A) → P a0 → (xs : List A) → ((j : ℕ) → P (get_or xs j a0)) → (a : A) → P a → (j : ℕ) → P (get_or (xs ++ a ∷ []) j a0)
@@ -50,4 +46,4 @@ first_take {B = B} f ds j zero le = refl
 first_take {B = B} f ds j (suc k) le =
     let e : first f (take j ds) k ≡ first f ds k = first_take f ds j k (omega arith) in
     let h : get_or (take j ds) k no_desc ≡ get_or ds k no_desc = get_or-take j ds k no_desc (omega arith) in
-    ap (λ (l : List B). l ++ f l (get_or (take j ds) k no_desc) ∷ []) e ∙ ap (λ (x : Desc). first f ds k ++ f (first f ds k) x ∷ []) h
+    rw (e, h)

@@ -50,7 +50,7 @@ clean k d part rules e =
     field_clean : (i : ℕ) (f : Field) → slice_get d.fields i ≡ Some f → fields_fault k d part ≡ None → failing 1 (field_rules k d i f) (in_field part i) ≡ None
     field_clean i f h e =
         let plus : 0 + i ≡ i = omega arith in
-        subst (λ (i : ℕ). failing 1 (field_rules k d i f) (in_field part i) ≡ None) plus (answers_none (λ i f. failing 1 (field_rules k d i f) (in_field part i)) 0 d.fields e i f h)
+        rw plus at (answers_none (λ i f. failing 1 (field_rules k d i f) (in_field part i)) 0 d.fields e i f h)
 
 -- ---- tests and counts name earlier single numbers
 
@@ -66,14 +66,11 @@ get_none (y ∷ xs) (suc i) d e = get_none xs i d e
 
 is_number : (item : Item) → is_num item ≡ true → IsNumber item
 is_number (Num kind) e = tt
-is_number (Equal kind z) e = cc
-is_number (Unused n) e = cc
-is_number (Struct j) e = cc
+is_number _ e = cc
 
 is_single : (c : Count) → is_one c ≡ true → IsOne c
 is_single One e = tt
-is_single (Fixed n) e = cc
-is_single (Counted by most) e = cc
+is_single _ e = cc
 
 pub untested : (t : Option Formula) → has_no_test t ≡ true → t ≡ None
 untested None e = refl
@@ -86,19 +83,16 @@ earlier d k j lt e = go (slice_get d.fields j) refl e
     go None h e = cc
     go (Some f) h e =
         let a = and_parts (is_num f.item && is_one f.count && has_no_test f.test) (nat_le f.since d.minimum) e in
-        let b = and_parts (is_num f.item && is_one f.count) (has_no_test f.test) a.0 in
-        let c = and_parts (is_num f.item) (is_one f.count) b.0 in
+        let c = and_parts (is_num f.item) (is_one f.count) (and_parts (is_num f.item && is_one f.count) (has_no_test f.test) a.0).0 in
         let g : f ≡ get_or d.fields j no_field = sym (get_or_from_slice_get d.fields j f no_field h) in
         record {
           earlier = lt;
           there = slice_get_within d.fields j f h;
-          number = subst (λ (f : Field). IsNumber f.item) g (is_number f.item c.0);
-          one = subst (λ (f : Field). IsOne f.count) g (is_single f.count c.1);
+          number = rw g at (is_number f.item c.0);
+          one = rw g at (is_single f.count c.1);
         }
 
 names_earlier : (fields : List Field) (k : ℕ) (own : ℕ → Bool) → ((j : ℕ) → own j ≡ true → IsEarlier fields k j) → (t : Formula) → names_well own nobody t ≡ true → NamesEarlier fields k t
-names_earlier fields k own h (AtLeast n) e = tt
-names_earlier fields k own h (Below n) e = tt
 names_earlier fields k own h (Cell Own j mask rel value) e = h j e
 names_earlier fields k own h (Cell Parent j mask rel value) e = cc
 names_earlier fields k own h (Not t) e = names_earlier fields k own h t e
@@ -108,6 +102,7 @@ names_earlier fields k own h (And s t) e =
 names_earlier fields k own h (Or s t) e =
     let p = and_parts (names_well own nobody s) (names_well own nobody t) e in
     (names_earlier fields k own h s p.0, names_earlier fields k own h t p.1)
+names_earlier fields k own h _ e = tt
 
 earlier_in : (d : Desc) (k j : ℕ) → is_earlier_in d k j ≡ true → IsEarlier d.fields k j
 earlier_in d k j e = let p = and_parts (nat_lt j k) (is_steady_in d j) e in earlier d k j (ltb-true j k p.0) p.1
@@ -117,18 +112,16 @@ sound_test d k None e = tt
 sound_test d k (Some t) e = names_earlier d.fields k (is_earlier_in d k) (λ j h. earlier_in d k j h) t e
 
 sound_count : (d : Desc) (k : ℕ) (c : Count) → count_names_well d k c ≡ true → IsSoundCount d.fields k c
-sound_count d k One e = tt
-sound_count d k (Fixed n) e = tt
 sound_count d k (Counted by most) e = earlier_in d k by (and_parts (is_earlier_in d k by) (is_counting (slice_get d.fields by)) e).0
+sound_count d k _ e = tt
 
 sound_fields : (fields : List Field) (i : ℕ) (fs : List Field) → ((j : ℕ) (f : Field) → slice_get fs j ≡ Some f → IsSoundField fields (i + j) f) → AreSoundFields fields i fs
 sound_fields fields i [] h = tt
 sound_fields fields i (f ∷ fs) h =
-    let plus : i + 0 ≡ i = omega arith in
-    (subst (λ (k : ℕ). IsSoundField fields k f) plus (h 0 f refl), sound_fields fields (suc i) fs (λ j g e. next j g (h (suc j) g e)))
+    (subst (λ (k : ℕ). IsSoundField fields k f) (omega arith) (h 0 f refl), sound_fields fields (suc i) fs (λ j g e. next j g (h (suc j) g e)))
   where
     next : (j : ℕ) (g : Field) → IsSoundField fields (i + suc j) g → IsSoundField fields (suc i + j) g
-    next j g s = let plus : i + suc j ≡ suc i + j = omega arith in subst (λ (k : ℕ). IsSoundField fields k g) plus s
+    next j g s = let plus : i + suc j ≡ suc i + j = omega arith in rw plus at s
 
 sound_validations : (fields : List Field) (ts : List Formula) → ((i : ℕ) (t : Formula) → slice_get ts i ≡ Some t → NamesEarlier fields (length fields) t) → AllByRecursion (NamesEarlier fields (length fields)) ts
 sound_validations fields [] h = tt
@@ -146,7 +139,7 @@ sound k d rules c = record {
       record { test = sound_test d j f.test p.0; count = sound_count d j f.count p.1 }
 
   at_zero : (j : ℕ) (f : Field) → IsSoundField d.fields j f → IsSoundField d.fields (0 + j) f
-  at_zero j f s = let plus : j ≡ 0 + j = omega arith in subst (λ (k : ℕ). IsSoundField d.fields k f) plus s
+  at_zero j f s = let plus : j ≡ 0 + j = omega arith in rw plus at s
 
   inside : (j : ℕ) → is_steady_in d j ≡ true → j < length d.fields
   inside j h = by_field (slice_get d.fields j) refl h
@@ -171,10 +164,8 @@ within [] z e = tt
 within (m ∷ caps) z e = let p = and_parts (int_le z (pos m)) (counts_well caps z) e in (int_below z (pos m) p.0, within caps z p.1)
 
 constant_fits : (item : Item) (z : ℤ) → defaults_well item z ≡ true → ConstantFits item
-constant_fits (Num kind) z e = tt
 constant_fits (Equal kind y) z e = ranges kind y (and_parts (in_range kind y) _ e).0
-constant_fits (Unused n) z e = tt
-constant_fits (Struct j) z e = tt
+constant_fits _ z e = tt
 
 constants_fit : (fs : List Field) → ((i : ℕ) (f : Field) → slice_get fs i ≡ Some f → ConstantFits f.item) → ConstantsFit fs
 constants_fit [] h = tt
@@ -198,9 +189,8 @@ AllFit structs = (j : ℕ) → Fit (get_or structs j [])
 
 fit_item : (structs : List (List OneCell)) → AllFit structs → (item : Item) (caps : List ℕ) (z : ℤ) → defaults_well item z ≡ true → counts_well caps z ≡ true → Fit (item_cells structs item caps z)
 fit_item structs all (Num kind) caps z e f = ((ranges kind z e, within caps z f), tt)
-fit_item structs all (Equal kind y) caps z e f = tt
-fit_item structs all (Unused n) caps z e f = tt
 fit_item structs all (Struct j) caps z e f = all j
+fit_item structs all _ caps z e f = tt
 
 -- the rule about defaults at each field of a description from field i on
 record FieldsFit (fields : List Field) (i : ℕ) (fs : List Field) : Type 0 where
@@ -210,16 +200,15 @@ fit_fields : (structs : List (List OneCell)) → AllFit structs → (fields : Li
 fit_fields structs all fields i [] h = tt
 fit_fields structs all fields i (f ∷ fs) h =
     let a = h.fit 0 f refl in
-    let plus : i + 0 ≡ i = omega arith in
     let caps = counted i fields in
-    let counts : counts_well caps f.default ≡ true = subst (λ (k : ℕ). counts_well (counted k fields) f.default ≡ true) plus a.1 in
+    let counts : counts_well caps f.default ≡ true = subst (λ (k : ℕ). counts_well (counted k fields) f.default ≡ true) (omega arith) a.1 in
     fit_append (field_cells structs fields i f) (cells_from structs fields (suc i) fs)
     (fit_times (capacity_of f.count) (item_cells structs f.item caps f.default) 0 0 (fit_item structs all f.item caps f.default a.0 counts))
     (fit_fields structs all fields (suc i) fs (record { fit = λ j g e. next j g (h.fit (suc j) g e) }))
   where
     next : (j : ℕ) (g : Field) → (defaults_well g.item g.default ≡ true) × (counts_well (counted (i + suc j) fields) g.default ≡ true)
         → (defaults_well g.item g.default ≡ true) × (counts_well (counted (suc i + j) fields) g.default ≡ true)
-    next j g p = let plus : i + suc j ≡ suc i + j = omega arith in (p.0, subst (λ (k : ℕ). counts_well (counted k fields) g.default ≡ true) plus p.1)
+    next j g p = let plus : i + suc j ≡ suc i + j = omega arith in (p.0, rw plus at p.1)
 
 fields_fit : (k : ℕ) (d : Desc) (rules : List Bool) → Clean k d rules → FieldsFit d.fields 0 d.fields
 fields_fit k d rules c = record {
@@ -228,7 +217,7 @@ fields_fit k d rules c = record {
       (p.0, at_zero j f p.1);
 } where
   at_zero : (j : ℕ) (f : Field) → counts_well (counted j d.fields) f.default ≡ true → counts_well (counted (0 + j) d.fields) f.default ≡ true
-  at_zero j f e = let plus : j ≡ 0 + j = omega arith in subst (λ (k : ℕ). counts_well (counted k d.fields) f.default ≡ true) plus e
+  at_zero j f e = let plus : j ≡ 0 + j = omega arith in rw plus at e
 
 constants_of : (k : ℕ) (d : Desc) (rules : List Bool) → Clean k d rules → ConstantsFit d.fields
 constants_of k d rules c = constants_fit d.fields (λ i f e. constant_fits f.item f.default (and_parts (defaults_well f.item f.default) (counts_well (counted i d.fields) f.default) (c.fields i f e).1.1.1.1.1.0).0)
@@ -249,15 +238,14 @@ first_of p i [] k x e t f = cc
 first_of p i (y ∷ xs) zero x e t f =
     let same : y ≡ x = cc in
     let plus : i ≡ i + 0 = omega arith in
-    ap (λ (b : Bool). if b then Some i else position p (suc i) xs) (ap p same ∙ t) ∙ ap (λ (k : ℕ). Some k) plus
+    ap (λ b. if b then Some i else position p (suc i) xs) (ap p same ∙ t) ∙ ap (λ k. Some k) plus
 first_of p i (y ∷ xs) (suc k) x e t f =
     let g = or_parts (p y) (list_any p (take k xs)) f in
-    let plus : suc i + k ≡ i + suc k = omega arith in
-    ap (λ (b : Bool). if b then Some i else position p (suc i) xs) g.0 ∙ first_of p (suc i) xs k x e t g.1 ∙ ap (λ (k : ℕ). Some k) plus
+    rw (g.0) (first_of p (suc i) xs k x e t g.1 ∙ ap (λ (k : ℕ). Some k) (omega arith))
 
 some_names : (name : List ℕ) (subs : List Sub) → list_any (λ (s : Sub). bytes_eq s.desc.name name) subs ≡ is_one_of (map (λ (s : Sub). s.desc.name) subs) name
 some_names name [] = refl
-some_names name (s ∷ subs) = ap (λ (b : Bool). bytes_eq s.desc.name name || b) (some_names name subs)
+some_names name (s ∷ subs) = rw (some_names name subs)
 
 -- ---- the set
 
@@ -269,21 +257,18 @@ module _ (set : Set) (well : WellFormed set) where
       let devices = or_else (first_answer (device_fault set) 0 set.devices) last in
       let a = or_else_none (failing 1 (set_rules set) (here parts.Set)) (or_else (first_answer (struct_fault set.structs) 0 set.structs) devices) well in
       let b = or_else_none (first_answer (struct_fault set.structs) 0 set.structs) devices a.1 in
-      let c = or_else_none (first_answer (device_fault set) 0 set.devices) last b.1 in
-      (b.0, c.0)
+      (b.0, (or_else_none (first_answer (device_fault set) 0 set.devices) last b.1).0)
 
   pub struct_clean : (j : ℕ) (d : Desc) → slice_get set.structs j ≡ Some d → Clean j d (struct_rules set.structs j d)
   struct_clean j d e =
-      let plus : 0 + j ≡ j = omega arith in
       clean j d (parts.Struct j) (struct_rules set.structs j d)
-      (subst (λ (i : ℕ). struct_fault set.structs i d ≡ None) plus (answers_none (struct_fault set.structs) 0 set.structs parts_clean.0 j d e))
+      (subst (λ (i : ℕ). struct_fault set.structs i d ≡ None) (omega arith) (answers_none (struct_fault set.structs) 0 set.structs parts_clean.0 j d e))
 
   -- the device's own part, and its subsections
   pub device_parts : (k : ℕ) (d : Device) → slice_get set.devices k ≡ Some d
       → Clean (length set.structs) d.desc (device_rules set k d) × (first_answer (sub_fault (length set.structs) k d) 0 d.subs ≡ None)
   device_parts k d e =
-      let plus : 0 + k ≡ k = omega arith in
-      let none = subst (λ (i : ℕ). device_fault set i d ≡ None) plus (answers_none (device_fault set) 0 set.devices parts_clean.1 k d e) in
+      let none = subst (λ (i : ℕ). device_fault set i d ≡ None) (omega arith) (answers_none (device_fault set) 0 set.devices parts_clean.1 k d e) in
       let p = or_else_none (desc_fault (length set.structs) d.desc (parts.Device k) (device_rules set k d)) (first_answer (sub_fault (length set.structs) k d) 0 d.subs) none in
       (clean (length set.structs) d.desc (parts.Device k) (device_rules set k d) p.0, p.1)
 
@@ -291,14 +276,13 @@ module _ (set : Set) (well : WellFormed set) where
   sub_clean k j d s e f =
       let plus : 0 + j ≡ j = omega arith in
       clean (length set.structs) s.desc (parts.Sub k j) (sub_rules d j s)
-      (subst (λ (i : ℕ). sub_fault (length set.structs) k d i s ≡ None) plus (answers_none (sub_fault (length set.structs) k d) 0 d.subs (device_parts k d e).1 j s f))
+      (rw plus at (answers_none (sub_fault (length set.structs) k d) 0 d.subs (device_parts k d e).1 j s f))
 
   -- structure m, which may not exist
   struct_fits : (structs : List (List OneCell)) → AllFit structs → (m : ℕ) (o : Option Desc) → slice_get set.structs m ≡ o → Fit (desc_cells structs (get_or set.structs m no_desc))
-  struct_fits structs all m None e = subst (λ (d : Desc). Fit (desc_cells structs d)) (sym (get_none set.structs m no_desc e)) tt
+  struct_fits structs all m None e = rw (get_none set.structs m no_desc e) tt
   struct_fits structs all m (Some d) e =
-      subst (λ (d : Desc). Fit (desc_cells structs d)) (sym (get_or_from_slice_get set.structs m d no_desc e))
-      (fit_fields structs all d.fields 0 d.fields (fields_fit m d (struct_rules set.structs m d) (struct_clean m d e)))
+      rw (get_or_from_slice_get set.structs m d no_desc e) (fit_fields structs all d.fields 0 d.fields (fields_fit m d (struct_rules set.structs m d) (struct_clean m d e)))
 
   structs_fit : (m : ℕ) → AllFit (first desc_cells set.structs m)
   unfolding first
@@ -319,31 +303,29 @@ module _ (set : Set) (well : WellFormed set) where
   device_fits : (k : ℕ) (d : Device) → slice_get set.devices k ≡ Some d → Fit (device_cells set d)
   device_fits k d e =
       fit_append (desc_cells (struct_cells set) d.desc) (flat_map (λ (s : Sub). desc_cells (struct_cells set) s.desc) d.subs)
-      (part_fits d.desc (device_rules set k d) (device_parts k d e).0)
-      (subs_fit d.subs (λ j s f. part_fits s.desc (sub_rules d j s) (sub_clean k j d s e f)))
+      (part_fits d.desc (device_rules set k d) (device_parts k d e).0) (subs_fit d.subs (λ j s f. part_fits s.desc (sub_rules d j s) (sub_clean k j d s e f)))
 
   pub device_found : (k : ℕ) (d : Device) → slice_get set.devices k ≡ Some d → find_device 0 set.devices d.desc.name d.instance ≡ Some k
   device_found k d e =
       let new = not-true (list_any (is_same_device d.desc.name d.instance) (take k set.devices)) (device_parts k d e).0.own.1.0 in
-      let plus : 0 + k ≡ k = omega arith in
       first_of (is_same_device d.desc.name d.instance) 0 set.devices k d e
       (and_from (bytes_eq d.desc.name d.desc.name) (d.instance == d.instance) ((bytes_eq-Decides d.desc.name d.desc.name).1 refl) (eq-eqb d.instance d.instance refl)) new
-      ∙ ap (λ (k : ℕ). Some k) plus
+      ∙ ap (λ k. Some k) (omega arith)
 
   pub sub_found : (k j : ℕ) (d : Device) (s : Sub) → slice_get set.devices k ≡ Some d → slice_get d.subs j ≡ Some s → find_sub 0 d.subs s.desc.name ≡ Some j
   sub_found k j d s e f =
       let name = s.desc.name in
       let new = not-true (is_one_of (map (λ (e : Sub). e.desc.name) (take j d.subs)) name) (sub_clean k j d s e f).own.1.0 in
       let plus : 0 + j ≡ j = omega arith in
-      first_of (λ (s : Sub). bytes_eq s.desc.name name) 0 d.subs j s f ((bytes_eq-Decides name name).1 refl) (some_names name (take j d.subs) ∙ new) ∙ ap (λ (k : ℕ). Some k) plus
+      first_of (λ (s : Sub). bytes_eq s.desc.name name) 0 d.subs j s f ((bytes_eq-Decides name name).1 refl) (some_names name (take j d.subs) ∙ new) ∙ ap (λ k. Some k) plus
 
   struct_sound : (j : ℕ) → j < length set.structs → (o : Option Desc) → slice_get set.structs j ≡ o → IsSound (get_or set.structs j no_desc)
   struct_sound j lt None e = absurd (beyond set.structs j lt e)
   struct_sound j lt (Some d) e = subst IsSound (sym (get_or_from_slice_get set.structs j d no_desc e)) (sound j d (struct_rules set.structs j d) (struct_clean j d e))
 
   struct_constants : (j : ℕ) (o : Option Desc) → slice_get set.structs j ≡ o → ConstantsFit (get_or set.structs j no_desc).fields
-  struct_constants j None e = subst (λ (d : Desc). ConstantsFit d.fields) (sym (get_none set.structs j no_desc e)) tt
-  struct_constants j (Some d) e = subst (λ (d : Desc). ConstantsFit d.fields) (sym (get_or_from_slice_get set.structs j d no_desc e)) (constants_of j d (struct_rules set.structs j d) (struct_clean j d e))
+  struct_constants j None e = rw (get_none set.structs j no_desc e) tt
+  struct_constants j (Some d) e = rw (get_or_from_slice_get set.structs j d no_desc e) (constants_of j d (struct_rules set.structs j d) (struct_clean j d e))
 
   pub well_good : FitsHeads set → IsGood set
   well_good heads = record {

@@ -1,9 +1,10 @@
-pub mod Finding
-pub mod Judging
 pub mod Bodies
-pub mod Streams
-pub mod Rows
 pub mod Calls
-pub mod Stated
+pub mod Facade
+pub mod Finding
 pub mod Further
+pub mod Judging
+pub mod Rows
+pub mod Stated
+pub mod Streams
 pub mod WrittenBytes

@@ -1,41 +1,25 @@
 -- The laws as they are stated.
-use Rattle.std.proofs.Common.{get_or, ◌+◌, take, length, Option, Some, None, IfSome, arith, suc, ◌≡◌, ◌≤◌, true, ℕ, List, ◌++◌, refl, sym, ap, ◌∙◌, subst, drop}
-use Rattle.std.proofs.Common.{false}
-use Rattle.vms_spec.specs.declared.TheConstants.{LONGEST_NAME}
-use Rattle.vms_spec.specs.Units.{Piece, spell, spelled}
-use Rattle.vms_stream.specs.Dues.{Due}
-use Rattle.vms_stream.specs.Finding.{Whole, unit_at}
-use Rattle.vms_stream.specs.Laws.{IsThere, FoundLaw, Ends}
+use Rattle.vms_stream.proofs.Facade.{get_or, ◌+◌, take, length, Option, Some, None, IfSome, arith, suc, ◌≡◌, ◌≤◌, true, ℕ, List, ◌++◌, refl, sym, ap, ◌∙◌, drop}
+use Rattle.vms_stream.proofs.Facade.{false, slice_get_within, take-append-drop, LONGEST_NAME, Piece, spell, spelled, Due, Whole, unit_at, IsThere, FoundLaw}
+use Rattle.vms_stream.proofs.Facade.{Reason, is_one_of, longest_text, IsConfiguration, IsTrailer, optional, configuration, trailer, written, Reading, Accepted}
+use Rattle.vms_stream.proofs.Facade.{Refused, well_good, Tail, Unknown, Footed, Bare, images, machine, judge, reading, by_units, State, between, by_state}
+use Rattle.vms_stream.proofs.Facade.{at_start, SectionReadLaw, BeginsSection, SectionFoundLaw, ToldLaw, AcceptedLaw, TakenLaw, LocalLaw, UnitsLaw, StreamLaw}
+use Rattle.vms_stream.proofs.Facade.{GoesOn, FrontLaw, OneStreamLaw, Answer, EitherLaw, NeverBothLaw, OneFaultLaw, SectionLaw, WrittenLaw, WholeLaw}
+use Rattle.vms_stream.proofs.Facade.{AreOneFault, reading_on, IsBytes, bytes_rest, front_take}
 use Rattle.vms_stream.proofs.Finding.There.{only}
-use Rattle.vms_stream.proofs.Finding.Shown.{Shows, shows}
-use Rattle.vms_spec.specs.declared.Reason.{Reason}
-use Rattle.vms_spec.specs.Streams.{is_one_of, longest_text, IsConfiguration, IsTrailer, optional, configuration, trailer, written}
-use Rattle.vms_spec.specs.Readings.{Reading, Accepted, Refused}
-use Rattle.vms_spec.proofs.WellFormedLaws.{well_good}
-use Rattle.vms_stream.specs.SoFar.{Tail, Unknown, Footed, Bare, images, machine}
-use Rattle.vms_stream.specs.Judge.{judge, reading, by_units}
-use Rattle.vms_stream.specs.State.{State, between, by_state, at_start}
-use Rattle.vms_stream.specs.Streams.{Takes}
-use Rattle.vms_stream.specs.StreamLaws.{SectionReadLaw, BeginsSection, SectionFoundLaw, ToldLaw, AcceptedLaw, TakenLaw, LocalLaw, UnitsLaw, StreamLaw, GoesOn}
-use Rattle.vms_stream.specs.StreamLaws.{FrontLaw, OneStreamLaw, Answer, Taken, Faulty, EitherLaw, NeverBothLaw, OneFaultLaw, SectionLaw, WrittenLaw, WholeLaw}
-use Rattle.vms_stream.specs.StreamLaws.{AreOneFault}
+use Rattle.vms_stream.proofs.Finding.Shown.{shows}
+use Rattle.vms_stream.specs.StreamLaws.{Taken, Faulty}
 use Rattle.vms_stream.proofs.Finding.Advancing.{advances, due_solid}
 use Rattle.vms_stream.proofs.Judging.Mirrors.{solid, state_accepts, state_refuses}
 use Rattle.vms_stream.proofs.Streams.StreamFound.{found, section_found}
 use Rattle.vms_stream.proofs.Streams.StreamRead.{read, free_is, section_on}
-use Rattle.vms_stream.proofs.Streams.Steps.{Run, Goes, Opening, Closes, Opens, Names, settled, free_opens}
+use Rattle.vms_stream.proofs.Streams.Steps.{Goes, Opening, Closes, Opens, Names, settled, free_opens}
 use Rattle.vms_stream.proofs.Streams.Inside.{Agrees}
-use Rattle.vms_bodies.specs.Whole.{reading_on}
-use Rattle.std.proofs.lemmas.Option.{slice_get_within}
 use Rattle.vms_stream.proofs.Streams.Written.{written_section_is, written_is_stream}
 use Rattle.vms_stream.proofs.Judging.Verdicts.{cut_is, told_from, Says, says, units_mirror}
-use Rattle.vms_kinds.specs.Bytes.{IsBytes}
-use Rattle.vms_kinds.proofs.ByteLemmas.{bytes_rest}
-use Rattle.vms_bodies.proofs.BodyOnly.{front_take}
-use Rattle.std.proofs.lemmas.List.{take-append-drop}
 
 shown : (d : Due) (rest : List ℕ) (x : Piece) (n : ℕ) → IsBytes rest → unit_at d rest ≡ Whole x n → IsThere d rest x n
-shown d rest x n ok e = subst (Shows d rest) e (shows d rest ok)
+shown d rest x n ok e = rw e at (shows d rest ok)
 
 pub found_holds : FoundLaw
 found_holds d rest ok = record {
@@ -54,7 +38,7 @@ pub local_holds : LocalLaw
 local_holds d r t x n ok e same =
     let w = shown d r x n ok e in
     let s : spell x ≡ take n t = sym (front_take n (spell x) (drop n r) r w.there w.long) ∙ same in
-    ap (unit_at d) (sym (take-append-drop n t) ∙ ap (λ (l : List ℕ). l ++ drop n t) (sym s)) ∙ only d x (drop n t) w.may ∙ ap (Whole x) w.long
+    ap (unit_at d) (sym (take-append-drop n t) ∙ ap (λ l. l ++ drop n t) (sym s)) ∙ only d x (drop n t) w.may ∙ ap (Whole x) w.long
 
 pub accepted_holds : AcceptedLaw
 accepted_holds set names well heads input n end ok h = found set names (well_good set well heads) input n end ok h
@@ -69,13 +53,13 @@ taken_holds set names well heads input n machine images t =
 pub units_hold : UnitsLaw
 units_hold set names well heads input n u ok e =
     let a = (state_accepts set names).ends input n u ok e in
-    subst (λ (s : State). Takes set names input n s.machine s.images) a.2 (found set names (well_good set well heads) input n a.0 ok a.1)
+    rw a.2 at (found set names (well_good set well heads) input n a.0 ok a.1)
 
 pub stream_holds : StreamLaw
 stream_holds set names well heads input n named states ok t =
     let r = read set names (well_good set well heads) input n named states t in
     let a = (state_accepts set names).accepted input n r.end ok r.is in
-    (a.0, a.1, ap (λ (s : State). s.machine) (sym a.2) ∙ r.machine_is, ap (λ (s : State). s.images) (sym a.2) ∙ r.images_are)
+    (a.0, a.1, ap (λ s. s.machine) (sym a.2) ∙ r.machine_is, ap (λ s. s.images) (sym a.2) ∙ r.images_are)
 
 pub front_holds : FrontLaw
 front_holds set names well heads u rest ok front sound =
@@ -87,7 +71,7 @@ front_holds set names well heads u rest ok front sound =
     by : (x : Reading (List Piece)) → Says set names (by_units set names) (due_solid set) (λ u s. s ≡ u) (units_mirror set names) u (spelled u ++ rest) x
         → GoesOn set names (spelled u ++ rest) u
     by (Accepted n end) w =
-        let ends = subst (Ends set names (spelled u ++ rest) n) w.is w.ends in
+        let ends = rw w.is at w.ends in
         record { taken = n; more = w.more; ends = ends; takes = units_hold set names well heads (spelled u ++ rest) n (w.more ++ u) ok ends }
     by (Refused place section reason size) f = absurd (sound place section reason size f)
 
@@ -99,12 +83,11 @@ one_stream_holds set names well heads input n m machine other images others t u 
     let a = read set names good input n machine images t in
     let b = read set names good input m other others u in
     let e = sym a.is ∙ b.is in
-    let place : n ≡ m = cc in
     let same : a.end ≡ b.end = cc in
     record {
-      lengths = place;
-      machines = sym a.machine_is ∙ ap (λ (s : State). s.machine) same ∙ b.machine_is;
-      states = sym a.images_are ∙ ap (λ (s : State). s.images) same ∙ b.images_are;
+      lengths = cc;
+      machines = sym a.machine_is ∙ ap (λ s. s.machine) same ∙ b.machine_is;
+      states = sym a.images_are ∙ ap (λ s. s.images) same ∙ b.images_are;
     }
 
 pub either_holds : EitherLaw
@@ -121,8 +104,7 @@ never_both_holds set names well heads input ok n machine images place section re
     cc
 
 same_refusal : {place other_place : ℕ} {section other_section : Option ℕ} {reason other_reason : Reason} {size other_size : ℕ} (x y : Reading State)
-    → Some x ≡ Some y
-    → x ≡ Refused place section reason size → y ≡ Refused other_place other_section other_reason other_size
+    → Some x ≡ Some y → x ≡ Refused place section reason size → y ≡ Refused other_place other_section other_reason other_size
     → AreOneFault place other_place section other_section reason other_reason size other_size
 same_refusal x y e f g = record { places = cc; sections = cc; reasons = cc; sizes = cc }
 
@@ -143,22 +125,21 @@ section_read_holds set names well heads k d image there machine images came tail
     let s = between machine images came tail first after in
     let r = section_on set names (well_good set well heads) k d image there s (settled set s) refl (free_is set names first after s refl) room new true
     (may_foot tail foots) place id bytes rest is in
-    r.reads ∙ ap (λ (x : State). reading_on (judge (by_state set names)) x (place + length bytes) rest) (r.at refl)
+    r.reads ∙ ap (λ x. reading_on (judge (by_state set names)) x (place + length bytes) rest) (r.at refl)
 
 pub section_found_holds : SectionFoundLaw
 section_found_holds set names well heads machine images came tail first after images_long came_long place rest n end ok h four =
-    let r : Run = record { set = set; names = names; taken = n; end = end } in
-    let goes : Goes r (between machine images came tail first after) place rest = record { is = h } in
+    let goes : Goes (record { set = set; names = names; taken = n; end = end }) (between machine images came tail first after) place rest = record { is = h } in
     by (free_opens first after refl ok came_long goes)
   where
     by : Opening (record { set = set; names = names; taken = n; end = end }) first (between machine images came tail false false) place rest
         → BeginsSection set came rest
-    by (Closes more e all goes) = let f = sym four ∙ ap (λ (l : List ℕ). get_or l 0 0) e in cc
-    by (Names name more is e one le goes) = let f = sym four ∙ ap (λ (l : List ℕ). get_or l 0 0) e in cc
+    by (Closes more e all goes) = let f = sym four ∙ ap (λ l. get_or l 0 0) e in cc
+    by (Names name more is e one le goes) = let f = sym four ∙ ap (λ l. get_or l 0 0) e in cc
     by (Opens k id v d more f e there new version goes) =
         let inside = slice_get_within set.devices k d there in
         let q = section_found (record { set = set; names = names; taken = n; end = end }) (well_good set well heads)
-        (between machine images came tail false false) place k id v d more there (omega (arith, inside, images_long)) came_long ok f e version goes in
+        (between machine images came tail false false) place k id v d more there (omega arith) came_long ok f e version goes in
         record {
           number = k;
           device = d;

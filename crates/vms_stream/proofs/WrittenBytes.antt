@@ -1,26 +1,12 @@
 -- What a well-formed set writes is bytes. What holds of each part of a set: of the description of each device and subsection.
-use Rattle.std.proofs.Common.{◌≡◌, ℕ, suc, List, [], ◌∷◌, Some, refl, zero, ◌+◌, ◌<◌, ◌≤◌, ◌&&◌, nat_le, ◌++◌, length, length-append, get_or, take, drop, ℤ}
-use Rattle.std.proofs.Common.{pos, Bool, true, Option, None, IfSome, nat_lt, subst, arith}
-use Rattle.std.specs.List.{slice_get, list_all}
-use Rattle.vms_spec.specs.Sets.{Desc, Sub, Device, Set}
-use Rattle.std.specs.Int.{byte_at, bytes_high_first}
-use Rattle.std.specs.Prelude.{replicate}
-use Rattle.std.specs.Str.{bytes_eq}
-use Rattle.std.proofs.lemmas.Bool.{and_parts, ltb-true, leb-true}
-use Rattle.std.proofs.lemmas.List.{take-append-drop}
-use Rattle.std.proofs.lemmas.Slice.Eq.{bytes_eq-Decides}
-use Rattle.vms_kinds.specs.Codes.{width, residue, code}
-use Rattle.vms_kinds.specs.declared.Kind.{Kind}
-use Rattle.vms_kinds.specs.Bytes.{IsBytes}
-use Rattle.vms_spec.specs.Names.{is_name, is_name_byte, is_sub_name}
-use Rattle.vms_spec.specs.Images.{Image, zeroed, own_cells, own_slots, sub_slots}
-use Rattle.vms_spec.specs.Layout.{Slot, Number, Constant, Filler, Rule, desc_cells, struct_cells}
-use Rattle.vms_spec.specs.Streams.{be32, optional, configuration, section_head, sub_head, foot, trailer, end_mark, stream_head, is_one_of, written}
-use Rattle.vms_spec.specs.Streams.{written_section, written_sections, written_subs}
-use Rattle.vms_spec.specs.WellFormed.{WellFormed, failing, first_fault, here, set_rules}
-use Rattle.vms_spec.proofs.Faultless.{AllTrue, all_true, every_one, or_else_none}
-use Rattle.vms_spec.proofs.NameBytes.{name_byte_low}
-use Rattle.vms_spec.proofs.WellFormedLaws.{device_parts, sub_clean}
+use Rattle.vms_stream.proofs.Facade.{◌≡◌, ℕ, suc, List, [], ◌∷◌, Some, refl, zero, ◌+◌, ◌<◌, ◌≤◌, ◌&&◌, nat_le, ◌++◌, length, length-append, get_or, take, drop}
+use Rattle.vms_stream.proofs.Facade.{ℤ, pos, Bool, true, Option, None, IfSome, nat_lt, subst, arith, slice_get, list_all, byte_at, bytes_high_first, replicate}
+use Rattle.vms_stream.proofs.Facade.{bytes_eq, and_parts, ltb-true, leb-true, take-append-drop, bytes_eq-Decides, Desc, Sub, Device, Set, width, residue, code}
+use Rattle.vms_stream.proofs.Facade.{Kind, IsBytes, is_name, is_name_byte, is_sub_name, Image, zeroed, own_cells, own_slots, sub_slots, Slot, Rule, desc_cells}
+use Rattle.vms_stream.proofs.Facade.{struct_cells, be32, optional, configuration, section_head, sub_head, foot, trailer, end_mark, stream_head, is_one_of}
+use Rattle.vms_stream.proofs.Facade.{written, written_section, written_sections, written_subs, WellFormed, failing, first_fault, here, set_rules, AllTrue}
+use Rattle.vms_stream.proofs.Facade.{all_true, every_one, or_else_none, name_byte_low, device_parts, sub_clean}
+use Rattle.vms_spec.specs.Layout.{Number, Constant, Filler}
 use Rattle.vms_spec.specs.declared.Part.TheVariants as parts
 
 abbrev pub AllSubs : (Desc → Type 0) → List Sub → Type 0
@@ -118,14 +104,11 @@ head_bytes id instance version name p short =
       omega arith,
       bytes_append (be32 id ++ (length name ∷ name) ++ be32 instance) (be32 version)
           (bytes_append (be32 id ++ (length name ∷ name)) (be32 instance)
-          (bytes_append (be32 id) (length name ∷ name) (be32_bytes id) named) (be32_bytes instance))
-          (be32_bytes version),
+          (bytes_append (be32 id) (length name ∷ name) (be32_bytes id) named) (be32_bytes instance)) (be32_bytes version),
     )
 
 sub-head-bytes : (name : List ℕ) (v : ℕ) → AreBytes name → length name < 256 → AreBytes (sub_head name v)
-sub-head-bytes name v p short =
-    let named : AreBytes (length name ∷ name) = (short, p) in
-    (omega arith, bytes_append (length name ∷ name) (be32 v) named (be32_bytes v))
+sub-head-bytes name v p short = (omega arith, bytes_append (length name ∷ name) (be32 v) (short, p) (be32_bytes v))
 
 pub foot_bytes : (id : ℕ) → AreBytes (foot id)
 foot_bytes id = (omega arith, be32_bytes id)
@@ -133,16 +116,14 @@ foot_bytes id = (omega arith, be32_bytes id)
 module _ (set : Set) where
   subs-bytes : (d : Device) (image : Image) (at : ℕ) (subs : List Sub) (came : List (Option ℕ)) → AreNamedSubs subs
       → AreBytes (written_subs set d image at subs came)
-  subs-bytes d image at [] came named = tt
-  subs-bytes d image at (s ∷ subs) [] named = tt
   subs-bytes d image at (s ∷ subs) (None ∷ came) named = subs-bytes d image (at + length (desc_cells (struct_cells set) s.desc)) subs came named.1
   subs-bytes d image at (s ∷ subs) (Some v ∷ came) named =
       let next = at + length (desc_cells (struct_cells set) s.desc) in
       bytes_append (sub_head s.desc.name v ++ zeroed image.numbers (sub_slots set s v image.numbers at)) (written_subs set d image next subs came)
       (bytes_append (sub_head s.desc.name v) (zeroed image.numbers (sub_slots set s v image.numbers at))
       (sub-head-bytes s.desc.name v named.0.octets named.0.short)
-      (zeroed-bytes image.numbers (sub_slots set s v image.numbers at)))
-      (subs-bytes d image next subs came named.1)
+      (zeroed-bytes image.numbers (sub_slots set s v image.numbers at))) (subs-bytes d image next subs came named.1)
+  subs-bytes d image at _ _ named = tt
 
   section-bytes : (d : Device) (image : Image) (id : ℕ) → IsNamed d.desc.name → AreNamedSubs d.subs → AreBytes (written_section set d image id)
   section-bytes d image id named subs =
@@ -153,15 +134,13 @@ module _ (set : Set) where
       (bytes_append (head ++ body) after
       (bytes_append head body (head_bytes id d.instance image.version d.desc.name named.octets named.short)
       (zeroed-bytes image.numbers (own_slots set d image.version image.numbers)))
-      (subs-bytes d image (own_cells set d) d.subs image.came subs))
-      (foot_bytes id)
+      (subs-bytes d image (own_cells set d) d.subs image.came subs)) (foot_bytes id)
 
   sections-bytes : (id : ℕ) (devices : List Device) (images : List Image) → AreNamed devices → AreBytes (written_sections set id devices images)
-  sections-bytes id [] images named = tt
-  sections-bytes id (d ∷ devices) [] named = tt
   sections-bytes id (d ∷ devices) (image ∷ images) named =
       bytes_append (written_section set d image id) (written_sections set (suc id) devices images)
       (section-bytes d image id named.0 named.1) (sections-bytes (suc id) devices images named.2)
+  sections-bytes id _ _ named = tt
 
   config-bytes : (machine : Option (List ℕ)) → IfSome machine AreBytes → AreBytes (optional configuration machine)
   config-bytes None p = tt
@@ -172,8 +151,7 @@ module _ (set : Set) where
   text-bytes (Some text) p = (omega arith, bytes_append (be32 (length text)) text (be32_bytes (length text)) p)
 
   written-bytes : (machine : Option (List ℕ)) (images : List Image) (text : Option (List ℕ)) → AreNamed set.devices → IfSome machine AreBytes
-      → IfSome text AreBytes
-      → AreBytes (written set machine images text)
+      → IfSome text AreBytes → AreBytes (written set machine images text)
   written-bytes machine images text named p q =
       let sections : List ℕ = written_sections set 0 set.devices images in
       bytes_append (stream_head ++ optional configuration machine ++ sections ++ end_mark) (optional trailer text)
@@ -181,15 +159,14 @@ module _ (set : Set) where
       (bytes_append (stream_head ++ optional configuration machine) sections
       (bytes_append stream_head (optional configuration machine) (spelled stream_head refl) (config-bytes machine p))
       (sections-bytes 0 set.devices images named))
-      (omega arith, tt))
-      (text-bytes text q)
+      (omega arith, tt)) (text-bytes text q)
 
 -- ---- well-formed sets
 
 every_bytes : (name : List ℕ) → list_all is_name_byte name ≡ true → AreBytes name
 every_bytes [] e = tt
 every_bytes (b ∷ name) e =
-    let p = and_parts (is_name_byte b) (list_all is_name_byte name) e in let low = name_byte_low b p.0 in (omega (arith, low), every_bytes name p.1)
+    let p = and_parts (is_name_byte b) (list_all is_name_byte name) e in let low = name_byte_low b p.0 in (omega arith, every_bytes name p.1)
 
 pub is_named : (most : ℕ) (name : List ℕ) → most < 256 → is_name most name ≡ true → IsNamed name
 is_named most name lt e =
@@ -207,8 +184,7 @@ sub_named device name d e =
     let most : length device ≤ 100 = leb-true (length device) 100 (and_parts (nat_le 1 (length device)) (nat_le (length device) 100) q.0).1 in
     let r = and_parts (nat_le 1 (length rest) && nat_le (length rest) 64) (list_all is_name_byte rest) p.1 in
     let tail : length rest ≤ 64 = leb-true (length rest) 64 (and_parts (nat_le 1 (length rest)) (nat_le (length rest) 64) r.0).1 in
-    let whole : (device ++ 47 ∷ []) ++ rest ≡ name = subst (λ (l : List ℕ). l ++ rest ≡ name) front (take-append-drop (length device + 1) name) in
-    subst IsNamed whole (record {
+    subst IsNamed (rw front at (take-append-drop (length device + 1) name)) (record {
       octets = bytes_append (device ++ 47 ∷ []) rest (bytes_append device (47 ∷ []) own.octets (omega arith, tt)) (every_bytes rest r.1);
       short = omega (arith, length-append (device ++ 47 ∷ []) rest, length-append device (47 ∷ []));
     })

@@ -45,8 +45,6 @@ image_of set i image h k = record { subs = h.subs; cells = h.cells; kinds = k }
 pub default_kinds : (set : Set) (i : ℕ) (image : Typed) → image ≡ default_at set i → image.kinds ≡ kinds_at set i
 default_kinds set i image e = ap (λ (x : Typed). x.kinds) e
 
--- ---- images one after the other
-
 at_more : {X : Type 0} (P : ℕ → X → Type 0) (xs : List X) (y : X) → ((k : ℕ) (z : X) → slice_get xs k ≡ Some z → P k z) → P (length xs) y → (k : ℕ) (z : X) → slice_get (xs ++ y ∷ []) k ≡ Some z → P k z
 at_more P [] y h p zero z e = let same : y ≡ z = cc in subst (P 0) same p
 at_more P [] y h p (suc k) z e = cc
@@ -70,13 +68,9 @@ first_all set n images a e = record { one_each = a.count ∙ sym e; each = a.eac
 
 -- ---- Devices that are read one after the other, and what the whole text says.
 
--- ---- all devices
-
 abbrev pub with_devices : List ReadDevice → Result ReadAll BadLine → Result ReadAll BadLine
 with_devices ds (Err e) = Err e
 with_devices ds (Ok all) = Ok (record { devices = ds ++ all.devices; line = all.line; rest = all.rest })
-
--- ---- the front of the text
 
 pub record Said (set : Set) (v : ValuesRead) (start : Start) : Type 0 where
   pub name : Option (List ℕ)
@@ -117,8 +111,6 @@ said_so set text v result e r = subst (λ (x : ValuesRead). ReadsBy set x result
 
 -- ---- Devices that are read one after the other, and judged.
 
--- ---- one device
-
 abbrev after_device : (ℕ → List ℕ → Result ReadAll BadLine) → Result (ReadDevice × Standing) BadLine → Result ReadAll BadLine
 after_device go (Ok (r, p)) = with_device r (go p.line p.rest)
 after_device go (Err b) = Err b
@@ -139,8 +131,6 @@ one_device set d p go = by (is_line (section_line d) (first_line p.rest))
     by true = whole (then_subs (read_desc (readers set) d.desc d.desc.version [] true 0 (next_line p)) (read_subs set (own_cells set d) d.subs))
     by false = refl
 
--- ---- the second pass over all
-
 or_none : (o : Option BadLine) → or_bad o None ≡ o
 or_none None = refl
 or_none (Some b) = refl
@@ -153,8 +143,6 @@ judge_more set (c ∷ ds) [] d r e = cc
 judge_more set (c ∷ ds) (x ∷ rs) d r e =
     let less : length ds ≡ length rs = omega (arith, e) in
     ap (or_bad (judge_device set c x)) (judge_more set ds rs d r less) ∙ sym (or_bad_assoc (judge_device set c x) (judge_devices set ds rs) (judge_device set d r))
-
--- ---- all devices
 
 -- the first n devices have these images and this first bad line of the second pass; the rest is the whole reading
 pub record Gathered (set : Set) (n : ℕ) (start : Result ReadAll BadLine) (first judged : Option BadLine) (images : List Image) (left : Result ReadAll BadLine) : Type 0 where
@@ -244,8 +232,6 @@ gathered_all set n start images begun now e g =
 
 -- ---- Subsections that are read one after the other.
 
--- ---- one subsection
-
 abbrev after_sub : ℕ → (Standing → Result ReadSubs BadLine) → Result (Option ℕ × Standing) BadLine → Result ReadSubs BadLine
 after_sub line go (Ok (o, q)) = also o line (go q)
 after_sub line go (Err b) = Err b
@@ -269,8 +255,6 @@ next_sub set i j p lt =
     ap (λ (l : List Sub). read_subs set at l p) (drop_more d.subs j none lt)
     ∙ one_sub set s at p (sub_said s (first_line p.rest)) (λ q. read_subs set (at + length (desc_cells (struct_cells set) s.desc)) (drop (j + 1) d.subs) q)
     ∙ ap (λ (x : ℕ). after_sub p.line (λ q. read_subs set x (drop (j + 1) d.subs) q) (sub_read set s at p)) (sym (sub_next set (own_cells set d) d.subs j none lt))
-
--- ---- all of them
 
 abbrev pub with_subs : List (Option ℕ) → List ℕ → Result ReadSubs BadLine → Result ReadSubs BadLine
 with_subs came lines (Err b) = Err b
@@ -315,8 +299,6 @@ module _ (set : Set) (i j : ℕ) (lt : j < length (device_at set i).subs) where
   follows_stop start old lines b f r =
       let rest = λ (p : Standing). read_subs set (first_cell set (parts.Sub i (j + 1))) (drop (j + 1) (device_at set i).subs) p in
       sym f.whole ∙ ap (with_subs (take j old.image.came) lines) (next_sub set i j (place_of old) lt ∙ ap (after_sub old.lines.line rest) r)
-
--- ---- results
 
 pub record Came (r : Result (Option ℕ × Standing) BadLine) (j : ℕ) (old new : Taken) : Type 0 where
   pub o : Option ℕ

@@ -65,8 +65,6 @@ bare_defaults set i j numbers lt room =
     (drop-map form_of at (device_cells set d) ∙ ap (map form_of) (cells_from_sub set (desc_cells (struct_cells set) d.desc) (own_cells set d) d.subs j none refl lt) ∙ map-append form_of cells rest)
     room
 
--- ---- the subsections one after the other
-
 -- the first bad line of the subsections from number j on
 abbrev pub judged_from : Set → ℕ → Image → List ℕ → ℕ → Option BadLine
 judged_from set i image lines j =
@@ -99,8 +97,7 @@ module _ (set : Set) (i : ℕ) (image : Image) (lines : List ℕ) (j line : ℕ)
       by false false next = refl
 
   pub judged_go : sub_judged set i j image ≡ None → judged_from set i image lines (j + 1) ≡ judged_from set i image lines j
-  judged_go e =
-      sym (judged_next ∙ ap (λ (o : Option ValuesReason). with_reason line o (judged_from set i image lines (j + 1))) e)
+  judged_go e = sym (judged_next ∙ ap (λ (o : Option ValuesReason). with_reason line o (judged_from set i image lines (j + 1))) e)
 
 pub judged_stop : (set : Set) (i : ℕ) (image : Image) (lines : List ℕ) (j line : ℕ) (reason : ValuesReason) → j < length (device_at set i).subs → j < length image.came → j < length lines → line ≡ get_or lines j 0
     → sub_judged set i j image ≡ Some reason → judged_from set i image lines j ≡ Some (record { line = line; reason = reason })
@@ -110,8 +107,6 @@ judged_stop set i image lines j line reason lt lc ll is e =
 pub judged_end : (set : Set) (i : ℕ) (image : Image) (lines : List ℕ) (j : ℕ) → length (device_at set i).subs ≡ j → judged_from set i image lines j ≡ None
 judged_end set i image lines j e =
     ap (λ (l : List Sub). judge_subs set (device_at set i) image j (first_cell set (parts.Sub i j)) l (drop j image.came) (drop j lines)) (drop_all j (device_at set i).subs (omega (arith, e)))
-
--- ---- a device
 
 pub own_holds : (set : Set) (i : ℕ) (r : ReadDevice) → rules_are_true (own_slots set (device_at set i) r.image.version r.image.numbers) ≡ true
     → judge_device set (device_at set i) r ≡ judged_from set i r.image r.sub_lines 0

@@ -33,8 +33,6 @@ bare cs (Equal kind y) caps z = refl
 bare cs (Unused n) caps z = refl
 bare cs (Struct j) caps z = refl
 
--- ---- elements and fields
-
 elements_kinds : (cs : List (List Cell)) (item : Item) (caps : List ℕ) (z : ℤ) (kinds : List Kind) (n at a step : ℕ)
     → AreKinds kinds at (times n (λ _. item_cells cs item caps z) a step) → ElementKinds cs item kinds at n
 elements_kinds cs item caps z kinds zero at a step s i lt = absurd (omega arith)
@@ -80,8 +78,6 @@ pub struct_kinds : (set : Set) → is_well_formed set ≡ true → (j : ℕ) →
 struct_kinds set well j lt kinds at s =
     let below = all_below j (get_or set.structs j no_desc).fields (λ i l. ((struct_clean set well j lt).fields i l).uses) in
     subst (AreKinds kinds at) (struct_cells_at set.structs (length set.structs) j lt below) s
-
--- ---- the parts of a device
 
 module _ (set : Set) (i : ℕ) (kinds : List Kind) (are : kinds ≡ kinds_at set i) where
   abbrev d : Device

@@ -64,8 +64,6 @@ module _ (set : Set) where
       ap (λ (l : List (List ℕ)). get_or l c []) is ∙ get_or-map (λ l. codes "." ++ l) names c [] [] (omega (arith, long))
       ∙ ap (λ (l : List (List ℕ)). codes "." ++ get_or l c []) (desc_walks ss (are_walked set.structs j) d d.version 0 [] [] 0 0).names
 
-  -- ---- the fields of a part
-
   -- the names of the fields from k on
   abbrev pub names_from : Part → ℕ → List (List ℕ)
   names_from part k = names_of (elements_from (usable set part) (desc_at set part).fields 0 no_parent [] k 0 (drop k (desc_at set part).fields))

@@ -28,15 +28,11 @@ wrote_mapped a b text (Ok x) (Err f) e w = cc
 wrote_mapped a b text (Err e) (Ok y) v w = cc
 wrote_mapped a b text (Err e) (Err f) v w = w
 
--- ---- the rest of a list
-
 pub device_left : (set : Set) (k : ℕ) → k < length set.devices → drop k set.devices ≡ device_at set k ∷ drop (k + 1) set.devices
 device_left set k lt = drop_more set.devices k (record { instance = 0; desc = no_desc; subs = [] }) lt
 
 pub images_at : (images : List Image) (i : ℕ) (image : Image) → i < length images → image ≡ get_or images i image → drop i images ≡ image ∷ drop (i + 1) images
 images_at images i image lt is = drop_more images i image lt ∙ ap (λ (x : Image). x ∷ drop (i + 1) images) (sym is)
-
--- ---- one image for each device
 
 pub of_long : (set : Set) (devices : List Device) (images : List Image) → AreOf set devices images → length images ≡ length devices
 of_long set [] [] a = refl
@@ -50,12 +46,10 @@ of_room set k all images a lt = omega (arith, of_long set (drop k all) (drop k i
 -- the image of the next device, and its lines
 module _ (set : Set) (k : ℕ) (all : List Device) (images : List Image) (d : Device) (image : Image) (e : drop k all ≡ d ∷ drop (k + 1) all) (f : drop k images ≡ image ∷ drop (k + 1) images) where
   pub of_next : AreOf set (drop k all) (drop k images) → IsOf set d image × AreOf set (drop (k + 1) all) (drop (k + 1) images)
-  of_next a =
-      subst (λ (l : List Image). AreOf set (d ∷ drop (k + 1) all) l) f (subst (λ (l : List Device). AreOf set l (drop k images)) e a)
+  of_next a = subst (λ (l : List Image). AreOf set (d ∷ drop (k + 1) all) l) f (subst (λ (l : List Device). AreOf set l (drop k images)) e a)
 
   pub devices_next : devices_lines set (drop k all) (drop k images) ≡ device_lines set d image ++ devices_lines set (drop (k + 1) all) (drop (k + 1) images)
-  devices_next =
-      ap (λ (l : List Device). devices_lines set l (drop k images)) e ∙ ap (λ (l : List Image). devices_lines set (d ∷ drop (k + 1) all) l) f
+  devices_next = ap (λ (l : List Device). devices_lines set l (drop k images)) e ∙ ap (λ (l : List Image). devices_lines set (d ∷ drop (k + 1) all) l) f
 
 -- ---- A line that grows after the front that it keeps.
 
@@ -70,8 +64,7 @@ pub front_long : (line other : List ℕ) → Stays line other → length line �
 front_long line other s = omega (arith, sym (ap length s), length-take (length line) other)
 
 pub stays_then : (a b c : List ℕ) → Stays a b → Stays b c → Stays a c
-stays_then a b c p q =
-    sym (take-take (length a) (length b) c (front_long a b p)) ∙ ap (take (length a)) q ∙ p
+stays_then a b c p q = sym (take-take (length a) (length b) c (front_long a b p)) ∙ ap (take (length a)) q ∙ p
 
 -- what is kept of a line is its front
 pub cut_is : (front line new : List ℕ) (n : ℕ) → new ≡ take n line → n ≡ length front → Stays front line → new ≡ front

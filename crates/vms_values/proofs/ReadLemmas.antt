@@ -34,11 +34,8 @@ joined_off rest piece left after whole inv split begins =
 
 -- ---- A text that is read line by line.
 
--- ---- fronts
-
 pub strips_then : (a b line mid : List ℕ) (result : Option (Bor (List ℕ))) → begins_with a line ≡ true → mid ≡ drop (length a) line → Strips b mid result → Strips (a ++ b) line result
-strips_then a b line mid None p e s =
-    begins-append line a b ∙ ap (λ (t : Bool). t && begins_with b (drop (length a) line)) p ∙ ap (begins_with b) (sym e) ∙ s
+strips_then a b line mid None p e s = begins-append line a b ∙ ap (λ (t : Bool). t && begins_with b (drop (length a) line)) p ∙ ap (begins_with b) (sym e) ∙ s
 strips_then a b line mid (Some r) p e s = (
   begins-append line a b ∙ ap (λ (t : Bool). t && begins_with b (drop (length a) line)) p ∙ ap (begins_with b) (sym e) ∙ s.0,
   s.1 ∙ ap (drop (length b)) e ∙ drop-drop (length b) (length a) line ∙ ap (λ (n : ℕ). drop n line) (sym (length-append a b)),
@@ -52,8 +49,6 @@ pub strip_is : (front line : List ℕ) (result : Option (Bor (List ℕ)))
 strip_is front line None h = h
 strip_is front line (Some r) h = (h.0, h.1)
 
--- ---- the state of a reading
-
 pub reached : (r : Read) (now : Standing) → Reaches r now (Ok tt) → r ≡ Ok now
 reached (Ok p) now e = ap (λ (x : Standing). Ok x) e
 reached (Err b) now e = absurd e
@@ -61,8 +56,6 @@ reached (Err b) now e = absurd e
 pub stopped : (part whole : Read) (now later : Standing) (e : LineFault) → ((b : BadLine) → part ≡ Err b → whole ≡ Err b) → Reaches part now (Err e) → Reaches whole later (Err e)
 stopped (Ok p) whole now later e h r = absurd r
 stopped (Err b) whole now later e h r = subst (λ (x : Read). Reaches x later (Err e)) (sym (h b refl)) r
-
--- ---- ends
 
 pub is_bad : (e : LineFault) (b : BadLine) → e ≡ faults.Bad b.line b.reason → IsBad b e
 is_bad e b s = subst (IsBad b) (sym s) (refl, refl)
@@ -72,8 +65,6 @@ some_of [] e f = cc
 some_of (x ∷ xs) e f = cc
 
 -- ---- Numbers as they are spelled.
-
--- ---- digits
 
 abbrev bounded : Bool → ℕ → Option ℕ
 bounded good n = if good && nat_lt n (2 ^ 64) then Some n else None
@@ -124,8 +115,6 @@ digit_goes value i d m text lt e =
 
 pub digits_end : (value i : ℕ) (text : List ℕ) → length text ≤ i → Some value ≡ read_from value (drop i text)
 digits_end value i text le = sym (ap (read_from value) (drop_all i text le))
-
--- ---- a few digits
 
 -- those of a front, and then the others
 pub read_append : (n : ℕ) (xs ys : List ℕ) → read_from n (xs ++ ys) ≡ option_and_then (λ m. read_from m ys) (read_from n xs)
@@ -178,12 +167,6 @@ few_next i n d m text lt e =
     let one : i + 1 ≡ suc i = omega arith in
     let more : 10 ^ (i + 1) ≡ 10 ^ i * 10 = ap (λ (k : ℕ). 10 ^ k) one ∙ pow-suc 10 i in
     omega (arith, more, lt, digit_up n (get_or text i d) m e)
-
--- ---- ranges
-
--- ---- signs
-
--- ---- a number without a sign
 
 pub spelled_is : (text : List ℕ) (value : ℕ) → Some value ≡ natural_spelled text → number_spelled text ≡ Some (pos value)
 spelled_is text value e = by (natural_from 0 text) _ (are_digits text) (nat_lt (natural_from 0 text) (2 ^ 64)) e

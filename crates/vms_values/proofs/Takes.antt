@@ -84,8 +84,6 @@ struct_reads set well j lt f caps path present at p =
 
 -- ---- The elements of an array and the fields of a part that remain to be read.
 
--- ---- the least of the capacities that a number counts is enough
-
 put_least : (path : List ℕ) (cell : ℕ) (spot : CellLine) (p : Standing) (o : Option (List ℕ × List ℕ)) → put_line path (record spot { capacities = capacities_of (least_of spot.capacities) }) p o ≡ put_line path spot p o
 put_least path cell spot p None = refl
 put_least path cell spot p (Some (line, rest)) =
@@ -114,8 +112,6 @@ elements_least rs f caps path present at step i (suc n) p =
     then_same _ _ (λ q. read_elements rs f (capacities_of (least_of caps)) path present (at + step) step (suc i) n q) (λ q. read_elements rs f caps path present (at + step) step (suc i) n q)
     (item_least rs f caps (path ++ codes "[" ++ decimal i ++ codes "]") present at f.item p) (λ q. elements_least rs f caps path present (at + step) step (suc i) n q)
 
--- ---- the elements of an array
-
 module _ (rs : List Reader) (f : Field) (caps path : List ℕ) (present : Bool) (step : ℕ) where
   elements_left : (at i count : ℕ) (p : Standing) → i < count → read_elements rs f caps path present at step i (count - i) p
       ≡ (read_item rs f caps (path ++ codes "[" ++ decimal i ++ codes "]") present at f.item p >>= λ q. read_elements rs f caps path present (at + step) step (i + 1) (count - (i + 1)) q)
@@ -134,8 +130,6 @@ module _ (rs : List Reader) (f : Field) (caps path : List ℕ) (present : Bool) 
       → read_elements rs f caps path present at step i (count - i) p ≡ Err b
   elements_stop at i count p b lt e =
       elements_left at i count p lt ∙ ap (λ (r : Read). r >>= λ x. read_elements rs f caps path present (at + step) step (i + 1) (count - (i + 1)) x) e
-
--- ---- the fields of a part
 
 run_is : (rs : List Reader) (f : Field) (c : Count) (own : ℕ → ℕ) (count : ℕ) (caps path : List ℕ) (present : Bool) (at : ℕ) (p : Standing) → count ≡ elements_of c own
     → read_array rs f caps (path ++ f.name) present at c own p ≡ run_read rs f c (capacities_of (least_of caps)) path present at count p

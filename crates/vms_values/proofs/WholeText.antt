@@ -31,8 +31,7 @@ line_fits set well heads text line reason h = go (values_read set text) refl h
   where
     go : (v : ValuesRead) → values_read set text ≡ v → ReadsBy set v (Err (faults.Bad line reason)) → line < 2 ^ 32
     go (Values machine images) e h = absurd h
-    go (Bad l why) e h =
-        omega (arith, h.0, line_holds set text l why (fit_of set well heads) e, few_lines set well)
+    go (Bad l why) e h = omega (arith, h.0, line_holds set text l why (fit_of set well heads) e, few_lines set well)
 
 -- what is read of a text is what it means
 pub read_means : (set : Set) → is_well_formed set ≡ true → FitsHeads set → (text : List ℕ) (v : Given) → ReadsBy set (values_read set text) (Ok v) → MeansAs set text (Ok v)
@@ -101,5 +100,3 @@ text_told set m r old new v result h none first is known t = by new.judged refl 
     by : (o : Option Found) → new.judged ≡ o → ToldAs o v result → ReadsBy set (ended set m r) result
     by None e t = subst (ReadsBy set (ended set m r)) (sym t) (text_read set m r old new v h none first e is known)
     by (Some b) e t = subst (ReadsBy set (ended set m r)) (sym t) (text_judged set m r old new (map state_of v.images.items) b h none first e)
-
--- ---- a well-formed set has few machines

@@ -1,14 +1,13 @@
 -- A text that was accepted is the one of its machine and images.
 use Rattle.vms_values_laws.proofs.Facade.{◌≡◌, ℕ, suc, ◌+◌, ◌<◌, Bool, true, false, ◌==◌, List, [], ◌∷◌, ◌++◌, length, get_or, map, Option, Some, None, ℤ, pos}
-use Rattle.vms_values_laws.proofs.Facade.{refl, sym, ap, ◌∙◌, arith, codes, zero, ◌≤◌, AllByRecursion, slice_get, eqb-true, leb-true, ext_get_or, Sub, Device}
-use Rattle.vms_values_laws.proofs.Facade.{Set, desc_cells, struct_cells, Image, own_cells, version_text, Element, elements_in, printed, sub_line, Entry}
-use Rattle.vms_values_laws.proofs.Facade.{OfMachine, OfSub, OfNumber, number_entries, subs_entries, devices_entries, entry_line, device_entries, entries}
-use Rattle.vms_values_laws.proofs.Facade.{part_reason, is_of_cell, has_line, IsShaped, AreShaped, AreUnsaid, AllUnsaid, IsAtVersion, AreAtVersions, IsMachineOf}
-use Rattle.vms_values_laws.proofs.Facade.{AreFine, Says, Demand, ForSection, ForNumber, demand_of, Taken, lines_of, Follows, Along, either_of, ValuesReason}
-use Rattle.vms_values_laws.proofs.Facade.{first_line, IsReady, AreReady, BadLine, ReadDevice, ValuesRead, Values, Bad, machine_named, answer_of, or_bad}
-use Rattle.vms_values_laws.proofs.Facade.{WellFormed, IsGood, device_parts, sub_clean}
-use Rattle.vms_values_laws.proofs.Numbers.{AreShort, of_numbers, cancel, number_same}
-use Rattle.vms_values_laws.proofs.DevicesCome.{AllShort}
+use Rattle.vms_values_laws.proofs.Facade.{append_cancel_left, refl, sym, ap, ◌∙◌, arith, codes, zero, ◌≤◌, AllByRecursion, slice_get, eqb-true, leb-true}
+use Rattle.vms_values_laws.proofs.Facade.{ext_get_or, Sub, Device, Set, desc_cells, struct_cells, Image, own_cells, version_text, Element, elements_in, printed}
+use Rattle.vms_values_laws.proofs.Facade.{sub_line, Entry, OfMachine, OfSub, OfNumber, number_entries, subs_entries, devices_entries, entry_line}
+use Rattle.vms_values_laws.proofs.Facade.{device_entries, entries, part_reason, is_of_cell, has_line, IsShaped, AreShaped, AreUnsaid, AllUnsaid, IsAtVersion}
+use Rattle.vms_values_laws.proofs.Facade.{AreAtVersions, IsMachineOf, AreFine, Says, Demand, ForSection, ForNumber, demand_of, Taken, lines_of, Follows, Along}
+use Rattle.vms_values_laws.proofs.Facade.{either_of, ValuesReason, first_line, IsReady, AreReady, BadLine, ReadDevice, ValuesRead, Values, Bad, machine_named}
+use Rattle.vms_values_laws.proofs.Facade.{answer_of, or_bad, WellFormed, IsGood, device_parts, sub_clean}
+use Rattle.vms_values_laws.proofs.Numbers.{AreShort, of_numbers, number_same}
 use Rattle.vms_values_laws.proofs.SecondPass.{as_bad, parts_from}
 use Rattle.vms_values_laws.proofs.AllCome.{images_of, short_are}
 use Rattle.vms_values_laws.proofs.BadLines.{fine_text, NoneBad}
@@ -34,8 +33,6 @@ matched (t ∷ taken) (e ∷ es) (x ∷ fs) f a g l =
     let line : t.line ≡ entry_line x = cc in
     let lines : lines_of taken ≡ map entry_line fs = cc in
     (f.0 ∙ sym g.0, a.0 ∙ line, matched taken es fs (f.1 a.0) a.1 (g.1 (sym line)) lines)
-
--- ---- sections
 
 abbrev for_section : Demand → Bool
 for_section (ForSection d) = true
@@ -92,8 +89,6 @@ module _ (P : Entry → Type 0) (set : Set) (d : Device) (image : Image) (number
       all_both P (number_entries set d.desc image.numbers 0) _ (numbers_all (printed (elements_in set d.desc d.desc.version image.numbers 0)))
       (subs_all 0 (own_cells set d) d.subs image.came h)
 
--- ---- numbers
-
 abbrev of_demand : ℕ → Demand → Bool
 of_demand c (ForNumber x) = x.cell == c
 of_demand c _ = false
@@ -104,8 +99,7 @@ by_demand c _ = refl
 
 line_same : (es fs : List Entry) → Match es fs → (c : ℕ) → has_line es c ≡ has_line fs c
 line_same [] [] m c = refl
-line_same (e ∷ es) (f ∷ fs) m c =
-    rw (by_demand c e ∙ ap (of_demand c) m.0 ∙ sym (by_demand c f), line_same es fs m.2 c) refl
+line_same (e ∷ es) (f ∷ fs) m c = rw (by_demand c e ∙ ap (of_demand c) m.0 ∙ sym (by_demand c f), line_same es fs m.2 c) refl
 line_same _ _ m c = absurd m
 
 -- the numbers of entries are those of this state
@@ -131,8 +125,6 @@ module _ (n m : List ℤ) (short : AreShort n) (short' : AreShort m) where
       either_of (x.cell == c) _ e (λ t. one_number x k f c a.0 b.0 h.0 h.1 (eqb-true x.cell c t)) (λ g. agree es fs a.1 b.1 h.2 c g)
   agree (_ ∷ es) (f ∷ fs) a b h c e = agree es fs a.1 b.1 h.2 c e
 
--- ---- subsections
-
 abbrev came_with : Entry → List (Option ℕ) → List (Option ℕ)
 came_with (OfSub d image j s at o) came = o ∷ came
 came_with _ came = came
@@ -154,8 +146,7 @@ numbers_came n (x ∷ xs) es = numbers_came n xs es
 
 not_both : (s : Sub) (v : ℕ) → sub_line s None ≡ sub_line s (Some v) → ⊥
 not_both s v e =
-    let f = cancel (codes " ") (version_text None) (version_text (Some v))
-    (cancel s.desc.name (codes " " ++ version_text None) (codes " " ++ version_text (Some v)) (cancel (codes "sub ") _ _ e)) in
+    let f = append_cancel_left (codes " ") (version_text None) _ (append_cancel_left s.desc.name _ _ (append_cancel_left (codes "sub ") _ _ e)) in
     cc
 
 one_came : (s t : Sub) (o p : Option ℕ) → s ≡ t → IsAtVersion s o → IsAtVersion t p → sub_line s o ≡ sub_line t p → o ≡ p
@@ -175,8 +166,6 @@ came_same : (es fs : List Entry) → AreAt es → AreAt fs → Match es fs → c
 came_same [] [] a b m = refl
 came_same (e ∷ es) (f ∷ fs) a b m = ap (came_with e) (came_same es fs a.1 b.1 m.2) ∙ came_one e f (came_of fs) a.0 b.0 m.0 m.1
 came_same _ _ a b m = absurd m
-
--- ---- a device
 
 module _ (set : Set) (d : Device) (image : Image) where
   subs_came : (j at : ℕ) (subs : List Sub) (came : List (Option ℕ)) → length came ≡ length subs → came_of (subs_entries set d image j at subs came) ≡ came
@@ -203,9 +192,9 @@ module _ (set : Set) (d : Device) (image : Image) where
 same_image : (i j : Image) → i.version ≡ j.version → i.came ≡ j.came → i.numbers ≡ j.numbers → i ≡ j
 same_image i j e f g = let same : i ≡ record { version = j.version; came = j.came; numbers = j.numbers } = rw (← e, ← f, ← g) refl in same
 
-device_same : (set : Set) (d : Device) (image image' : Image) → IsShaped set d image → IsShaped set d image' → AreShort image.numbers → AreShort image'.numbers
+device_same : (set : Set) (d : Device) (image image' : Image) → IsShaped set d image → IsShaped set d image'
     → AreUnsaid set d image → AreUnsaid set d image' → Match (inside_of set d image) (inside_of set d image') → image ≡ image'
-device_same set d image image' a b short short' u u' m =
+device_same set d image image' a b u u' m =
     let es = inside_of set d image in
     let fs = inside_of set d image' in
     let long : length image.numbers ≡ length image'.numbers = a.cells ∙ sym b.cells in
@@ -215,31 +204,28 @@ device_same set d image image' a b short short' u u' m =
   where
     by_line : (c : ℕ) → c < length image.numbers → c < length image'.numbers → (t : Bool) → has_line (inside_of set d image) c ≡ t
         → get_or image.numbers c (pos 0) ≡ get_or image'.numbers c (pos 0)
-    by_line c lt lt' true t = agree image.numbers image'.numbers short short' _ _ (whole_of set d image a.versions) (whole_of set d image' b.versions) m c t
+    by_line c lt lt' true t =
+        agree image.numbers _ (short_are _ a.short) (short_are _ b.short) _ _ (whole_of set d image a.versions) (whole_of set d image' b.versions) m c t
     by_line c lt lt' false t = u c lt t ∙ sym (u' c lt' (sym (line_same (inside_of set d image) (inside_of set d image') m c) ∙ t))
-
--- ---- all of them
 
 begins_new : (set : Set) (devices : List Device) (images : List Image) → BeginsNew (devices_entries set devices images)
 begins_new set (d ∷ devices) (image ∷ images) = refl
 begins_new set _ _ = tt
 
 pub devices_same : (set : Set) (devices : List Device) (images images' : List Image) → AreShaped set devices images → AreShaped set devices images'
-    → AllShort images → AllShort images' → AllUnsaid set devices images → AllUnsaid set devices images'
-    → Match (devices_entries set devices images) (devices_entries set devices images') → images ≡ images'
-devices_same set [] [] [] a b s s' u u' m = refl
-devices_same set [] (i ∷ images) images' a b s s' u u' m = absurd a
-devices_same set [] [] (i ∷ images') a b s s' u u' m = absurd b
-devices_same set (d ∷ devices) [] images' a b s s' u u' m = absurd a
-devices_same set (d ∷ devices) (i ∷ images) [] a b s s' u u' m = absurd b
-devices_same set (d ∷ devices) (i ∷ images) (j ∷ images') a b s s' u u' m =
+    → AllUnsaid set devices images → AllUnsaid set devices images' → Match (devices_entries set devices images) (devices_entries set devices images')
+    → images ≡ images'
+devices_same set [] [] [] a b u u' m = refl
+devices_same set [] (i ∷ images) images' a b u u' m = absurd a
+devices_same set [] [] (i ∷ images') a b u u' m = absurd b
+devices_same set (d ∷ devices) [] images' a b u u' m = absurd a
+devices_same set (d ∷ devices) (i ∷ images) [] a b u u' m = absurd b
+devices_same set (d ∷ devices) (i ∷ images) (j ∷ images') a b u u' m =
     let p = parted (inside_of set d i) (devices_entries set devices images) (inside_of set d j) (devices_entries set devices images')
     (whole_inside set d i a.0.versions) (whole_inside set d j b.0.versions) (begins_new set devices images) (begins_new set devices images') m.2 in
-    rw (device_same set d i j a.0 b.0 s.0 s'.0 u.0 u'.0 p.inside, devices_same set devices images images' a.1 b.1 s.1 s'.1 u.1 u'.1 p.rest) refl
+    rw (device_same set d i j a.0 b.0 u.0 u'.0 p.inside, devices_same set devices images images' a.1 b.1 u.1 u'.1 p.rest) refl
 
 -- ---- A text in which no line is bad says a state; the second pass finds its first bad part, or the state is ready.
-
--- ---- what a text says
 
 named_machine : (set : Set) (text : List ℕ) (machine : Option (List ℕ)) → machine ≡ machine_named set.machines (first_line text) → IsMachineOf set machine
 named_machine set text None e = tt
@@ -250,8 +236,6 @@ none_says set text v n =
     let f = n.first in
     let fine = fine_text set text n.machine n.all f n.ends in
     record { named = named_machine set text n.machine f.named; shaped = f.shaped; unsaid = f.unsaid; fine = fine.0; printed = fine.1 }
-
--- ---- the second pass over entries
 
 abbrev pub answer_by : Option (List ℕ) → List Image → Option BadLine → ValuesRead
 answer_by machine images (Some b) = Bad b.line b.reason
@@ -275,8 +259,6 @@ none_good set line (e ∷ es) h = go (part_reason set e) refl h (λ g. none_good
         → (parts_from set (suc line) es ≡ None → AreGood set es) → (part_reason set e ≡ None) × AreGood set es
     go None is h more = (is, more h)
     go (Some reason) is h more = cc
-
--- ---- ready
 
 module _ (set : Set) (well : WellFormed set) (good : IsGood set) where
   low : (k : ℕ) (d : Device) → slice_get set.devices k ≡ Some d → d.desc.minimum ≤ d.desc.version

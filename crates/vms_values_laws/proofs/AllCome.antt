@@ -1,33 +1,27 @@
 -- All devices, read as entries, and which devices reading requires.
-use Rattle.vms_values_laws.proofs.Facade.{◌≡◌, ℕ, zero, suc, ◌+◌, ◌<◌, List, [], ◌∷◌, ◌++◌, length, get_or, map, slice_set, Bool, true, false, nat_le, ◌||◌}
-use Rattle.vms_values_laws.proofs.Facade.{◌&&◌, ◌==◌, if◌then◌else◌, Some, None, ℤ, pos, negsuc, Ok, Err, Result, refl, sym, ap, ◌∙◌, arith, get_or-set_other}
-use Rattle.vms_values_laws.proofs.Facade.{append-nil, Option, list_all, slice_get, eqb-true, eq-eqb, and_parts, leb-true, le-leb, length-map, length-set}
-use Rattle.vms_values_laws.proofs.Facade.{get_or-set_same, get_or-map, Device, Set, Sub, no_cell, device_cells, Cell, Image, default_image, own_cells}
-use Rattle.vms_values_laws.proofs.Facade.{first_line, BadLine, ReadSubs, ReadDevice, ReadAll, readers, read_desc, read_subs, read_devices, device_read}
-use Rattle.vms_values_laws.proofs.Facade.{with_device, then_subs, next_line, is_line, IsSound, AreSound, IsShort, section_line, Entry, device_entries}
-use Rattle.vms_values_laws.proofs.Facade.{devices_entries, is_short, IsShaped, AreShaped, AreUnsaid, AllUnsaid, Said, put_all, Demand, reason_for, Taken}
-use Rattle.vms_values_laws.proofs.Facade.{Follows, Along, Begins, Moved, IsGood, DefaultsFit, ranged}
+use Rattle.vms_values_laws.proofs.Facade.{◌≡◌, ℕ, zero, suc, ◌+◌, ◌<◌, List, [], ◌∷◌, ◌++◌, length, get_or, map, slice_set, Bool, true, false, nat_le, ⊎_elim}
+use Rattle.vms_values_laws.proofs.Facade.{AllByRecursion, or_right, and_from, cases_eq, ◌&&◌, if◌then◌else◌, Some, None, ℤ, pos, negsuc, Ok, Err, Result, refl}
+use Rattle.vms_values_laws.proofs.Facade.{sym, ap, ◌∙◌, arith, get_or-set_other, append-nil, Option, list_all, and_parts, leb-true, le-leb, length-map}
+use Rattle.vms_values_laws.proofs.Facade.{length-set, get_or-set_same, get_or-map, either_of, Device, Set, no_cell, device_cells, Cell, Image, default_image}
+use Rattle.vms_values_laws.proofs.Facade.{own_cells, first_line, BadLine, ReadSubs, ReadDevice, ReadAll, readers, read_desc, read_subs, read_devices}
+use Rattle.vms_values_laws.proofs.Facade.{device_read, with_device, then_subs, next_line, is_line, IsSound, AreSound, IsShort, section_line, Entry}
+use Rattle.vms_values_laws.proofs.Facade.{device_entries, devices_entries, is_short, IsShaped, AreShaped, AreUnsaid, AllUnsaid, Said, put_all, Demand}
+use Rattle.vms_values_laws.proofs.Facade.{reason_for, Taken, Follows, Along, Begins, Moved, IsGood, DefaultsFit, ranged}
+use Rattle.vms_values_laws.proofs.SaidLaws.{all_from, unsaid_kept, AreShortSaid}
 use Rattle.vms_values_laws.proofs.Coming.{short}
 use Rattle.vms_values_laws.proofs.Numbers.{follows_then, along_then, moved_none, moved_then, AreShort, short_within}
 use Rattle.vms_values_laws.proofs.SecondPass.{IsLined, AreLined}
 use Rattle.vms_values_laws.proofs.SubsCome.{AreSoundSubs, none_at}
-use Rattle.vms_values_laws.proofs.DevicesCome.{AllShort, default_numbers, image_of, DeviceRead, DeviceStop, DeviceComes, section_refused, inside_comes}
-use Rattle.vms_values_laws.proofs.DevicesCome.{section_read, section_not, DeviceWent, state_of}
-use Rattle.vms_values_laws.proofs.SaidLaws.{unsaid_kept, AreShortSaid}
+use Rattle.vms_values_laws.proofs.DevicesCome.{default_numbers, image_of, DeviceRead, DeviceStop, DeviceComes, section_refused, inside_comes, section_read}
+use Rattle.vms_values_laws.proofs.DevicesCome.{section_not, DeviceWent, state_of}
 use Rattle.vms_spec.specs.declared.ValuesReason.TheVariants as reasons
 
 -- ---- The devices of a set one after the other, read as entries.
 
--- ---- numbers of at most 64 bits
-
 short_set : (n : List ℤ) (i : ℕ) (z : ℤ) → IsShort z → AreShort n → AreShort (slice_set n i z)
-short_set n i z h short = short_within (slice_set n i z) (λ c lt. by_same c lt (c == i) refl)
-  where
-    by_same : (c : ℕ) → c < length (slice_set n i z) → (b : Bool) → (c == i) ≡ b → IsShort (get_or (slice_set n i z) c (pos 0))
-    by_same c lt true e =
-        let same = eqb-true c i e in
-        rw (same, get_or-set_same n i z (pos 0) (omega (arith, length-set n i z))) h
-    by_same c lt false e = rw (get_or-set_other n i c z (pos 0) (λ s. let f = eq-eqb c i s in cc)) (short c)
+short_set n i z h short = short_within (slice_set n i z) (λ c lt.
+    ⊎_elim (λ (same : c ≡ i). rw (same, get_or-set_same n i z (pos 0) (omega (arith, length-set n i z))) h)
+    (λ (ne : c ≡ i → ⊥). rw (get_or-set_other n i c z (pos 0) ne) (short c)) (cases_eq c i))
 
 pub short_all : (n : List ℤ) (said : List Said) → AreShortSaid said → AreShort n → AreShort (put_all n said)
 short_all n [] h short = short
@@ -35,11 +29,8 @@ short_all n (s ∷ said) h short = short_all (slice_set n s.element.cell s.numbe
 
 -- as a test that computes
 is_short_one : (z : ℤ) → IsShort z → is_short z ≡ true
-is_short_one (pos n) h = either (nat_le n 0x7fff_ffff_ffff_ffff) (le-leb 0 n (omega arith)) (le-leb n 0xffff_ffff_ffff_ffff (omega arith))
-  where
-    either : (a : Bool) → nat_le 0 n ≡ true → nat_le n 0xffff_ffff_ffff_ffff ≡ true → (a || (nat_le 0 n && nat_le n 0xffff_ffff_ffff_ffff)) ≡ true
-    either true e f = refl
-    either false e f = rw (e, f) refl
+is_short_one (pos n) h =
+    or_right (nat_le n 0x7fff_ffff_ffff_ffff) _ (and_from (nat_le 0 n) _ (le-leb 0 n (omega arith)) (le-leb n 0xffff_ffff_ffff_ffff (omega arith)))
 is_short_one (negsuc n) h = let e = le-leb n 0x7fff_ffff_ffff_ffff (omega arith) in rw e refl
 
 pub are_short : (n : List ℤ) → AreShort n → list_all is_short n ≡ true
@@ -47,35 +38,26 @@ are_short [] h = refl
 are_short (z ∷ n) h = let e = is_short_one z (h 0) in let f = are_short n (λ c. h (suc c)) in rw (e, f) refl
 
 short_one : (z : ℤ) → is_short z ≡ true → IsShort z
-short_one (pos n) e = by_test (nat_le n 0x7fff_ffff_ffff_ffff) refl (nat_le n 0xffff_ffff_ffff_ffff) refl e
-  where
-    by_test : (a : Bool) → nat_le n 0x7fff_ffff_ffff_ffff ≡ a → (b : Bool) → nat_le n 0xffff_ffff_ffff_ffff ≡ b → (a || (nat_le 0 n && b)) ≡ true
-        → IsShort (pos n)
-    by_test true f b g h = omega (arith, leb-true n 0x7fff_ffff_ffff_ffff f)
-    by_test false f true g h = omega (arith, leb-true n 0xffff_ffff_ffff_ffff g)
-    by_test false f false g h = let e = (and_parts (nat_le 0 n) false h).1 in cc
-short_one (negsuc n) e = by_test (nat_le n 0x7fff_ffff_ffff_ffff) refl e
-  where
-    by_test : (a : Bool) → nat_le n 0x7fff_ffff_ffff_ffff ≡ a → ((a && true) || (false && false)) ≡ true → IsShort (negsuc n)
-    by_test true f h = omega (arith, leb-true n 0x7fff_ffff_ffff_ffff f)
-    by_test false f h = cc
+short_one (pos n) e =
+    either_of (nat_le n 0x7fff_ffff_ffff_ffff) _ e (λ f. omega (arith, leb-true n 0x7fff_ffff_ffff_ffff f))
+    (λ f. omega (arith, leb-true n 0xffff_ffff_ffff_ffff (and_parts (nat_le 0 n) (nat_le n 0xffff_ffff_ffff_ffff) f).1))
+short_one (negsuc n) e =
+    either_of (nat_le n 0x7fff_ffff_ffff_ffff && true) false e
+    (λ f. omega (arith, leb-true n 0x7fff_ffff_ffff_ffff (and_parts (nat_le n 0x7fff_ffff_ffff_ffff) true f).0)) (λ f. cc)
 
 pub short_are : (n : List ℤ) → list_all is_short n ≡ true → AreShort n
 short_are [] e c = omega arith
 short_are (z ∷ n) e zero = short_one z (and_parts (is_short z) (list_all is_short n) e).0
 short_are (z ∷ n) e (suc c) = short_are n (and_parts (is_short z) (list_all is_short n) e).1 c
 
-pub all_short : (set : Set) (devices : List Device) (images : List Image) → AreShaped set devices images → AllShort images
-all_short set [] [] h = tt
-all_short set (d ∷ devices) (image ∷ images) h = (short_are image.numbers h.0.short, all_short set devices images h.1)
-all_short set _ _ h = absurd h
+-- what reading requires of a device
+pub record IsGoodDevice (set : Set) (d : Device) : Type 0 where
+  pub sound : IsSound d.desc
+  pub subs : AreSoundSubs d.subs
+  pub short : AreShort (default_numbers set d)
 
--- ---- devices
-
--- what reading requires of the devices
 abbrev pub AreGoodDevices : Set → List Device → Type 0
-AreGoodDevices set [] = Unit {0}
-AreGoodDevices set (d ∷ devices) = IsSound d.desc × AreSoundSubs set d d.subs × AreShort (default_numbers set d) × AreGoodDevices set devices
+AreGoodDevices set = AllByRecursion (λ (d : Device). IsGoodDevice set d)
 
 abbrev pub images_of : List ReadDevice → List Image
 images_of devices = map (λ (r : ReadDevice). r.image) devices
@@ -85,8 +67,7 @@ pub record AllWent (set : Set) (devices : List Device) (line : ℕ) (text : List
     (Then : List Entry → Type 0) : Type 0 where
   pub taken : List Taken
   pub shaped : AreShaped set devices images
-  pub short : AllShort images
-  pub follows : (images : List Image) → AreShaped set devices images → AllShort images → Follows taken Then (devices_entries set devices images)
+  pub follows : (images : List Image) → AreShaped set devices images → Follows taken Then (devices_entries set devices images)
   pub along : Along taken Then (devices_entries set devices images)
   pub moved : Moved line text taken line' rest
 
@@ -125,19 +106,23 @@ defaults_shaped set (d ∷ devices) good = (
     subs = length-map d.subs (λ s. None);
     versions = none_at set d d.subs;
     cells = length-map (device_cells set d) (λ c. c.default);
-    short = are_short (default_numbers set d) good.2;
+    short = are_short (default_numbers set d) good.0.short;
   },
-  defaults_shaped set devices good.3,
+  defaults_shaped set devices good.1,
 )
 
-defaults_short : (set : Set) (devices : List Device) → AreGoodDevices set devices → AllShort (default_images set devices)
-defaults_short set [] good = tt
-defaults_short set (d ∷ devices) good = (good.2, defaults_short set devices good.3)
-
 module _ (set : Set) (d : Device) (devices : List Device) (line : ℕ) (text : List ℕ) (good : AreShort (default_numbers set d)) where
+  -- what follows for an image and those after it follows for all states
+  each_state : (taken : List Taken) (P : List Entry → Type 0)
+      → ((i : Image) (images : List Image) → IsShaped set d i → AreShaped set devices images → Follows taken P (devices_entries set (d ∷ devices) (i ∷ images)))
+      → (images : List Image) → AreShaped set (d ∷ devices) images → Follows taken P (devices_entries set (d ∷ devices) images)
+  each_state taken P h [] shaped = absurd shaped
+  each_state taken P h (i ∷ images) shaped = h i images shaped.0 shaped.1
+
   shaped_as : {came : List (Option ℕ)} {numbers : List ℤ} {line' : ℕ} {rest : List ℕ} {Then : List Entry → List Entry → Type 0}
-      → DeviceWent set d line text came numbers line' rest Then → AreShort numbers → IsShaped set d (state_of d came numbers)
-  shaped_as {numbers = numbers} w fits =
+      → DeviceWent set d line text came numbers line' rest Then → IsShaped set d (state_of d came numbers)
+  shaped_as {numbers = numbers} w =
+      let fits : AreShort numbers = rw (w.told.numbers) (short_all (default_numbers set d) w.said w.told.short good) in
       record {
         version = refl;
         subs = w.one_each;
@@ -148,34 +133,25 @@ module _ (set : Set) (d : Device) (devices : List Device) (line : ℕ) (text : L
 
   stopped_here : (e : BadLine) → AreGoodDevices set devices → DeviceStop set d line text e → AllStop set (d ∷ devices) line text e
   stopped_here e later s =
-      let image = state_of d s.came s.numbers in
-      let fits : AreShort s.numbers = rw (s.told.numbers) (short_all (default_numbers set d) s.said s.told.short good) in
+      let w = s.before in
       record {
         demand = s.demand;
-        images = image ∷ default_images set devices;
+        images = state_of d s.came s.numbers ∷ default_images set devices;
         rest = s.rest;
         before = record {
-          taken = s.taken;
-          shaped = (shaped_as s.before fits, defaults_shaped set devices later);
-          short = (fits, defaults_short set devices later);
-          follows = λ images shaped short. go images shaped short;
-          along = s.along (devices_entries set devices (default_images set devices));
-          moved = s.moved;
+          taken = w.taken;
+          shaped = (shaped_as w, defaults_shaped set devices later);
+          follows = each_state w.taken (λ es. Begins s.demand es)
+              (λ i images shaped others. w.follows i (devices_entries set devices images) shaped.subs (short_are i.numbers shaped.short));
+          along = w.along (devices_entries set devices (default_images set devices));
+          moved = w.moved;
         };
         wrong = s.wrong;
       }
-    where
-      go : (images : List Image) → AreShaped set (d ∷ devices) images → AllShort images
-          → Follows s.taken (λ es. Begins s.demand es) (devices_entries set (d ∷ devices) images)
-      go [] shaped short = absurd shaped
-      go (image ∷ images) shaped short = s.follows image (devices_entries set devices images) shaped.0.subs short.0
 
   module _ (r : ReadSubs) (x : DeviceRead set d line text r) where
     abbrev image : Image
     image = image_of d r
-
-    image_short : AreShort image.numbers
-    image_short = rw (x.told.numbers) (short_all (default_numbers set d) x.said x.told.short good)
 
     -- the other devices behind it
     all_behind : {images : List Image} {line' : ℕ} {rest : List ℕ} {Then : List Entry → Type 0}
@@ -183,19 +159,13 @@ module _ (set : Set) (d : Device) (devices : List Device) (line : ℕ) (text : L
     all_behind {images = images} {Then = Then} a =
         record {
           taken = x.taken ++ a.taken;
-          shaped = (shaped_as x.whole image_short, a.shaped);
-          short = (image_short, a.short);
-          follows = λ images shaped short. each images shaped short;
+          shaped = (shaped_as x.whole, a.shaped);
+          follows = each_state (x.taken ++ a.taken) Then (λ i images shaped others.
+              follows_then x.taken a.taken (λ es. es ≡ devices_entries set devices images) Then _ (x.follows i _ shaped.subs (short_are i.numbers shaped.short))
+              (λ es is. rw is (a.follows images others)));
           along = along_then x.taken a.taken (λ es. es ≡ devices_entries set devices images) Then _ (x.along _) (λ es is. rw is a.along);
           moved = moved_then x.moved a.moved;
         }
-      where
-        each : (images : List Image) → AreShaped set (d ∷ devices) images → AllShort images
-            → Follows (x.taken ++ a.taken) Then (devices_entries set (d ∷ devices) images)
-        each [] shaped short = absurd shaped
-        each (i ∷ images) shaped short =
-            follows_then x.taken a.taken (λ es. es ≡ devices_entries set devices images) Then _ (x.follows i _ shaped.0.subs short.0)
-            (λ es is. rw is (a.follows images shaped.1 short.1))
 
     -- a number about which nothing was said is its default
     image_unsaid : AreUnsaid set d image
@@ -214,17 +184,15 @@ module _ (set : Set) (d : Device) (devices : List Device) (line : ℕ) (text : L
 
     others_come : (o : Result ReadAll BadLine) → AllCome set devices r.place.line r.place.rest o
         → AllCome set (d ∷ devices) line text (with_device (record { image = image; line = line; sub_lines = r.lines }) o)
-    others_come (Ok all) a =
-        record { whole = all_behind a.whole; unsaid = (image_unsaid, a.unsaid); lined = (image_lined, rw after_it at a.lined) }
-    others_come (Err e) a =
-        record { demand = a.demand; images = image ∷ a.images; rest = a.rest; before = all_behind a.before; wrong = a.wrong }
+    others_come (Ok all) a = record { whole = all_behind a.whole; unsaid = (image_unsaid, a.unsaid); lined = (image_lined, rw after_it at a.lined) }
+    others_come (Err e) a = record { demand = a.demand; images = image ∷ a.images; rest = a.rest; before = all_behind a.before; wrong = a.wrong }
 
   by_device : (r : Result ReadSubs BadLine) (go : ℕ → List ℕ → Result ReadAll BadLine) → AreGoodDevices set devices → DeviceComes set d line text r
       → ((line : ℕ) (text : List ℕ) → AllCome set devices line text (go line text)) → AllCome set (d ∷ devices) line text (device_read d line r go)
   by_device (Ok r) go later x h = others_come r x (go r.place.line r.place.rest) (h r.place.line r.place.rest)
   by_device (Err e) go later x h = stopped_here e later x
 
-  by_section : (b : Bool) → is_line (section_line d d.desc.version) (first_line text) ≡ b → AreSound set.structs → IsSound d.desc → AreSoundSubs set d d.subs
+  by_section : (b : Bool) → is_line (section_line d d.desc.version) (first_line text) ≡ b → AreSound set.structs → IsSound d.desc → AreSoundSubs d.subs
       → AreGoodDevices set devices → (go : ℕ → List ℕ → Result ReadAll BadLine) → ((line : ℕ) (text : List ℕ) → AllCome set devices line text (go line text))
       → AllCome set (d ∷ devices) line text
       (if b
@@ -241,13 +209,13 @@ pub devices_come : (set : Set) → AreSound set.structs → (devices : List Devi
     → AllCome set devices line text (read_devices set devices line text)
 devices_come set structs [] good line text =
     record {
-      whole = record { taken = []; shaped = tt; short = tt; follows = λ images shaped short. refl; along = refl; moved = moved_none line text };
+      whole = record { taken = []; shaped = tt; follows = λ images shaped. refl; along = refl; moved = moved_none line text };
       unsaid = tt;
       lined = tt;
     }
 devices_come set structs (d ∷ devices) good line text =
-    by_section set d devices line text good.2 (is_line (section_line d d.desc.version) (first_line text)) refl structs good.0 good.1 good.3
-    (λ line text. read_devices set devices line text) (λ line text. devices_come set structs devices good.3 line text)
+    by_section set d devices line text good.0.short (is_line (section_line d d.desc.version) (first_line text)) refl structs good.0.sound good.0.subs good.1
+    (λ line text. read_devices set devices line text) (λ line text. devices_come set structs devices good.1 line text)
 
 -- ---- What reading requires of the devices follows from what the laws require of a set.
 
@@ -257,25 +225,11 @@ short_defaults cells fit = short_within (map (λ c. c.default) cells) (λ c lt.
     let cell = get_or cells c no_cell in
     rw (get_or-map (λ c. c.default) cells c no_cell (pos 0) l) (short cell.kind cell.default (ranged cell.kind cell.default (fit c l).0)))
 
-subs_from : (set : Set) (d : Device) (subs : List Sub) → ((j : ℕ) (s : Sub) → slice_get subs j ≡ Some s → IsSound s.desc) → AreSoundSubs set d subs
-subs_from set d [] h = tt
-subs_from set d (s ∷ subs) h = (h 0 s refl, subs_from set d subs (λ j t e. h (suc j) t e))
-
--- what is known of a device
-record Known (set : Set) (d : Device) : Type 0 where
-  sound : IsSound d.desc
-  subs : AreSoundSubs set d d.subs
-  short : AreShort (default_numbers set d)
-
-devices_from : (set : Set) (devices : List Device) → ((k : ℕ) (d : Device) → slice_get devices k ≡ Some d → Known set d) → AreGoodDevices set devices
-devices_from set [] h = tt
-devices_from set (d ∷ devices) h = let k = h 0 d refl in (k.sound, k.subs, k.short, devices_from set devices (λ k t e. h (suc k) t e))
-
 pub good_devices : (set : Set) → IsGood set → AreGoodDevices set set.devices
 good_devices set good =
-    devices_from set set.devices
+    all_from _ set.devices
     (λ k d e. record {
       sound = good.devices k d e;
-      subs = subs_from set d d.subs (λ j s f. good.subs k j d s e f);
+      subs = all_from _ d.subs (λ j s f. good.subs k j d s e f);
       short = short_defaults (device_cells set d) (good.defaults k d e);
     })

@@ -1,21 +1,19 @@
 -- The first bad line of a text.
 use Rattle.vms_values_laws.proofs.Facade.{◌≡◌, ℕ, suc, ◌+◌, List, [], ◌∷◌, ◌++◌, length, map, Option, Some, None, refl, sym, ap, ◌∙◌, arith, append-nil, codes}
-use Rattle.vms_values_laws.proofs.Facade.{◌⊎◌, inl, inr, Bool, true, false, ◌&&◌, drop, Ok, Err, Result, if◌then◌else◌, same_Some, bytes_eq-Decides}
-use Rattle.vms_values_laws.proofs.Facade.{ValuesReason, Set, Image, first_line, begins_with, BadLine, ReadAll, machine_named, judge_devices, read_devices}
-use Rattle.vms_values_laws.proofs.Facade.{rest_of, after_machine, ended, judged, answer_of, ValuesRead, Bad, values_read, text_of, Entry, entries}
-use Rattle.vms_values_laws.proofs.Facade.{devices_entries, entry_line, front_reason, AreShaped, AllUnsaid, AreFine, IsBadLine, Demand, ForMachine, reason_for}
-use Rattle.vms_values_laws.proofs.Facade.{Taken, lines_of, AreFineTaken, Follows, Along, Begins, Moved, is_one_of, AreSound, begun}
-use Rattle.vms_values_laws.proofs.Numbers.{reason_same, moved_then, moved_none, moved_one}
+use Rattle.vms_values_laws.proofs.Facade.{and_parts, ◌⊎◌, inl, inr, ◌&&◌, drop, Ok, Err, Result, bytes_eq-Decides, ValuesReason, Set, Image, first_line}
+use Rattle.vms_values_laws.proofs.Facade.{begins_with, BadLine, ReadAll, machine_named, judge_devices, read_devices, rest_of, after_machine, ended, judged}
+use Rattle.vms_values_laws.proofs.Facade.{answer_of, ValuesRead, Bad, values_read, text_of, Entry, entries, devices_entries, entry_line, front_reason}
+use Rattle.vms_values_laws.proofs.Facade.{AreShaped, AllUnsaid, AreFine, IsBadLine, Demand, ForMachine, reason_for, Taken, lines_of, AreFineTaken, Follows}
+use Rattle.vms_values_laws.proofs.Facade.{Along, Begins, Moved, is_one_of, AreSound, begun}
+use Rattle.vms_values_laws.proofs.SaidLaws.{some_if}
+use Rattle.vms_values_laws.proofs.Numbers.{follows_then, along_then, reason_same, moved_then, moved_none, moved_one}
 use Rattle.vms_values_laws.proofs.SecondPass.{parts_from, devices_judged}
-use Rattle.vms_values_laws.proofs.DevicesCome.{AllShort}
-use Rattle.vms_values_laws.proofs.AllCome.{images_of, AllRead, AllStop, AreGoodDevices, AllCome, devices_come, all_short, AllWent}
+use Rattle.vms_values_laws.proofs.AllCome.{images_of, AllRead, AllStop, AreGoodDevices, AllCome, devices_come, AllWent}
 use Rattle.vms_values_laws.proofs.SubsCome.{line_taken}
 use Rattle.vms_values_laws.proofs.Meeting.{Ends}
 use Rattle.vms_spec.specs.declared.ValuesReason.TheVariants as reasons
 
 -- ---- What the first pass finds in a whole text.
-
--- ---- entries that follow what was taken and have its lines
 
 pub record Split (taken : List Taken) (P : List Entry → Type 0) (es : List Entry) : Type 0 where
   pub before : List Entry
@@ -45,29 +43,28 @@ split (t ∷ taken) P Q (e ∷ es) fine f a =
       rest = s.rest;
     }
 
--- ---- the first bad line
+-- What the first pass takes of a text: the lines of each state that has them, up to a bad line or the end.
+pub record TakenOf (set : Set) (text : List ℕ) (machine : Option (List ℕ)) (taken : List Taken) (at : ℕ) (rest : List ℕ) (o : Option ValuesReason)
+    : Type 0 where
+  pub named : machine ≡ machine_named set.machines (first_line text)
+  pub follows : (images : List Image) → AreShaped set set.devices images → Follows taken (λ es. Ends o rest es) (entries set machine images)
+  pub moved : Moved 1 text taken at rest
 
 -- the relation says of it that it is bad
 pub record FirstBad (set : Set) (text : List ℕ) (line : ℕ) (reason : ValuesReason) : Type 0 where
   pub machine : Option (List ℕ)
   pub taken : List Taken
   pub rest : List ℕ
-  pub named : machine ≡ machine_named set.machines (first_line text)
-  pub follows : (images : List Image) → AreShaped set set.devices images → AllShort images
-      → Follows taken (λ es. front_reason es rest ≡ Some reason) (entries set machine images)
-  pub moved : Moved 1 text taken line rest
+  pub took : TakenOf set text machine taken line rest (Some reason)
   pub is_bad : IsBadLine set text line reason
-
--- ---- a text without one
 
 pub record FirstFine (set : Set) (text : List ℕ) (machine : Option (List ℕ)) (all : ReadAll) : Type 0 where
   pub taken : List Taken
   pub named : machine ≡ machine_named set.machines (first_line text)
   pub shaped : AreShaped set set.devices (images_of all.devices)
-  pub short : AllShort (images_of all.devices)
   pub unsaid : AllUnsaid set set.devices (images_of all.devices)
   pub judged : judge_devices set set.devices all.devices ≡ parts_from set 1 (entries set machine (images_of all.devices))
-  pub follows : (images : List Image) → AreShaped set set.devices images → AllShort images → Follows taken (λ es. es ≡ []) (entries set machine images)
+  pub follows : (images : List Image) → AreShaped set set.devices images → Follows taken (λ es. es ≡ []) (entries set machine images)
   pub along : Along taken (λ es. es ≡ []) (entries set machine (images_of all.devices))
   pub moved : Moved 1 text taken all.line all.rest
 
@@ -77,30 +74,23 @@ pub fine_text : (set : Set) (text : List ℕ) (machine : Option (List ℕ)) (all
 fine_text set text machine all f e =
     let P : List Entry → Type 0 = λ es. es ≡ [] in
     let es = entries set machine (images_of all.devices) in
-    let s = split f.taken P P es f.moved.fine (f.follows (images_of all.devices) f.shaped f.short) f.along in
+    let s = split f.taken P P es f.moved.fine (f.follows (images_of all.devices) f.shaped) f.along in
     let whole : es ≡ s.before = s.is ∙ ap (λ (l : List Entry). s.before ++ l) s.rest ∙ append-nil s.before in (
       rw whole s.fine,
       f.moved.texts ∙ ap (λ (l : List ℕ). text_of (lines_of f.taken) ++ l) e ∙ append-nil (text_of (lines_of f.taken)) ∙ ap text_of (sym s.lines) ∙ ap
           (λ (l : List Entry). text_of (map entry_line l)) (sym whole),
     )
 
--- ---- both, of a whole text
-
 front_of : (demand : Demand) (rest : List ℕ) (reason : ValuesReason) (es : List Entry) → reason_for demand (first_line rest) ≡ Some reason → Begins demand es
     → front_reason es rest ≡ Some reason
-front_of demand rest reason es wrong b =
-    rw (b.is) (reason_same b.first (first_line rest) ∙ rw (b.demands) wrong)
+front_of demand rest reason es wrong b = rw (b.is) (reason_same b.first (first_line rest) ∙ rw (b.demands) wrong)
 
 pub follows_ends : (taken : List Taken) (P Q : List Entry → Type 0) (es : List Entry) → Follows taken P es → ((xs : List Entry) → P xs → Q xs)
     → Follows taken Q es
-follows_ends [] P Q es f h = h es f
-follows_ends (t ∷ taken) P Q [] f h = absurd f
-follows_ends (t ∷ taken) P Q (e ∷ es) f h = (f.0, λ x. follows_ends taken P Q es (f.1 x) h)
+follows_ends taken P Q es f h = rw (append-nil taken) at (follows_then taken [] P Q es f h)
 
 pub along_ends : (taken : List Taken) (P Q : List Entry → Type 0) (es : List Entry) → Along taken P es → ((xs : List Entry) → P xs → Q xs) → Along taken Q es
-along_ends [] P Q es f h = h es f
-along_ends (t ∷ taken) P Q [] f h = absurd f
-along_ends (t ∷ taken) P Q (e ∷ es) f h = (f.0, along_ends taken P Q es f.1 h)
+along_ends taken P Q es f h = rw (append-nil taken) at (along_then taken [] P Q es f h)
 
 -- the line of the machine, if one is named
 abbrev machine_taken : Option (List ℕ) → List Taken
@@ -136,17 +126,15 @@ module _ (set : Set) (text : List ℕ) (machine : Option (List ℕ)) (line : ℕ
       let P : List Entry → Type 0 = λ es. front_reason es rest ≡ Some reason in
       let all = machine_taken machine ++ a.taken in
       let passed : Moved 1 text all at rest = moved_then head.moved a.moved in
-      let its : (images : List Image) → AreShaped set set.devices images → AllShort images → Follows all P (entries set machine images) =
-      λ images shaped short. follows_machine set machine images a.taken P (follows_ends a.taken Q P _ (a.follows images shaped short) bad) in
-      let s = split all P P (entries set machine images) passed.fine (its images a.shaped a.short)
+      let its : (images : List Image) → AreShaped set set.devices images → Follows all P (entries set machine images) =
+      λ images shaped. follows_machine set machine images a.taken P (follows_ends a.taken Q P _ (a.follows images shaped) bad) in
+      let s = split all P P (entries set machine images) passed.fine (its images a.shaped)
       (along_machine set machine images a.taken P (along_ends a.taken Q P _ a.along bad)) in
       record {
         machine = machine;
         taken = all;
         rest = rest;
-        named = head.named;
-        follows = its;
-        moved = passed;
+        took = record { named = head.named; follows = its; moved = passed };
         is_bad = record {
           machine = machine;
           images = images;
@@ -164,14 +152,12 @@ module _ (set : Set) (text : List ℕ) (machine : Option (List ℕ)) (line : ℕ
       }
 
   pub stopped_first : (e : BadLine) → AllStop set set.devices line after e → FirstBad set text e.line e.reason
-  stopped_first e a =
-      first_bad e.reason a.before (λ es b. front_of a.demand a.rest e.reason es a.wrong b)
+  stopped_first e a = first_bad e.reason a.before (λ es b. front_of a.demand a.rest e.reason es a.wrong b)
 
   -- something comes after the last line
   pub more_first : (all : ReadAll) (b : ℕ) (rest : List ℕ) → all.rest ≡ b ∷ rest → AllRead set set.devices line after all
       → FirstBad set text all.line reasons.Form
-  more_first all b rest e a =
-      first_bad reasons.Form a.whole (λ es is. rw (is, e) refl)
+  more_first all b rest e a = first_bad reasons.Form a.whole (λ es is. rw (is, e) refl)
 
   pub fine_first : (all : ReadAll) → AllRead set set.devices line after all → FirstFine set text machine all
   fine_first all a =
@@ -180,34 +166,21 @@ module _ (set : Set) (text : List ℕ) (machine : Option (List ℕ)) (line : ℕ
         taken = machine_taken machine ++ a.taken;
         named = head.named;
         shaped = a.shaped;
-        short = a.short;
         unsaid = a.unsaid;
         judged = devices_judged set line set.devices all.devices a.lined a.shaped ∙ parts_machine set machine line (images_of all.devices) head.moved.further;
-        follows = λ images shaped short. follows_machine set machine images a.taken P (a.follows images shaped short);
+        follows = λ images shaped. follows_machine set machine images a.taken P (a.follows images shaped);
         along = along_machine set machine (images_of all.devices) a.taken P a.along;
         moved = moved_then head.moved a.moved;
       }
 
 -- ---- The first pass over a text: a bad line, or what its lines say.
 
--- ---- the line of the machine
-
-machine_line : (machines : List (List ℕ)) (line name : List ℕ) (b : Bool) → begins_with (codes "machine ") line ≡ b → (c : Bool)
-    → is_one_of machines (drop 8 line) ≡ c → (if b && c then Some (drop 8 line) else None) ≡ Some name → line ≡ codes "machine " ++ name
-machine_line machines line name true e true f h =
-    let is : drop 8 line ≡ name = same_Some (drop 8 line) name h in
-    begun (codes "machine ") line e ∙ ap (λ (l : List ℕ). codes "machine " ++ l) is
-machine_line machines line name true e false f h = cc
-machine_line machines line name false e c f h = cc
-
 machine_first : (machines : List (List ℕ)) (o : Option (List ℕ × List ℕ)) (name : List ℕ) → machine_named machines o ≡ Some name
     → (rest : List ℕ) × (o ≡ Some (codes "machine " ++ name, rest))
 machine_first machines None name e = cc
-machine_first machines (Some (line, rest)) name e = (
-  rest,
-  ap (λ (l : List ℕ). Some (l, rest))
-      (machine_line machines line name (begins_with (codes "machine ") line) refl (is_one_of machines (drop 8 line)) refl e),
-)
+machine_first machines (Some (line, rest)) name e =
+    let p = some_if (begins_with (codes "machine ") line && is_one_of machines (drop 8 line)) _ _ e in
+    (rest, rw (begun (codes "machine ") line (and_parts _ _ p.0).0, p.1) refl)
 
 headed : (set : Set) (text name : List ℕ) → machine_named set.machines (first_line text) ≡ Some name → Headed set text (Some name) 2 (rest_of (first_line text))
 headed set text name e =
@@ -218,8 +191,6 @@ headed set text name e =
           (line_taken text (codes "machine " ++ name) line.0 line.1)
           (let f = (bytes_eq-Decides (codes "machine " ++ name) (codes "machine " ++ name)).1 refl in rw f refl);
     }
-
--- ---- the pass
 
 -- no line was bad
 pub record NoneBad (set : Set) (text : List ℕ) (v : ValuesRead) : Type 0 where
@@ -264,35 +235,14 @@ pub first_pass : (set : Set) (text : List ℕ) → AreSound set.structs → AreG
 unfolding values_read
 first_pass set text structs good = by_machine set text structs good (machine_named set.machines (first_line text)) refl
 
--- ---- What the first pass takes of a text: the lines of each state that has them, up to a bad line or the end.
-
-pub record TakenOf (set : Set) (text : List ℕ) (machine : Option (List ℕ)) (taken : List Taken) (rest : List ℕ) (o : Option ValuesReason) : Type 0 where
-  pub named : machine ≡ machine_named set.machines (first_line text)
-  pub follows : (images : List Image) → AreShaped set set.devices images → Follows taken (λ es. Ends o rest es) (entries set machine images)
-  pub fine : AreFineTaken taken
-  pub texts : text ≡ text_of (lines_of taken) ++ rest
-
--- up to a bad line
-pub taken_before : (set : Set) (text : List ℕ) (v : ValuesRead) (b : OneBad set text v)
-    → TakenOf set text b.first.machine b.first.taken b.first.rest (Some b.reason)
-taken_before set text v b =
-    let f = b.first in
-    record {
-      named = f.named;
-      follows = λ images shaped. f.follows images shaped (all_short set set.devices images shaped);
-      fine = f.moved.fine;
-      texts = f.moved.texts;
-    }
-
--- or all
-pub taken_all : (set : Set) (text : List ℕ) (v : ValuesRead) (n : NoneBad set text v) → TakenOf set text n.machine n.first.taken n.all.rest None
+-- all that was taken, if no line is bad
+pub taken_all : (set : Set) (text : List ℕ) (v : ValuesRead) (n : NoneBad set text v)
+    → TakenOf set text n.machine n.first.taken n.all.line n.all.rest None
 taken_all set text v n =
     let f = n.first in
     record {
       named = f.named;
       follows = λ images shaped.
-          follows_ends f.taken (λ es. es ≡ []) (λ es. Ends None n.all.rest es) (entries set n.machine images)
-          (f.follows images shaped (all_short set set.devices images shaped)) (λ es e. (e, n.ends));
-      fine = f.moved.fine;
-      texts = f.moved.texts;
+          follows_ends f.taken (λ es. es ≡ []) (λ es. Ends None n.all.rest es) (entries set n.machine images) (f.follows images shaped) (λ es e. (e, n.ends));
+      moved = f.moved;
     }

@@ -6,7 +6,7 @@ use Rattle.vms_values_laws.proofs.Facade.{Said, said_line, Agrees, Meets, AreBel
 use Rattle.vms_values_laws.proofs.Facade.{Kind, U8, U16, U32, U64, I8, I16, I32, I64, Timer, same_number, exceeds, in_range, Cell, first_line, begins_with}
 use Rattle.vms_values_laws.proofs.Facade.{number_spelled, IsShort, spelled_holds, line_splits, begun}
 use Rattle.vms_kinds.specs.declared.Kind.TheVariants.{Bool as Truth}
-use Rattle.vms_values_laws.proofs.SaidLaws.{meets_left, meets_more, agrees_front, agrees_later, below_less, ran_more, Told, told_both, below_both}
+use Rattle.vms_values_laws.proofs.SaidLaws.{meets_left, meets_more, agrees_parts, below_less, ran_more, Told, told_both, below_both}
 use Rattle.vms_spec.specs.declared.ValuesReason.TheVariants as reasons
 
 -- ---- one line: what it says, or why it is refused
@@ -129,8 +129,6 @@ AllKnown (c ∷ cells) said = Knows said c × AllKnown cells said
 pub knows_grows : (said more : List Said) (c : ℕ) → ((m : List ℤ) → Agrees more m → Agrees said m) → Knows said c → Knows more c
 knows_grows said more c g k = record { known = λ m n a b. k.known m n (g m a) (g n b) }
 
--- ---- one more line
-
 abbrev said_of : (x : Element) (p q : Standing) → Put x p q → Said
 said_of x p q put = record { element = x; number = put.number }
 
@@ -195,14 +193,12 @@ module _ (total : List ℤ → List Element) (start : Standing) (low : ℕ) wher
   at_left {said = said} e a =
       record { meets = λ m. meets_left said _ _ m (total m) (a.meets m) (e m); below = a.below; up = a.up; told = a.told; ran = a.ran }
 
-  pub at_less : (cell further : ℕ) (p : Standing) (said : List Said) (left : List ℤ → List Element) → cell ≤ further → At cell p said left
-      → At further p said left
-  at_less cell further p said left le a =
-      record { meets = a.meets; below = below_less cell further said le a.below; up = omega arith; told = a.told; ran = a.ran }
-
-  pub stay : (cell further : ℕ) (p : Standing) (said : List Said) (left : List ℤ → List Element) → cell ≤ further → At cell p said left
+  pub stay : {cell further : ℕ} {p : Standing} {said : List Said} {left : List ℤ → List Element} → cell ≤ further → At cell p said left
       → Comes further [] said left (Ok p)
-  stay cell further p said left le a = record { comes = record { said = said; stands = at_less cell further p said left le a; grows = λ m g. g; knows = tt } }
+  stay {cell = cell} {further = further} {p = p} {said = said} {left = left} le a =
+      let below = below_less cell further said le a.below in
+      let stands : At further p said left = record { meets = a.meets; below = below; up = omega (arith, a.up); told = a.told; ran = a.ran } in
+      record { comes = record { said = said; stands = stands; grows = λ m g. g; knows = tt } }
 
   pub forget : {cell : ℕ} {known : List ℕ} {before : List Said} {left : List ℤ → List Element} (r : Read) → Comes cell known before left r
       → Comes cell [] before left r
@@ -216,12 +212,10 @@ module _ (total : List ℤ → List Element) (start : Standing) (low : ℕ) wher
 
   pub then_comes : {cell further : ℕ} {known known' : List ℕ} {before : List Said} {left left' : List ℤ → List Element} (r : Read) (f : Standing → Read)
       → Comes cell known before left r
-      → ((q : Standing) (said : List Said) → At cell q said left → ((m : List ℤ) → Agrees said m → Agrees before m) → AllKnown known said → Comes further known' said left' (f q))
-      → Comes further known' before left' (r >>= f)
+      → ((q : Standing) (said : List Said) → At cell q said left → ((m : List ℤ) → Agrees said m → Agrees before m) → AllKnown known said
+      → Comes further known' said left' (f q)) → Comes further known' before left' (r >>= f)
   then_comes (Ok q) f c h = let x = c.comes in earlier (f q) x.grows (h q x.said x.stands x.grows x.knows)
   then_comes (Err e) f c h = record { comes = c.comes }
-
-  -- ---- one line
 
   module _ (x : Element) (p : Standing) (said : List Said) (left : List ℤ → List Element) (room : x.cell < length start.numbers)
       (a : At x.cell p said (λ m. x ∷ left m)) where
@@ -232,7 +226,7 @@ module _ (total : List ℤ → List Element) (start : Standing) (low : ℕ) wher
         record {
           meets = λ m. meets_more said s (left m) m (total m) (a.meets m);
           below = below_both (x.cell + 1) said (s ∷ []) (below_less x.cell (x.cell + 1) said (omega arith) a.below) (omega arith, tt);
-          up = let up = a.up in omega arith;
+          up = omega (arith, a.up);
           told = told_both a.told (told_one x p q put inside) a.up a.below;
           ran = ran_more start p q said (s ∷ []) a.ran (ran_one p q x put);
         }
@@ -244,8 +238,8 @@ module _ (total : List ℤ → List Element) (start : Standing) (low : ℕ) wher
           comes = record {
             said = said ++ s ∷ [];
             stands = after_line q put;
-            grows = λ m g. agrees_front said (s ∷ []) m g;
-            knows = (record { known = λ m n g h. (agrees_later said (s ∷ []) m g).0 ∙ sym (agrees_later said (s ∷ []) n h).0 }, tt);
+            grows = λ m g. (agrees_parts said (s ∷ []) m g).0;
+            knows = (record { known = λ m n g h. (agrees_parts said (s ∷ []) m g).1.0 ∙ sym (agrees_parts said (s ∷ []) n h).1.0 }, tt);
           };
         }
     by_read (Err e) not =

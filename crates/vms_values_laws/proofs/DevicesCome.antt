@@ -4,17 +4,13 @@ use Rattle.vms_values_laws.proofs.Facade.{◌∙◌, subst, arith, append_assoc,
 use Rattle.vms_values_laws.proofs.Facade.{struct_cells, device_cells, Image, default_image, own_cells, first_line, Standing, Read, BadLine, ReadSubs, readers}
 use Rattle.vms_values_laws.proofs.Facade.{read_desc, read_subs, then_subs, next_line, rest_of, is_line, IsSound, AreSound, section_line, Entry, OfSection}
 use Rattle.vms_values_laws.proofs.Facade.{number_entries, subs_entries, device_entries, has_line, Said, ForSection, ForNumber, reason_for, Taken, Follows}
-use Rattle.vms_values_laws.proofs.Facade.{Along, Begins, Moved, Demand}
+use Rattle.vms_values_laws.proofs.Facade.{Along, Begins, Moved}
 use Rattle.vms_spec.specs.declared.ValuesReason.TheVariants as reasons
 use Rattle.vms_values_laws.proofs.Numbers.{moved_none, moved_one, moved_then, AreShort, all_taken, NumbersRead, NumbersStop, NumbersCome, numbers_come}
 use Rattle.vms_values_laws.proofs.Numbers.{follows_on, along_on, heard_on, lines_on}
 use Rattle.vms_values_laws.proofs.SecondPass.{sub_numbers}
-use Rattle.vms_values_laws.proofs.SubsCome.{line_taken, SubsCome, AreSoundSubs, cells_long, none_at, subs_come, SubsWent, Went}
-use Rattle.vms_values_laws.proofs.SaidLaws.{agrees_front, agrees_later, Told, told_none, told_both, has_said}
-
-abbrev pub AllShort : List Image → Type 0
-AllShort [] = Unit {0}
-AllShort (image ∷ images) = AreShort image.numbers × AllShort images
+use Rattle.vms_values_laws.proofs.SubsCome.{line_taken, SubsCome, AreSoundSubs, cells_long, none_at, subs_come, SubsWent, Went, Stop}
+use Rattle.vms_values_laws.proofs.SaidLaws.{agrees_parts, Told, told_none, told_both, has_said}
 
 abbrev pub default_numbers : Set → Device → List ℤ
 default_numbers set d = (default_image set d).numbers
@@ -40,14 +36,8 @@ pub record DeviceRead (set : Set) (d : Device) (line : ℕ) (text : List ℕ) (r
   pub heard : (c : ℕ) → has_line (device_entries set d (image_of d r)) c ≡ has_said said c
   pub lines : r.lines ≡ sub_numbers line (device_entries set d (image_of d r))
 
-pub record DeviceStop (set : Set) (d : Device) (line : ℕ) (text : List ℕ) (e : BadLine) : Type 0 where
-  pub demand : Demand
-  pub came : List (Option ℕ)
-  pub numbers : List ℤ
-  pub rest : List ℕ
-  pub before : DeviceWent set d line text came numbers e.line rest (λ more es. Begins demand es)
-  pub open before use *
-  pub wrong : reason_for demand (first_line rest) ≡ Some e.reason
+abbrev pub DeviceStop : Set → Device → ℕ → List ℕ → BadLine → Type 0
+DeviceStop set d line text e = Stop (λ demand came numbers rest. DeviceWent set d line text came numbers e.line rest (λ more es. Begins demand es)) e
 
 abbrev pub DeviceComes : Set → Device → ℕ → List ℕ → Result ReadSubs BadLine → Type 0
 DeviceComes set d line text (Ok r) = DeviceRead set d line text r
@@ -130,7 +120,7 @@ module _ (set : Set) (d : Device) (line : ℕ) (text : List ℕ) where
         → NumbersRead set d.desc 0 start q → SubsWent set d d.subs 0 own q came numbers line' rest Then
         → DeviceWent set d line text came numbers line' rest Then
     went_behind {numbers = numbers} Then n r =
-        let all = (told_own n r.told).agrees in
+        let all = agrees_parts n.said r.said numbers (told_own n r.told).agrees in
         record {
           said = n.said ++ r.said;
           taken = head ∷ (all_taken n.said ++ r.taken);
@@ -142,7 +132,7 @@ module _ (set : Set) (d : Device) (line : ℕ) (text : List ℕ) where
               (follows_on n r.taken (Then more) image.numbers _ short (r.follows image image.came more long short));
           along = λ more.
               along_head (all_taken n.said ++ r.taken) (Then more) _ more refl
-              (along_on n r.taken (Then more) numbers _ (agrees_front n.said r.said numbers all) (r.along _ more (agrees_later n.said r.said numbers all)));
+              (along_on n r.taken (Then more) numbers _ all.0 (r.along _ more all.1));
           moved = moved_then headed (moved_then n.moved r.moved);
         }
 
@@ -150,23 +140,15 @@ module _ (set : Set) (d : Device) (line : ℕ) (text : List ℕ) where
         → DeviceComes set d line text o
     subs_behind q (Ok r) n x =
         let image = image_of d r in
-        let all = (told_own n x.told).agrees in
-        let front = agrees_front n.said x.said r.place.numbers all in
-        let later = agrees_later n.said x.said r.place.numbers all in
+        let all = agrees_parts n.said x.said r.place.numbers (told_own n x.told).agrees in
         record {
           whole = went_behind (λ more es. es ≡ more) n x.whole;
-          heard = λ c. heard_on n image.numbers _ x.said c front (x.heard image later c);
-          lines = x.lines image later ∙ sym (lines_on n image.numbers (subs_entries set d image 0 own d.subs image.came) front);
+          heard = λ c. heard_on n image.numbers _ x.said c all.0 (x.heard image all.1 c);
+          lines = x.lines image all.1 ∙ sym (lines_on n image.numbers (subs_entries set d image 0 own d.subs image.came) all.0);
         }
     subs_behind q (Err e) n x =
-        record {
-          demand = x.demand;
-          came = x.came;
-          numbers = x.numbers;
-          rest = x.rest;
-          before = went_behind (λ more es. Begins x.demand es) n x.before;
-          wrong = x.wrong;
-        }
+        let before = went_behind (λ more es. Begins x.demand es) n x.before in
+        record { demand = x.demand; came = x.came; numbers = x.numbers; rest = x.rest; before = before; wrong = x.wrong }
 
     device_comes : (r : Read) (go : Standing → Result ReadSubs BadLine) → NumbersCome set d.desc 0 start r
         → ((q : Standing) → NumbersRead set d.desc 0 start q → SubsCome set d d.subs 0 own q (go q)) → DeviceComes set d line text (then_subs r go)
@@ -177,7 +159,7 @@ module _ (set : Set) (d : Device) (line : ℕ) (text : List ℕ) where
   cells_are = length-map (device_cells set d) (λ c. c.default) ∙ length-append (desc_cells (struct_cells set) d.desc) _
 
   -- the device's lines, of which the first is its own
-  pub inside_comes : AreSound set.structs → IsSound d.desc → AreSoundSubs set d d.subs → Moved line text (head ∷ []) (suc line) start.rest
+  pub inside_comes : AreSound set.structs → IsSound d.desc → AreSoundSubs d.subs → Moved line text (head ∷ []) (suc line) start.rest
       → DeviceComes set d line text (then_subs (read_desc (readers set) d.desc d.desc.version [] true 0 start) (read_subs set own d.subs))
   inside_comes structs sound subs headed =
       device_comes headed (read_desc (readers set) d.desc d.desc.version [] true 0 start) (read_subs set own d.subs)

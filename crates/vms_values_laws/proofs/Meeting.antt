@@ -1,22 +1,21 @@
 -- Lines without a line feed: a text leads along one list of lines, and the entries of a fit set have no other.
 use Rattle.vms_values_laws.proofs.Facade.{◌≡◌, ℕ, zero, suc, ◌+◌, ◌%◌, ◌/◌, Bool, true, false, ◌==◌, nat_lt, if◌then◌else◌, List, ◌∷◌, ◌++◌, length, drop}
-use Rattle.vms_values_laws.proofs.Facade.{Option, Some, None, ℤ, pos, negsuc, refl, sym, ap, ◌∙◌, arith, codes, ◌||◌, [], map, append_assoc, not, ne_eqb}
-use Rattle.vms_values_laws.proofs.Facade.{decimal, signed_decimal, digits, digits_onto, digit_glyph, bytes_eq, bytes_eq-Decides, some_pair_parts}
-use Rattle.vms_values_laws.proofs.Facade.{AllByRecursion, ◌&&◌, get_or, nat_le, take, slice_get, list_all, and_parts, get_or_from_slice_get, same_Some}
-use Rattle.vms_values_laws.proofs.Facade.{take-append-drop, Cell, same_number, exceeds, in_range, first_line, longer_line, begins_with, number_spelled}
-use Rattle.vms_values_laws.proofs.Facade.{spelled_holds, begun, What, Number, Element, section_line, sub_line, text_of, if_not, element_reason, spelled_reason}
-use Rattle.vms_values_laws.proofs.Facade.{Entry, entry_line, line_reason, front_reason, Demand, ForMachine, ForSection, ForSub, ForNumber, reason_for}
-use Rattle.vms_values_laws.proofs.Facade.{demand_of, Taken, lines_of, AreFineTaken, Follows, ValuesReason, AreFine, or_else, Item, Struct, Count, One, Field}
-use Rattle.vms_values_laws.proofs.Facade.{Desc, Sub, Device, Set, no_desc, first, counted, capacity_of, item_size, field_cells, desc_cells, numbers_of}
-use Rattle.vms_values_laws.proofs.Facade.{struct_cells, Image, own_cells, Shape, no_shape, shape, shapes, cells_in, dotted, behind, item_elements, Stand}
-use Rattle.vms_values_laws.proofs.Facade.{stand_of, array_elements, field_elements, elements_from, desc_elements, index_text, is_number, elements_in, printed}
-use Rattle.vms_values_laws.proofs.Facade.{OfNumber, number_entries, subs_entries, device_entries, devices_entries, entries, one_more, Place, first_answer}
-use Rattle.vms_values_laws.proofs.Facade.{is_name_byte, is_name, is_sub_name, is_one_of, machine_named, WellFormed, first_fault, failing, here, set_rules}
-use Rattle.vms_values_laws.proofs.Facade.{struct_fault, struct_rules, device_fault, device_rules, sub_rules, size_rules, either_of, or_else_none, Clean}
-use Rattle.vms_values_laws.proofs.Facade.{struct_clean, device_parts, sub_clean, get_none, name_byte_high}
+use Rattle.vms_values_laws.proofs.Facade.{Option, Some, None, ℤ, pos, negsuc, refl, sym, ap, ◌∙◌, arith, codes, [], map, append_assoc, ne_eqb, decimal}
+use Rattle.vms_values_laws.proofs.Facade.{signed_decimal, digits, digits_onto, digit_glyph, bytes_eq, bytes_eq-Decides, some_pair_parts, AllByRecursion, ◌&&◌}
+use Rattle.vms_values_laws.proofs.Facade.{get_or, nat_le, take, slice_get, list_all, and_parts, get_or_from_slice_get, take-append-drop, or_else_none}
+use Rattle.vms_values_laws.proofs.Facade.{either_of, Cell, first_line, longer_line, begins_with, number_spelled, spelled_holds, begun, What, Number, Element}
+use Rattle.vms_values_laws.proofs.Facade.{section_line, sub_line, text_of, if_not, element_reason, spelled_reason, Entry, entry_line, line_reason, front_reason}
+use Rattle.vms_values_laws.proofs.Facade.{Demand, ForMachine, ForSection, ForSub, ForNumber, reason_for, demand_of, Taken, lines_of, AreFineTaken, Follows}
+use Rattle.vms_values_laws.proofs.Facade.{ValuesReason, AreFine, or_else, Item, Struct, Count, One, Field, Desc, Sub, Device, Set, no_desc, first, counted}
+use Rattle.vms_values_laws.proofs.Facade.{capacity_of, item_size, field_cells, desc_cells, numbers_of, struct_cells, Image, own_cells, Shape, no_shape, shape}
+use Rattle.vms_values_laws.proofs.Facade.{shapes, cells_in, dotted, behind, item_elements, Stand, stand_of, array_elements, field_elements, elements_from}
+use Rattle.vms_values_laws.proofs.Facade.{desc_elements, index_text, is_number, elements_in, printed, OfNumber, number_entries, subs_entries, device_entries}
+use Rattle.vms_values_laws.proofs.Facade.{devices_entries, entries, one_more, Place, first_answer, is_name_byte, is_name, is_sub_name, is_one_of, machine_named}
+use Rattle.vms_values_laws.proofs.Facade.{WellFormed, first_fault, failing, here, set_rules, struct_fault, struct_rules, device_fault, device_rules, sub_rules}
+use Rattle.vms_values_laws.proofs.Facade.{size_rules, Clean, struct_clean, device_parts, sub_clean, get_none, name_byte_high}
+use Rattle.vms_values_laws.proofs.SaidLaws.{all_both, all_from, if_holds, if_none, some_if}
 use Rattle.vms_values_laws.proofs.Coming.{short}
 use Rattle.vms_values_laws.proofs.Numbers.{reason_same}
-use Rattle.vms_values_laws.proofs.SaidLaws.{all_both}
 use Rattle.vms_spec.specs.declared.ValuesReason.TheVariants as reasons
 use Rattle.vms_spec.specs.declared.Part.TheVariants as parts
 
@@ -40,20 +39,13 @@ line_first (b ∷ line) rest h =
     (line_first line rest h.1)
 
 glyph_feed : (d : ℕ) → (digit_glyph false d == 10) ≡ false
-glyph_feed d = go (nat_lt d 10)
-  where
-    go : (b : Bool) → ((if b then 48 + d else (if false then 55 + d else 87 + d)) == 10) ≡ false
-    go true = ne_eqb (48 + d) 10 (λ e. omega (arith, e))
-    go false = ne_eqb (87 + d) 10 (λ e. omega (arith, e))
+glyph_feed d = if_holds (λ g. (g == 10) ≡ false) (nat_lt d 10) _ _ (ne_eqb (48 + d) 10 (λ e. omega (arith, e))) (ne_eqb (87 + d) 10 (λ e. omega (arith, e)))
 
 onto_feed : (k n : ℕ) (acc : List ℕ) → NoFeed acc → NoFeed (digits_onto k 10 false n acc)
 onto_feed zero n acc h = h
-onto_feed (suc k) n acc h = go (n / 10 == 0) (onto_feed k (n / 10) (digit_glyph false (n % 10) ∷ acc) (glyph_feed (n % 10), h))
-  where
-    go : (b : Bool) → NoFeed (digits_onto k 10 false (n / 10) (digit_glyph false (n % 10) ∷ acc))
-        → NoFeed (if b then digit_glyph false (n % 10) ∷ acc else digits_onto k 10 false (n / 10) (digit_glyph false (n % 10) ∷ acc))
-    go true more = (glyph_feed (n % 10), h)
-    go false more = more
+onto_feed (suc k) n acc h =
+    let here : NoFeed (digit_glyph false (n % 10) ∷ acc) = (glyph_feed (n % 10), h) in
+    if_holds NoFeed (n / 10 == 0) _ _ here (onto_feed k (n / 10) (digit_glyph false (n % 10) ∷ acc) here)
 
 pub decimal_feed : (n : ℕ) → NoFeed (decimal n)
 unfolding digits
@@ -63,8 +55,6 @@ pub signed_feed : (z : ℤ) → NoFeed (signed_decimal z)
 signed_feed (pos n) = decimal_feed n
 signed_feed (negsuc n) = (refl, decimal_feed (suc n))
 
--- ---- fine lines
-
 -- what is demanded has no line feed
 abbrev pub IsClean : Demand → Type 0
 IsClean (ForMachine name) = NoFeed name
@@ -72,25 +62,13 @@ IsClean (ForSection d) = NoFeed d.desc.name
 IsClean (ForSub s) = NoFeed s.desc.name
 IsClean (ForNumber x) = NoFeed x.name
 
-by_bytes : (a b : List ℕ) (t : Bool) → bytes_eq a b ≡ t → if_not t reasons.Form ≡ None → NoFeed b → NoFeed a
-by_bytes a b true e f h = rw ((bytes_eq-Decides a b).0 e) h
-by_bytes a b false e f h = cc
-
-by_either : (a b c : List ℕ) (t u : Bool) → bytes_eq a b ≡ t → bytes_eq a c ≡ u → if_not (t || u) reasons.Form ≡ None → NoFeed b → NoFeed c → NoFeed a
-by_either a b c true u e f g p q = rw ((bytes_eq-Decides a b).0 e) p
-by_either a b c false true e f g p q = rw ((bytes_eq-Decides a c).0 f) q
-by_either a b c false false e f g p q = cc
+by_bytes : (a b : List ℕ) → if_not (bytes_eq a b) reasons.Form ≡ None → NoFeed b → NoFeed a
+by_bytes a b e h = rw ((bytes_eq-Decides a b).0 (if_none _ _ e)) h
 
 by_spelled : (cell : Cell) (present : Bool) (text : List ℕ) (o : Option ℤ) → number_spelled text ≡ o → spelled_reason cell present o ≡ None → NoFeed text
 by_spelled cell present text None e f = cc
-by_spelled cell present text (Some z) e f = by_range (in_range cell.kind z) refl f
-  where
-    by_range : (b : Bool) → in_range cell.kind z ≡ b → or_else (if_not b reasons.Number)
-        (or_else (if_not (not (exceeds cell.capacities z)) reasons.Count)
-        (if_not (present || same_number z cell.default) reasons.Absent)) ≡ None
-        → NoFeed text
-    by_range true r f = rw (spelled_holds text z (short cell.kind z r) e) (signed_feed z)
-    by_range false r f = cc
+by_spelled cell present text (Some z) e f =
+    rw (spelled_holds text z (short cell.kind z (if_none _ _ (or_else_none _ _ f).0)) e) (signed_feed z)
 
 by_what : (what : What) (present : Bool) (text : List ℕ) → element_reason what present text ≡ None → NoFeed text
 by_what (Number cell) present text e = by_spelled cell present text (number_spelled text) refl e
@@ -116,12 +94,12 @@ sub_feed name text h g = (refl, (refl, (refl, (refl, feed_append name _ h (refl,
 -- a fine line has none
 pub fine_feed : (demand : Demand) (a : List ℕ) → IsClean demand → reason_for demand (Some (a, [])) ≡ None → NoFeed a
 fine_feed (ForMachine name) a h e =
-    by_bytes a (codes "machine " ++ name) (bytes_eq a (codes "machine " ++ name)) refl e (refl, (refl, (refl, (refl, (refl, (refl, (refl, (refl, h))))))))
-fine_feed (ForSection d) a h e =
-    by_bytes a (section_line d d.desc.version) (bytes_eq a (section_line d d.desc.version)) refl e (section_feed d.desc.name d.instance d.desc.version h)
+    by_bytes a (codes "machine " ++ name) e (refl, (refl, (refl, (refl, (refl, (refl, (refl, (refl, h))))))))
+fine_feed (ForSection d) a h e = by_bytes a (section_line d d.desc.version) e (section_feed d.desc.name d.instance d.desc.version h)
 fine_feed (ForSub s) a h e =
-    by_either a (sub_line s (Some s.desc.version)) (sub_line s None) (bytes_eq a (sub_line s (Some s.desc.version))) (bytes_eq a (sub_line s None)) refl refl e
-    (sub_feed s.desc.name _ h (refl, decimal_feed s.desc.version)) (sub_feed s.desc.name _ h (refl, tt))
+    either_of (bytes_eq a (sub_line s (Some s.desc.version))) (bytes_eq a (sub_line s None)) (if_none _ _ e)
+    (λ t. rw ((bytes_eq-Decides a _).0 t) (sub_feed s.desc.name _ h (refl, decimal_feed s.desc.version)))
+    (λ t. rw ((bytes_eq-Decides a _).0 t) (sub_feed s.desc.name _ h (refl, tt)))
 fine_feed (ForNumber x) a h e = by_front x a (begins_with (x.name ++ codes " = ") a) refl e h
 
 -- ---- A text leads along one list of lines: those that were taken are those of each state that has the text's lines.
@@ -164,8 +142,7 @@ pub meet : (taken : List Taken) (before after : List Entry) (rest rest' : List �
     → Follows taken (λ es. Ends o rest es) (before ++ after) → AreClean (before ++ after)
     → AreFineTaken taken → AreFine before → text_of (lines_of taken) ++ rest ≡ text_of (map entry_line before) ++ rest' → Ends o' rest' after
     → Same taken before o o'
-meet [] [] after rest rest' o o' f clean fine fine' e ends =
-    record { long = refl; lines = refl; reason = both_end o o' rest after f (rw e ends) }
+meet [] [] after rest rest' o o' f clean fine fine' e ends = record { long = refl; lines = refl; reason = both_end o o' rest after f (rw e ends) }
 meet [] (x ∷ before) after rest rest' o o' f clean fine fine' e ends =
     let feed = fine_feed (demand_of x) (entry_line x) clean.0 (fine_entry x fine'.0) in
     let is : rest ≡ entry_line x ++ 10 ∷ (text_of (map entry_line before) ++ rest') =
@@ -246,15 +223,11 @@ shapes_named ds clean (suc k) j =
     one_more NamesShape no_shape (record { named = λ n at. tt }) (first shape ds k) (shapes_named ds clean k) (shape (first shape ds k) (get_or ds k no_desc))
     (record { named = λ n at. desc_named (first shape ds k) (shapes_named ds clean k) (get_or ds k no_desc) (get_or ds k no_desc).version n at (clean k) }) j
 
--- ---- entries
-
 clean_numbers : (n : List ℤ) (xs : List Element) → AreNamed xs → AreClean (map (λ x. OfNumber x n) (printed xs))
 clean_numbers n [] h = tt
-clean_numbers n (x ∷ xs) h = go (x.counted && is_number x.what) (clean_numbers n xs h.1)
-  where
-    go : (b : Bool) → AreClean (map (λ x. OfNumber x n) (printed xs)) → AreClean (map (λ x. OfNumber x n) (if b then x ∷ printed xs else printed xs))
-    go true more = (h.0, more)
-    go false more = more
+clean_numbers n (x ∷ xs) h =
+    let more = clean_numbers n xs h.1 in
+    if_holds (λ l. AreClean (map (λ x. OfNumber x n) l)) (x.counted && is_number x.what) (x ∷ printed xs) (printed xs) (h.0, more) more
 
 abbrev pub AreCleanSubs : List Sub → Type 0
 AreCleanSubs = AllByRecursion (λ (s : Sub). NoFeed s.desc.name × AreCleanFields s.desc.fields)
@@ -293,8 +266,6 @@ module _ (set : Set) (structs : (j : ℕ) → AreCleanFields (get_or set.structs
 
 -- ---- No name of a well-formed set has a line feed.
 
--- ---- names
-
 name_byte : (b : ℕ) → is_name_byte b ≡ true → (b == 10) ≡ false
 name_byte b e = ne_eqb b 10 (λ same. let h = name_byte_high b e in omega (arith, h, same))
 
@@ -312,12 +283,6 @@ clean_sub_name device name h e =
     let front : NoFeed (take n name) = rw ((bytes_eq-Decides (take n name) (device ++ 47 ∷ [])).0 p.0) (feed_append device (47 ∷ []) h (refl, tt)) in
     rw (take-append-drop n name) at (feed_append (take n name) (drop n name) front (clean_name 64 (drop n name) p.1))
 
--- ---- parts of a set
-
-all_from : {A : Type 0} (P : A → Type 0) (xs : List A) → ((k : ℕ) (x : A) → slice_get xs k ≡ Some x → P x) → AllByRecursion P xs
-all_from P [] h = tt
-all_from P (x ∷ xs) h = (h 0 x refl, all_from P xs (λ k y e. h (suc k) y e))
-
 clean_fields : (k : ℕ) (d : Desc) (rules : List Bool) → Clean k d rules → AreCleanFields d.fields
 clean_fields k d rules c =
     all_from _ d.fields (λ i f e. clean_name 32 f.name (and_parts (is_name 32 f.name) (list_all (is_name 32) f.former) (c.fields i f e).0).0)
@@ -332,15 +297,11 @@ named_one (m ∷ machines) name e h =
     let p = and_parts (is_name 64 m) (list_all (is_name 64) machines) e in
     either_of (bytes_eq m name) _ h (λ f. rw (← ((bytes_eq-Decides m name).0 f)) (clean_name 64 m p.0)) (λ f. named_one machines name p.1 f)
 
-by_tests : (machines : List (List ℕ)) (line name : List ℕ) (b c : Bool) → is_one_of machines (drop 8 line) ≡ c
-    → (if b && c then Some (drop 8 line) else None) ≡ Some name → is_one_of machines name ≡ true
-by_tests machines line name true true e h = rw (← (same_Some (drop 8 line) name h)) e
-by_tests machines line name _ _ e h = cc
-
 -- a machine that is named is one of the set
 pub named_is : (machines : List (List ℕ)) (o : Option (List ℕ × List ℕ)) (name : List ℕ) → machine_named machines o ≡ Some name → is_one_of machines name ≡ true
 named_is machines None name e = cc
-named_is machines (Some (line, rest)) name e = by_tests machines line name (begins_with (codes "machine ") line) (is_one_of machines (drop 8 line)) refl e
+named_is machines (Some (line, rest)) name e =
+    let p = some_if (begins_with (codes "machine ") line && is_one_of machines (drop 8 line)) _ _ e in rw (← p.1) (and_parts _ _ p.0).1
 
 module _ (set : Set) (well : WellFormed set) where
   pub clean_structs : (j : ℕ) → AreCleanFields (get_or set.structs j no_desc).fields

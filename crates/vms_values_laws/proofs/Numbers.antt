@@ -1,13 +1,13 @@
 -- The numbers of one description, read as entries; following what was taken.
 use Rattle.vms_values_laws.proofs.Facade.{◌≡◌, ℕ, suc, List, [], ◌∷◌, ◌++◌, Option, Some, None, refl, sym, ap, ◌∙◌, arith, append_assoc, ◌+◌, ◌≤◌, length, ◌<◌}
-use Rattle.vms_values_laws.proofs.Facade.{get_or, map, true, ℤ, pos, Ok, Err, append-nil, codes, map-append, length-append, length-map, signed_decimal, ⊎_elim}
-use Rattle.vms_values_laws.proofs.Facade.{cases_lt, get_or-eq_default, text_of, printed, Entry, OfMachine, wanted_reason, OfNumber, number_entries, text_append}
-use Rattle.vms_values_laws.proofs.Facade.{demand_of, reason_for, Taken, lines_of, AreFineTaken, Follows, Along, Moved, ForNumber, Begins, Desc, Set, desc_cells}
-use Rattle.vms_values_laws.proofs.Facade.{struct_cells, first_line, number_spelled, Standing, Read, BadLine, readers, read_desc, IsSound, AreSound, IsShort}
-use Rattle.vms_values_laws.proofs.Facade.{number_holds, Element, shapes, desc_elements, elements_in, Said, said_line, AreFineLines, Agrees, Meets, AreBelow}
-use Rattle.vms_values_laws.proofs.Facade.{Ran, has_line}
+use Rattle.vms_values_laws.proofs.Facade.{same_Some, append_cancel_left, map-id, map-map, get_or, map, true, ℤ, pos, Ok, Err, append-nil, codes, map-append}
+use Rattle.vms_values_laws.proofs.Facade.{length-append, length-map, signed_decimal, ⊎_elim, cases_lt, get_or-eq_default, text_of, printed, Entry, OfMachine}
+use Rattle.vms_values_laws.proofs.Facade.{wanted_reason, OfNumber, number_entries, text_append, demand_of, reason_for, Taken, lines_of, AreFineTaken, Follows}
+use Rattle.vms_values_laws.proofs.Facade.{Along, Moved, ForNumber, Begins, Desc, Set, desc_cells, struct_cells, first_line, number_spelled, Standing, Read}
+use Rattle.vms_values_laws.proofs.Facade.{BadLine, readers, read_desc, IsSound, AreSound, IsShort, number_holds, Element, shapes, desc_elements, elements_in}
+use Rattle.vms_values_laws.proofs.Facade.{Said, said_line, AreFineLines, Agrees, Meets, AreBelow, Ran, has_line}
 use Rattle.vms_values_laws.proofs.Coming.{ComesTo, At}
-use Rattle.vms_values_laws.proofs.Walk.{under, wrapped, part_comes}
+use Rattle.vms_values_laws.proofs.Walk.{wrapped, part_comes}
 use Rattle.vms_values_laws.proofs.SecondPass.{subs_past, sub_numbers}
 use Rattle.vms_values_laws.proofs.SaidLaws.{meets_all, ran_none, Told, told_none, has_said, said_both, lines_both, lines_said, AreShortSaid}
 
@@ -64,31 +64,17 @@ abbrev pub AreShort : List ℤ → Type 0
 AreShort numbers = (c : ℕ) → IsShort (get_or numbers c (pos 0))
 
 pub short_within : (n : List ℤ) → ((c : ℕ) → c < length n → IsShort (get_or n c (pos 0))) → AreShort n
-short_within n h c =
-    ⊎_elim (λ (lt : c < length n). h c lt) (λ (ge : length n ≤ c). rw (get_or-eq_default n (pos 0) ge) (omega arith)) (cases_lt c (length n))
+short_within n h c = ⊎_elim (λ (lt : c < length n). h c lt) (λ (ge : length n ≤ c). rw (get_or-eq_default n (pos 0) ge) (omega arith)) (cases_lt c (length n))
 
 -- entries of these elements, in a state
 abbrev pub of_numbers : List ℤ → List Element → List Entry
 of_numbers n xs = map (λ x. OfNumber x n) xs
 
-some_same : (y z : ℤ) → Some y ≡ Some z → y ≡ z
-some_same y z e = cc
-
-pub cancel : (front a b : List ℕ) → front ++ a ≡ front ++ b → a ≡ b
-cancel [] a b e = e
-cancel (x ∷ front) a b e = cancel front a b (tail (x ∷ front ++ a) (x ∷ front ++ b) e) where
-  rest_of : List ℕ → List ℕ
-  rest_of [] = []
-  rest_of (x ∷ xs) = xs
-
-  tail : (xs ys : List ℕ) → xs ≡ ys → rest_of xs ≡ rest_of ys
-  tail xs ys e = ap rest_of e
-
 pub number_same : (name : List ℕ) (y z : ℤ) → IsShort y → IsShort z → name ++ (codes " = " ++ signed_decimal y) ≡ name ++ (codes " = " ++ signed_decimal z)
     → y ≡ z
 number_same name y z p q e =
-    let same = cancel (codes " = ") (signed_decimal y) (signed_decimal z) (cancel name (codes " = " ++ signed_decimal y) (codes " = " ++ signed_decimal z) e) in
-    some_same y z (sym (number_holds y p) ∙ ap number_spelled same ∙ number_holds z q)
+    let same = append_cancel_left (codes " = ") (signed_decimal y) (signed_decimal z) (append_cancel_left name _ _ e) in
+    same_Some y z (sym (number_holds y p) ∙ ap number_spelled same ∙ number_holds z q)
 
 pub follows_meets : (said : List Said) (left : List Element) (n : List ℤ) (xs : List Element) (more : List Entry) (P : List Entry → Type 0) → AreShort n
     → AreShortSaid said → Meets said left n xs → P (of_numbers n left ++ more) → Follows (all_taken said) P (of_numbers n xs ++ more)
@@ -104,24 +90,17 @@ pub along_meets : (said : List Said) (left : List Element) (n : List ℤ) (xs : 
     → Meets said left n xs → P (of_numbers n left ++ more) → Along (all_taken said) P (of_numbers n xs ++ more)
 along_meets [] left n xs more P a h p = rw h p
 along_meets (s ∷ said) left n [] more P a h p = absurd h
-along_meets (s ∷ said) left n (x ∷ xs) more P a h p = (
-  rw (h.0, a.0) refl,
-  along_meets said left n xs more P a.1 (h.1 a.0) p,
-)
+along_meets (s ∷ said) left n (x ∷ xs) more P a h p = (rw (h.0, a.0) refl, along_meets said left n xs more P a.1 (h.1 a.0) p)
 
 fine_taken : (said : List Said) → AreFineLines said → AreFineTaken (all_taken said)
 fine_taken [] f = tt
 fine_taken (s ∷ said) f = (f.0, fine_taken said f.1)
 
-lines_taken : (said : List Said) → lines_of (all_taken said) ≡ map said_line said
-lines_taken [] = refl
-lines_taken (s ∷ said) = ap (λ (l : List (List ℕ)). said_line s ∷ l) (lines_taken said)
-
 ran_moved : (p q : Standing) (said : List Said) → Ran p said q → Moved p.line p.rest (all_taken said) q.line q.rest
 ran_moved p q said r =
     record {
       further = omega (arith, r.line, length-map said (λ (s : Said). taken_of s));
-      texts = rw (lines_taken said) r.rest;
+      texts = rw (map-map (λ (t : Taken). t.line) (λ (s : Said). taken_of s) said) r.rest;
       fine = fine_taken said r.fine;
     }
 
@@ -167,14 +146,8 @@ module _ {set : Set} {d : Desc} {at : ℕ} {p q : Standing} (n : NumbersRead set
 
   line_on : (numbers : List ℤ) → Agrees n.said numbers → q.line ≡ p.line + length (printed (elements_in set d d.version numbers at))
   line_on numbers agrees =
-      omega (
-        arith,
-        n.moved.further,
-        length-map n.said (λ (s : Said). taken_of s),
-        ap length (n.heard numbers agrees),
-        length-map n.said
-            (λ (s : Said). s.element),
-      )
+      let heard = ap length (n.heard numbers agrees) ∙ length-map n.said (λ (s : Said). s.element) in
+      omega (arith, n.moved.further, length-map n.said (λ (s : Said). taken_of s), heard)
 
   -- the lines of subsections after them
   pub lines_on : (numbers : List ℤ) (es : List Entry) → Agrees n.said numbers
@@ -186,16 +159,12 @@ abbrev pub NumbersCome : Set → Desc → ℕ → Standing → Read → Type 0
 NumbersCome set d at p (Ok q) = NumbersRead set d at p q
 NumbersCome set d at p (Err e) = NumbersStop set d at p e
 
-under_none : (xs : List Element) → map (under [] [] true) xs ≡ xs
-under_none [] = refl
-under_none (x ∷ xs) = ap (λ (l : List Element). x ∷ l) (under_none xs)
-
 module _ (set : Set) (d : Desc) (at : ℕ) (p : Standing) where
   abbrev total : List ℤ → List Element
   total n = wrapped [] [] true (desc_elements (shapes set) d d.version n at)
 
   entries_are : (n : List ℤ) → of_numbers n (total n) ≡ number_entries set d n at
-  entries_are n = ap (λ (l : List Element). of_numbers n l) (under_none (printed (desc_elements (shapes set) d d.version n at)))
+  entries_are n = ap (λ l. of_numbers n l) (map-id (printed (desc_elements (shapes set) d d.version n at)))
 
   abbrev said_of_at : {cell : ℕ} {q : Standing} {said : List Said} {left : List ℤ → List Element} (line : ℕ) (Then : List Entry → List Entry → Type 0)
       → At total p at cell q said left
@@ -214,7 +183,7 @@ module _ (set : Set) (d : Desc) (at : ℕ) (p : Standing) where
       record {
         whole = said_of_at q.line (λ more es. es ≡ more) f.stands refl (λ n more. refl);
         below = f.stands.below;
-        heard = λ n agrees. sym (under_none _) ∙ meets_all f.said [] n (total n) agrees (f.stands.meets n) ∙ append-nil (map (λ (s : Said). s.element) f.said);
+        heard = λ n agrees. sym (map-id _) ∙ meets_all f.said [] n (total n) agrees (f.stands.meets n) ∙ append-nil (map (λ (s : Said). s.element) f.said);
       }
   from_comes (Err e) s =
       record {

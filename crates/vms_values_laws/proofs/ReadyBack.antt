@@ -8,6 +8,7 @@ use Rattle.vms_values_laws.proofs.Facade.{number_line, text_of, sub_line, sectio
 use Rattle.vms_values_laws.proofs.Facade.{subs_entries, device_entries, devices_entries, entries, if_not, sub_holds, AreFine, has_line, IsShaped, AreShaped}
 use Rattle.vms_values_laws.proofs.Facade.{AreUnsaid, AllUnsaid, AreAtVersions, IsText, Says, AreCounted, walks, Desc, Sub, Device, Set, is_needed, ComeAsNeeded}
 use Rattle.vms_values_laws.proofs.Facade.{IsReady, rules_split, elements_slots, entry_law, text_is}
+use Rattle.vms_values_laws.proofs.SaidLaws.{if_holds, all_both, lines_both}
 use Rattle.vms_values_laws.proofs.Rights.{line_number, fits_reason, IsRight, AreRight, AreBare, IsNumberOf, IsNoNumber, view, no_bytes, none_outside, right_by}
 use Rattle.vms_values_laws.proofs.Rights.{with_slot}
 use Rattle.vms_values_laws.proofs.Numbers.{AreShort, of_numbers, short_within}
@@ -15,13 +16,10 @@ use Rattle.vms_values_laws.proofs.Coming.{short}
 use Rattle.vms_values_laws.proofs.SecondPass.{desc_rules}
 use Rattle.vms_values_laws.proofs.AllCome.{are_short}
 use Rattle.vms_values_laws.proofs.ReadyParts.{AreGood, sub_cells}
-use Rattle.vms_values_laws.proofs.SaidLaws.{all_both, lines_both}
 use Rattle.vms_spec.specs.Layout as slots
 use Rattle.vms_spec.specs.declared.ValuesReason.TheVariants as reasons
 
 -- ---- A ready image has the lines that a text says: each is fine, what has no line is at its default, and no part is bad.
-
--- ---- cells in the bytes
 
 -- a cell without a line has no byte
 pub bare_bytes : (n : List ℤ) (xs : List Element) → AreCounted xs → (k : ℕ) → has_line (of_numbers n (printed xs)) k ≡ false → has_cell (slots_of xs) k ≡ false
@@ -38,8 +36,6 @@ bare_bytes n (x ∷ xs) h k e =
     by_both v more false true c e = more (or_parts (x.cell == k) _ e).1
     by_both v more false false c e = more e
 
--- ---- right numbers, part by part
-
 right_parts : (n : List ℤ) (at next : ℕ) (xs ys : List Cell) (ss ts : List Slot) → next ≡ at + length xs → ((k : ℕ) → k < next → has_cell ts k ≡ false)
     → ((k : ℕ) → next ≤ k → has_cell ss k ≡ false) → AreRight n at (xs ++ ys) (ss ++ ts) → AreRight n at xs ss × AreRight n next ys ts
 right_parts n at next xs ys ss ts is below above a = (
@@ -53,12 +49,9 @@ right_parts n at next xs ys ss ts is below above a = (
   },
 )
 
--- ---- lines of right numbers
-
 right_later : (n : List ℤ) (at : ℕ) (cell : Cell) (cells : List Cell) (all ss : List Slot)
     → ((k : ℕ) → at + 1 ≤ k → has_cell ss k ≡ false → has_cell all k ≡ false) → AreRight n at (cell ∷ cells) all → AreRight n (at + 1) cells ss
-right_later n at cell cells all ss h a =
-    record { right = λ c k lt e. right_by (h k (omega arith)) (a.right (suc c) k (omega arith) (omega arith)) }
+right_later n at cell cells all ss h a = record { right = λ c k lt e. right_by (h k (omega arith)) (a.right (suc c) k (omega arith) (omega arith)) }
 
 module _ (n : List ℤ) (short : AreShort n) where
   right_line : (x : Element) (xs : List Element) (v : IsNumberOf x xs) (at : ℕ) → x.cell ≡ at → CountsUp (at + 1) (numbers_in xs)
@@ -81,16 +74,12 @@ module _ (n : List ℤ) (short : AreShort n) where
       let r : AreRight n at (v.cell ∷ cells_of xs) all = rw (v.cells, v.bytes) at a in
       let later = right_said (at + 1) xs u.1
       (right_later n at v.cell (cells_of xs) all (slots_of xs) (λ k le h. no_bytes x v.cell (slots_of xs) k x.present (λ e. omega (arith, u.0)) h) r) in
-      rw (v.lines) (either x.counted (right_line x xs v at u.0 u.1 (r.right 0 at (omega arith) (omega arith))) later))
+      rw (v.lines) (if_holds (λ l. AreFine (of_numbers n l)) x.counted (x ∷ printed xs) (printed xs)
+      (right_line x xs v at u.0 u.1 (r.right 0 at (omega arith) (omega arith)), later) later))
       (λ (v : IsNoNumber x xs).
       let r : AreRight n at (cells_of xs) (slots_of (x ∷ xs)) = rw (v.cells) at a in
       rw (v.lines) (right_said at xs (rw (v.numbers) at up)
       (record { right = λ c k lt e. right_by (λ bare. v.bytes k ∙ bare) (r.right c k lt e) }))) (view x xs)
-    where
-      either : (b : Bool) → line_reason (OfNumber x n) (number_line n x) ≡ None → AreFine (of_numbers n (printed xs))
-          → AreFine (of_numbers n (if b then x ∷ printed xs else printed xs))
-      either true h later = (h, later)
-      either false h later = later
 
 pub bare_have : (n : List ℤ) (at : ℕ) (xs : List Element) → CountsUp at (numbers_in xs) → AreBare n at (cells_of xs) (λ k. false) → have_defaults n xs ≡ true
 bare_have n at [] up b = refl
@@ -103,8 +92,6 @@ bare_have n at (x ∷ xs) up b =
     (λ (v : IsNoNumber x xs). v.defaults n ∙ bare_have n at xs (rw (v.numbers) at up) (rw (v.cells) at b)) (view x xs)
 
 -- ---- Ready images are what their text says, and no part of them is bad.
-
--- ---- parts
 
 pub fine_then : (es fs : List Entry) → AreFine es → AreFine fs → AreFine (es ++ fs)
 fine_then [] fs a b = b
@@ -127,8 +114,7 @@ module _ (set : Set) (n : List ℤ) (short_all : AreShort n) where
       right_said n short_all at (elements_in set d d.version n at) w.up (rw (w.cells_are, elements_slots set d d.version n at) right)
 
   desc_have : (d : Desc) (at : ℕ) → AreBare n at (cells d) (λ k. false) → have_defaults n (elements_in set d d.version n at) ≡ true
-  desc_have d at bare =
-      let w = walks set d d.version d.version n n at at in bare_have n at (elements_in set d d.version n at) w.up (rw (w.cells_are) bare)
+  desc_have d at bare = let w = walks set d d.version d.version n n at at in bare_have n at (elements_in set d d.version n at) w.up (rw (w.cells_are) bare)
 
   desc_below : (d : Desc) (v at k : ℕ) → k < at → has_cell (bytes d v at) k ≡ false
   desc_below d v at k lt =
@@ -143,15 +129,11 @@ module _ (set : Set) (n : List ℤ) (short_all : AreShort n) where
   desc_unsaid d at k e =
       rw (elements_slots set d d.version n at) at (bare_bytes n (elements_in set d d.version n at) (walks set d d.version d.version n n at at).counted k e)
 
--- ---- lines of sections and subsections
-
 or_none : (a b : Bool) → b ≡ true → if_not (a || b) reasons.Form ≡ None
 or_none a b e = rw (or_right a b e) refl
 
 bytes_same : (a b : List ℕ) → a ≡ b → if_not (bytes_eq a b) reasons.Form ≡ None
 bytes_same a b e = rw ((bytes_eq-Decides a b).1 e) refl
-
--- ---- a device
 
 module _ (set : Set) (d : Device) (image : Image) (short_all : AreShort image.numbers) where
   abbrev n : List ℤ
@@ -197,18 +179,14 @@ module _ (set : Set) (d : Device) (image : Image) (short_all : AreShort image.nu
             rw (same, (bytes_eq-Decides (sub_line s (Some s.desc.version)) (sub_line s (Some s.desc.version))).1 refl) refl,
             fine_then numbers others (desc_fine set n short_all s.desc at mine) later.fine,
           );
-          good = (
-            rw (holds, needed) refl,
-            all_both _ numbers others (numbers_good set n _) later.good,
-          );
+          good = (rw (holds, needed) refl, all_both _ numbers others (numbers_good set n _) later.good);
           unsaid = λ k e. let p = or_parts (has_line numbers k) (has_line others k) (sym (lines_both numbers others k) ∙ e) in
               none_joined k (sub_slots set s v n at) _ (rw same (desc_unsaid set n short_all s.desc at k p.0)) (later.unsaid k p.1);
         }
 
     it_did_not : is_needed set d image s j ≡ false → AreRight n at own [] → SubsSay (suc j) next subs came → SubsSay j at (s ∷ subs) (None ∷ came)
     it_did_not needed right later =
-        let mine : AreRight n at own (sub_slots set s s.desc.version n at) =
-        record { right = λ c k lt e. right_by (λ h. refl) (right.right c k lt e) } in
+        let mine : AreRight n at own (sub_slots set s s.desc.version n at) = record { right = λ c k lt e. right_by (λ h. refl) (right.right c k lt e) } in
         let defaults = have_defaults n (elements_in set s.desc s.desc.version n at) in
         let have : defaults ≡ true = desc_have set n short_all s.desc at (λ c k lt e f. (right.right c k lt e).absent refl) in
         record {
@@ -218,10 +196,7 @@ module _ (set : Set) (d : Device) (image : Image) (short_all : AreShort image.nu
             or_none _ _ ((bytes_eq-Decides (sub_line s None) (sub_line s None)).1 refl),
             fine_then numbers others (desc_fine set n short_all s.desc at mine) later.fine,
           );
-          good = (
-            rw (needed, have) refl,
-            all_both _ numbers others (numbers_good set n _) later.good,
-          );
+          good = (rw (needed, have) refl, all_both _ numbers others (numbers_good set n _) later.good);
           unsaid = λ k e. later.unsaid k (or_parts (has_line numbers k) (has_line others k) (sym (lines_both numbers others k) ∙ e)).1;
         }
 
@@ -284,13 +259,8 @@ module _ (set : Set) (d : Device) (image : Image) (short_all : AreShort image.nu
           bytes_same (section_line d image.version) (section_line d d.desc.version) (ap (λ (v : ℕ). section_line d v) ready.version),
           fine_then numbers others (desc_fine set n short_all d.desc 0 at_version) subs.fine,
         );
-        good = (
-          rw (desc_rules set d.desc image.version n 0 ∙ are_rules mine rules.0) refl,
-          all_both _ numbers others (numbers_good set n _) subs.good,
-        );
+        good = (rw (desc_rules set d.desc image.version n 0 ∙ are_rules mine rules.0) refl, all_both _ numbers others (numbers_good set n _) subs.good);
       }
-
--- ---- all of them
 
 -- numbers that fit their cells have at most 64 bits
 ready_short : (set : Set) (d : Device) (image : Image) → IsReady set d image → AreShort image.numbers

@@ -1,21 +1,19 @@
 -- Images that may be written, part by part, and the first bad part.
 use Rattle.vms_values_laws.proofs.Facade.{◌≡◌, ℕ, suc, ◌+◌, ◌<◌, ◌≤◌, Bool, true, false, List, ◌∷◌, ◌++◌, length, get_or, Option, Some, None, ℤ, refl, sym, ap}
 use Rattle.vms_values_laws.proofs.Facade.{◌∙◌, arith, [], map, flat_map, slice_get, AllByRecursion, or_from, get_or_append_left, get_or-append-add}
-use Rattle.vms_values_laws.proofs.Facade.{length-append, ValuesReason, or_else, Desc, Sub, Device, Set, Cell, no_cell, Slot, desc_cells, struct_cells}
-use Rattle.vms_values_laws.proofs.Facade.{device_cells, Image, own_cells, own_slots, sub_slots, came_slots, image_slots, RulesHold, AreVersionsOf, is_needed}
-use Rattle.vms_values_laws.proofs.Facade.{ComeAsNeeded, IsReady, DefaultsFit, rules_append, rules_are, elements_in, Entry, OfSub, number_entries, subs_entries}
-use Rattle.vms_values_laws.proofs.Facade.{device_entries, if_not, rules_hold, have_defaults, sub_holds, came_well, part_reason, AreFine, has_line, IsShaped}
-use Rattle.vms_values_laws.proofs.Facade.{AreUnsaid, IsAtVersion, AreAtVersions, walks, elements_slots, BadLine, or_bad}
+use Rattle.vms_values_laws.proofs.Facade.{length-append, or_else_none, ValuesReason, or_else, Desc, Sub, Device, Set, Cell, no_cell, Slot, desc_cells}
+use Rattle.vms_values_laws.proofs.Facade.{struct_cells, device_cells, Image, own_cells, own_slots, sub_slots, came_slots, image_slots, RulesHold, AreVersionsOf}
+use Rattle.vms_values_laws.proofs.Facade.{is_needed, ComeAsNeeded, IsReady, DefaultsFit, rules_append, rules_are, elements_in, Entry, OfSub, number_entries}
+use Rattle.vms_values_laws.proofs.Facade.{subs_entries, device_entries, if_not, rules_hold, have_defaults, sub_holds, came_well, part_reason, AreFine, has_line}
+use Rattle.vms_values_laws.proofs.Facade.{IsShaped, AreUnsaid, IsAtVersion, AreAtVersions, walks, elements_slots, BadLine, or_bad}
 use Rattle.vms_values_laws.proofs.SecondPass.{desc_rules, as_bad, parts_from}
 use Rattle.vms_values_laws.proofs.Numbers.{AreShort}
 use Rattle.vms_values_laws.proofs.Rights.{AreRight, right_none, right_both, AreBare, none_outside, said_right, have_each, fit_parts}
-use Rattle.vms_values_laws.proofs.SaidLaws.{lines_both}
+use Rattle.vms_values_laws.proofs.SaidLaws.{lines_both, if_none}
 use Rattle.vms_spec.specs.declared.ValuesReason.TheVariants as reasons
 use Rattle.vms_spec.specs.Layout as slots
 
 -- ---- A state that a text says, with good parts, is ready.
-
--- ---- entries of a part
 
 pub fine_both : (es fs : List Entry) → AreFine (es ++ fs) → AreFine es × AreFine fs
 fine_both [] fs h = (tt, h)
@@ -32,16 +30,8 @@ pub good_both : (set : Set) (es fs : List Entry) → AreGood set (es ++ fs) → 
 good_both set [] fs h = (tt, h)
 good_both set (e ∷ es) fs h = let p = good_both set es fs h.1 in ((h.0, p.0), p.1)
 
-if_none : (b : Bool) (reason : ValuesReason) → if_not b reason ≡ None → b ≡ true
-if_none true reason e = refl
-if_none false reason e = cc
-
 two_none : (a b : Bool) → or_else (if_not a reasons.Invalid) (if_not b reasons.Needed) ≡ None → (a ≡ true) × (b ≡ true)
-two_none true true e = (refl, refl)
-two_none true false e = cc
-two_none false b e = cc
-
--- ---- a description
+two_none a b e = let p = or_else_none _ _ e in (if_none a _ p.0, if_none b _ p.1)
 
 module _ (set : Set) (n : List ℤ) (short : AreShort n) where
   abbrev cells : Desc → List Cell
@@ -58,8 +48,7 @@ module _ (set : Set) (n : List ℤ) (short : AreShort n) where
       (said_right n short at (elements_in set d d.version n at) w.up fine (rw (w.cells_are) defaults) (rw (w.cells_are) bare))
 
   desc_bare : (d : Desc) (at : ℕ) → have_defaults n (elements_in set d d.version n at) ≡ true → AreBare n at (cells d) (λ k. false)
-  desc_bare d at h =
-      let w = walks set d d.version d.version n n at at in rw (w.cells_are) at (have_each n at (elements_in set d d.version n at) w.up h)
+  desc_bare d at h = let w = walks set d d.version d.version n n at at in rw (w.cells_are) at (have_each n at (elements_in set d d.version n at) w.up h)
 
   -- what is at its default is right, whatever is in the bytes
   pub default_right : (at : ℕ) (cs : List Cell) (ss : List Slot) → DefaultsFit cs → AreBare n at cs (λ k. false) → AreRight n at cs ss
@@ -91,8 +80,6 @@ module _ (set : Set) (n : List ℤ) (short : AreShort n) where
 -- the cells of subsections
 abbrev pub sub_cells : Set → List Sub → List Cell
 sub_cells set subs = flat_map (λ s. desc_cells (struct_cells set) s.desc) subs
-
--- ---- a device
 
 module _ (set : Set) (d : Device) (image : Image) (short : AreShort image.numbers) where
   abbrev n : List ℤ
@@ -168,8 +155,6 @@ module _ (set : Set) (d : Device) (image : Image) (short : AreShort image.number
       (subs_ready (suc j) next subs came (omega (arith, long)) versions.1 f.1 g.1 p.1 b.1)
   subs_ready j at _ _ long versions fine good defaults bare = absurd (omega (arith, long))
 
-  -- ---- the whole
-
   versions_of : (subs : List Sub) (came : List (Option ℕ)) → length came ≡ length subs → AreAtVersions subs came
       → ((j : ℕ) (s : Sub) → slice_get subs j ≡ Some s → s.desc.minimum ≤ s.desc.version) → AreVersionsOf subs came
   versions_of [] [] long h low = tt
@@ -190,8 +175,7 @@ module _ (set : Set) (d : Device) (image : Image) (short : AreShort image.number
       let f = fine_both numbers others fine.1 in
       let g = good_both set numbers others good.1 in
       let next : own_cells set d ≡ 0 + length own = omega arith in
-      let bare : AreBare n 0 (own ++ sub_cells set d.subs) (λ k. has_line (device_entries set d image) k) =
-      λ c k lt e h. let same : k ≡ c = omega arith in
+      let bare : AreBare n 0 (own ++ sub_cells set d.subs) (λ k. has_line (device_entries set d image) k) = λ c k lt e h. let same : k ≡ c = omega arith in
       unsaid k (omega (arith, shaped.cells)) h ∙ ap (λ (i : ℕ). (get_or (device_cells set d) i no_cell).default) same in
       let b = bare_parts set n short d.desc 0 (own_cells set d) (sub_cells set d.subs) others next
       (λ k lt. below_subs 0 (own_cells set d) d.subs image.came k lt) bare in

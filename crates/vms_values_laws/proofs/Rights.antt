@@ -1,18 +1,17 @@
 -- Which numbers have fine lines, and which entries.
-use Rattle.vms_values_laws.proofs.Facade.{◌≡◌, ℕ, Bool, true, false, not, List, ◌∷◌, ◌++◌, length, get_or, drop, Some, None, ℤ, pos, refl, sym, ap, ◌∙◌, codes}
-use Rattle.vms_values_laws.proofs.Facade.{append_assoc, if◌then◌else◌, ◌||◌, [], ◌⊎◌, inl, inr, zero, suc, ◌+◌, ◌-◌, ◌<◌, ◌≤◌, ◌&&◌, ◌==◌, subst, arith, ⊎_elim}
-use Rattle.vms_values_laws.proofs.Facade.{signed_decimal, eq-eqb, ne_eqb, and_parts, or_parts, drop-append_seam, get_or_append_left, get_or-append-add}
-use Rattle.vms_values_laws.proofs.Facade.{length-append, cases_lt, or_else, exceeds, same_number, Cell, no_cell, Slot, FitsCell, has_cell, in_range}
+use Rattle.vms_values_laws.proofs.Facade.{◌≡◌, ℕ, Bool, true, false, List, ◌∷◌, ◌++◌, length, get_or, drop, Some, None, ℤ, pos, refl, sym, ap, ◌∙◌, codes}
+use Rattle.vms_values_laws.proofs.Facade.{not-true, append_assoc, if◌then◌else◌, ◌||◌, [], ◌⊎◌, inl, inr, zero, suc, ◌+◌, ◌-◌, ◌<◌, ◌≤◌, ◌&&◌, ◌==◌, subst}
+use Rattle.vms_values_laws.proofs.Facade.{arith, ⊎_elim, signed_decimal, eq-eqb, ne_eqb, and_parts, or_parts, drop-append_seam, get_or_append_left}
+use Rattle.vms_values_laws.proofs.Facade.{get_or-append-add, length-append, cases_lt, or_else_none, same_number, Cell, no_cell, Slot, FitsCell, has_cell}
 use Rattle.vms_values_laws.proofs.Facade.{begins_with, is_same, ranged, ranges, or_second, same_number_is, within_all, not_exceeds, IsShort, number_holds}
 use Rattle.vms_values_laws.proofs.Facade.{Number, Element, What, number_line, printed, OfNumber, if_not, number_reason, element_reason, line_reason}
 use Rattle.vms_values_laws.proofs.Facade.{have_defaults, DefaultsFit, names_append, cells_of, slots_of, numbers_in, CountsUp, AreFine, has_line}
+use Rattle.vms_values_laws.proofs.SaidLaws.{if_none, if_holds}
 use Rattle.vms_values_laws.proofs.Numbers.{AreShort, of_numbers}
 use Rattle.vms_spec.specs.declared.ValuesReason.TheVariants as reasons
 use Rattle.vms_spec.specs.Layout as slots
 
 -- ---- What a fine line says of its number, and which numbers have fine lines.
-
--- ---- the text after a front
 
 pub begins_itself : (front text : List ℕ) → begins_with front (front ++ text) ≡ true
 begins_itself [] text = refl
@@ -20,8 +19,7 @@ begins_itself (b ∷ front) text = let e = eq-eqb b b refl in let f = begins_its
 
 by_front : (front line text : List ℕ) (what : What) (present : Bool) → line ≡ front ++ text
     → (if begins_with front line then element_reason what present (drop (length front) line) else Some reasons.Form) ≡ element_reason what present text
-by_front front line text what present e =
-    rw (e, begins_itself front text, drop-append_seam front text) refl
+by_front front line text what present e = rw (e, begins_itself front text, drop-append_seam front text) refl
 
 -- the line of a number is judged by this number
 pub line_number : (x : Element) (n : List ℤ) (cell : Cell) → x.what ≡ Number cell → IsShort (get_or n x.cell (pos 0))
@@ -31,36 +29,28 @@ line_number x n cell e short =
     by_front (x.name ++ codes " = ") (number_line n x) (signed_decimal z) x.what x.present (sym (append_assoc x.name (codes " = ") (signed_decimal z)))
     ∙ rw (e, number_holds z short) refl
 
--- ---- the three reasons
-
 -- a number that fits its cell, and is the default if it is absent
 pub record IsFitting (cell : Cell) (present : Bool) (z : ℤ) : Type 0 where
   pub fits : FitsCell cell z
   pub absent : present ≡ false → z ≡ cell.default
 
-by_tests : (cell : Cell) (present : Bool) (z : ℤ) (a b c : Bool) → in_range cell.kind z ≡ a → exceeds cell.capacities z ≡ b
-    → (present || same_number z cell.default) ≡ c
-    → or_else (if_not a reasons.Number) (or_else (if_not (not b) reasons.Count) (if_not c reasons.Absent)) ≡ None → IsFitting cell present z
-by_tests cell present z true false true e f g h =
-    record {
-      fits = (ranges cell.kind z e, within_all cell.capacities z f);
-      absent = λ p. same_number_is z cell.default (or_second present (same_number z cell.default) g p);
-    }
-by_tests cell present z _ _ _ e f g h = cc
-
 pub reason_fits : (cell : Cell) (present : Bool) (z : ℤ) → number_reason cell present z ≡ None → IsFitting cell present z
 reason_fits cell present z h =
-    by_tests cell present z (in_range cell.kind z) (exceeds cell.capacities z) (present || same_number z cell.default) refl refl refl h
+    let p = or_else_none _ _ h in
+    let q = or_else_none _ _ p.1 in
+    record {
+      fits = (ranges cell.kind z (if_none _ _ p.0), within_all cell.capacities z (not-true _ (if_none _ _ q.0)));
+      absent = λ e. same_number_is z cell.default (or_second present _ (if_none _ _ q.1) e);
+    }
 
 pub fits_reason : (cell : Cell) (present : Bool) (z : ℤ) → IsFitting cell present z → number_reason cell present z ≡ None
 fits_reason cell present z f =
     let e = ranged cell.kind z f.fits.0 in
     let g = not_exceeds cell.capacities z f.fits.1 in
-    rw (e, g) (here present f.absent)
-  where
-    here : (p : Bool) → (p ≡ false → z ≡ cell.default) → if_not (p || same_number z cell.default) reasons.Absent ≡ None
-    here true h = refl
-    here false h = rw (is_same z cell.default (h refl)) refl
+    rw (e, g) (here present f.absent) where
+      here : (p : Bool) → (p ≡ false → z ≡ cell.default) → if_not (p || same_number z cell.default) reasons.Absent ≡ None
+      here true h = refl
+      here false h = rw (is_same z cell.default (h refl)) refl
 
 -- ---- When the numbers of a part of a state are right: each fits its cell, and is the default if it has no byte.
 
@@ -97,21 +87,15 @@ right_both n at next xs ys ss ts is a b = record {
     bare : (k : ℕ) → has_cell (ss ++ ts) k ≡ false → (has_cell ss k ≡ false) × (has_cell ts k ≡ false)
     bare k h = or_parts (has_cell ss k) (has_cell ts k) (sym (names_append ss ts k) ∙ h)
 
--- ---- defaults that fit
-
 pub fit_parts : (xs ys : List Cell) → DefaultsFit (xs ++ ys) → DefaultsFit xs × DefaultsFit ys
 fit_parts xs ys h = (
   λ c lt. rw (get_or_append_left xs ys no_cell c lt) at (h c (omega (arith, length-append xs ys))),
   λ c lt. rw (get_or-append-add xs ys c no_cell) at (h (length xs + c) (omega (arith, length-append xs ys))),
 )
 
--- ---- cells without a line
-
 -- the numbers of cells for which a test is false are defaults
 abbrev pub AreBare : List ℤ → ℕ → List Cell → (ℕ → Bool) → Type 0
 AreBare n at cells test = (c k : ℕ) → c < length cells → k ≡ at + c → test k ≡ false → get_or n k (pos 0) ≡ (get_or cells c no_cell).default
-
--- ---- one element more
 
 -- slots with that of a number, if it has bytes
 abbrev pub with_slot : Element → Cell → List Slot → List Slot
@@ -168,17 +152,13 @@ view x xs = by_what x.what refl
       defaults = λ n. rw e refl;
     })
 
--- ---- lines of elements
-
 no_line : (n : List ℤ) (x : Element) (xs : List Element) (k : ℕ) (b : Bool) → (x.cell ≡ k → ⊥) → has_line (of_numbers n xs) k ≡ false
     → has_line (of_numbers n (if b then x ∷ xs else xs)) k ≡ false
-no_line n x xs k true ne h = rw (ne_eqb x.cell k ne) h
-no_line n x xs k false ne h = h
+no_line n x xs k b ne h = if_holds (λ l. has_line (of_numbers n l) k ≡ false) b (x ∷ xs) xs (rw (ne_eqb x.cell k ne) h) h
 
 pub no_bytes : (x : Element) (cell : Cell) (ss : List Slot) (k : ℕ) (b : Bool) → (x.cell ≡ k → ⊥) → has_cell ss k ≡ false
     → has_cell (if b then slots.Number x.cell cell.kind cell.capacities ∷ ss else ss) k ≡ false
-no_bytes x cell ss k true ne h = rw (ne_eqb x.cell k ne) h
-no_bytes x cell ss k false ne h = h
+no_bytes x cell ss k b ne h = if_holds (λ ss. has_cell ss k ≡ false) b _ ss (rw (ne_eqb x.cell k ne) h) h
 
 -- cells before those of the elements and after them have no line and no byte
 pub none_outside : (n : List ℤ) (at : ℕ) (xs : List Element) → CountsUp at (numbers_in xs) → (k : ℕ) → (at ≤ k → at + length (cells_of xs) ≤ k)
@@ -194,8 +174,6 @@ none_outside n at (x ∷ xs) up k h =
     (λ (v : IsNoNumber x xs).
     let later = none_outside n at xs (rw (v.numbers) at up) k (rw (v.cells) at h) in
     (rw (v.lines) later.0, v.bytes k ∙ later.1)) (view x xs)
-
--- ---- elements whose lines are fine
 
 pub fine_rest : (n : List ℤ) (x : Element) (xs : List Element) (b : Bool) → AreFine (of_numbers n (if b then x ∷ printed xs else printed xs))
     → AreFine (of_numbers n (printed xs))
@@ -214,9 +192,7 @@ module _ (n : List ℤ) (short : AreShort n) where
       }
     where
       hidden : (b : Bool) → has_cell (if b then slots.Number x.cell cell.kind cell.capacities ∷ ss else ss) k ≡ false → b ≡ false
-      hidden true h = no (sym (eq-eqb x.cell k at) ∙ (or_parts (x.cell == k) (has_cell ss k) h).0) where
-        no : true ≡ false → true ≡ false
-        no e = e
+      hidden true h = sym (eq-eqb x.cell k at) ∙ (or_parts (x.cell == k) (has_cell ss k) h).0
       hidden false h = refl
 
   bare_later : (b : Bool) (at : ℕ) (kind : Rattle.vms_kinds.specs.declared.Kind.Kind) (caps : List ℕ) (ss : List Slot) (k : ℕ)
@@ -265,8 +241,6 @@ module _ (n : List ℤ) (short : AreShort n) where
           more at (rw (v.numbers) at up) (rw (v.lines) at fine) (rw (v.cells) at defaults)
           (subst (λ (l : List Element). AreBare n at (cells_of xs) (λ k. has_line (of_numbers n l) k)) v.lines (rw (v.cells) at bare)) in
           rw (v.cells) (record { right = λ c k lt e. right_by (λ h. sym (v.bytes k) ∙ h) (later.right c k lt e) })
-
--- ---- elements at their defaults
 
 pub have_each : (n : List ℤ) (at : ℕ) (xs : List Element) → CountsUp at (numbers_in xs) → have_defaults n xs ≡ true → AreBare n at (cells_of xs) (λ k. false)
 have_each n at [] up h = λ c k lt e f. absurd (omega arith)

@@ -1,10 +1,26 @@
 -- What is known of a state that agrees with what lines said, and what was said in two parts.
-use Rattle.vms_values_laws.proofs.Facade.{◌≡◌, ◌≢◌, ℕ, ◌≤◌, List, [], ◌∷◌, ◌++◌, get_or, map, slice_set, ℤ, pos, refl, sym, ap, ◌∙◌, arith, append_assoc}
-use Rattle.vms_values_laws.proofs.Facade.{get_or-set_other, Bool, true, false, ◌==◌, ◌||◌, length, map-append, length-append, eq-eqb, or_parts, or_assoc}
-use Rattle.vms_values_laws.proofs.Facade.{AllByRecursion, Standing, Element, text_of, text_append, Said, said_line, AreFineLines, Agrees, Meets, AreBelow}
-use Rattle.vms_values_laws.proofs.Facade.{AreFrom, put_all, Ran, Entry, OfNumber, is_of_cell, has_line, IsShort}
+use Rattle.vms_values_laws.proofs.Facade.{◌≡◌, ℕ, ◌≤◌, List, [], ◌∷◌, ◌++◌, get_or, map, slice_set, ℤ, pos, refl, sym, ap, ◌∙◌, arith, append_assoc, true}
+use Rattle.vms_values_laws.proofs.Facade.{false, if◌then◌else◌, Some, None, same_Some, slice_get, suc, get_or-set_other, Bool, ◌==◌, ◌||◌, length, map-append}
+use Rattle.vms_values_laws.proofs.Facade.{length-append, eq-eqb, or_parts, or_assoc, AllByRecursion, ValuesReason, if_not, Standing, Element, text_of}
+use Rattle.vms_values_laws.proofs.Facade.{text_append, Said, said_line, AreFineLines, Agrees, Meets, AreBelow, AreFrom, put_all, Ran, Entry, OfNumber}
+use Rattle.vms_values_laws.proofs.Facade.{is_of_cell, has_line, IsShort}
 
--- ---- meeting
+-- either choice has it
+pub if_holds : {A : Type 0} (P : A → Type 0) (b : Bool) (x y : A) → P x → P y → P (if b then x else y)
+if_holds P true x y p q = p
+if_holds P false x y p q = q
+
+pub some_if : {A : Type 0} (b : Bool) (x y : A) → (if b then Some x else None) ≡ Some y → (b ≡ true) × (x ≡ y)
+some_if true x y e = (refl, same_Some x y e)
+some_if false x y e = cc
+
+pub if_none : (b : Bool) (reason : ValuesReason) → if_not b reason ≡ None → b ≡ true
+if_none true reason e = refl
+if_none false reason e = cc
+
+pub all_from : {A : Type 0} (P : A → Type 0) (xs : List A) → ((k : ℕ) (x : A) → slice_get xs k ≡ Some x → P x) → AllByRecursion P xs
+all_from P [] h = tt
+all_from P (x ∷ xs) h = (h 0 x refl, all_from P xs (λ k y e. h (suc k) y e))
 
 pub all_both : {A : Type 0} (P : A → Type 0) (xs ys : List A) → AllByRecursion P xs → AllByRecursion P ys → AllByRecursion P (xs ++ ys)
 all_both P [] ys a b = b
@@ -28,18 +44,11 @@ pub meets_all : (said : List Said) (left : List Element) (n : List ℤ) (xs : Li
     → xs ≡ map (λ (s : Said). s.element) said ++ left
 meets_all [] left n xs a h = h
 meets_all (s ∷ said) left n [] a h = absurd h
-meets_all (s ∷ said) left n (x ∷ xs) a h =
-    rw (h.0, meets_all said left n xs a.1 (h.1 a.0)) refl
+meets_all (s ∷ said) left n (x ∷ xs) a h = rw (h.0, meets_all said left n xs a.1 (h.1 a.0)) refl
 
--- ---- agreeing
-
-pub agrees_front : (said more : List Said) (n : List ℤ) → Agrees (said ++ more) n → Agrees said n
-agrees_front [] more n a = tt
-agrees_front (s ∷ said) more n a = (a.0, agrees_front said more n a.1)
-
-pub agrees_later : (said more : List Said) (n : List ℤ) → Agrees (said ++ more) n → Agrees more n
-agrees_later [] more n a = a
-agrees_later (s ∷ said) more n a = agrees_later said more n a.1
+pub agrees_parts : (said more : List Said) (n : List ℤ) → Agrees (said ++ more) n → Agrees said n × Agrees more n
+agrees_parts [] more n a = (tt, a)
+agrees_parts (s ∷ said) more n a = let p = agrees_parts said more n a.1 in ((a.0, p.0), p.1)
 
 pub agrees_both : (said more : List Said) (n : List ℤ) → Agrees said n → Agrees more n → Agrees (said ++ more) n
 agrees_both [] more n a b = b
@@ -49,10 +58,7 @@ agrees_both (s ∷ said) more n a b = (a.0, agrees_both said more n a.1 b)
 pub agrees_put : (said : List Said) (cell : ℕ) (n : List ℤ) (z : ℤ) → AreBelow cell said → Agrees said n → Agrees said (slice_set n cell z)
 agrees_put [] cell n z b a = tt
 agrees_put (s ∷ said) cell n z b a =
-    let ne : s.element.cell ≢ cell = let lt = b.0 in omega arith in
-    (get_or-set_other n cell s.element.cell z (pos 0) ne ∙ a.0, agrees_put said cell n z b.1 a.1)
-
--- ---- below
+    (get_or-set_other n cell s.element.cell z (pos 0) (λ e. omega (arith, b.0)) ∙ a.0, agrees_put said cell n z b.1 a.1)
 
 pub below_less : (cell further : ℕ) (said : List Said) → cell ≤ further → AreBelow cell said → AreBelow further said
 below_less cell further [] le b = tt
@@ -74,11 +80,7 @@ from_less cell further (s ∷ said) le b = let lt = b.0 in (omega arith, from_le
 pub agrees_kept : (said more : List Said) (cell : ℕ) (n : List ℤ) → AreBelow cell said → AreFrom cell more → Agrees said n → Agrees said (put_all n more)
 agrees_kept said [] cell n b f a = a
 agrees_kept said (s ∷ more) cell n b f a =
-    let le = f.0 in
-    agrees_kept said more cell (slice_set n s.element.cell s.number) b f.1
-    (agrees_put said s.element.cell n s.number (below_less cell s.element.cell said le b) a)
-
--- ---- lines
+    agrees_kept said more cell _ b f.1 (agrees_put said s.element.cell n s.number (below_less cell s.element.cell said f.0 b) a)
 
 pub fine_more : (said more : List Said) → AreFineLines said → AreFineLines more → AreFineLines (said ++ more)
 fine_more [] more f g = g
@@ -100,8 +102,6 @@ ran_more p q r said more f g =
       numbers = rw (g.numbers, f.numbers) (sym (put_more p.numbers said more));
       fine = fine_more said more f.fine g.fine;
     }
-
--- ---- what was said in two parts
 
 -- numbers of at most 64 bits were said
 abbrev pub AreShortSaid : List Said → Type 0
@@ -137,12 +137,11 @@ has_said (s ∷ said) c = (s.element.cell == c) || has_said said c
 
 pub said_both : (said more : List Said) (c : ℕ) → has_said (said ++ more) c ≡ (has_said said c || has_said more c)
 said_both [] more c = refl
-said_both (s ∷ said) more c =
-    ap (λ (b : Bool). (s.element.cell == c) || b) (said_both said more c) ∙ sym (or_assoc (s.element.cell == c) (has_said said c) (has_said more c))
+said_both (s ∷ said) more c = rw (said_both said more c) (sym (or_assoc (s.element.cell == c) (has_said said c) (has_said more c)))
 
 pub lines_both : (es fs : List Entry) (c : ℕ) → has_line (es ++ fs) c ≡ (has_line es c || has_line fs c)
 lines_both [] fs c = refl
-lines_both (e ∷ es) fs c = ap (λ (b : Bool). is_of_cell c e || b) (lines_both es fs c) ∙ sym (or_assoc (is_of_cell c e) (has_line es c) (has_line fs c))
+lines_both (e ∷ es) fs c = rw (lines_both es fs c) (sym (or_assoc (is_of_cell c e) (has_line es c) (has_line fs c)))
 
 -- the elements of what was said have lines of these cells
 pub lines_said : (n : List ℤ) (said : List Said) (c : ℕ) → has_line (map (λ x. OfNumber x n) (map (λ (s : Said). s.element) said)) c ≡ has_said said c
@@ -154,7 +153,4 @@ unsaid_kept n [] c e = refl
 unsaid_kept n (s ∷ said) c e =
     let p = or_parts (s.element.cell == c) (has_said said c) e in
     unsaid_kept (slice_set n s.element.cell s.number) said c p.1
-    ∙ get_or-set_other n s.element.cell c s.number (pos 0) (λ same. no (sym (eq-eqb s.element.cell c (sym same)) ∙ p.0))
-  where
-    no : true ≡ false → ⊥
-    no f = cc
+    ∙ get_or-set_other n s.element.cell c s.number (pos 0) (λ same. let e = eq-eqb s.element.cell c (sym same) in cc)

@@ -10,8 +10,6 @@ use Rattle.vms_values_laws.proofs.Facade.{elements_slots}
 use Rattle.vms_spec.specs.declared.ValuesReason.TheVariants as reasons
 use Rattle.vms_spec.specs.ValuesReading as reading
 
--- ---- the first bad one of entries
-
 abbrev pub as_bad : ℕ → Option ValuesReason → Option BadLine
 as_bad line None = None
 as_bad line (Some reason) = Some (record { line = line; reason = reason })
@@ -47,8 +45,6 @@ parts_both set line [] fs = ap (λ (l : ℕ). parts_from set l fs) (omega arith)
 parts_both set line (e ∷ es) fs =
     let further : line + suc (length es) ≡ suc line + length es = omega arith in
     rw (parts_both set (suc line) es fs, further) (sym (or_bad_assoc (as_bad line (part_reason set e)) _ _))
-
--- ---- what is judged of a part
 
 pub rules_same : (xs : List Element) → rules_hold xs ≡ rules_are_true (slots_of xs)
 rules_same [] = refl
@@ -132,8 +128,6 @@ module _ (set : Set) where
         parts_past set (suc line) image.numbers xs others,
       ) (one_part holds well line (parts_from set next others))
   subs_judged d image j at _ _ line room = refl
-
-  -- ---- devices
 
   -- what was read of a device has the lines of its entries, the first of which is on this line
   pub record IsLined (d : Device) (line : ℕ) (r : ReadDevice) : Type 0 where

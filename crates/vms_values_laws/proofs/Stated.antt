@@ -1,18 +1,19 @@
 -- The laws of values texts, as they are stated.
 use Rattle.vms_values_laws.proofs.Facade.{◌≡◌, inl, inr, ℕ, List, ◌++◌, Option, Some, None, sym, ap, ◌∙◌, subst, arith, ◌∷◌, map, true, refl, codes, append-nil}
-use Rattle.vms_values_laws.proofs.Facade.{[], ◌+◌, length, suc, ◌≤◌, Bool, false, sum_by, ℤ, if◌then◌else◌, ⊎_elim, same_Some, length-append, length-map}
-use Rattle.vms_values_laws.proofs.Facade.{sum_by-cons, ValuesReason, Set, Device, Desc, Sub, ValuesRead, Bad, machine_named, BadLine, Values, values_read}
-use Rattle.vms_values_laws.proofs.Facade.{Entry, entries, devices_entries, entry_line, OfNumber, number_entries, subs_entries, device_entries, IsBadLine}
-use Rattle.vms_values_laws.proofs.Facade.{IsMachineOf, Says, IsText, IsBadPart, Refused, Reads, Taken, Follows, Image, own_cells, first_line, is_one_of}
-use Rattle.vms_values_laws.proofs.Facade.{IsConfiguration, IsTrailer, optional, configuration, trailer, written, AreReady, WellFormed, text_of, section_line}
-use Rattle.vms_values_laws.proofs.Facade.{printed, values_text, IsFit, well_good, entry_law, text_is, ReadLaw, OnlyLaw, AcceptedLaw, PrintedLaw, device_lines}
-use Rattle.vms_values_laws.proofs.Facade.{most_lines, LineLaw, machine_short, few_devices, Takes, one_stream_holds, written_holds, FitsText, WrittenLaw}
-use Rattle.vms_values_laws.proofs.Facade.{PackedLaw, ShownLaw, desc_cells, struct_cells, Element, cells_of, elements_in, walks}
-use Rattle.vms_values_laws.proofs.BadLines.{FirstPass, NoneBad, first_pass, TakenOf, taken_all, taken_before}
+use Rattle.vms_values_laws.proofs.Facade.{[], ◌+◌, length, suc, ◌≤◌, sum_by, ℤ, ⊎_elim, same_Some, length-append, length-map, sum_by-cons, ValuesReason, Set}
+use Rattle.vms_values_laws.proofs.Facade.{Device, Desc, Sub, ValuesRead, Bad, machine_named, BadLine, Values, values_read, Entry, entries, devices_entries}
+use Rattle.vms_values_laws.proofs.Facade.{entry_line, OfNumber, number_entries, subs_entries, device_entries, IsBadLine, IsMachineOf, Says, IsText, IsBadPart}
+use Rattle.vms_values_laws.proofs.Facade.{Refused, Reads, Taken, Follows, Image, own_cells, first_line, is_one_of, IsConfiguration, IsTrailer, optional}
+use Rattle.vms_values_laws.proofs.Facade.{configuration, trailer, written, AreReady, WellFormed, text_of, section_line, printed, values_text, IsFit, well_good}
+use Rattle.vms_values_laws.proofs.Facade.{entry_law, text_is, ReadLaw, OnlyLaw, AcceptedLaw, PrintedLaw, device_lines, most_lines, LineLaw, machine_short}
+use Rattle.vms_values_laws.proofs.Facade.{few_devices, Takes, one_stream_holds, written_holds, FitsText, WrittenLaw, PackedLaw, ShownLaw, desc_cells}
+use Rattle.vms_values_laws.proofs.Facade.{struct_cells, Element, cells_of, elements_in, walks}
+use Rattle.vms_values_laws.proofs.SaidLaws.{if_holds}
+use Rattle.vms_values_laws.proofs.BadLines.{FirstPass, NoneBad, first_pass, TakenOf, taken_all}
 use Rattle.vms_values_laws.proofs.Meeting.{AreClean, Ends, Same, meet, NoFeed, line_first, section_feed, AreCleanDevices, clean_entries, clean_structs}
 use Rattle.vms_values_laws.proofs.Meeting.{clean_devices, clean_named, clean_machine}
 use Rattle.vms_values_laws.proofs.SecondPass.{parts_from}
-use Rattle.vms_values_laws.proofs.AllCome.{all_short, images_of, good_devices}
+use Rattle.vms_values_laws.proofs.AllCome.{images_of, good_devices}
 use Rattle.vms_values_laws.proofs.Accepted.{Match, inside_of, matched, devices_same, answer_by, none_answers, none_says, none_good, says_ready}
 use Rattle.vms_values_laws.proofs.ReadyParts.{AreGood, sub_cells, FirstPart, first_part, bad_part_found, good_none}
 use Rattle.vms_values_laws.proofs.ReadyBack.{text_says}
@@ -23,29 +24,26 @@ use Rattle.vms_values_laws.proofs.Rights.{IsNumberOf, IsNoNumber, view}
 module _ (set : Set) (text : List ℕ) (line : ℕ) (reason : ValuesReason) (x : IsBadLine set text line reason)
     (clean : AreClean (entries set x.machine x.images)) where
   -- what was taken, beside the state that the relation has
-  against : (machine : Option (List ℕ)) (taken : List Taken) (rest : List ℕ) (o : Option ValuesReason) → TakenOf set text machine taken rest o
+  against : {machine : Option (List ℕ)} {taken : List Taken} {at : ℕ} {rest : List ℕ} {o : Option ValuesReason} → TakenOf set text machine taken at rest o
       → Same taken x.before o (Some reason)
-  against machine taken rest o t =
+  against {machine = machine} {taken = taken} {rest = rest} {o = o} t =
       let same : machine ≡ x.machine = t.named ∙ sym x.named in
       let f : Follows taken (λ es. Ends o rest es) (x.before ++ x.after) =
       subst (λ (es : List Entry). Follows taken (λ es. Ends o rest es) es) x.state
       (subst (λ (m : Option (List ℕ)). Follows taken (λ es. Ends o rest es) (entries set m x.images)) same (t.follows x.images x.shaped)) in
-      meet taken x.before x.after rest x.rest o (Some reason) f (rw (x.state) at clean) t.fine x.fine (sym t.texts ∙ x.begins) x.bad
+      meet taken x.before x.after rest x.rest o (Some reason) f (rw (x.state) at clean) t.moved.fine x.fine (sym t.moved.texts ∙ x.begins) x.bad
 
   pub bad_back : (v : ValuesRead) → FirstPass set text v → v ≡ Bad line reason
   bad_back v (inl b) =
       let f = b.first in
-      let same = against f.machine f.taken f.rest (Some b.reason) (taken_before set text v b) in
+      let same = against f.took in
       let reasons : b.reason ≡ reason = (let e = same.reason in cc) in
-      let lines : b.line ≡ line = omega (arith, f.moved.further, same.long, x.number) in
+      let lines : b.line ≡ line = omega (arith, f.took.moved.further, same.long, x.number) in
       rw (← lines, ← reasons) b.is
   bad_back v (inr n) =
-      let e = (against n.machine n.first.taken n.all.rest None (taken_all set text v n)).reason in
-      cc
+      let e = (against (taken_all set text v n)).reason in cc
 
 -- ---- What a text says, if no line is bad, is what is read of it.
-
--- ---- the machine
 
 -- the first line of a text that has this line first
 first_is : (text line : List ℕ) (lines : List (List ℕ)) → NoFeed line → text ≡ text_of (line ∷ lines) → first_line text ≡ Some (line, text_of lines)
@@ -82,22 +80,20 @@ clean_says set well (Some name) images named =
     clean_entries set (clean_structs set well) (Some name) images (clean_devices set well)
     (λ other e. rw (same_Some name other e) at (clean_named set well name named))
 
--- ---- the state
-
 module _ (set : Set) (well : WellFormed set) (text : List ℕ) (machine : Option (List ℕ)) (images : List Image) (says : Says set text machine images) where
   its_machine : machine_named set.machines (first_line text) ≡ machine
   its_machine = named_by set well text machine images says.named says.printed
 
   -- what was taken are the lines of the state
-  beside : (machine' : Option (List ℕ)) (taken : List Taken) (rest : List ℕ) (o : Option ValuesReason) → TakenOf set text machine' taken rest o
+  beside : {machine' : Option (List ℕ)} {taken : List Taken} {at : ℕ} {rest : List ℕ} {o : Option ValuesReason} → TakenOf set text machine' taken at rest o
       → Same taken (entries set machine images) o None
-  beside machine' taken rest o t =
+  beside {taken = taken} {rest = rest} {o = o} t =
       let es = entries set machine images in
       let whole : es ≡ es ++ [] = sym (append-nil es) in
       let f : Follows taken (λ es. Ends o rest es) es =
       subst (λ (m : Option (List ℕ)). Follows taken (λ es. Ends o rest es) (entries set m images)) (t.named ∙ its_machine) (t.follows images says.shaped) in
       meet taken es [] rest [] o None (rw (whole) at f) (subst (λ (l : List Entry). AreClean l) whole (clean_says set well machine images says.named))
-      t.fine says.fine (sym t.texts ∙ says.printed ∙ sym (append-nil (text_of (map entry_line es)))) (refl, refl)
+      t.moved.fine says.fine (sym t.moved.texts ∙ says.printed ∙ sym (append-nil (text_of (map entry_line es)))) (refl, refl)
 
   same_devices : (machine : Option (List ℕ)) (i j : List Image) → Match (entries set machine i) (entries set machine j)
       → Match (devices_entries set set.devices i) (devices_entries set set.devices j)
@@ -112,28 +108,24 @@ module _ (set : Set) (well : WellFormed set) (text : List ℕ) (machine : Option
     same_images =
         let f = n.first in
         let read = images_of n.all.devices in
-        let same = beside n.machine f.taken n.all.rest None (taken_all set text v n) in
+        let same = beside (taken_all set text v n) in
         let m : Match (entries set n.machine read) (entries set n.machine images) =
-        matched f.taken (entries set n.machine read) (entries set n.machine images) (f.follows read f.shaped f.short) f.along
-        (f.follows images says.shaped (all_short set set.devices images says.shaped))
+        matched f.taken (entries set n.machine read) (entries set n.machine images) (f.follows read f.shaped) f.along
+        (f.follows images says.shaped)
         (same.lines ∙ ap (λ (m : Option (List ℕ)). map entry_line (entries set m images)) (sym same_machine)) in
-        devices_same set set.devices read images f.shaped says.shaped f.short (all_short set set.devices images says.shaped) f.unsaid says.unsaid
+        devices_same set set.devices read images f.shaped says.shaped f.unsaid says.unsaid
         (same_devices n.machine read images m)
 
   pub says_answers : (v : ValuesRead) → FirstPass set text v → v ≡ answer_by machine images (parts_from set 1 (entries set machine images))
   says_answers v (inl b) =
       let f = b.first in
-      let e = (beside f.machine f.taken f.rest (Some b.reason) (taken_before set text v b)).reason in
-      cc
-  says_answers v (inr n) =
-      none_answers set text v n ∙ rw (same_machine v n, same_images v n) refl
+      let e = (beside f.took).reason in cc
+  says_answers v (inr n) = none_answers set text v n ∙ rw (same_machine v n, same_images v n) refl
 
 -- ---- The laws of reading, as they are stated.
 
 its_first_pass : (set : Set) (text : List ℕ) → IsFit set → FirstPass set text (values_read set text)
 its_first_pass set text fit = let good = well_good set fit.well fit.heads in first_pass set text good.structs (good_devices set good)
-
--- ---- what is read
 
 text_of_ready : (set : Set) (text : List ℕ) (machine : Option (List ℕ)) (images : List Image) → IsFit set → Says set text machine images
     → AreGood set (entries set machine images) → IsText set text machine images
@@ -167,16 +159,13 @@ by_parts set text machine images None fit says e = text_of_ready set text machin
 
 by_pass : (set : Set) (text : List ℕ) (v : ValuesRead) → IsFit set → FirstPass set text v → Reads set text v
 by_pass set text v fit (inl b) = rw (b.is) (inl b.first.is_bad)
-by_pass set text v fit (inr n) =
-    rw (none_answers set text v n) (by_parts set text n.machine (images_of n.all.devices) _ fit (none_says set text v n) refl)
+by_pass set text v fit (inr n) = rw (none_answers set text v n) (by_parts set text n.machine (images_of n.all.devices) _ fit (none_says set text v n) refl)
 
 pub read_holds : ReadLaw
 read_holds set text fit = by_pass set text (values_read set text) fit (its_first_pass set text fit)
 
 pub accepted_holds : AcceptedLaw
 accepted_holds set text machine images fit e = rw e at (read_holds set text fit)
-
--- ---- and nothing else
 
 line_back : (set : Set) (text : List ℕ) (line : ℕ) (reason : ValuesReason) → IsFit set → IsBadLine set text line reason → values_read set text ≡ Bad line reason
 line_back set text line reason fit x =
@@ -259,12 +248,9 @@ shown_holds set machine described images fit named fits ready text s =
 few_printed : (xs : List Element) → length (printed xs) ≤ length (cells_of xs)
 few_printed [] = omega arith
 few_printed (x ∷ xs) =
-    ⊎_elim (λ (v : IsNumberOf x xs). omega (arith, ap length v.lines, ap length v.cells, either x.counted, few_printed xs))
+    let most = if_holds (λ l. length l ≤ suc (length (printed xs))) x.counted (x ∷ printed xs) (printed xs) (omega arith) (omega arith) in
+    ⊎_elim (λ (v : IsNumberOf x xs). omega (arith, ap length v.lines, ap length v.cells, most, few_printed xs))
     (λ (v : IsNoNumber x xs). omega (arith, ap length v.lines, ap length v.cells, few_printed xs)) (view x xs)
-  where
-    either : (b : Bool) → length (if b then x ∷ printed xs else printed xs) ≤ suc (length (printed xs))
-    either true = omega arith
-    either false = omega arith
 
 few_numbers : (set : Set) (d : Desc) (n : List ℤ) (at : ℕ) → length (number_entries set d n at) ≤ length (desc_cells (struct_cells set) d)
 few_numbers set d n at =
@@ -275,53 +261,31 @@ few_subs : (set : Set) (d : Device) (image : Image) (j at : ℕ) (subs : List Su
     → length (subs_entries set d image j at subs came) ≤ length subs + length (sub_cells set subs)
 few_subs set d image j at (s ∷ subs) (o ∷ came) =
     let own = desc_cells (struct_cells set) s.desc in
-    let numbers = number_entries set s.desc image.numbers at in
-    let others = subs_entries set d image (suc j) (at + length own) subs came in
-    omega (
-      arith,
-      length-append numbers others,
-      few_numbers set s.desc image.numbers at,
-      few_subs set d image (suc j)
-          (at + length own) subs came,
-      length-append own (sub_cells set subs),
-    )
+    let entries = length-append (number_entries set s.desc image.numbers at) (subs_entries set d image (suc j) (at + length own) subs came) in
+    let few = few_subs set d image (suc j) (at + length own) subs came in
+    omega (arith, entries, few_numbers set s.desc image.numbers at, few, length-append own (sub_cells set subs))
 few_subs set d image j at _ _ = omega arith
 
 few_device : (set : Set) (d : Device) (image : Image) → length (device_entries set d image) ≤ device_lines set d
 few_device set d image =
-    let numbers = number_entries set d.desc image.numbers 0 in
-    let others = subs_entries set d image 0 (own_cells set d) d.subs image.came in
-    omega (
-      arith,
-      length-append numbers others,
-      few_numbers set d.desc image.numbers 0,
-      few_subs set d image 0
-          (own_cells set d) d.subs image.came,
-      length-append (desc_cells (struct_cells set) d.desc) (sub_cells set d.subs),
-    )
+    let entries = length-append (number_entries set d.desc image.numbers 0) (subs_entries set d image 0 (own_cells set d) d.subs image.came) in
+    let few = few_subs set d image 0 (own_cells set d) d.subs image.came in
+    omega (arith, entries, few_numbers set d.desc image.numbers 0, few, length-append (desc_cells (struct_cells set) d.desc) (sub_cells set d.subs))
 
 few_all : (set : Set) (devices : List Device) (images : List Image) → length (devices_entries set devices images) ≤ sum_by (device_lines set) devices
 few_all set (d ∷ devices) (image ∷ images) =
-    omega (
-      arith,
-      length-append (device_entries set d image)
-          (devices_entries set devices images),
-      few_device set d image,
-      few_all set devices images,
-      sum_by-cons (device_lines set) d devices,
-    )
+    let entries = length-append (device_entries set d image) (devices_entries set devices images) in
+    omega (arith, entries, few_device set d image, few_all set devices images, sum_by-cons (device_lines set) d devices)
 few_all set _ _ = omega arith
 
 few_entries : (set : Set) (machine : Option (List ℕ)) (images : List Image) → length (entries set machine images) ≤ most_lines set
 few_entries set None images = omega (arith, few_all set set.devices images)
-few_entries set (Some name) images = omega (arith, few_all set set.devices images)
+few_entries set _ images = omega (arith, few_all set set.devices images)
 
 by_refused : (set : Set) (text : List ℕ) (line : ℕ) (reason : ValuesReason) → Refused set text line reason → line ≤ suc (most_lines set)
-by_refused set text line reason (inl x) =
-    omega (arith, x.number, ap length x.state, length-append x.before x.after, few_entries set x.machine x.images)
+by_refused set text line reason (inl x) = omega (arith, x.number, ap length x.state, length-append x.before x.after, few_entries set x.machine x.images)
 by_refused set text line reason (inr x) =
     omega (arith, x.number, ap length x.state, length-append x.before (x.entry ∷ x.after), few_entries set x.machine x.images)
 
 pub line_holds : LineLaw
-line_holds set text line reason fit e =
-    by_refused set text line reason (rw e at (read_holds set text fit))
+line_holds set text line reason fit e = by_refused set text line reason (rw e at (read_holds set text fit))

@@ -1,17 +1,15 @@
 -- The subsections of a device, read as entries.
 use Rattle.vms_values_laws.proofs.Facade.{◌≡◌, ℕ, suc, ◌+◌, ◌≤◌, List, ◌∷◌, ◌++◌, length, map, Bool, true, false, if◌then◌else◌, Option, Some, None, ℤ, Ok, Err}
-use Rattle.vms_values_laws.proofs.Facade.{Result, refl, sym, ap, ◌∙◌, subst, arith, append_assoc, [], length-append, length-map, flat_map, bytes_eq}
-use Rattle.vms_values_laws.proofs.Facade.{bytes_eq-Decides, Sub, Device, Set, desc_cells, struct_cells, Image, first_line, Standing, Read, BadLine, ReadSubs}
-use Rattle.vms_values_laws.proofs.Facade.{readers, read_desc, read_subs, read_sub, sub_said, also, then_subs, next_line, rest_of, IsSound, AreSound}
+use Rattle.vms_values_laws.proofs.Facade.{AllByRecursion, Result, refl, sym, ap, ◌∙◌, subst, arith, append_assoc, [], length-append, length-map, flat_map}
+use Rattle.vms_values_laws.proofs.Facade.{bytes_eq, bytes_eq-Decides, Sub, Device, Set, desc_cells, struct_cells, Image, first_line, Standing, Read, BadLine}
+use Rattle.vms_values_laws.proofs.Facade.{ReadSubs, readers, read_desc, read_subs, read_sub, sub_said, also, then_subs, next_line, rest_of, IsSound, AreSound}
 use Rattle.vms_values_laws.proofs.Facade.{line_splits, sub_line, Entry, OfSub, number_entries, subs_entries, has_line, IsAtVersion, AreAtVersions, Said, Agrees}
 use Rattle.vms_values_laws.proofs.Facade.{Demand, ForSub, ForNumber, reason_for, Taken, Follows, Along, Begins, Moved}
 use Rattle.vms_spec.specs.declared.ValuesReason.TheVariants as reasons
 use Rattle.vms_values_laws.proofs.Numbers.{moved_none, moved_one, moved_then, AreShort, all_taken, NumbersRead, NumbersStop, NumbersCome, numbers_come}
 use Rattle.vms_values_laws.proofs.Numbers.{follows_on, along_on, heard_on, lines_on}
 use Rattle.vms_values_laws.proofs.SecondPass.{sub_numbers}
-use Rattle.vms_values_laws.proofs.SaidLaws.{agrees_front, agrees_later, Told, told_none, told_both, has_said}
-
--- ---- the line of a subsection
+use Rattle.vms_values_laws.proofs.SaidLaws.{agrees_parts, Told, told_none, told_both, has_said}
 
 pub line_taken : (text line rest : List ℕ) → first_line text ≡ Some (line, rest) → text ≡ line ++ 10 ∷ rest_of (first_line text)
 line_taken text line rest e = line_splits text line rest e ∙ rw e refl
@@ -33,26 +31,17 @@ pub record SaidSub (s : Sub) (o : Option (List ℕ × List ℕ)) (came : Option 
   pub fine : reason_for (ForSub s) (Some (sub_line s came, [])) ≡ None
   pub version : IsAtVersion s came
 
+said_by : (s : Sub) (line rest : List ℕ) (came : Option ℕ) → line ≡ sub_line s came → reason_for (ForSub s) (Some (line, [])) ≡ None → IsAtVersion s came
+    → SaidSub s (Some (line, rest)) came
+said_by s line rest came is fine version = record { rest = rest; is = rw is refl; fine = rw is at fine; version = version }
+
 one_way : (s : Sub) (line rest : List ℕ) (came : Option ℕ) (a b : Bool) → bytes_eq line (sub_line s (Some s.desc.version)) ≡ a
     → bytes_eq line (sub_line s None) ≡ b
     → (if a then Some (Some s.desc.version) else if b then Some None else None) ≡ Some came → SaidSub s (Some (line, rest)) came
 one_way s line rest (Some v) true b e f h =
     let version : Some s.desc.version ≡ Some v = cc in
-    let whole : line ≡ sub_line s (Some v) = (bytes_eq-Decides line (sub_line s (Some s.desc.version))).0 e ∙ ap (λ (o : Option ℕ). sub_line s o) version in
-    record {
-      rest = rest;
-      is = ap (λ (l : List ℕ). Some (l, rest)) whole;
-      fine = ap (λ (l : List ℕ). reason_for (ForSub s) (Some (l, []))) (sym whole) ∙ rw e refl;
-      version = cc;
-    }
-one_way s line rest None false true e f h =
-    let whole : line ≡ sub_line s None = (bytes_eq-Decides line (sub_line s None)).0 f in
-    record {
-      rest = rest;
-      is = ap (λ (l : List ℕ). Some (l, rest)) whole;
-      fine = ap (λ (l : List ℕ). reason_for (ForSub s) (Some (l, []))) (sym whole) ∙ rw (e, f) refl;
-      version = tt;
-    }
+    said_by s line rest (Some v) ((bytes_eq-Decides line (sub_line s (Some s.desc.version))).0 e ∙ ap (λ o. sub_line s o) version) (rw e refl) (cc)
+one_way s line rest None false true e f h = said_by s line rest None ((bytes_eq-Decides line (sub_line s None)).0 f) (rw (e, f) refl) tt
 one_way s line rest (Some v) false true e f h = absurd (cc)
 one_way s line rest _ _ _ e f h = absurd (cc)
 
@@ -72,7 +61,17 @@ pub record Went (subs : List Sub) (at : ℕ) (p : Standing) (came : List (Option
   pub along : Lined taken said
   pub moved : Moved p.line p.rest taken line rest
 
--- ---- all of them
+-- a reading that stopped at a bad line, after what was said and taken before it
+pub record Stop (Before : Demand → List (Option ℕ) → List ℤ → List ℕ → Type 0) (e : BadLine) : Type 0 where
+  pub demand : Demand
+  pub came : List (Option ℕ)
+  pub numbers : List ℤ
+  pub rest : List ℕ
+  pub before : Before demand came numbers rest
+  pub wrong : reason_for demand (first_line rest) ≡ Some e.reason
+
+abbrev pub AreSoundSubs : List Sub → Type 0
+AreSoundSubs = AllByRecursion (λ (s : Sub). IsSound s.desc)
 
 module _ (set : Set) (d : Device) where
   abbrev pub cells_long : List Sub → ℕ
@@ -92,14 +91,8 @@ module _ (set : Set) (d : Device) where
     pub heard : (image : Image) → Agrees said image.numbers → (c : ℕ) → has_line (subs_entries set d image j at subs r.came) c ≡ has_said said c
     pub lines : (image : Image) → Agrees said image.numbers → r.lines ≡ sub_numbers p.line (subs_entries set d image j at subs r.came)
 
-  pub record SubsStop (subs : List Sub) (j at : ℕ) (p : Standing) (e : BadLine) : Type 0 where
-    pub demand : Demand
-    pub came : List (Option ℕ)
-    pub numbers : List ℤ
-    pub rest : List ℕ
-    pub before : SubsWent subs j at p came numbers e.line rest (λ more es. Begins demand es)
-    pub open before use *
-    pub wrong : reason_for demand (first_line rest) ≡ Some e.reason
+  abbrev pub SubsStop : List Sub → ℕ → ℕ → Standing → BadLine → Type 0
+  SubsStop subs j at p e = Stop (λ demand came numbers rest. SubsWent subs j at p came numbers e.line rest (λ more es. Begins demand es)) e
 
   abbrev pub SubsCome : List Sub → ℕ → ℕ → Standing → Result ReadSubs BadLine → Type 0
   SubsCome subs j at p (Ok r) = SubsRead subs j at p r
@@ -204,9 +197,9 @@ module _ (set : Set) (d : Device) where
             follows_head (all_taken n.said ++ r.taken) (Then more) image others more long
             (λ others long. follows_on n r.taken (Then more) image.numbers _ short (r.follows image others more long short));
         along = λ image more agrees.
+            let p = agrees_parts n.said r.said image.numbers agrees in
             along_head (all_taken n.said ++ r.taken) (Then more) image others more
-            (along_on n r.taken (Then more) image.numbers _ (agrees_front n.said r.said image.numbers agrees)
-            (r.along image more (agrees_later n.said r.said image.numbers agrees)));
+            (along_on n r.taken (Then more) image.numbers _ p.0 (r.along image more p.1));
         moved = moved_then head_moved (moved_then n.moved r.moved);
       }
 
@@ -215,31 +208,20 @@ module _ (set : Set) (d : Device) where
       others_come q (Ok r) n x = record {
         whole = went_behind (λ more es. es ≡ more) n x.whole;
         heard = λ image agrees c.
-            heard_on n image.numbers _ x.said c (agrees_front n.said x.said image.numbers agrees)
-            (x.heard image (agrees_later n.said x.said image.numbers agrees) c);
+            let p = agrees_parts n.said x.said image.numbers agrees in heard_on n image.numbers _ x.said c p.0 (x.heard image p.1 c);
         lines = λ image agrees.
-            ap (λ (l : List ℕ). p.line ∷ l)
-            (x.lines image (agrees_later n.said x.said image.numbers agrees)
-            ∙ sym (lines_on n image.numbers (subs_entries set d image (suc j) (at + size) subs r.came) (agrees_front n.said x.said image.numbers agrees)));
+            let a = agrees_parts n.said x.said image.numbers agrees in
+            ap (λ l. p.line ∷ l) (x.lines image a.1 ∙ sym (lines_on n image.numbers (subs_entries set d image (suc j) (at + size) subs r.came) a.0));
       }
-      others_come q (Err e) n x = record {
-        demand = x.demand;
-        came = came ∷ x.came;
-        numbers = x.numbers;
-        rest = x.rest;
-        before = went_behind (λ more es. Begins x.demand es) n x.before;
-        wrong = x.wrong;
-      }
+      others_come q (Err e) n x =
+          let before = went_behind (λ more es. Begins x.demand es) n x.before in
+          record { demand = x.demand; came = came ∷ x.came; numbers = x.numbers; rest = x.rest; before = before; wrong = x.wrong }
 
       sub_comes : (r : Read) (go : Standing → Result ReadSubs BadLine) → NumbersCome set s.desc at (next_line p) r
           → ((q : Standing) → r ≡ Ok q → NumbersRead set s.desc at (next_line p) q → SubsCome subs (suc j) (at + size) q (go q))
           → SubsCome (s ∷ subs) j at p (also came p.line (then_subs r go))
       sub_comes (Ok q) go n h = others_come q (go q) n (h q refl n)
       sub_comes (Err e) go n h = stopped_inside e n
-
-  abbrev pub AreSoundSubs : List Sub → Type 0
-  AreSoundSubs [] = Unit {0}
-  AreSoundSubs (s ∷ subs) = IsSound s.desc × AreSoundSubs subs
 
   by_head : (s : Sub) (subs : List Sub) (j at : ℕ) (p : Standing) (o : Option (Option ℕ)) → AreSound set.structs → IsSound s.desc
       → sub_said s (first_line p.rest) ≡ o → at + size_of s ≤ length p.numbers

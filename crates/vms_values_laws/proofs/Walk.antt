@@ -50,7 +50,7 @@ module _ (steps : List (ℕ × ℕ)) (text : List ℕ) (present : Bool) where
 
   pub wrapped_dotted : (xs : List Element) → wrapped steps text present (map dotted xs) ≡ wrapped steps (text ++ codes ".") present xs
   wrapped_dotted xs =
-      printed_map dotted (under steps text present) (under steps (text ++ codes ".") present) (λ x. rw (append_assoc text (codes ".") x.name) refl) (λ x. refl) xs
+      printed_map dotted (under steps text present) _ (λ x. rw (append_assoc text (codes ".") x.name) refl) (λ x. refl) xs
 
 -- ---- Reading the fields of a description, beside its elements.
 
@@ -99,13 +99,11 @@ known_next : (cs : List (List Cell)) (d : Desc) (base i at : ℕ) (f : Field) (f
     → ((j : ℕ) → IsEarlier d.fields i j → Knows said (place_of cs d.fields 0 base d.fields j)) → AllKnown (known_cell f.count f.item at) more
     → (j : ℕ) → IsEarlier d.fields (suc i) j → Knows more (place_of cs d.fields 0 base d.fields j)
 known_next cs d base i at f fs said more is here grows known k j x =
-    ⊎_elim
-    (λ (lt : j < i). knows_grows said more _ grows (known j (record { earlier = lt; there = x.there; number = x.number; one = x.one })))
+    ⊎_elim (λ (lt : j < i). knows_grows said more _ grows (known j (record { earlier = lt; there = x.there; number = x.number; one = x.one })))
     (λ (ge : i ≤ j).
     let same : j ≡ i = omega (arith, x.earlier) in
     let this : get_or d.fields j no_field ≡ f = rw same (dropped d.fields i f fs is) in
-    rw (same, ← here) (is_known f.count f.item at more (rw this at x.number) (rw this at x.one) k))
-    (cases_lt j i)
+    rw (same, ← here) (is_known f.count f.item at more (rw this at x.number) (rw this at x.one) k)) (cases_lt j i)
 
 module _ (total : List ℤ → List Element) (start : Standing) (low : ℕ) where
   abbrev Here : ℕ → Standing → List Said → (List ℤ → List Element) → Type 0
@@ -121,7 +119,7 @@ module _ (total : List ℤ → List Element) (start : Standing) (low : ℕ) wher
         → Came end [] said left (r.reads path present at p)
 
   none_reads : ReadsShape no_reader no_shape
-  none_reads = record { shape_comes = λ steps path present at end p said left e room a. stay total start low at end p said left (omega arith) a }
+  none_reads = record { shape_comes = λ steps path present at end p said left e room a. stay total start low (omega arith) a }
 
   module _ (rs : List Reader) (ss : List Shape) (cells : cells_in ss ≡ cells_of rs)
       (reads : (j : ℕ) → ReadsShape (get_or rs j no_reader) (get_or ss j no_shape)) where
@@ -143,7 +141,7 @@ module _ (total : List ℤ → List Element) (start : Standing) (low : ℕ) wher
     item_comes f (Struct j) caps steps path present at end p said left e room a =
         (reads j).shape_comes steps (path ++ codes ".") present at end p said left (omega (arith, ap length (cells_get rs j))) room
         (at_left total start low (λ m g. ap (λ (l : List Element). l ++ left m) (wrapped_dotted steps path present ((get_or ss j no_shape).elements m at))) a)
-    item_comes f _ caps steps path present at end p said left e room a = stay total start low at end p said left (omega arith) a
+    item_comes f _ caps steps path present at end p said left e room a = stay total start low (omega arith) a
 
     module _ (f : Field) (stand : Stand) (caps : List ℕ) (steps : List (ℕ × ℕ)) (path : List ℕ) (present : Bool) where
       abbrev size : ℕ
@@ -162,9 +160,8 @@ module _ (total : List ℤ → List Element) (start : Standing) (low : ℕ) wher
           → Came end [] said left (read_elements rs f caps (path ++ f.name) (present && stand.there) at size e m p)
       unfolding brackets
       items_comes many e k zero at end p said left c le is room a =
-          stay total start low at end p said left (omega arith)
-          (at_left total start low (λ n g. ap (λ (l : List Element). l ++ left n)
-          (past_count steps path present f stand (part n) size e k at (omega (arith, c)))) a)
+          stay total start low (omega arith)
+          (at_left total start low (λ n g. ap (λ l. l ++ left n) (past_count steps path present f stand (part n) size e k at (omega (arith, c)))) a)
       items_comes many e zero (suc m) at end p said left c le is room a = absurd (omega arith)
       items_comes many e (suc k) (suc m) at end p said left c le is room a =
           let b = present && stand.there in
@@ -243,7 +240,7 @@ module _ (total : List ℤ → List Element) (start : Standing) (low : ℕ) wher
           → end ≡ at + length (cells_from (cells_of rs) d.fields i fs) → end ≤ length start.numbers
           → Here at p said (λ m. lines (elements_from ss d.fields v (own m) m i at fs) ++ left m)
           → Came end [] said left (read_fields rs d v path present base i at fs p)
-      fields_comes i at end [] p said left sound here is known e room a = stay total start low at end p said left (omega arith) a
+      fields_comes i at end [] p said left sound here is known e room a = stay total start low (omega arith) a
       fields_comes i at end (f ∷ fs) p said left sound here is known e room a =
           let cs = cells_of rs in
           let next = at + length (field_cells cs d.fields i f) in
@@ -277,8 +274,6 @@ module _ (total : List ℤ → List Element) (start : Standing) (low : ℕ) wher
           (at_left total start low
           (λ m g. ap (λ (cs : List (List Cell)). lines (elements_from ss d.fields v (numbers_of cs d m base) m 0 base d.fields ++ last cs m) ++ left m) cells
           ∙ ap (λ (l : List Element). l ++ left m) (wrapped_append steps path present (fields m) (last cs m) ∙ append-nil (lines (fields m)))) a)
-
-  -- ---- structures
 
   same_cells : (ds : List Desc) (k : ℕ) → cells_in (first shape ds k) ≡ cells_of (first reader ds k)
   same_cells ds k = shapes_cells ds k ∙ sym (readers_cells ds k)

@@ -6,13 +6,10 @@ use Rattle.vms_spec.specs.Spelling.{first_line, longer_line}
 pub line_at : (xs : List ℕ) (i : ℕ) → i < length xs → get_or xs i 0 ≡ 10 → ((k : ℕ) → k < i → get_or xs k 0 ≡ 10 → ⊥)
     → first_line xs ≡ Some (take i xs, drop (suc i) xs)
 line_at [] i lt is before = absurd (omega arith)
-line_at (b ∷ xs) zero lt is before = ap (λ (t : Bool). if t then Some ([], xs) else longer_line b (first_line xs)) (eq-eqb b 10 is)
+line_at (b ∷ xs) zero lt is before = rw (eq-eqb b 10 is)
 line_at (b ∷ xs) (suc i) lt is before =
-    ap (λ (t : Bool). if t then Some ([], xs) else longer_line b (first_line xs)) (ne_eqb b 10 (before 0 (omega arith)))
-    ∙ ap (longer_line b) (line_at xs i (omega arith) is (λ k h. before (suc k) (omega arith)))
+    rw (ne_eqb b 10 (before 0 (omega arith))) (ap (longer_line b) (line_at xs i (omega arith) is (λ k h. before (suc k) (omega arith))))
 
 pub no_line_in : (xs : List ℕ) → ((k : ℕ) → k < length xs → get_or xs k 0 ≡ 10 → ⊥) → first_line xs ≡ None
 no_line_in [] none = refl
-no_line_in (b ∷ xs) none =
-    ap (λ (t : Bool). if t then Some ([], xs) else longer_line b (first_line xs)) (ne_eqb b 10 (none 0 (omega arith)))
-    ∙ ap (longer_line b) (no_line_in xs (λ k h. none (suc k) (omega arith)))
+no_line_in (b ∷ xs) none = rw (ne_eqb b 10 (none 0 (omega arith))) (ap (longer_line b) (no_line_in xs (λ k h. none (suc k) (omega arith))))

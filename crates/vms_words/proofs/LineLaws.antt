@@ -13,17 +13,15 @@ found_line xs i line n p text after =
     let e : first_line xs ≡ Some (take i xs, drop (suc i) xs) =
     line_at xs i n.high (eqb-true (get_or xs i 0) 10 p) (λ k h is. n.before k (omega arith) h (eq-eqb (get_or xs k 0) 10 is)) in
     let s : i + 1 ≡ suc i = omega arith in
-    subst (λ (o : Option (List ℕ × List ℕ)). IsFirstLine o (Some line)) (sym e) (text, after ∙ ap (λ (k : ℕ). drop k xs) s)
+    subst (λ o. IsFirstLine o (Some line)) (sym e) (text, after ∙ ap (λ (k : ℕ). drop k xs) s)
 
 pub no_line : (xs : List ℕ) → Nowhere (Passes (is_byte 10) xs) 0 (length xs) → IsFirstLine (first_line xs) None
-no_line xs n =
-    let e : first_line xs ≡ None = no_line_in xs (λ k h is. n k (omega arith) h (eq-eqb (get_or xs k 0) 10 is)) in
-    subst (λ (o : Option (List ℕ × List ℕ)). IsFirstLine o None) (sym e) tt
+no_line xs n = rw (no_line_in xs (λ k h is. n k (omega arith) h (eq-eqb (get_or xs k 0) 10 is))) tt
 
 -- the first line of the text is the one that was found
 pub first_is : (o : Option (List ℕ × List ℕ)) (line : NextLine) → IsFirstLine o (Some line) → o ≡ Some (line.text.now, line.after.now)
 first_is None line h = absurd h
-first_is (Some (text, after)) line h = ap (λ (t : List ℕ). Some (t, after)) (sym h.0) ∙ ap (λ (a : List ℕ). Some (line.text.now, a)) (sym h.1)
+first_is (Some (text, after)) line h = rw (sym h.0, sym h.1)
 
 pub first_none : (o : Option (List ℕ × List ℕ)) → IsFirstLine o None → o ≡ None
 first_none None h = refl

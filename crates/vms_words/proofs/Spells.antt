@@ -34,31 +34,25 @@ unpadded_from : (text : List ℕ) → 0 < length text → (get_or text 0 48 ≡ 
 unpadded_from [] some lead = absurd (omega arith)
 unpadded_from (c ∷ []) some lead = refl
 unpadded_from (c ∷ d ∷ text) some lead =
-    let zero_not : (c == 48) ≡ false = ne_eqb c 48 (λ e. omega (arith, lead e)) in
-    let long : nat_le 2 (length (c ∷ d ∷ text)) ≡ true = le-leb 2 (length (c ∷ d ∷ text)) (omega arith) in
     let one : (length (c ∷ d ∷ text) == 1) ≡ false = ne_eqb (length (c ∷ d ∷ text)) 1 (λ e. omega arith) in
-    rw (one, long, zero_not) refl
+    rw (one, (le-leb 2 (length (c ∷ d ∷ text)) (omega arith)), (ne_eqb c 48 (λ e. omega (arith, lead e)))) refl
 
 unpadded_to : (text : List ℕ) → unpadded text ≡ true → (0 < length text) × (get_or text 0 0 ≡ 48 → length text ≡ 1)
 unpadded_to [] e = cc
 unpadded_to (c ∷ []) e = (omega arith, λ h. refl)
 unpadded_to (c ∷ d ∷ text) e =
-    let one : (length (c ∷ d ∷ text) == 1) ≡ false = ne_eqb (length (c ∷ d ∷ text)) 1 (λ e. omega arith) in
-    let rest : (nat_le 2 (length (c ∷ d ∷ text)) && not (c == 48)) ≡ true = sym (ap (λ (t : Bool). t || (nat_le 2 (length (c ∷ d ∷ text)) && not (c == 48))) one) ∙ e in
-    let other : not (c == 48) ≡ true = (and_parts (nat_le 2 (length (c ∷ d ∷ text))) (not (c == 48)) rest).1 in
-    (omega arith, λ h. absurd (false≢true (sym (ap not (eq-eqb c 48 h)) ∙ other)))
+    let rest : (nat_le 2 (length (c ∷ d ∷ text)) && not (c == 48)) ≡ true = sym (rw (ne_eqb (length (c ∷ d ∷ text)) 1 (λ e. omega arith))) ∙ e in
+    (omega arith, λ h. absurd (false≢true (sym (ap not (eq-eqb c 48 h)) ∙ ((and_parts (nat_le 2 (length (c ∷ d ∷ text))) (not (c == 48)) rest).1))))
 
 unpadded_decimal : (n : ℕ) → n < 2 ^ 64 → unpadded (decimal n) ≡ true
 unpadded_decimal zero h = ap unpadded (decimal_digit 0 (omega arith))
 unpadded_decimal (suc n) h =
     let some : 0 < length (decimal (suc n)) = decimal_nonempty (suc n) h in
     let first : 48 < get_or (decimal (suc n)) 0 0 = first_decimal (suc n) (omega arith) h in
-    unpadded_from (decimal (suc n)) some (λ e. omega (arith, first, first_same (decimal (suc n)) 0 48 some)) where
+    unpadded_from (decimal (suc n)) some (λ e. omega (arith, first_same (decimal (suc n)) 0 48 some)) where
       first_same : (text : List ℕ) (c d : ℕ) → 0 < length text → get_or text 0 c ≡ get_or text 0 d
       first_same [] c d some = absurd (omega arith)
       first_same (b ∷ text) c d some = refl
-
--- ---- natural numbers
 
 digits_of_decimal : (n : ℕ) → n < 2 ^ 64 → are_digits (decimal n) ≡ true
 digits_of_decimal n h = and_from (list_all is_digit (decimal n)) (unpadded (decimal n)) (digits_decimal numerals n h) (unpadded_decimal n h)
@@ -76,8 +70,6 @@ decimal_of_value text e h =
 minus_no_digit : (text : List ℕ) → are_digits (45 ∷ text) ≡ false
 minus_no_digit text = refl
 
--- ---- numbers with their signs
-
 if_digits : (text : List ℕ) (b : Bool) → are_digits text ≡ b → number_spelled text
     ≡ (if b then Some (pos (natural_from 0 text))
     else if get_or text 0 0 == 45 && are_digits (drop 1 text) && not (natural_from 0 (drop 1 text) == 0)
@@ -86,24 +78,21 @@ if_digits : (text : List ℕ) (b : Bool) → are_digits text ≡ b → number_sp
 if_digits text b e = rw e refl
 
 pub number_holds : NumberLaw
-number_holds (pos n) h = if_digits (decimal n) true (digits_of_decimal n h) ∙ ap (λ (k : ℕ). Some (pos k)) (value_of_decimal n h)
+number_holds (pos n) h = if_digits (decimal n) true (digits_of_decimal n h) ∙ ap (λ k. Some (pos k)) (value_of_decimal n h)
 number_holds (negsuc n) h =
     let digits : are_digits (decimal (suc n)) ≡ true = digits_of_decimal (suc n) (omega arith) in
-    let value : natural_from 0 (decimal (suc n)) ≡ suc n = value_of_decimal (suc n) (omega arith) in
     let some : (suc n == 0) ≡ false = ne_eqb (suc n) 0 (λ e. omega arith) in
     let one : suc n - 1 ≡ n = omega arith in
-    if_digits (45 ∷ decimal (suc n)) false (minus_no_digit (decimal (suc n)))
-    ∙ (rw (digits, value, some, one) refl)
+    if_digits (45 ∷ decimal (suc n)) false (minus_no_digit (decimal (suc n))) ∙ (rw (digits, (value_of_decimal (suc n) (omega arith)), some, one) refl)
 
 pos_injective : (m n : ℕ) → pos m ≡ pos n → m ≡ n
 pos_injective m n e = cc
 
 negative_first : (text : List ℕ) → get_or text 0 0 ≡ 45 → text ≡ 45 ∷ drop 1 text
-negative_first [] e = absurd (omega (arith, e))
-negative_first (c ∷ text) e = ap (λ (x : ℕ). x ∷ text) e
+negative_first [] e = absurd (omega arith)
+negative_first (c ∷ text) e = rw e
 
-spelled_pos : (text : List ℕ) (n : ℕ) → n < 2 ^ 64 → (b : Bool) → are_digits text ≡ b
-    → (if b then Some (pos (natural_from 0 text))
+spelled_pos : (text : List ℕ) (n : ℕ) → n < 2 ^ 64 → (b : Bool) → are_digits text ≡ b → (if b then Some (pos (natural_from 0 text))
     else if get_or text 0 0 == 45 && are_digits (drop 1 text) && not (natural_from 0 (drop 1 text) == 0)
     then Some (negative (natural_from 0 (drop 1 text)))
     else None) ≡ Some (pos n)
@@ -129,16 +118,15 @@ minus_number text n h e is =
     let less : natural_from 0 (drop 1 text) - 1 ≡ n = negsuc_injective (natural_from 0 (drop 1 text) - 1) n (same_Some (negsuc (natural_from 0 (drop 1 text) - 1)) (negsuc n) is) in
     let some : natural_from 0 (drop 1 text) ≡ 0 → ⊥ = λ z. not_true (sym (ap not (eq-eqb (natural_from 0 (drop 1 text)) 0 z)) ∙ whole.1) in
     let same : natural_from 0 (drop 1 text) ≡ suc n = positive (natural_from 0 (drop 1 text)) n less some in
-    front ∙ ap (λ (l : List ℕ). 45 ∷ l) (sym (decimal_of_value (drop 1 text) parts.1 (omega (arith, same, h))) ∙ ap decimal same) where
+    front ∙ ap (λ l. 45 ∷ l) (sym (decimal_of_value (drop 1 text) parts.1 (omega arith)) ∙ ap decimal same) where
       not_true : false ≡ true → ⊥
       not_true e = cc
 
       positive : (m n : ℕ) → m - 1 ≡ n → (m ≡ 0 → ⊥) → m ≡ suc n
       positive zero n e some = absurd (some refl)
-      positive (suc m) n e some = omega (arith, e)
+      positive (suc m) n e some = omega arith
 
-spelled_neg : (text : List ℕ) (n : ℕ) → n < 2 ^ 63 → (b : Bool) → are_digits text ≡ b
-    → (if b then Some (pos (natural_from 0 text))
+spelled_neg : (text : List ℕ) (n : ℕ) → n < 2 ^ 63 → (b : Bool) → are_digits text ≡ b → (if b then Some (pos (natural_from 0 text))
     else if get_or text 0 0 == 45 && are_digits (drop 1 text) && not (natural_from 0 (drop 1 text) == 0)
     then Some (negative (natural_from 0 (drop 1 text)))
     else None) ≡ Some (negsuc n)

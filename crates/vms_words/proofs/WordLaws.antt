@@ -27,23 +27,13 @@ has_word word =
 
 pub word_named : (kind : Kind) → kind_named (kind_word kind) ≡ Some kind
 word_named kinds.U8 = refl
-word_named kinds.U16 = refl
-word_named kinds.U32 = refl
-word_named kinds.U64 = refl
-word_named kinds.I8 = refl
-word_named kinds.I16 = refl
-word_named kinds.I32 = refl
-word_named kinds.I64 = refl
-word_named kinds.Bool = refl
-word_named kinds.Timer = refl
+word_named _ = refl
 
 pub tells_kind : (word : List ℕ) → TellsKind word (kind_named word)
 tells_kind word kind = (has_word word kind, λ same. ap kind_named same ∙ word_named kind)
 
 pub told : (word : List ℕ) (named : Option Kind) → kind_named word ≡ named → TellsKind word named
-told word named e = subst (TellsKind word) e (tells_kind word)
-
--- ---- the kinds, tried in order
+told word named e = rw e at (tells_kind word)
 
 -- the first of these kinds whose word this is
 abbrev pub named_in : List ℕ → List Kind → Option Kind
@@ -55,7 +45,7 @@ module _ (word text : List ℕ) (kinds : List Kind) (i : ℕ) (d : Kind) (lt : i
   tried_once : (b : Bool) → bytes_eq word text ≡ b → named_in word (drop i kinds) ≡ (if b then Some (get_or kinds i d) else named_in word (drop (i + 1) kinds))
   tried_once b same =
       ap (named_in word) (drop_more kinds i d lt)
-      ∙ ap (λ (b : Bool). if b then Some (get_or kinds i d) else named_in word (drop (i + 1) kinds)) (ap (bytes_eq word) (sym e) ∙ same)
+      ∙ ap (λ b. if b then Some (get_or kinds i d) else named_in word (drop (i + 1) kinds)) (ap (bytes_eq word) (sym e) ∙ same)
 
   pub this_kind : bytes_eq word text ≡ true → named_in word (drop i kinds) ≡ Some (get_or kinds i d)
   this_kind same = tried_once true same

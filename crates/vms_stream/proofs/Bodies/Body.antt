@@ -1,40 +1,17 @@
 -- In the fields of a part the judge reads slot by slot, as the structural reader does: taking a slot is what is seen of its unit.
-use Rattle.std.proofs.Common.{◌≡◌, ℕ, length, take, Option, Some, None, ℤ, refl, ap, ◌∙◌, Bool, true, false, not, nat_lt, ◌&&◌, if◌then◌else◌, zero, suc, ◌+◌}
-use Rattle.std.proofs.Common.{◌<◌, List, [], ◌∷◌, get_or, drop, slice_set, Ok, Err, sym, arith, ◌==◌}
-use Rattle.vms_kinds.specs.declared.Kind.{Kind}
-use Rattle.vms_kinds.specs.Codes.{width, value_of}
-use Rattle.vms_spec.specs.declared.Reason.{Reason}
-use Rattle.vms_spec.specs.Numbers.{is_truth, is_above, exceeds, same_number}
-use Rattle.vms_spec.specs.Lookup.{is_bad_bool, number_at}
-use Rattle.vms_spec.specs.Layout.{Slot, Number as NumberSlot, Constant as ConstantSlot, Filler as FillerSlot, Rule as RuleSlot, desc_slots, meanings}
-use Rattle.vms_spec.specs.Layout.{desc_cells}
-use Rattle.vms_spec.specs.Taking.{Progress, Taken, refuse, on, if_whole, take_value, take_slot, Refusal, take_desc, takers, cells_of}
-use Rattle.vms_spec.specs.Units.{Piece, Number, Constant, Filler, Configuration, Long, Head, SubHead, Foot, End, Start, Mark}
-use Rattle.vms_bodies.proofs.FaultFields.{raw_same, bad_same}
-use Rattle.vms_stream.specs.Dues.{raw, Field, Due, is_foot, AfterFields, due_field, rules_hold}
-use Rattle.vms_stream.specs.Finding.{Whole, Cut, needs, Found, between_at, behind_at, unit_at}
-use Rattle.vms_stream.specs.Seen.{Seen, Good, Bad, Short, seen, seen_in, seen_by}
-use Rattle.vms_stream.specs.SoFar.{Known, Tail, beyond, skipped}
-use Rattle.vms_stream.specs.Table.{first_row, alone, first_of}
-use Rattle.vms_stream.specs.Taking.{put, taken_by}
-use Rattle.std.specs.List.{slice_get}
-use Rattle.vms_spec.specs.declared.TheConstants.{LONGEST_NAME}
-use Rattle.vms_spec.specs.Sets.{Set, Device, Desc}
-use Rattle.vms_spec.specs.Images.{Image}
-use Rattle.vms_spec.specs.Readings.{Verdict, Faulty, Over as IsOver, Reading, Refused, reading_after}
-use Rattle.vms_spec.specs.SoFar.{part_slots}
-use Rattle.vms_bodies.specs.Whole.{reading_on}
-use Rattle.vms_bodies.proofs.BodyLaws.{at_set, set_twice}
-use Rattle.vms_bodies.proofs.FrameLaws.{one_unit}
-use Rattle.vms_bodies.proofs.BodyOnly.{none_taken}
-use Rattle.vms_spec.specs.Sound.{IsSound, AreSound}
-use Rattle.vms_bodies.proofs.Places.{same_refl}
-use Rattle.vms_bodies.proofs.WalkLaws.{drop_next, Comes, set_desc_comes}
-use Rattle.vms_bodies.proofs.StepLaws.{step, after as step_after, Walks, Is, Refuses, steps_keep}
-use Rattle.std.proofs.Math.Seq.{drop-append_seam}
-use Rattle.vms_stream.specs.Faults.{cut_in}
-use Rattle.vms_stream.specs.Judge.{Grammar, judge, judge_found, by_row, owes}
-use Rattle.vms_stream.specs.State.{State, Inside, image_at, part_at, known_at, after, by_state}
+use Rattle.vms_stream.proofs.Facade.{◌≡◌, ℕ, length, take, Option, Some, None, ℤ, refl, ap, ◌∙◌, Bool, true, false, not, nat_lt, ◌&&◌, if◌then◌else◌, zero, suc}
+use Rattle.vms_stream.proofs.Facade.{◌+◌, ◌<◌, List, [], ◌∷◌, get_or, drop, slice_set, Ok, Err, sym, arith, ◌==◌, slice_get, drop-append_seam, Kind, width}
+use Rattle.vms_stream.proofs.Facade.{value_of, Reason, is_truth, is_above, exceeds, same_number, is_bad_bool, number_at, Slot, desc_slots, meanings, desc_cells}
+use Rattle.vms_stream.proofs.Facade.{Progress, Taken, refuse, on, if_whole, take_value, take_slot, Refusal, take_desc, takers, cells_of, Piece, Number}
+use Rattle.vms_stream.proofs.Facade.{Constant, Filler, Configuration, Long, Head, SubHead, Foot, End, Start, Mark, raw_same, bad_same, raw, Field, Due, is_foot}
+use Rattle.vms_stream.proofs.Facade.{AfterFields, due_field, rules_hold, Whole, Cut, needs, Found, between_at, behind_at, unit_at, Seen, Good, Bad, Short, seen}
+use Rattle.vms_stream.proofs.Facade.{seen_in, seen_by, Known, Tail, beyond, skipped, first_row, alone, first_of, put, taken_by, LONGEST_NAME, Set, Device, Desc}
+use Rattle.vms_stream.proofs.Facade.{Image, Verdict, Faulty, Reading, Refused, reading_after, part_slots, reading_on, at_set, set_twice, one_unit, none_taken}
+use Rattle.vms_stream.proofs.Facade.{IsSound, AreSound, same_refl, drop_next, Comes, set_desc_comes, step, Walks, Is, steps_keep, cut_in, Grammar, judge}
+use Rattle.vms_stream.proofs.Facade.{judge_found, by_row, owes, State, Inside, image_at, part_at, known_at, after, by_state}
+use Rattle.vms_spec.specs.Layout.{Number as NumberSlot, Constant as ConstantSlot, Filler as FillerSlot, Rule as RuleSlot}
+use Rattle.vms_spec.specs.Readings.{Over as IsOver}
+use Rattle.vms_bodies.proofs.StepLaws.{after as step_after, Refuses}
 use Rattle.vms_stream.proofs.Finding.Advancing.{advances}
 use Rattle.vms_stream.proofs.Judging.Mirrors.{solid}
 use Rattle.vms_spec.specs.declared.Reason.TheVariants as reasons
@@ -72,7 +49,7 @@ module _ (k : ℕ) (known : Known) where
       → first_row (alone (Field k slot) known x) ≡ two_rows known.section bad other reason
       → seen_in (Field k slot) known (if cut then Cut else Whole x n) ≡ by_tests cut bad other x n reason
   tested slot true bad other x n reason e = refl
-  tested slot false bad other x n reason e = ap (λ (r : Option (Option ℕ × Reason)). seen_by r x n) e ∙ rows_tested known.section bad other x n reason
+  tested slot false bad other x n reason e = rw e (rows_tested known.section bad other x n reason)
 
   module _ (p : Progress) where
     value_seen : (slot : Slot) (kind : Kind) (unit : ℤ → Piece) (reason : Reason) (fails : ℤ → Bool)
@@ -88,7 +65,7 @@ module _ (k : ℕ) (known : Known) where
         λ z b. if_whole w p (if b then refuse p reasons.BadBool w else if fails z then refuse p reason w else on w (put (unit z) p.numbers) p) in
         ap (taken_by p) (tested slot cut (is_truth kind && is_above z 1) (fails z) (unit z) w reason (rows z))
         ∙ tests_taken p cut (is_truth kind && is_above z 1) (fails z) (unit z) w reason
-        ∙ ap (of z) (bad_same kind bytes) ∙ ap (λ (z : ℤ). of z (is_bad_bool kind bytes)) (raw_same kind bytes)
+        ∙ ap (of z) (bad_same kind bytes) ∙ ap (λ z. of z (is_bad_bool kind bytes)) (raw_same kind bytes)
 
     pub slot_seen : (slot : Slot) → IsUnit slot → taken_by p (seen (Field k slot) known p.rest) ≡ take_slot slot p
     slot_seen (NumberSlot c kind caps) u = value_seen (NumberSlot c kind caps) kind (Number c kind) reasons.CountTooLarge (exceeds caps) (λ z. refl)
@@ -145,10 +122,7 @@ module _ (set : Set) (names : List (List ℕ)) (state : State) (d : Device) (ima
 
     -- by the slots that are left
     by_slots : (i : ℕ) (p : Progress) (slots : List Slot) → drop i (total p.numbers) ≡ slots → judge g (in_body p.numbers i) p.rest ≡ judged i p slots
-    by_slots i p slots h =
-        let s = in_body p.numbers i in
-        ap (λ (v : Verdict State). if g.holds s then v else Faulty (Some k) reasons.Invalid 0) (same i p (unit_at (g.due s) p.rest))
-        ∙ ap (judged i p) (ap (drop i) (part_now p.numbers i) ∙ h)
+    by_slots i p slots h = rw (same i p (unit_at (g.due (in_body p.numbers i)) p.rest)) (ap (judged i p) (ap (drop i) (part_now p.numbers i) ∙ h))
 
     so : (i : ℕ) (p : Progress) (slots : List Slot) → drop i (total p.numbers) ≡ slots → goes_on i p ≡ reads p (judged i p slots)
     so i p slots h = one i p ∙ ap (reads p) (by_slots i p slots h)
@@ -158,7 +132,7 @@ module _ (set : Set) (names : List (List ℕ)) (state : State) (d : Device) (ima
         → beyond i (part_at set (in_body numbers i) (Inside k id part i)) ≡ suc i
     counted numbers i slots h z =
         let f : skipped (drop i (part_slots set (slice_get set.devices k) (image_at (in_body numbers i)) part)) ≡ 0 =
-        ap (λ (l : List Slot). skipped (drop i l)) (part_now numbers i) ∙ ap skipped h ∙ z in
+        rw (part_now numbers i) (ap skipped h ∙ z) in
         omega arith
 
     -- what is taken, as the judge resumes from there
@@ -170,9 +144,8 @@ module _ (set : Set) (names : List (List ℕ)) (state : State) (d : Device) (ima
         → after set (in_body p.numbers i) x ≡ in_body (put x p.numbers) (suc i)
         → reads p (by_row g (two_rows (Some k) bad other why) n (after set (in_body p.numbers i) x)) ≡ goes i
         (taken_by p (seen_by (two_rows (Some k) bad other why) x n))
-    by_rows i p x n true other why e = refl
-    by_rows i p x n false true why e = refl
-    by_rows i p x n false false why e = ap (λ (s : State). reading_on (judge g) s (p.place + n) (drop n p.rest)) e
+    by_rows i p x n false false why e = rw e
+    by_rows i p x n _ _ why e = refl
 
     -- as it is seen, so the judge goes on
     as_seen : (i : ℕ) (p : Progress) (slot : Slot) (cut : Bool) (x : Piece) (n : ℕ)
@@ -184,15 +157,13 @@ module _ (set : Set) (names : List (List ℕ)) (state : State) (d : Device) (ima
 
     put_on : (numbers : List ℤ) (i c : ℕ) (kind : Kind) (z : ℤ) → beyond i (part_at set (in_body numbers i) (Inside k id part i)) ≡ suc i
         → after set (in_body numbers i) (Number c kind z) ≡ in_body (slice_set numbers c z) (suc i)
-    put_on numbers i c kind z n =
-        rw (n, at_set state.images k (now numbers) lt, set_twice state.images k (now numbers) (now (slice_set numbers c z)))
+    put_on numbers i c kind z n = rw (n, at_set state.images k (now numbers) lt, set_twice state.images k (now numbers) (now (slice_set numbers c z)))
 
     number_is : (i : ℕ) (p : Progress) (c : ℕ) (kind : Kind) (caps : List ℕ) (more : List Slot) → drop i (total p.numbers) ≡ NumberSlot c kind caps ∷ more
         → goes_on i p ≡ goes i (take_slot (NumberSlot c kind caps) p)
     number_is i p c kind caps more h =
         let z = value_of (raw kind) (take (width kind) p.rest) in
-        so i p _ h
-        ∙ as_seen i p (NumberSlot c kind caps) (nat_lt (length p.rest) (width kind)) (Number c kind z) (width kind)
+        so i p _ h ∙ as_seen i p (NumberSlot c kind caps) (nat_lt (length p.rest) (width kind)) (Number c kind z) (width kind)
         (by_rows i p (Number c kind z) (width kind) (is_truth kind && is_above z 1) (exceeds caps z) reasons.CountTooLarge
         (put_on p.numbers i c kind z (counted p.numbers i _ h refl)))
         ∙ ap (goes i) (slot_seen k (known_at set (in_body p.numbers i)) p (NumberSlot c kind caps) tt)
@@ -201,8 +172,7 @@ module _ (set : Set) (names : List (List ℕ)) (state : State) (d : Device) (ima
         → goes_on i p ≡ goes i (take_slot (ConstantSlot kind y) p)
     constant_is i p kind y more h =
         let z = value_of (raw kind) (take (width kind) p.rest) in
-        so i p _ h
-        ∙ as_seen i p (ConstantSlot kind y) (nat_lt (length p.rest) (width kind)) (Constant kind z) (width kind)
+        so i p _ h ∙ as_seen i p (ConstantSlot kind y) (nat_lt (length p.rest) (width kind)) (Constant kind z) (width kind)
         (by_rows i p (Constant kind z) (width kind) (is_truth kind && is_above z 1) (not (same_number z y)) reasons.NotEqual
         (ap (in_body p.numbers) (counted p.numbers i _ h refl)))
         ∙ ap (goes i) (slot_seen k (known_at set (in_body p.numbers i)) p (ConstantSlot kind y) tt)
@@ -211,8 +181,7 @@ module _ (set : Set) (names : List (List ℕ)) (state : State) (d : Device) (ima
         → goes_on i p ≡ goes i (take_slot (FillerSlot (suc n)) p)
     filler_is i p n more h =
         let bytes = take (suc n) p.rest in
-        so i p _ h
-        ∙ as_seen i p (FillerSlot (suc n)) (nat_lt (length p.rest) (suc n)) (Filler bytes) (suc n)
+        so i p _ h ∙ as_seen i p (FillerSlot (suc n)) (nat_lt (length p.rest) (suc n)) (Filler bytes) (suc n)
         (by_rows i p (Filler bytes) (suc n) false false reasons.Invalid (ap (in_body p.numbers) (counted p.numbers i _ h refl)))
         ∙ ap (goes i) (slot_seen k (known_at set (in_body p.numbers i)) p (FillerSlot (suc n)) tt)
 
@@ -221,7 +190,7 @@ module _ (set : Set) (names : List (List ℕ)) (state : State) (d : Device) (ima
     after_same : (numbers : List ℤ) (i j : ℕ)
         → beyond i (part_at set (in_body numbers i) (Inside k id part i)) ≡ beyond j (part_at set (in_body numbers j) (Inside k id part j)) → (x : Piece)
         → after set (in_body numbers i) x ≡ after set (in_body numbers j) x
-    after_same numbers i j c (Number cell kind z) = ap (λ (n : ℕ). record (after set (in_body numbers i) (Number cell kind z)) { spot = Inside k id part n }) c
+    after_same numbers i j c (Number cell kind z) = rw c
     after_same numbers i j c (Constant kind z) = ap (in_body numbers) c
     after_same numbers i j c (Filler bytes) = ap (in_body numbers) c
     after_same numbers i j c x = refl
@@ -235,9 +204,7 @@ module _ (set : Set) (names : List (List ℕ)) (state : State) (d : Device) (ima
     judged_same : (i j : ℕ) (p : Progress) (slots : List Slot)
         → beyond i (part_at set (in_body p.numbers i) (Inside k id part i)) ≡ beyond j (part_at set (in_body p.numbers j) (Inside k id part j))
         → judged i p slots ≡ judged j p slots
-    judged_same i j p slots c =
-        ap (λ (v : Verdict State). if rules_hold slots then v else Faulty (Some k) reasons.Invalid 0)
-        (by (unit_at (due_field state.tail (Some k) slots) p.rest))
+    judged_same i j p slots c = rw (by (unit_at (due_field state.tail (Some k) slots) p.rest))
       where
         by : (f : Found) → verdict i p (due_field state.tail (Some k) slots) f ≡ verdict j p (due_field state.tail (Some k) slots) f
         by (Whole x n) =
@@ -245,15 +212,13 @@ module _ (set : Set) (names : List (List ℕ)) (state : State) (d : Device) (ima
         by Cut = cut_same i j p slots
 
     skips : (i : ℕ) (p : Progress) (slot : Slot) (more : List Slot) → drop i (total p.numbers) ≡ slot ∷ more → skipped (slot ∷ more) ≡ suc (skipped more)
-        → judged i p (slot ∷ more) ≡ judged i p more
-        → goes_on i p ≡ goes_on (suc i) p
+        → judged i p (slot ∷ more) ≡ judged i p more → goes_on i p ≡ goes_on (suc i) p
     skips i p slot more h z v =
         let next = drop_next (total p.numbers) i slot more h in
         let all = part_slots set (slice_get set.devices k) (image_at (in_body p.numbers i)) part in
-        let a : skipped (drop i all) ≡ suc (skipped more) = ap (λ (l : List Slot). skipped (drop i l)) (part_now p.numbers i) ∙ ap skipped h ∙ z in
-        let b : skipped (drop (suc i) all) ≡ skipped more = ap (λ (l : List Slot). skipped (drop (suc i) l)) (part_now p.numbers i) ∙ ap skipped next in
-        let c : suc (i + skipped (drop i all)) ≡ suc (suc i + skipped (drop (suc i) all)) = omega arith in
-        so i p (slot ∷ more) h ∙ ap (reads p) (v ∙ judged_same i (suc i) p more c) ∙ sym (so (suc i) p more next)
+        let a : skipped (drop i all) ≡ suc (skipped more) = rw (part_now p.numbers i) (ap skipped h ∙ z) in
+        let b : skipped (drop (suc i) all) ≡ skipped more = rw (part_now p.numbers i) (ap skipped next) in
+        so i p (slot ∷ more) h ∙ ap (reads p) (v ∙ judged_same i (suc i) p more (omega arith)) ∙ sym (so (suc i) p more next)
 
     walk : (i : ℕ) (p : Progress) (slots : List Slot) → drop i (total p.numbers) ≡ slots → goes_on i p ≡ step total goes_on goes_on is_refused slots i p
     walk i p [] h = refl

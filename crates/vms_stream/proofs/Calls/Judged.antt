@@ -1,36 +1,22 @@
 -- What a cursor's call sees, and what the judge says; a unit between sections after the fields.
-use Rattle.std.proofs.Common.{◌≡◌, ℕ, ◌+◌, List, ◌∷◌, length, get_or, Option, Some, None, refl, ap, ◌∙◌, Bool, true, false, not, nat_lt, ◌==◌, ◌&&◌}
-use Rattle.std.proofs.Common.{if◌then◌else◌, [], ◌||◌, zero, suc, ◌++◌, take, sym, subst}
-use Rattle.std.proofs.lemmas.Bool.{both_ways, not-true}
-use Rattle.std.proofs.Math.Bool.{or-not_self}
-use Rattle.vms_spec.specs.declared.TheConstants.{LONGEST_NAME}
-use Rattle.vms_spec.specs.declared.Reason.{Reason}
-use Rattle.vms_spec.specs.Sets.{Set}
-use Rattle.vms_spec.specs.Images.{Image}
-use Rattle.vms_spec.specs.Lookup.{number_at, bytes_at}
-use Rattle.vms_spec.specs.Readings.{Verdict, Faulty, Over}
-use Rattle.vms_spec.specs.Units.{Piece, Configuration, Long, Head, End, Start, Mark, Number, Constant, Filler, SubHead, Foot}
-use Rattle.vms_bodies.proofs.BodyOnly.{if_true}
-use Rattle.vms_stream.specs.SoFar.{Tail, Unknown, Footed, Bare, Known}
-use Rattle.vms_stream.specs.Dues.{Due, Between, AfterFields, begins_next, rules_hold, AMagic, AVersion, Field, AfterEnd, Nothing, is_foot, is_next, due_field}
-use Rattle.vms_stream.specs.Finding.{Found, Whole, Cut, needs, between_at, unit_at, sub_at, behind_at}
-use Rattle.vms_stream.specs.Faults.{cut_in}
-use Rattle.vms_stream.specs.Table.{first_of, is_between, wants_foot, is_ram, Row, first_row, alone, asking, other_constant, large_count, bad_foot}
-use Rattle.vms_stream.specs.Judge.{judge, judge_found, by_row, owes}
-use Rattle.vms_stream.specs.State.{State, Free, Inside, due_by, known_at, slots_at, after, by_state, Spot, Before, Headed, Ended, Over as IsOver, open_at}
+use Rattle.vms_stream.proofs.Facade.{◌≡◌, ℕ, ◌+◌, List, ◌∷◌, length, get_or, Option, Some, None, refl, ap, ◌∙◌, Bool, true, false, not, nat_lt, ◌==◌, ◌&&◌}
+use Rattle.vms_stream.proofs.Facade.{if◌then◌else◌, [], ◌||◌, zero, suc, ◌++◌, take, both_ways, not-true, or-not_self, LONGEST_NAME, Reason, Set, Image}
+use Rattle.vms_stream.proofs.Facade.{number_at, bytes_at, Verdict, Faulty, Over, Piece, Configuration, Long, Head, End, Start, Mark, Number, Constant, Filler}
+use Rattle.vms_stream.proofs.Facade.{SubHead, Foot, if_true, Tail, Unknown, Footed, Bare, Known, Due, Between, AfterFields, begins_next, rules_hold, AMagic}
+use Rattle.vms_stream.proofs.Facade.{AVersion, Field, AfterEnd, Nothing, is_foot, is_next, due_field, Found, Whole, Cut, needs, between_at, unit_at, sub_at}
+use Rattle.vms_stream.proofs.Facade.{behind_at, cut_in, first_of, is_between, wants_foot, is_ram, Row, first_row, alone, asking, other_constant, large_count}
+use Rattle.vms_stream.proofs.Facade.{bad_foot, judge, judge_found, by_row, owes, State, Free, Inside, due_by, known_at, slots_at, after, by_state, Spot, Before}
+use Rattle.vms_stream.proofs.Facade.{Headed, Ended, open_at, width, Slot, Bad, seen_in, seen_by, judge_seen, ask, begins_section, JudgedLaw, NextLaw, SeenLaw}
+use Rattle.vms_stream.specs.State.{Over as IsOver}
 use Rattle.vms_stream.proofs.Finding.There.{next_at}
-use Rattle.vms_kinds.specs.Codes.{width}
-use Rattle.vms_spec.specs.Layout.{Slot, Number as NumberSlot, Constant as ConstantSlot, Filler as FillerSlot, Rule as RuleSlot}
-use Rattle.vms_stream.specs.Seen.{Bad, seen_in, seen_by}
-use Rattle.vms_stream.specs.Judged.{judge_seen, ask, begins_section, JudgedLaw, NextLaw, SeenLaw}
+use Rattle.vms_spec.specs.Layout.{Number as NumberSlot, Constant as ConstantSlot, Filler as FillerSlot, Rule as RuleSlot}
 use Rattle.vms_spec.specs.declared.Reason.TheVariants as reasons
 
 -- what begins there is between sections, and no footer
 next_between : (k : ℕ) (t : Tail) (rest : List ℕ) → begins_next t rest ≡ true → (is_between (AfterFields k t) ≡ true) × (wants_foot (AfterFields k t) ≡ false)
 next_between k Footed [] e = cc
 next_between k Footed (c ∷ rest) e = absurd (both_ways _ (not-true _ e) (or-not_self (c == 0x05)))
-next_between k Unknown rest e = (refl, refl)
-next_between k Bare rest e = (refl, refl)
+next_between k _ rest e = (refl, refl)
 
 -- a lone mark is invalid
 mark_by : (set : Set) (names : List (List ℕ)) (s u : State) (m : ℕ) (p q r w : Bool) → (let row : Option (Option ℕ × Reason) =
@@ -73,8 +59,7 @@ module _ (set : Set) (names : List (List ℕ)) (machine : Option (List ℕ)) (im
 
   module _ (e : begins_next t rest ≡ true) where
     needs_outer : (m : ℕ) (x : Piece) → IsOuter (Whole x m) → IsOuter (needs m rest x)
-    needs_outer m x h =
-        pick (nat_lt (length rest) m) Cut (Whole x m) (ap (λ (b : Bool). Faulty (if b then None else Some k) reasons.Truncated (length rest)) e) h
+    needs_outer m x h = pick (nat_lt (length rest) m) Cut (Whole x m) (rw e) h
 
     start_outer : (m its : ℕ) (name : List ℕ) → IsOuter (Whole (Start its name) m)
     start_outer m its name = by (is_ram name)
@@ -113,9 +98,7 @@ module _ (set : Set) (names : List (List ℕ)) (machine : Option (List ℕ)) (im
     next_judged due held =
         if_true (rules_hold (slots_at set inner (Inside k id part n)))
         (judge_found (by_state set names) inner rest (unit_at (due_by set inner (Inside k id part n)) rest)) _ held
-        ∙ same (unit_at (due_by set inner (Inside k id part n)) rest)
-        ∙ ap (λ (d : Due). verdict d (unit_at d rest)) due
-        ∙ ap (verdict (AfterFields k t)) unit_is
+        ∙ same (unit_at (due_by set inner (Inside k id part n)) rest) ∙ ap (λ d. verdict d (unit_at d rest)) due ∙ ap (verdict (AfterFields k t)) unit_is
         ∙ between_outer (get_or rest 0 0) (mark_outer (get_or rest 0 0))
 
 abbrev Line : Type 0
@@ -181,9 +164,8 @@ module _ (k : Known) where
   whole d rest m x h = test d (nat_lt (length rest) m) Cut (Whole x m) (λ e. tt) (λ e. h)
 
   two_rows : (a b : Bool) (p q : Reason) → Of k.section (if a then Some (k.section, p) else if b then Some (k.section, q) else None)
-  two_rows true b p q = refl
-  two_rows false true p q = refl
   two_rows false false p q = tt
+  two_rows _ _ p q = refl
 
   in_field : (j : ℕ) (slot : Slot) (rest : List ℕ) → OfOpen (Field j slot) (unit_at (Field j slot) rest)
   in_field j (NumberSlot c kind caps) rest =
@@ -194,9 +176,8 @@ module _ (k : Known) where
   in_field j (RuleSlot b) rest = tt
 
   mark_of : (j : ℕ) (t : Tail) (b : ℕ) → is_foot t b ≡ true → (b == 0x7e) ≡ false → Of k.section (first_row (alone (AfterFields j t) k (Mark b)))
-  mark_of j Unknown b h g = cc
-  mark_of j Bare b h g = cc
-  mark_of j Footed b h g = subst (Of k.section) (sym (foot_row j k b)) refl
+  mark_of j Footed b h g = rw (foot_row j k b) refl
+  mark_of j _ b h g = cc
 
   behind_of : (j : ℕ) (t : Tail) (b : ℕ) (rest : List ℕ) → is_next t b ≡ false → OfOpen (AfterFields j t) (behind_at t b rest)
   unfolding behind_at
@@ -230,7 +211,7 @@ module _ (k : Known) where
 
   inside : (t : Tail) (j : ℕ) (slots : List Slot) (rest : List ℕ) → begins_section (due_field t (Some j) slots) rest ≡ false
       → Concerned (due_field t (Some j) slots) rest
-  inside t j [] rest h = record { bad = after_of j t rest h; cut = ap (λ (b : Bool). if b then None else k.section) h }
+  inside t j [] rest h = record { bad = after_of j t rest h; cut = rw h }
   inside t j (RuleSlot b ∷ slots) rest h = inside t j slots rest h
   inside t j (FillerSlot zero ∷ slots) rest h = inside t j slots rest h
   inside t j (FillerSlot (suc n) ∷ slots) rest h = record { bad = in_field j (FillerSlot (suc n)) rest; cut = refl }
@@ -259,13 +240,12 @@ module _ (set : Set) (names : List (List ℕ)) (s : State) (rest : List ℕ) whe
       → by_row (by_state set names) (or_line o (first_row (asking set names k x))) n (after set s x) ≡ judge_seen k.section (ask set names s) rest
       (seen_by o x n)
   by_line x n None h = refl
-  by_line x n (Some (section, reason)) h = ap (λ (o : Option ℕ). Faulty o reason n) h
+  by_line x n (Some (section, reason)) h = rw h
 
   by_found : (f : Found) → OfOpen k d f → cut_in d rest k.section ≡ k.section → owes d rest ≡ true
       → judge_found (by_state set names) s rest f ≡ judge_seen k.section (ask set names s) rest (seen_in d k f)
   by_found (Whole x n) h c o =
-      ap (λ (o : Line). by_row (by_state set names) o n (after set s x)) (first_append (alone d k x) (asking set names k x)) ∙ by_line x n
-      (first_row (alone d k x)) h
+      ap (λ o. by_row (by_state set names) o n (after set s x)) (first_append (alone d k x) (asking set names k x)) ∙ by_line x n (first_row (alone d k x)) h
   by_found Cut h c o = rw (o, c)
 
 pub judged_holds : JudgedLaw
@@ -300,8 +280,7 @@ alike_seen (r ∷ rows) (s ∷ others) x n a = rw a.0 (by (alike_seen rows other
 module _ (t : Tail) (j : ℕ) (l m : Known) (id_is : l.id ≡ m.id) where
   tail_same : (t : Tail) → (is_between (AfterFields j t) ≡ is_between (AfterFields 0 t)) × (wants_foot (AfterFields j t) ≡ wants_foot (AfterFields 0 t))
   tail_same Unknown = (refl, refl)
-  tail_same Footed = (refl, refl)
-  tail_same Bare = (refl, refl)
+  tail_same _ = (refl, refl)
 
   other_same : (x : Piece) → other_constant x (AfterFields j t) ≡ other_constant x (AfterFields 0 t)
   other_same (Constant kind y) = refl
@@ -312,7 +291,7 @@ module _ (t : Tail) (j : ℕ) (l m : Known) (id_is : l.id ≡ m.id) where
   large_same x = refl
 
   foot_same : (x : Piece) → bad_foot (AfterFields j t) l x ≡ bad_foot (AfterFields 0 t) m x
-  foot_same (Foot its) = ap (λ (i : ℕ). not (its == i)) id_is
+  foot_same (Foot its) = rw id_is
   foot_same (Mark b) = (tail_same t).1
   foot_same x = refl
 

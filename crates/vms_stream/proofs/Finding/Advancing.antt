@@ -1,23 +1,11 @@
 -- A unit that is found has at least one byte, and all its bytes are there. So a reading advances.
-use Rattle.std.proofs.Common.{◌≡◌, ℕ, zero, suc, ◌+◌, ◌<◌, ◌≤◌, List, [], ◌∷◌, length, get_or, take, drop, Option, Some, None, refl, subst, arith, Bool, true}
-use Rattle.std.proofs.Common.{false, nat_lt, ◌==◌, ◌&&◌, if◌then◌else◌}
-use Rattle.std.proofs.lemmas.Bool.{ltb-false}
-use Rattle.vms_kinds.specs.Codes.{width}
-use Rattle.vms_spec.specs.declared.TheConstants.{LONGEST_NAME}
-use Rattle.vms_spec.specs.declared.Reason.{Reason}
-use Rattle.vms_spec.specs.Sets.{Set}
-use Rattle.vms_spec.specs.Layout.{Slot, Number as NumberSlot, Constant as ConstantSlot, Filler as FillerSlot, Rule as RuleSlot}
-use Rattle.vms_spec.specs.Streams.{longest_text}
-use Rattle.vms_spec.specs.Lookup.{number_at, bytes_at}
-use Rattle.vms_spec.specs.Readings.{Verdict, Goes, Over}
-use Rattle.vms_spec.specs.Units.{Piece, Magic, Version, Configuration, Long, Number, Constant, Filler, Foot, End, Description, Mark}
-use Rattle.vms_spec.specs.SoFar.{opened, slots}
-use Rattle.vms_stream.specs.Dues.{Due, is_foot, AMagic, AVersion, Between, Field, AfterFields, AfterEnd, due, due_field}
-use Rattle.vms_bodies.specs.Whole.{Advances}
-use Rattle.vms_bodies.proofs.Widths.{width_positive}
-use Rattle.vms_stream.specs.Finding.{Found, Whole, Cut, needs, text_at, between_at, behind_at, trailer_at, unit_at}
-use Rattle.vms_stream.specs.Judge.{Grammar, judge, judge_found, by_row, owes}
-use Rattle.vms_stream.specs.SoFar.{Tail, passed, tail}
+use Rattle.vms_stream.proofs.Facade.{◌≡◌, ℕ, zero, suc, ◌+◌, ◌<◌, ◌≤◌, List, [], ◌∷◌, length, get_or, take, drop, Option, Some, None, refl, subst, arith, Bool}
+use Rattle.vms_stream.proofs.Facade.{true, false, nat_lt, ◌==◌, ◌&&◌, if◌then◌else◌, ltb-false, width, LONGEST_NAME, Reason, Set, Slot, longest_text, number_at}
+use Rattle.vms_stream.proofs.Facade.{bytes_at, Verdict, Goes, Over, Piece, Magic, Version, Configuration, Long, Number, Constant, Filler, Foot, End}
+use Rattle.vms_stream.proofs.Facade.{Description, Mark, opened, slots, Due, is_foot, AMagic, AVersion, Between, Field, AfterFields, AfterEnd, due, due_field}
+use Rattle.vms_stream.proofs.Facade.{Advances, width_positive, Found, Whole, Cut, needs, text_at, between_at, behind_at, trailer_at, unit_at, Grammar, judge}
+use Rattle.vms_stream.proofs.Facade.{judge_found, by_row, owes, Tail, passed, tail}
+use Rattle.vms_spec.specs.Layout.{Number as NumberSlot, Constant as ConstantSlot, Filler as FillerSlot, Rule as RuleSlot}
 use Rattle.vms_spec.specs.declared.Reason.TheVariants as reasons
 
 abbrev Stays : List ℕ → Found → Type 0

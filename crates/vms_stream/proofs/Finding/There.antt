@@ -1,23 +1,13 @@
 -- A unit that may come and is spelled at the front is the one that is found.
-use Rattle.std.proofs.Common.{◌≡◌, ℕ, ◌+◌, ◌<◌, ◌≤◌, List, ◌∷◌, ◌++◌, length, get_or, take, drop, ℤ, refl, sym, ap, ◌∙◌, arith, append_assoc, length-append}
-use Rattle.std.proofs.Common.{true, false, ◌==◌, ◌&&◌, if◌then◌else◌, ◌||◌}
-use Rattle.std.proofs.lemmas.List.{drop-drop}
-use Rattle.std.proofs.lemmas.Bool.{lt-ltb, le-ltb, eqb-true, or_parts, not-true}
-use Rattle.byteorder.specs.Endian.{big_number}
-use Rattle.vms_kinds.specs.declared.Kind.{Kind}
-use Rattle.vms_kinds.specs.declared.Kind.TheVariants.{U8, Bool as Truth}
-use Rattle.vms_kinds.specs.Codes.{width, code, value_of, InRange}
-use Rattle.vms_spec.specs.declared.TheConstants.{LONGEST_NAME}
-use Rattle.vms_spec.specs.Streams.{be32, longest_text}
-use Rattle.vms_spec.specs.Lookup.{number_at, bytes_at}
-use Rattle.vms_spec.specs.Units.{Piece, Magic, Version, Configuration, Long, Head, Number, Constant, Filler, SubHead, Foot, End, Description, Start, Mark}
-use Rattle.vms_spec.specs.Units.{spell}
-use Rattle.vms_stream.specs.Dues.{Due, Between, May, AtMagic, AtVersion, AtConfiguration, AtLongName, AtStart, AtHead, AtEnd, AtMark, AtNumber, AtConstant}
-use Rattle.vms_stream.specs.Dues.{AtFiller, AtSubHead, AtFoot, AtOther, AtNext, is_foot, is_next, first_byte, AtDescription, AtLongText, AtTrailing, raw}
-use Rattle.vms_spec.proofs.KindLaws.{length-code, value_code, be32_read}
-use Rattle.vms_bodies.proofs.BodyOnly.{front_take, front_drop}
-use Rattle.vms_stream.specs.Finding.{Whole, needs, text_at, between_at, behind_at, trailer_at, unit_at}
-use Rattle.vms_stream.specs.SoFar.{Bare, Footed, Tail, Unknown}
+use Rattle.vms_stream.proofs.Facade.{◌≡◌, ℕ, ◌+◌, ◌<◌, ◌≤◌, List, ◌∷◌, ◌++◌, length, get_or, take, drop, ℤ, refl, sym, ap, ◌∙◌, arith, append_assoc}
+use Rattle.vms_stream.proofs.Facade.{length-append, true, false, ◌==◌, ◌&&◌, if◌then◌else◌, ◌||◌, drop-drop, lt-ltb, le-ltb, eqb-true, or_parts, not-true}
+use Rattle.vms_stream.proofs.Facade.{big_number, Kind, U8, width, code, value_of, InRange, LONGEST_NAME, be32, longest_text, number_at, bytes_at, Piece, Magic}
+use Rattle.vms_stream.proofs.Facade.{Version, Configuration, Long, Head, Number, Constant, Filler, SubHead, Foot, End, Description, Start, Mark, spell, Due}
+use Rattle.vms_stream.proofs.Facade.{Between, May, AtMagic, AtVersion, AtConfiguration, AtLongName, AtStart, AtHead, AtEnd, AtMark, AtNumber, AtConstant}
+use Rattle.vms_stream.proofs.Facade.{AtFiller, AtSubHead, AtFoot, AtOther, AtNext, is_foot, is_next, first_byte, AtDescription, AtLongText, AtTrailing, raw}
+use Rattle.vms_stream.proofs.Facade.{length-code, value_code, be32_read, front_take, front_drop, Whole, needs, text_at, between_at, behind_at, trailer_at}
+use Rattle.vms_stream.proofs.Facade.{unit_at, Bare, Footed, Tail, Unknown}
+use Rattle.vms_kinds.specs.declared.Kind.TheVariants.{Bool as Truth}
 
 by_kind : (kind : Kind) (z : ℤ) → InRange (raw kind) z → value_of (raw kind) (code kind z) ≡ z
 unfolding code
@@ -40,10 +30,9 @@ text_there : (mark longest : ℕ) (unit : List ℕ → Piece) (name more : List 
     → text_at mark longest unit (spell (unit name) ++ more) (number_at 4 1 (spell (unit name) ++ more)) ≡ Whole (unit name) (length (spell (unit name)))
 text_there mark longest unit name more low le e =
     let r = spell (unit name) ++ more in
-    let n : number_at 4 1 r ≡ length name = ap (λ (l : List ℕ). number_at 4 1 (l ++ more)) e ∙ be32_read (length name) (name ++ more) (omega arith) in
-    let t : bytes_at (length name) 5 r ≡ name = front_take (length name) name more (drop 5 r) (ap (λ (l : List ℕ). drop 5 (l ++ more)) e) refl in
-    ap (text_at mark longest unit r) n
-    ∙ rw (le-ltb longest (length name) le)
+    let n : number_at 4 1 r ≡ length name = ap (λ l. number_at 4 1 (l ++ more)) e ∙ be32_read (length name) (name ++ more) (omega arith) in
+    let t : bytes_at (length name) 5 r ≡ name = front_take (length name) name more (drop 5 r) (rw e) refl in
+    ap (text_at mark longest unit r) n ∙ rw (le-ltb longest (length name) le)
     (there (5 + length name) (unit name) (unit (bytes_at (length name) 5 r)) more (ap unit t) (omega (arith, ap length e)))
 
 long_there : (mark longest : ℕ) (unit : List ℕ → Piece) (n : ℕ) (more : List ℕ) → longest < n → n < 4294967296
@@ -68,9 +57,7 @@ next_at tail b r n = let a = or_parts (b == 0x05) (is_foot tail b) (not-true _ n
 -- the first byte is the unit's
 pub begins : (x : Piece) (more : List ℕ) → May (Between false false) x → first_byte x ≡ get_or (spell x ++ more) 0 0
 begins _ more (AtStart directly after id name f) = refl
-begins _ more (AtHead directly after id name instance v f g h) = refl
-begins _ more (AtEnd directly after) = refl
-begins _ more (AtMark directly after b t) = refl
+begins _ more _ = refl
 
 pub only : (d : Due) (x : Piece) (more : List ℕ) → May d x → unit_at d (spell x ++ more) ≡ Whole x (length (spell x))
 unfolding between_at behind_at trailer_at
@@ -80,9 +67,8 @@ only _ _ more (AtConfiguration after name le) = text_there 0x07 LONGEST_NAME Con
 only _ _ more (AtLongName after n lt f) = long_there 0x07 LONGEST_NAME Configuration n more lt f
 only _ _ more (AtStart directly after id name f) =
     let r = spell (Start id name) ++ more in
-    let e1 : number_at 4 1 r ≡ id = be32_read id ((length name ∷ name) ++ more) (omega arith) in
     let e2 : bytes_at (length name) 6 r ≡ name = front_take (length name) name more (drop 6 r) refl refl in
-    there (6 + length name) (Start id name) _ more (rw (e1, e2)) (omega arith)
+    there (6 + length name) (Start id name) _ more (rw (be32_read id ((length name ∷ name) ++ more) (omega arith), e2)) (omega arith)
 only _ _ more (AtHead directly after id name instance v f g h) =
     let x = Head id name instance v in
     let n = length name in
@@ -93,7 +79,7 @@ only _ _ more (AtHead directly after id name instance v f g h) =
     let e2 : bytes_at n 6 r ≡ name = front_take n name (last ++ more) (drop 6 r) after refl in
     let d6 : drop (6 + n) r ≡ last ++ more = sym (drop-drop n 6 r) ∙ front_drop n name (last ++ more) (drop 6 r) after refl in
     let plus : 10 + n ≡ (6 + n) + 4 = omega arith in
-    let d10 : drop (10 + n) r ≡ be32 v ++ more = ap (λ (k : ℕ). drop k r) plus ∙ sym (drop-drop 4 (6 + n) r) ∙ ap (drop 4) d6 in
+    let d10 : drop (10 + n) r ≡ be32 v ++ more = ap (λ k. drop k r) plus ∙ sym (drop-drop 4 (6 + n) r) ∙ ap (drop 4) d6 in
     let e3 : number_at 4 (6 + n) r ≡ instance = ap (big_number 4) d6 ∙ be32_read instance (be32 v ++ more) (omega arith) in
     let e4 : number_at 4 (10 + n) r ≡ v = ap (big_number 4) d10 ∙ be32_read v more (omega arith) in
     there (14 + n) x _ more (rw (e1, e2, e3, e4)) (omega (arith, length-append (name ++ be32 instance) (be32 v), length-append name (be32 instance)))
@@ -111,16 +97,14 @@ only _ _ more (AtSubHead k tail name v f) =
     let n = length name in
     let r = spell (SubHead name v) ++ more in
     let after : drop 2 r ≡ name ++ (be32 v ++ more) = append_assoc name (be32 v) more in
-    let e2 : bytes_at n 2 r ≡ name = front_take n name (be32 v ++ more) (drop 2 r) after refl in
     let d2 : drop (2 + n) r ≡ be32 v ++ more = sym (drop-drop n 2 r) ∙ front_drop n name (be32 v ++ more) (drop 2 r) after refl in
     let e4 : number_at 4 (2 + n) r ≡ v = ap (big_number 4) d2 ∙ be32_read v more (omega arith) in
-    there (6 + n) (SubHead name v) _ more (rw (e2, e4)) (omega (arith, length-append name (be32 v)))
+    there (6 + n) (SubHead name v) _ more (rw (front_take n name (be32 v ++ more) (drop 2 r) after refl, e4)) (omega (arith, length-append name (be32 v)))
 only _ _ more (AtFoot k tail id t f) = rw t (there 5 (Foot id) _ more (ap Foot (be32_read id more (omega arith))) refl)
 only _ _ more (AtOther k tail b t e) = not_sub tail b (b ∷ more) t ∙ rw (t, e) (one b more)
 only _ _ more (AtNext k tail x t may) =
     let r = spell x ++ more in
-    let n : is_next tail (get_or r 0 0) ≡ true = ap (is_next tail) (sym (begins x more may)) ∙ t in
-    next_at tail (get_or r 0 0) r n ∙ only (Between false false) x more may
+    next_at tail (get_or r 0 0) r (ap (is_next tail) (sym (begins x more may)) ∙ t) ∙ only (Between false false) x more may
 only _ _ more (AtDescription text le) = text_there 0x06 longest_text Description text more (omega arith) le refl
 only _ _ more (AtLongText n lt f) = long_there 0x06 longest_text Description n more lt f
 only _ _ more (AtTrailing b e) = rw e (one b more)

@@ -1,23 +1,11 @@
 -- The state that a loader holds mirrors the units so far.
-use Rattle.std.proofs.Common.{◌≡◌, ℕ, ◌+◌, ◌<◌, List, [], ◌∷◌, length, drop, slice_set, Option, Some, None, refl, ◌∙◌, arith, false, true}
-use Rattle.std.specs.List.{slice_get}
-use Rattle.std.proofs.lemmas.List.{length-set, length-map}
-use Rattle.std.proofs.lemmas.Option.{slice_get_within}
-use Rattle.std.proofs.Math.Seq.{drop-nil}
-use Rattle.vms_spec.specs.Lists.{at_option}
-use Rattle.vms_spec.specs.Sets.{Set}
-use Rattle.vms_spec.specs.Images.{Image, default_image}
-use Rattle.vms_spec.specs.Units.{Piece, Magic, Version, Configuration, Head, Number, Constant, Filler, SubHead, Foot, End}
-use Rattle.vms_spec.specs.SoFar.{put_version, id_of, device_named, come, opened, part, image, fresh, slots, sub_named}
-use Rattle.vms_bodies.proofs.BodyLaws.{at_set}
-use Rattle.vms_bodies.proofs.HeadFound.{found_is}
-use Rattle.vms_stream.specs.Dues.{Due, Field, AfterFields, May, AtHead, AtEnd, AtNumber, AtConstant, AtSubHead, AtFoot, AtOther, AtNext, due, due_field}
-use Rattle.vms_stream.specs.Dues.{rules_hold, holds}
-use Rattle.vms_stream.specs.Table.{first_of}
-use Rattle.vms_stream.specs.Laws.{Mirrored, Refuses, Accepts}
-use Rattle.vms_stream.specs.State.{Spot, Before, Headed, Free, Inside, Ended, State, at_start, or_none, open_at, onward, inside, slots_at, next_spot, due_by}
-use Rattle.vms_stream.specs.State.{known_at, after, by_state}
-use Rattle.vms_stream.specs.SoFar.{Known, beyond, images, known, machine, passed, put_image, tail}
+use Rattle.vms_stream.proofs.Facade.{◌≡◌, ℕ, ◌<◌, List, [], ◌∷◌, length, drop, slice_set, Option, Some, None, refl, ◌∙◌, arith, false, true, slice_get}
+use Rattle.vms_stream.proofs.Facade.{length-set, length-map, slice_get_within, drop-nil, at_option, Set, Image, default_image, Piece, Magic, Version}
+use Rattle.vms_stream.proofs.Facade.{Configuration, Head, Number, Constant, Filler, SubHead, Foot, End, put_version, id_of, device_named, come, opened, part}
+use Rattle.vms_stream.proofs.Facade.{image, fresh, slots, sub_named, at_set, found_is, Due, Field, AfterFields, May, AtHead, AtEnd, AtNumber, AtConstant}
+use Rattle.vms_stream.proofs.Facade.{AtSubHead, AtFoot, AtOther, AtNext, due, due_field, rules_hold, holds, first_of, Mirrored, Refuses, Accepts, Spot, Before}
+use Rattle.vms_stream.proofs.Facade.{Headed, Free, Inside, Ended, State, at_start, or_none, open_at, onward, inside, slots_at, next_spot, due_by, known_at}
+use Rattle.vms_stream.proofs.Facade.{after, by_state, Known, beyond, images, known, machine, passed, put_image, tail}
 use Rattle.vms_stream.proofs.Finding.Advancing.{IsSolid, field_solid}
 use Rattle.vms_stream.proofs.Judging.Verdicts.{refuses, accepts}
 
@@ -67,9 +55,7 @@ module _ (set : Set) where
         long = long_put (images set u) o y ∙ long;
         here = λ k e.
             let f = found_is set.devices 0 name instance k e in
-            let lt : f.i < length set.devices = slice_get_within set.devices f.i f.device f.there in
-            let is : k ≡ 0 + f.i = f.is in
-            put_here (images set u) o y k e (omega arith);
+            put_here (images set u) o y k e (omega (arith, slice_get_within set.devices f.i f.device f.there));
       }
   images_of (Number c kind z ∷ u) = let r = put_on u _ (images_of u) in record { long = r.0; here = r.1 }
   images_of (SubHead name v ∷ u) = let r = put_on u _ (images_of u) in record { long = r.0; here = r.1 }

@@ -1,22 +1,11 @@
 -- The judge refuses exactly the inputs that have a fault, for each state that mirrors the units so far.
-use Rattle.std.proofs.Common.{◌≡◌, ℕ, zero, suc, ◌+◌, ◌<◌, ◌≤◌, List, ◌∷◌, ◌++◌, length, drop, length-drop, Option, Some, None, refl, sym, ap, ◌∙◌, subst}
-use Rattle.std.proofs.Common.{arith, length-append, append_assoc, Bool, true, false, if◌then◌else◌, []}
-use Rattle.vms_kinds.specs.Bytes.{IsBytes}
-use Rattle.vms_kinds.proofs.ByteLemmas.{bytes_rest}
-use Rattle.vms_spec.specs.declared.Reason.{Reason}
-use Rattle.vms_spec.specs.Sets.{Set}
-use Rattle.vms_spec.specs.Readings.{Verdict, Goes, Faulty, Over, Reading, Accepted, Refused, reading_from, reading_after}
-use Rattle.vms_spec.specs.Units.{Piece, spell, spelled}
-use Rattle.vms_spec.specs.SoFar.{opened}
-use Rattle.vms_stream.specs.Dues.{Due, AfterEnd, Nothing, May, AtMagic, due, holds}
-use Rattle.vms_stream.specs.Table.{reason_of}
-use Rattle.vms_stream.specs.Faults.{Front, Why, Fails, Cut as IsCut, Wrong, Fault, Owes, cut_in}
-use Rattle.vms_bodies.specs.Whole.{Advances, reading_on}
-use Rattle.vms_bodies.proofs.HeadFound.{is_bytes_drop}
-use Rattle.vms_bodies.proofs.FrameLaws.{unit_read}
-use Rattle.vms_stream.specs.Finding.{Found, Whole, Cut, unit_at}
-use Rattle.vms_stream.specs.Judge.{Grammar, judge, judge_found, by_row, owes, reading, by_units}
-use Rattle.vms_stream.specs.Laws.{Mirrored, Refuses, Ends, Accepts, IsThere}
+use Rattle.vms_stream.proofs.Facade.{◌≡◌, ℕ, zero, suc, ◌+◌, ◌<◌, ◌≤◌, List, ◌∷◌, ◌++◌, length, drop, length-drop, Option, Some, None, refl, sym, ap, ◌∙◌}
+use Rattle.vms_stream.proofs.Facade.{subst, arith, length-append, append_assoc, Bool, true, false, if◌then◌else◌, [], IsBytes, bytes_rest, Reason, Set, Verdict}
+use Rattle.vms_stream.proofs.Facade.{Goes, Faulty, Over, Reading, Accepted, Refused, reading_from, reading_after, Piece, spell, spelled, opened, Due, AfterEnd}
+use Rattle.vms_stream.proofs.Facade.{Nothing, May, AtMagic, due, holds, reason_of, Front, Why, Fails, Wrong, Fault, Owes, cut_in, Advances, reading_on}
+use Rattle.vms_stream.proofs.Facade.{is_bytes_drop, unit_read, Found, Whole, Cut, unit_at, Grammar, judge, judge_found, by_row, owes, reading, by_units}
+use Rattle.vms_stream.proofs.Facade.{Mirrored, Refuses, Ends, Accepts, IsThere}
+use Rattle.vms_stream.specs.Faults.{Cut as IsCut}
 use Rattle.vms_stream.proofs.Finding.There.{only}
 use Rattle.vms_stream.proofs.Finding.Shown.{Shows, shows}
 use Rattle.vms_stream.proofs.Finding.Advancing.{IsSolid, advances, due_solid}
@@ -46,7 +35,7 @@ module _ {S : Type 0} (judge : S → List ℕ → Verdict S) (a : Advances judge
   told_from zero state at rest h = absurd (omega arith)
   told_from (suc m) state at rest h =
       by (judge state rest) (λ n next e. let b : (0 < n) × (n ≤ length rest) = a.goes state rest n next e in told_from m next (at + n) (drop n rest)
-      (omega (arith, b.0, b.1, length-drop n rest)))
+      (omega (arith, length-drop n rest)))
     where
       by : (v : Verdict S) → ((n : ℕ) (next : S) → v ≡ Goes n next → (x : Reading S) × (reading_from judge m next (at + n) (drop n rest) ≡ Some x))
           → (x : Reading S) × (reading_after (reading_from judge m) at rest v ≡ Some x)
@@ -101,11 +90,10 @@ module _ {S : Type 0} (set : Set) (names : List (List ℕ)) (g : Grammar S) (sol
     verdict f held e = rw (m.holds_is u s r, held, m.due_is u s r, e)
 
     by_reason : (x : Piece) (more : List ℕ) (o : Option (Option ℕ × Reason)) → holds set u ≡ true → May (due set u) x → rest ≡ spell x ++ more
-        → reason_of set names u x ≡ o
-        → judge g s rest ≡ by_row g o (length (spell x)) (g.after s x)
+        → reason_of set names u x ≡ o → judge g s rest ≡ by_row g o (length (spell x)) (g.after s x)
     by_reason x more o held may there e =
         verdict (Whole x (length (spell x))) held (ap (unit_at (due set u)) there ∙ only (due set u) x more may)
-        ∙ ap (λ (o : Option (Option ℕ × Reason)). by_row g o (length (spell x)) (g.after s x)) (m.reason_is u s x r may ∙ e)
+        ∙ ap (λ o. by_row g o (length (spell x)) (g.after s x)) (m.reason_is u s x r may ∙ e)
 
     told : (section : Option ℕ) (reason : Reason) (size : ℕ) → IsBytes rest → Why set names u rest section reason size
         → judge g s rest ≡ Faulty section reason size
@@ -183,7 +171,7 @@ module _ {S : Type 0} (set : Set) (names : List (List ℕ)) (g : Grammar S) (sol
         reads = ap (reading_on (judge g) start 0) (append_assoc (spelled u) (spell x) rest) ∙ t.reads
             ∙ unit_read (judge g) (advances g solid) t.state (g.after t.state x) (length (spelled u)) (spell x) rest
             (by_reason u t.state (spell x ++ rest) t.mirrors x rest None front.1 front.2 refl front.3)
-            ∙ ap (λ (k : ℕ). reading_on (judge g) (g.after t.state x) k rest) (sym (length-append (spelled u) (spell x)));
+            ∙ ap (λ k. reading_on (judge g) (g.after t.state x) k rest) (sym (length-append (spelled u) (spell x)));
       }
 
   module _ (start : S) (r : Mirrors [] start) where
@@ -198,7 +186,7 @@ module _ {S : Type 0} (set : Set) (names : List (List ℕ)) (g : Grammar S) (sol
             t.state,
             ap (reading_on (judge g) start 0) f.whole ∙ t.reads
                 ∙ ap (reading_after (reading_from (judge g) (length f.rest)) (length (spelled u)) f.rest) (over_is u t.state f.rest t.mirrors ok2 f.held f.over)
-                ∙ ap (λ (k : ℕ). Some (Accepted k t.state)) f.long,
+                ∙ ap (λ k. Some (Accepted k t.state)) f.long,
             t.mirrors,
           );
     }
@@ -210,11 +198,9 @@ module _ {S : Type 0} (set : Set) (names : List (List ℕ)) (g : Grammar S) (sol
           (Refused place section reason size) refl ok tt r refl h;
       faulty = λ input place section reason size ok f.
           let t = reaches start f.units f.rest r f.front in
-          let ok2 = bytes_rest (spelled f.units) f.rest (subst IsBytes f.whole ok) in
-          ap (reading_on (judge g) start 0) f.whole ∙ t.reads
-          ∙ ap (reading_after (reading_from (judge g) (length f.rest)) (length (spelled f.units)) f.rest)
-          (told f.units t.state f.rest t.mirrors section reason size ok2 f.why)
-          ∙ ap (λ (k : ℕ). Some (Refused k section reason size)) f.long;
+          ap (reading_on (judge g) start 0) f.whole ∙ t.reads ∙ ap (reading_after (reading_from (judge g) (length f.rest)) (length (spelled f.units)) f.rest)
+          (told f.units t.state f.rest t.mirrors section reason size (bytes_rest (spelled f.units) f.rest (subst IsBytes f.whole ok)) f.why)
+          ∙ ap (λ k. Some (Refused k section reason size)) f.long;
     }
 
 module _ (set : Set) (names : List (List ℕ)) where
@@ -223,8 +209,8 @@ module _ (set : Set) (names : List (List ℕ)) where
     due_is = λ u s e. ap (due set) e;
     holds_is = λ u s e. ap (holds set) e;
     section_is = λ u s e. ap (opened set) e;
-    reason_is = λ u s x e may. ap (λ (u : List Piece). reason_of set names u x) e;
-    after_is = λ u s x e held may none. ap (λ (u : List Piece). x ∷ u) e;
+    reason_is = λ u s x e may. rw e;
+    after_is = λ u s x e held may none. rw e;
   }
 
   pub units_refuse : Refuses set names (by_units set names) []

@@ -1,22 +1,12 @@
 -- Refusals of worked rows as faults: the units before the place, and why nothing goes on there.
-use Rattle.std.proofs.Common.{◌≡◌, ap, ◌∙◌, ℕ, ◌<◌, List, [], ◌∷◌, ◌++◌, length, take, drop, Option, Some, None, pos, refl, arith, codes, Bool, true, false}
-use Rattle.std.proofs.lemmas.Int.{ints}
-use Rattle.vms_kinds.specs.declared.Kind.TheVariants.{U8, U64, Bool as Truth}
-use Rattle.vms_kinds.specs.Codes.{code, InRange}
-use Rattle.vms_spec.specs.declared.Reason.{Reason}
-use Rattle.vms_spec.specs.Sets.{Set}
-use Rattle.vms_spec.specs.Layout.{first}
-use Rattle.vms_spec.specs.Streams.{magic}
-use Rattle.vms_spec.specs.Shipped.{set_0}
-use Rattle.vms_spec.specs.Units.{Piece, Magic, Version, Configuration, Long, Head, Number, Constant, SubHead, Foot, End, Start, Mark, spell, spelled}
-use Rattle.vms_stream.specs.Dues.{Between, AfterFields, May, AtMagic, AtVersion, AtConfiguration, AtStart, AtHead, AtEnd, AtMark, AtNumber, AtConstant}
-use Rattle.vms_stream.specs.Dues.{AtSubHead, AtFoot, AtLongText, AtTrailing, due, holds}
-use Rattle.vms_stream.specs.SoFar.{Unknown}
-use Rattle.vms_stream.specs.Table.{reason_of}
-use Rattle.vms_stream.specs.Faults.{Front, Fails, Cut, Wrong, Fault}
-use Rattle.vms_spec.proofs.Rows.{hex, head, smallest, box_head}
-use Rattle.vms_spec.proofs.Boxes.{counted_set, constant_set, subsection_set, tested_set}
-use Rattle.vms_stream.specs.Finding.{unit_at}
+use Rattle.vms_stream.proofs.Facade.{◌≡◌, ap, ◌∙◌, ℕ, ◌<◌, List, [], ◌∷◌, ◌++◌, length, take, drop, Option, Some, None, pos, refl, arith, codes, Bool, true}
+use Rattle.vms_stream.proofs.Facade.{false, ints, U8, U64, code, InRange, Reason, Set, first, magic, set_0, Piece, Magic, Version, Configuration, Long, Head}
+use Rattle.vms_stream.proofs.Facade.{Number, Constant, SubHead, Foot, End, Start, Mark, spell, spelled, Between, AfterFields, May, AtMagic, AtVersion}
+use Rattle.vms_stream.proofs.Facade.{AtConfiguration, AtStart, AtHead, AtEnd, AtMark, AtNumber, AtConstant, AtSubHead, AtFoot, AtLongText, AtTrailing, due}
+use Rattle.vms_stream.proofs.Facade.{holds, Unknown, reason_of, Front, Fails, Wrong, Fault, hex, head, smallest, box_head, counted_set, constant_set}
+use Rattle.vms_stream.proofs.Facade.{subsection_set, tested_set, unit_at}
+use Rattle.vms_kinds.specs.declared.Kind.TheVariants.{Bool as Truth}
+use Rattle.vms_stream.specs.Faults.{Cut}
 use Rattle.vms_stream.proofs.Finding.There.{only}
 use Rattle.vms_spec.specs.declared.Reason.TheVariants as reasons
 
@@ -88,7 +78,7 @@ refuses_a_cut_number = record {
 }
 
 in_64 : InRange U64 (pos 0)
-in_64 = (omega (arith, ints), omega (arith, ints))
+in_64 = (omega arith, omega arith)
 
 abbrev fielded : List Piece
 fielded = Number 0 U64 (pos 0) ∷ headed

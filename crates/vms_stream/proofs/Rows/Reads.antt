@@ -1,22 +1,9 @@
 -- Worked rows: what is read, written and shown of streams and sets.
-use Rattle.std.proofs.Common.{◌≡◌, ℕ, List, [], ◌∷◌, ◌++◌, length, take, drop, map, Option, Some, None, pos, negsuc, ℤ, refl, codes}
-use Rattle.std.specs.Fmt.{digits}
-use Rattle.vms_kinds.specs.declared.Kind.TheVariants.{U8, U64}
-use Rattle.vms_kinds.specs.Codes.{code}
-use Rattle.vms_spec.specs.declared.Reason.{Reason}
-use Rattle.vms_spec.specs.Layout.{first}
-use Rattle.vms_spec.specs.Sets.{Set}
-use Rattle.vms_spec.specs.Images.{Image, default_image}
-use Rattle.vms_spec.specs.Streams.{magic, written}
-use Rattle.vms_spec.specs.Readings.{Reading, Accepted, Refused}
-use Rattle.vms_spec.specs.Shipped.{set_0, set_1, set_4, timer}
-use Rattle.vms_spec.specs.Units.{Piece, Magic, Version, Head, Number, End}
-use Rattle.vms_spec.specs.Values.{values_text}
-use Rattle.vms_spec.proofs.Rows.{hex, head, smallest, box_head, box_end, lines}
-use Rattle.vms_spec.proofs.Boxes.{box, number, counted_set, constant_set, subsection_set, bare_set, mixed_set}
-use Rattle.vms_stream.specs.Finding.{between_at, behind_at, trailer_at}
-use Rattle.vms_stream.specs.Judge.{reading, by_units}
-use Rattle.vms_stream.specs.State.{State, by_state, at_start}
+use Rattle.vms_stream.proofs.Facade.{◌≡◌, ℕ, List, [], ◌∷◌, ◌++◌, length, take, drop, map, Option, Some, None, pos, negsuc, ℤ, refl, codes, digits, U8, U64}
+use Rattle.vms_stream.proofs.Facade.{code, Reason, first, Set, Image, default_image, magic, written, Reading, Accepted, Refused, set_0, set_1, set_4, timer}
+use Rattle.vms_stream.proofs.Facade.{Piece, Magic, Version, Head, Number, End, values_text, hex, head, smallest, box_head, box_end, lines, box, number}
+use Rattle.vms_stream.proofs.Facade.{counted_set, constant_set, subsection_set, bare_set, mixed_set, between_at, behind_at, trailer_at, reading, by_units}
+use Rattle.vms_stream.proofs.Facade.{State, by_state, at_start}
 use Rattle.vms_spec.specs.declared.Reason.TheVariants as reasons
 
 abbrev Answer : Type 0

@@ -1,39 +1,16 @@
 -- In a section whose slots are all passed: what an accepted reading finds after the fields. The subsections are spelled, in any
 -- order and each once; the image stays normal and valid.
-use Rattle.std.proofs.Common.{◌≡◌, ℕ, ◌+◌, ◌<◌, List, ◌++◌, length, drop, slice_set, Option, Some, None, refl, ap, ◌∙◌, subst, arith, Bool, true, false}
-use Rattle.std.proofs.Common.{if◌then◌else◌, ◌==◌, [], zero, suc, ◌∷◌, Ok, Err, ℤ, sym, append_assoc, length-append}
-use Rattle.std.specs.List.{slice_get}
-use Rattle.vms_kinds.specs.Bytes.{IsBytes}
-use Rattle.vms_kinds.proofs.ByteLemmas.{bytes_rest}
-use Rattle.vms_spec.specs.Lists.{at_option}
-use Rattle.vms_spec.specs.Sets.{Set, Device, Sub}
-use Rattle.vms_spec.specs.Images.{Image, IsVersionOf, sub_slots, Spells}
-use Rattle.vms_spec.specs.Streams.{sub_head, foot, ComesOnce, SubsSpell}
-use Rattle.vms_spec.specs.SoFar.{subs_of, part_slots}
-use Rattle.vms_spec.specs.Lookup.{find_sub}
-use Rattle.vms_spec.specs.Units.{Piece, spell, SubHead, Mark}
-use Rattle.vms_bodies.proofs.BodyLaws.{at_set, set_twice}
-use Rattle.std.proofs.lemmas.Option.{slice_get_within}
-use Rattle.std.proofs.lemmas.Bool.{both_ways, not-true}
-use Rattle.std.proofs.Math.Bool.{or-not_self}
-use Rattle.std.proofs.Math.Nat.{add-zero}
-use Rattle.vms_stream.specs.SoFar.{Tail, Unknown, Footed, Bare, Known}
-use Rattle.vms_stream.specs.Dues.{Due, AfterFields, due_field, rules_hold, is_foot, is_next, first_byte, May, AtSubHead, AtFoot, AtOther, AtNext}
-use Rattle.vms_stream.specs.Table.{first_of, is_between}
-use Rattle.vms_stream.specs.Judge.{owes}
-use Rattle.vms_stream.specs.State.{State, Free, Inside, slots_at, due_by, known_at, after}
+use Rattle.vms_stream.proofs.Facade.{◌≡◌, ℕ, ◌+◌, ◌<◌, List, ◌++◌, length, drop, slice_set, Option, Some, None, refl, ap, ◌∙◌, subst, arith, Bool, true, false}
+use Rattle.vms_stream.proofs.Facade.{if◌then◌else◌, ◌==◌, [], zero, suc, ◌∷◌, Ok, Err, ℤ, sym, append_assoc, length-append, slice_get, slice_get_within}
+use Rattle.vms_stream.proofs.Facade.{both_ways, not-true, or-not_self, add-zero, IsBytes, bytes_rest, at_option, Set, Device, Sub, Image, IsVersionOf}
+use Rattle.vms_stream.proofs.Facade.{sub_slots, Spells, sub_head, foot, ComesOnce, SubsSpell, subs_of, part_slots, find_sub, Piece, spell, SubHead, Mark}
+use Rattle.vms_stream.proofs.Facade.{at_set, set_twice, Tail, Unknown, Footed, Bare, Known, AfterFields, due_field, rules_hold, is_foot, is_next, first_byte}
+use Rattle.vms_stream.proofs.Facade.{May, AtSubHead, AtFoot, AtOther, AtNext, first_of, is_between, State, Free, Inside, slots_at, due_by, known_at, after}
+use Rattle.vms_stream.proofs.Facade.{device_cells, desc_cells, Taken, Progress, take_desc, takers, cells_of, IsGood, versions_long, same_refl, body_found}
+use Rattle.vms_stream.proofs.Facade.{its_spelled, sub_are, Beside, beside_back, beside_done, part_place, Fine, Stays, stays_refl, stays_on, stays_next}
+use Rattle.vms_stream.proofs.Facade.{fine_next, sub_front}
 use Rattle.vms_stream.proofs.Streams.UnitRows.{foot_is, foot_mark_never, sub_is_one, none_from}
 use Rattle.vms_stream.proofs.Streams.Steps.{Run, Goes, steps, Opening, opening, free_opens}
-use Rattle.vms_spec.specs.Layout.{device_cells, desc_cells}
-use Rattle.vms_spec.specs.Taking.{Taken, Progress, take_desc, takers, cells_of}
-use Rattle.vms_spec.specs.Good.{IsGood}
-use Rattle.vms_spec.proofs.ListLaws.{versions_long}
-use Rattle.vms_bodies.proofs.Places.{same_refl}
-use Rattle.vms_bodies.proofs.FoundLaws.{body_found}
-use Rattle.vms_bodies.proofs.AgreeLaws.{its_spelled}
-use Rattle.vms_bodies.proofs.PartLaws.{sub_are, Beside, beside_back, beside_done}
-use Rattle.vms_bodies.proofs.FineLaws.{part_place, Fine, Stays, stays_refl, stays_on, stays_next, fine_next}
-use Rattle.vms_bodies.proofs.ComeLaws.{sub_front}
 use Rattle.vms_stream.proofs.Bodies.Body.{Reads, body_read}
 
 -- whether sections have footers, if the tail is known already
@@ -63,9 +40,8 @@ next_agrees k Bare b e = (refl, refl)
 -- a mark that is neither of a subsection head nor of a footer
 other_never : (set : Set) (names : List (List ℕ)) (k : ℕ) (t : Tail) (so_far : Known) (b : ℕ) → is_foot t b ≡ true → (b == 0x7e) ≡ false
     → first_of set names (AfterFields k t) so_far (Mark b) ≡ None → ⊥
-other_never set names k Unknown so_far b f e h = cc
 other_never set names k Footed so_far b f e h = foot_mark_never set names (AfterFields k Footed) so_far b refl h
-other_never set names k Bare so_far b f e h = cc
+other_never set names k _ so_far b f e h = cc
 
 -- the section of a device, and the state of which it is a part
 pub record Section (set : Set) : Type 0 where
@@ -127,15 +103,13 @@ module _ {r : Run} (c : Section r.set) (image : Image) (part : Option ℕ) (n : 
       → rest ≡ spell x ++ more → Goes r (after r.set (stands c image part n) x) (place + length (spell x)) more → Behind r c image place rest
   by_unit {more = more} ok _ (AtSubHead _ _ name v f) none e goes =
       let d = AfterFields c.k c.state.tail in
-      let known = knows c image part n in
-      let h = sub_is_one r.set r.names d known c.device.subs name v (subs_are c image part n)
-      (subst (λ (k : Known). first_of r.set r.names d k (SubHead name v) ≡ None) (known_is c image part n) none) in
+      let h = sub_is_one r.set r.names d (knows c image part n) c.device.subs name v (subs_are c image part n)
+      (subst (λ k. first_of r.set r.names d k (SubHead name v) ≡ None) (known_is c image part n) none) in
       let lt : h.j < length c.device.subs = slice_get_within c.device.subs h.j h.sub h.there in
       ASub h.j v h.sub more (rw h.name_is e) h.there (none_from image.came h.j (omega arith) h.new) h.version
       (rw (h.name_is, ← sub_after c image part n h.j name v h.named) goes)
   by_unit {more = more} ok _ (AtFoot _ _ its f g) none e goes =
-      let is = foot_is r.set r.names (AfterFields c.k c.state.tail) (known_at r.set (stands c image part n)) its none in
-      let e2 = rw is at e in
+      let e2 = rw (foot_is r.set r.names (AfterFields c.k c.state.tail) (known_at r.set (stands c image part n)) its none) at e in
       AnEnd true more (foot_agrees c.state.tail f) e2 (free_opens false false refl (bytes_rest (foot c.id) more (subst IsBytes e2 ok)) long goes)
   by_unit ok _ (AtOther _ _ b f g) none e goes = absurd (other_never r.set r.names c.k c.state.tail (known_at r.set (stands c image part n)) b f g none)
   by_unit {place} {rest} ok x (AtNext _ _ _ f m) none e goes =
@@ -147,9 +121,8 @@ module _ {r : Run} (c : Section r.set) (image : Image) (part : Option ℕ) (n : 
       → Goes r (stands c image part n) place rest → Behind r c image place rest
   behind_found {rest = rest} done ok h =
       let is = due_is c image part n done in
-      let u = steps ok h (ap (λ (d : Due). owes d rest) is) in
-      by_unit ok u.unit (subst (λ (d : Due). May d u.unit) is u.may)
-      (subst (λ (d : Due). first_of r.set r.names d (known_at r.set (stands c image part n)) u.unit ≡ None) is u.none) u.there u.goes
+      let u = steps ok h (rw is) in
+      by_unit ok u.unit (rw is at u.may) (rw is at u.none) u.there u.goes
 
 abbrev pub image_so : ℕ → List (Option ℕ) → List ℤ → Image
 image_so v came n = record { version = v; came = came; numbers = n }
@@ -198,8 +171,7 @@ module _ (r : Run) (good : IsGood r.set) (c : Section r.set) (long : length c.st
     set_at = at_set so_far j (Some w) (slice_get_within so_far j None new)
 
     sub_before : (m : List ℤ) (body more : List ℕ) → rest ≡ head ++ (body ++ more) → Spells m (sub_slots r.set s w m base) body
-        → Stays r.set c.device so_far n m
-        → SubsRead r c v next m ((place + length head) + length body) more → SubsRead r c v so_far n place rest
+        → Stays r.set c.device so_far n m → SubsRead r c v next m ((place + length head) + length body) more → SubsRead r c v so_far n place rest
     sub_before m body more spelled spells stays q =
         let b = beside_back so_far q.left q.all j w q.beside new in
         let last : Spells q.numbers (sub_slots r.set s w q.numbers base) body =
@@ -240,15 +212,14 @@ module _ (r : Run) (good : IsGood r.set) (c : Section r.set) (long : length c.st
         let p : Progress = record { numbers = n; place = place + length head; rest = more } in
         let sound = good.subs c.k j c.device s c.there there in
         let okm : IsBytes more = bytes_rest head more (subst IsBytes spelled ok) in
-        let b = body_found (device_cells r.set c.device) r.set.structs good.structs s.desc w base p q sound okm (omega (arith, fine.long))
+        let b = body_found (device_cells r.set c.device) r.set.structs good.structs s.desc w base p q sound okm (omega arith)
         (λ m. sub_are r.set c.device j s w m there) is in
         let last : IsBytes q.rest = bytes_rest b.bytes q.rest (subst IsBytes b.front okm) in
         let same = same_refl (base + length (desc_cells (cells_of (takers r.set.structs (length r.set.structs))) s.desc)) q.numbers in
         let kept = b.kept q.numbers same in
         let fine' = fine_next r.set c.device v so_far n q.numbers j w s good.structs (good.devices c.k c.device c.there)
-        (λ j s e. good.subs c.k j c.device s c.there e) there new version b.long
-        (b.fits q.numbers same) (b.rules q.numbers same) kept fine in
-        let spelled' : rest ≡ head ++ (b.bytes ++ q.rest) = spelled ∙ ap (λ (l : List ℕ). head ++ l) b.front in
+        (λ j s e. good.subs c.k j c.device s c.there e) there new version b.long (b.fits q.numbers same) (b.rules q.numbers same) kept fine in
+        let spelled' : rest ≡ head ++ (b.bytes ++ q.rest) = spelled ∙ ap (λ l. head ++ l) b.front in
         let later = on (Some j) reads.0 next q.numbers q.place q.rest reads.1
         (omega (arith, ap length spelled', length-append head (b.bytes ++ q.rest), length-append b.bytes q.rest)) last fine'
         (record { is = sym reads.2 ∙ h.is }) in
@@ -256,8 +227,7 @@ module _ (r : Run) (good : IsGood r.set) (c : Section r.set) (long : length c.st
         (rw (← b.place) later)
 
     sub_goes : (more : List ℕ) → IsBytes rest → Fine r.set c.device v so_far n → rest ≡ head ++ more → IsVersionOf s.desc w → FindsSubs (length rest)
-        → Accepts next n (Some j) 0 (place + length head) more
-        → SubsRead r c v so_far n place rest
+        → Accepts next n (Some j) 0 (place + length head) more → SubsRead r c v so_far n place rest
     sub_goes more ok fine spelled version on h =
         body_goes more ok fine spelled version on _ refl
         (body_read r.set r.names c.state c.device (image_so v next n) c.k c.id (Some j) c.there c.room good.structs s.desc w base

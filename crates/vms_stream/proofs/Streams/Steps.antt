@@ -1,28 +1,10 @@
 -- One unit that is read, and one unit of an accepted reading: in any state, and between sections.
-use Rattle.std.proofs.Common.{◌≡◌, ◌⊎◌, inl, inr, ℕ, ◌+◌, ◌<◌, ◌≤◌, List, ◌∷◌, ◌++◌, length, drop, slice_set, Option, Some, None, refl, sym, ap, ◌∙◌, arith}
-use Rattle.std.proofs.Common.{Bool, true, false, not, if◌then◌else◌}
-use Rattle.std.specs.List.{slice_get}
-use Rattle.std.proofs.lemmas.Option.{slice_get_within}
-use Rattle.vms_kinds.specs.Bytes.{IsBytes}
-use Rattle.vms_spec.specs.declared.TheConstants.{LONGEST_NAME}
-use Rattle.vms_spec.specs.declared.Reason.{Reason}
-use Rattle.vms_spec.specs.Lists.{position}
-use Rattle.vms_spec.specs.Sets.{Set, Device}
-use Rattle.vms_spec.specs.Images.{default_image, IsVersionOf}
-use Rattle.vms_spec.specs.Streams.{section_head, configuration, is_one_of}
-use Rattle.vms_spec.specs.SoFar.{device_named}
-use Rattle.vms_spec.specs.Readings.{Verdict, Faulty, Over, Accepted, reading_after}
-use Rattle.vms_spec.specs.Units.{Piece, spell, Head}
-use Rattle.vms_bodies.specs.Whole.{reading_on, Advances}
-use Rattle.vms_bodies.proofs.FrameLaws.{one_unit, unit_read}
-use Rattle.vms_stream.specs.SoFar.{Footed, behind}
-use Rattle.vms_stream.specs.Dues.{Due, Between, May, AtConfiguration, AtLongName, AtStart, AtHead, AtEnd, AtMark}
-use Rattle.vms_stream.specs.Faults.{cut_in}
-use Rattle.vms_stream.specs.Finding.{Found, Whole, Cut, unit_at}
-use Rattle.vms_stream.specs.Table.{first_of, is_between}
-use Rattle.vms_stream.specs.Judge.{Grammar, judge, judge_found, by_row, owes}
-use Rattle.vms_stream.specs.Laws.{IsThere}
-use Rattle.vms_stream.specs.State.{State, Free, Inside, Ended, open_at, known_at, after, by_state}
+use Rattle.vms_stream.proofs.Facade.{◌≡◌, ◌⊎◌, inl, inr, ℕ, ◌+◌, ◌<◌, ◌≤◌, List, ◌∷◌, ◌++◌, length, drop, slice_set, Option, Some, None, refl, sym, ◌∙◌, arith}
+use Rattle.vms_stream.proofs.Facade.{Bool, true, false, not, if◌then◌else◌, slice_get, slice_get_within, IsBytes, LONGEST_NAME, Reason, position, Set, Device}
+use Rattle.vms_stream.proofs.Facade.{default_image, IsVersionOf, section_head, configuration, is_one_of, device_named, Verdict, Faulty, Over, Accepted}
+use Rattle.vms_stream.proofs.Facade.{reading_after, Piece, spell, Head, reading_on, Advances, one_unit, unit_read, Footed, behind, Due, Between, May}
+use Rattle.vms_stream.proofs.Facade.{AtConfiguration, AtLongName, AtStart, AtHead, AtEnd, AtMark, cut_in, Found, Whole, Cut, unit_at, first_of, is_between}
+use Rattle.vms_stream.proofs.Facade.{Grammar, judge, judge_found, by_row, owes, IsThere, State, Free, Inside, Ended, open_at, known_at, after, by_state}
 use Rattle.vms_stream.proofs.Finding.There.{only}
 use Rattle.vms_stream.proofs.Finding.Shown.{Shows, shows}
 use Rattle.vms_stream.proofs.Finding.Advancing.{advances}
@@ -42,8 +24,7 @@ module _ (set : Set) (names : List (List ℕ)) where
       → reading_on (judge (by_state set names)) s place (spell x ++ more) ≡ reading_on (judge (by_state set names)) (after set s x)
       (place + length (spell x)) more
   unit_on s x place more held may none =
-      unit_read (judge (by_state set names)) forward s (after set s x) place (spell x) more
-      (rw (held, only (g.due s) x more may) (ap (λ (o : Option (Option ℕ × Reason)). by_row (by_state set names) o (length (spell x)) (after set s x)) none))
+      unit_read (judge (by_state set names)) forward s (after set s x) place (spell x) more (rw (held, only (g.due s) x more may) (rw none))
 
 -- what is read of what, and how that ends
 pub record Run : Type 0 where
@@ -86,7 +67,7 @@ module _ {r : Run} {s : State} {place : ℕ} {rest : List ℕ} (ok : IsBytes res
     may = w.may;
     there = w.there;
     none = e;
-    goes = record { is = ap (λ (k : ℕ). reading_on (judge gr) (after r.set s x) (place + k) (drop m rest)) w.long ∙ h };
+    goes = record { is = rw (w.long) (h) };
   }
   by_row_of x m w (Some (section, reason)) e h = cc
 
@@ -138,15 +119,13 @@ pub data Opening (r : Run) (first : Bool) (s : State) (place : ℕ) (rest : List
 
 -- the state after a section head
 pub head_after : (set : Set) (s : State) (id : ℕ) (name : List ℕ) (instance v k : ℕ) (d : Device) → device_named set name instance ≡ Some k
-    → slice_get set.devices k ≡ Some d
-    → after set s (Head id name instance v) ≡ opened set (settled set s) k id d v
+    → slice_get set.devices k ≡ Some d → after set s (Head id name instance v) ≡ opened set (settled set s) k id d v
 head_after set s id name instance v k d named there = rw (named, there)
 
 -- by the unit that is there
 pub opening : {r : Run} (first c : Bool) (d : Due) (s : State) {place : ℕ} {rest more : List ℕ} → length s.came ≡ length r.set.devices → is_between d ≡ true
     → (x : Piece) → May (Between first c) x → first_of r.set r.names d (known_at r.set s) x ≡ None → rest ≡ spell x ++ more
-    → Goes r (after r.set s x) (place + length (spell x)) more
-    → Opening r first (settled r.set s) place rest
+    → Goes r (after r.set s x) (place + length (spell x)) more → Opening r first (settled r.set s) place rest
 opening {r} _ c d s long b _ (AtConfiguration _ name le) none there goes =
     Names name _ refl there (name_is_one r.set r.names d (known_at r.set s) name none) le goes
 opening _ c d s long b _ (AtLongName _ size lt f) none there goes = cc
@@ -160,8 +139,7 @@ opening {r} _ _ d s {more = more} long b _ (AtHead first c id name instance v f 
     (rw (h.name_is, h.instance_is, ← head_after r.set s id name instance v h.k h.device h.named h.there) goes)
 
 pub free_opens : {r : Run} {s : State} (first c : Bool) {place : ℕ} {rest : List ℕ} → s.spot ≡ Free first c → IsBytes rest
-    → length s.came ≡ length r.set.devices → Goes r s place rest
-    → Opening r first (record s { spot = Free false false }) place rest
+    → length s.came ≡ length r.set.devices → Goes r s place rest → Opening r first (record s { spot = Free false false }) place rest
 free_opens {r} {s} first c e ok long h =
     let s1 : State = record s { spot = Free first c } in
     let u = steps {s = s1} ok (rw (← e) h) refl in

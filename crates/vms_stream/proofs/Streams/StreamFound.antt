@@ -1,37 +1,17 @@
 -- What is accepted is a stream at the front of the input: its sections, in any order and each once, and all of it.
-use Rattle.std.proofs.Common.{◌≡◌, ℕ, zero, suc, ◌+◌, ◌<◌, List, ◌∷◌, ◌++◌, length, slice_set, Some, None, Ok, Err, refl, sym, ap, ◌∙◌, subst, arith}
-use Rattle.std.proofs.Common.{append_assoc, length-append, Bool, true, false, [], inl, inr, map, Option}
-use Rattle.std.specs.List.{slice_get}
-use Rattle.std.proofs.lemmas.List.{length-set}
-use Rattle.vms_kinds.specs.Bytes.{IsBytes}
-use Rattle.vms_kinds.proofs.ByteLemmas.{bytes_rest}
-use Rattle.vms_spec.specs.Sets.{Device, Set}
-use Rattle.vms_spec.specs.Layout.{device_cells, desc_cells}
-use Rattle.vms_spec.specs.Images.{Image, default_image, IsVersionOf}
-use Rattle.vms_spec.specs.Streams.{section_head, EachOnce, be32, magic, stream_head, configuration, end_mark, trailer, IsConfiguration, IsTrailer}
-use Rattle.vms_spec.specs.Taking.{Taken, Progress, take_desc, takers, cells_of}
-use Rattle.vms_spec.specs.Good.{IsGood}
-use Rattle.vms_bodies.proofs.Places.{same_refl}
-use Rattle.vms_bodies.proofs.BodyLaws.{at_set}
-use Rattle.vms_bodies.proofs.FoundLaws.{body_found}
-use Rattle.vms_bodies.proofs.SectionLaws.{own_are, defaults_at, defaults_long}
-use Rattle.vms_bodies.proofs.ComeLaws.{none_versions, all_came, falses, defaults_of}
-use Rattle.vms_bodies.proofs.AgreeLaws.{its_spelled}
-use Rattle.std.proofs.lemmas.Option.{slice_get_within}
-use Rattle.std.proofs.Math.Nat.{add-zero}
-use Rattle.vms_bodies.proofs.PartLaws.{at_other, none_of, none_came, beside_start}
-use Rattle.vms_bodies.proofs.FineLaws.{Fine, fine_normal, fine_valid}
-use Rattle.vms_stream.specs.SoFar.{Tail, Unknown, Footed, Bare}
-use Rattle.vms_stream.specs.State.{State, Free, Ended, Spot, due_by, Headed, Over, known_at, after, between, by_state, at_start}
-use Rattle.vms_stream.specs.Streams.{IsSection, SectionsSpell, Takes}
+use Rattle.vms_stream.proofs.Facade.{◌≡◌, ℕ, zero, suc, ◌+◌, ◌<◌, List, ◌∷◌, ◌++◌, length, slice_set, Some, None, Ok, Err, refl, sym, ap, ◌∙◌, subst, arith}
+use Rattle.vms_stream.proofs.Facade.{append_assoc, length-append, Bool, true, false, [], inl, inr, map, Option, slice_get, length-set, slice_get_within}
+use Rattle.vms_stream.proofs.Facade.{add-zero, IsBytes, bytes_rest, Device, Set, device_cells, desc_cells, Image, default_image, IsVersionOf, section_head}
+use Rattle.vms_stream.proofs.Facade.{EachOnce, be32, magic, stream_head, configuration, end_mark, trailer, IsConfiguration, IsTrailer, Taken, Progress}
+use Rattle.vms_stream.proofs.Facade.{take_desc, takers, cells_of, IsGood, same_refl, at_set, body_found, own_are, defaults_at, defaults_long, none_versions}
+use Rattle.vms_stream.proofs.Facade.{all_came, falses, defaults_of, its_spelled, at_other, none_of, none_came, beside_start, Fine, fine_normal, fine_valid}
+use Rattle.vms_stream.proofs.Facade.{Tail, Unknown, Footed, Bare, State, Free, Ended, Headed, known_at, after, between, by_state, at_start, IsSection}
+use Rattle.vms_stream.proofs.Facade.{SectionsSpell, Takes, Piece, spell, Accepted, AMagic, AVersion, AfterEnd, Nothing, May, AtMagic, AtVersion, AtDescription}
+use Rattle.vms_stream.proofs.Facade.{AtLongText, AtTrailing, first_of, owes, reading}
+use Rattle.vms_stream.specs.State.{Over}
 use Rattle.vms_stream.proofs.Bodies.Body.{Reads, body_read}
 use Rattle.vms_stream.proofs.Streams.Steps.{Run, Goes, Opening, Closes, Opens, Names, opened, next, steps, free_opens}
 use Rattle.vms_stream.proofs.Streams.Inside.{Agrees, tail_of, closing, Section, image_so, subs_found}
-use Rattle.vms_spec.specs.Units.{Piece, spell}
-use Rattle.vms_spec.specs.Readings.{Accepted}
-use Rattle.vms_stream.specs.Dues.{AMagic, AVersion, AfterEnd, Nothing, May, AtMagic, AtVersion, AtDescription, AtLongText, AtTrailing}
-use Rattle.vms_stream.specs.Table.{first_of}
-use Rattle.vms_stream.specs.Judge.{owes, reading}
 use Rattle.vms_stream.proofs.Streams.UnitRows.{magic_is, version_is_3, trailing_never}
 
 -- the state after device k's section
@@ -99,7 +79,6 @@ module _ (r : Run) (good : IsGood r.set) where
         let okm : IsBytes more = bytes_rest head more (subst IsBytes spelled ok) in
         let sound = good.devices k d there in
         let b = body_found all r.set.structs good.structs d.desc v 0 start q sound okm (omega (arith, defaults_long all)) (own_are r.set d v) is in
-        let last : IsBytes q.rest = bytes_rest b.bytes q.rest (subst IsBytes b.front okm) in
         let m = same_refl (0 + length (desc_cells (cells_of (takers r.set.structs (length r.set.structs))) d.desc)) q.numbers in
         let so_far : Fine r.set d v none q.numbers = record {
           versions = none_versions d.subs;
@@ -112,7 +91,7 @@ module _ (r : Run) (good : IsGood r.set) where
         } in
         let q' =
         subs_found r good c (length-set s.came k true ∙ long) v (suc (length q.rest)) None reads.0 none q.numbers q.place q.rest reads.1
-        (omega arith) last so_far (record { is = sym reads.2 ∙ h.is }) in
+        (omega arith) (bytes_rest b.bytes q.rest (subst IsBytes b.front okm)) so_far (record { is = sym reads.2 ∙ h.is }) in
         let close = closing q'.footed id in
         record {
           id = id;
@@ -133,7 +112,7 @@ module _ (r : Run) (good : IsGood r.set) where
             subs = q'.subs;
             whole = refl;
           };
-          spelled = spelled ∙ ap (λ (l : List ℕ). head ++ l) (b.front ∙ ap (λ (l : List ℕ). b.bytes ++ l) q'.spelled)
+          spelled = spelled ∙ ap (λ l. head ++ l) (b.front ∙ ap (λ l. b.bytes ++ l) q'.spelled)
               ∙ rw (
                 append_assoc ((head ++ b.bytes) ++ q'.tail) close q'.after,
                 append_assoc (head ++ b.bytes) q'.tail
@@ -152,8 +131,7 @@ module _ (r : Run) (good : IsGood r.set) where
         }
 
     pub section_found : {rest : List ℕ} → length s.came ≡ length r.set.devices → IsBytes rest → id < 4294967296 → rest ≡ head ++ more → IsVersionOf d.desc v
-        → Goes r (opened r.set s k id d v) (place + length head) more
-        → HasRead r s k d place rest
+        → Goes r (opened r.set s k id d v) (place + length head) more → HasRead r s k d place rest
     section_found long ok id_fits spelled version h =
         by_taken long ok id_fits spelled version h (take_desc (takers r.set.structs (length r.set.structs)) d.desc v 0 start) refl
         (body_read r.set r.names c.state d (record (default_image r.set d) { version = v }) k id None there room good.structs d.desc v 0
@@ -164,7 +142,6 @@ module _ (r : Run) (good : IsGood r.set) where
       → (h : HasRead r s k d place rest) → SectionsRead r (came_to s k h.image h.footed) (place + length h.bytes) h.after → SectionsRead r s place rest
   sections_next {s} {place} {rest} {k} {d} came_long images_long there new h q =
       let inside : k < length r.set.devices = slice_get_within r.set.devices k d there in
-      let here : slice_get q.states k ≡ Some h.image = q.kept k (at_set s.came k true (omega arith)) ∙ at_set s.images k h.image (omega arith) in
       record {
         order = k ∷ q.order;
         each_once = (new, q.each_once);
@@ -177,9 +154,8 @@ module _ (r : Run) (good : IsGood r.set) where
         sections_are = (
           h.bytes,
           q.sections,
-          rw (there, here) (h.id, h.is),
-          subst (λ (b : Bool). SectionsSpell r.set b q.states q.order q.sections)
-              (same_footed h.footed q.footed q.agrees) q.sections_are,
+          rw (there, (q.kept k (at_set s.came k true (omega arith)) ∙ at_set s.images k h.image (omega arith))) (h.id, h.is),
+          rw (same_footed h.footed q.footed q.agrees) at q.sections_are,
           refl,
         );
         long = q.long ∙ length-set s.images k h.image;
@@ -194,8 +170,7 @@ module _ (r : Run) (good : IsGood r.set) where
 
   -- the sections, in any order, each once
   pub sections_found : (most : ℕ) (s : State) {place : ℕ} {rest : List ℕ} → length s.came ≡ length r.set.devices → length s.images ≡ length r.set.devices
-      → length rest < most → IsBytes rest
-      → Opening r false s place rest → SectionsRead r s place rest
+      → length rest < most → IsBytes rest → Opening r false s place rest → SectionsRead r s place rest
   sections_found zero s came_long images_long less ok o = absurd (omega arith)
   sections_found (suc most) s {place} came_long images_long less ok (Closes more e all goes) =
       let a = any s.tail in
@@ -219,10 +194,9 @@ module _ (r : Run) (good : IsGood r.set) where
   sections_found (suc most) s {place} {rest} came_long images_long less ok (Opens k id v d more f e there new version goes) =
       let inside : k < length r.set.devices = slice_get_within r.set.devices k d there in
       let h = section_found s place k id v d more there (omega arith) came_long ok f e version goes in
-      let ok2 : IsBytes h.after = bytes_rest h.bytes h.after (subst IsBytes h.spelled ok) in
       sections_next came_long images_long there new h
       (sections_found most (came_to s k h.image h.footed) (length-set s.came k true ∙ came_long) (length-set s.images k h.image ∙ images_long)
-      (omega (arith, ap length h.spelled, length-append h.bytes h.after, has_bytes h.is)) ok2 h.opens)
+      (omega (arith, ap length h.spelled, length-append h.bytes h.after, has_bytes h.is)) (bytes_rest h.bytes h.after (subst IsBytes h.spelled ok)) h.opens)
     where
       has_bytes : {image : Image} {footed : Bool} {bytes : List ℕ} {id : ℕ} → IsSection r.set d image id footed bytes → 0 < length bytes
       has_bytes {image = image} {footed = footed} {bytes = bytes} {id = id} s =
@@ -259,7 +233,7 @@ module _ {r : Run} (s : State) {place : ℕ} {rest : List ℕ} (ok : IsBytes res
   -- if nothing is due, a reading has ended
   over_is : s.spot ≡ Over → Goes r s place rest → (place ≡ r.taken) × (s ≡ r.end)
   over_is over h = elim (next ok h) [
-    | inl t ↦ absurd (nothing_may t.unit (subst (λ (p : Spot). May (due_by r.set s p) t.unit) over t.may))
+    | inl t ↦ absurd (nothing_may t.unit (rw over at t.may))
     | inr t ↦ (t.place_is, t.end_is)
   ]
 
@@ -268,8 +242,7 @@ last s = record s { spot = Ended }
 
 module _ {r : Run} (s : State) {place : ℕ} {rest : List ℕ} (ok : IsBytes rest) where
   by_text : {more : List ℕ} (x : Piece) → May AfterEnd x → first_of r.set r.names AfterEnd (known_at r.set (last s)) x ≡ None → rest ≡ spell x ++ more
-      → Goes r (after r.set (last s) x) (place + length (spell x)) more
-      → Ending r s place rest
+      → Goes r (after r.set (last s) x) (place + length (spell x)) more → Ending r s place rest
   by_text _ (AtLongText size lt f) none e goes = cc
   by_text _ (AtTrailing b f) none e goes = absurd (trailing_never r.set r.names AfterEnd (known_at r.set (last s)) b refl none)
   by_text {more} _ (AtDescription text le) none e goes =
@@ -282,8 +255,8 @@ module _ {r : Run} (s : State) {place : ℕ} {rest : List ℕ} (ok : IsBytes res
         described = (le, refl);
         all = λ f. cc;
         long = sym o.0;
-        machine_is = ap (λ (s : State). s.machine) (sym o.1);
-        images_are = ap (λ (s : State). s.images) (sym o.1);
+        machine_is = rw (sym o.1);
+        images_are = rw (sym o.1);
       }
 
   ending_found : Goes r (last s) place rest → Ending r s place rest
@@ -297,8 +270,8 @@ module _ {r : Run} (s : State) {place : ℕ} {rest : List ℕ} (ok : IsBytes res
       described = refl;
       all = λ f. none_left rest u.over;
       long = sym u.place_is ∙ sym (add-zero place);
-      machine_is = ap (λ (s : State). s.machine) (sym u.end_is);
-      images_are = ap (λ (s : State). s.images) (sym u.end_is);
+      machine_is = rw (sym u.end_is);
+      images_are = rw (sym u.end_is);
     }
   ]
 
@@ -323,20 +296,20 @@ module _ (r : Run) (good : IsGood r.set) (input : List ℕ) where
         text = d.text;
         stream = record {
           named = named;
-          configured = subst (λ (m : Option (List ℕ)). IsConfiguration r.names m named) (sym d.machine_is) c;
+          configured = rw d.machine_is c;
           one_each = ap length d.images_are ∙ q.long ∙ defaults_of r.set r.set.devices;
           order = q.order;
           each_once = q.each_once;
           sections = q.sections;
           footed = q.footed;
           bare = λ f. d.machine_is ∙ bare q.footed q.agrees f;
-          spelled = subst (λ (l : List Image). SectionsSpell r.set q.footed l q.order q.sections) (sym d.images_are) q.sections_are;
+          spelled = subst (λ l. SectionsSpell r.set q.footed l q.order q.sections) (sym d.images_are) q.sections_are;
           tail = d.tail;
           described = d.described;
           whole = refl;
         };
         rest = d.after;
-        prefix = e ∙ ap (λ (l : List ℕ). stream_head ++ (named ++ l)) (q.spelled ∙ ap (λ (l : List ℕ). q.sections ++ (0x00 ∷ l)) d.spelled) ∙ rw (
+        prefix = e ∙ ap (λ l. stream_head ++ (named ++ l)) (q.spelled ∙ ap (λ l. q.sections ++ (0x00 ∷ l)) d.spelled) ∙ rw (
           append_assoc front d.tail d.after,
           append_assoc ((stream_head ++ named) ++ q.sections) end_mark (d.tail ++ d.after),
           append_assoc (stream_head ++ named) q.sections (end_mark ++ (d.tail ++ d.after)),
@@ -361,8 +334,7 @@ module _ (r : Run) (good : IsGood r.set) (input : List ℕ) where
   first_found rest ok e (Names name more first f one le goes) =
       let okm : IsBytes more = bytes_rest (configuration name) more (subst IsBytes f ok) in
       stream_of (configuration name) more Footed (Some name) okm (one, le, refl) (λ footed a b. let wrong = sym a ∙ b in cc)
-      (e ∙ ap (λ (l : List ℕ). stream_head ++ l) f)
-      (free_opens false true refl okm (falses r.set.devices) goes)
+      (e ∙ ap (λ l. stream_head ++ l) f) (free_opens false true refl okm (falses r.set.devices) goes)
 
   by_version : {rest more : List ℕ} → IsBytes rest → input ≡ magic ++ rest → (x : Piece) → May AVersion x
       → first_of r.set r.names AVersion (known_at r.set (record (at_start r.set) { spot = Headed })) x ≡ None
@@ -370,11 +342,10 @@ module _ (r : Run) (good : IsGood r.set) (input : List ℕ) where
   by_version {more = more} ok e _ (AtVersion v f) none g goes =
       let g3 = rw (version_is_3 r.set r.names AVersion (known_at r.set (record (at_start r.set) { spot = Headed })) v none) at g in
       let okm : IsBytes more = bytes_rest (be32 3) more (subst IsBytes g3 ok) in
-      first_found more okm (e ∙ ap (λ (l : List ℕ). magic ++ l) g3) (free_opens true false refl okm (falses r.set.devices) goes)
+      first_found more okm (e ∙ ap (λ l. magic ++ l) g3) (free_opens true false refl okm (falses r.set.devices) goes)
 
   by_magic : {more : List ℕ} → IsBytes input → (x : Piece) → May AMagic x → first_of r.set r.names AMagic (known_at r.set (at_start r.set)) x ≡ None
-      → input ≡ spell x ++ more
-      → Goes r (after r.set (at_start r.set) x) (0 + length (spell x)) more → IsTaken
+      → input ≡ spell x ++ more → Goes r (after r.set (at_start r.set) x) (0 + length (spell x)) more → IsTaken
   by_magic {more} ok _ (AtMagic bytes four) none e goes =
       let e1 : input ≡ magic ++ more = rw (magic_is r.set r.names AMagic (known_at r.set (at_start r.set)) bytes none) at e in
       let okm : IsBytes more = bytes_rest magic more (subst IsBytes e1 ok) in

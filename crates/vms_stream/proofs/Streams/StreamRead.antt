@@ -1,38 +1,21 @@
 -- What an input takes is accepted, so it takes at most one stream: its sections are read, and all of it.
-use Rattle.std.proofs.Common.{◌≡◌, ℕ, ◌+◌, ◌^◌, ◌<◌, ◌≤◌, List, ◌∷◌, ◌++◌, length, drop, slice_set, Option, Some, None, ℤ, refl, sym, ap, ◌∙◌, subst, arith}
-use Rattle.std.proofs.Common.{append_assoc, length-append, Bool, true, false, not, ◌==◌, [], map}
-use Rattle.std.specs.List.{slice_get}
-use Rattle.std.proofs.lemmas.List.{length-set}
-use Rattle.vms_spec.specs.Lists.{position}
-use Rattle.vms_spec.specs.Sets.{Device, Set}
-use Rattle.vms_spec.specs.Images.{Image, default_image, own_slots, Spells, IsNormal, IsValid}
-use Rattle.vms_spec.specs.Streams.{section_head, sub_head, ComesOnce, SubsSpell, EachOnce, be32, magic, stream_head, configuration, end_mark, IsTrailer}
-use Rattle.vms_spec.specs.SoFar.{part_slots}
-use Rattle.vms_spec.specs.Units.{Head, SubHead, Foot, End, Magic, Version, Configuration, Description}
-use Rattle.vms_spec.specs.Taking.{Progress}
-use Rattle.vms_spec.specs.Readings.{Reading, Accepted}
-use Rattle.vms_bodies.specs.Whole.{reading_on}
-use Rattle.vms_spec.specs.Good.{IsGood}
-use Rattle.vms_bodies.proofs.BodyLaws.{at_set}
-use Rattle.std.proofs.lemmas.Option.{slice_get_within}
-use Rattle.std.proofs.Math.Nat.{add-zero}
-use Rattle.vms_bodies.proofs.PartLaws.{none_of, version_at, Beside, beside_first, beside_next, beside_end}
-use Rattle.vms_bodies.proofs.FineLaws.{part_place}
-use Rattle.vms_bodies.proofs.SubsOnly.{so_far, image_at, so_at_last, own_taken, part_taken, sub_so}
-use Rattle.vms_bodies.proofs.ComeLaws.{none_missing, came_at, same_lists, agrees, falses, defaults_of, never_true}
-use Rattle.vms_stream.specs.SoFar.{Tail, Unknown, Footed, Bare, Known}
-use Rattle.vms_stream.specs.Dues.{Due, Between, AfterFields, fits_four, is_foot, is_next, May, AtHead, AtEnd, AtSubHead, AtFoot, AtNext, AtMagic, AtVersion}
-use Rattle.vms_stream.specs.Dues.{AtConfiguration, AtDescription}
-use Rattle.vms_stream.specs.Table.{first_of}
-use Rattle.vms_stream.specs.Judge.{judge, reading}
-use Rattle.vms_stream.specs.State.{State, Spot, Free, Ended, known_at, after, by_state, Headed, Over, between, at_start}
-use Rattle.vms_stream.specs.Streams.{IsSection, HasSection, SectionsSpell, IsStream, Takes}
-use Rattle.vms_stream.proofs.Bodies.Body.{Reads, body_read}
+use Rattle.vms_stream.proofs.Facade.{◌≡◌, ℕ, ◌+◌, ◌^◌, ◌<◌, ◌≤◌, List, ◌∷◌, ◌++◌, length, drop, slice_set, Option, Some, None, refl, sym, ap, ◌∙◌, subst, arith}
+use Rattle.vms_stream.proofs.Facade.{append_assoc, length-append, Bool, true, false, not, ◌==◌, [], map, slice_get, length-set, slice_get_within, add-zero}
+use Rattle.vms_stream.proofs.Facade.{position, Device, Set, Image, default_image, own_slots, Spells, IsNormal, IsValid, section_head, sub_head, ComesOnce}
+use Rattle.vms_stream.proofs.Facade.{SubsSpell, EachOnce, be32, magic, stream_head, configuration, end_mark, IsTrailer, part_slots, Head, SubHead, Foot, End}
+use Rattle.vms_stream.proofs.Facade.{Magic, Version, Configuration, Description, Progress, Reading, Accepted, reading_on, IsGood, at_set, none_of, version_at}
+use Rattle.vms_stream.proofs.Facade.{Beside, beside_first, beside_next, beside_end, part_place, so_far, so_at_last, own_taken, part_taken, sub_so, none_missing}
+use Rattle.vms_stream.proofs.Facade.{came_at, same_lists, agrees, falses, defaults_of, never_true, Tail, Unknown, Footed, Bare, Between, AfterFields, fits_four}
+use Rattle.vms_stream.proofs.Facade.{is_foot, is_next, May, AtHead, AtEnd, AtSubHead, AtFoot, AtNext, AtMagic, AtVersion, AtConfiguration, AtDescription}
+use Rattle.vms_stream.proofs.Facade.{first_of, judge, reading, State, Free, Ended, known_at, after, by_state, Headed, between, at_start, IsSection, HasSection}
+use Rattle.vms_stream.proofs.Facade.{SectionsSpell, IsStream, Takes, trailer_at}
+use Rattle.vms_bodies.proofs.SubsOnly.{image_at}
+use Rattle.vms_stream.specs.State.{Over}
+use Rattle.vms_stream.proofs.Bodies.Body.{body_read}
 use Rattle.vms_stream.proofs.Streams.UnitRows.{head_passes, sub_passes, foot_passes, end_passes, name_passes}
 use Rattle.vms_stream.proofs.Streams.Steps.{g, unit_on, opened, settled, head_after}
 use Rattle.vms_stream.proofs.Streams.Inside.{Agrees, tail_of, closing, Section, stands, over, knows, known_is, due_is, held_is, subs_are, sub_after}
 use Rattle.vms_stream.proofs.Streams.StreamFound.{came_to}
-use Rattle.vms_stream.specs.Finding.{trailer_at}
 
 -- a section may begin, and the end mark may come
 pub record IsFree (set : Set) (names : List (List ℕ)) (s : State) : Type 0 where
@@ -42,19 +25,17 @@ pub record IsFree (set : Set) (names : List (List ℕ)) (s : State) : Type 0 whe
 
 pub free_is : (set : Set) (names : List (List ℕ)) (first c : Bool) (s : State) → s.spot ≡ Free first c → IsFree set names s
 free_is set names first c s e =
-    subst (IsFree set names) (ap (λ (p : Spot). record s { spot = p }) (sym e))
+    subst (IsFree set names) (ap (λ p. record s { spot = p }) (sym e))
     (record { held = refl; head = λ id name instance v f g h. AtHead first c id name instance v f g h; end = AtEnd first c })
 
 -- after the fields of a section, if the stream isn't footed
 next_is : (t : Tail) → Agrees t false → (is_next t 0x00 ≡ true) × (is_next t 0x04 ≡ true)
-next_is Unknown a = (refl, refl)
 next_is Footed a = cc
-next_is Bare a = (refl, refl)
+next_is _ a = (refl, refl)
 
 foot_may : (t : Tail) → Agrees t true → is_foot t 0x7e ≡ true
-foot_may Unknown a = refl
-foot_may Footed a = refl
 foot_may Bare a = cc
+foot_may _ a = refl
 
 -- from s on these bytes are read, up to where the next section may begin
 pub record ReadsTo (set : Set) (names : List (List ℕ)) (s to : State) (place : ℕ) (bytes rest : List ℕ) : Type 0 where
@@ -73,8 +54,7 @@ read_from : {set : Set} {names : List (List ℕ)} {s to : State} {place : ℕ} {
 read_from earlier at all r reads = record { state = r.state; free = r.free; is = r.is; at = r.at; reads = reads }
 
 module _ (set : Set) (names : List (List ℕ)) (good : IsGood set) (c : Section set) (image : Image) (normal : IsNormal set c.device image)
-    (valid : IsValid set c.device image) (id_fits : c.id < 4294967296) (footed : Bool)
-    (fits : Agrees c.state.tail footed) where
+    (valid : IsValid set c.device image) (id_fits : c.id < 4294967296) (footed : Bool) (fits : Agrees c.state.tail footed) where
   abbrev J : State → ℕ → List ℕ → Option (Reading State)
   J = reading_on (judge (by_state set names))
 
@@ -113,7 +93,7 @@ module _ (set : Set) (names : List (List ℕ)) (good : IsGood set) (c : Section 
         };
         is = refl;
         at = λ e. cc;
-        reads = ap (λ (x : ℕ). reading_on (judge (by_state set names)) s x rest) (sym (add-zero place));
+        reads = ap (λ x. reading_on (judge (by_state set names)) s x rest) (sym (add-zero place));
       }
 
   -- from a body's end on
@@ -121,14 +101,10 @@ module _ (set : Set) (names : List (List ℕ)) (good : IsGood set) (c : Section 
       → Beside now left image.came → ComesOnce left order
       → (place : ℕ) (tail rest : List ℕ) → SubsSpell set c.device image order tail → To (stands c (so now) part i) place (tail ++ closing footed c.id) rest
   subs_read [] part i now left done beside once place tail rest spell =
-      let same : now ≡ image.came = beside_end now left image.came beside once in
       let last : so now ≡ image =
-      ap so same ∙ ap (λ (m : List ℤ). record { version = image.version; came = image.came; numbers = m })
+      ap so (beside_end now left image.came beside once) ∙ ap (λ m. record { version = image.version; came = image.came; numbers = m })
       (so_at_last set names good c.k c.id c.device c.there image normal valid) in
-      let all : drop i (part_slots set (Some c.device) image part) ≡ [] =
-      ap (λ (y : Image). drop i (part_slots set (Some c.device) y part)) (sym last) ∙ done in
-      subst (λ (y : Image). To (stands c y part i) place (tail ++ closing footed c.id) rest) (sym last)
-      (subst (λ (l : List ℕ). To (stands c image part i) place (l ++ closing footed c.id) rest) (sym spell) (close footed fits part i place rest all))
+      rw last (rw spell (close footed fits part i place rest (rw (sym last) (done))))
   subs_read (j ∷ order) part i now left done beside once place tail rest spell =
       let w = once.0.0 in
       let b = beside_next now left image.came j w beside once.0.1 in
@@ -143,33 +119,27 @@ module _ (set : Set) (names : List (List ℕ)) (good : IsGood set) (c : Section 
       let more = (later ++ closing footed c.id) ++ rest in
       let start = stands c (so now) part i in
       let image1 : Image = record { version = image.version; came = now1; numbers = so_far set names good c.k c.id c.device c.there image normal valid now } in
-      let set_at : slice_get now1 j ≡ Some (Some w) = at_set now j (Some w) (slice_get_within now j None b.0) in
-      let top = good.sub_version c.k j c.device sub c.there s.there in
-      let w_fits : w < 2 ^ 32 = (let le : w ≤ sub.desc.version = s.version.1 in omega arith) in
+      let w_fits : w < 2 ^ 32 = (let le : w ≤ sub.desc.version = s.version.1 in omega (arith, good.sub_version c.k j c.device sub c.there s.there)) in
       let named = good.distinct_subs c.k j c.device sub c.there s.there in
       let p : Progress = record { numbers = image1.numbers; place = place + length head; rest = s.body ++ more } in
       let none : (g set names).reason start (SubHead name w) ≡ None =
-      ap (λ (x : Due). first_of set names x (known_at set start) (SubHead name w)) (due_is c (so now) part i done)
-      ∙ ap (λ (x : Known). first_of set names (AfterFields c.k c.state.tail) x (SubHead name w)) (known_is c (so now) part i)
+      ap (λ x. first_of set names x (known_at set start) (SubHead name w)) (due_is c (so now) part i done)
+      ∙ ap (λ x. first_of set names (AfterFields c.k c.state.tail) x (SubHead name w)) (known_is c (so now) part i)
       ∙ sub_passes set names (AfterFields c.k c.state.tail) (knows c (so now) part i) c.device.subs name w j sub
       (subs_are c (so now) part i) named s.there b.0 s.version in
-      let reads = subst (Reads set names c.state c.device image1 c.k c.id (Some j) c.there c.room 0 p)
-      (part_taken set names good c.k c.id c.device c.there image normal valid now j w sub (place + length head) s.body more s.there b.0 b.1 s.spells)
-      (body_read set names c.state c.device image1 c.k c.id (Some j) c.there c.room good.structs sub.desc w (part_place set c.device j)
-      (good.subs c.k j c.device sub c.there s.there) (λ m. rw (s.there, set_at)) p) in
+      let reads = rw (part_taken set names good c.k c.id c.device c.there image normal valid now j w sub (place + length head) s.body more s.there b.0 b.1 s.spells)
+      at (body_read set names c.state c.device image1 c.k c.id (Some j) c.there c.room good.structs sub.desc w (part_place set c.device j)
+      (good.subs c.k j c.device sub c.there s.there) (λ m. rw (s.there, (at_set now j (Some w) (slice_get_within now j None b.0)))) p) in
       let r = subs_read order (Some j) reads.0 now1 (slice_set left j None) reads.1 b.2 once.1 ((place + length head) + length s.body) later rest spell.3 in
       let is : (tail ++ closing footed c.id) ++ rest ≡ head ++ (s.body ++ more) =
-      ap (λ (l : List ℕ). (l ++ closing footed c.id) ++ rest) (spell.4 ∙ ap (λ (l : List ℕ). l ++ later) s.is)
-      ∙ ap (λ (l : List ℕ). l ++ rest) (append_assoc (head ++ s.body) later (closing footed c.id)) ∙ append_assoc (head ++ s.body)
+      ap (λ l. (l ++ closing footed c.id) ++ rest) (spell.4 ∙ ap (λ l. l ++ later) s.is)
+      ∙ ap (λ l. l ++ rest) (append_assoc (head ++ s.body) later (closing footed c.id)) ∙ append_assoc (head ++ s.body)
       (later ++ closing footed c.id) rest ∙ append_assoc head s.body more in
       read_from start place (tail ++ closing footed c.id) r
       (ap (J start place) is
       ∙ unit_on set names start (SubHead name w) place (s.body ++ more) (held_is c (so now) part i done)
       (rw (due_is c (so now) part i done) (AtSubHead c.k c.state.tail name w w_fits)) none
-      ∙ ap (λ (s : State). J s p.place p.rest) (sub_after c (so now) part i j name w named)
-      ∙ reads.2
-      ∙ r.reads
-      ∙ ap (λ (x : ℕ). J r.state x rest)
+      ∙ ap (λ s. J s p.place p.rest) (sub_after c (so now) part i j name w named) ∙ reads.2 ∙ r.reads ∙ ap (λ x. J r.state x rest)
       (omega (
         arith,
         ap length spell.4,
@@ -188,18 +158,15 @@ module _ (set : Set) (names : List (List ℕ)) (good : IsGood set) (c : Section 
   section_read place body tail rest order spells once spell =
       let fresh : Image = record (default_image set c.device) { version = image.version } in
       let more = (tail ++ closing footed c.id) ++ rest in
-      let reads = subst (Reads set names c.state c.device fresh c.k c.id None c.there c.room 0
-      (record { numbers = fresh.numbers; place = place; rest = body ++ more }))
-      (own_taken set names good c.k c.id c.device c.there image normal valid place body more spells)
-      (body_read set names c.state c.device fresh c.k c.id None c.there c.room good.structs c.device.desc image.version 0 (good.devices c.k c.device c.there)
-      (λ m. refl) (record { numbers = fresh.numbers; place = place; rest = body ++ more })) in
+      let reads = rw (own_taken set names good c.k c.id c.device c.there image normal valid place body more spells)
+      at (body_read set names c.state c.device fresh c.k c.id None c.there c.room good.structs c.device.desc image.version 0
+      (good.devices c.k c.device c.there) (λ m. refl) (record { numbers = fresh.numbers; place = place; rest = body ++ more })) in
       let r = subs_read order None reads.0 (none_of c.device.subs) image.came reads.1 (beside_first c.device.subs image.came normal.subs) once
       (place + length body) tail rest spell in
       read_from (stands c fresh None 0) place (body ++ (tail ++ closing footed c.id)) r
       (ap (J (stands c fresh None 0) place) (append_assoc body (tail ++ closing footed c.id) rest)
-      ∙ reads.2
-      ∙ r.reads
-      ∙ ap (λ (x : ℕ). J r.state x rest) (omega (arith, length-append body (tail ++ closing footed c.id))))
+      ∙ reads.2 ∙ r.reads
+      ∙ ap (λ x. J r.state x rest) (omega (arith, length-append body (tail ++ closing footed c.id))))
 
 -- between sections, these devices' sections and the end mark are read
 pub record ReadsOn (set : Set) (names : List (List ℕ)) (s to : State) (images : List Image) (place : ℕ) (sections after : List ℕ) : Type 0 where
@@ -235,11 +202,8 @@ module _ (set : Set) (names : List (List ℕ)) (good : IsGood set) where
   section_on k d image there s to e free room new footed fits place id front rest is =
       let J = reading_on (judge (by_state set names)) in
       let c : Section set = record { state = record to { came = slice_set to.came k true }; k = k; id = id; device = d; there = there; room = room } in
-      let x = Head id d.desc.name d.instance image.version in
       let head = section_head id d.desc.name d.instance image.version in
       let tops = good.instance k d there in
-      let top : d.desc.version < 2 ^ 32 = tops.1 in
-      let high : image.version ≤ d.desc.version = is.normal.version.1 in
       let named = good.distinct k d there in
       let close = closing footed id in
       let more = is.body ++ (is.tail ++ close) in
@@ -247,20 +211,17 @@ module _ (set : Set) (names : List (List ℕ)) (good : IsGood set) where
       (place + length head) is.body is.tail rest is.order is.own is.each_once is.subs in
       let whole : front ≡ head ++ more = is.whole ∙ append_assoc (head ++ is.body) is.tail close ∙ append_assoc head is.body (is.tail ++ close) in
       read_from s place front r
-      (ap (λ (l : List ℕ). J s place (l ++ rest)) whole
-      ∙ ap (J s place) (append_assoc head more rest)
-      ∙ unit_on set names s x place (more ++ rest) free.held
+      (ap (λ l. J s place (l ++ rest)) whole
+      ∙ ap (J s place) (append_assoc head more rest) ∙ unit_on set names s (Head id d.desc.name d.instance image.version) place (more ++ rest) free.held
       (free.head id d.desc.name d.instance image.version is.fits tops.0 (omega arith))
       (head_passes set names ((g set names).due s) (known_at set s) id d.desc.name d.instance image.version k d named there
-      (subst (λ (y : State). slice_get y.came k ≡ Some false) (sym e) new) is.normal.version)
-      ∙ ap (λ (y : State). J y (place + length head) (more ++ rest))
-      (head_after set s id d.desc.name d.instance image.version k d named there ∙ ap (λ (y : State). opened set y k id d image.version) e)
-      ∙ r.reads
-      ∙ ap (λ (y : ℕ). J r.state y rest) (omega (arith, ap length whole, length-append head more)))
+      (subst (λ y. slice_get y.came k ≡ Some false) (sym e) new) is.normal.version)
+      ∙ ap (λ y. J y (place + length head) (more ++ rest))
+      (head_after set s id d.desc.name d.instance image.version k d named there ∙ ap (λ y. opened set y k id d image.version) e) ∙ r.reads
+      ∙ ap (λ y. J r.state y rest) (omega (arith, ap length whole, length-append head more)))
 
   pub sections_read : (footed : Bool) (images : List Image) → length images ≡ length set.devices → (order : List ℕ) (s to : State) → settled set s ≡ to
-      → IsFree set names s → Agrees to.tail footed
-      → length to.came ≡ length set.devices → length to.images ≡ length set.devices
+      → IsFree set names s → Agrees to.tail footed → length to.came ≡ length set.devices → length to.images ≡ length set.devices
       → ((k : ℕ) → slice_get to.came k ≡ Some true → slice_get to.images k ≡ slice_get images k) → EachOnce to.came order
       → (place : ℕ) (sections after : List ℕ) → SectionsSpell set footed images order sections → ReadsOn set names s to images place sections after
   sections_read footed images one_each [] s to e free fits came long agree once place sections after spell =
@@ -269,13 +230,12 @@ module _ (set : Set) (names : List (List ℕ)) (good : IsGood set) where
       record {
         came = to.came;
         tail = to.tail;
-        reads = ap (λ (l : List ℕ). J s place (l ++ (0x00 ∷ after))) spell
-            ∙ unit_on set names s End place after free.held free.end
+        reads = rw spell (unit_on set names s End place after free.held free.end
             (end_passes set names ((g set names).due s) (known_at set s)
             (subst (λ (y : State). position not 0 y.came ≡ None) (sym e) (none_missing 0 to.came once)))
             ∙ ap (λ (y : State). J (record y { spot = Ended }) (place + 1) after) e
             ∙ ap (λ (xs : List Image). J (record to { images = xs; spot = Ended }) (place + 1) after) same
-            ∙ ap (λ (x : ℕ). J (record to { images = images; spot = Ended }) x after) (omega (arith, ap length spell));
+            ∙ ap (λ (x : ℕ). J (record to { images = images; spot = Ended }) x after) (omega (arith, ap length spell)));
       }
   sections_read footed images one_each (k ∷ order) s to e free fits came long agree once place sections after spell =
       let J = reading_on (judge (by_state set names)) in
@@ -290,12 +250,9 @@ module _ (set : Set) (names : List (List ℕ)) (good : IsGood set) where
       record {
         came = q.came;
         tail = q.tail;
-        reads = ap (λ (l : List ℕ). J s place (l ++ (0x00 ∷ after))) spell.4
-            ∙ ap (J s place) (append_assoc front later (0x00 ∷ after))
-            ∙ r.reads
-            ∙ q.reads
-            ∙ ap (λ (x : ℕ). J (record to { images = images; came = q.came; tail = q.tail; spot = Ended }) x after)
-            (omega (arith, ap length spell.4, length-append front later));
+        reads = rw (spell.4) (ap (J s place) (append_assoc front later (0x00 ∷ after))
+            ∙ r.reads ∙ q.reads ∙ ap (λ (x : ℕ). J (record to { images = images; came = q.came; tail = q.tail; spot = Ended }) x after)
+            (omega (arith, ap length spell.4, length-append front later)));
       }
 
 -- accepted there, in a state of this machine and these images
@@ -372,7 +329,6 @@ unfolding reading
 read set names good input n machine images t =
     let s = t.stream in
     let s0 = at_start set in
-    let s1 : State = record s0 { spot = Headed } in
     let front = stream_head ++ s.named in
     let more = s.sections ++ (0x00 ∷ (s.tail ++ t.rest)) in
     let is : input ≡ magic ++ (be32 3 ++ (s.named ++ more)) = t.prefix ∙ rw (
@@ -391,9 +347,8 @@ read set names good input n machine images t =
       length-append front s.sections,
       length-append stream_head s.named,
     ) in
-    subst (λ (k : ℕ). EndsIn machine images k (reading (by_state set names) s0 input)) long
-    (before
+    rw long at (before
     (ap (read_on set names s0 0) is
     ∙ unit_on set names s0 (Magic magic) 0 (be32 3 ++ (s.named ++ more)) refl (AtMagic magic refl) refl
-    ∙ unit_on set names s1 (Version 3) 4 (s.named ++ more) refl (AtVersion 3 (omega arith)) refl)
+    ∙ unit_on set names (record s0 { spot = Headed }) (Version 3) 4 (s.named ++ more) refl (AtVersion 3 (omega arith)) refl)
     (named_read set names good t.rest t.all machine s))

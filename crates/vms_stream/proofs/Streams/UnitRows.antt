@@ -1,22 +1,9 @@
 -- What it means for a unit that no row of the table takes it.
-use Rattle.std.proofs.Common.{◌≡◌, ℕ, zero, suc, ◌<◌, List, ◌∷◌, length, Option, Some, None, refl, sym, ap, ◌∙◌, arith, Bool, true, false, not, ◌==◌, ◌&&◌}
-use Rattle.std.proofs.Common.{if◌then◌else◌, [], ◌||◌}
-use Rattle.std.specs.List.{slice_get}
-use Rattle.std.specs.Str.{bytes_eq}
-use Rattle.std.proofs.lemmas.Bool.{ltb-false, le-ltb, eqb-true, eq-eqb, not-false}
-use Rattle.std.proofs.lemmas.Slice.Eq.{bytes_eq-Decides}
-use Rattle.vms_spec.specs.declared.Reason.{Reason}
-use Rattle.vms_spec.specs.Lists.{at_option, position}
-use Rattle.vms_spec.specs.Sets.{Set, Device, Sub}
-use Rattle.vms_spec.specs.Images.{IsVersionOf}
-use Rattle.vms_spec.specs.Streams.{magic, is_one_of}
-use Rattle.vms_spec.specs.Units.{Piece, Magic, Version, Configuration, Head, SubHead, Foot, End, Start, Mark}
-use Rattle.vms_spec.specs.SoFar.{subs_of, device_named}
-use Rattle.vms_bodies.proofs.HeadFound.{found_is}
-use Rattle.vms_bodies.proofs.SubHeads.{sub_is}
-use Rattle.vms_stream.specs.SoFar.{Known}
-use Rattle.vms_stream.specs.Dues.{Due}
-use Rattle.vms_stream.specs.Table.{first_of, is_between, is_after_configuration, wants_foot, is_after_end, is_ram, test_some, is_none}
+use Rattle.vms_stream.proofs.Facade.{◌≡◌, ℕ, zero, suc, ◌<◌, List, ◌∷◌, length, Option, Some, None, refl, sym, ap, ◌∙◌, arith, Bool, true, false, not, ◌==◌}
+use Rattle.vms_stream.proofs.Facade.{◌&&◌, if◌then◌else◌, [], ◌||◌, slice_get, bytes_eq, ltb-false, le-ltb, eqb-true, eq-eqb, not-false, bytes_eq-Decides}
+use Rattle.vms_stream.proofs.Facade.{Reason, at_option, position, Set, Device, Sub, IsVersionOf, magic, is_one_of, Piece, Magic, Version, Configuration, Head}
+use Rattle.vms_stream.proofs.Facade.{SubHead, Foot, End, Start, Mark, subs_of, device_named, found_is, sub_is, Known, Due, first_of, is_between}
+use Rattle.vms_stream.proofs.Facade.{is_after_configuration, wants_foot, is_after_end, is_ram, test_some, is_none}
 use Rattle.vms_spec.specs.declared.Reason.TheVariants as reasons
 
 abbrev pub Line : Type 0
@@ -130,12 +117,10 @@ module _ (set : Set) (names : List (List ℕ)) (d : Due) (so_far : Known) where
       by None n = let f = rw n at e in cc
       by (Some j) n =
           let f = found_is set.devices 0 name instance j n in
-          let same : f.i ≡ j = (let e = f.is in omega arith) in
+          let same : f.i ≡ j = (omega arith) in
           let there = rw same at f.there in
-          let g = rw n at e in
-          let a = not_taken _ _ _ g in
+          let a = not_taken _ _ _ (rw n at e) in
           let b = not_taken _ _ _ (rw there at a.1) in
-          let c = not_taken _ _ _ b.1 in
           record {
             k = j;
             device = f.device;
@@ -144,12 +129,11 @@ module _ (set : Set) (names : List (List ℕ)) (d : Due) (so_far : Known) where
             name_is = (bytes_eq-Decides f.device.desc.name name).0 f.name_is;
             instance_is = f.instance_is;
             new = a.0;
-            version = (ltb-false v f.device.desc.minimum c.0, ltb-false f.device.desc.version v b.0);
+            version = (ltb-false v f.device.desc.minimum (not_taken _ _ _ b.1).0, ltb-false f.device.desc.version v b.0);
           }
 
   pub head_passes : (id : ℕ) (name : List ℕ) (instance v k : ℕ) (device : Device) → device_named set name instance ≡ Some k
-      → slice_get set.devices k ≡ Some device → slice_get so_far.came k ≡ Some false → IsVersionOf device.desc v
-      → row_of (Head id name instance v) ≡ None
+      → slice_get set.devices k ≡ Some device → slice_get so_far.came k ≡ Some false → IsVersionOf device.desc v → row_of (Head id name instance v) ≡ None
   head_passes id name instance v k device named there new version =
       rw (named, new, there, le-ltb device.desc.version v version.1, le-ltb v device.desc.minimum version.0)
 
@@ -171,19 +155,17 @@ module _ (set : Set) (names : List (List ℕ)) (d : Due) (so_far : Known) where
       by None n = let f = rw (is, n) at e in cc
       by (Some j) n =
           let f = sub_is subs 0 name j n in
-          let same : f.i ≡ j = (let e = f.is in omega arith) in
+          let same : f.i ≡ j = (omega arith) in
           let there = rw same at f.there in
-          let g = rw (is, n, there) at e in
-          let a = not_taken _ _ _ g in
+          let a = not_taken _ _ _ (rw (is, n, there) at e) in
           let b = not_taken _ _ _ a.1 in
-          let c = not_taken _ _ _ b.1 in
           record {
             j = j;
             sub = f.sub;
             named = n;
             there = there;
             name_is = (bytes_eq-Decides f.sub.desc.name name).0 f.name_is;
-            new = c.0;
+            new = (not_taken _ _ _ b.1).0;
             version = (ltb-false v f.sub.desc.minimum b.0, ltb-false f.sub.desc.version v a.0);
           }
 

@@ -1,14 +1,8 @@
 -- What the writer gives is a stream with footers.
-use Rattle.std.proofs.Common.{◌≡◌, ℕ, zero, suc, ◌+◌, ◌<◌, ◌≤◌, List, [], ◌∷◌, ◌++◌, length, drop, map, Bool, true, false, Option, Some, None, refl, sym, arith}
-use Rattle.std.proofs.Common.{append_assoc, append-nil, length-append}
-use Rattle.std.specs.List.{slice_get}
-use Rattle.std.proofs.Math.Seq.{set-append_seam}
-use Rattle.vms_spec.specs.Sets.{Sub, Device, Set}
-use Rattle.vms_spec.specs.Layout.{desc_cells, struct_cells}
-use Rattle.vms_spec.specs.Images.{Image, zeroed, own_slots, sub_slots, sub_place, own_cells, AreVersionsOf}
-use Rattle.vms_bodies.proofs.ComeLaws.{sub_front}
-use Rattle.vms_bodies.proofs.WalkLaws.{drop_next}
-use Rattle.vms_bodies.proofs.WrittenLaws.{zeroed_spells}
+use Rattle.vms_stream.proofs.Facade.{◌≡◌, ℕ, zero, suc, ◌+◌, ◌<◌, ◌≤◌, List, [], ◌∷◌, ◌++◌, length, drop, map, Bool, true, false, Option, Some, None, refl, sym}
+use Rattle.vms_stream.proofs.Facade.{arith, append_assoc, append-nil, length-append, slice_get, set-append_seam, drop-append_seam, Sub, Device, Set, desc_cells}
+use Rattle.vms_stream.proofs.Facade.{struct_cells, Image, zeroed, own_slots, sub_slots, sub_place, own_cells, AreVersionsOf, sub_front, drop_next}
+use Rattle.vms_stream.proofs.Facade.{zeroed_spells}
 use Rattle.vms_spec.specs.Streams
 use Rattle.vms_stream.specs.Streams as units
 
@@ -45,8 +39,6 @@ subs_spell : (set : Set) (d : Device) (image : Image) (subs : List Sub) (came : 
     → drop j image.came ≡ came → sub_place set (own_cells set d) d.subs j ≡ at
     → Streams.SubsSpell set d image (those_come j came) (Streams.written_subs set d image at subs came)
 subs_spell set d image [] [] at j v s c p = refl
-subs_spell set d image [] (o ∷ came) at j v s c p = absurd v
-subs_spell set d image (x ∷ subs) [] at j v s c p = absurd v
 subs_spell set d image (x ∷ subs) (None ∷ came) at j v s c p =
     subs_spell set d image subs came _ (suc j) v (drop_next d.subs j x subs s) (drop_next image.came j None came c)
     (rw (← p) (place_next set (own_cells set d) d.subs j x subs s))
@@ -60,10 +52,10 @@ subs_spell set d image (x ∷ subs) (Some v ∷ came) at j vs s c p =
           (rw (← p) (place_next set (own_cells set d) d.subs j x subs s)),
       refl,
     )
+subs_spell set d image _ _ at j v s c p = absurd v
 
 at_seam : {A : Type 0} (before : List A) (o : A) (came : List A) → slice_get (before ++ o ∷ came) (length before) ≡ Some o
-at_seam [] o came = refl
-at_seam (x ∷ before) o came = at_seam before o came
+at_seam before o came = drop_head (before ++ o ∷ came) (length before) o came (drop-append_seam before (o ∷ came))
 
 all_none : (before : List (Option ℕ)) → Streams.AreAll before → Streams.AreAll (before ++ None ∷ [])
 all_none [] h = tt

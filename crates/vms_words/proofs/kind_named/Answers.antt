@@ -6,13 +6,10 @@ pub loop-kind-init : goal.loop-kind-init
 loop-kind-init c = refl
 
 pub loop-kind-preserved : goal.loop-kind-preserved
-loop-kind-preserved c =
-    c.loop-kind.invariant
-    ∙ other_kind _ _ _ _ _ c.loop-kind-test.true c.kind_word.ensures (sym c.eq.ensures ∙ c.if-eq.false)
+loop-kind-preserved c = c.loop-kind.invariant ∙ other_kind _ _ _ _ _ c.loop-kind-test.true c.kind_word.ensures (sym c.eq.ensures ∙ c.if-eq.false)
 
 pub returns-then-eq-clause-kind : goal.returns-then-eq-clause-kind
-returns-then-eq-clause-kind c =
-    sym (c.loop-kind.invariant ∙ this_kind _ _ _ _ _ c.loop-kind-test.true c.kind_word.ensures (sym c.eq.ensures ∙ c.if-eq.true))
+returns-then-eq-clause-kind c = sym (c.loop-kind.invariant ∙ this_kind _ _ _ _ _ c.loop-kind-test.true c.kind_word.ensures (sym c.eq.ensures ∙ c.if-eq.true))
 
 pub returns-then-eq-clause-right : goal.returns-then-eq-clause-right
 returns-then-eq-clause-right c =

@@ -1,6 +1,4 @@
-use Rattle.vms_spec.specs.Lists.{or_else}
-use Rattle.vms_spec.specs.WellFormed.{fields_fault, validations_fault}
-use Rattle.vms_parts.specs.Views.{desc_of}
+use Rattle.vms_rules.proofs.Facade.{or_else, fields_fault, validations_fault, desc_of}
 use Rattle.vms_rules.proofs.WalkLaws.{stops_by, first_stops}
 use Rattle.vms_rules.proofs.descs.check_inside.Goals as goal
 

@@ -1,7 +1,4 @@
-use Rattle.std.proofs.Common.{◌≡◌, map, drop}
-use Rattle.vms_spec.specs.WellFormed.{validations_fault}
-use Rattle.vms_parts.specs.Views.{formula, desc_of}
-use Rattle.vms_rules.specs.Walks.{validations_from}
+use Rattle.vms_rules.proofs.Facade.{◌≡◌, map, drop, validations_fault, formula, desc_of, validations_from}
 use Rattle.vms_rules.proofs.descs.check_validations.Given as goal
 
 abbrev pub invariant-loop-test : goal.invariant-loop-test

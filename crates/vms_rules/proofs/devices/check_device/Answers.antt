@@ -1,15 +1,7 @@
-use Rattle.std.proofs.Common.{◌≡◌, ℕ, Option, [], None, length, sym, ap, ◌∙◌}
-use Rattle.std.proofs.lemmas.List.{length-map}
+use Rattle.vms_rules.proofs.Facade.{◌≡◌, ℕ, Option, [], None, length, sym, ap, ◌∙◌, length-map, no_desc, or_else, SetFault, failing, here, fields_fault}
+use Rattle.vms_rules.proofs.Facade.{validations_fault, device_rules, device_fault, device_at, desc_of, device_of, set_of, get_map_at, IsFirst, subs_from}
 use Rattle.vms_spec.specs.declared.Part.TheVariants as parts
-use Rattle.vms_spec.specs.Layout.{no_desc}
-use Rattle.vms_spec.specs.Lists.{or_else}
 use Rattle.vms_spec.specs.Sets as sets
-use Rattle.vms_spec.specs.WellFormed.{SetFault, failing, here, fields_fault, validations_fault, device_rules, device_fault}
-use Rattle.vms_parts.specs.Devices.{device_at}
-use Rattle.vms_parts.specs.Views.{desc_of, device_of, set_of}
-use Rattle.vms_parts.proofs.Items.{get_map_at}
-use Rattle.vms_rules.specs.Judged.{IsFirst}
-use Rattle.vms_rules.specs.Walks.{subs_from}
 use Rattle.vms_rules.proofs.DeviceLaws.{inside_stops, subs_left}
 use Rattle.vms_rules.proofs.WalkLaws.{stops_by, first_stops}
 use Rattle.vms_rules.proofs.devices.check_device.Goals.{After-as_slice, After-index-as_slice-number, In_ok-lowest}

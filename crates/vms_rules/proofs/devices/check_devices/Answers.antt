@@ -1,10 +1,5 @@
-use Rattle.std.proofs.Common.{◌<◌, ◌≤◌, [], length, ap, arith}
-use Rattle.std.proofs.lemmas.List.{length-map}
-use Rattle.vms_spec.specs.Layout.{no_desc}
+use Rattle.vms_rules.proofs.Facade.{◌<◌, ◌≤◌, [], length, ap, arith, length-map, no_desc, device_fault, device_of, set_of, devices_from}
 use Rattle.vms_spec.specs.Sets as sets
-use Rattle.vms_spec.specs.WellFormed.{device_fault}
-use Rattle.vms_parts.specs.Views.{device_of, set_of}
-use Rattle.vms_rules.specs.Walks.{devices_from}
 use Rattle.vms_rules.proofs.WalkLaws.{stops_by, spot_good, spot_stops, spots_good}
 use Rattle.vms_rules.proofs.devices.check_devices.Goals as goal
 

@@ -1,6 +1,4 @@
-use Rattle.std.proofs.Common.{◌≡◌, map, drop}
-use Rattle.vms_parts.specs.Views.{device_of, set_of}
-use Rattle.vms_rules.specs.Walks.{devices_from}
+use Rattle.vms_rules.proofs.Facade.{◌≡◌, map, drop, device_of, set_of, devices_from}
 use Rattle.vms_rules.proofs.devices.check_devices.Given as goal
 
 abbrev pub invariant-loop-number : goal.invariant-loop-number

@@ -1,13 +1,7 @@
-use Rattle.std.proofs.Common.{◌≡◌, None, get_or, ◌∙◌}
+use Rattle.vms_rules.proofs.Facade.{◌≡◌, None, get_or, no_desc, or_else, failing, here, fields_fault, validations_fault, sub_rules, sub_fault, sub_of}
+use Rattle.vms_rules.proofs.Facade.{device_of, get_map_at, IsFirst, sub_at}
 use Rattle.vms_spec.specs.declared.Part.TheVariants as parts
-use Rattle.vms_spec.specs.Layout.{no_desc}
-use Rattle.vms_spec.specs.Lists.{or_else}
 use Rattle.vms_spec.specs.Sets as sets
-use Rattle.vms_spec.specs.WellFormed.{failing, here, fields_fault, validations_fault, sub_rules, sub_fault}
-use Rattle.vms_parts.specs.Views.{sub_of, device_of}
-use Rattle.vms_parts.proofs.Items.{get_map_at}
-use Rattle.vms_rules.specs.Judged.{IsFirst}
-use Rattle.vms_rules.specs.Walks.{sub_at}
 use Rattle.vms_rules.proofs.WalkLaws.{stops_by, first_stops, judged_after}
 use Rattle.vms_rules.proofs.devices.check_sub.Goals as goal
 

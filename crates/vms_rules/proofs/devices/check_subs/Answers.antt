@@ -1,17 +1,8 @@
-use Rattle.std.proofs.Common.{◌≡◌, ◌<◌, ℕ, None, length, get_or, ap, ◌∙◌, arith}
-use Rattle.vms_spec.specs.Layout.{no_desc}
+use Rattle.vms_rules.proofs.Facade.{◌≡◌, ◌<◌, ℕ, None, length, get_or, ap, arith, no_desc, AtLeast, sub_fault, Sub, sub_of, device_of, get_map_at, IsFirst}
+use Rattle.vms_rules.proofs.Facade.{has_name, subs_from, sub_at, Within}
 use Rattle.vms_spec.specs.Sets as sets
-use Rattle.vms_spec.specs.Sets.{AtLeast}
-use Rattle.vms_spec.specs.WellFormed.{sub_fault}
-use Rattle.vms_parts.specs.declared.types.Sub.{Sub}
-use Rattle.vms_parts.specs.Views.{sub_of, device_of}
-use Rattle.vms_parts.proofs.Items.{get_map_at}
-use Rattle.vms_rules.specs.Judged.{IsFirst}
-use Rattle.vms_rules.specs.NameSets.{has_name}
-use Rattle.vms_rules.specs.Walks.{subs_from, sub_at}
 use Rattle.vms_rules.proofs.NameLaws.{names_so_far}
 use Rattle.vms_rules.proofs.WalkLaws.{stops_by, place_good, place_stops}
-use Rattle.vms_rules.specs.declared.devices.Within.{Within}
 use Rattle.vms_rules.proofs.devices.check_subs.Goals.{After-sub-item}
 use Rattle.vms_rules.proofs.devices.check_subs.Goals as goal
 

@@ -1,8 +1,4 @@
-use Rattle.std.proofs.Common.{◌≡◌, List, ℕ, map, take, drop}
-use Rattle.vms_spec.specs.Streams.{is_one_of}
-use Rattle.vms_parts.specs.Views.{sub_of, device_of}
-use Rattle.vms_rules.specs.NameSets.{has_name}
-use Rattle.vms_rules.specs.Walks.{subs_from}
+use Rattle.vms_rules.proofs.Facade.{◌≡◌, List, ℕ, map, take, drop, is_one_of, sub_of, device_of, has_name, subs_from}
 use Rattle.vms_rules.proofs.devices.check_subs.Given as goal
 
 abbrev pub invariant-loop-number : goal.invariant-loop-number

@@ -1,11 +1,5 @@
-use Rattle.std.proofs.Common.{◌≡◌, [], take, map, sym, ap, ◌∙◌}
-use Rattle.std.specs.List.{list_any}
-use Rattle.vms_spec.specs.Layout.{no_desc}
+use Rattle.vms_rules.proofs.Facade.{◌≡◌, [], take, map, sym, ap, ◌∙◌, list_any, no_desc, is_same_device, device_of, get_map_at, numbered}
 use Rattle.vms_spec.specs.Sets as sets
-use Rattle.vms_spec.specs.WellFormed.{is_same_device}
-use Rattle.vms_parts.specs.Views.{device_of}
-use Rattle.vms_parts.proofs.Items.{get_map_at}
-use Rattle.vms_rules.specs.Walks.{numbered}
 use Rattle.vms_rules.proofs.DeviceLaws.{same_device}
 use Rattle.vms_rules.proofs.devices.is_taken.Goals as goal
 

@@ -1,5 +1,4 @@
-use Rattle.std.proofs.Common.{◌≡◌, ◌+◌, drop}
-use Rattle.vms_spec.specs.WellFormed.{failing}
+use Rattle.vms_rules.proofs.Facade.{◌≡◌, ◌+◌, drop, failing}
 use Rattle.vms_rules.proofs.fault.lowest.Given as goal
 
 abbrev pub invariant-loop-index : goal.invariant-loop-index

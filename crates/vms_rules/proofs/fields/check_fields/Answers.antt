@@ -1,10 +1,4 @@
-use Rattle.std.proofs.Common.{◌≡◌, ◌<◌, None, length, get_or, ap, ◌∙◌, arith}
-use Rattle.vms_spec.specs.WellFormed.{fields_fault}
-use Rattle.vms_parts.specs.Views.{field_of, desc_of}
-use Rattle.vms_rules.specs.declared.fault.DescFault.TheVariants.{NoMemory}
-use Rattle.vms_rules.specs.Judged.{IsFirst}
-use Rattle.vms_rules.specs.NameSets.{has_name}
-use Rattle.vms_rules.specs.Walks.{at_field}
+use Rattle.vms_rules.proofs.Facade.{◌≡◌, ◌<◌, None, length, get_or, ap, arith, fields_fault, field_of, desc_of, NoMemory, IsFirst, has_name, at_field}
 use Rattle.vms_rules.proofs.FieldLaws.{names_more}
 use Rattle.vms_rules.proofs.KeyLaws.{names_known}
 use Rattle.vms_rules.proofs.WalkLaws.{stops_by, place_good, place_stops}

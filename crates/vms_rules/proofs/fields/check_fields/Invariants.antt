@@ -1,10 +1,4 @@
-use Rattle.std.proofs.Common.{◌≡◌, false, List, ℕ, map, take, drop}
-use Rattle.vms_spec.specs.Names.{all_names}
-use Rattle.vms_spec.specs.Streams.{is_one_of}
-use Rattle.vms_spec.specs.WellFormed.{fields_fault}
-use Rattle.vms_parts.specs.Views.{field_of, desc_of}
-use Rattle.vms_rules.specs.NameSets.{has_name}
-use Rattle.vms_rules.specs.Walks.{fields_from}
+use Rattle.vms_rules.proofs.Facade.{◌≡◌, false, List, ℕ, map, take, drop, all_names, is_one_of, fields_fault, field_of, desc_of, has_name, fields_from}
 use Rattle.vms_rules.proofs.fields.check_fields.Given as goal
 
 abbrev pub invariant-loop-number : goal.invariant-loop-number

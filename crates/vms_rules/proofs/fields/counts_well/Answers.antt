@@ -1,6 +1,4 @@
-use Rattle.std.proofs.Common.{◌∙◌, map, arith}
-use Rattle.std.proofs.lemmas.List.{length-map}
-use Rattle.vms_parts.specs.Views.{field_of}
+use Rattle.vms_rules.proofs.Facade.{◌∙◌, map, arith, length-map, field_of}
 use Rattle.vms_rules.proofs.CapacityLaws.{least_fits}
 use Rattle.vms_rules.proofs.fields.counts_well.Goals as goal
 

@@ -1,5 +1,4 @@
-use Rattle.std.proofs.Common.{ℕ, ◌+◌, ◌<◌}
-use Rattle.std.specs.List.{slice_index}
+use Rattle.vms_rules.proofs.Facade.{ℕ, ◌+◌, ◌<◌, slice_index}
 use Rattle.vms_rules.proofs.keys.are_rising.Given as goal
 
 abbrev pub invariant-loop-place : goal.invariant-loop-place

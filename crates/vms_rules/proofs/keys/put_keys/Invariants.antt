@@ -1,5 +1,4 @@
-use Rattle.std.proofs.Common.{◌≡◌, ◌++◌, map, take}
-use Rattle.vms_rules.specs.NameSets.{key}
+use Rattle.vms_rules.proofs.Facade.{◌≡◌, ◌++◌, map, take, key}
 use Rattle.vms_rules.proofs.keys.put_keys.Given as goal
 
 abbrev pub invariant-loop-name : goal.invariant-loop-name

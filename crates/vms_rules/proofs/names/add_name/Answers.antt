@@ -1,6 +1,4 @@
-use Rattle.std.proofs.Common.{ℕ, true, ap, subst, ◌∙◌}
-use Rattle.std.specs.BTreeSet.{UpdatesBy}
-use Rattle.vms_rules.specs.NameSets.{key, by_key}
+use Rattle.vms_rules.proofs.Facade.{ℕ, true, ap, subst, ◌∙◌, UpdatesBy, key, by_key}
 use Rattle.vms_rules.proofs.NameLaws.{name_added, seen}
 use Rattle.vms_rules.proofs.names.add_name.Goals as goal
 

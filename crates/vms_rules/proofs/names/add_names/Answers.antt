@@ -1,6 +1,4 @@
-use Rattle.std.proofs.Common.{◌≡◌, ◌+◌, ◌∙◌}
-use Rattle.std.specs.Prelude.{◌&&◌, not}
-use Rattle.vms_rules.specs.NameSets.{has_name}
+use Rattle.vms_rules.proofs.Facade.{◌≡◌, not, has_name}
 use Rattle.vms_rules.proofs.NameLaws.{added_more, new_more}
 use Rattle.vms_rules.proofs.names.add_names.Goals as goal
 

@@ -1,7 +1,4 @@
-use Rattle.std.proofs.Common.{◌≡◌, List, ℕ, take, drop}
-use Rattle.std.specs.Prelude.{◌&&◌, ◌||◌}
-use Rattle.vms_spec.specs.Streams.{is_one_of}
-use Rattle.vms_rules.specs.NameSets.{has_name, are_new_to}
+use Rattle.vms_rules.proofs.Facade.{◌≡◌, List, ℕ, take, drop, ◌&&◌, ◌||◌, is_one_of, has_name, are_new_to}
 use Rattle.vms_rules.proofs.names.add_names.Given as goal
 
 abbrev pub invariant-loop-name : goal.invariant-loop-name

@@ -1,7 +1,4 @@
-use Rattle.std.proofs.Common.{◌+◌, ◌-◌, Bool, List, ℕ, length, length-drop, drop, sym, ap, ◌∙◌, arith}
-use Rattle.std.proofs.lemmas.List.{take_all}
-use Rattle.std.specs.Prelude.{◌&&◌}
-use Rattle.vms_spec.specs.Names.{is_name}
+use Rattle.vms_rules.proofs.Facade.{◌+◌, ◌-◌, Bool, List, ℕ, length, length-drop, drop, sym, ap, ◌∙◌, arith, take_all, ◌&&◌, is_name}
 use Rattle.vms_rules.proofs.NameLaws.{sub_name_parts}
 use Rattle.vms_rules.proofs.names.is_sub_name.Goals as goal
 

@@ -1,5 +1,4 @@
-use Rattle.std.proofs.Common.{◌≡◌, drop}
-use Rattle.vms_rules.specs.NameSets.{key}
+use Rattle.vms_rules.proofs.Facade.{◌≡◌, drop, key}
 use Rattle.vms_rules.proofs.names.key.Given as goal
 
 abbrev pub invariant-loop-place : goal.invariant-loop-place

@@ -1,9 +1,5 @@
-use Rattle.std.proofs.Common.{◌≡◌, None, ◌∙◌}
+use Rattle.vms_rules.proofs.Facade.{◌≡◌, None, failing, here, set_rules, first_fault, set_of, IsFirst, structs_from}
 use Rattle.vms_spec.specs.declared.Part.TheVariants as parts
-use Rattle.vms_spec.specs.WellFormed.{failing, here, set_rules, first_fault}
-use Rattle.vms_parts.specs.Views.{set_of}
-use Rattle.vms_rules.specs.Judged.{IsFirst}
-use Rattle.vms_rules.specs.Walks.{structs_from}
 use Rattle.vms_rules.proofs.SetLaws.{set_stops, structs_stop, devices_stop, items_left}
 use Rattle.vms_rules.proofs.WalkLaws.{stops_by}
 use Rattle.vms_rules.proofs.sets.check.Goals.{In_ok-check_structs, In_ok-lowest}

@@ -1,13 +1,5 @@
-use Rattle.std.proofs.Common.{◌≡◌, ◌+◌, List, ◌∷◌, ℕ, map, refl, sym, ap, ◌∙◌, arith}
-use Rattle.vms_spec.specs.WellFormed.{items_in, subs_items, devices_items}
-use Rattle.vms_parts.specs.declared.sizes.Measure.TheVariants.{Items}
-use Rattle.vms_parts.specs.declared.types.Field.{Field}
-use Rattle.vms_parts.specs.declared.types.Sub.{Sub}
-use Rattle.vms_parts.specs.declared.types.Device.{Device}
-use Rattle.vms_parts.specs.Sizes.{in_u32, fields_size, subs_size}
-use Rattle.vms_parts.specs.Views.{field_of, sub_of, device_of}
-use Rattle.vms_parts.proofs.ItemLaws.{items_are}
-use Rattle.vms_parts.proofs.SizeLaws.{sum_ends, sum_goes}
+use Rattle.vms_rules.proofs.Facade.{◌≡◌, ◌+◌, List, ◌∷◌, ℕ, map, refl, sym, ap, ◌∙◌, arith, items_in, subs_items, devices_items, Items, Field, Sub, Device}
+use Rattle.vms_rules.proofs.Facade.{in_u32, fields_size, subs_size, field_of, sub_of, device_of, items_are, sum_ends, sum_goes}
 use Rattle.vms_rules.proofs.SizeLaws.{subs_are}
 use Rattle.vms_rules.proofs.sets.devices_items.Goals as goal
 

@@ -1,7 +1,4 @@
-use Rattle.std.proofs.Common.{◌≡◌, map, drop, ◌+◌, ◌<◌, ◌^◌}
-use Rattle.vms_spec.specs.WellFormed.{devices_items}
-use Rattle.vms_parts.specs.Sizes.{in_u32}
-use Rattle.vms_parts.specs.Views.{device_of}
+use Rattle.vms_rules.proofs.Facade.{◌≡◌, map, drop, ◌+◌, ◌<◌, ◌^◌, devices_items, in_u32, device_of}
 use Rattle.vms_rules.proofs.sets.devices_items.Given as goal
 
 abbrev pub invariant-loop-device : goal.invariant-loop-device

@@ -1,8 +1,4 @@
-use Rattle.std.proofs.Common.{◌≡◌, ◌∷◌, [], List, ℕ, Bool, true, ap, ◌∙◌}
-use Rattle.std.specs.List.{list_all}
-use Rattle.vms_spec.specs.Names.{is_name}
-use Rattle.vms_spec.specs.WellFormed.{are_distinct}
-use Rattle.vms_rules.specs.NameSets.{has_name, are_new_to}
+use Rattle.vms_rules.proofs.Facade.{◌≡◌, ◌∷◌, [], List, ℕ, Bool, true, ap, ◌∙◌, list_all, is_name, are_distinct, has_name, are_new_to}
 use Rattle.vms_rules.proofs.SetLaws.{distinct_is, empty_has_none}
 use Rattle.vms_rules.proofs.sets.set_rules.Goals as goal
 

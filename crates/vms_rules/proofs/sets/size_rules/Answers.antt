@@ -1,11 +1,5 @@
-use Rattle.std.proofs.Common.{◌≡◌, ◌∷◌, [], List, ℕ, Bool, true, length, map, sym, ap, ◌∙◌}
-use Rattle.std.proofs.lemmas.List.{length-map}
-use Rattle.vms_spec.specs.WellFormed.{devices_items}
-use Rattle.vms_parts.specs.declared.sizes.Measure.TheVariants.{Items}
-use Rattle.vms_parts.specs.declared.types.Desc.{Desc}
-use Rattle.vms_parts.specs.declared.types.Device.{Device}
-use Rattle.vms_parts.specs.Sizes.{in_u32, sizes_to}
-use Rattle.vms_parts.specs.Views.{desc_of, device_of, set_of}
+use Rattle.vms_rules.proofs.Facade.{◌≡◌, ◌∷◌, [], List, ℕ, Bool, true, length, map, sym, ap, ◌∙◌, length-map, devices_items, Items, Desc, Device, in_u32}
+use Rattle.vms_rules.proofs.Facade.{sizes_to, desc_of, device_of, set_of}
 use Rattle.vms_rules.proofs.SizeLaws.{few_items}
 use Rattle.vms_rules.proofs.sets.size_rules.Goals as goal
 

@@ -1,13 +1,7 @@
-use Rattle.std.proofs.Common.{◌≡◌, None, map, ◌∙◌}
+use Rattle.vms_rules.proofs.Facade.{◌≡◌, None, map, no_desc, or_else, failing, here, fields_fault, validations_fault, struct_rules, struct_fault, desc_of}
+use Rattle.vms_rules.proofs.Facade.{get_map_at, IsFirst, desc_at}
 use Rattle.vms_spec.specs.declared.Part.TheVariants.{Struct}
-use Rattle.vms_spec.specs.Layout.{no_desc}
-use Rattle.vms_spec.specs.Lists.{or_else}
 use Rattle.vms_spec.specs.Sets as sets
-use Rattle.vms_spec.specs.WellFormed.{failing, here, fields_fault, validations_fault, struct_rules, struct_fault}
-use Rattle.vms_parts.specs.Views.{desc_of}
-use Rattle.vms_parts.proofs.Items.{get_map_at}
-use Rattle.vms_rules.specs.Judged.{IsFirst}
-use Rattle.vms_rules.specs.Walks.{desc_at}
 use Rattle.vms_rules.proofs.WalkLaws.{stops_by, first_stops, judged_after}
 use Rattle.vms_rules.proofs.structs.check_struct.Goals as goal
 

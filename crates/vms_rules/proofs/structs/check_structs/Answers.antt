@@ -1,12 +1,5 @@
-use Rattle.std.proofs.Common.{◌≡◌, None, map, ◌∙◌, arith}
-use Rattle.vms_spec.specs.Layout.{no_desc}
+use Rattle.vms_rules.proofs.Facade.{◌≡◌, None, map, arith, no_desc, struct_fault, desc_of, get_map_at, IsFirst, has_name, structs_from, desc_at}
 use Rattle.vms_spec.specs.Sets as sets
-use Rattle.vms_spec.specs.WellFormed.{struct_fault}
-use Rattle.vms_parts.specs.Views.{desc_of}
-use Rattle.vms_parts.proofs.Items.{get_map_at}
-use Rattle.vms_rules.specs.Judged.{IsFirst}
-use Rattle.vms_rules.specs.NameSets.{has_name}
-use Rattle.vms_rules.specs.Walks.{structs_from, desc_at}
 use Rattle.vms_rules.proofs.NameLaws.{names_so_far}
 use Rattle.vms_rules.proofs.StructLaws.{depths_long, depth_at}
 use Rattle.vms_rules.proofs.WalkLaws.{stops_by, place_good, place_stops}

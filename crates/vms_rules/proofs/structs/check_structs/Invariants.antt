@@ -1,8 +1,4 @@
-use Rattle.std.proofs.Common.{◌≡◌, List, ℕ, map, take, drop}
-use Rattle.vms_spec.specs.Streams.{is_one_of}
-use Rattle.vms_parts.specs.Views.{desc_of}
-use Rattle.vms_rules.specs.NameSets.{has_name}
-use Rattle.vms_rules.specs.Walks.{structs_from}
+use Rattle.vms_rules.proofs.Facade.{◌≡◌, List, ℕ, map, take, drop, is_one_of, desc_of, has_name, structs_from}
 use Rattle.vms_rules.proofs.structs.check_structs.Given as goal
 
 abbrev pub invariant-loop-number : goal.invariant-loop-number

@@ -1,6 +1,4 @@
-use Rattle.std.proofs.Common.{◌≡◌, max, map, drop}
-use Rattle.vms_spec.specs.WellFormed.{deepest}
-use Rattle.vms_parts.specs.Views.{field_of}
+use Rattle.vms_rules.proofs.Facade.{◌≡◌, max, map, drop, deepest, field_of}
 use Rattle.vms_rules.proofs.structs.deepest.Given as goal
 
 abbrev pub invariant-loop-field : goal.invariant-loop-field

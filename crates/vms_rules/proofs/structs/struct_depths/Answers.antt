@@ -1,7 +1,4 @@
-use Rattle.std.proofs.Common.{◌≡◌, ◌+◌, ◌≤◌, ℕ, map, ap, ◌∙◌, arith}
-use Rattle.vms_spec.specs.Layout.{first}
-use Rattle.vms_spec.specs.WellFormed.{deepest}
-use Rattle.vms_parts.specs.Views.{field_of}
+use Rattle.vms_rules.proofs.Facade.{◌≡◌, ◌+◌, ◌≤◌, ℕ, map, ap, ◌∙◌, arith, first, deepest, field_of}
 use Rattle.vms_rules.proofs.StructLaws.{deepest_small, depths_more, depths_small, none_small}
 use Rattle.vms_rules.proofs.structs.struct_depths.Goals as goal
 

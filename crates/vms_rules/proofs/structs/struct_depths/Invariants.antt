@@ -1,5 +1,4 @@
-use Rattle.std.proofs.Common.{◌≡◌, ◌≤◌, ℕ, get_or, map}
-use Rattle.vms_parts.specs.Views.{desc_of}
+use Rattle.vms_rules.proofs.Facade.{◌≡◌, ◌≤◌, ℕ, get_or, map, desc_of}
 use Rattle.vms_rules.proofs.StructLaws.{depths_to}
 use Rattle.vms_rules.proofs.structs.struct_depths.Given as goal
 

@@ -24,8 +24,7 @@ loop-next-preserved g c =
       counted = omega (arith, c.loop-next.invariant.counted, c.in-Some.ensures.long, c.in-Ok.ensures.long);
       reads =
           line_put (map g.L.Kept.said c.loop-next.lines.items) c.args.play c.loop-next.number c.loop-next.rest.now next.text.now next.after.now (map g.L.Kept.said c.put_line.new.lines.items)
-          (first_is (first_line c.loop-next.rest.now) next c.in-Some.ensures.first) c.in-Ok.ensures.put
-          ∙ c.loop-next.invariant.reads;
+          (first_is (first_line c.loop-next.rest.now) next c.in-Some.ensures.first) c.in-Ok.ensures.put ∙ c.loop-next.invariant.reads;
     }
 
 pub returns-then-is_empty : goal.returns-then-is_empty

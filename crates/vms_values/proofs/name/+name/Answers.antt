@@ -8,8 +8,6 @@ use Rattle.vms_values.proofs.name.+name.Given.{Over}
 use Rattle.vms_values.proofs.name.+name.Goals.{print_element-After-item_cells-size, print_name-After-field_cells-size}
 use Rattle.vms_values.proofs.name.+name.Goals as goal
 
--- ---- an element of a field
-
 -- the element has cells, and the cell is one of its
 inside : (g : Over) (t : ℕ) (c : goal.print_element-After-item_cells-size g t) → (0 < c.item_cells-size.result) × (c.args.cell % c.item_cells-size.result < size_in (described c.args.set.now) c.args.field.now.item)
 inside g t c =
@@ -49,8 +47,6 @@ print_element-returns-in_default g t c =
     let size = size_code set f.item c.item_cells-size.result c.item_cells-size.ensures c.requires.small in
     wrote_as c.print_inside-in_default.result _ _ (element_is set f c.in_default.not-One (path_text c.args.path.now) c.as_bytes.result.now c.item_cells-size.result c.args.cell c.as_bytes.ensures size) c.print_inside-in_default.ensures
 
--- ---- inside of an element
-
 pub print_inside-print_name-requires : goal.print_inside-print_name-requires
 print_inside-print_name-requires g t c =
     let set = described c.args.set.now in
@@ -73,8 +69,6 @@ print_inside-returns-in-Struct g t c =
     ∙ ap (λ (l : List ℕ). path ++ l) (sym (struct_name set j lt c.args.cell cell))
     ∙ ap (λ (i : Item). path ++ get_or (item_names set i) c.args.cell []) (sym c.in-Struct.is))
     c.print_name.ensures
-
--- ---- the fields of a part
 
 pub print_name-loop-field-init : goal.print_name-loop-field-init
 print_name-loop-field-init g t c =

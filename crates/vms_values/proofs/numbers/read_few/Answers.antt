@@ -3,8 +3,7 @@ use Rattle.vms_values.proofs.ReadLemmas.{digit_stops, digit_goes, digits_end, fe
 use Rattle.vms_values.proofs.numbers.read_few.Goals as goal
 
 pub next_of_few-requires : goal.next_of_few-requires
-next_of_few-requires c =
-    few_fit c.loop-digit.digit-index c.loop-digit.value c.loop-digit.invariant.1 (omega (arith, c.loop-digit-test.true, c.requires))
+next_of_few-requires c = few_fit c.loop-digit.digit-index c.loop-digit.value c.loop-digit.invariant.1 (omega (arith, c.loop-digit-test.true, c.requires))
 
 pub returns-in_err-value : goal.returns-in_err-value
 returns-in_err-value c =

@@ -9,8 +9,6 @@ use Rattle.vms_values.proofs.shown.+print.Given.{Over}
 use Rattle.vms_values.proofs.shown.+print.Goals.{print_elements-After-print_item-arg-in-loop-index-1, print_part-After-print_field-arg-in-loop-field-1}
 use Rattle.vms_values.proofs.shown.+print.Goals as goal
 
--- ---- elements
-
 pub print_elements-loop-index-init : goal.print_elements-loop-index-init
 print_elements-loop-index-init g t c =
     let set = described c.args.shown.set.now in
@@ -93,8 +91,6 @@ print_elements-returns-clause-written g t c =
     leaves_none
     (no_elements (printers set) c.args.item.now c.args.line.now c.args.shown.image.now.numbers c.loop-index.cell (size_in set c.args.item.now) c.loop-index.index (c.args.run.count - c.loop-index.index) none) c.loop-index.invariant.owes
 
--- ---- a field
-
 pub print_field-print_item-requires : goal.print_field-print_item-requires
 print_field-print_item-requires g t c =
     let fits = c.requires.fits in
@@ -128,8 +124,6 @@ print_field-returns-in_default g t c =
           c.print_elements.ensures.written;
     }
 
--- ---- an element
-
 pub print_item-print_struct-requires : goal.print_item-print_struct-requires
 print_item-print_struct-requires g t c =
     let set = described c.args.shown.set.now in
@@ -144,8 +138,6 @@ print_item-returns-in-Struct-clause-written g t c =
     let ps = printers (described c.args.shown.set.now) in
     wrote_as c.print_struct.result _ _
     (ap (λ (i : Item). item_lines ps i c.args.line.now c.args.shown.image.now.numbers c.args.cell) (sym c.in-Struct.is)) c.print_struct.ensures.written
-
--- ---- an element of a structure
 
 pub print_struct-print_part-requires : goal.print_struct-print_part-requires
 print_struct-print_part-requires g t c =
@@ -164,8 +156,6 @@ print_struct-returns-clause-written g t c =
     wrote_as c.print_part.result _ _
     (ap (λ (l : List ℕ). desc_lines (printers set) (get_or set.structs j no_desc) l n c.args.cell) c.push.ensures
     ∙ sym (struct_lines set c.args.shown.set.now.well_formed j c.requires.reaches c.args.line.now n c.args.cell)) c.print_part.ensures.written
-
--- ---- a part
 
 pub print_part-loop-field-init : goal.print_part-loop-field-init
 print_part-loop-field-init g t c =
@@ -202,8 +192,7 @@ print_part-print_field-requires g t c =
     λ κs h. (search rules, (search rules, (s.run.next.run, (short.0, omega (arith, ap length s.kept, short.1, c.requires.short)))))
 
 -- its lines, under the path of the code, and those of the fields after it
-lines : (g : Over) (t : ℕ) (c : goal.print_part-After-print_field-arg-in-loop-field-1 g t)
-    → (let set = described c.args.shown.set.now in
+lines : (g : Over) (t : ℕ) (c : goal.print_part-After-print_field-arg-in-loop-field-1 g t) → (let set = described c.args.shown.set.now in
     let n = c.args.shown.image.now.numbers in
     let f = field_of c.index-as_slice-field.result in
     fields_left set c.args.spot c.args.line.now n c.loop-field.field

@@ -12,8 +12,6 @@ use Rattle.vms_values.proofs.Printers.{FoundRun, found_run}
 use Rattle.vms_values.proofs.taken.+read.Goals.{read_elements-After-read_item-arg-in-loop-index-1, read_under-After-read_field-arg-in-loop-field-1}
 use Rattle.vms_values.proofs.taken.+read.Goals as goal
 
--- ---- the elements of an array
-
 -- the path of the next element
 element : (t : ℕ) (c : goal.read_elements-After-read_item-arg-in-loop-index-1 t) → (c.push_index.new.self ≡ c.args.path.now ++ codes "[" ++ decimal c.loop-index.index ++ codes "]") × (length c.push_index.new.self ≤ length c.args.path.now + INDEX_ROOM)
 element t c =
@@ -79,8 +77,6 @@ read_elements-read_item-requires t c =
     let short : length c.push_index.new.self + NUMBER_ROOM + below item ≤ LONGEST = omega (arith, (element t c).1, c.requires.short) in
     (omega arith, (c.requires.reaches, (fits, (few, (subst (λ (ks : List Kind). AreKinds ks c.loop-index.first (element_cells cs item)) (sym kept.kinds) here, short)))))
 
--- ---- a field
-
 pub read_field-read_item-requires : goal.read_field-read_item-requires
 read_field-read_item-requires t c =
     let set = described c.args.set.now in
@@ -118,8 +114,6 @@ read_field-returns-in_default t c =
       path = stays_then _ _ _ (stays_is c.args.path.now f.name c.push.new.self named) c.read_elements.ensures.path;
     }
 
--- ---- an element
-
 pub read_item-read_under-requires : goal.read_item-read_under-requires
 read_item-read_under-requires t c =
     let set = described c.args.set.now in
@@ -155,8 +149,6 @@ read_item-returns-in-Struct-clause-read t c =
     ∙ sym (ap (λ (i : Item). read_item (readers set) f caps path c.args.run.present c.args.run.first i p) c.in-Struct.is
     ∙ struct_reads set c.args.set.now.well_formed j lt f caps path c.args.run.present c.args.run.first p))
     c.read_under.ensures.read
-
--- ---- a part
 
 pub read_under-loop-field-init : goal.read_under-loop-field-init
 read_under-loop-field-init t c =
