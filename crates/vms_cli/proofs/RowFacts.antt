@@ -1,5 +1,5 @@
 -- What is proved of each command, by its entry.
-use Rattle.vms_cli.proofs.Facade.{◌≡◌, ◌⊎◌, ℕ, true, false, List, [], ◌∷◌, Option, refl, IfSome, IsBytes, Held, HoldsAll, Outcome, is_among, Task, Entry}
+use Rattle.vms_cli.proofs.Facade.{◌≡◌, ◌⊎◌, ℕ, true, false, List, [], ◌∷◌, Option, Some, refl, IfSome, IsBytes, Held, HoldsAll, Outcome, is_among, Task, Entry}
 use Rattle.vms_cli.proofs.Facade.{HasOne}
 use Rattle.vms_commands.specs.Courses.{Course}
 
@@ -46,5 +46,6 @@ pub record IsDone (task : Task) (input : Option (List ℕ)) (held : Option Held)
 -- its course fits; it has one outcome; and if all that it needs is there, that has status 0
 pub record IsRow (entry : Entry) : Type 0 where
   pub fits : Fits entry.task.course
-  pub one : (input : List ℕ) (held : Held) → IsBytes input → HoldsAll held → entry.words → HasOne entry.task input held
+  pub one : (input : List ℕ) (held : Held) → IsBytes input → HoldsAll held → entry.words
+      → HasOne (λ o. entry.task.has (Some input) (Some held) o)
   pub done : (input : Option (List ℕ)) (held : Option Held) → IfSome held HoldsAll → entry.words → entry.needs input held → IsDone entry.task input held

@@ -7,27 +7,26 @@ use Rattle.vms_spec.specs.Images.{Image}
 use Rattle.vms_kinds.specs.Bytes.{IsBytes}
 use Rattle.vms_spec.specs.Streams.{AreReady, is_one_of, written}
 use Rattle.vms_cli.specs.Answers.{HasOutcome, Answers}
-use Rattle.vms_cli.specs.Commands.{Asked, Show, Pack, Check, asked_of, entry_of, task_of}
+use Rattle.vms_cli.specs.Commands.{Asked, Show, Pack, Check, asked_of, entry_of}
 use Rattle.vms_commands.specs.Outcomes.{Outcome, DoesOrStops, done, text_of, Outside}
 use Rattle.vms_commands.specs.Fetching.{longest_file, named_sets, word_set}
 use Rattle.vms_commands.specs.SetWords.{SetWord}
 use Rattle.vms_commands.specs.Steps.{Gives, Both}
-use Rattle.vms_board_commands.specs.Runs.{Task}
 use Rattle.vms_cli.specs.Commands.PackCommand.{described_stream}
 use Rattle.vms_cli.specs.Upgrade.{IsWritten, shown_newer}
 use Rattle.vms_spec.specs.Sets.{Set}
 
 -- ---- outcomes
 
--- A task has an outcome, and no other.
-pub record HasOne (task : Task) (input : List ℕ) (held : Held) : Type 0 where
+-- There is an outcome of which this holds, and no other.
+pub record HasOne (Holds : Outcome → Type 0) : Type 0 where
   pub outcome : Outcome
-  pub is : task.has (Some input) (Some held) outcome
-  pub only : (other : Outcome) → task.has (Some input) (Some held) other → other ≡ outcome
+  pub is : Holds outcome
+  pub only : (other : Outcome) → Holds other → other ≡ outcome
 
 -- A call has an outcome, and no other.
 abbrev pub HasOneOutcome : Option Asked → List ℕ → Held → Type 0
-HasOneOutcome asked input held = HasOne (task_of asked) input held
+HasOneOutcome asked input held = HasOne (λ o. HasOutcome asked (Some input) (Some held) o)
 
 -- What arguments can name: existing boards, and for `save` a set of the board's kind at or above it.
 abbrev pub CanBeAsked : Option Asked → Type 0

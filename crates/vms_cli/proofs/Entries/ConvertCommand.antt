@@ -1,17 +1,15 @@
 -- `convert` has one outcome, and what can be converted is.
 use Rattle.vms_cli.proofs.Facade.{◌≡◌, ◌⊎◌, ℕ, ◌+◌, List, Option, Some, None, inl, inr, refl, sym, ap, ◌∙◌, subst, arith, none-some, Held, IsBytes, IsFit, Image, Set}
 use Rattle.vms_cli.proofs.Facade.{Answer, Taken, Faulty, Takes, either_holds, taken_kept, Compatible, first_mismatch, Mismatch, IsStreamFor, LosesFirst}
-use Rattle.vms_cli.proofs.Facade.{word_set, refused_line, Outcome, done, ended, SetWord, Step, Untold, Gives, Ends, next, FitStep, fit_word, IsSound, sound_next}
+use Rattle.vms_cli.proofs.Facade.{word_set, refused_line, done, ended, SetWord, Step, Untold, Gives, Ends, next, FitStep, fit_word, IsSound, sound_next}
 use Rattle.vms_cli.proofs.Facade.{sound_word_set, ConvertsBy, Rewrites, WouldLose, agreed, agrees, lost_line, newest, target, CanBeConverted, HasOne}
 use Rattle.vms_cli.proofs.Facade.{convert_entry}
 use Rattle.vms_cli.specs.Commands.ConvertCommand.{Refuses}
 use Rattle.vms_cli.proofs.ConvertLemmas.{is_answered, newest_fit, agreed_gives, lost_is, refused_is, rewritten_is}
 use Rattle.vms_cli.proofs.RowFacts.{IsDone, IsRow, spares_none, spares_text}
 
-record OneConverted (step : Step Set) (input : List ℕ) (held : Held) : Type 0 where
-  outcome : Outcome
-  is : ConvertsBy step (Some input) (Some held) outcome
-  only : (other : Outcome) → ConvertsBy step (Some input) (Some held) other → other ≡ outcome
+abbrev OneConverted : Step Set → List ℕ → Held → Type 0
+OneConverted step input held = HasOne (λ o. ConvertsBy step (Some input) (Some held) o)
 
 -- whether the input begins with a stream or is invalid
 module _ (to : Set) (fit : IsFit to) (compatible : Compatible to newest) (input : List ℕ) (held : Held) (ok : IsBytes input) where
@@ -69,14 +67,6 @@ one_by (Gives to) input held ok sound suits =
     one_answered to suits.0 suits.1 input held ok (either_holds newest newest.machines newest_fit.well newest_fit.heads input ok)
 one_by (Ends status line) input held ok sound suits = record { outcome = ended status line 0; is = refl; only = λ other e. e }
 
-one_converted : (word : SetWord) (input : List ℕ) (held : Held) → IsBytes input → HasOne (convert_entry word).task input held
-one_converted word input held ok =
-    let s = target (Some held) word in
-    let one = one_by s input held ok (sound_target (Some held) word) (suits_next (word_set (Some held) word) (fit_word (Some held) word)) in
-    record { outcome = one.outcome; is = one.is; only = one.only }
-
--- ---- what can be converted is
-
 pub target_gives : (held : Option Held) (word : SetWord) (to : Set) → word_set held word ≡ Gives to → Compatible to newest → target held word ≡ Gives to
 target_gives held word to there compatible = ap (λ (s : Step Set). next s agrees) there ∙ agreed_gives to compatible
 
@@ -109,6 +99,7 @@ converted word input held can =
 pub convert_row : (word : SetWord) → IsRow (convert_entry word)
 convert_row word = record {
   fits = record { statuses = refl; writes = inl refl; takes = inl refl; stores = inr refl; unwritten = spares_text; unstored = spares_none };
-  one = λ input held ok holds words. one_converted word input held ok;
+  one = λ input held ok holds words.
+      one_by (target (Some held) word) input held ok (sound_target (Some held) word) (suits_next (word_set (Some held) word) (fit_word (Some held) word));
   done = λ input held octets words can. converted word input held can;
 }

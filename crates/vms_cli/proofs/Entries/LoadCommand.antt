@@ -1,14 +1,12 @@
 -- `load` has one outcome, and a board goes on if its stream and a script can be read.
-use Rattle.vms_cli.proofs.Facade.{◌≡◌, ℕ, List, Option, Some, None, refl, sym, subst, inl, inr, none-some, Held, IsBytes, FitsHeads, WellFormed, Outcome, done, ended}
+use Rattle.vms_cli.proofs.Facade.{ℕ, List, Option, Some, None, refl, sym, subst, inl, inr, none-some, Held, IsBytes, FitsHeads, WellFormed, done, ended}
 use Rattle.vms_cli.proofs.Facade.{Step, Untold, Gives, Ends, IsSound, clock, clock_stands, Family, isa, isa_stands, Back, Restores, script_gives, sound_script}
 use Rattle.vms_cli.proofs.Facade.{loads_one, LoadsBy, Traces, scripted, answers_to, trace_of, events_of, ScriptLine, IsaBoard, BoardWord, ClockBoard, HasOne}
 use Rattle.vms_cli.proofs.Facade.{CanBeRead, load_entry}
 use Rattle.vms_cli.proofs.RowFacts.{IsDone, IsRow, spares_none, spares_text}
 
-record OneLoads {S : Type 0} (f : Family S) (number : ℕ) (step : Step (List ScriptLine)) (input : List ℕ) (held : Held) : Type 0 where
-  outcome : Outcome
-  is : LoadsBy f number step (Some input) (Some held) outcome
-  only : (other : Outcome) → LoadsBy f number step (Some input) (Some held) other → other ≡ outcome
+abbrev OneLoads : {S : Type 0} → Family S → ℕ → Step (List ScriptLine) → List ℕ → Held → Type 0
+OneLoads f number step input held = HasOne (λ o. LoadsBy f number step (Some input) (Some held) o)
 
 module _ {S : Type 0} (f : Family S) (well : WellFormed (f.set f.newest)) (heads : FitsHeads (f.set f.newest)) where
   one_loads : (number : ℕ) (s : Step (List ScriptLine)) (input : List ℕ) (held : Held) → IsBytes input → IsSound (Some held) s
@@ -22,13 +20,10 @@ module _ {S : Type 0} (f : Family S) (well : WellFormed (f.set f.newest)) (heads
   one_scripted : (number : ℕ) (script input : List ℕ) (held : Held) → IsBytes input → OneLoads f number (scripted None (Some held) script) input held
   one_scripted number script input held ok = one_loads number (scripted None (Some held) script) input held ok (sound_script None (Some held) script)
 
-one_loaded : (board : BoardWord) (script input : List ℕ) (held : Held) → IsBytes input → HasOne (load_entry board script).task input held
-one_loaded (IsaBoard level) script input held ok =
-    let one = one_scripted isa isa_stands.well isa_stands.heads level script input held ok in
-    record { outcome = one.outcome; is = one.is; only = one.only }
-one_loaded (ClockBoard version) script input held ok =
-    let one = one_scripted clock clock_stands.well clock_stands.heads version script input held ok in
-    record { outcome = one.outcome; is = one.is; only = one.only }
+one_loaded : (board : BoardWord) (script input : List ℕ) (held : Held) → IsBytes input
+    → HasOne (λ o. (load_entry board script).task.has (Some input) (Some held) o)
+one_loaded (IsaBoard level) script input held ok = one_scripted isa isa_stands.well isa_stands.heads level script input held ok
+one_loaded (ClockBoard version) script input held ok = one_scripted clock clock_stands.well clock_stands.heads version script input held ok
 
 module _ {S : Type 0} (f : Family S) (number : ℕ) (script : List ℕ) (map : Held) (can : CanBeRead None script map) where
   loaded_then : (bytes : List ℕ) (board : S) (taken : ℕ) → Restores f number bytes (Back board taken)

@@ -1,13 +1,11 @@
 -- `play` has one outcome, and a script that can be read is played.
-use Rattle.vms_cli.proofs.Facade.{◌≡◌, ℕ, List, ◌∷◌, [], Option, Some, None, IfSome, refl, sym, ap, subst, inl, inr, none-some, Held, HoldsAll, Outcome, ended, Step}
+use Rattle.vms_cli.proofs.Facade.{ℕ, List, ◌∷◌, [], Option, Some, None, IfSome, refl, sym, ap, subst, inl, inr, none-some, Held, HoldsAll, Outcome, ended, Step}
 use Rattle.vms_cli.proofs.Facade.{Untold, Gives, Ends, IsSound, AreStepLines, script_gives, scripted_lines, sound_script, IsLevel, has_end, one_outcome, PlaysBy}
 use Rattle.vms_cli.proofs.Facade.{scripted, reads_exactly, AreLines, ScriptLine, HasOne, play_entry}
 use Rattle.vms_cli.proofs.RowFacts.{IsDone, IsRow, Spares}
 
-record OnePlays (level : ℕ) (step : Step (List ScriptLine)) (held : Held) : Type 0 where
-  outcome : Outcome
-  is : PlaysBy level step (Some held) outcome
-  only : (other : Outcome) → PlaysBy level step (Some held) other → other ≡ outcome
+abbrev OnePlays : ℕ → Step (List ScriptLine) → Held → Type 0
+OnePlays level step held = HasOne (λ o. PlaysBy level step (Some held) o)
 
 one_plays : (level : ℕ) (s : Step (List ScriptLine)) (held : Held) → AreStepLines (Some level) s → IsLevel level → HoldsAll held → IsSound (Some held) s
     → OnePlays level s held
@@ -16,13 +14,6 @@ one_plays level (Ends status line) held are is holds sound = record { outcome = 
 one_plays level (Gives lines) held are is holds sound =
     let end = has_end level lines held is are holds in
     record { outcome = end.0; is = end.1; only = λ other p. one_outcome level lines held is are holds end.0 other end.1 p }
-
-one_played : (level : ℕ) (script input : List ℕ) (held : Held) → IsLevel level → HoldsAll held → HasOne (play_entry level script).task input held
-one_played level script input held is holds =
-    let step = scripted (Some level) (Some held) script in
-    let are = scripted_lines (Some level) (Some held) script in
-    let one = one_plays level step held are is holds (sound_script (Some level) (Some held) script) in
-    record { outcome = one.outcome; is = one.is; only = one.only }
 
 played : (level : ℕ) (script : List ℕ) (input : Option (List ℕ)) (held : Option Held) → IfSome held HoldsAll → IsLevel level
     → (play_entry level script).needs input held
@@ -45,6 +36,8 @@ spares_play = record { refused = refl; unnamed = refl; bad = refl; unlike = refl
 pub play_row : (level : ℕ) (script : List ℕ) → IsRow (play_entry level script)
 play_row level script = record {
   fits = record { statuses = refl; writes = inl refl; takes = inr refl; stores = inl refl; unwritten = spares_play; unstored = spares_play };
-  one = λ input held ok holds is. one_played level script input held is holds;
+  one = λ input held ok holds is.
+      one_plays level (scripted (Some level) (Some held) script) held (scripted_lines (Some level) (Some held) script) is holds
+      (sound_script (Some level) (Some held) script);
   done = λ input held octets is can. played level script input held octets is can;
 }

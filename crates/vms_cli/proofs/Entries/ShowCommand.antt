@@ -1,15 +1,13 @@
 -- `show` has one outcome, and what can be shown is.
-use Rattle.vms_cli.proofs.Facade.{◌≡◌, ℕ, ◌+◌, List, Option, Some, None, refl, sym, subst, inl, inr, none-some, Held, IsBytes, values_text}
-use Rattle.vms_cli.proofs.Facade.{Set, IsFit, Answer, Taken, Faulty, either_holds, word_set, refused_line, Outcome, done, ended, SetWord, Step, Untold}
+use Rattle.vms_cli.proofs.Facade.{ℕ, ◌+◌, List, Option, Some, None, refl, sym, subst, inl, inr, none-some, Held, IsBytes, values_text}
+use Rattle.vms_cli.proofs.Facade.{Set, IsFit, Answer, Taken, Faulty, either_holds, word_set, refused_line, done, ended, SetWord, Step, Untold}
 use Rattle.vms_cli.proofs.Facade.{Gives, Ends, FitStep, fit_word, IsSound, sound_word_set, CanBeShown, ShowsBy, Refuses, HasOne, show_entry}
 use Rattle.vms_cli.specs.Commands.ShowCommand.{Values as Printed}
 use Rattle.vms_cli.proofs.RowFacts.{IsDone, IsRow, spares_none, spares_text}
 use Rattle.vms_cli.proofs.ShowLemmas.{shown_is, refused_is}
 
-record OneShown (step : Step Set) (input : List ℕ) (held : Held) : Type 0 where
-  outcome : Outcome
-  is : ShowsBy step (Some input) (Some held) outcome
-  only : (other : Outcome) → ShowsBy step (Some input) (Some held) other → other ≡ outcome
+abbrev OneShown : Step Set → List ℕ → Held → Type 0
+OneShown step input held = HasOne (λ o. ShowsBy step (Some input) (Some held) o)
 
 -- whether the input begins with a stream or is invalid
 one_answered : (set : Set) → IsFit set → (input : List ℕ) (held : Held) → IsBytes input → Answer set set.machines input → OneShown (Gives set) input held
@@ -29,11 +27,6 @@ one_by Untold input held ok sound fit = absurd (none-some {A = Held} held (sym s
 one_by (Gives set) input held ok sound fit = one_answered set fit input held ok (either_holds set set.machines fit.well fit.heads input ok)
 one_by (Ends status line) input held ok sound fit = record { outcome = ended status line 0; is = refl; only = λ other e. e }
 
-one_shown : (word : SetWord) (input : List ℕ) (held : Held) → IsBytes input → HasOne (show_entry word).task input held
-one_shown word input held ok =
-    let one = one_by (word_set (Some held) word) input held ok (sound_word_set (Some held) word) (fit_word (Some held) word) in
-    record { outcome = one.outcome; is = one.is; only = one.only }
-
 shown : (word : SetWord) (input : Option (List ℕ)) (held : Option Held) → CanBeShown word input held → IsDone (show_entry word).task input held
 shown word None held can = absurd can.2
 shown word (Some bytes) held can =
@@ -48,6 +41,6 @@ shown word (Some bytes) held can =
 pub show_row : (word : SetWord) → IsRow (show_entry word)
 show_row word = record {
   fits = record { statuses = refl; writes = inl refl; takes = inl refl; stores = inr refl; unwritten = spares_text; unstored = spares_none };
-  one = λ input held ok holds words. one_shown word input held ok;
+  one = λ input held ok holds words. one_by (word_set (Some held) word) input held ok (sound_word_set (Some held) word) (fit_word (Some held) word);
   done = λ input held octets words can. shown word input held can;
 }
