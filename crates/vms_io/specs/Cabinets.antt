@@ -1,5 +1,5 @@
 -- What contracts see of a shelf in memory.
-use Rattle.std.specs.Prelude.{ℕ, List, Option, Some, None}
+use Rattle.std.specs.Prelude.{◌≡◌, ◌↔◌, ℕ, ◌+◌, List, Option, Some, None, Contains}
 use Rattle.std.specs.Option.{option_map}
 use Rattle.std.specs.Ordering.{nat_cmp}
 use Rattle.std.specs.Cmp.Lexicographic.{slice_cmp}
@@ -8,6 +8,7 @@ use Rattle.std.specs.BTreeMap.{is_at}
 use Rattle.std.specs.Map.{lookup}
 use Rattle.std.specs.declared.string.String.{String}
 use Rattle.std.specs.declared.alloc.Global.{Global}
+use Rattle.vms_io.specs.Causes.{capped}
 use Rattle.vms_io.specs.Shelves.{Held, HoldsAll, HoldsBytes}
 use Rattle.vms_io.specs.declared.memory.shelf.Content.{Content}
 use Rattle.vms_io.specs.declared.memory.shelf.MemShelf.{MemShelf}
@@ -19,6 +20,12 @@ pub record Cabinet : Type 0 where
   pub failing : List ℕ
   pub calls : ℕ
   pub faults : ℕ
+
+-- the shelf counts this call, which fails exactly if its number is listed; the list is unchanged
+pub record IsNextCall (old new : Cabinet) (Failed : Type 0) : Type 0 where
+  pub fails : Failed ↔ Contains old.failing (capped (old.calls + 1))
+  pub calls : new.calls ≡ capped (old.calls + 1)
+  pub failing : new.failing ≡ old.failing
 
 -- the bytes that the entries of a map have under a name
 abbrev pub held_in : List (String Global × Content) → Held

@@ -1,8 +1,8 @@
 -- What the objects in memory hold, and what they promise.
-use Rattle.std.specs.Prelude.{◌≡◌, ℕ, ◌+◌, ◌<◌, ◌⊎◌, min, max, List, [], ◌∷◌, length, drop, slice_get, Bool, true, false, Option, Some, None, unwrap_or, Contains, IsTrue, refl}
+use Rattle.std.specs.Prelude.{◌≡◌, ℕ, ◌+◌, ◌-◌, ◌<◌, ◌⊎◌, ◌↔◌, min, max, List, [], ◌∷◌, length, drop, slice_get, Bool, true, false, Option, Some, None, unwrap_or, Contains, IsTrue, Result, IfOk, IsErr, refl}
 use Rattle.std.proofs.Common.{subst, sym}
 use Rattle.std.proofs.lemmas.List.{get_or-drop}
-use Rattle.vms_io.specs.Causes.{KeepsPromise, capped}
+use Rattle.vms_io.specs.Causes.{KeepsPromise, CountsFailures, capped}
 use Rattle.vms_kinds.specs.Bytes.{IsBytes}
 
 -- A source in memory: the rest of the bytes, the greatest piece of each read, and the numbers of the
@@ -37,6 +37,26 @@ taken_of s room = min (min (piece_of s.pieces s.calls) room) (length s.left)
 -- piece isn't empty
 abbrev pub WriteFails : Store → ℕ → Type 0
 WriteFails s long = Contains s.failing (capped (s.calls + 1)) ⊎ ((s.room ≡ length s.bytes) × (0 < long))
+
+-- the source counts this read, which fails if its number is listed, and otherwise takes as many
+-- bytes as its turn says; the lists are unchanged
+pub record IsNextRead {E : Type 0} (old new : Supply) (room : ℕ) (result : Result ℕ E) : Type 0 where
+  pub takes : IfOk result (λ n. n ≡ taken_of old room)
+  pub fails : IsErr result ↔ Contains old.failing (capped (old.calls + 1))
+  pub calls : new.calls ≡ capped (old.calls + 1)
+  pub faults : CountsFailures old.faults new.faults result
+  pub pieces : new.pieces ≡ old.pieces
+  pub failing : new.failing ≡ old.failing
+
+-- the sink counts this write, which fails if it has to, and otherwise takes as many bytes of a piece
+-- of this length as there is room for; the room and the list are unchanged
+pub record IsNextWrite {E : Type 0} (old new : Store) (long : ℕ) (result : Result ℕ E) : Type 0 where
+  pub takes : IfOk result (λ n. n ≡ min (old.room - length old.bytes) long)
+  pub fails : IsErr result ↔ WriteFails old long
+  pub calls : new.calls ≡ capped (old.calls + 1)
+  pub faults : CountsFailures old.faults new.faults result
+  pub room : new.room ≡ old.room
+  pub failing : new.failing ≡ old.failing
 
 -- the list is empty
 abbrev pub is_empty : List ℕ → Bool

@@ -16,12 +16,10 @@ use Rattle.vms_rules_laws.specs.Eight.{At, IsWithinTest, Nests, Uses, UsesOn, pa
 -- ---- tests
 
 pub part_count : (t : Formula) → length (parts_of t) ≡ nodes t
-part_count (AtLeast n) = refl
-part_count (Below n) = refl
-part_count (Cell whose field mask rel value) = refl
 part_count (Not t) = omega (arith, part_count t)
 part_count (And s t) = omega (arith, part_count s, part_count t, length-append (parts_of s) (parts_of t))
 part_count (Or s t) = omega (arith, part_count s, part_count t, length-append (parts_of s) (parts_of t))
+part_count _ = refl
 
 pub shallow_test : (n : ℕ) (t : Formula) → (Nests n t → ⊥) → depth t ≤ n
 shallow_test zero t h = absurd (h tt)
@@ -30,7 +28,7 @@ shallow_test (suc n) (Below m) h = omega arith
 shallow_test (suc n) (Cell whose field mask rel value) h = omega arith
 shallow_test (suc n) (Not t) h = omega (arith, shallow_test n t (λ nests. h (t, refl, nests)))
 shallow_test (suc n) (And s t) h =
-    let both = max-le (shallow_test n s (λ nests. h (s, inl refl, nests))) (shallow_test n t (λ nests. h (t, inr refl, nests))) in omega (arith, both)
+    let both = max-le (shallow_test n s (λ nests. h (s, inl refl, nests))) (shallow_test n t (λ nests. h (t, inr refl, nests))) in omega arith
 shallow_test (suc n) (Or s t) h =
     let both = max-le (shallow_test n s (λ nests. h (s, inl refl, nests))) (shallow_test n t (λ nests. h (t, inr refl, nests))) in omega arith
 
@@ -43,17 +41,17 @@ within_less : (s t : Formula) → IsWithinTest s t → depth s < depth t
 within_less s (AtLeast m) w = absurd w
 within_less s (Below m) w = absurd w
 within_less s (Cell whose field mask rel value) w = absurd w
-within_less s (Not t) w = subst (λ (u : Formula). depth u < 1 + depth t) (sym w) (omega arith)
+within_less s (Not t) w = rw w (omega arith)
 within_less s (And t u) w = either t u w
   where
     either : (t u : Formula) → (s ≡ t) ⊎ (s ≡ u) → depth s < 1 + max (depth t) (depth u)
-    either t u (inl e) = let l = le-max_left (depth t) (depth u) in let same = ap depth e in omega (arith, l, same)
-    either t u (inr e) = let l = le-max_right (depth t) (depth u) in let same = ap depth e in omega (arith, l, same)
+    either t u (inl e) = let l = le-max_left (depth t) (depth u) in let same = ap depth e in omega arith
+    either t u (inr e) = let l = le-max_right (depth t) (depth u) in let same = ap depth e in omega arith
 within_less s (Or t u) w = either t u w
   where
     either : (t u : Formula) → (s ≡ t) ⊎ (s ≡ u) → depth s < 1 + max (depth t) (depth u)
-    either t u (inl e) = let l = le-max_left (depth t) (depth u) in let same = ap depth e in omega (arith, l, same)
-    either t u (inr e) = let l = le-max_right (depth t) (depth u) in let same = ap depth e in omega (arith, l, same)
+    either t u (inl e) = let l = le-max_left (depth t) (depth u) in let same = ap depth e in omega arith
+    either t u (inr e) = let l = le-max_right (depth t) (depth u) in let same = ap depth e in omega arith
 
 pub deep_test : (n : ℕ) (t : Formula) → Nests n t → n < depth t
 deep_test zero t h = some_depth t
@@ -108,13 +106,11 @@ module _ (ds : List Desc) where
   deep_struct (suc n) i l h =
       let j = h.0 in
       let uses = h.1 in
-      let less = uses.earlier in
-      let inner = deep_struct n j (omega arith) h.2 in
       let own = own-depth i uses.desc uses.there in
-      let same = earlier-depth i j l less in
+      let same = earlier-depth i j l uses.earlier in
       let among : item_depth (depths ds i) uses.field.item ≤ deepest (depths ds i) uses.desc.fields = as-deep (depths ds i) uses.desc.fields uses.place uses.field uses.among in
       let here : get_or (depths ds i) j 0 ≤ deepest (depths ds i) uses.desc.fields = rw uses.is at among in
-      omega arith
+      omega (arith, deep_struct n j (omega arith) h.2)
 
   -- a structure in which uses nest less than n times has depth at most n
   abbrev IsBounded : ℕ → Type 0
@@ -138,6 +134,4 @@ module _ (ds : List Desc) where
   pub shallow_struct : (n i : ℕ) (d : Desc) → At ds i d → (UsesOn ds n i → ⊥) → depth_at ds i ≤ n
   shallow_struct zero i d e h = absurd (h tt)
   shallow_struct (suc n) i d e h =
-      let own = own-depth i d e in
-      let most = most-deep (depths ds i) n d.fields (λ k f g. bounded-item n i d e (shallow_struct n) h k f g f.item refl) in
-      omega arith
+      omega (arith, most-deep (depths ds i) n d.fields (λ k f g. bounded-item n i d e (shallow_struct n) h k f g f.item refl), own-depth i d e)

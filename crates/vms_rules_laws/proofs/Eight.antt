@@ -50,7 +50,7 @@ any_found p xs zero e = absurd (never e)
 any_found p [] (suc i) e = absurd (never e)
 any_found p (x ∷ xs) (suc i) e = elim (split (p x) (list_any p (take i xs)) e) [
   | inl a ↦ (0, x, omega arith, refl, a)
-  | inr b ↦ let r = any_found p xs i b in (suc r.0, r.1, omega (arith, r.2), r.3, r.4)
+  | inr b ↦ let r = any_found p xs i b in (suc r.0, r.1, omega arith, r.3, r.4)
 ]
 
 any_there : {X : Type 0} (p : X → Bool) (xs : List X) (i k : ℕ) (x : X) → k < i → At xs k x → p x ≡ true → list_any p (take i xs) ≡ true
@@ -68,8 +68,7 @@ same_decides name instance e = Decides-and (bytes_eq e.desc.name name) (e.instan
 new_device_decides : (set : Set) (i : ℕ) (d : Device) → Decides (not (list_any (is_same_device d.desc.name d.instance) (take i set.devices))) (AreNone set i d)
 new_device_decides set i d =
     let same = is_same_device d.desc.name d.instance in
-    let any : Decides (list_any same (take i set.devices)) (list_any same (take i set.devices) ≡ true) = (λ e. e, λ e. e) in
-    let none = Decides-not (list_any same (take i set.devices)) any in (
+    let none = Decides-not (list_any same (take i set.devices)) (λ e. e, λ e. e) in (
       λ e j x lt there is. none.0 e (any_there same set.devices i j x lt there ((same_decides d.desc.name d.instance x).1 is)),
       λ h. none.1 (λ t. let r = any_found same set.devices i t in h r.0 r.1 r.2 r.3 ((same_decides d.desc.name d.instance r.1).0 r.4)),
     )
@@ -251,8 +250,7 @@ module _ (set : Set) (well : WellFormed set) where
   own_size : AllTrue (size_rules set)
   unfolding first_fault
   own_size =
-      let a = or_else_none first_rules (or_else of_structs (or_else of_devices last_rules)) well in
-      let b = or_else_none of_structs (or_else of_devices last_rules) a.1 in
+      let b = or_else_none of_structs (or_else of_devices last_rules) (or_else_none first_rules (or_else of_structs (or_else of_devices last_rules)) well).1 in
       all_true 1 (size_rules set) (here parts.Set) (or_else_none of_devices last_rules b.1).1
 
   obeys : ObeysRules set
@@ -297,7 +295,7 @@ well_formed set h =
         ),
       ),
     ) in
-    let most : devices_items (struct_items set.structs) set.devices ≤ MOST_ITEMS = let l = h.items in omega (arith, set_counts set set.devices) in
+    let most : devices_items (struct_items set.structs) set.devices ≤ MOST_ITEMS = omega (arith, set_counts set set.devices) in
     let size : AllTrue (size_rules set) =
     (refl, (refl, (refl, (refl, (refl, (refl, (le-leb (devices_items (struct_items set.structs) set.devices) MOST_ITEMS most, (refl, tt)))))))) in
     let structs = first_answer (struct_fault set.structs) 0 set.structs in

@@ -81,28 +81,22 @@ count_decides d i (Counted k n) = (λ e. so e, λ h. back (h k n refl))
     back h = and_from (is_earlier_in d i k) (is_counting (slice_get d.fields k)) ((earlier_decides d i k).1 h.0) (item_at h.0.1 ∙ (counting_decides h.0.1.field.item).1 h.1)
 
 uses_decides : (k : ℕ) (item : Item) → Decides (uses_below k item) ((j : ℕ) → item ≡ Struct j → j < k)
-uses_decides k (Num kind) = (λ e j same. absurd (cc), λ h. refl)
-uses_decides k (Equal kind z) = (λ e j same. absurd (cc), λ h. refl)
-uses_decides k (Unused n) = (λ e j same. absurd (cc), λ h. refl)
-uses_decides k (Struct i) =
-    (λ e j same. let is : i ≡ j = cc in subst (λ n. n < k) is ((Decides-ltb i k).0 e), λ h. (Decides-ltb i k).1 (h i refl))
+uses_decides k (Struct i) = (λ e j same. let is : i ≡ j = cc in rw is at ((Decides-ltb i k).0 e), λ h. (Decides-ltb i k).1 (h i refl))
+uses_decides k _ = (λ e j same. absurd (cc), λ h. refl)
 
 unused_decides : (item : Item) → Decides (is_small_item item) ((n : ℕ) → item ≡ Unused n → IsWithin 1 MOST_UNUSED n)
-unused_decides (Num kind) = (λ e n same. absurd (cc), λ h. refl)
-unused_decides (Equal kind z) = (λ e n same. absurd (cc), λ h. refl)
-unused_decides (Struct j) = (λ e n same. absurd (cc), λ h. refl)
 unused_decides (Unused m) =
-    (λ e n same. let is : m ≡ n = cc in subst (λ k. IsWithin 1 MOST_UNUSED k) is ((within_decides 1 MOST_UNUSED m).0 e), λ h. (within_decides 1 MOST_UNUSED m).1 (h m refl))
+    (λ e n same. let is : m ≡ n = cc in rw is at ((within_decides 1 MOST_UNUSED m).0 e), λ h. (within_decides 1 MOST_UNUSED m).1 (h m refl))
+unused_decides _ = (λ e n same. absurd (cc), λ h. refl)
 
 good_count_decides : (item : Item) (c : Count) → Decides (has_good_count item c) (CountFits item c)
-good_count_decides (Equal kind z) c = one_decides c
-good_count_decides (Unused n) c = one_decides c
 good_count_decides (Num kind) One = (λ e. tt, λ h. refl)
 good_count_decides (Num kind) (Fixed n) = le_decides 1 n
 good_count_decides (Num kind) (Counted by most) = le_decides 1 most
 good_count_decides (Struct j) One = (λ e. tt, λ h. refl)
 good_count_decides (Struct j) (Fixed n) = le_decides 1 n
 good_count_decides (Struct j) (Counted by most) = le_decides 1 most
+good_count_decides _ c = one_decides c
 
 -- ---- defaults
 
@@ -133,18 +127,16 @@ module _ (P : ℕ → Type 0) (i : ℕ) where
   pick-on f fs by most false e h = (λ m same. let is : by ≡ i = cc in absurd (never (sym e ∙ eq-eqb by i is)), h)
 
   pick-back : (f : Field) (fs : List Field) (by most : ℕ) (b : Bool) → (by == i) ≡ b → OfOne (Counted by most) → AllByRecursion P (counted i fs) → AllByRecursion P ((if b then most ∷ [] else []) ++ counted i fs)
-  pick-back f fs by most true e one h = (one most (ap (λ n. Counted n most) (eqb-true by i e)), h)
+  pick-back f fs by most true e one h = (one most (rw (eqb-true by i e)), h)
   pick-back f fs by most false e one h = h
 
   first-on : (c : Count) (f : Field) (fs : List Field) → AllByRecursion P (counted i (of_count c f ∷ fs)) → OfOne c × AllByRecursion P (counted i fs)
-  first-on One f fs h = (λ m same. absurd (cc), h)
-  first-on (Fixed n) f fs h = (λ m same. absurd (cc), h)
   first-on (Counted by most) f fs h = pick-on f fs by most (by == i) refl h
+  first-on _ f fs h = (λ m same. absurd (cc), h)
 
   first-back : (c : Count) (f : Field) (fs : List Field) → OfOne c → AllByRecursion P (counted i fs) → AllByRecursion P (counted i (of_count c f ∷ fs))
-  first-back One f fs one h = h
-  first-back (Fixed n) f fs one h = h
   first-back (Counted by most) f fs one h = pick-back f fs by most (by == i) refl one h
+  first-back _ f fs one h = h
 
   pub counted_each : (fs : List Field) → AllByRecursion P (counted i fs) → OfCounted fs
   counted_each [] h = λ j most g there same. absurd (cc)

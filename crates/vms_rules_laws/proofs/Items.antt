@@ -19,15 +19,15 @@ items_append (x ∷ xs) ys = omega (arith, items_append xs ys)
 
 items_behind : (step : ℕ × ℕ) (text : List ℕ) (c p : Bool) (xs : List Element) → items_among (map (behind step text c p) xs) ≡ items_among xs
 items_behind step text c p [] = refl
-items_behind step text c p (x ∷ xs) = ap (λ n. item_number x.what + n) (items_behind step text c p xs)
+items_behind step text c p (x ∷ xs) = rw (items_behind step text c p xs)
 
 items_dotted : (xs : List Element) → items_among (map dotted xs) ≡ items_among xs
 items_dotted [] = refl
-items_dotted (x ∷ xs) = ap (λ n. item_number x.what + n) (items_dotted xs)
+items_dotted (x ∷ xs) = rw (items_dotted xs)
 
 items_absent : (xs : List Element) → items_among (map absent xs) ≡ items_among xs
 items_absent [] = refl
-items_absent (x ∷ xs) = ap (λ n. item_number x.what + n) (items_absent xs)
+items_absent (x ∷ xs) = rw (items_absent xs)
 
 -- each structure's elements have the number of items that its size says
 abbrev AreCounted : List Shape → List ℕ → Type 0
@@ -35,20 +35,17 @@ AreCounted ss sizes = (j : ℕ) (numbers : List ℤ) (at : ℕ) → items_among 
 
 module _ (ss : List Shape) (sizes : List ℕ) (good : AreCounted ss sizes) where
   item_counts : (item : Item) (caps : List ℕ) (z : ℤ) (n : List ℤ) (at : ℕ) → items_among (item_elements ss item caps z n at) ≡ item_count sizes item
-  item_counts (Num kind) caps z n at = refl
-  item_counts (Equal kind y) caps z n at = refl
-  item_counts (Unused k) caps z n at = refl
   item_counts (Struct j) caps z n at = items_dotted ((get_or ss j no_shape).elements n at) ∙ good j n at
+  item_counts _ caps z n at = refl
 
   array_counts : (f : Field) (stand : Stand) (part : ℕ → List Element) (size : ℕ) → ((at : ℕ) → items_among (part at) ≡ size)
       → (step e n at : ℕ) → items_among (array_elements f stand part step e n at) ≡ n * size
   array_counts f stand part size h step e zero at = omega arith
   array_counts f stand part size h step e (suc n) at =
       let here = map (behind (stand.number, e) (f.name ++ index_text f.count e) (nat_lt e stand.count) (stand.there && nat_lt e stand.count)) (part at) in
-      let later = array_elements f stand part step (suc e) n (at + step) in
       let own = items_behind (stand.number, e) (f.name ++ index_text f.count e) (nat_lt e stand.count) (stand.there && nat_lt e stand.count) (part at) ∙ h at in
       let rest = array_counts f stand part size h step (suc e) n (at + step) in
-      items_append here later ∙ omega (arith, suc-mul n size)
+      items_append here (array_elements f stand part step (suc e) n (at + step)) ∙ omega (arith, suc-mul n size)
 
   field_counts : (fields : List Field) (v : ℕ) (own : ℕ → ℕ) (n : List ℤ) (i at : ℕ) (f : Field) → items_among (field_elements ss fields v own n i at f) ≡ capacity_of f.count * item_count sizes f.item
   field_counts fields v own n i at f =
@@ -65,11 +62,8 @@ module _ (ss : List Shape) (sizes : List ℕ) (good : AreCounted ss sizes) where
   desc_counts : (d : Desc) (v : ℕ) (n : List ℤ) (at : ℕ) → items_among (desc_elements ss d v n at) ≡ items_in sizes d.fields
   desc_counts d v n at =
       let own = numbers_of (cells_in ss) d n at in
-      let fields = elements_from ss d.fields v own n 0 at d.fields in
       let end = single (at + length (desc_cells (cells_in ss) d)) (Rule (all_hold d.validate v own)) in
-      let all = items_append fields (end ∷ []) in
-      let each = fields_count d.fields v own n 0 at d.fields in
-      omega arith
+      omega (arith, fields_count d.fields v own n 0 at d.fields, items_append (elements_from ss d.fields v own n 0 at d.fields) (end ∷ []))
 
 are_counted : (ds : List Desc) (k : ℕ) → AreCounted (first shape ds k) (first (λ sizes d. items_in sizes d.fields) ds k)
 unfolding first
@@ -88,22 +82,16 @@ module _ (set : Set) where
   subs_count : (subs : List Sub) (n : List ℤ) (at : ℕ) → items_among (subs_elements set subs (map (λ s. None) subs) n at) ≡ subs_items (struct_items set.structs) subs
   subs_count [] n at = refl
   subs_count (s ∷ subs) n at =
-      let here = map absent (elements_in set s.desc s.desc.version n at) in
       let next = at + length (desc_cells (struct_cells set) s.desc) in
-      let later = subs_elements set subs (map (λ s. None) subs) n next in
-      let all = items_append here later in
       let own = items_absent (elements_in set s.desc s.desc.version n at) ∙ part_counts s.desc s.desc.version n at in
       let rest = subs_count subs n next in
-      omega arith
+      omega (arith, items_append (map absent (elements_in set s.desc s.desc.version n at)) (subs_elements set subs (map (λ s. None) subs) n next))
 
   pub set_counts : (devices : List Device) → items_of set devices ≡ devices_items (struct_items set.structs) devices
   set_counts [] = refl
   set_counts (d ∷ devices) =
       let image = default_image set d in
-      let own = elements_in set d.desc image.version image.numbers 0 in
-      let subs = subs_elements set d.subs image.came image.numbers (own_cells set d) in
-      let all = items_append own subs in
       let here = part_counts d.desc image.version image.numbers 0 in
       let later = subs_count d.subs image.numbers (own_cells set d) in
       let rest = set_counts devices in
-      omega arith
+      omega (arith, items_append (elements_in set d.desc image.version image.numbers 0) (subs_elements set d.subs image.came image.numbers (own_cells set d)))

@@ -70,9 +70,8 @@ sub_name_decides device name = (parts, back)
     back h =
         let whole : name ≡ (device ++ 47 ∷ []) ++ h.tail = h.is ∙ sym (append_assoc device (47 ∷ []) h.tail) in
         let front : take n name ≡ device ++ 47 ∷ [] = ap (take n) whole ∙ take_at (device ++ 47 ∷ []) h.tail n long in
-        let rest : drop n name ≡ h.tail = ap (drop n) whole ∙ drop_at (device ++ 47 ∷ []) h.tail n long in
         and_from (bytes_eq (take n name) (device ++ 47 ∷ [])) (is_name 64 (drop n name)) ((bytes_eq-Decides (take n name) (device ++ 47 ∷ [])).1 front)
-        (rw rest ((name_decides 64 h.tail).1 h.named))
+        (rw (ap (drop n) whole ∙ drop_at (device ++ 47 ∷ []) h.tail n long) ((name_decides 64 h.tail).1 h.named))
 
 -- ---- distinct names
 

@@ -47,7 +47,7 @@ one_of_decides [] name = (λ e. absurd (never e), λ h. absurd (cc))
 one_of_decides (m ∷ names) name = more (one_of_decides names name)
   where
     found : ((bytes_eq m name ≡ true) ⊎ (is_one_of names name ≡ true)) → Decides (is_one_of names name) ((k : ℕ) × At names k name) → (k : ℕ) × At (m ∷ names) k name
-    found (inl a) later = (0, ap (λ n. Some n) ((bytes_eq-Decides m name).0 a))
+    found (inl a) later = (0, rw ((bytes_eq-Decides m name).0 a))
     found (inr b) later = let r = later.0 b in (suc r.0, r.1)
 
     there : Decides (is_one_of names name) ((k : ℕ) × At names k name) → (k : ℕ) → At (m ∷ names) k name → is_one_of (m ∷ names) name ≡ true
@@ -62,12 +62,12 @@ mapped : {X : Type 0} (f : X → List ℕ) (xs : List X) (i k : ℕ) (n : List �
 mapped f xs zero k n e = absurd (cc)
 mapped f [] (suc i) k n e = absurd (cc)
 mapped f (y ∷ ys) (suc i) zero n e = let same : f y ≡ n = cc in (y, omega arith, refl, same)
-mapped f (y ∷ ys) (suc i) (suc k) n e = let r = mapped f ys i k n e in (r.0, omega (arith, r.1), r.2, r.3)
+mapped f (y ∷ ys) (suc i) (suc k) n e = let r = mapped f ys i k n e in (r.0, omega arith, r.2, r.3)
 
 unmapped : {X : Type 0} (f : X → List ℕ) (xs : List X) (i k : ℕ) (x : X) → k < i → At xs k x → At (map f (take i xs)) k (f x)
 unmapped f xs zero k x lt e = absurd (omega arith)
 unmapped f [] (suc i) k x lt e = absurd (cc)
-unmapped f (y ∷ ys) (suc i) zero x lt e = let same : y ≡ x = cc in ap (λ z. Some (f z)) same
+unmapped f (y ∷ ys) (suc i) zero x lt e = let same : y ≡ x = cc in rw same
 unmapped f (y ∷ ys) (suc i) (suc k) x lt e = unmapped f ys i k x (omega arith) e
 
 pub new_decides : {X : Type 0} (f : X → List ℕ) (xs : List X) (i : ℕ) (name : List ℕ) → Decides (not (is_one_of (map f (take i xs)) name)) (IsNew f xs i name)
@@ -154,8 +154,6 @@ module _ (own parent : ℕ → Bool) (O P : ℕ → Type 0) where
   or_names s t r = (λ e. let g = r.0 e in record { own = g.own; parent = g.parent }, λ h. r.1 (record { own = h.own; parent = h.parent }))
 
   pub names_decides : ((k : ℕ) → Decides (own k) (O k)) → ((k : ℕ) → Decides (parent k) (P k)) → (t : Formula) → Of t
-  names_decides o p (AtLeast n) = (λ e. record { own = λ k x. absurd x; parent = λ k x. absurd x }, λ h. refl)
-  names_decides o p (Below n) = (λ e. record { own = λ k x. absurd x; parent = λ k x. absurd x }, λ h. refl)
   names_decides o p (Cell Own j mask rel value) =
       (λ e. record { own = λ k x. subst O x.1 ((o j).0 e); parent = λ k x. absurd (cc) }, λ h. (o j).1 (h.own j (refl, refl)))
   names_decides o p (Cell Parent j mask rel value) =
@@ -165,3 +163,4 @@ module _ (own parent : ℕ → Bool) (O P : ℕ → Type 0) where
       (λ e. let g = r.0 e in record { own = g.own; parent = g.parent }, λ h. r.1 (record { own = h.own; parent = h.parent }))
   names_decides o p (And s t) = both_name s t (names_decides o p s) (names_decides o p t)
   names_decides o p (Or s t) = or_names s t (both_name s t (names_decides o p s) (names_decides o p t))
+  names_decides o p _ = (λ e. record { own = λ k x. absurd x; parent = λ k x. absurd x }, λ h. refl)

@@ -10,15 +10,15 @@ use Rattle.vms_spec.proofs.ListLaws.{both_none}
 module _ {X Y : Type 0} (f : X → Y) where
   pub map_both : {Z : Type 0} (g : Y → Z) (xs : List X) → map g (map f xs) ≡ map (λ x. g (f x)) xs
   map_both g [] = refl
-  map_both g (x ∷ xs) = ap (λ l. g (f x) ∷ l) (map_both g xs)
+  map_both g (x ∷ xs) = rw (map_both g xs)
 
   pub position_map : (p : Y → Bool) (k : ℕ) (xs : List X) → position p k (map f xs) ≡ position (λ x. p (f x)) k xs
   position_map p k [] = refl
-  position_map p k (x ∷ xs) = ap (λ (o : Option ℕ). if p (f x) then Some k else o) (position_map p (suc k) xs)
+  position_map p k (x ∷ xs) = rw (position_map p (suc k) xs)
 
   pub any_map : (p : Y → Bool) (xs : List X) → list_any p (map f xs) ≡ list_any (λ x. p (f x)) xs
   any_map p [] = refl
-  any_map p (x ∷ xs) = ap (λ (b : Bool). p (f x) || b) (any_map p xs)
+  any_map p (x ∷ xs) = rw (any_map p xs)
 
   pub at_map : (xs : List X) (o : Option ℕ) → at_option (map f xs) o ≡ option_map f (at_option xs o)
   at_map xs None = refl

@@ -63,9 +63,9 @@ module _ (set : Set) (names : List (List ℕ)) (well : WellFormed set) (heads : 
       let is : e.more ++ (x ∷ u) ≡ (e.more ++ x ∷ []) ++ u = sym (append_assoc e.more (x ∷ []) u) in
       record {
         more = e.more ++ x ∷ [];
-        front = subst (Front set names) is e.front;
-        over = subst (λ (w : List Piece). owes (due set w) [] ≡ false) is e.over;
-        octets = λ h. subst (λ (w : List Piece). IsBytes (spelled w)) is (e.octets (bytes_both (spelled u) (spell x) h (bytes_at (spell x) ok)));
+        front = rw is at e.front;
+        over = rw is at e.over;
+        octets = λ h. rw is at (e.octets (bytes_both (spelled u) (spell x) h (bytes_at (spell x) ok)));
       }
 
   -- ---- the fields of the open part
@@ -75,10 +75,8 @@ module _ (set : Set) (names : List (List ℕ)) (well : WellFormed set) (heads : 
   constants_of (Some k) i p = by (slice_get set.devices k) refl p
     where
       of_sub : (d : Device) → slice_get set.devices k ≡ Some d → (j : ℕ) (s : Option Sub) → slice_get d.subs j ≡ s → (c : Option (Option ℕ)) → AreConstants (slots_of_sub set d i j s c)
-      of_sub d e j None f c = tt
-      of_sub d e j (Some s) f None = tt
-      of_sub d e j (Some s) f (Some None) = tt
       of_sub d e j (Some s) f (Some (Some v)) = part_constants set (well_good set well heads) k j d s e f v (sub_place set (own_cells set d) d.subs j) i.numbers
+      of_sub d e j _ f _ = tt
 
       by : (o : Option Device) → slice_get set.devices k ≡ o → (p : Option ℕ) → AreConstants (part_slots set o i p)
       by None e p = tt
@@ -96,18 +94,13 @@ module _ (set : Set) (names : List (List ℕ)) (well : WellFormed set) (heads : 
       → (due set u ≡ AfterFields k (tail set u) → Goes u) → Goes u
   one_field u k front is (AllPassed e) number constant filler behind = behind (is ∙ e)
   one_field u k front is (ANumber c kind capacities e lt) number constant filler behind =
-      let x = Number c kind (pos 0) in
-      on u x front (subst (λ (d : Due). May d x) (sym (is ∙ e)) (AtNumber k c kind capacities (pos 0) (zero_in kind)))
-      (ap (λ (d : Due). first_of set names d (known set u) x) (is ∙ e) ∙ number_passes set names (known set u) k c kind capacities)
-      (code_bytes kind (pos 0)) (number c kind lt)
+      on u (Number c kind (pos 0)) front (rw (is ∙ e) (AtNumber k c kind capacities (pos 0) (zero_in kind)))
+      (rw (is ∙ e) (number_passes set names (known set u) k c kind capacities)) (code_bytes kind (pos 0)) (number c kind lt)
   one_field u k front is (AConstant kind z r e lt) number constant filler behind =
-      let x = Constant kind z in
-      on u x front (subst (λ (d : Due). May d x) (sym (is ∙ e)) (AtConstant k kind z z (raw_in kind z r)))
-      (ap (λ (d : Due). first_of set names d (known set u) x) (is ∙ e) ∙ constant_passes set names (known set u) k kind z r)
+      on u (Constant kind z) front (rw (is ∙ e) (AtConstant k kind z z (raw_in kind z r))) (rw (is ∙ e) (constant_passes set names (known set u) k kind z r))
       (code_bytes kind z) (constant kind z lt)
   one_field u k front is (AFiller n e lt) number constant filler behind =
-      let x = Filler (replicate n 0) in
-      on u x front (subst (λ (d : Due). May d x) (sym (is ∙ e)) (AtFiller k n (replicate n 0) (length-replicate n 0)))
+      on u (Filler (replicate n 0)) front (rw (is ∙ e) (AtFiller k n (replicate n 0) (length-replicate n 0)))
       refl (zeros_bytes n) (filler n lt)
 
   -- more slots than there are aren't passed
@@ -127,14 +120,12 @@ module _ (set : Set) (names : List (List ℕ)) (well : WellFormed set) (heads : 
   fields_on zero u k most front opened_so is fits far next =
       one_field u k front is
       (next_of (tail set u) k (left u) (constants_left (passed set u) (slots set u) (constants_of (opened set u) (image set u) (part set u))))
-      (λ c kind lt f. absurd (never_past u most (fits (image set u)) far lt))
-      (λ kind z lt f. absurd (never_past u most (fits (image set u)) far lt))
-      (λ n lt f. absurd (never_past u most (fits (image set u)) far lt))
-      (λ e. next u front e refl)
+      (λ c kind lt f. absurd (never_past u most (fits (image set u)) far lt)) (λ kind z lt f. absurd (never_past u most (fits (image set u)) far lt))
+      (λ n lt f. absurd (never_past u most (fits (image set u)) far lt)) (λ e. next u front e refl)
   fields_on (suc fuel) u k most front opened_so is fits far next =
       let far' : most ≤ suc (passed set u + skipped (left u)) + fuel = omega arith in
       let field : (x : Piece) → opened set (x ∷ u) ≡ Some k → due_field (tail set (x ∷ u)) (opened set (x ∷ u)) (left (x ∷ u)) ≡ due_field (tail set (x ∷ u)) (Some k) (left (x ∷ u)) =
-      λ x e. ap (λ (o : Option ℕ). due_field (tail set (x ∷ u)) o (left (x ∷ u))) e in
+      λ x e. rw e in
       one_field u k front is
       (next_of (tail set u) k (left u) (constants_left (passed set u) (slots set u) (constants_of (opened set u) (image set u) (part set u))))
       (λ c kind lt f. fields_on fuel (Number c kind (pos 0) ∷ u) k most f opened_so (field (Number c kind (pos 0)) opened_so) fits far' next)
@@ -157,14 +148,14 @@ module _ (set : Set) (names : List (List ℕ)) (well : WellFormed set) (heads : 
 
   opens_between : (u : List Piece) (first after : Bool) → due set u ≡ Between first after → Opens u
   opens_between u first after is = record {
-    head = λ id name instance v f g h. subst (λ (d : Due). May d (Head id name instance v)) (sym is) (AtHead first after id name instance v f g h);
-    end = subst (λ (d : Due). May d End) (sym is) (AtEnd first after);
+    head = λ id name instance v f g h. rw is (AtHead first after id name instance v f g h);
+    end = rw is (AtEnd first after);
   }
 
   opens_bare : (u : List Piece) (k : ℕ) → due set u ≡ AfterFields k Bare → Opens u
   opens_bare u k is = record {
-    head = λ id name instance v f g h. subst (λ (d : Due). May d (Head id name instance v)) (sym is) (AtNext k Bare (Head id name instance v) refl (AtHead false false id name instance v f g h));
-    end = subst (λ (d : Due). May d End) (sym is) (AtNext k Bare End refl (AtEnd false false));
+    head = λ id name instance v f g h. rw is (AtNext k Bare (Head id name instance v) refl (AtHead false false id name instance v f g h));
+    end = rw is (AtNext k Bare End refl (AtEnd false false));
   }
 
   abbrev Open : List Bool → Type 0
@@ -187,7 +178,7 @@ module _ (set : Set) (names : List (List ℕ)) (well : WellFormed set) (heads : 
   foot_on : (u : List Piece) (k : ℕ) (t : Tail) → is_foot t 0x7e ≡ true → Fine u → due set u ≡ AfterFields k t → Open (come set u) → Goes u
   foot_on u k t may front is next =
       let x = Foot (id_of u) in
-      on u x front (subst (λ (d : Due). May d x) (sym is) (AtFoot k t (id_of u) may (id_fits u front)))
+      on u x front (rw is (AtFoot k t (id_of u) may (id_fits u front)))
       (foot_passes set names (due set u) (known set u) (id_of u) refl) (foot_bytes (id_of u)) (λ f. next (x ∷ u) f (opens_between (x ∷ u) false false refl) refl)
 
   -- after the fields of a section comes its footer, or, if sections have none, what may come between sections
@@ -206,7 +197,7 @@ module _ (set : Set) (names : List (List ℕ)) (well : WellFormed set) (heads : 
       on u x front (opens.head 0 d.desc.name d.instance v (omega arith) tops.0 tops.1)
       (head_passes set names (due set u) (known set u) 0 d.desc.name d.instance v k d named there new (leb-true d.desc.minimum v (device_parts set well k d there).0.own.1.1.0, omega arith))
       (let named = (parts_named set well k d there).0 in head_bytes 0 d.instance v d.desc.name named.octets named.short)
-      (λ f. part_on (x ∷ u) k f named (ap (λ (o : Option ℕ). due_field (tail set (x ∷ u)) o (left (x ∷ u))) named)
+      (λ f. part_on (x ∷ u) k f named (rw named)
       (λ w g is same. close_on w k (tail set w) g is (λ y h may came. next y h may (came ∙ same ∙ ap (mark_come (come set u)) named))))
 
   end_on : (u : List Piece) → Fine u → Opens u → AllCame (come set u) → Goes u
@@ -234,14 +225,12 @@ module _ (set : Set) (names : List (List ℕ)) (well : WellFormed set) (heads : 
     where
       there : (k : ℕ) → slice_get (come set u) k ≡ Some false → (o : Option Device) → slice_get set.devices k ≡ o → ((d : Device) → slice_get set.devices k ≡ Some d → Goes u) → Goes u
       there k e (Some d) f go = go d f
-      there k e None f go =
-          absurd (is_beyond set.devices k (omega (arith, slice_get_within (come set u) k false e, come_long u)) f)
+      there k e None f go = absurd (is_beyond set.devices k (omega (arith, slice_get_within (come set u) k false e, come_long u)) f)
 
       by : Waits (come set u) → ((w : List Piece) → Fine w → Opens w → waiting (come set w) ≤ n → Goes w) → Goes u
       by (NoneWaits all) again = end_on u front opens all
       by (OneWaits k e less) again =
-          there k e (slice_get set.devices k) refl
-          (λ d at. section_on u k d at e front opens (λ w f may came. again w f may (subst (λ (c : List Bool). waiting c ≤ n) (sym came) (omega arith))))
+          there k e (slice_get set.devices k) refl (λ d at. section_on u k d at e front opens (λ w f may came. again w f may (rw came (omega arith))))
 
   sections_on : (u : List Piece) → Fine u → Opens u → Goes u
   sections_on u front opens = devices_on (waiting (come set u)) u front opens (omega arith)
@@ -250,17 +239,16 @@ module _ (set : Set) (names : List (List ℕ)) (well : WellFormed set) (heads : 
 
   -- an open part, or none
   inside_on : (u : List Piece) → Fine u → (o : Option ℕ) → opened set u ≡ o → due set u ≡ due_field (tail set u) o (left u) → Goes u
-  inside_on u front None opened_so is = over_here u front (ap (λ (d : Due). owes d []) is)
+  inside_on u front None opened_so is = over_here u front (rw is)
   inside_on u front (Some k) opened_so is = part_on u k front opened_so is (λ w f due_is same. close_on w k (tail set w) f due_is (λ y g may came. sections_on y g may))
 
   version_on : (u : List Piece) → Fine u → due set u ≡ AVersion → Goes u
   version_on u front is =
-      on u (Version 3) front (subst (λ (d : Due). May d (Version 3)) (sym is) (AtVersion 3 (omega arith))) refl (be32_bytes 3)
+      on u (Version 3) front (rw is (AtVersion 3 (omega arith))) refl (be32_bytes 3)
       (λ f. sections_on (Version 3 ∷ u) f (opens_between (Version 3 ∷ u) true false refl))
 
   pub goes_on : (u : List Piece) → Fine u → Goes u
-  goes_on [] front =
-      on [] (Magic magic) tt (AtMagic magic refl) refl (spelled_bytes magic refl) (λ f. version_on (Magic magic ∷ []) f refl)
+  goes_on [] front = on [] (Magic magic) tt (AtMagic magic refl) refl (spelled_bytes magic refl) (λ f. version_on (Magic magic ∷ []) f refl)
   goes_on (Magic bytes ∷ u) front = version_on (Magic bytes ∷ u) front refl
   goes_on (Version v ∷ u) front = sections_on (Version v ∷ u) front (opens_between (Version v ∷ u) true false refl)
   goes_on (Configuration name ∷ u) front = sections_on (Configuration name ∷ u) front (opens_between (Configuration name ∷ u) false true refl)

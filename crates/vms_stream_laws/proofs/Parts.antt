@@ -28,10 +28,9 @@ held slots = map held_slot slots
 
 -- what is due, that rules hold and how many slots are passed over, of slots whose rules are made to hold
 held_as : (t : Tail) (k : ℕ) (slots : List Slot) → (due_field t (Some k) (held slots) ≡ due_field t (Some k) slots) × (rules_hold (held slots) ≡ true) × (skipped (held slots) ≡ skipped slots)
-held_as t k [] = (refl, refl, refl)
 held_as t k (Rule b ∷ slots) = let h = held_as t k slots in (h.0, h.1, ap suc h.2)
 held_as t k (Filler zero ∷ slots) = let h = held_as t k slots in (h.0, h.1, ap suc h.2)
-held_as t k (_ ∷ slots) = (refl, refl, refl)
+held_as t k _ = (refl, refl, refl)
 
 pub due_held : (t : Tail) (o : Option ℕ) (slots : List Slot) → due_field t o (held slots) ≡ due_field t o slots
 due_held t None slots = refl
@@ -44,7 +43,7 @@ pub drop_held : (n : ℕ) (slots : List Slot) → drop n (held slots) ≡ held (
 drop_held n slots = drop-map held_slot n slots
 
 pub beyond_held : (n : ℕ) (slots : List Slot) → beyond n (held slots) ≡ beyond n slots
-beyond_held n slots = ap (λ (k : ℕ). suc (n + k)) (ap skipped (drop_held n slots) ∙ (held_as Footed 0 (drop n slots)).2)
+beyond_held n slots = rw (ap skipped (drop_held n slots) ∙ (held_as Footed 0 (drop n slots)).2)
 
 -- ---- structures
 
@@ -56,21 +55,18 @@ cells_in ms = map (λ (m : Meaning). m.cells) ms
 
 cells_held : (ms : List Meaning) → cells_in (map held_meaning ms) ≡ cells_in ms
 cells_held [] = refl
-cells_held (m ∷ ms) = ap (λ (l : List (List Cell)). m.cells ∷ l) (cells_held ms)
+cells_held (m ∷ ms) = rw (cells_held ms)
 
 meaning_at : (ms : List Meaning) (j : ℕ) → get_or (map held_meaning ms) j no_meaning ≡ held_meaning (get_or ms j no_meaning)
-meaning_at [] j = refl
-meaning_at (m ∷ ms) zero = refl
 meaning_at (m ∷ ms) (suc j) = meaning_at ms j
+meaning_at _ _ = refl
 
 times_held : (n : ℕ) (f g : ℕ → List Slot) → ((at : ℕ) → f at ≡ held (g at)) → (at step : ℕ) → times n f at step ≡ held (times n g at step)
 times_held zero f g h at step = refl
-times_held (suc n) f g h at step =
-    ap (λ (l : List Slot). l ++ times n f (at + step) step) (h at) ∙ ap (λ (l : List Slot). held (g at) ++ l) (times_held n f g h (at + step) step)
-    ∙ sym (map-append held_slot (g at) (times n g (at + step) step))
+times_held (suc n) f g h at step = rw (h at, times_held n f g h (at + step) step) (sym (map-append held_slot (g at) (times n g (at + step) step)))
 
 item_held : (ms : List Meaning) (item : Item) (caps : List ℕ) (numbers : List ℤ) (at : ℕ) → item_slots (map held_meaning ms) item caps numbers at ≡ held (item_slots ms item caps numbers at)
-item_held ms (Struct j) caps numbers at = ap (λ (m : Meaning). m.slots numbers at) (meaning_at ms j)
+item_held ms (Struct j) caps numbers at = ap (λ m. m.slots numbers at) (meaning_at ms j)
 item_held ms _ caps numbers at = refl
 
 if_held : (there : Bool) (xs ys : List Slot) → xs ≡ held ys → (if there then xs else []) ≡ held (if there then ys else [])
@@ -85,8 +81,7 @@ module _ (ms : List Meaning) (fields : List Field) (v : ℕ) (own : ℕ → ℕ)
       let part : ℕ → List Slot = item_slots ms f.item (counted i fields) numbers in
       let part' : ℕ → List Slot = item_slots (map held_meaning ms) f.item (counted i fields) numbers in
       let step = item_size (cells_in ms) f.item in
-      ap (λ (cs : List (List Cell)). if there then times n part' at (item_size cs f.item) else []) (cells_held ms)
-      ∙ if_held there (times n part' at step) (times n part at step) (times_held n part' part (item_held ms f.item (counted i fields) numbers) at step)
+      rw (cells_held ms) (if_held there (times n part' at step) (times n part at step) (times_held n part' part (item_held ms f.item (counted i fields) numbers) at step))
 
   fields_held : (i at : ℕ) (fs : List Field) → slots_from (map held_meaning ms) fields v own numbers i at fs ≡ held (slots_from ms fields v own numbers i at fs)
   fields_held i at [] = refl
@@ -94,37 +89,30 @@ module _ (ms : List Meaning) (fields : List Field) (v : ℕ) (own : ℕ → ℕ)
       let next = at + length (field_cells (cells_in ms) fields i f) in
       let one' = field_slots (map held_meaning ms) fields v own numbers i at f in
       let one = field_slots ms fields v own numbers i at f in
-      ap (λ (cs : List (List Cell)). one' ++ slots_from (map held_meaning ms) fields v own numbers (suc i) (at + length (field_cells cs fields i f)) fs) (cells_held ms)
-      ∙ ap (λ (l : List Slot). l ++ slots_from (map held_meaning ms) fields v own numbers (suc i) next fs) (field_held i at f)
-      ∙ ap (λ (l : List Slot). held one ++ l) (fields_held (suc i) next fs)
-      ∙ sym (map-append held_slot one (slots_from ms fields v own numbers (suc i) next fs))
+      ap (λ cs. one' ++ slots_from (map held_meaning ms) fields v own numbers (suc i) (at + length (field_cells cs fields i f)) fs) (cells_held ms)
+      ∙ ap (λ l. l ++ slots_from (map held_meaning ms) fields v own numbers (suc i) next fs) (field_held i at f)
+      ∙ ap (λ l. held one ++ l) (fields_held (suc i) next fs) ∙ sym (map-append held_slot one (slots_from ms fields v own numbers (suc i) next fs))
 
 desc_held : (ms : List Meaning) (d : Desc) (v : ℕ) (numbers : List ℤ) (at : ℕ) → desc_slots (map held_meaning ms) (unruled_desc d) v numbers at ≡ held (desc_slots ms d v numbers at)
 desc_held ms d v numbers at =
     let own = numbers_of (cells_in ms) d numbers at in
-    ap (λ (cs : List (List Cell)). slots_from (map held_meaning ms) d.fields v (numbers_of cs d numbers at) numbers 0 at d.fields ++ Rule true ∷ []) (cells_held ms)
-    ∙ ap (λ (l : List Slot). l ++ Rule true ∷ []) (fields_held ms d.fields v own numbers 0 at d.fields)
-    ∙ sym (map-append held_slot (slots_from ms d.fields v own numbers 0 at d.fields) (Rule (all_hold d.validate v own) ∷ []))
+    rw (cells_held ms, fields_held ms d.fields v own numbers 0 at d.fields) (sym (map-append held_slot (slots_from ms d.fields v own numbers 0 at d.fields) (Rule (all_hold d.validate v own) ∷ [])))
 
 meaning_held : (ms : List Meaning) (d : Desc) → meaning (map held_meaning ms) (unruled_desc d) ≡ held_meaning (meaning ms d)
 meaning_held ms d =
     let of : List Cell → (List ℤ → ℕ → List Slot) → Meaning = λ cells slots. record { cells = cells; slots = slots } in
-    ap (λ (cs : List (List Cell)). of (desc_cells cs d) (λ numbers at. desc_slots (map held_meaning ms) (unruled_desc d) d.version numbers at)) (cells_held ms)
+    ap (λ cs. of (desc_cells cs d) (λ numbers at. desc_slots (map held_meaning ms) (unruled_desc d) d.version numbers at)) (cells_held ms)
     ∙ ap (of (desc_cells (cells_in ms) d)) (fun_ext (λ (numbers : List ℤ). fun_ext (λ (at : ℕ). desc_held ms d d.version numbers at)))
 
 desc_at : (ds : List Desc) (k : ℕ) → get_or (map unruled_desc ds) k no_desc ≡ unruled_desc (get_or ds k no_desc)
-desc_at [] k = refl
-desc_at (d ∷ ds) zero = refl
 desc_at (d ∷ ds) (suc k) = desc_at ds k
+desc_at _ _ = refl
 
 -- what doesn't depend on validations is the same for each structure
 pub first_unruled : {B : Type 0} (f : List B → Desc → B) → ((bs : List B) (d : Desc) → f bs (unruled_desc d) ≡ f bs d) → (ds : List Desc) (k : ℕ) → first f (map unruled_desc ds) k ≡ first f ds k
 unfolding first
 first_unruled f h ds zero = refl
-first_unruled {B} f h ds (suc k) =
-    ap (λ (bs : List B). bs ++ f bs (get_or (map unruled_desc ds) k no_desc) ∷ []) (first_unruled f h ds k)
-    ∙ ap (λ (d : Desc). first f ds k ++ f (first f ds k) d ∷ []) (desc_at ds k)
-    ∙ ap (λ (b : B). first f ds k ++ b ∷ []) (h (first f ds k) (get_or ds k no_desc))
+first_unruled {B} f h ds (suc k) = rw (first_unruled f h ds k, desc_at ds k, h (first f ds k) (get_or ds k no_desc))
 
 meanings_held : (ds : List Desc) (k : ℕ) → meanings (map unruled_desc ds) k ≡ map held_meaning (meanings ds k)
 unfolding first
@@ -132,10 +120,7 @@ meanings_held ds zero = refl
 meanings_held ds (suc k) =
     let ms = meanings ds k in
     let d = get_or ds k no_desc in
-    ap (λ (l : List Meaning). l ++ meaning l (get_or (map unruled_desc ds) k no_desc) ∷ []) (meanings_held ds k)
-    ∙ ap (λ (x : Desc). map held_meaning ms ++ meaning (map held_meaning ms) x ∷ []) (desc_at ds k)
-    ∙ ap (λ (m : Meaning). map held_meaning ms ++ m ∷ []) (meaning_held ms d)
-    ∙ sym (map-append held_meaning ms (meaning ms d ∷ []))
+    rw (meanings_held ds k, desc_at ds k, meaning_held ms d) (sym (map-append held_meaning ms (meaning ms d ∷ [])))
 
 -- ---- devices
 
@@ -149,56 +134,46 @@ module _ (set : Set) where
       ∙ first_unruled desc_cells (λ bs d. refl) set.structs (length set.structs)
 
   own_same : (d : Device) → own_cells (unruled set) (unruled_device d) ≡ own_cells set d
-  own_same d = ap (λ (cs : List (List Cell)). length (desc_cells cs d.desc)) cells_same
+  own_same d = rw cells_same
 
   device_same : (d : Device) → device_cells (unruled set) (unruled_device d) ≡ device_cells set d
-  device_same d =
-      ap (λ (cs : List (List Cell)). desc_cells cs d.desc ++ flat_map (λ (s : Sub). desc_cells cs s.desc) (map unruled_sub d.subs)) cells_same
-      ∙ ap (λ (l : List Cell). desc_cells (struct_cells set) d.desc ++ l) (subs_same d.subs)
+  device_same d = rw (cells_same, subs_same d.subs)
     where
       subs_same : (subs : List Sub) → flat_map (λ (s : Sub). desc_cells (struct_cells set) s.desc) (map unruled_sub subs) ≡ flat_map (λ (s : Sub). desc_cells (struct_cells set) s.desc) subs
       subs_same [] = refl
-      subs_same (s ∷ subs) = ap (λ (l : List Cell). desc_cells (struct_cells set) s.desc ++ l) (subs_same subs)
+      subs_same (s ∷ subs) = rw (subs_same subs)
 
   default_same : (d : Device) → default_image (unruled set) (unruled_device d) ≡ default_image set d
   default_same d =
       let of : List (Option ℕ) → List Cell → Image = λ came cells. record { version = d.desc.version; came = came; numbers = map (λ (c : Cell). c.default) cells } in
       let none : Sub → Option ℕ = λ s. None in
-      ap (λ (came : List (Option ℕ)). of came (device_cells (unruled set) (unruled_device d))) (map_both unruled_sub none d.subs)
-      ∙ ap (of (map none d.subs)) (device_same d)
+      rw (map_both unruled_sub none d.subs) (ap (of (map none d.subs)) (device_same d))
 
   pub fresh_same : (o : Option Device) (v : ℕ) → fresh (unruled set) (option_map unruled_device o) v ≡ fresh set o v
   fresh_same None v = refl
   fresh_same (Some d) v = ap (λ (i : Image). record i { version = v }) (default_same d)
 
   place_same : (at : ℕ) (subs : List Sub) (j : ℕ) → sub_place (unruled set) at (map unruled_sub subs) j ≡ sub_place set at subs j
-  place_same at [] j = refl
-  place_same at (s ∷ subs) zero = refl
   place_same at (s ∷ subs) (suc j) =
-      ap (λ (cs : List (List Cell)). sub_place (unruled set) (at + length (desc_cells cs s.desc)) (map unruled_sub subs) j) cells_same
+      ap (λ cs. sub_place (unruled set) (at + length (desc_cells cs s.desc)) (map unruled_sub subs) j) cells_same
       ∙ place_same (at + length (desc_cells (struct_cells set) s.desc)) subs j
+  place_same at _ _ = refl
 
   sub_held : (d : Device) (i : Image) (j : ℕ) (o : Option Sub) (c : Option (Option ℕ)) → slots_of_sub (unruled set) (unruled_device d) i j (option_map unruled_sub o) c ≡ held (slots_of_sub set d i j o c)
-  sub_held d i j None c = refl
-  sub_held d i j (Some s) None = refl
-  sub_held d i j (Some s) (Some None) = refl
   sub_held d i j (Some s) (Some (Some v)) =
       let slots : List Meaning → ℕ → List Slot = λ ms at. desc_slots ms (unruled_desc s.desc) v i.numbers at in
       let place = sub_place set (own_cells set d) d.subs j in
-      ap (slots (meanings (map unruled_desc set.structs) (length (map unruled_desc set.structs))))
-      (ap (λ (at : ℕ). sub_place (unruled set) at (map unruled_sub d.subs) j) (own_same d) ∙ place_same (own_cells set d) d.subs j)
-      ∙ ap (λ (ms : List Meaning). slots ms place) structs_held
-      ∙ desc_held (meanings set.structs (length set.structs)) s.desc v i.numbers place
+      ap (slots (meanings (map unruled_desc set.structs) (length (map unruled_desc set.structs)))) (rw (own_same d) (place_same (own_cells set d) d.subs j))
+      ∙ ap (λ ms. slots ms place) structs_held ∙ desc_held (meanings set.structs (length set.structs)) s.desc v i.numbers place
+  sub_held d i j _ _ = refl
 
   -- the slots of a part
   pub part_held : (o : Option Device) (i : Image) (p : Option ℕ) → part_slots (unruled set) (option_map unruled_device o) i p ≡ held (part_slots set o i p)
   part_held None i p = refl
   part_held (Some d) i None =
-      ap (λ (ms : List Meaning). desc_slots ms (unruled_desc d.desc) i.version i.numbers 0) structs_held
+      ap (λ ms. desc_slots ms (unruled_desc d.desc) i.version i.numbers 0) structs_held
       ∙ desc_held (meanings set.structs (length set.structs)) d.desc i.version i.numbers 0
-  part_held (Some d) i (Some j) =
-      ap (λ (o : Option Sub). slots_of_sub (unruled set) (unruled_device d) i j o (slice_get i.came j)) (slice_get-map unruled_sub d.subs j)
-      ∙ sub_held d i j (slice_get d.subs j) (slice_get i.came j)
+  part_held (Some d) i (Some j) = rw (slice_get-map unruled_sub d.subs j) (sub_held d i j (slice_get d.subs j) (slice_get i.came j))
 
   pub subs_held : (o : Option Device) → subs_of (option_map unruled_device o) ≡ map unruled_sub (subs_of o)
   subs_held None = refl

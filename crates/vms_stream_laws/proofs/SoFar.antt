@@ -29,8 +29,7 @@ module _ (set : Set) where
 
   come_same : (u : List Piece) → come bare u ≡ come set u
   come_same [] = map_both unruled_device (λ (d : Device). false) set.devices
-  come_same (Head id name instance v ∷ u) =
-      ap (λ (c : List Bool). mark_come c (device_named bare name instance)) (come_same u) ∙ ap (mark_come (come set u)) (named_same name instance)
+  come_same (Head id name instance v ∷ u) = rw (come_same u) (ap (mark_come (come set u)) (named_same name instance))
   come_same (x ∷ u) = come_same u
 
   opened_same : (u : List Piece) → opened bare u ≡ opened set u
@@ -46,9 +45,7 @@ module _ (set : Set) where
 
   sub_same : (u : List Piece) (name : List ℕ) → sub_named bare u name ≡ sub_named set u name
   sub_same u name =
-      let named : Sub → Bool = λ s. bytes_eq s.desc.name name in
-      ap (λ (subs : List Sub). position named 0 subs) (ap subs_of (device_held u) ∙ subs_held set (device set u))
-      ∙ position_map unruled_sub named 0 (subs_of (device set u))
+      rw (ap subs_of (device_held u) ∙ subs_held set (device set u)) (position_map unruled_sub (λ s. bytes_eq s.desc.name name) 0 (subs_of (device set u)))
 
   behind_same : (o : Option ℕ) (a b : Tail) → a ≡ b → behind bare o a ≡ behind set o b
   behind_same None a b e = e
@@ -58,8 +55,8 @@ module _ (set : Set) where
   tail_same [] = refl
   tail_same (Configuration name ∷ u) = refl
   tail_same (Foot id ∷ u) = refl
-  tail_same (Head id name instance v ∷ u) = ap (λ (o : Option ℕ). behind bare o (tail bare u)) (opened_same u) ∙ behind_same (opened set u) (tail bare u) (tail set u) (tail_same u)
-  tail_same (End ∷ u) = ap (λ (o : Option ℕ). behind bare o (tail bare u)) (opened_same u) ∙ behind_same (opened set u) (tail bare u) (tail set u) (tail_same u)
+  tail_same (Head id name instance v ∷ u) = ap (λ o. behind bare o (tail bare u)) (opened_same u) ∙ behind_same (opened set u) (tail bare u) (tail set u) (tail_same u)
+  tail_same (End ∷ u) = ap (λ o. behind bare o (tail bare u)) (opened_same u) ∙ behind_same (opened set u) (tail bare u) (tail set u) (tail_same u)
   tail_same (x ∷ u) = tail_same u
 
   part_same : (u : List Piece) → part bare u ≡ part set u
@@ -71,26 +68,21 @@ module _ (set : Set) where
 
   image_same : (u : List Piece) → image bare u ≡ image set u
   image_same (Head id name instance v ∷ u) =
-      ap (λ (o : Option ℕ). fresh bare (at_option bare.devices o) v) (named_same name instance)
-      ∙ ap (λ (o : Option Device). fresh bare o v) (at_same (device_named set name instance))
-      ∙ fresh_same set (at_option set.devices (device_named set name instance)) v
-  image_same (Number c kind z ∷ u) = ap (λ (i : Image). record i { numbers = slice_set i.numbers c z }) (image_same u)
-  image_same (SubHead name v ∷ u) =
-      ap (λ (i : Image). record i { came = put_version i.came (sub_named bare u name) v }) (image_same u)
-      ∙ ap (λ (o : Option ℕ). let i = image set u in record i { came = put_version i.came o v }) (sub_same u name)
+      rw (named_same name instance, at_same (device_named set name instance)) (fresh_same set (at_option set.devices (device_named set name instance)) v)
+  image_same (Number c kind z ∷ u) = rw (image_same u)
+  image_same (SubHead name v ∷ u) = rw (image_same u, sub_same u name)
   image_same (Constant kind z ∷ u) = image_same u
   image_same (Filler bytes ∷ u) = image_same u
   image_same u = refl
 
   slots_held : (u : List Piece) → slots bare u ≡ held (slots set u)
   slots_held u =
-      ap (λ (o : Option Device). part_slots bare o (image bare u) (part bare u)) (device_held u)
-      ∙ ap (λ (i : Image). part_slots bare (option_map unruled_device (device set u)) i (part bare u)) (image_same u)
-      ∙ ap (part_slots bare (option_map unruled_device (device set u)) (image set u)) (part_same u)
-      ∙ part_held set (device set u) (image set u) (part set u)
+      ap (λ o. part_slots bare o (image bare u) (part bare u)) (device_held u)
+      ∙ ap (λ i. part_slots bare (option_map unruled_device (device set u)) i (part bare u)) (image_same u)
+      ∙ ap (part_slots bare (option_map unruled_device (device set u)) (image set u)) (part_same u) ∙ part_held set (device set u) (image set u) (part set u)
 
   beyond_same : (m n : ℕ) (u : List Piece) → m ≡ n → beyond m (slots bare u) ≡ beyond n (slots set u)
-  beyond_same m n u e = ap (λ (k : ℕ). beyond k (slots bare u)) e ∙ ap (beyond n) (slots_held u) ∙ beyond_held n (slots set u)
+  beyond_same m n u e = rw e (ap (beyond n) (slots_held u) ∙ beyond_held n (slots set u))
 
   passed_same : (u : List Piece) → passed bare u ≡ passed set u
   passed_same (Number c kind z ∷ u) = beyond_same (passed bare u) (passed set u) u (passed_same u)
@@ -99,13 +91,12 @@ module _ (set : Set) where
   passed_same u = refl
 
   left_held : (u : List Piece) → drop (passed bare u) (slots bare u) ≡ held (drop (passed set u) (slots set u))
-  left_held u = ap (λ (n : ℕ). drop n (slots bare u)) (passed_same u) ∙ ap (drop (passed set u)) (slots_held u) ∙ drop_held (passed set u) (slots set u)
+  left_held u = rw (passed_same u) (ap (drop (passed set u)) (slots_held u) ∙ drop_held (passed set u) (slots set u))
 
   field_same : (u : List Piece) → due_field (tail bare u) (opened bare u) (drop (passed bare u) (slots bare u)) ≡ due_field (tail set u) (opened set u) (drop (passed set u) (slots set u))
   field_same u =
-      ap (λ (t : Tail). due_field t (opened bare u) (drop (passed bare u) (slots bare u))) (tail_same u)
-      ∙ ap (λ (o : Option ℕ). due_field (tail set u) o (drop (passed bare u) (slots bare u))) (opened_same u)
-      ∙ ap (due_field (tail set u) (opened set u)) (left_held u)
+      ap (λ t. due_field t (opened bare u) (drop (passed bare u) (slots bare u))) (tail_same u)
+      ∙ ap (λ o. due_field (tail set u) o (drop (passed bare u) (slots bare u))) (opened_same u) ∙ ap (due_field (tail set u) (opened set u)) (left_held u)
       ∙ due_held (tail set u) (opened set u) (drop (passed set u) (slots set u))
 
   pub due_same : (u : List Piece) → due bare u ≡ due set u
@@ -126,9 +117,7 @@ module _ (set : Set) where
   known_same : (u : List Piece) → known bare u ≡ known set u
   known_same u =
       let of : List Bool → Option ℕ → Image → Known = λ came section image. record { came = came; section = section; id = id_of u; image = image } in
-      ap (λ (c : List Bool). of c (opened bare u) (image bare u)) (come_same u)
-      ∙ ap (λ (o : Option ℕ). of (come set u) o (image bare u)) (opened_same u)
-      ∙ ap (of (come set u) (opened set u)) (image_same u)
+      rw (come_same u, opened_same u) (ap (of (come set u) (opened set u)) (image_same u))
 
   -- the rows of a section head, by the number of its device and by the device
   abbrev head_rows : Known → ℕ → Option ℕ → Option Device → List Row
@@ -166,31 +155,29 @@ module _ (set : Set) where
 
   asking_same : (names : List (List ℕ)) (k : Known) (x : Piece) → asking bare names k x ≡ asking set names k x
   asking_same names k (Head id name instance v) =
-      ap (λ (o : Option ℕ). head_rows k v o (at_option bare.devices o)) (named_same name instance)
+      ap (λ o. head_rows k v o (at_option bare.devices o)) (named_same name instance)
       ∙ ap (head_rows k v (device_named set name instance)) (at_same (device_named set name instance))
       ∙ heads_same k v (device_named set name instance) (at_option set.devices (device_named set name instance))
   asking_same names k (SubHead name v) =
       let named : Sub → Bool = λ s. bytes_eq s.desc.name name in
       let subs = subs_of (at_option set.devices k.section) in
       let o = position named 0 subs in
-      ap (λ (l : List Sub). sub_rows k v (position named 0 l) (at_option l (position named 0 l))) (ap subs_of (at_same k.section) ∙ subs_held set (at_option set.devices k.section))
-      ∙ ap (λ (o : Option ℕ). sub_rows k v o (at_option (map unruled_sub subs) o)) (position_map unruled_sub named 0 subs)
-      ∙ ap (sub_rows k v o) (at_map unruled_sub subs o)
-      ∙ subs_same k v o (at_option subs o)
+      ap (λ l. sub_rows k v (position named 0 l) (at_option l (position named 0 l))) (ap subs_of (at_same k.section) ∙ subs_held set (at_option set.devices k.section))
+      ∙ ap (λ o. sub_rows k v o (at_option (map unruled_sub subs) o)) (position_map unruled_sub named 0 subs)
+      ∙ ap (sub_rows k v o) (at_map unruled_sub subs o) ∙ subs_same k v o (at_option subs o)
   asking_same names k x = refl
 
   pub reason_same : (names : List (List ℕ)) (u : List Piece) (x : Piece) → reason_of bare names u x ≡ reason_of set names u x
   reason_same names u x =
-      ap (λ (d : Due). first_of bare names d (known bare u) x) (due_same u)
-      ∙ ap (λ (k : Known). first_of bare names (due set u) k x) (known_same u)
-      ∙ ap (λ (rows : List Row). first_row (alone (due set u) (known set u) x ++ rows)) (asking_same names (known set u) x)
+      ap (λ d. first_of bare names d (known bare u) x) (due_same u) ∙ ap (λ k. first_of bare names (due set u) k x) (known_same u)
+      ∙ ap (λ rows. first_row (alone (due set u) (known set u) x ++ rows)) (asking_same names (known set u) x)
 
   -- ---- fronts
 
   pub to_bare : (names : List (List ℕ)) (u : List Piece) → Front set names u → Front bare names u
   to_bare names [] f = tt
-  to_bare names (x ∷ u) f = (to_bare names u f.0, all_hold u, subst (λ (d : Due). May d x) (sym (due_same u)) f.2, reason_same names u x ∙ f.3)
+  to_bare names (x ∷ u) f = (to_bare names u f.0, all_hold u, rw (due_same u) f.2, reason_same names u x ∙ f.3)
 
   pub from_bare : (names : List (List ℕ)) (u : List Piece) → Front bare names u → HoldsBefore set u → Front set names u
   from_bare names [] f h = tt
-  from_bare names (x ∷ u) f h = (from_bare names u f.0 h.0, h.1, subst (λ (d : Due). May d x) (due_same u) f.2, sym (reason_same names u x) ∙ f.3)
+  from_bare names (x ∷ u) f h = (from_bare names u f.0 h.0, h.1, rw (due_same u) at f.2, sym (reason_same names u x) ∙ f.3)

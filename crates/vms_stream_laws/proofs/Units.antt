@@ -38,7 +38,7 @@ fits_truth kind z r = refl
 
 zero_fits : (capacities : List ℕ) → exceeds capacities (pos 0) ≡ false
 zero_fits [] = refl
-zero_fits (most ∷ capacities) = ap (λ (b : Bool). b || exceeds capacities (pos 0)) (le-ltb most 0 (omega arith)) ∙ zero_fits capacities
+zero_fits (most ∷ capacities) = rw (le-ltb most 0 (omega arith)) (zero_fits capacities)
 
 module _ (set : Set) (names : List (List ℕ)) (so_far : Known) where
   zero_kind : (kind : Kind) → (is_truth kind && is_above (pos 0) 1) ≡ false

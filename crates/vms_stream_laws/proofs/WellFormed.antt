@@ -35,9 +35,8 @@ few_still d b e =
 desc_still : (k : ℕ) (d : Desc) (part : Part) (rules rules' : List Bool) → (AllTrue rules → AllTrue rules') → desc_fault k d part rules ≡ None → desc_fault k (unruled_desc d) part rules' ≡ None
 desc_still k d part rules rules' h e =
     let a = or_else_none (failing 1 rules (here part)) (or_else (fields_fault k d part) (validations_fault d part)) e in
-    let b = or_else_none (fields_fault k d part) (validations_fault d part) a.1 in
     both_none (failing 1 rules' (here part)) (or_else (fields_fault k (unruled_desc d) part) None) (none_failing 1 rules' part (h (all_true 1 rules (here part) a.0)))
-    (both_none (fields_fault k (unruled_desc d) part) None b.0 refl)
+    (both_none (fields_fault k (unruled_desc d) part) None (or_else_none (fields_fault k d part) (validations_fault d part) a.1).0 refl)
 
 -- ---- structures
 
@@ -57,35 +56,16 @@ first_names {X = X} f name_of same i xs = ap (map name_of) (take-map f i xs) ∙
   where
     each : (ys : List X) → map (λ (x : X). name_of (f x)) ys ≡ map name_of ys
     each [] = refl
-    each (y ∷ ys) = ap (λ (n : List ℕ). n ∷ map (λ (x : X). name_of (f x)) ys) (same y) ∙ ap (λ (l : List (List ℕ)). name_of y ∷ l) (each ys)
+    each (y ∷ ys) = rw (same y, each ys)
 
 struct_still : (ds : List Desc) (i : ℕ) (d : Desc) → struct_fault ds i d ≡ None → struct_fault (map unruled_desc ds) i (unruled_desc d) ≡ None
 struct_still ds i d e = desc_still i d (parts.Struct i) (struct_rules ds i d) (struct_rules (map unruled_desc ds) i (unruled_desc d)) rules e
   where
     rules : AllTrue (struct_rules ds i d) → AllTrue (struct_rules (map unruled_desc ds) i (unruled_desc d))
     rules r =
-        let names = first_names unruled_desc (λ (d : Desc). d.name) (λ d. refl) i ds in (
-          r.0,
-          (
-            ap (λ (l : List (List ℕ)). not (is_one_of l d.name)) names ∙ r.1.0,
-            (
-              r.1.1.0,
-              (
-                refl,
-                (
-                  refl,
-                  (
-                    refl,
-                    (
-                      few_still d (nat_le (get_or (struct_depths (map unruled_desc ds)) i 0) 4) (ap (λ (l : List ℕ). has_few d && nat_le (get_or l i 0) 4) (depths_same ds) ∙ r.1.1.1.1.1.1.0),
-                      (r.1.1.1.1.1.1.1.0, tt),
-                    ),
-                  ),
-                ),
-              ),
-            ),
-          ),
-        )
+        let names = first_names unruled_desc (λ (d : Desc). d.name) (λ d. refl) i ds in
+        let few = few_still d (nat_le (get_or (struct_depths (map unruled_desc ds)) i 0) 4) (rw (depths_same ds) (r.1.1.1.1.1.1.0)) in
+        (r.0, (rw names (r.1.0), (r.1.1.0, (refl, (refl, (refl, (few, (r.1.1.1.1.1.1.1.0, tt))))))))
 
 -- ---- devices
 
@@ -94,28 +74,9 @@ sub_still k i d j s e = desc_still k s.desc (parts.Sub i j) (sub_rules d j s) (s
   where
     rules : AllTrue (sub_rules d j s) → AllTrue (sub_rules (unruled_device d) j (unruled_sub s))
     rules r =
-        let names = first_names unruled_sub (λ (s : Sub). s.desc.name) (λ s. refl) j d.subs in (
-          r.0,
-          (
-            ap (λ (l : List (List ℕ)). not (is_one_of l s.desc.name)) names ∙ r.1.0,
-            (
-              r.1.1.0,
-              (
-                r.1.1.1.0,
-                (
-                  refl,
-                  (
-                    refl,
-                    (
-                      few_still s.desc (is_small_test s.needed) r.1.1.1.1.1.1.0,
-                      (refl, tt),
-                    ),
-                  ),
-                ),
-              ),
-            ),
-          ),
-        )
+        let names = first_names unruled_sub (λ (s : Sub). s.desc.name) (λ s. refl) j d.subs in
+        let few = few_still s.desc (is_small_test s.needed) r.1.1.1.1.1.1.0 in
+        (r.0, (rw names (r.1.0), (r.1.1.0, (r.1.1.1.0, (refl, (refl, (few, (refl, tt))))))))
 
 module _ (set : Set) where
   count_same : length (map unruled_desc set.structs) ≡ length set.structs
@@ -125,46 +86,23 @@ module _ (set : Set) where
   device_still i d e =
       let k = length set.structs in
       let a = or_else_none (desc_fault k d.desc (parts.Device i) (device_rules set i d)) (first_answer (sub_fault k i d) 0 d.subs) e in
-      subst (λ (k : ℕ). or_else (desc_fault k (unruled_desc d.desc) (parts.Device i) (device_rules (unruled set) i (unruled_device d))) (first_answer (sub_fault k i (unruled_device d)) 0 (map unruled_sub d.subs)) ≡ None)
-      (sym count_same)
-      (both_none (desc_fault k (unruled_desc d.desc) (parts.Device i) (device_rules (unruled set) i (unruled_device d))) (first_answer (sub_fault k i (unruled_device d)) 0 (map unruled_sub d.subs))
+      rw count_same (both_none (desc_fault k (unruled_desc d.desc) (parts.Device i) (device_rules (unruled set) i (unruled_device d))) (first_answer (sub_fault k i (unruled_device d)) 0 (map unruled_sub d.subs))
       (desc_still k d.desc (parts.Device i) (device_rules set i d) (device_rules (unruled set) i (unruled_device d)) rules a.0)
       (none_after unruled_sub (sub_fault k i d) (sub_fault k i (unruled_device d)) (sub_still k i d) 0 d.subs a.1))
     where
       rules : AllTrue (device_rules set i d) → AllTrue (device_rules (unruled set) i (unruled_device d))
       rules r =
-          let same = is_same_device d.desc.name d.instance in (
-            r.0,
-            (
-              ap (λ (l : List Device). not (list_any same l)) (take-map unruled_device i set.devices) ∙ ap not (any_map unruled_device same (take i set.devices)) ∙ r.1.0,
-              (
-                r.1.1.0,
-                (
-                  refl,
-                  (
-                    refl,
-                    (
-                      refl,
-                      (
-                        few_still d.desc (nat_le (length (map unruled_sub d.subs)) 32) (ap (λ (n : ℕ). has_few d.desc && nat_le n 32) (length-map d.subs unruled_sub) ∙ r.1.1.1.1.1.1.0),
-                        (refl, tt),
-                      ),
-                    ),
-                  ),
-                ),
-              ),
-            ),
-          )
+          let same = is_same_device d.desc.name d.instance in
+          let few = few_still d.desc (nat_le (length (map unruled_sub d.subs)) 32) (rw (length-map d.subs unruled_sub) (r.1.1.1.1.1.1.0)) in
+          (r.0, (rw (take-map unruled_device i set.devices) (ap not (any_map unruled_device same (take i set.devices)) ∙ r.1.0), (r.1.1.0, (refl, (refl, (refl, (few, (refl, tt))))))))
 
   subs_counted : (sizes : List ℕ) (subs : List Sub) → subs_items sizes (map unruled_sub subs) ≡ subs_items sizes subs
   subs_counted sizes [] = refl
-  subs_counted sizes (s ∷ subs) = ap (λ (n : ℕ). items_in sizes s.desc.fields + n) (subs_counted sizes subs)
+  subs_counted sizes (s ∷ subs) = rw (subs_counted sizes subs)
 
   devices_counted : (sizes : List ℕ) (devices : List Device) → devices_items sizes (map unruled_device devices) ≡ devices_items sizes devices
   devices_counted sizes [] = refl
-  devices_counted sizes (d ∷ devices) =
-      ap (λ (n : ℕ). items_in sizes d.desc.fields + (n + devices_items sizes (map unruled_device devices))) (subs_counted sizes d.subs)
-      ∙ ap (λ (n : ℕ). items_in sizes d.desc.fields + (subs_items sizes d.subs + n)) (devices_counted sizes devices)
+  devices_counted sizes (d ∷ devices) = rw (subs_counted sizes d.subs, devices_counted sizes devices)
 
   abbrev rules_by : ℕ → ℕ → List Bool
   rules_by structs devices =
@@ -176,12 +114,12 @@ module _ (set : Set) where
       ∷ []
 
   set_rules_same : set_rules (unruled set) ≡ set_rules set
-  set_rules_same = ap (λ (n : ℕ). rules_by n (length (map unruled_device set.devices))) count_same ∙ ap (rules_by (length set.structs)) (length-map set.devices unruled_device)
+  set_rules_same = rw count_same (ap (rules_by (length set.structs)) (length-map set.devices unruled_device))
 
   size_rules_same : size_rules (unruled set) ≡ size_rules set
   size_rules_same =
       let of : ℕ → List Bool = λ n. true ∷ true ∷ true ∷ true ∷ true ∷ true ∷ nat_le n MOST_ITEMS ∷ true ∷ [] in
-      ap of (ap (λ (sizes : List ℕ). devices_items sizes (map unruled_device set.devices)) (items_same set.structs) ∙ devices_counted (struct_items set.structs) set.devices)
+      ap of (rw (items_same set.structs) (devices_counted (struct_items set.structs) set.devices))
 
   pub still_well : WellFormed set → WellFormed (unruled set)
   unfolding first_fault
@@ -195,20 +133,19 @@ module _ (set : Set) where
       let c = or_else_none (first_answer (device_fault set) 0 set.devices) last b.1 in
       let last' = failing 1 (size_rules bare) at in
       let devices' = or_else (first_answer (device_fault bare) 0 bare.devices) last' in
-      both_none (failing 1 (set_rules bare) at) (or_else (first_answer (struct_fault bare.structs) 0 bare.structs) devices')
-      (ap (λ (rules : List Bool). failing 1 rules at) set_rules_same ∙ a.0)
+      both_none (failing 1 (set_rules bare) at) (or_else (first_answer (struct_fault bare.structs) 0 bare.structs) devices') (rw set_rules_same (a.0))
       (both_none (first_answer (struct_fault bare.structs) 0 bare.structs) devices'
       (none_after unruled_desc (struct_fault set.structs) (struct_fault bare.structs) (struct_still set.structs) 0 set.structs b.0)
       (both_none (first_answer (device_fault bare) 0 bare.devices) last'
       (none_after unruled_device (device_fault set) (device_fault bare) device_still 0 set.devices c.0)
-      (ap (λ (rules : List Bool). failing 1 rules at) size_rules_same ∙ c.1)))
+      (rw size_rules_same (c.1))))
 
   pub still_fits : FitsHeads set → FitsHeads (unruled set)
   still_fits heads = record {
     instance = λ k d e. let r = came_from unruled_device set.devices k d e in
-        subst (λ (d : Device). (d.instance < 2 ^ 32) × (d.desc.version < 2 ^ 32)) r.is (heads.instance k r.first r.there);
+        subst (λ d. (d.instance < 2 ^ 32) × (d.desc.version < 2 ^ 32)) r.is (heads.instance k r.first r.there);
     sub_version = λ k j d s e f.
         let r = came_from unruled_device set.devices k d e in
-        let q = came_from unruled_sub r.first.subs j s (ap (λ (d : Device). slice_get d.subs j) r.is ∙ f) in
-        subst (λ (s : Sub). s.desc.version < 2 ^ 32) q.is (heads.sub_version k j r.first q.first r.there q.there);
+        let q = came_from unruled_sub r.first.subs j s (ap (λ d. slice_get d.subs j) r.is ∙ f) in
+        subst (λ s. s.desc.version < 2 ^ 32) q.is (heads.sub_version k j r.first q.first r.there q.there);
   }

@@ -253,12 +253,11 @@ none_answers set text v n =
 -- no part is bad
 pub none_good : (set : Set) (line : ℕ) (es : List Entry) → parts_from set line es ≡ None → AreGood set es
 none_good set line [] h = tt
-none_good set line (e ∷ es) h = go (part_reason set e) refl h (λ g. none_good set (suc line) es g)
-  where
-    go : (o : Option ValuesReason) → part_reason set e ≡ o → or_bad (as_bad line o) (parts_from set (suc line) es) ≡ None
-        → (parts_from set (suc line) es ≡ None → AreGood set es) → (part_reason set e ≡ None) × AreGood set es
-    go None is h more = (is, more h)
-    go (Some reason) is h more = cc
+none_good set line (e ∷ es) h = go (part_reason set e) refl h (λ g. none_good set (suc line) es g) where
+  go : (o : Option ValuesReason) → part_reason set e ≡ o → or_bad (as_bad line o) (parts_from set (suc line) es) ≡ None
+      → (parts_from set (suc line) es ≡ None → AreGood set es) → (part_reason set e ≡ None) × AreGood set es
+  go None is h more = (is, more h)
+  go (Some reason) is h more = cc
 
 module _ (set : Set) (well : WellFormed set) (good : IsGood set) where
   low : (k : ℕ) (d : Device) → slice_get set.devices k ≡ Some d → d.desc.minimum ≤ d.desc.version

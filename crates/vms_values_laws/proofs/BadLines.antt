@@ -118,6 +118,23 @@ parts_machine : (set : Set) (machine : Option (List ℕ)) (line : ℕ) (images :
 parts_machine set None line images e = rw e refl
 parts_machine set (Some name) line images e = rw e refl
 
+-- no line was bad
+pub record NoneBad (set : Set) (text : List ℕ) (v : ValuesRead) : Type 0 where
+  pub machine : Option (List ℕ)
+  pub all : ReadAll
+  pub first : FirstFine set text machine all
+  pub ends : all.rest ≡ []
+  pub is : v ≡ answer_of machine all.devices (judge_devices set set.devices all.devices)
+
+pub record OneBad (set : Set) (text : List ℕ) (v : ValuesRead) : Type 0 where
+  pub line : ℕ
+  pub reason : ValuesReason
+  pub first : FirstBad set text line reason
+  pub is : v ≡ Bad line reason
+
+abbrev pub FirstPass : Set → List ℕ → ValuesRead → Type 0
+FirstPass set text v = OneBad set text v ⊎ NoneBad set text v
+
 module _ (set : Set) (text : List ℕ) (machine : Option (List ℕ)) (line : ℕ) (after : List ℕ) (head : Headed set text machine line after) where
   -- a line that is bad after what was taken, if these entries are to come
   first_bad : {images : List Image} {at : ℕ} {rest : List ℕ} {Q : List Entry → Type 0} (reason : ValuesReason)
@@ -151,15 +168,15 @@ module _ (set : Set) (text : List ℕ) (machine : Option (List ℕ)) (line : ℕ
         };
       }
 
-  pub stopped_first : (e : BadLine) → AllStop set set.devices line after e → FirstBad set text e.line e.reason
+  stopped_first : (e : BadLine) → AllStop set set.devices line after e → FirstBad set text e.line e.reason
   stopped_first e a = first_bad e.reason a.before (λ es b. front_of a.demand a.rest e.reason es a.wrong b)
 
   -- something comes after the last line
-  pub more_first : (all : ReadAll) (b : ℕ) (rest : List ℕ) → all.rest ≡ b ∷ rest → AllRead set set.devices line after all
+  more_first : (all : ReadAll) (b : ℕ) (rest : List ℕ) → all.rest ≡ b ∷ rest → AllRead set set.devices line after all
       → FirstBad set text all.line reasons.Form
   more_first all b rest e a = first_bad reasons.Form a.whole (λ es is. rw (is, e) refl)
 
-  pub fine_first : (all : ReadAll) → AllRead set set.devices line after all → FirstFine set text machine all
+  fine_first : (all : ReadAll) → AllRead set set.devices line after all → FirstFine set text machine all
   fine_first all a =
       let P : List Entry → Type 0 = λ es. es ≡ [] in
       record {
@@ -172,6 +189,14 @@ module _ (set : Set) (text : List ℕ) (machine : Option (List ℕ)) (line : ℕ
         along = along_machine set machine (images_of all.devices) a.taken P a.along;
         moved = moved_then head.moved a.moved;
       }
+
+  by_rest : (all : ReadAll) (rest : List ℕ) → all.rest ≡ rest → AllRead set set.devices line after all → FirstPass set text (judged set machine all rest)
+  by_rest all [] e a = inr (record { machine = machine; all = all; first = fine_first all a; ends = e; is = refl })
+  by_rest all (b ∷ rest) e a = inl (record { line = all.line; reason = reasons.Form; first = more_first all b rest e a; is = refl })
+
+  by_end : (o : Result ReadAll BadLine) → AllCome set set.devices line after o → FirstPass set text (ended set machine o)
+  by_end (Ok all) a = by_rest all all.rest refl a
+  by_end (Err e) a = inl (record { line = e.line; reason = e.reason; first = stopped_first e a; is = refl })
 
 -- ---- The first pass over a text: a bad line, or what its lines say.
 
@@ -191,36 +216,6 @@ headed set text name e =
           (line_taken text (codes "machine " ++ name) line.0 line.1)
           (let f = (bytes_eq-Decides (codes "machine " ++ name) (codes "machine " ++ name)).1 refl in rw f refl);
     }
-
--- no line was bad
-pub record NoneBad (set : Set) (text : List ℕ) (v : ValuesRead) : Type 0 where
-  pub machine : Option (List ℕ)
-  pub all : ReadAll
-  pub first : FirstFine set text machine all
-  pub ends : all.rest ≡ []
-  pub is : v ≡ answer_of machine all.devices (judge_devices set set.devices all.devices)
-
-pub record OneBad (set : Set) (text : List ℕ) (v : ValuesRead) : Type 0 where
-  pub line : ℕ
-  pub reason : ValuesReason
-  pub first : FirstBad set text line reason
-  pub is : v ≡ Bad line reason
-
-abbrev pub FirstPass : Set → List ℕ → ValuesRead → Type 0
-FirstPass set text v = OneBad set text v ⊎ NoneBad set text v
-
-by_rest : (set : Set) (text : List ℕ) (machine : Option (List ℕ)) (line : ℕ) (after : List ℕ) (head : Headed set text machine line after) (all : ReadAll)
-    → (rest : List ℕ) → all.rest ≡ rest → AllRead set set.devices line after all → FirstPass set text (judged set machine all rest)
-by_rest set text machine line after head all [] e a =
-    inr (record { machine = machine; all = all; first = fine_first set text machine line after head all a; ends = e; is = refl })
-by_rest set text machine line after head all (b ∷ rest) e a =
-    inl (record { line = all.line; reason = reasons.Form; first = more_first set text machine line after head all b rest e a; is = refl })
-
-by_end : (set : Set) (text : List ℕ) (machine : Option (List ℕ)) (line : ℕ) (after : List ℕ) (head : Headed set text machine line after)
-    → (o : Result ReadAll BadLine) → AllCome set set.devices line after o → FirstPass set text (ended set machine o)
-by_end set text machine line after head (Ok all) a = by_rest set text machine line after head all all.rest refl a
-by_end set text machine line after head (Err e) a =
-    inl (record { line = e.line; reason = e.reason; first = stopped_first set text machine line after head e a; is = refl })
 
 by_machine : (set : Set) (text : List ℕ) → AreSound set.structs → AreGoodDevices set set.devices → (machine : Option (List ℕ))
     → machine_named set.machines (first_line text) ≡ machine → FirstPass set text (after_machine set text machine)

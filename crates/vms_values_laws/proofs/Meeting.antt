@@ -305,11 +305,10 @@ named_is machines (Some (line, rest)) name e =
 
 module _ (set : Set) (well : WellFormed set) where
   pub clean_structs : (j : ℕ) → AreCleanFields (get_or set.structs j no_desc).fields
-  clean_structs j = go (slice_get set.structs j) refl
-    where
-      go : (o : Option Desc) → slice_get set.structs j ≡ o → AreCleanFields (get_or set.structs j no_desc).fields
-      go None e = rw (get_none set.structs j no_desc e) tt
-      go (Some d) e = rw (get_or_from_slice_get set.structs j d no_desc e) (clean_fields j d (struct_rules set.structs j d) (struct_clean set well j d e))
+  clean_structs j = go (slice_get set.structs j) refl where
+    go : (o : Option Desc) → slice_get set.structs j ≡ o → AreCleanFields (get_or set.structs j no_desc).fields
+    go None e = rw (get_none set.structs j no_desc e) tt
+    go (Some d) e = rw (get_or_from_slice_get set.structs j d no_desc e) (clean_fields j d (struct_rules set.structs j d) (struct_clean set well j d e))
 
   device_clean : (k : ℕ) (d : Device) → slice_get set.devices k ≡ Some d → NoFeed d.desc.name × AreCleanFields d.desc.fields × AreCleanSubs d.subs
   device_clean k d e =

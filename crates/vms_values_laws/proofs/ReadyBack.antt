@@ -1,40 +1,22 @@
 -- Numbers and images that may be written are read back.
-use Rattle.vms_values_laws.proofs.Facade.{◌≡◌, ℕ, suc, ◌+◌, ◌<◌, ◌≤◌, Bool, true, false, ◌==◌, List, ◌∷◌, ◌++◌, length, get_or, None, ℤ, pos, refl, sym, ap}
-use Rattle.vms_values_laws.proofs.Facade.{◌∙◌, arith, ⊎_elim, if◌then◌else◌, [], ◌||◌, Option, Some, codes, or_from, or_parts, and_from, or_right}
-use Rattle.vms_values_laws.proofs.Facade.{get_or_append_left, get_or-append-add, length-append, slice_get, bytes_eq, bytes_eq-Decides, Cell, no_cell, Slot}
-use Rattle.vms_values_laws.proofs.Facade.{desc_cells, struct_cells, device_cells, has_cell, Image, own_cells, own_slots, sub_slots, came_slots, RulesHold}
-use Rattle.vms_values_laws.proofs.Facade.{none_joined, is_same, ranged, are_rules, Element, cells_of, slots_of, numbers_in, CountsUp, elements_in, printed}
-use Rattle.vms_values_laws.proofs.Facade.{number_line, text_of, sub_line, section_line, OfNumber, have_defaults, line_reason, Entry, number_entries}
-use Rattle.vms_values_laws.proofs.Facade.{subs_entries, device_entries, devices_entries, entries, if_not, sub_holds, AreFine, has_line, IsShaped, AreShaped}
-use Rattle.vms_values_laws.proofs.Facade.{AreUnsaid, AllUnsaid, AreAtVersions, IsText, Says, AreCounted, walks, Desc, Sub, Device, Set, is_needed, ComeAsNeeded}
-use Rattle.vms_values_laws.proofs.Facade.{IsReady, rules_split, elements_slots, entry_law, text_is}
-use Rattle.vms_values_laws.proofs.SaidLaws.{if_holds, all_both, lines_both}
-use Rattle.vms_values_laws.proofs.Rights.{line_number, fits_reason, IsRight, AreRight, AreBare, IsNumberOf, IsNoNumber, view, no_bytes, none_outside, right_by}
-use Rattle.vms_values_laws.proofs.Rights.{with_slot}
+use Rattle.vms_values_laws.proofs.Facade.{◌≡◌, ℕ, suc, ◌+◌, ◌<◌, ◌≤◌, Bool, true, false, List, ◌∷◌, ◌++◌, length, get_or, None, ℤ, pos, refl, sym, ap, ◌∙◌}
+use Rattle.vms_values_laws.proofs.Facade.{arith, [], ◌||◌, Option, Some, codes, or_parts, or_right, get_or_append_left, get_or-append-add, length-append}
+use Rattle.vms_values_laws.proofs.Facade.{slice_get, bytes_eq, bytes_eq-Decides, Cell, no_cell, Slot, desc_cells, struct_cells, device_cells, has_cell, Image}
+use Rattle.vms_values_laws.proofs.Facade.{own_cells, own_slots, sub_slots, came_slots, RulesHold, none_joined, ranged, are_rules, Element, printed, text_of}
+use Rattle.vms_values_laws.proofs.Facade.{sub_line, section_line, Entry, number_entries, subs_entries, device_entries, devices_entries, entries, if_not}
+use Rattle.vms_values_laws.proofs.Facade.{sub_holds, AreFine, has_line, IsShaped, AreShaped, AreUnsaid, AllUnsaid, AreAtVersions, IsText, Says, Sub, Device}
+use Rattle.vms_values_laws.proofs.Facade.{Set, is_needed, ComeAsNeeded, IsReady, rules_split, entry_law, text_is}
+use Rattle.vms_values_laws.proofs.ReadyParts.{desc_part, AreGood, sub_cells}
+use Rattle.vms_values_laws.proofs.SaidLaws.{all_both, lines_both}
+use Rattle.vms_values_laws.proofs.Rights.{AreRight, right_by}
 use Rattle.vms_values_laws.proofs.Numbers.{AreShort, of_numbers, short_within}
 use Rattle.vms_values_laws.proofs.Coming.{short}
 use Rattle.vms_values_laws.proofs.SecondPass.{desc_rules}
 use Rattle.vms_values_laws.proofs.AllCome.{are_short}
-use Rattle.vms_values_laws.proofs.ReadyParts.{AreGood, sub_cells}
 use Rattle.vms_spec.specs.Layout as slots
 use Rattle.vms_spec.specs.declared.ValuesReason.TheVariants as reasons
 
 -- ---- A ready image has the lines that a text says: each is fine, what has no line is at its default, and no part is bad.
-
--- a cell without a line has no byte
-pub bare_bytes : (n : List ℤ) (xs : List Element) → AreCounted xs → (k : ℕ) → has_line (of_numbers n (printed xs)) k ≡ false → has_cell (slots_of xs) k ≡ false
-bare_bytes n [] h k e = refl
-bare_bytes n (x ∷ xs) h k e =
-    ⊎_elim (λ (v : IsNumberOf x xs). rw (v.bytes) (by_both v (bare_bytes n xs h.1 k) x.present x.counted h.0 (rw (v.lines) at e)))
-    (λ (v : IsNoNumber x xs). v.bytes k ∙ bare_bytes n xs h.1 k (rw (v.lines) at e)) (view x xs)
-  where
-    by_both : (v : IsNumberOf x xs) → (has_line (of_numbers n (printed xs)) k ≡ false → has_cell (slots_of xs) k ≡ false) → (p c : Bool)
-        → (p ≡ true → c ≡ true) → has_line (of_numbers n (if c then x ∷ printed xs else printed xs)) k ≡ false
-        → has_cell (if p then slots.Number x.cell v.cell.kind v.cell.capacities ∷ slots_of xs else slots_of xs) k ≡ false
-    by_both v more true true c e = let q = or_parts (x.cell == k) _ e in or_from (x.cell == k) _ q.0 (more q.1)
-    by_both v more true false c e = let f = c refl in cc
-    by_both v more false true c e = more (or_parts (x.cell == k) _ e).1
-    by_both v more false false c e = more e
 
 right_parts : (n : List ℤ) (at next : ℕ) (xs ys : List Cell) (ss ts : List Slot) → next ≡ at + length xs → ((k : ℕ) → k < next → has_cell ts k ≡ false)
     → ((k : ℕ) → next ≤ k → has_cell ss k ≡ false) → AreRight n at (xs ++ ys) (ss ++ ts) → AreRight n at xs ss × AreRight n next ys ts
@@ -49,48 +31,6 @@ right_parts n at next xs ys ss ts is below above a = (
   },
 )
 
-right_later : (n : List ℤ) (at : ℕ) (cell : Cell) (cells : List Cell) (all ss : List Slot)
-    → ((k : ℕ) → at + 1 ≤ k → has_cell ss k ≡ false → has_cell all k ≡ false) → AreRight n at (cell ∷ cells) all → AreRight n (at + 1) cells ss
-right_later n at cell cells all ss h a = record { right = λ c k lt e. right_by (h k (omega arith)) (a.right (suc c) k (omega arith) (omega arith)) }
-
-module _ (n : List ℤ) (short : AreShort n) where
-  right_line : (x : Element) (xs : List Element) (v : IsNumberOf x xs) (at : ℕ) → x.cell ≡ at → CountsUp (at + 1) (numbers_in xs)
-      → IsRight n (with_slot x v.cell (slots_of xs)) at v.cell → line_reason (OfNumber x n) (number_line n x) ≡ None
-  right_line x xs v at is up r =
-      line_number x n v.cell v.what (short x.cell) ∙ fits_reason v.cell x.present (get_or n x.cell (pos 0))
-      (record {
-        fits = rw is r.fits;
-        absent = λ e. ap (λ (k : ℕ). get_or n k (pos 0)) is
-            ∙ r.absent (ap (λ (b : Bool). has_cell (if b then slots.Number x.cell v.cell.kind v.cell.capacities ∷ slots_of xs else slots_of xs) at) e ∙
-            (none_outside n (at + 1) xs up at (λ le. omega arith)).1);
-      })
-
-  pub right_said : (at : ℕ) (xs : List Element) → CountsUp at (numbers_in xs) → AreRight n at (cells_of xs) (slots_of xs) → AreFine (of_numbers n (printed xs))
-  right_said at [] up a = tt
-  right_said at (x ∷ xs) up a =
-      ⊎_elim (λ (v : IsNumberOf x xs).
-      let u : CountsUp at (x ∷ numbers_in xs) = rw (v.numbers) at up in
-      let all = with_slot x v.cell (slots_of xs) in
-      let r : AreRight n at (v.cell ∷ cells_of xs) all = rw (v.cells, v.bytes) at a in
-      let later = right_said (at + 1) xs u.1
-      (right_later n at v.cell (cells_of xs) all (slots_of xs) (λ k le h. no_bytes x v.cell (slots_of xs) k x.present (λ e. omega (arith, u.0)) h) r) in
-      rw (v.lines) (if_holds (λ l. AreFine (of_numbers n l)) x.counted (x ∷ printed xs) (printed xs)
-      (right_line x xs v at u.0 u.1 (r.right 0 at (omega arith) (omega arith)), later) later))
-      (λ (v : IsNoNumber x xs).
-      let r : AreRight n at (cells_of xs) (slots_of (x ∷ xs)) = rw (v.cells) at a in
-      rw (v.lines) (right_said at xs (rw (v.numbers) at up)
-      (record { right = λ c k lt e. right_by (λ bare. v.bytes k ∙ bare) (r.right c k lt e) }))) (view x xs)
-
-pub bare_have : (n : List ℤ) (at : ℕ) (xs : List Element) → CountsUp at (numbers_in xs) → AreBare n at (cells_of xs) (λ k. false) → have_defaults n xs ≡ true
-bare_have n at [] up b = refl
-bare_have n at (x ∷ xs) up b =
-    ⊎_elim (λ (v : IsNumberOf x xs).
-    let u : CountsUp at (x ∷ numbers_in xs) = rw (v.numbers) at up in
-    let c : AreBare n at (v.cell ∷ cells_of xs) (λ k. false) = rw (v.cells) at b in
-    let here : get_or n x.cell (pos 0) ≡ v.cell.default = rw (u.0) (c 0 at (omega arith) (omega arith) refl) in
-    v.defaults n ∙ and_from _ _ (is_same _ v.cell.default here) (bare_have n (at + 1) xs u.1 (λ i k lt e f. c (suc i) k (omega arith) (omega arith) refl)))
-    (λ (v : IsNoNumber x xs). v.defaults n ∙ bare_have n at xs (rw (v.numbers) at up) (rw (v.cells) at b)) (view x xs)
-
 -- ---- Ready images are what their text says, and no part of them is bad.
 
 pub fine_then : (es fs : List Entry) → AreFine es → AreFine fs → AreFine (es ++ fs)
@@ -100,34 +40,6 @@ fine_then (e ∷ es) fs a b = (a.0, fine_then es fs a.1 b)
 numbers_good : (set : Set) (n : List ℤ) (xs : List Element) → AreGood set (of_numbers n xs)
 numbers_good set n [] = tt
 numbers_good set n (x ∷ xs) = (refl, numbers_good set n xs)
-
-module _ (set : Set) (n : List ℤ) (short_all : AreShort n) where
-  abbrev cells : Desc → List Cell
-  cells d = desc_cells (struct_cells set) d
-
-  abbrev bytes : Desc → ℕ → ℕ → List Slot
-  bytes d v at = slots.desc_slots (slots.meanings set.structs (length set.structs)) d v n at
-
-  desc_fine : (d : Desc) (at : ℕ) → AreRight n at (cells d) (bytes d d.version at) → AreFine (number_entries set d n at)
-  desc_fine d at right =
-      let w = walks set d d.version d.version n n at at in
-      right_said n short_all at (elements_in set d d.version n at) w.up (rw (w.cells_are, elements_slots set d d.version n at) right)
-
-  desc_have : (d : Desc) (at : ℕ) → AreBare n at (cells d) (λ k. false) → have_defaults n (elements_in set d d.version n at) ≡ true
-  desc_have d at bare = let w = walks set d d.version d.version n n at at in bare_have n at (elements_in set d d.version n at) w.up (rw (w.cells_are) bare)
-
-  desc_below : (d : Desc) (v at k : ℕ) → k < at → has_cell (bytes d v at) k ≡ false
-  desc_below d v at k lt =
-      rw (elements_slots set d v n at) at (none_outside n at (elements_in set d v n at) (walks set d v v n n at at).up k (λ le. omega arith)).1
-
-  desc_above : (d : Desc) (v at k : ℕ) → at + length (cells d) ≤ k → has_cell (bytes d v at) k ≡ false
-  desc_above d v at k le =
-      let w = walks set d v v n n at at in
-      rw (elements_slots set d v n at) at (none_outside n at (elements_in set d v n at) w.up k (λ low. omega (arith, ap length w.cells_are))).1
-
-  desc_unsaid : (d : Desc) (at k : ℕ) → has_line (number_entries set d n at) k ≡ false → has_cell (bytes d d.version at) k ≡ false
-  desc_unsaid d at k e =
-      rw (elements_slots set d d.version n at) at (bare_bytes n (elements_in set d d.version n at) (walks set d d.version d.version n n at at).counted k e)
 
 or_none : (a b : Bool) → b ≡ true → if_not (a || b) reasons.Form ≡ None
 or_none a b e = rw (or_right a b e) refl
@@ -143,7 +55,8 @@ module _ (set : Set) (d : Device) (image : Image) (short_all : AreShort image.nu
   came_below at (s ∷ subs) (None ∷ came) k lt = came_below (at + length (desc_cells (struct_cells set) s.desc)) subs came k (omega arith)
   came_below at (s ∷ subs) (Some v ∷ came) k lt =
       let next = at + length (desc_cells (struct_cells set) s.desc) in
-      none_joined k (sub_slots set s v n at) _ (desc_below set n short_all s.desc v at k lt) (came_below next subs came k (omega arith))
+      none_joined k (sub_slots set s v n at) _ ((desc_part set n short_all s.desc v at).outside k (λ low. omega arith)).1
+      (came_below next subs came k (omega arith))
   came_below at _ _ k lt = refl
 
   -- what the lines of subsections are
@@ -170,6 +83,7 @@ module _ (set : Set) (d : Device) (image : Image) (short_all : AreShort image.nu
     it_came : (v : ℕ) → v ≡ s.desc.version → is_needed set d image s j ≡ true → AreRight n at own (sub_slots set s v n at)
         → RulesHold (sub_slots set s v n at) → SubsSay (suc j) next subs came → SubsSay j at (s ∷ subs) (Some v ∷ came)
     it_came v same needed right rules later =
+        let its = desc_part set n short_all s.desc s.desc.version at in
         let mine : AreRight n at own (sub_slots set s s.desc.version n at) = rw (same) at right in
         let holds : sub_holds set s (Some v) n at ≡ true = desc_rules set s.desc v n at ∙ are_rules (sub_slots set s v n at) rules in
         record {
@@ -177,24 +91,24 @@ module _ (set : Set) (d : Device) (image : Image) (short_all : AreShort image.nu
           versions = (same, later.versions);
           fine = (
             rw (same, (bytes_eq-Decides (sub_line s (Some s.desc.version)) (sub_line s (Some s.desc.version))).1 refl) refl,
-            fine_then numbers others (desc_fine set n short_all s.desc at mine) later.fine,
+            fine_then numbers others (its.right mine) later.fine,
           );
           good = (rw (holds, needed) refl, all_both _ numbers others (numbers_good set n _) later.good);
           unsaid = λ k e. let p = or_parts (has_line numbers k) (has_line others k) (sym (lines_both numbers others k) ∙ e) in
-              none_joined k (sub_slots set s v n at) _ (rw same (desc_unsaid set n short_all s.desc at k p.0)) (later.unsaid k p.1);
+              none_joined k (sub_slots set s v n at) _ (rw same (its.unsaid k p.0)) (later.unsaid k p.1);
         }
 
     it_did_not : is_needed set d image s j ≡ false → AreRight n at own [] → SubsSay (suc j) next subs came → SubsSay j at (s ∷ subs) (None ∷ came)
     it_did_not needed right later =
+        let its = desc_part set n short_all s.desc s.desc.version at in
         let mine : AreRight n at own (sub_slots set s s.desc.version n at) = record { right = λ c k lt e. right_by (λ h. refl) (right.right c k lt e) } in
-        let defaults = have_defaults n (elements_in set s.desc s.desc.version n at) in
-        let have : defaults ≡ true = desc_have set n short_all s.desc at (λ c k lt e f. (right.right c k lt e).absent refl) in
+        let have = its.defaults (λ c k lt e f. (right.right c k lt e).absent refl) in
         record {
           long = ap suc later.long;
           versions = (tt, later.versions);
           fine = (
             or_none _ _ ((bytes_eq-Decides (sub_line s None) (sub_line s None)).1 refl),
-            fine_then numbers others (desc_fine set n short_all s.desc at mine) later.fine,
+            fine_then numbers others (its.right mine) later.fine,
           );
           good = (rw (needed, have) refl, all_both _ numbers others (numbers_good set n _) later.good);
           unsaid = λ k e. later.unsaid k (or_parts (has_line numbers k) (has_line others k) (sym (lines_both numbers others k) ∙ e)).1;
@@ -218,7 +132,7 @@ module _ (set : Set) (d : Device) (image : Image) (short_all : AreShort image.nu
       let later = came_slots set d n next subs came in
       let p = rules_split mine later rules in
       let r = right_parts n at next own (sub_cells set subs) mine later refl (λ k lt. came_below next subs came k lt)
-      (λ k le. desc_above set n short_all s.desc v at k le) right in
+      (λ k le. ((desc_part set n short_all s.desc v at).outside k (λ low. le)).1) right in
       it_came s j at subs came v needed.1 needed.0 r.0 p.0 (subs_say (suc j) next subs came needed.2 r.1 p.1)
 
   -- what the lines of a device are
@@ -247,17 +161,17 @@ module _ (set : Set) (d : Device) (image : Image) (short_all : AreShort image.nu
       } in
       let rules = rules_split mine later ready.valid in
       let r = right_parts n 0 (own_cells set d) own (sub_cells set d.subs) mine later start (λ k lt. came_below (own_cells set d) d.subs image.came k lt)
-      (λ k le. desc_above set n short_all d.desc image.version 0 k (omega arith)) all in
+      (λ k le. ((desc_part set n short_all d.desc image.version 0).outside k (λ low. omega arith)).1) all in
       let subs : SubsSay 0 (own_cells set d) d.subs image.came = subs_say 0 (own_cells set d) d.subs image.came ready.needed r.1 rules.1 in
       let at_version : AreRight n 0 own (own_slots set d d.desc.version n) = rw (ready.version) at r.0 in
       record {
         shaped = record { version = ready.version; subs = subs.long; versions = subs.versions; cells = ready.normal.cells.long; short = are_short n short_all };
         unsaid = λ c lt e. ready.normal.absent c lt
             (let p = or_parts (has_line numbers c) (has_line others c) (sym (lines_both numbers others c) ∙ e) in
-            none_joined c mine later (rw (ready.version) (desc_unsaid set n short_all d.desc 0 c p.0)) (subs.unsaid c p.1));
+            none_joined c mine later (rw (ready.version) ((desc_part set n short_all d.desc d.desc.version 0).unsaid c p.0)) (subs.unsaid c p.1));
         fine = (
           bytes_same (section_line d image.version) (section_line d d.desc.version) (ap (λ (v : ℕ). section_line d v) ready.version),
-          fine_then numbers others (desc_fine set n short_all d.desc 0 at_version) subs.fine,
+          fine_then numbers others ((desc_part set n short_all d.desc d.desc.version 0).right at_version) subs.fine,
         );
         good = (rw (desc_rules set d.desc image.version n 0 ∙ are_rules mine rules.0) refl, all_both _ numbers others (numbers_good set n _) subs.good);
       }

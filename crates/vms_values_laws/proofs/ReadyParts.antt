@@ -1,14 +1,14 @@
 -- Images that may be written, part by part, and the first bad part.
 use Rattle.vms_values_laws.proofs.Facade.{◌≡◌, ℕ, suc, ◌+◌, ◌<◌, ◌≤◌, Bool, true, false, List, ◌∷◌, ◌++◌, length, get_or, Option, Some, None, ℤ, refl, sym, ap}
 use Rattle.vms_values_laws.proofs.Facade.{◌∙◌, arith, [], map, flat_map, slice_get, AllByRecursion, or_from, get_or_append_left, get_or-append-add}
-use Rattle.vms_values_laws.proofs.Facade.{length-append, or_else_none, ValuesReason, or_else, Desc, Sub, Device, Set, Cell, no_cell, Slot, desc_cells}
+use Rattle.vms_values_laws.proofs.Facade.{length-append, printed, or_else_none, ValuesReason, or_else, Desc, Sub, Device, Set, Cell, no_cell, Slot, desc_cells}
 use Rattle.vms_values_laws.proofs.Facade.{struct_cells, device_cells, Image, own_cells, own_slots, sub_slots, came_slots, image_slots, RulesHold, AreVersionsOf}
 use Rattle.vms_values_laws.proofs.Facade.{is_needed, ComeAsNeeded, IsReady, DefaultsFit, rules_append, rules_are, elements_in, Entry, OfSub, number_entries}
 use Rattle.vms_values_laws.proofs.Facade.{subs_entries, device_entries, if_not, rules_hold, have_defaults, sub_holds, came_well, part_reason, AreFine, has_line}
 use Rattle.vms_values_laws.proofs.Facade.{IsShaped, AreUnsaid, IsAtVersion, AreAtVersions, walks, elements_slots, BadLine, or_bad}
+use Rattle.vms_values_laws.proofs.Numbers.{of_numbers, AreShort}
 use Rattle.vms_values_laws.proofs.SecondPass.{desc_rules, as_bad, parts_from}
-use Rattle.vms_values_laws.proofs.Numbers.{AreShort}
-use Rattle.vms_values_laws.proofs.Rights.{AreRight, right_none, right_both, AreBare, none_outside, said_right, have_each, fit_parts}
+use Rattle.vms_values_laws.proofs.Rights.{AreRight, right_none, right_both, AreBare, fit_parts, Part, part}
 use Rattle.vms_values_laws.proofs.SaidLaws.{lines_both, if_none}
 use Rattle.vms_spec.specs.declared.ValuesReason.TheVariants as reasons
 use Rattle.vms_spec.specs.Layout as slots
@@ -33,35 +33,32 @@ good_both set (e ∷ es) fs h = let p = good_both set es fs h.1 in ((h.0, p.0), 
 two_none : (a b : Bool) → or_else (if_not a reasons.Invalid) (if_not b reasons.Needed) ≡ None → (a ≡ true) × (b ≡ true)
 two_none a b e = let p = or_else_none _ _ e in (if_none a _ p.0, if_none b _ p.1)
 
+-- what has come was to come, and what hasn't is at its defaults
+well_come : (b : Bool) (v : ℕ) (have : Bool) → came_well b (Some v) have ≡ true → b ≡ true
+well_come true v have e = refl
+well_come false v have e = cc
+
+well_away : (b have : Bool) → came_well b None have ≡ true → (b ≡ false) × (have ≡ true)
+well_away true have e = cc
+well_away false have e = (refl, e)
+
 module _ (set : Set) (n : List ℤ) (short : AreShort n) where
   abbrev cells : Desc → List Cell
   cells d = desc_cells (struct_cells set) d
 
-  abbrev bytes : Desc → ℕ → List Slot
-  bytes d at = slots.desc_slots (slots.meanings set.structs (length set.structs)) d d.version n at
+  abbrev bytes : Desc → ℕ → ℕ → List Slot
+  bytes d v at = slots.desc_slots (slots.meanings set.structs (length set.structs)) d v n at
 
-  pub desc_right : (d : Desc) (at : ℕ) → AreFine (number_entries set d n at) → DefaultsFit (cells d)
-      → AreBare n at (cells d) (λ k. has_line (number_entries set d n at) k) → AreRight n at (cells d) (bytes d at)
-  desc_right d at fine defaults bare =
-      let w = walks set d d.version d.version n n at at in
-      rw (← (w.cells_are), ← (elements_slots set d d.version n at))
-      (said_right n short at (elements_in set d d.version n at) w.up fine (rw (w.cells_are) defaults) (rw (w.cells_are) bare))
-
-  desc_bare : (d : Desc) (at : ℕ) → have_defaults n (elements_in set d d.version n at) ≡ true → AreBare n at (cells d) (λ k. false)
-  desc_bare d at h = let w = walks set d d.version d.version n n at at in rw (w.cells_are) at (have_each n at (elements_in set d d.version n at) w.up h)
+  pub desc_part : (d : Desc) (v at : ℕ)
+      → Part n at (of_numbers n (printed (elements_in set d v n at))) (cells d) (bytes d v at) (have_defaults n (elements_in set d v n at))
+  desc_part d v at =
+      let w = walks set d v v n n at at in
+      rw (← (w.cells_are), ← (elements_slots set d v n at)) (part n short at (elements_in set d v n at) w.up w.counted)
 
   -- what is at its default is right, whatever is in the bytes
   pub default_right : (at : ℕ) (cs : List Cell) (ss : List Slot) → DefaultsFit cs → AreBare n at cs (λ k. false) → AreRight n at cs ss
   default_right at cs ss defaults bare =
       record { right = λ c k lt e. let is = bare c k lt e refl in record { fits = rw is (defaults c lt); absent = λ h. is } }
-
-  pub below_desc : (d : Desc) (at k : ℕ) → k < at → has_line (number_entries set d n at) k ≡ false
-  below_desc d at k lt = (none_outside n at (elements_in set d d.version n at) (walks set d d.version d.version n n at at).up k (λ le. omega arith)).0
-
-  pub above_desc : (d : Desc) (at k : ℕ) → at + length (cells d) ≤ k → has_line (number_entries set d n at) k ≡ false
-  above_desc d at k le =
-      let w = walks set d d.version d.version n n at at in
-      (none_outside n at (elements_in set d d.version n at) w.up k (λ low. omega (arith, ap length w.cells_are))).0
 
   -- a part, and what comes after it
   pub bare_parts : (d : Desc) (at next : ℕ) (cs : List Cell) (others : List Entry) → next ≡ at + length (cells d)
@@ -73,7 +70,7 @@ module _ (set : Set) (n : List ℤ) (short : AreShort n) where
         ∙ ap (λ (x : Cell). x.default) (get_or_append_left (cells d) cs no_cell c lt),
     λ c k lt e f.
         b (length (cells d) + c) k (omega (arith, length-append (cells d) cs)) (omega arith)
-        (none_in (number_entries set d n at) others k (above_desc d at k (omega arith)) f)
+        (none_in (number_entries set d n at) others k ((desc_part d d.version at).outside k (λ low. omega arith)).0 f)
         ∙ ap (λ (x : Cell). x.default) (get_or-append-add (cells d) cs c no_cell),
   )
 
@@ -87,7 +84,8 @@ module _ (set : Set) (d : Device) (image : Image) (short : AreShort image.number
 
   pub below_subs : (j at : ℕ) (subs : List Sub) (came : List (Option ℕ)) (k : ℕ) → k < at → has_line (subs_entries set d image j at subs came) k ≡ false
   below_subs j at (s ∷ subs) (o ∷ came) k lt =
-      none_in (number_entries set s.desc n at) _ k (below_desc set n short s.desc at k lt) (below_subs (suc j) _ subs came k (omega arith))
+      none_in (number_entries set s.desc n at) _ k ((desc_part set n short s.desc s.desc.version at).outside k (λ low. omega arith)).0
+      (below_subs (suc j) _ subs came k (omega arith))
   below_subs j at _ _ k lt = refl
 
   -- what holds of the subsections
@@ -97,46 +95,30 @@ module _ (set : Set) (d : Device) (image : Image) (short : AreShort image.number
     pub needed : ComeAsNeeded set d image j subs came
 
   module _ (s : Sub) (j at : ℕ) (subs : List Sub) (came : List (Option ℕ)) where
+    abbrev own : List Cell
+    own = desc_cells (struct_cells set) s.desc
+
     abbrev next : ℕ
-    next = at + length (desc_cells (struct_cells set) s.desc)
+    next = at + length own
 
-    it_came : (v : ℕ) → v ≡ s.desc.version → AreRight n at (desc_cells (struct_cells set) s.desc) (sub_slots set s s.desc.version n at)
-        → (b : Bool) → is_needed set d image s j ≡ b → sub_holds set s (Some v) n at ≡ true
-        → came_well b (Some v) (have_defaults n (elements_in set s.desc s.desc.version n at)) ≡ true
-        → SubsReady (suc j) next subs came → SubsReady j at (s ∷ subs) (Some v ∷ came)
-    it_came v same right true needed holds well later =
-        record {
-          right =
-              right_both n at next (desc_cells (struct_cells set) s.desc) (sub_cells set subs) (sub_slots set s v n at) (came_slots set d n next subs came) refl
-              (rw same right) later.right;
-          valid = rules_append (sub_slots set s v n at) (came_slots set d n next subs came)
-              (rules_are (sub_slots set s v n at) (sym (desc_rules set s.desc v n at) ∙ holds)) later.valid;
-          needed = (needed, same, later.needed);
-        }
-    it_came v same right false needed holds well later = cc
-
-    it_did_not : DefaultsFit (desc_cells (struct_cells set) s.desc) → (b : Bool) → is_needed set d image s j ≡ b
-        → came_well b None (have_defaults n (elements_in set s.desc s.desc.version n at)) ≡ true → SubsReady (suc j) next subs came
-        → SubsReady j at (s ∷ subs) (None ∷ came)
-    it_did_not defaults true needed well later = cc
-    it_did_not defaults false needed well later =
-        record {
-          right = right_both n at next (desc_cells (struct_cells set) s.desc) (sub_cells set subs) [] (came_slots set d n next subs came) refl
-              (default_right set n short at (desc_cells (struct_cells set) s.desc) [] defaults (desc_bare set n short s.desc at well)) later.right;
-          valid = later.valid;
-          needed = (needed, later.needed);
-        }
-
-    by_line : (o : Option ℕ) → IsAtVersion s o → AreRight n at (desc_cells (struct_cells set) s.desc) (sub_slots set s s.desc.version n at)
-        → DefaultsFit (desc_cells (struct_cells set) s.desc)
+    by_line : (o : Option ℕ) → IsAtVersion s o → AreRight n at own (sub_slots set s s.desc.version n at) → DefaultsFit own
         → part_reason set (OfSub d image j s at o) ≡ None → SubsReady (suc j) next subs came → SubsReady j at (s ∷ subs) (o ∷ came)
     by_line (Some v) same right defaults good later =
-        let well = came_well (is_needed set d image s j) (Some v) (have_defaults n (elements_in set s.desc s.desc.version n at)) in
-        let p = two_none (sub_holds set s (Some v) n at) well good in
-        it_came v same right (is_needed set d image s j) refl p.0 p.1 later
+        let p = two_none (sub_holds set s (Some v) n at) _ good in
+        record {
+          right = right_both n at next own (sub_cells set subs) (sub_slots set s v n at) (came_slots set d n next subs came) refl (rw same right) later.right;
+          valid = rules_append (sub_slots set s v n at) (came_slots set d n next subs came)
+              (rules_are (sub_slots set s v n at) (sym (desc_rules set s.desc v n at) ∙ p.0)) later.valid;
+          needed = (well_come _ v _ p.1, same, later.needed);
+        }
     by_line None same right defaults good later =
-        let well = came_well (is_needed set d image s j) None (have_defaults n (elements_in set s.desc s.desc.version n at)) in
-        it_did_not defaults (is_needed set d image s j) refl (two_none true well good).1 later
+        let w = well_away (is_needed set d image s j) _ (two_none true _ good).1 in
+        record {
+          right = right_both n at next own (sub_cells set subs) [] (came_slots set d n next subs came) refl
+              (default_right set n short at own [] defaults ((desc_part set n short s.desc s.desc.version at).bare w.1)) later.right;
+          valid = later.valid;
+          needed = (w.0, later.needed);
+        }
 
   pub subs_ready : (j at : ℕ) (subs : List Sub) (came : List (Option ℕ)) → length came ≡ length subs → AreAtVersions subs came
       → AreFine (subs_entries set d image j at subs came) → AreGood set (subs_entries set d image j at subs came) → DefaultsFit (sub_cells set subs)
@@ -151,7 +133,7 @@ module _ (set : Set) (d : Device) (image : Image) (short : AreShort image.number
       let g = good_both set numbers others good.1 in
       let b = bare_parts set n short s.desc at next (sub_cells set subs) others refl (λ k lt. below_subs (suc j) next subs came k lt) bare in
       let p = fit_parts own (sub_cells set subs) defaults in
-      by_line s j at subs came o versions.0 (desc_right set n short s.desc at f.0 p.0 b.0) p.0 good.0
+      by_line s j at subs came o versions.0 ((desc_part set n short s.desc s.desc.version at).said f.0 p.0 b.0) p.0 good.0
       (subs_ready (suc j) next subs came (omega (arith, long)) versions.1 f.1 g.1 p.1 b.1)
   subs_ready j at _ _ long versions fine good defaults bare = absurd (omega (arith, long))
 
@@ -181,7 +163,7 @@ module _ (set : Set) (d : Device) (image : Image) (short : AreShort image.number
       (λ k lt. below_subs 0 (own_cells set d) d.subs image.came k lt) bare in
       let p = fit_parts own (sub_cells set d.subs) defaults in
       let subs = subs_ready 0 (own_cells set d) d.subs image.came shaped.subs shaped.versions f.1 g.1 p.1 b.1 in
-      let mine : AreRight n 0 own (own_slots set d d.desc.version n) = desc_right set n short d.desc 0 f.0 p.0 b.0 in
+      let mine : AreRight n 0 own (own_slots set d d.desc.version n) = (desc_part set n short d.desc d.desc.version 0).said f.0 p.0 b.0 in
       let theirs : AreRight n 0 own (own_slots set d image.version n) = rw (shaped.version) mine in
       let all : AreRight n 0 (device_cells set d) (image_slots set d image) =
       right_both n 0 (own_cells set d) own (sub_cells set d.subs) (own_slots set d image.version n) (came_slots set d n (own_cells set d) d.subs image.came)
@@ -214,32 +196,31 @@ pub record FirstPart (set : Set) (line : ℕ) (es : List Entry) (b : BadLine) : 
 
 pub first_part : (set : Set) (line : ℕ) (es : List Entry) (b : BadLine) → parts_from set line es ≡ Some b → FirstPart set line es b
 first_part set line [] b h = absurd (cc)
-first_part set line (e ∷ es) b h = go (part_reason set e) refl h (λ g. first_part set (suc line) es b g)
-  where
-    go : (o : Option ValuesReason) → part_reason set e ≡ o → or_bad (as_bad line o) (parts_from set (suc line) es) ≡ Some b
-        → (parts_from set (suc line) es ≡ Some b → FirstPart set (suc line) es b) → FirstPart set line (e ∷ es) b
-    go None is h more =
-        let p = more h in
-        record {
-          before = e ∷ p.before;
-          entry = p.entry;
-          after = p.after;
-          is = ap (λ (l : List Entry). e ∷ l) p.is;
-          good = rw (is, p.good) refl;
-          number = omega (arith, p.number);
-          bad = p.bad;
-        }
-    go (Some reason) is h more =
-        let same : record { line = line; reason = reason } ≡ b = cc in
-        record {
-          before = [];
-          entry = e;
-          after = es;
-          is = refl;
-          good = refl;
-          number = rw (← same) (omega arith);
-          bad = rw (← same) is;
-        }
+first_part set line (e ∷ es) b h = go (part_reason set e) refl h (λ g. first_part set (suc line) es b g) where
+  go : (o : Option ValuesReason) → part_reason set e ≡ o → or_bad (as_bad line o) (parts_from set (suc line) es) ≡ Some b
+      → (parts_from set (suc line) es ≡ Some b → FirstPart set (suc line) es b) → FirstPart set line (e ∷ es) b
+  go None is h more =
+      let p = more h in
+      record {
+        before = e ∷ p.before;
+        entry = p.entry;
+        after = p.after;
+        is = ap (λ (l : List Entry). e ∷ l) p.is;
+        good = rw (is, p.good) refl;
+        number = omega (arith, p.number);
+        bad = p.bad;
+      }
+  go (Some reason) is h more =
+      let same : record { line = line; reason = reason } ≡ b = cc in
+      record {
+        before = [];
+        entry = e;
+        after = es;
+        is = refl;
+        good = refl;
+        number = rw (← same) (omega arith);
+        bad = rw (← same) is;
+      }
 
 pub bad_part_found : (set : Set) (line : ℕ) (before : List Entry) (entry : Entry) (after : List Entry) (reason : ValuesReason)
     → map (part_reason set) before ≡ map (λ e. None) before

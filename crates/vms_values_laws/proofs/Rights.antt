@@ -1,11 +1,12 @@
 -- Which numbers have fine lines, and which entries.
 use Rattle.vms_values_laws.proofs.Facade.{◌≡◌, ℕ, Bool, true, false, List, ◌∷◌, ◌++◌, length, get_or, drop, Some, None, ℤ, pos, refl, sym, ap, ◌∙◌, codes}
-use Rattle.vms_values_laws.proofs.Facade.{not-true, append_assoc, if◌then◌else◌, ◌||◌, [], ◌⊎◌, inl, inr, zero, suc, ◌+◌, ◌-◌, ◌<◌, ◌≤◌, ◌&&◌, ◌==◌, subst}
-use Rattle.vms_values_laws.proofs.Facade.{arith, ⊎_elim, signed_decimal, eq-eqb, ne_eqb, and_parts, or_parts, drop-append_seam, get_or_append_left}
-use Rattle.vms_values_laws.proofs.Facade.{get_or-append-add, length-append, cases_lt, or_else_none, same_number, Cell, no_cell, Slot, FitsCell, has_cell}
-use Rattle.vms_values_laws.proofs.Facade.{begins_with, is_same, ranged, ranges, or_second, same_number_is, within_all, not_exceeds, IsShort, number_holds}
-use Rattle.vms_values_laws.proofs.Facade.{Number, Element, What, number_line, printed, OfNumber, if_not, number_reason, element_reason, line_reason}
-use Rattle.vms_values_laws.proofs.Facade.{have_defaults, DefaultsFit, names_append, cells_of, slots_of, numbers_in, CountsUp, AreFine, has_line}
+use Rattle.vms_values_laws.proofs.Facade.{or_from, and_from, and-true, and-false, not-true, append_assoc, if◌then◌else◌, ◌||◌, [], ◌⊎◌, inl, inr, zero, suc}
+use Rattle.vms_values_laws.proofs.Facade.{◌+◌, ◌-◌, ◌<◌, ◌≤◌, ◌&&◌, ◌==◌, subst, arith, ⊎_elim, signed_decimal, eq-eqb, ne_eqb, and_parts, or_parts}
+use Rattle.vms_values_laws.proofs.Facade.{drop-append_seam, get_or_append_left, get_or-append-add, length-append, cases_lt, Entry, AreCounted, or_else_none}
+use Rattle.vms_values_laws.proofs.Facade.{same_number, Cell, no_cell, Slot, FitsCell, has_cell, begins_with, is_same, ranged, ranges, or_second, same_number_is}
+use Rattle.vms_values_laws.proofs.Facade.{within_all, not_exceeds, IsShort, number_holds, Number, Element, What, number_line, printed, OfNumber, if_not}
+use Rattle.vms_values_laws.proofs.Facade.{number_reason, element_reason, line_reason, have_defaults, DefaultsFit, names_append, cells_of, slots_of, numbers_in}
+use Rattle.vms_values_laws.proofs.Facade.{CountsUp, AreFine, has_line}
 use Rattle.vms_values_laws.proofs.SaidLaws.{if_none, if_holds}
 use Rattle.vms_values_laws.proofs.Numbers.{AreShort, of_numbers}
 use Rattle.vms_spec.specs.declared.ValuesReason.TheVariants as reasons
@@ -82,10 +83,9 @@ right_both n at next xs ys ss ts is a b = record {
       subst (λ (i : ℕ). IsRight n (ss ++ ts) k (get_or (xs ++ ys) i no_cell)) whole
       (rw (get_or-append-add xs ys m no_cell) (right_by (λ h. (bare k h).1) (b.right m k (omega (arith, length-append xs ys)) (omega arith)))))
       (cases_lt c (length xs));
-}
-  where
-    bare : (k : ℕ) → has_cell (ss ++ ts) k ≡ false → (has_cell ss k ≡ false) × (has_cell ts k ≡ false)
-    bare k h = or_parts (has_cell ss k) (has_cell ts k) (sym (names_append ss ts k) ∙ h)
+} where
+  bare : (k : ℕ) → has_cell (ss ++ ts) k ≡ false → (has_cell ss k ≡ false) × (has_cell ts k ≡ false)
+  bare k h = or_parts (has_cell ss k) (has_cell ts k) (sym (names_append ss ts k) ∙ h)
 
 pub fit_parts : (xs ys : List Cell) → DefaultsFit (xs ++ ys) → DefaultsFit xs × DefaultsFit ys
 fit_parts xs ys h = (
@@ -119,140 +119,153 @@ pub record IsNoNumber (x : Element) (xs : List Element) : Type 0 where
   pub bytes : (k : ℕ) → has_cell (slots_of (x ∷ xs)) k ≡ has_cell (slots_of xs) k
   pub defaults : (n : List ℤ) → have_defaults n (x ∷ xs) ≡ have_defaults n xs
 
-counted_number : (b : Bool) (x : Element) (xs : List Element) → (if b && true then x ∷ xs else xs) ≡ (if b then x ∷ xs else xs)
-counted_number true x xs = refl
-counted_number false x xs = refl
-
-not_printed : (b : Bool) (x : Element) (xs : List Element) → (if b && false then x ∷ xs else xs) ≡ xs
-not_printed true x xs = refl
-not_printed false x xs = refl
-
-no_cell_of : (b : Bool) (s : Slot) (ss : List Slot) (k : ℕ) → has_cell (s ∷ ss) k ≡ has_cell ss k → has_cell (if b then s ∷ ss else ss) k ≡ has_cell ss k
-no_cell_of true s ss k h = h
-no_cell_of false s ss k h = refl
-
 pub view : (x : Element) (xs : List Element) → IsNumberOf x xs ⊎ IsNoNumber x xs
-view x xs = by_what x.what refl
-  where
-    by_what : (w : What) → x.what ≡ w → IsNumberOf x xs ⊎ IsNoNumber x xs
-    by_what (Number cell) e = inl (record {
-      cell = cell;
-      what = e;
-      cells = rw e refl;
-      numbers = rw e refl;
-      lines = rw e (counted_number x.counted _ (printed xs));
-      bytes = rw e refl;
-      defaults = λ n. rw e refl;
-    })
-    by_what _ e = inr (record {
-      cells = rw e refl;
-      numbers = rw e refl;
-      lines = rw e (not_printed x.counted _ (printed xs));
-      bytes = λ k. rw e (no_cell_of x.present _ (slots_of xs) k refl);
-      defaults = λ n. rw e refl;
-    })
+view x xs = by_what x.what refl where
+  by_what : (w : What) → x.what ≡ w → IsNumberOf x xs ⊎ IsNoNumber x xs
+  by_what (Number cell) e = inl (record {
+    cell = cell;
+    what = e;
+    cells = rw e refl;
+    numbers = rw e refl;
+    lines = rw (e, and-true x.counted) refl;
+    bytes = rw e refl;
+    defaults = λ n. rw e refl;
+  })
+  by_what _ e = inr (record {
+    cells = rw e refl;
+    numbers = rw e refl;
+    lines = rw (e, and-false x.counted) refl;
+    bytes = λ k. rw e (if_holds (λ l. has_cell l k ≡ has_cell (slots_of xs) k) x.present _ (slots_of xs) refl refl);
+    defaults = λ n. rw e refl;
+  })
 
 no_line : (n : List ℤ) (x : Element) (xs : List Element) (k : ℕ) (b : Bool) → (x.cell ≡ k → ⊥) → has_line (of_numbers n xs) k ≡ false
     → has_line (of_numbers n (if b then x ∷ xs else xs)) k ≡ false
 no_line n x xs k b ne h = if_holds (λ l. has_line (of_numbers n l) k ≡ false) b (x ∷ xs) xs (rw (ne_eqb x.cell k ne) h) h
 
-pub no_bytes : (x : Element) (cell : Cell) (ss : List Slot) (k : ℕ) (b : Bool) → (x.cell ≡ k → ⊥) → has_cell ss k ≡ false
+no_bytes : (x : Element) (cell : Cell) (ss : List Slot) (k : ℕ) (b : Bool) → (x.cell ≡ k → ⊥) → has_cell ss k ≡ false
     → has_cell (if b then slots.Number x.cell cell.kind cell.capacities ∷ ss else ss) k ≡ false
 no_bytes x cell ss k b ne h = if_holds (λ ss. has_cell ss k ≡ false) b _ ss (rw (ne_eqb x.cell k ne) h) h
-
--- cells before those of the elements and after them have no line and no byte
-pub none_outside : (n : List ℤ) (at : ℕ) (xs : List Element) → CountsUp at (numbers_in xs) → (k : ℕ) → (at ≤ k → at + length (cells_of xs) ≤ k)
-    → (has_line (of_numbers n (printed xs)) k ≡ false) × (has_cell (slots_of xs) k ≡ false)
-none_outside n at [] up k h = (refl, refl)
-none_outside n at (x ∷ xs) up k h =
-    ⊎_elim (λ (v : IsNumberOf x xs).
-    let u : CountsUp at (x ∷ numbers_in xs) = rw (v.numbers) at up in
-    let long : length (cells_of (x ∷ xs)) ≡ suc (length (cells_of xs)) = ap length v.cells in
-    let ne : x.cell ≡ k → ⊥ = λ e. (let g = h (omega (arith, u.0)) in omega (arith, u.0)) in
-    let later = none_outside n (at + 1) xs u.1 k (λ le. let g = h (omega arith) in omega arith) in
-    (rw (v.lines) (no_line n x (printed xs) k x.counted ne later.0), rw (v.bytes) (no_bytes x v.cell (slots_of xs) k x.present ne later.1)))
-    (λ (v : IsNoNumber x xs).
-    let later = none_outside n at xs (rw (v.numbers) at up) k (rw (v.cells) at h) in
-    (rw (v.lines) later.0, v.bytes k ∙ later.1)) (view x xs)
 
 pub fine_rest : (n : List ℤ) (x : Element) (xs : List Element) (b : Bool) → AreFine (of_numbers n (if b then x ∷ printed xs else printed xs))
     → AreFine (of_numbers n (printed xs))
 fine_rest n x xs true f = f.1
 fine_rest n x xs false f = f
 
-module _ (n : List ℤ) (short : AreShort n) where
-  -- one line
-  counted_right : (x : Element) (cell : Cell) (ss : List Slot) (k : ℕ) → x.what ≡ Number cell → x.cell ≡ k
-      → line_reason (OfNumber x n) (number_line n x) ≡ None → IsRight n (with_slot x cell ss) k cell
-  counted_right x cell ss k what at fine =
-      let f = reason_fits cell x.present (get_or n x.cell (pos 0)) (sym (line_number x n cell what (short x.cell)) ∙ fine) in
-      record {
-        fits = subst (λ (i : ℕ). FitsCell cell (get_or n i (pos 0))) at f.fits;
-        absent = λ h. sym (ap (λ (i : ℕ). get_or n i (pos 0)) at) ∙ f.absent (hidden x.present h);
-      }
-    where
-      hidden : (b : Bool) → has_cell (if b then slots.Number x.cell cell.kind cell.capacities ∷ ss else ss) k ≡ false → b ≡ false
-      hidden true h = sym (eq-eqb x.cell k at) ∙ (or_parts (x.cell == k) (has_cell ss k) h).0
-      hidden false h = refl
+bare_later : (b : Bool) (x : Element) (cell : Cell) (ss : List Slot) (k : ℕ)
+    → has_cell (if b then slots.Number x.cell cell.kind cell.capacities ∷ ss else ss) k ≡ false → has_cell ss k ≡ false
+bare_later true x cell ss k h = (or_parts (x.cell == k) (has_cell ss k) h).1
+bare_later false x cell ss k h = h
 
-  bare_later : (b : Bool) (at : ℕ) (kind : Rattle.vms_kinds.specs.declared.Kind.Kind) (caps : List ℕ) (ss : List Slot) (k : ℕ)
-      → has_cell (if b then slots.Number at kind caps ∷ ss else ss) k ≡ false → has_cell ss k ≡ false
-  bare_later true at kind caps ss k h = (or_parts (at == k) (has_cell ss k) h).1
-  bare_later false at kind caps ss k h = h
+-- What is known of the entries, the cells and the slots of a part from a cell on, by the numbers of a state; `have` is whether all are defaults.
+pub record Part (n : List ℤ) (at : ℕ) (es : List Entry) (cells : List Cell) (ss : List Slot) (have : Bool) : Type 0 where
+  -- cells before the part and after it have no line and no byte, and a cell without a line has no byte
+  pub outside : (k : ℕ) → (at ≤ k → at + length cells ≤ k) → (has_line es k ≡ false) × (has_cell ss k ≡ false)
+  pub unsaid : (k : ℕ) → has_line es k ≡ false → has_cell ss k ≡ false
+  -- fine lines are those of right numbers
+  pub said : AreFine es → DefaultsFit cells → AreBare n at cells (λ k. has_line es k) → AreRight n at cells ss
+  pub right : AreRight n at cells ss → AreFine es
+  pub bare : have ≡ true → AreBare n at cells (λ k. false)
+  pub defaults : AreBare n at cells (λ k. false) → have ≡ true
 
-  pub said_right : (at : ℕ) (xs : List Element) → CountsUp at (numbers_in xs) → AreFine (of_numbers n (printed xs)) → DefaultsFit (cells_of xs)
-      → AreBare n at (cells_of xs) (λ k. has_line (of_numbers n (printed xs)) k) → AreRight n at (cells_of xs) (slots_of xs)
-  said_right at [] up fine defaults bare = right_none n at []
-  said_right at (x ∷ xs) up fine defaults bare = go (view x xs) (λ next h f d b. said_right next xs h f d b)
-    where
-      go : IsNumberOf x xs ⊎ IsNoNumber x xs
-          → ((next : ℕ) → CountsUp next (numbers_in xs) → AreFine (of_numbers n (printed xs)) → DefaultsFit (cells_of xs) → AreBare n next (cells_of xs)
-          (λ k. has_line (of_numbers n (printed xs)) k)
-          → AreRight n next (cells_of xs) (slots_of xs)) → AreRight n at (cells_of (x ∷ xs)) (slots_of (x ∷ xs))
-      go (inl v) more =
-          let cell = v.cell in
-          let u : CountsUp at (x ∷ numbers_in xs) = rw (v.numbers) at up in
-          let d : DefaultsFit (cell ∷ cells_of xs) = rw (v.cells) at defaults in
-          let f : AreFine (of_numbers n (if x.counted then x ∷ printed xs else printed xs)) = rw (v.lines) at fine in
-          let b : AreBare n at (cell ∷ cells_of xs) (λ k. has_line (of_numbers n (if x.counted then x ∷ printed xs else printed xs)) k) =
-          subst (λ (l : List Element). AreBare n at (cell ∷ cells_of xs) (λ k. has_line (of_numbers n l) k)) v.lines (rw (v.cells) at bare) in
-          let later : AreRight n (at + 1) (cells_of xs) (slots_of xs) =
-          more (at + 1) u.1 (fine_rest n x xs x.counted f) (λ c lt. d (suc c) (omega arith))
-          (λ c k lt e bare. b (suc c) k (omega arith) (omega arith) (no_line n x (printed xs) k x.counted (λ s. omega (arith, u.0)) bare)) in
-          rw (v.cells, v.bytes) (record { right = λ c k lt e. place c k lt e (first x.counted f b u.0 u.1 (d 0 (omega arith))) later })
-        where
-          first : (t : Bool) → AreFine (of_numbers n (if t then x ∷ printed xs else printed xs))
-              → AreBare n at (v.cell ∷ cells_of xs) (λ k. has_line (of_numbers n (if t then x ∷ printed xs else printed xs)) k)
-              → x.cell ≡ at → CountsUp (at + 1) (numbers_in xs) → FitsCell v.cell v.cell.default → IsRight n (with_slot x v.cell (slots_of xs)) at v.cell
-          first true f b e up d = counted_right x v.cell (slots_of xs) at v.what e f.0
-          first false f b e up d =
-              let is : get_or n at (pos 0) ≡ v.cell.default = b 0 at (omega arith) (omega arith) (none_outside n (at + 1) xs up at (λ le. omega arith)).0 in
-              record { fits = rw is d; absent = λ h. is }
+-- beside other slots with the same bytes
+same_bytes : (n : List ℤ) (at : ℕ) (es : List Entry) (cells : List Cell) (ss ts : List Slot) (have : Bool) → ((k : ℕ) → has_cell ts k ≡ has_cell ss k)
+    → Part n at es cells ss have → Part n at es cells ts have
+same_bytes n at es cells ss ts have same p = record {
+  outside = λ k h. let o = p.outside k h in (o.0, same k ∙ o.1);
+  unsaid = λ k h. same k ∙ p.unsaid k h;
+  said = λ f d b. record { right = λ c k lt e. right_by (λ h. sym (same k) ∙ h) ((p.said f d b).right c k lt e) };
+  right = λ a. p.right (record { right = λ c k lt e. right_by (λ h. same k ∙ h) (a.right c k lt e) });
+  bare = p.bare;
+  defaults = p.defaults;
+}
 
-          place : (c k : ℕ) → c < suc (length (cells_of xs)) → k ≡ at + c → IsRight n (with_slot x v.cell (slots_of xs)) at v.cell
-              → AreRight n (at + 1) (cells_of xs) (slots_of xs) → IsRight n (with_slot x v.cell (slots_of xs)) k (get_or (v.cell ∷ cells_of xs) c no_cell)
-          place zero k lt e h later =
-              let is : at ≡ k = omega arith in
-              rw (is) at h
-          place (suc c) k lt e h later =
-              right_by (bare_later x.present x.cell v.cell.kind v.cell.capacities (slots_of xs) k) (later.right c k (omega arith) (omega arith))
-      go (inr v) more =
-          let later : AreRight n at (cells_of xs) (slots_of xs) =
-          more at (rw (v.numbers) at up) (rw (v.lines) at fine) (rw (v.cells) at defaults)
-          (subst (λ (l : List Element). AreBare n at (cells_of xs) (λ k. has_line (of_numbers n l) k)) v.lines (rw (v.cells) at bare)) in
-          rw (v.cells) (record { right = λ c k lt e. right_by (λ h. sym (v.bytes k) ∙ h) (later.right c k lt e) })
+-- a number before a part
+module _ (n : List ℤ) (short : AreShort n) (x : Element) (xs : List Element) (v : IsNumberOf x xs) (at : ℕ) (here : x.cell ≡ at)
+    (p : Part n (at + 1) (of_numbers n (printed xs)) (cells_of xs) (slots_of xs) (have_defaults n xs)) where
+  abbrev cells : List Cell
+  cells = v.cell ∷ cells_of xs
 
-pub have_each : (n : List ℤ) (at : ℕ) (xs : List Element) → CountsUp at (numbers_in xs) → have_defaults n xs ≡ true → AreBare n at (cells_of xs) (λ k. false)
-have_each n at [] up h = λ c k lt e f. absurd (omega arith)
-have_each n at (x ∷ xs) up h =
+  abbrev mine : List Slot
+  mine = with_slot x v.cell (slots_of xs)
+
+  abbrev lines : Bool → List Entry
+  lines t = of_numbers n (if t then x ∷ printed xs else printed xs)
+
+  number_unsaid : (k : ℕ) (b t : Bool) → (b ≡ true → t ≡ true) → has_line (lines t) k ≡ false
+      → has_cell (if b then slots.Number x.cell v.cell.kind v.cell.capacities ∷ slots_of xs else slots_of xs) k ≡ false
+  number_unsaid k true true c e = let q = or_parts (x.cell == k) _ e in or_from (x.cell == k) _ q.0 (p.unsaid k q.1)
+  number_unsaid k true false c e = let f = c refl in cc
+  number_unsaid k false true c e = p.unsaid k (or_parts (x.cell == k) _ e).1
+  number_unsaid k false false c e = p.unsaid k e
+
+  hidden : (b : Bool) → has_cell (if b then slots.Number x.cell v.cell.kind v.cell.capacities ∷ slots_of xs else slots_of xs) at ≡ false → b ≡ false
+  hidden true h = sym (eq-eqb x.cell at here) ∙ (or_parts (x.cell == at) (has_cell (slots_of xs) at) h).0
+  hidden false h = refl
+
+  number_said : (t : Bool) → AreFine (lines t) → AreBare n at cells (λ k. has_line (lines t) k) → FitsCell v.cell v.cell.default → IsRight n mine at v.cell
+  number_said true f b d =
+      let r = reason_fits v.cell x.present (get_or n x.cell (pos 0)) (sym (line_number x n v.cell v.what (short x.cell)) ∙ f.0) in
+      record { fits = rw here at r.fits; absent = λ h. rw here at (r.absent (hidden x.present h)) }
+  number_said false f b d =
+      let is : get_or n at (pos 0) ≡ v.cell.default = b 0 at (omega arith) (omega arith) (p.outside at (λ le. omega arith)).0 in
+      record { fits = rw is d; absent = λ h. is }
+
+  place : (c k : ℕ) → c < suc (length (cells_of xs)) → k ≡ at + c → IsRight n mine at v.cell → AreRight n (at + 1) (cells_of xs) (slots_of xs)
+      → IsRight n mine k (get_or cells c no_cell)
+  place zero k lt e h later = let is : at ≡ k = omega arith in rw (is) at h
+  place (suc c) k lt e h later = right_by (bare_later x.present x v.cell (slots_of xs) k) (later.right c k (omega arith) (omega arith))
+
+  number_bare : (c k : ℕ) → c < suc (length (cells_of xs)) → k ≡ at + c → get_or n at (pos 0) ≡ v.cell.default → AreBare n (at + 1) (cells_of xs) (λ k. false)
+      → get_or n k (pos 0) ≡ (get_or cells c no_cell).default
+  number_bare zero k lt e is later = let same : k ≡ at = omega arith in rw same is
+  number_bare (suc c) k lt e is later = later c k (omega arith) (omega arith) refl
+
+  number_line_fine : IsRight n mine at v.cell → line_reason (OfNumber x n) (number_line n x) ≡ None
+  number_line_fine r =
+      let bytes = λ (b : Bool). has_cell (if b then slots.Number x.cell v.cell.kind v.cell.capacities ∷ slots_of xs else slots_of xs) at in
+      line_number x n v.cell v.what (short x.cell) ∙ fits_reason v.cell x.present (get_or n x.cell (pos 0))
+      (record { fits = rw here r.fits; absent = λ e. rw here (r.absent (ap bytes e ∙ (p.outside at (λ le. omega arith)).1)) })
+
+  number_part : (x.present ≡ true → x.counted ≡ true)
+      → Part n at (lines x.counted) cells mine (same_number (get_or n x.cell (pos 0)) v.cell.default && have_defaults n xs)
+  number_part counted = record {
+    outside = λ k h.
+        let ne : x.cell ≡ k → ⊥ = λ e. (let g : at + suc (length (cells_of xs)) ≤ k = h (omega (arith, here)) in omega (arith, here)) in
+        let later = p.outside k (λ le. let g : at + suc (length (cells_of xs)) ≤ k = h (omega arith) in omega arith) in
+        (no_line n x (printed xs) k x.counted ne later.0, no_bytes x v.cell (slots_of xs) k x.present ne later.1);
+    unsaid = λ k e. number_unsaid k x.present x.counted counted e;
+    said = λ f d b.
+        let later = p.said (fine_rest n x xs x.counted f) (λ c lt. d (suc c) (omega arith))
+        (λ c k lt e bare. b (suc c) k (omega arith) (omega arith) (no_line n x (printed xs) k x.counted (λ s. omega (arith, here)) bare)) in
+        record { right = λ c k lt e. place c k lt e (number_said x.counted f b (d 0 (omega arith))) later };
+    right = λ a.
+        let mute = λ (k : ℕ) (le : at + 1 ≤ k) (h : has_cell (slots_of xs) k ≡ false).
+        no_bytes x v.cell (slots_of xs) k x.present (λ e. omega (arith, here)) h in
+        let later = p.right (record { right = λ c k lt e. right_by (mute k (omega arith)) (a.right (suc c) k (omega arith) (omega arith)) }) in
+        if_holds (λ l. AreFine (of_numbers n l)) x.counted (x ∷ printed xs) (printed xs)
+        (number_line_fine (a.right 0 at (omega arith) (omega arith)), later) later;
+    bare = λ h.
+        let q = and_parts (same_number (get_or n x.cell (pos 0)) v.cell.default) _ h in
+        λ c k lt e f. number_bare c k lt e (rw here at (same_number_is _ v.cell.default q.0)) (p.bare q.1);
+    defaults = λ b.
+        let is : get_or n x.cell (pos 0) ≡ v.cell.default = rw here (b 0 at (omega arith) (omega arith) refl) in
+        and_from _ _ (is_same _ v.cell.default is) (p.defaults (λ i k lt e f. b (suc i) k (omega arith) (omega arith) refl));
+  }
+
+pub part : (n : List ℤ) → AreShort n → (at : ℕ) (xs : List Element) → CountsUp at (numbers_in xs) → AreCounted xs
+    → Part n at (of_numbers n (printed xs)) (cells_of xs) (slots_of xs) (have_defaults n xs)
+part n short at [] up counted = record {
+  outside = λ k h. (refl, refl);
+  unsaid = λ k e. refl;
+  said = λ f d b. right_none n at [];
+  right = λ a. tt;
+  bare = λ h c k lt e f. absurd (omega arith);
+  defaults = λ b. refl;
+}
+part n short at (x ∷ xs) up counted =
     ⊎_elim (λ (v : IsNumberOf x xs).
     let u : CountsUp at (x ∷ numbers_in xs) = rw (v.numbers) at up in
-    let p = and_parts (same_number (get_or n x.cell (pos 0)) v.cell.default) _ (sym (v.defaults n) ∙ h) in
-    let is : get_or n at (pos 0) ≡ v.cell.default = rw (u.0) at (same_number_is _ v.cell.default p.0) in
-    rw (v.cells) (λ c k lt e f. place v c k lt e is (have_each n (at + 1) xs u.1 p.1)))
-    (λ (v : IsNoNumber x xs). rw (v.cells) (have_each n at xs (rw (v.numbers) at up) (sym (v.defaults n) ∙ h))) (view x xs)
-  where
-    place : (v : IsNumberOf x xs) (c k : ℕ) → c < suc (length (cells_of xs)) → k ≡ at + c → get_or n at (pos 0) ≡ v.cell.default
-        → AreBare n (at + 1) (cells_of xs) (λ k. false) → get_or n k (pos 0) ≡ (get_or (v.cell ∷ cells_of xs) c no_cell).default
-    place v zero k lt e is later = let same : k ≡ at = omega arith in rw same is
-    place v (suc c) k lt e is later = later c k (omega arith) (omega arith) refl
+    rw (v.lines, v.cells, v.bytes, v.defaults n) (number_part n short x xs v at u.0 (part n short (at + 1) xs u.1 counted.1) counted.0))
+    (λ (v : IsNoNumber x xs).
+    rw (v.lines, v.cells, v.defaults n) (same_bytes n at _ _ (slots_of xs) _ _ v.bytes (part n short at xs (rw (v.numbers) at up) counted.1))) (view x xs)

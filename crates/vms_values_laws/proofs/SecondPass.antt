@@ -48,27 +48,25 @@ parts_both set line (e ∷ es) fs =
 
 pub rules_same : (xs : List Element) → rules_hold xs ≡ rules_are_true (slots_of xs)
 rules_same [] = refl
-rules_same (x ∷ xs) = by_what x.what x.present (rules_same xs)
-  where
-    by_what : (w : What) (present : Bool) → rules_hold xs ≡ rules_are_true (slots_of xs) → ((not present || rule_holds w) && rules_hold xs)
-        ≡ rules_are_true (if present then slot_of x.cell w ∷ slots_of xs else slots_of xs)
-    by_what (Rule false) true h = refl
-    by_what _ true h = h
-    by_what _ false h = h
+rules_same (x ∷ xs) = by_what x.what x.present (rules_same xs) where
+  by_what : (w : What) (present : Bool) → rules_hold xs ≡ rules_are_true (slots_of xs) → ((not present || rule_holds w) && rules_hold xs)
+      ≡ rules_are_true (if present then slot_of x.cell w ∷ slots_of xs else slots_of xs)
+  by_what (Rule false) true h = refl
+  by_what _ true h = h
+  by_what _ false h = h
 
 pub defaults_same : (n : List ℤ) (at : ℕ) (xs : List Element) → CountsUp at (numbers_in xs) → at + length (cells_of xs) ≤ length n
     → have_defaults n xs ≡ are_defaults (cells_of xs) (drop at n)
 defaults_same n at [] up room = refl
-defaults_same n at (x ∷ xs) up room = by_what x.what (λ next. defaults_same n next xs) up room
-  where
-    by_what : (w : What)
-        → ((next : ℕ) → CountsUp next (numbers_in xs) → next + length (cells_of xs) ≤ length n → have_defaults n xs ≡ are_defaults (cells_of xs) (drop next n))
-        → CountsUp at (if is_number w then x ∷ numbers_in xs else numbers_in xs) → at + length (cells_with w (cells_of xs)) ≤ length n
-        → (has_default n x.cell w && have_defaults n xs) ≡ are_defaults (cells_with w (cells_of xs)) (drop at n)
-    by_what (Number cell) more up room =
-        let next : suc at ≡ at + 1 = omega arith in
-        rw (drop-cons n at (pos 0) (omega arith), up.0, next, more (at + 1) up.1 (omega arith)) refl
-    by_what _ more up room = more at up room
+defaults_same n at (x ∷ xs) up room = by_what x.what (λ next. defaults_same n next xs) up room where
+  by_what : (w : What)
+      → ((next : ℕ) → CountsUp next (numbers_in xs) → next + length (cells_of xs) ≤ length n → have_defaults n xs ≡ are_defaults (cells_of xs) (drop next n))
+      → CountsUp at (if is_number w then x ∷ numbers_in xs else numbers_in xs) → at + length (cells_with w (cells_of xs)) ≤ length n
+      → (has_default n x.cell w && have_defaults n xs) ≡ are_defaults (cells_with w (cells_of xs)) (drop at n)
+  by_what (Number cell) more up room =
+      let next : suc at ≡ at + 1 = omega arith in
+      rw (drop-cons n at (pos 0) (omega arith), up.0, next, more (at + 1) up.1 (omega arith)) refl
+  by_what _ more up room = more at up room
 
 module _ (set : Set) where
   pub desc_rules : (d : Desc) (v : ℕ) (n : List ℤ) (at : ℕ) → rules_hold (elements_in set d v n at) ≡ rules_are_true

@@ -131,12 +131,11 @@ module _ (set : Set) (d : Device) where
             moved = moved_none p.line p.rest;
           };
           wrong = sub_refused s (first_line p.rest) e;
-        }
-      where
-        first_sub : (image : Image) (came : List (Option ℕ)) (more : List Entry) → length came ≡ suc (length subs)
-            → Begins (ForSub s) (subs_entries set d image j at (s ∷ subs) came ++ more)
-        first_sub image [] more long = absurd (omega (arith, long))
-        first_sub image (o ∷ came) more long = record { first = OfSub d image j s at o; others = _; is = refl; demands = refl }
+        } where
+          first_sub : (image : Image) (came : List (Option ℕ)) (more : List Entry) → length came ≡ suc (length subs)
+              → Begins (ForSub s) (subs_entries set d image j at (s ∷ subs) came ++ more)
+          first_sub image [] more long = absurd (omega (arith, long))
+          first_sub image (o ∷ came) more long = record { first = OfSub d image j s at o; others = _; is = refl; demands = refl }
 
     module _ (came : Option ℕ) (head : SaidSub s (first_line p.rest) came) where
       abbrev taken_head : Taken

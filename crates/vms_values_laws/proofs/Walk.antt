@@ -26,12 +26,11 @@ module _ (f u v : Element → Element) (same : (x : Element) → u (f x) ≡ v x
     (kept : (x : Element) → ((f x).counted && is_number (f x).what) ≡ (x.counted && is_number x.what)) where
   printed_map : (xs : List Element) → map u (printed (map f xs)) ≡ map v (printed xs)
   printed_map [] = refl
-  printed_map (x ∷ xs) = rw (kept x) (go (x.counted && is_number x.what) (printed_map xs))
-    where
-      go : (b : Bool) → map u (printed (map f xs)) ≡ map v (printed xs)
-          → map u (if b then f x ∷ printed (map f xs) else printed (map f xs)) ≡ map v (if b then x ∷ printed xs else printed xs)
-      go true more = rw (same x, more) refl
-      go false more = more
+  printed_map (x ∷ xs) = rw (kept x) (go (x.counted && is_number x.what) (printed_map xs)) where
+    go : (b : Bool) → map u (printed (map f xs)) ≡ map v (printed xs)
+        → map u (if b then f x ∷ printed (map f xs) else printed (map f xs)) ≡ map v (if b then x ∷ printed xs else printed xs)
+    go true more = rw (same x, more) refl
+    go false more = more
 
 module _ (steps : List (ℕ × ℕ)) (text : List ℕ) (present : Bool) where
   pub wrapped_append : (xs ys : List Element) → wrapped steps text present (xs ++ ys) ≡ wrapped steps text present xs ++ wrapped steps text present ys

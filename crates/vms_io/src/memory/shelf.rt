@@ -1,7 +1,6 @@
 // A shelf in memory.
-ghost use Rattle.std.specs.Prelude.{◌≡◌, ◌+◌, ◌≤◌, ◌↔◌, [], None, List, ℕ, length, IfOk, IfErr, OnOk, OnErr, Some, Contains};
+ghost use Rattle.std.specs.Prelude.{◌≡◌, ◌≤◌, [], None, List, ℕ, length, IfOk, IfErr, OnOk, OnErr, Some};
 ghost use Rattle.vms_kinds.specs.Bytes.{IsBytes};
-ghost use Rattle.vms_io.specs.Causes.{capped};
 ghost use Rattle.vms_io.specs.Memory.{is_empty, empty_is};
 ghost use Rattle.vms_io.specs.Shelves.{FetchRefuses, PutsUnder, KeepsOthers, HasFetchCause, HasStoreCause, CountsFetches, CountsStores};
 
@@ -73,7 +72,7 @@ impl MemShelf {
 }
 
 impl Shelf for MemShelf {
-    ghost use Rattle.vms_io.specs.Cabinets.{cabinet, contents_hold};
+    ghost use Rattle.vms_io.specs.Cabinets.{IsNextCall, cabinet, contents_hold};
 
     ghost held = { λ s. Some (cabinet s).held };
 
@@ -103,10 +102,8 @@ impl Shelf for MemShelf {
         ensures promise { is_empty (cabinet self.new).failing
             ≡ is_empty (cabinet self.old).failing }
         ensures counts { CountsFetches (cabinet self.old).faults (cabinet self.new).faults result }
-        ensures fails { (result ≡ Err FetchFault.Failed)
-            ↔ Contains (cabinet self.old).failing (capped ((cabinet self.old).calls + 1)) }
-        ensures failing { (cabinet self.new).failing ≡ (cabinet self.old).failing }
-        ensures calls { (cabinet self.new).calls ≡ capped ((cabinet self.old).calls + 1) }
+        ensures next { IsNextCall (cabinet self.old) (cabinet self.new)
+            (result ≡ Err FetchFault.Failed) }
     {
         self.calls = self.calls.saturating_add(1);
         if is_listed(&self.failing, self.calls) {
@@ -144,10 +141,8 @@ impl Shelf for MemShelf {
         ensures promise { is_empty (cabinet self.new).failing
             ≡ is_empty (cabinet self.old).failing }
         ensures counts { CountsStores (cabinet self.old).faults (cabinet self.new).faults result }
-        ensures fails { (result ≡ Err StoreFault.Failed)
-            ↔ Contains (cabinet self.old).failing (capped ((cabinet self.old).calls + 1)) }
-        ensures failing { (cabinet self.new).failing ≡ (cabinet self.old).failing }
-        ensures calls { (cabinet self.new).calls ≡ capped ((cabinet self.old).calls + 1) }
+        ensures next { IsNextCall (cabinet self.old) (cabinet self.new)
+            (result ≡ Err StoreFault.Failed) }
     {
         self.calls = self.calls.saturating_add(1);
         if is_listed(&self.failing, self.calls) {

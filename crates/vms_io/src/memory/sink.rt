@@ -1,9 +1,9 @@
 // A sink in memory.
-ghost use Rattle.std.specs.Prelude.{◌≡◌, ◌-◌, ◌+◌, ◌<◌, ◌≤◌, ◌↔◌, [], min, length, IfOk, IsErr, Some, vec_capacity};
+ghost use Rattle.std.specs.Prelude.{◌≡◌, ◌<◌, ◌≤◌, [], length, IfOk, Some, vec_capacity};
 ghost use Rattle.std.specs.Io.{WritesAtMost};
 ghost use Rattle.std.specs.Io.KnownBytes.{WriteAppends};
-ghost use Rattle.vms_io.specs.Causes.{HasCause, CountsFailures, capped};
-ghost use Rattle.vms_io.specs.Memory.{promise_of, promise_kept, WriteFails};
+ghost use Rattle.vms_io.specs.Causes.{HasCause};
+ghost use Rattle.vms_io.specs.Memory.{IsNextWrite, promise_of, promise_kept};
 
 use super::is_listed;
 use crate::{Failed, NoMemory, Sink};
@@ -87,13 +87,7 @@ impl Sink for MemSink {
         ensures cause { HasCause (store self.old).faults (store self.new).faults result }
         ensures promise { promise_of (store self.new).failing (store self.new).room
             ≡ promise_of (store self.old).failing (store self.old).room }
-        ensures takes { IfOk result (λ n.
-            n ≡ min ((store self.old).room - length (store self.old).bytes) (length piece.now)) }
-        ensures counts { CountsFailures (store self.old).faults (store self.new).faults result }
-        ensures fails { IsErr result ↔ WriteFails (store self.old) (length piece.now) }
-        ensures calls { (store self.new).calls ≡ capped ((store self.old).calls + 1) }
-        ensures lists { ((store self.new).room ≡ (store self.old).room)
-            × ((store self.new).failing ≡ (store self.old).failing) }
+        ensures next { IsNextWrite (store self.old) (store self.new) (length piece.now) result }
     {
         self.calls = self.calls.saturating_add(1);
         let left = self.room - self.bytes.len();

@@ -1,10 +1,10 @@
 // A source over bytes in memory.
-ghost use Rattle.std.specs.Prelude.{◌≡◌, ◌+◌, ◌^◌, ◌<◌, ◌≤◌, ◌↔◌, [], length, drop, IfOk, IsErr, Some, Contains};
+ghost use Rattle.std.specs.Prelude.{◌≡◌, ◌^◌, ◌<◌, ◌≤◌, [], length, drop, IfOk, Some};
 ghost use Rattle.std.specs.Io.{ReadsAtMost};
 ghost use Rattle.std.specs.Io.KnownBytes.{ReadConsumes};
-ghost use Rattle.vms_io.specs.Causes.{HasCause, CountsFailures, Gives, capped};
+ghost use Rattle.vms_io.specs.Causes.{HasCause, Gives};
 ghost use Rattle.vms_kinds.specs.Bytes.{IsBytes};
-ghost use Rattle.vms_io.specs.Memory.{is_empty, empty_is, piece_of, taken_of, bytes_left};
+ghost use Rattle.vms_io.specs.Memory.{IsNextRead, is_empty, empty_is, piece_of, bytes_left};
 
 use super::is_listed;
 use crate::{Failed, Source};
@@ -97,13 +97,7 @@ impl Source for MemSource {
         ensures given { Gives (supply self.old).given (supply self.new).given result }
         ensures cause { HasCause (supply self.old).faults (supply self.new).faults result }
         ensures promise { is_empty (supply self.new).failing ≡ is_empty (supply self.old).failing }
-        ensures piece { IfOk result (λ n. n ≡ taken_of (supply self.old) (length buf.old)) }
-        ensures counts { CountsFailures (supply self.old).faults (supply self.new).faults result }
-        ensures fails { IsErr result ↔ Contains (supply self.old).failing
-            (capped ((supply self.old).calls + 1)) }
-        ensures calls { (supply self.new).calls ≡ capped ((supply self.old).calls + 1) }
-        ensures lists { ((supply self.new).pieces ≡ (supply self.old).pieces)
-            × ((supply self.new).failing ≡ (supply self.old).failing) }
+        ensures next { IsNextRead (supply self.old) (supply self.new) (length buf.old) result }
     {
         let piece = self.piece();
         self.calls = self.calls.saturating_add(1);
