@@ -11,7 +11,7 @@ use Rattle.vms_analyze.specs.Listing.{Refused}
 use Rattle.vms_analyze.specs.declared.fault.AnalyzeFault.TheVariants as faults
 use Rattle.vms_analyze.specs.declared.fault.AnalyzeReason.TheVariants as reasons
 use Rattle.vms_commands.specs.declared.ending.Ending.TheVariants as endings
-use Rattle.vms_cli.specs.Analyze.{IsDone, LacksMemory}
+use Rattle.vms_cli.specs.Commands.AnalyzeCommand.{IsDone, LacksMemory}
 
 -- ---- how it ends, by the result of the call
 

@@ -2,7 +2,7 @@
 use Rattle.vms_cli.proofs.Facade.{◌≡◌, ℕ, zero, suc, ◌+◌, ◌≤◌, ◌++◌, if◌then◌else◌, List, [], ◌∷◌, Option, Some, None, codes, ap, ◌∙◌, sym, subst, refl, arith}
 use Rattle.vms_cli.proofs.Facade.{option_map, bytes_eq, decimal_digit, or_else, NEWEST, NEWEST_CLOCK, sets_are_compatible, Mismatch, done, Isa, Clock, Shipped}
 use Rattle.vms_cli.proofs.Facade.{SetWord, named_set, number_after, set_word, shipped_word, HasText, HasOutcome, compatible_text, verdict, ClockSetsLaw, Asked}
-use Rattle.vms_cli.proofs.Facade.{Check, asked_of, check_of, pair_of}
+use Rattle.vms_cli.proofs.Facade.{Check, asked_of, of_both, pair_of}
 
 -- ---- numbers of one digit, whose words are computed
 
@@ -35,7 +35,7 @@ second = ap (named_set (codes "@c2")) (shipped_is (codes "@c2"))
 
 asks : asked_of (codes "check" ∷ codes "@c1" ∷ codes "@c2" ∷ []) ≡ Some (Check (Shipped (Clock 1)) (Shipped (Clock 2)))
 unfolding pair_of
-asks = ap (λ (o : Option SetWord). check_of o (set_word (codes "@c2"))) first ∙ ap (check_of (Some (Shipped (Clock 1)))) second
+asks = ap (λ (o : Option SetWord). of_both Check o (set_word (codes "@c2"))) first ∙ ap (of_both Check (Some (Shipped (Clock 1)))) second
 
 pub clock_sets_hold : ClockSetsLaw
 clock_sets_hold input held =

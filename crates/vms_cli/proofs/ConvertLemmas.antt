@@ -11,7 +11,7 @@ use Rattle.vms_cli.proofs.Facade.{Ending, EndsSo, Risen, is_among, EndsAs, EndsW
 use Rattle.vms_cli.proofs.Facade.{Step, Gives, Ends, unshelved_so, wrong, comes_to_nothing, ends_with, same_keeps, Seen, SeenAs, content_seen, load_seen}
 use Rattle.vms_cli.proofs.Facade.{other_seen, seen_lost, seen_written, sees_as, convert_course}
 use Rattle.vms_convert.specs.Calls.{Converts as Calls}
-use Rattle.vms_cli.specs.Convert.{EndsLike, FailsReading, FailsWriting, IsRefused, Refuses}
+use Rattle.vms_cli.specs.Commands.ConvertCommand.{EndsLike, FailsReading, FailsWriting, IsRefused, Refuses}
 use Rattle.vms_cli.proofs.AnalyzeLemmas.{Stands}
 use Rattle.vms_cli.proofs.ShowLemmas.{same_refusal}
 use Rattle.vms_load.specs.declared.fault.LoadFault.TheVariants as loads

@@ -10,7 +10,8 @@ use Rattle.dev_board.specs.Sound.{IsSound}
 use Rattle.dev_clock.specs.Sound.{Alike as AlikeClocks, IsSound as IsSoundClock}
 use Rattle.vms_board_streams.proofs.ClockLaws.{boards_go_on as clocks_go_on}
 use Rattle.vms_cli.specs.Answers.{Answers}
-use Rattle.vms_cli.specs.Show.{Values as Printed}
+use Rattle.vms_cli.specs.Commands.ShowCommand.{Values as Printed}
+use Rattle.vms_cli.proofs.Entries.{fits_of}
 use Rattle.vms_cli.proofs.RowLemmas.{caused_so, row_so}
 use Rattle.vms_cli.proofs.CheckLemmas.{verdict_so}
 
@@ -119,11 +120,12 @@ module _ (i i' : Intake) (o o' n n' : Outlet) (s s' : Stock) where
       → Answers words status (around i o n s) (around i' o' n' s')
   answers words e status run unnamed t serves octets =
       let so = run.so in
+      let fits = fits_of (asked_of words) in
       let outcome : (x : Outcome) → HasOutcome (asked_of words) i.left s.held x → DoesOrStops status (around i o n s) (around i' o' n' s') x =
-      λ x has. outcome_so i i' o o' n n' s s' e status x (run.content x has) (caused_so i i' o o' s s' (asked_of words) e so) t in
+      λ x has. outcome_so i i' o o' n n' s s' e status x (run.content x has) (caused_so i i' o o' s s' (task_of (asked_of words)).course fits e so) t in
       record {
         outcome = outcome;
-        row = row_so i i' o o' n n' s s' (asked_of words) e status run unnamed t;
+        row = row_so i i' o o' n n' s s' (asked_of words) fits e status run unnamed t;
         verdict = verdict_so (asked_of words) i.left s.held status (around i o n s) (around i' o' n' s') outcome;
         upgrade = upgrade_so (asked_of words) status (around i o n s) (around i' o' n' s') outcome;
         continuation = continues_so (asked_of words) status (around i o n s) (around i' o' n' s') outcome;

@@ -67,7 +67,7 @@ pub use Rattle.vms_board_commands.specs.Causes.{save_course}
 pub use Rattle.vms_board_commands.specs.Drill.{drill_line}
 pub use Rattle.vms_board_commands.specs.Load.{Loads, LoadsBy, Traces, Unfit}
 pub use Rattle.vms_board_commands.specs.Play.{PlaysBy}
-pub use Rattle.vms_board_commands.specs.Runs.{Frame, Runs, moment}
+pub use Rattle.vms_board_commands.specs.Runs.{Frame, Runs, Task, moment}
 pub use Rattle.vms_board_commands.specs.Save.{saved_after}
 pub use Rattle.vms_board_commands.specs.Scripts.{scripted}
 pub use Rattle.vms_board_commands.specs.Seen.{IsGiven, Seen, SeenAs, Sees, WithGiven}
@@ -78,34 +78,40 @@ pub use Rattle.vms_check.specs.Carrying.{carried}
 pub use Rattle.vms_check.specs.Comparing.{Compatible, first_mismatch}
 pub use Rattle.vms_check.specs.declared.mismatch.Mismatch.{Mismatch}
 pub use Rattle.vms_check_laws.proofs.Streaming.{upgrade_stands}
-pub use Rattle.vms_cli.specs.Analyze.{EndsLike, FailsReading, FailsWriting, GivesListed, IsListing, IsRefused, bytes_taken, listing_outcome, unlisted_line}
+pub use Rattle.vms_cli.specs.Commands.AnalyzeCommand.{EndsLike, FailsReading, FailsWriting, GivesListed, IsListing, IsRefused, analyze_course, analyze_entry, bytes_taken}
+pub use Rattle.vms_cli.specs.Commands.AnalyzeCommand.{listing_outcome, unlisted_line}
 pub use Rattle.vms_cli.specs.AnalyzeLaws.{PackThenAnalyzeLaw, PrintsAlike, SaveThenAnalyzeLaw, ShowThenAnalyzeLaw}
-pub use Rattle.vms_cli.specs.Answers.{HasOutcome, saved_on}
+pub use Rattle.vms_cli.specs.Answers.{HasOutcome, Verdict}
+pub use Rattle.vms_cli.specs.Boards.{BoardWord, CanBeRead, ClockBoard, IsBoard, IsaBoard, board_word, isa_level, number_word}
 pub use Rattle.vms_cli.specs.Causes.{WriteCause, WritesBy}
-pub use Rattle.vms_cli.specs.Check.{AreCompatible, Verdict, checked, compared, compatible_text, verdict}
+pub use Rattle.vms_cli.specs.Commands.CheckCommand.{AreCompatible, check_course, check_entry, checked, compared, compatible_text, verdict}
 pub use Rattle.vms_cli.specs.ClockSets.{ClockSetsLaw}
-pub use Rattle.vms_cli.specs.Commands.{Analyze, Asked, BoardWord, Check, ClockBoard, Convert, Counter, Drill, IsaBoard, Load, Pack, Play, Save, Show, asked_of}
-pub use Rattle.vms_cli.specs.Commands.{board_word, check_of, convert_of, counter_of, drill_of, few_events, isa_level, load_of, number_word, on_board, pack_of}
-pub use Rattle.vms_cli.specs.Commands.{play_of, save_of, save_under, show_of}
+pub use Rattle.vms_cli.specs.Commands.DrillCommand.{drill_entry, few_events}
+pub use Rattle.vms_cli.specs.Commands.LoadCommand.{load_entry}
+pub use Rattle.vms_cli.specs.Commands.PlayCommand.{play_entry}
+pub use Rattle.vms_cli.specs.Commands.SaveCommand.{MaySaveOn, save_entry, saved_on}
+pub use Rattle.vms_cli.specs.Commands.{Analyze, Asked, Check, Convert, Counter, Drill, Load, Pack, Play, Save, Show, asked_of, drill_of, entry_of, of_both, save_of}
+pub use Rattle.vms_cli.specs.Commands.{save_on, task_of, with_file}
 unfoldable pub use Rattle.vms_cli.specs.Commands.{pair_of, single_of, triple_of}
 pub use Rattle.vms_cli.specs.Continuation.{Continuation, ContinuesBy, goes_on}
-pub use Rattle.vms_cli.specs.Convert.{ConvertGives, Converts, ConvertsBy, ConvertsStream, ConvertsWell, ConvertsWith, IsDone, IsInNewest, IsLost, IsMismatch}
-pub use Rattle.vms_cli.specs.Convert.{LacksLine, LacksMemory, NamesCell, Rewrites, WouldLose, agreed, agrees, lost_line, newest, target}
+pub use Rattle.vms_cli.specs.Commands.ConvertCommand.{CanBeConverted, ConvertGives, Converts, ConvertsBy, ConvertsStream, ConvertsWell, ConvertsWith, IsDone, IsInNewest, IsLost, IsMismatch}
+pub use Rattle.vms_cli.specs.Commands.ConvertCommand.{LacksLine, LacksMemory, NamesCell, Rewrites, WouldLose, agreed, agrees, convert_course, convert_entry}
+pub use Rattle.vms_cli.specs.Commands.ConvertCommand.{convertible, lost_line, newest, target}
 pub use Rattle.vms_cli.specs.ConvertLaws.{ConvertAgainLaw, ConvertThenAnalyzeLaw, ConvertThenLoadLaw, StandsFor}
-pub use Rattle.vms_cli.specs.Counter.{Answers, CountersBy, counted, counter_text, no_state}
-pub use Rattle.vms_cli.specs.Laws.{AmpleLaw, AskedLaw, CanBeAsked, CanBeConverted, CanBeDone, CanBePacked, CanBeRead, CheckThenShowLaw, CompleteLaw}
-pub use Rattle.vms_cli.specs.Laws.{HasOneOutcome, HasRoom, IsAmple, IsBoard, MaySaveOn, NoneRises, OutcomeLaw, PackThenShowLaw, PromisesKept, ShowThenPackLaw}
+pub use Rattle.vms_cli.specs.Commands.CounterCommand.{Answers, CountersBy, counted, counter_course, counter_entry, counter_text, no_state}
+pub use Rattle.vms_cli.specs.Laws.{AmpleLaw, AskedLaw, CanBeAsked, CanBeDone, CheckThenShowLaw, CompleteLaw, HasOne}
+pub use Rattle.vms_cli.specs.Laws.{HasOneOutcome, HasRoom, IsAmple, NoneRises, OutcomeLaw, PackThenShowLaw, PromisesKept, ShowThenPackLaw}
 pub use Rattle.vms_cli.specs.Limits.{LimitsLaw}
-pub use Rattle.vms_cli.specs.Pack.{Parts, described_stream, named_parts, packed, packed_by, packed_parts, packs, parts_of, with_values}
+pub use Rattle.vms_cli.specs.Commands.PackCommand.{CanBePacked, Parts, described_stream, named_parts, packed, packed_by, packed_parts, pack_entry, packs, parts_of, with_values}
 pub use Rattle.vms_cli.specs.Program.{OutFlushed, OutLate}
 pub use Rattle.vms_cli.specs.Rows.{CanAnswer, ComesSeen, DoesSeen, HasCause, OutcomeWith}
-pub use Rattle.vms_cli.specs.Runs.{task_of}
-pub use Rattle.vms_cli.specs.Show.{GivesWithin, Refuses, Shows, ShowsBy, ShowsWell}
+pub use Rattle.vms_cli.specs.Entry.{Entry}
+pub use Rattle.vms_cli.specs.Commands.ShowCommand.{CanBeShown, GivesWithin, Refuses, Shows, ShowsBy, ShowsWell, show_entry}
 pub use Rattle.vms_cli.specs.States.{AlwaysNamedLaw, Prints, RefusesSo, StateLaw}
-pub use Rattle.vms_cli.specs.Statuses.{analyze_course, check_course, convert_course, counter_course, course_of, statuses_of, stores_at, takes_at, writes_at}
+pub use Rattle.vms_cli.specs.Statuses.{course_of, statuses_of, stores_at, takes_at, writes_at}
 pub use Rattle.vms_cli.specs.TwoSets.{sets_of}
 pub use Rattle.vms_cli.specs.Upgrade.{IsWritten, Upgrade, UpgradesTo, shown_newer}
-pub use Rattle.vms_cli.specs.declared.pack.PackParts.{PackParts}
+pub use Rattle.vms_cli.specs.declared.commands.pack.PackParts.{PackParts}
 pub use Rattle.vms_cli.specs.declared.two_sets.TwoSets.{TwoSets}
 pub use Rattle.vms_commands.proofs.CourseLemmas.{draws_none, draws_took, so_since, unshelved_so, writes_end, writes_serve, wrong}
 pub use Rattle.vms_commands.proofs.EndLemmas.{around, comes_to_nothing, ends_with, kept_none, outcome_so, quiet_same, same_keeps}
@@ -120,7 +126,7 @@ pub use Rattle.vms_commands.specs.Lines.{bad_words, out_of_memory, read_fault, r
 pub use Rattle.vms_commands.specs.Outcomes.{ComesTo, Does, DoesOrStops, FailsToStore, HasPart, NotesFault, OutFault, Outcome, Outside, Part, ShelfFault}
 pub use Rattle.vms_commands.specs.Outcomes.{TellsShelfFault, WantsMemory, done, ended, text_begun}
 pub use Rattle.vms_commands.specs.SetLines.{mismatch_line}
-pub use Rattle.vms_commands.specs.SetWords.{Clock, Isa, OnShelf, SetWord, Shipped, ShippedSet, named_set, number_after, set_word, shipped_word}
+pub use Rattle.vms_commands.specs.SetWords.{Clock, Isa, SetWord, Shipped, ShippedSet, named_set, number_after, set_word, shipped_word}
 pub use Rattle.vms_commands.specs.StepEndings.{AsksIf, HadCause, StepAs, TextEnds, WrittenAs, text_of}
 pub use Rattle.vms_commands.specs.Steps.{Both, Ends, Gives, HasBy, HasText, Step, Untold, both, next}
 pub use Rattle.vms_commands.specs.declared.ending.Ending.{Ending}

@@ -1,10 +1,10 @@
 pub mod AnalyzeLemmas
-pub mod BoardOutcomes
 pub mod CheckLemmas
 pub mod ClockSets
 pub mod ConvertLaws
 pub mod ConvertLemmas
 pub mod EndLemmas
+pub mod Entries
 pub mod Facade
 pub mod Limits
 pub mod OutcomeLaws
@@ -12,6 +12,7 @@ pub mod PackLemmas
 pub mod PathRoom
 pub mod ProgramLemmas
 pub mod RoundTrips
+pub mod RowFacts
 pub mod RowLemmas
 pub mod RunLemmas
 pub mod ShowLemmas

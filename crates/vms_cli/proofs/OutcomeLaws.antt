@@ -1,208 +1,27 @@
 -- Each call has one outcome, and what can be done is done.
 use Rattle.vms_cli.proofs.Facade.{◌≡◌, ℕ, zero, suc, ◌+◌, ◌<◌, ◌≤◌, max, ◌⊎◌, List, ◌∷◌, length, length-append, take, Option, Some, None, IfSome, IsSomeAnd}
-use Rattle.vms_cli.proofs.Facade.{refl, sym, ap, ◌∙◌, subst, arith, inl, inr, [], le-max_left, le-max_right, length-take, Appends, none-some, Rose}
-use Rattle.vms_cli.proofs.Facade.{AppendsPrefix, KeepsPromise, Held, HoldsAll, Outlet, IsBytes, values_text, Image, IsFit, Answer, Taken, Faulty, Takes}
-use Rattle.vms_cli.proofs.Facade.{either_holds, Text, Mismatch, Set, longest_file, named_sets, word_set, bad_words, read_fault, write_fault, shelf_fault}
-use Rattle.vms_cli.proofs.Facade.{out_of_memory, refused_line, Stands, Part, Outcome, ComesTo, FailsToStore, TellsShelfFault, DoesOrStops, done, ended}
-use Rattle.vms_cli.proofs.Facade.{text_begun, Outside, HasPart, SetWord, Step, Untold, Gives, Ends, Both, HasText, next, FitStep, fit_word, fetched_gives}
-use Rattle.vms_cli.proofs.Facade.{one_text, sound_word_set, clock, isa, AreStepLines, script_gives, scripted_lines, sound_script, drill_line, IsLevel, has_end}
-use Rattle.vms_cli.proofs.Facade.{one_outcome, PlaysBy, scripted, reads_exactly, AreLines, ScriptLine, HasOutcome, checked, compared, compatible_text, verdict}
-use Rattle.vms_cli.proofs.Facade.{Asked, IsaBoard, Show, Convert, Analyze, Pack, Check, Counter, Save, Load, Drill, Play, asked_of, ClockBoard, computed}
-use Rattle.vms_cli.proofs.Facade.{CountersBy, counted, counter_text, CanBeAsked, HasOneOutcome, OutcomeLaw, CanBePacked, CanBeDone, HasRoom, IsAmple, NoneRises}
-use Rattle.vms_cli.proofs.Facade.{PromisesKept, CompleteLaw, AmpleLaw, described_stream, packed_by, packs, ShowsBy, Refuses}
+use Rattle.vms_cli.proofs.Facade.{refl, ap, ◌∙◌, subst, arith, inl, inr, [], le-max_left, le-max_right, length-take, Appends, Rose, AppendsPrefix, KeepsPromise}
+use Rattle.vms_cli.proofs.Facade.{Held, HoldsAll, Outlet, IsBytes, bad_words, read_fault, write_fault, shelf_fault, out_of_memory, Stands, Part, Outcome, ComesTo}
+use Rattle.vms_cli.proofs.Facade.{FailsToStore, TellsShelfFault, DoesOrStops, ended, text_begun, Outside, HasPart, Asked, asked_of, task_of, CanBeAsked, CanBeDone}
+use Rattle.vms_cli.proofs.Facade.{HasOneOutcome, OutcomeLaw, HasRoom, IsAmple, NoneRises, PromisesKept, CompleteLaw, AmpleLaw}
 use Rattle.vms_commands.specs.Outcomes.{text_of}
-use Rattle.vms_commands.proofs.StepLemmas.{IsSound as IsStepSound}
-use Rattle.vms_cli.proofs.WordLaws.{words_ask}
-use Rattle.vms_cli.specs.Show.{Values as Printed}
-use Rattle.vms_cli.proofs.AnalyzeLemmas.{has_listing, only_listing}
-use Rattle.vms_cli.proofs.CheckLemmas.{sound_check, StopsAt}
-use Rattle.vms_cli.proofs.ShowLemmas.{AreFit, counters_text, fit_sets, sound_counter, text_counters, shown_is, refused_is}
-use Rattle.vms_cli.proofs.PackLemmas.{pack_gives, sound_pack}
-use Rattle.vms_cli.proofs.ConvertLaws.{converted_then, one_converted}
-use Rattle.vms_cli.proofs.BoardOutcomes.{loaded_then, one_loaded, one_saved, saved_then}
+use Rattle.vms_cli.proofs.CheckLemmas.{StopsAt}
+use Rattle.vms_cli.proofs.Entries.{row_of, words_ask}
+use Rattle.vms_cli.proofs.RowFacts.{IsDone}
 
--- ---- the outcome of `show`
-
-record OneShown (step : Step Set) (input : List ℕ) (held : Held) : Type 0 where
-  outcome : Outcome
-  is : ShowsBy step (Some input) (Some held) outcome
-  only : (other : Outcome) → ShowsBy step (Some input) (Some held) other → other ≡ outcome
-
--- whether the input begins with a stream or is invalid
-one_answered : (set : Set) → IsFit set → (input : List ℕ) (held : Held) → IsBytes input → Answer set set.machines input → OneShown (Gives set) input held
-one_answered set fit input held ok (Taken n machine images takes) = record {
-  outcome = done (values_text set machine images) (Some held) n;
-  is = Printed n machine images takes;
-  only = λ other shows. shown_is set fit input (Some held) n machine images other ok takes shows;
-}
-one_answered set fit input held ok (Faulty place section reason size fault) = record {
-  outcome = ended 1 (refused_line set place section reason) (place + size);
-  is = Refuses place section reason size fault;
-  only = λ other shows. refused_is set fit input (Some held) place section reason size other ok fault shows;
-}
-
-one_by : (s : Step Set) (input : List ℕ) (held : Held) → IsBytes input → IsStepSound (Some held) s → FitStep s → OneShown s input held
-one_by Untold input held ok sound fit = absurd (none-some {A = Held} held (sym sound))
-one_by (Gives set) input held ok sound fit = one_answered set fit input held ok (either_holds set set.machines fit.well fit.heads input ok)
-one_by (Ends status line) input held ok sound fit = record { outcome = ended status line 0; is = refl; only = λ other e. e }
-
-one_shown : (word : SetWord) (input : List ℕ) (held : Held) → IsBytes input → HasOneOutcome (Some (Show word)) input held
-one_shown word input held ok =
-    let one = one_by (word_set (Some held) word) input held ok (sound_word_set (Some held) word) (fit_word (Some held) word) in
-    record { outcome = one.outcome; is = one.is; only = one.only }
-
--- ---- those of `pack`, `check` and `counter`
-
-one_packed : (word : SetWord) (name : List ℕ) (input : List ℕ) (held : Held) → HasOneOutcome (Some (Pack word name)) input held
-one_packed word name input held =
-    let one = one_text held (packs (Some held) word name) (sound_pack (Some held) word name) in
-    record { outcome = one.outcome; is = one.is; only = one.only }
-
-one_checked : (old new : SetWord) (input : List ℕ) (held : Held) → HasOneOutcome (Some (Check old new)) input held
-one_checked old new input held =
-    let one = one_text held (checked (Some held) old new) (sound_check (Some held) old new) in
-    record { outcome = one.outcome; is = one.is; only = one.only }
-
-one_counted : (old new : SetWord) (input : List ℕ) (held : Held) → HasOneOutcome (Some (Counter old new)) input held
-one_counted old new input held =
-    let step = named_sets (Some held) old new in
-    let fit = fit_sets (Some held) old new in
-    let one = one_text held (next step counted) (sound_counter (Some held) old new) in
-    record {
-      outcome = one.outcome;
-      is = text_counters (Some held) step one.outcome fit one.is;
-      only = λ other has. one.only other (counters_text (Some held) step other fit has);
-    }
-
--- ---- the outcome of `play`
-
-record OnePlays (level : ℕ) (step : Step (List ScriptLine)) (held : Held) : Type 0 where
-  outcome : Outcome
-  is : PlaysBy level step (Some held) outcome
-  only : (other : Outcome) → PlaysBy level step (Some held) other → other ≡ outcome
-
-one_plays : (level : ℕ) (s : Step (List ScriptLine)) (held : Held) → AreStepLines (Some level) s → IsLevel level → HoldsAll held → IsStepSound (Some held) s
-    → OnePlays level s held
-one_plays level Untold held are is holds sound = absurd (none-some {A = Held} held (sym sound))
-one_plays level (Ends status line) held are is holds sound = record { outcome = ended status line 0; is = refl; only = λ other e. e }
-one_plays level (Gives lines) held are is holds sound =
-    let end = has_end level lines held is are holds in
-    record { outcome = end.0; is = end.1; only = λ other p. one_outcome level lines held is are holds end.0 other end.1 p }
-
-one_played : (level : ℕ) (script input : List ℕ) (held : Held) → IsLevel level → HoldsAll held → HasOneOutcome (Some (Play level script)) input held
-one_played level script input held is holds =
-    let step = scripted (Some level) (Some held) script in
-    let are = scripted_lines (Some level) (Some held) script in
-    let one = one_plays level step held are is holds (sound_script (Some level) (Some held) script) in
-    record { outcome = one.outcome; is = one.is; only = one.only }
-
-one_of_all : (asked : Option Asked) (input : List ℕ) (held : Held) → IsBytes input → CanBeAsked asked → HoldsAll held → HasOneOutcome asked input held
-one_of_all None input held ok can holds = record { outcome = ended 2 bad_words 0; is = refl; only = λ other e. e }
-one_of_all (Some (Show word)) input held ok can holds = one_shown word input held ok
-one_of_all (Some (Convert word)) input held ok can holds = one_converted word input held ok
-one_of_all (Some Analyze) input held ok can holds =
-    let one = has_listing input (Some held) in
-    record { outcome = one.0; is = one.1; only = λ other p. only_listing input (Some held) other one.0 p one.1 }
-one_of_all (Some (Pack word name)) input held ok can holds = one_packed word name input held
-one_of_all (Some (Check old new)) input held ok can holds = one_checked old new input held
-one_of_all (Some (Counter old new)) input held ok can holds = one_counted old new input held
-one_of_all (Some (Save board set script)) input held ok can holds = one_saved board set script input held
-one_of_all (Some (Load board script)) input held ok can holds = one_loaded board script input held ok
-one_of_all (Some (Play level script)) input held ok can holds = one_played level script input held can holds
-one_of_all (Some (Drill level seed count)) input held ok can holds =
-    record { outcome = done (drill_line level seed count) (Some held) 0; is = refl; only = λ other e. e }
+one_of_all : (asked : Option Asked) (input : List ℕ) (held : Held) → IsBytes input → HoldsAll held → CanBeAsked asked → HasOneOutcome asked input held
+one_of_all None input held ok holds can = record { outcome = ended 2 bad_words 0; is = refl; only = λ other e. e }
+one_of_all (Some asked) input held ok holds can = (row_of asked).one input held ok holds can
 
 pub outcome_holds : OutcomeLaw
-outcome_holds words input held ok holds = one_of_all (asked_of words) input held ok (words_ask words) holds
+outcome_holds words input held ok holds = one_of_all (asked_of words) input held ok holds (words_ask words)
 
 -- ---- completeness
 
--- a values text that is there is packed
-packs_give : (word : SetWord) (name : List ℕ) (map : Held) → (can : CanBePacked word name map)
-    → packs (Some map) word name ≡ Gives (described_stream can.set can.machine can.images)
-packs_give word name map can =
-    pack_gives (Some map) word name can.set can.text (described_stream can.set can.machine can.images) can.there
-    (fetched_gives longest_file map name can.text can.held can.short) (ap (packed_by can.set) can.reads)
-
--- what can be done has an outcome of status 0
-record IsDone (asked : Option Asked) (input : Option (List ℕ)) (held : Option Held) : Type 0 where
-  outcome : Outcome
-  is : HasOutcome asked input held outcome
-  status : outcome.status ≡ 0
-
 can_be : (asked : Option Asked) (input : Option (List ℕ)) (held : Option Held) → CanBeAsked asked → IfSome held HoldsAll → CanBeDone asked input held
-    → IsDone asked input held
+    → IsDone (task_of asked) input held
 can_be None input held ask octets can = absurd can
-can_be (Some (Show word)) input held ask octets can = by input can.2
-  where
-    by : (left : Option (List ℕ))
-        → IsSomeAnd left (λ bytes. (taken : ℕ) × (machine : Option (List ℕ)) × (images : List Image) × Takes can.0 can.0.machines bytes taken machine images)
-        → IsDone (Some (Show word)) left held
-    by None takes = absurd takes
-    by (Some bytes) takes =
-        let outcome = done (values_text can.0 takes.1 takes.2) held takes.0 in
-        record {
-          outcome = outcome;
-          is = subst (λ (s : Step Set). ShowsBy s (Some bytes) held outcome) (sym can.1) (Printed takes.0 takes.1 takes.2 takes.3);
-          status = refl;
-        }
-can_be (Some (Convert word)) input held ask octets can =
-    let one = converted_then word held input can in
-    record { outcome = done one.0 held one.1; is = one.2; status = refl }
-can_be (Some Analyze) None held ask octets can = absurd can
-can_be (Some Analyze) (Some bytes) held ask octets can =
-    record { outcome = _; is = record { listing = Text can.0; lists = can.1; is = refl }; status = refl }
-can_be (Some (Pack word name)) input None ask octets can = absurd can
-can_be (Some (Pack word name)) input (Some map) ask octets can =
-    let stream = described_stream can.set can.machine can.images in
-    let outcome = done stream (Some map) 0 in
-    record {
-      outcome = outcome;
-      is = subst (λ (s : Step (List ℕ)). HasText (Some map) s outcome) (sym (packs_give word name map can)) refl;
-      status = refl;
-    }
-can_be (Some (Save board set script)) input None ask octets can = absurd can
-can_be (Some (Save (IsaBoard level) set script)) input (Some map) ask octets can =
-    record { outcome = _; is = saved_then isa level script map can set; status = refl }
-can_be (Some (Save (ClockBoard version) set script)) input (Some map) ask octets can =
-    record { outcome = _; is = saved_then clock version script map can set; status = refl }
-can_be (Some (Load (IsaBoard level) script)) input None ask octets can = absurd can.0
-can_be (Some (Load (IsaBoard level) script)) None (Some map) ask octets can = absurd can.1
-can_be (Some (Load (IsaBoard level) script)) (Some bytes) (Some map) ask octets can =
-    record { outcome = _; is = loaded_then isa level script map can.0 bytes can.1.0 can.1.1 can.1.2; status = refl }
-can_be (Some (Load (ClockBoard version) script)) input None ask octets can = absurd can.0
-can_be (Some (Load (ClockBoard version) script)) None (Some map) ask octets can = absurd can.1
-can_be (Some (Load (ClockBoard version) script)) (Some bytes) (Some map) ask octets can =
-    record { outcome = _; is = loaded_then clock version script map can.0 bytes can.1.0 can.1.1 can.1.2; status = refl }
-can_be (Some (Play level script)) input None ask octets can = absurd can
-can_be (Some (Play level script)) input (Some map) ask octets can =
-    let read = can in
-    let are : AreLines (Some level) read.lines = (reads_exactly.only (Some level) read.text read.lines read.reads).0 in
-    let end = has_end level read.lines map ask are octets in
-    record {
-      outcome = end.0;
-      is = subst (λ (s : Step (List ScriptLine)). PlaysBy level s (Some map) end.0)
-          (sym (script_gives (Some level) map script read.text read.lines read.held read.short read.reads)) end.1;
-      status = ap (λ (o : Outcome). o.status) end.1.outcome;
-    }
-can_be (Some (Drill level seed count)) input held ask octets can =
-    record { outcome = done (drill_line level seed count) held 0; is = refl; status = refl }
-can_be (Some (Check old new)) input held ask octets can =
-    let outcome = done compatible_text held 0 in
-    let agrees : HasText held (compared can.0) outcome = subst (λ (m : Option Mismatch). HasText held (verdict m) outcome) (sym can.2) refl in
-    record {
-      outcome = outcome;
-      is = subst (λ (s : Step (Both Set)). HasText held (next s compared) outcome) (sym can.1) agrees;
-      status = refl;
-    }
-can_be (Some (Counter old new)) input held ask octets can =
-    let outcome = done (counter_text can.0.old can.0.new (computed can.0.old can.0.new)) held 0 in
-    let fit : AreFit (Gives can.0) = subst AreFit can.1 (fit_sets held old new) in
-    record {
-      outcome = outcome;
-      is = subst (λ (s : Step (Both Set)). CountersBy s held outcome) (sym can.1) (text_counters held (Gives can.0) outcome fit refl);
-      status = refl;
-    }
+can_be (Some asked) input held ask octets can = (row_of asked).done input held octets ask can
 
 -- no more bytes than there are
 begun_short : (parts : List Part) (k n : ℕ) → length (text_begun parts k n) ≤ length (text_of parts)

@@ -13,12 +13,12 @@ use Rattle.vms_cli.proofs.Facade.{SetWord, Shipped, ScriptLine, after_number, li
 use Rattle.vms_cli.proofs.Facade.{Counters, Finds, always_holds, named_holds, machine_known, Answers, CountersBy, counter_text, AlwaysNamedLaw, Prints}
 use Rattle.vms_cli.proofs.Facade.{RefusesSo, StateLaw}
 use Rattle.vms_analyze.proofs.Shown.{shown_holds as shown_listing}
-use Rattle.vms_cli.specs.Show.{Values as Printed}
+use Rattle.vms_cli.specs.Commands.ShowCommand.{Values as Printed}
 use Rattle.vms_cli.proofs.PackLemmas.{pack_gives}
 use Rattle.dev_clock.proofs.SoundLaws.{sound_stays_on as clock_stays_sound}
 use Rattle.vms_board.specs.Family.{Stands}
 use Rattle.vms_check.proofs.SelfLaws.{is_among}
-use Rattle.vms_cli.proofs.WordLaws.{words_ask}
+use Rattle.vms_cli.proofs.Entries.{words_ask}
 use Rattle.vms_counter_laws.specs.Counters.{Refusal, State}
 use Rattle.vms_cli.proofs.EndLemmas.{named_both}
 

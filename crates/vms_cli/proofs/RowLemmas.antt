@@ -1,52 +1,16 @@
 -- From how a command ends, and why, to its row.
 use Rattle.vms_cli.proofs.Facade.{◌≡◌, ◌⊎◌, ℕ, true, false, List, [], ◌∷◌, Option, Some, None, inl, inr, refl, sym, ◌∙◌, subst, Err, Bool, ◌++◌, ap, arith}
-use Rattle.vms_cli.proofs.Facade.{Keeps, Appends, is_among, EndsSo, Risen, of_shelf, text_course, wrong, draws_none, so_since, writes_serve, Asked, Show}
-use Rattle.vms_cli.proofs.Facade.{Convert, Analyze, Load, Play, statuses_of, stores_at, takes_at, writes_at, check_course, counter_course, course_of, Looks}
+use Rattle.vms_cli.proofs.Facade.{Keeps, Appends, is_among, EndsSo, Risen, of_shelf, text_course, wrong, draws_none, so_since, writes_serve, Asked}
+use Rattle.vms_cli.proofs.Facade.{statuses_of, stores_at, takes_at, writes_at, check_course, counter_course, course_of, Looks}
 use Rattle.vms_cli.proofs.Facade.{looks_reaches, Intake, Outlet, Stock, Serves, save_course, Ending, BadText, NotCompatible, ReadFault, WriteFault, NoMemory}
 use Rattle.vms_cli.proofs.Facade.{BadWords, Caused, Quiet, WritesAs, status_of, Tells, line_of, AsksIf, HadCause, among_left, shelf_has, text_asks, unset_so}
 use Rattle.vms_cli.proofs.Facade.{WriteCause, WritesBy, Rose, SeenAs, Does, DoesOrStops, Outcome, Outside, around, kept_none, outcome_so, same_keeps, Runs}
 use Rattle.vms_cli.proofs.Facade.{moment, task_of, CanAnswer, ComesSeen, DoesSeen, HasCause, OutcomeWith, bad_words, out_of_memory, read_fault, shelf_fault}
 use Rattle.vms_cli.proofs.Facade.{write_fault}
-use Rattle.vms_commands.specs.declared.ending.Ending.TheVariants.{ShelfFault}
+use Rattle.vms_commands.specs.Courses.{Course}
+use Rattle.vms_commands.specs.declared.ending.Ending.TheVariants.{NotThere, Refused, ShelfFault, TooLarge, WouldLose}
+use Rattle.vms_cli.proofs.RowFacts.{Fits, HasSix}
 use Rattle.vms_cli.proofs.CheckLemmas.{StopsAt}
-
--- ---- The tables of statuses, each as one of a few lists.
-
-pub writes_one : (P : List ℕ → Type 0) → P [] → P (0 ∷ 6 ∷ []) → P (0 ∷ 6 ∷ 7 ∷ 10 ∷ []) → (asked : Option Asked) → P (writes_at asked)
-writes_one P none text play None = none
-writes_one P none text play (Some (Play level script)) = play
-writes_one P none text play (Some asked) = text
-
-pub takes_one : (P : List ℕ → Type 0) → P [] → P (0 ∷ 1 ∷ 5 ∷ 6 ∷ []) → P (0 ∷ 1 ∷ 5 ∷ 6 ∷ 11 ∷ []) → P (0 ∷ 1 ∷ 5 ∷ 6 ∷ 10 ∷ []) → (asked : Option Asked)
-    → P (takes_at asked)
-takes_one P none stream rewritten input (Some (Show set)) = stream
-takes_one P none stream rewritten input (Some (Convert set)) = rewritten
-takes_one P none stream rewritten input (Some Analyze) = input
-takes_one P none stream rewritten input (Some (Load board script)) = stream
-takes_one P none stream rewritten input asked = none
-
-pub stores_one : (P : List ℕ → Type 0) → P [] → P (0 ∷ 6 ∷ 7 ∷ 10 ∷ []) → (asked : Option Asked) → P (stores_at asked)
-stores_one P none play (Some (Play level script)) = play
-stores_one P none play asked = none
-
--- standard error may fail with every command
-pub six_among : (asked : Option Asked) → is_among (statuses_of asked) 6 ≡ true
-six_among None = refl
-six_among (Some (Show set)) = refl
-six_among (Some asked) = refl
-
--- 6 is in the list, or the list has none
-abbrev pub HasSix : List ℕ → Type 0
-HasSix l = (is_among l 6 ≡ true) ⊎ (l ≡ [])
-
-pub writes_six : (asked : Option Asked) → HasSix (writes_at asked)
-writes_six asked = writes_one HasSix (inr refl) (inl refl) (inl refl) asked
-
-pub takes_six : (asked : Option Asked) → HasSix (takes_at asked)
-takes_six asked = takes_one HasSix (inr refl) (inl refl) (inl refl) (inl refl) asked
-
-pub stores_six : (asked : Option Asked) → HasSix (stores_at asked)
-stores_six asked = stores_one HasSix (inr refl) (inl refl) asked
 
 -- what holds but at the statuses of such a list holds too where notes failed
 pub at_six : (l : List ℕ) → HasSix l → (k status : ℕ) → status ≡ 6 → (P : Type 0) → (is_among l k ≡ false → P) → is_among l status ≡ false → P
@@ -104,18 +68,23 @@ module _ (i i' : Intake) (o o' : Outlet) (s s' : Stock) where
   abbrev Lacks : ℕ → List ℕ → Type 0
   Lacks k l = is_among l k ≡ false
 
-  own_ends : (asked : Option Asked) (e : Option Ending) → EndsSo i i' o o' s s' (course_of asked) e → Lacks (status_of e) (writes_at asked)
-      → Lacks (status_of e) (stores_at asked)
+  own_ends : (course : Course) (e : Option Ending) → EndsSo i i' o o' s s' course e → Lacks (status_of e) course.writes → Lacks (status_of e) course.stores
       → Keeps o.written o'.written × (s'.held ≡ s.held)
-  own_ends asked e h writes stores = (h.out writes, h.held stores)
+  own_ends course e h writes stores = (h.out writes, h.held stores)
 
-  pub caused_so : (asked : Option Asked) (e : Option Ending) → EndsSo i i' o o' s s' (course_of asked) e → Caused i i' o o' s s' e
-  caused_so asked None h = tt
-  caused_so asked (Some ReadFault) h = (h.risen, h.out (writes_one (Lacks 5) refl refl refl asked))
-  caused_so asked (Some WriteFault) h = h.risen
-  caused_so asked (Some ShelfFault) h = h.risen
-  caused_so asked (Some NoMemory) h = tt
-  caused_so asked e h = own_ends asked e h (writes_one (Lacks (status_of e)) refl refl refl asked) (stores_one (Lacks (status_of e)) refl refl asked)
+  pub caused_so : (course : Course) → Fits course → (e : Option Ending) → EndsSo i i' o o' s s' course e → Caused i i' o o' s s' e
+  caused_so course fits None h = tt
+  caused_so course fits (Some (Refused line)) h = own_ends course (Some (Refused line)) h fits.unwritten.refused fits.unstored.refused
+  caused_so course fits (Some BadWords) h = own_ends course (Some BadWords) h fits.unwritten.unnamed fits.unstored.unnamed
+  caused_so course fits (Some (BadText line)) h = own_ends course (Some (BadText line)) h fits.unwritten.bad fits.unstored.bad
+  caused_so course fits (Some (NotCompatible line)) h = own_ends course (Some (NotCompatible line)) h fits.unwritten.unlike fits.unstored.unlike
+  caused_so course fits (Some ReadFault) h = (h.risen, h.out fits.unwritten.unread)
+  caused_so course fits (Some WriteFault) h = h.risen
+  caused_so course fits (Some ShelfFault) h = h.risen
+  caused_so course fits (Some (NotThere line)) h = own_ends course (Some (NotThere line)) h fits.unwritten.missing fits.unstored.missing
+  caused_so course fits (Some (TooLarge line)) h = own_ends course (Some (TooLarge line)) h fits.unwritten.large fits.unstored.large
+  caused_so course fits (Some NoMemory) h = tt
+  caused_so course fits (Some (WouldLose line)) h = own_ends course (Some (WouldLose line)) h fits.unwritten.lost fits.unstored.lost
 
 -- of a command that reads nothing of the input
 module _ (i : Intake) (o o' : Outlet) (s s' : Stock) where
@@ -259,16 +228,16 @@ module _ (i i' : Intake) (o o' n n' : Outlet) (s s' : Stock) where
     memory = λ e. same_why why Memory (sym is ∙ e) h;
   }
 
-  has_cause : (asked : Option Asked) (e : Option Ending) (status : ℕ) → EndsSo i i' o o' s s' (course_of asked) e → Tells n n' e status
+  has_cause : (course : Course) (e : Option Ending) (status : ℕ) → EndsSo i i' o o' s s' course e → Tells n n' e status
       → HasCause status old new
-  has_cause asked None status h t = why_cause Well status t.0 t.1
-  has_cause asked (Some BadWords) status h (inl t) = why_cause Words status t.0 t.1
-  has_cause asked (Some ReadFault) status h (inl t) = why_cause Input status t.0 (h.risen, t.1)
-  has_cause asked (Some WriteFault) status h (inl t) = why_cause Sink status t.0 (inl (h.risen, t.1))
-  has_cause asked (Some ShelfFault) status h (inl t) = why_cause Shelf status t.0 (h.risen, t.1)
-  has_cause asked (Some NoMemory) status h (inl t) = why_cause Memory status t.0 t.1
-  has_cause asked e status h (inl t) = own_cause (status_of e) status t.0 refl
-  has_cause asked e status h (inr t) = why_cause Sink status t.0 (inr t.1)
+  has_cause course None status h t = why_cause Well status t.0 t.1
+  has_cause course (Some BadWords) status h (inl t) = why_cause Words status t.0 t.1
+  has_cause course (Some ReadFault) status h (inl t) = why_cause Input status t.0 (h.risen, t.1)
+  has_cause course (Some WriteFault) status h (inl t) = why_cause Sink status t.0 (inl (h.risen, t.1))
+  has_cause course (Some ShelfFault) status h (inl t) = why_cause Shelf status t.0 (h.risen, t.1)
+  has_cause course (Some NoMemory) status h (inl t) = why_cause Memory status t.0 t.1
+  has_cause course e status h (inl t) = own_cause (status_of e) status t.0 refl
+  has_cause course e status h (inr t) = why_cause Sink status t.0 (inr t.1)
 
   -- ---- what is touched
 
@@ -278,10 +247,10 @@ module _ (i i' : Intake) (o o' n n' : Outlet) (s s' : Stock) where
   but_at l six e status (inl t) P h none = h (subst (λ (k : ℕ). is_among l k ≡ false) t.0 none)
   but_at l six e status (inr t) P h none = at_six l six (status_of e) status t.0 P h none
 
-  can_be : (asked : Option Asked) (e : Option Ending) (status : ℕ) → Told e status → is_among (statuses_of asked) (status_of e) ≡ true
-      → is_among (statuses_of asked) status ≡ true
-  can_be asked e status (inl t) h = subst (λ (k : ℕ). is_among (statuses_of asked) k ≡ true) (sym t.0) h
-  can_be asked e status (inr t) h = subst (λ (k : ℕ). is_among (statuses_of asked) k ≡ true) (sym t.0) (six_among asked)
+  can_be : (statuses : List ℕ) → is_among statuses 6 ≡ true → (e : Option Ending) (status : ℕ) → Told e status → is_among statuses (status_of e) ≡ true
+      → is_among statuses status ≡ true
+  can_be statuses six e status (inl t) h = subst (λ (k : ℕ). is_among statuses k ≡ true) (sym t.0) h
+  can_be statuses six e status (inr t) h = subst (λ (k : ℕ). is_among statuses k ≡ true) (sym t.0) six
 
   -- ---- what is seen
 
@@ -339,22 +308,23 @@ module _ (i i' : Intake) (o o' n n' : Outlet) (s s' : Stock) where
 
   -- ---- the row
 
-  pub row_so : (asked : Option Asked) (e : Option Ending) (status : ℕ) → Runs (task_of asked) (moment i o s) (moment i' o' s') e → (asked ≡ None → o' ≡ o)
+  pub row_so : (asked : Option Asked) → Fits (course_of asked) → (e : Option Ending) (status : ℕ) → Runs (task_of asked) (moment i o s) (moment i' o' s') e → (asked ≡ None → o' ≡ o)
       → Tells n n' e status → CanAnswer asked status old new
-  row_so asked e status c unnamed t =
+  row_so asked fits e status c unnamed t =
       let h = c.so in
       let said = told e status t in
+      let caused = caused_so i i' o o' s s' (course_of asked) fits e h in
       let out : is_among (writes_at asked) status ≡ false → Keeps o.written o'.written =
-      but_at (writes_at asked) (writes_six asked) e status said (Keeps o.written o'.written) h.out in
+      but_at (writes_at asked) fits.writes e status said (Keeps o.written o'.written) h.out in
       record {
-        can = can_be asked e status said h.can;
-        cause = has_cause asked e status h t;
+        can = can_be (statuses_of asked) fits.statuses e status said h.can;
+        cause = has_cause (course_of asked) e status h t;
         out = out;
-        input = but_at (takes_at asked) (takes_six asked) e status said (i' ≡ i) h.input;
-        held = but_at (stores_at asked) (stores_six asked) e status said (s'.held ≡ s.held) h.held;
+        input = but_at (takes_at asked) fits.takes e status said (i' ≡ i) h.input;
+        held = but_at (stores_at asked) fits.stores e status said (s'.held ≡ s.held) h.held;
         shelf = h.shelf;
         unnamed = unnamed;
         given = c.given;
-        seen = λ is which. seen_so (OutcomeWith asked s.held) e status (c.seen is) (caused_so i i' o o' s s' asked e h) t which;
-        stopped = λ is six. stopped_so (OutcomeWith asked s.held) e status (c.seen is) (caused_so i i' o o' s s' asked e h) t six;
+        seen = λ is which. seen_so (OutcomeWith asked s.held) e status (c.seen is) caused t which;
+        stopped = λ is six. stopped_so (OutcomeWith asked s.held) e status (c.seen is) caused t six;
       }

@@ -1,17 +1,14 @@
 -- Words name boards that there are.
-use Rattle.vms_cli.proofs.Facade.{◌≡◌, ℕ, zero, suc, ◌+◌, ◌<◌, ◌≤◌, ◌++◌, Bool, true, false, if◌then◌else◌, List, [], ◌∷◌, Option, Some, None, codes, arith}
+use Rattle.vms_cli.proofs.Facade.{◌≡◌, ℕ, zero, suc, ◌+◌, ◌<◌, ◌≤◌, ◌++◌, Bool, true, false, if◌then◌else◌, List, Option, Some, None, IfSome, codes, arith}
 use Rattle.vms_cli.proofs.Facade.{refl, sym, ap, ◌∙◌, decimal, option_map, nat_tests, bytes_eq, IsLevel, ReachesSet, NEWEST, NEWEST_CLOCK, or_else, Isa, Clock}
-use Rattle.vms_cli.proofs.Facade.{ShippedSet, SetWord, Shipped, OnShelf, number_after, set_word, shipped_word, is_set_of, is_shelf_name, Asked, BoardWord}
-use Rattle.vms_cli.proofs.Facade.{IsaBoard, ClockBoard, Analyze, Pack, board_word, check_of, convert_of, counter_of, drill_of, few_events, isa_level, load_of}
-use Rattle.vms_cli.proofs.Facade.{number_word, on_board, pack_of, pair_of, play_of, save_of, save_under, show_of, single_of, triple_of, AskedLaw, CanBeAsked}
-use Rattle.vms_cli.proofs.Facade.{IsBoard, MaySaveOn}
+use Rattle.vms_cli.proofs.Facade.{ShippedSet, SetWord, number_after, is_set_of, is_shelf_name, Asked, BoardWord, IsaBoard, ClockBoard, Save, board_word}
+use Rattle.vms_cli.proofs.Facade.{drill_of, isa_level, of_both, save_of, save_on, with_file, CanBeAsked, IsBoard, MaySaveOn}
 
 -- ---- boards
 
 -- there is such a board
-abbrev IsThere : Option BoardWord → Type 0
-IsThere None = Unit {0}
-IsThere (Some board) = IsBoard board
+abbrev pub IsThere : Option BoardWord → Type 0
+IsThere board = IfSome board IsBoard
 
 -- a number that a word has is in its range
 after-range : (front word : List ℕ) (first count n : ℕ) → number_after front first count word ≡ Some n → (first ≤ n) × (n < first + count)
@@ -30,7 +27,7 @@ either-there : (x y : Option BoardWord) → IsThere x → IsThere y → IsThere 
 either-there None y p q = q
 either-there (Some board) y p q = p
 
-word-board : (word : List ℕ) → IsThere (board_word word)
+pub word-board : (word : List ℕ) → IsThere (board_word word)
 word-board word =
     either-there (option_map IsaBoard (number_after (codes "isa-") 1 NEWEST word)) (option_map ClockBoard (number_after (codes "clk-") 1 NEWEST_CLOCK word))
     (isa (number_after (codes "isa-") 1 NEWEST word) refl) (clock (number_after (codes "clk-") 1 NEWEST_CLOCK word) refl) where
@@ -44,90 +41,65 @@ word-board word =
 
 -- one of isa-1 to isa-4 has a level
 abbrev pub HasLevel : Option ℕ → Type 0
-HasLevel None = Unit {0}
-HasLevel (Some level) = IsLevel level
+HasLevel level = IfSome level IsLevel
 
 level-of : (board : Option BoardWord) → IsThere board → HasLevel (isa_level board)
 level-of None is = tt
 level-of (Some (IsaBoard level)) is = is
 level-of (Some (ClockBoard version)) is = tt
 
-word-level : (word : List ℕ) → HasLevel (isa_level (board_word word))
+pub word-level : (word : List ℕ) → HasLevel (isa_level (board_word word))
 word-level word = level-of (board_word word) (word-board word)
 
 -- ---- commands
 
-either-asked : (b : Bool) (x y : Option Asked) → CanBeAsked x → CanBeAsked y → CanBeAsked (if b then x else y)
+pub either-asked : (b : Bool) (x y : Option Asked) → CanBeAsked x → CanBeAsked y → CanBeAsked (if b then x else y)
 either-asked true x y p q = p
 either-asked false x y p q = q
 
-show-asked : (set : Option SetWord) → CanBeAsked (show_of set)
-show-asked None = tt
-show-asked (Some set) = tt
+-- of a word with others, where each of the commands can be asked
+pub mapped-asked : {A : Type 0} (ask : A → Asked) (what : Option A) → ((a : A) → CanBeAsked (Some (ask a))) → CanBeAsked (option_map ask what)
+mapped-asked ask None can = tt
+mapped-asked ask (Some a) can = can a
 
-convert-asked : (set : Option SetWord) → CanBeAsked (convert_of set)
-convert-asked None = tt
-convert-asked (Some (Shipped (Isa number))) = tt
-convert-asked (Some (Shipped (Clock number))) = tt
-convert-asked (Some (OnShelf name)) = tt
+pub both-asked : (ask : SetWord → SetWord → Asked) (old new : Option SetWord) → ((a b : SetWord) → CanBeAsked (Some (ask a b)))
+    → CanBeAsked (of_both ask old new)
+both-asked ask None None can = tt
+both-asked ask None (Some new) can = tt
+both-asked ask (Some old) None can = tt
+both-asked ask (Some old) (Some new) can = can old new
 
-check-asked : (old new : Option SetWord) → CanBeAsked (check_of old new)
-check-asked None None = tt
-check-asked None (Some new) = tt
-check-asked (Some old) None = tt
-check-asked (Some old) (Some new) = tt
+pub file-asked : {A : Type 0} (ask : A → List ℕ → Asked) (what : Option A) (name : List ℕ) → IfSome what (λ a. CanBeAsked (Some (ask a name)))
+    → CanBeAsked (with_file ask what name)
+file-asked ask None name can = tt
+file-asked ask (Some a) name can = either-asked (is_shelf_name name) (Some (ask a name)) None can tt
 
-counter-asked : (old new : Option SetWord) → CanBeAsked (counter_of old new)
-counter-asked None None = tt
-counter-asked None (Some new) = tt
-counter-asked (Some old) None = tt
-counter-asked (Some old) (Some new) = tt
-
-pack-asked : (set : Option SetWord) (values : List ℕ) → CanBeAsked (pack_of set values)
-pack-asked None values = tt
-pack-asked (Some set) values = either-asked (is_shelf_name values) (Some (Pack set values)) None tt tt
-
--- of a word with its script, where the script's name is one of the shelf
-scripted-asked : {A : Type 0} (ask : Option (A × List ℕ) → Option Asked) (b : Bool) (x : A) (script : List ℕ) → CanBeAsked (ask (Some (x, script)))
-    → CanBeAsked (ask None)
-    → CanBeAsked (ask (if b then Some (x, script) else None))
-scripted-asked ask true x script p q = p
-scripted-asked ask false x script p q = q
-
-load-asked : (board : Option BoardWord) (script : List ℕ) → IsThere board → CanBeAsked (load_of (on_board board script))
-load-asked None script is = tt
-load-asked (Some board) script is = scripted-asked load_of (is_shelf_name script) board script is tt
-
-play-asked : (level : Option ℕ) (script : List ℕ) → HasLevel level → CanBeAsked (play_of (on_board level script))
-play-asked None script is = tt
-play-asked (Some level) script is = scripted-asked play_of (is_shelf_name script) level script is tt
+pub all-some : {A : Type 0} {P : A → Type 0} (what : Option A) → ((a : A) → P a) → IfSome what P
+all-some None all = tt
+all-some (Some a) all = all a
 
 under-asked : (board : BoardWord) (newest number set : ℕ) (script : List ℕ) (b : Bool) → is_set_of newest number set ≡ b → IsBoard board
     → (ReachesSet newest number set → MaySaveOn board set)
-    → CanBeAsked (save_under board script (if b then Some set else None))
+    → CanBeAsked (option_map (λ (number : ℕ). Save board number script) (if b then Some set else None))
 under-asked board newest number set script true e is may =
     (is, may (record { level_le_set = grind (arith, nat_tests, e); set_le_newest = grind (arith, nat_tests, e) }))
 under-asked board newest number set script false e is may = tt
 
-save-if : (b : Bool) (board : BoardWord) (script : List ℕ) (set : Option ShippedSet) → IsBoard board
-    → CanBeAsked (save_of (if b then Some (board, script) else None) set)
-save-if true board script None is = tt
-save-if true (IsaBoard level) script (Some (Isa set)) is =
+on-asked : (script : List ℕ) (board : Option BoardWord) (set : Option ShippedSet) → IsThere board → CanBeAsked (save_on script board set)
+on-asked script None None is = tt
+on-asked script None (Some set) is = tt
+on-asked script (Some board) None is = tt
+on-asked script (Some (IsaBoard level)) (Some (Isa set)) is =
     under-asked (IsaBoard level) NEWEST level set script (is_set_of NEWEST level set) refl is (λ may. may)
-save-if true (IsaBoard level) script (Some (Clock set)) is = tt
-save-if true (ClockBoard version) script (Some (Isa set)) is = tt
-save-if true (ClockBoard version) script (Some (Clock set)) is =
+on-asked script (Some (IsaBoard level)) (Some (Clock set)) is = tt
+on-asked script (Some (ClockBoard version)) (Some (Isa set)) is = tt
+on-asked script (Some (ClockBoard version)) (Some (Clock set)) is =
     under-asked (ClockBoard version) NEWEST_CLOCK version set script (is_set_of NEWEST_CLOCK version set) refl is (λ may. may)
-save-if false board script None is = tt
-save-if false board script (Some set) is = tt
 
-save-asked : (board : Option BoardWord) (script : List ℕ) (set : Option ShippedSet) → IsThere board
-    → CanBeAsked (save_of (on_board board script) set)
-save-asked None script None is = tt
-save-asked None script (Some set) is = tt
-save-asked (Some board) script set is = save-if (is_shelf_name script) board script set is
+pub save-asked : (board : Option BoardWord) (set : Option ShippedSet) (script : List ℕ) → IsThere board → CanBeAsked (save_of board set script)
+save-asked board set script is = either-asked (is_shelf_name script) (save_on script board set) None (on-asked script board set is) tt
 
-drill-asked : (level seed count : Option ℕ) → HasLevel level → CanBeAsked (drill_of level seed count)
+pub drill-asked : (level seed count : Option ℕ) → HasLevel level → CanBeAsked (drill_of level seed count)
 drill-asked None None None is = tt
 drill-asked None None (Some count) is = tt
 drill-asked None (Some seed) None is = tt
@@ -136,35 +108,3 @@ drill-asked (Some level) None None is = tt
 drill-asked (Some level) None (Some count) is = tt
 drill-asked (Some level) (Some seed) None is = tt
 drill-asked (Some level) (Some seed) (Some count) is = is
-
-single-asked : (name set : List ℕ) → CanBeAsked (single_of name set)
-unfolding single_of
-single-asked name set =
-    either-asked (bytes_eq name (codes "show")) (show_of (set_word set)) _ (show-asked (set_word set))
-    (either-asked (bytes_eq name (codes "convert")) (convert_of (set_word set)) None (convert-asked (set_word set)) tt)
-
-pair-asked : (name one other : List ℕ) → CanBeAsked (pair_of name one other)
-unfolding pair_of
-pair-asked name one other =
-    either-asked (bytes_eq name (codes "check")) (check_of (set_word one) (set_word other)) _ (check-asked (set_word one) (set_word other))
-    (either-asked (bytes_eq name (codes "counter")) (counter_of (set_word one) (set_word other)) _ (counter-asked (set_word one) (set_word other))
-    (either-asked (bytes_eq name (codes "pack")) (pack_of (set_word one) other) _ (pack-asked (set_word one) other)
-    (either-asked (bytes_eq name (codes "load")) (load_of (on_board (board_word one) other)) _ (load-asked (board_word one) other (word-board one))
-    (either-asked (bytes_eq name (codes "play")) (play_of (on_board (isa_level (board_word one)) other)) None
-    (play-asked (isa_level (board_word one)) other (word-level one)) tt))))
-
-triple-asked : (name one two three : List ℕ) → CanBeAsked (triple_of name one two three)
-unfolding triple_of
-triple-asked name one two three =
-    either-asked (bytes_eq name (codes "drill")) (drill_of (isa_level (board_word one)) (number_word two) (few_events (number_word three))) _
-    (drill-asked (isa_level (board_word one)) (number_word two) (few_events (number_word three)) (word-level one))
-    (either-asked (bytes_eq name (codes "save")) (save_of (on_board (board_word one) three) (shipped_word two)) None
-    (save-asked (board_word one) three (shipped_word two) (word-board one)) tt)
-
-pub words_ask : AskedLaw
-words_ask [] = tt
-words_ask (name ∷ []) = either-asked (bytes_eq name (codes "analyze")) (Some Analyze) None tt tt
-words_ask (name ∷ set ∷ []) = single-asked name set
-words_ask (name ∷ one ∷ other ∷ []) = pair-asked name one other
-words_ask (name ∷ one ∷ two ∷ three ∷ []) = triple-asked name one two three
-words_ask (name ∷ one ∷ two ∷ three ∷ four ∷ words) = tt

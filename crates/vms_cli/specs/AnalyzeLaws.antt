@@ -9,8 +9,9 @@ use Rattle.vms_commands.specs.Outcomes.{done}
 use Rattle.vms_commands.specs.SetWords.{Isa, Clock, ShippedSet, SetWord, Shipped}
 use Rattle.vms_commands.specs.Steps.{Gives}
 use Rattle.vms_cli.specs.Answers.{HasOutcome}
-use Rattle.vms_cli.specs.Commands.{BoardWord, IsaBoard, ClockBoard, Show, Analyze, Pack, Save, asked_of}
-use Rattle.vms_cli.specs.Pack.{described_stream}
+use Rattle.vms_cli.specs.Boards.{BoardWord, IsaBoard, ClockBoard}
+use Rattle.vms_cli.specs.Commands.{Show, Analyze, Pack, Save, asked_of}
+use Rattle.vms_cli.specs.Commands.PackCommand.{described_stream}
 
 -- If `pack` makes a stream from the text under a name, `analyze` prints that text for the stream and reads all of
 -- it.

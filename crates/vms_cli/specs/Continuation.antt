@@ -13,7 +13,8 @@ use Rattle.vms_commands.specs.Outcomes.{Outcome, Outside, DoesOrStops, done}
 use Rattle.vms_commands.specs.Steps.{Step, Untold, Gives, Ends}
 use Rattle.vms_script.specs.Lines.{ScriptLine}
 use Rattle.vms_session.specs.Events.{events_of, trace_from}
-use Rattle.vms_cli.specs.Commands.{Asked, IsaBoard, ClockBoard, Load}
+use Rattle.vms_cli.specs.Boards.{IsaBoard, ClockBoard}
+use Rattle.vms_cli.specs.Commands.{Asked, Load}
 
 module _ {S : Type 0} (f : Family S) where
   -- The outcome of `load` for what a board saved under a set, with or without a description: the trace of that

@@ -15,8 +15,9 @@ use Rattle.vms_commands.specs.SetWords.{Isa, SetWord, Shipped}
 use Rattle.vms_commands.specs.Steps.{Gives}
 use Rattle.vms_cli.specs.AnalyzeLaws.{PrintsAlike}
 use Rattle.vms_cli.specs.Answers.{HasOutcome}
-use Rattle.vms_cli.specs.Commands.{Convert, IsaBoard, Load, Show}
-use Rattle.vms_cli.specs.Convert.{newest}
+use Rattle.vms_cli.specs.Boards.{IsaBoard}
+use Rattle.vms_cli.specs.Commands.{Convert, Load, Show}
+use Rattle.vms_cli.specs.Commands.ConvertCommand.{newest}
 
 -- If `convert` writes a stream, `show` with the set of its word and `analyze` print the same text for it.
 abbrev pub ConvertThenAnalyzeLaw : Type 0

@@ -1,64 +1,37 @@
 -- What follows for all calls, and for packing and showing one after the other.
-use Rattle.std.specs.Prelude.{◌≡◌, ◌⊎◌, ℕ, ◌+◌, ◌<◌, ◌≤◌, max, true, List, length, Option, Some, None, Ok, IfSome, IsSomeAnd}
+use Rattle.std.specs.Prelude.{◌≡◌, ◌⊎◌, ℕ, ◌+◌, ◌<◌, ◌≤◌, max, true, List, length, Option, Some, None, IfSome, IsSomeAnd}
 use Rattle.vms_io.specs.Causes.{KeepsPromise, Rose}
 use Rattle.vms_io.specs.Shelves.{Held, HoldsAll}
 use Rattle.vms_io.specs.Told.{Outlet}
 use Rattle.vms_spec.specs.Images.{Image}
 use Rattle.vms_kinds.specs.Bytes.{IsBytes}
 use Rattle.vms_spec.specs.Streams.{AreReady, is_one_of, written}
-use Rattle.vms_spec.specs.ValuesReading.{Values, values_read}
-use Rattle.vms_stream.specs.Streams.{Takes}
-use Rattle.vms_analyze.specs.Listing.{Lists, Text}
 use Rattle.vms_cli.specs.Answers.{HasOutcome, Answers}
-use Rattle.vms_cli.specs.Commands.{Asked, BoardWord, IsaBoard, Show, Convert, Analyze, Pack, Check, Counter, Save, Load, Drill, Play, asked_of, ClockBoard}
+use Rattle.vms_cli.specs.Commands.{Asked, Show, Pack, Check, asked_of, entry_of}
 use Rattle.vms_commands.specs.Outcomes.{Outcome, DoesOrStops, done, text_of, Outside}
 use Rattle.vms_commands.specs.Fetching.{longest_file, named_sets, word_set}
 use Rattle.vms_commands.specs.SetWords.{SetWord}
 use Rattle.vms_commands.specs.Steps.{Gives, Both}
-use Rattle.vms_check.specs.Comparing.{Compatible}
-use Rattle.vms_convert.specs.Calls.{LosesFirst}
-use Rattle.dev_board.specs.Saved.{MaySaveUnder}
-use Rattle.dev_board.specs.State.{State}
-use Rattle.dev_clock.specs.Saved.{MaySaveUnder as MaySaveClock}
-use Rattle.dev_clock.specs.State.{ClockState}
-use Rattle.vms_board.specs.Clock.{clock}
-use Rattle.vms_board.specs.Isa.{isa}
-use Rattle.vms_board.specs.Restoring.{Back, Restores}
-use Rattle.vms_script.specs.Lines.{ScriptLine}
-use Rattle.vms_script.specs.Script.{script_read}
-use Rattle.dev_base.specs.Levels.{IsLevel, IsUpTo}
-use Rattle.vms_rtc.specs.declared.limits.TheConstants.{NEWEST_CLOCK}
-use Rattle.vms_board_commands.specs.Scripts.{longest_script}
-use Rattle.vms_cli.specs.Convert.{newest}
-use Rattle.vms_cli.specs.Pack.{described_stream}
+use Rattle.vms_cli.specs.Commands.PackCommand.{described_stream}
 use Rattle.vms_cli.specs.Upgrade.{IsWritten, shown_newer}
 use Rattle.vms_spec.specs.Sets.{Set}
 
 -- ---- outcomes
 
--- A call has an outcome, and no other.
-pub record HasOneOutcome (asked : Option Asked) (input : List ℕ) (held : Held) : Type 0 where
+-- There is an outcome of which this holds, and no other.
+pub record HasOne (Holds : Outcome → Type 0) : Type 0 where
   pub outcome : Outcome
-  pub is : HasOutcome asked (Some input) (Some held) outcome
-  pub only : (other : Outcome) → HasOutcome asked (Some input) (Some held) other → other ≡ outcome
+  pub is : Holds outcome
+  pub only : (other : Outcome) → Holds other → other ≡ outcome
 
--- An existing board.
-abbrev pub IsBoard : BoardWord → Type 0
-IsBoard (IsaBoard level) = IsLevel level
-IsBoard (ClockBoard version) = IsUpTo NEWEST_CLOCK version
+-- A call has an outcome, and no other.
+abbrev pub HasOneOutcome : Option Asked → List ℕ → Held → Type 0
+HasOneOutcome asked input held = HasOne (λ o. HasOutcome asked (Some input) (Some held) o)
 
--- A set of the board's kind at or above it.
-abbrev pub MaySaveOn : BoardWord → ℕ → Type 0
-MaySaveOn (IsaBoard level) set = MaySaveUnder level set
-MaySaveOn (ClockBoard version) set = MaySaveClock version set
-
--- What arguments can name: existing boards, and for `save` such a set.
+-- What arguments can name: existing boards, and for `save` a set of the board's kind at or above it.
 abbrev pub CanBeAsked : Option Asked → Type 0
-CanBeAsked (Some (Save board set script)) = IsBoard board × MaySaveOn board set
-CanBeAsked (Some (Load board script)) = IsBoard board
-CanBeAsked (Some (Drill level seed count)) = IsLevel level
-CanBeAsked (Some (Play level script)) = IsLevel level
-CanBeAsked asked = Unit {0}
+CanBeAsked None = Unit {0}
+CanBeAsked (Some asked) = (entry_of asked).words
 
 -- This is so for all arguments.
 abbrev pub AskedLaw : Type 0
@@ -72,66 +45,10 @@ OutcomeLaw = (words : List (List ℕ)) (input : List ℕ) (held : Held) → IsBy
 
 -- ---- completeness
 
--- A set that a word names, and a values text of it under a name, which isn't too long.
-pub record CanBePacked (word : SetWord) (name : List ℕ) (map : Held) : Type 0 where
-  pub set : Set
-  pub there : word_set (Some map) word ≡ Gives set
-  pub text : List ℕ
-  pub held : map name ≡ Some text
-  pub short : length text ≤ longest_file
-  pub machine : Option (List ℕ)
-  pub images : List Image
-  pub reads : values_read set text ≡ Values machine images
-
--- A word names a set whose streams the newest set reads. A stream of the newest set is at the front of the input, and
--- nothing of it would be lost.
-abbrev pub CanBeConverted : SetWord → Option (List ℕ) → Option Held → Type 0
-CanBeConverted word input held =
-    (to : Set) × (word_set held word ≡ Gives to) × Compatible to newest × IsSomeAnd input (λ bytes. (taken : ℕ) × (machine : Option (List ℕ))
-    × (images : List Image) × Takes newest newest.machines bytes taken machine images
-    × ((section cell : Option ℕ) → LosesFirst to newest machine images section cell → ⊥))
-
--- A script under a name, which isn't too long and is in its grammar; on a board of the level, if one is given.
-pub record CanBeRead (play : Option ℕ) (name : List ℕ) (map : Held) : Type 0 where
-  pub text : List ℕ
-  pub held : map name ≡ Some text
-  pub short : length text ≤ longest_script
-  pub lines : List ScriptLine
-  pub reads : script_read play text ≡ Ok lines
-
--- What a command needs to succeed:
--- - `show`: a word that names a set, and a stream of it at the front of the input
--- - `convert`: a set, and a stream of which it would lose nothing
--- - `analyze`: an input that has a listing
--- - `pack`: a set, and a values text of it
--- - `check`: words that name two compatible sets
--- - `counter`: words that name two sets
--- - `save`: a script
--- - `load`: a script, and a stream of a board at the front of the input
--- - `play`: a script of a session
--- - `drill`: nothing.
+-- What a command needs to succeed. Its own file in `specs/Commands` says it.
 abbrev pub CanBeDone : Option Asked → Option (List ℕ) → Option Held → Type 0
 CanBeDone None input held = ⊥
-CanBeDone (Some (Show word)) input held =
-    (set : Set) × (word_set held word ≡ Gives set) × IsSomeAnd input (λ bytes. (taken : ℕ) × (machine : Option (List ℕ))
-    × (images : List Image) × Takes set set.machines bytes taken machine images)
-CanBeDone (Some (Convert word)) input held = CanBeConverted word input held
-CanBeDone (Some Analyze) input held =
-    IsSomeAnd input (λ bytes. (text : List ℕ) × Lists bytes (Text text))
-CanBeDone (Some (Pack word name)) input held = IsSomeAnd held (λ map. CanBePacked word name map)
-CanBeDone (Some (Check old new)) input held =
-    (sets : Both Set) × (named_sets held old new ≡ Gives sets) × Compatible sets.old sets.new
-CanBeDone (Some (Counter old new)) input held = (sets : Both Set) × (named_sets held old new ≡ Gives sets)
-CanBeDone (Some (Save board set script)) input held = IsSomeAnd held (λ map. CanBeRead None script map)
-CanBeDone (Some (Load (IsaBoard level) script)) input held =
-    IsSomeAnd held (λ map. CanBeRead None script map) × IsSomeAnd input (λ bytes. (board : State) × (taken : ℕ)
-    × Restores isa level bytes (Back board taken))
-CanBeDone (Some (Load (ClockBoard version) script)) input held =
-    IsSomeAnd held (λ map. CanBeRead None script map) × IsSomeAnd input (λ bytes. (board : ClockState) × (taken : ℕ)
-    × Restores clock version bytes (Back board taken))
-CanBeDone (Some (Play level script)) input held =
-    IsSomeAnd held (λ map. CanBeRead (Some level) script map)
-CanBeDone (Some (Drill level seed count)) input held = Unit {0}
+CanBeDone (Some asked) input held = (entry_of asked).needs input held
 
 -- No object counts a failure in the call.
 pub record NoneRises (old new : Outside) : Type 0 where

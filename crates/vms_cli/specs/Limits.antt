@@ -7,7 +7,7 @@ use Rattle.vms_script.specs.declared.number.TheConstants.{LONGEST_WAIT}
 use Rattle.vms_spec.specs.declared.TheConstants.{LONGEST_NAME, LONGEST_TEXT, MOST_ITEMS, MOST_UNUSED}
 use Rattle.vms_board_commands.specs.Scripts.{longest_script}
 use Rattle.vms_commands.specs.Fetching.{longest_file}
-use Rattle.vms_cli.specs.Commands.{most_events}
+use Rattle.vms_cli.specs.Commands.DrillCommand.{most_events}
 
 -- The numbers.
 pub record LimitsLaw : Type 0 where

@@ -1,22 +1,14 @@
 -- What a command can return, also where the contents are unknown: a field for each sentence.
-use Rattle.std.specs.Prelude.{◌≡◌, ◌⊎◌, ℕ, true, false, List, Option, Some, None}
+use Rattle.std.specs.Prelude.{◌≡◌, ◌⊎◌, ℕ, true, false, List, Option, None}
 use Rattle.std.specs.Io.KnownBytes.{Appends, Keeps}
 use Rattle.vms_io.specs.Causes.{Rose}
 use Rattle.vms_io.specs.Shelves.{Held}
 use Rattle.vms_io.specs.Told.{Intake}
 use Rattle.vms_commands.specs.Courses.{is_among}
-use Rattle.vms_commands.specs.Fetching.{word_set}
 use Rattle.vms_commands.specs.Lines.{bad_words, out_of_memory, read_fault, shelf_fault, write_fault}
 use Rattle.vms_commands.specs.Outcomes.{Does, DoesOrStops, Outcome, Outside}
-use Rattle.vms_board.specs.Clock.{clock}
-use Rattle.vms_board.specs.Isa.{isa}
-use Rattle.vms_board_commands.specs.Load.{LoadGives, LoadsWith}
-use Rattle.vms_board_commands.specs.Scripts.{scripted}
 use Rattle.vms_board_commands.specs.Seen.{Sees}
-use Rattle.vms_cli.specs.Analyze.{GivesListed, IsListing}
-use Rattle.vms_cli.specs.Commands.{Asked, IsaBoard, ClockBoard, Show, Convert, Analyze, Load}
-use Rattle.vms_cli.specs.Convert.{ConvertGives, ConvertsWith, target}
-use Rattle.vms_cli.specs.Show.{GivesWithin, ShowsWith}
+use Rattle.vms_cli.specs.Commands.{Asked, task_of}
 use Rattle.vms_cli.specs.Statuses.{asks, reads, statuses_of, stores_at, takes_at, writes_at}
 
 -- The cause of a status, and its line on standard error.
@@ -31,12 +23,7 @@ pub record HasCause (status : ℕ) (old new : Outside) : Type 0 where
 -- The outcome of these bytes, for the commands that read them, with what the shelf gave, or may have given if it is
 -- unknown.
 abbrev pub OutcomeWith : Option Asked → Option Held → List ℕ → Outcome → Type 0
-OutcomeWith (Some (Show word)) held bytes o = ShowsWith (word_set held word) held bytes o
-OutcomeWith (Some (Convert word)) held bytes o = ConvertsWith (target held word) held bytes o
-OutcomeWith (Some Analyze) held bytes o = IsListing held bytes o
-OutcomeWith (Some (Load (IsaBoard level) script)) held bytes o = LoadsWith isa level (scripted None held script) held bytes o
-OutcomeWith (Some (Load (ClockBoard version) script)) held bytes o = LoadsWith clock version (scripted None held script) held bytes o
-OutcomeWith asked held bytes o = ⊥
+OutcomeWith asked held bytes o = (task_of asked).sees held bytes o
 
 -- An outcome follows from the bytes that were read, whether or not the input is known, and the call carries it out.
 pub record DoesSeen (IsOutcome : List ℕ → Outcome → Type 0) (status : ℕ) (old new : Outside) : Type 0 where
@@ -52,12 +39,7 @@ pub record ComesSeen (IsOutcome : List ℕ → Outcome → Type 0) (status : ℕ
 
 -- The most bytes that the input gives.
 abbrev pub Gives : Option Asked → Option Held → Intake → Intake → Type 0
-Gives (Some (Show word)) held input input' = GivesWithin (word_set held word) input input'
-Gives (Some (Convert word)) held input input' = ConvertGives (target held word) input input'
-Gives (Some Analyze) held input input' = GivesListed input.given input'.given
-Gives (Some (Load (IsaBoard level) script)) held input input' = LoadGives isa (scripted None held script) input input'
-Gives (Some (Load (ClockBoard version) script)) held input input' = LoadGives clock (scripted None held script) input input'
-Gives asked held input input' = Unit {0}
+Gives asked held input input' = (task_of asked).gives held input input'
 
 -- What a command can return and touch.
 pub record CanAnswer (asked : Option Asked) (status : ℕ) (old new : Outside) : Type 0 where

@@ -19,8 +19,8 @@ use Rattle.vms_commands.specs.SetWords.{SetWord}
 use Rattle.vms_commands.specs.Steps.{Both, Gives}
 use Rattle.vms_cli.specs.Answers.{HasOutcome}
 use Rattle.vms_cli.specs.Commands.{Show, Pack, Counter}
-use Rattle.vms_cli.specs.Counter.{counter_text}
-use Rattle.vms_cli.specs.Pack.{described_stream}
+use Rattle.vms_cli.specs.Commands.CounterCommand.{counter_text}
+use Rattle.vms_cli.specs.Commands.PackCommand.{described_stream}
 
 -- The outcome of `counter` is the text of this state.
 abbrev pub Prints : (old new : SetWord) → Both Set → Option Held → Mismatch → Option (List ℕ) → List Image → Refusal → Type 0

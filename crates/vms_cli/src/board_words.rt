@@ -2,7 +2,8 @@
 ghost use Rattle.std.specs.Prelude.{◌≡◌};
 ghost use Rattle.std.specs.Option.{option_map};
 ghost use Rattle.vms_cli.specs.Asks.{board_asked};
-ghost use Rattle.vms_cli.specs.Commands.{board_word, few_events, isa_level, number_word};
+ghost use Rattle.vms_cli.specs.Boards.{board_word, isa_level, number_word};
+ghost use Rattle.vms_cli.specs.Commands.DrillCommand.{few_events};
 
 use crate::boards::{BoardWord, ClockBoard, IsaBoard};
 use dev_base::NEWEST;

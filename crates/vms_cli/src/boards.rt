@@ -53,10 +53,3 @@ pub(crate) struct ClockSaved {
     ghost board: { IsUpTo NEWEST_CLOCK version },
     ghost may: { MaySaveClock version set },
 }
-
-/// The board that a stream restores, and the script that runs on it then.
-#[derive(Clone, Copy)]
-pub(crate) struct Loading<'a> {
-    pub(crate) board: BoardWord,
-    pub(crate) script: &'a str,
-}

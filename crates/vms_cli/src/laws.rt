@@ -20,7 +20,7 @@ pub fn outcome_law()
 
 /// States that arguments name only existing boards, and for `save` a set of the board's kind at or
 /// above it.
-#[tactic(auto, using(crate::proofs::WordLaws::words_ask))]
+#[tactic(auto, using(crate::proofs::Entries::words_ask))]
 pub fn asked_law()
     ensures { AskedLaw }
 {}

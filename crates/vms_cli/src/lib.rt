@@ -2,18 +2,12 @@
 //! caller passes.
 #![tactic(auto)]
 
-mod analyze;
 mod board_words;
 mod boards;
-mod check;
-mod convert;
-mod counter;
-mod kinds;
+mod commands;
 /// Laws of the whole program.
 pub mod laws;
-mod pack;
 mod running;
-mod show;
 mod top;
 mod two_sets;
 mod values_notes;
@@ -21,5 +15,4 @@ mod words;
 
 pub use running::program;
 pub use top::{tell, vmstate};
-pub(crate) use words::Command;
 pub use words::Words;

@@ -1,23 +1,13 @@
 // The top call.
-ghost use Rattle.std.specs.Prelude.{◌≡◌, None, Some};
+ghost use Rattle.std.specs.Prelude.{Some};
 ghost use Rattle.vms_io.specs.Told.{intake, outlet, stock};
 ghost use Rattle.vms_io.specs.Writing.{Serves};
-ghost use Rattle.vms_commands.specs.Endings.{Tells, ending_of};
+ghost use Rattle.vms_commands.specs.Endings.{Tells};
 ghost use Rattle.vms_cli.specs.Answers.{Answers};
-ghost use Rattle.vms_cli.specs.Commands.{asked_of};
-ghost use Rattle.vms_cli.specs.Runs.{Runs, frame, task_of};
 
-use crate::analyze::analyze_input;
-use crate::boards::Loading;
-use crate::check::check;
-use crate::convert::convert;
-use crate::counter::counter;
-use crate::kinds::{load, save};
-use crate::pack::pack;
-use crate::show::show;
-use crate::{Command, Words};
+use crate::Words;
+use crate::commands::run;
 use std::alloc::Global;
-use vms_board_commands::{OnBoard, drill_board, play_board};
 use vms_commands::Ending;
 use vms_io::{Shelf, Sink, Source, write_all_of};
 
@@ -42,8 +32,8 @@ use vms_io::{Shelf, Sink, Source, write_all_of};
 ///
 /// One line is written to `notes` for each status but 0. With a status other than 0 and 6 nothing
 /// is written to `out`, except by `play`: with 7 and 10 it has written the traces of its first
-/// lines, the last of them perhaps in part. Only `show`, `convert`, `analyze` and `load` read
-/// `input`.
+/// lines, the last of them perhaps in part. `input` is read only by the commands that need a stream:
+/// `docs/commands.md` lists them.
 pub fn vmstate<I: Source, O: Sink, N: Sink, H: Shelf>(
     alloc: Global,
     words: &Words,
@@ -81,47 +71,5 @@ pub fn tell<N: Sink>(notes: &mut N, ending: &Ending) -> u8
     match write_all_of(notes, ending.line()) {
         Ok(()) => ending.status(),
         Err(_) => Ending::WriteFault.status(),
-    }
-}
-
-#[tactic(auto, using(crate::proofs::RunLemmas::asked_runs))]
-fn run<I: Source, O: Sink, H: Shelf>(
-    alloc: Global,
-    words: &Words,
-    input: &mut I,
-    out: &mut O,
-    shelf: &mut H,
-) -> Result<(), Ending>
-    ensures runs { Runs (task_of (asked_of words.now))
-        (frame I.Source O.Sink H.Shelf input.old out.old shelf.old)
-        (frame I.Source O.Sink H.Shelf input.new out.new shelf.new) (ending_of result) }
-    ensures unnamed { asked_of words.now ≡ None → outlet O.Sink out.new ≡ outlet O.Sink out.old }
-{
-    match words.command() {
-        Some(Command::Show { set }) => show(alloc, set, input, out, shelf),
-        Some(Command::Convert { set }) => convert(alloc, set, input, out, shelf),
-        Some(Command::Analyze) => analyze_input(alloc, input, out),
-        Some(Command::Pack { set, values }) => pack(alloc, set, values, out, shelf),
-        Some(Command::Check { old, new }) => check(alloc, old, new, out, shelf),
-        Some(Command::Counter { old, new }) => counter(alloc, old, new, out, shelf),
-        Some(Command::Save { board, script }) => save(alloc, board, script, out, shelf),
-        Some(Command::Load { board, script }) => {
-            load(alloc, Loading { board, script }, input, out, shelf)
-        }
-        Some(Command::Play { board, script }) => {
-            let asked = OnBoard {
-                number: board.level,
-                script,
-            };
-            play_board(alloc, asked, out, shelf)
-        }
-        Some(Command::Drill { board, seed, count }) => drill_board(
-            alloc,
-            board.level,
-            seed,
-            count,
-            out,
-        ),
-        None => Err(Ending::BadWords),
     }
 }

@@ -3,7 +3,7 @@ ghost use Rattle.vms_io.specs.Told.{stock};
 ghost use Rattle.vms_commands.specs.Asks.{set_asked};
 ghost use Rattle.vms_commands.specs.Fetching.{named_sets};
 ghost use Rattle.vms_commands.specs.StepEndings.{AsksIf, HadCause, StepAs};
-ghost use Rattle.vms_cli.specs.Check.{asks_shelf};
+ghost use Rattle.vms_cli.specs.Commands.CheckCommand.{asks_shelf};
 ghost use Rattle.vms_cli.specs.TwoSets.{sets_of};
 
 use std::alloc::Global;

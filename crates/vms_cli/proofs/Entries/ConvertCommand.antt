@@ -1,0 +1,105 @@
+-- `convert` has one outcome, and what can be converted is.
+use Rattle.vms_cli.proofs.Facade.{◌≡◌, ◌⊎◌, ℕ, ◌+◌, List, Option, Some, None, inl, inr, refl, sym, ap, ◌∙◌, subst, arith, none-some, Held, IsBytes, IsFit, Image, Set}
+use Rattle.vms_cli.proofs.Facade.{Answer, Taken, Faulty, Takes, either_holds, taken_kept, Compatible, first_mismatch, Mismatch, IsStreamFor, LosesFirst}
+use Rattle.vms_cli.proofs.Facade.{word_set, refused_line, done, ended, SetWord, Step, Untold, Gives, Ends, next, FitStep, fit_word, IsSound, sound_next}
+use Rattle.vms_cli.proofs.Facade.{sound_word_set, ConvertsBy, Rewrites, WouldLose, agreed, agrees, lost_line, newest, target, CanBeConverted, HasOne}
+use Rattle.vms_cli.proofs.Facade.{convert_entry}
+use Rattle.vms_cli.specs.Commands.ConvertCommand.{Refuses}
+use Rattle.vms_cli.proofs.ConvertLemmas.{is_answered, newest_fit, agreed_gives, lost_is, refused_is, rewritten_is}
+use Rattle.vms_cli.proofs.RowFacts.{IsDone, IsRow, spares_none, spares_text}
+
+abbrev OneConverted : Step Set → List ℕ → Held → Type 0
+OneConverted step input held = HasOne (λ o. ConvertsBy step (Some input) (Some held) o)
+
+-- whether the input begins with a stream or is invalid
+module _ (to : Set) (fit : IsFit to) (compatible : Compatible to newest) (input : List ℕ) (held : Held) (ok : IsBytes input) where
+  of_taken : (n : ℕ) (machine : Option (List ℕ)) (images : List Image) → Takes newest newest.machines input n machine images
+      → ((bytes : List ℕ) × IsStreamFor to newest machine images bytes)
+      ⊎ ((section : Option ℕ) × (cell : Option ℕ) × LosesFirst to newest machine images section cell)
+      → OneConverted (Gives to) input held
+  of_taken n machine images takes (inl stream) = record {
+    outcome = done stream.0 (Some held) n;
+    is = Rewrites n machine images stream.0 takes stream.1;
+    only = λ other p. rewritten_is to fit compatible input (Some held) ok n machine images stream.0 other takes stream.1 p;
+  }
+  of_taken n machine images takes (inr lost) = record {
+    outcome = ended 11 (lost_line newest lost.0 lost.1) n;
+    is = WouldLose n machine images lost.0 lost.1 takes lost.2;
+    only = λ other p. lost_is to fit compatible input (Some held) ok n machine images lost.0 lost.1 other takes lost.2 p;
+  }
+
+  one_answered : Answer newest newest.machines input → OneConverted (Gives to) input held
+  one_answered (Taken n machine images takes) =
+      of_taken n machine images takes (is_answered to fit compatible machine images (taken_kept newest newest.machines input n machine images takes))
+  one_answered (Faulty place section reason size fault) = record {
+    outcome = ended 1 (refused_line newest place section reason) (place + size);
+    is = Refuses place section reason size fault;
+    only = λ other p. refused_is to fit compatible input (Some held) ok place section reason size other fault p;
+  }
+
+-- ---- the step that gives the set
+
+-- a set that is well formed, and that the newest reads
+abbrev Suits : Step Set → Type 0
+Suits Untold = Unit {0}
+Suits (Gives to) = IsFit to × Compatible to newest
+Suits (Ends status line) = Unit {0}
+
+suits_agreed : (to : Set) (m : Option Mismatch) → first_mismatch to newest ≡ m → IsFit to → Suits (agreed to m)
+suits_agreed to None e fit = (fit, e)
+suits_agreed to (Some m) e fit = tt
+
+suits_next : (s : Step Set) → FitStep s → Suits (next s agrees)
+suits_next Untold fit = tt
+suits_next (Gives to) fit = suits_agreed to (first_mismatch to newest) refl fit
+suits_next (Ends status line) fit = tt
+
+sound_agreed : (held : Option Held) (to : Set) (m : Option Mismatch) → IsSound held (agreed to m)
+sound_agreed held to None = tt
+sound_agreed held to (Some m) = omega arith
+
+sound_target : (held : Option Held) (word : SetWord) → IsSound held (target held word)
+sound_target held word = sound_next held (word_set held word) agrees (sound_word_set held word) (λ to. sound_agreed held to (first_mismatch to newest))
+
+one_by : (s : Step Set) (input : List ℕ) (held : Held) → IsBytes input → IsSound (Some held) s → Suits s → OneConverted s input held
+one_by Untold input held ok sound suits = absurd (none-some {A = Held} held (sym sound))
+one_by (Gives to) input held ok sound suits =
+    one_answered to suits.0 suits.1 input held ok (either_holds newest newest.machines newest_fit.well newest_fit.heads input ok)
+one_by (Ends status line) input held ok sound suits = record { outcome = ended status line 0; is = refl; only = λ other e. e }
+
+pub target_gives : (held : Option Held) (word : SetWord) (to : Set) → word_set held word ≡ Gives to → Compatible to newest → target held word ≡ Gives to
+target_gives held word to there compatible = ap (λ (s : Step Set). next s agrees) there ∙ agreed_gives to compatible
+
+module _ (word : SetWord) (held : Option Held) where
+  converted_then : (input : Option (List ℕ)) → CanBeConverted word input held
+      → (stream : List ℕ) × (taken : ℕ) × ConvertsBy (target held word) input held (done stream held taken)
+  converted_then None can = absurd can.3
+  converted_then (Some bytes) can =
+      let to = can.0 in
+      let c = can.3 in
+      let fit : IsFit to = subst FitStep can.1 (fit_word held word) in
+      by (is_answered to fit can.2 c.1 c.2 (taken_kept newest newest.machines bytes c.0 c.1 c.2 c.3))
+    where
+      by : ((stream : List ℕ) × IsStreamFor can.0 newest can.3.1 can.3.2 stream)
+          ⊎ ((section : Option ℕ) × (cell : Option ℕ) × LosesFirst can.0 newest can.3.1 can.3.2 section cell)
+          → (stream : List ℕ) × (taken : ℕ) × ConvertsBy (target held word) (Some bytes) held (done stream held taken)
+      by (inl stream) = (
+        stream.0,
+        can.3.0,
+        subst (λ (s : Step Set). ConvertsBy s (Some bytes) held (done stream.0 held can.3.0)) (sym (target_gives held word can.0 can.1 can.2))
+            (Rewrites can.3.0 can.3.1 can.3.2 stream.0 can.3.3 stream.1),
+      )
+      by (inr lost) = absurd (can.3.4 lost.0 lost.1 lost.2)
+
+converted : (word : SetWord) (input : Option (List ℕ)) (held : Option Held) → CanBeConverted word input held → IsDone (convert_entry word).task input held
+converted word input held can =
+    let one = converted_then word held input can in
+    record { outcome = done one.0 held one.1; is = one.2; status = refl }
+
+pub convert_row : (word : SetWord) → IsRow (convert_entry word)
+convert_row word = record {
+  fits = record { statuses = refl; writes = inl refl; takes = inl refl; stores = inr refl; unwritten = spares_text; unstored = spares_none };
+  one = λ input held ok holds words.
+      one_by (target (Some held) word) input held ok (sound_target (Some held) word) (suits_next (word_set (Some held) word) (fit_word (Some held) word));
+  done = λ input held octets words can. converted word input held can;
+}

@@ -1,0 +1,31 @@
+-- `counter` has one outcome, and two sets have an answer.
+use Rattle.vms_cli.proofs.Facade.{ℕ, List, Option, Some, refl, sym, subst, inl, inr, Held, Set, named_sets, done, SetWord, Step, Both, Gives, next, one_text}
+use Rattle.vms_cli.proofs.Facade.{computed, CountersBy, counted, counter_text, counter_entry}
+use Rattle.vms_cli.proofs.RowFacts.{IsDone, IsRow, spares_none, spares_text}
+use Rattle.vms_cli.proofs.ShowLemmas.{AreFit, counters_text, fit_sets, sound_counter, text_counters}
+
+found : (old new : SetWord) (input : Option (List ℕ)) (held : Option Held) → (counter_entry old new).needs input held
+    → IsDone (counter_entry old new).task input held
+found old new input held can =
+    let outcome = done (counter_text can.0.old can.0.new (computed can.0.old can.0.new)) held 0 in
+    let fit : AreFit (Gives can.0) = subst AreFit can.1 (fit_sets held old new) in
+    record {
+      outcome = outcome;
+      is = subst (λ (s : Step (Both Set)). CountersBy s held outcome) (sym can.1) (text_counters held (Gives can.0) outcome fit refl);
+      status = refl;
+    }
+
+pub counter_row : (old new : SetWord) → IsRow (counter_entry old new)
+counter_row old new = record {
+  fits = record { statuses = refl; writes = inl refl; takes = inr refl; stores = inr refl; unwritten = spares_text; unstored = spares_none };
+  one = λ input held ok holds words.
+      let step = named_sets (Some held) old new in
+      let fit = fit_sets (Some held) old new in
+      let one = one_text held (next step counted) (sound_counter (Some held) old new) in
+      record {
+        outcome = one.outcome;
+        is = text_counters (Some held) step one.outcome fit one.is;
+        only = λ other has. one.only other (counters_text (Some held) step other fit has);
+      };
+  done = λ input held octets words can. found old new input held can;
+}

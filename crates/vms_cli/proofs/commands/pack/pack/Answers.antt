@@ -1,0 +1,34 @@
+use Rattle.vms_cli.proofs.Facade.{List, ℕ, [], ◌∷◌, refl, subst, outlet, stock, described, set_asked, TextEnds, named_parts, packed, packed_parts, parts_of}
+use Rattle.vms_cli.proofs.Facade.{ending_of, ending_passed}
+use Rattle.vms_cli.proofs.RowLemmas.{lacks_so, pack_ends}
+use Rattle.vms_cli.proofs.StepsOfTwo.{had_text, lacks_text}
+use Rattle.vms_cli.proofs.commands.pack.pack.Goals as goal
+
+pub returns : goal.returns
+returns g c = λ input few.
+    let parts = named_parts (g.H.Shelf.held c.args.shelf.now) (set_asked c.args.set) c.args.values.now in
+    let out' = outlet g.O.Sink c.pack_text.new.out in
+    let had = c.in_ok-parts.ensures in
+    let ends =
+    subst (λ (l : List ℕ). TextEnds (packed (described c.in_ok-parts.parts.set) l) (outlet g.O.Sink c.args.out.now) out'
+    (ending_of c.pack_text.result)) c.deref.ensures.value c.pack_text.ensures.ends in
+    record {
+      content = λ o has. had_text parts_of packed_parts parts input _
+          (stock g.H.Shelf c.args.shelf.now) _ few had.asks.looks o has _ c.in_ok-parts.parts _ _ _ had.had c.pack_text.ensures.so ends;
+      so = pack_ends input _ _ _ _ _ c.pack_text.ensures.so had.asks.looks;
+      given = tt;
+      seen = λ reads. cc;
+    }
+
+pub returns-in_err-parts : goal.returns-in_err-parts
+returns-in_err-parts g c = rw (ending_passed c.from_residual.result c.from_residual.ensures.1) (λ input few.
+    let parts = named_parts (g.H.Shelf.held c.args.shelf.now) (set_asked c.args.set) c.args.values.now in
+    let out = outlet g.O.Sink c.args.out.now in
+    let had = c.in_err-parts.ensures in
+    record {
+      content = λ o has. lacks_text parts_of packed_parts parts input out
+          (stock g.H.Shelf c.args.shelf.now) _ few had.asks.looks o has c.in_err-parts.field-0.0 had.had;
+      so = lacks_so (0 ∷ 6 ∷ 10 ∷ []) [] refl input out had.asks;
+      given = tt;
+      seen = λ reads. cc;
+    })
