@@ -31,8 +31,7 @@ matched (t ∷ taken) [] fs f a g l = absurd f
 matched (t ∷ taken) (e ∷ es) [] f a g l = absurd g
 matched (t ∷ taken) (e ∷ es) (x ∷ fs) f a g l =
     let line : t.line ≡ entry_line x = cc in
-    let lines : lines_of taken ≡ map entry_line fs = cc in
-    (f.0 ∙ sym g.0, a.0 ∙ line, matched taken es fs (f.1 a.0) a.1 (g.1 (sym line)) lines)
+    (f.0 ∙ sym g.0, a.0 ∙ line, matched taken es fs (f.1 a.0) a.1 (g.1 (sym line)) cc)
 
 abbrev for_section : Demand → Bool
 for_section (ForSection d) = true
@@ -173,8 +172,8 @@ module _ (set : Set) (d : Device) (image : Image) where
   subs_came j at (s ∷ subs) (o ∷ came) long =
       let next = at + length (desc_cells (struct_cells set) s.desc) in
       ap (λ (l : List (Option ℕ)). o ∷ l)
-      (numbers_came image.numbers (printed (elements_in set s.desc s.desc.version image.numbers at)) _ ∙ subs_came (suc j) next subs came (omega (arith, long)))
-  subs_came j at _ _ long = absurd (omega (arith, long))
+      (numbers_came image.numbers (printed (elements_in set s.desc s.desc.version image.numbers at)) _ ∙ subs_came (suc j) next subs came (omega arith))
+  subs_came j at _ _ long = absurd (omega arith)
 
   whole_inside : AreAtVersions d.subs image.came → AreInside (inside_of set d image)
   whole_inside = device_all IsInside set d image (λ x. refl) (λ j at s o h. refl)
@@ -196,11 +195,10 @@ device_same : (set : Set) (d : Device) (image image' : Image) → IsShaped set d
     → AreUnsaid set d image → AreUnsaid set d image' → Match (inside_of set d image) (inside_of set d image') → image ≡ image'
 device_same set d image image' a b u u' m =
     let es = inside_of set d image in
-    let fs = inside_of set d image' in
     let long : length image.numbers ≡ length image'.numbers = a.cells ∙ sym b.cells in
     same_image image image' (a.version ∙ sym b.version)
-    (sym (whole_came set d image a.subs) ∙ came_same es fs (whole_at set d image a.versions) (whole_at set d image' b.versions) m
-    ∙ whole_came set d image' b.subs) (ext_get_or (pos 0) image.numbers image'.numbers long (λ c lt. by_line c lt (omega (arith, long)) (has_line es c) refl))
+    (sym (whole_came set d image a.subs) ∙ came_same es (inside_of set d image') (whole_at set d image a.versions) (whole_at set d image' b.versions) m
+    ∙ whole_came set d image' b.subs) (ext_get_or (pos 0) image.numbers image'.numbers long (λ c lt. by_line c lt (omega arith) (has_line es c) refl))
   where
     by_line : (c : ℕ) → c < length image.numbers → c < length image'.numbers → (t : Bool) → has_line (inside_of set d image) c ≡ t
         → get_or image.numbers c (pos 0) ≡ get_or image'.numbers c (pos 0)
@@ -216,14 +214,13 @@ pub devices_same : (set : Set) (devices : List Device) (images images' : List Im
     → AllUnsaid set devices images → AllUnsaid set devices images' → Match (devices_entries set devices images) (devices_entries set devices images')
     → images ≡ images'
 devices_same set [] [] [] a b u u' m = refl
-devices_same set [] (i ∷ images) images' a b u u' m = absurd a
 devices_same set [] [] (i ∷ images') a b u u' m = absurd b
-devices_same set (d ∷ devices) [] images' a b u u' m = absurd a
 devices_same set (d ∷ devices) (i ∷ images) [] a b u u' m = absurd b
 devices_same set (d ∷ devices) (i ∷ images) (j ∷ images') a b u u' m =
     let p = parted (inside_of set d i) (devices_entries set devices images) (inside_of set d j) (devices_entries set devices images')
     (whole_inside set d i a.0.versions) (whole_inside set d j b.0.versions) (begins_new set devices images) (begins_new set devices images') m.2 in
     rw (device_same set d i j a.0 b.0 u.0 u'.0 p.inside, devices_same set devices images images' a.1 b.1 u.1 u'.1 p.rest) refl
+devices_same set _ _ images' a b u u' m = absurd a
 
 -- ---- A text in which no line is bad says a state; the second pass finds its first bad part, or the state is ready.
 

@@ -163,7 +163,7 @@ module _ (set : Set) (text : List ℕ) (machine : Option (List ℕ)) (line : ℕ
           state = s.is;
           fine = s.fine;
           begins = passed.texts ∙ ap (λ (l : List (List ℕ)). text_of l ++ rest) (sym s.lines);
-          number = omega (arith, passed.further, s.long);
+          number = omega arith;
           bad = s.rest;
         };
       }
@@ -231,8 +231,7 @@ unfolding values_read
 first_pass set text structs good = by_machine set text structs good (machine_named set.machines (first_line text)) refl
 
 -- all that was taken, if no line is bad
-pub taken_all : (set : Set) (text : List ℕ) (v : ValuesRead) (n : NoneBad set text v)
-    → TakenOf set text n.machine n.first.taken n.all.line n.all.rest None
+pub taken_all : (set : Set) (text : List ℕ) (v : ValuesRead) (n : NoneBad set text v) → TakenOf set text n.machine n.first.taken n.all.line n.all.rest None
 taken_all set text v n =
     let f = n.first in
     record {

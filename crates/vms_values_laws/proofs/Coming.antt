@@ -41,18 +41,17 @@ pub short : (kind : Kind) (z : ℤ) → in_range kind z ≡ true → IsShort z
 short U8 (pos n) e = omega (arith, leb-true n 0xff (and_parts (nat_le 0 n) (nat_le n 0xff) e).1)
 short U16 (pos n) e = omega (arith, leb-true n 0xffff (and_parts (nat_le 0 n) (nat_le n 0xffff) e).1)
 short U32 (pos n) e = omega (arith, leb-true n 0xffff_ffff (and_parts (nat_le 0 n) (nat_le n 0xffff_ffff) e).1)
-short U64 (pos n) e = omega (arith, leb-true n 0xffff_ffff_ffff_ffff (and_parts (nat_le 0 n) (nat_le n 0xffff_ffff_ffff_ffff) e).1)
 short I8 (pos n) e = omega (arith, leb-true n 0x7f e)
 short I16 (pos n) e = omega (arith, leb-true n 0x7fff e)
 short I32 (pos n) e = omega (arith, leb-true n 0x7fff_ffff e)
 short I64 (pos n) e = omega (arith, leb-true n 0x7fff_ffff_ffff_ffff e)
 short Truth (pos n) e = omega (arith, leb-true n 1 (and_parts (nat_le 0 n) (nat_le n 1) e).1)
-short Timer (pos n) e = omega (arith, leb-true n 0xffff_ffff_ffff_ffff (and_parts (nat_le 0 n) (nat_le n 0xffff_ffff_ffff_ffff) e).1)
 short I8 (negsuc n) e = omega (arith, leb-true n 0x7f (and_parts (nat_le n 0x7f) true e).0)
 short I16 (negsuc n) e = omega (arith, leb-true n 0x7fff (and_parts (nat_le n 0x7fff) true e).0)
 short I32 (negsuc n) e = omega (arith, leb-true n 0x7fff_ffff (and_parts (nat_le n 0x7fff_ffff) true e).0)
 short I64 (negsuc n) e = omega (arith, leb-true n 0x7fff_ffff_ffff_ffff (and_parts (nat_le n 0x7fff_ffff_ffff_ffff) true e).0)
 short _ (negsuc n) e = cc
+short _ (pos n) e = omega (arith, leb-true n 0xffff_ffff_ffff_ffff (and_parts (nat_le 0 n) (nat_le n 0xffff_ffff_ffff_ffff) e).1)
 
 module _ (steps : List (ℕ × ℕ)) (path : List ℕ) (present : Bool) (at : ℕ) (c : Cell) (p : Standing) where
   abbrev here : Element
@@ -78,9 +77,8 @@ module _ (steps : List (ℕ × ℕ)) (path : List ℕ) (present : Bool) (at : �
     taken : (z : ℤ) → number_spelled text ≡ Some z → in_range c.kind z ≡ true → number_reason c present z ≡ None
         → Put here p (record { numbers = slice_set p.numbers at z; line = suc p.line; rest = rest })
     taken z e range f =
-        let is : text ≡ signed_decimal z = spelled_holds text z (short c.kind z range) e in
         let whole : line ≡ path ++ (codes " = " ++ signed_decimal z) =
-        begun front line begins ∙ ap (λ (l : List ℕ). front ++ l) is ∙ append_assoc path (codes " = ") _ in
+        begun front line begins ∙ ap (λ (l : List ℕ). front ++ l) (spelled_holds text z (short c.kind z range) e) ∙ append_assoc path (codes " = ") _ in
         record {
           number = z;
           rest = splits ∙ ap (λ (l : List ℕ). l ++ 10 ∷ rest) whole;
@@ -104,9 +102,7 @@ module _ (steps : List (ℕ × ℕ)) (path : List ℕ) (present : Bool) (at : �
 
   by_front : (line rest : List ℕ) → p.rest ≡ line ++ 10 ∷ rest → (b : Bool) → begins_with front line ≡ b
       → Stepped here p (Some (line, rest)) (put_line path its p (Some (line, rest)))
-  by_front line rest splits true e =
-      let stepped = spelled line rest splits e (number_spelled (drop (length front) line)) refl in
-      rw e stepped
+  by_front line rest splits true e = rw e (spelled line rest splits e (number_spelled (drop (length front) line)) refl)
   by_front line rest splits false e = rw e (record { line = refl; bad = rw e refl })
 
   by_line : (o : Option (List ℕ × List ℕ)) → first_line p.rest ≡ o → Stepped here p o (put_line path its p o)
@@ -144,13 +140,7 @@ told_one x p q put inside =
     })
 
 ran_one : (p q : Standing) (x : Element) (put : Put x p q) → Ran p (record { element = x; number = put.number } ∷ []) q
-ran_one p q x put =
-    record {
-      line = omega (arith, put.line);
-      rest = put.rest ∙ sym (append_assoc _ (10 ∷ []) q.rest);
-      numbers = put.numbers;
-      fine = (put.fine, tt);
-    }
+ran_one p q x put = record { line = omega arith; rest = put.rest ∙ sym (append_assoc _ (10 ∷ []) q.rest); numbers = put.numbers; fine = (put.fine, tt) }
 
 -- total: the elements of a state by its numbers; start: where reading began; low: the first of their cells
 module _ (total : List ℤ → List Element) (start : Standing) (low : ℕ) where
@@ -197,7 +187,7 @@ module _ (total : List ℤ → List Element) (start : Standing) (low : ℕ) wher
       → Comes further [] said left (Ok p)
   stay {cell = cell} {further = further} {p = p} {said = said} {left = left} le a =
       let below = below_less cell further said le a.below in
-      let stands : At further p said left = record { meets = a.meets; below = below; up = omega (arith, a.up); told = a.told; ran = a.ran } in
+      let stands : At further p said left = record { meets = a.meets; below = below; up = omega arith; told = a.told; ran = a.ran } in
       record { comes = record { said = said; stands = stands; grows = λ m g. g; knows = tt } }
 
   pub forget : {cell : ℕ} {known : List ℕ} {before : List Said} {left : List ℤ → List Element} (r : Read) → Comes cell known before left r
@@ -222,12 +212,11 @@ module _ (total : List ℤ → List Element) (start : Standing) (low : ℕ) wher
     after_line : (q : Standing) (put : Put x p q) → At (x.cell + 1) q (said ++ said_of x p q put ∷ []) left
     after_line q put =
         let s = said_of x p q put in
-        let inside : x.cell < length p.numbers = omega (arith, a.told.long) in
         record {
           meets = λ m. meets_more said s (left m) m (total m) (a.meets m);
           below = below_both (x.cell + 1) said (s ∷ []) (below_less x.cell (x.cell + 1) said (omega arith) a.below) (omega arith, tt);
-          up = omega (arith, a.up);
-          told = told_both a.told (told_one x p q put inside) a.up a.below;
+          up = omega arith;
+          told = told_both a.told (told_one x p q put (omega arith)) a.up a.below;
           ran = ran_more start p q said (s ∷ []) a.ran (ran_one p q x put);
         }
 

@@ -4,7 +4,6 @@ pub mod BadLines
 pub mod Meeting
 pub mod SaidLaws
 pub mod Coming
-pub mod DevicesCome
 pub mod Facade
 pub mod Numbers
 pub mod ReadyBack

@@ -39,7 +39,7 @@ line_first (b ∷ line) rest h =
     (line_first line rest h.1)
 
 glyph_feed : (d : ℕ) → (digit_glyph false d == 10) ≡ false
-glyph_feed d = if_holds (λ g. (g == 10) ≡ false) (nat_lt d 10) _ _ (ne_eqb (48 + d) 10 (λ e. omega (arith, e))) (ne_eqb (87 + d) 10 (λ e. omega (arith, e)))
+glyph_feed d = if_holds (λ g. (g == 10) ≡ false) (nat_lt d 10) _ _ (ne_eqb (48 + d) 10 (λ e. omega arith)) (ne_eqb (87 + d) 10 (λ e. omega arith))
 
 onto_feed : (k n : ℕ) (acc : List ℕ) → NoFeed acc → NoFeed (digits_onto k 10 false n acc)
 onto_feed zero n acc h = h
@@ -67,8 +67,7 @@ by_bytes a b e h = rw ((bytes_eq-Decides a b).0 (if_none _ _ e)) h
 
 by_spelled : (cell : Cell) (present : Bool) (text : List ℕ) (o : Option ℤ) → number_spelled text ≡ o → spelled_reason cell present o ≡ None → NoFeed text
 by_spelled cell present text None e f = cc
-by_spelled cell present text (Some z) e f =
-    rw (spelled_holds text z (short cell.kind z (if_none _ _ (or_else_none _ _ f).0)) e) (signed_feed z)
+by_spelled cell present text (Some z) e f = rw (spelled_holds text z (short cell.kind z (if_none _ _ (or_else_none _ _ f).0)) e) (signed_feed z)
 
 by_what : (what : What) (present : Bool) (text : List ℕ) → element_reason what present text ≡ None → NoFeed text
 by_what (Number cell) present text e = by_spelled cell present text (number_spelled text) refl e
@@ -93,8 +92,7 @@ sub_feed name text h g = (refl, (refl, (refl, (refl, feed_append name _ h (refl,
 
 -- a fine line has none
 pub fine_feed : (demand : Demand) (a : List ℕ) → IsClean demand → reason_for demand (Some (a, [])) ≡ None → NoFeed a
-fine_feed (ForMachine name) a h e =
-    by_bytes a (codes "machine " ++ name) e (refl, (refl, (refl, (refl, (refl, (refl, (refl, (refl, h))))))))
+fine_feed (ForMachine name) a h e = by_bytes a (codes "machine " ++ name) e (refl, (refl, (refl, (refl, (refl, (refl, (refl, (refl, h))))))))
 fine_feed (ForSection d) a h e = by_bytes a (section_line d d.desc.version) e (section_feed d.desc.name d.instance d.desc.version h)
 fine_feed (ForSub s) a h e =
     either_of (bytes_eq a (sub_line s (Some s.desc.version))) (bytes_eq a (sub_line s None)) (if_none _ _ e)
@@ -151,14 +149,11 @@ meet [] (x ∷ before) after rest rest' o o' f clean fine fine' e ends =
 meet (t ∷ taken) [] [] rest rest' o o' f clean fine fine' e ends = absurd f
 meet (t ∷ taken) [] (x ∷ after) rest rest' o o' f clean fine fine' e ends =
     let same : reason_for (demand_of x) (Some (t.line, [])) ≡ None = rw (f.0) fine.0 in
-    let feed = fine_feed (demand_of x) t.line clean.0 same in
     let is : rest' ≡ t.line ++ 10 ∷ (text_of (lines_of taken) ++ rest) = sym e ∙ append_assoc t.line (10 ∷ text_of (lines_of taken)) rest in
-    absurd (not_ended o' x after t.line (text_of (lines_of taken) ++ rest) feed same (rw (is) at ends))
+    absurd (not_ended o' x after t.line (text_of (lines_of taken) ++ rest) (fine_feed (demand_of x) t.line clean.0 same) same (rw (is) at ends))
 meet (t ∷ taken) (x ∷ before) after rest rest' o o' f clean fine fine' e ends =
-    let same : reason_for (demand_of x) (Some (t.line, [])) ≡ None = rw (f.0) fine.0 in
-    let feed = fine_feed (demand_of x) t.line clean.0 same in
     let feed' = fine_feed (demand_of x) (entry_line x) clean.0 (fine_entry x fine'.0) in
-    let both = two_lines t.line (entry_line x) _ _ feed feed'
+    let both = two_lines t.line (entry_line x) _ _ (fine_feed (demand_of x) t.line clean.0 (rw (f.0) fine.0)) feed'
     (sym (append_assoc t.line (10 ∷ text_of (lines_of taken)) rest) ∙ e ∙ append_assoc (entry_line x) (10 ∷ text_of (map entry_line before)) rest') in
     let more = meet taken before after rest rest' o o' (f.1 (sym both.0)) clean.1 fine.1 fine'.1 both.1 ends in
     record { long = ap suc more.long; lines = rw (both.0, more.lines) refl; reason = more.reason }
@@ -267,7 +262,7 @@ module _ (set : Set) (structs : (j : ℕ) → AreCleanFields (get_or set.structs
 -- ---- No name of a well-formed set has a line feed.
 
 name_byte : (b : ℕ) → is_name_byte b ≡ true → (b == 10) ≡ false
-name_byte b e = ne_eqb b 10 (λ same. let h = name_byte_high b e in omega (arith, h, same))
+name_byte b e = ne_eqb b 10 (λ same. let h = name_byte_high b e in omega arith)
 
 name_bytes : (name : List ℕ) → list_all is_name_byte name ≡ true → NoFeed name
 name_bytes [] e = tt

@@ -16,8 +16,7 @@ use Rattle.vms_values_laws.proofs.SaidLaws.{meets_all, ran_none, Told, told_none
 -- what may be somewhere doesn't depend on the state
 pub reason_same : (e : Entry) (o : Option (List ℕ × List ℕ)) → wanted_reason e o ≡ reason_for (demand_of e) o
 reason_same (OfMachine name) o = refl
-reason_same _ None = refl
-reason_same _ (Some (line, rest)) = refl
+reason_same _ _ = refl
 
 pub follows_then : (taken more : List Taken) (P Q : List Entry → Type 0) (es : List Entry) → Follows taken P es
     → ((xs : List Entry) → P xs → Follows more Q xs) → Follows (taken ++ more) Q es
@@ -99,7 +98,7 @@ fine_taken (s ∷ said) f = (f.0, fine_taken said f.1)
 ran_moved : (p q : Standing) (said : List Said) → Ran p said q → Moved p.line p.rest (all_taken said) q.line q.rest
 ran_moved p q said r =
     record {
-      further = omega (arith, r.line, length-map said (λ (s : Said). taken_of s));
+      further = omega (arith, length-map said (λ (s : Said). taken_of s));
       texts = rw (map-map (λ (t : Taken). t.line) (λ (s : Said). taken_of s) said) r.rest;
       fine = fine_taken said r.fine;
     }
@@ -146,8 +145,7 @@ module _ {set : Set} {d : Desc} {at : ℕ} {p q : Standing} (n : NumbersRead set
 
   line_on : (numbers : List ℤ) → Agrees n.said numbers → q.line ≡ p.line + length (printed (elements_in set d d.version numbers at))
   line_on numbers agrees =
-      let heard = ap length (n.heard numbers agrees) ∙ length-map n.said (λ (s : Said). s.element) in
-      omega (arith, n.moved.further, length-map n.said (λ (s : Said). taken_of s), heard)
+      omega (arith, ap length (n.heard numbers agrees) ∙ length-map n.said (λ (s : Said). s.element), length-map n.said (λ (s : Said). taken_of s))
 
   -- the lines of subsections after them
   pub lines_on : (numbers : List ℤ) (es : List Entry) → Agrees n.said numbers

@@ -54,9 +54,8 @@ module _ (set : Set) (d : Device) (image : Image) (short_all : AreShort image.nu
   came_below : (at : ℕ) (subs : List Sub) (came : List (Option ℕ)) (k : ℕ) → k < at → has_cell (came_slots set d n at subs came) k ≡ false
   came_below at (s ∷ subs) (None ∷ came) k lt = came_below (at + length (desc_cells (struct_cells set) s.desc)) subs came k (omega arith)
   came_below at (s ∷ subs) (Some v ∷ came) k lt =
-      let next = at + length (desc_cells (struct_cells set) s.desc) in
       none_joined k (sub_slots set s v n at) _ ((desc_part set n short_all s.desc v at).outside k (λ low. omega arith)).1
-      (came_below next subs came k (omega arith))
+      (came_below (at + length (desc_cells (struct_cells set) s.desc)) subs came k (omega arith))
   came_below at _ _ k lt = refl
 
   -- what the lines of subsections are
@@ -84,14 +83,13 @@ module _ (set : Set) (d : Device) (image : Image) (short_all : AreShort image.nu
         → RulesHold (sub_slots set s v n at) → SubsSay (suc j) next subs came → SubsSay j at (s ∷ subs) (Some v ∷ came)
     it_came v same needed right rules later =
         let its = desc_part set n short_all s.desc s.desc.version at in
-        let mine : AreRight n at own (sub_slots set s s.desc.version n at) = rw (same) at right in
         let holds : sub_holds set s (Some v) n at ≡ true = desc_rules set s.desc v n at ∙ are_rules (sub_slots set s v n at) rules in
         record {
           long = ap suc later.long;
           versions = (same, later.versions);
           fine = (
             rw (same, (bytes_eq-Decides (sub_line s (Some s.desc.version)) (sub_line s (Some s.desc.version))).1 refl) refl,
-            fine_then numbers others (its.right mine) later.fine,
+            fine_then numbers others (its.right (rw (same) at right)) later.fine,
           );
           good = (rw (holds, needed) refl, all_both _ numbers others (numbers_good set n _) later.good);
           unsaid = λ k e. let p = or_parts (has_line numbers k) (has_line others k) (sym (lines_both numbers others k) ∙ e) in
@@ -106,10 +104,7 @@ module _ (set : Set) (d : Device) (image : Image) (short_all : AreShort image.nu
         record {
           long = ap suc later.long;
           versions = (tt, later.versions);
-          fine = (
-            or_none _ _ ((bytes_eq-Decides (sub_line s None) (sub_line s None)).1 refl),
-            fine_then numbers others (its.right mine) later.fine,
-          );
+          fine = (or_none _ _ ((bytes_eq-Decides (sub_line s None) (sub_line s None)).1 refl), fine_then numbers others (its.right mine) later.fine);
           good = (rw (needed, have) refl, all_both _ numbers others (numbers_good set n _) later.good);
           unsaid = λ k e. later.unsaid k (or_parts (has_line numbers k) (has_line others k) (sym (lines_both numbers others k) ∙ e)).1;
         }
@@ -155,7 +150,7 @@ module _ (set : Set) (d : Device) (image : Image) (short_all : AreShort image.nu
         right = λ c k lt e. let same : k ≡ c = omega arith in
             record {
               fits = rw same (ready.normal.cells.fits c lt);
-              absent = λ h. ready.normal.absent k (omega (arith, ready.normal.cells.long)) h ∙ ap
+              absent = λ h. ready.normal.absent k (omega arith) h ∙ ap
                   (λ (i : ℕ). (get_or (device_cells set d) i no_cell).default) same;
             };
       } in
@@ -163,7 +158,6 @@ module _ (set : Set) (d : Device) (image : Image) (short_all : AreShort image.nu
       let r = right_parts n 0 (own_cells set d) own (sub_cells set d.subs) mine later start (λ k lt. came_below (own_cells set d) d.subs image.came k lt)
       (λ k le. ((desc_part set n short_all d.desc image.version 0).outside k (λ low. omega arith)).1) all in
       let subs : SubsSay 0 (own_cells set d) d.subs image.came = subs_say 0 (own_cells set d) d.subs image.came ready.needed r.1 rules.1 in
-      let at_version : AreRight n 0 own (own_slots set d d.desc.version n) = rw (ready.version) at r.0 in
       record {
         shaped = record { version = ready.version; subs = subs.long; versions = subs.versions; cells = ready.normal.cells.long; short = are_short n short_all };
         unsaid = λ c lt e. ready.normal.absent c lt
@@ -171,7 +165,7 @@ module _ (set : Set) (d : Device) (image : Image) (short_all : AreShort image.nu
             none_joined c mine later (rw (ready.version) ((desc_part set n short_all d.desc d.desc.version 0).unsaid c p.0)) (subs.unsaid c p.1));
         fine = (
           bytes_same (section_line d image.version) (section_line d d.desc.version) (ap (λ (v : ℕ). section_line d v) ready.version),
-          fine_then numbers others ((desc_part set n short_all d.desc d.desc.version 0).right at_version) subs.fine,
+          fine_then numbers others ((desc_part set n short_all d.desc d.desc.version 0).right (rw (ready.version) at r.0)) subs.fine,
         );
         good = (rw (desc_rules set d.desc image.version n 0 ∙ are_rules mine rules.0) refl, all_both _ numbers others (numbers_good set n _) subs.good);
       }
@@ -180,8 +174,7 @@ module _ (set : Set) (d : Device) (image : Image) (short_all : AreShort image.nu
 ready_short : (set : Set) (d : Device) (image : Image) → IsReady set d image → AreShort image.numbers
 ready_short set d image ready = short_within image.numbers (λ c lt.
     let cell = get_or (device_cells set d) c no_cell in
-    let f = ready.normal.cells.fits c (omega (arith, ready.normal.cells.long)) in
-    short cell.kind (get_or image.numbers c (pos 0)) (ranged cell.kind (get_or image.numbers c (pos 0)) f.0))
+    short cell.kind (get_or image.numbers c (pos 0)) (ranged cell.kind (get_or image.numbers c (pos 0)) (ready.normal.cells.fits c (omega arith)).0))
 
 record AllSay (set : Set) (devices : List Device) (images : List Image) : Type 0 where
   shaped : AreShaped set devices images
@@ -195,14 +188,14 @@ all_say set [] [] long ready = record { shaped = tt; unsaid = tt; fine = tt; goo
 all_say set (d ∷ devices) (image ∷ images) long ready =
     let here = ready 0 d image refl refl in
     let mine = device_says set d image (ready_short set d image here) here in
-    let others = all_say set devices images (omega (arith, long)) (λ k e i a b. ready (suc k) e i a b) in
+    let others = all_say set devices images (omega arith) (λ k e i a b. ready (suc k) e i a b) in
     record {
       shaped = (mine.shaped, others.shaped);
       unsaid = (mine.unsaid, others.unsaid);
       fine = fine_then (device_entries set d image) (devices_entries set devices images) mine.fine others.fine;
       good = all_both _ (device_entries set d image) (devices_entries set devices images) mine.good others.good;
     }
-all_say set _ _ long ready = absurd (omega (arith, long))
+all_say set _ _ long ready = absurd (omega arith)
 
 -- what a text says, and no part of it is bad
 pub record SaysWell (set : Set) (text : List ℕ) (machine : Option (List ℕ)) (images : List Image) : Type 0 where

@@ -130,22 +130,20 @@ module _ (set : Set) (d : Device) (image : Image) (short : AreShort image.number
       let numbers = number_entries set s.desc n at in
       let others = subs_entries set d image (suc j) next subs came in
       let f = fine_both numbers others fine.1 in
-      let g = good_both set numbers others good.1 in
       let b = bare_parts set n short s.desc at next (sub_cells set subs) others refl (λ k lt. below_subs (suc j) next subs came k lt) bare in
       let p = fit_parts own (sub_cells set subs) defaults in
       by_line s j at subs came o versions.0 ((desc_part set n short s.desc s.desc.version at).said f.0 p.0 b.0) p.0 good.0
-      (subs_ready (suc j) next subs came (omega (arith, long)) versions.1 f.1 g.1 p.1 b.1)
-  subs_ready j at _ _ long versions fine good defaults bare = absurd (omega (arith, long))
+      (subs_ready (suc j) next subs came (omega arith) versions.1 f.1 (good_both set numbers others good.1).1 p.1 b.1)
+  subs_ready j at _ _ long versions fine good defaults bare = absurd (omega arith)
 
   versions_of : (subs : List Sub) (came : List (Option ℕ)) → length came ≡ length subs → AreAtVersions subs came
       → ((j : ℕ) (s : Sub) → slice_get subs j ≡ Some s → s.desc.minimum ≤ s.desc.version) → AreVersionsOf subs came
   versions_of [] [] long h low = tt
-  versions_of (s ∷ subs) (None ∷ came) long h low = versions_of subs came (omega (arith, long)) h.1 (λ j t e. low (suc j) t e)
+  versions_of (s ∷ subs) (None ∷ came) long h low = versions_of subs came (omega arith) h.1 (λ j t e. low (suc j) t e)
   versions_of (s ∷ subs) (Some v ∷ came) long h low =
       let l = low 0 s refl in
-      let same : v ≡ s.desc.version = h.0 in
-      ((omega arith, omega arith), versions_of subs came (omega (arith, long)) h.1 (λ j t e. low (suc j) t e))
-  versions_of _ _ long h low = absurd (omega (arith, long))
+      ((omega arith, omega arith), versions_of subs came (omega arith) h.1 (λ j t e. low (suc j) t e))
+  versions_of _ _ long h low = absurd (omega arith)
 
   pub device_ready : IsShaped set d image → AreUnsaid set d image → AreFine (device_entries set d image) → AreGood set (device_entries set d image)
       → DefaultsFit (device_cells set d)
@@ -207,20 +205,12 @@ first_part set line (e ∷ es) b h = go (part_reason set e) refl h (λ g. first_
         after = p.after;
         is = ap (λ (l : List Entry). e ∷ l) p.is;
         good = rw (is, p.good) refl;
-        number = omega (arith, p.number);
+        number = omega arith;
         bad = p.bad;
       }
   go (Some reason) is h more =
       let same : record { line = line; reason = reason } ≡ b = cc in
-      record {
-        before = [];
-        entry = e;
-        after = es;
-        is = refl;
-        good = refl;
-        number = rw (← same) (omega arith);
-        bad = rw (← same) is;
-      }
+      record { before = []; entry = e; after = es; is = refl; good = refl; number = rw (← same) (omega arith); bad = rw (← same) is }
 
 pub bad_part_found : (set : Set) (line : ℕ) (before : List Entry) (entry : Entry) (after : List Entry) (reason : ValuesReason)
     → map (part_reason set) before ≡ map (λ e. None) before

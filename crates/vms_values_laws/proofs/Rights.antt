@@ -46,9 +46,7 @@ reason_fits cell present z h =
 
 pub fits_reason : (cell : Cell) (present : Bool) (z : ℤ) → IsFitting cell present z → number_reason cell present z ≡ None
 fits_reason cell present z f =
-    let e = ranged cell.kind z f.fits.0 in
-    let g = not_exceeds cell.capacities z f.fits.1 in
-    rw (e, g) (here present f.absent) where
+    rw (ranged cell.kind z f.fits.0, (not_exceeds cell.capacities z f.fits.1)) (here present f.absent) where
       here : (p : Bool) → (p ≡ false → z ≡ cell.default) → if_not (p || same_number z cell.default) reasons.Absent ≡ None
       here true h = refl
       here false h = rw (is_same z cell.default (h refl)) refl
@@ -231,17 +229,17 @@ module _ (n : List ℤ) (short : AreShort n) (x : Element) (xs : List Element) (
       → Part n at (lines x.counted) cells mine (same_number (get_or n x.cell (pos 0)) v.cell.default && have_defaults n xs)
   number_part counted = record {
     outside = λ k h.
-        let ne : x.cell ≡ k → ⊥ = λ e. (let g : at + suc (length (cells_of xs)) ≤ k = h (omega (arith, here)) in omega (arith, here)) in
+        let ne : x.cell ≡ k → ⊥ = λ e. (let g : at + suc (length (cells_of xs)) ≤ k = h (omega arith) in omega arith) in
         let later = p.outside k (λ le. let g : at + suc (length (cells_of xs)) ≤ k = h (omega arith) in omega arith) in
         (no_line n x (printed xs) k x.counted ne later.0, no_bytes x v.cell (slots_of xs) k x.present ne later.1);
     unsaid = λ k e. number_unsaid k x.present x.counted counted e;
     said = λ f d b.
         let later = p.said (fine_rest n x xs x.counted f) (λ c lt. d (suc c) (omega arith))
-        (λ c k lt e bare. b (suc c) k (omega arith) (omega arith) (no_line n x (printed xs) k x.counted (λ s. omega (arith, here)) bare)) in
+        (λ c k lt e bare. b (suc c) k (omega arith) (omega arith) (no_line n x (printed xs) k x.counted (λ s. omega arith) bare)) in
         record { right = λ c k lt e. place c k lt e (number_said x.counted f b (d 0 (omega arith))) later };
     right = λ a.
         let mute = λ (k : ℕ) (le : at + 1 ≤ k) (h : has_cell (slots_of xs) k ≡ false).
-        no_bytes x v.cell (slots_of xs) k x.present (λ e. omega (arith, here)) h in
+        no_bytes x v.cell (slots_of xs) k x.present (λ e. omega arith) h in
         let later = p.right (record { right = λ c k lt e. right_by (mute k (omega arith)) (a.right (suc c) k (omega arith) (omega arith)) }) in
         if_holds (λ l. AreFine (of_numbers n l)) x.counted (x ∷ printed xs) (printed xs)
         (number_line_fine (a.right 0 at (omega arith) (omega arith)), later) later;

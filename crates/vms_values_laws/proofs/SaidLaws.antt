@@ -57,12 +57,11 @@ agrees_both (s ∷ said) more n a b = (a.0, agrees_both said more n a.1 b)
 -- a further number
 pub agrees_put : (said : List Said) (cell : ℕ) (n : List ℤ) (z : ℤ) → AreBelow cell said → Agrees said n → Agrees said (slice_set n cell z)
 agrees_put [] cell n z b a = tt
-agrees_put (s ∷ said) cell n z b a =
-    (get_or-set_other n cell s.element.cell z (pos 0) (λ e. omega (arith, b.0)) ∙ a.0, agrees_put said cell n z b.1 a.1)
+agrees_put (s ∷ said) cell n z b a = (get_or-set_other n cell s.element.cell z (pos 0) (λ e. omega arith) ∙ a.0, agrees_put said cell n z b.1 a.1)
 
 pub below_less : (cell further : ℕ) (said : List Said) → cell ≤ further → AreBelow cell said → AreBelow further said
 below_less cell further [] le b = tt
-below_less cell further (s ∷ said) le b = let lt = b.0 in (omega arith, below_less cell further said le b.1)
+below_less cell further (s ∷ said) le b = (omega arith, below_less cell further said le b.1)
 
 pub below_both : (cell : ℕ) (said more : List Said) → AreBelow cell said → AreBelow cell more → AreBelow cell (said ++ more)
 below_both cell [] more a b = b
@@ -74,7 +73,7 @@ from_both cell (s ∷ said) more a b = (a.0, from_both cell said more a.1 b)
 
 pub from_less : (cell further : ℕ) (said : List Said) → cell ≤ further → AreFrom further said → AreFrom cell said
 from_less cell further [] le b = tt
-from_less cell further (s ∷ said) le b = let lt = b.0 in (omega arith, from_less cell further said le b.1)
+from_less cell further (s ∷ said) le b = (omega arith, from_less cell further said le b.1)
 
 -- what is said of cells above leaves what was said below
 pub agrees_kept : (said more : List Said) (cell : ℕ) (n : List ℤ) → AreBelow cell said → AreFrom cell more → Agrees said n → Agrees said (put_all n more)
@@ -96,7 +95,7 @@ ran_none p = record { line = omega arith; rest = refl; numbers = refl; fine = tt
 pub ran_more : (p q r : Standing) (said more : List Said) → Ran p said q → Ran q more r → Ran p (said ++ more) r
 ran_more p q r said more f g =
     record {
-      line = omega (arith, f.line, g.line, length-append said more);
+      line = omega (arith, length-append said more);
       rest = f.rest ∙ rw (g.rest, map-append said_line said more, text_append (map said_line said) (map said_line more))
           (sym (append_assoc (text_of (map said_line said)) _ r.rest));
       numbers = rw (g.numbers, f.numbers) (sym (put_more p.numbers said more));

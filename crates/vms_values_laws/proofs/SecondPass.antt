@@ -95,8 +95,7 @@ module _ (set : Set) where
       → or_bad (if_bad (not a) line reasons.Invalid) (or_bad (if_bad (not b) line reasons.Needed) o) ≡ or_bad
       (as_bad line (or_else (if_not a reasons.Invalid) (if_not b reasons.Needed))) o
   one_part true true line o = refl
-  one_part true false line o = refl
-  one_part false b line o = refl
+  one_part _ _ line o = refl
 
   abbrev cells_long : List Sub → ℕ
   cells_long subs = length (flat_map (λ s. desc_cells (struct_cells set) s.desc) subs)
@@ -111,20 +110,18 @@ module _ (set : Set) where
       let others = subs_entries set d image (suc j) (at + size) subs came in
       let xs = printed (elements_in set s.desc s.desc.version image.numbers at) in
       let next = suc line + length xs in
-      let holds = sub_holds set s o image.numbers at in
-      let said = is_said_well set d image j s o at in
       let well = came_well (is_needed set d image s j) o (have_defaults image.numbers (elements_in set s.desc s.desc.version image.numbers at)) in
-      let well_is : said ≡ well =
+      let well_is : (is_said_well set d image j s o at) ≡ well =
       well_same (is_needed set d image s j) o (are_defaults (desc_cells (struct_cells set) s.desc) (drop at image.numbers))
       (have_defaults image.numbers (elements_in set s.desc s.desc.version image.numbers at))
-      (sym (desc_defaults s.desc s.desc.version image.numbers at (omega (arith, long)))) in
+      (sym (desc_defaults s.desc s.desc.version image.numbers at (omega arith))) in
       rw (
         subs_past (suc line) image.numbers xs others,
-        subs_judged d image (suc j) (at + size) subs came next (omega (arith, long)),
+        subs_judged d image (suc j) (at + size) subs came next (omega arith),
         sub_same s o image.numbers at,
         well_is,
         parts_past set (suc line) image.numbers xs others,
-      ) (one_part holds well line (parts_from set next others))
+      ) (one_part (sub_holds set s o image.numbers at) well line (parts_from set next others))
   subs_judged d image j at _ _ line room = refl
 
   -- what was read of a device has the lines of its entries, the first of which is on this line
@@ -149,15 +146,14 @@ module _ (set : Set) where
       let subs = subs_entries set d image 0 (own_cells set d) d.subs image.came in
       let next = suc line + length xs in
       let room : own_cells set d + cells_long d.subs ≤ length image.numbers =
-      omega (arith, long, length-append (desc_cells (struct_cells set) d.desc) (flat_map (λ s. desc_cells (struct_cells set) s.desc) d.subs)) in
-      let holds = rules_hold (elements_in set d.desc image.version image.numbers 0) in
+      omega (arith, length-append (desc_cells (struct_cells set) d.desc) (flat_map (λ s. desc_cells (struct_cells set) s.desc) d.subs)) in
       rw (
         lined.own,
         lined.subs ∙ subs_past (suc line) image.numbers xs subs,
         subs_judged d image 0 (own_cells set d) d.subs image.came next room,
         ← (desc_rules d.desc image.version image.numbers 0),
         parts_past set (suc line) image.numbers xs subs,
-      ) (section_judged holds line (parts_from set next subs))
+      ) (section_judged (rules_hold (elements_in set d.desc image.version image.numbers 0)) line (parts_from set next subs))
 
   pub devices_judged : (line : ℕ) (devices : List Device) (read : List ReadDevice) → AreLined line devices read
       → AreShaped set devices (map (λ (r : ReadDevice). r.image) read)

@@ -27,10 +27,9 @@ module _ (set : Set) (text : List ℕ) (line : ℕ) (reason : ValuesReason) (x :
   against : {machine : Option (List ℕ)} {taken : List Taken} {at : ℕ} {rest : List ℕ} {o : Option ValuesReason} → TakenOf set text machine taken at rest o
       → Same taken x.before o (Some reason)
   against {machine = machine} {taken = taken} {rest = rest} {o = o} t =
-      let same : machine ≡ x.machine = t.named ∙ sym x.named in
       let f : Follows taken (λ es. Ends o rest es) (x.before ++ x.after) =
       subst (λ (es : List Entry). Follows taken (λ es. Ends o rest es) es) x.state
-      (subst (λ (m : Option (List ℕ)). Follows taken (λ es. Ends o rest es) (entries set m x.images)) same (t.follows x.images x.shaped)) in
+      (subst (λ (m : Option (List ℕ)). Follows taken (λ es. Ends o rest es) (entries set m x.images)) (t.named ∙ sym x.named) (t.follows x.images x.shaped)) in
       meet taken x.before x.after rest x.rest o (Some reason) f (rw (x.state) at clean) t.moved.fine x.fine (sym t.moved.texts ∙ x.begins) x.bad
 
   pub bad_back : (v : ValuesRead) → FirstPass set text v → v ≡ Bad line reason
@@ -40,8 +39,7 @@ module _ (set : Set) (text : List ℕ) (line : ℕ) (reason : ValuesReason) (x :
       let reasons : b.reason ≡ reason = (let e = same.reason in cc) in
       let lines : b.line ≡ line = omega (arith, f.took.moved.further, same.long, x.number) in
       rw (← lines, ← reasons) b.is
-  bad_back v (inr n) =
-      let e = (against (taken_all set text v n)).reason in cc
+  bad_back v (inr n) = let e = (against (taken_all set text v n)).reason in cc
 
 -- ---- What a text says, if no line is bad, is what is read of it.
 
@@ -58,12 +56,11 @@ no_name machines d version rest = refl
 
 by_devices : (set : Set) (text : List ℕ) (devices : List Device) (images : List Image) → AreCleanDevices devices
     → text ≡ text_of (map entry_line (devices_entries set devices images)) → machine_named set.machines (first_line text) ≡ None
-by_devices set text [] images clean e = ap (λ (l : List ℕ). machine_named set.machines (first_line l)) e
-by_devices set text (d ∷ devices) [] clean e = ap (λ (l : List ℕ). machine_named set.machines (first_line l)) e
 by_devices set text (d ∷ devices) (image ∷ images) clean e =
     let lines = map entry_line (inside_of set d image ++ devices_entries set devices images) in
     ap (machine_named set.machines) (first_is text (section_line d image.version) lines (section_feed d.desc.name d.instance image.version clean.0.0) e)
     ∙ no_name set.machines d image.version (text_of lines)
+by_devices set text _ _ clean e = ap (λ (l : List ℕ). machine_named set.machines (first_line l)) e
 
 named_by : (set : Set) → WellFormed set → (text : List ℕ) (machine : Option (List ℕ)) (images : List Image) → IsMachineOf set machine
     → text ≡ text_of (map entry_line (entries set machine images)) → machine_named set.machines (first_line text) ≡ machine
@@ -108,18 +105,13 @@ module _ (set : Set) (well : WellFormed set) (text : List ℕ) (machine : Option
     same_images =
         let f = n.first in
         let read = images_of n.all.devices in
-        let same = beside (taken_all set text v n) in
         let m : Match (entries set n.machine read) (entries set n.machine images) =
-        matched f.taken (entries set n.machine read) (entries set n.machine images) (f.follows read f.shaped) f.along
-        (f.follows images says.shaped)
-        (same.lines ∙ ap (λ (m : Option (List ℕ)). map entry_line (entries set m images)) (sym same_machine)) in
-        devices_same set set.devices read images f.shaped says.shaped f.unsaid says.unsaid
-        (same_devices n.machine read images m)
+        matched f.taken (entries set n.machine read) (entries set n.machine images) (f.follows read f.shaped) f.along (f.follows images says.shaped)
+        ((beside (taken_all set text v n)).lines ∙ ap (λ (m : Option (List ℕ)). map entry_line (entries set m images)) (sym same_machine)) in
+        devices_same set set.devices read images f.shaped says.shaped f.unsaid says.unsaid (same_devices n.machine read images m)
 
   pub says_answers : (v : ValuesRead) → FirstPass set text v → v ≡ answer_by machine images (parts_from set 1 (entries set machine images))
-  says_answers v (inl b) =
-      let f = b.first in
-      let e = (beside f.took).reason in cc
+  says_answers v (inl b) = let e = (beside b.first.took).reason in cc
   says_answers v (inr n) = none_answers set text v n ∙ rw (same_machine v n, same_images v n) refl
 
 -- ---- The laws of reading, as they are stated.
@@ -249,7 +241,7 @@ few_printed : (xs : List Element) → length (printed xs) ≤ length (cells_of x
 few_printed [] = omega arith
 few_printed (x ∷ xs) =
     let most = if_holds (λ l. length l ≤ suc (length (printed xs))) x.counted (x ∷ printed xs) (printed xs) (omega arith) (omega arith) in
-    ⊎_elim (λ (v : IsNumberOf x xs). omega (arith, ap length v.lines, ap length v.cells, most, few_printed xs))
+    ⊎_elim (λ (v : IsNumberOf x xs). omega (arith, ap length v.lines, ap length v.cells, few_printed xs))
     (λ (v : IsNoNumber x xs). omega (arith, ap length v.lines, ap length v.cells, few_printed xs)) (view x xs)
 
 few_numbers : (set : Set) (d : Desc) (n : List ℤ) (at : ℕ) → length (number_entries set d n at) ≤ length (desc_cells (struct_cells set) d)
@@ -262,20 +254,19 @@ few_subs : (set : Set) (d : Device) (image : Image) (j at : ℕ) (subs : List Su
 few_subs set d image j at (s ∷ subs) (o ∷ came) =
     let own = desc_cells (struct_cells set) s.desc in
     let entries = length-append (number_entries set s.desc image.numbers at) (subs_entries set d image (suc j) (at + length own) subs came) in
-    let few = few_subs set d image (suc j) (at + length own) subs came in
-    omega (arith, entries, few_numbers set s.desc image.numbers at, few, length-append own (sub_cells set subs))
+    omega (arith, few_subs set d image (suc j) (at + length own) subs came, few_numbers set s.desc image.numbers at, length-append own (sub_cells set subs))
 few_subs set d image j at _ _ = omega arith
 
 few_device : (set : Set) (d : Device) (image : Image) → length (device_entries set d image) ≤ device_lines set d
 few_device set d image =
     let entries = length-append (number_entries set d.desc image.numbers 0) (subs_entries set d image 0 (own_cells set d) d.subs image.came) in
     let few = few_subs set d image 0 (own_cells set d) d.subs image.came in
-    omega (arith, entries, few_numbers set d.desc image.numbers 0, few, length-append (desc_cells (struct_cells set) d.desc) (sub_cells set d.subs))
+    omega (arith, few_numbers set d.desc image.numbers 0, length-append (desc_cells (struct_cells set) d.desc) (sub_cells set d.subs))
 
 few_all : (set : Set) (devices : List Device) (images : List Image) → length (devices_entries set devices images) ≤ sum_by (device_lines set) devices
 few_all set (d ∷ devices) (image ∷ images) =
     let entries = length-append (device_entries set d image) (devices_entries set devices images) in
-    omega (arith, entries, few_device set d image, few_all set devices images, sum_by-cons (device_lines set) d devices)
+    omega (arith, few_device set d image, few_all set devices images, sum_by-cons (device_lines set) d devices)
 few_all set _ _ = omega arith
 
 few_entries : (set : Set) (machine : Option (List ℕ)) (images : List Image) → length (entries set machine images) ≤ most_lines set
@@ -283,9 +274,8 @@ few_entries set None images = omega (arith, few_all set set.devices images)
 few_entries set _ images = omega (arith, few_all set set.devices images)
 
 by_refused : (set : Set) (text : List ℕ) (line : ℕ) (reason : ValuesReason) → Refused set text line reason → line ≤ suc (most_lines set)
-by_refused set text line reason (inl x) = omega (arith, x.number, ap length x.state, length-append x.before x.after, few_entries set x.machine x.images)
-by_refused set text line reason (inr x) =
-    omega (arith, x.number, ap length x.state, length-append x.before (x.entry ∷ x.after), few_entries set x.machine x.images)
+by_refused set text line reason (inl x) = omega (arith, ap length x.state, length-append x.before x.after, few_entries set x.machine x.images)
+by_refused set text line reason (inr x) = omega (arith, ap length x.state, length-append x.before (x.entry ∷ x.after), few_entries set x.machine x.images)
 
 pub line_holds : LineLaw
 line_holds set text line reason fit e = by_refused set text line reason (rw e at (read_holds set text fit))

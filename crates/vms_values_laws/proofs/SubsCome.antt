@@ -134,7 +134,7 @@ module _ (set : Set) (d : Device) where
         } where
           first_sub : (image : Image) (came : List (Option ℕ)) (more : List Entry) → length came ≡ suc (length subs)
               → Begins (ForSub s) (subs_entries set d image j at (s ∷ subs) came ++ more)
-          first_sub image [] more long = absurd (omega (arith, long))
+          first_sub image [] more long = absurd (omega arith)
           first_sub image (o ∷ came) more long = record { first = OfSub d image j s at o; others = _; is = refl; demands = refl }
 
     module _ (came : Option ℕ) (head : SaidSub s (first_line p.rest) came) where
@@ -155,9 +155,9 @@ module _ (set : Set) (d : Device) where
       follows_head : (taken : List Taken) (P : List Entry → Type 0) (image : Image) (others : List (Option ℕ)) (more : List Entry)
           → length others ≡ suc (length subs) → ((others : List (Option ℕ)) → length others ≡ length subs → Follows taken P (behind_head image others more))
           → Follows (taken_head ∷ taken) P (subs_entries set d image j at (s ∷ subs) others ++ more)
-      follows_head taken P image [] more long h = absurd (omega (arith, long))
+      follows_head taken P image [] more long h = absurd (omega arith)
       follows_head taken P image (o ∷ others) more long h =
-          subst (λ (l : List Entry). Follows (taken_head ∷ taken) P l) (sym (entries_are image o others more)) (refl, λ e. h others (omega (arith, long)))
+          subst (λ (l : List Entry). Follows (taken_head ∷ taken) P l) (sym (entries_are image o others more)) (refl, λ e. h others (omega arith))
 
       along_head : (taken : List Taken) (P : List Entry → Type 0) (image : Image) (others : List (Option ℕ)) (more : List Entry)
           → Along taken P (behind_head image others more) → Along (taken_head ∷ taken) P (subs_entries set d image j at (s ∷ subs) (came ∷ others) ++ more)

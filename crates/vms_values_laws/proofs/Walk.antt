@@ -48,8 +48,7 @@ module _ (steps : List (ℕ × ℕ)) (text : List ℕ) (present : Bool) where
   wrapped_none step name p (x ∷ xs) = wrapped_none step name p xs
 
   pub wrapped_dotted : (xs : List Element) → wrapped steps text present (map dotted xs) ≡ wrapped steps (text ++ codes ".") present xs
-  wrapped_dotted xs =
-      printed_map dotted (under steps text present) _ (λ x. rw (append_assoc text (codes ".") x.name) refl) (λ x. refl) xs
+  wrapped_dotted xs = printed_map dotted (under steps text present) _ (λ x. rw (append_assoc text (codes ".") x.name) refl) (λ x. refl) xs
 
 -- ---- Reading the fields of a description, beside its elements.
 
@@ -71,7 +70,7 @@ module _ (steps : List (ℕ × ℕ)) (path : List ℕ) (present : Bool) (f : Fie
       ≡ wrapped (steps ++ (stand.number, e) ∷ []) (path ++ (f.name ++ index_text f.count e)) (present && stand.there) (part at)
       ++ wrapped steps path present (array_elements f stand part step (suc e) k (at + step))
   first_counted e k m at c =
-      rw (wrapped_append steps path present, lt-ltb e stand.count (omega (arith, c)), and-true stand.there, wrapped_behind steps path present) refl
+      rw (wrapped_append steps path present, lt-ltb e stand.count (omega arith), and-true stand.there, wrapped_behind steps path present) refl
 
 dropped : (fields : List Field) (i : ℕ) (f : Field) (fs : List Field) → drop i fields ≡ f ∷ fs → get_or fields i no_field ≡ f
 dropped (g ∷ fields) (suc i) f fs e = dropped fields i f fs e
@@ -100,7 +99,7 @@ known_next : (cs : List (List Cell)) (d : Desc) (base i at : ℕ) (f : Field) (f
 known_next cs d base i at f fs said more is here grows known k j x =
     ⊎_elim (λ (lt : j < i). knows_grows said more _ grows (known j (record { earlier = lt; there = x.there; number = x.number; one = x.one })))
     (λ (ge : i ≤ j).
-    let same : j ≡ i = omega (arith, x.earlier) in
+    let same : j ≡ i = omega arith in
     let this : get_or d.fields j no_field ≡ f = rw same (dropped d.fields i f fs is) in
     rw (same, ← here) (is_known f.count f.item at more (rw this at x.number) (rw this at x.one) k)) (cases_lt j i)
 
@@ -123,9 +122,8 @@ module _ (total : List ℤ → List Element) (start : Standing) (low : ℕ) wher
   module _ (rs : List Reader) (ss : List Shape) (cells : cells_in ss ≡ cells_of rs)
       (reads : (j : ℕ) → ReadsShape (get_or rs j no_reader) (get_or ss j no_shape)) where
     cells_get : (ts : List Reader) (j : ℕ) → (get_or ts j no_reader).cells ≡ get_or (cells_of ts) j []
-    cells_get [] j = refl
-    cells_get (t ∷ ts) zero = refl
     cells_get (t ∷ ts) (suc j) = cells_get ts j
+    cells_get _ _ = refl
 
     item_comes : (f : Field) (item : Item) (caps : List ℕ) (steps : List (ℕ × ℕ)) (path : List ℕ) (present : Bool) (at end : ℕ) (p : Standing)
         → (said : List Said) → (left : List ℤ → List Element) → end ≡ at + item_size (cells_of rs) item → end ≤ length start.numbers
@@ -133,10 +131,8 @@ module _ (total : List ℤ → List Element) (start : Standing) (low : ℕ) wher
         → Came end (single_cell item at) said left (read_item rs f caps path present at item p)
     item_comes f (Num kind) caps steps path present at end p said left e room a =
         let c : Cell = record { kind = kind; capacities = caps; default = f.default } in
-        let is : under steps path present (single at (Number c)) ≡ spot steps path present at c =
-        rw (append-nil steps, append-nil path, and-true present) refl in
         rw e (line_comes total start low steps path present at c p said left (omega arith)
-        (at_left total start low (λ m g. ap (λ (x : Element). x ∷ left m) is) a))
+        (at_left total start low (λ m g. ap (λ (x : Element). x ∷ left m) (rw (append-nil steps, append-nil path, and-true present) refl)) a))
     item_comes f (Struct j) caps steps path present at end p said left e room a =
         (reads j).shape_comes steps (path ++ codes ".") present at end p said left (omega (arith, ap length (cells_get rs j))) room
         (at_left total start low (λ m g. ap (λ (l : List Element). l ++ left m) (wrapped_dotted steps path present ((get_or ss j no_shape).elements m at))) a)
@@ -160,7 +156,7 @@ module _ (total : List ℤ → List Element) (start : Standing) (low : ℕ) wher
       unfolding brackets
       items_comes many e k zero at end p said left c le is room a =
           stay total start low (omega arith)
-          (at_left total start low (λ n g. ap (λ l. l ++ left n) (past_count steps path present f stand (part n) size e k at (omega (arith, c)))) a)
+          (at_left total start low (λ n g. ap (λ l. l ++ left n) (past_count steps path present f stand (part n) size e k at (omega arith))) a)
       items_comes many e zero (suc m) at end p said left c le is room a = absurd (omega arith)
       items_comes many e (suc k) (suc m) at end p said left c le is room a =
           let b = present && stand.there in
@@ -168,14 +164,13 @@ module _ (total : List ℤ → List Element) (start : Standing) (low : ℕ) wher
           let name : path ++ (f.name ++ index_text f.count e) ≡ element =
           ap (λ l. path ++ (f.name ++ l)) (many e) ∙ sym (append_assoc path f.name (brackets e)) ∙ element_path (path ++ f.name) e in
           let later : List ℤ → List Element = λ n. parts (suc e) k (at + size) n ++ left n in
-          let is' : end ≡ (at + size) + k * size = grind arith in
           then_comes total start low (read_item rs f caps element b at f.item p) _
           (forget total start low (read_item rs f caps element b at f.item p)
           (item_comes f f.item caps (steps ++ (stand.number, e) ∷ []) element b at (at + size) p said later refl (omega arith)
           (at_left total start low (λ n g. ap (λ (l : List Element). l ++ left n) (first_counted steps path present f stand (part n) size e k m at c)
           ∙ append_assoc (wrapped (steps ++ (stand.number, e) ∷ []) (path ++ (f.name ++ index_text f.count e)) b (part n at)) _ (left n)
           ∙ ap (λ (l : List ℕ). wrapped (steps ++ (stand.number, e) ∷ []) l b (part n at) ++ later n) name) a)))
-          (λ q done a' grows known. items_comes many (suc e) k m (at + size) end q done left (omega (arith, c)) (omega arith) is' room a')
+          (λ q done a' grows known. items_comes many (suc e) k m (at + size) end q done left (omega arith) (omega arith) (grind arith) room a')
 
       -- a single element
       one_comes : ((e : ℕ) → index_text f.count e ≡ []) → (at end : ℕ) (p : Standing) (said : List Said) (left : List ℤ → List Element)
@@ -185,7 +180,7 @@ module _ (total : List ℤ → List Element) (start : Standing) (low : ℕ) wher
           let b = present && stand.there in
           item_comes f f.item caps (steps ++ (stand.number, 0) ∷ []) (path ++ f.name) b at end p said left is room
           (at_left total start low (λ n g. ap (λ (l : List Element). l ++ left n)
-          (first_counted steps path present f stand (part n) size 0 0 0 at (omega (arith, c))
+          (first_counted steps path present f stand (part n) size 0 0 0 at (omega arith)
           ∙ append-nil _ ∙ ap (λ (l : List ℕ). wrapped (steps ++ (stand.number, 0) ∷ []) (path ++ l) b (part n at))
           (ap (λ l. f.name ++ l) (one 0) ∙ append-nil f.name))) a)
 
@@ -195,11 +190,9 @@ module _ (total : List ℤ → List Element) (start : Standing) (low : ℕ) wher
           → Here at p said (λ n. parts 0 (capacity_of count) at n ++ left n)
           → Came end (known_cell count f.item at) said left (read_array rs f caps (path ++ f.name) (present && stand.there) at count own p)
       unfolding brackets
-      array_comes own One is c at end p said left e room a =
-          let e' : end ≡ at + size = grind arith in
-          one_comes (λ e. ap (λ (c : Count). index_text c e) is) at end p said left c e' room a
+      array_comes own One is c at end p said left e room a = one_comes (λ e. ap (λ (c : Count). index_text c e) is) at end p said left c (grind arith) room a
       array_comes own (Fixed n) is c at end p said left e room a =
-          items_comes (λ e. ap (λ (c : Count). index_text c e) is) 0 n n at end p said left (omega (arith, c)) (omega arith) e room a
+          items_comes (λ e. ap (λ (c : Count). index_text c e) is) 0 n n at end p said left (omega arith) (omega arith) e room a
       array_comes own (Counted by most) is c at end p said left e room a =
           items_comes (λ e. ap (λ (c : Count). index_text c e) is) 0 most _ at end p said left (c ∙ omega arith) (elements_fit (Counted by most) own) e room a
 
@@ -226,9 +219,8 @@ module _ (total : List ℤ → List Element) (start : Standing) (low : ℕ) wher
           let settled : (m : List ℤ) → Agrees said m → (j : ℕ) → IsEarlier d.fields i j → own m j ≡ old j = λ m g j x.
           ap (λ (z : ℤ). residue (width (kind_of (get_or d.fields j no_field).item)) z) ((known j x).known m p.numbers g a.agrees) in
           let same : (m : List ℤ) → Agrees said m → stand_of i f v (own m) ≡ stand = λ m g.
-          let count = elements_same d.fields i old (own m) (settled m g) f.count sound.count in
           let there = there_same d.fields i v f.since old (own m) (settled m g) f.test sound.test in
-          rw (count, there) refl in
+          rw (elements_same d.fields i old (own m) (settled m g) f.count sound.count, there) refl in
           array_comes f stand caps steps path present old f.count refl refl at end p said left (omega (arith, field_size (cells_of rs) d.fields i f)) room
           (at_left total start low (λ m g. ap (λ (cs : List (List Cell)). lines (elements (stand_of i f v (own m)) cs m) ++ left m) cells
           ∙ ap (λ (s : Stand). lines (elements s (cells_of rs) m) ++ left m) (same m g)) a)
@@ -245,13 +237,12 @@ module _ (total : List ℤ → List Element) (start : Standing) (low : ℕ) wher
           let next = at + length (field_cells cs d.fields i f) in
           let first : List ℤ → List Element = λ m. field_elements ss d.fields v (own m) m i at f in
           let rest : List ℤ → ℕ → List Element = λ m k. elements_from ss d.fields v (own m) m (suc i) (at + k) fs in
-          let later : List ℤ → List Element = λ m. lines (elements_from ss d.fields v (own m) m (suc i) next fs) ++ left m in
           let e' : end ≡ next + length (cells_from cs d.fields (suc i) fs) =
           omega (arith, length-append (field_cells cs d.fields i f) (cells_from cs d.fields (suc i) fs)) in
           let there : next ≡ place_of cs d.fields 0 base d.fields (suc i) =
           omega (arith, place_next cs d.fields 0 base d.fields i f fs is, ap (λ (k : ℕ). length (field_cells cs d.fields k f)) (zero_plus i)) in
           then_comes total start low (read_field rs d v path present base i at f p) _
-          (field_comes i at next f p said later sound.0 known refl (omega arith)
+          (field_comes i at next f p said (λ m. lines (elements_from ss d.fields v (own m) m (suc i) next fs) ++ left m) sound.0 known refl (omega arith)
           (at_left total start low (λ m g. ap (λ (l : List Element). l ++ left m) (wrapped_append steps path present (first m) _)
           ∙ ap (λ (cs : List (List Cell)). (lines (first m) ++ lines (rest m (length (field_cells cs d.fields i f)))) ++ left m) cells
           ∙ append_assoc (lines (first m)) _ (left m)) a))
@@ -268,8 +259,7 @@ module _ (total : List ℤ → List Element) (start : Standing) (low : ℕ) wher
           let fields : List ℤ → List Element = λ m. elements_from ss d.fields v (own m) m 0 base d.fields in
           let last : List (List Cell) → List ℤ → List Element =
           λ cs m. single (base + length (desc_cells cs d)) (Rule (all_hold d.validate v (numbers_of cs d m base))) ∷ [] in
-          fields_comes 0 base end d.fields p said left sound.fields (sym (place_first cs d.fields 0 base d.fields)) refl
-          (λ j x. let lt = x.earlier in absurd (omega arith)) e room
+          fields_comes 0 base end d.fields p said left sound.fields (sym (place_first cs d.fields 0 base d.fields)) refl (λ j x. absurd (omega arith)) e room
           (at_left total start low
           (λ m g. ap (λ (cs : List (List Cell)). lines (elements_from ss d.fields v (numbers_of cs d m base) m 0 base d.fields ++ last cs m) ++ left m) cells
           ∙ ap (λ (l : List Element). l ++ left m) (wrapped_append steps path present (fields m) (last cs m) ∙ append-nil (lines (fields m)))) a)
@@ -303,4 +293,4 @@ module _ (total : List ℤ → List Element) (start : Standing) (low : ℕ) wher
       let same : length (desc_cells (struct_cells set) d) ≡ length (desc_cells (cells_of (readers set)) d) =
       ap (λ (cs : List (List Cell)). length (desc_cells cs d)) (sym (readers_cells set.structs k)) in
       desc_comes (readers set) (shapes set) (same_cells set.structs k)
-      (all_read set.structs structs k (omega arith)) d d.version [] [] true at _ p said left sound (omega (arith, same)) room a
+      (all_read set.structs structs k (omega arith)) d d.version [] [] true at _ p said left sound (omega arith) room a
