@@ -135,8 +135,7 @@ start_whole unit rest long =
     let name : bytes_at k 6 unit ≡ drop 6 unit = take_all k (drop 6 unit) (omega (arith, length-drop 6 unit)) in
     let bad : ℕ → List ℕ → Seen = λ i l. Bad (6 + i) (start_reason l) in
     seen_whole (IsBetween true false) nothing_known (6 + get_or all 5 0) all (Start (number_at 4 1 all) (bytes_at (get_or all 5 0) 6 all))
-    (omega (arith, length-append unit rest))
-    ∙ start_by (number_at 4 1 all) (bytes_at (get_or all 5 0) 6 all) (6 + get_or all 5 0)
+    (omega (arith, length-append unit rest)) ∙ start_by (number_at 4 1 all) (bytes_at (get_or all 5 0) 6 all) (6 + get_or all 5 0)
     ∙ ap (λ i. bad i (bytes_at i 6 all)) n ∙ ap (bad k) (bytes_of_unit k 6 unit rest (omega arith) ∙ name)
 
 -- ---- configurations and descriptions: a mark, a length, and that many bytes

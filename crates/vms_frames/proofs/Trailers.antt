@@ -48,8 +48,7 @@ pub trailer_on : {a b c : Intake} (at : ℕ) (r : Result ℕ FrameFault) → Tak
 trailer_on at (Ok n) p h =
     let w =
     reads_behind {M = IsLong {X = Unit {0}} (λ _. (at + n) - at) LONGEST_DESCRIPTION (Ok tt)} {Q = λ rest left. ReadsEnd at (at + n) (Some rest)
-    (Some left) (Ok tt)} (λ k l. omega arith)
-    (λ rest left q. rw q.0 (refl, q.1)) p h in
+    (Some left) (Ok tt)} (λ k l. omega arith) (λ rest left q. rw q.0 (refl, q.1)) p h in
     reads_last w
 trailer_on at (Err (Refused place reason)) p h = reads_behind (λ k l. l) (λ rest left q. q) p h
 trailer_on at (Err ReadFault) p h = reads_behind (λ k l. l) (λ rest left q. tt) p h

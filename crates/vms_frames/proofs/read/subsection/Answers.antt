@@ -25,8 +25,7 @@ returns g c =
     let same : head ≡ sub_head_in unit = c.of.ensures ∙ ap sub_head_in c.deref-2.ensures.0 in
     unit_on a_sub c.args.at (Ok head) one
     (unit_on a_sub c.args.at (Ok head) two
-    (unit_whole a_sub unit c.args.at head (g.met.S.Source.counted c.grow-2.new.source)
-    (sub_whole_long unit long ∙ ap sub_long (sym same))
+    (unit_whole a_sub unit c.args.at head (g.met.S.Source.counted c.grow-2.new.source) (sub_whole_long unit long ∙ ap sub_long (sym same))
     (λ rest. sub_whole unit rest long ∙ ap (λ h. Good (ASub h.name.items h.version) (sub_long h)) (sym same))))
 
 pub returns-in_err-grow : goal.returns-in_err-grow
