@@ -1,10 +1,10 @@
 -- What calls leave unchanged in a counter.
-use Rattle.dev_pit.proofs.Facade.{◌≡◌, ℕ, ◌+◌, ◌-◌, ◌<◌, ◌≤◌, ◌==◌, Bool, true, false, ◌&&◌, Option, Some, None, refl, arith, subst, ⊎_elim, nat_tests, nat_le}
+use Rattle.dev_pit.proofs.Facade.{◌≡◌, ℕ, ◌+◌, ◌-◌, ◌<◌, ◌≤◌, ◌==◌, Bool, true, false, ◌&&◌, Option, Some, None, refl, arith, ⊎_elim, nat_tests, nat_le}
 use Rattle.dev_pit.proofs.Facade.{is_some, cases_Bool, reads, writes, called, programs, sets_mode_of, loads, completes, control_word, out_at, ticks, out_of}
-use Rattle.dev_pit.proofs.Facade.{out_since, written, written_by, written_low_first, read_of, latched, GoesOn, CountingGoesOn, TerminalCountStays, counter_of}
-use Rattle.dev_pit.proofs.Facade.{pit_read, pit_out, asked_back, controlled, pit_written, ControlWord, LatchCount, SetMode, ReadBack, Counter, READ_BACK_LEVEL}
-use Rattle.dev_pit.proofs.Facade.{Access, LowByte, HighByte, LowThenHigh, TerminalCount, Pit, either}
-use Rattle.dev_pit.proofs.Chips.{at_counter}
+use Rattle.dev_pit.proofs.Facade.{out_since, written, read_back, written_by, written_low_first, read_of, latched, GoesOn, CountingGoesOn, TerminalCountStays}
+use Rattle.dev_pit.proofs.Facade.{counter_of, pit_read, pit_out, asked_back, controlled, pit_written, ControlWord, LatchCount, SetMode, ReadBack, Counter}
+use Rattle.dev_pit.proofs.Facade.{READ_BACK_LEVEL, Access, LowByte, HighByte, LowThenHigh, TerminalCount, Pit, either}
+use Rattle.dev_pit.proofs.Chips.{at_counter, at_step}
 use Rattle.dev_pit.proofs.CounterSteps.{same, goes-on, latched-goes_on, read_back-goes_on, read-goes_on}
 use Rattle.dev_pit.proofs.Edges.{ticks-mono}
 
@@ -12,17 +12,14 @@ asked-go_on : (count status : Bool) (j k now : ℕ) (before : Counter) (pit : Pi
     → GoesOn before (counter_of k (asked_back count status j now pit))
 unfolding asked_back
 asked-go_on count status j k now before pit g =
-    at_counter (GoesOn before) k j _ pit
-    (λ here. goes-on before (counter_of j pit) _ (subst (λ (i : ℕ). GoesOn before (counter_of i pit)) here g) (read_back-goes_on _ _ now (counter_of j pit))) g
+    at_step (GoesOn before) k j (read_back count status now) pit (λ here. goes-on before _ _ g (read_back-goes_on _ _ now (counter_of k pit))) g
 
 -- A control word that doesn't set the mode of counter k leaves it counting.
 control-goes_on : (word : ControlWord) (k now : ℕ) (pit : Pit) → sets_mode_of k word ≡ false
     → GoesOn (counter_of k pit) (counter_of k (controlled word now pit))
 unfolding controlled
 control-goes_on (LatchCount j) k now pit e =
-    at_counter (GoesOn (counter_of k pit)) k j _ pit
-    (λ here. subst (λ (i : ℕ). GoesOn (counter_of k pit) (latched now (counter_of i pit))) here (latched-goes_on now (counter_of k pit)))
-    (same (counter_of k pit))
+    at_step (GoesOn (counter_of k pit)) k j (latched now) pit (λ here. latched-goes_on now (counter_of k pit)) (same (counter_of k pit))
 control-goes_on (SetMode j access mode bcd) k now pit e =
     at_counter (GoesOn (counter_of k pit)) k j _ pit (λ here. absurd (grind (arith, nat_tests))) (same (counter_of k pit))
 control-goes_on (ReadBack count status first second third) k now pit e =
@@ -36,9 +33,8 @@ first-goes_on None value now counter e = record { count = refl; mode = refl; loa
 first-goes_on (Some low) value now counter e = cc
 
 by-goes_on : (access : Access) (value now : ℕ) (counter : Counter) → completes access counter ≡ false → GoesOn counter (written_by access value now counter)
-by-goes_on LowByte value now counter e = cc
-by-goes_on HighByte value now counter e = cc
 by-goes_on LowThenHigh value now counter e = first-goes_on counter.held_low value now counter e
+by-goes_on _ value now counter e = cc
 
 written-goes_on : (value now : ℕ) (counter : Counter) → completes counter.access counter ≡ false → GoesOn counter (written value now counter)
 unfolding written
@@ -50,21 +46,15 @@ completing port k b low here e = let l : port ≡ 0x40 + k = omega arith in let 
 write-goes_on : (k now port value : ℕ) (pit : Pit) → k < 3 → (0x40 ≤ port) × (port ≤ 0x43) × (value < 256) → ((port == 0x43) && sets_mode_of k (control_word value)) ≡ false → ((port == 0x40 + k) && completes (counter_of k pit).access (counter_of k pit)) ≡ false → GoesOn (counter_of k pit) (counter_of k (pit_written port value now pit))
 unfolding pit_written
 write-goes_on k now port value pit h c programs loads =
-    ⊎_elim (λ control. let unset : sets_mode_of k (control_word value) ≡ false = rw control at programs in
-    rw control (control-goes_on (control_word value) k now pit unset))
-    (λ data_port. let j : ℕ = port - 0x40 in
-    rw data_port (at_counter (GoesOn (counter_of k pit)) k j _ pit
-    (λ here. subst (λ (i : ℕ). GoesOn (counter_of k pit) (written value now (counter_of i pit))) here
-    (written-goes_on value now (counter_of k pit) (completing port k _ c.0 here loads)))
-    (same (counter_of k pit))))
+    ⊎_elim (λ control. rw control (control-goes_on (control_word value) k now pit (rw control at programs)))
+    (λ data_port. rw data_port (at_step (GoesOn (counter_of k pit)) k (port - 0x40) (written value now) pit
+    (λ here. written-goes_on value now (counter_of k pit) (completing port k _ c.0 here loads)) (same (counter_of k pit))))
     (cases_Bool (port == 0x43))
 
 pub counting_goes_on : CountingGoesOn
 unfolding called programs loads pit_read
 counting_goes_on k now (reads j) pit h c p l =
-    at_counter (GoesOn (counter_of k pit)) k j _ pit
-    (λ here. subst (λ (i : ℕ). GoesOn (counter_of k pit) (read_of now (counter_of i pit)).1) here (read-goes_on now (counter_of k pit)))
-    (same (counter_of k pit))
+    at_step (GoesOn (counter_of k pit)) k j (λ c. (read_of now c).1) pit (λ here. read-goes_on now (counter_of k pit)) (same (counter_of k pit))
 counting_goes_on k now (writes port value) pit h c p l = write-goes_on k now port value pit h (c.0.0, c.0.1, c.1) p l
 
 -- OUT after terminal count

@@ -28,11 +28,10 @@ record Goes (before : Counter) (answer : ℕ × Counter) : Type 0 where
   after : GoesOn before answer.1
 
 counted_by-goes_on : (access : Access) (count : ℕ) (counter : Counter) → Goes counter (counted_by access count counter)
-counted_by-goes_on LowByte count counter = record { after = record { count = refl; mode = refl; loaded_at = refl } }
-counted_by-goes_on HighByte count counter = record { after = record { count = refl; mode = refl; loaded_at = refl } }
 counted_by-goes_on LowThenHigh count counter =
     either (Goes counter) counter.read_high _ _ (record { after = record { count = refl; mode = refl; loaded_at = refl } })
     (record { after = record { count = refl; mode = refl; loaded_at = refl } })
+counted_by-goes_on _ count counter = record { after = record { count = refl; mode = refl; loaded_at = refl } }
 
 read_by-goes_on : (status : Option ℕ) (now : ℕ) (counter : Counter) → Goes counter (read_by status now counter)
 unfolding counted_of

@@ -3,7 +3,7 @@ use Rattle.dev_pit.proofs.Facade.{◌≡◌, ℕ, ◌+◌, ◌-◌, ◌*◌, ◌
 use Rattle.dev_pit.proofs.Facade.{cases_lt, cases_Bool, nat_tests, div-mul-le_self, div-lt_iff_lt-mul, le-div, mod-mul-add, div-add-mod', nat_lt, nat_le, rises}
 use Rattle.dev_pit.proofs.Facade.{out_at, period, high_part, ticks, edge_of, edge_since, EdgeTurnsHigh, Mode, TerminalCount, OneShot, RateGenerator, SquareWave}
 use Rattle.dev_pit.proofs.Facade.{SoftwareStrobe, HardwareStrobe}
-use Rattle.dev_pit.proofs.Edges.{period-pos}
+use Rattle.dev_pit.proofs.Edges.{period-pos, period-two}
 
 -- OUT is low after tick - 1 ticks and high after tick, for some tick of the span
 record Turns (mode : Mode) (count before after : ℕ) : Type 0 where
@@ -22,11 +22,10 @@ record Starts (n before after : ℕ) : Type 0 where
 
 starts : (n before after : ℕ) → 2 ≤ n → before / n < after / n → Starts n before after
 starts n before after h l =
-    let first : 0 < n = omega arith in
     record {
       quotient = after / n;
       positive = omega arith;
-      above = (div-lt_iff_lt-mul first).0 l;
+      above = (div-lt_iff_lt-mul (omega arith)).0 l;
       within = omega (arith, div-mul-le_self after n);
     }
 
@@ -36,11 +35,10 @@ at_first n q h = let first : 0 < n = omega arith in subst (λ (x : ℕ). x % n �
 
 before_first : (n q : ℕ) → 2 ≤ n → 0 < q → (q * n - 1) % n ≡ n - 1
 before_first n q h l =
-    let last : n - 1 < n = omega arith in
     let p : ℕ = q - 1 in
     let e : q ≡ p + 1 = omega arith in
     let same : p * n + (n - 1) ≡ (p + 1) * n - 1 = omega arith in
-    rw e (rw (← same) (mod-mul-add p n (n - 1) last))
+    rw (e, ← same) (mod-mul-add p n (n - 1) (omega arith))
 
 -- If the tick before is the last of a period, the quotient grew.
 grown-from_last : (n before after tick : ℕ) → 2 ≤ n → before < tick → tick ≤ after → (tick - 1) % n ≡ n - 1 → before / n < after / n
@@ -48,22 +46,14 @@ grown-from_last n before after tick h above within last =
     let first : 0 < n = omega arith in
     let q : ℕ = (tick - 1) / n in
     let parts : q * n + (tick - 1) % n ≡ tick - 1 = div-add-mod' (tick - 1) n in
-    let whole : (q + 1) * n ≡ tick = omega (arith, parts, last, above) in
-    let low : before < (q + 1) * n = omega (arith, whole, above) in
-    let high : (q + 1) * n ≤ after = omega (arith, whole, within) in
-    let a : before / n < q + 1 = (div-lt_iff_lt-mul first).1 low in
-    let b : q + 1 ≤ after / n = le-div (q + 1) after n first high in
-    omega (arith, a, b)
+    let whole : (q + 1) * n ≡ tick = omega arith in
+    let a : before / n < q + 1 = (div-lt_iff_lt-mul first).1 (omega arith) in
+    omega (arith, le-div (q + 1) after n first (omega arith))
 
 -- The next position in a period, except at its last tick.
 next_place : (n tick : ℕ) → 0 < tick → (tick - 1) % n + 1 < n → tick % n ≡ (tick - 1) % n + 1
 next_place n tick h l =
-    let parts : (tick - 1) / n * n + (tick - 1) % n ≡ tick - 1 = div-add-mod' (tick - 1) n in
-    let e : tick ≡ (tick - 1) / n * n + ((tick - 1) % n + 1) = omega (arith, parts) in
-    subst (λ (x : ℕ). x % n ≡ (tick - 1) % n + 1) (sym e) (mod-mul-add ((tick - 1) / n) n ((tick - 1) % n + 1) l)
-
-two : (count : ℕ) → (count == 1) ≡ false → 2 ≤ period count
-two count e = grind (arith, nat_tests)
+    subst (λ x. x % n ≡ (tick - 1) % n + 1) (sym (omega (arith, div-add-mod' (tick - 1) n))) (mod-mul-add ((tick - 1) / n) n ((tick - 1) % n + 1) l)
 
 -- A rate generator.
 rate-low : (count k : ℕ) → (count == 1) ≡ false → k % period count ≡ period count - 1 → out_at RateGenerator count k ≡ false
@@ -72,7 +62,7 @@ rate-low count k one e = rw (one, e) (grind (arith, nat_tests))
 
 rate-high : (count k : ℕ) → (count == 1) ≡ false → k % period count ≡ 0 → out_at RateGenerator count k ≡ true
 unfolding out_at
-rate-high count k one e = let h : 2 ≤ period count = two count one in rw (one, e) (grind (arith, nat_tests))
+rate-high count k one e = let h : 2 ≤ period count = period-two count one in rw (one, e) (grind (arith, nat_tests))
 
 rate-last : (count k : ℕ) → (count == 1) ≡ false → out_at RateGenerator count k ≡ false → k % period count ≡ period count - 1
 unfolding out_at
@@ -81,11 +71,11 @@ rate-last count k one e = grind (arith, nat_tests)
 -- A square wave.
 square-low : (count k : ℕ) → (count == 1) ≡ false → k % period count ≡ period count - 1 → out_at SquareWave count k ≡ false
 unfolding out_at
-square-low count k one e = let h : 2 ≤ period count = two count one in rw (one, e) (grind (arith, nat_tests))
+square-low count k one e = let h : 2 ≤ period count = period-two count one in rw (one, e) (grind (arith, nat_tests))
 
 square-high : (count k : ℕ) → (count == 1) ≡ false → k % period count ≡ 0 → out_at SquareWave count k ≡ true
 unfolding out_at
-square-high count k one e = let h : 2 ≤ period count = two count one in rw (one, e) (grind (arith, nat_tests))
+square-high count k one e = let h : 2 ≤ period count = period-two count one in rw (one, e) (grind (arith, nat_tests))
 
 square-above : (count k : ℕ) → (count == 1) ≡ false → out_at SquareWave count k ≡ false → high_part (period count) ≤ k % period count
 unfolding out_at
@@ -99,7 +89,7 @@ square-below count k one e = grind (arith, nat_tests)
 periodic-turns : (mode : Mode) (count before after : ℕ) → (count == 1) ≡ false → ((k : ℕ) → k % period count ≡ period count - 1 → out_at mode count k ≡ false)
     → ((k : ℕ) → k % period count ≡ 0 → out_at mode count k ≡ true) → before / period count < after / period count → Turns mode count before after
 periodic-turns mode count before after one low_last high_first l =
-    let h : 2 ≤ period count = two count one in
+    let h : 2 ≤ period count = period-two count one in
     let s : Starts (period count) before after = starts (period count) before after h l in
     record {
       tick = s.quotient * period count;
@@ -111,27 +101,21 @@ periodic-turns mode count before after one low_last high_first l =
 
 rate-grown : (count before after : ℕ) → (count == 1) ≡ false → Turns RateGenerator count before after → before / period count < after / period count
 rate-grown count before after one t =
-    grown-from_last (period count) before after t.tick (two count one) t.above t.within (rate-last count (t.tick - 1) one t.low)
+    grown-from_last (period count) before after t.tick (period-two count one) t.above t.within (rate-last count (t.tick - 1) one t.low)
 
 square-grown : (count before after : ℕ) → (count == 1) ≡ false → Turns SquareWave count before after → before / period count < after / period count
 square-grown count before after one t =
     let n : ℕ = period count in
-    let h : 2 ≤ n = two count one in
-    let above : before < t.tick = t.above in
-    let some : 0 < t.tick = omega arith in
-    let first : 0 < n = omega arith in
     let low : high_part n ≤ (t.tick - 1) % n = square-above count (t.tick - 1) one t.low in
     let high : t.tick % n < high_part n = square-below count t.tick one t.high in
     let last : (t.tick - 1) % n ≡ n - 1 =
-    ⊎_elim (λ small. let next : t.tick % n ≡ (t.tick - 1) % n + 1 = next_place n t.tick some small in absurd (omega arith))
-    (λ large. omega arith)
-    (cases_lt ((t.tick - 1) % n + 1) n) in
-    grown-from_last n before after t.tick h t.above t.within last
+    ⊎_elim (λ small. absurd (omega (arith, next_place n t.tick (omega arith) small))) (λ large. omega arith) (cases_lt ((t.tick - 1) % n + 1) n) in
+    grown-from_last n before after t.tick (period-two count one) t.above t.within last
 
 -- For a count of 1, OUT is high at each tick.
 no_turns : (mode : Mode) (count before after : ℕ) → ((k : ℕ) → out_at mode count k ≡ true) → Turns mode count before after → ⊥
 no_turns mode count before after high t =
-    let e : out_at mode count (t.tick - 1) ≡ true = high (t.tick - 1) in let l : out_at mode count (t.tick - 1) ≡ false = t.low in cc
+    let e = high (t.tick - 1) in let l = t.low in cc
 
 rate-one : (count k : ℕ) → (count == 1) ≡ true → out_at RateGenerator count k ≡ true
 unfolding out_at
@@ -165,12 +149,7 @@ terminal-turns count before after e =
 
 terminal-rises : (count before after : ℕ) → Turns TerminalCount count before after → (nat_lt before (period count) && nat_le (period count) after) ≡ true
 unfolding out_at
-terminal-rises count before after t =
-    let above : before < t.tick = t.above in
-    let within : t.tick ≤ after = t.within in
-    let low : nat_le (period count) (t.tick - 1) ≡ false = t.low in
-    let high : nat_le (period count) t.tick ≡ true = t.high in
-    grind (arith, nat_tests)
+terminal-rises count before after t = grind (arith, nat_tests)
 
 strobe-turns : (count before after : ℕ) → (nat_lt before (period count + 1) && nat_le (period count + 1) after) ≡ true → Turns SoftwareStrobe count before after
 unfolding out_at
@@ -184,43 +163,28 @@ strobe-turns count before after e = record {
 
 strobe-rises : (count before after : ℕ) → Turns SoftwareStrobe count before after → (nat_lt before (period count + 1) && nat_le (period count + 1) after) ≡ true
 unfolding out_at
-strobe-rises count before after t =
-    let above : before < t.tick = t.above in
-    let within : t.tick ≤ after = t.within in
-    let low : not (t.tick - 1 == period count) ≡ false = t.low in
-    grind (arith, nat_tests)
-
-one_shot-high : (count k : ℕ) → out_at OneShot count k ≡ true
-unfolding out_at
-one_shot-high count k = refl
-
-strobe-high : (count k : ℕ) → out_at HardwareStrobe count k ≡ true
-unfolding out_at
-strobe-high count k = refl
+strobe-rises count before after t = grind (arith, nat_tests)
 
 -- An edge is a turn.
 turns-from_rises : (mode : Mode) (count before after : ℕ) → rises mode count before after ≡ true → Turns mode count before after
 unfolding rises
 turns-from_rises TerminalCount count before after e = terminal-turns count before after e
-turns-from_rises OneShot count before after e = cc
 turns-from_rises RateGenerator count before after e =
     ⊎_elim (λ one. absurd (periodic-not_one count _ _ one e))
-    (λ one. periodic-turns RateGenerator count before after one (λ k h. rate-low count k one h) (λ k h. rate-high count k one h)
-    (grown-periodic count _ _ one e))
+    (λ one. periodic-turns RateGenerator count before after one (λ k. rate-low count k one) (λ k. rate-high count k one) (grown-periodic count _ _ one e))
     (cases_Bool (count == 1))
 turns-from_rises SquareWave count before after e =
     ⊎_elim (λ one. absurd (periodic-not_one count _ _ one e))
-    (λ one. periodic-turns SquareWave count before after one (λ k h. square-low count k one h) (λ k h. square-high count k one h)
-    (grown-periodic count _ _ one e))
+    (λ one. periodic-turns SquareWave count before after one (λ k. square-low count k one) (λ k. square-high count k one) (grown-periodic count _ _ one e))
     (cases_Bool (count == 1))
 turns-from_rises SoftwareStrobe count before after e = strobe-turns count before after e
-turns-from_rises HardwareStrobe count before after e = cc
+turns-from_rises _ count before after e = cc
 
 -- A turn is an edge.
 rises-from_turns : (mode : Mode) (count before after : ℕ) → Turns mode count before after → rises mode count before after ≡ true
-unfolding rises
+unfolding rises out_at
 rises-from_turns TerminalCount count before after t = terminal-rises count before after t
-rises-from_turns OneShot count before after t = absurd (no_turns OneShot count before after (λ k. one_shot-high count k) t)
+rises-from_turns OneShot count before after t = absurd (no_turns OneShot count before after (λ k. refl) t)
 rises-from_turns RateGenerator count before after t =
     ⊎_elim (λ one. absurd (no_turns RateGenerator count before after (λ k. rate-one count k one) t))
     (λ one. periodic-grown count _ _ one (rate-grown count before after one t))
@@ -230,7 +194,7 @@ rises-from_turns SquareWave count before after t =
     (λ one. periodic-grown count _ _ one (square-grown count before after one t))
     (cases_Bool (count == 1))
 rises-from_turns SoftwareStrobe count before after t = strobe-rises count before after t
-rises-from_turns HardwareStrobe count before after t = absurd (no_turns HardwareStrobe count before after (λ k. strobe-high count k) t)
+rises-from_turns HardwareStrobe count before after t = absurd (no_turns HardwareStrobe count before after (λ k. refl) t)
 
 -- The same for a counter and moments.
 since-turns : (load : Option ℕ) (mode : Mode) (count from to : ℕ) → edge_since load mode count from to ≡ true

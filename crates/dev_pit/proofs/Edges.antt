@@ -18,6 +18,9 @@ seconds_have_ticks load seconds = omega arith
 pub period-pos : (count : ℕ) → 0 < period count
 period-pos count = grind (arith, nat_tests)
 
+pub period-two : (count : ℕ) → (count == 1) ≡ false → 2 ≤ period count
+period-two count e = grind (arith, nat_tests)
+
 -- A threshold is passed in one of two parts.
 passed : (n a b c : ℕ) → a ≤ b → b ≤ c → (nat_lt a n && nat_le n c) ≡ ((nat_lt a n && nat_le n b) || (nat_lt b n && nat_le n c))
 passed n a b c h l = grind (arith, nat_tests)
@@ -27,16 +30,16 @@ both true u v w e = e
 both false u v w e = refl
 
 periods : (count a b c : ℕ) → a ≤ b → b ≤ c → (not (count == 1) && nat_lt (a / period count) (c / period count)) ≡ ((not (count == 1) && nat_lt (a / period count) (b / period count)) || (not (count == 1) && nat_lt (b / period count) (c / period count)))
-periods count a b c h l = both (not (count == 1)) _ _ _ (grown (a / period count) (b / period count) (c / period count) (quotient_mono (period count) a b (period-pos count) h) (quotient_mono (period count) b c (period-pos count) l))
+periods count a b c h l =
+    both (not (count == 1)) _ _ _ (grown _ _ _ (quotient_mono (period count) a b (period-pos count) h) (quotient_mono (period count) b c (period-pos count) l))
 
 rises-parts : (mode : Mode) (count a b c : ℕ) → a ≤ b → b ≤ c → rises mode count a c ≡ (rises mode count a b || rises mode count b c)
 unfolding rises
 rises-parts TerminalCount count a b c h l = passed (period count) a b c h l
-rises-parts OneShot count a b c h l = refl
 rises-parts RateGenerator count a b c h l = periods count a b c h l
 rises-parts SquareWave count a b c h l = periods count a b c h l
 rises-parts SoftwareStrobe count a b c h l = passed (period count + 1) a b c h l
-rises-parts HardwareStrobe count a b c h l = refl
+rises-parts _ count a b c h l = refl
 
 since-parts : (load : Option ℕ) (mode : Mode) (count from between to : ℕ) → from ≤ between → between ≤ to
     → edge_since load mode count from to ≡ (edge_since load mode count from between || edge_since load mode count between to)

@@ -1,10 +1,10 @@
 -- A latched count stays until it is read or the counter is programmed.
-use Rattle.dev_pit.proofs.Facade.{◌≡◌, ℕ, ◌-◌, ◌<◌, ◌≤◌, ◌==◌, Bool, true, false, not, ◌&&◌, Option, Some, None, refl, arith, subst, ⊎_elim, nat_tests, nat_le}
+use Rattle.dev_pit.proofs.Facade.{◌≡◌, ℕ, ◌-◌, ◌<◌, ◌≤◌, ◌==◌, Bool, true, false, not, ◌&&◌, Option, Some, None, refl, arith, ⊎_elim, nat_tests, nat_le}
 use Rattle.dev_pit.proofs.Facade.{is_some, cases_Bool, Call, reads, writes, IsCall, called, programs, sets_mode_of, reads_latch, is_last, control_word, loaded}
 use Rattle.dev_pit.proofs.Facade.{written, written_by, written_low_first, read_of, read_by, counted_of, counted_by, latched, status_latched, read_back}
 use Rattle.dev_pit.proofs.Facade.{LatchStays, counter_of, pit_read, asked_back, controlled, pit_written, ControlWord, LatchCount, SetMode, ReadBack, Counter}
 use Rattle.dev_pit.proofs.Facade.{READ_BACK_LEVEL, Access, LowByte, HighByte, LowThenHigh, Pit, either}
-use Rattle.dev_pit.proofs.Chips.{at_counter}
+use Rattle.dev_pit.proofs.Chips.{at_counter, at_step}
 
 -- A counter with this latched count.
 record Holds (held : ℕ) (counter : Counter) : Type 0 where
@@ -36,9 +36,8 @@ first-holds None value held now counter h = record { latch = h.latch }
 first-holds (Some low) value held now counter h = loaded-holds _ held now _ (record { latch = h.latch })
 
 by-holds : (access : Access) (value held now : ℕ) (counter : Counter) → Holds held counter → Holds held (written_by access value now counter)
-by-holds LowByte value held now counter h = loaded-holds _ held now counter h
-by-holds HighByte value held now counter h = loaded-holds _ held now counter h
 by-holds LowThenHigh value held now counter h = first-holds counter.held_low value held now counter h
+by-holds _ value held now counter h = loaded-holds _ held now counter h
 
 written-holds : (value held now : ℕ) (counter : Counter) → Holds held counter → Holds held (written value now counter)
 unfolding written
@@ -47,9 +46,8 @@ written-holds value held now counter h = by-holds counter.access value held now 
 -- A read that returns a status or a first byte keeps it.
 counted_by-holds : (access : Access) (count held : ℕ) (counter : Counter) → is_last access counter ≡ false → Holds held counter
     → Holds held (counted_by access count counter).1
-counted_by-holds LowByte count held counter e h = cc
-counted_by-holds HighByte count held counter e h = cc
 counted_by-holds LowThenHigh count held counter e h = rw e (record { latch = h.latch })
+counted_by-holds _ count held counter e h = cc
 
 read_by-holds : (status : Option ℕ) (held now : ℕ) (counter : Counter) → (not (is_some status) && is_last counter.access counter) ≡ false → Holds held counter
     → Holds held (read_by status now counter).1
@@ -67,15 +65,13 @@ asked-holds : (count status : Bool) (j k held now : ℕ) (pit : Pit) → Holds h
     → Holds held (counter_of k (asked_back count status j now pit))
 unfolding asked_back
 asked-holds count status j k held now pit h =
-    at_counter (Holds held) k j _ pit
-    (λ here. read_back-holds _ _ held now (counter_of j pit) (subst (λ (i : ℕ). Holds held (counter_of i pit)) here h)) h
+    at_step (Holds held) k j (read_back count status now) pit (λ here. read_back-holds _ _ held now (counter_of k pit) h) h
 
 control-holds : (word : ControlWord) (k held now : ℕ) (pit : Pit) → sets_mode_of k word ≡ false → Holds held (counter_of k pit)
     → Holds held (counter_of k (controlled word now pit))
 unfolding controlled
 control-holds (LatchCount j) k held now pit e h =
-    at_counter (Holds held) k j _ pit
-    (λ here. subst (λ (i : ℕ). Holds held (latched now (counter_of i pit))) here (latched-holds held now (counter_of k pit) h)) h
+    at_step (Holds held) k j (latched now) pit (λ here. latched-holds held now (counter_of k pit) h) h
 control-holds (SetMode j access mode bcd) k held now pit e h =
     at_counter (Holds held) k j _ pit (λ here. absurd (grind (arith, nat_tests))) h
 control-holds (ReadBack count status first second third) k held now pit e h =
@@ -85,23 +81,16 @@ control-holds (ReadBack count status first second third) k held now pit e h =
 write-holds : (k held now port value : ℕ) (pit : Pit) → k < 3 → (0x40 ≤ port) × (port ≤ 0x43) × (value < 256) → ((port == 0x43) && sets_mode_of k (control_word value)) ≡ false → Holds held (counter_of k pit) → Holds held (counter_of k (pit_written port value now pit))
 unfolding pit_written
 write-holds k held now port value pit l c e h =
-    ⊎_elim (λ control. let unset : sets_mode_of k (control_word value) ≡ false = rw control at e in
-    rw control (control-holds (control_word value) k held now pit unset h))
-    (λ data_port. let j : ℕ = port - 0x40 in
-    rw data_port (at_counter (Holds held) k j _ pit
-    (λ here. subst (λ (i : ℕ). Holds held (written value now (counter_of i pit))) here (written-holds value held now (counter_of k pit) h))
-    h))
+    ⊎_elim (λ control. rw control (control-holds (control_word value) k held now pit (rw control at e) h))
+    (λ data_port. rw data_port (at_step (Holds held) k (port - 0x40) (written value now) pit (λ here. written-holds value held now (counter_of k pit) h) h))
     (cases_Bool (port == 0x43))
 
 call-holds : (k held now : ℕ) (call : Call) (pit : Pit) → k < 3 → IsCall call → programs k call ≡ false → reads_latch k call pit ≡ false
     → Holds held (counter_of k pit) → Holds held (counter_of k (called call now pit))
 unfolding called programs reads_latch pit_read
 call-holds k held now (reads j) pit l c p r h =
-    at_counter (Holds held) k j _ pit
-    (λ here. let t : (j == k) ≡ true = grind (arith, nat_tests) in
-    let unread : (not (is_some (counter_of k pit).status) && is_last (counter_of k pit).access (counter_of k pit)) ≡ false = rw t at r in
-    subst (λ (i : ℕ). Holds held (read_of now (counter_of i pit)).1) here (read-holds held now (counter_of k pit) unread h))
-    h
+    at_step (Holds held) k j (λ c. (read_of now c).1) pit
+    (λ here. let t : (j == k) ≡ true = grind (arith, nat_tests) in read-holds held now (counter_of k pit) (rw t at r) h) h
 call-holds k held now (writes port value) pit l c p r h = write-holds k held now port value pit l (c.0.0, c.0.1, c.1) p h
 
 -- What is read of a latched count is the same at any moment.

@@ -2,7 +2,7 @@
 use Rattle.dev_pit.proofs.Facade.{◌≡◌, ℕ, ◌+◌, ◌-◌, ◌*◌, ◌/◌, ◌%◌, ◌<◌, ◌≤◌, ◌==◌, ◌⊎◌, inl, inr, Bool, true, false, not, ◌&&◌, ◌||◌, refl, ap, ◌∙◌, arith}
 use Rattle.dev_pit.proofs.Facade.{⊎_elim, cases_lt, nat_tests, div-add-mod', div-mul-add, mod-mul-add, mul-le-mul_right, nat_lt, quotient_mono, rises, out_at}
 use Rattle.dev_pit.proofs.Facade.{period, high_part, Mode, TerminalCount, OneShot, RateGenerator, SquareWave, SoftwareStrobe, HardwareStrobe, marks_of, Marks}
-use Rattle.dev_pit.proofs.Edges.{period-pos}
+use Rattle.dev_pit.proofs.Edges.{period-pos, period-two}
 
 -- a tick is another one, or one of the marks
 abbrev pub IsMark : (k : ℕ) → Marks → ℕ → Type 0
@@ -17,48 +17,27 @@ pub record Marked (mode : Mode) (count n before k tick : ℕ) : Type 0 where
   pub edge : rises mode count before at ≡ rises mode count before tick
   pub out : out_at mode count at ≡ out_at mode count tick
 
+-- tick k itself
+itself : {mode : Mode} {count n before k tick : ℕ} → k ≤ tick → rises mode count before k ≡ rises mode count before tick
+    → out_at mode count k ≡ out_at mode count tick → Marked mode count n before k tick
+itself l e o = record { at = _; is = inl refl; from = omega arith; not_after = l; edge = e; out = o }
+
 -- a count of 1 of a mode with periods holds OUT high
 flat-rate : (count n before k tick : ℕ) → (count == 1) ≡ true → k ≤ tick → Marked RateGenerator count n before k tick
 unfolding rises out_at
-flat-rate count n before k tick one l =
-    record { at = k; is = inl refl; from = omega arith; not_after = l; edge = rw one refl; out = rw one refl }
+flat-rate count n before k tick one l = itself l (rw one refl) (rw one refl)
 
 flat-square : (count n before k tick : ℕ) → (count == 1) ≡ true → k ≤ tick → Marked SquareWave count n before k tick
 unfolding rises out_at
-flat-square count n before k tick one l =
-    record { at = k; is = inl refl; from = omega arith; not_after = l; edge = rw one refl; out = rw one refl }
+flat-square count n before k tick one l = itself l (rw one refl) (rw one refl)
 
 marked-terminal : (count before k tick : ℕ) → before ≤ k → k ≤ tick → Marked TerminalCount count (period count) before k tick
 unfolding rises out_at
 marked-terminal count before k tick b l =
-    ⊎_elim
-    (λ (h : tick < period count). record {
-      at = k;
-      is = inl refl;
-      from = omega arith;
-      not_after = l;
-      edge = grind (arith, nat_tests);
-      out = grind
-          (arith, nat_tests);
-    })
-    (λ (h : period count ≤ tick). ⊎_elim
-    (λ (s : k < period count). record {
-      at = period count;
-      is = inr (inl refl);
-      from = omega arith;
-      not_after = h;
-      edge = grind (arith, nat_tests);
-      out = grind (arith, nat_tests);
-    })
-    (λ (s : period count ≤ k). record {
-      at = k;
-      is = inl refl;
-      from = omega arith;
-      not_after = l;
-      edge = grind (arith, nat_tests);
-      out = grind
-          (arith, nat_tests);
-    })
+    ⊎_elim (λ h. itself l (grind (arith, nat_tests)) (grind (arith, nat_tests)))
+    (λ h. ⊎_elim
+    (λ s. record { at = period count; is = inr (inl refl); from = omega arith; not_after = h; edge = grind (arith, nat_tests); out = grind (arith, nat_tests) })
+    (λ s. itself l (grind (arith, nat_tests)) (grind (arith, nat_tests)))
     (cases_lt k (period count)))
     (cases_lt tick (period count))
 
@@ -66,43 +45,18 @@ marked-strobe : (count before k tick : ℕ) → before ≤ k → k ≤ tick → 
 unfolding rises out_at
 marked-strobe count before k tick b l =
     let n = period count in
-    ⊎_elim
-    (λ (h : tick < n). record { at = k; is = inl refl; from = omega arith; not_after = l; edge = grind (arith, nat_tests); out = grind (arith, nat_tests) })
-    (λ (h : n ≤ tick). ⊎_elim
-    (λ (s : k < n). ⊎_elim
-    (λ (e : tick < n + 1). record {
-      at = n;
-      is = inr (inl refl);
-      from = omega arith;
-      not_after = h;
-      edge = grind (arith, nat_tests);
-      out = grind
-          (arith, nat_tests);
-    })
-    (λ (e : n + 1 ≤ tick). record {
-      at = n + 1;
-      is = inr (inr (inl refl));
-      from = omega arith;
-      not_after = e;
-      edge = grind (arith, nat_tests);
-      out = grind
-          (arith, nat_tests);
-    })
+    let second : k ≤ n → n + 1 ≤ tick → Marked SoftwareStrobe count n before k tick =
+    λ s e.
+    record { at = n + 1; is = inr (inr (inl refl)); from = omega arith; not_after = e; edge = grind (arith, nat_tests); out = grind (arith, nat_tests) } in
+    ⊎_elim (λ h. itself l (grind (arith, nat_tests)) (grind (arith, nat_tests)))
+    (λ h. ⊎_elim
+    (λ s. ⊎_elim
+    (λ e. record { at = n; is = inr (inl refl); from = omega arith; not_after = h; edge = grind (arith, nat_tests); out = grind (arith, nat_tests) })
+    (λ e. second (omega arith) e)
     (cases_lt tick (n + 1)))
-    (λ (s : n ≤ k). ⊎_elim
-    (λ (e : k < n + 1). ⊎_elim
-    (λ (f : tick < n + 1). record { at = k; is = inl refl; from = omega arith; not_after = l; edge = grind (arith, nat_tests); out = grind (arith, nat_tests) })
-    (λ (f : n + 1 ≤ tick). record {
-      at = n + 1;
-      is = inr (inr (inl refl));
-      from = omega arith;
-      not_after = f;
-      edge = grind (arith, nat_tests);
-      out = grind
-          (arith, nat_tests);
-    })
-    (cases_lt tick (n + 1)))
-    (λ (e : n + 1 ≤ k). record { at = k; is = inl refl; from = omega arith; not_after = l; edge = grind (arith, nat_tests); out = grind (arith, nat_tests) })
+    (λ s. ⊎_elim
+    (λ e. ⊎_elim (λ f. itself l (grind (arith, nat_tests)) (grind (arith, nat_tests))) (λ f. second (omega arith) f) (cases_lt tick (n + 1)))
+    (λ e. itself l (grind (arith, nat_tests)) (grind (arith, nat_tests)))
     (cases_lt k (n + 1)))
     (cases_lt k n))
     (cases_lt tick n)
@@ -140,7 +94,7 @@ module _ (count n before k tick : ℕ) (is_n : n ≡ period count) (b : before �
 
   -- the first place of the next period
   next : (r at : ℕ) → r < n → at ≡ k / n * n + n + r → IsAt n (k / n + 1) r at
-  next r at h e = place n (k / n + 1) r at h (omega (arith, e))
+  next r at h e = place n (k / n + 1) r at h (omega arith)
 
   -- the same place in a later period isn't before it
   later : (r at : ℕ) → r < n → at ≡ k / n * n + n + r → k / n < tick / n → r ≤ tick % n → at ≤ tick
@@ -177,14 +131,7 @@ module _ (count n before k tick : ℕ) (is_n : n ≡ period count) (b : before �
 
   -- both ticks are in one period
   rate-k : k / n ≡ tick / n → k % n < n - 1 → tick % n < n - 1 → Rate
-  rate-k here h f = record {
-    at = k;
-    is = inl refl;
-    from = omega arith;
-    not_after = l;
-    edge = rate-edge k (ap (nat_lt (before / n)) here);
-    out = rate-out k (neither_is _ _ _ h f);
-  }
+  rate-k here h f = itself l (rate-edge k (ap (nat_lt (before / n)) here)) (rate-out k (neither_is _ _ _ h f))
 
   rate-last : k / n ≡ tick / n → tick % n ≡ n - 1 → Rate
   rate-last here f =
@@ -203,7 +150,7 @@ module _ (count n before k tick : ℕ) (is_n : n ≡ period count) (b : before �
         from = omega (arith, div-add-mod' k n);
         not_after = later 0 at (omega arith) (omega arith) h (omega arith);
         edge = rate-edge at (both_grew _ _ _ (omega (arith, is.quotient, old)) (omega (arith, h, old)));
-        out = rate-out at (neither_is _ _ _ (omega (arith, is.rest)) f);
+        out = rate-out at (neither_is _ _ _ (omega arith) f);
       }
 
   rate-again : 2 ≤ n → k / n < tick / n → tick % n ≡ n - 1 → Rate
@@ -223,40 +170,27 @@ module _ (count n before k tick : ℕ) (is_n : n ≡ period count) (b : before �
   rate two =
       let order : k / n ≤ tick / n = quotient_mono n k tick (omega arith) l in
       let below : tick % n < n = omega arith in
-      ⊎_elim
-      (λ (h : k / n < tick / n). ⊎_elim
-      (λ (f : tick % n < n - 1). rate-first two h f)
-      (λ (f : n - 1 ≤ tick % n). rate-again two h (omega arith))
-      (cases_lt (tick % n) (n - 1)))
-      (λ (h : tick / n ≤ k / n). let here : k / n ≡ tick / n = omega arith in ⊎_elim
-      (λ (f : tick % n < n - 1). rate-k here (omega (arith, div-add-mod' k n, div-add-mod' tick n, ap (λ q. q * n) here)) f)
-      (λ (f : n - 1 ≤ tick % n). rate-last here (omega arith))
+      ⊎_elim (λ h. ⊎_elim (λ f. rate-first two h f) (λ f. rate-again two h (omega arith)) (cases_lt (tick % n) (n - 1)))
+      (λ h. let here : k / n ≡ tick / n = omega arith in
+      ⊎_elim (λ f. rate-k here (omega (arith, div-add-mod' k n, div-add-mod' tick n, ap (λ q. q * n) here)) f) (λ f. rate-last here (omega arith))
       (cases_lt (tick % n) (n - 1)))
       (cases_lt (k / n) (tick / n))
 
   -- a square wave, high below `high_part`
   square-k : k / n ≡ tick / n → nat_lt (k % n) (high_part n) ≡ nat_lt (tick % n) (high_part n) → Square
-  square-k here h = record {
-    at = k;
-    is = inl refl;
-    from = omega arith;
-    not_after = l;
-    edge = square-edge k (ap (nat_lt (before / n)) here);
-    out = square-out k h;
-  }
+  square-k here h = itself l (square-edge k (ap (nat_lt (before / n)) here)) (square-out k h)
 
   square-falls : 2 ≤ n → k / n ≡ tick / n → k % n < high_part n → high_part n ≤ tick % n → Square
   square-falls two here g f =
-      let high : high_part n < n = omega arith in
       let at = k / n * n + high_part n in
-      let is : IsAt n (k / n) (high_part n) at = place n (k / n) (high_part n) at high refl in
+      let is : IsAt n (k / n) (high_part n) at = place n (k / n) (high_part n) at (omega arith) refl in
       record {
         at = at;
         is = inr (inl refl);
         from = omega (arith, div-add-mod' k n);
         not_after = omega (arith, div-add-mod' tick n, ap (λ q. q * n) here);
         edge = square-edge at (ap (nat_lt (before / n)) (is.quotient ∙ here));
-        out = square-out at (none_below _ _ _ (omega (arith, is.rest)) f);
+        out = square-out at (none_below _ _ _ (omega arith) f);
       }
 
   square-first : 2 ≤ n → k / n < tick / n → tick % n < high_part n → Square
@@ -269,7 +203,7 @@ module _ (count n before k tick : ℕ) (is_n : n ≡ period count) (b : before �
         from = omega (arith, div-add-mod' k n);
         not_after = later 0 at (omega arith) (omega arith) h (omega arith);
         edge = square-edge at (both_grew _ _ _ (omega (arith, is.quotient, old)) (omega (arith, h, old)));
-        out = square-out at (both_below _ _ _ (omega (arith, is.rest)) f);
+        out = square-out at (both_below _ _ _ (omega arith) f);
       }
 
   square-again : 2 ≤ n → k / n < tick / n → high_part n ≤ tick % n → Square
@@ -283,30 +217,20 @@ module _ (count n before k tick : ℕ) (is_n : n ≡ period count) (b : before �
         from = omega (arith, div-add-mod' k n);
         not_after = later (high_part n) at high refl h f;
         edge = square-edge at (both_grew _ _ _ (omega (arith, is.quotient, old)) (omega (arith, h, old)));
-        out = square-out at (none_below _ _ _ (omega (arith, is.rest)) f);
+        out = square-out at (none_below _ _ _ (omega arith) f);
       }
 
   square : 2 ≤ n → Square
   square two =
       let order : k / n ≤ tick / n = quotient_mono n k tick (omega arith) l in
       let high = high_part n in
-      ⊎_elim
-      (λ (h : k / n < tick / n). ⊎_elim
-      (λ (f : tick % n < high). square-first two h f)
-      (λ (f : high ≤ tick % n). square-again two h f)
-      (cases_lt (tick % n) high))
-      (λ (h : tick / n ≤ k / n). let here : k / n ≡ tick / n = omega arith in
-      let rests : k % n ≤ tick % n = omega (arith, div-add-mod' k n, div-add-mod' tick n, ap (λ q. q * n) here) in ⊎_elim
-      (λ (f : tick % n < high). square-k here (both_below _ _ _ (omega arith) f))
-      (λ (f : high ≤ tick % n). ⊎_elim
-      (λ (g : k % n < high). square-falls two here g f)
-      (λ (g : high ≤ k % n). square-k here (none_below _ _ _ g f))
-      (cases_lt (k % n) high))
+      ⊎_elim (λ h. ⊎_elim (λ f. square-first two h f) (λ f. square-again two h f) (cases_lt (tick % n) high))
+      (λ h. let here : k / n ≡ tick / n = omega arith in
+      let rests : k % n ≤ tick % n = omega (arith, div-add-mod' k n, div-add-mod' tick n, ap (λ q. q * n) here) in
+      ⊎_elim (λ f. square-k here (both_below _ _ _ (omega arith) f))
+      (λ f. ⊎_elim (λ g. square-falls two here g f) (λ g. square-k here (none_below _ _ _ g f)) (cases_lt (k % n) high))
       (cases_lt (tick % n) high))
       (cases_lt (k / n) (tick / n))
-
-period-two : (count : ℕ) → (count == 1) ≡ false → 2 ≤ period count
-period-two count e = grind (arith, nat_tests)
 
 periodic-rate : (one : Bool) (count before k tick : ℕ) → (count == 1) ≡ one → before ≤ k → k ≤ tick → Marked RateGenerator count (period count) before k tick
 periodic-rate true count before k tick e b l = flat-rate count (period count) before k tick e l
@@ -319,8 +243,7 @@ periodic-square false count before k tick e b l = square count (period count) be
 pub marked : (mode : Mode) (count before k tick : ℕ) → before ≤ k → k ≤ tick → Marked mode count (period count) before k tick
 unfolding rises out_at
 marked TerminalCount count before k tick b l = marked-terminal count before k tick b l
-marked OneShot count before k tick b l = record { at = k; is = inl refl; from = omega arith; not_after = l; edge = refl; out = refl }
 marked RateGenerator count before k tick b l = periodic-rate (count == 1) count before k tick refl b l
 marked SquareWave count before k tick b l = periodic-square (count == 1) count before k tick refl b l
 marked SoftwareStrobe count before k tick b l = marked-strobe count before k tick b l
-marked HardwareStrobe count before k tick b l = record { at = k; is = inl refl; from = omega arith; not_after = l; edge = refl; out = refl }
+marked _ count before k tick b l = itself l refl refl

@@ -3,7 +3,7 @@ use Rattle.dev_pit.proofs.Facade.{◌≡◌, ℕ, ◌<◌, ◌≤◌, Bool, Opti
 use Rattle.dev_pit.proofs.Facade.{LoadedBy, loaded, written, written_by, written_low_first, programmed, powered_on, read_of, read_back, latched, GoesOn}
 use Rattle.dev_pit.proofs.Facade.{IsLoadedBy, counter_of, with_counter, asked_back, controlled, ControlWord, LatchCount, SetMode, ReadBack, Counter}
 use Rattle.dev_pit.proofs.Facade.{READ_BACK_LEVEL, Access, LowByte, HighByte, LowThenHigh, Mode, Pit, either}
-use Rattle.dev_pit.proofs.Chips.{at_counter}
+use Rattle.dev_pit.proofs.Chips.{at_counter, at_step}
 use Rattle.dev_pit.proofs.CounterSteps.{read-goes_on, latched-goes_on, read_back-goes_on}
 
 pub loaded_by-later : (load : Option ℕ) (now later : ℕ) → LoadedBy now load → now ≤ later → LoadedBy later load
@@ -18,8 +18,7 @@ pub goes_on-loaded : (now : ℕ) (before after : Counter) → GoesOn before afte
 goes_on-loaded now before after g h = record { by = subst (LoadedBy now) (sym g.loaded_at) h.by }
 
 with-loaded : (now j : ℕ) (counter : Counter) (pit : Pit) → IsLoadedBy now pit → Loaded now counter → IsLoadedBy now (with_counter j counter pit)
-with-loaded now j counter pit h l k within =
-    (at_counter (Loaded now) k j counter pit (λ here. l) (record { by = h k within })).by
+with-loaded now j counter pit h l k within = (at_counter (Loaded now) k j counter pit (λ here. l) (record { by = h k within })).by
 
 loaded-now : (count now : ℕ) (counter : Counter) → Loaded now (loaded count now counter)
 unfolding loaded
@@ -30,9 +29,8 @@ first-loaded None value now counter h = record { by = h.by }
 first-loaded (Some low) value now counter h = loaded-now _ now _
 
 by-loaded : (access : Access) (value now : ℕ) (counter : Counter) → Loaded now counter → Loaded now (written_by access value now counter)
-by-loaded LowByte value now counter h = loaded-now _ now counter
-by-loaded HighByte value now counter h = loaded-now _ now counter
 by-loaded LowThenHigh value now counter h = first-loaded counter.held_low value now counter h
+by-loaded _ value now counter h = loaded-now _ now counter
 
 pub written-loaded : (value now : ℕ) (counter : Counter) → Loaded now counter → Loaded now (written value now counter)
 unfolding written
@@ -46,20 +44,18 @@ programmed-loaded access mode bcd now counter = record { by = tt }
 step-loaded : (now j : ℕ) (step : Counter → Counter) (pit : Pit) → ((counter : Counter) → Loaded now counter → Loaded now (step counter)) → IsLoadedBy now pit
     → IsLoadedBy now (with_counter j (step (counter_of j pit)) pit)
 step-loaded now j step pit keeps h k within =
-    (at_counter (Loaded now) k j (step (counter_of j pit)) pit
-    (λ here. keeps (counter_of j pit) (record { by = subst (λ (i : ℕ). LoadedBy now (counter_of i pit).loaded_at) here (h k within) }))
-    (record { by = h k within })).by
+    let loaded : Loaded now (counter_of k pit) = record { by = h k within } in
+    (at_step (Loaded now) k j step pit (λ here. keeps (counter_of k pit) loaded) loaded).by
 
 -- The whole chip.
 asked_loaded : (count status : Bool) (k now : ℕ) (pit : Pit) → IsLoadedBy now pit → IsLoadedBy now (asked_back count status k now pit)
 unfolding asked_back
 asked_loaded count status k now pit h =
-    step-loaded now k (read_back count status now) pit (λ c l. goes_on-loaded now c _ (read_back-goes_on _ _ now c) l) h
+    step-loaded now k (read_back count status now) pit (λ c. goes_on-loaded now c _ (read_back-goes_on _ _ now c)) h
 
 controlled-loaded : (word : ControlWord) (now : ℕ) (pit : Pit) → IsLoadedBy now pit → IsLoadedBy now (controlled word now pit)
 unfolding controlled
-controlled-loaded (LatchCount k) now pit h =
-    step-loaded now k (latched now) pit (λ c l. goes_on-loaded now c _ (latched-goes_on now c) l) h
+controlled-loaded (LatchCount k) now pit h = step-loaded now k (latched now) pit (λ c. goes_on-loaded now c _ (latched-goes_on now c)) h
 controlled-loaded (SetMode k access mode bcd) now pit h =
     with-loaded now k _ pit h (programmed-loaded access mode bcd now (counter_of k pit))
 controlled-loaded (ReadBack count status first second third) now pit h =
@@ -69,30 +65,29 @@ controlled-loaded (ReadBack count status first second third) now pit h =
 pub pit-later : (now later : ℕ) (pit : Pit) → IsLoadedBy now pit → now ≤ later → IsLoadedBy later pit
 pit-later now later pit h l k within = loaded_by-later (counter_of k pit).loaded_at now later (h k within) l
 
--- A counter that exists doesn't depend on the default given for one that doesn't.
-there : (k : ℕ) (default : Counter) (pit : Pit) → k < length pit.counters → slice_index_or pit.counters k default ≡ counter_of k pit
-there k default pit h = get_or_default pit.counters k default powered_on h
+-- The chip after a step of a counter that exists, which doesn't depend on the default for one that doesn't.
+stepped : (step : Counter → Counter) (k now : ℕ) (after default : Counter) (pit : Pit) → k < length pit.counters
+    → after ≡ step (slice_index_or pit.counters k default) → ((counter : Counter) → Loaded now counter → Loaded now (step counter)) → IsLoadedBy now pit
+    → IsLoadedBy now (with_counter k after pit)
+stepped step k now after default pit within e keeps h =
+    subst (λ c. IsLoadedBy now (with_counter k c pit)) (sym (e ∙ ap step (get_or_default pit.counters k default powered_on within)))
+    (step-loaded now k step pit keeps h)
 
--- The chip after a step of one counter.
 pub read_keeps : (k now later value : ℕ) (after default : Counter) (pit : Pit) → k < length pit.counters
     → (value, after) ≡ read_of now (slice_index_or pit.counters k default) → IsLoadedBy now pit → now ≤ later → IsLoadedBy later (with_counter k after pit)
 read_keeps k now later value after default pit within e h l =
-    let same : (read_of now (counter_of k pit)).1 ≡ after =
-    sym (ap (λ (a : ℕ × Counter). a.1) e ∙ ap (λ (c : Counter). (read_of now c).1) (there k default pit within)) in
-    pit-later now later (with_counter k after pit) (subst (λ (c : Counter). IsLoadedBy now (with_counter k c pit)) same (step-loaded now k (λ c. (read_of now c).1) pit (λ c p. goes_on-loaded now c _ (read-goes_on now c) p) h)) l
+    pit-later now later (with_counter k after pit)
+    (stepped (λ c. (read_of now c).1) k now after default pit within (ap (λ (a : ℕ × Counter). a.1) e) (λ c. goes_on-loaded now c _ (read-goes_on now c)) h) l
 
 pub written_keeps : (k now later value : ℕ) (after default : Counter) (pit : Pit) → k < length pit.counters
     → after ≡ written value now (slice_index_or pit.counters k default) → IsLoadedBy now pit → now ≤ later → IsLoadedBy later (with_counter k after pit)
 written_keeps k now later value after default pit within e h l =
-    let same = e ∙ ap (written value now) (there k default pit within) in
-    pit-later now later (with_counter k after pit) (subst (λ (c : Counter). IsLoadedBy now (with_counter k c pit)) (sym same) (step-loaded now k (written value now) pit (λ c p. written-loaded value now c p) h)) l
+    pit-later now later (with_counter k after pit) (stepped (written value now) k now after default pit within e (written-loaded value now) h) l
 
 pub asked_keeps : (count status : Bool) (k now : ℕ) (after default : Counter) (pit : Pit) → k < length pit.counters
     → after ≡ read_back count status now (slice_index_or pit.counters k default) → IsLoadedBy now pit → IsLoadedBy now (with_counter k after pit)
 asked_keeps count status k now after default pit within e h =
-    let same = e ∙ ap (read_back count status now) (there k default pit within) in
-    subst (λ (c : Counter). IsLoadedBy now (with_counter k c pit)) (sym same)
-    (step-loaded now k (read_back count status now) pit (λ c p. goes_on-loaded now c _ (read_back-goes_on _ _ now c) p) h)
+    stepped (read_back count status now) k now after default pit within e (λ c. goes_on-loaded now c _ (read_back-goes_on _ _ now c)) h
 
 pub controlled_keeps : (word : ControlWord) (now later : ℕ) (after pit : Pit) → after ≡ controlled word now pit → IsLoadedBy now pit → now ≤ later
     → IsLoadedBy later after

@@ -1,6 +1,6 @@
 -- The read-back command by the chip's level.
-use Rattle.dev_pit.proofs.Facade.{◌≡◌, ℕ, ◌≤◌, ◌==◌, ◌&&◌, ◌||◌, not, Bool, true, false, cond, refl, sym, ap, arith, nat_tests, status_holds, ReadBackByLevel}
-use Rattle.dev_pit.proofs.Facade.{asked_back, controlled, Channel, ReadBack, READ_BACK_LEVEL, Pit}
+use Rattle.dev_pit.proofs.Facade.{◌≡◌, ℕ, ◌≤◌, ◌==◌, ◌&&◌, ◌||◌, not, Bool, true, false, refl, sym, arith, nat_tests, status_holds, ReadBackByLevel, asked_back}
+use Rattle.dev_pit.proofs.Facade.{controlled, Channel, ReadBack, READ_BACK_LEVEL, Pit}
 use Rattle.std.proofs.Common.{nat_le}
 
 -- The chip after each of the chosen counters has latched.
@@ -12,14 +12,13 @@ all-asked count status first second third now pit =
 none-asked : (count status first second third : Bool) (now : ℕ) (pit : Pit) → pit.level ≡ 1
     → controlled (ReadBack count status first second third) now pit ≡ pit
 unfolding controlled
-none-asked count status first second third now pit e = ap (λ (l : ℕ). cond (nat_le READ_BACK_LEVEL l) (all-asked count status first second third now pit) pit) e
+none-asked count status first second third now pit e = rw e refl
 
 asked : (count status first second third : Bool) (now : ℕ) (pit : Pit) → 2 ≤ pit.level
     → controlled (ReadBack count status first second third) now pit ≡ all-asked count status first second third now pit
 unfolding controlled
 asked count status first second third now pit h =
-    let has : nat_le READ_BACK_LEVEL pit.level ≡ true = grind (arith, nat_tests, h) in
-    ap (λ (b : Bool). cond b (all-asked count status first second third now pit) pit) has
+    let has : nat_le READ_BACK_LEVEL pit.level ≡ true = grind (arith, nat_tests) in rw has
 
 unlatched : (latched zero : Bool) → ((latched || zero) && not latched) ≡ true → latched ≡ false
 unlatched false zero h = refl

@@ -39,7 +39,7 @@ module _ (cells : List ℤ) (h : IsPitCells cells) where
   first = record {
     within = (omega arith, h.of_kinds.count);
     channel = λ place l. subst (λ (n : ℕ). Fits n (kind_at channel_kinds place)) (zero_plus place)
-        (subst (Fits place) (front two_more place l) (h.of_kinds.in_range place (omega (arith, l))));
+        (subst (Fits place) (front two_more place l) (h.of_kinds.in_range place (omega arith)));
     latched = h.of_kinds.in_range (latched_place 0) (omega arith);
     status = h.of_kinds.in_range (status_place 0) (omega arith);
   }
@@ -48,7 +48,7 @@ module _ (cells : List ℤ) (h : IsPitCells cells) where
   second = record {
     within = (omega arith, h.of_kinds.count);
     channel = λ place l. subst (Fits (channel_place 1 + place)) (after two_more place ∙ front one_more place l)
-        (h.of_kinds.in_range (channel_place 1 + place) (omega (arith, l)));
+        (h.of_kinds.in_range (channel_place 1 + place) (omega arith));
     latched = h.of_kinds.in_range (latched_place 1) (omega arith);
     status = h.of_kinds.in_range (status_place 1) (omega arith);
   }
@@ -60,7 +60,7 @@ module _ (cells : List ℤ) (h : IsPitCells cells) where
   third = record {
     within = (omega arith, h.of_kinds.count);
     channel = λ place l. subst (Fits (channel_place 2 + place)) (further place ∙ front status_kinds place l)
-        (h.of_kinds.in_range (channel_place 2 + place) (omega (arith, l)));
+        (h.of_kinds.in_range (channel_place 2 + place) (omega arith));
     latched = h.of_kinds.in_range (latched_place 2) (omega arith);
     status = h.of_kinds.in_range (status_place 2) (omega arith);
   }
@@ -91,13 +91,10 @@ if-status level true n h = grind (arith, nat_tests)
 if-status level false n h = tt
 
 halves : (access : Access) (read_high held : Bool) (n : ℕ) → (not read_high && not held) ≡ true → TogglesFit access read_high (held_if held n)
-halves LowByte true held n e = cc
-halves LowByte false true n e = cc
 halves LowByte false false n e = (refl, refl)
-halves HighByte true held n e = cc
-halves HighByte false true n e = cc
 halves HighByte false false n e = (refl, refl)
 halves LowThenHigh read_high held n e = tt
+halves _ _ _ n e = cc
 
 three : (rw_number : ℕ) → (rw_number == 3) ≡ true → access_of rw_number ≡ LowThenHigh
 three rw_number e = let h : rw_number ≡ 3 = grind (arith, nat_tests) in rw h refl

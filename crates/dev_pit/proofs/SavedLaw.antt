@@ -16,16 +16,11 @@ use Rattle.dev_pit.proofs.RestoredLaw.{pit-restored}
 
 mode-back : (mode : Mode) → mode_of (mode_number mode) ≡ mode
 mode-back TerminalCount = refl
-mode-back OneShot = refl
-mode-back RateGenerator = refl
-mode-back SquareWave = refl
-mode-back SoftwareStrobe = refl
-mode-back HardwareStrobe = refl
+mode-back _ = refl
 
 access-back : (access : Access) → access_of (access_number access) ≡ access
 access-back LowByte = refl
-access-back HighByte = refl
-access-back LowThenHigh = refl
+access-back _ = refl
 
 held-back : (held : Option ℕ) → held_if (is_some held) (held_or held 0) ≡ held
 held-back None = refl
@@ -213,7 +208,7 @@ restored-back : (numbers back : Numbers) (pit : Pit) → CanSave numbers pit →
     → back.moment ≡ numbers.moment
     → CanRestore back (carried numbers.set (pit_cells numbers.set pit)) × (hook_restored back (carried numbers.set (pit_cells numbers.set pit)) ≡ Ok pit)
 restored-back numbers back pit can s may level moment =
-    let le : pit.level ≤ numbers.set = let own = can.own_level in let l = can.level_le_set in omega (arith, own, l) in
+    let le : pit.level ≤ numbers.set = let l = can.level_le_set in omega arith in
     let same = carried-saved numbers.set numbers.moment pit le s in
     let newest : restored_pit back.level back.moment (pit_cells NEWEST pit) ≡ Ok pit =
     ap (λ l. restored_pit l back.moment (pit_cells NEWEST pit)) level ∙ ap (λ m. restored_pit pit.level m (pit_cells NEWEST pit)) moment

@@ -1,9 +1,9 @@
 -- A chip is sound at power on, and time and every call keep it so.
-use Rattle.dev_pit.proofs.Facade.{◌≡◌, ℕ, ◌-◌, ◌<◌, ◌≤◌, ◌==◌, Bool, ◌&&◌, ◌∷◌, slice_index_or, refl, subst, ◌∙◌, arith, ⊎_elim, [], nat_tests, nat_le}
-use Rattle.dev_pit.proofs.Facade.{cases_Bool, IsLevel, LAST_MOMENT, control_word, SoundStays, StepsKeepLevel, counter_of, with_counter, new_pit, pit_read}
-use Rattle.dev_pit.proofs.Facade.{asked_back, controlled, pit_written, IsSoundCounter, IsSoundPit, ControlWord, LatchCount, SetMode, ReadBack, Counter}
-use Rattle.dev_pit.proofs.Facade.{READ_BACK_LEVEL, Pit, either, powered_on, read_of, read_back, latched, programmed, written}
-use Rattle.dev_pit.proofs.Chips.{at_counter, count-with, each_of}
+use Rattle.dev_pit.proofs.Facade.{◌≡◌, ℕ, ◌-◌, ◌<◌, ◌≤◌, ◌==◌, Bool, ◌∷◌, slice_index_or, refl, ◌∙◌, arith, ⊎_elim, [], nat_tests, nat_le, cases_Bool, IsLevel}
+use Rattle.dev_pit.proofs.Facade.{LAST_MOMENT, control_word, SoundStays, StepsKeepLevel, counter_of, with_counter, new_pit, pit_read, asked_back, controlled}
+use Rattle.dev_pit.proofs.Facade.{pit_written, IsSoundCounter, IsSoundPit, ControlWord, LatchCount, SetMode, ReadBack, Counter, READ_BACK_LEVEL, Pit, either}
+use Rattle.dev_pit.proofs.Facade.{powered_on, read_of, read_back, latched, programmed, written}
+use Rattle.dev_pit.proofs.Chips.{at_step, count-with, each_of}
 use Rattle.dev_pit.proofs.Moments.{loaded_by-later}
 use Rattle.dev_pit.proofs.SoundSteps.{PlainSound, sound-from_plain, plain-from_sound, powered_on-sound, latched-sound, read_back-sound, programmed-sound, written-sound, read-sound}
 
@@ -37,13 +37,13 @@ step-sound j now step pit keeps s = record {
   level = s.level;
   moment = s.moment;
   count = count-with j (step (counter_of j pit)) pit ∙ s.count;
-  counters = λ k l. at_counter (IsSoundCounter pit.level now) k j (step (counter_of j pit)) pit
-      (λ here. sound-from_plain _ _ _ (keeps (counter_of j pit) (plain-from_sound _ _ _ (subst (λ (i : ℕ). IsSoundCounter pit.level now (counter_of i pit)) here (s.counters k l))))) (s.counters k l);
+  counters = λ k l. at_step (IsSoundCounter pit.level now) k j step pit
+      (λ here. sound-from_plain _ _ _ (keeps (counter_of k pit) (plain-from_sound _ _ _ (s.counters k l)))) (s.counters k l);
 }
 
 pit_read-sound : (k now : ℕ) (pit : Pit) → IsSoundPit now pit → IsSoundPit now (pit_read k now pit).1
 unfolding pit_read
-pit_read-sound k now pit s = step-sound k now (λ c. (read_of now c).1) pit (λ c p. read-sound pit.level now c p) s
+pit_read-sound k now pit s = step-sound k now (λ c. (read_of now c).1) pit (read-sound pit.level now) s
 
 asked-sound : (count status : Bool) (k now : ℕ) (pit : Pit) → READ_BACK_LEVEL ≤ pit.level → IsSoundPit now pit
     → IsSoundPit now (asked_back count status k now pit)
@@ -51,20 +51,14 @@ unfolding asked_back
 asked-sound count status k now pit h s =
     step-sound k now (read_back count status now) pit (λ c p. read_back-sound _ _ pit.level now c h p) s
 
-all-asked : (count status first second third : Bool) (now : ℕ) (pit : Pit) → READ_BACK_LEVEL ≤ pit.level → IsSoundPit now pit → IsSoundPit now (asked_back (count && third) (status && third) 2 now (asked_back (count && second) (status && second) 1 now (asked_back (count && first) (status && first) 0 now pit)))
-unfolding asked_back
-all-asked count status first second third now pit h s =
-    asked-sound _ _ 2 now _ h (asked-sound _ _ 1 now _ h (asked-sound _ _ 0 now pit h s))
-
 controlled-sound : (word : ControlWord) (now : ℕ) (pit : Pit) → IsSoundPit now pit → IsSoundPit now (controlled word now pit)
-unfolding controlled
-controlled-sound (LatchCount k) now pit s = step-sound k now (latched now) pit (λ c p. latched-sound pit.level now c p) s
+unfolding controlled asked_back
+controlled-sound (LatchCount k) now pit s = step-sound k now (latched now) pit (latched-sound pit.level now) s
 controlled-sound (SetMode k access mode bcd) now pit s =
-    step-sound k now (programmed access mode bcd) pit (λ c p. programmed-sound access mode bcd pit.level now c p) s
+    step-sound k now (programmed access mode bcd) pit (programmed-sound access mode bcd pit.level now) s
 controlled-sound (ReadBack count status first second third) now pit s =
     ⊎_elim (λ e. let h : READ_BACK_LEVEL ≤ pit.level = grind (arith, nat_tests) in
-    rw e (all-asked count status first second third now pit h s))
-    (λ e. rw e s)
+    rw e (asked-sound _ _ 2 now _ h (asked-sound _ _ 1 now _ h (asked-sound _ _ 0 now pit h s)))) (λ e. rw e s)
     (cases_Bool (nat_le READ_BACK_LEVEL pit.level))
 
 pit_written-sound : (port value now : ℕ) (pit : Pit) → value < 256 → IsSoundPit now pit → IsSoundPit now (pit_written port value now pit)
@@ -96,10 +90,9 @@ HasLevel level pit = pit.level ≡ level
 
 controlled-level : (word : ControlWord) (now : ℕ) (pit : Pit) → HasLevel pit.level (controlled word now pit)
 unfolding controlled asked_back
-controlled-level (LatchCount k) now pit = refl
-controlled-level (SetMode k access mode bcd) now pit = refl
 controlled-level (ReadBack count status first second third) now pit =
     either (HasLevel pit.level) (nat_le READ_BACK_LEVEL pit.level) _ _ refl refl
+controlled-level _ now pit = refl
 
 written-level : (port value now : ℕ) (pit : Pit) → HasLevel pit.level (pit_written port value now pit)
 unfolding pit_written

@@ -28,23 +28,17 @@ pub record PlainSound (level now : ℕ) (counter : Counter) : Type 0 where
 
 pub mode-small : (mode : Mode) → mode_number mode ≤ 5
 mode-small TerminalCount = omega arith
-mode-small OneShot = omega arith
-mode-small RateGenerator = omega arith
-mode-small SquareWave = omega arith
-mode-small SoftwareStrobe = omega arith
-mode-small HardwareStrobe = omega arith
+mode-small _ = omega arith
 
 pub access-small : (access : Access) → (1 ≤ access_number access) × (access_number access ≤ 3)
 access-small LowByte = (omega arith, omega arith)
-access-small HighByte = (omega arith, omega arith)
-access-small LowThenHigh = (omega arith, omega arith)
+access-small _ = (omega arith, omega arith)
 
 pub registers-hold : (counter : Counter) → registers_hold (channel_of counter) ≡ true
 unfolding registers_hold channel_of
 registers-hold counter =
-    let mode = mode-small counter.mode in
     let access = access-small counter.access in
-    rw (le-leb _ 5 mode, le-leb 1 _ access.0, le-leb _ 3 access.1)
+    rw (le-leb _ 5 (mode-small counter.mode), le-leb 1 _ access.0, le-leb _ 3 access.1)
 
 moment-from : (now : ℕ) (load : Option ℕ) → LoadedBy now load → (nat_le (held_or load 0) now && (is_some load || (held_or load 0 == 0))) ≡ true
 moment-from now None h = grind (arith, nat_tests)
@@ -66,20 +60,17 @@ status-back level (Some status) e = grind (arith, nat_tests)
 
 toggles-from : (access : Access) (read_high : Bool) (held : Option ℕ) → TogglesFit access read_high held
     → ((access_number access == 3) || (not read_high && not (is_some held))) ≡ true
-toggles-from LowByte read_high held h = rw (h.0, h.1) refl
-toggles-from HighByte read_high held h = rw (h.0, h.1) refl
 toggles-from LowThenHigh read_high held h = refl
+toggles-from _ read_high held h = rw (h.0, h.1) refl
 
 halves-back : (read_high : Bool) (held : Option ℕ) → (not read_high && not (is_some held)) ≡ true → (read_high ≡ false) × (held ≡ None)
-halves-back true held e = cc
 halves-back false None e = (refl, refl)
-halves-back false (Some held) e = cc
+halves-back _ _ e = cc
 
 toggles-back : (access : Access) (read_high : Bool) (held : Option ℕ) → ((access_number access == 3) || (not read_high && not (is_some held))) ≡ true
     → TogglesFit access read_high held
-toggles-back LowByte read_high held e = halves-back read_high held e
-toggles-back HighByte read_high held e = halves-back read_high held e
 toggles-back LowThenHigh read_high held e = tt
+toggles-back _ read_high held e = halves-back read_high held e
 
 pub sound-from_plain : (level now : ℕ) (counter : Counter) → PlainSound level now counter → IsSoundCounter level now counter
 unfolding channel_of moment_holds status_holds toggles_hold
@@ -115,12 +106,11 @@ square-word n k = either IsWord (nat_lt (k % n) (high_part n)) _ _ (word-mod _) 
 
 live_at-word : (mode : Mode) (count k : ℕ) → IsWord count → IsWord (live_at mode count k)
 unfolding live_at
-live_at-word TerminalCount count k h = word-mod _
 live_at-word OneShot count k h = h
 live_at-word RateGenerator count k h = either IsWord (count == 1) _ _ (record { fits = omega arith }) (word-mod _)
 live_at-word SquareWave count k h = either IsWord (count == 1) _ _ (record { fits = omega arith }) (square-word _ k)
-live_at-word SoftwareStrobe count k h = word-mod _
 live_at-word HardwareStrobe count k h = h
+live_at-word _ count k h = word-mod _
 
 since-word : (load : Option ℕ) (mode : Mode) (count now : ℕ) → IsWord count → IsWord (live_since load mode count now)
 since-word None mode count now h = h
@@ -141,44 +131,32 @@ flag-small false = omega arith
 
 status-byte : (counter : Counter) (now : ℕ) → status_of counter now < 2 ^ 8
 unfolding status_of
-status-byte counter now =
-    let out : flag_number (out_of counter now) ≤ 1 = flag-small (out_of counter now) in
-    let bcd : flag_number counter.bcd ≤ 1 = flag-small counter.bcd in
-    let mode : mode_number counter.mode ≤ 5 = mode-small counter.mode in
-    let access : access_number counter.access ≤ 3 = (access-small counter.access).1 in
-    omega arith
+status-byte counter now = omega (arith, (access-small counter.access).1, mode-small counter.mode, flag-small counter.bcd, flag-small (out_of counter now))
+
+-- A counter of which only these fields changed.
+changed : {level now : ℕ} {counter : Counter} {held_low latch status : Option ℕ} {read_high : Bool} → PlainSound level now counter
+    → HeldBelow (2 ^ 8) held_low → HeldBelow (2 ^ 16) latch → HeldBelow (2 ^ 8) status → StatusFits level status → TogglesFit counter.access read_high held_low
+    → PlainSound level now (record counter { held_low = held_low; latch = latch; status = status; read_high = read_high })
+changed s low latch byte fits toggles = record {
+  widths = record { count = s.widths.count; loaded_at = s.widths.loaded_at; held_low = low; latch = latch; status = byte };
+  loaded = s.loaded;
+  status = fits;
+  toggles = toggles;
+}
 
 -- Latching.
 pub latched-sound : (level now : ℕ) (counter : Counter) → PlainSound level now counter → PlainSound level now (latched now counter)
 unfolding latched
-latched-sound level now counter s = record {
-  widths = record {
-    count = s.widths.count;
-    loaded_at = s.widths.loaded_at;
-    held_low = s.widths.held_low;
-    latch = held-below (2 ^ 16) (live_of counter now) counter.latch s.widths.latch (live-word counter now s.widths);
-    status = s.widths.status;
-  };
-  loaded = s.loaded;
-  status = s.status;
-  toggles = s.toggles;
-}
+latched-sound level now counter s =
+    let w = s.widths in
+    changed s w.held_low (held-below (2 ^ 16) (live_of counter now) counter.latch w.latch (live-word counter now w)) w.status s.status s.toggles
 
 status_latched-sound : (level now : ℕ) (counter : Counter) → READ_BACK_LEVEL ≤ level → PlainSound level now counter
     → PlainSound level now (status_latched now counter)
 unfolding status_latched
-status_latched-sound level now counter h s = record {
-  widths = record {
-    count = s.widths.count;
-    loaded_at = s.widths.loaded_at;
-    held_low = s.widths.held_low;
-    latch = s.widths.latch;
-    status = held-below (2 ^ 8) (status_of counter now) counter.status s.widths.status (status-byte counter now);
-  };
-  loaded = s.loaded;
-  status = h;
-  toggles = s.toggles;
-}
+status_latched-sound level now counter h s =
+    let w = s.widths in
+    changed s w.held_low w.latch (held-below (2 ^ 8) (status_of counter now) counter.status w.status (status-byte counter now)) h s.toggles
 
 pub read_back-sound : (count status : Bool) (level now : ℕ) (counter : Counter) → READ_BACK_LEVEL ≤ level → PlainSound level now counter
     → PlainSound level now (read_back count status now counter)
@@ -199,9 +177,8 @@ powered_on-sound level now = record {
 }
 
 fresh-toggles : (access : Access) → TogglesFit access false None
-fresh-toggles LowByte = (refl, refl)
-fresh-toggles HighByte = (refl, refl)
 fresh-toggles LowThenHigh = tt
+fresh-toggles _ = (refl, refl)
 
 pub programmed-sound : (access : Access) (mode : Mode) (bcd : Bool) (level now : ℕ) (counter : Counter) → PlainSound level now counter
     → PlainSound level now (programmed access mode bcd counter)
@@ -233,18 +210,8 @@ loaded-sound count level now counter m c s = record {
 -- A counter of two bytes may hold one or not.
 holding : (level now : ℕ) (low : Option ℕ) (counter : Counter) → counter.access ≡ LowThenHigh → HeldBelow (2 ^ 8) low → PlainSound level now counter
     → PlainSound level now (record counter { held_low = low })
-holding level now low counter e h s = record {
-  widths = record {
-    count = s.widths.count;
-    loaded_at = s.widths.loaded_at;
-    held_low = h;
-    latch = s.widths.latch;
-    status = s.widths.status;
-  };
-  loaded = s.loaded;
-  status = s.status;
-  toggles = subst (λ (a : Access). TogglesFit a counter.read_high low) (sym e) tt;
-}
+holding level now low counter e h s =
+    changed s h s.widths.latch s.widths.status s.status (subst (λ a. TogglesFit a counter.read_high low) (sym e) tt)
 
 first-sound : (low : Option ℕ) (value level now : ℕ) (counter : Counter) → now ≤ LAST_MOMENT → value < 256 → counter.access ≡ LowThenHigh
     → HeldBelow (2 ^ 8) low → PlainSound level now counter → PlainSound level now (written_low_first low value now counter)
@@ -264,21 +231,12 @@ written-sound value level now counter m v s = by-sound counter.access value leve
 
 -- Reading.
 no_latch : (level now : ℕ) (counter : Counter) → PlainSound level now counter → PlainSound level now (record counter { latch = None })
-no_latch level now counter s = record {
-  widths = record { count = s.widths.count; loaded_at = s.widths.loaded_at; held_low = s.widths.held_low; latch = tt; status = s.widths.status };
-  loaded = s.loaded;
-  status = s.status;
-  toggles = s.toggles;
-}
+no_latch level now counter s = changed s s.widths.held_low tt s.widths.status s.status s.toggles
 
 turned : (level now : ℕ) (read_high : Bool) (latch : Option ℕ) (counter : Counter) → counter.access ≡ LowThenHigh → HeldBelow (2 ^ 16) latch
     → PlainSound level now counter → PlainSound level now (record counter { read_high = read_high; latch = latch })
-turned level now read_high latch counter e h s = record {
-  widths = record { count = s.widths.count; loaded_at = s.widths.loaded_at; held_low = s.widths.held_low; latch = h; status = s.widths.status };
-  loaded = s.loaded;
-  status = s.status;
-  toggles = subst (λ (a : Access). TogglesFit a read_high counter.held_low) (sym e) tt;
-}
+turned level now read_high latch counter e h s =
+    changed s s.widths.held_low h s.widths.status s.status (subst (λ a. TogglesFit a read_high counter.held_low) (sym e) tt)
 
 -- A sound counter, as the second part of an answer.
 record Sounds (level now : ℕ) (answer : ℕ × Counter) : Type 0 where
@@ -286,23 +244,15 @@ record Sounds (level now : ℕ) (answer : ℕ × Counter) : Type 0 where
 
 counted_by-sound : (access : Access) (count level now : ℕ) (counter : Counter) → counter.access ≡ access → PlainSound level now counter
     → Sounds level now (counted_by access count counter)
-counted_by-sound LowByte count level now counter e s = record { after = no_latch level now counter s }
-counted_by-sound HighByte count level now counter e s = record { after = no_latch level now counter s }
 counted_by-sound LowThenHigh count level now counter e s =
     either (Sounds level now) counter.read_high _ _ (record { after = turned level now false None counter e tt s })
     (record { after = turned level now true counter.latch counter e s.widths.latch s })
+counted_by-sound _ count level now counter e s = record { after = no_latch level now counter s }
 
 read_by-sound : (status : Option ℕ) (level now : ℕ) (counter : Counter) → PlainSound level now counter → Sounds level now (read_by status now counter)
 unfolding counted_of
 read_by-sound None level now counter s = counted_by-sound counter.access _ level now counter refl s
-read_by-sound (Some status) level now counter s = record {
-  after = record {
-    widths = record { count = s.widths.count; loaded_at = s.widths.loaded_at; held_low = s.widths.held_low; latch = s.widths.latch; status = tt };
-    loaded = s.loaded;
-    status = tt;
-    toggles = s.toggles;
-  };
-}
+read_by-sound (Some status) level now counter s = record { after = changed s s.widths.held_low s.widths.latch tt tt s.toggles }
 
 pub read-sound : (level now : ℕ) (counter : Counter) → PlainSound level now counter → PlainSound level now (read_of now counter).1
 unfolding read_of

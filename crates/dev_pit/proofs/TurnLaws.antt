@@ -62,9 +62,7 @@ module _ (load : ℕ) (counter : Counter) (since base to : ℕ) (loaded : counte
         at = c;
         is = is-turn m.is f;
         from = ⊎_elim
-            (λ (g : c < base). absurd (omega (arith, ticks-mono load c base (omega arith), there, f)))
-            (λ (g : base ≤ c). g)
-            (cases_lt c base);
+            (λ (g : c < base). absurd (omega (arith, ticks-mono load c base (omega arith)))) (λ (g : base ≤ c). g) (cases_lt c base);
         upto = moment_came load to m.at (omega arith) m.not_after;
         edge = same-edge c m there;
         out = same-out c m there;
@@ -74,8 +72,8 @@ module _ (load : ℕ) (counter : Counter) (since base to : ℕ) (loaded : counte
         is = inl refl;
         from = omega arith;
         upto = l;
-        edge = same-edge base m (omega (arith, m.from));
-        out = same-out base m (omega (arith, m.from));
+        edge = same-edge base m (omega arith);
+        out = same-out base m (omega arith);
       })
       (cases_lt (ticks load base) m.at)
 

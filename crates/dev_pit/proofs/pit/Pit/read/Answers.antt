@@ -4,5 +4,4 @@ use Rattle.dev_pit.proofs.pit.Pit.read.Goals as goal
 
 pub returns-clause-keeps : goal.returns-clause-keeps
 returns-clause-keeps c = λ later l.
-    let within : c.args.counter < length c.args.self.now.counters = search rules in
-    read_keeps c.args.counter c.args.now later c.read.result c.read.new.self _ c.args.self.now within c.read.ensures c.requires.loaded l
+    read_keeps c.args.counter c.args.now later c.read.result c.read.new.self _ c.args.self.now (search rules) c.read.ensures c.requires.loaded l

@@ -8,5 +8,4 @@ returns-then-port-eq-CONTROL_PORT-clause-keeps c = λ later l.
 
 pub returns-else-port-eq-CONTROL_PORT-clause-keeps : goal.returns-else-port-eq-CONTROL_PORT-clause-keeps
 returns-else-port-eq-CONTROL_PORT-clause-keeps c = λ later l.
-    let within : c.args.port - 64 < length c.args.self.now.counters = search rules in
-    written_keeps (c.args.port - 64) c.args.now later c.args.value c.write.new.self _ c.args.self.now within c.write.ensures c.requires.loaded l
+    written_keeps (c.args.port - 64) c.args.now later c.args.value c.write.new.self _ c.args.self.now (search rules) c.write.ensures c.requires.loaded l
