@@ -1,16 +1,8 @@
 -- The least capacity that a number counts, how large it can be, and for how much there is room.
-use Rattle.std.proofs.Common.{◌≡◌, ℕ, ◌≤◌, List, ◌∷◌, ◌++◌, min, nat_le, Bool, true, false, Option, Some, None, refl, sym, ◌∙◌, arith, []}
-use Rattle.std.specs.Prelude.{◌==◌, ◌&&◌, if◌then◌else◌}
-use Rattle.std.proofs.lemmas.Bool.Decides.{nat_tests}
-use Rattle.std.proofs.lemmas.Bool.{and_from}
-use Rattle.vms_kinds.specs.declared.Item.{Item}
-use Rattle.vms_spec.specs.declared.Count.{Count}
-use Rattle.vms_spec.specs.declared.Count.TheVariants.{Counted}
-use Rattle.vms_spec.specs.Layout.{counted}
-use Rattle.vms_spec.specs.Sets.{Field}
-use Rattle.vms_parts.specs.Capacities.{lesser, least_from, least_of}
+use Rattle.vms_check.proofs.Facade.{◌≡◌, ℕ, ◌≤◌, List, ◌∷◌, ◌++◌, min, nat_le, Bool, true, false, Option, Some, None, refl, sym, arith, [], ◌==◌, ◌&&◌}
+use Rattle.vms_check.proofs.Facade.{if◌then◌else◌, nat_tests, and_from, Item, Count, Counted, counted, Field, lesser, least_from, least_of, absent_hold, bound}
+use Rattle.vms_check.proofs.Facade.{greatest, has_room, is_absent}
 use Rattle.vms_check.specs.Comparing as comparing
-use Rattle.vms_check.specs.Comparing.{absent_hold, bound, greatest, has_room, is_absent}
 
 -- ---- the greatest number
 

@@ -1,20 +1,9 @@
 -- Which sets are compatible, and what is carried over.
-use Rattle.std.proofs.Common.{◌≡◌, ℕ, List, [], ◌∷◌, Option, Some, None, pos, refl, codes}
-use Rattle.vms_kinds.specs.declared.Kind.TheVariants.{U8, U16, I8}
-use Rattle.vms_kinds.specs.declared.Item.TheVariants.{Equal, Unused, Struct}
+use Rattle.vms_check.proofs.Facade.{◌≡◌, ℕ, List, [], ◌∷◌, Option, Some, None, pos, refl, codes, U8, U16, I8, Equal, Unused, Struct, Place, Fixed, Counted, Eq}
+use Rattle.vms_check.proofs.Facade.{Lt, Own, Set, Desc, Field, Sub, Formula, Below, Cell, And, first, here, in_field, Mismatch, first_mismatch, carried, set_0}
+use Rattle.vms_check.proofs.Facade.{set_1, set_3, number, box, box_set, counted_set, subsection_set, tested_set, empty_set}
 use Rattle.vms_spec.specs.declared.Part.TheVariants as parts
-use Rattle.vms_spec.specs.declared.Place.{Place}
-use Rattle.vms_spec.specs.declared.Count.TheVariants.{Fixed, Counted}
-use Rattle.vms_spec.specs.declared.Rel.TheVariants.{Eq, Lt}
-use Rattle.vms_spec.specs.declared.Whose.TheVariants.{Own}
-use Rattle.vms_spec.specs.Sets.{Set, Desc, Field, Sub, Formula, Below, Cell, And}
-use Rattle.vms_spec.specs.Layout.{first}
-use Rattle.vms_spec.specs.WellFormed.{here, in_field}
-use Rattle.vms_check.specs.declared.mismatch.Mismatch.{Mismatch}
-use Rattle.vms_check.specs.Comparing.{first_mismatch}
-use Rattle.vms_check.specs.Carrying.{carried}
-use Rattle.vms_spec.specs.Shipped.{set_0, set_1, set_3}
-use Rattle.vms_spec.proofs.Boxes.{number, box, box_set, sub_of, counted_set, subsection_set, tested_set, empty_set}
+use Rattle.vms_spec.proofs.Boxes.{sub_of}
 
 unfoldable compared : Set → Set → Option Mismatch
 unfolding first_mismatch
@@ -83,7 +72,8 @@ refuses_a_test_that_is_left_out = refl
 
 -- a version atom that holds is folded away
 accepts_a_test_that_holds_at_the_version : compared tested_set
-    (box_at 2 (number U8 (codes "f") ∷ record (number U8 (codes "g")) { test = Some (And (Below 2) (Cell Own 0 255 Eq 1)) } ∷ []) (Cell Own 0 255 Lt 10 ∷ []) [])
+    (box_at 2 (number U8 (codes "f") ∷ record (number U8 (codes "g")) { test = Some (And (Below 2) (Cell Own 0 255 Eq 1)) } ∷ [])
+    (Cell Own 0 255 Lt 10 ∷ []) [])
     ≡ None
 unfolding compared first
 accepts_a_test_that_holds_at_the_version = refl
@@ -169,7 +159,8 @@ carries_shared_numbers : carried two_numbers newer (record { version = 1; came =
 unfolding carried first
 carries_shared_numbers = refl
 
-carries_into_a_larger_array : carried counted_set (box_set (n ∷ v_of 4 ∷ []) [] []) (record { version = 1; came = []; numbers = pos 1 ∷ pos 7 ∷ pos 0 ∷ [] } ∷ [])
+carries_into_a_larger_array : carried counted_set (box_set (n ∷ v_of 4 ∷ []) [] [])
+    (record { version = 1; came = []; numbers = pos 1 ∷ pos 7 ∷ pos 0 ∷ [] } ∷ [])
     ≡ record { version = 1; came = []; numbers = pos 1 ∷ pos 7 ∷ pos 0 ∷ pos 0 ∷ pos 0 ∷ [] } ∷ []
 unfolding carried first
 carries_into_a_larger_array = refl

@@ -1,12 +1,6 @@
 -- Tests over lists and numbered rules, and what they say of each place.
-use Rattle.std.proofs.Common.{◌≡◌, ℕ, zero, suc, ◌+◌, List, ◌∷◌, Bool, true, false, Option, Some, None, refl, sym, ap, ◌∙◌, arith, []}
-use Rattle.std.specs.Prelude.{◌&&◌}
-use Rattle.std.specs.List.{slice_get, list_all}
-use Rattle.std.proofs.lemmas.Bool.{and_parts}
-use Rattle.vms_spec.specs.declared.Place.{Place}
-use Rattle.vms_spec.specs.Lists.{first_answer}
-use Rattle.vms_spec.proofs.ListLaws.{both_none}
-use Rattle.vms_check.specs.Comparing.{failing_pair}
+use Rattle.vms_check.proofs.Facade.{◌≡◌, ℕ, zero, suc, ◌+◌, List, ◌∷◌, Bool, true, false, Option, Some, None, refl, arith, [], slice_get, list_all, and_parts}
+use Rattle.vms_check.proofs.Facade.{Place, first_answer, both_none, failing_pair}
 
 pub passes : (rule : ℕ) (b : Bool) (rules : List (ℕ × Bool)) (p q : Place) → failing_pair ((rule, b) ∷ rules) p q ≡ None
     → (b ≡ true) × (failing_pair rules p q ≡ None)

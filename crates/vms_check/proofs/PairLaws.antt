@@ -1,22 +1,10 @@
 -- Two fields of the same position.
-use Rattle.std.proofs.Common.{◌≡◌, ℕ, Bool, true, false, Option, Some, None, refl, ◌≤◌, List, [], ◌∷◌, ap, ◌∙◌, subst}
-use Rattle.vms_spec.specs.Sets.{Formula, Field, Desc}
-use Rattle.vms_check.specs.Comparing.{is_nothing, same_rest, same_reduced, Comparer, Entry, absent_hold, bound, failing_pair, has_room, holds_as_much}
-use Rattle.vms_check.specs.Comparing.{is_absent, is_covered, pair_rules, pair_structs, uncovered_rules}
-use Rattle.vms_check.specs.Reducing.{Reduced, Known, Open, left_of, presence}
-use Rattle.vms_check.specs.Pairs.{tree_of}
-use Rattle.vms_check.specs.Sides.{field_reduced}
-use Rattle.std.specs.Prelude.{◌&&◌, ◌==◌, nat_le, if◌then◌else◌}
-use Rattle.std.proofs.lemmas.Bool.{and_parts, eq-eqb, eqb-true, leb-true, le-leb}
-use Rattle.vms_kinds.specs.declared.Item.{Item}
-use Rattle.vms_kinds.specs.declared.Item.TheVariants.{Struct}
-use Rattle.vms_spec.specs.declared.Count.{Count}
-use Rattle.vms_spec.specs.declared.Count.TheVariants.{One, Fixed, Counted}
-use Rattle.vms_spec.specs.declared.Part.{Part}
-use Rattle.vms_spec.specs.declared.Place.{Place}
-use Rattle.vms_spec.specs.Layout.{counted}
-use Rattle.vms_check.specs.Fitting.{AreAlike, ArePaired, in_old, in_new}
-use Rattle.vms_check.specs.declared.mismatch.Mismatch.{Mismatch}
+use Rattle.vms_check.proofs.Facade.{◌≡◌, ℕ, Bool, true, false, Option, Some, None, refl, ◌≤◌, List, [], ◌∷◌, ◌&&◌, ◌==◌, if◌then◌else◌, and_parts, eq-eqb}
+use Rattle.vms_check.proofs.Facade.{eqb-true, leb-true, le-leb, Formula, Field, Desc, is_nothing, same_rest, same_reduced, Comparer, Entry, absent_hold, bound}
+use Rattle.vms_check.proofs.Facade.{failing_pair, has_room, holds_as_much, is_absent, is_covered, pair_rules, uncovered_rules, Reduced, Known, Open, left_of}
+use Rattle.vms_check.proofs.Facade.{presence, tree_of, field_reduced, Struct, Count, One, Fixed, Counted, Part, Place, counted, AreAlike, ArePaired, in_old}
+use Rattle.vms_check.proofs.Facade.{in_new}
+use Rattle.std.specs.Prelude.{nat_le}
 use Rattle.vms_check.proofs.ListLaws.{passes, pass, every_at, at_every}
 
 -- ---- The rests of the tests of two present fields.

@@ -1,20 +1,10 @@
 -- The position of a field among the present ones is how many are present before it.
-use Rattle.std.proofs.Common.{◌≡◌, ℕ, zero, suc, ◌+◌, ◌<◌, ◌≤◌, List, ◌∷◌, ◌++◌, length, get_or, take, map, replicate, Bool, true, false, Option, Some, None}
-use Rattle.std.proofs.Common.{refl, sym, ap, ◌∙◌, arith, [], drop, subst, add-one}
-use Rattle.std.specs.Prelude.{not, ◌==◌, if◌then◌else◌}
-use Rattle.std.proofs.lemmas.Bool.{eq-eqb, ne_eqb}
-use Rattle.std.proofs.lemmas.List.{length-map, map-append, take-map, take_more, drop_all, drop_more}
-use Rattle.vms_spec.specs.Layout.{no_field}
-use Rattle.vms_spec.specs.Sets.{Formula, Field}
+use Rattle.vms_check.proofs.Facade.{◌≡◌, ℕ, zero, suc, ◌+◌, ◌<◌, ◌≤◌, List, ◌∷◌, ◌++◌, length, get_or, take, map, replicate, Bool, true, false, Option, Some}
+use Rattle.vms_check.proofs.Facade.{None, refl, sym, ap, ◌∙◌, arith, [], drop, add-one, not, ◌==◌, if◌then◌else◌, eq-eqb, ne_eqb, length-map, map-append}
+use Rattle.vms_check.proofs.Facade.{take-map, take_more, drop_more, no_field, Formula, Field, field_of, get_map_at, Entry, entry_of, position_from, is_absent}
+use Rattle.vms_check.proofs.Facade.{is_nothing, presence, Reduced, Known, left_of, fields_from, count_present, position_in, field_reduced, desc_on, tree_of}
+use Rattle.vms_check.proofs.Facade.{IsFirst, Present, Side}
 use Rattle.vms_parts.specs.declared.types.Field.{Field as CodeField}
-use Rattle.vms_parts.specs.Views.{field_of}
-use Rattle.vms_parts.proofs.Items.{get_map_at}
-use Rattle.vms_check.specs.Comparing.{Entry, entry_of, position_from, is_absent, is_nothing}
-use Rattle.vms_check.specs.Reducing.{presence, Reduced, Known, left_of}
-use Rattle.vms_check.specs.Sides.{fields_from, count_present, position_in, field_reduced, desc_on}
-use Rattle.vms_check.specs.Pairs.{tree_of, IsFirst}
-use Rattle.vms_check.specs.declared.present.Present.{Present}
-use Rattle.vms_check.specs.declared.side.Side.{Side}
 use Rattle.vms_check.proofs.PairLaws.{presence_is}
 
 by_presence : (p i : ℕ) (f : Field) (es : List Entry) (k : ℕ) (o : Option (Option Formula))

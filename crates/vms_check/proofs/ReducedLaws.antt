@@ -1,13 +1,8 @@
 -- Reduction keeps truth.
-use Rattle.std.proofs.Common.{◌≡◌, ℕ, Bool, true, false, not, ◌&&◌, refl, sym, ap, ◌∙◌, ◌||◌}
-use Rattle.std.proofs.Math.Bool.{and-true, and-false, or-true, or-false}
-use Rattle.vms_spec.specs.Sets.{Formula, AtLeast, Below, Cell, Not, And, Or}
-use Rattle.vms_spec.specs.Tests.{truth}
-use Rattle.vms_check.specs.Reducing.{Reduced, Known, Open, not_reduced, and_reduced, or_reduced, reduced, truth_of}
-use Rattle.std.proofs.lemmas.Bool.{and_parts}
-use Rattle.vms_spec.specs.declared.Rel.{Rel}
-use Rattle.vms_spec.specs.declared.Whose.TheVariants.{Own, Parent}
-use Rattle.vms_spec.specs.Rules.{names_well, nobody}
+use Rattle.vms_check.proofs.Facade.{◌≡◌, ℕ, Bool, true, false, refl, sym, ◌∙◌, ◌||◌, and-true, and-false, or-true, or-false, and_parts, Formula, AtLeast, Below}
+use Rattle.vms_check.proofs.Facade.{Cell, Not, And, Or, truth, Reduced, Known, Open, not_reduced, and_reduced, or_reduced, reduced, truth_of, Rel, Own, Parent}
+use Rattle.vms_check.proofs.Facade.{names_well, nobody}
+use Rattle.std.proofs.Common.{not, ◌&&◌}
 
 module _ (v : ℕ) (own parent : ℕ → ℕ) where
   abbrev holds : Reduced → Bool
@@ -74,7 +69,8 @@ module _ (P : Formula → Type 0) (parts : IsByParts P) where
   or_open _ _ h g = tt
 
   -- where each number that the test may name has it
-  pub open_reduced : (ok : ℕ → Bool) → ((field mask : ℕ) (rel : Rel) (value : ℕ) → ok field ≡ true → P (Cell Own field mask rel value)) → (v : ℕ) (t : Formula) → names_well ok nobody t ≡ true → IfOpen P (reduced v t)
+  pub open_reduced : (ok : ℕ → Bool) → ((field mask : ℕ) (rel : Rel) (value : ℕ) → ok field ≡ true → P (Cell Own field mask rel value))
+      → (v : ℕ) (t : Formula) → names_well ok nobody t ≡ true → IfOpen P (reduced v t)
   open_reduced ok has v (AtLeast n) e = tt
   open_reduced ok has v (Below n) e = tt
   open_reduced ok has v (Cell Own field mask rel value) e = has field mask rel value e

@@ -1,37 +1,19 @@
 -- A well-formed set is compatible to itself.
-use Rattle.std.proofs.Common.{◌≡◌, ℕ, zero, suc, ◌≤◌, min, List, ◌∷◌, ◌++◌, Bool, true, false, Some, refl, sym, ap, ◌∙◌, subst, arith, [], Option, None, inr}
-use Rattle.std.proofs.Common.{◌+◌, ◌<◌, length, get_or, append_assoc}
-use Rattle.std.specs.Prelude.{◌==◌, if◌then◌else◌, ◌&&◌, nat_le, nat_lt, ◌||◌}
-use Rattle.std.specs.List.{slice_get}
-use Rattle.std.proofs.lemmas.Bool.{eq-eqb, and_parts, le-leb, leb-true, and_from, eqb-true, or_left, or_right}
-use Rattle.vms_kinds.specs.declared.Item.{Item}
-use Rattle.vms_spec.specs.declared.Count.{Count}
-use Rattle.vms_spec.specs.declared.Count.TheVariants.{One, Fixed, Counted}
-use Rattle.vms_spec.specs.Layout.{counted, no_field, no_desc}
-use Rattle.vms_spec.specs.Sets.{Field, Formula, Cell, Desc, Sub, Device, Set}
-use Rattle.vms_check.specs.Comparing.{bound, least_of, holds_as_much, is_absent, is_nothing, kind_number, rel_number, same_constant, same_count, same_item}
-use Rattle.vms_check.specs.Comparing.{same_place, same_reduced, same_rest, same_test, Compatible, Entry, entry_of, is_found}
-use Rattle.std.proofs.lemmas.Option.{get_or_from_slice_get, slice_get_within}
-use Rattle.vms_kinds.specs.declared.Item.TheVariants.{Num, Equal, Unused, Struct}
-use Rattle.vms_spec.specs.declared.Whose.TheVariants.{Own}
-use Rattle.vms_spec.specs.Rules.{has_no_test, is_num, is_one, is_steady, is_steady_in, names_well, nobody, count_names_well, is_counting, is_earlier_in}
-use Rattle.vms_spec.specs.Rules.{test_names_well}
-use Rattle.vms_spec.proofs.NumberLaws.{same_number_itself}
-use Rattle.vms_spec.proofs.WellFormedLaws.{untested, Clean, struct_clean, device_parts, sub_clean, device_found, sub_found, beyond}
-use Rattle.vms_check.specs.Reducing.{Reduced, Known, Open, left_of, presence, reduced}
-use Rattle.vms_check.specs.Sides.{field_reduced, position_in, fields_from}
+use Rattle.vms_check.proofs.Facade.{◌≡◌, ℕ, zero, suc, ◌≤◌, min, List, ◌∷◌, ◌++◌, Bool, true, false, Some, refl, sym, ap, ◌∙◌, arith, [], Option, None, inr}
+use Rattle.vms_check.proofs.Facade.{◌+◌, ◌<◌, length, get_or, append_assoc, ◌==◌, if◌then◌else◌, ◌&&◌, nat_lt, slice_get, eq-eqb, and_parts, le-leb, leb-true}
+use Rattle.vms_check.proofs.Facade.{and_from, eqb-true, or_left, or_right, get_or_from_slice_get, slice_get_within, bytes_eq, bytes_eq-Decides}
+use Rattle.vms_check.proofs.Facade.{any_passes_from_place, Item, Count, One, Fixed, Counted, counted, no_field, no_desc, Field, Formula, Cell, Desc, Sub}
+use Rattle.vms_check.proofs.Facade.{Device, Set, bound, holds_as_much, is_absent, kind_number, rel_number, same_constant, same_count, same_item, same_place}
+use Rattle.vms_check.proofs.Facade.{same_reduced, same_rest, same_test, Compatible, Entry, entry_of, is_found, Num, Equal, Unused, Struct, Own, has_no_test}
+use Rattle.vms_check.proofs.Facade.{is_num, is_one, is_steady, is_steady_in, names_well, nobody, count_names_well, is_counting, is_earlier_in, test_names_well}
+use Rattle.vms_check.proofs.Facade.{same_number_itself, untested, Clean, struct_clean, device_parts, sub_clean, device_found, sub_found, beyond, Reduced, Known}
+use Rattle.vms_check.proofs.Facade.{Open, left_of, presence, reduced, field_reduced, position_in, fields_from, Rel, find_device, is_version_of, is_one_of}
+use Rattle.vms_check.proofs.Facade.{WellFormed, struct_rules, device_rules, sub_rules, ArePaired, DescsFit, DevicesFit, IsSubFor, fields_at}
+use Rattle.std.specs.Prelude.{nat_le}
+use Rattle.vms_check.specs.Comparing.{least_of}
 use Rattle.vms_check.proofs.PairLaws.{presence_is}
 use Rattle.vms_check.proofs.PositionLaws.{there_is}
 use Rattle.vms_check.proofs.ReducedLaws.{IfOpen, IsByParts, open_reduced}
-use Rattle.vms_spec.specs.declared.Rel.{Rel}
-use Rattle.std.specs.Str.{bytes_eq}
-use Rattle.std.proofs.lemmas.Slice.Eq.{bytes_eq-Decides}
-use Rattle.std.proofs.lemmas.Map.Keys.{any_passes_from_place}
-use Rattle.vms_spec.specs.Lookup.{find_device}
-use Rattle.vms_spec.specs.Readiness.{is_version_of}
-use Rattle.vms_spec.specs.Streams.{is_one_of}
-use Rattle.vms_spec.specs.WellFormed.{WellFormed, struct_rules, device_rules, sub_rules}
-use Rattle.vms_check.specs.Fitting.{ArePaired, DescsFit, DevicesFit, IsSubFor, fields_at}
 use Rattle.vms_check.proofs.ListLaws.{same_at}
 use Rattle.vms_check.proofs.SetsFit.{so_fits}
 

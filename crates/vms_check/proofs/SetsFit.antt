@@ -1,36 +1,16 @@
 -- Two descriptions and two sets: no rule fails exactly where they fit as the rules say.
-use Rattle.std.proofs.Common.{◌≡◌, inl, inr, ℕ, zero, suc, List, [], ◌∷◌, ◌++◌, length, get_or, Bool, true, false, Option, Some, None, refl, sym, ap, ◌∙◌}
-use Rattle.std.proofs.Common.{arith, ◌+◌, ◌<◌}
-use Rattle.std.specs.List.{slice_get}
-use Rattle.vms_kinds.specs.declared.Item.{Item}
-use Rattle.vms_kinds.specs.declared.Item.TheVariants.{Struct}
-use Rattle.vms_spec.specs.declared.Part.{Part}
-use Rattle.vms_spec.specs.Layout.{Cell, no_desc, struct_cells}
-use Rattle.vms_spec.specs.Lists.{or_else, first_answer}
-use Rattle.vms_spec.specs.Rules.{uses_below}
-use Rattle.vms_spec.specs.Sets.{Formula, Field, Desc, Sub, Device, Set}
-use Rattle.vms_spec.specs.WellFormed.{here, in_field, WellFormed, first_fault, struct_rules, device_rules, sub_rules}
-use Rattle.vms_check.specs.Comparing.{Comparer, Entry, compare_desc, compare_fields, entry_of, failing_pair, is_covered, is_kept, no_comparer, pair_rules}
-use Rattle.vms_check.specs.Comparing.{pair_structs, Compatible, compare_device, compare_sub, compare_subs, is_in}
-use Rattle.vms_check.specs.Fitting.{ArePaired, DescsFit, IsKept, fields_at, in_old, in_new, DevicesFit, Fits, IsSubFor, SetsFit}
-use Rattle.vms_check.specs.Reducing.{Reduced, Known, presence, reduced}
-use Rattle.vms_check.specs.Sides.{fields_from}
-use Rattle.vms_check.specs.declared.mismatch.Mismatch.{Mismatch}
+use Rattle.vms_check.proofs.Facade.{◌≡◌, inl, inr, ℕ, zero, suc, List, [], ◌∷◌, ◌++◌, length, get_or, Bool, true, false, Option, Some, None, refl, sym, ◌∙◌}
+use Rattle.vms_check.proofs.Facade.{arith, ◌+◌, ◌<◌, slice_get, is_none, ltb-true, slice_get-get_or, Item, Struct, Part, no_desc, struct_cells, or_else}
+use Rattle.vms_check.proofs.Facade.{first_answer, uses_below, Formula, Field, Desc, Sub, Device, Set, here, in_field, WellFormed, first_fault, struct_rules}
+use Rattle.vms_check.proofs.Facade.{device_rules, sub_rules, Comparer, Entry, compare_desc, compare_fields, entry_of, failing_pair, is_covered, is_kept}
+use Rattle.vms_check.proofs.Facade.{no_comparer, pair_rules, pair_structs, Compatible, compare_device, compare_sub, compare_subs, is_in, ArePaired, DescsFit}
+use Rattle.vms_check.proofs.Facade.{IsKept, fields_at, in_old, in_new, DevicesFit, Fits, IsSubFor, SetsFit, Reduced, Known, presence, reduced, fields_from}
+use Rattle.vms_check.proofs.Facade.{Mismatch, or_else_none, answers_none, both_none, find_device, find_sub, index, is_one_of, Clean, struct_clean, device_parts}
+use Rattle.vms_check.proofs.Facade.{sub_clean, none_is, AreRules, table, device_mismatch, lost_mismatch, machines_mismatch}
+use Rattle.vms_spec.specs.Layout.{Cell}
 use Rattle.vms_check.proofs.WholeLaws.{desc_split, AllBelow, structs_are, whole_is}
-use Rattle.vms_spec.proofs.Faultless.{or_else_none, answers_none}
-use Rattle.vms_spec.proofs.ListLaws.{both_none}
 use Rattle.vms_check.proofs.ListLaws.{passes, pass, every_at, at_every, none_answers}
 use Rattle.vms_check.proofs.PairLaws.{paired_so, so_paired}
-use Rattle.std.specs.Prelude.{is_none}
-use Rattle.std.proofs.lemmas.Bool.{ltb-true}
-use Rattle.std.proofs.lemmas.Option.{slice_get-get_or}
-use Rattle.vms_spec.specs.Lookup.{find_device, find_sub, index}
-use Rattle.vms_spec.specs.Streams.{is_one_of}
-use Rattle.vms_spec.proofs.WellFormedLaws.{Clean, struct_clean, device_parts, sub_clean}
-use Rattle.vms_desc.proofs.Bounds.{none_is}
-use Rattle.vms_check.specs.Laws.{AreRules}
-use Rattle.vms_check.specs.Pairs.{table}
-use Rattle.vms_check.specs.Wholes.{device_mismatch, lost_mismatch, machines_mismatch}
 use Rattle.vms_spec.specs.declared.Part.TheVariants as parts
 
 -- ---- Two descriptions: no rule fails exactly where they fit as the rules say.

@@ -1,16 +1,6 @@
 -- The shipped sets, each with every later one.
-use Rattle.std.proofs.Common.{◌≡◌, ℕ, zero, suc, ◌<◌, ◌≤◌, List, [], ◌∷◌, length, get_or, drop, Bool, true, refl, sym, ap, ◌∙◌, arith}
-use Rattle.std.specs.Prelude.{◌&&◌, is_none}
-use Rattle.std.specs.List.{list_all}
-use Rattle.std.proofs.lemmas.Bool.{and_parts}
-use Rattle.vms_kinds.specs.declared.TheConstants.{NEWEST_SET}
-use Rattle.vms_spec.specs.Layout.{first}
-use Rattle.vms_spec.specs.Sets.{Set}
-use Rattle.vms_spec.specs.Shipped.{shipped_sets}
-use Rattle.vms_desc.specs.Formed.{shipped_set}
-use Rattle.vms_desc.proofs.Bounds.{none_is}
-use Rattle.vms_desc.proofs.Formed.{numbered}
-use Rattle.vms_check.specs.Comparing.{Compatible, first_mismatch}
+use Rattle.vms_check.proofs.Facade.{◌≡◌, ℕ, zero, suc, ◌<◌, ◌≤◌, List, [], ◌∷◌, length, get_or, drop, Bool, true, refl, sym, ap, ◌∙◌, arith, ◌&&◌, is_none}
+use Rattle.vms_check.proofs.Facade.{list_all, and_parts, NEWEST_SET, first, Set, shipped_sets, shipped_set, none_is, numbered, Compatible, first_mismatch}
 
 abbrev are_compatible : Set → Set → Bool
 are_compatible old new = is_none (first_mismatch old new)

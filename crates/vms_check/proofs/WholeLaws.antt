@@ -1,37 +1,16 @@
 -- Descriptions, structures and whole sets: no rule depends on where cells begin, and what is found by its name.
-use Rattle.std.proofs.Common.{◌≡◌, ℕ, suc, ◌+◌, List, [], ◌∷◌, ◌++◌, length, map, Bool, true, false, Option, Some, None, refl, sym, ap, ◌∙◌, drop, ◌<◌, get_or}
-use Rattle.std.proofs.Common.{arith, ◌-◌, ◌≤◌}
-use Rattle.std.specs.Prelude.{◌==◌, if◌then◌else◌, not}
-use mathlib.Core.Path.{fun_ext}
-use Rattle.vms_spec.specs.declared.Part.{Part}
-use Rattle.vms_spec.specs.declared.Place.{Place}
-use Rattle.vms_spec.specs.Layout.{Cell, field_cells, first, no_desc, no_field, struct_cells}
-use Rattle.vms_spec.specs.Lists.{or_else, first_answer, position}
-use Rattle.vms_spec.specs.Sets.{Formula, Field, Desc, Set, Device, Sub}
-use Rattle.vms_spec.specs.WellFormed.{in_field, here}
-use Rattle.vms_check.specs.Comparing.{Comparer, Entry, compare_desc, compare_fields, compare_validations, entry_of, failing_pair, pair_structs, position_from}
-use Rattle.vms_check.specs.Comparing.{present, present_from, comparer_of, no_comparer, compare_device, compare_sub, compare_subs, first_mismatch, is_in}
-use Rattle.vms_check.specs.Reducing.{presence}
-use Rattle.vms_check.specs.Pairs.{failing_number, IsFirst, entry, fields_on, pair_mismatch, rules_on, structs_on, table_on, struct_mismatch, table}
-use Rattle.vms_check.specs.Sides.{fields_from, position_in, desc_on, position_on}
-use Rattle.vms_check.specs.declared.mismatch.Mismatch.{Mismatch}
-use Rattle.vms_kinds.specs.declared.Item.{Item}
-use Rattle.vms_kinds.specs.declared.Item.TheVariants.{Struct}
-use Rattle.vms_check.specs.declared.present.Present.{Present}
-use Rattle.vms_check.specs.declared.side.Side.{Side}
-use Rattle.std.proofs.lemmas.Bool.{ltb-true}
-use Rattle.vms_spec.specs.Rules.{uses_below}
-use Rattle.vms_spec.proofs.Tables.{first_at, first_long}
-use Rattle.vms_desc.specs.Formed.{is_well_formed}
-use Rattle.vms_desc.specs.Parts.{HasPart, desc_at, sub_at}
-use Rattle.vms_desc.proofs.Clean.{reach, field_clean, struct_clean}
-use Rattle.vms_desc.proofs.Ranks.{reach_whole}
-use Rattle.std.specs.List.{slice_get}
-use Rattle.std.proofs.lemmas.Option.{slice_get-get_or}
-use Rattle.vms_spec.specs.Lookup.{find_device, find_sub, index}
-use Rattle.vms_spec.proofs.ListLaws.{found_inside}
+use Rattle.vms_check.proofs.Facade.{◌≡◌, ℕ, suc, ◌+◌, List, [], ◌∷◌, ◌++◌, length, map, Bool, true, false, Option, Some, None, refl, sym, ap, ◌∙◌, drop, ◌<◌}
+use Rattle.vms_check.proofs.Facade.{get_or, arith, if◌then◌else◌, not, ltb-true, slice_get-get_or, fun_ext, Part, Place, field_cells, first, no_desc, no_field}
+use Rattle.vms_check.proofs.Facade.{struct_cells, or_else, first_answer, position, Formula, Field, Desc, Set, Device, Sub, in_field, here, Comparer, Entry}
+use Rattle.vms_check.proofs.Facade.{compare_desc, compare_fields, compare_validations, entry_of, failing_pair, pair_structs, position_from, present}
+use Rattle.vms_check.proofs.Facade.{present_from, comparer_of, no_comparer, compare_device, compare_sub, compare_subs, first_mismatch, is_in, presence}
+use Rattle.vms_check.proofs.Facade.{failing_number, IsFirst, fields_on, pair_mismatch, rules_on, structs_on, table_on, struct_mismatch, table, fields_from}
+use Rattle.vms_check.proofs.Facade.{position_in, desc_on, position_on, Mismatch, Item, Struct, Present, Side, uses_below, first_at, first_long, is_well_formed}
+use Rattle.vms_check.proofs.Facade.{HasPart, desc_at, sub_at, reach, field_clean, reach_whole, find_device, find_sub, index, found_inside, device_mismatch}
+use Rattle.vms_check.proofs.Facade.{is_missing, lost_mismatch, machines_mismatch}
+use Rattle.vms_spec.specs.Layout.{Cell}
+use Rattle.vms_desc.proofs.Clean.{struct_clean}
 use Rattle.vms_parts.specs.Devices.{device_at}
-use Rattle.vms_check.specs.Wholes.{device_mismatch, is_missing, lost_mismatch, machines_mismatch}
 use Rattle.vms_spec.specs.declared.Part.TheVariants as parts
 
 -- ---- answers one after the other

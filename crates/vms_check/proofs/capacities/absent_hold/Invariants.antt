@@ -1,6 +1,4 @@
-use Rattle.std.proofs.Common.{◌≡◌, map, drop}
-use Rattle.vms_parts.specs.Views.{field_of}
-use Rattle.vms_check.specs.Comparing.{absent_hold}
+use Rattle.vms_check.proofs.Facade.{◌≡◌, map, drop, field_of, absent_hold}
 use Rattle.vms_check.proofs.capacities.absent_hold.Given as goal
 
 abbrev pub invariant-loop-field : goal.invariant-loop-field

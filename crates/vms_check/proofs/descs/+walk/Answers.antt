@@ -1,12 +1,6 @@
-use Rattle.std.proofs.Common.{◌+◌, ◌*◌, ◌<◌, refl, sym, ap, ◌∙◌, arith, rules}
+use Rattle.vms_check.proofs.Facade.{◌+◌, ◌*◌, ◌<◌, refl, sym, ap, ◌∙◌, arith, rules, struct_cells, field_of, described, reach, desc_mismatch, table_on, desc_on}
+use Rattle.vms_check.proofs.Facade.{own_side, Side}
 use Rattle.vms_spec.specs.declared.Part.TheVariants as parts
-use Rattle.vms_spec.specs.Layout.{struct_cells}
-use Rattle.vms_parts.specs.Views.{field_of}
-use Rattle.vms_desc.specs.Described.{described}
-use Rattle.vms_desc.proofs.Clean.{reach}
-use Rattle.vms_check.specs.Pairs.{desc_mismatch, table_on}
-use Rattle.vms_check.specs.Sides.{desc_on, own_side}
-use Rattle.vms_check.specs.declared.side.Side.{Side}
 use Rattle.vms_check.proofs.WholeLaws.{first_is, later_is, desc_split, pair_passes, pair_stops, rule_fails, passes_whole, structs_are, uses_at}
 use Rattle.vms_check.proofs.descs.+walk.Goals as goal
 

@@ -1,8 +1,4 @@
-use Rattle.std.proofs.Common.{◌≡◌, ◌+◌, ◌*◌, ◌-◌, length, drop}
-use Rattle.vms_desc.specs.Described.{described}
-use Rattle.vms_desc.proofs.Clean.{reach}
-use Rattle.vms_check.specs.Pairs.{fields_on, all_fields_on}
-use Rattle.vms_check.specs.Sides.{desc_on, fields_from}
+use Rattle.vms_check.proofs.Facade.{◌≡◌, ◌+◌, ◌*◌, ◌-◌, length, drop, described, reach, fields_on, all_fields_on, desc_on, fields_from}
 use Rattle.vms_check.proofs.descs.+walk.Given as goal
 
 abbrev pub decreases-compare_structs : goal.decreases-compare_structs

@@ -1,7 +1,4 @@
-use Rattle.std.proofs.Common.{◌≡◌, map, drop}
-use Rattle.std.specs.List.{list_all}
-use Rattle.vms_parts.specs.Views.{formula}
-use Rattle.vms_check.specs.Pairs.{is_kept_test}
+use Rattle.vms_check.proofs.Facade.{◌≡◌, map, drop, list_all, formula, is_kept_test}
 use Rattle.vms_check.proofs.descs.are_kept.Given as goal
 
 abbrev pub invariant-loop-test : goal.invariant-loop-test

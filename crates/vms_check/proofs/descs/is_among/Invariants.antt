@@ -1,8 +1,4 @@
-use Rattle.std.proofs.Common.{◌≡◌, map, drop}
-use Rattle.std.specs.List.{list_any}
-use Rattle.vms_parts.specs.Views.{formula}
-use Rattle.vms_check.specs.Pairs.{is_left}
-use Rattle.vms_check.specs.Sides.{as_reduced}
+use Rattle.vms_check.proofs.Facade.{◌≡◌, map, drop, list_any, formula, is_left, as_reduced}
 use Rattle.vms_check.proofs.descs.is_among.Given as goal
 
 abbrev pub invariant-loop-test : goal.invariant-loop-test

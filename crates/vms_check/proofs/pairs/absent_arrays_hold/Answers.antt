@@ -1,7 +1,4 @@
-use Rattle.std.proofs.Common.{◌≡◌, ℕ, ◌≤◌, nat_le, true, sym, ap, ◌∙◌, arith}
-use Rattle.std.proofs.lemmas.Bool.Decides.{nat_tests}
-use Rattle.vms_check.specs.Comparing.{absent_hold}
-use Rattle.vms_check.specs.Sides.{desc_on}
+use Rattle.vms_check.proofs.Facade.{◌≡◌, ℕ, ◌≤◌, nat_le, true, sym, ap, ◌∙◌, arith, nat_tests, absent_hold, desc_on}
 use Rattle.vms_check.proofs.CapacityLaws.{room_some}
 use Rattle.vms_check.proofs.pairs.absent_arrays_hold.Goals as goal
 

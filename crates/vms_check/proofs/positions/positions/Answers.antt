@@ -1,6 +1,4 @@
-use Rattle.std.proofs.Common.{◌≢◌, ◌+◌, ◌<◌, ◌≤◌, length, inl, inr, refl, ◌∙◌, arith, get_or-set_other, get_or-set_same, below_more}
-use Rattle.std.proofs.Math.ListN.{length-set}
-use Rattle.std.proofs.lemmas.Bool.{cases_lt}
+use Rattle.vms_check.proofs.Facade.{◌≢◌, ◌<◌, length, inl, inr, refl, ◌∙◌, arith, get_or-set_other, get_or-set_same, below_more, length-set, cases_lt}
 use Rattle.vms_check.proofs.PositionLaws.{counted_is, counted_small, entry_is, none_at, position_beyond}
 use Rattle.vms_check.proofs.positions.positions.Goals as goal
 

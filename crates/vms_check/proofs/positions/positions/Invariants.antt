@@ -1,6 +1,4 @@
-use Rattle.std.proofs.Common.{◌≡◌, ℕ, ◌<◌, ◌≤◌, get_or, length, map, take, None}
-use Rattle.vms_parts.specs.Views.{field_of}
-use Rattle.vms_check.specs.Sides.{count_present, position_in}
+use Rattle.vms_check.proofs.Facade.{◌≡◌, ℕ, ◌<◌, ◌≤◌, get_or, length, map, take, None, field_of, count_present, position_in}
 use Rattle.vms_check.proofs.positions.positions.Given as goal
 
 abbrev pub invariant-loop-number : goal.invariant-loop-number

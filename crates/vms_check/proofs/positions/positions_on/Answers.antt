@@ -1,8 +1,4 @@
-use Rattle.std.proofs.Common.{length, ap, arith}
-use Rattle.std.proofs.lemmas.List.{length-map}
-use Rattle.vms_parts.specs.Views.{field_of}
-use Rattle.vms_desc.specs.Described.{described}
-use Rattle.vms_desc.proofs.Clean.{few_fields}
+use Rattle.vms_check.proofs.Facade.{length, ap, arith, length-map, field_of, described, few_fields}
 use Rattle.vms_check.proofs.positions.positions_on.Goals as goal
 
 pub positions-requires : goal.positions-requires

@@ -1,8 +1,4 @@
-use Rattle.std.proofs.Common.{◌∙◌, length, ap, refl, arith}
-use Rattle.std.proofs.lemmas.List.{length-map}
-use Rattle.vms_parts.specs.Views.{field_of}
-use Rattle.vms_desc.specs.Described.{described}
-use Rattle.vms_desc.proofs.Clean.{few_fields}
+use Rattle.vms_check.proofs.Facade.{◌∙◌, length, ap, refl, arith, length-map, field_of, described, few_fields}
 use Rattle.vms_check.proofs.PositionLaws.{skip_absent, first_found}
 use Rattle.vms_check.proofs.present.next_present.Goals as goal
 
@@ -26,5 +22,6 @@ returns-then-is_present c =
 pub loop-number-preserved : goal.loop-number-preserved
 loop-number-preserved c = record {
   later = omega (arith, c.loop-number.invariant.later);
-  same = skip_absent c.args.side _ c.fields_of-fields.ensures _ _ c.loop-number-test.true c.index-fields-number.is _ c.is_present.ensures c.if-is_present.false ∙ c.loop-number.invariant.same;
+  same = skip_absent c.args.side _ c.fields_of-fields.ensures _ _ c.loop-number-test.true c.index-fields-number.is _ c.is_present.ensures c.if-is_present.false
+      ∙ c.loop-number.invariant.same;
 }

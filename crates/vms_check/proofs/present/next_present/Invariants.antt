@@ -1,5 +1,4 @@
-use Rattle.std.proofs.Common.{◌≡◌, ◌-◌, ◌≤◌, drop, length}
-use Rattle.vms_check.specs.Sides.{fields_from, desc_on}
+use Rattle.vms_check.proofs.Facade.{◌≡◌, ◌-◌, ◌≤◌, drop, length, fields_from, desc_on}
 use Rattle.vms_check.proofs.present.next_present.Given as goal
 
 abbrev pub invariant-loop-number : goal.invariant-loop-number

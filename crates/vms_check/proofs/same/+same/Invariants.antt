@@ -1,7 +1,4 @@
-use Rattle.std.proofs.Common.{◌+◌, ◌*◌}
-use Rattle.vms_spec.specs.Rules.{nodes}
-use Rattle.vms_parts.specs.Views.{formula}
-use Rattle.vms_check.specs.Sides.{left_nodes}
+use Rattle.vms_check.proofs.Facade.{◌+◌, ◌*◌, nodes, formula, left_nodes}
 use Rattle.vms_check.proofs.same.+same.Given as goal
 
 abbrev pub decreases-same_reduced : goal.decreases-same_reduced

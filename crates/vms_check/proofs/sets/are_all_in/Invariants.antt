@@ -1,6 +1,4 @@
-use Rattle.std.proofs.Common.{◌≡◌, drop}
-use Rattle.std.specs.List.{list_all}
-use Rattle.vms_spec.specs.Streams.{is_one_of}
+use Rattle.vms_check.proofs.Facade.{◌≡◌, drop, list_all, is_one_of}
 use Rattle.vms_check.proofs.sets.are_all_in.Given as goal
 
 abbrev pub invariant-loop-name : goal.invariant-loop-name

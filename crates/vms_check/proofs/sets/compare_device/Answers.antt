@@ -1,6 +1,4 @@
-use Rattle.std.proofs.Common.{ap, ◌∙◌}
-use Rattle.vms_spec.specs.Sets.{Device}
-use Rattle.vms_desc.specs.Described.{described, device_at}
+use Rattle.vms_check.proofs.Facade.{ap, ◌∙◌, Device, described, device_at}
 use Rattle.vms_check.proofs.WholeLaws.{device_in, device_found}
 use Rattle.vms_check.proofs.sets.compare_device.Goals as goal
 

@@ -1,7 +1,4 @@
-use Rattle.std.proofs.Common.{◌≡◌, map, ap, ◌∙◌}
-use Rattle.vms_spec.specs.Sets.{Set}
-use Rattle.vms_parts.specs.Views.{device_of}
-use Rattle.vms_desc.specs.Described.{described}
+use Rattle.vms_check.proofs.Facade.{◌≡◌, map, ap, ◌∙◌, Set, device_of, described}
 use Rattle.vms_check.proofs.WholeLaws.{old_lost, new_lost, none_lost}
 use Rattle.vms_check.proofs.sets.compare_names.Goals.{After-as_slice, After-as_slice-2}
 use Rattle.vms_check.proofs.sets.compare_names.Goals as goal

@@ -1,13 +1,6 @@
-use Rattle.std.proofs.Common.{◌≡◌, length, map, ap, ◌∙◌, arith}
-use Rattle.std.proofs.lemmas.List.{length-map}
+use Rattle.vms_check.proofs.Facade.{◌≡◌, length, map, ap, ◌∙◌, arith, length-map, Desc, Device, sub_of, described, device_at, sub_at, few_subs, part_mismatch}
+use Rattle.vms_check.proofs.Facade.{Side}
 use Rattle.vms_spec.specs.declared.Part.TheVariants as parts
-use Rattle.vms_spec.specs.Sets.{Desc, Device}
-use Rattle.vms_parts.specs.Views.{sub_of}
-use Rattle.vms_desc.specs.Described.{described, device_at}
-use Rattle.vms_desc.specs.Parts.{sub_at}
-use Rattle.vms_desc.proofs.Clean.{few_subs}
-use Rattle.vms_check.specs.Wholes.{part_mismatch}
-use Rattle.vms_check.specs.declared.side.Side.{Side}
 use Rattle.vms_check.proofs.WholeLaws.{sub_in, sub_found}
 use Rattle.vms_check.proofs.sets.compare_sub.Goals.{After-as_slice}
 use Rattle.vms_check.proofs.sets.compare_sub.Goals as goal

@@ -1,7 +1,4 @@
-use Rattle.std.proofs.Common.{◌≡◌, ◌-◌, drop, length}
-use Rattle.vms_spec.specs.Lists.{first_answer}
-use Rattle.vms_desc.specs.Described.{described, device_at}
-use Rattle.vms_check.specs.Comparing.{compare_subs}
+use Rattle.vms_check.proofs.Facade.{◌≡◌, ◌-◌, drop, length, first_answer, described, device_at, compare_subs}
 use Rattle.vms_check.proofs.sets.compare_subs.Given as goal
 
 abbrev pub invariant-loop-number : goal.invariant-loop-number

@@ -1,5 +1,4 @@
-use Rattle.std.proofs.Common.{sym, ◌∙◌}
-use Rattle.vms_desc.specs.Described.{described}
+use Rattle.vms_check.proofs.Facade.{sym, ◌∙◌, described}
 use Rattle.vms_check.proofs.WholeLaws.{first_is, later_is, whole_is}
 use Rattle.vms_check.proofs.sets.first_mismatch.Goals as goal
 

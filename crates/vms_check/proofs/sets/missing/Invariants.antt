@@ -1,8 +1,4 @@
-use Rattle.std.proofs.Common.{◌≡◌, drop, map}
-use Rattle.vms_spec.specs.Lists.{position}
-use Rattle.vms_parts.specs.Views.{device_of}
-use Rattle.vms_desc.specs.Described.{described}
-use Rattle.vms_check.specs.Wholes.{is_missing}
+use Rattle.vms_check.proofs.Facade.{◌≡◌, drop, map, position, device_of, described, is_missing}
 use Rattle.vms_check.proofs.sets.missing.Given as goal
 
 abbrev pub invariant-loop-number : goal.invariant-loop-number
