@@ -9,7 +9,8 @@ pub mod PackCommand
 pub mod PlayCommand
 pub mod SaveCommand
 pub mod ShowCommand
-use Rattle.vms_cli.proofs.Facade.{◌∷◌, List, [], ℕ, Option, Some, None, inr, codes, refl, bytes_eq, option_map, set_word, shipped_word, Asked, Analyze, Check, Convert}
+use Rattle.vms_cli.proofs.Facade.{◌∷◌, List, [], ℕ, Option, Some, None, inr, codes, refl, bytes_eq, option_map, set_word, shipped_word, Asked, Analyze, Check}
+use Rattle.vms_cli.proofs.Facade.{Convert}
 use Rattle.vms_cli.proofs.Facade.{Counter, Drill, Load, Pack, Play, Save, Show, board_word, convertible, few_events, isa_level, number_word, of_both, drill_of}
 use Rattle.vms_cli.proofs.Facade.{pair_of, save_of, single_of, triple_of, with_file, entry_of, course_of, AskedLaw, CanBeAsked}
 use Rattle.vms_cli.proofs.Entries.AnalyzeCommand.{analyze_row}
@@ -55,10 +56,12 @@ single-asked name set =
 pair-asked : (name one other : List ℕ) → CanBeAsked (pair_of name one other)
 unfolding pair_of
 pair-asked name one other =
-    either-asked (bytes_eq name (codes "check")) (of_both Check (set_word one) (set_word other)) _ (both-asked Check (set_word one) (set_word other) (λ a b. tt))
+    either-asked (bytes_eq name (codes "check")) (of_both Check (set_word one) (set_word other)) _
+    (both-asked Check (set_word one) (set_word other) (λ a b. tt))
     (either-asked (bytes_eq name (codes "counter")) (of_both Counter (set_word one) (set_word other)) _
     (both-asked Counter (set_word one) (set_word other) (λ a b. tt))
-    (either-asked (bytes_eq name (codes "pack")) (with_file Pack (set_word one) other) _ (file-asked Pack (set_word one) other (all-some (set_word one) (λ a. tt)))
+    (either-asked (bytes_eq name (codes "pack")) (with_file Pack (set_word one) other) _
+    (file-asked Pack (set_word one) other (all-some (set_word one) (λ a. tt)))
     (either-asked (bytes_eq name (codes "load")) (with_file Load (board_word one) other) _ (file-asked Load (board_word one) other (word-board one))
     (either-asked (bytes_eq name (codes "play")) (with_file Play (isa_level (board_word one)) other) None
     (file-asked Play (isa_level (board_word one)) other (word-level one)) tt))))

@@ -78,7 +78,8 @@ pub use Rattle.vms_check.specs.Carrying.{carried}
 pub use Rattle.vms_check.specs.Comparing.{Compatible, first_mismatch}
 pub use Rattle.vms_check.specs.declared.mismatch.Mismatch.{Mismatch}
 pub use Rattle.vms_check_laws.proofs.Streaming.{upgrade_stands}
-pub use Rattle.vms_cli.specs.Commands.AnalyzeCommand.{EndsLike, FailsReading, FailsWriting, GivesListed, IsListing, IsRefused, analyze_course, analyze_entry, bytes_taken}
+pub use Rattle.vms_cli.specs.Commands.AnalyzeCommand.{EndsLike, FailsReading, FailsWriting, GivesListed, IsListing, IsRefused, analyze_course, analyze_entry}
+pub use Rattle.vms_cli.specs.Commands.AnalyzeCommand.{bytes_taken}
 pub use Rattle.vms_cli.specs.Commands.AnalyzeCommand.{listing_outcome, unlisted_line}
 pub use Rattle.vms_cli.specs.AnalyzeLaws.{PackThenAnalyzeLaw, PrintsAlike, SaveThenAnalyzeLaw, ShowThenAnalyzeLaw}
 pub use Rattle.vms_cli.specs.Answers.{HasOutcome, Verdict}
@@ -90,11 +91,13 @@ pub use Rattle.vms_cli.specs.Commands.DrillCommand.{drill_entry, few_events}
 pub use Rattle.vms_cli.specs.Commands.LoadCommand.{load_entry}
 pub use Rattle.vms_cli.specs.Commands.PlayCommand.{play_entry}
 pub use Rattle.vms_cli.specs.Commands.SaveCommand.{MaySaveOn, save_entry, saved_on}
-pub use Rattle.vms_cli.specs.Commands.{Analyze, Asked, Check, Convert, Counter, Drill, Load, Pack, Play, Save, Show, asked_of, drill_of, entry_of, of_both, save_of}
+pub use Rattle.vms_cli.specs.Commands.{Analyze, Asked, Check, Convert, Counter, Drill, Load, Pack, Play, Save, Show, asked_of, drill_of, entry_of, of_both}
+pub use Rattle.vms_cli.specs.Commands.{save_of}
 pub use Rattle.vms_cli.specs.Commands.{save_on, task_of, with_file}
 unfoldable pub use Rattle.vms_cli.specs.Commands.{pair_of, single_of, triple_of}
 pub use Rattle.vms_cli.specs.Continuation.{Continuation, ContinuesBy, goes_on}
-pub use Rattle.vms_cli.specs.Commands.ConvertCommand.{CanBeConverted, ConvertGives, Converts, ConvertsBy, ConvertsStream, ConvertsWell, ConvertsWith, IsDone, IsInNewest, IsLost, IsMismatch}
+pub use Rattle.vms_cli.specs.Commands.ConvertCommand.{CanBeConverted, ConvertGives, Converts, ConvertsBy, ConvertsStream, ConvertsWell, ConvertsWith, IsDone}
+pub use Rattle.vms_cli.specs.Commands.ConvertCommand.{IsInNewest, IsLost, IsMismatch}
 pub use Rattle.vms_cli.specs.Commands.ConvertCommand.{LacksLine, LacksMemory, NamesCell, Rewrites, WouldLose, agreed, agrees, convert_course, convert_entry}
 pub use Rattle.vms_cli.specs.Commands.ConvertCommand.{convertible, lost_line, newest, target}
 pub use Rattle.vms_cli.specs.ConvertLaws.{ConvertAgainLaw, ConvertThenAnalyzeLaw, ConvertThenLoadLaw, StandsFor}
@@ -102,7 +105,8 @@ pub use Rattle.vms_cli.specs.Commands.CounterCommand.{Answers, CountersBy, count
 pub use Rattle.vms_cli.specs.Laws.{AmpleLaw, AskedLaw, CanBeAsked, CanBeDone, CheckThenShowLaw, CompleteLaw, HasOne}
 pub use Rattle.vms_cli.specs.Laws.{HasOneOutcome, HasRoom, IsAmple, NoneRises, OutcomeLaw, PackThenShowLaw, PromisesKept, ShowThenPackLaw}
 pub use Rattle.vms_cli.specs.Limits.{LimitsLaw}
-pub use Rattle.vms_cli.specs.Commands.PackCommand.{CanBePacked, Parts, described_stream, named_parts, packed, packed_by, packed_parts, pack_entry, packs, parts_of, with_values}
+pub use Rattle.vms_cli.specs.Commands.PackCommand.{CanBePacked, Parts, described_stream, named_parts, packed, packed_by, packed_parts, pack_entry, packs}
+pub use Rattle.vms_cli.specs.Commands.PackCommand.{parts_of, with_values}
 pub use Rattle.vms_cli.specs.Program.{OutFlushed, OutLate}
 pub use Rattle.vms_cli.specs.Rows.{CanAnswer, ComesSeen, DoesSeen, HasCause, OutcomeWith}
 pub use Rattle.vms_cli.specs.Entry.{Entry}

@@ -5,7 +5,6 @@ use Rattle.vms_cli.proofs.Facade.{accepted_holds, Ending, SetText, fetched, fetc
 use Rattle.vms_cli.proofs.Facade.{Untold, Gives, Ends, next, IsSound, sound_fetch, sound_next, sound_set, sound_word, described_stream, named_parts, packed}
 use Rattle.vms_cli.proofs.Facade.{packed_by, packed_parts, packs, with_values}
 use Rattle.vms_values.specs.declared.fault.Values.{Values as Given}
-use Rattle.vms_values.specs.declared.fault.ValuesFault.TheVariants as faults
 
 ready_of : (set : Set) → IsFit set → (text : List ℕ) (r : ValuesRead) (v : Given) → values_read set text ≡ r → ReadsAs set r (Ok v)
     → AreReady set (map state_of v.images.items)

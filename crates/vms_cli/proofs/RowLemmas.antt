@@ -308,8 +308,8 @@ module _ (i i' : Intake) (o o' n n' : Outlet) (s s' : Stock) where
 
   -- ---- the row
 
-  pub row_so : (asked : Option Asked) → Fits (course_of asked) → (e : Option Ending) (status : ℕ) → Runs (task_of asked) (moment i o s) (moment i' o' s') e → (asked ≡ None → o' ≡ o)
-      → Tells n n' e status → CanAnswer asked status old new
+  pub row_so : (asked : Option Asked) → Fits (course_of asked) → (e : Option Ending) (status : ℕ)
+      → Runs (task_of asked) (moment i o s) (moment i' o' s') e → (asked ≡ None → o' ≡ o) → Tells n n' e status → CanAnswer asked status old new
   row_so asked fits e status c unnamed t =
       let h = c.so in
       let said = told e status t in

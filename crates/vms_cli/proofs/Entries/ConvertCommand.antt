@@ -1,5 +1,6 @@
 -- `convert` has one outcome, and what can be converted is.
-use Rattle.vms_cli.proofs.Facade.{◌≡◌, ◌⊎◌, ℕ, ◌+◌, List, Option, Some, None, inl, inr, refl, sym, ap, ◌∙◌, subst, arith, none-some, Held, IsBytes, IsFit, Image, Set}
+use Rattle.vms_cli.proofs.Facade.{◌≡◌, ◌⊎◌, ℕ, ◌+◌, List, Option, Some, None, inl, inr, refl, sym, ap, ◌∙◌, subst, arith, none-some, Held, IsBytes, IsFit}
+use Rattle.vms_cli.proofs.Facade.{Image, Set}
 use Rattle.vms_cli.proofs.Facade.{Answer, Taken, Faulty, Takes, either_holds, taken_kept, Compatible, first_mismatch, Mismatch, IsStreamFor, LosesFirst}
 use Rattle.vms_cli.proofs.Facade.{word_set, refused_line, done, ended, SetWord, Step, Untold, Gives, Ends, next, FitStep, fit_word, IsSound, sound_next}
 use Rattle.vms_cli.proofs.Facade.{sound_word_set, ConvertsBy, Rewrites, WouldLose, agreed, agrees, lost_line, newest, target, CanBeConverted, HasOne}

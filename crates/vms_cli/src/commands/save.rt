@@ -40,7 +40,8 @@ pub(crate) fn save_of<'a>(board: &str, set: &str, script: &'a str) -> Option<Com
 
 // Returns the command that saves a board under a set, if that is of the board's kind and at or above it.
 fn save_under<'a>(board: BoardWord, set: ShippedSet, script: &'a str) -> Option<Command<'a>>
-    ensures { option_map asked result ≡ option_map (λ number. Save (board_asked board) number script.now)
+    ensures { option_map asked result
+        ≡ option_map (λ number. Save (board_asked board) number script.now)
         (saved_set (board_asked board) (shipped_asked set)) }
 {
     match (board, set) {
