@@ -10,6 +10,7 @@ ghost use Rattle.vms_parts.specs.Views.{set_of, device_of};
 ghost use Rattle.vms_image.specs.Typed.{state_of};
 ghost use Rattle.vms_values.specs.Printing.{AreOf, IsOf, machine_of, section_text, sub_text, whole_sub};
 
+use crate::line::Line;
 use crate::lines::write_pieces;
 use crate::shown::{Shown, print_lines};
 use itoa::Buffer;
@@ -69,14 +70,20 @@ fn print_devices<K: Sink>(set: &DescSet, images: &[Image], sink: &mut K) -> Resu
         let text = devices_lines set set.devices (map state_of images.now) in
         Wrote (outlet K.Sink sink.old) (outlet K.Sink sink.new) text result }
 {
+    let mut line = Line::new();
     for device in 0..set.parts().devices.as_slice().len() as u32 {
         let image = &images[device as usize];
-        print_device(Shown { set, image }, device, sink)?;
+        print_device(Shown { set, image }, device, &mut line, sink)?;
     }
     Ok(())
 }
 
-fn print_device<K: Sink>(shown: Shown, device: u32, sink: &mut K) -> Result<(), Failed>
+fn print_device<K: Sink>(
+    shown: Shown,
+    device: u32,
+    line: &mut Line,
+    sink: &mut K,
+) -> Result<(), Failed>
     requires is_device { device < length (described shown.set.now).devices }
     requires of { let set = described shown.set.now in
         IsOf set (device_at set device) (state_of shown.image.now) }
@@ -92,8 +99,8 @@ fn print_device<K: Sink>(shown: Shown, device: u32, sink: &mut K) -> Result<(), 
         version,
         base: 0,
     };
-    print_lines(shown, own, sink)?;
-    print_subs(shown, device, sink)
+    print_lines(shown, own, line, sink)?;
+    print_subs(shown, device, line, sink)
 }
 
 // Prints the line of a section.
@@ -112,7 +119,12 @@ fn print_section<K: Sink>(device: &Device, version: u32, sink: &mut K) -> Result
 }
 
 // Prints the subsections, whether or not they came.
-fn print_subs<K: Sink>(shown: Shown, device: u32, sink: &mut K) -> Result<(), Failed>
+fn print_subs<K: Sink>(
+    shown: Shown,
+    device: u32,
+    line: &mut Line,
+    sink: &mut K,
+) -> Result<(), Failed>
     requires is_device { device < length (described shown.set.now).devices }
     requires of { let set = described shown.set.now in
         IsOf set (device_at set device) (state_of shown.image.now) }
@@ -123,12 +135,18 @@ fn print_subs<K: Sink>(shown: Shown, device: u32, sink: &mut K) -> Result<(), Fa
         Wrote (outlet K.Sink sink.old) (outlet K.Sink sink.new) text result }
 {
     for sub in 0..shown.set.sub_count(device) {
-        print_sub(shown, device, sub, sink)?;
+        print_sub(shown, device, sub, line, sink)?;
     }
     Ok(())
 }
 
-fn print_sub<K: Sink>(shown: Shown, device: u32, sub: u32, sink: &mut K) -> Result<(), Failed>
+fn print_sub<K: Sink>(
+    shown: Shown,
+    device: u32,
+    sub: u32,
+    line: &mut Line,
+    sink: &mut K,
+) -> Result<(), Failed>
     requires is_device { device < length (described shown.set.now).devices }
     requires is_sub { let set = described shown.set.now in
         sub < length (device_at set device).subs }
@@ -147,7 +165,7 @@ fn print_sub<K: Sink>(shown: Shown, device: u32, sub: u32, sink: &mut K) -> Resu
         version: desc.version,
         base: shown.set.first_cell(part),
     };
-    print_lines(shown, spot, sink)
+    print_lines(shown, spot, line, sink)
 }
 
 // Prints the line of a subsection: the version at which it came, or a dash.

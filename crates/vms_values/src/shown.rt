@@ -36,15 +36,21 @@ struct Run {
     count: u32,
 }
 
-/// Prints the lines of a part.
-pub(crate) fn print_lines<K: Sink>(shown: Shown, spot: PartAt, sink: &mut K) -> Result<(), Failed>
+/// Prints the lines of a part. What `line` holds doesn't matter.
+pub(crate) fn print_lines<K: Sink>(
+    shown: Shown,
+    spot: PartAt,
+    line: &mut Line,
+    sink: &mut K,
+) -> Result<(), Failed>
     requires spot { HasSpot (described shown.set.now) spot shown.image.now.numbers }
     ensures { let set = described shown.entry.set.now in
         let d = desc_at set spot.part in
         let text = desc_lines (printers set) d [] shown.entry.image.now.numbers spot.base in
         Wrote (outlet K.Sink sink.old) (outlet K.Sink sink.new) text result }
 {
-    print_part(shown, spot, &mut Line::new(), sink)
+    line.cut(0);
+    print_part(shown, spot, line, sink)
 }
 
 // Prints the lines of a part, or of one element of a structure, whose path is in `line`.

@@ -4,4 +4,4 @@ use Rattle.vms_values.proofs.shown.print_lines.Goals as goal
 
 pub print_part-requires-clause-short : goal.print_part-requires-clause-short
 print_part-requires-clause-short g c =
-    omega (arith, ap length c.new.ensures, part_short (described c.args.shown.set.now) c.args.shown.set.now.well_formed c.args.spot.part c.requires.spot.part)
+    omega (arith, ap length c.cut.ensures, part_short (described c.args.shown.set.now) c.args.shown.set.now.well_formed c.args.spot.part c.requires.spot.part)
