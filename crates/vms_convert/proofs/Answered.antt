@@ -1,10 +1,10 @@
 -- Of each state of the newer set something comes back, and either all is kept or something is lost first.
-use Rattle.vms_convert.proofs.Facade.{◌≡◌, ◌⊎◌, inl, inr, ℕ, zero, suc, ◌+◌, ◌<◌, ◌≤◌, Bool, true, false, List, [], ◌∷◌, ◌++◌, length, length-append, get_or}
-use Rattle.vms_convert.proofs.Facade.{map, Option, Some, None, ℤ, pos, refl, sym, ap, ◌∙◌, subst, arith, signed_Decides, int_eq, length-map, slice_get-get_or}
-use Rattle.vms_convert.proofs.Facade.{slice_get_within, slice_get, IsFit, Cell, Slot, Number, Constant, Filler, Rule, device_cells, find_device, Device, Set}
-use Rattle.vms_convert.proofs.Facade.{Image, IsValid, RulesHold, image_slots, is_one_of, WellFormed, device_at, carried, no_image, Compatible, device_partners}
-use Rattle.vms_convert.proofs.Facade.{AreOfKinds, Pair, pair, all_in, IsBack, IsPairAt, recast_each, AnswerLaw, ComesBack, DifferAt, IsValidAt, KeepsAll, Loses}
-use Rattle.vms_convert.proofs.Facade.{OfCell, OfDevice, OfMachine, first_cell, numbers_in}
+use Rattle.vms_convert.proofs.Facade.{◌≡◌, ◌⊎◌, inl, inr, ℕ, zero, suc, ◌<◌, ◌≤◌, Bool, true, false, List, [], ◌∷◌, ◌++◌, length, length-append, get_or, map}
+use Rattle.vms_convert.proofs.Facade.{Option, Some, None, ℤ, pos, refl, sym, ap, ◌∙◌, arith, signed_Decides, int_eq, length-map, slice_get-get_or}
+use Rattle.vms_convert.proofs.Facade.{slice_get_within, slice_get, IsFit, Cell, Slot, Rule, device_cells, find_device, Device, Set, Image, RulesHold}
+use Rattle.vms_convert.proofs.Facade.{image_slots, is_one_of, WellFormed, device_at, carried, no_image, Compatible, device_partners, AreOfKinds, Pair, pair}
+use Rattle.vms_convert.proofs.Facade.{all_in, IsBack, IsPairAt, recast_each, AnswerLaw, ComesBack, DifferAt, IsValidAt, KeepsAll, Loses, OfCell, OfDevice}
+use Rattle.vms_convert.proofs.Facade.{OfMachine, first_cell, numbers_in}
 use Rattle.vms_convert.proofs.BackNormal.{gives_long}
 use Rattle.vms_convert.proofs.HasBack.{extend, has_back}
 use Rattle.vms_convert.proofs.LostLaws.{Older, older, older_pair, there_is, there_long, no_device}
@@ -62,13 +62,8 @@ first_lost (x ∷ xs) (y ∷ ys) l each = here (first_differ x y (each 0 (omega 
 either_valid : (slots : List Slot) → RulesHold slots ⊎ (RulesHold slots → ⊥)
 either_valid [] = inl tt
 either_valid (Rule false ∷ slots) = inr (λ h. (let e : false ≡ true = h.0 in cc))
-either_valid (Rule true ∷ slots) = go (either_valid slots) where
-  go : RulesHold slots ⊎ (RulesHold slots → ⊥) → RulesHold (Rule true ∷ slots) ⊎ (RulesHold (Rule true ∷ slots) → ⊥)
-  go (inl h) = inl (refl, h)
-  go (inr n) = inr (λ h. n h.1)
-either_valid (Number c kind capacities ∷ slots) = either_valid slots
-either_valid (Constant kind z ∷ slots) = either_valid slots
-either_valid (Filler n ∷ slots) = either_valid slots
+either_valid (Rule true ∷ slots) = elim (either_valid slots) [ inl h ↦ inl (refl, h) | inr n ↦ inr (λ h. n h.1) ]
+either_valid (_ ∷ slots) = either_valid slots
 
 module _ (to new : Set) (fit : IsFit to) (well : WellFormed new) (compatible : Compatible to new) where
   -- ---- an image of each device
@@ -94,16 +89,17 @@ module _ (to new : Set) (fit : IsFit to) (well : WellFormed new) (compatible : C
 
   backs_next : (wanted : List (List ℤ)) (n : ℕ) → n < length to.devices → HasBacks wanted n → HasBacks wanted (suc n)
   backs_next wanted n lt h =
-      let count = h.count in
       record {
         backs = h.backs ++ one.image ∷ [];
-        count = length-append h.backs (one.image ∷ []) ∙ ap (λ (m : ℕ). m + 1) count ∙ next n;
-        each = λ i k d e image p at. by i k d e image p (at_more h.backs one.image i image at);
+        count = omega (arith, length-append h.backs (one.image ∷ []), h.count);
+        each = λ i k d e image p at. elim (at_more h.backs one.image i image at) [
+          | inl at ↦ h.each i k d e image p at
+          | inr r ↦
+              back_there wanted n i k newer.number (device_at to n) d newer.device e image (r.0 ∙ h.count) there newer.found newer.stands p
+              (rw (← r.1) one.is_back)
+        ];
       }
     where
-      next : (m : ℕ) → m + 1 ≡ suc m
-      next m = omega arith
-
       there : slice_get to.devices n ≡ Some (device_at to n)
       there = slice_get-get_or to.devices n no_device lt
 
@@ -112,13 +108,6 @@ module _ (to new : Set) (fit : IsFit to) (well : WellFormed new) (compatible : C
 
       one : ComesBack to (device_at to n) (device_partners to new (device_at to n) newer.device) (get_or wanted newer.number [])
       one = has_back to fit n (device_at to n) there (device_partners to new (device_at to n) newer.device) (get_or wanted newer.number [])
-
-      by : (i k : ℕ) (d e : Device) (image : Image) → IsPairAt to new i k d e
-          → (slice_get h.backs i ≡ Some image) ⊎ ((i ≡ length h.backs) × (one.image ≡ image))
-          → IsBack to d (device_partners to new d e) (get_or wanted k []) image
-      by i k d e image p (inl at) = h.each i k d e image p at
-      by i k d e image p (inr r) =
-          back_there wanted n i k newer.number (device_at to n) d newer.device e image (r.0 ∙ h.count) there newer.found newer.stands p (rw (← r.1) one.is_back)
 
   backs_to : (wanted : List (List ℤ)) (n : ℕ) → n ≤ length to.devices → HasBacks wanted n
   backs_to wanted zero le = record { backs = []; count = refl; each = λ i k d e image p at. absurd (cc) }
@@ -159,7 +148,7 @@ module _ (to new : Set) (fit : IsFit to) (well : WellFormed new) (compatible : C
           let d_is : o.d ≡ d = cc in
           let images : Some (get_or backs o.i (no_image to new)) ≡ Some back = sym at_i ∙ ap (slice_get backs) number ∙ at in
           let image_is : get_or backs o.i (no_image to new) ≡ back = cc in
-          subst (λ (x : Device). IsValid to x back) d_is (subst (λ (b : Image). IsValid to o.d b) image_is h))
+          rw (← d_is, ← image_is) h)
 
     record FirstBad (n : ℕ) : Type 0 where
       k : ℕ
@@ -169,12 +158,13 @@ module _ (to new : Set) (fit : IsFit to) (well : WellFormed new) (compatible : C
 
     first_bad : (n : ℕ) → n ≤ length new.devices → ((i : ℕ) → i < n → IsValidAt to new backs i) ⊎ FirstBad n
     first_bad zero le = inl (λ i lt. absurd (omega arith))
-    first_bad (suc n) le = go (first_bad n (omega arith)) (either_at n (omega arith)) where
-      go : ((i : ℕ) → i < n → IsValidAt to new backs i) ⊎ FirstBad n → IsValidAt to new backs n ⊎ (IsValidAt to new backs n → ⊥)
-          → ((i : ℕ) → i < suc n → IsValidAt to new backs i) ⊎ FirstBad (suc n)
-      go (inr b) o = let inside = b.inside in inr (record { k = b.k; inside = omega (arith, inside); before = b.before; bad = b.bad })
-      go (inl f) (inl h) = inl (extend (IsValidAt to new backs) n f h)
-      go (inl f) (inr bad) = inr (record { k = n; inside = omega arith; before = f; bad = bad })
+    first_bad (suc n) le = elim (first_bad n (omega arith)) [
+      | inr b ↦ inr (record { k = b.k; inside = omega (arith, b.inside); before = b.before; bad = b.bad })
+      | inl f ↦ elim (either_at n (omega arith)) [
+        | inl h ↦ inl (extend (IsValidAt to new backs) n f h)
+        | inr bad ↦ inr (record { k = n; inside = omega arith; before = f; bad = bad })
+      ]
+    ]
 
   -- ---- all together
 
@@ -219,14 +209,13 @@ module _ (to new : Set) (fit : IsFit to) (well : WellFormed new) (compatible : C
 
     answered_all : (machine : Option (List ℕ)) → Answered machine
     answered_all machine =
-        go (first_lost wanted there (long ∙ sym (there_long to new fit.well well compatible h.backs)) (λ k lt. there_at k (omega arith))) where
-          valid : wanted ≡ there → AllValid ⊎ FirstBad h.backs h.count (length new.devices) → Answered machine
-          valid same (inl f) = answered_machine machine same f
-          valid same (inr b) = inr (Some b.k, first_cell (get_or wanted b.k []), OfDevice b.k b.inside same b.before b.bad)
-
-          go : (wanted ≡ there) ⊎ FirstLost wanted there → Answered machine
-          go (inl same) = valid same (first_bad h.backs h.count (length new.devices) (omega arith))
-          go (inr f) = inr (Some f.k, Some f.c, OfCell f.k f.c f.before f.differs)
+        elim (first_lost wanted there (long ∙ sym (there_long to new fit.well well compatible h.backs)) (λ k lt. there_at k (omega arith))) [
+          | inr f ↦ inr (Some f.k, Some f.c, OfCell f.k f.c f.before f.differs)
+          | inl same ↦ elim (first_bad h.backs h.count (length new.devices) (omega arith)) [
+            | inl f ↦ answered_machine machine same f
+            | inr b ↦ inr (Some b.k, first_cell (get_or wanted b.k []), OfDevice b.k b.inside same b.before b.bad)
+          ]
+        ]
 
 pub answered : AnswerLaw
 answered to new fit well compatible machine images long kinds =

@@ -1,14 +1,14 @@
 -- The image of numbers has come as needed.
-use Rattle.vms_convert.proofs.Facade.{◌≡◌, ℕ, zero, suc, ◌+◌, ◌≤◌, Bool, true, List, [], ◌∷◌, Some, None, refl, ap, ◌∙◌, arith, ◌⊎◌, inl, inr, ◌<◌, length}
-use Rattle.vms_convert.proofs.Facade.{get_or, map, Option, ℤ, pos, sym, subst, false, if◌then◌else◌, ◌||◌, length-set, ◌==◌, ◌++◌, slice_set, slice_get}
-use Rattle.vms_convert.proofs.Facade.{leb-true, eqb-true, eq-eqb, or_parts, get_or-map, get_or-set_other, get_or-set_same, map-append, length-map, Sub, Device}
-use Rattle.vms_convert.proofs.Facade.{Set, Image, FitsCell, IsNormal, has_cell, image_slots, own_slots, own_cells, came_slots, sub_slots, is_needed}
-use Rattle.vms_convert.proofs.Facade.{ComeAsNeeded, needed_from, bare, image_of, AreSubs, versions, needed, within_all, Kind, InRange, exceeds, Cell, no_cell}
-use Rattle.vms_convert.proofs.Facade.{Slot, device_cells, WellFormed, FitsHeads, IsGood, names_append, none_in_both, its_same, its_below, its_above, SameIn}
-use Rattle.vms_convert.proofs.Facade.{sub_size, sub_place_up, parts_together, part_apart, part_place, well_good, device_parts, sub_clean, IsCellOf, IsBack}
-use Rattle.vms_convert.proofs.Facade.{taken, whole, ArePartners, AreOfKinds, own_or_sub, Typed, WalkStep, changed, Changes, changed_append, AreTargets}
-use Rattle.vms_convert.proofs.Facade.{give_partner, give_step, device_partners, IsCarried, steps_of, step_of, false_from_ne_true, its_in, one_part, or_split}
-use Rattle.vms_convert.proofs.Facade.{Number, at_map, get_or_from_slice_get}
+use Rattle.vms_convert.proofs.Facade.{cases_eq, ◌≡◌, ℕ, zero, suc, ◌+◌, ◌≤◌, Bool, true, List, [], ◌∷◌, Some, None, refl, ap, ◌∙◌, arith, inl, inr, ◌<◌, length}
+use Rattle.vms_convert.proofs.Facade.{get_or, map, Option, ℤ, pos, sym, false, if◌then◌else◌, length-set, ◌==◌, ◌++◌, slice_get, leb-true, eqb-true, eq-eqb}
+use Rattle.vms_convert.proofs.Facade.{or_parts, get_or-map, get_or-set_other, get_or-set_same, map-append, length-map, false_from_ne_true}
+use Rattle.vms_convert.proofs.Facade.{get_or_from_slice_get, Sub, Device, Set, Image, FitsCell, IsNormal, has_cell, image_slots, own_slots, own_cells}
+use Rattle.vms_convert.proofs.Facade.{came_slots, sub_slots, is_needed, ComeAsNeeded, needed_from, bare, image_of, AreSubs, versions, needed, within_all}
+use Rattle.vms_convert.proofs.Facade.{InRange, exceeds, Cell, no_cell, Slot, device_cells, WellFormed, FitsHeads, IsGood, names_append, none_in_both, its_same}
+use Rattle.vms_convert.proofs.Facade.{its_below, its_above, SameIn, sub_size, sub_place_up, parts_together, part_apart, part_place, well_good, device_parts}
+use Rattle.vms_convert.proofs.Facade.{sub_clean, IsCellOf, IsBack, taken, whole, ArePartners, AreOfKinds, own_or_sub, Typed, WalkStep, changed, Changes}
+use Rattle.vms_convert.proofs.Facade.{changed_append, AreTargets, give_partner, give_step, device_partners, IsCarried, steps_of, step_of, its_in, one_part}
+use Rattle.vms_convert.proofs.Facade.{or_split, Number, at_map}
 use Rattle.vms_walk.specs.declared.step.WalkStep.TheVariants.{Number as Step}
 use Rattle.vms_convert.proofs.Settling.{comes_at, needed_same}
 
@@ -54,10 +54,9 @@ module _ (to : Set) (well : WellFormed to) (heads : FitsHeads to) (i : ℕ) (d :
 
     taken_fit : (c : ℕ) → c < length cells → FitsCell (get_or cells c no_cell) (get_or now c (pos 0))
     taken_fit c lt =
-        subst (λ (z : ℤ). FitsCell (get_or cells c no_cell) z) (sym (back.are_taken.each c lt))
+        rw (back.are_taken.each c lt)
         (taken_fits numbers (get_or cells c no_cell) (has_cell (image_slots to d (whole d now)) c) (get_or partners c None) (good.defaults i d there c lt)
-        (λ k e. let h = paired.kinds c k (at_get partners c k e) in subst (λ (kind : Kind). InRange kind (get_or numbers k (pos 0))) (sym h.1)
-        (of_kinds.in_range k h.0)))
+        (λ k e. let h = paired.kinds c k (at_get partners c k e) in rw h.1 (of_kinds.in_range k h.0)))
 
     -- ---- and so does what is settled
 
@@ -67,10 +66,10 @@ module _ (to : Set) (well : WellFormed to) (heads : FitsHeads to) (i : ℕ) (d :
     either_fits c false lt e = rw e (good.defaults i d there c lt)
 
     fits : (c : ℕ) → c < length cells → FitsCell (get_or cells c no_cell) (get_or then_ c (pos 0))
-    fits c lt = by_part (own_or_sub to d c lt) where
-      by_part : (c < own_cells to d) ⊎ ((j : ℕ) × (s : Sub) × IsCellOf to d j s c) → FitsCell (get_or cells c no_cell) (get_or then_ c (pos 0))
-      by_part (inl own) = either_fits c true lt (back.settled.own c own)
-      by_part (inr h) = either_fits c (is_needed to d (whole d now) h.1 h.0) lt (back.settled.subs h.0 h.1 c h.2)
+    fits c lt = elim (own_or_sub to d c lt) [
+      | inl own ↦ either_fits c true lt (back.settled.own c own)
+      | inr h ↦ either_fits c (is_needed to d (whole d now) h.1 h.0) lt (back.settled.subs h.0 h.1 c h.2)
+    ]
 
     -- ---- and if no byte is for it, it is at its default
 
@@ -80,8 +79,7 @@ module _ (to : Set) (well : WellFormed to) (heads : FitsHeads to) (i : ℕ) (d :
     same_sub : (j : ℕ) (s : Sub) → slice_get d.subs j ≡ Some s → is_needed to d (whole d now) s j ≡ true
         → SameIn (part_place to d j) (part_place to d j + sub_size to s) now then_
     same_sub j s e n = record {
-      same = λ c low lt.
-          back.settled.subs j s c (record { is = e; low = low; high = lt }) ∙ ap (λ (b : Bool). if b then get_or now c (pos 0) else default_at c) n;
+      same = λ c low lt. rw (back.settled.subs j s c (record { is = e; low = low; high = lt }), n);
     }
 
     -- whether a cell is in the bytes of the device's own fields, of a subsection, of all subsections that came
@@ -103,15 +101,13 @@ module _ (to : Set) (well : WellFormed to) (heads : FitsHeads to) (i : ℕ) (d :
     -- a cell that is in no part of the whole image was not taken
     left : (c : ℕ) → c < length cells → in_own now c ≡ false → in_subs now all_came c ≡ false → get_or now c (pos 0) ≡ default_at c
     left c lt a b =
-        back.are_taken.each c lt ∙ ap (λ (has : Bool). taken numbers (get_or cells c no_cell) has (get_or partners c None))
-        (names_append (own_slots to d d.desc.version now) (came_slots to d now (own_cells to d) d.subs all_came) c ∙ ap
-        (λ (x : Bool). x || in_subs now all_came c) a ∙ b)
+        rw (back.are_taken.each c lt, names_append (own_slots to d d.desc.version now) (came_slots to d now (own_cells to d) d.subs all_came) c, a, b)
 
     none_else : (c : ℕ) (came : List (Option ℕ))
         → ((j : ℕ) (s : Sub) (v : ℕ) → slice_get d.subs j ≡ Some s → slice_get came j ≡ Some (Some v) → in_sub s v now j c ≡ false)
         → in_subs now came c ≡ false
     none_else c came h =
-        parts_together to d now (λ xs. has_cell xs c ≡ false) refl (λ xs ys p q. names_append xs ys c ∙ ap (λ (b : Bool). b || has_cell ys c) p ∙ q)
+        parts_together to d now (λ xs. has_cell xs c ≡ false) refl (λ xs ys p q. rw (names_append xs ys c, p, q))
         (own_cells to d) d.subs came h
 
     absent_own : (c : ℕ) → c < length cells → c < own_cells to d → in_own then_ c ≡ false → get_or then_ c (pos 0) ≡ default_at c
@@ -153,39 +149,27 @@ module _ (to : Set) (well : WellFormed to) (heads : FitsHeads to) (i : ℕ) (d :
         (none_else c _ (λ j' s' v e' f. false_from_ne_true _ (other_part c j s h before j' s' v e' f)))
 
     absent : (c : ℕ) → c < length cells → has_cell (image_slots to d (image_of to d then_)) c ≡ false → get_or then_ c (pos 0) ≡ default_at c
-    absent c lt none = by_part (own_or_sub to d c lt) where
+    absent c lt none = elim (own_or_sub to d c lt) [ inl own ↦ absent_own c lt own parts.0 | inr h ↦ by_needed h.0 h.1 h.2 (is_needed to d (whole d now) h.1 h.0) refl ] where
       parts : (in_own then_ c ≡ false) × (in_subs then_ came_back c ≡ false)
       parts = none_in_both c (own_slots to d d.desc.version then_) (came_slots to d then_ (own_cells to d) d.subs came_back) none
 
       by_needed : (j : ℕ) (s : Sub) → IsCellOf to d j s c → (b : Bool) → is_needed to d (whole d now) s j ≡ b → get_or then_ c (pos 0) ≡ default_at c
       by_needed j s h true n = absent_needed c j s lt h n parts.1
-      by_needed j s h false n = back.settled.subs j s c h ∙ ap (λ (b : Bool). if b then get_or now c (pos 0) else default_at c) n
-
-      by_part : (c < own_cells to d) ⊎ ((j : ℕ) × (s : Sub) × IsCellOf to d j s c) → get_or then_ c (pos 0) ≡ default_at c
-      by_part (inl own) = absent_own c lt own parts.0
-      by_part (inr h) = by_needed h.0 h.1 h.2 (is_needed to d (whole d now) h.1 h.0) refl
+      by_needed j s h false n = rw (back.settled.subs j s c h, n)
 
     -- ---- the image
 
-    normal_of : IsNormal to d (image_of to d then_)
-    normal_of =
-        let long = back.are_taken.long in
-        let settled_long = back.settled.long in
-        let minimum = leb-true d.desc.minimum d.desc.version (device_parts to well i d there).0.own.1.1.0 in
-        record {
-          version = (minimum, omega arith);
-          subs = versions to d (bare d then_) 0 d.subs
-              (all_subs d.subs (λ j s e. leb-true s.desc.minimum s.desc.version (sub_clean to well i j d s there e).own.1.1.0));
-          cells = record { long = settled_long ∙ long; fits = fits };
-          absent = λ c lt none. absent c (omega arith) none;
-        }
-
     pub back_normal : IsNormal to d image
-    back_normal = subst (λ (x : Image). IsNormal to d x) (sym back.is) normal_of
+    back_normal = rw back.is (record {
+      version = (leb-true d.desc.minimum d.desc.version (device_parts to well i d there).0.own.1.1.0, omega arith);
+      subs = versions to d (bare d then_) 0 d.subs
+          (all_subs d.subs (λ j s e. leb-true s.desc.minimum s.desc.version (sub_clean to well i j d s there e).own.1.1.0));
+      cells = record { long = back.settled.long ∙ back.are_taken.long; fits = fits };
+      absent = λ c lt none. absent c (omega (arith, back.settled.long, back.are_taken.long)) none;
+    })
 
     pub back_comes : ComeAsNeeded to d image 0 d.subs image.came
-    back_comes =
-        subst (λ (x : Image). ComeAsNeeded to d x 0 d.subs x.came) (sym back.is) (needed to d then_ (needed_from to d (bare d then_) 0 d.subs) 0 d.subs)
+    back_comes = rw back.is (needed to d then_ (needed_from to d (bare d then_) 0 d.subs) 0 d.subs)
 
     pub back_version : image.version ≡ d.desc.version
     back_version = ap (λ (x : Image). x.version) back.is
@@ -200,18 +184,15 @@ pub steps_long : (partners : List (Option ℕ)) (numbers : List ℤ) (xs : List 
     → length (changed (give_step partners numbers) xs now) ≡ length now
 steps_long partners numbers [] now = refl
 steps_long partners numbers (Step c kind most ∷ xs) now =
-    steps_long partners numbers xs (give_partner (get_or numbers c (pos 0)) (get_or partners c None) now)
-    ∙ partner_long (get_or numbers c (pos 0)) (get_or partners c None) now
+    steps_long partners numbers xs _ ∙ partner_long (get_or numbers c (pos 0)) (get_or partners c None) now
 steps_long partners numbers (_ ∷ xs) now = steps_long partners numbers xs now
 
 pub may_give : (p p' : List (Option ℕ)) (n n' : List ℤ) (xs : List WalkStep) (a b : Typed) → p' ≡ p → n' ≡ n → Changes (give_step p n) xs a b
     → AreTargets a.kinds n p → length a.kinds ≡ length a.numbers → AreTargets b.kinds n' p' × (length b.kinds ≡ length b.numbers)
 may_give p p' n n' xs a b e f h targets long =
     let kinds : b.kinds ≡ a.kinds = ap (λ (x : Typed). x.kinds) h in
-    let numbers : length b.numbers ≡ length a.numbers = ap (λ (x : Typed). length x.numbers) h ∙ steps_long p n xs a.numbers in (
-      rw (kinds, f, e) targets,
-      ap (λ (ks : List Kind). length ks) kinds ∙ long ∙ sym numbers,
-    )
+    let numbers : length b.numbers ≡ length a.numbers = ap (λ (x : Typed). length x.numbers) h ∙ steps_long p n xs a.numbers in
+    (rw (kinds, f, e) targets, rw (kinds, numbers) long)
 
 -- ---- What the partners of cells are given, step by step: that is what is carried.
 
@@ -220,9 +201,7 @@ module _ (partners : List (Option ℕ)) (numbers : List ℤ) where
   gives slots now = changed (give_step partners numbers) (steps_of slots) now
 
   pub gives_more : (xs ys : List Slot) (now : List ℤ) → gives (xs ++ ys) now ≡ gives ys (gives xs now)
-  gives_more xs ys now =
-      ap (λ (l : List WalkStep). changed (give_step partners numbers) l now) (map-append step_of xs ys)
-      ∙ changed_append (give_step partners numbers) (steps_of xs) (steps_of ys) now
+  gives_more xs ys now = rw (map-append step_of xs ys) (changed_append (give_step partners numbers) (steps_of xs) (steps_of ys) now)
 
   pub gives_long : (slots : List Slot) (now : List ℤ) → length (gives slots now) ≡ length now
   gives_long slots now = steps_long partners numbers (steps_of slots) now
@@ -255,13 +234,12 @@ module _ (partners : List (Option ℕ)) (numbers : List ℤ) where
     step_keeps c k b now lt e h = go (get_or partners b None) refl where
       go : (o : Option ℕ) → get_or partners b None ≡ o → Has k c (give_partner (get_or numbers b (pos 0)) o now)
       go None f = h
-      go (Some j) f = by_place (j == k) refl where
-        by_place : (t : Bool) → (j == k) ≡ t → Has k c (slice_set now j (get_or numbers b (pos 0)))
-        by_place true g =
-            let same : j ≡ k = eqb-true j k g in
+      go (Some j) f = elim (cases_eq j k) [
+        | inl same ↦
             let cells : b ≡ c = once b c k (f ∙ ap (λ (n : ℕ). Some n) same) e in
             rw (same, cells) (get_or-set_same now k (get_or numbers c (pos 0)) (pos 0) lt)
-        by_place false g = get_or-set_other now j k (get_or numbers b (pos 0)) (pos 0) (λ same. (let x = eq-eqb j k (sym same) in cc)) ∙ h
+        | inr other ↦ get_or-set_other now j k (get_or numbers b (pos 0)) (pos 0) (λ same. other (sym same)) ∙ h
+      ]
 
     next_long : (b : ℕ) (now : List ℤ) → length (next b now) ≡ length now
     next_long b now = partner_long (get_or numbers b (pos 0)) (get_or partners b None) now

@@ -1,14 +1,14 @@
 -- The parts of a device, as the code walks over them by number.
-use Rattle.vms_convert.proofs.Facade.{◌≡◌, ℕ, suc, ◌+◌, ◌<◌, ◌≤◌, Bool, true, false, List, length, map, Option, Some, None, ℤ, refl, sym, ap, ◌∙◌, subst, arith}
-use Rattle.vms_convert.proofs.Facade.{◌++◌, get_or, take, append-nil, slice_get-get_or, slice_get, IsGood, Sub, Device, Set, Slot, device_cells, own_slots}
-use Rattle.vms_convert.proofs.Facade.{Image, came_slots, image_slots, own_cells, WellFormed, needed_at, device_at, is_well_formed, sub_at, few_cells}
-use Rattle.vms_convert.proofs.Facade.{own_inside_device, sub_inside, IsImageOf, Typed, bare, needed_from, HasSpot, spot_slots, steps_of, AreTaken, AreSettled}
-use Rattle.vms_convert.proofs.Facade.{ArePutAt, SettlesBy, SettlesSub, marked_by, part_of, own_part, part_slots, sub_slots_at, changed, put_step, part_place}
-use Rattle.vms_convert.proofs.Facade.{give_step, take_all}
+use Rattle.vms_convert.proofs.Facade.{add-one, ◌≡◌, ℕ, suc, ◌+◌, ◌<◌, ◌≤◌, Bool, true, false, List, length, map, Option, Some, None, ℤ, refl, sym, ap, ◌∙◌}
+use Rattle.vms_convert.proofs.Facade.{arith, get_or, append-nil, slice_get-get_or, slice_get, take_all, IsGood, Sub, Device, Set, Slot, device_cells, own_slots}
+use Rattle.vms_convert.proofs.Facade.{Image, image_slots, WellFormed, needed_at, device_at, is_well_formed, sub_at, few_cells, own_inside_device, sub_inside}
+use Rattle.vms_convert.proofs.Facade.{IsImageOf, Typed, bare, needed_from, HasSpot, spot_slots, steps_of, AreTaken, AreSettled, ArePutAt, SettlesBy, SettlesSub}
+use Rattle.vms_convert.proofs.Facade.{marked_by, part_of, own_part, part_slots, sub_slots_at, changed, put_step, part_place, give_step}
 use Rattle.vms_spec.specs.declared.Part.TheVariants as parts
 use Rattle.vms_convert.proofs.TakeLaws.{all_came, first_slots, first_next, one_slots, all_taken, taken_next}
 use Rattle.vms_convert.proofs.Settling.{MarkedTo, all_marked, marked_next, marked_none, marked_skip, AreBare, SettledTo, all_settled, settled_bare}
 use Rattle.vms_convert.proofs.Settling.{settled_needed}
+use Rattle.vms_convert.proofs.Facade.{◌++◌}
 use Rattle.vms_convert.proofs.BackNormal.{gives, gives_more}
 
 module _ (set : Set) (i : ℕ) (lt : i < length set.devices) where
@@ -54,13 +54,11 @@ module _ (set : Set) (i : ℕ) (lt : i < length set.devices) where
         (map (λ c. c.default) (device_cells set (device_at set i)))
 
     pub took_own : (n : List ℤ) → n ≡ puts (spot_slots set (part_of set (parts.Device i)) n) defaults → TookTo 0 n
-    took_own n e = e ∙ sym (ap (λ (l : List Slot). puts l defaults) (append-nil (own_slots set d d.desc.version n)))
+    took_own n e = rw (append-nil (own_slots set d d.desc.version n)) e
 
     pub took_sub : (n m : List ℤ) (j : ℕ) → j < length d.subs → TookTo j n → m ≡ puts (spot_slots set (part_of set (parts.Sub i j)) m) n → TookTo (j + 1) m
     took_sub n m j less first more =
-        let s : suc j ≡ j + 1 = omega arith in
-        subst (λ (k : ℕ). TookTo k m) s
-        (taken_next set good.structs d (good.devices i d there) (λ k s e. good.subs i k d s there e) partners source defaults n m j (sub_at d j)
+        rw (add-one j) (taken_next set good.structs d (good.devices i d there) (λ k s e. good.subs i k d s there e) partners source defaults n m j (sub_at d j)
         (sub_there j less) first more)
 
     pub took_all : (n : List ℤ) (j : ℕ) → length d.subs ≤ j → j ≤ length d.subs → TookTo j n → length n ≡ length (device_cells set d)
@@ -77,8 +75,7 @@ module _ (set : Set) (i : ℕ) (lt : i < length set.devices) where
 
     pub settle_needed : (n : List ℤ) (j : ℕ) → j < length d.subs → SettledUp j n → needed_at set i j n ≡ true → SettledUp (j + 1) n
     settle_needed n j less h needed =
-        let s : suc j ≡ j + 1 = omega arith in
-        subst (λ (k : ℕ). SettledUp k n) s (settled_needed set well i d there before n j (sub_at d j) (sub_there j less) h needed)
+        rw (add-one j) (settled_needed set well i d there before n j (sub_at d j) (sub_there j less) h needed)
 
     bare_of : (n m : List ℤ) (j : ℕ) → ArePutAt set i j n m → AreBare set d j (sub_at d j) n m
     bare_of n m j p = record {
@@ -90,8 +87,7 @@ module _ (set : Set) (i : ℕ) (lt : i < length set.devices) where
 
     pub settle_bare : (n m : List ℤ) (j : ℕ) → j < length d.subs → SettledUp j n → needed_at set i j n ≡ false → ArePutAt set i j n m → SettledUp (j + 1) m
     settle_bare n m j less h not p =
-        let s : suc j ≡ j + 1 = omega arith in
-        subst (λ (k : ℕ). SettledUp k m) s (settled_bare set well i d there before n m j (sub_at d j) (sub_there j less) h not (bare_of n m j p))
+        rw (add-one j) (settled_bare set well i d there before n m j (sub_at d j) (sub_there j less) h not (bare_of n m j p))
 
     pub settle_all : (n : List ℤ) (j : ℕ) → length d.subs ≤ j → j ≤ length d.subs → SettledUp j n → AreSettled set d before n
     settle_all n j end within h = let same : j ≡ length d.subs = omega arith in all_settled set well i d there before n j same h
@@ -99,7 +95,7 @@ module _ (set : Set) (i : ℕ) (lt : i < length set.devices) where
     pub settle_one : (a b : Typed) (j : ℕ) → j < length d.subs → SettledUp j a.numbers → SettlesSub set i j a b → SettledUp (j + 1) b.numbers
     settle_one a b j less h s = go (needed_at set i j a.numbers) refl s where
       go : (t : Bool) → needed_at set i j a.numbers ≡ t → SettlesBy t set i j a b → SettledUp (j + 1) b.numbers
-      go true e s = subst (λ (x : Typed). SettledUp (j + 1) x.numbers) (sym s) (settle_needed a.numbers j less h e)
+      go true e s = rw s (settle_needed a.numbers j less h e)
       go false e s = settle_bare a.numbers b.numbers j less h e s.0
 
   pub settle_rest : (a b : Typed) (j : ℕ) → SettlesSub set i j a b → b ≡ record a { numbers = b.numbers }
@@ -117,8 +113,7 @@ module _ (set : Set) (i : ℕ) (lt : i < length set.devices) where
     pub mark_one : (came : List (Option ℕ)) (j : ℕ) → j < length d.subs → MarkedUp j came
         → MarkedUp (j + 1) (marked_by (needed_at set i j numbers) set i j came)
     mark_one came j less h =
-        let s : suc j ≡ j + 1 = omega arith in
-        subst (λ (k : ℕ). MarkedUp k (marked_by (needed_at set i j numbers) set i j came)) s (go (needed_at set i j numbers) refl)
+        rw (add-one j) (go (needed_at set i j numbers) refl)
       where
         go : (t : Bool) → needed_at set i j numbers ≡ t → MarkedUp (suc j) (marked_by t set i j came)
         go true e = marked_next set d (bare d numbers) d.subs came j (sub_at d j) (sub_there j less) h e
@@ -158,9 +153,7 @@ module _ (set : Set) (i : ℕ) (lt : i < length set.devices) (image : Image) (lo
   gives_to j before = changed (give_step partners image.numbers) (steps_of (first_slots set (device_at set i) image.came j image.numbers)) before
 
   pub gave_own : (before : List ℤ) → changed (give_step partners n) (steps_of (spot_slots set (own_part i image.version) n)) before ≡ gives_to 0 before
-  gave_own before =
-      ap (λ (v : ℕ). gives partners n (own_slots set dev v n) before) version
-      ∙ sym (ap (λ (l : List Slot). gives partners n l before) (append-nil (own_slots set dev dev.desc.version n)))
+  gave_own before = rw (version, append-nil (own_slots set dev dev.desc.version n))
 
   one_is : (j : ℕ) (o : Option ℕ) → one_slots set (sub_at dev j) o n (part_place set dev j) ≡ sub_slots_at set i j o n
   one_is j None = refl
@@ -181,10 +174,4 @@ module _ (set : Set) (i : ℕ) (lt : i < length set.devices) (image : Image) (lo
 
   pub gave_all : (before : List ℤ) (j : ℕ) → length dev.subs ≤ j → j ≤ length dev.subs
       → gives_to j before ≡ changed (give_step partners n) (steps_of (image_slots set dev image)) before
-  gave_all before j end within =
-      ap (λ (l : List Slot). gives partners n l before)
-      (ap (λ (subs : List Sub). own_slots set dev dev.desc.version n ++ came_slots set dev n (own_cells set dev) subs (take j image.came))
-      (take_all j dev.subs (omega arith))
-      ∙ ap (λ (came : List (Option ℕ)). own_slots set dev dev.desc.version n ++ came_slots set dev n (own_cells set dev) dev.subs came)
-      (take_all j image.came (omega arith))
-      ∙ ap (λ (v : ℕ). own_slots set dev v n ++ came_slots set dev n (own_cells set dev) dev.subs image.came) (sym version))
+  gave_all before j end within = rw (take_all j dev.subs (omega arith), take_all j image.came (omega arith), version)

@@ -32,10 +32,7 @@ module _ (to new : Set) (before after : Intake) (images : List Image) (taken : �
   from_kept machine empty full (Err faults.WriteFault) reads h = record { images = images; taken = taken; machine = machine; reads = reads; converts = h }
   from_kept machine empty full (Err (faults.WouldLose section cell)) reads h =
       record { images = images; taken = taken; machine = machine; reads = reads; converts = h }
-  from_kept machine empty full (Err faults.NoMemory) reads h = absurd h
-  from_kept machine empty full (Err faults.ReadFault) reads h = absurd h
-  from_kept machine empty full (Err (faults.NotCompatible mismatch)) reads h = absurd h
-  from_kept machine empty full (Err (faults.Refused refusal)) reads h = absurd h
+  from_kept machine empty full _ reads h = absurd h
 
   pub from_fault : (empty : Outlet) (fault : LoadFault) → LoadReads before after new new.machines images taken (Err fault)
       → ConvertsInto to new before after empty empty (Err (as_fault fault))
@@ -44,10 +41,6 @@ module _ (to new : Set) (before after : Intake) (images : List Image) (taken : �
 
 pub from_into : (to new : Set) (before after : Intake) (empty full : Outlet) (r : Result Unit ConvertFault) → Compatible to new
     → ConvertsInto to new before after empty full r → Converts to new before after empty full r
-from_into to new before after empty full (Ok u) c h = (c, h)
-from_into to new before after empty full (Err faults.WriteFault) c h = (c, h)
-from_into to new before after empty full (Err (faults.WouldLose section cell)) c h = (c, h)
-from_into to new before after empty full (Err faults.ReadFault) c h = (c, h)
-from_into to new before after empty full (Err (faults.Refused refusal)) c h = (c, h)
 from_into to new before after empty full (Err faults.NoMemory) c h = absurd h
 from_into to new before after empty full (Err (faults.NotCompatible mismatch)) c h = absurd h
+from_into to new before after empty full _ c h = (c, h)

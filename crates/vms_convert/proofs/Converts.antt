@@ -1,11 +1,12 @@
 -- What is converted loads as the newer set's, and again.
-use Rattle.vms_convert.proofs.Facade.{◌≡◌, ℕ, ◌≤◌, Bool, true, false, ◌&&◌, List, [], ◌∷◌, length, get_or, Option, Some, refl, sym, ap, ◌∙◌, subst, arith, ℤ}
-use Rattle.vms_convert.proofs.Facade.{if◌then◌else◌, ◌<◌, map, pos, slice_get_within, slice_get, get_or-map, length-map, Device, Set, Image, IsNormal}
-use Rattle.vms_convert.proofs.Facade.{image_slots, AreReady, longest_text, written, WellFormed, device_cells, Cell, no_cell, IsFit, same_lists, well_good}
-use Rattle.vms_convert.proofs.Facade.{Compatible, carried, carried_device, IsWholeStream, pair, back, all_in, upgrade_stands, recast_cells, recast_twice}
-use Rattle.vms_convert.proofs.Facade.{AreBack, IsConverted, IsPairAt, recast_each, OneBackLaw, BackLaw, AreRecastOf, ConvertsLaw, KeepsAll, numbers_in}
-use Rattle.vms_convert.proofs.Facade.{device_partners, recast, is_port, wants_arrays, device_paired, Kind, U8, InRange, ArePartners, AreOfKinds, carried_stands}
-use Rattle.vms_convert.proofs.Facade.{device_at, kinds_at, Typed, default_at, state_of, steps_of, IsBack, Changes, changed, AreTargets, give_step, AreSources}
+use Rattle.vms_convert.proofs.Facade.{subst}
+use Rattle.vms_convert.proofs.Facade.{◌≡◌, ℕ, ◌≤◌, true, false, ◌&&◌, List, [], ◌∷◌, length, get_or, Option, Some, refl, sym, ap, ◌∙◌, arith, ℤ, if◌then◌else◌}
+use Rattle.vms_convert.proofs.Facade.{◌<◌, map, slice_get_within, slice_get, get_or-map, length-map, Device, Set, Image, IsNormal, image_slots, AreReady}
+use Rattle.vms_convert.proofs.Facade.{longest_text, written, WellFormed, device_cells, Cell, no_cell, IsFit, same_lists, well_good, Compatible, carried}
+use Rattle.vms_convert.proofs.Facade.{carried_device, pair, back, all_in, upgrade_stands, recast_cells, recast_twice, AreBack, IsConverted, IsPairAt}
+use Rattle.vms_convert.proofs.Facade.{recast_each, OneBackLaw, BackLaw, AreRecastOf, ConvertsLaw, numbers_in, device_partners, recast, is_port, wants_arrays}
+use Rattle.vms_convert.proofs.Facade.{device_paired, U8, ArePartners, AreOfKinds, carried_stands, device_at, kinds_at, Typed, default_at, state_of, steps_of}
+use Rattle.vms_convert.proofs.Facade.{IsBack, Changes, AreTargets, give_step, AreSources, IsWholeStream}
 use Rattle.vms_convert.specs.Laws.{Converts}
 use Rattle.vms_convert.proofs.BackNormal.{back_normal, back_comes, back_version, at_get, gives, given_all, steps_long}
 use Rattle.vms_convert.proofs.HasBack.{one_back}
@@ -29,18 +30,13 @@ back_stands to new fit well i d e there numbers kinds image back =
 -- ---- recast twice
 
 twice : (to : Set) (e : Device) (numbers : List ℤ) → recast to e (recast to e numbers) ≡ recast to e numbers
-twice to e numbers = go (is_port e && wants_arrays to) where
-  go : (b : Bool) → (if b then recast_cells (if b then recast_cells numbers else numbers) else (if b then recast_cells numbers else numbers))
-      ≡ (if b then recast_cells numbers else numbers)
-  go true = recast_twice numbers
-  go false = refl
+twice to e numbers = elim (is_port e && wants_arrays to) as
+    (λ b. (if b then recast_cells (if b then recast_cells numbers else numbers) else (if b then recast_cells numbers else numbers))
+    ≡ (if b then recast_cells numbers else numbers)) [ true ↦ recast_twice numbers | false ↦ refl ]
 
 each_twice : (to : Set) (devices : List Device) (lists : List (List ℤ)) → recast_each to devices (recast_each to devices lists) ≡ recast_each to devices lists
-each_twice to [] lists = refl
-each_twice to (e ∷ devices) [] = refl
-each_twice to (e ∷ devices) (numbers ∷ lists) =
-    ap (λ (l : List ℤ). l ∷ recast_each to devices (recast_each to devices lists)) (twice to e numbers)
-    ∙ ap (λ (l : List (List ℤ)). recast to e numbers ∷ l) (each_twice to devices lists)
+each_twice to (e ∷ devices) (numbers ∷ lists) = rw (twice to e numbers, each_twice to devices lists)
+each_twice to _ _ = refl
 
 -- ---- one stream
 
@@ -94,7 +90,7 @@ module _ (to new : Set) (fit : IsFit to) (well : WellFormed new) (compatible : C
         let keeps = converted.keeps in
         let text = describe backs in
         let wanted_is : recast_each to new.devices (numbers_in (carried to new backs)) ≡ wanted =
-        ap (recast_each to new.devices) (sym keeps.cells) ∙ each_twice to new.devices (numbers_in images) in
+        rw (← keeps.cells) (each_twice to new.devices (numbers_in images)) in
         let stream = upgrade_stands to new fit.well well compatible machine (Some text) backs keeps.machine_is (short backs) ready in
         record {
           loaded = carried to new backs;
@@ -103,12 +99,12 @@ module _ (to new : Set) (fit : IsFit to) (well : WellFormed new) (compatible : C
           cells = sym keeps.cells;
           again = record {
             backs = backs;
-            back = subst (λ (w : List (List ℤ)). AreBack to new w backs) (sym wanted_is) converted.back;
-            keeps = subst (λ (w : List (List ℤ)). KeepsAll to new machine w (numbers_in (carried to new backs)) backs) (sym wanted_is) keeps;
+            back = rw wanted_is converted.back;
+            keeps = rw wanted_is keeps;
             is = converted.is;
           };
           one = λ others again.
-              let one = same_backs wanted backs again.backs converted.back (subst (λ (w : List (List ℤ)). AreBack to new w again.backs) wanted_is again.back) in
+              let one = same_backs wanted backs again.backs converted.back (rw wanted_is at again.back) in
               again.is ∙ ap (λ (b : List Image). written to machine b (Some (describe b))) one ∙ sym converted.is;
         }
 
@@ -138,7 +134,7 @@ module _ (to new : Set) (fit : IsFit to) (well : WellFormed new) (i k : ℕ) (d 
         inside = λ c j f. let inside = (paired.kinds c j (at_get ps c j f)).0 in omega arith;
         in_range = λ c j f.
             let h = paired.kinds c j (at_get ps c j f) in
-            subst (λ (kind : Kind). InRange kind (get_or numbers j (pos 0))) (sym h.1 ∙ sym (kind_at (device_cells to d) c)) (of.in_range j h.0);
+            rw (kind_at (device_cells to d) c, h.1) (of.in_range j h.0);
       }
 
   -- those of the older device's image may be given
@@ -152,8 +148,7 @@ module _ (to new : Set) (fit : IsFit to) (well : WellFormed new) (i k : ℕ) (d 
             let g = at_get ps c j f in
             let h = paired.kinds c j g in
             let inside = slice_get_within ps c (Some j) g in
-            subst (λ (kind : Kind). InRange kind (get_or image.numbers c (pos 0))) (h.1 ∙ sym (kind_at (device_cells new e) j))
-            (normal.cells.fits c (omega arith)).0;
+            rw (kind_at (device_cells new e) j, ← h.1) (normal.cells.fits c (omega arith)).0;
       }
 
   -- what they are given from defaults on is what is carried
@@ -182,21 +177,17 @@ module _ (to new : Set) (i k : ℕ) (source : List ℤ) (p : IsReturning to new 
   e = device_at new k
 
   pub sources_of : AreSources (kinds_at to i) source partners
-  sources_of =
-      subst (λ (l : List (Option ℕ)). AreSources (kinds_at to i) source l) (sym partners_are)
-      (sources_are to new p.fit p.well i k d e (there to i p.device) (there new k p.other) source p.kinds)
+  sources_of = rw partners_are (sources_are to new p.fit p.well i k d e (there to i p.device) (there new k p.other) source p.kinds)
 
   module _ (image : Typed) (back : IsBack to (device_at to i) partners source (state_of image)) where
     pub back_of : IsBack to d (device_partners to new d e) source (state_of image)
-    back_of = subst (λ (l : List (Option ℕ)). IsBack to d l source (state_of image)) partners_are back
+    back_of = rw (← partners_are) back
 
     module _ (carried : Typed) (fresh : carried ≡ default_at new k) where
       pub targets_of : AreTargets carried.kinds image.numbers partners
       targets_of =
           let normal = (back_stands to new p.fit p.well i d e (there to i p.device) source p.kinds (state_of image) back_of).normal in
-          subst (λ (l : List (Option ℕ)). AreTargets carried.kinds image.numbers l) (sym partners_are)
-          (subst (λ (ks : List Kind). AreTargets ks image.numbers (device_partners to new d e)) (sym (ap (λ (x : Typed). x.kinds) fresh))
-          (targets_are to new p.fit p.well i k d e (there to i p.device) (there new k p.other) (state_of image) normal))
+          rw (partners_are, fresh) (targets_are to new p.fit p.well i k d e (there to i p.device) (there new k p.other) (state_of image) normal)
 
       module _ (target : Typed)
           (changes : Changes (give_step partners image.numbers) (steps_of (image_slots to (device_at to i) (state_of image))) carried target) where
@@ -209,7 +200,5 @@ module _ (to new : Set) (i k : ℕ) (source : List ℤ) (p : IsReturning to new 
 
         pub given_is : target.numbers ≡ (carried_device to new d e (state_of image)).numbers
         given_is =
-            let steps = steps_of (image_slots to d (state_of image)) in
-            ap (λ (x : Typed). x.numbers) changes ∙ ap (λ (l : List (Option ℕ)). changed (give_step l image.numbers) steps carried.numbers) partners_are
-            ∙ ap (λ (x : Typed). changed (give_step (device_partners to new d e) image.numbers) steps x.numbers) fresh
-            ∙ given_carried to new p.fit p.well i k d e (there to i p.device) (there new k p.other) source (state_of image) back_of
+            rw (changes, partners_are, fresh)
+            (given_carried to new p.fit p.well i k d e (there to i p.device) (there new k p.other) source (state_of image) back_of)

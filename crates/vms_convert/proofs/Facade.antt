@@ -1,15 +1,14 @@
 -- The names of other crates, and of this crate's `specs`, that the proofs use.
-pub use Rattle.std.proofs.Common.{Bool, Err, IfSome, List, None, Ok, Option, Result, SFits, Some, [], ap, append_assoc, arith, bit_and, codes, cond, drop}
+pub use Rattle.std.proofs.Common.{Bool, Err, IfSome, List, None, Ok, Option, Result, SFits, Some, [], add-one, ap, append_assoc, arith, bit_and, codes, drop}
 pub use Rattle.std.proofs.Common.{false, get_or, if◌then◌else◌, inl, inr, length, length-append, length-set, map, nat_lt, negsuc, not, pos, refl, replicate}
-pub use Rattle.std.proofs.Common.{rules, slice_set, subst, suc, sym, take, true, zero, ℕ, ℤ, ◌&&◌, ◌*◌, ◌++◌, ◌+◌, ◌-◌, ◌<◌, ◌==◌, ◌||◌, ◌∙◌, ◌∷◌, ◌≡◌, ◌≤◌}
-pub use Rattle.std.proofs.Common.{◌⊎◌}
+pub use Rattle.std.proofs.Common.{rules, slice_set, subst, suc, sym, take, true, zero, ℕ, ℤ, ◌&&◌, ◌*◌, ◌++◌, ◌+◌, ◌-◌, ◌<◌, ◌==◌, ◌∙◌, ◌∷◌, ◌≡◌, ◌≤◌, ◌⊎◌}
 pub use Rattle.std.proofs.Math.ListN.{get_or-map}
 pub use Rattle.std.proofs.Math.Seq.{get_or-append_seam, take-length}
-pub use Rattle.std.proofs.lemmas.Bool.{false_from_ne_true, cases_lt, and_parts, eq-eqb, eqb-true, leb-true, ltb-false, ltb-true, not-false, or_parts}
+pub use Rattle.std.proofs.lemmas.Bool.{and_parts, cases_eq, cases_lt, eq-eqb, eqb-true, false_from_ne_true, leb-true, ltb-false, ltb-true, ne_eqb, not-false}
+pub use Rattle.std.proofs.lemmas.Bool.{or_parts}
 pub use Rattle.std.proofs.lemmas.Int.{to_z-of_z}
-pub use Rattle.std.proofs.lemmas.List.{take_all, append-nil, drop_all, drop_more, ext_get_or, get_or-set_other, get_or-set_same, get_or_append_left}
-pub use Rattle.std.proofs.lemmas.List.{get_or_default}
-pub use Rattle.std.proofs.lemmas.List.{length-map, map-append, replicate-append-replicate, take_more_set, with_items_is}
+pub use Rattle.std.proofs.lemmas.List.{append-nil, drop_all, drop_more, ext_get_or, get_or-set_other, get_or-set_same, get_or_append_left, get_or_default}
+pub use Rattle.std.proofs.lemmas.List.{length-map, map-append, replicate-append-replicate, take_all, take_more_set, with_items_is}
 pub use Rattle.std.proofs.lemmas.Option.{get_or_from_slice_get, slice_get-get_or, slice_get_within}
 pub use Rattle.std.proofs.lemmas.Result.{err_from_is_err_and, on_ok_weaker}
 pub use Rattle.std.specs.Bool.{OnFalse, OnTrue}
@@ -20,7 +19,7 @@ pub use Rattle.std.specs.List.{flat_map, list_any, range_with_len, slice_get}
 pub use Rattle.std.specs.Ordering.{int_eq}
 pub use Rattle.vms_kinds.specs.Codes.{InRange, residue, width}
 pub use Rattle.vms_kinds.specs.declared.Item.{Item}
-pub use Rattle.vms_kinds.specs.declared.Item.TheVariants.{Equal, Num, Struct, Unused}
+pub use Rattle.vms_kinds.specs.declared.Item.TheVariants.{Num, Struct, Unused}
 pub use Rattle.vms_kinds.specs.declared.Kind.{Kind}
 pub use Rattle.vms_kinds.specs.declared.Kind.TheVariants.{U8}
 pub use Rattle.vms_spec.proofs.Faultless.{answers_none}
@@ -31,11 +30,11 @@ pub use Rattle.vms_spec.proofs.Tables.{first_at, one_more}
 pub use Rattle.vms_spec.proofs.WellFormedLaws.{device_found, device_parts, earlier, sub_clean, well_good}
 pub use Rattle.vms_spec.specs.Good.{IsFit, IsGood}
 pub use Rattle.vms_spec.specs.Heads.{FitsHeads}
-pub use Rattle.vms_spec.specs.Images.{FitsCell, Image, IsNormal, IsValid, RulesHold, came_slots, default_image, has_cell, image_slots, own_cells, own_slots}
-pub use Rattle.vms_spec.specs.Images.{sub_place, sub_slots}
-pub use Rattle.vms_spec.specs.Layout.{Cell, Constant, Filler, Meaning, Number, Rule, Slot, all_hold, capacity_of, cells_from, counted, desc_cells, desc_slots}
-pub use Rattle.vms_spec.specs.Layout.{device_cells, elements_of, field_cells, field_slots, item_size, item_slots, kind_of, meaning, meanings, no_cell, no_desc}
-pub use Rattle.vms_spec.specs.Layout.{no_field, no_meaning, no_parent, numbers_of, place_of, slots_from, struct_cells, times}
+pub use Rattle.vms_spec.specs.Images.{FitsCell, Image, IsNormal, RulesHold, came_slots, default_image, has_cell, image_slots, own_cells, own_slots, sub_place}
+pub use Rattle.vms_spec.specs.Images.{sub_slots}
+pub use Rattle.vms_spec.specs.Layout.{Cell, Meaning, Number, Rule, Slot, capacity_of, cells_from, counted, desc_cells, desc_slots, device_cells, elements_of}
+pub use Rattle.vms_spec.specs.Layout.{field_cells, field_slots, item_size, item_slots, kind_of, meaning, meanings, no_cell, no_desc, no_field, no_meaning}
+pub use Rattle.vms_spec.specs.Layout.{no_parent, numbers_of, place_of, slots_from, struct_cells, times}
 unfoldable pub use Rattle.vms_spec.specs.Layout.{first}
 pub use Rattle.vms_spec.specs.Lists.{at_option}
 pub use Rattle.vms_spec.specs.Lookup.{find_device, find_sub, index}
@@ -54,7 +53,7 @@ pub use Rattle.vms_spec.specs.declared.Part.{Part}
 pub use Rattle.vms_spec.specs.declared.TheConstants.{MOST_ITEMS}
 pub use Rattle.vms_spec.specs.declared.Whose.TheVariants.{Own, Parent}
 pub use Rattle.vms_bodies.proofs.AboveLaws.{MeanAbove, field_above, meanings_above}
-pub use Rattle.vms_bodies.proofs.AgreeLaws.{its_in, its_above, its_below, its_same}
+pub use Rattle.vms_bodies.proofs.AgreeLaws.{its_above, its_below, its_in, its_same}
 pub use Rattle.vms_bodies.proofs.BodyLaws.{at_set}
 pub use Rattle.vms_bodies.proofs.ComeLaws.{same_lists}
 pub use Rattle.vms_bodies.proofs.FineLaws.{image_are, part_place}
@@ -65,21 +64,21 @@ pub use Rattle.vms_bodies.proofs.SettledLaws.{SameIn, cells_in, in_less, own_in}
 pub use Rattle.vms_bodies.proofs.Stated.{shipped_holds}
 pub use Rattle.vms_bodies.proofs.WalkLaws.{drop_next, place_first, zero_plus}
 pub use Rattle.vms_bodies.specs.Cells.{AreCells}
-pub use Rattle.vms_stream.specs.StreamLaws.{IsWholeStream}
 pub use Rattle.vms_check.proofs.ListLaws.{passes}
 pub use Rattle.vms_check.proofs.WholeLaws.{sub_in}
 pub use Rattle.vms_check.specs.Carrying.{carried_at, carried_device, no_image}
 unfoldable pub use Rattle.vms_check.specs.Carrying.{carried}
 pub use Rattle.vms_check.specs.Comparing.{Compatible, Entry, entry_of, is_absent, is_found, is_in, is_nothing, present, present_from}
 pub use Rattle.vms_check.specs.Partners.{Pairer, array_partners, desc_partners, field_partners, fields_left, item_partners, named_partners, no_pairer}
-pub use Rattle.vms_check.specs.Partners.{pairer_of, partners_from, sub_partners, unpaired}
+pub use Rattle.vms_check.specs.Partners.{pairer_of, partners_from, unpaired}
+pub use Rattle.vms_stream.specs.StreamLaws.{IsWholeStream}
 unfoldable pub use Rattle.vms_check.specs.Partners.{device_partners}
+pub use Rattle.vms_check.specs.Partners.{sub_partners}
 pub use Rattle.vms_check.specs.Reducing.{presence}
 pub use Rattle.vms_check.specs.Sides.{IsSide, desc_on, own_side}
 pub use Rattle.vms_check.specs.declared.side.Side.{Side}
 pub use Rattle.vms_check_laws.proofs.GoesDevices.{carried_stands}
-pub use Rattle.vms_check_laws.proofs.PairDevices.{device_paired}
-pub use Rattle.vms_check_laws.proofs.PairDevices.{struct_is}
+pub use Rattle.vms_check_laws.proofs.PairDevices.{device_paired, struct_is}
 pub use Rattle.vms_check_laws.proofs.Streaming.{Pair, all_in, back, found_device, found_some, pair, upgrade_stands}
 pub use Rattle.vms_check_laws.proofs.SubParts.{one_number, one_part, or_split, own_or_sub}
 pub use Rattle.vms_check_laws.proofs.Wholes.{at_map}

@@ -1,15 +1,15 @@
 -- Which cells are in the bytes is known, cell by cell, from the numbers before: tests and counts name only earlier
 -- fields.
 use Rattle.vms_convert.proofs.Facade.{◌≡◌, ℕ, zero, suc, ◌+◌, ◌<◌, ◌≤◌, List, [], ◌∷◌, ◌++◌, length, get_or, drop, Option, Some, None, ℤ, refl, sym, ap, ◌∙◌}
-use Rattle.vms_convert.proofs.Facade.{arith, Bool, true, false, if◌then◌else◌, ◌||◌, ◌-◌, length-append, length-set, map, slice_set, pos, subst, ◌⊎◌, inl, inr}
-use Rattle.vms_convert.proofs.Facade.{slice_get, flat_map, get_or-set_other, get_or-set_same, length-map, ext_get_or, slice_get-get_or, Item, Num, Equal}
-use Rattle.vms_convert.proofs.Facade.{Unused, Struct, Field, Desc, Sub, Device, Set, AtLeast, is_there, Slot, Meaning, no_meaning, no_desc, item_slots}
-use Rattle.vms_convert.proofs.Facade.{item_size, times, field_slots, slots_from, desc_slots, desc_cells, struct_cells, field_cells, place_of, numbers_of}
-use Rattle.vms_convert.proofs.Facade.{elements_of, counted, no_parent, first, meaning, meanings, Cell, no_cell, device_cells, has_cell, own_cells, came_slots}
-use Rattle.vms_convert.proofs.Facade.{image_slots, Image, one_more, IsSound, AreSound, IsSoundField, AreSoundFields, IsEarlier, names_append, SameBelow}
-use Rattle.vms_convert.proofs.Facade.{there_same, elements_same, place_next, MeanAbove, meanings_above, field_above, SameIn, in_less, own_in, cells_in}
-use Rattle.vms_convert.proofs.Facade.{drop_next, place_first, zero_plus, is_needed, WellFormed, well_good, part_place, sub_size, sub_at, sub_within, bare}
-use Rattle.vms_convert.proofs.Facade.{image_of, AreSettled, AreTaken, taken, whole, IsBack, ComesBackLaw, IsCellOf, own_or_sub, cases_lt}
+use Rattle.vms_convert.proofs.Facade.{arith, Bool, true, false, if◌then◌else◌, ◌-◌, length-append, length-set, map, slice_set, pos, subst, inl, inr, slice_get}
+use Rattle.vms_convert.proofs.Facade.{flat_map, get_or-set_other, get_or-set_same, length-map, ext_get_or, slice_get-get_or, cases_lt, Item, Struct, Field}
+use Rattle.vms_convert.proofs.Facade.{Desc, Sub, Device, Set, AtLeast, is_there, Slot, Meaning, no_meaning, no_desc, item_slots, item_size, times, field_slots}
+use Rattle.vms_convert.proofs.Facade.{slots_from, desc_slots, desc_cells, struct_cells, field_cells, place_of, numbers_of, elements_of, counted, no_parent}
+use Rattle.vms_convert.proofs.Facade.{first, meaning, meanings, Cell, no_cell, device_cells, has_cell, own_cells, came_slots, image_slots, Image, one_more}
+use Rattle.vms_convert.proofs.Facade.{IsSound, AreSound, IsSoundField, AreSoundFields, IsEarlier, names_append, SameBelow, there_same, elements_same}
+use Rattle.vms_convert.proofs.Facade.{place_next, MeanAbove, meanings_above, field_above, SameIn, in_less, own_in, cells_in, drop_next, place_first, zero_plus}
+use Rattle.vms_convert.proofs.Facade.{is_needed, WellFormed, well_good, part_place, sub_size, sub_at, sub_within, bare, image_of, AreSettled, AreTaken, taken}
+use Rattle.vms_convert.proofs.Facade.{whole, IsBack, ComesBackLaw, own_or_sub}
 use Rattle.vms_convert.proofs.Settling.{AreBare, SettledTo, all_settled, by_last, settled_bare, settled_needed, settled_none}
 
 -- both have slot c, or neither has it
@@ -21,7 +21,7 @@ alike c xs = record { is = refl }
 
 either_part : {c : ℕ} {xs ys us vs : List Slot} → Alike c xs us → Alike c ys vs → Alike c (xs ++ ys) (us ++ vs)
 either_part {c} {xs} {ys} {us} {vs} p q = record {
-  is = names_append xs ys c ∙ ap (λ (b : Bool). b || has_cell ys c) p.is ∙ ap (λ (b : Bool). has_cell us c || b) q.is ∙ sym (names_append us vs c);
+  is = rw (names_append xs ys c, names_append us vs c, p.is, q.is);
 }
 
 -- ---- structures
@@ -41,9 +41,7 @@ module _ (ms : List Meaning) (h : MeanKnown ms) (above : MeanAbove ms) where
 
   item_known : (item : Item) (caps : List ℕ) (at c : ℕ) (n k : List ℤ) → SameIn at c n k → Alike c (item_slots ms item caps k at) (item_slots ms item caps n at)
   item_known (Struct j) caps at c n k s = (h j).means at c n k s
-  item_known (Num kind) caps at c n k s = record { is = refl }
-  item_known (Equal kind z) caps at c n k s = record { is = refl }
-  item_known (Unused size) caps at c n k s = record { is = refl }
+  item_known _ caps at c n k s = record { is = refl }
 
   items_known : (item : Item) (caps : List ℕ) (count at step c : ℕ) (n k : List ℤ) → SameIn at c n k
       → Alike c (times count (item_slots ms item caps k) at step) (times count (item_slots ms item caps n) at step)
@@ -73,14 +71,10 @@ module _ (ms : List Meaning) (h : MeanKnown ms) (above : MeanAbove ms) where
         let caps = counted i d.fields in
         let below = in_less base base cell c n k (omega arith) le s in
         let same : (j : ℕ) → IsEarlier d.fields i j → now j ≡ before j = λ j x. own_in cs d base i cell j n k here below x in
-        let there = is_there f.test f.since v before no_parent in
         let known = items_known f.item caps (elements_of f.count before) cell size c n k (in_less base cell c c n k up (omega arith) s) in
         record {
-          is =
-              ap (λ (b : Bool). has_cell (if b then times (elements_of f.count now) (item_slots ms f.item caps k) cell size else []) c)
-              (there_same d.fields i v f.since before now same f.test sound.test)
-              ∙ ap (λ (m : ℕ). has_cell (if there then times m (item_slots ms f.item caps k) cell size else []) c)
-              (elements_same d.fields i before now same f.count sound.count) ∙ (either c there _ _ known).is;
+          is = rw (there_same d.fields i v f.since before now same f.test sound.test, elements_same d.fields i before now same f.count sound.count)
+              (either c (is_there f.test f.since v before no_parent) _ _ known).is;
         }
   ]
 
@@ -158,9 +152,7 @@ module _ (to : Set) (structs : AreSound to.structs) (d : Device) (own : IsSound 
   takes now c = taken numbers (get_or (device_cells to d) c no_cell) (has_cell (image_slots to d (whole d now)) c) (get_or partners c None)
 
   takes_same : (c : ℕ) (n m : List ℤ) → SameBelow c n m → takes m c ≡ takes n c
-  takes_same c n m s =
-      ap (λ (has : Bool). taken numbers (get_or (device_cells to d) c no_cell) has (get_or partners c None))
-      (image_known to structs d own subs d.desc.version (map (λ s. Some s.desc.version) d.subs) c n m s)
+  takes_same c n m s = rw (image_known to structs d own subs d.desc.version (map (λ s. Some s.desc.version) d.subs) c n m s)
 
   -- the first k cells have taken theirs
   record Took (k : ℕ) (now : List ℤ) : Type 0 where
@@ -193,8 +185,7 @@ module _ (to : Set) (structs : AreSound to.structs) (d : Device) (own : IsSound 
 
   pub has_taken : (now : List ℤ) × AreTaken to d partners numbers now
   has_taken =
-      let h = took_to (length (device_cells to d)) (omega arith) in
-      (h.0, record { long = h.1.long; each = h.1.each })
+      let h = took_to (length (device_cells to d)) (omega arith) in (h.0, record { long = h.1.long; each = h.1.each })
 
 -- ---- what is settled, subsection by subsection
 
@@ -277,8 +268,7 @@ module _ (to : Set) (structs : AreSound to.structs) (d : Device) (own : IsSound 
   module _ (numbers a b : List ℤ) (p : AreTaken to d partners numbers a) (q : AreTaken to d partners numbers b) where
     one_cell : (c : ℕ) → c < length (device_cells to d) → SameBelow c a b → get_or b c (pos 0) ≡ get_or a c (pos 0)
     one_cell c lt s =
-        q.each c lt ∙ ap (λ (has : Bool). taken numbers (get_or (device_cells to d) c no_cell) has (get_or partners c None))
-        (image_known to structs d own subs d.desc.version (map (λ s. Some s.desc.version) d.subs) c a b s) ∙ sym (p.each c lt)
+        rw (q.each c lt, image_known to structs d own subs d.desc.version (map (λ s. Some s.desc.version) d.subs) c a b s, p.each c lt)
 
     below : (m : ℕ) → m ≤ length (device_cells to d) → SameBelow m a b
     below zero le = record { same = λ c lt. absurd (omega arith) }
@@ -293,16 +283,13 @@ module _ (to : Set) (structs : AreSound to.structs) (d : Device) (own : IsSound 
         ext_get_or (pos 0) b a (omega arith) (λ c lt. all.same c (omega arith))
 
   pub one_settled : (now a b : List ℤ) → length now ≡ length (device_cells to d) → AreSettled to d now a → AreSettled to d now b → b ≡ a
-  one_settled now a b long p q =
-      ext_get_or (pos 0) b a (omega arith) (λ c lt. by_part c (own_or_sub to d c (omega (arith, long))))
-    where
-      by_part : (c : ℕ) → (c < own_cells to d) ⊎ ((j : ℕ) × (s : Sub) × IsCellOf to d j s c) → get_or b c (pos 0) ≡ get_or a c (pos 0)
-      by_part c (inl lt) = q.own c lt ∙ sym (p.own c lt)
-      by_part c (inr h) = q.subs h.0 h.1 c h.2 ∙ sym (p.subs h.0 h.1 c h.2)
+  one_settled now a b long p q = ext_get_or (pos 0) b a (omega arith) (λ c lt. elim (own_or_sub to d c (omega (arith, long))) [
+    | inl own ↦ q.own c own ∙ sym (p.own c own)
+    | inr h ↦ q.subs h.0 h.1 c h.2 ∙ sym (p.subs h.0 h.1 c h.2)
+  ])
 
   pub one_back : (numbers : List ℤ) (x y : Image) → IsBack to d partners numbers x → IsBack to d partners numbers y → y ≡ x
   one_back numbers x y p q =
       let same : q.now ≡ p.now = one_taken numbers p.now q.now p.are_taken q.are_taken in
-      let settled : AreSettled to d p.now y.numbers = subst (λ (now : List ℤ). AreSettled to d now y.numbers) same q.settled in
-      let cells : y.numbers ≡ x.numbers = one_settled p.now x.numbers y.numbers p.are_taken.long p.settled settled in
+      let cells : y.numbers ≡ x.numbers = one_settled p.now x.numbers y.numbers p.are_taken.long p.settled (rw same at q.settled) in
       q.is ∙ ap (image_of to d) cells ∙ sym p.is

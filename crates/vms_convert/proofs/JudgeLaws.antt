@@ -1,11 +1,10 @@
 -- What was found of the devices, as the relations say it.
 use Rattle.vms_convert.proofs.Facade.{◌≡◌, ℕ, ◌<◌, Bool, true, false, List, [], ◌∷◌, length, get_or, map, Option, Some, None, Result, Ok, Err, ℤ, refl, sym, ap}
 use Rattle.vms_convert.proofs.Facade.{◌∙◌, subst, arith, length-map, slice_get-get_or, slice_get_within, slice_get, OnFalse, OnTrue, IsFit, Device, Set, Image}
-use Rattle.vms_convert.proofs.Facade.{IsValid, Cell, device_cells, find_device, set_4, AreReady, IsReady, is_one_of, WellFormed, device_at, IsNameAt, device_is}
-use Rattle.vms_convert.proofs.Facade.{Typed, state_of, shipped_holds, AreKept, name_of, device_below, image_at, carried, Compatible, AreOfKinds, back, pair}
-use Rattle.vms_convert.proofs.Facade.{all_in, AreBack, IsPairAt, recast_each, AreWritable, FirstInvalid, Judges, KeepsMachine, KeepsName, first_cell_at}
-use Rattle.vms_convert.proofs.Facade.{first_of, IsValidAt, Loses, OfDevice, OfMachine, first_cell, numbers_in, AreReturned, AreReturnedTo, IsFirstLost, Loss}
-use Rattle.vms_convert.proofs.Facade.{LostCell}
+use Rattle.vms_convert.proofs.Facade.{Cell, device_cells, find_device, set_4, AreReady, IsReady, is_one_of, WellFormed, device_at, IsNameAt, device_is, Typed}
+use Rattle.vms_convert.proofs.Facade.{state_of, shipped_holds, AreKept, name_of, device_below, image_at, carried, Compatible, AreOfKinds, back, pair, all_in}
+use Rattle.vms_convert.proofs.Facade.{AreBack, IsPairAt, recast_each, AreWritable, FirstInvalid, Judges, KeepsMachine, KeepsName, first_cell_at, first_of}
+use Rattle.vms_convert.proofs.Facade.{IsValidAt, Loses, OfDevice, OfMachine, first_cell, numbers_in, AreReturned, AreReturnedTo, IsFirstLost, Loss, LostCell}
 use Rattle.vms_convert.proofs.Converts.{back_stands}
 use Rattle.vms_convert.proofs.LostLaws.{all_carried, cell_lost, no_device}
 use Rattle.vms_convert.proofs.RecastLaws.{newest_kinds, recast_long}
@@ -42,9 +41,9 @@ module _ (to new : Set) (wanted : List (List ℤ)) (images : List Typed) (lost :
 
     -- images that are valid, each as the newer set's device of its name, are ready
     pub are_ready : ((k : ℕ) → k < length new.devices → IsValidAt to new backs k) → AreReady to backs
-    are_ready valid = record { one_each = backs_long; ready = λ i d image there at. one i d image there at } where
-      one : (i : ℕ) (d : Device) (image : Image) → slice_get to.devices i ≡ Some d → slice_get backs i ≡ Some image → IsReady to d image
-      one i d image there at =
+    are_ready valid = record {
+      one_each = backs_long;
+      ready = λ i d image there at.
           let newer = pair to new fit.well (all_in to new fit.well well compatible) i d there in
           let may = writable.may i d image there at in
           record {
@@ -53,15 +52,15 @@ module _ (to new : Set) (wanted : List (List ℤ)) (images : List Typed) (lost :
                 (back to new fit.well (all_in to new fit.well well compatible) i d there newer) there at;
             version = may.version;
             needed = may.needed;
-          }
+          };
+    }
 
 -- ---- one device
 
 -- the search by a name and an instance that are those of a device
 pub searched_by : (devices : List Device) (d here : Device) (name : List ℕ) (found : Option ℕ) → here ≡ d → name ≡ here.desc.name
     → found ≡ find_device 0 devices name here.instance → find_device 0 devices d.desc.name d.instance ≡ found
-searched_by devices d here name found same named is =
-    sym (is ∙ ap (λ (n : List ℕ). find_device 0 devices n here.instance) named ∙ ap (λ (x : Device). find_device 0 devices x.desc.name x.instance) same)
+searched_by devices d here name found same named is = rw (← same, ← named) (sym is)
 
 module _ (to new : Set) (images : List Typed) (writable : AreWritable to images) (k : ℕ) where
   abbrev all : List Image
@@ -77,7 +76,7 @@ module _ (to new : Set) (images : List Typed) (writable : AreWritable to images)
       let image_is : Some (state_of image) ≡ Some back = sym at ∙ ap (λ (n : ℕ). slice_get all n) number ∙ at' in
       let back_is : state_of image ≡ back = cc in
       let d_is : device_at to i ≡ d = ap (λ (n : ℕ). device_at to n) number ∙ device_is to j d in_old in
-      subst (λ (x : Device). IsValid to x back) d_is (subst (λ (b : Image). IsValid to (device_at to i) b) back_is ready.valid)
+      rw (← d_is, ← back_is) ready.valid
 
   pub invalid_of : (i : ℕ) (image : Typed) → k < length new.devices → find_device 0 to.devices (device_at new k).desc.name (device_at new k).instance ≡ Some i
       → i < length to.devices → slice_get all i ≡ Some (state_of image) → (IsReady to (device_at to i) (state_of image) → ⊥) → IsValidAt to new all k → ⊥
@@ -106,7 +105,7 @@ module _ (to new : Set) (name : Option (List ℕ)) (wanted there : List (List �
   pub machine_judged : FirstInvalid to new backs None → (r : Result (Option ℕ) Loss) → KeepsMachine to name r → Judges to new name wanted there backs r
   machine_judged valid (Ok m) h = (record { cells = same; valid = valid; machine_is = h.one }, h)
   machine_judged valid (Err loss) h =
-      subst (λ (l : Loss). Loses to new name wanted there backs l.section l.cell) (sym h.loss_is) (OfMachine h.which same valid h.is h.none)
+      rw h.loss_is (OfMachine h.which same valid h.is h.none)
 
 -- a machine that is found by its name
 pub keeps_machine : (to new : Set) (names : List (List ℕ)) (name : List ℕ) (k own : ℕ) → names ≡ to.machines → name ≡ get_or new.machines k []
@@ -166,7 +165,7 @@ module _ (to new : Set) (images : List Image) (typed : List Typed) (lost : Optio
   given = numbers_in (carried to new states)
 
   well : WellFormed new
-  well = subst (λ (s : Set). WellFormed s) (sym p.newest) shipped_holds.1.1.1.1.0.well
+  well = rw p.newest shipped_holds.1.1.1.1.0.well
 
   long : length wants ≡ length new.devices
   long = recast_long to new.devices (numbers_in images) (length-map images (λ (image : Image). image.numbers) ∙ p.kept.one_each)
@@ -181,7 +180,7 @@ module _ (to new : Set) (images : List Image) (typed : List Typed) (lost : Optio
   ready_back valid = are_ready to new wants typed lost p.returned p.fit well p.compatible (newest_kinds to new p.newest images p.kept) valid
 
   first_lost : (found : Option LostCell) → lost ≡ found → IsFirstLost to new wants (length to.devices) states found
-  first_lost found same = subst (λ (o : Option LostCell). IsFirstLost to new wants (length to.devices) states o) same p.returned.first_lost
+  first_lost found same = rw (← same) p.returned.first_lost
 
   pub cell_first : (name : Option (List ℕ)) (l : LostCell) → lost ≡ Some l → Loses to new name wants given states (Some l.device) (Some l.cell)
   cell_first name l same = cell_lost to new p.fit.well well p.compatible states wants long name l (first_lost (Some l) same)
@@ -195,7 +194,7 @@ module _ (to new : Set) (images : List Image) (typed : List Typed) (lost : Optio
       let at : slice_get new.devices k ≡ Some (device_at new k) = slice_get-get_or new.devices k no_device h.0 in
       let cell : first_cell (get_or wants k []) ≡ first_cell_at new k =
       same_first (get_or wants k []) (device_cells new (device_at new k)) (newest_kinds to new p.newest images p.kept k (device_at new k) at).long in
-      subst (λ (o : Option ℕ). Loses to new name wants given states (Some k) o) cell (device_lost to new name wants given states (kept_cells same) k h)
+      rw (← cell) (device_lost to new name wants given states (kept_cells same) k h)
 
   pub machine_last : (name : Option (List ℕ)) → lost ≡ None → FirstInvalid to new states None → (m : Result (Option ℕ) Loss) → KeepsMachine to name m
       → Judges to new name wants given states m

@@ -1,10 +1,10 @@
 -- What is lost first, from what is found of each of the older set's devices.
-use Rattle.vms_convert.proofs.Facade.{back, ◌≡◌, ℕ, ◌+◌, ◌<◌, ◌≤◌, Bool, true, false, nat_lt, List, [], ◌∷◌, ◌++◌, length, get_or, map, Option, Some, None, ℤ}
-use Rattle.vms_convert.proofs.Facade.{refl, sym, ap, ◌∙◌, subst, arith, if◌then◌else◌, get_or-append_seam, ltb-true, ltb-false, get_or_append_left}
-use Rattle.vms_convert.proofs.Facade.{get_or_default, length-map, get_or_from_slice_get, slice_get-get_or, slice_get_within, slice_get, Device, Set, Image}
-use Rattle.vms_convert.proofs.Facade.{find_device, index, WellFormed, here, device_found, device_at, device_is, carried, carried_at, carried_device, no_image}
-use Rattle.vms_convert.proofs.Facade.{Compatible, is_found, is_in, passes, found_device, found_some, pair, all_in, answers_none, at_map, DifferAt, Loses}
-use Rattle.vms_convert.proofs.Facade.{OfCell, numbers_in, FirstDifference, ArePaired, IsFirstLost, IsLostCell, carried_of, LostCell}
+use Rattle.vms_convert.proofs.Facade.{◌≡◌, ℕ, ◌+◌, ◌<◌, ◌≤◌, Bool, true, false, nat_lt, List, [], ◌∷◌, ◌++◌, length, get_or, map, Option, Some, None, ℤ, refl}
+use Rattle.vms_convert.proofs.Facade.{sym, ap, ◌∙◌, subst, arith, if◌then◌else◌, get_or-append_seam, ltb-true, ltb-false, get_or_append_left, get_or_default}
+use Rattle.vms_convert.proofs.Facade.{length-map, get_or_from_slice_get, slice_get-get_or, slice_get_within, slice_get, back, Device, Set, Image, find_device}
+use Rattle.vms_convert.proofs.Facade.{index, WellFormed, here, device_found, device_at, device_is, carried, carried_at, carried_device, no_image, Compatible}
+use Rattle.vms_convert.proofs.Facade.{is_found, is_in, passes, found_device, found_some, pair, all_in, answers_none, at_map, DifferAt, Loses, OfCell}
+use Rattle.vms_convert.proofs.Facade.{numbers_in, FirstDifference, ArePaired, IsFirstLost, IsLostCell, carried_of, LostCell}
 use Rattle.vms_spec.specs.declared.Part.TheVariants as parts
 use Rattle.std.proofs.lemmas.List.{same_lists}
 use Rattle.vms_check_laws.proofs.Streaming.{rules}
@@ -16,7 +16,7 @@ no_device = device_at (record { machines = []; structs = []; devices = [] }) 0
 
 module _ (to new : Set) (wanted : List (List ℤ)) where
   same_partner : (i k l : ℕ) → ArePaired to new i k → ArePaired to new i l → k ≡ l
-  same_partner i k l p q = let same : Some k ≡ Some l = sym p.found ∙ q.found in cc
+  same_partner i k l p q = cc
 
   -- ---- one device more
 
@@ -32,21 +32,17 @@ module _ (to new : Set) (wanted : List (List ℤ)) where
     gives = (carried_device to new (device_at to n) (device_at new k) x).numbers
 
     at_front : (i l : ℕ) → i < n → carried_of to new more i l ≡ carried_of to new backs i l
-    at_front i l lt =
-        ap (λ (b : Image). (carried_device to new (device_at to i) (device_at new l) b).numbers)
-        (get_or_append_left backs (x ∷ []) (no_image to new) i (omega arith))
+    at_front i l lt = rw (get_or_append_left backs (x ∷ []) (no_image to new) i (omega arith))
 
     at_end : (l : ℕ) → carried_of to new more n l ≡ (carried_device to new (device_at to n) (device_at new l) x).numbers
-    at_end l =
-        ap (λ (b : Image). (carried_device to new (device_at to n) (device_at new l) b).numbers)
-        (ap (λ (m : ℕ). get_or more m (no_image to new)) (sym long) ∙ get_or-append_seam backs x [] (no_image to new))
+    at_end l = rw (← long, get_or-append_seam backs x [] (no_image to new))
 
     front_gives : (i l : ℕ) → i < n → get_or wanted l [] ≡ carried_of to new backs i l → Gives i l
-    front_gives i l lt e = e ∙ sym (at_front i l lt)
+    front_gives i l lt e = rw (at_front i l lt) e
 
     -- this device gives all its numbers
     end_gives : get_or wanted k [] ≡ gives → (l : ℕ) → ArePaired to new n l → Gives n l
-    end_gives e l p = let same = same_partner n k l pair p in subst (λ (m : ℕ). Gives n m) same (e ∙ sym (at_end k))
+    end_gives e l p = rw (← same_partner n k l pair p, at_end k) e
 
     still : (l : LostCell) → IsLostCell to new wanted n backs l → ((j : ℕ) → j < l.device → ArePaired to new n j → Gives n j)
         → IsLostCell to new wanted (n + 1) more l
@@ -56,7 +52,7 @@ module _ (to new : Set) (wanted : List (List ℤ)) where
           i = h.i;
           inside = omega arith;
           pair = h.pair;
-          differs = subst (λ (m : List ℤ). DifferAt (get_or wanted l.device []) m l.cell) (sym (at_front h.i l.device inside)) h.differs;
+          differs = rw (at_front h.i l.device inside) h.differs;
           before = λ i j lt less.
               extend (λ (i : ℕ). ArePaired to new i j → Gives i j) n (λ i lt p. front_gives i j lt (h.before i j lt less p)) (end j less) i (omega arith);
         }
@@ -68,7 +64,7 @@ module _ (to new : Set) (wanted : List (List ℤ)) where
       i = n;
       inside = omega arith;
       pair = pair;
-      differs = subst (λ (m : List ℤ). DifferAt (get_or wanted k []) m c) (sym (at_end k)) differs;
+      differs = rw (at_end k) differs;
       before = λ i j lt less.
           extend (λ (i : ℕ). ArePaired to new i j → Gives i j) n (λ i lt p. front_gives i j lt (before i j lt less p))
           (λ p. (let same = same_partner n k j pair p in absurd (omega arith))) i (omega arith);
@@ -120,9 +116,7 @@ module _ (to new : Set) (well_to : WellFormed to) (well_new : WellFormed new) (c
         d = f.2.device;
         stands = f.2.stands;
         found = r.1 ∙ ap (λ (n : ℕ). Some n) same;
-        back =
-            ap (λ (n : List ℕ). find_device 0 new.devices n f.2.device.instance) f.2.name_is
-            ∙ ap (λ (n : ℕ). find_device 0 new.devices e.desc.name n) f.2.instance_is ∙ device_found new well_new k e at;
+        back = rw (f.2.name_is, f.2.instance_is) (device_found new well_new k e at);
       }
 
   pub older_pair : (k : ℕ) (e : Device) (at : slice_get new.devices k ≡ Some e) (o : Older k e) → ArePaired to new o.i k
@@ -146,11 +140,7 @@ module _ (to new : Set) (well_to : WellFormed to) (well_new : WellFormed new) (c
         λ e. (let found = find_device 0 to.devices e.desc.name e.instance in carried_at to new backs e found (slice_get to.devices (index found))) in
         let image = carry e in
         let stands = at_map (λ (image : Image). image.numbers) (map carry new.devices) k image (at_map carry new.devices k e at) in
-        get_or_from_slice_get there k image.numbers [] stands
-        ∙ ap (λ (r : Option ℕ). (carried_at to new backs e r (slice_get to.devices (index r))).numbers) o.found
-        ∙ ap (λ (r : Option Device). (carried_at to new backs e (Some o.i) r).numbers) o.stands
-        ∙ ap (λ (d : Device). (carried_device to new d e (get_or backs o.i (no_image to new))).numbers) (sym (device_is to o.i o.d o.stands))
-        ∙ ap (λ (e : Device). (carried_device to new (device_at to o.i) e (get_or backs o.i (no_image to new))).numbers) (sym (device_is new k e at))
+        rw (get_or_from_slice_get there k image.numbers [] stands, o.found, o.stands, device_is to o.i o.d o.stands, device_is new k e at)
 
     older_inside : (k : ℕ) (e : Device) (o : Older k e) → o.i < length to.devices
     older_inside k e o = slice_get_within to.devices o.i o.d o.stands

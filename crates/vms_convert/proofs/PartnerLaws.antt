@@ -1,9 +1,9 @@
 -- The partners of the rest of two descriptions, field by field.
-use Rattle.vms_convert.proofs.Facade.{◌≡◌, ℕ, zero, suc, ◌+◌, ◌-◌, ◌*◌, ◌<◌, ◌≤◌, List, [], ◌∷◌, ◌++◌, length, length-append, get_or, drop, true, false, Option}
-use Rattle.vms_convert.proofs.Facade.{Some, None, refl, sym, ap, ◌∙◌, append_assoc, arith, ltb-true, drop_all, drop_more, Item, Struct, Cell, first, no_desc}
-use Rattle.vms_convert.proofs.Facade.{no_field, capacity_of, item_size, field_cells, cells_from, struct_cells, uses_below, Formula, Field, Desc, Set, ItemBelow}
-use Rattle.vms_convert.proofs.Facade.{FieldsBelow, all_below, first_at, is_well_formed, struct_clean, Entry, entry_of, is_absent, is_nothing, present}
-use Rattle.vms_convert.proofs.Facade.{present_from, presence, Pairer, no_pairer, pairer_of, unpaired, item_partners, array_partners, field_partners}
+use Rattle.vms_convert.proofs.Facade.{add-one, ◌≡◌, ℕ, zero, suc, ◌+◌, ◌-◌, ◌*◌, ◌<◌, ◌≤◌, List, [], ◌∷◌, ◌++◌, length, length-append, get_or, drop, true}
+use Rattle.vms_convert.proofs.Facade.{false, Option, Some, None, refl, sym, ap, ◌∙◌, append_assoc, arith, ltb-true, drop_all, drop_more, Item, Struct, Cell}
+use Rattle.vms_convert.proofs.Facade.{first, no_desc, no_field, capacity_of, item_size, field_cells, cells_from, struct_cells, uses_below, Formula, Field, Desc}
+use Rattle.vms_convert.proofs.Facade.{Set, ItemBelow, FieldsBelow, all_below, first_at, is_well_formed, struct_clean, Entry, entry_of, is_absent, is_nothing}
+use Rattle.vms_convert.proofs.Facade.{present, present_from, presence, Pairer, no_pairer, pairer_of, unpaired, item_partners, array_partners, field_partners}
 use Rattle.vms_convert.proofs.Facade.{fields_left, partners_from, desc_partners, table, struct_on}
 
 -- ---- how far down structures go
@@ -33,40 +33,32 @@ entries_shifted y all w i p at [] = refl
 entries_shifted y all w i p at (g ∷ gs) =
     let n = length (field_cells y all i g) in
     let z : at + (p + n) ≡ (at + p) + n = omega arith in
-    one_shifted i p at g (presence w g.test g.since) (present_from y all w (suc i) (p + n) gs)
-    ∙ ap (λ (es : List Entry). entry_of i (at + p) g (presence w g.test g.since) ++ es)
-    (entries_shifted y all w (suc i) (p + n) at gs ∙ ap (λ (q : ℕ). present_from y all w (suc i) q gs) z)
+    rw (one_shifted i p at g (presence w g.test g.since) (present_from y all w (suc i) (p + n) gs), entries_shifted y all w (suc i) (p + n) at gs, z)
 
 module _ (structs : List Pairer) (x y : List (List Cell)) where
   field_shifted : (f : Field) (o : Option (Option Formula)) (es : List Entry) (at : ℕ)
       → field_partners structs x y f o es at ≡ field_partners structs x y f o (shifted at es) 0
   field_shifted f (Some rest) (e ∷ es) at =
-      let z : at + e.place ≡ 0 + (at + e.place) = omega arith in
-      ap (λ (q : ℕ). array_partners structs x y f.item e.field.item (capacity_of f.count) (capacity_of e.field.count) q) z
-  field_shifted f (Some rest) [] at = refl
-  field_shifted f None es at = refl
+      let z : 0 + (at + e.place) ≡ at + e.place = omega arith in rw z
+  field_shifted f _ _ at = refl
 
   left_shifted : (o : Option (Option Formula)) (es : List Entry) (at : ℕ)
       → shifted at (fields_left structs x y o es) ≡ fields_left structs x y o (shifted at es)
   left_shifted (Some rest) (e ∷ es) at = refl
-  left_shifted (Some rest) [] at = refl
-  left_shifted None es at = refl
+  left_shifted _ _ at = refl
 
   fields_shifted : (v at : ℕ) (fs : List Field) (es : List Entry) → partners_from structs x y v at fs es ≡ partners_from structs x y v 0 fs (shifted at es)
   fields_shifted v at [] es = refl
   fields_shifted v at (f ∷ fs) es =
       let o = presence v f.test f.since in
-      ap (λ (l : List (Option ℕ)). l ++ partners_from structs x y v at fs (fields_left structs x y o es)) (field_shifted f o es at)
-      ∙ ap (λ (l : List (Option ℕ)). field_partners structs x y f o (shifted at es) 0 ++ l)
-      (fields_shifted v at fs (fields_left structs x y o es) ∙ ap (partners_from structs x y v 0 fs) (left_shifted o es at))
+      rw (field_shifted f o es at, fields_shifted v at fs (fields_left structs x y o es), left_shifted o es at)
 
   -- a whole description, from its first field on
   pub desc_left : (v w : ℕ) (a b : Desc) (at : ℕ)
       → partners_from structs x y v 0 a.fields (present_from y b.fields w 0 at b.fields) ≡ desc_partners structs x y v w a b at
   desc_left v w a b at =
       let z : at + 0 ≡ at = omega arith in
-      sym (fields_shifted v at a.fields (present y b w)
-      ∙ ap (partners_from structs x y v 0 a.fields) (entries_shifted y b.fields w 0 0 at b.fields ∙ ap (λ (q : ℕ). present_from y b.fields w 0 q b.fields) z))
+      rw (fields_shifted v at a.fields (present y b w), entries_shifted y b.fields w 0 0 at b.fields, z)
 
 -- ---- tables of structures
 
@@ -77,29 +69,23 @@ module _ (k : ℕ) (ts us : List Pairer) (same : (i : ℕ) → i < k → get_or 
 
   array_same : (a b : Item) (n m at : ℕ) → ItemBelow k a → array_partners ts x y a b n m at ≡ array_partners us x y a b n m at
   array_same a b zero m at lt = refl
-  array_same a b (suc n) zero at lt = ap (λ (l : List (Option ℕ)). unpaired (item_size x a) ++ l) (array_same a b n zero at lt)
-  array_same a b (suc n) (suc m) at lt =
-      ap (λ (l : List (Option ℕ)). l ++ array_partners ts x y a b n m (at + item_size y b)) (item_same a b at lt)
-      ∙ ap (λ (l : List (Option ℕ)). item_partners us x y a b at ++ l) (array_same a b n m (at + item_size y b) lt)
+  array_same a b (suc n) zero at lt = rw (array_same a b n zero at lt)
+  array_same a b (suc n) (suc m) at lt = rw (item_same a b at lt, array_same a b n m (at + item_size y b) lt)
 
   field_same : (f : Field) (o : Option (Option Formula)) (es : List Entry) (at : ℕ) → ItemBelow k f.item
       → field_partners ts x y f o es at ≡ field_partners us x y f o es at
   field_same f (Some rest) (e ∷ es) at lt = array_same f.item e.field.item (capacity_of f.count) (capacity_of e.field.count) (at + e.place) lt
-  field_same f (Some rest) [] at lt = refl
-  field_same f None es at lt = refl
+  field_same f _ _ at lt = refl
 
   left_same : (o : Option (Option Formula)) (es : List Entry) → fields_left ts x y o es ≡ fields_left us x y o es
   left_same (Some rest) (e ∷ es) = refl
-  left_same (Some rest) [] = refl
-  left_same None es = refl
+  left_same _ _ = refl
 
   fields_same : (v at : ℕ) (fs : List Field) (es : List Entry) → FieldsBelow k fs → partners_from ts x y v at fs es ≡ partners_from us x y v at fs es
   fields_same v at [] es lt = refl
   fields_same v at (f ∷ fs) es lt =
       let o = presence v f.test f.since in
-      ap (λ (l : List (Option ℕ)). l ++ partners_from ts x y v at fs (fields_left ts x y o es)) (field_same f o es at lt.0)
-      ∙ ap (λ (l : List (Option ℕ)). field_partners us x y f o es at ++ l)
-      (ap (partners_from ts x y v at fs) (left_same o es) ∙ fields_same v at fs (fields_left us x y o es) lt.1)
+      rw (field_same f o es at lt.0, left_same o es, fields_same v at fs (fields_left us x y o es) lt.1)
 
 module _ (old new : Set) (well : is_well_formed old ≡ true) where
   abbrev row : List Pairer → Desc → Pairer
@@ -117,13 +103,9 @@ module _ (old new : Set) (well : is_well_formed old ≡ true) where
   structs_paired i j v w at lt is_v is_w =
       let d = get_or old.structs i no_desc in
       let e = get_or new.structs j no_desc in
-      let x = struct_cells old in
-      let y = struct_cells new in
-      ap (λ (p : Pairer). p j at) (first_at row old.structs no_pairer (length old.structs) i lt)
-      ∙ fields_same i (first row old.structs i) (table old new) (agrees i lt) x y d.version at d.fields (present y e e.version)
-      (all_below i d.fields (λ l less. ((struct_clean old well i lt).fields l less).uses))
-      ∙ ap (λ (u : ℕ). desc_partners (table old new) x y u e.version d e at) (sym is_v)
-      ∙ ap (λ (u : ℕ). desc_partners (table old new) x y v u d e at) (sym is_w)
+      rw (is_v, is_w, first_at row old.structs no_pairer (length old.structs) i lt)
+      (fields_same i (first row old.structs i) (table old new) (agrees i lt) (struct_cells old) (struct_cells new) d.version at d.fields
+      (present (struct_cells new) e e.version) (all_below i d.fields (λ l less. ((struct_clean old well i lt).fields l less).uses)))
 
 -- ---- field by field
 
@@ -154,30 +136,21 @@ module _ (y : List (List Cell)) (all : List Field) (w : ℕ) where
 
   -- the entries from field i on, and from the next one on
   entries_here : (i p : ℕ) → i < length all → entries_on i p ≡ entry_of i p (at_number i) (state_at i) ++ entries_on (i + 1) (p + size_at i)
-  entries_here i p lt =
-      let s : suc i ≡ i + 1 = omega arith in
-      ap (present_from y all w i p) (drop_more all i no_field lt)
-      ∙ ap (λ (n : ℕ). entry_of i p (at_number i) (state_at i) ++ present_from y all w n (p + size_at i) (drop (i + 1) all)) s
+  entries_here i p lt = rw (drop_more all i no_field lt, add-one)
 
   pub entries_skip : (i p : ℕ) → i < length all → is_absent w (at_number i) ≡ true → entries_on (i + 1) (p + size_at i) ≡ entries_on i p
-  entries_skip i p lt e =
-      sym (entries_here i p lt ∙ ap (λ (o : Option (Option Formula)). entry_of i p (at_number i) o ++ entries_on (i + 1) (p + size_at i))
-      (nothing (state_at i) e))
+  entries_skip i p lt e = rw (entries_here i p lt, nothing (state_at i) e)
 
   pub entries_found : (i p : ℕ) → i < length all → (h : IsThere (state_at i))
       → entries_on i p ≡ record { index = i; place = p; field = at_number i; rest = h.rest } ∷ entries_on (i + 1) (p + size_at i)
-  entries_found i p lt h = entries_here i p lt ∙ ap (λ (o : Option (Option Formula)). entry_of i p (at_number i) o ++ entries_on (i + 1) (p + size_at i)) h.is
+  entries_found i p lt h = rw (entries_here i p lt, h.is)
 
   pub entries_end : (i p : ℕ) → length all ≤ i → entries_on i p ≡ []
-  entries_end i p le = ap (present_from y all w i p) (drop_all i all le)
+  entries_end i p le = rw (drop_all i all le)
 
   -- the cells of the fields from field i on
   pub cells_here : (i : ℕ) → i < length all → length (cells_from y all i (drop i all)) ≡ size_at i + length (cells_from y all (i + 1) (drop (i + 1) all))
-  cells_here i lt =
-      let s : suc i ≡ i + 1 = omega arith in
-      ap (λ (fs : List Field). length (cells_from y all i fs)) (drop_more all i no_field lt)
-      ∙ length-append (field_cells y all i (at_number i)) (cells_from y all (suc i) (drop (i + 1) all))
-      ∙ ap (λ (n : ℕ). size_at i + length (cells_from y all n (drop (i + 1) all))) s
+  cells_here i lt = rw (drop_more all i no_field lt, length-append, add-one)
 
 module _ (structs : List Pairer) (x y : List (List Cell)) (all : List Field) (v k : ℕ) (lt : k < length all) where
   abbrev here : Field
@@ -194,26 +167,23 @@ module _ (structs : List Pairer) (x y : List (List Cell)) (all : List Field) (v 
   by_state es o = field_partners structs x y here o es 0 ++ left (k + 1) (fields_left structs x y o es)
 
   left_here : (es : List Entry) → left k es ≡ by_state es (presence v here.test here.since)
-  left_here es = ap (λ (fs : List Field). partners_from structs x y v 0 fs es) (drop_more all k no_field lt)
+  left_here es = rw (drop_more all k no_field lt)
 
   -- the field isn't there, or has no partner
   pub left_absent : (es : List Entry) → is_absent v here ≡ true → left k es ≡ alone ++ left (k + 1) es
-  left_absent es e = left_here es ∙ ap (by_state es) (nothing (presence v here.test here.since) e)
+  left_absent es e = rw (left_here es, nothing (presence v here.test here.since) e)
 
   pub left_alone : is_absent v here ≡ false → left k [] ≡ alone ++ left (k + 1) []
-  left_alone e = left_here [] ∙ ap (by_state []) (something (presence v here.test here.since) e).is
+  left_alone e = rw (left_here [], (something (presence v here.test here.since) e).is)
 
   pub left_paired : (f : Entry) (es : List Entry) → is_absent v here ≡ false
       → left k (f ∷ es) ≡ array_partners structs x y here.item f.field.item (capacity_of here.count) (capacity_of f.field.count) f.place ++ left (k + 1) es
   left_paired f es e =
-      let z : 0 + f.place ≡ f.place = omega arith in
-      left_here (f ∷ es) ∙ ap (by_state (f ∷ es)) (something (presence v here.test here.since) e).is
-      ∙ ap (λ (q : ℕ). array_partners structs x y here.item f.field.item (capacity_of here.count) (capacity_of f.field.count) q ++ left (k + 1) es) z
+      let z : 0 + f.place ≡ f.place = omega arith in rw (left_here (f ∷ es), (something (presence v here.test here.since) e).is, z)
 
 -- what was put, and the rest
 pub put_left : (before pairs rest after all : List (Option ℕ)) → after ≡ before ++ pairs → all ≡ pairs ++ rest → after ++ rest ≡ before ++ all
-put_left before pairs rest after all e f =
-    ap (λ (l : List (Option ℕ)). l ++ rest) e ∙ append_assoc before pairs rest ∙ sym (ap (λ (l : List (Option ℕ)). before ++ l) f)
+put_left before pairs rest after all e f = rw (e, f, append_assoc)
 
 -- ---- elements
 
@@ -248,11 +218,7 @@ module _ (structs : List Pairer) (x y : List (List Cell)) (a b : Item) where
 -- a number of elements of a size, and those from the next one on
 pub all_but_one : (n i size : ℕ) → i < n → (n - i) * size ≡ size + (n - (i + 1)) * size
 all_but_one n i size lt =
-    let s : n - i ≡ suc (n - (i + 1)) = omega arith in
-    ap (λ (k : ℕ). k * size) s ∙ times_more (n - (i + 1))
-  where
-    times_more : (k : ℕ) → suc k * size ≡ size + k * size
-    times_more k = omega arith
+    let s : n - i ≡ suc (n - (i + 1)) = omega arith in rw s (omega arith)
 
 -- one of some is no more than all
 pub one_of_all : (n size : ℕ) → 0 < n → size ≤ n * size

@@ -1,12 +1,12 @@
 -- Pairing step by step, as the code has it.
 use Rattle.vms_convert.proofs.Facade.{◌≡◌, ℕ, ◌+◌, ◌-◌, ◌*◌, ◌<◌, ◌≤◌, List, [], ◌∷◌, ◌++◌, length, get_or, drop, replicate, true, false, Option, Some, None}
-use Rattle.vms_convert.proofs.Facade.{sym, ap, ◌∙◌, subst, arith, append-nil, drop_all, Bor, flat_map, slice_get-get_or, Cell, no_desc, no_field, capacity_of}
-use Rattle.vms_convert.proofs.Facade.{item_size, desc_cells, field_cells, cells_from, struct_cells, at_option, find_sub, AtLeast, Field, Sub, Set, DescSet}
-use Rattle.vms_convert.proofs.Facade.{few_cells, own_inside_device, sub_inside, struct_is, MOST_ITEMS, field_size, in_u32, Part, uses_below, described}
-use Rattle.vms_convert.proofs.Facade.{device_at, well_of, is_well_formed, HasPart, desc_at, sub_at, reach, field_clean, reach_whole, uses_more, Entry}
-use Rattle.vms_convert.proofs.Facade.{is_absent, present_from, desc_partners, device_partners, named_partners, partners_from, sub_partners, table, array_on}
-use Rattle.vms_convert.proofs.Facade.{item_on, AreArrays, HasRoom, PairsElement, arrays_on, elements_left, HasFew, IsStart, IsNextStart, IsBehind, PairsField}
-use Rattle.vms_convert.proofs.Facade.{entries_at, partners_left, partners_on, sub_on, IsSide, desc_on, own_side, Arrays, Start, Side}
+use Rattle.vms_convert.proofs.Facade.{ap, ◌∙◌, arith, append-nil, drop_all, Bor, flat_map, slice_get-get_or, Cell, no_desc, no_field, capacity_of, item_size}
+use Rattle.vms_convert.proofs.Facade.{desc_cells, field_cells, struct_cells, find_sub, AtLeast, Field, Sub, Set, DescSet, few_cells, own_inside_device}
+use Rattle.vms_convert.proofs.Facade.{sub_inside, struct_is, MOST_ITEMS, field_size, in_u32, Part, uses_below, described, device_at, well_of, is_well_formed}
+use Rattle.vms_convert.proofs.Facade.{HasPart, desc_at, sub_at, reach, field_clean, reach_whole, uses_more, Entry, is_absent, present_from, device_partners}
+use Rattle.vms_convert.proofs.Facade.{named_partners, partners_from, table, array_on, item_on, AreArrays, HasRoom, PairsElement, arrays_on, elements_left}
+use Rattle.vms_convert.proofs.Facade.{HasFew, IsStart, IsNextStart, IsBehind, PairsField, entries_at, partners_left, partners_on, sub_on, IsSide, desc_on}
+use Rattle.vms_convert.proofs.Facade.{own_side, Arrays, Start, Side, sym, at_option, desc_partners, sub_partners}
 use Rattle.vms_spec.specs.declared.Part.TheVariants as parts
 use Rattle.vms_desc.specs.Asks.{first_cell}
 use Rattle.vms_convert.proofs.PartnerLaws.{depth, depth_within, something, entries_skip, entries_found, entries_end, cells_here, left_absent, left_alone}
@@ -52,7 +52,7 @@ module _ (s : Side) where
       record {
         start = record {
           inside = omega arith;
-          room = subst (λ (n : ℕ). next.cell + length (cells_from cs all n (drop n all)) ≤ MOST_ITEMS) (sym field) (omega arith);
+          room = rw field (omega arith);
         };
         field = field;
         cell = place;
@@ -71,7 +71,7 @@ module _ (s : Side) where
   entries_on n p = present_from cs all s.version n p (drop n all)
 
   pub entries_behind : (start next : Start) → IsBehind s start next → entries_at s next ≡ entries_on (start.field + 1) (start.cell + cells_at start.field)
-  entries_behind start next h = ap (λ (n : ℕ). entries_on n next.cell) h.field ∙ ap (λ (p : ℕ). entries_on (start.field + 1) p) h.cell
+  entries_behind start next h = rw (h.field, h.cell)
 
   pub skip_field : (start next : Start) → start.field < length all → IsBehind s start next → is_absent s.version (field_at start.field) ≡ true
       → entries_at s next ≡ entries_at s start
@@ -108,7 +108,7 @@ module _ (s t : Side) (k : ℕ) (lt : k < length (desc_on s).fields) (few : HasF
   left es i = partners_from (table old new) (struct_cells old) (struct_cells new) s.version 0 (drop i (desc_on s).fields) es
 
   all_put : after ≡ before ++ replicate (in_u32 n) None → after ≡ before ++ replicate n None
-  all_put e = e ∙ ap (λ (m : ℕ). before ++ replicate m None) (few_are n (few_here s k lt few))
+  all_put e = rw (few_are n (few_here s k lt few)) at e
 
   pub absent_pairs : (start : Start) → IsStart t start → is_absent s.version f ≡ true → after ≡ before ++ replicate (in_u32 n) None
       → PairsField s t k start start before after
@@ -125,8 +125,7 @@ module _ (s t : Side) (k : ℕ) (lt : k < length (desc_on s).fields) (few : HasF
       record {
         start = h.start;
         so_far = put_left before (replicate n None) (partners_left s t (k + 1) next) after (partners_left s t k start) (all_put put)
-            (ap (λ (es : List Entry). left es k) (sym h.same ∙ none) ∙ left_alone (table old new) (struct_cells old) (struct_cells new)
-            (desc_on s).fields s.version k lt e ∙ ap (λ (es : List Entry). replicate n None ++ left es (k + 1)) (sym none));
+            (rw (← h.same, none) (left_alone (table old new) (struct_cells old) (struct_cells new) (desc_on s).fields s.version k lt e));
       }
 
   pub both_pair : (start next more : Start) → IsNextStart t start next → next.field < length (desc_on t).fields → IsBehind t next more
@@ -137,15 +136,13 @@ module _ (s t : Side) (k : ℕ) (lt : k < length (desc_on s).fields) (few : HasF
       let found = something _ (h.there inside) in
       let entry : Entry = record { index = next.field; place = next.cell; field = g next.field; rest = found.rest } in
       let entries : entries_at t start ≡ entry ∷ entries_at t more =
-      sym h.same ∙ entries_found (struct_cells new) (desc_on t).fields t.version next.field next.cell inside found
-      ∙ ap (λ (es : List Entry). entry ∷ es) (sym (entries_behind t next more behind)) in
+      rw (← h.same, entries_behind t next more behind) (entries_found (struct_cells new) (desc_on t).fields t.version next.field next.cell inside found) in
       record {
         start = behind.start;
         so_far =
             put_left before (array_on old new f.item (g next.field).item (capacity_of f.count) (capacity_of (g next.field).count) next.cell)
             (partners_left s t (k + 1) more) after (partners_left s t k start) put
-            (ap (λ (es : List Entry). left es k) entries ∙ left_paired (table old new) (struct_cells old) (struct_cells new)
-            (desc_on s).fields s.version k lt entry (entries_at t more) e);
+            (rw entries (left_paired (table old new) (struct_cells old) (struct_cells new) (desc_on s).fields s.version k lt entry (entries_at t more) e));
       }
 
 -- ---- whole descriptions
@@ -163,10 +160,7 @@ module _ (s t : Side) (before after : List (Option ℕ)) where
       let pairers = table old_set new_set in
       let x = struct_cells old_set in
       let y = struct_cells new_set in
-      let none : partners_left s t k start ≡ [] =
-      ap (λ (fs : List Field). partners_from pairers x y s.version 0 fs (entries_at t start)) (drop_all k (desc_on s).fields end) in
-      sym (append-nil after) ∙ ap (λ (l : List (Option ℕ)). after ++ l) (sym none) ∙ e
-      ∙ ap (λ (l : List (Option ℕ)). before ++ l) (desc_left pairers x y s.version t.version (desc_on s) (desc_on t) first)
+      rw (drop_all k (desc_on s).fields end, append-nil, desc_left pairers x y s.version t.version (desc_on s) (desc_on t) first) at e
 
 -- ---- elements
 
@@ -194,8 +188,7 @@ module _ (a : Arrays) (are : AreArrays a) (i at : ℕ) (lt : i < a.one.count) (r
       → PairsElement a i at (at + in_u32 size_new) before after
   element_pairs less put =
       let small = few_are size_new (omega (arith, element_room less)) in
-      let next : at + size_new ≡ at + in_u32 size_new = omega arith in
-      subst (λ (n : ℕ). PairsElement a i at n before after) next (record {
+      rw small (record {
         room = omega (arith, all_but_one a.other.count i size_new less);
         so_far = put_left before (item_on older newer a.one.item a.other.item at) (elements_left a (i + 1) (at + size_new)) after (elements_left a i at) put
             (element_paired (table older newer) (struct_cells older) (struct_cells newer) a.one.item a.other.item a.one.count a.other.count i at lt less);
@@ -206,10 +199,10 @@ module _ (a : Arrays) (are : AreArrays a) (i at : ℕ) (lt : i < a.one.count) (r
       let small = few_are size_old element_few in
       let none : a.other.count - (i + 1) ≡ a.other.count - i = omega arith in
       record {
-        room = subst (λ (k : ℕ). at + k * size_new ≤ MOST_ITEMS) (sym none) room;
+        room = rw none room;
         so_far =
             put_left before (replicate size_old None) (elements_left a (i + 1) at) after (elements_left a i at)
-            (put ∙ ap (λ (k : ℕ). before ++ replicate k None) small)
+            (rw small at put)
             (element_alone (table older newer) (struct_cells older) (struct_cells newer) a.one.item a.other.item a.one.count a.other.count i at lt le);
       }
 
@@ -221,7 +214,7 @@ all_elements a i first at before after end e =
     let newer = described a.sets.new.now in
     let none : elements_left a i at ≡ [] =
     array_end (table older newer) (struct_cells older) (struct_cells newer) a.one.item a.other.item (a.one.count - i) (a.other.count - i) at (omega arith) in
-    sym (append-nil after) ∙ ap (λ (l : List (Option ℕ)). after ++ l) (sym none) ∙ e
+    rw (none, append-nil) at e
 
 -- ---- parts of devices, and structures
 
@@ -292,7 +285,7 @@ arrays_room s t k start lt h =
     let size = field_size cells (desc_on t).fields start.field f in
     let here = cells_here cells (desc_on t).fields t.version start.field lt in
     let none : capacity_of f.count ≡ capacity_of f.count - 0 = omega arith in
-    subst (λ (n : ℕ). start.cell + n * item_size cells f.item ≤ MOST_ITEMS) none (omega arith)
+    rw (← none) (omega arith)
 
 pub elements_all : (s t : Side) (k l at : ℕ) → elements_left (arrays_on s k t l) 0 at
     ≡ array_on (described s.set.now) (described t.set.now) (get_or (desc_on s).fields k no_field).item (get_or (desc_on t).fields l no_field).item

@@ -1,6 +1,6 @@
 -- Recast numbers of normal images of the newest set are of its devices' kinds.
 use Rattle.vms_convert.proofs.Facade.{◌≡◌, zero, suc, Bool, true, false, List, [], ◌∷◌, get_or, map, Some, ℤ, pos, refl, sym, subst, arith, if◌then◌else◌, ℕ}
-use Rattle.vms_convert.proofs.Facade.{◌<◌, ◌&&◌, length, ap, ◌∙◌, Option, None, IfSome, slice_get, Kind, InRange, Device, Set, Cell, first, device_cells, Image}
+use Rattle.vms_convert.proofs.Facade.{◌<◌, ◌&&◌, length, ap, ◌∙◌, Option, None, IfSome, slice_get, Kind, Device, Set, Cell, first, device_cells, Image}
 use Rattle.vms_convert.proofs.Facade.{IsNormal, set_4, timer, i8259_at_4, i8254_at_2, AreOf, kind-of, count-of, kinds, IsPortCells, recast_cells, recast_kinds}
 use Rattle.vms_convert.proofs.Facade.{AreRecastOf, RecastOfLaw, OneLostLaw, AreOfKinds, recast, wants_arrays, is_port, AreKept, serial_at_4, port-of}
 use Rattle.vms_convert.proofs.Facade.{recast_each, is_one_of, one_number, DifferAt, first_cell, Loses, OfCell, OfDevice, OfMachine, KeepsAll}
@@ -11,14 +11,14 @@ to_kinds : (cells : List Cell) (numbers : List ℤ) → AreOfKinds cells numbers
 to_kinds cells numbers h =
     record {
       count = omega (arith, count-of cells);
-      in_range = λ c lt. subst (λ (k : Kind). InRange k (get_or numbers c (pos 0))) (sym (kind-of cells c)) (h.in_range c (omega (arith, count-of cells)));
+      in_range = λ c lt. rw (kind-of cells c) (h.in_range c (omega (arith, count-of cells)));
     }
 
 from_kinds : (cells : List Cell) (numbers : List ℤ) → AreOf (map (λ cell. cell.kind) cells) numbers → AreOfKinds cells numbers
 from_kinds cells numbers h =
     record {
       long = omega (arith, count-of cells);
-      in_range = λ c lt. subst (λ (k : Kind). InRange k (get_or numbers c (pos 0))) (kind-of cells c) (h.in_range c (omega (arith, count-of cells)));
+      in_range = λ c lt. rw (← kind-of cells c) (h.in_range c (omega (arith, count-of cells)));
     }
 
 of_normal : (d : Device) (image : Image) → IsNormal set_4 d image → AreOfKinds (device_cells set_4 d) image.numbers
@@ -39,14 +39,9 @@ port_of to numbers h = go (wants_arrays to) where
       (recast_kinds numbers (subst (λ (ks : List Kind). AreOf ks numbers) port_kinds (to_kinds (device_cells set_4 serial_at_4) numbers h))))
 
 device_is : (d e : Device) (numbers : List ℤ) → Some d ≡ Some e → AreOfKinds (device_cells set_4 d) numbers → AreOfKinds (device_cells set_4 e) numbers
-device_is d e numbers h k = let same : d ≡ e = cc in subst (λ (x : Device). AreOfKinds (device_cells set_4 x) numbers) same k
+device_is d e numbers h k = let same : e ≡ d = cc in rw same k
 
 pub recast_of : RecastOfLaw
-recast_of to [] l h = absurd (omega arith)
-recast_of to (a ∷ []) l h = absurd (omega arith)
-recast_of to (a ∷ b ∷ []) l h = absurd (omega arith)
-recast_of to (a ∷ b ∷ c ∷ []) l h = absurd (omega arith)
-recast_of to (a ∷ b ∷ c ∷ d ∷ []) l h = absurd (omega arith)
 recast_of to (a ∷ b ∷ c ∷ d ∷ e ∷ []) l h = each where
   each : AreRecastOf to set_4 (a ∷ b ∷ c ∷ d ∷ e ∷ [])
   each zero x is = device_is timer x a.numbers is (of_normal timer a (h 0 timer a refl refl))
@@ -56,7 +51,7 @@ recast_of to (a ∷ b ∷ c ∷ d ∷ e ∷ []) l h = each where
   each (suc (suc (suc (suc zero)))) x is =
       device_is serial_at_4 x (recast to serial_at_4 e.numbers) is (port_of to e.numbers (of_normal serial_at_4 e (h 4 serial_at_4 e refl refl)))
   each (suc (suc (suc (suc (suc k))))) x is = absurd (cc)
-recast_of to (a ∷ b ∷ c ∷ d ∷ e ∷ f ∷ rest) l h = absurd (omega arith)
+recast_of to _ l h = absurd (omega arith)
 
 -- ---- The recast numbers of a device of the newest set, and when its cells are a port's.
 
@@ -67,7 +62,7 @@ recast_at to (d ∷ devices) [] k e numbers p q = absurd (cc)
 recast_at to (d ∷ devices) (n ∷ lists) zero e numbers p q =
     let same : d ≡ e = cc in
     let here : n ≡ numbers = cc in
-    ap (λ (x : Device). recast to x n) same ∙ ap (recast to e) here
+    rw (same, here)
 recast_at to (d ∷ devices) (n ∷ lists) (suc k) e numbers p q = recast_at to devices lists k e numbers p q
 
 pub recast_long : (to : Set) (devices : List Device) (lists : List (List ℤ)) → length lists ≡ length devices
@@ -85,12 +80,9 @@ recast_not to e numbers h = ap (λ (b : Bool). if b then recast_cells numbers el
 -- ---- images that a loader of the newest set keeps
 
 pub port_is : (k : ℕ) → k < length set_4.devices → is_port (device_at set_4 k) ≡ true → k ≡ 4
-port_is zero lt e = absurd (cc)
-port_is (suc zero) lt e = absurd (cc)
-port_is (suc (suc zero)) lt e = absurd (cc)
-port_is (suc (suc (suc zero))) lt e = absurd (cc)
 port_is (suc (suc (suc (suc zero)))) lt e = refl
 port_is (suc (suc (suc (suc (suc k))))) lt e = absurd (omega arith)
+port_is _ lt e = absurd (cc)
 
 pub port_cells : (images : List Image) → AreKept set_4 images → (k : ℕ) (image : Image) → k ≡ 4 → slice_get images k ≡ Some image → IsPortCells image.numbers
 port_cells images kept k image is at =

@@ -2,10 +2,10 @@
 use Rattle.vms_convert.proofs.Facade.{◌≡◌, ◌⊎◌, inl, inr, ℕ, zero, suc, ◌+◌, ◌<◌, List, [], ◌∷◌, ◌++◌, length, length-append, get_or, map, Option, Some, None}
 use Rattle.vms_convert.proofs.Facade.{ℤ, refl, sym, ap, ◌∙◌, subst, arith, Bool, true, false, ◌&&◌, if◌then◌else◌, ◌≤◌, slice_set, take, length-map, map-append}
 use Rattle.vms_convert.proofs.Facade.{take_more_set, slice_get-get_or, slice_get_within, slice_get, take-length, find_device, Set, WellFormed, Image}
-use Rattle.vms_convert.proofs.Facade.{default_image, device_at, IsImageOf, Typed, state_of, AreImagesOf, default_at, typed, Compatible, device_partners}
-use Rattle.vms_convert.proofs.Facade.{found_device, pair, all_in, IsBack, IsReturned, ArePaired, AreReturnedTo, IsFirstLost, AreReturned, IsRecastFor, LostCell}
-use Rattle.vms_convert.proofs.Facade.{Kind, kinds_at, at_map, is_port, wants_arrays, recast, AreFresh, AreRoutes, IsRoute, recast_room, Route, first}
-use Rattle.vms_convert.proofs.Facade.{device_cells, set_4, AreOfKinds, AreKept, NEWEST, IsPortCells, kinds, recast_each, numbers_in, at_other}
+use Rattle.vms_convert.proofs.Facade.{default_image, device_at, Typed, state_of, AreImagesOf, default_at, typed, Compatible, found_device, pair, all_in}
+use Rattle.vms_convert.proofs.Facade.{IsReturned, ArePaired, AreReturnedTo, AreReturned, IsRecastFor, LostCell, Kind, kinds_at, at_map, is_port, wants_arrays}
+use Rattle.vms_convert.proofs.Facade.{recast, AreFresh, AreRoutes, IsRoute, recast_room, Route, first, device_cells, set_4, AreOfKinds, AreKept, NEWEST}
+use Rattle.vms_convert.proofs.Facade.{IsPortCells, kinds, recast_each, numbers_in, at_other}
 use Rattle.std.proofs.lemmas.List.{length-set}
 use Rattle.vms_convert.specs.Returns.{IsEarlier}
 use Rattle.vms_convert.proofs.BringLaws.{there}
@@ -16,10 +16,7 @@ pub at_more : {A : Type 0} (xs : List A) (x : A) (i : ℕ) (y : A) → slice_get
 at_more [] x zero y e = let same : x ≡ y = cc in inr (refl, same)
 at_more [] x (suc i) y e = absurd (cc)
 at_more (z ∷ xs) x zero y e = inl e
-at_more (z ∷ xs) x (suc i) y e = go (at_more xs x i y e) where
-  go : (slice_get xs i ≡ Some y) ⊎ ((i ≡ length xs) × (x ≡ y)) → (slice_get (z ∷ xs) (suc i) ≡ Some y) ⊎ ((suc i ≡ length (z ∷ xs)) × (x ≡ y))
-  go (inl h) = inl h
-  go (inr h) = inr (ap suc h.0, h.1)
+at_more (z ∷ xs) x (suc i) y e = elim (at_more xs x i y e) [ inl h ↦ inl h | inr h ↦ inr (ap suc h.0, h.1) ]
 
 module _ (to new : Set) (wanted : List (List ℤ)) where
   pub returned_none : AreReturnedTo to new wanted 0 [] None
@@ -29,33 +26,24 @@ module _ (to new : Set) (wanted : List (List ℤ)) where
       → ArePaired to new n k
       → IsReturned to new n k (get_or wanted k []) x cell → IsEarlier lost k cell next → AreReturnedTo to new wanted (n + 1) (images ++ x ∷ []) next
   returned_next n k images lost next x cell h pair is earlier =
-      let count = h.count in
       let states : map state_of (images ++ x ∷ []) ≡ map state_of images ++ state_of x ∷ [] = map-append state_of images (x ∷ []) in
       record {
-        count = length-append images (x ∷ []) ∙ ap (λ (m : ℕ). m + 1) count;
-        of = λ i image e. of_more i image (at_more images x i image e);
-        back = λ i l image p e. back_more i l image p
-            (at_more (map state_of images) (state_of x) i image (sym (ap (λ (l : List Image). slice_get l i) states) ∙ e));
-        first_lost = subst (λ (l : List Image). IsFirstLost to new wanted (n + 1) l next) (sym states)
-            (lost_next to new wanted (map state_of images) (state_of x) n k
-            (length-map images state_of ∙ count) pair lost cell next h.first_lost is.lost earlier);
+        count = omega (arith, length-append images (x ∷ []), h.count);
+        of = λ i image e. elim (at_more images x i image e) [
+          | inl e ↦ h.of i image e
+          | inr e ↦ let at : n ≡ i = sym h.count ∙ sym e.0 in rw (← e.1, ← at) is.of
+        ];
+        back = λ i l image p e. elim (at_more (map state_of images) (state_of x) i image (rw (← states) e)) [
+          | inl e ↦ h.back i l image p e
+          | inr e ↦
+              let at : n ≡ i = sym h.count ∙ sym (length-map images state_of) ∙ sym e.0 in
+              let found : Some k ≡ Some l = sym (rw at at pair.found) ∙ p.found in
+              let same : k ≡ l = cc in
+              rw (← e.1, ← same, ← at) is.back
+        ];
+        first_lost = rw states (lost_next to new wanted (map state_of images) (state_of x) n k (length-map images state_of ∙ h.count) pair lost cell next
+            h.first_lost is.lost earlier);
       }
-    where
-      of_more : (i : ℕ) (image : Typed) → (slice_get images i ≡ Some image) ⊎ ((i ≡ length images) × (x ≡ image)) → IsImageOf to i image
-      of_more i image (inl e) = h.of i image e
-      of_more i image (inr e) =
-          let at : n ≡ i = sym h.count ∙ sym e.0 in
-          rw (← e.1, ← at) is.of
-
-      back_more : (i l : ℕ) (image : Image) → ArePaired to new i l
-          → (slice_get (map state_of images) i ≡ Some image) ⊎ ((i ≡ length (map state_of images)) × (state_of x ≡ image))
-          → IsBack (to) (device_at to i) (device_partners to new (device_at to i) (device_at new l)) (get_or wanted l []) image
-      back_more i l image p (inl e) = h.back i l image p e
-      back_more i l image p (inr e) =
-          let at : n ≡ i = sym h.count ∙ sym (length-map images state_of) ∙ sym e.0 in
-          let found : Some k ≡ Some l = sym (subst (λ (m : ℕ). ArePaired to new m k) at pair).found ∙ p.found in
-          let same : k ≡ l = cc in
-          rw (← e.1, ← same, ← at) is.back
 
 -- ---- the newest set's device of a name
 
@@ -64,7 +52,7 @@ pub pair_found : (to new : Set) (i k : ℕ) → i < length to.devices → find_d
 pair_found to new i k lt found =
     let f = found_device 0 new.devices (device_at to i).desc.name (device_at to i).instance k found in
     let same : f.0 ≡ k = omega (arith, f.1) in
-    let at : slice_get new.devices k ≡ Some f.2.device = subst (λ (n : ℕ). slice_get new.devices n ≡ Some f.2.device) same f.2.stands in
+    let at : slice_get new.devices k ≡ Some f.2.device = rw same at f.2.stands in
     record { in_old = there to i lt; found = found; in_new = slice_get-get_or new.devices k no_device (slice_get_within new.devices k f.2.device at) }
 
 pub always_found : (to new : Set) → WellFormed to → WellFormed new → Compatible to new → (i : ℕ) → i < length to.devices
@@ -83,13 +71,12 @@ module _ (to new : Set) where
   pub route_more : (n : ℕ) (routes : List Route) (r : Route) → AreRoutes to new n routes → IsRoute to new n r.other r
       → AreRoutes to new (n + 1) (routes ++ r ∷ [])
   route_more n routes r h is = record {
-    count = length-append routes (r ∷ []) ∙ ap (λ (m : ℕ). m + 1) h.count;
-    each = λ i x e. go i x (at_more routes r i x e);
+    count = omega (arith, length-append routes (r ∷ []), h.count);
+    each = λ i x e. elim (at_more routes r i x e) [
+      | inl e ↦ h.each i x e
+      | inr e ↦ let at : n ≡ i = sym h.count ∙ sym e.0 in rw (← e.1, ← at) is
+    ];
   }
-    where
-      go : (i : ℕ) (x : Route) → (slice_get routes i ≡ Some x) ⊎ ((i ≡ length routes) × (r ≡ x)) → IsRoute to new i x.other x
-      go i x (inl e) = h.each i x e
-      go i x (inr e) = let at : n ≡ i = sym h.count ∙ sym e.0 in rw (← e.1, ← at) is
 
 pub fresh_of : (set : Set) (images : List Typed) → map state_of images ≡ map (default_image set) set.devices → AreImagesOf set images → AreFresh set images
 fresh_of set images states of = record {
@@ -110,10 +97,7 @@ module _ (to new : Set) (k : ℕ) where
   is_recast = is_port (device_at new k) && wants_arrays to
 
   pub no_room : recast_room to new k ≡ None → is_recast ≡ false
-  no_room is = go is_recast is where
-    go : (b : Bool) → (if b then Some (default_at new k) else None) ≡ None → b ≡ false
-    go true is = cc
-    go false is = refl
+  no_room is = (elim is_recast as (λ b. (if b then Some (default_at new k) else None) ≡ None → b ≡ false) [ true ↦ λ is. cc | false ↦ λ is. refl ]) is
 
   pub has_room : (image : Typed) → recast_room to new k ≡ Some image → (is_recast ≡ true) × (image ≡ default_at new k)
   has_room image is = go is_recast is where
@@ -154,8 +138,7 @@ module _ (to new : Set) (wanted : List (List ℤ)) where
     as_long = length-set routes n route ∙ m.as_long;
     routes_are = λ i x le e. m.routes_are i x (omega arith) (set_above routes n i route x (omega arith) e);
     fresh = λ i x le e. m.fresh i x (omega arith) (set_above images n i image x (omega arith) e);
-    brought = subst (λ (l : List Typed). AreReturnedTo to new wanted (n + 1) l next) (sym (take_more_set images n image (omega (arith, m.long))))
-        (returned_next to new wanted n k (take n images) lost next image cell m.brought pair is earlier);
+    brought = rw (take_more_set images n image (omega (arith, m.long))) (returned_next to new wanted n k (take n images) lost next image cell m.brought pair is earlier);
   }
 
   pub midway_last : (n : ℕ) (routes : List Route) (images : List Typed) (lost : Option LostCell) → Midway to new wanted n routes images lost
@@ -183,17 +166,17 @@ module _ (to new : Set) (is : new ≡ set_4) (images : List Image) (kept : AreKe
       recast_at to new.devices (numbers_in images) k (device_at new k) image.numbers (there new k lt) (at_map (λ (x : Image). x.numbers) images k image at)
 
   four : is_port (device_at new k) ≡ true → k ≡ 4
-  four port = subst (λ (s : Set). k < length s.devices → is_port (device_at s k) ≡ true → k ≡ 4) (sym is) (port_is k) lt port
+  four port = port_is k (rw is at lt) (rw is at port)
 
   port_kinds_at : is_port (device_at new k) ≡ true → kinds_at new k ≡ kinds NEWEST
-  port_kinds_at port = ap (λ (s : Set). kinds_at s k) is ∙ ap (λ (n : ℕ). kinds_at set_4 n) (four port) ∙ four_kinds
+  port_kinds_at port = rw (is, four port) four_kinds
 
   port_cells_at : is_port (device_at new k) ≡ true → IsPortCells image.numbers
-  port_cells_at port = port_cells images (subst (λ (s : Set). AreKept s images) is kept) k image (four port) at
+  port_cells_at port = port_cells images (rw is at kept) k image (four port) at
 
   pub recast_for : IsRecastFor to new k image.numbers
   recast_for = record {
     inside = lt;
-    kinds = subst (λ (l : List ℤ). AreOfKinds (device_cells new (device_at new k)) l) wanted_is wanted_kinds;
+    kinds = rw (← wanted_is) wanted_kinds;
     port = λ port. (port_kinds_at port, port_cells_at port);
   }

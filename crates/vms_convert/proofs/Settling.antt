@@ -1,11 +1,11 @@
 -- Whether a subsection is needed depends on its own cells and on those of its device.
-use Rattle.vms_convert.proofs.Facade.{◌≡◌, ℕ, ◌+◌, List, length, get_or, Option, Some, None, ℤ, refl, ap, ◌∙◌, arith, Bool, true, not, ◌&&◌, ◌||◌, bit_and, suc}
-use Rattle.vms_convert.proofs.Facade.{◌<◌, ◌≤◌, false, nat_lt, pos, sym, if◌then◌else◌, zero, [], ◌∷◌, length-set, map, slice_set, slice_get, and_parts}
-use Rattle.vms_convert.proofs.Facade.{ltb-true, ltb-false, slice_get_within, width, residue, Own, Parent, Formula, AtLeast, Below, Not, And, Or, Field, Desc}
-use Rattle.vms_convert.proofs.Facade.{Sub, Device, Set, truth, compares, no_field, kind_of, place_of, numbers_of, desc_cells, struct_cells, no_cell}
-use Rattle.vms_convert.proofs.Facade.{device_cells, Image, own_cells, is_needed, is_steady, is_steady_in, names_well, WellFormed, IsEarlier, place_up}
-use Rattle.vms_convert.proofs.Facade.{place_below, place_end, sub_size, sub_place_up, places_apart, at_other, part_place, SameIn, earlier, sub_clean, bare}
-use Rattle.vms_convert.proofs.Facade.{needed_from, IsCellOf, AreSettled, whole, IsBack, at_set, same_lists, IsAtVersions, at_map, length-map}
+use Rattle.vms_convert.proofs.Facade.{cases_lt, inl, inr, ◌≡◌, ℕ, ◌+◌, List, length, get_or, Option, Some, None, ℤ, refl, ap, ◌∙◌, arith, Bool, true, not}
+use Rattle.vms_convert.proofs.Facade.{bit_and, suc, ◌<◌, ◌≤◌, false, pos, sym, if◌then◌else◌, zero, [], ◌∷◌, length-set, map, slice_set, slice_get, and_parts}
+use Rattle.vms_convert.proofs.Facade.{slice_get_within, length-map, width, residue, Own, Parent, Formula, AtLeast, Below, Not, And, Or, Field, Desc, Sub}
+use Rattle.vms_convert.proofs.Facade.{Device, Set, truth, compares, no_field, kind_of, place_of, numbers_of, desc_cells, struct_cells, no_cell, device_cells}
+use Rattle.vms_convert.proofs.Facade.{Image, own_cells, is_needed, is_steady, is_steady_in, names_well, WellFormed, IsEarlier, place_up, place_below, place_end}
+use Rattle.vms_convert.proofs.Facade.{sub_size, sub_place_up, places_apart, at_other, part_place, SameIn, earlier, sub_clean, bare, needed_from, IsCellOf}
+use Rattle.vms_convert.proofs.Facade.{AreSettled, whole, IsBack, at_set, same_lists, IsAtVersions, at_map}
 use Rattle.vms_spec.specs.Sets.{Cell}
 use Rattle.vms_spec.specs.Layout.{Cell as OneCell}
 
@@ -18,12 +18,8 @@ module _ (ok okp : ℕ → Bool) (own own' parent parent' : ℕ → ℕ) (h : (i
   truth_alike (Cell Own i mask rel value) v e = ap (λ (k : ℕ). compares rel (bit_and k mask) value) (h i e)
   truth_alike (Cell Parent i mask rel value) v e = ap (λ (k : ℕ). compares rel (bit_and k mask) value) (hp i e)
   truth_alike (Not t) v e = ap not (truth_alike t v e)
-  truth_alike (And s t) v e =
-      let p = and_parts (names_well ok okp s) (names_well ok okp t) e in
-      ap (λ (b : Bool). b && truth t v own' parent') (truth_alike s v p.0) ∙ ap (λ (b : Bool). truth s v own parent && b) (truth_alike t v p.1)
-  truth_alike (Or s t) v e =
-      let p = and_parts (names_well ok okp s) (names_well ok okp t) e in
-      ap (λ (b : Bool). b || truth t v own' parent') (truth_alike s v p.0) ∙ ap (λ (b : Bool). truth s v own parent || b) (truth_alike t v p.1)
+  truth_alike (And s t) v e = let p = and_parts (names_well ok okp s) (names_well ok okp t) e in rw (truth_alike s v p.0, truth_alike t v p.1)
+  truth_alike (Or s t) v e = let p = and_parts (names_well ok okp s) (names_well ok okp t) e in rw (truth_alike s v p.0, truth_alike t v p.1)
 
 -- ---- a field that tests may name
 
@@ -57,10 +53,7 @@ module _ (set : Set) (well : WellFormed set) (k : ℕ) (d : Device) (there : sli
 
 -- an index below the next one is below this one, or is this one
 pub by_last : {P : Type 0} (i j : ℕ) → i < suc j → (i < j → P) → (i ≡ j → P) → P
-by_last {P = P} i j lt f g = go (nat_lt i j) refl where
-  go : (b : Bool) → nat_lt i j ≡ b → P
-  go true e = f (ltb-true i j e)
-  go false e = let ge : j ≤ i = ltb-false i j e in g (omega arith)
+by_last i j lt f g = elim (cases_lt i j) [ inl less ↦ f less | inr le ↦ g (omega arith) ]
 
 pub some_at : {A : Type 0} (xs : List A) (i : ℕ) → i < length xs → (x : A) × (slice_get xs i ≡ Some x)
 some_at [] i lt = absurd (omega arith)
@@ -101,12 +94,9 @@ module _ (set : Set) (well : WellFormed set) (k : ℕ) (d : Device) (there : sli
     own = h.own;
     done = λ i t c lt x. by_last i j lt (λ less. h.done i t c less x) (λ same.
         let ge : j ≤ i = omega arith in
-        let one : Some t ≡ Some s = sym x.is ∙ ap (slice_get d.subs) same ∙ e in
         let sub : t ≡ s = cc in
-        let needed : is_needed set d (whole d before) t i ≡ true =
-        ap (λ (u : Sub). is_needed set d (whole d before) u i) sub ∙ ap (λ (m : ℕ). is_needed set d (whole d before) s m) same
-        ∙ sym (still_needed now j s e h) ∙ n in
-        h.left i t c ge x ∙ sym (ap (λ (b : Bool). if b then get_or before c (pos 0) else (get_or (device_cells set d) c no_cell).default) needed));
+        let needed : is_needed set d (whole d before) t i ≡ true = rw (sub, same) (sym (still_needed now j s e h) ∙ n) in
+        rw needed (h.left i t c ge x));
     left = λ i t c le x. h.left i t c (omega arith) x;
   }
 
@@ -117,21 +107,13 @@ module _ (set : Set) (well : WellFormed set) (k : ℕ) (d : Device) (there : sli
     long = p.long ∙ h.long;
     own = λ c lt. p.below c (omega (arith, sub_place_up set (own_cells set d) d.subs j)) ∙ h.own c lt;
     done = λ i t c lt x. by_last i j lt
-        (λ less.
-        let high = x.high in
-        p.below c (omega (arith, high, places_apart set (own_cells set d) d.subs i j t x.is less)) ∙ h.done i t c less x)
+        (λ less. p.below c (omega (arith, x.high, places_apart set (own_cells set d) d.subs i j t x.is less)) ∙ h.done i t c less x)
         (λ same.
-        let one : Some t ≡ Some s = sym x.is ∙ ap (slice_get d.subs) same ∙ e in
         let sub : t ≡ s = cc in
-        let low = x.low in
-        let high = x.high in
         let place : part_place set d i ≡ part_place set d j = ap (part_place set d) same in
         let size : sub_size set t ≡ sub_size set s = ap (sub_size set) sub in
-        let not_needed : is_needed set d (whole d before) t i ≡ false =
-        ap (λ (u : Sub). is_needed set d (whole d before) u i) sub ∙ ap (λ (m : ℕ). is_needed set d (whole d before) s m) same
-        ∙ sym (still_needed now j s e h) ∙ n in
-        p.inside c (record { is = e; low = omega arith; high = omega arith })
-        ∙ sym (ap (λ (b : Bool). if b then get_or before c (pos 0) else (get_or (device_cells set d) c no_cell).default) not_needed));
+        let not_needed : is_needed set d (whole d before) t i ≡ false = rw (sub, same) (sym (still_needed now j s e h) ∙ n) in
+        rw not_needed (p.inside c (record { is = e; low = omega (arith, x.low); high = omega (arith, x.high) })));
     left = λ i t c le x.
         p.above c (omega (arith, places_apart set (own_cells set d) d.subs j i s e (omega arith))) ∙ h.left i t c (omega arith) x;
   }
@@ -163,10 +145,7 @@ module _ (set : Set) (d : Device) (image : Image) where
   at_last : (subs : List Sub) (i j : ℕ) (t s : Sub) → i ≡ j → slice_get subs i ≡ Some t → slice_get subs j ≡ Some s → (b : Bool)
       → is_needed set d image s j ≡ b → comes i t ≡ (if b then Some s.desc.version else None)
   at_last subs i j t s same f e b n =
-      let one : Some t ≡ Some s = sym f ∙ ap (slice_get subs) same ∙ e in
-      let sub : t ≡ s = cc in
-      let needed : is_needed set d image t i ≡ b = ap (λ (u : Sub). is_needed set d image u i) sub ∙ ap (is_needed set d image s) same ∙ n in
-      ap (λ (x : Bool). if x then Some t.desc.version else None) needed ∙ ap (λ (u : Sub). if b then Some u.desc.version else None) sub
+      let sub : t ≡ s = cc in rw (sub, same, n)
 
   -- one more, which isn't needed, or is and is marked
   pub marked_skip : (subs : List Sub) (came : List (Option ℕ)) (j : ℕ) (s : Sub) → slice_get subs j ≡ Some s → MarkedTo subs j came
@@ -194,10 +173,8 @@ module _ (set : Set) (d : Device) (image : Image) where
   pub comes_at : (subs : List Sub) (i j : ℕ) (s : Sub) → slice_get subs j ≡ Some s → slice_get (needed_from set d image i subs) j ≡ Some (comes (i + j) s)
   comes_at [] i j s e = absurd (cc)
   comes_at (t ∷ subs) i zero s e =
-      let one : t ≡ s = cc in
-      let z : i ≡ i + 0 = omega arith in
-      ap (λ (u : Sub). Some (comes i u)) one ∙ ap (λ (k : ℕ). Some (comes k s)) z
-  comes_at (t ∷ subs) i (suc j) s e = let z : suc i + j ≡ i + suc j = omega arith in comes_at subs (suc i) j s e ∙ ap (λ (k : ℕ). Some (comes k s)) z
+      let one : t ≡ s = cc in let z : i + 0 ≡ i = omega arith in rw (one, z)
+  comes_at (t ∷ subs) i (suc j) s e = let z : i + suc j ≡ suc i + j = omega arith in rw z (comes_at subs (suc i) j s e)
 
   pub needed_long : (subs : List Sub) (i : ℕ) → length (needed_from set d image i subs) ≡ length subs
   needed_long [] i = refl
@@ -205,25 +182,21 @@ module _ (set : Set) (d : Device) (image : Image) where
 
   pub all_marked : (subs : List Sub) (came : List (Option ℕ)) (j : ℕ) → j ≡ length subs → MarkedTo subs j came → came ≡ needed_from set d image 0 subs
   all_marked subs came j end h =
-      let long = h.long in
-      same_lists came (needed_from set d image 0 subs) (long ∙ sym (needed_long subs 0)) (λ i lt. one i (some_at subs i (omega (arith, long))))
-    where
-      one : (i : ℕ) → (s : Sub) × (slice_get subs i ≡ Some s) → slice_get came i ≡ slice_get (needed_from set d image 0 subs) i
-      one i p =
-          let z : i ≡ 0 + i = omega arith in
-          h.done i p.0 (omega (arith, slice_get_within subs i p.0 p.1)) p.1 ∙ ap (λ (k : ℕ). Some (comes k p.0)) z ∙ sym (comes_at subs 0 i p.0 p.1)
+      same_lists came (needed_from set d image 0 subs) (h.long ∙ sym (needed_long subs 0)) (λ i lt.
+      let p = some_at subs i (omega (arith, h.long)) in
+      let z : 0 + i ≡ i = omega arith in
+      h.done i p.0 (omega (arith, slice_get_within subs i p.0 p.1)) p.1 ∙ sym (rw z at (comes_at subs 0 i p.0 p.1)))
 
 -- ---- What comes back is at its set's versions.
 
 version_if : (b : Bool) (v w : ℕ) → (if b then Some v else None) ≡ Some w → w ≡ v
-version_if true v w e = let f : v ≡ w = cc in sym f
+version_if true v w e = cc
 version_if false v w e = cc
 
 needed_version : (set : Set) (d : Device) (image : Image) (i j : ℕ) (subs : List Sub) (s : Sub) (v : ℕ) → slice_get subs j ≡ Some s
     → slice_get (needed_from set d image i subs) j ≡ Some (Some v) → v ≡ s.desc.version
 needed_version set d image i j subs s v e f =
-    let is : Some (comes set d image (i + j) s) ≡ Some (Some v) = sym (comes_at set d image subs i j s e) ∙ f in
-    version_if (is_needed set d image s (i + j)) s.desc.version v cc
+    version_if (is_needed set d image s (i + j)) s.desc.version v (cc (comes_at set d image subs i j s e))
 
 pub back_versions : (to : Set) (d : Device) (partners : List (Option ℕ)) (numbers : List ℤ) (image : Image) → IsBack to d partners numbers image
     → IsAtVersions d image

@@ -1,13 +1,14 @@
 -- What is taken of the older cells, and the defaults of the others.
-use Rattle.vms_convert.proofs.Facade.{◌≡◌, ℕ, zero, suc, ◌<◌, List, [], ◌∷◌, ◌++◌, length, get_or, take, drop, slice_set, ℤ, pos, refl, ap, arith, ◌+◌, map}
-use Rattle.vms_convert.proofs.Facade.{Option, Some, None, sym, ◌∙◌, append_assoc, Bool, true, false, ◌||◌, ◌==◌, length-set, subst, if◌then◌else◌, ◌≤◌, nat_lt}
-use Rattle.vms_convert.proofs.Facade.{slice_get, get_or-set_other, get_or-set_same, map-append, length-map, eqb-true, eq-eqb, ltb-true, ltb-false, get_or-map}
-use Rattle.vms_convert.proofs.Facade.{slice_get-get_or, IsSound, AreSound, Sub, Device, Set, Slot, desc_cells, struct_cells, Cell, no_cell, Number}
-use Rattle.vms_convert.proofs.Facade.{device_cells, own_cells, own_slots, sub_slots, sub_place, came_slots, has_cell, image_slots, its_same, its_below}
-use Rattle.vms_convert.proofs.Facade.{part_place, image_are, sub_size, sub_place_up, SameBelow, SameIn, exceeds, AreCells, least_of, steps_of, capacities_of}
-use Rattle.vms_convert.proofs.Facade.{step_of, exceeds_least, taken, AreTaken, whole, changed, changed_append, Changes, put_partner, put_step, AreSources}
-use Rattle.vms_convert.proofs.Facade.{Keeps, WalkStep, has_step_of, put_keeps, takes_keeps, Kind, Typed, InRange, U8, FitsHeads, own_cell_count, device_at}
-use Rattle.vms_convert.proofs.Facade.{is_well_formed, desc_at, kinds_at, good_of, ArePut, ArePutAt, append-nil, take_all, at_map}
+use Rattle.vms_convert.proofs.Facade.{subst}
+use Rattle.vms_convert.proofs.Facade.{cases_eq, ne_eqb, inl, inr, cases_lt, ◌≡◌, ℕ, zero, suc, ◌<◌, List, [], ◌∷◌, ◌++◌, length, get_or, take, drop, slice_set}
+use Rattle.vms_convert.proofs.Facade.{ℤ, pos, refl, ap, arith, ◌+◌, map, Option, Some, None, sym, ◌∙◌, append_assoc, Bool, true, false, length-set}
+use Rattle.vms_convert.proofs.Facade.{if◌then◌else◌, ◌≤◌, slice_get, get_or-set_other, get_or-set_same, map-append, length-map, eq-eqb, get_or-map}
+use Rattle.vms_convert.proofs.Facade.{slice_get-get_or, append-nil, take_all, IsSound, AreSound, Sub, Device, Set, Slot, desc_cells, struct_cells, Cell}
+use Rattle.vms_convert.proofs.Facade.{no_cell, Number, device_cells, own_cells, own_slots, sub_slots, sub_place, came_slots, has_cell, image_slots, its_same}
+use Rattle.vms_convert.proofs.Facade.{its_below, part_place, image_are, sub_size, sub_place_up, SameBelow, SameIn, exceeds, AreCells, least_of, steps_of}
+use Rattle.vms_convert.proofs.Facade.{capacities_of, step_of, exceeds_least, taken, AreTaken, whole, changed, changed_append, Changes, put_partner, put_step}
+use Rattle.vms_convert.proofs.Facade.{AreSources, Keeps, WalkStep, has_step_of, put_keeps, takes_keeps, Kind, Typed, InRange, U8, FitsHeads, own_cell_count}
+use Rattle.vms_convert.proofs.Facade.{device_at, is_well_formed, desc_at, kinds_at, good_of, ArePut, ArePutAt, at_map}
 use Rattle.vms_spec.specs.declared.Part.TheVariants as parts
 use Rattle.vms_desc.specs.Asks.{first_cell}
 
@@ -39,17 +40,16 @@ module _ (set : Set) (d : Device) (n : List ℤ) where
   came_next from [] came j s o e f = absurd (cc)
   came_next from (t ∷ subs) [] j s o e f = absurd (cc)
   came_next from (t ∷ subs) (None ∷ came) zero s o e f =
-      let same : None ≡ o = cc in
-      ap (λ (p : Option ℕ). one_slots set s p n from) same
+      let same : o ≡ None = cc in rw same
   came_next from (t ∷ subs) (Some v ∷ came) zero s o e f =
-      let same : Some v ≡ o = cc in
+      let same : o ≡ Some v = cc in
       let one : t ≡ s = cc in
-      append-nil (sub_slots set t v n from) ∙ ap (λ (u : Sub). sub_slots set u v n from) one ∙ ap (λ (p : Option ℕ). one_slots set s p n from) same
+      rw (append-nil, one, same)
   came_next from (t ∷ subs) (None ∷ came) (suc j) s o e f = came_next (from + length (desc_cells (struct_cells set) t.desc)) subs came j s o e f
   came_next from (t ∷ subs) (Some v ∷ came) (suc j) s o e f =
       let next = from + length (desc_cells (struct_cells set) t.desc) in
-      ap (λ (l : List Slot). sub_slots set t v n from ++ l) (came_next next subs came j s o e f)
-      ∙ sym (append_assoc (sub_slots set t v n from) (came_slots set d n next (take j subs) (take j came)) (one_slots set s o n (sub_place set next subs j)))
+      let more = one_slots set s o n (sub_place set next subs j) in
+      rw (came_next next subs came j s o e f, append_assoc (sub_slots set t v n from) (came_slots set d n next (take j subs) (take j came)) more)
 
 abbrev pub first_slots : Set → Device → List (Option ℕ) → ℕ → List ℤ → List Slot
 first_slots set d came j n = own_slots set d d.desc.version n ++ came_slots set d n (own_cells set d) (take j d.subs) (take j came)
@@ -57,9 +57,11 @@ first_slots set d came j n = own_slots set d d.desc.version n ++ came_slots set 
 pub first_next : (set : Set) (d : Device) (came : List (Option ℕ)) (j : ℕ) (s : Sub) (o : Option ℕ) (n : List ℤ) → slice_get d.subs j ≡ Some s
     → slice_get came j ≡ Some o → first_slots set d came (suc j) n ≡ first_slots set d came j n ++ one_slots set s o n (part_place set d j)
 first_next set d came j s o n e f =
-    ap (λ (l : List Slot). own_slots set d d.desc.version n ++ l) (came_next set d n (own_cells set d) d.subs came j s o e f)
-    ∙ sym (append_assoc (own_slots set d d.desc.version n) (came_slots set d n (own_cells set d) (take j d.subs) (take j came))
-    (one_slots set s o n (part_place set d j)))
+    let front = came_slots set d n (own_cells set d) (take j d.subs) (take j came) in
+    rw (
+      came_next set d n (own_cells set d) d.subs came j s o e f,
+      append_assoc (own_slots set d d.desc.version n) front (one_slots set s o n (part_place set d j)),
+    )
 
 -- ---- they go by the cells before the next part
 
@@ -77,19 +79,19 @@ module _ (set : Set) (structs : AreSound set.structs) (d : Device) where
   came_same n m from (t ∷ subs) (Some v ∷ came) (suc j) sound s =
       let next = from + sub_size set t in
       let up = sub_place_up set next subs j in
-      ap (λ (l : List Slot). l ++ came_slots set d m next (take j subs) (take j came))
-      (its_same set t.desc v from structs (sound 0 t refl) n m (record { same = λ c low lt. s.same c low (omega arith) }))
-      ∙ ap (λ (l : List Slot). sub_slots set t v n from ++ l)
-      (came_same n m next subs came j (λ i u e. sound (suc i) u e) (record { same = λ c low lt. s.same c (omega arith) lt }))
+      rw (
+        its_same set t.desc v from structs (sound 0 t refl) n m (record { same = λ c low lt. s.same c low (omega arith) }),
+        came_same n m next subs came j (λ i u e. sound (suc i) u e) (record { same = λ c low lt. s.same c (omega arith) lt }),
+      )
 
   pub first_same : IsSound d.desc → ((i : ℕ) (s : Sub) → slice_get d.subs i ≡ Some s → IsSound s.desc) → (n m : List ℤ) (came : List (Option ℕ)) (j : ℕ)
       → SameBelow (part_place set d j) n m → first_slots set d came j m ≡ first_slots set d came j n
   first_same own sound n m came j s =
       let up = sub_place_up set (own_cells set d) d.subs j in
-      ap (λ (l : List Slot). l ++ came_slots set d m (own_cells set d) (take j d.subs) (take j came))
-      (its_same set d.desc d.desc.version 0 structs own n m (record { same = λ c low lt. s.same c (omega arith) }))
-      ∙ ap (λ (l : List Slot). own_slots set d d.desc.version n ++ l)
-      (came_same n m (own_cells set d) d.subs came j sound (record { same = λ c low lt. s.same c lt }))
+      rw (
+        its_same set d.desc d.desc.version 0 structs own n m (record { same = λ c low lt. s.same c (omega arith) }),
+        came_same n m (own_cells set d) d.subs came j sound (record { same = λ c low lt. s.same c lt }),
+      )
 
 -- ---- The number of a cell after the steps of some slots.
 
@@ -100,37 +102,29 @@ put_value source caps None old = old
 
 value_twice : (source : List ℤ) (caps : List ℕ) (o : Option ℕ) (old : ℤ) → put_value source caps o (put_value source caps o old) ≡ put_value source caps o old
 value_twice source caps None old = refl
-value_twice source caps (Some k) old = go (exceeds caps (get_or source k (pos 0))) where
-  go : (b : Bool) → (if b then (if b then old else get_or source k (pos 0)) else get_or source k (pos 0)) ≡ (if b then old else get_or source k (pos 0))
-  go true = refl
-  go false = refl
+value_twice source caps (Some k) old = elim (exceeds caps (get_or source k (pos 0))) as
+    (λ b. (if b then (if b then old else get_or source k (pos 0)) else get_or source k (pos 0)) ≡ (if b then old else get_or source k (pos 0)))
+    [ true ↦ refl | false ↦ refl ]
 
 put_long : (source : List ℤ) (cell : ℕ) (most o : Option ℕ) (now : List ℤ) → length (put_partner source cell most o now) ≡ length now
 put_long source cell most None now = refl
-put_long source cell most (Some k) now = go (exceeds (capacities_of most) (get_or source k (pos 0))) where
-  go : (b : Bool) → length (if b then now else slice_set now cell (get_or source k (pos 0))) ≡ length now
-  go true = refl
-  go false = length-set now cell (get_or source k (pos 0))
+put_long source cell most (Some k) now = elim (exceeds (capacities_of most) (get_or source k (pos 0))) as
+    (λ b. length (if b then now else slice_set now cell (get_or source k (pos 0))) ≡ length now) [ true ↦ refl | false ↦ length-set now cell _ ]
 
 put_here : (source : List ℤ) (c : ℕ) (caps : List ℕ) (o : Option ℕ) (now : List ℤ) → c < length now
     → get_or (put_partner source c (least_of caps) o now) c (pos 0) ≡ put_value source caps o (get_or now c (pos 0))
 put_here source c caps None now lt = refl
 put_here source c caps (Some k) now lt =
-    let z = get_or source k (pos 0) in
-    ap (λ (b : Bool). get_or (if b then now else slice_set now c z) c (pos 0)) (exceeds_least caps z) ∙ go (exceeds caps z)
-  where
-    go : (b : Bool)
-        → get_or (if b then now else slice_set now c (get_or source k (pos 0))) c (pos 0) ≡ (if b then get_or now c (pos 0) else get_or source k (pos 0))
-    go true = refl
-    go false = get_or-set_same now c (get_or source k (pos 0)) (pos 0) lt
+    rw (exceeds_least caps (get_or source k (pos 0))) (elim (exceeds caps (get_or source k (pos 0))) as
+    (λ b. get_or (if b then now else slice_set now c (get_or source k (pos 0))) c (pos 0) ≡ (if b then get_or now c (pos 0) else get_or source k (pos 0)))
+    [ true ↦ refl | false ↦ get_or-set_same now c (get_or source k (pos 0)) (pos 0) lt ])
 
 put_other : (source : List ℤ) (cell c : ℕ) (most o : Option ℕ) (now : List ℤ) → (c ≡ cell → ⊥)
     → get_or (put_partner source cell most o now) c (pos 0) ≡ get_or now c (pos 0)
 put_other source cell c most None now ne = refl
-put_other source cell c most (Some k) now ne = go (exceeds (capacities_of most) (get_or source k (pos 0))) where
-  go : (b : Bool) → get_or (if b then now else slice_set now cell (get_or source k (pos 0))) c (pos 0) ≡ get_or now c (pos 0)
-  go true = refl
-  go false = get_or-set_other now cell c (get_or source k (pos 0)) (pos 0) ne
+put_other source cell c most (Some k) now ne = elim (exceeds (capacities_of most) (get_or source k (pos 0))) as
+    (λ b. get_or (if b then now else slice_set now cell (get_or source k (pos 0))) c (pos 0) ≡ get_or now c (pos 0))
+    [ true ↦ refl | false ↦ get_or-set_other now cell c _ (pos 0) ne ]
 
 module _ (all : List Cell) (partners : List (Option ℕ)) (source : List ℤ) where
   abbrev after : List Slot → List ℤ → List ℤ
@@ -153,22 +147,13 @@ module _ (all : List Cell) (partners : List (Option ℕ)) (source : List ℤ) wh
       → get_or (after slots now) c (pos 0) ≡ taken_if c (has_cell slots c) (get_or now c (pos 0))
   put_at [] now c are long lt = refl
   put_at (Number d kind caps ∷ slots) now c are long lt =
-      put_at slots (put d caps now) c are.1 (put_long source d (least_of caps) (get_or partners d None) now ∙ long) lt ∙ by_place (d == c) refl
-    where
-      by_place : (b : Bool) → (d == c) ≡ b
-          → taken_if c (has_cell slots c) (get_or (put d caps now) c (pos 0)) ≡ taken_if c ((d == c) || has_cell slots c) (get_or now c (pos 0))
-      by_place true e =
-          let same : d ≡ c = eqb-true d c e in
-          let here : get_or (put d caps now) c (pos 0) ≡ value c (get_or now c (pos 0)) =
-          subst (λ (i : ℕ). get_or (put i caps now) c (pos 0) ≡ value c (get_or now c (pos 0))) (sym same)
-          (put_here source c caps (get_or partners c None) now (omega (arith, lt, long))
-          ∙ ap (λ (k : List ℕ). put_value source k (get_or partners c None) (get_or now c (pos 0)))
-          (sym are.0.capacities ∙ ap (λ (i : ℕ). (get_or all i no_cell).capacities) same)) in
-          ap (taken_if c (has_cell slots c)) here ∙ again c (has_cell slots c) (get_or now c (pos 0))
-          ∙ sym (ap (λ (b : Bool). taken_if c (b || has_cell slots c) (get_or now c (pos 0))) e)
-      by_place false e =
-          ap (taken_if c (has_cell slots c)) (put_other source d c (least_of caps) (get_or partners d None) now (λ f. (let g = eq-eqb d c (sym f) in cc)))
-          ∙ sym (ap (λ (b : Bool). taken_if c (b || has_cell slots c) (get_or now c (pos 0))) e)
+      put_at slots (put d caps now) c are.1 (put_long source d (least_of caps) (get_or partners d None) now ∙ long) lt ∙ elim (cases_eq d c) [
+        | inl same ↦
+            let here : get_or (put c caps now) c (pos 0) ≡ value c (get_or now c (pos 0)) =
+            rw (← same, are.0.capacities) (put_here source d caps (get_or partners d None) now (omega arith)) in
+            rw (eq-eqb d c same, same, here) (again c (has_cell slots c) (get_or now c (pos 0)))
+        | inr other ↦ rw (ne_eqb d c other, put_other source d c (least_of caps) (get_or partners d None) now (λ f. other (sym f)))
+      ]
   put_at (_ ∷ slots) now c are long lt = put_at slots now c are long lt
 
   -- from defaults on, the cells of the slots have taken theirs
@@ -188,16 +173,14 @@ module _ (set : Set) (structs : AreSound set.structs) (d : Device) (own : IsSoun
   puts slots now = changed (put_step partners source) (steps_of slots) now
 
   puts_more : (xs ys : List Slot) (now : List ℤ) → puts (xs ++ ys) now ≡ puts ys (puts xs now)
-  puts_more xs ys now =
-      ap (λ (l : List WalkStep). changed (put_step partners source) l now) (map-append step_of xs ys)
-      ∙ changed_append (put_step partners source) (steps_of xs) (steps_of ys) now
+  puts_more xs ys now = rw (map-append step_of xs ys) (changed_append (put_step partners source) (steps_of xs) (steps_of ys) now)
 
   -- one subsection more
   pub taken_next : (before n m : List ℤ) (j : ℕ) (s : Sub) → slice_get d.subs j ≡ Some s → n ≡ puts (first_slots set d (all_came d.subs) j n) before
       → m ≡ puts (sub_slots set s s.desc.version m (part_place set d j)) n → m ≡ puts (first_slots set d (all_came d.subs) (suc j) m) before
   taken_next before n m j s e first more =
       let its = sub_slots set s s.desc.version m (part_place set d j) in
-      let keeps : Keeps (steps_of its) n m = subst (λ (l : List ℤ). Keeps (steps_of its) n l) (sym more) (put_keeps partners source (steps_of its) n) in
+      let keeps : Keeps (steps_of its) n m = subst (Keeps (steps_of its) n) (sym more) (put_keeps partners source (steps_of its) n) in
       let below : SameBelow (part_place set d j) n m =
       record { same = λ c lt. keeps.same c (has_step_of its c ∙ its_below set s.desc s.desc.version (part_place set d j) m c lt) } in
       let still = first_same set structs d own sound n m (all_came d.subs) j below in
@@ -261,20 +244,13 @@ module _ (set : Set) (i first : ℕ) (before : List ℤ) where
       λ c ne. get_or-set_other now cell c z (pos 0) ne in
       record {
         long = length-set now cell z ∙ long;
-        inside = λ c low less. by_place c low less (nat_lt c cell) refl;
+        inside = λ c low less. elim (cases_lt c cell) [
+          | inl lower ↦ other c (λ same. absurd (omega arith)) ∙ h.inside c low lower
+          | inr ge ↦ let same : c ≡ cell = omega arith in rw same (get_or-set_same now cell z (pos 0) (omega arith))
+        ];
         below = λ c less. other c (λ same. absurd (omega arith)) ∙ h.below c less;
         above = λ c up. other c (λ same. absurd (omega arith)) ∙ h.above c (omega arith);
       }
-    where
-      by_place : (c : ℕ) → first ≤ c → c < cell + 1 → (b : Bool) → nat_lt c cell ≡ b → get_or (slice_set now cell (default cell)) c (pos 0) ≡ default c
-      by_place c low less true e =
-          let lower : c < cell = ltb-true c cell e in
-          get_or-set_other now cell c (default cell) (pos 0) (λ same. absurd (omega arith)) ∙ h.inside c low lower
-      by_place c low less false e =
-          let ge : cell ≤ c = ltb-false c cell e in
-          let same : cell ≡ c = omega arith in
-          subst (λ (k : ℕ). get_or (slice_set now cell (default cell)) k (pos 0) ≡ default k) same
-          (get_or-set_same now cell (default cell) (pos 0) (omega arith))
 
 -- all cells of a subsection
 pub put_all : (set : Set) (i j first cell : ℕ) (before now : List ℤ) → first ≡ first_cell set (parts.Sub i j)
@@ -286,8 +262,7 @@ put_all set i j first cell before now e f h = rw (← f, ← e) h
 pub put_rest : (a b c : Typed) (numbers : List ℤ) → b ≡ record a { numbers = b.numbers } → c ≡ record b { numbers = numbers }
     → c ≡ record a { numbers = c.numbers }
 put_rest a b c numbers e f =
-    let n : numbers ≡ c.numbers = sym (ap (λ (x : Typed). x.numbers) f) in
-    f ∙ ap (λ (l : List ℤ). record b { numbers = l }) n ∙ ap (λ (x : Typed). record x { numbers = c.numbers }) e
+    rw f (ap (λ (x : Typed). record x { numbers = numbers }) e)
 
 -- a default is in its kind's range
 pub default_fits : (set : Set) → is_well_formed set ≡ true → FitsHeads set → (i : ℕ) → i < length set.devices → (cell : ℕ)
@@ -296,6 +271,5 @@ pub default_fits : (set : Set) → is_well_formed set ≡ true → FitsHeads set
 default_fits set well heads i lt cell less kinds e =
     let cells = device_cells set (device_at set i) in
     let fit = (good_of set well heads).defaults i (device_at set i) (slice_get-get_or set.devices i _ lt) cell less in
-    let kind : get_or kinds cell U8 ≡ (get_or cells cell no_cell).kind =
-    ap (λ (l : List Kind). get_or l cell U8) e ∙ get_or-map (λ (c : Cell). c.kind) cells cell no_cell in
-    subst (λ (k : Kind). InRange k (get_or cells cell no_cell).default) (sym kind) fit.0
+    let kind : get_or kinds cell U8 ≡ (get_or cells cell no_cell).kind = rw e (get_or-map (λ (c : Cell). c.kind) cells cell no_cell) in
+    rw kind fit.0
