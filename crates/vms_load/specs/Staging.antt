@@ -49,6 +49,11 @@ pub record IsOf (set : Set) (staged : Staged) : Type 0 where
   -- the image of a device that hasn't come is at its defaults
   pub fresh : (k : ℕ) → slice_get staged.came.items k ≡ Some false → get_or staged.images.items k no_image ≡ default_at set k
 
+-- The machine is one of the set's, if one is named, and what has been read so far is of the set.
+pub record CanConfigure (set : Set) (only : Option ℕ) (staged : Staged) : Type 0 where
+  pub machine : IsMachine set.machines only
+  pub whole : IsOf set staged
+
 -- The image of device k at a version, before its fields come.
 abbrev pub image_at : Set → ℕ → ℕ → Image
 image_at set k version = record (default_image set (device_at set k)) { version = version }

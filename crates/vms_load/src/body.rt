@@ -4,10 +4,10 @@ ghost use Rattle.vms_desc.specs.Described.{described};
 ghost use Rattle.vms_desc.specs.Parts.{desc_at};
 ghost use Rattle.vms_io.specs.Told.{intake};
 ghost use Rattle.vms_spec.specs.Taking.{take_slot};
-ghost use Rattle.vms_walk.specs.Inside.{IsInside, Keeps};
+ghost use Rattle.vms_walk.specs.Inside.{Keeps};
 ghost use Rattle.vms_walk.specs.Steps.{HasSpot, steps_of, spot_slots};
 ghost use Rattle.vms_load.specs.Bodies.{TakesOn, progress};
-ghost use Rattle.vms_load.specs.Bodies.{IsOfKind, AreOfKinds};
+ghost use Rattle.vms_load.specs.Bodies.{FitsStep, AreOfKinds};
 ghost use Rattle.vms_load.specs.Parts.{bytes_of};
 ghost use Rattle.vms_load.specs.Reading.{slot_of, step_long, told, Took, Failed};
 
@@ -152,8 +152,7 @@ fn read_step<S: Source>(
     cursor: &mut Cursor,
     source: &mut S,
 ) -> Result<(), FrameFault>
-    requires inside { IsInside image.old.numbers step }
-    requires of_kind { IsOfKind image.old.kinds step }
+    requires step { FitsStep image.old step }
     requires place { cursor.old.at ≤ 2 ^ 63 }
     requires held { cursor.old.held ≡ None }
     ensures reads { TakesOn (intake S.Source source.old) (intake S.Source source.new)

@@ -6,7 +6,7 @@ ghost use Rattle.vms_parts.specs.Devices.{device_at};
 ghost use Rattle.vms_image.specs.Typed.{IsImageOf, state_of as untyped};
 ghost use Rattle.vms_io.specs.Told.{intake};
 ghost use Rattle.vms_load.specs.Going.{GoesOn, Moves};
-ghost use Rattle.vms_load.specs.Parts.{IsOpen, OpensNext, part_of, part_due, bytes_of_part, subs_due, in_fields, after_fields, after_part, IsMoved, IsSame, HoldsNone};
+ghost use Rattle.vms_load.specs.Parts.{IsOfDevice, IsOpen, HasNewNumbers, IsNextPart, IsSame, part_of, part_due, bytes_of_part, subs_due, in_fields, after_fields, after_part};
 ghost use Rattle.vms_marks.specs.declared.foot.TheConstants.{FOOT_LENGTH};
 ghost use Rattle.vms_marks.specs.declared.head.TheConstants.{LONGEST_HEAD};
 ghost use Rattle.vms_marks.specs.declared.sub_head.TheConstants.{LONGEST_SUB_HEAD};
@@ -56,8 +56,7 @@ fn read_fields<S: Source>(
     cursor: &mut Cursor,
     source: &mut S,
 ) -> Result<(), LoadFault>
-    requires device { section.device < length (described set.now).devices }
-    requires shaped { IsImageOf (described set.now) section.device image.old }
+    requires image { IsOfDevice (described set.now) section.device image.old }
     requires open { IsOpen (device_at (described set.now) section.device) (untyped image.old)
         part.sub part.version }
     requires held { cursor.old.held ≡ None }
@@ -75,8 +74,7 @@ fn read_fields<S: Source>(
     ensures moves { Moves cursor.old cursor.new
         (bytes_of_part (described set.now) (device_at (described set.now) section.device) part.sub)
         (λ _. 0) result }
-    ensures kept { image.new ≡ record image.old { numbers = image.new.numbers } }
-    ensures long { length image.new.numbers ≡ length image.old.numbers }
+    ensures image { HasNewNumbers image.old image.new }
 {
     let number = part_of(section.device, part.sub);
     let base = set.first_cell(number);
@@ -100,8 +98,7 @@ fn read_after_fields<S: Source>(
     cursor: &mut Cursor,
     source: &mut S,
 ) -> Result<Option<Open>, LoadFault>
-    requires device { section.old.device < length (described set.now).devices }
-    requires shaped { IsImageOf (described set.now) section.old.device image.old }
+    requires image { IsOfDevice (described set.now) section.old.device image.old }
     requires place { cursor.old.at ≤ 2 ^ 63 }
     requires held { cursor.old.held ≡ None }
     ensures reads { (names : List (List ℕ)) (state : State) (part : Option ℕ)
@@ -110,11 +107,10 @@ fn read_after_fields<S: Source>(
         (after_fields (described set.now) names state section.old part (untyped image.old))
         (after_part (described set.now) names state section.new (untyped image.new)) cursor.old
         cursor.new result }
-    ensures moved { IfOk result (IsMoved cursor.old cursor.new) }
     ensures section { IsSame section.old section.new }
-    ensures held { IfOk result (HoldsNone cursor.new) }
-    ensures open { IfOk result
-        (OpensNext (device_at (described set.now) section.old.device) (untyped image.new)) }
+    ensures next { IfOk result
+        (IsNextPart (device_at (described set.now) section.old.device) cursor.old cursor.new
+        image.new) }
     ensures moves { Moves cursor.old cursor.new
         (subs_due (described set.now)
         (device_at (described set.now) section.old.device).subs image.old.came

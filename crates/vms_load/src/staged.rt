@@ -11,7 +11,7 @@ ghost use Rattle.vms_stream.specs.State.{Before, Free, at_start};
 ghost use Rattle.vms_desc.specs.Described.{described};
 ghost use Rattle.vms_image.specs.Typed.{AreImagesOf, default_at, state_of as untyped};
 ghost use Rattle.vms_load.specs.Reads.{Settles, IsRefused};
-ghost use Rattle.vms_load.specs.Staging.{AreShaped, IsOf, IsMachine, IsAccepted, accepted_of, no_image, state_of, spot_at};
+ghost use Rattle.vms_load.specs.Staging.{AreShaped, IsOf, CanConfigure, IsMachine, IsAccepted, accepted_of, no_image, state_of, spot_at};
 
 use crate::LoadFault;
 use crate::fault::refused;
@@ -137,8 +137,7 @@ pub(crate) fn configure(
     name: &Name,
     at: u64,
 ) -> Result<Option<Between>, LoadFault>
-    requires machine { IsMachine (described set.now).machines only }
-    requires whole { IsOf (described set.now) staged.old }
+    requires set { CanConfigure (described set.now) only staged.old }
     ensures next { IfOk result (λ next. next ≡ Some Between.AfterConfiguration) }
     ensures short { length name.now.items ≤ LONGEST_NAME }
     ensures refused { IfErr result IsRefused }

@@ -5,6 +5,9 @@ use Rattle.vms_load.proofs.ReadLemmas.{spent_by, goes_judged, goes_still, same_c
 use Rattle.vms_load.proofs.StreamReads.{turn_fault, turn_settled, turn_section}
 use Rattle.vms_load.proofs.stream.read_between.Goals as goal
 
+pub configure-requires-clause-set : goal.configure-requires-clause-set
+configure-requires-clause-set g c = record { machine = c.requires.machine; whole = c.requires.whole }
+
 pub returns-in-Ok-Configuration-clause-reads : goal.returns-in-Ok-Configuration-clause-reads
 returns-in-Ok-Configuration-clause-reads g c =
     let set = described c.args.set.now in
