@@ -28,19 +28,19 @@ returns-in-Ok-Done-clause-reads g c = λ names state part room.
     let reads = rw c.in-Ok-Done.field-0-is at c.in-Ok-Done.ensures.reads in
     let place = rw c.in-Ok-Done.field-0-is at c.in-Ok-Done.ensures.place in
     let held = rw c.in-Ok-Done.field-0-is at c.in-Ok-Done.ensures.held in
-    reads_as (λ n l. omega (arith, ap held_long held, ap held_long c.requires.held))
+    reads_as (λ n l. omega (arith, ap held_long held, ap held_long c.requires.cursor.held))
     (λ rest left h. after_settled set names state section part (untyped c.args.image.now) c.requires.image.device room c.args.cursor.now c.after_fields.new.self
     (Some rest) (Some left) (Foot section.id) 5 (record section { tail = tails.Footed }) (untyped c.args.image.now) (Ok None)
-    c.requires.held held h place (foot_settled set names state section part (untyped c.args.image.now) c.requires.image.device room c.args.cursor.now.at)) reads
+    c.requires.cursor.held held h place (foot_settled set names state section part (untyped c.args.image.now) c.requires.image.device room c.args.cursor.now.at)) reads
 
 pub returns-in-Ok-Next-clause-reads : goal.returns-in-Ok-Next-clause-reads
 returns-in-Ok-Next-clause-reads g c = λ names state part room.
     let place = rw c.in-Ok-Next.field-0-is at c.in-Ok-Next.ensures.place in
-    let before = ap held_long c.requires.held in
+    let before = ap held_long c.requires.cursor.held in
     let now = ap held_long (rw c.in-Ok-Next.field-0-is at c.in-Ok-Next.ensures.held).1 in
     reads_as (λ n l. omega arith)
     (λ rest left h. after_next (described c.args.set.now) names state c.args.section.now part (untyped c.args.image.now) c.requires.image.device room c.args.cursor.now c.after_fields.new.self
-    (Some rest) (Some left) c.requires.held (omega arith) h) (rw c.in-Ok-Next.field-0-is at c.in-Ok-Next.ensures.reads)
+    (Some rest) (Some left) c.requires.cursor.held (omega arith) h) (rw c.in-Ok-Next.field-0-is at c.in-Ok-Next.ensures.reads)
 
 pub returns-in-Err-open_sub-clause-reads : goal.returns-in-Err-open_sub-clause-reads
 returns-in-Err-open_sub-clause-reads g c = λ names state part room.
@@ -55,7 +55,7 @@ returns-in-Err-open_sub-clause-reads g c = λ names state part room.
     rw c.refused.ensures
     (goes_refused e tt (reads_as (λ n l. omega arith)
     (λ rest left h. after_settled set names state c.args.section.now part (untyped c.args.image.now) c.requires.image.device room c.args.cursor.now c.after_fields.new.self
-    (Some rest) (Some left) (SubHead name c.in-Ok-Sub.version) (6 + length name) c.args.section.now (untyped c.args.image.now) (Err e) c.requires.held held h place
+    (Some rest) (Some left) (SubHead name c.in-Ok-Sub.version) (6 + length name) c.args.section.now (untyped c.args.image.now) (Err e) c.requires.cursor.held held h place
     (sub_refused set names state c.args.section.now part (untyped c.args.image.now) c.requires.image.device room c.args.cursor.now.at name c.in-Ok-Sub.version c.requires.image.shaped.subs e
     (λ next. state_in state c.args.section.now (untyped c.args.image.now) (spot_in c.args.section.now next)) is)) reads))
 
@@ -83,9 +83,9 @@ returns-in-Ok-clause-reads g c = λ names state part room.
     let P : Typed → Type 0 = λ image. GoesOn (intake g.S.Source c.args.source.now) (intake g.S.Source c.after_fields.new.source) LONGEST_SUB_HEAD (after_fields set names state c.args.section.now part (untyped c.args.image.now))
     (after_part set names state c.args.section.now (untyped image)) from to (Ok (Some begun)) in
     subst P (sym c.mark.ensures)
-    (reads_as (λ n l. omega (arith, ap held_long held, ap held_long c.requires.held))
+    (reads_as (λ n l. omega (arith, ap held_long held, ap held_long c.requires.cursor.held))
     (λ rest left h. after_settled set names state c.args.section.now part (untyped c.args.image.now) c.requires.image.device room from to (Some rest) (Some left) (SubHead name v) (6 + length name) c.args.section.now
-    (record (untyped c.args.image.now) { came = slice_set c.args.image.now.came j (Some v) }) (Ok (Some begun)) c.requires.held held h place
+    (record (untyped c.args.image.now) { came = slice_set c.args.image.now.came j (Some v) }) (Ok (Some begun)) c.requires.cursor.held held h place
     (sub_settled set names state c.args.section.now part (untyped c.args.image.now) c.requires.image.device room from.at name v c.requires.image.shaped.subs j is)) reads)
 
 pub returns-in-Ok-Done-clause-next : goal.returns-in-Ok-Done-clause-next
@@ -122,7 +122,7 @@ returns-in-Ok-clause-moves g c =
     let new = sub_new c.args.section.now.device d c.args.image.now.came c.in-Ok-Sub.name.items v j c.at-at.result c.requires.image.shaped.subs is in
     let due = subs_taken set d.subs c.args.image.now.came j v (record { desc = no_desc; needed = AtLeast 0 }) c.requires.image.shaped.subs new.1 in
     let same = ap (λ (image : Typed). subs_due set d.subs image.came) c.mark.ensures in
-    let before = ap held_long c.requires.held in
+    let before = ap held_long c.requires.cursor.held in
     let now = ap held_long (rw c.in-Ok-Sub.field-0-is at c.in-Ok-Sub.ensures.held) in
     (omega arith, omega arith, omega arith)
 
@@ -130,4 +130,4 @@ pub returns-in-Err-clause-reads : goal.returns-in-Err-clause-reads
 returns-in-Err-clause-reads g c = λ names state part room.
     rw (c.concerning.ensures, ← same_course (Some c.args.section.now.device) c.in-Err.fault)
     (reads_as (λ n l. l) (λ rest left h. after_fault (described c.args.set.now) names state c.args.section.now part (untyped c.args.image.now) c.requires.image.device room c.args.cursor.now c.after_fields.new.self
-    (Some rest) (Some left) (after_part (described c.args.set.now) names state c.args.section.now (untyped c.args.image.now)) c.in-Err.fault c.requires.held h) c.in-Err.ensures.reads)
+    (Some rest) (Some left) (after_part (described c.args.set.now) names state c.args.section.now (untyped c.args.image.now)) c.in-Err.fault c.requires.cursor.held h) c.in-Err.ensures.reads)

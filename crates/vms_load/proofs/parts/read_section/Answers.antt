@@ -8,10 +8,10 @@ use Rattle.vms_load.proofs.parts.read_section.Goals as goal
 pub loop-next-init : goal.loop-next-init
 loop-next-init g c = record {
   same = (refl, refl);
-  held = c.requires.held;
+  held = c.requires.cursor.held;
   reads = λ names state room. goes_here (intake g.S.Source c.args.source.now) (in_fields (described c.args.set.now) names state c.args.section.now None (untyped c.args.image.now)) c.args.cursor.now (g.met.S.Source.counted c.args.source.now);
   next_is = search rules;
-  shaped = c.requires.shaped;
+  shaped = c.requires.image.shaped;
   from = omega arith;
   onward = omega arith;
   place = search rules;
