@@ -8,7 +8,7 @@ use Rattle.vms_image.specs.Typed.{Typed, state_of, AreImagesOf}
 use Rattle.std.specs.declared.alloc.Global.{Global}
 use Rattle.std.specs.declared.vec.Vec.{Vec}
 use Rattle.vms_frames.specs.declared.fault.Refusal.{Refusal as Refused}
-use Rattle.vms_counter_laws.specs.Counters.{Answer, Refusal}
+use Rattle.vms_counter_laws.specs.Counters.{Answer, Counters, Refusal}
 use Rattle.vms_counter_laws.specs.Counters as counters
 use Rattle.vms_counter.specs.declared.finding.Finding.{Finding}
 use Rattle.vms_counter.specs.declared.finding.Finding.TheVariants as findings
@@ -28,6 +28,11 @@ abbrev pub IsFindingOf : Set → Finding → Type 0
 IsFindingOf old findings.Compatible = Unit {0}
 IsFindingOf old (findings.NoState m) = Unit {0}
 IsFindingOf old (findings.State m machine images r) = IfSome machine (λ k. k < length old.machines) × AreImagesOf old images.items
+
+-- The finding is right for the two sets, and its machine and images are the older set's.
+pub record IsRight (old new : Set) (finding : Finding) : Type 0 where
+  pub counters : Counters old new (answer_of old finding)
+  pub of : IsFindingOf old finding
 
 -- No stream of ready images, with a machine of the set or none and without a description, fills the room.
 abbrev pub HasRoom : Set → ℕ → Type 0
