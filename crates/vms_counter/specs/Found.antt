@@ -38,7 +38,12 @@ pub record IsRight (old new : Set) (finding : Finding) : Type 0 where
 abbrev pub HasRoom : Set → ℕ → Type 0
 HasRoom set room = (machine : Option (List ℕ)) (images : List Image) → IfSome machine (λ m. is_one_of set.machines m ≡ true) → AreReady set images → length (written set machine images None) < room
 
--- The images of the specification.
+-- The images of the specification, if there are any.
 abbrev pub states_of : Option (Vec Typed Global) → Option (List Image)
 states_of None = None
 states_of (Some images) = Some (map state_of images.items)
+
+-- The images are these of the specification, one for each device of the set, or there are none.
+pub record AreStates (set : Set) (wanted : Option (List Image)) (images : Option (Vec Typed Global)) : Type 0 where
+  pub states : states_of images ≡ wanted
+  pub of : IfSome images (λ x. AreImagesOf set x.items)
