@@ -44,7 +44,7 @@ index-sound value chip s = record {
 -- a register of a written chip
 byte-kept : (xs : List ℕ) (i v k : ℕ) → i < length xs → v < 256 → get_or xs k 0 < 256 → get_or (set xs i v) k 0 < 256
 byte-kept xs i v k within small old =
-    ⊎_elim (λ e. rw (e, get_or-set_same xs i v 0 within) small) (λ other. rw (get_or-set_other xs i k v 0 other) old) (cases_eq k i)
+    ⊎_elim (λ (e : k ≡ i). subst (λ (n : ℕ). get_or (set xs i v) n 0 < 256) (sym e) (rw (get_or-set_same xs i v 0 within) small)) (λ other. rw (get_or-set_other xs i k v 0 other) old) (cases_eq k i)
 
 abbrev kept-of : ℕ → ℕ → ℕ
 kept-of index value = if index == REGISTER_A then value % 128 else value
