@@ -127,7 +127,7 @@ level_irr chip winner e = rw e (serving_irr chip.auto_eoi chip.rotate) where
   serving_irr false rotate = refl
 
 isr_by : (chip : Chip) (winner : ℕ) (auto level : Bool) → auto ≡ false → (let after = cond auto (cond chip.rotate (record chip { lowest = winner }) chip) (record chip { isr = with_input chip.isr winner }) in (cond level after (record after { irr = without_input chip.irr winner })).isr) ≡ with_input chip.isr winner
-isr_by chip winner true level e = absurd (false≢true (sym e))
+isr_by chip winner true level e = cc
 isr_by chip winner false true e = refl
 isr_by chip winner false false e = refl
 

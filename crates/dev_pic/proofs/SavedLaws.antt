@@ -16,21 +16,19 @@ use Rattle.dev_pic.proofs.RestoredLaws.{sound, made_of, number-ok}
 -- ---- the parts of a list that joins two
 
 pub first_part : (count : ℕ) (first second : List ℤ) → length first ≡ count → take count (first ++ second) ≡ first
-first_part count first second is =
-    ap (λ n. take n (first ++ second)) (sym is) ∙ take-append_seam first second
+first_part count first second is = rw (← is) (take-append_seam first second)
 
 pub second_part : (count : ℕ) (first second : List ℤ) → length first ≡ count → drop count (first ++ second) ≡ second
-second_part count first second is =
-    ap (λ n. drop n (first ++ second)) (sym is) ∙ drop-append_seam first second
+second_part count first second is = rw (← is) (drop-append_seam first second)
 
 -- If a list joins two chips' cells, its parts are chips' cells.
 pub master_cells : (master slave both : List ℤ) → both ≡ master ++ slave → IsChipCells master → IsChipCells (take cell_count both)
 master_cells master slave both joined cells =
-    subst (λ (all : List ℤ). IsChipCells (take cell_count all)) (sym joined) (subst IsChipCells (sym (first_part cell_count master slave cells.count)) cells)
+    rw joined (subst IsChipCells (sym (first_part cell_count master slave cells.count)) cells)
 
 pub slave_cells : (master slave both : List ℤ) → both ≡ master ++ slave → IsChipCells master → IsChipCells slave → IsChipCells (drop cell_count both)
 slave_cells master slave both joined first cells =
-    subst (λ (all : List ℤ). IsChipCells (drop cell_count all)) (sym joined) (subst IsChipCells (sym (second_part cell_count master slave first.count)) cells)
+    rw joined (subst IsChipCells (sym (second_part cell_count master slave first.count)) cells)
 
 -- ---- saved and restored
 
@@ -140,7 +138,7 @@ carried-saved level set role chip le s =
 
 -- The level mode's cell if the subsection isn't needed.
 off : (ltim : Bool) → (flag_number ltim == 1) ≡ false → pos (flag_number ltim) ≡ pos 0
-off true e = absurd (false≢true (sym e))
+off true e = cc
 off false e = refl
 
 unneeded : (set : ℕ) (chip : Chip) → LTIM_SINCE ≤ set → flag_in (saved_cells set chip) (codes "ltim") ≡ false
@@ -149,8 +147,8 @@ unfolding saved_cells
 unneeded set chip h = by_tests (nat_le ELCR_SINCE set) (nat_le LTIM_SINCE set) (grind (arith, nat_tests)) (grind (arith, nat_tests)) where
   by_tests : (a b : Bool) → a ≡ true → b ≡ true → flag_in (by_sets a b chip) (codes "ltim") ≡ false → cell_in (by_sets a b chip) (codes "ltim") ≡ pos 0
   by_tests true true p q e = off chip.ltim e
-  by_tests true false p q e = absurd (false≢true q)
-  by_tests false b p q e = absurd (false≢true p)
+  by_tests true false p q e = cc
+  by_tests false b p q e = cc
 
 master-part : (set : ℕ) (pair : PicPair) → take (length (kinds set)) (pair_cells set pair) ≡ saved_cells set pair.master
 master-part set pair =

@@ -30,7 +30,7 @@ unfolding ended_lowest
 ended_lowest-keeps None chip = same chip
 ended_lowest-keeps (Some w) chip = record { irr = refl; lines = refl; elcr = refl; ltim = refl }
 
-commanded-keeps : (command : Ocw2) (chip : Chip) → Keeps chip (commanded command chip)
+pub commanded-keeps : (command : Ocw2) (chip : Chip) → Keeps chip (commanded command chip)
 unfolding commanded
 commanded-keeps NonSpecificEoi chip = ended-keeps (highest_served chip) chip
 commanded-keeps RotateOnNonSpecificEoi chip = ended_lowest-keeps (highest_served chip) chip
@@ -217,18 +217,7 @@ module _ (level : ℕ) (role : Role) (chip : Chip) (h : HasRegisters level role 
   unfolding cascaded
   cascaded-registers =
       let k = taken-registers level role chip h 2 (omega arith) in
-      record {
-        irr = k.irr;
-        isr = k.isr;
-        imr = k.imr;
-        lines = without_input-lt _ 2 k.lines;
-        lowest = k.lowest;
-        base = k.base;
-        vectors = k.vectors;
-        elcr = k.elcr;
-        levels = k.levels;
-        mode = k.mode;
-      }
+      let lines = without_input-lt _ 2 k.lines in search
 
   agreed : (irr lines levels : ℕ) → bit_and irr levels ≡ bit_and lines levels → requests_hold irr lines levels ≡ true
   unfolding requests_hold

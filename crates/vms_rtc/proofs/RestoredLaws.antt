@@ -1,9 +1,9 @@
 -- A restored chip is sound.
 use Rattle.vms_rtc.proofs.Facade.{ℕ, ◌+◌, ◌<◌, List, [], drop, ℤ, subst, arith, ◌≡◌, ◌≤◌, ◌==◌, ◌&&◌, ◌||◌, not, nat_le, Bool, true, false, Ok, refl, sym, ap}
-use Rattle.vms_rtc.proofs.Facade.{◌∙◌, false≢true, and_parts, nat_tests, get_or-map-range_with_len, length-map-range_with_len, CMOS, InRange, Kind, U8}
-use Rattle.vms_rtc.proofs.Facade.{bytes_within, cell_at, AreOf, nat_of, kinds, NEWEST_CLOCK, REGISTERS, NMI_SINCE, REGISTER_A, REGISTER_C, REGISTER_D, Numbers}
-use Rattle.vms_rtc.proofs.Facade.{number-lt, AllTrue, judged-ok, hook-ok, IsUpTo, register, RestoredIsSound, CanRestore, index_in, register_in, nmi_mask_in}
-use Rattle.vms_rtc.proofs.Facade.{index_holds, registers_hold, rules, chip_of, restored, hook_restored, IsSound, Rtc}
+use Rattle.vms_rtc.proofs.Facade.{◌∙◌, and_parts, nat_tests, get_or-map-range_with_len, length-map-range_with_len, CMOS, InRange, Kind, U8, bytes_within}
+use Rattle.vms_rtc.proofs.Facade.{cell_at, AreOf, nat_of, kinds, NEWEST_CLOCK, REGISTERS, NMI_SINCE, REGISTER_A, REGISTER_C, REGISTER_D, Numbers, number-lt}
+use Rattle.vms_rtc.proofs.Facade.{AllTrue, judged-ok, hook-ok, IsUpTo, register, RestoredIsSound, CanRestore, index_in, register_in, nmi_mask_in, index_holds}
+use Rattle.vms_rtc.proofs.Facade.{registers_hold, rules, chip_of, restored, hook_restored, IsSound, Rtc}
 
 -- ---- the kinds of the cells of the newest clock set
 
@@ -36,7 +36,7 @@ registers cells h =
     record { a = grind (arith, nat_tests, first.0); c = grind (arith, nat_tests, second.0); d = grind (arith, nat_tests, second.1) }
 
 clear : (b flag : Bool) → (b || not flag) ≡ true → b ≡ false → flag ≡ false
-clear true flag h e = absurd (false≢true (sym e))
+clear true flag h e = cc
 clear false true h e = sym h
 clear false false h e = refl
 

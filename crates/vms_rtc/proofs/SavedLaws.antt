@@ -1,10 +1,10 @@
 -- A saved chip is restored as it was.
 use Rattle.vms_rtc.proofs.Facade.{◌≡◌, ℕ, zero, suc, ◌+◌, ◌<◌, ◌≤◌, ◌==◌, ◌||◌, not, nat_le, Bool, true, false, List, [], ◌∷◌, length, map, replicate, get_or}
-use Rattle.vms_rtc.proofs.Facade.{ℤ, pos, codes, Ok, refl, sym, ap, subst, ◌∙◌, arith, false≢true, nat_tests, get_or-map, mc146818_rows, place_of_clock}
-use Rattle.vms_rtc.proofs.Facade.{numbers_of, Numbers, U8, of_none, of_more, byte, flag, flag-back, AllHold, size_at, whole, of_rows, carried_rows, stands}
-use Rattle.vms_rtc.proofs.Facade.{all_set, AllTrue, judged-all, ok-hook, cell_at, nat_of, flag_number, firsts, AreOf, named, kinds, saved_cells, carried}
-use Rattle.vms_rtc.proofs.Facade.{register, SavedAreCells, SavedIsRestored, CanSave, CanRestore, MayRestore, register_in, nmi_mask_in, pf_in, rules, chip_of}
-use Rattle.vms_rtc.proofs.Facade.{restored, hook_restored, IsSound, NEWEST_CLOCK, NMI_SINCE, REGISTER_A, REGISTER_C, REGISTER_D, REGISTERS, Rtc}
+use Rattle.vms_rtc.proofs.Facade.{ℤ, pos, codes, Ok, refl, sym, ap, subst, ◌∙◌, arith, nat_tests, get_or-map, mc146818_rows, place_of_clock, numbers_of}
+use Rattle.vms_rtc.proofs.Facade.{Numbers, U8, of_none, of_more, byte, flag, flag-back, AllHold, size_at, whole, of_rows, carried_rows, stands, all_set}
+use Rattle.vms_rtc.proofs.Facade.{AllTrue, judged-all, ok-hook, cell_at, nat_of, flag_number, firsts, AreOf, named, kinds, saved_cells, carried, register}
+use Rattle.vms_rtc.proofs.Facade.{SavedAreCells, SavedIsRestored, CanSave, CanRestore, MayRestore, register_in, nmi_mask_in, pf_in, rules, chip_of, restored}
+use Rattle.vms_rtc.proofs.Facade.{hook_restored, IsSound, NEWEST_CLOCK, NMI_SINCE, REGISTER_A, REGISTER_C, REGISTER_D, REGISTERS, Rtc}
 
 -- ---- the kinds of what is saved
 
@@ -23,7 +23,7 @@ pub record IsWide (chip : Rtc) : Type 0 where
   pub bytes : (k : ℕ) → k < REGISTERS → register k chip < 256
 
 wide : (chip : Rtc) → IsSound chip → IsWide chip
-wide chip s = record { index = let index = s.index in omega (arith, index); count = s.count; bytes = s.bytes }
+wide chip s = record { index = omega (arith, s.index); count = s.count; bytes = s.bytes }
 
 -- the numbers of each field
 holds : (chip : Rtc) → IsWide chip → AllHold (named chip) mc146818_rows
@@ -71,11 +71,8 @@ own-back chip s =
 -- ---- the rules
 
 unmasked : (version : ℕ) (flag : Bool) → (nat_le NMI_SINCE version ≡ false → flag ≡ false) → (nat_le NMI_SINCE version || not flag) ≡ true
-unmasked version flag h = by (nat_le NMI_SINCE version) h
-  where
-    by : (b : Bool) → (b ≡ false → flag ≡ false) → (b || not flag) ≡ true
-    by true h = refl
-    by false h = rw (h refl) refl
+unmasked version flag =
+    elim (nat_le NMI_SINCE version) as (λ b. (b ≡ false → flag ≡ false) → (b || not flag) ≡ true) [ true ↦ λ h. refl | false ↦ λ h. rw (h refl) refl ]
 
 pub met : (chip : Rtc) → IsSound chip → AllTrue (rules chip.version (newest chip))
 met chip s =
@@ -94,11 +91,9 @@ carried-newest : (set : ℕ) (chip : Rtc) → IsSound chip → chip.version ≤ 
 unfolding saved_cells
 carried-newest set chip s le =
     let lacks : nat_le NMI_SINCE set ≡ false → chip.nmi_mask ≡ false =
-    λ e. let none : nat_le NMI_SINCE chip.version ≡ false = grind (arith, nat_tests, le, e) in s.mask none in
-    carried_rows (named chip) set mc146818_rows (holds chip (wide chip s)) (
-      λ e. absurd (false≢true (sym e)),
-      (λ e. absurd (false≢true (sym e)), (λ e. ap (λ (m : Bool). pos (flag_number m) ∷ []) (lacks e), (λ e. absurd (false≢true (sym e)), tt))),
-    ) [] 0 refl
+    λ e. s.mask (grind (arith, nat_tests)) in
+    carried_rows (named chip) set mc146818_rows (holds chip (wide chip s))
+    (λ e. cc, (λ e. cc, (λ e. ap (λ m. pos (flag_number m) ∷ []) (lacks e), (λ e. cc, tt)))) [] 0 refl
 
 pub saved-newest : (chip : Rtc) → saved_cells NEWEST_CLOCK chip ≡ newest chip
 unfolding saved_cells
