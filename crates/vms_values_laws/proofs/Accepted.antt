@@ -7,8 +7,7 @@ use Rattle.vms_values_laws.proofs.Facade.{device_entries, entries, part_reason, 
 use Rattle.vms_values_laws.proofs.Facade.{AreAtVersions, IsMachineOf, AreFine, Says, Demand, ForSection, ForNumber, demand_of, Taken, lines_of, Follows, Along}
 use Rattle.vms_values_laws.proofs.Facade.{either_of, ValuesReason, first_line, IsReady, AreReady, BadLine, ReadDevice, ValuesRead, Values, Bad, machine_named}
 use Rattle.vms_values_laws.proofs.Facade.{answer_of, or_bad, WellFormed, IsGood, device_parts, sub_clean}
-use Rattle.vms_values_laws.proofs.Numbers.{AreShort, of_numbers, number_same}
-use Rattle.vms_values_laws.proofs.SecondPass.{as_bad, parts_from}
+use Rattle.vms_values_laws.proofs.SecondPass.{AreShort, of_numbers, number_same, as_bad, parts_from}
 use Rattle.vms_values_laws.proofs.AllCome.{images_of, short_are}
 use Rattle.vms_values_laws.proofs.BadLines.{fine_text, NoneBad}
 use Rattle.vms_values_laws.proofs.Meeting.{named_is}

@@ -6,8 +6,7 @@ use Rattle.vms_values_laws.proofs.Facade.{answer_of, ValuesRead, Bad, values_rea
 use Rattle.vms_values_laws.proofs.Facade.{AreShaped, AllUnsaid, AreFine, IsBadLine, Demand, ForMachine, reason_for, Taken, lines_of, AreFineTaken, Follows}
 use Rattle.vms_values_laws.proofs.Facade.{Along, Begins, Moved, is_one_of, AreSound, begun}
 use Rattle.vms_values_laws.proofs.SaidLaws.{some_if}
-use Rattle.vms_values_laws.proofs.Numbers.{follows_then, along_then, reason_same, moved_then, moved_none, moved_one}
-use Rattle.vms_values_laws.proofs.SecondPass.{parts_from, devices_judged}
+use Rattle.vms_values_laws.proofs.SecondPass.{follows_then, along_then, reason_same, moved_then, moved_none, moved_one, parts_from, devices_judged}
 use Rattle.vms_values_laws.proofs.AllCome.{images_of, AllRead, AllStop, AreGoodDevices, AllCome, devices_come, AllWent}
 use Rattle.vms_values_laws.proofs.SubsCome.{line_taken}
 use Rattle.vms_values_laws.proofs.Meeting.{Ends}

@@ -8,7 +8,7 @@ use Rattle.vms_values_laws.proofs.Facade.{within_all, not_exceeds, IsShort, numb
 use Rattle.vms_values_laws.proofs.Facade.{number_reason, element_reason, line_reason, have_defaults, DefaultsFit, names_append, cells_of, slots_of, numbers_in}
 use Rattle.vms_values_laws.proofs.Facade.{CountsUp, AreFine, has_line}
 use Rattle.vms_values_laws.proofs.SaidLaws.{if_none, if_holds}
-use Rattle.vms_values_laws.proofs.Numbers.{AreShort, of_numbers}
+use Rattle.vms_values_laws.proofs.SecondPass.{AreShort, of_numbers}
 use Rattle.vms_spec.specs.declared.ValuesReason.TheVariants as reasons
 use Rattle.vms_spec.specs.Layout as slots
 

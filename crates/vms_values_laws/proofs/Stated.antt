@@ -7,7 +7,7 @@ use Rattle.vms_values_laws.proofs.Facade.{Refused, Reads, Taken, Follows, Image,
 use Rattle.vms_values_laws.proofs.Facade.{configuration, trailer, written, AreReady, WellFormed, text_of, section_line, printed, values_text, IsFit, well_good}
 use Rattle.vms_values_laws.proofs.Facade.{entry_law, text_is, ReadLaw, OnlyLaw, AcceptedLaw, PrintedLaw, device_lines, most_lines, LineLaw, machine_short}
 use Rattle.vms_values_laws.proofs.Facade.{few_devices, Takes, one_stream_holds, written_holds, FitsText, WrittenLaw, PackedLaw, ShownLaw, desc_cells}
-use Rattle.vms_values_laws.proofs.Facade.{struct_cells, Element, cells_of, elements_in, walks}
+use Rattle.vms_values_laws.proofs.Facade.{struct_cells, Element, cells_of, elements_in, walks, AreShaped, AreFine}
 use Rattle.vms_values_laws.proofs.SaidLaws.{if_holds}
 use Rattle.vms_values_laws.proofs.BadLines.{FirstPass, NoneBad, first_pass, TakenOf, taken_all}
 use Rattle.vms_values_laws.proofs.Meeting.{AreClean, Ends, Same, meet, NoFeed, line_first, section_feed, AreCleanDevices, clean_entries, clean_structs}
@@ -15,24 +15,29 @@ use Rattle.vms_values_laws.proofs.Meeting.{clean_devices, clean_named, clean_mac
 use Rattle.vms_values_laws.proofs.SecondPass.{parts_from}
 use Rattle.vms_values_laws.proofs.AllCome.{images_of, good_devices}
 use Rattle.vms_values_laws.proofs.Accepted.{Match, inside_of, matched, devices_same, answer_by, none_answers, none_says, none_good, says_ready}
-use Rattle.vms_values_laws.proofs.ReadyParts.{AreGood, sub_cells, FirstPart, first_part, bad_part_found, good_none}
-use Rattle.vms_values_laws.proofs.ReadyBack.{text_says}
+use Rattle.vms_values_laws.proofs.ReadyParts.{AreGood, sub_cells, FirstPart, first_part, bad_part_found, good_none, text_says}
 use Rattle.vms_values_laws.proofs.Rights.{IsNumberOf, IsNoNumber, view}
 
 -- ---- A bad line by the relation is the one that is found.
 
+-- what was taken, beside a state that has these lines and then ends like this
+beside : {set : Set} {text : List ℕ} {machine' : Option (List ℕ)} {taken : List Taken} {at : ℕ} {rest : List ℕ} {o : Option ValuesReason}
+    → TakenOf set text machine' taken at rest o → (machine : Option (List ℕ)) (images : List Image) (before after : List Entry) (rest' : List ℕ)
+    → (o' : Option ValuesReason) → machine ≡ machine_named set.machines (first_line text) → AreShaped set set.devices images
+    → entries set machine images ≡ before ++ after → AreClean (before ++ after) → AreFine before → text ≡ text_of (map entry_line before) ++ rest'
+    → Ends o' rest' after → Same taken before o o'
+beside {taken = taken} {rest = rest} {o = o} t machine images before after rest' o' named shaped state clean fine begins ends =
+    let f : Follows taken (λ es. Ends o rest es) (before ++ after) = rw (← state, named, ← t.named) (t.follows images shaped) in
+    meet taken before after rest rest' o o' f clean t.moved.fine fine (sym t.moved.texts ∙ begins) ends
+
 module _ (set : Set) (text : List ℕ) (line : ℕ) (reason : ValuesReason) (x : IsBadLine set text line reason)
     (clean : AreClean (entries set x.machine x.images)) where
-  -- what was taken, beside the state that the relation has
   against : {machine : Option (List ℕ)} {taken : List Taken} {at : ℕ} {rest : List ℕ} {o : Option ValuesReason} → TakenOf set text machine taken at rest o
       → Same taken x.before o (Some reason)
-  against {machine = machine} {taken = taken} {rest = rest} {o = o} t =
-      let f : Follows taken (λ es. Ends o rest es) (x.before ++ x.after) =
-      subst (λ (es : List Entry). Follows taken (λ es. Ends o rest es) es) x.state
-      (subst (λ (m : Option (List ℕ)). Follows taken (λ es. Ends o rest es) (entries set m x.images)) (t.named ∙ sym x.named) (t.follows x.images x.shaped)) in
-      meet taken x.before x.after rest x.rest o (Some reason) f (rw (x.state) at clean) t.moved.fine x.fine (sym t.moved.texts ∙ x.begins) x.bad
+  against t =
+      beside t x.machine x.images x.before x.after x.rest (Some reason) x.named x.shaped x.state (rw (x.state) at clean) x.fine x.begins x.bad
 
-  pub bad_back : (v : ValuesRead) → FirstPass set text v → v ≡ Bad line reason
+  bad_back : (v : ValuesRead) → FirstPass set text v → v ≡ Bad line reason
   bad_back v (inl b) =
       let f = b.first in
       let same = against f.took in
@@ -82,15 +87,12 @@ module _ (set : Set) (well : WellFormed set) (text : List ℕ) (machine : Option
   its_machine = named_by set well text machine images says.named says.printed
 
   -- what was taken are the lines of the state
-  beside : {machine' : Option (List ℕ)} {taken : List Taken} {at : ℕ} {rest : List ℕ} {o : Option ValuesReason} → TakenOf set text machine' taken at rest o
+  its_lines : {machine' : Option (List ℕ)} {taken : List Taken} {at : ℕ} {rest : List ℕ} {o : Option ValuesReason} → TakenOf set text machine' taken at rest o
       → Same taken (entries set machine images) o None
-  beside {taken = taken} {rest = rest} {o = o} t =
+  its_lines t =
       let es = entries set machine images in
-      let whole : es ≡ es ++ [] = sym (append-nil es) in
-      let f : Follows taken (λ es. Ends o rest es) es =
-      subst (λ (m : Option (List ℕ)). Follows taken (λ es. Ends o rest es) (entries set m images)) (t.named ∙ its_machine) (t.follows images says.shaped) in
-      meet taken es [] rest [] o None (rw (whole) at f) (subst (λ (l : List Entry). AreClean l) whole (clean_says set well machine images says.named))
-      t.moved.fine says.fine (sym t.moved.texts ∙ says.printed ∙ sym (append-nil (text_of (map entry_line es)))) (refl, refl)
+      let clean : AreClean (es ++ []) = subst AreClean (sym (append-nil es)) (clean_says set well machine images says.named) in
+      beside t machine images es [] [] None (sym its_machine) says.shaped (sym (append-nil es)) clean says.fine (says.printed ∙ sym (append-nil _)) (refl, refl)
 
   same_devices : (machine : Option (List ℕ)) (i j : List Image) → Match (entries set machine i) (entries set machine j)
       → Match (devices_entries set set.devices i) (devices_entries set set.devices j)
@@ -107,11 +109,11 @@ module _ (set : Set) (well : WellFormed set) (text : List ℕ) (machine : Option
         let read = images_of n.all.devices in
         let m : Match (entries set n.machine read) (entries set n.machine images) =
         matched f.taken (entries set n.machine read) (entries set n.machine images) (f.follows read f.shaped) f.along (f.follows images says.shaped)
-        ((beside (taken_all set text v n)).lines ∙ ap (λ (m : Option (List ℕ)). map entry_line (entries set m images)) (sym same_machine)) in
+        ((its_lines (taken_all set text v n)).lines ∙ ap (λ (m : Option (List ℕ)). map entry_line (entries set m images)) (sym same_machine)) in
         devices_same set set.devices read images f.shaped says.shaped f.unsaid says.unsaid (same_devices n.machine read images m)
 
   pub says_answers : (v : ValuesRead) → FirstPass set text v → v ≡ answer_by machine images (parts_from set 1 (entries set machine images))
-  says_answers v (inl b) = let e = (beside b.first.took).reason in cc
+  says_answers v (inl b) = let e = (its_lines b.first.took).reason in cc
   says_answers v (inr n) = none_answers set text v n ∙ rw (same_machine v n, same_images v n) refl
 
 -- ---- The laws of reading, as they are stated.
