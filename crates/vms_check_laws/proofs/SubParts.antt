@@ -1,33 +1,38 @@
 -- The subsections of a device: by name, the part that each has of a list, and the cells that are in the bytes. Each cell of a device
 -- after its own fields is one of a subsection.
 use Rattle.vms_check_laws.proofs.Facade.{◌≡◌, ◌⊎◌, inl, inr, ℕ, zero, suc, ◌+◌, ◌<◌, ◌≤◌, Bool, true, false, ◌||◌, List, ◌∷◌, ◌++◌, length, get_or, Option}
-use Rattle.vms_check_laws.proofs.Facade.{Some, None, ℤ, refl, sym, ◌∙◌, arith, flat_map, slice_get, length-append, if◌then◌else◌, bytes_eq, bytes_eq-Decides}
-use Rattle.vms_check_laws.proofs.Facade.{cases_lt, [], slice_get-get_or, Sub, Device, Set, Cell, desc_cells, device_cells, struct_cells, has_cell, own_cells}
-use Rattle.vms_check_laws.proofs.Facade.{came_slots, sub_slots, sub_place, find_sub, names_append, sub_size, places_apart, IsCellOf}
+use Rattle.vms_check_laws.proofs.Facade.{Some, None, ℤ, refl, sym, ◌∙◌, arith, flat_map, slice_get, length-append, bytes_eq, bytes_eq-Decides, cases_lt, []}
+use Rattle.vms_check_laws.proofs.Facade.{slice_get-get_or, Sub, Device, Set, Cell, desc_cells, device_cells, struct_cells, has_cell, own_cells, came_slots}
+use Rattle.vms_check_laws.proofs.Facade.{sub_slots, sub_place, find_sub, names_append, sub_size, places_apart, IsCellOf}
 use Rattle.vms_check_laws.proofs.PairLists.{IsBehind, at_left, at_right, before_or_behind, behind_at}
+use Rattle.vms_check_laws.proofs.Segments.{RestAt, at_first, one_on, from_zero}
 
 -- ---- what has a name, and where it is
 
-pub record Found (subs : List Sub) (name : List ℕ) (l : ℕ) : Type 0 where
+pub record Found (subs : List Sub) (name : List ℕ) : Type 0 where
+  pub number : ℕ
   pub sub : Sub
-  pub there : slice_get subs l ≡ Some sub
+  pub found : find_sub 0 subs name ≡ Some number
+  pub there : slice_get subs number ≡ Some sub
   pub name_is : sub.desc.name ≡ name
 
-found_from : (k : ℕ) (subs : List Sub) (name : List ℕ) (r : ℕ) → find_sub k subs name ≡ Some r → (j : ℕ) × (r ≡ k + j) × Found subs name j
-found_from k [] name r h = absurd (cc)
-found_from k (s ∷ subs) name r h =
-    let choice : (c : Bool) → bytes_eq s.desc.name name ≡ c → (if c then Some k else find_sub (suc k) subs name) ≡ Some r → (j : ℕ) × (r ≡ k + j) × Found
-    (s ∷ subs) name j = elim [
-      | true ↦ λ e g. let same : k ≡ r = cc in (0, omega arith, record { sub = s; there = refl; name_is = (bytes_eq-Decides s.desc.name name).0 e })
-      | false ↦ λ e g. let f = found_from (suc k) subs name r g in (suc f.0, omega arith, record { sub = f.2.sub; there = f.2.there; name_is = f.2.name_is })
-    ] in
-    choice (bytes_eq s.desc.name name) refl h
+found_from : (all : List Sub) (name : List ℕ) (k r : ℕ) (subs : List Sub) → RestAt all k subs → find_sub k subs name ≡ Some r
+    → (s : Sub) × (slice_get all r ≡ Some s) × (s.desc.name ≡ name)
+found_from all name k r [] at h = absurd (cc)
+found_from all name k r (s ∷ subs) at h = elim (if_is (λ o. o) (bytes_eq s.desc.name name) (Some k) (find_sub (suc k) subs name) h) [
+  | inl now ↦
+      let same : k ≡ r = cc (now.1) in
+      (s, rw same at (at_first (slice_get all) k at), (bytes_eq-Decides s.desc.name name).0 now.0)
+  | inr later ↦ found_from all name (suc k) r subs (one_on (slice_get all) k at) later.1
+]
 
-pub found : (subs : List Sub) (name : List ℕ) (l : ℕ) → find_sub 0 subs name ≡ Some l → Found subs name l
-found subs name l h =
-    let f = found_from 0 subs name l h in
-    let same : f.0 ≡ l = omega arith in
-    rw (← same) f.2
+pub look_up : (subs : List Sub) (name : List ℕ) → (find_sub 0 subs name ≡ None) ⊎ Found subs name
+look_up subs name = by (find_sub 0 subs name) refl where
+  by : (r : Option ℕ) → find_sub 0 subs name ≡ r → (find_sub 0 subs name ≡ None) ⊎ Found subs name
+  by None h = inl h
+  by (Some r) h =
+      let f = found_from subs name 0 r subs (from_zero (slice_get subs)) h in
+      inr (record { number = r; sub = f.0; found = h; there = f.1; name_is = f.2 })
 
 -- ---- lists that have one part for each subsection
 
