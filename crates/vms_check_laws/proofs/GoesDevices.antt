@@ -251,22 +251,22 @@ is_some_of (Some j) k = elim (cases_eq j k) [ inl e ↦ inl (rw e) | inr ne ↦ 
 
 search_in : (ps : List (Option ℕ)) (k : ℕ) → ((c : ℕ) × (slice_get ps c ≡ Some (Some k))) ⊎ ((c : ℕ) → slice_get ps c ≡ Some (Some k) → ⊥)
 search_in [] k = inr (λ c e. cc)
-search_in (o ∷ ps) k = go (is_some_of o k) (search_in ps k) where
+search_in (o ∷ ps) k = elim (is_some_of o k) [
+  | inl h ↦ inl (0, rw h)
+  | inr h ↦ elim (search_in ps k) [ inl r ↦ inl (suc r.0, r.1) | inr r ↦ inr (none h r) ]
+] where
   none : (o ≡ Some k → ⊥) → ((c : ℕ) → slice_get ps c ≡ Some (Some k) → ⊥) → (c : ℕ) → slice_get (o ∷ ps) c ≡ Some (Some k) → ⊥
   none a b zero e = a cc
   none a b (suc c) e = b c e
-
-  go : ((o ≡ Some k) ⊎ (o ≡ Some k → ⊥)) → (((c : ℕ) × (slice_get ps c ≡ Some (Some k))) ⊎ ((c : ℕ) → slice_get ps c ≡ Some (Some k) → ⊥))
-      → ((c : ℕ) × (slice_get (o ∷ ps) c ≡ Some (Some k))) ⊎ ((c : ℕ) → slice_get (o ∷ ps) c ≡ Some (Some k) → ⊥)
-  go (inl h) r = inl (0, rw h)
-  go (inr h) (inl r) = inl (suc r.0, r.1)
-  go (inr h) (inr r) = inr (none h r)
 
 module _ (old new : Set) (good_old : WellFormed old) (good_new : WellFormed new) (i : ℕ) (d e : Device) (there : slice_get old.devices i ≡ Some d)
     (image : Image) where
   one_carried : (a b : List ℤ) → IsCarried old new d e image a → IsCarried old new d e image b → a ≡ b
   one_carried a b p q =
-      ext_get_or (pos 0) a b (omega arith) (λ k lt. each k (omega arith) (search_in _ k))
+      ext_get_or (pos 0) a b (omega arith) (λ k lt. elim (search_in (device_partners old new d e) k) [
+        | inl h ↦ by_has k h.0 (omega arith) h.1 _ refl
+        | inr h ↦ none_has k (omega arith) (λ c g. absurd (h c g))
+      ])
     where
       none_has : (k : ℕ) → k < length (device_cells new e)
           → ((c : ℕ) → slice_get (device_partners old new d e) c ≡ Some (Some k) → has_cell (image_slots old d image) c ≡ false)
@@ -277,12 +277,6 @@ module _ (old new : Set) (good_old : WellFormed old) (good_new : WellFormed new)
           → has_cell (image_slots old d image) c ≡ h → get_or a k (pos 0) ≡ get_or b k (pos 0)
       by_has k c lt f true h = p.taken c k f h ∙ sym (q.taken c k f h)
       by_has k c lt f false h = none_has k lt (λ c' g. rw ((device_paired old new good_old good_new i d e there).once c' c k g f) h)
-
-      each : (k : ℕ) → k < length (device_cells new e) → (((c : ℕ) × (slice_get (device_partners old new d e) c ≡ Some (Some k)))
-          ⊎ ((c : ℕ) → slice_get (device_partners old new d e) c ≡ Some (Some k) → ⊥))
-          → get_or a k (pos 0) ≡ get_or b k (pos 0)
-      each k lt (inl h) = by_has k h.0 lt h.1 _ refl
-      each k lt (inr h) = none_has k lt (λ c g. absurd (h c g))
 
 pub carried_stands : CarriedLaw
 carried_stands old new good_old good_new i k d e at_i at_k image versions numbers carried =

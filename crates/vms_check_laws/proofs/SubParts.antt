@@ -125,14 +125,9 @@ has_part set d numbers from (s ∷ subs) (Some v ∷ came) c e =
     elim (or_split (has_cell (sub_slots set s v numbers from) c) _
     (sym (names_append (sub_slots set s v numbers from) (came_slots set d numbers next subs came) c) ∙ e)) [
       | inl f ↦ record { j = 0; sub = s; version = v; there = refl; is_come = refl; has = f }
-      | inr f ↦ let h = has_part set d numbers next subs came c f.1 in record {
-        j = suc h.j;
-        sub = h.sub;
-        version = h.version;
-        there = h.there;
-        is_come = h.is_come;
-        has = h.has;
-      }
+      | inr f ↦
+          let h = has_part set d numbers next subs came c f.1 in
+          record { j = suc h.j; sub = h.sub; version = h.version; there = h.there; is_come = h.is_come; has = h.has }
     ]
 
 -- two numbers of which neither is below the other are one
@@ -149,24 +144,17 @@ one_part set from subs i j c s t e f low high low' high' =
 -- ---- each cell
 
 module _ (set : Set) where
-  -- cell c is one of subsection j of these, the first of which begins at a place
-  pub record IsIn (from : ℕ) (subs : List Sub) (c : ℕ) : Type 0 where
-    pub j : ℕ
-    pub sub : Sub
-    pub is : slice_get subs j ≡ Some sub
-    pub low : sub_place set from subs j ≤ c
-    pub high : c < sub_place set from subs j + sub_size set sub
-
   abbrev cells_of : Sub → List Cell
   cells_of s = desc_cells (struct_cells set) s.desc
 
-  in_one : (from : ℕ) (subs : List Sub) (c : ℕ) → from ≤ c → c < from + length (flat_map cells_of subs) → IsIn from subs c
+  in_one : (from : ℕ) (subs : List Sub) (c : ℕ) → from ≤ c → c < from + length (flat_map cells_of subs)
+      → (j : ℕ) × (s : Sub) × (slice_get subs j ≡ Some s) × (sub_place set from subs j ≤ c) × (c < sub_place set from subs j + sub_size set s)
   in_one from [] c low high = absurd (omega arith)
   in_one from (s ∷ subs) c low high = elim (cases_lt c (from + sub_size set s)) [
-    | inl lt ↦ record { j = 0; sub = s; is = refl; low = low; high = lt }
+    | inl lt ↦ (0, s, refl, low, lt)
     | inr le ↦
         let rest = in_one (from + sub_size set s) subs c le (omega (arith, length-append (cells_of s) (flat_map cells_of subs))) in
-        record { j = suc rest.j; sub = rest.sub; is = rest.is; low = rest.low; high = rest.high }
+        (suc rest.0, rest.1, rest.2, rest.3, rest.4)
   ]
 
   -- a cell of the device is its own, or one of a subsection
@@ -175,5 +163,5 @@ module _ (set : Set) where
     | inl own ↦ inl own
     | inr le ↦
         let i = in_one _ d.subs c le (omega (arith, length-append (desc_cells (struct_cells set) d.desc) (flat_map cells_of d.subs))) in
-        inr (i.j, i.sub, record { is = i.is; low = i.low; high = i.high })
+        inr (i.0, i.1, record { is = i.2; low = i.3; high = i.4 })
   ]

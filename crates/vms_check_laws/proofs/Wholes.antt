@@ -20,13 +20,6 @@ abbrev pub Among : ℕ → List ℕ → Type 0
 Among a [] = ⊥
 Among a (b ∷ rest) = (a ≡ b) ⊎ Among a rest
 
--- two that are found back are one where their numbers are
-pub found_same : {A : Type 0} (xs : List A) (back : A → Option ℕ) (n n' i i' : ℕ) (x x' : A) → n ≡ n' → slice_get xs n ≡ Some x → slice_get xs n' ≡ Some x'
-    → back x ≡ Some i → back x' ≡ Some i' → i ≡ i'
-found_same xs back n n' i i' x x' same e e' b b' =
-    let one : x ≡ x' = cc in
-    cc
-
 -- Places of a list, open all of them, where `back` gives places of another list that rise.
 module _ {A : Type 0} (Open : A → Type 0) (done : A) (back : ℕ → Option ℕ) where
   abbrev pub Rises : List A → ℕ → List ℕ → Type 0
