@@ -131,7 +131,7 @@ pub record DescGood (k : ℕ) (d : Desc) : Type 0 where
 abbrev pub StructsGood : List Desc → Type 0
 StructsGood ds = (j : ℕ) → j < length ds → DescGood j (get_or ds j no_desc)
 
-item_further : (j k : ℕ) (i : Item) → j ≤ k → ItemBelow j i → ItemBelow k i
+pub item_further : (j k : ℕ) (i : Item) → j ≤ k → ItemBelow j i → ItemBelow k i
 item_further j k (Struct i) le h = omega arith
 item_further j k _ le h = tt
 

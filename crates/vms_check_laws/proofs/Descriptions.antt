@@ -128,7 +128,8 @@ module _ {ks : List Comparer} {cs : List Carrier} {ms ns : List Meaning} {number
           let agree : Agree o n ok own (own' at') = λ i j named h. agree_from s i j 0 es fs link named h in
           let z : at' + 0 ≡ at' = omega arith in
           record {
-            carries = carries_append (rw (old_same, new_same at') (fields_carry s ok old good.new fits agree es fs link)) (rule_carries s ok (or_else_none _ _ none).1 good.rules agree);
+            carries = carries_append (rw (old_same, new_same at') (fields_carry s ok old good.new fits agree es fs link))
+                (rule_carries s ok (or_else_none _ _ none).1 good.rules agree);
             settled = settled_more _ _ at' _ _ (rw z at (fields_settle s ok old good.new fits agree 0 0 b.fields es below link));
           }
 

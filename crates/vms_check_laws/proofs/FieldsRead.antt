@@ -325,7 +325,8 @@ module _ (sides : Sides) where
           (cells : List Cell)
           → ItemBelow below' g.item → Linked es (entry_of i p g pr ++ after)
           → ((es' : List Entry) → Linked es' after → Settled slots (at' + (p + length (cells_at i g))) cells (rest es'))
-          → Settled (slots_at ns b.fields w own' numbers' at' i p g ++ slots) (at' + p) (cells_at i g ++ cells) (next_field i g pr es ++ rest (left_of_old pr es))
+          → Settled (slots_at ns b.fields w own' numbers' at' i p g ++ slots) (at' + p) (cells_at i g ++ cells)
+          (next_field i g pr es ++ rest (left_of_old pr es))
       settle_next i p g None es after slots rest cells lt all go =
           settled_append (defaults_size (cells_at i g)) (settled_defaults (slots_at ns b.fields w own' numbers' at' i p g) (at' + p) (cells_at i g))
           (omega (arith, defaults_size (cells_at i g))) (go es all)

@@ -102,7 +102,8 @@ module _ (structs : List Pairer) (cs : List Carrier) (ms : List Meaning) (y : Li
     array_goes a b caps caps' d d' zero zero m at at' p s q t le lt lt' =
         rw (carry_none a b caps' d' (item_size x a) m at q t) (goes_absent (paired_none [] _ at' 0 refl))
     array_goes a b caps caps' d d' (suc most) zero zero at at' p s q t le lt lt' =
-        goes_absent (paired_skip _ _ (sym (size_same x a caps d)) (array_goes a b caps caps' d d' most zero zero at at' (p + s) s q t (omega arith) lt lt').paired)
+        goes_absent (paired_skip _ _ (sym (size_same x a caps d))
+        (array_goes a b caps caps' d d' most zero zero at at' (p + s) s q t (omega arith) lt lt').paired)
     array_goes a b caps caps' d d' (suc most) zero (suc m) at at' p s q t le lt lt' =
         rw (carry_none a b caps' d' (item_size x a) (suc m) at q t)
         (goes_absent (paired_append (item_goes a b caps caps' d d' at at' lt lt').paired (omega (arith, sym (size_same y b caps' d')))
@@ -302,7 +303,7 @@ some_below [] = (0, tt)
 some_below (f ∷ fs) =
     let p = item_some f.item in
     let q = some_below fs in
-    (p.0 + q.0, item_further p.0 _ f.item (omega arith) p.1, fields_further q.0 _ fs (omega arith) q.1)
+    (p.0 + q.0, (item_further p.0 _ f.item (omega arith) p.1, fields_further q.0 _ fs (omega arith) q.1))
 
 module _ (old new : Set) (good_old : WellFormed old) (good_new : WellFormed new) (numbers : List ℤ) where
   abbrev ds : List Desc
@@ -359,15 +360,17 @@ module _ (old new : Set) (good_old : WellFormed old) (good_new : WellFormed new)
     | inl less ↦ go_to _ (omega arith) _ (omega arith) i j at at' lt less
     | inr le ↦
         let below = struct_below old good_old i lt in
+        let d = get_or ds i no_desc in
         rw (
-          pairer_at _ i lt,
+          pairer_at (length ds) i lt,
           struct_slots ds (length ds) i numbers at lt below,
           struct_cells_at ds (length ds) i lt below,
           struct_is new good_new j,
           get_or_past es j no_desc le,
-          get_or_past (carriers_to (length es)) j no_carrier (omega (arith, first_long (λ earlier d. carrier_of earlier xs y ds d) es _)),
+          get_or_past (carriers_to (length es)) j no_carrier (omega (arith, first_long (λ earlier d. carrier_of earlier xs y ds d) es (length es))),
         )
-        (desc_goes _ (carriers_to 0) ms y numbers i 0 (meanings_above ds _) (meanings_are ds _) (λ i j at at' lt lt'. absurd (omega arith)) _ _ _ no_desc at at' below tt)
+        (desc_goes _ (carriers_to 0) ms y numbers i 0 (meanings_above ds _) (meanings_are ds _) (λ i j at at' lt lt'. absurd (omega arith)) d.version
+        no_desc.version d no_desc at at' below tt)
   ]
 
   -- two descriptions at one version

@@ -42,9 +42,14 @@ module _ (old new : Set) (good_old : WellFormed old) (good_new : WellFormed new)
   one_sub j s at_j = elim (look_up e.subs s.desc.name) [
     | inl none ↦ rw none (no_sub s)
     | inr f ↦
-        let p = (part_goes old new good_old good_new [] s.desc.version s.desc f.sub.desc 0 _ (below_of _ s.desc _ (sub_clean old good_old i j d s at_i at_j))).paired in
-        let pairs : (c k : ℕ) → _ → IsSubPair s c k = λ c k g. record { l = f.number; t = f.sub; there = f.there; name_is = f.name_is; pair = p.pairs c k g } in
-        rw (f.found, f.there) (record { long = p.long; pairs = pairs; once = p.once })
+        let below = below_of _ s.desc _ (sub_clean old good_old i j d s at_i at_j) in
+        let p = (part_goes old new good_old good_new [] s.desc.version s.desc f.sub.desc 0 (place' f.number) below).paired in
+        rw (f.found, f.there)
+        (record {
+          long = p.long;
+          pairs = λ c k g. record { l = f.number; t = f.sub; there = f.there; name_is = f.name_is; pair = p.pairs c k g };
+          once = p.once;
+        })
   ]
 
   -- two newer subsections that have one cell are one

@@ -3,7 +3,8 @@ use Rattle.vms_check_laws.proofs.Facade.{◌≡◌, ◌⊎◌, inl, inr, ℕ, ze
 use Rattle.vms_check_laws.proofs.Facade.{refl, sym, ap, ◌∙◌, arith, slice_get, get_or_append_left, get_or-append-add, length-replicate, cases_lt, ℤ, pos}
 use Rattle.vms_check_laws.proofs.Facade.{true, length-append, length-map, eq-eqb, Bool, if◌then◌else◌, [], false, ◌||◌, or-false, or_parts}
 use Rattle.vms_check_laws.proofs.Facade.{false_from_ne_true, slice_get_within, Cell, no_cell, Kind, Item, Num, Slot, Number, item_cells, has_cell, has_left}
-use Rattle.vms_check_laws.proofs.Facade.{has_right, defaults, names_append, defaults_at, defaults_long}
+use Rattle.vms_check_laws.proofs.Facade.{has_right, defaults, names_append, defaults_at, defaults_long, either_of}
+use Rattle.vms_check_laws.proofs.Positioned.{if_is}
 
 abbrev pub one_cell : Kind → List ℕ → ℤ → List Cell
 one_cell kind caps default = record { kind = kind; capacities = caps; default = default } ∷ []

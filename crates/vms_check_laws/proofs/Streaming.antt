@@ -12,6 +12,7 @@ use Rattle.vms_spec.specs.declared.Part.TheVariants as parts
 use Rattle.vms_check_laws.proofs.SubFacts.{saved}
 use Rattle.vms_check_laws.proofs.Segments.{RestAt, at_first, one_on, from_zero}
 use Rattle.vms_check_laws.proofs.Wholes.{Among, section_whole, at_map, from_map, Rises, takes_each, all_came}
+use Rattle.vms_check_laws.proofs.Positioned.{if_is}
 
 -- ---- devices by name and instance
 
@@ -151,7 +152,8 @@ module _ (old new : Set) (good_old : WellFormed old) (good_new : WellFormed new)
 
   -- no device has come yet, and none comes twice
   order_rises : (i : ℕ) (ds : List Device) → RestAt old.devices i ds
-      → Rises (λ b. b ≡ false) true (λ k. option_and_then (λ e. find_device 0 old.devices e.desc.name e.instance) (slice_get new.devices k)) none_came i (device_order new ds)
+      → Rises (λ b. b ≡ false) true (λ k. option_and_then (λ e. find_device 0 old.devices e.desc.name e.instance) (slice_get new.devices k)) none_came i
+      (device_order new ds)
   order_rises i [] h = tt
   order_rises i (d ∷ ds) h =
       let at = at_first (slice_get old.devices) i h in

@@ -6,6 +6,7 @@ use Rattle.vms_check_laws.proofs.Facade.{slice_get-get_or, Sub, Device, Set, Cel
 use Rattle.vms_check_laws.proofs.Facade.{sub_slots, sub_place, find_sub, names_append, sub_size, places_apart, IsCellOf}
 use Rattle.vms_check_laws.proofs.PairLists.{IsBehind, at_left, at_right, before_or_behind, behind_at}
 use Rattle.vms_check_laws.proofs.Segments.{RestAt, at_first, one_on, from_zero}
+use Rattle.vms_check_laws.proofs.Positioned.{if_is}
 
 -- ---- what has a name, and where it is
 
