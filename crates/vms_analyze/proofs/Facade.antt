@@ -134,8 +134,8 @@ pub use Rattle.vms_selfdesc.specs.Tree.{described_text, described_tree, device_m
 pub use Rattle.vms_selfdesc.specs.Tree.{sub_tree, sub_trees}
 pub use Rattle.vms_values_laws.proofs.AllCome.{short_are}
 pub use Rattle.vms_values_laws.proofs.SecondPass.{AreShort, of_numbers}
-pub use Rattle.vms_values_laws.proofs.ReadyParts.{AreGood, fine_both, good_both, text_says}
-pub use Rattle.vms_values_laws.proofs.Rights.{IsFitting, begins_itself, fine_rest, line_number, reason_fits}
+pub use Rattle.vms_values_laws.proofs.ReadyParts.{text_says}
+pub use Rattle.vms_values_laws.proofs.Rights.{AreGood, IsFitting, begins_itself, fine_both, fine_rest, good_both, line_number, reason_fits}
 pub use Rattle.vms_values_laws.proofs.SaidLaws.{all_both}
 pub use Rattle.byteorder.specs.Endian.{big_number}
 pub use Rattle.json.specs.Lex.{tokens}

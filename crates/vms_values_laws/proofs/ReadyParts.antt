@@ -1,45 +1,20 @@
 -- Images that may be written, part by part, and the first bad part.
-use Rattle.vms_values_laws.proofs.Facade.{◌≡◌, ℕ, suc, ◌+◌, ◌<◌, ◌≤◌, Bool, true, false, List, ◌∷◌, ◌++◌, length, get_or, Option, Some, None, ℤ, refl, sym, ap}
-use Rattle.vms_values_laws.proofs.Facade.{◌∙◌, arith, [], map, flat_map, slice_get, AllByRecursion, or_from, get_or_append_left, get_or-append-add}
-use Rattle.vms_values_laws.proofs.Facade.{length-append, printed, or_else_none, ValuesReason, or_else, Desc, Sub, Device, Set, Cell, no_cell, Slot, desc_cells}
-use Rattle.vms_values_laws.proofs.Facade.{struct_cells, device_cells, Image, own_cells, own_slots, sub_slots, came_slots, image_slots, RulesHold, AreVersionsOf}
-use Rattle.vms_values_laws.proofs.Facade.{is_needed, ComeAsNeeded, IsReady, DefaultsFit, rules_append, rules_are, elements_in, Entry, OfSub, number_entries}
-use Rattle.vms_values_laws.proofs.Facade.{subs_entries, device_entries, if_not, have_defaults, came_well, part_reason, AreFine, has_line, IsShaped, AreUnsaid}
-use Rattle.vms_values_laws.proofs.Facade.{AreAtVersions, walks, elements_slots, BadLine, or_bad, pos, codes, ranged, text_of, devices_entries, entries}
-use Rattle.vms_values_laws.proofs.Facade.{AreShaped, AllUnsaid, IsText, Says, entry_law, text_is, Element, OfSection, are_rules, bytes_eq, bytes_eq-Decides}
-use Rattle.vms_values_laws.proofs.Facade.{entry_line, has_cell, is_of_cell, line_reason, none_joined, or_parts, or_right, rules_split, section_line, sub_line}
-use Rattle.vms_values_laws.proofs.Facade.{◌||◌}
+use Rattle.vms_values_laws.proofs.Facade.{◌≡◌, ℕ, suc, ◌+◌, ◌≤◌, Bool, true, false, List, ◌∷◌, ◌++◌, length, get_or, Option, Some, None, ℤ, refl, sym, ap, ◌∙◌}
+use Rattle.vms_values_laws.proofs.Facade.{arith, [], map, flat_map, slice_get, printed, or_else_none, ValuesReason, or_else, Desc, Sub, Device, Set, Cell}
+use Rattle.vms_values_laws.proofs.Facade.{no_cell, Slot, desc_cells, struct_cells, device_cells, Image, own_cells, own_slots, sub_slots, came_slots}
+use Rattle.vms_values_laws.proofs.Facade.{image_slots, RulesHold, AreVersionsOf, is_needed, ComeAsNeeded, IsReady, DefaultsFit, rules_append, rules_are}
+use Rattle.vms_values_laws.proofs.Facade.{elements_in, Entry, OfSub, number_entries, subs_entries, device_entries, if_not, have_defaults, came_well}
+use Rattle.vms_values_laws.proofs.Facade.{part_reason, AreFine, IsShaped, AreUnsaid, AreAtVersions, walks, elements_slots, BadLine, or_bad, pos, codes, ranged}
+use Rattle.vms_values_laws.proofs.Facade.{text_of, devices_entries, entries, AreShaped, AllUnsaid, IsText, Says, entry_law, text_is, OfSection, are_rules}
+use Rattle.vms_values_laws.proofs.Facade.{bytes_eq, bytes_eq-Decides, entry_line, is_of_cell, line_reason, or_right, rules_split, section_line, sub_line}
 use Rattle.vms_values_laws.proofs.SecondPass.{of_numbers, AreShort, short_within, desc_rules, as_bad, parts_from}
-use Rattle.vms_values_laws.proofs.Rights.{AreRight, right_none, right_both, AreBare, fit_parts, Part, part, right_by}
-use Rattle.vms_values_laws.proofs.SaidLaws.{lines_both, if_none, all_both, short}
+use Rattle.vms_values_laws.proofs.Rights.{right_none, part, right_by, known_both, Known, defaults_are, AreGood, fine_then, IfDefaults}
+use Rattle.vms_values_laws.proofs.SaidLaws.{if_none, all_both, short}
 use Rattle.vms_spec.specs.declared.ValuesReason.TheVariants as reasons
 use Rattle.vms_spec.specs.Layout as slots
 use Rattle.vms_values_laws.proofs.AllCome.{are_short}
 
 -- ---- The entries of a state, beside its cells and slots.
-
-pub fine_both : (es fs : List Entry) → AreFine (es ++ fs) → AreFine es × AreFine fs
-fine_both [] fs h = (tt, h)
-fine_both (e ∷ es) fs h = let p = fine_both es fs h.1 in ((h.0, p.0), p.1)
-
-pub fine_then : (es fs : List Entry) → AreFine es → AreFine fs → AreFine (es ++ fs)
-fine_then [] fs a b = b
-fine_then (e ∷ es) fs a b = (a.0, fine_then es fs a.1 b)
-
-none_in : (es fs : List Entry) (k : ℕ) → has_line es k ≡ false → has_line fs k ≡ false → has_line (es ++ fs) k ≡ false
-none_in es fs k a b = lines_both es fs k ∙ or_from _ _ a b
-
--- no section or subsection is bad
-abbrev pub AreGood : Set → List Entry → Type 0
-AreGood set = AllByRecursion (λ (e : Entry). part_reason set e ≡ None)
-
-pub good_both : (set : Set) (es fs : List Entry) → AreGood set (es ++ fs) → AreGood set es × AreGood set fs
-good_both set [] fs h = (tt, h)
-good_both set (e ∷ es) fs h = let p = good_both set es fs h.1 in ((h.0, p.0), p.1)
-
-numbers_good : (set : Set) (n : List ℤ) (xs : List Element) → AreGood set (of_numbers n xs)
-numbers_good set n [] = tt
-numbers_good set n (x ∷ xs) = (refl, numbers_good set n xs)
 
 pub bytes_same : (a b : List ℕ) → a ≡ b → if_not (bytes_eq a b) reasons.Form ≡ None
 bytes_same a b e = rw ((bytes_eq-Decides a b).1 e) refl
@@ -56,86 +31,29 @@ well_away : (b have : Bool) → came_well b None have ≡ true → (b ≡ false)
 well_away true have e = cc
 well_away false have e = (refl, e)
 
-right_parts : (n : List ℤ) (at next : ℕ) (xs ys : List Cell) (ss ts : List Slot) → next ≡ at + length xs → ((k : ℕ) → k < next → has_cell ts k ≡ false)
-    → ((k : ℕ) → next ≤ k → has_cell ss k ≡ false) → AreRight n at (xs ++ ys) (ss ++ ts) → AreRight n at xs ss × AreRight n next ys ts
-right_parts n at next xs ys ss ts is below above a = (
-  record {
-    right = λ c k lt e. rw (← (get_or_append_left xs ys no_cell c lt))
-        (right_by (λ bare. none_joined k ss ts bare (below k (omega arith))) (a.right c k (omega (arith, length-append xs ys)) e));
-  },
-  record {
-    right = λ c k lt e. rw (← (get_or-append-add xs ys c no_cell))
-        (right_by (λ bare. none_joined k ss ts (above k (omega arith)) bare) (a.right (length xs + c) k (omega (arith, length-append xs ys)) (omega arith)));
-  },
-)
-
--- What is known of entries, by the numbers of a state, beside cells from one on and slots; `More` is what else they require.
-pub record Known (set : Set) (n : List ℤ) (at : ℕ) (es : List Entry) (cells : List Cell) (ss : List Slot) (More : Type 0) : Type 0 where
-  -- cells before and after these have no line and no byte, and a cell without a line has no byte
-  pub outside : (k : ℕ) → (at ≤ k → at + length cells ≤ k) → (has_line es k ≡ false) × (has_cell ss k ≡ false)
-  pub unsaid : (k : ℕ) → has_line es k ≡ false → has_cell ss k ≡ false
-  -- fine lines without a bad part are those of right numbers, whose rules hold
-  pub said : AreFine es → AreGood set es → DefaultsFit cells → AreBare n at cells (λ k. has_line es k) → AreRight n at cells ss × RulesHold ss × More
-  pub right : AreRight n at cells ss → RulesHold ss → More → AreFine es × AreGood set es
-
--- entries, and others behind them
-known_both : {set : Set} {n : List ℤ} {at next : ℕ} {es fs : List Entry} {xs ys : List Cell} {ss ts : List Slot} {N M O : Type 0} → (N → M → O) → (O → N × M)
-    → next ≡ at + length xs → Known set n at es xs ss N → Known set n next fs ys ts M → Known set n at (es ++ fs) (xs ++ ys) (ss ++ ts) O
-known_both {set} {n} {at} {next} {es} {fs} {xs} {ys} {ss} {ts} to from is a b = record {
-  outside = λ k h.
-      let past : at ≤ k → at + (length xs + length ys) ≤ k = rw (length-append xs ys) at h in
-      let f = a.outside k (λ low. let p = past low in omega arith) in
-      let g = b.outside k (λ low. let p = past (omega arith) in omega arith) in
-      (none_in es fs k f.0 g.0, none_joined k ss ts f.1 g.1);
-  unsaid = λ k e.
-      let p = or_parts (has_line es k) _ (sym (lines_both es fs k) ∙ e) in none_joined k ss ts (a.unsaid k p.0) (b.unsaid k p.1);
-  said = λ f g d bare.
-      let f' = fine_both es fs f in
-      let g' = good_both set es fs g in
-      let d' = fit_parts xs ys d in
-      let p = a.said f'.0 g'.0 d'.0 (λ c k lt e none.
-      bare c k (omega (arith, length-append xs ys)) e (none_in es fs k none (b.outside k (λ low. omega arith)).0)
-      ∙ ap (λ (x : Cell). x.default) (get_or_append_left xs ys no_cell c lt)) in
-      let q = b.said f'.1 g'.1 d'.1 (λ c k lt e none.
-      bare (length xs + c) k (omega (arith, length-append xs ys)) (omega arith) (none_in es fs k (a.outside k (λ low. omega arith)).0 none)
-      ∙ ap (λ (x : Cell). x.default) (get_or-append-add xs ys c no_cell)) in
-      (right_both n at next xs ys ss ts is p.0 q.0, rules_append ss ts p.1 q.1, to p.2 q.2);
-  right = λ r rules m.
-      let s = rules_split ss ts rules in
-      let r' = right_parts n at next xs ys ss ts is (λ k lt. (b.outside k (λ low. omega arith)).1) (λ k le. (a.outside k (λ low. omega arith)).1) r in
-      let p = a.right r'.0 s.0 (from m).0 in
-      let q = b.right r'.1 s.1 (from m).1 in
-      (fine_then es fs p.0 q.0, all_both _ es fs p.1 q.1);
-}
-
 -- a line that is no number's, before those of a part's numbers
-head_known : {set : Set} {n : List ℤ} {at : ℕ} {es : List Entry} {cells : List Cell} {ss : List Slot} {have : Bool} {N : Type 0} (e : Entry)
-    → ((k : ℕ) → is_of_cell k e ≡ false) → line_reason e (entry_line e) ≡ None → (part_reason set e ≡ None → RulesHold ss × N)
-    → (RulesHold ss → N → part_reason set e ≡ None) → AreGood set es → Part n at es cells ss have → Known set n at (e ∷ es) cells ss N
-head_known e silent fine to from good p = record {
+head_known : {set : Set} {n : List ℤ} {at : ℕ} {es : List Entry} {cells : List Cell} {ss : List Slot} {N : Type 0} (e : Entry)
+    → ((k : ℕ) → is_of_cell k e ≡ false) → line_reason e (entry_line e) ≡ None → (part_reason set e ≡ None → N) → (N → part_reason set e ≡ None)
+    → Known set n at es cells ss (Unit {0}) → Known set n at (e ∷ es) cells ss N
+head_known e silent fine to from p = record {
   outside = λ k h. rw (silent k) (p.outside k h);
   unsaid = λ k h. p.unsaid k (rw (silent k) at h);
-  said = λ f g d bare. let q = to g.0 in (p.said f.1 d (λ c k lt e none. bare c k lt e (rw (silent k) none)), q.0, q.1);
-  right = λ r rules m. ((fine, p.right r), (from rules m, good));
+  said = λ f g d bare. ((p.said f.1 g.1 d (λ c k lt e none. bare c k lt e (rw (silent k) none))).0, to g.0);
+  right = λ r m. let q = p.right r tt in ((fine, q.0), (from m, q.1));
 }
 
 module _ (set : Set) (n : List ℤ) (short : AreShort n) where
   abbrev cells : Desc → List Cell
   cells d = desc_cells (struct_cells set) d
 
-  abbrev bytes : Desc → ℕ → ℕ → List Slot
-  bytes d v at = slots.desc_slots (slots.meanings set.structs (length set.structs)) d v n at
-
-  pub desc_part : (d : Desc) (v at : ℕ)
-      → Part n at (of_numbers n (printed (elements_in set d v n at))) (cells d) (bytes d v at) (have_defaults n (elements_in set d v n at))
+  desc_part : (d : Desc) (v at : ℕ) → Known set n at (of_numbers n (printed (elements_in set d v n at))) (cells d)
+      (slots.desc_slots (slots.meanings set.structs (length set.structs)) d v n at) (Unit {0})
   desc_part d v at =
       let w = walks set d v v n n at at in
-      rw (← (w.cells_are), ← (elements_slots set d v n at)) (part n short at (elements_in set d v n at) w.up w.counted)
+      rw (← (w.cells_are), ← (elements_slots set d v n at)) (part set n short at (elements_in set d v n at) w.up w.counted)
 
-  -- what is at its default is right, whatever is in the bytes
-  pub default_right : (at : ℕ) (cs : List Cell) (ss : List Slot) → DefaultsFit cs → AreBare n at cs (λ k. false) → AreRight n at cs ss
-  default_right at cs ss defaults bare =
-      record { right = λ c k lt e. let is = bare c k lt e refl in record { fits = rw is (defaults c lt); absent = λ h. is } }
+  desc_bare : (d : Desc) (v at : ℕ) → IfDefaults n at (cells d) (have_defaults n (elements_in set d v n at))
+  desc_bare d v at = let w = walks set d v v n n at at in rw (← (w.cells_are)) (defaults_are n at (elements_in set d v n at) w.up)
 
 -- the cells of subsections
 abbrev pub sub_cells : Set → List Sub → List Cell
@@ -149,57 +67,66 @@ module _ (set : Set) (d : Device) (image : Image) (short : AreShort image.number
     abbrev own : List Cell
     own = desc_cells (struct_cells set) s.desc
 
-    its : Part n at (number_entries set s.desc n at) own (sub_slots set s s.desc.version n at) (have_defaults n (elements_in set s.desc s.desc.version n at))
+    its : Known set n at (number_entries set s.desc n at) own (sub_slots set s s.desc.version n at) (Unit {0})
     its = desc_part set n short s.desc s.desc.version at
 
-    came_known : (v : ℕ) → v ≡ s.desc.version
-        → Known set n at (OfSub d image j s at (Some v) ∷ number_entries set s.desc n at) own (sub_slots set s v n at) (is_needed set d image s j ≡ true)
+    came_known : (v : ℕ) → v ≡ s.desc.version → Known set n at (OfSub d image j s at (Some v) ∷ number_entries set s.desc n at) own (sub_slots set s v n at)
+        (RulesHold (sub_slots set s v n at) × (is_needed set d image s j ≡ true))
     came_known v same =
         let ss = sub_slots set s v n at in
         let line : line_reason (OfSub d image j s at (Some v)) (sub_line s (Some v)) ≡ None =
         rw (same, (bytes_eq-Decides (sub_line s (Some s.desc.version)) _).1 refl) refl in
-        head_known {have = have_defaults n (elements_in set s.desc s.desc.version n at)} (OfSub d image j s at (Some v)) (λ k. refl) line
+        head_known (OfSub d image j s at (Some v)) (λ k. refl) line
         (λ g. let p = two_none _ _ g in (rules_are ss (sym (desc_rules set s.desc v n at) ∙ p.0), well_come _ v _ p.1))
-        (λ rules m. rw (desc_rules set s.desc v n at ∙ are_rules ss rules, m) refl) (numbers_good set n _) (rw same its)
+        (λ m. rw (desc_rules set s.desc v n at ∙ are_rules ss m.0, m.1) refl) (rw same its)
 
     away_known : Known set n at (OfSub d image j s at None ∷ number_entries set s.desc n at) own [] (is_needed set d image s j ≡ false)
     away_known = record {
       outside = λ k h. ((its.outside k h).0, refl);
       unsaid = λ k h. refl;
-      said = λ f g d bare. let w = well_away _ _ (two_none true _ g.0).1 in (default_right set n short at own [] d (its.bare w.1), tt, w.0);
-      right = λ r rules m.
-          let have = its.defaults (λ c k lt e f. (r.right c k lt e).absent refl) in
+      said = λ f g defaults none.
+          let w = well_away _ _ (two_none true _ g.0).1 in
+          let bare = (desc_bare set n short s.desc s.desc.version at).0 w.1 in
+          (record { right = λ c k lt e. let is = bare c k lt e refl in record { fits = rw is (defaults c lt); absent = λ h. is } }, w.0);
+      right = λ r m.
+          let have = (desc_bare set n short s.desc s.desc.version at).1 (λ c k lt e f. (r.right c k lt e).absent refl) in
           let line = or_right (bytes_eq (sub_line s None) (sub_line s (Some s.desc.version))) _ ((bytes_eq-Decides (sub_line s None) _).1 refl) in
-          ((rw line refl, its.right (record { right = λ c k lt e. right_by (λ h. refl) (r.right c k lt e) })), (rw (m, have) refl, numbers_good set n _));
+          let p = its.right (record { right = λ c k lt e. right_by (λ h. refl) (r.right c k lt e) }) tt in
+          ((rw line refl, p.0), (rw (m, have) refl, p.1));
     }
 
   subs_known : (j at : ℕ) (subs : List Sub) (came : List (Option ℕ)) → length came ≡ length subs → AreAtVersions subs came
-      → Known set n at (subs_entries set d image j at subs came) (sub_cells set subs) (came_slots set d n at subs came) (ComeAsNeeded set d image j subs came)
+      → Known set n at (subs_entries set d image j at subs came) (sub_cells set subs) (came_slots set d n at subs came)
+      (RulesHold (came_slots set d n at subs came) × ComeAsNeeded set d image j subs came)
   subs_known j at [] [] long v = record {
     outside = λ k h. (refl, refl);
     unsaid = λ k h. refl;
-    said = λ f g d bare. (right_none n at [], tt, refl);
-    right = λ r rules m. (tt, tt);
+    said = λ f g d bare. (right_none n at [], (tt, refl));
+    right = λ r m. (tt, tt);
   }
   subs_known j at (s ∷ subs) (None ∷ came) long v =
-      known_both (λ a b. (a, b)) (λ m. m) refl (away_known s j at) (subs_known (suc j) _ subs came (omega arith) v.1)
+      known_both (λ a b. (b.0, (a, b.1))) (λ m. (m.1.0, (m.0, m.1.1))) refl (away_known s j at) (subs_known (suc j) _ subs came (omega arith) v.1)
   subs_known j at (s ∷ subs) (Some w ∷ came) long v =
-      known_both (λ a b. (a, v.0, b)) (λ m. (m.0, m.2)) refl (came_known s j at w v.0) (subs_known (suc j) _ subs came (omega arith) v.1)
+      let mine = sub_slots set s w n at in
+      let later = came_slots set d n (at + length (desc_cells (struct_cells set) s.desc)) subs came in
+      known_both (λ a b. (rules_append mine later a.0 b.0, (a.1, v.0, b.1))) (λ m. let r = rules_split mine later m.0 in ((r.0, m.1.0), (r.1, m.1.2))) refl
+      (came_known s j at w v.0) (subs_known (suc j) _ subs came (omega arith) v.1)
   subs_known j at _ _ long v = absurd (omega arith)
 
-  pub device_known : image.version ≡ d.desc.version → length image.came ≡ length d.subs → AreAtVersions d.subs image.came
-      → Known set n 0 (device_entries set d image) (device_cells set d) (image_slots set d image) (ComeAsNeeded set d image 0 d.subs image.came)
+  device_known : image.version ≡ d.desc.version → length image.came ≡ length d.subs → AreAtVersions d.subs image.came
+      → Known set n 0 (device_entries set d image) (device_cells set d) (image_slots set d image)
+      (RulesHold (image_slots set d image) × ComeAsNeeded set d image 0 d.subs image.came)
   device_known version long versions =
       let ss = own_slots set d image.version n in
-      let its : Part n 0 (number_entries set d.desc n 0) (desc_cells (struct_cells set) d.desc) ss
-      (have_defaults n (elements_in set d.desc d.desc.version n 0)) =
+      let later = came_slots set d n (own_cells set d) d.subs image.came in
+      let its : Known set n 0 (number_entries set d.desc n 0) (desc_cells (struct_cells set) d.desc) ss (Unit {0}) =
       rw version (desc_part set n short d.desc d.desc.version 0) in
       let line = bytes_same (section_line d image.version) (section_line d d.desc.version) (ap (section_line d) version) in
       let rules = desc_rules set d.desc image.version n 0 in
-      let own : Known set n 0 (OfSection d image ∷ number_entries set d.desc n 0) (desc_cells (struct_cells set) d.desc) ss (Unit {0}) =
-      head_known (OfSection d image) (λ k. refl) line (λ g. (rules_are ss (sym rules ∙ if_none _ _ g), tt))
-      (λ holds m. rw (rules ∙ are_rules ss holds) refl) (numbers_good set n _) its in
-      known_both (λ a b. b) (λ m. (tt, m)) (omega arith) own (subs_known 0 (own_cells set d) d.subs image.came long versions)
+      let own : Known set n 0 (OfSection d image ∷ number_entries set d.desc n 0) (desc_cells (struct_cells set) d.desc) ss (RulesHold ss) =
+      head_known (OfSection d image) (λ k. refl) line (λ g. rules_are ss (sym rules ∙ if_none _ _ g)) (λ m. rw (rules ∙ are_rules ss m) refl) its in
+      known_both (λ a b. (rules_append ss later a b.0, b.1)) (λ m. let r = rules_split ss later m.0 in (r.0, (r.1, m.1))) (omega arith) own
+      (subs_known 0 (own_cells set d) d.subs image.came long versions)
 
   -- ---- A state that a text says, with good parts, is ready.
 
@@ -226,9 +153,9 @@ module _ (set : Set) (d : Device) (image : Image) (short : AreShort image.number
           cells = record { long = shaped.cells; fits = λ c lt. (p.0.right c c lt (omega arith)).fits };
           absent = λ c lt e. (p.0.right c c (omega (arith, shaped.cells)) (omega arith)).absent e;
         };
-        valid = p.1;
+        valid = p.1.0;
         version = shaped.version;
-        needed = p.2;
+        needed = p.1.1;
       }
 
 -- ---- The first bad part of entries.
@@ -304,7 +231,7 @@ device_says set d image short ready =
             fits = rw same (ready.normal.cells.fits c lt);
             absent = λ h. ready.normal.absent k (omega arith) h ∙ ap (λ (i : ℕ). (get_or (device_cells set d) i no_cell).default) same;
           };
-    }) ready.valid ready.needed in
+    }) (ready.valid, ready.needed) in
     record {
       shaped = record { version = ready.version; subs = at.0; versions = at.1; cells = ready.normal.cells.long; short = are_short image.numbers short };
       unsaid = λ c lt e. ready.normal.absent c lt (known.unsaid c e);
