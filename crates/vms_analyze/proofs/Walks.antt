@@ -1,8 +1,8 @@
 -- A walk over what is required, part after part.
 use Rattle.vms_analyze.proofs.Facade.{map-map, ◌≡◌, ℕ, ◌+◌, List, [], ◌∷◌, ◌++◌, length, append_assoc, append-nil, take, drop, Vec, Global, ℤ, refl, sym, ap}
 use Rattle.vms_analyze.proofs.Facade.{◌∙◌, subst, arith, ◌<◌, get_or, ◌≤◌, true, ◌&&◌, nat_le, map, take-append-drop, drop-drop, take_more, flat_map, list_all}
-use Rattle.vms_analyze.proofs.Facade.{flat_map-append, and_parts, leb-true, flat_map_single, flat_map-map, Kind, code, InRange, text_of, Want, Number, Line}
-use Rattle.vms_analyze.proofs.Facade.{number_line, behind, found, Bytes, Machine, Head, Foot, element_want, sub_head_wants, sub_wants, device_wants}
+use Rattle.vms_analyze.proofs.Facade.{flat_map-append, and_parts, leb-true, flat_map_single, flat_map-map, Kind, code, InRange, text_of, Want, Number}
+use Rattle.vms_analyze.proofs.Facade.{Line, number_line, behind, found, Bytes, Machine, Head, Foot, element_want, sub_head_wants, sub_wants, device_wants}
 use Rattle.vms_analyze.proofs.Facade.{start_wants, wants, left, IsInside, Goes, Stops, Prints, WhyStopped, Walk, text_append, Stop, LONGEST_NAME, magic, be32}
 use Rattle.vms_analyze.proofs.Facade.{end_mark, ToldDevice, is_path, is_path_byte, is_good_device, told_of, sub_of, device_of, element_wants, subs_wants}
 use Rattle.vms_analyze.proofs.Facade.{devices_wants, Element}
