@@ -46,16 +46,10 @@ cascade-other false i h n = no-input i h
 
 with-other : (b : Bool) (inputs i : ℕ) → i < 8 → i ≢ 2 → has (with_cascade b inputs) i ≡ has inputs i
 with-other b inputs i h n =
-    has-or (without_input inputs 2) (cond b 4 0) i
-    ∙ ap (λ t. has (without_input inputs 2) i || t) (cascade-other b i h n)
-    ∙ or-false (has (without_input inputs 2) i)
-    ∙ has-without_other inputs 2 i (omega arith) h n
+    cc (has-or (without_input inputs 2) (cond b 4 0) i, cascade-other b i h n, or-false (has (without_input inputs 2) i), has-without_other inputs 2 i (omega arith) h n)
 
 with-same : (b : Bool) (inputs : ℕ) → has (with_cascade b inputs) 2 ≡ b
-with-same b inputs =
-    has-or (without_input inputs 2) (cond b 4 0) 2
-    ∙ ap (λ t. t || has (cond b 4 0) 2) (has-without_same inputs 2 (omega arith))
-    ∙ cascade-same b
+with-same b inputs = cc (has-or (without_input inputs 2) (cond b 4 0) 2, has-without_same inputs 2 (omega arith), cascade-same b)
 
 module _ (inputs edges : ℕ) (pair : PicPair) (bound : inputs < 2 ^ 16) where
   abbrev output : Bool
@@ -184,21 +178,17 @@ without-bit lines i h = by_value (i == 2) refl where
   by_value true e =
       let same : i ≡ 2 = grind (arith, nat_tests) in
       ap (has (without_input lines 2)) same ∙ has-without_same lines 2 (omega arith) ∙ sym (and-false (has lines i))
-  by_value false e =
-      let other : i ≢ 2 = grind (arith, nat_tests) in
-      has-without_other lines 2 i (omega arith) h other ∙ sym (and-true (has lines i))
+  by_value false e = has-without_other lines 2 i (omega arith) h (grind (arith, nat_tests)) ∙ sym (and-true (has lines i))
 
 low-acked : (slave master i : ℕ) → master < 256 → i < 8 → has (slave * 256 + without_input master 2) i ≡ (has (slave * 256 + master) i && not (i == 2))
 low-acked slave master i bound l =
-    low-bit slave (without_input master 2) i (without_input-lt master 2 bound) l
-    ∙ without-bit master i l
-    ∙ ap (λ t. t && not (i == 2)) (sym (low-bit slave master i bound l))
+    cc (low-bit slave (without_input master 2) i (without_input-lt master 2 bound) l, without-bit master i l, low-bit slave master i bound l)
 
 high-acked : (slave master i : ℕ) → master < 256 → 8 ≤ i → i < 16
     → has (slave * 256 + without_input master 2) i ≡ (has (slave * 256 + master) i && not (i == 2))
 high-acked slave master i bound least l =
-    let place : i ≡ 8 + (i - 8) = omega (arith, least) in
-    let within : i - 8 < 8 = omega (arith, least, l) in
+    let place : i ≡ 8 + (i - 8) = omega arith in
+    let within : i - 8 < 8 = omega arith in
     let other : (i == 2) ≡ false = grind (arith, nat_tests) in
     ap (λ n. has (slave * 256 + without_input master 2) n) place
     ∙ high-bit slave (without_input master 2) (i - 8) (without_input-lt master 2 bound) within

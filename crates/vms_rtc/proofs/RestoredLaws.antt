@@ -11,8 +11,7 @@ use Rattle.vms_rtc.proofs.Facade.{registers_hold, rules, chip_of, restored, hook
 pub is_byte : (cells : List ℤ) (k : ℕ) → AreOf (kinds NEWEST_CLOCK) cells → k < CMOS + REGISTERS → InRange U8 (cell_at cells k)
 is_byte cells k are lt =
     subst (λ (kind : Kind). InRange kind (cell_at cells k))
-    (bytes_within [] (drop (CMOS + REGISTERS) (kinds NEWEST_CLOCK)) (CMOS + REGISTERS) k (omega arith) (omega (arith, lt)))
-    (are.in_range k (omega (arith, lt)))
+    (bytes_within [] (drop (CMOS + REGISTERS) (kinds NEWEST_CLOCK)) (CMOS + REGISTERS) k (omega arith) (omega arith)) (are.in_range k (omega arith))
 
 -- ---- what is restored
 
@@ -51,8 +50,7 @@ sound version cells v are hold =
       count = length-map-range_with_len (register_in cells) 0 REGISTERS;
       bytes = λ k lt.
           let is : register k (chip_of version cells) ≡ register_in cells k = register_of version cells k lt in
-          let small : nat_of (cell_at cells (1 + k)) < 256 = number-lt U8 (cell_at cells (1 + k)) (is_byte cells (1 + k) are (omega (arith, lt))) in
-          omega (arith, is, small);
+          omega (arith, number-lt U8 (cell_at cells (1 + k)) (is_byte cells (1 + k) are (omega arith)));
       a = n.a;
       c = n.c;
       d = n.d;

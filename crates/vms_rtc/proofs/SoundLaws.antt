@@ -11,7 +11,7 @@ on-sound version v = record {
   version = v;
   index = omega arith;
   count = length-replicate {A = ℕ} 64 0;
-  bytes = λ k lt. let e : get_or (replicate 64 0) k 0 ≡ 0 = get_or-replicate {A = ℕ} 64 k 0 0 lt in omega (arith, e);
+  bytes = λ k lt. let e : get_or (replicate 64 0) k 0 ≡ 0 = get_or-replicate {A = ℕ} 64 k 0 0 lt in omega arith;
   a = omega arith;
   c = refl;
   d = refl;
@@ -61,7 +61,7 @@ register-a xs index value within old = by (cases_Bool (index == REGISTER_A))
         let here : get_or (set xs index (kept-of index value)) REGISTER_A 0 ≡ kept-of index value =
         subst (λ (n : ℕ). get_or (set xs index (kept-of index value)) n 0 ≡ kept-of index value) at (get_or-set_same xs index (kept-of index value) 0 within) in
         let low : kept-of index value ≤ 127 = rw e (omega arith) in
-        omega (arith, here, low)
+        omega arith
     by (inr e) = rw (get_or-set_other xs index REGISTER_A (kept-of index value) 0 (λ same. false≢true (sym e ∙ eq-eqb index REGISTER_A (sym same)))) old
 
 data-sound : (value : ℕ) (chip : Rtc) → value < 256 → IsSound chip → IsSound (data_written value chip)
@@ -69,17 +69,15 @@ unfolding data_written
 data-sound value chip small s =
     cond_both ((chip.index == REGISTER_C) || (chip.index == REGISTER_D)) _ _ IsSound (λ kept. s)
     (λ other.
-    let within : chip.index < length chip.cmos = let n = s.count in let i = s.index in omega (arith, n, i) in
-    let not-c : REGISTER_C ≢ chip.index = λ same. false≢true (sym other ∙ grind (arith, nat_tests, same)) in
-    let not-d : REGISTER_D ≢ chip.index = λ same. false≢true (sym other ∙ grind (arith, nat_tests, same)) in
+    let within : chip.index < length chip.cmos = let i = s.index in omega arith in
     record {
       version = s.version;
       index = s.index;
-      count = length-set chip.cmos chip.index (kept-of chip.index value) ∙ s.count;
+      count = cc (length-set chip.cmos chip.index (kept-of chip.index value));
       bytes = λ k lt. byte-kept chip.cmos chip.index (kept-of chip.index value) k within (kept-small chip.index value small) (s.bytes k lt);
       a = register-a chip.cmos chip.index value within s.a;
-      c = get_or-set_other chip.cmos chip.index REGISTER_C (kept-of chip.index value) 0 not-c ∙ s.c;
-      d = get_or-set_other chip.cmos chip.index REGISTER_D (kept-of chip.index value) 0 not-d ∙ s.d;
+      c = cc (get_or-set_other chip.cmos chip.index REGISTER_C (kept-of chip.index value) 0 (λ same. false≢true (sym other ∙ grind (arith, nat_tests, same))));
+      d = cc (get_or-set_other chip.cmos chip.index REGISTER_D (kept-of chip.index value) 0 (λ same. false≢true (sym other ∙ grind (arith, nat_tests, same))));
       mask = s.mask;
     })
 
