@@ -9,7 +9,7 @@ use Rattle.vms_check_laws.proofs.Facade.{compare_subs, carried, carried_device, 
 use Rattle.vms_check_laws.proofs.Facade.{IsConfiguration, configuration, trailer, optional, longest_text, written, AreReady, every_one, machine_short}
 use Rattle.vms_check_laws.proofs.Facade.{few_devices, UpgradeLaw, trailed, answers_none, option_and_then}
 use Rattle.vms_spec.specs.declared.Part.TheVariants as parts
-use Rattle.vms_check_laws.proofs.SubFacts.{saved}
+use Rattle.vms_check_laws.proofs.Wholes.{saved}
 use Rattle.vms_check_laws.proofs.Segments.{RestAt, at_first, one_on, from_zero}
 use Rattle.vms_check_laws.proofs.Wholes.{Among, section_whole, at_map, from_map, Rises, takes_each, all_came}
 use Rattle.vms_check_laws.proofs.Positioned.{if_is}
