@@ -173,8 +173,7 @@ module _ (sides : Sides) (ok : ℕ → Bool) where
   kept_holds : (r : Reduced) → Named ok r → Agree o n ok old_number new_number → all_hold a.validate v old_number ≡ true
       → is_kept ks a b v w part part' o n r ≡ true → truth_of r w new_number no_parent ≡ true
   kept_holds (Known true) named agree holds h = refl
-  kept_holds (Known false) named agree holds h = some_same _ a.validate named agree holds h
-  kept_holds (Open t) named agree holds h = some_same _ a.validate named agree holds h
+  kept_holds _ named agree holds h = some_same _ a.validate named agree holds h
 
   rules_hold : (ts : List Formula) → RulesNamed ok ts → Agree o n ok old_number new_number → all_hold a.validate v old_number ≡ true
       → list_all (λ t. is_kept ks a b v w part part' o n (reduced w t)) ts ≡ true → all_hold ts w new_number ≡ true

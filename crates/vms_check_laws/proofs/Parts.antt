@@ -95,8 +95,7 @@ module _ (olds news : List Desc) (numbers numbers' : List ℤ) (old : StructsGoo
             let a = get_or olds i no_desc in
             let below_a = fields_below i a.fields (λ j f e. ((old i lt_i).old j f e).item) in
             let fits_a : FitsAt (desc_cells xs a) numbers x = rw (struct_cells_at olds (length olds) i lt_i below_a) at fits in
-            let plain = plains_further i _ a.fields (omega arith) (old i lt_i).old in
-            let plain_a = old_fields _ _ a.fields numbers x fits_a plain in
+            let plain_a = old_fields _ _ a.fields numbers x fits_a (plains_further i _ a.fields (omega arith) (old i lt_i).old) in
             let m = desc_meets table a b a.version b.version (parts.Struct i) (parts.Struct k) x plain_a good fits_a none in
             let slots_are = struct_slots olds (length olds) i numbers x lt_i below_a in
             record {

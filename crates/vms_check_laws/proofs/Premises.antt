@@ -67,8 +67,7 @@ module _ (two : Two) where
             let r7 = passes 7 (same_count o n e.field.count f.field.count) _ p q m.1 in
             let r8 = passes 8 (same_item e.field.item f.field.item) _ p q r7.1 in
             let r9 = passes 9 (same_rest o n e.rest f.rest) _ p q r8.1 in
-            let r10 = passes 10 (names_match e.field f.field) _ p q r9.1 in
-            let r11 = passes 11 (room && absent) _ p q r10.1 in
+            let r11 = passes 11 (room && absent) _ p q (passes 10 (names_match e.field f.field) _ p q r9.1).1 in
             let r12 = passes 12 (same_constant e.field.item f.field.item) [] p q r11.1 in
             let both = and_parts room absent r11.0 in
             inr (record { count = r7.0; item = r8.0; rest = r9.0; room = both.0; absent = both.1; constant = r12.0 })
@@ -84,9 +83,8 @@ FitCells (x ∷ xs) (z ∷ zs) = FitsCell x z × FitCells xs zs
 
 pub fit_length : (xs : List Cell) (zs : List ℤ) → FitCells xs zs → length zs ≡ length xs
 fit_length [] [] h = refl
-fit_length [] (z ∷ zs) h = absurd h
-fit_length (x ∷ xs) [] h = absurd h
 fit_length (x ∷ xs) (z ∷ zs) h = rw (fit_length xs zs h.1)
+fit_length _ _ h = absurd h
 
 fit_each : (xs : List Cell) (zs : List ℤ) → FitCells xs zs → (c : ℕ) → c < length xs → FitsCell (get_or xs c no_cell) (get_or zs c (pos 0))
 fit_each [] zs h c lt = absurd (omega arith)
@@ -99,9 +97,8 @@ are_fit xs zs h = record { long = fit_length xs zs h; fits = λ c lt. fit_each x
 
 pub fit_append : (xs ys : List Cell) (zs us : List ℤ) → FitCells xs zs → FitCells ys us → FitCells (xs ++ ys) (zs ++ us)
 fit_append [] ys [] us h k = k
-fit_append [] ys (z ∷ zs) us h k = absurd h
-fit_append (x ∷ xs) ys [] us h k = absurd h
 fit_append (x ∷ xs) ys (z ∷ zs) us h k = (h.0, fit_append xs ys zs us h.1 k)
+fit_append _ ys _ us h k = absurd h
 
 -- the default of each cell fits it
 abbrev pub GoodCells : List Cell → Type 0

@@ -30,8 +30,8 @@ module _ {A : Type 0} (Open : A → Type 0) (done : A) (back : ℕ → Option �
   rises_set : (xs : List A) (k m j : ℕ) (order : List ℕ) → back k ≡ Some m → m < j → Rises xs j order → Rises (slice_set xs k done) j order
   rises_set xs k m j [] is lt h = tt
   rises_set xs k m j (l ∷ order) is lt h =
-      let other : l ≡ k → ⊥ = λ e. (let same : h.0 ≡ m = cc (h.3) in omega (arith, h.2)) in
-      (h.0, h.1, h.2, h.3, at_other xs k l done other ∙ h.4, h.5, rises_set xs k m (suc h.0) order is (omega (arith, h.2)) h.6)
+      let other : l ≡ k → ⊥ = λ e. (let same : h.0 ≡ m = cc (h.3) in omega arith) in
+      (h.0, h.1, h.2, h.3, at_other xs k l done other ∙ h.4, h.5, rises_set xs k m (suc h.0) order is (omega arith) h.6)
 
   module _ (closed : Open done → ⊥) where
     -- what is still open after one is done is among the rest
@@ -222,9 +222,8 @@ module _ (old new : Set) (good_old : WellFormed old) (good_new : WellFormed new)
       elim (look_up d.subs f.0.desc.name) [
         | inl is ↦ let bad : sub_came old new None (slice_get image.came 0) ≡ Some v = rw is at f.2 in absurd (cc)
         | inr g ↦
-            let came_j : sub_came old new (Some g.number) (slice_get image.came g.number) ≡ Some v = rw g.found at f.2 in
             let found : find_sub 0 e.subs g.sub.desc.name ≡ Some l = rw g.name_is (sub_found new good_new k l e f.0 at_k f.1) in
-            order_has d.subs image.came g.number l v g.sub g.there (came_from _ g.number v came_j) (ap index found)
+            order_has d.subs image.came g.number l v g.sub g.there (came_from _ g.number v (rw g.found at f.2)) (ap index found)
       ]
 
   abbrev OrderRises : ℕ → List ℕ → Type 0
@@ -249,8 +248,6 @@ module _ (old new : Set) (good_old : WellFormed old) (good_new : WellFormed new)
 
     walk : (j place : ℕ) (subs : List Sub) (cs : List (Option ℕ)) → RestAt d.subs j subs → RestAt image.came j cs
         → ((m : ℕ) → sub_place old (own_cells old d) d.subs (j + m) ≡ sub_place old place subs m) → Walk j subs cs place
-    walk j place [] cs h h' h'' = record { spells = refl; rises = λ m le. tt }
-    walk j place (s ∷ subs) [] h h' h'' = record { spells = refl; rises = λ m le. tt }
     walk j place (s ∷ subs) (None ∷ cs) h h' h'' =
         let more = walk (suc j) (place + sub_size old s) subs cs
         (one_on (slice_get d.subs) j h) (one_on (slice_get image.came) j h') (one_on (sub_place old (own_cells old d) d.subs) j h'') in
@@ -262,7 +259,6 @@ module _ (old new : Set) (good_old : WellFormed old) (good_new : WellFormed new)
         let at_j : slice_get d.subs j ≡ Some s = at_first (slice_get d.subs) j h in
         let at_came = at_first (slice_get image.came) j h' in
         let p = sub_pair j s at_j in
-        let c = came_here j s v at_j at_came p in
         let one = rw (at_first (sub_place old (own_cells old d) d.subs) j h'') at (one_spell j s v at_j at_came p) in
         let bytes = sub_head s.desc.name v ++ zeroed image.numbers (sub_slots old s v image.numbers place) in
         record {
@@ -272,11 +268,12 @@ module _ (old new : Set) (good_old : WellFormed old) (good_new : WellFormed new)
             Some v,
             le,
             rw (p.found, p.there) (back j s at_j p),
-            rw (p.found, at_map came e.subs p.number p.sub p.there, c.came),
+            rw (p.found, at_map came e.subs p.number p.sub p.there, (came_here j s v at_j at_came p).came),
             (v, refl),
             more.rises (suc j) (omega arith),
           );
         }
+    walk j place _ _ h h' h'' = record { spells = refl; rises = λ m le. tt }
 
     walked : Walk 0 d.subs image.came (own_cells old d)
     walked =
@@ -305,15 +302,13 @@ module _ (old new : Set) (good_old : WellFormed old) (good_new : WellFormed new)
       let good_a = device_good old good_old i d at_i in
       let good_b = device_good new good_new k e at_k in
       let sub_cells = flat_map (λ s. desc_cells (struct_cells new) s.desc) e.subs in
-      let same_v : comparing old new d.desc e.desc v part part' ≡ None = rw ready.version same in
       let fits : FitsAt (desc_cells (struct_cells old) d.desc) numbers 0 =
       fits_left (flat_map (λ s. desc_cells (struct_cells old) s.desc) d.subs) (fits_whole (device_cells old d) numbers ready.normal.cells) in
-      let held_own : Holds numbers' 0 own = holds_left rest (holds_whole numbers') in
-      let own_meets = part_meets old new good_old good_new d.desc e.desc v part part' good_a good_b same_v numbers numbers' 0 fits in
+      let own_meets = part_meets old new good_old good_new d.desc e.desc v part part' good_a good_b (rw ready.version same) numbers numbers' 0 fits in
       let own_size = fit_length cells own own_meets.fits in
       let place_is : 0 + length own ≡ own_cells new e = omega arith in
       let held_rest : Holds numbers' (own_cells new e) rest = holds_at place_is (holds_right own (holds_whole numbers')) in
-      let own_reads = own_meets.reads 0 held_own in
+      let own_reads = own_meets.reads 0 (holds_left rest (holds_whole numbers')) in
       let slots = own_slots new e v numbers' in
       let more = came_slots new e numbers' (own_cells new e) e.subs image'.came in
       let subs = subs_read old new good_old good_new d e image numbers' came e.subs (own_cells new e) facts held_rest in
