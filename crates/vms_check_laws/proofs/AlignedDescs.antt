@@ -65,7 +65,7 @@ module _ (sides : Sides) where
   item_aligns (Num k) (Num l) caps caps' d x y pair fits = aligns_number numbers numbers' x y k l caps caps' (kinds_same k l pair.same)
   item_aligns (Equal k z) (Equal l u) caps caps' d x y pair fits = aligns_constant numbers numbers' k l z u (kinds_same k l pair.same)
   item_aligns (Unused m) (Unused r) caps caps' d x y pair fits = aligns_filler numbers numbers' _ r (filler_length numbers m ∙ eqb-true m r pair.same)
-  item_aligns (Struct i) (Struct j) caps caps' d x y pair fits = (table.meets i j pair.low pair.low' pair.structs x fits).aligned y
+  item_aligns (Struct i) (Struct j) caps caps' d x y pair fits = ((table.rows j pair.low').meets i pair.low pair.structs x fits).aligned y
   item_aligns _ _ caps caps' d x y pair fits = absurd (cc)
 
   items_align : (i j : Item) (caps caps' : List ℕ) (d : ℤ) (m most p step x y step' : ℕ) → Pairs two below below' i j → m ≤ most

@@ -7,9 +7,9 @@ use Rattle.vms_check_laws.proofs.Facade.{Cell, times, counted, item_cells, field
 use Rattle.vms_check_laws.proofs.Facade.{defaults, carry_item, carry_items, carry_next, carry_from, entries_left, FitsAt, size_same, elements_fit, highest}
 use Rattle.vms_check_laws.proofs.Facade.{InRange, is_num, FitsCell, ItemBelow, FieldsBelow, desc_cells, numbers_of, is_steady_in, present, AllZip, sym, ◌∙◌}
 use Rattle.vms_check_laws.proofs.Facade.{and_from, and_parts, list_all, list_any, Desc, Rule, Meaning, slots_from, desc_slots, all_hold, Part, position_from}
-use Rattle.vms_check_laws.proofs.Facade.{Comparer, compare_desc, Carrier, carry_desc, Holds, Aligns, or_else_none, Spells, zeroed, Carries, Known, Open}
-use Rattle.vms_check_laws.proofs.Facade.{Reduced, compare_validations, here, is_kept, no_parent, passes, reduced, reduced_holds, same_reduced, truth}
-use Rattle.vms_check_laws.proofs.Facade.{truth_of, either_of}
+use Rattle.vms_check_laws.proofs.Facade.{Comparer, compare_desc, Carrier, carry_desc, Holds, Aligns, or_else_none, Spells, zeroed, Carries, Known, Reduced}
+use Rattle.vms_check_laws.proofs.Facade.{compare_validations, here, is_kept, no_parent, passes, reduced, reduced_holds, same_reduced, truth, truth_of}
+use Rattle.vms_check_laws.proofs.Facade.{either_of}
 use Rattle.vms_check_laws.proofs.Segments.{fits_left, fits_right, fits_at, holds_at, carries_append, spells_split, behind_first, aligns_append, aligns_rule}
 use Rattle.vms_check_laws.proofs.Segments.{carries_rule}
 use Rattle.vms_check_laws.proofs.Premises.{kinds_same, Matched, decoded, OldFields, NewFields, DefaultsGood, ItemDefault, Sides, fields_below, FitCells}
@@ -76,7 +76,7 @@ module _ (sides : Sides) where
       let z : p + 0 ≡ p = omega arith in
       let f : FitsCell (record { kind = k; capacities = caps; default = d }) (get_or numbers p (pos 0)) = rw (z) at (fits.each 0 (omega arith)) in
       number_fits _ k l caps caps' d' _ refl good.0 f.0 (λ same. follow k refl refl (get_or numbers p (pos 0)) f.0.1 f.1)
-  fit_item (Struct i) (Struct j) caps caps' d d' p below_a below_b none good fits follow = (table.meets i j below_a below_b none p fits).fits
+  fit_item (Struct i) (Struct j) caps caps' d d' p below_a below_b none good fits follow = ((table.rows j below_b).meets i below_a none p fits).fits
   fit_item _ j caps caps' d d' p below_a below_b none good fits follow = fallback_fits j caps' d' good
 
   fit_items : (i j : Item) (caps caps' : List ℕ) (d d' : ℤ) (m most most' q st q' st' p : ℕ) → m ≤ most → ItemBelow below i → ItemBelow below' j
@@ -122,7 +122,7 @@ module _ (sides : Sides) where
       → FitCells (cells_from news b.fields i gs) (carry_from cs olds news numbers own_number v w at b.fields i gs es)
   fit_from i q [] es lt good pairs = tt
   fit_from i q (g ∷ gs) es lt good pairs =
-      let here = fit_next i q g _ es _ lt.0 (good_item news below' g.item _ g.default table.good lt.0 good.0) pairs in
+      let here = fit_next i q g _ es _ lt.0 (good_item news below' g.item _ g.default (λ j l. (table.rows j l).good) lt.0 good.0) pairs in
       fit_append _ _ _ _ here.0 (fit_from (suc i) _ gs _ lt.1 good.1 here.1)
 
   -- each pair's numbers follow

@@ -70,7 +70,7 @@ module _ (sides : Sides) where
   item_sized : (i j : Item) (d : ℤ) (k : ℕ) → ItemBelow below' j → length (one_item i j d k) ≡ new_size j
   item_sized (Num k) (Num l) d p lt =
       elim (same_kind k l) as (λ c. length (if c then get_or numbers p (pos 0) ∷ [] else d ∷ []) ≡ 1) [ true ↦ refl | false ↦ refl ]
-  item_sized (Struct i) (Struct j) d p lt = table.sized j i p lt
+  item_sized (Struct i) (Struct j) d p lt = (table.rows j lt).sized i p
   item_sized _ (Struct j) d p lt = defaults_size _
   item_sized _ _ d p lt = refl
 
@@ -189,7 +189,7 @@ module _ (sides : Sides) where
     carries = carries_filler numbers numbers' (Filler m ∷ []) r (filler_length numbers m ∙ eqb-true m r pair.same);
     settled = settled_empty _ y [] [] refl;
   }
-  item_reads (Struct i) (Struct j) caps caps' d d' x y pair constant fits held = (table.meets i j pair.low pair.low' pair.structs x fits).reads y held
+  item_reads (Struct i) (Struct j) caps caps' d d' x y pair constant fits held = ((table.rows j pair.low').meets i pair.low pair.structs x fits).reads y held
   item_reads _ _ caps caps' d d' x y pair constant fits held = absurd (cc)
 
   items_read : (i j : Item) (caps caps' : List ℕ) (d d' : ℤ) (m most most' p p' step step' x y : ℕ) → Pairs two below below' i j → same_constant i j ≡ true
