@@ -21,9 +21,7 @@ HasArray by most [] = ⊥
 HasArray by most (f ∷ fs) = (f.count ≡ Counted by most) ⊎ HasArray by most fs
 
 counted_head : (P : ℕ → Type 0) (by most : ℕ) (f : Field) (fs : List Field) → f.count ≡ Counted by most → AllByRecursion P (counted by (f ∷ fs)) → P most
-counted_head P by most f fs e h =
-    let m : AllByRecursion P (most ∷ counted by fs) = rw (e, eq-eqb by by refl) at h in
-    m.0
+counted_head P by most f fs e h = (rw (e, eq-eqb by by refl) at h).0
 
 pub counted_has : (P : ℕ → Type 0) (by most : ℕ) (fs : List Field) → HasArray by most fs → AllByRecursion P (counted by fs) → P most
 counted_has P by most [] has h = absurd has
@@ -65,7 +63,7 @@ IsCounting _ = ⊥
 
 below_cap : (w : ℕ) (z : ℤ) (most : ℕ) → pos 0 ≤ℤ z → z ≤ℤ pos most → residue w z ≤ most
 below_cap w (pos m) most low high = let h : m ≤ most = omega (arith, ints) in omega (arith, mod-le m (2 ^ (8 * w)))
-below_cap w (negsuc m) most low high = absurd (omega (arith, ints))
+below_cap w (negsuc m) most low high = absurd (omega arith)
 
 counting_below : (item : Item) (caps : List ℕ) (d z : ℤ) (most : ℕ) → IsCounting item
     → FitsCell (record { kind = kind_of item; capacities = caps; default = d }) z → z ≤ℤ pos most → residue (width (kind_of item)) z ≤ most
@@ -86,8 +84,7 @@ pub count_fits : (cs : List (List Cell)) (all : List Field) (numbers : List ℤ)
 count_fits cs all numbers at by most c has fits =
     let s = single_at cs all all 0 by numbers at c.field c.stands c.steady fits in
     let z : 0 + by ≡ by = omega arith in
-    let caps : AllByRecursion (λ m. s.number ≤ℤ pos m) (counted by all) = rw (z) at s.fits.1 in
-    let high = counted_has (λ m. s.number ≤ℤ pos m) by most all has caps in
+    let high = counted_has (λ m. s.number ≤ℤ pos m) by most all has (rw (z) at s.fits.1) in
     rw s.is (counting_below c.field.item _ c.field.default s.number most c.kind s.fits high)
 
 -- ---- what old's fields need, without numbers
@@ -235,8 +232,7 @@ module _ (sides : Sides) where
   absent_array : (z : ℤ) (j n most : ℕ) (g : Field) (gs : List Field) → g.count ≡ Counted j most → presence w g.test g.since ≡ None → z ≤ℤ pos n
       → absent_hold w j n (g ∷ gs) ≡ true → z ≤ℤ pos most
   absent_array z j n most g gs is none le h =
-      let at_none : (nat_le n most && absent_hold w j n gs) ≡ true = rw (is, eq-eqb j j refl, none) at h in
-      at_most_more z n most le (leb-true n most (and_parts (nat_le n most) (absent_hold w j n gs) at_none).0)
+      at_most_more z n most le (leb-true n most (and_parts (nat_le n most) (absent_hold w j n gs) (rw (is, eq-eqb j j refl, none) at h)).0)
 
   arrays_rest : (z : ℤ) (j i q : ℕ) (g : Field) (pr : Option (Option Formula)) (fs : List Entry) → FitsArrays z j (entry_of i q g pr ++ fs) → FitsArrays z j fs
   arrays_rest z j i q g None fs h = h

@@ -70,7 +70,7 @@ module _ (sides : Sides) where
   item_sized : (i j : Item) (d : ℤ) (k : ℕ) → ItemBelow below' j → length (one_item i j d k) ≡ new_size j
   item_sized (Num k) (Num l) d p lt =
       elim (same_kind k l) as (λ c. length (if c then get_or numbers p (pos 0) ∷ [] else d ∷ []) ≡ 1) [ true ↦ refl | false ↦ refl ]
-  item_sized (Struct i) (Struct j) d p lt = table.sized j i p lt
+  item_sized (Struct i) (Struct j) d p lt = (table.rows j lt).sized i p
   item_sized _ (Struct j) d p lt = defaults_size _
   item_sized _ _ d p lt = refl
 
@@ -86,8 +86,7 @@ module _ (sides : Sides) where
   next_sized : (i : ℕ) (g : Field) (pr : Option (Option Formula)) (es : List Entry) → ItemBelow below' g.item
       → length (next_field i g pr es) ≡ length (cells_at i g)
   next_sized i g (Some rest) (e ∷ es) lt = field_sized e i g lt
-  next_sized i g None es lt = defaults_size _
-  next_sized i g (Some rest) [] lt = defaults_size _
+  next_sized i g _ _ lt = defaults_size _
 
   pub fields_sized : (i : ℕ) (gs : List Field) (es : List Entry) → FieldsBelow below' gs → length (all_fields i gs es) ≡ length (cells_from news b.fields i gs)
   fields_sized i [] es lt = refl
@@ -190,7 +189,7 @@ module _ (sides : Sides) where
     carries = carries_filler numbers numbers' (Filler m ∷ []) r (filler_length numbers m ∙ eqb-true m r pair.same);
     settled = settled_empty _ y [] [] refl;
   }
-  item_reads (Struct i) (Struct j) caps caps' d d' x y pair constant fits held = (table.meets i j pair.low pair.low' pair.structs x fits).reads y held
+  item_reads (Struct i) (Struct j) caps caps' d d' x y pair constant fits held = ((table.rows j pair.low').meets i pair.low pair.structs x fits).reads y held
   item_reads _ _ caps caps' d d' x y pair constant fits held = absurd (cc)
 
   items_read : (i j : Item) (caps caps' : List ℕ) (d d' : ℤ) (m most most' p p' step step' x y : ℕ) → Pairs two below below' i j → same_constant i j ≡ true
@@ -231,7 +230,7 @@ module _ (sides : Sides) where
         → elements_of c own ≡ elements_of d own'
     same_elements One One agree fits named same room = refl
     same_elements (Fixed p) (Fixed q) agree fits named same room = eqb-true p q same
-    same_elements (Counted by most) (Counted by' most') agree fits named same room = omega (arith, fits, agree by by' named same, leb-true most most' room)
+    same_elements (Counted by most) (Counted by' most') agree fits named same room = omega (arith, agree by by' named same, leb-true most most' room)
     same_elements _ _ agree fits named same room = absurd (cc)
 
     elements_room : (c d : Count) → same_count o n c d ≡ true → holds_as_much c d ≡ true → elements_of c own ≤ capacity_of d
@@ -298,8 +297,7 @@ module _ (sides : Sides) where
         let le = if_least t _ _ (elements_fit e.field.count own) in
         let le' = if_least t _ _ (elements_room e.field.count f.field.count m.count m.room) in
         let pair : Pairs two below below' e.field.item f.field.item = record { same = m.item; structs = p.good.structs; low = p.old.item; low' = p.new.item } in
-        let held' : Holds numbers' (at' + f.place) (carried_if e f t) = rw is at held in
-        rw is (items_read e.field.item f.field.item _ _ e.field.default f.field.default _ _ _ 0 0 0 0 _ _ pair m.constant le le' p.fits held')
+        rw is (items_read e.field.item f.field.item _ _ e.field.default f.field.default _ _ _ 0 0 0 0 _ _ pair m.constant le le' p.fits (rw is at held))
 
     pub pair_reads : (e f : Entry) → Opposite e f → Holds numbers' (at' + f.place) (one_field e f.field)
         → ReadsHere e f (slots_at ms a.fields v own numbers at e.index e.place e.field) (slots_at ns b.fields w own' numbers' at' f.index f.place f.field)

@@ -170,10 +170,9 @@ module _ (old new : Set) (good_old : WellFormed old) (good_new : WellFormed new)
         let goes = sub_goes w.m p.l w.sub p.t h.version w.there p.at_l (versions.subs w.m w.sub h.version w.there is_come) in
         let pair = goes.paired.pairs w.c k p.here in
         let back : find_sub 0 d.subs p.t.desc.name ≡ Some w.m = rw (← p.name_is) (sub_found old good_old i w.m d w.sub at_i w.there) in
-        let has_here : has_cell (sub_slots old w.sub h.version numbers (place w.m)) (place w.m + w.c) ≡ true = rw (← w.is, ← same, ← sub_same) h.has in
         let segment : carried p.t ≡ carrying old new numbers h.version w.sub.desc p.t.desc (place w.m) = rw (back, w.there, is_come) in
         let k_is = pair.is in
-        rw (k_is, rest_at p.l p.t pair.r p.at_l pair.inside, segment, goes.taken w.c pair.r (rw (← k_is) p.here) has_here, w.is)
+        rw (k_is, rest_at p.l p.t pair.r p.at_l pair.inside, segment, goes.taken w.c pair.r (rw (← k_is) p.here) (rw (← w.is, ← same, ← sub_same) h.has), w.is)
 
     taken : (c k : ℕ) → slice_get (ps ++ qs) c ≡ Some (Some k) → has c ≡ true → (c < length ps) ⊎ IsBehind (length ps) c
         → get_or whole k (pos 0) ≡ get_or numbers c (pos 0)
@@ -215,10 +214,8 @@ module _ (old new : Set) (good_old : WellFormed old) (good_new : WellFormed new)
         let inside : c < sub_size old h.s = (let i = slice_get_within _ c (Some (place' l + r)) f in omega arith) in
         let at = length ps + (part.q + c) in
         let c_is : place h.m + c ≡ at = omega (arith, own_goes.paired.long) in
-        let there : slice_get (ps ++ qs) at ≡ Some (Some (place' l + r)) =
-        at_right ps qs (part.q + c) ∙ part.at c inside ∙ rw (named_is h.s t l at_l h.name_is) f in
         rw c_is (part_apart old d numbers (λ xs. has_cell xs at ≡ false) (none_in_both at) (own_cells old d) d.subs image.came
-        (parts_none at (none at there)).1 h.m h.s h.v h.at_m h.is_come)))
+        (parts_none at (none at (at_right ps qs (part.q + c) ∙ part.at c inside ∙ rw (named_is h.s t l at_l h.name_is) f))).1 h.m h.s h.v h.at_m h.is_come)))
 
     other_sub : (l : ℕ) (t : Sub) (r : ℕ) → slice_get e.subs l ≡ Some t → r < sub_size new t → NoneHas (place' l + r)
         → get_or whole (place' l + r) (pos 0) ≡ (get_or (device_cells new e) (place' l + r) no_cell).default

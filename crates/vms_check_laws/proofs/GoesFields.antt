@@ -73,10 +73,9 @@ module _ (structs : List Pairer) (cs : List Carrier) (ms : List Meaning) (y : Li
       other : (r : ℕ) → r < 1 → ((c : ℕ) → slice_get (Some at' ∷ []) c ≡ Some (Some (at' + r)) → has_cell (Number at l caps ∷ []) (at + c) ≡ false)
           → get_or (get_or numbers at (pos 0) ∷ []) r (pos 0) ≡ (get_or (one_cell m caps' d') r no_cell).default
       other r lt f =
-          let k_is : at' ≡ at' + r = omega arith in
           let z : at + 0 ≡ at = omega arith in
           let has : has_cell (Number at l caps ∷ []) (at + 0) ≡ true = rw (z, eq-eqb at at refl) in
-          absurd (cc (has, f 0 (ap (λ i. Some (Some i)) k_is)))
+          absurd (cc (has, f 0 (ap (λ i. Some (Some i)) (omega arith))))
     one_goes l m caps caps' d d' at at' false same w = goes_alone 1 refl w refl
 
     item_goes : (a b : Item) (caps caps' : List ℕ) (d d' : ℤ) (at at' : ℕ) → ItemBelow k a → ItemBelow k' b

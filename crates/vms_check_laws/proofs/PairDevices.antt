@@ -107,14 +107,13 @@ module _ (old new : Set) (good_old : WellFormed old) (good_new : WellFormed new)
       let w = y.stands in
       let same : v.m ≡ w.m = distinct v.m w.m v.sub w.sub v.there w.there (names_of v.sub w.sub v.c w.c k x.pair y.pair) in
       let one : v.sub ≡ w.sub = cc in
-      let cells_same : v.c ≡ w.c = (one_sub w.m w.sub w.there).once v.c w.c k (rw one at v.here) w.here in
-      omega (arith, ap (sub_place old (own_cells old d) d.subs) same)
+      omega (arith, (one_sub w.m w.sub w.there).once v.c w.c k (rw one at v.here) w.here, ap (sub_place old (own_cells old d) d.subs) same)
 
   kinds : (c k : ℕ) → slice_get (ps ++ qs) c ≡ Some (Some k) → (c < length ps) ⊎ IsBehind (length ps) c
       → (k < length (device_cells new e)) × ((get_or (device_cells old d) c no_cell).kind ≡ (get_or (device_cells new e) k no_cell).kind)
   kinds c k f (inl lt) =
       let p = own_pair c k lt f in
-      let k_is : k ≡ p.r = omega (arith, p.is) in
+      let k_is : k ≡ p.r = omega arith in
       let before = get_or_append_left xs (flat_map old_cells d.subs) no_cell c (omega (arith, own.long)) in
       let after = get_or_append_left us (flat_map new_cells e.subs) no_cell p.r p.inside in
       rw k_is (omega (arith, length-append us (flat_map new_cells e.subs)), rw (before, after) p.kind)

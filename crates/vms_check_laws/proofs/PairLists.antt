@@ -48,9 +48,8 @@ at_right [] ys c = let z : 0 + c ≡ c = omega arith in ap (slice_get ys) z
 at_right (x ∷ xs) ys c = let z : suc (length xs) + c ≡ suc (length xs + c) = omega arith in ap (slice_get (x ∷ xs ++ ys)) z ∙ at_right xs ys c
 
 pub at_none : (n c k : ℕ) → slice_get (replicate n None) c ≡ Some (Some k) → ⊥
-at_none zero c k e = cc
-at_none (suc n) zero k e = cc
 at_none (suc n) (suc c) k e = at_none n c k e
+at_none _ _ k e = cc
 
 -- ---- joined
 
@@ -250,8 +249,7 @@ module _ (cells_a cells_b others_a others_b : List Cell) (numbers : List ℤ) (x
       let pair = g.paired.pairs b.more (at' + r) place in
       let r_is : r ≡ length s + pair.r = omega arith in
       let c_is : at + c ≡ next + b.more = omega arith in
-      let has : has_cell ys (next + b.more) ≡ true = rw (has_second (at + c) (omega arith), c_is) at f in
-      rw (r_is, get_or-append-add s t pair.r (pos 0), c_is) (g.taken b.more pair.r (rw (← pair.is) place) has)
+      rw (r_is, get_or-append-add s t pair.r (pos 0), c_is) (g.taken b.more pair.r (rw (← pair.is) place) (rw (has_second (at + c) (omega arith), c_is) at f))
 
   other_at : (r : ℕ) → r < length (others_a ++ others_b) → ((c : ℕ) → HasIt c r → has_cell (xs ++ ys) (at + c) ≡ false)
       → (r < length others_a) ⊎ IsBehind (length others_a) r → get_or (s ++ t) r (pos 0) ≡ (get_or (others_a ++ others_b) r no_cell).default
