@@ -1,4 +1,4 @@
-use Rattle.vms_counter.proofs.Facade.{ℕ, List, Option, Some, None, map, sym, subst, described, state_of, loads, Counters, State, refusal_of}
+use Rattle.vms_counter.proofs.Facade.{Some, None, described, loads}
 use Rattle.vms_counter.proofs.FoundLemmas.{neither_found, second_found, tries_by}
 use Rattle.vms_counter.proofs.finding.show_last.Goals as goal
 
@@ -7,8 +7,7 @@ returns-in-Some-clause-found c =
     let t = c.requires.trial in
     let m = c.args.trial.now.mismatch in
     let r = c.in-Some.refusal in
-    subst (λ (k : Option (List ℕ)). Counters (described c.args.trial.now.old.now) (loads c.args.new.now)
-    (State m k (map state_of c.args.images.items) (refusal_of r))) (sym t.name)
+    rw t.name
     (second_found (described c.args.trial.now.old.now) (loads c.args.new.now) m t.first _ r c.requires.tried c.requires.second
     (tries_by _ _ _ _ c.deref.result.now c.args.images.items _ (Some r) t.name c.deref.ensures.value c.in-Some.is c.in_ok-refusal.ensures.tries))
 

@@ -1,4 +1,4 @@
-use Rattle.vms_counter.proofs.Facade.{sym, ap, ◌∙◌, Set, described, loads, raised, states_of}
+use Rattle.vms_counter.proofs.Facade.{described, loads}
 use Rattle.vms_counter.proofs.FoundLemmas.{none_found}
 use Rattle.vms_counter.proofs.finding.show_second.Goals as goal
 
@@ -7,4 +7,4 @@ returns-in-None-clause-found c =
     let trial = c.args.trial.now in
     let old = described trial.old.now in
     none_found old (loads c.args.new.now) trial.mismatch c.requires.trial.first c.requires.tried
-    (ap (λ (s : Set). raised old s trial.mismatch) (sym c.set.ensures) ∙ sym c.in_ok-raised.ensures.states ∙ ap states_of c.in-None.is)
+    (rw (← c.set.ensures, ← c.in_ok-raised.ensures.states, c.in-None.is))
