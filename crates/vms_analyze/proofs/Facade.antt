@@ -132,10 +132,9 @@ pub use Rattle.vms_selfdesc.specs.Drafts.{AreSound, IsSound}
 pub use Rattle.vms_selfdesc.specs.Entries.{Entry, entries_of, entry_of, part_entries}
 pub use Rattle.vms_selfdesc.specs.Tree.{described_text, described_tree, device_trees, entry_tree, list_tree, natural, sub_trees}
 pub use Rattle.vms_values_laws.proofs.AllCome.{short_are}
-pub use Rattle.vms_values_laws.proofs.Numbers.{AreShort, of_numbers}
-pub use Rattle.vms_values_laws.proofs.ReadyBack.{text_says}
-pub use Rattle.vms_values_laws.proofs.ReadyParts.{AreGood, fine_both, good_both}
-pub use Rattle.vms_values_laws.proofs.Rights.{IsFitting, begins_itself, fine_rest, line_number, reason_fits}
+pub use Rattle.vms_values_laws.proofs.SecondPass.{AreShort, of_numbers}
+pub use Rattle.vms_values_laws.proofs.ReadyParts.{text_says}
+pub use Rattle.vms_values_laws.proofs.Rights.{AreGood, IsFitting, begins_itself, fine_both, fine_rest, good_both, line_number, reason_fits}
 pub use Rattle.vms_values_laws.proofs.SaidLaws.{all_both}
 pub use Rattle.byteorder.specs.Endian.{big_number}
 pub use Rattle.json.specs.Lex.{tokens}

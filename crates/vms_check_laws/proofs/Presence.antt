@@ -16,8 +16,7 @@ there (Some (Some t)) v own parent = truth t v own parent
 
 left_there : (r : Reduced) (v : ℕ) (own parent : ℕ → ℕ) → there (left_of r) v own parent ≡ truth_of r v own parent
 left_there (Known true) v own parent = refl
-left_there (Known false) v own parent = refl
-left_there (Open t) v own parent = refl
+left_there _ v own parent = refl
 
 since_there : (b : Bool) (v : ℕ) (own parent : ℕ → ℕ) → there (if b then Some None else None) v own parent ≡ b
 since_there true v own parent = refl

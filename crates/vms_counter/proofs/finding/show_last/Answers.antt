@@ -1,4 +1,4 @@
-use Rattle.vms_counter.proofs.Facade.{ℕ, List, Option, Some, None, map, sym, subst, described, state_of, loads, Counters, State, refusal_of}
+use Rattle.vms_counter.proofs.Facade.{Some, None, described, loads}
 use Rattle.vms_counter.proofs.FoundLemmas.{neither_found, second_found, tries_by}
 use Rattle.vms_counter.proofs.finding.show_last.Goals as goal
 
@@ -7,15 +7,18 @@ returns-in-Some-clause-right c =
     let t = c.requires.failed.shared in
     let m = c.args.trial.now.mismatch in
     let r = c.in-Some.refusal in
-    let counters = subst (λ (k : Option (List ℕ)). Counters (described c.args.trial.now.old.now) (loads c.args.new.now)
-    (State m k (map state_of c.args.images.items) (refusal_of r))) (sym t.name)
-    (second_found (described c.args.trial.now.old.now) (loads c.args.new.now) m t.first _ r c.requires.failed.first c.requires.second
-    (tries_by _ _ _ _ c.deref.result.now c.args.images.items _ (Some r) t.name c.deref.ensures.value c.in-Some.is c.in_ok-refusal.ensures.tries)) in
-    record { counters = counters; of = (t.inside, c.requires.of) }
+    record {
+      counters = rw t.name (second_found (described c.args.trial.now.old.now) (loads c.args.new.now) m t.first _ r c.requires.failed.first c.requires.second
+          (tries_by _ _ _ _ c.deref.result.now c.args.images.items _ (Some r) t.name c.deref.ensures.value c.in-Some.is c.in_ok-refusal.ensures.tries));
+      of = (t.inside, c.requires.of);
+    }
 
 pub returns-in-None-clause-right : goal.returns-in-None-clause-right
 returns-in-None-clause-right c =
-    let counters = neither_found (described c.args.trial.now.old.now)
-    (loads c.args.new.now) c.args.trial.now.mismatch c.requires.failed.shared.first _ c.requires.failed.first c.requires.second
-    (tries_by _ _ _ _ c.deref.result.now c.args.images.items _ None c.requires.failed.shared.name c.deref.ensures.value c.in-None.is c.in_ok-refusal.ensures.tries) in
-    record { counters = counters; of = tt }
+    let t = c.requires.failed.shared in
+    record {
+      counters = neither_found (described c.args.trial.now.old.now)
+          (loads c.args.new.now) c.args.trial.now.mismatch t.first _ c.requires.failed.first c.requires.second
+          (tries_by _ _ _ _ c.deref.result.now c.args.images.items _ None t.name c.deref.ensures.value c.in-None.is c.in_ok-refusal.ensures.tries);
+      of = tt;
+    }
