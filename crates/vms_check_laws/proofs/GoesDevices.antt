@@ -29,14 +29,8 @@ module _ (old new : Set) (good_old : WellFormed old) (good_new : WellFormed new)
   abbrev place' : ℕ → ℕ
   place' l = sub_place new (own_cells new e) e.subs l
 
-  abbrev old_cells : Sub → List Cell
-  old_cells s = desc_cells (struct_cells old) s.desc
-
   abbrev new_cells : Sub → List Cell
   new_cells s = desc_cells (struct_cells new) s.desc
-
-  abbrev new_own : List Cell
-  new_own = desc_cells (struct_cells new) e.desc
 
   -- what is in the bytes, and what is carried
   abbrev has : ℕ → Bool
@@ -67,7 +61,7 @@ module _ (old new : Set) (good_old : WellFormed old) (good_new : WellFormed new)
 
   abbrev SubGoes : ℕ → ℕ → Sub → Sub → ℕ → Type 0
   SubGoes m l s t v =
-      Goes (old_cells s) (new_cells t) numbers (sub_slots old s v numbers (place m)) (place m) (place' l)
+      Goes (desc_cells (struct_cells old) s.desc) (new_cells t) numbers (sub_slots old s v numbers (place m)) (place m) (place' l)
       (part_partners old new s.desc.version s.desc t.desc (place' l)) (carrying old new numbers v s.desc t.desc (place m))
 
   sub_goes : (m l : ℕ) (s t : Sub) (v : ℕ) → slice_get d.subs m ≡ Some s → slice_get e.subs l ≡ Some t → v ≡ s.desc.version → SubGoes m l s t v
@@ -151,7 +145,7 @@ module _ (old new : Set) (good_old : WellFormed old) (good_new : WellFormed new)
 
     paired_sub : (s : Sub) (c k : ℕ) → slice_get (named_partners old new e s) c ≡ Some (Some k) → PairedSub s c k
     paired_sub s c k h = elim (look_up e.subs s.desc.name) [
-      | inl none ↦ absurd (at_none (length (old_cells s)) c k (rw none at h))
+      | inl none ↦ absurd (at_none (length (desc_cells (struct_cells old) s.desc)) c k (rw none at h))
       | inr f ↦
           let names : s.desc.name ≡ f.sub.desc.name = sym f.name_is in
           record { l = f.number; t = f.sub; at_l = f.there; name_is = names; here = rw (named_is s f.sub f.number f.there names) at h }
@@ -196,14 +190,16 @@ module _ (old new : Set) (good_old : WellFormed old) (good_new : WellFormed new)
         let u : 0 + c ≡ c = omega arith in
         let place_is : slice_get ps c ≡ Some (Some k) = rw z at f in
         rw u (parts_none c (none c (at_left ps qs c (slice_get_within ps c (Some k) place_is) ∙ place_is))).0) in
-        rw (get_or_append_left own_segment rest (pos 0) k (omega (arith, own_goes.long)), get_or_append_left new_own _ no_cell k lt) own
+        rw (get_or_append_left own_segment rest (pos 0) k (omega (arith, own_goes.long)))
+        (rw (get_or_append_left (desc_cells (struct_cells new) e.desc) (flat_map new_cells e.subs) no_cell k lt) own)
 
     default_at : (l : ℕ) (t : Sub) (r : ℕ) → slice_get e.subs l ≡ Some t → r < sub_size new t
         → (get_or (device_cells new e) (place' l + r) no_cell).default ≡ (get_or (new_cells t) r no_cell).default
     default_at l t r at_l lt =
         let h = part_in new new_cells (own_cells new e) e.subs l t (λ m s f. refl) at_l in
         let z : place' l + r ≡ own_cells new e + (h.q + r) = omega arith in
-        rw (z, get_or-append-add new_own (flat_map new_cells e.subs) (h.q + r) no_cell, part_number new new_cells (own_cells new e) e.subs l t h no_cell r lt)
+        rw (z, get_or-append-add (desc_cells (struct_cells new) e.desc) (flat_map new_cells e.subs) (h.q + r) no_cell)
+        (rw (part_number new new_cells (own_cells new e) e.subs l t h no_cell r lt))
 
     other_come : (l : ℕ) (t : Sub) (r : ℕ) → slice_get e.subs l ≡ Some t → r < sub_size new t → NoneHas (place' l + r) → Comes t
         → get_or (carried t) r (pos 0) ≡ (get_or (new_cells t) r no_cell).default
@@ -248,13 +244,11 @@ is_some_of (Some j) k = elim (cases_eq j k) [ inl e ↦ inl (rw e) | inr ne ↦ 
 
 search_in : (ps : List (Option ℕ)) (k : ℕ) → ((c : ℕ) × (slice_get ps c ≡ Some (Some k))) ⊎ ((c : ℕ) → slice_get ps c ≡ Some (Some k) → ⊥)
 search_in [] k = inr (λ c e. cc)
-search_in (o ∷ ps) k = elim (is_some_of o k) [
-  | inl h ↦ inl (0, rw h)
-  | inr h ↦ elim (search_in ps k) [ inl r ↦ inl (suc r.0, r.1) | inr r ↦ inr (none h r) ]
-] where
-  none : (o ≡ Some k → ⊥) → ((c : ℕ) → slice_get ps c ≡ Some (Some k) → ⊥) → (c : ℕ) → slice_get (o ∷ ps) c ≡ Some (Some k) → ⊥
-  none a b zero e = a cc
-  none a b (suc c) e = b c e
+search_in (o ∷ ps) k =
+    elim (is_some_of o k) [ inl h ↦ inl (0, rw h) | inr h ↦ elim (search_in ps k) [ inl r ↦ inl (suc r.0, r.1) | inr r ↦ inr (none h r) ] ] where
+      none : (o ≡ Some k → ⊥) → ((c : ℕ) → slice_get ps c ≡ Some (Some k) → ⊥) → (c : ℕ) → slice_get (o ∷ ps) c ≡ Some (Some k) → ⊥
+      none a b zero e = a cc
+      none a b (suc c) e = b c e
 
 module _ (old new : Set) (good_old : WellFormed old) (good_new : WellFormed new) (i : ℕ) (d e : Device) (there : slice_get old.devices i ≡ Some d)
     (image : Image) where

@@ -16,16 +16,13 @@ module _ (old new : Set) (good_old : WellFormed old) (good_new : WellFormed new)
   abbrev new_cells : Sub → List Cell
   new_cells s = desc_cells (struct_cells new) s.desc
 
-  abbrev place' : ℕ → ℕ
-  place' l = sub_place new (own_cells new e) e.subs l
-
   -- cell c of a subsection and the newer one of number k, which is a cell of subsection l, of the same name
   pub record IsSubPair (s : Sub) (c k : ℕ) : Type 0 where
     pub l : ℕ
     pub t : Sub
     pub there : slice_get e.subs l ≡ Some t
     pub name_is : t.desc.name ≡ s.desc.name
-    pub pair : IsPair (old_cells s) (new_cells t) (place' l) c k
+    pub pair : IsPair (old_cells s) (new_cells t) (sub_place new (own_cells new e) e.subs l) c k
     pub open pair use *
 
   pub record OneSub (s : Sub) (partners : List (Option ℕ)) : Type 0 where
@@ -43,7 +40,7 @@ module _ (old new : Set) (good_old : WellFormed old) (good_new : WellFormed new)
     | inl none ↦ rw none (no_sub s)
     | inr f ↦
         let below = below_of _ s.desc _ (sub_clean old good_old i j d s at_i at_j) in
-        let p = (part_goes old new good_old good_new [] s.desc.version s.desc f.sub.desc 0 (place' f.number) below).paired in
+        let p = (part_goes old new good_old good_new [] s.desc.version s.desc f.sub.desc 0 _ below).paired in
         rw (f.found, f.there)
         (record {
           long = p.long;
