@@ -45,14 +45,11 @@ module _ (sides : Sides) where
   abbrev olds : List (List Cell)
   olds = cells_in ms
 
-  abbrev news : List (List Cell)
-  news = cells_in ns
-
   abbrev own : ℕ → ℕ
   own k = numbers_of olds a numbers at k
 
   abbrev own' : ℕ → ℕ
-  own' k = numbers_of news b numbers' at' k
+  own' k = numbers_of (cells_in ns) b numbers' at' k
 
   abbrev old_size : Item → ℕ
   old_size i = length (item_cells olds i [] (pos 0))
@@ -89,7 +86,7 @@ module _ (sides : Sides) where
       (λ c.
       let s =
       covered_slots ms ns numbers numbers' own own' e.field.item e.field.count f.field.item f.field.count (counted e.index a.fields) (counted f.index b.fields)
-      (at + e.place) (at' + f.place) (old_size e.field.item) (length (item_cells news f.field.item [] (pos 0))) c.covers p.old.single p.new.single in
+      (at + e.place) (at' + f.place) (old_size e.field.item) (length (item_cells (cells_in ns) f.field.item [] (pos 0))) c.covers p.old.single p.new.single in
       (aligns_nil numbers numbers', rw s.1 (aligns_filler numbers numbers' _ s.0 s.2)))
       (λ m t is.
       items_align e.field.item f.field.item _ _ e.field.default _ _ 0 0 _ _ _

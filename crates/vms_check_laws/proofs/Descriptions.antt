@@ -1,15 +1,14 @@
 -- A description on each side: its bytes carry, what isn't in them is at its default, and at one front the newer set
 -- takes exactly the bytes that the older one wrote. Validations that hold in the older set hold in the newer. The carried numbers
 -- fit the cells of the newer set.
-use Rattle.vms_check_laws.proofs.Facade.{◌≤ℤ◌, ◌≡◌, inl, inr, ℕ, zero, suc, ◌+◌, ◌<◌, ◌≤◌, Bool, true, false, List, ◌∷◌, ◌++◌, length, get_or, Option, Some}
-use Rattle.vms_check_laws.proofs.Facade.{None, refl, arith, ℤ, pos, if◌then◌else◌, AllByRecursion, [], cells_in, Kind, Item, Num, Struct, Formula, Field}
-use Rattle.vms_check_laws.proofs.Facade.{Cell, times, counted, item_cells, field_cells, cells_from, Entry, entry_of, present_from, same_kind, pair_structs}
-use Rattle.vms_check_laws.proofs.Facade.{defaults, carry_item, carry_items, carry_next, carry_from, entries_left, FitsAt, size_same, elements_fit, highest}
-use Rattle.vms_check_laws.proofs.Facade.{InRange, is_num, FitsCell, ItemBelow, FieldsBelow, desc_cells, numbers_of, is_steady_in, present, AllZip, sym, ◌∙◌}
-use Rattle.vms_check_laws.proofs.Facade.{and_from, and_parts, list_all, list_any, Desc, Rule, Meaning, slots_from, desc_slots, all_hold, Part, position_from}
-use Rattle.vms_check_laws.proofs.Facade.{Comparer, compare_desc, Carrier, carry_desc, Holds, Aligns, or_else_none, Spells, zeroed, Carries, Known, Reduced}
-use Rattle.vms_check_laws.proofs.Facade.{compare_validations, here, is_kept, no_parent, passes, reduced, reduced_holds, same_reduced, truth, truth_of}
-use Rattle.vms_check_laws.proofs.Facade.{either_of}
+use Rattle.vms_check_laws.proofs.Facade.{◌≤ℤ◌, ◌≡◌, inl, inr, ℕ, zero, suc, ◌+◌, ◌<◌, ◌≤◌, Bool, true, false, List, ◌∷◌, ◌++◌, length, get_or, Option, None}
+use Rattle.vms_check_laws.proofs.Facade.{refl, arith, ℤ, pos, if◌then◌else◌, AllByRecursion, [], cells_in, Kind, Item, Num, Struct, Formula, Field, Cell}
+use Rattle.vms_check_laws.proofs.Facade.{times, counted, item_cells, field_cells, cells_from, Entry, same_kind, pair_structs, defaults, carry_item}
+use Rattle.vms_check_laws.proofs.Facade.{carry_items, carry_from, FitsAt, size_same, elements_fit, highest, InRange, is_num, FitsCell, ItemBelow, FieldsBelow}
+use Rattle.vms_check_laws.proofs.Facade.{desc_cells, numbers_of, is_steady_in, present, AllZip, sym, ◌∙◌, and_from, and_parts, list_all, list_any, Desc, Rule}
+use Rattle.vms_check_laws.proofs.Facade.{Meaning, slots_from, desc_slots, all_hold, Part, position_from, Comparer, compare_desc, Carrier, carry_desc, Holds}
+use Rattle.vms_check_laws.proofs.Facade.{Aligns, or_else_none, Spells, zeroed, Carries, Known, Reduced, compare_validations, here, is_kept, no_parent, passes}
+use Rattle.vms_check_laws.proofs.Facade.{reduced, reduced_holds, same_reduced, truth, truth_of, either_of}
 use Rattle.vms_check_laws.proofs.Segments.{fits_left, fits_right, fits_at, holds_at, carries_append, spells_split, behind_first, aligns_append, aligns_rule}
 use Rattle.vms_check_laws.proofs.Segments.{carries_rule}
 use Rattle.vms_check_laws.proofs.Premises.{kinds_same, Matched, decoded, OldFields, NewFields, DefaultsGood, ItemDefault, Sides, fields_below, FitCells}
@@ -18,7 +17,7 @@ use Rattle.vms_check_laws.proofs.Premises.{AreKnown, Two, Table, Meets, Reads, R
 use Rattle.vms_check_laws.proofs.Presence.{not_covered, Agree, Named, named_left, same_reduced_truth}
 use Rattle.vms_check_laws.proofs.Counts.{caps_follow, IsIndexed, DescGood, indexed}
 use Rattle.vms_check_laws.proofs.PairLists.{if_least, one_cell, settled_more}
-use Rattle.vms_check_laws.proofs.FieldsRead.{linked, agree_from, fields_settle, fields_carry}
+use Rattle.vms_check_laws.proofs.FieldsRead.{linked, agree_from, fields_settle, fields_carry, by_fields}
 use Rattle.vms_check_laws.proofs.AlignedDescs.{Clashes, entries_align, entries_clash, State}
 use Rattle.vms_check_laws.proofs.Positioned.{present_above}
 
@@ -101,53 +100,34 @@ module _ (sides : Sides) where
     pub fits : FitsAt (field_cells olds a.fields e.index e.field) numbers (at + e.place)
     pub follow : Follows e.field.item f.field.item (counted e.index a.fields) (counted f.index b.fields)
 
-  abbrev FitPairs : List Entry → List Entry → Type 0
-  FitPairs es fs = AllZip FitPair es fs
-
-  fit_next : (i q : ℕ) (g : Field) (pr : Option (Option Formula)) (es after : List Entry) → ItemBelow below' g.item
-      → GoodCells (item_cells news g.item (counted i b.fields) g.default) → FitPairs es (entry_of i q g pr ++ after)
-      → FitCells (field_cells news b.fields i g) (carry_next cs olds news numbers own_number v at b.fields i g pr es) × FitPairs
-      (entries_left cs olds news numbers pr es) after
-  fit_next i q g None es after lt good pairs = (fit_defaults _ (good_times _ _ 0 0 good), pairs)
-  fit_next i q g (Some rest) [] after lt good pairs = absurd pairs
-  fit_next i q g (Some rest) (e ∷ es) after lt good pairs =
-      let p = pairs.0 in (
-        fit_items e.field.item g.item _ _ e.field.default g.default _ _ _ 0 0 0 0 _
-            (if_least _ _ _ (elements_fit e.field.count own_number)) p.low lt p.structs good p.fits p.follow,
-        pairs.1,
-      )
-
-  fit_from : (i q : ℕ) (gs : List Field) (es : List Entry) → FieldsBelow below' gs → DefaultsGood b.fields i gs
-      → FitPairs es (present_from news b.fields w i q gs)
-      → FitCells (cells_from news b.fields i gs) (carry_from cs olds news numbers own_number v w at b.fields i gs es)
-  fit_from i q [] es lt good pairs = tt
-  fit_from i q (g ∷ gs) es lt good pairs =
-      let here = fit_next i q g _ es _ lt.0 (good_item news below' g.item _ g.default (λ j l. (table.rows j l).good) lt.0 good.0) pairs in
-      fit_append _ _ _ _ here.0 (fit_from (suc i) _ gs _ lt.1 good.1 here.1)
-
   -- each pair's numbers follow
   module _ (old : OldFields below own_number a.fields) (new : NewFields below' (is_steady_in b) b.fields) (fits : FitsAt (desc_cells olds a) numbers at)
       (all : List Entry) (met : AllZip (Met sides) all (present news b w)) where
-    fit_pairs : (es fs : List Entry) → AllZip (λ e f. Met sides e f × IsIndexed o n e f) es fs → FitPairs es fs
-    fit_pairs [] [] h = tt
-    fit_pairs (e ∷ es) (f ∷ fs) h =
-        let here : FitPair e f = record {
-          structs = h.0.0.good.structs;
-          low = (old e.index e.field h.0.0.known.field).item;
-          fits = h.0.0.known.fits fits;
-          follow = λ k is num z high caps.
-              let m : Matched two e f = elim (decoded two e f h.0.0.good) [
-                | inl c ↦ absurd (not_covered e.field.item e.field.count f.field.item c.covers num)
-                | inr m ↦ m
-              ] in
-              caps_follow sides k all e f z is h.0.1 m high caps met new;
-        } in
-        (here, fit_pairs es fs h.1)
-    fit_pairs _ _ h = absurd h
+    fit_pair : (e f : Entry) → Met sides e f × IsIndexed o n e f → FitPair e f
+    fit_pair e f h = record {
+      structs = h.0.good.structs;
+      low = (old e.index e.field h.0.known.field).item;
+      fits = h.0.known.fits fits;
+      follow = λ k is num z high caps.
+          let m : Matched two e f = elim (decoded two e f h.0.good) [
+            | inl c ↦ absurd (not_covered e.field.item e.field.count f.field.item c.covers num)
+            | inr m ↦ m
+          ] in
+          caps_follow sides k all e f z is h.1 m high caps met new;
+    }
 
     pub fields_fit : DefaultsGood b.fields 0 b.fields → AllZip (λ e f. Met sides e f × IsIndexed o n e f) all (present news b w)
         → FitCells (desc_cells news b) (carry_from cs olds news numbers own_number v w at b.fields 0 b.fields all)
-    fields_fit good h = fit_from 0 0 b.fields all (fields_below _ b.fields (λ j f e. (new j f e).item)) good (fit_pairs all _ h)
+    fields_fit good h = by_fields sides _ (λ i p gs es fs zs. DefaultsGood b.fields i gs → FitCells (cells_from news b.fields i gs) zs) (λ i p good. tt)
+        (λ i p g gs es fs zs lt more good.
+        let here = good_item news below' g.item _ g.default (λ j l. (table.rows j l).good) lt good.0 in
+        fit_append _ _ _ _ (fit_defaults _ (good_times _ _ 0 0 here)) (more good.1))
+        (λ i p g gs rest e es fs zs lt h more good.
+        let here = good_item news below' g.item _ g.default (λ j l. (table.rows j l).good) lt good.0 in
+        let q = fit_pair e _ h in
+        fit_append _ _ _ _ (fit_items e.field.item g.item _ _ e.field.default g.default _ _ _ 0 0 0 0 _ (if_least _ _ _ (elements_fit e.field.count own_number))
+        q.low lt q.structs here q.fits q.follow) (more good.1))
+        0 0 b.fields all (fields_below _ b.fields (λ j f e. (new j f e).item)) h good
 
 -- ---- validations
 

@@ -67,7 +67,7 @@ pub use Rattle.vms_stream.specs.Streams.{HasSection, IsSection, IsStream, Sectio
 pub use Rattle.vms_check.proofs.ListLaws.{passes}
 pub use Rattle.vms_check.proofs.ReducedLaws.{IfOpen, IsByParts, open_reduced, reduced_holds}
 pub use Rattle.vms_check.specs.Carrying.{Carrier, carried_at, carried_device, carried_sub, carrier_of, carriers, carry_desc, carry_field, carry_from}
-pub use Rattle.vms_check.specs.Carrying.{carry_item, carry_items, carry_next, carry_sub, carrying, default_field, defaults, entries_left, no_carrier, no_image}
+pub use Rattle.vms_check.specs.Carrying.{carry_item, carry_items, carry_next, carrying, default_field, defaults, entries_left, no_carrier, no_image}
 pub use Rattle.vms_check.specs.Carrying.{sub_came}
 unfoldable pub use Rattle.vms_check.specs.Carrying.{carried}
 pub use Rattle.vms_check.specs.Comparing.{Comparer, Compatible, Entry, absent_hold, bound, compare_desc, compare_device, compare_fields, compare_sub}

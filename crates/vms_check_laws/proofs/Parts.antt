@@ -122,12 +122,6 @@ module _ (old new : Set) (good_old : WellFormed old) (good_new : WellFormed new)
   abbrev ns : List Meaning
   ns = meanings new.structs (length new.structs)
 
-  abbrev ks : (x y : List (List Cell)) → List Comparer
-  ks x y = comparers x y old.structs new.structs (length new.structs)
-
-  abbrev cs : (x y : List (List Cell)) → List Carrier
-  cs x y = carriers x y old.structs new.structs (length new.structs)
-
   -- the cells of structures, made either way
   to_meanings : (P : (x y : List (List Cell)) → Type 0) → P (struct_cells old) (struct_cells new) → P (cells_in ms) (cells_in ns)
   to_meanings P h = rw (cells_first old.structs _, cells_first new.structs _) h
@@ -136,7 +130,8 @@ module _ (old new : Set) (good_old : WellFormed old) (good_new : WellFormed new)
   to_cells P h = rw (← (cells_first old.structs _), ← (cells_first new.structs _)) h
 
   pub all_tables : (numbers numbers' : List ℤ)
-      → Table (ks (cells_in ms) (cells_in ns)) (cs (cells_in ms) (cells_in ns)) ms ns numbers numbers' (length old.structs) (length new.structs)
+      → Table (rules_to old.structs new.structs (length new.structs)) (carries_to old.structs new.structs (length new.structs)) ms ns numbers numbers'
+      (length old.structs) (length new.structs)
   all_tables numbers numbers' =
       tables old.structs new.structs numbers numbers' (structs_good old good_old) (structs_good new good_new) (length new.structs) (omega arith)
 
@@ -154,9 +149,9 @@ module _ (old new : Set) (good_old : WellFormed old) (good_new : WellFormed new)
   part_meets a b v part part' good_a good_b same numbers numbers' at fits =
       let fits_in = to_meanings (λ x y. FitsAt (desc_cells x a) numbers at) fits in
       to_cells (λ x y. Meets numbers numbers' (desc_slots ms a v numbers at) (λ q. desc_slots ns b v numbers' q) (desc_cells y b)
-      (carry_desc (cs x y) x y numbers v v a b at))
+      (carry_desc (carriers x y old.structs new.structs (length new.structs)) x y numbers v v a b at))
       (desc_meets (all_tables numbers numbers') a b v v part part' at (old_fields _ _ a.fields numbers at fits_in good_a.old) good_b fits_in
-      (to_meanings (λ x y. compare_desc (ks x y) x y a b v v part part' ≡ None) same))
+      (to_meanings (λ x y. compare_desc (comparers x y old.structs new.structs (length new.structs)) x y a b v v part part' ≡ None) same))
 
   pub devices_clash : (i k : ℕ) (d e : Device) → slice_get old.devices i ≡ Some d → slice_get new.devices k ≡ Some e → (v : ℕ) (part part' : Part)
       (numbers numbers' : List ℤ) → ClashRefuses old new d e v part part' numbers numbers' (struct_cells old) (struct_cells new)

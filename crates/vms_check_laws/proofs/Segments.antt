@@ -33,9 +33,7 @@ pub holds_at : {numbers : List ℤ} {at at' : ℕ} {xs : List ℤ} → at ≡ at
 holds_at e h = rw e at h
 
 pub fits_left : {xs : List Cell} (ys : List Cell) {numbers : List ℤ} {at : ℕ} → FitsAt (xs ++ ys) numbers at → FitsAt xs numbers at
-fits_left {xs = xs} ys h = record {
-  each = λ c lt. rw (get_or_append_left xs ys no_cell c lt) at (h.each c (omega (arith, length-append xs ys)));
-}
+fits_left {xs = xs} ys h = record { each = λ c lt. rw (get_or_append_left xs ys no_cell c lt) at (h.each c (omega (arith, length-append xs ys))) }
 
 pub fits_right : (xs : List Cell) {ys : List Cell} {numbers : List ℤ} {at : ℕ} → FitsAt (xs ++ ys) numbers at → FitsAt ys numbers (at + length xs)
 fits_right xs {ys = ys} {at = at} h = record {

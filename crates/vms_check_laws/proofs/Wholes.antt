@@ -1,17 +1,16 @@
 -- A device with subsections: what the older set writes is a section of the newer with the carried image. An order that names each remaining
 -- one, and none twice, takes each once.
 use Rattle.vms_check_laws.proofs.Facade.{◌≡◌, ◌⊎◌, inl, inr, ℕ, zero, suc, Bool, true, false, cases_eq, slice_get-map, List, ◌∷◌, slice_set, Option, Some}
-use Rattle.vms_check_laws.proofs.Facade.{None, refl, sym, ap, ◌∙◌, slice_get, [], ◌+◌, ◌<◌, ◌++◌, length, map, get_or, arith, ℤ, pos, flat_map}
-use Rattle.vms_check_laws.proofs.Facade.{slice_get_within, AreAll, ComesOnce, AllCame, at_other, Part, first_answer, Sub, Device, Set, Slot, no_cell}
-use Rattle.vms_check_laws.proofs.Facade.{struct_cells, desc_cells, device_cells, Image, zeroed, own_slots, own_cells, sub_slots, sub_place, came_slots}
-use Rattle.vms_check_laws.proofs.Facade.{has_cell, IsSection, SubSpells, SubsSpell, sub_head, written_subs, written_section, find_sub, index, is_version_of}
-use Rattle.vms_check_laws.proofs.Facade.{WellFormed, comparing, compare_sub, compare_subs, carrying, carried_sub, carried_device, defaults, sub_came}
-use Rattle.vms_check_laws.proofs.Facade.{sub_found, defaults_at, version_is, rules_append, IsSaved, Holds, FitsAt, answers_none, at_set, rules_split}
-use Rattle.vms_check_laws.proofs.Facade.{sub_size, ◌≤◌, option_and_then, nat_le, and_parts, leb-true, Cell, FitCells, RulesHold, IsReady, ComeAsNeeded, here}
-use Rattle.vms_check_laws.proofs.Facade.{failing_pair, passes, or_else_none, part_apart, cells_of_sub}
+use Rattle.vms_check_laws.proofs.Facade.{None, refl, sym, ap, ◌∙◌, slice_get, [], ◌+◌, ◌<◌, ◌++◌, length, map, arith, ℤ, flat_map, slice_get_within, AreAll}
+use Rattle.vms_check_laws.proofs.Facade.{ComesOnce, AllCame, at_other, Part, first_answer, Sub, Device, Set, struct_cells, desc_cells, device_cells, Image}
+use Rattle.vms_check_laws.proofs.Facade.{zeroed, own_slots, own_cells, sub_slots, sub_place, came_slots, IsSection, SubSpells, SubsSpell, sub_head}
+use Rattle.vms_check_laws.proofs.Facade.{written_subs, written_section, find_sub, index, is_version_of, WellFormed, comparing, compare_sub, compare_subs}
+use Rattle.vms_check_laws.proofs.Facade.{carrying, carried_sub, carried_device, defaults, sub_came, sub_found, defaults_at, version_is, rules_append, IsSaved}
+use Rattle.vms_check_laws.proofs.Facade.{Holds, FitsAt, answers_none, at_set, rules_split, sub_size, ◌≤◌, option_and_then, Cell, FitCells, RulesHold, IsReady}
+use Rattle.vms_check_laws.proofs.Facade.{ComeAsNeeded, here, failing_pair, passes, or_else_none, part_apart, cells_of_sub}
 use Rattle.vms_spec.specs.declared.Part.TheVariants as parts
 use Rattle.vms_check_laws.proofs.SubParts.{Found, look_up}
-use Rattle.vms_check_laws.proofs.Segments.{holds_left, holds_right, holds_at, fits_left, RestAt, at_first, one_on, from_zero, fits_right}
+use Rattle.vms_check_laws.proofs.Segments.{holds_left, holds_right, holds_at, fits_left, RestAt, at_first, one_on, from_zero, fits_right, fits_at}
 use Rattle.vms_check_laws.proofs.PairLists.{Settled, settled_append}
 use Rattle.vms_check_laws.proofs.Premises.{fit_append, fit_length, are_fit}
 use Rattle.vms_check_laws.proofs.Good.{device_good, sub_good}
@@ -154,13 +153,8 @@ module _ (old new : Set) (good_old : WellFormed old) (good_new : WellFormed new)
   came_is j l s t v at_j at_l names at_came found =
       let c = compared j l s t at_j at_l names in
       let v_is : v ≡ s.desc.version = ready.subs j s v at_j at_came in
-      let versions = and_parts (nat_le t.desc.minimum s.desc.version) (nat_le s.desc.version t.desc.version) c.0 in
-      let low : t.desc.minimum ≤ v = omega (arith, leb-true t.desc.minimum s.desc.version versions.0) in
-      let high : v ≤ t.desc.version = omega (arith, leb-true s.desc.version t.desc.version versions.1) in
-      let z : 0 + own_cells old d ≡ own_cells old d = omega arith in
-      let whole : FitsAt (device_cells old d) image.numbers 0 = fits_whole (device_cells old d) image.numbers ready.normal.cells in
       let subs_fit : FitsAt (flat_map (λ u. desc_cells (struct_cells old) u.desc) d.subs) image.numbers (own_cells old d) =
-      rw (← z) (fits_right (desc_cells (struct_cells old) d.desc) whole) in
+      fits_at (omega arith) (fits_right (desc_cells (struct_cells old) d.desc) (fits_whole (device_cells old d) image.numbers ready.normal.cells)) in
       record {
         sub = s;
         version = v;
@@ -175,7 +169,7 @@ module _ (old new : Set) (good_old : WellFormed old) (good_new : WellFormed new)
         fits = cells_of_sub (λ at xs. FitsAt xs image.numbers at) (λ at xs ys. fits_left ys) (λ at xs ys. fits_right xs) old _ d.subs j s at_j subs_fit;
         rules = part_apart old d image.numbers RulesHold rules_split (own_cells old d) d.subs image.came
             (rules_split (own_slots old d image.version image.numbers) _ ready.valid).1 j s v at_j at_came;
-        within = (low, high);
+        within = rw v_is (version_is t.desc s.desc.version c.0);
       }
 
   fact : (l : ℕ) (t : Sub) → slice_get e.subs l ≡ Some t → FactOf t
@@ -226,10 +220,6 @@ module _ (old new : Set) (good_old : WellFormed old) (good_new : WellFormed new)
             order_has d.subs image.came g.number l v g.sub g.there (came_from _ g.number v (rw g.found at f.2)) (ap index found)
       ]
 
-  abbrev OrderRises : ℕ → List ℕ → Type 0
-  OrderRises j order =
-      Rises (λ o. (v : ℕ) × (o ≡ Some v)) None (λ l. option_and_then (λ t. find_sub 0 d.subs t.desc.name) (slice_get e.subs l)) image'.came j order
-
   module _ (held : Holds numbers' (own_cells new e) rest) where
     one_spell : (j : ℕ) (s : Sub) (v : ℕ) (at_j : slice_get d.subs j ≡ Some s) (at_came : slice_get image.came j ≡ Some (Some v)) (p : Found e.subs s.desc.name)
         → SubSpells new e image' p.number (slice_get e.subs p.number) (slice_get image'.came p.number)
@@ -244,7 +234,8 @@ module _ (old new : Set) (good_old : WellFormed old) (good_new : WellFormed new)
     -- the subsections from one on: their bytes, and each that is present once
     record Walk (j : ℕ) (subs : List Sub) (cs : List (Option ℕ)) (place : ℕ) : Type 0 where
       spells : SubsSpell new e image' (sub_order e subs cs) (written_subs old d image place subs cs)
-      rises : (m : ℕ) → m ≤ j → OrderRises m (sub_order e subs cs)
+      rises : (m : ℕ) → m ≤ j → Rises (λ o. (v : ℕ) × (o ≡ Some v)) None (λ l. option_and_then (λ t. find_sub 0 d.subs t.desc.name) (slice_get e.subs l))
+          image'.came m (sub_order e subs cs)
 
     walk : (j place : ℕ) (subs : List Sub) (cs : List (Option ℕ)) → RestAt d.subs j subs → RestAt image.came j cs
         → ((m : ℕ) → sub_place old (own_cells old d) d.subs (j + m) ≡ sub_place old place subs m) → Walk j subs cs place
@@ -288,11 +279,6 @@ module _ (old new : Set) (good_old : WellFormed old) (good_new : WellFormed new)
 
   -- ---- the section
 
-  absent_default : (slots : List Slot) (c : ℕ) → (has_cell slots c ≡ true) ⊎ (get_or numbers' c (pos 0) ≡ get_or (defaults (device_cells new e)) c (pos 0))
-      → has_cell slots c ≡ false → get_or numbers' c (pos 0) ≡ (get_or (device_cells new e) c no_cell).default
-  absent_default slots c (inl has) absent = absurd (cc (has, absent))
-  absent_default slots c (inr is) absent = is ∙ defaults_at _ c
-
   pub section_whole : (part part' : Part) → comparing old new d.desc e.desc d.desc.version part part' ≡ None → is_version_of e.desc d.desc.version ≡ true
       → d.desc.name ≡ e.desc.name → d.instance ≡ e.instance → (id : ℕ) → id < 4294967296 → IsSection new e image' id true (written_section old d image id)
   section_whole part part' same version names instances id lt =
@@ -323,7 +309,9 @@ module _ (old new : Set) (good_old : WellFormed old) (good_new : WellFormed new)
           subs = subs.versions;
           cells = (are_fit (device_cells new e) numbers'
               (fit_append cells sub_cells own rest own_meets.fits (subs_fit old new good_old good_new d e image numbers' came e.subs facts)));
-          absent = λ c below absent. let z : 0 + c ≡ c = omega arith in absent_default (slots ++ more) c (rw z at (settled.each c below)) absent;
+          absent = λ c below absent.
+              let z : 0 + c ≡ c = omega arith in
+              elim (rw z at (settled.each c below)) [ inl has ↦ absurd (cc (has, absent)) | inr is ↦ is ∙ defaults_at _ c ];
         };
         valid = rules_append slots more (own_reads.carries.rules rules_old) subs.rules;
         body = body;
