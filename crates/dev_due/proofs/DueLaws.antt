@@ -1,36 +1,12 @@
 -- What was found is when the board is next due.
-use Rattle.std.proofs.Common.{◌≡◌, ℕ, ◌<◌, ◌≤◌, length, Option, Some, None, arith, ◌+◌, ◌*◌, ◌⊎◌, inl, inr, true, false, sym, ap, ◌∙◌, subst, ⊎_elim, ◌-◌, ◌==◌, Bool, not, ◌||◌, refl, List}
-use Rattle.std.specs.Prelude.{IfSome}
-use Rattle.dev_base.specs.declared.limits.TheConstants.{LAST_MOMENT}
-use Rattle.dev_board.specs.Sound.{IsSound}
-use Rattle.dev_board.specs.State.{State}
-use Rattle.dev_board.proofs.KeepLaws.{loaded}
-use Rattle.dev_pit.specs.Counter.{LoadedBy, edge_of, out_of}
-use Rattle.dev_pit.specs.Pit.{IsLoadedBy, counter_of, pit_edge, pit_out}
-use Rattle.dev_pit.proofs.Moments.{pit-later}
-use Rattle.dev_serial.specs.Sound.{IsShift}
-use Rattle.dev_serial.specs.declared.shift.Shift.{Shift}
-use Rattle.std.proofs.lemmas.Bool.{cases_lt, false_from_ne_true, le-leb, lt-leb}
-use Rattle.dev_due.specs.Boards.{character_of, devices_of, shows_at, board_int, clock_int, IsEnd, timer_of, shows_of}
-use Rattle.dev_due.specs.Search.{Finds, Found, FoundAt, FoundSend, FoundSends, IsBy, Shown, Tried, IsSegment, SameClock, SameLine}
-use Rattle.dev_due.specs.declared.boards.Board.{Board}
-use Rattle.dev_base.specs.Bits.{same}
-use Rattle.dev_board.specs.Step.{acted, after_act, inputs_of, later_by, settled, step, waited, wires_after}
-use Rattle.dev_board.specs.Wires.{wires_of}
-use Rattle.dev_board.specs.declared.event.Answer.{Answer}
-use Rattle.dev_board.specs.declared.event.Event.TheVariants.{Wait}
-use Rattle.dev_clock.specs.State.{ClockState}
-use Rattle.dev_clock.specs.Step.{acted as clock_acted, follows_line, step as clock_step, waited as clock_waited}
-use Rattle.dev_serial.specs.Access.{advanced}
-use Rattle.dev_serial.specs.Port.{line_of}
-use Rattle.vms_rtc.specs.Chip.{passed, ends_within}
-use Rattle.dev_due.specs.Due.{shows}
-use Rattle.dev_pit.specs.Turns.{AreTurns, IsTurn}
-use Rattle.dev_pit.specs.declared.turns.Turns.{Turns}
-use Rattle.dev_serial.specs.Transmit.{IsSentAfter}
-use Rattle.vms_rtc.specs.Ends.{has_come, period_in}
-use Rattle.vms_rtc.specs.declared.rtc.Rtc.{Rtc}
-use Rattle.dev_due.specs.declared.boards.Board.TheVariants.{Isa, Clock}
+use Rattle.dev_due.proofs.Facade.{◌≡◌, ℕ, ◌<◌, ◌≤◌, length, Option, Some, None, arith, ◌+◌, ◌*◌, ◌⊎◌, inl, inr, true, false, sym, ap, ◌∙◌, subst, ⊎_elim, ◌-◌}
+use Rattle.dev_due.proofs.Facade.{◌==◌, Bool, not, ◌||◌, refl, List, IfSome, cases_lt, false_from_ne_true, le-leb, lt-leb, LAST_MOMENT, IsSound, State, loaded}
+use Rattle.dev_due.proofs.Facade.{LoadedBy, edge_of, out_of, IsLoadedBy, counter_of, pit_edge, pit_out, pit-later, IsShift, Shift, character_of, devices_of}
+use Rattle.dev_due.proofs.Facade.{shows_at, board_int, clock_int, IsEnd, timer_of, shows_of, Finds, Found, FoundAt, FoundSend, FoundSends, IsBy, Shown, Tried}
+use Rattle.dev_due.proofs.Facade.{IsSegment, SameClock, SameLine, Board, same, acted, after_act, inputs_of, later_by, settled, step, waited, wires_after}
+use Rattle.dev_due.proofs.Facade.{wires_of, Answer, Wait, ClockState, follows_line, advanced, line_of, passed, ends_within, shows, AreTurns, IsTurn, Turns}
+use Rattle.dev_due.proofs.Facade.{IsSentAfter, has_come, period_in, Rtc, Isa, Clock}
+use Rattle.dev_clock.specs.Step.{acted as clock_acted, step as clock_step, waited as clock_waited}
 use Rattle.dev_due.proofs.PortLaws.{Covers, IsBase, LeavesBy, covers}
 
 -- ---- bounds of a sound board

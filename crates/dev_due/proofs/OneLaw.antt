@@ -1,9 +1,5 @@
 -- A board is next due at one wait at most.
-use Rattle.std.proofs.Common.{◌≡◌, ℕ, ◌<◌, ◌≤◌, Bool, true, false, Some, None, refl, sym, ap, ◌∙◌, arith, ⊎_elim}
-use Rattle.std.proofs.lemmas.Bool.{cases_lt}
-use Rattle.dev_board.specs.declared.event.Answer.{Answer}
-use Rattle.dev_board.specs.declared.event.Event.{Event}
-use Rattle.dev_due.specs.Due.{OneIsDue, shows}
+use Rattle.dev_due.proofs.Facade.{◌≡◌, ℕ, ◌<◌, ◌≤◌, Bool, true, false, Some, None, refl, sym, ap, ◌∙◌, arith, ⊎_elim, cases_lt, Answer, Event, OneIsDue, shows}
 
 never-both : {A : Type 0} (b : Bool) → b ≡ true → b ≡ false → A
 never-both b h l = let bad : true ≡ false = sym h ∙ l in absurd (cc)

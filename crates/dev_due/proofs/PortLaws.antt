@@ -1,21 +1,10 @@
 -- The serial port's line while time passes.
-use Rattle.std.proofs.Common.{◌≡◌, ℕ, suc, ◌+◌, ◌*◌, ◌/◌, ◌<◌, ◌≤◌, ◌==◌, ◌⊎◌, inl, inr, Bool, true, false, ◌&&◌, if◌then◌else◌, List, [], ◌∷◌, ◌++◌, length, Option, Some, None, refl, sym, ap, ◌∙◌, subst, arith, ⊎_elim}
-use Rattle.std.proofs.lemmas.Bool.{cases_lt, le-leb, lt-leb}
-use Rattle.std.proofs.lemmas.Bool.Decides.{nat_tests}
-use Rattle.std.proofs.lemmas.Option.{same_Some}
-use Rattle.std.specs.Prelude.{is_some, nat_le, nat_lt}
-use Rattle.dev_base.proofs.Choices.{either}
-use Rattle.dev_base.specs.Bits.{has}
-use Rattle.dev_serial.specs.Access.{advanced}
-use Rattle.dev_serial.specs.Line.{character_time}
-use Rattle.dev_serial.specs.Parts.{ReceiverState, TransmitterState}
-use Rattle.dev_serial.specs.Port.{Port, has_come, interrupt, line_of, mode_of}
-use Rattle.dev_serial.specs.Receive.{received}
-use Rattle.dev_serial.specs.Transmit.{IsSentAfter, departures, gone, holding, run_until, staying, timetable, bytes_of}
-use Rattle.dev_serial.specs.declared.shift.Shift.{Shift}
-use Rattle.dev_due.specs.Search.{SameLine}
-use Rattle.dev_serial.proofs.SendingLaws.{bytes_of-timetable}
-use Rattle.dev_serial.proofs.WaitLaws.{advances_in_parts, character-positive, loops_at_moment, still, waits_until_due}
+use Rattle.dev_due.proofs.Facade.{◌≡◌, ℕ, suc, ◌+◌, ◌*◌, ◌<◌, ◌≤◌, ◌==◌, ◌⊎◌, inl, inr, Bool, true, false, ◌&&◌, if◌then◌else◌, List, [], ◌∷◌, ◌++◌, length}
+use Rattle.dev_due.proofs.Facade.{Option, Some, None, refl, sym, ap, ◌∙◌, subst, arith, ⊎_elim, cases_lt, le-leb, lt-leb, nat_tests, same_Some, is_some, nat_le}
+use Rattle.dev_due.proofs.Facade.{nat_lt, either, has, advanced, character_time, ReceiverState, TransmitterState, Port, interrupt, line_of, mode_of, received}
+use Rattle.dev_due.proofs.Facade.{IsSentAfter, departures, gone, holding, run_until, staying, timetable, bytes_of, Shift, SameLine, bytes_of-timetable}
+use Rattle.dev_due.proofs.Facade.{advances_in_parts, character-positive, loops_at_moment, still, waits_until_due}
+use Rattle.dev_serial.specs.Port.{has_come}
 
 -- ---- nothing leaves
 

@@ -1,7 +1,4 @@
-use Rattle.std.proofs.Common.{ℕ, Option, ap, subst, ◌∙◌}
-use Rattle.dev_board.specs.State.{State}
-use Rattle.dev_serial.specs.declared.shift.Shift.{Shift}
-use Rattle.dev_due.specs.Search.{Found, FoundAt, FoundSends}
+use Rattle.dev_due.proofs.Facade.{ℕ, Option, ap, subst, ◌∙◌, State, Shift, Found, FoundAt, FoundSends}
 use Rattle.dev_due.proofs.DueLaws.{all_found, finds_on, keep_at, keep_found, keep_sends}
 use Rattle.dev_due.proofs.search.first_shown.Goals as goal
 

@@ -1,7 +1,4 @@
-use Rattle.std.proofs.Common.{◌≡◌, ◌≤◌, Option, sym, subst, arith}
-use Rattle.std.specs.Prelude.{IfSome}
-use Rattle.dev_serial.specs.declared.shift.Shift.{Shift}
-use Rattle.dev_due.specs.Search.{FoundSends}
+use Rattle.dev_due.proofs.Facade.{◌≤◌, Option, sym, subst, arith, IfSome, Shift, FoundSends}
 use Rattle.dev_due.proofs.DueLaws.{finds_on, finds_same, next_sends}
 use Rattle.dev_due.proofs.search.tried_sends.Goals as goal
 
