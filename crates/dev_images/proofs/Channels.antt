@@ -1,20 +1,9 @@
 -- A channel of the timer chip among an image's cells, by the place of its first. Two of its cells
 -- may be absent.
-use Rattle.std.proofs.Common.{◌≡◌, ℕ, zero, suc, ◌==◌, Bool, true, false, not, ◌&&◌, ◌||◌, cond, List, [], ◌∷◌, ◌++◌, get_or, map, Option, Some, None, ℤ, pos, refl, sym, ap, ◌∙◌, subst}
-use Rattle.std.proofs.lemmas.Bool.{and_parts, and_from, eq-eqb, not-true, or_from}
-use Rattle.std.proofs.Math.Bool.{and-true}
-use Rattle.vms_bodies.proofs.ReadyLaws.{is_same}
-use Rattle.vms_bodies.proofs.SpellLaws.{rules_append}
-use Rattle.vms_fields.specs.Fields.{Row}
-use Rattle.vms_fields.specs.Pit.{channel_rows}
-use Rattle.vms_fields.specs.declared.pit.TheConstants.{WLOW_HELD, WLOW, LATCHED, LATCH}
-use Rattle.vms_kinds.specs.declared.Kind.{Kind}
-use Rattle.vms_spec.specs.Images.{has_cell, RulesHold}
-use Rattle.vms_spec.specs.Layout.{first, struct_cells, meanings, no_meaning, Cell, Slot, Number, Rule}
-use Rattle.vms_spec.specs.Numbers.{same_number}
-use Rattle.vms_spec.specs.Sets.{Set}
-use Rattle.vms_spec.specs.Shipped.{set_1}
-use Rattle.dev_pit.specs.Cells.{channel_place}
+use Rattle.dev_images.proofs.Facade.{◌≡◌, ℕ, zero, suc, ◌==◌, Bool, true, false, not, ◌&&◌, ◌||◌, cond, List, [], ◌∷◌, ◌++◌, get_or, map, Option, Some, None, ℤ}
+use Rattle.dev_images.proofs.Facade.{pos, refl, sym, ap, ◌∙◌, subst, and_parts, and_from, eq-eqb, not-true, or_from, and-true, is_same, rules_append, Row}
+use Rattle.dev_images.proofs.Facade.{channel_rows, WLOW_HELD, WLOW, LATCHED, LATCH, Kind, has_cell, RulesHold, first, struct_cells, meanings, no_meaning, Cell}
+use Rattle.dev_images.proofs.Facade.{Slot, Number, Rule, same_number, Set, set_1, channel_place}
 use Rattle.dev_images.proofs.ChipReady.{needs}
 use Rattle.dev_images.proofs.ReadyOf.{are_kept, kept-left, kept-right, or-lift, has-none}
 
@@ -120,8 +109,7 @@ channel-fine set numbers at last is rules k =
     let slots = run_slots at (channel numbers at) (last ∷ []) in
     let each = and_from _ _ (settled _ _ (pos 0) k.wlow) (and_from _ _ (settled _ _ (pos 0) k.latch) refl) in
     record {
-      kept = ap (λ (s : List Slot). are_kept s numbers at channel_cells) is
-          ∙ kept-left slots (Rule true ∷ []) numbers at channel_cells (run-kept numbers at (channel numbers at) (last ∷ []) each);
+      kept = cc (kept-left slots (Rule true ∷ []) numbers at channel_cells (run-kept numbers at (channel numbers at) (last ∷ []) each));
       rules = subst RulesHold (sym is) (rules_append slots (Rule true ∷ []) (run-rules at (channel numbers at) (last ∷ []) rules) (refl, tt));
     }
 
@@ -129,5 +117,4 @@ channel-fine set numbers at last is rules k =
 pub channel-none : (set : Set) (numbers : List ℤ) (at : ℕ) (last : Slot) (k : ℕ) → IsChannel set numbers at last → has_cell (last ∷ []) k ≡ false
     → none_at at (channel numbers at) k ≡ true → has_cell (slots_in set numbers at) k ≡ false
 channel-none set numbers at last k is out none =
-    ap (λ (s : List Slot). has_cell s k) is
-    ∙ has-none (run_slots at (channel numbers at) (last ∷ [])) (Rule true ∷ []) k (run-none at (channel numbers at) (last ∷ []) k none out) refl
+    cc (has-none (run_slots at (channel numbers at) (last ∷ [])) (Rule true ∷ []) k (run-none at (channel numbers at) (last ∷ []) k none out) refl)

@@ -1,21 +1,10 @@
 -- The cells of the timer chip are carried as its own table says.
-use Rattle.std.proofs.Common.{◌≡◌, ℕ, zero, suc, ◌+◌, ◌==◌, Bool, true, false, cond, List, [], ◌∷◌, ◌++◌, get_or, ℤ, pos, negsuc, ◌≤ℤ◌, refl, sym, ap, ◌∙◌, arith}
-use Rattle.std.proofs.lemmas.Int.{ints}
-use Rattle.vms_fields.specs.declared.pit.TheConstants.{COUNTERS, WLOW_HELD, WLOW, LATCHED, LATCH, STATUS_LATCHED, STATUS}
-use Rattle.vms_kinds.specs.Codes.{InRange}
-use Rattle.vms_kinds.specs.declared.Item.TheVariants.{Num}
-use Rattle.vms_kinds.specs.declared.Kind.{Kind}
-use Rattle.vms_kinds.specs.declared.Kind.TheVariants.{U8, U16, Bool as Truth}
-use Rattle.vms_check.specs.Carrying.{carriers, carry_items, no_carrier}
-use Rattle.vms_spec.specs.Layout.{first, struct_cells}
-use Rattle.vms_spec.specs.Sets.{Set}
-use Rattle.dev_base.specs.declared.limits.TheConstants.{NEWEST}
-use Rattle.vms_desc.specs.Formed.{shipped_set}
-use Rattle.vms_spec.specs.Shipped.{set_1, set_2, set_3, set_4, i8254_at_1, i8254_at_2}
-use Rattle.dev_base.specs.Cells.{nat_of}
-use Rattle.dev_pit.specs.Cells.{AreCellsOf, carried as pit_carried}
-use Rattle.dev_images.specs.Laws.{carried_numbers, PitIsCarried}
-use Rattle.vms_check.specs.Comparing.{same_kind}
+use Rattle.dev_images.proofs.Facade.{◌≡◌, ℕ, zero, suc, ◌+◌, ◌==◌, Bool, true, false, cond, List, [], ◌∷◌, ◌++◌, get_or, ℤ, pos, negsuc, ◌≤ℤ◌, refl, sym, ap}
+use Rattle.dev_images.proofs.Facade.{◌∙◌, arith, ints, COUNTERS, WLOW_HELD, WLOW, LATCHED, LATCH, STATUS_LATCHED, STATUS, InRange, Num, Kind, U8, U16, carriers}
+use Rattle.dev_images.proofs.Facade.{carry_items, no_carrier, first, struct_cells, Set, NEWEST, shipped_set, set_1, set_2, set_3, set_4, i8254_at_1, i8254_at_2}
+use Rattle.dev_images.proofs.Facade.{nat_of, AreCellsOf, carried_numbers, PitIsCarried, same_kind}
+use Rattle.vms_kinds.specs.declared.Kind.TheVariants.{Bool as Truth}
+use Rattle.dev_pit.specs.Cells.{carried as pit_carried}
 use Rattle.dev_images.proofs.ChipReady.{needs, unneeded}
 use Rattle.dev_images.proofs.Channels.{behind, second_at, third_at, IsKeptAt}
 
@@ -53,15 +42,12 @@ IsLacking old numbers at =
 
 channel-carried : (old : Set) (numbers : List ℤ) (at : ℕ) → IsLacking old numbers at → IsKeptAt numbers at → channel_in old numbers at ≡ plain numbers at
 channel-carried old numbers at is k =
-    is
-    ∙ ap (λ l. lacking numbers at l (may_lack old numbers U16 (needs (get_or numbers (behind LATCHED at) (pos 0))) (behind LATCH at)))
-    (may_lack-is old numbers U8 _ (behind WLOW at) refl k.wlow)
-    ∙ ap (λ l. lacking numbers at (get_or numbers (behind WLOW at) (pos 0) ∷ []) l) (may_lack-is old numbers U16 _ (behind LATCH at) refl k.latch)
+    cc (may_lack-is old numbers U8 _ (behind WLOW at) refl k.wlow, may_lack-is old numbers U16 _ (behind LATCH at) refl k.latch)
 
 -- An absent number is 0 if its flag is clear.
 off : (flag number : ℤ) → InRange Truth flag → pos 0 ≤ℤ number → ((nat_of flag == 1) ≡ false → nat_of number ≡ 0) → needs flag ≡ false → number ≡ pos 0
 off flag (pos n) r l h e = ap pos (h (ap (λ z. nat_of z == 1) (unneeded flag r e)))
-off flag (negsuc n) r l h e = absurd (omega (arith, ints, l))
+off flag (negsuc n) r l h e = absurd (omega arith)
 
 -- Three channels and what follows them.
 abbrev with_channels : List ℤ → List ℤ → List ℤ → List ℤ → List ℤ
@@ -69,9 +55,7 @@ with_channels first second third rest = ((first ++ (second ++ (third ++ []))) ++
 
 same-channels : (numbers first second third rest : List ℤ) → first ≡ plain numbers 0 → second ≡ plain numbers second_at → third ≡ plain numbers third_at
     → with_channels first second third rest ≡ with_channels (plain numbers 0) (plain numbers second_at) (plain numbers third_at) rest
-same-channels numbers first second third rest a b c =
-    ap (λ l. with_channels l second third rest) a ∙ ap (λ l. with_channels (plain numbers 0) l third rest) b
-    ∙ ap (λ l. with_channels (plain numbers 0) (plain numbers second_at) l rest) c
+same-channels numbers first second third rest a b c = cc
 
 abbrev six_zeros : List ℤ
 six_zeros = pos 0 ∷ pos 0 ∷ pos 0 ∷ pos 0 ∷ pos 0 ∷ pos 0 ∷ []

@@ -1,7 +1,7 @@
 -- What is read of a description is exactly what it says.
 use Rattle.vms_analyze.proofs.Facade.{map-map, ◌≡◌, ℕ, Bool, true, false, ◌&&◌, ◌||◌, ◌==◌, nat_le, if◌then◌else◌, List, [], Option, Some, None, ℤ, codes, refl}
-use Rattle.vms_analyze.proofs.Facade.{sym, ap, ap₂, ◌∙◌, ◌∷◌, map, IfSome, Ordering, Less, Equal, Greater, subst, ◌+◌, drop, bytes_eq, is_utf8, and_parts}
-use Rattle.vms_analyze.proofs.Facade.{eqb-true, and_from, eq-eqb, bytes_eq-Decides, list_all, nat_cmp, match_ordering, slice_cmp, Data, number, string, object}
+use Rattle.vms_analyze.proofs.Facade.{sym, ap, ◌∙◌, ◌∷◌, map, IfSome, Ordering, Less, Equal, Greater, subst, ◌+◌, drop, bytes_eq, is_utf8, and_parts, eqb-true}
+use Rattle.vms_analyze.proofs.Facade.{and_from, eq-eqb, bytes_eq-Decides, list_all, nat_cmp, match_ordering, slice_cmp, Data, number, string, object}
 use Rattle.vms_analyze.proofs.Facade.{no_members, member, array, Items, Members, of_integer, get, get_member, as_array, fits, Kind, width, MOST_UNUSED}
 use Rattle.vms_analyze.proofs.Facade.{LONGEST_NAME, in_range, kind_word, kind_named, word_named, tells_kind, natural, entry_tree, list_tree, LONGEST_PATH, Told}
 use Rattle.vms_analyze.proofs.Facade.{Sent, Kept, Fixed, Skipped, told_entry, is_path, is_good, ToldSub, told_sub, ToldDevice, told_device, told_tree}
@@ -34,6 +34,10 @@ record IsToldBy (path : List ℕ) (tree_read : Data) (t : Told) : Type 0 where
   tree : tree_read ≡ element_tree t
   good : is_path LONGEST_PATH path ≡ true → is_good t ≡ true
 
+told_by : (path : List ℕ) (d : Data) (b : Bool) (u t : Told) → only b u ≡ Some t → (b ≡ true → d ≡ element_tree u)
+    → (is_path LONGEST_PATH path ≡ true → b ≡ true → is_good u ≡ true) → IsToldBy path d t
+told_by path d b u t e tree good = let o = only_is b u t e in rw (← o.same) (record { tree = tree o.so; good = λ h. good h o.so })
+
 abbrev IsUnprinted : List ℕ → ℕ → List ℕ → Told → Type 0
 IsUnprinted path size word t = IsToldBy path (three (string path) (natural size) (string word)) t
 
@@ -53,29 +57,16 @@ unprinted_is path size word t e = go (bytes_eq word (codes "equal")) (bytes_eq w
         → (if a then only (is_fixed size) (Fixed path size) else if b then only (is_few size) (Skipped path size) else None) ≡ Some t
         → IsUnprinted path size word t
     go true b f g e =
-        let o = only_is (is_fixed size) (Fixed path size) t e in
-        record {
-          tree = same (codes "equal") f ∙ ap element_tree o.same;
-          good = λ h. ap is_good (sym o.same) ∙ and_from (is_path LONGEST_PATH path) (is_fixed size) h o.so;
-        }
+        told_by path _ (is_fixed size) (Fixed path size) t e (λ so. same (codes "equal") f) (λ h so. and_from (is_path LONGEST_PATH path) (is_fixed size) h so)
     go false true f g e =
-        let o = only_is (is_few size) (Skipped path size) t e in
-        record {
-          tree = same (codes "unused") g ∙ ap element_tree o.same;
-          good = λ h. ap is_good (sym o.same) ∙ and_from (is_path LONGEST_PATH path) (is_few size) h o.so;
-        }
+        told_by path _ (is_few size) (Skipped path size) t e (λ so. same (codes "unused") g) (λ h so. and_from (is_path LONGEST_PATH path) (is_few size) h so)
     go false false f g e = cc
 
 sent_is : (path : List ℕ) (size : ℕ) (word : List ℕ) (named : Option Kind) (t : Told) → kind_named word ≡ named → sent_as path size word named ≡ Some t
     → IsUnprinted path size word t
 sent_is path size word None t f e = unprinted_is path size word t e
 sent_is path size word (Some kind) t f e =
-    let o = only_is (size == width kind) (Sent path kind) t e in
-    let wide : size ≡ width kind = eqb-true size (width kind) o.so in
-    record {
-      tree = ap₂ (λ (n : ℕ) (w : List ℕ). three (string path) (natural n) (string w)) wide (word_of word kind f) ∙ ap element_tree o.same;
-      good = λ h. ap is_good (sym o.same) ∙ h;
-    }
+    told_by path _ (size == width kind) (Sent path kind) t e (λ so. rw (eqb-true size (width kind) so, word_of word kind f)) (λ h so. h)
 
 sent_says : (d : Data) → IsSorted d → fits sent_keys [] d ≡ true → (t : Told) → sent_in d ≡ Some t → Says element_tree is_good d t
 sent_says d sorted h t e =
@@ -87,7 +78,7 @@ sent_says d sorted h t e =
     record {
       tree_is =
           is_picked sent_keys ((refl, (refl, tt)), ((refl, tt), (tt, tt))) d sorted h
-          ∙ rw (path.is, natural_is (codes "size") d b.value b.first, text_is (codes "type") d c.value c.first) s.tree;
+          ∙ rw (path.is, natural_is (codes "size") d b.value b.first, text_is (get (codes "type") d) c.value c.first) s.tree;
       good_is = s.good path.good;
     }
 
@@ -100,14 +91,9 @@ kept_is : (path : List ℕ) (size : ℕ) (word : List ℕ) (value : ℤ) (named 
     → kept_as path size value named ≡ Some t → IsKept path size word value t
 kept_is path size word value None t f e = cc
 kept_is path size word value (Some kind) t f e =
-    let o = only_is (size == 0 && in_range kind value) (Kept path kind value) t e in
-    let p = and_parts (size == 0) (in_range kind value) o.so in
-    let none : size ≡ 0 = eqb-true size 0 p.0 in
-    record {
-      tree = ap₂ (λ (n : ℕ) (w : List ℕ). four (string path) (natural n) (string w) (number (of_integer value))) none (word_of word kind f)
-          ∙ ap element_tree o.same;
-      good = λ h. ap is_good (sym o.same) ∙ ap (λ (b : Bool). b && in_range kind value) h ∙ p.1;
-    }
+    told_by path _ (size == 0 && in_range kind value) (Kept path kind value) t e
+    (λ so. rw (eqb-true size 0 (and_parts (size == 0) (in_range kind value) so).0, word_of word kind f))
+    (λ h so. and_from (is_path LONGEST_PATH path) (in_range kind value) h (and_parts (size == 0) (in_range kind value) so).1)
 
 kept_says : (d : Data) → IsSorted d → fits kept_keys [] d ≡ true → (t : Told) → kept_in d ≡ Some t → Says element_tree is_good d t
 kept_says d sorted h t e =
@@ -122,7 +108,7 @@ kept_says d sorted h t e =
           is_picked kept_keys ((refl, (refl, (refl, tt))), ((refl, (refl, tt)), ((refl, tt), (tt, tt)))) d sorted h ∙ rw (
             path.is,
             natural_is (codes "size") d b.value b.first,
-            text_is (codes "type") d c.value c.first,
+            text_is (get (codes "type") d) c.value c.first,
             whole_is (codes "value") d v.value v.first,
           ) s.tree;
       good_is = s.good path.good;
@@ -193,7 +179,7 @@ module _ {A : Type 0} (tree : A → Data) (good : A → Bool) (says : Data → O
   list_says one key d sorted list e =
       let a = after (list_at key d) (each says) list e in
       let s = each_says tree good says one a.value (list_sorted key d a.value sorted a.first) list a.then in
-      record { is = list_is key d a.value a.first ∙ ap array s.trees_are; fine = s.good_are }
+      record { is = list_is (get key d) a.value a.first ∙ ap array s.trees_are; fine = s.good_are }
 
 entries_back : (ts : List Told) → list_all is_good ts ≡ true → each element_in (items_of (map entry_tree (map told_entry ts))) ≡ Some ts
 entries_back ts h = ap (λ (l : List Data). each element_in (items_of l)) (map-map entry_tree told_entry ts) ∙ each_back element_tree is_good element_in element_back ts h
@@ -230,7 +216,7 @@ sub_says d sorted s e = by_keys told_sub is_good_sub sub_keys _ d s e (λ h name
     record {
       tree_is =
           is_picked sub_keys ((refl, (refl, (refl, tt))), ((refl, (refl, tt)), ((refl, tt), (tt, tt)))) d sorted h
-          ∙ rw (entries_are d l.value elements.is, named.is, flag_is (codes "sent") d b.value b.first, version.is) (ap told_sub o.same);
+          ∙ rw (entries_are d l.value elements.is, named.is, flag_is (get (codes "sent") d) b.value b.first, version.is) (ap told_sub o.same);
       good_is =
           ap is_good_sub (sym o.same) ∙ sub_from (a_sub name b.value c.value l.value)
           (record { name = named.good; version = version.good; elements = elements.fine; kept = o.so });

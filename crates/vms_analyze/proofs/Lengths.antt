@@ -1,5 +1,5 @@
 -- How many bytes are as required: no more than the description allows.
-use Rattle.vms_analyze.proofs.Facade.{◌≡◌, ℕ, ◌+◌, ◌*◌, ◌≤◌, Bool, true, false, ◌&&◌, ◌||◌, ◌==◌, nat_le, if◌then◌else◌, List, [], ◌∷◌, ◌++◌, length}
+use Rattle.vms_analyze.proofs.Facade.{same_Some, ◌≡◌, ℕ, ◌+◌, ◌*◌, ◌≤◌, Bool, true, false, ◌&&◌, ◌||◌, ◌==◌, nat_le, if◌then◌else◌, List, [], ◌∷◌, ◌++◌, length}
 use Rattle.vms_analyze.proofs.Facade.{length-append, length-drop, get_or, map, drop, Option, Some, None, ℤ, refl, sym, ap, arith, and_parts, leb-true, flat_map}
 use Rattle.vms_analyze.proofs.Facade.{list_all, width, LONGEST_NAME, MOST_UNUSED, number_at, bytes_at, is_name_byte, Sub, Device, Set, Desc, desc_cells}
 use Rattle.vms_analyze.proofs.Facade.{struct_cells, Image, own_cells, begins_with, be32, configuration, struct_items, items_in, subs_items, devices_items}
@@ -7,7 +7,7 @@ use Rattle.vms_analyze.proofs.Facade.{width_small, LONGEST_PATH, Told, Sent, Kep
 use Rattle.vms_analyze.proofs.Facade.{Foot, Line, element_want, sub_wants, device_wants, Took, took, only_if, take_machine, is_machine, taken, Found, Lines}
 use Rattle.vms_analyze.proofs.Facade.{Differs, behind, found_after, found, told_part, told_subs, told_devices, told_device_of, told_sub_of}
 use Rattle.vms_analyze.proofs.Shapes.{IsGoodPart, AreGoodSubs, IsGoodDevice, AreGoodDevices}
-use Rattle.vms_analyze.proofs.Parts.{fixed_small}
+use Rattle.vms_analyze.proofs.Parts.{each_good, fixed_small}
 
 -- the most bytes that are taken
 abbrev most_of : Want → ℕ
@@ -24,15 +24,8 @@ total [] = 0
 total (w ∷ ws) = most_of w + total ws
 
 only_long : (b : Bool) (t u : Took) → only_if b t ≡ Some u → u.long ≡ t.long
-only_long true t u e = ap (λ (o : Option Took). long_of o) (sym e)
-  where
-    long_of : Option Took → ℕ
-    long_of None = 0
-    long_of (Some t) = t.long
+only_long true t u e = ap (λ (t : Took). t.long) (sym (same_Some t u e))
 only_long false t u e = cc
-
-some_long : (t u : Took) → Some t ≡ Some u → u.long ≡ t.long
-some_long t u e = only_long true t u e
 
 only_so : (b : Bool) (t u : Took) → only_if b t ≡ Some u → b ≡ true
 only_so true t u e = refl
@@ -52,11 +45,11 @@ taken_long Machine id rest u e = go (get_or rest 0 0 == 7) e
   where
     go : (b : Bool) → (if b then take_machine id rest (bytes_at (number_at 4 1 rest) 5 rest) else Some (took 0 id [])) ≡ Some u → u.long ≤ 260
     go true e = machine_long id rest _ u e
-    go false e = omega (arith, some_long (took 0 id []) u e)
+    go false e = omega (arith, only_long true (took 0 id []) u e)
 taken_long (Head name instance version) id rest u e =
     omega (arith, only_long _ _ u e, length-append (name ++ be32 instance) (be32 version), length-append name (be32 instance))
 taken_long Foot id rest u e = omega (arith, only_long _ _ u e)
-taken_long (Line line) id rest u e = omega (arith, some_long (took 0 id (line ∷ [])) u e)
+taken_long (Line line) id rest u e = omega (arith, only_long true (took 0 id (line ∷ [])) u e)
 
 abbrev IsBound : List Want → Type 0
 IsBound ws = (id place : ℕ) (rest : List ℕ) (lines : List (List ℕ)) → found ws id place rest ≡ Lines lines → length rest ≤ total ws
@@ -93,12 +86,8 @@ element_long (Skipped path n) e =
     leb-true n MOST_UNUSED (and_parts (nat_le 1 n) (nat_le n MOST_UNUSED) (and_parts (is_path LONGEST_PATH path) (nat_le 1 n && nat_le n MOST_UNUSED) e).1).1
 
 elements_long : (ts : List Told) → list_all is_good ts ≡ true → total (map element_want ts) ≤ MOST_UNUSED * length ts
-elements_long [] e = omega arith
-elements_long (t ∷ ts) e =
-    let p = and_parts (is_good t) (list_all is_good ts) e in
-    let here = element_long t p.0 in
-    let later = elements_long ts p.1 in
-    omega arith
+elements_long ts e =
+    each_good is_good (λ ts. total (map element_want ts) ≤ MOST_UNUSED * length ts) (omega arith) (λ t ts p q. omega (arith, element_long t p)) ts e
 
 module _ (set : Set) where
   abbrev sizes : List ℕ

@@ -6,7 +6,8 @@ use Rattle.vms_analyze.proofs.Facade.{is_eq, slice_cmp, bytes_eq, list_all, Data
 use Rattle.vms_analyze.proofs.Facade.{put, Items, item, unsigned, negative, float, no_items, get, get_member, as_bool, as_number, as_str, as_array, as_u64}
 use Rattle.vms_analyze.proofs.Facade.{of_integer, is_one_of, has, has_no_others, has_all, fits, IsLess, IsBefore, AreOrdered, keys_of, IsSorted, AreSorted}
 use Rattle.vms_analyze.proofs.Facade.{HoldSorted, tokens, number_of, of_json, of_items, of_members, max_depth, read, items_of, natural, is_path, fits_four}
-use Rattle.vms_analyze.proofs.Facade.{next, only, text_at, path_at, natural_at, four_at, flag_at, list_at, whole_of, whole_at, each}
+use Rattle.vms_analyze.proofs.Facade.{next, only, text_at, path_at, natural_at, four_at, whole_of, whole_at, each}
+use Rattle.vms_analyze.proofs.Parts.{each_good}
 use Rattle.serde_json.specs.Data.{Num}
 use Rattle.json.specs.Json as json
 
@@ -36,15 +37,18 @@ put_before l k d (member m e ms) lt h = go (slice_cmp nat_cmp k m) (put_before l
     go Equal more = h
     go Greater more = (h.0, more)
 
-pub put_ordered : (k : List ℕ) (d : Data) (ms : Members) → AreOrdered (keys_of ms) → AreOrdered (keys_of (put k d ms))
-put_ordered k d no_members h = (tt, tt)
-put_ordered k d (member m e ms) h = go (slice_cmp nat_cmp k m) refl (put_ordered k d ms h.1)
+abbrev AreBoth : Members → Type 0
+AreBoth ms = AreOrdered (keys_of ms) × HoldSorted ms
+
+put_both : (k : List ℕ) (d : Data) (ms : Members) → IsSorted d → AreBoth ms → AreBoth (put k d ms)
+put_both k d no_members x h = ((tt, tt), (x, tt))
+put_both k d (member m e ms) x h = go (slice_cmp nat_cmp k m) refl (put_both k d ms x (h.0.1, h.1.1))
   where
-    go : (o : Ordering) → slice_cmp nat_cmp k m ≡ o → AreOrdered (keys_of (put k d ms))
-        → AreOrdered (keys_of (match_ordering o (member k d (member m e ms)) (member m d ms) (member m e (put k d ms))))
-    go Less is more = ((is, before_more k m (keys_of ms) is h.0), h)
-    go Equal is more = h
-    go Greater is more = (put_before m k d ms (less_turned k m is) h.0, more)
+    go : (o : Ordering) → slice_cmp nat_cmp k m ≡ o → AreBoth (put k d ms)
+        → AreBoth (match_ordering o (member k d (member m e ms)) (member m d ms) (member m e (put k d ms)))
+    go Less is more = (((is, before_more k m (keys_of ms) is h.0.0), h.0), (x, h.1))
+    go Equal is more = (h.0, (x, h.1.1))
+    go Greater is more = ((put_before m k d ms (less_turned k m is) h.0.0, more.0), (h.1.0, more.1))
 
 -- ---- exactly these keys
 
@@ -161,23 +165,11 @@ any : {A : Type 0} (o : Option A) → IfSome o (λ _. Unit {0})
 any None = tt
 any (Some a) = tt
 
-put_holds : (k : List ℕ) (d : Data) (ms : Members) → IsSorted d → HoldSorted ms → HoldSorted (put k d ms)
-put_holds k d no_members p q = (p, q)
-put_holds k d (member l e ms) p q = go _ (put_holds k d ms p q.1)
-  where
-    go : (o : Ordering) → HoldSorted (put k d ms) → HoldSorted (match_ordering o (member k d (member l e ms)) (member l d ms) (member l e (put k d ms)))
-    go Less more = (p, q)
-    go Equal more = (p, q.1)
-    go Greater more = (q.0, more)
-
-abbrev AreBoth : Members → Type 0
-AreBoth ms = AreOrdered (keys_of ms) × HoldSorted ms
-
 mutual
   sorted_json : (j : json.Json) → IfSome (of_json j) IsSorted
   sorted_json (json.number s) = by_map (λ _. Unit {0}) IsSorted number (λ n x. tt) (number_of s) (any (number_of s))
   sorted_json (json.array js) = by_map AreSorted IsSorted array (λ ds x. x) (of_items js) (sorted_items js)
-  sorted_json (json.object ms) = by_map AreBoth IsSorted object (λ ds x. x) (of_members ms no_members) (sorted_members ms no_members tt tt)
+  sorted_json (json.object ms) = by_map AreBoth IsSorted object (λ ds x. x) (of_members ms no_members) (sorted_members ms no_members (tt, tt))
   sorted_json _ = tt
 
   sorted_items : (js : json.Items) → IfSome (of_items js) AreSorted
@@ -185,10 +177,10 @@ mutual
   sorted_items (json.item j js) =
       by_then IsSorted AreSorted _ (λ d x. by_map AreSorted AreSorted (item d) (λ ds y. (x, y)) (of_items js) (sorted_items js)) (of_json j) (sorted_json j)
 
-  sorted_members : (ms : json.Members) (found : Members) → AreOrdered (keys_of found) → HoldSorted found → IfSome (of_members ms found) AreBoth
-  sorted_members json.no_members found p q = (p, q)
-  sorted_members (json.member k j ms) found p q =
-      by_then IsSorted AreBoth _ (λ d x. sorted_members ms (put k d found) (put_ordered k d found p) (put_holds k d found x q)) (of_json j) (sorted_json j)
+  sorted_members : (ms : json.Members) (found : Members) → AreBoth found → IfSome (of_members ms found) AreBoth
+  sorted_members json.no_members found h = h
+  sorted_members (json.member k j ms) found h =
+      by_then IsSorted AreBoth _ (λ d x. sorted_members ms (put k d found) (put_both k d found x h)) (of_json j) (sorted_json j)
 
 if_parsed : (o : Option json.Json) → IfSome (option_and_then of_json o) IsSorted
 if_parsed None = tt
@@ -232,12 +224,9 @@ only_so false a e = cc
 abbrev pub under : List ℕ → Data → Data
 under key d = unwrap_or (get key d) null
 
-text_in : (o : Option Data) (t : List ℕ) → next o as_str ≡ Some t → unwrap_or o null ≡ string t
-text_in (Some (string s)) t e = cc
-text_in _ t e = cc
-
-pub text_is : (key : List ℕ) (d : Data) (t : List ℕ) → text_at key d ≡ Some t → under key d ≡ string t
-text_is key d t e = text_in (get key d) t e
+pub text_is : (o : Option Data) (t : List ℕ) → next o as_str ≡ Some t → unwrap_or o null ≡ string t
+text_is (Some (string s)) t e = cc
+text_is _ t e = cc
 
 pub record IsPathAt (most : ℕ) (key : List ℕ) (d : Data) (t : List ℕ) : Type 0 where
   pub is : under key d ≡ string t
@@ -247,21 +236,15 @@ pub path_is : (most : ℕ) (key : List ℕ) (d : Data) (t : List ℕ) → path_a
 path_is most key d t e =
     let a = after (text_at key d) (λ text. only (is_path most text) text) t e in
     let o = only_is (is_path most a.value) a.value t a.then in
-    record { is = text_is key d t (a.first ∙ ap (λ (x : List ℕ). Some x) o.same); good = ap (is_path most) (sym o.same) ∙ o.so }
+    record { is = text_is (get key d) t (a.first ∙ ap (λ (x : List ℕ). Some x) o.same); good = ap (is_path most) (sym o.same) ∙ o.so }
 
-flag_in : (o : Option Data) (b : Bool) → next o as_bool ≡ Some b → unwrap_or o null ≡ boolean b
-flag_in (Some (boolean b)) t e = cc
-flag_in _ t e = cc
+pub flag_is : (o : Option Data) (b : Bool) → next o as_bool ≡ Some b → unwrap_or o null ≡ boolean b
+flag_is (Some (boolean b)) t e = cc
+flag_is _ t e = cc
 
-pub flag_is : (key : List ℕ) (d : Data) (b : Bool) → flag_at key d ≡ Some b → under key d ≡ boolean b
-flag_is key d b e = flag_in (get key d) b e
-
-list_in : (o : Option Data) (ds : Items) → next o as_array ≡ Some ds → unwrap_or o null ≡ array ds
-list_in (Some (array ds)) t e = cc
-list_in _ t e = cc
-
-pub list_is : (key : List ℕ) (d : Data) (ds : Items) → list_at key d ≡ Some ds → under key d ≡ array ds
-list_is key d ds e = list_in (get key d) ds e
+pub list_is : (o : Option Data) (ds : Items) → next o as_array ≡ Some ds → unwrap_or o null ≡ array ds
+list_is (Some (array ds)) t e = cc
+list_is _ t e = cc
 
 number_in : (o : Option Data) (n : Num) → next o as_number ≡ Some n → unwrap_or o null ≡ number n
 number_in (Some (number n)) t e = cc
@@ -341,7 +324,5 @@ module _ {A : Type 0} (tree : A → Data) (good : A → Bool) (says : Data → O
 
   pub each_back : ((a : A) → good a ≡ true → says (tree a) ≡ Some a) → (list : List A) → list_all good list ≡ true
       → each says (items_of (map tree list)) ≡ Some list
-  each_back one [] e = refl
-  each_back one (a ∷ list) e =
-      let p = and_parts (good a) (list_all good list) e in
-      first_then _ (one a p.0) (first_then _ (each_back one list p.1) refl)
+  each_back one list e =
+      each_good good (λ l. each says (items_of (map tree l)) ≡ Some l) refl (λ a l p q. first_then _ (one a p) (first_then _ q refl)) list e

@@ -1,6 +1,7 @@
 -- What a subsection and a device that are described consist of, if they are good.
 use Rattle.vms_analyze.proofs.Facade.{nat_tests, ◌≡◌, ℕ, suc, ◌<◌, ◌≤◌, ◌==◌, List, [], ◌∷◌, length, get_or, arith, true, ◌&&◌, ◌||◌, list_all, AllByRecursion}
-use Rattle.vms_analyze.proofs.Facade.{and_parts, and_from, LONGEST_NAME, ToldSub, ToldDevice, is_path, fits_four, is_good, is_kept, is_good_sub, is_good_device}
+use Rattle.vms_analyze.proofs.Facade.{Bool, and_parts, and_from, LONGEST_NAME, ToldSub, ToldDevice, is_path, fits_four, is_good, is_kept, is_good_sub}
+use Rattle.vms_analyze.proofs.Facade.{is_good_device}
 
 pub record SubParts (s : ToldSub) : Type 0 where
   pub name : is_path LONGEST_NAME s.name ≡ true
@@ -36,6 +37,12 @@ device_parts d e =
 
 pub device_from : (d : ToldDevice) → DeviceParts d → is_good_device d ≡ true
 device_from d p = and_from _ _ (and_from _ _ (and_from _ _ (and_from _ _ p.name p.instance) p.version) p.elements) p.subs
+
+-- what holds of each good one, of a list of good ones
+pub each_good : {A : Type 0} (good : A → Bool) (All : List A → Type 0) → All [] → ((x : A) (xs : List A) → good x ≡ true → All xs → All (x ∷ xs))
+    → (xs : List A) → list_all good xs ≡ true → All xs
+each_good good All none more [] e = none
+each_good good All none more (x ∷ xs) e = let p = and_parts (good x) (list_all good xs) e in more x xs p.0 (each_good good All none more xs p.1)
 
 -- what holds of each of a list
 pub all_at : {A : Type 0} (P : A → Type 0) (d : A) (xs : List A) → ((i : ℕ) → i < length xs → P (get_or xs i d)) → AllByRecursion P xs

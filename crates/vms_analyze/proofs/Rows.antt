@@ -1,11 +1,10 @@
 -- Worked listings.
-use Rattle.vms_analyze.proofs.Facade.{same_Some, ◌≡◌, ℕ, zero, suc, true, false, not, ◌==◌, List, [], ◌∷◌, ◌++◌, map, get_or, take, drop, Some, None, pos, refl}
-use Rattle.vms_analyze.proofs.Facade.{sym, ap, ◌∙◌, arith, codes, list_all, and_parts, eq-eqb, digits, is_utf8, chars, Data, string, array, object, Items}
-use Rattle.vms_analyze.proofs.Facade.{no_items, item, Members, no_members, put, serde_json_on_literals, width, code, U64, Image, trailer, items_of, kind_word}
-use Rattle.vms_analyze.proofs.Facade.{kind_named, natural, entry_tree, value_in, Told, Sent, Kept, Fixed, Skipped, told_entry, ToldDevice, told_tree}
-use Rattle.vms_analyze.proofs.Facade.{is_good_device, Lines, Differs, wants, found, Refused, Lists, HasNone, HasNoShape}
+use Rattle.vms_analyze.proofs.Facade.{◌≡◌, ℕ, zero, suc, true, false, not, ◌==◌, List, [], ◌∷◌, ◌++◌, get_or, take, drop, Some, None, pos, refl, ap, arith}
+use Rattle.vms_analyze.proofs.Facade.{codes, list_all, and_parts, eq-eqb, digits, is_utf8, chars, devices_in, next, serde_json_on_literals, code, U64, Image}
+use Rattle.vms_analyze.proofs.Facade.{trailer, value_in, Sent, ToldDevice, told_tree, is_good_device, Lines, Differs, wants, found, Refused, Lists, HasNone}
+use Rattle.vms_analyze.proofs.Facade.{HasNoShape}
 use Rattle.vms_analyze.specs.declared.fault.AnalyzeReason.TheVariants as reasons
-use Rattle.vms_analyze.proofs.One.{members, same_members, word_same}
+use Rattle.vms_analyze.proofs.DevicesRead.{not_told}
 use Rattle.vms_analyze.proofs.Texts.{last_place}
 
 abbrev timer : List Image
@@ -69,42 +68,11 @@ abbrev four_bytes : List ℕ
 four_bytes =
     codes "{\"devices\":[{\"fields\":[{\"name\":\"now\",\"size\":4,\"type\":\"u64\"}],\"instance_id\":0,\"name\":\"timer\",\"subsections\":[],\"version\":1}]}"
 
-abbrev four_entry : Data
-four_entry = members (codes "now") 4 (codes "u64") no_members
-
-four_tree : Data
-four_tree = object (put (codes "devices") (array (item (object (device_members_of (array (item four_entry no_items)))) no_items)) no_members)
-  where
-    device_members_of : Data → Members
-    device_members_of fields =
-        put (codes "version") (natural 1)
-        (put (codes "subsections") (array no_items)
-        (put (codes "name") (string (codes "timer")) (put (codes "instance_id") (natural 0) (put (codes "fields") fields no_members))))
-
-reads_four_bytes : value_in four_bytes ≡ Some four_tree
-unfolding serde_json_on_literals is_utf8 chars four_tree
-reads_four_bytes = refl
-
-no_element : (t : Told) → entry_tree (told_entry t) ≡ four_entry → ⊥
-no_element (Sent p k) e =
-    let h = same_members p (codes "now") (kind_word k) (codes "u64") (width k) 4 no_members no_members e in
-    let w = ap width (word_same k U64 h.type) in
-    omega (arith, w, h.size)
-no_element (Kept p k z) e = cc
-no_element (Fixed p n) e = let h = same_members p (codes "now") (codes "equal") (codes "u64") n 4 no_members no_members e in let other : None ≡ Some U64 = ap kind_named h.type in cc
-no_element (Skipped p n) e =
-    let h = same_members p (codes "now") (codes "unused") (codes "u64") n 4 no_members no_members e in let other : None ≡ Some U64 = ap kind_named h.type in cc
-
-first_element : (ts : List Told) (rest : Items) → items_of (map entry_tree (map told_entry ts)) ≡ item four_entry rest → ⊥
-first_element [] rest e = cc
-first_element (t ∷ ts) rest e = let h : entry_tree (told_entry t) ≡ four_entry = cc in no_element t h
-
-first_device : (ds : List ToldDevice) → told_tree ds ≡ four_tree → ⊥
-unfolding four_tree
-first_device [] e = cc
-first_device (d ∷ ds) e = let h : items_of (map entry_tree (map told_entry d.elements)) ≡ item four_entry no_items = cc in first_element d.elements no_items h
+four_bytes_say_nothing : next (value_in four_bytes) devices_in ≡ None
+unfolding serde_json_on_literals is_utf8 chars
+four_bytes_say_nothing = refl
 
 refuses_four_bytes : Lists (smallest 0x7e ++ trailer four_bytes) (Refused 41 reasons.Shape)
 refuses_four_bytes =
     HasNoShape 41 (omega arith) (last_place (smallest 0x7e) (drop 4 four_bytes) (record { none = no_six four_bytes refl }) (omega arith))
-    (λ devices h. first_device devices (same_Some (told_tree devices) four_tree (sym h.tree ∙ reads_four_bytes)))
+    (not_told (smallest 0x7e ++ trailer four_bytes) 41 four_bytes_say_nothing)

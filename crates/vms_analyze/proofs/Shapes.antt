@@ -1,14 +1,13 @@
 -- The description of a well-formed set has the right shape.
-use Rattle.vms_analyze.proofs.Facade.{◌≡◌, ℕ, ◌+◌, Bool, true, false, ◌&&◌, is_some, List, [], ◌∷◌, ◌++◌, length, map, Option, ℤ, refl, ap, ◌∙◌, codes, suc}
-use Rattle.vms_analyze.proofs.Facade.{◌*◌, ◌<◌, ◌≤◌, cond, ◌||◌, ◌==◌, nat_lt, nat_le, length-append, get_or, sym, subst, arith, zero, is_none, Some, None}
-use Rattle.vms_analyze.proofs.Facade.{⊎_elim, ◌/◌, ◌%◌, map-append, length-map, list_all, AllByRecursion, and_parts, and_from, lt-ltb, cases_lt}
-use Rattle.vms_analyze.proofs.Facade.{get_or-eq_default, slice_get-get_or, list_all-append, digit_char, Data, array, object, no_members, put, Members, member}
-use Rattle.vms_analyze.proofs.Facade.{number, string, items_of, Desc, Sub, Device, Set, AtLeast, desc_cells, struct_cells, no_desc, no_field, counted, Image}
-use Rattle.vms_analyze.proofs.Facade.{own_cells, What, Constant, Filler, Rule, shapes, elements_in, Entry, entry_of, entries_of, part_entries, sub_members}
-use Rattle.vms_analyze.proofs.Facade.{sub_tree, sub_trees, device_members, device_tree, device_trees, described_tree, natural, entry_tree, told_entry, told_sub}
-use Rattle.vms_analyze.proofs.Facade.{told_device, told_tree, Told, Sent, Kept, Fixed, Skipped, is_path_byte, is_good, is_kept, fits_four, is_good_sub}
-use Rattle.vms_analyze.proofs.Facade.{is_good_device, told_what, tolds, told_part, told_subs, told_devices, told, told_sub_of, told_device_of, escape}
-use Rattle.vms_analyze.proofs.Facade.{escape_byte, escape_letter, compact_text, members_text, Kind, width, kind_word, of_integer, Part, MOST_UNUSED}
+use Rattle.vms_analyze.proofs.Facade.{◌≡◌, ℕ, ◌+◌, Bool, true, false, ◌&&◌, is_some, List, [], ◌∷◌, length, map, Option, ℤ, refl, ap, ◌∙◌, codes, suc, ◌*◌, ◌<◌}
+use Rattle.vms_analyze.proofs.Facade.{◌≤◌, cond, ◌||◌, ◌==◌, nat_lt, nat_le, length-append, get_or, sym, subst, arith, zero, is_none, Some, None, ⊎_elim, ◌/◌}
+use Rattle.vms_analyze.proofs.Facade.{◌%◌, map-append, length-map, list_all, AllByRecursion, and_parts, and_from, lt-ltb, cases_lt, get_or-eq_default}
+use Rattle.vms_analyze.proofs.Facade.{slice_get-get_or, list_all-append, digit_char, no_members, Members, member, number, string, Desc, Sub, Device, Set}
+use Rattle.vms_analyze.proofs.Facade.{AtLeast, desc_cells, struct_cells, no_desc, no_field, counted, Image, own_cells, What, Constant, Filler, Rule, shapes}
+use Rattle.vms_analyze.proofs.Facade.{elements_in, Entry, entry_of, entries_of, part_entries, sub_trees, device_trees, described_tree, natural, entry_tree}
+use Rattle.vms_analyze.proofs.Facade.{told_entry, told_sub, told_device, told_tree, Told, Sent, Kept, Fixed, Skipped, is_path_byte, is_good, is_kept, fits_four}
+use Rattle.vms_analyze.proofs.Facade.{is_good_sub, is_good_device, told_what, tolds, told_part, told_subs, told_devices, told, told_sub_of, told_device_of}
+use Rattle.vms_analyze.proofs.Facade.{escape, escape_byte, escape_letter, compact_text, members_text, Kind, width, kind_word, of_integer, Part, MOST_UNUSED}
 use Rattle.vms_analyze.proofs.Facade.{LONGEST_NAME, is_name, in_range, defaults_well, counts_well, is_small_item, is_small_optional, WellFormed, struct_items}
 use Rattle.vms_analyze.proofs.Facade.{struct_depths, items_in, deepest, subs_items, devices_items, Each, HasPart, desc_at, sub_at, field_sound, few_subs}
 use Rattle.vms_analyze.proofs.Facade.{device_clean, sub_clean, member_long, AreLong, longer, entries_few, entries_long, fit, part_sound, fields_flat}
@@ -36,9 +35,8 @@ one_entry (Rule holds) counted present path = refl
 all_entries : (sent : Bool) (xs : List Element) → map told_entry (tolds sent xs) ≡ entries_of sent [] xs
 all_entries sent [] = refl
 all_entries sent (x ∷ xs) =
-    map-append told_entry (told_what x.what x.counted (sent && x.present) x.name) (tolds sent xs)
-    ∙ ap (λ (l : List Entry). l ++ map told_entry (tolds sent xs)) (one_entry x.what x.counted (sent && x.present) x.name)
-    ∙ ap (λ (l : List Entry). entry_of x.what x.counted (sent && x.present) x.name ++ l) (all_entries sent xs)
+    let here = told_what x.what x.counted (sent && x.present) x.name in
+    rw (map-append told_entry here (tolds sent xs), one_entry x.what x.counted (sent && x.present) x.name, all_entries sent xs)
 
 -- ---- parts
 
@@ -51,24 +49,20 @@ subs_same : (set : Set) (n : List ℤ) (at : ℕ) (subs : List Sub) (came : List
 subs_same set n at [] came = refl
 subs_same set n at (s ∷ subs) [] = refl
 subs_same set n at (s ∷ subs) (c ∷ came) =
-    let next = at + length (desc_cells (struct_cells set) s.desc) in
-    ap (λ (es : List Entry). object (sub_members es s.desc.name (is_some c) s.desc.version) ∷ map told_sub (told_subs set n next subs came))
-    (part_same set s.desc (is_some c) n at) ∙ ap (λ (l : List Data). sub_tree set n at s c ∷ l) (subs_same set n next subs came)
+    rw (part_same set s.desc (is_some c) n at, subs_same set n (at + length (desc_cells (struct_cells set) s.desc)) subs came)
 
 devices_same : (set : Set) (devices : List Device) (images : List Image) → map told_device (told_devices set devices images) ≡ device_trees set devices images
 devices_same set [] images = refl
 devices_same set (d ∷ devices) [] = refl
 devices_same set (d ∷ devices) (image ∷ images) =
-    ap (λ (es : List Entry). object
-    (device_members es d.instance d.desc.name
-    (map told_sub (told_subs set image.numbers (own_cells set d) d.subs image.came)) d.desc.version) ∷ map told_device (told_devices set devices images))
-    (part_same set d.desc true image.numbers 0)
-    ∙ ap (λ (l : List Data). object (device_members (part_entries set d.desc true image.numbers 0) d.instance d.desc.name l d.desc.version) ∷ map told_device
-    (told_devices set devices images)) (subs_same set image.numbers (own_cells set d) d.subs image.came)
-    ∙ ap (λ (l : List Data). device_tree set d image ∷ l) (devices_same set devices images)
+    rw (
+      part_same set d.desc true image.numbers 0,
+      subs_same set image.numbers (own_cells set d) d.subs image.came,
+      devices_same set devices images,
+    )
 
 pub tree_same : (set : Set) (images : List Image) → told_tree (told set images) ≡ described_tree set images
-tree_same set images = ap (λ (l : List Data). object (put (codes "devices") (array (items_of l)) no_members)) (devices_same set set.devices images)
+tree_same set images = rw (devices_same set set.devices images)
 
 -- ---- The description of a well-formed set has the right shape: the elements of one part.
 

@@ -3,17 +3,17 @@ use Rattle.vms_analyze.proofs.Facade.{◌≡◌, ℕ, Bool, true, false, ◌&&�
 use Rattle.vms_analyze.proofs.Facade.{refl, sym, ap, ◌∙◌, codes, if◌then◌else◌, suc, ◌+◌, ◌<◌, ◌≤◌, ◌^◌, length, Option, Some, arith, ◌==◌, nat_le}
 use Rattle.vms_analyze.proofs.Facade.{signed_decimal, map-append, length-replicate, and_parts, le-leb, and_from, and-false, and-true, flat_map, list_all, width}
 use Rattle.vms_analyze.proofs.Facade.{code, InRange, length-code, be32_read, Slot, desc_cells, struct_cells, meanings, desc_slots, Cell, zeroed, Image}
-use Rattle.vms_analyze.proofs.Facade.{own_cells, own_slots, sub_slots, same_number_is, What, Constant, Filler, Rule, is_number, slot_of, slots_of, elements_in}
-use Rattle.vms_analyze.proofs.Facade.{printed, number_lines, section_line, sub_line, subs_lines, device_lines, devices_lines, machine_lines, values_lines}
-use Rattle.vms_analyze.proofs.Facade.{OfNumber, has_default, have_defaults, line_reason, if_not, came_well, number_entries, subs_entries, device_entries}
-use Rattle.vms_analyze.proofs.Facade.{devices_entries, entries, AreFine, AreAtVersions, IsShaped, AreShaped, IsMachineOf, Each, line_number, reason_fits}
-use Rattle.vms_analyze.proofs.Facade.{fine_rest, begins_itself, IsFitting, AreShort, of_numbers, IsCounted, AreCounted, walks, Kept, element_want, Bytes}
-use Rattle.vms_analyze.proofs.Facade.{sub_wants, device_wants, Want, Machine, wants, took, take_machine, is_machine, taken, Found, Lines, behind, found_after}
-use Rattle.vms_analyze.proofs.Facade.{found, told_what, tolds, told_part, told_subs, told_device_of, told_devices, told, Desc, Sub, Device, Set, sub_head}
-use Rattle.vms_analyze.proofs.Facade.{section_head, foot, is_needed, written_subs, written_section, written_sections, AreReady, is_one_of, be32, magic}
-use Rattle.vms_analyze.proofs.Facade.{stream_head, configuration, end_mark, optional, elements_slots, short_are, fine_both, AreGood, good_both, big_number}
-use Rattle.vms_analyze.proofs.Facade.{LONGEST_NAME, number_at, bytes_at, is_name, is_name_byte, values_text, WellFormed, failing, first_fault, here, set_rules}
-use Rattle.vms_analyze.proofs.Facade.{machine_short, few_devices, all_true, or_else_none, every_one, front_take, text_says}
+use Rattle.vms_analyze.proofs.Facade.{own_cells, sub_slots, same_number_is, What, Constant, Filler, Rule, is_number, slot_of, slots_of, elements_in, printed}
+use Rattle.vms_analyze.proofs.Facade.{number_lines, sub_line, subs_lines, device_lines, devices_lines, machine_lines, values_lines, OfNumber, has_default}
+use Rattle.vms_analyze.proofs.Facade.{have_defaults, line_reason, if_not, came_well, number_entries, subs_entries, device_entries, devices_entries, entries}
+use Rattle.vms_analyze.proofs.Facade.{AreFine, AreAtVersions, IsShaped, AreShaped, IsMachineOf, Each, line_number, reason_fits, fine_rest, begins_itself}
+use Rattle.vms_analyze.proofs.Facade.{IsFitting, AreShort, of_numbers, IsCounted, AreCounted, walks, Kept, element_want, Bytes, sub_wants, device_wants, Want}
+use Rattle.vms_analyze.proofs.Facade.{Machine, wants, took, take_machine, is_machine, taken, Found, Lines, behind, found_after, found, told_what, tolds}
+use Rattle.vms_analyze.proofs.Facade.{told_part, told_subs, told_device_of, told_devices, told, Desc, Sub, Device, Set, sub_head, is_needed, written_subs}
+use Rattle.vms_analyze.proofs.Facade.{written_section, written_sections, AreReady, is_one_of, be32, magic, stream_head, configuration, end_mark, optional}
+use Rattle.vms_analyze.proofs.Facade.{elements_slots, short_are, fine_both, AreGood, good_both, big_number, LONGEST_NAME, number_at, bytes_at, is_name}
+use Rattle.vms_analyze.proofs.Facade.{is_name_byte, values_text, WellFormed, failing, first_fault, here, set_rules, machine_short, few_devices, all_true}
+use Rattle.vms_analyze.proofs.Facade.{or_else_none, every_one, front_take, text_says}
 use Rattle.vms_elements.specs.Elements.{Number, Element}
 use Rattle.vms_elements.specs.Lines.{number_line}
 use Rattle.vms_analyze.proofs.Following.{Follows, none_follows, one_follows, both_follow, follows_as, takes_line, takes_any, takes_number, takes_bytes, takes_foot, takes_head, Takes, if_so}
@@ -62,31 +62,24 @@ module _ (n : List ℤ) (id : ℕ) where
       go true false f g =
           follows_as (ap (λ (y : ℤ). element_want (Kept name cell.kind y) ∷ []) (g refl refl)) refl refl
           (one_follows (takes_line (name ++ (codes " = " ++ signed_decimal z)) id))
-      go false true f g = no (f refl).0
-        where
-          no : false ≡ true → Follows (map element_want (told_what (Number cell) false true name)) id (bytes_if n true at (Number cell)) id []
-          no e = cc
+      go false true f g = absurd (cc ((f refl).0))
       go false false f g = none_follows id
+
+  -- what isn't a number has no line
+  others : (w : What) (counted p : Bool) (at : ℕ) (name : List ℕ) → is_number w ≡ false
+      → Follows (map element_want (told_what w counted p name)) id (bytes_if n p at w) id []
+  others (Number cell) counted p at name e = cc
+  others (Constant kind y) counted true at name e = rw (append-nil (code kind y)) (one_follows (takes_any (code kind y) (width kind) id (length-code kind y)))
+  others (Filler m) counted true at name e =
+      rw (append-nil {A = ℕ} (replicate m 0)) (one_follows (takes_any (replicate m 0) m id (length-replicate m 0)))
+  others (Rule holds) counted true at name e = none_follows id
+  others _ counted false at name e = none_follows id
 
   one : (sent : Bool) (w : What) (counted present : Bool) (at : ℕ) (name : List ℕ) → IsSaidAs sent w counted present (get_or n at (pos 0))
       → Follows (map element_want (told_what w counted (sent && present) name)) id (bytes_if n (sent && present) at w) id
       (lines_if (counted && is_number w) (name ++ (codes " = " ++ signed_decimal (get_or n at (pos 0)))))
   one sent (Number cell) counted present at name said = rw (and-true counted) (number_follows sent counted present cell at name said)
-  one sent (Constant kind y) counted present at name said = rw (and-false counted) (by (sent && present))
-    where
-      by : (p : Bool) → Follows (map element_want (told_what (Constant kind y) counted p name)) id (bytes_if n p at (Constant kind y)) id []
-      by true = rw (append-nil (code kind y)) (one_follows (takes_any (code kind y) (width kind) id (length-code kind y)))
-      by false = none_follows id
-  one sent (Filler m) counted present at name said = rw (and-false counted) (by (sent && present))
-    where
-      by : (p : Bool) → Follows (map element_want (told_what (Filler m) counted p name)) id (bytes_if n p at (Filler m)) id []
-      by true = rw (append-nil {A = ℕ} (replicate m 0)) (one_follows (takes_any (replicate m 0) m id (length-replicate m 0)))
-      by false = none_follows id
-  one sent (Rule holds) counted present at name said = rw (and-false counted) (by (sent && present))
-    where
-      by : (p : Bool) → Follows [] id (bytes_if n p at (Rule holds)) id []
-      by true = none_follows id
-      by false = none_follows id
+  one sent w counted present at name said = rw (and-false counted) (others w counted (sent && present) at name refl)
 
   -- ---- all of them
 
@@ -136,14 +129,10 @@ module _ (n : List ℤ) (id : ℕ) where
 said_as : (n : List ℤ) (short : AreShort n) (x : Element) (w : What) → x.what ≡ w → IsCounted x
     → (x.counted ≡ true → is_number w ≡ true → line_reason (OfNumber x n) (number_line n x) ≡ None)
     → IsSaidAs true w x.counted x.present (get_or n x.cell (pos 0))
-said_as n short x (Number cell) e counted fine = (
-  λ p. (counted p, (fits (counted p)).fits.0),
-  λ c p. (fits c).absent p,
-)
-  where
-    fits : x.counted ≡ true → IsFitting cell x.present (get_or n x.cell (pos 0))
-    fits c = reason_fits cell x.present (get_or n x.cell (pos 0)) (sym (line_number x n cell e (short x.cell)) ∙ fine c refl)
-said_as n short x (Constant kind y) e counted fine = tt
+said_as n short x (Number cell) e counted fine =
+    let fits : x.counted ≡ true → IsFitting cell x.present (get_or n x.cell (pos 0)) =
+    λ c. reason_fits cell x.present (get_or n x.cell (pos 0)) (sym (line_number x n cell e (short x.cell)) ∙ fine c refl) in
+    (λ p. (counted p, (fits (counted p)).fits.0), λ c p. (fits c).absent p)
 said_as n short x _ e counted fine = tt
 
 pub fine_said : (n : List ℤ) → AreShort n → (xs : List Element) → AreCounted xs → AreFine (of_numbers n (printed xs)) → Each (IsSaid true n) xs
@@ -159,11 +148,7 @@ fine_said n short (x ∷ xs) counted fine =
     its_line c w = first (x.counted && is_number x.what) fine (ap (λ (b : Bool). b && is_number x.what) c ∙ w)
 
 kept_as : (n : List ℤ) (at : ℕ) (w : What) (counted present : Bool) → has_default n at w ≡ true → IsSaidAs false w counted present (get_or n at (pos 0))
-kept_as n at (Number cell) counted present h = (λ p. no p, λ c p. same_number_is (get_or n at (pos 0)) cell.default h)
-  where
-    no : false ≡ true → (counted ≡ true) × InRange cell.kind (get_or n at (pos 0))
-    no e = cc
-kept_as n at (Constant kind y) counted present h = tt
+kept_as n at (Number cell) counted present h = (λ p. absurd (cc), λ c p. same_number_is (get_or n at (pos 0)) cell.default h)
 kept_as n at _ counted present h = tt
 
 pub default_said : (n : List ℤ) (xs : List Element) → have_defaults n xs ≡ true → Each (IsSaid false n) xs
@@ -226,10 +211,7 @@ module _ (set : Set) (d : Device) (image : Image) (short : AreShort image.number
       let others = subs_entries set d image (suc j) next subs came in
       let f = fine_both numbers others fine.1 in
       let g = good_both set numbers others good.1 in
-      let rest = written_subs set d image next subs came in
-      let lines = number_lines set s.desc n at ++ subs_lines set n next subs came in
-      follows_as refl (ap (λ (w : ℕ). sub_head s.desc.name w ++ zeroed n (sub_slots set s w n at) ++ rest) (sym versions.0))
-      (ap (λ (w : ℕ). sub_line s (Some w) ∷ lines) (sym versions.0)) (both_follow (sub_came s at f.0) (subs_follow (suc j) next subs came versions.1 f.1 g.1))
+      rw versions.0 (both_follow (sub_came s at f.0) (subs_follow (suc j) next subs came versions.1 f.1 g.1))
 
   -- a device, whichever section was open
   pub device_follows : (old : ℕ) → id < 2 ^ 32 → IsShaped set d image → AreFine (device_entries set d image) → AreGood set (device_entries set d image)
@@ -239,13 +221,8 @@ module _ (set : Set) (d : Device) (image : Image) (short : AreShort image.number
       let others = subs_entries set d image 0 (own_cells set d) d.subs image.came in
       let f = fine_both numbers others fine.1 in
       let g = good_both set numbers others good.1 in
-      let body = zeroed n (own_slots set d d.desc.version n) in
-      let subs = written_subs set d image (own_cells set d) d.subs image.came in
-      let lines = number_lines set d.desc n 0 in
-      let later = subs_lines set n (own_cells set d) d.subs image.came in
-      follows_as refl (ap (λ (v : ℕ). section_head id d.desc.name d.instance v ++ zeroed n (own_slots set d v n) ++ subs ++ foot id) (sym shaped.version))
-      (ap (λ (l : List (List ℕ)). section_line d d.desc.version ∷ l) (append-nil (lines ++ later)) ∙ ap (λ (v : ℕ). section_line d v ∷ (lines ++ later))
-      (sym shaped.version))
+      let lines = number_lines set d.desc n 0 ++ subs_lines set n (own_cells set d) d.subs image.came in
+      rw (shaped.version, ← append-nil lines)
       (both_follow
       (both_follow (both_follow (one_follows (takes_head d.desc.name d.instance d.desc.version old id small)) (part_follows d.desc 0 f.0))
       (subs_follow 0 (own_cells set d) d.subs image.came shaped.versions f.1 g.1))

@@ -3,8 +3,7 @@ use Rattle.vms_analyze.proofs.Facade.{and-false, ◌≡◌, ℕ, ◌+◌, ◌<�
 use Rattle.vms_analyze.proofs.Facade.{get_or, take, drop, length-drop, ◌-◌, refl, sym, ap, ◌∙◌, subst, arith, append-nil, list_all, and_parts, leb-true, le-leb}
 use Rattle.vms_analyze.proofs.Facade.{take_all, drop-drop, LONGEST_NAME, number_at, bytes_at, is_name_byte, begins_with, configuration, section_head, Machine}
 use Rattle.vms_analyze.proofs.Facade.{Head, is_machine, machine_line, taken, behind, found_after, found, left, IsInside, Goes, Prints, HasNoMachine, Walk}
-use Rattle.vms_analyze.proofs.Facade.{begun}
-use Rattle.vms_analyze.specs.Wanted.{section_line}
+use Rattle.vms_analyze.proofs.Facade.{begun, section_line}
 use Rattle.vms_analyze.specs.declared.walk.Stop.TheVariants as stops
 use Rattle.vms_analyze.proofs.Following.{takes_head, Takes}
 use Rattle.vms_analyze.proofs.Streams.{takes_machine, no_machine}

@@ -4,13 +4,15 @@ pub use Rattle.std.proofs.Common.{map, min, nat_le, nat_lt, negsuc, pos, refl, r
 pub use Rattle.std.proofs.Common.{◌-◌, ◌<◌, ◌==◌, ◌^◌, ◌||◌, ◌∙◌, ◌∷◌, ◌≡◌, ◌≤ℤ◌, ◌≤◌, ◌⊎◌}
 pub use Rattle.std.proofs.Math.Bool.{or-false}
 pub use Rattle.std.proofs.Math.Nat.{eq-or-lt_of_le, mod-le}
+pub use Rattle.std.proofs.Math.Seq.{drop-append_seam, take-append_seam}
 pub use Rattle.std.proofs.lemmas.Bool.{and_from, and_parts, cases_eq, cases_lt, eq-eqb, eqb-true, false_from_ne_true, leb-true, ltb-true, or_parts}
 pub use Rattle.std.proofs.lemmas.Int.{ints}
 pub use Rattle.std.proofs.lemmas.List.{append-nil, ext_get_or, get_or-append-add, get_or_append_left, get_or_past, length-append, length-map, length-replicate}
-pub use Rattle.std.proofs.lemmas.List.{take_all}
 pub use Rattle.std.proofs.lemmas.Option.{get_or_from_slice_get, slice_get-get_or, slice_get-map, slice_get_within}
 pub use Rattle.std.proofs.lemmas.Slice.Eq.{bytes_eq-Decides}
-pub use Rattle.std.specs.List.{AllByRecursion, flat_map, list_all, list_any, slice_get}
+pub use Rattle.std.proofs.lemmas.Slice.Zip.{AllZip-long}
+pub use Rattle.std.specs.List.{AllByRecursion, AllZip, flat_map, list_all, list_any, slice_get}
+pub use Rattle.std.specs.Option.{option_and_then}
 pub use Rattle.std.specs.Str.{bytes_eq}
 pub use Rattle.byteorder.specs.Endian.{big_number}
 pub use Rattle.vms_kinds.specs.Codes.{InRange, code, highest, residue, width}
@@ -20,7 +22,7 @@ pub use Rattle.vms_kinds.specs.declared.Kind.{Kind}
 pub use Rattle.vms_kinds.specs.declared.Kind.TheVariants.{I16, I32, I64, I8, Timer, U16, U32, U64, U8}
 pub use Rattle.vms_spec.proofs.Faultless.{AllTrue, answers_none, every_one, few_devices, machine_short, or_else_none}
 pub use Rattle.vms_spec.proofs.KindLaws.{code_read, length-code}
-pub use Rattle.vms_spec.proofs.ListLaws.{all_right, or_second}
+pub use Rattle.vms_spec.proofs.ListLaws.{all_right, either_of}
 pub use Rattle.vms_spec.proofs.NumberLaws.{same_number_is}
 pub use Rattle.vms_spec.proofs.Prefixes.{FieldsBelow, ItemBelow, desc_cells_same, first_same, item_below, struct_cells_at, struct_slots}
 pub use Rattle.vms_spec.proofs.Sizes.{elements_fit, field_size, size_same}
@@ -53,7 +55,7 @@ pub use Rattle.vms_bodies.proofs.AgreeLaws.{its_below, its_in, named_inside, ski
 pub use Rattle.vms_bodies.proofs.BodyLaws.{at_set}
 pub use Rattle.vms_bodies.proofs.CellLaws.{MeanCells, cells_first, field_are, item_are, meanings_are}
 pub use Rattle.vms_bodies.proofs.Names.{has_left, has_right, names_append, none_in_both}
-pub use Rattle.vms_bodies.proofs.PartLaws.{at_other, part_apart, parts_together, places_apart, sub_place_up, sub_size}
+pub use Rattle.vms_bodies.proofs.PartLaws.{at_other, cells_of_sub, part_apart, parts_together, places_apart, sub_place_up, sub_size}
 pub use Rattle.vms_bodies.proofs.ReadyLaws.{version_is}
 pub use Rattle.vms_bodies.proofs.SectionLaws.{defaults_at, defaults_long}
 pub use Rattle.vms_bodies.proofs.SettledLaws.{cells_in}
@@ -65,7 +67,7 @@ pub use Rattle.vms_stream.specs.Streams.{HasSection, IsSection, IsStream, Sectio
 pub use Rattle.vms_check.proofs.ListLaws.{passes}
 pub use Rattle.vms_check.proofs.ReducedLaws.{IfOpen, IsByParts, open_reduced, reduced_holds}
 pub use Rattle.vms_check.specs.Carrying.{Carrier, carried_at, carried_device, carried_sub, carrier_of, carriers, carry_desc, carry_field, carry_from}
-pub use Rattle.vms_check.specs.Carrying.{carry_item, carry_items, carry_next, carry_sub, carrying, default_field, defaults, entries_left, no_carrier, no_image}
+pub use Rattle.vms_check.specs.Carrying.{carry_item, carry_items, carry_next, carrying, default_field, defaults, entries_left, no_carrier, no_image}
 pub use Rattle.vms_check.specs.Carrying.{sub_came}
 unfoldable pub use Rattle.vms_check.specs.Carrying.{carried}
 pub use Rattle.vms_check.specs.Comparing.{Comparer, Compatible, Entry, absent_hold, bound, compare_desc, compare_device, compare_fields, compare_sub}

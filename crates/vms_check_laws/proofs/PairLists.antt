@@ -1,9 +1,9 @@
 -- Partners of cells among the cells from a place on; numbers that are in the bytes, or at their defaults.
 use Rattle.vms_check_laws.proofs.Facade.{◌≡◌, ◌⊎◌, inl, inr, ℕ, zero, suc, ◌+◌, ◌-◌, ◌<◌, ◌≤◌, List, ◌∷◌, ◌++◌, length, get_or, replicate, Option, Some, None}
-use Rattle.vms_check_laws.proofs.Facade.{refl, sym, ap, ◌∙◌, arith, slice_get, get_or_append_left, get_or-append-add, length-replicate, cases_lt, ℤ, pos, true}
-use Rattle.vms_check_laws.proofs.Facade.{length-append, length-map, eq-eqb, Bool, if◌then◌else◌, [], false, ◌||◌, or-false, or_parts, false_from_ne_true}
-use Rattle.vms_check_laws.proofs.Facade.{slice_get_within, Cell, no_cell, Kind, Item, Num, Slot, Number, item_cells, has_cell, has_left, has_right, defaults}
-use Rattle.vms_check_laws.proofs.Facade.{or_second, names_append, defaults_at, defaults_long}
+use Rattle.vms_check_laws.proofs.Facade.{refl, sym, ap, ◌∙◌, arith, slice_get, get_or_append_left, get_or-append-add, length-replicate, cases_lt, ℤ, pos}
+use Rattle.vms_check_laws.proofs.Facade.{true, length-append, length-map, eq-eqb, Bool, if◌then◌else◌, [], false, ◌||◌, or-false, or_parts}
+use Rattle.vms_check_laws.proofs.Facade.{false_from_ne_true, slice_get_within, Cell, no_cell, Kind, Item, Num, Slot, Number, item_cells, has_cell, has_left}
+use Rattle.vms_check_laws.proofs.Facade.{has_right, defaults, names_append, defaults_at, defaults_long, either_of}
 
 abbrev pub one_cell : Kind → List ℕ → ℤ → List Cell
 one_cell kind caps default = record { kind = kind; capacities = caps; default = default } ∷ []
@@ -47,9 +47,8 @@ at_right [] ys c = let z : 0 + c ≡ c = omega arith in ap (slice_get ys) z
 at_right (x ∷ xs) ys c = let z : suc (length xs) + c ≡ suc (length xs + c) = omega arith in ap (slice_get (x ∷ xs ++ ys)) z ∙ at_right xs ys c
 
 pub at_none : (n c k : ℕ) → slice_get (replicate n None) c ≡ Some (Some k) → ⊥
-at_none zero c k e = cc
-at_none (suc n) zero k e = cc
 at_none (suc n) (suc c) k e = at_none n c k e
+at_none _ _ k e = cc
 
 -- ---- joined
 
@@ -113,11 +112,6 @@ pub paired_append : {xs ys us vs : List Cell} {at next : ℕ} {p q : List (Optio
     → AreFrom (xs ++ ys) (us ++ vs) at (p ++ q)
 paired_append h e g = joined _ _ _ _ _ _ _ h (rw e at g)
 
--- others before them, or with which nothing is paired
-pub paired_behind : {cells others : List Cell} {at next : ℕ} {p : List (Option ℕ)} (gap : List Cell) → next ≡ at + length gap → AreFrom cells others next p
-    → AreFrom cells (gap ++ others) at p
-paired_behind {at = at} gap e h = paired_append (paired_none [] gap at 0 refl) e h
-
 pub paired_skip : {ys others : List Cell} {at : ℕ} {p : List (Option ℕ)} (xs : List Cell) (n : ℕ) → n ≡ length xs → AreFrom ys others at p
     → AreFrom (xs ++ ys) others at (replicate n None ++ p)
 paired_skip {at = at} xs n e h = paired_append (paired_none xs [] at n e) (omega arith) h
@@ -158,9 +152,7 @@ settled_append {s} {t} {at} {next} {xs} {ys} {zs} {us} size h e k = record { eac
       (elim (k.each b.more (omega (arith, length-append zs us))) [ inl has ↦ inl (has_right s t _ (rw place at has)) | inr is ↦ inr is ])
 
 pub settled_more : (s t : List Slot) (at : ℕ) (xs : List Cell) (zs : List ℤ) → Settled s at xs zs → Settled (s ++ t) at xs zs
-settled_more s t at xs zs h = record {
-  each = λ c lt. elim (h.each c lt) [ inl has ↦ inl (has_left s t (at + c) has) | inr is ↦ inr is ];
-}
+settled_more s t at xs zs h = record { each = λ c lt. elim (h.each c lt) [ inl has ↦ inl (has_left s t (at + c) has) | inr is ↦ inr is ] }
 
 -- defaults don't depend on what is counted
 pub same_defaults : (y : List (List Cell)) (j : Item) (caps caps' : List ℕ) (d : ℤ) → defaults (item_cells y j caps d) ≡ defaults (item_cells y j caps' d)
@@ -188,13 +180,8 @@ none_within at size = record { in_range = λ c h. absurd (cc) }
 -- if none of the cells is in the bytes, all is default
 pub goes_absent : {cells others : List Cell} {numbers : List ℤ} {at at' : ℕ} {partners : List (Option ℕ)} → AreFrom cells others at' partners
     → Goes cells others numbers [] at at' partners (defaults others)
-goes_absent {cells} {others} {numbers} {at} {at'} h = record {
-  paired = h;
-  within = none_within at _;
-  long = defaults_long others;
-  taken = λ c r e f. absurd (cc);
-  other = λ r lt f. defaults_at others r;
-}
+goes_absent {cells} {others} {numbers} {at} {at'} h =
+    record { paired = h; within = none_within at _; long = defaults_long others; taken = λ c r e f. absurd (cc); other = λ r lt f. defaults_at others r }
 
 -- and where none has a partner
 pub goes_alone : {cells others : List Cell} {numbers : List ℤ} {slots : List Slot} {at at' : ℕ} {segment : List ℤ} (n : ℕ) → n ≡ length cells
@@ -208,12 +195,11 @@ goes_alone {cells} {others} {numbers} {slots} {at} {at'} n e w is = record {
 }
 
 within_append : (at m n : ℕ) (xs ys : List Slot) → IsWithin at m xs → IsWithin (at + m) n ys → IsWithin at (m + n) (xs ++ ys)
-within_append at m n xs ys p q = record { in_range = λ c h. go c _ refl (sym (names_append xs ys c) ∙ h) } where
-  go : (c : ℕ) (b : Bool) → has_cell xs c ≡ b → (has_cell xs c || has_cell ys c) ≡ true → (at ≤ c) × (c < at + (m + n))
-  go c true e h = let r = p.in_range c e in (r.0, omega arith)
-  go c false e h =
-      let r = q.in_range c (or_second (has_cell xs c) (has_cell ys c) h e) in
-      (omega arith, omega arith)
+within_append at m n xs ys p q = record {
+  in_range = λ c h.
+      either_of (has_cell xs c) (has_cell ys c) (sym (names_append xs ys c) ∙ h) (λ e. (let r = p.in_range c e in (r.0, omega arith)))
+      (λ e. (let r = q.in_range c e in (omega arith, omega arith)));
+}
 
 module _ (cells_a cells_b others_a others_b : List Cell) (numbers : List ℤ) (xs ys : List Slot) (at at' : ℕ) (p q : List (Option ℕ)) (s t : List ℤ)
     (h : Goes cells_a others_a numbers xs at at' p s) (g : Goes cells_b others_b numbers ys (at + length cells_a) (at' + length others_a) q t) where
@@ -250,8 +236,7 @@ module _ (cells_a cells_b others_a others_b : List Cell) (numbers : List ℤ) (x
       let pair = g.paired.pairs b.more (at' + r) place in
       let r_is : r ≡ length s + pair.r = omega arith in
       let c_is : at + c ≡ next + b.more = omega arith in
-      let has : has_cell ys (next + b.more) ≡ true = rw (has_second (at + c) (omega arith), c_is) at f in
-      rw (r_is, get_or-append-add s t pair.r (pos 0), c_is) (g.taken b.more pair.r (rw (← pair.is) place) has)
+      rw (r_is, get_or-append-add s t pair.r (pos 0), c_is) (g.taken b.more pair.r (rw (← pair.is) place) (rw (has_second (at + c) (omega arith), c_is) at f))
 
   other_at : (r : ℕ) → r < length (others_a ++ others_b) → ((c : ℕ) → HasIt c r → has_cell (xs ++ ys) (at + c) ≡ false)
       → (r < length others_a) ⊎ IsBehind (length others_a) r → get_or (s ++ t) r (pos 0) ≡ (get_or (others_a ++ others_b) r no_cell).default

@@ -1,13 +1,14 @@
 -- What is known of fields and structures on both sides: present fields paired by position, numbers that fit cells, and premises.
 use Rattle.vms_check_laws.proofs.Facade.{◌≡◌, ◌⊎◌, inl, inr, ℕ, Bool, true, List, ◌∷◌, Option, None, and_parts, [], ◌&&◌, zero, suc, ◌+◌, ◌<◌, ◌++◌, length}
 use Rattle.vms_check_laws.proofs.Facade.{get_or, refl, arith, ℤ, pos, ◌≤◌, Some, slice_get, eqb-true, if◌then◌else◌, ◌*◌, ◌∙◌, ◌==◌, get_or_from_slice_get}
-use Rattle.vms_check_laws.proofs.Facade.{Item, Desc, counted, in_field, Part, Entry, same_rest, same_count, same_item, same_constant, is_covered, holds_as_much}
-use Rattle.vms_check_laws.proofs.Facade.{absent_hold, bound, Comparer, failing_pair, pair_rules, pair_structs, compare_fields, passes, ItemBelow, or_else_none}
-use Rattle.vms_check_laws.proofs.Facade.{names_match, Cell, no_cell, times, defaults, FitsCell, cells_in, Equal, Unused, Count, Counted, Formula, Field}
-use Rattle.vms_check_laws.proofs.Facade.{Meaning, no_meaning, item_cells, names_well, nobody, is_one, no_comparer, Carrier, no_carrier, Holds, FitsAt, Carries}
-use Rattle.vms_check_laws.proofs.Facade.{Aligns, FieldsBelow, Slot, is_earlier_in, Num, Filler, Fixed, Kind, One, cells_from, elements_of, entry_of}
-use Rattle.vms_check_laws.proofs.Facade.{field_cells, here, is_there, item_slots, kind_of, no_parent, presence, present_from, residue, same_kind, slots_from}
-use Rattle.vms_check_laws.proofs.Facade.{width, zeroed, U8, U16, U32, U64, I8, I16, I32, I64, Timer, no_field, field_slots, place_of, kind_number}
+use Rattle.vms_check_laws.proofs.Facade.{Item, Desc, counted, in_field, Part, Entry, same_rest, same_count, same_item, same_constant, is_covered}
+use Rattle.vms_check_laws.proofs.Facade.{holds_as_much, absent_hold, bound, Comparer, failing_pair, pair_rules, pair_structs, compare_fields, passes}
+use Rattle.vms_check_laws.proofs.Facade.{ItemBelow, or_else_none, names_match, Cell, no_cell, times, defaults, FitsCell, cells_in, Equal, Unused, Count}
+use Rattle.vms_check_laws.proofs.Facade.{Counted, Formula, Field, Meaning, no_meaning, item_cells, names_well, nobody, is_one, no_comparer, Carrier}
+use Rattle.vms_check_laws.proofs.Facade.{no_carrier, Holds, FitsAt, Carries, Aligns, FieldsBelow, Slot, is_earlier_in, Num, Filler, Fixed, Kind, One}
+use Rattle.vms_check_laws.proofs.Facade.{cells_from, elements_of, entry_of, field_cells, here, is_there, item_slots, kind_of, no_parent, presence}
+use Rattle.vms_check_laws.proofs.Facade.{present_from, residue, same_kind, slots_from, width, zeroed, U8, U16, U32, U64, I8, I16, I32, I64, Timer, no_field}
+use Rattle.vms_check_laws.proofs.Facade.{field_slots, place_of, kind_number, AllByRecursion, AllZip, flat_map, AllZip-long}
 use Rattle.vms_spec.specs.Images.{FitCells as AreFit}
 use Rattle.vms_kinds.specs.declared.Kind.TheVariants.{Bool as Truth}
 use Rattle.vms_check_laws.proofs.Positioned.{if_is}
@@ -41,19 +42,6 @@ module _ (two : Two) where
     pub low : ItemBelow below i
     pub low' : ItemBelow below' j
 
-  abbrev pub Zip : List Entry → List Entry → Type 0
-  Zip [] [] = Unit {0}
-  Zip (e ∷ es) (f ∷ fs) = PairGood e f × Zip es fs
-  Zip _ _ = ⊥
-
-  pub zip_of : (es fs : List Entry) → compare_fields ks a b v w part part' o n es fs ≡ None → Zip es fs
-  zip_of [] [] h = tt
-  zip_of (e ∷ es) (f ∷ fs) h =
-      let p = or_else_none _ _ h in
-      let q = or_else_none _ _ p.1 in
-      (record { rules = p.0; structs = q.0 }, zip_of es fs q.1)
-  zip_of _ _ h = cc
-
   -- new's unused bytes over old's constant or numbers, or rules 7 to 12
   pub record Matched (e f : Entry) : Type 0 where
     pub count : same_count o n e.field.count f.field.count ≡ true
@@ -79,8 +67,7 @@ module _ (two : Two) where
             let r7 = passes 7 (same_count o n e.field.count f.field.count) _ p q m.1 in
             let r8 = passes 8 (same_item e.field.item f.field.item) _ p q r7.1 in
             let r9 = passes 9 (same_rest o n e.rest f.rest) _ p q r8.1 in
-            let r10 = passes 10 (names_match e.field f.field) _ p q r9.1 in
-            let r11 = passes 11 (room && absent) _ p q r10.1 in
+            let r11 = passes 11 (room && absent) _ p q (passes 10 (names_match e.field f.field) _ p q r9.1).1 in
             let r12 = passes 12 (same_constant e.field.item f.field.item) [] p q r11.1 in
             let both = and_parts room absent r11.0 in
             inr (record { count = r7.0; item = r8.0; rest = r9.0; room = both.0; absent = both.1; constant = r12.0 })
@@ -89,16 +76,10 @@ module _ (two : Two) where
 -- ---- numbers that fit cells, one by one
 
 abbrev pub FitCells : List Cell → List ℤ → Type 0
-FitCells [] [] = Unit {0}
-FitCells [] (z ∷ zs) = ⊥
-FitCells (x ∷ xs) [] = ⊥
-FitCells (x ∷ xs) (z ∷ zs) = FitsCell x z × FitCells xs zs
+FitCells xs zs = AllZip FitsCell xs zs
 
 pub fit_length : (xs : List Cell) (zs : List ℤ) → FitCells xs zs → length zs ≡ length xs
-fit_length [] [] h = refl
-fit_length [] (z ∷ zs) h = absurd h
-fit_length (x ∷ xs) [] h = absurd h
-fit_length (x ∷ xs) (z ∷ zs) h = rw (fit_length xs zs h.1)
+fit_length xs zs h = AllZip-long FitsCell xs zs h
 
 fit_each : (xs : List Cell) (zs : List ℤ) → FitCells xs zs → (c : ℕ) → c < length xs → FitsCell (get_or xs c no_cell) (get_or zs c (pos 0))
 fit_each [] zs h c lt = absurd (omega arith)
@@ -111,14 +92,12 @@ are_fit xs zs h = record { long = fit_length xs zs h; fits = λ c lt. fit_each x
 
 pub fit_append : (xs ys : List Cell) (zs us : List ℤ) → FitCells xs zs → FitCells ys us → FitCells (xs ++ ys) (zs ++ us)
 fit_append [] ys [] us h k = k
-fit_append [] ys (z ∷ zs) us h k = absurd h
-fit_append (x ∷ xs) ys [] us h k = absurd h
 fit_append (x ∷ xs) ys (z ∷ zs) us h k = (h.0, fit_append xs ys zs us h.1 k)
+fit_append _ ys _ us h k = absurd h
 
 -- the default of each cell fits it
 abbrev pub GoodCells : List Cell → Type 0
-GoodCells [] = Unit {0}
-GoodCells (c ∷ cells) = FitsCell c c.default × GoodCells cells
+GoodCells cells = AllByRecursion (λ c. FitsCell c c.default) cells
 
 pub fit_defaults : (cells : List Cell) → GoodCells cells → FitCells cells (defaults cells)
 fit_defaults [] h = tt
@@ -153,13 +132,17 @@ pub record Meets (numbers numbers' : List ℤ) (xs : List Slot) (ys : ℕ → Li
   pub aligned : (y : ℕ) → Aligns numbers xs numbers' (ys y)
   pub reads : (y : ℕ) → Holds numbers' y segment → Reads numbers numbers' xs (ys y) y cells segment
 
--- what is known of the structures below a number: their cells, slots, comparers and carriers
-pub record Table (ks : List Comparer) (cs : List Carrier) (ms ns : List Meaning) (numbers numbers' : List ℤ) (below below' : ℕ) : Type 0 where
-  pub sized : (j i k : ℕ) → j < below' → length (get_or cs j no_carrier i numbers k) ≡ length (get_or (cells_in ns) j [])
-  pub good : (j : ℕ) → j < below' → GoodCells (get_or (cells_in ns) j [])
-  pub meets : (i j : ℕ) → i < below → j < below' → get_or ks j no_comparer i ≡ None → (x : ℕ) → FitsAt (get_or (cells_in ms) i []) numbers x
+-- what is known of the newer structure j, with its comparer and its carrier
+pub record Row (ms ns : List Meaning) (numbers numbers' : List ℤ) (below j : ℕ) (rule : Comparer) (carrier : Carrier) : Type 0 where
+  pub sized : (i p : ℕ) → length (carrier i numbers p) ≡ length (get_or (cells_in ns) j [])
+  pub good : GoodCells (get_or (cells_in ns) j [])
+  pub meets : (i : ℕ) → i < below → rule i ≡ None → (x : ℕ) → FitsAt (get_or (cells_in ms) i []) numbers x
       → Meets numbers numbers' ((get_or ms i no_meaning).slots numbers x) (λ y. (get_or ns j no_meaning).slots numbers' y) (get_or (cells_in ns) j [])
-      (get_or cs j no_carrier i numbers x)
+      (carrier i numbers x)
+
+-- what is known of the structures below a number
+pub record Table (ks : List Comparer) (cs : List Carrier) (ms ns : List Meaning) (numbers numbers' : List ℤ) (below below' : ℕ) : Type 0 where
+  pub rows : (j : ℕ) → j < below' → Row ms ns numbers numbers' below j (get_or ks j no_comparer) (get_or cs j no_carrier)
 
 -- both sides with their numbers: the older's from `at` on, and the newer's from `at'` on
 pub record Sides : Type 0 where
@@ -265,8 +248,7 @@ module _ (structs : List Meaning) (all : List Field) (v : ℕ) (own : ℕ → �
   slots_at i p f = field_slots structs all v own numbers i (base + p) f
 
   abbrev pub entries_slots : List Entry → List Slot
-  entries_slots [] = []
-  entries_slots (e ∷ es) = slots_at e.index e.place e.field ++ entries_slots es
+  entries_slots es = flat_map (λ e. slots_at e.index e.place e.field) es
 
   entry_slots : (i p : ℕ) (f : Field) (pr : Option (Option Formula)) (es : List Entry) → presence v f.test f.since ≡ pr
       → slots_at i p f ++ entries_slots es ≡ entries_slots (entry_of i p f pr ++ es)
@@ -304,8 +286,7 @@ module _ (structs : List Meaning) (all : List Field) (v : ℕ) (numbers : List �
   known_there e known plain own parent = presence_there e.field.test e.field.since v own parent ∙ rw (known.left, plain)
 
   abbrev pub AreKnown : List Entry → Type 0
-  AreKnown [] = Unit {0}
-  AreKnown (e ∷ es) = IsKnown e × AreKnown es
+  AreKnown es = AllByRecursion IsKnown es
 
   own_is : (i p : ℕ) (f : Field) → slice_get all i ≡ Some f → place i ≡ base + p
       → own_of i ≡ residue (width (kind_of f.item)) (get_or numbers (base + p) (pos 0))
@@ -332,3 +313,23 @@ module _ (structs : List Meaning) (all : List Field) (v : ℕ) (numbers : List �
   all_known =
       let z : base ≡ base + 0 = omega arith in
       entries_known 0 0 all (from_zero (slice_get all)) (λ k. from_zero place k ∙ rw (← z)) (λ whole. fits_at z whole)
+
+-- ---- the pairs of two descriptions at which no rule fails
+
+module _ (sides : Sides) where
+  open sides use {two, ms, ns, numbers, numbers', at, at'}
+  open two use {ks, a, b, v, w, part, part', o, n}
+
+  pub record Met (e f : Entry) : Type 0 where
+    pub good : PairGood two e f
+    pub known : IsKnown ms a.fields v numbers at e
+    pub known' : IsKnown ns b.fields w numbers' at' f
+
+  pub all_met : (es fs : List Entry) → compare_fields ks a b v w part part' o n es fs ≡ None → AreKnown ms a.fields v numbers at es
+      → AreKnown ns b.fields w numbers' at' fs → AllZip Met es fs
+  all_met [] [] h known known' = tt
+  all_met (e ∷ es) (f ∷ fs) h known known' =
+      let p = or_else_none _ _ h in
+      let q = or_else_none _ _ p.1 in
+      (record { good = record { rules = p.0; structs = q.0 }; known = known.0; known' = known'.0 }, all_met es fs q.1 known.1 known'.1)
+  all_met _ _ h known known' = cc

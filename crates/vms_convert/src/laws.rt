@@ -30,14 +30,14 @@ pub fn recast_of_law()
 
 /// States that there is only one first thing that is lost, and that something is lost only if not
 /// all is kept.
-#[tactic(auto)]
+#[tactic(auto, using(crate::proofs::RecastLaws::one_lost))]
 pub fn one_lost_law()
     ensures { OneLostLaw }
 {}
 
 /// States that each state of the newest set has images in the older set, and that either all is
 /// kept or something is lost first.
-#[tactic(auto)]
+#[tactic(auto, using(crate::proofs::Answered::answered))]
 pub fn answer_law()
     ensures { AnswerLaw }
 {}
@@ -46,7 +46,7 @@ pub fn answer_law()
 /// cells.
 ///
 /// Converting it again gives the same bytes and no others.
-#[tactic(auto)]
+#[tactic(auto, using(crate::proofs::Converts::converts_stand))]
 pub fn converts_law()
     ensures { ConvertsLaw }
 {}

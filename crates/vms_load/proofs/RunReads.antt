@@ -4,8 +4,8 @@ use Rattle.vms_load.proofs.Facade.{take, drop, slice_set, None, refl, ◌∙◌,
 use Rattle.vms_load.proofs.Facade.{take-append-le, drop-append-le, drop_all, length-take-le, take-append-drop, take-take, IsAtEnd, div-le_of_le-mul}
 use Rattle.vms_load.proofs.Facade.{div-lt_iff_lt-mul, lt-div-mul-add, div-mul-le_self, Typed, Taken, ◌>>=◌, take_slot, Progress, refuse, on, reads_as}
 use Rattle.vms_load.proofs.Facade.{nothing_follows, FrameFault, WalkStep, TakesAs, TakesOn, progress, slot_of, take_steps, last_numbers, numbers_then}
-use Rattle.vms_load.proofs.Facade.{step_long, Told, from, Took, Failed, IsTaken, IsStopped, steps_long, take_append, last_taken, told, Kind, U8, U16, U32, U64}
-use Rattle.vms_load.proofs.Facade.{I8, I16, I32, I64, Timer, width, value_of, is_bad_bool, exceeds, values_of, put_from, run_of, keeps_same, keeps_more}
+use Rattle.vms_load.proofs.Facade.{step_long, Told, from, Took, Failed, IsTaken, IsStopped, steps_long, take_append, last_taken, told, Kind}
+use Rattle.vms_load.proofs.Facade.{width, value_of, is_bad_bool, exceeds, values_of, put_from, run_of, keeps_same, keeps_more}
 use Rattle.vms_load.proofs.Facade.{keeps_put, run_split, Intake, Breaks, width_positive}
 use Rattle.std.proofs.Common.{Bool as Truth}
 use Rattle.vms_walk.specs.Inside.{Keeps}
@@ -203,7 +203,7 @@ module _ (old new : Intake) (image : Typed) (first count place : ℕ) (kind : Ki
     stopped more none =
         let put = put_from image.numbers first (values_of kind whole bytes) in
         let all : bytes ++ last ≡ (bytes ++ last) ++ more = sym (ap (λ (l : List ℕ). (bytes ++ last) ++ l) none ∙ append-nil (bytes ++ last)) in
-        let left : more ≡ drop (length last) last = none ∙ sym (drop_all (length last) last (omega arith)) in
+        let left : more ≡ drop (length last) last = cc (drop_all (length last) last (omega arith)) in
         let fault = faults.Refused (place + whole * width kind) reasons.Truncated in
         let behind = progress put (place + whole * width kind) last in
         let is = run_cut kind any count whole first place image.numbers bytes last long cut lt in
@@ -262,7 +262,7 @@ module _ (kind : Kind) (count n : ℕ) (buf : List ℕ) (room : length buf ≡ c
   pub part_came : n / width kind < count → PartCame
   part_came lt =
       let m = n / wide * wide in
-      let parts : take m buf ++ drop m (take n buf) ≡ take n buf = ap (λ (l : List ℕ). l ++ drop m (take n buf)) (sym (take-take m n buf below)) ∙ take-append-drop m (take n buf) in
+      let parts : take m buf ++ drop m (take n buf) ≡ take n buf = cc (take-take m n buf below, take-append-drop m (take n buf)) in
       let long : length (take n buf) ≡ n = length-take-le n buf bound in
       record {
         parts = parts;

@@ -1,4 +1,4 @@
-use Rattle.vms_convert.proofs.Facade.{◌<◌, length, ℕ, sym, subst, arith, ◌∙◌, ap, List, Option, ◌++◌, described, device_at, Side, HasFew, partners_on}
+use Rattle.vms_convert.proofs.Facade.{◌<◌, length, arith, subst, sym, described, device_at, Side, HasFew}
 use Rattle.vms_spec.specs.declared.Part.TheVariants as parts
 use Rattle.vms_convert.proofs.PartnerSteps.{device_pairs, few_own, few_sub, room_own}
 use Rattle.vms_convert.proofs.pairing.partners.Goals as goal
@@ -11,10 +11,8 @@ pair_descs-requires-clause-room c = room_own c.args.new c.args.in_new
 
 pub loop-sub-init : goal.loop-sub-init
 loop-sub-init c =
-    let s = c.at_own_version-older.result in
-    let pairs = partners_on s (record { set = c.args.new; part = parts.Device c.args.in_new; version = s.version }) 0 in
-    device_pairs c.args.old c.args.new c.args.in_old c.args.in_new s c.pair_descs.new.partners.items c.at_own_version-older.ensures
-    (c.in_ok-pair_descs.ensures ∙ ap (λ (l : List (Option ℕ)). l ++ pairs) c.in_ok-partners.ensures.items)
+    device_pairs c.args.old c.args.new c.args.in_old c.args.in_new c.at_own_version-older.result c.pair_descs.new.partners.items
+    c.at_own_version-older.ensures (rw c.in_ok-partners.ensures.items at c.in_ok-pair_descs.ensures)
 
 pub pair_sub-requires-clause-few : goal.pair_sub-requires-clause-few
 pair_sub-requires-clause-few c =

@@ -1,9 +1,10 @@
-use Rattle.vms_analyze.proofs.Facade.{rules, ◌≡◌, ℕ, ◌+◌, ◌<◌, ◌^◌, List, length, true, refl, sym, ap, ◌∙◌, on_ok_weaker, begins_with, section_head, left, Walk}
+use Rattle.vms_analyze.proofs.Facade.{rules, ◌≡◌, ℕ, ◌+◌, ◌<◌, ◌^◌, List, length, true, refl, sym, ap, ◌∙◌, begins_with, section_head, left, Walk}
 use Rattle.vms_analyze.proofs.WalkHeads.{head_goes}
+use Rattle.vms_analyze.proofs.Walks.{prints_walk}
 use Rattle.vms_analyze.proofs.walk.Walk.head.Goals as goal
 
-pub returns-clause-ok : goal.returns-clause-ok
-returns-clause-ok c =
+pub returns : goal.returns
+returns c =
     let walk = c.args.self.now in
     let id = c.in-Some.id in
     let name = c.args.name.now in
@@ -14,7 +15,7 @@ returns-clause-ok c =
     let begins : begins_with head (left walk) ≡ true =
     ap (λ (l : List ℕ). begins_with l (left walk)) (sym (c.as_slice.ensures.value ∙ items)) ∙ sym c.if-not-begins_with.ensures in
     let small : id < 2 ^ 32 = search rules in
-    on_ok_weaker c.print_section.result
+    prints_walk c.print_section.result
     (head_goes walk mid c.print_section.new.self name c.args.instance c.args.version begins small c.requires.inside
     (ap (λ (k : ℕ). walk.place + k) (c.len.ensures.value ∙ ap length items)) refl refl)
-    c.print_section.ensures.ok
+    c.print_section.ensures.ok c.print_section.ensures.err
