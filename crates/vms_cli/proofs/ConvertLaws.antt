@@ -1,14 +1,12 @@
 -- What follows of a stream that `convert` writes.
-use Rattle.vms_cli.proofs.Facade.{◌≡◌, ℕ, List, Option, Some, None, refl, sym, ap, ◌∙◌, subst, arith, [], append-nil, length, ◌-◌, Bool}
-use Rattle.vms_cli.proofs.Facade.{true, false, ◌||◌, ◌∷◌, IfSome, ℤ, if◌then◌else◌, length-map, bytes_eq-Decides, bytes_eq, Held, IsFit}
-use Rattle.vms_cli.proofs.Facade.{Image, Set, Takes, one_stream_holds, taken_kept, Compatible, first_mismatch, Mismatch}
-use Rattle.vms_cli.proofs.Facade.{IsStreamFor, word_set, Outcome, done, SetWord, Step, Untold, Gives, Ends, next, FitStep}
-use Rattle.vms_cli.proofs.Facade.{fit_word, ConvertsBy, Rewrites, WouldLose, agreed, agrees, newest}
-use Rattle.vms_cli.proofs.Facade.{Converts, described_text, AreRecastOf, converts_stand, ready, newest_kinds}
-use Rattle.vms_cli.proofs.Facade.{PrintsAlike, ConvertAgainLaw, ConvertThenAnalyzeLaw, StandsFor, ConvertThenLoadLaw, IsLevel, NEWEST, by_device, joined}
-use Rattle.vms_cli.proofs.Facade.{moment_of, numbers_back, pair_back, pit_back, timed, State, recast_restores, recast_cells, IsConfiguration, is_one_of}
-use Rattle.vms_cli.proofs.Facade.{recast_each, numbers_in, wants_arrays, lists_in, takes_under, cells_of, isa, isa_stands, Back, Restores, Loads, LoadsBy}
-use Rattle.vms_cli.proofs.Facade.{Traces, Unfit, scripted, ScriptLine}
+use Rattle.vms_cli.proofs.Facade.{◌≡◌, ℕ, List, Option, Some, None, refl, sym, ap, ◌∙◌, subst, arith, [], append-nil, length, ◌-◌, Bool, true, false, ◌||◌, ◌∷◌}
+use Rattle.vms_cli.proofs.Facade.{IfSome, ℤ, if◌then◌else◌, length-map, bytes_eq-Decides, bytes_eq, Held, IsFit, Image, Set, Takes, one_stream_holds}
+use Rattle.vms_cli.proofs.Facade.{taken_kept, Compatible, first_mismatch, Mismatch, IsStreamFor, word_set, Outcome, done, SetWord, Step, Untold, Gives, Ends}
+use Rattle.vms_cli.proofs.Facade.{next, FitStep, fit_word, ConvertsBy, Rewrites, WouldLose, agreed, agrees, newest, Converts, described_text, AreRecastOf}
+use Rattle.vms_cli.proofs.Facade.{converts_stand, ready, newest_kinds, PrintsAlike, ConvertAgainLaw, ConvertThenAnalyzeLaw, StandsFor, ConvertThenLoadLaw}
+use Rattle.vms_cli.proofs.Facade.{IsLevel, NEWEST, by_device, joined, moment_of, numbers_back, pair_back, pit_back, timed, State, recast_restores, recast_cells}
+use Rattle.vms_cli.proofs.Facade.{IsConfiguration, is_one_of, recast_each, numbers_in, wants_arrays, lists_in, takes_under, cells_of, isa, isa_stands, Back}
+use Rattle.vms_cli.proofs.Facade.{Restores, Loads, LoadsBy, Traces, Unfit, scripted, ScriptLine}
 use Rattle.vms_cli.specs.Commands.ConvertCommand.{Refuses}
 use Rattle.vms_cli.proofs.Entries.ConvertCommand.{target_gives}
 use Rattle.vms_cli.proofs.ConvertLemmas.{newest_fit}

@@ -2,10 +2,8 @@
 use Rattle.vms_cli.proofs.Facade.{◌≡◌, ℕ, zero, suc, ◌+◌, ◌<◌, ◌≤◌, max, ◌⊎◌, List, ◌∷◌, length, length-append, take, Option, Some, None, IfSome, IsSomeAnd}
 use Rattle.vms_cli.proofs.Facade.{refl, ap, ◌∙◌, subst, arith, inl, inr, [], le-max_left, le-max_right, length-take, Appends, Rose, AppendsPrefix, KeepsPromise}
 use Rattle.vms_cli.proofs.Facade.{Held, HoldsAll, Outlet, IsBytes, bad_words, read_fault, write_fault, shelf_fault, out_of_memory, Stands, Part, Outcome}
-use Rattle.vms_cli.proofs.Facade.{ComesTo}
-use Rattle.vms_cli.proofs.Facade.{FailsToStore, TellsShelfFault, DoesOrStops, ended, text_begun, Outside, HasPart, Asked, asked_of, task_of, CanBeAsked}
-use Rattle.vms_cli.proofs.Facade.{CanBeDone}
-use Rattle.vms_cli.proofs.Facade.{HasOneOutcome, OutcomeLaw, HasRoom, IsAmple, NoneRises, PromisesKept, CompleteLaw, AmpleLaw}
+use Rattle.vms_cli.proofs.Facade.{ComesTo, FailsToStore, TellsShelfFault, DoesOrStops, ended, text_begun, Outside, HasPart, Asked, asked_of, task_of}
+use Rattle.vms_cli.proofs.Facade.{CanBeAsked, CanBeDone, HasOneOutcome, OutcomeLaw, HasRoom, IsAmple, NoneRises, PromisesKept, CompleteLaw, AmpleLaw}
 use Rattle.vms_commands.specs.Outcomes.{text_of}
 use Rattle.vms_cli.proofs.CheckLemmas.{StopsAt}
 use Rattle.vms_cli.proofs.Entries.{row_of, words_ask}

@@ -28,43 +28,44 @@ same_machine set (Some m) = refl
 abbrev pub shows_under : Option (List ℕ) → Option Held → Set → Outcome → Type 0
 shows_under input held set x = IsSomeAnd input (λ bytes. Shows set bytes held x)
 
--- the outcome of an input that takes a stream
-pub shown_is : (set : Set) → IsFit set → (bytes : List ℕ) (held : Option Held) (taken : ℕ) (machine : Option (List ℕ)) (images : List Image) (x : Outcome)
-    → IsBytes bytes
-    → Takes set set.machines bytes taken machine images → Shows set bytes held x → x ≡ done (values_text set machine images) held taken
-shown_is set fit bytes held taken machine images x ok takes (Values taken' machine' images' takes') =
-    let same = one_stream_holds set set.machines fit.well fit.heads bytes taken' taken machine' machine images' images takes' takes in
-    ap (λ (n : ℕ). done (values_text set machine' images') held n) same.lengths
-    ∙ ap (λ (m : Option (List ℕ)). done (values_text set m images') held taken) same.machines
-    ∙ ap (λ (l : List Image). done (values_text set machine l) held taken) same.states
-shown_is set fit bytes held taken machine images x ok takes (Refuses place section reason size fault) =
-    absurd (never_both_holds set set.machines fit.well fit.heads bytes ok taken machine images place section reason size takes fault)
+-- ---- an input has one outcome
 
--- an input is invalid in one way
-pub same_refusal : (set : Set) (bytes : List ℕ) → IsBytes bytes → (place place' : ℕ) (section section' : Option ℕ) (reason reason' : Reason) (size size' : ℕ)
-    → Fault set set.machines bytes place section reason size → Fault set set.machines bytes place' section' reason' size'
-    → ended 1 (refused_line set place' section' reason') (place' + size') ≡ ended 1 (refused_line set place section reason) (place + size)
-same_refusal set bytes ok place place' section section' reason reason' size size' fault fault' =
-    let same = one_fault_holds set set.machines bytes ok place' place section' section reason' reason size' size fault' fault in
-    ap (λ (n : ℕ). ended 1 (refused_line set n section' reason') (n + size')) same.places
-    ∙ ap (λ (o : Option ℕ). ended 1 (refused_line set place o reason') (place + size')) same.sections
-    ∙ ap (λ (r : Reason). ended 1 (refused_line set place section r) (place + size')) same.reasons
-    ∙ ap (λ (n : ℕ). ended 1 (refused_line set place section reason) (place + n)) same.sizes
+-- what is at the front of an input: a stream, or what is wrong there
+pub data Front : Type 0 where
+  Stream : (taken : ℕ) (machine : Option (List ℕ)) (images : List Image) → Front
+  Invalid : (place : ℕ) (section : Option ℕ) (reason : Reason) (size : ℕ) → Front
 
--- the outcome of an invalid input
-pub refused_is : (set : Set) → IsFit set → (bytes : List ℕ) (held : Option Held) (place : ℕ) (section : Option ℕ) (reason : Reason) (size : ℕ) (x : Outcome)
-    → IsBytes bytes
-    → Fault set set.machines bytes place section reason size → Shows set bytes held x → x ≡ ended 1 (refused_line set place section reason) (place + size)
-refused_is set fit bytes held place section reason size x ok fault (Values taken machine images takes) =
-    absurd (never_both_holds set set.machines fit.well fit.heads bytes ok taken machine images place section reason size takes fault)
-refused_is set fit bytes held place section reason size x ok fault (Refuses place' section' reason' size' fault') =
-    same_refusal set bytes ok place place' section section' reason reason' size size' fault fault'
+abbrev pub HasFront : Set → List ℕ → Front → Type 0
+HasFront set input (Stream taken machine images) = Takes set set.machines input taken machine images
+HasFront set input (Invalid place section reason size) = Fault set set.machines input place section reason size
 
--- so an input has one
+pub one_front : (set : Set) → IsFit set → (input : List ℕ) → IsBytes input → (a b : Front) → HasFront set input a → HasFront set input b → b ≡ a
+one_front set fit input ok (Stream n machine images) (Stream m other others) t u =
+    let one = one_stream_holds set set.machines fit.well fit.heads input m n other machine others images u t in
+    rw (one.lengths, one.machines, one.states)
+one_front set fit input ok (Stream n machine images) (Invalid place section reason size) t f =
+    absurd (never_both_holds set set.machines fit.well fit.heads input ok n machine images place section reason size t f)
+one_front set fit input ok (Invalid place section reason size) (Stream n machine images) f t =
+    absurd (never_both_holds set set.machines fit.well fit.heads input ok n machine images place section reason size t f)
+one_front set fit input ok (Invalid place section reason size) (Invalid at device why long) f g =
+    let one = one_fault_holds set set.machines input ok at place device section why reason long size g f in
+    rw (one.places, one.sections, one.reasons, one.sizes)
+
+abbrev shown : Set → Option Held → Front → Outcome
+shown set held (Stream taken machine images) = done (values_text set machine images) held taken
+shown set held (Invalid place section reason size) = ended 1 (refused_line set place section reason) (place + size)
+
+front_shown : (set : Set) (bytes : List ℕ) (held : Option Held) (x : Outcome) → Shows set bytes held x
+    → (front : Front) × HasFront set bytes front × (x ≡ shown set held front)
+front_shown set bytes held _ (Values taken machine images takes) = (Stream taken machine images, takes, refl)
+front_shown set bytes held _ (Refuses place section reason size fault) = (Invalid place section reason size, fault, refl)
+
 pub shows_same : (set : Set) → IsFit set → (bytes : List ℕ) (held : Option Held) (x y : Outcome) → IsBytes bytes → Shows set bytes held x
     → Shows set bytes held y → y ≡ x
-shows_same set fit bytes held x y ok (Values taken machine images takes) q = shown_is set fit bytes held taken machine images y ok takes q
-shows_same set fit bytes held x y ok (Refuses place section reason size fault) q = refused_is set fit bytes held place section reason size y ok fault q
+shows_same set fit bytes held x y ok p q =
+    let a = front_shown set bytes held x p in
+    let b = front_shown set bytes held y q in
+    b.2 ∙ ap (shown set held) (one_front set fit bytes ok a.0 b.0 a.1 b.1) ∙ sym a.2
 
 -- ---- what is seen
 
