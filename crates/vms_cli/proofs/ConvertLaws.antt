@@ -113,12 +113,12 @@ module _ (to : Set) (level : ℕ) where
 
   same_board : (lists : List (List ℤ)) → length lists ≡ 5 → isa.restored level (recast_each to newest.devices lists) ≡ isa.restored level lists
   same_board (a ∷ b ∷ c ∷ d ∷ e ∷ []) five = of_five a b c d e
-  same_board [] five = absurd (omega (arith, five))
-  same_board (a ∷ []) five = absurd (omega (arith, five))
-  same_board (a ∷ b ∷ []) five = absurd (omega (arith, five))
-  same_board (a ∷ b ∷ c ∷ []) five = absurd (omega (arith, five))
-  same_board (a ∷ b ∷ c ∷ d ∷ []) five = absurd (omega (arith, five))
-  same_board (a ∷ b ∷ c ∷ d ∷ e ∷ f ∷ lists) five = absurd (omega (arith, five))
+  same_board [] five = absurd (omega arith)
+  same_board (a ∷ []) five = absurd (omega arith)
+  same_board (a ∷ b ∷ []) five = absurd (omega arith)
+  same_board (a ∷ b ∷ c ∷ []) five = absurd (omega arith)
+  same_board (a ∷ b ∷ c ∷ d ∷ []) five = absurd (omega arith)
+  same_board (a ∷ b ∷ c ∷ d ∷ e ∷ f ∷ lists) five = absurd (omega arith)
 
 -- ---- a stream whose machine is one of some names
 
@@ -138,7 +138,7 @@ known level is None h = tt
 known level is (Some name) h = by (bytes_eq (machine_of level) name) refl h
   where
     by : (b : Bool) → bytes_eq (machine_of level) name ≡ b → b || false ≡ true → is_one_of newest.machines name ≡ true
-    by true e h = ap (is_one_of newest.machines) (sym ((bytes_eq-Decides (machine_of level) name).0 e)) ∙ of_level level is
+    by true e h = cc ((bytes_eq-Decides (machine_of level) name).0 e, of_level level is)
     by false e h = cc
 
 -- ---- what is loaded

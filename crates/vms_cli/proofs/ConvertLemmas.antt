@@ -26,9 +26,9 @@ newest_fit = fit_word None (Shipped (Isa 4))
 
 -- a list of which an item isn't empty has that item
 inside : (lists : List (List ℤ)) (k c : ℕ) → c < length (get_or lists k []) → k < length lists
-inside [] k c lt = absurd (omega (arith, lt))
+inside [] k c lt = absurd (omega arith)
 inside (l ∷ lists) zero c lt = omega arith
-inside (l ∷ lists) (suc k) c lt = let rest = inside lists k c lt in omega (arith, rest)
+inside (l ∷ lists) (suc k) c lt = let rest = inside lists k c lt in omega arith
 
 module _ (to : Set) (fit : IsFit to) (compatible : Compatible to newest) (machine : Option (List ℕ)) (images : List Image) where
   abbrev wanted : List (List ℤ)
@@ -43,8 +43,7 @@ module _ (to : Set) (fit : IsFit to) (compatible : Compatible to newest) (machin
   -- ---- there is one
 
   pub one_stream : (bytes others : List ℕ) → IsStreamFor to newest machine images bytes → IsStreamFor to newest machine images others → others ≡ bytes
-  one_stream bytes others p q =
-      q.is ∙ ap (λ (b : List Image). written to machine b (Some (described_text to b))) (same p.backs q.backs p.back q.back) ∙ sym p.is
+  one_stream bytes others p q = cc (same p.backs q.backs p.back q.back)
 
   pub never_both : (bytes : List ℕ) (section cell : Option ℕ) → IsStreamFor to newest machine images bytes → LosesFirst to newest machine images section cell
       → ⊥
@@ -89,7 +88,7 @@ module _ (to : Set) (fit : IsFit to) (compatible : Compatible to newest) (machin
     device_inside : (k : ℕ) (numbers : List ℤ) → k < length newest.devices → length numbers ≡ length (device_cells newest (device_at newest k))
         → IsInNewest (Some k) (first_cell numbers)
     device_inside k [] lt e = tt
-    device_inside k (z ∷ numbers) lt e = (lt, omega (arith, e))
+    device_inside k (z ∷ numbers) lt e = (lt, omega arith)
 
     pub lost_inside : (section cell : Option ℕ) → LosesFirst to newest machine images section cell → IsInNewest section cell
     lost_inside section cell p = by section cell p.loses
@@ -97,7 +96,7 @@ module _ (to : Set) (fit : IsFit to) (compatible : Compatible to newest) (machin
         by : (section cell : Option ℕ) → Loses to newest machine wanted (there p.backs) p.backs section cell → IsInNewest section cell
         by section cell (OfCell k c before differ) =
             let lt : k < length newest.devices = omega (arith, inside wanted k c differ.inside, long) in
-            (lt, omega (arith, differ.inside, cells_long k lt))
+            (lt, omega (arith, cells_long k lt))
         by section cell (OfDevice k lt all before bad) = device_inside k (get_or wanted k []) lt (cells_long k lt)
         by section cell (OfMachine name all valid is not) = tt
 
@@ -114,14 +113,13 @@ module _ (to : Set) (fit : IsFit to) (compatible : Compatible to newest) (bytes 
   Becomes (Invalid place section reason size) x = x ≡ ended 1 (refused_line newest place section reason) (place + size)
 
   becomes_one : (front : Front) (x y : Outcome) → Becomes front x → Becomes front y → y ≡ x
-  becomes_one (Stream n machine images) x y (inl p) (inl q) =
-      q.2 ∙ ap (λ l. done l held n) (one_stream to fit compatible machine images p.0 q.0 p.1 q.1) ∙ sym p.2
+  becomes_one (Stream n machine images) x y (inl p) (inl q) = cc (one_stream to fit compatible machine images p.0 q.0 p.1 q.1)
   becomes_one (Stream n machine images) x y (inl p) (inr q) = absurd (never_both to fit compatible machine images p.0 q.0 q.1 p.1 q.2)
   becomes_one (Stream n machine images) x y (inr p) (inl q) = absurd (never_both to fit compatible machine images q.0 p.0 p.1 q.1 p.2)
   becomes_one (Stream n machine images) x y (inr p) (inr q) =
       let same = one_loss to fit compatible machine images q.0 q.1 p.0 p.1 q.2 p.2 in
       rw (q.3, p.3, same.0, same.1)
-  becomes_one (Invalid place section reason size) x y p q = q ∙ sym p
+  becomes_one (Invalid place section reason size) x y p q = cc
 
   front_of : (x : Outcome) → Converts to bytes held x → (front : Front) × HasFront newest bytes front × Becomes front x
   front_of _ (Rewrites taken machine images stream takes p) = (Stream taken machine images, takes, inl (stream, p, refl))
@@ -182,14 +180,13 @@ module _ (to : Set) (fit : IsFit to) (i i' : Intake) (o o' : Outlet) where
 
   left_by : (r : Result (Unit {0}) ConvertFault) (e : Option Ending) → EndsLike r e → Calls to newest i i' o o' r → (s s' : Stock) → s'.held ≡ s.held
       → Left s s' e
-  left_by _ _ (IsDone u) c s s' same = Saw c.0 (stream_seen to c.1.machine same c.1.reads c.1.converts.is c.1.converts.puts)
   left_by _ _ (IsMismatch m line said) c s s' same = Unlike said c.0 c.1
   left_by _ _ (IsRefused r line said) c s s' same = Saw c.0 (refusal_seen to c.1.images c.1.taken c.1.reads said)
   left_by _ _ (IsLost section cell line said) c s s' same = Saw c.0 (loss_seen to c.1.machine c.1.reads c.1.converts.0 said)
   left_by _ _ FailsReading c s s' same = Nothing refl (λ x. comes_to_nothing o o' s s' x.parts (same_keeps o o' c.1.none) same)
-  left_by _ _ FailsWriting c s s' same = Saw c.0 (stream_seen to c.1.machine same c.1.reads c.1.converts.is c.1.converts.puts)
   left_by _ _ LacksMemory c s s' same = Nothing refl (λ x. comes_to_nothing o o' s s' x.parts (same_keeps o o' c.1) same)
   left_by _ _ (LacksLine m) c s s' same = Nothing refl (λ x. comes_to_nothing o o' s s' x.parts (same_keeps o o' c.2) same)
+  left_by _ _ _ c s s' same = Saw c.0 (stream_seen to c.1.machine same c.1.reads c.1.converts.is c.1.converts.puts)
 
   -- the outcome of a known input
   content_by : (s s' : Stock) (e : Option Ending) (x : Outcome) → Left s s' e → IfSome i.left IsBytes → i.given < 2 ^ 64
@@ -217,10 +214,10 @@ module _ (to : Set) (fit : IsFit to) (i i' : Intake) (o o' : Outlet) where
   within compatible few = subst (λ (step : Step Set). ConvertGives step i i') (sym (agreed_gives to compatible)) few
 
   few_before : (fault : _) (f : RefusesFirst to newest i i' o o' fault) → length f.reads.bytes ≤ most_given newest → i'.given ≤ i.given + most_given newest
-  few_before fault f long = let given = f.reads.takes.given in omega (arith, given, long)
+  few_before fault f long = omega arith
 
   taken_few : (r : Result (Unit {0}) ConvertFault) (t : TakesFirst to newest i i' o o' r) → i'.given ≤ i.given + most_given newest
-  taken_few r t = let given = t.reads.takes.given in omega (arith, given, t.reads.long.0, t.reads.long.1)
+  taken_few r t = omega arith
 
   convert_given : (r : Result (Unit {0}) ConvertFault) → Calls to newest i i' o o' r → ConvertGives (agrees to) i i'
   convert_given (Ok u) c = within c.0 (taken_few (Ok u) c.1)
@@ -251,14 +248,13 @@ module _ (to : Set) (fit : IsFit to) (i i' : Intake) (o o' : Outlet) where
       let p = c.1.converts.puts in
       record { input_count = t.later; out_count = p.later; input_promise = t.promise; out_promise = p.promise }
   convert_stands (Err (faults.NotCompatible m)) c = stands_same (omega (arith, ap (λ (x : Intake). x.faults) c.1)) (ap (λ (x : Intake). x.promise) c.1) c.2
-  convert_stands (Err (faults.Refused r)) c = stands_same c.1.reads.takes.later c.1.reads.takes.promise c.1.none
   convert_stands (Err (faults.WouldLose section cell)) c = stands_same c.1.reads.takes.later c.1.reads.takes.promise c.1.converts.1
-  convert_stands (Err faults.ReadFault) c = stands_same c.1.reads.takes.later c.1.reads.takes.promise c.1.none
   convert_stands (Err faults.WriteFault) c =
       let t = c.1.reads.takes in
       let p = c.1.converts.puts.puts in
       record { input_count = t.later; out_count = p.later; input_promise = t.promise; out_promise = p.promise }
   convert_stands (Err faults.NoMemory) c = stands_same (omega (arith, ap (λ (x : Intake). x.faults) c.0)) (ap (λ (x : Intake). x.promise) c.0) c.1
+  convert_stands _ c = stands_same c.1.reads.takes.later c.1.reads.takes.promise c.1.none
 
   -- ---- what it touches
 

@@ -74,9 +74,8 @@ triple-asked name one two three =
     (save-asked (board_word one) (shipped_word two) three (word-board one)) tt)
 
 pub words_ask : AskedLaw
-words_ask [] = tt
 words_ask (name ∷ []) = either-asked (bytes_eq name (codes "analyze")) (Some Analyze) None tt tt
 words_ask (name ∷ set ∷ []) = single-asked name set
 words_ask (name ∷ one ∷ other ∷ []) = pair-asked name one other
 words_ask (name ∷ one ∷ two ∷ three ∷ []) = triple-asked name one two three
-words_ask (name ∷ one ∷ two ∷ three ∷ four ∷ words) = tt
+words_ask _ = tt

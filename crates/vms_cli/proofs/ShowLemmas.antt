@@ -103,23 +103,22 @@ pub machine_for : (machines : List (List ℕ)) (machine : Option ℕ) → IsMach
 machine_for machines None h = λ m e. cc
 machine_for machines (Some n) h = λ m e. within m (cc) where
   within : (m : ℕ) → n ≡ m → m < length machines
-  within m same = omega (arith, same, h)
+  within m same = omega arith
 
 module _ (set : Set) where
   are_from : (devices : List Device) (images : List Image) → length images ≡ length devices
       → ((k : ℕ) → k < length devices → IsOf set (get_or devices k no_device) (get_or images k (state_of no_image))) → AreOf set devices images
   are_from [] [] all each = tt
-  are_from [] (image ∷ images) all each = absurd (omega (arith, all))
-  are_from (d ∷ devices) [] all each = absurd (omega (arith, all))
-  are_from (d ∷ devices) (image ∷ images) all each =
-      (each 0 (omega arith), are_from devices images (omega (arith, all)) (λ k lt. each (suc k) (omega (arith, lt))))
+  are_from [] (image ∷ images) all each = absurd (omega arith)
+  are_from (d ∷ devices) [] all each = absurd (omega arith)
+  are_from (d ∷ devices) (image ∷ images) all each = (each 0 (omega arith), are_from devices images (omega arith) (λ k lt. each (suc k) (omega arith)))
 
   pub are_of : is_well_formed set ≡ true → (images : List Typed) → AreShaped set images → AreOf set set.devices (map state_of images)
   are_of well images h = are_from set.devices (map state_of images) (length-map images state_of ∙ h.all) (λ k lt.
       let shape = h.each k lt in
       let is : IsOf set (device_at set k) (state_of (get_or images k no_image)) =
-      record { cells = shape.cells; subs = shape.subs; few = omega (arith, shape.cells, few_cells set well k) } in
-      subst (λ (x : Image). IsOf set (device_at set k) x) (sym (get_or-map state_of images k no_image (state_of no_image) (omega (arith, lt, h.all)))) is)
+      record { cells = shape.cells; subs = shape.subs; few = omega (arith, few_cells set well k) } in
+      subst (λ (x : Image). IsOf set (device_at set k) x) (sym (get_or-map state_of images k no_image (state_of no_image) (omega arith))) is)
 
 -- ---- how many bytes the input gives
 
@@ -144,19 +143,16 @@ AreFit (Gives sets) = IsFit sets.old × IsFit sets.new
 AreFit (Ends status line) = Unit {0}
 
 fit_second : (old : Set) (s : Step Set) → IsFit old → FitStep s → AreFit (next s (λ new. Gives (record { old = old; new = new })))
-fit_second old Untold a b = tt
 fit_second old (Gives new) a b = (a, b)
-fit_second old (Ends status line) a b = tt
+fit_second old _ a b = tt
 
 fit_both : (s r : Step Set) → FitStep s → FitStep r → AreFit (both s r)
-fit_both Untold r a b = tt
 fit_both (Gives old) r a b = fit_second old r a b
-fit_both (Ends status line) r a b = tt
+fit_both _ r a b = tt
 
 fit_after : (s : Step (Both SetText)) → AreFit (next s sets_in)
-fit_after Untold = tt
 fit_after (Gives texts) = fit_both (set_in texts.old) (set_in texts.new) (fit_text texts.old) (fit_text texts.new)
-fit_after (Ends status line) = tt
+fit_after _ = tt
 
 pub fit_sets : (held : Option Held) (old new : SetWord) → AreFit (named_sets held old new)
 fit_sets held old new = fit_after (both (fetched_set held old) (fetched_set held new))
@@ -168,17 +164,15 @@ pub answered : (old new : Set) → IsFit old → IsFit new → (answer : Answer)
 answered old new fit fit' answer c = one_answer_holds old new fit.well answer (computed old new) c (computed_holds old new fit.well fit'.well fit'.heads)
 
 pub counters_text : (held : Option Held) (s : Step (Both Set)) (o : Outcome) → AreFit s → CountersBy s held o → HasText held (next s counted) o
-counters_text held Untold o fit has = has
 counters_text held (Gives sets) _ fit (Answers answer c) =
     ap (λ (a : Answer). done (counter_text sets.old sets.new a) held 0) (answered sets.old sets.new fit.0 fit.1 answer c)
-counters_text held (Ends status line) o fit has = has
+counters_text held _ o fit has = has
 
 pub text_counters : (held : Option Held) (s : Step (Both Set)) (o : Outcome) → AreFit s → HasText held (next s counted) o → CountersBy s held o
-text_counters held Untold o fit has = has
 text_counters held (Gives sets) o fit has =
     subst (λ (x : Outcome). Tells held sets x) (sym has)
     (Answers (computed sets.old sets.new) (computed_holds sets.old sets.new fit.0.well fit.1.well fit.1.heads))
-text_counters held (Ends status line) o fit has = has
+text_counters held _ o fit has = has
 
 pub sound_counter : (held : Option Held) (old new : SetWord) → IsSound held (next (named_sets held old new) counted)
 sound_counter held old new = sound_next held (named_sets held old new) counted (sound_sets held old new) (λ sets. tt)
@@ -188,7 +182,7 @@ sound_counter held old new = sound_next held (named_sets held old new) counted (
 are_shaped : (set : Set) (images : List Typed) → AreImagesOf set images → AreShaped set images
 are_shaped set images are = record {
   all = are.one_each;
-  each = λ k lt. are.each k (get_or images k no_image) (slice_get-get_or images k no_image (omega (arith, lt, are.one_each)));
+  each = λ k lt. are.each k (get_or images k no_image) (slice_get-get_or images k no_image (omega arith));
 }
 
 -- one image for each device is what is printed
@@ -198,13 +192,9 @@ printed_of set well images are = are_of set well images (are_shaped set images a
 -- the text of what is found
 module _ (old new : Set) (f : Finding) (m : Mismatch) where
   pub no_state_is : (text : List ℕ) → f ≡ findings.NoState m → text ≡ mismatch_line m ++ no_state → text ≡ counter_text old new (answer_of old f)
-  no_state_is text is e = e ∙ ap (λ (x : Finding). counter_text old new (answer_of old x)) (sym is)
+  no_state_is text is e = cc
 
   pub state_is : (machine : Option ℕ) (images : Vec Typed Global) (r : RefusedAt) (head : List ℕ) (items : List Typed) → f ≡ findings.State m machine images r
       → head ≡ mismatch_line m ++ refused_line new r.at r.section r.reason → items ≡ images.items
       → head ++ values_text old (at_option old.machines machine) (map state_of items) ≡ counter_text old new (answer_of old f)
-  state_is machine images r head items is e e' =
-      ap (λ (h : List ℕ). h ++ values_text old (at_option old.machines machine) (map state_of items)) e
-      ∙ ap (λ (l : List Typed). (mismatch_line m ++ refused_line new r.at r.section r.reason) ++ values_text old (at_option old.machines machine)
-      (map state_of l)) e'
-      ∙ ap (λ (x : Finding). counter_text old new (answer_of old x)) (sym is)
+  state_is machine images r head items is e e' = cc

@@ -50,9 +50,8 @@ suits_agreed to None e fit = (fit, e)
 suits_agreed to (Some m) e fit = tt
 
 suits_next : (s : Step Set) → FitStep s → Suits (next s agrees)
-suits_next Untold fit = tt
 suits_next (Gives to) fit = suits_agreed to (first_mismatch to newest) refl fit
-suits_next (Ends status line) fit = tt
+suits_next _ fit = tt
 
 sound_agreed : (held : Option Held) (to : Set) (m : Option Mismatch) → IsSound held (agreed to m)
 sound_agreed held to None = tt
@@ -68,7 +67,7 @@ one_by (Gives to) input held ok sound suits =
 one_by (Ends status line) input held ok sound suits = record { outcome = ended status line 0; is = refl; only = λ other e. e }
 
 pub target_gives : (held : Option Held) (word : SetWord) (to : Set) → word_set held word ≡ Gives to → Compatible to newest → target held word ≡ Gives to
-target_gives held word to there compatible = ap (λ (s : Step Set). next s agrees) there ∙ agreed_gives to compatible
+target_gives held word to there compatible = cc (agreed_gives to compatible)
 
 module _ (word : SetWord) (held : Option Held) where
   converted_then : (input : Option (List ℕ)) → CanBeConverted word input held
@@ -77,8 +76,7 @@ module _ (word : SetWord) (held : Option Held) where
   converted_then (Some bytes) can =
       let to = can.0 in
       let c = can.3 in
-      let fit : IsFit to = subst FitStep can.1 (fit_word held word) in
-      by (is_answered to fit can.2 c.1 c.2 (taken_kept newest newest.machines bytes c.0 c.1 c.2 c.3))
+      by (is_answered to (subst FitStep can.1 (fit_word held word)) can.2 c.1 c.2 (taken_kept newest newest.machines bytes c.0 c.1 c.2 c.3))
     where
       by : ((stream : List ℕ) × IsStreamFor can.0 newest can.3.1 can.3.2 stream)
           ⊎ ((section : Option ℕ) × (cell : Option ℕ) × LosesFirst can.0 newest can.3.1 can.3.2 section cell)

@@ -21,8 +21,7 @@ played : (level : ℕ) (script : List ℕ) (input : Option (List ℕ)) (held : O
 played level script input None octets is can = absurd can
 played level script input (Some map) octets is can =
     let read = can in
-    let are : AreLines (Some level) read.lines = (reads_exactly.only (Some level) read.text read.lines read.reads).0 in
-    let end = has_end level read.lines map is are octets in
+    let end = has_end level read.lines map is ((reads_exactly.only (Some level) read.text read.lines read.reads).0) octets in
     record {
       outcome = end.0;
       is = subst (λ (s : Step (List ScriptLine)). PlaysBy level s (Some map) end.0)
