@@ -17,7 +17,7 @@ use Rattle.vms_cli.specs.Commands.AnalyzeCommand.{IsDone, LacksMemory}
 
 pub listed_like : (listed : Result (Unit {0}) AnalyzeFault) (work : Result (Unit {0}) Ending)
     → MatchResult listed (λ u. work ≡ Ok u) (λ fault. IsErrAnd work (λ e. EndsLike (Err fault) (Some e))) → EndsLike listed (ending_of work)
-listed_like (Ok u) work is = subst (λ (w : Result (Unit {0}) Ending). EndsLike (Ok u) (ending_of w)) (sym is) (IsDone u)
+listed_like (Ok u) work is = rw is (IsDone u)
 listed_like (Err fault) (Ok u) is = absurd is
 listed_like (Err fault) (Err e) is = is
 
@@ -46,7 +46,7 @@ took_so listing bytes more all lists = record {
   taken = bytes_taken (bytes ++ more);
   says = (lists, refl);
   within = omega arith;
-  rest = ap (λ (l : List ℕ). Some l) (sym (drop_at bytes more (bytes_taken (bytes ++ more)) all));
+  rest = ap (λ l. Some l) (sym (drop_at bytes more (bytes_taken (bytes ++ more)) all));
 }
 
 took_by : {course : Course} {i i' : Intake} {IsLong : ℕ → Type 0} {Says : List ℕ → List ℕ → Type 0} {listing : Listing} (r : Reads course i i' IsLong Says)
@@ -85,8 +85,7 @@ module _ (i i' : Intake) (o o' : Outlet) where
   text_seen s text e p w =
       let t = listed_took p in
       let n = length t.bytes in
-      seen_written {P = IsListing s.held} text n e refl
-      (listing_sees s (Text text) t (done text s.held n) (λ k input all is. ap (λ (m : ℕ). done text s.held m) (sym (all ∙ is))) refl) w
+      seen_written {P = IsListing s.held} text n e refl (listing_sees s (Text text) t (done text s.held n) (λ k input all is. rw (sym (all ∙ is))) refl) w
 
   refusal_seen : (s : Stock) (at : ℕ) (reason : AnalyzeReason) (line : ArrayVec ℕ) → ListsTaken i i' (Err (faults.Refused at reason))
       → line.items ≡ unlisted_line at reason
@@ -96,7 +95,7 @@ module _ (i i' : Intake) (o o' : Outlet) where
       let n = length t.bytes in
       seen_refused {P = IsListing s.held} line n
       (listing_sees s (Refused at reason) t (ended 1 line.items n)
-      (λ k input all is. ap (λ (l : List ℕ). ended 1 l n) said ∙ ap (λ (m : ℕ). ended 1 (unlisted_line at reason) m) (sym (all ∙ is))) refl)
+      (λ k input all is. rw (said, sym (all ∙ is))) refl)
 
   pub list_seen : (r : Result (Unit {0}) AnalyzeFault) (e : Option Ending) → EndsLike r e → Analyzes i i' o o' r → (s : Stock)
       → SeenAs (IsListing s.held) i i' o o' s s e
@@ -143,9 +142,9 @@ module _ (i i' : Intake) (o o' : Outlet) where
   stands_same : (bytes : List ℕ) → Takes i i' bytes → o' ≡ o → Stands
   stands_same bytes t e = record {
     input_count = t.later;
-    out_count = omega (arith, ap (λ (x : Outlet). x.faults) e);
+    out_count = omega (arith, ap (λ x. x.faults) e);
     input_promise = t.promise;
-    out_promise = ap (λ (x : Outlet). x.promise) e;
+    out_promise = rw e;
   }
 
   pub list_stands : (r : Result (Unit {0}) AnalyzeFault) → Analyzes i i' o o' r → Stands

@@ -28,10 +28,9 @@ second = ap (named_set (codes "@c2")) (shipped_is (codes "@c2"))
 
 asks : asked_of (codes "check" ∷ codes "@c1" ∷ codes "@c2" ∷ []) ≡ Some (Check (Shipped (Clock 1)) (Shipped (Clock 2)))
 unfolding pair_of
-asks = ap (λ (o : Option SetWord). of_both Check o (set_word (codes "@c2"))) first ∙ ap (of_both Check (Some (Shipped (Clock 1)))) second
+asks = rw first (ap (of_both Check (Some (Shipped (Clock 1)))) second)
 
 pub clock_sets_hold : ClockSetsLaw
 clock_sets_hold input held =
-    subst (λ (a : Option Asked). HasOutcome a input held (done compatible_text held 0)) (sym asks)
-    (subst (λ (m : Option Mismatch). HasText held (verdict m) (done compatible_text held 0))
+    rw asks (subst (λ (m : Option Mismatch). HasText held (verdict m) (done compatible_text held 0))
     (sym (sets_are_compatible.newest 1 (omega arith) (omega arith))) refl)

@@ -35,8 +35,8 @@ module _ (input stream : List ℕ) (held : Option Held) (n : ℕ) where
     compatible = compatible;
     machine = machine;
     images = images;
-    takes = subst (λ (k : ℕ). Takes newest newest.machines input k machine images) (ap (λ (o : Outcome). o.taken) same) takes;
-    is = subst (λ (l : List ℕ). IsStreamFor to newest machine images l) (same_text _ _ same) is;
+    takes = rw (ap (λ (o : Outcome). o.taken) same) at takes;
+    is = rw (same_text _ _ same) at is;
   }
   by_outcome to fit compatible x same (WouldLose taken machine images section cell takes loses) = absurd (done_apart 11 _ stream held taken n (sym same))
   by_outcome to fit compatible x same (Refuses place section reason size fault) = absurd (done_apart 1 _ stream held _ n (sym same))
@@ -65,14 +65,12 @@ module _ (input stream : List ℕ) (held : Option Held) (n : ℕ) where
     prints word there =
         let all =
         ready to newest w.fit newest_fit.well w.compatible (described_text to) (λ backs. fits_text to w.fit backs) w.machine w.images kinds stream w.is in
-        subst (λ (l : List ℕ). PrintsAlike word l held) (sym w.is.is)
-        (written_prints held word to there w.machine w.is.backs (machine_of_set to w.machine w.is.keeps.machine_is) all)
+        rw w.is.is (written_prints held word to there w.machine w.is.backs (machine_of_set to w.machine w.is.keeps.machine_is) all)
 
     stands_for : (word : SetWord) → word_set held word ≡ Gives to → StandsFor word input stream held n
     stands_for word there =
         let c = stays in
-        let loads : Takes newest newest.machines stream (length stream) w.machine c.loaded =
-        subst (λ (l : List ℕ). Takes newest newest.machines l (length stream) w.machine c.loaded) (append-nil stream) (c.stream.taken [] (λ none. refl)) in
+        let loads : Takes newest newest.machines stream (length stream) w.machine c.loaded = rw (append-nil stream) at (c.stream.taken [] (λ none. refl)) in
         record {
           to = to;
           there = there;
@@ -83,9 +81,7 @@ module _ (input stream : List ℕ) (held : Option Held) (n : ℕ) where
           loads = loads;
           cells = c.cells;
           shown = Printed (length stream) w.machine c.loaded loads;
-          again =
-              subst (λ (s : Step Set). ConvertsBy s (Some stream) held (done stream held (length stream))) (sym (target_gives held word to there w.compatible))
-              (Rewrites (length stream) w.machine c.loaded stream loads c.again);
+          again = rw (target_gives held word to there w.compatible) (Rewrites (length stream) w.machine c.loaded stream loads c.again);
         }
 
 pub convert_then_analyze : ConvertThenAnalyzeLaw
@@ -106,9 +102,7 @@ module _ (to : Set) (level : ℕ) where
   of_five : (a b c d e : List ℤ) → isa.restored level (recast_each to newest.devices (a ∷ b ∷ c ∷ d ∷ e ∷ [])) ≡ isa.restored level (a ∷ b ∷ c ∷ d ∷ e ∷ [])
   of_five a b c d e = go (wants_arrays to) where
     go : (w : Bool) → isa.restored level (a ∷ b ∷ c ∷ d ∷ (if w then recast_cells e else e) ∷ []) ≡ isa.restored level (a ∷ b ∷ c ∷ d ∷ e ∷ [])
-    go true =
-        let now = moment_of (cells_of (a ∷ b ∷ c ∷ d ∷ e ∷ [])) in
-        ap (λ r. joined level (timed now) (pair_back level b c) (pit_back level now d) (by_device 4 r)) (recast_restores (numbers_back level now) e)
+    go true = rw (recast_restores (numbers_back level (moment_of (cells_of (a ∷ b ∷ c ∷ d ∷ e ∷ [])))) e)
     go false = refl
 
   same_board : (lists : List (List ℤ)) → length lists ≡ 5 → isa.restored level (recast_each to newest.devices lists) ≡ isa.restored level lists
@@ -156,18 +150,17 @@ module _ (level : ℕ) (is : IsLevel level) (input stream : List ℕ) (held : Op
       let named = named_in alone machine takes.stream.named takes.stream.configured in
       let lifted = takes_under newest alone newest.machines input k machine images (known level is machine named) takes in
       let one = one_stream_holds newest newest.machines newest_fit.well newest_fit.heads input k _ machine s.machine images s.images lifted s.takes in
-      let mine = subst (λ (m : Option (List ℕ)). IfSome m (λ name. is_one_of alone name ≡ true)) one.machines named in
-      let loads = takes_under newest newest.machines alone stream (length stream) s.machine s.loaded mine s.loads in
+      let loads = takes_under newest newest.machines alone stream (length stream) s.machine s.loaded (rw one.machines at named) s.loads in
       let five = length-map images (λ (image : Image). image.numbers) ∙ (taken_kept newest newest.machines input k machine images lifted).one_each in
       let lists : lists_in s.loaded ≡ recast_each s.to newest.devices (lists_in images) =
-      s.cells ∙ ap (λ (l : List Image). recast_each s.to newest.devices (numbers_in l)) (sym one.states) in
+      s.cells ∙ ap (λ l. recast_each s.to newest.devices (numbers_in l)) (sym one.states) in
       (s.loaded, (s.machine, loads), ap (isa.restored level) lists ∙ same_board s.to level (lists_in images) five ∙ r.2)
 
   traced_too : {word : _} {n : ℕ} → StandsFor word input stream held n → (lines : List ScriptLine) (trace : List ℕ) (k : ℕ) (x : Outcome)
       → x ≡ done trace held k → Loads isa level lines input held x
       → Loads isa level lines stream held (done trace held (length stream))
   traced_too s lines trace k _ same (Traces board taken r) =
-      subst (λ (t : List ℕ). Loads isa level lines stream held (done t held (length stream))) (same_text _ _ same)
+      subst (λ t. Loads isa level lines stream held (done t held (length stream))) (same_text _ _ same)
       (Traces board (length stream) (restored_too s board taken r))
   traced_too s lines trace k _ same (NotRead place section reason size fault) = absurd (done_apart 1 _ trace held _ k (sym same))
   traced_too s lines trace k _ same (Unfit place section reason misfit) = absurd (done_apart 1 _ trace held _ k (sym same))

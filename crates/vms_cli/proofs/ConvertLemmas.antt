@@ -48,15 +48,13 @@ module _ (to : Set) (fit : IsFit to) (compatible : Compatible to newest) (machin
   pub never_both : (bytes : List ℕ) (section cell : Option ℕ) → IsStreamFor to newest machine images bytes → LosesFirst to newest machine images section cell
       → ⊥
   never_both bytes section cell p q =
-      (one_lost to newest machine wanted (there p.backs) p.backs).never_both section cell p.keeps
-      (subst (λ (b : List Image). Loses to newest machine wanted (there b) b section cell) (same p.backs q.backs p.back q.back) q.loses)
+      (one_lost to newest machine wanted (there p.backs) p.backs).never_both section cell p.keeps (rw (same p.backs q.backs p.back q.back) at q.loses)
 
   pub one_loss : (section cell section' cell' : Option ℕ) → LosesFirst to newest machine images section cell
       → LosesFirst to newest machine images section' cell'
       → (section ≡ section') × (cell ≡ cell')
   one_loss section cell section' cell' p q =
-      (one_lost to newest machine wanted (there p.backs) p.backs).one section cell section' cell' p.loses
-      (subst (λ (b : List Image). Loses to newest machine wanted (there b) b section' cell') (same p.backs q.backs p.back q.back) q.loses)
+      (one_lost to newest machine wanted (there p.backs) p.backs).one section cell section' cell' p.loses (rw (same p.backs q.backs p.back q.back) at q.loses)
 
   module _ (kept : AreKept newest images) where
     abbrev IsAnswered : Type 0
@@ -193,25 +191,22 @@ module _ (to : Set) (fit : IsFit to) (i i' : Intake) (o o' : Outlet) where
       → ConvertsBy (agrees to) i.left s.held x → EndsAs i i' o o' s s' e x
   content_by s s' e x (Saw compatible v) ok few has =
       content_seen {o = o} {o' = o'} {s = s} {s' = s'} {P = λ bytes y. Converts to bytes s.held y} e x
-      (λ bytes y octets p q. converts_same to fit compatible bytes s.held octets x y p q) ok v
-      (subst (λ (step : Step Set). ConvertsBy step i.left s.held x) (agreed_gives to compatible) has)
+      (λ bytes y octets p q. converts_same to fit compatible bytes s.held octets x y p q) ok v (rw (agreed_gives to compatible) at has)
   content_by s s' e x (Unlike {m} {line} said first none) ok few has =
-      let ends : x ≡ ended 4 (mismatch_line m) 0 = subst (λ (step : Step Set). ConvertsBy step i.left s.held x) (ap (agreed to) first) has in
-      rw none (ends_with 4 (string_bytes line) i x few (ends ∙ ap (λ (l : List ℕ). ended 4 l 0) (sym said)))
+      rw none (ends_with 4 (string_bytes line) i x few ((rw (ap (agreed to) first) at has) ∙ ap (λ l. ended 4 l 0) (sym said)))
   content_by s s' e x (Nothing other h) ok few has = h x
 
   -- what is seen, under a set that is well formed and that the newest reads
   seen_by : (s s' : Stock) (e : Option Ending) → Left s s' e → SeenAs (ConvertsWith (agrees to) s.held) i i' o o' s s' e
   seen_by s s' e (Saw compatible v) = λ among.
-      subst (λ (step : Step Set). Seen (ConvertsWith step s.held) i i' o o' s s' e) (sym (agreed_gives to compatible))
-      (sees_as {P = λ bytes y. Converts to bytes s.held y} {Q = ConvertsWith (Gives to) s.held} (λ bytes y p. (to, refl, (fit, compatible, p))) v)
+      rw (agreed_gives to compatible) (sees_as {P = λ bytes y. Converts to bytes s.held y} {Q = ConvertsWith (Gives to) s.held} (λ bytes y p. (to, refl, (fit, compatible, p))) v)
   seen_by s s' e (Unlike said first none) = other_seen e refl
   seen_by s s' e (Nothing other h) = other_seen e other
 
   -- ---- known or unknown
 
   within : Compatible to newest → i'.given ≤ i.given + most_given newest → ConvertGives (agrees to) i i'
-  within compatible few = subst (λ (step : Step Set). ConvertGives step i i') (sym (agreed_gives to compatible)) few
+  within compatible few = rw (agreed_gives to compatible) few
 
   few_before : (fault : _) (f : RefusesFirst to newest i i' o o' fault) → length f.reads.bytes ≤ most_given newest → i'.given ≤ i.given + most_given newest
   few_before fault f long = omega arith
@@ -221,7 +216,7 @@ module _ (to : Set) (fit : IsFit to) (i i' : Intake) (o o' : Outlet) where
 
   convert_given : (r : Result (Unit {0}) ConvertFault) → Calls to newest i i' o o' r → ConvertGives (agrees to) i i'
   convert_given (Ok u) c = within c.0 (taken_few (Ok u) c.1)
-  convert_given (Err (faults.NotCompatible m)) c = subst (λ (step : Step Set). ConvertGives step i i') (sym (ap (agreed to) c.0)) c.1
+  convert_given (Err (faults.NotCompatible m)) c = rw (ap (agreed to) c.0) c.1
   convert_given (Err (faults.Refused r)) c = within c.0 (few_before (loads.Refused r) c.1 c.1.reads.long)
   convert_given (Err (faults.WouldLose section cell)) c = within c.0 (taken_few (Err (faults.WouldLose section cell)) c.1)
   convert_given (Err faults.ReadFault) c = within c.0 (few_before loads.ReadFault c.1 c.1.reads.long)
@@ -230,16 +225,16 @@ module _ (to : Set) (fit : IsFit to) (i i' : Intake) (o o' : Outlet) where
     where
       nothing : (step : Step Set) → i' ≡ i → ConvertGives step i i'
       nothing (Ends status line) e = e
-      nothing step e = omega (arith, ap (λ (x : Intake). x.given) e)
+      nothing step e = omega (arith, ap (λ x. x.given) e)
 
   -- ---- counts and promises
 
   stands_same : (later : i.faults ≤ i'.faults) (promise : i'.promise ≡ i.promise) → o' ≡ o → Stands i i' o o'
   stands_same later promise e = record {
     input_count = later;
-    out_count = omega (arith, ap (λ (x : Outlet). x.faults) e);
+    out_count = omega (arith, ap (λ x. x.faults) e);
     input_promise = promise;
-    out_promise = ap (λ (x : Outlet). x.promise) e;
+    out_promise = rw e;
   }
 
   pub convert_stands : (r : Result (Unit {0}) ConvertFault) → Calls to newest i i' o o' r → Stands i i' o o'
@@ -247,13 +242,13 @@ module _ (to : Set) (fit : IsFit to) (i i' : Intake) (o o' : Outlet) where
       let t = c.1.reads.takes in
       let p = c.1.converts.puts in
       record { input_count = t.later; out_count = p.later; input_promise = t.promise; out_promise = p.promise }
-  convert_stands (Err (faults.NotCompatible m)) c = stands_same (omega (arith, ap (λ (x : Intake). x.faults) c.1)) (ap (λ (x : Intake). x.promise) c.1) c.2
+  convert_stands (Err (faults.NotCompatible m)) c = stands_same (omega (arith, ap (λ x. x.faults) c.1)) (rw (c.1)) c.2
   convert_stands (Err (faults.WouldLose section cell)) c = stands_same c.1.reads.takes.later c.1.reads.takes.promise c.1.converts.1
   convert_stands (Err faults.WriteFault) c =
       let t = c.1.reads.takes in
       let p = c.1.converts.puts.puts in
       record { input_count = t.later; out_count = p.later; input_promise = t.promise; out_promise = p.promise }
-  convert_stands (Err faults.NoMemory) c = stands_same (omega (arith, ap (λ (x : Intake). x.faults) c.0)) (ap (λ (x : Intake). x.promise) c.0) c.1
+  convert_stands (Err faults.NoMemory) c = stands_same (omega (arith, ap (λ x. x.faults) c.0)) (rw (c.0)) c.1
   convert_stands _ c = stands_same c.1.reads.takes.later c.1.reads.takes.promise c.1.none
 
   -- ---- what it touches

@@ -23,13 +23,8 @@ module _ {S : Type 0} (f : Family S) (Alike : S → S → Type 0) (IsSound : S �
       → ContinuesBy f IsSound number step status old new
   continues_by number (Gives lines) status old new all = λ set m text sound same may room left.
       let stream = stream_with f set m text in
-      let there = (going.on set m text (events_of lines) sound (subst (λ (n : ℕ). ReachesSet f.newest n set) (sym same) may) room).there in
-      let loads : Loads f number lines stream old.shelf.held (goes_on f set m text lines old) =
-      subst (λ (t : List ℕ). Loads f number lines stream old.shelf.held (done t old.shelf.held (length stream))) (sym there.trace_is)
-      (Traces there.board (length stream) (subst (λ (n : ℕ). Restores f n stream (Back there.board (length stream))) same there.restored)) in
-      all (goes_on f set m text lines old)
-      (subst (λ (input : Option (List ℕ)). IsSomeAnd input (λ bytes. Loads f number lines bytes old.shelf.held (goes_on f set m text lines old)))
-      (sym left) loads)
+      let there = (going.on set m text (events_of lines) sound (rw same may) room).there in
+      all (goes_on f set m text lines old) (rw left (rw there.trace_is (Traces there.board (length stream) (rw same at there.restored))))
   continues_by number _ status old new all = tt
 
 pub continues_so : (asked : Option Asked) (status : ℕ) (old new : Outside)
@@ -48,16 +43,14 @@ takes_all : (older newer : Set) → WellFormed older → WellFormed newer → Co
     → Takes newer newer.machines (written older machine images text) (length (written older machine images text)) machine (carried older newer images)
 takes_all older newer well_older well_newer compatible machine text images w =
     let bytes = written older machine images text in
-    subst (λ (l : List ℕ). Takes newer newer.machines l (length bytes) machine (carried older newer images)) (append-nil bytes)
-    ((upgrade_stands older newer well_older well_newer compatible machine text images w.named w.short w.ready).taken [] (λ none. refl))
+    rw (append-nil bytes) at ((upgrade_stands older newer well_older well_newer compatible machine text images w.named w.short w.ready).taken [] (λ none. refl))
 
 upgrades_by : (s : Step Set) → FitStep s → (status : ℕ) (old new : Outside)
     → ((o : Outcome) → ShowsBy s old.input.left old.shelf.held o → DoesOrStops status old new o) → UpgradesTo s status old new
 upgrades_by (Gives newer) fit status old new all = λ older machine text images well compatible w left.
     let outcome = shown_newer older newer machine text images old in
     let bytes = written older machine images text in
-    all outcome (subst (λ (input : Option (List ℕ)). IsSomeAnd input (λ taken. Shows newer taken old.shelf.held outcome)) (sym left)
-    (Printed (length bytes) machine (carried older newer images) (takes_all older newer well fit.well compatible machine text images w)))
+    all outcome (rw left (Printed (length bytes) machine (carried older newer images) (takes_all older newer well fit.well compatible machine text images w)))
 upgrades_by _ fit status old new all = tt
 
 pub upgrade_so : (asked : Option Asked) (status : ℕ) (old new : Outside)
@@ -71,7 +64,7 @@ upgrade_so asked status old new all = tt
 -- what two words give
 module _ (sets : Both Set) where
   read_both : (one other : Step Set) → both one other ≡ Gives sets → (one ≡ Gives sets.old) × (other ≡ Gives sets.new)
-  read_both (Gives x) (Gives y) e = (ap Gives (ap (λ (b : Both Set). b.old) (same e)), ap Gives (ap (λ (b : Both Set). b.new) (same e))) where
+  read_both (Gives x) (Gives y) e = (ap Gives (ap (λ b. b.old) (same e)), ap Gives (ap (λ b. b.new) (same e))) where
     same : Gives (record { old = x; new = y }) ≡ Gives sets → record { old = x; new = y } ≡ sets
     same e = cc
   read_both _ _ e = cc
@@ -94,11 +87,10 @@ fit_so s set e h = subst FitStep e h
 pub check_then_show : CheckThenShowLaw
 check_then_show one other old new sets a b c d status checks shows gives checked held shown machine text images w left =
     let words = named_both sets a.shelf.held old new gives in
-    let verdict : Verdict (Some (Check old new)) a.shelf.held 0 = subst (λ (x : Option Asked). Verdict x a.shelf.held 0) checks checked.verdict in
-    let compatible : Compatible sets.old sets.new = are_so (named_sets a.shelf.held old new) sets gives (verdict refl) in
-    let upgrade : Upgrade (Some (Show new)) status c d = subst (λ (x : Option Asked). Upgrade x status c d) shows shown.upgrade in
-    let newer : word_set c.shelf.held new ≡ Gives sets.new = ap (λ (h : Option Held). word_set h new) held ∙ words.1 in
-    let clause : UpgradesTo (Gives sets.new) status c d = subst (λ (s : Step Set). UpgradesTo s status c d) newer upgrade in
+    let compatible : Compatible sets.old sets.new = are_so (named_sets a.shelf.held old new) sets gives ((rw checks at checked.verdict) refl) in
+    let upgrade : Upgrade (Some (Show new)) status c d = subst (λ x. Upgrade x status c d) shows shown.upgrade in
+    let newer : word_set c.shelf.held new ≡ Gives sets.new = ap (λ h. word_set h new) held ∙ words.1 in
+    let clause : UpgradesTo (Gives sets.new) status c d = subst (λ s. UpgradesTo s status c d) newer upgrade in
     clause sets.old machine text images (fit_so (word_set a.shelf.held old) sets.old words.0 (fit_word a.shelf.held old)).well compatible w left
 
 -- ---- From how a call ends and why to what it answers.

@@ -43,7 +43,7 @@ room_kept : (p p' : Option ℕ) (w w' : Option (List ℕ)) (faults n : ℕ) (tex
     → Appends w w' text → p' ≡ p → KeepsPromise p' w' faults → faults ≡ 0
 room_kept (Some most) p' (Some old) None faults n text room short appends same keeps = absurd appends
 room_kept (Some most) p' (Some old) (Some new) faults n text room short appends same keeps =
-    subst (λ (p : Option ℕ). KeepsPromise p (Some new) faults) same keeps (omega (arith, ap length appends, length-append old text))
+    rw same at keeps (omega (arith, ap length appends, length-append old text))
 room_kept _ p' _ w' faults n text room short appends same keeps = absurd room
 
 never_rose : (before now : ℕ) → now ≡ 0 → Rose before now → ⊥

@@ -8,8 +8,7 @@ use Rattle.vms_values.specs.declared.fault.Values.{Values as Given}
 
 ready_of : (set : Set) → IsFit set → (text : List ℕ) (r : ValuesRead) (v : Given) → values_read set text ≡ r → ReadsAs set r (Ok v)
     → AreReady set (map state_of v.images.items)
-ready_of set fit text (Values machine images) v e reads =
-    subst (λ (l : List Image). AreReady set l) (sym reads.0) (accepted_holds set text machine images fit e).ready
+ready_of set fit text (Values machine images) v e reads = rw reads.0 (accepted_holds set text machine images fit e).ready
 ready_of set fit text (Bad line reason) v e reads = absurd reads
 
 -- the images of a text that was read are ready
@@ -24,7 +23,7 @@ named set (Some m) h = slice_get-get_or set.machines m [] (h m refl)
 -- a text that was read, and a write of its stream
 read_by : (set : Set) (r : ValuesRead) (v : Given) (o o' : Outlet) (e : Option Ending) → ReadsAs set r (Ok v)
     → WrittenAs (described_stream set (at_option set.machines v.machine) (map state_of v.images.items)) o o' e → TextEnds (packed_by set r) o o' e
-read_by set (Values machine images) v o o' e reads w = subst (λ (l : List ℕ). WrittenAs l o o' e) (cc (named set v.machine reads.2)) w
+read_by set (Values machine images) v o o' e reads w = subst (λ l. WrittenAs l o o' e) (cc (named set v.machine reads.2)) w
 read_by set (Bad line reason) v o o' e reads w = absurd reads
 
 module _ (set : Set) (text : List ℕ) (o o' : Outlet) where

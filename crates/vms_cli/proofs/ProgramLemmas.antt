@@ -5,12 +5,11 @@ use Rattle.vms_commands.specs.declared.ending.Ending.TheVariants as endings
 
 -- what was written is what the writer has
 pub kept_flushed : (old new writer : Option (List ℕ)) → Keeps old new → new ≡ writer → Keeps old writer
-kept_flushed old new writer kept same = subst (Keeps old) same kept
+kept_flushed old new writer kept same = rw same at kept
 
 -- a line that was appended whole is a front of it
 appends_front : (old new : Option (List ℕ)) (line : List ℕ) → Appends old new line → AppendsPrefix old new line
-appends_front old new line h =
-    (length line, le_refl (length line), subst (λ (l : List ℕ). Appends old new l) (sym (take_all (length line) line (le_refl (length line)))) h)
+appends_front old new line h = (length line, le_refl (length line), rw (take_all (length line) line (le_refl (length line))) h)
 
 -- what standard error has if standard output failed at the flush
 pub told_late : (old new : Option (List ℕ)) (faults faults' status : ℕ)

@@ -29,11 +29,11 @@ first_text [] = []
 first_text (part ∷ parts) = part.text
 
 pub same_text : (x y : Outcome) → x ≡ y → first_text x.parts ≡ first_text y.parts
-same_text x y e = ap (λ (o : Outcome). first_text o.parts) e
+same_text x y e = rw e
 
 -- what succeeds has a part, and what ends with a status of its own has none
 pub done_apart : (s : ℕ) (note text : List ℕ) (held : Option Held) (k n : ℕ) → done text held n ≡ ended s note k → ⊥
-done_apart s note text held k n e = parts_apart _ _ (ap (λ (o : Outcome). o.parts) e)
+done_apart s note text held k n e = parts_apart _ _ (ap (λ o. o.parts) e)
   where
     parts_apart : (part : Part) (parts : List Part) → part ∷ parts ≡ [] → ⊥
     parts_apart part parts e = cc
@@ -51,7 +51,7 @@ pub lists_all : (input text : List ℕ) (held : Option Held) → Lists input (Te
 lists_all input text held lists = record {
   listing = Text text;
   lists = lists;
-  is = ap (λ (n : ℕ). done text held n) (omega (arith, lists_few input text (Text text) lists refl));
+  is = ap (λ n. done text held n) (omega (arith, lists_few input text (Text text) lists refl));
 }
 
 module _ (set : Set) (fit : IsFit set) (machine : Option (List ℕ)) (images : List Image) (named : IsMachineOf set machine) (ready : AreReady set images) where
@@ -80,12 +80,11 @@ module _ (map : Held) (text stream : List ℕ) where
       let shows : Shows set bytes (Some map) (done (values_text set shown.machine shown.images) (Some map) (length bytes)) =
       Printed (length bytes) shown.machine shown.images shown.whole in
       let is = accepted_holds set text machine images fit e in
-      let lists : Lists bytes (Text text) =
-      subst (λ (t : List ℕ). Lists bytes (Text t)) (sym is.printed) (shown_listed set fit machine images is.named is.ready) in
+      let lists : Lists bytes (Text text) = subst (λ t. Lists bytes (Text t)) (sym is.printed) (shown_listed set fit machine images is.named is.ready) in
       let written_is : bytes ≡ stream = sym (same_text _ _ has) in (
         subst (λ (l : List ℕ). Shows set l (Some map) (done text (Some map) (length l))) written_is
             (subst (λ (t : List ℕ). Shows set bytes (Some map) (done t (Some map) (length bytes))) shown.printed shows),
-        subst (λ (l : List ℕ). IsListing (Some map) l (done text (Some map) (length l))) written_is (lists_all bytes text (Some map) lists),
+        subst (λ l. IsListing (Some map) l (done text (Some map) (length l))) written_is (lists_all bytes text (Some map) lists),
       )
   shown_of set fit (Bad line reason) e has = absurd (done_apart 3 _ stream (Some map) 0 0 has)
 
@@ -104,10 +103,7 @@ module _ (map : Held) (text stream : List ℕ) where
   text_shown : (name : List ℕ) (t : Step SetText) → map name ≡ Some text → FitStep (next t set_in)
       → is_packed (next (next t (with_values (Some map) name)) packed_parts) → is_shown (next t set_in)
   text_shown name Untold under fit has = absurd has
-  text_shown name (Gives t) under fit has =
-      within_shown name t (nat_le (length text) longest_file) fit
-      (subst (λ (u : Option (List ℕ)). is_packed
-      (next (next (text_under longest_file name u) (λ v. next (set_in t) (λ set. Gives (record { set = set; values = v })))) packed_parts)) under has)
+  text_shown name (Gives t) under fit has = within_shown name t (nat_le (length text) longest_file) fit (rw under at has)
   text_shown name (Ends status line) under fit has = absurd (done_apart status _ stream (Some map) 0 0 has)
 
 pub pack_then_show : PackThenShowLaw
@@ -133,10 +129,9 @@ module _ (set : Set) (fit : IsFit set) (machine : Option (List ℕ)) (images : L
       let bytes = described_stream set machine images in
       let all = (written_only set machine (Some (described_text set images)) images fit named (fits_text set fit images) ready).only taken other others whole in
       let printed : values_text set machine images ≡ values_text set other others =
-      ap (λ (o : Option (List ℕ)). values_text set o images) (sym all.1) ∙ ap (values_text set other) (sym all.2) in
-      subst (λ (k : ℕ). IsListing held bytes (done (values_text set other others) held k)) (sym all.0)
-      (lists_all bytes (values_text set other others) held
-      (subst (λ (t : List ℕ). Lists bytes (Text t)) printed (shown_listed set fit machine images named ready)))
+      ap (λ o. values_text set o images) (sym all.1) ∙ ap (values_text set other) (sym all.2) in
+      rw all.0 (lists_all bytes (values_text set other others) held
+      (subst (λ t. Lists bytes (Text t)) printed (shown_listed set fit machine images named ready)))
   listed_too x same (Refuses place section reason size fault) =
       absurd (done_apart 1 _ text held _ n (sym same))
 
@@ -144,13 +139,11 @@ module _ (set : Set) (fit : IsFit set) (machine : Option (List ℕ)) (images : L
   reads_back : (x : Outcome) → x ≡ done text held n → Shows set (described_stream set machine images) held x → values_read set text ≡ Values machine images
   reads_back x same (Printed taken other others whole) =
       let described : Option (List ℕ) = Some (described_text set images) in
-      let bytes = described_stream set machine images in
       let fits = fits_text set fit images in
-      let all = (written_only set machine described images fit named fits ready).only taken other others whole in
-      let said : ShowsAs set bytes text = record {
+      let said : ShowsAs set (described_stream set machine images) text = record {
         machine = other;
         images = others;
-        whole = subst (λ (k : ℕ). Takes set set.machines bytes k other others) all.0 whole;
+        whole = rw ((written_only set machine described images fit named fits ready).only taken other others whole).0 at whole;
         printed = same_text _ _ same;
       } in
       shown_holds set machine described images fit named fits ready text said
@@ -159,9 +152,8 @@ module _ (set : Set) (fit : IsFit set) (machine : Option (List ℕ)) (images : L
 
 pub show_then_analyze : ShowThenAnalyzeLaw
 show_then_analyze word set machine images text held there ready named n shows =
-    let stream = described_stream set machine images in
     let outcome = done text held n in
-    let shown : Shows set stream held outcome = subst (λ (s : Step Set). ShowsBy s (Some stream) held outcome) there shows in
+    let shown : Shows set (described_stream set machine images) held outcome = rw there at shows in
     listed_too set (subst FitStep there (fit_word held word)) machine images (machine_of_set set machine named) ready text held n outcome refl shown
 
 -- ---- showing and then packing
@@ -171,11 +163,8 @@ show_then_pack word set machine images name text input map there ready named und
     let fit : IsFit set = subst FitStep there (fit_word (Some map) word) in
     let stream = described_stream set machine images in
     let outcome = done text (Some map) n in
-    let shown : Shows set stream (Some map) outcome = subst (λ (s : Step Set). ShowsBy s (Some stream) (Some map) outcome) there shows in
-    let reads = reads_back set fit machine images (machine_of_set set machine named) ready text (Some map) n outcome refl shown in
-    let gives : packs (Some map) word name ≡ Gives stream =
-    pack_gives (Some map) word name set text stream there (fetched_gives longest_file map name text under short) (ap (packed_by set) reads) in
-    subst (λ (s : Step (List ℕ)). HasText (Some map) s (done stream (Some map) 0)) (sym gives) refl
+    let reads = reads_back set fit machine images (machine_of_set set machine named) ready text (Some map) n outcome refl (rw there at shows) in
+    rw (pack_gives (Some map) word name set text stream there (fetched_gives longest_file map name text under short) (ap (packed_by set) reads)) refl
 
 -- ---- What `save` writes, `show` and `analyze` print alike.
 
@@ -192,7 +181,7 @@ module _ (held : Option Held) (word : SetWord) (set : Set) (there : word_set hel
       let whole = (written_only set machine (Some (described_text set images)) images fit named (fits_text set fit images) ready).whole in
       record {
         text = text;
-        shown = subst (λ (s : Step Set). ShowsBy s (Some bytes) held (done text held (length bytes))) (sym there) (Printed (length bytes) machine images whole);
+        shown = rw there (Printed (length bytes) machine images whole);
         listed = lists_all bytes text held (shown_listed set fit machine images named ready);
       }
 
@@ -208,12 +197,11 @@ module _ {S : Type 0} (f : Family S) {IsSound : S → Type 0} {AreTold : List (L
 
   sound_prints : (m : S) → IsSound m → f.number m ≡ number → PrintsAlike word (saved_stream f set m) held
   sound_prints m sound same =
-      let reaches : ReachesSet f.newest (f.number m) set = subst (λ (n : ℕ). ReachesSet f.newest n set) (sym same) may in
+      let reaches : ReachesSet f.newest (f.number m) set = rw same may in
       let named : is_one_of (f.set set).machines (f.machine (f.number m)) ≡ true =
       is_among (f.set set).machines (f.number m - 1) (f.machine (f.number m))
       (stands.named (f.number m) set (stands.numbered m sound).first reaches.level_le_set reaches.set_le_newest) in
-      subst (λ (stream : List ℕ). PrintsAlike word stream held) (sym (own_stream m))
-      (written_prints held word (f.set set) there (Some (f.machine (f.number m))) (images_saved f set m) named (stands.ready set m sound reaches))
+      rw (own_stream m) (written_prints held word (f.set set) there (Some (f.machine (f.number m))) (images_saved f set m) named (stands.ready set m sound reaches))
 
   lines_print : (lines : List ScriptLine) → AreEvents (events_of lines)
       → PrintsAlike word (saved_stream f set (after_events f (events_of lines) (f.power_on number))) held
@@ -226,8 +214,7 @@ module _ {S : Type 0} (f : Family S) {IsSound : S → Type 0} {AreTold : List (L
       → HasText held (next s (λ lines. Gives (saved_stream f set (after_events f (events_of lines) (f.power_on number))))) (done stream held 0)
       → PrintsAlike word stream held
   by_step Untold stream are has = absurd has
-  by_step (Gives lines) stream are has =
-      subst (λ (l : List ℕ). PrintsAlike word l held) (sym (same_text _ _ has)) (lines_print lines (lines_are_events None lines are))
+  by_step (Gives lines) stream are has = rw (same_text _ _ has) (lines_print lines (lines_are_events None lines are))
   by_step (Ends status line) stream are has = absurd (done_apart status line stream held 0 0 has)
 
   saved_prints : (script stream : List ℕ) → HasText held (saved_after f number set held script) (done stream held 0) → PrintsAlike word stream held
@@ -249,20 +236,17 @@ save_then_analyze words (ClockBoard version) set script stream input held asked 
 prints_so : (old new : SetWord) (sets : Both Set) (held : Option Held) (m : Mismatch) (machine : Option (List ℕ)) (images : List Image) (r : Refusal)
     → named_sets held old new ≡ Gives sets → Counters sets.old sets.new (State m machine images r) → Prints old new sets held m machine images r
 prints_so old new sets held m machine images r gives c = λ input.
-    subst (λ (s : Step (Both Set)). CountersBy s held (done (counter_text sets.old sets.new (State m machine images r)) held 0)) (sym gives)
-    (Answers (State m machine images r) c)
+    rw gives (Answers (State m machine images r) c)
 
 refused_so : (new : SetWord) (set : Set) (held : Option Held) (r : Refusal) (size : ℕ) (bytes : List ℕ) → word_set held new ≡ Gives set
     → Fault set set.machines bytes r.place r.section r.reason size → RefusesSo new set held r size bytes
-refused_so new set held r size bytes gives fault =
-    subst (λ (s : Step Set). ShowsBy s (Some bytes) held (ended 1 (refused_line set r.place r.section r.reason) (r.place + size))) (sym gives)
-    (Refuses r.place r.section r.reason size fault)
+refused_so new set held r size bytes gives fault = rw gives (Refuses r.place r.section r.reason size fault)
 
 -- the description is after everything else
 described_behind : (set : Set) (machine : Option (List ℕ)) (images : List Image)
     → written set machine images None ++ trailer (described_text set images) ≡ described_stream set machine images
 described_behind set machine images =
-    ap (λ (l : List ℕ). l ++ trailer (described_text set images))
+    ap (λ l. l ++ trailer (described_text set images))
     (append-nil (stream_head ++ optional configuration machine ++ written_sections set 0 set.devices images ++ end_mark))
 
 -- the machine that a state's stream names is one of the older set
@@ -284,15 +268,13 @@ state_stands old new sets held m machine images r gives c =
       refused = refused_so new sets.new held r named.size (written sets.old machine images None) words.1 named.fault;
       packed = λ map name input is under short.
           let text = values_text sets.old machine images in
-          let there : word_set (Some map) old ≡ Gives sets.old = ap (λ (h : Option Held). word_set h old) (sym is) ∙ words.0 in
+          let there : word_set (Some map) old ≡ Gives sets.old = rw (sym is) (words.0) in
           let gives : packs (Some map) old name ≡ Gives stream =
           pack_gives (Some map) old name sets.old text stream there (fetched_gives longest_file map name text under short) (ap (packed_by sets.old) reads) in
-          subst (λ (h : Option Held). HasText h (packs h old name) (done stream h 0)) (sym is)
-          (subst (λ (s : Step (List ℕ)). HasText (Some map) s (done stream (Some map) 0)) (sym gives) refl);
+          rw is (rw gives refl);
       packed_refused = λ whole.
           refused_so new sets.new held r named.size stream words.1
-          (subst (λ (l : List ℕ). Fault sets.new sets.new.machines l r.place r.section r.reason named.size) (described_behind sets.old machine images)
-          (further_holds sets.new sets.new.machines (written sets.old machine images None)
+          (rw (described_behind sets.old machine images) at (further_holds sets.new sets.new.machines (written sets.old machine images None)
           (trailer (described_text sets.old images)) r.place r.section r.reason named.size whole named.fault));
     }
 

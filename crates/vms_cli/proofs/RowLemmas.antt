@@ -13,8 +13,8 @@ use Rattle.vms_cli.proofs.CheckLemmas.{StopsAt}
 
 -- what holds but at the statuses of such a list holds too where notes failed
 pub at_six : (l : List ℕ) → HasSix l → (k status : ℕ) → status ≡ 6 → (P : Type 0) → (is_among l k ≡ false → P) → is_among l status ≡ false → P
-at_six l (inl has) k status six P h none = absurd (wrong (sym (subst (λ (n : ℕ). is_among l n ≡ true) (sym six) has) ∙ none))
-at_six l (inr is) k status six P h none = h (subst (λ (m : List ℕ). is_among m k ≡ false) (sym is) refl)
+at_six l (inl has) k status six P h none = absurd (wrong (sym (rw six has) ∙ none))
+at_six l (inr is) k status six P h none = h (rw is refl)
 
 -- ---- Each ending of a command, by what it touches.
 
@@ -46,7 +46,7 @@ pub behind_so : (own takes : List ℕ) (b : Bool) {i i' : Intake} {o o' : Outlet
     → EndsSo i i' o o' s' s' (text_course own takes b) e
     → EndsSo i i' o o' s s' (text_course own takes b) e
 behind_so own takes true e same looks g = so_since e refl looks g
-behind_so own takes false {i} {i'} {o} {o'} {s} {s'} e same looks g = subst (λ (x : Stock). EndsSo i i' o o' x s' (text_course own takes false) e) (same refl) g
+behind_so own takes false {i} {i'} {o} {o'} {s} {s'} e same looks g = subst (λ x. EndsSo i i' o o' x s' (text_course own takes false) e) (same refl) g
 
 -- ---- a text
 
@@ -195,9 +195,7 @@ module _ (i i' : Intake) (o o' n n' : Outlet) (s s' : Stock) where
     memory = λ e. absurd (never 10 e refl);
   } where
     never : (m : ℕ) → status ≡ m → is_own m ≡ false → ⊥
-    never m e other =
-        let same : k ≡ m = sym is ∙ e in
-        wrong (sym own ∙ ap is_own same ∙ other)
+    never m e other = wrong (sym own ∙ ap is_own (sym is ∙ e) ∙ other)
 
   abbrev Holds : Why → Type 0
   Holds Well = new.notes ≡ old.notes
@@ -242,13 +240,13 @@ module _ (i i' : Intake) (o o' n n' : Outlet) (s s' : Stock) where
   -- what holds at the status of an ending, but at those of a list, holds at the status that was answered
   but_at : (l : List ℕ) → HasSix l → (e : Option Ending) (status : ℕ) → Told e status → (P : Type 0) → (is_among l (status_of e) ≡ false → P)
       → is_among l status ≡ false → P
-  but_at l six e status (inl t) P h none = h (subst (λ (k : ℕ). is_among l k ≡ false) t.0 none)
+  but_at l six e status (inl t) P h none = h (rw t.0 at none)
   but_at l six e status (inr t) P h none = at_six l six (status_of e) status t.0 P h none
 
   can_be : (statuses : List ℕ) → is_among statuses 6 ≡ true → (e : Option Ending) (status : ℕ) → Told e status → is_among statuses (status_of e) ≡ true
       → is_among statuses status ≡ true
-  can_be statuses six e status (inl t) h = subst (λ (k : ℕ). is_among statuses k ≡ true) (sym t.0) h
-  can_be statuses six e status (inr t) h = subst (λ (k : ℕ). is_among statuses k ≡ true) (sym t.0) six
+  can_be statuses six e status (inl t) h = rw t.0 h
+  can_be statuses six e status (inr t) h = rw t.0 six
 
   -- ---- what is seen
 

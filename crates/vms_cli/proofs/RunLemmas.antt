@@ -2,4 +2,4 @@
 use Rattle.vms_cli.proofs.Facade.{◌≡◌, Option, subst, Ending, Frame, Runs, Asked, task_of}
 
 pub asked_runs : {old new : Frame} {e : Option Ending} (asked own : Option Asked) → own ≡ asked → Runs (task_of own) old new e → Runs (task_of asked) old new e
-asked_runs {old} {new} {e} asked own same h = subst (λ (a : Option Asked). Runs (task_of a) old new e) same h
+asked_runs {old} {new} {e} asked own same h = rw same at h

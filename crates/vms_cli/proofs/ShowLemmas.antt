@@ -82,7 +82,7 @@ module _ (set : Set) where
       let text = values_text set name images in
       seen_written {P = OfSet s.held} text taken e held
       (reads_as {M = λ n. n ≡ taken} {Q = λ input left. OfSet s.held input (done text s.held taken)} (λ n l. l.0)
-      (λ input left l. Values taken name images (subst (λ (m : Option (List ℕ)). Takes set set.machines input taken m images) (same_machine set machine) l.0))
+      (λ input left l. Values taken name images (rw (same_machine set machine) at l.0))
       reads) w
 
   pub refusal_seen : {i i' : Intake} {o o' : Outlet} {s s' : Stock} (images : List Image) (taken : ℕ) (r : Refusal) (line : ArrayVec ℕ)
@@ -90,7 +90,7 @@ module _ (set : Set) where
       → Seen (OfSet s.held) i i' o o' s s' (Some (Refused line))
   refusal_seen {i} {i'} {o} {o'} {s} images taken r line reads said =
       load_seen {P = OfSet s.held} set (accepted_of set None) images taken r line reads
-      (λ input size fault. subst (λ (l : List ℕ). OfSet s.held input (ended 1 l (r.at + size))) (sym said) (Refuses r.at r.section r.reason size fault))
+      (λ input size fault. rw said (Refuses r.at r.section r.reason size fault))
 
   -- under a set that is well formed
   pub well_seen : {i i' : Intake} {o o' : Outlet} {s s' : Stock} {e : Option Ending} → IsFit set → Seen (OfSet s.held) i i' o o' s s' e
@@ -130,7 +130,7 @@ gives_none (Ends status line) i = refl
 pub gives_within : {T : Type 0} (m : T → Set) (step : Step Set) (t : T) (i i' : Intake) → StepAs m step (Ok t)
     → i'.given ≤ i.given + most_given (m t) → WellFormed (m t) → GivesWithin step i i'
 gives_within m Untold t i i' h within well = inr (m t, well, within)
-gives_within m (Gives set) t i i' h within well = subst (λ (y : Set). i'.given ≤ i.given + most_given y) h within
+gives_within m (Gives set) t i i' h within well = rw h at within
 gives_within m (Ends status line) t i i' h within well = absurd h
 
 -- ---- Of `counter`: what is answered is the text that its steps give.
@@ -164,14 +164,11 @@ pub answered : (old new : Set) → IsFit old → IsFit new → (answer : Answer)
 answered old new fit fit' answer c = one_answer_holds old new fit.well answer (computed old new) c (computed_holds old new fit.well fit'.well fit'.heads)
 
 pub counters_text : (held : Option Held) (s : Step (Both Set)) (o : Outcome) → AreFit s → CountersBy s held o → HasText held (next s counted) o
-counters_text held (Gives sets) _ fit (Answers answer c) =
-    ap (λ (a : Answer). done (counter_text sets.old sets.new a) held 0) (answered sets.old sets.new fit.0 fit.1 answer c)
+counters_text held (Gives sets) _ fit (Answers answer c) = rw (answered sets.old sets.new fit.0 fit.1 answer c)
 counters_text held _ o fit has = has
 
 pub text_counters : (held : Option Held) (s : Step (Both Set)) (o : Outcome) → AreFit s → HasText held (next s counted) o → CountersBy s held o
-text_counters held (Gives sets) o fit has =
-    subst (λ (x : Outcome). Tells held sets x) (sym has)
-    (Answers (computed sets.old sets.new) (computed_holds sets.old sets.new fit.0.well fit.1.well fit.1.heads))
+text_counters held (Gives sets) o fit has = rw has (Answers (computed sets.old sets.new) (computed_holds sets.old sets.new fit.0.well fit.1.well fit.1.heads))
 text_counters held _ o fit has = has
 
 pub sound_counter : (held : Option Held) (old new : SetWord) → IsSound held (next (named_sets held old new) counted)

@@ -55,7 +55,7 @@ module _ {A B T : Type 0} (m : T → A) (f : A → Step B) where
   -- what the second step gave, both gave
   given_next : (s : Step A) (t : T) (b : B) → StepAs m s (Ok t) → IsGiven (f (m t)) b → IsGiven (next s f) b
   given_next Untold t b h g = tt
-  given_next (Gives a) t b h g = subst (λ (x : A). IsGiven (f x) b) h g
+  given_next (Gives a) t b h g = rw h at g
   given_next (Ends status line) t b h g = absurd h
 
   pub seen_next : (P : B → List ℕ → Outcome → Type 0) {i i' : Intake} {o o' : Outlet} {shelf shelf' : Stock} (e : Option Ending) (s : Step A) (t : T)
@@ -72,11 +72,11 @@ gives_none (Gives to) i = omega arith
 gives_none (Ends status line) i = refl
 
 gives_few : (step : Step Set) (i i' : Intake) → ConvertGives step i i' → i'.given ≤ i.given + most_given newest
-gives_few (Ends status line) i i' h = omega (arith, ap (λ (x : Intake). x.given) h)
+gives_few (Ends status line) i i' h = omega (arith, ap (λ x. x.given) h)
 gives_few _ i i' h = h
 
 pub gives_next : {A T : Type 0} (m : T → A) (f : A → Step Set) (s : Step A) (t : T) (i i' : Intake) → StepAs m s (Ok t) → ConvertGives (f (m t)) i i'
     → ConvertGives (next s f) i i'
 gives_next m f Untold t i i' h g = gives_few (f (m t)) i i' g
-gives_next {A} m f (Gives a) t i i' h g = subst (λ (x : A). ConvertGives (f x) i i') h g
+gives_next {A} m f (Gives a) t i i' h g = rw h at g
 gives_next m f (Ends status line) t i i' h g = absurd h

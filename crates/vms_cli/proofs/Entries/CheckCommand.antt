@@ -8,10 +8,9 @@ accepted : (old new : SetWord) (input : Option (List ℕ)) (held : Option Held) 
     → IsDone (check_entry old new).task input held
 accepted old new input held can =
     let outcome = done compatible_text held 0 in
-    let agrees : HasText held (compared can.0) outcome = subst (λ (m : Option Mismatch). HasText held (verdict m) outcome) (sym can.2) refl in
     record {
       outcome = outcome;
-      is = subst (λ (s : Step (Both Set)). HasText held (next s compared) outcome) (sym can.1) agrees;
+      is = rw can.1 (rw can.2 refl);
       status = refl;
     }
 

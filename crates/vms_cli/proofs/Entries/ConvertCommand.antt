@@ -74,9 +74,8 @@ module _ (word : SetWord) (held : Option Held) where
       → (stream : List ℕ) × (taken : ℕ) × ConvertsBy (target held word) input held (done stream held taken)
   converted_then None can = absurd can.3
   converted_then (Some bytes) can =
-      let to = can.0 in
       let c = can.3 in
-      by (is_answered to (subst FitStep can.1 (fit_word held word)) can.2 c.1 c.2 (taken_kept newest newest.machines bytes c.0 c.1 c.2 c.3))
+      by (is_answered can.0 (subst FitStep can.1 (fit_word held word)) can.2 c.1 c.2 (taken_kept newest newest.machines bytes c.0 c.1 c.2 c.3))
     where
       by : ((stream : List ℕ) × IsStreamFor can.0 newest can.3.1 can.3.2 stream)
           ⊎ ((section : Option ℕ) × (cell : Option ℕ) × LosesFirst can.0 newest can.3.1 can.3.2 section cell)
@@ -84,8 +83,7 @@ module _ (word : SetWord) (held : Option Held) where
       by (inl stream) = (
         stream.0,
         can.3.0,
-        subst (λ (s : Step Set). ConvertsBy s (Some bytes) held (done stream.0 held can.3.0)) (sym (target_gives held word can.0 can.1 can.2))
-            (Rewrites can.3.0 can.3.1 can.3.2 stream.0 can.3.3 stream.1),
+        rw (target_gives held word can.0 can.1 can.2) (Rewrites can.3.0 can.3.1 can.3.2 stream.0 can.3.3 stream.1),
       )
       by (inr lost) = absurd (can.3.4 lost.0 lost.1 lost.2)
 

@@ -8,10 +8,9 @@ found : (old new : SetWord) (input : Option (List ℕ)) (held : Option Held) →
     → IsDone (counter_entry old new).task input held
 found old new input held can =
     let outcome = done (counter_text can.0.old can.0.new (computed can.0.old can.0.new)) held 0 in
-    let fit : AreFit (Gives can.0) = subst AreFit can.1 (fit_sets held old new) in
     record {
       outcome = outcome;
-      is = subst (λ (s : Step (Both Set)). CountersBy s held outcome) (sym can.1) (text_counters held (Gives can.0) outcome fit refl);
+      is = rw can.1 (text_counters held (Gives can.0) outcome (subst AreFit can.1 (fit_sets held old new)) refl);
       status = refl;
     }
 

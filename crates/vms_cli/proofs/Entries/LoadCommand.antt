@@ -30,8 +30,7 @@ module _ {S : Type 0} (f : Family S) (number : ℕ) (script : List ℕ) (map : H
       → LoadsBy f number (scripted None (Some map) script) (Some bytes) (Some map) (done (trace_of (answers_to f (events_of can.lines) board)) (Some map) taken)
   loaded_then bytes board taken restores =
       let outcome = done (trace_of (answers_to f (events_of can.lines) board)) (Some map) taken in
-      subst (λ (s : Step (List ScriptLine)). LoadsBy f number s (Some bytes) (Some map) outcome)
-      (sym (script_gives None map script can.text can.lines can.held can.short can.reads)) (Traces board taken restores)
+      rw (script_gives None map script can.text can.lines can.held can.short can.reads) (Traces board taken restores)
 
 loaded : (board : BoardWord) (script : List ℕ) (input : Option (List ℕ)) (held : Option Held) → (load_entry board script).needs input held
     → IsDone (load_entry board script).task input held

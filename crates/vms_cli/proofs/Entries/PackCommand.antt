@@ -18,7 +18,7 @@ packed word name input (Some map) can =
     let outcome = done (described_stream can.set can.machine can.images) (Some map) 0 in
     record {
       outcome = outcome;
-      is = subst (λ (s : Step (List ℕ)). HasText (Some map) s outcome) (sym (packs_give word name map can)) refl;
+      is = rw (packs_give word name map can) refl;
       status = refl;
     }
 

@@ -24,9 +24,8 @@ played level script input (Some map) octets is can =
     let end = has_end level read.lines map is ((reads_exactly.only (Some level) read.text read.lines read.reads).0) octets in
     record {
       outcome = end.0;
-      is = subst (λ (s : Step (List ScriptLine)). PlaysBy level s (Some map) end.0)
-          (sym (script_gives (Some level) map script read.text read.lines read.held read.short read.reads)) end.1;
-      status = ap (λ (o : Outcome). o.status) end.1.outcome;
+      is = rw (script_gives (Some level) map script read.text read.lines read.held read.short read.reads) end.1;
+      status = rw (end.1.outcome);
     }
 
 spares_play : Spares (0 ∷ 6 ∷ 7 ∷ 10 ∷ [])

@@ -14,9 +14,7 @@ module _ {S : Type 0} (f : Family S) (number : ℕ) (script : List ℕ) (map : H
       (done (saved_stream f set (after_events f (events_of can.lines) (f.power_on number))) (Some map) 0)
   saved_then set =
       let outcome = done (saved_stream f set (after_events f (events_of can.lines) (f.power_on number))) (Some map) 0 in
-      subst (λ (s : Step (List ScriptLine)). HasText (Some map)
-      (next s (λ lines. Gives (saved_stream f set (after_events f (events_of lines) (f.power_on number))))) outcome)
-      (sym (script_gives None map script can.text can.lines can.held can.short can.reads)) refl
+      rw (script_gives None map script can.text can.lines can.held can.short can.reads) refl
 
 saved : (board : BoardWord) (set : ℕ) (script : List ℕ) (input : Option (List ℕ)) (held : Option Held) → (save_entry board set script).needs input held
     → IsDone (save_entry board set script).task input held

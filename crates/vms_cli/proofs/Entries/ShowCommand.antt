@@ -34,7 +34,7 @@ shown word (Some bytes) held can =
     let outcome = done (values_text can.0 takes.1 takes.2) held takes.0 in
     record {
       outcome = outcome;
-      is = subst (λ (s : Step Set). ShowsBy s (Some bytes) held outcome) (sym can.1) (Printed takes.0 takes.1 takes.2 takes.3);
+      is = rw can.1 (Printed takes.0 takes.1 takes.2 takes.3);
       status = refl;
     }
 

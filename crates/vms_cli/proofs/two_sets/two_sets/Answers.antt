@@ -18,9 +18,7 @@ named g c r h =
     let old = fetched_set held (set_asked c.args.old) in
     let new = fetched_set held (set_asked c.args.new) in
     let texts : Both Fetched = record { old = c.in_ok-old_text.old_text; new = c.in_ok-new_text.new_text } in
-    let second : StepAs text_of new (Ok c.in_ok-new_text.new_text) =
-    subst (λ (h : Option Held). StepAs text_of (fetched_set h (set_asked c.args.new))
-    (Ok c.in_ok-new_text.new_text)) c.in_ok-old_text.ensures.asks.looks.held c.in_ok-new_text.ensures.fetched in
+    let second : StepAs text_of new (Ok c.in_ok-new_text.new_text) = rw c.in_ok-old_text.ensures.asks.looks.held at c.in_ok-new_text.ensures.fetched in
     then_as texts_of sets_of sets_in (both old new) texts r
     (two_of text_of texts_of old new c.in_ok-old_text.old_text c.in_ok-new_text.new_text texts refl c.in_ok-old_text.ensures.fetched second) h
 
@@ -31,9 +29,7 @@ returns-in_err-new-clause-had g c =
     let failed : StepAs sets_of (sets_in (record { old = text_of c.in_ok-old_text.old_text; new = text_of c.in_ok-new_text.new_text })) (Err e) =
     second_of described sets_of (set_in (text_of c.in_ok-old_text.old_text))
     (set_in (text_of c.in_ok-new_text.new_text)) c.in_ok-old.old e c.in_ok-old.ensures.read c.in_err-new.ensures.read in
-    named g (goal.at.returns-in_err-new-clause-had g c).In_ok-new_text c.from_residual-in_err-new.result
-    (subst (λ (r : Result TwoSets Ending). StepAs sets_of
-    (sets_in (record { old = text_of c.in_ok-old_text.old_text; new = text_of c.in_ok-new_text.new_text })) r) (sym (p.1 ∙ ap Err p.2)) failed)
+    named g (goal.at.returns-in_err-new-clause-had g c).In_ok-new_text c.from_residual-in_err-new.result (rw (p.1 ∙ ap Err p.2) failed)
 
 pub returns-clause-had : goal.returns-clause-had
 returns-clause-had g c =

@@ -7,25 +7,18 @@ pub put_path-requires-clause-short : goal.put_path-requires-clause-short
 put_path-requires-clause-short c =
     let device = c.in-Some-Some.device in
     let cell = c.in-Some-Some.cell in
-    let inside =
-    subst (λ (o : Option ℕ). IsInNewest (Some device) o) c.in-Some-Some.is-1
-    (subst (λ (o : Option ℕ). IsInNewest o c.args.cell) c.in-Some-Some.is-0 c.requires.named) in
-    subst (λ (s : Set). length (cell_name s (device_at s device) cell) < 64) (sym c.requires.newest) (path_short device cell inside.0)
+    let inside = subst (λ o. IsInNewest (Some device) o) c.in-Some-Some.is-1 (subst (λ o. IsInNewest o c.args.cell) c.in-Some-Some.is-0 c.requires.named) in
+    subst (λ s. length (cell_name s (device_at s device) cell) < 64) (sym c.requires.newest) (path_short device cell inside.0)
 
 pub line_of-requires : goal.line_of-requires
 line_of-requires c =
     let device = c.in-Some-Some.device in
     let cell = c.in-Some-Some.cell in
-    let inside =
-    subst (λ (o : Option ℕ). IsInNewest (Some device) o) c.in-Some-Some.is-1
-    (subst (λ (o : Option ℕ). IsInNewest o c.args.cell) c.in-Some-Some.is-0 c.requires.named) in
-    let name = c.bytes.ensures ∙ c.put_path.ensures ∙ ap (λ (s : Set). cell_name s (device_at s device) cell) c.requires.newest in
-    subst (λ (l : List ℕ). length l < 64) (sym name) (path_short device cell inside.0)
+    let name = c.bytes.ensures ∙ c.put_path.ensures ∙ ap (λ s. cell_name s (device_at s device) cell) c.requires.newest in
+    rw name (path_short device cell (rw c.in-Some-Some.is-1 at (rw c.in-Some-Some.is-0 at c.requires.named)).0)
 
 pub returns : goal.returns
 returns c =
     let none = c.in-None-default.is-0 in
-    c.line_of-in-None-default.ensures
-    ∙ ap (λ (s : Set). line_of s c.args.section (codes "machine")) c.requires.newest
-    ∙ ap (λ (o : Option ℕ). line_of newest o (codes "machine")) none
-    ∙ sym (ap (λ (o : Option ℕ). lost_line newest o c.args.cell) none)
+    c.line_of-in-None-default.ensures ∙ ap (λ s. line_of s c.args.section (codes "machine")) c.requires.newest
+    ∙ ap (λ o. line_of newest o (codes "machine")) none ∙ sym (rw none)

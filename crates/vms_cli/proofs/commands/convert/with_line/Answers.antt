@@ -6,7 +6,7 @@ use Rattle.vms_cli.proofs.commands.convert.with_line.Goals as goal
 -- by the fault that the call answered
 by_fault : {converted : Result (Unit {0}) ConvertFault} {answered fault : ConvertFault} {e : Option Ending} → converted ≡ Err answered → answered ≡ fault
     → EndsLike (Err fault) e → EndsLike converted e
-by_fault {e = e} is same like = subst (λ (r : Result (Unit {0}) ConvertFault). EndsLike r e) (sym (is ∙ ap Err same)) like
+by_fault {e = e} is same like = rw (is ∙ ap Err same) like
 
 pub returns-in-Ok : goal.returns-in-Ok
 returns-in-Ok c = rw c.in-Ok.is (IsDone c.in-Ok.field-0)
@@ -26,7 +26,7 @@ pub returns-in-Err-Refused : goal.returns-in-Err-Refused
 returns-in-Err-Refused c =
     let r = c.in-Err-Refused.refusal in
     by_fault c.in-Err-Refused.is (rw c.in-Err-Refused.is at c.in-Err-Refused.field-0-is)
-    (IsRefused r c.refused_line.result (c.refused_line.ensures ∙ ap (λ (s : Set). refused_line s r.at r.section r.reason) c.requires.newest))
+    (IsRefused r c.refused_line.result (c.refused_line.ensures ∙ ap (λ s. refused_line s r.at r.section r.reason) c.requires.newest))
 
 pub returns-in-Err-WouldLose : goal.returns-in-Err-WouldLose
 returns-in-Err-WouldLose c =

@@ -14,6 +14,4 @@ returns-clause-ends g c =
     let found = answer_of old c.in_ok-finding.finding in
     let fit : IsFit old = record { well = well_of old c.args.sets.old.well_formed; heads = c.args.sets.old.heads } in
     let fit' : IsFit new = record { well = well_of new c.in_ok-loader.loader.set.well_formed; heads = c.in_ok-loader.loader.set.heads } in
-    subst (λ (n : Set). WrittenAs (counter_text old n (computed old n)) out out' r) c.in_ok-loader.ensures.set
-    (subst (λ (a : Answer). WrittenAs (counter_text old new a) out out' r) (answered old new fit fit' found c.in_ok-finding.ensures.found)
-    (subst (λ (s : Set). WrittenAs (counter_text old s found) out out' r) (c.set.ensures ∙ c.in_ok-finding.ensures.set) c.write_finding.ensures.ends))
+    rw c.in_ok-loader.ensures.set at (rw (answered old new fit fit' found c.in_ok-finding.ensures.found) at (rw (c.set.ensures ∙ c.in_ok-finding.ensures.set) at c.write_finding.ensures.ends))

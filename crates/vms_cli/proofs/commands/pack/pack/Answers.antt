@@ -7,9 +7,7 @@ use Rattle.vms_cli.proofs.commands.pack.pack.Goals as goal
 pub returns : goal.returns
 returns g c = λ input few.
     let had = c.in_ok-parts.ensures in
-    let ends =
-    subst (λ (l : List ℕ). TextEnds (packed (described c.in_ok-parts.parts.set) l) (outlet g.O.Sink c.args.out.now) (outlet g.O.Sink c.pack_text.new.out)
-    (ending_of c.pack_text.result)) c.deref.ensures.value c.pack_text.ensures.ends in
+    let ends = rw c.deref.ensures.value at c.pack_text.ensures.ends in
     record {
       content = λ o has. had_text parts_of packed_parts (named_parts (g.H.Shelf.held c.args.shelf.now) (set_asked c.args.set) c.args.values.now) input _
           (stock g.H.Shelf c.args.shelf.now) _ few had.asks.looks o has _ c.in_ok-parts.parts _ _ _ had.had c.pack_text.ensures.so ends;

@@ -14,9 +14,7 @@ rest text values = next (set_in text) (λ set. Gives (record { set = set; values
 module _ (held held' : Option Held) (same : held' ≡ held) (word : SetWord) (name : List ℕ) (t : Fetched)
     (first : StepAs text_of (fetched_set held word) (Ok t)) (r : Result PackParts Ending) where
   behind_text : StepAs parts_of (with_values held' name (text_of t)) r → StepAs parts_of (named_parts held word name) r
-  behind_text h =
-      then_as text_of parts_of (with_values held name) (fetched_set held word) t r first
-      (subst (λ (x : Option Held). StepAs parts_of (with_values x name (text_of t)) r) same h)
+  behind_text h = then_as text_of parts_of (with_values held name) (fetched_set held word) t r first (rw same at h)
 
   behind_values : (v : Vec ℕ Global) → StepAs bytes (fetched longest_file held' name) (Ok v) → StepAs parts_of (rest (text_of t) v.items) r
       → StepAs parts_of (named_parts held word name) r

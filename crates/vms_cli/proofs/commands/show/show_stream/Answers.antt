@@ -15,7 +15,7 @@ returns-in-Ok g c =
     let machine = c.in-Ok.machine in
     let e = ending_of c.write_values.result in
     let reads = c.in-Ok.ensures.reads in
-    let written = subst (λ (s : Set). WritesAs (values_text s (machine_of s machine) images) out out' e) c.in-Ok.ensures.set c.write_values.ensures in
+    let written = subst (λ s. WritesAs (values_text s (machine_of s machine) images) out out' e) c.in-Ok.ensures.set c.write_values.ensures in
     record {
       runs = record {
         content = λ shelf shelf' o held shows. content_seen {s = shelf} {s' = shelf'} {P = λ bytes x. Shows set bytes shelf.held x} e o
@@ -37,7 +37,7 @@ returns-in-Err-Refused g c =
     let r = c.in-Err-Refused.refusal in
     let line = c.refused_line.result in
     let reads = rw c.in-Err-Refused.field-0-is at c.in-Err-Refused.ensures.reads in
-    let said = c.refused_line.ensures ∙ ap (λ (s : Set). refused_line s r.at r.section r.reason) (c.set.ensures ∙ c.in-Err-Refused.ensures.set) in
+    let said = c.refused_line.ensures ∙ ap (λ s. refused_line s r.at r.section r.reason) (c.set.ensures ∙ c.in-Err-Refused.ensures.set) in
     record {
       runs = record {
         content = λ shelf shelf' o held shows. content_seen {o = out} {o' = out} {s = shelf} {s' = shelf'} {P = λ bytes x. Shows set bytes shelf.held x}
