@@ -52,9 +52,9 @@ module _ (set : Set) (names : List (List ℕ)) (staged : Staged) (first configur
   opened_is : (id : ℕ) (name : List ℕ) (instance v k : ℕ) (image : Image) (tail : Tail) → find_device 0 set.devices name instance ≡ Some k → k < length set.devices → image ≡ image_at set k v → tail ≡ staged.tail
       → after set state (HeadUnit id name instance v) ≡ state_in (begun k) (record { device = k; id = id; tail = tail }) image (Inside k id None 0)
   opened_is id name instance v k image tail found below is same =
-      ap (λ (o : Option ℕ). headed o (at_option set.devices o)) found ∙ ap (λ (d : Option Device). headed (Some k) d) (slice_get-get_or set.devices k _ below)
-      ∙ ap (λ (i : Image). state_in (begun k) (record { device = k; id = id; tail = staged.tail }) i (Inside k id None 0)) (sym is)
-      ∙ ap (λ (t : Tail). state_in (begun k) (record { device = k; id = id; tail = t }) image (Inside k id None 0)) (sym same)
+      ap (λ o. headed o (at_option set.devices o)) found ∙ ap (λ d. headed (Some k) d) (slice_get-get_or set.devices k _ below)
+      ∙ ap (λ i. state_in (begun k) (record { device = k; id = id; tail = staged.tail }) i (Inside k id None 0)) (sym is)
+      ∙ ap (λ t. state_in (begun k) (record { device = k; id = id; tail = t }) image (Inside k id None 0)) (sym same)
     where
       headed : Option ℕ → Option Device → State
       headed o d = record {
@@ -71,8 +71,7 @@ module _ (set : Set) (names : List (List ℕ)) (staged : Staged) (first configur
 
   pub section_long : (head : Head) → length staged.came.items ≡ length set.devices → IsLong (head_long head) (ask set names state (head_unit head) (head_long head))
   section_long head came =
-      subst (λ (v : Verdict State). IsLong (head_long head) v) (sym (section_judged set names state head.id head.name.items head.instance head.version (head_long head) came))
-      (by_opened (section_opened set staged.came.items head.name.items head.instance head.version))
+      rw (section_judged set names state head.id head.name.items head.instance head.version (head_long head) came) (by_opened (section_opened set staged.came.items head.name.items head.instance head.version))
     where
       by_opened : (o : Result ℕ Unfit) → IsLong (head_long head) (verdict set names state (head_unit head) (head_long head) o)
       by_opened (Ok k) = refl
@@ -84,7 +83,7 @@ module _ (set : Set) (names : List (List ℕ)) (staged : Staged) (first configur
       → ReadsBehind go (ask set names state (head_unit head) (head_long head)) next place (head_long head) bytes end left (Err e)
   section_refused head place end bytes left next e came h is =
       let n = head_long head in
-      subst (λ (v : Verdict State). Reads (behind go place v (place + n) (drop n bytes)) next place end bytes left (Err e)) (sym (section_judged set names state head.id head.name.items head.instance head.version n came))
+      subst (λ v. Reads (behind go place v (place + n) (drop n bytes)) next place end bytes left (Err e)) (sym (section_judged set names state head.id head.name.items head.instance head.version n came))
       (refuses (head_unit head) n place (place + n) end bytes (drop n bytes) left next (section_opened set staged.came.items head.name.items head.instance head.version) e h is)
 
   -- the section of a head that opens one
@@ -99,9 +98,8 @@ module _ (set : Set) (names : List (List ℕ)) (staged : Staged) (first configur
       let o = section_opened set staged.came.items head.name.items head.instance head.version in
       let found = device_is set staged.came.items head.name.items head.instance head.version place k h in
       let begins = section_judged set names state head.id head.name.items head.instance head.version n came ∙ opens (head_unit head) n place k o h
-      ∙ ap (λ (s : State). Goes n s) (opened_is head.id head.name.items head.instance head.version k image tail found below is same) in
-      subst (λ (v : Verdict State). ReadsOn (behind go place v) (λ _. go final) from end old left result) (sym begins)
-      (subst (λ (s : State). ReadsOn (in_fields set names (begun k) (record { device = k; id = head.id; tail = tail }) None image) (λ _. go s) from end old left result) last r)
+      ∙ ap (λ s. Goes n s) (opened_is head.id head.name.items head.instance head.version k image tail found below is same) in
+      rw begins (rw last at r)
 
 -- if the section has ended
 abbrev pub ended_in : Option (List ℕ) → List Image → List Bool → StreamTail → State
@@ -112,10 +110,10 @@ pub ends_later : (machine named : Option (List ℕ)) (images first : List Typed)
     → ended_in machine (slice_set (map untyped first) j (untyped new)) (slice_set came k true) tail ≡ ended_in named (map untyped (slice_set images k new)) now tail
 ends_later machine named images first came now k j image new tail m i c same =
     let twice : slice_set images k new ≡ slice_set first k new = cc (set_twice first k image new) in
-    ap (λ (n : ℕ). ended_in machine (slice_set (map untyped first) n (untyped new)) (slice_set came k true) tail) same
-    ∙ ap (λ (l : List Image). ended_in machine l (slice_set came k true) tail) (sym (map-set untyped first k new) ∙ ap (map untyped) (sym twice))
-    ∙ ap (λ (l : List Bool). ended_in machine (map untyped (slice_set images k new)) l tail) (sym c)
-    ∙ ap (λ (o : Option (List ℕ)). ended_in o (map untyped (slice_set images k new)) now tail) (sym m)
+    ap (λ n. ended_in machine (slice_set (map untyped first) n (untyped new)) (slice_set came k true) tail) same
+    ∙ ap (λ l. ended_in machine l (slice_set came k true) tail) (sym (map-set untyped first k new) ∙ ap (map untyped) (sym twice))
+    ∙ ap (λ l. ended_in machine (map untyped (slice_set images k new)) l tail) (sym c)
+    ∙ ap (λ o. ended_in o (map untyped (slice_set images k new)) now tail) (sym m)
 
 -- ---- What comes after the fields of a part, as the judge reads it.
 
@@ -142,11 +140,10 @@ module _ (set : Set) (names : List (List ℕ)) (state : State) (section : Sectio
   none_left : slots_at set inner (Inside section.device section.id part done) ≡ []
   none_left =
       let all = part_slots set (Some (device_at set section.device)) image part in
-      ap (λ (o : Option Device). drop done (part_slots set o (open_image inner) part)) there
-      ∙ ap (λ (i : Image). drop done (part_slots set (Some (device_at set section.device)) i part)) image_is ∙ drop_all (length all) all (omega arith)
+      rw (there, image_is) (drop_all (length all) all (omega arith))
 
   due_is : due_by set inner (Inside section.device section.id part done) ≡ AfterFields section.device t
-  due_is = ap (λ (l : List Slot). due_field t (Some section.device) l) none_left
+  due_is = rw none_left
 
   held : rules_hold (slots_at set inner (Inside section.device section.id part done)) ≡ true
   held = ap rules_hold none_left
@@ -155,8 +152,8 @@ module _ (set : Set) (names : List (List ℕ)) (state : State) (section : Sectio
       → onward inner place rest ≡ reading_after onward place rest (judge_seen (Some section.device) (ask set names inner) rest (seen (AfterFields 0 t) (in_section section.id) rest))
   after_is place rest b =
       unit_of set names inner place rest ∙ ap (reading_after onward place rest) (
-      judged_holds set names inner rest held (ap (λ (d : Due). owes d rest) due_is) (ap (λ (d : Due). begins_section d rest) due_is ∙ b)
-      ∙ ap (λ (d : Due). judge_seen (Some section.device) (ask set names inner) rest (seen d (known_at set inner) rest)) due_is
+      judged_holds set names inner rest held (rw due_is) (rw due_is (b))
+      ∙ ap (λ d. judge_seen (Some section.device) (ask set names inner) rest (seen d (known_at set inner) rest)) due_is
       ∙ ap (judge_seen (Some section.device) (ask set names inner) rest) (seen_holds t section.device (known_at set inner) (in_section section.id) rest refl)
       )
 
@@ -173,9 +170,8 @@ module _ (set : Set) (names : List (List ℕ)) (state : State) (section : Sectio
       → ReadsOn (after_fields set names state section part image) next from to old left (Err (concerning (Some section.device) fault))
   after_fault from to (Some rest) left next (frames.Refused place reason) before a =
       let P : List ℕ → Type 0 = λ l. Reads (onward inner from.at l) next from.at to l left (Err (faults.Refused (record { section = Some section.device; at = place; reason = reason }))) in
-      subst P (sym (ap (λ (o : Option ℕ). ahead o rest) before))
-      (subst (λ (x : Option (Reading State)). Reads x next from.at to rest left (Err (faults.Refused (record { section = Some section.device; at = place; reason = reason })))) (sym (after_is from.at rest a.0))
-      (unit_fails onward (Some section.device) (ask set names inner) from.at rest (seen (AfterFields 0 t) (in_section section.id) rest) left next to place reason a.1 a.2))
+      subst P (sym (ap (λ o. ahead o rest) before))
+      (rw (after_is from.at rest a.0) (unit_fails onward (Some section.device) (ask set names inner) from.at rest (seen (AfterFields 0 t) (in_section section.id) rest) left next to place reason a.1 a.2))
   after_fault from to _ left next _ before a = tt
 
   -- a unit after the fields that is judged
@@ -186,9 +182,8 @@ module _ (set : Set) (names : List (List ℕ)) (state : State) (section : Sectio
   after_settled from to None left x n now new result before free' a far h = tt
   after_settled from to (Some rest) left x n now new result before free' a far h =
       let P : List ℕ → Type 0 = λ l. Reads (onward inner from.at l) (after_part set names state now new) from.at to l left result in
-      subst P (sym (ap (λ (o : Option ℕ). ahead o rest) before))
-      (subst (λ (r : Option (Reading State)). Reads r (after_part set names state now new) from.at to rest left result) (sym (after_is from.at rest a.0))
-      (unit_settled onward (Some section.device) (ask set names inner) from.at rest (seen (AfterFields 0 t) (in_section section.id) rest) x n left to
+      subst P (sym (ap (λ o. ahead o rest) before))
+      (rw (after_is from.at rest a.0) (unit_settled onward (Some section.device) (ask set names inner) from.at rest (seen (AfterFields 0 t) (in_section section.id) rest) x n left to
       (λ next. state_in state now new (spot_in now next)) result (a.1, a.2) far free' h))
 
   -- the section ends at the next unit, whose first byte is held
@@ -200,11 +195,11 @@ module _ (set : Set) (names : List (List ℕ)) (state : State) (section : Sectio
   after_next from to (Some (b ∷ more)) left before far a =
       let P : Option (List ℕ) → Option ℕ → Option ℕ → ℕ → Type 0 = λ l o h p. Reads {X = Option Open} (onward inner from.at (ahead o (b ∷ more))) (after_part set names state (record section { tail = tails.Bare }) image) from.at (record { at = p; held = h }) (ahead o (b ∷ more)) l (Ok None) in
       let zero' : 0 ≡ from.at - from.at = omega arith in
-      subst (λ (p : ℕ). P left from.held to.held p) (sym far)
-      (subst (λ (h : Option ℕ). P left from.held h from.at) (sym a.1)
-      (subst (λ (o : Option ℕ). P left o (Some b) from.at) (sym before)
-      (subst (λ (l : Option (List ℕ)). P l None (Some b) from.at) (sym a.2)
-      (next_is from.at (b ∷ more) a.0, ap (λ (n : ℕ). drop n (b ∷ more)) zero'))))
+      subst (λ p. P left from.held to.held p) (sym far)
+      (subst (λ h. P left from.held h from.at) (sym a.1)
+      (subst (λ o. P left o (Some b) from.at) (sym before)
+      (subst (λ l. P l None (Some b) from.at) (sym a.2)
+      (next_is from.at (b ∷ more) a.0, ap (λ n. drop n (b ∷ more)) zero'))))
 
   -- the footer
   pub foot_settled : (at' : ℕ) → Settles (ask set names inner (Foot section.id) 5) at' (λ next. state_in state (record section { tail = tails.Footed }) image (spot_in (record section { tail = tails.Footed }) next)) 5 (Ok None)
@@ -219,8 +214,8 @@ module _ (set : Set) (names : List (List ℕ)) (state : State) (section : Sectio
 
     judged : ask set names inner (SubHead name v) n ≡ verdict set names inner (SubHead name v) n (sub_opened section.device (device_at set section.device) image.came name v)
     judged =
-        sub_judged set names inner section.device (device_at set section.device) name v n refl there (ap (λ (i : Image). length i.came) image_is ∙ long)
-        ∙ ap (λ (i : Image). verdict set names inner (SubHead name v) n (sub_opened section.device (device_at set section.device) i.came name v)) image_is
+        sub_judged set names inner section.device (device_at set section.device) name v n refl there (rw image_is (long))
+        ∙ ap (λ i. verdict set names inner (SubHead name v) n (sub_opened section.device (device_at set section.device) i.came name v)) image_is
 
     abbrev into : List Image → Option ℕ → State
     into images o = record { machine = state.machine; images = images; came = state.came; tail = t; spot = Inside section.device section.id o 0 }
@@ -228,10 +223,10 @@ module _ (set : Set) (names : List (List ℕ)) (state : State) (section : Sectio
     after_sub : (j : ℕ) → find_sub 0 (device_at set section.device).subs name ≡ Some j → after set inner (SubHead name v) ≡ state_in state section (marked j) (Inside section.device section.id (Some j) 0)
     after_sub j e =
         let found : position (λ (s : Sub). bytes_eq s.desc.name name) 0 (subs_of (slice_get set.devices section.device)) ≡ Some j =
-        ap (λ (o : Option Device). position (λ (s : Sub). bytes_eq s.desc.name name) 0 (subs_of o)) there ∙ e in
+        ap (λ o. position (λ (s : Sub). bytes_eq s.desc.name name) 0 (subs_of o)) there ∙ e in
         let put : Image → Option ℕ → List Image = λ i o. slice_set (slice_set state.images section.device image) section.device (record i { came = put_version i.came o v }) in
-        ap (λ (o : Option ℕ). into (put (open_image inner) o) o) found ∙ ap (λ (i : Image). into (put i (Some j)) (Some j)) image_is
-        ∙ ap (λ (l : List Image). into l (Some j)) (set_twice state.images section.device image (marked j))
+        ap (λ o. into (put (open_image inner) o) o) found ∙ ap (λ i. into (put i (Some j)) (Some j)) image_is
+        ∙ ap (λ l. into l (Some j)) (set_twice state.images section.device image (marked j))
 
     sub_ok : (o : Result ℕ Unfit) (j : ℕ) → find_sub 0 (device_at set section.device).subs name ≡ Some j → Ok j ≡ opened_at place o
         → Settles (verdict set names inner (SubHead name v) n o) place (λ next. state_in state section (marked j) (spot_in section next)) n (Ok (Some (record { sub = Some j; version = v })))
@@ -246,13 +241,11 @@ module _ (set : Set) (names : List (List ℕ)) (state : State) (section : Sectio
     pub sub_settled : (j : ℕ) → Ok j ≡ opened_at place (sub_opened section.device (device_at set section.device) image.came name v)
         → Settles (ask set names inner (SubHead name v) n) place (λ next. state_in state section (marked j) (spot_in section next)) n (Ok (Some (record { sub = Some j; version = v })))
     sub_settled j e =
-        subst (λ (w : Verdict State). Settles w place (λ next. state_in state section (marked j) (spot_in section next)) n (Ok (Some (record { sub = Some j; version = v })))) (sym judged)
-        (sub_ok (sub_opened section.device (device_at set section.device) image.came name v) j (sub_is section.device (device_at set section.device) image.came name v place j long e) e)
+        rw judged (sub_ok (sub_opened section.device (device_at set section.device) image.came name v) j (sub_is section.device (device_at set section.device) image.came name v place j long e) e)
 
     pub sub_refused : {X : Type 0} (e : LoadFault) (next : X → State) → Err e ≡ opened_at place (sub_opened section.device (device_at set section.device) image.came name v)
         → Settles (ask set names inner (SubHead name v) n) place next n (Err e)
-    sub_refused e next h =
-        subst (λ (w : Verdict State). Settles w place next n (Err e)) (sym judged) (sub_err (sub_opened section.device (device_at set section.device) image.came name v) e next h)
+    sub_refused e next h = rw judged (sub_err (sub_opened section.device (device_at set section.device) image.came name v) e next h)
 
 -- ---- a subsection that is opened hasn't come
 

@@ -76,38 +76,34 @@ module _ (kind : Kind) (at : ℕ) (new : Option (List ℕ)) where
   capped_large caps rest v h e =
       let t = read_good rest v h.0 in
       let same = number_same kind (z kind rest) v t.same in
-      let is = number_by kind rest 0 caps ∙ to_bad _ _ _ _ (width kind) reasons.CountTooLarge t.cut t.bad (ap (exceeds caps) same ∙ e) in
-      (refl, subst (λ (f : Seen). Fails f rest new reasons.CountTooLarge) (sym is) (refl, h.1))
+      (refl, rw (number_by kind rest 0 caps ∙ to_bad _ _ _ _ (width kind) reasons.CountTooLarge t.cut t.bad (ap (exceeds caps) same ∙ e)) (refl, h.1))
 
   pub capped_err : (caps : List ℕ) (rest : List ℕ) (fault : FrameFault) → ReadsNumber kind at (Some rest) new (Err fault) → ReadsCapped kind caps at (Some rest) new (Err fault)
   capped_err caps rest faults.ReadFault h = tt
   capped_err caps rest (faults.Refused place reason) h = (
     h.0,
-    subst (λ (f : Seen). Fails f rest new reason) (sym (number_by kind rest 0 caps))
-        (fails_with (cut kind rest) (bad kind rest) (exceeds caps (z kind rest)) _ _ (width kind) reasons.CountTooLarge reasons.CountTooLarge rest new reason
-        (subst (λ (f : Seen). Fails f rest new reason) (number_by kind rest 0 []) h.1)),
+    rw (number_by kind rest 0 caps) (fails_with (cut kind rest) (bad kind rest) (exceeds caps (z kind rest)) _ _ (width kind) reasons.CountTooLarge reasons.CountTooLarge rest new reason
+        (rw (number_by kind rest 0 []) at h.1)),
   )
 
   pub constant_ok : (y : ℤ) (rest : List ℕ) (v : ℤ) → ReadsNumber kind at (Some rest) new (Ok v) → same_number v y ≡ true → v ≡ y → ReadsConstant kind y at (Some rest) new (Ok tt)
   constant_ok y rest v h e is =
       let t = read_good rest v h.0 in
       let same = number_same kind (z kind rest) v t.same in
-      (constant_by kind rest y ∙ to_good _ _ _ _ _ (width kind) reasons.NotEqual t.cut t.bad (ap (λ (x : ℤ). not (same_number x y)) same ∙ ap not e) (ap (Constant kind) (same ∙ is)), h.1)
+      (constant_by kind rest y ∙ to_good _ _ _ _ _ (width kind) reasons.NotEqual t.cut t.bad (rw same (ap not e)) (ap (Constant kind) (same ∙ is)), h.1)
 
   pub constant_other : (y : ℤ) (rest : List ℕ) (v : ℤ) → ReadsNumber kind at (Some rest) new (Ok v) → same_number v y ≡ false → ReadsConstant kind y at (Some rest) new (Err (faults.Refused at reasons.NotEqual))
   constant_other y rest v h e =
       let t = read_good rest v h.0 in
-      let same = number_same kind (z kind rest) v t.same in
-      let is = constant_by kind rest y ∙ to_bad _ _ _ _ (width kind) reasons.NotEqual t.cut t.bad (ap (λ (x : ℤ). not (same_number x y)) same ∙ ap not e) in
-      (refl, subst (λ (f : Seen). Fails f rest new reasons.NotEqual) (sym is) (refl, h.1))
+      let is = constant_by kind rest y ∙ to_bad _ _ _ _ (width kind) reasons.NotEqual t.cut t.bad (rw (number_same kind (z kind rest) v t.same) (ap not e)) in
+      (refl, rw is (refl, h.1))
 
   pub constant_err : (y : ℤ) (rest : List ℕ) (fault : FrameFault) → ReadsNumber kind at (Some rest) new (Err fault) → ReadsConstant kind y at (Some rest) new (Err fault)
   constant_err y rest faults.ReadFault h = tt
   constant_err y rest (faults.Refused place reason) h = (
     h.0,
-    subst (λ (f : Seen). Fails f rest new reason) (sym (constant_by kind rest y))
-        (fails_with (cut kind rest) (bad kind rest) (not (same_number (z kind rest) y)) _ _ (width kind) reasons.CountTooLarge reasons.NotEqual rest new reason
-        (subst (λ (f : Seen). Fails f rest new reason) (number_by kind rest 0 []) h.1)),
+    rw (constant_by kind rest y) (fails_with (cut kind rest) (bad kind rest) (not (same_number (z kind rest) y)) _ _ (width kind) reasons.CountTooLarge reasons.NotEqual rest new reason
+        (rw (number_by kind rest 0 []) at h.1)),
   )
 
 -- ---- what is taken by what is seen
@@ -115,21 +111,20 @@ module _ (kind : Kind) (at : ℕ) (new : Option (List ℕ)) where
 fails_taken : (p : Progress) (s : Seen) (n : List ℤ) (to : ℕ) (left : Option (List ℕ)) (place : ℕ) (reason : Reason) → place ≡ p.place → Fails s p.rest left reason → TakesAs (taken_by p s) n to left (Err (faults.Refused place reason))
 fails_taken p (Good x m) n to left place reason e h = absurd h
 fails_taken p (Bad m why) n to left place reason e h = (e, h.0, h.1)
-fails_taken p Short n to left place reason e h = (e, h.0, h.1 ∙ ap (λ (l : List ℕ). Some l) (sym (drop_all (length p.rest) p.rest (omega arith))))
+fails_taken p Short n to left place reason e h = (e, h.0, h.1 ∙ ap (λ l. Some l) (sym (drop_all (length p.rest) p.rest (omega arith))))
 
 good_taken : (p : Progress) (s : Seen) (x : Piece) (m to : ℕ) (left : Option (List ℕ)) → s ≡ Good x m → to ≡ p.place + m → left ≡ Some (drop m p.rest) → TakesAs (taken_by p s) (put x p.numbers) to left (Ok tt)
-good_taken p s x m to left e far l = subst (λ (s : Seen). TakesAs (taken_by p s) (put x p.numbers) to left (Ok tt)) (sym e) (refl, far, l)
+good_taken p s x m to left e far l = rw e (refl, far, l)
 
 by_read_fault : (t : Taken) (n : List ℤ) (to : ℕ) (left : Option (List ℕ)) → TakesAs t n to left (Err faults.ReadFault)
-by_read_fault (Ok q) n to left = tt
-by_read_fault (Err e) n to left = tt
+by_read_fault _ n to left = tt
 
 module _ (rest : List ℕ) (new : Option (List ℕ)) (at to : ℕ) (numbers : List ℤ) where
   abbrev from : Progress
   from = record { numbers = numbers; place = at; rest = rest }
 
   seen_taken : (slot : Slot) (n : List ℤ) (result : Result (Unit {0}) FrameFault) → IsUnit slot → TakesAs (taken_by from (seen (Field 0 slot) nothing_known rest)) n to new result → TakesAs (take_slot slot from) n to new result
-  seen_taken slot n result u h = subst (λ (t : Taken). TakesAs t n to new result) (slot_seen 0 nothing_known from slot u) h
+  seen_taken slot n result u h = rw (slot_seen 0 nothing_known from slot u) at h
 
   pub number_ok : (kind : Kind) (caps : List ℕ) (cell : ℕ) (x : ℤ) → to ≡ at + width kind → ReadsCapped kind caps at (Some rest) new (Ok x) → TakesAs (take_slot (NumberSlot cell kind caps) from) (slice_set numbers cell x) to new (Ok tt)
   number_ok kind caps cell x far a =
@@ -144,14 +139,13 @@ module _ (rest : List ℕ) (new : Option (List ℕ)) (at to : ℕ) (numbers : Li
   number_err kind caps cell n (faults.Refused place reason) a =
       seen_taken (NumberSlot cell kind caps) n (Err (faults.Refused place reason)) tt
       (fails_taken from (seen (Field 0 (NumberSlot cell kind caps)) nothing_known rest) n to new place reason a.0
-      (subst (λ (f : Seen). Fails f rest new reason) (sym (number_by kind rest cell caps))
-      (fails_alike (cut kind rest) (bad kind rest) (exceeds caps (z kind rest)) _ _ (width kind) reasons.CountTooLarge rest new reason
-      (subst (λ (f : Seen). Fails f rest new reason) (number_by kind rest 0 caps) a.1))))
+      (rw (number_by kind rest cell caps) (fails_alike (cut kind rest) (bad kind rest) (exceeds caps (z kind rest)) _ _ (width kind) reasons.CountTooLarge rest new reason
+      (rw (number_by kind rest 0 caps) at a.1))))
 
   -- a constant and unused bytes give no number
   plain : (slot : Slot) (x : Piece) (m : ℕ) (result : Result (Unit {0}) FrameFault) → IsUnit slot → OnOk result (to ≡ at + m) → put x numbers ≡ numbers
       → AnswersSeen (λ _. x) (λ _. m) (seen (Field 0 slot) nothing_known rest) at rest new result → TakesAs (take_slot slot from) numbers to new result
-  plain slot x m (Ok tt') u far same a = seen_taken slot numbers (Ok tt') u (subst (λ (n : List ℤ). TakesAs (taken_by from (seen (Field 0 slot) nothing_known rest)) n to new (Ok tt')) same (good_taken from _ x m to new a.0 far a.1))
+  plain slot x m (Ok tt') u far same a = seen_taken slot numbers (Ok tt') u (rw same at (good_taken from _ x m to new a.0 far a.1))
   plain slot x m (Err (faults.Refused place reason)) u far same a = seen_taken slot numbers (Err (faults.Refused place reason)) u (fails_taken from (seen (Field 0 slot) nothing_known rest) numbers to new place reason a.0 a.1)
   plain slot x m (Err faults.ReadFault) u far same a = by_read_fault (take_slot slot from) numbers to new
 
@@ -183,8 +177,7 @@ module _ {a b : Intake} (kind : Kind) (at : ℕ) where
   -- a number that is above a capacity
   pub reads_large : (caps : List ℕ) (v : ℤ) (place : ℕ) → place ≡ at → exceeds caps v ≡ true → Plain a b kind at (Ok v) → Capped a b kind at caps (Err (faults.Refused place reasons.CountTooLarge))
   reads_large caps v place here large p =
-      subst (λ (k : ℕ). Capped a b kind at caps (Err (faults.Refused k reasons.CountTooLarge))) (sym here)
-      (reads_last (reads_as (λ n l. omega arith) (λ rest left h. capped_large kind at (Some left) caps rest v h large) p))
+      rw here (reads_last (reads_as (λ n l. omega arith) (λ rest left h. capped_large kind at (Some left) caps rest v h large) p))
 
   pub reads_no_number : (caps : List ℕ) (e : FrameFault) → Plain a b kind at (Err e) → Capped a b kind at caps (Err e)
   reads_no_number caps e p = reads_as (λ n l. l) (λ rest left h. capped_err kind at (Some left) caps rest e h) p
@@ -195,8 +188,7 @@ module _ {a b : Intake} (kind : Kind) (at : ℕ) where
   -- another number
   pub reads_other : (y v : ℤ) (place : ℕ) → place ≡ at → same_number v y ≡ false → Plain a b kind at (Ok v) → Fixed a b kind at y (Err (faults.Refused place reasons.NotEqual))
   reads_other y v place here other p =
-      subst (λ (k : ℕ). Fixed a b kind at y (Err (faults.Refused k reasons.NotEqual))) (sym here)
-      (reads_last (reads_as (λ n l. omega arith) (λ rest left h. constant_other kind at (Some left) y rest v h other) p))
+      rw here (reads_last (reads_as (λ n l. omega arith) (λ rest left h. constant_other kind at (Some left) y rest v h other) p))
 
   pub reads_no_constant : (y : ℤ) (e : FrameFault) → Plain a b kind at (Err e) → Fixed a b kind at y (Err e)
   reads_no_constant y e p = reads_as (λ n l. l) (λ rest left h. constant_err kind at (Some left) y rest e h) p
@@ -205,9 +197,8 @@ module _ {a b : Intake} (kind : Kind) (at : ℕ) where
 pub reads_rule : (a : Intake) (holds : Bool) (numbers : List ℤ) (at : ℕ) (result : Result (Unit {0}) FrameFault) → a.given < 2 ^ 64 → OnOk result (holds ≡ true)
     → IfErr result (λ fault. (holds ≡ false) × (fault ≡ faults.Refused at reasons.Invalid)) → TakesOn a a 0 at at (λ rest. take_slot (Rule holds) (progress numbers at rest)) numbers result
 reads_rule a holds numbers at (Ok x) counted ok err =
-    subst (λ (b : Bool). TakesOn a a 0 at at (λ rest. take_slot (Rule b) (progress numbers at rest)) numbers (Ok x)) (sym ok)
-    (record { bytes = []; takes = takes_none a counted; long = (omega arith, omega arith); says = λ more f. (refl, refl, refl); cause = tt })
+    rw ok (record { bytes = []; takes = takes_none a counted; long = (omega arith, omega arith); says = λ more f. (refl, refl, refl); cause = tt })
 reads_rule a holds numbers at (Err e) counted ok err =
-    subst (λ (b : Bool). TakesOn a a 0 at at (λ rest. take_slot (Rule b) (progress numbers at rest)) numbers (Err e)) (sym err.0)
-    (subst (λ (f : FrameFault). TakesOn a a 0 at at (λ rest. take_slot (Rule false) (progress numbers at rest)) numbers (Err f)) (sym err.1)
+    subst (λ b. TakesOn a a 0 at at (λ rest. take_slot (Rule b) (progress numbers at rest)) numbers (Err e)) (sym err.0)
+    (subst (λ f. TakesOn a a 0 at at (λ rest. take_slot (Rule false) (progress numbers at rest)) numbers (Err f)) (sym err.1)
     (record { bytes = []; takes = takes_none a counted; long = (omega arith, tt); says = λ more f. (refl, refl, refl); cause = tt }))

@@ -19,7 +19,7 @@ section_is : (set : Set) (footed : Bool) (k : ℕ) (d : Device) (image : Image) 
 section_is set footed k d image (Some x) (Some y) bytes e f h =
     let a : x ≡ d = cc in
     let b : y ≡ image = cc in
-    subst (λ (d : Device). IsKept set d image) a (subst (λ (image : Image). IsKept set x image) b (record { normal = h.1.normal; valid = h.1.valid }))
+    subst (λ d. IsKept set d image) a (subst (λ image. IsKept set x image) b (record { normal = h.1.normal; valid = h.1.valid }))
 section_is set footed k d image (Some x) None bytes e f h = absurd h
 section_is set footed k d image None i bytes e f h = cc
 
@@ -29,7 +29,7 @@ module _ (set : Set) (footed : Bool) (images : List Image) (k : ℕ) (d : Device
   by_order [] came bytes once spelled e = absurd (none_left came k once e)
   by_order (j ∷ order) came bytes once spelled e =
       ⊎_elim (λ (same : k ≡ j). section_is set footed j d image (slice_get set.devices j) (slice_get images j) spelled.0
-      (ap (λ (n : ℕ). slice_get set.devices n) (sym same) ∙ there) (ap (λ (n : ℕ). slice_get images n) (sym same) ∙ here) spelled.2)
+      (rw (sym same) (there)) (rw (sym same) (here)) spelled.2)
       (λ ne. by_order order (slice_set came j true) spelled.1 once.1 spelled.3 (at_other came j k true ne ∙ e)) (cases_eq k j)
 
 pub taken_kept : (set : Set) (names : List (List ℕ)) (input : List ℕ) (n : ℕ) (machine : Option (List ℕ)) (images : List Image) → Takes set names input n machine images → AreKept set images
@@ -45,18 +45,16 @@ module _ (set : Set) (names : List (List ℕ)) (well : WellFormed set) (heads : 
   taken_by : (taken : ℕ) (x : Option (Reading State)) → reading (by_state set names) (at_start set) input ≡ x → ReadsAll set x staged input left (Ok taken) → Loads set names input left (map untyped staged.images.items) taken (Ok staged.machine)
   taken_by taken (Some (Accepted n end)) e h =
       let takes : Takes set names input n end.machine end.images = accepted_holds set names well heads input n end ok e in (
-        subst (λ (m : ℕ). Takes set names input m (name_of set staged.machine) (map untyped staged.images.items)) h.0
-            (subst (λ (o : Option (List ℕ)). Takes set names input n o (map untyped staged.images.items)) h.1 (subst (λ (l : List Image). Takes set names input n end.machine l) h.2 takes)),
+        rw h.0 at (rw h.1 at (rw h.2 at takes)),
         h.3,
       )
-  taken_by taken (Some (Refused place section reason long)) e h = absurd h
-  taken_by taken None e h = absurd h
+  taken_by taken _ e h = absurd h
 
   refused_by : (images : List Image) (taken : ℕ) (fault : LoadFault) (x : Option (Reading State)) → reading (by_state set names) (at_start set) input ≡ x → ReadsAll set x staged input left (Err fault) → Loads set names input left images taken (Err fault)
   refused_by images taken (faults.Refused r) (Some (Refused place section reason long)) e h = (
     long,
-    (state_refuses set names).refused input r.at r.section r.reason long ok (e ∙ ap (λ (y : _). Some (Refused y.at y.section y.reason long)) (sym h.0)),
-    h.1 ∙ ap (λ (y : Refusal). Some (drop (y.at + long) input)) (sym h.0),
+    (state_refuses set names).refused input r.at r.section r.reason long ok (e ∙ ap (λ y. Some (Refused y.at y.section y.reason long)) (sym h.0)),
+    h.1 ∙ ap (λ y. Some (drop (y.at + long) input)) (sym h.0),
   )
   refused_by images taken faults.ReadFault x e h = tt
   refused_by images taken (faults.Refused r) _ e h = absurd h

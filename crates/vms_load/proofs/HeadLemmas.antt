@@ -22,12 +22,12 @@ sub_below subs name j e = let r = found_inside _ 0 subs j e in omega arith
 
 module _ (set : Set) (came : List Bool) (name : List ℕ) (instance v : ℕ) where
   pub unknown : find_device 0 set.devices name instance ≡ None → section_opened set came name instance v ≡ unfit None reasons.UnknownSection
-  unknown e = ap (λ (found : Option ℕ). device_opened v found (slice_get set.devices (index found)) (get_or came (index found) false)) e
+  unknown e = rw e
 
   pub known : (k : ℕ) → find_device 0 set.devices name instance ≡ Some k → section_opened set came name instance v ≡ opened_unless (Some k) k (reason_against (device_at set k) (get_or came k false) v)
   known k e =
-      ap (λ (found : Option ℕ). device_opened v found (slice_get set.devices (index found)) (get_or came (index found) false)) e
-      ∙ ap (λ (o : Option Device). device_opened v (Some k) o (get_or came k false)) (slice_get-get_or set.devices k _ (device_below set.devices name instance k e))
+      ap (λ found. device_opened v found (slice_get set.devices (index found)) (get_or came (index found) false)) e
+      ∙ ap (λ o. device_opened v (Some k) o (get_or came k false)) (slice_get-get_or set.devices k _ (device_below set.devices name instance k e))
 
   pub opens : (place k : ℕ) (reason : Option Reason) → find_device 0 set.devices name instance ≡ Some k → reason ≡ reason_against (device_at set k) (get_or came k false) v
       → opened_at place (opened_unless (Some k) k reason) ≡ opened_at place (section_opened set came name instance v)
@@ -37,15 +37,15 @@ module _ (set : Set) (came : List Bool) (name : List ℕ) (instance v : ℕ) whe
 
 module _ (k : ℕ) (d : Device) (came : List (Option ℕ)) (name : List ℕ) (v : ℕ) where
   pub unknown_sub : find_sub 0 d.subs name ≡ None → sub_opened k d came name v ≡ unfit (Some k) reasons.UnknownSubsection
-  unknown_sub e = ap (λ (found : Option ℕ). sub_opened_at k v found (slice_get d.subs (index found)) (slice_get came (index found))) e
+  unknown_sub e = rw e
 
   pub known_sub : (j : ℕ) → length came ≡ length d.subs → find_sub 0 d.subs name ≡ Some j
       → sub_opened k d came name v ≡ opened_unless (Some k) j (reason_against_sub (sub_at d j) (get_or came j None) v)
   known_sub j long e =
       let lt : j < length d.subs = sub_below d.subs name j e in
-      ap (λ (found : Option ℕ). sub_opened_at k v found (slice_get d.subs (index found)) (slice_get came (index found))) e
-      ∙ ap (λ (o : Option Sub). sub_opened_at k v (Some j) o (slice_get came j)) (slice_get-get_or d.subs j _ lt)
-      ∙ ap (λ (o : Option (Option ℕ)). sub_opened_at k v (Some j) (Some (sub_at d j)) o) (slice_get-get_or came j None (omega (arith, lt, long)))
+      ap (λ found. sub_opened_at k v found (slice_get d.subs (index found)) (slice_get came (index found))) e
+      ∙ ap (λ o. sub_opened_at k v (Some j) o (slice_get came j)) (slice_get-get_or d.subs j _ lt)
+      ∙ ap (λ o. sub_opened_at k v (Some j) (Some (sub_at d j)) o) (slice_get-get_or came j None (omega (arith, lt, long)))
 
   pub opens_sub : (j : ℕ) (reason : Option Reason) → length came ≡ length d.subs → find_sub 0 d.subs name ≡ Some j → reason ≡ reason_against_sub (sub_at d j) (get_or came j None) v
       → opened_unless (Some k) j reason ≡ sub_opened k d came name v
@@ -106,8 +106,8 @@ head_opened set names k id name instance v long = by (device_named set name inst
         let f = found_is set.devices 0 name instance j e in
         let d : slice_get set.devices j ≡ Some f.device = ap (slice_get set.devices) (sym (omega arith)) ∙ f.there in
         let inside : j < length k.came = (let x = slice_get_within set.devices j f.device d in omega arith) in
-        ap (λ (o : Option Device). head_rows (Some j) o (slice_get k.came j) v) d ∙ ap (λ (o : Option Bool). head_rows (Some j) (Some f.device) o v) (slice_get-get_or k.came j false inside)
-        ∙ known_head j f.device (get_or k.came j false) v ∙ ap (λ (o : Option Device). unfit_for (device_opened v (Some j) o (get_or k.came j false))) (sym d)
+        ap (λ o. head_rows (Some j) o (slice_get k.came j) v) d ∙ ap (λ o. head_rows (Some j) (Some f.device) o v) (slice_get-get_or k.came j false inside)
+        ∙ known_head j f.device (get_or k.came j false) v ∙ ap (λ o. unfit_for (device_opened v (Some j) o (get_or k.came j false))) (sym d)
 
 -- ---- subsections
 
@@ -147,9 +147,9 @@ sub_is_opened set names y k d name v section here long = cc (by (find_sub 0 d.su
         let s : slice_get d.subs j ≡ Some f.sub = ap (slice_get d.subs) (sym (omega arith)) ∙ f.there in
         let inside : j < length y.image.came = (let x = slice_get_within d.subs j f.sub s in omega arith) in
         let c = slice_get-get_or y.image.came j None inside in
-        ap (λ (o : Option Sub). sub_rows (Some k) (Some j) o (slice_get y.image.came j) v) s ∙ ap (λ (o : Option (Option ℕ)). sub_rows (Some k) (Some j) (Some f.sub) o v) c
+        ap (λ o. sub_rows (Some k) (Some j) o (slice_get y.image.came j) v) s ∙ ap (λ o. sub_rows (Some k) (Some j) (Some f.sub) o v) c
         ∙ known_rows k j f.sub (get_or y.image.came j None) v
-        ∙ ap (λ (o : Option Sub). unfit_for (sub_opened_at k v (Some j) o (Some (get_or y.image.came j None)))) (sym s) ∙ ap (λ (o : Option (Option ℕ)). unfit_for (sub_opened_at k v (Some j) (slice_get d.subs j) o)) (sym c)
+        ∙ ap (λ o. unfit_for (sub_opened_at k v (Some j) o (Some (get_or y.image.came j None)))) (sym s) ∙ ap (λ o. unfit_for (sub_opened_at k v (Some j) (slice_get d.subs j) o)) (sym c)
 
 -- ---- the verdict
 

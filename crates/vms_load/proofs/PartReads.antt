@@ -22,14 +22,13 @@ slot_taken (Number c kind caps) p =
     ap
     (λ (b : Bool). if_whole w p (if is_bad_bool kind (take w p.rest) then refuse p reasons.BadBool w else if b then refuse p reasons.CountTooLarge w else on w (slice_set p.numbers c z) p))
     (exceeds_least caps z)
-slot_taken (Constant kind z) p = refl
 slot_taken _ p = refl
 
 -- ---- steps leave the numbers below them
 
 first_above : (cell c : ℕ) (kind : Kind) (caps : List ℕ) (xs : List Slot) → IsAbove cell (Number c kind caps ∷ xs) → cell ≤ c
 first_above cell c kind caps xs above =
-    ⊎_elim (λ (lt : c < cell). let t = above.below c lt in let u = ap (λ (b : Bool). b || has_cell xs c) (eq-eqb c c refl) in cc)
+    ⊎_elim (λ (lt : c < cell). let t = above.below c lt in let u = ap (λ b. b || has_cell xs c) (eq-eqb c c refl) in cc)
     (λ (ge : cell ≤ c). ge) (cases_lt c cell)
 
 rest_above : (cell : ℕ) (x : Slot) (xs : List Slot) → IsAbove cell (x ∷ xs) → IsAbove cell xs
@@ -43,7 +42,7 @@ first_from cell _ xs above = tt
 last_below : (cell : ℕ) (xs : List Slot) (p : Progress) → IsAbove cell xs → SameBelow cell p.numbers (last_numbers (steps_of xs) p)
 last_below cell [] p above = same_refl cell p.numbers
 last_below cell (x ∷ xs) p above =
-    go (take_slot (slot_of (step_of x)) p) (subst (Keeps cell p.numbers) (sym (slot_taken x p)) (slot_keeps cell x p (first_from cell x xs above))) (λ q. last_below cell xs q (rest_above cell x xs above))
+    go (take_slot (slot_of (step_of x)) p) (rw (slot_taken x p) (slot_keeps cell x p (first_from cell x xs above))) (λ q. last_below cell xs q (rest_above cell x xs above))
   where
     go : (t : Taken) → Keeps cell p.numbers t → ((q : Progress) → SameBelow cell q.numbers (last_numbers (steps_of xs) q)) → SameBelow cell p.numbers (numbers_then t p.numbers (last_numbers (steps_of xs)))
     go (Ok q) k h = same_trans cell p.numbers q.numbers (last_numbers (steps_of xs) q) k.kept (h q)
@@ -101,7 +100,7 @@ module _ (set : Set) (structs : AreSound set.structs) (d : Desc) (sound : IsSoun
   part_taken p = take_desc (takers set.structs (length set.structs)) d v base p
 
   ok_numbers : (xs : List WalkStep) (p q : Progress) → take_steps xs p ≡ Ok q → q.numbers ≡ last_numbers xs p
-  ok_numbers xs p q e = sym (ap (λ (l : List WalkStep). last_numbers l p) (sym (append-nil xs)) ∙ last_taken xs [] p q e)
+  ok_numbers xs p q e = sym (rw (sym (append-nil xs)) (last_taken xs [] p q e))
 
   ends_ok : (xs : List WalkStep) (p : Progress) (numbers : List ℤ) (place : ℕ) (left : Option (List ℕ)) (t : Taken) → take_steps xs p ≡ t → TakesAs t numbers place left (Ok tt) → numbers ≡ last_numbers xs p
   ends_ok xs p numbers place left (Ok q) e h = cc (ok_numbers xs p q e)
@@ -111,16 +110,14 @@ module _ (set : Set) (structs : AreSound set.structs) (d : Desc) (sound : IsSoun
   part_took a b rest left h =
       let n = b.image.numbers in
       let ends = ends_ok (steps_of (slots n)) (from a rest) n b.place (Some left) (take_steps (steps_of (slots n)) (from a rest)) refl h in
-      subst (λ (t : Taken). TakesAs t n b.place (Some left) (Ok tt)) (steps_taken n (from a rest) ends) h
+      rw (steps_taken n (from a rest) ends) at h
 
   pub part_failed : (a b : Told) (fault : FrameFault) (rest left : List ℕ) → IsStopped (steps_of (slots b.image.numbers)) a fault b rest left → TakesAs (part_taken (from a rest)) b.image.numbers b.place (Some left) (Err fault)
-  part_failed a b (faults.Refused at reason) rest left h =
-      subst (λ (t : Taken). TakesAs t b.image.numbers b.place (Some left) (Err (faults.Refused at reason))) (steps_taken b.image.numbers (from a rest) h.1) h.0
+  part_failed a b (faults.Refused at reason) rest left h = rw (steps_taken b.image.numbers (from a rest) h.1) at h.0
   part_failed a b faults.ReadFault rest left h = always (part_taken (from a rest))
     where
       always : (t : Taken) → TakesAs t b.image.numbers b.place (Some left) (Err faults.ReadFault)
-      always (Ok q) = tt
-      always (Err e) = tt
+      always _ = tt
 
 -- ---- What a reader of a part takes is what the judge reads there.
 
@@ -150,7 +147,7 @@ module _ (set : Set) (good : IsGood set) (section : Section) (here : section.dev
   module _ (names : List (List ℕ)) (state : State) (image : Image) where
     slots_are : (o : Option ℕ) → IsOpen device image o v → (m : List ℤ)
         → part_slots set (Some device) (record image { numbers = m }) o ≡ desc_slots (meanings set.structs (length set.structs)) (part_desc device o) v m (part_base set device o)
-    slots_are None h m = ap (λ (w : ℕ). desc_slots (meanings set.structs (length set.structs)) device.desc w m 0) (sym h)
+    slots_are None h m = rw (sym h)
     slots_are (Some j) h m = cc (sub_there j h.0)
 
     -- the state before the section's image is put
@@ -180,7 +177,7 @@ module _ (set : Set) (good : IsGood set) (section : Section) (here : section.dev
 
     -- the rest after what was taken, or from the offending unit on
     front_left : IsIn device sub → (place : ℕ) (rest : List ℕ) (t : Taken) → taken place rest ≡ t → Leaves place rest t
-    front_left inside place rest t e = subst (λ (t : Taken). Leaves place rest t) e (desc_leaves set.structs good.structs (part_desc device sub) v (part_base set device sub) (start place rest) (part_sound sub inside))
+    front_left inside place rest t e = rw e at (desc_leaves set.structs good.structs (part_desc device sub) v (part_base set device sub) (start place rest) (part_sound sub inside))
 
     by_taken : (room : section.device < length state.images) → IsIn device sub → (place : ℕ) (rest : List ℕ) (numbers : List ℤ) (to : Stand) (left : Option (List ℕ)) (result : Result (Unit {0}) FrameFault)
         → (t : Taken) → taken place rest ≡ t → ReadsBody set names outer device image section.device section.id sub there room 0 (start place rest) t → OnOk result (to.held ≡ None) → TakesAs t numbers to.at left result
@@ -189,15 +186,15 @@ module _ (set : Set) (good : IsGood set) (section : Section) (here : section.dev
         let P : Option (List ℕ) → Type 0 = λ l. Reads {X = Unit {0}} (in_fields set names state section sub image place rest) (λ _. after_fields set names state section sub (record image { numbers = numbers })) place to rest l (Ok x) in
         let now : Option ℕ → List ℤ → ℕ → Option (Reading State) = λ o n p. after_fields set names state section sub (record image { numbers = n }) p (ahead o q.rest) in
         subst P (sym h.2) (
-          r.2 ∙ all_done room r.0 q r.1 ∙ ap (λ (n : List ℤ). now None n q.place) (sym h.0) ∙ ap (λ (p : ℕ). now None numbers p) (sym h.1) ∙ ap (λ (o : Option ℕ). now o numbers to.at) (sym held),
-          ap (λ (o : Option ℕ). ahead o q.rest) held ∙ (front_left inside place rest (Ok q) e).is ∙ ap (λ (p : ℕ). drop (p - place) rest) (sym h.1),
+          r.2 ∙ all_done room r.0 q r.1 ∙ ap (λ n. now None n q.place) (sym h.0) ∙ ap (λ p. now None numbers p) (sym h.1) ∙ ap (λ o. now o numbers to.at) (sym held),
+          rw held ((front_left inside place rest (Ok q) e).is ∙ ap (λ (p : ℕ). drop (p - place) rest) (sym h.1)),
         )
     by_taken room inside place rest numbers to left (Err (faults.Refused p reason)) (Err r) e b held h =
         let l = front_left inside place rest (Err r) e in
         let same : r.place - place + r.long ≡ p - place + r.long = omega arith in
         record {
           long = r.long;
-          is = b ∙ ap (λ (n : ℕ). Some (Refused n (Some section.device) r.reason r.long)) (sym h.0) ∙ ap (λ (w : Reason). Some (Refused p (Some section.device) w r.long)) (sym h.1);
+          is = b ∙ ap (λ n. Some (Refused n (Some section.device) r.reason r.long)) (sym h.0) ∙ ap (λ w. Some (Refused p (Some section.device) w r.long)) (sym h.1);
           from = omega arith;
           taken = cc (drop-drop r.long (r.place - place) rest);
         }
@@ -213,9 +210,8 @@ module _ (set : Set) (good : IsGood set) (section : Section) (here : section.dev
     fields_answer d base a b room open' from numbers new to None left result is before held h = tt
     fields_answer d base a b room open' from numbers new to (Some rest) left result is before held h =
         let same : take_desc (takers set.structs (length set.structs)) d v base (start from.at rest) ≡ taken from.at rest =
-        ap (λ (x : Desc). take_desc (takers set.structs (length set.structs)) x v base (start from.at rest)) a
-        ∙ ap (λ (m : ℕ). take_desc (takers set.structs (length set.structs)) (part_desc device sub) v m (start from.at rest)) b in
+        ap (λ x. take_desc (takers set.structs (length set.structs)) x v base (start from.at rest)) a
+        ∙ ap (λ m. take_desc (takers set.structs (length set.structs)) (part_desc device sub) v m (start from.at rest)) b in
         let P : Image → Option ℕ → Type 0 = λ x o. Reads (in_fields set names state section sub image from.at (ahead o rest)) (λ _. after_fields set names state section sub x) from.at to (ahead o rest) left (concerns (Some section.device) result) in
-        subst (λ (o : Option ℕ). P new o) (sym before) (subst (λ (x : Image). P x None) (sym is)
-        (by_taken room (open_in device image sub v open') from.at rest numbers to left result (taken from.at rest) refl (fields_are room open' from.at rest) held
-        (subst (λ (t : Taken). TakesAs t numbers to.at left result) same h)))
+        rw before (rw is (by_taken room (open_in device image sub v open') from.at rest numbers to left result (taken from.at rest) refl (fields_are room open' from.at rest) held
+        (subst (λ t. TakesAs t numbers to.at left result) same h)))

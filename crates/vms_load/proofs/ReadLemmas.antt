@@ -29,7 +29,7 @@ still_on (Some rest) reading next other from to end left e h =
     still (reading from.at (ahead from.held rest)) (reading from.at (ahead from.held rest)) next other from.at to end (ahead from.held rest) left e refl h
 
 drop_between : (at to end : ℕ) (rest : List ℕ) → at ≤ to → to ≤ end → drop (end - to) (drop (to - at) rest) ≡ drop (end - at) rest
-drop_between at to end rest h i = drop-drop (end - to) (to - at) rest ∙ ap (λ (n : ℕ). drop n rest) (omega arith)
+drop_between at to end rest h i = drop-drop (end - to) (to - at) rest ∙ ap (λ n. drop n rest) (omega arith)
 
 -- a fault after bytes that were taken is one of the whole
 pub still_behind : {X Y : Type 0} (reading same : Option (Reading State)) (next : X → Onward) (other : Y → Onward) (at to : ℕ) (end last : Stand) (rest left : List ℕ) (new : Option (List ℕ)) (e : LoadFault) → at ≤ to
@@ -40,7 +40,7 @@ still_behind reading same next other at to end last rest left new (faults.Refuse
       long = h.long;
       is = cc;
       from = omega arith;
-      taken = h.taken ∙ ap (λ (l : List ℕ). Some (drop (r.at - to + h.long) l)) there ∙ ap (λ (l : List ℕ). Some l) (drop-drop (r.at - to + h.long) (to - at) rest ∙ ap (λ (k : ℕ). drop k rest) (omega arith));
+      taken = h.taken ∙ ap (λ l. Some (drop (r.at - to + h.long) l)) there ∙ ap (λ l. Some l) (drop-drop (r.at - to + h.long) (to - at) rest ∙ ap (λ k. drop k rest) (omega arith));
     }
 still_behind reading same next other at to end last rest left new faults.ReadFault le there e h = tt
 
@@ -51,7 +51,7 @@ leads_on None mid new reading middle next from to end h i l r = tt
 leads_on (Some rest) None new reading middle next from to end h i l r = absurd l
 leads_on (Some rest) (Some left) None reading middle next from to end h i l r = absurd r
 leads_on (Some rest) (Some left) (Some last) reading middle next from to end h i l r =
-    (l.0 ∙ r.0, r.1 ∙ ap (λ (l : List ℕ). drop (end.at - to.at) l) l.1 ∙ drop_between from.at to.at end.at (ahead from.held rest) h i)
+    (l.0 ∙ r.0, r.1 ∙ ap (λ l. drop (end.at - to.at) l) l.1 ∙ drop_between from.at to.at end.at (ahead from.held rest) h i)
 
 pub reads_on : {X : Type 0} (old mid new : Option (List ℕ)) (reading middle : Onward) (next : X → Onward) (from to end : Stand) (result : Result X LoadFault)
     → from.at ≤ to.at → OnOk result (to.at ≤ end.at)
@@ -65,7 +65,7 @@ reads_on (Some rest) (Some left) new reading middle next from to end (Err e) h i
 -- nothing was read
 pub leads_here : (old : Option (List ℕ)) (next : Onward) (from : Stand) → LeadsOn next next from from old old
 leads_here None next from = tt
-leads_here (Some rest) next from = (refl, ap (λ (n : ℕ). drop n (ahead from.held rest)) zero)
+leads_here (Some rest) next from = (refl, ap (λ n. drop n (ahead from.held rest)) zero)
   where
     zero : 0 ≡ from.at - from.at
     zero = omega arith
@@ -82,8 +82,7 @@ IsLong n (Over end) = ⊥
 pub refused_here : (at : ℕ) (rest : List ℕ) (left : Option (List ℕ)) (section : Option ℕ) (reason : Reason) (n : ℕ) (r : Refusal) → r ≡ record { section = section; at = at; reason = reason } → left ≡ Some (drop n rest)
     → Refuses (Some (Refused at section reason n)) at rest left r
 refused_here at rest left section reason n r same is =
-    subst (λ (x : Refusal). Refuses (Some (Refused at section reason n)) at rest left x) (sym same)
-    (record { long = n; is = refl; from = omega arith; taken = is ∙ ap (λ (k : ℕ). Some (drop k rest)) (omega arith) })
+    rw same (record { long = n; is = refl; from = omega arith; taken = is ∙ ap (λ k. Some (drop k rest)) (omega arith) })
 
 abbrev refusal : Option ℕ → ℕ → Reason → Refusal
 refusal section at reason = record { section = section; at = at; reason = reason }
@@ -102,7 +101,7 @@ module _ (go : State → Onward) (section : Option ℕ) (it : Piece → ℕ → 
   unit_fails (Bad n why) left next to place reason e a = refused_here at rest left section why n _ (same_place place reason why e a.0) a.1
   unit_fails Short left next to place reason e a =
       let enough : length rest ≤ length rest = omega arith in
-      refused_here at rest left section reasons.Truncated (length rest) _ (same_place place reason reasons.Truncated e a.0) (a.1 ∙ ap (λ (l : List ℕ). Some l) (sym (drop_all (length rest) rest enough)))
+      refused_here at rest left section reasons.Truncated (length rest) _ (same_place place reason reasons.Truncated e a.0) (a.1 ∙ ap (λ l. Some l) (sym (drop_all (length rest) rest enough)))
 
   pub unit_fault : {X Y : Type 0} (unit : X → Piece) (long : X → ℕ) (found : Seen) (left : Option (List ℕ)) (next : Y → Onward) (to : Stand) (fault : FrameFault)
       → AnswersSeen unit long found at rest left (Err fault) → Reads (judged found) next at to rest left (Err (concerning section fault))
@@ -112,32 +111,30 @@ module _ (go : State → Onward) (section : Option ℕ) (it : Piece → ℕ → 
   by_verdict : {Y : Type 0} (v : Verdict State) (n : ℕ) (to : Stand) (left : Option (List ℕ)) (next : Y → State) (result : Result Y LoadFault)
       → left ≡ Some (drop n rest) → to.at ≡ at + n → to.held ≡ None → Settles v at next n result → Reads (reading_after go at rest v) (λ y. go (next y)) at to rest left result
   by_verdict (Goes m s) n to left next (Ok y) e far held h =
-      subst (λ (o : Option (List ℕ)). Leads (go s (at + m) (drop m rest)) (go (next y)) at to rest o) (sym e) (
-        ap (λ (x : State). go x (at + m) (drop m rest)) h.0 ∙ ap (λ (k : ℕ). go (next y) (at + k) (drop k rest)) h.1 ∙ ap (λ (k : ℕ). go (next y) k (drop n rest)) (sym far)
-            ∙ ap (λ (o : Option ℕ). go (next y) to.at (ahead o (drop n rest))) (sym held),
-        ap (λ (o : Option ℕ). ahead o (drop n rest)) held ∙ ap (λ (k : ℕ). drop k rest) (omega arith),
+      rw e (
+        ap (λ x. go x (at + m) (drop m rest)) h.0 ∙ ap (λ k. go (next y) (at + k) (drop k rest)) h.1 ∙ ap (λ k. go (next y) k (drop n rest)) (sym far)
+            ∙ ap (λ o. go (next y) to.at (ahead o (drop n rest))) (sym held),
+        ap (λ o. ahead o (drop n rest)) held ∙ ap (λ k. drop k rest) (omega arith),
       )
   by_verdict (Faulty section' reason m) n to left next (Err (faults.Refused r)) e far held h =
-      refused_here at rest left section' reason m r h.0 (e ∙ ap (λ (k : ℕ). Some (drop k rest)) (sym h.1))
+      refused_here at rest left section' reason m r h.0 (e ∙ ap (λ k. Some (drop k rest)) (sym h.1))
   by_verdict _ n to left next _ _ far held h = absurd h
 
   -- a whole unit was found and judged
   pub unit_settled : {Y : Type 0} (found : Seen) (x : Piece) (n : ℕ) (left : Option (List ℕ)) (to : Stand) (next : Y → State) (result : Result Y LoadFault)
       → (found ≡ Good x n) × (left ≡ Some (drop n rest)) → to.at ≡ at + n → to.held ≡ None → Settles (it x n) at next n result
       → Reads (judged found) (λ y. go (next y)) at to rest left result
-  unit_settled found x n left to next result a far held h =
-      subst (λ (f : Seen). Reads (judged f) (λ y. go (next y)) at to rest left result) (sym a.0) (by_verdict (it x n) n to left next result a.1 far held h)
+  unit_settled found x n left to next result a far held h = rw a.0 (by_verdict (it x n) n to left next result a.1 far held h)
 
   behind_is : (v : Verdict State) (n : ℕ) → IsLong n v → reading_after go at rest v ≡ behind go at v (at + n) (drop n rest)
-  behind_is (Goes m s) n h = ap (λ (k : ℕ). go s (at + k) (drop k rest)) h
+  behind_is (Goes m s) n h = rw h
   behind_is (Faulty section' reason m) n h = refl
   behind_is (Over end) n h = absurd h
 
   -- a whole unit was found and is judged further: what follows it is read from the unit on
   pub unit_behind : {Y : Type 0} (found : Seen) (x : Piece) (n : ℕ) (next : Y → Onward) (to : Stand) (left : Option (List ℕ)) (result : Result Y LoadFault)
       → found ≡ Good x n → IsLong n (it x n) → ReadsBehind go (it x n) next at n rest to left result → Reads (judged found) next at to rest left result
-  unit_behind found x n next to left result e h r =
-      subst (λ (o : Option (Reading State)). Reads o next at to rest left result) (sym (ap judged e ∙ behind_is (it x n) n h)) r
+  unit_behind found x n next to left result e h r = rw (ap judged e ∙ behind_is (it x n) n h) r
 
 -- what follows a unit that was judged, from the unit on
 pub read_behind : {X : Type 0} (go : State → Onward) (v : Verdict State) (next : X → Onward) (long at : ℕ) (bytes : List ℕ) (to end : Stand) (left new : Option (List ℕ)) (result : Result X LoadFault)
@@ -146,11 +143,11 @@ pub read_behind : {X : Type 0} (go : State → Onward) (v : Verdict State) (next
 read_behind go v next long at bytes to end left new result b up r =
     let start : Stand = record { at = at; held = None } in
     let lead : LeadsOn (λ place rest. behind go at v (at + long) (drop long bytes)) (behind go at v) start to (Some bytes) (Some (drop long bytes)) = (
-      ap (λ (k : ℕ). behind go at v k (drop long bytes)) (sym b.place) ∙ ap (λ (o : Option ℕ). behind go at v to.at (ahead o (drop long bytes))) (sym b.held),
-      ap (λ (o : Option ℕ). ahead o (drop long bytes)) b.held ∙ ap (λ (k : ℕ). drop k bytes) (omega arith),
+      ap (λ k. behind go at v k (drop long bytes)) (sym b.place) ∙ ap (λ o. behind go at v to.at (ahead o (drop long bytes))) (sym b.held),
+      ap (λ o. ahead o (drop long bytes)) b.held ∙ ap (λ k. drop k bytes) (omega arith),
     ) in
     reads_on (Some bytes) (Some (drop long bytes)) new (λ place rest. behind go at v (at + long) (drop long bytes)) (behind go at v) next start to end result (omega arith) up
-    lead (subst (λ (o : Option (List ℕ)). ReadsOn (behind go at v) next to end o new result) b.taken r)
+    lead (subst (λ o. ReadsOn (behind go at v) next to end o new result) b.taken r)
 
 -- ---- Calls of a load, one after the other.
 

@@ -53,7 +53,7 @@ module _ (x : WalkStep) where
         → IfErr r (λ e. Failed (x ∷ []) a e b)
     step_err (Ok y) reads kept keeps same = tt
     step_err (Err e) reads kept keeps same = record {
-      reads = reads_as (λ n p. (omega arith, tt)) (λ rest left h. one_stopped e rest left (ap (λ (i : Typed). i.numbers) same) h) reads;
+      reads = reads_as (λ n p. (omega arith, tt)) (λ rest left h. one_stopped e rest left (rw same) h) reads;
       kept = kept;
       keeps = keeps;
     }
@@ -67,7 +67,7 @@ any_good _ bytes any = refl
 
 pub values_long : (kind : Kind) (count : ℕ) (bytes : List ℕ) → length (values_of kind count bytes) ≡ count
 values_long kind zero bytes = refl
-values_long kind (suc count) bytes = ap (λ (n : ℕ). suc n) (values_long kind count (drop (width kind) bytes))
+values_long kind (suc count) bytes = rw (values_long kind count (drop (width kind) bytes))
 
 pub run_long : (kind : Kind) (first count : ℕ) → steps_long (run_of first count kind) ≡ count * width kind
 run_long kind first zero = omega arith
@@ -92,25 +92,20 @@ module _ (kind : Kind) (any : kind ≡ Bool → ⊥) where
   number_whole : (cell place : ℕ) (numbers : List ℤ) (rest : List ℕ) → width kind ≤ length rest
       → take_slot (slot_of (Number cell kind None)) (progress numbers place rest) ≡ Ok (progress (slice_set numbers cell (value_of kind (take (width kind) rest))) (place + width kind) (drop (width kind) rest))
   number_whole cell place numbers rest le =
-      let p = progress numbers place rest in
-      let v = value_of kind (take w rest) in
-      let done = on w (slice_set numbers cell v) p in
-      ap (λ (b : Truth). if b then refuse p reasons.Truncated (length rest) else (if is_bad_bool kind (take w rest) then refuse p reasons.BadBool w else (if exceeds [] v then refuse p reasons.CountTooLarge w else done))) (le-ltb (length rest) w le)
-      ∙ ap (λ (b : Truth). if b then refuse p reasons.BadBool w else (if exceeds [] v then refuse p reasons.CountTooLarge w else done)) (any_good kind (take w rest) any)
+      let done = on w (slice_set numbers cell (value_of kind (take w rest))) (progress numbers place rest) in
+      rw (le-ltb (length rest) w le, any_good kind (take w rest) any)
 
   number_cut : (cell place : ℕ) (numbers : List ℤ) (rest : List ℕ) → length rest < width kind
       → take_slot (slot_of (Number cell kind None)) (progress numbers place rest) ≡ refuse (progress numbers place rest) reasons.Truncated (length rest)
   number_cut cell place numbers rest lt =
-      let p = progress numbers place rest in
-      let v = value_of kind (take w rest) in
-      let done = on w (slice_set numbers cell v) p in
-      ap (λ (b : Truth). if b then refuse p reasons.Truncated (length rest) else (if is_bad_bool kind (take w rest) then refuse p reasons.BadBool w else (if exceeds [] v then refuse p reasons.CountTooLarge w else done))) (lt-ltb (length rest) w lt)
+      let done = on w (slice_set numbers cell (value_of kind (take w rest))) (progress numbers place rest) in
+      rw (lt-ltb (length rest) w lt)
 
   -- ---- all of them
 
   pub run_taken : (count first place : ℕ) (numbers : List ℤ) (bytes more : List ℕ) → length bytes ≡ count * width kind
       → take_steps (run_of first count kind) (progress numbers place (bytes ++ more)) ≡ Ok (progress (put_from numbers first (values_of kind count bytes)) (place + count * width kind) more)
-  run_taken zero first place numbers [] more long = ap (λ (n : ℕ). let t : Taken = Ok (progress numbers n more) in t) (omega arith)
+  run_taken zero first place numbers [] more long = ap (λ n. let t : Taken = Ok (progress numbers n more) in t) (omega arith)
   run_taken zero first place numbers (x ∷ bytes) more long = absurd (omega arith)
   run_taken (suc count) first place numbers bytes more long =
       let all : suc count * width kind ≡ width kind + count * width kind = grind arith in
@@ -118,12 +113,11 @@ module _ (kind : Kind) (any : kind ≡ Bool → ⊥) where
       let v = value_of kind (take w bytes) in
       let front : take w (bytes ++ more) ≡ take w bytes = take-append-le w bytes more le in
       let far : (place + w) + count * w ≡ place + suc count * w = omega arith in
-      let one = number_whole first place numbers (bytes ++ more) (omega (arith, length-append bytes more)) in
-      ap (λ (t : Taken). t >>= take_steps (run_of (first + 1) count kind)) one
-      ∙ ap (λ (l : List ℕ). take_steps (run_of (first + 1) count kind) (progress (slice_set numbers first (value_of kind l)) (place + w) (drop w (bytes ++ more)))) front
-      ∙ ap (λ (l : List ℕ). take_steps (run_of (first + 1) count kind) (progress (slice_set numbers first v) (place + w) l)) (drop-append-le w bytes more le)
+      ap (λ t. t >>= take_steps (run_of (first + 1) count kind)) (number_whole first place numbers (bytes ++ more) (omega (arith, length-append bytes more)))
+      ∙ ap (λ l. take_steps (run_of (first + 1) count kind) (progress (slice_set numbers first (value_of kind l)) (place + w) (drop w (bytes ++ more)))) front
+      ∙ ap (λ l. take_steps (run_of (first + 1) count kind) (progress (slice_set numbers first v) (place + w) l)) (drop-append-le w bytes more le)
       ∙ run_taken count (first + 1) (place + w) (slice_set numbers first v) (drop w bytes) more (omega (arith, length-drop w bytes))
-      ∙ ap (λ (n : ℕ). let t : Taken = Ok (progress (put_from (slice_set numbers first v) (first + 1) (values_of kind count (drop w bytes))) n more) in t) far
+      ∙ ap (λ n. let t : Taken = Ok (progress (put_from (slice_set numbers first v) (first + 1) (values_of kind count (drop w bytes))) n more) in t) far
 
   -- ---- the input ends within them
 
@@ -142,16 +136,15 @@ module _ (kind : Kind) (any : kind ≡ Bool → ⊥) where
 
     pub run_cut : take_steps (run_of first count kind) (progress numbers place (bytes ++ last)) ≡ refuse behind reasons.Truncated (length last)
     run_cut =
-        ap (λ (l : List WalkStep). take_steps l (progress numbers place (bytes ++ last))) split_there.1
+        ap (λ l. take_steps l (progress numbers place (bytes ++ last))) split_there.1
         ∙ take_append (run_of first whole kind) (Number (first + whole) kind None ∷ split_there.0) (progress numbers place (bytes ++ last))
-        ∙ ap (λ (t : Taken). t >>= take_steps (Number (first + whole) kind None ∷ split_there.0)) done
-        ∙ ap (λ (t : Taken). t >>= take_steps split_there.0) at_cut
+        ∙ ap (λ t. t >>= take_steps (Number (first + whole) kind None ∷ split_there.0)) done ∙ ap (λ t. t >>= take_steps split_there.0) at_cut
 
     pub cut_numbers : last_numbers (run_of first count kind) (progress numbers place (bytes ++ last)) ≡ put_from numbers first (values_of kind whole bytes)
     cut_numbers =
-        ap (λ (l : List WalkStep). last_numbers l (progress numbers place (bytes ++ last))) split_there.1
+        ap (λ l. last_numbers l (progress numbers place (bytes ++ last))) split_there.1
         ∙ last_taken (run_of first whole kind) (Number (first + whole) kind None ∷ split_there.0) (progress numbers place (bytes ++ last)) behind done
-        ∙ ap (λ (t : Taken). numbers_then t behind.numbers (last_numbers split_there.0)) at_cut
+        ∙ ap (λ t. numbers_then t behind.numbers (last_numbers split_there.0)) at_cut
 
 -- ---- What a run of numbers reads.
 
@@ -174,7 +167,7 @@ module _ (old new : Intake) (image : Typed) (first count place : ℕ) (kind : Ki
       long = (omega (arith, run_long kind first count), omega arith);
       says = λ more f.
           let put = put_from image.numbers first (values_of kind count bytes) in
-          subst (λ (t : Taken). TakesAs t put (place + count * width kind) (Some more) (Ok tt)) (sym (run_taken kind any count first place image.numbers bytes more long)) (refl, refl, refl);
+          rw (run_taken kind any count first place image.numbers bytes more long) (refl, refl, refl);
       cause = tt;
     };
     kept = refl;
@@ -201,14 +194,12 @@ module _ (old new : Intake) (image : Typed) (first count place : ℕ) (kind : Ki
 
     stopped : (more : List ℕ) → more ≡ [] → IsStopped (run_of first count kind) (told image place old) (faults.Refused (place + whole * width kind) reasons.Truncated) stand ((bytes ++ last) ++ more) more
     stopped more none =
-        let put = put_from image.numbers first (values_of kind whole bytes) in
-        let all : bytes ++ last ≡ (bytes ++ last) ++ more = sym (ap (λ (l : List ℕ). (bytes ++ last) ++ l) none ∙ append-nil (bytes ++ last)) in
-        let left : more ≡ drop (length last) last = cc (drop_all (length last) last (omega arith)) in
+        let all : bytes ++ last ≡ (bytes ++ last) ++ more = sym (ap (λ l. (bytes ++ last) ++ l) none ∙ append-nil (bytes ++ last)) in
         let fault = faults.Refused (place + whole * width kind) reasons.Truncated in
-        let behind = progress put (place + whole * width kind) last in
+        let behind = progress (put_from image.numbers first (values_of kind whole bytes)) (place + whole * width kind) last in
         let is = run_cut kind any count whole first place image.numbers bytes last long cut lt in
-        subst (λ (l : List ℕ). IsStopped (run_of first count kind) (told image place old) fault stand l more) all (
-          subst (λ (t : Taken). TakesAs t put (place + whole * width kind) (Some more) (Err fault)) (sym is) (refl, refl, ap Some left),
+        subst (λ l. IsStopped (run_of first count kind) (told image place old) fault stand l more) all (
+          rw is (refl, refl, ap Some (cc (drop_all (length last) last (omega arith)))),
           sym (cut_numbers kind any count whole first place image.numbers bytes last long cut lt),
         )
 
@@ -248,8 +239,8 @@ module _ (kind : Kind) (count n : ℕ) (buf : List ℕ) (room : length buf ≡ c
       let swap : count * wide ≡ wide * count = grind arith in
       let most : n / wide ≤ count = div-le_of_le-mul wide (omega arith) in
       let whole : n / wide ≡ count = omega arith in
-      let all : n / wide * wide ≡ n = omega (arith, ap (λ (k : ℕ). k * wide) whole) in
-      record { whole = whole; all = all; long = length-take-le n buf bound ∙ sym all ∙ ap (λ (k : ℕ). k * wide) whole }
+      let all : n / wide * wide ≡ n = omega (arith, ap (λ k. k * wide) whole) in
+      record { whole = whole; all = all; long = length-take-le n buf bound ∙ sym all ∙ ap (λ k. k * wide) whole }
 
   -- the rest is part of a code
   pub record PartCame : Type 0 where

@@ -37,9 +37,9 @@ module _ (set : Set) (well : is_well_formed set ≡ true) (k : ℕ) (lt : k < le
       → HasSpot set spot n
   part_spot sub h n long spot part base =
       let here : spot.base ≡ first_cell set (part_of k sub) = cc in
-      let size = ap (λ (p : Part). own_cell_count set (desc_at set p)) part in
+      let size = ap (λ p. own_cell_count set (desc_at set p)) part in
       record {
-        part = subst (HasPart set) (sym part) (has_part sub h);
+        part = rw part (has_part sub h);
         few = omega (arith, few_cells set well k);
         room = omega (arith, inside sub h);
       }
@@ -64,9 +64,8 @@ pub part_kinds : (set : Set) (k : ℕ) (sub : Option ℕ) → IsIn (device_at se
 part_kinds set k sub h spot part base n =
     let v = spot.version in
     let is : spot_slots set spot n ≡ desc_slots (table set) (part_desc (device_at set k) sub) v n (part_base set (device_at set k) sub) =
-    ap (λ (p : Part). desc_slots (table set) (desc_at set p) v n spot.base) part
-    ∙ ap (λ (x : Desc). desc_slots (table set) x v n spot.base) (desc_is set k sub)
-    ∙ ap (λ (b : ℕ). desc_slots (table set) (part_desc (device_at set k) sub) v n b) (base ∙ ap (first_cell set) part ∙ base_is set k sub) in
+    ap (λ p. desc_slots (table set) (desc_at set p) v n spot.base) part ∙ ap (λ x. desc_slots (table set) x v n spot.base) (desc_is set k sub)
+    ∙ ap (λ b. desc_slots (table set) (part_desc (device_at set k) sub) v n b) (base ∙ ap (first_cell set) part ∙ base_is set k sub) in
     subst (AreOfKinds (kinds_at set k)) (sym is) (desc_kinds set k sub h v n)
 
 -- the next of these steps is of its cell's kind
@@ -86,7 +85,7 @@ one_of_kinds kinds [] rest x h = h.0
 one_of_kinds kinds (y ∷ xs) rest x h = one_of_kinds kinds xs rest x h.1
 
 pub step_kind : (kinds : List Kind) (slots : List Slot) (xs rest : List WalkStep) (x : WalkStep) → AreOfKinds kinds slots → steps_of slots ≡ xs ++ (x ∷ rest) → IsOfKind kinds x
-step_kind kinds slots xs rest x h e = one_of_kinds kinds xs rest x (subst (AllOfKinds kinds) e (all_of_kinds kinds slots h))
+step_kind kinds slots xs rest x h e = one_of_kinds kinds xs rest x (rw e at (all_of_kinds kinds slots h))
 
 pub few_subs : (set : Set) → is_well_formed set ≡ true → (k : ℕ) → k < length set.devices → length (device_at set k).subs ≤ 32
 few_subs set h k lt =
@@ -178,11 +177,11 @@ module _ (set : Set) (well : is_well_formed set ≡ true) where
   part_of_device k d e =
       let lt : k < length set.devices = slice_get_within set.devices k d e in
       let same : device_at set k ≡ d = get_or_from_slice_get set.devices k d _ e in (
-        subst (λ (x : Device). AreSmall x.desc.fields) same (part_small set (well_of set well) k None lt tt),
-        subst (λ (x : Device). length x.subs ≤ 32) same (few_subs set well k lt),
+        rw same at (part_small set (well_of set well) k None lt tt),
+        rw same at (few_subs set well k lt),
         λ j s f.
             let g : slice_get (device_at set k).subs j ≡ Some s = cc in
-            subst (λ (x : Sub). AreSmall x.desc.fields) (get_or_from_slice_get (device_at set k).subs j s _ g) (part_small set (well_of set well) k (Some j) lt (slice_get_within (device_at set k).subs j s g)),
+            subst (λ x. AreSmall x.desc.fields) (get_or_from_slice_get (device_at set k).subs j s _ g) (part_small set (well_of set well) k (Some j) lt (slice_get_within (device_at set k).subs j s g)),
       )
 
   -- this many bytes give no offset above 2 ^ 63

@@ -25,7 +25,7 @@ image_begun images first k image here is e lt = cc (get_or-set_same first k imag
 -- it was at its defaults before
 pub begun_here : (set : Set) (new old : List Typed) (k v : ℕ) → new ≡ slice_set old k (record (get_or old k no_image) { version = v })
     → get_or old k no_image ≡ default_at set k → new ≡ slice_set old k (begun_at set k v)
-begun_here set new old k v e f = e ∙ ap (λ (x : Typed). let y : Typed = record x { version = v } in slice_set old k y) f
+begun_here set new old k v e f = e ∙ ap (λ x. let y : Typed = record x { version = v } in slice_set old k y) f
 
 -- ---- all at their defaults
 
@@ -87,7 +87,7 @@ state_at_magic images came = record { machine = None; images = images; came = ca
 
 none_came : (devices : List Device) → replicate (length devices) false ≡ map (λ d. false) devices
 none_came [] = refl
-none_came (d ∷ devices) = ap (λ (l : List Bool). false ∷ l) (none_came devices)
+none_came (d ∷ devices) = rw (none_came devices)
 
 pub starts : (set : Set) (images : List Image) (came : List Bool) (n : ℕ) → images ≡ map (default_image set) set.devices → n ≡ length set.devices → came ≡ replicate n false
     → state_at_magic images came ≡ at_start set
@@ -121,5 +121,5 @@ pub still_fresh : (set : Set) (old new : List Typed) (came now : List Bool) (k :
     → (j : ℕ) → slice_get now j ≡ Some false → get_or (slice_set new k image) j no_image ≡ default_at set j
 still_fresh set old new came now k x image lt now_is new_is fresh j e =
     ⊎_elim (λ (same : j ≡ k). let there = at_set came k true lt in cc)
-    (λ ne. get_or-set_other new k j image no_image ne ∙ ap (λ (l : List Typed). get_or l j no_image) new_is
+    (λ ne. get_or-set_other new k j image no_image ne ∙ ap (λ l. get_or l j no_image) new_is
     ∙ get_or-set_other old k j x no_image ne ∙ fresh j (sym (at_other came k j true ne) ∙ cc)) (cases_eq j k)

@@ -36,15 +36,14 @@ module _ (set : Set) (names : List (List ℕ)) where
     between_is : (place : ℕ) (rest : List ℕ) → go state place rest ≡ reading_after go place rest (judge_seen None (ask set names state) rest (seen (due_of between) nothing_known rest))
     between_is place rest =
         unit_of set names state place rest
-        ∙ ap (reading_after go place rest) (judged_holds set names state rest refl refl refl ∙ ap (λ (d : Due). judge_seen None (ask set names state) rest (seen d nothing_known rest)) (due_is between))
+        ∙ ap (reading_after go place rest) (judged_holds set names state rest refl refl refl ∙ ap (λ d. judge_seen None (ask set names state) rest (seen d nothing_known rest)) (due_is between))
 
     pub turn_fault : {Y : Type 0} (from to : Stand) (old left : Option (List ℕ)) (next : Y → Onward) (fault : FrameFault)
         → ReadsBetween between from old left (Err fault) → ReadsOn (go state) next from to old left (Err (concerning None fault))
     turn_fault from to None left next fault a = tt
     turn_fault from to (Some rest) left next fault a =
         let bytes = ahead from.held rest in
-        subst (λ (x : Option (Reading State)). Reads x next from.at to bytes left (Err (concerning None fault))) (sym (between_is from.at bytes))
-        (unit_fault go None (ask set names state) from.at bytes unit_of_step step_long (seen (due_of between) nothing_known bytes) left next to fault a)
+        rw (between_is from.at bytes) (unit_fault go None (ask set names state) from.at bytes unit_of_step step_long (seen (due_of between) nothing_known bytes) left next to fault a)
 
     pub turn_settled : {Y : Type 0} (from to : Stand) (old left : Option (List ℕ)) (step : Step) (next : Y → State) (result : Result Y LoadFault)
         → ReadsBetween between from old left (Ok step) → to.at ≡ from.at + step_long step → to.held ≡ None
@@ -52,8 +51,7 @@ module _ (set : Set) (names : List (List ℕ)) where
     turn_settled from to None left step next result a far free h = tt
     turn_settled from to (Some rest) left step next result a far free h =
         let bytes = ahead from.held rest in
-        subst (λ (x : Option (Reading State)). Reads x (λ y. go (next y)) from.at to bytes left result) (sym (between_is from.at bytes))
-        (unit_settled go None (ask set names state) from.at bytes (seen (due_of between) nothing_known bytes) (unit_of_step step) (step_long step) left to next result a far free h)
+        rw (between_is from.at bytes) (unit_settled go None (ask set names state) from.at bytes (seen (due_of between) nothing_known bytes) (unit_of_step step) (step_long step) left to next result a far free h)
 
     -- a section, from its head on
     pub turn_section : (from mid end : Stand) (old middle new : Option (List ℕ)) (head : Head) (place : ℕ) (final : State) (result : Result (Unit {0}) LoadFault) → length staged.came.items ≡ length set.devices
@@ -64,10 +62,8 @@ module _ (set : Set) (names : List (List ℕ)) where
     turn_section from mid end (Some rest) middle new head place final result came a far free is r =
         let bytes = ahead from.held rest in
         let n = head_long head in
-        let begun : IsBehind n place bytes mid middle = record { place = cc; held = free; taken = a.1 } in
-        let onward = subst (λ (k : ℕ). ReadsBehind go (ask set names state (head_unit head) n) (λ _. go final) k n bytes end new result) is (r bytes begun) in
-        subst (λ (x : Option (Reading State)). Reads x (λ _. go final) from.at end bytes new result) (sym (between_is from.at bytes))
-        (unit_behind go None (ask set names state) from.at bytes (seen (due_of between) nothing_known bytes) (head_unit head) n (λ (x : Unit {0}). go final) end new result a.0
+        let onward = rw is at (r bytes (record { place = cc; held = free; taken = a.1 })) in
+        rw (between_is from.at bytes) (unit_behind go None (ask set names state) from.at bytes (seen (due_of between) nothing_known bytes) (head_unit head) n (λ (x : Unit {0}). go final) end new result a.0
         (section_long set names staged (is_first between) (is_configured between) head came) onward)
 
 -- ---- the stream head
@@ -94,17 +90,14 @@ module _ (set : Set) (names : List (List ℕ)) (state : State) where
       → AnswersSeen (λ _. Version (number_at 4 0 rest)) (λ _. 4) (seen AVersion nothing_known rest) place rest left result
       → Reads (go set names (at_spot Headed) place rest) onward place to rest left (concerns None result)
   version_read place to rest left (Ok x) far free a =
-      subst (λ (r : Option (Reading State)). Reads r onward place to rest left (Ok x)) (sym (version_is place rest))
-      (unit_settled (go set names) None (asked Headed) place rest {Y = Unit {0}} (seen AVersion nothing_known rest) (Version (number_at 4 0 rest)) 4 left to (λ y. at_spot (Free true false)) (Ok x) a far free (refl, refl))
+      rw (version_is place rest) (unit_settled (go set names) None (asked Headed) place rest {Y = Unit {0}} (seen AVersion nothing_known rest) (Version (number_at 4 0 rest)) 4 left to (λ y. at_spot (Free true false)) (Ok x) a far free (refl, refl))
   version_read place to rest left (Err fault) far free a =
-      subst (λ (r : Option (Reading State)). Reads r onward place to rest left (Err (concerning None fault))) (sym (version_is place rest))
-      (unit_fault (go set names) None (asked Headed) place rest {X = Unit {0}} (λ _. Version (number_at 4 0 rest)) (λ _. 4) (seen AVersion nothing_known rest) left onward to fault a)
+      rw (version_is place rest) (unit_fault (go set names) None (asked Headed) place rest {X = Unit {0}} (λ _. Version (number_at 4 0 rest)) (λ _. 4) (seen AVersion nothing_known rest) left onward to fault a)
 
   -- a magic that is whole
   abbrev IsMagic : List ℕ → Seen → Type 0
   IsMagic rest (Good x n) = (x ≡ Magic (take 4 rest)) × (n ≡ 4)
-  IsMagic rest (Bad n reason) = Unit {0}
-  IsMagic rest Short = Unit {0}
+  IsMagic rest _ = Unit {0}
 
   is_magic : (rest : List ℕ) → IsMagic rest (seen AMagic nothing_known rest)
   is_magic rest = by (nat_lt (length rest) 4)
@@ -128,7 +121,7 @@ module _ (set : Set) (names : List (List ℕ)) (state : State) where
       let start : Stand = record { at = place; held = None } in
       let middle : Stand = record { at = place + 4; held = None } in
       reads_on {X = Unit {0}} (Some rest) (Some (drop 4 rest)) left (λ p l. go set names (at_spot Headed) (place + 4) (drop 4 l)) (go set names (at_spot Headed)) onward start middle to (concerns None result)
-      (omega arith) (up result far) (refl, ap (λ (n : ℕ). drop n rest) four) (version_read (place + 4) to (drop 4 rest) left result (further result far) free a)
+      (omega arith) (up result far) (refl, ap (λ n. drop n rest) four) (version_read (place + 4) to (drop 4 rest) left result (further result far) free a)
     where
       up : (result : Result (Unit {0}) FrameFault) → OnOk result (to.at ≡ place + 8) → OnOk (concerns None result) (place + 4 ≤ to.at)
       up (Ok x) h = omega arith
@@ -142,7 +135,7 @@ module _ (set : Set) (names : List (List ℕ)) (state : State) where
       → AnswersAfter found place rest left result → Reads (by_seen place rest found) onward place to rest left (concerns None result)
   by_magic place to rest left result (Good x n) is far free a =
       let goes : asked Before x n ≡ Goes 4 (at_spot Headed) = cc in
-      subst (λ (v : Verdict State). Reads (reading_after (go set names) place rest v) onward place to rest left (concerns None result)) (sym goes) (on_version place to rest left result far free a)
+      subst (λ v. Reads (reading_after (go set names) place rest v) onward place to rest left (concerns None result)) (sym goes) (on_version place to rest left result far free a)
   by_magic place to rest left (Err fault) (Bad n reason) is far free a =
       unit_fault (go set names) None (asked Before) place rest {X = Unit {0}} (λ _. Magic (take 4 rest)) (λ _. 4) (Bad n reason) left onward to fault a
   by_magic place to rest left (Err fault) Short is far free a =
@@ -153,9 +146,7 @@ module _ (set : Set) (names : List (List ℕ)) (state : State) where
       → IfSome old (λ rest. AnswersHead from.at rest left result) → ReadsOn (go set names (at_spot Before)) onward from to old left (concerns None result)
   head_read from to None left result held far free a = tt
   head_read from to (Some rest) left result held far free a =
-      subst (λ (o : Option ℕ). Reads (go set names (at_spot Before) from.at (ahead o rest)) onward from.at to (ahead o rest) left (concerns None result)) (sym held)
-      (subst (λ (r : Option (Reading State)). Reads r onward from.at to rest left (concerns None result)) (sym (magic_is from.at rest))
-      (by_magic from.at to rest left result (seen AMagic nothing_known rest) (is_magic rest) far free a))
+      rw held (rw (magic_is from.at rest) (by_magic from.at to rest left result (seen AMagic nothing_known rest) (is_magic rest) far free a))
 
 -- ---- A whole stream, as the judge reads it.
 
@@ -183,9 +174,7 @@ module _ (set : Set) (names : List (List ℕ)) where
   -- a refusal is the whole's
   all_refused : {X : Type 0} (x : Option (Reading State)) (staged : Staged) (input : List ℕ) (left : Option (List ℕ)) (next : X → Onward) (from : ℕ) (to : Stand) (e : LoadFault) → from ≡ 0
       → Reads x next from to input left (Err e) → ReadsAll set x staged input left (Err e)
-  all_refused x staged input left next from to (faults.Refused r) zero h =
-      let all : r.at - from + h.long ≡ r.at + h.long = omega arith in
-      subst (λ (y : Option (Reading State)). ReadsAll set y staged input left (Err (faults.Refused r))) (sym h.is) (refl, h.taken ∙ ap (λ (k : ℕ). Some (drop k input)) all)
+  all_refused x staged input left next from to (faults.Refused r) zero h = rw h.is (refl, h.taken ∙ ap (λ k. Some (drop k input)) (omega arith))
   all_refused x staged input left next from to faults.ReadFault zero h = all_fault x staged input left
 
   -- the reading of a whole input, if the cursor holds nothing
@@ -197,8 +186,8 @@ module _ (set : Set) (names : List (List ℕ)) where
       → ReadsOn (goes state) next from to old left (Err e) → IfSome old (λ input. ReadsAll set (whole input) staged input left (Err e))
   refused_before staged state None left next from to e is zero held h = tt
   refused_before {X} staged state (Some input) left next from to e is zero held h =
-      let h' = subst (λ (o : Option ℕ). Reads {X = X} (goes state from.at (ahead from.held input)) next from.at to (ahead o input) left (Err e)) held h in
-      all_refused (whole input) staged input left next from.at to e zero (subst (λ (x : Option (Reading State)). Reads {X = X} x next from.at to input left (Err e)) (begins state from input is zero held) h')
+      let h' = subst (λ o. Reads {X = X} (goes state from.at (ahead from.held input)) next from.at to (ahead o input) left (Err e)) held h in
+      all_refused (whole input) staged input left next from.at to e zero (subst (λ x. Reads {X = X} x next from.at to input left (Err e)) (begins state from input is zero held) h')
 
   module _ (staged : Staged) where
     abbrev ended : State
@@ -219,8 +208,7 @@ module _ (set : Set) (names : List (List ℕ)) where
     -- no row needs more for a unit after the end mark
     abbrev IsLast : Seen → Type 0
     IsLast (Good x n) = ask set names ended x n ≡ Goes n closed_state
-    IsLast (Bad n reason) = Unit {0}
-    IsLast Short = Unit {0}
+    IsLast _ = Unit {0}
 
     line_last : (x : Piece) (n : ℕ) → ask set names ended x n ≡ Goes n closed_state → (o : Option (Option ℕ × Reason)) → IsLast (seen_by o x n)
     line_last x n h None = h
@@ -248,8 +236,7 @@ module _ (set : Set) (names : List (List ℕ)) where
     accepts : (place n end : ℕ) (input rest : List ℕ) (left : Option (List ℕ)) (state : State) (x : Option (Reading State)) → x ≡ Some (Accepted (place + n) state) → state.machine ≡ ended.machine → state.images ≡ ended.images
         → end ≡ place + n → left ≡ Some (drop n rest) → rest ≡ drop place input → ReadsAll set x staged input left (Ok end)
     accepts place n end input rest left state x e m i far l there =
-        subst (λ (y : Option (Reading State)). ReadsAll set y staged input left (Ok end)) (sym e)
-        (sym far, m, i, l ∙ ap (λ (r : List ℕ). Some (drop n r)) there ∙ ap (λ (r : List ℕ). Some r) (drop-drop n place input ∙ ap (λ (k : ℕ). drop k input) (sym far)))
+        rw e (sym far, m, i, l ∙ ap (λ r. Some (drop n r)) there ∙ ap (λ r. Some r) (drop-drop n place input ∙ ap (λ k. drop k input) (sym far)))
 
     abbrev by_rest : ℕ → List ℕ → Seen → Option (Reading State)
     by_rest place rest found = reading_after goes place rest (judge_seen None (ask set names ended) rest found)
@@ -262,14 +249,14 @@ module _ (set : Set) (names : List (List ℕ)) where
         let to : Stand = record { at = end; held = None } in
         let e = concerning None (frames.Refused at reason) in
         all_refused judged staged input left next 0 to e refl
-        (still_behind judged judged next next 0 place to to input rest left e (omega arith) (there ∙ ap (λ (k : ℕ). drop k input) (omega arith)) refl
+        (still_behind judged judged next next 0 place to to input rest left e (omega arith) (there ∙ ap (λ k. drop k input) (omega arith)) refl
         (unit_fails goes None (ask set names ended) place rest f left next to at reason here h))
 
     by_last : (place end b : ℕ) (input more : List ℕ) (left : Option (List ℕ)) (result : Result (Unit {0}) FrameFault) (f : Seen) → IsLast f → b ∷ more ≡ drop place input
         → AnswersEnd (b ∷ more) f place end left result → ReadsAll set (by_rest place (b ∷ more) f) staged input left (closes_at end result)
     by_last place end b input more left (Ok x) (Good unit n) is there h =
         let rest = b ∷ more in
-        accepts place n end input rest left closed_state (by_rest place rest (Good unit n)) (ap (λ (v : Verdict State). reading_after goes place rest v) is ∙ unit_of set names closed_state (place + n) (drop n rest)) refl refl h.0 h.1 there
+        accepts place n end input rest left closed_state (by_rest place rest (Good unit n)) (rw is (unit_of set names closed_state (place + n) (drop n rest))) refl refl h.0 h.1 there
     by_last place end b input more left (Err (frames.Refused at reason)) (Good unit n) is there h = absurd h.1
     by_last place end b input more left (Err (frames.Refused at reason)) (Bad n why) is there h = closed_fault place end input (b ∷ more) left at reason (Bad n why) there h.0 h.1
     by_last place end b input more left (Err (frames.Refused at reason)) Short is there h = closed_fault place end input (b ∷ more) left at reason Short there h.0 h.1
@@ -280,12 +267,11 @@ module _ (set : Set) (names : List (List ℕ)) where
         → ReadsAll set (goes ended place rest) staged input left (closes_at end result)
     closed_at place end input [] left (Ok x) there h =
         let same : place ≡ place + 0 = omega arith in
-        accepts place 0 end input [] left ended (goes ended place []) (end_is place ∙ ap (λ (k : ℕ). Some (Accepted k ended)) same) refl refl (h.0 ∙ same) h.1 there
+        accepts place 0 end input [] left ended (goes ended place []) (end_is place ∙ ap (λ k. Some (Accepted k ended)) same) refl refl (h.0 ∙ same) h.1 there
     closed_at place end input [] left (Err (frames.Refused at reason)) there h = absurd h
     closed_at place end input [] left (Err frames.ReadFault) there h = all_fault (goes ended place []) staged input left
     closed_at place end input (b ∷ more) left result there h =
-        subst (λ (x : Option (Reading State)). ReadsAll set x staged input left (closes_at end result)) (sym (trailer_is place b more))
-        (by_last place end b input more left result (seen AfterEnd nothing_known (b ∷ more)) (is_last (b ∷ more)) there h)
+        rw (trailer_is place b more) (by_last place end b input more left result (seen AfterEnd nothing_known (b ∷ more)) (is_last (b ∷ more)) there h)
 
     -- the stream ends here, or what follows its end mark is invalid
     pub closed : (start : State) (old mid left : Option (List ℕ)) (from to : Stand) (end : ℕ) (result : Result (Unit {0}) FrameFault) → start ≡ at_start set → from.at ≡ 0 → from.held ≡ None → to.held ≡ None
@@ -295,8 +281,6 @@ module _ (set : Set) (names : List (List ℕ)) where
     closed start (Some input) None left from to end result is zero held free l h = absurd l
     closed start (Some input) (Some rest) left from to end result is zero held free l h =
         let all : to.at - from.at ≡ to.at = omega arith in
-        let here : ahead to.held rest ≡ rest = ap (λ (o : Option ℕ). ahead o rest) free in
-        let there : rest ≡ drop to.at input = sym here ∙ l.1 ∙ ap (λ (n : ℕ). drop n (ahead from.held input)) all ∙ ap (λ (o : Option ℕ). drop to.at (ahead o input)) held in
-        subst (λ (x : Option (Reading State)). ReadsAll set x staged input left (closes_at end result))
-        (sym (sym (begins start from input is zero held) ∙ l.0 ∙ ap (λ (r : List ℕ). goes ended to.at r) here))
-        (closed_at to.at end input rest left result there h)
+        let here : ahead to.held rest ≡ rest = rw free in
+        let there : rest ≡ drop to.at input = sym here ∙ l.1 ∙ ap (λ n. drop n (ahead from.held input)) all ∙ ap (λ o. drop to.at (ahead o input)) held in
+        rw (sym (begins start from input is zero held) ∙ l.0 ∙ ap (λ (r : List ℕ). goes ended to.at r) here) (closed_at to.at end input rest left result there h)

@@ -11,13 +11,12 @@ moved most at to (Ok x) n far l = (omega arith, omega arith)
 moved most at to (Err e) n far l = (l, tt)
 
 pub set-requires-clause-cell : goal.set-requires-clause-cell
-set-requires-clause-cell g c = subst (IsInside c.args.image.now.numbers) c.in-Number.is c.requires.step.inside
+set-requires-clause-cell g c = rw c.in-Number.is at c.requires.step.inside
 
 pub set-requires-clause-range : goal.set-requires-clause-range
 set-requires-clause-range g c =
-    let f : SFits w128 c.in_ok-number-in-Number.number = search rules in
-    let of_kind = subst (IsOfKind c.args.image.now.kinds) c.in-Number.is c.requires.step.of_kind in
-    rw (to_z-of_z w128 c.in_ok-number-in-Number.number f) (subst (λ (k : Kind). InRange k c.in_ok-number-in-Number.number) (sym of_kind) c.in_ok-number-in-Number.ensures.range)
+    let of_kind = rw c.in-Number.is at c.requires.step.of_kind in
+    rw (to_z-of_z w128 c.in_ok-number-in-Number.number (search rules)) (rw of_kind c.in_ok-number-in-Number.ensures.range)
 
 pub returns-in_err-number-in-Number-clause-reads : goal.returns-in_err-number-in-Number-clause-reads
 returns-in_err-number-in-Number-clause-reads g c =

@@ -25,8 +25,8 @@ judged c it =
     let j = c.in-Some.sub in
     let below = below_subs subs c.args.name.now.items j it in
     let here = get_map_at sub_of subs j c.index-as_slice-sub.result _ below (rw c.as_slice-2.ensures at c.index-as_slice-sub.is) in
-    c.against_sub.ensures ∙ ap (λ (s : Sub). reason_against_sub s c.came.result c.args.version) (sym here)
-    ∙ ap (λ (o : Option ℕ). reason_against_sub (sub_at (device_of c.args.device.now) j) o c.args.version) c.came.ensures
+    c.against_sub.ensures ∙ ap (λ s. reason_against_sub s c.came.result c.args.version) (sym here)
+    ∙ ap (λ o. reason_against_sub (sub_at (device_of c.args.device.now) j) o c.args.version) c.came.ensures
 
 pub bounds-as_slice-sub : goal.bounds-as_slice-sub
 bounds-as_slice-sub c =
@@ -53,5 +53,5 @@ returns-in-Some-against_sub-clause-opened c = λ k.
 pub returns-in-None-clause-opened : goal.returns-in-None-clause-opened
 returns-in-None-clause-opened c = λ k.
     let subs = c.args.device.now.subs in
-    let none = ap (λ (n : List ℕ). find_sub 0 (map sub_of subs) n) (sym c.deref.ensures.0) ∙ ap (λ (s : List CodeSub). find_sub 0 (map sub_of s) c.deref.result.now) (sym c.as_slice.ensures) ∙ sym c.find_sub.ensures ∙ c.in-None.is in
+    let none = ap (λ n. find_sub 0 (map sub_of subs) n) (sym c.deref.ensures.0) ∙ ap (λ s. find_sub 0 (map sub_of s) c.deref.result.now) (sym c.as_slice.ensures) ∙ sym c.find_sub.ensures ∙ c.in-None.is in
     sym (unknown_sub k (device_of c.args.device.now) c.args.image.now.came c.args.name.now.items c.args.version none)

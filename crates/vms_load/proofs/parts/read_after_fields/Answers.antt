@@ -18,7 +18,7 @@ opened k place came name v d there result is same e r = cc
 pub open_sub-requires-clause-few : goal.open_sub-requires-clause-few
 open_sub-requires-clause-few g c =
     let set = described c.args.set.now in
-    omega (arith, few_subs set c.args.set.now.well_formed c.args.section.now.device c.requires.image.device, ap (λ (d : Device). length d.subs) c.device.ensures)
+    omega (arith, few_subs set c.args.set.now.well_formed c.args.section.now.device c.requires.image.device, ap (λ d. length d.subs) c.device.ensures)
 
 pub returns-in-Ok-Done-clause-reads : goal.returns-in-Ok-Done-clause-reads
 returns-in-Ok-Done-clause-reads g c = λ names state part room.
@@ -50,7 +50,7 @@ returns-in-Err-open_sub-clause-reads g c = λ names state part room.
     let held = rw c.in-Ok-Sub.field-0-is at c.in-Ok-Sub.ensures.held in
     let e : LoadFault = Refused (record { section = Some c.args.section.now.device; at = c.at-at.result; reason = c.in-Err-open_sub.reason }) in
     let is = opened c.args.section.now.device c.at-at.result c.args.image.now.came name c.in-Ok-Sub.version _ _ c.open_sub.result (Err c.in-Err-open_sub.reason) c.device.ensures (c.open_sub.ensures.opened c.args.section.now.device) c.in-Err-open_sub.is
-    ∙ ap (λ (n : ℕ). opened_at n (sub_opened c.args.section.now.device (device_at set c.args.section.now.device) c.args.image.now.came name c.in-Ok-Sub.version)) c.at-at.ensures in
+    ∙ ap (λ n. opened_at n (sub_opened c.args.section.now.device (device_at set c.args.section.now.device) c.args.image.now.came name c.in-Ok-Sub.version)) c.at-at.ensures in
     rw c.refused.ensures
     (goes_refused e tt (reads_as (λ n l. omega arith)
     (λ rest left h. after_settled set names state c.args.section.now part (untyped c.args.image.now) c.requires.image.device room c.args.cursor.now c.after_fields.new.self
@@ -75,7 +75,7 @@ returns-in-Ok-clause-reads g c = λ names state part room.
     let place = rw c.in-Ok-Sub.field-0-is at c.in-Ok-Sub.ensures.place in
     let held = rw c.in-Ok-Sub.field-0-is at c.in-Ok-Sub.ensures.held in
     let is = opened c.args.section.now.device c.at-at.result c.args.image.now.came name v _ _ c.open_sub.result (Ok c.in-Ok.sub) c.device.ensures (c.open_sub.ensures.opened c.args.section.now.device) c.in-Ok.is
-    ∙ ap (λ (n : ℕ). opened_at n (sub_opened c.args.section.now.device (device_at set c.args.section.now.device) c.args.image.now.came name v)) c.at-at.ensures in
+    ∙ ap (λ n. opened_at n (sub_opened c.args.section.now.device (device_at set c.args.section.now.device) c.args.image.now.came name v)) c.at-at.ensures in
     let from = c.args.cursor.now in
     let to = c.after_fields.new.self in
     let begun : Open = record { sub = Some j; version = v } in
@@ -107,7 +107,7 @@ returns-in-Ok-clause-next g c =
     record {
       moved = omega arith;
       held = rw c.in-Ok-Sub.field-0-is at c.in-Ok-Sub.ensures.held;
-      opens = (new.0, ap (λ (image : Typed). slice_get image.came j) c.mark.ensures ∙ at_set c.args.image.now.came j (Some c.in-Ok-Sub.version) (omega arith));
+      opens = (new.0, rw (c.mark.ensures) (at_set c.args.image.now.came j (Some c.in-Ok-Sub.version) (omega arith)));
     }
 
 pub returns-in-Ok-clause-moves : goal.returns-in-Ok-clause-moves
@@ -120,7 +120,7 @@ returns-in-Ok-clause-moves g c =
     let is = opened c.args.section.now.device c.at-at.result c.args.image.now.came c.in-Ok-Sub.name.items v _ _ c.open_sub.result (Ok c.in-Ok.sub) c.device.ensures (c.open_sub.ensures.opened c.args.section.now.device) c.in-Ok.is in
     let new = sub_new c.args.section.now.device d c.args.image.now.came c.in-Ok-Sub.name.items v j c.at-at.result c.requires.image.shaped.subs is in
     let due = subs_taken set d.subs c.args.image.now.came j v (record { desc = no_desc; needed = AtLeast 0 }) c.requires.image.shaped.subs new.1 in
-    let same = ap (λ (image : Typed). subs_due set d.subs image.came) c.mark.ensures in
+    let same = ap (λ image. subs_due set d.subs image.came) c.mark.ensures in
     let before = ap held_long c.requires.cursor.held in
     let now = ap held_long (rw c.in-Ok-Sub.field-0-is at c.in-Ok-Sub.ensures.held) in
     (omega arith, omega arith, omega arith)

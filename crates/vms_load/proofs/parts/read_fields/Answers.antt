@@ -42,8 +42,7 @@ read_part-requires-clause-kinds g c = λ n.
     let k = c.args.section.device in
     let sub = c.args.part.sub in
     let spot = spot_of g (goal.at.read_part-requires-clause-kinds g c).After-first_cell-base in
-    subst (λ (ks : List Kind). AreOfKinds ks (spot_slots set spot n)) (sym c.requires.image.shaped.kinds)
-    (part_kinds set k sub (open_in (device_at set k) (untyped c.args.image.now) sub c.args.part.version c.requires.open) spot c.part_of-number.ensures c.first_cell-base.ensures n)
+    rw c.requires.image.shaped.kinds (part_kinds set k sub (open_in (device_at set k) (untyped c.args.image.now) sub c.args.part.version c.requires.open) spot c.part_of-number.ensures c.first_cell-base.ensures n)
 
 pub read_part-requires-clause-cursor : goal.read_part-requires-clause-cursor
 read_part-requires-clause-cursor g c = record {

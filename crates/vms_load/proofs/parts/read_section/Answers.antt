@@ -22,8 +22,7 @@ read_fields-requires-clause-image g c = let loop = c.loop-next.invariant in let 
 
 pub read_after_fields-requires-clause-image : goal.read_after_fields-requires-clause-image
 read_after_fields-requires-clause-image g c =
-    let loop = c.loop-next.invariant in
-    let shaped = loop.shaped in
+    let shaped = c.loop-next.invariant.shaped in
     record {
       device = omega arith;
       shaped = rw c.in_ok-read_fields.ensures.image.kept (record { subs = shaped.subs; cells = cc; kinds = shaped.kinds });
@@ -40,9 +39,9 @@ loop-next-preserved g c =
     let from = c.args.cursor.now in
     let mid = c.read_fields.new.cursor in
     let sub = c.in-Some.part.sub in
-    let due = ap (λ (o : Option Open). part_due set d loop.image.came o) c.in-Some.is in
-    let kept = ap (λ (image : Typed). subs_due set d.subs image.came) c.in_ok-read_fields.ensures.image.kept in
-    let later = ap (λ (k : ℕ). part_due set (device_at set k) c.read_after_fields.new.image.came c.in_ok-next.next) still.0 in
+    let due = ap (λ o. part_due set d loop.image.came o) c.in-Some.is in
+    let kept = ap (λ image. subs_due set d.subs image.came) c.in_ok-read_fields.ensures.image.kept in
+    let later = ap (λ k. part_due set (device_at set k) c.read_after_fields.new.image.came c.in_ok-next.next) still.0 in
     let one = c.in_ok-read_fields.ensures.moves in
     let two = c.in_ok-next.ensures.moves in
     record {
@@ -73,7 +72,7 @@ returns-in_err-read_fields-clause-reads g c = λ names state room.
     let end = c.read_fields.new.cursor in
     let here = in_fields set names state c.args.section.now None (untyped c.args.image.now) in
     let next : Unit {0} → Onward = λ x. after_fields set names state section c.in-Some.part.sub (untyped c.read_fields.new.image) in
-    let due = ap (λ (o : Option Open). part_due set (device_at set section.device) loop.image.came o) c.in-Some.is in
+    let due = ap (λ o. part_due set (device_at set section.device) loop.image.came o) c.in-Some.is in
     let e = c.in_err-read_fields.field-0.0 in
     let most = part_due set (device_at set c.args.section.now.device) c.args.image.now.came (Some (record { sub = None; version = c.args.image.now.version })) + LONGEST_HEAD in
     let p = err_from_is_err_and c.from_residual.result c.from_residual.ensures.1 in
@@ -95,7 +94,7 @@ returns-in_err-next-clause-reads g c = λ names state room.
     let sub = c.in-Some.part.sub in
     let middle = after_fields set names state section sub (untyped c.read_fields.new.image) in
     let next : Option Open → Onward = after_part set names state c.read_after_fields.new.section (untyped c.read_after_fields.new.image) in
-    let due = ap (λ (o : Option Open). part_due set (device_at set section.device) loop.image.came o) c.in-Some.is in
+    let due = ap (λ o. part_due set (device_at set section.device) loop.image.came o) c.in-Some.is in
     let one = c.in_ok-read_fields.ensures.moves in
     let e = c.in_err-next.field-0.0 in
     let most = part_due set (device_at set c.args.section.now.device) c.args.image.now.came (Some (record { sub = None; version = c.args.image.now.version })) + LONGEST_HEAD in
@@ -117,9 +116,9 @@ loop-next-smaller g c =
     let set = described c.args.set.now in
     let loop = c.loop-next in
     let d = device_at set loop.section.device in
-    let due = ap (λ (o : Option Open). part_due set d loop.image.came o) c.in-Some.is in
-    let same = ap (λ (image : Typed). subs_due set d.subs image.came) c.in_ok-read_fields.ensures.image.kept in
-    let still = ap (λ (k : ℕ). part_due set (device_at set k) c.read_after_fields.new.image.came c.in_ok-next.next) c.in_ok-next.ensures.section.0 in
+    let due = ap (λ o. part_due set d loop.image.came o) c.in-Some.is in
+    let same = ap (λ image. subs_due set d.subs image.came) c.in_ok-read_fields.ensures.image.kept in
+    let still = ap (λ k. part_due set (device_at set k) c.read_after_fields.new.image.came c.in_ok-next.next) c.in_ok-next.ensures.section.0 in
     let most = subs_due set d.subs c.read_fields.new.image.came + FOOT_LENGTH in
     let some : 0 < most = omega arith in
     let now = less set d c.read_after_fields.new.image.came c.in_ok-next.next c.read_fields.new.cursor c.read_after_fields.new.cursor most c.in_ok-read_fields.ensures.held c.in_ok-next.ensures.next.moved (c.in_ok-next.ensures.moves.2) some in
@@ -128,7 +127,5 @@ loop-next-smaller g c =
 pub returns-clause-reads : goal.returns-clause-reads
 returns-clause-reads g c = λ names state room.
     let set = described c.args.set.now in
-    let loop = c.loop-next in
     let here = in_fields set names state c.args.section.now None (untyped c.args.image.now) in
-    subst (λ (o : Option Open). GoesSoFar (intake g.S.Source c.args.source.now) (intake g.S.Source loop.source) here (after_part set names state loop.section (untyped loop.image) o) c.args.cursor.now loop.cursor)
-    c.in_default.is (loop.invariant.reads names state room)
+    rw c.in_default.is at (c.loop-next.invariant.reads names state room)

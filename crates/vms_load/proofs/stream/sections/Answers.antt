@@ -24,7 +24,7 @@ loop-place-preserved g c =
     let here = go (state_of set c.args.staged.now (spot_at (Some First))) in
     let mid = go (state_of set loop.staged (spot_at (Some c.in-Some.between))) in
     let moves = c.in_ok-place.ensures.moves in
-    let due = ap (λ (o : Option Between). stream_due set loop.staged.came.items o) c.in-Some.is in
+    let due = ap (λ o. stream_due set loop.staged.came.items o) c.in-Some.is in
     record {
       reads = goes_further here mid (go (state_of set c.read_between.new.staged (spot_at c.in_ok-place.place))) c.args.cursor.now loop.cursor c.read_between.new.cursor loop.invariant.from moves.0 loop.invariant.onward moves.1 (rw c.in-Some.is at loop.invariant.reads) c.in_ok-place.ensures.reads;
       held = c.in_ok-place.ensures.next.held;
@@ -44,12 +44,11 @@ returns-in_err-place-clause-reads g c =
     let next : Option Between → Onward = λ next. go (state_of set c.read_between.new.staged (spot_at next)) in
     let most = stream_due set c.args.staged.now.came.items (Some First) + LONGEST_HEAD in
     let e = c.in_err-place.field-0.0 in
-    let due = ap (λ (o : Option Between). stream_due set loop.staged.came.items o) c.in-Some.is in
     let p = err_from_is_err_and c.from_residual.result c.from_residual.ensures.1 in
     rw (p.1, p.2)
     (goes_still (Option Between) (Unit {0}) most here next (λ x. go (state_of set c.read_between.new.staged (spot_at None))) c.args.cursor.now c.read_between.new.cursor c.read_between.new.cursor e
     (goes_on {X = Option Between} (stream_due set loop.staged.came.items (Some c.in-Some.between) + LONGEST_HEAD) most here mid next c.args.cursor.now loop.cursor c.read_between.new.cursor (Err e) loop.invariant.from tt loop.invariant.onward tt
-    (omega arith) (rw c.in-Some.is at loop.invariant.reads) c.in_err-place.ensures.reads))
+    (omega (arith, ap (λ o. stream_due set loop.staged.came.items o) c.in-Some.is)) (rw c.in-Some.is at loop.invariant.reads) c.in_err-place.ensures.reads))
 
 pub loop-place-smaller : goal.loop-place-smaller
 loop-place-smaller g c =
@@ -62,6 +61,4 @@ pub returns-clause-reads : goal.returns-clause-reads
 returns-clause-reads g c =
     let set = described c.args.set.now in
     let go = reading_on (judge (by_state set (accepted_of set c.args.only))) in
-    let loop = c.loop-place in
-    subst (λ (o : Option Between). GoesSoFar (intake g.S.Source c.args.source.now) (intake g.S.Source loop.source) (go (state_of set c.args.staged.now (spot_at (Some First)))) (go (state_of set loop.staged (spot_at o))) c.args.cursor.now loop.cursor)
-    c.in_default.is loop.invariant.reads
+    rw c.in_default.is at c.loop-place.invariant.reads

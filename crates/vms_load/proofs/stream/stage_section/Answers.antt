@@ -27,7 +27,7 @@ returns-in_err-device-clause-reads g c = λ names first after.
     let next : Unit {0} → Onward = λ x. reading_on (judge (by_state set names)) (state_of set c.args.staged.now (Free false false)) in
     let e = c.in_err-device.field-0.0 in
     let p = err_from_is_err_and c.from_residual.result c.from_residual.ensures.1 in
-    let is = sym (c.in_err-device.was) ∙ c.open_section.ensures.opened ∙ ap (λ (came : List Bool). opened_at c.args.at (section_opened set came head.name.items head.instance head.version)) c.deref.ensures.0 in
+    let is = sym (c.in_err-device.was) ∙ c.open_section.ensures.opened ∙ ap (λ came. opened_at c.args.at (section_opened set came head.name.items head.instance head.version)) c.deref.ensures.0 in
     rw (p.1, p.2)
     (behind_here {X = Unit {0}} (intake g.S.Source c.args.source.now) (sections_due set set.devices c.args.staged.now.came.items) (reading_on (judge (by_state set names))) (ask set names (state_of set c.args.staged.now (Free first after)) (head_unit head) (head_long head))
     next c.args.at (head_long head) c.args.cursor.now c.args.cursor.now e c.in_err-device.ensures.refused (g.met.S.Source.counted c.args.source.now)
@@ -46,11 +46,9 @@ index_mut-image-requires g c =
 
 pub read_section-requires-clause-image : goal.read_section-requires-clause-image
 read_section-requires-clause-image g c =
-    let set = described c.args.set.now in
-    let head = c.args.head.now in
     let k = c.in_ok-device.device in
     let image = image g (goal.at.read_section-requires-clause-image g c).After-index_mut-image in
-    record { device = c.in_ok-device.ensures.fresh.0; shaped = subst (λ (x : Typed). IsImageOf set k x) (sym image) (default_shaped set k head.version) }
+    record { device = c.in_ok-device.ensures.fresh.0; shaped = rw image (default_shaped (described c.args.set.now) k c.args.head.now.version) }
 
 pub read_section-requires-clause-cursor : goal.read_section-requires-clause-cursor
 read_section-requires-clause-cursor g c =
@@ -59,7 +57,7 @@ read_section-requires-clause-cursor g c =
     let new = rw c.deref.ensures.0 at c.in_ok-device.ensures.fresh in
     let image = image g (goal.at.read_section-requires-clause-cursor g c).After-index_mut-image in
     let due = sections_taken set set.devices c.args.staged.now.came.items k (record { instance = 0; desc = no_desc; subs = [] }) c.requires.whole.came new.1 in
-    record { held = c.requires.held; place = omega (arith, ap (λ (x : Typed). subs_due set (device_at set k).subs x.came) image) }
+    record { held = c.requires.held; place = omega (arith, ap (λ x. subs_due set (device_at set k).subs x.came) image) }
 
 pub returns-in_err-read_section-clause-reads : goal.returns-in_err-read_section-clause-reads
 returns-in_err-read_section-clause-reads g c = λ names first after.
@@ -67,7 +65,7 @@ returns-in_err-read_section-clause-reads g c = λ names first after.
     let head = c.args.head.now in
     let k = c.in_ok-device.device in
     let old = c.args.staged.now in
-    let is = sym (c.in_ok-device.was) ∙ c.open_section.ensures.opened ∙ ap (λ (came : List Bool). opened_at c.args.at (section_opened set came head.name.items head.instance head.version)) c.deref.ensures.0 in
+    let is = sym (c.in_ok-device.was) ∙ c.open_section.ensures.opened ∙ ap (λ came. opened_at c.args.at (section_opened set came head.name.items head.instance head.version)) c.deref.ensures.0 in
     let new = rw c.deref.ensures.0 at c.in_ok-device.ensures.fresh in
     let began = began g (goal.at.returns-in_err-read_section-clause-reads g c).After-index_mut-image in
     let image = image g (goal.at.returns-in_err-read_section-clause-reads g c).After-index_mut-image in
@@ -79,7 +77,7 @@ returns-in_err-read_section-clause-reads g c = λ names first after.
     let go = reading_on (judge (by_state set names)) in
     let v = ask set names (state_of set old (Free first after)) (head_unit head) (head_long head) in
     let due = sections_taken set set.devices c.args.staged.now.came.items k (record { instance = 0; desc = no_desc; subs = [] }) c.requires.whole.came new.1 in
-    let same = ap (λ (x : Typed). subs_due set (device_at set k).subs x.came) image in
+    let same = ap (λ x. subs_due set (device_at set k).subs x.came) image in
     let e = c.in_err-read_section.field-0.0 in
     let p = err_from_is_err_and c.from_residual-in_err-read_section.result c.from_residual-in_err-read_section.ensures.1 in
     rw (p.1, p.2)
@@ -95,7 +93,7 @@ returns-clause-reads g c = λ names first after.
     let head = c.args.head.now in
     let k = c.in_ok-device.device in
     let old = c.args.staged.now in
-    let is = sym (c.in_ok-device.was) ∙ c.open_section.ensures.opened ∙ ap (λ (came : List Bool). opened_at c.args.at (section_opened set came head.name.items head.instance head.version)) c.deref.ensures.0 in
+    let is = sym (c.in_ok-device.was) ∙ c.open_section.ensures.opened ∙ ap (λ came. opened_at c.args.at (section_opened set came head.name.items head.instance head.version)) c.deref.ensures.0 in
     let new = rw c.deref.ensures.0 at c.in_ok-device.ensures.fresh in
     let began = began g (goal.at.returns-clause-reads g c).After-index_mut-image in
     let image = image g (goal.at.returns-clause-reads g c).After-index_mut-image in
@@ -117,11 +115,10 @@ returns-clause-moves g c =
     let set = described c.args.set.now in
     let k = c.in_ok-device.device in
     let new = rw c.deref.ensures.0 at c.in_ok-device.ensures.fresh in
-    let image = image g (goal.at.returns-clause-moves g c).After-index_mut-image in
     let due = sections_taken set set.devices c.args.staged.now.came.items k (record { instance = 0; desc = no_desc; subs = [] }) c.requires.whole.came new.1 in
-    let came = ap (λ (l : List Bool). sections_due set set.devices l) c.begin_section.ensures.came in
+    let came = ap (λ l. sections_due set set.devices l) c.begin_section.ensures.came in
     let moves = c.in_ok-read_section.ensures.moves in
-    (moves.0, moves.1, omega (arith, ap (λ (x : Typed). subs_due set (device_at set k).subs x.came) image))
+    (moves.0, moves.1, omega (arith, ap (λ x. subs_due set (device_at set k).subs x.came) (image g (goal.at.returns-clause-moves g c).After-index_mut-image)))
 
 pub returns-in_err-read_section-clause-whole : goal.returns-in_err-read_section-clause-whole
 returns-in_err-read_section-clause-whole g c =

@@ -7,7 +7,7 @@ use Rattle.vms_load.proofs.StreamReads.{refused_before, closed}
 use Rattle.vms_load.proofs.stream.stream.Goals as goal
 
 pub read_head-requires : goal.read_head-requires
-read_head-requires g c = record { held = ap (λ (s : Stand). s.held) c.new-cursor.ensures; place = omega (arith, ap (λ (s : Stand). s.at) c.new-cursor.ensures) }
+read_head-requires g c = record { held = rw (c.new-cursor.ensures); place = omega (arith, ap (λ s. s.at) c.new-cursor.ensures) }
 
 pub returns-in_err-read_head-clause-reads : goal.returns-in_err-read_head-clause-reads
 returns-in_err-read_head-clause-reads g c =
@@ -20,7 +20,7 @@ returns-in_err-read_head-clause-reads g c =
     rw (p.1, p.2)
     (reads_as (λ n l. omega arith)
     (λ input left h. refused_before set names {X = Unit {0}} c.restart.new.staged start (Some input) (Some left) (λ x. go (state_of set c.restart.new.staged (Free true false))) c.new-cursor.result c.read_head.new.cursor e
-    c.restart.ensures.state (ap (λ (s : Stand). s.at) c.new-cursor.ensures) (ap (λ (s : Stand). s.held) c.new-cursor.ensures) h) (c.in_err-read_head.ensures.reads set names start))
+    c.restart.ensures.state (rw (c.new-cursor.ensures)) (rw (c.new-cursor.ensures)) h) (c.in_err-read_head.ensures.reads set names start))
 
 pub sections-requires-clause-set : goal.sections-requires-clause-set
 sections-requires-clause-set g c = record { machine = c.requires.machine; whole = c.restart.ensures.whole }
@@ -45,7 +45,7 @@ returns-in_err-sections-clause-reads g c =
     rw (p.1, p.2)
     (reads_as (λ n l. l)
     (λ input left h. refused_before set names {X = Unit {0}} c.sections.new.staged start (Some input) (Some left) next c.new-cursor.result c.sections.new.cursor e c.restart.ensures.state
-    (ap (λ (s : Stand). s.at) c.new-cursor.ensures) (ap (λ (s : Stand). s.held) c.new-cursor.ensures) h)
+    (rw (c.new-cursor.ensures)) (rw (c.new-cursor.ensures)) h)
     (goes_on {X = Unit {0}} (stream_due set c.restart.new.staged.came.items (Some First) + LONGEST_HEAD) (most_given set) (go start) (go (state_of set c.restart.new.staged (Free true false))) next c.new-cursor.result c.read_head.new.cursor c.sections.new.cursor (Err e)
     h.0 tt h.1 tt (omega (arith, ap reach c.new-cursor.ensures)) (c.in_ok-read_head.ensures.reads set names start) c.in_err-sections.ensures.reads))
 
@@ -71,10 +71,10 @@ returns-in-Ok-clause-reads g c =
     let lead = goes_further (go start) (go (state_of set c.restart.new.staged (Free true false))) (go (state_of set c.sections.new.staged (spot_at None))) c.new-cursor.result c.read_head.new.cursor c.sections.new.cursor h.0 s.0 h.1 s.1
     (c.in_ok-read_head.ensures.reads set names start) c.in_ok-sections.ensures.reads in
     let t = c.in-Ok.ensures.place in
-    subst (λ (n : ℕ). GoesThrough (intake g.S.Source c.args.source.now) (intake g.S.Source c.trailer.new.source) set (reading (by_state set names) (at_start set)) c.sections.new.staged (Ok n)) (sym c.at.ensures)
+    subst (λ n. GoesThrough (intake g.S.Source c.args.source.now) (intake g.S.Source c.trailer.new.source) set (reading (by_state set names) (at_start set)) c.sections.new.staged (Ok n)) (sym c.at.ensures)
     (reads_both (λ k n l m. (omega (arith, l, m, h.1, s.1, t, free, zero), omega (arith, (start_due set c.restart.ensures.state), h, s, t, free, zero)))
     (λ all rest left l r. closed set names c.sections.new.staged start (Some all) (Some rest) (Some left) c.new-cursor.result c.sections.new.cursor c.trailer.new.self.at (Ok c.in-Ok.field-0)
-    c.restart.ensures.state (ap (λ (s : Stand). s.at) c.new-cursor.ensures) (ap (λ (s : Stand). s.held) c.new-cursor.ensures) c.in_ok-sections.ensures.held l r) lead c.in-Ok.ensures.reads)
+    c.restart.ensures.state (rw (c.new-cursor.ensures)) (rw (c.new-cursor.ensures)) c.in_ok-sections.ensures.held l r) lead c.in-Ok.ensures.reads)
 
 pub returns-in-Err-clause-reads : goal.returns-in-Err-clause-reads
 returns-in-Err-clause-reads g c =
@@ -89,4 +89,4 @@ returns-in-Err-clause-reads g c =
     rw (c.concerning.ensures, ← same_course None c.in-Err.fault)
     (reads_both (λ k n l m. omega (arith, ap held_long c.in_ok-sections.ensures.held, ap reach c.new-cursor.ensures, start_due set c.restart.ensures.state))
     (λ all rest left l r. closed set names c.sections.new.staged start (Some all) (Some rest) (Some left) c.new-cursor.result c.sections.new.cursor c.trailer.new.self.at (Err c.in-Err.fault)
-    c.restart.ensures.state (ap (λ (s : Stand). s.at) c.new-cursor.ensures) (ap (λ (s : Stand). s.held) c.new-cursor.ensures) c.in_ok-sections.ensures.held l r) lead c.in-Err.ensures.reads)
+    c.restart.ensures.state (rw (c.new-cursor.ensures)) (rw (c.new-cursor.ensures)) c.in_ok-sections.ensures.held l r) lead c.in-Err.ensures.reads)

@@ -29,7 +29,7 @@ pub returns-in_err-came-clause-err : goal.returns-in_err-came-clause-err
 returns-in_err-came-clause-err g c =
     let a = c.args.self.now in
     let p = err_from_is_err_and c.from_residual.result c.from_residual.ensures.1 in
-    let wide : c.args.count * c.width-width.result ≡ c.args.count * width c.args.kind = ap (λ (k : ℕ). c.args.count * k) c.width-width.ensures in
+    let wide : c.args.count * c.width-width.result ≡ c.args.count * width c.args.kind = rw (c.width-width.ensures) in
     rw (p.1, p.2, c.in_err-came.ensures.failed.0)
     (refl, refl, refl, failed_run (intake g.S.Source a.source.now) (intake g.S.Source c.codes.new.source) a.image.now c.args.first c.args.count a.cursor.now.at c.args.kind c.requires.number _ _ c.in_err-came.ensures.failed.1 (search (rules, wide)))
 
@@ -44,7 +44,7 @@ returns-clause-ok g c =
     let new = intake g.S.Source c.codes.new.source in
     let wide = c.width-width.ensures in
     let enough : count ≤ n / c.width-width.result = omega arith in
-    let all = all_came kind count n buf ((search rules) ∙ ap (λ (k : ℕ). count * k) wide) (search rules) (subst (λ (k : ℕ). count ≤ n / k) wide enough) in
+    let all = all_came kind count n buf ((search rules) ∙ ap (λ (k : ℕ). count * k) wide) (search rules) (subst (λ k. count ≤ n / k) wide enough) in
     let place : c.codes.new.self.at ≡ a.cursor.now.at + count * width kind = cc (c.in_ok-came.ensures.place) in
     let run = run_of c.args.first count kind in
     let from = told a.image.now a.cursor.now.at old in
@@ -52,8 +52,8 @@ returns-clause-ok g c =
       refl,
       refl,
       refl,
-      subst (λ (i : Typed). Took run from (told i c.codes.new.self.at new)) (sym (cc (c.put_codes.ensures)))
-          (subst (λ (m : ℕ). Took run from (told (filled a.image.now c.args.first kind count (take n buf)) m new)) (sym place) took),
+      subst (λ i. Took run from (told i c.codes.new.self.at new)) (sym (cc (c.put_codes.ensures)))
+          (subst (λ m. Took run from (told (filled a.image.now c.args.first kind count (take n buf)) m new)) (sym place) took),
       λ e. c.in_ok-came.ensures.held,
     )
 
@@ -67,8 +67,8 @@ returns-then-whole-count-clause-err g c =
     let old = intake g.S.Source a.source.now in
     let new = intake g.S.Source c.codes.new.source in
     let wide = c.width-width.ensures in
-    let lt : n / width kind < count = subst (λ (k : ℕ). n / k < count) wide (omega arith) in
-    let part = part_came kind count n buf ((search rules) ∙ ap (λ (k : ℕ). count * k) wide) (search rules) lt in
+    let lt : n / width kind < count = subst (λ k. n / k < count) wide (omega arith) in
+    let part = part_came kind count n buf ((search rules) ∙ ap (λ k. count * k) wide) (search rules) lt in
     let whole = n / width kind in
     let codes = take (whole * width kind) buf in
     let run = run_of c.args.first count kind in
@@ -80,7 +80,7 @@ returns-then-whole-count-clause-err g c =
       refl,
       refl,
       refl,
-      subst (λ (i : Typed). Failed run from (faults.Refused c.at.result reasons.Truncated) (told i c.codes.new.self.at new)) (sym (cc (c.put_codes.ensures)))
-          (subst (λ (m : ℕ). Failed run from (faults.Refused c.at.result reasons.Truncated) (told (filled a.image.now c.args.first kind whole codes) m new)) (sym place)
-          (subst (λ (m : ℕ). Failed run from (faults.Refused m reasons.Truncated) (told (filled a.image.now c.args.first kind whole codes) (a.cursor.now.at + whole * width kind) new)) (sym at) failed)),
+      subst (λ i. Failed run from (faults.Refused c.at.result reasons.Truncated) (told i c.codes.new.self.at new)) (sym (cc (c.put_codes.ensures)))
+          (subst (λ m. Failed run from (faults.Refused c.at.result reasons.Truncated) (told (filled a.image.now c.args.first kind whole codes) m new)) (sym place)
+          (subst (λ m. Failed run from (faults.Refused m reasons.Truncated) (told (filled a.image.now c.args.first kind whole codes) (a.cursor.now.at + whole * width kind) new)) (sym at) failed)),
     )
