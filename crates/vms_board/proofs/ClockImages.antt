@@ -13,7 +13,7 @@ few (suc zero) lt = leb-true (length (device_cells (shipped_set NEWEST) (device_
 few (suc (suc zero)) lt = leb-true (length (device_cells (shipped_set NEWEST) (device_at (shipped_set NEWEST) 2))) MOST_CELLS refl
 few (suc (suc (suc zero))) lt = leb-true (length (device_cells (shipped_set NEWEST) (device_at (shipped_set NEWEST) 3))) MOST_CELLS refl
 few (suc (suc (suc (suc zero)))) lt = leb-true (length (device_cells (shipped_set NEWEST) (device_at (shipped_set NEWEST) 4))) MOST_CELLS refl
-few (suc (suc (suc (suc (suc k))))) lt = absurd (omega (arith, lt))
+few (suc (suc (suc (suc (suc k))))) lt = absurd (omega arith)
 
 -- there are five images, each with room for its numbers among those of a device
 five_of : (images : List Typed) → AreImagesOf (shipped_set NEWEST) images → length images ≡ 5
@@ -22,11 +22,8 @@ five_of images s = s.one_each
 pub room : (images : List Typed) (k : ℕ) (image : Typed) → AreImagesOf (shipped_set NEWEST) images → k < 5 → image ≡ get_or images k image
     → length image.numbers ≤ MOST_CELLS
 room images k image s lt is =
-    let five = five_of images s in
-    let here : slice_get images k ≡ Some image = slice_get-get_or images k image (omega (arith, five, lt)) ∙ ap (λ (i : Typed). Some i) (sym is) in
-    let n = (s.each k image here).cells in
     let most = few k lt in
-    omega (arith, n, most)
+    omega (arith, (s.each k image (cc (slice_get-get_or images k image (omega (arith, (five_of images s), lt))))).cells)
 
 -- ---- Images of the newest clock set: the chip's, then those of the newest shipped set.
 
@@ -41,11 +38,8 @@ six_of images are = are.one_each
 pub chip_room : (images : List Typed) (image : Typed) → AreImagesOf (clock_set NEWEST_CLOCK) images → image ≡ get_or images 0 image
     → length image.numbers ≤ MOST_CELLS
 chip_room images image are is =
-    let six = six_of images are in
-    let here : slice_get images 0 ≡ Some image = slice_get-get_or images 0 image (omega (arith, six)) ∙ ap (λ (i : Typed). Some i) (sym is) in
-    let n = (are.each 0 image here).cells in
     let most = chip-few in
-    omega (arith, n, most)
+    omega (arith, (are.each 0 image (cc (slice_get-get_or images 0 image (omega (arith, (six_of images are)))))).cells)
 
 -- the others are images of the shipped set
 inner : (k : ℕ) (image : Typed) → IsImageOf (clock_set NEWEST_CLOCK) (suc k) image → IsImageOf (shipped_set NEWEST) k image
@@ -56,10 +50,8 @@ abbrev pub rest : List Typed → List Typed
 rest images = take (length images - 1) (drop 1 images)
 
 behind-first : (images : List Typed) → AreImagesOf (clock_set NEWEST_CLOCK) images → AreImagesOf (shipped_set NEWEST) (drop 1 images)
-behind-first [] are = let e = are.one_each in absurd (omega (arith, e))
-behind-first (image ∷ images) are =
-    let e = are.one_each in
-    record { one_each = omega (arith, e); each = λ k i here. inner k i (are.each (suc k) i here) }
+behind-first [] are = absurd (omega arith)
+behind-first (image ∷ images) are = record { one_each = omega arith; each = λ k i here. inner k i (are.each (suc k) i here) }
 
 pub behind : (images : List Typed) → AreImagesOf (clock_set NEWEST_CLOCK) images → AreImagesOf (shipped_set NEWEST) (rest images)
 behind images are = subst (λ (i : List Typed). AreImagesOf (shipped_set NEWEST) i) (sym (take_rest images 1)) (behind-first images are)
@@ -73,7 +65,7 @@ pub cells-behind : (images : List Typed) (image : Typed) (clock : ArrayVec ℤ) 
     → image ≡ get_or images 0 image
     → clock.items ≡ image.numbers → board ≡ board_cells_in (map state_of (rest images))
     → record { clock = clock; board = board } ≡ cells_in (map state_of images)
-cells-behind [] image clock board are is c b = let e = are.one_each in absurd (omega (arith, e))
+cells-behind [] image clock board are is c b = absurd (omega arith)
 cells-behind (first ∷ images) image clock board are is c b =
     ap (λ (numbers : List ℤ). both numbers board) (c ∙ ap (λ (i : Typed). i.numbers) is)
     ∙ ap (λ (x : BoardCells). both first.numbers x) (b ∙ ap (λ (i : List Typed). board_cells_in (map state_of i)) (take_rest (first ∷ images) 1))

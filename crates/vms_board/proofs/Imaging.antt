@@ -20,7 +20,7 @@ pub record Put (image old : Typed) (numbers : List ℤ) (cell : ℕ) : Type 0 wh
 pub put_all : (image old : Typed) (numbers : List ℤ) (cell : ℕ) → Put image old numbers cell → length numbers ≤ cell → image ≡ record old { numbers = numbers }
 put_all image old numbers cell p all =
     same_image image (record old { numbers = numbers }) p.version p.came
-    (ext_get_or (pos 0) image.numbers numbers p.long (λ k lt. p.put k (omega (arith, lt, p.long, all)))) p.kinds
+    (ext_get_or (pos 0) image.numbers numbers p.long (λ k lt. p.put k (omega arith))) p.kinds
 
 -- the subsections below a number are present if they are needed
 pub record Marked (set : Set) (d : Device) (image old : Typed) (sub : ℕ) : Type 0 where
@@ -40,11 +40,10 @@ no_sub = record { desc = no_desc; needed = AtLeast 0 }
 needed-get : (set : Set) (d : Device) (image : Image) (i : ℕ) (subs : List Sub) (k : ℕ) → k < length subs
     → get_or (needed_from set d image i subs) k None ≡ version_needed set d image (get_or subs k no_sub) (i + k)
 unfolding no_sub
-needed-get set d image i [] k lt = absurd (omega (arith, lt))
+needed-get set d image i [] k lt = absurd (omega arith)
 needed-get set d image i (s ∷ subs) zero lt = let e : i ≡ i + zero = omega arith in ap (λ (n : ℕ). version_needed set d image s n) e
 needed-get set d image i (s ∷ subs) (suc k) lt =
-    let e : suc i + k ≡ i + suc k = omega arith in
-    needed-get set d image (suc i) subs k (omega (arith, lt)) ∙ ap (λ (n : ℕ). version_needed set d image (get_or subs k no_sub) n) e
+    needed-get set d image (suc i) subs k (omega arith) ∙ ap (λ (n : ℕ). version_needed set d image (get_or subs k no_sub) n) (omega arith)
 
 from-zero : (set : Set) (d : Device) (image : Image) (k : ℕ) → version_needed set d image (get_or d.subs k no_sub) (0 + k) ≡ needed_at set d image k
 unfolding no_sub
@@ -54,11 +53,10 @@ pub marked_all : (set : Set) (d : Device) (image old : Typed) (sub : ℕ) → Ma
     → image ≡ record old { came = needed_from set d (state_of old) 0 d.subs }
 unfolding no_sub
 marked_all set d image old sub m all =
-    let long = needed-long set d (state_of old) 0 d.subs in
     same_image image (record old { came = needed_from set d (state_of old) 0 d.subs }) m.version
-    (ext_get_or None image.came (needed_from set d (state_of old) 0 d.subs) (m.long ∙ sym long)
-    (λ k lt. m.marked k (omega (arith, lt, m.long, all)) ∙ sym
-    (needed-get set d (state_of old) 0 d.subs k (omega (arith, lt, m.long)) ∙ from-zero set d (state_of old) k)))
+    (ext_get_or None image.came (needed_from set d (state_of old) 0 d.subs) (m.long ∙ sym (needed-long set d (state_of old) 0 d.subs))
+    (λ k lt. m.marked k (omega arith) ∙ sym
+    (needed-get set d (state_of old) 0 d.subs k (omega arith) ∙ from-zero set d (state_of old) k)))
     m.numbers m.kinds
 
 -- ---- an image of each device
@@ -75,15 +73,15 @@ no_typed = record { version = 0; came = []; numbers = []; kinds = [] }
 -- if there is an image of each device, there are numbers for each
 lists-long : (set : Set) (devices : List Device) (lists : List (List ℤ)) → length (images_of set devices lists) ≡ length devices → length devices ≤ length lists
 lists-long set [] lists l = omega arith
-lists-long set (d ∷ devices) [] l = absurd (omega (arith, l))
-lists-long set (d ∷ devices) (n ∷ lists) l = let rest = lists-long set devices lists (omega (arith, l)) in omega (arith, rest)
+lists-long set (d ∷ devices) [] l = absurd (omega arith)
+lists-long set (d ∷ devices) (n ∷ lists) l = let rest = lists-long set devices lists (omega arith) in omega arith
 
 images-get : (set : Set) (devices : List Device) (lists : List (List ℤ)) → length (images_of set devices lists) ≡ length devices → (k : ℕ) → k < length devices
     → get_or (images_of set devices lists) k no_image ≡ image_of set (get_or devices k no_device) (get_or lists k [])
-images-get set [] lists l k lt = absurd (omega (arith, lt))
-images-get set (d ∷ devices) [] l k lt = absurd (omega (arith, l))
+images-get set [] lists l k lt = absurd (omega arith)
+images-get set (d ∷ devices) [] l k lt = absurd (omega arith)
 images-get set (d ∷ devices) (n ∷ lists) l zero lt = refl
-images-get set (d ∷ devices) (n ∷ lists) l (suc k) lt = images-get set devices lists (omega (arith, l)) k (omega (arith, lt))
+images-get set (d ∷ devices) (n ∷ lists) l (suc k) lt = images-get set devices lists (omega arith) k (omega arith)
 
 image-get : (set : Set) (lists : List (List ℤ)) → length (images_of set set.devices lists) ≡ length set.devices → (k : ℕ) → k < length set.devices
     → get_or (images_of set set.devices lists) k no_image ≡ image_of set (device_at set k) (get_or lists k [])
@@ -98,9 +96,9 @@ fit-device set k numbers f =
     record {
       long = f.long;
       fits = record {
-        long = f.long ∙ sym same;
+        long = cc;
         fits = λ c lt.
-            let within : c < length cells = omega (arith, lt, same) in
+            let within : c < length cells = omega arith in
             subst (λ (kind : Kind). InRange kind (get_or numbers c (pos 0))) (sym (get_or-map (λ x. x.kind) cells c no_cell U8 within)) (f.fits c within).0;
       };
     }
@@ -111,9 +109,8 @@ pub fit_each : (set : Set) (lists : List (List ℤ)) → AreReady set (images_of
 unfolding no_device
 fit_each set lists r k lt =
     let images = images_of set set.devices lists in
-    let all = r.one_each in
     let here : slice_get images k ≡ Some (image_of set (device_at set k) (get_or lists k [])) =
-    slice_get-get_or images k no_image (omega (arith, lt, all)) ∙ ap (λ (i : Image). Some i) (image-get set lists r.one_each k lt) in
+    cc (slice_get-get_or images k no_image (omega (arith, lt, r.one_each)), image-get set lists r.one_each k lt) in
     fit-device set k (get_or lists k [])
     (r.ready k (device_at set k) (image_of set (device_at set k) (get_or lists k [])) (slice_get-get_or set.devices k no_device lt) here).normal.cells
 
@@ -125,7 +122,7 @@ pub record Made (set : Set) (lists : List (List ℤ)) (images : List Typed) (dev
 pub at_below : {X : Type 0} (xs : List X) (k : ℕ) (x : X) → slice_get xs k ≡ Some x → k < length xs
 at_below [] k x e = cc
 at_below (y ∷ xs) zero x e = omega arith
-at_below (y ∷ xs) (suc k) x e = let below = at_below xs k x e in omega (arith, below)
+at_below (y ∷ xs) (suc k) x e = let below = at_below xs k x e in omega arith
 
 -- an image with numbers for its device is one of it
 is-of : (set : Set) (k : ℕ) (numbers : List ℤ) → FitDevice set k numbers → IsImageOf set k (typed_of set k numbers)
@@ -143,29 +140,25 @@ made_states set lists images device r m e =
     ext_get_or no_image (map state_of images) (images_of set set.devices lists) (same ∙ long ∙ e ∙ sym one)
     (λ k lt.
     get_or-map state_of images k no_typed no_image (omega (arith, lt, same)) ∙ ap state_of (m.each k (omega (arith, lt, same, long)))
-    ∙ sym (image-get set lists one k (omega (arith, lt, same, long, e))))
+    ∙ sym (image-get set lists one k (omega arith)))
 
 pub made_of : (set : Set) (lists : List (List ℤ)) (images : List Typed) (device : ℕ) → AreReady set (images_of set set.devices lists)
     → Made set lists images device → device ≡ length set.devices → AreImagesOf set images
 made_of set lists images device r m e =
-    let long = m.long in
     record {
-      one_each = long ∙ e;
+      one_each = cc;
       each = λ k image here.
           let below = at_below images k image here in
           let is : image ≡ typed_of set k (get_or lists k []) =
-          same_at images k _ _ here (slice_get-get_or images k no_typed below) ∙ m.each k (omega (arith, below, long)) in
-          subst (λ (i : Typed). IsImageOf set k i) (sym is) (is-of set k (get_or lists k []) (fit_each set lists r k (omega (arith, below, long, e))));
+          same_at images k _ _ here (slice_get-get_or images k no_typed below) ∙ m.each k (omega (arith, below, m.long)) in
+          subst (λ (i : Typed). IsImageOf set k i) (sym is) (is-of set k (get_or lists k []) (fit_each set lists r k (omega arith)));
     }
 
 -- ---- the images of a board, under a set
 
 pub listed : (set own : Set) (lists : List (List ℤ)) (k : ℕ) → AreReady own (images_of own own.devices lists) → set ≡ own → k < length set.devices
     → k < length lists
-listed set own lists k r e lt =
-    let long = lists-long own own.devices lists r.one_each in
-    let same : length set.devices ≡ length own.devices = ap (λ (x : Set). length x.devices) e in
-    omega (arith, lt, long, same)
+listed set own lists k r e lt = omega (arith, ap (λ (x : Set). length x.devices) e, lists-long own own.devices lists r.one_each)
 
 pub fits_of : (set own : Set) (lists : List (List ℤ)) (k : ℕ) (numbers : List ℤ) → AreReady own (images_of own own.devices lists) → set ≡ own
     → numbers ≡ get_or lists k [] → k < length set.devices → FitDevice set k numbers
@@ -190,10 +183,8 @@ module _ {S : Type 0} (f : Family S) {IsSound : S → Type 0} {AreTold : List (L
   pub machine_below : (d m : S) (s : ℕ) (set : Set) (machine : ℕ) → IsSound d → d ≡ m → MaySaveIn f m s → machine ≡ f.number d - 1 → set ≡ f.set s
       → machine < length set.machines
   machine_below d m s set machine sound e may is own =
-      let below = at_below (f.set s).machines (f.number m - 1) (f.machine (f.number m)) (machine_named d m s sound e may) in
       let same : length set.machines ≡ length (f.set s).machines = ap (λ (x : Set). length x.machines) own in
-      let number : f.number d ≡ f.number m = ap f.number e in
-      omega (arith, below, same, is, number)
+      omega (arith, ap f.number e, at_below (f.set s).machines (f.number m - 1) (f.machine (f.number m)) (machine_named d m s sound e may))
 
 module _ {S : Type 0} (f : Family S) where
   -- the bytes written for the images that were made are the board's stream
@@ -202,13 +193,7 @@ module _ {S : Type 0} (f : Family S) where
       → set ≡ f.set s → made ≡ images_saved f s m → listed ≡ made → sent ≡ made → told ≡ described_text set listed → text ≡ told
       → written set (slice_get set.machines machine) sent (Some text) ≡ saved_stream f s m
   unfolding saved_stream
-  saved_bytes s m set made listed sent told text machine named is e i g h t u =
-      ap (λ (n : ℕ). written set (slice_get set.machines n) sent (Some text)) is
-      ∙ ap (λ (x : Set). written x (slice_get x.machines (f.number m - 1)) sent (Some text)) e
-      ∙ ap (λ (o : Option (List ℕ)). written (f.set s) o sent (Some text)) named
-      ∙ ap (λ (l : List Image). written (f.set s) (Some (f.machine (f.number m))) l (Some text)) (h ∙ i)
-      ∙ ap (λ (x : List ℕ). written (f.set s) (Some (f.machine (f.number m))) (images_saved f s m) (Some x))
-      (u ∙ t ∙ ap (λ (x : Set). described_text x listed) e ∙ ap (λ (l : List Image). described_text (f.set s) l) (g ∙ i))
+  saved_bytes s m set made listed sent told text machine named is e i g h t u = cc
 
   -- the bytes written for them without a description
   pub bare_bytes : (s : ℕ) (m : S) (set : Set) (made sent : List Image) (machine : ℕ)
@@ -216,11 +201,7 @@ module _ {S : Type 0} (f : Family S) where
       → set ≡ f.set s → made ≡ images_saved f s m → sent ≡ made
       → written set (slice_get set.machines machine) sent None ≡ stream_with f s m None
   unfolding stream_with
-  bare_bytes s m set made sent machine named is e i h =
-      ap (λ (n : ℕ). written set (slice_get set.machines n) sent None) is
-      ∙ ap (λ (x : Set). written x (slice_get x.machines (f.number m - 1)) sent None) e
-      ∙ ap (λ (o : Option (List ℕ)). written (f.set s) o sent None) named
-      ∙ ap (λ (l : List Image). written (f.set s) (Some (f.machine (f.number m))) l None) (h ∙ i)
+  bare_bytes s m set made sent machine named is e i h = cc
 
 pub saves_some : {bytes found : List ℕ} {old new : Outlet} (r : Result (Unit {0}) SaveFault) → found ≡ bytes → r ≡ Err faults.WriteFault
     → Stops old new found → Saves bytes old new r

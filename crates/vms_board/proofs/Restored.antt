@@ -10,8 +10,8 @@ module _ {S : Type 0} (f : Family S) (number : ℕ) (new : Standing S) {a b : In
   content (Err faults.ReadFault) p = elim a.left as (λ o. IfSome o (λ input. Unit {0})) [ None ↦ tt | Some input ↦ tt ]
 
   pub within : (r : Result Unit RestoreFault) → RestoreReads f number a b new r → b.given ≤ a.given + most_given (f.set f.newest)
-  within (Ok u) p = omega (arith, p.takes.given, p.long.0, p.long.1)
-  within (Err fault) p = omega (arith, p.takes.given, p.long)
+  within (Ok u) p = omega arith
+  within (Err fault) p = omega arith
 
 -- bytes that are refused restore to that refusal
 pub refused_is : {S : Type 0} (f : Family S) (number : ℕ) (input : List ℕ) (left : Option (List ℕ)) (r : Refusal) → IsRefused f number input left r

@@ -8,9 +8,8 @@ use Rattle.vms_board.proofs.Imaging.{at_below}
 use Rattle.vms_board.specs.declared.restore.RestoreFault.TheVariants as faults
 
 get-at : (xs : List (List ℕ)) (k : ℕ) (x : List ℕ) → slice_get xs k ≡ Some x → get_or xs k [] ≡ x
-get-at [] k x e = cc
-get-at (y ∷ xs) zero x e = cc
 get-at (y ∷ xs) (suc k) x e = get-at xs k x e
+get-at _ _ x e = cc
 
 module _ {S : Type 0} (f : Family S) where
   -- ---- what is read
@@ -18,16 +17,12 @@ module _ {S : Type 0} (f : Family S) where
   -- only the board's machine is accepted
   names-are : (number n : ℕ) (set : Set) → slice_get (f.set f.newest).machines (number - 1) ≡ Some (f.machine number) → n ≡ number - 1 → set ≡ f.set f.newest
       → accepted_of set (Some n) ≡ f.machine number ∷ []
-  names-are number n set h e i =
-      ap (λ (n : ℕ). accepted_of set (Some n)) e ∙ ap (λ (s : Set). accepted_of s (Some (number - 1))) i
-      ∙ ap (λ (x : List ℕ). x ∷ []) (get-at (f.set f.newest).machines (number - 1) (f.machine number) h)
+  names-are number n set h e i = cc (get-at (f.set f.newest).machines (number - 1) (f.machine number) h)
 
   pub machine_below : (number n : ℕ) (set : Set) → slice_get (f.set f.newest).machines (number - 1) ≡ Some (f.machine number) → n ≡ number - 1
       → set ≡ f.set f.newest → n < length set.machines
   machine_below number n set h e i =
-      let below = at_below (f.set f.newest).machines (number - 1) (f.machine number) h in
-      let same : length set.machines ≡ length (f.set f.newest).machines = ap (λ (s : Set). length s.machines) i in
-      omega (arith, below, same, e)
+      omega (arith, ap (λ (s : Set). length s.machines) i, at_below (f.set f.newest).machines (number - 1) (f.machine number) h)
 
   -- a stream that the loader read is one that the board reads
   pub taken_so : (number n : ℕ) (set : Set) (old left : Option (List ℕ)) (images : List Image) (taken : ℕ) (machine : Option ℕ)
@@ -83,9 +78,8 @@ module _ {S : Type 0} (f : Family S) where
   -- the fault of the input
   came-fault : (number : ℕ) (new : Standing S) (old left : Option (List ℕ)) (images : List Image) (taken : ℕ) (fault : RestoreFault)
       → IfSome old (λ input. Takings f number input left images taken (Err fault)) → IfSome old (λ input. ComesTo f number new input left (Err fault))
-  came-fault number new None left images taken fault h = tt
   came-fault number new (Some input) left images taken (faults.Refused r) h = inl h
-  came-fault number new (Some input) left images taken faults.ReadFault h = tt
+  came-fault number new _ left images taken _ h = tt
 
   pub comes_fault : (own number : ℕ) (new : Standing S) (old left : Option (List ℕ)) (images : List Image) (taken : ℕ) (fault : RestoreFault)
       (r : Result (Unit {0}) RestoreFault)
@@ -131,5 +125,4 @@ module _ {S : Type 0} (f : Family S) where
       λ rest more h. subst (λ (k : ℕ). ComesTo f k new rest (Some more) (Err (faults.Refused (refusal_of taken u.misfit)))) l
       (subst (λ (x : RestoreFault). ComesTo f number new rest (Some more) (Err x)) u.fault_is
       (comes_unfit number new (Some rest) (Some more) images taken fault u h)) in
-      subst (λ (x : Result (Unit {0}) RestoreFault). RestoreReads f own a b new x) (sym (e ∙ ap Err u.fault_is))
-      (reads_as (λ k w. omega (arith, w.0, w.1)) said p)
+      subst (λ (x : Result (Unit {0}) RestoreFault). RestoreReads f own a b new x) (sym (e ∙ ap Err u.fault_is)) (reads_as (λ k w. omega arith) said p)
