@@ -1,6 +1,7 @@
 -- The results of events and questions, for a board or none.
-use Rattle.std.specs.Prelude.{◌≡◌, ◌⊎◌, ◌==◌, ◌-◌, ◌≤◌, ℕ, Bool, true, false, nat_lt, if◌then◌else◌, List, [], ◌++◌, length, drop, replicate, Option, Some, None}
+use Rattle.std.specs.Prelude.{◌≡◌, ◌⊎◌, ◌==◌, ◌-◌, ◌≤◌, ℕ, Bool, true, false, nat_lt, if◌then◌else◌, IsTrue, List, [], ◌++◌, length, drop, replicate, Option, Some, None}
 use Rattle.std.specs.Option.{option_map}
+use Rattle.dev_board.specs.Step.{names_wire}
 use Rattle.dev_board.specs.Touch.{saying}
 use Rattle.dev_board.specs.Wires.{is_wire}
 use Rattle.dev_board.specs.declared.event.Answer.{Answer}
@@ -71,6 +72,11 @@ Reaches moment old new =
 abbrev pub IsAccess : Event → Type 0
 IsAccess (Wait ns) = ⊥
 IsAccess _ = Unit {0}
+
+-- An event but a wait, and only on a wire that the board has.
+pub record MayAct (event : Event) : Type 0 where
+  pub wire : IsTrue (names_wire event)
+  pub access : IsAccess event
 
 -- The result of a call at a moment, and the board after it. The status is 3 if there is no board,
 -- and 4 if the moment is before the board's.

@@ -3,9 +3,8 @@
 // An event is first tried in a way that makes no list of bytes. The answer of the other way has a
 // variable of its own, so that the first one's is made in the caller's place.
 ghost use Rattle.std.specs.Prelude.{◌≡◌, [], IsTrue, IfSome, MatchOption, Some, None};
-ghost use Rattle.dev_board.specs.Step.{names_wire};
 ghost use Rattle.dev_board.specs.declared.event.Event.TheVariants.{Read, Write, Byte};
-ghost use Rattle.vmstate_board_c.specs.Answers.{IsAccess, Made, acknowledges, acts, acts_after, board_of, event_at, said, time_to, wire_at};
+ghost use Rattle.vmstate_board_c.specs.Answers.{MayAct, Made, acknowledges, acts, acts_after, board_of, event_at, said, time_to, wire_at};
 ghost use Rattle.vmstate_board_c.specs.Kinds.{is_made, power_on_of};
 
 use crate::answer::{CAnswer, answered, brief, nothing};
@@ -181,8 +180,7 @@ fn quickly(
     moment: u64,
     event: Event,
 ) -> Option<(Option<u8>, bool)>
-    requires wire { IsTrue (names_wire event) }
-    requires access { IsAccess event }
+    requires { MayAct event }
     ensures { MatchOption result (board_of handle.new ≡ board_of handle.old)
         (λ done. (said done.0 done.1 [], board_of handle.new)
         ≡ event_at moment event (board_of handle.old)) }
@@ -209,8 +207,7 @@ fn quick_pass(alloc: Global, handle: &mut Handle, moment: u64) -> Option<bool>
 // Applies `event` at `moment`. It isn't inlined, which keeps the code of most events short.
 #[inline(never)]
 fn access(alloc: Global, handle: &mut Handle, moment: u64, event: Event) -> CAnswer
-    requires wire { IsTrue (names_wire event) }
-    requires access { IsAccess event }
+    requires { MayAct event }
     ensures { (result, board_of handle.new) ≡ event_at moment event (board_of handle.old) }
 {
     let Some(mut held) = handle.take(alloc) else {
@@ -249,8 +246,7 @@ fn pass(board: &mut AnyBoard, moment: u64) -> CAnswer
 
 // Applies `event` at `moment`, unless it is before the board's.
 fn act_at(board: &mut AnyBoard, moment: u64, event: Event) -> CAnswer
-    requires wire { IsTrue (names_wire event) }
-    requires access { IsAccess event }
+    requires { MayAct event }
     ensures { (result, Some board.new) ≡ event_at moment event (Some board.old) }
 {
     let now = board.now();
@@ -267,8 +263,7 @@ fn act_at(board: &mut AnyBoard, moment: u64, event: Event) -> CAnswer
 // Applies `event` now, which sends no byte, and returns the value and the interrupt output.
 #[inline(always)]
 fn act(board: &mut AnyBoard, event: Event) -> (Option<u8>, bool)
-    requires wire { IsTrue (names_wire event) }
-    requires access { IsAccess event }
+    requires { MayAct event }
     ensures { (said result.0 result.1 [], Some board.new) ≡ acts event board.old }
 {
     let answer = board.event(event);
@@ -278,8 +273,7 @@ fn act(board: &mut AnyBoard, event: Event) -> (Option<u8>, bool)
 // Lets `ns` nanoseconds pass, and then applies `event`, which sends no byte.
 #[tactic(auto, unfolding(dev_board::specs::Step::names_wire))]
 fn act_later(board: &mut AnyBoard, ns: u64, event: Event) -> CAnswer
-    requires wire { IsTrue (names_wire event) }
-    requires access { IsAccess event }
+    requires { MayAct event }
     ensures { (result, Some board.new) ≡ acts_after ns event board.old }
 {
     let passed = board.event(Event::Wait { ns });

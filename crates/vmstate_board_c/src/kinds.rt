@@ -3,7 +3,7 @@ ghost use Rattle.std.specs.Prelude.{◌≡◌, ◌-◌, ◌<◌, ◌≤◌, [], 
 ghost use Rattle.dev_board.specs.Touch.{saying};
 ghost use Rattle.dev_board.specs.declared.event.Event.TheVariants.{Wait};
 ghost use Rattle.dev_board.specs.Step.{names_wire};
-ghost use Rattle.vmstate_board_c.specs.Answers.{IsAccess, Reaches, event_at, said, time_to};
+ghost use Rattle.vmstate_board_c.specs.Answers.{MayAct, Reaches, event_at, said, time_to};
 ghost use Rattle.vmstate_board_c.specs.declared.held.AnyBoard.TheVariants.{Isa};
 ghost use Rattle.vmstate_board_c.specs.Kinds.{IsDueAt, character_of, has_port_of, int_of, is_made, level_of, now_of, output_of, power_on_of, room_of, step_of};
 
@@ -75,8 +75,7 @@ impl AnyBoard {
     /// at once that no byte leaves. Otherwise nothing happens, and it returns `None`.
     #[inline(always)]
     pub(crate) fn quick_event(&mut self, moment: u64, event: Event) -> Option<(Option<u8>, bool)>
-        requires wire { IsTrue (names_wire event) }
-        requires access { IsAccess event }
+        requires { MayAct event }
         ensures { MatchOption result (self.new ≡ self.old)
             (λ done. (said done.0 done.1 [], Some self.new)
             ≡ event_at moment event (Some self.old)) }
