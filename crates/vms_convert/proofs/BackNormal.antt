@@ -1,14 +1,13 @@
 -- The image of numbers has come as needed.
-use Rattle.vms_convert.proofs.Facade.{cases_eq, ◌≡◌, ℕ, zero, suc, ◌+◌, ◌≤◌, Bool, true, List, [], ◌∷◌, Some, None, refl, ap, ◌∙◌, arith, inl, inr, ◌<◌, length}
-use Rattle.vms_convert.proofs.Facade.{get_or, map, Option, ℤ, pos, sym, false, if◌then◌else◌, length-set, ◌==◌, ◌++◌, slice_get, leb-true, eqb-true, eq-eqb}
+use Rattle.vms_convert.proofs.Facade.{ne_eqb, cases_eq, ◌≡◌, ℕ, zero, suc, ◌+◌, ◌≤◌, Bool, true, List, [], ◌∷◌, Some, None, refl, ap, ◌∙◌, arith, inl, inr, ◌<◌}
+use Rattle.vms_convert.proofs.Facade.{length, get_or, map, Option, ℤ, pos, sym, false, if◌then◌else◌, length-set, ◌==◌, ◌++◌, slice_get, leb-true, eq-eqb}
 use Rattle.vms_convert.proofs.Facade.{or_parts, get_or-map, get_or-set_other, get_or-set_same, map-append, length-map, false_from_ne_true}
-use Rattle.vms_convert.proofs.Facade.{get_or_from_slice_get, Sub, Device, Set, Image, FitsCell, IsNormal, has_cell, image_slots, own_slots, own_cells}
-use Rattle.vms_convert.proofs.Facade.{came_slots, sub_slots, is_needed, ComeAsNeeded, needed_from, bare, image_of, AreSubs, versions, needed, within_all}
-use Rattle.vms_convert.proofs.Facade.{InRange, exceeds, Cell, no_cell, Slot, device_cells, WellFormed, FitsHeads, IsGood, names_append, none_in_both, its_same}
-use Rattle.vms_convert.proofs.Facade.{its_below, its_above, SameIn, sub_size, sub_place_up, parts_together, part_apart, part_place, well_good, device_parts}
-use Rattle.vms_convert.proofs.Facade.{sub_clean, IsCellOf, IsBack, taken, whole, ArePartners, AreOfKinds, own_or_sub, Typed, WalkStep, changed, Changes}
-use Rattle.vms_convert.proofs.Facade.{changed_append, AreTargets, give_partner, give_step, device_partners, IsCarried, steps_of, step_of, its_in, one_part}
-use Rattle.vms_convert.proofs.Facade.{or_split, Number, at_map}
+use Rattle.vms_convert.proofs.Facade.{get_or_from_slice_get, Sub, Device, Set, Image, FitsCell, has_cell, image_slots, own_slots, own_cells, came_slots}
+use Rattle.vms_convert.proofs.Facade.{sub_slots, is_needed, needed_from, bare, image_of, AreSubs, versions, needed, within_all, InRange, exceeds, Cell, no_cell}
+use Rattle.vms_convert.proofs.Facade.{Slot, device_cells, WellFormed, FitsHeads, IsGood, names_append, none_in_both, its_same, its_below, its_above, SameIn}
+use Rattle.vms_convert.proofs.Facade.{sub_size, sub_place_up, parts_together, part_apart, part_place, well_good, device_parts, sub_clean, IsCellOf, IsBack}
+use Rattle.vms_convert.proofs.Facade.{taken, whole, ArePartners, AreOfKinds, own_or_sub, Typed, WalkStep, changed, Changes, changed_append, AreTargets}
+use Rattle.vms_convert.proofs.Facade.{give_partner, give_step, device_partners, IsCarried, steps_of, step_of, its_in, one_part, Number, at_map, MayBeWritten}
 use Rattle.vms_walk.specs.declared.step.WalkStep.TheVariants.{Number as Step}
 use Rattle.vms_convert.proofs.Settling.{comes_at, needed_same}
 
@@ -112,8 +111,7 @@ module _ (to : Set) (well : WellFormed to) (heads : FitsHeads to) (i : ℕ) (d :
 
     absent_own : (c : ℕ) → c < length cells → c < own_cells to d → in_own then_ c ≡ false → get_or then_ c (pos 0) ≡ default_at c
     absent_own c lt own none =
-        back.settled.own c own ∙ left c lt (ap (λ (xs : List Slot). has_cell xs c)
-        (sym (its_same to d.desc d.desc.version 0 good.structs (good.devices i d there) now then_ same_own)) ∙ none)
+        back.settled.own c own ∙ left c lt (rw (its_same to d.desc d.desc.version 0 good.structs (good.devices i d there) now then_ same_own) at none)
         (none_else c _ (λ j s v e f. its_below to s.desc v (part_place to d j) now c (omega (arith, sub_place_up to (own_cells to d) d.subs j))))
 
     -- it isn't in a part other than the cell's own
@@ -122,30 +120,22 @@ module _ (to : Set) (well : WellFormed to) (heads : FitsHeads to) (i : ℕ) (d :
     other_part c j s h before j' s' v e f has =
         let range = its_in to s'.desc v (part_place to d j') now c has in
         let same : j' ≡ j = one_part to (own_cells to d) d.subs j' j c s' s e h.is range.0 range.1 h.low h.high in
-        let subs_same : Some s' ≡ Some s = sym e ∙ ap (slice_get d.subs) same ∙ h.is in
-        let one : s' ≡ s = cc in
-        let versions : Some (Some v) ≡ Some (Some s'.desc.version) = sym f ∙ at_map (λ (s : Sub). Some s.desc.version) d.subs j' s' e in
-        let v_is : v ≡ s'.desc.version = cc in
-        let here : in_sub s s.desc.version now j c ≡ true = rw (v_is, one, same) at has in
-        let bad : true ≡ false = sym here ∙ before in
-        cc
+        let one : s' ≡ s = cc (e, h.is) in
+        let v_is : v ≡ s'.desc.version = cc (f, at_map (λ (s : Sub). Some s.desc.version) d.subs j' s' e) in
+        cc (before, rw (v_is, one, same) at has)
 
     absent_needed : (c j : ℕ) (s : Sub) → c < length cells → IsCellOf to d j s c → is_needed to d (whole d now) s j ≡ true → in_subs then_ came_back c ≡ false
         → get_or then_ c (pos 0) ≡ default_at c
     absent_needed c j s lt h n none =
         let e = h.is in
         let same = same_sub j s e n in
-        let low = h.low in
-        let z : j ≡ 0 + j = omega arith in
+        let z : 0 + j ≡ j = omega arith in
         let still : is_needed to d (bare d then_) s j ≡ true = needed_same to well i d there j s e (whole d now) (bare d then_) same_own same ∙ n in
-        let comes_here : is_needed to d (bare d then_) s (0 + j) ≡ true = rw (← z) still in
-        let came = comes_at to d (bare d then_) d.subs 0 j s e ∙ ap (λ (b : Bool). Some (if b then Some s.desc.version else None)) comes_here in
+        let came = rw (z, still) at (comes_at to d (bare d then_) d.subs 0 j s e) in
         let here : in_sub s s.desc.version then_ j c ≡ false =
         part_apart to d then_ (λ xs. has_cell xs c ≡ false) (none_in_both c) (own_cells to d) d.subs came_back none j s s.desc.version e came in
-        let before : in_sub s s.desc.version now j c ≡ false =
-        ap (λ (xs : List Slot). has_cell xs c)
-        (sym (its_same to s.desc s.desc.version (part_place to d j) good.structs (good.subs i j d s there e) now then_ same)) ∙ here in
-        same.same c low h.high ∙ left c lt (its_above to d.desc d.desc.version 0 now c (omega (arith, sub_place_up to (own_cells to d) d.subs j)))
+        let before = rw (its_same to s.desc s.desc.version (part_place to d j) good.structs (good.subs i j d s there e) now then_ same) at here in
+        same.same c h.low h.high ∙ left c lt (its_above to d.desc d.desc.version 0 now c (omega (arith, sub_place_up to (own_cells to d) d.subs j)))
         (none_else c _ (λ j' s' v e' f. false_from_ne_true _ (other_part c j s h before j' s' v e' f)))
 
     absent : (c : ℕ) → c < length cells → has_cell (image_slots to d (image_of to d then_)) c ≡ false → get_or then_ c (pos 0) ≡ default_at c
@@ -159,20 +149,18 @@ module _ (to : Set) (well : WellFormed to) (heads : FitsHeads to) (i : ℕ) (d :
 
     -- ---- the image
 
-    pub back_normal : IsNormal to d image
-    back_normal = rw back.is (record {
-      version = (leb-true d.desc.minimum d.desc.version (device_parts to well i d there).0.own.1.1.0, omega arith);
-      subs = versions to d (bare d then_) 0 d.subs
-          (all_subs d.subs (λ j s e. leb-true s.desc.minimum s.desc.version (sub_clean to well i j d s there e).own.1.1.0));
-      cells = record { long = back.settled.long ∙ back.are_taken.long; fits = fits };
-      absent = λ c lt none. absent c (omega (arith, back.settled.long, back.are_taken.long)) none;
+    pub back_may : MayBeWritten to d image
+    back_may = rw back.is (record {
+      normal = record {
+        version = (leb-true d.desc.minimum d.desc.version (device_parts to well i d there).0.own.1.1.0, omega arith);
+        subs = versions to d (bare d then_) 0 d.subs
+            (all_subs d.subs (λ j s e. leb-true s.desc.minimum s.desc.version (sub_clean to well i j d s there e).own.1.1.0));
+        cells = record { long = back.settled.long ∙ back.are_taken.long; fits = fits };
+        absent = λ c lt none. absent c (omega (arith, back.settled.long, back.are_taken.long)) none;
+      };
+      version = refl;
+      needed = needed to d then_ (needed_from to d (bare d then_) 0 d.subs) 0 d.subs;
     })
-
-    pub back_comes : ComeAsNeeded to d image 0 d.subs image.came
-    back_comes = rw back.is (needed to d then_ (needed_from to d (bare d then_) 0 d.subs) 0 d.subs)
-
-    pub back_version : image.version ≡ d.desc.version
-    back_version = ap (λ (x : Image). x.version) back.is
 
 -- ---- A number may be given after others: the target keeps its kinds and its length.
 
@@ -225,45 +213,19 @@ module _ (partners : List (Option ℕ)) (numbers : List ℤ) where
   given_none (_ ∷ slots) now k h = given_none slots now k h
 
   module _ (once : (b c k : ℕ) → get_or partners b None ≡ Some k → get_or partners c None ≡ Some k → b ≡ c) where
-    -- target k has the number of cell c
-    abbrev Has : ℕ → ℕ → List ℤ → Type 0
-    Has k c now = get_or now k (pos 0) ≡ get_or numbers c (pos 0)
-
-    -- the partner of a cell that has its number keeps it
-    step_keeps : (c k b : ℕ) (now : List ℤ) → k < length now → get_or partners c None ≡ Some k → Has k c now → Has k c (next b now)
-    step_keeps c k b now lt e h = go (get_or partners b None) refl where
-      go : (o : Option ℕ) → get_or partners b None ≡ o → Has k c (give_partner (get_or numbers b (pos 0)) o now)
-      go None f = h
-      go (Some j) f = elim (cases_eq j k) [
-        | inl same ↦
-            let cells : b ≡ c = once b c k (f ∙ ap (λ (n : ℕ). Some n) same) e in
-            rw (same, cells) (get_or-set_same now k (get_or numbers c (pos 0)) (pos 0) lt)
-        | inr other ↦ get_or-set_other now j k (get_or numbers b (pos 0)) (pos 0) (λ same. other (sym same)) ∙ h
-      ]
-
-    next_long : (b : ℕ) (now : List ℤ) → length (next b now) ≡ length now
-    next_long b now = partner_long (get_or numbers b (pos 0)) (get_or partners b None) now
-
-    keeps_given : (slots : List Slot) (c k : ℕ) (now : List ℤ) → k < length now → get_or partners c None ≡ Some k → Has k c now → Has k c (gives slots now)
-    keeps_given [] c k now lt e h = h
-    keeps_given (Number b kind caps ∷ slots) c k now lt e h =
-        keeps_given slots c k (next b now) (omega (arith, next_long b now)) e (step_keeps c k b now lt e h)
-    keeps_given (_ ∷ slots) c k now lt e h = keeps_given slots c k now lt e h
-
-    -- a cell that is in the slots gives its number to its partner
-    pub given_some : (slots : List Slot) (c k : ℕ) (now : List ℤ) → k < length now → get_or partners c None ≡ Some k → has_cell slots c ≡ true
-        → Has k c (gives slots now)
-    given_some [] c k now lt e h = cc
-    given_some (Number b kind caps ∷ slots) c k now lt e h =
-        let less : k < length (next b now) = omega (arith, next_long b now) in
-        elim (or_split (b == c) (has_cell slots c) h) [
-          | inl f ↦
-              let same : b ≡ c = eqb-true b c f in
-              let put : Has k c (next c now) = rw e (get_or-set_same now k (get_or numbers c (pos 0)) (pos 0) lt) in
-              keeps_given slots c k (next b now) less e (rw same put)
-          | inr f ↦ given_some slots c k (next b now) less e f.1
+    -- the partner of a cell that is in the slots has the cell's number
+    pub given_at : (slots : List Slot) (c k : ℕ) (now : List ℤ) → k < length now → get_or partners c None ≡ Some k
+        → get_or (gives slots now) k (pos 0) ≡ (if has_cell slots c then get_or numbers c (pos 0) else get_or now k (pos 0))
+    given_at [] c k now lt e = refl
+    given_at (Number b kind caps ∷ slots) c k now lt e =
+        let z = get_or numbers c (pos 0) in
+        given_at slots c k (next b now) (omega (arith, partner_long (get_or numbers b (pos 0)) (get_or partners b None) now)) e ∙ elim (cases_eq b c) [
+          | inl same ↦
+              let put : get_or (next b now) k (pos 0) ≡ z = rw (same, e) (get_or-set_same now k z (pos 0) lt) in
+              rw (eq-eqb b c same, put) (elim (has_cell slots c) as (λ h. (if h then z else z) ≡ z) [ true ↦ refl | false ↦ refl ])
+          | inr other ↦ rw (ne_eqb b c other, partner_other (get_or numbers b (pos 0)) (get_or partners b None) now k (λ f. other (once b c k f e)))
         ]
-    given_some (_ ∷ slots) c k now lt e h = given_some slots c k now lt e h
+    given_at (_ ∷ slots) c k now lt e = given_at slots c k now lt e
 
 -- ---- a whole device
 
@@ -279,8 +241,8 @@ given_all old new d e image paired =
       long = gives_long partners image.numbers slots before ∙ long;
       taken = λ c k f h.
           let inside = (paired.kinds c k f).0 in
-          given_some partners image.numbers (λ b c' k' x y. paired.once b c' k' (at_get partners b k' x) (at_get partners c' k' y)) slots c k before
-          (omega arith) (get_or_from_slice_get partners c (Some k) None f) h;
+          rw h at (given_at partners image.numbers (λ b c' k' x y. paired.once b c' k' (at_get partners b k' x) (at_get partners c' k' y)) slots c k before
+          (omega arith) (get_or_from_slice_get partners c (Some k) None f));
       other = λ k lt none.
           given_none partners image.numbers slots before k (λ c f. none c (at_get partners c k f))
           ∙ get_or-map (λ (c : Cell). c.default) (device_cells new e) k no_cell;

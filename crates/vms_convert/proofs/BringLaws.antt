@@ -8,8 +8,7 @@ use Rattle.vms_spec.specs.declared.Part.TheVariants as parts
 use Rattle.vms_convert.proofs.TakeLaws.{all_came, first_slots, first_next, one_slots, all_taken, taken_next}
 use Rattle.vms_convert.proofs.Settling.{MarkedTo, all_marked, marked_next, marked_none, marked_skip, AreBare, SettledTo, all_settled, settled_bare}
 use Rattle.vms_convert.proofs.Settling.{settled_needed}
-use Rattle.vms_convert.proofs.Facade.{◌++◌}
-use Rattle.vms_convert.proofs.BackNormal.{gives, gives_more}
+use Rattle.vms_convert.proofs.BackNormal.{gives_more}
 
 module _ (set : Set) (i : ℕ) (lt : i < length set.devices) where
   abbrev d : Device
@@ -162,15 +161,11 @@ module _ (set : Set) (i : ℕ) (lt : i < length set.devices) (image : Image) (lo
   pub gave_sub : (before now next : List ℤ) (j : ℕ) → j < length dev.subs → now ≡ gives_to j before
       → next ≡ changed (give_step partners n) (steps_of (part_slots set i j image)) now → next ≡ gives_to (j + 1) before
   gave_sub before now next j less e f =
-      let s : suc j ≡ j + 1 = omega arith in
       let o = get_or image.came j None in
       let at : slice_get dev.subs j ≡ Some (sub_at dev j) = slice_get-get_or dev.subs j _ less in
       let at' : slice_get image.came j ≡ Some (get_or image.came j None) = slice_get-get_or image.came j None (omega arith) in
-      f ∙ ap (λ (l : List ℤ). gives partners n (part_slots set i j image) l) e
-      ∙ sym (gives_more partners n (first_slots set dev image.came j n) (part_slots set i j image) before)
-      ∙ ap (λ (l : List Slot). gives partners n (first_slots set dev image.came j n ++ l) before) (sym (one_is j o))
-      ∙ sym (ap (λ (l : List Slot). gives partners n l before) (first_next set dev image.came j (sub_at dev j) o n at at'))
-      ∙ ap (λ (k : ℕ). gives partners n (first_slots set dev image.came k n) before) s
+      let more = gives_more partners n (first_slots set dev image.came j n) (part_slots set i j image) before in
+      rw (add-one j, first_next set dev image.came j (sub_at dev j) o n at at', one_is j o, more, ← e) f
 
   pub gave_all : (before : List ℤ) (j : ℕ) → length dev.subs ≤ j → j ≤ length dev.subs
       → gives_to j before ≡ changed (give_step partners n) (steps_of (image_slots set dev image)) before

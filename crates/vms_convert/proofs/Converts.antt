@@ -1,14 +1,13 @@
 -- What is converted loads as the newer set's, and again.
-use Rattle.vms_convert.proofs.Facade.{subst}
-use Rattle.vms_convert.proofs.Facade.{◌≡◌, ℕ, ◌≤◌, true, false, ◌&&◌, List, [], ◌∷◌, length, get_or, Option, Some, refl, sym, ap, ◌∙◌, arith, ℤ, if◌then◌else◌}
-use Rattle.vms_convert.proofs.Facade.{◌<◌, map, slice_get_within, slice_get, get_or-map, length-map, Device, Set, Image, IsNormal, image_slots, AreReady}
-use Rattle.vms_convert.proofs.Facade.{longest_text, written, WellFormed, device_cells, Cell, no_cell, IsFit, same_lists, well_good, Compatible, carried}
-use Rattle.vms_convert.proofs.Facade.{carried_device, pair, back, all_in, upgrade_stands, recast_cells, recast_twice, AreBack, IsConverted, IsPairAt}
-use Rattle.vms_convert.proofs.Facade.{recast_each, OneBackLaw, BackLaw, AreRecastOf, ConvertsLaw, numbers_in, device_partners, recast, is_port, wants_arrays}
-use Rattle.vms_convert.proofs.Facade.{device_paired, U8, ArePartners, AreOfKinds, carried_stands, device_at, kinds_at, Typed, default_at, state_of, steps_of}
-use Rattle.vms_convert.proofs.Facade.{IsBack, Changes, AreTargets, give_step, AreSources, IsWholeStream}
+use Rattle.vms_convert.proofs.Facade.{subst, ◌≡◌, ℕ, ◌≤◌, true, false, ◌&&◌, List, [], ◌∷◌, length, get_or, Option, Some, refl, sym, ap, ◌∙◌, arith, ℤ}
+use Rattle.vms_convert.proofs.Facade.{if◌then◌else◌, ◌<◌, map, slice_get_within, slice_get, get_or-map, length-map, Device, Set, Image, IsNormal, image_slots}
+use Rattle.vms_convert.proofs.Facade.{AreReady, longest_text, written, WellFormed, device_cells, Cell, no_cell, IsFit, same_lists, well_good, Compatible}
+use Rattle.vms_convert.proofs.Facade.{carried, carried_device, pair, back, all_in, upgrade_stands, recast_cells, recast_twice, AreBack, IsConverted, IsPairAt}
+use Rattle.vms_convert.proofs.Facade.{recast_each, OneBackLaw, BackLaw, AreRecastOf, numbers_in, device_partners, recast, is_port, wants_arrays, device_paired}
+use Rattle.vms_convert.proofs.Facade.{U8, ArePartners, AreOfKinds, carried_stands, device_at, kinds_at, Typed, default_at, state_of, steps_of, IsBack, Changes}
+use Rattle.vms_convert.proofs.Facade.{AreTargets, give_step, AreSources, IsWholeStream}
 use Rattle.vms_convert.specs.Laws.{Converts}
-use Rattle.vms_convert.proofs.BackNormal.{back_normal, back_comes, back_version, at_get, gives, given_all, steps_long}
+use Rattle.vms_convert.proofs.BackNormal.{back_may, at_get, gives, given_all, steps_long}
 use Rattle.vms_convert.proofs.HasBack.{one_back}
 use Rattle.vms_convert.proofs.Settling.{back_versions, some_at}
 use Rattle.vms_convert.proofs.BringLaws.{there}
@@ -20,12 +19,8 @@ one_stands to fit i d there partners numbers x y p q =
 
 pub back_stands : BackLaw
 back_stands to new fit well i d e there numbers kinds image back =
-    let paired = device_paired to new fit.well well i d e there in
-    record {
-      normal = back_normal to fit.well fit.heads i d there (device_cells new e) (device_partners to new d e) paired numbers kinds image back;
-      version = back_version to fit.well fit.heads i d there (device_cells new e) (device_partners to new d e) paired numbers kinds image back;
-      needed = back_comes to fit.well fit.heads i d there (device_cells new e) (device_partners to new d e) paired numbers kinds image back;
-    }
+    back_may to fit.well fit.heads i d there (device_cells new e) (device_partners to new d e) (device_paired to new fit.well well i d e there) numbers kinds
+    image back
 
 -- ---- recast twice
 
@@ -85,8 +80,8 @@ module _ (to new : Set) (fit : IsFit to) (well : WellFormed new) (compatible : C
           };
     }
 
-    pub converts : Converts to new describe machine images bytes
-    converts =
+    pub converts_stand : Converts to new describe machine images bytes
+    converts_stand =
         let keeps = converted.keeps in
         let text = describe backs in
         let wanted_is : recast_each to new.devices (numbers_in (carried to new backs)) ≡ wanted =
@@ -107,10 +102,6 @@ module _ (to new : Set) (fit : IsFit to) (well : WellFormed new) (compatible : C
               let one = same_backs wanted backs again.backs converted.back (rw wanted_is at again.back) in
               again.is ∙ ap (λ (b : List Image). written to machine b (Some (describe b))) one ∙ sym converted.is;
         }
-
-pub converts_stand : ConvertsLaw
-converts_stand to new fit well compatible describe short machine images kinds bytes converted =
-    converts to new fit well compatible describe short machine images kinds bytes converted
 
 -- ---- One device brought to the older set and back.
 
@@ -193,10 +184,9 @@ module _ (to new : Set) (i k : ℕ) (source : List ℤ) (p : IsReturning to new 
           (changes : Changes (give_step partners image.numbers) (steps_of (image_slots to (device_at to i) (state_of image))) carried target) where
         pub given_long : length source ≡ length target.numbers
         given_long =
-            let cells = device_cells new e in
             let steps = steps_of (image_slots to d (state_of image)) in
-            p.kinds.long ∙ sym (length-map cells (λ (c : Cell). c.default)) ∙ sym (ap (λ (x : Typed). length x.numbers) fresh)
-            ∙ sym (steps_long partners image.numbers steps carried.numbers) ∙ sym (ap (λ (x : Typed). length x.numbers) changes)
+            rw (changes, steps_long partners image.numbers steps carried.numbers, fresh)
+            (omega (arith, p.kinds.long, length-map (device_cells new e) (λ (c : Cell). c.default)))
 
         pub given_is : target.numbers ≡ (carried_device to new d e (state_of image)).numbers
         given_is =

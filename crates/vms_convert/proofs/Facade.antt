@@ -3,9 +3,8 @@ pub use Rattle.std.proofs.Common.{Bool, Err, IfSome, List, None, Ok, Option, Res
 pub use Rattle.std.proofs.Common.{false, get_or, if◌then◌else◌, inl, inr, length, length-append, length-set, map, nat_lt, negsuc, not, pos, refl, replicate}
 pub use Rattle.std.proofs.Common.{rules, slice_set, subst, suc, sym, take, true, zero, ℕ, ℤ, ◌&&◌, ◌*◌, ◌++◌, ◌+◌, ◌-◌, ◌<◌, ◌==◌, ◌∙◌, ◌∷◌, ◌≡◌, ◌≤◌, ◌⊎◌}
 pub use Rattle.std.proofs.Math.ListN.{get_or-map}
-pub use Rattle.std.proofs.Math.Seq.{get_or-append_seam, take-length}
-pub use Rattle.std.proofs.lemmas.Bool.{and_parts, cases_eq, cases_lt, eq-eqb, eqb-true, false_from_ne_true, leb-true, ltb-false, ltb-true, ne_eqb, not-false}
-pub use Rattle.std.proofs.lemmas.Bool.{or_parts}
+pub use Rattle.std.proofs.Math.Seq.{get_or-append_seam}
+pub use Rattle.std.proofs.lemmas.Bool.{and_parts, cases_eq, cases_lt, eq-eqb, false_from_ne_true, leb-true, ltb-false, ltb-true, ne_eqb, not-false, or_parts}
 pub use Rattle.std.proofs.lemmas.Int.{to_z-of_z}
 pub use Rattle.std.proofs.lemmas.List.{append-nil, drop_all, drop_more, ext_get_or, get_or-set_other, get_or-set_same, get_or_append_left, get_or_default}
 pub use Rattle.std.proofs.lemmas.List.{length-map, map-append, replicate-append-replicate, take_all, take_more_set, with_items_is}
@@ -45,7 +44,7 @@ pub use Rattle.vms_spec.specs.Sets.{And, AtLeast, Below, Desc, Device, Field, Fo
 pub use Rattle.vms_spec.specs.Shipped.{divider, divisor, fcr, fifo, i8254_at_1, i8254_at_2, i8259_at_4, never, ring, serial, serial_fields, set_1, set_2, set_4}
 pub use Rattle.vms_spec.specs.Shipped.{thr_ipending, timeout, timer}
 pub use Rattle.vms_spec.specs.Sound.{AreSound, AreSoundFields, IsEarlier, IsSound, IsSoundField}
-pub use Rattle.vms_spec.specs.Streams.{AreReady, ComeAsNeeded, IsReady, is_needed, is_one_of, longest_text, written}
+pub use Rattle.vms_spec.specs.Streams.{AreReady, IsReady, is_needed, is_one_of, longest_text, written}
 pub use Rattle.vms_spec.specs.Tests.{compares, is_there, truth}
 pub use Rattle.vms_spec.specs.WellFormed.{WellFormed, first_fault, here}
 pub use Rattle.vms_spec.specs.declared.Count.TheVariants.{Counted, One}
@@ -64,6 +63,7 @@ pub use Rattle.vms_bodies.proofs.SettledLaws.{SameIn, cells_in, in_less, own_in}
 pub use Rattle.vms_bodies.proofs.Stated.{shipped_holds}
 pub use Rattle.vms_bodies.proofs.WalkLaws.{drop_next, place_first, zero_plus}
 pub use Rattle.vms_bodies.specs.Cells.{AreCells}
+pub use Rattle.vms_stream.specs.StreamLaws.{IsWholeStream}
 pub use Rattle.vms_check.proofs.ListLaws.{passes}
 pub use Rattle.vms_check.proofs.WholeLaws.{sub_in}
 pub use Rattle.vms_check.specs.Carrying.{carried_at, carried_device, no_image}
@@ -71,16 +71,14 @@ unfoldable pub use Rattle.vms_check.specs.Carrying.{carried}
 pub use Rattle.vms_check.specs.Comparing.{Compatible, Entry, entry_of, is_absent, is_found, is_in, is_nothing, present, present_from}
 pub use Rattle.vms_check.specs.Partners.{Pairer, array_partners, desc_partners, field_partners, fields_left, item_partners, named_partners, no_pairer}
 pub use Rattle.vms_check.specs.Partners.{pairer_of, partners_from, unpaired}
-pub use Rattle.vms_stream.specs.StreamLaws.{IsWholeStream}
 unfoldable pub use Rattle.vms_check.specs.Partners.{device_partners}
-pub use Rattle.vms_check.specs.Partners.{sub_partners}
 pub use Rattle.vms_check.specs.Reducing.{presence}
 pub use Rattle.vms_check.specs.Sides.{IsSide, desc_on, own_side}
 pub use Rattle.vms_check.specs.declared.side.Side.{Side}
 pub use Rattle.vms_check_laws.proofs.GoesDevices.{carried_stands}
 pub use Rattle.vms_check_laws.proofs.PairDevices.{device_paired, struct_is}
-pub use Rattle.vms_check_laws.proofs.Streaming.{Pair, all_in, back, found_device, found_some, pair, upgrade_stands}
-pub use Rattle.vms_check_laws.proofs.SubParts.{one_number, one_part, or_split, own_or_sub}
+pub use Rattle.vms_check_laws.proofs.Streaming.{all_in, back, found_device, found_some, pair, upgrade_stands}
+pub use Rattle.vms_check_laws.proofs.SubParts.{one_number, one_part, own_or_sub}
 pub use Rattle.vms_check_laws.proofs.Wholes.{at_map}
 pub use Rattle.vms_check_laws.specs.Carried.{IsAtVersions, IsCarried}
 pub use Rattle.vms_check_laws.specs.Pairing.{AreOfKinds, ArePartners}
@@ -91,7 +89,7 @@ pub use Rattle.vms_convert.specs.Calls.{Converts, ConvertsInto, ConvertsKept, Is
 pub use Rattle.vms_convert.specs.Changes.{Changes, changed, changed_append}
 pub use Rattle.vms_convert.specs.Converted.{AreBack, IsConverted, IsPairAt, recast_each}
 pub use Rattle.vms_convert.specs.Giving.{AreTargets, give_partner, give_step}
-pub use Rattle.vms_convert.specs.Laws.{AnswerLaw, AreRecastOf, BackLaw, ComesBack, ComesBackLaw, ConvertsLaw, OneBackLaw, OneLostLaw, RecastOfLaw}
+pub use Rattle.vms_convert.specs.Laws.{AnswerLaw, AreRecastOf, BackLaw, ComesBackLaw, MayBeWritten, OneBackLaw, OneLostLaw, RecastOfLaw}
 pub use Rattle.vms_convert.specs.Losing.{AreWritable, FirstInvalid, Judges, KeepsMachine, KeepsName, first_cell_at, first_of, stream_of}
 pub use Rattle.vms_convert.specs.Lost.{DifferAt, IsValidAt, KeepsAll, Loses, OfCell, OfDevice, OfMachine, first_cell, numbers_in}
 pub use Rattle.vms_convert.specs.Partnering.{AreArrays, HasFew, HasRoom, IsBehind, IsNextStart, IsStart, PairsElement, PairsField, array_on, arrays_on}
@@ -129,7 +127,7 @@ pub use Rattle.vms_load.proofs.SetFacts.{well_of}
 pub use Rattle.vms_load.specs.Going.{LoadReads}
 pub use Rattle.vms_load.specs.Good.{AreKept}
 pub use Rattle.vms_load.specs.Lean.{has, loads}
-pub use Rattle.vms_load.specs.Staging.{IsMachine, name_of}
+pub use Rattle.vms_load.specs.Staging.{name_of}
 pub use Rattle.vms_load.specs.declared.fault.LoadFault.{LoadFault}
 pub use Rattle.vms_parts.specs.Capacities.{least_of}
 pub use Rattle.vms_parts.specs.Sizes.{in_u32}
@@ -139,7 +137,6 @@ pub use Rattle.vms_walk.proofs.Least.{exceeds_least}
 pub use Rattle.vms_walk.proofs.Local.{has_step_of}
 pub use Rattle.vms_walk.specs.Inside.{Keeps}
 pub use Rattle.vms_walk.specs.Steps.{HasSpot, capacities_of, spot_slots, step_of, steps_of}
-pub use Rattle.vms_walk.specs.declared.fields.PartAt.{PartAt}
 pub use Rattle.vms_walk.specs.declared.step.WalkStep.{WalkStep}
 pub use Rattle.dev_base.specs.Cells.{AreOf}
 pub use Rattle.dev_base.specs.declared.limits.TheConstants.{NEWEST}

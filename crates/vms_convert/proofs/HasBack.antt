@@ -1,16 +1,15 @@
 -- Which cells are in the bytes is known, cell by cell, from the numbers before: tests and counts name only earlier
 -- fields.
-use Rattle.vms_convert.proofs.Facade.{◌≡◌, ℕ, zero, suc, ◌+◌, ◌<◌, ◌≤◌, List, [], ◌∷◌, ◌++◌, length, get_or, drop, Option, Some, None, ℤ, refl, sym, ap, ◌∙◌}
-use Rattle.vms_convert.proofs.Facade.{arith, Bool, true, false, if◌then◌else◌, ◌-◌, length-append, length-set, map, slice_set, pos, subst, inl, inr, slice_get}
-use Rattle.vms_convert.proofs.Facade.{flat_map, get_or-set_other, get_or-set_same, length-map, ext_get_or, slice_get-get_or, cases_lt, Item, Struct, Field}
-use Rattle.vms_convert.proofs.Facade.{Desc, Sub, Device, Set, AtLeast, is_there, Slot, Meaning, no_meaning, no_desc, item_slots, item_size, times, field_slots}
-use Rattle.vms_convert.proofs.Facade.{slots_from, desc_slots, desc_cells, struct_cells, field_cells, place_of, numbers_of, elements_of, counted, no_parent}
-use Rattle.vms_convert.proofs.Facade.{first, meaning, meanings, Cell, no_cell, device_cells, has_cell, own_cells, came_slots, image_slots, Image, one_more}
-use Rattle.vms_convert.proofs.Facade.{IsSound, AreSound, IsSoundField, AreSoundFields, IsEarlier, names_append, SameBelow, there_same, elements_same}
-use Rattle.vms_convert.proofs.Facade.{place_next, MeanAbove, meanings_above, field_above, SameIn, in_less, own_in, cells_in, drop_next, place_first, zero_plus}
-use Rattle.vms_convert.proofs.Facade.{is_needed, WellFormed, well_good, part_place, sub_size, sub_at, sub_within, bare, image_of, AreSettled, AreTaken, taken}
-use Rattle.vms_convert.proofs.Facade.{whole, IsBack, ComesBackLaw, own_or_sub}
-use Rattle.vms_convert.proofs.Settling.{AreBare, SettledTo, all_settled, by_last, settled_bare, settled_needed, settled_none}
+use Rattle.vms_convert.proofs.Facade.{get_or_append_left, get_or_from_slice_get, slice_get_within, ◌≡◌, ℕ, zero, suc, ◌+◌, ◌<◌, ◌≤◌, List, [], ◌∷◌, ◌++◌}
+use Rattle.vms_convert.proofs.Facade.{length, get_or, drop, Option, Some, None, ℤ, refl, sym, ap, ◌∙◌, arith, Bool, true, false, if◌then◌else◌, length-append}
+use Rattle.vms_convert.proofs.Facade.{map, pos, inl, inr, slice_get, ext_get_or, slice_get-get_or, cases_lt, IsCellOf, one_part, Item, Struct, Field, Desc, Sub}
+use Rattle.vms_convert.proofs.Facade.{Device, Set, is_there, Slot, Meaning, no_meaning, no_desc, item_slots, item_size, times, field_slots, slots_from}
+use Rattle.vms_convert.proofs.Facade.{desc_slots, desc_cells, struct_cells, field_cells, place_of, numbers_of, elements_of, counted, no_parent, first, meaning}
+use Rattle.vms_convert.proofs.Facade.{meanings, Cell, no_cell, device_cells, has_cell, own_cells, came_slots, image_slots, Image, one_more, IsSound, AreSound}
+use Rattle.vms_convert.proofs.Facade.{IsSoundField, AreSoundFields, IsEarlier, names_append, SameBelow, there_same, elements_same, place_next, MeanAbove}
+use Rattle.vms_convert.proofs.Facade.{meanings_above, field_above, SameIn, in_less, own_in, cells_in, drop_next, place_first, zero_plus, is_needed, well_good}
+use Rattle.vms_convert.proofs.Facade.{sub_within, image_of, AreSettled, AreTaken, taken, whole, IsBack, ComesBackLaw, own_or_sub}
+use Rattle.vms_convert.proofs.Settling.{by_last}
 
 -- both have slot c, or neither has it
 pub record Alike (c : ℕ) (xs us : List Slot) : Type 0 where
@@ -137,11 +136,41 @@ module _ (set : Set) (structs : AreSound set.structs) where
       (image_slots set d (record { version = v; came = came; numbers = n })) c
   image_known d own sound v came c n m s = (either_part (part_known d.desc own v 0 c n m s) (came_known d (own_cells set d) c n m d.subs came sound s)).is
 
--- ---- Something comes back of any numbers.
+-- ---- Lists that are made item by item.
 
 -- one more index
 pub extend : (P : ℕ → Type 0) (n : ℕ) → ((i : ℕ) → i < n → P i) → P n → (i : ℕ) → i < suc n → P i
-extend P n f h i lt = by_last i n lt (f i) (λ same. subst P (sym same) h)
+extend P n f h i lt = by_last i n lt (f i) (λ same. rw same h)
+
+at_more : {A : Type 0} (xs : List A) (x : A) (i : ℕ) (y : A) → slice_get (xs ++ x ∷ []) i ≡ Some y → (slice_get xs i ≡ Some y) ⊎ ((i ≡ length xs) × (x ≡ y))
+at_more [] x zero y e = inr (refl, cc)
+at_more [] x (suc i) y e = cc
+at_more (z ∷ xs) x zero y e = inl e
+at_more (z ∷ xs) x (suc i) y e = elim (at_more xs x i y e) [ inl h ↦ inl h | inr h ↦ inr (ap suc h.0, h.1) ]
+
+-- what holds of all items holds with one more
+pub appended : {A : Type 0} (P : ℕ → A → Type 0) (xs : List A) (x : A) (n : ℕ) → length xs ≡ n → ((i : ℕ) (y : A) → slice_get xs i ≡ Some y → P i y) → P n x
+    → (i : ℕ) (y : A) → slice_get (xs ++ x ∷ []) i ≡ Some y → P i y
+appended P xs x n long each here i y e = elim (at_more xs x i y e) [ inl at ↦ each i y at | inr r ↦ rw (r.0, ← r.1, long) here ]
+
+pub record Made {A : Type 0} (P : List A → ℕ → A → Type 0) (n : ℕ) : Type 0 where
+  pub list : List A
+  pub long : length list ≡ n
+  pub each : (i : ℕ) (x : A) → slice_get list i ≡ Some x → P list i x
+
+-- what holds of an item may depend on those before it
+pub made : {A : Type 0} (P : List A → ℕ → A → Type 0) (n : ℕ) → ((xs : List A) (x : A) (i : ℕ) (y : A) → i < length xs → P xs i y → P (xs ++ x ∷ []) i y)
+    → ((xs : List A) → length xs < n → (x : A) × P (xs ++ x ∷ []) (length xs) x) → (k : ℕ) → k ≤ n → Made P k
+made P n stays next zero le = record { list = []; long = refl; each = λ i x e. absurd (cc) }
+made P n stays next (suc k) le =
+    let h = made P n stays next k (omega arith) in
+    let x = next h.list (omega (arith, h.long)) in
+    record {
+      list = h.list ++ x.0 ∷ [];
+      long = omega (arith, length-append h.list (x.0 ∷ []), h.long);
+      each = appended (P (h.list ++ x.0 ∷ [])) h.list x.0 (length h.list) refl
+          (λ i y at. stays h.list x.0 i y (slice_get_within h.list i y at) (h.each i y at)) x.1;
+    }
 
 -- ---- what is taken, cell by cell
 
@@ -154,104 +183,61 @@ module _ (to : Set) (structs : AreSound to.structs) (d : Device) (own : IsSound 
   takes_same : (c : ℕ) (n m : List ℤ) → SameBelow c n m → takes m c ≡ takes n c
   takes_same c n m s = rw (image_known to structs d own subs d.desc.version (map (λ s. Some s.desc.version) d.subs) c n m s)
 
-  -- the first k cells have taken theirs
-  record Took (k : ℕ) (now : List ℤ) : Type 0 where
-    long : length now ≡ length (device_cells to d)
-    each : (c : ℕ) → c < k → get_or now c (pos 0) ≡ takes now c
-
-  took_next : (k : ℕ) (now : List ℤ) → k < length (device_cells to d) → Took k now → Took (suc k) (slice_set now k (takes now k))
-  took_next k now lt h =
-      let z = takes now k in
-      let next = slice_set now k z in
-      let long = h.long in
-      let still : (c : ℕ) → c < k → get_or next c (pos 0) ≡ get_or now c (pos 0) =
-      λ c less. get_or-set_other now k c z (pos 0) (λ same. absurd (omega arith)) in
-      let below : (c : ℕ) → c ≤ k → SameBelow c now next = λ c le. record { same = λ b less. still b (omega arith) } in
-      record {
-        long = length-set now k z ∙ long;
-        each = extend (λ (c : ℕ). get_or next c (pos 0) ≡ takes next c) k
-            (λ c less. still c less ∙ h.each c less ∙ sym (takes_same c now next (below c (omega arith))))
-            (get_or-set_same now k z (pos 0) (omega (arith, long)) ∙ sym (takes_same k now next (below k (omega arith))));
-      }
-
-  took_to : (k : ℕ) → k ≤ length (device_cells to d) → (now : List ℤ) × Took k now
-  took_to zero le = (
-    map (λ c. c.default) (device_cells to d),
-    record { long = length-map (device_cells to d) (λ (c : Cell). c.default); each = λ c lt. absurd (omega arith) },
-  )
-  took_to (suc k) le =
-      let h = took_to k (omega arith) in
-      (slice_set h.0 k (takes h.0 k), took_next k h.0 (omega arith) h.1)
+  -- one more number changes none before it
+  same_front : (now : List ℤ) (z : ℤ) (c : ℕ) → c ≤ length now → SameBelow c now (now ++ z ∷ [])
+  same_front now z c le = record { same = λ b lt. get_or_append_left now (z ∷ []) (pos 0) b (omega arith) }
 
   pub has_taken : (now : List ℤ) × AreTaken to d partners numbers now
   has_taken =
-      let h = took_to (length (device_cells to d)) (omega arith) in (h.0, record { long = h.1.long; each = h.1.each })
+      let n = length (device_cells to d) in
+      let h = made {A = ℤ} (λ now c z. z ≡ takes now c) n (λ now x c z lt e. e ∙ sym (takes_same c now (now ++ x ∷ []) (same_front now x c (omega arith))))
+      (λ now lt. (takes now (length now), sym (takes_same (length now) now _ (same_front now _ (length now) (omega arith))))) n (omega arith) in
+      (h.list, record { long = h.long; each = λ c lt. h.each c _ (slice_get-get_or h.list c (pos 0) (omega (arith, h.long))) })
 
--- ---- what is settled, subsection by subsection
+-- ---- what is settled, cell by cell
 
--- n cells from one on at their defaults
-defaults_put : List Cell → List ℤ → (first n : ℕ) → List ℤ
-defaults_put cells now first zero = now
-defaults_put cells now first (suc n) = slice_set (defaults_put cells now first n) (first + n) (get_or cells (first + n) no_cell).default
+module _ (set : Set) (d : Device) (before : List ℤ) where
+  abbrev settled : ℕ → ℕ → Sub → ℤ
+  settled c j s = if is_needed set d (whole d before) s j then get_or before c (pos 0) else (get_or (device_cells set d) c no_cell).default
 
-record PutTo (cells : List Cell) (first n : ℕ) (before now : List ℤ) : Type 0 where
-  long : length now ≡ length before
-  inside : (k : ℕ) → k < n → get_or now (first + k) (pos 0) ≡ (get_or cells (first + k) no_cell).default
-  other : (c : ℕ) → ((k : ℕ) → k < n → c ≡ first + k → ⊥) → get_or now c (pos 0) ≡ get_or before c (pos 0)
+  record SettledAt (c : ℕ) (z : ℤ) : Type 0 where
+    own : c < own_cells set d → z ≡ get_or before c (pos 0)
+    subs : (j : ℕ) (s : Sub) → IsCellOf set d j s c → z ≡ settled c j s
 
-put_to : (cells : List Cell) (first n : ℕ) (before : List ℤ) → first + n ≤ length before → PutTo cells first n before (defaults_put cells before first n)
-unfolding defaults_put
-put_to cells first zero before le = record { long = refl; inside = λ k lt. absurd (omega arith); other = λ c h. refl }
-put_to cells first (suc n) before le =
-    let h = put_to cells first n before (omega arith) in
-    let now = defaults_put cells before first n in
-    let z = (get_or cells (first + n) no_cell).default in
-    let long = h.long in
-    record {
-      long = length-set now (first + n) z ∙ long;
-      inside = extend (λ (k : ℕ). get_or (slice_set now (first + n) z) (first + k) (pos 0) ≡ (get_or cells (first + k) no_cell).default) n
-          (λ k lt. get_or-set_other now (first + n) (first + k) z (pos 0) (λ same. absurd (omega arith)) ∙ h.inside k lt)
-          (get_or-set_same now (first + n) z (pos 0) (omega (arith, long)));
-      other = λ c none. get_or-set_other now (first + n) c z (pos 0) (λ same. none n (omega arith) same) ∙ h.other c (λ k lt same. none k (omega arith) same);
-    }
+  settled_at : (c : ℕ) → c < length (device_cells set d) → (z : ℤ) × SettledAt c z
+  settled_at c lt = elim (own_or_sub set d c lt) [
+    | inl own ↦ (
+      get_or before c (pos 0),
+      record { own = λ lt. refl; subs = λ j s h. absurd (omega (arith, sub_place_up set (own_cells set d) d.subs j)) },
+    )
+    | inr h ↦ (
+      settled c h.0 h.1,
+      record {
+        own = λ lt. absurd (omega (arith, h.2.low, sub_place_up set (own_cells set d) d.subs h.0));
+        subs = λ j s x.
+            let same : h.0 ≡ j = one_part set (own_cells set d) d.subs h.0 j c h.1 s h.2.is x.is h.2.low h.2.high x.low x.high in
+            let sub : h.1 ≡ s = cc (h.2.is, x.is) in rw (same, sub);
+      },
+    )
+  ]
 
-module _ (set : Set) (well : WellFormed set) (i : ℕ) (d : Device) (there : slice_get set.devices i ≡ Some d) (before : List ℤ)
-    (long : length before ≡ length (device_cells set d)) where
-  settle_next : (j : ℕ) (s : Sub) → slice_get d.subs j ≡ Some s → part_place set d j + sub_size set s ≤ length (device_cells set d) → (now : List ℤ)
-      → SettledTo set d j before now → (b : Bool) → is_needed set d (bare d now) s j ≡ b → (next : List ℤ) × SettledTo set d (suc j) before next
-  settle_next j s e end now h true n = (now, settled_needed set well i d there before now j s e h n)
-  settle_next j s e end now h false n =
-      let first = part_place set d j in
-      let size = sub_size set s in
-      let cells = device_cells set d in
-      let next = defaults_put cells now first size in
-      let put = put_to cells first size now (omega (arith, long)) in
-      let bare : AreBare set d j s now next = record {
-        long = put.long;
-        inside = λ c x.
-            let at : first + (c - first) ≡ c = omega arith in
-            subst (λ (k : ℕ). get_or next k (pos 0) ≡ (get_or cells k no_cell).default) at (put.inside (c - first) (omega arith));
-        below = λ c lt. put.other c (λ k less is. absurd (omega (arith, is)));
-        above = λ c le. put.other c (λ k less is. absurd (omega (arith, is)));
-      } in
-      (next, settled_bare set well i d there before now next j s e h n bare)
+  cell_inside : (j : ℕ) (s : Sub) (c : ℕ) → IsCellOf set d j s c → c < length (device_cells set d)
+  cell_inside j s c x =
+      let within = rw (get_or_from_slice_get d.subs j s s x.is) at (sub_within set (own_cells set d) d.subs j s (slice_get_within d.subs j s x.is)) in
+      omega (arith, length-append {A = Cell})
 
-  settle_to : (j : ℕ) → j ≤ length d.subs → (now : List ℤ) × SettledTo set d j before now
-  settle_to zero le = (before, settled_none set d before)
-  settle_to (suc j) le =
-      let h = settle_to j (omega arith) in
-      let s = sub_at d j in
-      let cells = desc_cells (struct_cells set) d.desc in
-      let others = flat_map (λ (s : Sub). desc_cells (struct_cells set) s.desc) d.subs in
-      let end : part_place set d j + sub_size set s ≤ length (device_cells set d) =
-      omega (arith, length-append cells others, sub_within set (own_cells set d) d.subs j (record { desc = no_desc; needed = AtLeast 0 }) (omega arith)) in
-      settle_next j s (slice_get-get_or d.subs j (record { desc = no_desc; needed = AtLeast 0 }) (omega arith)) end h.0 h.1
-      (is_needed set d (bare d h.0) s j) refl
-
-  pub has_settled : (now : List ℤ) × AreSettled set d before now
-  has_settled =
-      let h = settle_to (length d.subs) (omega arith) in
-      (h.0, all_settled set well i d there before h.0 (length d.subs) refl h.1)
+  pub has_settled : length before ≡ length (device_cells set d) → (now : List ℤ) × AreSettled set d before now
+  has_settled long =
+      let n = length (device_cells set d) in
+      let h = made {A = ℤ} (λ now c z. SettledAt c z) n (λ now x c z lt p. p) (λ now lt. settled_at (length now) lt) n (omega arith) in
+      let at : (c : ℕ) → c < n → SettledAt c (get_or h.list c (pos 0)) = λ c lt. h.each c _ (slice_get-get_or h.list c (pos 0) (omega (arith, h.long))) in (
+        h.list,
+        record {
+          long = h.long ∙ sym long;
+          own = λ c lt. (at c (omega (arith, length-append {A = Cell}))).own lt;
+          subs = λ j s c x. (at c (cell_inside j s c x)).subs j s x;
+        },
+      )
 
 -- ---- an image
 
@@ -259,7 +245,7 @@ pub has_back : ComesBackLaw
 has_back to fit i d there partners numbers =
     let good = well_good to fit.well fit.heads in
     let now = has_taken to good.structs d (good.devices i d there) (λ j s e. good.subs i j d s there e) partners numbers in
-    let settled = has_settled to fit.well i d there now.0 now.1.long in
+    let settled = has_settled to d now.0 now.1.long in
     record { image = image_of to d settled.0; is_back = record { now = now.0; are_taken = now.1; settled = settled.1; is = refl } }
 
 -- ---- There is one way back.

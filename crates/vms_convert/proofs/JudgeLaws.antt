@@ -1,10 +1,10 @@
 -- What was found of the devices, as the relations say it.
-use Rattle.vms_convert.proofs.Facade.{◌≡◌, ℕ, ◌<◌, Bool, true, false, List, [], ◌∷◌, length, get_or, map, Option, Some, None, Result, Ok, Err, ℤ, refl, sym, ap}
-use Rattle.vms_convert.proofs.Facade.{◌∙◌, subst, arith, length-map, slice_get-get_or, slice_get_within, slice_get, OnFalse, OnTrue, IsFit, Device, Set, Image}
-use Rattle.vms_convert.proofs.Facade.{Cell, device_cells, find_device, set_4, AreReady, IsReady, is_one_of, WellFormed, device_at, IsNameAt, device_is, Typed}
-use Rattle.vms_convert.proofs.Facade.{state_of, shipped_holds, AreKept, name_of, device_below, image_at, carried, Compatible, AreOfKinds, back, pair, all_in}
-use Rattle.vms_convert.proofs.Facade.{AreBack, IsPairAt, recast_each, AreWritable, FirstInvalid, Judges, KeepsMachine, KeepsName, first_cell_at, first_of}
-use Rattle.vms_convert.proofs.Facade.{IsValidAt, Loses, OfDevice, OfMachine, first_cell, numbers_in, AreReturned, AreReturnedTo, IsFirstLost, Loss, LostCell}
+use Rattle.vms_convert.proofs.Facade.{◌≡◌, ℕ, ◌<◌, Bool, true, false, List, [], ◌∷◌, length, get_or, map, Option, Some, None, Result, Ok, Err, ℤ, refl, sym}
+use Rattle.vms_convert.proofs.Facade.{◌∙◌, arith, length-map, slice_get-get_or, slice_get_within, slice_get, OnFalse, OnTrue, IsFit, Device, Set, Image, Cell}
+use Rattle.vms_convert.proofs.Facade.{device_cells, find_device, set_4, AreReady, IsReady, WellFormed, device_at, IsNameAt, device_is, Typed, state_of}
+use Rattle.vms_convert.proofs.Facade.{shipped_holds, AreKept, name_of, device_below, image_at, carried, Compatible, AreOfKinds, back, pair, all_in, AreBack}
+use Rattle.vms_convert.proofs.Facade.{recast_each, AreWritable, FirstInvalid, Judges, KeepsMachine, KeepsName, first_cell_at, first_of, IsValidAt, Loses}
+use Rattle.vms_convert.proofs.Facade.{OfDevice, OfMachine, first_cell, numbers_in, AreReturned, AreReturnedTo, IsFirstLost, Loss, LostCell}
 use Rattle.vms_convert.proofs.Converts.{back_stands}
 use Rattle.vms_convert.proofs.LostLaws.{all_carried, cell_lost, no_device}
 use Rattle.vms_convert.proofs.RecastLaws.{newest_kinds, recast_long}
@@ -23,8 +23,7 @@ module _ (to new : Set) (wanted : List (List ℤ)) (images : List Typed) (lost :
     each = λ i k d e image p at.
         let d_is = device_is to i d p.in_old in
         let e_is = device_is new k e p.in_new in
-        let there : IsPairAt to new i k (device_at to i) (device_at new k) = rw (d_is, e_is) p in
-        rw (← d_is, ← e_is) (returned.back i k image there at);
+        rw (← d_is, ← e_is) (returned.back i k image (rw (d_is, e_is) p) at);
   }
 
   module _ (fit : IsFit to) (well : WellFormed new) (compatible : Compatible to new)
@@ -71,11 +70,9 @@ module _ (to new : Set) (images : List Typed) (writable : AreWritable to images)
       → slice_get all i ≡ Some (state_of image) → IsReady to (device_at to i) (state_of image) → IsValidAt to new all k
   valid_of i image found at ready j d e back in_new found' in_old at' =
       let e_is = device_is new k e in_new in
-      let same : Some i ≡ Some j = sym found ∙ ap (λ (x : Device). find_device 0 to.devices x.desc.name x.instance) e_is ∙ found' in
-      let number : i ≡ j = cc in
-      let image_is : Some (state_of image) ≡ Some back = sym at ∙ ap (λ (n : ℕ). slice_get all n) number ∙ at' in
-      let back_is : state_of image ≡ back = cc in
-      let d_is : device_at to i ≡ d = ap (λ (n : ℕ). device_at to n) number ∙ device_is to j d in_old in
+      let number : i ≡ j = cc (found, rw (← e_is) at found') in
+      let back_is : state_of image ≡ back = cc (at, at') in
+      let d_is : device_at to i ≡ d = rw number (device_is to j d in_old) in
       rw (← d_is, ← back_is) ready.valid
 
   pub invalid_of : (i : ℕ) (image : Typed) → k < length new.devices → find_device 0 to.devices (device_at new k).desc.name (device_at new k).instance ≡ Some i
@@ -91,10 +88,7 @@ module _ (to new : Set) (images : List Typed) (writable : AreWritable to images)
       })
 
   pub valid_none : find_device 0 to.devices (device_at new k).desc.name (device_at new k).instance ≡ None → IsValidAt to new all k
-  valid_none none j d e back in_new found in_old at =
-      let e_is = device_is new k e in_new in
-      let same : None ≡ Some j = sym none ∙ ap (λ (x : Device). find_device 0 to.devices x.desc.name x.instance) e_is ∙ found in
-      absurd (cc)
+  valid_none none j d e back in_new found in_old at = let e_is = device_is new k e in_new in cc (none, rw (← e_is) at found)
 
 -- ---- all together
 
@@ -111,11 +105,11 @@ module _ (to new : Set) (name : Option (List ℕ)) (wanted there : List (List �
 pub keeps_machine : (to new : Set) (names : List (List ℕ)) (name : List ℕ) (k own : ℕ) → names ≡ to.machines → name ≡ get_or new.machines k []
     → IsNameAt names name (Some own) → KeepsName to (name_of new (Some k)) (Some own)
 keeps_machine to new names name k own names_are name_is h =
-    let inside : own < length to.machines = subst (λ (l : List (List ℕ)). own < length l) names_are h.1 in
-    let at : slice_get to.machines own ≡ Some (get_or new.machines k []) =
-    ap (λ (l : List (List ℕ)). slice_get l own) (sym names_are) ∙ slice_get-get_or names own [] h.1 ∙ ap (λ (n : List ℕ). Some n) (h.2 ∙ name_is) in
-    let one = ap (λ (l : List (List ℕ)). is_one_of l (get_or new.machines k [])) (sym names_are) ∙ ap (is_one_of names) (sym name_is) ∙ h.0 in
-    record { is = at; inside = inside; one = one }
+    record {
+      is = rw (← names_are, ← name_is, ← h.2) (slice_get-get_or names own [] h.1);
+      inside = rw (← names_are) h.1;
+      one = rw (← names_are, ← name_is) h.0;
+    }
 
 -- ---- the answer, of what comes back of the images that a loader of the newest set keeps
 

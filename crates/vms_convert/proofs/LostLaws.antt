@@ -1,10 +1,10 @@
 -- What is lost first, from what is found of each of the older set's devices.
-use Rattle.vms_convert.proofs.Facade.{◌≡◌, ℕ, ◌+◌, ◌<◌, ◌≤◌, Bool, true, false, nat_lt, List, [], ◌∷◌, ◌++◌, length, get_or, map, Option, Some, None, ℤ, refl}
-use Rattle.vms_convert.proofs.Facade.{sym, ap, ◌∙◌, subst, arith, if◌then◌else◌, get_or-append_seam, ltb-true, ltb-false, get_or_append_left, get_or_default}
-use Rattle.vms_convert.proofs.Facade.{length-map, get_or_from_slice_get, slice_get-get_or, slice_get_within, slice_get, back, Device, Set, Image, find_device}
-use Rattle.vms_convert.proofs.Facade.{index, WellFormed, here, device_found, device_at, device_is, carried, carried_at, carried_device, no_image, Compatible}
-use Rattle.vms_convert.proofs.Facade.{is_found, is_in, passes, found_device, found_some, pair, all_in, answers_none, at_map, DifferAt, Loses, OfCell}
-use Rattle.vms_convert.proofs.Facade.{numbers_in, FirstDifference, ArePaired, IsFirstLost, IsLostCell, carried_of, LostCell}
+use Rattle.vms_convert.proofs.Facade.{◌≡◌, ℕ, ◌+◌, ◌<◌, Bool, true, false, nat_lt, List, [], ◌∷◌, ◌++◌, length, get_or, map, Option, Some, None, ℤ, refl, sym}
+use Rattle.vms_convert.proofs.Facade.{ap, ◌∙◌, arith, if◌then◌else◌, get_or-append_seam, ltb-true, ltb-false, get_or_append_left, get_or_default, length-map}
+use Rattle.vms_convert.proofs.Facade.{get_or_from_slice_get, slice_get-get_or, slice_get_within, slice_get, back, Device, Set, Image, find_device, index}
+use Rattle.vms_convert.proofs.Facade.{WellFormed, here, device_found, device_at, device_is, carried, carried_at, carried_device, no_image, Compatible, is_found}
+use Rattle.vms_convert.proofs.Facade.{is_in, passes, found_device, found_some, pair, all_in, answers_none, at_map, DifferAt, Loses, OfCell, numbers_in}
+use Rattle.vms_convert.proofs.Facade.{FirstDifference, ArePaired, IsFirstLost, IsLostCell, carried_of, LostCell}
 use Rattle.vms_spec.specs.declared.Part.TheVariants as parts
 use Rattle.std.proofs.lemmas.List.{same_lists}
 use Rattle.vms_check_laws.proofs.Streaming.{rules}
@@ -37,8 +37,11 @@ module _ (to new : Set) (wanted : List (List ℤ)) where
     at_end : (l : ℕ) → carried_of to new more n l ≡ (carried_device to new (device_at to n) (device_at new l) x).numbers
     at_end l = rw (← long, get_or-append_seam backs x [] (no_image to new))
 
-    front_gives : (i l : ℕ) → i < n → get_or wanted l [] ≡ carried_of to new backs i l → Gives i l
-    front_gives i l lt e = rw (at_front i l lt) e
+    -- what the devices before give, and this one
+    upto : (l : ℕ) → ((i : ℕ) → i < n → ArePaired to new i l → get_or wanted l [] ≡ carried_of to new backs i l) → (ArePaired to new n l → Gives n l)
+        → (i : ℕ) → i < n + 1 → ArePaired to new i l → Gives i l
+    upto l front end i lt =
+        extend (λ (i : ℕ). ArePaired to new i l → Gives i l) n (λ i lt p. rw (at_front i l lt) (front i lt p)) end i (omega arith)
 
     -- this device gives all its numbers
     end_gives : get_or wanted k [] ≡ gives → (l : ℕ) → ArePaired to new n l → Gives n l
@@ -53,8 +56,7 @@ module _ (to new : Set) (wanted : List (List ℤ)) where
           inside = omega arith;
           pair = h.pair;
           differs = rw (at_front h.i l.device inside) h.differs;
-          before = λ i j lt less.
-              extend (λ (i : ℕ). ArePaired to new i j → Gives i j) n (λ i lt p. front_gives i j lt (h.before i j lt less p)) (end j less) i (omega arith);
+          before = λ i j lt less. upto j (λ i lt. h.before i j lt less) (end j less) i lt;
         }
 
     lost_here : (c : ℕ) → DifferAt (get_or wanted k []) gives c
@@ -65,25 +67,18 @@ module _ (to new : Set) (wanted : List (List ℤ)) where
       inside = omega arith;
       pair = pair;
       differs = rw (at_end k) differs;
-      before = λ i j lt less.
-          extend (λ (i : ℕ). ArePaired to new i j → Gives i j) n (λ i lt p. front_gives i j lt (before i j lt less p))
-          (λ p. (let same = same_partner n k j pair p in absurd (omega arith))) i (omega arith);
+      before = λ i j lt less. upto j (λ i lt. before i j lt less) (λ p. absurd (omega (arith, same_partner n k j pair p))) i lt;
     }
 
     all_given : (known : Option LostCell) → IsFirstLost to new wanted n backs known → get_or wanted k [] ≡ gives
         → IsFirstLost to new wanted (n + 1) more known
-    all_given None h e =
-        λ i l lt. extend (λ (i : ℕ). ArePaired to new i l → Gives i l) n (λ i lt p. front_gives i l lt (h i l lt p)) (end_gives e l) i (omega arith)
+    all_given None h e = λ i l lt. upto l (λ i lt. h i l lt) (end_gives e l) i lt
     all_given (Some l) h e = still l h (λ j less p. end_gives e j p)
 
     earlier_of : (l : LostCell) (c : ℕ) → IsLostCell to new wanted n backs l → DifferAt (get_or wanted k []) gives c
         → (b : Bool) → nat_lt l.device k ≡ b → IsFirstLost to new wanted (n + 1) more (if b then Some l else Some (record { device = k; cell = c }))
-    earlier_of l c h differs true e =
-        let below : l.device < k = ltb-true l.device k e in
-        still l h (λ j less p. (let same = same_partner n k j pair p in absurd (omega arith)))
-    earlier_of l c h differs false e =
-        let above : k ≤ l.device = ltb-false l.device k e in
-        lost_here c differs (λ i j lt less p. h.before i j lt (omega arith) p)
+    earlier_of l c h differs true e = still l h (λ j less p. absurd (omega (arith, ltb-true l.device k e, same_partner n k j pair p)))
+    earlier_of l c h differs false e = lost_here c differs (λ i j lt less p. h.before i j lt (omega (arith, ltb-false l.device k e)) p)
 
     pub lost_next : (known : Option LostCell) (cell : Option ℕ) (next : Option LostCell) → IsFirstLost to new wanted n backs known
         → FirstDifference (get_or wanted k []) gives cell → IsEarlier known k cell next → IsFirstLost to new wanted (n + 1) more next
@@ -179,18 +174,9 @@ module _ (to new : Set) (well_to : WellFormed to) (well_new : WellFormed new) (c
         differ =
             let at = h.pair.in_new in
             let o = older l.device (device_at new l.device) at in
-            let same : o.i ≡ h.i = one_older o in
-            subst (λ (m : List ℤ). DifferAt (get_or wanted l.device []) m l.cell)
-            (sym (there_is l.device (device_at new l.device) at o ∙ ap (λ (i : ℕ). carried_of to new backs i l.device) same)) h.differs
-          where
-            one_older : (o : Older l.device (device_at new l.device)) → o.i ≡ h.i
-            one_older o =
-                let p = pair to new well_to (all_in to new well_to well_new compatible) h.i (device_at to h.i) h.pair.in_old in
-                let numbers : Some p.number ≡ Some l.device = sym p.found ∙ h.pair.found in
-                let number : p.number ≡ l.device = cc in
-                let devices : Some p.device ≡ Some (device_at new l.device) = sym p.stands ∙ ap (λ (k : ℕ). slice_get new.devices k) number ∙ h.pair.in_new in
-                let device : p.device ≡ device_at new l.device = cc in
-                let founds : Some o.i ≡ Some h.i =
-                sym o.found ∙ ap (λ (e : Device). find_device 0 to.devices e.desc.name e.instance) (sym device)
-                ∙ back to new well_to (all_in to new well_to well_new compatible) h.i (device_at to h.i) h.pair.in_old p in
-                cc
+            let all = all_in to new well_to well_new compatible in
+            let p = pair to new well_to all h.i (device_at to h.i) h.pair.in_old in
+            let number : p.number ≡ l.device = cc (p.found, h.pair.found) in
+            let device : p.device ≡ device_at new l.device = cc (p.stands, at) in
+            let same : o.i ≡ h.i = cc (o.found, rw device at (back to new well_to all h.i (device_at to h.i) h.pair.in_old p)) in
+            rw (there_is l.device (device_at new l.device) at o, same) h.differs

@@ -1,9 +1,9 @@
 -- The partners of the rest of two descriptions, field by field.
 use Rattle.vms_convert.proofs.Facade.{add-one, ◌≡◌, ℕ, zero, suc, ◌+◌, ◌-◌, ◌*◌, ◌<◌, ◌≤◌, List, [], ◌∷◌, ◌++◌, length, length-append, get_or, drop, true}
-use Rattle.vms_convert.proofs.Facade.{false, Option, Some, None, refl, sym, ap, ◌∙◌, append_assoc, arith, ltb-true, drop_all, drop_more, Item, Struct, Cell}
-use Rattle.vms_convert.proofs.Facade.{first, no_desc, no_field, capacity_of, item_size, field_cells, cells_from, struct_cells, uses_below, Formula, Field, Desc}
-use Rattle.vms_convert.proofs.Facade.{Set, ItemBelow, FieldsBelow, all_below, first_at, is_well_formed, struct_clean, Entry, entry_of, is_absent, is_nothing}
-use Rattle.vms_convert.proofs.Facade.{present, present_from, presence, Pairer, no_pairer, pairer_of, unpaired, item_partners, array_partners, field_partners}
+use Rattle.vms_convert.proofs.Facade.{false, Option, Some, None, refl, sym, ap, ◌∙◌, arith, ltb-true, drop_all, drop_more, Item, Struct, Cell, first, no_desc}
+use Rattle.vms_convert.proofs.Facade.{no_field, capacity_of, item_size, field_cells, cells_from, struct_cells, uses_below, Formula, Field, Desc, Set, ItemBelow}
+use Rattle.vms_convert.proofs.Facade.{FieldsBelow, all_below, first_at, is_well_formed, struct_clean, Entry, entry_of, is_absent, is_nothing, present}
+use Rattle.vms_convert.proofs.Facade.{present_from, presence, Pairer, no_pairer, pairer_of, unpaired, item_partners, array_partners, field_partners}
 use Rattle.vms_convert.proofs.Facade.{fields_left, partners_from, desc_partners, table, struct_on}
 
 -- ---- how far down structures go
@@ -181,39 +181,28 @@ module _ (structs : List Pairer) (x y : List (List Cell)) (all : List Field) (v 
   left_paired f es e =
       let z : 0 + f.place ≡ f.place = omega arith in rw (left_here (f ∷ es), (something (presence v here.test here.since) e).is, z)
 
--- what was put, and the rest
-pub put_left : (before pairs rest after all : List (Option ℕ)) → after ≡ before ++ pairs → all ≡ pairs ++ rest → after ++ rest ≡ before ++ all
-put_left before pairs rest after all e f = rw (e, f, append_assoc)
-
 -- ---- elements
 
 module _ (structs : List Pairer) (x y : List (List Cell)) (a b : Item) where
   abbrev arrays : ℕ → ℕ → ℕ → List (Option ℕ)
   arrays n m at = array_partners structs x y a b n m at
 
-  -- one and the rest, paired or alone
-  abbrev one_and : ℕ → ℕ → ℕ → List (Option ℕ)
-  one_and at n m = item_partners structs x y a b at ++ arrays n m (at + item_size y b)
-
-  abbrev alone_and : ℕ → ℕ → ℕ → List (Option ℕ)
-  alone_and at n m = unpaired (item_size x a) ++ arrays n m at
-
   pub array_end : (n m at : ℕ) → n ≡ 0 → arrays n m at ≡ []
   array_end zero m at e = refl
   array_end (suc n) m at e = absurd (omega arith)
 
-  array_both : (n m at n' m' : ℕ) → n ≡ suc n' → m ≡ suc m' → arrays n m at ≡ one_and at n' m'
-  array_both n m at n' m' e f = rw (e, f)
-
-  array_alone : (n m at n' m' : ℕ) → n ≡ suc n' → m ≡ 0 → m' ≡ 0 → arrays n m at ≡ alone_and at n' m'
-  array_alone n m at n' m' e f g = rw (e, f, g)
-
   -- by the number of the element
-  pub element_paired : (n m i at : ℕ) → i < n → i < m → arrays (n - i) (m - i) at ≡ one_and at (n - (i + 1)) (m - (i + 1))
-  element_paired n m i at ln lm = array_both (n - i) (m - i) at _ _ (omega arith) (omega arith)
+  pub element_paired : (n m i at : ℕ) → i < n → i < m
+      → arrays (n - i) (m - i) at ≡ item_partners structs x y a b at ++ arrays (n - (i + 1)) (m - (i + 1)) (at + item_size y b)
+  element_paired n m i at ln lm =
+      let s : n - i ≡ suc (n - (i + 1)) = omega arith in let t : m - i ≡ suc (m - (i + 1)) = omega arith in rw (s, t)
 
-  pub element_alone : (n m i at : ℕ) → i < n → m ≤ i → arrays (n - i) (m - i) at ≡ alone_and at (n - (i + 1)) (m - (i + 1))
-  element_alone n m i at ln le = array_alone (n - i) (m - i) at _ _ (omega arith) (omega arith) (omega arith)
+  pub element_alone : (n m i at : ℕ) → i < n → m ≤ i → arrays (n - i) (m - i) at ≡ unpaired (item_size x a) ++ arrays (n - (i + 1)) (m - (i + 1)) at
+  element_alone n m i at ln le =
+      let s : n - i ≡ suc (n - (i + 1)) = omega arith in
+      let t : m - i ≡ 0 = omega arith in
+      let u : m - (i + 1) ≡ 0 = omega arith in
+      rw (s, t, u)
 
 -- a number of elements of a size, and those from the next one on
 pub all_but_one : (n i size : ℕ) → i < n → (n - i) * size ≡ size + (n - (i + 1)) * size

@@ -1,16 +1,16 @@
 -- Pairing step by step, as the code has it.
-use Rattle.vms_convert.proofs.Facade.{◌≡◌, ℕ, ◌+◌, ◌-◌, ◌*◌, ◌<◌, ◌≤◌, List, [], ◌∷◌, ◌++◌, length, get_or, drop, replicate, true, false, Option, Some, None}
-use Rattle.vms_convert.proofs.Facade.{ap, ◌∙◌, arith, append-nil, drop_all, Bor, flat_map, slice_get-get_or, Cell, no_desc, no_field, capacity_of, item_size}
-use Rattle.vms_convert.proofs.Facade.{desc_cells, field_cells, struct_cells, find_sub, AtLeast, Field, Sub, Set, DescSet, few_cells, own_inside_device}
-use Rattle.vms_convert.proofs.Facade.{sub_inside, struct_is, MOST_ITEMS, field_size, in_u32, Part, uses_below, described, device_at, well_of, is_well_formed}
-use Rattle.vms_convert.proofs.Facade.{HasPart, desc_at, sub_at, reach, field_clean, reach_whole, uses_more, Entry, is_absent, present_from, device_partners}
-use Rattle.vms_convert.proofs.Facade.{named_partners, partners_from, table, array_on, item_on, AreArrays, HasRoom, PairsElement, arrays_on, elements_left}
-use Rattle.vms_convert.proofs.Facade.{HasFew, IsStart, IsNextStart, IsBehind, PairsField, entries_at, partners_left, partners_on, sub_on, IsSide, desc_on}
-use Rattle.vms_convert.proofs.Facade.{own_side, Arrays, Start, Side, sym, at_option, desc_partners, sub_partners}
+use Rattle.vms_convert.proofs.Facade.{append_assoc, ◌≡◌, ℕ, ◌+◌, ◌-◌, ◌*◌, ◌<◌, ◌≤◌, List, [], ◌∷◌, ◌++◌, length, get_or, drop, replicate, true, false, Option}
+use Rattle.vms_convert.proofs.Facade.{slice_get, Some, None, ap, ◌∙◌, arith, append-nil, drop_all, Bor, flat_map, slice_get-get_or, Cell, no_desc, no_field}
+use Rattle.vms_convert.proofs.Facade.{capacity_of, item_size, desc_cells, field_cells, struct_cells, find_sub, Field, Sub, Set, DescSet, few_cells}
+use Rattle.vms_convert.proofs.Facade.{own_inside_device, sub_inside, struct_is, MOST_ITEMS, field_size, in_u32, Part, uses_below, described, device_at, well_of}
+use Rattle.vms_convert.proofs.Facade.{is_well_formed, HasPart, desc_at, sub_at, reach, field_clean, reach_whole, uses_more, Entry, is_absent, present_from}
+use Rattle.vms_convert.proofs.Facade.{device_partners, named_partners, array_on, item_on, AreArrays, HasRoom, PairsElement, arrays_on, elements_left, HasFew}
+use Rattle.vms_convert.proofs.Facade.{IsStart, IsNextStart, IsBehind, PairsField, entries_at, partners_left, partners_on, sub_on, IsSide, desc_on, own_side}
+use Rattle.vms_convert.proofs.Facade.{Arrays, Start, Side}
 use Rattle.vms_spec.specs.declared.Part.TheVariants as parts
 use Rattle.vms_desc.specs.Asks.{first_cell}
 use Rattle.vms_convert.proofs.PartnerLaws.{depth, depth_within, something, entries_skip, entries_found, entries_end, cells_here, left_absent, left_alone}
-use Rattle.vms_convert.proofs.PartnerLaws.{left_paired, put_left, desc_left, element_paired, element_alone, all_but_one, one_of_all, array_end}
+use Rattle.vms_convert.proofs.PartnerLaws.{left_paired, desc_left, element_paired, element_alone, all_but_one, one_of_all, array_end}
 
 pub few_are : (n : ℕ) → n ≤ MOST_ITEMS → in_u32 n ≡ n
 few_are n le = omega arith
@@ -103,10 +103,6 @@ module _ (s t : Side) (k : ℕ) (lt : k < length (desc_on s).fields) (few : HasF
   abbrev g : ℕ → Field
   g l = get_or (desc_on t).fields l no_field
 
-  -- the partners of the fields from i on, with entries of the other side
-  abbrev left : List Entry → ℕ → List (Option ℕ)
-  left es i = partners_from (table old new) (struct_cells old) (struct_cells new) s.version 0 (drop i (desc_on s).fields) es
-
   all_put : after ≡ before ++ replicate (in_u32 n) None → after ≡ before ++ replicate n None
   all_put e = rw (few_are n (few_here s k lt few)) at e
 
@@ -114,8 +110,7 @@ module _ (s t : Side) (k : ℕ) (lt : k < length (desc_on s).fields) (few : HasF
       → PairsField s t k start start before after
   absent_pairs start h e put = record {
     start = h;
-    so_far = put_left before (replicate n None) (partners_left s t (k + 1) start) after (partners_left s t k start) (all_put put)
-        (left_absent (table old new) (struct_cells old) (struct_cells new) (desc_on s).fields s.version k lt (entries_at t start) e);
+    so_far = rw (all_put put, left_absent _ _ _ (desc_on s).fields s.version k lt _ e, append_assoc);
   }
 
   pub alone_pairs : (start next : Start) → IsNextStart t start next → length (desc_on t).fields ≤ next.field → is_absent s.version f ≡ false
@@ -124,8 +119,7 @@ module _ (s t : Side) (k : ℕ) (lt : k < length (desc_on s).fields) (few : HasF
       let none : entries_at t next ≡ [] = entries_end (struct_cells new) (desc_on t).fields t.version next.field next.cell end in
       record {
         start = h.start;
-        so_far = put_left before (replicate n None) (partners_left s t (k + 1) next) after (partners_left s t k start) (all_put put)
-            (rw (← h.same, none) (left_alone (table old new) (struct_cells old) (struct_cells new) (desc_on s).fields s.version k lt e));
+        so_far = rw (all_put put, ← h.same, none, left_alone _ _ _ (desc_on s).fields s.version k lt e, append_assoc);
       }
 
   pub both_pair : (start next more : Start) → IsNextStart t start next → next.field < length (desc_on t).fields → IsBehind t next more
@@ -139,28 +133,15 @@ module _ (s t : Side) (k : ℕ) (lt : k < length (desc_on s).fields) (few : HasF
       rw (← h.same, entries_behind t next more behind) (entries_found (struct_cells new) (desc_on t).fields t.version next.field next.cell inside found) in
       record {
         start = behind.start;
-        so_far =
-            put_left before (array_on old new f.item (g next.field).item (capacity_of f.count) (capacity_of (g next.field).count) next.cell)
-            (partners_left s t (k + 1) more) after (partners_left s t k start) put
-            (rw entries (left_paired (table old new) (struct_cells old) (struct_cells new) (desc_on s).fields s.version k lt entry (entries_at t more) e));
+        so_far = rw (put, entries, left_paired _ _ _ (desc_on s).fields s.version k lt entry (entries_at t more) e, append_assoc);
       }
 
 -- ---- whole descriptions
 
-module _ (s t : Side) (before after : List (Option ℕ)) where
-  abbrev old_set : Set
-  old_set = described s.set.now
-
-  abbrev new_set : Set
-  new_set = described t.set.now
-
-  pub all_paired : (k first : ℕ) (start : Start) → length (desc_on s).fields ≤ k
-      → after ++ partners_left s t k start ≡ before ++ partners_left s t 0 (record { field = 0; cell = first }) → after ≡ before ++ partners_on s t first
-  all_paired k first start end e =
-      let pairers = table old_set new_set in
-      let x = struct_cells old_set in
-      let y = struct_cells new_set in
-      rw (drop_all k (desc_on s).fields end, append-nil, desc_left pairers x y s.version t.version (desc_on s) (desc_on t) first) at e
+pub all_paired : (s t : Side) (before after : List (Option ℕ)) (k first : ℕ) (start : Start) → length (desc_on s).fields ≤ k
+    → after ++ partners_left s t k start ≡ before ++ partners_left s t 0 (record { field = 0; cell = first }) → after ≡ before ++ partners_on s t first
+all_paired s t before after k first start end e =
+    rw (drop_all k (desc_on s).fields end, append-nil, desc_left _ _ _ s.version t.version (desc_on s) (desc_on t) first) at e
 
 -- ---- elements
 
@@ -190,8 +171,7 @@ module _ (a : Arrays) (are : AreArrays a) (i at : ℕ) (lt : i < a.one.count) (r
       let small = few_are size_new (omega (arith, element_room less)) in
       rw small (record {
         room = omega (arith, all_but_one a.other.count i size_new less);
-        so_far = put_left before (item_on older newer a.one.item a.other.item at) (elements_left a (i + 1) (at + size_new)) after (elements_left a i at) put
-            (element_paired (table older newer) (struct_cells older) (struct_cells newer) a.one.item a.other.item a.one.count a.other.count i at lt less);
+        so_far = rw (put, element_paired _ _ _ a.one.item a.other.item a.one.count a.other.count i at lt less, append_assoc);
       })
 
   pub element_alone_pairs : a.other.count ≤ i → after ≡ before ++ replicate (in_u32 size_old) None → PairsElement a i at at before after
@@ -200,32 +180,23 @@ module _ (a : Arrays) (are : AreArrays a) (i at : ℕ) (lt : i < a.one.count) (r
       let none : a.other.count - (i + 1) ≡ a.other.count - i = omega arith in
       record {
         room = rw none room;
-        so_far =
-            put_left before (replicate size_old None) (elements_left a (i + 1) at) after (elements_left a i at)
-            (rw small at put)
-            (element_alone (table older newer) (struct_cells older) (struct_cells newer) a.one.item a.other.item a.one.count a.other.count i at lt le);
+        so_far = rw (rw small at put, element_alone _ _ _ a.one.item a.other.item a.one.count a.other.count i at lt le, append_assoc);
       }
 
 -- all elements
 pub all_elements : (a : Arrays) (i first at : ℕ) (before after : List (Option ℕ)) → a.one.count ≤ i
     → after ++ elements_left a i at ≡ before ++ elements_left a 0 first → after ≡ before ++ elements_left a 0 first
 all_elements a i first at before after end e =
-    let older = described a.sets.old.now in
-    let newer = described a.sets.new.now in
-    let none : elements_left a i at ≡ [] =
-    array_end (table older newer) (struct_cells older) (struct_cells newer) a.one.item a.other.item (a.one.count - i) (a.other.count - i) at (omega arith) in
+    let none : elements_left a i at ≡ [] = array_end _ _ _ a.one.item a.other.item (a.one.count - i) (a.other.count - i) at (omega arith) in
     rw (none, append-nil) at e
 
 -- ---- parts of devices, and structures
 
-own_few : (set : Bor DescSet) (i : ℕ) → length (desc_cells (struct_cells (described set.now)) (device_at (described set.now) i).desc) ≤ MOST_ITEMS
-own_few set i = omega (arith, own_inside_device (described set.now) i, few_cells (described set.now) set.now.well_formed i)
-
 pub few_own : (set : Bor DescSet) (i : ℕ) → HasFew (own_side set (parts.Device i)) 0
-few_own set i = own_few set i
+few_own set i = omega (arith, own_inside_device (described set.now) i, few_cells (described set.now) set.now.well_formed i)
 
 pub room_own : (set : Bor DescSet) (i : ℕ) → 0 + length (desc_cells (struct_cells (described set.now)) (device_at (described set.now) i).desc) ≤ MOST_ITEMS
-room_own set i = omega (arith, own_few set i)
+room_own set i = omega (arith, few_own set i)
 
 pub room_sub : (set : Bor DescSet) (i j : ℕ) → j < length (device_at (described set.now) i).subs → first_cell (described set.now) (parts.Sub i j) + length
     (desc_cells (struct_cells (described set.now)) (sub_at (device_at (described set.now) i) j).desc) ≤ MOST_ITEMS
@@ -246,18 +217,9 @@ pub sub_pairs : (s : Side) (new : Bor DescSet) (k found first : ℕ) → s.versi
     → find_sub 0 (device_at (described new.now) k).subs (desc_on s).name ≡ Some found → first ≡ first_cell (described new.now) (parts.Sub k found)
     → partners_on s (record { set = new; part = parts.Sub k found; version = s.version }) first ≡ sub_on s (described new.now) (device_at (described new.now) k)
 sub_pairs s new k found first version lt is place =
-    let old' = described s.set.now in
-    let new' = described new.now in
-    let e = device_at new' k in
-    let x = struct_cells old' in
-    let y = struct_cells new' in
-    let a : Sub = record { desc = desc_on s; needed = AtLeast 0 } in
-    let t = sub_at e found in
-    let at = slice_get-get_or e.subs found _ lt in
-    ap (λ (p : ℕ). desc_partners (table old' new') x y s.version s.version (desc_on s) t.desc p) place
-    ∙ ap (λ (v : ℕ). desc_partners (table old' new') x y v v (desc_on s) t.desc (first_cell new' (parts.Sub k found))) version
-    ∙ sym (ap (λ (o : Option Sub). sub_partners old' new' e a (Some found) o) at)
-    ∙ sym (ap (λ (l : Option ℕ). sub_partners old' new' e a l (at_option e.subs l)) is)
+    let e = device_at (described new.now) k in
+    let at : slice_get e.subs found ≡ Some (sub_at e found) = slice_get-get_or e.subs found _ lt in
+    rw (place, version, is, at)
 
 -- the fields of a device, and the rest of its subsections
 pub device_pairs : (old new : Bor DescSet) (i k : ℕ) (s : Side) (now : List (Option ℕ)) → s ≡ own_side old (parts.Device i)
@@ -291,10 +253,8 @@ pub elements_all : (s t : Side) (k l at : ℕ) → elements_left (arrays_on s k 
     ≡ array_on (described s.set.now) (described t.set.now) (get_or (desc_on s).fields k no_field).item (get_or (desc_on t).fields l no_field).item
     (capacity_of (get_or (desc_on s).fields k no_field).count) (capacity_of (get_or (desc_on t).fields l no_field).count) at
 elements_all s t k l at =
-    let f = get_or (desc_on s).fields k no_field in
-    let g = get_or (desc_on t).fields l no_field in
-    let p : capacity_of f.count - 0 ≡ capacity_of f.count = omega arith in
-    let q : capacity_of g.count - 0 ≡ capacity_of g.count = omega arith in
+    let p : capacity_of (get_or (desc_on s).fields k no_field).count - 0 ≡ capacity_of (get_or (desc_on s).fields k no_field).count = omega arith in
+    let q : capacity_of (get_or (desc_on t).fields l no_field).count - 0 ≡ capacity_of (get_or (desc_on t).fields l no_field).count = omega arith in
     rw (p, q)
 
 -- how far down the structures of a field go

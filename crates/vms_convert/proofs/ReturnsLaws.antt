@@ -1,22 +1,17 @@
 -- One device more is brought to the older set.
-use Rattle.vms_convert.proofs.Facade.{◌≡◌, ◌⊎◌, inl, inr, ℕ, zero, suc, ◌+◌, ◌<◌, List, [], ◌∷◌, ◌++◌, length, length-append, get_or, map, Option, Some, None}
-use Rattle.vms_convert.proofs.Facade.{ℤ, refl, sym, ap, ◌∙◌, subst, arith, Bool, true, false, ◌&&◌, if◌then◌else◌, ◌≤◌, slice_set, take, length-map, map-append}
-use Rattle.vms_convert.proofs.Facade.{take_more_set, slice_get-get_or, slice_get_within, slice_get, take-length, find_device, Set, WellFormed, Image}
+use Rattle.vms_convert.proofs.Facade.{take_all, ◌≡◌, ℕ, ◌+◌, ◌<◌, List, [], ◌∷◌, ◌++◌, length, length-append, get_or, map, Option, Some, None, ℤ, refl, sym, ap}
+use Rattle.vms_convert.proofs.Facade.{◌∙◌, arith, Bool, true, false, ◌&&◌, if◌then◌else◌, ◌≤◌, slice_set, take, length-map, map-append, take_more_set}
+use Rattle.vms_convert.proofs.Facade.{slice_get-get_or, slice_get_within, slice_get, IsBack, device_partners, find_device, Set, WellFormed, Image}
 use Rattle.vms_convert.proofs.Facade.{default_image, device_at, Typed, state_of, AreImagesOf, default_at, typed, Compatible, found_device, pair, all_in}
 use Rattle.vms_convert.proofs.Facade.{IsReturned, ArePaired, AreReturnedTo, AreReturned, IsRecastFor, LostCell, Kind, kinds_at, at_map, is_port, wants_arrays}
 use Rattle.vms_convert.proofs.Facade.{recast, AreFresh, AreRoutes, IsRoute, recast_room, Route, first, device_cells, set_4, AreOfKinds, AreKept, NEWEST}
-use Rattle.vms_convert.proofs.Facade.{IsPortCells, kinds, recast_each, numbers_in, at_other}
+use Rattle.vms_convert.proofs.Facade.{IsPortCells, kinds, recast_each, numbers_in, at_other, IsImageOf}
+use Rattle.vms_convert.proofs.HasBack.{appended}
 use Rattle.std.proofs.lemmas.List.{length-set}
 use Rattle.vms_convert.specs.Returns.{IsEarlier}
 use Rattle.vms_convert.proofs.BringLaws.{there}
 use Rattle.vms_convert.proofs.LostLaws.{lost_next, no_device}
 use Rattle.vms_convert.proofs.RecastLaws.{newest_kinds, port_cells, port_is, recast_at}
-
-pub at_more : {A : Type 0} (xs : List A) (x : A) (i : ℕ) (y : A) → slice_get (xs ++ x ∷ []) i ≡ Some y → (slice_get xs i ≡ Some y) ⊎ ((i ≡ length xs) × (x ≡ y))
-at_more [] x zero y e = let same : x ≡ y = cc in inr (refl, same)
-at_more [] x (suc i) y e = absurd (cc)
-at_more (z ∷ xs) x zero y e = inl e
-at_more (z ∷ xs) x (suc i) y e = elim (at_more xs x i y e) [ inl h ↦ inl h | inr h ↦ inr (ap suc h.0, h.1) ]
 
 module _ (to new : Set) (wanted : List (List ℤ)) where
   pub returned_none : AreReturnedTo to new wanted 0 [] None
@@ -26,23 +21,17 @@ module _ (to new : Set) (wanted : List (List ℤ)) where
       → ArePaired to new n k
       → IsReturned to new n k (get_or wanted k []) x cell → IsEarlier lost k cell next → AreReturnedTo to new wanted (n + 1) (images ++ x ∷ []) next
   returned_next n k images lost next x cell h pair is earlier =
-      let states : map state_of (images ++ x ∷ []) ≡ map state_of images ++ state_of x ∷ [] = map-append state_of images (x ∷ []) in
+      let all = map state_of images in
+      let states : map state_of (images ++ x ∷ []) ≡ all ++ state_of x ∷ [] = map-append state_of images (x ∷ []) in
+      let long : length all ≡ n = length-map images state_of ∙ h.count in
       record {
         count = omega (arith, length-append images (x ∷ []), h.count);
-        of = λ i image e. elim (at_more images x i image e) [
-          | inl e ↦ h.of i image e
-          | inr e ↦ let at : n ≡ i = sym h.count ∙ sym e.0 in rw (← e.1, ← at) is.of
-        ];
-        back = λ i l image p e. elim (at_more (map state_of images) (state_of x) i image (rw (← states) e)) [
-          | inl e ↦ h.back i l image p e
-          | inr e ↦
-              let at : n ≡ i = sym h.count ∙ sym (length-map images state_of) ∙ sym e.0 in
-              let found : Some k ≡ Some l = sym (rw at at pair.found) ∙ p.found in
-              let same : k ≡ l = cc in
-              rw (← e.1, ← same, ← at) is.back
-        ];
-        first_lost = rw states (lost_next to new wanted (map state_of images) (state_of x) n k (length-map images state_of ∙ h.count) pair lost cell next
-            h.first_lost is.lost earlier);
+        of = appended (IsImageOf to) images x n h.count h.of is.of;
+        back = λ i l image p e.
+            appended (λ i image. (l : ℕ) → ArePaired to new i l
+            → IsBack to (device_at to i) (device_partners to new (device_at to i) (device_at new l)) (get_or wanted l []) image) all (state_of x) n long
+            (λ i image e l p. h.back i l image p e) (λ l p. (let same : k ≡ l = cc in rw (← same) is.back)) i image (rw states at e) l p;
+        first_lost = rw states (lost_next to new wanted all (state_of x) n k long pair lost cell next h.first_lost is.lost earlier);
       }
 
 -- ---- the newest set's device of a name
@@ -51,16 +40,12 @@ pub pair_found : (to new : Set) (i k : ℕ) → i < length to.devices → find_d
     → ArePaired to new i k
 pair_found to new i k lt found =
     let f = found_device 0 new.devices (device_at to i).desc.name (device_at to i).instance k found in
-    let same : f.0 ≡ k = omega (arith, f.1) in
-    let at : slice_get new.devices k ≡ Some f.2.device = rw same at f.2.stands in
-    record { in_old = there to i lt; found = found; in_new = slice_get-get_or new.devices k no_device (slice_get_within new.devices k f.2.device at) }
+    record { in_old = there to i lt; found = found; in_new = slice_get-get_or new.devices k no_device (omega (arith, f.1, slice_get_within new.devices f.0 f.2.device f.2.stands)) }
 
 pub always_found : (to new : Set) → WellFormed to → WellFormed new → Compatible to new → (i : ℕ) → i < length to.devices
     → find_device 0 new.devices (device_at to i).desc.name (device_at to i).instance ≡ None → ⊥
 always_found to new well_to well_new compatible i lt none =
-    let p = pair to new well_to (all_in to new well_to well_new compatible) i (device_at to i) (there to i lt) in
-    let clash : None ≡ Some p.number = sym none ∙ p.found in
-    cc
+    let p = pair to new well_to (all_in to new well_to well_new compatible) i (device_at to i) (there to i lt) in cc (none, p.found)
 
 -- ---- Routes and images before the input is read, and while devices are brought to the older set.
 
@@ -72,10 +57,7 @@ module _ (to new : Set) where
       → AreRoutes to new (n + 1) (routes ++ r ∷ [])
   route_more n routes r h is = record {
     count = omega (arith, length-append routes (r ∷ []), h.count);
-    each = λ i x e. elim (at_more routes r i x e) [
-      | inl e ↦ h.each i x e
-      | inr e ↦ let at : n ≡ i = sym h.count ∙ sym e.0 in rw (← e.1, ← at) is
-    ];
+    each = appended (λ i x. IsRoute to new i x.other x) routes r n h.count h.each is;
   }
 
 pub fresh_of : (set : Set) (images : List Typed) → map state_of images ≡ map (default_image set) set.devices → AreImagesOf set images → AreFresh set images
@@ -83,10 +65,8 @@ fresh_of set images states of = record {
   count = of.one_each;
   each = λ i image at.
       let lt : i < length set.devices = omega (arith, slice_get_within images i image at, of.one_each) in
-      let state : Some (state_of image) ≡ Some (default_image set (device_at set i)) =
-      sym (at_map state_of images i image at) ∙ ap (λ (l : List Image). slice_get l i) states
-      ∙ at_map (default_image set) set.devices i (device_at set i) (there set i lt) in
-      let same : state_of image ≡ default_image set (device_at set i) = cc in
+      let same : state_of image ≡ default_image set (device_at set i) =
+      cc (rw states at (at_map state_of images i image at), at_map (default_image set) set.devices i (device_at set i) (there set i lt)) in
       ap (λ (kinds : List Kind). typed kinds (state_of image)) (of.each i image at).kinds ∙ ap (typed (kinds_at set i)) same;
 }
 
@@ -100,10 +80,11 @@ module _ (to new : Set) (k : ℕ) where
   no_room is = (elim is_recast as (λ b. (if b then Some (default_at new k) else None) ≡ None → b ≡ false) [ true ↦ λ is. cc | false ↦ λ is. refl ]) is
 
   pub has_room : (image : Typed) → recast_room to new k ≡ Some image → (is_recast ≡ true) × (image ≡ default_at new k)
-  has_room image is = go is_recast is where
-    go : (b : Bool) → (if b then Some (default_at new k) else None) ≡ Some image → (b ≡ true) × (image ≡ default_at new k)
-    go true is = (refl, cc)
-    go false is = cc
+  has_room image is =
+      (elim is_recast as (λ b. (if b then Some (default_at new k) else None) ≡ Some image → (b ≡ true) × (image ≡ default_at new k)) [
+        | true ↦ λ is. (refl, cc)
+        | false ↦ λ is. cc
+      ]) is
 
 -- ---- while devices are brought
 
@@ -144,8 +125,7 @@ module _ (to new : Set) (wanted : List (List ℤ)) where
   pub midway_last : (n : ℕ) (routes : List Route) (images : List Typed) (lost : Option LostCell) → Midway to new wanted n routes images lost
       → n ≡ length to.devices → AreReturned to new wanted images lost
   midway_last n routes images lost m all =
-      subst (λ (l : List Typed). AreReturned to new wanted l lost) (ap (λ (k : ℕ). take k images) (all ∙ sym m.long) ∙ take-length images)
-      (subst (λ (k : ℕ). AreReturnedTo to new wanted k (take n images) lost) all m.brought)
+      let whole : take n images ≡ images = take_all n images (omega (arith, m.long)) in rw (← all, ← whole) m.brought
 
 -- ---- The numbers of a device of the newest set that a loader keeps, as they are brought to an older set.
 

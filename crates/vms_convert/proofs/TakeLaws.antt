@@ -1,7 +1,6 @@
 -- What is taken of the older cells, and the defaults of the others.
-use Rattle.vms_convert.proofs.Facade.{subst}
-use Rattle.vms_convert.proofs.Facade.{cases_eq, ne_eqb, inl, inr, cases_lt, ◌≡◌, ℕ, zero, suc, ◌<◌, List, [], ◌∷◌, ◌++◌, length, get_or, take, drop, slice_set}
-use Rattle.vms_convert.proofs.Facade.{ℤ, pos, refl, ap, arith, ◌+◌, map, Option, Some, None, sym, ◌∙◌, append_assoc, Bool, true, false, length-set}
+use Rattle.vms_convert.proofs.Facade.{subst, cases_eq, ne_eqb, inl, inr, cases_lt, ◌≡◌, ℕ, zero, suc, ◌<◌, List, [], ◌∷◌, ◌++◌, length, get_or, take, drop}
+use Rattle.vms_convert.proofs.Facade.{slice_set, ℤ, pos, refl, ap, arith, ◌+◌, map, Option, Some, None, sym, ◌∙◌, append_assoc, Bool, true, false, length-set}
 use Rattle.vms_convert.proofs.Facade.{if◌then◌else◌, ◌≤◌, slice_get, get_or-set_other, get_or-set_same, map-append, length-map, eq-eqb, get_or-map}
 use Rattle.vms_convert.proofs.Facade.{slice_get-get_or, append-nil, take_all, IsSound, AreSound, Sub, Device, Set, Slot, desc_cells, struct_cells, Cell}
 use Rattle.vms_convert.proofs.Facade.{no_cell, Number, device_cells, own_cells, own_slots, sub_slots, sub_place, came_slots, has_cell, image_slots, its_same}
@@ -158,11 +157,8 @@ module _ (all : List Cell) (partners : List (Option ℕ)) (source : List ℤ) wh
 
   -- from defaults on, the cells of the slots have taken theirs
   pub taken_at : (c : ℕ) (has : Bool) → taken_if c has (get_or all c no_cell).default ≡ taken source (get_or all c no_cell) has (get_or partners c None)
-  taken_at c true = by_partner (get_or partners c None) where
-    by_partner : (o : Option ℕ)
-        → put_value source (get_or all c no_cell).capacities o (get_or all c no_cell).default ≡ taken source (get_or all c no_cell) true o
-    by_partner (Some k) = refl
-    by_partner None = refl
+  taken_at c true = elim (get_or partners c None) as (λ o. put_value source (get_or all c no_cell).capacities o (get_or all c no_cell).default
+      ≡ taken source (get_or all c no_cell) true o) [ Some k ↦ refl | None ↦ refl ]
   taken_at c false = refl
 
 -- ---- What the cells of a device have taken, part by part.
@@ -184,9 +180,8 @@ module _ (set : Set) (structs : AreSound set.structs) (d : Device) (own : IsSoun
       let below : SameBelow (part_place set d j) n m =
       record { same = λ c lt. keeps.same c (has_step_of its c ∙ its_below set s.desc s.desc.version (part_place set d j) m c lt) } in
       let still = first_same set structs d own sound n m (all_came d.subs) j below in
-      more ∙ ap (puts its) (first ∙ ap (λ (l : List Slot). puts l before) (sym still)) ∙ sym (puts_more (first_slots set d (all_came d.subs) j m) its before)
-      ∙ sym (ap (λ (l : List Slot). puts l before)
-      (first_next set d (all_came d.subs) j s (Some s.desc.version) m e (at_map (λ (s : Sub). Some s.desc.version) d.subs j s e)))
+      let next = first_next set d (all_came d.subs) j s (Some s.desc.version) m e (at_map (λ (s : Sub). Some s.desc.version) d.subs j s e) in
+      rw (next, puts_more (first_slots set d (all_came d.subs) j m) its before, still, ← first) more
 
   -- all of them, from defaults on
   pub all_taken : (n : List ℤ) (j : ℕ) → j ≡ length d.subs → n ≡ puts (first_slots set d (all_came d.subs) j n) (map (λ c. c.default) (device_cells set d))
@@ -195,26 +190,15 @@ module _ (set : Set) (structs : AreSound set.structs) (d : Device) (own : IsSoun
       let cells = device_cells set d in
       let before = map (λ (c : Cell). c.default) cells in
       let slots = image_slots set d (whole d n) in
-      let whole_is : first_slots set d (all_came d.subs) j n ≡ slots =
-      ap (λ (subs : List Sub). own_slots set d d.desc.version n ++ came_slots set d n (own_cells set d) subs (take j (all_came d.subs)))
-      (take_all j d.subs (omega arith))
-      ∙ ap (λ (came : List (Option ℕ)). own_slots set d d.desc.version n ++ came_slots set d n (own_cells set d) d.subs came)
-      (take_all j (all_came d.subs) (omega (arith, length-map d.subs (λ (s : Sub). Some s.desc.version)))) in
-      let is : n ≡ puts slots before = first ∙ ap (λ (l : List Slot). puts l before) whole_is in
+      let is : n ≡ puts slots before =
+      rw (take_all j d.subs (omega arith), take_all j (all_came d.subs) (omega (arith, length-map d.subs (λ (s : Sub). Some s.desc.version)))) at first in
       record {
         long = long;
         each = λ c lt.
             ap (λ (l : List ℤ). get_or l c (pos 0)) is
             ∙ put_at cells partners source slots before c (image_are set d (whole d n)) (length-map cells (λ (c : Cell). c.default)) lt
-            ∙ ap (λ (z : ℤ). if has_cell slots c then value_at c z else z) (default_at c lt) ∙ taken_at cells partners source c (has_cell slots c);
+            ∙ rw (get_or-map (λ (c : Cell). c.default) cells c no_cell) (taken_at cells partners source c (has_cell slots c));
       }
-    where
-      value_at : ℕ → ℤ → ℤ
-      value_at c z = put_value source (get_or (device_cells set d) c no_cell).capacities (get_or partners c None) z
-
-      default_at : (c : ℕ) → c < length (device_cells set d)
-          → get_or (map (λ (c : Cell). c.default) (device_cells set d)) c (pos 0) ≡ (get_or (device_cells set d) c no_cell).default
-      default_at c lt = get_or-map (λ (c : Cell). c.default) (device_cells set d) c no_cell
 
 -- ---- A step may be taken after others: the image keeps its kinds and its length.
 

@@ -3,41 +3,41 @@
 ghost use Rattle.vms_convert.specs.Laws.{AnswerLaw, BackLaw, ComesBackLaw, ConvertsLaw, OneBackLaw, OneLostLaw, RecastOfLaw};
 
 /// States that at most one image of an older set comes back for given numbers of a newer device.
-#[tactic(auto)]
+#[tactic(auto, using(crate::proofs::Converts::one_stands))]
 pub fn one_back_law()
     ensures { OneBackLaw }
 {}
 
 /// States that an image comes back, whatever the numbers are.
-#[tactic(auto)]
+#[tactic(auto, using(crate::proofs::HasBack::has_back))]
 pub fn comes_back_law()
     ensures { ComesBackLaw }
 {}
 
 /// States that the image which comes back is normal, at its set's version and with exactly the
 /// subsections that are needed.
-#[tactic(auto)]
+#[tactic(auto, using(crate::proofs::Converts::back_stands))]
 pub fn back_law()
     ensures { BackLaw }
 {}
 
 /// States that the recast numbers of normal images of the newest set are in the range of their
 /// devices' kinds.
-#[tactic(auto)]
+#[tactic(auto, using(crate::proofs::RecastLaws::recast_of))]
 pub fn recast_of_law()
     ensures { RecastOfLaw }
 {}
 
 /// States that there is only one first thing that is lost, and that something is lost only if not
 /// all is kept.
-#[tactic(auto)]
+#[tactic(auto, using(crate::proofs::RecastLaws::one_lost))]
 pub fn one_lost_law()
     ensures { OneLostLaw }
 {}
 
 /// States that each state of the newest set has images in the older set, and that either all is
 /// kept or something is lost first.
-#[tactic(auto)]
+#[tactic(auto, using(crate::proofs::Answered::answered))]
 pub fn answer_law()
     ensures { AnswerLaw }
 {}
@@ -46,7 +46,7 @@ pub fn answer_law()
 /// cells.
 ///
 /// Converting it again gives the same bytes and no others.
-#[tactic(auto)]
+#[tactic(auto, using(crate::proofs::Converts::converts_stand))]
 pub fn converts_law()
     ensures { ConvertsLaw }
 {}

@@ -1,5 +1,4 @@
-use Rattle.vms_convert.proofs.Facade.{◌≡◌, ◌<◌, ℤ, ◌+◌, List, length, refl, sym, ap, subst, arith, own_cell_count, in_u32, described, device_at, sub_at}
-use Rattle.vms_convert.proofs.Facade.{few_cells, sub_inside, Typed, ArePut}
+use Rattle.vms_convert.proofs.Facade.{◌≡◌, ◌<◌, length, refl, arith, own_cell_count, in_u32, described, device_at, sub_at, few_cells, sub_inside}
 use Rattle.vms_convert.proofs.BringLaws.{image_kept}
 use Rattle.vms_convert.proofs.TakeLaws.{put_all, put_none, put_one, put_rest}
 use Rattle.vms_convert.proofs.back.put_defaults.Goals as goal
@@ -35,10 +34,7 @@ loop-cell-preserved c =
     omega (arith, c.loop-cell-test.true, c.first_cell-first.ensures, sub_inside set c.args.device c.args.sub c.requires.sub, c.requires.of.cells) in
     record {
       rest = put_rest c.args.image.now c.loop-cell.image c.put_default.new.image _ h.rest put;
-      put =
-          subst (λ (l : List ℤ). ArePut set c.args.device c.first_cell-first.result (c.loop-cell.cell + 1) c.args.image.now.numbers l)
-          (sym (ap (λ (x : Typed). x.numbers) put))
-          (put_one set c.args.device c.first_cell-first.result c.args.image.now.numbers c.loop-cell.cell c.loop-cell.image.numbers h.put lt
+      put = rw put (put_one set c.args.device c.first_cell-first.result c.args.image.now.numbers c.loop-cell.cell c.loop-cell.image.numbers h.put lt
           c.loop-cell.auto.cell);
     }
 

@@ -1,5 +1,5 @@
-use Rattle.vms_convert.proofs.Facade.{◌≡◌, ◌<◌, length, refl, sym, ap, ◌∙◌, subst, arith, length-map, IsGood, Cell, device_cells, described, device_at, good_of}
-use Rattle.vms_convert.proofs.Facade.{Typed, HasSpot, spot_slots, steps_of, PartAt, part_of, changed, put_step, takes_keeps}
+use Rattle.vms_convert.proofs.Facade.{◌≡◌, ◌<◌, length, refl, ap, ◌∙◌, arith, length-map, IsGood, Cell, device_cells, described, device_at, good_of, Typed}
+use Rattle.vms_convert.proofs.Facade.{spot_slots, steps_of, takes_keeps}
 use Rattle.vms_spec.specs.declared.Part.TheVariants as parts
 use Rattle.vms_convert.proofs.BringLaws.{own_spot, sub_spot, took_all, took_own, took_sub}
 use Rattle.vms_convert.proofs.TakeLaws.{put_rest}
@@ -12,7 +12,7 @@ take_part-requires-clause-part c =
     let n = c.args.image.now.numbers in
     let cells = device_cells set (device_at set i) in
     let long : length n ≡ length cells = ap (λ (x : Typed). length x.numbers) c.requires.image ∙ length-map cells (λ (x : Cell). x.default) in
-    subst (λ (p : PartAt). HasSpot set p n) (sym c.whole_part-own.ensures) (own_spot set i c.requires.device c.args.set.now.well_formed n long)
+    rw c.whole_part-own.ensures (own_spot set i c.requires.device c.args.set.now.well_formed n long)
 
 pub loop-sub-init : goal.loop-sub-init
 loop-sub-init c =
@@ -24,14 +24,11 @@ loop-sub-init c =
     let now = c.take_part.new.image in
     let good : IsGood set = good_of set c.args.set.now.well_formed c.args.set.now.heads in
     let cells = device_cells set (device_at set i) in
-    let own = part_of set (parts.Device i) in
     let steps = steps_of (spot_slots set c.whole_part-own.result now.numbers) in
     record {
       rest = put_rest before before now _ refl c.take_part.ensures;
       first = took_own set i c.requires.device good ps source now.numbers
-          (ap (λ (x : Typed). x.numbers) c.take_part.ensures
-          ∙ ap (λ (p : PartAt). changed (put_step ps source) (steps_of (spot_slots set p now.numbers)) before.numbers) c.whole_part-own.ensures
-          ∙ ap (λ (x : Typed). changed (put_step ps source) (steps_of (spot_slots set own now.numbers)) x.numbers) c.requires.image);
+          (rw (c.whole_part-own.ensures, c.requires.image) at (ap (λ (x : Typed). x.numbers) c.take_part.ensures));
       long = (takes_keeps ps source steps before now c.take_part.ensures).long ∙ ap (λ (x : Typed). length x.numbers) c.requires.image
           ∙ length-map cells (λ (x : Cell). x.default);
     }
@@ -43,8 +40,7 @@ take_part-requires-in-loop-sub-clause-part c =
     let j = c.loop-sub.sub in
     let n = c.loop-sub.image.numbers in
     let less : j < length (device_at set i).subs = omega (arith, c.loop-sub-test.true, c.sub_count-sub-end.ensures) in
-    subst (λ (p : PartAt). HasSpot set p n) (sym c.whole_part-part.ensures)
-    (sub_spot set i c.requires.device c.args.set.now.well_formed n c.loop-sub.invariant.long j less)
+    rw c.whole_part-part.ensures (sub_spot set i c.requires.device c.args.set.now.well_formed n c.loop-sub.invariant.long j less)
 
 pub loop-sub-preserved : goal.loop-sub-preserved
 loop-sub-preserved c =
@@ -62,8 +58,7 @@ loop-sub-preserved c =
     record {
       rest = put_rest c.args.image.now before now _ c.loop-sub.invariant.rest put;
       first = took_sub set i c.requires.device good ps source before.numbers now.numbers j less c.loop-sub.invariant.first
-          (ap (λ (x : Typed). x.numbers) put ∙ ap
-          (λ (p : PartAt). changed (put_step ps source) (steps_of (spot_slots set p now.numbers)) before.numbers) c.whole_part-part.ensures);
+          (rw c.whole_part-part.ensures at (ap (λ (x : Typed). x.numbers) put));
       long = (takes_keeps ps source steps before now put).long ∙ c.loop-sub.invariant.long;
     }
 

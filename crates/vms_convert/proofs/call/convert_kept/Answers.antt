@@ -1,6 +1,5 @@
-use Rattle.vms_convert.proofs.Facade.{◌≡◌, List, Result, Err, map, ap, ◌∙◌, subst, sym, with_items_is, err_from_is_err_and, at_option, Set, AreReady, fit_of}
-use Rattle.vms_convert.proofs.Facade.{described, AreImagesOf, Typed, state_of, outlet, Puts, Stops, Compatible, AreKept, has, loads, name_of, ConvertsKept}
-use Rattle.vms_convert.proofs.Facade.{PutsStream, recast_each, stream_of, numbers_in, AreReturned, ConvertFault}
+use Rattle.vms_convert.proofs.Facade.{◌≡◌, map, ◌∙◌, subst, sym, with_items_is, err_from_is_err_and, at_option, Set, fit_of, described, state_of, outlet, Puts}
+use Rattle.vms_convert.proofs.Facade.{Stops, Compatible, AreKept, has, loads, name_of, ConvertsKept, PutsStream, stream_of}
 use Rattle.vms_convert.proofs.ConvertLaws.{loses_kept, puts_kept}
 use Rattle.vms_convert.proofs.JudgeLaws.{ComesBack, backs_are, ready_back}
 use Rattle.vms_convert.proofs.call.convert_kept.Given.{Over}
@@ -24,8 +23,7 @@ came g c =
       newest = c.requires.newest;
       compatible = subst (λ (s : Set). Compatible to s) (sym c.requires.newest) c.requires.compatible;
       kept = subst (λ (s : Set). AreKept s (has c.args.loader.now)) (sym c.requires.newest) c.requires.kept;
-      returned = subst (λ (l : List Typed). AreReturned to new (recast_each to new.devices (numbers_in (has c.args.loader.now))) l c.return_all-lost.result)
-          (sym (images_are g c)) c.return_all-lost.ensures;
+      returned = rw (images_are g c) c.return_all-lost.ensures;
     }
 
 same : (g : Over) (c : After-deref-2 g) → c.deref-2.result.now ≡ c.deref.result.now
@@ -42,22 +40,19 @@ returns-in_err-machine g c =
     let p = err_from_is_err_and c.from_residual.result c.from_residual.ensures.1 in
     let empty = outlet g.K.Sink c.args.sink.now in
     subst (λ (s : Set). ConvertsKept to s (name_of s c.args.machine) images empty empty c.from_residual.result) c.requires.newest
-    (subst (λ (x : Result Unit ConvertFault). ConvertsKept to new (name_of new c.args.machine) images empty empty x) (sym (p.1 ∙ ap Err p.2))
-    (loses_kept to new (name_of new c.args.machine) images (map state_of typed) back loss.section loss.cell empty c.in_err-machine.ensures))
+    (rw (p.1, p.2) (loses_kept to new (name_of new c.args.machine) images (map state_of typed) back loss.section loss.cell empty c.in_err-machine.ensures))
 
 pub write_back-requires-clause-of : goal.write_back-requires-clause-of
 write_back-requires-clause-of g c =
     let p = goal.at.write_back-requires-clause-of g c in
     let returned = c.return_all-lost.ensures in
-    subst (λ (l : List Typed). AreImagesOf (described c.args.to.now) l) (sym (same g p.After-deref-2 ∙ images_are g p.After-deref))
-    (record { one_each = returned.count; each = returned.of })
+    rw (same g p.After-deref-2, images_are g p.After-deref) (record { one_each = returned.count; each = returned.of })
 
 pub write_back-requires-clause-ready : goal.write_back-requires-clause-ready
 write_back-requires-clause-ready g c =
-    let to = described c.args.to.now in
     let p = goal.at.write_back-requires-clause-ready g c in
-    subst (λ (l : List Typed). AreReady to (map state_of l)) (sym (same g p.After-deref-2))
-    (ready_back to (loads c.args.loader.now) (has c.args.loader.now) c.deref.result.now c.return_all-lost.result
+    rw (same g p.After-deref-2)
+    (ready_back (described c.args.to.now) (loads c.args.loader.now) (has c.args.loader.now) c.deref.result.now c.return_all-lost.result
     (came g p.After-deref) c.in_ok-machine.ensures.0.valid)
 
 pub returns-in_err-write_back : goal.returns-in_err-write_back
@@ -72,12 +67,9 @@ returns-in_err-write_back g c =
     let r = err_from_is_err_and c.from_residual-in_err-write_back.result c.from_residual-in_err-write_back.ensures.1 in
     let empty = outlet g.K.Sink c.args.sink.now in
     let full = outlet g.K.Sink c.write_back.new.sink in
-    let stops : Stops empty full (stream_of to (at_option to.machines m) (map state_of typed)) =
-    subst (λ (l : List Typed). Stops empty full (stream_of to (at_option to.machines m) (map state_of l)))
-    (same g p.After-deref-2) c.in_err-write_back.ensures in
+    let stops : Stops empty full (stream_of to (at_option to.machines m) (map state_of typed)) = rw (← same g p.After-deref-2) c.in_err-write_back.ensures in
     subst (λ (s : Set). ConvertsKept to s (name_of s c.args.machine) images empty full c.from_residual-in_err-write_back.result) c.requires.newest
-    (subst (λ (x : Result Unit ConvertFault). ConvertsKept to new (name_of new c.args.machine) images empty full x) (sym (r.1 ∙ ap Err r.2))
-    (puts_kept to new (name_of new c.args.machine) images (map state_of typed) back m c.in_ok-machine.ensures (Stops empty full) stops))
+    (rw (r.1, r.2) (puts_kept to new (name_of new c.args.machine) images (map state_of typed) back m c.in_ok-machine.ensures (Stops empty full) stops))
 
 pub returns : goal.returns
 returns g c =
@@ -90,7 +82,6 @@ returns g c =
     let m = c.in_ok-machine.machine in
     let empty = outlet g.K.Sink c.args.sink.now in
     let full = outlet g.K.Sink c.write_back.new.sink in
-    let puts : Puts empty full (stream_of to (at_option to.machines m) (map state_of typed)) =
-    subst (λ (l : List Typed). Puts empty full (stream_of to (at_option to.machines m) (map state_of l))) (same g p.After-deref-2) c.in_ok-write_back.ensures in
+    let puts : Puts empty full (stream_of to (at_option to.machines m) (map state_of typed)) = rw (← same g p.After-deref-2) c.in_ok-write_back.ensures in
     subst (λ (s : Set). PutsStream to s (name_of s c.args.machine) images (Puts empty full)) c.requires.newest
     (puts_kept to new (name_of new c.args.machine) images (map state_of typed) back m c.in_ok-machine.ensures (Puts empty full) puts)

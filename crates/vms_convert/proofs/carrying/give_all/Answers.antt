@@ -1,5 +1,4 @@
-use Rattle.vms_convert.proofs.Facade.{◌<◌, List, ℤ, length, refl, sym, ap, ◌∙◌, subst, arith, Kind, described, device_at, Typed, state_of, HasSpot, spot_slots}
-use Rattle.vms_convert.proofs.Facade.{steps_of, PartAt, own_part, changed, AreTargets, give_step}
+use Rattle.vms_convert.proofs.Facade.{◌<◌, List, ℤ, length, refl, ap, ◌∙◌, arith, described, device_at, Typed, state_of, steps_of, own_part}
 use Rattle.vms_convert.proofs.BringLaws.{own_spot, gave_all, gave_own, gave_sub}
 use Rattle.vms_convert.proofs.TakeLaws.{first_slots, put_rest}
 use Rattle.vms_convert.proofs.BackNormal.{steps_long}
@@ -10,32 +9,23 @@ give_part-requires-clause-part c =
     let set = described c.args.set.now in
     let image = c.args.gift.image.now in
     let h = own_spot set c.args.device c.requires.device c.args.set.now.well_formed image.numbers c.requires.of.cells in
-    let spot : HasSpot set (own_part c.args.device image.version) image.numbers = record { part = h.part; few = h.few; room = h.room } in
-    subst (λ (p : PartAt). HasSpot set p image.numbers) (sym c.own_part.ensures) spot
+    rw c.own_part.ensures (record { part = h.part; few = h.few; room = h.room })
 
 pub loop-sub-init : goal.loop-sub-init
 loop-sub-init c =
-    let image = c.args.gift.image.now in
-    let ps = c.args.gift.partners.now in
-    let target = c.args.target.now in
-    c.give_part.ensures ∙ ap (λ (p : PartAt). record target {
-      numbers = changed (give_step ps image.numbers) (steps_of (spot_slots (described c.args.set.now) p image.numbers)) target.numbers;
-    }) c.own_part.ensures ∙ ap (λ (l : List ℤ). record target { numbers = l })
-    (gave_own (described c.args.set.now) c.args.device c.requires.device (state_of image) c.requires.of.subs c.requires.version ps target.numbers)
+    let given = gave_own (described c.args.set.now) c.args.device c.requires.device (state_of c.args.gift.image.now) c.requires.of.subs c.requires.version
+    c.args.gift.partners.now c.args.target.now.numbers in
+    rw (c.own_part.ensures, given) at c.give_part.ensures
 
 pub give_sub-requires-clause-targets : goal.give_sub-requires-clause-targets
-give_sub-requires-clause-targets c =
-    subst (λ (ks : List Kind). AreTargets ks c.args.gift.image.now.numbers c.args.gift.partners.now)
-    (sym (ap (λ (x : Typed). x.kinds) c.loop-sub.invariant)) c.requires.targets
+give_sub-requires-clause-targets c = rw c.loop-sub.invariant c.requires.targets
 
 pub give_sub-requires-clause-kinds : goal.give_sub-requires-clause-kinds
 give_sub-requires-clause-kinds c =
     let set = described c.args.set.now in
     let image = c.args.gift.image.now in
     let steps = steps_of (first_slots set (device_at set c.args.device) image.came c.loop-sub.sub image.numbers) in
-    ap (λ (x : Typed). length x.kinds) c.loop-sub.invariant ∙ c.requires.kinds
-    ∙ sym (steps_long c.args.gift.partners.now image.numbers steps c.args.target.now.numbers)
-    ∙ sym (ap (λ (x : Typed). length x.numbers) c.loop-sub.invariant)
+    rw (c.loop-sub.invariant, steps_long c.args.gift.partners.now image.numbers steps c.args.target.now.numbers) c.requires.kinds
 
 pub loop-sub-preserved : goal.loop-sub-preserved
 loop-sub-preserved c =
@@ -54,9 +44,6 @@ loop-sub-preserved c =
 
 pub returns : goal.returns
 returns c =
-    let set = described c.args.set.now in
-    let image = c.args.gift.image.now in
-    let target = c.args.target.now in
-    c.loop-sub.invariant ∙ ap (λ (l : List ℤ). record target { numbers = l })
-    (gave_all set c.args.device c.requires.device (state_of image) c.requires.of.subs c.requires.version c.args.gift.partners.now target.numbers c.loop-sub.sub
-    (omega (arith, c.loop-sub-test.false, c.sub_count-sub-end.ensures)) (omega (arith, c.loop-sub.auto.sub-end, c.sub_count-sub-end.ensures)))
+    let given = gave_all (described c.args.set.now) c.args.device c.requires.device (state_of c.args.gift.image.now) c.requires.of.subs c.requires.version
+    c.args.gift.partners.now c.args.target.now.numbers c.loop-sub.sub (omega (arith, c.sub_count-sub-end.ensures)) (omega (arith, c.sub_count-sub-end.ensures)) in
+    rw given at c.loop-sub.invariant

@@ -1,4 +1,4 @@
-use Rattle.vms_convert.proofs.Facade.{sym, subst, described, HasSpot, PartAt, sub_part}
+use Rattle.vms_convert.proofs.Facade.{described, sub_part}
 use Rattle.vms_convert.proofs.BringLaws.{sub_spot}
 use Rattle.vms_convert.proofs.carrying.give_sub.Goals as goal
 
@@ -7,5 +7,4 @@ give_part-requires-clause-part c =
     let set = described c.args.set.now in
     let numbers = c.args.gift.image.now.numbers in
     let h = sub_spot set c.args.device c.requires.device c.args.set.now.well_formed numbers c.requires.of.cells c.args.sub c.requires.sub in
-    let spot : HasSpot set (sub_part set c.args.device c.args.sub c.in-Some.version) numbers = record { part = h.part; few = h.few; room = h.room } in
-    subst (λ (p : PartAt). HasSpot set p numbers) (sym c.sub_part.ensures) spot
+    rw c.sub_part.ensures (record { part = h.part; few = h.few; room = h.room })

@@ -1,5 +1,4 @@
-use Rattle.vms_convert.proofs.Facade.{◌≡◌, ℕ, Option, Some, None, map, ap, ◌∙◌, subst, sym, Set, fit_of, described, state_of, has, loads, name_of, carried}
-use Rattle.vms_convert.proofs.Facade.{recast_each, KeepsMachine, first_cell_at, Loses, numbers_in}
+use Rattle.vms_convert.proofs.Facade.{Some, None, fit_of, described, has, loads, name_of, KeepsMachine}
 use Rattle.vms_convert.proofs.JudgeLaws.{ComesBack, cell_first, device_first, invalid_by, machine_last, writable_back}
 use Rattle.vms_convert.proofs.losing.judge.Goals.{Start}
 use Rattle.vms_convert.proofs.losing.judge.Goals as goal
@@ -23,22 +22,16 @@ pub returns-in-Some-first_invalid : goal.returns-in-Some-first_invalid
 returns-in-Some-first_invalid c =
     let to = described c.args.to.now in
     let new = loads c.args.loader.now in
-    let images = c.args.images.now in
-    let name = name_of new c.args.machine in
     let k = c.in-Some-first_invalid.device in
-    let wanted = recast_each to new.devices (numbers_in (has c.args.loader.now)) in
-    let there = numbers_in (carried to new (map state_of images)) in
-    let cell : c.first_cell.result ≡ first_cell_at new k = c.first_cell.ensures ∙ ap (λ (s : Set). first_cell_at s k) c.set-in-Some-first_invalid.ensures in
-    subst (λ (o : Option ℕ). Loses to new name wanted there (map state_of images) (Some k) o) (sym cell)
-    (device_first _ _ _ _ _ (came (goal.at.returns-in-Some-first_invalid c).Start) name c.in_default.is k
-    (invalid_by to new images _ (Some k) c.first_invalid.result c.set.ensures c.first_invalid.ensures c.in-Some-first_invalid.is))
+    rw (c.first_cell.ensures, c.set-in-Some-first_invalid.ensures)
+    (device_first _ _ _ _ _ (came (goal.at.returns-in-Some-first_invalid c).Start) (name_of new c.args.machine) c.in_default.is k
+    (invalid_by to new c.args.images.now _ (Some k) c.first_invalid.result c.set.ensures c.first_invalid.ensures c.in-Some-first_invalid.is))
 
 pub returns : goal.returns
 returns c =
     let to = described c.args.to.now in
     let name = name_of (loads c.args.loader.now) c.args.machine in
-    let machine : KeepsMachine to name c.machine_under.result =
-    subst (λ (s : Set). KeepsMachine to (name_of s c.args.machine) c.machine_under.result) c.set-2.ensures c.machine_under.ensures in
+    let machine : KeepsMachine to name c.machine_under.result = rw (← c.set-2.ensures) c.machine_under.ensures in
     machine_last _ _ _ _ _ (came (goal.at.returns c).Start) name c.in_default.is
     (invalid_by to (loads c.args.loader.now) c.args.images.now _ None c.first_invalid.result c.set.ensures c.first_invalid.ensures
     c.in_default-first_invalid.is)

@@ -1,17 +1,11 @@
-use Rattle.vms_convert.proofs.Facade.{◌≡◌, ◌<◌, [], List, ℕ, Option, Some, length, get_or, sym, subst, ap, arith, ◌∙◌, get_or_default, Set, described, IsNameAt}
-use Rattle.vms_convert.proofs.Facade.{few_machines, IsMachine, name_of, KeepsName}
+use Rattle.vms_convert.proofs.Facade.{◌≡◌, ◌<◌, [], List, ℕ, Some, length, get_or, ap, arith, ◌∙◌, get_or_default, Set, described, IsNameAt, few_machines}
 use Rattle.vms_convert.proofs.JudgeLaws.{keeps_machine}
 use Rattle.vms_convert.proofs.losing.machine_under.Goals as goal
 
 pub find_name-requires : goal.find_name-requires
 find_name-requires c =
-    omega (
-      arith,
-      few_machines (described c.args.to.now) c.args.to.now.well_formed,
-      ap length c.as_slice.ensures,
-      ap
-          (λ (s : Set). length s.machines) c.parts-2.ensures,
-    )
+    let few = few_machines (described c.args.to.now) c.args.to.now.well_formed in
+    omega (arith, ap length c.as_slice.ensures, ap (λ (s : Set). length s.machines) c.parts-2.ensures)
 
 pub returns-in-Some-find_name : goal.returns-in-Some-find_name
 returns-in-Some-find_name c =
@@ -22,10 +16,10 @@ returns-in-Some-find_name c =
     let known = c.as_slice.result.now in
     let name = c.as_bytes.result.now in
     let names : c.as_slice-names.result.now ≡ new.machines = c.as_slice-names.ensures ∙ ap (λ (s : Set). s.machines) c.parts.ensures in
-    let inside : m < length new.machines = subst (λ (o : Option ℕ). IsMachine new.machines o) c.in-Some.is c.requires in
+    let inside : m < length new.machines = rw c.in-Some.is at c.requires in
     let named : name ≡ get_or new.machines m [] =
     c.as_bytes.ensures ∙ c.index-names-number.is ∙ ap (λ (l : List (List ℕ)). get_or l m c.index-names-number.result) names
     ∙ get_or_default new.machines m c.index-names-number.result [] inside in
-    let found : IsNameAt known name (Some own) = subst (λ (o : Option ℕ). IsNameAt known name o) c.in-Some-find_name.is c.find_name.ensures.one in
-    subst (λ (o : Option ℕ). KeepsName to (name_of new o) (Some own)) (sym c.in-Some.is)
+    let found : IsNameAt known name (Some own) = rw c.in-Some-find_name.is at c.find_name.ensures.one in
+    rw c.in-Some.is
     (keeps_machine to new known name m own (c.as_slice.ensures ∙ ap (λ (s : Set). s.machines) c.parts-2.ensures) named found)

@@ -1,23 +1,21 @@
-use Rattle.vms_convert.proofs.Facade.{◌<◌, length, ℕ, sym, subst, arith, ◌∙◌, ap, List, Option, ◌++◌, described, device_at, Side, HasFew, partners_on}
+use Rattle.vms_convert.proofs.Facade.{◌<◌, length, arith, described, device_at}
 use Rattle.vms_spec.specs.declared.Part.TheVariants as parts
 use Rattle.vms_convert.proofs.PartnerSteps.{device_pairs, few_own, few_sub, room_own}
 use Rattle.vms_convert.proofs.pairing.partners.Goals as goal
 
 pub pair_descs-requires-clause-few : goal.pair_descs-requires-clause-few
-pair_descs-requires-clause-few c = subst (λ (s : Side). HasFew s 0) (sym c.at_own_version-older.ensures) (few_own c.args.old c.args.in_old)
+pair_descs-requires-clause-few c = rw c.at_own_version-older.ensures (few_own c.args.old c.args.in_old)
 
 pub pair_descs-requires-clause-room : goal.pair_descs-requires-clause-room
 pair_descs-requires-clause-room c = room_own c.args.new c.args.in_new
 
 pub loop-sub-init : goal.loop-sub-init
 loop-sub-init c =
-    let s = c.at_own_version-older.result in
-    let pairs = partners_on s (record { set = c.args.new; part = parts.Device c.args.in_new; version = s.version }) 0 in
-    device_pairs c.args.old c.args.new c.args.in_old c.args.in_new s c.pair_descs.new.partners.items c.at_own_version-older.ensures
-    (c.in_ok-pair_descs.ensures ∙ ap (λ (l : List (Option ℕ)). l ++ pairs) c.in_ok-partners.ensures.items)
+    device_pairs c.args.old c.args.new c.args.in_old c.args.in_new c.at_own_version-older.result c.pair_descs.new.partners.items
+    c.at_own_version-older.ensures (rw c.in_ok-partners.ensures.items at c.in_ok-pair_descs.ensures)
 
 pub pair_sub-requires-clause-few : goal.pair_sub-requires-clause-few
 pair_sub-requires-clause-few c =
     let lt : c.loop-sub.sub < length (device_at (described c.args.old.now) c.args.in_old).subs =
     omega (arith, c.loop-sub-test.true, c.sub_count-sub-end.ensures) in
-    subst (λ (s : Side). HasFew s 0) (sym c.at_own_version-older-in-loop-sub.ensures) (few_sub c.args.old c.args.in_old c.loop-sub.sub lt)
+    rw c.at_own_version-older-in-loop-sub.ensures (few_sub c.args.old c.args.in_old c.loop-sub.sub lt)

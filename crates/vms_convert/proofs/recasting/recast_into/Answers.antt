@@ -1,5 +1,4 @@
-use Rattle.vms_convert.proofs.Facade.{◌≡◌, List, ℤ, pos, length, get_or, sym, ap, ◌∙◌, subst, arith, NEWEST, kinds, recast_cells, recast_kinds, InRange, Kind}
-use Rattle.vms_convert.proofs.Facade.{U8}
+use Rattle.vms_convert.proofs.Facade.{◌≡◌, length, ap, ◌∙◌, arith, kinds, recast_cells, recast_kinds}
 use Rattle.vms_convert.proofs.recasting.recast_into.Goals.{After-recast-cells}
 use Rattle.vms_convert.proofs.recasting.recast_into.Goals as goal
 
@@ -16,5 +15,4 @@ pub put_cells-requires-clause-in_range : goal.put_cells-requires-clause-in_range
 put_cells-requires-clause-in_range c k lt =
     let is = recast_is (goal.at.put_cells-requires-clause-in_range c).After-recast-cells in
     let of = recast_kinds c.args.source.now.numbers c.requires.cells.of_kinds in
-    subst (λ (ks : List Kind). InRange (get_or ks k U8) (get_or c.recast-cells.result.items k (pos 0))) (sym c.requires.kinds)
-    (subst (λ (l : List ℤ). InRange (get_or (kinds NEWEST) k U8) (get_or l k (pos 0))) (sym is) (of.in_range k (omega (arith, ap length is, of.count))))
+    rw (c.requires.kinds, is) (of.in_range k (omega (arith, ap length is, of.count)))

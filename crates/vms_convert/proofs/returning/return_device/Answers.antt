@@ -1,4 +1,4 @@
-use Rattle.vms_convert.proofs.Facade.{List, ℤ, subst, fit_of, described, well_of, loads, FirstDifference}
+use Rattle.vms_convert.proofs.Facade.{fit_of, described, well_of, loads}
 use Rattle.vms_convert.proofs.Converts.{IsReturning, back_of, given_is, given_long, sources_of, targets_of}
 use Rattle.vms_convert.proofs.returning.return_device.Goals.{Start}
 use Rattle.vms_convert.proofs.returning.return_device.Goals as goal
@@ -36,8 +36,6 @@ returns c =
     record {
       of = c.come_back.ensures.of;
       back = back_of _ _ _ _ _ returning c.args.partners.now c.requires.partners c.come_back.new.image back;
-      lost = subst (λ (l : List ℤ). FirstDifference c.args.source.now.numbers l c.first_difference.result)
-          (given_is _ _ _ _ _ returning c.args.partners.now c.requires.partners c.come_back.new.image back c.args.carried.now c.requires.empty
-          c.give_all.new.target c.give_all.ensures)
-          c.first_difference.ensures;
+      lost = rw (← given_is _ _ _ _ _ returning c.args.partners.now c.requires.partners c.come_back.new.image back c.args.carried.now c.requires.empty
+          c.give_all.new.target c.give_all.ensures) c.first_difference.ensures;
     }

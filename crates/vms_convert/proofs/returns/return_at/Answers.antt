@@ -1,5 +1,5 @@
-use Rattle.vms_convert.proofs.Facade.{◌≡◌, ◌<◌, [], List, ℤ, Some, get_or, length, sym, ap, subst, arith, length-map, slice_get_within, slice_get, Image}
-use Rattle.vms_convert.proofs.Facade.{described, device_at, state_of, at_state, image_at, has, loads, recast_each, numbers_in, recast, IsReturned}
+use Rattle.vms_convert.proofs.Facade.{◌≡◌, ◌<◌, Some, length, ap, arith, length-map, slice_get_within, slice_get, described, state_of, at_state, image_at, has}
+use Rattle.vms_convert.proofs.Facade.{loads}
 use Rattle.vms_convert.proofs.ReturnsLaws.{recast_for, wanted_is}
 use Rattle.vms_convert.proofs.returns.return_at.Goals.{After-index-images-pair, Start}
 use Rattle.vms_convert.proofs.returns.return_at.Goals as goal
@@ -13,10 +13,9 @@ kept_at c =
     let k = c.args.pair.other in
     let images = c.images.result.now in
     let image = c.index-images-pair.result in
-    let inside : k < length (loads c.args.pair.loader.now).devices = slice_get_within (loads c.args.pair.loader.now).devices k _ c.requires.route.pair.in_new in
+    let inside = slice_get_within (loads c.args.pair.loader.now).devices k _ c.requires.route.pair.in_new in
     let within : k < length images = omega (arith, inside, length-map images state_of, ap length c.images.ensures.images, c.requires.kept.one_each) in
-    subst (λ (l : List Image). slice_get l k ≡ Some (state_of image)) c.images.ensures.images
-    (at_state images k image (image_at images k image within c.index-images-pair.is))
+    rw (← c.images.ensures.images) (at_state images k image (image_at images k image within c.index-images-pair.is))
 
 pub return_image-requires-clause-recast : goal.return_image-requires-clause-recast
 return_image-requires-clause-recast c =
@@ -31,6 +30,5 @@ returns c =
     let k = c.args.pair.other in
     let image = c.index-images-pair.result in
     let p = goal.at.returns c in
-    let is : get_or (recast_each to new.devices (numbers_in (has c.args.pair.loader.now))) k [] ≡ recast to (device_at new k) image.numbers =
-    wanted_is to new c.requires.newest (has c.args.pair.loader.now) c.requires.kept k (inside p.Start) (state_of image) (kept_at p.After-index-images-pair) in
-    subst (λ (l : List ℤ). IsReturned to new c.args.pair.device k l c.return_image.new.image c.return_image.result) (sym is) c.return_image.ensures
+    rw (wanted_is to new c.requires.newest (has c.args.pair.loader.now) c.requires.kept k (inside p.Start) (state_of image)
+    (kept_at p.After-index-images-pair)) c.return_image.ensures

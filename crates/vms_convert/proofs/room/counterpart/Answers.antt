@@ -1,4 +1,4 @@
-use Rattle.vms_convert.proofs.Facade.{◌≡◌, ℕ, List, sym, ap, ◌∙◌, find_device, Device, first_fault, described, device_at, none_is}
+use Rattle.vms_convert.proofs.Facade.{◌≡◌, sym, ap, ◌∙◌, find_device, Device, first_fault, described, device_at, none_is}
 use Rattle.vms_convert.proofs.ReturnsLaws.{always_found, pair_found}
 use Rattle.vms_convert.proofs.room.counterpart.Goals.{After-find}
 use Rattle.vms_convert.proofs.room.counterpart.Goals as goal
@@ -6,12 +6,8 @@ use Rattle.vms_convert.proofs.room.counterpart.Goals as goal
 found : (c : After-find)
     → let d = device_at (described c.args.to.now) c.args.device in find_device 0 (described c.args.newest.now).devices d.desc.name d.instance ≡ c.find.result
 found c =
-    let new = described c.args.newest.now in
-    let d = device_at (described c.args.to.now) c.args.device in
-    let name : c.as_bytes.result.now ≡ d.desc.name = c.as_bytes.ensures ∙ ap (λ (x : Device). x.desc.name) c.device-described.ensures in
-    let instance : c.device-described.result.now.instance ≡ d.instance = ap (λ (x : Device). x.instance) c.device-described.ensures in
-    ap (λ (n : List ℕ). find_device 0 new.devices n d.instance) (sym name) ∙ ap (λ (m : ℕ). find_device 0 new.devices c.as_bytes.result.now m) (sym instance)
-    ∙ sym c.find.ensures
+    let name = c.as_bytes.ensures ∙ ap (λ (x : Device). x.desc.name) c.device-described.ensures in
+    rw (← name, ← ap (λ (x : Device). x.instance) c.device-described.ensures) (sym c.find.ensures)
 
 pub returns : goal.returns
 returns c =
