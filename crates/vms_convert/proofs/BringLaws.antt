@@ -1,12 +1,12 @@
 -- The parts of a device, as the code walks over them by number.
-use Rattle.vms_convert.proofs.Facade.{add-one, ◌≡◌, ℕ, suc, ◌+◌, ◌<◌, ◌≤◌, Bool, true, false, List, length, map, Option, Some, None, ℤ, refl, sym, ap, ◌∙◌}
-use Rattle.vms_convert.proofs.Facade.{arith, get_or, append-nil, slice_get-get_or, slice_get, take_all, IsGood, Sub, Device, Set, Slot, device_cells, own_slots}
-use Rattle.vms_convert.proofs.Facade.{Image, image_slots, WellFormed, needed_at, device_at, is_well_formed, sub_at, few_cells, own_inside_device, sub_inside}
+use Rattle.vms_convert.proofs.Facade.{add-one, ◌≡◌, ℕ, ◌+◌, ◌<◌, ◌≤◌, Bool, true, false, List, length, map, Option, Some, None, ℤ, refl, sym, ap, ◌∙◌, arith}
+use Rattle.vms_convert.proofs.Facade.{get_or, append-nil, slice_get-get_or, slice_get, take_all, IsGood, Sub, Device, Set, Slot, device_cells, own_slots, Image}
+use Rattle.vms_convert.proofs.Facade.{image_slots, WellFormed, needed_at, device_at, is_well_formed, sub_at, few_cells, own_inside_device, sub_inside}
 use Rattle.vms_convert.proofs.Facade.{IsImageOf, Typed, bare, needed_from, HasSpot, spot_slots, steps_of, AreTaken, AreSettled, ArePutAt, SettlesBy, SettlesSub}
-use Rattle.vms_convert.proofs.Facade.{marked_by, part_of, own_part, part_slots, sub_slots_at, changed, put_step, part_place, give_step}
+use Rattle.vms_convert.proofs.Facade.{part_of, own_part, part_slots, sub_slots_at, changed, put_step, part_place, give_step}
 use Rattle.vms_spec.specs.declared.Part.TheVariants as parts
 use Rattle.vms_convert.proofs.TakeLaws.{all_came, first_slots, first_next, one_slots, all_taken, taken_next}
-use Rattle.vms_convert.proofs.Settling.{MarkedTo, all_marked, marked_next, marked_none, marked_skip, AreBare, SettledTo, all_settled, settled_bare}
+use Rattle.vms_convert.proofs.Settling.{MarkedTo, all_marked, AreBare, SettledTo, all_settled, settled_bare}
 use Rattle.vms_convert.proofs.Settling.{settled_needed}
 use Rattle.vms_convert.proofs.BackNormal.{gives_more}
 
@@ -16,9 +16,6 @@ module _ (set : Set) (i : ℕ) (lt : i < length set.devices) where
 
   pub there : slice_get set.devices i ≡ Some (device_at set i)
   there = slice_get-get_or set.devices i _ lt
-
-  abbrev pub sub_of_number : ℕ → Sub
-  sub_of_number j = sub_at (device_at set i) j
 
   pub sub_there : (j : ℕ) → j < length (device_at set i).subs → slice_get (device_at set i).subs j ≡ Some (sub_at (device_at set i) j)
   sub_there j less = slice_get-get_or (device_at set i).subs j _ less
@@ -108,18 +105,6 @@ module _ (set : Set) (i : ℕ) (lt : i < length set.devices) where
   module _ (numbers : List ℤ) where
     abbrev pub MarkedUp : ℕ → List (Option ℕ) → Type 0
     MarkedUp j came = MarkedTo set (device_at set i) (bare (device_at set i) numbers) (device_at set i).subs j came
-
-    pub mark_one : (came : List (Option ℕ)) (j : ℕ) → j < length d.subs → MarkedUp j came
-        → MarkedUp (j + 1) (marked_by (needed_at set i j numbers) set i j came)
-    mark_one came j less h =
-        rw (add-one j) (go (needed_at set i j numbers) refl)
-      where
-        go : (t : Bool) → needed_at set i j numbers ≡ t → MarkedUp (suc j) (marked_by t set i j came)
-        go true e = marked_next set d (bare d numbers) d.subs came j (sub_at d j) (sub_there j less) h e
-        go false e = marked_skip set d (bare d numbers) d.subs came j (sub_at d j) (sub_there j less) h e
-
-    pub mark_none : MarkedUp 0 (map (λ s. None) d.subs)
-    mark_none = marked_none set d (bare d numbers) d.subs
 
     pub mark_all : (came : List (Option ℕ)) (j : ℕ) → length d.subs ≤ j → j ≤ length d.subs → MarkedUp j came
         → came ≡ needed_from set d (bare d numbers) 0 d.subs

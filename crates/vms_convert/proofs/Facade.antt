@@ -53,7 +53,6 @@ pub use Rattle.vms_spec.specs.declared.TheConstants.{MOST_ITEMS}
 pub use Rattle.vms_spec.specs.declared.Whose.TheVariants.{Own, Parent}
 pub use Rattle.vms_bodies.proofs.AboveLaws.{MeanAbove, field_above, meanings_above}
 pub use Rattle.vms_bodies.proofs.AgreeLaws.{its_above, its_below, its_in, its_same}
-pub use Rattle.vms_bodies.proofs.BodyLaws.{at_set}
 pub use Rattle.vms_bodies.proofs.ComeLaws.{same_lists}
 pub use Rattle.vms_bodies.proofs.FineLaws.{image_are, part_place}
 pub use Rattle.vms_bodies.proofs.Names.{names_append, none_in_both}
@@ -84,8 +83,8 @@ pub use Rattle.vms_check_laws.specs.Carried.{IsAtVersions, IsCarried}
 pub use Rattle.vms_check_laws.specs.Pairing.{AreOfKinds, ArePartners}
 pub use Rattle.vms_check_laws.specs.SubCells.{IsCellOf}
 pub use Rattle.vms_convert.specs.Back.{AreSettled, AreTaken, IsBack, taken, whole}
-pub use Rattle.vms_convert.specs.Bringing.{ArePut, ArePutAt, SettlesBy, SettlesSub, marked_by, own_part, part_of, part_slots, sub_part, sub_slots_at}
-pub use Rattle.vms_convert.specs.Calls.{Converts, ConvertsInto, ConvertsKept, IsStreamFor, PutsStream, as_fault}
+pub use Rattle.vms_convert.specs.Bringing.{ArePut, ArePutAt, SettlesBy, SettlesSub, own_part, part_of, part_slots, sub_part, sub_slots_at}
+pub use Rattle.vms_convert.specs.Calls.{ConvertsKept, IsStreamFor, PutsStream}
 pub use Rattle.vms_convert.specs.Changes.{Changes, changed, changed_append}
 pub use Rattle.vms_convert.specs.Converted.{AreBack, IsConverted, IsPairAt, recast_each}
 pub use Rattle.vms_convert.specs.Giving.{AreTargets, give_partner, give_step}
@@ -98,9 +97,8 @@ pub use Rattle.vms_convert.specs.Putting.{AreSources, put_partner, put_step}
 pub use Rattle.vms_convert.specs.Recast.{is_port, is_ring, recast, wants, wants_arrays}
 pub use Rattle.vms_convert.specs.Returning.{FirstDifference, IsReturned}
 pub use Rattle.vms_convert.specs.Returns.{ArePaired, AreReturned, AreReturnedTo, IsFirstLost, IsLostCell, IsRecastFor, carried_of}
-pub use Rattle.vms_convert.specs.Rooms.{AreFresh, AreRoutes, IsRoute, recast_room}
+pub use Rattle.vms_convert.specs.Rooms.{AreFresh, AreRoutes, IsRoute}
 pub use Rattle.vms_convert.specs.Takes.{put_keeps, takes_keeps}
-pub use Rattle.vms_convert.specs.declared.fault.ConvertFault.{ConvertFault}
 pub use Rattle.vms_convert.specs.declared.fault.Loss.{Loss}
 pub use Rattle.vms_convert.specs.declared.pairing.Arrays.{Arrays}
 pub use Rattle.vms_convert.specs.declared.pairing.Elements.{Elements}
@@ -120,15 +118,13 @@ pub use Rattle.vms_desc.specs.Spots.{kinds_at}
 pub use Rattle.vms_desc.specs.declared.set.DescSet.{DescSet}
 pub use Rattle.vms_image.proofs.States.{at_state, image_at}
 pub use Rattle.vms_image.specs.Typed.{AreImagesOf, IsImageOf, Typed, default_at, state_of, typed}
-pub use Rattle.vms_io.specs.Told.{Intake, Outlet, outlet}
+pub use Rattle.vms_io.specs.Told.{Outlet, outlet}
 pub use Rattle.vms_io.specs.Writing.{Puts, Stops}
 pub use Rattle.vms_load.proofs.HeadLemmas.{device_below}
 pub use Rattle.vms_load.proofs.SetFacts.{well_of}
-pub use Rattle.vms_load.specs.Going.{LoadReads}
 pub use Rattle.vms_load.specs.Good.{AreKept}
 pub use Rattle.vms_load.specs.Lean.{has, loads}
 pub use Rattle.vms_load.specs.Staging.{name_of}
-pub use Rattle.vms_load.specs.declared.fault.LoadFault.{LoadFault}
 pub use Rattle.vms_parts.specs.Capacities.{least_of}
 pub use Rattle.vms_parts.specs.Sizes.{in_u32}
 pub use Rattle.vms_parts.specs.Views.{device_of, field_of, sub_of}

@@ -138,9 +138,6 @@ module _ (y : List (List Cell)) (all : List Field) (w : ℕ) where
   entries_here : (i p : ℕ) → i < length all → entries_on i p ≡ entry_of i p (at_number i) (state_at i) ++ entries_on (i + 1) (p + size_at i)
   entries_here i p lt = rw (drop_more all i no_field lt, add-one)
 
-  pub entries_skip : (i p : ℕ) → i < length all → is_absent w (at_number i) ≡ true → entries_on (i + 1) (p + size_at i) ≡ entries_on i p
-  entries_skip i p lt e = rw (entries_here i p lt, nothing (state_at i) e)
-
   pub entries_found : (i p : ℕ) → i < length all → (h : IsThere (state_at i))
       → entries_on i p ≡ record { index = i; place = p; field = at_number i; rest = h.rest } ∷ entries_on (i + 1) (p + size_at i)
   entries_found i p lt h = rw (entries_here i p lt, h.is)
@@ -186,10 +183,6 @@ module _ (structs : List Pairer) (x y : List (List Cell)) (all : List Field) (v 
 module _ (structs : List Pairer) (x y : List (List Cell)) (a b : Item) where
   abbrev arrays : ℕ → ℕ → ℕ → List (Option ℕ)
   arrays n m at = array_partners structs x y a b n m at
-
-  pub array_end : (n m at : ℕ) → n ≡ 0 → arrays n m at ≡ []
-  array_end zero m at e = refl
-  array_end (suc n) m at e = absurd (omega arith)
 
   -- by the number of the element
   pub element_paired : (n m i at : ℕ) → i < n → i < m

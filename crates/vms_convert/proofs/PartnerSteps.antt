@@ -1,6 +1,6 @@
 -- Pairing step by step, as the code has it.
 use Rattle.vms_convert.proofs.Facade.{append_assoc, ◌≡◌, ℕ, ◌+◌, ◌-◌, ◌*◌, ◌<◌, ◌≤◌, List, [], ◌∷◌, ◌++◌, length, get_or, drop, replicate, true, false, Option}
-use Rattle.vms_convert.proofs.Facade.{slice_get, Some, None, ap, ◌∙◌, arith, append-nil, drop_all, Bor, flat_map, slice_get-get_or, Cell, no_desc, no_field}
+use Rattle.vms_convert.proofs.Facade.{slice_get, Some, None, ap, arith, append-nil, drop_all, Bor, flat_map, slice_get-get_or, Cell, no_desc, no_field}
 use Rattle.vms_convert.proofs.Facade.{capacity_of, item_size, desc_cells, field_cells, struct_cells, find_sub, Field, Sub, Set, DescSet, few_cells}
 use Rattle.vms_convert.proofs.Facade.{own_inside_device, sub_inside, struct_is, MOST_ITEMS, field_size, in_u32, Part, uses_below, described, device_at, well_of}
 use Rattle.vms_convert.proofs.Facade.{is_well_formed, HasPart, desc_at, sub_at, reach, field_clean, reach_whole, uses_more, Entry, is_absent, present_from}
@@ -9,8 +9,8 @@ use Rattle.vms_convert.proofs.Facade.{IsStart, IsNextStart, IsBehind, PairsField
 use Rattle.vms_convert.proofs.Facade.{Arrays, Start, Side}
 use Rattle.vms_spec.specs.declared.Part.TheVariants as parts
 use Rattle.vms_desc.specs.Asks.{first_cell}
-use Rattle.vms_convert.proofs.PartnerLaws.{depth, depth_within, something, entries_skip, entries_found, entries_end, cells_here, left_absent, left_alone}
-use Rattle.vms_convert.proofs.PartnerLaws.{left_paired, desc_left, element_paired, element_alone, all_but_one, one_of_all, array_end}
+use Rattle.vms_convert.proofs.PartnerLaws.{depth, depth_within, something, entries_found, entries_end, cells_here, left_absent, left_alone}
+use Rattle.vms_convert.proofs.PartnerLaws.{left_paired, desc_left, element_paired, element_alone, all_but_one, one_of_all}
 
 pub few_are : (n : ℕ) → n ≤ MOST_ITEMS → in_u32 n ≡ n
 few_are n le = omega arith
@@ -72,10 +72,6 @@ module _ (s : Side) where
 
   pub entries_behind : (start next : Start) → IsBehind s start next → entries_at s next ≡ entries_on (start.field + 1) (start.cell + cells_at start.field)
   entries_behind start next h = rw (h.field, h.cell)
-
-  pub skip_field : (start next : Start) → start.field < length all → IsBehind s start next → is_absent s.version (field_at start.field) ≡ true
-      → entries_at s next ≡ entries_at s start
-  skip_field start next lt h e = entries_behind start next h ∙ entries_skip cs all s.version start.field start.cell lt e
 
 -- which structures a field uses
 pub uses_here : (set : Set) → is_well_formed set ≡ true → (part : Part) → HasPart set part → (k : ℕ) → k < length (desc_at set part).fields
@@ -182,13 +178,6 @@ module _ (a : Arrays) (are : AreArrays a) (i at : ℕ) (lt : i < a.one.count) (r
         room = rw none room;
         so_far = rw (rw small at put, element_alone _ _ _ a.one.item a.other.item a.one.count a.other.count i at lt le, append_assoc);
       }
-
--- all elements
-pub all_elements : (a : Arrays) (i first at : ℕ) (before after : List (Option ℕ)) → a.one.count ≤ i
-    → after ++ elements_left a i at ≡ before ++ elements_left a 0 first → after ≡ before ++ elements_left a 0 first
-all_elements a i first at before after end e =
-    let none : elements_left a i at ≡ [] = array_end _ _ _ a.one.item a.other.item (a.one.count - i) (a.other.count - i) at (omega arith) in
-    rw (none, append-nil) at e
 
 -- ---- parts of devices, and structures
 

@@ -1,7 +1,7 @@
 -- Recast numbers of normal images of the newest set are of its devices' kinds.
 use Rattle.vms_convert.proofs.Facade.{◌≡◌, zero, suc, Bool, true, false, List, [], ◌∷◌, get_or, map, Some, ℤ, pos, refl, sym, subst, arith, if◌then◌else◌, ℕ}
-use Rattle.vms_convert.proofs.Facade.{◌<◌, ◌&&◌, length, ap, ◌∙◌, Option, None, IfSome, slice_get, Kind, Device, Set, Cell, first, device_cells, Image}
-use Rattle.vms_convert.proofs.Facade.{IsNormal, set_4, timer, i8259_at_4, i8254_at_2, AreOf, kind-of, count-of, kinds, IsPortCells, recast_cells, recast_kinds}
+use Rattle.vms_convert.proofs.Facade.{◌<◌, length, ap, ◌∙◌, Option, None, IfSome, slice_get, Kind, Device, Set, Cell, first, device_cells, Image, IsNormal}
+use Rattle.vms_convert.proofs.Facade.{set_4, timer, i8259_at_4, i8254_at_2, AreOf, kind-of, count-of, kinds, IsPortCells, recast_cells, recast_kinds}
 use Rattle.vms_convert.proofs.Facade.{AreRecastOf, RecastOfLaw, OneLostLaw, AreOfKinds, recast, wants_arrays, is_port, AreKept, serial_at_4, port-of}
 use Rattle.vms_convert.proofs.Facade.{recast_each, is_one_of, one_number, DifferAt, first_cell, Loses, OfCell, OfDevice, OfMachine, KeepsAll}
 use Rattle.vms_parts.specs.Devices.{device_at}
@@ -70,12 +70,6 @@ pub recast_long : (to : Set) (devices : List Device) (lists : List (List ℤ)) �
 recast_long to [] lists l = refl
 recast_long to (d ∷ devices) [] l = absurd (omega arith)
 recast_long to (d ∷ devices) (n ∷ lists) l = ap suc (recast_long to devices lists (omega arith))
-
-pub recast_is : (to : Set) (e : Device) (numbers : List ℤ) → (is_port e && wants_arrays to) ≡ true → recast to e numbers ≡ recast_cells numbers
-recast_is to e numbers h = ap (λ (b : Bool). if b then recast_cells numbers else numbers) h
-
-pub recast_not : (to : Set) (e : Device) (numbers : List ℤ) → (is_port e && wants_arrays to) ≡ false → recast to e numbers ≡ numbers
-recast_not to e numbers h = ap (λ (b : Bool). if b then recast_cells numbers else numbers) h
 
 -- ---- images that a loader of the newest set keeps
 

@@ -1,11 +1,10 @@
 -- One device more is brought to the older set.
 use Rattle.vms_convert.proofs.Facade.{take_all, ◌≡◌, ℕ, ◌+◌, ◌<◌, List, [], ◌∷◌, ◌++◌, length, length-append, get_or, map, Option, Some, None, ℤ, refl, sym, ap}
-use Rattle.vms_convert.proofs.Facade.{◌∙◌, arith, Bool, true, false, ◌&&◌, if◌then◌else◌, ◌≤◌, slice_set, take, length-map, map-append, take_more_set}
-use Rattle.vms_convert.proofs.Facade.{slice_get-get_or, slice_get_within, slice_get, IsBack, device_partners, find_device, Set, WellFormed, Image}
-use Rattle.vms_convert.proofs.Facade.{default_image, device_at, Typed, state_of, AreImagesOf, default_at, typed, Compatible, found_device, pair, all_in}
-use Rattle.vms_convert.proofs.Facade.{IsReturned, ArePaired, AreReturnedTo, AreReturned, IsRecastFor, LostCell, Kind, kinds_at, at_map, is_port, wants_arrays}
-use Rattle.vms_convert.proofs.Facade.{recast, AreFresh, AreRoutes, IsRoute, recast_room, Route, first, device_cells, set_4, AreOfKinds, AreKept, NEWEST}
-use Rattle.vms_convert.proofs.Facade.{IsPortCells, kinds, recast_each, numbers_in, at_other, IsImageOf}
+use Rattle.vms_convert.proofs.Facade.{◌∙◌, arith, true, ◌≤◌, slice_set, take, length-map, map-append, take_more_set, slice_get-get_or, slice_get_within}
+use Rattle.vms_convert.proofs.Facade.{slice_get, IsBack, device_partners, find_device, Set, WellFormed, Image, default_image, device_at, Typed, state_of}
+use Rattle.vms_convert.proofs.Facade.{AreImagesOf, default_at, typed, Compatible, found_device, pair, all_in, IsReturned, ArePaired, AreReturnedTo, AreReturned}
+use Rattle.vms_convert.proofs.Facade.{IsRecastFor, LostCell, Kind, kinds_at, at_map, is_port, recast, AreFresh, AreRoutes, IsRoute, Route, first, device_cells}
+use Rattle.vms_convert.proofs.Facade.{set_4, AreOfKinds, AreKept, NEWEST, IsPortCells, kinds, recast_each, numbers_in, at_other, IsImageOf}
 use Rattle.vms_convert.proofs.HasBack.{appended}
 use Rattle.std.proofs.lemmas.List.{length-set}
 use Rattle.vms_convert.specs.Returns.{IsEarlier}
@@ -69,22 +68,6 @@ fresh_of set images states of = record {
       cc (rw states at (at_map state_of images i image at), at_map (default_image set) set.devices i (device_at set i) (there set i lt)) in
       ap (λ (kinds : List Kind). typed kinds (state_of image)) (of.each i image at).kinds ∙ ap (typed (kinds_at set i)) same;
 }
-
--- ---- the image for recast numbers
-
-module _ (to new : Set) (k : ℕ) where
-  abbrev is_recast : Bool
-  is_recast = is_port (device_at new k) && wants_arrays to
-
-  pub no_room : recast_room to new k ≡ None → is_recast ≡ false
-  no_room is = (elim is_recast as (λ b. (if b then Some (default_at new k) else None) ≡ None → b ≡ false) [ true ↦ λ is. cc | false ↦ λ is. refl ]) is
-
-  pub has_room : (image : Typed) → recast_room to new k ≡ Some image → (is_recast ≡ true) × (image ≡ default_at new k)
-  has_room image is =
-      (elim is_recast as (λ b. (if b then Some (default_at new k) else None) ≡ Some image → (b ≡ true) × (image ≡ default_at new k)) [
-        | true ↦ λ is. (refl, cc)
-        | false ↦ λ is. cc
-      ]) is
 
 -- ---- while devices are brought
 

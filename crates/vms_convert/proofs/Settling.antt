@@ -1,11 +1,10 @@
 -- Whether a subsection is needed depends on its own cells and on those of its device.
 use Rattle.vms_convert.proofs.Facade.{cases_lt, inl, inr, ◌≡◌, ℕ, ◌+◌, List, length, get_or, Option, Some, None, ℤ, refl, ap, ◌∙◌, arith, Bool, true, not}
-use Rattle.vms_convert.proofs.Facade.{bit_and, suc, ◌<◌, ◌≤◌, false, pos, sym, if◌then◌else◌, zero, [], ◌∷◌, length-set, map, slice_set, slice_get, and_parts}
-use Rattle.vms_convert.proofs.Facade.{slice_get_within, length-map, width, residue, Own, Parent, Formula, AtLeast, Below, Not, And, Or, Field, Desc, Sub}
-use Rattle.vms_convert.proofs.Facade.{Device, Set, truth, compares, no_field, kind_of, place_of, numbers_of, desc_cells, struct_cells, no_cell, device_cells}
-use Rattle.vms_convert.proofs.Facade.{Image, own_cells, is_needed, is_steady, is_steady_in, names_well, WellFormed, IsEarlier, place_up, place_below, place_end}
-use Rattle.vms_convert.proofs.Facade.{sub_size, sub_place_up, places_apart, at_other, part_place, SameIn, earlier, sub_clean, bare, needed_from, IsCellOf}
-use Rattle.vms_convert.proofs.Facade.{AreSettled, whole, IsBack, at_set, same_lists, IsAtVersions, at_map}
+use Rattle.vms_convert.proofs.Facade.{bit_and, suc, ◌<◌, ◌≤◌, false, pos, sym, if◌then◌else◌, zero, [], ◌∷◌, slice_get, and_parts, slice_get_within, width}
+use Rattle.vms_convert.proofs.Facade.{residue, Own, Parent, Formula, AtLeast, Below, Not, And, Or, Field, Desc, Sub, Device, Set, truth, compares, no_field}
+use Rattle.vms_convert.proofs.Facade.{kind_of, place_of, numbers_of, desc_cells, struct_cells, no_cell, device_cells, Image, own_cells, is_needed, is_steady}
+use Rattle.vms_convert.proofs.Facade.{is_steady_in, names_well, WellFormed, IsEarlier, place_up, place_below, place_end, sub_size, sub_place_up, places_apart}
+use Rattle.vms_convert.proofs.Facade.{part_place, SameIn, earlier, sub_clean, bare, needed_from, IsCellOf, AreSettled, whole, IsBack, same_lists, IsAtVersions}
 use Rattle.vms_spec.specs.Sets.{Cell}
 use Rattle.vms_spec.specs.Layout.{Cell as OneCell}
 
@@ -75,9 +74,6 @@ pub record AreBare (set : Set) (d : Device) (j : ℕ) (s : Sub) (before now : Li
   pub below : (c : ℕ) → c < part_place set d j → get_or now c (pos 0) ≡ get_or before c (pos 0)
   pub above : (c : ℕ) → part_place set d j + sub_size set s ≤ c → get_or now c (pos 0) ≡ get_or before c (pos 0)
 
-pub settled_none : (set : Set) (d : Device) (n : List ℤ) → SettledTo set d 0 n n
-settled_none set d n = record { long = refl; own = λ c lt. refl; done = λ i s c lt h. absurd (omega arith); left = λ i s c le h. refl }
-
 module _ (set : Set) (well : WellFormed set) (k : ℕ) (d : Device) (there : slice_get set.devices k ≡ Some d) (before : List ℤ) where
   -- a test of subsection j answers as before
   pub still_needed : (now : List ℤ) (j : ℕ) (s : Sub) → slice_get d.subs j ≡ Some s → SettledTo set d j before now
@@ -137,36 +133,6 @@ module _ (set : Set) (d : Device) (image : Image) where
     pub long : length came ≡ length subs
     pub done : (i : ℕ) (s : Sub) → i < j → slice_get subs i ≡ Some s → slice_get came i ≡ Some (comes i s)
     pub left : (i : ℕ) (s : Sub) → j ≤ i → slice_get subs i ≡ Some s → slice_get came i ≡ Some None
-
-  pub marked_none : (subs : List Sub) → MarkedTo subs 0 (map (λ s. None) subs)
-  marked_none subs = record { long = length-map subs _; done = λ i s lt e. absurd (omega arith); left = λ i s le e. at_map (λ s. None) subs i s e }
-
-  -- the last of those up to j
-  at_last : (subs : List Sub) (i j : ℕ) (t s : Sub) → i ≡ j → slice_get subs i ≡ Some t → slice_get subs j ≡ Some s → (b : Bool)
-      → is_needed set d image s j ≡ b → comes i t ≡ (if b then Some s.desc.version else None)
-  at_last subs i j t s same f e b n =
-      let sub : t ≡ s = cc in rw (sub, same, n)
-
-  -- one more, which isn't needed, or is and is marked
-  pub marked_skip : (subs : List Sub) (came : List (Option ℕ)) (j : ℕ) (s : Sub) → slice_get subs j ≡ Some s → MarkedTo subs j came
-      → is_needed set d image s j ≡ false → MarkedTo subs (suc j) came
-  marked_skip subs came j s e h n = record {
-    long = h.long;
-    done = λ i t lt f. by_last i j lt (λ less. h.done i t less f) (λ same. h.left i t (omega arith) f ∙ sym (ap Some (at_last subs i j t s same f e false n)));
-    left = λ i t le f. h.left i t (omega arith) f;
-  }
-
-  pub marked_next : (subs : List Sub) (came : List (Option ℕ)) (j : ℕ) (s : Sub) → slice_get subs j ≡ Some s → MarkedTo subs j came
-      → is_needed set d image s j ≡ true → MarkedTo subs (suc j) (slice_set came j (Some s.desc.version))
-  marked_next subs came j s e h n =
-      let next = slice_set came j (Some s.desc.version) in
-      record {
-        long = length-set came j (Some s.desc.version) ∙ h.long;
-        done = λ i t lt f. by_last i j lt (λ less. at_other came j i (Some s.desc.version) (λ same. absurd (omega arith)) ∙ h.done i t less f) (λ same.
-            ap (slice_get next) same ∙ at_set came j (Some s.desc.version) (omega (arith, h.long, slice_get_within subs j s e))
-            ∙ sym (ap Some (at_last subs i j t s same f e true n)));
-        left = λ i t le f. at_other came j i (Some s.desc.version) (λ same. absurd (omega arith)) ∙ h.left i t (omega arith) f;
-      }
 
   -- ---- all of them
 
