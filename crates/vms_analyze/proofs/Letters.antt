@@ -24,8 +24,7 @@ pub named_path : (most : ℕ) (text : List ℕ) → IsNamed most text → is_pat
 named_path most text h =
     let a = le-leb 1 (length text) h.some in
     let b = le-leb (length text) most h.few in
-    let c = h.bytes in
-    rw (a, b, c) refl
+    rw (a, b, h.bytes) refl
 
 pub named_within : (a b : ℕ) (text : List ℕ) → a ≤ b → IsNamed a text → IsNamed b text
 named_within a b text le h = let few = h.few in record { some = h.some; few = omega arith; bytes = h.bytes }

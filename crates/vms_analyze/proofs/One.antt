@@ -1,6 +1,6 @@
 -- An input has at most one listing.
 use Rattle.vms_analyze.proofs.Facade.{same_Some, ◌≡◌, ℕ, List, take, refl, sym, ap, ap₂, ◌∙◌, subst, arith, ⊎_elim, ◌≤◌, ◌<◌, cases_lt, ToldDevice, wants}
-use Rattle.vms_analyze.proofs.Facade.{found, IsLastPlace, Tells, listing_of, IsTooLong, HasNone, HasNoShape, IsRead, Refused, OneLaw}
+use Rattle.vms_analyze.proofs.Facade.{found, IsLastPlace, Tells, listing_of, IsTooLong, HasNone, HasNoShape, IsRead, Refused, OneLaw, LongestLaw}
 use Rattle.vms_analyze.proofs.DevicesRead.{told_back}
 
 -- ---- one place, and one listing
@@ -37,3 +37,8 @@ one_holds input _ _ (IsRead p ds le last tells) (IsRead q es le' last' tells') =
     let at = last_same input p q last last' in
     let same = tells_same input q ds es (subst (λ (k : ℕ). Tells input k ds) at tells) tells' in
     ap₂ (λ (k : ℕ) (l : List ToldDevice). listing_of (found (wants l) 0 0 (take k input))) at same
+
+-- ---- greatest lengths
+
+pub longest_are : LongestLaw
+longest_are = record { input = refl; path = refl }

@@ -19,7 +19,5 @@ returns-in-Ok-extend_from_slice g c =
 
 pub returns-in-Err-extend_from_slice : goal.returns-in-Err-extend_from_slice
 returns-in-Err-extend_from_slice g c =
-    let count = c.in-Ok.count in
     let piece = c.read_exact_of.new.buf in
-    let bound = c.in-Ok.ensures.bound in
-    record { bytes = take count piece; takes = c.in-Ok.ensures.takes; few = omega (arith, bound, length-take count piece) }
+    record { bytes = take c.in-Ok.count piece; takes = c.in-Ok.ensures.takes; few = omega (arith, c.in-Ok.ensures.bound, length-take c.in-Ok.count piece) }

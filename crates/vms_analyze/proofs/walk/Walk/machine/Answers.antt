@@ -1,5 +1,5 @@
 use Rattle.vms_analyze.proofs.Facade.{◌≡◌, ℕ, ◌+◌, List, length, true, refl, sym, ap, ◌∙◌, on_ok_weaker, begins_with, configuration, left, Walk}
-use Rattle.vms_analyze.proofs.WalkHeads.{machine_goes, machine_passes}
+use Rattle.vms_analyze.proofs.Walks.{machine_goes, machine_passes}
 use Rattle.vms_analyze.proofs.walk.Walk.machine.Goals as goal
 
 pub returns-then-not-has_configuration-clause-ok : goal.returns-then-not-has_configuration-clause-ok

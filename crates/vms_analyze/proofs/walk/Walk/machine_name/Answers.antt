@@ -1,5 +1,5 @@
 use Rattle.vms_analyze.proofs.Facade.{◌≤◌, ◌+◌, ◌-◌, length, length-take, take, drop, sym, ap, ◌∙◌, arith, list_all, LONGEST_NAME, is_name_byte, left}
-use Rattle.vms_analyze.proofs.WalkHeads.{name_there, is_name_of, no_name}
+use Rattle.vms_analyze.proofs.Walks.{name_there, is_name_of, no_name}
 use Rattle.vms_analyze.proofs.walk.Walk.machine_name.Goals as goal
 
 pub returns-then-are_name_bytes : goal.returns-then-are_name_bytes

@@ -16,6 +16,5 @@ returns-then-self-clause-err c =
 pub returns-clause-ok : goal.returns-clause-ok
 returns-clause-ok c =
     let went = c.in_default.ensures.ok in
-    let inside = went.inside in
-    let all : c.stream.new.self.place ≡ length c.args.self.now.input.now = omega (arith, inside, c.if-self.false, ap length went.input) in
+    let all : c.stream.new.self.place ≡ length c.args.self.now.input.now = omega (arith, went.inside, c.if-self.false, ap length went.input) in
     is_shown (wants (map device_of c.args.devices.now)) c.args.self.now c.stream.new.self c.args.self.now.input.now c.requires.start went all
