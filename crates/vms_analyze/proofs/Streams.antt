@@ -46,24 +46,17 @@ lines_if true line = line ∷ []
 lines_if false line = []
 
 module _ (n : List ℤ) (id : ℕ) where
-  number_follows : (sent counted present : Bool) (cell : Cell) (at : ℕ) (name : List ℕ) → IsSaidAs sent (Number cell) counted present (get_or n at (pos 0))
-      → Follows (map element_want (told_what (Number cell) counted (sent && present) name)) id (bytes_if n (sent && present) at (Number cell)) id
+  number_follows : (counted p : Bool) (cell : Cell) (at : ℕ) (name : List ℕ) → (p ≡ true → (counted ≡ true) × InRange cell.kind (get_or n at (pos 0)))
+      → (counted ≡ true → p ≡ false → get_or n at (pos 0) ≡ cell.default)
+      → Follows (map element_want (told_what (Number cell) counted p name)) id (bytes_if n p at (Number cell)) id
       (lines_if counted (name ++ (codes " = " ++ signed_decimal (get_or n at (pos 0)))))
-  number_follows sent counted present cell at name said = go counted (sent && present) said.0 said.1
-    where
-      z : ℤ
-      z = get_or n at (pos 0)
-
-      go : (c p : Bool) → (p ≡ true → (c ≡ true) × InRange cell.kind z) → (c ≡ true → p ≡ false → z ≡ cell.default)
-          → Follows (map element_want (told_what (Number cell) c p name)) id (bytes_if n p at (Number cell)) id
-          (lines_if c (name ++ (codes " = " ++ signed_decimal z)))
-      go true true f g =
-          rw (append-nil (code cell.kind z)) (one_follows (takes_number name cell.kind z id (f refl).1))
-      go true false f g =
-          follows_as (ap (λ (y : ℤ). element_want (Kept name cell.kind y) ∷ []) (g refl refl)) refl refl
-          (one_follows (takes_line (name ++ (codes " = " ++ signed_decimal z)) id))
-      go false true f g = absurd (cc ((f refl).0))
-      go false false f g = none_follows id
+  number_follows true true cell at name f g =
+      rw (append-nil (code cell.kind (get_or n at (pos 0)))) (one_follows (takes_number name cell.kind (get_or n at (pos 0)) id (f refl).1))
+  number_follows true false cell at name f g =
+      follows_as (ap (λ (y : ℤ). element_want (Kept name cell.kind y) ∷ []) (g refl refl)) refl refl
+      (one_follows (takes_line (name ++ (codes " = " ++ signed_decimal (get_or n at (pos 0)))) id))
+  number_follows false true cell at name f g = absurd (cc ((f refl).0))
+  number_follows false false cell at name f g = none_follows id
 
   -- what isn't a number has no line
   others : (w : What) (counted p : Bool) (at : ℕ) (name : List ℕ) → is_number w ≡ false
@@ -78,7 +71,7 @@ module _ (n : List ℤ) (id : ℕ) where
   one : (sent : Bool) (w : What) (counted present : Bool) (at : ℕ) (name : List ℕ) → IsSaidAs sent w counted present (get_or n at (pos 0))
       → Follows (map element_want (told_what w counted (sent && present) name)) id (bytes_if n (sent && present) at w) id
       (lines_if (counted && is_number w) (name ++ (codes " = " ++ signed_decimal (get_or n at (pos 0)))))
-  one sent (Number cell) counted present at name said = rw (and-true counted) (number_follows sent counted present cell at name said)
+  one sent (Number cell) counted present at name said = rw (and-true counted) (number_follows counted (sent && present) cell at name said.0 said.1)
   one sent w counted present at name said = rw (and-false counted) (others w counted (sent && present) at name refl)
 
   -- ---- all of them
@@ -268,18 +261,14 @@ takes_machine name id good small = record { is = λ more. whole more }
         ap (λ (l : List ℕ). take_machine id rest l) its
         ∙ if_so _ (took (length (configuration name)) id ((codes "machine " ++ name) ∷ [])) (and_from _ _ (begins_itself (configuration name) more) good)
 
--- the bytes of a machine's name
-machine_plain : (set : Set) → WellFormed set → (name : List ℕ) → is_one_of set.machines name ≡ true → list_all is_name_byte name ≡ true
-unfolding first_fault
-machine_plain set well name h =
-    let rules = all_true 1 (set_rules set) (here parts.Set) (or_else_none (failing 1 (set_rules set) (here parts.Set)) _ well).0 in
-    let short = every_one (is_name 64) set.machines name rules.0 h in
-    (and_parts (nat_le 1 (length name) && nat_le (length name) 64) (list_all is_name_byte name) short).1
-
 machine_good : (set : Set) → WellFormed set → (name : List ℕ) → is_one_of set.machines name ≡ true → is_machine name ≡ true
+unfolding first_fault
 machine_good set well name h =
     let few = machine_short set well name h in
-    and_from (nat_le (length name) LONGEST_NAME) (list_all is_name_byte name) (le-leb (length name) LONGEST_NAME (omega arith)) (machine_plain set well name h)
+    let rules = all_true 1 (set_rules set) (here parts.Set) (or_else_none (failing 1 (set_rules set) (here parts.Set)) _ well).0 in
+    let short = every_one (is_name 64) set.machines name rules.0 h in
+    and_from (nat_le (length name) LONGEST_NAME) (list_all is_name_byte name) (le-leb (length name) LONGEST_NAME (omega arith))
+    (and_parts (nat_le 1 (length name) && nat_le (length name) 64) (list_all is_name_byte name) short).1
 
 -- without a machine none is taken, since a section or the end mark is there
 pub no_machine : (id : ℕ) (rest : List ℕ) → (get_or rest 0 0 == 7) ≡ false → taken Machine id rest ≡ Some (took 0 id [])
@@ -305,15 +294,10 @@ module _ (set : Set) (well : WellFormed set) (images : List Image) (us : List Wa
 -- ---- the whole
 
 -- the fine lines and good parts of the devices
-devices_fine : (set : Set) (machine : Option (List ℕ)) (images : List Image) → AreFine (entries set machine images)
-    → AreFine (devices_entries set set.devices images)
-devices_fine set None images f = f
-devices_fine set (Some name) images f = f.1
-
-devices_good : (set : Set) (machine : Option (List ℕ)) (images : List Image) → AreGood set (entries set machine images)
-    → AreGood set (devices_entries set set.devices images)
-devices_good set None images f = f
-devices_good set (Some name) images f = f.1
+devices_said : (set : Set) (machine : Option (List ℕ)) (images : List Image) → AreFine (entries set machine images) → AreGood set (entries set machine images)
+    → AreFine (devices_entries set set.devices images) × AreGood set (devices_entries set set.devices images)
+devices_said set None images f g = (f, g)
+devices_said set (Some name) images f g = (f.1, g.1)
 
 abbrev pub front : Set → Option (List ℕ) → List Image → List ℕ
 front set machine images = stream_head ++ optional configuration machine ++ written_sections set 0 set.devices images ++ end_mark
@@ -325,9 +309,8 @@ front_found set well machine named images ready =
     let few = few_devices set well in
     let lines = devices_lines set set.devices images in
     let sections = written_sections set 0 set.devices images in
-    let all =
-    devices_follow set 0 0 set.devices images (omega arith) says.says.shaped (devices_fine set machine images says.says.fine)
-    (devices_good set machine images says.good) in
+    let said = devices_said set machine images says.says.fine says.good in
+    let all = devices_follow set 0 0 set.devices images (omega arith) says.says.shaped said.0 said.1 in
     let end = last 0 0 set.devices images in
     let us = flat_map device_wants (told set images) ++ Bytes end_mark ∷ [] in
     let tail : (place : ℕ) → found us 0 place (sections ++ end_mark) ≡ Lines lines =
