@@ -1,6 +1,5 @@
 //! Sessions: events on a board, and its streams on the shelf.
 
-use std::fs;
 use std::io::{self, Write};
 
 use crate::board::{Board, Machine};
@@ -8,7 +7,7 @@ use crate::desc::DescSet;
 use crate::restoring::restore;
 use crate::saving::save;
 use crate::script::{put_answer, Line};
-use crate::shelf::{fetch, NotFetched, FILE_LIMIT};
+use crate::shelf::{fetch, store, NotFetched, FILE_LIMIT};
 use crate::shipped::{shipped, Shipped, NEWEST};
 use crate::stream::{Fault, Image};
 
@@ -41,7 +40,7 @@ impl Session {
         if let Some((set, images)) = &mut self.sets[s as usize - 1] {
             save(&self.board, s, set, images, &mut stream);
         }
-        let stored = fs::write(name, &stream);
+        let stored = store(name, &stream);
         out.extend_from_slice(format!("saved {}\n", stream.len()).as_bytes());
         self.stream = stream;
         stored.map_err(|_| Stopped::Shelf)

@@ -33,7 +33,7 @@ pub use Rattle.dev_board.specs.State.{State}
 unfoldable pub use Rattle.dev_board.specs.State.{power_on}
 pub use Rattle.dev_board.specs.Step.{Act, after_all, later_by, valued}
 unfoldable pub use Rattle.dev_board.specs.Step.{acted, after_act, after_by, answers_by, inputs_of, names_wire, settled, step, waited, wires_after}
-pub use Rattle.dev_board.specs.Touch.{HasTaken, IsSettled, Stays, asks_port, asks_timer, calm_after, is_access, is_nothing, read_touches, time_touches}
+pub use Rattle.dev_board.specs.Touch.{HasTaken, IsSettled, Stays, asks_port, asks_timer, calm_after, is_access, is_nothing, read_touches, saying, time_touches}
 pub use Rattle.dev_board.specs.Touch.{write_touches}
 unfoldable pub use Rattle.dev_board.specs.Touch.{ack_touches, is_command, is_quiet, is_untouched, leaves_port}
 pub use Rattle.dev_board.specs.View.{parts_view}
@@ -72,7 +72,7 @@ unfoldable pub use Rattle.dev_pic.specs.Winner.{ready_among, winner_of}
 pub use Rattle.dev_pic.specs.declared.chip.Chip.{Chip}
 pub use Rattle.dev_pic.specs.declared.fault.ChipFault.{ChipFault}
 pub use Rattle.dev_pic.specs.declared.pair.PicPair.{PicPair}
-pub use Rattle.dev_pit.proofs.Chips.{at_counter}
+pub use Rattle.dev_pit.proofs.Chips.{at_step}
 pub use Rattle.dev_pit.proofs.CounterSteps.{read-goes_on, same}
 pub use Rattle.dev_pit.proofs.Edges.{edge_in_parts}
 pub use Rattle.dev_pit.proofs.RestoredLaw.{pit-restored}
@@ -94,10 +94,11 @@ pub use Rattle.dev_pit.specs.declared.mode.Mode.TheVariants.{HardwareStrobe, One
 pub use Rattle.dev_pit.specs.declared.pit.Pit.{Pit}
 pub use Rattle.dev_pit.specs.declared.turns.Turns.{Turns}
 pub use Rattle.dev_serial.proofs.AlikeLaws.{advances_alike, alike_back, alike_itself, alike_on, bytes_in_alike, lines_alike, reads_alike, writes_alike}
+pub use Rattle.dev_serial.proofs.CarriedCells.{numbers-back}
 pub use Rattle.dev_serial.proofs.KeepLaws.{advances_keep_sound, bytes_in_keep_sound, power_on_is_sound, reads_keep_sound, writes_keep_sound}
 pub use Rattle.dev_serial.proofs.RegisterLaws.{advances_keep_level, bytes_in_keep_level, reads_keep_level, writes_keep_level}
-pub use Rattle.dev_serial.proofs.CarriedCells.{numbers-back}
 pub use Rattle.dev_serial.proofs.SavedLaw.{restored-saved}
+pub use Rattle.dev_serial.proofs.WaitLaws.{still}
 pub use Rattle.dev_serial.specs.Access.{advanced, came_in, lsr_read, read_of, written}
 unfoldable pub use Rattle.dev_serial.specs.Access.{lsr_of}
 pub use Rattle.dev_serial.specs.Laws.{IsSoundAt}

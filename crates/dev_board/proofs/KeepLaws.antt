@@ -36,12 +36,20 @@ module _ (m : State) (h : HasDevices m) where
   pub with-serial : (port : Port) → IsSoundPort m.moment port → port.level ≡ m.serial.level → HasDevices (record m { serial = port })
   with-serial port k e = with-devices m.pair m.pit port h.pair h.pit k h.pair_level h.pit_level (e ∙ h.serial_level)
 
+  pub pair-read : (port : ℕ) → HasDevices (record m { pair = (read_pair port m.pair).1 })
+  pair-read port = with-pair _ (steps_keep_registers.read port m.pair h.pair) (pair_keeps_level.read port m.pair)
+
+  pub pit-read : (counter : ℕ) → HasDevices (record m { pit = (pit_read counter m.moment m.pit).1 })
+  pit-read counter = with-pit _ (sound_stays.in_reads counter m.moment m.pit h.pit) (pit_keeps_level.read counter m.moment m.pit)
+
+  pub serial-read : (offset : ℕ) → HasDevices (record m { serial = (read_of offset m.moment m.serial).1 })
+  serial-read offset = with-serial _ (reads_keep_sound offset m.moment m.serial h.serial) (reads_keep_level offset m.moment m.serial)
+
   pub read_at-kept : (target : Target) (port : ℕ) → Kept (read_at target port m)
   unfolding read_at
-  read_at-kept Pair port =
-      record { kept = with-pair (read_pair port m.pair).1 (steps_keep_registers.read port m.pair h.pair) (pair_keeps_level.read port m.pair) }
-  read_at-kept (Counter counter) port = record { kept = with-pit (pit_read counter m.moment m.pit).1 (sound_stays.in_reads counter m.moment m.pit h.pit) (pit_keeps_level.read counter m.moment m.pit) }
-  read_at-kept (Register offset) port = record { kept = with-serial (read_of offset m.moment m.serial).1 (reads_keep_sound offset m.moment m.serial h.serial) (reads_keep_level offset m.moment m.serial) }
+  read_at-kept Pair port = record { kept = pair-read port }
+  read_at-kept (Counter counter) port = record { kept = pit-read counter }
+  read_at-kept (Register offset) port = record { kept = serial-read offset }
   read_at-kept _ port = record { kept = h }
 
   pub pit-written : (port value : ℕ) → value < 256 → HasDevices (record m { pit = pit_written port value m.moment m.pit })
@@ -88,35 +96,29 @@ module _ (m : State) (h : HasDevices m) where
   acted-kept (Read port) e = record { kept = (read_at-kept (target_of m.level port) port).kept }
   acted-kept (Write port value) e = record { kept = write-kept port value e }
   acted-kept (Byte value) e = record { kept = byte-kept value e }
-  acted-kept (Wait ns) e = let b = h.moment in waited-kept (later_by ns m.moment) (omega (arith, b)) (omega arith)
+  acted-kept (Wait ns) e = waited-kept (later_by ns m.moment) (omega (arith, h.moment)) (omega arith)
   acted-kept (Wire input up) e = record { kept = h }
   acted-kept Ack e = record { kept = ack-kept }
 
 -- The answers of devices, as their calls return them.
 module _ (m : State) (h : HasDevices m) where
   pub after-pair : (port value : ℕ) (pair : PicPair) → (value, pair) ≡ read_pair port m.pair → HasDevices (record m { pair = pair })
-  after-pair port value pair e =
-      subst (λ (answer : ℕ × PicPair). HasDevices (record m { pair = answer.1 })) (sym e)
-      (with-pair m h (read_pair port m.pair).1 (steps_keep_registers.read port m.pair h.pair) (pair_keeps_level.read port m.pair))
+  after-pair port value pair e = subst (λ answer. HasDevices (record m { pair = answer.1 })) (sym e) (pair-read m h port)
 
   pub after-pit : (counter value : ℕ) (pit : Pit) → (value, pit) ≡ pit_read counter m.moment m.pit → HasDevices (record m { pit = pit })
-  after-pit counter value pit e =
-      subst (λ (answer : ℕ × Pit). HasDevices (record m { pit = answer.1 })) (sym e)
-      (with-pit m h (pit_read counter m.moment m.pit).1 (sound_stays.in_reads counter m.moment m.pit h.pit) (pit_keeps_level.read counter m.moment m.pit))
+  after-pit counter value pit e = subst (λ answer. HasDevices (record m { pit = answer.1 })) (sym e) (pit-read m h counter)
 
   pub after-serial : (offset value : ℕ) (port : Port) → (value, port) ≡ read_of offset m.moment m.serial → HasDevices (record m { serial = port })
-  after-serial offset value port e =
-      subst (λ (answer : ℕ × Port). HasDevices (record m { serial = answer.1 })) (sym e) (with-serial m h (read_of offset m.moment m.serial).1 (reads_keep_sound offset m.moment m.serial h.serial) (reads_keep_level offset m.moment m.serial))
+  after-serial offset value port e = subst (λ answer. HasDevices (record m { serial = answer.1 })) (sym e) (serial-read m h offset)
 
   pub after-ack : (value : ℕ) (pair : PicPair) → (value, pair) ≡ acked m.pair → HasDevices (record m { pair = pair })
-  after-ack value pair e =
-      subst (λ (answer : ℕ × PicPair). HasDevices (record m { pair = answer.1 })) (sym e) (ack-kept m h)
+  after-ack value pair e = subst (λ answer. HasDevices (record m { pair = answer.1 })) (sym e) (ack-kept m h)
 
   pub after-wait : (to : ℕ) (sent : List ℕ) (port : Port) → m.moment ≤ to → to ≤ LAST_MOMENT → (sent, port) ≡ advanced to m.serial
       → HasDevices (record m { moment = to; serial = port })
   unfolding waited
   after-wait to sent port l b e =
-      subst (λ (answer : List ℕ × Port). HasDevices (record m { moment = to; serial = answer.1 })) (sym e) (waited-kept m h to l b).kept
+      subst (λ answer. HasDevices (record m { moment = to; serial = answer.1 })) (sym e) (waited-kept m h to l b).kept
 
   -- No counter was loaded after the moment.
   pub loaded : IsLoadedBy m.moment m.pit

@@ -1,6 +1,6 @@
 -- What is known of the timer between events.
 use Rattle.dev_board.proofs.Facade.{◌≡◌, ℕ, ◌/◌, ◌<◌, ◌≤◌, inl, inr, Bool, true, false, ◌&&◌, if◌then◌else◌, Option, Some, None, refl, sym, ap, ◌∙◌, subst}
-use Rattle.dev_board.proofs.Facade.{arith, ⊎_elim, cases_lt, or_parts, nat_tests, nat_lt, at_counter, same, read-goes_on, edge_in_parts, period, rises, ticks}
+use Rattle.dev_board.proofs.Facade.{arith, ⊎_elim, cases_lt, or_parts, nat_tests, nat_lt, at_step, same, read-goes_on, edge_in_parts, period, rises, ticks}
 use Rattle.dev_board.proofs.Facade.{edge_of, edge_since, out_of, GoesOn, counter_of, pit_edge, pit_out, pit_read, AreTurns, IsTurn, Mode, TerminalCount}
 use Rattle.dev_board.proofs.Facade.{OneShot, RateGenerator, SquareWave, SoftwareStrobe, HardwareStrobe, Pit, Turns, IsCalm, calm_by, later, read_at, target_of}
 use Rattle.dev_board.proofs.Facade.{written_at, read, write, HasDevices, State, Act, waited, calm_after, is_command, write_touches, Target, Pair, Counter}
@@ -35,10 +35,8 @@ no-edge counter at = no-edge_since counter.loaded_at counter.mode counter.count 
 not-yet : (base turn at to : ℕ) → at ≡ turn → base ≤ at → at ≤ to → to < later base turn → at ≡ base
 not-yet base turn at to e f l h =
     ⊎_elim
-    (λ (after : base < turn). let test : nat_lt base turn ≡ true = grind (arith, nat_tests) in
-    let is : later base turn ≡ turn = rw test refl in absurd (omega (arith, e, l, h, is)))
-    (λ (before : turn ≤ base). omega (arith, e, f, before))
-    (cases_lt base turn)
+    (λ after. let test : nat_lt base turn ≡ true = grind (arith, nat_tests) in
+    let is : later base turn ≡ turn = rw test refl in absurd (omega arith)) (λ before. omega arith) (cases_lt base turn)
 
 none-came : (turns : Turns) (base at to : ℕ) → IsTurn turns base at → base ≤ at → at ≤ to → to < calm_by turns base → at ≡ base
 none-came turns base at to (inl e) f l h = e
@@ -70,10 +68,8 @@ same-out before after g = record {
 read-same : (j now : ℕ) (pit : Pit) → SameOut (counter_of 0 pit) (counter_of 0 (pit_read j now pit).1)
 unfolding pit_read
 read-same j now pit =
-    same-out (counter_of 0 pit) _
-    (at_counter (GoesOn (counter_of 0 pit)) 0 j _ pit
-    (λ here. subst (λ (i : ℕ). GoesOn (counter_of 0 pit) (read_of now (counter_of i pit)).1) here (read-goes_on now (counter_of 0 pit)))
-    (same (counter_of 0 pit)))
+    let c = counter_of 0 pit in
+    same-out c _ (at_step (GoesOn c) 0 j (λ d. (read_of now d).1) pit (λ here. read-goes_on now c) (same c))
 
 -- A read of a counter leaves OUT unchanged.
 pub read-out : (j now : ℕ) (pit : Pit) → pit_out 0 now (pit_read j now pit).1 ≡ pit_out 0 now pit
@@ -103,13 +99,11 @@ module _ (until : ℕ) (m : State) (calm : IsCalm until m) where
 
   -- What events leave of it.
   pub calm-read : (port value : ℕ) (after : State) → (value, after) ≡ read port m → IsCalm until after
-  calm-read port value after e =
-      subst (λ (done : ℕ × State). IsCalm until done.1) (sym e) (read_at-calm (target_of m.level port) port)
+  calm-read port value after e = subst (λ done. IsCalm until done.1) (sym e) (read_at-calm (target_of m.level port) port)
 
   pub calm-write : (port value : ℕ) (after : State) (touch : Touch) → touch ≡ write_touches (target_of m.level port) port value → after ≡ write port value m
       → IsCalm (calm_after touch until) after
-  calm-write port value after touch t e =
-      rw (t, e) (written_at-calm (target_of m.level port) port value)
+  calm-write port value after touch t e = rw (t, e) (written_at-calm (target_of m.level port) port value)
 
   wait-calm : (to : ℕ) → m.moment ≤ to → to < until → IsCalm until (waited to m).1
   unfolding waited pit_edge
@@ -118,4 +112,4 @@ module _ (until : ℕ) (m : State) (calm : IsCalm until m) where
       (still.0 ∙ sym (calm to l h).0, (or_parts _ _ (sym (edge_in_parts (counter_of 0 m.pit) m.moment to at l from) ∙ still.1)).1)
 
   pub calm-wait : (to : ℕ) (act : Act) (after : State) → (act, after) ≡ waited to m → m.moment ≤ to → to < until → IsCalm until after
-  calm-wait to act after e l h = subst (λ (done : Act × State). IsCalm until done.1) (sym e) (wait-calm to l h)
+  calm-wait to act after e l h = subst (λ done. IsCalm until done.1) (sym e) (wait-calm to l h)

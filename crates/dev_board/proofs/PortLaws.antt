@@ -13,7 +13,7 @@ other port =
 
 by_pair : (level port : ℕ) (own : Bool) → is_port level port ≡ own → target_of level port ≡ (if own then Pair else other port)
 unfolding target_of
-by_pair level port own is = ap (λ (b : Bool). if b then Pair else other port) is
+by_pair level port own is = rw is refl
 
 -- It is none of these ports, at any level.
 none_of : (a b c d e f since : Bool) → a ≡ false → b ≡ false → c ≡ false → d ≡ false → e ≡ false → f ≡ false → (a || b || c || d || (since && (e || f))) ≡ false
@@ -46,9 +46,9 @@ control_at level = between level 0x43 (inl (omega arith, omega arith))
 register_of : (port offset : ℕ) → 0x3f8 ≤ port → port ≤ 0x3ff → port - 0x3f8 ≡ offset → other port ≡ Register offset
 register_of port offset low high back =
     rw (
-      le-leb 0x40 port (omega (arith, low)),
-      lt-leb port 0x42 (omega (arith, low)),
-      ne_eqb port 0x43 (λ e. absurd (omega (arith, low))),
+      le-leb 0x40 port (omega arith),
+      lt-leb port 0x42 (omega arith),
+      ne_eqb port 0x43 (λ e. omega arith),
       le-leb 0x3f8 port low,
       le-leb port 0x3ff high,
     )
@@ -114,8 +114,7 @@ reached level port =
 
 -- The same for what a call returned and a match found.
 pub reached_as : (level port : ℕ) (target found : Target) → target ≡ target_of level port → target ≡ found → IsReached level port found
-reached_as level port target found e is =
-    subst (IsReached level port) (sym e ∙ is) (reached level port)
+reached_as level port target found e is = subst (IsReached level port) (sym e ∙ is) (reached level port)
 
 -- The pair's own port, by the pair's level.
 pub pair_port : (m now : State) (port : ℕ) (target : Target) → HasDevices m → m ≡ now → target ≡ target_of now.level port → target ≡ Pair

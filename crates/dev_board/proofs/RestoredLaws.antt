@@ -39,11 +39,11 @@ made_of level (Ok moment) (Ok pair) (Ok pit) (Err misfit) m e = cc
 made_of level (Ok moment) (Ok pair) (Ok pit) (Ok serial) m e =
     let is = agreed-ok (record { level = level; moment = moment; pair = pair; pit = pit; serial = serial }) m e in
     record {
-      same_level = ap (λ (s : State). s.level) (sym is.same);
-      timer = ap (λ (s : State). Ok s.moment) is.same;
-      pair = ap (λ (s : State). Ok s.pair) is.same;
-      pit = ap (λ (s : State). Ok s.pit) is.same;
-      serial = ap (λ (s : State). Ok s.serial) is.same;
+      same_level = ap (λ s. s.level) (sym is.same);
+      timer = ap (λ s. Ok s.moment) is.same;
+      pair = ap (λ s. Ok s.pair) is.same;
+      pit = ap (λ s. Ok s.pit) is.same;
+      serial = ap (λ s. Ok s.serial) is.same;
       lines = ap lines_agree (sym is.same) ∙ is.agree;
     }
 
@@ -110,7 +110,8 @@ sound : (level : ℕ) (cells : BoardCells) (m : State) → IsLevel level → Are
 sound level cells m l are e =
     let made = made_of level (timed (moment_of cells)) _ _ _ m e in
     let time = timed-ok (moment_of cells) m.moment made.timer in
-    let state : record { level = level; moment = moment_of cells; pair = m.pair; pit = m.pit; serial = m.serial } ≡ m = ap (λ (n : ℕ). record { level = n; moment = moment_of cells; pair = m.pair; pit = m.pit; serial = m.serial }) (sym made.same_level) ∙ ap (λ (n : ℕ). record { level = m.level; moment = n; pair = m.pair; pit = m.pit; serial = m.serial }) (sym time.same) in
+    let state : record { level = level; moment = moment_of cells; pair = m.pair; pit = m.pit; serial = m.serial } ≡ m =
+    rw (← made.same_level, ← time.same) refl in
     subst IsSound state (sound-back level cells l are time.last m.pair m.pit m.serial made.pair made.pit made.serial (ap lines_agree state ∙ made.lines))
 
 pub restored_is_sound : RestoredIsSound
@@ -160,7 +161,7 @@ module _ (level : ℕ) (cells : BoardCells) (found : ℕ) (time : timed (moment_
 
     pub found-devices : IsLevel level → AreBoardCells cells → HasDevices board
     found-devices l are =
-        subst (λ (n : ℕ). HasDevices (record { level = level; moment = n; pair = pair; pit = pit; serial = port })) (sym same)
+        rw same
         (devices-back level cells l are (timed-ok (moment_of cells) found time).last pair pit port of_pair (pit-then _ of_pit) (port-then _ of_port))
 
     pub found-sound : IsLevel level → AreBoardCells cells → lines_agree board ≡ true → IsSound board

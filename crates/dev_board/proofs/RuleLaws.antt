@@ -19,10 +19,7 @@ use Rattle.dev_board.proofs.SavedLaws.{has-lines, comes-back}
 
 half : (set : ℕ) (pair : PicPair) → length (pair_cells set pair) / 2 ≡ length (kinds set)
 half set pair =
-    let master = saved-count set pair.master in
-    let slave = saved-count set pair.slave in
-    let both = length-append (saved_cells set pair.master) (saved_cells set pair.slave) in
-    omega (arith, master, slave, both)
+    omega (arith, saved-count set pair.master, saved-count set pair.slave, length-append (saved_cells set pair.master) (saved_cells set pair.slave))
 
 pub master-half : (set : ℕ) (pair : PicPair) (cells : List ℤ) → cells ≡ pair_cells set pair → take (length cells / 2) cells ≡ saved_cells set pair.master
 master-half set pair cells e =
@@ -49,15 +46,15 @@ same-five a b c d e = rw (a, b, c, d, e) refl
 
 module _ (m : State) (s : IsSound m) where
   may : MaySaveUnder m.level NEWEST
-  may = let l = s.devices.level.last in record { level_le_set = l; set_le_newest = omega arith }
+  may = record { level_le_set = s.devices.level.last; set_le_newest = omega arith }
 
   -- The newest set's cells are carried as they are.
   carried-newest : carried NEWEST (saved NEWEST m) ≡ saved NEWEST m
   unfolding carried saved
   carried-newest =
-      let pair_le : m.pair.level ≤ NEWEST = let l = s.devices.level.last in let e = s.devices.pair_level in omega (arith, l, e) in
-      let pit_le : m.pit.level ≤ NEWEST = let l = s.devices.level.last in let e = s.devices.pit_level in omega (arith, l, e) in
-      let serial_le : m.serial.level ≤ NEWEST = let l = s.devices.level.last in let e = s.devices.serial_level in omega (arith, l, e) in
+      let pair_le : m.pair.level ≤ NEWEST = omega (arith, s.devices.level.last, s.devices.pair_level) in
+      let pit_le : m.pit.level ≤ NEWEST = omega (arith, s.devices.level.last, s.devices.pit_level) in
+      let serial_le : m.serial.level ≤ NEWEST = omega (arith, s.devices.level.last, s.devices.serial_level) in
       same-five refl (chip-carried m.pair.level NEWEST _ m.pair.master pair_le s.pair.master)
       (chip-carried m.pair.level NEWEST _ m.pair.slave pair_le s.pair.slave)
       (pit-carried NEWEST m.moment m.pit pit_le s.devices.pit) (serial-carried NEWEST m.moment m.serial s.devices.moment s.devices.serial serial_le)

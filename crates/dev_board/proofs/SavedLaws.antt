@@ -1,6 +1,6 @@
 -- What is saved of a board can be restored.
-use Rattle.dev_board.proofs.Facade.{◌≡◌, ℕ, ℤ, pos, ◌≤◌, Bool, true, false, List, ◌∷◌, Result, Ok, refl, sym, ap, subst, ◌∙◌, arith, [], and_parts, false≢true}
-use Rattle.dev_board.proofs.Facade.{and_from, nat_tests, nat_le, of_none, of_more, long, has, AreOf, IsLevel, MaySave, MayRestore, NEWEST, LAST_MOMENT, hook-ok}
+use Rattle.dev_board.proofs.Facade.{◌≡◌, ℕ, ℤ, pos, ◌≤◌, Bool, true, false, List, ◌∷◌, Result, Ok, refl, sym, ap, subst, ◌∙◌, arith, [], and_parts, and_from}
+use Rattle.dev_board.proofs.Facade.{nat_tests, nat_le, of_none, of_more, long, has, AreOf, IsLevel, MaySave, MayRestore, NEWEST, LAST_MOMENT, hook-ok}
 use Rattle.dev_board.proofs.Facade.{carried-saved, pair-restored, set-of, saved_cells, lines_of, slave_int_of, restored_pair, ChipFault, PicPair, pit_cells}
 use Rattle.dev_board.proofs.Facade.{AreCellsOf, pit_out, restored_pit, Pit, lines_alike, Port, cells_at, restored_cells, numbers_at, saved, carried}
 use Rattle.dev_board.proofs.Facade.{MaySaveUnder, timer_kinds, AreSavedCells, AreBoardCells, timed, by_chip, by_device, lines_agree, agreed, joined, restored}
@@ -19,12 +19,12 @@ use Rattle.dev_board.proofs.AlikeLaws.{alike_stays}
 -- Two truth values are the same.
 pub same-refl : (a b : Bool) → a ≡ b → same a b ≡ true
 same-refl true b e = sym e
-same-refl false true e = absurd (false≢true e)
+same-refl false true e = cc
 same-refl false false e = refl
 
 pub same-is : (a b : Bool) → same a b ≡ true → a ≡ b
 same-is true b e = sym e
-same-is false true e = absurd (false≢true e)
+same-is false true e = cc
 same-is false false e = refl
 
 lines-agree : (m : State) → HasLines m → lines_agree m ≡ true
@@ -79,7 +79,7 @@ module _ (set : ℕ) (m : State) (s : IsSound m) (may : MaySaveUnder m.level set
   }
 
   le : m.pair.level ≤ set
-  le = let e = s.devices.pair_level in let l = may.level_le_set in omega (arith, e, l)
+  le = omega (arith, s.devices.pair_level, may.level_le_set)
 
   master-carried : pic_carried set (saved_cells set m.pair.master) ≡ saved_cells NEWEST m.pair.master
   master-carried = carried-saved m.pair.level set _ m.pair.master le s.pair.master
@@ -106,9 +106,8 @@ module _ (set : ℕ) (m : State) (s : IsSound m) (may : MaySaveUnder m.level set
   unfolding carried saved
   carried-are = record {
     timer = moment-of m.moment s.devices.moment;
-    master = subst (λ (cells : List ℤ). AreOf (pic_kinds NEWEST) cells) (sym master-carried)
-        (set-of m.pair.level NEWEST _ m.pair.master s.pair.master.registers);
-    slave = subst (λ (cells : List ℤ). AreOf (pic_kinds NEWEST) cells) (sym slave-carried) (set-of m.pair.level NEWEST _ m.pair.slave s.pair.slave.registers);
+    master = subst (AreOf (pic_kinds NEWEST)) (sym master-carried) (set-of m.pair.level NEWEST _ m.pair.master s.pair.master.registers);
+    slave = subst (AreOf (pic_kinds NEWEST)) (sym slave-carried) (set-of m.pair.level NEWEST _ m.pair.slave s.pair.slave.registers);
     pit = pit-both.0;
     serial = serial-both.may.port_cells;
   }
@@ -143,5 +142,5 @@ pub saved_goes_on : SavedGoesOn
 saved_goes_on = record {
   answers = λ set m back events s may e. let there = comes-back set m s may in
       let same : there.back ≡ back = ok-same there.back back _ there.restored e in
-      alike_stays.answers events m back (subst (λ (n : State). Alike m n) same there.alike);
+      alike_stays.answers events m back (subst (Alike m) same there.alike);
 }

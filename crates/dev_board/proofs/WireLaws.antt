@@ -1,14 +1,14 @@
 -- A wire stays as the last event that named it left it.
 use Rattle.dev_board.proofs.Facade.{◌≡◌, ◌≢◌, ℕ, ◌+◌, ◌-◌, ◌<◌, ◌≤◌, ◌^◌, ◌==◌, Bool, true, false, not, ◌&&◌, if◌then◌else◌, arith, bit_and, bit_or, refl, ap}
-use Rattle.dev_board.proofs.Facade.{sym, subst, ◌∙◌, ⊎_elim, ◌||◌, cases_lt, false≢true, cond_both, nat_tests, bit_at_not, bit_at-lt, bit_at-zero, pow_below}
-use Rattle.dev_board.proofs.Facade.{bit_at, w16, and-true, and-false, or-true, or-false, has, bits_where, has-and, has-or, has-one, has-one_other, not_test}
-use Rattle.dev_board.proofs.Facade.{lines_are_taken, lines_of, settled_pair, pit_out, line_of, IsEvent, wire_left, WiresStay, State, acted, after_act}
-use Rattle.dev_board.proofs.Facade.{inputs_of, settled, step, wires_after, AreWires, is_wire, wires_of, with_wire, Event, Wire, WIRES}
+use Rattle.dev_board.proofs.Facade.{sym, subst, ◌∙◌, ⊎_elim, ◌||◌, cases_lt, cond_both, nat_tests, bit_at_not, bit_at-lt, bit_at-zero, pow_below, bit_at, w16}
+use Rattle.dev_board.proofs.Facade.{and-true, and-false, or-true, or-false, has, bits_where, has-and, has-or, has-one, has-one_other, not_test, lines_are_taken}
+use Rattle.dev_board.proofs.Facade.{lines_of, settled_pair, pit_out, line_of, IsEvent, wire_left, WiresStay, State, acted, after_act, inputs_of, settled, step}
+use Rattle.dev_board.proofs.Facade.{wires_after, AreWires, is_wire, wires_of, with_wire, Event, Wire, WIRES}
 use Rattle.dev_board.proofs.WireBits.{names, wires_of-are, wires_after-are, inputs-lt, wire-bound, wire-other}
 
 second_true : (a b : Bool) → (a && b) ≡ true → b ≡ true
 second_true true b e = e
-second_true false b e = absurd (false≢true e)
+second_true false b e = cc
 
 -- The wires have the lines' level at each wire.
 wires_of-wire : (m : State) (wire : ℕ) → is_wire wire ≡ true → has (wires_of m) wire ≡ has (lines_of m.pair) wire

@@ -10,7 +10,7 @@ use Rattle.dev_pit.specs.Pit.{IsLoadedBy, counter_of, pit_edge, pit_out}
 use Rattle.dev_pit.proofs.Moments.{pit-later}
 use Rattle.dev_serial.specs.Sound.{IsShift}
 use Rattle.dev_serial.specs.declared.shift.Shift.{Shift}
-use Rattle.std.proofs.lemmas.Bool.{cases_lt, le-leb, lt-leb}
+use Rattle.std.proofs.lemmas.Bool.{cases_lt, false_from_ne_true, le-leb, lt-leb}
 use Rattle.dev_due.specs.Boards.{character_of, devices_of, shows_at, board_int, clock_int, IsEnd, timer_of, shows_of}
 use Rattle.dev_due.specs.Search.{Finds, Found, FoundAt, FoundSend, FoundSends, IsBy, Shown, Tried, IsSegment, SameClock, SameLine}
 use Rattle.dev_due.specs.declared.boards.Board.{Board}
@@ -331,16 +331,12 @@ shows-reached (Clock devices) ns h = clock_shows_by ns devices.now h
 shown-there : (board : Board) (ns : ℕ) → (devices_of board).moment ≤ LAST_MOMENT → shows_of board ns ≡ true → Shown board (reached board ns)
 shown-there board ns h e = record { from = omega (arith, h); last = omega arith; shows = sym (shows-reached board ns h) ∙ e }
 
-never : (b : Bool) → (b ≡ true → ⊥) → b ≡ false
-never true h = absurd (h refl)
-never false h = refl
-
 pub none_due : (board : Board) → (devices_of board).moment ≤ LAST_MOMENT → ((at : ℕ) → Shown board at → IsBy at None) → (ns : ℕ) → shows_of board ns ≡ false
-none_due board h all ns = never (shows_of board ns) (λ e. all (reached board ns) (shown-there board ns h e))
+none_due board h all ns = false_from_ne_true (shows_of board ns) (λ e. all (reached board ns) (shown-there board ns h e))
 
 pub some_due : (board : Board) (found : ℕ) → (devices_of board).moment ≤ LAST_MOMENT → Shown board found → ((at : ℕ) → Shown board at → IsBy at (Some found))
     → (shows_of board (found - (devices_of board).moment) ≡ true) × ((ns : ℕ) → ns < found - (devices_of board).moment → shows_of board ns ≡ false)
 some_due board found h s all = (
   s.shows,
-  λ ns l. never (shows_of board ns) (λ e. absurd (omega (arith, all (reached board ns) (shown-there board ns h e), l, s.from))),
+  λ ns l. false_from_ne_true (shows_of board ns) (λ e. absurd (omega (arith, all (reached board ns) (shown-there board ns h e), l, s.from))),
 )

@@ -2,6 +2,7 @@
 use Rattle.std.proofs.Common.{◌≡◌, ℕ, suc, ◌+◌, ◌*◌, ◌/◌, ◌<◌, ◌≤◌, ◌==◌, ◌⊎◌, inl, inr, Bool, true, false, ◌&&◌, if◌then◌else◌, List, [], ◌∷◌, ◌++◌, length, Option, Some, None, refl, sym, ap, ◌∙◌, subst, arith, ⊎_elim}
 use Rattle.std.proofs.lemmas.Bool.{cases_lt, le-leb, lt-leb}
 use Rattle.std.proofs.lemmas.Bool.Decides.{nat_tests}
+use Rattle.std.proofs.lemmas.Option.{same_Some}
 use Rattle.std.specs.Prelude.{is_some, nat_le, nat_lt}
 use Rattle.dev_base.proofs.Choices.{either}
 use Rattle.dev_base.specs.Bits.{has}
@@ -174,9 +175,6 @@ pub record Covers (port : Port) (now to : ℕ) : Type 0 where
   pub is : IsBase port now base
   pub span : IsSpan port base to
 
-some-same : (a b : ℕ) → Some a ≡ Some b → a ≡ b
-some-same a b e = cc
-
 -- a timeout is that of the port, or one that began with one of the first k bytes that left
 abbrev IsSince : Port → Shift → (k : ℕ) → Option ℕ → Type 0
 IsSince port shift k timeout =
@@ -203,7 +201,7 @@ module _ (port : Port) (now to : ℕ) (looped : has port.mcr 4 ≡ true) (shift 
       → IsBase port now base
   since-base k timeout base h e (inl own) = inr (inl (sym own ∙ e))
   since-base k timeout base h e (inr (j, below, is)) =
-      inr (inr (shift, sends, (j, omega arith, inr (some-same base _ (sym e ∙ is)))))
+      inr (inr (shift, sends, (j, omega arith, inr (same_Some base _ (sym e ∙ is)))))
 
   -- a port in loop mode after k bytes left, and at which moment: it holds the rest
   record Reached (k : ℕ) (base : ℕ) (p : Port) : Type 0 where

@@ -1,13 +1,8 @@
 -- The cells of the moment and of the chips are carried as their own tables say.
-use Rattle.std.proofs.Common.{◌≡◌, ℕ, Bool, true, false, List, [], ◌∷◌, length, get_or, ℤ, pos, refl, arith}
-use Rattle.dev_base.specs.Cells.{AreOf}
-use Rattle.dev_board.specs.Saved.{timer_kinds}
-use Rattle.dev_base.specs.Tables.{carried_by, places}
-use Rattle.dev_pic.specs.Cells.{cell_count, kinds as pic_kinds, carried as pic_carried}
-use Rattle.vms_spec.specs.Layout.{first}
-use Rattle.vms_spec.specs.Sets.{Set}
-use Rattle.vms_spec.specs.Shipped.{set_1, set_2, set_3, set_4, timer, i8259_at_1, i8259_at_2, i8259_at_4}
-use Rattle.dev_images.specs.Laws.{carried_numbers, TimerIsCarried, ChipIsCarried}
+use Rattle.dev_images.proofs.Facade.{◌≡◌, ℕ, Bool, true, false, List, [], ◌∷◌, length, get_or, ℤ, pos, refl, arith, AreOf, timer_kinds, carried_by, places}
+use Rattle.dev_images.proofs.Facade.{cell_count, first, Set, set_1, set_2, set_3, set_4, timer, i8259_at_1, i8259_at_2, i8259_at_4, carried_numbers}
+use Rattle.dev_images.proofs.Facade.{TimerIsCarried, ChipIsCarried}
+use Rattle.dev_pic.specs.Cells.{kinds as pic_kinds, carried as pic_carried}
 use Rattle.dev_images.proofs.ChipReady.{mode_place, mode_in, needs, unneeded}
 
 -- A list of one number.

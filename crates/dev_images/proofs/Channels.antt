@@ -1,20 +1,9 @@
 -- A channel of the timer chip among an image's cells, by the place of its first. Two of its cells
 -- may be absent.
-use Rattle.std.proofs.Common.{◌≡◌, ℕ, zero, suc, ◌==◌, Bool, true, false, not, ◌&&◌, ◌||◌, cond, List, [], ◌∷◌, ◌++◌, get_or, map, Option, Some, None, ℤ, pos, refl, sym, ap, ◌∙◌, subst}
-use Rattle.std.proofs.lemmas.Bool.{and_parts, and_from, eq-eqb, not-true, or_from}
-use Rattle.std.proofs.Math.Bool.{and-true}
-use Rattle.vms_bodies.proofs.ReadyLaws.{is_same}
-use Rattle.vms_bodies.proofs.SpellLaws.{rules_append}
-use Rattle.vms_fields.specs.Fields.{Row}
-use Rattle.vms_fields.specs.Pit.{channel_rows}
-use Rattle.vms_fields.specs.declared.pit.TheConstants.{WLOW_HELD, WLOW, LATCHED, LATCH}
-use Rattle.vms_kinds.specs.declared.Kind.{Kind}
-use Rattle.vms_spec.specs.Images.{has_cell, RulesHold}
-use Rattle.vms_spec.specs.Layout.{first, struct_cells, meanings, no_meaning, Cell, Slot, Number, Rule}
-use Rattle.vms_spec.specs.Numbers.{same_number}
-use Rattle.vms_spec.specs.Sets.{Set}
-use Rattle.vms_spec.specs.Shipped.{set_1}
-use Rattle.dev_pit.specs.Cells.{channel_place}
+use Rattle.dev_images.proofs.Facade.{◌≡◌, ℕ, zero, suc, ◌==◌, Bool, true, false, not, ◌&&◌, ◌||◌, cond, List, [], ◌∷◌, ◌++◌, get_or, map, Option, Some, None, ℤ}
+use Rattle.dev_images.proofs.Facade.{pos, refl, sym, ap, ◌∙◌, subst, and_parts, and_from, eq-eqb, not-true, or_from, and-true, is_same, rules_append, Row}
+use Rattle.dev_images.proofs.Facade.{channel_rows, WLOW_HELD, WLOW, LATCHED, LATCH, Kind, has_cell, RulesHold, first, struct_cells, meanings, no_meaning, Cell}
+use Rattle.dev_images.proofs.Facade.{Slot, Number, Rule, same_number, Set, set_1, channel_place}
 use Rattle.dev_images.proofs.ChipReady.{needs}
 use Rattle.dev_images.proofs.ReadyOf.{are_kept, kept-left, kept-right, or-lift, has-none}
 

@@ -1,19 +1,10 @@
 -- Normal images of the newest set have the cells that a restore of a board requires.
-use Rattle.std.proofs.Common.{◌≡◌, ℕ, zero, suc, ◌+◌, ◌<◌, ◌≤◌, true, false, ◌==◌, List, ◌∷◌, ◌++◌, get_or, map, Option, ℤ, pos, negsuc, refl, sym, ap, ◌∙◌, subst, arith, []}
-use Rattle.std.proofs.lemmas.Int.{ints}
-use Rattle.vms_fields.specs.declared.pit.TheConstants.{WLOW_HELD, WLOW, LATCHED, LATCH, STATUS_LATCHED, CELLS}
-use Rattle.vms_kinds.specs.Codes.{InRange}
-use Rattle.vms_kinds.specs.declared.Kind.{Kind}
+use Rattle.dev_images.proofs.Facade.{◌≡◌, ℕ, zero, suc, ◌+◌, ◌<◌, ◌≤◌, true, false, ◌==◌, List, ◌∷◌, ◌++◌, get_or, map, Option, ℤ, pos, negsuc, refl, sym, ap}
+use Rattle.dev_images.proofs.Facade.{◌∙◌, subst, arith, [], ints, WLOW_HELD, WLOW, LATCHED, LATCH, STATUS_LATCHED, CELLS, InRange, Kind, Image, has_cell}
+use Rattle.dev_images.proofs.Facade.{image_slots, FitCells, IsNormal, AreVersionsOf, Cell, no_cell, first, device_cells, Slot, Rule, NEWEST, shipped_set, set_2}
+use Rattle.dev_images.proofs.Facade.{timer, i8259_at_4, i8254_at_2, AreOf, kind_at, nat_of, flag_at, number_at, timer_kinds, AreCellsOf, channel_place}
 use Rattle.vms_kinds.specs.declared.Kind.TheVariants.{Bool as Truth}
-use Rattle.vms_spec.specs.Images.{Image, has_cell, image_slots, FitCells, IsNormal, AreVersionsOf}
-use Rattle.vms_spec.specs.Layout.{Cell, no_cell, first, device_cells, Slot, Rule}
-use Rattle.dev_base.specs.declared.limits.TheConstants.{NEWEST}
-use Rattle.vms_desc.specs.Formed.{shipped_set}
-use Rattle.vms_spec.specs.Shipped.{set_2, timer, i8259_at_4, i8254_at_2}
-use Rattle.dev_base.specs.Cells.{AreOf, kind_at, nat_of, flag_at, number_at}
-use Rattle.dev_board.specs.Saved.{timer_kinds}
 use Rattle.dev_pic.specs.Cells.{kinds as pic_kinds}
-use Rattle.dev_pit.specs.Cells.{AreCellsOf, channel_place}
 use Rattle.dev_images.proofs.ChipReady.{needs}
 use Rattle.dev_images.proofs.Channels.{channel, second_at, third_at, none_at, channel-none, slots_in}
 use Rattle.dev_images.proofs.PitReady.{chip_slots, status_slots, no_gate}

@@ -1,21 +1,10 @@
 -- The cells of the timer chip are carried as its own table says.
-use Rattle.std.proofs.Common.{◌≡◌, ℕ, zero, suc, ◌+◌, ◌==◌, Bool, true, false, cond, List, [], ◌∷◌, ◌++◌, get_or, ℤ, pos, negsuc, ◌≤ℤ◌, refl, sym, ap, ◌∙◌, arith}
-use Rattle.std.proofs.lemmas.Int.{ints}
-use Rattle.vms_fields.specs.declared.pit.TheConstants.{COUNTERS, WLOW_HELD, WLOW, LATCHED, LATCH, STATUS_LATCHED, STATUS}
-use Rattle.vms_kinds.specs.Codes.{InRange}
-use Rattle.vms_kinds.specs.declared.Item.TheVariants.{Num}
-use Rattle.vms_kinds.specs.declared.Kind.{Kind}
-use Rattle.vms_kinds.specs.declared.Kind.TheVariants.{U8, U16, Bool as Truth}
-use Rattle.vms_check.specs.Carrying.{carriers, carry_items, no_carrier}
-use Rattle.vms_spec.specs.Layout.{first, struct_cells}
-use Rattle.vms_spec.specs.Sets.{Set}
-use Rattle.dev_base.specs.declared.limits.TheConstants.{NEWEST}
-use Rattle.vms_desc.specs.Formed.{shipped_set}
-use Rattle.vms_spec.specs.Shipped.{set_1, set_2, set_3, set_4, i8254_at_1, i8254_at_2}
-use Rattle.dev_base.specs.Cells.{nat_of}
-use Rattle.dev_pit.specs.Cells.{AreCellsOf, carried as pit_carried}
-use Rattle.dev_images.specs.Laws.{carried_numbers, PitIsCarried}
-use Rattle.vms_check.specs.Comparing.{same_kind}
+use Rattle.dev_images.proofs.Facade.{◌≡◌, ℕ, zero, suc, ◌+◌, ◌==◌, Bool, true, false, cond, List, [], ◌∷◌, ◌++◌, get_or, ℤ, pos, negsuc, ◌≤ℤ◌, refl, sym, ap}
+use Rattle.dev_images.proofs.Facade.{◌∙◌, arith, ints, COUNTERS, WLOW_HELD, WLOW, LATCHED, LATCH, STATUS_LATCHED, STATUS, InRange, Num, Kind, U8, U16, carriers}
+use Rattle.dev_images.proofs.Facade.{carry_items, no_carrier, first, struct_cells, Set, NEWEST, shipped_set, set_1, set_2, set_3, set_4, i8254_at_1, i8254_at_2}
+use Rattle.dev_images.proofs.Facade.{nat_of, AreCellsOf, carried_numbers, PitIsCarried, same_kind}
+use Rattle.vms_kinds.specs.declared.Kind.TheVariants.{Bool as Truth}
+use Rattle.dev_pit.specs.Cells.{carried as pit_carried}
 use Rattle.dev_images.proofs.ChipReady.{needs, unneeded}
 use Rattle.dev_images.proofs.Channels.{behind, second_at, third_at, IsKeptAt}
 

@@ -1,24 +1,11 @@
 -- The cells that a serial port saves are carried as its own table says.
-use Rattle.dev_images.proofs.Facade.{◌≡◌, ℕ, zero, suc, ◌+◌, ◌<◌, ◌≤◌, Bool, true, false, List, [], ◌∷◌, ◌++◌, get_or, take, drop, replicate, ℤ, pos, negsuc}
-use Rattle.dev_images.proofs.Facade.{refl, sym, ap, ◌∙◌, arith, codes, Carrier, carriers, carry_items, carried_sub, Num, U8, first, struct_cells, Cell, Set}
-use Rattle.dev_images.proofs.Facade.{Device, Sub, NEWEST, shipped_set, set_1, set_2, set_3, set_4, never, thr_ipending, fifo, timeout, ring, AreSaved, image_of}
-use Rattle.dev_images.proofs.Facade.{carried_numbers, SerialIsCarried, serial_at_1, serial_at_2, serial_at_3, serial_at_4, THR_IPENDING, RX_COUNT, RX, TX_COUNT}
-use Rattle.dev_images.proofs.Facade.{TX, TIMEOUT_AT, RX_DATA}
+use Rattle.dev_images.proofs.Facade.{◌≡◌, ℕ, zero, suc, ◌+◌, ◌<◌, ◌≤◌, Bool, true, false, List, [], ◌∷◌, ◌++◌, get_or, take, drop, replicate, ℤ, pos, refl, sym}
+use Rattle.dev_images.proofs.Facade.{ap, ◌∙◌, arith, codes, Carrier, carriers, carry_items, Num, U8, first, struct_cells, Cell, Set, Sub, NEWEST, shipped_set}
+use Rattle.dev_images.proofs.Facade.{set_1, set_2, set_3, set_4, never, thr_ipending, fifo, timeout, ring, AreSaved, carried_numbers, SerialIsCarried}
+use Rattle.dev_images.proofs.Facade.{serial_at_1, serial_at_2, serial_at_3, serial_at_4, THR_IPENDING, RX_COUNT, RX, TX_COUNT, TX, TIMEOUT_AT}
 use Rattle.dev_serial.specs.Cells.{carried as serial_carried}
-use Rattle.dev_images.proofs.ReadyOf.{front, shape}
-use Rattle.dev_images.proofs.SerialReady.{old_latch, serial_since_2, new_name, former_names, needs_sign, needs_timer, needs_fifo, needs_ring, no-sign, no-timer, no-ring, HasFifo, has-fifo-2, has-fifo-3, has-fifo-4, rx_elements, tx_elements, rx-zeros, tx-zeros, no-fifo}
-
--- The numbers of cells one after the other.
-abbrev run : List ℤ → ℕ → ℕ → List ℤ
-run numbers at zero = []
-run numbers at (suc n) = get_or numbers at (pos 0) ∷ run numbers (suc at) n
-
-zeros-run : (numbers : List ℤ) (at n : ℕ) → take n (drop at numbers) ≡ replicate n (pos 0) → replicate n (pos 0) ≡ run numbers at n
-zeros-run numbers at zero e = refl
-zeros-run numbers at (suc n) e =
-    let s = shape n (drop at numbers) e in
-    let f = front at numbers (pos 0) s.0 s.1 in
-    ap (λ z. z ∷ replicate n (pos 0)) (sym f.0) ∙ ap (λ l. get_or numbers at (pos 0) ∷ l) (zeros-run numbers (suc at) n (ap (take n) f.1 ∙ s.2))
+use Rattle.dev_images.proofs.SerialReady.{run, zeros-run, part, thr-1, thr, due, ring-4, old_latch, serial_since_2, new_name, former_names, needs_fifo, no-sign, no-timer}
+use Rattle.dev_images.proofs.SerialReady.{no-ring, HasFifo, has-fifo-2, has-fifo-3, has-fifo-4, rx_elements, tx_elements, rx-zeros, tx-zeros, no-fifo}
 
 zeros-each : (numbers : List ℤ) (at n : ℕ) → ((i : ℕ) → i < n → get_or numbers (at + i) (pos 0) ≡ pos 0) → replicate n (pos 0) ≡ run numbers at n
 zeros-each numbers at zero h = refl
@@ -53,29 +40,7 @@ module _ (structs : List Carrier) (x y : List (List Cell)) (numbers : List ℤ) 
       ap (λ l. (get_or numbers RX_COUNT (pos 0) ∷ []) ++ (l ++ ((get_or numbers TX_COUNT (pos 0) ∷ []) ++ (array m 16 TX ++ [])))) (array-run n 16 RX rx)
       ∙ ap (λ l. (get_or numbers RX_COUNT (pos 0) ∷ []) ++ (run numbers RX 16 ++ ((get_or numbers TX_COUNT (pos 0) ∷ []) ++ (l ++ [])))) (array-run m 16 TX tx)
 
--- What each subsection of the newest set has of an image.
-abbrev part : Set → Device → List ℤ → Sub → List ℤ
-part old d numbers t = carried_sub old (shipped_set NEWEST) d (image_of old d numbers) t
-
-thr-1 : (numbers : List ℤ) (needed : Bool) → needs_sign (get_or numbers old_latch (pos 0)) ≡ needed
-    → (needed ≡ false → get_or numbers old_latch (pos 0) ≡ negsuc 0) → part set_1 serial_at_1 numbers thr_ipending ≡ (get_or numbers old_latch (pos 0) ∷ [])
-unfolding first
-thr-1 numbers true e off = rw e refl
-thr-1 numbers false e off = rw (e, off refl) refl
-
 module _ (set : Set) (version : ℕ) (name : List ℕ) (former : List (List ℕ)) (more : List Sub) (numbers : List ℤ) where
-  thr : (needed : Bool) → needs_sign (get_or numbers THR_IPENDING (pos 0)) ≡ needed → (needed ≡ false → get_or numbers THR_IPENDING (pos 0) ≡ negsuc 0)
-      → part set (serial_since_2 version name former more) numbers thr_ipending ≡ (get_or numbers THR_IPENDING (pos 0) ∷ [])
-  unfolding first
-  thr true e off = rw e refl
-  thr false e off = rw (e, off refl) refl
-
-  due : (needed : Bool) → needs_timer (get_or numbers TIMEOUT_AT (pos 0)) ≡ needed → (needed ≡ false → get_or numbers TIMEOUT_AT (pos 0) ≡ pos never)
-      → part set (serial_since_2 version name former (timeout ∷ more)) numbers timeout ≡ (get_or numbers TIMEOUT_AT (pos 0) ∷ [])
-  unfolding first
-  due true e off = rw e refl
-  due false e off = rw (e, off refl) refl
-
   fifo-part : HasFifo numbers → (needed : Bool) → needs_fifo numbers ≡ needed → (needed ≡ false → take 34 (drop RX_COUNT numbers) ≡ replicate 34 (pos 0))
       → part set (serial_since_2 version name former more) numbers fifo ≡ run numbers RX_COUNT 34
   unfolding first
@@ -83,12 +48,6 @@ module _ (set : Set) (version : ℕ) (name : List ℕ) (former : List (List ℕ)
       rw e (fifo-run (carriers (struct_cells set) (struct_cells (shipped_set NEWEST)) set.structs (shipped_set NEWEST).structs 1) (struct_cells set)
       (struct_cells (shipped_set NEWEST)) numbers (rx_elements numbers h) (tx_elements numbers h) (rx-zeros numbers h) (tx-zeros numbers h))
   fifo-part h false e off = rw e (zeros-run numbers RX_COUNT 34 (off refl))
-
-ring-4 : (numbers : List ℤ) (needed : Bool) → needs_ring numbers ≡ needed → (needed ≡ false → take 36 (drop RX_DATA numbers) ≡ replicate 36 (pos 0))
-    → part set_4 serial_at_4 numbers ring ≡ run numbers RX_DATA 36
-unfolding first
-ring-4 numbers true e off = rw e refl
-ring-4 numbers false e off = rw e (zeros-run numbers RX_DATA 36 (off refl))
 
 -- The fields, and then the parts.
 abbrev with_parts : List ℤ → List ℤ → List ℤ → List ℤ → List ℤ → List ℤ
@@ -102,7 +61,7 @@ unfolding first serial_carried
 serial-1 numbers are =
     same-parts (run numbers 0 old_latch ++ pos 0 ∷ []) (part set_1 serial_at_1 numbers thr_ipending) (replicate 34 (pos 0)) (pos never ∷ [])
     (replicate 36 (pos 0)) _ _ _ _
-    (thr-1 numbers _ refl (no-sign _ (are.of_kinds.in_range old_latch (omega arith)))) refl refl refl
+    (thr-1 numbers _ refl (no-sign _ (are.of_kinds.in_range old_latch (omega arith)))).carried refl refl refl
 
 serial-2 : (numbers : List ℤ) → AreSaved 2 numbers → carried_numbers set_2 serial_at_2 serial_at_4 numbers ≡ serial_carried 2 numbers
 unfolding first serial_carried
@@ -110,7 +69,7 @@ serial-2 numbers are =
     let h = has-fifo-2 numbers are in
     same-parts (run numbers 0 THR_IPENDING) (part set_2 serial_at_2 numbers thr_ipending) (part set_2 serial_at_2 numbers fifo) (pos never ∷ [])
     (replicate 36 (pos 0)) _ _ _ _
-    (thr set_2 2 (codes "divider") [] [] numbers _ refl (no-sign _ (are.of_kinds.in_range THR_IPENDING (omega arith))))
+    (thr set_2 2 (codes "divider") [] [] numbers _ refl (no-sign _ (are.of_kinds.in_range THR_IPENDING (omega arith)))).carried
     (fifo-part set_2 2 (codes "divider") [] [] numbers h _ refl (no-fifo numbers h)) refl refl
 
 serial-3 : (numbers : List ℤ) → AreSaved 3 numbers → carried_numbers set_3 serial_at_3 serial_at_4 numbers ≡ serial_carried 3 numbers
@@ -119,7 +78,9 @@ serial-3 numbers are =
     let h = has-fifo-3 numbers are in
     same-parts (run numbers 0 THR_IPENDING) (part set_3 serial_at_3 numbers thr_ipending) (part set_3 serial_at_3 numbers fifo)
     (part set_3 serial_at_3 numbers timeout) (replicate 36 (pos 0)) _ _ _ _
-    (thr set_3 3 new_name former_names (timeout ∷ []) numbers _ refl (no-sign _ (are.of_kinds.in_range THR_IPENDING (omega arith)))) (fifo-part set_3 3 new_name former_names (timeout ∷ []) numbers h _ refl (no-fifo numbers h)) (due set_3 3 new_name former_names [] numbers _ refl (no-timer _ (are.of_kinds.in_range TIMEOUT_AT (omega arith)))) refl
+    (thr set_3 3 new_name former_names (timeout ∷ []) numbers _ refl (no-sign _ (are.of_kinds.in_range THR_IPENDING (omega arith)))).carried
+    (fifo-part set_3 3 new_name former_names (timeout ∷ []) numbers h _ refl (no-fifo numbers h))
+    (due set_3 3 new_name former_names [] numbers _ refl (no-timer _ (are.of_kinds.in_range TIMEOUT_AT (omega arith)))).carried refl
 
 serial-4 : (numbers : List ℤ) → AreSaved 4 numbers → carried_numbers set_4 serial_at_4 serial_at_4 numbers ≡ serial_carried 4 numbers
 unfolding first serial_carried
@@ -127,7 +88,10 @@ serial-4 numbers are =
     let h = has-fifo-4 numbers are in
     same-parts (run numbers 0 THR_IPENDING) (part set_4 serial_at_4 numbers thr_ipending) (part set_4 serial_at_4 numbers fifo)
     (part set_4 serial_at_4 numbers timeout) (part set_4 serial_at_4 numbers ring) _ _ _ _
-    (thr set_4 4 new_name former_names (timeout ∷ ring ∷ []) numbers _ refl (no-sign _ (are.of_kinds.in_range THR_IPENDING (omega arith)))) (fifo-part set_4 4 new_name former_names (timeout ∷ ring ∷ []) numbers h _ refl (no-fifo numbers h)) (due set_4 4 new_name former_names (ring ∷ []) numbers _ refl (no-timer _ (are.of_kinds.in_range TIMEOUT_AT (omega arith)))) (ring-4 numbers _ refl (no-ring numbers are))
+    (thr set_4 4 new_name former_names (timeout ∷ ring ∷ []) numbers _ refl (no-sign _ (are.of_kinds.in_range THR_IPENDING (omega arith)))).carried
+    (fifo-part set_4 4 new_name former_names (timeout ∷ ring ∷ []) numbers h _ refl (no-fifo numbers h))
+    (due set_4 4 new_name former_names (ring ∷ []) numbers _ refl (no-timer _ (are.of_kinds.in_range TIMEOUT_AT (omega arith)))).carried
+    (ring-4 numbers _ refl (no-ring numbers are)).carried
 
 pub serial_is_carried : SerialIsCarried
 serial_is_carried = record { first = serial-1; second = serial-2; third = serial-3; fourth = serial-4 }

@@ -1,12 +1,13 @@
 -- The image of the serial port is ready.
 use Rattle.dev_images.proofs.Facade.{◌≡◌, ℕ, ◌+◌, ◌-◌, ◌%◌, ◌^◌, ◌<◌, ◌≤◌, ◌==◌, Bool, true, false, not, List, ◌∷◌, ◌++◌, get_or, take, drop, replicate, ℤ, pos}
 use Rattle.dev_images.proofs.Facade.{negsuc, refl, ap, arith, min, ◌||◌, [], eqb-true, not-false, or_parts, nat_tests, ints, and_le_l, bit_and, nat_le, codes}
-use Rattle.dev_images.proofs.Facade.{and_numeral, InRange, residue, U8, U16, I8, Timer, first, device_cells, times, Cell, Slot, Number, Rule, RulesHold}
-use Rattle.dev_images.proofs.Facade.{counts_well, counted_well, rules_append, IsArray, Set, Device, Sub, set_1, set_2, set_3, set_4, never, number, serial}
-use Rattle.dev_images.proofs.Facade.{serial_fields, fcr, thr_ipending, fifo, timeout, ring, nat_of, AreSaved, ReadyOf, SerialIsReady, serial_at_1, serial_at_2}
-use Rattle.dev_images.proofs.Facade.{serial_at_3, serial_at_4, place_under, serial_rows, THR_IPENDING, RX_COUNT, RX, TX_COUNT, TX, TIMEOUT_AT, RX_DATA}
-use Rattle.dev_images.proofs.Facade.{RX_NUMBER, TX_NUMBER}
-use Rattle.dev_images.proofs.ReadyOf.{IsFineSub, ready-parts, zeros-kept, element, array-kept, rules-times, are_kept, counts-none, counts-by, kept-left, kept-right, kept-both}
+use Rattle.dev_images.proofs.Facade.{and_numeral, zero, suc, sym, ◌∙◌, InRange, residue, U8, U16, I8, Timer, first, device_cells, times, Cell, Slot, Number}
+use Rattle.dev_images.proofs.Facade.{Rule, RulesHold, counts_well, counted_well, rules_append, IsArray, Set, Device, Sub, set_1, set_2, set_3, set_4, never}
+use Rattle.dev_images.proofs.Facade.{number, serial, serial_fields, fcr, thr_ipending, fifo, timeout, ring, nat_of, AreSaved, ReadyOf, SerialIsReady}
+use Rattle.dev_images.proofs.Facade.{serial_at_1, serial_at_2, serial_at_3, serial_at_4, place_under, serial_rows, THR_IPENDING, RX_COUNT, RX, TX_COUNT, TX}
+use Rattle.dev_images.proofs.Facade.{TIMEOUT_AT, RX_DATA, RX_NUMBER, TX_NUMBER, carried_sub, image_of, NEWEST, shipped_set}
+use Rattle.dev_images.proofs.ReadyOf.{front, shape, IsFineSub, ready-parts, zeros-kept, element, array-kept, rules-times, are_kept}
+use Rattle.dev_images.proofs.ReadyOf.{counts-none, counts-by, kept-left, kept-right, kept-both}
 
 -- Whether a signed byte isn't -1, and whether a timer isn't "never".
 abbrev pub needs_sign : ℤ → Bool
@@ -54,25 +55,47 @@ former_names = codes "divider" ∷ []
 abbrev pub old_latch : ℕ
 old_latch = place_under serial_rows 1 (codes "thr_ipending")
 
+-- The numbers of cells one after the other.
+abbrev pub run : List ℤ → ℕ → ℕ → List ℤ
+run numbers at zero = []
+run numbers at (suc n) = get_or numbers at (pos 0) ∷ run numbers (suc at) n
+
+pub zeros-run : (numbers : List ℤ) (at n : ℕ) → take n (drop at numbers) ≡ replicate n (pos 0) → replicate n (pos 0) ≡ run numbers at n
+zeros-run numbers at zero e = refl
+zeros-run numbers at (suc n) e =
+    let s = shape n (drop at numbers) e in
+    let f = front at numbers (pos 0) s.0 s.1 in
+    ap (λ z. z ∷ replicate n (pos 0)) (sym f.0) ∙ ap (λ l. get_or numbers at (pos 0) ∷ l) (zeros-run numbers (suc at) n (ap (take n) f.1 ∙ s.2))
+
+-- What a subsection of the newest set has of an image.
+abbrev pub part : Set → Device → List ℤ → Sub → List ℤ
+part old d numbers t = carried_sub old (shipped_set NEWEST) d (image_of old d numbers) t
+
+-- A subsection of a set is ready, and is carried as these cells.
+pub record IsSaved (set : Set) (d : Device) (numbers : List ℤ) (s : Sub) (j at : ℕ) (cells : List ℤ) : Type 0 where
+  pub fine : IsFineSub set d numbers s j at
+  pub carried : part set d numbers s ≡ cells
+
 -- The latch's cell, and the timeout's; no item of the port is a structure.
-thr-1 : (numbers : List ℤ) (needed : Bool) → needs_sign (get_or numbers old_latch (pos 0)) ≡ needed
-    → (needed ≡ false → get_or numbers old_latch (pos 0) ≡ negsuc 0) → IsFineSub set_1 serial_at_1 numbers thr_ipending 0 old_latch
+pub thr-1 : (numbers : List ℤ) (needed : Bool) → needs_sign (get_or numbers old_latch (pos 0)) ≡ needed
+    → (needed ≡ false → get_or numbers old_latch (pos 0) ≡ negsuc 0)
+    → IsSaved set_1 serial_at_1 numbers thr_ipending 0 old_latch (get_or numbers old_latch (pos 0) ∷ [])
 unfolding first
-thr-1 numbers true e off = record { kept = rw e refl; rules = rw e (refl, tt) }
-thr-1 numbers false e off = record { kept = rw (e, off refl) refl; rules = rw e tt }
+thr-1 numbers true e off = record { fine = record { kept = rw e refl; rules = rw e (refl, tt) }; carried = rw e refl }
+thr-1 numbers false e off = record { fine = record { kept = rw (e, off refl) refl; rules = rw e tt }; carried = rw (e, off refl) refl }
 
 module _ (set : Set) (version : ℕ) (name : List ℕ) (former : List (List ℕ)) (more : List Sub) (numbers : List ℤ) where
-  thr : (needed : Bool) → needs_sign (get_or numbers THR_IPENDING (pos 0)) ≡ needed → (needed ≡ false → get_or numbers THR_IPENDING (pos 0) ≡ negsuc 0)
-      → IsFineSub set (serial_since_2 version name former more) numbers thr_ipending 0 THR_IPENDING
+  pub thr : (needed : Bool) → needs_sign (get_or numbers THR_IPENDING (pos 0)) ≡ needed → (needed ≡ false → get_or numbers THR_IPENDING (pos 0) ≡ negsuc 0)
+      → IsSaved set (serial_since_2 version name former more) numbers thr_ipending 0 THR_IPENDING (get_or numbers THR_IPENDING (pos 0) ∷ [])
   unfolding first
-  thr true e off = record { kept = rw e refl; rules = rw e (refl, tt) }
-  thr false e off = record { kept = rw (e, off refl) refl; rules = rw e tt }
+  thr true e off = record { fine = record { kept = rw e refl; rules = rw e (refl, tt) }; carried = rw e refl }
+  thr false e off = record { fine = record { kept = rw (e, off refl) refl; rules = rw e tt }; carried = rw (e, off refl) refl }
 
-  due : (needed : Bool) → needs_timer (get_or numbers TIMEOUT_AT (pos 0)) ≡ needed → (needed ≡ false → get_or numbers TIMEOUT_AT (pos 0) ≡ pos never)
-      → IsFineSub set (serial_since_2 version new_name former_names (timeout ∷ more)) numbers timeout 2 TIMEOUT_AT
+  pub due : (needed : Bool) → needs_timer (get_or numbers TIMEOUT_AT (pos 0)) ≡ needed → (needed ≡ false → get_or numbers TIMEOUT_AT (pos 0) ≡ pos never)
+      → IsSaved set (serial_since_2 version new_name former_names (timeout ∷ more)) numbers timeout 2 TIMEOUT_AT (get_or numbers TIMEOUT_AT (pos 0) ∷ [])
   unfolding first
-  due true e off = record { kept = rw e refl; rules = rw e (refl, tt) }
-  due false e off = record { kept = rw (e, off refl) refl; rules = rw e tt }
+  due true e off = record { fine = record { kept = rw e refl; rules = rw e (refl, tt) }; carried = rw e refl }
+  due false e off = record { fine = record { kept = rw (e, off refl) refl; rules = rw e tt }; carried = rw (e, off refl) refl }
 
 -- Whether a count isn't 0.
 abbrev needs_count : ℤ → Bool
@@ -178,17 +201,20 @@ unfolding first
 serial-1 numbers are =
     ready-parts set_1 serial_at_1 numbers (omega arith) (omega arith, tt) are.of_kinds (counts-none (device_cells set_1 serial_at_1) numbers refl) refl
     (refl, tt)
-    (thr-1 numbers _ refl (no-sign _ (are.of_kinds.in_range old_latch (omega arith))), tt)
+    ((thr-1 numbers _ refl (no-sign _ (are.of_kinds.in_range old_latch (omega arith)))).fine, tt)
 
 -- The FIFOs as rings.
 abbrev pub needs_ring : List ℤ → Bool
 needs_ring numbers = needs_count (get_or numbers RX_NUMBER (pos 0)) || needs_count (get_or numbers TX_NUMBER (pos 0))
 
-ring-4 : (numbers : List ℤ) (needed : Bool) → needs_ring numbers ≡ needed → (needed ≡ false → take 36 (drop RX_DATA numbers) ≡ replicate 36 (pos 0))
-    → IsFineSub set_4 serial_at_4 numbers ring 3 RX_DATA
+pub ring-4 : (numbers : List ℤ) (needed : Bool) → needs_ring numbers ≡ needed → (needed ≡ false → take 36 (drop RX_DATA numbers) ≡ replicate 36 (pos 0))
+    → IsSaved set_4 serial_at_4 numbers ring 3 RX_DATA (run numbers RX_DATA 36)
 unfolding first
-ring-4 numbers true e off = record { kept = rw e refl; rules = rw e (refl, tt) }
-ring-4 numbers false e off = record { kept = rw e (zeros-kept [] numbers RX_DATA (replicate 36 byte) refl (off refl)); rules = rw e tt }
+ring-4 numbers true e off = record { fine = record { kept = rw e refl; rules = rw e (refl, tt) }; carried = rw e refl }
+ring-4 numbers false e off = record {
+  fine = record { kept = rw e (zeros-kept [] numbers RX_DATA (replicate 36 byte) refl (off refl)); rules = rw e tt };
+  carried = rw e (zeros-run numbers RX_DATA 36 (off refl));
+}
 
 -- The counts of a set with FIFOs are within their capacities.
 well-rx : (numbers : List ℤ) (h : HasFifo numbers) → counts_well (16 ∷ []) (get_or numbers RX_COUNT (pos 0)) ≡ true
@@ -217,7 +243,7 @@ serial-2 numbers are =
     let h = has-fifo-2 numbers are in
     ready-parts set_2 serial_at_2 numbers (omega arith) (omega arith, (omega arith, tt)) are.of_kinds
     (counts-by (device_cells set_2 serial_at_2) numbers (rw (well-rx numbers h, well-tx numbers h) refl)) refl (refl, tt) (
-      thr set_2 2 (codes "divider") [] [] numbers _ refl (no-sign _ (are.of_kinds.in_range THR_IPENDING (omega arith))),
+      (thr set_2 2 (codes "divider") [] [] numbers _ refl (no-sign _ (are.of_kinds.in_range THR_IPENDING (omega arith)))).fine,
       (fifos numbers h set_2 2 (codes "divider") [] [] _ refl (no-fifo numbers h), tt),
     )
 
@@ -227,7 +253,7 @@ serial-3 numbers are =
     let h = has-fifo-3 numbers are in
     ready-parts set_3 serial_at_3 numbers (omega arith) (omega arith, (omega arith, (omega arith, tt))) are.of_kinds
     (counts-by (device_cells set_3 serial_at_3) numbers (rw (well-rx numbers h, well-tx numbers h) refl)) refl (refl, tt)
-    (thr set_3 3 new_name former_names (timeout ∷ []) numbers _ refl (no-sign _ (are.of_kinds.in_range THR_IPENDING (omega arith))), (fifos numbers h set_3 3 new_name former_names (timeout ∷ []) _ refl (no-fifo numbers h), (due set_3 3 new_name former_names [] numbers _ refl (no-timer _ (are.of_kinds.in_range TIMEOUT_AT (omega arith))), tt)))
+    ((thr set_3 3 new_name former_names (timeout ∷ []) numbers _ refl (no-sign _ (are.of_kinds.in_range THR_IPENDING (omega arith)))).fine, (fifos numbers h set_3 3 new_name former_names (timeout ∷ []) _ refl (no-fifo numbers h), ((due set_3 3 new_name former_names [] numbers _ refl (no-timer _ (are.of_kinds.in_range TIMEOUT_AT (omega arith)))).fine, tt)))
 
 pub no-ring : (numbers : List ℤ) → AreSaved 4 numbers → needs_ring numbers ≡ false → take 36 (drop RX_DATA numbers) ≡ replicate 36 (pos 0)
 no-ring numbers are e =
@@ -241,7 +267,7 @@ serial-4 numbers are =
     let more = timeout ∷ ring ∷ [] in
     ready-parts set_4 serial_at_4 numbers (omega arith) (omega arith, (omega arith, (omega arith, (omega arith, tt)))) are.of_kinds
     (counts-by (device_cells set_4 serial_at_4) numbers (rw (well-rx numbers h, well-tx numbers h) refl)) refl (refl, tt)
-    (thr set_4 4 new_name former_names more numbers _ refl (no-sign _ (are.of_kinds.in_range THR_IPENDING (omega arith))), (fifos numbers h set_4 4 new_name former_names more _ refl (no-fifo numbers h), (due set_4 4 new_name former_names (ring ∷ []) numbers _ refl (no-timer _ (are.of_kinds.in_range TIMEOUT_AT (omega arith))), (ring-4 numbers _ refl (no-ring numbers are), tt))))
+    ((thr set_4 4 new_name former_names more numbers _ refl (no-sign _ (are.of_kinds.in_range THR_IPENDING (omega arith)))).fine, (fifos numbers h set_4 4 new_name former_names more _ refl (no-fifo numbers h), ((due set_4 4 new_name former_names (ring ∷ []) numbers _ refl (no-timer _ (are.of_kinds.in_range TIMEOUT_AT (omega arith)))).fine, ((ring-4 numbers _ refl (no-ring numbers are)).fine, tt))))
 
 pub serial_is_ready : SerialIsReady
 serial_is_ready = record { first = serial-1; second = serial-2; third = serial-3; fourth = serial-4 }

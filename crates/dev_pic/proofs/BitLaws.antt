@@ -13,30 +13,23 @@ pow_lt i h = pow_below i 8 h
 
 -- Tests of bits.
 both_tests : (a b : ℕ) → a < 2 → b < 2 → ((min a b == 1) ≡ ((a == 1) && (b == 1))) × ((max a b == 1) ≡ ((a == 1) || (b == 1)))
-both_tests zero zero h l = (refl, refl)
-both_tests zero (suc zero) h l = (refl, refl)
-both_tests (suc zero) zero h l = (refl, refl)
-both_tests (suc zero) (suc zero) h l = (refl, refl)
 both_tests (suc (suc a)) b h l = absurd (omega arith)
 both_tests a (suc (suc b)) h l = absurd (omega arith)
+both_tests _ _ h l = (refl, refl)
 
 pub not_test : (a : ℕ) → a < 2 → ((1 - a) == 1) ≡ not (a == 1)
-not_test zero h = refl
-not_test (suc zero) h = refl
 not_test (suc (suc a)) h = absurd (omega arith)
+not_test _ h = refl
 
 pub has-and : (a b i : ℕ) → has (bit_and a b) i ≡ (has a i && has b i)
-has-and a b i =
-    ap (λ n. n == 1) (bit_at_and a b i) ∙ (both_tests (bit_at a i) (bit_at b i) (bit_at-lt a i) (bit_at-lt b i)).0
+has-and a b i = cc (bit_at_and a b i, (both_tests (bit_at a i) (bit_at b i) (bit_at-lt a i) (bit_at-lt b i)).0)
 
 pub has-or : (a b i : ℕ) → has (bit_or a b) i ≡ (has a i || has b i)
-has-or a b i =
-    ap (λ n. n == 1) (bit_at_or a b i) ∙ (both_tests (bit_at a i) (bit_at b i) (bit_at-lt a i) (bit_at-lt b i)).1
+has-or a b i = cc (bit_at_or a b i, (both_tests (bit_at a i) (bit_at b i) (bit_at-lt a i) (bit_at-lt b i)).1)
 
 pub has-but_not : (a b i : ℕ) → b < 256 → i < 8 → has (but_not a b) i ≡ (has a i && not (has b i))
 unfolding but_not
-has-but_not a b i h l =
-    has-and a (255 - b) i ∙ ap (λ t. has a i && t) (ap (λ n. n == 1) (not_bit b i h l) ∙ not_test (bit_at b i) (bit_at-lt b i))
+has-but_not a b i h l = cc (has-and a (255 - b) i, not_bit b i h l, not_test (bit_at b i) (bit_at-lt b i))
 
 -- A set of one input.
 pub has-one : (i : ℕ) → has (2 ^ i) i ≡ true
@@ -56,18 +49,15 @@ and_not_false false = refl
 -- An input that is taken out or put in.
 pub has-without_same : (r i : ℕ) → i < 8 → has (without_input r i) i ≡ false
 unfolding without_input
-has-without_same r i h =
-    has-but_not r (2 ^ i) i (pow_lt i h) h ∙ ap (λ t. has r i && not t) (has-one i) ∙ and_not_true (has r i)
+has-without_same r i h = cc (has-but_not r (2 ^ i) i (pow_lt i h) h, has-one i, and_not_true (has r i))
 
 pub has-without_other : (r i other : ℕ) → i < 8 → other < 8 → other ≢ i → has (without_input r i) other ≡ has r other
 unfolding without_input
-has-without_other r i other h l n =
-    has-but_not r (2 ^ i) other (pow_lt i h) l ∙ ap (λ t. has r other && not t) (has-one_other i other n) ∙ and_not_false (has r other)
+has-without_other r i other h l n = cc (has-but_not r (2 ^ i) other (pow_lt i h) l, has-one_other i other n, and_not_false (has r other))
 
 pub has-with_same : (r i : ℕ) → has (with_input r i) i ≡ true
 unfolding with_input
-has-with_same r i =
-    has-or r (2 ^ i) i ∙ ap (λ t. has r i || t) (has-one i) ∙ or-true (has r i)
+has-with_same r i = cc (has-or r (2 ^ i) i, has-one i, or-true (has r i))
 
 -- Bounds.
 pub but_not-lt : (a b : ℕ) → a < 256 → but_not a b < 256
@@ -103,7 +93,7 @@ each_input P a b c d e f g h (suc (suc (suc (suc zero)))) l = e
 each_input P a b c d e f g h (suc (suc (suc (suc (suc zero))))) l = f
 each_input P a b c d e f g h (suc (suc (suc (suc (suc (suc zero)))))) l = g
 each_input P a b c d e f g h (suc (suc (suc (suc (suc (suc (suc zero))))))) l = h
-each_input P a b c d e f g h (suc (suc (suc (suc (suc (suc (suc (suc i)))))))) l = absurd (omega (arith, l))
+each_input P a b c d e f g h (suc (suc (suc (suc (suc (suc (suc (suc i)))))))) l = absurd (omega arith)
 
 -- The level inputs.
 has-all : (i : ℕ) → i < 8 → has 0xff i ≡ true
@@ -111,7 +101,7 @@ has-all = each_input (λ i. has 0xff i ≡ true) refl refl refl refl refl refl r
 
 pub level_inputs_are : LevelInputsAre
 unfolding level_inputs
-level_inputs_are true elcr input within = has-all input within ∙ sym (or-true (has elcr input))
+level_inputs_are true elcr input within = cc (has-all input within, or-true (has elcr input))
 level_inputs_are false elcr input within = sym (or-false (has elcr input))
 
 pub level_inputs-lt : (ltim : Bool) (elcr : ℕ) → elcr < 256 → level_inputs ltim elcr < 256

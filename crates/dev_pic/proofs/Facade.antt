@@ -48,6 +48,7 @@ pub use Rattle.dev_pic.specs.Pair.{acked, is_port, with_cascade}
 unfoldable pub use Rattle.dev_pic.specs.Pair.{acked_for, chip_on, lines_of, power_on, read_pair, settled_pair, slave_int_of, written_pair}
 pub use Rattle.dev_pic.specs.Saved.{CanRestore, CanSave, fault_of, hook_restored, hook_rule, pair_carried, pair_cells, restored_pair}
 unfoldable pub use Rattle.dev_pic.specs.Saved.{by_number, pair_of}
+pub use Rattle.dev_pic.specs.SheetNumbers.{NumbersAre}
 pub use Rattle.dev_pic.specs.Sound.{HasRegisters, IsSoundChip, IsSoundPair, MeetsRules, PairHasRegisters}
 pub use Rattle.dev_pic.specs.Winner.{IsFirstPlace, IsWinner, MeansWinner, before, input_at, order}
 unfoldable pub use Rattle.dev_pic.specs.Winner.{highest_of, ready_among, winner_of}

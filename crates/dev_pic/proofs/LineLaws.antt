@@ -1,26 +1,25 @@
 -- The remembered lines.
 use Rattle.dev_pic.proofs.Facade.{◌≡◌, ◌≢◌, ℕ, ◌+◌, ◌-◌, ◌*◌, ◌/◌, ◌%◌, ◌<◌, ◌≤◌, ◌^◌, ◌==◌, Bool, true, false, not, ◌&&◌, cond, Option, Some, None, refl, ap}
 use Rattle.dev_pic.proofs.Facade.{sym, ◌∙◌, arith, ⊎_elim, ◌||◌, cases_lt, cond_both, nat_tests, and-true, and-false, or-false, has, without_input, winner_at}
-use Rattle.dev_pic.proofs.Facade.{taken, settled, ended, ended_lowest, highest_served, commanded, started, selected, written_even, written_odd_in, elcr_written}
-use Rattle.dev_pic.proofs.Facade.{polled_by, read_of, answered, cascaded, LinesAreTaken, LinesAreKept, command_of, slave_int_of, lines_of, acked, acked_for}
-use Rattle.dev_pic.proofs.Facade.{with_cascade, settled_pair, read_pair, written_pair, PairHasRegisters, Chip, InitState, Ready, Icw2, Icw3, Icw4, Role, Master}
-use Rattle.dev_pic.proofs.Facade.{Slave, Ocw2, NonSpecificEoi, RotateOnNonSpecificEoi, SpecificEoi, RotateOnSpecificEoi, RotateInAutomaticEoi, SetPriority}
-use Rattle.dev_pic.proofs.Facade.{NoOperation, PicPair, either}
+use Rattle.dev_pic.proofs.Facade.{taken, settled, started, selected, written_even, elcr_written, polled_by, read_of, answered, cascaded, LinesAreTaken}
+use Rattle.dev_pic.proofs.Facade.{LinesAreKept, command_of, slave_int_of, lines_of, acked, acked_for, with_cascade, settled_pair, read_pair, written_pair}
+use Rattle.dev_pic.proofs.Facade.{PairHasRegisters, Chip, Role, Master, Slave, PicPair, either}
 use Rattle.dev_pic.proofs.BitLaws.{each_input, has-or, has-one_other, has-without_same, has-without_other, without_input-lt}
 use Rattle.dev_pic.proofs.PairLaws.{cascade-lt}
+use Rattle.dev_pic.proofs.StepLaws.{commanded-keeps, odd-keeps}
 
 -- The bits of a number of two bytes.
 low-bit : (high low i : ℕ) → low < 256 → i < 8 → has (high * 256 + low) i ≡ has low i
 low-bit high low i l =
     each_input (λ i. has (high * 256 + low) i ≡ has low i)
-    (ap (λ n. n == 1) (omega (arith, l))) (ap (λ n. n == 1) (omega (arith, l))) (ap (λ n. n == 1) (omega (arith, l))) (ap (λ n. n == 1) (omega (arith, l)))
-    (ap (λ n. n == 1) (omega (arith, l))) (ap (λ n. n == 1) (omega (arith, l))) (ap (λ n. n == 1) (omega (arith, l))) (ap (λ n. n == 1) (omega (arith, l))) i
+    (ap (λ n. n == 1) (omega arith)) (ap (λ n. n == 1) (omega arith)) (ap (λ n. n == 1) (omega arith)) (ap (λ n. n == 1) (omega arith))
+    (ap (λ n. n == 1) (omega arith)) (ap (λ n. n == 1) (omega arith)) (ap (λ n. n == 1) (omega arith)) (ap (λ n. n == 1) (omega arith)) i
 
 high-bit : (high low i : ℕ) → low < 256 → i < 8 → has (high * 256 + low) (8 + i) ≡ has high i
 high-bit high low i l =
     each_input (λ i. has (high * 256 + low) (8 + i) ≡ has high i)
-    (ap (λ n. n == 1) (omega (arith, l))) (ap (λ n. n == 1) (omega (arith, l))) (ap (λ n. n == 1) (omega (arith, l))) (ap (λ n. n == 1) (omega (arith, l)))
-    (ap (λ n. n == 1) (omega (arith, l))) (ap (λ n. n == 1) (omega (arith, l))) (ap (λ n. n == 1) (omega (arith, l))) (ap (λ n. n == 1) (omega (arith, l))) i
+    (ap (λ n. n == 1) (omega arith)) (ap (λ n. n == 1) (omega arith)) (ap (λ n. n == 1) (omega arith)) (ap (λ n. n == 1) (omega arith))
+    (ap (λ n. n == 1) (omega arith)) (ap (λ n. n == 1) (omega arith)) (ap (λ n. n == 1) (omega arith)) (ap (λ n. n == 1) (omega arith)) i
 
 bytes : (inputs : ℕ) → inputs ≡ inputs / 256 * 256 + inputs % 256
 bytes inputs = omega arith
@@ -47,16 +46,10 @@ cascade-other false i h n = no-input i h
 
 with-other : (b : Bool) (inputs i : ℕ) → i < 8 → i ≢ 2 → has (with_cascade b inputs) i ≡ has inputs i
 with-other b inputs i h n =
-    has-or (without_input inputs 2) (cond b 4 0) i
-    ∙ ap (λ t. has (without_input inputs 2) i || t) (cascade-other b i h n)
-    ∙ or-false (has (without_input inputs 2) i)
-    ∙ has-without_other inputs 2 i (omega arith) h n
+    cc (has-or (without_input inputs 2) (cond b 4 0) i, cascade-other b i h n, or-false (has (without_input inputs 2) i), has-without_other inputs 2 i (omega arith) h n)
 
 with-same : (b : Bool) (inputs : ℕ) → has (with_cascade b inputs) 2 ≡ b
-with-same b inputs =
-    has-or (without_input inputs 2) (cond b 4 0) 2
-    ∙ ap (λ t. t || has (cond b 4 0) 2) (has-without_same inputs 2 (omega arith))
-    ∙ cascade-same b
+with-same b inputs = cc (has-or (without_input inputs 2) (cond b 4 0) 2, has-without_same inputs 2 (omega arith), cascade-same b)
 
 module _ (inputs edges : ℕ) (pair : PicPair) (bound : inputs < 2 ^ 16) where
   abbrev output : Bool
@@ -97,37 +90,10 @@ taken-lines w chip =
     either (Same chip) _ _ _ (either (Same chip) chip.auto_eoi _ _ (either (Same chip) chip.rotate _ _ refl refl) refl)
     (either (Same chip) chip.auto_eoi _ _ (either (Same chip) chip.rotate _ _ refl refl) refl)
 
-ended-lines : (o : Option ℕ) (chip : Chip) → Same chip (ended o chip)
-unfolding ended
-ended-lines None chip = refl
-ended-lines (Some w) chip = refl
-
-ended_lowest-lines : (o : Option ℕ) (chip : Chip) → Same chip (ended_lowest o chip)
-unfolding ended_lowest
-ended_lowest-lines None chip = refl
-ended_lowest-lines (Some w) chip = refl
-
-commanded-lines : (command : Ocw2) (chip : Chip) → Same chip (commanded command chip)
-unfolding commanded
-commanded-lines NonSpecificEoi chip = ended-lines (highest_served chip) chip
-commanded-lines RotateOnNonSpecificEoi chip = ended_lowest-lines (highest_served chip) chip
-commanded-lines (SpecificEoi input) chip = ended-lines (Some input) chip
-commanded-lines (RotateOnSpecificEoi input) chip = ended_lowest-lines (Some input) chip
-commanded-lines (RotateInAutomaticEoi rotate) chip = refl
-commanded-lines (SetPriority input) chip = refl
-commanded-lines NoOperation chip = refl
-
 even-lines : (level value : ℕ) (chip : Chip) → Same chip (written_even level value chip)
 unfolding written_even started selected
 even-lines level value chip =
-    either (Same chip) (has value 4) _ _ refl (either (Same chip) (has value 3) _ _ refl (commanded-lines (command_of value) chip))
-
-odd-lines : (s : InitState) (value : ℕ) (chip : Chip) → Same chip (written_odd_in s value chip)
-unfolding written_odd_in
-odd-lines Ready value chip = refl
-odd-lines Icw2 value chip = refl
-odd-lines Icw3 value chip = refl
-odd-lines Icw4 value chip = refl
+    either (Same chip) (has value 4) _ _ refl (either (Same chip) (has value 3) _ _ refl (commanded-keeps (command_of value) chip).lines)
 
 elcr-lines : (role : Role) (value : ℕ) (chip : Chip) → Same chip (elcr_written role value chip)
 unfolding elcr_written
@@ -186,9 +152,9 @@ unfolding written_pair
 written-kept port value pair =
     let keeps : PicPair → Type 0 = λ p. lines_of p ≡ lines_of pair in
     either keeps (port == 0x20) _ _ (with-master pair _ (even-lines pair.level value pair.master))
-    (either keeps (port == 0x21) _ _ (with-master pair _ (odd-lines pair.master.init_state value pair.master))
+    (either keeps (port == 0x21) _ _ (with-master pair _ (odd-keeps pair.master.init_state value pair.master).lines)
     (either keeps (port == 0xa0) _ _ (with-slave pair _ (even-lines pair.level value pair.slave))
-    (either keeps (port == 0xa1) _ _ (with-slave pair _ (odd-lines pair.slave.init_state value pair.slave))
+    (either keeps (port == 0xa1) _ _ (with-slave pair _ (odd-keeps pair.slave.init_state value pair.slave).lines)
     (either keeps (port == 0x4d0) _ _ (with-master pair _ (elcr-lines Master value pair.master)) (with-slave pair _ (elcr-lines Slave value pair.slave))))))
 
 acked_for-kept : (o : Option ℕ) (pair : PicPair) → o ≢ Some 2 → Kept (lines_of pair) (acked_for o pair)
@@ -211,22 +177,18 @@ without-bit lines i h = by_value (i == 2) refl where
   by_value : (b : Bool) → (i == 2) ≡ b → has (without_input lines 2) i ≡ (has lines i && not b)
   by_value true e =
       let same : i ≡ 2 = grind (arith, nat_tests) in
-      ap (λ n. has (without_input lines 2) n) same ∙ has-without_same lines 2 (omega arith) ∙ sym (and-false (has lines i))
-  by_value false e =
-      let other : i ≢ 2 = grind (arith, nat_tests) in
-      has-without_other lines 2 i (omega arith) h other ∙ sym (and-true (has lines i))
+      ap (has (without_input lines 2)) same ∙ has-without_same lines 2 (omega arith) ∙ sym (and-false (has lines i))
+  by_value false e = has-without_other lines 2 i (omega arith) h (grind (arith, nat_tests)) ∙ sym (and-true (has lines i))
 
 low-acked : (slave master i : ℕ) → master < 256 → i < 8 → has (slave * 256 + without_input master 2) i ≡ (has (slave * 256 + master) i && not (i == 2))
 low-acked slave master i bound l =
-    low-bit slave (without_input master 2) i (without_input-lt master 2 bound) l
-    ∙ without-bit master i l
-    ∙ ap (λ t. t && not (i == 2)) (sym (low-bit slave master i bound l))
+    cc (low-bit slave (without_input master 2) i (without_input-lt master 2 bound) l, without-bit master i l, low-bit slave master i bound l)
 
 high-acked : (slave master i : ℕ) → master < 256 → 8 ≤ i → i < 16
     → has (slave * 256 + without_input master 2) i ≡ (has (slave * 256 + master) i && not (i == 2))
 high-acked slave master i bound least l =
-    let place : i ≡ 8 + (i - 8) = omega (arith, least) in
-    let within : i - 8 < 8 = omega (arith, least, l) in
+    let place : i ≡ 8 + (i - 8) = omega arith in
+    let within : i - 8 < 8 = omega arith in
     let other : (i == 2) ≡ false = grind (arith, nat_tests) in
     ap (λ n. has (slave * 256 + without_input master 2) n) place
     ∙ high-bit slave (without_input master 2) (i - 8) (without_input-lt master 2 bound) within

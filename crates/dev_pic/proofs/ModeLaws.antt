@@ -17,9 +17,8 @@ won role chip input e =
 
 pub masked_never_wins : MaskedNeverWins
 masked_never_wins role chip input bound within masked e =
-    let requested = (won role chip input e).requested in
     let unmasked = has-but_not chip.irr chip.imr input bound within ∙ ap (λ t. has chip.irr input && not t) masked ∙ and_not_true (has chip.irr input) in
-    false≢true (sym unmasked ∙ requested)
+    false≢true (sym unmasked ∙ ((won role chip input e).requested))
 
 -- Except in special mask and special fully nested mode, all of `isr` counts.
 plain_service : (role : Role) (chip : Chip) → chip.special_mask ≡ false → chip.nested ≡ false → served_of role chip ≡ chip.isr
@@ -33,8 +32,7 @@ same_place lowest place other h l e = omega arith
 pub served_blocks_lower : ServedBlocksLower
 served_blocks_lower role chip place lower mask nested le within served e =
     let w = won role chip (input_at chip.lowest lower) e in
-    let same = same_place chip.lowest lower w.place within w.in_order.0 w.in_order.1 in
-    let clear = w.before_served place (omega (arith, same)) in
+    let clear = w.before_served place (omega (arith, same_place chip.lowest lower w.place within w.in_order.0 w.in_order.1)) in
     false≢true (sym (rw (plain_service role chip mask nested) at clear) ∙ served)
 
 -- What the end of an input's service means, whichever input then has the lowest priority.
@@ -60,7 +58,7 @@ found chip input h =
     ∙ ap Some (sym e)
 
 is_input : (chip : Chip) (input : ℕ) → IsHighestServed chip input → input < 8
-is_input chip input h = let e = h.in_order.1 in omega arith
+is_input chip input h = omega arith
 
 ends_highest : (chip : Chip) (input : ℕ) → chip.isr < 256 → IsHighestServed chip input
     → EndsService input chip (commanded NonSpecificEoi chip) × ((commanded NonSpecificEoi chip).lowest ≡ chip.lowest)
@@ -93,10 +91,7 @@ eoi_ends_highest = record { words = eoi_words; highest = ends_highest; rotating 
 
 -- The vector of an input is `base` plus the input if `base` has bits 2 to 0 clear.
 plain_vector : (level : ℕ) (role : Role) (chip : Chip) (input : ℕ) → input < 8 → HasRegisters level role chip → vector_of chip input ≡ chip.base + input
-plain_vector level role chip input within h =
-    let base = h.base in
-    let vectors = h.vectors in
-    omega arith
+plain_vector level role chip input within h = omega arith
 
 master_unasked : (pair : PicPair) → PairHasRegisters pair → winner_at Master pair.master ≡ None → acked pair ≡ (pair.master.base + 7, pair)
 unfolding acked_for answered
@@ -127,7 +122,7 @@ level_irr chip winner e = rw e (serving_irr chip.auto_eoi chip.rotate) where
   serving_irr false rotate = refl
 
 isr_by : (chip : Chip) (winner : ℕ) (auto level : Bool) → auto ≡ false → (let after = cond auto (cond chip.rotate (record chip { lowest = winner }) chip) (record chip { isr = with_input chip.isr winner }) in (cond level after (record after { irr = without_input chip.irr winner })).isr) ≡ with_input chip.isr winner
-isr_by chip winner true level e = absurd (false≢true (sym e))
+isr_by chip winner true level e = cc
 isr_by chip winner false true e = refl
 isr_by chip winner false false e = refl
 

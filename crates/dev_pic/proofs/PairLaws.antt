@@ -3,7 +3,7 @@ use Rattle.dev_pic.proofs.Facade.{◌≡◌, ℕ, ◌%◌, ◌<◌, ◌≤◌, �
 use Rattle.dev_pic.proofs.Facade.{bit_and, nat_le, or-true, cond_both, levels_hold, requests_hold, mode_holds, elcr_mask, level_inputs, winner_at, elcr_written}
 use Rattle.dev_pic.proofs.Facade.{cascade_input, IsLevel, StepsKeepRegisters, StepsKeepLevel, chip_on, power_on, is_port, with_cascade, settled_pair, read_pair}
 use Rattle.dev_pic.proofs.Facade.{written_pair, acked, acked_for, HasRegisters, PairHasRegisters, IsSoundPair, Chip, Role, Master, Slave, ELCR_SINCE}
-use Rattle.dev_pic.proofs.Facade.{LTIM_SINCE, PicPair, either}
+use Rattle.dev_pic.proofs.Facade.{LTIM_SINCE, PicPair, either, IsSoundChip}
 use Rattle.dev_pic.proofs.BitLaws.{without_input-lt, and-twice}
 use Rattle.dev_pic.proofs.StepLaws.{winner-lt, settled-sound, written_even-registers, written_odd-registers, read-registers, answered-registers, cascaded-registers}
 
@@ -33,57 +33,35 @@ has_elcr : (level port : ℕ) → is_port level port ≡ true → (port == 0x20)
     → ELCR_SINCE ≤ level
 has_elcr level port h a b c d = grind (arith, nat_tests)
 
+on-sound : (level : ℕ) (role : Role) → IsSoundChip level role chip_on
+unfolding chip_on requests_hold level_inputs
+on-sound level role =
+    record {
+      registers = record {
+        irr = omega arith;
+        isr = omega arith;
+        imr = omega arith;
+        lines = omega arith;
+        lowest = omega arith;
+        base = omega arith;
+        vectors = refl;
+        elcr = omega arith;
+        levels = levels_off level role;
+        mode = mode_off level;
+      };
+      requests = refl;
+    }
+
 power-sound : (level : ℕ) → IsLevel level → IsSoundPair (power_on level)
-unfolding power_on chip_on requests_hold level_inputs
-power-sound level l = record {
-  level = l;
-  master = record {
-    registers = record {
-      irr = omega arith;
-      isr = omega arith;
-      imr = omega arith;
-      lines = omega arith;
-      lowest = omega arith;
-      base = omega arith;
-      vectors = refl;
-      elcr = omega arith;
-      levels = levels_off level Master;
-      mode = mode_off level;
-    };
-    requests = refl;
-  };
-  slave = record {
-    registers = record {
-      irr = omega arith;
-      isr = omega arith;
-      imr = omega arith;
-      lines = omega arith;
-      lowest = omega arith;
-      base = omega arith;
-      vectors = refl;
-      elcr = omega arith;
-      levels = levels_off level Slave;
-      mode = mode_off level;
-    };
-    requests = refl;
-  };
-}
+unfolding power_on
+power-sound level l = record { level = l; master = on-sound level Master; slave = on-sound level Slave }
 
 elcr-written : (level : ℕ) (role : Role) (chip : Chip) (value : ℕ) → ELCR_SINCE ≤ level → value < 256 → HasRegisters level role chip
     → HasRegisters level role (elcr_written role value chip)
 unfolding elcr_written
-elcr-written level role chip value l v h = record {
-  irr = h.irr;
-  isr = h.isr;
-  imr = h.imr;
-  lines = h.lines;
-  lowest = h.lowest;
-  base = h.base;
-  vectors = h.vectors;
-  elcr = omega (arith, and_le_l value (elcr_mask role));
-  levels = levels_written level role value l;
-  mode = h.mode;
-}
+elcr-written level role chip value l v h =
+    let elcr : bit_and value (elcr_mask role) < 256 = omega (arith, and_le_l value (elcr_mask role)) in
+    let levels = levels_written level role value l in search
 
 pub cascade-lt : (is_high : Bool) (inputs : ℕ) → inputs < 256 → with_cascade is_high inputs < 256
 cascade-lt is_high inputs h =

@@ -7,34 +7,29 @@ use Rattle.std.proofs.Common.{w8}
 -- A bit of a number that was shifted down, and of one that was shifted up and cut.
 down : (n s k : ℕ) → bit_at (n / 2 ^ s) k ≡ bit_at n (s + k)
 down n s k =
-    let back : s + k - s ≡ k = omega arith in
-    ap (bit_at (n / 2 ^ s)) (sym back)
-    ∙ sym (bit_at_cat_high (n / 2 ^ s) s (n % 2 ^ s) (s + k) (mod-lt n (pow_pos s)) (omega arith))
+    ap (bit_at (n / 2 ^ s)) (sym (omega arith)) ∙ sym (bit_at_cat_high (n / 2 ^ s) s (n % 2 ^ s) (s + k) (mod-lt n (pow_pos s)) (omega arith))
     ∙ ap (λ (m : ℕ). bit_at m (s + k)) (div-add-mod' n (2 ^ s))
 
 cut : (n k : ℕ) → k < 8 → bit_at (n % 2 ^ 8) k ≡ bit_at n k
-cut n k within =
-    sym (bit_at_cat_low (n / 2 ^ 8) 8 (n % 2 ^ 8) k within) ∙ ap (λ (m : ℕ). bit_at m k) (div-add-mod' n (2 ^ 8))
+cut n k within = cc (bit_at_cat_low (n / 2 ^ 8) 8 (n % 2 ^ 8) k within, div-add-mod' n (2 ^ 8))
 
 with_zero : (m : ℕ) → m + 0 ≡ m
 with_zero m = omega arith
 
 up_low : (n j k : ℕ) → k < 8 → k < j → bit_at (n * 2 ^ j % 2 ^ 8) k ≡ 0
-up_low n j k within below =
-    cut (n * 2 ^ j) k within ∙ ap (λ (m : ℕ). bit_at m k) (sym (with_zero (n * 2 ^ j))) ∙ bit_at_cat_low n j 0 k below ∙ bit_at-zero k
+up_low n j k within below = cc (cut (n * 2 ^ j) k within, with_zero (n * 2 ^ j), bit_at_cat_low n j 0 k below, bit_at-zero k)
 
 up_high : (n j k : ℕ) → k < 8 → j ≤ k → bit_at (n * 2 ^ j % 2 ^ 8) k ≡ bit_at n (k - j)
-up_high n j k within from =
-    cut (n * 2 ^ j) k within ∙ ap (λ (m : ℕ). bit_at m k) (sym (with_zero (n * 2 ^ j))) ∙ bit_at_cat_high n j 0 k (pow_pos j) from
+up_high n j k within from = cc (cut (n * 2 ^ j) k within, with_zero (n * 2 ^ j), bit_at_cat_high n j 0 k (pow_pos j) from)
 
 max_left : (a b : ℕ) → b ≡ 0 → max a b ≡ a
-max_left a b e = omega (arith, e)
+max_left a b e = omega arith
 
 max_right : (a b : ℕ) → a ≡ 0 → max a b ≡ b
-max_right a b e = omega (arith, e)
+max_right a b e = omega arith
 
 max_same : (a b : ℕ) → b ≡ a → max a b ≡ a
-max_same a b e = omega (arith, e)
+max_same a b e = omega arith
 
 -- A bit of a register that was rotated right by `s`: its upper part goes down and its lower part up
 -- by `j`.
@@ -42,41 +37,29 @@ bit_turned : (n s j k : ℕ) → n < 256 → s + j ≡ 8 → k < 8 → bit_at (b
 bit_turned n s j k small whole within =
     bit_at_or (n / 2 ^ s) (n * 2 ^ j % 2 ^ 8) k ∙ ⊎_elim low high (cases_lt k j) where
       low : k < j → max (bit_at (n / 2 ^ s) k) (bit_at (n * 2 ^ j % 2 ^ 8) k) ≡ bit_at n ((s + k) % 8)
-      low below =
-          let same : s + k ≡ (s + k) % 8 = omega (arith, whole, below) in
-          max_left _ _ (up_low n j k within below) ∙ down n s k ∙ ap (bit_at n) same
+      low below = max_left _ _ (up_low n j k within below) ∙ down n s k ∙ ap (bit_at n) (omega arith)
 
       high : j ≤ k → max (bit_at (n / 2 ^ s) k) (bit_at (n * 2 ^ j % 2 ^ 8) k) ≡ bit_at n ((s + k) % 8)
-      high from =
-          let same : k - j ≡ (s + k) % 8 = omega (arith, whole, from, within) in
-          max_right _ _ (down n s k ∙ bit_at_above n 8 (s + k) small (omega (arith, whole, from)))
-          ∙ up_high n j k within from ∙ ap (bit_at n) same
+      high from = max_right _ _ (down n s k ∙ bit_at_above n 8 (s + k) small (omega arith)) ∙ up_high n j k within from ∙ ap (bit_at n) (omega arith)
 
 bit_unturned : (n k : ℕ) → n < 256 → k < 8 → bit_at (bit_or (n / 2 ^ 0) (n * 2 ^ 0 % 2 ^ 8)) k ≡ bit_at n k
 bit_unturned n k small within =
     let back : k - 0 ≡ k = omega arith in
     let on : 0 + k ≡ k = omega arith in
-    let left : bit_at (n / 2 ^ 0) k ≡ bit_at n k = down n 0 k ∙ ap (bit_at n) on in
-    let right : bit_at (n * 2 ^ 0 % 2 ^ 8) k ≡ bit_at n k = up_high n 0 k within (omega arith) ∙ ap (bit_at n) back in
-    bit_at_or (n / 2 ^ 0) (n * 2 ^ 0 % 2 ^ 8) k ∙ max_same _ _ (right ∙ sym left) ∙ left
+    let left : bit_at (n / 2 ^ 0) k ≡ bit_at n k = cc (down n 0 k) in
+    bit_at_or (n / 2 ^ 0) (n * 2 ^ 0 % 2 ^ 8) k ∙ max_same _ _ ((cc (up_high n 0 k within (omega arith))) ∙ sym left) ∙ left
 
 abbrev turned : ℕ → ℕ → ℕ
 turned n s = bit_or (n / 2 ^ s) (n * 2 ^ ((8 - s) % 8) % 2 ^ 8)
 
 turned_by : (n s k : ℕ) → n < 256 → s < 8 → k < 8 → bit_at (turned n s) k ≡ bit_at n ((s + k) % 8)
-turned_by n zero k small turns within =
-    let same : k ≡ (0 + k) % 8 = omega (arith, within) in
-    bit_unturned n k small within ∙ ap (bit_at n) same
+turned_by n zero k small turns within = bit_unturned n k small within ∙ ap (bit_at n) (omega arith)
 turned_by n (suc s) k small turns within =
-    let up : (8 - suc s) % 8 ≡ 8 - suc s = omega (arith, turns) in
-    ap (λ (j : ℕ). bit_at (bit_or (n / 2 ^ suc s) (n * 2 ^ j % 2 ^ 8)) k) up
-    ∙ bit_turned n (suc s) (8 - suc s) k small (omega (arith, turns)) within
+    ap (λ (j : ℕ). bit_at (bit_or (n / 2 ^ suc s) (n * 2 ^ j % 2 ^ 8)) k) (omega arith) ∙ bit_turned n (suc s) (8 - suc s) k small (omega arith) within
 
 -- The bit at a place is that of the input there.
 bit_at_place : (lowest inputs place : ℕ) → inputs < 256 → place < 8 → bit_at (rotate_right w8 inputs (lowest + 1)) place ≡ bit_at inputs (input_at lowest place)
-bit_at_place lowest inputs place small within =
-    let same : ((lowest + 1) % 8 + place) % 8 ≡ (lowest + 1 + place) % 8 = omega arith in
-    turned_by inputs ((lowest + 1) % 8) place small (omega arith) within ∙ ap (bit_at inputs) same
+bit_at_place lowest inputs place small within = turned_by inputs ((lowest + 1) % 8) place small (omega arith) within ∙ ap (bit_at inputs) (omega arith)
 
 by_bit : (lowest inputs place bit : ℕ) → inputs < 256 → place < 8 → bit_at (rotate_right w8 inputs (lowest + 1)) place ≡ bit
     → has inputs (input_at lowest place) ≡ (bit == 1)
@@ -88,7 +71,7 @@ none lowest inputs small zeros =
     subst (IsFirstPlace lowest inputs) (sym (trailing_of_zero 8)) (record {
       most = omega arith;
       before = λ other h. by_bit lowest inputs other 0 small h (ap (λ (r : ℕ). bit_at r other) zeros ∙ bit_at-zero other);
-      there = λ h. absurd (omega (arith, h));
+      there = λ h. absurd (omega arith);
     })
 
 some : (lowest inputs : ℕ) → inputs < 256 → 0 < rotate_right w8 inputs (lowest + 1) → rotate_right w8 inputs (lowest + 1) < 256
@@ -96,8 +79,8 @@ some : (lowest inputs : ℕ) → inputs < 256 → 0 < rotate_right w8 inputs (lo
 some lowest inputs small positive fits =
     let found = bit_at-trailing_zeros w8 (rotate_right w8 inputs (lowest + 1)) positive fits in
     record {
-      most = omega (arith, found.0);
-      before = λ other h. by_bit lowest inputs other 0 small (omega (arith, h, found.0)) (found.2 other h);
+      most = omega arith;
+      before = λ other h. by_bit lowest inputs other 0 small (omega arith) (found.2 other h);
       there = λ h. by_bit lowest inputs _ 1 small h found.1;
     }
 

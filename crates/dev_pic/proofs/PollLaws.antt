@@ -17,12 +17,12 @@ polled role is_odd chip poll = ap (λ (b : Bool). if b then polled_by (winner_at
 poll_winner : (role : Role) (is_odd : Bool) (chip : Chip) (input : ℕ) → chip.poll ≡ true → winner_at role chip ≡ Some input
     → read_of role is_odd chip ≡ (0x80 + input, taken input (record chip { poll = false }))
 unfolding polled_by
-poll_winner role is_odd chip input poll is = polled role is_odd chip poll ∙ ap (λ (o : Option ℕ). polled_by o chip) is
+poll_winner role is_odd chip input poll is = cc (polled role is_odd chip poll)
 
 poll_none : (role : Role) (is_odd : Bool) (chip : Chip) → chip.poll ≡ true → winner_at role chip ≡ None
     → read_of role is_odd chip ≡ (0, record chip { poll = false })
 unfolding polled_by
-poll_none role is_odd chip poll is = polled role is_odd chip poll ∙ ap (λ (o : Option ℕ). polled_by o chip) is
+poll_none role is_odd chip poll is = cc (polled role is_odd chip poll)
 
 -- Taking an input doesn't change `poll`.
 taken_poll : (winner : ℕ) (chip : Chip) → (taken winner chip).poll ≡ chip.poll

@@ -46,8 +46,7 @@ pub record IsMadeOf (level : ℕ) (master slave : Result Chip ℕ) (pair : PicPa
 pub made_of : (level : ℕ) (master slave : Result Chip ℕ) (pair : PicPair) → pair_of level master slave ≡ Ok pair → IsMadeOf level master slave pair
 unfolding pair_of
 made_of level (Ok master) (Ok slave) pair e = record { same_level = cc; of_master = cc; of_slave = cc }
-made_of level (Ok master) (Err rule) pair e = cc
-made_of level (Err rule) slave pair e = cc
+made_of level _ _ pair e = cc
 
 pub number-ok : (outcome : Result PicPair ChipFault) (pair : PicPair) → by_number outcome ≡ Ok pair → outcome ≡ Ok pair
 unfolding by_number

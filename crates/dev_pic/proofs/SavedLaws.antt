@@ -16,36 +16,30 @@ use Rattle.dev_pic.proofs.RestoredLaws.{sound, made_of, number-ok}
 -- ---- the parts of a list that joins two
 
 pub first_part : (count : ℕ) (first second : List ℤ) → length first ≡ count → take count (first ++ second) ≡ first
-first_part count first second is =
-    ap (λ n. take n (first ++ second)) (sym is) ∙ take-append_seam first second
+first_part count first second is = rw (← is) (take-append_seam first second)
 
 pub second_part : (count : ℕ) (first second : List ℤ) → length first ≡ count → drop count (first ++ second) ≡ second
-second_part count first second is =
-    ap (λ n. drop n (first ++ second)) (sym is) ∙ drop-append_seam first second
+second_part count first second is = rw (← is) (drop-append_seam first second)
 
 -- If a list joins two chips' cells, its parts are chips' cells.
 pub master_cells : (master slave both : List ℤ) → both ≡ master ++ slave → IsChipCells master → IsChipCells (take cell_count both)
 master_cells master slave both joined cells =
-    subst (λ (all : List ℤ). IsChipCells (take cell_count all)) (sym joined) (subst IsChipCells (sym (first_part cell_count master slave cells.count)) cells)
+    rw joined (subst IsChipCells (sym (first_part cell_count master slave cells.count)) cells)
 
 pub slave_cells : (master slave both : List ℤ) → both ≡ master ++ slave → IsChipCells master → IsChipCells slave → IsChipCells (drop cell_count both)
 slave_cells master slave both joined first cells =
-    subst (λ (all : List ℤ). IsChipCells (drop cell_count all)) (sym joined) (subst IsChipCells (sym (second_part cell_count master slave first.count)) cells)
+    rw joined (subst IsChipCells (sym (second_part cell_count master slave first.count)) cells)
 
 -- ---- saved and restored
 
 -- A state is that of its own number.
 state-back : (s : InitState) → state_of (state_number s) ≡ s
 state-back Ready = refl
-state-back Icw2 = refl
-state-back Icw3 = refl
-state-back WantsIcw4 = refl
+state-back _ = refl
 
 state-le : (s : InitState) → state_number s ≤ 3
 state-le Ready = omega arith
-state-le Icw2 = omega arith
-state-le Icw3 = omega arith
-state-le WantsIcw4 = omega arith
+state-le _ = omega arith
 
 -- A chip is that of its own cells.
 pub chip_of-saved : (chip : Chip) → chip_of (saved_cells NEWEST chip) ≡ chip
@@ -58,8 +52,6 @@ registers-met : (level : ℕ) (role : Role) (chip : Chip) → HasRegisters level
 unfolding registers_hold
 registers-met level role chip h =
     let state = state-le chip.init_state in
-    let lowest = h.lowest in
-    let vectors = h.vectors in
     grind (arith, nat_tests)
 
 -- All rules hold for a sound chip.
@@ -73,7 +65,7 @@ met level role chip s =
 holds : (level : ℕ) (role : Role) (chip : Chip) → HasRegisters level role chip → AllHold (named chip) i8259_rows
 holds level role chip h =
     one_holds _ _ (byte _ h.irr) (one_holds _ _ (byte _ h.isr) (one_holds _ _ (byte _ h.imr) (one_holds _ _ (byte _ h.lines)
-    (one_holds _ _ (byte _ (omega (arith, h.lowest)))
+    (one_holds _ _ (byte _ (omega arith))
     (one_holds _ _ (byte _ h.base) (one_holds _ _ (byte _ (omega (arith, state-le chip.init_state))) (one_holds _ _ (flag _)
     (one_holds _ _ (flag _) (one_holds _ _ (flag _) (one_holds _ _ (flag _) (one_holds _ _ (flag _)
     (one_holds _ _ (flag _) (one_holds _ _ (flag _) (one_holds _ _ (flag _) (one_holds _ _ (byte _ h.elcr)
@@ -112,7 +104,7 @@ sound_meets_rules = record { chip = λ level role chip. (meets level role chip, 
 
 restored-newest : (level : ℕ) (role : Role) (chip : Chip) → IsSoundChip level role chip → restored level role (saved_cells NEWEST chip) ≡ Ok chip
 restored-newest level role chip s =
-    judged-all (rules level role (saved_cells NEWEST chip)) (chip_of (saved_cells NEWEST chip)) (met level role chip s) ∙ ap Ok (chip_of-saved chip)
+    cc (judged-all (rules level role (saved_cells NEWEST chip)) (chip_of (saved_cells NEWEST chip)) (met level role chip s), chip_of-saved chip)
 
 -- What a set lacks is at its default on a chip of a level that may be saved in it.
 no-levels : (level elcr : ℕ) (role : Role) → level < ELCR_SINCE → levels_hold level role elcr ≡ true → elcr ≡ 0
@@ -140,7 +132,7 @@ carried-saved level set role chip le s =
 
 -- The level mode's cell if the subsection isn't needed.
 off : (ltim : Bool) → (flag_number ltim == 1) ≡ false → pos (flag_number ltim) ≡ pos 0
-off true e = absurd (false≢true (sym e))
+off true e = cc
 off false e = refl
 
 unneeded : (set : ℕ) (chip : Chip) → LTIM_SINCE ≤ set → flag_in (saved_cells set chip) (codes "ltim") ≡ false
@@ -149,8 +141,8 @@ unfolding saved_cells
 unneeded set chip h = by_tests (nat_le ELCR_SINCE set) (nat_le LTIM_SINCE set) (grind (arith, nat_tests)) (grind (arith, nat_tests)) where
   by_tests : (a b : Bool) → a ≡ true → b ≡ true → flag_in (by_sets a b chip) (codes "ltim") ≡ false → cell_in (by_sets a b chip) (codes "ltim") ≡ pos 0
   by_tests true true p q e = off chip.ltim e
-  by_tests true false p q e = absurd (false≢true q)
-  by_tests false b p q e = absurd (false≢true p)
+  by_tests true false p q e = cc
+  by_tests false b p q e = cc
 
 master-part : (set : ℕ) (pair : PicPair) → take (length (kinds set)) (pair_cells set pair) ≡ saved_cells set pair.master
 master-part set pair =
@@ -176,7 +168,7 @@ told (suc zero) rule c l h =
     let e : nat_le (10 + rule) 10 ≡ false = grind (arith, nat_tests) in
     let back : 10 + rule - 10 ≡ rule = omega arith in
     rw e (ap (λ (n : ℕ). record { chip = 1; rule = n }) back)
-told (suc (suc chip)) rule c l h = absurd (omega (arith, c))
+told (suc (suc chip)) rule c l h = absurd (omega arith)
 
 pub faults_are_told : FaultsAreTold
 faults_are_told = record { fault = λ fault c l h. told fault.chip fault.rule c l h }
@@ -184,16 +176,11 @@ faults_are_told = record { fault = λ fault c l h. told fault.chip fault.rule c 
 -- The pair's carried cells are those of the newest set.
 pair-carried : (set : ℕ) (pair : PicPair) → IsSoundPair pair → pair.level ≤ set → pair_carried set (pair_cells set pair) ≡ pair_cells NEWEST pair
 pair-carried set pair s le =
-    ap (λ cells. carried set cells ++ carried set (drop (length (kinds set)) (pair_cells set pair))) (master-part set pair)
-    ∙ ap (λ cells. carried set (saved_cells set pair.master) ++ carried set cells) (slave-part set pair)
-    ∙ ap (λ cells. cells ++ carried set (saved_cells set pair.slave)) (carried-saved pair.level set Master pair.master le s.master)
-    ∙ ap (λ cells. saved_cells NEWEST pair.master ++ cells) (carried-saved pair.level set Slave pair.slave le s.slave)
+    cc (master-part set pair, slave-part set pair, carried-saved pair.level set Master pair.master le s.master, carried-saved pair.level set Slave pair.slave le s.slave)
 
 pub pair-restored : (pair : PicPair) → IsSoundPair pair → restored_pair pair.level (saved_cells NEWEST pair.master) (saved_cells NEWEST pair.slave) ≡ Ok pair
 unfolding pair_of
-pair-restored pair s =
-    ap (λ r. pair_of pair.level r (restored pair.level Slave (saved_cells NEWEST pair.slave))) (restored-newest pair.level Master pair.master s.master)
-    ∙ ap (pair_of pair.level (Ok pair.master)) (restored-newest pair.level Slave pair.slave s.slave)
+pair-restored pair s = cc (restored-newest pair.level Master pair.master s.master, restored-newest pair.level Slave pair.slave s.slave)
 
 -- Both chips' cells in the newest set.
 newest-can : (numbers : Numbers) (pair : PicPair) → MayRestore numbers → IsSoundPair pair → CanRestore numbers (pair_cells NEWEST pair)
@@ -208,15 +195,12 @@ newest-restored : (numbers : Numbers) (pair : PicPair) → numbers.level ≡ pai
 unfolding by_number
 newest-restored numbers pair same s =
     let parts : restored_pair numbers.level (take cell_count (pair_cells NEWEST pair)) (drop cell_count (pair_cells NEWEST pair)) ≡ Ok pair =
-    ap (λ cells. restored_pair numbers.level cells (drop cell_count (pair_cells NEWEST pair))) (master-part NEWEST pair)
-    ∙ ap (restored_pair numbers.level (saved_cells NEWEST pair.master)) (slave-part NEWEST pair)
-    ∙ ap (λ level. restored_pair level (saved_cells NEWEST pair.master) (saved_cells NEWEST pair.slave)) same
-    ∙ pair-restored pair s
+    cc (master-part NEWEST pair, slave-part NEWEST pair, pair-restored pair s)
     in ok-hook _ pair (ap by_number parts)
 
 restored-back : (numbers back : Numbers) (pair : PicPair) → CanSave numbers pair → IsSoundPair pair → MayRestore back → back.level ≡ pair.level → CanRestore back (pair_carried numbers.set (pair_cells numbers.set pair)) × (hook_restored back (pair_carried numbers.set (pair_cells numbers.set pair)) ≡ Ok pair)
 restored-back numbers back pair can s may same =
-    let le : pair.level ≤ numbers.set = let own = can.own_level in let l = can.level_le_set in omega (arith, own, l) in
+    let le : pair.level ≤ numbers.set = let l = can.level_le_set in omega arith in
     let e = sym (pair-carried numbers.set pair s le) in (
       subst (CanRestore back) e (newest-can back pair may s),
       subst (λ (cells : List ℤ). hook_restored back cells ≡ Ok pair) e (newest-restored back pair same s),
@@ -243,9 +227,7 @@ failing (Some found) chip rule e = cc
 chip-rule : (level : ℕ) (role : Role) (cells : List ℤ) (rule : ℕ) → restored level role cells ≡ Err rule → IsRule rule
 chip-rule level role cells rule e =
     let some = failing (first_failing (rules level role cells)) (chip_of cells) rule e in
-    let first : IsFirstFailing (rules level role cells) rule =
-    subst (MeansFailing (rules level role cells)) some (first_failing_is_first (rules level role cells)) in
-    first.within
+    (subst (MeansFailing (rules level role cells)) some (first_failing_is_first (rules level role cells))).within
 
 made-fault : (level : ℕ) (master slave : Result Chip ℕ) (fault : ChipFault) → ((rule : ℕ) → master ≡ Err rule → IsRule rule)
     → ((rule : ℕ) → slave ≡ Err rule → IsRule rule) → pair_of level master slave ≡ Err fault → IsFault fault
@@ -269,15 +251,12 @@ hook-err (Ok pair) fault within e = cc
 hook-err (Err found) fault within e =
     let is = within found refl in
     let rule : hook_rule found ≡ fault.rule = ap (λ (f : HookFault). f.rule) (let same : record { rule = hook_rule found } ≡ fault = cc in same) in
-    let most : found.rule ≤ 10 = let m = is.rule.1 in omega (arith, m) in
-    ap Err (sym (faults_are_told.fault found is.chip is.rule.0 most) ∙ ap fault_of rule)
+    ap Err (sym (faults_are_told.fault found is.chip is.rule.0 (omega arith)) ∙ ap fault_of rule)
 
 -- Two chips' cells, one after the other.
 module _ (numbers : Numbers) (master slave : List ℤ) (m : IsChipCells master) where
   parts : restored_pair numbers.level (take cell_count (master ++ slave)) (drop cell_count (master ++ slave)) ≡ restored_pair numbers.level master slave
-  parts =
-      ap (λ (cells : List ℤ). restored_pair numbers.level cells (drop cell_count (master ++ slave))) (first_part cell_count master slave m.count)
-      ∙ ap (λ (cells : List ℤ). restored_pair numbers.level master cells) (second_part cell_count master slave m.count)
+  parts = cc (first_part cell_count master slave m.count, second_part cell_count master slave m.count)
 
   pub pair-told : (pair : PicPair) → hook_restored numbers (master ++ slave) ≡ Ok pair → restored_pair numbers.level master slave ≡ Ok pair
   pair-told pair e = sym parts ∙ number-ok _ pair (hook-ok _ pair e)

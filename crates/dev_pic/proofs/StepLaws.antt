@@ -30,15 +30,14 @@ unfolding ended_lowest
 ended_lowest-keeps None chip = same chip
 ended_lowest-keeps (Some w) chip = record { irr = refl; lines = refl; elcr = refl; ltim = refl }
 
-commanded-keeps : (command : Ocw2) (chip : Chip) → Keeps chip (commanded command chip)
+pub commanded-keeps : (command : Ocw2) (chip : Chip) → Keeps chip (commanded command chip)
 unfolding commanded
 commanded-keeps NonSpecificEoi chip = ended-keeps (highest_served chip) chip
 commanded-keeps RotateOnNonSpecificEoi chip = ended_lowest-keeps (highest_served chip) chip
 commanded-keeps (SpecificEoi input) chip = ended-keeps (Some input) chip
 commanded-keeps (RotateOnSpecificEoi input) chip = ended_lowest-keeps (Some input) chip
-commanded-keeps (RotateInAutomaticEoi rotate) chip = record { irr = refl; lines = refl; elcr = refl; ltim = refl }
-commanded-keeps (SetPriority input) chip = record { irr = refl; lines = refl; elcr = refl; ltim = refl }
 commanded-keeps NoOperation chip = same chip
+commanded-keeps _ chip = record { irr = refl; lines = refl; elcr = refl; ltim = refl }
 
 pub even-keeps : (level value : ℕ) (chip : Chip) → has value 4 ≡ false → Keeps chip (written_even level value chip)
 unfolding written_even selected
@@ -48,9 +47,7 @@ even-keeps level value chip e =
 pub odd-keeps : (s : InitState) (value : ℕ) (chip : Chip) → Keeps chip (written_odd_in s value chip)
 unfolding written_odd_in
 odd-keeps Ready value chip = record { irr = refl; lines = refl; elcr = refl; ltim = refl }
-odd-keeps Icw2 value chip = record { irr = refl; lines = refl; elcr = refl; ltim = refl }
-odd-keeps Icw3 value chip = record { irr = refl; lines = refl; elcr = refl; ltim = refl }
-odd-keeps Icw4 value chip = record { irr = refl; lines = refl; elcr = refl; ltim = refl }
+odd-keeps _ value chip = record { irr = refl; lines = refl; elcr = refl; ltim = refl }
 
 -- ---- registers
 
@@ -158,7 +155,7 @@ module _ (level : ℕ) (role : Role) (chip : Chip) (h : HasRegisters level role 
   unfolding started
   started-registers value =
       let levels = level_inputs (ltim_after level value chip) chip.elcr in
-      let irr : bit_and chip.irr levels < 256 = omega (arith, and_le_l chip.irr levels, h.irr) in
+      let irr : bit_and chip.irr levels < 256 = omega (arith, and_le_l chip.irr levels) in
       record {
         mode = mode-after value;
         irr = irr;
@@ -184,13 +181,11 @@ module _ (level : ℕ) (role : Role) (chip : Chip) (h : HasRegisters level role 
 
   pub written_odd-registers : (s : InitState) (value : ℕ) → value < 256 → HasRegisters level role (written_odd_in s value chip)
   unfolding written_odd_in
-  written_odd-registers Ready value v = search
   written_odd-registers Icw2 value v =
       let below : value - value % 8 < 256 = omega arith in
       let clear : (value - value % 8) % 8 ≡ 0 = omega arith in
       search
-  written_odd-registers Icw3 value v = search
-  written_odd-registers Icw4 value v = search
+  written_odd-registers _ value v = search
 
 module _ (level : ℕ) (role : Role) (chip : Chip) (h : HasRegisters level role chip) where
   polled-registers : (o : Option ℕ) → IfSome o (λ w. w < 8) → HasRegisters level role (polled_by o chip).1
@@ -217,18 +212,7 @@ module _ (level : ℕ) (role : Role) (chip : Chip) (h : HasRegisters level role 
   unfolding cascaded
   cascaded-registers =
       let k = taken-registers level role chip h 2 (omega arith) in
-      record {
-        irr = k.irr;
-        isr = k.isr;
-        imr = k.imr;
-        lines = without_input-lt _ 2 k.lines;
-        lowest = k.lowest;
-        base = k.base;
-        vectors = k.vectors;
-        elcr = k.elcr;
-        levels = k.levels;
-        mode = k.mode;
-      }
+      let lines = without_input-lt _ 2 k.lines in search
 
   agreed : (irr lines levels : ℕ) → bit_and irr levels ≡ bit_and lines levels → requests_hold irr lines levels ≡ true
   unfolding requests_hold

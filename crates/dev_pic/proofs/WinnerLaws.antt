@@ -32,7 +32,7 @@ module _ (p q : ℕ → Bool) (x : ℕ) (xs : List ℕ) where
   more np nq None m = miss-more np nq m
   more np nq (Some w) m = record {
     place = suc m.place;
-    within = omega (arith, m.within);
+    within = omega arith;
     there = m.there;
     passes = m.passes;
     least = all-more q m.place nq m.least;
@@ -72,13 +72,13 @@ at lowest place h = get_or-map-range_with_len (input_at lowest) 0 8 place place 
 turned : (lowest requests served : ℕ) (o : Option ℕ) → Means (has served) (has requests) (order lowest) o → MeansWinner lowest requests served o
 turned lowest requests served None m = λ k h e.
     let r = m k h (subst (λ (i : ℕ). has requests i ≡ true) (sym (at lowest k h)) e) in
-    (r.0, r.1, subst (λ (i : ℕ). has served i ≡ true) (at lowest r.0 (omega (arith, r.1))) r.2)
+    (r.0, r.1, subst (λ (i : ℕ). has served i ≡ true) (at lowest r.0 (omega arith)) r.2)
 turned lowest requests served (Some w) m = record {
   place = m.place;
   in_order = (m.within, m.there ∙ at lowest m.place m.within);
   requested = m.passes;
-  least = λ k h. subst (λ (i : ℕ). has requests i ≡ false) (at lowest k (omega (arith, m.within))) (m.least k h);
-  before_served = λ k h. subst (λ (i : ℕ). has served i ≡ false) (at lowest k (omega (arith, m.within))) (m.clear k h);
+  least = λ k h. subst (λ (i : ℕ). has requests i ≡ false) (at lowest k (omega arith)) (m.least k h);
+  before_served = λ k h. subst (λ (i : ℕ). has served i ≡ false) (at lowest k (omega arith)) (m.clear k h);
 }
 
 pub winner_of-means : (lowest requests served : ℕ) → MeansWinner lowest requests served (winner_of lowest requests served)
@@ -89,14 +89,11 @@ winner_of-means lowest requests served =
 -- No two inputs meet the relation, and none does if there is no winner.
 only_for : (lowest requests served winner : ℕ) (o : Option ℕ) → MeansWinner lowest requests served o → IsWinner lowest requests served winner → o ≡ Some winner
 only_for lowest requests served winner None none w =
-    let here = subst (λ (i : ℕ). has requests i ≡ true) w.in_order.1 w.requested in
-    let blocked = none w.place w.in_order.0 here in
+    let blocked = none w.place w.in_order.0 (subst (λ (i : ℕ). has requests i ≡ true) w.in_order.1 w.requested) in
     absurd (false≢true (sym (w.before_served blocked.0 blocked.1) ∙ blocked.2))
 only_for lowest requests served winner (Some found) f w =
-    let asked = subst (λ (i : ℕ). has requests i ≡ true) w.in_order.1 w.requested in
-    let found_asked = subst (λ (i : ℕ). has requests i ≡ true) f.in_order.1 f.requested in
-    ⊎_elim (λ less. absurd (false≢true (sym (w.least f.place less) ∙ found_asked)))
-    (λ le. ⊎_elim (λ more. absurd (false≢true (sym (f.least w.place more) ∙ asked)))
+    ⊎_elim (λ less. absurd (false≢true (sym (w.least f.place less) ∙ (subst (λ (i : ℕ). has requests i ≡ true) f.in_order.1 f.requested))))
+    (λ le. ⊎_elim (λ more. absurd (false≢true (sym (f.least w.place more) ∙ (subst (λ (i : ℕ). has requests i ≡ true) w.in_order.1 w.requested))))
     (λ ge. let same : f.place ≡ w.place = omega arith in
     ap Some (f.in_order.1 ∙ ap (input_at lowest) same ∙ sym w.in_order.1)) (cases_lt w.place f.place))
     (cases_lt f.place w.place)
@@ -113,24 +110,18 @@ find_at : (q : ℕ → Bool) (xs : List ℕ) (k : ℕ) → k < length xs → q (
     → find q xs ≡ Some (get_or xs k 0)
 find_at q [] k h passes others = absurd (omega arith)
 find_at q (x ∷ xs) zero h passes others = rw passes
-find_at q (x ∷ xs) (suc k) h passes others =
-    let first : q x ≡ false = others 0 (omega arith) in
-    rw first (find_at q xs k (omega arith) passes (λ j l. others (suc j) (omega arith)))
+find_at q (x ∷ xs) (suc k) h passes others = rw (others 0 (omega arith)) (find_at q xs k (omega arith) passes (λ j l. others (suc j) (omega arith)))
 
 find_none : (q : ℕ → Bool) (xs : List ℕ) → ((j : ℕ) → j < length xs → q (get_or xs j 0) ≡ false) → find q xs ≡ None
 find_none q [] others = refl
-find_none q (x ∷ xs) others =
-    let first : q x ≡ false = others 0 (omega arith) in
-    rw first (find_none q xs (λ j l. others (suc j) (omega arith)))
+find_none q (x ∷ xs) others = rw (others 0 (omega arith)) (find_none q xs (λ j l. others (suc j) (omega arith)))
 
 -- The input of highest priority in a set, and none in an empty one.
 pub highest_at : (lowest inputs place : ℕ) → place < 8 → has inputs (input_at lowest place) ≡ true
     → ((other : ℕ) → other < place → has inputs (input_at lowest other) ≡ false) → highest_of lowest inputs ≡ Some (input_at lowest place)
 unfolding highest_of
 highest_at lowest inputs place h passes others =
-    find_at (has inputs) (order lowest) place h (subst (λ (i : ℕ). has inputs i ≡ true) (sym (at lowest place h)) passes)
-    (λ j l. subst (λ (i : ℕ). has inputs i ≡ false) (sym (at lowest j (omega arith))) (others j l))
-    ∙ ap Some (at lowest place h)
+    cc (find_at (has inputs) (order lowest) place h (subst (λ (i : ℕ). has inputs i ≡ true) (sym (at lowest place h)) passes) (λ j l. subst (λ (i : ℕ). has inputs i ≡ false) (sym (at lowest j (omega arith))) (others j l)), at lowest place h)
 
 pub highest_none : (lowest inputs : ℕ) → ((input : ℕ) → input < 8 → has inputs input ≡ false) → highest_of lowest inputs ≡ None
 unfolding highest_of

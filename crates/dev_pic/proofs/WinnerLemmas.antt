@@ -10,24 +10,18 @@ find-before p q x xs =
 
 -- The input at a place is that place of the order.
 at_place : (lowest place input : ℕ) → place < 8 → input ≡ input_at lowest place → get_or (order lowest) place 0 ≡ input
-at_place lowest place input within is =
-    get_or-map-range_with_len (input_at lowest) 0 8 place place 0 within (omega arith) ∙ sym is
+at_place lowest place input within is = cc (get_or-map-range_with_len (input_at lowest) 0 8 place place 0 within (omega arith))
 
 -- One step of the search for a winner.
 pub ready_among-more : (lowest requests served place input : ℕ) → place < 8 → input ≡ input_at lowest place → ready_among requests served (drop place (order lowest)) ≡ cond (has served input) None (cond (has requests input) (Some input) (ready_among requests served (drop (place + 1) (order lowest))))
 unfolding ready_among
 ready_among-more lowest requests served place input within is =
-    at_drop_more (ready_among requests served) (order lowest) place 0 within
-    ∙ find-before (has served) (has requests) (get_or (order lowest) place 0) (drop (place + 1) (order lowest))
-    ∙ ap (λ x. cond (has served x) None (cond (has requests x) (Some x) (ready_among requests served (drop (place + 1) (order lowest)))))
-    (at_place lowest place input within is)
+    cc (at_drop_more (ready_among requests served) (order lowest) place 0 within, find-before (has served) (has requests) (get_or (order lowest) place 0) (drop (place + 1) (order lowest)), at_place lowest place input within is)
 
 -- One step of the search for the highest of a set.
 pub find-more : (lowest inputs place input : ℕ) → place < 8 → input ≡ input_at lowest place
     → find (has inputs) (drop place (order lowest)) ≡ cond (has inputs input) (Some input) (find (has inputs) (drop (place + 1) (order lowest)))
-find-more lowest inputs place input within is =
-    at_drop_more (find (has inputs)) (order lowest) place 0 within
-    ∙ ap (λ x. cond (has inputs x) (Some x) (find (has inputs) (drop (place + 1) (order lowest)))) (at_place lowest place input within is)
+find-more lowest inputs place input within is = cc (at_drop_more (find (has inputs)) (order lowest) place 0 within, at_place lowest place input within is)
 
 module _ (lowest requests served : ℕ) where
   -- If no place so far is requested or served, the search continues after them.
@@ -38,20 +32,18 @@ module _ (lowest requests served : ℕ) where
   below zero most unasked unserved = refl
   below (suc place) most unasked unserved =
       let next : suc place ≡ place + 1 = omega arith in
-      let passed = unserved place (omega arith) in
       let skipped = unasked place (omega arith) in
       ap (λ (k : ℕ). ready_among requests served (drop k (order lowest))) next
-      ∙ sym (rw (passed, skipped) at (ready_among-more lowest requests served place (input_at lowest place) (omega arith) refl))
+      ∙ sym (rw (unserved place (omega arith), skipped) at (ready_among-more lowest requests served place (input_at lowest place) (omega arith) refl))
       ∙ below place (omega arith) (λ other h. unasked other (omega arith)) (λ other h. unserved other (omega arith))
 
   -- The first request wins if it comes before the first input in service.
   pub wins : (first other : ℕ) → IsFirstPlace lowest requests first → IsFirstPlace lowest served other → first < other
       → Some (input_at lowest first) ≡ winner_of lowest requests served
   wins first other asked serving before =
-      let passed = serving.before first before in
-      let requested = asked.there (omega (arith, serving.most, before)) in
-      sym (rw (passed, requested) at (ready_among-more lowest requests served first (input_at lowest first) (omega (arith, serving.most, before)) refl))
-      ∙ below first asked.most asked.before (λ k h. serving.before k (omega (arith, h, before)))
+      let requested = asked.there (omega arith) in
+      sym (rw (serving.before first before, requested) at (ready_among-more lowest requests served first (input_at lowest first) (omega arith) refl))
+      ∙ below first asked.most asked.before (λ k h. serving.before k (omega arith))
 
   -- After the last place there is nothing.
   no_more : None ≡ ready_among requests served (drop 8 (order lowest))
@@ -64,20 +56,16 @@ module _ (lowest requests served : ℕ) where
   loses first other asked serving before = ⊎_elim here ends (cases_lt other 8) where
     here : other < 8 → None ≡ winner_of lowest requests served
     here within =
-        let served_there = serving.there within in
-        sym (rw served_there at (ready_among-more lowest requests served other (input_at lowest other) within refl))
-        ∙ below other serving.most (λ k h. asked.before k (omega (arith, h, before))) serving.before
+        sym (rw (serving.there within) at (ready_among-more lowest requests served other (input_at lowest other) within refl))
+        ∙ below other serving.most (λ k h. asked.before k (omega arith)) serving.before
 
     ends : 8 ≤ other → None ≡ winner_of lowest requests served
-    ends from =
-        no_more ∙ below 8 (omega arith) (λ k h. asked.before k (omega (arith, h, before, from))) (λ k h. serving.before k (omega (arith, h, from)))
+    ends from = no_more ∙ below 8 (omega arith) (λ k h. asked.before k (omega arith)) (λ k h. serving.before k (omega arith))
 
 -- Nothing is found in the empty set.
 find-nothing : (inputs : List ℕ) → find (has 0) inputs ≡ None
 find-nothing [] = refl
-find-nothing (input ∷ inputs) =
-    let missing : has 0 input ≡ false = ap (λ (b : ℕ). b == 1) (bit_at-zero input) in
-    rw missing (find-nothing inputs)
+find-nothing (input ∷ inputs) = rw (ap (λ (b : ℕ). b == 1) (bit_at-zero input)) (find-nothing inputs)
 
 -- If nothing is requested, nothing wins.
 pub nothing_wins : (lowest requests served : ℕ) → requests ≡ 0 → None ≡ winner_of lowest requests served
@@ -92,17 +80,14 @@ module _ (lowest inputs : ℕ) where
   find_below zero most missing = refl
   find_below (suc place) most missing =
       let next : suc place ≡ place + 1 = omega arith in
-      let passed = missing place (omega arith) in
       ap (λ (k : ℕ). find (has inputs) (drop k (order lowest))) next
-      ∙ sym (rw passed at (find-more lowest inputs place (input_at lowest place) (omega arith) refl))
+      ∙ sym (rw (missing place (omega arith)) at (find-more lowest inputs place (input_at lowest place) (omega arith) refl))
       ∙ find_below place (omega arith) (λ other h. missing other (omega arith))
 
   -- The first place of a set has its highest input.
   pub is_highest : (first : ℕ) → IsFirstPlace lowest inputs first → first < 8 → Some (input_at lowest first) ≡ highest_of lowest inputs
   is_highest first is within =
-      let there = is.there within in
-      sym (rw there at (find-more lowest inputs first (input_at lowest first) within refl)) ∙ find_below first is.most is.before
+      sym (rw (is.there within) at (find-more lowest inputs first (input_at lowest first) within refl)) ∙ find_below first is.most is.before
 
   pub has_none : (first : ℕ) → IsFirstPlace lowest inputs first → 8 ≤ first → None ≡ highest_of lowest inputs
-  has_none first is from =
-      find_below 8 (omega arith) (λ k h. is.before k (omega (arith, h, from)))
+  has_none first is from = find_below 8 (omega arith) (λ k h. is.before k (omega arith))

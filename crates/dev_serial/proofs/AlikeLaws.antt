@@ -224,6 +224,6 @@ alike_back port other a =
 
 pub alike_on : AlikeOn
 alike_on port _ third a b = record {
-  same = b.same ∙ ap (λ (p : Port). record p { thr_empty = third.thr_empty }) a.same;
+  same = cc;
   enabled = λ e. b.enabled (ap (λ (p : Port). has p.ier 1) a.same ∙ e) ∙ a.enabled e;
 }

@@ -94,7 +94,7 @@ module _ (numbers : Numbers) (port : Port) (can : CanSave numbers port) (sound :
   newest = record numbers { set = NEWEST }
 
   same : carried numbers.set (cells_at numbers port) ≡ cells_of 4 (saved numbers.set numbers.moment port)
-  same = carried-saved numbers.set numbers.moment port can.moment sound (let e = can.own_level in omega arith)
+  same = carried-saved numbers.set numbers.moment port can.moment sound (omega arith)
 
   may : CanRestore newest (carried numbers.set (cells_at numbers port))
   may = record {

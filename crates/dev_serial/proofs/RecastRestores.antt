@@ -17,9 +17,7 @@ all_three _ _ z e = cc
 -- a list in an array, with an empty ring, is stored there
 in_array : (bytes : List ℕ) → length bytes ≤ 16 → stored_bytes (counted_of bytes) (ring_of []) ≡ bytes
 in_array [] short = ring-back [] (omega arith)
-in_array (byte ∷ bytes) short =
-    ap (λ (b : Bool). if b then ring_bytes (ring_of []) else counted_bytes (counted_of (byte ∷ bytes))) (ne_eqb (length (byte ∷ bytes)) 0 (λ e. omega arith))
-    ∙ counted-back (byte ∷ bytes) short
+in_array (byte ∷ bytes) short = cc (ne_eqb (length (byte ∷ bytes)) 0 (λ e. omega arith), counted-back (byte ∷ bytes) short)
 
 module _ (array : Counted) (ring : Ring) where
   -- the bytes are in the ring alone
@@ -62,7 +60,7 @@ module _ (array : Counted) (ring : Ring) where
   same_ring : ring_holds (ring_left array ring) ≡ ring_holds ring
   same_ring = go (is_in_ring array ring) refl where
     go : (b : Bool) → is_in_ring array ring ≡ b → ring_holds (ring' b) ≡ ring_holds ring
-    go true e = ring_of-holds [] (omega arith) ∙ sym (holds e)
+    go true e = cc (ring_of-holds [] (omega arith), holds e)
     go false e = refl
 
 -- ---- the port
@@ -110,4 +108,4 @@ module _ (level now : ℕ) (n : PortNumbers) where
   port_restores = ap (λ (l : List Bool). judged l (port_of level m)) same_rules ∙ ap (judged (rules level now n)) same_port
 
 pub recast_restores : (numbers : Numbers) (cells : List ℤ) → restored_cells numbers (recast_cells cells) ≡ restored_cells numbers cells
-recast_restores numbers cells = ap (restored numbers.level numbers.moment) (numbers_back cells) ∙ port_restores numbers.level numbers.moment (numbers_of cells)
+recast_restores numbers cells = cc (numbers_back cells, port_restores numbers.level numbers.moment (numbers_of cells))

@@ -228,10 +228,7 @@ each_set P set low high a b c d =
 zero-from : (front back : List ℤ) (bytes : List ℕ) (i : ℕ) → length bytes ≤ i → i < 16
     → cell_at (front ++ (map pos (padded bytes) ++ back)) (length front + i) ≡ pos 0
 zero-from front back bytes i low high =
-    get_or-append-add front (map pos (padded bytes) ++ back) i (pos 0)
-    ∙ get_or_append_left (map pos (padded bytes)) back (pos 0) i high
-    ∙ get_or-map pos (padded bytes) i 0 (pos 0) high
-    ∙ ap pos (byte_of-padded bytes i high ∙ get_or_past bytes i 0 low)
+    cc (get_or-append-add front (map pos (padded bytes) ++ back) i (pos 0), get_or_append_left (map pos (padded bytes)) back (pos 0) i high, get_or-map pos (padded bytes) i 0 (pos 0) high, byte_of-padded bytes i high, get_or_past bytes i 0 low)
 
 -- The bytes and their count, as the cells have them.
 array_in : (cells front back : List ℤ) (bytes : List ℕ) (place : ℕ) → cells ≡ front ++ (map pos (padded bytes) ++ back) → place + 1 ≡ length front

@@ -178,8 +178,7 @@ pub run-twice : (character a b : ℕ) (shift : Option Shift) (waiting : List ℕ
 unfolding run_until departures
 run-twice character a b None waiting h = refl
 run-twice character a b (Some shift) waiting h =
-    run-holding character b (staying a (timetable character shift.due (shift.byte ∷ waiting))) (staying-table character a shift.due (shift.byte ∷ waiting))
-    ∙ ap holding (staying-twice a b (timetable character shift.due (shift.byte ∷ waiting)) h)
+    cc (run-holding character b (staying a (timetable character shift.due (shift.byte ∷ waiting))) (staying-table character a shift.due (shift.byte ∷ waiting)), staying-twice a b (timetable character shift.due (shift.byte ∷ waiting)) h)
 
 pub gone_by-twice : (character a b : ℕ) (shift : Option Shift) (waiting : List ℕ) → a ≤ b → gone_by character a shift waiting ++ gone_by character b (run_until character a shift waiting).shift (run_until character a shift waiting).waiting ≡ gone_by character b shift waiting
 gone_by-twice character a b shift waiting h = rw (departures-later character a shift waiting) (gone-twice a b (departures character shift waiting) h)
@@ -255,11 +254,8 @@ one-event : (event : Event) (port : Port) → replaces event port ≡ false
     → left_in event port ++ pending (after event port) ≡ pending port ++ accepted_in event port
 unfolding thr_written advanced
 one-event (Writes byte now) port e =
-    pending-loaded (now + character_time port.divisor port.lcr) port.transmitter.shift (queued (is_some port.fifos) byte port.transmitter.waiting)
-    ∙ ap (λ xs. pending_of port.transmitter.shift xs) (queued-accepted (is_some port.fifos) byte port.transmitter.waiting e)
-    ∙ pending-append port.transmitter.shift port.transmitter.waiting _
-one-event (Advances to) port e =
-    in-order (character_time port.divisor port.lcr) to port.transmitter.shift port.transmitter.waiting ∙ sym (append-nil _)
+    cc (pending-loaded (now + character_time port.divisor port.lcr) port.transmitter.shift (queued (is_some port.fifos) byte port.transmitter.waiting), queued-accepted (is_some port.fifos) byte port.transmitter.waiting e, pending-append port.transmitter.shift port.transmitter.waiting _)
+one-event (Advances to) port e = cc (in-order (character_time port.divisor port.lcr) to port.transmitter.shift port.transmitter.waiting, append-nil _)
 
 pub sends_in_order : SendsInOrder
 unfolding after_all left_in_all accepted_in_all

@@ -65,10 +65,10 @@ ring_of-holds bytes h =
 -- whether there are any
 none : (n : ℕ) → (min n 16 == 0) ≡ (n == 0)
 none zero = refl
-none (suc n) = ne_eqb (min (suc n) 16) 0 (λ e. omega arith) ∙ sym (ne_eqb (suc n) 0 (λ e. omega arith))
+none (suc n) = cc (ne_eqb (min (suc n) 16) 0 (λ e. omega arith), ne_eqb (suc n) 0 (λ e. omega arith))
 
 firsts-empty : (n : ℕ) (f : ℕ → ℕ) → is_empty (firsts (min n 16) f) ≡ (n == 0)
-firsts-empty n f = ap (λ (m : ℕ). m == 0) (length-map-range_with_len f 0 (min n 16)) ∙ none n
+firsts-empty n f = cc (length-map-range_with_len f 0 (min n 16), none n)
 
 pub stored-empty : (array : Counted) (ring : Ring) → is_empty (stored_bytes array ring) ≡ is_unused array ring
 stored-empty array ring =

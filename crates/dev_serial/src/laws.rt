@@ -27,6 +27,7 @@ pub fn places_law()
 ///
 /// A port is like itself. If a port is like another, the other is like it. If that one is like a
 /// third, so is the first.
+#[tactic(auto, using(crate::proofs::AlikeLaws::alike_itself, crate::proofs::AlikeLaws::alike_back, crate::proofs::AlikeLaws::alike_on))]
 pub fn likeness_law()
     ensures itself { AlikeItself }
     ensures back { AlikeBack }
@@ -37,6 +38,7 @@ pub fn likeness_law()
 ///
 /// `read`, `write`, `byte_in` and `advance` give equal results and leave the ports alike. Their
 /// interrupt lines are equal, and they save the same cells.
+#[tactic(auto, using(crate::proofs::AlikeLaws::reads_alike, crate::proofs::AlikeLaws::writes_alike, crate::proofs::AlikeLaws::bytes_in_alike, crate::proofs::AlikeLaws::advances_alike, crate::proofs::AlikeLaws::saves_alike, crate::proofs::AlikeLaws::lines_alike))]
 pub fn alike_law()
     ensures reads { ReadsAlike }
     ensures writes { WritesAlike }
@@ -58,6 +60,7 @@ pub fn sound_law()
 {}
 
 /// States that `read`, `write`, `byte_in` and `advance` keep the port's level.
+#[tactic(auto, using(crate::proofs::RegisterLaws::reads_keep_level, crate::proofs::RegisterLaws::writes_keep_level, crate::proofs::RegisterLaws::bytes_in_keep_level, crate::proofs::RegisterLaws::advances_keep_level))]
 pub fn level_law()
     ensures reads { ReadsKeepLevel }
     ensures writes { WritesKeepLevel }
@@ -118,6 +121,7 @@ pub fn sending_law()
 /// Letting time pass in two parts has the same effect as letting it pass at once. No byte is sent
 /// before its moment. In loop mode a byte is received at the moment at which it is sent. The
 /// longest character takes `LONGEST_CHARACTER`, 6,826,562,500 nanoseconds.
+#[tactic(auto, using(crate::proofs::WaitLaws::advances_in_parts, crate::proofs::WaitLaws::waits_until_due, crate::proofs::WaitLaws::loops_at_moment, crate::proofs::SoundLaws::longest_character))]
 pub fn time_law()
     ensures in_parts { AdvancesInParts }
     ensures not_before { WaitsUntilDue }
@@ -138,6 +142,7 @@ pub fn interrupt_law()
 /// Switching the FIFOs on or off clears both lists. While they stay on, bit 1 clears the receive
 /// list and bit 2 the transmit list. While they stay off, nothing changes. The latch is set if
 /// waiting bytes are cleared, and the shift register isn't affected.
+#[tactic(auto, using(crate::proofs::RegisterLaws::switch_clears_both, crate::proofs::RegisterLaws::resets_by_bits, crate::proofs::RegisterLaws::stays_off, crate::proofs::RegisterLaws::writes_switch))]
 pub fn fifo_control_law()
     ensures switched { SwitchClearsBoth }
     ensures reset { ResetsByBits }

@@ -1,6 +1,6 @@
 -- The names of other crates, and of this crate's `specs`, that the proofs use.
-pub use Rattle.std.proofs.Common.{Bool, Equal, Err, Global, Greater, IfSome, Less, List, None, Ok, Option, Ordering, Result, SFits, Some, Vec, [], ap}
-pub use Rattle.std.proofs.Common.{append-nil, append_assoc, ap₂, arith, codes, cond, decimal, drop, false, get_or, if◌then◌else◌, int_le, is_none, is_some}
+pub use Rattle.std.proofs.Common.{Bool, Equal, Err, Global, Greater, IfErr, IfSome, Less, List, None, Ok, OnOk, Option, Ordering, Result, SFits, Some, Vec, []}
+pub use Rattle.std.proofs.Common.{ap, append-nil, append_assoc, ap₂, arith, codes, cond, decimal, drop, false, get_or, if◌then◌else◌, int_le, is_none, is_some}
 pub use Rattle.std.proofs.Common.{length, length-append, length-drop, length-take, map, nat_le, nat_lt, negsuc, not, option_and_then, option_map, pos, refl}
 pub use Rattle.std.proofs.Common.{replicate, rules, slice_index, subst, suc, sym, take, true, unwrap_or, zero, ℕ, ℤ, ⊎_elim, ◌%◌, ◌&&◌, ◌*◌, ◌++◌, ◌+◌, ◌-◌}
 pub use Rattle.std.proofs.Common.{◌/◌, ◌<◌, ◌==◌, ◌^◌, ◌||◌, ◌∙◌, ◌∷◌, ◌≡◌, ◌≢◌, ◌≤◌}
@@ -21,7 +21,7 @@ pub use Rattle.std.proofs.lemmas.List.Sums.{AllPass-from_list_all}
 pub use Rattle.std.proofs.lemmas.Map.Lookups.{exact_bytes}
 pub use Rattle.std.proofs.lemmas.Map.Text.{is_eq-slice_cmp}
 pub use Rattle.std.proofs.lemmas.Option.{same_Some, slice_get-get_or}
-pub use Rattle.std.proofs.lemmas.Result.{IfErr-weaker, on_ok_weaker}
+pub use Rattle.std.proofs.lemmas.Result.{err_from_is_err_and}
 pub use Rattle.std.proofs.lemmas.Simd.{map-map}
 pub use Rattle.std.proofs.lemmas.Slice.Eq.{bytes_eq-Decides}
 pub use Rattle.std.proofs.lemmas.Str.{IsUtf8-from_ascii, is_utf8-from_IsUtf8}
@@ -93,7 +93,7 @@ pub use Rattle.vms_analyze.specs.Telling.{told, told_device_of, told_devices, to
 pub use Rattle.vms_analyze.specs.Told.{Fixed, Kept, Sent, Skipped, Told, ToldDevice, ToldSub, fits_four, is_good, is_good_device, is_good_sub, is_kept, is_path}
 pub use Rattle.vms_analyze.specs.Told.{is_path_byte, told_device, told_entry, told_sub, told_tree}
 pub use Rattle.vms_analyze.specs.Typed.{ReadsAs, device_of, devices_wants, element_wants, sub_of, subs_wants, told_of}
-pub use Rattle.vms_analyze.specs.Walking.{AtStart, Goes, HasNoMachine, IsInside, Prints, Stops, WhyNone, WhyStopped, left}
+pub use Rattle.vms_analyze.specs.Walking.{AtStart, Goes, HasNoMachine, IsInside, Prints, Stops, Walks, WhyNone, WhyStopped, left}
 pub use Rattle.vms_analyze.specs.Wanted.{Any, Bytes, Differs, Foot, Found, Head, Line, Lines, Machine, Number, Took, Want, behind, device_wants, element_want}
 pub use Rattle.vms_analyze.specs.Wanted.{found, found_after, is_machine, kept_line, machine_line, number_line, only_if, section_line, sent_line, start_wants}
 pub use Rattle.vms_analyze.specs.Wanted.{sub_head_wants, sub_wants, take_head, take_machine, take_number, taken, took, wants}
@@ -131,11 +131,10 @@ pub use Rattle.vms_selfdesc.specs.Drafts.{AreSound, IsSound}
 pub use Rattle.vms_selfdesc.specs.Entries.{Entry, entries_of, entry_of, part_entries}
 pub use Rattle.vms_selfdesc.specs.Tree.{described_text, described_tree, device_trees, entry_tree, list_tree, natural, sub_trees}
 pub use Rattle.vms_values_laws.proofs.AllCome.{short_are}
-pub use Rattle.vms_values_laws.proofs.Numbers.{AreShort, of_numbers}
-pub use Rattle.vms_values_laws.proofs.ReadyBack.{text_says}
-pub use Rattle.vms_values_laws.proofs.ReadyParts.{AreGood, fine_both, good_both}
-pub use Rattle.vms_values_laws.proofs.Rights.{IsFitting, begins_itself, fine_rest, line_number, reason_fits}
+pub use Rattle.vms_values_laws.proofs.ReadyParts.{text_says}
+pub use Rattle.vms_values_laws.proofs.Rights.{AreGood, IsFitting, begins_itself, fine_both, fine_rest, good_both, line_number, reason_fits}
 pub use Rattle.vms_values_laws.proofs.SaidLaws.{all_both}
+pub use Rattle.vms_values_laws.proofs.SecondPass.{AreShort, of_numbers}
 pub use Rattle.byteorder.specs.Endian.{big_number}
 pub use Rattle.json.specs.Lex.{tokens}
 pub use Rattle.json.specs.Print.{escape, escape_letter}

@@ -1,13 +1,13 @@
 -- A walk over what is required, part after part.
 use Rattle.vms_analyze.proofs.Facade.{map-map, ◌≡◌, ℕ, ◌+◌, List, [], ◌∷◌, ◌++◌, length, append_assoc, append-nil, take, drop, Vec, Global, ℤ, refl, sym, ap}
 use Rattle.vms_analyze.proofs.Facade.{◌∙◌, subst, arith, ◌<◌, get_or, ◌≤◌, true, ◌&&◌, nat_le, map, take-append-drop, drop-drop, take_more, flat_map, list_all}
-use Rattle.vms_analyze.proofs.Facade.{flat_map-append, and_parts, leb-true, flat_map_single, flat_map-map, and-false, ◌^◌, Bool, false, ◌==◌, length-append}
-use Rattle.vms_analyze.proofs.Facade.{length-drop, ◌-◌, le-leb, take_all, Kind, code, InRange, text_of, Want, Number, Line, number_line, behind, found, Bytes}
-use Rattle.vms_analyze.proofs.Facade.{Machine, Head, Foot, element_want, sub_head_wants, sub_wants, device_wants, start_wants, wants, left, IsInside, Goes}
-use Rattle.vms_analyze.proofs.Facade.{Stops, Prints, WhyStopped, Walk, text_append, Stop, LONGEST_NAME, magic, be32, end_mark, ToldDevice, is_path}
-use Rattle.vms_analyze.proofs.Facade.{is_path_byte, is_good_device, told_of, sub_of, device_of, element_wants, subs_wants, devices_wants, Element, number_at}
-use Rattle.vms_analyze.proofs.Facade.{bytes_at, is_name_byte, begins_with, configuration, section_head, is_machine, machine_line, taken, found_after}
-use Rattle.vms_analyze.proofs.Facade.{HasNoMachine, begun, section_line}
+use Rattle.vms_analyze.proofs.Facade.{flat_map-append, and_parts, leb-true, flat_map_single, flat_map-map, Result, Ok, Err, OnOk, IfErr, and-false, ◌^◌, Bool}
+use Rattle.vms_analyze.proofs.Facade.{false, ◌==◌, length-append, length-drop, ◌-◌, le-leb, take_all, Kind, code, InRange, text_of, Want, Number, Line}
+use Rattle.vms_analyze.proofs.Facade.{number_line, behind, found, Bytes, Machine, Head, Foot, element_want, sub_head_wants, sub_wants, device_wants}
+use Rattle.vms_analyze.proofs.Facade.{start_wants, wants, left, IsInside, Goes, Stops, Prints, WhyStopped, Walks, Walk, text_append, Stop, LONGEST_NAME, magic}
+use Rattle.vms_analyze.proofs.Facade.{be32, end_mark, ToldDevice, is_path, is_path_byte, is_good_device, told_of, sub_of, device_of, element_wants, subs_wants}
+use Rattle.vms_analyze.proofs.Facade.{devices_wants, Element, number_at, bytes_at, is_name_byte, begins_with, configuration, section_head, is_machine}
+use Rattle.vms_analyze.proofs.Facade.{machine_line, taken, found_after, HasNoMachine, begun, section_line}
 use Rattle.vms_analyze.proofs.Following.{Takes, one_follows, takes_line, takes_number, behind_both, takes_head}
 use Rattle.vms_analyze.specs.declared.told.Sub.{Sub}
 use Rattle.vms_analyze.specs.declared.told.Device.{Device}
@@ -139,6 +139,18 @@ pub why_then : {ws : List Want} {a b : Walk} (vs : List Want) (c : Walk) (stop :
 why_then vs c stops.Differs g s = stops_then g s
 why_then vs c stops.NoMemory g s = tt
 
+-- ---- whatever the result
+
+pub walks_then : {ws : List Want} {a b : Walk} (vs : List Want) (c : Walk) (r : Result (Unit {0}) Stop) → Goes ws a b → Walks vs b c r → Walks (ws ++ vs) a c r
+walks_then vs c (Ok u) g h = goes_then g h
+walks_then vs c (Err stop) g h = why_then vs c stop g h
+
+-- a line is printed last
+pub prints_walk : {ws : List Want} {line : List ℕ} {a b c : Walk} (r : Result (Unit {0}) Stop) → (Prints b c line → Goes ws a c) → OnOk r (Prints b c line)
+    → IfErr r (λ e. e ≡ stops.NoMemory) → Walks ws a c r
+prints_walk (Ok u) f h k = f h
+prints_walk (Err stop) f h k = rw k tt
+
 -- ---- A walk over a subsection, a device and a stream, part after part.
 
 -- ---- what is good
@@ -171,13 +183,9 @@ devices_are ds = sym (flat_map-map device_wants device_of ds)
 sub_as : (s : Sub) → sub_head_wants (sub_of s) s.sent ++ element_wants s.elements.items ≡ sub_wants (sub_of s)
 sub_as s = ap (λ (l : List Want). sub_head_wants (sub_of s) s.sent ++ l) (elements_are s.elements.items)
 
-pub sub_goes : {a b c : Walk} (s : Sub) → Goes (sub_head_wants (sub_of s) s.sent) a b → Goes (element_wants s.elements.items) b c
-    → Goes (sub_wants (sub_of s)) a c
-sub_goes {a = a} {c = c} s g h = subst (λ (ws : List Want). Goes ws a c) (sub_as s) (goes_then g h)
-
-pub sub_elements_stop : {a b : Walk} (s : Sub) (c : Walk) (stop : Stop) → Goes (sub_head_wants (sub_of s) s.sent) a b
-    → WhyStopped (element_wants s.elements.items) b c stop → WhyStopped (sub_wants (sub_of s)) a c stop
-sub_elements_stop {a = a} s c stop g w = subst (λ (ws : List Want). WhyStopped ws a c stop) (sub_as s) (why_then _ c stop g w)
+pub sub_walks : {a b : Walk} (s : Sub) (c : Walk) (r : Result (Unit {0}) Stop) → Goes (sub_head_wants (sub_of s) s.sent) a b
+    → Walks (element_wants s.elements.items) b c r → Walks (sub_wants (sub_of s)) a c r
+sub_walks {a = a} s c r g h = subst (λ (ws : List Want). Walks ws a c r) (sub_as s) (walks_then _ c r g h)
 
 -- ---- a device
 
@@ -202,9 +210,6 @@ module _ (d : Device) where
   as_why : (a c : Walk) (stop : Stop) → WhyStopped (((head_of d ++ elements) ++ subs) ++ (Foot ∷ [])) a c stop → WhyStopped all a c stop
   as_why a c stop w = subst (λ (ws : List Want). WhyStopped ws a c stop) device_as w
 
-  pub device_goes : {a b c e f : Walk} → Goes (head_of d) a b → Goes elements b c → Goes subs c e → Goes (Foot ∷ []) e f → Goes all a f
-  device_goes {a = a} {f = f} g h i j = subst (λ (ws : List Want). Goes ws a f) device_as (goes_then (goes_then (goes_then g h) i) j)
-
   pub head_stops : (a b : Walk) (stop : Stop) → WhyStopped (head_of d) a b stop → WhyStopped all a b stop
   head_stops a b stop w =
       as_why a b stop (why_before ((head_of d ++ elements) ++ subs) _ a b stop
@@ -217,14 +222,11 @@ module _ (d : Device) where
   pub subs_stop : {a b c : Walk} (e : Walk) (stop : Stop) → Goes (head_of d) a b → Goes elements b c → WhyStopped subs c e stop → WhyStopped all a e stop
   subs_stop {a = a} e stop g h w = as_why a e stop (why_before ((head_of d ++ elements) ++ subs) _ a e stop (why_then subs e stop (goes_then g h) w))
 
-  pub foot_stops : {a b c e : Walk} (f : Walk) (stop : Stop) → Goes (head_of d) a b → Goes elements b c → Goes subs c e → WhyStopped (Foot ∷ []) e f stop
-      → WhyStopped all a f stop
-  foot_stops {a = a} f stop g h i w = as_why a f stop (why_then (Foot ∷ []) f stop (goes_then (goes_then g h) i) w)
+  pub device_walks : {a b c e : Walk} (f : Walk) (r : Result (Unit {0}) Stop) → Goes (head_of d) a b → Goes elements b c → Goes subs c e → Walks (Foot ∷ []) e f r
+      → Walks all a f r
+  device_walks {a = a} f r g h i w = subst (λ (ws : List Want). Walks ws a f r) device_as (walks_then (Foot ∷ []) f r (goes_then (goes_then g h) i) w)
 
 -- ---- a stream
-
-pub start_goes : {a b c d : Walk} → Goes (Bytes magic ∷ []) a b → Goes (Bytes (be32 3) ∷ []) b c → Goes (Machine ∷ []) c d → Goes start_wants a d
-start_goes g h i = goes_then (goes_then g h) i
 
 pub magic_stops : (a b : Walk) (stop : Stop) → WhyStopped (Bytes magic ∷ []) a b stop → WhyStopped start_wants a b stop
 magic_stops a b stop w = why_before (Bytes magic ∷ []) (Bytes (be32 3) ∷ Machine ∷ []) a b stop w
@@ -233,9 +235,9 @@ pub version_stops : {a b : Walk} (c : Walk) (stop : Stop) → Goes (Bytes magic 
     → WhyStopped start_wants a c stop
 version_stops {a = a} c stop g w = why_before (Bytes magic ∷ Bytes (be32 3) ∷ []) (Machine ∷ []) a c stop (why_then (Bytes (be32 3) ∷ []) c stop g w)
 
-pub machine_stops : {a b c : Walk} (d : Walk) (stop : Stop) → Goes (Bytes magic ∷ []) a b → Goes (Bytes (be32 3) ∷ []) b c → WhyStopped (Machine ∷ []) c d stop
-    → WhyStopped start_wants a d stop
-machine_stops d stop g h w = why_then (Machine ∷ []) d stop (goes_then g h) w
+pub start_walks : {a b c : Walk} (d : Walk) (r : Result (Unit {0}) Stop) → Goes (Bytes magic ∷ []) a b → Goes (Bytes (be32 3) ∷ []) b c → Walks (Machine ∷ []) c d r
+    → Walks start_wants a d r
+start_walks d r g h w = walks_then (Machine ∷ []) d r (goes_then g h) w
 
 module _ (ds : List Device) where
   abbrev whole : List Want
@@ -247,18 +249,15 @@ module _ (ds : List Device) where
   stream_why : (a c : Walk) (stop : Stop) → WhyStopped ((start_wants ++ devices_wants ds) ++ (Bytes end_mark ∷ [])) a c stop → WhyStopped whole a c stop
   stream_why a c stop w = subst (λ (ws : List Want). WhyStopped ws a c stop) stream_as w
 
-  pub stream_goes : {a b c d : Walk} → Goes start_wants a b → Goes (devices_wants ds) b c → Goes (Bytes end_mark ∷ []) c d → Goes whole a d
-  stream_goes {a = a} {d = d} g h i = subst (λ (ws : List Want). Goes ws a d) stream_as (goes_then (goes_then g h) i)
-
   pub start_stops : (a b : Walk) (stop : Stop) → WhyStopped start_wants a b stop → WhyStopped whole a b stop
   start_stops a b stop w = stream_why a b stop (why_before (start_wants ++ devices_wants ds) _ a b stop (why_before start_wants _ a b stop w))
 
   pub devices_stop : {a b : Walk} (c : Walk) (stop : Stop) → Goes start_wants a b → WhyStopped (devices_wants ds) b c stop → WhyStopped whole a c stop
   devices_stop {a = a} c stop g w = stream_why a c stop (why_before (start_wants ++ devices_wants ds) _ a c stop (why_then (devices_wants ds) c stop g w))
 
-  pub end_stops : {a b c : Walk} (d : Walk) (stop : Stop) → Goes start_wants a b → Goes (devices_wants ds) b c → WhyStopped (Bytes end_mark ∷ []) c d stop
-      → WhyStopped whole a d stop
-  end_stops {a = a} d stop g h w = stream_why a d stop (why_then (Bytes end_mark ∷ []) d stop (goes_then g h) w)
+  pub stream_walks : {a b c : Walk} (d : Walk) (r : Result (Unit {0}) Stop) → Goes start_wants a b → Goes (devices_wants ds) b c → Walks (Bytes end_mark ∷ []) c d r
+      → Walks whole a d r
+  stream_walks {a = a} d r g h w = subst (λ (ws : List Want). Walks ws a d r) stream_as (walks_then (Bytes end_mark ∷ []) d r (goes_then g h) w)
 
 -- ---- what is at the front
 

@@ -1,11 +1,11 @@
 -- The walk over what is required and what is in a stream, as the code has it.
-use Rattle.std.specs.Prelude.{◌≡◌, ℕ, ◌≤◌, Bool, true, false, ◌&&◌, List, [], ◌∷◌, ◌++◌, length, drop}
+use Rattle.std.specs.Prelude.{◌≡◌, ℕ, ◌≤◌, Bool, true, false, ◌&&◌, List, [], ◌∷◌, ◌++◌, length, drop, Result, Ok, Err}
 use Rattle.vms_spec.specs.Lookup.{number_at, bytes_at}
 use Rattle.vms_spec.specs.Spelling.{begins_with}
 use Rattle.vms_spec.specs.Streams.{configuration}
 use Rattle.vms_elements.specs.Lines.{text_of}
 use Rattle.vms_analyze.specs.declared.fault.AnalyzeReason.TheVariants as reasons
-use Rattle.vms_analyze.specs.Listing.{Listing, Refused}
+use Rattle.vms_analyze.specs.Listing.{Listing, Refused, Text}
 use Rattle.vms_analyze.specs.Wanted.{Want, Differs, behind, found, is_machine}
 use Rattle.vms_analyze.specs.declared.walk.Walk.{Walk}
 use Rattle.vms_analyze.specs.declared.walk.Stop.{Stop}
@@ -35,6 +35,11 @@ pub record Stops (ws : List Want) (old new : Walk) : Type 0 where
 abbrev pub WhyStopped : List Want → Walk → Walk → Stop → Type 0
 WhyStopped ws old new stops.Differs = Stops ws old new
 WhyStopped ws old new stops.NoMemory = Unit {0}
+
+-- The walk finds all of `ws`, or stops.
+abbrev pub Walks : List Want → Walk → Walk → Result (Unit {0}) Stop → Type 0
+Walks ws old new (Ok u) = Goes ws old new
+Walks ws old new (Err stop) = WhyStopped ws old new stop
 
 -- A line was printed, and all else is unchanged.
 pub record Prints (old new : Walk) (line : List ℕ) : Type 0 where
@@ -68,3 +73,8 @@ AtStart w stream = (w.id ≡ 0) × (w.place ≡ 0) × (w.input.now ≡ stream) �
 abbrev pub WhyNone : Listing → Walk → Stop → Type 0
 WhyNone listing new stops.Differs = listing ≡ Refused new.place reasons.Mismatch
 WhyNone listing new stops.NoMemory = Unit {0}
+
+-- The listing is the text that was printed, or the refusal where the walk stopped.
+abbrev pub Shows : Listing → Walk → Result (Unit {0}) Stop → Type 0
+Shows listing new (Ok u) = listing ≡ Text new.text.items
+Shows listing new (Err stop) = WhyNone listing new stop

@@ -4,7 +4,7 @@ ghost use Rattle.vms_spec.specs.declared.TheConstants.{LONGEST_NAME};
 ghost use Rattle.vms_spec.specs.Lookup.{number_at};
 ghost use Rattle.vms_spec.specs.Spelling.{begins_with};
 ghost use Rattle.vms_analyze.specs.Wanted.{Foot as TheFoot, Head, Machine, machine_line, section_line};
-ghost use Rattle.vms_analyze.specs.Walking.{Goes, HasNoMachine, IsInside, IsMachineName, Prints, WhyStopped, left};
+ghost use Rattle.vms_analyze.specs.Walking.{HasNoMachine, IsInside, IsMachineName, Prints, Walks, left};
 ghost use Rattle.vms_analyze.specs.declared.walk.Stop.TheVariants as stops;
 
 use crate::walk::{Stop, Walk};
@@ -23,8 +23,7 @@ impl<'a> Walk<'a> {
     /// The [`Stop`]: the bytes differ, or memory runs out.
     pub(crate) fn machine(&mut self) -> Result<(), Stop>
         requires { IsInside self.old }
-        ensures ok { OnOk result (Goes (Machine ∷ []) self.old self.new) }
-        ensures err { IfErr result (WhyStopped (Machine ∷ []) self.old self.new) }
+        ensures { Walks (Machine ∷ []) self.old self.new result }
     {
         if !self.has_configuration() {
             return Ok(());
@@ -48,9 +47,7 @@ impl<'a> Walk<'a> {
     pub(crate) fn head(&mut self, name: &str, instance: u32, version: u32) -> Result<(), Stop>
         requires inside { IsInside self.old }
         requires short { length name.now ≤ LONGEST_NAME }
-        ensures ok { OnOk result (Goes (Head name.now instance version ∷ []) self.old self.new) }
-        ensures err { IfErr result
-            (WhyStopped (Head name.now instance version ∷ []) self.old self.new) }
+        ensures { Walks (Head name.now instance version ∷ []) self.old self.new result }
     {
         let Some(id) = self.number_behind() else {
             return Err(Stop::Differs);
@@ -71,8 +68,7 @@ impl<'a> Walk<'a> {
     /// The [`Stop`]: the bytes differ.
     pub(crate) fn foot(&mut self) -> Result<(), Stop>
         requires { IsInside self.old }
-        ensures ok { OnOk result (Goes (TheFoot ∷ []) self.old self.new) }
-        ensures err { IfErr result (WhyStopped (TheFoot ∷ []) self.old self.new) }
+        ensures { Walks (TheFoot ∷ []) self.old self.new result }
     {
         let foot = Foot { id: self.id };
         self.bytes(&foot.bytes())

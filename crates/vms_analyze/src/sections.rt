@@ -6,8 +6,8 @@ ghost use Rattle.vms_spec.specs.Streams.{sub_head};
 ghost use Rattle.vms_analyze.specs.Told.{is_good_device, is_good_sub};
 ghost use Rattle.vms_analyze.specs.Wanted.{Bytes, Line, device_wants, kept_line, sent_line, found, start_wants, sub_head_wants, sub_wants, wants};
 ghost use Rattle.vms_analyze.specs.Typed.{device_of, devices_wants, sub_of, subs_wants, wants_of_device, wants_of_sub};
-ghost use Rattle.vms_analyze.specs.Listing.{Text, listing_of};
-ghost use Rattle.vms_analyze.specs.Walking.{AtStart, Goes, IsInside, Prints, WhyNone, WhyStopped};
+ghost use Rattle.vms_analyze.specs.Listing.{listing_of};
+ghost use Rattle.vms_analyze.specs.Walking.{AtStart, Goes, IsInside, Prints, Shows, Walks};
 ghost use Rattle.vms_analyze.specs.declared.walk.Stop.TheVariants as stops;
 
 use crate::told::{Device, Sub};
@@ -45,10 +45,8 @@ impl Walk<'_> {
     pub(crate) fn whole(&mut self, devices: &[Device]) -> Result<(), Stop>
         requires start { AtStart self.old self.old.input.now }
         requires good { list_all is_good_device (map device_of devices.now) ≡ true }
-        ensures ok { let ws = wants (map device_of devices.now) in
-            OnOk result (listing_of (found ws 0 0 self.old.input.now) ≡ Text self.new.text.items) }
-        ensures err { let ws = wants (map device_of devices.now) in
-            IfErr result (WhyNone (listing_of (found ws 0 0 self.old.input.now)) self.new) }
+        ensures { let ws = wants (map device_of devices.now) in
+            Shows (listing_of (found ws 0 0 self.old.input.now)) self.new result }
     {
         if let Err(stop) = self.stream(devices) {
             return Err(stop);
@@ -63,9 +61,7 @@ impl Walk<'_> {
     fn stream(&mut self, devices: &[Device]) -> Result<(), Stop>
         requires inside { IsInside self.old }
         requires good { list_all is_good_device (map device_of devices.now) ≡ true }
-        ensures ok { OnOk result (Goes (wants (map device_of devices.now)) self.old self.new) }
-        ensures err { IfErr result
-            (WhyStopped (wants (map device_of devices.now)) self.old self.new) }
+        ensures { Walks (wants (map device_of devices.now)) self.old self.new result }
     {
         if let Err(stop) = self.start() {
             return Err(stop);
@@ -79,8 +75,7 @@ impl Walk<'_> {
     // Reads the stream head and the machine.
     fn start(&mut self) -> Result<(), Stop>
         requires { IsInside self.old }
-        ensures ok { OnOk result (Goes start_wants self.old self.new) }
-        ensures err { IfErr result (WhyStopped start_wants self.old self.new) }
+        ensures { Walks start_wants self.old self.new result }
     {
         if let Err(stop) = self.bytes(b"QEVM") {
             return Err(stop);
@@ -94,8 +89,7 @@ impl Walk<'_> {
     fn devices(&mut self, devices: &[Device]) -> Result<(), Stop>
         requires inside { IsInside self.old }
         requires good { list_all is_good_device (map device_of devices.now) ≡ true }
-        ensures ok { OnOk result (Goes (devices_wants devices.now) self.old self.new) }
-        ensures err { IfErr result (WhyStopped (devices_wants devices.now) self.old self.new) }
+        ensures { Walks (devices_wants devices.now) self.old self.new result }
     {
         self.each(devices)
     }
@@ -103,9 +97,7 @@ impl Walk<'_> {
     fn device(&mut self, device: &Device) -> Result<(), Stop>
         requires inside { IsInside self.old }
         requires good { is_good_device (device_of device.now) ≡ true }
-        ensures ok { OnOk result (Goes (device_wants (device_of device.now)) self.old self.new) }
-        ensures err { IfErr result
-            (WhyStopped (device_wants (device_of device.now)) self.old self.new) }
+        ensures { Walks (device_wants (device_of device.now)) self.old self.new result }
     {
         if let Err(stop) = self.head(device.name, device.instance, device.version) {
             return Err(stop);
@@ -122,8 +114,7 @@ impl Walk<'_> {
     fn subs(&mut self, subs: &[Sub]) -> Result<(), Stop>
         requires inside { IsInside self.old }
         requires good { list_all is_good_sub (map sub_of subs.now) ≡ true }
-        ensures ok { OnOk result (Goes (subs_wants subs.now) self.old self.new) }
-        ensures err { IfErr result (WhyStopped (subs_wants subs.now) self.old self.new) }
+        ensures { Walks (subs_wants subs.now) self.old self.new result }
     {
         self.each(subs)
     }
@@ -131,8 +122,7 @@ impl Walk<'_> {
     fn sub(&mut self, sub: &Sub) -> Result<(), Stop>
         requires inside { IsInside self.old }
         requires good { is_good_sub (sub_of sub.now) ≡ true }
-        ensures ok { OnOk result (Goes (sub_wants (sub_of sub.now)) self.old self.new) }
-        ensures err { IfErr result (WhyStopped (sub_wants (sub_of sub.now)) self.old self.new) }
+        ensures { Walks (sub_wants (sub_of sub.now)) self.old self.new result }
     {
         if let Err(stop) = self.sub_head(sub) {
             return Err(stop);
@@ -144,10 +134,7 @@ impl Walk<'_> {
     fn sub_head(&mut self, sub: &Sub) -> Result<(), Stop>
         requires inside { IsInside self.old }
         requires short { length sub.now.name.now ≤ LONGEST_NAME }
-        ensures ok { OnOk result
-            (Goes (sub_head_wants (sub_of sub.now) sub.now.sent) self.old self.new) }
-        ensures err { IfErr result
-            (WhyStopped (sub_head_wants (sub_of sub.now) sub.now.sent) self.old self.new) }
+        ensures { Walks (sub_head_wants (sub_of sub.now) sub.now.sent) self.old self.new result }
     {
         if sub.sent {
             self.sent_head(sub.name, sub.version)
@@ -159,12 +146,8 @@ impl Walk<'_> {
     fn sent_head(&mut self, name: &str, version: u32) -> Result<(), Stop>
         requires inside { IsInside self.old }
         requires short { length name.now ≤ LONGEST_NAME }
-        ensures ok { OnOk result
-            (Goes (Bytes (sub_head name.now version) ∷ Line (sent_line name.now version) ∷ [])
-            self.old self.new) }
-        ensures err { IfErr result
-            (WhyStopped (Bytes (sub_head name.now version) ∷ Line (sent_line name.now version) ∷ [])
-            self.old self.new) }
+        ensures { Walks (Bytes (sub_head name.now version) ∷ Line (sent_line name.now version) ∷ [])
+            self.old self.new result }
     {
         let head = sub_head(name.as_bytes(), version);
         if let Err(stop) = self.bytes(head.as_slice()) {

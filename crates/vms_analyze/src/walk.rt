@@ -4,7 +4,7 @@ ghost use Rattle.std.specs.List.{flat_map, list_all};
 ghost use Rattle.vms_analyze.specs.Wanted.{Want, Bytes, Any, Number, Line, number_line, element_want};
 ghost use Rattle.vms_analyze.specs.Typed.{told_of, element_wants, want_of};
 ghost use Rattle.vms_analyze.specs.declared.walk.Stop.TheVariants as stops;
-ghost use Rattle.vms_analyze.specs.Walking.{IsInside, Goes, Prints, WhyStopped};
+ghost use Rattle.vms_analyze.specs.Walking.{IsInside, Goes, Prints, Walks};
 
 use crate::told::Element;
 use itoa::Buffer;
@@ -50,8 +50,7 @@ pub(crate) trait Sought {
     fn seek(&self, walk: &mut Walk) -> Result<(), Stop>
         requires inside { IsInside walk.old }
         requires good { is_good self.now ≡ true }
-        ensures ok { OnOk result (Goes (wants self.now) walk.old walk.new) }
-        ensures err { IfErr result (WhyStopped (wants self.now) walk.old walk.new) };
+        ensures { Walks (wants self.now) walk.old walk.new result };
 }
 
 impl Sought for Element<'_> {
@@ -69,8 +68,7 @@ impl Walk<'_> {
     pub(crate) fn each<T: Sought>(&mut self, items: &[T]) -> Result<(), Stop>
         requires inside { IsInside self.old }
         requires good { list_all T.is_good items.now ≡ true }
-        ensures ok { OnOk result (Goes (flat_map T.wants items.now) self.old self.new) }
-        ensures err { IfErr result (WhyStopped (flat_map T.wants items.now) self.old self.new) }
+        ensures { Walks (flat_map T.wants items.now) self.old self.new result }
     {
         for item in items {
             if let Err(stop) = item.seek(self) {
@@ -83,8 +81,7 @@ impl Walk<'_> {
     /// Reads `n` bytes of any content.
     pub(crate) fn any(&mut self, n: usize) -> Result<(), Stop>
         requires { IsInside self.old }
-        ensures ok { OnOk result (Goes (Any n ∷ []) self.old self.new) }
-        ensures err { IfErr result (WhyStopped (Any n ∷ []) self.old self.new) }
+        ensures { Walks (Any n ∷ []) self.old self.new result }
     {
         if self.input.len() - self.place < n {
             return Err(Stop::Differs);
@@ -96,8 +93,7 @@ impl Walk<'_> {
     /// Reads exactly `bytes`.
     pub(crate) fn bytes(&mut self, bytes: &[u8]) -> Result<(), Stop>
         requires { IsInside self.old }
-        ensures ok { OnOk result (Goes (Bytes bytes.now ∷ []) self.old self.new) }
-        ensures err { IfErr result (WhyStopped (Bytes bytes.now ∷ []) self.old self.new) }
+        ensures { Walks (Bytes bytes.now ∷ []) self.old self.new result }
     {
         if self.input.len() - self.place < bytes.len() {
             return Err(Stop::Differs);
@@ -113,8 +109,7 @@ impl Walk<'_> {
     /// Reads a number, and prints it under its path.
     pub(crate) fn number(&mut self, path: &str, kind: Kind) -> Result<(), Stop>
         requires { IsInside self.old }
-        ensures ok { OnOk result (Goes (Number path.now kind ∷ []) self.old self.new) }
-        ensures err { IfErr result (WhyStopped (Number path.now kind ∷ []) self.old self.new) }
+        ensures { Walks (Number path.now kind ∷ []) self.old self.new result }
     {
         let width = kind.width();
         if self.input.len() - self.place < width {
@@ -134,10 +129,7 @@ impl Walk<'_> {
     /// Reads an element.
     pub(crate) fn element(&mut self, element: &Element) -> Result<(), Stop>
         requires { IsInside self.old }
-        ensures ok { OnOk result
-            (Goes (element_want (told_of element.now) ∷ []) self.old self.new) }
-        ensures err { IfErr result
-            (WhyStopped (element_want (told_of element.now) ∷ []) self.old self.new) }
+        ensures { Walks (element_want (told_of element.now) ∷ []) self.old self.new result }
     {
         match *element {
             Element::Sent { path, kind } => self.number(path, kind),
@@ -150,8 +142,7 @@ impl Walk<'_> {
     /// Reads elements one after the other.
     pub(crate) fn elements(&mut self, elements: &[Element]) -> Result<(), Stop>
         requires { IsInside self.old }
-        ensures ok { OnOk result (Goes (element_wants elements.now) self.old self.new) }
-        ensures err { IfErr result (WhyStopped (element_wants elements.now) self.old self.new) }
+        ensures { Walks (element_wants elements.now) self.old self.new result }
     {
         self.each(elements)
     }

@@ -3,16 +3,16 @@
 -- and counts may name is the same then. This is repeated position by position. Also a position at which two
 -- constants differ, which the newer set can't read.
 use Rattle.vms_check_laws.proofs.Facade.{◌≡◌, inl, inr, ℕ, zero, suc, ◌+◌, ◌<◌, ◌≤◌, Bool, true, List, ◌∷◌, ◌++◌, length, get_or, Some, None, sym, ap, ◌∙◌}
-use Rattle.vms_check_laws.proofs.Facade.{arith, ℤ, pos, if◌then◌else◌, ◌⊎◌, nat_lt, take, refl, slice_get, take_all, eqb-true, and_parts, ltb-true}
-use Rattle.vms_check_laws.proofs.Facade.{eq-or-lt_of_le, [], cells_in, Kind, Item, Num, Equal, Unused, Struct, width, residue, code, Count, One, is_steady_in}
-use Rattle.vms_check_laws.proofs.Facade.{is_num, is_one, is_earlier_in, Slot, Number, no_parent, times, counted, item_cells, elements_of, item_slots}
-use Rattle.vms_check_laws.proofs.Facade.{numbers_of, kind_of, Spells, zeroed, length-code, size_same, elements_fit, Entry, same_count, same_item, FitsAt}
-use Rattle.vms_check_laws.proofs.Facade.{Aligns, Cell, desc_cells}
+use Rattle.vms_check_laws.proofs.Facade.{arith, ℤ, pos, if◌then◌else◌, ◌⊎◌, nat_lt, take, refl, slice_get, eqb-true, and_parts, ltb-true, eq-or-lt_of_le, []}
+use Rattle.vms_check_laws.proofs.Facade.{cells_in, Kind, Item, Num, Equal, Unused, Struct, width, residue, code, Count, One, is_steady_in, is_num, is_one}
+use Rattle.vms_check_laws.proofs.Facade.{is_earlier_in, Slot, Number, no_parent, times, counted, item_cells, elements_of, item_slots, numbers_of, kind_of}
+use Rattle.vms_check_laws.proofs.Facade.{Spells, zeroed, length-code, size_same, elements_fit, Entry, same_count, same_item, FitsAt, Aligns, Cell, desc_cells}
+use Rattle.vms_check_laws.proofs.Facade.{AllZip}
 use Rattle.vms_check_laws.proofs.Presence.{Agree, filler_length}
 use Rattle.vms_check_laws.proofs.Segments.{fits_left, fits_right, fits_at, apart, same_bytes, aligns_nil, aligns_append, aligns_number, aligns_constant}
 use Rattle.vms_check_laws.proofs.Segments.{aligns_filler, spells_split, behind_first, same_code}
-use Rattle.vms_check_laws.proofs.Premises.{kinds_same, slots_at, IsKnown, entries_slots, AreKnown, known_there, Two, PairGood, Zip, Pairs, Sides, IsSingle}
-use Rattle.vms_check_laws.proofs.Premises.{NamesEarlier, OldFields, covered_slots}
+use Rattle.vms_check_laws.proofs.Premises.{kinds_same, slots_at, IsKnown, entries_slots, AreKnown, known_there, Two, PairGood, Pairs, Sides, IsSingle}
+use Rattle.vms_check_laws.proofs.Premises.{NamesEarlier, OldFields, covered_slots, Met}
 use Rattle.vms_check_laws.proofs.FieldsRead.{pair_by, Opposite, named_pair}
 use Rattle.vms_check_laws.proofs.Positioned.{same_some, Above, Upto, upto_next, upto_here, upto_earlier}
 use Rattle.vms_check_laws.proofs.PairLists.{if_least}
@@ -33,26 +33,6 @@ pub record Clash (e f : Entry) : Type 0 where
   pub rest' : f.rest ≡ None
 
 module _ (two : Two) where
-  -- no rule fails at the first k positions
-  abbrev pub GoodFirst : ℕ → List Entry → List Entry → Type 0
-  GoodFirst zero es fs = Unit {0}
-  GoodFirst (suc k) (e ∷ es) (f ∷ fs) = PairGood two e f × GoodFirst k es fs
-  GoodFirst (suc k) _ _ = ⊥
-
-  zip_first : (es fs : List Entry) → Zip two es fs → GoodFirst (length es) es fs × (length fs ≡ length es)
-  zip_first [] [] zip = (tt, refl)
-  zip_first [] (f ∷ fs) zip = absurd zip
-  zip_first (e ∷ es) [] zip = absurd zip
-  zip_first (e ∷ es) (f ∷ fs) zip = let more = zip_first es fs zip.1 in ((zip.0, more.0), rw more.1)
-
-  pub good_first : (k : ℕ) (es fs : List Entry) → k ≤ length es → k ≤ length fs
-      → ((q : ℕ) (e f : Entry) → q < k → slice_get es q ≡ Some e → slice_get fs q ≡ Some f → PairGood two e f) → GoodFirst k es fs
-  good_first zero es fs le le' h = tt
-  good_first (suc k) [] fs le le' h = absurd (omega arith)
-  good_first (suc k) (e ∷ es) [] le le' h = absurd (omega arith)
-  good_first (suc k) (e ∷ es) (f ∷ fs) le le' h =
-      (h 0 e f (omega arith) refl refl, good_first k es fs (omega arith) (omega arith) (λ q x y lt. h (suc q) x y (omega arith)))
-
   -- no rule fails before two constants that differ
   abbrev pub Clashes : List Entry → List Entry → Type 0
   Clashes (e ∷ es) (f ∷ fs) = Clash e f ⊎ (PairGood two e f × Clashes es fs)
@@ -136,13 +116,13 @@ module _ (sides : Sides) where
       one_same k l caps caps' x y (kinds_same k l same) body r r' s h
   number_same _ _ _ _ _ _ caps caps' x y step step' num one same counts is is' body r r' s h = absurd (cc)
 
-  pair_same : (e f : Entry) → IsKnown ms a.fields v numbers at e → IsKnown ns b.fields w numbers' at' f → PairGood two e f → is_steady_in b f.index ≡ true
+  pair_same : (e f : Entry) → Met sides e f → is_steady_in b f.index ≡ true
       → (body r r' : List ℕ) → Spells numbers' (NewSlots f) body → body ++ r' ≡ zeroed numbers (OldSlots e) ++ r → own e.index ≡ own' f.index
-  pair_same e f known known' good is body r r' spells h =
-      let q = named_pair sides e f known known' good is in
-      known.number ∙ number_same f.field.item e.field.item f.field.count e.field.count _ _ _ _ _ _ _ _
+  pair_same e f met is body r r' spells h =
+      let q = named_pair sides e f met is in
+      met.known.number ∙ number_same f.field.item e.field.item f.field.count e.field.count _ _ _ _ _ _ _ _
       q.plain.item q.plain.count q.matched.item q.matched.count q.there_is
-      (known_there ns b.fields w numbers' at' f known' q.rest own' no_parent) body r r' spells h ∙ sym known'.number
+      (known_there ns b.fields w numbers' at' f met.known' q.rest own' no_parent) body r r' spells h ∙ sym met.known'.number
 
   -- ---- position by position
 
@@ -185,12 +165,10 @@ module _ (sides : Sides) where
     here_aligns : (p i : ℕ) (e f : Entry) (es fs : List Entry) → State p i (e ∷ es) (f ∷ fs) → PairGood two e f → SlotsAlign (OldSlots e) (NewSlots f)
     here_aligns p i e f es fs st good =
         let k = st.known.0 in
-        let k' = st.known'.0 in
-        let old_f = old e.index e.field k.field in
-        let new_f = named f.index f.field k'.field in
-        let agree = earlier_agree p i _ f fs st in
+        let met : Met sides e f = record { good = good; known = k; known' = st.known'.0 } in
+        let new_f = named f.index f.field st.known'.0.field in
         pair_aligns (λ j. is_earlier_in b f.index j) e f
-        (record { known = k; known' = k'; good = good; old = old_f; new = new_f; fits = k.fits fits; agree = agree })
+        (record { met = met; old = old e.index e.field k.field; new = new_f; fits = k.fits fits; agree = earlier_agree p i _ f fs st })
 
     -- the front after one more pair: the bytes are split there
     pub record Past (p i : ℕ) (e f : Entry) (es fs : List Entry) (more_old more_new : List Slot) (r r' : List ℕ) : Type 0 where
@@ -220,25 +198,35 @@ module _ (sides : Sides) where
             upto = upto_next o p e es st.upto;
             upto' = upto_next n p f fs st.upto';
             above = st.above.1;
-            same = same_next p i e f es fs st (λ is. pair_same e f st.known.0 st.known'.0 good is t.0 _ _ t.3 split);
+            same = same_next p i e f es fs st (λ is. pair_same e f (record { good = good; known = st.known.0; known' = st.known'.0 }) is t.0 _ _ t.3 split);
           };
           rests = λ good. (here_aligns p i e f es fs st good).rests t.0 _ _ t.3 split;
         }
 
-    pub front_aligns : (k : ℕ) (es fs : List Entry) (p i : ℕ) → GoodFirst two k es fs → State p i es fs → SlotsAlign (all_old (take k es)) (all_new (take k fs))
-    front_aligns zero es fs p i good st = aligns_nil numbers numbers'
-    front_aligns (suc k) [] fs p i good st = absurd good
-    front_aligns (suc k) (e ∷ es) [] p i good st = absurd good
-    front_aligns (suc k) (e ∷ es) (f ∷ fs) p i good st = record {
+    next_aligns : (p i : ℕ) (e f : Entry) (es fs : List Entry) (more_old more_new : List Slot) → State p i (e ∷ es) (f ∷ fs) → PairGood two e f
+        → (State (suc p) (suc f.index) es fs → SlotsAlign more_old more_new) → SlotsAlign (OldSlots e ++ more_old) (NewSlots f ++ more_new)
+    next_aligns p i e f es fs more_old more_new st good more = record {
       rests = λ body r r' s h.
-          let q = past p i e f es fs (all_old (take k es)) (all_new (take k fs)) st body r r' s h in
-          (front_aligns k es fs (suc p) (suc f.index) good.1 (q.next good.0)).rests q.rest r r' q.behind (q.rests good.0);
+          let q = past p i e f es fs more_old more_new st body r r' s h in
+          (more (q.next good)).rests q.rest r r' q.behind (q.rests good);
     }
 
-    pub entries_align : (es fs : List Entry) (p i : ℕ) → Zip two es fs → State p i es fs → SlotsAlign (all_old es) (all_new fs)
-    entries_align es fs p i zip st =
-        let whole = zip_first two es fs zip in
-        rw (← (take_all (length es) es (omega arith)), ← (take_all (length es) fs (omega arith))) (front_aligns (length es) es fs p i whole.0 st)
+    -- the first k positions, at which no rule fails
+    pub front_aligns : (k : ℕ) (es fs : List Entry) (p i : ℕ) → k ≤ length es → k ≤ length fs
+        → ((q : ℕ) (e f : Entry) → q < k → slice_get es q ≡ Some e → slice_get fs q ≡ Some f → PairGood two e f)
+        → State p i es fs → SlotsAlign (all_old (take k es)) (all_new (take k fs))
+    front_aligns zero es fs p i le le' good st = aligns_nil numbers numbers'
+    front_aligns (suc k) [] fs p i le le' good st = absurd (omega arith)
+    front_aligns (suc k) (e ∷ es) [] p i le le' good st = absurd (omega arith)
+    front_aligns (suc k) (e ∷ es) (f ∷ fs) p i le le' good st =
+        next_aligns p i e f es fs (all_old (take k es)) (all_new (take k fs)) st (good 0 e f (omega arith) refl refl)
+        (λ more. front_aligns k es fs (suc p) (suc f.index) (omega arith) (omega arith) (λ q x y lt. good (suc q) x y (omega arith)) more)
+
+    pub entries_align : (es fs : List Entry) (p i : ℕ) → AllZip (Met sides) es fs → State p i es fs → SlotsAlign (all_old es) (all_new fs)
+    entries_align [] [] p i met st = aligns_nil numbers numbers'
+    entries_align (e ∷ es) (f ∷ fs) p i met st =
+        next_aligns p i e f es fs (all_old es) (all_new fs) st met.0.good (λ more. entries_align es fs (suc p) (suc f.index) met.1 more)
+    entries_align _ _ p i met st = absurd met
 
     -- ---- two constants that differ
 

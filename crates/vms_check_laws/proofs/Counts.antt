@@ -1,15 +1,14 @@
 -- A number that fits its cell is at most every capacity that it counts, and one that fits the older capacities fits the newer.
 use Rattle.vms_check_laws.proofs.Facade.{◌≤ℤ◌, ◌≡◌, ◌⊎◌, inl, inr, ℕ, zero, suc, ◌+◌, ◌*◌, ◌^◌, ◌≤◌, true, ◌==◌, List, ◌∷◌, ◌++◌, length, get_or, Some, refl}
-use Rattle.vms_check_laws.proofs.Facade.{arith, ℤ, pos, negsuc, if◌then◌else◌, AllByRecursion, slice_get, mod-le, eq-eqb, ints, ◌<◌, [], min, Bool, false, ◌&&◌}
-use Rattle.vms_check_laws.proofs.Facade.{Option, None, sym, nat_le, and_parts, eqb-true, leb-true, Kind, U8, U16, U32, Item, Num, width, residue, Count, One}
-use Rattle.vms_check_laws.proofs.Facade.{Counted, Field, Cell, times, counted, capacity_of, item_cells, field_cells, cells_from, place_of, no_field, kind_of}
-use Rattle.vms_check_laws.proofs.Facade.{FitsCell, is_num, is_one, ItemBelow, FitsAt, all_right, Desc, is_steady_in, no_desc, Struct, highest, Formula}
-use Rattle.vms_check_laws.proofs.Facade.{presence, Entry, entry_of, present_from, position_from, same_place, same_count, is_covered, holds_as_much, absent_hold}
-use Rattle.vms_check_laws.proofs.Facade.{bound, least_of, greatest, has_room, cells_in}
+use Rattle.vms_check_laws.proofs.Facade.{arith, ℤ, pos, negsuc, if◌then◌else◌, AllByRecursion, slice_get, mod-le, eq-eqb, ints, ◌<◌, [], min, Bool, false}
+use Rattle.vms_check_laws.proofs.Facade.{◌&&◌, Option, None, sym, nat_le, and_parts, eqb-true, leb-true, Kind, U8, U16, U32, Item, Num, width, residue, Count}
+use Rattle.vms_check_laws.proofs.Facade.{One, Counted, Field, Cell, times, counted, capacity_of, item_cells, field_cells, cells_from, place_of, no_field}
+use Rattle.vms_check_laws.proofs.Facade.{kind_of, FitsCell, is_num, is_one, ItemBelow, FitsAt, all_right, Desc, is_steady_in, no_desc, Struct, highest}
+use Rattle.vms_check_laws.proofs.Facade.{Formula, presence, Entry, entry_of, present_from, position_from, same_place, same_count, is_covered, holds_as_much}
+use Rattle.vms_check_laws.proofs.Facade.{absent_hold, bound, least_of, greatest, has_room, cells_in, AllZip}
 use Rattle.vms_check_laws.proofs.Segments.{fits_right}
 use Rattle.vms_check_laws.proofs.Presence.{Steady, covers_unused}
-use Rattle.vms_check_laws.proofs.Premises.{IsSingle, CountFits, OldFields, DefaultsGood, NamesEarlier, NewFields, RulesNamed, Sides, PairGood, Zip, Matched}
-use Rattle.vms_check_laws.proofs.Premises.{decoded, AreKnown, IsKnown, all_known}
+use Rattle.vms_check_laws.proofs.Premises.{IsSingle, CountFits, OldFields, DefaultsGood, NamesEarlier, NewFields, RulesNamed, Sides, Matched, decoded, Met}
 use Rattle.vms_check_laws.proofs.Positioned.{at_or_later, Above}
 
 -- the number of field k of these, the first of which has the number i and begins at a place
@@ -132,7 +131,7 @@ pub record DescGood (k : ℕ) (d : Desc) : Type 0 where
 abbrev pub StructsGood : List Desc → Type 0
 StructsGood ds = (j : ℕ) → j < length ds → DescGood j (get_or ds j no_desc)
 
-item_further : (j k : ℕ) (i : Item) → j ≤ k → ItemBelow j i → ItemBelow k i
+pub item_further : (j k : ℕ) (i : Item) → j ≤ k → ItemBelow j i → ItemBelow k i
 item_further j k (Struct i) le h = omega arith
 item_further j k _ le h = tt
 
@@ -141,21 +140,23 @@ plains_further j k all le h i f e = let p = h i f e in record { item = item_furt
 
 module _ (o n : ℕ → Option ℕ) where
   -- what is on old's side at the position of new's field is old's field of the pair
-  abbrev pub Indexed : List Entry → List Entry → Type 0
-  Indexed [] fs = Unit {0}
-  Indexed (e ∷ es) [] = Unit {0}
-  Indexed (e ∷ es) (f ∷ fs) = ((by : ℕ) → same_place (o by) (n f.index) ≡ true → by ≡ e.index) × Indexed es fs
+  abbrev pub IsIndexed : Entry → Entry → Type 0
+  IsIndexed e f = (by : ℕ) → same_place (o by) (n f.index) ≡ true → by ≡ e.index
 
-  pub indexed : (p low : ℕ) (es fs : List Entry) → Above low fs
-      → ((by j : ℕ) → low ≤ j → same_place (o by) (n j) ≡ true → same_place (position_from p es by) (position_from p fs j) ≡ true) → Indexed es fs
-  indexed p low [] fs rising h = tt
-  indexed p low (e ∷ es) [] rising h = tt
-  indexed p low (e ∷ es) (f ∷ fs) rising h = (
-    λ by k.
-        elim (at_or_later by f.index p e f es fs (h by f.index rising.0 k)) [ inl here ↦ sym here.0 | inr later ↦ absurd (cc (eq-eqb f.index f.index refl)) ],
-    indexed (suc p) (suc f.index) es fs rising.1
+  pub indexed : (R : Entry → Entry → Type 0) (p low : ℕ) (es fs : List Entry) → AllZip R es fs → Above low fs
+      → ((by j : ℕ) → low ≤ j → same_place (o by) (n j) ≡ true → same_place (position_from p es by) (position_from p fs j) ≡ true)
+      → AllZip (λ e f. R e f × IsIndexed e f) es fs
+  indexed R p low [] [] all rising h = tt
+  indexed R p low (e ∷ es) (f ∷ fs) all rising h = (
+    (
+      all.0,
+      λ by k.
+          elim (at_or_later by f.index p e f es fs (h by f.index rising.0 k)) [ inl here ↦ sym here.0 | inr later ↦ absurd (cc (eq-eqb f.index f.index refl)) ],
+    ),
+    indexed R (suc p) (suc f.index) es fs all.1 rising.1
         (λ by j le k. elim (at_or_later by j p e f es fs (h by j (omega arith) k)) [ inl here ↦ absurd (omega arith) | inr later ↦ later.1 ]),
   )
+  indexed R p low _ _ all rising h = absurd all
 
 -- ---- bounds
 
@@ -211,31 +212,25 @@ module _ (sides : Sides) where
 
   -- z fits each present array that field i counts
   abbrev pub FitsArrays : ℤ → ℕ → List Entry → Type 0
-  FitsArrays z i [] = Unit {0}
-  FitsArrays z i (f ∷ fs) = ((most : ℕ) → f.field.count ≡ Counted i most → z ≤ℤ pos most) × FitsArrays z i fs
+  FitsArrays z i fs = AllByRecursion (λ f. (most : ℕ) → f.field.count ≡ Counted i most → z ≤ℤ pos most) fs
 
   fits_array : (z : ℤ) (i j : ℕ) (e f : Entry) → ((by : ℕ) → same_place (o by) (n j) ≡ true → by ≡ i) → AllByRecursion (λ m. z ≤ℤ pos m) (counted i a.fields)
-      → PairGood two e f → IsKnown ms a.fields v numbers at e → IsSingle f.field.item f.field.count → (most : ℕ) → f.field.count ≡ Counted j most
-      → z ≤ℤ pos most
-  fits_array z i j e f at_i all good known single most is =
-      elim (decoded two e f good) [
+      → Met sides e f → IsSingle f.field.item f.field.count → (most : ℕ) → f.field.count ≡ Counted j most → z ≤ℤ pos most
+  fits_array z i j e f at_i all met single most is =
+      elim (decoded two e f met.good) [
         | inl c ↦ let one = covered_one e.field.item e.field.count f.field.item f.field.count c.covers single in let bad = rw is at one in absurd (cc)
         | inr m ↦
             let p = paired o n e.field.count f.field.count j most is m.count m.room in
-            let has_i : HasArray i p.most' a.fields = rw (← (at_i p.by p.same)) (array_of a.fields e.index p.by p.most' e.field known.field p.is) in
+            let has_i : HasArray i p.most' a.fields = rw (← (at_i p.by p.same)) (array_of a.fields e.index p.by p.most' e.field met.known.field p.is) in
             at_most_more z p.most' most (counted_has (λ m. z ≤ℤ pos m) i p.most' a.fields has_i all) p.room
       ]
 
   fits_arrays : (new : NewFields below' (is_steady_in b) b.fields) (z : ℤ) (i j : ℕ) (es fs : List Entry) → ((by : ℕ) → same_place (o by) (n j) ≡ true → by ≡ i)
-      → AllByRecursion (λ m. z ≤ℤ pos m) (counted i a.fields) → Zip two es fs → AreKnown ms a.fields v numbers at es → AreKnown ns b.fields w numbers' at' fs
-      → FitsArrays z j fs
-  fits_arrays new z i j [] [] at_i all zipped known known' = tt
-  fits_arrays new z i j [] (f ∷ fs) at_i all zipped known known' = absurd zipped
-  fits_arrays new z i j (e ∷ es) [] at_i all zipped known known' = absurd zipped
-  fits_arrays new z i j (e ∷ es) (f ∷ fs) at_i all zipped known known' = (
-    fits_array z i j e f at_i all zipped.0 known.0 (new f.index f.field known'.0.field).single,
-    fits_arrays new z i j es fs at_i all zipped.1 known.1 known'.1,
-  )
+      → AllByRecursion (λ m. z ≤ℤ pos m) (counted i a.fields) → AllZip (Met sides) es fs → FitsArrays z j fs
+  fits_arrays new z i j [] [] at_i all met = tt
+  fits_arrays new z i j (e ∷ es) (f ∷ fs) at_i all met =
+      (fits_array z i j e f at_i all met.0 (new f.index f.field met.0.known'.field).single, fits_arrays new z i j es fs at_i all met.1)
+  fits_arrays new z i j _ _ at_i all met = absurd met
 
   absent_array : (z : ℤ) (j n most : ℕ) (g : Field) (gs : List Field) → g.count ≡ Counted j most → presence w g.test g.since ≡ None → z ≤ℤ pos n
       → absent_hold w j n (g ∷ gs) ≡ true → z ≤ℤ pos most
@@ -268,9 +263,9 @@ module _ (sides : Sides) where
   -- a number of old that fits, at a pair of numbers, fits all of new's capacities
   pub caps_follow : (kind : Kind) (es : List Entry) (e f : Entry) (z : ℤ) → e.field.item ≡ Num kind
       → ((by : ℕ) → same_place (o by) (n f.index) ≡ true → by ≡ e.index) → Matched two e f
-      → z ≤ℤ highest kind → AllByRecursion (λ m. z ≤ℤ pos m) (counted e.index a.fields) → Zip two es (present_from news b.fields w 0 0 b.fields)
-      → AreKnown ms a.fields v numbers at es → NewFields below' (is_steady_in b) b.fields → AllByRecursion (λ m. z ≤ℤ pos m) (counted f.index b.fields)
-  caps_follow kind es e f z is at_e m high caps zipped known new =
+      → z ≤ℤ highest kind → AllByRecursion (λ m. z ≤ℤ pos m) (counted e.index a.fields) → AllZip (Met sides) es (present_from news b.fields w 0 0 b.fields)
+      → NewFields below' (is_steady_in b) b.fields → AllByRecursion (λ m. z ≤ℤ pos m) (counted f.index b.fields)
+  caps_follow kind es e f z is at_e m high caps met new =
       let le : z ≤ℤ pos (bound e.field.item (counted e.index a.fields)) = rw is (at_most_bound kind _ z high caps) in
-      let arrays = fits_arrays new z e.index f.index es _ at_e caps zipped known (all_known ns b.fields w numbers' at') in
+      let arrays = fits_arrays new z e.index f.index es _ at_e caps met in
       all_counted (λ m. z ≤ℤ pos m) f.index b.fields (λ most has. each_array z f.index _ 0 0 b.fields le m.absent arrays most has)

@@ -1,15 +1,15 @@
 -- A description on each side: its bytes carry, what isn't in them is at its default, and at one front the newer set
 -- takes exactly the bytes that the older one wrote. Validations that hold in the older set hold in the newer.
 use Rattle.vms_check_laws.proofs.Facade.{◌≡◌, ℕ, ◌+◌, List, ◌∷◌, Option, None, sym, ◌∙◌, arith, ℤ, inr, ◌++◌, [], Bool, and_from, and_parts, false, list_all}
-use Rattle.vms_check_laws.proofs.Facade.{list_any, refl, true, ◌||◌, cells_in, Desc, Rule, Meaning, desc_cells, slots_from, desc_slots, numbers_of, all_hold}
-use Rattle.vms_check_laws.proofs.Facade.{Part, is_steady_in, Entry, present, position_from, Comparer, compare_desc, Carrier, carry_desc, Holds, FitsAt, Aligns}
+use Rattle.vms_check_laws.proofs.Facade.{list_any, refl, true, cells_in, Desc, Rule, Meaning, desc_cells, slots_from, desc_slots, numbers_of, all_hold, Part}
+use Rattle.vms_check_laws.proofs.Facade.{is_steady_in, Entry, present, position_from, Comparer, compare_desc, Carrier, carry_desc, Holds, FitsAt, Aligns}
 use Rattle.vms_check_laws.proofs.Facade.{or_else_none, Spells, zeroed, Carries, Formula, Known, Open, Reduced, compare_validations, here, is_kept, no_parent}
-use Rattle.vms_check_laws.proofs.Facade.{passes, reduced, reduced_holds, same_reduced, truth, truth_of}
+use Rattle.vms_check_laws.proofs.Facade.{passes, reduced, reduced_holds, same_reduced, truth, truth_of, AllZip, either_of}
 use Rattle.vms_check_laws.proofs.Presence.{Agree, Named, named_left, same_reduced_truth}
 use Rattle.vms_check_laws.proofs.Segments.{holds_at, carries_append, spells_split, behind_first, aligns_append, aligns_rule, carries_rule}
-use Rattle.vms_check_laws.proofs.Premises.{entries_slots, slots_entries, all_known, AreKnown, Two, zip_of, Zip, Sides, Table, OldFields, Meets, Reads}
-use Rattle.vms_check_laws.proofs.Premises.{fields_below, RulesNamed}
-use Rattle.vms_check_laws.proofs.FieldsRead.{linked, agree_from, fields_settle, fields_carry, opposites}
+use Rattle.vms_check_laws.proofs.Premises.{entries_slots, slots_entries, all_known, AreKnown, Two, Sides, Table, OldFields, Meets, Reads, fields_below}
+use Rattle.vms_check_laws.proofs.Premises.{RulesNamed, Met, all_met}
+use Rattle.vms_check_laws.proofs.FieldsRead.{linked, agree_from, fields_settle, fields_carry}
 use Rattle.vms_check_laws.proofs.PairLists.{settled_more}
 use Rattle.vms_check_laws.proofs.AlignedDescs.{Clashes, entries_align, entries_clash, State}
 use Rattle.vms_check_laws.proofs.Positioned.{present_above}
@@ -28,20 +28,14 @@ module _ (sides : Sides) (ok : ℕ → Bool) where
   abbrev new_number : ℕ → ℕ
   new_number k = numbers_of (cells_in ns) b numbers' at' k
 
-  found_same : (r : Reduced) (c d : Bool) (s : Formula) → c ≡ same_reduced o n (reduced v s) r → Named ok r → Agree o n ok old_number new_number
-      → truth s v old_number no_parent ≡ true
-      → (d ≡ true → truth_of r w new_number no_parent ≡ true) → (c || d) ≡ true → truth_of r w new_number no_parent ≡ true
-  found_same r true d s e named agree holds go h =
-      rw (← (same_reduced_truth o n ok old_number new_number no_parent no_parent v w agree (reduced v s) r named (sym e)), reduced_holds) holds
-  found_same r false d s e named agree holds go h = go h
-
   some_same : (r : Reduced) (ss : List Formula) → Named ok r → Agree o n ok old_number new_number → all_hold ss v old_number ≡ true
       → list_any (λ s. same_reduced o n (reduced v s) r) ss ≡ true → truth_of r w new_number no_parent ≡ true
   some_same r [] named agree holds h = absurd (cc)
   some_same r (s ∷ ss) named agree holds h =
       let p = and_parts (truth s v old_number no_parent) (all_hold ss v old_number) holds in
-      found_same r (same_reduced o n (reduced v s) r) (list_any (λ s. same_reduced o n (reduced v s) r) ss) s refl named agree p.0
-      (λ k. some_same r ss named agree p.1 k) h
+      either_of (same_reduced o n (reduced v s) r) (list_any (λ s. same_reduced o n (reduced v s) r) ss) h
+      (λ is. rw (← (same_reduced_truth o n ok old_number new_number no_parent no_parent v w agree (reduced v s) r named is), reduced_holds) p.0)
+      (λ k. some_same r ss named agree p.1 k)
 
   kept_holds : (r : Reduced) → Named ok r → Agree o n ok old_number new_number → all_hold a.validate v old_number ≡ true
       → is_kept ks a b v w part part' o n r ≡ true → truth_of r w new_number no_parent ≡ true
@@ -65,8 +59,8 @@ module _ (sides : Sides) (ok : ℕ → Bool) where
 
 -- ---- whole descriptions
 
-module _ (ks : List Comparer) (cs : List Carrier) (ms ns : List Meaning) (a b : Desc) (v w : ℕ) (part part' : Part)
-    (numbers numbers' : List ℤ) (at : ℕ) (below below' : ℕ) (table : Table ks cs ms ns numbers numbers' below below') where
+module _ {ks : List Comparer} {cs : List Carrier} {ms ns : List Meaning} {numbers numbers' : List ℤ} {below below' : ℕ}
+    (table : Table ks cs ms ns numbers numbers' below below') (a b : Desc) (v w : ℕ) (part part' : Part) (at : ℕ) where
   abbrev es : List Entry
   es = present (cells_in ms) a v
 
@@ -115,12 +109,12 @@ module _ (ks : List Comparer) (cs : List Carrier) (ms ns : List Meaning) (a b : 
 
   module _ (old : OldFields below own a.fields) (good : DescGood below' b) (fits : FitsAt (desc_cells (cells_in ms) a) numbers at) where
     module _ (none : compare_desc ks (cells_in ms) (cells_in ns) a b v w part part' ≡ None) where
-      zipped : Zip two es fs
-      zipped = zip_of two es fs (or_else_none _ _ none).0
+      met : (at' : ℕ) → AllZip (Met (sides at')) es fs
+      met at' = all_met (sides at') es fs (or_else_none _ _ none).0 known (all_known ns b.fields w numbers' at')
 
       aligned : (at' : ℕ) → Aligns numbers (desc_slots ms a v numbers at) numbers' (desc_slots ns b w numbers' at')
       aligned at' =
-          let body = entries_align (sides at') good.earlier old fits es fs 0 0 zipped (first_state at') in
+          let body = entries_align (sides at') good.earlier old fits es fs 0 0 (met at') (first_state at') in
           aligns_append numbers numbers' _ _ _ _ (rw (old_same, new_same at') body) (aligns_rule numbers numbers' _ _)
 
       reads : (at' : ℕ) → Holds numbers' at' (carry_desc cs (cells_in ms) (cells_in ns) numbers v w a b at)
@@ -130,22 +124,21 @@ module _ (ks : List Comparer) (cs : List Carrier) (ms ns : List Meaning) (a b : 
           let s = sides at' in
           let ok = is_steady_in b in
           let below = fields_below _ b.fields (λ j f e. (good.new j f e).item) in
-          let known' = all_known ns b.fields w numbers' at' in
-          let link = linked s 0 0 b.fields es below zipped (holds_at (omega arith) held) in
-          let agree : Agree o n ok own (own' at') = λ i j named h. agree_from s i j 0 es fs link known known' named h in
-          let all = opposites s ok es fs link known known' old good.new fits agree in
+          let link = linked s 0 0 b.fields es below (met at') (holds_at (omega arith) held) in
+          let agree : Agree o n ok own (own' at') = λ i j named h. agree_from s i j 0 es fs link named h in
           let z : at' + 0 ≡ at' = omega arith in
           record {
-            carries = carries_append (rw (old_same, new_same at') (fields_carry s ok es fs all)) (rule_carries s ok (or_else_none _ _ none).1 good.rules agree);
-            settled = settled_more _ _ at' _ _ (rw z at (fields_settle s ok 0 0 b.fields es below all));
+            carries = carries_append (rw (old_same, new_same at') (fields_carry s ok old good.new fits agree es fs link))
+                (rule_carries s ok (or_else_none _ _ none).1 good.rules agree);
+            settled = settled_more _ _ at' _ _ (rw z at (fields_settle s ok old good.new fits agree 0 0 b.fields es below link));
           }
 
       -- no rule fails at them
       pub desc_meets : Meets numbers numbers' (desc_slots ms a v numbers at) (λ y. desc_slots ns b w numbers' y) (desc_cells (cells_in ns) b)
           (carry_desc cs (cells_in ms) (cells_in ns) numbers v w a b at)
       desc_meets = record {
-        fits = fields_fit (sides 0) old good.new fits es zipped known good.defaults
-            (indexed o n 0 0 es fs (present_above _ b.fields w 0 0 b.fields) (λ by j le h. h));
+        fits = fields_fit (sides 0) old good.new fits es (met 0) good.defaults
+            (indexed o n (Met (sides 0)) 0 0 es fs (met 0) (present_above _ b.fields w 0 0 b.fields) (λ by j le h. h));
         aligned = aligned;
         reads = reads;
       }

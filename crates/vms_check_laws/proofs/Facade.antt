@@ -10,7 +10,8 @@ pub use Rattle.std.proofs.lemmas.List.{append-nil, ext_get_or, get_or-append-add
 pub use Rattle.std.proofs.lemmas.List.{take_all}
 pub use Rattle.std.proofs.lemmas.Option.{get_or_from_slice_get, slice_get-get_or, slice_get-map, slice_get_within}
 pub use Rattle.std.proofs.lemmas.Slice.Eq.{bytes_eq-Decides}
-pub use Rattle.std.specs.List.{AllByRecursion, flat_map, list_all, list_any, slice_get}
+pub use Rattle.std.specs.List.{AllByRecursion, AllZip, flat_map, list_all, list_any, slice_get}
+pub use Rattle.std.specs.Option.{option_and_then}
 pub use Rattle.std.specs.Str.{bytes_eq}
 pub use Rattle.byteorder.specs.Endian.{big_number}
 pub use Rattle.vms_kinds.specs.Codes.{InRange, code, highest, residue, width}
@@ -20,7 +21,7 @@ pub use Rattle.vms_kinds.specs.declared.Kind.{Kind}
 pub use Rattle.vms_kinds.specs.declared.Kind.TheVariants.{I16, I32, I64, I8, Timer, U16, U32, U64, U8}
 pub use Rattle.vms_spec.proofs.Faultless.{AllTrue, answers_none, every_one, few_devices, machine_short, or_else_none}
 pub use Rattle.vms_spec.proofs.KindLaws.{code_read, length-code}
-pub use Rattle.vms_spec.proofs.ListLaws.{all_right, or_second}
+pub use Rattle.vms_spec.proofs.ListLaws.{all_right, either_of}
 pub use Rattle.vms_spec.proofs.NumberLaws.{same_number_is}
 pub use Rattle.vms_spec.proofs.Prefixes.{FieldsBelow, ItemBelow, desc_cells_same, first_same, item_below, struct_cells_at, struct_slots}
 pub use Rattle.vms_spec.proofs.Sizes.{elements_fit, field_size, size_same}
@@ -53,7 +54,7 @@ pub use Rattle.vms_bodies.proofs.AgreeLaws.{its_below, its_in, named_inside, ski
 pub use Rattle.vms_bodies.proofs.BodyLaws.{at_set}
 pub use Rattle.vms_bodies.proofs.CellLaws.{MeanCells, cells_first, field_are, item_are, meanings_are}
 pub use Rattle.vms_bodies.proofs.Names.{has_left, has_right, names_append, none_in_both}
-pub use Rattle.vms_bodies.proofs.PartLaws.{at_other, part_apart, parts_together, places_apart, sub_place_up, sub_size}
+pub use Rattle.vms_bodies.proofs.PartLaws.{at_other, cells_of_sub, part_apart, parts_together, places_apart, sub_place_up, sub_size}
 pub use Rattle.vms_bodies.proofs.ReadyLaws.{version_is}
 pub use Rattle.vms_bodies.proofs.SectionLaws.{defaults_at, defaults_long}
 pub use Rattle.vms_bodies.proofs.SettledLaws.{cells_in}

@@ -1,19 +1,19 @@
 -- Fields of both sides at one position: the newer set reads what the older one writes with the carried numbers, and what isn't in the
 -- bytes is at its default.
-use Rattle.vms_check_laws.proofs.Facade.{◌≡◌, inl, inr, ℕ, zero, suc, ◌+◌, ◌*◌, ◌≤◌, Bool, true, false, List, ◌∷◌, length, get_or, Option, None, refl, sym, ◌∙◌}
-use Rattle.vms_check_laws.proofs.Facade.{arith, ℤ, pos, if◌then◌else◌, ◌++◌, Some, eqb-true, leb-true, slice_get, ap, [], length-append, cells_in, Kind, Item}
-use Rattle.vms_check_laws.proofs.Facade.{Num, Equal, Unused, Struct, width, Count, One, Fixed, Counted, Formula, Field, is_there, Slot, Number, Filler}
-use Rattle.vms_check_laws.proofs.Facade.{no_parent, times, counted, capacity_of, item_cells, field_cells, elements_of, item_slots, numbers_of, Entry, same_rest}
-use Rattle.vms_check_laws.proofs.Facade.{same_count, same_kind, same_constant, holds_as_much, entry_of, present_from, defaults, carry_item, carry_items}
-use Rattle.vms_check_laws.proofs.Facade.{carry_field, Holds, FitsAt, Carries, size_same, elements_fit, ItemBelow, same_number_is, here, presence, Cell}
-use Rattle.vms_check_laws.proofs.Facade.{cells_from, slots_from, kind_of, is_steady_in, is_num, is_one, same_item, position_from, same_place, carry_next}
-use Rattle.vms_check_laws.proofs.Facade.{carry_from, entries_left, field_size, FieldsBelow, residue, desc_cells}
+use Rattle.vms_check_laws.proofs.Facade.{◌≡◌, inl, inr, ℕ, zero, suc, ◌+◌, ◌*◌, ◌≤◌, Bool, true, false, List, ◌∷◌, length, get_or, Option, None, refl, sym}
+use Rattle.vms_check_laws.proofs.Facade.{◌∙◌, arith, ℤ, pos, if◌then◌else◌, ◌++◌, Some, eqb-true, leb-true, slice_get, ap, [], length-append, cells_in, Kind}
+use Rattle.vms_check_laws.proofs.Facade.{Item, Num, Equal, Unused, Struct, width, Count, One, Fixed, Counted, Formula, Field, is_there, Slot, Number, Filler}
+use Rattle.vms_check_laws.proofs.Facade.{no_parent, times, counted, capacity_of, item_cells, field_cells, elements_of, item_slots, numbers_of, Entry}
+use Rattle.vms_check_laws.proofs.Facade.{same_rest, same_count, same_kind, same_constant, holds_as_much, entry_of, present_from, defaults, carry_item}
+use Rattle.vms_check_laws.proofs.Facade.{carry_items, carry_field, Holds, FitsAt, Carries, size_same, elements_fit, ItemBelow, same_number_is, here, presence}
+use Rattle.vms_check_laws.proofs.Facade.{Cell, cells_from, slots_from, kind_of, is_steady_in, is_num, is_one, same_item, position_from, same_place}
+use Rattle.vms_check_laws.proofs.Facade.{carry_next, carry_from, entries_left, field_size, FieldsBelow, residue, desc_cells, AllZip}
 use Rattle.vms_check_laws.proofs.Presence.{Agree, same_there, presence_named, there_here, not_covered, steady, steady_rest, rest_none, one_number, Steady}
 use Rattle.vms_check_laws.proofs.Presence.{filler_length}
 use Rattle.vms_check_laws.proofs.Segments.{holds_left, holds_right, holds_at, fits_left, fits_right, fits_at, carries_nil, carries_append, carries_number}
 use Rattle.vms_check_laws.proofs.Segments.{carries_constant, carries_filler}
-use Rattle.vms_check_laws.proofs.Premises.{kinds_same, slots_at, entries_slots, IsKnown, AreKnown, known_there, Pairs, PairGood, decoded, CoveredBy, Matched}
-use Rattle.vms_check_laws.proofs.Premises.{Zip, Sides, CountFits, CountNamed, OldGood, NewGood, OldFields, NewFields, covered_empty, Reads, covered_slots}
+use Rattle.vms_check_laws.proofs.Premises.{kinds_same, slots_at, entries_slots, known_there, Pairs, decoded, CoveredBy, Matched, Sides, CountFits, CountNamed}
+use Rattle.vms_check_laws.proofs.Premises.{OldGood, NewGood, OldFields, NewFields, covered_empty, Reads, covered_slots, Met}
 use Rattle.vms_check_laws.proofs.PairLists.{defaults_size, Settled, settled_defaults, settled_empty, settled_append, same_defaults, has_itself, if_least}
 use Rattle.vms_check_laws.proofs.PairLists.{one_cell, when_there}
 use Rattle.vms_check_laws.proofs.Positioned.{at_or_later}
@@ -98,13 +98,11 @@ module _ (sides : Sides) where
   -- ---- the carried numbers are at each pair
 
   abbrev pub Linked : List Entry → List Entry → Type 0
-  Linked [] [] = Unit {0}
-  Linked (e ∷ es) (f ∷ fs) = (PairGood two e f × Holds numbers' (at' + f.place) (one_field e f.field)) × Linked es fs
-  Linked _ _ = ⊥
+  Linked es fs = AllZip (λ e f. Met sides e f × Holds numbers' (at' + f.place) (one_field e f.field)) es fs
 
   link_next : (i p : ℕ) (g : Field) (pr : Option (Option Formula)) (es after : List Entry) (rest : List Entry → List ℤ) → ItemBelow below' g.item
-      → Zip two es (entry_of i p g pr ++ after) → Holds numbers' (at' + p) (next_field i g pr es ++ rest (left_of_old pr es))
-      → ((es' : List Entry) → Zip two es' after → Holds numbers' (at' + (p + length (cells_at i g))) (rest es') → Linked es' after)
+      → AllZip (Met sides) es (entry_of i p g pr ++ after) → Holds numbers' (at' + p) (next_field i g pr es ++ rest (left_of_old pr es))
+      → ((es' : List Entry) → AllZip (Met sides) es' after → Holds numbers' (at' + (p + length (cells_at i g))) (rest es') → Linked es' after)
       → Linked es (entry_of i p g pr ++ after)
   link_next i p g None es after rest lt zipped held go =
       go es zipped (holds_at (omega (arith, defaults_size (cells_at i g))) (holds_right (defaults (cells_at i g)) held))
@@ -112,7 +110,7 @@ module _ (sides : Sides) where
   link_next i p g (Some left) (e ∷ es) after rest lt zipped held go =
       ((zipped.0, holds_left _ held), go es zipped.1 (holds_at (omega (arith, field_sized e i g lt)) (holds_right (one_field e g) held)))
 
-  pub linked : (i p : ℕ) (gs : List Field) (es : List Entry) → FieldsBelow below' gs → Zip two es (present_from news b.fields w i p gs)
+  pub linked : (i p : ℕ) (gs : List Field) (es : List Entry) → FieldsBelow below' gs → AllZip (Met sides) es (present_from news b.fields w i p gs)
       → Holds numbers' (at' + p) (all_fields i gs es) → Linked es (present_from news b.fields w i p gs)
   linked i p [] [] lt zipped held = tt
   linked i p [] (e ∷ es) lt zipped held = absurd zipped
@@ -128,19 +126,18 @@ module _ (sides : Sides) where
     pub there_is : is_there e.field.test e.field.since v own no_parent ≡ true
     pub rest : f.rest ≡ None
 
-  pub named_pair : (e f : Entry) → IsKnown ms a.fields v numbers at e → IsKnown ns b.fields w numbers' at' f → PairGood two e f
-      → is_steady_in b f.index ≡ true → NamedPair e f
-  named_pair e f known known' good is =
-      let s = steady b.minimum (slice_get b.fields f.index) f.field known'.field is in
-      let m : Matched two e f = elim (decoded two e f good) [
+  pub named_pair : (e f : Entry) → Met sides e f → is_steady_in b f.index ≡ true → NamedPair e f
+  named_pair e f met is =
+      let s = steady b.minimum (slice_get b.fields f.index) f.field met.known'.field is in
+      let m : Matched two e f = elim (decoded two e f met.good) [
         | inl c ↦ absurd (not_covered e.field.item e.field.count f.field.item c.covers s.item)
         | inr m ↦ m
       ] in
-      let rest : f.rest ≡ None = steady_rest w f.field.test f.field.since f.rest s.test known'.left in
+      let rest : f.rest ≡ None = steady_rest w f.field.test f.field.since f.rest s.test met.known'.left in
       record {
         plain = s;
         matched = m;
-        there_is = known_there ms a.fields v numbers at e known (rest_none o n e.rest f.rest rest m.rest) own no_parent;
+        there_is = known_there ms a.fields v numbers at e met.known (rest_none o n e.rest f.rest rest m.rest) own no_parent;
         rest = rest;
       }
 
@@ -152,20 +149,20 @@ module _ (sides : Sides) where
       rw (kinds_same k l same, ← (one_number (same_kind k l) numbers' y (get_or numbers x (pos 0)) z same held), zero_more)
   number_pair _ _ _ _ z _ x y num one same counts there_is held = absurd (cc)
 
-  pair_agrees : (e f : Entry) → IsKnown ms a.fields v numbers at e → IsKnown ns b.fields w numbers' at' f → PairGood two e f
-      → Holds numbers' (at' + f.place) (one_field e f.field) → is_steady_in b f.index ≡ true → own e.index ≡ own' f.index
-  pair_agrees e f known known' good held is =
-      let h = named_pair e f known known' good is in
-      known.number ∙ number_pair f.field.item e.field.item f.field.count e.field.count f.field.default _ (at + e.place)
-      (at' + f.place) h.plain.item h.plain.count h.matched.item h.matched.count h.there_is held ∙ sym known'.number
+  pair_agrees : (e f : Entry) → Met sides e f → Holds numbers' (at' + f.place) (one_field e f.field) → is_steady_in b f.index ≡ true
+      → own e.index ≡ own' f.index
+  pair_agrees e f met held is =
+      let h = named_pair e f met is in
+      met.known.number ∙ number_pair f.field.item e.field.item f.field.count e.field.count f.field.default _ (at + e.place)
+      (at' + f.place) h.plain.item h.plain.count h.matched.item h.matched.count h.there_is held ∙ sym met.known'.number
 
-  pub agree_from : (i j p : ℕ) (es fs : List Entry) → Linked es fs → AreKnown ms a.fields v numbers at es → AreKnown ns b.fields w numbers' at' fs
-      → is_steady_in b j ≡ true → same_place (position_from p es i) (position_from p fs j) ≡ true → own i ≡ own' j
-  agree_from i j p [] fs linked known known' named h = absurd (cc)
-  agree_from i j p (e ∷ es) [] linked known known' named h = absurd linked
-  agree_from i j p (e ∷ es) (f ∷ fs) linked known known' named h = elim (at_or_later i j p e f es fs h) [
-    | inl here ↦ ap own (sym here.0) ∙ pair_agrees e f known.0 known'.0 linked.0.0 linked.0.1 (ap (is_steady_in b) here.1 ∙ named) ∙ ap own' here.1
-    | inr later ↦ agree_from i j (suc p) es fs linked.1 known.1 known'.1 named later.1
+  pub agree_from : (i j p : ℕ) (es fs : List Entry) → Linked es fs → is_steady_in b j ≡ true
+      → same_place (position_from p es i) (position_from p fs j) ≡ true → own i ≡ own' j
+  agree_from i j p [] fs linked named h = absurd (cc)
+  agree_from i j p (e ∷ es) [] linked named h = absurd linked
+  agree_from i j p (e ∷ es) (f ∷ fs) linked named h = elim (at_or_later i j p e f es fs h) [
+    | inl here ↦ ap own (sym here.0) ∙ pair_agrees e f linked.0.0 linked.0.1 (ap (is_steady_in b) here.1 ∙ named) ∙ ap own' here.1
+    | inr later ↦ agree_from i j (suc p) es fs linked.1 named later.1
   ]
 
   -- ---- one item, several items
@@ -223,9 +220,8 @@ module _ (sides : Sides) where
   module _ (ok : ℕ → Bool) where
     -- two present fields at which no rule fails, and what is known of them
     pub record Opposite (e f : Entry) : Type 0 where
-      pub known : IsKnown ms a.fields v numbers at e
-      pub known' : IsKnown ns b.fields w numbers' at' f
-      pub good : PairGood two e f
+      pub met : Met sides e f
+      pub open met use *
       pub old : OldGood below own e.field
       pub new : NewGood below' ok f.field
       pub fits : FitsAt (field_cells olds a.fields e.index e.field) numbers (at + e.place)
@@ -309,50 +305,42 @@ module _ (sides : Sides) where
         → ReadsHere e f (slots_at ms a.fields v own numbers at e.index e.place e.field) (slots_at ns b.fields w own' numbers' at' f.index f.place f.field)
     pair_reads e f p held = pair_by (ReadsHere e f) e f p (covers e f p) (items e f p held)
 
-    abbrev pub Opposites : List Entry → List Entry → Type 0
-    Opposites [] [] = Unit {0}
-    Opposites (e ∷ es) (f ∷ fs) = (Opposite e f × Holds numbers' (at' + f.place) (one_field e f.field)) × Opposites es fs
-    Opposites _ _ = ⊥
+    -- all pairs of two descriptions
+    module _ (old : OldFields below own a.fields) (new : NewFields below' ok b.fields) (fits : FitsAt (desc_cells olds a) numbers at)
+        (agree : Agree o n ok own own') where
+      met_reads : (e f : Entry) → Met sides e f × Holds numbers' (at' + f.place) (one_field e f.field)
+          → ReadsHere e f (slots_at ms a.fields v own numbers at e.index e.place e.field) (slots_at ns b.fields w own' numbers' at' f.index f.place f.field)
+      met_reads e f h =
+          let m = h.0 in
+          let old_e = old e.index e.field m.known.field in
+          pair_reads e f (record { met = m; old = old_e; new = new f.index f.field m.known'.field; fits = m.known.fits fits; agree = agree }) h.1
 
-    pub opposites : (es fs : List Entry) → Linked es fs → AreKnown ms a.fields v numbers at es → AreKnown ns b.fields w numbers' at' fs
-        → OldFields below own a.fields → NewFields below' ok b.fields → FitsAt (desc_cells olds a) numbers at → Agree o n ok own own' → Opposites es fs
-    opposites [] [] linked known known' old new fits agree = tt
-    opposites [] (f ∷ fs) linked known known' old new fits agree = absurd linked
-    opposites (e ∷ es) [] linked known known' old new fits agree = absurd linked
-    opposites (e ∷ es) (f ∷ fs) linked known known' old new fits agree =
-        let k = known.0 in
-        let k' = known'.0 in
-        let old_f = old e.index e.field k.field in
-        let new_f = new f.index f.field k'.field in
-        let here : Opposite e f = record { known = k; known' = k'; good = linked.0.0; old = old_f; new = new_f; fits = k.fits fits; agree = agree } in
-        ((here, linked.0.1), opposites es fs linked.1 known.1 known'.1 old new fits agree)
+      pub fields_carry : (es fs : List Entry) → Linked es fs
+          → Carries numbers (entries_slots ms a.fields v own numbers at es) numbers' (entries_slots ns b.fields w own' numbers' at' fs)
+      fields_carry [] [] all = carries_nil
+      fields_carry (e ∷ es) (f ∷ fs) all = carries_append (met_reads e f all.0).carries (fields_carry es fs all.1)
+      fields_carry _ _ all = absurd all
 
-    pub fields_carry : (es fs : List Entry) → Opposites es fs
-        → Carries numbers (entries_slots ms a.fields v own numbers at es) numbers' (entries_slots ns b.fields w own' numbers' at' fs)
-    fields_carry [] [] all = carries_nil
-    fields_carry [] (f ∷ fs) all = absurd all
-    fields_carry (e ∷ es) [] all = absurd all
-    fields_carry (e ∷ es) (f ∷ fs) all = carries_append (pair_reads e f all.0.0 all.0.1).carries (fields_carry es fs all.1)
+      settle_next : (i p : ℕ) (g : Field) (pr : Option (Option Formula)) (es after : List Entry) (slots : List Slot) (rest : List Entry → List ℤ)
+          (cells : List Cell)
+          → ItemBelow below' g.item → Linked es (entry_of i p g pr ++ after)
+          → ((es' : List Entry) → Linked es' after → Settled slots (at' + (p + length (cells_at i g))) cells (rest es'))
+          → Settled (slots_at ns b.fields w own' numbers' at' i p g ++ slots) (at' + p) (cells_at i g ++ cells)
+          (next_field i g pr es ++ rest (left_of_old pr es))
+      settle_next i p g None es after slots rest cells lt all go =
+          settled_append (defaults_size (cells_at i g)) (settled_defaults (slots_at ns b.fields w own' numbers' at' i p g) (at' + p) (cells_at i g))
+          (omega (arith, defaults_size (cells_at i g))) (go es all)
+      settle_next i p g (Some left) [] after slots rest cells lt all go = absurd all
+      settle_next i p g (Some left) (x ∷ es) after slots rest cells lt all go =
+          let size = field_sized x i g lt in
+          settled_append size (met_reads x (record { index = i; place = p; field = g; rest = left }) all.0).settled (omega arith) (go es all.1)
 
-    settle_next : (i p : ℕ) (g : Field) (pr : Option (Option Formula)) (es after : List Entry) (slots : List Slot) (rest : List Entry → List ℤ)
-        (cells : List Cell)
-        → ItemBelow below' g.item → Opposites es (entry_of i p g pr ++ after)
-        → ((es' : List Entry) → Opposites es' after → Settled slots (at' + (p + length (cells_at i g))) cells (rest es'))
-        → Settled (slots_at ns b.fields w own' numbers' at' i p g ++ slots) (at' + p) (cells_at i g ++ cells) (next_field i g pr es ++ rest (left_of_old pr es))
-    settle_next i p g None es after slots rest cells lt all go =
-        settled_append (defaults_size (cells_at i g)) (settled_defaults (slots_at ns b.fields w own' numbers' at' i p g) (at' + p) (cells_at i g))
-        (omega (arith, defaults_size (cells_at i g))) (go es all)
-    settle_next i p g (Some left) [] after slots rest cells lt all go = absurd all
-    settle_next i p g (Some left) (x ∷ es) after slots rest cells lt all go =
-        let size = field_sized x i g lt in
-        settled_append size (pair_reads x (record { index = i; place = p; field = g; rest = left }) all.0.0 all.0.1).settled (omega arith) (go es all.1)
-
-    pub fields_settle : (i p : ℕ) (gs : List Field) (es : List Entry) → FieldsBelow below' gs → Opposites es (present_from news b.fields w i p gs)
-        → Settled (slots_from ns b.fields w own' numbers' i (at' + p) gs) (at' + p) (cells_from news b.fields i gs) (all_fields i gs es)
-    fields_settle i p [] es lt all = settled_empty [] (at' + p) [] [] refl
-    fields_settle i p (g ∷ gs) es lt all =
-        let next = p + length (cells_at i g) in
-        let e : at' + next ≡ (at' + p) + length (cells_at i g) = omega arith in
-        rw e at (settle_next i p g (presence w g.test g.since) es (present_from news b.fields w (suc i) next gs)
-        (slots_from ns b.fields w own' numbers' (suc i) (at' + next) gs) (λ es'. all_fields (suc i) gs es') (cells_from news b.fields (suc i) gs) lt.0 all
-        (λ es' more. fields_settle (suc i) next gs es' lt.1 more))
+      pub fields_settle : (i p : ℕ) (gs : List Field) (es : List Entry) → FieldsBelow below' gs → Linked es (present_from news b.fields w i p gs)
+          → Settled (slots_from ns b.fields w own' numbers' i (at' + p) gs) (at' + p) (cells_from news b.fields i gs) (all_fields i gs es)
+      fields_settle i p [] es lt all = settled_empty [] (at' + p) [] [] refl
+      fields_settle i p (g ∷ gs) es lt all =
+          let next = p + length (cells_at i g) in
+          let e : at' + next ≡ (at' + p) + length (cells_at i g) = omega arith in
+          rw e at (settle_next i p g (presence w g.test g.since) es (present_from news b.fields w (suc i) next gs)
+          (slots_from ns b.fields w own' numbers' (suc i) (at' + next) gs) (λ es'. all_fields (suc i) gs es') (cells_from news b.fields (suc i) gs) lt.0 all
+          (λ es' more. fields_settle (suc i) next gs es' lt.1 more))

@@ -1,14 +1,14 @@
 -- The carried numbers fit new's cells.
 use Rattle.vms_check_laws.proofs.Facade.{◌≤ℤ◌, ◌≡◌, inl, inr, ℕ, zero, suc, ◌+◌, ◌<◌, ◌≤◌, Bool, true, false, List, ◌∷◌, ◌++◌, length, get_or, Option, Some}
-use Rattle.vms_check_laws.proofs.Facade.{None, refl, arith, ℤ, pos, if◌then◌else◌, AllByRecursion, [], cells_in, Kind, Item, Num, Struct, Formula, Field, Cell}
-use Rattle.vms_check_laws.proofs.Facade.{times, counted, item_cells, field_cells, cells_from, Entry, entry_of, present_from, same_kind, pair_structs, defaults}
-use Rattle.vms_check_laws.proofs.Facade.{carry_item, carry_items, carry_next, carry_from, entries_left, FitsAt, size_same, elements_fit, highest, InRange}
-use Rattle.vms_check_laws.proofs.Facade.{is_num, FitsCell, ItemBelow, FieldsBelow, desc_cells, numbers_of, is_steady_in, present}
+use Rattle.vms_check_laws.proofs.Facade.{None, refl, arith, ℤ, pos, if◌then◌else◌, AllByRecursion, [], cells_in, Kind, Item, Num, Struct, Formula, Field}
+use Rattle.vms_check_laws.proofs.Facade.{Cell, times, counted, item_cells, field_cells, cells_from, Entry, entry_of, present_from, same_kind, pair_structs}
+use Rattle.vms_check_laws.proofs.Facade.{defaults, carry_item, carry_items, carry_next, carry_from, entries_left, FitsAt, size_same, elements_fit, highest}
+use Rattle.vms_check_laws.proofs.Facade.{InRange, is_num, FitsCell, ItemBelow, FieldsBelow, desc_cells, numbers_of, is_steady_in, present, AllZip}
 use Rattle.vms_check_laws.proofs.Segments.{fits_left, fits_right, fits_at}
-use Rattle.vms_check_laws.proofs.Premises.{kinds_same, AreKnown, Zip, Matched, decoded, OldFields, NewFields, DefaultsGood, ItemDefault, Sides, fields_below}
-use Rattle.vms_check_laws.proofs.Premises.{FitCells, GoodCells, fit_append, fit_defaults, good_append, good_times}
+use Rattle.vms_check_laws.proofs.Premises.{kinds_same, Matched, decoded, OldFields, NewFields, DefaultsGood, ItemDefault, Sides, fields_below, FitCells}
+use Rattle.vms_check_laws.proofs.Premises.{GoodCells, fit_append, fit_defaults, good_append, good_times, Met}
 use Rattle.vms_check_laws.proofs.Presence.{not_covered}
-use Rattle.vms_check_laws.proofs.Counts.{Indexed, caps_follow}
+use Rattle.vms_check_laws.proofs.Counts.{caps_follow, IsIndexed}
 use Rattle.vms_check_laws.proofs.PairLists.{if_least, one_cell}
 
 pub good_item : (y : List (List Cell)) (k : ℕ) (j : Item) (caps : List ℕ) (d : ℤ) → ((i : ℕ) → i < k → GoodCells (get_or y i [])) → ItemBelow k j
@@ -88,10 +88,8 @@ module _ (sides : Sides) where
     pub fits : FitsAt (field_cells olds a.fields e.index e.field) numbers (at + e.place)
     pub follow : Follows e.field.item f.field.item (counted e.index a.fields) (counted f.index b.fields)
 
-  abbrev pub FitPairs : List Entry → List Entry → Type 0
-  FitPairs [] [] = Unit {0}
-  FitPairs (e ∷ es) (f ∷ fs) = FitPair e f × FitPairs es fs
-  FitPairs _ _ = ⊥
+  abbrev FitPairs : List Entry → List Entry → Type 0
+  FitPairs es fs = AllZip FitPair es fs
 
   fit_next : (i q : ℕ) (g : Field) (pr : Option (Option Formula)) (es after : List Entry) → ItemBelow below' g.item
       → GoodCells (item_cells news g.item (counted i b.fields) g.default) → FitPairs es (entry_of i q g pr ++ after)
@@ -116,25 +114,24 @@ module _ (sides : Sides) where
 
   -- each pair's numbers follow
   module _ (old : OldFields below own_number a.fields) (new : NewFields below' (is_steady_in b) b.fields) (fits : FitsAt (desc_cells olds a) numbers at)
-      (all : List Entry) (zipped : Zip two all (present news b w)) (known : AreKnown ms a.fields v numbers at all) where
-    fit_pairs : (es fs : List Entry) → Zip two es fs → AreKnown ms a.fields v numbers at es → Indexed o n es fs → FitPairs es fs
-    fit_pairs [] [] zip known_es at_e = tt
-    fit_pairs [] (f ∷ fs) zip known_es at_e = absurd zip
-    fit_pairs (e ∷ es) [] zip known_es at_e = absurd zip
-    fit_pairs (e ∷ es) (f ∷ fs) zip known_es at_e =
+      (all : List Entry) (met : AllZip (Met sides) all (present news b w)) where
+    fit_pairs : (es fs : List Entry) → AllZip (λ e f. Met sides e f × IsIndexed o n e f) es fs → FitPairs es fs
+    fit_pairs [] [] h = tt
+    fit_pairs (e ∷ es) (f ∷ fs) h =
         let here : FitPair e f = record {
-          structs = zip.0.structs;
-          low = (old e.index e.field known_es.0.field).item;
-          fits = known_es.0.fits fits;
+          structs = h.0.0.good.structs;
+          low = (old e.index e.field h.0.0.known.field).item;
+          fits = h.0.0.known.fits fits;
           follow = λ k is num z high caps.
-              let m : Matched two e f = elim (decoded two e f zip.0) [
+              let m : Matched two e f = elim (decoded two e f h.0.0.good) [
                 | inl c ↦ absurd (not_covered e.field.item e.field.count f.field.item c.covers num)
                 | inr m ↦ m
               ] in
-              caps_follow sides k all e f z is at_e.0 m high caps zipped known new;
+              caps_follow sides k all e f z is h.0.1 m high caps met new;
         } in
-        (here, fit_pairs es fs zip.1 known_es.1 at_e.1)
+        (here, fit_pairs es fs h.1)
+    fit_pairs _ _ h = absurd h
 
-    pub fields_fit : DefaultsGood b.fields 0 b.fields → Indexed o n all (present news b w)
+    pub fields_fit : DefaultsGood b.fields 0 b.fields → AllZip (λ e f. Met sides e f × IsIndexed o n e f) all (present news b w)
         → FitCells (desc_cells news b) (carry_from cs olds news numbers own_number v w at b.fields 0 b.fields all)
-    fields_fit good at_e = fit_from 0 0 b.fields all (fields_below _ b.fields (λ j f e. (new j f e).item)) good (fit_pairs all _ zipped known at_e)
+    fields_fit good h = fit_from 0 0 b.fields all (fields_below _ b.fields (λ j f e. (new j f e).item)) good (fit_pairs all _ h)

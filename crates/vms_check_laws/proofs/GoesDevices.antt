@@ -1,16 +1,16 @@
 -- What is carried of a device, cell by cell.
-use Rattle.vms_check_laws.proofs.Facade.{◌≡◌, ◌⊎◌, inl, inr, ℕ, ◌+◌, ◌-◌, ◌<◌, ◌≤◌, Bool, true, false, ◌||◌, List, ◌++◌, length, get_or, Option, Some, None, ℤ}
-use Rattle.vms_check_laws.proofs.Facade.{pos, refl, sym, ◌∙◌, arith, flat_map, slice_get, get_or_append_left, get_or-append-add, or_parts, slice_get_within}
-use Rattle.vms_check_laws.proofs.Facade.{length-append, ap, or-false, zero, suc, ◌∷◌, cases_eq, ext_get_or, [], Sub, Device, Set, Cell, no_cell, desc_cells}
-use Rattle.vms_check_laws.proofs.Facade.{device_cells, struct_cells, Image, has_cell, image_slots, own_slots, own_cells, came_slots, sub_slots, sub_place}
-use Rattle.vms_check_laws.proofs.Facade.{find_sub, index, WellFormed, names_append, none_in_both, its_below, its_in, sub_size, sub_place_up, part_apart}
-use Rattle.vms_check_laws.proofs.Facade.{defaults_at, defaults_long, device_parts, sub_clean, sub_found, defaults, carrying, carry_sub, carried_sub}
+use Rattle.vms_check_laws.proofs.Facade.{◌≡◌, ◌⊎◌, inl, inr, ℕ, ◌+◌, ◌-◌, ◌<◌, ◌≤◌, Bool, true, false, ◌||◌, List, ◌++◌, length, get_or, Option, Some, None}
+use Rattle.vms_check_laws.proofs.Facade.{ℤ, pos, refl, sym, ◌∙◌, arith, flat_map, slice_get, get_or_append_left, get_or-append-add, or_parts}
+use Rattle.vms_check_laws.proofs.Facade.{slice_get_within, length-append, ap, or-false, zero, suc, ◌∷◌, cases_eq, ext_get_or, [], Sub, Device, Set, Cell}
+use Rattle.vms_check_laws.proofs.Facade.{no_cell, desc_cells, device_cells, struct_cells, Image, has_cell, image_slots, own_slots, own_cells, came_slots}
+use Rattle.vms_check_laws.proofs.Facade.{sub_slots, sub_place, find_sub, WellFormed, names_append, none_in_both, its_below, its_in, sub_size, sub_place_up}
+use Rattle.vms_check_laws.proofs.Facade.{part_apart, defaults_at, defaults_long, device_parts, sub_clean, sub_found, defaults, carrying, carried_sub}
 use Rattle.vms_check_laws.proofs.Facade.{carried_device, IsCellOf, IsCarried, IsAtVersions, part_partners, named_partners, device_partners, parts_together}
 use Rattle.vms_check_laws.proofs.Facade.{CarriedLaw}
 use Rattle.vms_check_laws.proofs.PairLists.{Goes, IsBehind, at_left, at_right, at_none, before_or_behind, behind_at}
-use Rattle.vms_check_laws.proofs.GoesFields.{part_goes}
-use Rattle.vms_check_laws.proofs.SubParts.{Found, found, own_or_sub, StandsIn, all_long, part_in, part_number, stands_in, has_part, one_part, or_split}
-use Rattle.vms_check_laws.proofs.PairDevices.{below_of, device_paired, one_sub}
+use Rattle.vms_check_laws.proofs.GoesFields.{part_goes, below_of}
+use Rattle.vms_check_laws.proofs.SubParts.{own_or_sub, StandsIn, all_long, part_in, part_number, stands_in, has_part, one_part, or_split, Found, look_up}
+use Rattle.vms_check_laws.proofs.PairDevices.{device_paired, one_sub}
 
 module _ (old new : Set) (good_old : WellFormed old) (good_new : WellFormed new) (i i' : ℕ) (d e : Device) (at_i : slice_get old.devices i ≡ Some d)
     (at_k : slice_get new.devices i' ≡ Some e) (image : Image) (versions : IsAtVersions d image) where
@@ -63,8 +63,7 @@ module _ (old new : Set) (good_old : WellFormed old) (good_new : WellFormed new)
       (part_partners old new d.desc.version d.desc e.desc 0) own_segment
   own_goes =
       rw versions.version
-      (part_goes old new good_old good_new numbers d.desc.version d.desc e.desc 0 0 (below_of _ d.desc _ (device_parts old good_old i d at_i).0)
-      (below_of _ e.desc _ (device_parts new good_new i' e at_k).0))
+      (part_goes old new good_old good_new numbers d.desc.version d.desc e.desc 0 0 (below_of _ d.desc _ (device_parts old good_old i d at_i).0))
 
   abbrev SubGoes : ℕ → ℕ → Sub → Sub → ℕ → Type 0
   SubGoes m l s t v =
@@ -73,9 +72,7 @@ module _ (old new : Set) (good_old : WellFormed old) (good_new : WellFormed new)
 
   sub_goes : (m l : ℕ) (s t : Sub) (v : ℕ) → slice_get d.subs m ≡ Some s → slice_get e.subs l ≡ Some t → v ≡ s.desc.version → SubGoes m l s t v
   sub_goes m l s t v at_m at_l v_is =
-      rw v_is
-      (part_goes old new good_old good_new numbers s.desc.version s.desc t.desc _ _ (below_of _ s.desc _ (sub_clean old good_old i m d s at_i at_m))
-      (below_of _ t.desc _ (sub_clean new good_new i' l e t at_k at_l)))
+      rw v_is (part_goes old new good_old good_new numbers s.desc.version s.desc t.desc _ _ (below_of _ s.desc _ (sub_clean old good_old i m d s at_i at_m)))
 
   -- the older one of a name, which came
   pub record Comes (t : Sub) : Type 0 where
@@ -88,20 +85,12 @@ module _ (old new : Set) (good_old : WellFormed old) (good_new : WellFormed new)
     pub segment : carried t ≡ carrying old new numbers v s.desc t.desc (place m)
 
   comes : (t : Sub) → (carried t ≡ defaults (new_cells t)) ⊎ Comes t
-  comes t = by_name (find_sub 0 d.subs t.desc.name) refl where
-    is : {r : Option ℕ} {s : Option Sub} {o : Option (Option ℕ)} → find_sub 0 d.subs t.desc.name ≡ r → slice_get d.subs (index r) ≡ s
-        → slice_get image.came (index r) ≡ o → carried t ≡ carry_sub old new d image t r s o
-    is h f g = rw (h, f, g)
-
-    by_came : (m : ℕ) (f : Found d.subs t.desc.name m) → find_sub 0 d.subs t.desc.name ≡ Some m → (o : Option (Option ℕ)) → slice_get image.came m ≡ o
-        → (carried t ≡ defaults (new_cells t)) ⊎ Comes t
-    by_came m f h (Some (Some v)) g = inr (record { m = m; s = f.sub; v = v; at_m = f.there; name_is = f.name_is; is_come = g; segment = is h f.there g })
-    by_came m f h None g = inl (is h f.there g)
-    by_came m f h (Some None) g = inl (is h f.there g)
-
-    by_name : (r : Option ℕ) → find_sub 0 d.subs t.desc.name ≡ r → (carried t ≡ defaults (new_cells t)) ⊎ Comes t
-    by_name None h = inl (is h refl refl)
-    by_name (Some m) h = by_came m (found d.subs t.desc.name m h) h _ refl
+  comes t = elim (look_up d.subs t.desc.name) [ inl none ↦ inl (rw none) | inr f ↦ by_came f _ refl ] where
+    by_came : (f : Found d.subs t.desc.name) (o : Option (Option ℕ)) → slice_get image.came f.number ≡ o → (carried t ≡ defaults (new_cells t)) ⊎ Comes t
+    by_came f (Some (Some v)) g =
+        inr (record { m = f.number; s = f.sub; v = v; at_m = f.there; name_is = f.name_is; is_come = g; segment = rw (f.found, f.there, g) })
+    by_came f None g = inl (rw (f.found, f.there, g))
+    by_came f (Some None) g = inl (rw (f.found, f.there, g))
 
   goes_of : (l : ℕ) (t : Sub) → slice_get e.subs l ≡ Some t → (h : Comes t) → SubGoes h.m l h.s t h.v
   goes_of l t at_l h = sub_goes h.m l h.s t h.v h.at_m at_l (versions.subs h.m h.s h.v h.at_m h.is_come)
@@ -161,19 +150,12 @@ module _ (old new : Set) (good_old : WellFormed old) (good_new : WellFormed new)
       pub here : slice_get (part_partners old new s.desc.version s.desc t.desc (place' l)) c ≡ Some (Some k)
 
     paired_sub : (s : Sub) (c k : ℕ) → slice_get (named_partners old new e s) c ≡ Some (Some k) → PairedSub s c k
-    paired_sub s c k h = by_name (find_sub 0 e.subs s.desc.name) refl where
-      by_name : (o : Option ℕ) → find_sub 0 e.subs s.desc.name ≡ o → PairedSub s c k
-      by_name None g = absurd (at_none (length (old_cells s)) c k (rw (g) at h))
-      by_name (Some l) g =
-          let f = found e.subs s.desc.name l g in
+    paired_sub s c k h = elim (look_up e.subs s.desc.name) [
+      | inl none ↦ absurd (at_none (length (old_cells s)) c k (rw none at h))
+      | inr f ↦
           let names : s.desc.name ≡ f.sub.desc.name = sym f.name_is in
-          record {
-            l = l;
-            t = f.sub;
-            at_l = f.there;
-            name_is = names;
-            here = sym (ap (λ (x : List (Option ℕ)). slice_get x c) (named_is s f.sub l f.there names)) ∙ h;
-          }
+          record { l = f.number; t = f.sub; at_l = f.there; name_is = names; here = rw (named_is s f.sub f.number f.there names) at h }
+    ]
 
     taken_sub : (c k : ℕ) (w : StandsIn old (named_partners old new e) (own_cells old d) d.subs c (Some k)) → has (own_cells old d + c) ≡ true
         → get_or whole k (pos 0) ≡ get_or numbers (own_cells old d + c) (pos 0)
@@ -269,22 +251,22 @@ is_some_of (Some j) k = elim (cases_eq j k) [ inl e ↦ inl (rw e) | inr ne ↦ 
 
 search_in : (ps : List (Option ℕ)) (k : ℕ) → ((c : ℕ) × (slice_get ps c ≡ Some (Some k))) ⊎ ((c : ℕ) → slice_get ps c ≡ Some (Some k) → ⊥)
 search_in [] k = inr (λ c e. cc)
-search_in (o ∷ ps) k = go (is_some_of o k) (search_in ps k) where
+search_in (o ∷ ps) k = elim (is_some_of o k) [
+  | inl h ↦ inl (0, rw h)
+  | inr h ↦ elim (search_in ps k) [ inl r ↦ inl (suc r.0, r.1) | inr r ↦ inr (none h r) ]
+] where
   none : (o ≡ Some k → ⊥) → ((c : ℕ) → slice_get ps c ≡ Some (Some k) → ⊥) → (c : ℕ) → slice_get (o ∷ ps) c ≡ Some (Some k) → ⊥
   none a b zero e = a cc
   none a b (suc c) e = b c e
-
-  go : ((o ≡ Some k) ⊎ (o ≡ Some k → ⊥)) → (((c : ℕ) × (slice_get ps c ≡ Some (Some k))) ⊎ ((c : ℕ) → slice_get ps c ≡ Some (Some k) → ⊥))
-      → ((c : ℕ) × (slice_get (o ∷ ps) c ≡ Some (Some k))) ⊎ ((c : ℕ) → slice_get (o ∷ ps) c ≡ Some (Some k) → ⊥)
-  go (inl h) r = inl (0, rw h)
-  go (inr h) (inl r) = inl (suc r.0, r.1)
-  go (inr h) (inr r) = inr (none h r)
 
 module _ (old new : Set) (good_old : WellFormed old) (good_new : WellFormed new) (i : ℕ) (d e : Device) (there : slice_get old.devices i ≡ Some d)
     (image : Image) where
   one_carried : (a b : List ℤ) → IsCarried old new d e image a → IsCarried old new d e image b → a ≡ b
   one_carried a b p q =
-      ext_get_or (pos 0) a b (omega arith) (λ k lt. each k (omega arith) (search_in _ k))
+      ext_get_or (pos 0) a b (omega arith) (λ k lt. elim (search_in (device_partners old new d e) k) [
+        | inl h ↦ by_has k h.0 (omega arith) h.1 _ refl
+        | inr h ↦ none_has k (omega arith) (λ c g. absurd (h c g))
+      ])
     where
       none_has : (k : ℕ) → k < length (device_cells new e)
           → ((c : ℕ) → slice_get (device_partners old new d e) c ≡ Some (Some k) → has_cell (image_slots old d image) c ≡ false)
@@ -295,12 +277,6 @@ module _ (old new : Set) (good_old : WellFormed old) (good_new : WellFormed new)
           → has_cell (image_slots old d image) c ≡ h → get_or a k (pos 0) ≡ get_or b k (pos 0)
       by_has k c lt f true h = p.taken c k f h ∙ sym (q.taken c k f h)
       by_has k c lt f false h = none_has k lt (λ c' g. rw ((device_paired old new good_old good_new i d e there).once c' c k g f) h)
-
-      each : (k : ℕ) → k < length (device_cells new e) → (((c : ℕ) × (slice_get (device_partners old new d e) c ≡ Some (Some k)))
-          ⊎ ((c : ℕ) → slice_get (device_partners old new d e) c ≡ Some (Some k) → ⊥))
-          → get_or a k (pos 0) ≡ get_or b k (pos 0)
-      each k lt (inl h) = by_has k h.0 lt h.1 _ refl
-      each k lt (inr h) = none_has k lt (λ c g. absurd (h c g))
 
 pub carried_stands : CarriedLaw
 carried_stands old new good_old good_new i k d e at_i at_k image versions numbers carried =

@@ -1,20 +1,22 @@
 -- What is carried of a description, cell by cell, and of structures, each by the earlier ones.
-use Rattle.vms_check_laws.proofs.Facade.{◌≡◌, inl, inr, ℕ, zero, suc, ◌+◌, ◌*◌, ◌<◌, ◌≤◌, Bool, true, false, List, ◌∷◌, ◌++◌, length, get_or, replicate, Option}
-use Rattle.vms_check_laws.proofs.Facade.{Some, None, ℤ, pos, refl, sym, ap, ◌∙◌, arith, if◌then◌else◌, slice_get, cases_lt, eq-eqb, or-false, [], Kind, Item}
-use Rattle.vms_check_laws.proofs.Facade.{Num, Struct, Formula, Field, Desc, is_there, Cell, no_cell, Slot, Number, Rule, Meaning, no_meaning, no_parent, times}
-use Rattle.vms_check_laws.proofs.Facade.{counted, capacity_of, item_cells, item_size, field_cells, cells_from, desc_cells, elements_of, item_slots, field_slots}
-use Rattle.vms_check_laws.proofs.Facade.{slots_from, desc_slots, numbers_of, has_cell, size_same, field_size, elements_fit, ItemBelow, FieldsBelow, AreCells}
-use Rattle.vms_check_laws.proofs.Facade.{MeanAbove, IsAbove, item_above, field_above, MeanCells, item_are, field_are, named_inside, skip_long, stands_behind}
-use Rattle.vms_check_laws.proofs.Facade.{names_append, cells_in, presence, Entry, entry_of, present_from, same_kind, Carrier, no_carrier, defaults, carry_item}
-use Rattle.vms_check_laws.proofs.Facade.{carry_items, carry_field, carry_next, carry_from, carry_desc, default_field, entries_left, Pairer, no_pairer, unpaired}
-use Rattle.vms_check_laws.proofs.Facade.{item_partners, array_partners, field_partners, fields_left, partners_from, desc_partners, Set, no_desc, meanings}
-use Rattle.vms_check_laws.proofs.Facade.{struct_cells, WellFormed, first_at, struct_slots, struct_cells_at, meanings_above, meanings_are, cells_first, carriers}
-use Rattle.vms_check_laws.proofs.Facade.{carrying, pairer_of, pairers, part_partners, within}
-use Rattle.vms_check_laws.proofs.PairLists.{same_defaults, defaults_append, AreFrom, paired_none, one_cell, Goes, IsWithin, goes_absent, goes_alone}
-use Rattle.vms_check_laws.proofs.PairLists.{goes_append}
-use Rattle.vms_check_laws.proofs.PairDevices.{Structs, item_paired, array_paired, struct_below, struct_is, tables}
-use Rattle.vms_check_laws.proofs.Premises.{by_less}
+use Rattle.vms_check_laws.proofs.Facade.{◌≡◌, inl, inr, ℕ, zero, suc, ◌+◌, ◌*◌, ◌<◌, ◌≤◌, Bool, true, false, List, ◌∷◌, ◌++◌, length, get_or, replicate}
+use Rattle.vms_check_laws.proofs.Facade.{Option, Some, None, ℤ, pos, refl, sym, ap, ◌∙◌, arith, if◌then◌else◌, slice_get, cases_lt, eq-eqb, or-false, []}
+use Rattle.vms_check_laws.proofs.Facade.{Kind, Item, Num, Struct, Formula, Field, Desc, is_there, Cell, no_cell, Slot, Number, Rule, Meaning, no_meaning}
+use Rattle.vms_check_laws.proofs.Facade.{no_parent, times, counted, capacity_of, item_cells, item_size, field_cells, cells_from, desc_cells, elements_of}
+use Rattle.vms_check_laws.proofs.Facade.{item_slots, field_slots, slots_from, desc_slots, numbers_of, has_cell, size_same, field_size, elements_fit}
+use Rattle.vms_check_laws.proofs.Facade.{ItemBelow, FieldsBelow, AreCells, MeanAbove, IsAbove, item_above, field_above, MeanCells, item_are, field_are}
+use Rattle.vms_check_laws.proofs.Facade.{named_inside, skip_long, stands_behind, names_append, cells_in, presence, Entry, entry_of, present_from, same_kind}
+use Rattle.vms_check_laws.proofs.Facade.{Carrier, no_carrier, defaults, carry_item, carry_items, carry_field, carry_next, carry_from, carry_desc}
+use Rattle.vms_check_laws.proofs.Facade.{default_field, entries_left, Pairer, no_pairer, unpaired, item_partners, array_partners, field_partners, fields_left}
+use Rattle.vms_check_laws.proofs.Facade.{partners_from, desc_partners, Set, no_desc, meanings, struct_cells, WellFormed, first_at, struct_slots}
+use Rattle.vms_check_laws.proofs.Facade.{struct_cells_at, meanings_above, meanings_are, cells_first, carriers, carrying, pairer_of, pairers, part_partners}
+use Rattle.vms_check_laws.proofs.Facade.{within, get_or_past, slice_get-get_or, desc_cells_same, first_same, item_below, first_long, Clean, struct_clean}
+use Rattle.vms_check_laws.proofs.Facade.{first, carrier_of}
+use Rattle.vms_check_laws.proofs.PairLists.{same_defaults, defaults_append, paired_none, one_cell, Goes, IsWithin, goes_absent, goes_alone, goes_append}
+use Rattle.vms_check_laws.proofs.PairLists.{IsOnce, IsPair, paired_skip, paired_append}
+use Rattle.vms_check_laws.proofs.Premises.{by_less, kinds_same, fields_below}
 use Rattle.vms_check_laws.proofs.Parts.{carrier_at}
+use Rattle.vms_check_laws.proofs.Counts.{item_further}
 
 -- ---- slots are within their cells
 
@@ -37,18 +39,31 @@ module _ (structs : List Pairer) (cs : List Carrier) (ms : List Meaning) (y : Li
       (i j at at' : ℕ) → i < k → j < k' → Goes (get_or x i []) (get_or y j []) numbers ((get_or ms i no_meaning).slots numbers at) at at'
       (get_or structs i no_pairer j at') (get_or cs j no_carrier i numbers at)
 
-  module _ (table : Structs structs x y k) (go : StructsGo) where
+  module _ (go : StructsGo) where
     item_within : (a : Item) (caps : List ℕ) (d : ℤ) (at : ℕ) → IsWithin at (length (item_cells x a caps d)) (item_slots ms a caps numbers at)
     item_within a caps d at = within_of at _ _ (item_above ms above a caps numbers at) (item_are ms means a caps d _ at numbers (stands_behind at _))
 
     -- ---- one element that is in the bytes
 
     -- a pair of numbers
-    one_goes : (l m : Kind) (caps caps' : List ℕ) (d d' : ℤ) (at at' : ℕ) (b : Bool) → same_kind l m ≡ b
-        → AreFrom (one_cell l caps d) (one_cell m caps' d') at' ((if b then Some at' else None) ∷ []) → IsWithin at 1 (Number at l caps ∷ [])
+    one_goes : (l m : Kind) (caps caps' : List ℕ) (d d' : ℤ) (at at' : ℕ) (b : Bool) → same_kind l m ≡ b → IsWithin at 1 (Number at l caps ∷ [])
         → Goes (one_cell l caps d) (one_cell m caps' d') numbers (Number at l caps ∷ []) at at'
         ((if b then Some at' else None) ∷ []) (if b then get_or numbers at (pos 0) ∷ [] else d' ∷ [])
-    one_goes l m caps caps' d d' at at' true same h w = record { paired = h; within = w; long = refl; taken = taken; other = other } where
+    one_goes l m caps caps' d d' at at' true same w = record {
+      paired = record { long = refl; pairs = λ c n e. pair c n e; once = λ b c n e f. both b c n e f };
+      within = w;
+      long = refl;
+      taken = taken;
+      other = other;
+    } where
+      pair : (c n : ℕ) → slice_get (Some at' ∷ []) c ≡ Some (Some n) → IsPair (one_cell l caps d) (one_cell m caps' d') at' c n
+      pair zero n e = let s : at' ≡ n = cc in record { r = 0; is = omega arith; inside = omega arith; kind = kinds_same l m same }
+      pair (suc c) n e = absurd (cc)
+
+      both : IsOnce (Some at' ∷ [])
+      both zero zero n e f = refl
+      both _ _ n e f = absurd (cc)
+
       taken : (c r : ℕ) → slice_get (Some at' ∷ []) c ≡ Some (Some (at' + r)) → has_cell (Number at l caps ∷ []) (at + c) ≡ true
           → get_or (get_or numbers at (pos 0) ∷ []) r (pos 0) ≡ get_or numbers (at + c) (pos 0)
       taken zero zero e f = let z : at + 0 ≡ at = omega arith in rw z
@@ -62,13 +77,12 @@ module _ (structs : List Pairer) (cs : List Carrier) (ms : List Meaning) (y : Li
           let z : at + 0 ≡ at = omega arith in
           let has : has_cell (Number at l caps ∷ []) (at + 0) ≡ true = rw (z, eq-eqb at at refl) in
           absurd (cc (has, f 0 (ap (λ i. Some (Some i)) k_is)))
-    one_goes l m caps caps' d d' at at' false same h w = goes_alone 1 refl w refl
+    one_goes l m caps caps' d d' at at' false same w = goes_alone 1 refl w refl
 
     item_goes : (a b : Item) (caps caps' : List ℕ) (d d' : ℤ) (at at' : ℕ) → ItemBelow k a → ItemBelow k' b
         → Goes (item_cells x a caps d) (item_cells y b caps' d') numbers (item_slots ms a caps numbers at) at at' (item_partners structs x y a b at')
         (carry_item cs x y numbers a b (defaults (item_cells y b [] d')) at)
-    item_goes (Num l) (Num m) caps caps' d d' at at' lt lt' =
-        one_goes l m caps caps' d d' at at' _ refl (item_paired structs x y k table (Num l) (Num m) caps caps' d d' at' lt) (item_within (Num l) caps d at)
+    item_goes (Num l) (Num m) caps caps' d d' at at' lt lt' = one_goes l m caps caps' d d' at at' _ refl (item_within (Num l) caps d at)
     item_goes (Struct i) (Struct j) caps caps' d d' at at' lt lt' = go i j at at' lt lt'
     item_goes a b caps caps' d d' at at' lt lt' = goes_alone _ refl (item_within a caps d at) (same_defaults y b [] caps' d')
 
@@ -85,8 +99,15 @@ module _ (structs : List Pairer) (cs : List Carrier) (ms : List Meaning) (y : Li
         → Goes (times most (λ _. item_cells x a caps d) p s) (times m (λ _. item_cells y b caps' d') q t) numbers
         (times n (item_slots ms a caps numbers) at (item_size x a)) at at'
         (array_partners structs x y a b most m at') (carry_items cs x y numbers a b (defaults (item_cells y b [] d')) (item_size x a) n m at)
-    array_goes a b caps caps' d d' most zero m at at' p s q t le lt lt' =
-        rw (carry_none a b caps' d' _ m at q t) (goes_absent (array_paired structs x y k table a b caps caps' d d' most m at' p q s t lt))
+    array_goes a b caps caps' d d' zero zero m at at' p s q t le lt lt' =
+        rw (carry_none a b caps' d' (item_size x a) m at q t) (goes_absent (paired_none [] _ at' 0 refl))
+    array_goes a b caps caps' d d' (suc most) zero zero at at' p s q t le lt lt' =
+        goes_absent (paired_skip _ _ (sym (size_same x a caps d))
+        (array_goes a b caps caps' d d' most zero zero at at' (p + s) s q t (omega arith) lt lt').paired)
+    array_goes a b caps caps' d d' (suc most) zero (suc m) at at' p s q t le lt lt' =
+        rw (carry_none a b caps' d' (item_size x a) (suc m) at q t)
+        (goes_absent (paired_append (item_goes a b caps caps' d d' at at' lt lt').paired (omega (arith, sym (size_same y b caps' d')))
+        (array_goes a b caps caps' d d' most zero m at (at' + item_size y b) (p + s) s (q + t) t (omega arith) lt lt').paired))
     array_goes a b caps caps' d d' zero (suc n) m at at' p s q t le lt lt' = absurd (omega arith)
     array_goes a b caps caps' d d' (suc most) (suc n) zero at at' p s q t le lt lt' =
         let e : item_size x a ≡ length (item_cells x a caps d) = sym (size_same x a caps d) in
@@ -247,6 +268,43 @@ module _ (structs : List Pairer) (cs : List Carrier) (ms : List Meaning) (y : Li
           same : (c : ℕ) → has_cell (slots ++ Rule b' ∷ []) c ≡ has_cell slots c
           same c = names_append slots _ c ∙ or-false (has_cell slots c)
 
+-- ---- the cells of a structure
+
+pub below_of : (k : ℕ) (d : Desc) (rules : _) → Clean k d rules → FieldsBelow k d.fields
+below_of k d rules c = fields_below k d.fields (λ i f e. item_below k f.item (c.fields i f e).1.1.1.1.0)
+
+module _ (set : Set) (well : WellFormed set) where
+  pub struct_below : (j : ℕ) → j < length set.structs → FieldsBelow j (get_or set.structs j no_desc).fields
+  struct_below j lt = below_of j _ _ (struct_clean set well j (get_or set.structs j no_desc) (slice_get-get_or set.structs j no_desc lt))
+
+  pub struct_is : (j : ℕ) → get_or (struct_cells set) j [] ≡ desc_cells (struct_cells set) (get_or set.structs j no_desc)
+  struct_is j =
+      let ds = set.structs in
+      let k = length ds in
+      elim (cases_lt j k) [
+        | inl lt ↦
+            first_at desc_cells ds [] k j lt
+            ∙ desc_cells_same j (first desc_cells ds j) (first desc_cells ds k) (λ i l. first_same desc_cells ds [] j k i (omega arith) l) (get_or ds j no_desc)
+            (struct_below j lt)
+        | inr le ↦ rw (get_or_past ds j no_desc le) (get_or_past _ j [] (omega (arith, first_long desc_cells ds k)))
+      ]
+
+-- a number above those of all structures that fields use
+fields_further : (j k : ℕ) (fs : List Field) → j ≤ k → FieldsBelow j fs → FieldsBelow k fs
+fields_further j k [] le h = tt
+fields_further j k (f ∷ fs) le h = (item_further j k f.item le h.0, fields_further j k fs le h.1)
+
+item_some : (i : Item) → (k : ℕ) × ItemBelow k i
+item_some (Struct j) = (suc j, omega arith)
+item_some _ = (0, tt)
+
+some_below : (fs : List Field) → (k : ℕ) × FieldsBelow k fs
+some_below [] = (0, tt)
+some_below (f ∷ fs) =
+    let p = item_some f.item in
+    let q = some_below fs in
+    (p.0 + q.0, (item_further p.0 _ f.item (omega arith) p.1, fields_further q.0 _ fs (omega arith) q.1))
+
 module _ (old new : Set) (good_old : WellFormed old) (good_new : WellFormed new) (numbers : List ℤ) where
   abbrev ds : List Desc
   ds = old.structs
@@ -269,9 +327,6 @@ module _ (old new : Set) (good_old : WellFormed old) (good_new : WellFormed new)
   abbrev carriers_to : ℕ → List Carrier
   carriers_to l = carriers xs y ds es l
 
-  structs_in : (m : ℕ) → m ≤ length ds → Structs (pairers_to m) xs y m
-  structs_in m le = rw (cells_first ds _) (tables old new good_old good_new m le)
-
   abbrev Go : ℕ → ℕ → Type 0
   Go m l = StructsGo (pairers_to m) (carriers_to l) ms y numbers m l (meanings_above ds _) (meanings_are ds _)
 
@@ -286,8 +341,7 @@ module _ (old new : Set) (good_old : WellFormed old) (good_new : WellFormed new)
       let e = get_or es j no_desc in
       let below = struct_below old good_old m lt in
       rw (carrier_at xs y ds es l j lt', struct_slots ds (length ds) m numbers at lt below, struct_cells_at ds (length ds) m lt below, struct_is new good_new j)
-      (desc_goes _ _ ms y numbers m j (meanings_above ds _) (meanings_are ds _) (structs_in m (omega arith))
-      (h j (omega arith)) d.version e.version d e at at' below
+      (desc_goes _ _ ms y numbers m j (meanings_above ds _) (meanings_are ds _) (h j (omega arith)) d.version e.version d e at at' below
       (struct_below new good_new j (omega arith)))
 
   pairer_at : (m i : ℕ) → i < m → get_or (pairers_to m) i no_pairer ≡ pairer_of (pairers_to i) xs y es (get_or ds i no_desc)
@@ -300,11 +354,29 @@ module _ (old new : Set) (good_old : WellFormed old) (good_new : WellFormed new)
       (λ m before less. last m less (λ l le i j at at' lt lt'. rw (pairer_at m i lt) (before i lt (omega arith) l le j at at' lt'))) m i lt
       (omega arith) l le' j at at' lt')
 
+  -- of all structures: of a number that the newer set doesn't have there is nothing
+  go_all : (k : ℕ) → StructsGo (pairers_to (length ds)) (carriers_to (length es)) ms y numbers (length ds) k (meanings_above ds _) (meanings_are ds _)
+  go_all k i j at at' lt lt' = elim (cases_lt j (length es)) [
+    | inl less ↦ go_to _ (omega arith) _ (omega arith) i j at at' lt less
+    | inr le ↦
+        let below = struct_below old good_old i lt in
+        let d = get_or ds i no_desc in
+        rw (
+          pairer_at (length ds) i lt,
+          struct_slots ds (length ds) i numbers at lt below,
+          struct_cells_at ds (length ds) i lt below,
+          struct_is new good_new j,
+          get_or_past es j no_desc le,
+          get_or_past (carriers_to (length es)) j no_carrier (omega (arith, first_long (λ earlier d. carrier_of earlier xs y ds d) es (length es))),
+        )
+        (desc_goes _ (carriers_to 0) ms y numbers i 0 (meanings_above ds _) (meanings_are ds _) (λ i j at at' lt lt'. absurd (omega arith)) d.version
+        no_desc.version d no_desc at at' below tt)
+  ]
+
   -- two descriptions at one version
-  pub part_goes : (v : ℕ) (a b : Desc) (at at' : ℕ) → FieldsBelow (length ds) a.fields → FieldsBelow (length es) b.fields
+  pub part_goes : (v : ℕ) (a b : Desc) (at at' : ℕ) → FieldsBelow (length ds) a.fields
       → Goes (desc_cells (struct_cells old) a) (desc_cells (struct_cells new) b) numbers (desc_slots ms a v numbers at) at at'
       (part_partners old new v a b at') (carrying old new numbers v a b at)
-  part_goes v a b at at' lt lt' =
-      rw (← (cells_first ds _))
-      (desc_goes _ _ ms y numbers _ _ (meanings_above ds _) (meanings_are ds _) (structs_in _ (omega arith))
-      (go_to _ (omega arith) _ (omega arith)) v v a b at at' lt lt')
+  part_goes v a b at at' lt =
+      let below = some_below b.fields in
+      rw (← (cells_first ds _)) (desc_goes _ _ ms y numbers _ below.0 (meanings_above ds _) (meanings_are ds _) (go_all below.0) v v a b at at' lt below.1)

@@ -1,9 +1,10 @@
 -- Partners of cells among the cells from a place on; numbers that are in the bytes, or at their defaults.
 use Rattle.vms_check_laws.proofs.Facade.{◌≡◌, ◌⊎◌, inl, inr, ℕ, zero, suc, ◌+◌, ◌-◌, ◌<◌, ◌≤◌, List, ◌∷◌, ◌++◌, length, get_or, replicate, Option, Some, None}
-use Rattle.vms_check_laws.proofs.Facade.{refl, sym, ap, ◌∙◌, arith, slice_get, get_or_append_left, get_or-append-add, length-replicate, cases_lt, ℤ, pos, true}
-use Rattle.vms_check_laws.proofs.Facade.{length-append, length-map, eq-eqb, Bool, if◌then◌else◌, [], false, ◌||◌, or-false, or_parts, false_from_ne_true}
-use Rattle.vms_check_laws.proofs.Facade.{slice_get_within, Cell, no_cell, Kind, Item, Num, Slot, Number, item_cells, has_cell, has_left, has_right, defaults}
-use Rattle.vms_check_laws.proofs.Facade.{or_second, names_append, defaults_at, defaults_long}
+use Rattle.vms_check_laws.proofs.Facade.{refl, sym, ap, ◌∙◌, arith, slice_get, get_or_append_left, get_or-append-add, length-replicate, cases_lt, ℤ, pos}
+use Rattle.vms_check_laws.proofs.Facade.{true, length-append, length-map, eq-eqb, Bool, if◌then◌else◌, [], false, ◌||◌, or-false, or_parts}
+use Rattle.vms_check_laws.proofs.Facade.{false_from_ne_true, slice_get_within, Cell, no_cell, Kind, Item, Num, Slot, Number, item_cells, has_cell, has_left}
+use Rattle.vms_check_laws.proofs.Facade.{has_right, defaults, names_append, defaults_at, defaults_long, either_of}
+use Rattle.vms_check_laws.proofs.Positioned.{if_is}
 
 abbrev pub one_cell : Kind → List ℕ → ℤ → List Cell
 one_cell kind caps default = record { kind = kind; capacities = caps; default = default } ∷ []
@@ -208,12 +209,11 @@ goes_alone {cells} {others} {numbers} {slots} {at} {at'} n e w is = record {
 }
 
 within_append : (at m n : ℕ) (xs ys : List Slot) → IsWithin at m xs → IsWithin (at + m) n ys → IsWithin at (m + n) (xs ++ ys)
-within_append at m n xs ys p q = record { in_range = λ c h. go c _ refl (sym (names_append xs ys c) ∙ h) } where
-  go : (c : ℕ) (b : Bool) → has_cell xs c ≡ b → (has_cell xs c || has_cell ys c) ≡ true → (at ≤ c) × (c < at + (m + n))
-  go c true e h = let r = p.in_range c e in (r.0, omega arith)
-  go c false e h =
-      let r = q.in_range c (or_second (has_cell xs c) (has_cell ys c) h e) in
-      (omega arith, omega arith)
+within_append at m n xs ys p q = record {
+  in_range = λ c h.
+      either_of (has_cell xs c) (has_cell ys c) (sym (names_append xs ys c) ∙ h) (λ e. (let r = p.in_range c e in (r.0, omega arith)))
+      (λ e. (let r = q.in_range c e in (omega arith, omega arith)));
+}
 
 module _ (cells_a cells_b others_a others_b : List Cell) (numbers : List ℤ) (xs ys : List Slot) (at at' : ℕ) (p q : List (Option ℕ)) (s t : List ℤ)
     (h : Goes cells_a others_a numbers xs at at' p s) (g : Goes cells_b others_b numbers ys (at + length cells_a) (at' + length others_a) q t) where

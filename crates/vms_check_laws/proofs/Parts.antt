@@ -87,19 +87,15 @@ module _ (olds news : List Desc) (numbers numbers' : List ℤ) (old : StructsGoo
       record {
         sized = λ i p.
             let a = get_or olds i no_desc in
-            let s =
-            sides (rules_to olds news k) (carries_to olds news k) means means' a b a.version b.version (parts.Struct i)
-            (parts.Struct k) numbers numbers' p (length olds) k table 0 in
-            fields_sized s 0 b.fields _ below ∙ sym (ap length cells_are);
+            fields_sized (sides table a b a.version b.version (parts.Struct i) (parts.Struct k) p 0) 0 b.fields _ below ∙ sym (ap length cells_are);
         good = rw cells_are (good_fields ys k b.fields 0 b.fields table.good below good.defaults);
         meets = λ i lt_i none x fits.
             let a = get_or olds i no_desc in
             let below_a = fields_below i a.fields (λ j f e. ((old i lt_i).old j f e).item) in
             let fits_a : FitsAt (desc_cells xs a) numbers x = rw (struct_cells_at olds (length olds) i lt_i below_a) at fits in
             let plain = plains_further i _ a.fields (omega arith) (old i lt_i).old in
-            let m =
-            desc_meets (rules_to olds news k) (carries_to olds news k) means means' a b a.version b.version (parts.Struct i)
-            (parts.Struct k) numbers numbers' x (length olds) k table (old_fields _ _ a.fields numbers x fits_a plain) good fits_a none in
+            let plain_a = old_fields _ _ a.fields numbers x fits_a plain in
+            let m = desc_meets table a b a.version b.version (parts.Struct i) (parts.Struct k) x plain_a good fits_a none in
             let slots_are = struct_slots olds (length olds) i numbers x lt_i below_a in
             record {
               fits = rw cells_are m.fits;
@@ -158,9 +154,8 @@ module _ (old new : Set) (good_old : WellFormed old) (good_new : WellFormed new)
       let fits_in = to_meanings (λ x y. FitsAt (desc_cells x a) numbers at) fits in
       to_cells (λ x y. Meets numbers numbers' (desc_slots ms a v numbers at) (λ q. desc_slots ns b v numbers' q) (desc_cells y b)
       (carry_desc (cs x y) x y numbers v v a b at))
-      (desc_meets (ks (cells_in ms) (cells_in ns)) (cs (cells_in ms) (cells_in ns)) ms ns a b v v part part' numbers numbers' at (length old.structs)
-      (length new.structs) (all_tables numbers numbers')
-      (old_fields _ _ a.fields numbers at fits_in good_a.old) good_b fits_in (to_meanings (λ x y. compare_desc (ks x y) x y a b v v part part' ≡ None) same))
+      (desc_meets (all_tables numbers numbers') a b v v part part' at (old_fields _ _ a.fields numbers at fits_in good_a.old) good_b fits_in
+      (to_meanings (λ x y. compare_desc (ks x y) x y a b v v part part' ≡ None) same))
 
 module _ (old new : Set) (good_old : WellFormed old) (good_new : WellFormed new) (d e : Device) (image : Image) (numbers' : List ℤ)
     (came_of : Sub → Option ℕ) where

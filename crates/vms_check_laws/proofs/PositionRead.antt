@@ -1,14 +1,14 @@
 -- One position, and the first positions, of two descriptions anywhere in two sets: the structures by their numbers at one front, devices
 -- whose constants differ, and the sets' own cells.
-use Rattle.vms_check_laws.proofs.Facade.{◌≡◌, ℕ, List, ◌++◌, length, Some, ℤ, slice_get, inl, inr, zero, suc, ◌+◌, ◌∷◌, refl, flat_map, [], cells_in, Part}
-use Rattle.vms_check_laws.proofs.Facade.{Device, Set, Desc, Cell, meanings, struct_cells, desc_cells, Spells, zeroed, own_slots, WellFormed, present}
-use Rattle.vms_check_laws.proofs.Facade.{position_from, comparers, carriers, FitsAt, is_earlier_in, Field, Meaning, numbers_of, field_slots, Entry, IsPartOf}
-use Rattle.vms_check_laws.proofs.Facade.{IsRead, PositionLaw, AlignedLaw, FrontAligns}
-use Rattle.vms_check_laws.proofs.Premises.{IsKnown, AreKnown, all_known, entries_slots, PairGood, Two, Sides, OldFields}
+use Rattle.vms_check_laws.proofs.Facade.{◌≡◌, ℕ, List, ◌++◌, length, Some, ℤ, slice_get, inl, inr, zero, suc, ◌∷◌, [], cells_in, Part, Device, Set, Desc}
+use Rattle.vms_check_laws.proofs.Facade.{Cell, meanings, struct_cells, desc_cells, Spells, zeroed, own_slots, WellFormed, present, position_from, comparers}
+use Rattle.vms_check_laws.proofs.Facade.{FitsAt, is_earlier_in, Field, Meaning, numbers_of, Entry, IsPartOf, IsRead, PositionLaw, AlignedLaw, FrontAligns}
+use Rattle.vms_check_laws.proofs.Facade.{◌<◌}
+use Rattle.vms_check_laws.proofs.Premises.{IsKnown, AreKnown, all_known, PairGood, Two, Sides, OldFields, Met}
 use Rattle.vms_check_laws.proofs.Counts.{old_fields, DescGood}
 use Rattle.vms_check_laws.proofs.Good.{device_good, sub_good}
 use Rattle.vms_check_laws.proofs.Parts.{to_cells, all_tables}
-use Rattle.vms_check_laws.proofs.AlignedDescs.{Clashes, front_aligns, good_first}
+use Rattle.vms_check_laws.proofs.AlignedDescs.{Clashes, front_aligns}
 use Rattle.vms_check_laws.proofs.Descriptions.{desc_clashes, first_state, sides}
 use Rattle.vms_check_laws.proofs.FieldsRead.{pair_reads}
 
@@ -40,12 +40,9 @@ pub devices_clash : (old new : Set) → WellFormed old → WellFormed new → (i
     → (v : ℕ) (part part' : Part) (numbers numbers' : List ℤ) → ClashRefuses old new d e v part part' numbers numbers' (struct_cells old) (struct_cells new)
 devices_clash old new good_old good_new i k d e in_old in_new v part part' numbers numbers' =
     to_cells old new good_old good_new (λ x y. ClashRefuses old new d e v part part' numbers numbers' x y) (λ clash fits.
-    let ms = meanings old.structs (length old.structs) in
-    let ns = meanings new.structs (length new.structs) in
     let plain = old_fields _ _ d.desc.fields numbers 0 fits (device_good old good_old i d in_old).old in
-    desc_clashes (comparers (cells_in ms) (cells_in ns) old.structs new.structs _)
-    (carriers (cells_in ms) (cells_in ns) old.structs new.structs _) ms ns d.desc e.desc v v part part' numbers numbers' 0 _ _
-    (all_tables old new good_old good_new numbers numbers') plain (device_good new good_new k e in_new) fits 0 clash)
+    desc_clashes (all_tables old new good_old good_new numbers numbers') d.desc e.desc v v part part' 0 plain (device_good new good_new k e in_new) fits 0
+    clash)
 
 pub part_good : (set : Set) → WellFormed set → (d : Desc) → IsPartOf set d → DescGood (length set.structs) d
 part_good set well d (inl p) = rw (← p.is) (device_good set well p.i p.device p.there)
@@ -56,11 +53,6 @@ known_at : (structs : List Meaning) (all : List Field) (v : ℕ) (numbers : List
 known_at structs all v numbers base [] p e h k = cc
 known_at structs all v numbers base (x ∷ es) zero e h k = let same : x ≡ e = cc in rw (← same) k.0
 known_at structs all v numbers base (x ∷ es) (suc p) e h k = known_at structs all v numbers base es p e h k.1
-
-entries_flat : (ms : List Meaning) (all : List Field) (v : ℕ) (own : ℕ → ℕ) (numbers : List ℤ) (at : ℕ) (es : List Entry)
-    → entries_slots ms all v own numbers at es ≡ flat_map (λ (e : Entry). field_slots ms all v own numbers e.index (at + e.place) e.field) es
-entries_flat ms all v own numbers at [] = refl
-entries_flat ms all v own numbers at (e ∷ es) = rw (entries_flat ms all v own numbers at es)
 
 module _ (old new : Set) (good_old : WellFormed old) (good_new : WellFormed new) (a b : Desc) (of_old : IsPartOf old a) (of_new : IsPartOf new b) (v : ℕ)
     (part part' : Part) (numbers numbers' : List ℤ) (at at' : ℕ) where
@@ -77,10 +69,7 @@ module _ (old new : Set) (good_old : WellFormed old) (good_new : WellFormed new)
   fs = present (cells_in ns) b v
 
   abbrev here : Sides
-  here =
-      sides (comparers (cells_in ms) (cells_in ns) old.structs new.structs (length new.structs))
-      (carriers (cells_in ms) (cells_in ns) old.structs new.structs (length new.structs)) ms ns a b v v part part' numbers numbers' at
-      (length old.structs) (length new.structs) (all_tables old new good_old good_new numbers numbers') at'
+  here = sides (all_tables old new good_old good_new numbers numbers') a b v v part part' at at'
 
   good : DescGood (length new.structs) b
   good = part_good new good_new b of_new
@@ -92,19 +81,18 @@ module _ (old new : Set) (good_old : WellFormed old) (good_new : WellFormed new)
   read_in p e f h =
       let k = known_at ms a.fields v numbers at es p e h.on_old (all_known ms a.fields v numbers at) in
       let k' = known_at ns b.fields v numbers' at' fs p f h.on_new (all_known ns b.fields v numbers' at') in
-      let pair : PairGood here.two e f = record { rules = h.rules; structs = h.structs } in
+      let met : Met here e f = record { good = record { rules = h.rules; structs = h.structs }; known = k; known' = k' } in
       let old_f = plain h.fits e.index e.field k.field in
       let new_f = good.earlier f.index f.field k'.field in
-      (pair_reads here (is_earlier_in b f.index) e f
-      (record { known = k; known' = k'; good = pair; old = old_f; new = new_f; fits = k.fits h.fits; agree = h.agree }) h.held).carries
+      (pair_reads here (is_earlier_in b f.index) e f (record { met = met; old = old_f; new = new_f; fits = k.fits h.fits; agree = h.agree }) h.held).carries
 
   front_in : FrontAligns old new a b v part part' numbers numbers' at at' (cells_in ms) (cells_in ns)
   front_in p h =
-      let first =
-      good_first here.two p es fs h.on_old h.on_new (λ q e f lt x y. let d = h.paired q e f lt x y in record { rules = d.rules; structs = d.structs }) in
-      let aligned = front_aligns here good.earlier (plain h.fits) h.fits p es fs 0 0 first
-      (first_state _ _ ms ns a b v v part part' numbers numbers' at _ _ (all_tables old new good_old good_new numbers numbers') at') in
-      rw (entries_flat ms a.fields v, entries_flat ns b.fields v) at aligned
+      let first : (q : ℕ) (e f : Entry) → q < p → slice_get es q ≡ Some e → slice_get fs q ≡ Some f → PairGood here.two e f = λ q e f lt x y.
+      let d = h.paired q e f lt x y in
+      record { rules = d.rules; structs = d.structs } in
+      front_aligns here good.earlier (plain h.fits) h.fits p es fs 0 0 h.on_old h.on_new first
+      (first_state (all_tables old new good_old good_new numbers numbers') a b v v part part' at at')
 
 pub position_stands : PositionLaw
 position_stands old new good_old good_new a b of_old of_new v part part' numbers numbers' at at' =

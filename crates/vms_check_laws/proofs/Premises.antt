@@ -1,13 +1,14 @@
 -- What is known of fields and structures on both sides: present fields paired by position, numbers that fit cells, and premises.
 use Rattle.vms_check_laws.proofs.Facade.{◌≡◌, ◌⊎◌, inl, inr, ℕ, Bool, true, List, ◌∷◌, Option, None, and_parts, [], ◌&&◌, zero, suc, ◌+◌, ◌<◌, ◌++◌, length}
 use Rattle.vms_check_laws.proofs.Facade.{get_or, refl, arith, ℤ, pos, ◌≤◌, Some, slice_get, eqb-true, if◌then◌else◌, ◌*◌, ◌∙◌, ◌==◌, get_or_from_slice_get}
-use Rattle.vms_check_laws.proofs.Facade.{Item, Desc, counted, in_field, Part, Entry, same_rest, same_count, same_item, same_constant, is_covered, holds_as_much}
-use Rattle.vms_check_laws.proofs.Facade.{absent_hold, bound, Comparer, failing_pair, pair_rules, pair_structs, compare_fields, passes, ItemBelow, or_else_none}
-use Rattle.vms_check_laws.proofs.Facade.{names_match, Cell, no_cell, times, defaults, FitsCell, cells_in, Equal, Unused, Count, Counted, Formula, Field}
-use Rattle.vms_check_laws.proofs.Facade.{Meaning, no_meaning, item_cells, names_well, nobody, is_one, no_comparer, Carrier, no_carrier, Holds, FitsAt, Carries}
-use Rattle.vms_check_laws.proofs.Facade.{Aligns, FieldsBelow, Slot, is_earlier_in, Num, Filler, Fixed, Kind, One, cells_from, elements_of, entry_of}
-use Rattle.vms_check_laws.proofs.Facade.{field_cells, here, is_there, item_slots, kind_of, no_parent, presence, present_from, residue, same_kind, slots_from}
-use Rattle.vms_check_laws.proofs.Facade.{width, zeroed, U8, U16, U32, U64, I8, I16, I32, I64, Timer, no_field, field_slots, place_of, kind_number}
+use Rattle.vms_check_laws.proofs.Facade.{Item, Desc, counted, in_field, Part, Entry, same_rest, same_count, same_item, same_constant, is_covered}
+use Rattle.vms_check_laws.proofs.Facade.{holds_as_much, absent_hold, bound, Comparer, failing_pair, pair_rules, pair_structs, compare_fields, passes}
+use Rattle.vms_check_laws.proofs.Facade.{ItemBelow, or_else_none, names_match, Cell, no_cell, times, defaults, FitsCell, cells_in, Equal, Unused, Count}
+use Rattle.vms_check_laws.proofs.Facade.{Counted, Formula, Field, Meaning, no_meaning, item_cells, names_well, nobody, is_one, no_comparer, Carrier}
+use Rattle.vms_check_laws.proofs.Facade.{no_carrier, Holds, FitsAt, Carries, Aligns, FieldsBelow, Slot, is_earlier_in, Num, Filler, Fixed, Kind, One}
+use Rattle.vms_check_laws.proofs.Facade.{cells_from, elements_of, entry_of, field_cells, here, is_there, item_slots, kind_of, no_parent, presence}
+use Rattle.vms_check_laws.proofs.Facade.{present_from, residue, same_kind, slots_from, width, zeroed, U8, U16, U32, U64, I8, I16, I32, I64, Timer, no_field}
+use Rattle.vms_check_laws.proofs.Facade.{field_slots, place_of, kind_number, AllByRecursion, AllZip, flat_map}
 use Rattle.vms_spec.specs.Images.{FitCells as AreFit}
 use Rattle.vms_kinds.specs.declared.Kind.TheVariants.{Bool as Truth}
 use Rattle.vms_check_laws.proofs.Positioned.{if_is}
@@ -40,19 +41,6 @@ module _ (two : Two) where
     pub structs : pair_structs ks a b v w part part' o n i j ≡ None
     pub low : ItemBelow below i
     pub low' : ItemBelow below' j
-
-  abbrev pub Zip : List Entry → List Entry → Type 0
-  Zip [] [] = Unit {0}
-  Zip (e ∷ es) (f ∷ fs) = PairGood e f × Zip es fs
-  Zip _ _ = ⊥
-
-  pub zip_of : (es fs : List Entry) → compare_fields ks a b v w part part' o n es fs ≡ None → Zip es fs
-  zip_of [] [] h = tt
-  zip_of (e ∷ es) (f ∷ fs) h =
-      let p = or_else_none _ _ h in
-      let q = or_else_none _ _ p.1 in
-      (record { rules = p.0; structs = q.0 }, zip_of es fs q.1)
-  zip_of _ _ h = cc
 
   -- new's unused bytes over old's constant or numbers, or rules 7 to 12
   pub record Matched (e f : Entry) : Type 0 where
@@ -265,8 +253,7 @@ module _ (structs : List Meaning) (all : List Field) (v : ℕ) (own : ℕ → �
   slots_at i p f = field_slots structs all v own numbers i (base + p) f
 
   abbrev pub entries_slots : List Entry → List Slot
-  entries_slots [] = []
-  entries_slots (e ∷ es) = slots_at e.index e.place e.field ++ entries_slots es
+  entries_slots es = flat_map (λ e. slots_at e.index e.place e.field) es
 
   entry_slots : (i p : ℕ) (f : Field) (pr : Option (Option Formula)) (es : List Entry) → presence v f.test f.since ≡ pr
       → slots_at i p f ++ entries_slots es ≡ entries_slots (entry_of i p f pr ++ es)
@@ -304,8 +291,7 @@ module _ (structs : List Meaning) (all : List Field) (v : ℕ) (numbers : List �
   known_there e known plain own parent = presence_there e.field.test e.field.since v own parent ∙ rw (known.left, plain)
 
   abbrev pub AreKnown : List Entry → Type 0
-  AreKnown [] = Unit {0}
-  AreKnown (e ∷ es) = IsKnown e × AreKnown es
+  AreKnown es = AllByRecursion IsKnown es
 
   own_is : (i p : ℕ) (f : Field) → slice_get all i ≡ Some f → place i ≡ base + p
       → own_of i ≡ residue (width (kind_of f.item)) (get_or numbers (base + p) (pos 0))
@@ -332,3 +318,23 @@ module _ (structs : List Meaning) (all : List Field) (v : ℕ) (numbers : List �
   all_known =
       let z : base ≡ base + 0 = omega arith in
       entries_known 0 0 all (from_zero (slice_get all)) (λ k. from_zero place k ∙ rw (← z)) (λ whole. fits_at z whole)
+
+-- ---- the pairs of two descriptions at which no rule fails
+
+module _ (sides : Sides) where
+  open sides use {two, ms, ns, numbers, numbers', at, at'}
+  open two use {ks, a, b, v, w, part, part', o, n}
+
+  pub record Met (e f : Entry) : Type 0 where
+    pub good : PairGood two e f
+    pub known : IsKnown ms a.fields v numbers at e
+    pub known' : IsKnown ns b.fields w numbers' at' f
+
+  pub all_met : (es fs : List Entry) → compare_fields ks a b v w part part' o n es fs ≡ None → AreKnown ms a.fields v numbers at es
+      → AreKnown ns b.fields w numbers' at' fs → AllZip Met es fs
+  all_met [] [] h known known' = tt
+  all_met (e ∷ es) (f ∷ fs) h known known' =
+      let p = or_else_none _ _ h in
+      let q = or_else_none _ _ p.1 in
+      (record { good = record { rules = p.0; structs = q.0 }; known = known.0; known' = known'.0 }, all_met es fs q.1 known.1 known'.1)
+  all_met _ _ h known known' = cc

@@ -1,17 +1,18 @@
 -- What the older set writes is a stream of the newer, with the carried images: each device's section is one of the newer set's, and the
 -- order takes each device once.
-use Rattle.vms_check_laws.proofs.Facade.{◌≡◌, ℕ, suc, ◌+◌, Bool, true, false, ◌&&◌, ◌==◌, List, ◌∷◌, Option, Some, None, refl, ◌∙◌, arith, if◌then◌else◌}
-use Rattle.vms_check_laws.proofs.Facade.{slice_get, bytes_eq, bytes_eq-Decides, and_parts, eqb-true, inr, zero, ◌<◌, ◌≤◌, length, map, get_or, list_all, IfSome}
-use Rattle.vms_check_laws.proofs.Facade.{length-map, ap, [], inl, sym, first_answer, Device, Set, find_device, index, WellFormed, here, Mismatch, failing_pair}
+use Rattle.vms_check_laws.proofs.Facade.{◌≡◌, ℕ, suc, ◌+◌, Bool, true, false, ◌&&◌, ◌==◌, List, ◌∷◌, Option, Some, None, refl, ◌∙◌, arith, slice_get}
+use Rattle.vms_check_laws.proofs.Facade.{bytes_eq, bytes_eq-Decides, and_parts, eqb-true, inr, zero, ◌≤◌, length, map, get_or, list_all, IfSome, length-map}
+use Rattle.vms_check_laws.proofs.Facade.{ap, [], inl, sym, first_answer, Device, Set, find_device, index, WellFormed, here, Mismatch, failing_pair}
 use Rattle.vms_check_laws.proofs.Facade.{compare_device, paired_device, is_found, is_in, passes, device_found, Image, HasSection, SectionsSpell, IsReady}
 use Rattle.vms_check_laws.proofs.Facade.{EachOnce, is_one_of, written_section, written_sections, is_version_of, Compatible, first_mismatch, comparing}
 use Rattle.vms_check_laws.proofs.Facade.{compare_subs, carried, carried_device, carried_at, no_image, ArePaired, DeviceLaw, or_else_none, IsStream}
 use Rattle.vms_check_laws.proofs.Facade.{IsConfiguration, configuration, trailer, optional, longest_text, written, AreReady, every_one, machine_short}
-use Rattle.vms_check_laws.proofs.Facade.{few_devices, UpgradeLaw, trailed, answers_none}
+use Rattle.vms_check_laws.proofs.Facade.{few_devices, UpgradeLaw, trailed, answers_none, option_and_then}
 use Rattle.vms_spec.specs.declared.Part.TheVariants as parts
 use Rattle.vms_check_laws.proofs.SubFacts.{saved}
-use Rattle.vms_check_laws.proofs.Segments.{one_on, at_first, from_zero, RestAt}
-use Rattle.vms_check_laws.proofs.Wholes.{Among, NotIn, Apart, Wait, each_comes, found_same, section_whole, at_map, from_map}
+use Rattle.vms_check_laws.proofs.Segments.{RestAt, at_first, one_on, from_zero}
+use Rattle.vms_check_laws.proofs.Wholes.{Among, section_whole, at_map, from_map, Rises, takes_each, all_came}
+use Rattle.vms_check_laws.proofs.Positioned.{if_is}
 
 -- ---- devices by name and instance
 
@@ -25,19 +26,16 @@ pub found_device : (k : ℕ) (devices : List Device) (name : List ℕ) (instance
     → (j : ℕ) × (r ≡ k + j) × FoundDevice devices name instance j
 found_device k [] name instance r h = absurd (cc)
 found_device k (d ∷ devices) name instance r h =
-    let choice : (c : Bool) → (bytes_eq d.desc.name name && d.instance == instance) ≡ c → (if c then Some k else find_device (suc k) devices name instance)
-    ≡ Some r
-    → (j : ℕ) × (r ≡ k + j) × FoundDevice (d ∷ devices) name instance j = elim [
-      | true ↦ λ e g.
-          let same : k ≡ r = cc in
-          let p = and_parts (bytes_eq d.desc.name name) (d.instance == instance) e in
+    elim (if_is (λ o. o) (bytes_eq d.desc.name name && d.instance == instance) (Some k) (find_device (suc k) devices name instance) h) [
+      | inl now ↦
+          let same : k ≡ r = cc (now.1) in
+          let p = and_parts (bytes_eq d.desc.name name) (d.instance == instance) now.0 in
           let name_is = (bytes_eq-Decides d.desc.name name).0 p.0 in
           (0, omega arith, record { device = d; stands = refl; name_is = name_is; instance_is = eqb-true d.instance instance p.1 })
-      | false ↦ λ e g.
-          let f = found_device (suc k) devices name instance r g in
+      | inr later ↦
+          let f = found_device (suc k) devices name instance r later.1 in
           (suc f.0, omega arith, record { device = f.2.device; stands = f.2.stands; name_is = f.2.name_is; instance_is = f.2.instance_is })
-    ] in
-    choice (bytes_eq d.desc.name name && d.instance == instance) refl h
+    ]
 
 pub found_some : (r : Option ℕ) → is_found r ≡ true → (k : ℕ) × (r ≡ Some k)
 found_some None h = absurd (cc)
@@ -149,40 +147,30 @@ module _ (old new : Set) (good_old : WellFormed old) (good_new : WellFormed new)
       let found : find_device 0 new.devices d.desc.name d.instance ≡ Some k = rw (f.2.name_is, f.2.instance_is) (device_found new good_new k e x.1) in
       order_has old.devices f.0 k d f.2.stands found
 
-  two_apart : (i i' : ℕ) (d d' : Device) → i < i' → slice_get old.devices i ≡ Some d → slice_get old.devices i' ≡ Some d'
-      → index (find_device 0 new.devices d.desc.name d.instance) ≡ index (find_device 0 new.devices d'.desc.name d'.instance) → ⊥
-  two_apart i i' d d' lt e e' same =
-      let p = pair old new good_old all_in i d e in
-      let q = pair old new good_old all_in i' d' e' in
-      let indices : i ≡ i' = found_same new.devices (λ (u : Device). find_device 0 old.devices u.desc.name u.instance) p.number q.number i i' p.device q.device
-      (sym (ap index p.found) ∙ same ∙ ap index q.found) p.stands q.stands (back old new good_old all_in i d e p) (back old new good_old all_in i' d' e' q) in
-      absurd (omega arith)
-
-  one_apart : (i i' : ℕ) (d : Device) (ds : List Device) → i < i' → slice_get old.devices i ≡ Some d
-      → RestAt old.devices i' ds → NotIn (index (find_device 0 new.devices d.desc.name d.instance)) (device_order new ds)
-  one_apart i i' d [] lt e h = tt
-  one_apart i i' d (d' ∷ ds) lt e h = (
-    λ same. two_apart i i' d d' lt e (at_first (slice_get old.devices) i' h) same,
-    one_apart i (suc i') d ds (omega arith) e (one_on (slice_get old.devices) i' h),
-  )
+  abbrev none_came : List Bool
+  none_came = map (λ (d : Device). false) new.devices
 
   -- no device has come yet, and none comes twice
-  order_of : (i : ℕ) (ds : List Device) → RestAt old.devices i ds
-      → Wait (map (λ (d : Device). false) new.devices) (device_order new ds) × Apart (device_order new ds)
-  order_of i [] h = (tt, tt)
-  order_of i (d ∷ ds) h =
+  order_rises : (i : ℕ) (ds : List Device) → RestAt old.devices i ds
+      → Rises (λ b. b ≡ false) true (λ k. option_and_then (λ e. find_device 0 old.devices e.desc.name e.instance) (slice_get new.devices k)) none_came i
+      (device_order new ds)
+  order_rises i [] h = tt
+  order_rises i (d ∷ ds) h =
       let at = at_first (slice_get old.devices) i h in
-      let p = pair old new good_old all_in i d at in
-      let rest : RestAt old.devices (suc i) ds = one_on (slice_get old.devices) i h in
-      let more = order_of (suc i) ds rest in (
-        (rw (ap index p.found) (at_map (λ (d : Device). false) new.devices p.number p.device p.stands), more.0),
-        (one_apart i (suc i) d ds (omega arith) at rest, more.1),
+      let p = pair old new good_old all_in i d at in (
+        i,
+        false,
+        omega arith,
+        rw (p.found, p.stands) (back old new good_old all_in i d at p),
+        rw p.found (at_map (λ (d : Device). false) new.devices p.number p.device p.stands),
+        refl,
+        order_rises (suc i) ds (one_on (slice_get old.devices) i h),
       )
 
-  pub each_once : EachOnce (map (λ (d : Device). false) new.devices) (device_order new old.devices)
+  pub each_once : EachOnce none_came (device_order new old.devices)
   each_once =
-      let order = order_of 0 old.devices (from_zero (slice_get old.devices)) in
-      each_comes _ _ order.1 order.0 each_new
+      takes_each _ true _ (λ e. cc) EachOnce (λ xs f. all_came xs (λ j e. f j false e refl)) (λ xs k b order e h more. (e ∙ ap Some h, more)) none_came 0 _
+      (order_rises 0 old.devices (from_zero (slice_get old.devices))) (λ k b e h. each_new k (rw h at e))
 
   module _ (images : List Image) where
     -- the image of new's device is old's of this name, carried

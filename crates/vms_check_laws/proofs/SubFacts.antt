@@ -1,25 +1,17 @@
 -- What two well-formed sets without a mismatch give for each subsection of new.
 use Rattle.vms_check_laws.proofs.Facade.{◌≡◌, ◌⊎◌, inl, inr, ℕ, zero, suc, ◌+◌, ◌≤◌, true, List, ◌∷◌, Option, Some, None, refl, arith, ℤ, nat_le, flat_map}
 use Rattle.vms_check_laws.proofs.Facade.{slice_get, and_parts, leb-true, [], first_answer, Sub, Device, Set, Cell, struct_cells, desc_cells, device_cells}
-use Rattle.vms_check_laws.proofs.Facade.{Image, FitCells, AreVersionsOf, RulesHold, own_slots, own_cells, sub_slots, sub_place, came_slots, IsReady}
-use Rattle.vms_check_laws.proofs.Facade.{ComeAsNeeded, find_sub, index, is_version_of, WellFormed, here, failing_pair, comparing, compare_sub, compare_subs}
-use Rattle.vms_check_laws.proofs.Facade.{carried_sub, sub_came, defaults, passes, sub_found, IsSaved, FitsAt, or_else_none, answers_none, rules_split, sub_size}
+use Rattle.vms_check_laws.proofs.Facade.{Image, FitCells, RulesHold, own_slots, own_cells, sub_place, IsReady, ComeAsNeeded, find_sub, index, is_version_of}
+use Rattle.vms_check_laws.proofs.Facade.{WellFormed, here, failing_pair, comparing, compare_sub, compare_subs, carried_sub, sub_came, defaults, passes}
+use Rattle.vms_check_laws.proofs.Facade.{sub_found, IsSaved, FitsAt, or_else_none, answers_none, rules_split, part_apart, cells_of_sub}
 use Rattle.vms_spec.specs.declared.Part.TheVariants as parts
-use Rattle.vms_check_laws.proofs.SubParts.{found as found_sub}
-use Rattle.vms_check_laws.proofs.Segments.{fits_left, fits_right, one_on, at_first, from_zero, RestAt}
+use Rattle.vms_check_laws.proofs.SubParts.{Found, look_up}
+use Rattle.vms_check_laws.proofs.Segments.{fits_left, fits_right, RestAt, at_first, one_on, from_zero}
 use Rattle.vms_check_laws.proofs.Good.{sub_good}
 use Rattle.vms_check_laws.proofs.Parts.{good_cells, Came, Stayed, Facts}
 
 pub fits_whole : (cells : List Cell) (numbers : List ℤ) → FitCells cells numbers → FitsAt cells numbers 0
 fits_whole cells numbers h = record { each = λ c lt. let z : c ≡ 0 + c = omega arith in rw (← z) (h.fits c lt) }
-
-pub came_at : (subs : List Sub) (came : List (Option ℕ)) (j : ℕ) (s : Sub) → AreVersionsOf subs came → slice_get subs j ≡ Some s
-    → (o : Option ℕ) × (slice_get came j ≡ Some o)
-came_at [] came j s h e = absurd (cc)
-came_at (x ∷ subs) [] j s h e = absurd h
-came_at (x ∷ subs) (o ∷ came) zero s h e = (o, refl)
-came_at (x ∷ subs) (None ∷ came) (suc j) s h e = came_at subs came j s h e
-came_at (x ∷ subs) (Some v ∷ came) (suc j) s h e = came_at subs came j s h.1 e
 
 pub come_version : (set : Set) (d : Device) (image : Image) (k : ℕ) (subs : List Sub) (came : List (Option ℕ)) (j : ℕ) (s : Sub) (v : ℕ)
     → ComeAsNeeded set d image k subs came → slice_get subs j ≡ Some s → slice_get came j ≡ Some (Some v) → v ≡ s.desc.version
@@ -40,29 +32,6 @@ saved set d image r = record {
   version = r.version;
   subs = λ j s v at_j at_came. come_version set d image 0 d.subs image.came j s v r.needed at_j at_came;
 }
-
-pub sub_fits : (set : Set) (numbers : List ℤ) (place : ℕ) (subs : List Sub) (j : ℕ) (s : Sub)
-    → FitsAt (flat_map (λ u. desc_cells (struct_cells set) u.desc) subs) numbers place → slice_get subs j ≡ Some s
-    → FitsAt (desc_cells (struct_cells set) s.desc) numbers (sub_place set place subs j)
-sub_fits set numbers place [] j s h e = absurd (cc)
-sub_fits set numbers place (x ∷ subs) zero s h e =
-    let same : x ≡ s = cc in
-    rw (← same) (fits_left _ h)
-sub_fits set numbers place (x ∷ subs) (suc j) s h e =
-    sub_fits set numbers (place + sub_size set x) subs j s (fits_right (desc_cells (struct_cells set) x.desc) h) e
-
-pub sub_rules_hold : (set : Set) (d : Device) (numbers : List ℤ) (place : ℕ) (subs : List Sub) (came : List (Option ℕ)) (j : ℕ) (s : Sub) (v : ℕ)
-    → RulesHold (came_slots set d numbers place subs came)
-    → slice_get subs j ≡ Some s → slice_get came j ≡ Some (Some v) → RulesHold (sub_slots set s v numbers (sub_place set place subs j))
-sub_rules_hold set d numbers place (x ∷ subs) (None ∷ came) (suc j) s v h e e' = sub_rules_hold set d numbers (place + sub_size set x) subs came j s v h e e'
-sub_rules_hold set d numbers place (x ∷ subs) (Some u ∷ came) zero s v h e e' =
-    let same : x ≡ s = cc in
-    let same' : u ≡ v = cc in
-    rw (← same) (rw (← same') (rules_split (sub_slots set x u numbers place) (came_slots set d numbers (place + sub_size set x) subs came) h).0)
-sub_rules_hold set d numbers place (x ∷ subs) (Some u ∷ came) (suc j) s v h e e' =
-    sub_rules_hold set d numbers (place + sub_size set x) subs came j s v
-    (rules_split (sub_slots set x u numbers place) (came_slots set d numbers (place + sub_size set x) subs came) h).1 e e'
-sub_rules_hold set d numbers place _ _ _ s v h e e' = absurd (cc)
 
 module _ (old new : Set) (good_old : WellFormed old) (good_new : WellFormed new) (i k : ℕ) (d e : Device) (at_i : slice_get old.devices i ≡ Some d)
     (at_k : slice_get new.devices k ≡ Some e)
@@ -109,26 +78,18 @@ module _ (old new : Set) (good_old : WellFormed old) (good_new : WellFormed new)
         good = sub_good old good_old i j d s at_i at_j;
         good' = sub_good new good_new k l e t at_k at_l;
         same = rw v_is c.1;
-        fits = sub_fits old image.numbers (own_cells old d) d.subs j s subs_fit at_j;
-        rules = sub_rules_hold old d image.numbers (own_cells old d) d.subs image.came j s v
-            (rules_split (own_slots old d image.version image.numbers)
-            (came_slots old d image.numbers (own_cells old d) d.subs image.came) ready.valid).1 at_j at_came;
+        fits = cells_of_sub (λ at xs. FitsAt xs image.numbers at) (λ at xs ys. fits_left ys) (λ at xs ys. fits_right xs) old _ d.subs j s at_j subs_fit;
+        rules = part_apart old d image.numbers RulesHold rules_split (own_cells old d) d.subs image.came
+            (rules_split (own_slots old d image.version image.numbers) _ ready.valid).1 j s v at_j at_came;
         within = (low, high);
       }
 
   fact : (l : ℕ) (t : Sub) → slice_get e.subs l ≡ Some t → FactOf t
-  fact l t at_l = by_found _ refl where
-    by_came : (j : ℕ) (s : Sub) (o : Option ℕ) → slice_get d.subs j ≡ Some s → s.desc.name ≡ t.desc.name → slice_get image.came j ≡ Some o
-        → find_sub 0 d.subs t.desc.name ≡ Some j → FactOf t
-    by_came j s None at_j names at_came found = stayed l t at_l (rw (found, at_came)) (rw (found, at_j, at_came))
-    by_came j s (Some v) at_j names at_came found = inr (came_is j l s t v at_j at_l names at_came found)
-
-    by_found : (r : Option ℕ) → find_sub 0 d.subs t.desc.name ≡ r → FactOf t
-    by_found None h = stayed l t at_l (rw h) (rw h)
-    by_found (Some r) h =
-        let f = found_sub d.subs t.desc.name r h in
-        let c = came_at d.subs image.came r f.sub ready.normal.subs f.there in
-        by_came r f.sub c.0 f.there f.name_is c.1 h
+  fact l t at_l = elim (look_up d.subs t.desc.name) [ inl none ↦ stayed l t at_l (rw none) (rw none) | inr f ↦ by_came f _ refl ] where
+    by_came : (f : Found d.subs t.desc.name) (o : Option (Option ℕ)) → slice_get image.came f.number ≡ o → FactOf t
+    by_came f (Some (Some v)) at_came = inr (came_is f.number l f.sub t v f.there at_l f.name_is at_came f.found)
+    by_came f None at_came = stayed l t at_l (rw (f.found, at_came)) (rw (f.found, f.there, at_came))
+    by_came f (Some None) at_came = stayed l t at_l (rw (f.found, at_came)) (rw (f.found, f.there, at_came))
 
   facts_from : (l : ℕ) (ts : List Sub) → RestAt e.subs l ts → Facts old new good_old good_new d e image numbers' came_of ts
   facts_from l [] h = tt

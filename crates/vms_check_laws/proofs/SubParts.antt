@@ -1,33 +1,39 @@
 -- The subsections of a device: by name, the part that each has of a list, and the cells that are in the bytes. Each cell of a device
 -- after its own fields is one of a subsection.
 use Rattle.vms_check_laws.proofs.Facade.{◌≡◌, ◌⊎◌, inl, inr, ℕ, zero, suc, ◌+◌, ◌<◌, ◌≤◌, Bool, true, false, ◌||◌, List, ◌∷◌, ◌++◌, length, get_or, Option}
-use Rattle.vms_check_laws.proofs.Facade.{Some, None, ℤ, refl, sym, ◌∙◌, arith, flat_map, slice_get, length-append, if◌then◌else◌, bytes_eq, bytes_eq-Decides}
-use Rattle.vms_check_laws.proofs.Facade.{cases_lt, [], slice_get-get_or, Sub, Device, Set, Cell, desc_cells, device_cells, struct_cells, has_cell, own_cells}
-use Rattle.vms_check_laws.proofs.Facade.{came_slots, sub_slots, sub_place, find_sub, names_append, sub_size, places_apart, IsCellOf}
+use Rattle.vms_check_laws.proofs.Facade.{Some, None, ℤ, refl, sym, ◌∙◌, arith, flat_map, slice_get, length-append, bytes_eq, bytes_eq-Decides, cases_lt, []}
+use Rattle.vms_check_laws.proofs.Facade.{slice_get-get_or, Sub, Device, Set, Cell, desc_cells, device_cells, struct_cells, has_cell, own_cells, came_slots}
+use Rattle.vms_check_laws.proofs.Facade.{sub_slots, sub_place, find_sub, names_append, sub_size, places_apart, IsCellOf}
 use Rattle.vms_check_laws.proofs.PairLists.{IsBehind, at_left, at_right, before_or_behind, behind_at}
+use Rattle.vms_check_laws.proofs.Segments.{RestAt, at_first, one_on, from_zero}
+use Rattle.vms_check_laws.proofs.Positioned.{if_is}
 
 -- ---- what has a name, and where it is
 
-pub record Found (subs : List Sub) (name : List ℕ) (l : ℕ) : Type 0 where
+pub record Found (subs : List Sub) (name : List ℕ) : Type 0 where
+  pub number : ℕ
   pub sub : Sub
-  pub there : slice_get subs l ≡ Some sub
+  pub found : find_sub 0 subs name ≡ Some number
+  pub there : slice_get subs number ≡ Some sub
   pub name_is : sub.desc.name ≡ name
 
-found_from : (k : ℕ) (subs : List Sub) (name : List ℕ) (r : ℕ) → find_sub k subs name ≡ Some r → (j : ℕ) × (r ≡ k + j) × Found subs name j
-found_from k [] name r h = absurd (cc)
-found_from k (s ∷ subs) name r h =
-    let choice : (c : Bool) → bytes_eq s.desc.name name ≡ c → (if c then Some k else find_sub (suc k) subs name) ≡ Some r → (j : ℕ) × (r ≡ k + j) × Found
-    (s ∷ subs) name j = elim [
-      | true ↦ λ e g. let same : k ≡ r = cc in (0, omega arith, record { sub = s; there = refl; name_is = (bytes_eq-Decides s.desc.name name).0 e })
-      | false ↦ λ e g. let f = found_from (suc k) subs name r g in (suc f.0, omega arith, record { sub = f.2.sub; there = f.2.there; name_is = f.2.name_is })
-    ] in
-    choice (bytes_eq s.desc.name name) refl h
+found_from : (all : List Sub) (name : List ℕ) (k r : ℕ) (subs : List Sub) → RestAt all k subs → find_sub k subs name ≡ Some r
+    → (s : Sub) × (slice_get all r ≡ Some s) × (s.desc.name ≡ name)
+found_from all name k r [] at h = absurd (cc)
+found_from all name k r (s ∷ subs) at h = elim (if_is (λ o. o) (bytes_eq s.desc.name name) (Some k) (find_sub (suc k) subs name) h) [
+  | inl now ↦
+      let same : k ≡ r = cc (now.1) in
+      (s, rw same at (at_first (slice_get all) k at), (bytes_eq-Decides s.desc.name name).0 now.0)
+  | inr later ↦ found_from all name (suc k) r subs (one_on (slice_get all) k at) later.1
+]
 
-pub found : (subs : List Sub) (name : List ℕ) (l : ℕ) → find_sub 0 subs name ≡ Some l → Found subs name l
-found subs name l h =
-    let f = found_from 0 subs name l h in
-    let same : f.0 ≡ l = omega arith in
-    rw (← same) f.2
+pub look_up : (subs : List Sub) (name : List ℕ) → (find_sub 0 subs name ≡ None) ⊎ Found subs name
+look_up subs name = by (find_sub 0 subs name) refl where
+  by : (r : Option ℕ) → find_sub 0 subs name ≡ r → (find_sub 0 subs name ≡ None) ⊎ Found subs name
+  by None h = inl h
+  by (Some r) h =
+      let f = found_from subs name 0 r subs (from_zero (slice_get subs)) h in
+      inr (record { number = r; sub = f.0; found = h; there = f.1; name_is = f.2 })
 
 -- ---- lists that have one part for each subsection
 
@@ -120,14 +126,9 @@ has_part set d numbers from (s ∷ subs) (Some v ∷ came) c e =
     elim (or_split (has_cell (sub_slots set s v numbers from) c) _
     (sym (names_append (sub_slots set s v numbers from) (came_slots set d numbers next subs came) c) ∙ e)) [
       | inl f ↦ record { j = 0; sub = s; version = v; there = refl; is_come = refl; has = f }
-      | inr f ↦ let h = has_part set d numbers next subs came c f.1 in record {
-        j = suc h.j;
-        sub = h.sub;
-        version = h.version;
-        there = h.there;
-        is_come = h.is_come;
-        has = h.has;
-      }
+      | inr f ↦
+          let h = has_part set d numbers next subs came c f.1 in
+          record { j = suc h.j; sub = h.sub; version = h.version; there = h.there; is_come = h.is_come; has = h.has }
     ]
 
 -- two numbers of which neither is below the other are one
@@ -144,24 +145,17 @@ one_part set from subs i j c s t e f low high low' high' =
 -- ---- each cell
 
 module _ (set : Set) where
-  -- cell c is one of subsection j of these, the first of which begins at a place
-  pub record IsIn (from : ℕ) (subs : List Sub) (c : ℕ) : Type 0 where
-    pub j : ℕ
-    pub sub : Sub
-    pub is : slice_get subs j ≡ Some sub
-    pub low : sub_place set from subs j ≤ c
-    pub high : c < sub_place set from subs j + sub_size set sub
-
   abbrev cells_of : Sub → List Cell
   cells_of s = desc_cells (struct_cells set) s.desc
 
-  in_one : (from : ℕ) (subs : List Sub) (c : ℕ) → from ≤ c → c < from + length (flat_map cells_of subs) → IsIn from subs c
+  in_one : (from : ℕ) (subs : List Sub) (c : ℕ) → from ≤ c → c < from + length (flat_map cells_of subs)
+      → (j : ℕ) × (s : Sub) × (slice_get subs j ≡ Some s) × (sub_place set from subs j ≤ c) × (c < sub_place set from subs j + sub_size set s)
   in_one from [] c low high = absurd (omega arith)
   in_one from (s ∷ subs) c low high = elim (cases_lt c (from + sub_size set s)) [
-    | inl lt ↦ record { j = 0; sub = s; is = refl; low = low; high = lt }
+    | inl lt ↦ (0, s, refl, low, lt)
     | inr le ↦
         let rest = in_one (from + sub_size set s) subs c le (omega (arith, length-append (cells_of s) (flat_map cells_of subs))) in
-        record { j = suc rest.j; sub = rest.sub; is = rest.is; low = rest.low; high = rest.high }
+        (suc rest.0, rest.1, rest.2, rest.3, rest.4)
   ]
 
   -- a cell of the device is its own, or one of a subsection
@@ -170,5 +164,5 @@ module _ (set : Set) where
     | inl own ↦ inl own
     | inr le ↦
         let i = in_one _ d.subs c le (omega (arith, length-append (desc_cells (struct_cells set) d.desc) (flat_map cells_of d.subs))) in
-        inr (i.j, i.sub, record { is = i.is; low = i.low; high = i.high })
+        inr (i.0, i.1, record { is = i.2; low = i.3; high = i.4 })
   ]

@@ -1,10 +1,10 @@
 -- Devices of the older set and of the newer one, and the sections before the one that a mismatch concerns.
 use Rattle.vms_counter_laws.proofs.Facade.{ap, subst, ◌≡◌, ℕ, zero, suc, ◌+◌, ◌<◌, ◌≤◌, Bool, true, false, List, [], ◌∷◌, ◌++◌, length, slice_set, Some, None}
 use Rattle.vms_counter_laws.proofs.Facade.{refl, sym, ◌∙◌, arith, append_assoc, slice_get, length-set, slice_get_within, first_answer, IsBytes, Device, Set}
-use Rattle.vms_counter_laws.proofs.Facade.{FitsHeads, Image, IsReady, written_section, written_sections, find_device, Accepted, WellFormed, here, reading_on}
-use Rattle.vms_counter_laws.proofs.Facade.{at_other, bytes_rest, Tail, Footed, Bare, judge, between, by_state, BeginsSection, section_read_holds}
-use Rattle.vms_counter_laws.proofs.Facade.{section_found_holds, compare_device, failing_pair, is_in, carried_device, ArePaired, compared, Pair, pair, back}
-use Rattle.vms_counter_laws.proofs.Facade.{device_stands, at_first, one_on, saved, found_same}
+use Rattle.vms_counter_laws.proofs.Facade.{FitsHeads, Image, IsReady, written_section, written_sections, Accepted, WellFormed, here, reading_on, at_other}
+use Rattle.vms_counter_laws.proofs.Facade.{bytes_rest, Tail, Footed, Bare, judge, between, by_state, BeginsSection, section_read_holds, section_found_holds}
+use Rattle.vms_counter_laws.proofs.Facade.{compare_device, failing_pair, is_in, carried_device, ArePaired, compared, Pair, pair, back, device_stands}
+use Rattle.vms_counter_laws.proofs.Facade.{at_first, one_on, saved}
 use Rattle.vms_spec.specs.declared.Part.TheVariants as parts
 use Rattle.vms_stream.specs.State.{State}
 
@@ -13,8 +13,8 @@ module _ (old new : Set) (good_old : WellFormed old) (good_new : WellFormed new)
   two_apart : (i i' : ℕ) (d d' : Device) → i < i' → slice_get old.devices i ≡ Some d → slice_get old.devices i' ≡ Some d'
       → (p : Pair old new good_old all_in i d) (q : Pair old new good_old all_in i' d') → p.number ≡ q.number → ⊥
   two_apart i i' d d' lt e e' p q numbers =
-      let indices = found_same new.devices (λ (u : Device). find_device 0 old.devices u.desc.name u.instance) p.number q.number i i' p.device q.device
-      numbers p.stands q.stands (back old new good_old all_in i d e p) (back old new good_old all_in i' d' e' q) in
+      let one : p.device ≡ q.device = cc (p.stands, q.stands) in
+      let indices : i ≡ i' = cc (back old new good_old all_in i d e p, back old new good_old all_in i' d' e' q) in
       omega arith
 
   -- the devices of old from i on have not come

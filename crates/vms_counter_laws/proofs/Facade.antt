@@ -73,7 +73,7 @@ pub use Rattle.vms_check_laws.proofs.Premises.{Two, kinds_same}
 pub use Rattle.vms_check_laws.proofs.Segments.{RestAt, apart, at_first, fits_left, from_zero, one_on}
 pub use Rattle.vms_check_laws.proofs.Streaming.{Pair, back, compared, device_stands, pair}
 pub use Rattle.vms_check_laws.proofs.SubFacts.{fits_whole, saved}
-pub use Rattle.vms_check_laws.proofs.Wholes.{at_map, found_same}
+pub use Rattle.vms_check_laws.proofs.Wholes.{at_map}
 pub use Rattle.vms_check_laws.specs.Laws.{ArePaired}
 pub use Rattle.vms_check_laws.specs.Segments.{FitsAt}
 pub use Rattle.vms_counter_laws.specs.Candidates.{candidates, default_images, lacking, machine_for}

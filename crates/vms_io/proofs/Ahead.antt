@@ -1,10 +1,7 @@
 -- The bytes that a buffered reader still gives, as they are read and given.
-use Rattle.std.proofs.Common.{◌≡◌, ℕ, ◌+◌, ◌-◌, ◌≤◌, Bool, true, false, ◌&&◌, List, ◌++◌, length, take, drop, Option, Some, None, if◌then◌else◌, refl, sym, ap, ◌∙◌, arith, append_assoc, length-take-le}
-use Rattle.std.proofs.lemmas.List.{take-take}
-use Rattle.std.proofs.lemmas.List.Folds.{list_all-append}
-use Rattle.std.specs.Io.KnownBytes.{Consumes, Keeps}
-use Rattle.vms_io.specs.Ahead.{ahead, are_bytes, bytes_only}
-use Rattle.vms_io.specs.Gathered.{between}
+use Rattle.vms_io.proofs.Facade.{◌≡◌, ℕ, ◌+◌, ◌-◌, ◌≤◌, Bool, true, false, ◌&&◌, List, ◌++◌, length, take, drop, Option, Some, None, if◌then◌else◌, refl, sym}
+use Rattle.vms_io.proofs.Facade.{ap, ◌∙◌, arith, append_assoc, length-take-le, take-take, list_all-append, Consumes, Keeps, ahead, are_bytes, bytes_only}
+use Rattle.vms_io.proofs.Facade.{between}
 use Rattle.vms_io.proofs.Filling.{left_split}
 use Rattle.vms_io.proofs.Gathering.{part_is}
 

@@ -1,9 +1,7 @@
 -- Bytes that are buffered for a writer, and flushed.
-use Rattle.std.proofs.Common.{◌≡◌, refl, append-nil, ℕ, ◌+◌, ◌-◌, ◌≤◌, List, [], ◌++◌, length, take, drop, Option, Some, None, Result, Ok, Err, sym, ap, ◌∙◌, subst, arith, append_assoc, take-append-drop, drop-drop, length-take}
-use Rattle.std.proofs.lemmas.List.{drop-take, drop_all, drop-append-le}
-use Rattle.std.specs.Io.KnownBytes.{Keeps, Appends}
-use Rattle.vms_io.specs.Causes.{HasCause}
-use Rattle.vms_io.specs.Gathered.{told, between, KeepsFront}
+use Rattle.vms_io.proofs.Facade.{◌≡◌, refl, append-nil, ℕ, ◌+◌, ◌-◌, ◌≤◌, List, [], ◌++◌, length, take, drop, Option, Some, None, Result, Ok, Err, sym, ap, ◌∙◌}
+use Rattle.vms_io.proofs.Facade.{subst, arith, append_assoc, take-append-drop, drop-drop, length-take, drop-take, drop_all, drop-append-le, Keeps, Appends}
+use Rattle.vms_io.proofs.Facade.{HasCause, told, between, KeepsFront}
 
 -- a part of the buffer, taken from its first byte
 pub part_is : (room : List ℕ) (b e : ℕ) → b ≤ e → take (e - b) (drop b room) ≡ between room b e

@@ -1,4 +1,5 @@
 pub mod Ahead
+pub mod Facade
 pub mod Filling
 pub mod Gathering
 pub mod PutLemmas

@@ -1,11 +1,6 @@
 -- A shelf in memory after bytes were put under a name.
-use Rattle.std.proofs.Common.{◌≡◌, ◌≢◌, ℕ, Bool, true, false, cond, List, Option, Some, Result, Ok, Err, OnErr, ap, sym, ◌∙◌, refl, subst}
-use Rattle.std.proofs.lemmas.Slice.Eq.{bytes_eq-Decides}
-use Rattle.std.specs.Option.{option_map}
-use Rattle.std.specs.Str.{bytes_eq}
-use Rattle.std.specs.Map.{update}
-use Rattle.vms_kinds.specs.Bytes.{IsBytes}
-use Rattle.vms_io.specs.Shelves.{Held, HoldsAll, HoldsBytes, PutsUnder, KeepsOthers}
+use Rattle.vms_io.proofs.Facade.{◌≡◌, ◌≢◌, ℕ, Bool, true, false, cond, List, Option, Some, Result, Ok, Err, OnErr, ap, sym, ◌∙◌, refl, subst, bytes_eq-Decides}
+use Rattle.vms_io.proofs.Facade.{option_map, bytes_eq, update, IsBytes, Held, HoldsAll, HoldsBytes, PutsUnder, KeepsOthers}
 
 differ : (b : Bool) {X : Type 0} (x y : X) → (b ≡ true → ⊥) → cond b x y ≡ y
 differ true x y never = absurd (never refl)

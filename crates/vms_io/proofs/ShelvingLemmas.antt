@@ -1,8 +1,5 @@
 -- Calls over a shelf, one after the other, and shelves whose contents are known.
-use Rattle.std.proofs.Common.{◌≡◌, List, ℕ, Option, Some, None, refl, ◌∙◌, subst, arith}
-use Rattle.vms_io.specs.Shelves.{Held, IfToldBoth, PutsUnder}
-use Rattle.vms_io.specs.Shelving.{Looks, Reaches, Stores}
-use Rattle.vms_io.specs.Told.{Stock}
+use Rattle.vms_io.proofs.Facade.{◌≡◌, List, ℕ, Option, Some, None, refl, ◌∙◌, subst, arith, Held, IfToldBoth, PutsUnder, Looks, Reaches, Stores, Stock}
 
 pub reaches_none : (a : Stock) → Reaches a a
 reaches_none a = record { later = omega arith; promise = refl }

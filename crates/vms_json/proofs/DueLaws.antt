@@ -13,8 +13,8 @@ use Rattle.vms_json.proofs.LaidLaws.{no_members_laid, object_laid, value_in_list
 
 pub enough_fewer : (fs : List Frame) (m n : ℕ) → n ≤ m → AreEnough fs m → AreEnough fs n
 enough_fewer [] m n le are = tt
-enough_fewer (in_list k done ∷ fs) m n le are = (omega (arith, le, are.0), enough_fewer fs m n le are.1)
-enough_fewer (in_object k found key ∷ fs) m n le are = (omega (arith, le, are.0), enough_fewer fs m n le are.1)
+enough_fewer (in_list k done ∷ fs) m n le are = (omega arith, enough_fewer fs m n le are.1)
+enough_fewer (in_object k found key ∷ fs) m n le are = (omega arith, enough_fewer fs m n le are.1)
 
 pub open_count : (fs : List Frame) (rs : List Row) (starts : List ℕ) → IsLaid fs rs starts → length starts ≡ length fs
 open_count [] rs starts laid = ap length laid.1
@@ -63,8 +63,8 @@ inner_lowered (in_object n found k ∷ fs) = refl
 
 enough_lowered : (fs : List Frame) (m : ℕ) → AreEnough fs (suc m) → AreEnough (lowered fs) m
 enough_lowered [] m are = tt
-enough_lowered (in_list n done ∷ fs) m are = (omega (arith, are.0), enough_fewer fs (suc m) m (omega arith) are.1)
-enough_lowered (in_object n found k ∷ fs) m are = (omega (arith, are.0), enough_fewer fs (suc m) m (omega arith) are.1)
+enough_lowered (in_list n done ∷ fs) m are = (omega arith, enough_fewer fs (suc m) m (omega arith) are.1)
+enough_lowered (in_object n found k ∷ fs) m are = (omega arith, enough_fewer fs (suc m) m (omega arith) are.1)
 
 begins : (said : Option (Data × List Token)) (laid : Laid) (t : Token) (ts : List Token) → after_end_array (t ∷ ts) ≡ None → IsUnder said laid (t ∷ ts) → Begins said laid t ts
 begins said laid t ts going is = record {
@@ -95,10 +95,7 @@ token_laid said laid now t ts r going is row rows_are open_are flag_is =
       frames = b.frames;
       value = rows_view (r ∷ []);
       says = b.says ∙ value_ends b.frames (t ∷ ts) ts (rows_view (r ∷ [])) (row.says (room b.frames) ts);
-      rows =
-          subst (λ rs. HasValue b.frames rs now.begun.items (rows_view (r ∷ []))) (sym rows_are)
-          (subst (λ starts. HasValue b.frames (laid.rows.items ++ r ∷ []) starts (rows_view (r ∷ []))) (sym open_are)
-          (run_laid b.frames laid.rows.items (r ∷ []) laid.begun.items (rows_view (r ∷ [])) b.rows (row_laid t r row)));
+      rows = rw rows_are (rw open_are (run_laid b.frames laid.rows.items (r ∷ []) laid.begun.items (rows_view (r ∷ [])) b.rows (row_laid t r row)));
       inner = flag_is ∙ b.inner;
       enough = b.enough;
     }
@@ -150,13 +147,10 @@ pub list_opened : (said : Option (Data × List Token)) (laid now : Laid) (ts : L
     → now.rows.items ≡ laid.rows.items ++ rows.List n ∷ [] → now.begun.items ≡ laid.begun.items ++ length laid.rows.items ∷ [] → now.in_list ≡ true → IsUnder said now ts
 list_opened said laid now ts n is deep rows_are open_are flag_is =
     let b = begins said laid Token.begin_array ts refl is in
-    let fs : List Frame = in_list (length ts) [] ∷ b.frames in
     record {
-      frames = fs;
-      says = b.says ∙ list_begins b.frames ts (omega (arith, deep, open_count b.frames laid.rows.items laid.begun.items b.rows));
-      rows =
-          subst (λ rs. IsLaid fs rs now.begun.items) (sym rows_are)
-          (subst (λ starts. IsLaid fs (laid.rows.items ++ rows.List n ∷ []) starts) (sym open_are) (list_begun b.frames laid.rows.items laid.begun.items n b.rows));
+      frames = in_list (length ts) [] ∷ b.frames;
+      says = b.says ∙ list_begins b.frames ts (omega (arith, open_count b.frames laid.rows.items laid.begun.items b.rows));
+      rows = rw rows_are (rw open_are (list_begun b.frames laid.rows.items laid.begun.items n b.rows));
       inner = flag_is;
       enough = (omega arith, b.enough);
     }
@@ -214,7 +208,7 @@ object_too_deep said laid ts is deep = too_deep said laid Token.begin_object ts 
 pub object_no_key : (said : Option (Data × List Token)) (laid : Laid) (ts : List Token) → IsUnder said laid (Token.begin_object ∷ ts) → length laid.begun.items < max_depth → read_key ts ≡ None → said ≡ None
 object_no_key said laid ts is deep none =
     let b = begins said laid Token.begin_object ts refl is in
-    b.says ∙ object_begins b.frames ts (omega (arith, deep, open_count b.frames laid.rows.items laid.begun.items b.rows)) ∙ no_key (length ts) no_members b.frames ts none
+    b.says ∙ object_begins b.frames ts (omega (arith, open_count b.frames laid.rows.items laid.begun.items b.rows)) ∙ no_key (length ts) no_members b.frames ts none
 
 pub object_empty : (said : Option (Data × List Token)) (laid now : Laid) (ts rest : List Token) → IsUnder said laid (Token.begin_object ∷ ts) → length laid.begun.items < max_depth
     → read_key ts ≡ Some (None, rest) → now.rows.items ≡ laid.rows.items ++ rows.Object 1 ∷ [] → now.begun.items ≡ laid.begun.items → now.in_list ≡ laid.in_list → HasEnded said now rest
@@ -224,12 +218,10 @@ object_empty said laid now ts rest is deep over rows_are open_are flag_is =
       frames = b.frames;
       value = object no_members;
       says =
-          b.says ∙ object_begins b.frames ts (omega (arith, deep, open_count b.frames laid.rows.items laid.begun.items b.rows))
+          b.says ∙ object_begins b.frames ts (omega (arith, open_count b.frames laid.rows.items laid.begun.items b.rows))
           ∙ object_ends (length ts) no_members b.frames ts rest (omega arith) over;
       rows =
-          subst (λ rs. HasValue b.frames rs now.begun.items (object no_members)) (sym rows_are)
-          (subst (λ starts. HasValue b.frames (laid.rows.items ++ rows.Object 1 ∷ []) starts (object no_members)) (sym open_are)
-          (run_laid b.frames laid.rows.items (rows.Object 1 ∷ []) laid.begun.items (object no_members) b.rows (object_laid [] no_members no_members_laid)));
+          rw rows_are (rw open_are (run_laid b.frames laid.rows.items (rows.Object 1 ∷ []) laid.begun.items (object no_members) b.rows (object_laid [] no_members no_members_laid)));
       inner = flag_is ∙ b.inner;
       enough = enough_fewer b.frames (length ts) (length rest) (omega (arith, read_key-shorter ts None rest over)) b.enough;
     }
@@ -240,18 +232,15 @@ pub object_opened : (said : Option (Data × List Token)) (laid now : Laid) (ts r
 object_opened said laid now ts rest k n is deep named rows_are open_are flag_is =
     let b = begins said laid Token.begin_object ts refl is in
     let fewer = read_key-shorter ts (Some k.now) rest named in
-    let fs : List Frame = in_object (length ts - 1) no_members k.now ∷ b.frames in
     let rs : List Row = laid.rows.items ++ rows.Object n ∷ [] in
     let starts : List ℕ = laid.begun.items ++ length laid.rows.items ∷ [] in
     record {
-      frames = fs;
+      frames = in_object (length ts - 1) no_members k.now ∷ b.frames;
       says =
-          b.says ∙ object_begins b.frames ts (omega (arith, deep, open_count b.frames laid.rows.items laid.begun.items b.rows))
-          ∙ member_due (length ts) no_members k.now b.frames ts rest (omega (arith, fewer)) named;
+          b.says ∙ object_begins b.frames ts (omega (arith, open_count b.frames laid.rows.items laid.begun.items b.rows))
+          ∙ member_due (length ts) no_members k.now b.frames ts rest (omega arith) named;
       rows =
-          subst (λ rs. IsLaid fs rs now.begun.items) (sym rows_are)
-          (subst (λ places. IsLaid fs (rs ++ rows.Key k ∷ []) places) (sym open_are)
-          (key_laid (length ts - 1) no_members b.frames rs starts k (object_begun b.frames laid.rows.items laid.begun.items n b.rows)));
+          rw rows_are (rw open_are (key_laid (length ts - 1) no_members b.frames rs starts k (object_begun b.frames laid.rows.items laid.begun.items n b.rows)));
       inner = flag_is;
-      enough = (omega (arith, fewer), enough_fewer b.frames (length ts) (length rest) (omega (arith, fewer)) b.enough);
+      enough = (omega arith, enough_fewer b.frames (length ts) (length rest) (omega arith) b.enough);
     }

@@ -19,7 +19,7 @@ found a r s (Some y) b e = let same = ap (pick (y, r)) e in (ap (λ p. p.1) same
 
 pub converted_some : {A B : Type 0} (f : A → Option B) (o : Option (A × List Token)) (b : B) (r : List Token) → converted f o ≡ Some (b, r) → (a : A) × (o ≡ Some (a, r)) × (f a ≡ Some b)
 converted_some f None b r e = absurd (cc)
-converted_some f (Some p) b r e = let both = found p.0 p.1 r (f p.0) b e in (p.0, ap (λ s. Some (p.0, s)) both.0, both.1)
+converted_some f (Some p) b r e = let both = found p.0 p.1 r (f p.0) b e in (p.0, rw (both.0), both.1)
 
 refused : {B : Type 0} (r : List Token) (x : Option B) → option_map {U = B × List Token} (λ y. (y, r)) x ≡ None → x ≡ None
 refused r None e = refl
@@ -66,7 +66,7 @@ module _ (p : Parse json.Json) where
   pub item_refused : (n : ℕ) (ts : List Token) → after_end_array ts ≡ None → converted of_json (p ts) ≡ None → converted of_items (items p n ts) ≡ None
   unfolding items
   item_refused zero ts going e = refl
-  item_refused (suc n) ts going e = ap (λ o. converted of_items (items_step p (items p n) ts o)) going ∙ no_item (items p n) (p ts) e
+  item_refused (suc n) ts going e = rw going (no_item (items p n) (p ts) e)
 
   pub items_over : (n : ℕ) (ts r : List Token) → length ts ≤ n → after_end_array ts ≡ Some r → converted of_items (items p n ts) ≡ Some (no_items, r)
   items_over n ts r enough e = ap (converted of_items) (items_end p n ts r enough e)
@@ -160,16 +160,16 @@ item_due n done fs ts enough going = by_value (converted of_json (value (room (i
   where
     by_value : (o : Option (Data × List Token)) → converted of_json (value (max_depth - suc (length fs)) ts) ≡ o
         → items_due n done fs ts ≡ option_and_then (λ p. after (in_list (n - 1) done ∷ fs) p.0 p.1) o
-    by_value None e = ap (option_and_then (λ p. after fs (array (before done p.0)) p.1)) (item_refused (inside fs) n ts going (ap (λ m. converted of_json (value m ts)) (a_level fs) ∙ e))
+    by_value None e = ap (option_and_then (λ p. after fs (array (before done p.0)) p.1)) (item_refused (inside fs) n ts going (rw (a_level fs) (e)))
     by_value (Some (d, r)) e =
         ap (option_and_then (λ p. after fs (array (before done p.0)) p.1))
-        (item_read (inside fs) n ts r d (some_tokens n (max_depth - suc (length fs)) ts r d enough e) going (ap (λ m. converted of_json (value m ts)) (a_level fs) ∙ e))
+        (item_read (inside fs) n ts r d (some_tokens n (max_depth - suc (length fs)) ts r d enough e) going (rw (a_level fs) (e)))
         ∙ mapped (item d) (λ is. after fs (array (before done is))) (converted of_items (items (inside fs) (n - 1) r))
         ∙ again (converted of_items (items (inside fs) (n - 1) r))
       where
         again : (o : Option (Items × List Token)) → option_and_then (λ q. after fs (array (before done (item d q.0))) q.1) o ≡ option_and_then (λ q. after fs (array (before (done ++ d ∷ []) q.0)) q.1) o
         again None = refl
-        again (Some q) = ap (λ is. after fs (array is) q.1) (sym (before_one done d q.0))
+        again (Some q) = rw (sym (before_one done d q.0))
 
 -- ---- the members of an object
 
@@ -186,9 +186,9 @@ member_due n found k fs ts s some key = by_value (converted of_json (value (room
   where
     by_value : (o : Option (Data × List Token)) → converted of_json (value (max_depth - suc (length fs)) s) ≡ o
         → members_due n found fs ts ≡ option_and_then (λ p. after (in_object (n - 1) found k ∷ fs) p.0 p.1) o
-    by_value None e = ap (option_and_then (λ p. after fs (object p.0) p.1)) (member_refused (inside fs) found n k ts s key (ap (λ m. converted of_json (value m s)) (a_level fs) ∙ e))
+    by_value None e = ap (option_and_then (λ p. after fs (object p.0) p.1)) (member_refused (inside fs) found n k ts s key (rw (a_level fs) (e)))
     by_value (Some (d, r)) e =
-        ap (option_and_then (λ p. after fs (object p.0) p.1)) (member_read (inside fs) found n k ts s r d some key (ap (λ m. converted of_json (value m s)) (a_level fs) ∙ e))
+        ap (option_and_then (λ p. after fs (object p.0) p.1)) (member_read (inside fs) found n k ts s r d some key (rw (a_level fs) (e)))
 
 -- ---- What a whole text says: before its first token, and if it says nothing.
 

@@ -18,7 +18,7 @@ pub whole_ended : (said : Option (Data × List Token)) (laid : Laid) (ts : List 
 whole_ended said laid ts is none = at is.frames is.says is.rows
   where
     at : (fs : List Frame) → said ≡ after fs is.value ts → HasValue fs laid.rows.items laid.begun.items is.value → IsWhole said laid ts
-    at [] says has = record { value = is.value; says = says; run = subst (λ rs. IsRun rs is.value) (sym (has.are ∙ ap (λ b. b ++ has.run) has.laid.0)) has.value }
+    at [] says has = record { value = is.value; says = says; run = rw (has.are ∙ ap (λ b. b ++ has.run) has.laid.0) has.value }
     at (in_list n done ∷ fs) says has = let l = has.laid in absurd (none_open l.places (length l.below) (sym l.begins ∙ none))
     at (in_object n found k ∷ fs) says has = let l = has.laid.laid in absurd (none_open l.places (length l.below) (sym l.begins ∙ none))
 
@@ -33,7 +33,7 @@ pub record Member (said : Option (Data × List Token)) (laid : Laid) (ts : List 
   pub more : AreEnough around (length ts)
 
 some_open : {P : Type 0} (open_are : List ℕ) → 0 < length open_are → open_are ≡ [] → P
-some_open starts some none = absurd (omega (arith, some, ap length none))
+some_open starts some none = absurd (omega (arith, ap length none))
 
 pub member_ended : (said : Option (Data × List Token)) (laid : Laid) (ts : List Token) → HasEnded said laid ts → laid.in_list ≡ false → 0 < length laid.begun.items → Member said laid ts
 member_ended said laid ts is outside some = at is.frames is.says is.rows (sym outside ∙ is.inner) is.enough
@@ -59,16 +59,12 @@ pub member_goes_on : (said : Option (Data × List Token)) (laid now : Laid) (ts 
     → now.rows.items ≡ laid.rows.items ++ rows.Key k ∷ [] → now.begun.items ≡ laid.begun.items → now.in_list ≡ false → IsUnder said now rest
 member_goes_on said laid now ts rest k m named rows_are open_are flag_is =
     let fewer = read_key-shorter ts (Some k.now) rest named in
-    let fs : List Frame = in_object (m.turns - 1) m.found k.now ∷ m.around in
     record {
-      frames = fs;
-      says = m.says ∙ member_due m.turns m.found k.now m.around ts rest (omega (arith, fewer, m.enough)) named;
-      rows =
-          subst (λ rs. IsLaid fs rs now.begun.items) (sym rows_are)
-          (subst (λ starts. IsLaid fs (laid.rows.items ++ rows.Key k ∷ []) starts) (sym open_are)
-          (key_laid (m.turns - 1) m.found m.around laid.rows.items laid.begun.items k m.rows));
+      frames = in_object (m.turns - 1) m.found k.now ∷ m.around;
+      says = m.says ∙ member_due m.turns m.found k.now m.around ts rest (omega arith) named;
+      rows = rw rows_are (rw open_are (key_laid (m.turns - 1) m.found m.around laid.rows.items laid.begun.items k m.rows));
       inner = flag_is;
-      enough = (omega (arith, fewer, m.enough), enough_fewer m.around (length ts) (length rest) (omega (arith, fewer)) m.more);
+      enough = (omega arith, enough_fewer m.around (length ts) (length rest) (omega arith) m.more);
     }
 
 -- the object ends, and is itself a value
@@ -96,9 +92,7 @@ at_end [] s = refl
 at_end (r ∷ ss) s = at_end ss s
 
 pub at_last : (ss : List ℕ) (s : ℕ) → slice_get (ss ++ s ∷ []) (length (ss ++ s ∷ []) - 1) ≡ Some s
-at_last ss s =
-    let one : length (ss ++ s ∷ []) - 1 ≡ length ss = omega (arith, length-append ss (s ∷ [])) in
-    ap (slice_get (ss ++ s ∷ [])) one ∙ at_end ss s
+at_last ss s = ap (slice_get (ss ++ s ∷ [])) (omega (arith, length-append ss (s ∷ []))) ∙ at_end ss s
 
 abbrev unwrap : ℕ → Option ℕ → ℕ
 unwrap d None = d
@@ -112,7 +106,7 @@ no_place s e = absurd (cc)
 
 pub below_at : (ss : List ℕ) (m i s : ℕ) → AreBelow ss m → Some s ≡ slice_get ss i → s < m
 below_at [] m i s are e = no_place s (sym e)
-below_at (r ∷ ss) m zero s are e = subst (λ k. k < m) (sym (one_place s r e)) are.0
+below_at (r ∷ ss) m zero s are e = rw (one_place s r e) are.0
 below_at (r ∷ ss) m (suc i) s are e = below_at ss m i s are.1 e
 
 pub below_front : (ss : List ℕ) (s m : ℕ) → AreBelow (ss ++ s ∷ []) m → AreBelow ss m × (s < m)
@@ -124,11 +118,11 @@ below_front (r ∷ ss) s m are = let more = below_front ss s m are.1 in ((are.0,
 put_back : (f : ℕ → Row) (below own old new : List Row) (r : Row) (at count : ℕ) → old ≡ below ++ r ∷ own → length below ≡ at → count ≡ length old - at → new ≡ set old at (f count)
     → new ≡ below ++ f (length own + 1) ∷ own
 put_back f below own old new r at count are here counted put =
-    let many : count ≡ length own + 1 = omega (arith, counted, here, ap length are, length-append below (r ∷ own)) in
+    let many : count ≡ length own + 1 = omega (arith, ap length are, length-append below (r ∷ own)) in
     put ∙ ap (λ l. set l at (f count)) are ∙ ap (λ i. set (below ++ r ∷ own) i (f count)) (sym here) ∙ ended below own r (f count) ∙ ap (λ n. below ++ f n ∷ own) many
 
 row_at : (b o more : List Row) (r d : Row) → get_or ((b ++ r ∷ o) ++ more) (length b) d ≡ r
-row_at b o more r d = ap (λ l. get_or l (length b) d) (append_assoc b (r ∷ o) more) ∙ get_or_at b r (o ++ more) d (length b) refl
+row_at b o more r d = rw (append_assoc b (r ∷ o) more) (get_or_at b r (o ++ more) d (length b) refl)
 
 -- whether the innermost is a list can be read from the row where it began
 pub record IsTold (rs : List Row) (places : List ℕ) (inner : Bool) : Type 0 where
@@ -154,7 +148,7 @@ list_ended fs done old new starts left at count inner l popped counted put told 
     let are = put_back rows.List l.below l.own old new (rows.List l.count) at count l.are same.1 counted put in (
       subst (λ ps. HasValue fs new ps (array (before done no_items))) same.0
           (subst (λ rs. HasValue fs rs l.places (array (before done no_items))) (sym are) (list_closed fs done old starts l)),
-      around_it fs l.below (rows.List (length l.own + 1) ∷ l.own) left inner (subst (λ ps. IsLaid fs l.below ps) same.0 l.laid) (subst (λ rs. IsTold rs left inner) are told),
+      around_it fs l.below (rows.List (length l.own + 1) ∷ l.own) left inner (rw same.0 at l.laid) (rw are at told),
     )
 
 pub object_ended : (fs : List Frame) (found : Members) (old new : List Row) (starts left : List ℕ) (at count : ℕ) (inner : Bool) → InObject (IsLaid fs) found old starts → starts ≡ left ++ at ∷ []
@@ -164,5 +158,5 @@ object_ended fs found old new starts left at count inner l popped counted put to
     let are = put_back rows.Object l.below l.own old new (rows.Object l.count) at count l.are same.1 counted put in (
       subst (λ ps. HasValue fs new ps (object found)) same.0
           (subst (λ rs. HasValue fs rs l.places (object found)) (sym are) (object_closed fs found old starts l)),
-      around_it fs l.below (rows.Object (length l.own + 1) ∷ l.own) left inner (subst (λ ps. IsLaid fs l.below ps) same.0 l.laid) (subst (λ rs. IsTold rs left inner) are told),
+      around_it fs l.below (rows.Object (length l.own + 1) ∷ l.own) left inner (rw same.0 at l.laid) (rw are at told),
     )

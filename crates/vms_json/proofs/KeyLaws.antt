@@ -14,16 +14,16 @@ use Rattle.vms_json.specs.declared.fault.Fault.TheVariants as faults
 
 pub all_has : (d : Data) (ks : List (Bor (List ℕ))) → list_all (λ k. has k.now d) ks ≡ has_all (map (λ k. k.now) ks) d
 all_has d [] = refl
-all_has d (k ∷ ks) = ap (λ (r : Bool). has k.now d && r) (all_has d ks)
+all_has d (k ∷ ks) = rw (all_has d ks)
 
 pub any_is : (key : List ℕ) (ks : List (Bor (List ℕ))) → list_any (λ k. bytes_eq k.now key) ks ≡ is_one_of (map (λ k. k.now) ks) key
 any_is key [] = refl
-any_is key (k ∷ ks) = ap (λ (r : Bool). bytes_eq k.now key || r) (any_is key ks)
+any_is key (k ∷ ks) = rw (any_is key ks)
 
 -- ---- the keys of members that are added in order
 
 turned : (a b c : Bool) → (a && (b && c)) ≡ ((b && a) && c)
-turned a b c = sym (and_assoc a b c) ∙ ap (λ (t : Bool). t && c) (and_comm a b)
+turned a b c = sym (and_assoc a b c) ∙ ap (λ t. t && c) (and_comm a b)
 
 put_one : (keys : List (List ℕ)) (k : List ℕ) (d : Data) (ms : Members) → has_no_others keys (put k d ms) ≡ (is_one_of keys k && has_no_others keys ms)
 put_one keys k d no_members = refl
@@ -36,7 +36,7 @@ put_one keys k d (member l e ms) = by_order (put_one keys k d ms) (slice_cmp nat
     by_order h Equal is =
         let same : k ≡ l = (bytes_eq-Decides k l).0 (sym (is_eq-slice_cmp k l) ∙ ap is_eq is) in
         sym (and_self_left (is_one_of keys l) (has_no_others keys ms)) ∙ ap (λ n. is_one_of keys n && (is_one_of keys l && has_no_others keys ms)) (sym same)
-    by_order h Greater is = ap (λ (r : Bool). is_one_of keys l && r) h ∙ turned (is_one_of keys l) (is_one_of keys k) (has_no_others keys ms) ∙ and_assoc (is_one_of keys k) (is_one_of keys l) (has_no_others keys ms)
+    by_order h Greater is = rw h (turned (is_one_of keys l) (is_one_of keys k) (has_no_others keys ms) ∙ and_assoc (is_one_of keys k) (is_one_of keys l) (has_no_others keys ms))
 
 -- a key that isn't among them remains
 pub others_stay : (keys : List (List ℕ)) (n : ℕ) (rs : List Row) (found : Members) → has_no_others keys found ≡ false → has_no_others keys (members_in n rs found) ≡ false
@@ -51,7 +51,7 @@ others_stay keys (suc n) _ found e = e
 -- one of the first keys or of the others
 one_more : (needed allowed : List (List ℕ)) (k : List ℕ) (d : Data) (ms : Members)
     → has_no_others (needed ++ allowed) (put k d ms) ≡ ((is_one_of needed k || is_one_of allowed k) && has_no_others (needed ++ allowed) ms)
-one_more needed allowed k d ms = put_one (needed ++ allowed) k d ms ∙ ap (λ (b : Bool). b && has_no_others (needed ++ allowed) ms) (one_of_both needed allowed k)
+one_more needed allowed k d ms = put_one (needed ++ allowed) k d ms ∙ ap (λ b. b && has_no_others (needed ++ allowed) ms) (one_of_both needed allowed k)
 
 pub one_other : (needed allowed : List (List ℕ)) (k : List ℕ) (d : Data) (ms : Members) → is_one_of needed k ≡ false → is_one_of allowed k ≡ false
     → has_no_others (needed ++ allowed) (put k d ms) ≡ false
@@ -89,7 +89,7 @@ goes_on m says i now rest d whole done t e is said =
 
 refused : {A B : Type 0} (done : List B) (key : List ℕ) (answer : Answer A) (f : A → Answer (List B)) (fault result : Fault)
     → Refuses answer fault → IsUnder key fault result → Refuses (before done (next (under key answer) f)) result
-refused done key answer f (faults.Shape path) (faults.Shape p) said is = ap (λ a. before done (next (under key a) f)) said ∙ ap bad (sym is)
+refused done key answer f (faults.Shape path) (faults.Shape p) said is = rw said (ap bad (sym is))
 refused done key answer f (faults.Shape path) faults.NoMemory said is = tt
 refused done key answer f faults.NoMemory (faults.Shape p) said is = absurd is
 refused done key answer f faults.NoMemory faults.NoMemory said is = tt
@@ -97,8 +97,7 @@ refused done key answer f faults.NoMemory faults.NoMemory said is = tt
 pub stops : {A : Type 0} (says : Data → Answer A) (i : ℕ) (now rest : Items) (d : Data) (whole : Answer (List A)) (done : List A) (fault result : Fault)
     → whole ≡ before done (each_from says i now) → now ≡ item d rest → Refuses (says d) fault → IsUnder (decimal i) fault result → Refuses whole result
 stops says i now rest d whole done fault result e is said under_it =
-    subst (λ a. Refuses a result) (sym (e ∙ ap (λ l. before done (each_from says i l)) is))
-    (refused done (decimal i) (says d) (λ a. changed (λ list. a ∷ list) (each_from says (i + 1) rest)) fault result said under_it)
+    rw (e ∙ ap (λ l. before done (each_from says i l)) is) (refused done (decimal i) (says d) (λ a. changed (λ list. a ∷ list) (each_from says (i + 1) rest)) fault result said under_it)
 
 pub ends : {A : Type 0} (says : Data → Answer A) (i : ℕ) (now : Items) (whole : Answer (List A)) (done : List A)
     → whole ≡ before done (each_from says i now) → now ≡ no_items → whole ≡ good done
@@ -107,7 +106,7 @@ ends says i now whole done e none = e ∙ ap (λ l. before done (each_from says 
 -- ---- The value of bytes, whether or not they are UTF-8.
 
 pub has_value : (text : List ℕ) (d : Data) → IsUtf8 text → read text ≡ Some d → value_in text ≡ Some d
-has_value text d utf8 e = ap (λ (b : Bool). if b then read text else None) (is_utf8-from_IsUtf8 text utf8) ∙ e
+has_value text d utf8 e = rw (is_utf8-from_IsUtf8 text utf8) (e)
 
 no_value_if : (text : List ℕ) (b : Bool) → is_utf8 text ≡ b → (IsUtf8 text → read text ≡ None) → (if b then read text else None) ≡ None
 no_value_if text true e no_read = no_read (IsUtf8-from_is_utf8 text e)

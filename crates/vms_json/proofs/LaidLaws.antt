@@ -121,21 +121,19 @@ pub record SaysAt (r : Row) (rs : List Row) (d : Data) : Type 0 where
 
 says_at : (r : Row) (rs : List Row) → SaysAt r rs (rows_view (r ∷ rs))
 unfolding data_in
-says_at r rs = subst (λ n. SaysAt r rs (data_in n (r ∷ rs))) (sym (two_more r rs)) (at r)
+says_at r rs = rw (two_more r rs) (at r)
   where
     at : (r : Row) → SaysAt r rs (data_in (suc (2 * length rs + 1)) (r ∷ rs))
     at rows.Null = record { number = refl; text = refl; flag = refl; items = refl; members = refl }
     at _ = record { number = refl; text = refl; flag = refl; items = refl; members = refl }
 
 pub says : (rs inside : List Row) (r : Row) → rs ≡ r ∷ inside → SaysAt r inside (rows_view rs)
-says rs inside r is = subst (λ l. SaysAt r inside (rows_view l)) (sym is) (says_at r inside)
+says rs inside r is = rw is (says_at r inside)
 
 -- ---- the value under a key
 
 pub put_found : (b : Bool) (q k : List ℕ) (d : Data) (ms : Members) → bytes_eq k q ≡ b → get_member q (put k d ms) ≡ cond b (Some d) (get_member q ms)
-put_found true q k d ms e =
-    let same : k ≡ q = (bytes_eq-Decides k q).0 e in
-    ap (λ n. get_member n (put k d ms)) (sym same) ∙ get_member-put k d ms
+put_found true q k d ms e = rw (sym ((bytes_eq-Decides k q).0 e)) (get_member-put k d ms)
 put_found false q k d ms e = get_member-put_other q k d ms (λ same. false≢true (sym e ∙ (bytes_eq-Decides k q).1 (sym same)))
 
 has_put : (q k : List ℕ) (d : Data) (ms : Members) (b : Bool) → bytes_eq k q ≡ b → is_some (get_member q (put k d ms)) ≡ (is_some (get_member q ms) || b)
@@ -163,16 +161,16 @@ pub no_members_laid : AreMembers [] no_members
 no_members_laid = record { first = λ more. refl }
 
 taken : (run more : List Row) (d : Data) → IsRun run d → run ≡ take (front (run ++ more)) (run ++ more)
-taken run more d is = sym (ap (λ n. take n (run ++ more)) (is.all more) ∙ take-append_seam run more)
+taken run more d is = sym (rw (is.all more) (take-append_seam run more))
 
 dropped : (run more : List Row) (d : Data) → IsRun run d → more ≡ drop (front (run ++ more)) (run ++ more)
-dropped run more d is = sym (ap (λ n. drop n (run ++ more)) (is.all more) ∙ drop-append_seam run more)
+dropped run more d is = sym (rw (is.all more) (drop-append_seam run more))
 
 pub one_item_laid : (rs run : List Row) (done : List Data) (d : Data) → AreItems rs done → IsRun run d → AreItems (rs ++ run) (done ++ d ∷ [])
 one_item_laid rs run done d are is = record {
   first = λ more.
       ap items_of (append_assoc rs run more) ∙ are.first (run ++ more) ∙ ap (before done)
-      (an_item_left (run ++ more) run more (omega (arith, is.some, length-append run more)) (taken run more d is) (dropped run more d is)
+      (an_item_left (run ++ more) run more (omega (arith, length-append run more)) (taken run more d is) (dropped run more d is)
       ∙ ap (λ e. item e (items_of more)) is.says) ∙ sym (before_one done d (items_of more));
 }
 
@@ -187,7 +185,7 @@ one_member_laid rs run k found d are is = record {
 -- ---- a list and an object that end
 
 all_of : (r : Row) (rs : List Row) → count_at r ≡ length (r ∷ rs) → (more : List Row) → front (r ∷ rs ++ more) ≡ length (r ∷ rs)
-all_of r rs count more = omega (arith, count, length-append rs more)
+all_of r rs count more = omega (arith, length-append rs more)
 
 -- a row with the number of all, before the rows of its contents
 counted_run : (r : Row) (rs : List Row) (d : Data) → count_at r ≡ length rs + 1 → data_in (suc (2 * length rs + 1)) (r ∷ rs) ≡ d → IsRun (r ∷ rs) d
@@ -204,8 +202,7 @@ list_laid rs done are =
 pub object_laid : (rs : List Row) (found : Members) → AreMembers rs found → IsRun (rows.Object (length rs + 1) ∷ rs) (object found)
 unfolding data_in
 object_laid rs found are =
-    counted_run (rows.Object (length rs + 1)) rs (object found) refl
-    (ap object (ap (λ l. members_of l no_members) (sym (append-nil rs)) ∙ are.first [] ∙ no_member_left [] found refl))
+    counted_run (rows.Object (length rs + 1)) rs (object found) refl (ap object (rw (sym (append-nil rs)) (are.first [] ∙ no_member_left [] found refl)))
 
 -- ---- a value within open ones
 
@@ -323,7 +320,7 @@ no_row k s n b u ts = ap (converted of_json) (value_is 0 (token_of k ∷ ts))
 
 pub below_more : (ss : List ℕ) (m n : ℕ) → m ≤ n → AreBelow ss m → AreBelow ss n
 below_more [] m n le are = tt
-below_more (s ∷ ss) m n le are = (omega (arith, le, are.0), below_more ss m n le are.1)
+below_more (s ∷ ss) m n le are = (omega arith, below_more ss m n le are.1)
 
 below_push : (ss : List ℕ) (s m : ℕ) → AreBelow ss m → s < m → AreBelow (ss ++ s ∷ []) m
 below_push [] s m are lt = (lt, tt)
@@ -332,11 +329,10 @@ below_push (r ∷ ss) s m are lt = (are.0, below_push ss s m are.1 lt)
 one_below : (below own rs : List Row) (r : Row) (places starts : List ℕ) → rs ≡ below ++ r ∷ own → starts ≡ places ++ length below ∷ [] → AreBelow places (length below) → AreBelow starts (length rs)
 one_below below own rs r places starts are begins lower =
     let long : length rs ≡ length below + length (r ∷ own) = ap length are ∙ length-append below (r ∷ own) in
-    subst (λ s. AreBelow s (length rs)) (sym begins)
-    (below_push places (length below) (length rs) (below_more places (length below) (length rs) (omega (arith, long)) lower) (omega (arith, long)))
+    rw begins (below_push places (length below) (length rs) (below_more places (length below) (length rs) (omega arith) lower) (omega arith))
 
 pub starts_below : (fs : List Frame) (rs : List Row) (starts : List ℕ) → IsLaid fs rs starts → AreBelow starts (length rs)
-starts_below [] rs starts laid = subst (λ s. AreBelow s (length rs)) (sym laid.1) tt
+starts_below [] rs starts laid = rw laid.1 tt
 starts_below (in_list n done ∷ fs) rs starts laid =
     one_below laid.below laid.own rs (rows.List laid.count) laid.places starts laid.are laid.begins (starts_below fs laid.below laid.places laid.laid)
 starts_below (in_object n found k ∷ fs) rs starts laid =

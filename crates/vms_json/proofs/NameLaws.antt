@@ -17,31 +17,25 @@ one_more n q b le = ⊎_elim before after (cases_lt q n)
     last : (c : Bool) → cond (ltb (n + cond c 0 1) (n + 1)) (Some (n + cond c 0 1)) None ≡ (if c then Some n else None)
     last true =
         let same : n + 0 ≡ n = omega arith in
-        ap (λ (k : ℕ). cond (ltb k (n + 1)) (Some k) None) same ∙ ap (λ (t : Bool). cond t (Some n) None) (lt-ltb n (n + 1) (omega arith))
-    last false = ap (λ (t : Bool). cond t (Some (n + 1)) None) (le-ltb (n + 1) (n + 1) (omega arith))
+        ap (λ k. cond (ltb k (n + 1)) (Some k) None) same ∙ ap (λ t. cond t (Some n) None) (lt-ltb n (n + 1) (omega arith))
+    last false = rw (le-ltb (n + 1) (n + 1) (omega arith))
 
     before : q < n → at (eqb q n) ≡ or_else (cond (ltb q n) (Some q) None) (if b then Some n else None)
-    before lt =
-        ap at (ne_eqb q n (λ e. omega (arith, e))) ∙ ap (λ (t : Bool). cond t (Some q) None) (lt-ltb q (n + 1) (omega arith))
-        ∙ sym (ap (λ (t : Bool). or_else (cond t (Some q) None) (if b then Some n else None)) (lt-ltb q n lt))
+    before lt = ap at (ne_eqb q n (λ e. omega arith)) ∙ ap (λ t. cond t (Some q) None) (lt-ltb q (n + 1) (omega arith)) ∙ sym (rw (lt-ltb q n lt))
 
     after : n ≤ q → at (eqb q n) ≡ or_else (cond (ltb q n) (Some q) None) (if b then Some n else None)
-    after ge =
-        ap at (eq-eqb q n (omega arith)) ∙ last b ∙ sym (ap (λ (t : Bool). or_else (cond t (Some q) None) (if b then Some n else None)) (le-ltb q n ge))
+    after ge = ap at (eq-eqb q n (omega arith)) ∙ last b ∙ sym (rw (le-ltb q n ge))
 
 pub position_push : {X : Type 0} (p : X → Bool) (xs : List X) (y : X)
     → position p (xs ++ y ∷ []) ≡ or_else (position p xs) (if p y then Some (length xs) else None)
 position_push p xs y =
-    let longer : length (xs ++ y ∷ []) ≡ length xs + 1 = length-append xs (y ∷ []) in
-    ap (λ (n : ℕ). cond (ltb (position_or_len p (xs ++ y ∷ [])) n) (Some (position_or_len p (xs ++ y ∷ []))) None) longer
-    ∙ ap (λ (q : ℕ). cond (ltb q (length xs + 1)) (Some q) None) (position_or_len_push p xs y)
-    ∙ one_more (length xs) (position_or_len p xs) (p y) (prefix_len-le-length _ xs)
+    rw (length-append xs (y ∷ []), position_or_len_push p xs y) (one_more (length xs) (position_or_len p xs) (p y) (prefix_len-le-length _ xs))
 
 -- ---- the names of fields
 
 -- one more name
 pub one_named : (before : List (List ℕ)) (name q : List ℕ) (i : ℕ) → length before ≡ i → first_of (before ++ name ∷ []) q ≡ or_else (first_of before q) (at_name name i q)
-one_named before name q i long = position_push (λ n. bytes_eq n q) before name ∙ ap (λ (k : ℕ). or_else (first_of before q) (at_name name k q)) long
+one_named before name q i long = position_push (λ n. bytes_eq n q) before name ∙ ap (λ k. or_else (first_of before q) (at_name name k q)) long
 
 pub names_on : (before whole : List (List ℕ)) (name : List ℕ) (now rest : Items) (d : Data) → whole ≡ before ++ names_of now → now ≡ item d rest
     → name ≡ text_or_none (option_and_then as_str (get (codes "name") d)) → whole ≡ (before ++ name ∷ []) ++ names_of rest

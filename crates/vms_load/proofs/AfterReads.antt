@@ -1,6 +1,6 @@
 -- A section, as the judge reads it: its head, and what comes after the fields of a part.
 use Rattle.vms_load.proofs.Facade.{◌≡◌, ℕ, ◌+◌, ◌<◌, List, length, map, drop, slice_set, Option, Some, None, Bool, true, false, Result, Ok, Err, refl, sym, ap}
-use Rattle.vms_load.proofs.Facade.{◌∙◌, subst, zero, suc, ◌-◌, ◌≤◌, [], ◌∷◌, get_or, nat_lt, if◌then◌else◌, IfSome, arith, map-set, drop_all, slice_get-get_or}
+use Rattle.vms_load.proofs.Facade.{◌∙◌, subst, zero, suc, ◌-◌, [], ◌∷◌, get_or, nat_lt, if◌then◌else◌, IfSome, arith, map-set, drop_all, slice_get-get_or}
 use Rattle.vms_load.proofs.Facade.{slice_get, bytes_eq, Set, Device, Sub, at_option, position, Image, Piece, SubHead, Foot, fresh, mark_come, part_slots}
 use Rattle.vms_load.proofs.Facade.{put_version, subs_of, Verdict, Goes, Reading, reading_after, find_device, find_sub, reading_on, set_twice, at_set, put_image}
 use Rattle.vms_load.proofs.Facade.{judge, owes, ask, judge_seen, begins_section, State, Free, Inside, inside, after, by_state, or_none, slots_at, due_by}

@@ -1,5 +1,5 @@
 -- Readings of the fields of a part that go on: numbers, constants and rules.
-use Rattle.vms_load.proofs.Facade.{false_from_ne_true, ◌≡◌, ℕ, ◌+◌, ◌≤◌, List, [], length, take, drop, slice_set, Option, Some, Result, Ok, Err, OnOk, ℤ, refl}
+use Rattle.vms_load.proofs.Facade.{false_from_ne_true, ◌≡◌, ℕ, ◌+◌, List, [], length, take, drop, slice_set, Option, Some, Result, Ok, Err, OnOk, ℤ, refl}
 use Rattle.vms_load.proofs.Facade.{sym, ap, ◌∙◌, subst, arith, Bool, true, false, not, ◌&&◌, nat_lt, ◌<◌, ◌^◌, IfErr, drop_all, Kind, width, value_of, Reason}
 use Rattle.vms_load.proofs.Facade.{same_number, exceeds, is_truth, is_above, Slot, Rule, Taken, Progress, take_slot, Piece, raw, Seen, Good, Bad, Short, seen}
 use Rattle.vms_load.proofs.Facade.{nothing_known, put, taken_by, IsUnit, by_tests, tested, slot_seen, AnswersSeen, Fails, ReadsNumber, ReadsFiller, FrameFault}

@@ -4,8 +4,8 @@ use Rattle.vms_load.proofs.Facade.{take, drop, slice_set, None, refl, ◌∙◌,
 use Rattle.vms_load.proofs.Facade.{take-append-le, drop-append-le, drop_all, length-take-le, take-append-drop, take-take, IsAtEnd, div-le_of_le-mul}
 use Rattle.vms_load.proofs.Facade.{div-lt_iff_lt-mul, lt-div-mul-add, div-mul-le_self, Typed, Taken, ◌>>=◌, take_slot, Progress, refuse, on, reads_as}
 use Rattle.vms_load.proofs.Facade.{nothing_follows, FrameFault, WalkStep, TakesAs, TakesOn, progress, slot_of, take_steps, last_numbers, numbers_then}
-use Rattle.vms_load.proofs.Facade.{step_long, Told, from, Took, Failed, IsTaken, IsStopped, steps_long, take_append, last_taken, told, Kind, U8, U16, U32, U64}
-use Rattle.vms_load.proofs.Facade.{I8, I16, I32, I64, Timer, width, value_of, is_bad_bool, exceeds, values_of, put_from, run_of, keeps_same, keeps_more}
+use Rattle.vms_load.proofs.Facade.{step_long, Told, from, Took, Failed, IsTaken, IsStopped, steps_long, take_append, last_taken, told, Kind}
+use Rattle.vms_load.proofs.Facade.{width, value_of, is_bad_bool, exceeds, values_of, put_from, run_of, keeps_same, keeps_more}
 use Rattle.vms_load.proofs.Facade.{keeps_put, run_split, Intake, Breaks, width_positive}
 use Rattle.std.proofs.Common.{Bool as Truth}
 use Rattle.vms_walk.specs.Inside.{Keeps}

@@ -1,7 +1,7 @@
 -- What each description set has, and the most bytes of its streams.
 use Rattle.vms_load.proofs.Facade.{◌≡◌, ℕ, ◌+◌, ◌<◌, ◌≤◌, List, [], ◌∷◌, ◌++◌, length, map, Option, Some, None, ℤ, refl, sym, ap, ◌∙◌, subst, arith, true}
 use Rattle.vms_load.proofs.Facade.{nat_le, suc, get_or, Bool, ◌&&◌, zero, ◌*◌, ◌^◌, false, and_parts, leb-true, get_or-map, slice_get-get_or, slice_get_within}
-use Rattle.vms_load.proofs.Facade.{get_or_from_slice_get, slice_get, State, at_start, Set, Sub, Desc, AtLeast, Field, Device, Slot, Number, Constant, Filler}
+use Rattle.vms_load.proofs.Facade.{get_or_from_slice_get, slice_get, State, at_start, Set, Sub, Desc, Field, Device, Slot, Number, Constant, Filler}
 use Rattle.vms_load.proofs.Facade.{Rule, Cell, no_cell, no_desc, desc_slots, device_cells, first, capacity_of, own_cells, own_slots, sub_place, sub_slots, Kind}
 use Rattle.vms_load.proofs.Facade.{U8, own_cell_count, first_fault, WellFormed, has_few, here, item_count, items_in, struct_items, subs_items, devices_items}
 use Rattle.vms_load.proofs.Facade.{Part, AreCells, sub_are, own_are, device_parts, Clean, struct_clean, sub_clean, device_at, is_well_formed, first_cell}

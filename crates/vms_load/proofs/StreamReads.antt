@@ -5,7 +5,7 @@ use Rattle.vms_load.proofs.Facade.{Piece, Magic, Version, Long, Mark, Descriptio
 use Rattle.vms_load.proofs.Facade.{AMagic, AVersion, AfterEnd, first_row, alone, Whole, needs, text_at, trailer_at, judge, reading, ask, judge_seen, Seen, Good}
 use Rattle.vms_load.proofs.Facade.{Bad, Short, seen, seen_by, seen_in, State, Spot, Before, Headed, Free, by_state, Ended, at_start, nothing_known}
 use Rattle.vms_load.proofs.Facade.{judged_holds, Head, Stand, ahead, due_of, unit_of_step, ReadsBetween, AnswersSeen, AnswersAfter, AnswersHead, Fails}
-use Rattle.vms_load.proofs.Facade.{AnswersEnd, ReadsEnd, Between, First, AfterConfiguration, Later, Step, FrameFault, Onward, Reads, ReadsOn, LeadsOn}
+use Rattle.vms_load.proofs.Facade.{AnswersEnd, ReadsEnd, Between, First, Step, FrameFault, Onward, Reads, ReadsOn, LeadsOn}
 use Rattle.vms_load.proofs.Facade.{ReadsBehind, IsBehind, Settles, concerning, state_of, spot_of, is_first, is_configured, ReadsAll, LoadFault, Staged}
 use Rattle.vms_load.proofs.Facade.{longest_text}
 use Rattle.vms_stream.specs.Dues.{Between as IsBetween}

@@ -4,8 +4,10 @@ use Rattle.vms_io.specs.Told.{Intake}
 use Rattle.vms_io.specs.Reading.{Reads}
 use Rattle.vms_kinds.specs.declared.Kind.{Kind}
 use Rattle.vms_kinds.specs.declared.Kind.TheVariants.{U8}
+use Rattle.vms_image.specs.Typed.{Typed}
 use Rattle.vms_walk.specs.declared.step.WalkStep.{WalkStep}
 use Rattle.vms_walk.specs.declared.step.WalkStep.TheVariants as steps
+use Rattle.vms_walk.specs.Inside.{IsInside}
 use Rattle.vms_kinds.specs.Codes.{width}
 use Rattle.vms_spec.specs.Layout.{Slot, Number as NumberSlot, Constant as ConstantSlot, Filler as FillerSlot, Rule as RuleSlot}
 use Rattle.vms_spec.specs.Taking.{Taken, Progress}
@@ -24,6 +26,11 @@ IsOfKind kinds (steps.Number cell kind most) = get_or kinds cell U8 ≡ kind
 IsOfKind kinds (steps.Constant kind value) = Unit {0}
 IsOfKind kinds (steps.Filler bytes) = Unit {0}
 IsOfKind kinds (steps.Rule holds) = Unit {0}
+
+-- `FitsStep image step`: the cell of a step is one of the image's, and its number has the kind of that cell.
+pub record FitsStep (image : Typed) (step : WalkStep) : Type 0 where
+  pub inside : IsInside image.numbers step
+  pub of_kind : IsOfKind image.kinds step
 
 -- `AreOfKinds kinds slots`: each number of the slots has the kind of its cell.
 abbrev pub AreOfKinds : List Kind → List Slot → Type 0

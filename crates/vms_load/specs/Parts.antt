@@ -12,6 +12,7 @@ use Rattle.vms_frames.specs.Stands.{Stand}
 use Rattle.vms_frames.specs.Calls.{tail_of}
 use Rattle.vms_bodies.specs.Whole.{reading_on}
 use Rattle.vms_parts.specs.Devices.{device_at}
+use Rattle.vms_image.specs.Typed.{Typed, IsImageOf, state_of as untyped}
 use Rattle.vms_desc.specs.Parts.{sub_at}
 use Rattle.vms_load.specs.Bounds.{desc_bytes, struct_bytes}
 use Rattle.vms_load.specs.Reads.{Onward}
@@ -34,6 +35,16 @@ part_base set d (Some j) = sub_place set (own_cells set d) d.subs j
 abbrev pub IsIn : Device → Option ℕ → Type 0
 IsIn d None = Unit {0}
 IsIn d (Some j) = j < length d.subs
+
+-- The set has device k, and the image is one of that device.
+pub record IsOfDevice (set : Set) (k : ℕ) (image : Typed) : Type 0 where
+  pub device : k < length set.devices
+  pub shaped : IsImageOf set k image
+
+-- Nothing but the numbers of the image has changed.
+pub record HasNewNumbers (old new : Typed) : Type 0 where
+  pub kept : new ≡ record old { numbers = new.numbers }
+  pub long : length new.numbers ≡ length old.numbers
 
 -- The part of device k, as the code names it.
 abbrev pub part_of : ℕ → Option ℕ → Part
@@ -103,6 +114,12 @@ IsMoved from to (Some part) = from.at < to.at
 abbrev pub HoldsNone : Stand → Option Open → Type 0
 HoldsNone stand None = Unit {0}
 HoldsNone stand (Some part) = stand.held ≡ None
+
+-- What is known of the part that comes next.
+pub record IsNextPart (d : Device) (from to : Stand) (image : Typed) (next : Option Open) : Type 0 where
+  pub moved : IsMoved from to next
+  pub held : HoldsNone to next
+  pub opens : OpensNext d (untyped image) next
 
 module _ (set : Set) (names : List (List ℕ)) (state : State) (section : Section) where
   -- The reading from the fields of a part on.

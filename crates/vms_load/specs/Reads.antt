@@ -1,5 +1,5 @@
 -- What the calls of the loader read, as the judge of streams says it.
-use Rattle.std.specs.Prelude.{◌≡◌, ℕ, ◌+◌, ◌-◌, ◌≤◌, List, drop, Option, Some, None, Result, Ok, Err, IfSome}
+use Rattle.std.specs.Prelude.{◌≡◌, ℕ, ◌+◌, ◌-◌, ◌≤◌, ◌^◌, List, drop, Option, Some, None, Result, Ok, Err, IfSome}
 use Rattle.vms_spec.specs.Readings.{Verdict, Goes, Faulty, Over, Reading, Accepted, Refused}
 use Rattle.vms_stream.specs.State.{State}
 use Rattle.vms_frames.specs.Stands.{Stand}
@@ -9,6 +9,11 @@ use Rattle.vms_frames.specs.declared.fault.Refusal.{Refusal}
 use Rattle.vms_frames.specs.declared.fault.FrameFault.TheVariants as frames
 use Rattle.vms_load.specs.declared.fault.LoadFault.{LoadFault}
 use Rattle.vms_load.specs.declared.fault.LoadFault.TheVariants as faults
+
+-- The cursor holds no byte, and `due` more bytes leave its offset at most 2^63.
+pub record MayTake (due : ℕ) (stand : Stand) : Type 0 where
+  pub held : stand.held ≡ None
+  pub place : stand.at + due ≤ 2 ^ 63
 
 -- How a reading goes on from an offset, with this rest of the input.
 abbrev pub Onward : Type 0

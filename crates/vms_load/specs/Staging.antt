@@ -1,5 +1,5 @@
 -- What has been read of a stream so far.
-use Rattle.std.specs.Prelude.{◌≡◌, ℕ, ◌+◌, ◌*◌, ◌<◌, Bool, true, false, List, [], ◌∷◌, length, get_or, map, drop, Option, Some, None, Result, Ok, Err}
+use Rattle.std.specs.Prelude.{◌≡◌, ℕ, ◌+◌, ◌*◌, ◌<◌, Bool, true, false, List, [], ◌∷◌, length, get_or, map, drop, slice_set, Option, Some, None, Result, Ok, Err}
 use Rattle.std.specs.List.{slice_get}
 use Rattle.vms_spec.specs.Sets.{Sub, Device, Set}
 use Rattle.vms_spec.specs.Readings.{Reading, Accepted, Refused}
@@ -49,6 +49,18 @@ pub record IsOf (set : Set) (staged : Staged) : Type 0 where
   -- the image of a device that hasn't come is at its defaults
   pub fresh : (k : ℕ) → slice_get staged.came.items k ≡ Some false → get_or staged.images.items k no_image ≡ default_at set k
 
+-- The machine is one of the set's, if one is named, and what has been read so far is of the set.
+pub record CanConfigure (set : Set) (only : Option ℕ) (staged : Staged) : Type 0 where
+  pub machine : IsMachine set.machines only
+  pub whole : IsOf set staged
+
+-- The section of device k has begun at a version: its image has the version, and the device has come.
+pub record HasBegun (old : Staged) (k version : ℕ) (new : Staged) : Type 0 where
+  pub images : new.images.items ≡ slice_set old.images.items k (record (get_or old.images.items k no_image) { version = version })
+  pub came : new.came.items ≡ slice_set old.came.items k true
+  pub machine : new.machine ≡ old.machine
+  pub tail : new.tail ≡ old.tail
+
 -- The image of device k at a version, before its fields come.
 abbrev pub image_at : Set → ℕ → ℕ → Image
 image_at set k version = record (default_image set (device_at set k)) { version = version }
@@ -91,6 +103,11 @@ spot_at (Some between) = spot_of between
 abbrev pub HoldsAt : Stand → Option Between → Type 0
 HoldsAt stand None = stand.held ≡ None
 HoldsAt stand (Some between) = Unit {0}
+
+-- The call has advanced the cursor, and a byte is held only between sections.
+pub record IsPassed (from to : Stand) (place : Option Between) : Type 0 where
+  pub moved : from.at < to.at
+  pub held : HoldsAt to place
 
 -- The accepted machines: all of these, or the only one with this number.
 abbrev pub accepted : List (List ℕ) → Option ℕ → List (List ℕ)

@@ -1,15 +1,16 @@
 // Reads the fields and checks the validations of a part, step by step.
-ghost use Rattle.std.specs.Prelude.{◌≡◌, ◌+◌, ◌≤◌, ◌^◌, ◌∷◌, [], List, ℤ, None, OnOk, OnErr, IfErr};
+ghost use Rattle.std.specs.Prelude.{◌≡◌, ◌∷◌, [], List, ℤ, None, OnOk, OnErr, IfErr};
 ghost use Rattle.vms_desc.specs.Described.{described};
 ghost use Rattle.vms_desc.specs.Parts.{desc_at};
 ghost use Rattle.vms_io.specs.Told.{intake};
 ghost use Rattle.vms_spec.specs.Taking.{take_slot};
-ghost use Rattle.vms_walk.specs.Inside.{IsInside, Keeps};
+ghost use Rattle.vms_walk.specs.Inside.{Keeps};
 ghost use Rattle.vms_walk.specs.Steps.{HasSpot, steps_of, spot_slots};
 ghost use Rattle.vms_load.specs.Bodies.{TakesOn, progress};
-ghost use Rattle.vms_load.specs.Bodies.{IsOfKind, AreOfKinds};
+ghost use Rattle.vms_load.specs.Bodies.{FitsStep, AreOfKinds};
 ghost use Rattle.vms_load.specs.Parts.{bytes_of};
 ghost use Rattle.vms_load.specs.Reading.{slot_of, step_long, told, Took, Failed};
+ghost use Rattle.vms_load.specs.Reads.{MayTake};
 
 use crate::items::{constant, number, rule};
 use vms_desc::{Cells, DescSet};
@@ -36,9 +37,8 @@ pub(crate) fn read_part<S: Source>(
     requires spot { HasSpot (described set.now) spot image.old.numbers }
     requires kinds { (numbers : List ℤ)
         → AreOfKinds image.old.kinds (spot_slots (described set.now) spot numbers) }
-    requires held { cursor.old.held ≡ None }
-    requires place { cursor.old.at
-        + bytes_of (described set.now) (desc_at (described set.now) spot.part) ≤ 2 ^ 63 }
+    requires cursor { MayTake
+        (bytes_of (described set.now) (desc_at (described set.now) spot.part)) cursor.old }
     ensures ok { let steps = steps_of (spot_slots (described set.now) spot image.new.numbers) in
         let old = told image.old cursor.old.at (intake S.Source source.old) in
         let new = told image.new cursor.new.at (intake S.Source source.new) in
@@ -152,10 +152,8 @@ fn read_step<S: Source>(
     cursor: &mut Cursor,
     source: &mut S,
 ) -> Result<(), FrameFault>
-    requires inside { IsInside image.old.numbers step }
-    requires of_kind { IsOfKind image.old.kinds step }
-    requires place { cursor.old.at ≤ 2 ^ 63 }
-    requires held { cursor.old.held ≡ None }
+    requires step { FitsStep image.old step }
+    requires cursor { MayTake 0 cursor.old }
     ensures reads { TakesOn (intake S.Source source.old) (intake S.Source source.new)
         (step_long step) cursor.old.at cursor.new.at
         (λ rest. take_slot (slot_of step) (progress image.old.numbers cursor.old.at rest))

@@ -1,9 +1,10 @@
 // Numbers, constants and validations, each with its check.
-ghost use Rattle.std.specs.Prelude.{◌≡◌, ◌+◌, ◌≤◌, ◌^◌, true, false, OnOk, IfOk, IfErr, None};
+ghost use Rattle.std.specs.Prelude.{◌≡◌, ◌+◌, true, false, OnOk, IfOk, IfErr, None};
 ghost use Rattle.vms_kinds.specs.Codes.{InRange, width};
 ghost use Rattle.vms_io.specs.Told.{intake};
 ghost use Rattle.vms_frames.specs.Reads.{ReadsAs};
 ghost use Rattle.vms_load.specs.Bodies.{ReadsCapped, ReadsConstant};
+ghost use Rattle.vms_load.specs.Reads.{MayTake};
 ghost use Rattle.vms_walk.specs.Steps.{capacities_of};
 
 use vms_frames::{Cursor, FrameFault};
@@ -28,8 +29,7 @@ pub(crate) fn number<S: Source>(
     kind: Kind,
     most: Option<u32>,
 ) -> Result<i128, FrameFault>
-    requires place { cursor.old.at ≤ 2 ^ 63 }
-    requires held { cursor.old.held ≡ None }
+    requires { MayTake 0 cursor.old }
     ensures range { IfOk result (InRange kind) }
     ensures reads { ReadsAs (intake S.Source source.old) (intake S.Source source.new)
         (λ _. width kind) (width kind) (ReadsCapped kind (capacities_of most) cursor.old.at)
@@ -60,8 +60,7 @@ pub(crate) fn constant<S: Source>(
     kind: Kind,
     value: i128,
 ) -> Result<(), FrameFault>
-    requires place { cursor.old.at ≤ 2 ^ 63 }
-    requires held { cursor.old.held ≡ None }
+    requires { MayTake 0 cursor.old }
     ensures reads { ReadsAs (intake S.Source source.old) (intake S.Source source.new)
         (λ _. width kind) (width kind) (ReadsConstant kind value cursor.old.at) result }
     ensures place { OnOk result (cursor.new.at ≡ cursor.old.at + width kind) }

@@ -1,12 +1,13 @@
 // The parts of a section: the device's own fields, and subsections.
-ghost use Rattle.std.specs.Prelude.{◌≡◌, ◌+◌, ◌<◌, ◌≤◌, ◌^◌, ℕ, List, Option, Some, None, length, IfOk, OnOk};
+ghost use Rattle.std.specs.Prelude.{◌≡◌, ◌+◌, ◌<◌, ℕ, List, Option, Some, None, length, IfOk, OnOk};
 ghost use Rattle.vms_stream.specs.State.{State};
 ghost use Rattle.vms_desc.specs.Described.{described};
 ghost use Rattle.vms_parts.specs.Devices.{device_at};
 ghost use Rattle.vms_image.specs.Typed.{IsImageOf, state_of as untyped};
 ghost use Rattle.vms_io.specs.Told.{intake};
 ghost use Rattle.vms_load.specs.Going.{GoesOn, Moves};
-ghost use Rattle.vms_load.specs.Parts.{IsOpen, OpensNext, part_of, part_due, bytes_of_part, subs_due, in_fields, after_fields, after_part, IsMoved, IsSame, HoldsNone};
+ghost use Rattle.vms_load.specs.Reads.{MayTake};
+ghost use Rattle.vms_load.specs.Parts.{IsOfDevice, IsOpen, HasNewNumbers, IsNextPart, IsSame, part_of, part_due, bytes_of_part, subs_due, in_fields, after_fields, after_part};
 ghost use Rattle.vms_marks.specs.declared.foot.TheConstants.{FOOT_LENGTH};
 ghost use Rattle.vms_marks.specs.declared.head.TheConstants.{LONGEST_HEAD};
 ghost use Rattle.vms_marks.specs.declared.sub_head.TheConstants.{LONGEST_SUB_HEAD};
@@ -56,15 +57,11 @@ fn read_fields<S: Source>(
     cursor: &mut Cursor,
     source: &mut S,
 ) -> Result<(), LoadFault>
-    requires device { section.device < length (described set.now).devices }
-    requires shaped { IsImageOf (described set.now) section.device image.old }
+    requires image { IsOfDevice (described set.now) section.device image.old }
     requires open { IsOpen (device_at (described set.now) section.device) (untyped image.old)
         part.sub part.version }
-    requires held { cursor.old.held ≡ None }
-    requires place { cursor.old.at
-        + bytes_of_part (described set.now)
-        (device_at (described set.now) section.device) part.sub
-        ≤ 2 ^ 63 }
+    requires cursor { MayTake (bytes_of_part (described set.now)
+        (device_at (described set.now) section.device) part.sub) cursor.old }
     ensures reads { (names : List (List ℕ)) (state : State) → section.device < length state.images
         → GoesOn (intake S.Source source.old) (intake S.Source source.new)
         (bytes_of_part (described set.now) (device_at (described set.now) section.device) part.sub)
@@ -75,8 +72,7 @@ fn read_fields<S: Source>(
     ensures moves { Moves cursor.old cursor.new
         (bytes_of_part (described set.now) (device_at (described set.now) section.device) part.sub)
         (λ _. 0) result }
-    ensures kept { image.new ≡ record image.old { numbers = image.new.numbers } }
-    ensures long { length image.new.numbers ≡ length image.old.numbers }
+    ensures image { HasNewNumbers image.old image.new }
 {
     let number = part_of(section.device, part.sub);
     let base = set.first_cell(number);
@@ -100,21 +96,18 @@ fn read_after_fields<S: Source>(
     cursor: &mut Cursor,
     source: &mut S,
 ) -> Result<Option<Open>, LoadFault>
-    requires device { section.old.device < length (described set.now).devices }
-    requires shaped { IsImageOf (described set.now) section.old.device image.old }
-    requires place { cursor.old.at ≤ 2 ^ 63 }
-    requires held { cursor.old.held ≡ None }
+    requires image { IsOfDevice (described set.now) section.old.device image.old }
+    requires cursor { MayTake 0 cursor.old }
     ensures reads { (names : List (List ℕ)) (state : State) (part : Option ℕ)
         → section.old.device < length state.images
         → GoesOn (intake S.Source source.old) (intake S.Source source.new) LONGEST_SUB_HEAD
         (after_fields (described set.now) names state section.old part (untyped image.old))
         (after_part (described set.now) names state section.new (untyped image.new)) cursor.old
         cursor.new result }
-    ensures moved { IfOk result (IsMoved cursor.old cursor.new) }
     ensures section { IsSame section.old section.new }
-    ensures held { IfOk result (HoldsNone cursor.new) }
-    ensures open { IfOk result
-        (OpensNext (device_at (described set.now) section.old.device) (untyped image.new)) }
+    ensures next { IfOk result
+        (IsNextPart (device_at (described set.now) section.old.device) cursor.old cursor.new
+        image.new) }
     ensures moves { Moves cursor.old cursor.new
         (subs_due (described set.now)
         (device_at (described set.now) section.old.device).subs image.old.came
@@ -162,13 +155,11 @@ pub(crate) fn read_section<S: Source>(
     cursor: &mut Cursor,
     source: &mut S,
 ) -> Result<(), LoadFault>
-    requires device { section.old.device < length (described set.now).devices }
-    requires shaped { IsImageOf (described set.now) section.old.device image.old }
-    requires held { cursor.old.held ≡ None }
-    requires place { cursor.old.at
-        + part_due (described set.now) (device_at (described set.now) section.old.device)
-        image.old.came (Some (record { sub = None; version = image.old.version }))
-        ≤ 2 ^ 63 }
+    requires image { IsOfDevice (described set.now) section.old.device image.old }
+    requires cursor { MayTake
+        (part_due (described set.now) (device_at (described set.now) section.old.device)
+        image.old.came (Some (record { sub = None; version = image.old.version })))
+        cursor.old }
     ensures reads { (names : List (List ℕ)) (state : State)
         → section.old.device < length state.images
         → GoesOn (intake S.Source source.old) (intake S.Source source.new)

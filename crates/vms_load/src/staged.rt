@@ -1,5 +1,5 @@
 // What has been read of a stream so far.
-ghost use Rattle.std.specs.Prelude.{◌≡◌, ◌<◌, ◌≤◌, ◌+◌, ◌^◌, Bool, not, true, false, ℕ, List, length, get_or, map, replicate, slice_set, IfErr, IfOk, Some, None};
+ghost use Rattle.std.specs.Prelude.{◌≡◌, ◌<◌, ◌≤◌, ◌+◌, ◌^◌, Bool, not, true, false, ℕ, List, length, get_or, map, replicate, IfErr, IfOk, Some, None};
 ghost use Rattle.vms_spec.specs.declared.TheConstants.{LONGEST_NAME};
 ghost use Rattle.vms_marks.specs.declared.configuration.TheConstants.{CONFIGURATION_FRONT};
 ghost use Rattle.vms_spec.specs.Sets.{Set};
@@ -11,7 +11,7 @@ ghost use Rattle.vms_stream.specs.State.{Before, Free, at_start};
 ghost use Rattle.vms_desc.specs.Described.{described};
 ghost use Rattle.vms_image.specs.Typed.{AreImagesOf, default_at, state_of as untyped};
 ghost use Rattle.vms_load.specs.Reads.{Settles, IsRefused};
-ghost use Rattle.vms_load.specs.Staging.{AreShaped, IsOf, IsMachine, IsAccepted, accepted_of, no_image, state_of, spot_at};
+ghost use Rattle.vms_load.specs.Staging.{AreShaped, IsOf, CanConfigure, HasBegun, IsMachine, IsAccepted, accepted_of, no_image, state_of, spot_at};
 
 use crate::LoadFault;
 use crate::fault::refused;
@@ -114,11 +114,7 @@ fn none_came(devices: usize) -> ArrayVec<bool, 64>
 pub(crate) fn begin_section(staged: &mut Staged, device: u32, version: u32)
     requires image { device < length staged.old.images.items }
     requires device { device < length staged.old.came.items }
-    ensures images { staged.new.images.items ≡ slice_set staged.old.images.items device
-        (record (get_or staged.old.images.items device no_image) { version = version }) }
-    ensures came { staged.new.came.items ≡ slice_set staged.old.came.items device true }
-    ensures machine { staged.new.machine ≡ staged.old.machine }
-    ensures tail { staged.new.tail ≡ staged.old.tail }
+    ensures { HasBegun staged.old device version staged.new }
 {
     staged.came[device as usize] = true;
     staged.images[device as usize].set_version(version);
@@ -137,8 +133,7 @@ pub(crate) fn configure(
     name: &Name,
     at: u64,
 ) -> Result<Option<Between>, LoadFault>
-    requires machine { IsMachine (described set.now).machines only }
-    requires whole { IsOf (described set.now) staged.old }
+    requires set { CanConfigure (described set.now) only staged.old }
     ensures next { IfOk result (λ next. next ≡ Some Between.AfterConfiguration) }
     ensures short { length name.now.items ≤ LONGEST_NAME }
     ensures refused { IfErr result IsRefused }
@@ -149,8 +144,10 @@ pub(crate) fn configure(
         (Configuration name.now.items) (CONFIGURATION_FRONT + length name.now.items))
         at (λ next. state_of (described set.now) staged.new (spot_at next))
         (CONFIGURATION_FRONT + length name.now.items) result }
-    ensures images { staged.new.images.items ≡ staged.old.images.items }
-    ensures came { staged.new.came.items ≡ staged.old.came.items }
+    ensures kept { staged.new ≡ record staged.old {
+      machine = staged.new.machine;
+      tail = staged.new.tail;
+    } }
     ensures whole { IsOf (described set.now) staged.new }
 {
     match machine_of(set.parts().machines.as_slice(), only, name) {

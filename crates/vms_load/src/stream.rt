@@ -1,5 +1,5 @@
 // A whole stream, unit by unit and section by section.
-ghost use Rattle.std.specs.Prelude.{◌≡◌, ◌+◌, ◌<◌, ◌≤◌, ◌^◌, Bool, true, false, ℕ, List, Some, None, length, IfOk, OnOk};
+ghost use Rattle.std.specs.Prelude.{◌≡◌, ◌+◌, ◌≤◌, ◌^◌, Bool, true, false, ℕ, List, Some, None, length, IfOk, OnOk};
 ghost use Rattle.vms_spec.specs.declared.TheConstants.{LONGEST_NAME};
 ghost use Rattle.vms_spec.specs.Sets.{Set};
 ghost use Rattle.vms_stream.specs.Judge.{judge, reading};
@@ -10,7 +10,8 @@ ghost use Rattle.vms_stream.specs.Judged.{ask};
 ghost use Rattle.vms_spec.specs.Units.{Head as HeadUnit};
 ghost use Rattle.vms_io.specs.Told.{intake};
 ghost use Rattle.vms_load.specs.Going.{GoesOn, GoesBehind, GoesThrough, Moves};
-ghost use Rattle.vms_load.specs.Staging.{AreShaped, IsOf, IsMachine, accepted_of, state_of, spot_of, spot_at, read_from, HoldsAt, due_at, sections_due};
+ghost use Rattle.vms_load.specs.Reads.{MayTake};
+ghost use Rattle.vms_load.specs.Staging.{AreShaped, IsOf, IsMachine, CanConfigure, IsPassed, accepted_of, state_of, spot_of, spot_at, read_from, due_at, sections_due};
 ghost use Rattle.vms_marks.specs.declared.head.TheConstants.{LONGEST_HEAD};
 
 use crate::LoadFault;
@@ -56,8 +57,7 @@ pub(crate) fn stream<S: Source>(
 
 // Reads the stream head.
 fn read_head<S: Source>(cursor: &mut Cursor, source: &mut S) -> Result<(), LoadFault>
-    requires held { cursor.old.held ≡ None }
-    requires place { cursor.old.at ≤ 2 ^ 63 }
+    requires { MayTake 0 cursor.old }
     ensures reads { (set : Set) (names : List (List ℕ)) (state : State)
         → GoesOn (intake S.Source source.old) (intake S.Source source.new) 8
         (reading_on (judge (by_state set names)) (record state { spot = Before }))
@@ -80,10 +80,8 @@ fn sections<S: Source>(
     cursor: &mut Cursor,
     source: &mut S,
 ) -> Result<(), LoadFault>
-    requires machine { IsMachine (described set.now).machines only }
-    requires whole { IsOf (described set.now) staged.old }
-    requires place { cursor.old.at + due_at set.now staged.old (Some Between.First) ≤ 2 ^ 63 }
-    requires held { cursor.old.held ≡ None }
+    requires set { CanConfigure (described set.now) only staged.old }
+    requires cursor { MayTake (due_at set.now staged.old (Some Between.First)) cursor.old }
     ensures reads { GoesOn (intake S.Source source.old) (intake S.Source source.new)
         (due_at set.now staged.old (Some Between.First) + LONGEST_HEAD)
         (read_from set.now only staged.old (spot_at (Some Between.First)))
@@ -111,18 +109,16 @@ fn read_between<S: Source>(
     cursor: &mut Cursor,
     source: &mut S,
 ) -> Result<Option<Between>, LoadFault>
-    requires machine { IsMachine (described set.now).machines only }
-    requires whole { IsOf (described set.now) staged.old }
+    requires set { CanConfigure (described set.now) only staged.old }
     requires place { cursor.old.at + due_at set.now staged.old (Some between) ≤ 2 ^ 63 }
     ensures reads { GoesOn (intake S.Source source.old) (intake S.Source source.new)
         (due_at set.now staged.old (Some between) + LONGEST_HEAD)
         (read_from set.now only staged.old (spot_of between))
         (λ next. read_from set.now only staged.new (spot_at next))
         cursor.old cursor.new result }
-    ensures held { IfOk result (HoldsAt cursor.new) }
     ensures moves { Moves cursor.old cursor.new (due_at set.now staged.old (Some between))
         (due_at set.now staged.new) result }
-    ensures moved { OnOk result (cursor.old.at < cursor.new.at) }
+    ensures next { IfOk result (IsPassed cursor.old cursor.new) }
     ensures whole { IsOf (described set.now) staged.new }
 {
     let at = cursor.at();

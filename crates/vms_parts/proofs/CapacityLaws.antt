@@ -1,16 +1,8 @@
 -- The least capacity that a number counts.
-use Rattle.std.proofs.Common.{◌≡◌, ◌≢◌, ℕ, ◌+◌, ◌<◌, List, [], ◌∷◌, ◌++◌, length, get_or, get_or-set_same, get_or-set_other, drop, take, map, Bool, true, false, Option, None, refl, sym, ap, ◌∙◌, arith}
-use Rattle.std.specs.Prelude.{◌==◌, if◌then◌else◌}
-use Rattle.std.proofs.lemmas.List.{drop_all, take_all}
-use Rattle.std.proofs.Math.ListN.{length-set}
-use Rattle.std.proofs.lemmas.Bool.{eqb-true, eqb-false}
-use Rattle.vms_spec.specs.declared.Count.{Count}
-use Rattle.vms_spec.specs.declared.Count.TheVariants.{One, Fixed, Counted}
-use Rattle.vms_spec.specs.Layout.{counted}
+use Rattle.vms_parts.proofs.Facade.{◌≡◌, ◌≢◌, ℕ, ◌+◌, ◌<◌, List, [], ◌∷◌, ◌++◌, length, get_or, get_or-set_same, get_or-set_other, drop, take, map, Bool, true}
+use Rattle.vms_parts.proofs.Facade.{false, Option, None, refl, sym, ap, ◌∙◌, arith, ◌==◌, if◌then◌else◌, drop_all, take_all, length-set, eqb-true, eqb-false}
+use Rattle.vms_parts.proofs.Facade.{Count, One, Fixed, Counted, counted, Field, field_of, lesser, least_from, lowered_at, counted_in}
 use Rattle.vms_spec.specs.Sets as sets
-use Rattle.vms_parts.specs.declared.types.Field.{Field}
-use Rattle.vms_parts.specs.Views.{field_of}
-use Rattle.vms_parts.specs.Capacities.{lesser, least_from, lowered_at, counted_in}
 use Rattle.vms_parts.proofs.Items.{drop_is}
 
 of_count : Count → sets.Field → sets.Field

@@ -1,12 +1,7 @@
 -- The number of items of a description's fields, given those of the structures.
-use Rattle.std.proofs.Common.{◌≡◌, ℕ, zero, suc, ◌+◌, ◌*◌, List, ◌∷◌, ◌++◌, get_or, refl, ap, ◌∙◌, []}
-use Rattle.vms_kinds.specs.declared.Item.{Item}
-use Rattle.vms_kinds.specs.declared.Item.TheVariants.{Num, Equal, Unused, Struct}
-use Rattle.vms_spec.specs.Sets.{Field, Desc}
-use Rattle.vms_spec.specs.Layout.{capacity_of, first, no_desc}
-use Rattle.vms_spec.specs.WellFormed.{item_count, items_in}
-use Rattle.vms_parts.specs.declared.sizes.Measure.TheVariants.{Items}
-use Rattle.vms_parts.specs.Sizes.{size_of, fields_size, sizes_to}
+use Rattle.vms_parts.proofs.Facade.{◌≡◌, ℕ, zero, suc, ◌+◌, ◌*◌, List, ◌∷◌, ◌++◌, get_or, refl, ap, ◌∙◌, [], Item, Num, Equal, Unused, Struct, Desc}
+use Rattle.vms_parts.proofs.Facade.{capacity_of, first, no_desc, item_count, items_in, Items, size_of, fields_size, sizes_to}
+use Rattle.vms_spec.specs.Sets.{Field}
 
 pub item_is : (sizes : List ℕ) (item : Item) → item_count sizes item ≡ size_of Items sizes item
 item_is sizes (Num kind) = refl

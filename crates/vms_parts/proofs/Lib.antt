@@ -1,4 +1,5 @@
 pub mod CapacityLaws
+pub mod Facade
+pub mod ItemLaws
 pub mod Items
 pub mod SizeLaws
-pub mod ItemLaws

@@ -1,14 +1,9 @@
 -- Sums that are cut at 2 ^ 32 - 1.
-use Rattle.std.proofs.Common.{◌≡◌, ℕ, zero, suc, ◌+◌, ◌*◌, ◌^◌, ◌<◌, ◌≤◌, List, [], ◌∷◌, ◌++◌, length, get_or, drop, map, refl, sym, ap, ◌∙◌, arith, add-one}
-use Rattle.std.proofs.lemmas.List.{drop_all, map-append}
-use Rattle.vms_kinds.specs.declared.Item.{Item}
-use Rattle.vms_kinds.specs.declared.Item.TheVariants.{Num, Equal, Unused, Struct}
+use Rattle.vms_parts.proofs.Facade.{◌≡◌, ℕ, zero, suc, ◌+◌, ◌*◌, ◌^◌, ◌<◌, ◌≤◌, List, [], ◌∷◌, ◌++◌, length, get_or, drop, map, refl, sym, ap, ◌∙◌, arith}
+use Rattle.vms_parts.proofs.Facade.{add-one, drop_all, map-append, Item, Num, Equal, Unused, Struct, capacity_of, first, no_desc, Measure, in_u32, size_of}
+use Rattle.vms_parts.proofs.Facade.{fields_size, subs_size, sizes_to, field_of, desc_of}
 use Rattle.vms_spec.specs.Sets as sets
-use Rattle.vms_spec.specs.Layout.{capacity_of, first, no_desc}
-use Rattle.vms_parts.specs.declared.sizes.Measure.{Measure}
 use Rattle.vms_parts.specs.declared.types.Desc.{Desc}
-use Rattle.vms_parts.specs.Sizes.{in_u32, size_of, fields_size, subs_size, sizes_to}
-use Rattle.vms_parts.specs.Views.{field_of, desc_of}
 use Rattle.vms_parts.proofs.Items.{drop_is, get_map_at}
 
 -- sums over lists that a loop walks: `whole` is the sum of the sizes `one` of all elements

@@ -1,9 +1,9 @@
 -- A restored chip is sound.
 use Rattle.vms_rtc.proofs.Facade.{ℕ, ◌+◌, ◌<◌, List, [], drop, ℤ, subst, arith, ◌≡◌, ◌≤◌, ◌==◌, ◌&&◌, ◌||◌, not, nat_le, Bool, true, false, Ok, refl, sym, ap}
-use Rattle.vms_rtc.proofs.Facade.{◌∙◌, false≢true, and_parts, nat_tests, get_or-map-range_with_len, length-map-range_with_len, CMOS, InRange, Kind, U8}
-use Rattle.vms_rtc.proofs.Facade.{bytes_within, cell_at, AreOf, nat_of, kinds, NEWEST_CLOCK, REGISTERS, NMI_SINCE, REGISTER_A, REGISTER_C, REGISTER_D, Numbers}
-use Rattle.vms_rtc.proofs.Facade.{number-lt, AllTrue, judged-ok, hook-ok, IsUpTo, register, RestoredIsSound, CanRestore, index_in, register_in, nmi_mask_in}
-use Rattle.vms_rtc.proofs.Facade.{index_holds, registers_hold, rules, chip_of, restored, hook_restored, IsSound, Rtc}
+use Rattle.vms_rtc.proofs.Facade.{◌∙◌, and_parts, nat_tests, get_or-map-range_with_len, length-map-range_with_len, CMOS, InRange, Kind, U8, bytes_within}
+use Rattle.vms_rtc.proofs.Facade.{cell_at, AreOf, nat_of, kinds, NEWEST_CLOCK, REGISTERS, NMI_SINCE, REGISTER_A, REGISTER_C, REGISTER_D, Numbers, number-lt}
+use Rattle.vms_rtc.proofs.Facade.{AllTrue, judged-ok, hook-ok, IsUpTo, register, RestoredIsSound, CanRestore, index_in, register_in, nmi_mask_in, index_holds}
+use Rattle.vms_rtc.proofs.Facade.{registers_hold, rules, chip_of, restored, hook_restored, IsSound, Rtc}
 
 -- ---- the kinds of the cells of the newest clock set
 
@@ -11,8 +11,7 @@ use Rattle.vms_rtc.proofs.Facade.{index_holds, registers_hold, rules, chip_of, r
 pub is_byte : (cells : List ℤ) (k : ℕ) → AreOf (kinds NEWEST_CLOCK) cells → k < CMOS + REGISTERS → InRange U8 (cell_at cells k)
 is_byte cells k are lt =
     subst (λ (kind : Kind). InRange kind (cell_at cells k))
-    (bytes_within [] (drop (CMOS + REGISTERS) (kinds NEWEST_CLOCK)) (CMOS + REGISTERS) k (omega arith) (omega (arith, lt)))
-    (are.in_range k (omega (arith, lt)))
+    (bytes_within [] (drop (CMOS + REGISTERS) (kinds NEWEST_CLOCK)) (CMOS + REGISTERS) k (omega arith) (omega arith)) (are.in_range k (omega arith))
 
 -- ---- what is restored
 
@@ -36,7 +35,7 @@ registers cells h =
     record { a = grind (arith, nat_tests, first.0); c = grind (arith, nat_tests, second.0); d = grind (arith, nat_tests, second.1) }
 
 clear : (b flag : Bool) → (b || not flag) ≡ true → b ≡ false → flag ≡ false
-clear true flag h e = absurd (false≢true (sym e))
+clear true flag h e = cc
 clear false true h e = sym h
 clear false false h e = refl
 
@@ -51,8 +50,7 @@ sound version cells v are hold =
       count = length-map-range_with_len (register_in cells) 0 REGISTERS;
       bytes = λ k lt.
           let is : register k (chip_of version cells) ≡ register_in cells k = register_of version cells k lt in
-          let small : nat_of (cell_at cells (1 + k)) < 256 = number-lt U8 (cell_at cells (1 + k)) (is_byte cells (1 + k) are (omega (arith, lt))) in
-          omega (arith, is, small);
+          omega (arith, number-lt U8 (cell_at cells (1 + k)) (is_byte cells (1 + k) are (omega arith)));
       a = n.a;
       c = n.c;
       d = n.d;

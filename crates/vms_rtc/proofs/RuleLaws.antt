@@ -13,15 +13,14 @@ module _ (chip : Rtc) (t : IsTold chip) where
 
   register-at : (k : ℕ) → k < REGISTERS → nat_of (cell_at (newest chip) (suc k)) ≡ get_or chip.cmos k 0
   register-at k l =
-      let n = t.count in
-      ap nat_of (get_or_append_left (map pos chip.cmos) _ (pos 0) k (omega (arith, n, l, length-map chip.cmos pos)) ∙ get_or-map pos chip.cmos k 0 (pos 0)
-      (omega (arith, n, l)))
+      ap nat_of (get_or_append_left (map pos chip.cmos) _ (pos 0) k (omega (arith, length-map chip.cmos pos)) ∙ get_or-map pos chip.cmos k 0 (pos 0)
+      (omega arith))
 
   is-wide : IsWide chip
   is-wide = record {
     index = small 0 (omega arith);
     count = t.count;
-    bytes = λ k l. let e = register-at k l in let b = small (suc k) (omega (arith, l)) in omega (arith, e, b);
+    bytes = λ k l. let e = register-at k l in let b = small (suc k) (omega arith) in omega arith;
   }
 
   pub same-chip : chip_of chip.version (saved_cells NEWEST_CLOCK chip) ≡ chip

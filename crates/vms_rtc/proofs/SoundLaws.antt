@@ -1,8 +1,9 @@
 -- Each call keeps the chip sound.
-use Rattle.vms_rtc.proofs.Facade.{◌≡◌, ◌≢◌, ℕ, ◌<◌, ◌≤◌, ◌==◌, ◌||◌, ◌%◌, Bool, true, false, if◌then◌else◌, List, length, ◌⊎◌, inl, inr, nat_eq, replicate, set}
-use Rattle.vms_rtc.proofs.Facade.{get_or, eqb-true, refl, sym, subst, ◌∙◌, arith, eq-eqb, false≢true, cases_Bool, cond_both, nat_tests, get_or-replicate}
-use Rattle.vms_rtc.proofs.Facade.{get_or-set_other, get_or-set_same, length-replicate, length-set, either, IsUpTo, power_on, data_read, read_of, index_written}
-use Rattle.vms_rtc.proofs.Facade.{data_written, written, passed, CallsKeepSound, IsSound, NEWEST_CLOCK, INDEX_PORT, REGISTER_A, REGISTER_C, REGISTER_D, Rtc}
+use Rattle.vms_rtc.proofs.Facade.{◌≡◌, ◌≢◌, ℕ, ◌<◌, ◌≤◌, ◌==◌, ◌||◌, ◌%◌, Bool, true, false, if◌then◌else◌, List, length, ◌⊎◌, inl, inr, replicate, set, get_or}
+use Rattle.vms_rtc.proofs.Facade.{eqb-true, refl, sym, subst, ◌∙◌, arith, eq-eqb, false≢true, cases_Bool, cond_both, nat_tests, get_or-replicate}
+use Rattle.vms_rtc.proofs.Facade.{get_or-set_other, get_or-set_same, length-replicate, length-set, ⊎_elim, cases_eq, either, IsUpTo, power_on, data_read}
+use Rattle.vms_rtc.proofs.Facade.{read_of, index_written, data_written, written, passed, CallsKeepSound, IsSound, NEWEST_CLOCK, INDEX_PORT, REGISTER_A}
+use Rattle.vms_rtc.proofs.Facade.{REGISTER_C, REGISTER_D, Rtc}
 
 on-sound : (version : ℕ) → IsUpTo NEWEST_CLOCK version → IsSound (power_on version)
 unfolding power_on
@@ -10,7 +11,7 @@ on-sound version v = record {
   version = v;
   index = omega arith;
   count = length-replicate {A = ℕ} 64 0;
-  bytes = λ k lt. let e : get_or (replicate 64 0) k 0 ≡ 0 = get_or-replicate {A = ℕ} 64 k 0 0 lt in omega (arith, e);
+  bytes = λ k lt. let e : get_or (replicate 64 0) k 0 ≡ 0 = get_or-replicate {A = ℕ} 64 k 0 0 lt in omega arith;
   a = omega arith;
   c = refl;
   d = refl;
@@ -19,16 +20,7 @@ on-sound version v = record {
 
 -- the flag of the periodic interrupt isn't part of soundness
 flagged : (flag : Bool) (chip : Rtc) → IsSound chip → IsSound (record chip { pf = flag })
-flagged flag chip s = record {
-  version = s.version;
-  index = s.index;
-  count = s.count;
-  bytes = s.bytes;
-  a = s.a;
-  c = s.c;
-  d = s.d;
-  mask = s.mask;
-}
+flagged flag chip s = search
 
 read-sound : (port : ℕ) (chip : Rtc) → IsSound chip → IsSound (read_of port chip).1
 unfolding read_of data_read
@@ -52,11 +44,7 @@ index-sound value chip s = record {
 -- a register of a written chip
 byte-kept : (xs : List ℕ) (i v k : ℕ) → i < length xs → v < 256 → get_or xs k 0 < 256 → get_or (set xs i v) k 0 < 256
 byte-kept xs i v k within small old =
-    by (cases_Bool (nat_eq k i))
-  where
-    by : (nat_eq k i ≡ true) ⊎ (nat_eq k i ≡ false) → get_or (set xs i v) k 0 < 256
-    by (inl e) = subst (λ (n : ℕ). get_or (set xs i v) n 0 < 256) (sym (eqb-true k i e)) (rw (get_or-set_same xs i v 0 within) small)
-    by (inr e) = rw (get_or-set_other xs i k v 0 (λ same. false≢true (sym e ∙ eq-eqb k i same))) old
+    ⊎_elim (λ (e : k ≡ i). subst (λ (n : ℕ). get_or (set xs i v) n 0 < 256) (sym e) (rw (get_or-set_same xs i v 0 within) small)) (λ other. rw (get_or-set_other xs i k v 0 other) old) (cases_eq k i)
 
 abbrev kept-of : ℕ → ℕ → ℕ
 kept-of index value = if index == REGISTER_A then value % 128 else value
@@ -73,7 +61,7 @@ register-a xs index value within old = by (cases_Bool (index == REGISTER_A))
         let here : get_or (set xs index (kept-of index value)) REGISTER_A 0 ≡ kept-of index value =
         subst (λ (n : ℕ). get_or (set xs index (kept-of index value)) n 0 ≡ kept-of index value) at (get_or-set_same xs index (kept-of index value) 0 within) in
         let low : kept-of index value ≤ 127 = rw e (omega arith) in
-        omega (arith, here, low)
+        omega arith
     by (inr e) = rw (get_or-set_other xs index REGISTER_A (kept-of index value) 0 (λ same. false≢true (sym e ∙ eq-eqb index REGISTER_A (sym same)))) old
 
 data-sound : (value : ℕ) (chip : Rtc) → value < 256 → IsSound chip → IsSound (data_written value chip)
@@ -81,17 +69,15 @@ unfolding data_written
 data-sound value chip small s =
     cond_both ((chip.index == REGISTER_C) || (chip.index == REGISTER_D)) _ _ IsSound (λ kept. s)
     (λ other.
-    let within : chip.index < length chip.cmos = let n = s.count in let i = s.index in omega (arith, n, i) in
-    let not-c : REGISTER_C ≢ chip.index = λ same. false≢true (sym other ∙ grind (arith, nat_tests, same)) in
-    let not-d : REGISTER_D ≢ chip.index = λ same. false≢true (sym other ∙ grind (arith, nat_tests, same)) in
+    let within : chip.index < length chip.cmos = let i = s.index in omega arith in
     record {
       version = s.version;
       index = s.index;
-      count = length-set chip.cmos chip.index (kept-of chip.index value) ∙ s.count;
+      count = cc (length-set chip.cmos chip.index (kept-of chip.index value));
       bytes = λ k lt. byte-kept chip.cmos chip.index (kept-of chip.index value) k within (kept-small chip.index value small) (s.bytes k lt);
       a = register-a chip.cmos chip.index value within s.a;
-      c = get_or-set_other chip.cmos chip.index REGISTER_C (kept-of chip.index value) 0 not-c ∙ s.c;
-      d = get_or-set_other chip.cmos chip.index REGISTER_D (kept-of chip.index value) 0 not-d ∙ s.d;
+      c = cc (get_or-set_other chip.cmos chip.index REGISTER_C (kept-of chip.index value) 0 (λ same. false≢true (sym other ∙ grind (arith, nat_tests, same))));
+      d = cc (get_or-set_other chip.cmos chip.index REGISTER_D (kept-of chip.index value) 0 (λ same. false≢true (sym other ∙ grind (arith, nat_tests, same))));
       mask = s.mask;
     })
 

@@ -1,9 +1,8 @@
 -- When a period ends in a span of time.
 use Rattle.vms_rtc.proofs.Facade.{◌≡◌, ℕ, ◌-◌, ◌*◌, ◌/◌, ◌%◌, ◌^◌, ◌<◌, ◌≤◌, ◌==◌, Bool, true, false, ◌||◌, Option, Some, None, ◌⊎◌, inl, inr, ⊎_elim, ◌↔◌}
-use Rattle.vms_rtc.proofs.Facade.{refl, sym, ap, arith, ltb-true, ltb-false, false≢true, nat_tests, div-mul-le_self, le-div_iff_mul-le, le-div, pow_pos, either}
-use Rattle.vms_rtc.proofs.Facade.{grown, quotient_mono, register, ticks, period_of_rate, period_of, ends_within, passed, PartsAreWhole, HasMultiple}
-use Rattle.vms_rtc.proofs.Facade.{FlagIsSetAtMultiples, REGISTER_A, Rtc}
-use Rattle.std.proofs.Common.{nat_lt}
+use Rattle.vms_rtc.proofs.Facade.{refl, sym, ap, arith, ltb-true, nat_tests, div-mul-le_self, le-div, pow_pos, either, grown, quotient_mono, register, ticks}
+use Rattle.vms_rtc.proofs.Facade.{period_of_rate, period_of, ends_within, passed, PartsAreWhole, HasMultiple, FlagIsSetAtMultiples, REGISTER_A, Rtc}
+use Rattle.vms_rtc.proofs.Facade.{div-lt_iff_lt-mul, false≢true}
 
 ticks-mono : (from to : ℕ) → from ≤ to → ticks from ≤ ticks to
 unfolding ticks
@@ -53,32 +52,12 @@ parts_are_whole = record { passed = parts }
 -- ---- multiples
 
 multiple-of : (period from to : ℕ) → 0 < period → ends_within (Some period) from to ≡ true → (k : ℕ) × (ticks from < k * period) × (k * period ≤ ticks to)
-multiple-of period from to p e =
-    let k = ticks to / period in
-    let less : ticks from / period < k = ltb-true (ticks from / period) k e in
-    (k, by (nat_lt (ticks from) (k * period)) refl less, div-mul-le_self (ticks to) period)
-  where
-    by : (b : Bool) → nat_lt (ticks from) (ticks to / period * period) ≡ b → ticks from / period < ticks to / period → ticks from < ticks to / period * period
-    by true b less = ltb-true (ticks from) (ticks to / period * period) b
-    by false b less =
-        let at-most = ltb-false (ticks from) (ticks to / period * period) b in
-        let back : ticks to / period ≤ ticks from / period = le-div (ticks to / period) (ticks from) period p at-most in
-        absurd (omega (arith, back, less))
+multiple-of period from to p e = (ticks to / period, (div-lt_iff_lt-mul p).0 (ltb-true _ _ e), div-mul-le_self (ticks to) period)
 
 ends-at : (period from to : ℕ) → 0 < period → (k : ℕ) × (ticks from < k * period) × (k * period ≤ ticks to) → ends_within (Some period) from to ≡ true
 ends-at period from to p m =
-    let after : m.0 ≤ ticks to / period = le-div m.0 (ticks to) period p m.2 in
-    let less : ticks from / period < m.0 = by (nat_lt (ticks from / period) m.0) refl in
-    let whole : ticks from / period < ticks to / period = omega (arith, after, less) in
-    grind (arith, nat_tests, whole)
-  where
-    by : (b : Bool) → nat_lt (ticks from / period) m.0 ≡ b → ticks from / period < m.0
-    by true b = ltb-true (ticks from / period) m.0 b
-    by false b =
-        let at-most : m.0 ≤ ticks from / period = ltb-false (ticks from / period) m.0 b in
-        let back : m.0 * period ≤ ticks from = (le-div_iff_mul-le p).0 at-most in
-        let gone = m.1 in
-        absurd (omega (arith, back, gone))
+    let whole : ticks from / period < ticks to / period = omega (arith, (div-lt_iff_lt-mul p).1 m.1, le-div m.0 (ticks to) period p m.2) in
+    grind (arith, nat_tests)
 
 ends-means : (period : Option ℕ) (from to : ℕ) → IsPositive period → (ends_within period from to ≡ true) ↔ HasMultiple period from to
 ends-means None from to p = (λ e. false≢true e, λ none. absurd none)
@@ -86,7 +65,7 @@ ends-means (Some period) from to p = (multiple-of period from to p, ends-at peri
 
 or-means : {A : Type 0} (was ends : Bool) → (ends ≡ true) ↔ A → ((was || ends) ≡ true) ↔ ((was ≡ true) ⊎ A)
 or-means true ends h = (λ e. inl refl, λ e. refl)
-or-means false ends h = (λ e. inr (h.0 e), ⊎_elim (λ f. absurd (false≢true f)) h.1)
+or-means false ends h = (λ e. inr (h.0 e), ⊎_elim (λ f. cc) h.1)
 
 set-at : (from to : ℕ) (chip : Rtc) → ((passed from to chip).pf ≡ true) ↔ ((chip.pf ≡ true) ⊎ HasMultiple (period_of (register REGISTER_A chip)) from to)
 unfolding passed

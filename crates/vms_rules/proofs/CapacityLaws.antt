@@ -14,10 +14,9 @@ and_true false = refl
 fits_all : (o : Option ℕ) (capacities : List ℕ) (z : ℤ) → fits (least_from o capacities) z ≡ (fits o z && counts_well capacities z)
 fits_all o [] z = and_true (fits o z)
 fits_all o (most ∷ capacities) z =
-    fits_all (lesser o most) capacities z ∙ ap (λ (b : Bool). b && counts_well capacities z) (fits_lesser o most z) ∙ and_assoc (fits o z)
-    (int_le z (pos most)) (counts_well capacities z)
+    cc (fits_all (lesser o most) capacities z, fits_lesser o most z, and_assoc (fits o z) (int_le z (pos most)) (counts_well capacities z))
 
 -- a number is at most the least capacity exactly if it is at most each of them
 pub least_fits : (fields : List Field) (table : List (Option ℕ)) (i : ℕ) (z : ℤ) → AreLeast fields table → i < length fields
     → fits (get_or table i None) z ≡ counts_well (counted i fields) z
-least_fits fields table i z h lt = ap (λ (o : Option ℕ). fits o z) (h.least i lt) ∙ fits_all None (counted i fields) z
+least_fits fields table i z h lt = cc (h.least i lt, fits_all None (counted i fields) z)

@@ -22,9 +22,7 @@ distinct_before before rising moved up =
 module _ (fields : List Field) (i : ℕ) (f : Field) (lt : i < length fields) (is : f ≡ get_or fields i f) where
   pub names_with : all_names (map field_of (take (i + 1) fields)) ≡ all_names (map field_of (take i fields)) ++ (f.name ∷ f.former)
   names_with =
-      let more : map field_of (take (i + 1) fields) ≡ map field_of (take i fields) ++ field_of f ∷ [] =
-      ap (map field_of) (take_more fields i f lt ∙ ap (λ (x : Field). take i fields ++ x ∷ []) (sym is)) ∙ map-append field_of (take i fields) (f ∷ []) in
-      ap all_names more ∙ names_of_both (map field_of (take i fields)) (field_of f ∷ [])
+      ap all_names (cc (take_more fields i f lt, map-append field_of (take i fields) (f ∷ []))) ∙ names_of_both (map field_of (take i fields)) (field_of f ∷ [])
       ∙ ap (λ (l : List (List ℕ)). all_names (map field_of (take i fields)) ++ f.name ∷ l) (append-nil f.former)
 
   pub keys_with : map key (all_names (map field_of (take (i + 1) fields)))
@@ -79,10 +77,7 @@ new_to : (had : List ℕ → Bool) (names : List (List ℕ)) → ((n : List ℕ)
 unfolding IsDistinct
 new_to had [] h d = refl
 new_to had (y ∷ names) h d =
-    ap (λ (b : Bool). b && are_new_to (with_name had y) names) (false_of (had y) (λ e. is_itself (key y) (h y e).0))
-    ∙ new_to (with_name had y) names
-    (λ n e. either_of (bytes_eq y n) (had n) e (λ z. subst (λ m. KeysApart m names) (is_same y n z) d.0) (λ z. (h n z).1))
-    d.1
+    cc (false_of (had y) (λ e. is_itself (key y) (h y e).0), new_to (with_name had y) names (λ n e. either_of (bytes_eq y n) (had n) e (λ z. subst (λ m. KeysApart m names) (is_same y n z) d.0) (λ z. (h n z).1)) d.1)
 
 -- the names of a field are new if the keys of all fields' names are distinct
 pub new_names : (fields : List Field) (i : ℕ) (f : Field) → i < length fields → f ≡ get_or fields i f
@@ -92,12 +87,9 @@ new_names fields i f lt is d =
     let names : List (List ℕ) = f.name ∷ f.former in
     let rest = all_names (map field_of (drop (i + 1) fields)) in
     let whole : all_names (map field_of fields) ≡ before ++ (names ++ rest) =
-    ap (λ (l : List Field). all_names (map field_of l)) (sym (take-append-drop i fields))
-    ∙ ap (λ (l : List Field). all_names (map field_of (take i fields ++ l))) (drop_is fields i f lt is)
-    ∙ ap all_names (map-append field_of (take i fields) (f ∷ drop (i + 1) fields))
-    ∙ names_of_both (map field_of (take i fields)) (map field_of (f ∷ drop (i + 1) fields)) in
+    cc (take-append-drop i fields, drop_is fields i f lt is, map-append field_of (take i fields) (f ∷ drop (i + 1) fields), names_of_both (map field_of (take i fields)) (map field_of (f ∷ drop (i + 1) fields))) in
     let split : map key (all_names (map field_of fields)) ≡ map key (before ++ names) ++ map key rest =
-    ap (map key) (whole ∙ sym (append_assoc before names rest)) ∙ map-append key (before ++ names) rest in
+    cc (append_assoc before names rest, map-append key (before ++ names) rest) in
     let both : IsDistinct same (map key (before ++ names)) = distinct_left (map key (before ++ names)) (map key rest) (subst (IsDistinct same) split d) in
     let own : IsDistinct same (map key names) = distinct_right (map key before) (map key names) (subst (IsDistinct same) (map-append key before names) both) in
     ap (λ (l : List sets.Field). are_new (all_names l) names) (take-map field_of i fields) ∙ new_is before names
@@ -108,5 +100,5 @@ pub names_known : (fields : List Field) (i : ℕ) (f : Field) (had : List ℕ �
     → (differ ≡ true → IsDistinct same (map key (all_names (map field_of fields))))
     → (differ ≡ false → (n : List ℕ) → had n ≡ is_one_of (all_names (map field_of (take i fields))) n) → is_new ≡ (differ || are_new_to had (f.name ∷ f.former))
     → is_new ≡ are_new (all_names (take i (map field_of fields))) (f.name ∷ f.former)
-names_known fields i f had true is_new lt is distinct before e = e ∙ sym (new_names fields i f lt is (distinct refl))
+names_known fields i f had true is_new lt is distinct before e = cc (new_names fields i f lt is (distinct refl))
 names_known fields i f had false is_new lt is distinct before e = names_new fields i (f.name ∷ f.former) had is_new (before refl) e

@@ -20,9 +20,8 @@ apart_in_order : (name n : List ℕ) (k : ℕ × List ℕ) → bytes_eq name n �
     → eq_by_cmp by_key (key n, n) k ≡ false
 apart_in_order name n k differ same =
     let equal = eq_by_cmp_equiv in_order in
-    let new : ℕ × List ℕ = (key name, name) in
     let other : ℕ × List ℕ = (key n, n) in
-    equal.symm other k ∙ sym (equal.congr new k other same)
+    equal.symm other k ∙ sym (equal.congr (key name, name) k other same)
     ∙ second_differs (nat_cmp (key name) (key n)) (slice_cmp nat_cmp name n) (is_eq-slice_cmp name n ∙ differ)
 
 other_keys : {K : Type 0} (eq : K → K → Bool) (test : K → Bool) (old new : List K) → KeepsOthers eq test old new
@@ -49,14 +48,12 @@ name_added names after name h n =
 
 pub same_new : (had have : List ℕ → Bool) (names : List (List ℕ)) → ((n : List ℕ) → had n ≡ have n) → are_new_to had names ≡ are_new_to have names
 same_new had have [] same = refl
-same_new had have (n ∷ names) same =
-    ap (λ (b : Bool). not b && are_new_to (with_name had n) names) (same n)
-    ∙ ap (λ (b : Bool). not (have n) && b) (same_new (with_name had n) (with_name have n) names (λ m. ap (λ (b : Bool). bytes_eq n m || b) (same m)))
+same_new had have (n ∷ names) same = cc (same n, same_new (with_name had n) (with_name have n) names (λ m. ap (λ (b : Bool). bytes_eq n m || b) (same m)))
 
 -- one more name in a list
 pub is_one_more : (names : List (List ℕ)) (x n : List ℕ) → is_one_of (names ++ x ∷ []) n ≡ (is_one_of names n || bytes_eq x n)
 is_one_more [] x n = or-false (bytes_eq x n)
-is_one_more (m ∷ names) x n = ap (λ (b : Bool). bytes_eq m n || b) (is_one_more names x n) ∙ sym (or_assoc (bytes_eq m n) (is_one_of names n) (bytes_eq x n))
+is_one_more (m ∷ names) x n = cc (is_one_more names x n, or_assoc (bytes_eq m n) (is_one_of names n) (bytes_eq x n))
 
 -- the names of one more element of a list
 pub names_so_far : {X Y : Type 0} (view : X → Y) (name : Y → List ℕ) (xs : List X) (i : ℕ) (x : X) (had have : List ℕ → Bool) → i < length xs
@@ -65,13 +62,12 @@ pub names_so_far : {X Y : Type 0} (view : X → Y) (name : Y → List ℕ) (xs :
     → (n : List ℕ) → have n ≡ is_one_of (map name (take (i + 1) (map view xs))) n
 names_so_far view name xs i x had have lt is before now n =
     let earlier = take i (map view xs) in
-    let next = take_more (map view xs) i (view x) (omega (arith, length-map xs view)) in
     cc (
       now n,
       before n,
       or_comm (bytes_eq (name (view x)) n) (is_one_of (map name earlier) n),
       is_one_more (map name earlier) (name (view x)) n,
-      next,
+      take_more (map view xs) i (view x) (omega (arith, length-map xs view)),
       get_map_at view xs i x (view x) lt is,
       map-append name earlier (view x ∷ []),
     )
@@ -80,38 +76,31 @@ pub added_more : (list : List (List ℕ)) (i : ℕ) (x : List ℕ) (first had ha
     → ((n : List ℕ) → had n ≡ (is_one_of (take i list) n || first n)) → ((n : List ℕ) → have n ≡ with_name had x n)
     → (n : List ℕ) → have n ≡ (is_one_of (take (i + 1) list) n || first n)
 added_more list i x first had have lt is before now n =
-    now n ∙ ap (λ (b : Bool). bytes_eq x n || b) (before n) ∙ or_turned (bytes_eq x n) (is_one_of (take i list) n) (first n)
-    ∙ ap (λ (b : Bool). b || first n) (sym (is_one_more (take i list) x n))
-    ∙ ap (λ (l : List (List ℕ)). is_one_of l n || first n) (sym (take_more list i x lt ∙ ap (λ (y : List ℕ). take i list ++ y ∷ []) (sym is)))
+    cc (now n, before n, or_turned (bytes_eq x n) (is_one_of (take i list) n) (first n), is_one_more (take i list) x n, take_more list i x lt)
 
 pub new_more : (list : List (List ℕ)) (i : ℕ) (x : List ℕ) (had have : List ℕ → Bool) (so_far whole : Bool) → i < length list → x ≡ get_or list i x
     → (so_far && are_new_to had (drop i list)) ≡ whole → ((n : List ℕ) → have n ≡ with_name had x n)
     → ((so_far && not (had x)) && are_new_to have (drop (i + 1) list)) ≡ whole
 new_more list i x had have so_far whole lt is before now =
-    ap (λ (b : Bool). (so_far && not (had x)) && b) (same_new have (with_name had x) (drop (i + 1) list) now)
-    ∙ and_assoc so_far (not (had x)) (are_new_to (with_name had x) (drop (i + 1) list))
-    ∙ ap (λ (l : List (List ℕ)). so_far && are_new_to had l) (sym (drop_is list i x lt is)) ∙ before
+    cc (same_new have (with_name had x) (drop (i + 1) list) now, and_assoc so_far (not (had x)) (are_new_to (with_name had x) (drop (i + 1) list)), drop_is list i x lt is)
 
 -- ---- a subsection's name
 
 equal_push : (xs ys : List ℕ) (x y : ℕ) → length xs ≡ length ys → bytes_eq (xs ++ x ∷ []) (ys ++ y ∷ []) ≡ (bytes_eq xs ys && nat_eq x y)
 equal_push [] [] x y e = and-true (nat_eq x y)
-equal_push (a ∷ xs) (b ∷ ys) x y e =
-    ap (λ (r : Bool). nat_eq a b && r) (equal_push xs ys x y (omega arith)) ∙ sym (and_assoc (nat_eq a b) (bytes_eq xs ys) (nat_eq x y))
+equal_push (a ∷ xs) (b ∷ ys) x y e = cc (equal_push xs ys x y (omega arith), and_assoc (nat_eq a b) (bytes_eq xs ys) (nat_eq x y))
 equal_push _ _ x y e = absurd (omega arith)
 
 pub sub_name_parts : (device name : List ℕ) → length device < length name
     → is_sub_name device name ≡ ((bytes_eq (take (length device) name) device && nat_eq (get_or name (length device) 0) 47) && is_name 64
     (drop (length device + 1) name))
 sub_name_parts device name lt =
-    ap (λ (l : List ℕ). bytes_eq l (device ++ 47 ∷ []) && is_name 64 (drop (length device + 1) name)) (take_more name (length device) 0 lt)
-    ∙ ap (λ (b : Bool). b && is_name 64 (drop (length device + 1) name))
-    (equal_push (take (length device) name) device (get_or name (length device) 0) 47 (omega (arith, length-take (length device) name)))
+    cc (take_more name (length device) 0 lt, equal_push (take (length device) name) device (get_or name (length device) 0) 47 (omega (arith, length-take (length device) name)))
 
 pub no_sub_name : (device name : List ℕ) → length name ≤ length device → is_sub_name device name ≡ false
 no_sub_name device name le =
     ap (λ (b : Bool). b && is_name 64 (drop (length device + 1) name))
     (unequal nat_eq (take (length device + 1) name) (device ++ 47 ∷ [])
-    (λ e. omega (arith, e, length-take (length device + 1) name, length-append device (47 ∷ []))))
+    (λ e. omega (arith, length-take (length device + 1) name, length-append device (47 ∷ []))))
 
 pub ruleset sub_name_laws = (sub_name_parts, no_sub_name)

@@ -17,9 +17,7 @@ none_with : (had : List ℕ → Bool) (x : List ℕ) (names : List (List ℕ)) �
 unfolding none
 none_with had x [] = refl
 none_with had x (n ∷ names) =
-    ap (λ (b : Bool). not (bytes_eq x n || had n) && b) (none_with had x names) ∙ ap
-    (λ (b : Bool). not (b || had n) && (not (is_one_of names x) && none had names)) (nat_list_eq_equiv.symm x n)
-    ∙ regroup (bytes_eq n x) (had n) (is_one_of names x) (none had names) where
+    cc (none_with had x names, nat_list_eq_equiv.symm x n, regroup (bytes_eq n x) (had n) (is_one_of names x) (none had names)) where
       regroup : (a b c d : Bool) → (not (a || b) && (not c && d)) ≡ (not (a || c) && (not b && d))
       regroup true b c d = refl
       regroup false true true d = refl
@@ -31,19 +29,18 @@ new_and_distinct : (had : List ℕ → Bool) (names : List (List ℕ)) → are_n
 unfolding none
 new_and_distinct had [] = refl
 new_and_distinct had (n ∷ names) =
-    ap (λ (b : Bool). not (had n) && b) (new_and_distinct (with_name had n) names ∙ ap (λ (b : Bool). b && are_distinct names) (none_with had n names))
-    ∙ regroup (not (had n)) (not (is_one_of names n)) (none had names) (are_distinct names) where
+    cc (new_and_distinct (with_name had n) names, none_with had n names, regroup (not (had n)) (not (is_one_of names n)) (none had names) (are_distinct names)) where
       regroup : (a b c d : Bool) → (a && ((b && c) && d)) ≡ ((a && c) && (b && d))
-      regroup a b c d = ap (λ (t : Bool). a && t) (and_assoc b c d) ∙ sym (and_assoc a b (c && d)) ∙ and_swap a b c d
+      regroup a b c d = cc (and_assoc b c d, and_assoc a b (c && d), and_swap a b c d)
 
 none_of_none : (had : List ℕ → Bool) (names : List (List ℕ)) → ((n : List ℕ) → had n ≡ false) → none had names ≡ true
 unfolding none
 none_of_none had [] empty = refl
-none_of_none had (n ∷ names) empty = ap (λ (b : Bool). not b && none had names) (empty n) ∙ none_of_none had names empty
+none_of_none had (n ∷ names) empty = cc (empty n, none_of_none had names empty)
 
 -- names that are new to the empty set are distinct
 pub distinct_is : (had : List ℕ → Bool) (names : List (List ℕ)) → ((n : List ℕ) → had n ≡ false) → are_new_to had names ≡ are_distinct names
-distinct_is had names empty = new_and_distinct had names ∙ ap (λ (b : Bool). b && are_distinct names) (none_of_none had names empty)
+distinct_is had names empty = cc (new_and_distinct had names, none_of_none had names empty)
 
 pub empty_has_none : (names : BTreeSet (ℕ × Bor (List ℕ))) → names.keys ≡ [] → (n : List ℕ) → has_name names n ≡ false
 empty_has_none names e n = ap (λ (keys : List (ℕ × Bor (List ℕ))). list_any (is_at (λ k. by_key (key n, n) (k.0, k.1.now))) keys) e
@@ -82,5 +79,4 @@ module _ (set : sets.Set) where
       → first_fault set ≡ failing 1 (size_rules set) (here parts.Set)
   unfolding first_fault own devices last
   items_left good structs none =
-      first_good own (or_else (structs_from set.structs 0 set.structs) devices) good ∙ first_good (structs_from set.structs 0 set.structs) devices structs
-      ∙ first_good (devices_from set 0 set.devices) last none
+      cc (first_good own (or_else (structs_from set.structs 0 set.structs) devices) good, first_good (structs_from set.structs 0 set.structs) devices structs, first_good (devices_from set 0 set.devices) last none)

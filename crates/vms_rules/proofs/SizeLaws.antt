@@ -7,16 +7,15 @@ use Rattle.vms_spec.specs.Sets as sets
 
 pub subs_are : (sizes : List ℕ) (subs : List sets.Sub) → subs_items sizes subs ≡ subs_size Items sizes subs
 subs_are sizes [] = refl
-subs_are sizes (s ∷ subs) =
-    ap (λ (n : ℕ). n + subs_items sizes subs) (items_are sizes s.desc.fields) ∙ ap (λ (n : ℕ). fields_size Items sizes s.desc.fields + n) (subs_are sizes subs)
+subs_are sizes (s ∷ subs) = cc (items_are sizes s.desc.fields, subs_are sizes subs)
 
 -- ---- sizes that are cut give the same result
 
 capped_items : (sizes : List ℕ) (fs : List sets.Field) → in_u32 (items_in (map in_u32 sizes) fs) ≡ in_u32 (items_in sizes fs)
-capped_items sizes fs = ap in_u32 (items_are (map in_u32 sizes) fs) ∙ capped_fields Items sizes fs ∙ ap in_u32 (sym (items_are sizes fs))
+capped_items sizes fs = cc (items_are (map in_u32 sizes) fs, capped_fields Items sizes fs, items_are sizes fs)
 
 items_of_subs : (sizes : List ℕ) (subs : List sets.Sub) → in_u32 (subs_items (map in_u32 sizes) subs) ≡ in_u32 (subs_items sizes subs)
-items_of_subs sizes subs = ap in_u32 (subs_are (map in_u32 sizes) subs) ∙ capped_subs Items sizes subs ∙ ap in_u32 (sym (subs_are sizes subs))
+items_of_subs sizes subs = cc (subs_are (map in_u32 sizes) subs, capped_subs Items sizes subs, subs_are sizes subs)
 
 capped_devices : (sizes : List ℕ) (devices : List sets.Device) → in_u32 (devices_items (map in_u32 sizes) devices) ≡ in_u32 (devices_items sizes devices)
 capped_devices sizes [] = refl
@@ -29,7 +28,4 @@ pub few_items : (structs : List sets.Desc) (devices : List sets.Device) (sizes :
     → sizes ≡ map in_u32 (sizes_to Items structs (length structs))
     → items ≡ in_u32 (devices_items sizes devices) → nat_le items MOST_ITEMS ≡ nat_le (devices_items (struct_items structs) devices) MOST_ITEMS
 few_items structs devices sizes items is e =
-    ap (λ (n : ℕ). nat_le n MOST_ITEMS)
-    (e ∙ ap (λ (l : List ℕ). in_u32 (devices_items l devices)) is ∙ capped_devices (sizes_to Items structs (length structs)) devices)
-    ∙ same_limit (devices_items (sizes_to Items structs (length structs)) devices)
-    ∙ ap (λ (l : List ℕ). nat_le (devices_items l devices) MOST_ITEMS) (sym (items_to structs (length structs)))
+    cc (capped_devices (sizes_to Items structs (length structs)) devices, same_limit (devices_items (sizes_to Items structs (length structs)) devices), items_to structs (length structs))

@@ -22,9 +22,7 @@ pub depths_more : (structs : List Desc) (depths : List ℕ) (i depth : ℕ) (d :
 unfolding first
 depths_more structs depths i depth d lt is e now =
     let ds = map desc_of structs in
-    let more : depths_to ds (i + 1) ≡ depths_to ds i ++ (1 + deepest (depths_to ds i) (get_or ds i no_desc).fields) ∷ [] =
-    ap (λ (k : ℕ). depths_to ds k) (add-one i) in
-    cc (get_map_at desc_of structs i d no_desc lt is, more, now, e)
+    cc (get_map_at desc_of structs i d no_desc lt is, (ap (λ (k : ℕ). depths_to ds k) (add-one i)), now, e)
 
 push_small : (xs : List ℕ) (x most j : ℕ) → ((k : ℕ) → get_or xs k 0 ≤ most) → x ≤ most → get_or (xs ++ x ∷ []) j 0 ≤ most
 push_small [] x most zero small le = le
@@ -41,7 +39,7 @@ none_small depths j e = rw e (omega arith)
 -- there are the same number of depths and structures
 pub depths_long : (structs : List Desc) (depths : List ℕ) → depths ≡ struct_depths (map desc_of structs) → length depths ≡ length structs
 depths_long structs depths e =
-    ap length e ∙ first_long (λ depths d. 1 + deepest depths d.fields) (map desc_of structs) (length (map desc_of structs)) ∙ length-map structs desc_of
+    cc (first_long (λ depths d. 1 + deepest depths d.fields) (map desc_of structs) (length (map desc_of structs)), length-map structs desc_of)
 
 value_at : (xs : List ℕ) (i v : ℕ) → i < length xs → v ≡ get_or xs i v → v ≡ get_or xs i 0
 value_at [] i v lt is = absurd (omega arith)
@@ -51,4 +49,4 @@ value_at (x ∷ xs) (suc i) v lt is = value_at xs i v (omega arith) is
 pub depth_at : (structs : List Desc) (depths : List ℕ) (i depth : ℕ) → i < length structs → depths ≡ struct_depths (map desc_of structs)
     → depth ≡ get_or depths i depth
     → depth ≡ get_or (struct_depths (map desc_of structs)) i 0
-depth_at structs depths i depth lt e is = value_at depths i depth (omega (arith, lt, depths_long structs depths e)) is ∙ ap (λ (l : List ℕ). get_or l i 0) e
+depth_at structs depths i depth lt e is = cc (value_at depths i depth (omega (arith, lt, depths_long structs depths e)) is)

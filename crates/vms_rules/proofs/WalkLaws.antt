@@ -64,4 +64,4 @@ spot_stops f ys i d whole e lt h is_whole = stops_here f i (get_or ys i d) _ _ w
 
 pub spots_good : {Y : Type 0} (f : ℕ → Y → Option SetFault) (ys : List Y) (i : ℕ) (whole : Option SetFault) → length ys ≤ i
     → first_answer f i (drop i ys) ≡ whole → whole ≡ None
-spots_good f ys i whole all e = sym e ∙ ap (first_answer f i) (drop_all i ys all)
+spots_good f ys i whole all e = cc (drop_all i ys all)

@@ -1,12 +1,7 @@
 -- The sets of the worked rows: device box 0 with a few fields, and one set with everything.
-use Rattle.std.proofs.Common.{ℕ, List, [], ◌∷◌, Some, None, pos, negsuc, codes}
-use Rattle.vms_kinds.specs.declared.Kind.{Kind}
-use Rattle.vms_kinds.specs.declared.Kind.TheVariants.{U8, U16, U32, I8, Bool as Truth}
-use Rattle.vms_kinds.specs.declared.Item.TheVariants.{Num, Equal, Unused, Struct}
-use Rattle.vms_spec.specs.declared.Count.TheVariants.{One, Counted}
-use Rattle.vms_spec.specs.declared.Rel.TheVariants.{Eq, Ne, Lt, Ge}
-use Rattle.vms_spec.specs.declared.Whose.TheVariants.{Own, Parent}
-use Rattle.vms_spec.specs.Sets.{Set, Device, Desc, Field, Sub, Formula, AtLeast, Below, Cell, And, Or}
+use Rattle.vms_spec.proofs.Facade.{ℕ, List, [], ◌∷◌, Some, None, pos, negsuc, codes, Kind, U8, U16, U32, I8, Num, Equal, Unused, Struct, One, Counted, Eq, Ne}
+use Rattle.vms_spec.proofs.Facade.{Lt, Ge, Own, Parent, Set, Device, Desc, Field, Sub, Formula, AtLeast, Below, Cell, And, Or}
+use Rattle.vms_kinds.specs.declared.Kind.TheVariants.{Bool as Truth}
 
 abbrev pub number : Kind → List ℕ → Field
 number kind name = record { name = name; former = []; item = Num kind; count = One; since = 0; test = None; default = pos 0 }

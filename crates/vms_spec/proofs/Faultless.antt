@@ -1,16 +1,8 @@
 -- A set without a fault: each test in the walk finds nothing, and each rule holds.
-use Rattle.std.proofs.Common.{◌≡◌, ℕ, zero, suc, ◌+◌, ◌≤◌, List, [], ◌∷◌, length, Option, Some, None, refl, sym, ap, ◌∙◌, arith, Bool, true, false, ◌&&◌, ◌||◌, nat_le}
-use Rattle.std.specs.List.{slice_get, list_all}
-use Rattle.std.specs.Str.{bytes_eq}
-use Rattle.std.proofs.lemmas.Slice.Eq.{bytes_eq-Decides}
-use Rattle.std.proofs.lemmas.Bool.{and_parts, leb-true}
+use Rattle.vms_spec.proofs.Facade.{◌≡◌, ℕ, zero, suc, ◌+◌, ◌≤◌, List, [], ◌∷◌, length, Option, Some, None, refl, sym, ap, ◌∙◌, arith, Bool, true, false, ◌&&◌}
+use Rattle.vms_spec.proofs.Facade.{◌||◌, nat_le, slice_get, list_all, bytes_eq, bytes_eq-Decides, and_parts, leb-true, Place, or_else, first_answer, is_name}
+use Rattle.vms_spec.proofs.Facade.{is_name_byte, Set, is_one_of, failing, first_fault, here, set_rules, WellFormed}
 use Rattle.vms_spec.specs.declared.Part.TheVariants as parts
-use Rattle.vms_spec.specs.declared.Place.{Place}
-use Rattle.vms_spec.specs.Lists.{or_else, first_answer}
-use Rattle.vms_spec.specs.Names.{is_name, is_name_byte}
-use Rattle.vms_spec.specs.Sets.{Set}
-use Rattle.vms_spec.specs.Streams.{is_one_of}
-use Rattle.vms_spec.specs.WellFormed.{failing, first_fault, here, set_rules, WellFormed}
 
 pub or_else_none : {X : Type 0} (x y : Option X) → or_else x y ≡ None → (x ≡ None) × (y ≡ None)
 or_else_none (Some x) y e = cc

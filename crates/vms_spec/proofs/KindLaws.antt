@@ -1,16 +1,8 @@
 -- Numbers can be read back from their bytes.
-use Rattle.std.proofs.Common.{◌≡◌, List, ◌++◌, ℕ, ◌%◌, ◌^◌, ◌*◌, ◌<◌, length, ℤ, pos, negsuc, refl, sym, ap, ◌∙◌, arith, append-nil, false, ◌≤◌, []}
-use Rattle.std.proofs.lemmas.Bool.{le-ltb}
-use Rattle.std.proofs.lemmas.Int.{ints}
-use Rattle.std.proofs.lemmas.Nat.{mod_below, pow_pos}
-use Rattle.byteorder.specs.Endian.{big_number, big_bytes, big_from, twos_complement}
-use Rattle.byteorder.specs.Numbers.{big_number-reads_back}
-use Rattle.vms_kinds.specs.declared.Kind.{Kind}
-use Rattle.vms_kinds.specs.declared.Kind.TheVariants.{U8, U16, U32, U64, I8, I16, I32, I64, Bool, Timer}
-use Rattle.vms_kinds.specs.Codes.{width, residue, code, InRange, value_of}
-use Rattle.vms_spec.specs.declared.TheConstants.{MOST_UNUSED}
-use Rattle.vms_spec.specs.Streams.{be32}
-use Rattle.vms_spec.specs.Lookup.{is_bad_bool}
+use Rattle.vms_spec.proofs.Facade.{◌≡◌, List, ◌++◌, ℕ, ◌%◌, ◌^◌, ◌*◌, ◌<◌, length, ℤ, pos, negsuc, refl, sym, ap, ◌∙◌, arith, append-nil, false, ◌≤◌, []}
+use Rattle.vms_spec.proofs.Facade.{le-ltb, ints, mod_below, pow_pos, big_number, big_bytes, big_from, twos_complement, big_number-reads_back, Kind, U8, U16}
+use Rattle.vms_spec.proofs.Facade.{U32, U64, I8, I16, I32, I64, Timer, width, residue, code, InRange, value_of, MOST_UNUSED, be32, is_bad_bool}
+use Rattle.vms_kinds.specs.declared.Kind.TheVariants.{Bool}
 
 pub read_back : (w x : ℕ) → x < 256 ^ w → big_number w (big_bytes w x) ≡ x
 read_back w x h = ap (big_from 0 w) (sym (append-nil (big_bytes w x))) ∙ big_number-reads_back w x [] h

@@ -1,16 +1,17 @@
-pub mod KindLaws
-pub mod Rows
-pub mod Boxes
-pub mod Sizes
-pub mod Tables
-pub mod Prefixes
-pub mod Faultless
-pub mod WellFormedLaws
-pub mod ShippedSets
 mod PlaceRows
-mod WellFormedRows
 mod ReadyRows
 mod ValuesRows
+mod WellFormedRows
+pub mod Boxes
+pub mod Facade
+pub mod Faultless
+pub mod KindLaws
 pub mod ListLaws
 pub mod NameBytes
 pub mod NumberLaws
+pub mod Prefixes
+pub mod Rows
+pub mod ShippedSets
+pub mod Sizes
+pub mod Tables
+pub mod WellFormedLaws

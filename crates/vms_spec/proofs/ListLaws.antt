@@ -1,17 +1,8 @@
 -- Lists, and tests of them.
-use Rattle.std.proofs.Common.{◌≡◌, ℕ, zero, suc, ◌+◌, ◌*◌, ◌-◌, ◌<◌, ◌≤◌, min, Bool, true, false, ◌&&◌, nat_le, if◌then◌else◌, List, ◌∷◌, ◌++◌, length, get_or, drop, Option, Some, None, refl, sym, ap, ◌∙◌, arith, ◌||◌, []}
-use Rattle.std.specs.List.{AllByRecursion, slice_get}
-use Rattle.std.specs.Str.{bytes_eq}
-use Rattle.std.proofs.Math.Bool.{or_assoc, or_comm}
-use Rattle.std.proofs.Math.Seq.{drop-append_seam}
-use Rattle.std.proofs.lemmas.Bool.{and_from, and_parts, leb-true, le-leb}
-use Rattle.std.proofs.lemmas.List.{drop-drop, drop_more, get_or_read}
-use Rattle.std.proofs.lemmas.Slice.Eq.{bytes_eq-Decides}
-use Rattle.vms_spec.specs.Lists.{or_else, position}
-use Rattle.vms_spec.specs.Sets.{Sub}
-use Rattle.vms_spec.specs.Images.{AreVersionsOf}
-use Rattle.vms_spec.specs.Streams.{AllCame, is_one_of}
-use Rattle.vms_spec.specs.Spelling.{natural_from}
+use Rattle.vms_spec.proofs.Facade.{◌≡◌, ℕ, suc, ◌+◌, ◌*◌, ◌-◌, ◌<◌, ◌≤◌, min, Bool, true, false, ◌&&◌, nat_le, if◌then◌else◌, List, ◌∷◌, ◌++◌, length, get_or}
+use Rattle.vms_spec.proofs.Facade.{drop, Option, Some, None, refl, sym, ap, ◌∙◌, arith, ◌||◌, [], AllByRecursion, slice_get, bytes_eq, or_assoc, or_comm}
+use Rattle.vms_spec.proofs.Facade.{drop-append_seam, and_from, and_parts, leb-true, le-leb, drop-drop, drop_more, get_or_read, bytes_eq-Decides, or_else}
+use Rattle.vms_spec.proofs.Facade.{position, Sub, AreVersionsOf, AllCame, is_one_of, natural_from}
 
 -- ---- tests
 

@@ -1,7 +1,5 @@
 -- The bytes of names are printable ASCII.
-use Rattle.std.proofs.Common.{◌≡◌, ℕ, ◌<◌, ◌≤◌, true, arith}
-use Rattle.std.proofs.lemmas.Bool.Decides.{nat_tests}
-use Rattle.vms_spec.specs.Names.{is_name_byte}
+use Rattle.vms_spec.proofs.Facade.{◌≡◌, ℕ, ◌<◌, ◌≤◌, true, arith, nat_tests, is_name_byte}
 
 pub name_byte_high : (b : ℕ) → is_name_byte b ≡ true → 45 ≤ b
 name_byte_high b e = grind (arith, nat_tests)

@@ -1,9 +1,6 @@
 -- Tests on numbers, and the relations that they decide.
-use Rattle.std.proofs.Common.{◌≡◌, ℕ, Bool, true, false, List, ◌∷◌, ℤ, pos, negsuc, ◌≤ℤ◌, refl, ap, ◌∙◌, arith, ◌||◌, []}
-use Rattle.std.specs.List.{AllByRecursion}
-use Rattle.std.proofs.lemmas.Bool.{eqb-true, eq-eqb, ltb-false, le-ltb, or_parts}
-use Rattle.std.proofs.lemmas.Int.{ints}
-use Rattle.vms_spec.specs.Numbers.{same_number, is_above, exceeds}
+use Rattle.vms_spec.proofs.Facade.{◌≡◌, ℕ, true, false, List, ◌∷◌, ℤ, pos, negsuc, ◌≤ℤ◌, refl, ap, arith, [], AllByRecursion, eqb-true, eq-eqb, ltb-false}
+use Rattle.vms_spec.proofs.Facade.{le-ltb, or_parts, ints, same_number, is_above, exceeds}
 
 pub same_number_itself : (z : ℤ) → same_number z z ≡ true
 same_number_itself (pos n) = eq-eqb n n refl

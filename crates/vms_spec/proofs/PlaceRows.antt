@@ -1,8 +1,5 @@
 -- The cells of paths.
-use Rattle.std.proofs.Common.{◌≡◌, [], ◌∷◌, Some, None, refl}
-use Rattle.vms_spec.specs.Layout.{first}
-use Rattle.vms_spec.specs.Places.{cell_at, cell_count}
-use Rattle.vms_spec.specs.Shipped.{set_3}
+use Rattle.vms_spec.proofs.Facade.{◌≡◌, [], ◌∷◌, Some, None, refl, first, cell_at, cell_count, set_3}
 use Rattle.vms_spec.proofs.Boxes.{counted_set, constant_set, mixed_set}
 
 counts_cells : cell_count counted_set 0 ≡ 3

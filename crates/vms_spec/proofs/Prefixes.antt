@@ -1,18 +1,10 @@
 -- A structure has the same meaning in each table that includes it.
-use Rattle.std.proofs.Common.{◌≡◌, ℕ, zero, suc, ◌+◌, ◌<◌, ◌≤◌, List, ◌∷◌, ◌++◌, length, get_or, map, ℤ, pos, refl, sym, ap, ◌∙◌, arith, true, if◌then◌else◌, []}
-use Rattle.std.proofs.Math.ListN.{get_or-map}
-use Rattle.std.proofs.Math.Path.{fun_ext}
-use Rattle.std.proofs.lemmas.Bool.{ltb-true}
-use Rattle.std.proofs.lemmas.List.{map-append}
-use Rattle.vms_kinds.specs.declared.Item.{Item}
-use Rattle.vms_kinds.specs.declared.Item.TheVariants.{Num, Equal, Unused, Struct}
-use Rattle.vms_kinds.specs.Codes.{width, residue}
-use Rattle.vms_spec.specs.Sets.{Field, Desc}
-use Rattle.vms_spec.specs.Tests.{is_there}
-use Rattle.vms_spec.specs.Rules.{uses_below}
-use Rattle.vms_spec.specs.Layout.{Cell, Slot, Rule, Meaning, no_desc, no_field, no_parent, no_meaning, first, meaning, meanings, times, counted, capacity_of, item_cells, field_cells, cells_from, desc_cells, elements_of, item_slots, slots_from, desc_slots, numbers_of, place_of, kind_of, all_hold}
+use Rattle.vms_spec.proofs.Facade.{◌≡◌, ℕ, zero, suc, ◌+◌, ◌<◌, ◌≤◌, List, ◌∷◌, ◌++◌, length, get_or, map, ℤ, pos, refl, sym, ap, ◌∙◌, arith, true, []}
+use Rattle.vms_spec.proofs.Facade.{get_or-map, fun_ext, ltb-true, map-append, Item, Struct, Field, Desc, is_there, uses_below, Meaning, no_desc, no_field}
+use Rattle.vms_spec.proofs.Facade.{no_parent, no_meaning, first, meaning, meanings, counted, item_cells, field_cells, cells_from, desc_cells, elements_of}
+use Rattle.vms_spec.proofs.Facade.{item_slots, slots_from, desc_slots, numbers_of, place_of, Reader, reader, cells_of}
+use Rattle.vms_spec.specs.Layout.{Cell}
 use Rattle.vms_spec.proofs.Tables.{first_at}
-use Rattle.vms_spec.specs.ValuesReading.{Reader, reader, cells_of}
 
 -- the item is no structure, or a structure of a number below k
 abbrev pub ItemBelow : ℕ → Item → Type 0

@@ -1,11 +1,6 @@
 -- The images that may be written.
-use Rattle.std.proofs.Common.{◌≡◌, ℕ, List, [], ◌∷◌, map, Bool, true, false, Option, Some, None, pos, negsuc, refl}
-use Rattle.std.specs.List.{list_all}
-use Rattle.vms_spec.specs.Layout.{first}
-use Rattle.vms_spec.specs.Sets.{Device, Set}
-use Rattle.vms_spec.specs.Images.{Image, default_image}
-use Rattle.vms_spec.specs.Readiness.{is_normal, is_ready}
-use Rattle.vms_spec.specs.Shipped.{shipped_sets}
+use Rattle.vms_spec.proofs.Facade.{◌≡◌, ℕ, List, [], ◌∷◌, map, Bool, true, false, Option, Some, None, pos, negsuc, refl, list_all, first, Device, Set, Image}
+use Rattle.vms_spec.proofs.Facade.{default_image, is_normal, is_ready, shipped_sets}
 use Rattle.vms_spec.proofs.Boxes.{counted_set, subsection_set, tested_set, mixed_set}
 
 -- each device's default image is ready

@@ -1,6 +1,6 @@
 -- Helpers of the worked rows: bytes from hexadecimal digits, lines of text, and the result of a
 -- reading.
-use Rattle.std.proofs.Common.{ℕ, ◌+◌, ◌-◌, ◌*◌, nat_lt, if◌then◌else◌, List, [], ◌∷◌, ◌++◌, codes}
+use Rattle.vms_spec.proofs.Facade.{ℕ, ◌+◌, ◌-◌, ◌*◌, nat_lt, if◌then◌else◌, List, [], ◌∷◌, ◌++◌, codes}
 
 -- a digit of 0 to 9 or a to f
 abbrev digit : ℕ → ℕ

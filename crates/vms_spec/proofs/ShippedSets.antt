@@ -1,14 +1,7 @@
 -- Each shipped set is well formed and good. So the premises of the laws about sets can be met.
-use Rattle.std.proofs.Common.{◌≡◌, ℕ, zero, suc, ◌<◌, ◌^◌, Bool, true, List, [], ◌∷◌, Option, Some, None, refl, subst}
-use Rattle.std.specs.Prelude.{◌&&◌, is_none, nat_lt}
-use Rattle.std.specs.List.{AllByRecursion, list_all, slice_get}
-use Rattle.std.proofs.lemmas.Bool.{and_parts, ltb-true}
-use Rattle.vms_spec.specs.Sets.{Device, Sub, Set}
-use Rattle.vms_spec.specs.Layout.{first}
-use Rattle.vms_spec.specs.WellFormed.{first_fault}
-use Rattle.vms_spec.specs.Shipped.{shipped_sets}
-use Rattle.vms_spec.specs.Good.{IsFit, ShippedLaw}
-use Rattle.vms_spec.specs.Heads.{FitsHeads}
+use Rattle.vms_spec.proofs.Facade.{◌≡◌, ℕ, zero, suc, ◌<◌, ◌^◌, Bool, true, List, [], ◌∷◌, Option, Some, None, refl, is_none, AllByRecursion, list_all}
+use Rattle.vms_spec.proofs.Facade.{slice_get, and_parts, ltb-true, Device, Sub, Set, first, first_fault, shipped_sets, IsFit, ShippedLaw, FitsHeads}
+use Rattle.std.specs.Prelude.{◌&&◌, nat_lt}
 
 -- ---- the numbers that four bytes can hold, computed
 

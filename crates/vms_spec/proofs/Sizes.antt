@@ -1,12 +1,7 @@
 -- The number of cells of a field, and that its elements fit into it.
-use Rattle.std.proofs.Common.{◌≡◌, ℕ, zero, suc, ◌+◌, ◌*◌, ◌≤◌, List, length, refl, sym, ap, ◌∙◌, arith, length-append, ℤ}
-use Rattle.std.proofs.Math.Nat.{mul-le-mul_right}
-use Rattle.vms_kinds.specs.declared.Item.{Item}
-use Rattle.vms_kinds.specs.declared.Item.TheVariants.{Num, Equal, Unused, Struct}
-use Rattle.vms_spec.specs.declared.Count.{Count}
-use Rattle.vms_spec.specs.declared.Count.TheVariants.{One, Fixed, Counted}
-use Rattle.vms_spec.specs.Sets.{Field}
-use Rattle.vms_spec.specs.Layout.{Cell, field_cells, item_cells, item_size, capacity_of, times, elements_of, counted}
+use Rattle.vms_spec.proofs.Facade.{◌≡◌, ℕ, zero, suc, ◌+◌, ◌*◌, ◌≤◌, List, length, refl, sym, ap, ◌∙◌, arith, length-append, ℤ, mul-le-mul_right, Item, Num}
+use Rattle.vms_spec.proofs.Facade.{Count, One, Fixed, Counted, Field, field_cells, item_cells, item_size, capacity_of, times, elements_of, counted}
+use Rattle.vms_spec.specs.Layout.{Cell}
 
 pub length-times : {B : Type 0} (n : ℕ) (xs : List B) (at step : ℕ) → length (times n (λ _. xs) at step) ≡ n * length xs
 length-times zero xs at step = omega arith

@@ -1,9 +1,6 @@
 -- Tables by number: each element is made from the earlier ones alone.
-use Rattle.std.proofs.Common.{◌≡◌, ℕ, zero, suc, ◌<◌, ◌≤◌, List, [], ◌∷◌, ◌++◌, length, length-append, get_or, take, refl, sym, ap, ◌∙◌, arith, Bool, true, false, nat_lt}
-use Rattle.std.proofs.lemmas.Bool.{ltb-true, ltb-false}
-use Rattle.std.proofs.lemmas.List.{get_or_append_left, get_or-take}
-use Rattle.vms_spec.specs.Sets.{Desc}
-use Rattle.vms_spec.specs.Layout.{first, no_desc}
+use Rattle.vms_spec.proofs.Facade.{◌≡◌, ℕ, zero, suc, ◌<◌, ◌≤◌, List, [], ◌∷◌, ◌++◌, length, length-append, get_or, take, refl, sym, ap, ◌∙◌, arith, Bool, true}
+use Rattle.vms_spec.proofs.Facade.{false, nat_lt, ltb-true, ltb-false, get_or_append_left, get_or-take, Desc, first, no_desc}
 
 pub first_long : {B : Type 0} (f : List B → Desc → B) (ds : List Desc) (k : ℕ) → length (first f ds k) ≡ k
 unfolding first

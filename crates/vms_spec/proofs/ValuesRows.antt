@@ -1,13 +1,7 @@
 -- How values texts are read.
-use Rattle.std.proofs.Common.{◌≡◌, ℕ, List, [], ◌∷◌, Some, None, pos, negsuc, refl, codes}
-use Rattle.std.specs.Fmt.{digits}
+use Rattle.vms_spec.proofs.Facade.{◌≡◌, ℕ, List, [], ◌∷◌, Some, None, pos, negsuc, refl, codes, digits, first, Set, Image, values_text, ValuesRead, Values, Bad}
+use Rattle.vms_spec.proofs.Facade.{values_read, set_0}
 use Rattle.vms_spec.specs.declared.ValuesReason.TheVariants as reasons
-use Rattle.vms_spec.specs.Layout.{first}
-use Rattle.vms_spec.specs.Sets.{Set}
-use Rattle.vms_spec.specs.Images.{Image}
-use Rattle.vms_spec.specs.Values.{values_text}
-use Rattle.vms_spec.specs.ValuesReading.{ValuesRead, Values, Bad, values_read}
-use Rattle.vms_spec.specs.Shipped.{set_0}
 use Rattle.vms_spec.proofs.Rows.{lines}
 use Rattle.vms_spec.proofs.Boxes.{counted_set, subsection_set, tested_set, mixed_set}
 

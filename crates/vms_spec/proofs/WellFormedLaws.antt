@@ -1,31 +1,18 @@
 -- A set that is well formed is good.
-use Rattle.std.proofs.Common.{◌≡◌, ℕ, zero, suc, ◌+◌, ◌<◌, List, ◌∷◌, ◌++◌, length, get_or, map, take, Option, Some, None, ℤ, pos, negsuc, ◌≤ℤ◌, refl, sym, ap, ◌∙◌, subst, arith, Bool, true, false, ◌&&◌, ◌==◌, nat_lt, nat_le, if◌then◌else◌, [], ◌||◌}
-use Rattle.std.specs.List.{AllByRecursion, flat_map, slice_get, list_any}
-use Rattle.std.specs.Str.{bytes_eq}
-use Rattle.std.proofs.lemmas.Bool.{and_parts, not-true, ltb-true, leb-true, eq-eqb, and_from, or_parts}
-use Rattle.std.proofs.lemmas.Slice.Eq.{bytes_eq-Decides}
-use Rattle.std.proofs.lemmas.Int.{ints}
-use Rattle.std.proofs.lemmas.Option.{slice_get_within, get_or_from_slice_get}
-use Rattle.vms_kinds.specs.declared.Kind.{Kind}
-use Rattle.vms_kinds.specs.declared.Item.{Item}
-use Rattle.vms_kinds.specs.declared.Item.TheVariants.{Num, Equal, Unused, Struct}
-use Rattle.vms_kinds.specs.Codes.{lowest, highest, InRange}
-use Rattle.vms_spec.specs.declared.Count.{Count}
-use Rattle.vms_spec.specs.declared.Count.TheVariants.{One, Fixed, Counted}
-use Rattle.vms_spec.specs.declared.Whose.TheVariants.{Own, Parent}
-use Rattle.vms_spec.specs.declared.Part.{Part}
+use Rattle.vms_spec.proofs.Facade.{◌≡◌, ℕ, zero, suc, ◌+◌, ◌<◌, List, ◌∷◌, ◌++◌, length, get_or, map, take, Option, Some, None, ℤ, pos, negsuc, ◌≤ℤ◌, refl, sym}
+use Rattle.vms_spec.proofs.Facade.{ap, ◌∙◌, subst, arith, Bool, true, false, ◌&&◌, ◌==◌, nat_lt, nat_le, if◌then◌else◌, [], AllByRecursion, flat_map, slice_get}
+use Rattle.vms_spec.proofs.Facade.{list_any, bytes_eq, and_parts, not-true, ltb-true, leb-true, eq-eqb, and_from, or_parts, bytes_eq-Decides, ints}
+use Rattle.vms_spec.proofs.Facade.{slice_get_within, get_or_from_slice_get, Kind, Item, Num, Equal, Struct, lowest, highest, InRange, Count, One, Counted, Own}
+use Rattle.vms_spec.proofs.Facade.{Parent, Part, position, or_else, first_answer, Formula, Cell, Not, And, Or, Field, Desc, Sub, Device, Set, no_field, no_desc}
+use Rattle.vms_spec.proofs.Facade.{times, counted, capacity_of, item_cells, field_cells, cells_from, desc_cells, struct_cells, device_cells, first, FitsCell}
+use Rattle.vms_spec.proofs.Facade.{is_one_of, find_device, find_sub, is_num, is_one, has_no_test, is_steady, is_steady_in, is_earlier_in, names_well, nobody}
+use Rattle.vms_spec.proofs.Facade.{test_names_well, count_names_well, is_counting, defaults_well, counts_well, int_le, in_range, field_rules, validation_rules}
+use Rattle.vms_spec.proofs.Facade.{failing, here, in_field, fields_fault, validations_fault, desc_fault, struct_fault, struct_rules, sub_fault, sub_rules}
+use Rattle.vms_spec.proofs.Facade.{device_fault, device_rules, is_same_device, set_rules, size_rules, first_fault, WellFormed, IsNumber, IsOne, IsEarlier}
+use Rattle.vms_spec.proofs.Facade.{NamesEarlier, IsSoundTest, IsSoundCount, IsSoundField, AreSoundFields, IsSound, DefaultsFit, ConstantFits, ConstantsFit}
+use Rattle.vms_spec.proofs.Facade.{IsGood, FitsHeads}
 use Rattle.vms_spec.specs.declared.Part.TheVariants as parts
-use Rattle.vms_spec.specs.Lists.{position, or_else, first_answer}
-use Rattle.vms_spec.specs.Sets.{Formula, AtLeast, Below, Cell, Not, And, Or, Field, Desc, Sub, Device, Set}
-use Rattle.vms_spec.specs.Layout.{Cell as OneCell, no_field, no_desc, times, counted, capacity_of, item_cells, field_cells, cells_from, desc_cells, struct_cells, device_cells, first}
-use Rattle.vms_spec.specs.Images.{FitsCell}
-use Rattle.vms_spec.specs.Streams.{is_one_of}
-use Rattle.vms_spec.specs.Lookup.{find_device, find_sub}
-use Rattle.vms_spec.specs.Rules.{is_num, is_one, has_no_test, is_steady, is_steady_in, is_earlier_in, names_well, nobody, test_names_well, count_names_well, is_counting, defaults_well, counts_well, int_le, in_range, field_rules, validation_rules}
-use Rattle.vms_spec.specs.WellFormed.{failing, here, in_field, fields_fault, validations_fault, desc_fault, struct_fault, struct_rules, sub_fault, sub_rules, device_fault, device_rules, is_same_device, set_rules, size_rules, first_fault, WellFormed}
-use Rattle.vms_spec.specs.Sound.{IsNumber, IsOne, IsEarlier, NamesEarlier, IsSoundTest, IsSoundCount, IsSoundField, AreSoundFields, IsSound}
-use Rattle.vms_spec.specs.Good.{DefaultsFit, ConstantFits, ConstantsFit, IsGood}
-use Rattle.vms_spec.specs.Heads.{FitsHeads}
+use Rattle.vms_spec.specs.Layout.{Cell as OneCell}
 use Rattle.vms_spec.proofs.Faultless.{or_else_none, answers_none, AllTrue, all_true}
 use Rattle.vms_spec.proofs.Tables.{one_more}
 

@@ -1,14 +1,7 @@
 -- First faults of sets: each rule, and the order of the walk.
-use Rattle.std.proofs.Common.{◌≡◌, [], ◌∷◌, Option, Some, None, pos, refl, codes}
-use Rattle.vms_kinds.specs.declared.Kind.TheVariants.{U8}
-use Rattle.vms_kinds.specs.declared.Item.TheVariants.{Struct}
+use Rattle.vms_spec.proofs.Facade.{◌≡◌, [], ◌∷◌, Option, Some, pos, refl, codes, U8, Struct, Fixed, Counted, Eq, Lt, Own, Parent, Set, Cell, first, SetFault}
+use Rattle.vms_spec.proofs.Facade.{first_fault, here, in_field}
 use Rattle.vms_spec.specs.declared.Part.TheVariants as parts
-use Rattle.vms_spec.specs.declared.Count.TheVariants.{Fixed, Counted}
-use Rattle.vms_spec.specs.declared.Rel.TheVariants.{Eq, Lt}
-use Rattle.vms_spec.specs.declared.Whose.TheVariants.{Own, Parent}
-use Rattle.vms_spec.specs.Sets.{Set, Cell}
-use Rattle.vms_spec.specs.Layout.{first}
-use Rattle.vms_spec.specs.WellFormed.{SetFault, first_fault, here, in_field}
 use Rattle.vms_spec.proofs.Boxes.{number, box_set, sub_of, point, empty_set}
 
 unfoldable faulty : Set → Option SetFault

@@ -6,13 +6,13 @@ use Rattle.vms_values_laws.proofs.Facade.{sub_line, Entry, OfMachine, OfSub, OfN
 use Rattle.vms_values_laws.proofs.Facade.{device_entries, entries, part_reason, is_of_cell, has_line, IsShaped, AreShaped, AreUnsaid, AllUnsaid, IsAtVersion}
 use Rattle.vms_values_laws.proofs.Facade.{AreAtVersions, IsMachineOf, AreFine, Says, Demand, ForSection, ForNumber, demand_of, Taken, lines_of, Follows, Along}
 use Rattle.vms_values_laws.proofs.Facade.{either_of, ValuesReason, first_line, IsReady, AreReady, BadLine, ReadDevice, ValuesRead, Values, Bad, machine_named}
-use Rattle.vms_values_laws.proofs.Facade.{answer_of, or_bad, WellFormed, IsGood, device_parts, sub_clean}
-use Rattle.vms_values_laws.proofs.Numbers.{AreShort, of_numbers, number_same}
-use Rattle.vms_values_laws.proofs.SecondPass.{as_bad, parts_from}
+use Rattle.vms_values_laws.proofs.Facade.{answer_of, or_bad, WellFormed, IsGood, device_parts, sub_clean, OfSection}
+use Rattle.vms_values_laws.proofs.SecondPass.{AreShort, of_numbers, number_same, as_bad, parts_from}
 use Rattle.vms_values_laws.proofs.AllCome.{images_of, short_are}
 use Rattle.vms_values_laws.proofs.BadLines.{fine_text, NoneBad}
-use Rattle.vms_values_laws.proofs.Meeting.{named_is}
-use Rattle.vms_values_laws.proofs.ReadyParts.{AreGood, fine_both, good_both, device_ready}
+use Rattle.vms_values_laws.proofs.Meeting.{named_is, Ends}
+use Rattle.vms_values_laws.proofs.ReadyParts.{device_ready}
+use Rattle.vms_values_laws.proofs.Rights.{AreGood, fine_both, good_both}
 use Rattle.vms_values_laws.proofs.SaidLaws.{all_both}
 
 -- ---- Two states with the same lines, and with defaults where there is no line, are the same.
@@ -24,9 +24,9 @@ Match (e ∷ es) (f ∷ fs) = (demand_of e ≡ demand_of f) × (entry_line e ≡
 Match _ _ = ⊥
 
 -- what was taken along one state, and was demanded of the other, which has its lines
-pub matched : (taken : List Taken) (es fs : List Entry) → Follows taken (λ l. l ≡ []) es → Along taken (λ l. l ≡ []) es → Follows taken (λ l. l ≡ []) fs
-    → lines_of taken ≡ map entry_line fs → Match es fs
-matched [] es fs f a g l = rw (f, g) tt
+pub matched : (taken : List Taken) (es fs : List Entry) → Follows taken (λ l. Ends None [] l) es → Along taken (λ l. l ≡ []) es
+    → Follows taken (λ l. Ends None [] l) fs → lines_of taken ≡ map entry_line fs → Match es fs
+matched [] es fs f a g l = rw (a, g.0) tt
 matched (t ∷ taken) [] fs f a g l = absurd f
 matched (t ∷ taken) (e ∷ es) [] f a g l = absurd g
 matched (t ∷ taken) (e ∷ es) (x ∷ fs) f a g l =
@@ -37,56 +37,54 @@ abbrev for_section : Demand → Bool
 for_section (ForSection d) = true
 for_section _ = false
 
--- none of them is a section
-abbrev IsInside : Entry → Type 0
-IsInside e = for_section (demand_of e) ≡ false
+-- an entry of a device after its section's, with the numbers of this state
+abbrev IsOwn : List ℤ → Entry → Type 0
+IsOwn n (OfSub d image j s at o) = IsAtVersion s o
+IsOwn n (OfNumber x m) = m ≡ n
+IsOwn n _ = ⊥
 
-abbrev AreInside : List Entry → Type 0
-AreInside = AllByRecursion IsInside
+abbrev AreOwn : List ℤ → List Entry → Type 0
+AreOwn n = AllByRecursion (IsOwn n)
 
 -- the first of them is a section, if there is one
 abbrev BeginsNew : List Entry → Type 0
 BeginsNew [] = Unit {0}
 BeginsNew (e ∷ es) = for_section (demand_of e) ≡ true
 
-other : (e f : Entry) → for_section (demand_of e) ≡ false → for_section (demand_of f) ≡ true → demand_of e ≡ demand_of f → ⊥
-other e f a b c = let g = sym a ∙ ap for_section c ∙ b in cc
+other : (n : List ℤ) (e f : Entry) → IsOwn n e → for_section (demand_of f) ≡ true → demand_of e ≡ demand_of f → ⊥
+other n (OfSection d image) f a b c = absurd a
+other n _ f a b c = let g = ap for_section c ∙ b in cc
 
 record Parted (es fs es' fs' : List Entry) : Type 0 where
   inside : Match es es'
   rest : Match fs fs'
 
-parted : (es fs es' fs' : List Entry) → AreInside es → AreInside es' → BeginsNew fs → BeginsNew fs' → Match (es ++ fs) (es' ++ fs') → Parted es fs es' fs'
-parted [] fs [] fs' i i' n n' m = record { inside = tt; rest = m }
-parted [] (f ∷ fs) (e' ∷ es') fs' i i' n n' m = absurd (other e' f i'.0 n (sym m.0))
-parted (e ∷ es) fs [] (f' ∷ fs') i i' n n' m = absurd (other e f' i.0 n' m.0)
-parted (e ∷ es) fs (e' ∷ es') fs' i i' n n' m = let p = parted es fs es' fs' i.1 i'.1 n n' m.2 in record { inside = (m.0, m.1, p.inside); rest = p.rest }
-parted _ _ _ _ i i' n n' m = absurd m
+parted : (n m : List ℤ) (es fs es' fs' : List Entry) → AreOwn n es → AreOwn m es' → BeginsNew fs → BeginsNew fs' → Match (es ++ fs) (es' ++ fs')
+    → Parted es fs es' fs'
+parted n m [] fs [] fs' i i' b b' h = record { inside = tt; rest = h }
+parted n m [] (f ∷ fs) (e' ∷ es') fs' i i' b b' h = absurd (other m e' f i'.0 b (sym h.0))
+parted n m (e ∷ es) fs [] (f' ∷ fs') i i' b b' h = absurd (other n e f' i.0 b' h.0)
+parted n m (e ∷ es) fs (e' ∷ es') fs' i i' b b' h =
+    let p = parted n m es fs es' fs' i.1 i'.1 b b' h.2 in record { inside = (h.0, h.1, p.inside); rest = p.rest }
+parted n m _ _ _ _ i i' b b' h = absurd h
 
 -- the entries of a device after its section's
 abbrev pub inside_of : Set → Device → Image → List Entry
 inside_of set d image = number_entries set d.desc image.numbers 0 ++ subs_entries set d image 0 (own_cells set d) d.subs image.came
 
--- for entries that all satisfy it
-module _ (P : Entry → Type 0) (set : Set) (d : Device) (image : Image) (number : (x : Element) → P (OfNumber x image.numbers))
-    (sub : (j at : ℕ) (s : Sub) (o : Option ℕ) → IsAtVersion s o → P (OfSub d image j s at o)) where
-  numbers_all : (xs : List Element) → AllByRecursion P (of_numbers image.numbers xs)
-  numbers_all [] = tt
-  numbers_all (x ∷ xs) = (number x, numbers_all xs)
+module _ (set : Set) (d : Device) (image : Image) where
+  numbers_own : (xs : List Element) → AreOwn image.numbers (of_numbers image.numbers xs)
+  numbers_own [] = tt
+  numbers_own (x ∷ xs) = (refl, numbers_own xs)
 
-  subs_all : (j at : ℕ) (subs : List Sub) (came : List (Option ℕ)) → AreAtVersions subs came → AllByRecursion P (subs_entries set d image j at subs came)
-  subs_all j at (s ∷ subs) (o ∷ came) h =
-      let next = at + length (desc_cells (struct_cells set) s.desc) in (
-        sub j at s o h.0,
-        all_both P (number_entries set s.desc image.numbers at) _
-            (numbers_all (printed (elements_in set s.desc s.desc.version image.numbers at))) (subs_all (suc j) next subs came h.1),
-      )
-  subs_all j at _ _ h = tt
+  subs_own : (j at : ℕ) (subs : List Sub) (came : List (Option ℕ)) → AreAtVersions subs came
+      → AreOwn image.numbers (subs_entries set d image j at subs came)
+  subs_own j at (s ∷ subs) (o ∷ came) h =
+      (h.0, all_both _ (number_entries set s.desc image.numbers at) _ (numbers_own _) (subs_own (suc j) _ subs came h.1))
+  subs_own j at _ _ h = tt
 
-  device_all : AreAtVersions d.subs image.came → AllByRecursion P (inside_of set d image)
-  device_all h =
-      all_both P (number_entries set d.desc image.numbers 0) _ (numbers_all (printed (elements_in set d.desc d.desc.version image.numbers 0)))
-      (subs_all 0 (own_cells set d) d.subs image.came h)
+  whole_own : AreAtVersions d.subs image.came → AreOwn image.numbers (inside_of set d image)
+  whole_own h = all_both _ (number_entries set d.desc image.numbers 0) _ (numbers_own _) (subs_own 0 (own_cells set d) d.subs image.came h)
 
 abbrev of_demand : ℕ → Demand → Bool
 of_demand c (ForNumber x) = x.cell == c
@@ -101,23 +99,15 @@ line_same [] [] m c = refl
 line_same (e ∷ es) (f ∷ fs) m c = rw (by_demand c e ∙ ap (of_demand c) m.0 ∙ sym (by_demand c f), line_same es fs m.2 c) refl
 line_same _ _ m c = absurd m
 
--- the numbers of entries are those of this state
-abbrev IsOf : List ℤ → Entry → Type 0
-IsOf n (OfNumber x m) = m ≡ n
-IsOf n _ = Unit {0}
-
-abbrev AreOf : List ℤ → List Entry → Type 0
-AreOf n = AllByRecursion (IsOf n)
-
 module _ (n m : List ℤ) (short : AreShort n) (short' : AreShort m) where
-  one_number : (x : Element) (k : List ℤ) (f : Entry) (c : ℕ) → k ≡ n → IsOf m f → ForNumber x ≡ demand_of f → entry_line (OfNumber x k) ≡ entry_line f
+  one_number : (x : Element) (k : List ℤ) (f : Entry) (c : ℕ) → k ≡ n → IsOwn m f → ForNumber x ≡ demand_of f → entry_line (OfNumber x k) ≡ entry_line f
       → x.cell ≡ c → get_or n c (pos 0) ≡ get_or m c (pos 0)
   one_number x k (OfNumber y l) c is of demand line at =
       let same : y ≡ x = cc in
       rw (← at) (number_same x.name _ _ (short x.cell) (short' x.cell) (rw (is, of, same) at line))
   one_number x k _ c is of demand line at = absurd (cc)
 
-  agree : (es fs : List Entry) → AreOf n es → AreOf m fs → Match es fs → (c : ℕ) → has_line es c ≡ true → get_or n c (pos 0) ≡ get_or m c (pos 0)
+  agree : (es fs : List Entry) → AreOwn n es → AreOwn m fs → Match es fs → (c : ℕ) → has_line es c ≡ true → get_or n c (pos 0) ≡ get_or m c (pos 0)
   agree [] fs a b h c e = cc
   agree (x ∷ es) [] a b h c e = absurd h
   agree (OfNumber x k ∷ es) (f ∷ fs) a b h c e =
@@ -131,13 +121,6 @@ came_with _ came = came
 abbrev came_of : List Entry → List (Option ℕ)
 came_of [] = []
 came_of (e ∷ es) = came_with e (came_of es)
-
-abbrev IsAt : Entry → Type 0
-IsAt (OfSub d image j s at o) = IsAtVersion s o
-IsAt _ = Unit {0}
-
-abbrev AreAt : List Entry → Type 0
-AreAt = AllByRecursion IsAt
 
 numbers_came : (n : List ℤ) (xs : List Element) (es : List Entry) → came_of (of_numbers n xs ++ es) ≡ came_of es
 numbers_came n [] es = refl
@@ -154,17 +137,17 @@ one_came s t (Some v) (Some w) same a b e = rw (a, b, same) refl
 one_came s t None (Some w) same a b e = absurd (not_both t w (rw same at e))
 one_came s t (Some v) None same a b e = absurd (not_both t v (sym (rw same at e)))
 
-came_one : (e f : Entry) (came : List (Option ℕ)) → IsAt e → IsAt f → demand_of e ≡ demand_of f → entry_line e ≡ entry_line f
+came_one : (n m : List ℤ) (e f : Entry) (came : List (Option ℕ)) → IsOwn n e → IsOwn m f → demand_of e ≡ demand_of f → entry_line e ≡ entry_line f
     → came_with e came ≡ came_with f came
-came_one (OfSub d image j s at o) (OfSub d' image' j' t at' p) came a b h l = let same : s ≡ t = cc in rw (one_came s t o p same a b l) refl
-came_one (OfSub d image j s at o) _ came a b h l = absurd (cc)
-came_one _ (OfSub d image j s at o) came a b h l = absurd (cc)
-came_one _ _ came a b h l = refl
+came_one n m (OfSub d image j s at o) (OfSub d' image' j' t at' p) came a b h l = let same : s ≡ t = cc in rw (one_came s t o p same a b l) refl
+came_one n m (OfSub d image j s at o) _ came a b h l = absurd (cc)
+came_one n m _ (OfSub d image j s at o) came a b h l = absurd (cc)
+came_one n m _ _ came a b h l = refl
 
-came_same : (es fs : List Entry) → AreAt es → AreAt fs → Match es fs → came_of es ≡ came_of fs
-came_same [] [] a b m = refl
-came_same (e ∷ es) (f ∷ fs) a b m = ap (came_with e) (came_same es fs a.1 b.1 m.2) ∙ came_one e f (came_of fs) a.0 b.0 m.0 m.1
-came_same _ _ a b m = absurd m
+came_same : (n m : List ℤ) (es fs : List Entry) → AreOwn n es → AreOwn m fs → Match es fs → came_of es ≡ came_of fs
+came_same n m [] [] a b h = refl
+came_same n m (e ∷ es) (f ∷ fs) a b h = ap (came_with e) (came_same n m es fs a.1 b.1 h.2) ∙ came_one n m e f (came_of fs) a.0 b.0 h.0 h.1
+came_same n m _ _ a b h = absurd h
 
 module _ (set : Set) (d : Device) (image : Image) where
   subs_came : (j at : ℕ) (subs : List Sub) (came : List (Option ℕ)) → length came ≡ length subs → came_of (subs_entries set d image j at subs came) ≡ came
@@ -174,15 +157,6 @@ module _ (set : Set) (d : Device) (image : Image) where
       ap (λ (l : List (Option ℕ)). o ∷ l)
       (numbers_came image.numbers (printed (elements_in set s.desc s.desc.version image.numbers at)) _ ∙ subs_came (suc j) next subs came (omega arith))
   subs_came j at _ _ long = absurd (omega arith)
-
-  whole_inside : AreAtVersions d.subs image.came → AreInside (inside_of set d image)
-  whole_inside = device_all IsInside set d image (λ x. refl) (λ j at s o h. refl)
-
-  whole_of : AreAtVersions d.subs image.came → AreOf image.numbers (inside_of set d image)
-  whole_of = device_all (IsOf image.numbers) set d image (λ x. refl) (λ j at s o h. tt)
-
-  whole_at : AreAtVersions d.subs image.came → AreAt (inside_of set d image)
-  whole_at = device_all IsAt set d image (λ x. tt) (λ j at s o h. h)
 
   whole_came : length image.came ≡ length d.subs → came_of (inside_of set d image) ≡ image.came
   whole_came long =
@@ -197,13 +171,13 @@ device_same set d image image' a b u u' m =
     let es = inside_of set d image in
     let long : length image.numbers ≡ length image'.numbers = a.cells ∙ sym b.cells in
     same_image image image' (a.version ∙ sym b.version)
-    (sym (whole_came set d image a.subs) ∙ came_same es (inside_of set d image') (whole_at set d image a.versions) (whole_at set d image' b.versions) m
+    (sym (whole_came set d image a.subs) ∙ came_same _ _ es (inside_of set d image') (whole_own set d image a.versions) (whole_own set d image' b.versions) m
     ∙ whole_came set d image' b.subs) (ext_get_or (pos 0) image.numbers image'.numbers long (λ c lt. by_line c lt (omega arith) (has_line es c) refl))
   where
     by_line : (c : ℕ) → c < length image.numbers → c < length image'.numbers → (t : Bool) → has_line (inside_of set d image) c ≡ t
         → get_or image.numbers c (pos 0) ≡ get_or image'.numbers c (pos 0)
     by_line c lt lt' true t =
-        agree image.numbers _ (short_are _ a.short) (short_are _ b.short) _ _ (whole_of set d image a.versions) (whole_of set d image' b.versions) m c t
+        agree image.numbers _ (short_are _ a.short) (short_are _ b.short) _ _ (whole_own set d image a.versions) (whole_own set d image' b.versions) m c t
     by_line c lt lt' false t = u c lt t ∙ sym (u' c lt' (sym (line_same (inside_of set d image) (inside_of set d image') m c) ∙ t))
 
 begins_new : (set : Set) (devices : List Device) (images : List Image) → BeginsNew (devices_entries set devices images)
@@ -217,8 +191,8 @@ devices_same set [] [] [] a b u u' m = refl
 devices_same set [] [] (i ∷ images') a b u u' m = absurd b
 devices_same set (d ∷ devices) (i ∷ images) [] a b u u' m = absurd b
 devices_same set (d ∷ devices) (i ∷ images) (j ∷ images') a b u u' m =
-    let p = parted (inside_of set d i) (devices_entries set devices images) (inside_of set d j) (devices_entries set devices images')
-    (whole_inside set d i a.0.versions) (whole_inside set d j b.0.versions) (begins_new set devices images) (begins_new set devices images') m.2 in
+    let p = parted _ _ (inside_of set d i) (devices_entries set devices images) (inside_of set d j) (devices_entries set devices images')
+    (whole_own set d i a.0.versions) (whole_own set d j b.0.versions) (begins_new set devices images) (begins_new set devices images') m.2 in
     rw (device_same set d i j a.0 b.0 u.0 u'.0 p.inside, devices_same set devices images images' a.1 b.1 u.1 u'.1 p.rest) refl
 devices_same set _ _ images' a b u u' m = absurd a
 
@@ -230,9 +204,8 @@ named_machine set text (Some name) e = named_is set.machines (first_line text) n
 
 pub none_says : (set : Set) (text : List ℕ) (v : ValuesRead) (n : NoneBad set text v) → Says set text n.machine (images_of n.all.devices)
 none_says set text v n =
-    let f = n.first in
-    let fine = fine_text set text n.machine n.all f n.ends in
-    record { named = named_machine set text n.machine f.named; shaped = f.shaped; unsaid = f.unsaid; fine = fine.0; printed = fine.1 }
+    let fine = fine_text set text v n in
+    record { named = named_machine set text n.machine n.named; shaped = n.shaped; unsaid = n.unsaid; fine = fine.0; printed = fine.1 }
 
 abbrev pub answer_by : Option (List ℕ) → List Image → Option BadLine → ValuesRead
 answer_by machine images (Some b) = Bad b.line b.reason
@@ -245,7 +218,7 @@ answer_same machine read None = refl
 pub none_answers : (set : Set) (text : List ℕ) (v : ValuesRead) (n : NoneBad set text v)
     → v ≡ answer_by n.machine (images_of n.all.devices) (parts_from set 1 (entries set n.machine (images_of n.all.devices)))
 none_answers set text v n =
-    n.is ∙ answer_same n.machine n.all.devices _ ∙ ap (λ (o : Option BadLine). answer_by n.machine (images_of n.all.devices) o) n.first.judged
+    n.is ∙ answer_same n.machine n.all.devices _ ∙ ap (λ (o : Option BadLine). answer_by n.machine (images_of n.all.devices) o) n.judged
 
 -- no part is bad
 pub none_good : (set : Set) (line : ℕ) (es : List Entry) → parts_from set line es ≡ None → AreGood set es

@@ -1,20 +1,19 @@
 -- All devices, read as entries, and which devices reading requires.
 use Rattle.vms_values_laws.proofs.Facade.{◌≡◌, ℕ, suc, ◌+◌, List, ◌∷◌, ◌++◌, length, map, true, false, Option, Some, None, ℤ, Ok, Err, Result, refl, sym, ap}
-use Rattle.vms_values_laws.proofs.Facade.{◌∙◌, subst, arith, append_assoc, [], length-append, length-map, bytes_eq-Decides, zero, ◌<◌, get_or, slice_set, Bool}
-use Rattle.vms_values_laws.proofs.Facade.{nat_le, ⊎_elim, AllByRecursion, or_right, and_from, cases_eq, ◌&&◌, if◌then◌else◌, pos, negsuc, get_or-set_other}
-use Rattle.vms_values_laws.proofs.Facade.{append-nil, list_all, and_parts, leb-true, le-leb, length-set, get_or-set_same, get_or-map, Device, Set, desc_cells}
-use Rattle.vms_values_laws.proofs.Facade.{struct_cells, device_cells, Image, default_image, own_cells, first_line, Standing, Read, BadLine, ReadSubs, readers}
-use Rattle.vms_values_laws.proofs.Facade.{read_desc, read_subs, then_subs, next_line, rest_of, is_line, IsSound, AreSound, section_line, Entry, OfSection}
-use Rattle.vms_values_laws.proofs.Facade.{number_entries, subs_entries, device_entries, has_line, Said, ForSection, ForNumber, reason_for, Taken, Follows}
-use Rattle.vms_values_laws.proofs.Facade.{Along, Begins, Moved, either_of, no_cell, Cell, ReadDevice, ReadAll, read_devices, device_read, with_device, IsShort}
-use Rattle.vms_values_laws.proofs.Facade.{devices_entries, is_short, IsShaped, AreShaped, AreUnsaid, AllUnsaid, put_all, Demand, IsGood, DefaultsFit, ranged}
+use Rattle.vms_values_laws.proofs.Facade.{◌∙◌, subst, arith, [], length-append, length-map, bytes_eq-Decides, zero, ◌<◌, get_or, slice_set, Bool, nat_le}
+use Rattle.vms_values_laws.proofs.Facade.{⊎_elim, AllByRecursion, or_right, and_from, cases_eq, ◌&&◌, if◌then◌else◌, pos, negsuc, get_or-set_other, append-nil}
+use Rattle.vms_values_laws.proofs.Facade.{list_all, and_parts, leb-true, le-leb, length-set, get_or-set_same, get_or-map, Device, Set, desc_cells, struct_cells}
+use Rattle.vms_values_laws.proofs.Facade.{device_cells, Image, default_image, own_cells, first_line, Standing, BadLine, ReadSubs, readers, read_desc, read_subs}
+use Rattle.vms_values_laws.proofs.Facade.{then_subs, next_line, rest_of, is_line, IsSound, AreSound, section_line, Entry, OfSection, device_entries, Said}
+use Rattle.vms_values_laws.proofs.Facade.{ForSection, reason_for, Taken, Follows, Along, Begins, Moved, either_of, no_cell, Cell, ReadDevice, ReadAll}
+use Rattle.vms_values_laws.proofs.Facade.{read_devices, device_read, with_device, IsShort, devices_entries, is_short, IsShaped, AreShaped, AreUnsaid, AllUnsaid}
+use Rattle.vms_values_laws.proofs.Facade.{put_all, Demand, IsGood, DefaultsFit, ranged}
 use Rattle.vms_spec.specs.declared.ValuesReason.TheVariants as reasons
-use Rattle.vms_values_laws.proofs.Numbers.{moved_none, moved_one, moved_then, AreShort, all_taken, NumbersRead, NumbersStop, NumbersCome, numbers_come}
-use Rattle.vms_values_laws.proofs.Numbers.{follows_on, along_on, heard_on, lines_on, follows_then, along_then, short_within}
-use Rattle.vms_values_laws.proofs.SecondPass.{sub_numbers, IsLined, AreLined}
-use Rattle.vms_values_laws.proofs.SubsCome.{line_taken, SubsCome, AreSoundSubs, cells_long, none_at, subs_come, SubsWent, Went, Stop}
-use Rattle.vms_values_laws.proofs.SaidLaws.{agrees_parts, Told, told_none, told_both, has_said, all_from, unsaid_kept, AreShortSaid}
-use Rattle.vms_values_laws.proofs.Coming.{short}
+use Rattle.vms_values_laws.proofs.SecondPass.{moved_none, moved_one, moved_then, AreShort, numbers_come, follows_then, along_then, short_within, IsLined}
+use Rattle.vms_values_laws.proofs.SecondPass.{AreLined}
+use Rattle.vms_values_laws.proofs.SubsCome.{line_taken, AreSoundSubs, cells_long, none_at, subs_come, Went, Got, Stop, Come, stopped_first, behind_numbers}
+use Rattle.vms_values_laws.proofs.SubsCome.{numbers_first}
+use Rattle.vms_values_laws.proofs.SaidLaws.{all_from, unsaid_kept, AreShortSaid, short}
 
 abbrev pub default_numbers : Set → Device → List ℤ
 default_numbers set d = (default_image set d).numbers
@@ -25,149 +24,75 @@ state_of d came numbers = record { version = d.desc.version; came = came; number
 abbrev pub image_of : Device → ReadSubs → Image
 image_of d r = state_of d r.came r.place.numbers
 
--- The entries of a device follow on what was taken, whatever has come and whatever comes after them. Those of what has come have its lines.
-abbrev pub DeviceWent : Set → Device → ℕ → List ℕ → List (Option ℕ) → List ℤ → ℕ → List ℕ → (List Entry → List Entry → Type 0) → Type 0
-DeviceWent set d line text came numbers line' rest Then =
-    Went d.subs 0 (record { numbers = default_numbers set d; line = line; rest = text }) came numbers line' rest
-    (λ taken. (image : Image) (more : List Entry) → length image.came ≡ length d.subs → AreShort image.numbers → Follows taken (Then more)
-    (device_entries set d image ++ more))
-    (λ taken said. (more : List Entry) → Along taken (Then more) (device_entries set d (state_of d came numbers) ++ more))
-
--- what was read of one device, from its line on
-pub record DeviceRead (set : Set) (d : Device) (line : ℕ) (text : List ℕ) (r : ReadSubs) : Type 0 where
-  pub whole : DeviceWent set d line text r.came r.place.numbers r.place.line r.place.rest (λ more es. es ≡ more)
-  pub open whole use *
-  pub heard : (c : ℕ) → has_line (device_entries set d (image_of d r)) c ≡ has_said said c
-  pub lines : r.lines ≡ sub_numbers line (device_entries set d (image_of d r))
-
-abbrev pub DeviceStop : Set → Device → ℕ → List ℕ → BadLine → Type 0
-DeviceStop set d line text e = Stop (λ demand came numbers rest. DeviceWent set d line text came numbers e.line rest (λ more es. Begins demand es)) e
-
-abbrev pub DeviceComes : Set → Device → ℕ → List ℕ → Result ReadSubs BadLine → Type 0
-DeviceComes set d line text (Ok r) = DeviceRead set d line text r
-DeviceComes set d line text (Err e) = DeviceStop set d line text e
+-- the entries of a device at the set's version
+abbrev pub device_of : Set → Device → Image → List (Option ℕ) → List Entry
+device_of set d image came = device_entries set d (state_of d came image.numbers)
 
 module _ (set : Set) (d : Device) (line : ℕ) (text : List ℕ) where
-  abbrev none_came : List (Option ℕ)
-  none_came = map (λ s. None) d.subs
+  abbrev place : Standing
+  place = record { numbers = default_numbers set d; line = line; rest = text }
 
-  pub section_refused : reason_for (ForSection d) (first_line text) ≡ Some reasons.Form
-      → DeviceStop set d line text (record { line = line; reason = reasons.Form })
+  abbrev pub DeviceWent : List (Option ℕ) → List ℤ → ℕ → List ℕ → (List Entry → List Entry → Type 0) → Type 0
+  DeviceWent came numbers line' rest Then = Went (device_of set d) d.subs 0 place came numbers line' rest Then
+
+  -- what was read of the device, from its line on
+  abbrev pub DeviceRead : ReadSubs → Type 0
+  DeviceRead r = Got (device_of set d) d.subs 0 place r
+
+  abbrev pub DeviceStop : BadLine → Type 0
+  DeviceStop e = Stop (device_of set d) d.subs 0 place e
+
+  abbrev pub DeviceComes : Result ReadSubs BadLine → Type 0
+  DeviceComes o = Come (device_of set d) d.subs 0 place o
+
+  pub section_refused : reason_for (ForSection d) (first_line text) ≡ Some reasons.Form → DeviceStop (record { line = line; reason = reasons.Form })
   section_refused wrong =
-      record {
-        demand = ForSection d;
-        came = none_came;
-        numbers = default_numbers set d;
-        rest = text;
-        before = record {
-          said = [];
-          taken = [];
-          told = told_none 0 (default_numbers set d);
-          one_each = length-map d.subs (λ s. None);
-          versions = none_at set d d.subs;
-          follows = λ image more long short. record { first = OfSection d image; others = _; is = refl; demands = refl };
-          along = λ more. record { first = OfSection d (state_of d none_came (default_numbers set d)); others = _; is = refl; demands = refl };
-          moved = moved_none line text;
-        };
-        wrong = wrong;
-      }
+      stopped_first (device_of set d) d.subs 0 place (ForSection d)
+      (λ image came more long. record { first = OfSection d (state_of d came image.numbers); others = _; is = refl; demands = refl }) wrong
 
   abbrev start : Standing
-  start = next_line (record { numbers = default_numbers set d; line = line; rest = text })
+  start = next_line place
 
   abbrev head : Taken
   head = record { demand = ForSection d; line = section_line d d.desc.version }
 
-  abbrev own : ℕ
-  own = own_cells set d
-
-  abbrev behind_head : Image → List Entry → List Entry
-  behind_head image more = number_entries set d.desc image.numbers 0 ++ (subs_entries set d image 0 own d.subs image.came ++ more)
-
-  told_own : {q : Standing} {k : List ℤ} {more : List Said} (n : NumbersRead set d.desc 0 start q) → Told own q.numbers more k
-      → Told 0 (default_numbers set d) (n.said ++ more) k
-  told_own n t = told_both n.told t (omega arith) (let e : 0 + own ≡ own = omega arith in rw e at n.below)
-
-  entries_are : (image : Image) (more : List Entry) → device_entries set d image ++ more ≡ OfSection d image ∷ behind_head image more
-  entries_are image more = ap (λ (l : List Entry). OfSection d image ∷ l) (append_assoc (number_entries set d.desc image.numbers 0) _ more)
-
-  follows_head : (taken : List Taken) (P : List Entry → Type 0) (image : Image) (more : List Entry) → Follows taken P (behind_head image more)
-      → Follows (head ∷ taken) P (device_entries set d image ++ more)
-  follows_head taken P image more h = subst (λ (l : List Entry). Follows (head ∷ taken) P l) (sym (entries_are image more)) (refl, λ e. h)
-
-  along_head : (taken : List Taken) (P : List Entry → Type 0) (image : Image) (more : List Entry) → image.version ≡ d.desc.version
-      → Along taken P (behind_head image more) → Along (head ∷ taken) P (device_entries set d image ++ more)
-  along_head taken P image more v h =
-      subst (λ (l : List Entry). Along (head ∷ taken) P l) (sym (entries_are image more)) (ap (λ (n : ℕ). section_line d n) v, h)
+  abbrev inside : Image → List (Option ℕ) → List Entry
+  inside = behind_numbers set d d.desc 0 0 (own_cells set d) d.subs
 
   module _ (headed : Moved line text (head ∷ []) (suc line) start.rest) where
-    stopped_inside : (e : BadLine) → NumbersStop set d.desc 0 start e → DeviceStop set d line text e
-    stopped_inside e n = record {
-      demand = ForNumber n.element;
-      came = none_came;
-      numbers = n.place.numbers;
-      rest = n.place.rest;
-      before = record {
-        said = n.said;
-        taken = head ∷ all_taken n.said;
-        told = n.told;
-        one_each = length-map d.subs (λ s. None);
-        versions = none_at set d d.subs;
-        follows = λ image more long short. follows_head (all_taken n.said) (Begins (ForNumber n.element)) image more (n.follows image.numbers _ short);
-        along = λ more. along_head (all_taken n.said) (Begins (ForNumber n.element)) _ more refl (n.along n.place.numbers _ n.told.agrees);
-        moved = moved_then headed n.moved;
-      };
-      wrong = n.wrong;
+    abbrev with_head : {came : List (Option ℕ)} {numbers : List ℤ} {line' : ℕ} {rest : List ℕ} {Then : List Entry → List Entry → Type 0}
+        → Went inside d.subs 0 start came numbers line' rest Then → DeviceWent came numbers line' rest Then
+    with_head {came = came} w = record {
+      said = w.said;
+      taken = head ∷ w.taken;
+      told = w.told;
+      one_each = w.one_each;
+      versions = w.versions;
+      follows = λ image came more long short. (refl, λ e. w.follows (state_of d came image.numbers) came more long short);
+      along = λ image more agrees. (refl, w.along (state_of d came image.numbers) more agrees);
+      moved = moved_then headed w.moved;
     }
 
-    abbrev went_behind : {q : Standing} {came : List (Option ℕ)} {numbers : List ℤ} {line' : ℕ} {rest : List ℕ} (Then : List Entry → List Entry → Type 0)
-        → NumbersRead set d.desc 0 start q → SubsWent set d d.subs 0 own q came numbers line' rest Then
-        → DeviceWent set d line text came numbers line' rest Then
-    went_behind {numbers = numbers} Then n r =
-        let all = agrees_parts n.said r.said numbers (told_own n r.told).agrees in
-        record {
-          said = n.said ++ r.said;
-          taken = head ∷ (all_taken n.said ++ r.taken);
-          told = told_own n r.told;
-          one_each = r.one_each;
-          versions = r.versions;
-          follows = λ image more long short.
-              follows_head (all_taken n.said ++ r.taken) (Then more) image more
-              (follows_on n r.taken (Then more) image.numbers _ short (r.follows image image.came more long short));
-          along = λ more.
-              along_head (all_taken n.said ++ r.taken) (Then more) _ more refl (along_on n r.taken (Then more) numbers _ all.0 (r.along _ more all.1));
-          moved = moved_then headed (moved_then n.moved r.moved);
-        }
+    device_comes : (o : Result ReadSubs BadLine) → Come inside d.subs 0 start o → DeviceComes o
+    device_comes (Ok r) x = record {
+      whole = with_head x.whole;
+      heard = λ image agrees c. x.heard (state_of d r.came image.numbers) agrees c;
+      lines = λ image agrees. x.lines (state_of d r.came image.numbers) agrees;
+    }
+    device_comes (Err e) x =
+        record { demand = x.demand; came = x.came; numbers = x.numbers; rest = x.rest; before = with_head x.before; wrong = x.wrong }
 
-    subs_behind : (q : Standing) (o : Result ReadSubs BadLine) → NumbersRead set d.desc 0 start q → SubsCome set d d.subs 0 own q o
-        → DeviceComes set d line text o
-    subs_behind q (Ok r) n x =
-        let image = image_of d r in
-        let all = agrees_parts n.said x.said r.place.numbers (told_own n x.told).agrees in
-        record {
-          whole = went_behind (λ more es. es ≡ more) n x.whole;
-          heard = λ c. heard_on n image.numbers _ x.said c all.0 (x.heard image all.1 c);
-          lines = x.lines image all.1 ∙ sym (lines_on n image.numbers (subs_entries set d image 0 own d.subs image.came) all.0);
-        }
-    subs_behind q (Err e) n x =
-        let before = went_behind (λ more es. Begins x.demand es) n x.before in
-        record { demand = x.demand; came = x.came; numbers = x.numbers; rest = x.rest; before = before; wrong = x.wrong }
-
-    device_comes : (r : Read) (go : Standing → Result ReadSubs BadLine) → NumbersCome set d.desc 0 start r
-        → ((q : Standing) → NumbersRead set d.desc 0 start q → SubsCome set d d.subs 0 own q (go q)) → DeviceComes set d line text (then_subs r go)
-    device_comes (Ok q) go n h = subs_behind q (go q) n (h q n)
-    device_comes (Err e) go n h = stopped_inside e n
-
-  cells_are : length (default_numbers set d) ≡ own + cells_long set d d.subs
+  cells_are : length (default_numbers set d) ≡ own_cells set d + cells_long set d d.subs
   cells_are = length-map (device_cells set d) (λ c. c.default) ∙ length-append (desc_cells (struct_cells set) d.desc) _
 
   -- the device's lines, of which the first is its own
   pub inside_comes : AreSound set.structs → IsSound d.desc → AreSoundSubs d.subs → Moved line text (head ∷ []) (suc line) start.rest
-      → DeviceComes set d line text (then_subs (read_desc (readers set) d.desc d.desc.version [] true 0 start) (read_subs set own d.subs))
+      → DeviceComes (then_subs (read_desc (readers set) d.desc d.desc.version [] true 0 start) (read_subs set (own_cells set d) d.subs))
   inside_comes structs sound subs headed =
-      device_comes headed (read_desc (readers set) d.desc d.desc.version [] true 0 start) (read_subs set own d.subs)
+      device_comes headed _
+      (numbers_first set d d.desc 0 0 (own_cells set d) d.subs start (omega arith) (read_desc (readers set) d.desc d.desc.version [] true 0 start) _
       (numbers_come set d.desc 0 start structs sound (omega (arith, cells_are)))
-      (λ q n. subs_come set d structs d.subs 0 own q subs (omega (arith, cells_are, n.told.long)))
+      (λ q n. subs_come set d structs d.subs 0 (own_cells set d) q subs (omega (arith, cells_are, n.told.long))))
 
 pub section_read : (d : Device) (text : List ℕ) (o : Option (List ℕ × List ℕ)) → first_line text ≡ o → is_line (section_line d d.desc.version) o ≡ true
     → (line : ℕ) → Moved line text (record { demand = ForSection d; line = section_line d d.desc.version } ∷ []) (suc line) (rest_of (first_line text))
@@ -271,7 +196,7 @@ defaults_shaped set (d ∷ devices) good = (
   record {
     version = refl;
     subs = length-map d.subs (λ s. None);
-    versions = none_at set d d.subs;
+    versions = none_at d.subs;
     cells = length-map (device_cells set d) (λ c. c.default);
     short = are_short (default_numbers set d) good.0.short;
   },
@@ -281,10 +206,13 @@ defaults_shaped set (d ∷ devices) good = (
 module _ (set : Set) (d : Device) (devices : List Device) (line : ℕ) (text : List ℕ) (good : AreShort (default_numbers set d)) where
   -- what follows for an image and those after it follows for all states
   each_state : (taken : List Taken) (P : List Entry → Type 0)
-      → ((i : Image) (images : List Image) → IsShaped set d i → AreShaped set devices images → Follows taken P (devices_entries set (d ∷ devices) (i ∷ images)))
+      → ((i : Image) (images : List Image) → IsShaped set d i → AreShaped set devices images
+      → Follows taken P (device_of set d i i.came ++ devices_entries set devices images))
       → (images : List Image) → AreShaped set (d ∷ devices) images → Follows taken P (devices_entries set (d ∷ devices) images)
   each_state taken P h [] shaped = absurd shaped
-  each_state taken P h (i ∷ images) shaped = h i images shaped.0 shaped.1
+  each_state taken P h (i ∷ images) shaped =
+      let same : state_of d i.came i.numbers ≡ i = rw (← shaped.0.version) refl in
+      subst (λ (x : Image). Follows taken P (device_entries set d x ++ devices_entries set devices images)) same (h i images shaped.0 shaped.1)
 
   shaped_as : {came : List (Option ℕ)} {numbers : List ℤ} {line' : ℕ} {rest : List ℕ} {Then : List Entry → List Entry → Type 0}
       → DeviceWent set d line text came numbers line' rest Then → IsShaped set d (state_of d came numbers)
@@ -308,8 +236,8 @@ module _ (set : Set) (d : Device) (devices : List Device) (line : ℕ) (text : L
           taken = w.taken;
           shaped = (shaped_as w, defaults_shaped set devices later);
           follows = each_state w.taken (λ es. Begins s.demand es)
-              (λ i images shaped others. w.follows i (devices_entries set devices images) shaped.subs (short_are i.numbers shaped.short));
-          along = w.along (devices_entries set devices (default_images set devices));
+              (λ i images shaped others. w.follows i i.came (devices_entries set devices images) shaped.subs (short_are i.numbers shaped.short));
+          along = w.along (state_of d s.came s.numbers) (devices_entries set devices (default_images set devices)) w.told.agrees;
           moved = w.moved;
         };
         wrong = s.wrong;
@@ -327,24 +255,25 @@ module _ (set : Set) (d : Device) (devices : List Device) (line : ℕ) (text : L
           taken = x.taken ++ a.taken;
           shaped = (shaped_as x.whole, a.shaped);
           follows = each_state (x.taken ++ a.taken) Then (λ i images shaped others.
-              follows_then x.taken a.taken (λ es. es ≡ devices_entries set devices images) Then _ (x.follows i _ shaped.subs (short_are i.numbers shaped.short))
+              follows_then x.taken a.taken (λ es. es ≡ devices_entries set devices images) Then _
+              (x.follows i i.came _ shaped.subs (short_are i.numbers shaped.short))
               (λ es is. rw is (a.follows images others)));
-          along = along_then x.taken a.taken (λ es. es ≡ devices_entries set devices images) Then _ (x.along _) (λ es is. rw is a.along);
+          along = along_then x.taken a.taken (λ es. es ≡ devices_entries set devices images) Then _ (x.along image _ x.told.agrees) (λ es is. rw is a.along);
           moved = moved_then x.moved a.moved;
         }
 
     -- a number about which nothing was said is its default
     image_unsaid : AreUnsaid set d image
     image_unsaid c lt bare =
-        rw (x.told.numbers, unsaid_kept (default_numbers set d) x.said c (sym (x.heard c) ∙ bare))
+        rw (x.told.numbers, unsaid_kept (default_numbers set d) x.said c (sym (x.heard image x.told.agrees c) ∙ bare))
         (get_or-map (λ c. c.default) (device_cells set d) c no_cell (pos 0) (omega (arith, length-map (device_cells set d) (λ c. c.default))))
 
     image_lined : IsLined set d line (record { image = image; line = line; sub_lines = r.lines })
-    image_lined = record { own = refl; subs = x.lines }
+    image_lined = record { own = refl; subs = x.lines image x.told.agrees }
 
     after_it : r.place.line ≡ line + length (device_entries set d image)
     after_it =
-        let along = along_long x.taken (device_entries set d image ++ []) (x.along []) in
+        let along = along_long x.taken (device_entries set d image ++ []) (x.along image [] x.told.agrees) in
         omega (arith, ap (λ (l : List Entry). length l) (append-nil (device_entries set d image)))
 
     others_come : (o : Result ReadAll BadLine) → AllCome set devices r.place.line r.place.rest o

@@ -6,9 +6,8 @@ use Rattle.vms_values_laws.proofs.Facade.{answer_of, ValuesRead, Bad, values_rea
 use Rattle.vms_values_laws.proofs.Facade.{AreShaped, AllUnsaid, AreFine, IsBadLine, Demand, ForMachine, reason_for, Taken, lines_of, AreFineTaken, Follows}
 use Rattle.vms_values_laws.proofs.Facade.{Along, Begins, Moved, is_one_of, AreSound, begun}
 use Rattle.vms_values_laws.proofs.SaidLaws.{some_if}
-use Rattle.vms_values_laws.proofs.Numbers.{follows_then, along_then, reason_same, moved_then, moved_none, moved_one}
-use Rattle.vms_values_laws.proofs.SecondPass.{parts_from, devices_judged}
-use Rattle.vms_values_laws.proofs.AllCome.{images_of, AllRead, AllStop, AreGoodDevices, AllCome, devices_come, AllWent}
+use Rattle.vms_values_laws.proofs.SecondPass.{follows_then, along_then, reason_same, moved_then, moved_none, moved_one, parts_from, devices_judged}
+use Rattle.vms_values_laws.proofs.AllCome.{images_of, AllRead, AreGoodDevices, AllCome, devices_come, AllWent}
 use Rattle.vms_values_laws.proofs.SubsCome.{line_taken}
 use Rattle.vms_values_laws.proofs.Meeting.{Ends}
 use Rattle.vms_spec.specs.declared.ValuesReason.TheVariants as reasons
@@ -50,35 +49,42 @@ pub record TakenOf (set : Set) (text : List ℕ) (machine : Option (List ℕ)) (
   pub follows : (images : List Image) → AreShaped set set.devices images → Follows taken (λ es. Ends o rest es) (entries set machine images)
   pub moved : Moved 1 text taken at rest
 
--- the relation says of it that it is bad
-pub record FirstBad (set : Set) (text : List ℕ) (line : ℕ) (reason : ValuesReason) : Type 0 where
+-- a line is bad, and the relation says so
+pub record OneBad (set : Set) (text : List ℕ) (v : ValuesRead) : Type 0 where
+  pub line : ℕ
+  pub reason : ValuesReason
   pub machine : Option (List ℕ)
   pub taken : List Taken
   pub rest : List ℕ
   pub took : TakenOf set text machine taken line rest (Some reason)
   pub is_bad : IsBadLine set text line reason
+  pub is : v ≡ Bad line reason
 
-pub record FirstFine (set : Set) (text : List ℕ) (machine : Option (List ℕ)) (all : ReadAll) : Type 0 where
+-- no line is bad
+pub record NoneBad (set : Set) (text : List ℕ) (v : ValuesRead) : Type 0 where
+  pub machine : Option (List ℕ)
+  pub all : ReadAll
   pub taken : List Taken
-  pub named : machine ≡ machine_named set.machines (first_line text)
+  pub took : TakenOf set text machine taken all.line [] None
+  pub open took use *
   pub shaped : AreShaped set set.devices (images_of all.devices)
   pub unsaid : AllUnsaid set set.devices (images_of all.devices)
   pub judged : judge_devices set set.devices all.devices ≡ parts_from set 1 (entries set machine (images_of all.devices))
-  pub follows : (images : List Image) → AreShaped set set.devices images → Follows taken (λ es. es ≡ []) (entries set machine images)
   pub along : Along taken (λ es. es ≡ []) (entries set machine (images_of all.devices))
-  pub moved : Moved 1 text taken all.line all.rest
+  pub is : v ≡ answer_of machine all.devices (judge_devices set set.devices all.devices)
+
+abbrev pub FirstPass : Set → List ℕ → ValuesRead → Type 0
+FirstPass set text v = OneBad set text v ⊎ NoneBad set text v
 
 -- its lines are those of what was read
-pub fine_text : (set : Set) (text : List ℕ) (machine : Option (List ℕ)) (all : ReadAll) → FirstFine set text machine all → all.rest ≡ []
-    → AreFine (entries set machine (images_of all.devices)) × (text ≡ text_of (map entry_line (entries set machine (images_of all.devices))))
-fine_text set text machine all f e =
-    let P : List Entry → Type 0 = λ es. es ≡ [] in
-    let es = entries set machine (images_of all.devices) in
-    let s = split f.taken P P es f.moved.fine (f.follows (images_of all.devices) f.shaped) f.along in
+pub fine_text : (set : Set) (text : List ℕ) (v : ValuesRead) (n : NoneBad set text v)
+    → AreFine (entries set n.machine (images_of n.all.devices)) × (text ≡ text_of (map entry_line (entries set n.machine (images_of n.all.devices))))
+fine_text set text v n =
+    let es = entries set n.machine (images_of n.all.devices) in
+    let s = split n.taken (λ es. Ends None [] es) (λ es. es ≡ []) es n.moved.fine (n.follows (images_of n.all.devices) n.shaped) n.along in
     let whole : es ≡ s.before = s.is ∙ ap (λ (l : List Entry). s.before ++ l) s.rest ∙ append-nil s.before in (
       rw whole s.fine,
-      f.moved.texts ∙ ap (λ (l : List ℕ). text_of (lines_of f.taken) ++ l) e ∙ append-nil (text_of (lines_of f.taken)) ∙ ap text_of (sym s.lines) ∙ ap
-          (λ (l : List Entry). text_of (map entry_line l)) (sym whole),
+      n.moved.texts ∙ append-nil (text_of (lines_of n.taken)) ∙ ap text_of (sym s.lines) ∙ ap (λ (l : List Entry). text_of (map entry_line l)) (sym whole),
     )
 
 front_of : (demand : Demand) (rest : List ℕ) (reason : ValuesReason) (es : List Entry) → reason_for demand (first_line rest) ≡ Some reason → Begins demand es
@@ -118,27 +124,10 @@ parts_machine : (set : Set) (machine : Option (List ℕ)) (line : ℕ) (images :
 parts_machine set None line images e = rw e refl
 parts_machine set (Some name) line images e = rw e refl
 
--- no line was bad
-pub record NoneBad (set : Set) (text : List ℕ) (v : ValuesRead) : Type 0 where
-  pub machine : Option (List ℕ)
-  pub all : ReadAll
-  pub first : FirstFine set text machine all
-  pub ends : all.rest ≡ []
-  pub is : v ≡ answer_of machine all.devices (judge_devices set set.devices all.devices)
-
-pub record OneBad (set : Set) (text : List ℕ) (v : ValuesRead) : Type 0 where
-  pub line : ℕ
-  pub reason : ValuesReason
-  pub first : FirstBad set text line reason
-  pub is : v ≡ Bad line reason
-
-abbrev pub FirstPass : Set → List ℕ → ValuesRead → Type 0
-FirstPass set text v = OneBad set text v ⊎ NoneBad set text v
-
 module _ (set : Set) (text : List ℕ) (machine : Option (List ℕ)) (line : ℕ) (after : List ℕ) (head : Headed set text machine line after) where
   -- a line that is bad after what was taken, if these entries are to come
   first_bad : {images : List Image} {at : ℕ} {rest : List ℕ} {Q : List Entry → Type 0} (reason : ValuesReason)
-      → AllWent set set.devices line after images at rest Q → ((es : List Entry) → Q es → front_reason es rest ≡ Some reason) → FirstBad set text at reason
+      → AllWent set set.devices line after images at rest Q → ((es : List Entry) → Q es → front_reason es rest ≡ Some reason) → OneBad set text (Bad at reason)
   first_bad {images = images} {at = at} {rest = rest} {Q = Q} reason a bad =
       let P : List Entry → Type 0 = λ es. front_reason es rest ≡ Some reason in
       let all = machine_taken machine ++ a.taken in
@@ -148,6 +137,8 @@ module _ (set : Set) (text : List ℕ) (machine : Option (List ℕ)) (line : ℕ
       let s = split all P P (entries set machine images) passed.fine (its images a.shaped)
       (along_machine set machine images a.taken P (along_ends a.taken Q P _ a.along bad)) in
       record {
+        line = at;
+        reason = reason;
         machine = machine;
         taken = all;
         rest = rest;
@@ -166,37 +157,32 @@ module _ (set : Set) (text : List ℕ) (machine : Option (List ℕ)) (line : ℕ
           number = omega arith;
           bad = s.rest;
         };
-      }
-
-  stopped_first : (e : BadLine) → AllStop set set.devices line after e → FirstBad set text e.line e.reason
-  stopped_first e a = first_bad e.reason a.before (λ es b. front_of a.demand a.rest e.reason es a.wrong b)
-
-  -- something comes after the last line
-  more_first : (all : ReadAll) (b : ℕ) (rest : List ℕ) → all.rest ≡ b ∷ rest → AllRead set set.devices line after all
-      → FirstBad set text all.line reasons.Form
-  more_first all b rest e a = first_bad reasons.Form a.whole (λ es is. rw (is, e) refl)
-
-  fine_first : (all : ReadAll) → AllRead set set.devices line after all → FirstFine set text machine all
-  fine_first all a =
-      let P : List Entry → Type 0 = λ es. es ≡ [] in
-      record {
-        taken = machine_taken machine ++ a.taken;
-        named = head.named;
-        shaped = a.shaped;
-        unsaid = a.unsaid;
-        judged = devices_judged set line set.devices all.devices a.lined a.shaped ∙ parts_machine set machine line (images_of all.devices) head.moved.further;
-        follows = λ images shaped. follows_machine set machine images a.taken P (a.follows images shaped);
-        along = along_machine set machine (images_of all.devices) a.taken P a.along;
-        moved = moved_then head.moved a.moved;
+        is = refl;
       }
 
   by_rest : (all : ReadAll) (rest : List ℕ) → all.rest ≡ rest → AllRead set set.devices line after all → FirstPass set text (judged set machine all rest)
-  by_rest all [] e a = inr (record { machine = machine; all = all; first = fine_first all a; ends = e; is = refl })
-  by_rest all (b ∷ rest) e a = inl (record { line = all.line; reason = reasons.Form; first = more_first all b rest e a; is = refl })
+  by_rest all [] e a = inr (record {
+    machine = machine;
+    all = all;
+    taken = machine_taken machine ++ a.taken;
+    took = record {
+      named = head.named;
+      follows = λ images shaped. follows_machine set machine images a.taken (λ es. Ends None [] es)
+          (follows_ends a.taken (λ es. es ≡ []) (λ es. Ends None [] es) _ (a.follows images shaped) (λ es e. (e, refl)));
+      moved = moved_then head.moved (rw e at a.moved);
+    };
+    shaped = a.shaped;
+    unsaid = a.unsaid;
+    judged = devices_judged set line set.devices all.devices a.lined a.shaped ∙ parts_machine set machine line (images_of all.devices) head.moved.further;
+    along = along_machine set machine (images_of all.devices) a.taken (λ es. es ≡ []) a.along;
+    is = refl;
+  })
+  -- something comes after the last line
+  by_rest all (b ∷ rest) e a = inl (first_bad reasons.Form a.whole (λ es is. rw (is, e) refl))
 
   by_end : (o : Result ReadAll BadLine) → AllCome set set.devices line after o → FirstPass set text (ended set machine o)
   by_end (Ok all) a = by_rest all all.rest refl a
-  by_end (Err e) a = inl (record { line = e.line; reason = e.reason; first = stopped_first e a; is = refl })
+  by_end (Err e) a = inl (first_bad e.reason a.before (λ es b. front_of a.demand a.rest e.reason es a.wrong b))
 
 -- ---- The first pass over a text: a bad line, or what its lines say.
 
@@ -229,14 +215,3 @@ by_machine set text structs good (Some name) e =
 pub first_pass : (set : Set) (text : List ℕ) → AreSound set.structs → AreGoodDevices set set.devices → FirstPass set text (values_read set text)
 unfolding values_read
 first_pass set text structs good = by_machine set text structs good (machine_named set.machines (first_line text)) refl
-
--- all that was taken, if no line is bad
-pub taken_all : (set : Set) (text : List ℕ) (v : ValuesRead) (n : NoneBad set text v) → TakenOf set text n.machine n.first.taken n.all.line n.all.rest None
-taken_all set text v n =
-    let f = n.first in
-    record {
-      named = f.named;
-      follows = λ images shaped.
-          follows_ends f.taken (λ es. es ≡ []) (λ es. Ends None n.all.rest es) (entries set n.machine images) (f.follows images shaped) (λ es e. (e, n.ends));
-      moved = f.moved;
-    }

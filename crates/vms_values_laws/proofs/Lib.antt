@@ -3,10 +3,7 @@ pub mod AllCome
 pub mod BadLines
 pub mod Meeting
 pub mod SaidLaws
-pub mod Coming
 pub mod Facade
-pub mod Numbers
-pub mod ReadyBack
 pub mod ReadyParts
 pub mod Rights
 pub mod SecondPass

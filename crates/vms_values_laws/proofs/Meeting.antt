@@ -13,9 +13,8 @@ use Rattle.vms_values_laws.proofs.Facade.{desc_elements, index_text, is_number, 
 use Rattle.vms_values_laws.proofs.Facade.{devices_entries, entries, one_more, Place, first_answer, is_name_byte, is_name, is_sub_name, is_one_of, machine_named}
 use Rattle.vms_values_laws.proofs.Facade.{WellFormed, first_fault, failing, here, set_rules, struct_fault, struct_rules, device_fault, device_rules, sub_rules}
 use Rattle.vms_values_laws.proofs.Facade.{size_rules, Clean, struct_clean, device_parts, sub_clean, get_none, name_byte_high}
-use Rattle.vms_values_laws.proofs.SaidLaws.{all_both, all_from, if_holds, if_none, some_if}
-use Rattle.vms_values_laws.proofs.Coming.{short}
-use Rattle.vms_values_laws.proofs.Numbers.{reason_same}
+use Rattle.vms_values_laws.proofs.SaidLaws.{all_both, all_from, if_holds, if_none, some_if, short}
+use Rattle.vms_values_laws.proofs.SecondPass.{reason_same}
 use Rattle.vms_spec.specs.declared.ValuesReason.TheVariants as reasons
 use Rattle.vms_spec.specs.declared.Part.TheVariants as parts
 

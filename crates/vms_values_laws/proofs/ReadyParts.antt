@@ -1,34 +1,23 @@
 -- Images that may be written, part by part, and the first bad part.
-use Rattle.vms_values_laws.proofs.Facade.{◌≡◌, ℕ, suc, ◌+◌, ◌<◌, ◌≤◌, Bool, true, false, List, ◌∷◌, ◌++◌, length, get_or, Option, Some, None, ℤ, refl, sym, ap}
-use Rattle.vms_values_laws.proofs.Facade.{◌∙◌, arith, [], map, flat_map, slice_get, AllByRecursion, or_from, get_or_append_left, get_or-append-add}
-use Rattle.vms_values_laws.proofs.Facade.{length-append, printed, or_else_none, ValuesReason, or_else, Desc, Sub, Device, Set, Cell, no_cell, Slot, desc_cells}
-use Rattle.vms_values_laws.proofs.Facade.{struct_cells, device_cells, Image, own_cells, own_slots, sub_slots, came_slots, image_slots, RulesHold, AreVersionsOf}
-use Rattle.vms_values_laws.proofs.Facade.{is_needed, ComeAsNeeded, IsReady, DefaultsFit, rules_append, rules_are, elements_in, Entry, OfSub, number_entries}
-use Rattle.vms_values_laws.proofs.Facade.{subs_entries, device_entries, if_not, rules_hold, have_defaults, sub_holds, came_well, part_reason, AreFine, has_line}
-use Rattle.vms_values_laws.proofs.Facade.{IsShaped, AreUnsaid, IsAtVersion, AreAtVersions, walks, elements_slots, BadLine, or_bad}
-use Rattle.vms_values_laws.proofs.Numbers.{of_numbers, AreShort}
-use Rattle.vms_values_laws.proofs.SecondPass.{desc_rules, as_bad, parts_from}
-use Rattle.vms_values_laws.proofs.Rights.{AreRight, right_none, right_both, AreBare, fit_parts, Part, part}
-use Rattle.vms_values_laws.proofs.SaidLaws.{lines_both, if_none}
+use Rattle.vms_values_laws.proofs.Facade.{◌≡◌, ℕ, suc, ◌+◌, ◌≤◌, Bool, true, false, List, ◌∷◌, ◌++◌, length, get_or, Option, Some, None, ℤ, refl, sym, ap, ◌∙◌}
+use Rattle.vms_values_laws.proofs.Facade.{arith, [], map, flat_map, slice_get, printed, or_else_none, ValuesReason, or_else, Desc, Sub, Device, Set, Cell}
+use Rattle.vms_values_laws.proofs.Facade.{no_cell, Slot, desc_cells, struct_cells, device_cells, Image, own_cells, own_slots, sub_slots, came_slots}
+use Rattle.vms_values_laws.proofs.Facade.{image_slots, RulesHold, AreVersionsOf, is_needed, ComeAsNeeded, IsReady, DefaultsFit, rules_append, rules_are}
+use Rattle.vms_values_laws.proofs.Facade.{elements_in, Entry, OfSub, number_entries, subs_entries, device_entries, if_not, have_defaults, came_well}
+use Rattle.vms_values_laws.proofs.Facade.{part_reason, AreFine, IsShaped, AreUnsaid, AreAtVersions, walks, elements_slots, BadLine, or_bad, pos, codes, ranged}
+use Rattle.vms_values_laws.proofs.Facade.{text_of, devices_entries, entries, AreShaped, AllUnsaid, IsText, Says, entry_law, text_is, OfSection, are_rules}
+use Rattle.vms_values_laws.proofs.Facade.{bytes_eq, bytes_eq-Decides, entry_line, is_of_cell, line_reason, or_right, rules_split, section_line, sub_line}
+use Rattle.vms_values_laws.proofs.SecondPass.{of_numbers, AreShort, short_within, desc_rules, as_bad, parts_from}
+use Rattle.vms_values_laws.proofs.Rights.{right_none, part, right_by, known_both, Known, defaults_are, AreGood, fine_then, IfDefaults}
+use Rattle.vms_values_laws.proofs.SaidLaws.{if_none, all_both, short}
 use Rattle.vms_spec.specs.declared.ValuesReason.TheVariants as reasons
 use Rattle.vms_spec.specs.Layout as slots
+use Rattle.vms_values_laws.proofs.AllCome.{are_short}
 
--- ---- A state that a text says, with good parts, is ready.
+-- ---- The entries of a state, beside its cells and slots.
 
-pub fine_both : (es fs : List Entry) → AreFine (es ++ fs) → AreFine es × AreFine fs
-fine_both [] fs h = (tt, h)
-fine_both (e ∷ es) fs h = let p = fine_both es fs h.1 in ((h.0, p.0), p.1)
-
-none_in : (es fs : List Entry) (k : ℕ) → has_line es k ≡ false → has_line fs k ≡ false → has_line (es ++ fs) k ≡ false
-none_in es fs k a b = lines_both es fs k ∙ or_from _ _ a b
-
--- no section or subsection is bad
-abbrev pub AreGood : Set → List Entry → Type 0
-AreGood set = AllByRecursion (λ (e : Entry). part_reason set e ≡ None)
-
-pub good_both : (set : Set) (es fs : List Entry) → AreGood set (es ++ fs) → AreGood set es × AreGood set fs
-good_both set [] fs h = (tt, h)
-good_both set (e ∷ es) fs h = let p = good_both set es fs h.1 in ((h.0, p.0), p.1)
+pub bytes_same : (a b : List ℕ) → a ≡ b → if_not (bytes_eq a b) reasons.Form ≡ None
+bytes_same a b e = rw ((bytes_eq-Decides a b).1 e) refl
 
 two_none : (a b : Bool) → or_else (if_not a reasons.Invalid) (if_not b reasons.Needed) ≡ None → (a ≡ true) × (b ≡ true)
 two_none a b e = let p = or_else_none _ _ e in (if_none a _ p.0, if_none b _ p.1)
@@ -42,37 +31,29 @@ well_away : (b have : Bool) → came_well b None have ≡ true → (b ≡ false)
 well_away true have e = cc
 well_away false have e = (refl, e)
 
+-- a line that is no number's, before those of a part's numbers
+head_known : {set : Set} {n : List ℤ} {at : ℕ} {es : List Entry} {cells : List Cell} {ss : List Slot} {N : Type 0} (e : Entry)
+    → ((k : ℕ) → is_of_cell k e ≡ false) → line_reason e (entry_line e) ≡ None → (part_reason set e ≡ None → N) → (N → part_reason set e ≡ None)
+    → Known set n at es cells ss (Unit {0}) → Known set n at (e ∷ es) cells ss N
+head_known e silent fine to from p = record {
+  outside = λ k h. rw (silent k) (p.outside k h);
+  unsaid = λ k h. p.unsaid k (rw (silent k) at h);
+  said = λ f g d bare. ((p.said f.1 g.1 d (λ c k lt e none. bare c k lt e (rw (silent k) none))).0, to g.0);
+  right = λ r m. let q = p.right r tt in ((fine, q.0), (from m, q.1));
+}
+
 module _ (set : Set) (n : List ℤ) (short : AreShort n) where
   abbrev cells : Desc → List Cell
   cells d = desc_cells (struct_cells set) d
 
-  abbrev bytes : Desc → ℕ → ℕ → List Slot
-  bytes d v at = slots.desc_slots (slots.meanings set.structs (length set.structs)) d v n at
-
-  pub desc_part : (d : Desc) (v at : ℕ)
-      → Part n at (of_numbers n (printed (elements_in set d v n at))) (cells d) (bytes d v at) (have_defaults n (elements_in set d v n at))
+  desc_part : (d : Desc) (v at : ℕ) → Known set n at (of_numbers n (printed (elements_in set d v n at))) (cells d)
+      (slots.desc_slots (slots.meanings set.structs (length set.structs)) d v n at) (Unit {0})
   desc_part d v at =
       let w = walks set d v v n n at at in
-      rw (← (w.cells_are), ← (elements_slots set d v n at)) (part n short at (elements_in set d v n at) w.up w.counted)
+      rw (← (w.cells_are), ← (elements_slots set d v n at)) (part set n short at (elements_in set d v n at) w.up w.counted)
 
-  -- what is at its default is right, whatever is in the bytes
-  pub default_right : (at : ℕ) (cs : List Cell) (ss : List Slot) → DefaultsFit cs → AreBare n at cs (λ k. false) → AreRight n at cs ss
-  default_right at cs ss defaults bare =
-      record { right = λ c k lt e. let is = bare c k lt e refl in record { fits = rw is (defaults c lt); absent = λ h. is } }
-
-  -- a part, and what comes after it
-  pub bare_parts : (d : Desc) (at next : ℕ) (cs : List Cell) (others : List Entry) → next ≡ at + length (cells d)
-      → ((k : ℕ) → k < next → has_line others k ≡ false) → AreBare n at (cells d ++ cs) (λ k. has_line (number_entries set d n at ++ others) k)
-      → AreBare n at (cells d) (λ k. has_line (number_entries set d n at) k) × AreBare n next cs (λ k. has_line others k)
-  bare_parts d at next cs others is below b = (
-    λ c k lt e f.
-        b c k (omega (arith, length-append (cells d) cs)) e (none_in (number_entries set d n at) others k f (below k (omega arith)))
-        ∙ ap (λ (x : Cell). x.default) (get_or_append_left (cells d) cs no_cell c lt),
-    λ c k lt e f.
-        b (length (cells d) + c) k (omega (arith, length-append (cells d) cs)) (omega arith)
-        (none_in (number_entries set d n at) others k ((desc_part d d.version at).outside k (λ low. omega arith)).0 f)
-        ∙ ap (λ (x : Cell). x.default) (get_or-append-add (cells d) cs c no_cell),
-  )
+  desc_bare : (d : Desc) (v at : ℕ) → IfDefaults n at (cells d) (have_defaults n (elements_in set d v n at))
+  desc_bare d v at = let w = walks set d v v n n at at in rw (← (w.cells_are)) (defaults_are n at (elements_in set d v n at) w.up)
 
 -- the cells of subsections
 abbrev pub sub_cells : Set → List Sub → List Cell
@@ -82,59 +63,72 @@ module _ (set : Set) (d : Device) (image : Image) (short : AreShort image.number
   abbrev n : List ℤ
   n = image.numbers
 
-  pub below_subs : (j at : ℕ) (subs : List Sub) (came : List (Option ℕ)) (k : ℕ) → k < at → has_line (subs_entries set d image j at subs came) k ≡ false
-  below_subs j at (s ∷ subs) (o ∷ came) k lt =
-      none_in (number_entries set s.desc n at) _ k ((desc_part set n short s.desc s.desc.version at).outside k (λ low. omega arith)).0
-      (below_subs (suc j) _ subs came k (omega arith))
-  below_subs j at _ _ k lt = refl
-
-  -- what holds of the subsections
-  pub record SubsReady (j at : ℕ) (subs : List Sub) (came : List (Option ℕ)) : Type 0 where
-    pub right : AreRight n at (sub_cells set subs) (came_slots set d n at subs came)
-    pub valid : RulesHold (came_slots set d n at subs came)
-    pub needed : ComeAsNeeded set d image j subs came
-
-  module _ (s : Sub) (j at : ℕ) (subs : List Sub) (came : List (Option ℕ)) where
+  module _ (s : Sub) (j at : ℕ) where
     abbrev own : List Cell
     own = desc_cells (struct_cells set) s.desc
 
-    abbrev next : ℕ
-    next = at + length own
+    its : Known set n at (number_entries set s.desc n at) own (sub_slots set s s.desc.version n at) (Unit {0})
+    its = desc_part set n short s.desc s.desc.version at
 
-    by_line : (o : Option ℕ) → IsAtVersion s o → AreRight n at own (sub_slots set s s.desc.version n at) → DefaultsFit own
-        → part_reason set (OfSub d image j s at o) ≡ None → SubsReady (suc j) next subs came → SubsReady j at (s ∷ subs) (o ∷ came)
-    by_line (Some v) same right defaults good later =
-        let p = two_none (sub_holds set s (Some v) n at) _ good in
-        record {
-          right = right_both n at next own (sub_cells set subs) (sub_slots set s v n at) (came_slots set d n next subs came) refl (rw same right) later.right;
-          valid = rules_append (sub_slots set s v n at) (came_slots set d n next subs came)
-              (rules_are (sub_slots set s v n at) (sym (desc_rules set s.desc v n at) ∙ p.0)) later.valid;
-          needed = (well_come _ v _ p.1, same, later.needed);
-        }
-    by_line None same right defaults good later =
-        let w = well_away (is_needed set d image s j) _ (two_none true _ good).1 in
-        record {
-          right = right_both n at next own (sub_cells set subs) [] (came_slots set d n next subs came) refl
-              (default_right set n short at own [] defaults ((desc_part set n short s.desc s.desc.version at).bare w.1)) later.right;
-          valid = later.valid;
-          needed = (w.0, later.needed);
-        }
+    came_known : (v : ℕ) → v ≡ s.desc.version → Known set n at (OfSub d image j s at (Some v) ∷ number_entries set s.desc n at) own (sub_slots set s v n at)
+        (RulesHold (sub_slots set s v n at) × (is_needed set d image s j ≡ true))
+    came_known v same =
+        let ss = sub_slots set s v n at in
+        let line : line_reason (OfSub d image j s at (Some v)) (sub_line s (Some v)) ≡ None =
+        rw (same, (bytes_eq-Decides (sub_line s (Some s.desc.version)) _).1 refl) refl in
+        head_known (OfSub d image j s at (Some v)) (λ k. refl) line
+        (λ g. let p = two_none _ _ g in (rules_are ss (sym (desc_rules set s.desc v n at) ∙ p.0), well_come _ v _ p.1))
+        (λ m. rw (desc_rules set s.desc v n at ∙ are_rules ss m.0, m.1) refl) (rw same its)
 
-  pub subs_ready : (j at : ℕ) (subs : List Sub) (came : List (Option ℕ)) → length came ≡ length subs → AreAtVersions subs came
-      → AreFine (subs_entries set d image j at subs came) → AreGood set (subs_entries set d image j at subs came) → DefaultsFit (sub_cells set subs)
-      → AreBare n at (sub_cells set subs) (λ k. has_line (subs_entries set d image j at subs came) k) → SubsReady j at subs came
-  subs_ready j at [] [] long versions fine good defaults bare = record { right = right_none n at []; valid = tt; needed = refl }
-  subs_ready j at (s ∷ subs) (o ∷ came) long versions fine good defaults bare =
-      let own = desc_cells (struct_cells set) s.desc in
-      let next = at + length own in
-      let numbers = number_entries set s.desc n at in
-      let others = subs_entries set d image (suc j) next subs came in
-      let f = fine_both numbers others fine.1 in
-      let b = bare_parts set n short s.desc at next (sub_cells set subs) others refl (λ k lt. below_subs (suc j) next subs came k lt) bare in
-      let p = fit_parts own (sub_cells set subs) defaults in
-      by_line s j at subs came o versions.0 ((desc_part set n short s.desc s.desc.version at).said f.0 p.0 b.0) p.0 good.0
-      (subs_ready (suc j) next subs came (omega arith) versions.1 f.1 (good_both set numbers others good.1).1 p.1 b.1)
-  subs_ready j at _ _ long versions fine good defaults bare = absurd (omega arith)
+    away_known : Known set n at (OfSub d image j s at None ∷ number_entries set s.desc n at) own [] (is_needed set d image s j ≡ false)
+    away_known = record {
+      outside = λ k h. ((its.outside k h).0, refl);
+      unsaid = λ k h. refl;
+      said = λ f g defaults none.
+          let w = well_away _ _ (two_none true _ g.0).1 in
+          let bare = (desc_bare set n short s.desc s.desc.version at).0 w.1 in
+          (record { right = λ c k lt e. let is = bare c k lt e refl in record { fits = rw is (defaults c lt); absent = λ h. is } }, w.0);
+      right = λ r m.
+          let have = (desc_bare set n short s.desc s.desc.version at).1 (λ c k lt e f. (r.right c k lt e).absent refl) in
+          let line = or_right (bytes_eq (sub_line s None) (sub_line s (Some s.desc.version))) _ ((bytes_eq-Decides (sub_line s None) _).1 refl) in
+          let p = its.right (record { right = λ c k lt e. right_by (λ h. refl) (r.right c k lt e) }) tt in
+          ((rw line refl, p.0), (rw (m, have) refl, p.1));
+    }
+
+  subs_known : (j at : ℕ) (subs : List Sub) (came : List (Option ℕ)) → length came ≡ length subs → AreAtVersions subs came
+      → Known set n at (subs_entries set d image j at subs came) (sub_cells set subs) (came_slots set d n at subs came)
+      (RulesHold (came_slots set d n at subs came) × ComeAsNeeded set d image j subs came)
+  subs_known j at [] [] long v = record {
+    outside = λ k h. (refl, refl);
+    unsaid = λ k h. refl;
+    said = λ f g d bare. (right_none n at [], (tt, refl));
+    right = λ r m. (tt, tt);
+  }
+  subs_known j at (s ∷ subs) (None ∷ came) long v =
+      known_both (λ a b. (b.0, (a, b.1))) (λ m. (m.1.0, (m.0, m.1.1))) refl (away_known s j at) (subs_known (suc j) _ subs came (omega arith) v.1)
+  subs_known j at (s ∷ subs) (Some w ∷ came) long v =
+      let mine = sub_slots set s w n at in
+      let later = came_slots set d n (at + length (desc_cells (struct_cells set) s.desc)) subs came in
+      known_both (λ a b. (rules_append mine later a.0 b.0, (a.1, v.0, b.1))) (λ m. let r = rules_split mine later m.0 in ((r.0, m.1.0), (r.1, m.1.2))) refl
+      (came_known s j at w v.0) (subs_known (suc j) _ subs came (omega arith) v.1)
+  subs_known j at _ _ long v = absurd (omega arith)
+
+  device_known : image.version ≡ d.desc.version → length image.came ≡ length d.subs → AreAtVersions d.subs image.came
+      → Known set n 0 (device_entries set d image) (device_cells set d) (image_slots set d image)
+      (RulesHold (image_slots set d image) × ComeAsNeeded set d image 0 d.subs image.came)
+  device_known version long versions =
+      let ss = own_slots set d image.version n in
+      let later = came_slots set d n (own_cells set d) d.subs image.came in
+      let its : Known set n 0 (number_entries set d.desc n 0) (desc_cells (struct_cells set) d.desc) ss (Unit {0}) =
+      rw version (desc_part set n short d.desc d.desc.version 0) in
+      let line = bytes_same (section_line d image.version) (section_line d d.desc.version) (ap (section_line d) version) in
+      let rules = desc_rules set d.desc image.version n 0 in
+      let own : Known set n 0 (OfSection d image ∷ number_entries set d.desc n 0) (desc_cells (struct_cells set) d.desc) ss (RulesHold ss) =
+      head_known (OfSection d image) (λ k. refl) line (λ g. rules_are ss (sym rules ∙ if_none _ _ g)) (λ m. rw (rules ∙ are_rules ss m) refl) its in
+      known_both (λ a b. (rules_append ss later a b.0, b.1)) (λ m. let r = rules_split ss later m.0 in (r.0, (r.1, m.1))) (omega arith) own
+      (subs_known 0 (own_cells set d) d.subs image.came long versions)
+
+  -- ---- A state that a text says, with good parts, is ready.
 
   versions_of : (subs : List Sub) (came : List (Option ℕ)) → length came ≡ length subs → AreAtVersions subs came
       → ((j : ℕ) (s : Sub) → slice_get subs j ≡ Some s → s.desc.minimum ≤ s.desc.version) → AreVersionsOf subs came
@@ -149,36 +143,19 @@ module _ (set : Set) (d : Device) (image : Image) (short : AreShort image.number
       → DefaultsFit (device_cells set d)
       → d.desc.minimum ≤ d.desc.version → ((j : ℕ) (s : Sub) → slice_get d.subs j ≡ Some s → s.desc.minimum ≤ s.desc.version) → IsReady set d image
   device_ready shaped unsaid fine good defaults low lows =
-      let own = desc_cells (struct_cells set) d.desc in
-      let numbers = number_entries set d.desc n 0 in
-      let others = subs_entries set d image 0 (own_cells set d) d.subs image.came in
-      let f = fine_both numbers others fine.1 in
-      let g = good_both set numbers others good.1 in
-      let next : own_cells set d ≡ 0 + length own = omega arith in
-      let bare : AreBare n 0 (own ++ sub_cells set d.subs) (λ k. has_line (device_entries set d image) k) = λ c k lt e h. let same : k ≡ c = omega arith in
-      unsaid k (omega (arith, shaped.cells)) h ∙ ap (λ (i : ℕ). (get_or (device_cells set d) i no_cell).default) same in
-      let b = bare_parts set n short d.desc 0 (own_cells set d) (sub_cells set d.subs) others next
-      (λ k lt. below_subs 0 (own_cells set d) d.subs image.came k lt) bare in
-      let p = fit_parts own (sub_cells set d.subs) defaults in
-      let subs = subs_ready 0 (own_cells set d) d.subs image.came shaped.subs shaped.versions f.1 g.1 p.1 b.1 in
-      let mine : AreRight n 0 own (own_slots set d d.desc.version n) = (desc_part set n short d.desc d.desc.version 0).said f.0 p.0 b.0 in
-      let theirs : AreRight n 0 own (own_slots set d image.version n) = rw (shaped.version) mine in
-      let all : AreRight n 0 (device_cells set d) (image_slots set d image) =
-      right_both n 0 (own_cells set d) own (sub_cells set d.subs) (own_slots set d image.version n) (came_slots set d n (own_cells set d) d.subs image.came)
-      next theirs subs.right in
+      let p = (device_known shaped.version shaped.subs shaped.versions).said fine good defaults (λ c k lt e h.
+      let same : k ≡ c = omega arith in
+      unsaid k (omega (arith, shaped.cells)) h ∙ ap (λ (i : ℕ). (get_or (device_cells set d) i no_cell).default) same) in
       record {
         normal = record {
           version = (let v = shaped.version in omega arith, let v = shaped.version in omega arith);
           subs = versions_of d.subs image.came shaped.subs shaped.versions lows;
-          cells = record { long = shaped.cells; fits = λ c lt. (all.right c c lt (omega arith)).fits };
-          absent = λ c lt e. (all.right c c (omega (arith, shaped.cells)) (omega arith)).absent e;
+          cells = record { long = shaped.cells; fits = λ c lt. (p.0.right c c lt (omega arith)).fits };
+          absent = λ c lt e. (p.0.right c c (omega (arith, shaped.cells)) (omega arith)).absent e;
         };
-        valid = rules_append (own_slots set d image.version n) (came_slots set d n (own_cells set d) d.subs image.came)
-            (rules_are (own_slots set d image.version n)
-            (sym (desc_rules set d.desc image.version n 0) ∙ if_none
-            (rules_hold (elements_in set d.desc image.version n 0)) reasons.Invalid good.0)) subs.valid;
+        valid = p.1.0;
         version = shaped.version;
-        needed = subs.needed;
+        needed = p.1.1;
       }
 
 -- ---- The first bad part of entries.
@@ -226,3 +203,91 @@ bad_part_found set line (e ∷ before) entry after reason good bad =
 pub good_none : (set : Set) (line : ℕ) (es : List Entry) → AreGood set es → parts_from set line es ≡ None
 good_none set line [] g = refl
 good_none set line (e ∷ es) g = rw (g.0) (good_none set (suc line) es g.1)
+
+-- ---- Ready images are what their text says, and no part of them is bad.
+
+came_at : (set : Set) (d : Device) (image : Image) (j : ℕ) (subs : List Sub) (came : List (Option ℕ)) → ComeAsNeeded set d image j subs came
+    → (length came ≡ length subs) × AreAtVersions subs came
+came_at set d image j [] [] h = (refl, tt)
+came_at set d image j [] (o ∷ came) h = absurd (cc)
+came_at set d image j (s ∷ subs) [] h = absurd h
+came_at set d image j (s ∷ subs) (None ∷ came) h = let p = came_at set d image (suc j) subs came h.1 in (ap suc p.0, (tt, p.1))
+came_at set d image j (s ∷ subs) (Some v ∷ came) h = let p = came_at set d image (suc j) subs came h.2 in (ap suc p.0, (h.1, p.1))
+
+-- what the lines of a device are
+record DeviceSays (set : Set) (d : Device) (image : Image) : Type 0 where
+  shaped : IsShaped set d image
+  unsaid : AreUnsaid set d image
+  fine : AreFine (device_entries set d image)
+  good : AreGood set (device_entries set d image)
+
+device_says : (set : Set) (d : Device) (image : Image) → AreShort image.numbers → IsReady set d image → DeviceSays set d image
+device_says set d image short ready =
+    let at = came_at set d image 0 d.subs image.came ready.needed in
+    let known = device_known set d image short ready.version at.0 at.1 in
+    let p = known.right (record {
+      right = λ c k lt e. let same : k ≡ c = omega arith in
+          record {
+            fits = rw same (ready.normal.cells.fits c lt);
+            absent = λ h. ready.normal.absent k (omega arith) h ∙ ap (λ (i : ℕ). (get_or (device_cells set d) i no_cell).default) same;
+          };
+    }) (ready.valid, ready.needed) in
+    record {
+      shaped = record { version = ready.version; subs = at.0; versions = at.1; cells = ready.normal.cells.long; short = are_short image.numbers short };
+      unsaid = λ c lt e. ready.normal.absent c lt (known.unsaid c e);
+      fine = p.0;
+      good = p.1;
+    }
+
+-- numbers that fit their cells have at most 64 bits
+ready_short : (set : Set) (d : Device) (image : Image) → IsReady set d image → AreShort image.numbers
+ready_short set d image ready = short_within image.numbers (λ c lt.
+    let cell = get_or (device_cells set d) c no_cell in
+    short cell.kind (get_or image.numbers c (pos 0)) (ranged cell.kind (get_or image.numbers c (pos 0)) (ready.normal.cells.fits c (omega arith)).0))
+
+record AllSay (set : Set) (devices : List Device) (images : List Image) : Type 0 where
+  shaped : AreShaped set devices images
+  unsaid : AllUnsaid set devices images
+  fine : AreFine (devices_entries set devices images)
+  good : AreGood set (devices_entries set devices images)
+
+all_say : (set : Set) (devices : List Device) (images : List Image) → length images ≡ length devices
+    → ((k : ℕ) (d : Device) (image : Image) → slice_get devices k ≡ Some d → slice_get images k ≡ Some image → IsReady set d image) → AllSay set devices images
+all_say set [] [] long ready = record { shaped = tt; unsaid = tt; fine = tt; good = tt }
+all_say set (d ∷ devices) (image ∷ images) long ready =
+    let here = ready 0 d image refl refl in
+    let mine = device_says set d image (ready_short set d image here) here in
+    let others = all_say set devices images (omega arith) (λ k e i a b. ready (suc k) e i a b) in
+    record {
+      shaped = (mine.shaped, others.shaped);
+      unsaid = (mine.unsaid, others.unsaid);
+      fine = fine_then (device_entries set d image) (devices_entries set devices images) mine.fine others.fine;
+      good = all_both _ (device_entries set d image) (devices_entries set devices images) mine.good others.good;
+    }
+all_say set _ _ long ready = absurd (omega arith)
+
+-- what a text says, and no part of it is bad
+pub record SaysWell (set : Set) (text : List ℕ) (machine : Option (List ℕ)) (images : List Image) : Type 0 where
+  pub says : Says set text machine images
+  pub good : AreGood set (entries set machine images)
+
+with_machine : (set : Set) (machine : Option (List ℕ)) (images : List Image) → AllSay set set.devices images
+    → AreFine (entries set machine images) × AreGood set (entries set machine images)
+with_machine set None images a = (a.fine, a.good)
+with_machine set (Some name) images a = ((bytes_same (codes "machine " ++ name) (codes "machine " ++ name) refl, a.fine), (refl, a.good))
+
+pub text_says : (set : Set) (text : List ℕ) (machine : Option (List ℕ)) (images : List Image) → IsText set text machine images
+    → SaysWell set text machine images
+text_says set text machine images t =
+    let a = all_say set set.devices images t.ready.one_each t.ready.ready in
+    let p = with_machine set machine images a in
+    record {
+      says = record {
+        named = t.named;
+        shaped = a.shaped;
+        unsaid = a.unsaid;
+        fine = p.0;
+        printed = t.printed ∙ sym (text_is set machine images) ∙ ap text_of (sym (entry_law set machine images));
+      };
+      good = p.1;
+    }

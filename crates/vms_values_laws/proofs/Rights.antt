@@ -1,14 +1,14 @@
 -- Which numbers have fine lines, and which entries.
 use Rattle.vms_values_laws.proofs.Facade.{◌≡◌, ℕ, Bool, true, false, List, ◌∷◌, ◌++◌, length, get_or, drop, Some, None, ℤ, pos, refl, sym, ap, ◌∙◌, codes}
-use Rattle.vms_values_laws.proofs.Facade.{or_from, and_from, and-true, and-false, not-true, append_assoc, if◌then◌else◌, ◌||◌, [], ◌⊎◌, inl, inr, zero, suc}
-use Rattle.vms_values_laws.proofs.Facade.{◌+◌, ◌-◌, ◌<◌, ◌≤◌, ◌&&◌, ◌==◌, subst, arith, ⊎_elim, signed_decimal, eq-eqb, ne_eqb, and_parts, or_parts}
-use Rattle.vms_values_laws.proofs.Facade.{drop-append_seam, get_or_append_left, get_or-append-add, length-append, cases_lt, Entry, AreCounted, or_else_none}
-use Rattle.vms_values_laws.proofs.Facade.{same_number, Cell, no_cell, Slot, FitsCell, has_cell, begins_with, is_same, ranged, ranges, or_second, same_number_is}
-use Rattle.vms_values_laws.proofs.Facade.{within_all, not_exceeds, IsShort, number_holds, Number, Element, What, number_line, printed, OfNumber, if_not}
-use Rattle.vms_values_laws.proofs.Facade.{number_reason, element_reason, line_reason, have_defaults, DefaultsFit, names_append, cells_of, slots_of, numbers_in}
-use Rattle.vms_values_laws.proofs.Facade.{CountsUp, AreFine, has_line}
-use Rattle.vms_values_laws.proofs.SaidLaws.{if_none, if_holds}
-use Rattle.vms_values_laws.proofs.Numbers.{AreShort, of_numbers}
+use Rattle.vms_values_laws.proofs.Facade.{or_from, and_from, and-true, and-false, not-true, append_assoc, if◌then◌else◌, ◌||◌, [], zero, suc, ◌+◌, ◌-◌, ◌<◌}
+use Rattle.vms_values_laws.proofs.Facade.{◌≤◌, ◌&&◌, ◌==◌, subst, arith, ⊎_elim, signed_decimal, eq-eqb, ne_eqb, and_parts, or_parts, drop-append_seam}
+use Rattle.vms_values_laws.proofs.Facade.{get_or_append_left, get_or-append-add, length-append, cases_lt, Entry, AreCounted, or_else_none, same_number, Cell}
+use Rattle.vms_values_laws.proofs.Facade.{no_cell, Slot, FitsCell, has_cell, begins_with, is_same, ranged, ranges, or_second, same_number_is, within_all}
+use Rattle.vms_values_laws.proofs.Facade.{not_exceeds, IsShort, number_holds, Number, Element, What, number_line, printed, OfNumber, if_not, number_reason}
+use Rattle.vms_values_laws.proofs.Facade.{element_reason, line_reason, have_defaults, DefaultsFit, names_append, cells_of, slots_of, numbers_in, CountsUp}
+use Rattle.vms_values_laws.proofs.Facade.{AreFine, has_line, Set, AllByRecursion, part_reason, none_joined, is_number, cells_with, slot_of, has_default}
+use Rattle.vms_values_laws.proofs.SaidLaws.{if_none, if_holds, lines_both, all_both}
+use Rattle.vms_values_laws.proofs.SecondPass.{AreShort, of_numbers}
 use Rattle.vms_spec.specs.declared.ValuesReason.TheVariants as reasons
 use Rattle.vms_spec.specs.Layout as slots
 
@@ -95,175 +95,197 @@ fit_parts xs ys h = (
 abbrev pub AreBare : List ℤ → ℕ → List Cell → (ℕ → Bool) → Type 0
 AreBare n at cells test = (c k : ℕ) → c < length cells → k ≡ at + c → test k ≡ false → get_or n k (pos 0) ≡ (get_or cells c no_cell).default
 
--- slots with that of a number, if it has bytes
-abbrev pub with_slot : Element → Cell → List Slot → List Slot
-with_slot x cell ss = if x.present then slots.Number x.cell cell.kind cell.capacities ∷ ss else ss
-
--- a number
-pub record IsNumberOf (x : Element) (xs : List Element) : Type 0 where
-  pub cell : Cell
-  pub what : x.what ≡ Number cell
-  pub cells : cells_of (x ∷ xs) ≡ cell ∷ cells_of xs
-  pub numbers : numbers_in (x ∷ xs) ≡ x ∷ numbers_in xs
-  pub lines : printed (x ∷ xs) ≡ (if x.counted then x ∷ printed xs else printed xs)
-  pub bytes : slots_of (x ∷ xs) ≡ with_slot x cell (slots_of xs)
-  pub defaults : (n : List ℤ) → have_defaults n (x ∷ xs) ≡ (same_number (get_or n x.cell (pos 0)) cell.default && have_defaults n xs)
-
--- or none
-pub record IsNoNumber (x : Element) (xs : List Element) : Type 0 where
-  pub cells : cells_of (x ∷ xs) ≡ cells_of xs
-  pub numbers : numbers_in (x ∷ xs) ≡ numbers_in xs
-  pub lines : printed (x ∷ xs) ≡ printed xs
-  pub bytes : (k : ℕ) → has_cell (slots_of (x ∷ xs)) k ≡ has_cell (slots_of xs) k
-  pub defaults : (n : List ℤ) → have_defaults n (x ∷ xs) ≡ have_defaults n xs
-
-pub view : (x : Element) (xs : List Element) → IsNumberOf x xs ⊎ IsNoNumber x xs
-view x xs = by_what x.what refl where
-  by_what : (w : What) → x.what ≡ w → IsNumberOf x xs ⊎ IsNoNumber x xs
-  by_what (Number cell) e = inl (record {
-    cell = cell;
-    what = e;
-    cells = rw e refl;
-    numbers = rw e refl;
-    lines = rw (e, and-true x.counted) refl;
-    bytes = rw e refl;
-    defaults = λ n. rw e refl;
-  })
-  by_what _ e = inr (record {
-    cells = rw e refl;
-    numbers = rw e refl;
-    lines = rw (e, and-false x.counted) refl;
-    bytes = λ k. rw e (if_holds (λ l. has_cell l k ≡ has_cell (slots_of xs) k) x.present _ (slots_of xs) refl refl);
-    defaults = λ n. rw e refl;
-  })
-
-no_line : (n : List ℤ) (x : Element) (xs : List Element) (k : ℕ) (b : Bool) → (x.cell ≡ k → ⊥) → has_line (of_numbers n xs) k ≡ false
-    → has_line (of_numbers n (if b then x ∷ xs else xs)) k ≡ false
-no_line n x xs k b ne h = if_holds (λ l. has_line (of_numbers n l) k ≡ false) b (x ∷ xs) xs (rw (ne_eqb x.cell k ne) h) h
-
-no_bytes : (x : Element) (cell : Cell) (ss : List Slot) (k : ℕ) (b : Bool) → (x.cell ≡ k → ⊥) → has_cell ss k ≡ false
-    → has_cell (if b then slots.Number x.cell cell.kind cell.capacities ∷ ss else ss) k ≡ false
-no_bytes x cell ss k b ne h = if_holds (λ ss. has_cell ss k ≡ false) b _ ss (rw (ne_eqb x.cell k ne) h) h
-
 pub fine_rest : (n : List ℤ) (x : Element) (xs : List Element) (b : Bool) → AreFine (of_numbers n (if b then x ∷ printed xs else printed xs))
     → AreFine (of_numbers n (printed xs))
 fine_rest n x xs true f = f.1
 fine_rest n x xs false f = f
 
-bare_later : (b : Bool) (x : Element) (cell : Cell) (ss : List Slot) (k : ℕ)
-    → has_cell (if b then slots.Number x.cell cell.kind cell.capacities ∷ ss else ss) k ≡ false → has_cell ss k ≡ false
-bare_later true x cell ss k h = (or_parts (x.cell == k) (has_cell ss k) h).1
-bare_later false x cell ss k h = h
+pub fine_both : (es fs : List Entry) → AreFine (es ++ fs) → AreFine es × AreFine fs
+fine_both [] fs h = (tt, h)
+fine_both (e ∷ es) fs h = let p = fine_both es fs h.1 in ((h.0, p.0), p.1)
 
--- What is known of the entries, the cells and the slots of a part from a cell on, by the numbers of a state; `have` is whether all are defaults.
-pub record Part (n : List ℤ) (at : ℕ) (es : List Entry) (cells : List Cell) (ss : List Slot) (have : Bool) : Type 0 where
-  -- cells before the part and after it have no line and no byte, and a cell without a line has no byte
+pub fine_then : (es fs : List Entry) → AreFine es → AreFine fs → AreFine (es ++ fs)
+fine_then [] fs a b = b
+fine_then (e ∷ es) fs a b = (a.0, fine_then es fs a.1 b)
+
+pub none_in : (es fs : List Entry) (k : ℕ) → has_line es k ≡ false → has_line fs k ≡ false → has_line (es ++ fs) k ≡ false
+none_in es fs k a b = lines_both es fs k ∙ or_from _ _ a b
+
+-- no section or subsection is bad
+abbrev pub AreGood : Set → List Entry → Type 0
+AreGood set = AllByRecursion (λ (e : Entry). part_reason set e ≡ None)
+
+pub good_both : (set : Set) (es fs : List Entry) → AreGood set (es ++ fs) → AreGood set es × AreGood set fs
+good_both set [] fs h = (tt, h)
+good_both set (e ∷ es) fs h = let p = good_both set es fs h.1 in ((h.0, p.0), p.1)
+
+pub numbers_good : (set : Set) (n : List ℤ) (xs : List Element) → AreGood set (of_numbers n xs)
+numbers_good set n [] = tt
+numbers_good set n (x ∷ xs) = (refl, numbers_good set n xs)
+
+right_parts : (n : List ℤ) (at next : ℕ) (xs ys : List Cell) (ss ts : List Slot) → next ≡ at + length xs → ((k : ℕ) → k < next → has_cell ts k ≡ false)
+    → ((k : ℕ) → next ≤ k → has_cell ss k ≡ false) → AreRight n at (xs ++ ys) (ss ++ ts) → AreRight n at xs ss × AreRight n next ys ts
+right_parts n at next xs ys ss ts is below above a = (
+  record {
+    right = λ c k lt e. rw (← (get_or_append_left xs ys no_cell c lt))
+        (right_by (λ bare. none_joined k ss ts bare (below k (omega arith))) (a.right c k (omega (arith, length-append xs ys)) e));
+  },
+  record {
+    right = λ c k lt e. rw (← (get_or-append-add xs ys c no_cell))
+        (right_by (λ bare. none_joined k ss ts (above k (omega arith)) bare) (a.right (length xs + c) k (omega (arith, length-append xs ys)) (omega arith)));
+  },
+)
+
+-- What is known of entries, by the numbers of a state, beside cells from one on and slots; `More` is what else they require.
+pub record Known (set : Set) (n : List ℤ) (at : ℕ) (es : List Entry) (cells : List Cell) (ss : List Slot) (More : Type 0) : Type 0 where
+  -- cells before and after these have no line and no byte, and a cell without a line has no byte
   pub outside : (k : ℕ) → (at ≤ k → at + length cells ≤ k) → (has_line es k ≡ false) × (has_cell ss k ≡ false)
   pub unsaid : (k : ℕ) → has_line es k ≡ false → has_cell ss k ≡ false
-  -- fine lines are those of right numbers
-  pub said : AreFine es → DefaultsFit cells → AreBare n at cells (λ k. has_line es k) → AreRight n at cells ss
-  pub right : AreRight n at cells ss → AreFine es
-  pub bare : have ≡ true → AreBare n at cells (λ k. false)
-  pub defaults : AreBare n at cells (λ k. false) → have ≡ true
+  -- fine lines without a bad part are those of right numbers
+  pub said : AreFine es → AreGood set es → DefaultsFit cells → AreBare n at cells (λ k. has_line es k) → AreRight n at cells ss × More
+  pub right : AreRight n at cells ss → More → AreFine es × AreGood set es
 
--- beside other slots with the same bytes
-same_bytes : (n : List ℤ) (at : ℕ) (es : List Entry) (cells : List Cell) (ss ts : List Slot) (have : Bool) → ((k : ℕ) → has_cell ts k ≡ has_cell ss k)
-    → Part n at es cells ss have → Part n at es cells ts have
-same_bytes n at es cells ss ts have same p = record {
+-- entries, and others behind them
+pub known_both : {set : Set} {n : List ℤ} {at next : ℕ} {es fs : List Entry} {xs ys : List Cell} {ss ts : List Slot} {N M O : Type 0} → (N → M → O) → (O → N × M)
+    → next ≡ at + length xs → Known set n at es xs ss N → Known set n next fs ys ts M → Known set n at (es ++ fs) (xs ++ ys) (ss ++ ts) O
+known_both {set} {n} {at} {next} {es} {fs} {xs} {ys} {ss} {ts} to from is a b = record {
+  outside = λ k h.
+      let past : at ≤ k → at + (length xs + length ys) ≤ k = rw (length-append xs ys) at h in
+      let f = a.outside k (λ low. let p = past low in omega arith) in
+      let g = b.outside k (λ low. let p = past (omega arith) in omega arith) in
+      (none_in es fs k f.0 g.0, none_joined k ss ts f.1 g.1);
+  unsaid = λ k e.
+      let p = or_parts (has_line es k) _ (sym (lines_both es fs k) ∙ e) in none_joined k ss ts (a.unsaid k p.0) (b.unsaid k p.1);
+  said = λ f g d bare.
+      let f' = fine_both es fs f in
+      let g' = good_both set es fs g in
+      let d' = fit_parts xs ys d in
+      let p = a.said f'.0 g'.0 d'.0 (λ c k lt e none.
+      bare c k (omega (arith, length-append xs ys)) e (none_in es fs k none (b.outside k (λ low. omega arith)).0)
+      ∙ ap (λ (x : Cell). x.default) (get_or_append_left xs ys no_cell c lt)) in
+      let q = b.said f'.1 g'.1 d'.1 (λ c k lt e none.
+      bare (length xs + c) k (omega (arith, length-append xs ys)) (omega arith) (none_in es fs k (a.outside k (λ low. omega arith)).0 none)
+      ∙ ap (λ (x : Cell). x.default) (get_or-append-add xs ys c no_cell)) in
+      (right_both n at next xs ys ss ts is p.0 q.0, to p.1 q.1);
+  right = λ r m.
+      let r' = right_parts n at next xs ys ss ts is (λ k lt. (b.outside k (λ low. omega arith)).1) (λ k le. (a.outside k (λ low. omega arith)).1) r in
+      let p = a.right r'.0 (from m).0 in
+      let q = b.right r'.1 (from m).1 in
+      (fine_then es fs p.0 q.0, all_both _ es fs p.1 q.1);
+}
+
+same_bytes : {set : Set} {n : List ℤ} {at : ℕ} {es : List Entry} {cells : List Cell} {ss ts : List Slot} {N : Type 0}
+    → ((k : ℕ) → has_cell ts k ≡ has_cell ss k) → Known set n at es cells ss N → Known set n at es cells ts N
+same_bytes same p = record {
   outside = λ k h. let o = p.outside k h in (o.0, same k ∙ o.1);
   unsaid = λ k h. same k ∙ p.unsaid k h;
-  said = λ f d b. record { right = λ c k lt e. right_by (λ h. sym (same k) ∙ h) ((p.said f d b).right c k lt e) };
-  right = λ a. p.right (record { right = λ c k lt e. right_by (λ h. same k ∙ h) (a.right c k lt e) });
-  bare = p.bare;
-  defaults = p.defaults;
+  said = λ f g d b. let q = p.said f g d b in (record { right = λ c k lt e. right_by (λ h. sym (same k) ∙ h) (q.0.right c k lt e) }, q.1);
+  right = λ a m. p.right (record { right = λ c k lt e. right_by (λ h. same k ∙ h) (a.right c k lt e) }) m;
 }
 
--- a number before a part
-module _ (n : List ℤ) (short : AreShort n) (x : Element) (xs : List Element) (v : IsNumberOf x xs) (at : ℕ) (here : x.cell ≡ at)
-    (p : Part n (at + 1) (of_numbers n (printed xs)) (cells_of xs) (slots_of xs) (have_defaults n xs)) where
-  abbrev cells : List Cell
-  cells = v.cell ∷ cells_of xs
+-- ---- The numbers of a part.
 
-  abbrev mine : List Slot
-  mine = with_slot x v.cell (slots_of xs)
+-- one number, which has bytes and a line or not
+module _ (set : Set) (n : List ℤ) (short : AreShort n) (x : Element) (cell : Cell) (what : x.what ≡ Number cell) (at : ℕ) (here : x.cell ≡ at) where
+  abbrev slot : Slot
+  slot = slots.Number x.cell cell.kind cell.capacities
 
-  abbrev lines : Bool → List Entry
-  lines t = of_numbers n (if t then x ∷ printed xs else printed xs)
+  abbrev line : Bool → List Entry
+  line t = of_numbers n (if t then x ∷ [] else [])
 
-  number_unsaid : (k : ℕ) (b t : Bool) → (b ≡ true → t ≡ true) → has_line (lines t) k ≡ false
-      → has_cell (if b then slots.Number x.cell v.cell.kind v.cell.capacities ∷ slots_of xs else slots_of xs) k ≡ false
-  number_unsaid k true true c e = let q = or_parts (x.cell == k) _ e in or_from (x.cell == k) _ q.0 (p.unsaid k q.1)
+  abbrev byte : Bool → List Slot
+  byte b = if b then slot ∷ [] else []
+
+  number_unsaid : (k : ℕ) (b t : Bool) → (b ≡ true → t ≡ true) → has_line (line t) k ≡ false → has_cell (byte b) k ≡ false
+  number_unsaid k true true c e = e
   number_unsaid k true false c e = let f = c refl in cc
-  number_unsaid k false true c e = p.unsaid k (or_parts (x.cell == k) _ e).1
-  number_unsaid k false false c e = p.unsaid k e
+  number_unsaid k false t c e = refl
 
-  hidden : (b : Bool) → has_cell (if b then slots.Number x.cell v.cell.kind v.cell.capacities ∷ slots_of xs else slots_of xs) at ≡ false → b ≡ false
-  hidden true h = sym (eq-eqb x.cell at here) ∙ (or_parts (x.cell == at) (has_cell (slots_of xs) at) h).0
+  hidden : (b : Bool) → has_cell (byte b) at ≡ false → b ≡ false
+  hidden true h = sym (eq-eqb x.cell at here) ∙ (or_parts (x.cell == at) false h).0
   hidden false h = refl
 
-  number_said : (t : Bool) → AreFine (lines t) → AreBare n at cells (λ k. has_line (lines t) k) → FitsCell v.cell v.cell.default → IsRight n mine at v.cell
-  number_said true f b d =
-      let r = reason_fits v.cell x.present (get_or n x.cell (pos 0)) (sym (line_number x n v.cell v.what (short x.cell)) ∙ f.0) in
-      record { fits = rw here at r.fits; absent = λ h. rw here at (r.absent (hidden x.present h)) }
-  number_said false f b d =
-      let is : get_or n at (pos 0) ≡ v.cell.default = b 0 at (omega arith) (omega arith) (p.outside at (λ le. omega arith)).0 in
-      record { fits = rw is d; absent = λ h. is }
+  number_said : (b t : Bool) → x.present ≡ b → AreFine (line t) → FitsCell cell cell.default
+      → (has_line (line t) at ≡ false → get_or n at (pos 0) ≡ cell.default) → IsRight n (byte b) at cell
+  number_said b true p f d bare =
+      let r = reason_fits cell x.present (get_or n x.cell (pos 0)) (sym (line_number x n cell what (short x.cell)) ∙ f.0) in
+      record { fits = rw here at r.fits; absent = λ h. rw here at (r.absent (p ∙ hidden b h)) }
+  number_said b false p f d bare = let is = bare refl in record { fits = rw is d; absent = λ h. is }
 
-  place : (c k : ℕ) → c < suc (length (cells_of xs)) → k ≡ at + c → IsRight n mine at v.cell → AreRight n (at + 1) (cells_of xs) (slots_of xs)
-      → IsRight n mine k (get_or cells c no_cell)
-  place zero k lt e h later = let is : at ≡ k = omega arith in rw (is) at h
-  place (suc c) k lt e h later = right_by (bare_later x.present x v.cell (slots_of xs) k) (later.right c k (omega arith) (omega arith))
-
-  number_bare : (c k : ℕ) → c < suc (length (cells_of xs)) → k ≡ at + c → get_or n at (pos 0) ≡ v.cell.default → AreBare n (at + 1) (cells_of xs) (λ k. false)
-      → get_or n k (pos 0) ≡ (get_or cells c no_cell).default
-  number_bare zero k lt e is later = let same : k ≡ at = omega arith in rw same is
-  number_bare (suc c) k lt e is later = later c k (omega arith) (omega arith) refl
-
-  number_line_fine : IsRight n mine at v.cell → line_reason (OfNumber x n) (number_line n x) ≡ None
-  number_line_fine r =
-      let bytes = λ (b : Bool). has_cell (if b then slots.Number x.cell v.cell.kind v.cell.capacities ∷ slots_of xs else slots_of xs) at in
-      line_number x n v.cell v.what (short x.cell) ∙ fits_reason v.cell x.present (get_or n x.cell (pos 0))
-      (record { fits = rw here r.fits; absent = λ e. rw here (r.absent (ap bytes e ∙ (p.outside at (λ le. omega arith)).1)) })
-
-  number_part : (x.present ≡ true → x.counted ≡ true)
-      → Part n at (lines x.counted) cells mine (same_number (get_or n x.cell (pos 0)) v.cell.default && have_defaults n xs)
-  number_part counted = record {
+  one_known : (b t : Bool) → x.present ≡ b → (b ≡ true → t ≡ true) → Known set n at (line t) (cell ∷ []) (byte b) (Unit {0})
+  one_known b t p c = record {
     outside = λ k h.
-        let ne : x.cell ≡ k → ⊥ = λ e. (let g : at + suc (length (cells_of xs)) ≤ k = h (omega arith) in omega arith) in
-        let later = p.outside k (λ le. let g : at + suc (length (cells_of xs)) ≤ k = h (omega arith) in omega arith) in
-        (no_line n x (printed xs) k x.counted ne later.0, no_bytes x v.cell (slots_of xs) k x.present ne later.1);
-    unsaid = λ k e. number_unsaid k x.present x.counted counted e;
-    said = λ f d b.
-        let later = p.said (fine_rest n x xs x.counted f) (λ c lt. d (suc c) (omega arith))
-        (λ c k lt e bare. b (suc c) k (omega arith) (omega arith) (no_line n x (printed xs) k x.counted (λ s. omega arith) bare)) in
-        record { right = λ c k lt e. place c k lt e (number_said x.counted f b (d 0 (omega arith))) later };
-    right = λ a.
-        let mute = λ (k : ℕ) (le : at + 1 ≤ k) (h : has_cell (slots_of xs) k ≡ false).
-        no_bytes x v.cell (slots_of xs) k x.present (λ e. omega arith) h in
-        let later = p.right (record { right = λ c k lt e. right_by (mute k (omega arith)) (a.right (suc c) k (omega arith) (omega arith)) }) in
-        if_holds (λ l. AreFine (of_numbers n l)) x.counted (x ∷ printed xs) (printed xs)
-        (number_line_fine (a.right 0 at (omega arith) (omega arith)), later) later;
-    bare = λ h.
-        let q = and_parts (same_number (get_or n x.cell (pos 0)) v.cell.default) _ h in
-        λ c k lt e f. number_bare c k lt e (rw here at (same_number_is _ v.cell.default q.0)) (p.bare q.1);
-    defaults = λ b.
-        let is : get_or n x.cell (pos 0) ≡ v.cell.default = rw here (b 0 at (omega arith) (omega arith) refl) in
-        and_from _ _ (is_same _ v.cell.default is) (p.defaults (λ i k lt e f. b (suc i) k (omega arith) (omega arith) refl));
+        let ne : x.cell ≡ k → ⊥ = λ e. (let g : at + 1 ≤ k = h (omega arith) in omega arith) in
+        let e = ne_eqb x.cell k ne in (
+          if_holds (λ l. has_line (of_numbers n l) k ≡ false) t (x ∷ []) [] (rw e refl) refl,
+          if_holds (λ l. has_cell l k ≡ false) b (slot ∷ []) [] (rw e refl) refl,
+        );
+    unsaid = λ k e. number_unsaid k b t c e;
+    said = λ f g d bare. (
+      record {
+        right = λ i k lt e.
+            let first : i ≡ 0 = omega arith in
+            let same : k ≡ at = omega arith in
+            rw (first, same) (number_said b t p f (d 0 (omega arith)) (bare 0 at (omega arith) (omega arith)));
+      },
+      tt,
+    );
+    right = λ a m.
+        let r = a.right 0 at (omega arith) (omega arith) in
+        let bytes = λ (b : Bool). has_cell (byte b) at in
+        let fine = line_number x n cell what (short x.cell) ∙ fits_reason cell x.present (get_or n x.cell (pos 0))
+        (record { fits = rw here r.fits; absent = λ e. rw here (r.absent (ap bytes (sym p ∙ e))) }) in
+        if_holds (λ l. AreFine (of_numbers n l) × AreGood set (of_numbers n l)) t (x ∷ []) [] ((fine, tt), (refl, tt)) (tt, tt);
   }
 
-pub part : (n : List ℤ) → AreShort n → (at : ℕ) (xs : List Element) → CountsUp at (numbers_in xs) → AreCounted xs
-    → Part n at (of_numbers n (printed xs)) (cells_of xs) (slots_of xs) (have_defaults n xs)
-part n short at [] up counted = record {
+  number_known : (b t : Bool) → x.present ≡ b → (b ≡ true → t ≡ true) → (xs : List Element) (cells : List Cell) (ss : List Slot)
+      → Known set n (at + 1) (of_numbers n (printed xs)) cells ss (Unit {0})
+      → Known set n at (of_numbers n (if t then x ∷ printed xs else printed xs)) (cell ∷ cells) (if b then slot ∷ ss else ss) (Unit {0})
+  number_known true true p c xs cells ss k = known_both (λ a b. tt) (λ m. (tt, tt)) refl (one_known true true p c) k
+  number_known true false p c xs cells ss k = let f = c refl in cc
+  number_known false true p c xs cells ss k = known_both (λ a b. tt) (λ m. (tt, tt)) refl (one_known false true p c) k
+  number_known false false p c xs cells ss k = known_both (λ a b. tt) (λ m. (tt, tt)) refl (one_known false false p c) k
+
+pub part : (set : Set) (n : List ℤ) → AreShort n → (at : ℕ) (xs : List Element) → CountsUp at (numbers_in xs) → AreCounted xs
+    → Known set n at (of_numbers n (printed xs)) (cells_of xs) (slots_of xs) (Unit {0})
+part set n short at [] up counted = record {
   outside = λ k h. (refl, refl);
   unsaid = λ k e. refl;
-  said = λ f d b. right_none n at [];
-  right = λ a. tt;
-  bare = λ h c k lt e f. absurd (omega arith);
-  defaults = λ b. refl;
+  said = λ f g d b. (right_none n at [], tt);
+  right = λ a m. (tt, tt);
 }
-part n short at (x ∷ xs) up counted =
-    ⊎_elim (λ (v : IsNumberOf x xs).
-    let u : CountsUp at (x ∷ numbers_in xs) = rw (v.numbers) at up in
-    rw (v.lines, v.cells, v.bytes, v.defaults n) (number_part n short x xs v at u.0 (part n short (at + 1) xs u.1 counted.1) counted.0))
-    (λ (v : IsNoNumber x xs).
-    rw (v.lines, v.cells, v.defaults n) (same_bytes n at _ _ (slots_of xs) _ _ v.bytes (part n short at xs (rw (v.numbers) at up) counted.1))) (view x xs)
+part set n short at (x ∷ xs) up counted = by_what x.what refl (λ at u. part set n short at xs u counted.1) up where
+  by_what : (w : What) → x.what ≡ w
+      → ((next : ℕ) → CountsUp next (numbers_in xs) → Known set n next (of_numbers n (printed xs)) (cells_of xs) (slots_of xs) (Unit {0}))
+      → CountsUp at (if is_number w then x ∷ numbers_in xs else numbers_in xs)
+      → Known set n at (of_numbers n (if x.counted && is_number w then x ∷ printed xs else printed xs)) (cells_with w (cells_of xs))
+      (if x.present then slot_of x.cell w ∷ slots_of xs else slots_of xs) (Unit {0})
+  by_what (Number cell) e later u =
+      rw (and-true x.counted) (number_known set n short x cell e at u.0 x.present x.counted refl counted.0 xs _ _ (later (at + 1) u.1))
+  by_what _ e later u =
+      rw (and-false x.counted) (same_bytes (λ k. if_holds (λ l. has_cell l k ≡ has_cell (slots_of xs) k) x.present _ (slots_of xs) refl refl) (later at u))
+
+first_bare : (n : List ℤ) (at : ℕ) (cell : Cell) (cells : List Cell) (c k : ℕ) → c < suc (length cells) → k ≡ at + c → get_or n at (pos 0) ≡ cell.default
+    → AreBare n (at + 1) cells (λ k. false) → get_or n k (pos 0) ≡ (get_or (cell ∷ cells) c no_cell).default
+first_bare n at cell cells zero k lt e is later = let same : k ≡ at = omega arith in rw same is
+first_bare n at cell cells (suc c) k lt e is later = later c k (omega arith) (omega arith) refl
+
+-- all are defaults exactly if this test is true
+abbrev pub IfDefaults : List ℤ → ℕ → List Cell → Bool → Type 0
+IfDefaults n at cells have = (have ≡ true → AreBare n at cells (λ k. false)) × (AreBare n at cells (λ k. false) → have ≡ true)
+
+pub defaults_are : (n : List ℤ) (at : ℕ) (xs : List Element) → CountsUp at (numbers_in xs) → IfDefaults n at (cells_of xs) (have_defaults n xs)
+defaults_are n at [] up = (λ h c k lt e f. absurd (omega arith), λ b. refl)
+defaults_are n at (x ∷ xs) up = by_what x.what (λ next u. defaults_are n next xs u) up where
+  by_what : (w : What) → ((next : ℕ) → CountsUp next (numbers_in xs) → IfDefaults n next (cells_of xs) (have_defaults n xs))
+      → CountsUp at (if is_number w then x ∷ numbers_in xs else numbers_in xs)
+      → IfDefaults n at (cells_with w (cells_of xs)) (has_default n x.cell w && have_defaults n xs)
+  by_what (Number cell) later u = (
+    λ h c k lt e f.
+        let q = and_parts (same_number (get_or n x.cell (pos 0)) cell.default) _ h in
+        first_bare n at cell (cells_of xs) c k lt e (rw (u.0) at (same_number_is _ cell.default q.0)) ((later (at + 1) u.1).0 q.1),
+    λ b.
+        let is : get_or n x.cell (pos 0) ≡ cell.default = rw (u.0) (b 0 at (omega arith) (omega arith) refl) in
+        and_from _ _ (is_same _ cell.default is) ((later (at + 1) u.1).1 (λ i k lt e f. b (suc i) k (omega arith) (omega arith) refl)),
+  )
+  by_what _ later u = later at u

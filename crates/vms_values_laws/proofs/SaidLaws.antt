@@ -3,7 +3,12 @@ use Rattle.vms_values_laws.proofs.Facade.{◌≡◌, ℕ, ◌≤◌, List, [], �
 use Rattle.vms_values_laws.proofs.Facade.{false, if◌then◌else◌, Some, None, same_Some, slice_get, suc, get_or-set_other, Bool, ◌==◌, ◌||◌, length, map-append}
 use Rattle.vms_values_laws.proofs.Facade.{length-append, eq-eqb, or_parts, or_assoc, AllByRecursion, ValuesReason, if_not, Standing, Element, text_of}
 use Rattle.vms_values_laws.proofs.Facade.{text_append, Said, said_line, AreFineLines, Agrees, Meets, AreBelow, AreFrom, put_all, Ran, Entry, OfNumber}
-use Rattle.vms_values_laws.proofs.Facade.{is_of_cell, has_line, IsShort}
+use Rattle.vms_values_laws.proofs.Facade.{is_of_cell, has_line, IsShort, ◌<◌, nat_le, drop, Option, negsuc, Ok, Err, codes, ◌+◌, get_or-set_same, length-set}
+use Rattle.vms_values_laws.proofs.Facade.{and_parts, leb-true, signed_decimal, Read, BadLine, CellLine, put_number, put_line, ◌>>=◌, Number, number_reason}
+use Rattle.vms_values_laws.proofs.Facade.{spelled_reason, line_reason, wanted_reason, Kind, U8, U16, U32, I8, I16, I32, I64, same_number, exceeds, in_range}
+use Rattle.vms_values_laws.proofs.Facade.{Cell, first_line, begins_with, number_spelled, spelled_holds, line_splits, begun}
+use Rattle.vms_kinds.specs.declared.Kind.TheVariants.{Bool as Truth}
+use Rattle.vms_spec.specs.declared.ValuesReason.TheVariants as reasons
 
 -- either choice has it
 pub if_holds : {A : Type 0} (P : A → Type 0) (b : Bool) (x y : A) → P x → P y → P (if b then x else y)
@@ -153,3 +158,233 @@ unsaid_kept n (s ∷ said) c e =
     let p = or_parts (s.element.cell == c) (has_said said c) e in
     unsaid_kept (slice_set n s.element.cell s.number) said c p.1
     ∙ get_or-set_other n s.element.cell c s.number (pos 0) (λ same. let e = eq-eqb s.element.cell c (sym same) in cc)
+
+-- ---- one line: what it says, or why it is refused
+
+-- the element of a number, under a path
+abbrev pub spot : List (ℕ × ℕ) → List ℕ → Bool → ℕ → Cell → Element
+spot steps path present at c = record { path = steps; name = path; cell = at; what = Number c; counted = true; present = present }
+
+abbrev pub cell_line : Bool → ℕ → Cell → CellLine
+cell_line present at c = record { cell = at; kind = c.kind; capacities = c.capacities; default = c.default; present = present }
+
+-- a line was taken, which said this number
+pub record Put (x : Element) (p q : Standing) : Type 0 where
+  pub number : ℤ
+  pub rest : p.rest ≡ said_line (record { element = x; number = number }) ++ 10 ∷ q.rest
+  pub line : q.line ≡ suc p.line
+  pub numbers : q.numbers ≡ slice_set p.numbers x.cell number
+  pub fine : line_reason (OfNumber x []) (said_line (record { element = x; number = number })) ≡ None
+  pub short : IsShort number
+
+-- a line was refused
+pub record NotPut (x : Element) (p : Standing) (o : Option (List ℕ × List ℕ)) (e : BadLine) : Type 0 where
+  pub line : e.line ≡ p.line
+  pub bad : wanted_reason (OfNumber x []) o ≡ Some e.reason
+
+abbrev pub Stepped : Element → Standing → Option (List ℕ × List ℕ) → Read → Type 0
+Stepped x p o (Ok q) = Put x p q
+Stepped x p o (Err e) = NotPut x p o e
+
+-- a number in the range of a kind has at most 64 bits
+pub short : (kind : Kind) (z : ℤ) → in_range kind z ≡ true → IsShort z
+short U8 (pos n) e = omega (arith, leb-true n 0xff (and_parts (nat_le 0 n) (nat_le n 0xff) e).1)
+short U16 (pos n) e = omega (arith, leb-true n 0xffff (and_parts (nat_le 0 n) (nat_le n 0xffff) e).1)
+short U32 (pos n) e = omega (arith, leb-true n 0xffff_ffff (and_parts (nat_le 0 n) (nat_le n 0xffff_ffff) e).1)
+short I8 (pos n) e = omega (arith, leb-true n 0x7f e)
+short I16 (pos n) e = omega (arith, leb-true n 0x7fff e)
+short I32 (pos n) e = omega (arith, leb-true n 0x7fff_ffff e)
+short I64 (pos n) e = omega (arith, leb-true n 0x7fff_ffff_ffff_ffff e)
+short Truth (pos n) e = omega (arith, leb-true n 1 (and_parts (nat_le 0 n) (nat_le n 1) e).1)
+short I8 (negsuc n) e = omega (arith, leb-true n 0x7f (and_parts (nat_le n 0x7f) true e).0)
+short I16 (negsuc n) e = omega (arith, leb-true n 0x7fff (and_parts (nat_le n 0x7fff) true e).0)
+short I32 (negsuc n) e = omega (arith, leb-true n 0x7fff_ffff (and_parts (nat_le n 0x7fff_ffff) true e).0)
+short I64 (negsuc n) e = omega (arith, leb-true n 0x7fff_ffff_ffff_ffff (and_parts (nat_le n 0x7fff_ffff_ffff_ffff) true e).0)
+short _ (negsuc n) e = cc
+short _ (pos n) e = omega (arith, leb-true n 0xffff_ffff_ffff_ffff (and_parts (nat_le 0 n) (nat_le n 0xffff_ffff_ffff_ffff) e).1)
+
+module _ (steps : List (ℕ × ℕ)) (path : List ℕ) (present : Bool) (at : ℕ) (c : Cell) (p : Standing) where
+  abbrev here : Element
+  here = spot steps path present at c
+
+  abbrev its : CellLine
+  its = cell_line present at c
+
+  abbrev front : List ℕ
+  front = path ++ codes " = "
+
+  module _ (line rest : List ℕ) (splits : p.rest ≡ line ++ 10 ∷ rest) (begins : begins_with front line ≡ true) where
+    abbrev text : List ℕ
+    text = drop (length front) line
+
+    wanted : (o : Option ℤ) → number_spelled text ≡ o → wanted_reason (OfNumber here []) (Some (line, rest)) ≡ spelled_reason c present o
+    wanted o e = rw (begins, e) refl
+
+    refused : (z : ℤ) (reason : Rattle.vms_spec.specs.declared.ValuesReason.ValuesReason) → number_spelled text ≡ Some z
+        → number_reason c present z ≡ Some reason → NotPut here p (Some (line, rest)) (record { line = p.line; reason = reason })
+    refused z reason e f = record { line = refl; bad = wanted (Some z) e ∙ f }
+
+    taken : (z : ℤ) → number_spelled text ≡ Some z → in_range c.kind z ≡ true → number_reason c present z ≡ None
+        → Put here p (record { numbers = slice_set p.numbers at z; line = suc p.line; rest = rest })
+    taken z e range f =
+        let whole : line ≡ path ++ (codes " = " ++ signed_decimal z) =
+        begun front line begins ∙ ap (λ (l : List ℕ). front ++ l) (spelled_holds text z (short c.kind z range) e) ∙ append_assoc path (codes " = ") _ in
+        record {
+          number = z;
+          rest = splits ∙ ap (λ (l : List ℕ). l ++ 10 ∷ rest) whole;
+          line = refl;
+          numbers = refl;
+          fine = ap (λ (l : List ℕ). line_reason (OfNumber here []) l) (sym whole) ∙ wanted (Some z) e ∙ f;
+          short = short c.kind z range;
+        }
+
+    -- by the three tests on a number
+    judged : (z : ℤ) → number_spelled text ≡ Some z → (a b d : Bool) → in_range c.kind z ≡ a → exceeds c.capacities z ≡ b
+        → (present || same_number z c.default) ≡ d → Stepped here p (Some (line, rest)) (put_number its p rest (Some z))
+    judged z e false b d ra eb pd = rw ra (refused z reasons.Number e (rw ra refl))
+    judged z e true true d ra eb pd = rw (ra, eb) (refused z reasons.Count e (rw (ra, eb) refl))
+    judged z e true false false ra eb pd = rw (ra, eb, pd) (refused z reasons.Absent e (rw (ra, eb, pd) refl))
+    judged z e true false true ra eb pd = rw (ra, eb, pd) (taken z e ra (rw (ra, eb, pd) refl))
+
+    spelled : (o : Option ℤ) → number_spelled text ≡ o → Stepped here p (Some (line, rest)) (put_number its p rest o)
+    spelled None e = record { line = refl; bad = wanted None e }
+    spelled (Some z) e = judged z e (in_range c.kind z) (exceeds c.capacities z) (present || same_number z c.default) refl refl refl
+
+  by_front : (line rest : List ℕ) → p.rest ≡ line ++ 10 ∷ rest → (b : Bool) → begins_with front line ≡ b
+      → Stepped here p (Some (line, rest)) (put_line path its p (Some (line, rest)))
+  by_front line rest splits true e = rw e (spelled line rest splits e (number_spelled (drop (length front) line)) refl)
+  by_front line rest splits false e = rw e (record { line = refl; bad = rw e refl })
+
+  by_line : (o : Option (List ℕ × List ℕ)) → first_line p.rest ≡ o → Stepped here p o (put_line path its p o)
+  by_line None e = record { line = refl; bad = refl }
+  by_line (Some (line, rest)) e = by_front line rest (line_splits p.rest line rest e) (begins_with front line) refl
+
+  pub one_line : Stepped here p (first_line p.rest) (put_line path its p (first_line p.rest))
+  one_line = by_line (first_line p.rest) refl
+
+-- ---- Reading line by line, beside the elements of a state by its numbers.
+
+-- the number of a cell is settled by what was said
+pub record Knows (said : List Said) (c : ℕ) : Type 0 where
+  pub known : (m n : List ℤ) → Agrees said m → Agrees said n → get_or m c (pos 0) ≡ get_or n c (pos 0)
+
+abbrev pub AllKnown : List ℕ → List Said → Type 0
+AllKnown [] said = Unit {0}
+AllKnown (c ∷ cells) said = Knows said c × AllKnown cells said
+
+pub knows_grows : (said more : List Said) (c : ℕ) → ((m : List ℤ) → Agrees more m → Agrees said m) → Knows said c → Knows more c
+knows_grows said more c g k = record { known = λ m n a b. k.known m n (g m a) (g n b) }
+
+abbrev said_of : (x : Element) (p q : Standing) → Put x p q → Said
+said_of x p q put = record { element = x; number = put.number }
+
+told_one : (x : Element) (p q : Standing) (put : Put x p q) → x.cell < length p.numbers → Told x.cell p.numbers (said_of x p q put ∷ []) q.numbers
+told_one x p q put inside =
+    rw (put.numbers)
+    (record {
+      agrees = (get_or-set_same p.numbers x.cell put.number (pos 0) inside, tt);
+      from = (omega arith, tt);
+      numbers = refl;
+      long = length-set p.numbers x.cell put.number;
+      short = (put.short, tt);
+    })
+
+ran_one : (p q : Standing) (x : Element) (put : Put x p q) → Ran p (record { element = x; number = put.number } ∷ []) q
+ran_one p q x put = record { line = omega arith; rest = put.rest ∙ sym (append_assoc _ (10 ∷ []) q.rest); numbers = put.numbers; fine = (put.fine, tt) }
+
+-- total: the elements of a state by its numbers; start: where reading began; low: the first of their cells
+module _ (total : List ℤ → List Element) (start : Standing) (low : ℕ) where
+  -- Once this was said, this is left of each state that agrees with it. What is said from here on is of cells from this one on.
+  pub record At (cell : ℕ) (p : Standing) (said : List Said) (left : List ℤ → List Element) : Type 0 where
+    pub meets : (m : List ℤ) → Meets said (left m) m (total m)
+    pub below : AreBelow cell said
+    pub up : low ≤ cell
+    pub told : Told low start.numbers said p.numbers
+    pub open told use *
+    pub ran : Ran start said p
+
+  -- a line was refused where an element must be
+  pub record Stopped (e : BadLine) : Type 0 where
+    pub cell : ℕ
+    pub place : Standing
+    pub said : List Said
+    pub element : Element
+    pub after : List ℤ → List Element
+    pub stood : At cell place said (λ m. element ∷ after m)
+    pub line : e.line ≡ place.line
+    pub wrong : wanted_reason (OfNumber element []) (first_line place.rest) ≡ Some e.reason
+
+  -- more was said, and these cells are known
+  pub record Further (cell : ℕ) (known : List ℕ) (before : List Said) (left : List ℤ → List Element) (q : Standing) : Type 0 where
+    pub said : List Said
+    pub stands : At cell q said left
+    pub grows : (m : List ℤ) → Agrees said m → Agrees before m
+    pub knows : AllKnown known said
+
+  abbrev pub ComesTo : ℕ → List ℕ → List Said → (List ℤ → List Element) → Read → Type 0
+  ComesTo cell known before left (Ok q) = Further cell known before left q
+  ComesTo cell known before left (Err e) = Stopped e
+
+  pub record Comes (cell : ℕ) (known : List ℕ) (before : List Said) (left : List ℤ → List Element) (r : Read) : Type 0 where
+    pub comes : ComesTo cell known before left r
+
+  pub at_left : {cell : ℕ} {p : Standing} {said : List Said} {left left' : List ℤ → List Element} → ((m : List ℤ) → Agrees said m → left m ≡ left' m)
+      → At cell p said left → At cell p said left'
+  at_left {said = said} e a =
+      record { meets = λ m. meets_left said _ _ m (total m) (a.meets m) (e m); below = a.below; up = a.up; told = a.told; ran = a.ran }
+
+  pub stay : {cell further : ℕ} {p : Standing} {said : List Said} {left : List ℤ → List Element} → cell ≤ further → At cell p said left
+      → Comes further [] said left (Ok p)
+  stay {cell = cell} {further = further} {p = p} {said = said} {left = left} le a =
+      let below = below_less cell further said le a.below in
+      let stands : At further p said left = record { meets = a.meets; below = below; up = omega arith; told = a.told; ran = a.ran } in
+      record { comes = record { said = said; stands = stands; grows = λ m g. g; knows = tt } }
+
+  pub forget : {cell : ℕ} {known : List ℕ} {before : List Said} {left : List ℤ → List Element} (r : Read) → Comes cell known before left r
+      → Comes cell [] before left r
+  forget (Ok q) c = let f = c.comes in record { comes = record { said = f.said; stands = f.stands; grows = f.grows; knows = tt } }
+  forget (Err e) c = record { comes = c.comes }
+
+  earlier : {cell : ℕ} {known : List ℕ} {before said : List Said} {left : List ℤ → List Element} (r : Read) → ((m : List ℤ) → Agrees said m → Agrees before m)
+      → Comes cell known said left r → Comes cell known before left r
+  earlier (Ok q) g c = let f = c.comes in record { comes = record { said = f.said; stands = f.stands; grows = λ m a. g m (f.grows m a); knows = f.knows } }
+  earlier (Err e) g c = record { comes = c.comes }
+
+  pub then_comes : {cell further : ℕ} {known known' : List ℕ} {before : List Said} {left left' : List ℤ → List Element} (r : Read) (f : Standing → Read)
+      → Comes cell known before left r
+      → ((q : Standing) (said : List Said) → At cell q said left → ((m : List ℤ) → Agrees said m → Agrees before m) → AllKnown known said
+      → Comes further known' said left' (f q)) → Comes further known' before left' (r >>= f)
+  then_comes (Ok q) f c h = let x = c.comes in earlier (f q) x.grows (h q x.said x.stands x.grows x.knows)
+  then_comes (Err e) f c h = record { comes = c.comes }
+
+  module _ (x : Element) (p : Standing) (said : List Said) (left : List ℤ → List Element) (room : x.cell < length start.numbers)
+      (a : At x.cell p said (λ m. x ∷ left m)) where
+    after_line : (q : Standing) (put : Put x p q) → At (x.cell + 1) q (said ++ said_of x p q put ∷ []) left
+    after_line q put =
+        let s = said_of x p q put in
+        record {
+          meets = λ m. meets_more said s (left m) m (total m) (a.meets m);
+          below = below_both (x.cell + 1) said (s ∷ []) (below_less x.cell (x.cell + 1) said (omega arith) a.below) (omega arith, tt);
+          up = omega arith;
+          told = told_both a.told (told_one x p q put (omega arith)) a.up a.below;
+          ran = ran_more start p q said (s ∷ []) a.ran (ran_one p q x put);
+        }
+
+    by_read : (r : Read) → Stepped x p (first_line p.rest) r → Comes (x.cell + 1) (x.cell ∷ []) said left r
+    by_read (Ok q) put =
+        let s = said_of x p q put in
+        record {
+          comes = record {
+            said = said ++ s ∷ [];
+            stands = after_line q put;
+            grows = λ m g. (agrees_parts said (s ∷ []) m g).0;
+            knows = (record { known = λ m n g h. (agrees_parts said (s ∷ []) m g).1.0 ∙ sym (agrees_parts said (s ∷ []) n h).1.0 }, tt);
+          };
+        }
+    by_read (Err e) not =
+        record { comes = record { cell = x.cell; place = p; said = said; element = x; after = left; stood = a; line = not.line; wrong = not.bad } }
+
+  pub line_comes : (steps : List (ℕ × ℕ)) (path : List ℕ) (present : Bool) (cell : ℕ) (c : Cell) (p : Standing) (said : List Said)
+      → (left : List ℤ → List Element) → cell < length start.numbers → At cell p said (λ m. spot steps path present cell c ∷ left m)
+      → Comes (cell + 1) (cell ∷ []) said left (put_line path (cell_line present cell c) p (first_line p.rest))
+  line_comes steps path present cell c p said left room a = by_read (spot steps path present cell c) p said left room a _ (one_line steps path present cell c p)

@@ -1,45 +1,50 @@
 -- The laws of values texts, as they are stated.
 use Rattle.vms_values_laws.proofs.Facade.{◌≡◌, inl, inr, ℕ, List, ◌++◌, Option, Some, None, sym, ap, ◌∙◌, subst, arith, ◌∷◌, map, true, refl, codes, append-nil}
-use Rattle.vms_values_laws.proofs.Facade.{[], ◌+◌, length, suc, ◌≤◌, sum_by, ℤ, ⊎_elim, same_Some, length-append, length-map, sum_by-cons, ValuesReason, Set}
-use Rattle.vms_values_laws.proofs.Facade.{Device, Desc, Sub, ValuesRead, Bad, machine_named, BadLine, Values, values_read, Entry, entries, devices_entries}
-use Rattle.vms_values_laws.proofs.Facade.{entry_line, OfNumber, number_entries, subs_entries, device_entries, IsBadLine, IsMachineOf, Says, IsText, IsBadPart}
-use Rattle.vms_values_laws.proofs.Facade.{Refused, Reads, Taken, Follows, Image, own_cells, first_line, is_one_of, IsConfiguration, IsTrailer, optional}
-use Rattle.vms_values_laws.proofs.Facade.{configuration, trailer, written, AreReady, WellFormed, text_of, section_line, printed, values_text, IsFit, well_good}
-use Rattle.vms_values_laws.proofs.Facade.{entry_law, text_is, ReadLaw, OnlyLaw, AcceptedLaw, PrintedLaw, device_lines, most_lines, LineLaw, machine_short}
-use Rattle.vms_values_laws.proofs.Facade.{few_devices, Takes, one_stream_holds, written_holds, FitsText, WrittenLaw, PackedLaw, ShownLaw, desc_cells}
-use Rattle.vms_values_laws.proofs.Facade.{struct_cells, Element, cells_of, elements_in, walks}
+use Rattle.vms_values_laws.proofs.Facade.{[], ◌+◌, length, suc, ◌≤◌, sum_by, ℤ, same_Some, length-append, length-map, sum_by-cons, ValuesReason, Set, Device}
+use Rattle.vms_values_laws.proofs.Facade.{Desc, Sub, ValuesRead, Bad, machine_named, BadLine, Values, values_read, Entry, entries, devices_entries, entry_line}
+use Rattle.vms_values_laws.proofs.Facade.{OfNumber, number_entries, subs_entries, device_entries, IsBadLine, IsMachineOf, Says, IsText, IsBadPart, Refused}
+use Rattle.vms_values_laws.proofs.Facade.{Reads, Taken, Follows, Image, own_cells, first_line, is_one_of, IsConfiguration, IsTrailer, optional, configuration}
+use Rattle.vms_values_laws.proofs.Facade.{trailer, written, AreReady, WellFormed, text_of, section_line, printed, values_text, IsFit, well_good, entry_law}
+use Rattle.vms_values_laws.proofs.Facade.{text_is, ReadLaw, OnlyLaw, AcceptedLaw, PrintedLaw, device_lines, most_lines, LineLaw, machine_short, few_devices}
+use Rattle.vms_values_laws.proofs.Facade.{Takes, one_stream_holds, written_holds, FitsText, WrittenLaw, PackedLaw, ShownLaw, desc_cells, struct_cells, Element}
+use Rattle.vms_values_laws.proofs.Facade.{cells_of, elements_in, walks, AreShaped, AreFine, is_number, cells_with, Number, What, and-true, and-false}
+use Rattle.vms_values_laws.proofs.Facade.{if◌then◌else◌, ◌&&◌}
 use Rattle.vms_values_laws.proofs.SaidLaws.{if_holds}
-use Rattle.vms_values_laws.proofs.BadLines.{FirstPass, NoneBad, first_pass, TakenOf, taken_all}
+use Rattle.vms_values_laws.proofs.BadLines.{FirstPass, NoneBad, first_pass, TakenOf}
 use Rattle.vms_values_laws.proofs.Meeting.{AreClean, Ends, Same, meet, NoFeed, line_first, section_feed, AreCleanDevices, clean_entries, clean_structs}
 use Rattle.vms_values_laws.proofs.Meeting.{clean_devices, clean_named, clean_machine}
 use Rattle.vms_values_laws.proofs.SecondPass.{parts_from}
 use Rattle.vms_values_laws.proofs.AllCome.{images_of, good_devices}
 use Rattle.vms_values_laws.proofs.Accepted.{Match, inside_of, matched, devices_same, answer_by, none_answers, none_says, none_good, says_ready}
-use Rattle.vms_values_laws.proofs.ReadyParts.{AreGood, sub_cells, FirstPart, first_part, bad_part_found, good_none}
-use Rattle.vms_values_laws.proofs.ReadyBack.{text_says}
-use Rattle.vms_values_laws.proofs.Rights.{IsNumberOf, IsNoNumber, view}
+use Rattle.vms_values_laws.proofs.ReadyParts.{sub_cells, FirstPart, first_part, bad_part_found, good_none, text_says}
+use Rattle.vms_values_laws.proofs.Rights.{AreGood}
 
 -- ---- A bad line by the relation is the one that is found.
 
+-- what was taken, beside a state that has these lines and then ends like this
+beside : {set : Set} {text : List ℕ} {machine' : Option (List ℕ)} {taken : List Taken} {at : ℕ} {rest : List ℕ} {o : Option ValuesReason}
+    → TakenOf set text machine' taken at rest o → (machine : Option (List ℕ)) (images : List Image) (before after : List Entry) (rest' : List ℕ)
+    → (o' : Option ValuesReason) → machine ≡ machine_named set.machines (first_line text) → AreShaped set set.devices images
+    → entries set machine images ≡ before ++ after → AreClean (before ++ after) → AreFine before → text ≡ text_of (map entry_line before) ++ rest'
+    → Ends o' rest' after → Same taken before o o'
+beside {taken = taken} {rest = rest} {o = o} t machine images before after rest' o' named shaped state clean fine begins ends =
+    let f : Follows taken (λ es. Ends o rest es) (before ++ after) = rw (← state, named, ← t.named) (t.follows images shaped) in
+    meet taken before after rest rest' o o' f clean t.moved.fine fine (sym t.moved.texts ∙ begins) ends
+
 module _ (set : Set) (text : List ℕ) (line : ℕ) (reason : ValuesReason) (x : IsBadLine set text line reason)
     (clean : AreClean (entries set x.machine x.images)) where
-  -- what was taken, beside the state that the relation has
   against : {machine : Option (List ℕ)} {taken : List Taken} {at : ℕ} {rest : List ℕ} {o : Option ValuesReason} → TakenOf set text machine taken at rest o
       → Same taken x.before o (Some reason)
-  against {machine = machine} {taken = taken} {rest = rest} {o = o} t =
-      let f : Follows taken (λ es. Ends o rest es) (x.before ++ x.after) =
-      subst (λ (es : List Entry). Follows taken (λ es. Ends o rest es) es) x.state
-      (subst (λ (m : Option (List ℕ)). Follows taken (λ es. Ends o rest es) (entries set m x.images)) (t.named ∙ sym x.named) (t.follows x.images x.shaped)) in
-      meet taken x.before x.after rest x.rest o (Some reason) f (rw (x.state) at clean) t.moved.fine x.fine (sym t.moved.texts ∙ x.begins) x.bad
+  against t =
+      beside t x.machine x.images x.before x.after x.rest (Some reason) x.named x.shaped x.state (rw (x.state) at clean) x.fine x.begins x.bad
 
-  pub bad_back : (v : ValuesRead) → FirstPass set text v → v ≡ Bad line reason
+  bad_back : (v : ValuesRead) → FirstPass set text v → v ≡ Bad line reason
   bad_back v (inl b) =
-      let f = b.first in
-      let same = against f.took in
+      let same = against b.took in
       let reasons : b.reason ≡ reason = (let e = same.reason in cc) in
-      let lines : b.line ≡ line = omega (arith, f.took.moved.further, same.long, x.number) in
+      let lines : b.line ≡ line = omega (arith, b.took.moved.further, same.long, x.number) in
       rw (← lines, ← reasons) b.is
-  bad_back v (inr n) = let e = (against (taken_all set text v n)).reason in cc
+  bad_back v (inr n) = let e = (against n.took).reason in cc
 
 -- ---- What a text says, if no line is bad, is what is read of it.
 
@@ -82,15 +87,12 @@ module _ (set : Set) (well : WellFormed set) (text : List ℕ) (machine : Option
   its_machine = named_by set well text machine images says.named says.printed
 
   -- what was taken are the lines of the state
-  beside : {machine' : Option (List ℕ)} {taken : List Taken} {at : ℕ} {rest : List ℕ} {o : Option ValuesReason} → TakenOf set text machine' taken at rest o
+  its_lines : {machine' : Option (List ℕ)} {taken : List Taken} {at : ℕ} {rest : List ℕ} {o : Option ValuesReason} → TakenOf set text machine' taken at rest o
       → Same taken (entries set machine images) o None
-  beside {taken = taken} {rest = rest} {o = o} t =
+  its_lines t =
       let es = entries set machine images in
-      let whole : es ≡ es ++ [] = sym (append-nil es) in
-      let f : Follows taken (λ es. Ends o rest es) es =
-      subst (λ (m : Option (List ℕ)). Follows taken (λ es. Ends o rest es) (entries set m images)) (t.named ∙ its_machine) (t.follows images says.shaped) in
-      meet taken es [] rest [] o None (rw (whole) at f) (subst (λ (l : List Entry). AreClean l) whole (clean_says set well machine images says.named))
-      t.moved.fine says.fine (sym t.moved.texts ∙ says.printed ∙ sym (append-nil (text_of (map entry_line es)))) (refl, refl)
+      let clean : AreClean (es ++ []) = subst AreClean (sym (append-nil es)) (clean_says set well machine images says.named) in
+      beside t machine images es [] [] None (sym its_machine) says.shaped (sym (append-nil es)) clean says.fine (says.printed ∙ sym (append-nil _)) (refl, refl)
 
   same_devices : (machine : Option (List ℕ)) (i j : List Image) → Match (entries set machine i) (entries set machine j)
       → Match (devices_entries set set.devices i) (devices_entries set set.devices j)
@@ -99,19 +101,18 @@ module _ (set : Set) (well : WellFormed set) (text : List ℕ) (machine : Option
 
   module _ (v : ValuesRead) (n : NoneBad set text v) where
     same_machine : n.machine ≡ machine
-    same_machine = n.first.named ∙ its_machine
+    same_machine = n.named ∙ its_machine
 
     same_images : images_of n.all.devices ≡ images
     same_images =
-        let f = n.first in
         let read = images_of n.all.devices in
         let m : Match (entries set n.machine read) (entries set n.machine images) =
-        matched f.taken (entries set n.machine read) (entries set n.machine images) (f.follows read f.shaped) f.along (f.follows images says.shaped)
-        ((beside (taken_all set text v n)).lines ∙ ap (λ (m : Option (List ℕ)). map entry_line (entries set m images)) (sym same_machine)) in
-        devices_same set set.devices read images f.shaped says.shaped f.unsaid says.unsaid (same_devices n.machine read images m)
+        matched n.taken (entries set n.machine read) (entries set n.machine images) (n.follows read n.shaped) n.along (n.follows images says.shaped)
+        ((its_lines n.took).lines ∙ ap (λ (m : Option (List ℕ)). map entry_line (entries set m images)) (sym same_machine)) in
+        devices_same set set.devices read images n.shaped says.shaped n.unsaid says.unsaid (same_devices n.machine read images m)
 
   pub says_answers : (v : ValuesRead) → FirstPass set text v → v ≡ answer_by machine images (parts_from set 1 (entries set machine images))
-  says_answers v (inl b) = let e = (beside b.first.took).reason in cc
+  says_answers v (inl b) = let e = (its_lines b.took).reason in cc
   says_answers v (inr n) = none_answers set text v n ∙ rw (same_machine v n, same_images v n) refl
 
 -- ---- The laws of reading, as they are stated.
@@ -150,7 +151,7 @@ by_parts set text machine images (Some b) fit says e = inr (bad_part set text ma
 by_parts set text machine images None fit says e = text_of_ready set text machine images fit says (none_good set 1 (entries set machine images) e)
 
 by_pass : (set : Set) (text : List ℕ) (v : ValuesRead) → IsFit set → FirstPass set text v → Reads set text v
-by_pass set text v fit (inl b) = rw (b.is) (inl b.first.is_bad)
+by_pass set text v fit (inl b) = rw (b.is) (inl b.is_bad)
 by_pass set text v fit (inr n) = rw (none_answers set text v n) (by_parts set text n.machine (images_of n.all.devices) _ fit (none_says set text v n) refl)
 
 pub read_holds : ReadLaw
@@ -239,10 +240,12 @@ shown_holds set machine described images fit named fits ready text s =
 
 few_printed : (xs : List Element) → length (printed xs) ≤ length (cells_of xs)
 few_printed [] = omega arith
-few_printed (x ∷ xs) =
-    let most = if_holds (λ l. length l ≤ suc (length (printed xs))) x.counted (x ∷ printed xs) (printed xs) (omega arith) (omega arith) in
-    ⊎_elim (λ (v : IsNumberOf x xs). omega (arith, ap length v.lines, ap length v.cells, few_printed xs))
-    (λ (v : IsNoNumber x xs). omega (arith, ap length v.lines, ap length v.cells, few_printed xs)) (view x xs)
+few_printed (x ∷ xs) = by_what x.what (few_printed xs) where
+  by_what : (w : What) → length (printed xs) ≤ length (cells_of xs)
+      → length (if x.counted && is_number w then x ∷ printed xs else printed xs) ≤ length (cells_with w (cells_of xs))
+  by_what (Number cell) h =
+      rw (and-true x.counted) (if_holds (λ l. length l ≤ suc (length (cells_of xs))) x.counted (x ∷ printed xs) (printed xs) (omega arith) (omega arith))
+  by_what _ h = rw (and-false x.counted) h
 
 few_numbers : (set : Set) (d : Desc) (n : List ℤ) (at : ℕ) → length (number_entries set d n at) ≤ length (desc_cells (struct_cells set) d)
 few_numbers set d n at =

@@ -1,14 +1,13 @@
 -- The subsections of a device, read as entries.
 use Rattle.vms_values_laws.proofs.Facade.{◌≡◌, ℕ, suc, ◌+◌, ◌≤◌, List, ◌∷◌, ◌++◌, length, map, Bool, true, false, if◌then◌else◌, Option, Some, None, ℤ, Ok, Err}
-use Rattle.vms_values_laws.proofs.Facade.{AllByRecursion, Result, refl, sym, ap, ◌∙◌, subst, arith, append_assoc, [], length-append, length-map, flat_map}
-use Rattle.vms_values_laws.proofs.Facade.{bytes_eq, bytes_eq-Decides, Sub, Device, Set, desc_cells, struct_cells, Image, first_line, Standing, Read, BadLine}
-use Rattle.vms_values_laws.proofs.Facade.{ReadSubs, readers, read_desc, read_subs, read_sub, sub_said, also, then_subs, next_line, rest_of, IsSound, AreSound}
+use Rattle.vms_values_laws.proofs.Facade.{AllByRecursion, Result, refl, sym, ap, ◌∙◌, arith, append_assoc, [], length-append, length-map, flat_map, bytes_eq}
+use Rattle.vms_values_laws.proofs.Facade.{bytes_eq-Decides, Sub, Device, Set, desc_cells, struct_cells, Image, first_line, Standing, Read, BadLine, ReadSubs}
+use Rattle.vms_values_laws.proofs.Facade.{readers, read_desc, read_subs, read_sub, sub_said, also, then_subs, next_line, rest_of, IsSound, AreSound}
 use Rattle.vms_values_laws.proofs.Facade.{line_splits, sub_line, Entry, OfSub, number_entries, subs_entries, has_line, IsAtVersion, AreAtVersions, Said, Agrees}
-use Rattle.vms_values_laws.proofs.Facade.{Demand, ForSub, ForNumber, reason_for, Taken, Follows, Along, Begins, Moved}
+use Rattle.vms_values_laws.proofs.Facade.{Demand, ForSub, ForNumber, reason_for, Taken, Follows, Along, Begins, Moved, Desc}
 use Rattle.vms_spec.specs.declared.ValuesReason.TheVariants as reasons
-use Rattle.vms_values_laws.proofs.Numbers.{moved_none, moved_one, moved_then, AreShort, all_taken, NumbersRead, NumbersStop, NumbersCome, numbers_come}
-use Rattle.vms_values_laws.proofs.Numbers.{follows_on, along_on, heard_on, lines_on}
-use Rattle.vms_values_laws.proofs.SecondPass.{sub_numbers}
+use Rattle.vms_values_laws.proofs.SecondPass.{moved_none, moved_one, moved_then, AreShort, all_taken, NumbersRead, NumbersStop, NumbersCome, numbers_come}
+use Rattle.vms_values_laws.proofs.SecondPass.{follows_on, along_on, heard_on, lines_on, sub_numbers}
 use Rattle.vms_values_laws.proofs.SaidLaws.{agrees_parts, Told, told_none, told_both, has_said}
 
 pub line_taken : (text line rest : List ℕ) → first_line text ≡ Some (line, rest) → text ≡ line ++ 10 ∷ rest_of (first_line text)
@@ -49,26 +48,69 @@ sub_taken : (s : Sub) (o : Option (List ℕ × List ℕ)) (came : Option ℕ) �
 sub_taken s None came e = cc
 sub_taken s (Some (line, rest)) came e = one_way s line rest came _ _ refl refl e
 
--- what was said and taken up to a place, if the entries follow it and have its lines
-pub record Went (subs : List Sub) (at : ℕ) (p : Standing) (came : List (Option ℕ)) (numbers : List ℤ) (line : ℕ) (rest : List ℕ) (Behind : List Taken → Type 0)
-    (Lined : List Taken → List Said → Type 0) : Type 0 where
+-- What was said and taken up to a place. The entries follow on what was taken, whichever subsections have come and whatever comes after them.
+-- Those that have come have its lines.
+pub record Went (es : Image → List (Option ℕ) → List Entry) (subs : List Sub) (at : ℕ) (p : Standing) (came : List (Option ℕ)) (numbers : List ℤ) (line : ℕ)
+    (rest : List ℕ) (Then : List Entry → List Entry → Type 0) : Type 0 where
   pub said : List Said
   pub taken : List Taken
   pub told : Told at p.numbers said numbers
   pub one_each : length came ≡ length subs
   pub versions : AreAtVersions subs came
-  pub follows : Behind taken
-  pub along : Lined taken said
+  pub follows : (image : Image) (came : List (Option ℕ)) (more : List Entry) → length came ≡ length subs → AreShort image.numbers
+      → Follows taken (Then more) (es image came ++ more)
+  pub along : (image : Image) (more : List Entry) → Agrees said image.numbers → Along taken (Then more) (es image came ++ more)
   pub moved : Moved p.line p.rest taken line rest
 
+-- a part that was read
+pub record Got (es : Image → List (Option ℕ) → List Entry) (subs : List Sub) (at : ℕ) (p : Standing) (r : ReadSubs) : Type 0 where
+  pub whole : Went es subs at p r.came r.place.numbers r.place.line r.place.rest (λ more es. es ≡ more)
+  pub open whole use *
+  pub heard : (image : Image) → Agrees said image.numbers → (c : ℕ) → has_line (es image r.came) c ≡ has_said said c
+  pub lines : (image : Image) → Agrees said image.numbers → r.lines ≡ sub_numbers p.line (es image r.came)
+
 -- a reading that stopped at a bad line, after what was said and taken before it
-pub record Stop (Before : Demand → List (Option ℕ) → List ℤ → List ℕ → Type 0) (e : BadLine) : Type 0 where
+pub record Stop (es : Image → List (Option ℕ) → List Entry) (subs : List Sub) (at : ℕ) (p : Standing) (e : BadLine) : Type 0 where
   pub demand : Demand
   pub came : List (Option ℕ)
   pub numbers : List ℤ
   pub rest : List ℕ
-  pub before : Before demand came numbers rest
+  pub before : Went es subs at p came numbers e.line rest (λ more es. Begins demand es)
   pub wrong : reason_for demand (first_line rest) ≡ Some e.reason
+
+abbrev pub Come : (Image → List (Option ℕ) → List Entry) → List Sub → ℕ → Standing → Result ReadSubs BadLine → Type 0
+Come es subs at p (Ok r) = Got es subs at p r
+Come es subs at p (Err e) = Stop es subs at p e
+
+-- none has come
+abbrev none_of : List Sub → List (Option ℕ)
+none_of subs = map (λ s. None) subs
+
+pub none_at : (subs : List Sub) → AreAtVersions subs (none_of subs)
+none_at [] = tt
+none_at (s ∷ subs) = (tt, none_at subs)
+
+-- a reading that stopped at its first line
+pub stopped_first : (es : Image → List (Option ℕ) → List Entry) (subs : List Sub) (at : ℕ) (p : Standing) (demand : Demand)
+    → ((image : Image) (came : List (Option ℕ)) (more : List Entry) → length came ≡ length subs → Begins demand (es image came ++ more))
+    → reason_for demand (first_line p.rest) ≡ Some reasons.Form → Stop es subs at p (record { line = p.line; reason = reasons.Form })
+stopped_first es subs at p demand begins wrong = record {
+  demand = demand;
+  came = none_of subs;
+  numbers = p.numbers;
+  rest = p.rest;
+  before = record {
+    said = [];
+    taken = [];
+    told = told_none at p.numbers;
+    one_each = length-map subs (λ s. None);
+    versions = none_at subs;
+    follows = λ image came more long short. begins image came more long;
+    along = λ image more agrees. begins image (none_of subs) more (length-map subs (λ s. None));
+    moved = moved_none p.line p.rest;
+  };
+  wrong = wrong;
+}
 
 abbrev pub AreSoundSubs : List Sub → Type 0
 AreSoundSubs = AllByRecursion (λ (s : Sub). IsSound s.desc)
@@ -77,162 +119,125 @@ module _ (set : Set) (d : Device) where
   abbrev pub cells_long : List Sub → ℕ
   cells_long subs = length (flat_map (λ s. desc_cells (struct_cells set) s.desc) subs)
 
-  -- The entries of subsections follow on what was taken, whichever of them have come and whatever comes after them. Those that have come have its lines.
-  abbrev pub SubsWent : List Sub → ℕ → ℕ → Standing → List (Option ℕ) → List ℤ → ℕ → List ℕ → (List Entry → List Entry → Type 0) → Type 0
-  SubsWent subs j at p came numbers line rest Then = Went subs at p came numbers line rest
-      (λ taken. (image : Image) (came : List (Option ℕ)) (more : List Entry) → length came ≡ length subs → AreShort image.numbers
-      → Follows taken (Then more) (subs_entries set d image j at subs came ++ more))
-      (λ taken said. (image : Image) (more : List Entry) → Agrees said image.numbers → Along taken (Then more)
-      (subs_entries set d image j at subs came ++ more))
-
-  pub record SubsRead (subs : List Sub) (j at : ℕ) (p : Standing) (r : ReadSubs) : Type 0 where
-    pub whole : SubsWent subs j at p r.came r.place.numbers r.place.line r.place.rest (λ more es. es ≡ more)
-    pub open whole use *
-    pub heard : (image : Image) → Agrees said image.numbers → (c : ℕ) → has_line (subs_entries set d image j at subs r.came) c ≡ has_said said c
-    pub lines : (image : Image) → Agrees said image.numbers → r.lines ≡ sub_numbers p.line (subs_entries set d image j at subs r.came)
-
-  abbrev pub SubsStop : List Sub → ℕ → ℕ → Standing → BadLine → Type 0
-  SubsStop subs j at p e = Stop (λ demand came numbers rest. SubsWent subs j at p came numbers e.line rest (λ more es. Begins demand es)) e
-
-  abbrev pub SubsCome : List Sub → ℕ → ℕ → Standing → Result ReadSubs BadLine → Type 0
-  SubsCome subs j at p (Ok r) = SubsRead subs j at p r
-  SubsCome subs j at p (Err e) = SubsStop subs j at p e
-
-  -- none has come
-  abbrev none_of : List Sub → List (Option ℕ)
-  none_of subs = map (λ s. None) subs
-
-  pub none_at : (subs : List Sub) → AreAtVersions subs (none_of subs)
-  none_at [] = tt
-  none_at (s ∷ subs) = (tt, none_at subs)
-
   abbrev size_of : Sub → ℕ
   size_of s = length (desc_cells (struct_cells set) s.desc)
 
+  -- the entries of the subsections from j on, and those of the numbers of a description before them
+  abbrev those : ℕ → ℕ → List Sub → Image → List (Option ℕ) → List Entry
+  those j at subs image came = subs_entries set d image j at subs came
+
+  abbrev pub behind_numbers : Desc → ℕ → ℕ → ℕ → List Sub → Image → List (Option ℕ) → List Entry
+  behind_numbers desc at j next subs image came = number_entries set desc image.numbers at ++ subs_entries set d image j next subs came
+
+  module _ (desc : Desc) (at j next : ℕ) (subs : List Sub) (p : Standing) (fits : at + length (desc_cells (struct_cells set) desc) ≡ next) where
+    stopped_inside : (e : BadLine) → NumbersStop set desc at p e → Stop (behind_numbers desc at j next subs) subs at p e
+    stopped_inside e n = record {
+      demand = ForNumber n.element;
+      came = none_of subs;
+      numbers = n.place.numbers;
+      rest = n.place.rest;
+      before = record {
+        said = n.said;
+        taken = all_taken n.said;
+        told = n.told;
+        one_each = length-map subs (λ s. None);
+        versions = none_at subs;
+        follows = λ image came more long short. rw append_assoc (n.follows image.numbers (those j next subs image came ++ more) short);
+        along = λ image more agrees. rw append_assoc (n.along image.numbers (those j next subs image (none_of subs) ++ more) agrees);
+        moved = n.moved;
+      };
+      wrong = n.wrong;
+    }
+
+    abbrev went_behind : {q : Standing} {came : List (Option ℕ)} {numbers : List ℤ} {line : ℕ} {rest : List ℕ} {Then : List Entry → List Entry → Type 0}
+        → NumbersRead set desc at p q → Went (those j next subs) subs next q came numbers line rest Then
+        → Went (behind_numbers desc at j next subs) subs at p came numbers line rest Then
+    went_behind {Then = Then} n r = record {
+      said = n.said ++ r.said;
+      taken = all_taken n.said ++ r.taken;
+      told = told_both n.told r.told (omega arith) (rw fits at n.below);
+      one_each = r.one_each;
+      versions = r.versions;
+      follows = λ image came more long short.
+          rw append_assoc (follows_on n r.taken (Then more) image.numbers _ short (r.follows image came more long short));
+      along = λ image more agrees.
+          let all = agrees_parts n.said r.said image.numbers agrees in
+          rw append_assoc (along_on n r.taken (Then more) image.numbers _ all.0 (r.along image more all.1));
+      moved = moved_then n.moved r.moved;
+    }
+
+    behind : (q : Standing) (o : Result ReadSubs BadLine) → NumbersRead set desc at p q → Come (those j next subs) subs next q o
+        → Come (behind_numbers desc at j next subs) subs at p o
+    behind q (Ok r) n x = record {
+      whole = went_behind n x.whole;
+      heard = λ image agrees c.
+          let all = agrees_parts n.said x.said image.numbers agrees in heard_on n image.numbers _ x.said c all.0 (x.heard image all.1 c);
+      lines = λ image agrees.
+          let all = agrees_parts n.said x.said image.numbers agrees in x.lines image all.1 ∙ sym (lines_on n image.numbers _ all.0);
+    }
+    behind q (Err e) n x =
+        record { demand = x.demand; came = x.came; numbers = x.numbers; rest = x.rest; before = went_behind n x.before; wrong = x.wrong }
+
+    -- the numbers of a description, and subsections after them
+    pub numbers_first : (r : Read) (go : Standing → Result ReadSubs BadLine) → NumbersCome set desc at p r
+        → ((q : Standing) → NumbersRead set desc at p q → Come (those j next subs) subs next q (go q))
+        → Come (behind_numbers desc at j next subs) subs at p (then_subs r go)
+    numbers_first (Ok q) go n h = behind q (go q) n (h q n)
+    numbers_first (Err e) go n h = stopped_inside e n
+
   module _ (s : Sub) (subs : List Sub) (j at : ℕ) (p : Standing) where
-    abbrev size : ℕ
-    size = size_of s
+    refused : sub_said s (first_line p.rest) ≡ None → Stop (those j at (s ∷ subs)) (s ∷ subs) at p (record { line = p.line; reason = reasons.Form })
+    refused e = stopped_first (those j at (s ∷ subs)) (s ∷ subs) at p (ForSub s) first_sub (sub_refused s (first_line p.rest) e) where
+      first_sub : (image : Image) (came : List (Option ℕ)) (more : List Entry) → length came ≡ suc (length subs)
+          → Begins (ForSub s) (subs_entries set d image j at (s ∷ subs) came ++ more)
+      first_sub image [] more long = absurd (omega arith)
+      first_sub image (o ∷ came) more long = record { first = OfSub d image j s at o; others = _; is = refl; demands = refl }
 
-    refused : sub_said s (first_line p.rest) ≡ None → SubsStop (s ∷ subs) j at p (record { line = p.line; reason = reasons.Form })
-    refused e =
-        record {
-          demand = ForSub s;
-          came = None ∷ none_of subs;
-          numbers = p.numbers;
-          rest = p.rest;
-          before = record {
-            said = [];
-            taken = [];
-            told = told_none at p.numbers;
-            one_each = ap suc (length-map subs (λ s. None));
-            versions = (tt, none_at subs);
-            follows = λ image came more long short. first_sub image came more long;
-            along = λ image more agrees. first_sub image (None ∷ none_of subs) more (ap suc (length-map subs (λ s. None)));
-            moved = moved_none p.line p.rest;
-          };
-          wrong = sub_refused s (first_line p.rest) e;
-        } where
-          first_sub : (image : Image) (came : List (Option ℕ)) (more : List Entry) → length came ≡ suc (length subs)
-              → Begins (ForSub s) (subs_entries set d image j at (s ∷ subs) came ++ more)
-          first_sub image [] more long = absurd (omega arith)
-          first_sub image (o ∷ came) more long = record { first = OfSub d image j s at o; others = _; is = refl; demands = refl }
-
+    -- the line of the subsection is before its numbers
     module _ (came : Option ℕ) (head : SaidSub s (first_line p.rest) came) where
-      abbrev taken_head : Taken
-      taken_head = record { demand = ForSub s; line = sub_line s came }
+      abbrev own : Image → List (Option ℕ) → List Entry
+      own = behind_numbers s.desc at (suc j) (at + size_of s) subs
 
-      head_moved : Moved p.line p.rest (taken_head ∷ []) (suc p.line) (next_line p).rest
-      head_moved = moved_one p.line p.rest taken_head _ (line_taken p.rest (sub_line s came) head.rest head.is) head.fine
+      abbrev head_taken : Taken
+      head_taken = record { demand = ForSub s; line = sub_line s came }
 
-      -- after the line of the subsection come its numbers, and then the other subsections
-      abbrev behind_head : Image → List (Option ℕ) → List Entry → List Entry
-      behind_head image others more = number_entries set s.desc image.numbers at ++ (subs_entries set d image (suc j) (at + size) subs others ++ more)
-
-      entries_are : (image : Image) (o : Option ℕ) (others : List (Option ℕ)) (more : List Entry)
-          → subs_entries set d image j at (s ∷ subs) (o ∷ others) ++ more ≡ OfSub d image j s at o ∷ behind_head image others more
-      entries_are image o others more = ap (λ (l : List Entry). OfSub d image j s at o ∷ l) (append_assoc (number_entries set s.desc image.numbers at) _ more)
-
-      follows_head : (taken : List Taken) (P : List Entry → Type 0) (image : Image) (others : List (Option ℕ)) (more : List Entry)
-          → length others ≡ suc (length subs) → ((others : List (Option ℕ)) → length others ≡ length subs → Follows taken P (behind_head image others more))
-          → Follows (taken_head ∷ taken) P (subs_entries set d image j at (s ∷ subs) others ++ more)
+      follows_head : (taken : List Taken) (P : List Entry → Type 0) (image : Image) (came : List (Option ℕ)) (more : List Entry)
+          → length came ≡ suc (length subs) → ((came : List (Option ℕ)) → length came ≡ length subs → Follows taken P (own image came ++ more))
+          → Follows (head_taken ∷ taken) P (subs_entries set d image j at (s ∷ subs) came ++ more)
       follows_head taken P image [] more long h = absurd (omega arith)
-      follows_head taken P image (o ∷ others) more long h =
-          subst (λ (l : List Entry). Follows (taken_head ∷ taken) P l) (sym (entries_are image o others more)) (refl, λ e. h others (omega arith))
+      follows_head taken P image (o ∷ came) more long h = (refl, λ e. h came (omega arith))
 
-      along_head : (taken : List Taken) (P : List Entry → Type 0) (image : Image) (others : List (Option ℕ)) (more : List Entry)
-          → Along taken P (behind_head image others more) → Along (taken_head ∷ taken) P (subs_entries set d image j at (s ∷ subs) (came ∷ others) ++ more)
-      along_head taken P image others more h = subst (λ (l : List Entry). Along (taken_head ∷ taken) P l) (sym (entries_are image came others more)) (refl, h)
-
-      stopped_inside : (e : BadLine) → NumbersStop set s.desc at (next_line p) e → SubsStop (s ∷ subs) j at p e
-      stopped_inside e n = record {
-        demand = ForNumber n.element;
-        came = came ∷ none_of subs;
-        numbers = n.place.numbers;
-        rest = n.place.rest;
-        before = record {
-          said = n.said;
-          taken = taken_head ∷ all_taken n.said;
-          told = n.told;
-          one_each = ap suc (length-map subs (λ s. None));
-          versions = (head.version, none_at subs);
-          follows = λ image others more long short. follows_head (all_taken n.said) (Begins (ForNumber n.element)) image others more long
-              (λ others long. n.follows image.numbers _ short);
-          along = λ image more agrees. along_head (all_taken n.said) (Begins (ForNumber n.element)) image (none_of subs) more (n.along image.numbers _ agrees);
-          moved = moved_then head_moved n.moved;
-        };
-        wrong = n.wrong;
+      abbrev headed : {others : List (Option ℕ)} {numbers : List ℤ} {line : ℕ} {rest : List ℕ} {Then : List Entry → List Entry → Type 0}
+          → Went own subs at (next_line p) others numbers line rest Then → Went (those j at (s ∷ subs)) (s ∷ subs) at p (came ∷ others) numbers line rest Then
+      headed {Then = Then} w = record {
+        said = w.said;
+        taken = head_taken ∷ w.taken;
+        told = w.told;
+        one_each = ap suc w.one_each;
+        versions = (head.version, w.versions);
+        follows = λ image came more long short. follows_head w.taken (Then more) image came more long (λ came long. w.follows image came more long short);
+        along = λ image more agrees. (refl, w.along image more agrees);
+        moved = moved_then (moved_one p.line p.rest head_taken _ (line_taken p.rest (sub_line s came) head.rest head.is) head.fine) w.moved;
       }
 
-      abbrev went_behind : {q : Standing} {others : List (Option ℕ)} {numbers : List ℤ} {line : ℕ} {rest : List ℕ} (Then : List Entry → List Entry → Type 0)
-          → NumbersRead set s.desc at (next_line p) q → SubsWent subs (suc j) (at + size) q others numbers line rest Then
-          → SubsWent (s ∷ subs) j at p (came ∷ others) numbers line rest Then
-      went_behind {others = others} Then n r = record {
-        said = n.said ++ r.said;
-        taken = taken_head ∷ (all_taken n.said ++ r.taken);
-        told = told_both n.told r.told (omega arith) n.below;
-        one_each = ap suc r.one_each;
-        versions = (head.version, r.versions);
-        follows = λ image others more long short.
-            follows_head (all_taken n.said ++ r.taken) (Then more) image others more long
-            (λ others long. follows_on n r.taken (Then more) image.numbers _ short (r.follows image others more long short));
-        along = λ image more agrees.
-            let p = agrees_parts n.said r.said image.numbers agrees in
-            along_head (all_taken n.said ++ r.taken) (Then more) image others more
-            (along_on n r.taken (Then more) image.numbers _ p.0 (r.along image more p.1));
-        moved = moved_then head_moved (moved_then n.moved r.moved);
-      }
-
-      others_come : (q : Standing) (o : Result ReadSubs BadLine) → NumbersRead set s.desc at (next_line p) q → SubsCome subs (suc j) (at + size) q o
-          → SubsCome (s ∷ subs) j at p (also came p.line o)
-      others_come q (Ok r) n x = record {
-        whole = went_behind (λ more es. es ≡ more) n x.whole;
-        heard = λ image agrees c.
-            let p = agrees_parts n.said x.said image.numbers agrees in heard_on n image.numbers _ x.said c p.0 (x.heard image p.1 c);
-        lines = λ image agrees.
-            let a = agrees_parts n.said x.said image.numbers agrees in
-            ap (λ l. p.line ∷ l) (x.lines image a.1 ∙ sym (lines_on n image.numbers (subs_entries set d image (suc j) (at + size) subs r.came) a.0));
-      }
-      others_come q (Err e) n x =
-          let before = went_behind (λ more es. Begins x.demand es) n x.before in
-          record { demand = x.demand; came = came ∷ x.came; numbers = x.numbers; rest = x.rest; before = before; wrong = x.wrong }
-
-      sub_comes : (r : Read) (go : Standing → Result ReadSubs BadLine) → NumbersCome set s.desc at (next_line p) r
-          → ((q : Standing) → r ≡ Ok q → NumbersRead set s.desc at (next_line p) q → SubsCome subs (suc j) (at + size) q (go q))
-          → SubsCome (s ∷ subs) j at p (also came p.line (then_subs r go))
-      sub_comes (Ok q) go n h = others_come q (go q) n (h q refl n)
-      sub_comes (Err e) go n h = stopped_inside e n
+      sub_comes : (o : Result ReadSubs BadLine) → Come own subs at (next_line p) o → Come (those j at (s ∷ subs)) (s ∷ subs) at p (also came p.line o)
+      sub_comes (Ok r) x = record { whole = headed x.whole; heard = x.heard; lines = λ image agrees. ap (λ l. p.line ∷ l) (x.lines image agrees) }
+      sub_comes (Err e) x =
+          record { demand = x.demand; came = came ∷ x.came; numbers = x.numbers; rest = x.rest; before = headed x.before; wrong = x.wrong }
 
   by_head : (s : Sub) (subs : List Sub) (j at : ℕ) (p : Standing) (o : Option (Option ℕ)) → AreSound set.structs → IsSound s.desc
       → sub_said s (first_line p.rest) ≡ o → at + size_of s ≤ length p.numbers
-      → ((q : Standing) → length q.numbers ≡ length p.numbers → SubsCome subs (suc j) (at + size_of s) q (read_subs set (at + size_of s) subs q))
-      → SubsCome (s ∷ subs) j at p (read_sub set s at p o (λ q. read_subs set (at + size_of s) subs q))
+      → ((q : Standing) → length q.numbers ≡ length p.numbers
+      → Come (those (suc j) (at + size_of s) subs) subs (at + size_of s) q (read_subs set (at + size_of s) subs q))
+      → Come (those j at (s ∷ subs)) (s ∷ subs) at p (read_sub set s at p o (λ q. read_subs set (at + size_of s) subs q))
   by_head s subs j at p None structs sound e here later = refused s subs j at p e
   by_head s subs j at p (Some came) structs sound e here later =
-      sub_comes s subs j at p came (sub_taken s (first_line p.rest) came e) (read_desc (readers set) s.desc s.desc.version [] true at (next_line p)) _
-      (numbers_come set s.desc at (next_line p) structs sound here) (λ q is n. later q n.told.long)
+      sub_comes s subs j at p came (sub_taken s (first_line p.rest) came e) _
+      (numbers_first s.desc at (suc j) (at + size_of s) subs (next_line p) refl (read_desc (readers set) s.desc s.desc.version [] true at (next_line p)) _
+      (numbers_come set s.desc at (next_line p) structs sound here) (λ q n. later q n.told.long))
 
   pub subs_come : AreSound set.structs → (subs : List Sub) (j at : ℕ) (p : Standing) → AreSoundSubs subs → at + cells_long subs ≤ length p.numbers
-      → SubsCome subs j at p (read_subs set at subs p)
+      → Come (λ image came. subs_entries set d image j at subs came) subs at p (read_subs set at subs p)
   subs_come structs [] j at p sound room = record {
     whole = record {
       said = [];

@@ -1,7 +1,7 @@
 -- Reading the fields of a description, beside its elements.
 use Rattle.vms_values_laws.proofs.Facade.{◌≡◌, ℕ, List, ◌∷◌, ◌++◌, map, refl, sym, ap, ◌∙◌, Bool, true, false, ◌&&◌, if◌then◌else◌, append_assoc, codes, []}
 use Rattle.vms_values_laws.proofs.Facade.{◌<◌, zero, suc, ◌+◌, ◌*◌, ◌≤◌, length, get_or, drop, ℤ, arith, append-nil, map-append, length-append, and_assoc}
-use Rattle.vms_values_laws.proofs.Facade.{and-true, decimal, le-ltb, lt-ltb, ⊎_elim, cases_lt, Element, dotted, behind, Number, Shape, no_shape, shape, shapes}
+use Rattle.vms_values_laws.proofs.Facade.{and-true, decimal, le-ltb, lt-ltb, ⊎_elim, cases_lt, Element, dotted, behind, Shape, no_shape, shape, shapes}
 use Rattle.vms_values_laws.proofs.Facade.{cells_in, single, Rule, item_elements, Stand, stand_of, array_elements, field_elements, elements_from, desc_elements}
 use Rattle.vms_values_laws.proofs.Facade.{index_text, is_number, printed, printed_append, Item, Num, Struct, width, residue, Count, One, Fixed, Counted, Field}
 use Rattle.vms_values_laws.proofs.Facade.{Desc, Set, Cell, no_desc, no_field, first, counted, capacity_of, elements_of, item_size, field_cells, cells_from}
@@ -10,7 +10,7 @@ use Rattle.vms_values_laws.proofs.Facade.{read_item, read_elements, read_array, 
 use Rattle.vms_values_laws.proofs.Facade.{IsEarlier, IsSoundField, AreSoundFields, IsSound, AreSound, there_same, elements_same, place_next, drop_next}
 use Rattle.vms_values_laws.proofs.Facade.{zero_plus, place_first, first_long, readers_cells, two_more, shapes_cells, Said, Agrees}
 use Rattle.vms_spec.specs.ValuesReading.{cells_of}
-use Rattle.vms_values_laws.proofs.Coming.{spot, Knows, AllKnown, knows_grows, At, Comes, at_left, stay, forget, then_comes, line_comes}
+use Rattle.vms_values_laws.proofs.SaidLaws.{Knows, AllKnown, knows_grows, At, Comes, at_left, stay, forget, then_comes, line_comes}
 
 -- ---- The printed elements under a path.
 

@@ -14,6 +14,7 @@ pub fn read_law()
 
 /// States that nothing but what its lines mean is read of a text: one machine and one list of
 /// images, or one first bad line.
+#[tactic(auto, using(crate::proofs::Stated::only_holds))]
 pub fn only_law()
     ensures { OnlyLaw }
 {}
@@ -27,6 +28,7 @@ pub fn accepted_law()
 
 /// States that the `values_text` of a machine of the set or none, and of images that may be
 /// written, is read back as these.
+#[tactic(auto, using(crate::proofs::Stated::printed_holds))]
 pub fn printed_law()
     ensures { PrintedLaw }
 {}
@@ -34,6 +36,7 @@ pub fn printed_law()
 /// States that a text of any length is refused at line `most_lines` + 1 at the latest.
 ///
 /// `most_lines` is the number of lines that a text of the set may have.
+#[tactic(auto, using(crate::proofs::Stated::line_holds))]
 pub fn line_law()
     ensures { LineLaw }
 {}
@@ -50,6 +53,7 @@ pub fn written_law()
 /// States that the stream written for what a text says shows as that text (`ShowsAs`).
 ///
 /// The description fits or there is none.
+#[tactic(auto, using(crate::proofs::Stated::packed_holds))]
 pub fn packed_law()
     ensures { PackedLaw }
 {}

@@ -48,6 +48,12 @@ pub record SectionsRead (r : Run) (s : State) (place : ℕ) (rest : List ℕ) : 
   pub tail_last : Tail
   pub goes : Goes r (record s { images = states; came = came_last; tail = tail_last; spot = Ended }) ((place + length sections) + 1) after
 
+four_long : (a b c d : List ℕ) → length (((a ++ b) ++ c) ++ d) ≡ length a + (length b + (length c + length d))
+four_long a b c d = simp length-append (omega arith)
+
+regrouped : (a b c d e : List ℕ) → (((a ++ b) ++ c) ++ d) ++ e ≡ a ++ (b ++ (c ++ (d ++ e)))
+regrouped a b c d e = simp append_assoc
+
 any : (t : Tail) → (footed : Bool) × Agrees t footed
 any Unknown = (true, tt)
 any Footed = (true, refl)
@@ -113,21 +119,9 @@ module _ (r : Run) (good : IsGood r.set) where
             whole = refl;
           };
           spelled = spelled ∙ ap (λ l. head ++ l) (b.front ∙ ap (λ l. b.bytes ++ l) q'.spelled)
-              ∙ rw (
-                append_assoc ((head ++ b.bytes) ++ q'.tail) close q'.after,
-                append_assoc (head ++ b.bytes) q'.tail
-                    (close ++ q'.after),
-                append_assoc head b.bytes (q'.tail ++ (close ++ q'.after)),
-              );
+              ∙ sym (regrouped head b.bytes q'.tail close q'.after);
           opens = subst (λ (x : ℕ). Opening r false (came_to s k (image_so v q'.all q'.numbers) q'.footed) x q'.after)
-              (omega (
-                arith,
-                b.place,
-                length-append ((head ++ b.bytes) ++ q'.tail) close,
-                length-append
-                    (head ++ b.bytes) q'.tail,
-                length-append head b.bytes,
-              )) q'.opens;
+              (omega (arith, b.place, four_long head b.bytes q'.tail close)) q'.opens;
         }
 
     pub section_found : {rest : List ℕ} → length s.came ≡ length r.set.devices → IsBytes rest → id < 4294967296 → rest ≡ head ++ more → IsVersionOf d.desc v
@@ -200,15 +194,7 @@ module _ (r : Run) (good : IsGood r.set) where
     where
       has_bytes : {image : Image} {footed : Bool} {bytes : List ℕ} {id : ℕ} → IsSection r.set d image id footed bytes → 0 < length bytes
       has_bytes {image = image} {footed = footed} {bytes = bytes} {id = id} s =
-          let head = section_head id d.desc.name d.instance image.version in
-          omega (
-            arith,
-            ap length s.whole,
-            length-append ((head ++ s.body) ++ s.tail) (closing footed id),
-            length-append
-                (head ++ s.body) s.tail,
-            length-append head s.body,
-          )
+          omega (arith, simp length-append at (ap length s.whole))
 
 -- what ends a stream: nothing, or a description
 record Ending (r : Run) (s : State) (place : ℕ) (rest : List ℕ) : Type 0 where
@@ -309,20 +295,8 @@ module _ (r : Run) (good : IsGood r.set) (input : List ℕ) where
           whole = refl;
         };
         rest = d.after;
-        prefix = e ∙ ap (λ l. stream_head ++ (named ++ l)) (q.spelled ∙ ap (λ l. q.sections ++ (0x00 ∷ l)) d.spelled) ∙ rw (
-          append_assoc front d.tail d.after,
-          append_assoc ((stream_head ++ named) ++ q.sections) end_mark (d.tail ++ d.after),
-          append_assoc (stream_head ++ named) q.sections (end_mark ++ (d.tail ++ d.after)),
-          append_assoc stream_head named (q.sections ++ (0x00 ∷ (d.tail ++ d.after))),
-        );
-        long = omega (
-          arith,
-          d.long,
-          length-append front d.tail,
-          length-append ((stream_head ++ named) ++ q.sections) end_mark,
-          length-append (stream_head ++ named) q.sections,
-          length-append stream_head named,
-        );
+        prefix = e ∙ ap (λ l. stream_head ++ (named ++ l)) (q.spelled ∙ ap (λ l. q.sections ++ (0x00 ∷ l)) d.spelled) ∙ simp append_assoc;
+        long = simp length-append (omega (arith, d.long));
         all = d.all;
       }
 

@@ -7,10 +7,7 @@ with_stored n a r b s = record n { rx = a; rx_ring = r; tx = b; tx_ring = s }
 port_is : (n : PortNumbers) (a b : Counted) (r s : Ring) → a ≡ array_for n.rx n.rx_ring → r ≡ ring_left n.rx n.rx_ring → b ≡ array_for n.tx n.tx_ring
     → s ≡ ring_left n.tx n.tx_ring
     → with_stored n a r b s ≡ recast_port n
-port_is n a b r s e f g h =
-    ap (λ (x : Counted). with_stored n x r b s) e ∙ ap (λ (x : Ring). with_stored n (array_for n.rx n.rx_ring) x b s) f
-    ∙ ap (λ (x : Counted). with_stored n (array_for n.rx n.rx_ring) (ring_left n.rx n.rx_ring) x s) g
-    ∙ ap (λ (x : Ring). with_stored n (array_for n.rx n.rx_ring) (ring_left n.rx n.rx_ring) (array_for n.tx n.tx_ring) x) h
+port_is n a b r s e f g h = cc
 
 pub returns-clause-cells : goal.returns-clause-cells
 unfolding recast_cells

@@ -1,5 +1,4 @@
-use Rattle.std.specs.Io.KnownBytes.{Consumes}
-use Rattle.std.specs.Io.Take.{take_limit, take_remaining}
+use Rattle.vms_io.proofs.Facade.{Consumes, take_limit, take_remaining}
 use Rattle.vms_io.proofs.files.read_front.Given as goal
 
 abbrev pub invariant-loop-count : goal.invariant-loop-count

@@ -1,5 +1,4 @@
-use Rattle.std.proofs.Common.{rules, arith, ◌∙◌}
-use Rattle.std.proofs.lemmas.List.{take_rest}
+use Rattle.vms_io.proofs.Facade.{rules, arith, ◌∙◌, take_rest}
 use Rattle.vms_io.proofs.Filling.{written_more}
 use Rattle.vms_io.proofs.whole.write_rest.Goals as goal
 

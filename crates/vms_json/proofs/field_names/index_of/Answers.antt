@@ -3,9 +3,7 @@ use Rattle.vms_json.proofs.NameLaws.{one_named, names_on, names_end}
 use Rattle.vms_json.proofs.field_names.index_of.Goals as goal
 
 pub loop-field-init : goal.loop-field-init
-loop-field-init c =
-    let none : IsIndex c.new-first.result [] = search rules in
-    ([], none, refl, refl, omega arith)
+loop-field-init c = ([], (search rules), refl, refl, omega arith)
 
 pub loop-field-preserved : goal.loop-field-preserved
 loop-field-preserved c =
@@ -17,11 +15,11 @@ loop-field-preserved c =
         first = λ q. c.in_ok-put_first.ensures q ∙ ap (λ o. or_else o (at_name name i q)) (l.1.first q) ∙ sym (one_named l.0 name q i l.3);
       },
       names_on l.0 (names_of (items_left c.args.fields)) name (items_left c.loop-field.fields) (items_left c.next.new.self) (view c.in-Some.field) l.2 c.in-Some.ensures.value c.name_of.ensures,
-      omega (arith, length-append l.0 (name ∷ []), l.3),
+      omega (arith, length-append l.0 (name ∷ [])),
       omega (arith, l.4, c.in-Some.ensures.fewer),
     )
 
 pub returns : goal.returns
 returns c =
     let l = c.loop-field.invariant in
-    subst (IsIndex c.loop-field.first) (names_end l.0 (names_of (items_left c.args.fields)) (items_left c.loop-field.fields) l.2 c.in_default.ensures.value) l.1
+    rw (names_end l.0 (names_of (items_left c.args.fields)) (items_left c.loop-field.fields) l.2 c.in_default.ensures.value) at l.1

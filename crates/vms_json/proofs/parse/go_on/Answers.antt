@@ -6,17 +6,17 @@ use Rattle.vms_json.proofs.parse.go_on.Goals as goal
 pub returns-then-is_empty-clause-ok : goal.returns-then-is_empty-clause-ok
 returns-then-is_empty-clause-ok c said is =
     whole_ended said c.loop-laid.laid c.loop-laid.reader (c.loop-laid.invariant.ended said is)
-    (nil_from_length c.loop-laid.laid.begun.items (omega (arith, c.loop-laid.laid.begun.ok.0, eqb-true c.loop-laid.laid.begun.len 0 (sym c.if-is_empty.ensures))))
+    (nil_from_length c.loop-laid.laid.begun.items (omega (arith, eqb-true c.loop-laid.laid.begun.len 0 (sym c.if-is_empty.ensures))))
 
 pub returns-in_err-name-clause-err : goal.returns-in_err-name-clause-err
 returns-in_err-name-clause-err c said is refused =
-    let some : 0 < length c.loop-laid.laid.begun.items = omega (arith, c.loop-laid.laid.begun.ok.0, eqb-false c.loop-laid.laid.begun.len 0 (sym c.if-is_empty.ensures)) in
+    let some : 0 < length c.loop-laid.laid.begun.items = omega (arith, eqb-false c.loop-laid.laid.begun.len 0 (sym c.if-is_empty.ensures)) in
     let m = member_ended said c.loop-laid.laid c.loop-laid.reader (c.loop-laid.invariant.ended said is) c.loop-laid-test.true some in
     member_no_key said c.loop-laid.laid c.loop-laid.reader m c.in_err-name.ensures.value
 
 pub returns-in-Some-clause-ok : goal.returns-in-Some-clause-ok
 returns-in-Some-clause-ok c said is =
-    let some : 0 < length c.loop-laid.laid.begun.items = omega (arith, c.loop-laid.laid.begun.ok.0, eqb-false c.loop-laid.laid.begun.len 0 (sym c.if-is_empty.ensures)) in
+    let some : 0 < length c.loop-laid.laid.begun.items = omega (arith, eqb-false c.loop-laid.laid.begun.len 0 (sym c.if-is_empty.ensures)) in
     let laid = c.loop-laid.laid in
     let m = member_ended said laid c.loop-laid.reader (c.loop-laid.invariant.ended said is) c.loop-laid-test.true some in
     let named : read_key c.loop-laid.reader ≡ Some (Some c.in-Some.name.now, c.next_key.new.self) = grind arith in
@@ -25,7 +25,7 @@ returns-in-Some-clause-ok c said is =
 
 pub loop-laid-preserved : goal.loop-laid-preserved
 loop-laid-preserved c =
-    let some : 0 < length c.loop-laid.laid.begun.items = omega (arith, c.loop-laid.laid.begun.ok.0, eqb-false c.loop-laid.laid.begun.len 0 (sym c.if-is_empty.ensures)) in
+    let some : 0 < length c.loop-laid.laid.begun.items = omega (arith, eqb-false c.loop-laid.laid.begun.len 0 (sym c.if-is_empty.ensures)) in
     let laid = c.loop-laid.laid in
     let over : read_key c.loop-laid.reader ≡ Some (None, c.next_key.new.self) = grind arith in
     record {
@@ -33,7 +33,7 @@ loop-laid-preserved c =
       ended = λ said is.
           let m = member_ended said laid c.loop-laid.reader (c.loop-laid.invariant.ended said is) c.loop-laid-test.true some in
           member_was_last said laid c.end.new.self c.loop-laid.reader c.next_key.new.self m over c.loop-laid-test.true c.end.ensures.object;
-      fewer = omega (arith, c.loop-laid.invariant.fewer, read_key-shorter c.loop-laid.reader None c.next_key.new.self over);
+      fewer = omega (arith, read_key-shorter c.loop-laid.reader None c.next_key.new.self over);
     }
 
 pub returns-clause-ok : goal.returns-clause-ok

@@ -4,28 +4,24 @@ use Rattle.vms_json.proofs.parse.lay.Goals as goal
 
 pub returns-in-BeginObject-clause-err : goal.returns-in-BeginObject-clause-err
 returns-in-BeginObject-clause-err c = λ said is why.
-    c.begin_object.ensures.err said (subst (λ t. IsUnder said c.args.laid.now (token_of t ∷ c.args.reader.now)) c.in-BeginObject.is is) why
+    c.begin_object.ensures.err said (rw c.in-BeginObject.is at is) why
 
 pub returns-then-not-laid-clause-err : goal.returns-then-not-laid-clause-err
 returns-then-not-laid-clause-err c = λ said is why.
-    no_list_over said c.args.laid.now c.args.reader.now
-    (subst (λ t. IsUnder said c.args.laid.now (token_of t ∷ c.args.reader.now)) c.in-EndArray.is is) (search rules)
+    no_list_over said c.args.laid.now c.args.reader.now (rw c.in-EndArray.is at is) (search rules)
 
 pub returns-else-not-laid-clause-ok : goal.returns-else-not-laid-clause-ok
 returns-else-not-laid-clause-ok c = λ said is.
-    list_over said c.args.laid.now c.end.new.self c.args.reader.now
-    (subst (λ t. IsUnder said c.args.laid.now (token_of t ∷ c.args.reader.now)) c.in-EndArray.is is) (search rules) c.end.ensures.list
+    list_over said c.args.laid.now c.end.new.self c.args.reader.now (rw c.in-EndArray.is at is) (search rules) c.end.ensures.list
 
 pub returns-then-len-ge-DEEPEST-clause-err : goal.returns-then-len-ge-DEEPEST-clause-err
 returns-then-len-ge-DEEPEST-clause-err c = λ said is why.
-    list_too_deep said c.args.laid.now c.args.reader.now
-    (subst (λ t. IsUnder said c.args.laid.now (token_of t ∷ c.args.reader.now)) c.in-BeginArray.is is) (omega arith)
+    list_too_deep said c.args.laid.now c.args.reader.now (rw c.in-BeginArray.is at is) (omega arith)
 
 pub returns-in_ok-begin-in-BeginArray-clause-ok : goal.returns-in_ok-begin-in-BeginArray-clause-ok
 returns-in_ok-begin-in-BeginArray-clause-ok c = λ said is.
     let b = c.in_ok-begin-in-BeginArray.ensures in
-    list_opened said c.args.laid.now _ c.args.reader.now 0
-    (subst (λ t. IsUnder said c.args.laid.now (token_of t ∷ c.args.reader.now)) c.in-BeginArray.is is) (omega arith) b.rows b.begun refl
+    list_opened said c.args.laid.now _ c.args.reader.now 0 (rw c.in-BeginArray.is at is) (omega arith) b.rows b.begun refl
 
 pub returns-in_err-row_of-in_default : goal.returns-in_err-row_of-in_default
 returns-in_err-row_of-in_default c = record {
@@ -41,8 +37,7 @@ returns-in_err-row_of-in_default c = record {
 pub returns-in_ok-push-in_default : goal.returns-in_ok-push-in_default
 returns-in_ok-push-in_default c = record {
   ok = λ said is.
-      let d = c.in_default in
-      token_laid said c.args.laid.now _ (token_of c.args.token) c.args.reader.now _ (no_end c.args.token d.not-EndArray c.args.reader.now) is
+      token_laid said c.args.laid.now _ (token_of c.args.token) c.args.reader.now _ (no_end c.args.token c.in_default.not-EndArray c.args.reader.now) is
       c.in_ok-row_of-in_default.ensures.ok c.in_ok-push-in_default.ensures.items refl refl;
   fewer = omega arith;
   err = λ said is why. absurd (cc);

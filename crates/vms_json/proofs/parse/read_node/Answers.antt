@@ -6,7 +6,7 @@ use Rattle.vms_json.proofs.parse.read_node.Goals.{else-is_value-via-then-is_valu
 use Rattle.vms_json.proofs.parse.read_node.Goals as goal
 
 still_false : {b : Bool} (P Q : Type 0) → b ≡ false → Q → MatchBool b P Q
-still_false P Q e q = subst (λ b. MatchBool b P Q) (sym e) q
+still_false P Q e q = rw e q
 
 pub loop-is_done-init : goal.loop-is_done-init
 loop-is_done-init c = whole_due c.args.text.now _ _ (search rules) (search rules) (search rules) refl

@@ -10,4 +10,4 @@ walk-requires-clause-may g c =
     let bound = part_bound (described c.args.set.now) c.args.spot b.image.now.numbers in
     let kinds : b.image.now.kinds ≡ c.args.image.now.kinds = ap (λ (i : Typed). i.kinds) h.3.kept in
     let kind = step_kind c.args.image.now.kinds (spot_slots (described c.args.set.now) c.args.spot b.image.now.numbers) (xs ++ ys) rest x (c.requires.kinds b.image.now.numbers) (e ∙ sym (append_assoc xs ys (x ∷ rest))) in
-    (omega (arith, ap steps_long e, long_append xs (ys ++ (x ∷ rest))), h.4 c.requires.held, subst (λ (ks : List Kind). IsOfKind ks x) (sym kinds) kind)
+    (omega (arith, ap steps_long e, long_append xs (ys ++ (x ∷ rest))), h.4 c.requires.cursor.held, subst (λ (ks : List Kind). IsOfKind ks x) (sym kinds) kind)

@@ -1,6 +1,7 @@
 use Rattle.vms_load.proofs.Facade.{w128, to_z-of_z, err_from_is_err_and, rules, SFits, ◌≡◌, ℕ, ◌+◌, Some, Result, Ok, Err, OnOk, sym, subst, arith, Kind}
 use Rattle.vms_load.proofs.Facade.{InRange, WalkStep, capacities_of, take_slot, intake, reads_as, IsLong, FrameFault, IsOfKind, TakesOn, HasMoved, progress}
 use Rattle.vms_load.proofs.Facade.{slot_of, step_long}
+use Rattle.vms_walk.specs.Inside.{IsInside}
 use Rattle.vms_load.proofs.BodyLemmas.{reads_rule, number_ok, number_err, constant_taken, filler_taken}
 use Rattle.vms_load.proofs.body.read_step.Goals as goal
 
@@ -9,10 +10,13 @@ moved : (most at to : ℕ) (result : Result (Unit {0}) FrameFault) (n : ℕ) →
 moved most at to (Ok x) n far l = (omega arith, omega arith)
 moved most at to (Err e) n far l = (l, tt)
 
+pub set-requires-clause-cell : goal.set-requires-clause-cell
+set-requires-clause-cell g c = subst (IsInside c.args.image.now.numbers) c.in-Number.is c.requires.step.inside
+
 pub set-requires-clause-range : goal.set-requires-clause-range
 set-requires-clause-range g c =
     let f : SFits w128 c.in_ok-number-in-Number.number = search rules in
-    let of_kind = subst (IsOfKind c.args.image.now.kinds) c.in-Number.is c.requires.of_kind in
+    let of_kind = subst (IsOfKind c.args.image.now.kinds) c.in-Number.is c.requires.step.of_kind in
     rw (to_z-of_z w128 c.in_ok-number-in-Number.number f) (subst (λ (k : Kind). InRange k c.in_ok-number-in-Number.number) (sym of_kind) c.in_ok-number-in-Number.ensures.range)
 
 pub returns-in_err-number-in-Number-clause-reads : goal.returns-in_err-number-in-Number-clause-reads

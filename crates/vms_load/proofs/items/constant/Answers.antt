@@ -1,4 +1,4 @@
-use Rattle.vms_load.proofs.Facade.{w128, rules, SFits, ◌≡◌, ◌∙◌, ap, sym, to_z, of_z, to_z-of_z, err_from_is_err_and, is_same}
+use Rattle.vms_load.proofs.Facade.{w128, rules, ◌≡◌, ◌∙◌, ap, sym, to_z, of_z, to_z-of_z, err_from_is_err_and, is_same}
 use Rattle.vms_load.proofs.BodyLemmas.{are_others, reads_constant, reads_other, reads_no_constant}
 use Rattle.vms_load.proofs.items.constant.Goals as goal
 

@@ -19,7 +19,7 @@ opened k place came name v d there result is same e r =
 pub open_sub-requires-clause-few : goal.open_sub-requires-clause-few
 open_sub-requires-clause-few g c =
     let set = described c.args.set.now in
-    omega (arith, few_subs set c.args.set.now.well_formed c.args.section.now.device c.requires.device, ap (λ (d : Device). length d.subs) c.device.ensures)
+    omega (arith, few_subs set c.args.set.now.well_formed c.args.section.now.device c.requires.image.device, ap (λ (d : Device). length d.subs) c.device.ensures)
 
 pub returns-in-Ok-Done-clause-reads : goal.returns-in-Ok-Done-clause-reads
 returns-in-Ok-Done-clause-reads g c = λ names state part room.
@@ -28,19 +28,19 @@ returns-in-Ok-Done-clause-reads g c = λ names state part room.
     let reads = rw c.in-Ok-Done.field-0-is at c.in-Ok-Done.ensures.reads in
     let place = rw c.in-Ok-Done.field-0-is at c.in-Ok-Done.ensures.place in
     let held = rw c.in-Ok-Done.field-0-is at c.in-Ok-Done.ensures.held in
-    reads_as (λ n l. omega (arith, ap held_long held, ap held_long c.requires.held))
-    (λ rest left h. after_settled set names state section part (untyped c.args.image.now) c.requires.device room c.args.cursor.now c.after_fields.new.self
+    reads_as (λ n l. omega (arith, ap held_long held, ap held_long c.requires.cursor.held))
+    (λ rest left h. after_settled set names state section part (untyped c.args.image.now) c.requires.image.device room c.args.cursor.now c.after_fields.new.self
     (Some rest) (Some left) (Foot section.id) 5 (record section { tail = tails.Footed }) (untyped c.args.image.now) (Ok None)
-    c.requires.held held h place (foot_settled set names state section part (untyped c.args.image.now) c.requires.device room c.args.cursor.now.at)) reads
+    c.requires.cursor.held held h place (foot_settled set names state section part (untyped c.args.image.now) c.requires.image.device room c.args.cursor.now.at)) reads
 
 pub returns-in-Ok-Next-clause-reads : goal.returns-in-Ok-Next-clause-reads
 returns-in-Ok-Next-clause-reads g c = λ names state part room.
     let place = rw c.in-Ok-Next.field-0-is at c.in-Ok-Next.ensures.place in
-    let before = ap held_long c.requires.held in
+    let before = ap held_long c.requires.cursor.held in
     let now = ap held_long (rw c.in-Ok-Next.field-0-is at c.in-Ok-Next.ensures.held).1 in
     reads_as (λ n l. omega arith)
-    (λ rest left h. after_next (described c.args.set.now) names state c.args.section.now part (untyped c.args.image.now) c.requires.device room c.args.cursor.now c.after_fields.new.self
-    (Some rest) (Some left) c.requires.held (omega arith) h) (rw c.in-Ok-Next.field-0-is at c.in-Ok-Next.ensures.reads)
+    (λ rest left h. after_next (described c.args.set.now) names state c.args.section.now part (untyped c.args.image.now) c.requires.image.device room c.args.cursor.now c.after_fields.new.self
+    (Some rest) (Some left) c.requires.cursor.held (omega arith) h) (rw c.in-Ok-Next.field-0-is at c.in-Ok-Next.ensures.reads)
 
 pub returns-in-Err-open_sub-clause-reads : goal.returns-in-Err-open_sub-clause-reads
 returns-in-Err-open_sub-clause-reads g c = λ names state part room.
@@ -54,16 +54,16 @@ returns-in-Err-open_sub-clause-reads g c = λ names state part room.
     ∙ ap (λ (n : ℕ). opened_at n (sub_opened c.args.section.now.device (device_at set c.args.section.now.device) c.args.image.now.came name c.in-Ok-Sub.version)) c.at-at.ensures in
     rw c.refused.ensures
     (goes_refused e tt (reads_as (λ n l. omega arith)
-    (λ rest left h. after_settled set names state c.args.section.now part (untyped c.args.image.now) c.requires.device room c.args.cursor.now c.after_fields.new.self
-    (Some rest) (Some left) (SubHead name c.in-Ok-Sub.version) (6 + length name) c.args.section.now (untyped c.args.image.now) (Err e) c.requires.held held h place
-    (sub_refused set names state c.args.section.now part (untyped c.args.image.now) c.requires.device room c.args.cursor.now.at name c.in-Ok-Sub.version c.requires.shaped.subs e
+    (λ rest left h. after_settled set names state c.args.section.now part (untyped c.args.image.now) c.requires.image.device room c.args.cursor.now c.after_fields.new.self
+    (Some rest) (Some left) (SubHead name c.in-Ok-Sub.version) (6 + length name) c.args.section.now (untyped c.args.image.now) (Err e) c.requires.cursor.held held h place
+    (sub_refused set names state c.args.section.now part (untyped c.args.image.now) c.requires.image.device room c.args.cursor.now.at name c.in-Ok-Sub.version c.requires.image.shaped.subs e
     (λ next. state_in state c.args.section.now (untyped c.args.image.now) (spot_in c.args.section.now next)) is)) reads))
 
 pub mark-requires : goal.mark-requires
 mark-requires g c =
     let set = described c.args.set.now in
     let is = opened c.args.section.now.device c.at-at.result c.args.image.now.came c.in-Ok-Sub.name.items c.in-Ok-Sub.version _ _ c.open_sub.result (Ok c.in-Ok.sub) c.device.ensures (c.open_sub.ensures.opened c.args.section.now.device) c.in-Ok.is in
-    let new = sub_new c.args.section.now.device (device_at set c.args.section.now.device) c.args.image.now.came c.in-Ok-Sub.name.items c.in-Ok-Sub.version c.in-Ok.sub c.at-at.result c.requires.shaped.subs is in
+    let new = sub_new c.args.section.now.device (device_at set c.args.section.now.device) c.args.image.now.came c.in-Ok-Sub.name.items c.in-Ok-Sub.version c.in-Ok.sub c.at-at.result c.requires.image.shaped.subs is in
     omega arith
 
 pub returns-in-Ok-clause-reads : goal.returns-in-Ok-clause-reads
@@ -83,18 +83,33 @@ returns-in-Ok-clause-reads g c = λ names state part room.
     let P : Typed → Type 0 = λ image. GoesOn (intake g.S.Source c.args.source.now) (intake g.S.Source c.after_fields.new.source) LONGEST_SUB_HEAD (after_fields set names state c.args.section.now part (untyped c.args.image.now))
     (after_part set names state c.args.section.now (untyped image)) from to (Ok (Some begun)) in
     subst P (sym c.mark.ensures)
-    (reads_as (λ n l. omega (arith, ap held_long held, ap held_long c.requires.held))
-    (λ rest left h. after_settled set names state c.args.section.now part (untyped c.args.image.now) c.requires.device room from to (Some rest) (Some left) (SubHead name v) (6 + length name) c.args.section.now
-    (record (untyped c.args.image.now) { came = slice_set c.args.image.now.came j (Some v) }) (Ok (Some begun)) c.requires.held held h place
-    (sub_settled set names state c.args.section.now part (untyped c.args.image.now) c.requires.device room from.at name v c.requires.shaped.subs j is)) reads)
+    (reads_as (λ n l. omega (arith, ap held_long held, ap held_long c.requires.cursor.held))
+    (λ rest left h. after_settled set names state c.args.section.now part (untyped c.args.image.now) c.requires.image.device room from to (Some rest) (Some left) (SubHead name v) (6 + length name) c.args.section.now
+    (record (untyped c.args.image.now) { came = slice_set c.args.image.now.came j (Some v) }) (Ok (Some begun)) c.requires.cursor.held held h place
+    (sub_settled set names state c.args.section.now part (untyped c.args.image.now) c.requires.image.device room from.at name v c.requires.image.shaped.subs j is)) reads)
 
-pub returns-in-Ok-clause-open : goal.returns-in-Ok-clause-open
-returns-in-Ok-clause-open g c =
+pub returns-in-Ok-Done-clause-next : goal.returns-in-Ok-Done-clause-next
+returns-in-Ok-Done-clause-next g c =
+    let place = rw c.in-Ok-Done.field-0-is at c.in-Ok-Done.ensures.place in
+    record { moved = omega arith; held = tt; opens = tt }
+
+pub returns-in-Ok-Next-clause-next : goal.returns-in-Ok-Next-clause-next
+returns-in-Ok-Next-clause-next g c =
+    let place = rw c.in-Ok-Next.field-0-is at c.in-Ok-Next.ensures.place in
+    record { moved = omega arith; held = tt; opens = tt }
+
+pub returns-in-Ok-clause-next : goal.returns-in-Ok-clause-next
+returns-in-Ok-clause-next g c =
     let set = described c.args.set.now in
     let j = c.in-Ok.sub in
     let is = opened c.args.section.now.device c.at-at.result c.args.image.now.came c.in-Ok-Sub.name.items c.in-Ok-Sub.version _ _ c.open_sub.result (Ok c.in-Ok.sub) c.device.ensures (c.open_sub.ensures.opened c.args.section.now.device) c.in-Ok.is in
-    let new = sub_new c.args.section.now.device (device_at set c.args.section.now.device) c.args.image.now.came c.in-Ok-Sub.name.items c.in-Ok-Sub.version j c.at-at.result c.requires.shaped.subs is in
-    (new.0, ap (λ (image : Typed). slice_get image.came j) c.mark.ensures ∙ at_set c.args.image.now.came j (Some c.in-Ok-Sub.version) (omega arith))
+    let new = sub_new c.args.section.now.device (device_at set c.args.section.now.device) c.args.image.now.came c.in-Ok-Sub.name.items c.in-Ok-Sub.version j c.at-at.result c.requires.image.shaped.subs is in
+    let place = rw c.in-Ok-Sub.field-0-is at c.in-Ok-Sub.ensures.place in
+    record {
+      moved = omega arith;
+      held = rw c.in-Ok-Sub.field-0-is at c.in-Ok-Sub.ensures.held;
+      opens = (new.0, ap (λ (image : Typed). slice_get image.came j) c.mark.ensures ∙ at_set c.args.image.now.came j (Some c.in-Ok-Sub.version) (omega arith));
+    }
 
 pub returns-in-Ok-clause-moves : goal.returns-in-Ok-clause-moves
 returns-in-Ok-clause-moves g c =
@@ -104,15 +119,15 @@ returns-in-Ok-clause-moves g c =
     let v = c.in-Ok-Sub.version in
     let place = rw c.in-Ok-Sub.field-0-is at c.in-Ok-Sub.ensures.place in
     let is = opened c.args.section.now.device c.at-at.result c.args.image.now.came c.in-Ok-Sub.name.items v _ _ c.open_sub.result (Ok c.in-Ok.sub) c.device.ensures (c.open_sub.ensures.opened c.args.section.now.device) c.in-Ok.is in
-    let new = sub_new c.args.section.now.device d c.args.image.now.came c.in-Ok-Sub.name.items v j c.at-at.result c.requires.shaped.subs is in
-    let due = subs_taken set d.subs c.args.image.now.came j v (record { desc = no_desc; needed = AtLeast 0 }) c.requires.shaped.subs new.1 in
+    let new = sub_new c.args.section.now.device d c.args.image.now.came c.in-Ok-Sub.name.items v j c.at-at.result c.requires.image.shaped.subs is in
+    let due = subs_taken set d.subs c.args.image.now.came j v (record { desc = no_desc; needed = AtLeast 0 }) c.requires.image.shaped.subs new.1 in
     let same = ap (λ (image : Typed). subs_due set d.subs image.came) c.mark.ensures in
-    let before = ap held_long c.requires.held in
+    let before = ap held_long c.requires.cursor.held in
     let now = ap held_long (rw c.in-Ok-Sub.field-0-is at c.in-Ok-Sub.ensures.held) in
     (omega arith, omega arith, omega arith)
 
 pub returns-in-Err-clause-reads : goal.returns-in-Err-clause-reads
 returns-in-Err-clause-reads g c = λ names state part room.
     rw (c.concerning.ensures, ← same_course (Some c.args.section.now.device) c.in-Err.fault)
-    (reads_as (λ n l. l) (λ rest left h. after_fault (described c.args.set.now) names state c.args.section.now part (untyped c.args.image.now) c.requires.device room c.args.cursor.now c.after_fields.new.self
-    (Some rest) (Some left) (after_part (described c.args.set.now) names state c.args.section.now (untyped c.args.image.now)) c.in-Err.fault c.requires.held h) c.in-Err.ensures.reads)
+    (reads_as (λ n l. l) (λ rest left h. after_fault (described c.args.set.now) names state c.args.section.now part (untyped c.args.image.now) c.requires.image.device room c.args.cursor.now c.after_fields.new.self
+    (Some rest) (Some left) (after_part (described c.args.set.now) names state c.args.section.now (untyped c.args.image.now)) c.in-Err.fault c.requires.cursor.held h) c.in-Err.ensures.reads)

@@ -8,14 +8,28 @@ use Rattle.vms_load.proofs.parts.read_section.Goals as goal
 pub loop-next-init : goal.loop-next-init
 loop-next-init g c = record {
   same = (refl, refl);
-  held = c.requires.held;
+  held = c.requires.cursor.held;
   reads = λ names state room. goes_here (intake g.S.Source c.args.source.now) (in_fields (described c.args.set.now) names state c.args.section.now None (untyped c.args.image.now)) c.args.cursor.now (g.met.S.Source.counted c.args.source.now);
   next_is = search rules;
-  shaped = c.requires.shaped;
+  shaped = c.requires.image.shaped;
   from = omega arith;
   onward = omega arith;
   place = search rules;
 }
+
+pub read_fields-requires-clause-image : goal.read_fields-requires-clause-image
+read_fields-requires-clause-image g c = let loop = c.loop-next.invariant in let same = loop.same in record { device = omega arith; shaped = loop.shaped }
+
+pub read_after_fields-requires-clause-image : goal.read_after_fields-requires-clause-image
+read_after_fields-requires-clause-image g c =
+    let loop = c.loop-next.invariant in
+    let same = loop.same in
+    let shaped = loop.shaped in
+    let image = c.in_ok-read_fields.ensures.image in
+    record {
+      device = omega arith;
+      shaped = rw image.kept (record { subs = shaped.subs; cells = image.long ∙ shaped.cells; kinds = shaped.kinds });
+    }
 
 pub loop-next-preserved : goal.loop-next-preserved
 loop-next-preserved g c =
@@ -29,13 +43,13 @@ loop-next-preserved g c =
     let mid = c.read_fields.new.cursor in
     let sub = c.in-Some.part.sub in
     let due = ap (λ (o : Option Open). part_due set d loop.image.came o) c.in-Some.is in
-    let kept = ap (λ (image : Typed). subs_due set d.subs image.came) c.in_ok-read_fields.ensures.kept in
+    let kept = ap (λ (image : Typed). subs_due set d.subs image.came) c.in_ok-read_fields.ensures.image.kept in
     let later = ap (λ (k : ℕ). part_due set (device_at set k) c.read_after_fields.new.image.came c.in_ok-next.next) still.0 in
     let one = c.in_ok-read_fields.ensures.moves in
     let two = c.in_ok-next.ensures.moves in
     record {
       same = (still.0 ∙ same.0, still.1 ∙ same.1);
-      held = c.in_ok-next.ensures.held;
+      held = c.in_ok-next.ensures.next.held;
       reads = λ names state room.
           let inside : section.device < length state.images = omega arith in
           let here = in_fields set names state c.args.section.now None (untyped c.args.image.now) in
@@ -44,7 +58,7 @@ loop-next-preserved g c =
           (omega arith) two.0 (omega arith) two.1
           (goes_further here (after_part set names state section (untyped loop.image) (Some c.in-Some.part)) middle from loop.cursor mid loop.invariant.from one.0 loop.invariant.onward one.1
           (rw c.in-Some.is at (loop.invariant.reads names state room)) (c.in_ok-read_fields.ensures.reads names state inside)) (c.in_ok-next.ensures.reads names state sub inside);
-      next_is = rw still.0 c.in_ok-next.ensures.open;
+      next_is = rw still.0 c.in_ok-next.ensures.next.opens;
       shaped = rw still.0 c.in_ok-next.ensures.shaped;
       from = omega arith;
       onward = omega arith;
@@ -106,11 +120,11 @@ loop-next-smaller g c =
     let loop = c.loop-next in
     let d = device_at set loop.section.device in
     let due = ap (λ (o : Option Open). part_due set d loop.image.came o) c.in-Some.is in
-    let same = ap (λ (image : Typed). subs_due set d.subs image.came) c.in_ok-read_fields.ensures.kept in
+    let same = ap (λ (image : Typed). subs_due set d.subs image.came) c.in_ok-read_fields.ensures.image.kept in
     let still = ap (λ (k : ℕ). part_due set (device_at set k) c.read_after_fields.new.image.came c.in_ok-next.next) c.in_ok-next.ensures.section.0 in
     let most = subs_due set d.subs c.read_fields.new.image.came + FOOT_LENGTH in
     let some : 0 < most = omega arith in
-    let now = less set d c.read_after_fields.new.image.came c.in_ok-next.next c.read_fields.new.cursor c.read_after_fields.new.cursor most c.in_ok-read_fields.ensures.held c.in_ok-next.ensures.moved (c.in_ok-next.ensures.moves.2) some in
+    let now = less set d c.read_after_fields.new.image.came c.in_ok-next.next c.read_fields.new.cursor c.read_after_fields.new.cursor most c.in_ok-read_fields.ensures.held c.in_ok-next.ensures.next.moved (c.in_ok-next.ensures.moves.2) some in
     omega arith
 
 pub returns-clause-reads : goal.returns-clause-reads

@@ -56,7 +56,7 @@ returns-in_err-stage_section-in-Ok-Section-clause-reads g c =
     (goes_still (Unit {0}) (Option Between) _ (go (state_of set c.args.staged.now (spot_of at))) (λ x. go (state_of set c.stage_section.new.staged (Free false false))) (λ next. go (state_of set c.stage_section.new.staged (spot_at next))) from end end e
     (reads_both (λ k n l m. omega arith)
     (λ all rest left h r. turn_section set names c.args.staged.now at from c.between.new.self end (Some all) (Some rest) (Some left) head c.at-at.result (state_of set c.stage_section.new.staged (Free false false)) (Err e)
-    c.requires.whole.came h place held c.at-at.ensures r) reads (c.in_err-stage_section-in-Ok-Section.ensures.reads names (is_first at) (is_configured at))))
+    c.requires.set.whole.came h place held c.at-at.ensures r) reads (c.in_err-stage_section-in-Ok-Section.ensures.reads names (is_first at) (is_configured at))))
 
 pub returns-in_ok-stage_section-in-Ok-Section-clause-reads : goal.returns-in_ok-stage_section-in-Ok-Section-clause-reads
 returns-in_ok-stage_section-in-Ok-Section-clause-reads g c =
@@ -71,7 +71,7 @@ returns-in_ok-stage_section-in-Ok-Section-clause-reads g c =
     let moves = c.in_ok-stage_section-in-Ok-Section.ensures.moves in
     reads_both (λ k n l m. omega (arith, l, m, place, now, moves.1))
     (λ all rest left h r. turn_section set names c.args.staged.now at c.args.cursor.now c.between.new.self c.stage_section.new.cursor (Some all) (Some rest) (Some left) head c.at-at.result (state_of set c.stage_section.new.staged (Free false false))
-    (Ok c.in_ok-stage_section-in-Ok-Section.field-0) c.requires.whole.came h place held c.at-at.ensures r) reads (c.in_ok-stage_section-in-Ok-Section.ensures.reads names (is_first at) (is_configured at))
+    (Ok c.in_ok-stage_section-in-Ok-Section.field-0) c.requires.set.whole.came h place held c.at-at.ensures r) reads (c.in_ok-stage_section-in-Ok-Section.ensures.reads names (is_first at) (is_configured at))
 
 pub returns-in-Err-clause-reads : goal.returns-in-Err-clause-reads
 returns-in-Err-clause-reads g c =

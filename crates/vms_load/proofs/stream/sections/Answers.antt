@@ -10,7 +10,7 @@ loop-place-init g c =
     record {
       reads = goes_here _ here c.args.cursor.now (g.met.S.Source.counted c.args.source.now);
       held = tt;
-      whole = c.requires.whole;
+      whole = c.requires.set.whole;
       from = omega arith;
       onward = omega arith;
       due = omega arith;
@@ -27,7 +27,7 @@ loop-place-preserved g c =
     let due = ap (λ (o : Option Between). stream_due set loop.staged.came.items o) c.in-Some.is in
     record {
       reads = goes_further here mid (go (state_of set c.read_between.new.staged (spot_at c.in_ok-place.place))) c.args.cursor.now loop.cursor c.read_between.new.cursor loop.invariant.from moves.0 loop.invariant.onward moves.1 (rw c.in-Some.is at loop.invariant.reads) c.in_ok-place.ensures.reads;
-      held = c.in_ok-place.ensures.held;
+      held = c.in_ok-place.ensures.next.held;
       whole = c.in_ok-place.ensures.whole;
       from = omega arith;
       onward = omega arith;
@@ -56,7 +56,7 @@ loop-place-smaller g c =
     let set = described c.args.set.now in
     let loop = c.loop-place in
     let due = ap (λ (o : Option Between). stream_due set loop.staged.came.items o) c.in-Some.is in
-    omega (arith, due, loop.invariant.due, c.in_ok-place.ensures.moves.2, c.in_ok-place.ensures.moved)
+    omega (arith, due, loop.invariant.due, c.in_ok-place.ensures.moves.2, c.in_ok-place.ensures.next.moved)
 
 pub returns-clause-reads : goal.returns-clause-reads
 returns-clause-reads g c =

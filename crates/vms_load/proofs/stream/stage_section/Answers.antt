@@ -1,11 +1,24 @@
-use Rattle.vms_load.proofs.Facade.{rules, ◌<◌, map, List, [], Some, Bool, false, Ok, Err, length, slice_set, sym, ap, ◌∙◌, subst, arith, err_from_is_err_and}
+use Rattle.vms_load.proofs.Facade.{rules, ◌≡◌, map, List, [], Some, Bool, false, Ok, Err, length, slice_set, sym, ap, ◌∙◌, subst, arith, err_from_is_err_and}
 use Rattle.vms_load.proofs.Facade.{length-set, length-map, Typed, IsImageOf, no_desc, judge, ask, Free, by_state, reading_on, described, device_at, opened_at}
 use Rattle.vms_load.proofs.Facade.{section_opened, subs_due, AreShaped, begun_at, name_of, state_of, sections_due, tail_of, intake, reads_as, Onward}
 use Rattle.vms_image.specs.Typed.{state_of as untyped}
 use Rattle.vms_load.proofs.ReadLemmas.{read_behind, behind_here}
 use Rattle.vms_load.proofs.AfterReads.{head_unit, head_long, begun, section_refused, section_reads, ended_in, ends_later}
 use Rattle.vms_load.proofs.StagedLemmas.{image_begun, begun_here, shaped_put, still_fresh, default_shaped, sections_taken}
+use Rattle.vms_load.proofs.stream.stage_section.Given.{Over}
+use Rattle.vms_load.proofs.stream.stage_section.Goals.{After-index_mut-image}
 use Rattle.vms_load.proofs.stream.stage_section.Goals as goal
+
+-- the images once the section has begun, and the image of its device
+began : (g : Over) (c : After-index_mut-image g) → c.begin_section.new.staged.images.items ≡ slice_set c.args.staged.now.images.items c.in_ok-device.device (begun_at (described c.args.set.now) c.in_ok-device.device c.args.head.now.version)
+began g c =
+    let new = rw c.deref.ensures.0 at c.in_ok-device.ensures.fresh in
+    begun_here (described c.args.set.now) _ _ c.in_ok-device.device c.args.head.now.version c.begin_section.ensures.images (c.requires.whole.fresh c.in_ok-device.device new.1)
+
+image : (g : Over) (c : After-index_mut-image g) → c.index_mut-image.result.now ≡ begun_at (described c.args.set.now) c.in_ok-device.device c.args.head.now.version
+image g c =
+    let new = c.in_ok-device.ensures.fresh.0 in
+    image_begun _ c.args.staged.now.images.items c.in_ok-device.device _ c.index_mut-image.result.now c.index_mut-image.ensures.value (began g c) (omega (arith, c.requires.whole.images.all))
 
 pub returns-in_err-device-clause-reads : goal.returns-in_err-device-clause-reads
 returns-in_err-device-clause-reads g c = λ names first after.
@@ -31,29 +44,22 @@ index_mut-image-requires g c =
     let long = ap length c.begin_section.ensures.images ∙ length-set c.args.staged.now.images.items c.in_ok-device.device _ in
     omega (arith, c.in_ok-device.ensures.fresh.0, long, c.requires.whole.images.all)
 
-pub read_section-requires-clause-device : goal.read_section-requires-clause-device
-read_section-requires-clause-device g c = c.in_ok-device.ensures.fresh.0
-
-pub read_section-requires-clause-shaped : goal.read_section-requires-clause-shaped
-read_section-requires-clause-shaped g c =
+pub read_section-requires-clause-image : goal.read_section-requires-clause-image
+read_section-requires-clause-image g c =
     let set = described c.args.set.now in
     let head = c.args.head.now in
     let k = c.in_ok-device.device in
-    let new = rw c.deref.ensures.0 at c.in_ok-device.ensures.fresh in
-    let began = begun_here set c.begin_section.new.staged.images.items c.args.staged.now.images.items k head.version c.begin_section.ensures.images (c.requires.whole.fresh k new.1) in
-    let image = image_begun c.begin_section.new.staged.images.items c.args.staged.now.images.items k (begun_at set k head.version) c.index_mut-image.result.now c.index_mut-image.ensures.value began (omega arith) in
-    subst (λ (x : Typed). IsImageOf set k x) (sym image) (default_shaped set k head.version)
+    let image = image g (goal.at.read_section-requires-clause-image g c).After-index_mut-image in
+    record { device = c.in_ok-device.ensures.fresh.0; shaped = subst (λ (x : Typed). IsImageOf set k x) (sym image) (default_shaped set k head.version) }
 
-pub read_section-requires-clause-place : goal.read_section-requires-clause-place
-read_section-requires-clause-place g c =
+pub read_section-requires-clause-cursor : goal.read_section-requires-clause-cursor
+read_section-requires-clause-cursor g c =
     let set = described c.args.set.now in
-    let head = c.args.head.now in
     let k = c.in_ok-device.device in
     let new = rw c.deref.ensures.0 at c.in_ok-device.ensures.fresh in
-    let began = begun_here set c.begin_section.new.staged.images.items c.args.staged.now.images.items k head.version c.begin_section.ensures.images (c.requires.whole.fresh k new.1) in
-    let image = image_begun c.begin_section.new.staged.images.items c.args.staged.now.images.items k (begun_at set k head.version) c.index_mut-image.result.now c.index_mut-image.ensures.value began (omega arith) in
+    let image = image g (goal.at.read_section-requires-clause-cursor g c).After-index_mut-image in
     let due = sections_taken set set.devices c.args.staged.now.came.items k (record { instance = 0; desc = no_desc; subs = [] }) c.requires.whole.came new.1 in
-    omega (arith, ap (λ (x : Typed). subs_due set (device_at set k).subs x.came) image)
+    record { held = c.requires.held; place = omega (arith, ap (λ (x : Typed). subs_due set (device_at set k).subs x.came) image) }
 
 pub returns-in_err-read_section-clause-reads : goal.returns-in_err-read_section-clause-reads
 returns-in_err-read_section-clause-reads g c = λ names first after.
@@ -63,9 +69,8 @@ returns-in_err-read_section-clause-reads g c = λ names first after.
     let old = c.args.staged.now in
     let is = sym (c.in_ok-device.was) ∙ c.open_section.ensures.opened ∙ ap (λ (came : List Bool). opened_at c.args.at (section_opened set came head.name.items head.instance head.version)) c.deref.ensures.0 in
     let new = rw c.deref.ensures.0 at c.in_ok-device.ensures.fresh in
-    let began = begun_here set c.begin_section.new.staged.images.items old.images.items k head.version c.begin_section.ensures.images (c.requires.whole.fresh k new.1) in
-    let room : k < length old.images.items = omega arith in
-    let image = image_begun c.begin_section.new.staged.images.items old.images.items k (begun_at set k head.version) c.index_mut-image.result.now c.index_mut-image.ensures.value began room in
+    let began = began g (goal.at.returns-in_err-read_section-clause-reads g c).After-index_mut-image in
+    let image = image g (goal.at.returns-in_err-read_section-clause-reads g c).After-index_mut-image in
     let now = c.read_section.new.section in
     let final = ended_in (name_of set c.begin_section.new.staged.machine) (map untyped (slice_set c.begin_section.new.staged.images.items k c.read_section.new.image)) c.begin_section.new.staged.came.items (tail_of now.tail) in
     let machine = ap (name_of set) c.begin_section.ensures.machine in
@@ -92,9 +97,8 @@ returns-clause-reads g c = λ names first after.
     let old = c.args.staged.now in
     let is = sym (c.in_ok-device.was) ∙ c.open_section.ensures.opened ∙ ap (λ (came : List Bool). opened_at c.args.at (section_opened set came head.name.items head.instance head.version)) c.deref.ensures.0 in
     let new = rw c.deref.ensures.0 at c.in_ok-device.ensures.fresh in
-    let began = begun_here set c.begin_section.new.staged.images.items old.images.items k head.version c.begin_section.ensures.images (c.requires.whole.fresh k new.1) in
-    let room : k < length old.images.items = omega arith in
-    let image = image_begun c.begin_section.new.staged.images.items old.images.items k (begun_at set k head.version) c.index_mut-image.result.now c.index_mut-image.ensures.value began room in
+    let began = began g (goal.at.returns-clause-reads g c).After-index_mut-image in
+    let image = image g (goal.at.returns-clause-reads g c).After-index_mut-image in
     let now = c.read_section.new.section in
     let final = ended_in (name_of set c.begin_section.new.staged.machine) (map untyped (slice_set c.begin_section.new.staged.images.items k c.read_section.new.image)) c.begin_section.new.staged.came.items (tail_of now.tail) in
     let machine = ap (name_of set) c.begin_section.ensures.machine in
@@ -111,11 +115,9 @@ returns-clause-reads g c = λ names first after.
 pub returns-clause-moves : goal.returns-clause-moves
 returns-clause-moves g c =
     let set = described c.args.set.now in
-    let head = c.args.head.now in
     let k = c.in_ok-device.device in
     let new = rw c.deref.ensures.0 at c.in_ok-device.ensures.fresh in
-    let began = begun_here set c.begin_section.new.staged.images.items c.args.staged.now.images.items k head.version c.begin_section.ensures.images (c.requires.whole.fresh k new.1) in
-    let image = image_begun c.begin_section.new.staged.images.items c.args.staged.now.images.items k (begun_at set k head.version) c.index_mut-image.result.now c.index_mut-image.ensures.value began (omega arith) in
+    let image = image g (goal.at.returns-clause-moves g c).After-index_mut-image in
     let due = sections_taken set set.devices c.args.staged.now.came.items k (record { instance = 0; desc = no_desc; subs = [] }) c.requires.whole.came new.1 in
     let came = ap (λ (l : List Bool). sections_due set set.devices l) c.begin_section.ensures.came in
     let moves = c.in_ok-read_section.ensures.moves in
@@ -128,7 +130,7 @@ returns-in_err-read_section-clause-whole g c =
     let k = c.in_ok-device.device in
     let old = c.args.staged.now in
     let new = rw c.deref.ensures.0 at c.in_ok-device.ensures.fresh in
-    let began = begun_here set c.begin_section.new.staged.images.items old.images.items k head.version c.begin_section.ensures.images (c.requires.whole.fresh k new.1) in
+    let began = began g (goal.at.returns-in_err-read_section-clause-whole g c).After-index_mut-image in
     let shaped = subst (AreShaped set) (sym began) (shaped_put set old.images.items k (begun_at set k head.version) c.requires.whole.images new.0 (default_shaped set k head.version)) in
     record {
       images = shaped_put set c.begin_section.new.staged.images.items k c.read_section.new.image shaped new.0 c.read_section.ensures.shaped;
@@ -145,7 +147,7 @@ returns-clause-whole g c =
     let k = c.in_ok-device.device in
     let old = c.args.staged.now in
     let new = rw c.deref.ensures.0 at c.in_ok-device.ensures.fresh in
-    let began = begun_here set c.begin_section.new.staged.images.items old.images.items k head.version c.begin_section.ensures.images (c.requires.whole.fresh k new.1) in
+    let began = began g (goal.at.returns-clause-whole g c).After-index_mut-image in
     let shaped = subst (AreShaped set) (sym began) (shaped_put set old.images.items k (begun_at set k head.version) c.requires.whole.images new.0 (default_shaped set k head.version)) in
     record {
       images = shaped_put set c.begin_section.new.staged.images.items k c.read_section.new.image shaped new.0 c.read_section.ensures.shaped;

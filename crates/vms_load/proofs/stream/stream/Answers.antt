@@ -6,11 +6,8 @@ use Rattle.vms_load.proofs.ReadLemmas.{goes_further, goes_on, same_course}
 use Rattle.vms_load.proofs.StreamReads.{refused_before, closed}
 use Rattle.vms_load.proofs.stream.stream.Goals as goal
 
-pub read_head-requires-clause-held : goal.read_head-requires-clause-held
-read_head-requires-clause-held g c = ap (λ (s : Stand). s.held) c.new-cursor.ensures
-
-pub read_head-requires-clause-place : goal.read_head-requires-clause-place
-read_head-requires-clause-place g c = omega (arith, ap (λ (s : Stand). s.at) c.new-cursor.ensures)
+pub read_head-requires : goal.read_head-requires
+read_head-requires g c = record { held = ap (λ (s : Stand). s.held) c.new-cursor.ensures; place = omega (arith, ap (λ (s : Stand). s.at) c.new-cursor.ensures) }
 
 pub returns-in_err-read_head-clause-reads : goal.returns-in_err-read_head-clause-reads
 returns-in_err-read_head-clause-reads g c =
@@ -25,14 +22,14 @@ returns-in_err-read_head-clause-reads g c =
     (λ input left h. refused_before set names {X = Unit {0}} c.restart.new.staged start (Some input) (Some left) (λ x. go (state_of set c.restart.new.staged (Free true false))) c.new-cursor.result c.read_head.new.cursor e
     c.restart.ensures.state (ap (λ (s : Stand). s.at) c.new-cursor.ensures) (ap (λ (s : Stand). s.held) c.new-cursor.ensures) h) (c.in_err-read_head.ensures.reads set names start))
 
-pub sections-requires-clause-place : goal.sections-requires-clause-place
-sections-requires-clause-place g c =
+pub sections-requires-clause-set : goal.sections-requires-clause-set
+sections-requires-clause-set g c = record { machine = c.requires.machine; whole = c.restart.ensures.whole }
+
+pub sections-requires-clause-cursor : goal.sections-requires-clause-cursor
+sections-requires-clause-cursor g c =
     let set = described c.args.set.now in
     let due = start_due set c.restart.ensures.state in
-    omega (arith, due, most_small set c.args.set.now.well_formed, c.in_ok-read_head.ensures.moves, ap reach c.new-cursor.ensures)
-
-pub sections-requires-clause-held : goal.sections-requires-clause-held
-sections-requires-clause-held g c = c.in_ok-read_head.ensures.held
+    record { held = c.in_ok-read_head.ensures.held; place = omega (arith, due, most_small set c.args.set.now.well_formed, c.in_ok-read_head.ensures.moves, ap reach c.new-cursor.ensures) }
 
 pub returns-in_err-sections-clause-reads : goal.returns-in_err-sections-clause-reads
 returns-in_err-sections-clause-reads g c =

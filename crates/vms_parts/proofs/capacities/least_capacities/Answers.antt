@@ -1,7 +1,5 @@
-use Rattle.std.proofs.Common.{◌≡◌, ◌+◌, List, ℕ, Option, None, length, get_or, drop, take, ◌++◌, map, ap, ◌∙◌, arith}
-use Rattle.vms_spec.specs.Layout.{counted}
-use Rattle.vms_parts.specs.Views.{field_of}
-use Rattle.vms_parts.specs.Capacities.{least_from, counted_in}
+use Rattle.vms_parts.proofs.Facade.{◌≡◌, ◌+◌, List, ℕ, Option, None, length, get_or, drop, take, ◌++◌, map, ap, ◌∙◌, arith, counted, field_of, least_from}
+use Rattle.vms_parts.proofs.Facade.{counted_in}
 use Rattle.vms_parts.proofs.CapacityLaws.{least_more, counted_long, written_back}
 use Rattle.vms_parts.proofs.capacities.least_capacities.Goals as goal
 

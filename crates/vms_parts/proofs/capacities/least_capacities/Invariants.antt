@@ -1,7 +1,4 @@
-use Rattle.std.proofs.Common.{◌≡◌, ℕ, ◌<◌, length, map, drop, get_or, None}
-use Rattle.vms_spec.specs.Layout.{counted}
-use Rattle.vms_parts.specs.Views.{field_of}
-use Rattle.vms_parts.specs.Capacities.{least_from, least_of}
+use Rattle.vms_parts.proofs.Facade.{◌≡◌, ℕ, ◌<◌, length, map, drop, get_or, None, counted, field_of, least_from, least_of}
 use Rattle.vms_parts.proofs.capacities.least_capacities.Given as goal
 
 abbrev pub invariant-loop-field : goal.invariant-loop-field

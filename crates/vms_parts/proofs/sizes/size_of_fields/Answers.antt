@@ -1,8 +1,4 @@
-use Rattle.std.proofs.Common.{ℕ, List, map, refl, ◌*◌}
-use Rattle.vms_spec.specs.Layout.{capacity_of}
-use Rattle.vms_parts.specs.declared.types.Field.{Field}
-use Rattle.vms_parts.specs.Sizes.{size_of, fields_size}
-use Rattle.vms_parts.specs.Views.{field_of}
+use Rattle.vms_parts.proofs.Facade.{ℕ, List, map, refl, ◌*◌, capacity_of, Field, size_of, fields_size, field_of}
 use Rattle.vms_parts.proofs.SizeLaws.{sum_ends}
 use Rattle.vms_parts.proofs.sizes.size_of_fields.Goals as goal
 

@@ -1,6 +1,4 @@
-use Rattle.std.proofs.Common.{◌≡◌, map, drop, ◌+◌, ◌<◌, ◌^◌}
-use Rattle.vms_parts.specs.Sizes.{in_u32, fields_size}
-use Rattle.vms_parts.specs.Views.{field_of}
+use Rattle.vms_parts.proofs.Facade.{◌≡◌, map, drop, ◌+◌, ◌<◌, ◌^◌, in_u32, fields_size, field_of}
 use Rattle.vms_parts.proofs.sizes.size_of_fields.Given as goal
 
 abbrev pub invariant-loop-field : goal.invariant-loop-field

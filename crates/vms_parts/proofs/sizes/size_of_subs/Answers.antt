@@ -1,8 +1,4 @@
-use Rattle.std.proofs.Common.{◌≡◌, ◌+◌, List, ℕ, map, refl, ap, ◌∙◌, arith}
-use Rattle.vms_parts.specs.declared.types.Field.{Field}
-use Rattle.vms_parts.specs.declared.types.Sub.{Sub}
-use Rattle.vms_parts.specs.Sizes.{in_u32, fields_size, subs_size}
-use Rattle.vms_parts.specs.Views.{field_of, sub_of}
+use Rattle.vms_parts.proofs.Facade.{◌≡◌, ◌+◌, List, ℕ, map, refl, ap, ◌∙◌, arith, Field, Sub, in_u32, fields_size, subs_size, field_of, sub_of}
 use Rattle.vms_parts.proofs.SizeLaws.{sum_ends, sum_goes}
 use Rattle.vms_parts.proofs.sizes.size_of_subs.Goals as goal
 

@@ -1,6 +1,4 @@
-use Rattle.std.proofs.Common.{◌≡◌, map, drop, ◌+◌, ◌<◌, ◌^◌}
-use Rattle.vms_parts.specs.Sizes.{in_u32, subs_size}
-use Rattle.vms_parts.specs.Views.{sub_of}
+use Rattle.vms_parts.proofs.Facade.{◌≡◌, map, drop, ◌+◌, ◌<◌, ◌^◌, in_u32, subs_size, sub_of}
 use Rattle.vms_parts.proofs.sizes.size_of_subs.Given as goal
 
 abbrev pub invariant-loop-sub : goal.invariant-loop-sub

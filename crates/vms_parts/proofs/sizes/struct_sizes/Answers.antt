@@ -1,8 +1,4 @@
-use Rattle.std.proofs.Common.{ap, ◌∙◌, map, List, ℕ}
-use Rattle.vms_spec.specs.Layout.{first}
-use Rattle.vms_parts.specs.declared.types.Field.{Field}
-use Rattle.vms_parts.specs.Views.{field_of}
-use Rattle.vms_parts.specs.Sizes.{in_u32, fields_size}
+use Rattle.vms_parts.proofs.Facade.{ap, ◌∙◌, map, List, ℕ, first, Field, field_of, in_u32, fields_size}
 use Rattle.vms_parts.proofs.SizeLaws.{sizes_more}
 use Rattle.vms_parts.proofs.sizes.struct_sizes.Goals as goal
 

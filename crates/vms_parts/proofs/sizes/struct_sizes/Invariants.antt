@@ -1,6 +1,4 @@
-use Rattle.std.proofs.Common.{◌≡◌, map}
-use Rattle.vms_parts.specs.Sizes.{in_u32, sizes_to}
-use Rattle.vms_parts.specs.Views.{desc_of}
+use Rattle.vms_parts.proofs.Facade.{◌≡◌, map, in_u32, sizes_to, desc_of}
 use Rattle.vms_parts.proofs.sizes.struct_sizes.Given as goal
 
 abbrev pub invariant-loop-desc : goal.invariant-loop-desc

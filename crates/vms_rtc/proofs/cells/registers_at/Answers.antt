@@ -5,7 +5,7 @@ pub loop-k-preserved : goal.loop-k-preserved
 loop-k-preserved c = record {
   len = simp length-set c.loop-k.invariant.len;
   set = one_set (register_in c.args.cells.now.items) c.loop-k.cmos c.loop-k.k _
-      (omega (arith, c.loop-k.invariant.len, c.loop-k-test.true)) c.register_at.ensures c.loop-k.invariant.set;
+      (omega arith) c.register_at.ensures c.loop-k.invariant.set;
 }
 
 pub returns : goal.returns

@@ -15,7 +15,7 @@ device_is c =
     (cc (c.index-as_slice-number.is, c.as_slice-2.ensures))
 
 structs_are : (c : After-as_slice) → length c.as_slice.result.now ≡ length (set_of c.args.parts.now).structs
-structs_are c = ap length c.as_slice.ensures ∙ sym (length-map c.args.parts.now.structs desc_of)
+structs_are c = cc (c.as_slice.ensures, length-map c.args.parts.now.structs desc_of)
 
 -- its own rules hold
 own_good : (c : In_ok-lowest)
@@ -46,16 +46,14 @@ returns-in_err-check_inside c =
     let e = c.in_err-check_inside.field-0.0 in
     let same = device_is (goal.at.returns-in_err-check_inside c).After-index-as_slice-number in
     let structs = structs_are (goal.at.returns-in_err-check_inside c).After-as_slice in
-    let good = own_good (goal.at.returns-in_err-check_inside c).In_ok-lowest in
     let first : IsFirst (inside (length set.structs) (device_at set i) i) e = rw same (rw structs at c.in_err-check_inside.ensures) in
     stops_by (device_fault set i (device_at set i)) c.from_residual-in_err-check_inside.result e c.from_residual-in_err-check_inside.ensures.1
-    (inside_stops set i (device_at set i) good e first)
+    (inside_stops set i (device_at set i) (own_good (goal.at.returns-in_err-check_inside c).In_ok-lowest) e first)
 
 pub returns : goal.returns
 unfolding inside
 returns c =
-    let p = c.args.parts.now in
-    let set = set_of p in
+    let set = set_of c.args.parts.now in
     let i = c.args.number in
     let x = c.index-as_slice-number.result in
     let same = device_is (goal.at.returns c).After-index-as_slice-number in

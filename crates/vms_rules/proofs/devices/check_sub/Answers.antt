@@ -29,8 +29,7 @@ returns c =
     let s = sub_at device j in
     let x = c.index-as_slice-number.result in
     let is : x ≡ get_or w.device.now.subs j x = cc (c.index-as_slice-number.is, c.as_slice.ensures) in
-    let same : s ≡ sub_of x = get_map_at sub_of w.device.now.subs j x (record { desc = no_desc; needed = sets.AtLeast 0 }) c.requires.there is in
     let good : failing 1 (sub_rules device j s) (here part) ≡ None = cc (c.here.ensures, c.sub_rules.ensures, c.in_ok-lowest.ensures) in
     judged_after (failing 1 (sub_rules device j s) (here part))
     (or_else (fields_fault w.structs s.desc part) (validations_fault s.desc part)) c.check_inside.result good
-    (rw same c.check_inside.ensures)
+    (rw (get_map_at sub_of w.device.now.subs j x (record { desc = no_desc; needed = sets.AtLeast 0 }) c.requires.there is) c.check_inside.ensures)

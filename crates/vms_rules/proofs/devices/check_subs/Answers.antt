@@ -24,7 +24,6 @@ sub_is c =
 pub returns-in_err-check_sub : goal.returns-in_err-check_sub
 returns-in_err-check_sub c =
     let w = c.args.within in
-    let subs = w.device.now.subs in
     let d = device_of w.device.now in
     let s = c.sub-item.result in
     let i = c.loop-number.number in
@@ -33,7 +32,7 @@ returns-in_err-check_sub c =
     let first : IsFirst (sub_fault w.structs w.number d i (sub_of s)) e = rw of.at at c.in_err-check_sub.ensures in
     let whole = subs_from w.structs w.number d 0 d.subs in
     stops_by whole c.from_residual-in_err-check_sub.result e c.from_residual-in_err-check_sub.ensures.1
-    (place_stops (sub_fault w.structs w.number d) sub_of subs i s whole e of.lt of.is first c.loop-number.invariant.good)
+    (place_stops (sub_fault w.structs w.number d) sub_of w.device.now.subs i s whole e of.lt of.is first c.loop-number.invariant.good)
 
 pub loop-number-preserved : goal.loop-number-preserved
 loop-number-preserved c =
@@ -44,10 +43,9 @@ loop-number-preserved c =
     let i = c.loop-number.number in
     let of = sub_is (goal.at.loop-number-preserved c).After-sub-item in
     let good : sub_fault w.structs w.number d i (sub_of s) ≡ None = cc (of.at, c.in_ok-check_sub.ensures) in
-    let after = rw c.as_str.ensures at c.in_ok-is_new.ensures.added in
     record {
       names = names_so_far sub_of (λ e. e.desc.name) subs i s (has_name c.loop-number.names)
-          (has_name c.add_name.new.names) of.lt of.is c.loop-number.invariant.names after;
+          (has_name c.add_name.new.names) of.lt of.is c.loop-number.invariant.names (rw c.as_str.ensures at c.in_ok-is_new.ensures.added);
       good = place_good (sub_fault w.structs w.number d) sub_of subs i s
           (subs_from w.structs w.number d 0 d.subs) of.lt of.is good c.loop-number.invariant.good;
     }

@@ -7,4 +7,4 @@ returns c =
     let fields = c.args.judged.desc.now.fields in
     c.default_fits.ensures
     ∙ least_fits (map field_of fields) c.args.judged.capacities.now c.args.number c.args.field.now.default c.requires.least
-    (omega (arith, c.requires.there, length-map fields field_of))
+    (omega (arith, length-map fields field_of))

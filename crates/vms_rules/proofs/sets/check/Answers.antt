@@ -32,16 +32,14 @@ pub returns-in_err-check_devices : goal.returns-in_err-check_devices
 returns-in_err-check_devices c =
     let set = set_of c.args.parts.now in
     let e = c.in_err-check_devices.field-0.0 in
-    let good = own_good (goal.at.returns-in_err-check_devices c).In_ok-lowest in
     let structs = structs_good (goal.at.returns-in_err-check_devices c).In_ok-check_structs in
     stops_by (first_fault set) c.from_residual-in_err-check_devices.result e c.from_residual-in_err-check_devices.ensures.1
-    (devices_stop set e good structs c.in_err-check_devices.ensures)
+    (devices_stop set e (own_good (goal.at.returns-in_err-check_devices c).In_ok-lowest) structs c.in_err-check_devices.ensures)
 
 pub returns : goal.returns
 returns c =
     let set = set_of c.args.parts.now in
-    let good = own_good (goal.at.returns c).In_ok-lowest in
     let structs = structs_good (goal.at.returns c).In_ok-check_structs in
     let left : first_fault set ≡ failing 1 c.in_ok-size_rules.field-0 c.here-place.result =
-    cc (items_left set good structs c.in_ok-check_devices.ensures, c.in_ok-size_rules.ensures, c.here-place.ensures) in
+    cc (items_left set (own_good (goal.at.returns c).In_ok-lowest) structs c.in_ok-check_devices.ensures, c.in_ok-size_rules.ensures, c.here-place.ensures) in
     rw left c.lowest-2.ensures

@@ -17,13 +17,11 @@ loop-device-preserved c =
     let sizes = c.args.sizes.now in
     let d = c.device-item.result in
     let own : c.size_of_fields-own.result ≡ in_u32 (items_in sizes (map field_of d.desc.fields)) =
-    c.size_of_fields-own.ensures ∙ ap (λ (l : List Field). in_u32 (fields_size Items sizes (map field_of l))) c.as_slice.ensures ∙ ap in_u32
-    (sym (items_are sizes (map field_of d.desc.fields))) in
+    cc (c.size_of_fields-own.ensures, c.as_slice.ensures, items_are sizes (map field_of d.desc.fields)) in
     let subs : c.size_of_subs-subs.result ≡ in_u32 (subs_items sizes (map sub_of d.subs)) =
-    c.size_of_subs-subs.ensures ∙ ap (λ (l : List Sub). in_u32 (subs_size Items sizes (map sub_of l))) c.as_slice-in-loop-device.ensures ∙ ap in_u32
-    (sym (subs_are sizes (map sub_of d.subs))) in
+    cc (c.size_of_subs-subs.ensures, c.as_slice-in-loop-device.ensures, subs_are sizes (map sub_of d.subs)) in
     let has : c.saturating_add-sum.result ≡ in_u32 (c.loop-device.sum + one sizes d) =
-    let first = c.saturating_add.ensures in let sum = c.saturating_add-sum.ensures in omega (arith, first, sum, own, subs) in
+    let first = c.saturating_add.ensures in omega arith in
     record {
       small = c.saturating_add-sum.type_inv;
       whole = sum_goes (whole sizes) (one sizes) refl

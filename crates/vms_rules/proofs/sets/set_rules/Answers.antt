@@ -5,11 +5,9 @@ use Rattle.vms_rules.proofs.sets.set_rules.Goals as goal
 pub returns : goal.returns
 returns c =
     let machines = c.args.parts.now.machines in
-    let names : c.are_names.result ≡ list_all (is_name 64) machines =
-    c.are_names.ensures ∙ ap (λ (l : List (List ℕ)). list_all (is_name 64) l) c.as_slice-machines.ensures in
+    let names : c.are_names.result ≡ list_all (is_name 64) machines = cc (c.are_names.ensures, c.as_slice-machines.ensures) in
     let new : c.in_ok-are_new.are_new ≡ are_distinct machines =
-    c.in_ok-are_new.ensures.new ∙ ap (λ (l : List (List ℕ)). are_new_to (has_name c.new-names.result) l) c.as_slice-machines.ensures
-    ∙ distinct_is (has_name c.new-names.result) machines (empty_has_none c.new-names.result c.new-names.ensures.empty) in
+    cc (c.in_ok-are_new.ensures.new, c.as_slice-machines.ensures, distinct_is (has_name c.new-names.result) machines (empty_has_none c.new-names.result c.new-names.ensures.empty)) in
     ap (λ (b : Bool). b ∷ c.in_ok-are_new.are_new ∷ true ∷ true ∷ true ∷ true ∷ c.has_few_parts.result ∷ true ∷ []) names
     ∙ ap (λ (b : Bool). list_all (is_name 64) machines ∷ b ∷ true ∷ true ∷ true ∷ true ∷ c.has_few_parts.result ∷ true ∷ []) new
     ∙ ap (λ (b : Bool). list_all (is_name 64) machines ∷ are_distinct machines ∷ true ∷ true ∷ true ∷ true ∷ b ∷ true ∷ []) c.has_few_parts.ensures

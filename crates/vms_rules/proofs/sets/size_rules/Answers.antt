@@ -8,9 +8,7 @@ returns c =
     let set = set_of c.args.parts.now in
     let sizes = c.in_ok-sizes.sizes.items in
     let made : sizes ≡ map in_u32 (sizes_to Items set.structs (length set.structs)) =
-    c.in_ok-sizes.ensures ∙ ap (λ (l : List Desc). map in_u32 (sizes_to Items (map desc_of l) (length l))) c.as_slice.ensures
-    ∙ ap (λ (n : ℕ). map in_u32 (sizes_to Items set.structs n)) (sym (length-map c.args.parts.now.structs desc_of)) in
+    cc (c.in_ok-sizes.ensures, c.as_slice.ensures, length-map c.args.parts.now.structs desc_of) in
     let items : c.devices_items-items.result ≡ in_u32 (devices_items sizes set.devices) =
-    c.devices_items-items.ensures ∙ ap (λ (l : List ℕ). in_u32 (devices_items l (map device_of c.as_slice-3.result.now))) c.as_slice-2.ensures.value
-    ∙ ap (λ (l : List Device). in_u32 (devices_items sizes (map device_of l))) c.as_slice-3.ensures in
+    cc (c.devices_items-items.ensures, c.as_slice-2.ensures.value, c.as_slice-3.ensures) in
     ap (λ (b : Bool). true ∷ true ∷ true ∷ true ∷ true ∷ true ∷ b ∷ true ∷ []) (few_items set.structs set.devices sizes c.devices_items-items.result made items)

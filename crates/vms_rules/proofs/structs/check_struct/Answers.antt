@@ -21,8 +21,7 @@ returns c =
     let i = c.args.number in
     let d = desc_at structs i in
     let x = c.index-structs-number.result in
-    let same : d ≡ desc_of x = get_map_at desc_of c.args.structs.now i x no_desc c.requires.there c.index-structs-number.is in
     let good : failing 1 (struct_rules structs i d) (here (Struct i)) ≡ None = cc (c.here.ensures, c.requires.rules, c.in_ok-lowest.ensures) in
     judged_after (failing 1 (struct_rules structs i d) (here (Struct i)))
     (or_else (fields_fault i d (Struct i)) (validations_fault d (Struct i))) c.check_inside.result good
-    (rw same c.check_inside.ensures)
+    (rw (get_map_at desc_of c.args.structs.now i x no_desc c.requires.there c.index-structs-number.is) c.check_inside.ensures)

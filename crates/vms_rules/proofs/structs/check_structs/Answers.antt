@@ -24,10 +24,9 @@ returns-in_err-check_struct c =
     let i = c.loop-number.number in
     let e = c.in_err-check_struct.field-0.0 in
     let here = desc_is (goal.at.returns-in_err-check_struct c).After-index-structs-number in
-    let first : IsFirst (struct_fault ds i (desc_of d)) e = rw here at c.in_err-check_struct.ensures in
     stops_by (structs_from ds 0 ds) c.from_residual-in_err-check_struct.result e c.from_residual-in_err-check_struct.ensures.1
     (place_stops (struct_fault ds) desc_of structs i d
-    (structs_from ds 0 ds) e c.loop-number-test.true c.index-structs-number.is first c.loop-number.invariant.good)
+    (structs_from ds 0 ds) e c.loop-number-test.true c.index-structs-number.is (rw here at c.in_err-check_struct.ensures) c.loop-number.invariant.good)
 
 pub loop-number-preserved : goal.loop-number-preserved
 loop-number-preserved c =

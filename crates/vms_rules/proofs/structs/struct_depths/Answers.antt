@@ -14,8 +14,7 @@ overflow_add-deepest c =
     let depths = c.loop-desc.depths.items in
     let fields = map field_of c.as_slice.result.now in
     let is : c.deepest.result ≡ deepest depths fields = cc (c.deepest.ensures, c.deref.ensures.value) in
-    let small : deepest depths fields ≤ c.loop-desc.desc-index = deepest_small depths c.loop-desc.desc-index fields c.loop-desc.invariant.small in
-    omega (arith, is, small)
+    omega (arith, deepest_small depths c.loop-desc.desc-index fields c.loop-desc.invariant.small)
 
 pub loop-desc-preserved : goal.loop-desc-preserved
 loop-desc-preserved c =
@@ -26,8 +25,6 @@ loop-desc-preserved c =
     cc (c.deepest.ensures, c.deref.ensures.value, c.as_slice.ensures) in
     let small : deepest depths (map field_of d.fields) ≤ i = deepest_small depths i (map field_of d.fields) c.loop-desc.invariant.small in
     record {
-      depths = c.in_ok-push.ensures.items
-          ∙ depths_more c.args.structs.now depths i (1 + c.deepest.result) d c.loop-desc-test.true c.desc-item.is c.loop-desc.invariant.depths
-          (ap (λ (n : ℕ). 1 + n) is);
-      small = λ j. rw c.in_ok-push.ensures.items (depths_small depths i (1 + c.deepest.result) j c.loop-desc.invariant.small (omega (arith, is, small)));
+      depths = cc (c.in_ok-push.ensures.items, depths_more c.args.structs.now depths i (1 + c.deepest.result) d c.loop-desc-test.true c.desc-item.is c.loop-desc.invariant.depths (ap (λ (n : ℕ). 1 + n) is));
+      small = λ j. rw c.in_ok-push.ensures.items (depths_small depths i (1 + c.deepest.result) j c.loop-desc.invariant.small (omega arith));
     }

@@ -1,9 +1,4 @@
-use Rattle.std.proofs.Common.{◌≡◌, ℕ, List, [], None, sym, ap, subst, ◌∙◌}
-use Rattle.dev_board.specs.State.{State}
-use Rattle.dev_board.specs.Step.{acted, after_act, step, waited}
-use Rattle.dev_board.specs.Touch.{saying}
-use Rattle.dev_board.specs.declared.event.Answer.{Answer}
-use Rattle.dev_board.specs.declared.event.Event.TheVariants.{Wait}
+use Rattle.dev_board.proofs.Facade.{◌≡◌, ℕ, List, [], None, sym, ap, subst, ◌∙◌, State, acted, after_act, step, waited, saying, Answer, Wait}
 use Rattle.dev_board.proofs.devices.Devices.pass.Goals as goal
 
 -- A wait in which no byte leaves says the output alone.

@@ -1,9 +1,4 @@
-use Rattle.std.proofs.Common.{◌≡◌, ℕ, Bool, true, false, not, List, [], refl, ap, subst}
-use Rattle.dev_serial.proofs.WaitLaws.{still}
-use Rattle.dev_serial.specs.Access.{advanced}
-use Rattle.dev_serial.specs.Port.{Port}
-use Rattle.dev_board.specs.State.{State}
-use Rattle.dev_board.specs.Step.{acted, after_act, step, waited}
+use Rattle.dev_board.proofs.Facade.{◌≡◌, ℕ, Bool, true, false, not, List, [], refl, ap, subst, still, advanced, Port, State, acted, after_act, step, waited}
 use Rattle.dev_board.proofs.parts.Parts.sends_by.Goals as goal
 
 holds : (b : Bool) → not b ≡ false → b ≡ true

@@ -14,10 +14,10 @@ pub loop-item-preserved : goal.loop-item-preserved
 loop-item-preserved g c =
     more_goes g.T.Sought.wants c.args.items.now c.loop-item.item-index c.item-item.result
     c.args.self.now c.loop-item.self c.seek.new.walk c.loop-item-test.true c.loop-item.invariant
-    (subst (λ (x : g.row.T.Denot). Goes (g.T.Sought.wants x) c.loop-item.self c.seek.new.walk) c.item-item.is c.in_default.ensures.ok)
+    (subst (λ (x : g.row.T.Denot). Goes (g.T.Sought.wants x) c.loop-item.self c.seek.new.walk) c.item-item.is c.in_default.ensures)
 
-pub returns-in-Err-clause-err : goal.returns-in-Err-clause-err
-returns-in-Err-clause-err g c =
+pub returns-in-Err : goal.returns-in-Err
+returns-in-Err g c =
     one_stops g.T.Sought.wants c.args.items.now c.loop-item.item-index c.item-item.result
     c.args.self.now c.loop-item.self c.seek.new.walk c.in-Err.stop c.loop-item-test.true c.loop-item.invariant
-    (subst (λ (x : g.row.T.Denot). WhyStopped (g.T.Sought.wants x) c.loop-item.self c.seek.new.walk c.in-Err.stop) c.item-item.is c.in-Err.ensures.err)
+    (subst (λ (x : g.row.T.Denot). WhyStopped (g.T.Sought.wants x) c.loop-item.self c.seek.new.walk c.in-Err.stop) c.item-item.is c.in-Err.ensures)

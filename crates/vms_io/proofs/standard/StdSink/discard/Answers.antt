@@ -1,4 +1,4 @@
-use Rattle.std.proofs.Common.{refl}
+use Rattle.vms_io.proofs.Facade.{refl}
 use Rattle.vms_io.proofs.Gathering.{dropped, told_empty}
 use Rattle.vms_io.proofs.standard.StdSink.discard.Goals as goal
 

@@ -1,4 +1,4 @@
-use Rattle.std.proofs.Common.{◌≡◌, ◌+◌, ◌∙◌, ◌++◌, ◌≤◌, ap, rules, arith, take, take_all, length, List, ℕ}
+use Rattle.vms_io.proofs.Facade.{◌≡◌, ◌+◌, ◌∙◌, ◌++◌, ◌≤◌, ap, rules, arith, take, take_all, length, List, ℕ}
 use Rattle.vms_io.proofs.Filling.{take-put_mid_more}
 use Rattle.vms_io.proofs.Gathering.{gathers}
 use Rattle.vms_io.proofs.standard.StdSink.gather.Goals as goal

@@ -1,6 +1,4 @@
-use Rattle.std.proofs.Common.{◌≡◌}
-use Rattle.std.specs.Io.KnownBytes.{Keeps}
-use Rattle.vms_io.specs.Gathered.{told, between}
+use Rattle.vms_io.proofs.Facade.{◌≡◌, Keeps, told, between}
 use Rattle.vms_io.proofs.standard.StdSink.hand_on.Given as goal
 
 abbrev pub invariant-loop : goal.invariant-loop

@@ -1,4 +1,4 @@
-use Rattle.std.proofs.Common.{rules, arith, ◌≤◌, length}
+use Rattle.vms_io.proofs.Facade.{rules, arith, ◌≤◌, length}
 use Rattle.vms_io.proofs.Ahead.{given_on}
 use Rattle.vms_io.proofs.standard.StdSource.give.Goals as goal
 

@@ -13,5 +13,4 @@ loop-item-preserved c =
 pub returns : goal.returns
 returns c =
     let l = c.loop-item in
-    let all : l.count + 0 ≡ l.count = omega arith in
-    sym (l.invariant.0 ∙ ap (λ rest. l.count + items_len rest) c.in_default.ensures.value ∙ all)
+    sym (l.invariant.0 ∙ ap (λ rest. l.count + items_len rest) c.in_default.ensures.value ∙ (omega arith))

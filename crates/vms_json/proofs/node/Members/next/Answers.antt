@@ -7,10 +7,7 @@ pub returns-in_default-clause-value : goal.returns-in_default-clause-value
 returns-in_default-clause-value c found = no_member_left c.args.self.now.rows.now found (grind arith)
 
 pub returns-in_default-key-clause-value : goal.returns-in_default-key-clause-value
-returns-in_default-key-clause-value c found =
-    let is : c.args.self.now.rows.now ≡ c.in-Some.row.now ∷ c.in-Some.rows.now = grind arith in
-    let none : key_at c.in-Some.row.now ≡ None = sym c.in_default-key.ensures in
-    no_member_at _ c.in-Some.rows.now c.in-Some.row.now found is none
+returns-in_default-key-clause-value c found = no_member_at _ c.in-Some.rows.now c.in-Some.row.now found (grind arith) (sym c.in_default-key.ensures)
 
 pub returns-clause-value : goal.returns-clause-value
 returns-clause-value c found =

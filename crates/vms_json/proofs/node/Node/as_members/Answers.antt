@@ -5,13 +5,11 @@ use Rattle.vms_json.proofs.node.Node.as_members.Goals.{in_default-via-in-Some+el
 
 pub returns-in-Some : goal.returns-in-Some
 returns-in-Some c =
-    let is : is_object c.in-Some.row.now ≡ true = sym c.is_object.ensures ∙ c.if-is_object.true in
-    sym ((says c.args.self.rows.now c.in-Some.rows.now c.in-Some.row.now (grind arith)).members ∙ rw is)
+    sym ((says c.args.self.rows.now c.in-Some.rows.now c.in-Some.row.now (grind arith)).members ∙ rw (sym c.is_object.ensures ∙ c.if-is_object.true))
 
 pub returns-in_default : goal.returns-in_default
 returns-in_default c = elim c.in_default.branch [
   | in_default-via-in-Some+else-is_object w ↦
-      let no : is_object w.in-Some.row.now ≡ false = sym w.is_object.ensures ∙ w.if-is_object.false in
-      sym ((says c.args.self.rows.now w.in-Some.rows.now w.in-Some.row.now (grind arith)).members ∙ rw no)
+      sym ((says c.args.self.rows.now w.in-Some.rows.now w.in-Some.row.now (grind arith)).members ∙ rw (sym w.is_object.ensures ∙ w.if-is_object.false))
   | in_default-via-in_default w ↦ sym (none_in as_object c.args.self.rows.now (grind arith) refl)
 ]

@@ -5,24 +5,22 @@ use Rattle.vms_json.proofs.parse.Laid.end.Goals.{then-self, else-self, In-Some, 
 
 -- the remaining open ones begin below the innermost, which begins below the end
 below : (c : goal.In-Some) → AreBelow c.pop.new.self.items (length c.args.self.now.rows.items) × (c.in-Some.at < length c.args.self.now.rows.items)
-below c =
-    let rows = c.args.self.now.rows.items in
-    below_front c.pop.new.self.items c.in-Some.at (length rows) (subst (λ l. AreBelow l (length rows)) c.in-Some.ensures.items c.requires)
+below c = below_front c.pop.new.self.items c.in-Some.at (length c.args.self.now.rows.items) (rw c.in-Some.ensures.items at c.requires)
 
 within : (c : goal.In-Some) (r : Row) → AreBelow c.pop.new.self.items (length (slice_set c.args.self.now.rows.items c.in-Some.at r))
-within c r = subst (AreBelow c.pop.new.self.items) (sym (length-set c.args.self.now.rows.items c.in-Some.at r)) (below c).0
+within c r = rw (length-set c.args.self.now.rows.items c.in-Some.at r) (below c).0
 
 own : (c : goal.After-len) → c.len.result - c.in-Some.at ≡ length c.args.self.now.rows.items - c.in-Some.at
-own c = ap (λ n. n - c.in-Some.at) (c.len.ensures ∙ c.args.self.now.rows.ok.0)
+own c = rw (c.len.ensures ∙ c.args.self.now.rows.ok.0)
 
 told : (c : goal.After-is_in_list-self) → IsTold (slice_set c.args.self.now.rows.items c.in-Some.at c.if-self.row) c.pop.new.self.items c.is_in_list-self.result
 told c = record { none = c.is_in_list-self.ensures.none; some = c.is_in_list-self.ensures.some }
 
 pub overflow_sub-count : goal.overflow_sub-count
-overflow_sub-count c = omega (arith, (below (goal.at.overflow_sub-count c).In-Some).1, c.len.ensures, c.args.self.now.rows.ok.0)
+overflow_sub-count c = omega (arith, (below (goal.at.overflow_sub-count c).In-Some).1)
 
 pub index_mut-requires : goal.index_mut-requires
-index_mut-requires c = omega (arith, (below (goal.at.index_mut-requires c).In-Some).1, c.args.self.now.rows.ok.0)
+index_mut-requires c = omega (arith, (below (goal.at.index_mut-requires c).In-Some).1)
 
 pub is_in_list-self-requires : goal.is_in_list-self-requires
 is_in_list-self-requires c = within (goal.at.is_in_list-self-requires c).In-Some c.if-self.row

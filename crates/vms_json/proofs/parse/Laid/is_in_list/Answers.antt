@@ -6,7 +6,7 @@ pub index-requires : goal.index-requires
 index-requires c =
     let s = c.args.self.now in
     let at = c.in-Some.ensures.value ∙ ap (λ l. slice_get l (length l - 1)) c.deref.ensures.value in
-    omega (arith, s.rows.ok.0, below_at s.begun.items (length s.rows.items) (length s.begun.items - 1) c.in-Some.at.now c.requires at)
+    omega (arith, below_at s.begun.items (length s.rows.items) (length s.begun.items - 1) c.in-Some.at.now c.requires at)
 
 pub returns-in-Some-clause-some : goal.returns-in-Some-clause-some
 returns-in-Some-clause-some c places at none told =

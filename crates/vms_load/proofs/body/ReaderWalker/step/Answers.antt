@@ -11,6 +11,9 @@ old g c = let self = c.args.self.now in told self.image.now self.cursor.now.at (
 abbrev new : (g : Over) (c : goal.After-read_step g) → Told
 new g c = told c.read_step.new.image c.read_step.new.cursor.at (intake g.S.Source c.read_step.new.source)
 
+pub read_step-requires-clause-step : goal.read_step-requires-clause-step
+read_step-requires-clause-step g c = record { inside = c.requires.inside; of_kind = c.requires.may.2 }
+
 pub returns-clause-ok : goal.returns-clause-ok
 returns-clause-ok g c =
     let at = goal.at.returns-clause-ok g c in

@@ -1,8 +1,4 @@
-use Rattle.std.proofs.Common.{subst, List, ℕ}
-use Rattle.std.proofs.lemmas.Map.Text.{btree_map_updates_text}
-use Rattle.std.specs.String.{string_bytes}
-use Rattle.vms_io.specs.Cabinets.{held_in}
-use Rattle.vms_io.specs.Shelves.{PutsUnder}
+use Rattle.vms_io.proofs.Facade.{subst, List, ℕ, btree_map_updates_text, string_bytes, held_in, PutsUnder}
 use Rattle.vms_io.proofs.PutLemmas.{update_puts}
 use Rattle.vms_io.proofs.memory.shelf.MemShelf.put.Goals as goal
 

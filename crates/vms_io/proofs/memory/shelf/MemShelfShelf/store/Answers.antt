@@ -1,6 +1,4 @@
-use Rattle.std.proofs.Common.{rules, ◌≡◌, OnErr}
-use Rattle.vms_io.specs.Cabinets.{held_in}
-use Rattle.vms_io.specs.Shelves.{Held}
+use Rattle.vms_io.proofs.Facade.{rules, ◌≡◌, OnErr, held_in, Held}
 use Rattle.vms_io.proofs.PutLemmas.{unchanged_others}
 use Rattle.vms_io.proofs.memory.shelf.MemShelfShelf.store.Goals as goal
 

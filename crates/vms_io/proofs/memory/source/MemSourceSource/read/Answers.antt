@@ -1,5 +1,4 @@
-use Rattle.std.proofs.Common.{rules, arith, length, length-append, length-drop, ◌≤◌, ◌+◌}
-use Rattle.std.proofs.lemmas.List.{drop_all}
+use Rattle.vms_io.proofs.Facade.{rules, arith, length, length-append, length-drop, ◌≤◌, ◌+◌, drop_all}
 use Rattle.vms_io.proofs.Filling.{left_split}
 use Rattle.vms_io.proofs.memory.source.MemSourceSource.read.Goals as goal
 
