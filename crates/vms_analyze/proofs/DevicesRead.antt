@@ -9,7 +9,8 @@ use Rattle.vms_analyze.proofs.Facade.{fits_four, is_kept, is_good_sub, is_good_d
 use Rattle.vms_analyze.proofs.Facade.{whole_at, sent_keys, kept_keys, unprinted, sent_as, sent_in, kept_as, kept_in, element_in, next, four_at, flag_at}
 use Rattle.vms_analyze.proofs.Facade.{list_at, each, sub_keys, sub_in, subs_in, device_keys, device_in, devices_in, items_of, read, value_in, Tells}
 use Rattle.vms_analyze.specs.Read.{elements_in}
-use Rattle.vms_analyze.proofs.MembersRead.{is_picked, after, first_then, only_is, only_so, text_is, path_is, natural_is, whole_is, whole_back, Says, under, IsPathAt, four_is, flag_is, list_is, each_says, each_back, read_sorted}
+use Rattle.vms_analyze.proofs.MembersRead.{is_picked, after, first_then, only_is, only_so, text_is, path_is, natural_is, whole_is, whole_back, Says, under}
+use Rattle.vms_analyze.proofs.MembersRead.{IsPathAt, four_is, flag_is, list_is, each_says, each_back, read_sorted}
 use Rattle.vms_analyze.proofs.Parts.{sub_parts, sub_from, device_parts, device_from}
 
 -- ---- What is read of an element is the element whose entry the value is, and of each good element's entry that element is read.
@@ -128,12 +129,12 @@ element_says d sorted t e = go (fits sent_keys [] d) (fits kept_keys [] d) refl 
 pub element_back : (t : Told) → is_good t ≡ true → element_in (element_tree t) ≡ Some t
 element_back (Sent path kind) e =
     first_then _ (only_so (is_path LONGEST_PATH path) path e)
-    (ap (sent_as path (width kind) (kind_word kind)) (word_named kind) ∙ only_so (width kind == width kind) (Sent path kind) (eq-eqb (width kind) (width kind) refl))
+    (rw (word_named kind) (only_so (width kind == width kind) (Sent path kind) (eq-eqb (width kind) (width kind) refl)))
 element_back (Kept path kind value) e =
     let p = and_parts (is_path LONGEST_PATH path) (in_range kind value) e in
     first_then _ (only_so (is_path LONGEST_PATH path) path p.0)
     (first_then _ (whole_back value)
-    (ap (kept_as path 0 value) (word_named kind) ∙ only_so (in_range kind value) (Kept path kind value) p.1))
+    (rw (word_named kind) (only_so (in_range kind value) (Kept path kind value) p.1)))
 element_back (Fixed path n) e =
     let fixed = n == 1 || n == 2 || n == 4 || n == 8 in
     let p = and_parts (is_path LONGEST_PATH path) fixed e in
@@ -182,11 +183,11 @@ module _ {A : Type 0} (tree : A → Data) (good : A → Bool) (says : Data → O
       record { is = list_is (get key d) a.value a.first ∙ ap array s.trees_are; fine = s.good_are }
 
 entries_back : (ts : List Told) → list_all is_good ts ≡ true → each element_in (items_of (map entry_tree (map told_entry ts))) ≡ Some ts
-entries_back ts h = ap (λ (l : List Data). each element_in (items_of l)) (map-map entry_tree told_entry ts) ∙ each_back element_tree is_good element_in element_back ts h
+entries_back ts h = rw (map-map entry_tree told_entry ts) (each_back element_tree is_good element_in element_back ts h)
 
 entries_are : (d : Data) (ts : List Told) → under (codes "fields") d ≡ list_tree element_tree ts
     → under (codes "fields") d ≡ list_tree entry_tree (map told_entry ts)
-entries_are d ts e = e ∙ ap (λ (l : List Data). array (items_of l)) (sym (map-map entry_tree told_entry ts))
+entries_are d ts e = rw (map-map entry_tree told_entry ts) e
 
 -- ---- subsections
 

@@ -13,7 +13,8 @@ use Rattle.vms_analyze.proofs.Facade.{struct_depths, items_in, deepest, subs_ite
 use Rattle.vms_analyze.proofs.Facade.{device_clean, sub_clean, member_long, AreLong, longer, entries_few, entries_long, fit, part_sound, fields_flat}
 use Rattle.vms_analyze.proofs.Facade.{LONGEST_PATH, FitsHeads, device_at, is_well_formed, few_items, all_both}
 use Rattle.vms_elements.specs.Elements.{Number, Element}
-use Rattle.vms_analyze.proofs.Letters.{named_path, IsNamed, named_within, name_named, sub_named, IsGoodWhat, HasPath, IsGoodElement, IsGoodField, AreGoodFields, elements_good}
+use Rattle.vms_analyze.proofs.Letters.{named_path, IsNamed, named_within, name_named, sub_named, IsGoodWhat, HasPath, IsGoodElement, IsGoodField, AreGoodFields}
+use Rattle.vms_analyze.proofs.Letters.{elements_good}
 use Rattle.vms_analyze.proofs.Parts.{sub_from, device_from, all_at}
 use Rattle.vms_kinds.specs.declared.Kind.TheVariants as kinds
 use Rattle.vms_spec.specs.declared.Part.TheVariants as parts

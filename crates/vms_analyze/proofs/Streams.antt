@@ -16,7 +16,8 @@ use Rattle.vms_analyze.proofs.Facade.{is_name_byte, values_text, WellFormed, fai
 use Rattle.vms_analyze.proofs.Facade.{or_else_none, every_one, front_take, text_says}
 use Rattle.vms_elements.specs.Elements.{Number, Element}
 use Rattle.vms_elements.specs.Lines.{number_line}
-use Rattle.vms_analyze.proofs.Following.{Follows, none_follows, one_follows, both_follow, follows_as, takes_line, takes_any, takes_number, takes_bytes, takes_foot, takes_head, Takes, if_so}
+use Rattle.vms_analyze.proofs.Following.{Follows, none_follows, one_follows, both_follow, follows_as, takes_line, takes_any, takes_number, takes_bytes}
+use Rattle.vms_analyze.proofs.Following.{takes_foot, takes_head, Takes, if_so}
 use Rattle.vms_spec.specs.declared.ValuesReason.TheVariants as reasons
 use Rattle.vms_spec.specs.declared.Part.TheVariants as parts
 

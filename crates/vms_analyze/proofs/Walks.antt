@@ -222,8 +222,8 @@ module _ (d : Device) where
   pub subs_stop : {a b c : Walk} (e : Walk) (stop : Stop) → Goes (head_of d) a b → Goes elements b c → WhyStopped subs c e stop → WhyStopped all a e stop
   subs_stop {a = a} e stop g h w = as_why a e stop (why_before ((head_of d ++ elements) ++ subs) _ a e stop (why_then subs e stop (goes_then g h) w))
 
-  pub device_walks : {a b c e : Walk} (f : Walk) (r : Result (Unit {0}) Stop) → Goes (head_of d) a b → Goes elements b c → Goes subs c e → Walks (Foot ∷ []) e f r
-      → Walks all a f r
+  pub device_walks : {a b c e : Walk} (f : Walk) (r : Result (Unit {0}) Stop) → Goes (head_of d) a b → Goes elements b c → Goes subs c e
+      → Walks (Foot ∷ []) e f r → Walks all a f r
   device_walks {a = a} f r g h i w = subst (λ (ws : List Want). Walks ws a f r) device_as (walks_then (Foot ∷ []) f r (goes_then (goes_then g h) i) w)
 
 -- ---- a stream
@@ -235,8 +235,8 @@ pub version_stops : {a b : Walk} (c : Walk) (stop : Stop) → Goes (Bytes magic 
     → WhyStopped start_wants a c stop
 version_stops {a = a} c stop g w = why_before (Bytes magic ∷ Bytes (be32 3) ∷ []) (Machine ∷ []) a c stop (why_then (Bytes (be32 3) ∷ []) c stop g w)
 
-pub start_walks : {a b c : Walk} (d : Walk) (r : Result (Unit {0}) Stop) → Goes (Bytes magic ∷ []) a b → Goes (Bytes (be32 3) ∷ []) b c → Walks (Machine ∷ []) c d r
-    → Walks start_wants a d r
+pub start_walks : {a b c : Walk} (d : Walk) (r : Result (Unit {0}) Stop) → Goes (Bytes magic ∷ []) a b → Goes (Bytes (be32 3) ∷ []) b c
+    → Walks (Machine ∷ []) c d r → Walks start_wants a d r
 start_walks d r g h w = walks_then (Machine ∷ []) d r (goes_then g h) w
 
 module _ (ds : List Device) where
@@ -255,8 +255,8 @@ module _ (ds : List Device) where
   pub devices_stop : {a b : Walk} (c : Walk) (stop : Stop) → Goes start_wants a b → WhyStopped (devices_wants ds) b c stop → WhyStopped whole a c stop
   devices_stop {a = a} c stop g w = stream_why a c stop (why_before (start_wants ++ devices_wants ds) _ a c stop (why_then (devices_wants ds) c stop g w))
 
-  pub stream_walks : {a b c : Walk} (d : Walk) (r : Result (Unit {0}) Stop) → Goes start_wants a b → Goes (devices_wants ds) b c → Walks (Bytes end_mark ∷ []) c d r
-      → Walks whole a d r
+  pub stream_walks : {a b c : Walk} (d : Walk) (r : Result (Unit {0}) Stop) → Goes start_wants a b → Goes (devices_wants ds) b c
+      → Walks (Bytes end_mark ∷ []) c d r → Walks whole a d r
   stream_walks {a = a} d r g h w = subst (λ (ws : List Want). Walks ws a d r) stream_as (walks_then (Bytes end_mark ∷ []) d r (goes_then g h) w)
 
 -- ---- what is at the front
