@@ -5,8 +5,7 @@ use Rattle.vms_convert.proofs.Facade.{AreReady, longest_text, written, WellForme
 use Rattle.vms_convert.proofs.Facade.{carried, carried_device, pair, back, all_in, upgrade_stands, recast_cells, recast_twice, AreBack, IsConverted, IsPairAt}
 use Rattle.vms_convert.proofs.Facade.{recast_each, OneBackLaw, BackLaw, AreRecastOf, numbers_in, device_partners, recast, is_port, wants_arrays, device_paired}
 use Rattle.vms_convert.proofs.Facade.{U8, ArePartners, AreOfKinds, carried_stands, device_at, kinds_at, Typed, default_at, state_of, steps_of, IsBack, Changes}
-use Rattle.vms_convert.proofs.Facade.{AreTargets, give_step, AreSources, IsWholeStream}
-use Rattle.vms_convert.specs.Laws.{Converts}
+use Rattle.vms_convert.proofs.Facade.{AreTargets, give_step, AreSources, IsWholeStream, Converts}
 use Rattle.vms_convert.proofs.BackNormal.{back_may, at_get, gives, given_all, steps_long}
 use Rattle.vms_convert.proofs.HasBack.{one_back}
 use Rattle.vms_convert.proofs.Settling.{back_versions, some_at}

@@ -88,7 +88,7 @@ pub use Rattle.vms_convert.specs.Calls.{ConvertsKept, IsStreamFor, PutsStream}
 pub use Rattle.vms_convert.specs.Changes.{Changes, changed, changed_append}
 pub use Rattle.vms_convert.specs.Converted.{AreBack, IsConverted, IsPairAt, recast_each}
 pub use Rattle.vms_convert.specs.Giving.{AreTargets, give_partner, give_step}
-pub use Rattle.vms_convert.specs.Laws.{AnswerLaw, AreRecastOf, BackLaw, ComesBackLaw, MayBeWritten, OneBackLaw, OneLostLaw, RecastOfLaw}
+pub use Rattle.vms_convert.specs.Laws.{AnswerLaw, AreRecastOf, BackLaw, ComesBackLaw, Converts, MayBeWritten, OneBackLaw, OneLostLaw, RecastOfLaw}
 pub use Rattle.vms_convert.specs.Losing.{AreWritable, FirstInvalid, Judges, KeepsMachine, KeepsName, first_cell_at, first_of, stream_of}
 pub use Rattle.vms_convert.specs.Lost.{DifferAt, IsValidAt, KeepsAll, Loses, OfCell, OfDevice, OfMachine, first_cell, numbers_in}
 pub use Rattle.vms_convert.specs.Partnering.{AreArrays, HasFew, HasRoom, IsBehind, IsNextStart, IsStart, PairsElement, PairsField, array_on, arrays_on}

@@ -3,27 +3,27 @@
 ghost use Rattle.vms_convert.specs.Laws.{AnswerLaw, BackLaw, ComesBackLaw, ConvertsLaw, OneBackLaw, OneLostLaw, RecastOfLaw};
 
 /// States that at most one image of an older set comes back for given numbers of a newer device.
-#[tactic(auto, using(crate::proofs::Converts::one_stands))]
+#[tactic(auto)]
 pub fn one_back_law()
     ensures { OneBackLaw }
 {}
 
 /// States that an image comes back, whatever the numbers are.
-#[tactic(auto, using(crate::proofs::HasBack::has_back))]
+#[tactic(auto)]
 pub fn comes_back_law()
     ensures { ComesBackLaw }
 {}
 
 /// States that the image which comes back is normal, at its set's version and with exactly the
 /// subsections that are needed.
-#[tactic(auto, using(crate::proofs::Converts::back_stands))]
+#[tactic(auto)]
 pub fn back_law()
     ensures { BackLaw }
 {}
 
 /// States that the recast numbers of normal images of the newest set are in the range of their
 /// devices' kinds.
-#[tactic(auto, using(crate::proofs::RecastLaws::recast_of))]
+#[tactic(auto)]
 pub fn recast_of_law()
     ensures { RecastOfLaw }
 {}

@@ -1,4 +1,4 @@
-use Rattle.vms_convert.proofs.Facade.{Some, None, fit_of, described, has, loads, name_of, KeepsMachine}
+use Rattle.vms_convert.proofs.Facade.{Some, None, ◌∙◌, ap, fit_of, described, has, loads, name_of, KeepsMachine, Set, first_cell_at}
 use Rattle.vms_convert.proofs.JudgeLaws.{ComesBack, cell_first, device_first, invalid_by, machine_last, writable_back}
 use Rattle.vms_convert.proofs.losing.judge.Goals.{Start}
 use Rattle.vms_convert.proofs.losing.judge.Goals as goal
@@ -23,7 +23,7 @@ returns-in-Some-first_invalid c =
     let to = described c.args.to.now in
     let new = loads c.args.loader.now in
     let k = c.in-Some-first_invalid.device in
-    rw (c.first_cell.ensures, c.set-in-Some-first_invalid.ensures)
+    rw (c.first_cell.ensures ∙ ap (λ (s : Set). first_cell_at s k) c.set-in-Some-first_invalid.ensures)
     (device_first _ _ _ _ _ (came (goal.at.returns-in-Some-first_invalid c).Start) (name_of new c.args.machine) c.in_default.is k
     (invalid_by to new c.args.images.now _ (Some k) c.first_invalid.result c.set.ensures c.first_invalid.ensures c.in-Some-first_invalid.is))
 

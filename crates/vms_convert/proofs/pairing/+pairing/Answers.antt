@@ -1,5 +1,5 @@
-use Rattle.vms_convert.proofs.Facade.{ℕ, ◌+◌, ◌*◌, ◌<◌, ◌≤◌, List, ◌++◌, length, Option, refl, sym, ap, ◌∙◌, arith, rules, not-false, on_ok_weaker, ◌≡◌}
-use Rattle.vms_convert.proofs.Facade.{field_of, struct_on, described, found_field, reach, is_absent, desc_on, partners_on}
+use Rattle.vms_convert.proofs.Facade.{ℕ, ◌+◌, ◌*◌, ◌<◌, ◌≤◌, List, ◌++◌, length, Option, refl, sym, ap, ◌∙◌, arith, rules, not-false, on_ok_weaker, ◌≡◌, subst}
+use Rattle.vms_convert.proofs.Facade.{Side, HasFew, field_of, struct_on, described, found_field, reach, is_absent, desc_on, partners_on}
 use Rattle.vms_spec.specs.declared.Part.TheVariants as parts
 use Rattle.vms_convert.proofs.PartnerLaws.{depth, structs_paired}
 use Rattle.vms_convert.proofs.PartnerSteps.{absent_pairs, all_paired, alone_pairs, arrays_are, arrays_room, both_pair, element_alone_pairs, element_pairs}
@@ -99,7 +99,7 @@ pair_structs-pair_descs-requires t c =
         (
           rw c.at_own_version-2.ensures c.requires.new,
           (
-            rw c.at_own_version.ensures (few_struct old c.args.in_old c.requires.few),
+            subst (λ (x : Side). HasFew x 0) (sym c.at_own_version.ensures) (few_struct old c.args.in_old c.requires.few),
             rw c.at_own_version-2.ensures (room_struct new c.args.in_new c.args.cell c.requires.room),
           ),
         ),
