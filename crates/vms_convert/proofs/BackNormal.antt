@@ -127,14 +127,13 @@ module _ (to : Set) (well : WellFormed to) (heads : FitsHeads to) (i : ℕ) (d :
     absent_needed : (c j : ℕ) (s : Sub) → c < length cells → IsCellOf to d j s c → is_needed to d (whole d now) s j ≡ true → in_subs then_ came_back c ≡ false
         → get_or then_ c (pos 0) ≡ default_at c
     absent_needed c j s lt h n none =
-        let e = h.is in
-        let same = same_sub j s e n in
+        let same = same_sub j s h.is n in
         let z : 0 + j ≡ j = omega arith in
-        let still : is_needed to d (bare d then_) s j ≡ true = needed_same to well i d there j s e (whole d now) (bare d then_) same_own same ∙ n in
-        let came = rw (z, still) at (comes_at to d (bare d then_) d.subs 0 j s e) in
+        let still : is_needed to d (bare d then_) s j ≡ true = needed_same to well i d there j s h.is (whole d now) (bare d then_) same_own same ∙ n in
+        let came = rw (z, still) at (comes_at to d (bare d then_) d.subs 0 j s h.is) in
         let here : in_sub s s.desc.version then_ j c ≡ false =
-        part_apart to d then_ (λ xs. has_cell xs c ≡ false) (none_in_both c) (own_cells to d) d.subs came_back none j s s.desc.version e came in
-        let before = rw (its_same to s.desc s.desc.version (part_place to d j) good.structs (good.subs i j d s there e) now then_ same) at here in
+        part_apart to d then_ (λ xs. has_cell xs c ≡ false) (none_in_both c) (own_cells to d) d.subs came_back none j s s.desc.version h.is came in
+        let before = rw (its_same to s.desc s.desc.version (part_place to d j) good.structs (good.subs i j d s there h.is) now then_ same) at here in
         same.same c h.low h.high ∙ left c lt (its_above to d.desc d.desc.version 0 now c (omega (arith, sub_place_up to (own_cells to d) d.subs j)))
         (none_else c _ (λ j' s' v e' f. false_from_ne_true _ (other_part c j s h before j' s' v e' f)))
 

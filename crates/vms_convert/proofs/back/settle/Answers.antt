@@ -19,8 +19,7 @@ loop-sub-preserved c =
 pub returns-clause-settled : goal.returns-clause-settled
 returns-clause-settled c =
     let set = described c.args.set.now in
-    let k = c.args.device in
     let well : WellFormed set = none_is (first_fault set) c.args.set.now.well_formed in
-    settle_all set k c.requires.device well c.args.image.now.numbers c.loop-sub.image.numbers c.loop-sub.sub
+    settle_all set c.args.device c.requires.device well c.args.image.now.numbers c.loop-sub.image.numbers c.loop-sub.sub
     (omega (arith, c.loop-sub-test.false, c.sub_count-sub-end.ensures))
     (omega (arith, c.loop-sub.auto.sub-end, c.sub_count-sub-end.ensures)) c.loop-sub.invariant.settled

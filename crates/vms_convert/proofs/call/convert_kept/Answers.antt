@@ -1,6 +1,6 @@
 use Rattle.vms_convert.proofs.Facade.{◌≡◌, map, ◌∙◌, subst, sym, with_items_is, err_from_is_err_and, at_option, Set, fit_of, described, state_of, outlet, Puts}
 use Rattle.vms_convert.proofs.Facade.{Stops, Compatible, AreKept, has, loads, name_of, ConvertsKept, PutsStream, stream_of}
-use Rattle.vms_convert.proofs.ConvertLaws.{loses_kept, puts_kept}
+use Rattle.vms_convert.proofs.Converts.{loses_kept, puts_kept}
 use Rattle.vms_convert.proofs.JudgeLaws.{ComesBack, backs_are, ready_back}
 use Rattle.vms_convert.proofs.call.convert_kept.Given.{Over}
 use Rattle.vms_convert.proofs.call.convert_kept.Goals.{After-deref, After-deref-2}
@@ -45,8 +45,7 @@ returns-in_err-machine g c =
 pub write_back-requires-clause-of : goal.write_back-requires-clause-of
 write_back-requires-clause-of g c =
     let p = goal.at.write_back-requires-clause-of g c in
-    let returned = c.return_all-lost.ensures in
-    rw (same g p.After-deref-2, images_are g p.After-deref) (record { one_each = returned.count; each = returned.of })
+    rw (same g p.After-deref-2, images_are g p.After-deref) (record { one_each = c.return_all-lost.ensures.count; each = c.return_all-lost.ensures.of })
 
 pub write_back-requires-clause-ready : goal.write_back-requires-clause-ready
 write_back-requires-clause-ready g c =

@@ -6,9 +6,7 @@ use Rattle.vms_convert.proofs.carrying.give_all.Goals as goal
 
 pub give_part-requires-clause-part : goal.give_part-requires-clause-part
 give_part-requires-clause-part c =
-    let set = described c.args.set.now in
-    let image = c.args.gift.image.now in
-    let h = own_spot set c.args.device c.requires.device c.args.set.now.well_formed image.numbers c.requires.of.cells in
+    let h = own_spot (described c.args.set.now) c.args.device c.requires.device c.args.set.now.well_formed c.args.gift.image.now.numbers c.requires.of.cells in
     rw c.own_part.ensures (record { part = h.part; few = h.few; room = h.room })
 
 pub loop-sub-init : goal.loop-sub-init

@@ -9,7 +9,6 @@ find_name-requires c =
 
 pub returns-in-Some-find_name : goal.returns-in-Some-find_name
 returns-in-Some-find_name c =
-    let to = described c.args.to.now in
     let new = described c.args.newest.now in
     let m = c.in-Some.number in
     let own = c.in-Some-find_name.own in
@@ -22,4 +21,4 @@ returns-in-Some-find_name c =
     ∙ get_or_default new.machines m c.index-names-number.result [] inside in
     let found : IsNameAt known name (Some own) = rw c.in-Some-find_name.is at c.find_name.ensures.one in
     rw c.in-Some.is
-    (keeps_machine to new known name m own (c.as_slice.ensures ∙ ap (λ (s : Set). s.machines) c.parts-2.ensures) named found)
+    (keeps_machine (described c.args.to.now) new known name m own (c.as_slice.ensures ∙ ap (λ (s : Set). s.machines) c.parts-2.ensures) named found)

@@ -73,11 +73,10 @@ pair_present-pair_arrays-requires t c =
 
 pub pair_present-returns-in_ok-pair_arrays : goal.pair_present-returns-in_ok-pair_arrays
 pair_present-returns-in_ok-pair_arrays t c =
-    let s = c.args.old in
     let r = c.args.new in
-    both_pair s r c.args.number c.requires.field c.requires.few c.args.partners.now.items c.pair_arrays.new.partners.items c.args.found c.args.found
+    both_pair c.args.old r c.args.number c.requires.field c.requires.few c.args.partners.now.items c.pair_arrays.new.partners.items c.args.found c.args.found
     c.behind.result c.requires.found (omega (arith, c.field_count.ensures)) c.behind.ensures c.requires.there
-    (rw (c.arrays_of.ensures, elements_all s r c.args.number c.args.found.field c.args.found.cell) at c.in_ok-pair_arrays.ensures)
+    (rw (c.arrays_of.ensures, elements_all c.args.old r c.args.number c.args.found.field c.args.found.cell) at c.in_ok-pair_arrays.ensures)
 
 pub pair_present-returns-in_ok-put_unpaired : goal.pair_present-returns-in_ok-put_unpaired
 pair_present-returns-in_ok-put_unpaired t c =
@@ -88,8 +87,6 @@ pair_present-returns-in_ok-put_unpaired t c =
 
 pub pair_structs-pair_descs-requires : goal.pair_structs-pair_descs-requires
 pair_structs-pair_descs-requires t c =
-    let old = c.args.sets.old in
-    let new = c.args.sets.new in
     let own : 7 * c.args.in_old + 6 < 7 * c.args.in_old + 7 = omega arith in
     let less : 7 * reach (described c.at_own_version.result.set.now) c.at_own_version.result.part + 6 < 7 * c.args.in_old + 7 =
     rw c.at_own_version.ensures own in (
@@ -99,8 +96,8 @@ pair_structs-pair_descs-requires t c =
         (
           rw c.at_own_version-2.ensures c.requires.new,
           (
-            subst (λ (x : Side). HasFew x 0) (sym c.at_own_version.ensures) (few_struct old c.args.in_old c.requires.few),
-            rw c.at_own_version-2.ensures (room_struct new c.args.in_new c.args.cell c.requires.room),
+            subst (λ (x : Side). HasFew x 0) (sym c.at_own_version.ensures) (few_struct c.args.sets.old c.args.in_old c.requires.few),
+            rw c.at_own_version-2.ensures (room_struct c.args.sets.new c.args.in_new c.args.cell c.requires.room),
           ),
         ),
       ),

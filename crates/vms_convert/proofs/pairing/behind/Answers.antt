@@ -4,8 +4,7 @@ use Rattle.vms_convert.proofs.pairing.behind.Goals as goal
 
 pub overflow_add-result : goal.overflow_add-result
 overflow_add-result c =
-    let side = c.args.side in
-    omega (arith, c.requires.field, few_fields (described side.set.now) side.set.now.well_formed side.part c.requires.side)
+    omega (arith, c.requires.field, few_fields (described c.args.side.set.now) c.args.side.set.now.well_formed c.args.side.part c.requires.side)
 
 pub overflow_add-result-2 : goal.overflow_add-result-2
 overflow_add-result-2 c = omega (arith, c.field_cells.ensures, sum_small c.args.side c.args.start c.requires.field c.requires.start)

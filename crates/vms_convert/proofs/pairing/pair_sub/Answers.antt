@@ -17,9 +17,8 @@ found c =
 inside : (c : In-Some) → c.in-Some.found < length (device_at (described c.args.new.now) c.args.in_new).subs
 inside c =
     let subs = (device_at (described c.args.new.now) c.args.in_new).subs in
-    let name = c.as_bytes-name.result.now in
-    sub_in subs name c.find_sub.result c.in-Some.found
-    (c.find_sub.ensures ∙ ap (λ (l : List Sub). find_sub 0 l name)
+    sub_in subs c.as_bytes-name.result.now c.find_sub.result c.in-Some.found
+    (c.find_sub.ensures ∙ ap (λ (l : List Sub). find_sub 0 l c.as_bytes-name.result.now)
     (ap (λ (l : List CodeSub). map sub_of l) c.as_slice.ensures ∙ ap (λ (d : Device). d.subs) c.device.ensures)) c.in-Some.is
 
 pub find_sub-requires : goal.find_sub-requires
@@ -45,10 +44,9 @@ pub returns-in-Some : goal.returns-in-Some
 returns-in-Some c =
     let new = described c.args.new.now in
     let name = c.as_bytes-name.result.now in
-    let before = c.args.partners.now.items in
     let lt = inside (goal.at.returns-in-Some c).In-Some in
     let named : name ≡ (desc_on c.args.older).name = c.as_bytes-name.ensures ∙ ap (λ (d : Desc). d.name) c.desc.ensures in
     let is : find_sub 0 (device_at new c.args.in_new).subs (desc_on c.args.older).name ≡ Some c.in-Some.found =
     ap (λ (n : List ℕ). find_sub 0 (device_at new c.args.in_new).subs n) (sym named) ∙ sym (found (goal.at.returns-in-Some c).After-find_sub) ∙ c.in-Some.is in
     let pairs = sub_pairs c.args.older c.args.new c.args.in_new c.in-Some.found c.first_cell.result c.requires.version lt is c.first_cell.ensures in
-    on_ok_weaker c.pair_descs.result (λ e. e ∙ ap (λ (l : List (Option ℕ)). before ++ l) pairs) c.pair_descs.ensures
+    on_ok_weaker c.pair_descs.result (λ e. e ∙ ap (λ (l : List (Option ℕ)). c.args.partners.now.items ++ l) pairs) c.pair_descs.ensures

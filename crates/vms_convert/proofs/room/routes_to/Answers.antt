@@ -1,5 +1,5 @@
 use Rattle.vms_convert.proofs.Facade.{◌≡◌, length, sym, ap, ◌∙◌, arith, length-map, Set, device_of, described}
-use Rattle.vms_convert.proofs.ReturnsLaws.{no_routes, route_more}
+use Rattle.vms_convert.proofs.LostLaws.{no_routes, route_more}
 use Rattle.vms_convert.proofs.room.routes_to.Goals as goal
 
 pub loop-device-init : goal.loop-device-init
