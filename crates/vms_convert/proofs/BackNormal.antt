@@ -1,13 +1,13 @@
 -- The image of numbers has come as needed.
 use Rattle.vms_convert.proofs.Facade.{ne_eqb, cases_eq, ◌≡◌, ℕ, zero, suc, ◌+◌, ◌≤◌, Bool, true, List, [], ◌∷◌, Some, None, refl, ap, ◌∙◌, arith, inl, inr, ◌<◌}
-use Rattle.vms_convert.proofs.Facade.{length, get_or, map, Option, ℤ, pos, sym, false, if◌then◌else◌, length-set, ◌==◌, ◌++◌, slice_get, leb-true, eq-eqb}
-use Rattle.vms_convert.proofs.Facade.{or_parts, get_or-map, get_or-set_other, get_or-set_same, map-append, length-map, false_from_ne_true}
-use Rattle.vms_convert.proofs.Facade.{get_or_from_slice_get, Sub, Device, Set, Image, FitsCell, has_cell, image_slots, own_slots, own_cells, came_slots}
-use Rattle.vms_convert.proofs.Facade.{sub_slots, is_needed, needed_from, bare, image_of, AreSubs, versions, needed, within_all, InRange, exceeds, Cell, no_cell}
-use Rattle.vms_convert.proofs.Facade.{Slot, device_cells, WellFormed, FitsHeads, IsGood, names_append, none_in_both, its_same, its_below, its_above, SameIn}
-use Rattle.vms_convert.proofs.Facade.{sub_size, sub_place_up, parts_together, part_apart, part_place, well_good, device_parts, sub_clean, IsCellOf, IsBack}
-use Rattle.vms_convert.proofs.Facade.{taken, whole, ArePartners, AreOfKinds, own_or_sub, Typed, WalkStep, changed, Changes, changed_append, AreTargets}
-use Rattle.vms_convert.proofs.Facade.{give_partner, give_step, device_partners, IsCarried, steps_of, step_of, its_in, one_part, Number, at_map, MayBeWritten}
+use Rattle.vms_convert.proofs.Facade.{length, get_or, map, Option, ℤ, pos, sym, false, if◌then◌else◌, length-set, ◌==◌, slice_get, leb-true, eq-eqb, or_parts}
+use Rattle.vms_convert.proofs.Facade.{get_or-map, get_or-set_other, get_or-set_same, length-map, false_from_ne_true, get_or_from_slice_get, Sub, Device, Set}
+use Rattle.vms_convert.proofs.Facade.{Image, FitsCell, has_cell, image_slots, own_slots, own_cells, came_slots, sub_slots, is_needed, needed_from, bare}
+use Rattle.vms_convert.proofs.Facade.{image_of, AreSubs, versions, needed, within_all, InRange, exceeds, Cell, no_cell, Slot, device_cells, WellFormed}
+use Rattle.vms_convert.proofs.Facade.{FitsHeads, IsGood, names_append, none_in_both, its_same, its_below, its_above, SameIn, sub_size, sub_place_up}
+use Rattle.vms_convert.proofs.Facade.{parts_together, part_apart, part_place, well_good, device_parts, sub_clean, IsCellOf, IsBack, taken, whole, ArePartners}
+use Rattle.vms_convert.proofs.Facade.{AreOfKinds, own_or_sub, Typed, WalkStep, changed, Changes, AreTargets, give_partner, give_step, device_partners}
+use Rattle.vms_convert.proofs.Facade.{IsCarried, steps_of, its_in, one_part, Number, at_map, MayBeWritten}
 use Rattle.vms_walk.specs.declared.step.WalkStep.TheVariants.{Number as Step}
 use Rattle.vms_convert.proofs.Settling.{comes_at, needed_same}
 
@@ -75,12 +75,6 @@ module _ (to : Set) (well : WellFormed to) (heads : FitsHeads to) (i : ℕ) (d :
     same_own : SameIn 0 (0 + own_cells to d) now then_
     same_own = record { same = λ c low lt. back.settled.own c (omega arith) }
 
-    same_sub : (j : ℕ) (s : Sub) → slice_get d.subs j ≡ Some s → is_needed to d (whole d now) s j ≡ true
-        → SameIn (part_place to d j) (part_place to d j + sub_size to s) now then_
-    same_sub j s e n = record {
-      same = λ c low lt. rw (back.settled.subs j s c (record { is = e; low = low; high = lt }), n);
-    }
-
     -- whether a cell is in the bytes of the device's own fields, of a subsection, of all subsections that came
     abbrev in_own : List ℤ → ℕ → Bool
     in_own n c = has_cell (own_slots to d d.desc.version n) c
@@ -127,7 +121,8 @@ module _ (to : Set) (well : WellFormed to) (heads : FitsHeads to) (i : ℕ) (d :
     absent_needed : (c j : ℕ) (s : Sub) → c < length cells → IsCellOf to d j s c → is_needed to d (whole d now) s j ≡ true → in_subs then_ came_back c ≡ false
         → get_or then_ c (pos 0) ≡ default_at c
     absent_needed c j s lt h n none =
-        let same = same_sub j s h.is n in
+        let same : SameIn (part_place to d j) (part_place to d j + sub_size to s) now then_ =
+        record { same = λ c low lt. rw (back.settled.subs j s c (record { is = h.is; low = low; high = lt }), n) } in
         let z : 0 + j ≡ j = omega arith in
         let still : is_needed to d (bare d then_) s j ≡ true = needed_same to well i d there j s h.is (whole d now) (bare d then_) same_own same ∙ n in
         let came = rw (z, still) at (comes_at to d (bare d then_) d.subs 0 j s h.is) in
@@ -186,9 +181,6 @@ may_give p p' n n' xs a b e f h targets long =
 module _ (partners : List (Option ℕ)) (numbers : List ℤ) where
   abbrev pub gives : List Slot → List ℤ → List ℤ
   gives slots now = changed (give_step partners numbers) (steps_of slots) now
-
-  pub gives_more : (xs ys : List Slot) (now : List ℤ) → gives (xs ++ ys) now ≡ gives ys (gives xs now)
-  gives_more xs ys now = rw (map-append step_of xs ys) (changed_append (give_step partners numbers) (steps_of xs) (steps_of ys) now)
 
   pub gives_long : (slots : List Slot) (now : List ℤ) → length (gives slots now) ≡ length now
   gives_long slots now = steps_long partners numbers (steps_of slots) now

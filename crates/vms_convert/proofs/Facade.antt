@@ -135,7 +135,6 @@ pub use Rattle.vms_walk.specs.Inside.{Keeps}
 pub use Rattle.vms_walk.specs.Steps.{HasSpot, capacities_of, spot_slots, step_of, steps_of}
 pub use Rattle.vms_walk.specs.declared.step.WalkStep.{WalkStep}
 pub use Rattle.dev_base.specs.Cells.{AreOf}
-pub use Rattle.dev_base.specs.declared.limits.TheConstants.{NEWEST}
 pub use Rattle.dev_images.proofs.NormalSerial.{port-of}
 pub use Rattle.dev_images.proofs.ReadyOf.{AreSubs, count-of, kind-of, needed, versions}
 pub use Rattle.dev_images.specs.Images.{bare, image_of, needed_from}

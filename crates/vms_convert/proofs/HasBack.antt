@@ -106,16 +106,13 @@ meanings_known ds sound (suc k) le =
 
 -- ---- a device
 
-pub same_from : (low c : ℕ) (n m : List ℤ) → SameBelow c n m → SameIn low c n m
-same_from low c n m s = record { same = λ i up lt. s.same i lt }
-
 module _ (set : Set) (structs : AreSound set.structs) where
   part_known : (d : Desc) → IsSound d → (v base c : ℕ) (n m : List ℤ) → SameBelow c n m
       → Alike c (desc_slots (meanings set.structs (length set.structs)) d v m base) (desc_slots (meanings set.structs (length set.structs)) d v n base)
   part_known d sound v base c n m s =
       let k = length set.structs in
       desc_known (meanings set.structs k) (meanings_known set.structs structs k (omega arith)) (meanings_above set.structs k) d v base c n m sound
-      (same_from base c n m s)
+      (record { same = λ i up lt. s.same i lt })
 
   abbrev pub AllSound : List Sub → Type 0
   AllSound subs = (j : ℕ) (s : Sub) → slice_get subs j ≡ Some s → IsSound s.desc

@@ -93,9 +93,6 @@ module _ (to new : Set) (images : List Typed) (writable : AreWritable to images)
 -- ---- all together
 
 module _ (to new : Set) (name : Option (List ℕ)) (wanted there : List (List ℤ)) (backs : List Image) (same : wanted ≡ there) where
-  pub device_lost : (k : ℕ) → FirstInvalid to new backs (Some k) → Loses to new name wanted there backs (Some k) (first_cell (get_or wanted k []))
-  device_lost k h = OfDevice k h.0 same h.1 h.2
-
   pub machine_judged : FirstInvalid to new backs None → (r : Result (Option ℕ) Loss) → KeepsMachine to name r → Judges to new name wanted there backs r
   machine_judged valid (Ok m) h = (record { cells = same; valid = valid; machine_is = h.one }, h)
   machine_judged valid (Err loss) h =
@@ -188,7 +185,7 @@ module _ (to new : Set) (images : List Image) (typed : List Typed) (lost : Optio
       let at : slice_get new.devices k ≡ Some (device_at new k) = slice_get-get_or new.devices k no_device h.0 in
       let cell : first_cell (get_or wants k []) ≡ first_cell_at new k =
       same_first (get_or wants k []) (device_cells new (device_at new k)) (newest_kinds to new p.newest images p.kept k (device_at new k) at).long in
-      rw (← cell) (device_lost to new name wants given states (kept_cells same) k h)
+      rw (← cell) (OfDevice k h.0 (kept_cells same) h.1 h.2)
 
   pub machine_last : (name : Option (List ℕ)) → lost ≡ None → FirstInvalid to new states None → (m : Result (Option ℕ) Loss) → KeepsMachine to name m
       → Judges to new name wants given states m

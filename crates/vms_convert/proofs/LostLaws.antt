@@ -6,8 +6,8 @@ use Rattle.vms_convert.proofs.Facade.{map-append, take_more_set, back, Device, S
 use Rattle.vms_convert.proofs.Facade.{device_is, carried, carried_at, carried_device, no_image, Compatible, is_found, is_in, passes, found_device, found_some}
 use Rattle.vms_convert.proofs.Facade.{pair, all_in, answers_none, at_map, DifferAt, Loses, OfCell, numbers_in, FirstDifference, ArePaired, IsFirstLost}
 use Rattle.vms_convert.proofs.Facade.{IsLostCell, carried_of, LostCell, IsBack, device_partners, default_image, Typed, state_of, AreImagesOf, default_at, typed}
-use Rattle.vms_convert.proofs.Facade.{IsReturned, AreReturnedTo, AreReturned, IsRecastFor, Kind, kinds_at, is_port, recast, AreFresh, AreRoutes, IsRoute, Route}
-use Rattle.vms_convert.proofs.Facade.{first, device_cells, set_4, AreOfKinds, AreKept, NEWEST, IsPortCells, kinds, recast_each, at_other, IsImageOf}
+use Rattle.vms_convert.proofs.Facade.{IsReturned, AreReturnedTo, AreReturned, IsRecastFor, Kind, kinds_at, recast, AreFresh, AreRoutes, IsRoute, Route, first}
+use Rattle.vms_convert.proofs.Facade.{set_4, AreKept, kinds, recast_each, at_other, IsImageOf}
 use Rattle.std.proofs.lemmas.List.{same_lists, length-set}
 use Rattle.vms_check_laws.proofs.Streaming.{rules}
 use Rattle.vms_convert.specs.Returns.{IsEarlier}
@@ -189,9 +189,6 @@ module _ (to new : Set) (well_to : WellFormed to) (well_new : WellFormed new) (c
 -- ---- One device more is brought to the older set.
 
 module _ (to new : Set) (wanted : List (List ℤ)) where
-  pub returned_none : AreReturnedTo to new wanted 0 [] None
-  returned_none = record { count = refl; of = λ i image e. absurd (cc); back = λ i k image p e. absurd (cc); first_lost = λ i k lt. absurd (omega arith) }
-
   pub returned_next : (n k : ℕ) (images : List Typed) (lost next : Option LostCell) (x : Typed) (cell : Option ℕ) → AreReturnedTo to new wanted n images lost
       → ArePaired to new n k
       → IsReturned to new n k (get_or wanted k []) x cell → IsEarlier lost k cell next → AreReturnedTo to new wanted (n + 1) (images ++ x ∷ []) next
@@ -266,7 +263,7 @@ module _ (to new : Set) (wanted : List (List ℤ)) where
     as_long = r.count;
     routes_are = λ i x le e. r.each i x e;
     fresh = λ i x le e. f.each i x e;
-    brought = returned_none to new wanted;
+    brought = record { count = refl; of = λ i image e. absurd (cc); back = λ i k image p e. absurd (cc); first_lost = λ i k lt. absurd (omega arith) };
   }
 
   pub midway_next : (n k : ℕ) (routes : List Route) (images : List Typed) (lost next : Option LostCell) (route : Route) (image : Typed) (cell : Option ℕ)
@@ -297,25 +294,15 @@ module _ (to new : Set) (is : new ≡ set_4) (images : List Image) (kept : AreKe
   abbrev wanted : List (List ℤ)
   wanted = recast_each to new.devices (numbers_in images)
 
-  wanted_kinds : AreOfKinds (device_cells new (device_at new k)) (get_or (recast_each to new.devices (numbers_in images)) k [])
-  wanted_kinds = newest_kinds to new is images kept k (device_at new k) (there new k lt)
-
   pub wanted_is : get_or (recast_each to new.devices (numbers_in images)) k [] ≡ recast to (device_at new k) image.numbers
   wanted_is =
       recast_at to new.devices (numbers_in images) k (device_at new k) image.numbers (there new k lt) (at_map (λ (x : Image). x.numbers) images k image at)
 
-  four : is_port (device_at new k) ≡ true → k ≡ 4
-  four port = port_is k (rw is at lt) (rw is at port)
-
-  port_kinds_at : is_port (device_at new k) ≡ true → kinds_at new k ≡ kinds NEWEST
-  port_kinds_at port = rw (is, four port) four_kinds
-
-  port_cells_at : is_port (device_at new k) ≡ true → IsPortCells image.numbers
-  port_cells_at port = port_cells images (rw is at kept) k image (four port) at
-
   pub recast_for : IsRecastFor to new k image.numbers
   recast_for = record {
     inside = lt;
-    kinds = rw (← wanted_is) wanted_kinds;
-    port = λ port. (port_kinds_at port, port_cells_at port);
+    kinds = rw (← wanted_is) (newest_kinds to new is images kept k (device_at new k) (there new k lt));
+    port = λ port.
+        let four : k ≡ 4 = port_is k (rw is at lt) (rw is at port) in
+        (rw (is, four) four_kinds, port_cells images (rw is at kept) k image four at);
   }

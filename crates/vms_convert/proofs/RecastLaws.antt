@@ -83,12 +83,11 @@ port_cells images kept k image is at =
     let at_4 : slice_get images 4 ≡ Some image = ap (λ (n : ℕ). slice_get images n) (sym is) ∙ at in
     port-of image (kept.each 4 serial_at_4 image refl at_4).normal
 
-pub kept_kinds : (to : Set) (images : List Image) → AreKept set_4 images → AreRecastOf to set_4 images
-kept_kinds to images kept = recast_of to images kept.one_each (λ k e image at at'. (kept.each k e image at at').normal)
-
 -- of a set that is the newest
 pub newest_kinds : (to new : Set) → new ≡ set_4 → (images : List Image) → AreKept new images → AreRecastOf to new images
-newest_kinds to new is images = subst (λ (s : Set). AreKept s images → AreRecastOf to s images) (sym is) (kept_kinds to images)
+newest_kinds to new is images =
+    subst (λ (s : Set). AreKept s images → AreRecastOf to s images) (sym is)
+    (λ kept. recast_of to images kept.one_each (λ k e image at at'. (kept.each k e image at at').normal))
 
 -- ---- What is lost first is one thing.
 
@@ -120,14 +119,11 @@ module _ (to new : Set) (machine : Option (List ℕ)) (wanted there : List (List
       → ((i : ℕ) → i < k' → get_or wanted i [] ≡ get_or there i []) → Differ k' c' → k ≡ k'
   first_differ k c k' c' before d before' d' = one_number k k' (λ lt. not_same k c d (before' k lt)) (λ lt. not_same k' c' d' (before k' lt))
 
-  first_number : (k c c' : ℕ) → Differ k c → Differ k c' → c ≡ c'
-  first_number k c c' d d' = one_number c c' (λ lt. d.other (d'.before c lt)) (λ lt. d'.other (d.before c' lt))
-
   one : (section cell section' cell' : Option ℕ) → Lost section cell → Lost section' cell' → (section ≡ section') × (cell ≡ cell')
   one section cell section' cell' (OfCell k c before d) (OfCell k' c' before' d') =
       let same : k ≡ k' = first_differ k c k' c' before d before' d' in
       let here : Differ k c' = subst (λ (n : ℕ). Differ n c') (sym same) d' in
-      (ap (λ (n : ℕ). Some n) same, ap (λ (n : ℕ). Some n) (first_number k c c' d here))
+      (ap (λ (n : ℕ). Some n) same, ap (λ (n : ℕ). Some n) (one_number c c' (λ lt. d.other (here.before c lt)) (λ lt. here.other (d.before c' lt))))
   one section cell section' cell' (OfCell k c before d) (OfDevice k' inside same before' bad) = absurd (not_all k c d same)
   one section cell section' cell' (OfCell k c before d) (OfMachine name same valid is not) = absurd (not_all k c d same)
   one section cell section' cell' (OfDevice k inside same before bad) (OfCell k' c' before' d') = absurd (not_all k' c' d' same)

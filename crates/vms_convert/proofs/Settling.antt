@@ -1,10 +1,11 @@
 -- Whether a subsection is needed depends on its own cells and on those of its device.
 use Rattle.vms_convert.proofs.Facade.{cases_lt, inl, inr, ◌≡◌, ℕ, ◌+◌, List, length, get_or, Option, Some, None, ℤ, refl, ap, ◌∙◌, arith, Bool, true, not}
-use Rattle.vms_convert.proofs.Facade.{bit_and, suc, ◌<◌, ◌≤◌, false, pos, sym, if◌then◌else◌, zero, [], ◌∷◌, slice_get, and_parts, slice_get_within, width}
-use Rattle.vms_convert.proofs.Facade.{residue, Own, Parent, Formula, AtLeast, Below, Not, And, Or, Field, Desc, Sub, Device, Set, truth, compares, no_field}
-use Rattle.vms_convert.proofs.Facade.{kind_of, place_of, numbers_of, desc_cells, struct_cells, no_cell, device_cells, Image, own_cells, is_needed, is_steady}
-use Rattle.vms_convert.proofs.Facade.{is_steady_in, names_well, WellFormed, IsEarlier, place_up, place_below, place_end, sub_size, sub_place_up, places_apart}
-use Rattle.vms_convert.proofs.Facade.{part_place, SameIn, earlier, sub_clean, bare, needed_from, IsCellOf, AreSettled, whole, IsBack, same_lists, IsAtVersions}
+use Rattle.vms_convert.proofs.Facade.{bit_and, suc, ◌<◌, ◌≤◌, false, pos, sym, if◌then◌else◌, zero, [], ◌∷◌, slice_get, and_parts, slice_get_within}
+use Rattle.vms_convert.proofs.Facade.{slice_get-get_or, width, residue, Own, Parent, Formula, AtLeast, Below, Not, And, Or, Field, Desc, Sub, Device, Set}
+use Rattle.vms_convert.proofs.Facade.{truth, compares, no_field, kind_of, place_of, numbers_of, desc_cells, struct_cells, no_cell, device_cells, Image}
+use Rattle.vms_convert.proofs.Facade.{own_cells, is_needed, is_steady, is_steady_in, names_well, WellFormed, IsEarlier, place_up, place_below, place_end}
+use Rattle.vms_convert.proofs.Facade.{sub_size, sub_place_up, places_apart, part_place, SameIn, earlier, sub_clean, bare, needed_from, IsCellOf, AreSettled}
+use Rattle.vms_convert.proofs.Facade.{whole, IsBack, same_lists, IsAtVersions, device_at, needed_at, sub_at, ArePutAt, Typed, SettlesSub, SettlesBy}
 use Rattle.vms_spec.specs.Sets.{Cell}
 use Rattle.vms_spec.specs.Layout.{Cell as OneCell}
 
@@ -67,59 +68,66 @@ pub record SettledTo (set : Set) (d : Device) (j : ℕ) (before now : List ℤ) 
       → get_or now c (pos 0) ≡ (if is_needed set d (whole d before) s i then get_or before c (pos 0) else (get_or (device_cells set d) c no_cell).default)
   pub left : (i : ℕ) (s : Sub) (c : ℕ) → j ≤ i → IsCellOf set d i s c → get_or now c (pos 0) ≡ get_or before c (pos 0)
 
--- the cells of subsection j are at their defaults, and all else is as it was
-pub record AreBare (set : Set) (d : Device) (j : ℕ) (s : Sub) (before now : List ℤ) : Type 0 where
-  pub long : length now ≡ length before
-  pub inside : (c : ℕ) → IsCellOf set d j s c → get_or now c (pos 0) ≡ (get_or (device_cells set d) c no_cell).default
-  pub below : (c : ℕ) → c < part_place set d j → get_or now c (pos 0) ≡ get_or before c (pos 0)
-  pub above : (c : ℕ) → part_place set d j + sub_size set s ≤ c → get_or now c (pos 0) ≡ get_or before c (pos 0)
+module _ (set : Set) (well : WellFormed set) (k : ℕ) (lt : k < length set.devices) (before : List ℤ) where
+  abbrev d : Device
+  d = device_at set k
 
-module _ (set : Set) (well : WellFormed set) (k : ℕ) (d : Device) (there : slice_get set.devices k ≡ Some d) (before : List ℤ) where
   -- a test of subsection j answers as before
-  pub still_needed : (now : List ℤ) (j : ℕ) (s : Sub) → slice_get d.subs j ≡ Some s → SettledTo set d j before now
+  still_needed : (now : List ℤ) (j : ℕ) (s : Sub) → slice_get d.subs j ≡ Some s → SettledTo set d j before now
       → is_needed set d (bare d now) s j ≡ is_needed set d (whole d before) s j
   still_needed now j s e h =
-      needed_same set well k d there j s e (whole d before) (bare d now) (record { same = λ c low lt. h.own c (omega arith) })
+      needed_same set well k d (slice_get-get_or set.devices k _ lt) j s e (whole d before) (bare d now)
+      (record { same = λ c low lt. h.own c (omega arith) })
       (record { same = λ c low lt. h.left j s c (omega arith) (record { is = e; low = low; high = lt }) })
 
   -- it is needed, so nothing changes
-  pub settled_needed : (now : List ℤ) (j : ℕ) (s : Sub) → slice_get d.subs j ≡ Some s → SettledTo set d j before now → is_needed set d (bare d now) s j ≡ true
-      → SettledTo set d (suc j) before now
-  settled_needed now j s e h n = record {
-    long = h.long;
-    own = h.own;
-    done = λ i t c lt x. by_last i j lt (λ less. h.done i t c less x) (λ same.
-        let ge : j ≤ i = omega arith in
-        let sub : t ≡ s = cc in
-        let needed : is_needed set d (whole d before) t i ≡ true = rw (sub, same) (sym (still_needed now j s e h) ∙ n) in
-        rw needed (h.left i t c ge x));
-    left = λ i t c le x. h.left i t c (omega arith) x;
-  }
+  settled_needed : (now : List ℤ) (j : ℕ) → j < length d.subs → SettledTo set d j before now → needed_at set k j now ≡ true → SettledTo set d (j + 1) before now
+  settled_needed now j less h n =
+      let e : slice_get d.subs j ≡ Some (sub_at d j) = slice_get-get_or d.subs j _ less in
+      record {
+        long = h.long;
+        own = h.own;
+        done = λ i t c lt x. by_last i j (omega arith) (λ less. h.done i t c less x) (λ same.
+            let sub : t ≡ sub_at d j = cc (x.is, e) in
+            let needed : is_needed set d (whole d before) t i ≡ true = rw (sub, same) (sym (still_needed now j (sub_at d j) e h) ∙ n) in
+            rw needed (h.left i t c (omega arith) x));
+        left = λ i t c le x. h.left i t c (omega arith) x;
+      }
 
   -- it isn't, and its cells are put to their defaults
-  pub settled_bare : (now next : List ℤ) (j : ℕ) (s : Sub) → slice_get d.subs j ≡ Some s → SettledTo set d j before now
-      → is_needed set d (bare d now) s j ≡ false → AreBare set d j s now next → SettledTo set d (suc j) before next
-  settled_bare now next j s e h n p = record {
-    long = p.long ∙ h.long;
-    own = λ c lt. p.below c (omega (arith, sub_place_up set (own_cells set d) d.subs j)) ∙ h.own c lt;
-    done = λ i t c lt x. by_last i j lt
-        (λ less. p.below c (omega (arith, x.high, places_apart set (own_cells set d) d.subs i j t x.is less)) ∙ h.done i t c less x)
-        (λ same.
-        let sub : t ≡ s = cc in
-        let place : part_place set d i ≡ part_place set d j = ap (part_place set d) same in
-        let size : sub_size set t ≡ sub_size set s = ap (sub_size set) sub in
-        let not_needed : is_needed set d (whole d before) t i ≡ false = rw (sub, same) (sym (still_needed now j s e h) ∙ n) in
-        rw not_needed (p.inside c (record { is = e; low = omega (arith, x.low); high = omega (arith, x.high) })));
-    left = λ i t c le x.
-        p.above c (omega (arith, places_apart set (own_cells set d) d.subs j i s e (omega arith))) ∙ h.left i t c (omega arith) x;
-  }
+  settled_bare : (now next : List ℤ) (j : ℕ) → j < length d.subs → SettledTo set d j before now → needed_at set k j now ≡ false → ArePutAt set k j now next
+      → SettledTo set d (j + 1) before next
+  settled_bare now next j less h n p =
+      let s = sub_at d j in
+      let e : slice_get d.subs j ≡ Some (sub_at d j) = slice_get-get_or d.subs j _ less in
+      record {
+        long = p.long ∙ h.long;
+        own = λ c lt. p.below c (omega (arith, sub_place_up set (own_cells set d) d.subs j)) ∙ h.own c lt;
+        done = λ i t c lt x. by_last i j (omega arith)
+            (λ less. p.below c (omega (arith, x.high, places_apart set (own_cells set d) d.subs i j t x.is less)) ∙ h.done i t c less x)
+            (λ same.
+            let sub : t ≡ s = cc (x.is, e) in
+            let place : part_place set d i ≡ part_place set d j = ap (part_place set d) same in
+            let size : sub_size set t ≡ sub_size set s = ap (sub_size set) sub in
+            let not_needed : is_needed set d (whole d before) t i ≡ false = rw (sub, same) (sym (still_needed now j s e h) ∙ n) in
+            rw not_needed (p.inside c (omega (arith, x.low)) (omega (arith, x.high))));
+        left = λ i t c le x.
+            p.above c (omega (arith, x.low, places_apart set (own_cells set d) d.subs j i s e (omega arith))) ∙ h.left i t c (omega arith) x;
+      }
 
-  pub all_settled : (now : List ℤ) (j : ℕ) → j ≡ length d.subs → SettledTo set d j before now → AreSettled set d before now
-  all_settled now j end h = record {
-    long = h.long;
-    own = h.own;
-    subs = λ i s c x. h.done i s c (omega (arith, slice_get_within d.subs i s x.is)) x;
-  }
+  pub settled_next : (a b : Typed) (j : ℕ) → j < length d.subs → SettledTo set d j before a.numbers → SettlesSub set k j a b
+      → SettledTo set d (j + 1) before b.numbers
+  settled_next a b j less h s = go (needed_at set k j a.numbers) refl s where
+    go : (t : Bool) → needed_at set k j a.numbers ≡ t → SettlesBy t set k j a b → SettledTo set d (j + 1) before b.numbers
+    go true e s = rw s (settled_needed a.numbers j less h e)
+    go false e s = settled_bare a.numbers b.numbers j less h e s.0
+
+pub all_settled : (set : Set) (d : Device) (before now : List ℤ) (j : ℕ) → j ≡ length d.subs → SettledTo set d j before now → AreSettled set d before now
+all_settled set d before now j end h = record {
+  long = h.long;
+  own = h.own;
+  subs = λ i s c x. h.done i s c (omega (arith, slice_get_within d.subs i s x.is)) x;
+}
 
 -- ---- Subsections that are needed are marked one after the other.
 

@@ -2,12 +2,13 @@
 use Rattle.vms_convert.proofs.Facade.{subst, cases_eq, ne_eqb, inl, inr, cases_lt, ◌≡◌, ℕ, zero, suc, ◌<◌, List, [], ◌∷◌, ◌++◌, length, get_or, take, drop}
 use Rattle.vms_convert.proofs.Facade.{slice_set, ℤ, pos, refl, ap, arith, ◌+◌, map, Option, Some, None, sym, ◌∙◌, append_assoc, Bool, true, false, length-set}
 use Rattle.vms_convert.proofs.Facade.{if◌then◌else◌, ◌≤◌, slice_get, get_or-set_other, get_or-set_same, map-append, length-map, eq-eqb, get_or-map}
-use Rattle.vms_convert.proofs.Facade.{slice_get-get_or, append-nil, take_all, IsSound, AreSound, Sub, Device, Set, Slot, desc_cells, struct_cells, Cell}
-use Rattle.vms_convert.proofs.Facade.{no_cell, Number, device_cells, own_cells, own_slots, sub_slots, sub_place, came_slots, has_cell, image_slots, its_same}
-use Rattle.vms_convert.proofs.Facade.{its_below, part_place, image_are, sub_size, sub_place_up, SameBelow, SameIn, exceeds, AreCells, least_of, steps_of}
-use Rattle.vms_convert.proofs.Facade.{capacities_of, step_of, exceeds_least, taken, AreTaken, whole, changed, changed_append, Changes, put_partner, put_step}
-use Rattle.vms_convert.proofs.Facade.{AreSources, Keeps, WalkStep, has_step_of, put_keeps, takes_keeps, Kind, Typed, InRange, U8, FitsHeads, own_cell_count}
-use Rattle.vms_convert.proofs.Facade.{device_at, is_well_formed, desc_at, kinds_at, good_of, ArePut, ArePutAt, at_map}
+use Rattle.vms_convert.proofs.Facade.{slice_get-get_or, append-nil, take_all, add-one, IsSound, AreSound, Sub, Device, Set, Slot, desc_cells, struct_cells}
+use Rattle.vms_convert.proofs.Facade.{Cell, no_cell, Number, device_cells, own_cells, own_slots, sub_slots, sub_place, came_slots, has_cell, image_slots}
+use Rattle.vms_convert.proofs.Facade.{its_same, its_below, part_place, image_are, sub_size, sub_place_up, SameBelow, SameIn, exceeds, AreCells, least_of}
+use Rattle.vms_convert.proofs.Facade.{steps_of, capacities_of, step_of, exceeds_least, taken, AreTaken, whole, changed, changed_append, Changes, put_partner}
+use Rattle.vms_convert.proofs.Facade.{put_step, AreSources, Keeps, WalkStep, has_step_of, put_keeps, takes_keeps, Kind, Typed, InRange, U8, FitsHeads}
+use Rattle.vms_convert.proofs.Facade.{own_cell_count, device_at, is_well_formed, desc_at, kinds_at, good_of, ArePut, ArePutAt, at_map, IsGood, spot_slots}
+use Rattle.vms_convert.proofs.Facade.{part_of, sub_at}
 use Rattle.vms_spec.specs.declared.Part.TheVariants as parts
 use Rattle.vms_desc.specs.Asks.{first_cell}
 
@@ -163,30 +164,37 @@ module _ (all : List Cell) (partners : List (Option ℕ)) (source : List ℤ) wh
 
 -- ---- What the cells of a device have taken, part by part.
 
-module _ (set : Set) (structs : AreSound set.structs) (d : Device) (own : IsSound d.desc)
-    (sound : (i : ℕ) (s : Sub) → slice_get d.subs i ≡ Some s → IsSound s.desc) (partners : List (Option ℕ)) (source : List ℤ) where
-  abbrev pub puts : List Slot → List ℤ → List ℤ
+module _ (set : Set) (i : ℕ) (lt : i < length set.devices) (good : IsGood set) (partners : List (Option ℕ)) (source : List ℤ) where
+  abbrev d : Device
+  d = device_at set i
+
+  abbrev puts : List Slot → List ℤ → List ℤ
   puts slots now = changed (put_step partners source) (steps_of slots) now
 
-  puts_more : (xs ys : List Slot) (now : List ℤ) → puts (xs ++ ys) now ≡ puts ys (puts xs now)
-  puts_more xs ys now = rw (map-append step_of xs ys) (changed_append (put_step partners source) (steps_of xs) (steps_of ys) now)
+  -- the device's own fields and its first j subsections have taken their numbers, from defaults on
+  abbrev TookTo : ℕ → List ℤ → Type 0
+  TookTo j n = n ≡ puts (first_slots set d (all_came d.subs) j n) (map (λ c. c.default) (device_cells set d))
 
-  -- one subsection more
-  pub taken_next : (before n m : List ℤ) (j : ℕ) (s : Sub) → slice_get d.subs j ≡ Some s → n ≡ puts (first_slots set d (all_came d.subs) j n) before
-      → m ≡ puts (sub_slots set s s.desc.version m (part_place set d j)) n → m ≡ puts (first_slots set d (all_came d.subs) (suc j) m) before
-  taken_next before n m j s e first more =
+  pub took_own : (n : List ℤ) → n ≡ puts (spot_slots set (part_of set (parts.Device i)) n) (map (λ c. c.default) (device_cells set d)) → TookTo 0 n
+  took_own n e = rw (append-nil (own_slots set d d.desc.version n)) e
+
+  pub took_sub : (n m : List ℤ) (j : ℕ) → j < length d.subs → TookTo j n → m ≡ puts (spot_slots set (part_of set (parts.Sub i j)) m) n → TookTo (j + 1) m
+  took_sub n m j less first more =
+      let there = slice_get-get_or set.devices i _ lt in
+      let s = sub_at d j in
+      let e : slice_get d.subs j ≡ Some s = slice_get-get_or d.subs j _ less in
       let its = sub_slots set s s.desc.version m (part_place set d j) in
       let keeps : Keeps (steps_of its) n m = subst (Keeps (steps_of its) n) (sym more) (put_keeps partners source (steps_of its) n) in
       let below : SameBelow (part_place set d j) n m =
       record { same = λ c lt. keeps.same c (has_step_of its c ∙ its_below set s.desc s.desc.version (part_place set d j) m c lt) } in
-      let still = first_same set structs d own sound n m (all_came d.subs) j below in
+      let still = first_same set good.structs d (good.devices i d there) (λ k s e. good.subs i k d s there e) n m (all_came d.subs) j below in
       let next = first_next set d (all_came d.subs) j s (Some s.desc.version) m e (at_map (λ (s : Sub). Some s.desc.version) d.subs j s e) in
-      rw (next, puts_more (first_slots set d (all_came d.subs) j m) its before, still, ← first) more
+      let front = first_slots set d (all_came d.subs) j m in
+      let both = changed_append (put_step partners source) (steps_of front) (steps_of its) (map (λ (c : Cell). c.default) (device_cells set d)) in
+      rw (add-one j, next, map-append step_of front its, both, still, ← first) more
 
-  -- all of them, from defaults on
-  pub all_taken : (n : List ℤ) (j : ℕ) → j ≡ length d.subs → n ≡ puts (first_slots set d (all_came d.subs) j n) (map (λ c. c.default) (device_cells set d))
-      → length n ≡ length (device_cells set d) → AreTaken set d partners source n
-  all_taken n j end first long =
+  pub took_all : (n : List ℤ) (j : ℕ) → j ≡ length d.subs → TookTo j n → length n ≡ length (device_cells set d) → AreTaken set d partners source n
+  took_all n j end first long =
       let cells = device_cells set d in
       let before = map (λ (c : Cell). c.default) cells in
       let slots = image_slots set d (whole d n) in

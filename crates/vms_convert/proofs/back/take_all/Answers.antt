@@ -1,8 +1,8 @@
 use Rattle.vms_convert.proofs.Facade.{◌≡◌, ◌<◌, length, refl, ap, ◌∙◌, arith, length-map, IsGood, Cell, device_cells, described, device_at, good_of, Typed}
 use Rattle.vms_convert.proofs.Facade.{spot_slots, steps_of, takes_keeps}
 use Rattle.vms_spec.specs.declared.Part.TheVariants as parts
-use Rattle.vms_convert.proofs.BringLaws.{own_spot, sub_spot, took_all, took_own, took_sub}
-use Rattle.vms_convert.proofs.TakeLaws.{put_rest}
+use Rattle.vms_convert.proofs.BringLaws.{own_spot, sub_spot}
+use Rattle.vms_convert.proofs.TakeLaws.{put_rest, took_all, took_own, took_sub}
 use Rattle.vms_convert.proofs.back.take_all.Goals as goal
 
 pub take_part-requires-clause-part : goal.take_part-requires-clause-part
@@ -59,5 +59,4 @@ returns-clause-taken c =
     let set = described c.args.set.now in
     let good : IsGood set = good_of set c.args.set.now.well_formed c.args.set.now.heads in
     took_all set c.args.device c.requires.device good c.args.partners.now c.args.source.now.numbers c.loop-sub.image.numbers c.loop-sub.sub
-    (omega (arith, c.loop-sub-test.false, c.sub_count-sub-end.ensures))
-    (omega (arith, c.loop-sub.auto.sub-end, c.sub_count-sub-end.ensures)) c.loop-sub.invariant.first c.loop-sub.invariant.long
+    (omega (arith, c.loop-sub-test.false, c.loop-sub.auto.sub-end, c.sub_count-sub-end.ensures)) c.loop-sub.invariant.first c.loop-sub.invariant.long
