@@ -279,9 +279,6 @@ devices_say d sorted ts e = go (fits (codes "devices" ∷ []) [] d) refl e
         }
     go false f e = cc
 
-pub devices_back : (ts : List ToldDevice) → list_all is_good_device ts ≡ true → devices_in (told_tree ts) ≡ Some ts
-devices_back ts h = each_back told_device is_good_device device_in device_back ts h
-
 -- ---- What is read of a description's text is what it says.
 
 value_sorted : (text : List ℕ) (d : Data) → value_in text ≡ Some d → IsSorted d
@@ -299,7 +296,7 @@ tells_if input p devices e =
     record { tree = a.first ∙ ap (λ (d : Data). Some d) s.tree_is; good = s.good_is }
 
 pub told_back : (input : List ℕ) (p : ℕ) (devices : List ToldDevice) → Tells input p devices → next (value_in (drop (p + 5) input)) devices_in ≡ Some devices
-told_back input p devices t = first_then devices_in t.tree (devices_back devices t.good)
+told_back input p devices t = first_then devices_in t.tree (each_back told_device is_good_device device_in device_back devices t.good)
 
 pub not_told : (input : List ℕ) (p : ℕ) → next (value_in (drop (p + 5) input)) devices_in ≡ None → (devices : List ToldDevice) → Tells input p devices → ⊥
 not_told input p e devices t = let back = told_back input p devices t in cc

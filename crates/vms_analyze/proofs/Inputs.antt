@@ -5,8 +5,7 @@ use Rattle.vms_analyze.proofs.Facade.{append_assoc, ⊎_elim, eq-eqb, cases_lt, 
 use Rattle.vms_analyze.proofs.Facade.{IsPlace, IsLastPlace, longest_input, Listing, Refused, listing_of, Lists, IsTooLong, HasNone, HasNoShape, IsRead, Text}
 use Rattle.vms_analyze.proofs.Facade.{Intake, takes_both, takes_as, breaks_more, nothing_follows, Takes, Appended, IsWhole, TakesPiece, TakesInput, HasMore}
 use Rattle.vms_analyze.proofs.Facade.{NoInput, AnalyzeFault, ListsAs, IsListed, IsTooMuch, ListsTaken, ShowsAs, Found, Lines, Differs, Want, behind, found}
-use Rattle.vms_analyze.proofs.Facade.{text_of, Walk, left, Goes, Stops, WhyStopped, AtStart, WhyNone, Stop, Data, Items, no_items, item, next, each, ReadsAs}
-use Rattle.vms_analyze.proofs.Facade.{Unread}
+use Rattle.vms_analyze.proofs.Facade.{text_of, Walk, left, Goes, WhyStopped, AtStart, WhyNone, Stop, Data, Items, no_items, item, next, each, ReadsAs, Unread}
 use Rattle.std.proofs.lemmas.List.{length-take}
 use Rattle.vms_analyze.specs.declared.input.NoInput.TheVariants as none
 use Rattle.vms_analyze.specs.declared.fault.AnalyzeFault.TheVariants as faults
@@ -68,10 +67,6 @@ piece_ends {was = was} p a e le =
 pub piece_grows : {mid new : Intake} {was now : List ℕ} {room : ℕ} {done : Bool} → Appended mid new was now room done → done ≡ false
     → length now ≡ length was + room
 piece_grows {was = was} a e = ap length a.items ∙ length-append was a.bytes ∙ ap (λ (n : ℕ). length was + n) (a.all e)
-
-pub piece_takes : {old mid new : Intake} {was now : List ℕ} {room : ℕ} {done : Bool} → Takes old mid was → Appended mid new was now room done
-    → Takes old new now
-piece_takes p a = takes_as (sym a.items) (takes_both p a.takes)
 
 pub piece_few : {mid new : Intake} {was now : List ℕ} {room : ℕ} {done : Bool} → Appended mid new was now room done → length was + room ≤ longest_input + 1
     → length now ≤ longest_input + 1
@@ -160,14 +155,9 @@ has_more ws old new stream s g other = go (left new) refl
     go [] e = absurd (other (omega (arith, g.inside, ap length (g.input ∙ s.2), ap length e, length-drop new.place new.input.now)))
     go (b ∷ rest) e = ap listing_of (whole_is ws old new stream (b ∷ rest) s g e)
 
--- which stops
-pub is_stopped : (ws : List Want) (old new : Walk) (stream : List ℕ) → AtStart old stream → Stops ws old new
-    → listing_of (found ws 0 0 stream) ≡ Refused new.place reasons.Mismatch
-is_stopped ws old new stream s h = ap listing_of (sym (at_start ws old stream s) ∙ h.differs [])
-
 pub why_none : (ws : List Want) (old new : Walk) (stream : List ℕ) (stop : Stop) → AtStart old stream → WhyStopped ws old new stop
     → WhyNone (listing_of (found ws 0 0 stream)) new stop
-why_none ws old new stream whys.Differs s h = is_stopped ws old new stream s h
+why_none ws old new stream whys.Differs s h = ap listing_of (sym (at_start ws old stream s) ∙ h.differs [])
 why_none ws old new stream whys.NoMemory s h = tt
 
 -- ---- what an input lists

@@ -2,11 +2,11 @@
 use Rattle.vms_analyze.proofs.Facade.{Ordering, Less, Equal, Greater, ◌≡◌, ℕ, Bool, true, false, ◌&&◌, ◌||◌, List, [], ◌∷◌, ◌++◌, append-nil, is_some}
 use Rattle.vms_analyze.proofs.Facade.{unwrap_or, Option, Some, None, refl, sym, ap, ap₂, ◌∙◌, subst, IfSome, option_map, option_and_then, map, ℤ, pos, negsuc}
 use Rattle.vms_analyze.proofs.Facade.{arith, and_parts, le-ltb, nat_list_cmp_total, exact_bytes, is_eq-slice_cmp, nat_cmp, match_ordering, ordering_reverse}
-use Rattle.vms_analyze.proofs.Facade.{is_eq, slice_cmp, bytes_eq, list_all, Data, null, boolean, number, string, array, object, Members, no_members, member}
-use Rattle.vms_analyze.proofs.Facade.{put, Items, item, unsigned, negative, float, no_items, get, get_member, as_bool, as_number, as_str, as_array, as_u64}
-use Rattle.vms_analyze.proofs.Facade.{of_integer, is_one_of, has, has_no_others, has_all, fits, IsLess, IsBefore, AreOrdered, keys_of, IsSorted, AreSorted}
-use Rattle.vms_analyze.proofs.Facade.{HoldSorted, tokens, number_of, of_json, of_items, of_members, max_depth, read, items_of, natural, is_path, fits_four}
-use Rattle.vms_analyze.proofs.Facade.{next, only, text_at, path_at, natural_at, four_at, whole_of, whole_at, each}
+use Rattle.vms_analyze.proofs.Facade.{is_eq, slice_cmp, list_all, Data, null, boolean, number, string, array, object, Members, no_members, member, put, Items}
+use Rattle.vms_analyze.proofs.Facade.{item, unsigned, negative, float, no_items, get, get_member, as_bool, as_number, as_str, as_array, as_u64, of_integer}
+use Rattle.vms_analyze.proofs.Facade.{is_one_of, has, has_no_others, has_all, fits, IsLess, IsBefore, AreOrdered, keys_of, IsSorted, AreSorted, HoldSorted}
+use Rattle.vms_analyze.proofs.Facade.{tokens, number_of, of_json, of_items, of_members, max_depth, read, items_of, natural, is_path, fits_four, next, only}
+use Rattle.vms_analyze.proofs.Facade.{text_at, path_at, natural_at, four_at, whole_of, whole_at, each}
 use Rattle.vms_analyze.proofs.Parts.{each_good}
 use Rattle.serde_json.specs.Data.{Num}
 use Rattle.json.specs.Json as json
@@ -52,16 +52,10 @@ put_both k d (member m e ms) x h = go (slice_cmp nat_cmp k m) refl (put_both k d
 
 -- ---- exactly these keys
 
-other_key : (k l : List ℕ) → IsLess k l → bytes_eq k l ≡ false
-other_key k l e = sym (is_eq-slice_cmp k l) ∙ ap is_eq e
-
-other_back : (k l : List ℕ) → IsLess l k → bytes_eq k l ≡ false
-other_back k l e = sym (is_eq-slice_cmp k l) ∙ ap is_eq (greater_turned k l e)
-
 -- a key before all of these isn't one of them, and has no value
 none_of : (l : List ℕ) (keys : List (List ℕ)) → IsBefore l keys → is_one_of keys l ≡ false
 none_of l [] h = refl
-none_of l (k ∷ keys) h = ap (λ (b : Bool). b || is_one_of keys l) (other_back k l h.0) ∙ none_of l keys h.1
+none_of l (k ∷ keys) h = ap (λ (b : Bool). b || is_one_of keys l) (sym (is_eq-slice_cmp k l) ∙ ap is_eq (greater_turned k l h.0)) ∙ none_of l keys h.1
 
 none_under : (k : List ℕ) (ms : Members) → IsBefore k (keys_of ms) → get_member k ms ≡ None
 none_under k no_members h = refl
@@ -72,7 +66,7 @@ others_left : (k : List ℕ) (keys : List (List ℕ)) (ms : Members) → IsBefor
 others_left k keys no_members h e = refl
 others_left k keys (member l d ms) h e =
     let p = and_parts (is_one_of (k ∷ keys) l) (has_no_others (k ∷ keys) ms) e in
-    let here : is_one_of keys l ≡ true = sym (ap (λ (b : Bool). b || is_one_of keys l) (other_key k l h.0)) ∙ p.0 in
+    let here : is_one_of keys l ≡ true = sym (ap (λ (b : Bool). b || is_one_of keys l) (sym (is_eq-slice_cmp k l) ∙ ap is_eq h.0)) ∙ p.0 in
     ap (λ (b : Bool). b && has_no_others keys ms) here ∙ others_left k keys ms h.1 p.1
 
 all_left : (l : List ℕ) (d : Data) (ms : Members) (keys : List (List ℕ)) → IsBefore l keys → has_all keys (object (member l d ms)) ≡ true

@@ -10,10 +10,6 @@ last_same input p q a b =
     ⊎_elim (λ (lt : p < q). absurd (a.last q lt b.is))
     (λ (ge : q ≤ p). ⊎_elim (λ (lt : q < p). absurd (b.last p lt a.is)) (λ (le : p ≤ q). let same : p ≡ q = omega arith in same) (cases_lt q p)) (cases_lt p q)
 
--- what is read of a description is what it says, so it says one thing
-tells_same : (input : List ℕ) (p : ℕ) (ds es : List ToldDevice) → Tells input p ds → Tells input p es → ds ≡ es
-tells_same input p ds es a b = same_Some ds es (sym (told_back input p ds a) ∙ told_back input p es b)
-
 pub one_holds : OneLaw
 one_holds input _ _ (IsTooLong lt) (IsTooLong lt') = refl
 one_holds input _ _ (IsTooLong lt) (HasNone le none) = absurd (omega arith)
@@ -35,7 +31,8 @@ one_holds input _ _ (IsRead p ds le last tells) (HasNoShape q le' last' other) =
     absurd (other ds (subst (λ (k : ℕ). Tells input k ds) (last_same input p q last last') tells))
 one_holds input _ _ (IsRead p ds le last tells) (IsRead q es le' last' tells') =
     let at = last_same input p q last last' in
-    let same = tells_same input q ds es (subst (λ (k : ℕ). Tells input k ds) at tells) tells' in
+    -- what is read of a description is what it says, so it says one thing
+    let same = same_Some ds es (sym (told_back input q ds (subst (λ (k : ℕ). Tells input k ds) at tells)) ∙ told_back input q es tells') in
     ap₂ (λ (k : ℕ) (l : List ToldDevice). listing_of (found (wants l) 0 0 (take k input))) at same
 
 -- ---- greatest lengths

@@ -93,10 +93,6 @@ element_long (Fixed path n) e = let small = fixed_small n (and_parts (is_path LO
 element_long (Skipped path n) e =
     leb-true n MOST_UNUSED (and_parts (nat_le 1 n) (nat_le n MOST_UNUSED) (and_parts (is_path LONGEST_PATH path) (nat_le 1 n && nat_le n MOST_UNUSED) e).1).1
 
-elements_long : (ts : List Told) → list_all is_good ts ≡ true → total (map element_want ts) ≤ MOST_UNUSED * length ts
-elements_long ts e =
-    each_good is_good (λ ts. total (map element_want ts) ≤ MOST_UNUSED * length ts) (omega arith) (λ t ts p q. omega (arith, element_long t p)) ts e
-
 module _ (set : Set) where
   abbrev sizes : List ℕ
   sizes = struct_items set.structs
@@ -104,7 +100,9 @@ module _ (set : Set) where
   part_long : (most : ℕ) (d : Desc) → IsGoodPart set most d → (sent : Bool) (n : List ℤ) (at : ℕ)
       → total (map element_want (told_part set d sent n at)) ≤ MOST_UNUSED * items_in sizes d.fields
   part_long most d h sent n at =
-      let long = elements_long (told_part set d sent n at) (h.elements sent n at) in
+      let long : total (map element_want (told_part set d sent n at)) ≤ MOST_UNUSED * length (told_part set d sent n at) =
+      each_good is_good (λ ts. total (map element_want ts) ≤ MOST_UNUSED * length ts) (omega arith) (λ t ts p q. omega (arith, element_long t p)) _
+      (h.elements sent n at) in
       let few = h.few sent n at in
       omega arith
 

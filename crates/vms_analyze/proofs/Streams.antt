@@ -109,15 +109,6 @@ module _ (n : List ℤ) (id : ℕ) where
       (line_more (x.counted && is_number x.what) x (printed xs))
       (both_follow (one sent x.what x.counted x.present x.cell x.name said.0) (all_follow sent xs said.1))
 
-  -- of a part that is in the stream
-  pub sent_follow : (xs : List Element) → Each (IsSaid true n) xs
-      → Follows (map element_want (tolds true xs)) id (zeroed n (slots_of xs)) id (map (number_line n) (printed xs))
-  sent_follow xs said = follows_as refl (sent_bytes xs) refl (all_follow true xs said)
-
-  -- of one that doesn't
-  pub kept_follow : (xs : List Element) → Each (IsSaid false n) xs → Follows (map element_want (tolds false xs)) id [] id (map (number_line n) (printed xs))
-  kept_follow xs said = follows_as refl (no_bytes xs) refl (all_follow false xs said)
-
 -- ---- from the lines of a text
 
 said_as : (n : List ℤ) (short : AreShort n) (x : Element) (w : What) → x.what ≡ w → IsCounted x
@@ -168,8 +159,8 @@ module _ (set : Set) (d : Device) (image : Image) (short : AreShort image.number
       (zeroed n (desc_slots (meanings set.structs (length set.structs)) desc desc.version n at)) id (number_lines set desc n at)
   part_follows desc at fine =
       let xs = elements_in set desc desc.version n at in
-      follows_as refl (ap (zeroed n) (elements_slots set desc desc.version n at)) refl
-      (sent_follow n id xs (fine_said n short xs (walks set desc desc.version desc.version n n at at).counted fine))
+      follows_as refl (sent_bytes n id xs ∙ ap (zeroed n) (elements_slots set desc desc.version n at)) refl
+      (all_follow n id true xs (fine_said n short xs (walks set desc desc.version desc.version n n at at).counted fine))
 
   sub_came : (s : Sub) (at : ℕ) → AreFine (number_entries set s.desc n at)
       → Follows (sub_wants (record { name = s.desc.name; sent = true; version = s.desc.version; elements = told_part set s.desc true n at })) id
@@ -184,7 +175,7 @@ module _ (set : Set) (d : Device) (image : Image) (short : AreShort image.number
       (sub_line s None ∷ number_lines set s.desc n at)
   sub_kept s at have =
       let xs = elements_in set s.desc s.desc.version n at in
-      both_follow (one_follows (takes_line (sub_line s None) id)) (kept_follow n id xs (default_said n xs have))
+      both_follow (one_follows (takes_line (sub_line s None) id)) (follows_as refl (no_bytes n id xs) refl (all_follow n id false xs (default_said n xs have)))
 
   subs_follow : (j at : ℕ) (subs : List Sub) (came : List (Option ℕ)) → AreAtVersions subs came → AreFine (subs_entries set d image j at subs came)
       → AreGood set (subs_entries set d image j at subs came)

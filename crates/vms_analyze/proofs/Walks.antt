@@ -1,13 +1,13 @@
 -- A walk over what is required, part after part.
 use Rattle.vms_analyze.proofs.Facade.{map-map, ◌≡◌, ℕ, ◌+◌, List, [], ◌∷◌, ◌++◌, length, append_assoc, append-nil, take, drop, Vec, Global, ℤ, refl, sym, ap}
 use Rattle.vms_analyze.proofs.Facade.{◌∙◌, subst, arith, ◌<◌, get_or, ◌≤◌, true, ◌&&◌, nat_le, map, take-append-drop, drop-drop, take_more, flat_map, list_all}
-use Rattle.vms_analyze.proofs.Facade.{flat_map-append, and_parts, leb-true, flat_map_single, flat_map-map, Result, Ok, Err, OnOk, IfErr, and-false, ◌^◌, Bool}
-use Rattle.vms_analyze.proofs.Facade.{false, ◌==◌, length-append, length-drop, ◌-◌, le-leb, take_all, Kind, code, InRange, text_of, Want, Number, Line}
-use Rattle.vms_analyze.proofs.Facade.{number_line, behind, found, Bytes, Machine, Head, Foot, element_want, sub_head_wants, sub_wants, device_wants}
-use Rattle.vms_analyze.proofs.Facade.{start_wants, wants, left, IsInside, Goes, Stops, Prints, WhyStopped, Walks, Walk, text_append, Stop, LONGEST_NAME, magic}
-use Rattle.vms_analyze.proofs.Facade.{be32, end_mark, ToldDevice, is_path, is_path_byte, is_good_device, told_of, sub_of, device_of, element_wants, subs_wants}
-use Rattle.vms_analyze.proofs.Facade.{devices_wants, Element, number_at, bytes_at, is_name_byte, begins_with, configuration, section_head, is_machine}
-use Rattle.vms_analyze.proofs.Facade.{machine_line, taken, found_after, HasNoMachine, begun, section_line}
+use Rattle.vms_analyze.proofs.Facade.{flat_map-append, and_parts, leb-true, flat_map_single, flat_map-map, Result, Ok, Err, OnOk, IfErr, ◌^◌, Bool, false, ◌==◌}
+use Rattle.vms_analyze.proofs.Facade.{length-append, length-drop, ◌-◌, le-leb, take_all, fits, Kind, code, InRange, text_of, Want, Number, Line, number_line}
+use Rattle.vms_analyze.proofs.Facade.{behind, found, Bytes, Machine, Head, Foot, element_want, sub_head_wants, sub_wants, device_wants, start_wants, wants}
+use Rattle.vms_analyze.proofs.Facade.{left, IsInside, Goes, Stops, Prints, WhyStopped, Walks, Walk, text_append, Stop, LONGEST_NAME, magic, be32, end_mark}
+use Rattle.vms_analyze.proofs.Facade.{ToldDevice, is_path, is_path_byte, is_good_device, told_of, sub_of, device_of, element_wants, subs_wants, devices_wants}
+use Rattle.vms_analyze.proofs.Facade.{Element, number_at, bytes_at, is_name_byte, begins_with, configuration, section_head, is_machine, machine_line, taken}
+use Rattle.vms_analyze.proofs.Facade.{found_after, begun, section_line}
 use Rattle.vms_analyze.proofs.Following.{Takes, one_follows, takes_line, takes_number, behind_both, takes_head}
 use Rattle.vms_analyze.specs.declared.told.Sub.{Sub}
 use Rattle.vms_analyze.specs.declared.told.Device.{Device}
@@ -172,20 +172,11 @@ all_good (x ∷ xs) = all_good xs
 elements_are : (es : List Element) → element_wants es ≡ map element_want (map told_of es)
 elements_are es = flat_map_single (λ e. element_want (told_of e)) es ∙ sym (map-map element_want told_of es)
 
-subs_are : (ss : List Sub) → subs_wants ss ≡ flat_map sub_wants (map sub_of ss)
-subs_are ss = sym (flat_map-map sub_wants sub_of ss)
-
-devices_are : (ds : List Device) → devices_wants ds ≡ flat_map device_wants (map device_of ds)
-devices_are ds = sym (flat_map-map device_wants device_of ds)
-
 -- ---- a subsection
-
-sub_as : (s : Sub) → sub_head_wants (sub_of s) s.sent ++ element_wants s.elements.items ≡ sub_wants (sub_of s)
-sub_as s = ap (λ (l : List Want). sub_head_wants (sub_of s) s.sent ++ l) (elements_are s.elements.items)
 
 pub sub_walks : {a b : Walk} (s : Sub) (c : Walk) (r : Result (Unit {0}) Stop) → Goes (sub_head_wants (sub_of s) s.sent) a b
     → Walks (element_wants s.elements.items) b c r → Walks (sub_wants (sub_of s)) a c r
-sub_walks {a = a} s c r g h = subst (λ (ws : List Want). Walks ws a c r) (sub_as s) (walks_then _ c r g h)
+sub_walks {a = a} s c r g h = rw (← elements_are s.elements.items) (walks_then _ c r g h)
 
 -- ---- a device
 
@@ -205,7 +196,7 @@ module _ (d : Device) where
   device_as : ((head_of d ++ elements) ++ subs) ++ (Foot ∷ []) ≡ all
   device_as =
       ap (λ (l : List Want). ((head_of d ++ l) ++ subs) ++ (Foot ∷ [])) (elements_are d.elements.items)
-      ∙ ap (λ (l : List Want). ((head_of d ++ map element_want (map told_of d.elements.items)) ++ l) ++ (Foot ∷ [])) (subs_are d.subs.items)
+      ∙ ap (λ (l : List Want). ((head_of d ++ map element_want (map told_of d.elements.items)) ++ l) ++ (Foot ∷ [])) (sym (flat_map-map sub_wants sub_of d.subs.items))
 
   as_why : (a c : Walk) (stop : Stop) → WhyStopped (((head_of d ++ elements) ++ subs) ++ (Foot ∷ [])) a c stop → WhyStopped all a c stop
   as_why a c stop w = subst (λ (ws : List Want). WhyStopped ws a c stop) device_as w
@@ -228,9 +219,6 @@ module _ (d : Device) where
 
 -- ---- a stream
 
-pub magic_stops : (a b : Walk) (stop : Stop) → WhyStopped (Bytes magic ∷ []) a b stop → WhyStopped start_wants a b stop
-magic_stops a b stop w = why_before (Bytes magic ∷ []) (Bytes (be32 3) ∷ Machine ∷ []) a b stop w
-
 pub version_stops : {a b : Walk} (c : Walk) (stop : Stop) → Goes (Bytes magic ∷ []) a b → WhyStopped (Bytes (be32 3) ∷ []) b c stop
     → WhyStopped start_wants a c stop
 version_stops {a = a} c stop g w = why_before (Bytes magic ∷ Bytes (be32 3) ∷ []) (Machine ∷ []) a c stop (why_then (Bytes (be32 3) ∷ []) c stop g w)
@@ -244,7 +232,7 @@ module _ (ds : List Device) where
   whole = wants (map device_of ds)
 
   stream_as : (start_wants ++ devices_wants ds) ++ (Bytes end_mark ∷ []) ≡ whole
-  stream_as = ap (λ (l : List Want). (start_wants ++ l) ++ (Bytes end_mark ∷ [])) (devices_are ds)
+  stream_as = ap (λ (l : List Want). (start_wants ++ l) ++ (Bytes end_mark ∷ [])) (sym (flat_map-map device_wants device_of ds))
 
   stream_why : (a c : Walk) (stop : Stop) → WhyStopped ((start_wants ++ devices_wants ds) ++ (Bytes end_mark ∷ [])) a c stop → WhyStopped whole a c stop
   stream_why a c stop w = subst (λ (ws : List Want). WhyStopped ws a c stop) stream_as w
@@ -261,9 +249,6 @@ module _ (ds : List Device) where
 
 -- ---- what is at the front
 
-begins_long : (front rest : List ℕ) → begins_with front rest ≡ true → length front ≤ length rest
-begins_long front rest e = omega (arith, ap length (begun front rest e), length-append front (drop (length front) rest))
-
 -- past it
 passed : (front : List ℕ) (old mid : Walk) → IsInside old → begins_with front (left old) ≡ true → mid.place ≡ old.place + length front → mid.text ≡ old.text
     → mid.input.now ≡ old.input.now → Passed old mid front
@@ -274,7 +259,7 @@ passed front old mid inside e place text input =
           (drop-drop (length front) old.place old.input.now ∙ ap (λ (k : ℕ). drop k old.input.now) (sym place) ∙ ap (drop mid.place) (sym input));
       place = place;
       text = text;
-      inside = omega (arith, inside, begins_long front (left old) e, length-drop old.place old.input.now, place, ap length input);
+      inside = omega (arith, inside, ap length (begun front (left old) e), length-append front (drop (length front) (left old)), length-drop old.place old.input.now, place, ap length input);
       input = input;
     }
 
@@ -311,9 +296,6 @@ machine_goes old mid new name good e id inside place text input prints =
     (takes_machine name old.id good (omega (arith, short)))) (passed (configuration name) old mid inside e place text input) prints
 
 -- ---- the name of a machine
-
-pub no_name : (rest : List ℕ) → list_all is_name_byte (bytes_at (number_at 4 1 rest) 5 rest) ≡ false → HasNoMachine rest
-no_name rest e = record { none = simp (e, and-false) }
 
 -- the name that is there
 pub name_there : (w : Walk) (n : ℕ) → n ≡ number_at 4 1 (left w)

@@ -1,5 +1,5 @@
-use Rattle.vms_analyze.proofs.Facade.{◌≡◌, length, take, rules, arith, sym, takes_none, takes_as}
-use Rattle.vms_analyze.proofs.Inputs.{piece_ends, piece_takes, piece_few, piece_grows, piece_fails}
+use Rattle.vms_analyze.proofs.Facade.{◌≡◌, length, take, rules, arith, sym, takes_none, takes_as, takes_both}
+use Rattle.vms_analyze.proofs.Inputs.{piece_ends, piece_few, piece_grows, piece_fails}
 use Rattle.vms_analyze.proofs.input.read_input.Goals as goal
 
 pub loop-piece-init : goal.loop-piece-init
@@ -24,7 +24,7 @@ loop-piece-preserved g c =
     let full : length (take c.min-room.result c.loop-piece.piece) ≡ c.min-room.result = search rules in
     record {
       few = piece_few c.in-Ok.ensures (first_of (omega (arith, full, c.min-room.ensures), search rules));
-      takes = piece_takes c.loop-piece.invariant.takes c.in-Ok.ensures;
+      takes = takes_as (sym c.in-Ok.ensures.items) (takes_both c.loop-piece.invariant.takes c.in-Ok.ensures.takes);
     }
 
 pub loop-piece-smaller : goal.loop-piece-smaller

@@ -1,5 +1,5 @@
-use Rattle.vms_analyze.proofs.Facade.{◌≤◌, ◌+◌, ◌-◌, length, length-take, take, drop, sym, ap, ◌∙◌, arith, list_all, LONGEST_NAME, is_name_byte, left}
-use Rattle.vms_analyze.proofs.Walks.{name_there, is_name_of, no_name}
+use Rattle.vms_analyze.proofs.Facade.{◌≤◌, ◌+◌, ◌-◌, length, length-take, take, drop, sym, ap, ◌∙◌, arith, list_all, and-false, LONGEST_NAME, is_name_byte}
+use Rattle.vms_analyze.proofs.Walks.{name_there, is_name_of}
 use Rattle.vms_analyze.proofs.walk.Walk.machine_name.Goals as goal
 
 pub returns-then-are_name_bytes : goal.returns-then-are_name_bytes
@@ -15,5 +15,5 @@ returns-then-are_name_bytes c =
 
 pub returns-else-are_name_bytes : goal.returns-else-are_name_bytes
 returns-else-are_name_bytes c =
-    no_name (left c.args.self.now) (ap (list_all is_name_byte) (sym (name_there c.args.self.now c.in_ok-long.field-0 c.in_ok-long.ensures.1))
-    ∙ sym c.if-are_name_bytes.ensures)
+    let e = ap (list_all is_name_byte) (sym (name_there c.args.self.now c.in_ok-long.field-0 c.in_ok-long.ensures.1)) ∙ sym c.if-are_name_bytes.ensures in
+    record { none = simp (e, and-false) }
