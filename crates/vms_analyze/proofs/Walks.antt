@@ -2,7 +2,7 @@
 use Rattle.vms_analyze.proofs.Facade.{map-map, ◌≡◌, ℕ, ◌+◌, List, [], ◌∷◌, ◌++◌, length, append_assoc, append-nil, take, drop, Vec, Global, ℤ, refl, sym, ap}
 use Rattle.vms_analyze.proofs.Facade.{◌∙◌, subst, arith, ◌<◌, get_or, ◌≤◌, true, ◌&&◌, nat_le, map, take-append-drop, drop-drop, take_more, flat_map, list_all}
 use Rattle.vms_analyze.proofs.Facade.{flat_map-append, and_parts, leb-true, flat_map_single, flat_map-map, Result, Ok, Err, OnOk, IfErr, ◌^◌, Bool, false, ◌==◌}
-use Rattle.vms_analyze.proofs.Facade.{length-append, length-drop, ◌-◌, le-leb, take_all, fits, Kind, code, InRange, text_of, Want, Number, Line, number_line}
+use Rattle.vms_analyze.proofs.Facade.{length-append, length-drop, ◌-◌, le-leb, take_all, Kind, code, InRange, text_of, Want, Number, Line, number_line}
 use Rattle.vms_analyze.proofs.Facade.{behind, found, Bytes, Machine, Head, Foot, element_want, sub_head_wants, sub_wants, device_wants, start_wants, wants}
 use Rattle.vms_analyze.proofs.Facade.{left, IsInside, Goes, Stops, Prints, WhyStopped, Walks, Walk, text_append, Stop, LONGEST_NAME, magic, be32, end_mark}
 use Rattle.vms_analyze.proofs.Facade.{ToldDevice, is_path, is_path_byte, is_good_device, told_of, sub_of, device_of, element_wants, subs_wants, devices_wants}
