@@ -199,17 +199,17 @@ module _ (to new : Set) (i k : ℕ) (source : List ℤ) (p : IsReturning to new 
 
 module _ (to new : Set) (name : Option (List ℕ)) (images backs : List Image)
     (back : AreBack to new (recast_each to new.devices (numbers_in images)) backs) where
-  abbrev wanted : List (List ℤ)
-  wanted = recast_each to new.devices (numbers_in images)
+  abbrev wants : List (List ℤ)
+  wants = recast_each to new.devices (numbers_in images)
 
   abbrev given : List (List ℤ)
   given = numbers_in (carried to new backs)
 
-  pub loses_kept : (section cell : Option ℕ) (empty : Outlet) → Loses to new name wanted given backs section cell
+  pub loses_kept : (section cell : Option ℕ) (empty : Outlet) → Loses to new name wants given backs section cell
       → ConvertsKept to new name images empty empty (Err (faults.WouldLose section cell))
   loses_kept section cell empty h = (record { backs = backs; back = back; loses = h }, refl)
 
-  module _ (m : Option ℕ) (h : Judges to new name wanted given backs (Ok m)) where
+  module _ (m : Option ℕ) (h : Judges to new name wants given backs (Ok m)) where
     streams : IsStreamFor to new name images (stream_of to (at_option to.machines m) backs)
     streams = record { backs = backs; back = back; keeps = h.0; is = ap (λ (n : Option (List ℕ)). stream_of to n backs) h.1.is }
 
