@@ -86,7 +86,7 @@ module _ (to new : Set) (fit : IsFit to) (well : WellFormed new) (compatible : C
         | inr n ↦ inr (λ valid. n (valid o.i o.d (device_at new k) image at_k o.found o.stands at_i))
         | inl h ↦ inl (λ i d e back in_new found in_old at.
             let e_is : device_at new k ≡ e = cc (at_k, in_new) in
-            let number : o.i ≡ i = cc (o.found, rw (← e_is) at found) in
+            let number : o.i ≡ i = cc (o.found, found) in
             let d_is : o.d ≡ d = cc (o.stands, in_old) in
             let image_is : image ≡ back = cc (at_i, at) in
             rw (← d_is, ← image_is) h)

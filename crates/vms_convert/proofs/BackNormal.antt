@@ -116,7 +116,7 @@ module _ (to : Set) (well : WellFormed to) (heads : FitsHeads to) (i : ℕ) (d :
         let same : j' ≡ j = one_part to (own_cells to d) d.subs j' j c s' s e h.is range.0 range.1 h.low h.high in
         let one : s' ≡ s = cc (e, h.is) in
         let v_is : v ≡ s'.desc.version = cc (f, at_map (λ (s : Sub). Some s.desc.version) d.subs j' s' e) in
-        cc (before, rw (v_is, one, same) at has)
+        cc (before, has)
 
     absent_needed : (c j : ℕ) (s : Sub) → c < length cells → IsCellOf to d j s c → is_needed to d (whole d now) s j ≡ true → in_subs then_ came_back c ≡ false
         → get_or then_ c (pos 0) ≡ default_at c

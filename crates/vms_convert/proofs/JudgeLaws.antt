@@ -70,7 +70,7 @@ module _ (to new : Set) (images : List Typed) (writable : AreWritable to images)
       → slice_get all i ≡ Some (state_of image) → IsReady to (device_at to i) (state_of image) → IsValidAt to new all k
   valid_of i image found at ready j d e back in_new found' in_old at' =
       let e_is = device_is new k e in_new in
-      let number : i ≡ j = cc (found, rw (← e_is) at found') in
+      let number : i ≡ j = cc in
       let back_is : state_of image ≡ back = cc (at, at') in
       let d_is : device_at to i ≡ d = rw number (device_is to j d in_old) in
       rw (← d_is, ← back_is) ready.valid
@@ -88,7 +88,7 @@ module _ (to new : Set) (images : List Typed) (writable : AreWritable to images)
       })
 
   pub valid_none : find_device 0 to.devices (device_at new k).desc.name (device_at new k).instance ≡ None → IsValidAt to new all k
-  valid_none none j d e back in_new found in_old at = let e_is = device_is new k e in_new in cc (none, rw (← e_is) at found)
+  valid_none none j d e back in_new found in_old at = let e_is = device_is new k e in_new in cc
 
 -- ---- all together
 
