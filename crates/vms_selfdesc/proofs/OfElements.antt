@@ -18,7 +18,7 @@ module _ (j : ℕ) (ss Ss : List Shape) (agree : (i : ℕ) → i < j → get_or 
 
   item_elements_same : (item : Item) (caps : List ℕ) (z : ℤ) (n : List ℤ) (at : ℕ) → ItemBelow j item
       → item_elements ss item caps z n at ≡ item_elements Ss item caps z n at
-  item_elements_same (Struct i) caps z n at e = ap (λ (s : Shape). map dotted (s.elements n at)) (agree i e)
+  item_elements_same (Struct i) caps z n at e = rw (agree i e)
   item_elements_same _ caps z n at e = refl
 
   field_elements_same : (fields : List Field) (v : ℕ) (own : ℕ → ℕ) (n : List ℤ) (i at : ℕ) (f : Field) → ItemBelow j f.item
@@ -65,8 +65,8 @@ module _ (set : Set) (j : ℕ) (lt : j < length set.structs) (below : FieldsBelo
   struct_elements_are n at =
       let ds = set.structs in
       let d = get_or ds j no_desc in
-      ap (λ (s : Shape). s.elements n at) (first_at shape ds no_shape (length ds) j lt)
-      ∙ desc_elements_same j _ _ (λ i l. first_same shape ds no_shape j (length ds) i (omega arith) l) d d.version n at below
+      rw (first_at shape ds no_shape (length ds) j lt)
+      (desc_elements_same j _ _ (λ i l. first_same shape ds no_shape j (length ds) i (omega arith) l) d d.version n at below)
 
 -- ---- What is listed of elements: of those of an item, of a field and of a description.
 
@@ -146,8 +146,8 @@ module _ (f : Field) (number : ℕ) (there : Bool) (part : ℕ → List Element)
       → entries_of sent path (array_elements f (record { number = number; count = elements_of count own; there = there }) part step 0 (capacity_of count) at)
       ≡ array_entries one count (elements_of count own) (path ++ f.name) at step
   of_count own One at e = rw (of_append, append-nil, here 0 at, e, append-nil f.name)
-  of_count own (Fixed m) at e = many m m at (omega arith) (λ i. ap (λ c. index_text c i) e)
-  of_count own (Counted by m) at e = many m (elements_of (Counted by m) own) at (elements_fit (Counted by m) own) (λ i. ap (λ c. index_text c i) e)
+  of_count own (Fixed m) at e = many m m at (omega arith) (λ i. rw e)
+  of_count own (Counted by m) at e = many m (elements_of (Counted by m) own) at (elements_fit (Counted by m) own) (λ i. rw e)
 
 pub of_field : (shapes : List Shape) (fields : List Field) (v : ℕ) (own : ℕ → ℕ) (sent : Bool) (path : List ℕ) (n : List ℤ) (i at : ℕ) (f : Field)
     → entries_of sent path (field_elements shapes fields v own n i at f)

@@ -1,6 +1,6 @@
 -- Names and paths are written as they are, and the texts of members and entries piece by piece.
 use Rattle.vms_selfdesc.proofs.Facade.{nat_tests, ◌≡◌, ℕ, ◌<◌, length, true, ◌≤◌, List, [], ◌++◌, length-append, string_bytes, append_assoc, subst, sym, ap}
-use Rattle.vms_selfdesc.proofs.Facade.{◌∙◌, arith, ◌∷◌, codes, decimal, ◌+◌, ◌&&◌, nat_le, drop, take, refl, ◌^◌, ◌%◌, list_all, and_parts, leb-true, digits}
+use Rattle.vms_selfdesc.proofs.Facade.{arith, ◌∷◌, codes, decimal, ◌+◌, ◌&&◌, nat_le, drop, take, refl, ◌^◌, ◌%◌, list_all, and_parts, leb-true, digits}
 use Rattle.vms_selfdesc.proofs.Facade.{decimal_by_steps, length-decimal-le, take-append-drop, bytes_eq-Decides, bytes_eq, Part, is_name, is_name_byte}
 use Rattle.vms_selfdesc.proofs.Facade.{is_sub_name, Set, field_at, device_at, is_well_formed, HasPart, desc_at, sub_at, device_clean, sub_clean, field_sound}
 use Rattle.vms_selfdesc.proofs.Facade.{IsPlain, Extends, IsEmpty, IsSound, Puts, Adds, Begins, member_text, cell_tail, absent_tail, Text, escape_byte, quoted}
@@ -130,7 +130,7 @@ further {a} {b} {c} {xs} {ys} f g = record {
 }
 
 pub same : {a b : Text} {xs ys : List ℕ} → Extends a b xs → xs ≡ ys → Extends a b ys
-same {a} {b} more e = subst (Extends a b) e more
+same {a} {b} more e = rw e at more
 
 pub unchanged : (a : Text) → Extends a a []
 unchanged a = record { whole = λ e. (e, sym (append-nil (string_bytes a.written))); fits = λ e le. e; room = omega arith }
@@ -196,7 +196,7 @@ entry_adds {a} {b} {e} {t} {size} {type} {ms} p begun path more sound later kept
           (rw (begun.keeps.path, append-nil (compact_text entry), plain_escape name p, append_assoc name (34 ∷ []) rest) (simp append_assoc));
       later = later;
       sound = (sound, tt);
-      path = kept ∙ begun.keeps.path;
+      path = cc;
     }
 
 pub tail_text : (kind : Kind) → cell_tail kind ≡ 34 ∷ members_text true (size_members (width kind) (kind_word kind) no_members)

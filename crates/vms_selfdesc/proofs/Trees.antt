@@ -46,7 +46,7 @@ adds_further {a} {b} {c} {ds} {es} p q = record {
   text = same (further p.text q.text) (rw (texts_append a.later ds es, p.later));
   later = rw (q.later, p.later, after_append a.later ds es);
   sound = sound_append ds es p.sound q.sound;
-  path = q.path ∙ p.path;
+  path = cc;
 }
 
 pub adds_none : (a : Draft) → Adds a a []
@@ -131,7 +131,7 @@ pub lays : {a b c : Draft} {s : Text} {ds : List Data} → Extends a.text s (91 
 lays {ds = ds} opens adds close path = record {
   text = same (further opens (further adds.text close)) (rw (items_texts false ds));
   sound = array_sound ds adds.sound;
-  path = path ∙ adds.path;
+  path = cc;
 }
 
 -- an object that begins with fields
@@ -143,7 +143,7 @@ fields_adds begun lays more is sound later path = record {
   text = same (further (further begun.text lays.text) more) (rw (← is) (simp (append_assoc, append-nil)));
   later = later;
   sound = (sound, tt);
-  path = path ∙ lays.path ∙ begun.keeps.path;
+  path = cc;
 }
 
 -- the members of a subsection after its fields
@@ -181,7 +181,7 @@ unfolding escape_byte
 whole_lays {ds = ds} opens adds close path = record {
   text = same (further opens (further adds.text close)) (rw (items_texts false ds) (simp append_assoc));
   sound = whole_sound ds (array_sound ds adds.sound);
-  path = path ∙ adds.path;
+  path = cc;
 }
 
 -- ---- subsections
