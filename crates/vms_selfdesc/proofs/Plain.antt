@@ -140,20 +140,14 @@ unchanged a = record { whole = λ e. (e, sym (append-nil (string_bytes a.written
 pub wrote : {a b : Text} {room : ℕ} {bytes : List ℕ} → IsEmpty a room → Extends a b bytes → b.whole ≡ true → string_bytes b.written ≡ bytes
 wrote empty more e = rw ((more.whole e).1, empty.bytes)
 
-pub enough : {a b : Text} {room : ℕ} {bytes : List ℕ} → IsEmpty a room → Extends a b bytes → length bytes ≤ room → b.whole ≡ true
-enough empty more le = more.fits empty.whole (omega (arith, ap length empty.bytes))
-
 -- ---- The texts of members and entries, piece by piece.
 
 pub quoted_plain : (s : List ℕ) → IsPlain s → 34 ∷ (s ++ 34 ∷ []) ≡ quoted s
 quoted_plain s p = rw (plain_escape s p)
 
-key_text : (k v : List ℕ) → IsPlain k → (codes ",\"" ++ (k ++ codes "\":")) ++ v ≡ 44 ∷ (quoted k ++ 58 ∷ v)
-key_text k v p = rw (plain_escape k p, append_assoc k (34 ∷ []) (58 ∷ v), append_assoc k (34 ∷ 58 ∷ []) v)
-
 pub puts : {a b c : Text} {k v : List ℕ} {d : Data} → IsPlain k → Extends a b (codes ",\"" ++ (k ++ codes "\":")) → Extends b c v → v ≡ compact_text d
     → IsSound d → Puts a c k d
-puts {a} {b} {c} {k} {v} p key value is sound = record { text = same (further key value) (rw (← is) (key_text k v p)); sound = sound }
+puts {a} {b} {c} {k} {v} p key value is sound = record { text = same (further key value) (rw (← is, plain_escape k p, append_assoc k (34 ∷ []) (58 ∷ v), append_assoc k (34 ∷ 58 ∷ []) v)); sound = sound }
 
 -- ---- objects
 

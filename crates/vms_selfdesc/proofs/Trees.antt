@@ -49,9 +49,6 @@ adds_further {a} {b} {c} {ds} {es} p q = record {
   path = cc;
 }
 
-pub adds_none : (a : Draft) → Adds a a []
-adds_none a = record { text = unchanged a.text; later = refl; sound = tt; path = refl }
-
 -- what was written under a path that was gone into and left again
 pub leave_path : {old : Draft} {inside left : Path} {new : Draft} {ds : List Data} → Adds (record { text = old.text; path = inside; later = old.later }) new ds
     → string_bytes left.text ≡ string_bytes old.path.text → Adds old (record { text = new.text; path = left; later = new.later }) ds
@@ -66,7 +63,7 @@ leaves_rest {A} {f} part h e adds = record {
 }
 
 pub leaves_all : {A : Type 0} {f : A → Data} (old : Draft) {whole left : List A} → whole ≡ left → Leaves f old old whole left
-leaves_all old e = record { done = []; split = e; lists = adds_none old }
+leaves_all old e = record { done = []; split = e; lists = record { text = unchanged old.text; later = refl; sound = tt; path = refl } }
 
 -- trees themselves are left
 pub leaves_none : {old now : Draft} {whole left : List Data} → left ≡ [] → Leaves (λ d. d) old now whole left → Adds old now whole
