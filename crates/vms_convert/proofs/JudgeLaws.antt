@@ -1,10 +1,10 @@
 -- What was found of the devices, as the relations say it.
-use Rattle.vms_convert.proofs.Facade.{◌≡◌, ℕ, ◌<◌, Bool, true, false, List, [], ◌∷◌, length, get_or, map, Option, Some, None, Result, Ok, Err, ℤ, refl, sym}
-use Rattle.vms_convert.proofs.Facade.{◌∙◌, arith, length-map, slice_get-get_or, slice_get_within, slice_get, OnFalse, OnTrue, IsFit, Device, Set, Image, Cell}
-use Rattle.vms_convert.proofs.Facade.{device_cells, find_device, set_4, AreReady, IsReady, WellFormed, device_at, IsNameAt, device_is, Typed, state_of}
-use Rattle.vms_convert.proofs.Facade.{shipped_holds, AreKept, name_of, device_below, image_at, carried, Compatible, AreOfKinds, back, pair, all_in, AreBack}
-use Rattle.vms_convert.proofs.Facade.{recast_each, AreWritable, FirstInvalid, Judges, KeepsMachine, KeepsName, first_cell_at, first_of, IsValidAt, Loses}
-use Rattle.vms_convert.proofs.Facade.{OfDevice, OfMachine, first_cell, numbers_in, AreReturned, AreReturnedTo, IsFirstLost, Loss, LostCell}
+use Rattle.vms_convert.proofs.Facade.{◌≡◌, ℕ, ◌<◌, List, [], ◌∷◌, length, get_or, map, Option, Some, None, Result, Ok, Err, ℤ, refl, sym, ◌∙◌, arith}
+use Rattle.vms_convert.proofs.Facade.{length-map, slice_get-get_or, slice_get_within, slice_get, IsFit, Device, Set, Image, Cell, device_cells, find_device}
+use Rattle.vms_convert.proofs.Facade.{set_4, AreReady, IsReady, WellFormed, device_at, IsNameAt, device_is, Typed, state_of, shipped_holds, AreKept, name_of}
+use Rattle.vms_convert.proofs.Facade.{device_below, carried, Compatible, AreOfKinds, back, pair, all_in, AreBack, recast_each, AreWritable, FirstInvalid}
+use Rattle.vms_convert.proofs.Facade.{Judges, KeepsMachine, KeepsName, first_cell_at, first_of, IsValidAt, Loses, OfDevice, OfMachine, first_cell, numbers_in}
+use Rattle.vms_convert.proofs.Facade.{AreReturned, AreReturnedTo, IsFirstLost, Loss, LostCell}
 use Rattle.vms_convert.proofs.Converts.{back_stands}
 use Rattle.vms_convert.proofs.LostLaws.{all_carried, cell_lost, no_device}
 use Rattle.vms_convert.proofs.RecastLaws.{newest_kinds, recast_long}
@@ -110,21 +110,10 @@ keeps_machine to new names name k own names_are name_is h =
 
 -- ---- the answer, of what comes back of the images that a loader of the newest set keeps
 
-pub on_true : (b : Bool) (P Q : Type 0) → (P → Q) → OnTrue b P → OnTrue b Q
-on_true true P Q f h = f h
-on_true false P Q f h = h
-
-pub on_false : (b : Bool) (P Q : Type 0) → (P → Q) → OnFalse b P → OnFalse b Q
-on_false true P Q f h = h
-on_false false P Q f h = f h
-
 module _ (to : Set) (images : List Typed) (writable : AreWritable to images) (name : List ℕ) (instance own : ℕ)
     (found : find_device 0 to.devices name instance ≡ Some own) where
   pub own_bound : own < length images
   own_bound = omega (arith, device_below to.devices name instance own found, writable.count)
-
-  pub own_image : (image : Typed) → image ≡ get_or images own image → slice_get images own ≡ Some image
-  own_image image is = image_at images own image own_bound is
 
 -- what is first invalid of images in the newest set, as it is named elsewhere
 pub invalid_by : (to new : Set) (images : List Typed) (s : Set) (o found : Option ℕ) → s ≡ new → FirstInvalid to s (map state_of images) found → found ≡ o
