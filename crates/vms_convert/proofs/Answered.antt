@@ -51,8 +51,6 @@ either_valid (Rule true ∷ slots) = elim (either_valid slots) [ inl h ↦ inl (
 either_valid (_ ∷ slots) = either_valid slots
 
 module _ (to new : Set) (fit : IsFit to) (well : WellFormed new) (compatible : Compatible to new) where
-  -- ---- an image of each device
-
   abbrev IsBackAt : List (List ℤ) → ℕ → Image → Type 0
   IsBackAt wanted i image = (k : ℕ) (d e : Device) → IsPairAt to new i k d e → IsBack to d (device_partners to new d e) (get_or wanted k []) image
 
@@ -91,8 +89,6 @@ module _ (to new : Set) (fit : IsFit to) (well : WellFormed new) (compatible : C
             let image_is : image ≡ back = cc (at_i, at) in
             rw (← d_is, ← image_is) h)
       ]
-
-  -- ---- all together
 
   module _ (wanted : List (List ℤ)) (long : length wanted ≡ length new.devices)
       (kinds : (k : ℕ) (e : Device) → slice_get new.devices k ≡ Some e → AreOfKinds (device_cells new e) (get_or wanted k []))

@@ -17,8 +17,6 @@ all_subs (s ∷ subs) h = (h 0 s refl, all_subs subs (λ j t e. h (suc j) t e))
 
 -- ---- What comes back is normal, whatever numbers of the right kinds it is made of, and has come as needed.
 
--- ---- what is taken fits
-
 taken_fits : (numbers : List ℤ) (cell : Cell) (has : Bool) (p : Option ℕ) → FitsCell cell cell.default
     → ((k : ℕ) → p ≡ Some k → InRange cell.kind (get_or numbers k (pos 0))) → FitsCell cell (taken numbers cell has p)
 taken_fits numbers cell true (Some k) fine h = go (exceeds cell.capacities (get_or numbers k (pos 0))) refl where
@@ -141,8 +139,6 @@ module _ (to : Set) (well : WellFormed to) (heads : FitsHeads to) (i : ℕ) (d :
       by_needed j s h true n = absent_needed c j s lt h n parts.1
       by_needed j s h false n = rw (back.settled.subs j s c h, n)
 
-    -- ---- the image
-
     pub back_may : MayBeWritten to d image
     back_may = rw back.is (record {
       normal = record {
@@ -217,8 +213,6 @@ module _ (partners : List (Option ℕ)) (numbers : List ℤ) where
           | inr other ↦ rw (ne_eqb b c other, partner_other (get_or numbers b (pos 0)) (get_or partners b None) now k (λ f. other (once b c k f e)))
         ]
     given_at (_ ∷ slots) c k now lt e = given_at slots c k now lt e
-
--- ---- a whole device
 
 -- from defaults on
 pub given_all : (old new : Set) (d e : Device) (image : Image) → ArePartners (device_cells old d) (device_cells new e) (device_partners old new d e)

@@ -104,8 +104,6 @@ meanings_known ds sound (suc k) le =
           (sound k (omega arith)) s;
     })
 
--- ---- a device
-
 module _ (set : Set) (structs : AreSound set.structs) where
   part_known : (d : Desc) → IsSound d → (v base c : ℕ) (n m : List ℤ) → SameBelow c n m
       → Alike c (desc_slots (meanings set.structs (length set.structs)) d v m base) (desc_slots (meanings set.structs (length set.structs)) d v n base)
@@ -235,8 +233,6 @@ module _ (set : Set) (d : Device) (before : List ℤ) where
           subs = λ j s c x. (at c (cell_inside j s c x)).subs j s x;
         },
       )
-
--- ---- an image
 
 pub has_back : ComesBackLaw
 has_back to fit i d there partners numbers =

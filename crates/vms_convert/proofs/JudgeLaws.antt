@@ -90,8 +90,6 @@ module _ (to new : Set) (images : List Typed) (writable : AreWritable to images)
   pub valid_none : find_device 0 to.devices (device_at new k).desc.name (device_at new k).instance ≡ None → IsValidAt to new all k
   valid_none none j d e back in_new found in_old at = let e_is = device_is new k e in_new in cc
 
--- ---- all together
-
 module _ (to new : Set) (name : Option (List ℕ)) (wanted there : List (List ℤ)) (backs : List Image) (same : wanted ≡ there) where
   pub machine_judged : FirstInvalid to new backs None → (r : Result (Option ℕ) Loss) → KeepsMachine to name r → Judges to new name wanted there backs r
   machine_judged valid (Ok m) h = (record { cells = same; valid = valid; machine_is = h.one }, h)

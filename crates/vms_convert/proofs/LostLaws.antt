@@ -23,8 +23,6 @@ module _ (to new : Set) (wanted : List (List ℤ)) where
   same_partner : (i k l : ℕ) → ArePaired to new i k → ArePaired to new i l → k ≡ l
   same_partner i k l p q = cc
 
-  -- ---- one device more
-
   module _ (backs : List Image) (x : Image) (n k : ℕ) (long : length backs ≡ n) (pair : ArePaired to new n k) where
     abbrev more : List Image
     more = backs ++ x ∷ []
@@ -91,8 +89,6 @@ module _ (to new : Set) (wanted : List (List ℤ)) where
     lost_next (Some l) None next h e is = rw is (all_given (Some l) h e)
     lost_next None (Some c) next h e is = rw is (lost_here c e (λ i j lt less p. h i j lt p))
     lost_next (Some l) (Some c) next h e is = rw is (earlier_of l c h e (nat_lt l.device k) refl)
-
--- ---- all devices
 
 module _ (to new : Set) (well_to : WellFormed to) (well_new : WellFormed new) (compatible : Compatible to new) where
   -- the older set's device of the name and instance of device k
@@ -241,8 +237,6 @@ fresh_of set images states of = record {
       cc (rw states at (at_map state_of images i image at), at_map (default_image set) set.devices i (device_at set i) (there set i lt)) in
       ap (λ (kinds : List Kind). typed kinds (state_of image)) (of.each i image at).kinds ∙ ap (typed (kinds_at set i)) same;
 }
-
--- ---- while devices are brought
 
 -- the first n devices have been brought, and all others not
 pub record Midway (to new : Set) (wanted : List (List ℤ)) (n : ℕ) (routes : List Route) (images : List Typed) (lost : Option LostCell) : Type 0 where

@@ -126,8 +126,6 @@ module _ (s t : Side) (k : ℕ) (lt : k < length (desc_on s).fields) (few : HasF
         so_far = rw (put, entries, left_paired _ _ _ (desc_on s).fields s.version k lt entry (entries_at t more) e, append_assoc);
       }
 
--- ---- whole descriptions
-
 pub all_paired : (s t : Side) (before after : List (Option ℕ)) (k first : ℕ) (start : Start) → length (desc_on s).fields ≤ k
     → after ++ partners_left s t k start ≡ before ++ partners_left s t 0 (record { field = 0; cell = first }) → after ≡ before ++ partners_on s t first
 all_paired s t before after k first start end e =

@@ -142,8 +142,6 @@ module _ (set : Set) (d : Device) (image : Image) where
     pub done : (i : ℕ) (s : Sub) → i < j → slice_get subs i ≡ Some s → slice_get came i ≡ Some (comes i s)
     pub left : (i : ℕ) (s : Sub) → j ≤ i → slice_get subs i ≡ Some s → slice_get came i ≡ Some None
 
-  -- ---- all of them
-
   pub comes_at : (subs : List Sub) (i j : ℕ) (s : Sub) → slice_get subs j ≡ Some s → slice_get (needed_from set d image i subs) j ≡ Some (comes (i + j) s)
   comes_at [] i j s e = absurd (cc)
   comes_at (t ∷ subs) i zero s e =
