@@ -1,9 +1,9 @@
 -- The parts of a device, as the code walks over them by number.
 use Rattle.vms_convert.proofs.Facade.{add-one, ◌≡◌, ℕ, ◌+◌, ◌<◌, ◌≤◌, Bool, true, false, List, length, Option, Some, None, ℤ, refl, sym, ap, ◌∙◌, arith, get_or}
 use Rattle.vms_convert.proofs.Facade.{append-nil, slice_get-get_or, slice_get, take_all, map-append, Sub, Device, Set, device_cells, own_slots, Image}
-use Rattle.vms_convert.proofs.Facade.{image_slots, needed_at, device_at, is_well_formed, sub_at, few_cells, own_inside_device, sub_inside, IsImageOf, Typed}
-use Rattle.vms_convert.proofs.Facade.{HasSpot, spot_slots, steps_of, SettlesBy, SettlesSub, part_of, own_part, part_slots, sub_slots_at, changed, part_place}
-use Rattle.vms_convert.proofs.Facade.{give_step, changed_append, step_of}
+use Rattle.vms_convert.proofs.Facade.{image_slots, needed_at, device_at, is_well_formed, sub_at, few_cells, own_inside_device, sub_inside, Typed, HasSpot}
+use Rattle.vms_convert.proofs.Facade.{spot_slots, steps_of, SettlesBy, SettlesSub, part_of, own_part, part_slots, sub_slots_at, changed, part_place, give_step}
+use Rattle.vms_convert.proofs.Facade.{changed_append, step_of}
 use Rattle.vms_spec.specs.declared.Part.TheVariants as parts
 use Rattle.vms_convert.proofs.TakeLaws.{first_slots, first_next, one_slots}
 
@@ -34,16 +34,6 @@ module _ (set : Set) (i : ℕ) (lt : i < length set.devices) where
     go : (t : Bool) → SettlesBy t set i j a b → b ≡ record a { numbers = b.numbers }
     go true s = s ∙ ap (λ (x : Typed). record a { numbers = x.numbers }) (sym s)
     go false s = s.1
-
--- ---- images that keep all but their numbers
-
-pub image_kept : (set : Set) (i : ℕ) (a b : Typed) → IsImageOf set i a → b ≡ record a { numbers = b.numbers } → length b.numbers ≡ length a.numbers
-    → IsImageOf set i b
-image_kept set i a b of rest long = record {
-  subs = ap (λ (x : Typed). length x.came) rest ∙ of.subs;
-  cells = long ∙ of.cells;
-  kinds = ap (λ (x : Typed). x.kinds) rest ∙ of.kinds;
-}
 
 -- ---- What is given, part by part.
 

@@ -1,12 +1,12 @@
 -- What is converted loads as the newer set's, and again.
 use Rattle.vms_convert.proofs.Facade.{subst, ◌≡◌, ℕ, ◌≤◌, true, false, ◌&&◌, List, [], ◌∷◌, length, get_or, Option, Some, refl, sym, ap, ◌∙◌, arith, ℤ}
-use Rattle.vms_convert.proofs.Facade.{if◌then◌else◌, ◌<◌, map, slice_get_within, slice_get, get_or-map, length-map, Ok, Err, Device, Set, Image, IsNormal}
+use Rattle.vms_convert.proofs.Facade.{if◌then◌else◌, ◌<◌, map, slice_get_within, slice_get, get_or-map, length-map, Ok, Device, Set, Image, IsNormal}
 use Rattle.vms_convert.proofs.Facade.{image_slots, AreReady, longest_text, written, WellFormed, device_cells, Cell, no_cell, IsFit, same_lists, well_good}
 use Rattle.vms_convert.proofs.Facade.{Compatible, carried, carried_device, pair, back, all_in, upgrade_stands, recast_cells, recast_twice, AreBack, IsConverted}
 use Rattle.vms_convert.proofs.Facade.{IsPairAt, recast_each, OneBackLaw, BackLaw, AreRecastOf, numbers_in, device_partners, recast, is_port, wants_arrays}
 use Rattle.vms_convert.proofs.Facade.{device_paired, U8, ArePartners, AreOfKinds, carried_stands, device_at, kinds_at, Typed, default_at, state_of, steps_of}
-use Rattle.vms_convert.proofs.Facade.{IsBack, Changes, AreTargets, give_step, AreSources, IsWholeStream, Converts, at_option, Outlet, ConvertsKept, IsStreamFor}
-use Rattle.vms_convert.proofs.Facade.{PutsStream, Judges, stream_of, Loses, ArePut}
+use Rattle.vms_convert.proofs.Facade.{IsBack, Changes, AreTargets, give_step, AreSources, IsWholeStream, Converts, at_option, IsStreamFor, PutsStream, Judges}
+use Rattle.vms_convert.proofs.Facade.{stream_of, ArePut}
 use Rattle.vms_convert.proofs.BackNormal.{back_may, at_get, gives, given_all, steps_long}
 use Rattle.vms_convert.proofs.HasBack.{one_back}
 use Rattle.vms_convert.proofs.Settling.{back_versions, some_at}
@@ -199,17 +199,8 @@ module _ (to new : Set) (i k : ℕ) (source : List ℤ) (p : IsReturning to new 
 
 module _ (to new : Set) (name : Option (List ℕ)) (images backs : List Image)
     (back : AreBack to new (recast_each to new.devices (numbers_in images)) backs) where
-  abbrev wants : List (List ℤ)
-  wants = recast_each to new.devices (numbers_in images)
-
-  abbrev given : List (List ℤ)
-  given = numbers_in (carried to new backs)
-
-  pub loses_kept : (section cell : Option ℕ) (empty : Outlet) → Loses to new name wants given backs section cell
-      → ConvertsKept to new name images empty empty (Err (faults.WouldLose section cell))
-  loses_kept section cell empty h = (record { backs = backs; back = back; loses = h }, refl)
-
-  module _ (m : Option ℕ) (h : Judges to new name wants given backs (Ok m)) where
+  module _ (m : Option ℕ)
+      (h : Judges to new name (recast_each to new.devices (numbers_in images)) (numbers_in (carried to new backs)) backs (Ok m)) where
     streams : IsStreamFor to new name images (stream_of to (at_option to.machines m) backs)
     streams = record { backs = backs; back = back; keeps = h.0; is = ap (λ (n : Option (List ℕ)). stream_of to n backs) h.1.is }
 

@@ -118,7 +118,7 @@ pub use Rattle.vms_desc.specs.Spots.{kinds_at}
 pub use Rattle.vms_desc.specs.declared.set.DescSet.{DescSet}
 pub use Rattle.vms_image.proofs.States.{at_state, image_at}
 pub use Rattle.vms_image.specs.Typed.{AreImagesOf, IsImageOf, Typed, default_at, state_of, typed}
-pub use Rattle.vms_io.specs.Told.{Outlet, outlet}
+pub use Rattle.vms_io.specs.Told.{outlet}
 pub use Rattle.vms_io.specs.Writing.{Puts, Stops}
 pub use Rattle.vms_load.proofs.HeadLemmas.{device_below}
 pub use Rattle.vms_load.proofs.SetFacts.{well_of}

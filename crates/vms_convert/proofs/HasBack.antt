@@ -245,15 +245,12 @@ has_back to fit i d there partners numbers =
 
 module _ (to : Set) (structs : AreSound to.structs) (d : Device) (own : IsSound d.desc) (subs : AllSound to structs d.subs) (partners : List (Option ℕ)) where
   module _ (numbers a b : List ℤ) (p : AreTaken to d partners numbers a) (q : AreTaken to d partners numbers b) where
-    one_cell : (c : ℕ) → c < length (device_cells to d) → SameBelow c a b → get_or b c (pos 0) ≡ get_or a c (pos 0)
-    one_cell c lt s =
-        rw (q.each c lt, image_known to structs d own subs d.desc.version (map (λ s. Some s.desc.version) d.subs) c a b s, p.each c lt)
-
     below : (m : ℕ) → m ≤ length (device_cells to d) → SameBelow m a b
     below zero le = record { same = λ c lt. absurd (omega arith) }
     below (suc m) le =
         let before : SameBelow m a b = below m (omega arith) in
-        record { same = λ c lt. by_last c m lt (λ less. before.same c less) (λ same. rw same (one_cell m le before)) }
+        let known = image_known to structs d own subs d.desc.version (map (λ s. Some s.desc.version) d.subs) m a b before in
+        record { same = λ c lt. by_last c m lt (λ less. before.same c less) (λ same. rw (same, q.each m le, known, p.each m le)) }
 
     -- the numbers that are taken
     pub one_taken : b ≡ a

@@ -218,9 +218,6 @@ always_found to new well_to well_new compatible i lt none =
 -- ---- Routes and images before the input is read, and while devices are brought to the older set.
 
 module _ (to new : Set) where
-  pub no_routes : AreRoutes to new 0 []
-  no_routes = record { count = refl; each = λ i r e. absurd (cc) }
-
   pub route_more : (n : ℕ) (routes : List Route) (r : Route) → AreRoutes to new n routes → IsRoute to new n r.other r
       → AreRoutes to new (n + 1) (routes ++ r ∷ [])
   route_more n routes r h is = record {

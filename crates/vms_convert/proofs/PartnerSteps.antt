@@ -169,9 +169,6 @@ module _ (a : Arrays) (are : AreArrays a) (i at : ℕ) (lt : i < a.one.count) (r
 pub few_own : (set : Bor DescSet) (i : ℕ) → HasFew (own_side set (parts.Device i)) 0
 few_own set i = omega (arith, own_inside_device (described set.now) i, few_cells (described set.now) set.now.well_formed i)
 
-pub room_own : (set : Bor DescSet) (i : ℕ) → 0 + length (desc_cells (struct_cells (described set.now)) (device_at (described set.now) i).desc) ≤ MOST_ITEMS
-room_own set i = omega (arith, few_own set i)
-
 pub room_sub : (set : Bor DescSet) (i j : ℕ) → j < length (device_at (described set.now) i).subs → first_cell (described set.now) (parts.Sub i j) + length
     (desc_cells (struct_cells (described set.now)) (sub_at (device_at (described set.now) i) j).desc) ≤ MOST_ITEMS
 room_sub set i j lt = omega (arith, sub_inside (described set.now) i j lt, few_cells (described set.now) set.now.well_formed i)

@@ -224,9 +224,6 @@ module _ (set : Set) (i first : ℕ) (before : List ℤ) where
   abbrev default : ℕ → ℤ
   default c = (get_or (device_cells set (device_at set i)) c no_cell).default
 
-  pub put_none : ArePut set i first first before before
-  put_none = record { long = refl; inside = λ c low lt. absurd (omega arith); below = λ c lt. refl; above = λ c le. refl }
-
   pub put_one : (cell : ℕ) (now : List ℤ) → ArePut set i first cell before now → cell < length before → first ≤ cell
       → ArePut set i first (cell + 1) before (slice_set now cell (get_or (device_cells set (device_at set i)) cell no_cell).default)
   put_one cell now h lt le =

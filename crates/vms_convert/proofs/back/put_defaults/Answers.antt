@@ -1,6 +1,6 @@
-use Rattle.vms_convert.proofs.Facade.{◌≡◌, ◌<◌, length, refl, arith, own_cell_count, in_u32, described, device_at, sub_at, few_cells, sub_inside}
-use Rattle.vms_convert.proofs.BringLaws.{image_kept}
-use Rattle.vms_convert.proofs.TakeLaws.{put_all, put_none, put_one, put_rest}
+use Rattle.vms_convert.proofs.Facade.{◌≡◌, ◌<◌, length, refl, arith, ap, ◌∙◌, own_cell_count, in_u32, described, device_at, sub_at, few_cells, sub_inside}
+use Rattle.vms_convert.proofs.Facade.{Typed}
+use Rattle.vms_convert.proofs.TakeLaws.{put_all, put_one, put_rest}
 use Rattle.vms_convert.proofs.back.put_defaults.Goals as goal
 
 pub overflow_add-end : goal.overflow_add-end
@@ -10,7 +10,7 @@ overflow_add-end c =
     omega (arith, c.first_cell-first.ensures, sub_inside set c.args.device c.args.sub c.requires.sub, few_cells set c.args.set.now.well_formed c.args.device)
 
 pub loop-cell-init : goal.loop-cell-init
-loop-cell-init c = record { rest = refl; put = put_none (described c.args.set.now) c.args.device c.first_cell-first.result c.args.image.now.numbers }
+loop-cell-init c = record { rest = refl; put = record { long = refl; inside = λ k low lt. absurd (omega arith); below = λ k lt. refl; above = λ k le. refl } }
 
 pub put_default-requires-clause-cell : goal.put_default-requires-clause-cell
 put_default-requires-clause-cell c =
@@ -20,8 +20,12 @@ put_default-requires-clause-cell c =
 
 pub put_default-requires-clause-of : goal.put_default-requires-clause-of
 put_default-requires-clause-of c =
-    image_kept (described c.args.set.now) c.args.device c.args.image.now c.loop-cell.image c.requires.of c.loop-cell.invariant.rest
-    c.loop-cell.invariant.put.long
+    let rest = c.loop-cell.invariant.rest in
+    record {
+      subs = ap (λ (x : Typed). length x.came) rest ∙ c.requires.of.subs;
+      cells = c.loop-cell.invariant.put.long ∙ c.requires.of.cells;
+      kinds = ap (λ (x : Typed). x.kinds) rest ∙ c.requires.of.kinds;
+    }
 
 pub loop-cell-preserved : goal.loop-cell-preserved
 loop-cell-preserved c =

@@ -1,6 +1,6 @@
-use Rattle.vms_convert.proofs.Facade.{◌≡◌, map, ◌∙◌, subst, sym, with_items_is, err_from_is_err_and, at_option, Set, fit_of, described, state_of, outlet, Puts}
-use Rattle.vms_convert.proofs.Facade.{Stops, Compatible, AreKept, has, loads, name_of, ConvertsKept, PutsStream, stream_of}
-use Rattle.vms_convert.proofs.Converts.{loses_kept, puts_kept}
+use Rattle.vms_convert.proofs.Facade.{◌≡◌, map, ◌∙◌, subst, sym, with_items_is, err_from_is_err_and, refl, at_option, Set, fit_of, described, state_of, outlet}
+use Rattle.vms_convert.proofs.Facade.{Puts, Stops, Compatible, AreKept, has, loads, name_of, ConvertsKept, PutsStream, stream_of}
+use Rattle.vms_convert.proofs.Converts.{puts_kept}
 use Rattle.vms_convert.proofs.JudgeLaws.{ComesBack, backs_are, ready_back}
 use Rattle.vms_convert.proofs.call.convert_kept.Given.{Over}
 use Rattle.vms_convert.proofs.call.convert_kept.Goals.{After-deref, After-deref-2}
@@ -36,11 +36,10 @@ returns-in_err-machine g c =
     let images = has c.args.loader.now in
     let typed = c.deref.result.now in
     let back = backs_are to new images typed c.return_all-lost.result (came g (goal.at.returns-in_err-machine g c).After-deref) in
-    let loss = c.in_err-machine.field-0.0 in
     let p = err_from_is_err_and c.from_residual.result c.from_residual.ensures.1 in
     let empty = outlet g.K.Sink c.args.sink.now in
     subst (λ (s : Set). ConvertsKept to s (name_of s c.args.machine) images empty empty c.from_residual.result) c.requires.newest
-    (rw (p.1, p.2) (loses_kept to new (name_of new c.args.machine) images (map state_of typed) back loss.section loss.cell empty c.in_err-machine.ensures))
+    (rw (p.1, p.2) (record { backs = map state_of typed; back = back; loses = c.in_err-machine.ensures }, refl))
 
 pub write_back-requires-clause-of : goal.write_back-requires-clause-of
 write_back-requires-clause-of g c =
