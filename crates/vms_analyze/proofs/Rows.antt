@@ -51,7 +51,7 @@ unfolding digits code
 refuses_another_version = refl
 
 no_six : (input : List ℕ) → list_all (λ b. not (b == 6)) input ≡ true → (p : ℕ) → get_or input p 0 ≡ 6 → ⊥
-no_six [] e p m = absurd (omega (arith, m))
+no_six [] e p m = absurd (omega arith)
 no_six (b ∷ input) e zero m = let f : (b == 6) ≡ true = eq-eqb b 6 m in cc ((and_parts (not (b == 6)) (list_all (λ b. not (b == 6)) input) e).0)
 no_six (b ∷ input) e (suc p) m = no_six input (and_parts (not (b == 6)) (list_all (λ b. not (b == 6)) input) e).1 p m
 

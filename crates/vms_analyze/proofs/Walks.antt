@@ -1,13 +1,13 @@
 -- A walk over what is required, part after part.
-use Rattle.vms_analyze.proofs.Facade.{map-map, ◌≡◌, ℕ, ◌+◌, List, [], ◌∷◌, ◌++◌, length, append_assoc, append-nil, take, drop, Vec, Global, ℤ, refl, sym, ap}
-use Rattle.vms_analyze.proofs.Facade.{◌∙◌, subst, arith, ◌<◌, get_or, ◌≤◌, true, ◌&&◌, nat_le, map, take-append-drop, drop-drop, take_more, flat_map, list_all}
-use Rattle.vms_analyze.proofs.Facade.{flat_map-append, and_parts, leb-true, flat_map_single, flat_map-map, Result, Ok, Err, OnOk, IfErr, ◌^◌, Bool, false, ◌==◌}
-use Rattle.vms_analyze.proofs.Facade.{length-append, length-drop, ◌-◌, le-leb, take_all, Kind, code, InRange, text_of, Want, Number, Line, number_line}
-use Rattle.vms_analyze.proofs.Facade.{behind, found, Bytes, Machine, Head, Foot, element_want, sub_head_wants, sub_wants, device_wants, start_wants, wants}
-use Rattle.vms_analyze.proofs.Facade.{left, IsInside, Goes, Stops, Prints, WhyStopped, Walks, Walk, text_append, Stop, LONGEST_NAME, magic, be32, end_mark}
-use Rattle.vms_analyze.proofs.Facade.{ToldDevice, is_path, is_path_byte, is_good_device, told_of, sub_of, device_of, element_wants, subs_wants, devices_wants}
-use Rattle.vms_analyze.proofs.Facade.{Element, number_at, bytes_at, is_name_byte, begins_with, configuration, section_head, is_machine, machine_line, taken}
-use Rattle.vms_analyze.proofs.Facade.{found_after, begun, section_line}
+use Rattle.vms_analyze.proofs.Facade.{map-map, ◌≡◌, ℕ, ◌+◌, List, [], ◌∷◌, ◌++◌, length, append_assoc, append-nil, take, drop, ℤ, refl, sym, ap, ◌∙◌, arith}
+use Rattle.vms_analyze.proofs.Facade.{◌<◌, get_or, ◌≤◌, true, ◌&&◌, nat_le, map, take-append-drop, drop-drop, take_more, flat_map, list_all, flat_map-append}
+use Rattle.vms_analyze.proofs.Facade.{and_parts, leb-true, flat_map_single, flat_map-map, Result, Ok, Err, OnOk, IfErr, ◌^◌, false, ◌==◌, length-append}
+use Rattle.vms_analyze.proofs.Facade.{length-drop, ◌-◌, le-leb, take_all, Kind, code, InRange, text_of, Want, Number, Line, number_line, behind, found, Bytes}
+use Rattle.vms_analyze.proofs.Facade.{Machine, Head, Foot, element_want, sub_head_wants, sub_wants, device_wants, start_wants, wants, left, IsInside, Goes}
+use Rattle.vms_analyze.proofs.Facade.{Stops, Prints, WhyStopped, Walks, Walk, text_append, Stop, LONGEST_NAME, magic, be32, end_mark, ToldDevice, is_path}
+use Rattle.vms_analyze.proofs.Facade.{is_path_byte, is_good_device, told_of, sub_of, device_of, element_wants, subs_wants, devices_wants, Element, number_at}
+use Rattle.vms_analyze.proofs.Facade.{bytes_at, is_name_byte, begins_with, configuration, section_head, is_machine, machine_line, taken, found_after, begun}
+use Rattle.vms_analyze.proofs.Facade.{section_line}
 use Rattle.vms_analyze.proofs.Following.{Takes, one_follows, takes_line, takes_number, behind_both, takes_head}
 use Rattle.vms_analyze.specs.declared.told.Sub.{Sub}
 use Rattle.vms_analyze.specs.declared.told.Device.{Device}
@@ -39,9 +39,7 @@ goes w old new bytes lines t m = record {
 
 -- a piece of an input, and the rest after it
 pub split : (input piece : List ℕ) (place n : ℕ) → piece ≡ take n (drop place input) → drop place input ≡ piece ++ drop (place + n) input
-split input piece place n e =
-    sym (take-append-drop n (drop place input)) ∙ ap (λ (l : List ℕ). l ++ drop n (drop place input)) (sym e) ∙ ap (λ (l : List ℕ). piece ++ l)
-    (drop-drop n place input)
+split input piece place n e = cc (take-append-drop n (drop place input), drop-drop n place input)
 
 -- a walk that is past these bytes, and has printed nothing more
 pub record Passed (old mid : Walk) (bytes : List ℕ) : Type 0 where
@@ -55,20 +53,18 @@ pub record Passed (old mid : Walk) (bytes : List ℕ) : Type 0 where
 pub printed_goes : {w : Want} {old mid new : Walk} {bytes line : List ℕ} → Takes w old.id bytes mid.id (line ∷ []) → Passed old mid bytes → Prints mid new line
     → Goes (w ∷ []) old new
 printed_goes {w = w} {old = old} {mid = mid} {new = new} {bytes = bytes} {line = line} takes p prints =
-    goes w old new bytes (line ∷ []) (subst (λ (i : ℕ). Takes w old.id bytes i (line ∷ [])) (sym prints.id) takes)
+    goes w old new bytes (line ∷ []) (rw prints.id takes)
     (record {
-      there = p.there ∙ ap (λ (l : List ℕ). bytes ++ l) (ap (λ (k : ℕ). drop k mid.input.now) (sym prints.place) ∙ ap (drop new.place) (sym prints.input));
-      place = prints.place ∙ p.place;
-      printed = prints.text ∙ ap (λ (t : Vec ℕ Global). t.items ++ (line ++ 10 ∷ [])) p.text;
-      inside = omega (arith, p.inside, prints.place, ap length prints.input);
-      input = prints.input ∙ p.input;
+      there = cc;
+      place = cc;
+      printed = cc;
+      inside = omega (arith, ap length prints.input);
+      input = cc;
     })
 
 pub number_goes : {old mid new : Walk} (path : List ℕ) (kind : Kind) (z : ℤ) → InRange kind z → Passed old mid (code kind z) → mid.id ≡ old.id
     → Prints mid new (number_line path z) → Goes (Number path kind ∷ []) old new
-number_goes {old = old} path kind z fits p id prints =
-    printed_goes (subst (λ (i : ℕ). Takes (Number path kind) old.id (code kind z) i (number_line path z ∷ [])) (sym id)
-    (takes_number path kind z old.id fits)) p prints
+number_goes {old = old} path kind z fits p id prints = printed_goes (rw id (takes_number path kind z old.id fits)) p prints
 
 -- ---- one step after the other
 
@@ -80,17 +76,17 @@ goes_then {ws = ws} {vs = vs} {a = a} {c = c} g h = record {
       ∙ behind_both g.lines h.lines (found more c.id c.place (left c));
   printed = rw (h.printed, g.printed, text_append g.lines h.lines) (append_assoc a.text.items (text_of g.lines) (text_of h.lines));
   inside = h.inside;
-  input = h.input ∙ g.input;
+  input = cc;
 }
 
 -- a walk that stops, before more is required, and after what is taken
 stops_before : (ws vs : List Want) (a c : Walk) → Stops ws a c → Stops (ws ++ vs) a c
-stops_before ws vs a c s = record { differs = λ more. ap (λ (l : List Want). found l a.id a.place (left a)) (append_assoc ws vs more) ∙ s.differs (vs ++ more) }
+stops_before ws vs a c s = record { differs = λ more. rw (append_assoc ws vs more) (s.differs (vs ++ more)) }
 
 stops_then : {ws vs : List Want} {a b c : Walk} → Goes ws a b → Stops vs b c → Stops (ws ++ vs) a c
 stops_then {ws = ws} {vs = vs} {a = a} g s = record {
   differs = λ more.
-      ap (λ (l : List Want). found l a.id a.place (left a)) (append_assoc ws vs more) ∙ g.taken (vs ++ more) ∙ ap (behind g.lines) (s.differs more);
+      rw (append_assoc ws vs more) (g.taken (vs ++ more) ∙ ap (behind g.lines) (s.differs more));
 }
 
 pub line_goes : (line : List ℕ) (old new : Walk) → IsInside old → Prints old new line → Goes (Line line ∷ []) old new
@@ -98,12 +94,11 @@ line_goes line old new inside p = record {
   lines = line ∷ [];
   taken = λ more.
       (one_follows (takes_line line old.id)).goes more old.place (left old)
-      ∙ ap (λ (k : ℕ). behind (line ∷ []) (found more old.id k (left old))) (omega (arith, p.place))
+      ∙ ap (λ (k : ℕ). behind (line ∷ []) (found more old.id k (left old))) (omega arith)
       ∙ ap (λ (i : ℕ). behind (line ∷ []) (found more i new.place (left old))) (sym p.id)
-      ∙ ap (λ (l : List ℕ). behind (line ∷ []) (found more new.id new.place l))
-      (ap (λ (k : ℕ). drop k old.input.now) (sym p.place) ∙ ap (drop new.place) (sym p.input));
+      ∙ ap (λ (l : List ℕ). behind (line ∷ []) (found more new.id new.place l)) (rw (sym p.place) (ap (drop new.place) (sym p.input)));
   printed = p.text;
-  inside = omega (arith, inside, p.place, ap length p.input);
+  inside = omega (arith, ap length p.input);
   input = p.input;
 }
 
@@ -111,22 +106,19 @@ line_goes line old new inside p = record {
 
 module _ {X : Type 0} (one : X → List Want) where
   more_of : (xs : List X) (i : ℕ) (d : X) → i < length xs → flat_map one (take (i + 1) xs) ≡ flat_map one (take i xs) ++ one (get_or xs i d)
-  more_of xs i d lt =
-      ap (flat_map one) (take_more xs i d lt) ∙ flat_map-append one (take i xs) (get_or xs i d ∷ [])
-      ∙ ap (λ (l : List Want). flat_map one (take i xs) ++ l) (append-nil (one (get_or xs i d)))
+  more_of xs i d lt = cc (take_more xs i d lt, flat_map-append one (take i xs) (get_or xs i d ∷ []), append-nil (one (get_or xs i d)))
 
   pub more_goes : (xs : List X) (i : ℕ) (d : X) (a b c : Walk) → i < length xs → Goes (flat_map one (take i xs)) a b → Goes (one (get_or xs i d)) b c
       → Goes (flat_map one (take (i + 1) xs)) a c
-  more_goes xs i d a b c lt g h = subst (λ (ws : List Want). Goes ws a c) (sym (more_of xs i d lt)) (goes_then g h)
+  more_goes xs i d a b c lt g h = rw (more_of xs i d lt) (goes_then g h)
 
   pub one_stops : (xs : List X) (i : ℕ) (d : X) (a b c : Walk) (stop : Stop) → i < length xs → Goes (flat_map one (take i xs)) a b
       → WhyStopped (one (get_or xs i d)) b c stop → WhyStopped (flat_map one xs) a c stop
   one_stops xs i d a b c stops.Differs lt g s =
       let front = flat_map one (take (i + 1) xs) in
       let whole : front ++ flat_map one (drop (i + 1) xs) ≡ flat_map one xs =
-      sym (flat_map-append one (take (i + 1) xs) (drop (i + 1) xs)) ∙ ap (flat_map one) (take-append-drop (i + 1) xs) in
-      subst (λ (ws : List Want). Stops ws a c) whole
-      (stops_before front (flat_map one (drop (i + 1) xs)) a c (subst (λ (ws : List Want). Stops ws a c) (sym (more_of xs i d lt)) (stops_then g s)))
+      cc (flat_map-append one (take (i + 1) xs) (drop (i + 1) xs), take-append-drop (i + 1) xs) in
+      rw whole at (stops_before front (flat_map one (drop (i + 1) xs)) a c (rw (more_of xs i d lt) (stops_then g s)))
   one_stops xs i d a b c stops.NoMemory lt g s = tt
 
 -- ---- one after the other, whatever the stop
@@ -170,7 +162,7 @@ all_good (x ∷ xs) = all_good xs
 -- ---- what is required
 
 elements_are : (es : List Element) → element_wants es ≡ map element_want (map told_of es)
-elements_are es = flat_map_single (λ e. element_want (told_of e)) es ∙ sym (map-map element_want told_of es)
+elements_are es = cc (flat_map_single (λ e. element_want (told_of e)) es, map-map element_want told_of es)
 
 -- ---- a subsection
 
@@ -194,12 +186,10 @@ module _ (d : Device) where
   all = device_wants (device_of d)
 
   device_as : ((head_of d ++ elements) ++ subs) ++ (Foot ∷ []) ≡ all
-  device_as =
-      ap (λ (l : List Want). ((head_of d ++ l) ++ subs) ++ (Foot ∷ [])) (elements_are d.elements.items)
-      ∙ ap (λ (l : List Want). ((head_of d ++ map element_want (map told_of d.elements.items)) ++ l) ++ (Foot ∷ [])) (sym (flat_map-map sub_wants sub_of d.subs.items))
+  device_as = rw (elements_are d.elements.items, sym (flat_map-map sub_wants sub_of d.subs.items))
 
   as_why : (a c : Walk) (stop : Stop) → WhyStopped (((head_of d ++ elements) ++ subs) ++ (Foot ∷ [])) a c stop → WhyStopped all a c stop
-  as_why a c stop w = subst (λ (ws : List Want). WhyStopped ws a c stop) device_as w
+  as_why a c stop w = rw device_as at w
 
   pub head_stops : (a b : Walk) (stop : Stop) → WhyStopped (head_of d) a b stop → WhyStopped all a b stop
   head_stops a b stop w =
@@ -215,7 +205,7 @@ module _ (d : Device) where
 
   pub device_walks : {a b c e : Walk} (f : Walk) (r : Result (Unit {0}) Stop) → Goes (head_of d) a b → Goes elements b c → Goes subs c e
       → Walks (Foot ∷ []) e f r → Walks all a f r
-  device_walks {a = a} f r g h i w = subst (λ (ws : List Want). Walks ws a f r) device_as (walks_then (Foot ∷ []) f r (goes_then (goes_then g h) i) w)
+  device_walks {a = a} f r g h i w = rw device_as at (walks_then (Foot ∷ []) f r (goes_then (goes_then g h) i) w)
 
 -- ---- a stream
 
@@ -232,10 +222,10 @@ module _ (ds : List Device) where
   whole = wants (map device_of ds)
 
   stream_as : (start_wants ++ devices_wants ds) ++ (Bytes end_mark ∷ []) ≡ whole
-  stream_as = ap (λ (l : List Want). (start_wants ++ l) ++ (Bytes end_mark ∷ [])) (sym (flat_map-map device_wants device_of ds))
+  stream_as = rw (sym (flat_map-map device_wants device_of ds))
 
   stream_why : (a c : Walk) (stop : Stop) → WhyStopped ((start_wants ++ devices_wants ds) ++ (Bytes end_mark ∷ [])) a c stop → WhyStopped whole a c stop
-  stream_why a c stop w = subst (λ (ws : List Want). WhyStopped ws a c stop) stream_as w
+  stream_why a c stop w = rw stream_as at w
 
   pub start_stops : (a b : Walk) (stop : Stop) → WhyStopped start_wants a b stop → WhyStopped whole a b stop
   start_stops a b stop w = stream_why a b stop (why_before (start_wants ++ devices_wants ds) _ a b stop (why_before start_wants _ a b stop w))
@@ -245,7 +235,7 @@ module _ (ds : List Device) where
 
   pub stream_walks : {a b c : Walk} (d : Walk) (r : Result (Unit {0}) Stop) → Goes start_wants a b → Goes (devices_wants ds) b c
       → Walks (Bytes end_mark ∷ []) c d r → Walks whole a d r
-  stream_walks {a = a} d r g h w = subst (λ (ws : List Want). Walks ws a d r) stream_as (walks_then (Bytes end_mark ∷ []) d r (goes_then g h) w)
+  stream_walks {a = a} d r g h w = rw stream_as at (walks_then (Bytes end_mark ∷ []) d r (goes_then g h) w)
 
 -- ---- what is at the front
 
@@ -254,12 +244,16 @@ passed : (front : List ℕ) (old mid : Walk) → IsInside old → begins_with fr
     → mid.input.now ≡ old.input.now → Passed old mid front
 passed front old mid inside e place text input =
     record {
-      there = begun front (left old) e
-          ∙ ap (λ (l : List ℕ). front ++ l)
-          (drop-drop (length front) old.place old.input.now ∙ ap (λ (k : ℕ). drop k old.input.now) (sym place) ∙ ap (drop mid.place) (sym input));
+      there = cc (begun front (left old) e, drop-drop (length front) old.place old.input.now);
       place = place;
       text = text;
-      inside = omega (arith, inside, ap length (begun front (left old) e), length-append front (drop (length front) (left old)), length-drop old.place old.input.now, place, ap length input);
+      inside = omega (
+        arith,
+        ap length (begun front (left old) e),
+        length-append front (drop (length front) (left old)),
+        length-drop old.place old.input.now,
+        ap length input,
+      );
       input = input;
     }
 
@@ -292,8 +286,7 @@ pub machine_goes : (old mid new : Walk) (name : List ℕ) → is_machine name �
     → Goes (Machine ∷ []) old new
 machine_goes old mid new name good e id inside place text input prints =
     let short = leb-true (length name) LONGEST_NAME (and_parts (nat_le (length name) LONGEST_NAME) (list_all is_name_byte name) good).0 in
-    printed_goes (subst (λ (i : ℕ). Takes Machine old.id (configuration name) i (machine_line name ∷ [])) (sym id)
-    (takes_machine name old.id good (omega (arith, short)))) (passed (configuration name) old mid inside e place text input) prints
+    printed_goes (rw id (takes_machine name old.id good (omega arith))) (passed (configuration name) old mid inside e place text input) prints
 
 -- ---- the name of a machine
 
@@ -301,8 +294,10 @@ machine_goes old mid new name good e id inside place text input prints =
 pub name_there : (w : Walk) (n : ℕ) → n ≡ number_at 4 1 (left w)
     → take n (take (length w.input.now - (w.place + 5)) (drop (w.place + 5) w.input.now)) ≡ bytes_at (number_at 4 1 (left w)) 5 (left w)
 name_there w n is =
-    ap (take n) (take_all (length w.input.now - (w.place + 5)) (drop (w.place + 5) w.input.now) (omega (arith, length-drop (w.place + 5) w.input.now)) ∙ sym
-    (drop-drop 5 w.place w.input.now)) ∙ ap (λ (k : ℕ). take k (drop 5 (left w))) is
+    cc (
+      take_all (length w.input.now - (w.place + 5)) (drop (w.place + 5) w.input.now) (omega (arith, length-drop (w.place + 5) w.input.now)),
+      drop-drop 5 w.place w.input.now,
+    )
 
 pub is_name_of : (name : List ℕ) → length name ≤ LONGEST_NAME → list_all is_name_byte name ≡ true → is_machine name ≡ true
-is_name_of name few plain = ap (λ (b : Bool). b && list_all is_name_byte name) (le-leb (length name) LONGEST_NAME few) ∙ plain
+is_name_of name few plain = rw (le-leb (length name) LONGEST_NAME few) (plain)

@@ -7,10 +7,10 @@ returns-then-are_name_bytes c =
     let w = c.args.self.now in
     let n = c.in_ok-long.field-0 in
     let rest = take (length w.input.now - (w.place + 5)) (drop (w.place + 5) w.input.now) in
-    let few : n ≤ LONGEST_NAME = omega (arith, c.if-long-gt-LONGEST_NAME.false) in
+    let few : n ≤ LONGEST_NAME = omega arith in
     record {
       there = name_there w n c.in_ok-long.ensures.1;
-      good = is_name_of (take n rest) (omega (arith, few, length-take n rest)) (sym c.if-are_name_bytes.ensures);
+      good = is_name_of (take n rest) (omega (arith, length-take n rest)) (sym c.if-are_name_bytes.ensures);
     }
 
 pub returns-else-are_name_bytes : goal.returns-else-are_name_bytes
