@@ -24,19 +24,16 @@ as-tables set cells = refl
 each : (set : ℕ) (m : State) → AreSavedCells set (saved set m) → 1 ≤ set → set ≤ NEWEST
     → cells_in (carried (shipped_set set) (shipped_set NEWEST) (saved_images set m)) ≡ tables set (saved set m)
 unfolding carried
-each zero m a l h = absurd (omega (arith, l))
+each zero m a l h = absurd (omega arith)
 each (suc zero) m a l h = same-five (timer_is_carried.first _ a.timer) ((chip_is_carried.chip 0).first _ a.master) ((chip_is_carried.chip 1).first _ a.slave) (pit_is_carried.first _ a.pit) (serial_is_carried.first _ a.serial)
 each (suc (suc zero)) m a l h = same-five (timer_is_carried.second _ a.timer) ((chip_is_carried.chip 0).second _ a.master) ((chip_is_carried.chip 1).second _ a.slave) (pit_is_carried.second _ a.pit) (serial_is_carried.second _ a.serial)
 each (suc (suc (suc zero))) m a l h = same-five (timer_is_carried.third _ a.timer) ((chip_is_carried.chip 0).third _ a.master) ((chip_is_carried.chip 1).third _ a.slave) (pit_is_carried.third _ a.pit) (serial_is_carried.third _ a.serial)
 each (suc (suc (suc (suc zero)))) m a l h = same-five (timer_is_carried.fourth _ a.timer) ((chip_is_carried.chip 0).fourth _ a.master) ((chip_is_carried.chip 1).fourth _ a.slave) (pit_is_carried.fourth _ a.pit) (serial_is_carried.fourth _ a.serial)
-each (suc (suc (suc (suc (suc set))))) m a l h = absurd (omega (arith, h))
+each (suc (suc (suc (suc (suc set))))) m a l h = absurd (omega arith)
 
 cells-carried : (set : ℕ) (m : State) → IsSound m → MaySaveUnder m.level set
     → cells_in (carried (shipped_set set) (shipped_set NEWEST) (saved_images set m)) ≡ board_carried set (saved set m)
-cells-carried set m s may =
-    let least = s.devices.level.first in
-    let le = may.level_le_set in
-    each set m (saved_are_cells.of_set set m s may) (omega (arith, least, le)) may.set_le_newest ∙ as-tables set (saved set m)
+cells-carried set m s may = each set m (saved_are_cells.of_set set m s may) (omega arith) may.set_le_newest ∙ as-tables set (saved set m)
 
 pub saved_is_carried : SavedIsCarried
 saved_is_carried = record { cells = cells-carried }

@@ -9,28 +9,25 @@ use Rattle.dev_images.proofs.TimerReady.{timer_is_ready}
 -- Each device's image is ready.
 AllReady : Set → List Device → List (List ℤ) → Type 0
 AllReady set [] [] = Unit {0}
-AllReady set [] (numbers ∷ lists) = ⊥
-AllReady set (d ∷ devices) [] = ⊥
 AllReady set (d ∷ devices) (numbers ∷ lists) = IsReady set d (image_of set d numbers) × AllReady set devices lists
+AllReady set _ _ = ⊥
 
 counts : (set : Set) (devices : List Device) (lists : List (List ℤ)) → AllReady set devices lists → length (images_of set devices lists) ≡ length devices
 unfolding AllReady
 counts set [] [] h = refl
-counts set [] (numbers ∷ lists) h = absurd h
-counts set (d ∷ devices) [] h = absurd h
 counts set (d ∷ devices) (numbers ∷ lists) h = ap suc (counts set devices lists h.1)
+counts set _ _ h = absurd h
 
 all-ready : (set : Set) (devices : List Device) (lists : List (List ℤ)) → AllReady set devices lists → (k : ℕ) (d : Device) (image : Image)
     → slice_get devices k ≡ Some d → slice_get (images_of set devices lists) k ≡ Some image → IsReady set d image
 unfolding AllReady
 all-ready set [] [] h k d image e f = cc
-all-ready set [] (numbers ∷ lists) h k d image e f = absurd h
-all-ready set (d ∷ devices) [] h k e image f g = absurd h
 all-ready set (first ∷ devices) (numbers ∷ lists) h zero d image e f =
     let same_device : first ≡ d = cc in
     let same_image : image_of set first numbers ≡ image = cc in
     subst (λ (i : Image). IsReady set d i) same_image (subst (λ (x : Device). IsReady set x (image_of set first numbers)) same_device h.0)
 all-ready set (first ∷ devices) (numbers ∷ lists) h (suc k) d image e f = all-ready set devices lists h.1 k d image e f
+all-ready set _ _ h k _ image _ _ = absurd h
 
 are-ready : (set : Set) (lists : List (List ℤ)) → AllReady set set.devices lists → AreReady set (images_of set set.devices lists)
 are-ready set lists h = record { one_each = counts set set.devices lists h; ready = all-ready set set.devices lists h }
@@ -38,15 +35,15 @@ are-ready set lists h = record { one_each = counts set set.devices lists h; read
 each : (set : ℕ) (m : State) → AreSavedCells set (saved set m) → 1 ≤ set → set ≤ NEWEST
     → AllReady (shipped_set set) (shipped_set set).devices (lists_of (saved set m))
 unfolding AllReady
-each zero m a l h = absurd (omega (arith, l))
+each zero m a l h = absurd (omega arith)
 each (suc zero) m a l h = (timer_is_ready.first _ a.timer, ((chip_is_ready.chip 0).first _ a.master, ((chip_is_ready.chip 1).first _ a.slave, (pit_is_ready.first _ a.pit, (serial_is_ready.first _ a.serial, tt)))))
 each (suc (suc zero)) m a l h = (timer_is_ready.second _ a.timer, ((chip_is_ready.chip 0).second _ a.master, ((chip_is_ready.chip 1).second _ a.slave, (pit_is_ready.second _ a.pit, (serial_is_ready.second _ a.serial, tt)))))
 each (suc (suc (suc zero))) m a l h = (timer_is_ready.third _ a.timer, ((chip_is_ready.chip 0).third _ a.master, ((chip_is_ready.chip 1).third _ a.slave, (pit_is_ready.third _ a.pit, (serial_is_ready.third _ a.serial, tt)))))
 each (suc (suc (suc (suc zero)))) m a l h = (timer_is_ready.fourth _ a.timer, ((chip_is_ready.chip 0).fourth _ a.master, ((chip_is_ready.chip 1).fourth _ a.slave, (pit_is_ready.fourth _ a.pit, (serial_is_ready.fourth _ a.serial, tt)))))
-each (suc (suc (suc (suc (suc set))))) m a l h = absurd (omega (arith, h))
+each (suc (suc (suc (suc (suc set))))) m a l h = absurd (omega arith)
 
 pub saved_are_ready : SavedAreReady
 saved_are_ready = record {
   images = λ set m s may. let least = s.devices.level.first in let le = may.level_le_set in
-      are-ready (shipped_set set) (lists_of (saved set m)) (each set m (saved_are_cells.of_set set m s may) (omega (arith, least, le)) may.set_le_newest);
+      are-ready (shipped_set set) (lists_of (saved set m)) (each set m (saved_are_cells.of_set set m s may) (omega arith) may.set_le_newest);
 }

@@ -109,8 +109,7 @@ channel-fine set numbers at last is rules k =
     let slots = run_slots at (channel numbers at) (last ∷ []) in
     let each = and_from _ _ (settled _ _ (pos 0) k.wlow) (and_from _ _ (settled _ _ (pos 0) k.latch) refl) in
     record {
-      kept = ap (λ (s : List Slot). are_kept s numbers at channel_cells) is
-          ∙ kept-left slots (Rule true ∷ []) numbers at channel_cells (run-kept numbers at (channel numbers at) (last ∷ []) each);
+      kept = cc (kept-left slots (Rule true ∷ []) numbers at channel_cells (run-kept numbers at (channel numbers at) (last ∷ []) each));
       rules = subst RulesHold (sym is) (rules_append slots (Rule true ∷ []) (run-rules at (channel numbers at) (last ∷ []) rules) (refl, tt));
     }
 
@@ -118,5 +117,4 @@ channel-fine set numbers at last is rules k =
 pub channel-none : (set : Set) (numbers : List ℤ) (at : ℕ) (last : Slot) (k : ℕ) → IsChannel set numbers at last → has_cell (last ∷ []) k ≡ false
     → none_at at (channel numbers at) k ≡ true → has_cell (slots_in set numbers at) k ≡ false
 channel-none set numbers at last k is out none =
-    ap (λ (s : List Slot). has_cell s k) is
-    ∙ has-none (run_slots at (channel numbers at) (last ∷ [])) (Rule true ∷ []) k (run-none at (channel numbers at) (last ∷ []) k none out) refl
+    cc (has-none (run_slots at (channel numbers at) (last ∷ [])) (Rule true ∷ []) k (run-none at (channel numbers at) (last ∷ []) k none out) refl)

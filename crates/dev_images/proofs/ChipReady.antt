@@ -34,7 +34,7 @@ pub unneeded : (z : ℤ) → InRange Truth z → needs z ≡ false → z ≡ pos
 unneeded (pos zero) r e = refl
 unneeded (pos (suc zero)) r e = cc
 unneeded (pos (suc (suc n))) r e = absurd (let most = r.1 in omega (arith, ints, most))
-unneeded (negsuc n) r e = absurd (let least = r.0 in omega (arith, ints, least))
+unneeded (negsuc n) r e = absurd (omega arith)
 
 kept-4 : (instance : ℕ) (numbers : List ℤ) (needed : Bool) → needs (mode_in numbers) ≡ needed → (needed ≡ false → mode_in numbers ≡ pos 0) → (are_kept (image_slots set_4 (i8259_at_4 instance) (image_of set_4 (i8259_at_4 instance) numbers)) numbers 0 (device_cells set_4 (i8259_at_4 instance)) ≡ true) × IsValid set_4 (i8259_at_4 instance) (image_of set_4 (i8259_at_4 instance) numbers)
 unfolding first

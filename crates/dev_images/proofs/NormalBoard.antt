@@ -12,7 +12,7 @@ each (a ∷ b ∷ c ∷ d ∷ e ∷ []) l h = record {
   pit = pit-of d (h 3 i8254_at_2 d refl refl);
   serial = port-of e (h 4 serial_at_4 e refl refl);
 }
-each _ l h = absurd (omega (arith, l))
+each _ l h = absurd (omega arith)
 
 pub normal_may_be_restored : NormalMayBeRestored
 normal_may_be_restored = record { cells = each }

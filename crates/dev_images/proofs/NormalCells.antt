@@ -14,11 +14,10 @@ use Rattle.dev_images.proofs.ReadyOf.{kind-of, count-of, has-none, before-none}
 pub of-kinds : (cells : List Cell) (numbers : List ℤ) → FitCells cells numbers → AreOf (map (λ cell. cell.kind) cells) numbers
 of-kinds cells numbers fit =
     let count = count-of cells in
-    let long = fit.long in
     record {
-      count = omega (arith, count, long);
+      count = omega arith;
       in_range = λ place lt. subst (λ (kind : Kind). InRange kind (get_or numbers place (pos 0))) (sym (kind-of cells place))
-          (fit.fits place (omega (arith, count, lt))).0;
+          (fit.fits place (omega arith)).0;
     }
 
 pub timer-of : (image : Image) → IsNormal (shipped_set NEWEST) timer image → AreOf timer_kinds image.numbers
@@ -44,7 +43,7 @@ flag-off : (z : ℤ) → InRange Truth z → (nat_of z == 1) ≡ false → needs
 flag-off (pos zero) r e = refl
 flag-off (pos (suc zero)) r e = cc
 flag-off (pos (suc (suc n))) r e = absurd (let most = r.1 in omega (arith, ints, most))
-flag-off (negsuc n) r e = absurd (let least = r.0 in omega (arith, ints, least))
+flag-off (negsuc n) r e = absurd (omega arith)
 
 -- The slots of an image of the chip, at either version.
 record HasSlots (numbers : List ℤ) (slots : List Slot) : Type 0 where
@@ -55,10 +54,10 @@ record HasSlots (numbers : List ℤ) (slots : List Slot) : Type 0 where
 slots-at : (v : ℕ) (came : List (Option ℕ)) (numbers : List ℤ) → 1 ≤ v → v ≤ 2 → AreVersionsOf [] came
     → HasSlots numbers (image_slots (shipped_set NEWEST) i8254_at_2 (record { version = v; came = came; numbers = numbers }))
 unfolding first
-slots-at zero came numbers l h a = absurd (omega (arith, l))
+slots-at zero came numbers l h a = absurd (omega arith)
 slots-at (suc zero) [] numbers l h a = record { rest = []; same = refl; none = λ k lt. refl }
 slots-at (suc (suc zero)) [] numbers l h a = record { rest = status_slots; same = refl; none = λ k lt. before-none STATUS_LATCHED CELLS status_slots k refl lt }
-slots-at (suc (suc (suc v))) came numbers l h a = absurd (omega (arith, h))
+slots-at (suc (suc (suc v))) came numbers l h a = absurd (omega arith)
 slots-at v (o ∷ came) numbers l h a = absurd a
 
 module _ (image : Image) (n : IsNormal (shipped_set NEWEST) i8254_at_2 image) where
@@ -74,7 +73,7 @@ module _ (image : Image) (n : IsNormal (shipped_set NEWEST) i8254_at_2 image) wh
   truth : (place : ℕ) → place < CELLS → kind_at (map (λ cell. cell.kind) (device_cells (shipped_set NEWEST) i8254_at_2)) place ≡ Truth
       → InRange Truth (get_or numbers place (pos 0))
   unfolding first
-  truth place lt e = subst (λ (kind : Kind). InRange kind (get_or numbers place (pos 0))) e (kinds.in_range place (omega (arith, lt)))
+  truth place lt e = subst (λ (kind : Kind). InRange kind (get_or numbers place (pos 0))) e (kinds.in_range place (omega arith))
 
   -- A cell that no channel has is at its default, 0.
   lacks : (k : ℕ) → k < STATUS_LATCHED → (get_or (device_cells (shipped_set NEWEST) i8254_at_2) k no_cell).default ≡ pos 0
@@ -82,11 +81,10 @@ module _ (image : Image) (n : IsNormal (shipped_set NEWEST) i8254_at_2 image) wh
       → nat_of (get_or numbers k (pos 0)) ≡ 0
   unfolding first
   lacks k lt d a b c =
-      let long = n.cells.long in
       let none = chip-none (slots_in set_2 numbers 0) (slots_in set_2 numbers second_at) (slots_in set_2 numbers third_at) slots.rest k
       (channel-none set_2 numbers 0 no_gate k refl refl a) (channel-none set_2 numbers second_at no_gate k refl refl b)
       (channel-none set_2 numbers third_at no_gate k refl refl c) (slots.none k lt) in
-      ap nat_of (n.absent k (omega (arith, lt, long)) (ap (λ (s : List Slot). has_cell s k) slots.same ∙ none) ∙ d)
+      ap nat_of (n.absent k (omega arith) (ap (λ (s : List Slot). has_cell s k) slots.same ∙ none) ∙ d)
 
   off : (place : ℕ) → place < CELLS → kind_at (map (λ cell. cell.kind) (device_cells (shipped_set NEWEST) i8254_at_2)) place ≡ Truth
       → (nat_of (get_or numbers place (pos 0)) == 1) ≡ false → needs (get_or numbers place (pos 0)) ≡ false
@@ -99,10 +97,10 @@ module _ (image : Image) (n : IsNormal (shipped_set NEWEST) i8254_at_2 image) wh
     wlow zero lt e = lacks WLOW (omega arith) refl (rw (off WLOW_HELD (omega arith) refl e) refl) refl refl
     wlow (suc zero) lt e = lacks (second_at + WLOW) (omega arith) refl refl (rw (off (second_at + WLOW_HELD) (omega arith) refl e) refl) refl
     wlow (suc (suc zero)) lt e = lacks (third_at + WLOW) (omega arith) refl refl refl (rw (off (third_at + WLOW_HELD) (omega arith) refl e) refl)
-    wlow (suc (suc (suc k))) lt e = absurd (omega (arith, lt))
+    wlow (suc (suc (suc k))) lt e = absurd (omega arith)
 
     latch : (k : ℕ) → k < 3 → flag_at numbers (channel_place k + LATCHED) ≡ false → number_at numbers (channel_place k + LATCH) ≡ 0
     latch zero lt e = lacks LATCH (omega arith) refl (rw (off LATCHED (omega arith) refl e) refl) refl refl
     latch (suc zero) lt e = lacks (second_at + LATCH) (omega arith) refl refl (rw (off (second_at + LATCHED) (omega arith) refl e) refl) refl
     latch (suc (suc zero)) lt e = lacks (third_at + LATCH) (omega arith) refl refl refl (rw (off (third_at + LATCHED) (omega arith) refl e) refl)
-    latch (suc (suc (suc k))) lt e = absurd (omega (arith, lt))
+    latch (suc (suc (suc k))) lt e = absurd (omega arith)

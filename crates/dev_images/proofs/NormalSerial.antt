@@ -12,41 +12,39 @@ use Rattle.dev_images.proofs.ReadyOf.{has-none, neq, all_within, before-none, el
 within-none : (low high : ℕ) (slots : List Slot) (c : ℕ) → all_within low high slots ≡ true → high ≤ c → has_cell slots c ≡ false
 within-none low high [] c e h = refl
 within-none low high (Number k kind capacities ∷ slots) c e h =
-    let p = and_parts (nat_le low k) (nat_lt k high && all_within low high slots) e in
-    let q = and_parts (nat_lt k high) (all_within low high slots) p.1 in
-    let below : k < high = ltb-true k high q.0 in
-    or_from (k == c) (has_cell slots c) (neq k c (λ same. absurd (omega (arith, below, same, h)))) (within-none low high slots c q.1 h)
+    let q = and_parts (nat_lt k high) (all_within low high slots) (and_parts (nat_le low k) (nat_lt k high && all_within low high slots) e).1 in
+    or_from (k == c) (has_cell slots c) (neq k c (λ same. absurd (omega (arith, ltb-true k high q.0)))) (within-none low high slots c q.1 h)
 within-none low high (slot ∷ slots) c e h = within-none low high slots c e h
 
 -- The elements of an array before and after a cell.
 elements-before : (n at c : ℕ) → at + n ≤ c → has_cell (times n (element byte) at 1) c ≡ false
 elements-before zero at c h = refl
-elements-before (suc n) at c h = or_from (at == c) _ (neq at c (λ same. absurd (omega (arith, same, h)))) (elements-before n (at + 1) c (omega (arith, h)))
+elements-before (suc n) at c h = or_from (at == c) _ (neq at c (λ same. absurd (omega arith))) (elements-before n (at + 1) c (omega arith))
 
 elements-after : (n at c : ℕ) → c < at → has_cell (times n (element byte) at 1) c ≡ false
 elements-after zero at c h = refl
-elements-after (suc n) at c h = or_from (at == c) _ (neq at c (λ same. absurd (omega (arith, same, h)))) (elements-after n (at + 1) c (omega (arith, h)))
+elements-after (suc n) at c h = or_from (at == c) _ (neq at c (λ same. absurd (omega arith))) (elements-after n (at + 1) c (omega arith))
 
 -- The FIFOs' slots lack the cells after the elements of each array.
 rx-lack : (n m i : ℕ) → n ≤ i → i < 16 → has_cell (fifo_slots n m) (RX + i) ≡ false
 rx-lack n m i l b =
     has-none (inner_slots n m) (Rule true ∷ []) (RX + i)
     (has-none (Number RX_COUNT U8 (16 ∷ []) ∷ []) (times n (element byte) RX 1 ++ second_slots m) (RX + i)
-    (or_from (RX_COUNT == RX + i) false (neq RX_COUNT (RX + i) (λ same. absurd (omega (arith, same)))) refl)
-    (has-none (times n (element byte) RX 1) (second_slots m) (RX + i) (elements-before n RX (RX + i) (omega (arith, l)))
+    (or_from (RX_COUNT == RX + i) false (neq RX_COUNT (RX + i) (λ same. absurd (omega arith))) refl)
+    (has-none (times n (element byte) RX 1) (second_slots m) (RX + i) (elements-before n RX (RX + i) (omega arith))
     (has-none (Number TX_COUNT U8 (16 ∷ []) ∷ []) (times m (element byte) TX 1 ++ []) (RX + i)
-    (or_from (TX_COUNT == RX + i) false (neq TX_COUNT (RX + i) (λ same. absurd (omega (arith, same, b)))) refl)
-    (has-none (times m (element byte) TX 1) [] (RX + i) (elements-after m TX (RX + i) (omega (arith, b))) refl)))) refl
+    (or_from (TX_COUNT == RX + i) false (neq TX_COUNT (RX + i) (λ same. absurd (omega arith))) refl)
+    (has-none (times m (element byte) TX 1) [] (RX + i) (elements-after m TX (RX + i) (omega arith)) refl)))) refl
 
 tx-lack : (n m i : ℕ) → n ≤ 16 → m ≤ i → i < 16 → has_cell (fifo_slots n m) (TX + i) ≡ false
 tx-lack n m i most l b =
     has-none (inner_slots n m) (Rule true ∷ []) (TX + i)
     (has-none (Number RX_COUNT U8 (16 ∷ []) ∷ []) (times n (element byte) RX 1 ++ second_slots m) (TX + i)
-    (or_from (RX_COUNT == TX + i) false (neq RX_COUNT (TX + i) (λ same. absurd (omega (arith, same)))) refl)
-    (has-none (times n (element byte) RX 1) (second_slots m) (TX + i) (elements-before n RX (TX + i) (omega (arith, most)))
+    (or_from (RX_COUNT == TX + i) false (neq RX_COUNT (TX + i) (λ same. absurd (omega arith))) refl)
+    (has-none (times n (element byte) RX 1) (second_slots m) (TX + i) (elements-before n RX (TX + i) (omega arith))
     (has-none (Number TX_COUNT U8 (16 ∷ []) ∷ []) (times m (element byte) TX 1 ++ []) (TX + i)
-    (or_from (TX_COUNT == TX + i) false (neq TX_COUNT (TX + i) (λ same. absurd (omega (arith, same)))) refl)
-    (has-none (times m (element byte) TX 1) [] (TX + i) (elements-before m TX (TX + i) (omega (arith, l))) refl)))) refl
+    (or_from (TX_COUNT == TX + i) false (neq TX_COUNT (TX + i) (λ same. absurd (omega arith))) refl)
+    (has-none (times m (element byte) TX 1) [] (TX + i) (elements-before m TX (TX + i) (omega arith)) refl)))) refl
 
 -- Subsections that came lack a cell that none of them has.
 abbrev SubsLack : Set → List ℤ → ℕ → ℕ → List Sub → Type 0
@@ -65,30 +63,27 @@ came-lack set d numbers c at (s ∷ subs) (Some v ∷ came) a h =
 
 own-within : (v : ℕ) (numbers : List ℤ) → 1 ≤ v → v ≤ NEWEST → all_within 0 THR_IPENDING (own_slots (shipped_set NEWEST) serial_at_4 v numbers) ≡ true
 unfolding first
-own-within zero numbers l h = absurd (omega (arith, l))
-own-within (suc zero) numbers l h = refl
-own-within (suc (suc zero)) numbers l h = refl
-own-within (suc (suc (suc zero))) numbers l h = refl
-own-within (suc (suc (suc (suc zero)))) numbers l h = refl
-own-within (suc (suc (suc (suc (suc v))))) numbers l h = absurd (omega (arith, h))
+own-within zero numbers l h = absurd (omega arith)
+own-within (suc (suc (suc (suc (suc v))))) numbers l h = absurd (omega arith)
+own-within _ numbers l h = refl
 
 version-1 : (v : ℕ) (P : ℕ → Type 0) → 1 ≤ v → v ≤ 1 → P 1 → P v
-version-1 zero P l h p = absurd (omega (arith, l))
+version-1 zero P l h p = absurd (omega arith)
 version-1 (suc zero) P l h p = p
-version-1 (suc (suc v)) P l h p = absurd (omega (arith, h))
+version-1 (suc (suc v)) P l h p = absurd (omega arith)
 
 -- The default of a cell of a run that has zeros.
 default-in : (cells : List Cell) (at i n place : ℕ) → place ≡ at + i → i < n → zero_defaults (take n (drop at cells)) ≡ true
     → (get_or cells place no_cell).default ≡ pos 0
 default-in [] at i n place is lt e = refl
-default-in (cell ∷ cells) (suc at) i n zero is lt e = absurd (omega (arith, is))
-default-in (cell ∷ cells) (suc at) i n (suc place) is lt e = default-in cells at i n place (omega (arith, is)) lt e
-default-in (cell ∷ cells) zero i zero place is lt e = absurd (omega (arith, lt))
+default-in (cell ∷ cells) (suc at) i n zero is lt e = absurd (omega arith)
+default-in (cell ∷ cells) (suc at) i n (suc place) is lt e = default-in cells at i n place (omega arith) lt e
+default-in (cell ∷ cells) zero i zero place is lt e = absurd (omega arith)
 default-in (cell ∷ cells) zero i (suc n) zero is lt e =
     sym (same_number_is (pos 0) cell.default (and_parts (same_number (pos 0) cell.default) (zero_defaults (take n cells)) e).0)
-default-in (cell ∷ cells) zero zero (suc n) (suc place) is lt e = absurd (omega (arith, is))
+default-in (cell ∷ cells) zero zero (suc n) (suc place) is lt e = absurd (omega arith)
 default-in (cell ∷ cells) zero (suc i) (suc n) (suc place) is lt e =
-    default-in cells zero i n place (omega (arith, is)) (omega (arith, lt)) (and_parts (same_number (pos 0) cell.default) (zero_defaults (take n cells)) e).1
+    default-in cells zero i n place (omega arith) (omega arith) (and_parts (same_number (pos 0) cell.default) (zero_defaults (take n cells)) e).1
 
 module _ (image : Image) (n : IsNormal (shipped_set NEWEST) serial_at_4 image) where
   abbrev numbers : List ℤ
@@ -100,7 +95,7 @@ module _ (image : Image) (n : IsNormal (shipped_set NEWEST) serial_at_4 image) w
   byte-at : (place : ℕ) → place < 84 → kind_at (map (λ cell. cell.kind) (device_cells (shipped_set NEWEST) serial_at_4)) place ≡ U8
       → InRange U8 (get_or numbers place (pos 0))
   unfolding first
-  byte-at place lt e = subst (λ (kind : Kind). InRange kind (get_or numbers place (pos 0))) e (are.in_range place (omega (arith, lt)))
+  byte-at place lt e = subst (λ (kind : Kind). InRange kind (get_or numbers place (pos 0))) e (are.in_range place (omega arith))
 
   rx-range : InRange U8 (get_or numbers RX_COUNT (pos 0))
   unfolding first
@@ -116,7 +111,7 @@ module _ (image : Image) (n : IsNormal (shipped_set NEWEST) serial_at_4 image) w
 
   rx-fits : nat_of (get_or numbers RX_COUNT (pos 0)) ≤ 16
   unfolding first
-  rx-fits = let long = n.cells.long in at-most _ rx-range (n.cells.fits RX_COUNT (omega arith)).1.0
+  rx-fits = at-most _ rx-range (n.cells.fits RX_COUNT (omega arith)).1.0
 
   tx-fits : nat_of (get_or numbers TX_COUNT (pos 0)) ≤ 16
   unfolding first
@@ -137,7 +132,7 @@ module _ (image : Image) (n : IsNormal (shipped_set NEWEST) serial_at_4 image) w
       has-none (own_slots (shipped_set NEWEST) serial_at_4 image.version numbers)
       (came_slots (shipped_set NEWEST) serial_at_4 numbers THR_IPENDING serial_at_4.subs image.came) c
       (within-none 0 THR_IPENDING (own_slots (shipped_set NEWEST) serial_at_4 image.version numbers) c
-      (own-within image.version numbers n.version.0 n.version.1) (omega (arith, low)))
+      (own-within image.version numbers n.version.0 n.version.1) (omega arith))
       (came-lack (shipped_set NEWEST) serial_at_4 numbers c THR_IPENDING serial_at_4.subs image.came n.subs (
         (λ v h. version-1 v (λ v. has_cell (sub_slots (shipped_set NEWEST) thr_ipending v numbers THR_IPENDING) c ≡ false) h.0 h.1
             (within-none THR_IPENDING RX_COUNT (sub_slots (shipped_set NEWEST) thr_ipending 1 numbers THR_IPENDING) c refl low)),
@@ -148,7 +143,7 @@ module _ (image : Image) (n : IsNormal (shipped_set NEWEST) serial_at_4 image) w
                 (before-none TIMEOUT_AT RX_DATA (sub_slots (shipped_set NEWEST) timeout 1 numbers TIMEOUT_AT) c refl high)),
             (
               (λ v h. version-1 v (λ v. has_cell (sub_slots (shipped_set NEWEST) ring v numbers RX_DATA) c ≡ false) h.0 h.1
-                  (before-none RX_DATA 84 (sub_slots (shipped_set NEWEST) ring 1 numbers RX_DATA) c refl (omega (arith, high)))),
+                  (before-none RX_DATA 84 (sub_slots (shipped_set NEWEST) ring 1 numbers RX_DATA) c refl (omega arith))),
               tt,
             ),
           ),
@@ -159,17 +154,14 @@ module _ (image : Image) (n : IsNormal (shipped_set NEWEST) serial_at_4 image) w
   unfolding first
   rx-zeros i l b =
       let is = elements (get_or numbers RX_COUNT (pos 0)) rx-range rx-fits in
-      let long = n.cells.long in
-      n.absent (RX + i) (omega (arith, b, long)) (lack (RX + i) (omega arith) (omega (arith, b)) (rx-lack rx_elements tx_elements i (omega (arith, is, l)) b))
+      n.absent (RX + i) (omega arith) (lack (RX + i) (omega arith) (omega arith) (rx-lack rx_elements tx_elements i (omega arith) b))
       ∙ default-in (device_cells (shipped_set NEWEST) serial_at_4) RX i 16 (RX + i) refl b refl
 
   tx-zeros : (i : ℕ) → nat_of (get_or numbers TX_COUNT (pos 0)) ≤ i → i < 16 → get_or numbers (TX + i) (pos 0) ≡ pos 0
   unfolding first
   tx-zeros i l b =
       let is = elements (get_or numbers TX_COUNT (pos 0)) tx-range tx-fits in
-      let long = n.cells.long in
-      n.absent (TX + i) (omega (arith, b, long))
-      (lack (TX + i) (omega arith) (omega (arith, b)) (tx-lack rx_elements tx_elements i (omega arith) (omega (arith, is, l)) b))
+      n.absent (TX + i) (omega arith) (lack (TX + i) (omega arith) (omega arith) (tx-lack rx_elements tx_elements i (omega arith) (omega arith) b))
       ∙ default-in (device_cells (shipped_set NEWEST) serial_at_4) TX i 16 (TX + i) refl b refl
 
   pub port-of : IsPortCells numbers

@@ -42,15 +42,12 @@ IsLacking old numbers at =
 
 channel-carried : (old : Set) (numbers : List ℤ) (at : ℕ) → IsLacking old numbers at → IsKeptAt numbers at → channel_in old numbers at ≡ plain numbers at
 channel-carried old numbers at is k =
-    is
-    ∙ ap (λ l. lacking numbers at l (may_lack old numbers U16 (needs (get_or numbers (behind LATCHED at) (pos 0))) (behind LATCH at)))
-    (may_lack-is old numbers U8 _ (behind WLOW at) refl k.wlow)
-    ∙ ap (λ l. lacking numbers at (get_or numbers (behind WLOW at) (pos 0) ∷ []) l) (may_lack-is old numbers U16 _ (behind LATCH at) refl k.latch)
+    cc (may_lack-is old numbers U8 _ (behind WLOW at) refl k.wlow, may_lack-is old numbers U16 _ (behind LATCH at) refl k.latch)
 
 -- An absent number is 0 if its flag is clear.
 off : (flag number : ℤ) → InRange Truth flag → pos 0 ≤ℤ number → ((nat_of flag == 1) ≡ false → nat_of number ≡ 0) → needs flag ≡ false → number ≡ pos 0
 off flag (pos n) r l h e = ap pos (h (ap (λ z. nat_of z == 1) (unneeded flag r e)))
-off flag (negsuc n) r l h e = absurd (omega (arith, ints, l))
+off flag (negsuc n) r l h e = absurd (omega arith)
 
 -- Three channels and what follows them.
 abbrev with_channels : List ℤ → List ℤ → List ℤ → List ℤ → List ℤ
@@ -58,9 +55,7 @@ with_channels first second third rest = ((first ++ (second ++ (third ++ []))) ++
 
 same-channels : (numbers first second third rest : List ℤ) → first ≡ plain numbers 0 → second ≡ plain numbers second_at → third ≡ plain numbers third_at
     → with_channels first second third rest ≡ with_channels (plain numbers 0) (plain numbers second_at) (plain numbers third_at) rest
-same-channels numbers first second third rest a b c =
-    ap (λ l. with_channels l second third rest) a ∙ ap (λ l. with_channels (plain numbers 0) l third rest) b
-    ∙ ap (λ l. with_channels (plain numbers 0) (plain numbers second_at) l rest) c
+same-channels numbers first second third rest a b c = cc
 
 abbrev six_zeros : List ℤ
 six_zeros = pos 0 ∷ pos 0 ∷ pos 0 ∷ pos 0 ∷ pos 0 ∷ pos 0 ∷ []

@@ -37,9 +37,8 @@ needed set d numbers came j (s ∷ subs) =
 
 -- Cells of their kinds fit if each count is within its capacities.
 pub kind-of : (cells : List Cell) (c : ℕ) → kind_at (map (λ cell. cell.kind) cells) c ≡ (get_or cells c no_cell).kind
-kind-of [] c = refl
-kind-of (cell ∷ cells) zero = refl
 kind-of (cell ∷ cells) (suc c) = kind-of cells c
+kind-of _ _ = refl
 
 pub count-of : (cells : List Cell) → length (map (λ cell. cell.kind) cells) ≡ length cells
 count-of [] = refl
@@ -53,9 +52,9 @@ fit cells numbers are counts =
     let count = count-of cells in
     let long = are.count in
     record {
-      long = omega (arith, count, long);
+      long = omega arith;
       fits = λ c lt. (
-        subst (λ (kind : Kind). InRange kind (get_or numbers c (pos 0))) (kind-of cells c) (are.in_range c (omega (arith, count, lt))),
+        subst (λ (kind : Kind). InRange kind (get_or numbers c (pos 0))) (kind-of cells c) (are.in_range c (omega arith)),
         counts c lt,
       );
     }
@@ -75,11 +74,11 @@ kept : (slots : List Slot) (numbers : List ℤ) (from : ℕ) (cells : List Cell)
 kept slots numbers from [] e c place is lt out = absurd (omega arith)
 kept slots numbers from (cell ∷ cells) e zero place is lt out =
     let p = and_parts (has_cell slots from || same_number (get_or numbers from (pos 0)) cell.default) (are_kept slots numbers (suc from) cells) e in
-    let here : place ≡ from = omega (arith, is) in
+    let here : place ≡ from = omega arith in
     ap (λ n. get_or numbers n (pos 0)) here ∙ kept-first slots numbers from cell p.0 (ap (has_cell slots) (sym here) ∙ out)
 kept slots numbers from (cell ∷ cells) e (suc c) place is lt out =
     let p = and_parts (has_cell slots from || same_number (get_or numbers from (pos 0)) cell.default) (are_kept slots numbers (suc from) cells) e in
-    kept slots numbers (suc from) cells p.1 c place (omega (arith, is)) (omega (arith, lt)) out
+    kept slots numbers (suc from) cells p.1 c place (omega arith) (omega arith) out
 
 -- No cell counts an array.
 abbrev pub no_counts : List Cell → Bool
@@ -88,7 +87,7 @@ no_counts (cell ∷ cells) = (length cell.capacities == 0) && no_counts cells
 
 no-capacities : (capacities : List ℕ) (z : ℤ) → (length capacities == 0) ≡ true → AllByRecursion (λ most. z ≤ℤ pos most) capacities
 no-capacities [] z e = tt
-no-capacities (most ∷ capacities) z e = absurd (let n : length (most ∷ capacities) ≡ 0 = eqb-true _ 0 e in omega (arith, n))
+no-capacities (most ∷ capacities) z e = absurd (let n : length (most ∷ capacities) ≡ 0 = eqb-true _ 0 e in omega arith)
 
 pub counts-none : (cells : List Cell) (numbers : List ℤ) → no_counts cells ≡ true → CountsFit cells numbers
 counts-none cells numbers e c lt = none cells e c lt (get_or numbers c (pos 0)) where
@@ -96,7 +95,7 @@ counts-none cells numbers e c lt = none cells e c lt (get_or numbers c (pos 0)) 
       → AllByRecursion (λ most. z ≤ℤ pos most) (get_or cells c no_cell).capacities
   none [] e c lt z = tt
   none (cell ∷ cells) e zero lt z = no-capacities cell.capacities z (and_parts (length cell.capacities == 0) (no_counts cells) e).0
-  none (cell ∷ cells) e (suc c) lt z = none cells (and_parts (length cell.capacities == 0) (no_counts cells) e).1 c (omega (arith, lt)) z
+  none (cell ∷ cells) e (suc c) lt z = none cells (and_parts (length cell.capacities == 0) (no_counts cells) e).1 c (omega arith) z
 
 -- From a cell on, counts are within the capacities of their arrays.
 abbrev pub are_counted : List ℤ → ℕ → List Cell → Bool
@@ -108,12 +107,11 @@ counted-from : (numbers : List ℤ) (from : ℕ) (cells : List Cell) → are_cou
 counted-from numbers from [] e c place is lt = absurd (omega arith)
 counted-from numbers from (cell ∷ cells) e zero place is lt =
     let p = and_parts (counts_well cell.capacities (get_or numbers from (pos 0))) (are_counted numbers (suc from) cells) e in
-    let here : place ≡ from = omega (arith, is) in
-    subst (λ (n : ℕ). AllByRecursion (λ most. get_or numbers n (pos 0) ≤ℤ pos most) cell.capacities) (sym here)
+    subst (λ (n : ℕ). AllByRecursion (λ most. get_or numbers n (pos 0) ≤ℤ pos most) cell.capacities) (sym (omega arith))
     (within cell.capacities (get_or numbers from (pos 0)) p.0)
 counted-from numbers from (cell ∷ cells) e (suc c) place is lt =
     let p = and_parts (counts_well cell.capacities (get_or numbers from (pos 0))) (are_counted numbers (suc from) cells) e in
-    counted-from numbers (suc from) cells p.1 c place (omega (arith, is)) (omega (arith, lt))
+    counted-from numbers (suc from) cells p.1 c place (omega arith) (omega arith)
 
 pub counts-by : (cells : List Cell) (numbers : List ℤ) → are_counted numbers 0 cells ≡ true → CountsFit cells numbers
 counts-by cells numbers e c lt = counted-from numbers 0 cells e c c (omega arith) lt
@@ -121,14 +119,13 @@ counts-by cells numbers e c lt = counted-from numbers 0 cells e c c (omega arith
 pub ready-of : (set : Set) (d : Device) (numbers : List ℤ) → d.desc.minimum ≤ d.desc.version → AreSubs d.subs → AreOf (map (λ cell. cell.kind) (device_cells set d)) numbers → CountsFit (device_cells set d) numbers → are_kept (image_slots set d (image_of set d numbers)) numbers 0 (device_cells set d) ≡ true → IsValid set d (image_of set d numbers) → IsReady set d (image_of set d numbers)
 ready-of set d numbers minimum subs are counts settled valid =
     let cells = fit (device_cells set d) numbers are counts in
-    let long = cells.long in
     record {
       normal = record {
         version = (minimum, omega arith);
         subs = versions set d (bare d numbers) 0 d.subs subs;
         cells = cells;
         absent = λ c lt out. kept (image_slots set d (image_of set d numbers)) numbers 0 (device_cells set d) settled c c (omega arith)
-            (omega (arith, lt, long)) out;
+            (omega arith) out;
       };
       valid = valid;
       version = refl;
@@ -163,11 +160,10 @@ kept-right first second numbers from cells e = kept-more second (first ++ second
 -- Cells that are joined.
 pub kept-both : (slots : List Slot) (numbers : List ℤ) (from next : ℕ) (first second : List Cell) → next ≡ from + length first
     → are_kept slots numbers from first ≡ true → are_kept slots numbers next second ≡ true → are_kept slots numbers from (first ++ second) ≡ true
-kept-both slots numbers from next [] second is e f =
-    let here : from ≡ next = omega (arith, is) in ap (λ n. are_kept slots numbers n second) here ∙ f
+kept-both slots numbers from next [] second is e f = let here : from ≡ next = omega arith in ap (λ n. are_kept slots numbers n second) here ∙ f
 kept-both slots numbers from next (cell ∷ first) second is e f =
     let p = and_parts (has_cell slots from || same_number (get_or numbers from (pos 0)) cell.default) (are_kept slots numbers (suc from) first) e in
-    and_from _ _ p.0 (kept-both slots numbers (suc from) next first second (omega (arith, is)) p.1 f)
+    and_from _ _ p.0 (kept-both slots numbers (suc from) next first second (omega arith) p.1 f)
 
 -- None of these slots has a cell.
 pub has-none : (slots more : List Slot) (c : ℕ) → has_cell slots c ≡ false → has_cell more c ≡ false → has_cell (slots ++ more) c ≡ false
@@ -193,8 +189,7 @@ before-none low high [] c e h = refl
 before-none low high (Number k kind capacities ∷ slots) c e h =
     let p = and_parts (nat_le low k) (nat_lt k high && all_within low high slots) e in
     let q = and_parts (nat_lt k high) (all_within low high slots) p.1 in
-    let from : low ≤ k = leb-true low k p.0 in
-    or_from (k == c) (has_cell slots c) (neq k c (λ same. absurd (omega (arith, from, same, h)))) (before-none low high slots c q.1 h)
+    or_from (k == c) (has_cell slots c) (neq k c (λ same. absurd (omega (arith, leb-true low k p.0)))) (before-none low high slots c q.1 h)
 before-none low high (slot ∷ slots) c e h = before-none low high slots c e h
 
 -- ---- part by part: the own fields of a device, and each subsection by itself
@@ -221,8 +216,7 @@ came-all : (set : Set) (d : Device) (numbers : List ℤ) (j at : ℕ) (subs : Li
     → came_slots set d numbers at subs (needed_from set d (bare d numbers) j subs) ≡ needed_slots set d numbers j at subs
 came-all set d numbers j at [] = refl
 came-all set d numbers j at (s ∷ subs) =
-    came-next set d numbers at s subs (needed_from set d (bare d numbers) (suc j) subs) (is_needed set d (bare d numbers) s j)
-    ∙ ap (λ (slots : List Slot). if_needed set d numbers s j at ++ slots) (came-all set d numbers (suc j) (at + length (sub_cells set s)) subs)
+    cc (came-next set d numbers at s subs (needed_from set d (bare d numbers) (suc j) subs) (is_needed set d (bare d numbers) s j), came-all set d numbers (suc j) (at + length (sub_cells set s)) subs)
 
 -- Each cell of a subsection is in its bytes or holds its default, and its rules hold.
 pub record IsFineSub (set : Set) (d : Device) (numbers : List ℤ) (s : Sub) (j at : ℕ) : Type 0 where
@@ -277,10 +271,7 @@ front (suc at) (y ∷ numbers) z rest e = front at numbers z rest e
 pub shape : (n : ℕ) (list : List ℤ) → take (suc n) list ≡ replicate (suc n) (pos 0)
     → (rest : List ℤ) × (list ≡ pos 0 ∷ rest) × (take n rest ≡ replicate n (pos 0))
 shape n [] e = cc
-shape n (z ∷ rest) e =
-    let first : z ≡ pos 0 = cc in
-    let more : take n rest ≡ replicate n (pos 0) = cc in
-    (rest, ap (λ y. y ∷ rest) first, more)
+shape n (z ∷ rest) e = (rest, ap (λ y. y ∷ rest) cc, cc)
 
 abbrev pub zero_defaults : List Cell → Bool
 zero_defaults [] = true
@@ -304,15 +295,13 @@ pub array-kept : (cell : Cell) (numbers : List ℤ) (n m at : ℕ) → cell.defa
     → are_kept (times n (element cell) at 1) numbers at (replicate m cell) ≡ true
 array-kept cell numbers n zero at d zeros = refl
 array-kept cell numbers zero (suc m) at d zeros =
-    let here : at + 0 ≡ at = omega arith in
     and_from _ _ (is_same (get_or numbers at (pos 0)) cell.default
-    (ap (λ (p : ℕ). get_or numbers p (pos 0)) (sym here) ∙ zeros 0 (omega arith) (omega arith) ∙ sym d))
-    (array-kept cell numbers zero m (suc at) d (λ i lo hi. let next : suc at + i ≡ at + suc i = omega arith in ap (λ (p : ℕ). get_or numbers p (pos 0)) next ∙ zeros (suc i) (omega arith) (omega (arith, hi))))
+    (ap (λ (p : ℕ). get_or numbers p (pos 0)) (sym (omega arith)) ∙ zeros 0 (omega arith) (omega arith) ∙ sym d))
+    (array-kept cell numbers zero m (suc at) d (λ i lo hi. let next : suc at + i ≡ at + suc i = omega arith in ap (λ (p : ℕ). get_or numbers p (pos 0)) next ∙ zeros (suc i) (omega arith) (omega arith)))
 array-kept cell numbers (suc n) (suc m) at d zeros =
     let next : at + 1 ≡ suc at = omega arith in
-    let rest : are_kept (times n (element cell) (at + 1) 1) numbers (suc at) (replicate m cell) ≡ true = ap (λ (p : ℕ). are_kept (times n (element cell) p 1) numbers (suc at) (replicate m cell)) next ∙ array-kept cell numbers n m (suc at) d (λ i lo hi. let more : suc at + i ≡ at + suc i = omega arith in ap (λ (p : ℕ). get_or numbers p (pos 0)) more ∙ zeros (suc i) (omega (arith, lo)) (omega (arith, hi))) in
-    let here : (at == at) ≡ true = eq-eqb at at refl in
-    and_from _ _ (ap (λ b. (b || has_cell (times n (element cell) (at + 1) 1) at) || same_number (get_or numbers at (pos 0)) cell.default) here)
+    let rest : are_kept (times n (element cell) (at + 1) 1) numbers (suc at) (replicate m cell) ≡ true = ap (λ (p : ℕ). are_kept (times n (element cell) p 1) numbers (suc at) (replicate m cell)) next ∙ array-kept cell numbers n m (suc at) d (λ i lo hi. let more : suc at + i ≡ at + suc i = omega arith in ap (λ (p : ℕ). get_or numbers p (pos 0)) more ∙ zeros (suc i) (omega arith) (omega arith)) in
+    and_from _ _ (ap (λ b. (b || has_cell (times n (element cell) (at + 1) 1) at) || same_number (get_or numbers at (pos 0)) cell.default) (eq-eqb at at refl))
     (kept-right (element cell at) (times n (element cell) (at + 1) 1) numbers (suc at) (replicate m cell) rest)
 
 pub rules-times : (cell : Cell) (n at : ℕ) → RulesHold (times n (element cell) at 1)

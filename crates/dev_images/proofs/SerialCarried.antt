@@ -10,9 +10,8 @@ use Rattle.dev_images.proofs.SerialReady.{no-ring, HasFifo, has-fifo-2, has-fifo
 zeros-each : (numbers : List ℤ) (at n : ℕ) → ((i : ℕ) → i < n → get_or numbers (at + i) (pos 0) ≡ pos 0) → replicate n (pos 0) ≡ run numbers at n
 zeros-each numbers at zero h = refl
 zeros-each numbers at (suc n) h =
-    let here : at + 0 ≡ at = omega arith in
-    ap (λ z. z ∷ replicate n (pos 0)) (sym (ap (λ p. get_or numbers p (pos 0)) (sym here) ∙ h 0 (omega arith)))
-    ∙ ap (λ l. get_or numbers at (pos 0) ∷ l) (zeros-each numbers (suc at) n (λ i b. let next : suc at + i ≡ at + suc i = omega arith in ap (λ p. get_or numbers p (pos 0)) next ∙ h (suc i) (omega (arith, b))))
+    ap (λ z. z ∷ replicate n (pos 0)) (sym (ap (λ p. get_or numbers p (pos 0)) (sym (omega arith)) ∙ h 0 (omega arith)))
+    ∙ ap (λ l. get_or numbers at (pos 0) ∷ l) (zeros-each numbers (suc at) n (λ i b. let next : suc at + i ≡ at + suc i = omega arith in ap (λ p. get_or numbers p (pos 0)) next ∙ h (suc i) (omega arith)))
 
 -- An array of bytes, with zeros after its elements.
 module _ (structs : List Carrier) (x y : List (List Cell)) (numbers : List ℤ) where
@@ -28,7 +27,7 @@ module _ (structs : List Carrier) (x y : List (List Cell)) (numbers : List ℤ) 
   array-run zero (suc m) at h = no-elements (suc m) at ∙ zeros-each numbers at (suc m) (λ i b. h i (omega arith) b)
   array-run (suc n) (suc m) at h =
       let next : at + 1 ≡ suc at = omega arith in
-      ap (λ l. get_or numbers at (pos 0) ∷ l) (ap (λ p. array n m p) next ∙ array-run n m (suc at) (λ i l b. let more : suc at + i ≡ at + suc i = omega arith in ap (λ p. get_or numbers p (pos 0)) more ∙ h (suc i) (omega (arith, l)) (omega (arith, b))))
+      ap (λ l. get_or numbers at (pos 0) ∷ l) (ap (λ p. array n m p) next ∙ array-run n m (suc at) (λ i l b. let more : suc at + i ≡ at + suc i = omega arith in ap (λ p. get_or numbers p (pos 0)) more ∙ h (suc i) (omega arith) (omega arith)))
 
   abbrev fifos : ℕ → ℕ → List ℤ
   fifos n m =
@@ -36,9 +35,7 @@ module _ (structs : List Carrier) (x y : List (List Cell)) (numbers : List ℤ) 
 
   fifo-run : (n m : ℕ) → ((i : ℕ) → n ≤ i → i < 16 → get_or numbers (RX + i) (pos 0) ≡ pos 0)
       → ((i : ℕ) → m ≤ i → i < 16 → get_or numbers (TX + i) (pos 0) ≡ pos 0) → fifos n m ≡ run numbers RX_COUNT 34
-  fifo-run n m rx tx =
-      ap (λ l. (get_or numbers RX_COUNT (pos 0) ∷ []) ++ (l ++ ((get_or numbers TX_COUNT (pos 0) ∷ []) ++ (array m 16 TX ++ [])))) (array-run n 16 RX rx)
-      ∙ ap (λ l. (get_or numbers RX_COUNT (pos 0) ∷ []) ++ (run numbers RX 16 ++ ((get_or numbers TX_COUNT (pos 0) ∷ []) ++ (l ++ [])))) (array-run m 16 TX tx)
+  fifo-run n m rx tx = cc (array-run n 16 RX rx, array-run m 16 TX tx)
 
 module _ (set : Set) (version : ℕ) (name : List ℕ) (former : List (List ℕ)) (more : List Sub) (numbers : List ℤ) where
   fifo-part : HasFifo numbers → (needed : Bool) → needs_fifo numbers ≡ needed → (needed ≡ false → take 34 (drop RX_COUNT numbers) ≡ replicate 34 (pos 0))

@@ -36,7 +36,7 @@ no-timer (pos n) r e =
     let less = and_le_l (n % 2 ^ 64) never in
     let is : n ≡ never = omega (arith, ints, all, most, less) in
     ap pos is
-no-timer (negsuc n) r e = absurd (let least = r.0 in omega (arith, ints, least))
+no-timer (negsuc n) r e = absurd (omega arith)
 
 -- The serial port of a set from 2 on, where other subsections may follow that of its FIFOs. Its
 -- first field has another name from set 3 on.
@@ -111,12 +111,12 @@ no-count (negsuc n) r e = absurd (let least = r.0 in omega (arith, ints, least))
 
 -- The number of elements of an array that are in the bytes.
 pub elements : (z : ℤ) → InRange U8 z → nat_of z ≤ 16 → min (residue 1 z) 16 ≡ nat_of z
-elements (pos n) r l = let most = r.1 in omega (arith, ints, most, l)
-elements (negsuc n) r l = absurd (let least = r.0 in omega (arith, ints, least))
+elements (pos n) r l = omega arith
+elements (negsuc n) r l = absurd (omega arith)
 
 counted-well : (z : ℤ) → InRange U8 z → nat_of z ≤ 16 → counts_well (16 ∷ []) z ≡ true
 counted-well (pos n) r l = counted_well (16 ∷ []) (pos n) (omega (arith, ints, l), tt)
-counted-well (negsuc n) r l = absurd (let least = r.0 in omega (arith, ints, least))
+counted-well (negsuc n) r l = absurd (omega arith)
 
 -- The FIFOs as counted arrays.
 abbrev pub byte : Cell
@@ -180,10 +180,10 @@ module _ (numbers : List ℤ) (h : HasFifo numbers) where
   tx_elements = min (residue 1 (get_or numbers TX_COUNT (pos 0))) 16
 
   pub rx-zeros : (i : ℕ) → rx_elements ≤ i → i < 16 → get_or numbers (RX + i) (pos 0) ≡ pos 0
-  rx-zeros i l b = let is = elements (get_or numbers RX_COUNT (pos 0)) h.rx_range h.rx.fits in h.rx.zeros i (omega (arith, is, l)) b
+  rx-zeros i l b = let is = elements (get_or numbers RX_COUNT (pos 0)) h.rx_range h.rx.fits in h.rx.zeros i (omega arith) b
 
   pub tx-zeros : (i : ℕ) → tx_elements ≤ i → i < 16 → get_or numbers (TX + i) (pos 0) ≡ pos 0
-  tx-zeros i l b = let is = elements (get_or numbers TX_COUNT (pos 0)) h.tx_range h.tx.fits in h.tx.zeros i (omega (arith, is, l)) b
+  tx-zeros i l b = let is = elements (get_or numbers TX_COUNT (pos 0)) h.tx_range h.tx.fits in h.tx.zeros i (omega arith) b
 
   pub no-fifo : needs_fifo numbers ≡ false → take 34 (drop RX_COUNT numbers) ≡ replicate 34 (pos 0)
   no-fifo e =

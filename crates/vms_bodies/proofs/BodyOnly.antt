@@ -20,7 +20,7 @@ if_true b x y e = rw e refl
 
 -- the front of the rest, of a known length
 pub front_take : (n : ℕ) (xs ys rest : List ℕ) → rest ≡ xs ++ ys → length xs ≡ n → take n rest ≡ xs
-front_take n xs ys rest e len = ap (take n) e ∙ take-append-le n xs ys (omega arith) ∙ take_all n xs (omega arith)
+front_take n xs ys rest e len = cc (take-append-le n xs ys (omega arith), take_all n xs (omega arith))
 
 pub front_drop : (n : ℕ) (xs ys rest : List ℕ) → rest ≡ xs ++ ys → length xs ≡ n → drop n rest ≡ ys
 front_drop n xs ys rest e len = rw (e, ← len) (drop-append_seam xs ys)
@@ -95,7 +95,7 @@ module _ (all : List Cell) (total : List ℤ → List Slot) (n : List ℤ) (end 
       → ((m : List ℤ) → IsAbove further (left m)) → Here cell p done (λ m. slot ∷ left m) → take_slot slot p ≡ Ok q → Rest n end tail (left n) q
       → Gives total (Spelling total n end tail) Never further (done ++ slot ∷ []) (take_slot slot p)
   passed {slot = slot} {done = done} {left = left} up l is r =
-      rw is (record { more = left n; split = split_of l ∙ sym (append_assoc done (slot ∷ []) (left n)); high = up n; rest = r })
+      rw is (record { more = left n; split = cc (split_of l, append_assoc done (slot ∷ []) (left n)); high = up n; rest = r })
 
   number_spelling : length all ≤ length n → ((m : List ℤ) → AreCells all (total m)) → (cell : ℕ) (kind : Kind) (caps : List ℕ) (done : List Slot)
       → (left : List ℤ → List Slot) (p : Progress) → ((m : List ℤ) → IsAbove (cell + 1) (left m)) → Here cell p done (λ m. Number cell kind caps ∷ left m)
@@ -103,8 +103,7 @@ module _ (all : List Cell) (total : List ℤ → List Slot) (n : List ℤ) (end 
   number_spelling room cells cell kind caps done left p up l =
       let r = rest_of l in
       let z = get_or n cell (pos 0) in
-      let inside : cell < length p.numbers =
-      omega (arith, r.long, (cell_in all done (left n) cell kind caps (rw (split_of l) at (cells n))).within) in
+      let inside : cell < length p.numbers = omega (arith, (cell_in all done (left n) cell kind caps (rw (split_of l) at (cells n))).within) in
       passed {cell = cell} {further = cell + 1} {slot = Number cell kind caps} {done = done} {left = left} up l
       (value_taken kind reasons.CountTooLarge (exceeds caps) (slice_set p.numbers cell) z p _ r.fits.0 (not_exceeds caps z r.fits.1)
       (r.front ∙ rw (r.spells.1, append_assoc) refl))
@@ -116,7 +115,7 @@ module _ (all : List Cell) (total : List ℤ → List Slot) (n : List ℤ) (end 
         fits = r.fits.2;
         rules = r.rules;
         same = λ c e. number_same cell c p.numbers inside (λ ne. r.same c (rw ne e));
-        long = length-set p.numbers cell z ∙ r.long;
+        long = cc (length-set p.numbers cell z);
       })
 
   -- a slot without a cell changes no number
@@ -160,9 +159,8 @@ ends_so : (total : List ℤ → List Slot) (n : List ℤ) (end cell : ℕ) (tail
 ends_so total n end cell tail (Err e) c = absurd c
 ends_so total n end cell tail (Ok q) c =
     let r = rest_of [] total n end tail c.1 in
-    let numbers : q.numbers ≡ n = ext_get_or (pos 0) q.numbers n r.long (λ k lt. sym (r.same k refl)) in
-    let place : q.place ≡ end = omega (arith, r.place, ap length r.spells) in
-    rw (← numbers, ← place, ← (r.front ∙ ap (λ l. l ++ tail) r.spells)) refl
+    let place : q.place ≡ end = omega (arith, ap length r.spells) in
+    rw (← (ext_get_or (pos 0) q.numbers n r.long (λ k lt. sym (r.same k refl))), ← place, ← (r.front ∙ ap (λ l. l ++ tail) r.spells)) refl
 
 -- a body of a description of the set is taken, and gives the numbers that it was made of
 pub body_only : (all : List Cell) (ds : List Desc) → AreSound ds → (d : Desc) (v base : ℕ) (n : List ℤ) (p : Progress) (bytes tail : List ℕ) → IsSound d

@@ -12,7 +12,7 @@ pub record Stands (all : List Cell) (at : ℕ) (cells : List Cell) : Type 0 wher
   pub is : drop at all ≡ cells ++ more
 
 pub front_stands : (all : List Cell) (at : ℕ) (xs ys : List Cell) → Stands all at (xs ++ ys) → Stands all at xs
-front_stands all at xs ys s = record { more = ys ++ s.more; is = s.is ∙ append_assoc xs ys s.more }
+front_stands all at xs ys s = record { more = ys ++ s.more; is = cc (append_assoc xs ys s.more) }
 
 pub rest_stands : (all : List Cell) (at : ℕ) (xs ys : List Cell) → Stands all at (xs ++ ys) → Stands all (at + length xs) ys
 rest_stands all at xs ys s = record { more = s.more; is = drop_on all at xs (ys ++ s.more) (s.is ∙ append_assoc xs ys s.more) }

@@ -103,7 +103,7 @@ fine_next set d v came n m j w t structs own sound there new version long fits r
     let stays = stays_next set d came j w t n m there new kept in
     record {
       versions = versions_next d.subs came j t w there version f.versions;
-      long = long ∙ f.long;
+      long = cc;
       own_fits = its_fit set d.desc v 0 structs own n m stays.own f.own_fits;
       own_rules = its_hold set d.desc v 0 structs own n m stays.own f.own_rules;
       fits = next_parts d.subs came j w t (λ i s x. FitSlots m (sub_slots set s x m (part_place set d i))) there new fits

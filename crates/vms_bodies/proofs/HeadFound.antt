@@ -24,9 +24,7 @@ number_take : (k : ℕ) (xs : List ℕ) → big_number k (take k xs) ≡ big_num
 number_take k xs = big_from_take 0 k xs k (omega arith)
 
 pub split_four : (xs : List ℕ) → IsBytes xs → 4 ≤ length xs → xs ≡ be32 (big_number 4 xs) ++ drop 4 xs
-split_four xs ok long =
-    sym (take-append-drop 4 xs)
-    ∙ ap (λ l. l ++ drop 4 xs) (sym (again U32 (take 4 xs) (length-take-le 4 xs long) (bytes_first 4 xs ok)) ∙ ap (big_bytes 4) (number_take 4 xs))
+split_four xs ok long = cc (take-append-drop 4 xs, again U32 (take 4 xs) (length-take-le 4 xs long) (bytes_first 4 xs ok), number_take 4 xs)
 
 pub four_at : (k after : ℕ) (rest : List ℕ) → IsBytes rest → after ≡ k + 4 → after ≤ length rest → drop k rest ≡ be32 (number_at 4 k rest) ++ drop after rest
 four_at k after rest ok e le =
@@ -34,7 +32,7 @@ four_at k after rest ok e le =
     (drop-drop 4 k rest ∙ rw e refl)
 
 pub text_at : (n k : ℕ) (rest : List ℕ) → drop k rest ≡ bytes_at n k rest ++ drop (k + n) rest
-text_at n k rest = sym (take-append-drop n (drop k rest)) ∙ ap (λ l. bytes_at n k rest ++ l) (drop-drop n k rest)
+text_at n k rest = cc (take-append-drop n (drop k rest), drop-drop n k rest)
 
 pub text_long : (n k : ℕ) (rest : List ℕ) → k + n ≤ length rest → length (bytes_at n k rest) ≡ n
 text_long n k rest le = length-take-le n (drop k rest) (omega (arith, length-drop k rest))
@@ -48,7 +46,7 @@ head_bytes rest n ok mark size long =
     let v = be32 (number_at 4 (10 + n) rest) in
     let tail = drop (14 + n) rest in
     let e5 : drop (6 + n) rest ≡ instance ++ (v ++ tail) =
-    four_at (6 + n) (10 + n) rest ok (omega arith) (omega arith) ∙ ap (λ l. instance ++ l) (four_at (10 + n) (14 + n) rest ok (omega arith) long) in
+    cc (four_at (6 + n) (10 + n) rest ok (omega arith) (omega arith), four_at (10 + n) (14 + n) rest ok (omega arith) long) in
     split_one rest (omega arith) ∙ ap (λ b. b ∷ drop 1 rest) mark ∙ ap (λ l. 0x04 ∷ l)
     (four_at 1 5 rest ok (omega arith) (omega arith) ∙ ap (λ l. id ++ l)
     ((drop-cons rest 5 0 (omega arith) ∙ ap (λ b. b ∷ drop 6 rest) size) ∙ ap (λ l. n ∷ l) (text_at n 6 rest ∙ ap (λ l. name ++ l) e5

@@ -73,8 +73,8 @@ module _ (ms : List Meaning) (h : MeanSettled ms) where
         let parts = length-append (field_cells cs d.fields i f) (cells_from cs d.fields (suc i) fs) in
         let there : next ≡ place_of cs d.fields 0 base d.fields (suc i) =
         omega (arith, place_next cs d.fields 0 base d.fields i f fs is, ap (λ k. length (field_cells cs d.fields k f)) (zero_plus i)) in
-        rw (field_settled i cell low end f n k sound.0 up here (omega (arith, parts)) s)
-        (rw (fields_settled (suc i) next low end fs n k sound.1 up there (drop_next d.fields i f fs is) (omega (arith, parts)) s))
+        rw (field_settled i cell low end f n k sound.0 up here (omega arith) s)
+        (rw (fields_settled (suc i) next low end fs n k sound.1 up there (drop_next d.fields i f fs is) (omega arith) s))
 
     pub desc_settled : (low end : ℕ) (n k : List ℤ) → IsSound d → low ≤ base → base + length (desc_cells (cells_in ms) d) ≤ end → SameIn low end n k
         → desc_slots ms d v k base ≡ desc_slots ms d v n base

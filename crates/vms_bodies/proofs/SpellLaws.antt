@@ -95,7 +95,7 @@ module _ (all : List Cell) (total : List ℤ → List Slot) (start : Progress) w
     spells = λ m s. spells_append m done _ h.bytes bytes (h.spells m (a.below m s)) (a.spells m s);
     fits = λ m s. fit_append m done _ (h.fits m (a.below m s)) (a.fits m s);
     rules = rules_append done _ h.rules a.rules;
-    long = a.long ∙ h.long;
+    long = cc;
     kept = λ c e. let n = none_in_both c done _ e in a.kept c n.1 ∙ h.kept c n.0;
   }
 

@@ -34,8 +34,7 @@ module _ {X : Type 0} (total : List ℤ → List Slot) (R : ℕ → Progress →
   one_step : (w : Walks) (x : X) (cell : ℕ) (slot : Slot) (done : List Slot) (left : List ℤ → List Slot) (p : Progress)
       → Left total (Is x) (Refuses x) cell p done (λ m. slot ∷ left m) → x ≡ after (length done) (take_slot slot p)
   one_step w x cell slot done left p l =
-      l.holds ∙ w.walks (length done) p ∙ ap (λ xs. step (drop (length done) xs) (length done) p) (l.split p.numbers (same_refl cell p.numbers))
-      ∙ ap (λ xs. step xs (length done) p) (drop-append_seam done (slot ∷ left p.numbers))
+      cc (w.walks (length done) p, l.split p.numbers (same_refl cell p.numbers), drop-append_seam done (slot ∷ left p.numbers))
 
   pub steps_keep : (w : Walks) (x : X) → Keeping total (Is x) (Refuses x)
   steps_keep w x = record {

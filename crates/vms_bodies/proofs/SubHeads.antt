@@ -11,9 +11,8 @@ sub_bytes rest n ok mark size long =
     let name = bytes_at n 2 rest in
     let v = be32 (number_at 4 (2 + n) rest) in
     let tail = drop (6 + n) rest in
-    let e3 : drop 1 rest ≡ n ∷ drop 2 rest = drop-cons rest 1 0 (omega arith) ∙ ap (λ b. b ∷ drop 2 rest) size in
     split_one rest (omega arith) ∙ ap (λ b. b ∷ drop 1 rest) mark ∙ ap (λ l. 0x05 ∷ l)
-    (e3 ∙ ap (λ l. n ∷ l) (text_at n 2 rest ∙ ap (λ l. name ++ l) (four_at (2 + n) (6 + n) rest ok (omega arith) long)
+    ((cc (drop-cons rest 1 0 (omega arith))) ∙ ap (λ l. n ∷ l) (text_at n 2 rest ∙ ap (λ l. name ++ l) (four_at (2 + n) (6 + n) rest ok (omega arith) long)
     ∙ sym (append_assoc name v tail)))
     ∙ ap (λ k. 0x05 ∷ (k ∷ ((name ++ v) ++ tail))) (sym (text_long n 2 rest (omega arith)))
 

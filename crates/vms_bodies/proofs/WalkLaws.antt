@@ -248,8 +248,7 @@ module _ (total : List ℤ → List Slot) (Holds : ℕ → List Slot → Progres
         fields_comes i cell end [] sound here is e up l = stay (omega arith) up l
         fields_comes i cell end (f ∷ fs) {p} {left = left} sound here is e up l =
             let cs = cells_of ts in
-            let size = length (field_cells cs d.fields i f) in
-            let next = cell + size in
+            let next = cell + (length (field_cells cs d.fields i f)) in
             let e' : end ≡ next + length (cells_from cs d.fields (suc i) fs) =
             omega (arith, length-append (field_cells cs d.fields i f) (cells_from cs d.fields (suc i) fs)) in
             let there : next ≡ place_of cs d.fields 0 base d.fields (suc i) =

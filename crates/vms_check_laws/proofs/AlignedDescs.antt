@@ -45,14 +45,11 @@ module _ (sides : Sides) where
   abbrev olds : List (List Cell)
   olds = cells_in ms
 
-  abbrev news : List (List Cell)
-  news = cells_in ns
-
   abbrev own : ℕ → ℕ
   own k = numbers_of olds a numbers at k
 
   abbrev own' : ℕ → ℕ
-  own' k = numbers_of news b numbers' at' k
+  own' k = numbers_of (cells_in ns) b numbers' at' k
 
   abbrev old_size : Item → ℕ
   old_size i = length (item_cells olds i [] (pos 0))
@@ -65,7 +62,7 @@ module _ (sides : Sides) where
   item_aligns (Num k) (Num l) caps caps' d x y pair fits = aligns_number numbers numbers' x y k l caps caps' (kinds_same k l pair.same)
   item_aligns (Equal k z) (Equal l u) caps caps' d x y pair fits = aligns_constant numbers numbers' k l z u (kinds_same k l pair.same)
   item_aligns (Unused m) (Unused r) caps caps' d x y pair fits = aligns_filler numbers numbers' _ r (filler_length numbers m ∙ eqb-true m r pair.same)
-  item_aligns (Struct i) (Struct j) caps caps' d x y pair fits = (table.meets i j pair.low pair.low' pair.structs x fits).aligned y
+  item_aligns (Struct i) (Struct j) caps caps' d x y pair fits = ((table.rows j pair.low').meets i pair.low pair.structs x fits).aligned y
   item_aligns _ _ caps caps' d x y pair fits = absurd (cc)
 
   items_align : (i j : Item) (caps caps' : List ℕ) (d : ℤ) (m most p step x y step' : ℕ) → Pairs two below below' i j → m ≤ most
@@ -89,7 +86,7 @@ module _ (sides : Sides) where
       (λ c.
       let s =
       covered_slots ms ns numbers numbers' own own' e.field.item e.field.count f.field.item f.field.count (counted e.index a.fields) (counted f.index b.fields)
-      (at + e.place) (at' + f.place) (old_size e.field.item) (length (item_cells news f.field.item [] (pos 0))) c.covers p.old.single p.new.single in
+      (at + e.place) (at' + f.place) (old_size e.field.item) (length (item_cells (cells_in ns) f.field.item [] (pos 0))) c.covers p.old.single p.new.single in
       (aligns_nil numbers numbers', rw s.1 (aligns_filler numbers numbers' _ s.0 s.2)))
       (λ m t is.
       items_align e.field.item f.field.item _ _ e.field.default _ _ 0 0 _ _ _
@@ -103,9 +100,7 @@ module _ (sides : Sides) where
       let z = get_or numbers x (pos 0) in
       let u = get_or numbers' y (pos 0) in
       let same = same_bytes numbers _ numbers' _ (aligns_number numbers numbers' x y k l caps caps' e) body r r' s h in
-      let long : length (code l u) ≡ length (code k z) = rw (length-code, length-code, e) in
-      let codes = (apart (code l u) (code k z) [] s.0 long (sym s.1 ∙ same)).0 in
-      rw (← e) (same_code k z u (rw (← codes, e)))
+      rw (← e) (same_code k z u (rw (← ((apart (code l u) (code k z) [] s.0 (rw (length-code, length-code, e)) (sym s.1 ∙ same)).0), e)))
 
   number_same : (j i : Item) (d c : Count) (t t' : Bool) (caps caps' : List ℕ) (x y step step' : ℕ) → is_num j ≡ true → is_one d ≡ true → same_item i j ≡ true
       → same_count o n c d ≡ true → t ≡ true → t' ≡ true
@@ -155,9 +150,8 @@ module _ (sides : Sides) where
       → Same (suc p)
   same_next p _ e f es fs st here i j q named oi nj lt = let le : q ≤ p = omega arith in elim (eq-or-lt_of_le le) [
     | inl is ↦
-        let ei : e.index ≡ i = upto_here o p e es st.upto i (rw is at oi) in
         let fj : f.index ≡ j = upto_here n p f fs st.upto' j (rw is at nj) in
-        rw (← ei, ← fj) (here (rw fj named))
+        rw (← (upto_here o p e es st.upto i (rw is at oi)), ← fj) (here (rw fj named))
     | inr less ↦ st.same i j q named oi nj less
   ]
 
@@ -243,20 +237,18 @@ module _ (sides : Sides) where
         → (body r r' : List ℕ) → Spells numbers' (NewSlots f) body → body ++ r' ≡ zeroed numbers (OldSlots e) ++ r → ⊥
     clash_refuses e f clash known known' body r r' spells h =
         let d = clash.constants in
-        let there_is = known_there ms a.fields v numbers at e known clash.rest own no_parent in
         let there_is' = known_there ns b.fields w numbers' at' f known' clash.rest' own' no_parent in
         let one : IsSingle (Equal d.kind d.value) e.field.count = rw d.item at (old e.index e.field known.field).single in
         let one' : IsSingle (Equal d.kind d.other) f.field.count = rw d.item' at (named f.index f.field known'.field).single in
         d.differ (constants_same d.kind d.value d.other _ _ e.field.count f.field.count (counted e.index a.fields) (counted f.index b.fields) _ _ _ _ one one'
-        there_is there_is' body r r' (rw d.item' at spells) (rw d.item at h))
+        (known_there ms a.fields v numbers at e known clash.rest own no_parent) there_is' body r r' (rw d.item' at spells) (rw d.item at h))
 
     pub entries_clash : (es fs : List Entry) (p i : ℕ) → Clashes two es fs → State p i es fs → (body r r' : List ℕ) → Spells numbers' (all_new fs) body
         → body ++ r' ≡ zeroed numbers (all_old es) ++ r → ⊥
-    entries_clash [] fs p i clashes st body r r' s h = absurd clashes
-    entries_clash (e ∷ es) [] p i clashes st body r r' s h = absurd clashes
     entries_clash (e ∷ es) (f ∷ fs) p i clashes st body r r' s h =
         let q = past p i e f es fs (all_old es) (all_new fs) st body r r' s h in
         elim clashes [
           | inl clash ↦ clash_refuses e f clash st.known.0 st.known'.0 q.front _ _ q.here q.split
           | inr more ↦ entries_clash es fs (suc p) (suc f.index) more.1 (q.next more.0) q.rest r r' q.behind (q.rests more.0)
         ]
+    entries_clash _ _ p i clashes st body r r' s h = absurd clashes

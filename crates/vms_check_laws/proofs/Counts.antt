@@ -1,10 +1,10 @@
 -- A number that fits its cell is at most every capacity that it counts, and one that fits the older capacities fits the newer.
-use Rattle.vms_check_laws.proofs.Facade.{◌≤ℤ◌, ◌≡◌, ◌⊎◌, inl, inr, ℕ, zero, suc, ◌+◌, ◌*◌, ◌^◌, ◌≤◌, true, ◌==◌, List, ◌∷◌, ◌++◌, length, get_or, Some, refl}
+use Rattle.vms_check_laws.proofs.Facade.{◌≤ℤ◌, ◌≡◌, inl, inr, ℕ, zero, suc, ◌+◌, ◌*◌, ◌^◌, ◌≤◌, true, ◌==◌, List, ◌∷◌, ◌++◌, length, get_or, Some, refl}
 use Rattle.vms_check_laws.proofs.Facade.{arith, ℤ, pos, negsuc, if◌then◌else◌, AllByRecursion, slice_get, mod-le, eq-eqb, ints, ◌<◌, [], min, Bool, false}
-use Rattle.vms_check_laws.proofs.Facade.{◌&&◌, Option, None, sym, nat_le, and_parts, eqb-true, leb-true, Kind, U8, U16, U32, Item, Num, width, residue, Count}
-use Rattle.vms_check_laws.proofs.Facade.{One, Counted, Field, Cell, times, counted, capacity_of, item_cells, field_cells, cells_from, place_of, no_field}
-use Rattle.vms_check_laws.proofs.Facade.{kind_of, FitsCell, is_num, is_one, ItemBelow, FitsAt, all_right, Desc, is_steady_in, no_desc, Struct, highest}
-use Rattle.vms_check_laws.proofs.Facade.{Formula, presence, Entry, entry_of, present_from, position_from, same_place, same_count, is_covered, holds_as_much}
+use Rattle.vms_check_laws.proofs.Facade.{Option, None, sym, nat_le, and_parts, eqb-true, leb-true, Kind, U8, U16, U32, Item, Num, width, residue, Count, One}
+use Rattle.vms_check_laws.proofs.Facade.{Counted, Field, Cell, times, counted, capacity_of, item_cells, field_cells, cells_from, place_of, no_field, kind_of}
+use Rattle.vms_check_laws.proofs.Facade.{FitsCell, is_num, is_one, ItemBelow, FitsAt, all_right, Desc, is_steady_in, no_desc, Struct, highest, Formula}
+use Rattle.vms_check_laws.proofs.Facade.{presence, Entry, entry_of, present_from, position_from, same_place, same_count, is_covered, holds_as_much}
 use Rattle.vms_check_laws.proofs.Facade.{absent_hold, bound, least_of, greatest, has_room, cells_in, AllZip}
 use Rattle.vms_check_laws.proofs.Segments.{fits_right}
 use Rattle.vms_check_laws.proofs.Presence.{Steady, covers_unused}
@@ -15,20 +15,14 @@ use Rattle.vms_check_laws.proofs.Positioned.{at_or_later, Above}
 abbrev pub field_number : List (List Cell) → List Field → List Field → ℕ → List ℤ → ℕ → ℕ → ℕ
 field_number cs all fs i numbers at k = residue (width (kind_of (get_or fs k no_field).item)) (get_or numbers (place_of cs all i at fs k) (pos 0))
 
--- a list has an array that field `by` counts
-abbrev pub HasArray : ℕ → ℕ → List Field → Type 0
-HasArray by most [] = ⊥
-HasArray by most (f ∷ fs) = (f.count ≡ Counted by most) ⊎ HasArray by most fs
-
 counted_head : (P : ℕ → Type 0) (by most : ℕ) (f : Field) (fs : List Field) → f.count ≡ Counted by most → AllByRecursion P (counted by (f ∷ fs)) → P most
-counted_head P by most f fs e h =
-    let m : AllByRecursion P (most ∷ counted by fs) = rw (e, eq-eqb by by refl) at h in
-    m.0
+counted_head P by most f fs e h = (rw (e, eq-eqb by by refl) at h).0
 
-pub counted_has : (P : ℕ → Type 0) (by most : ℕ) (fs : List Field) → HasArray by most fs → AllByRecursion P (counted by fs) → P most
-counted_has P by most [] has h = absurd has
-counted_has P by most (f ∷ fs) has h =
-    elim has [ inl here ↦ counted_head P by most f fs here h | inr more ↦ counted_has P by most fs more (all_right P _ (counted by fs) h) ]
+counted_at : (P : ℕ → Type 0) (by most i : ℕ) (fs : List Field) (f : Field) → slice_get fs i ≡ Some f → f.count ≡ Counted by most
+    → AllByRecursion P (counted by fs) → P most
+counted_at P by most i [] f is e h = absurd (cc)
+counted_at P by most zero (g ∷ fs) f is e h = let same : g ≡ f = cc in counted_head P by most g fs (rw same e) h
+counted_at P by most (suc i) (g ∷ fs) f is e h = counted_at P by most i fs f is e (all_right P _ (counted by fs) h)
 
 first_fits : (cs : List (List Cell)) (item : Item) (count : Count) (caps : List ℕ) (d : ℤ) (more : List Cell) (numbers : List ℤ) (at : ℕ) → is_num item ≡ true
     → is_one count ≡ true → FitsAt (times (capacity_of count) (λ _. item_cells cs item caps d) 0 0 ++ more) numbers at
@@ -65,7 +59,7 @@ IsCounting _ = ⊥
 
 below_cap : (w : ℕ) (z : ℤ) (most : ℕ) → pos 0 ≤ℤ z → z ≤ℤ pos most → residue w z ≤ most
 below_cap w (pos m) most low high = let h : m ≤ most = omega (arith, ints) in omega (arith, mod-le m (2 ^ (8 * w)))
-below_cap w (negsuc m) most low high = absurd (omega (arith, ints))
+below_cap w (negsuc m) most low high = absurd (omega arith)
 
 counting_below : (item : Item) (caps : List ℕ) (d z : ℤ) (most : ℕ) → IsCounting item
     → FitsCell (record { kind = kind_of item; capacities = caps; default = d }) z → z ≤ℤ pos most → residue (width (kind_of item)) z ≤ most
@@ -81,13 +75,12 @@ pub record Counter (all : List Field) (by : ℕ) : Type 0 where
   pub steady : Steady field
   pub kind : IsCounting field.item
 
-pub count_fits : (cs : List (List Cell)) (all : List Field) (numbers : List ℤ) (at by most : ℕ) → Counter all by → HasArray by most all
-    → FitsAt (cells_from cs all 0 all) numbers at → field_number cs all all 0 numbers at by ≤ most
-count_fits cs all numbers at by most c has fits =
+pub count_fits : (cs : List (List Cell)) (all : List Field) (numbers : List ℤ) (at by most : ℕ) → Counter all by → (i : ℕ) (f : Field)
+    → slice_get all i ≡ Some f → f.count ≡ Counted by most → FitsAt (cells_from cs all 0 all) numbers at → field_number cs all all 0 numbers at by ≤ most
+count_fits cs all numbers at by most c i f is e fits =
     let s = single_at cs all all 0 by numbers at c.field c.stands c.steady fits in
     let z : 0 + by ≡ by = omega arith in
-    let caps : AllByRecursion (λ m. s.number ≤ℤ pos m) (counted by all) = rw (z) at s.fits.1 in
-    let high = counted_has (λ m. s.number ≤ℤ pos m) by most all has caps in
+    let high = counted_at (λ m. s.number ≤ℤ pos m) by most i all f is e (rw (z) at s.fits.1) in
     rw s.is (counting_below c.field.item _ c.field.default s.number most c.kind s.fits high)
 
 -- ---- what old's fields need, without numbers
@@ -104,21 +97,16 @@ pub record OldPlain (below : ℕ) (all : List Field) (f : Field) : Type 0 where
 abbrev pub OldPlains : ℕ → List Field → Type 0
 OldPlains below all = (j : ℕ) (f : Field) → slice_get all j ≡ Some f → OldPlain below all f
 
-pub array_of : (fs : List Field) (i by most : ℕ) (f : Field) → slice_get fs i ≡ Some f → f.count ≡ Counted by most → HasArray by most fs
-array_of [] i by most f is e = absurd (cc)
-array_of (g ∷ fs) zero by most f is e = let same : g ≡ f = cc in inl (rw same e)
-array_of (g ∷ fs) (suc i) by most f is e = inr (array_of fs i by most f is e)
-
-fits_count : (cs : List (List Cell)) (all : List Field) (numbers : List ℤ) (at : ℕ) (c : Count) → FitsAt (cells_from cs all 0 all) numbers at → CountKnown all c
-    → ((by most : ℕ) → c ≡ Counted by most → HasArray by most all) → CountFits (λ k. field_number cs all all 0 numbers at k) c
-fits_count cs all numbers at (Counted by most) fits known has = count_fits cs all numbers at by most known (has by most refl) fits
-fits_count cs all numbers at _ fits known has = tt
+fits_count : (cs : List (List Cell)) (all : List Field) (numbers : List ℤ) (at i : ℕ) (f : Field) (c : Count) → slice_get all i ≡ Some f → f.count ≡ c
+    → FitsAt (cells_from cs all 0 all) numbers at → CountKnown all c → CountFits (λ k. field_number cs all all 0 numbers at k) c
+fits_count cs all numbers at i f (Counted by most) is e fits known = count_fits cs all numbers at by most known i f is e fits
+fits_count cs all numbers at i f _ is e fits known = tt
 
 pub old_fields : (cs : List (List Cell)) (below : ℕ) (all : List Field) (numbers : List ℤ) (at : ℕ) → FitsAt (cells_from cs all 0 all) numbers at
     → OldPlains below all → OldFields below (λ k. field_number cs all all 0 numbers at k) all
 old_fields cs below all numbers at fits plain j f is =
     let p = plain j f is in
-    record { item = p.item; single = p.single; count = fits_count cs all numbers at f.count fits p.count (λ by most e. array_of all j by most f is e) }
+    record { item = p.item; single = p.single; count = fits_count cs all numbers at j f f.count is refl fits p.count }
 
 -- what a description without a fault gives, as the older set's and as the newer's, which uses structures below k
 pub record DescGood (k : ℕ) (d : Desc) : Type 0 where
@@ -175,32 +163,27 @@ at_most_bound kind (m ∷ ms) z h all = at_most_least z m ms all.0 all.1
 pub at_most_more : (z : ℤ) (m k : ℕ) → z ≤ℤ pos m → m ≤ k → z ≤ℤ pos k
 at_most_more _ m k h le = omega (arith, ints)
 
-all_counted : (P : ℕ → Type 0) (by : ℕ) (gs : List Field) → ((most : ℕ) → HasArray by most gs → P most) → AllByRecursion P (counted by gs)
+all_counted : (P : ℕ → Type 0) (by : ℕ) (gs : List Field) → AllByRecursion (λ g. (most : ℕ) → g.count ≡ Counted by most → P most) gs
+    → AllByRecursion P (counted by gs)
 all_counted P by [] h = tt
-all_counted P by (g ∷ gs) h = head g.count refl (all_counted P by gs (λ most has. h most (inr has))) where
+all_counted P by (g ∷ gs) h = head g.count refl (all_counted P by gs h.1) where
   caps : (c : Bool) (most : ℕ) → (c ≡ true → P most) → AllByRecursion P (counted by gs) → AllByRecursion P ((if c then most ∷ [] else []) ++ counted by gs)
   caps true most p rest = (p refl, rest)
   caps false most p rest = rest
 
   head : (c : Count) → g.count ≡ c → AllByRecursion P (counted by gs) → AllByRecursion P (counted by (record g { count = c } ∷ gs))
-  head (Counted by' most) e rest = caps (by' == by) most (λ is. h most (inl (rw (← (eqb-true by' by is)) e))) rest
+  head (Counted by' most) e rest = caps (by' == by) most (λ is. h.0 most (rw (← (eqb-true by' by is)) e)) rest
   head _ e rest = rest
 
 pub covered_one : (i : Item) (c : Count) (j : Item) (d : Count) → is_covered i c j ≡ true → IsSingle j d → is_one d ≡ true
 covered_one i c j d is_so single = rw ((covers_unused i c j is_so).1) at single
 
-pub record Paired (o n : ℕ → Option ℕ) (c : Count) (i most : ℕ) : Type 0 where
-  pub by : ℕ
-  pub most' : ℕ
-  pub is : c ≡ Counted by most'
-  pub same : same_place (o by) (n i) ≡ true
-  pub room : most' ≤ most
-
-paired : (o n : ℕ → Option ℕ) (c d : Count) (i most : ℕ) → d ≡ Counted i most → same_count o n c d ≡ true → holds_as_much c d ≡ true → Paired o n c i most
+paired : (o n : ℕ → Option ℕ) (c d : Count) (i most : ℕ) → d ≡ Counted i most → same_count o n c d ≡ true → holds_as_much c d ≡ true
+    → (by most' : ℕ) × (c ≡ Counted by most') × (same_place (o by) (n i) ≡ true) × (most' ≤ most)
 paired o n (Counted by most') (Counted j m) i most e same room =
     let one : j ≡ i = cc in
     let much : m ≡ most = cc in
-    record { by = by; most' = most'; is = refl; same = rw one at same; room = omega (arith, leb-true most' m room) }
+    (by, most', refl, rw one at same, omega (arith, leb-true most' m room))
 paired o n _ _ i most e same room = absurd (cc)
 
 module _ (sides : Sides) where
@@ -221,8 +204,8 @@ module _ (sides : Sides) where
         | inl c ↦ let one = covered_one e.field.item e.field.count f.field.item f.field.count c.covers single in let bad = rw is at one in absurd (cc)
         | inr m ↦
             let p = paired o n e.field.count f.field.count j most is m.count m.room in
-            let has_i : HasArray i p.most' a.fields = rw (← (at_i p.by p.same)) (array_of a.fields e.index p.by p.most' e.field met.known.field p.is) in
-            at_most_more z p.most' most (counted_has (λ m. z ≤ℤ pos m) i p.most' a.fields has_i all) p.room
+            let counts : e.field.count ≡ Counted i p.1 = rw (at_i p.0 p.3) at p.2 in
+            at_most_more z p.1 most (counted_at (λ m. z ≤ℤ pos m) i p.1 e.index a.fields e.field met.known.field counts all) p.4
       ]
 
   fits_arrays : (new : NewFields below' (is_steady_in b) b.fields) (z : ℤ) (i j : ℕ) (es fs : List Entry) → ((by : ℕ) → same_place (o by) (n j) ≡ true → by ≡ i)
@@ -235,8 +218,7 @@ module _ (sides : Sides) where
   absent_array : (z : ℤ) (j n most : ℕ) (g : Field) (gs : List Field) → g.count ≡ Counted j most → presence w g.test g.since ≡ None → z ≤ℤ pos n
       → absent_hold w j n (g ∷ gs) ≡ true → z ≤ℤ pos most
   absent_array z j n most g gs is none le h =
-      let at_none : (nat_le n most && absent_hold w j n gs) ≡ true = rw (is, eq-eqb j j refl, none) at h in
-      at_most_more z n most le (leb-true n most (and_parts (nat_le n most) (absent_hold w j n gs) at_none).0)
+      at_most_more z n most le (leb-true n most (and_parts (nat_le n most) (absent_hold w j n gs) (rw (is, eq-eqb j j refl, none) at h)).0)
 
   arrays_rest : (z : ℤ) (j i q : ℕ) (g : Field) (pr : Option (Option Formula)) (fs : List Entry) → FitsArrays z j (entry_of i q g pr ++ fs) → FitsArrays z j fs
   arrays_rest z j i q g None fs h = h
@@ -248,17 +230,12 @@ module _ (sides : Sides) where
   array_here z j n most i q g gs (Some rest) fs e is le absent h = h.0 most is
 
   each_array : (z : ℤ) (j n i q : ℕ) (gs : List Field) → z ≤ℤ pos n → absent_hold w j n gs ≡ true → FitsArrays z j (present_from news b.fields w i q gs)
-      → (most : ℕ) → HasArray j most gs → z ≤ℤ pos most
-  each_array z j n i q [] le absent h most has = absurd has
-  each_array z j n i q (g ∷ gs) le absent h most has =
-      let next = q + length (field_cells news b.fields i g) in
-      let after = present_from news b.fields w (suc i) next gs in
-      elim has [
-        | inl is ↦ array_here z j n most i q g gs _ after refl is le absent h
-        | inr more ↦
-            let absent_rest = (and_parts (has_room w j n g g.count) (absent_hold w j n gs) absent).1 in
-            each_array z j n (suc i) next gs le absent_rest (arrays_rest z j i q g _ after h) most more
-      ]
+      → AllByRecursion (λ g. (most : ℕ) → g.count ≡ Counted j most → z ≤ℤ pos most) gs
+  each_array z j n i q [] le absent h = tt
+  each_array z j n i q (g ∷ gs) le absent h =
+      let after = present_from news b.fields w (suc i) (q + length (field_cells news b.fields i g)) gs in
+      let absent_rest = (and_parts (has_room w j n g g.count) (absent_hold w j n gs) absent).1 in
+      (λ most is. array_here z j n most i q g gs _ after refl is le absent h, each_array z j n (suc i) _ gs le absent_rest (arrays_rest z j i q g _ after h))
 
   -- a number of old that fits, at a pair of numbers, fits all of new's capacities
   pub caps_follow : (kind : Kind) (es : List Entry) (e f : Entry) (z : ℤ) → e.field.item ≡ Num kind
@@ -268,4 +245,4 @@ module _ (sides : Sides) where
   caps_follow kind es e f z is at_e m high caps met new =
       let le : z ≤ℤ pos (bound e.field.item (counted e.index a.fields)) = rw is (at_most_bound kind _ z high caps) in
       let arrays = fits_arrays new z e.index f.index es _ at_e caps met in
-      all_counted (λ m. z ≤ℤ pos m) f.index b.fields (λ most has. each_array z f.index _ 0 0 b.fields le m.absent arrays most has)
+      all_counted (λ m. z ≤ℤ pos m) f.index b.fields (each_array z f.index _ 0 0 b.fields le m.absent arrays)

@@ -1,20 +1,133 @@
 -- A description on each side: its bytes carry, what isn't in them is at its default, and at one front the newer set
--- takes exactly the bytes that the older one wrote. Validations that hold in the older set hold in the newer.
-use Rattle.vms_check_laws.proofs.Facade.{◌≡◌, ℕ, ◌+◌, List, ◌∷◌, Option, None, sym, ◌∙◌, arith, ℤ, inr, ◌++◌, [], Bool, and_from, and_parts, false, list_all}
-use Rattle.vms_check_laws.proofs.Facade.{list_any, refl, true, cells_in, Desc, Rule, Meaning, desc_cells, slots_from, desc_slots, numbers_of, all_hold, Part}
-use Rattle.vms_check_laws.proofs.Facade.{is_steady_in, Entry, present, position_from, Comparer, compare_desc, Carrier, carry_desc, Holds, FitsAt, Aligns}
-use Rattle.vms_check_laws.proofs.Facade.{or_else_none, Spells, zeroed, Carries, Formula, Known, Open, Reduced, compare_validations, here, is_kept, no_parent}
-use Rattle.vms_check_laws.proofs.Facade.{passes, reduced, reduced_holds, same_reduced, truth, truth_of, AllZip, either_of}
-use Rattle.vms_check_laws.proofs.Presence.{Agree, Named, named_left, same_reduced_truth}
-use Rattle.vms_check_laws.proofs.Segments.{holds_at, carries_append, spells_split, behind_first, aligns_append, aligns_rule, carries_rule}
-use Rattle.vms_check_laws.proofs.Premises.{entries_slots, slots_entries, all_known, AreKnown, Two, Sides, Table, OldFields, Meets, Reads, fields_below}
-use Rattle.vms_check_laws.proofs.Premises.{RulesNamed, Met, all_met}
-use Rattle.vms_check_laws.proofs.FieldsRead.{linked, agree_from, fields_settle, fields_carry}
-use Rattle.vms_check_laws.proofs.PairLists.{settled_more}
+-- takes exactly the bytes that the older one wrote. Validations that hold in the older set hold in the newer. The carried numbers
+-- fit the cells of the newer set.
+use Rattle.vms_check_laws.proofs.Facade.{◌≤ℤ◌, ◌≡◌, inl, inr, ℕ, zero, suc, ◌+◌, ◌<◌, ◌≤◌, Bool, true, false, List, ◌∷◌, ◌++◌, length, get_or, Option, None}
+use Rattle.vms_check_laws.proofs.Facade.{refl, arith, ℤ, pos, if◌then◌else◌, AllByRecursion, [], cells_in, Kind, Item, Num, Struct, Formula, Field, Cell}
+use Rattle.vms_check_laws.proofs.Facade.{times, counted, item_cells, field_cells, cells_from, Entry, same_kind, pair_structs, defaults, carry_item}
+use Rattle.vms_check_laws.proofs.Facade.{carry_items, carry_from, FitsAt, size_same, elements_fit, highest, InRange, is_num, FitsCell, ItemBelow, FieldsBelow}
+use Rattle.vms_check_laws.proofs.Facade.{desc_cells, numbers_of, is_steady_in, present, AllZip, sym, ◌∙◌, and_from, and_parts, list_all, list_any, Desc, Rule}
+use Rattle.vms_check_laws.proofs.Facade.{Meaning, slots_from, desc_slots, all_hold, Part, position_from, Comparer, compare_desc, Carrier, carry_desc, Holds}
+use Rattle.vms_check_laws.proofs.Facade.{Aligns, or_else_none, Spells, zeroed, Carries, Known, Reduced, compare_validations, here, is_kept, no_parent, passes}
+use Rattle.vms_check_laws.proofs.Facade.{reduced, reduced_holds, same_reduced, truth, truth_of, either_of}
+use Rattle.vms_check_laws.proofs.Segments.{fits_left, fits_right, fits_at, holds_at, carries_append, spells_split, behind_first, aligns_append, aligns_rule}
+use Rattle.vms_check_laws.proofs.Segments.{carries_rule}
+use Rattle.vms_check_laws.proofs.Premises.{kinds_same, Matched, decoded, OldFields, NewFields, DefaultsGood, ItemDefault, Sides, fields_below, FitCells}
+use Rattle.vms_check_laws.proofs.Premises.{GoodCells, fit_append, fit_defaults, good_append, good_times, Met, entries_slots, slots_entries, all_known}
+use Rattle.vms_check_laws.proofs.Premises.{AreKnown, Two, Table, Meets, Reads, RulesNamed, all_met}
+use Rattle.vms_check_laws.proofs.Presence.{not_covered, Agree, Named, named_left, same_reduced_truth}
+use Rattle.vms_check_laws.proofs.Counts.{caps_follow, IsIndexed, DescGood, indexed}
+use Rattle.vms_check_laws.proofs.PairLists.{if_least, one_cell, settled_more}
+use Rattle.vms_check_laws.proofs.FieldsRead.{linked, agree_from, fields_settle, fields_carry, by_fields}
 use Rattle.vms_check_laws.proofs.AlignedDescs.{Clashes, entries_align, entries_clash, State}
 use Rattle.vms_check_laws.proofs.Positioned.{present_above}
-use Rattle.vms_check_laws.proofs.Counts.{DescGood, indexed}
-use Rattle.vms_check_laws.proofs.Fitting.{fields_fit}
+
+-- ---- the carried numbers fit new's cells
+
+pub good_item : (y : List (List Cell)) (k : ℕ) (j : Item) (caps : List ℕ) (d : ℤ) → ((i : ℕ) → i < k → GoodCells (get_or y i [])) → ItemBelow k j
+    → ItemDefault j caps d → GoodCells (item_cells y j caps d)
+good_item y k (Num kind) caps d good below h = (h, tt)
+good_item y k (Struct i) caps d good below h = good i below
+good_item y k _ caps d good below h = tt
+
+pub good_fields : (y : List (List Cell)) (k : ℕ) (all : List Field) (i : ℕ) (gs : List Field) → ((i : ℕ) → i < k → GoodCells (get_or y i []))
+    → FieldsBelow k gs → DefaultsGood all i gs → GoodCells (cells_from y all i gs)
+good_fields y k all i [] good below h = tt
+good_fields y k all i (g ∷ gs) good below h =
+    good_append _ _ (good_times _ _ 0 0 (good_item y k g.item _ g.default good below.0 h.0)) (good_fields y k all (suc i) gs good below.1 h.1)
+
+-- what the older number fits, the newer's cell does
+abbrev Follows : (i j : Item) → (caps caps' : List ℕ) → Type 0
+Follows i j caps caps' =
+    (k : Kind) → i ≡ Num k → is_num j ≡ true → (z : ℤ) → z ≤ℤ highest k → AllByRecursion (λ m. z ≤ℤ pos m) caps → AllByRecursion (λ m. z ≤ℤ pos m) caps'
+
+module _ (sides : Sides) where
+  open sides use {two, cs, ms, ns, numbers, numbers', at, at', below, below', table}
+  open two use {ks, a, b, v, w, part, part', o, n}
+
+  abbrev olds : List (List Cell)
+  olds = cells_in ms
+
+  abbrev news : List (List Cell)
+  news = cells_in ns
+
+  abbrev own_number : ℕ → ℕ
+  own_number k = numbers_of olds a numbers at k
+
+  abbrev fallback : Item → ℤ → List ℤ
+  fallback j d = defaults (item_cells news j [] d)
+
+  number_fits : (c : Bool) (k l : Kind) (caps caps' : List ℕ) (d' z : ℤ) → same_kind k l ≡ c
+      → FitsCell (record { kind = l; capacities = caps'; default = d' }) d' → InRange k z
+      → (c ≡ true → AllByRecursion (λ m. z ≤ℤ pos m) caps') → FitCells (one_cell l caps' d') (if c then z ∷ [] else d' ∷ [])
+  number_fits true k l caps caps' d' z same good range follow = ((rw (← (kinds_same k l same)) range, follow refl), tt)
+  number_fits false k l caps caps' d' z same good range follow = (good, tt)
+
+  fallback_fits : (j : Item) (caps' : List ℕ) (d' : ℤ) → GoodCells (item_cells news j caps' d') → FitCells (item_cells news j caps' d') (fallback j d')
+  fallback_fits (Num l) caps' d' good = (good.0, tt)
+  fallback_fits (Struct j) caps' d' good = fit_defaults _ good
+  fallback_fits _ caps' d' good = tt
+
+  fit_item : (i j : Item) (caps caps' : List ℕ) (d d' : ℤ) (p : ℕ) → ItemBelow below i → ItemBelow below' j
+      → pair_structs ks a b v w part part' o n i j ≡ None → GoodCells (item_cells news j caps' d')
+      → FitsAt (item_cells olds i caps d) numbers p → Follows i j caps caps'
+      → FitCells (item_cells news j caps' d') (carry_item cs olds news numbers i j (fallback j d') p)
+  fit_item (Num k) (Num l) caps caps' d d' p below_a below_b none good fits follow =
+      let z : p + 0 ≡ p = omega arith in
+      let f : FitsCell (record { kind = k; capacities = caps; default = d }) (get_or numbers p (pos 0)) = rw (z) at (fits.each 0 (omega arith)) in
+      number_fits _ k l caps caps' d' _ refl good.0 f.0 (λ same. follow k refl refl (get_or numbers p (pos 0)) f.0.1 f.1)
+  fit_item (Struct i) (Struct j) caps caps' d d' p below_a below_b none good fits follow = ((table.rows j below_b).meets i below_a none p fits).fits
+  fit_item _ j caps caps' d d' p below_a below_b none good fits follow = fallback_fits j caps' d' good
+
+  fit_items : (i j : Item) (caps caps' : List ℕ) (d d' : ℤ) (m most most' q st q' st' p : ℕ) → m ≤ most → ItemBelow below i → ItemBelow below' j
+      → pair_structs ks a b v w part part' o n i j ≡ None
+      → GoodCells (item_cells news j caps' d') → FitsAt (times most (λ _. item_cells olds i caps d) q st) numbers p → Follows i j caps caps'
+      → FitCells (times most' (λ _. item_cells news j caps' d') q' st')
+      (carry_items cs olds news numbers i j (fallback j d') (length (item_cells olds i [] (pos 0))) m most' p)
+  fit_items i j caps caps' d d' m most zero q st q' st' p le below_a below_b none good fits follow = tt
+  fit_items i j caps caps' d d' zero most (suc most') q st q' st' p le below_a below_b none good fits follow =
+      fit_append _ _ _ _ (fallback_fits j caps' d' good)
+      (fit_items i j caps caps' d d' zero most most' q st (q' + st') st' p (omega arith) below_a below_b none good fits follow)
+  fit_items i j caps caps' d d' (suc m) zero (suc most') q st q' st' p le below_a below_b none good fits follow = absurd (omega arith)
+  fit_items i j caps caps' d d' (suc m) (suc most) (suc most') q st q' st' p le below_a below_b none good fits follow =
+      fit_append _ _ _ _ (fit_item i j caps caps' d d' p below_a below_b none good (fits_left _ fits) follow)
+      (fit_items i j caps caps' d d' m most most' (q + st) st (q' + st') st' _ (omega arith) below_a below_b none good
+      (fits_at (omega (arith, size_same olds i caps d)) (fits_right (item_cells olds i caps d) fits)) follow)
+
+  -- what is known of two paired fields
+  pub record FitPair (e f : Entry) : Type 0 where
+    pub structs : pair_structs ks a b v w part part' o n e.field.item f.field.item ≡ None
+    pub low : ItemBelow below e.field.item
+    pub fits : FitsAt (field_cells olds a.fields e.index e.field) numbers (at + e.place)
+    pub follow : Follows e.field.item f.field.item (counted e.index a.fields) (counted f.index b.fields)
+
+  -- each pair's numbers follow
+  module _ (old : OldFields below own_number a.fields) (new : NewFields below' (is_steady_in b) b.fields) (fits : FitsAt (desc_cells olds a) numbers at)
+      (all : List Entry) (met : AllZip (Met sides) all (present news b w)) where
+    fit_pair : (e f : Entry) → Met sides e f × IsIndexed o n e f → FitPair e f
+    fit_pair e f h = record {
+      structs = h.0.good.structs;
+      low = (old e.index e.field h.0.known.field).item;
+      fits = h.0.known.fits fits;
+      follow = λ k is num z high caps.
+          let m : Matched two e f = elim (decoded two e f h.0.good) [
+            | inl c ↦ absurd (not_covered e.field.item e.field.count f.field.item c.covers num)
+            | inr m ↦ m
+          ] in
+          caps_follow sides k all e f z is h.1 m high caps met new;
+    }
+
+    pub fields_fit : DefaultsGood b.fields 0 b.fields → AllZip (λ e f. Met sides e f × IsIndexed o n e f) all (present news b w)
+        → FitCells (desc_cells news b) (carry_from cs olds news numbers own_number v w at b.fields 0 b.fields all)
+    fields_fit good h = by_fields sides _ (λ i p gs es fs zs. DefaultsGood b.fields i gs → FitCells (cells_from news b.fields i gs) zs) (λ i p good. tt)
+        (λ i p g gs es fs zs lt more good.
+        let here = good_item news below' g.item _ g.default (λ j l. (table.rows j l).good) lt good.0 in
+        fit_append _ _ _ _ (fit_defaults _ (good_times _ _ 0 0 here)) (more good.1))
+        (λ i p g gs rest e es fs zs lt h more good.
+        let here = good_item news below' g.item _ g.default (λ j l. (table.rows j l).good) lt good.0 in
+        let q = fit_pair e _ h in
+        fit_append _ _ _ _ (fit_items e.field.item g.item _ _ e.field.default g.default _ _ _ 0 0 0 0 _ (if_least _ _ _ (elements_fit e.field.count own_number))
+        q.low lt q.structs here q.fits q.follow) (more good.1))
+        0 0 b.fields all (fields_below _ b.fields (λ j f e. (new j f e).item)) h good
 
 -- ---- validations
 
@@ -40,8 +153,7 @@ module _ (sides : Sides) (ok : ℕ → Bool) where
   kept_holds : (r : Reduced) → Named ok r → Agree o n ok old_number new_number → all_hold a.validate v old_number ≡ true
       → is_kept ks a b v w part part' o n r ≡ true → truth_of r w new_number no_parent ≡ true
   kept_holds (Known true) named agree holds h = refl
-  kept_holds (Known false) named agree holds h = some_same _ a.validate named agree holds h
-  kept_holds (Open t) named agree holds h = some_same _ a.validate named agree holds h
+  kept_holds _ named agree holds h = some_same _ a.validate named agree holds h
 
   rules_hold : (ts : List Formula) → RulesNamed ok ts → Agree o n ok old_number new_number → all_hold a.validate v old_number ≡ true
       → list_all (λ t. is_kept ks a b v w part part' o n (reduced w t)) ts ≡ true → all_hold ts w new_number ≡ true

@@ -4,12 +4,13 @@ pub use Rattle.std.proofs.Common.{map, min, nat_le, nat_lt, negsuc, pos, refl, r
 pub use Rattle.std.proofs.Common.{◌-◌, ◌<◌, ◌==◌, ◌^◌, ◌||◌, ◌∙◌, ◌∷◌, ◌≡◌, ◌≤ℤ◌, ◌≤◌, ◌⊎◌}
 pub use Rattle.std.proofs.Math.Bool.{or-false}
 pub use Rattle.std.proofs.Math.Nat.{eq-or-lt_of_le, mod-le}
+pub use Rattle.std.proofs.Math.Seq.{drop-append_seam, take-append_seam}
 pub use Rattle.std.proofs.lemmas.Bool.{and_from, and_parts, cases_eq, cases_lt, eq-eqb, eqb-true, false_from_ne_true, leb-true, ltb-true, or_parts}
 pub use Rattle.std.proofs.lemmas.Int.{ints}
 pub use Rattle.std.proofs.lemmas.List.{append-nil, ext_get_or, get_or-append-add, get_or_append_left, get_or_past, length-append, length-map, length-replicate}
-pub use Rattle.std.proofs.lemmas.List.{take_all}
 pub use Rattle.std.proofs.lemmas.Option.{get_or_from_slice_get, slice_get-get_or, slice_get-map, slice_get_within}
 pub use Rattle.std.proofs.lemmas.Slice.Eq.{bytes_eq-Decides}
+pub use Rattle.std.proofs.lemmas.Slice.Zip.{AllZip-long}
 pub use Rattle.std.specs.List.{AllByRecursion, AllZip, flat_map, list_all, list_any, slice_get}
 pub use Rattle.std.specs.Option.{option_and_then}
 pub use Rattle.std.specs.Str.{bytes_eq}
@@ -66,7 +67,7 @@ pub use Rattle.vms_stream.specs.Streams.{HasSection, IsSection, IsStream, Sectio
 pub use Rattle.vms_check.proofs.ListLaws.{passes}
 pub use Rattle.vms_check.proofs.ReducedLaws.{IfOpen, IsByParts, open_reduced, reduced_holds}
 pub use Rattle.vms_check.specs.Carrying.{Carrier, carried_at, carried_device, carried_sub, carrier_of, carriers, carry_desc, carry_field, carry_from}
-pub use Rattle.vms_check.specs.Carrying.{carry_item, carry_items, carry_next, carry_sub, carrying, default_field, defaults, entries_left, no_carrier, no_image}
+pub use Rattle.vms_check.specs.Carrying.{carry_item, carry_items, carry_next, carrying, default_field, defaults, entries_left, no_carrier, no_image}
 pub use Rattle.vms_check.specs.Carrying.{sub_came}
 unfoldable pub use Rattle.vms_check.specs.Carrying.{carried}
 pub use Rattle.vms_check.specs.Comparing.{Comparer, Compatible, Entry, absent_hold, bound, compare_desc, compare_device, compare_fields, compare_sub}

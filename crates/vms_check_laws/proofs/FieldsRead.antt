@@ -70,7 +70,7 @@ module _ (sides : Sides) where
   item_sized : (i j : Item) (d : ℤ) (k : ℕ) → ItemBelow below' j → length (one_item i j d k) ≡ new_size j
   item_sized (Num k) (Num l) d p lt =
       elim (same_kind k l) as (λ c. length (if c then get_or numbers p (pos 0) ∷ [] else d ∷ []) ≡ 1) [ true ↦ refl | false ↦ refl ]
-  item_sized (Struct i) (Struct j) d p lt = table.sized j i p lt
+  item_sized (Struct i) (Struct j) d p lt = (table.rows j lt).sized i p
   item_sized _ (Struct j) d p lt = defaults_size _
   item_sized _ _ d p lt = refl
 
@@ -86,8 +86,7 @@ module _ (sides : Sides) where
   next_sized : (i : ℕ) (g : Field) (pr : Option (Option Formula)) (es : List Entry) → ItemBelow below' g.item
       → length (next_field i g pr es) ≡ length (cells_at i g)
   next_sized i g (Some rest) (e ∷ es) lt = field_sized e i g lt
-  next_sized i g None es lt = defaults_size _
-  next_sized i g (Some rest) [] lt = defaults_size _
+  next_sized i g _ _ lt = defaults_size _
 
   pub fields_sized : (i : ℕ) (gs : List Field) (es : List Entry) → FieldsBelow below' gs → length (all_fields i gs es) ≡ length (cells_from news b.fields i gs)
   fields_sized i [] es lt = refl
@@ -95,27 +94,41 @@ module _ (sides : Sides) where
       let pr = presence w g.test g.since in
       simp length-append (rw (next_sized i g pr es lt.0, fields_sized (suc i) gs (left_of_old pr es) lt.1))
 
-  -- ---- the carried numbers are at each pair
+  -- ---- what follows field by field, each one paired or at its defaults, with what is carried
+
+  pub by_fields : (R : Entry → Entry → Type 0) (P : (i p : ℕ) → List Field → List Entry → List Entry → List ℤ → Type 0)
+      → ((i p : ℕ) → P i p [] [] [] [])
+      → ((i p : ℕ) (g : Field) (gs : List Field) (es fs : List Entry) (zs : List ℤ) → ItemBelow below' g.item
+      → P (suc i) (p + length (cells_at i g)) gs es fs zs → P i p (g ∷ gs) es fs (defaults (cells_at i g) ++ zs))
+      → ((i p : ℕ) (g : Field) (gs : List Field) (rest : Option Formula) (e : Entry) (es fs : List Entry) (zs : List ℤ) → ItemBelow below' g.item
+      → R e (record { index = i; place = p; field = g; rest = rest }) → P (suc i) (p + length (cells_at i g)) gs es fs zs
+      → P i p (g ∷ gs) (e ∷ es) (record { index = i; place = p; field = g; rest = rest } ∷ fs) (one_field e g ++ zs))
+      → (i p : ℕ) (gs : List Field) (es : List Entry) → FieldsBelow below' gs → AllZip R es (present_from news b.fields w i p gs)
+      → P i p gs es (present_from news b.fields w i p gs) (all_fields i gs es)
+  by_fields R P none alone paired i p [] [] lt all = none i p
+  by_fields R P none alone paired i p [] (e ∷ es) lt all = absurd all
+  by_fields R P none alone paired i p (g ∷ gs) es lt all =
+      next (presence w g.test g.since) es _ (λ es'. all_fields (suc i) gs es') all (λ es' h. by_fields R P none alone paired (suc i) _ gs es' lt.1 h)
+    where
+      next : (pr : Option (Option Formula)) (es after : List Entry) (more : List Entry → List ℤ) → AllZip R es (entry_of i p g pr ++ after)
+          → ((es' : List Entry) → AllZip R es' after → P (suc i) (p + length (cells_at i g)) gs es' after (more es'))
+          → P i p (g ∷ gs) es (entry_of i p g pr ++ after) (next_field i g pr es ++ more (left_of_old pr es))
+      next None es after more all go = alone i p g gs es after (more es) lt.0 (go es all)
+      next (Some rest) [] after more all go = absurd all
+      next (Some rest) (e ∷ es) after more all go = paired i p g gs rest e es after (more es) lt.0 all.0 (go es all.1)
 
   abbrev pub Linked : List Entry → List Entry → Type 0
   Linked es fs = AllZip (λ e f. Met sides e f × Holds numbers' (at' + f.place) (one_field e f.field)) es fs
 
-  link_next : (i p : ℕ) (g : Field) (pr : Option (Option Formula)) (es after : List Entry) (rest : List Entry → List ℤ) → ItemBelow below' g.item
-      → AllZip (Met sides) es (entry_of i p g pr ++ after) → Holds numbers' (at' + p) (next_field i g pr es ++ rest (left_of_old pr es))
-      → ((es' : List Entry) → AllZip (Met sides) es' after → Holds numbers' (at' + (p + length (cells_at i g))) (rest es') → Linked es' after)
-      → Linked es (entry_of i p g pr ++ after)
-  link_next i p g None es after rest lt zipped held go =
-      go es zipped (holds_at (omega (arith, defaults_size (cells_at i g))) (holds_right (defaults (cells_at i g)) held))
-  link_next i p g (Some left) [] after rest lt zipped held go = absurd zipped
-  link_next i p g (Some left) (e ∷ es) after rest lt zipped held go =
-      ((zipped.0, holds_left _ held), go es zipped.1 (holds_at (omega (arith, field_sized e i g lt)) (holds_right (one_field e g) held)))
-
+  -- the carried numbers are at each pair
   pub linked : (i p : ℕ) (gs : List Field) (es : List Entry) → FieldsBelow below' gs → AllZip (Met sides) es (present_from news b.fields w i p gs)
       → Holds numbers' (at' + p) (all_fields i gs es) → Linked es (present_from news b.fields w i p gs)
-  linked i p [] [] lt zipped held = tt
-  linked i p [] (e ∷ es) lt zipped held = absurd zipped
-  linked i p (g ∷ gs) es lt zipped held =
-      link_next i p g _ es _ (λ es'. all_fields (suc i) gs es') lt.0 zipped held (λ es' z h. linked (suc i) (p + length (cells_at i g)) gs es' lt.1 z h)
+  linked = by_fields (Met sides) (λ i p gs es fs zs. Holds numbers' (at' + p) zs → Linked es fs) (λ i p held. tt)
+      (λ i p g gs es fs zs lt more held. more (holds_at (omega (arith, defaults_size (cells_at i g))) (holds_right (defaults (cells_at i g)) held)))
+      (λ i p g gs rest e es fs zs lt met more held. (
+        (met, holds_left _ held),
+        more (holds_at (omega (arith, field_sized e i g lt)) (holds_right (one_field e g) held)),
+      ))
 
   -- ---- numbers that may be named
 
@@ -190,7 +203,7 @@ module _ (sides : Sides) where
     carries = carries_filler numbers numbers' (Filler m ∷ []) r (filler_length numbers m ∙ eqb-true m r pair.same);
     settled = settled_empty _ y [] [] refl;
   }
-  item_reads (Struct i) (Struct j) caps caps' d d' x y pair constant fits held = (table.meets i j pair.low pair.low' pair.structs x fits).reads y held
+  item_reads (Struct i) (Struct j) caps caps' d d' x y pair constant fits held = ((table.rows j pair.low').meets i pair.low pair.structs x fits).reads y held
   item_reads _ _ caps caps' d d' x y pair constant fits held = absurd (cc)
 
   items_read : (i j : Item) (caps caps' : List ℕ) (d d' : ℤ) (m most most' p p' step step' x y : ℕ) → Pairs two below below' i j → same_constant i j ≡ true
@@ -231,7 +244,7 @@ module _ (sides : Sides) where
         → elements_of c own ≡ elements_of d own'
     same_elements One One agree fits named same room = refl
     same_elements (Fixed p) (Fixed q) agree fits named same room = eqb-true p q same
-    same_elements (Counted by most) (Counted by' most') agree fits named same room = omega (arith, fits, agree by by' named same, leb-true most most' room)
+    same_elements (Counted by most) (Counted by' most') agree fits named same room = omega (arith, agree by by' named same, leb-true most most' room)
     same_elements _ _ agree fits named same room = absurd (cc)
 
     elements_room : (c d : Count) → same_count o n c d ≡ true → holds_as_much c d ≡ true → elements_of c own ≤ capacity_of d
@@ -289,17 +302,13 @@ module _ (sides : Sides) where
         let settled : (xs : List Slot) → Settled xs (at' + f.place) (cells_at f.index f.field) (one_field e f.field) = λ xs. settled_empty xs _ _ _ empty in
         (record { carries = carries_nil; settled = settled [] }, record { carries = rw s.1 (carries_filler numbers numbers' _ s.0 s.2); settled = settled _ })
 
-    abbrev carried_if : (e f : Entry) → Bool → List ℤ
-    carried_if e f t = some_items e.field.item f.field.item f.field.default (count_if t e) (capacity_of f.field.count) (at + e.place)
-
     items : (e f : Entry) → Opposite e f → Holds numbers' (at' + f.place) (one_field e f.field) → Matched two e f → (t : Bool) → there e ≡ t
         → Both (ReadsHere e f) e f (count_if t e) (count_if t e)
     items e f p held m t is =
         let le = if_least t _ _ (elements_fit e.field.count own) in
         let le' = if_least t _ _ (elements_room e.field.count f.field.count m.count m.room) in
         let pair : Pairs two below below' e.field.item f.field.item = record { same = m.item; structs = p.good.structs; low = p.old.item; low' = p.new.item } in
-        let held' : Holds numbers' (at' + f.place) (carried_if e f t) = rw is at held in
-        rw is (items_read e.field.item f.field.item _ _ e.field.default f.field.default _ _ _ 0 0 0 0 _ _ pair m.constant le le' p.fits held')
+        rw is (items_read e.field.item f.field.item _ _ e.field.default f.field.default _ _ _ 0 0 0 0 _ _ pair m.constant le le' p.fits (rw is at held))
 
     pub pair_reads : (e f : Entry) → Opposite e f → Holds numbers' (at' + f.place) (one_field e f.field)
         → ReadsHere e f (slots_at ms a.fields v own numbers at e.index e.place e.field) (slots_at ns b.fields w own' numbers' at' f.index f.place f.field)
@@ -321,26 +330,15 @@ module _ (sides : Sides) where
       fields_carry (e ∷ es) (f ∷ fs) all = carries_append (met_reads e f all.0).carries (fields_carry es fs all.1)
       fields_carry _ _ all = absurd all
 
-      settle_next : (i p : ℕ) (g : Field) (pr : Option (Option Formula)) (es after : List Entry) (slots : List Slot) (rest : List Entry → List ℤ)
-          (cells : List Cell)
-          → ItemBelow below' g.item → Linked es (entry_of i p g pr ++ after)
-          → ((es' : List Entry) → Linked es' after → Settled slots (at' + (p + length (cells_at i g))) cells (rest es'))
-          → Settled (slots_at ns b.fields w own' numbers' at' i p g ++ slots) (at' + p) (cells_at i g ++ cells)
-          (next_field i g pr es ++ rest (left_of_old pr es))
-      settle_next i p g None es after slots rest cells lt all go =
-          settled_append (defaults_size (cells_at i g)) (settled_defaults (slots_at ns b.fields w own' numbers' at' i p g) (at' + p) (cells_at i g))
-          (omega (arith, defaults_size (cells_at i g))) (go es all)
-      settle_next i p g (Some left) [] after slots rest cells lt all go = absurd all
-      settle_next i p g (Some left) (x ∷ es) after slots rest cells lt all go =
-          let size = field_sized x i g lt in
-          settled_append size (met_reads x (record { index = i; place = p; field = g; rest = left }) all.0).settled (omega arith) (go es all.1)
-
       pub fields_settle : (i p : ℕ) (gs : List Field) (es : List Entry) → FieldsBelow below' gs → Linked es (present_from news b.fields w i p gs)
           → Settled (slots_from ns b.fields w own' numbers' i (at' + p) gs) (at' + p) (cells_from news b.fields i gs) (all_fields i gs es)
-      fields_settle i p [] es lt all = settled_empty [] (at' + p) [] [] refl
-      fields_settle i p (g ∷ gs) es lt all =
-          let next = p + length (cells_at i g) in
-          let e : at' + next ≡ (at' + p) + length (cells_at i g) = omega arith in
-          rw e at (settle_next i p g (presence w g.test g.since) es (present_from news b.fields w (suc i) next gs)
-          (slots_from ns b.fields w own' numbers' (suc i) (at' + next) gs) (λ es'. all_fields (suc i) gs es') (cells_from news b.fields (suc i) gs) lt.0 all
-          (λ es' more. fields_settle (suc i) next gs es' lt.1 more))
+      fields_settle =
+          by_fields _ (λ i p gs es fs zs. Settled (slots_from ns b.fields w own' numbers' i (at' + p) gs) (at' + p) (cells_from news b.fields i gs) zs)
+          (λ i p. settled_empty [] (at' + p) [] [] refl)
+          (λ i p g gs es fs zs lt more.
+          let e : at' + (p + length (cells_at i g)) ≡ (at' + p) + length (cells_at i g) = omega arith in
+          settled_append (defaults_size (cells_at i g)) (settled_defaults _ (at' + p) (cells_at i g))
+          (omega (arith, defaults_size (cells_at i g))) (rw e at more))
+          (λ i p g gs rest x es fs zs lt h more.
+          let e : at' + (p + length (cells_at i g)) ≡ (at' + p) + length (cells_at i g) = omega arith in
+          settled_append (field_sized x i g lt) (met_reads x _ h).settled (omega (arith, field_sized x i g lt)) (rw e at more))

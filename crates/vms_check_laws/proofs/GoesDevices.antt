@@ -29,14 +29,8 @@ module _ (old new : Set) (good_old : WellFormed old) (good_new : WellFormed new)
   abbrev place' : ℕ → ℕ
   place' l = sub_place new (own_cells new e) e.subs l
 
-  abbrev old_cells : Sub → List Cell
-  old_cells s = desc_cells (struct_cells old) s.desc
-
   abbrev new_cells : Sub → List Cell
   new_cells s = desc_cells (struct_cells new) s.desc
-
-  abbrev new_own : List Cell
-  new_own = desc_cells (struct_cells new) e.desc
 
   -- what is in the bytes, and what is carried
   abbrev has : ℕ → Bool
@@ -67,7 +61,7 @@ module _ (old new : Set) (good_old : WellFormed old) (good_new : WellFormed new)
 
   abbrev SubGoes : ℕ → ℕ → Sub → Sub → ℕ → Type 0
   SubGoes m l s t v =
-      Goes (old_cells s) (new_cells t) numbers (sub_slots old s v numbers (place m)) (place m) (place' l)
+      Goes (desc_cells (struct_cells old) s.desc) (new_cells t) numbers (sub_slots old s v numbers (place m)) (place m) (place' l)
       (part_partners old new s.desc.version s.desc t.desc (place' l)) (carrying old new numbers v s.desc t.desc (place m))
 
   sub_goes : (m l : ℕ) (s t : Sub) (v : ℕ) → slice_get d.subs m ≡ Some s → slice_get e.subs l ≡ Some t → v ≡ s.desc.version → SubGoes m l s t v
@@ -76,24 +70,20 @@ module _ (old new : Set) (good_old : WellFormed old) (good_new : WellFormed new)
 
   -- the older one of a name, which came
   pub record Comes (t : Sub) : Type 0 where
-    pub m : ℕ
-    pub s : Sub
+    pub f : Found d.subs t.desc.name
     pub v : ℕ
-    pub at_m : slice_get d.subs m ≡ Some s
-    pub name_is : s.desc.name ≡ t.desc.name
-    pub is_come : slice_get image.came m ≡ Some (Some v)
-    pub segment : carried t ≡ carrying old new numbers v s.desc t.desc (place m)
+    pub is_come : slice_get image.came f.number ≡ Some (Some v)
+    pub segment : carried t ≡ carrying old new numbers v f.sub.desc t.desc (place f.number)
 
   comes : (t : Sub) → (carried t ≡ defaults (new_cells t)) ⊎ Comes t
   comes t = elim (look_up d.subs t.desc.name) [ inl none ↦ inl (rw none) | inr f ↦ by_came f _ refl ] where
     by_came : (f : Found d.subs t.desc.name) (o : Option (Option ℕ)) → slice_get image.came f.number ≡ o → (carried t ≡ defaults (new_cells t)) ⊎ Comes t
-    by_came f (Some (Some v)) g =
-        inr (record { m = f.number; s = f.sub; v = v; at_m = f.there; name_is = f.name_is; is_come = g; segment = rw (f.found, f.there, g) })
+    by_came f (Some (Some v)) g = inr (record { f = f; v = v; is_come = g; segment = rw (f.found, f.there, g) })
     by_came f None g = inl (rw (f.found, f.there, g))
     by_came f (Some None) g = inl (rw (f.found, f.there, g))
 
-  goes_of : (l : ℕ) (t : Sub) → slice_get e.subs l ≡ Some t → (h : Comes t) → SubGoes h.m l h.s t h.v
-  goes_of l t at_l h = sub_goes h.m l h.s t h.v h.at_m at_l (versions.subs h.m h.s h.v h.at_m h.is_come)
+  goes_of : (l : ℕ) (t : Sub) → slice_get e.subs l ≡ Some t → (h : Comes t) → SubGoes h.f.number l h.f.sub t h.v
+  goes_of l t at_l h = sub_goes h.f.number l h.f.sub t h.v h.f.there at_l (versions.subs h.f.number h.f.sub h.v h.f.there h.is_come)
 
   sized' : (l : ℕ) (t : Sub) → slice_get e.subs l ≡ Some t → length (carried t) ≡ sub_size new t
   sized' l t at_l = elim (comes t) [ inl h ↦ ap length h ∙ defaults_long _ | inr h ↦ ap length h.segment ∙ (goes_of l t at_l h).long ]
@@ -142,19 +132,11 @@ module _ (old new : Set) (good_old : WellFormed old) (good_new : WellFormed new)
         rw (z, get_or-append-add own_segment rest (h.q + r) (pos 0), part_number new carried (own_cells new e) e.subs l t h (pos 0) r lt)
 
     -- a subsection whose cell has a partner is one that has its name in the newer device
-    pub record PairedSub (s : Sub) (c k : ℕ) : Type 0 where
-      pub l : ℕ
-      pub t : Sub
-      pub at_l : slice_get e.subs l ≡ Some t
-      pub name_is : s.desc.name ≡ t.desc.name
-      pub here : slice_get (part_partners old new s.desc.version s.desc t.desc (place' l)) c ≡ Some (Some k)
-
-    paired_sub : (s : Sub) (c k : ℕ) → slice_get (named_partners old new e s) c ≡ Some (Some k) → PairedSub s c k
+    paired_sub : (s : Sub) (c k : ℕ) → slice_get (named_partners old new e s) c ≡ Some (Some k)
+        → (f : Found e.subs s.desc.name) × (slice_get (part_partners old new s.desc.version s.desc f.sub.desc (place' f.number)) c ≡ Some (Some k))
     paired_sub s c k h = elim (look_up e.subs s.desc.name) [
-      | inl none ↦ absurd (at_none (length (old_cells s)) c k (rw none at h))
-      | inr f ↦
-          let names : s.desc.name ≡ f.sub.desc.name = sym f.name_is in
-          record { l = f.number; t = f.sub; at_l = f.there; name_is = names; here = rw (named_is s f.sub f.number f.there names) at h }
+      | inl none ↦ absurd (at_none (length (desc_cells (struct_cells old) s.desc)) c k (rw none at h))
+      | inr f ↦ (f, rw (named_is s f.sub f.number f.there (sym f.name_is)) at h)
     ]
 
     taken_sub : (c k : ℕ) (w : StandsIn old (named_partners old new e) (own_cells old d) d.subs c (Some k)) → has (own_cells old d + c) ≡ true
@@ -167,13 +149,13 @@ module _ (old new : Set) (good_old : WellFormed old) (good_new : WellFormed new)
         let sub_same : h.sub ≡ w.sub = cc in
         let is_come : slice_get image.came w.m ≡ Some (Some h.version) = rw same at h.is_come in
         let p = paired_sub w.sub w.c k w.here in
-        let goes = sub_goes w.m p.l w.sub p.t h.version w.there p.at_l (versions.subs w.m w.sub h.version w.there is_come) in
-        let pair = goes.paired.pairs w.c k p.here in
-        let back : find_sub 0 d.subs p.t.desc.name ≡ Some w.m = rw (← p.name_is) (sub_found old good_old i w.m d w.sub at_i w.there) in
-        let has_here : has_cell (sub_slots old w.sub h.version numbers (place w.m)) (place w.m + w.c) ≡ true = rw (← w.is, ← same, ← sub_same) h.has in
-        let segment : carried p.t ≡ carrying old new numbers h.version w.sub.desc p.t.desc (place w.m) = rw (back, w.there, is_come) in
+        let goes = sub_goes w.m p.0.number w.sub p.0.sub h.version w.there p.0.there (versions.subs w.m w.sub h.version w.there is_come) in
+        let pair = goes.paired.pairs w.c k p.1 in
+        let back : find_sub 0 d.subs p.0.sub.desc.name ≡ Some w.m = rw p.0.name_is (sub_found old good_old i w.m d w.sub at_i w.there) in
+        let segment : carried p.0.sub ≡ carrying old new numbers h.version w.sub.desc p.0.sub.desc (place w.m) = rw (back, w.there, is_come) in
         let k_is = pair.is in
-        rw (k_is, rest_at p.l p.t pair.r p.at_l pair.inside, segment, goes.taken w.c pair.r (rw (← k_is) p.here) has_here, w.is)
+        let has_here : has_cell (sub_slots old w.sub h.version numbers (place w.m)) (place w.m + w.c) ≡ true = rw (← w.is, ← same, ← sub_same) h.has in
+        rw (k_is, rest_at p.0.number p.0.sub pair.r p.0.there pair.inside, segment, goes.taken w.c pair.r (rw (← k_is) p.1) has_here, w.is)
 
     taken : (c k : ℕ) → slice_get (ps ++ qs) c ≡ Some (Some k) → has c ≡ true → (c < length ps) ⊎ IsBehind (length ps) c
         → get_or whole k (pos 0) ≡ get_or numbers c (pos 0)
@@ -197,28 +179,29 @@ module _ (old new : Set) (good_old : WellFormed old) (good_new : WellFormed new)
         let u : 0 + c ≡ c = omega arith in
         let place_is : slice_get ps c ≡ Some (Some k) = rw z at f in
         rw u (parts_none c (none c (at_left ps qs c (slice_get_within ps c (Some k) place_is) ∙ place_is))).0) in
-        rw (get_or_append_left own_segment rest (pos 0) k (omega (arith, own_goes.long)), get_or_append_left new_own _ no_cell k lt) own
+        rw (get_or_append_left own_segment rest (pos 0) k (omega (arith, own_goes.long)))
+        (rw (get_or_append_left (desc_cells (struct_cells new) e.desc) (flat_map new_cells e.subs) no_cell k lt) own)
 
     default_at : (l : ℕ) (t : Sub) (r : ℕ) → slice_get e.subs l ≡ Some t → r < sub_size new t
         → (get_or (device_cells new e) (place' l + r) no_cell).default ≡ (get_or (new_cells t) r no_cell).default
     default_at l t r at_l lt =
         let h = part_in new new_cells (own_cells new e) e.subs l t (λ m s f. refl) at_l in
         let z : place' l + r ≡ own_cells new e + (h.q + r) = omega arith in
-        rw (z, get_or-append-add new_own (flat_map new_cells e.subs) (h.q + r) no_cell, part_number new new_cells (own_cells new e) e.subs l t h no_cell r lt)
+        rw (z, get_or-append-add (desc_cells (struct_cells new) e.desc) (flat_map new_cells e.subs) (h.q + r) no_cell)
+        (rw (part_number new new_cells (own_cells new e) e.subs l t h no_cell r lt))
 
     other_come : (l : ℕ) (t : Sub) (r : ℕ) → slice_get e.subs l ≡ Some t → r < sub_size new t → NoneHas (place' l + r) → Comes t
         → get_or (carried t) r (pos 0) ≡ (get_or (new_cells t) r no_cell).default
     other_come l t r at_l lt none h =
-        let part = part_in old (named_partners old new e) (own_cells old d) d.subs h.m h.s sized h.at_m in
+        let part = part_in old (named_partners old new e) (own_cells old d) d.subs h.f.number h.f.sub sized h.f.there in
         let goes = goes_of l t at_l h in
         rw h.segment (goes.other r lt (λ c f.
-        let inside : c < sub_size old h.s = (let i = slice_get_within _ c (Some (place' l + r)) f in omega arith) in
+        let inside : c < sub_size old h.f.sub = (let i = slice_get_within _ c (Some (place' l + r)) f in omega arith) in
         let at = length ps + (part.q + c) in
-        let c_is : place h.m + c ≡ at = omega (arith, own_goes.paired.long) in
-        let there : slice_get (ps ++ qs) at ≡ Some (Some (place' l + r)) =
-        at_right ps qs (part.q + c) ∙ part.at c inside ∙ rw (named_is h.s t l at_l h.name_is) f in
+        let c_is : place h.f.number + c ≡ at = omega (arith, own_goes.paired.long) in
         rw c_is (part_apart old d numbers (λ xs. has_cell xs at ≡ false) (none_in_both at) (own_cells old d) d.subs image.came
-        (parts_none at (none at there)).1 h.m h.s h.v h.at_m h.is_come)))
+        (parts_none at (none at (at_right ps qs (part.q + c) ∙ part.at c inside ∙ rw (named_is h.f.sub t l at_l h.f.name_is) f))).1
+        h.f.number h.f.sub h.v h.f.there h.is_come)))
 
     other_sub : (l : ℕ) (t : Sub) (r : ℕ) → slice_get e.subs l ≡ Some t → r < sub_size new t → NoneHas (place' l + r)
         → get_or whole (place' l + r) (pos 0) ≡ (get_or (device_cells new e) (place' l + r) no_cell).default
@@ -251,13 +234,11 @@ is_some_of (Some j) k = elim (cases_eq j k) [ inl e ↦ inl (rw e) | inr ne ↦ 
 
 search_in : (ps : List (Option ℕ)) (k : ℕ) → ((c : ℕ) × (slice_get ps c ≡ Some (Some k))) ⊎ ((c : ℕ) → slice_get ps c ≡ Some (Some k) → ⊥)
 search_in [] k = inr (λ c e. cc)
-search_in (o ∷ ps) k = elim (is_some_of o k) [
-  | inl h ↦ inl (0, rw h)
-  | inr h ↦ elim (search_in ps k) [ inl r ↦ inl (suc r.0, r.1) | inr r ↦ inr (none h r) ]
-] where
-  none : (o ≡ Some k → ⊥) → ((c : ℕ) → slice_get ps c ≡ Some (Some k) → ⊥) → (c : ℕ) → slice_get (o ∷ ps) c ≡ Some (Some k) → ⊥
-  none a b zero e = a cc
-  none a b (suc c) e = b c e
+search_in (o ∷ ps) k =
+    elim (is_some_of o k) [ inl h ↦ inl (0, rw h) | inr h ↦ elim (search_in ps k) [ inl r ↦ inl (suc r.0, r.1) | inr r ↦ inr (none h r) ] ] where
+      none : (o ≡ Some k → ⊥) → ((c : ℕ) → slice_get ps c ≡ Some (Some k) → ⊥) → (c : ℕ) → slice_get (o ∷ ps) c ≡ Some (Some k) → ⊥
+      none a b zero e = a cc
+      none a b (suc c) e = b c e
 
 module _ (old new : Set) (good_old : WellFormed old) (good_new : WellFormed new) (i : ℕ) (d e : Device) (there : slice_get old.devices i ≡ Some d)
     (image : Image) where

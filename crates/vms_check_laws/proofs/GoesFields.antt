@@ -73,10 +73,9 @@ module _ (structs : List Pairer) (cs : List Carrier) (ms : List Meaning) (y : Li
       other : (r : ℕ) → r < 1 → ((c : ℕ) → slice_get (Some at' ∷ []) c ≡ Some (Some (at' + r)) → has_cell (Number at l caps ∷ []) (at + c) ≡ false)
           → get_or (get_or numbers at (pos 0) ∷ []) r (pos 0) ≡ (get_or (one_cell m caps' d') r no_cell).default
       other r lt f =
-          let k_is : at' ≡ at' + r = omega arith in
           let z : at + 0 ≡ at = omega arith in
           let has : has_cell (Number at l caps ∷ []) (at + 0) ≡ true = rw (z, eq-eqb at at refl) in
-          absurd (cc (has, f 0 (ap (λ i. Some (Some i)) k_is)))
+          absurd (cc (has, f 0 (ap (λ i. Some (Some i)) (omega arith))))
     one_goes l m caps caps' d d' at at' false same w = goes_alone 1 refl w refl
 
     item_goes : (a b : Item) (caps caps' : List ℕ) (d d' : ℤ) (at at' : ℕ) → ItemBelow k a → ItemBelow k' b
@@ -120,10 +119,7 @@ module _ (structs : List Pairer) (cs : List Carrier) (ms : List Meaning) (y : Li
     -- ---- fields
 
     module _ (all all' : List Field) (v w : ℕ) (own : ℕ → ℕ) (at at' : ℕ) where
-      abbrev slots_of : ℕ → ℕ → Field → List Slot
-      slots_of i p f = field_slots ms all v own numbers i (at + p) f
-
-      field_within : (i p : ℕ) (f : Field) → IsWithin (at + p) (length (field_cells x all i f)) (slots_of i p f)
+      field_within : (i p : ℕ) (f : Field) → IsWithin (at + p) (length (field_cells x all i f)) (field_slots ms all v own numbers i (at + p) f)
       field_within i p f =
           within_of (at + p) _ _ (field_above ms above all v own numbers i (at + p) f)
           (field_are ms means all v own numbers i (at + p) f _ (stands_behind (at + p) _))
@@ -136,7 +132,8 @@ module _ (structs : List Pairer) (cs : List Carrier) (ms : List Meaning) (y : Li
           (carry_items cs x y numbers f.item g.item (defaults (item_cells y g.item [] g.default)) (item_size x f.item) n (capacity_of g.count) (at + p))
 
       pair_goes : (i i' p p' : ℕ) (f g : Field) → ItemBelow k f.item → ItemBelow k' g.item
-          → PairGoes i i' p p' f g (slots_of i p f) (if is_there f.test f.since v own no_parent then elements_of f.count own else 0)
+          → PairGoes i i' p p' f g (field_slots ms all v own numbers i (at + p) f)
+          (if is_there f.test f.since v own no_parent then elements_of f.count own else 0)
       pair_goes i i' p p' f g lt lt' = by_there (is_there f.test f.since v own no_parent) where
         by_there : (b : Bool) → PairGoes i i' p p' f g
             (if b then times (elements_of f.count own) (item_slots ms f.item (counted i all) numbers) (at + p) (item_size x f.item) else [])

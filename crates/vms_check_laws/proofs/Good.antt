@@ -11,8 +11,6 @@ use Rattle.vms_check_laws.proofs.Premises.{IsSingle, CountNamed, RulesNamed, Ite
 use Rattle.vms_check_laws.proofs.Counts.{IsCounting, Counter, CountKnown, DescGood, StructsGood}
 
 names_more : (ok ok' : ℕ → Bool) (t : Formula) → ((i : ℕ) → ok i ≡ true → ok' i ≡ true) → names_well ok nobody t ≡ true → names_well ok' nobody t ≡ true
-names_more ok ok' (AtLeast n) more h = refl
-names_more ok ok' (Below n) more h = refl
 names_more ok ok' (Cell Own i mask rel value) more h = more i h
 names_more ok ok' (Cell Parent i mask rel value) more h = h
 names_more ok ok' (Not t) more h = names_more ok ok' t more h
@@ -22,6 +20,7 @@ names_more ok ok' (And s t) more h =
 names_more ok ok' (Or s t) more h =
     let p = and_parts (names_well ok nobody s) (names_well ok nobody t) h in
     and_from _ _ (names_more ok ok' s more p.0) (names_more ok ok' t more p.1)
+names_more ok ok' _ more h = refl
 
 earlier_steady : (d : Desc) (k i : ℕ) → is_earlier_in d k i ≡ true → is_steady_in d i ≡ true
 earlier_steady d k i h = (and_parts (nat_lt i k) (is_steady_in d i) h).1
@@ -92,8 +91,7 @@ module _ (k : ℕ) (d : Desc) where
   defaults_good i [] h = tt
   defaults_good i (f ∷ fs) h =
       let z : i + 0 ≡ i = omega arith in
-      let here : FieldFacts k d i f = rw z at (h 0 f refl) in
-      (here.default, defaults_good (suc i) fs (λ j g e. (let s : i + suc j ≡ suc i + j = omega arith in rw s at (h (suc j) g e))))
+      ((rw z at (h 0 f refl)).default, defaults_good (suc i) fs (λ j g e. (let s : i + suc j ≡ suc i + j = omega arith in rw s at (h (suc j) g e))))
 
   rules_named : (ts : List Formula) → ((i : ℕ) (t : Formula) → slice_get ts i ≡ Some t → AllTrue (validation_rules d t)) → RulesNamed (is_steady_in d) ts
   rules_named [] h = tt

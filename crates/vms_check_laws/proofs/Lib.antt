@@ -5,17 +5,14 @@ pub mod Descriptions
 pub mod Facade
 pub mod FieldsRead
 pub mod Premises
-pub mod Fitting
 pub mod PairLists
 pub mod GoesFields
 pub mod Good
 pub mod Wholes
 pub mod PairDevices
 pub mod Parts
-pub mod PositionRead
 pub mod Positioned
 pub mod Presence
 pub mod Segments
 pub mod Streaming
 pub mod SubParts
-pub mod SubFacts

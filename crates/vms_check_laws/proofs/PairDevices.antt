@@ -5,7 +5,7 @@ use Rattle.vms_check_laws.proofs.Facade.{desc_cells, Set, struct_cells, WellForm
 use Rattle.vms_check_laws.proofs.Facade.{sub_size, sub_place_up, device_parts, sub_clean, sub_found, PartnersLaw, ArePartners, sub_partners, named_partners}
 use Rattle.vms_check_laws.proofs.Facade.{device_partners}
 use Rattle.vms_check_laws.proofs.PairLists.{AreFrom, IsBehind, at_left, at_none, before_or_behind, behind_at, Apart, once_append, IsOnce, IsPair}
-use Rattle.vms_check_laws.proofs.SubParts.{part_in, part_number, one_part, StandsIn, all_long, stands_in, look_up}
+use Rattle.vms_check_laws.proofs.SubParts.{part_in, part_number, one_part, StandsIn, all_long, stands_in, look_up, Found}
 use Rattle.vms_check_laws.proofs.GoesFields.{part_goes, below_of}
 pub use Rattle.vms_check_laws.proofs.GoesFields.{struct_is}
 
@@ -16,16 +16,10 @@ module _ (old new : Set) (good_old : WellFormed old) (good_new : WellFormed new)
   abbrev new_cells : Sub → List Cell
   new_cells s = desc_cells (struct_cells new) s.desc
 
-  abbrev place' : ℕ → ℕ
-  place' l = sub_place new (own_cells new e) e.subs l
-
   -- cell c of a subsection and the newer one of number k, which is a cell of subsection l, of the same name
   pub record IsSubPair (s : Sub) (c k : ℕ) : Type 0 where
-    pub l : ℕ
-    pub t : Sub
-    pub there : slice_get e.subs l ≡ Some t
-    pub name_is : t.desc.name ≡ s.desc.name
-    pub pair : IsPair (old_cells s) (new_cells t) (place' l) c k
+    pub f : Found e.subs s.desc.name
+    pub pair : IsPair (old_cells s) (new_cells f.sub) (sub_place new (own_cells new e) e.subs f.number) c k
     pub open pair use *
 
   pub record OneSub (s : Sub) (partners : List (Option ℕ)) : Type 0 where
@@ -43,20 +37,16 @@ module _ (old new : Set) (good_old : WellFormed old) (good_new : WellFormed new)
     | inl none ↦ rw none (no_sub s)
     | inr f ↦
         let below = below_of _ s.desc _ (sub_clean old good_old i j d s at_i at_j) in
-        let p = (part_goes old new good_old good_new [] s.desc.version s.desc f.sub.desc 0 (place' f.number) below).paired in
-        rw (f.found, f.there)
-        (record {
-          long = p.long;
-          pairs = λ c k g. record { l = f.number; t = f.sub; there = f.there; name_is = f.name_is; pair = p.pairs c k g };
-          once = p.once;
-        })
+        let p = (part_goes old new good_old good_new [] s.desc.version s.desc f.sub.desc 0 _ below).paired in
+        rw (f.found, f.there) (record { long = p.long; pairs = λ c k g. record { f = f; pair = p.pairs c k g }; once = p.once })
   ]
 
   -- two newer subsections that have one cell are one
   names_of : (s s' : Sub) (c c' k : ℕ) → IsSubPair s c k → IsSubPair s' c' k → s.desc.name ≡ s'.desc.name
   names_of s s' c c' k p q =
-      let same : p.l ≡ q.l = one_part new (own_cells new e) e.subs p.l q.l k p.t q.t p.there q.there (omega arith) (omega arith) (omega arith) (omega arith) in
-      let one : p.t ≡ q.t = cc in
+      let same : p.f.number ≡ q.f.number =
+      one_part new (own_cells new e) e.subs p.f.number q.f.number k p.f.sub q.f.sub p.f.there q.f.there (omega arith) (omega arith) (omega arith) (omega arith) in
+      let one : p.f.sub ≡ q.f.sub = cc in
       cc
 
   distinct : (m m' : ℕ) (s s' : Sub) → slice_get d.subs m ≡ Some s → slice_get d.subs m' ≡ Some s' → s.desc.name ≡ s'.desc.name → m ≡ m'
@@ -107,14 +97,13 @@ module _ (old new : Set) (good_old : WellFormed old) (good_new : WellFormed new)
       let w = y.stands in
       let same : v.m ≡ w.m = distinct v.m w.m v.sub w.sub v.there w.there (names_of v.sub w.sub v.c w.c k x.pair y.pair) in
       let one : v.sub ≡ w.sub = cc in
-      let cells_same : v.c ≡ w.c = (one_sub w.m w.sub w.there).once v.c w.c k (rw one at v.here) w.here in
-      omega (arith, ap (sub_place old (own_cells old d) d.subs) same)
+      omega (arith, (one_sub w.m w.sub w.there).once v.c w.c k (rw one at v.here) w.here, ap (sub_place old (own_cells old d) d.subs) same)
 
   kinds : (c k : ℕ) → slice_get (ps ++ qs) c ≡ Some (Some k) → (c < length ps) ⊎ IsBehind (length ps) c
       → (k < length (device_cells new e)) × ((get_or (device_cells old d) c no_cell).kind ≡ (get_or (device_cells new e) k no_cell).kind)
   kinds c k f (inl lt) =
       let p = own_pair c k lt f in
-      let k_is : k ≡ p.r = omega (arith, p.is) in
+      let k_is : k ≡ p.r = omega arith in
       let before = get_or_append_left xs (flat_map old_cells d.subs) no_cell c (omega (arith, own.long)) in
       let after = get_or_append_left us (flat_map new_cells e.subs) no_cell p.r p.inside in
       rw k_is (omega (arith, length-append us (flat_map new_cells e.subs)), rw (before, after) p.kind)
@@ -123,7 +112,7 @@ module _ (old new : Set) (good_old : WellFormed old) (good_new : WellFormed new)
       let w = z.stands in
       let p = z.pair in
       let h = part_in old old_cells (own_cells old d) d.subs w.m w.sub (λ m s e. refl) w.there in
-      let h' = part_in new new_cells (own_cells new e) e.subs p.l p.t (λ m s e. refl) p.there in
+      let h' = part_in new new_cells (own_cells new e) e.subs p.f.number p.f.sub (λ m s e. refl) p.f.there in
       let c_is : c ≡ length xs + (h.q + w.c) = omega (arith, own.long) in
       let k_is : k ≡ length us + (h'.q + p.r) = omega arith in
       let before =
@@ -131,7 +120,7 @@ module _ (old new : Set) (good_old : WellFormed old) (good_new : WellFormed new)
       ∙ part_number old old_cells (own_cells old d) d.subs w.m w.sub h no_cell w.c w.inside in
       let after =
       get_or-append-add us (flat_map new_cells e.subs) (h'.q + p.r) no_cell
-      ∙ part_number new new_cells (own_cells new e) e.subs p.l p.t h' no_cell p.r p.inside in
+      ∙ part_number new new_cells (own_cells new e) e.subs p.f.number p.f.sub h' no_cell p.r p.inside in
       let kind : (get_or (device_cells old d) (length xs + (h.q + w.c)) no_cell).kind ≡ (get_or (device_cells new e) (length us + (h'.q + p.r)) no_cell).kind =
       rw (before, after) p.kind in
       (omega (arith, length-append us (flat_map new_cells e.subs)), rw (← c_is, ← k_is) at kind)
@@ -139,7 +128,7 @@ module _ (old new : Set) (good_old : WellFormed old) (good_new : WellFormed new)
   apart_own : Apart ps qs
   apart_own b c k lt behind f g =
       let z = sub_pair c k behind g in
-      omega (arith, own_pair b k lt f, sub_place_up new (own_cells new e) e.subs z.pair.l)
+      omega (arith, own_pair b k lt f, sub_place_up new (own_cells new e) e.subs z.pair.f.number)
 
   pub device_paired : ArePartners (device_cells old d) (device_cells new e) (device_partners old new d e)
   unfolding device_partners

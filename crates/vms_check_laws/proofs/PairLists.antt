@@ -4,7 +4,6 @@ use Rattle.vms_check_laws.proofs.Facade.{refl, sym, ap, ◌∙◌, arith, slice_
 use Rattle.vms_check_laws.proofs.Facade.{true, length-append, length-map, eq-eqb, Bool, if◌then◌else◌, [], false, ◌||◌, or-false, or_parts}
 use Rattle.vms_check_laws.proofs.Facade.{false_from_ne_true, slice_get_within, Cell, no_cell, Kind, Item, Num, Slot, Number, item_cells, has_cell, has_left}
 use Rattle.vms_check_laws.proofs.Facade.{has_right, defaults, names_append, defaults_at, defaults_long, either_of}
-use Rattle.vms_check_laws.proofs.Positioned.{if_is}
 
 abbrev pub one_cell : Kind → List ℕ → ℤ → List Cell
 one_cell kind caps default = record { kind = kind; capacities = caps; default = default } ∷ []
@@ -48,9 +47,8 @@ at_right [] ys c = let z : 0 + c ≡ c = omega arith in ap (slice_get ys) z
 at_right (x ∷ xs) ys c = let z : suc (length xs) + c ≡ suc (length xs + c) = omega arith in ap (slice_get (x ∷ xs ++ ys)) z ∙ at_right xs ys c
 
 pub at_none : (n c k : ℕ) → slice_get (replicate n None) c ≡ Some (Some k) → ⊥
-at_none zero c k e = cc
-at_none (suc n) zero k e = cc
 at_none (suc n) (suc c) k e = at_none n c k e
+at_none _ _ k e = cc
 
 -- ---- joined
 
@@ -114,11 +112,6 @@ pub paired_append : {xs ys us vs : List Cell} {at next : ℕ} {p q : List (Optio
     → AreFrom (xs ++ ys) (us ++ vs) at (p ++ q)
 paired_append h e g = joined _ _ _ _ _ _ _ h (rw e at g)
 
--- others before them, or with which nothing is paired
-pub paired_behind : {cells others : List Cell} {at next : ℕ} {p : List (Option ℕ)} (gap : List Cell) → next ≡ at + length gap → AreFrom cells others next p
-    → AreFrom cells (gap ++ others) at p
-paired_behind {at = at} gap e h = paired_append (paired_none [] gap at 0 refl) e h
-
 pub paired_skip : {ys others : List Cell} {at : ℕ} {p : List (Option ℕ)} (xs : List Cell) (n : ℕ) → n ≡ length xs → AreFrom ys others at p
     → AreFrom (xs ++ ys) others at (replicate n None ++ p)
 paired_skip {at = at} xs n e h = paired_append (paired_none xs [] at n e) (omega arith) h
@@ -159,9 +152,7 @@ settled_append {s} {t} {at} {next} {xs} {ys} {zs} {us} size h e k = record { eac
       (elim (k.each b.more (omega (arith, length-append zs us))) [ inl has ↦ inl (has_right s t _ (rw place at has)) | inr is ↦ inr is ])
 
 pub settled_more : (s t : List Slot) (at : ℕ) (xs : List Cell) (zs : List ℤ) → Settled s at xs zs → Settled (s ++ t) at xs zs
-settled_more s t at xs zs h = record {
-  each = λ c lt. elim (h.each c lt) [ inl has ↦ inl (has_left s t (at + c) has) | inr is ↦ inr is ];
-}
+settled_more s t at xs zs h = record { each = λ c lt. elim (h.each c lt) [ inl has ↦ inl (has_left s t (at + c) has) | inr is ↦ inr is ] }
 
 -- defaults don't depend on what is counted
 pub same_defaults : (y : List (List Cell)) (j : Item) (caps caps' : List ℕ) (d : ℤ) → defaults (item_cells y j caps d) ≡ defaults (item_cells y j caps' d)
@@ -189,13 +180,8 @@ none_within at size = record { in_range = λ c h. absurd (cc) }
 -- if none of the cells is in the bytes, all is default
 pub goes_absent : {cells others : List Cell} {numbers : List ℤ} {at at' : ℕ} {partners : List (Option ℕ)} → AreFrom cells others at' partners
     → Goes cells others numbers [] at at' partners (defaults others)
-goes_absent {cells} {others} {numbers} {at} {at'} h = record {
-  paired = h;
-  within = none_within at _;
-  long = defaults_long others;
-  taken = λ c r e f. absurd (cc);
-  other = λ r lt f. defaults_at others r;
-}
+goes_absent {cells} {others} {numbers} {at} {at'} h =
+    record { paired = h; within = none_within at _; long = defaults_long others; taken = λ c r e f. absurd (cc); other = λ r lt f. defaults_at others r }
 
 -- and where none has a partner
 pub goes_alone : {cells others : List Cell} {numbers : List ℤ} {slots : List Slot} {at at' : ℕ} {segment : List ℤ} (n : ℕ) → n ≡ length cells
@@ -250,8 +236,7 @@ module _ (cells_a cells_b others_a others_b : List Cell) (numbers : List ℤ) (x
       let pair = g.paired.pairs b.more (at' + r) place in
       let r_is : r ≡ length s + pair.r = omega arith in
       let c_is : at + c ≡ next + b.more = omega arith in
-      let has : has_cell ys (next + b.more) ≡ true = rw (has_second (at + c) (omega arith), c_is) at f in
-      rw (r_is, get_or-append-add s t pair.r (pos 0), c_is) (g.taken b.more pair.r (rw (← pair.is) place) has)
+      rw (r_is, get_or-append-add s t pair.r (pos 0), c_is) (g.taken b.more pair.r (rw (← pair.is) place) (rw (has_second (at + c) (omega arith), c_is) at f))
 
   other_at : (r : ℕ) → r < length (others_a ++ others_b) → ((c : ℕ) → HasIt c r → has_cell (xs ++ ys) (at + c) ≡ false)
       → (r < length others_a) ⊎ IsBehind (length others_a) r → get_or (s ++ t) r (pos 0) ≡ (get_or (others_a ++ others_b) r no_cell).default

@@ -1,19 +1,21 @@
 -- Structures on both sides, by induction on the number of the newer one, and parts of devices.
 use Rattle.vms_check_laws.proofs.Facade.{◌≡◌, ℕ, ◌<◌, ◌≤◌, List, length, get_or, None, sym, ap, ◌∙◌, arith, ℤ, [], ◌⊎◌, inl, inr, zero, suc, ◌+◌, ◌∷◌, map}
-use Rattle.vms_check_laws.proofs.Facade.{Option, Some, refl, flat_map, slice_get, cells_in, Desc, no_desc, Cell, Meaning, no_meaning, meanings, desc_cells}
-use Rattle.vms_check_laws.proofs.Facade.{first_long, struct_slots, struct_cells_at, Comparer, no_comparer, comparer_of, comparers, Carrier, no_carrier}
-use Rattle.vms_check_laws.proofs.Facade.{carrier_of, carriers, FitsAt, first_at, Part, Set, struct_cells, desc_slots, WellFormed, compare_desc, comparing}
-use Rattle.vms_check_laws.proofs.Facade.{carry_desc, carrying, cells_first, Holds, Sub, Device, Image, IsVersionOf, AreVersionsOf, RulesHold, sub_slots}
-use Rattle.vms_check_laws.proofs.Facade.{sub_place, came_slots, carried_sub, defaults, rules_append}
+use Rattle.vms_check_laws.proofs.Facade.{Option, Some, refl, flat_map, slice_get, cells_in, Desc, no_desc, Cell, Meaning, meanings, desc_cells, first_long}
+use Rattle.vms_check_laws.proofs.Facade.{struct_slots, struct_cells_at, Comparer, no_comparer, comparer_of, comparers, Carrier, no_carrier, carrier_of}
+use Rattle.vms_check_laws.proofs.Facade.{carriers, FitsAt, first_at, Part, Set, struct_cells, desc_slots, WellFormed, compare_desc, comparing, carry_desc}
+use Rattle.vms_check_laws.proofs.Facade.{carrying, cells_first, Holds, Sub, Device, Image, IsVersionOf, AreVersionsOf, RulesHold, sub_slots, sub_place}
+use Rattle.vms_check_laws.proofs.Facade.{came_slots, carried_sub, defaults, rules_append, ◌++◌, Spells, zeroed, own_slots, present, position_from}
+use Rattle.vms_check_laws.proofs.Facade.{is_earlier_in, Field, numbers_of, Entry, IsPartOf, IsRead, PositionLaw, AlignedLaw, FrontAligns}
 use Rattle.vms_spec.specs.declared.Part.TheVariants as parts
-use Rattle.vms_check_laws.proofs.Premises.{Table, by_less, Meets, fields_below, Reads, GoodCells, FitCells, fit_append, fit_defaults, fit_length}
+use Rattle.vms_check_laws.proofs.Premises.{Table, by_less, Meets, fields_below, Reads, GoodCells, FitCells, fit_append, fit_defaults, fit_length, IsKnown}
+use Rattle.vms_check_laws.proofs.Premises.{AreKnown, all_known, PairGood, Two, Sides, OldFields, Met, Row}
 use Rattle.vms_check_laws.proofs.Counts.{old_fields, StructsGood, plains_further, DescGood}
-use Rattle.vms_check_laws.proofs.Descriptions.{desc_meets, sides}
-use Rattle.vms_check_laws.proofs.FieldsRead.{fields_sized}
-use Rattle.vms_check_laws.proofs.Fitting.{good_fields}
+use Rattle.vms_check_laws.proofs.Descriptions.{desc_meets, sides, desc_clashes, first_state, good_fields}
+use Rattle.vms_check_laws.proofs.FieldsRead.{fields_sized, pair_reads}
 use Rattle.vms_check_laws.proofs.PairLists.{Settled, settled_defaults, settled_append, settled_empty}
 use Rattle.vms_check_laws.proofs.Segments.{holds_left, holds_right}
-use Rattle.vms_check_laws.proofs.Good.{structs_good}
+use Rattle.vms_check_laws.proofs.Good.{structs_good, device_good, sub_good}
+use Rattle.vms_check_laws.proofs.AlignedDescs.{Clashes, front_aligns}
 
 abbrev pub meanings_of : List Desc → List Meaning
 meanings_of ds = meanings ds (length ds)
@@ -40,47 +42,18 @@ module _ (x y : List (List Cell)) (olds news : List Desc) where
   carrier_at k j lt = first_at (λ (earlier : List Carrier) (d : Desc). carrier_of earlier x y olds d) news no_carrier k j lt
 
 module _ (olds news : List Desc) (numbers numbers' : List ℤ) (old : StructsGood olds) (new : StructsGood news) where
-  abbrev xs : List (List Cell)
-  xs = cells_of olds
-
-  abbrev ys : List (List Cell)
-  ys = cells_of news
-
-  abbrev means : List Meaning
-  means = meanings_of olds
-
-  abbrev means' : List Meaning
-  means' = meanings_of news
-
   abbrev KnownTable : ℕ → Type 0
-  KnownTable k = Table (rules_to olds news k) (carries_to olds news k) means means' numbers numbers' (length olds) k
-
-  -- structure j of new with its comparer and its carrier
-  record Row (j : ℕ) (rule : Comparer) (carrier : Carrier) : Type 0 where
-    sized : (i p : ℕ) → length (carrier i numbers p) ≡ length (get_or ys j [])
-    good : GoodCells (get_or ys j [])
-    meets : (i : ℕ) → i < length olds → rule i ≡ None → (x : ℕ) → FitsAt (get_or xs i []) numbers x
-        → Meets numbers numbers' ((get_or means i no_meaning).slots numbers x) (λ y. (get_or means' j no_meaning).slots numbers' y) (get_or ys j [])
-        (carrier i numbers x)
-
-  abbrev Rows : ℕ → Type 0
-  Rows k = (j : ℕ) → j < k → Row j (get_or (rules_to olds news k) j no_comparer) (get_or (carries_to olds news k) j no_carrier)
+  KnownTable k = Table (rules_to olds news k) (carries_to olds news k) (meanings_of olds) (meanings_of news) numbers numbers' (length olds) k
 
   abbrev Next : ℕ → Type 0
   Next k =
-      Row k (comparer_of (rules_to olds news k) xs ys olds k (get_or news k no_desc)) (carrier_of (carries_to olds news k) xs ys olds (get_or news k no_desc))
+      Row (meanings_of olds) (meanings_of news) numbers numbers' (length olds) k
+      (comparer_of (rules_to olds news k) (cells_of olds) (cells_of news) olds k (get_or news k no_desc))
+      (carrier_of (carries_to olds news k) (cells_of olds) (cells_of news) olds (get_or news k no_desc))
 
-  table_of : (k : ℕ) → Rows k → KnownTable k
-  table_of k rows = record {
-    sized = λ j i p lt. (rows j lt).sized i p;
-    good = λ j lt. (rows j lt).good;
-    meets = λ i j lt_i lt none x fits. (rows j lt).meets i lt_i none x fits;
-  }
-
-  row : (k : ℕ) → k < length news → Rows k → Next k
-  row k lt rows =
+  row : (k : ℕ) → k < length news → KnownTable k → Next k
+  row k lt table =
       let b = get_or news k no_desc in
-      let table = table_of k rows in
       let good = new k lt in
       let below = fields_below k b.fields (λ j f e. (good.new j f e).item) in
       let cells_are = struct_cells_at news (length news) k lt below in
@@ -88,13 +61,12 @@ module _ (olds news : List Desc) (numbers numbers' : List ℤ) (old : StructsGoo
         sized = λ i p.
             let a = get_or olds i no_desc in
             fields_sized (sides table a b a.version b.version (parts.Struct i) (parts.Struct k) p 0) 0 b.fields _ below ∙ sym (ap length cells_are);
-        good = rw cells_are (good_fields ys k b.fields 0 b.fields table.good below good.defaults);
+        good = rw cells_are (good_fields (cells_of news) k b.fields 0 b.fields (λ j l. (table.rows j l).good) below good.defaults);
         meets = λ i lt_i none x fits.
             let a = get_or olds i no_desc in
             let below_a = fields_below i a.fields (λ j f e. ((old i lt_i).old j f e).item) in
-            let fits_a : FitsAt (desc_cells xs a) numbers x = rw (struct_cells_at olds (length olds) i lt_i below_a) at fits in
-            let plain = plains_further i _ a.fields (omega arith) (old i lt_i).old in
-            let plain_a = old_fields _ _ a.fields numbers x fits_a plain in
+            let fits_a : FitsAt (desc_cells (cells_of olds) a) numbers x = rw (struct_cells_at olds (length olds) i lt_i below_a) at fits in
+            let plain_a = old_fields _ _ a.fields numbers x fits_a (plains_further i _ a.fields (omega arith) (old i lt_i).old) in
             let m = desc_meets table a b a.version b.version (parts.Struct i) (parts.Struct k) x plain_a good fits_a none in
             let slots_are = struct_slots olds (length olds) i numbers x lt_i below_a in
             record {
@@ -105,11 +77,40 @@ module _ (olds news : List Desc) (numbers numbers' : List ℤ) (old : StructsGoo
       }
 
   pub tables : (k : ℕ) → k ≤ length news → KnownTable k
-  tables k le = table_of k (λ j lt.
-      rw (comparer_at xs ys olds news k j lt, carrier_at xs ys olds news k j lt)
-      (by_less (λ m. m < length news → Next m)
-      (λ m before less. row m less (λ i lt. rw (comparer_at xs ys olds news m i lt, carrier_at xs ys olds news m i lt) (before i lt (omega arith)))) k j lt
-      (omega arith)))
+  tables k le = record {
+    rows = λ j lt.
+        rw (comparer_at (cells_of olds) (cells_of news) olds news k j lt, carrier_at (cells_of olds) (cells_of news) olds news k j lt)
+        (by_less (λ m. m < length news → Next m)
+        (λ m before less. row m less (record {
+          rows = λ i l.
+              rw (comparer_at (cells_of olds) (cells_of news) olds news m i l, carrier_at (cells_of olds) (cells_of news) olds news m i l)
+              (before i l (omega arith));
+        })) k j lt (omega arith));
+  }
+
+-- the constants of two devices' own fields clash, at one version, x and y being the cells of the structures
+abbrev pub DevicesClash : (old new : Set) → (d e : Device) → (v : ℕ) → Part → Part → (x y : List (List Cell)) → Type 0
+DevicesClash old new d e v part part' x y =
+    let es = present x d.desc v in
+    let fs = present y e.desc v in
+    let ks = comparers x y old.structs new.structs (length new.structs) in
+    let two : Two = record { ks = ks; a = d.desc; b = e.desc; v = v; w = v; part = part; part' = part'; o = position_from 0 es; n = position_from 0 fs } in
+    Clashes two es fs
+
+-- then the newer set's own fields aren't spelled at a front where the older wrote its own
+abbrev pub ClashRefuses : (old new : Set) → (d e : Device) → (v : ℕ) → Part → Part → (numbers numbers' : List ℤ) → (x y : List (List Cell)) → Type 0
+ClashRefuses old new d e v part part' numbers numbers' x y = DevicesClash old new d e v part part' x y → FitsAt (desc_cells x d.desc) numbers 0
+    → (body r r' : List ℕ) → Spells numbers' (own_slots new e v numbers') body → body ++ r' ≡ zeroed numbers (own_slots old d v numbers) ++ r → ⊥
+
+pub part_good : (set : Set) → WellFormed set → (d : Desc) → IsPartOf set d → DescGood (length set.structs) d
+part_good set well d (inl p) = rw (← p.is) (device_good set well p.i p.device p.there)
+part_good set well d (inr p) = rw (← p.is) (sub_good set well p.i p.j p.device p.sub p.there p.below)
+
+known_at : (structs : List Meaning) (all : List Field) (v : ℕ) (numbers : List ℤ) (base : ℕ) (es : List Entry) (p : ℕ) (e : Entry) → slice_get es p ≡ Some e
+    → AreKnown structs all v numbers base es → IsKnown structs all v numbers base e
+known_at structs all v numbers base [] p e h k = cc
+known_at structs all v numbers base (x ∷ es) zero e h k = let same : x ≡ e = cc in rw (← same) k.0
+known_at structs all v numbers base (x ∷ es) (suc p) e h k = known_at structs all v numbers base es p e h k.1
 
 -- ---- A part of a device (its own fields, or a subsection) in two well-formed sets that compare well there. Subsections of a device: new's
 -- own list, each from old's of its name where it came.
@@ -121,12 +122,6 @@ module _ (old new : Set) (good_old : WellFormed old) (good_new : WellFormed new)
   abbrev ns : List Meaning
   ns = meanings new.structs (length new.structs)
 
-  abbrev ks : (x y : List (List Cell)) → List Comparer
-  ks x y = comparers x y old.structs new.structs (length new.structs)
-
-  abbrev cs : (x y : List (List Cell)) → List Carrier
-  cs x y = carriers x y old.structs new.structs (length new.structs)
-
   -- the cells of structures, made either way
   to_meanings : (P : (x y : List (List Cell)) → Type 0) → P (struct_cells old) (struct_cells new) → P (cells_in ms) (cells_in ns)
   to_meanings P h = rw (cells_first old.structs _, cells_first new.structs _) h
@@ -135,7 +130,8 @@ module _ (old new : Set) (good_old : WellFormed old) (good_new : WellFormed new)
   to_cells P h = rw (← (cells_first old.structs _), ← (cells_first new.structs _)) h
 
   pub all_tables : (numbers numbers' : List ℤ)
-      → Table (ks (cells_in ms) (cells_in ns)) (cs (cells_in ms) (cells_in ns)) ms ns numbers numbers' (length old.structs) (length new.structs)
+      → Table (rules_to old.structs new.structs (length new.structs)) (carries_to old.structs new.structs (length new.structs)) ms ns numbers numbers'
+      (length old.structs) (length new.structs)
   all_tables numbers numbers' =
       tables old.structs new.structs numbers numbers' (structs_good old good_old) (structs_good new good_new) (length new.structs) (omega arith)
 
@@ -143,7 +139,7 @@ module _ (old new : Set) (good_old : WellFormed old) (good_new : WellFormed new)
   pub good_cells : (b : Desc) → DescGood (length new.structs) b → GoodCells (desc_cells (struct_cells new) b)
   good_cells b good =
       let below = fields_below _ b.fields (λ j f e. (good.new j f e).item) in
-      to_cells (λ x y. GoodCells (desc_cells y b)) (good_fields _ _ b.fields 0 b.fields (all_tables [] []).good below good.defaults)
+      to_cells (λ x y. GoodCells (desc_cells y b)) (good_fields _ _ b.fields 0 b.fields (λ j l. ((all_tables [] []).rows j l).good) below good.defaults)
 
   -- two parts at which no rule fails
   pub part_meets : (a b : Desc) (v : ℕ) (part part' : Part) → DescGood (length old.structs) a → DescGood (length new.structs) b
@@ -153,9 +149,59 @@ module _ (old new : Set) (good_old : WellFormed old) (good_new : WellFormed new)
   part_meets a b v part part' good_a good_b same numbers numbers' at fits =
       let fits_in = to_meanings (λ x y. FitsAt (desc_cells x a) numbers at) fits in
       to_cells (λ x y. Meets numbers numbers' (desc_slots ms a v numbers at) (λ q. desc_slots ns b v numbers' q) (desc_cells y b)
-      (carry_desc (cs x y) x y numbers v v a b at))
+      (carry_desc (carriers x y old.structs new.structs (length new.structs)) x y numbers v v a b at))
       (desc_meets (all_tables numbers numbers') a b v v part part' at (old_fields _ _ a.fields numbers at fits_in good_a.old) good_b fits_in
-      (to_meanings (λ x y. compare_desc (ks x y) x y a b v v part part' ≡ None) same))
+      (to_meanings (λ x y. compare_desc (comparers x y old.structs new.structs (length new.structs)) x y a b v v part part' ≡ None) same))
+
+  pub devices_clash : (i k : ℕ) (d e : Device) → slice_get old.devices i ≡ Some d → slice_get new.devices k ≡ Some e → (v : ℕ) (part part' : Part)
+      (numbers numbers' : List ℤ) → ClashRefuses old new d e v part part' numbers numbers' (struct_cells old) (struct_cells new)
+  devices_clash i k d e in_old in_new v part part' numbers numbers' =
+      to_cells (λ x y. ClashRefuses old new d e v part part' numbers numbers' x y) (λ clash fits.
+      let plain = old_fields _ _ d.desc.fields numbers 0 fits (device_good old good_old i d in_old).old in
+      desc_clashes (all_tables numbers numbers') d.desc e.desc v v part part' 0 plain (device_good new good_new k e in_new) fits 0 clash)
+
+  module _ (a b : Desc) (of_old : IsPartOf old a) (of_new : IsPartOf new b) (v : ℕ) (part part' : Part) (numbers numbers' : List ℤ) (at at' : ℕ) where
+    abbrev es : List Entry
+    es = present (cells_in ms) a v
+
+    abbrev fs : List Entry
+    fs = present (cells_in ns) b v
+
+    abbrev here : Sides
+    here = sides (all_tables numbers numbers') a b v v part part' at at'
+
+    good : DescGood (length new.structs) b
+    good = part_good new good_new b of_new
+
+    plain : FitsAt (desc_cells (cells_in ms) a) numbers at → OldFields (length old.structs) (λ k. numbers_of (cells_in ms) a numbers at k) a.fields
+    plain fits = old_fields _ _ a.fields numbers at fits (part_good old good_old a of_old).old
+
+    read_in : IsRead old new a b v part part' numbers numbers' at at' (cells_in ms) (cells_in ns)
+    read_in p e f h =
+        let k = known_at ms a.fields v numbers at es p e h.on_old (all_known ms a.fields v numbers at) in
+        let k' = known_at ns b.fields v numbers' at' fs p f h.on_new (all_known ns b.fields v numbers' at') in
+        let met : Met here e f = record { good = record { rules = h.rules; structs = h.structs }; known = k; known' = k' } in
+        let old_f = plain h.fits e.index e.field k.field in
+        let new_f = good.earlier f.index f.field k'.field in
+        (pair_reads here (is_earlier_in b f.index) e f (record { met = met; old = old_f; new = new_f; fits = k.fits h.fits; agree = h.agree }) h.held).carries
+
+    front_in : FrontAligns old new a b v part part' numbers numbers' at at' (cells_in ms) (cells_in ns)
+    front_in p h =
+        let first : (q : ℕ) (e f : Entry) → q < p → slice_get es q ≡ Some e → slice_get fs q ≡ Some f → PairGood here.two e f = λ q e f lt x y.
+        let d = h.paired q e f lt x y in
+        record { rules = d.rules; structs = d.structs } in
+        front_aligns here good.earlier (plain h.fits) h.fits p es fs 0 0 h.on_old h.on_new first
+        (first_state (all_tables numbers numbers') a b v v part part' at at')
+
+pub position_stands : PositionLaw
+position_stands old new good_old good_new a b of_old of_new v part part' numbers numbers' at at' =
+    to_cells old new good_old good_new (λ x y. IsRead old new a b v part part' numbers numbers' at at' x y)
+    (read_in old new good_old good_new a b of_old of_new v part part' numbers numbers' at at')
+
+pub aligned_stands : AlignedLaw
+aligned_stands old new good_old good_new a b of_old of_new v part part' numbers numbers' at at' =
+    to_cells old new good_old good_new (λ x y. FrontAligns old new a b v part part' numbers numbers' at at' x y)
+    (front_in old new good_old good_new a b of_old of_new v part part' numbers numbers' at at')
 
 module _ (old new : Set) (good_old : WellFormed old) (good_new : WellFormed new) (d e : Device) (image : Image) (numbers' : List ℤ)
     (came_of : Sub → Option ℕ) where

@@ -8,7 +8,7 @@ use Rattle.vms_check_laws.proofs.Facade.{Counted, Formula, Field, Meaning, no_me
 use Rattle.vms_check_laws.proofs.Facade.{no_carrier, Holds, FitsAt, Carries, Aligns, FieldsBelow, Slot, is_earlier_in, Num, Filler, Fixed, Kind, One}
 use Rattle.vms_check_laws.proofs.Facade.{cells_from, elements_of, entry_of, field_cells, here, is_there, item_slots, kind_of, no_parent, presence}
 use Rattle.vms_check_laws.proofs.Facade.{present_from, residue, same_kind, slots_from, width, zeroed, U8, U16, U32, U64, I8, I16, I32, I64, Timer, no_field}
-use Rattle.vms_check_laws.proofs.Facade.{field_slots, place_of, kind_number, AllByRecursion, AllZip, flat_map}
+use Rattle.vms_check_laws.proofs.Facade.{field_slots, place_of, kind_number, AllByRecursion, AllZip, flat_map, AllZip-long}
 use Rattle.vms_spec.specs.Images.{FitCells as AreFit}
 use Rattle.vms_kinds.specs.declared.Kind.TheVariants.{Bool as Truth}
 use Rattle.vms_check_laws.proofs.Positioned.{if_is}
@@ -67,8 +67,7 @@ module _ (two : Two) where
             let r7 = passes 7 (same_count o n e.field.count f.field.count) _ p q m.1 in
             let r8 = passes 8 (same_item e.field.item f.field.item) _ p q r7.1 in
             let r9 = passes 9 (same_rest o n e.rest f.rest) _ p q r8.1 in
-            let r10 = passes 10 (names_match e.field f.field) _ p q r9.1 in
-            let r11 = passes 11 (room && absent) _ p q r10.1 in
+            let r11 = passes 11 (room && absent) _ p q (passes 10 (names_match e.field f.field) _ p q r9.1).1 in
             let r12 = passes 12 (same_constant e.field.item f.field.item) [] p q r11.1 in
             let both = and_parts room absent r11.0 in
             inr (record { count = r7.0; item = r8.0; rest = r9.0; room = both.0; absent = both.1; constant = r12.0 })
@@ -77,16 +76,10 @@ module _ (two : Two) where
 -- ---- numbers that fit cells, one by one
 
 abbrev pub FitCells : List Cell → List ℤ → Type 0
-FitCells [] [] = Unit {0}
-FitCells [] (z ∷ zs) = ⊥
-FitCells (x ∷ xs) [] = ⊥
-FitCells (x ∷ xs) (z ∷ zs) = FitsCell x z × FitCells xs zs
+FitCells xs zs = AllZip FitsCell xs zs
 
 pub fit_length : (xs : List Cell) (zs : List ℤ) → FitCells xs zs → length zs ≡ length xs
-fit_length [] [] h = refl
-fit_length [] (z ∷ zs) h = absurd h
-fit_length (x ∷ xs) [] h = absurd h
-fit_length (x ∷ xs) (z ∷ zs) h = rw (fit_length xs zs h.1)
+fit_length xs zs h = AllZip-long FitsCell xs zs h
 
 fit_each : (xs : List Cell) (zs : List ℤ) → FitCells xs zs → (c : ℕ) → c < length xs → FitsCell (get_or xs c no_cell) (get_or zs c (pos 0))
 fit_each [] zs h c lt = absurd (omega arith)
@@ -99,14 +92,12 @@ are_fit xs zs h = record { long = fit_length xs zs h; fits = λ c lt. fit_each x
 
 pub fit_append : (xs ys : List Cell) (zs us : List ℤ) → FitCells xs zs → FitCells ys us → FitCells (xs ++ ys) (zs ++ us)
 fit_append [] ys [] us h k = k
-fit_append [] ys (z ∷ zs) us h k = absurd h
-fit_append (x ∷ xs) ys [] us h k = absurd h
 fit_append (x ∷ xs) ys (z ∷ zs) us h k = (h.0, fit_append xs ys zs us h.1 k)
+fit_append _ ys _ us h k = absurd h
 
 -- the default of each cell fits it
 abbrev pub GoodCells : List Cell → Type 0
-GoodCells [] = Unit {0}
-GoodCells (c ∷ cells) = FitsCell c c.default × GoodCells cells
+GoodCells cells = AllByRecursion (λ c. FitsCell c c.default) cells
 
 pub fit_defaults : (cells : List Cell) → GoodCells cells → FitCells cells (defaults cells)
 fit_defaults [] h = tt
@@ -141,13 +132,17 @@ pub record Meets (numbers numbers' : List ℤ) (xs : List Slot) (ys : ℕ → Li
   pub aligned : (y : ℕ) → Aligns numbers xs numbers' (ys y)
   pub reads : (y : ℕ) → Holds numbers' y segment → Reads numbers numbers' xs (ys y) y cells segment
 
--- what is known of the structures below a number: their cells, slots, comparers and carriers
-pub record Table (ks : List Comparer) (cs : List Carrier) (ms ns : List Meaning) (numbers numbers' : List ℤ) (below below' : ℕ) : Type 0 where
-  pub sized : (j i k : ℕ) → j < below' → length (get_or cs j no_carrier i numbers k) ≡ length (get_or (cells_in ns) j [])
-  pub good : (j : ℕ) → j < below' → GoodCells (get_or (cells_in ns) j [])
-  pub meets : (i j : ℕ) → i < below → j < below' → get_or ks j no_comparer i ≡ None → (x : ℕ) → FitsAt (get_or (cells_in ms) i []) numbers x
+-- what is known of the newer structure j, with its comparer and its carrier
+pub record Row (ms ns : List Meaning) (numbers numbers' : List ℤ) (below j : ℕ) (rule : Comparer) (carrier : Carrier) : Type 0 where
+  pub sized : (i p : ℕ) → length (carrier i numbers p) ≡ length (get_or (cells_in ns) j [])
+  pub good : GoodCells (get_or (cells_in ns) j [])
+  pub meets : (i : ℕ) → i < below → rule i ≡ None → (x : ℕ) → FitsAt (get_or (cells_in ms) i []) numbers x
       → Meets numbers numbers' ((get_or ms i no_meaning).slots numbers x) (λ y. (get_or ns j no_meaning).slots numbers' y) (get_or (cells_in ns) j [])
-      (get_or cs j no_carrier i numbers x)
+      (carrier i numbers x)
+
+-- what is known of the structures below a number
+pub record Table (ks : List Comparer) (cs : List Carrier) (ms ns : List Meaning) (numbers numbers' : List ℤ) (below below' : ℕ) : Type 0 where
+  pub rows : (j : ℕ) → j < below' → Row ms ns numbers numbers' below j (get_or ks j no_comparer) (get_or cs j no_carrier)
 
 -- both sides with their numbers: the older's from `at` on, and the newer's from `at'` on
 pub record Sides : Type 0 where

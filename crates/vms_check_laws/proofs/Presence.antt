@@ -16,15 +16,11 @@ there (Some (Some t)) v own parent = truth t v own parent
 
 left_there : (r : Reduced) (v : ℕ) (own parent : ℕ → ℕ) → there (left_of r) v own parent ≡ truth_of r v own parent
 left_there (Known true) v own parent = refl
-left_there (Known false) v own parent = refl
-left_there (Open t) v own parent = refl
-
-since_there : (b : Bool) (v : ℕ) (own parent : ℕ → ℕ) → there (if b then Some None else None) v own parent ≡ b
-since_there true v own parent = refl
-since_there false v own parent = refl
+left_there _ v own parent = refl
 
 pub presence_there : (test : Option Formula) (since v : ℕ) (own parent : ℕ → ℕ) → is_there test since v own parent ≡ there (presence v test since) v own parent
-presence_there None since v own parent = sym (since_there (nat_le since v) v own parent)
+presence_there None since v own parent =
+    elim (nat_le since v) as (λ b. b ≡ there (if b then Some None else None) v own parent) [ true ↦ refl | false ↦ refl ]
 presence_there (Some t) since v own parent = sym (left_there (reduced v t) v own parent ∙ reduced_holds t v own parent)
 
 -- a number's relation
@@ -50,11 +46,7 @@ module _ (ok : ℕ → Bool) where
   Named r = IfOpen IsNamed r
 
   named_by_parts : IsByParts IsNamed
-  named_by_parts = record {
-    of_not = λ t h. h;
-    of_and = λ s t h g. and_from _ _ h g;
-    of_or = λ s t h g. and_from _ _ h g;
-  }
+  named_by_parts = record { of_not = λ t h. h; of_and = λ s t h g. and_from _ _ h g; of_or = λ s t h g. and_from _ _ h g }
 
   -- the rest of a test names what the test names
   pub named_left : (u : ℕ) (t : Formula) → names_well ok nobody t ≡ true → Named (reduced u t)
@@ -148,13 +140,10 @@ steady minimum (Some g) f e h =
     let r = and_parts (is_num g.item) (is_one g.count) q.0 in
     rw (← same) (record { item = r.0; count = r.1; test = q.1 })
 
-no_rest : (b : Bool) (rest : Option Formula) → (if b then Some None else None) ≡ Some rest → rest ≡ None
-no_rest true rest h = cc
-no_rest false rest h = cc
-
 pub steady_rest : (w : ℕ) (test : Option Formula) (since : ℕ) (rest : Option Formula) → has_no_test test ≡ true → presence w test since ≡ Some rest
     → rest ≡ None
-steady_rest w None since rest h k = no_rest _ rest k
+steady_rest w None since rest h k =
+    (elim (nat_le since w) as (λ b. (if b then Some None else None) ≡ Some rest → rest ≡ None) [ true ↦ λ e. cc | false ↦ λ e. cc ]) k
 steady_rest w (Some t) since rest h k = absurd (cc)
 
 pub rest_none : (o n : ℕ → Option ℕ) (r s : Option Formula) → s ≡ None → same_rest o n r s ≡ true → r ≡ None

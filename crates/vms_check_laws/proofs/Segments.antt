@@ -1,9 +1,9 @@
 -- Segments of numbers, and slots of one side whose bytes are those of the other's. Bytes of both sides at one front: if slots of the
 -- newer set are at the front of what the older set wrote, they take exactly the bytes that it wrote for its own slots.
-use Rattle.vms_check_laws.proofs.Facade.{◌≡◌, ℕ, suc, ◌+◌, List, ◌∷◌, ◌++◌, length, get_or, Bool, IsTrue, refl, ◌∙◌, arith, append_assoc, ℤ, pos, length-append}
-use Rattle.vms_check_laws.proofs.Facade.{get_or_append_left, get_or-append-add, append-nil, ap, sym, [], slice_get, Kind, Cell, no_cell, Slot, Number, Constant}
-use Rattle.vms_check_laws.proofs.Facade.{Filler, Rule, zeroed, Holds, FitsAt, Carries, rules_append, spells_append, width, residue, code, Spells, length-code}
-use Rattle.vms_check_laws.proofs.Facade.{code_read, Aligns, rules_split, big_number}
+use Rattle.vms_check_laws.proofs.Facade.{◌≡◌, ℕ, suc, ◌+◌, List, ◌∷◌, ◌++◌, length, get_or, Bool, IsTrue, refl, ◌∙◌, arith, append_assoc, ℤ, pos}
+use Rattle.vms_check_laws.proofs.Facade.{length-append, get_or_append_left, get_or-append-add, append-nil, ap, sym, [], slice_get, Kind, Cell, no_cell, Slot}
+use Rattle.vms_check_laws.proofs.Facade.{Number, Constant, Filler, Rule, zeroed, Holds, FitsAt, Carries, rules_append, spells_append, width, residue, code}
+use Rattle.vms_check_laws.proofs.Facade.{Spells, length-code, code_read, Aligns, rules_split, big_number, drop-append_seam, take-append_seam}
 
 -- the elements from a place on
 abbrev pub RestAt : {A : Type 0} → List A → ℕ → List A → Type 0
@@ -33,9 +33,7 @@ pub holds_at : {numbers : List ℤ} {at at' : ℕ} {xs : List ℤ} → at ≡ at
 holds_at e h = rw e at h
 
 pub fits_left : {xs : List Cell} (ys : List Cell) {numbers : List ℤ} {at : ℕ} → FitsAt (xs ++ ys) numbers at → FitsAt xs numbers at
-fits_left {xs = xs} ys h = record {
-  each = λ c lt. rw (get_or_append_left xs ys no_cell c lt) at (h.each c (omega (arith, length-append xs ys)));
-}
+fits_left {xs = xs} ys h = record { each = λ c lt. rw (get_or_append_left xs ys no_cell c lt) at (h.each c (omega (arith, length-append xs ys))) }
 
 pub fits_right : (xs : List Cell) {ys : List Cell} {numbers : List ℤ} {at : ℕ} → FitsAt (xs ++ ys) numbers at → FitsAt ys numbers (at + length xs)
 fits_right xs {ys = ys} {at = at} h = record {
@@ -80,13 +78,7 @@ carries_rule x y r s f = record { spells = refl; rules = λ h. (f h.0, tt) }
 -- ---- lists
 
 pub apart : (xs ys r r' : List ℕ) → length xs ≡ length ys → xs ++ r' ≡ ys ++ r → (xs ≡ ys) × (r' ≡ r)
-apart [] [] r r' e h = (refl, h)
-apart [] (y ∷ ys) r r' e h = absurd (omega arith)
-apart (x ∷ xs) [] r r' e h = absurd (omega arith)
-apart (x ∷ xs) (y ∷ ys) r r' e h =
-    let heads : x ≡ y = cc in
-    let more = apart xs ys r r' (omega arith) cc in
-    (rw (heads, more.0), more.1)
+apart xs ys r r' e h = (cc (take-append_seam xs r', take-append_seam ys r), cc (drop-append_seam xs r', drop-append_seam ys r))
 
 -- the bytes are the same
 pub same_bytes : (x : List ℤ) (a : List Slot) (y : List ℤ) (b : List Slot) → Aligns x a y b → (body r r' : List ℕ) → Spells y b body

@@ -9,7 +9,7 @@ use Rattle.vms_check_laws.proofs.Facade.{compare_subs, carried, carried_device, 
 use Rattle.vms_check_laws.proofs.Facade.{IsConfiguration, configuration, trailer, optional, longest_text, written, AreReady, every_one, machine_short}
 use Rattle.vms_check_laws.proofs.Facade.{few_devices, UpgradeLaw, trailed, answers_none, option_and_then}
 use Rattle.vms_spec.specs.declared.Part.TheVariants as parts
-use Rattle.vms_check_laws.proofs.SubFacts.{saved}
+use Rattle.vms_check_laws.proofs.Wholes.{saved}
 use Rattle.vms_check_laws.proofs.Segments.{RestAt, at_first, one_on, from_zero}
 use Rattle.vms_check_laws.proofs.Wholes.{Among, section_whole, at_map, from_map, Rises, takes_each, all_came}
 use Rattle.vms_check_laws.proofs.Positioned.{if_is}
@@ -60,8 +60,7 @@ module _ (old new : Set) (good_old : WellFormed old)
 
   pub pair : (i : ℕ) (d : Device) → slice_get old.devices i ≡ Some d → Pair i d
   pair i d e =
-      let h = answers_none _ 0 old.devices all_in i d e in
-      let some_k = found_some _ ((passes 2 (is_in new d) [] (here (parts.Device (0 + i))) (here parts.Set) h).0) in
+      let some_k = found_some _ ((passes 2 (is_in new d) [] (here (parts.Device (0 + i))) (here parts.Set) (answers_none _ 0 old.devices all_in i d e)).0) in
       let f = found_device 0 new.devices d.desc.name d.instance some_k.0 some_k.1 in
       let k_is : f.0 ≡ some_k.0 = omega arith in
       let stands : slice_get new.devices some_k.0 ≡ Some f.2.device = rw (k_is) at f.2.stands in
@@ -138,14 +137,10 @@ module _ (old new : Set) (good_old : WellFormed old) (good_new : WellFormed new)
   each_new k waits =
       let x = from_map (λ (d : Device). false) new.devices k false waits in
       let e = x.0 in
-      let h = answers_none _ 0 new.devices rules.news k e x.1 in
-      let is : is_found (find_device 0 old.devices e.desc.name e.instance) ≡ true =
-      (passes 3 (is_in old e) [] (here parts.Set) (here (parts.Device (0 + k))) h).0 in
-      let r = found_some _ is in
+      let r = found_some _ ((passes 3 (is_in old e) [] (here parts.Set) (here (parts.Device (0 + k))) (answers_none _ 0 new.devices rules.news k e x.1)).0) in
       let f = found_device 0 old.devices e.desc.name e.instance r.0 r.1 in
       let d = f.2.device in
-      let found : find_device 0 new.devices d.desc.name d.instance ≡ Some k = rw (f.2.name_is, f.2.instance_is) (device_found new good_new k e x.1) in
-      order_has old.devices f.0 k d f.2.stands found
+      order_has old.devices f.0 k d f.2.stands (rw (f.2.name_is, f.2.instance_is) (device_found new good_new k e x.1))
 
   abbrev none_came : List Bool
   none_came = map (λ (d : Device). false) new.devices

@@ -116,8 +116,6 @@ or_split false b h = inr (refl, h)
 
 pub has_part : (set : Set) (d : Device) (numbers : List ℤ) (from : ℕ) (subs : List Sub) (came : List (Option ℕ)) (c : ℕ)
     → has_cell (came_slots set d numbers from subs came) c ≡ true → HasPart set d numbers from subs came c
-has_part set d numbers from [] came c e = cc
-has_part set d numbers from (s ∷ subs) [] c e = cc
 has_part set d numbers from (s ∷ subs) (None ∷ came) c e =
     let h = has_part set d numbers (from + sub_size set s) subs came c e in
     record { j = suc h.j; sub = h.sub; version = h.version; there = h.there; is_come = h.is_come; has = h.has }
@@ -130,6 +128,7 @@ has_part set d numbers from (s ∷ subs) (Some v ∷ came) c e =
           let h = has_part set d numbers next subs came c f.1 in
           record { j = suc h.j; sub = h.sub; version = h.version; there = h.there; is_come = h.is_come; has = h.has }
     ]
+has_part set d numbers from _ _ c e = cc
 
 -- two numbers of which neither is below the other are one
 pub one_number : (i j : ℕ) → (i < j → ⊥) → (j < i → ⊥) → i ≡ j

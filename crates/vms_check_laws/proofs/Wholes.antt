@@ -1,20 +1,20 @@
 -- A device with subsections: what the older set writes is a section of the newer with the carried image. An order that names each remaining
 -- one, and none twice, takes each once.
 use Rattle.vms_check_laws.proofs.Facade.{◌≡◌, ◌⊎◌, inl, inr, ℕ, zero, suc, Bool, true, false, cases_eq, slice_get-map, List, ◌∷◌, slice_set, Option, Some}
-use Rattle.vms_check_laws.proofs.Facade.{None, refl, sym, ap, ◌∙◌, slice_get, [], ◌+◌, ◌<◌, ◌++◌, length, map, get_or, arith, ℤ, pos, flat_map}
-use Rattle.vms_check_laws.proofs.Facade.{slice_get_within, AreAll, ComesOnce, AllCame, at_other, Part, first_answer, Sub, Device, Set, Slot, no_cell}
-use Rattle.vms_check_laws.proofs.Facade.{struct_cells, desc_cells, device_cells, Image, zeroed, own_slots, own_cells, sub_slots, sub_place, came_slots}
-use Rattle.vms_check_laws.proofs.Facade.{has_cell, IsSection, SubSpells, SubsSpell, sub_head, written_subs, written_section, find_sub, index, is_version_of}
-use Rattle.vms_check_laws.proofs.Facade.{WellFormed, comparing, compare_sub, compare_subs, carrying, carried_sub, carried_device, defaults, sub_came}
-use Rattle.vms_check_laws.proofs.Facade.{sub_found, defaults_at, version_is, rules_append, IsSaved, Holds, FitsAt, answers_none, at_set, rules_split}
-use Rattle.vms_check_laws.proofs.Facade.{sub_size, ◌≤◌, option_and_then}
+use Rattle.vms_check_laws.proofs.Facade.{None, refl, sym, ap, ◌∙◌, slice_get, [], ◌+◌, ◌<◌, ◌++◌, length, map, arith, ℤ, flat_map, slice_get_within, AreAll}
+use Rattle.vms_check_laws.proofs.Facade.{ComesOnce, AllCame, at_other, Part, first_answer, Sub, Device, Set, struct_cells, desc_cells, device_cells, Image}
+use Rattle.vms_check_laws.proofs.Facade.{zeroed, own_slots, own_cells, sub_slots, sub_place, came_slots, IsSection, SubSpells, SubsSpell, sub_head}
+use Rattle.vms_check_laws.proofs.Facade.{written_subs, written_section, find_sub, index, is_version_of, WellFormed, comparing, compare_sub, compare_subs}
+use Rattle.vms_check_laws.proofs.Facade.{carrying, carried_sub, carried_device, defaults, sub_came, sub_found, defaults_at, version_is, rules_append, IsSaved}
+use Rattle.vms_check_laws.proofs.Facade.{Holds, FitsAt, answers_none, at_set, rules_split, sub_size, ◌≤◌, option_and_then, Cell, FitCells, RulesHold, IsReady}
+use Rattle.vms_check_laws.proofs.Facade.{ComeAsNeeded, here, failing_pair, passes, or_else_none, part_apart, cells_of_sub}
+use Rattle.vms_spec.specs.declared.Part.TheVariants as parts
 use Rattle.vms_check_laws.proofs.SubParts.{Found, look_up}
-use Rattle.vms_check_laws.proofs.Segments.{holds_left, holds_right, holds_at, fits_left, RestAt, at_first, one_on, from_zero}
+use Rattle.vms_check_laws.proofs.Segments.{holds_left, holds_right, holds_at, fits_left, RestAt, at_first, one_on, from_zero, fits_right, fits_at}
 use Rattle.vms_check_laws.proofs.PairLists.{Settled, settled_append}
 use Rattle.vms_check_laws.proofs.Premises.{fit_append, fit_length, are_fit}
-use Rattle.vms_check_laws.proofs.Good.{device_good}
-use Rattle.vms_check_laws.proofs.Parts.{Came, Facts, subs_fit, subs_read, sub_held, part_meets, sub_reads}
-use Rattle.vms_check_laws.proofs.SubFacts.{fits_whole, came_of, came_is, facts}
+use Rattle.vms_check_laws.proofs.Good.{device_good, sub_good}
+use Rattle.vms_check_laws.proofs.Parts.{Came, Facts, subs_fit, subs_read, sub_held, part_meets, sub_reads, good_cells, Stayed}
 
 abbrev pub Among : ℕ → List ℕ → Type 0
 Among a [] = ⊥
@@ -29,8 +29,8 @@ module _ {A : Type 0} (Open : A → Type 0) (done : A) (back : ℕ → Option �
   rises_set : (xs : List A) (k m j : ℕ) (order : List ℕ) → back k ≡ Some m → m < j → Rises xs j order → Rises (slice_set xs k done) j order
   rises_set xs k m j [] is lt h = tt
   rises_set xs k m j (l ∷ order) is lt h =
-      let other : l ≡ k → ⊥ = λ e. (let same : h.0 ≡ m = cc (h.3) in omega (arith, h.2)) in
-      (h.0, h.1, h.2, h.3, at_other xs k l done other ∙ h.4, h.5, rises_set xs k m (suc h.0) order is (omega (arith, h.2)) h.6)
+      let other : l ≡ k → ⊥ = λ e. (let same : h.0 ≡ m = cc (h.3) in omega arith) in
+      (h.0, h.1, h.2, h.3, at_other xs k l done other ∙ h.4, h.5, rises_set xs k m (suc h.0) order is (omega arith) h.6)
 
   module _ (closed : Open done → ⊥) where
     -- what is still open after one is done is among the rest
@@ -65,6 +65,29 @@ all_came (true ∷ came) h = all_came came (λ j e. h (suc j) e)
 all_came (false ∷ came) h = h 0 refl
 
 -- ---- a device with subsections
+
+pub fits_whole : (cells : List Cell) (numbers : List ℤ) → FitCells cells numbers → FitsAt cells numbers 0
+fits_whole cells numbers h = record { each = λ c lt. let z : c ≡ 0 + c = omega arith in rw (← z) (h.fits c lt) }
+
+pub come_version : (set : Set) (d : Device) (image : Image) (k : ℕ) (subs : List Sub) (came : List (Option ℕ)) (j : ℕ) (s : Sub) (v : ℕ)
+    → ComeAsNeeded set d image k subs came → slice_get subs j ≡ Some s → slice_get came j ≡ Some (Some v) → v ≡ s.desc.version
+come_version set d image k (x ∷ subs) [] j s v h e e' = absurd h
+come_version set d image k (x ∷ subs) (Some u ∷ came) zero s v h e e' =
+    let same : x ≡ s = cc in
+    let same' : u ≡ v = cc in
+    cc
+come_version set d image k (x ∷ subs) (None ∷ came) (suc j) s v h e e' = come_version set d image (suc k) subs came j s v h.1 e e'
+come_version set d image k (x ∷ subs) (Some u ∷ came) (suc j) s v h e e' = come_version set d image (suc k) subs came j s v h.2 e e'
+come_version set d image k _ _ _ s v h e e' = absurd (cc)
+
+-- a ready image is a saved one
+pub saved : (set : Set) (d : Device) (image : Image) → IsReady set d image → IsSaved set d image
+saved set d image r = record {
+  normal = r.normal;
+  valid = r.valid;
+  version = r.version;
+  subs = λ j s v at_j at_came. come_version set d image 0 d.subs image.came j s v r.needed at_j at_came;
+}
 
 pub at_map : {A B : Type 0} (f : A → B) (xs : List A) (j : ℕ) (x : A) → slice_get xs j ≡ Some x → slice_get (map f xs) j ≡ Some (f x)
 at_map f xs j x e = rw (slice_get-map f xs j, e)
@@ -104,11 +127,65 @@ module _ (old new : Set) (good_old : WellFormed old) (good_new : WellFormed new)
   abbrev image' : Image
   image' = carried_device old new d e image
 
-  abbrev came : Sub → Option ℕ
-  came t = came_of old new good_old good_new i k d e at_i at_k none image ready numbers' t
+  -- ---- what two sets without a mismatch give for each subsection of new
 
-  abbrev all_facts : Facts old new good_old good_new d e image numbers' came e.subs
-  all_facts = facts old new good_old good_new i k d e at_i at_k none image ready numbers'
+  abbrev came : Sub → Option ℕ
+  came t = sub_came old new (find_sub 0 d.subs t.desc.name) (slice_get image.came (index (find_sub 0 d.subs t.desc.name)))
+
+  abbrev FactOf : Sub → Type 0
+  FactOf t = Stayed old new good_old good_new d e image numbers' came t ⊎ Came old new good_old good_new d e image numbers' came t
+
+  stayed : (l : ℕ) (t : Sub) → slice_get e.subs l ≡ Some t → came t ≡ None
+      → carried_sub old new d image t ≡ defaults (desc_cells (struct_cells new) t.desc) → FactOf t
+  stayed l t at_l h is = inl (record { came = h; numbers = is; good = good_cells old new good_old good_new t.desc (sub_good new good_new k l e t at_k at_l) })
+
+  compared : (j l : ℕ) (s t : Sub) → slice_get d.subs j ≡ Some s → slice_get e.subs l ≡ Some t → s.desc.name ≡ t.desc.name
+      → (is_version_of t.desc s.desc.version ≡ true) × (comparing old new s.desc t.desc s.desc.version (parts.Sub i j) (parts.Sub k l) ≡ None)
+  compared j l s t at_j at_l names =
+      let z : 0 + j ≡ j = omega arith in
+      let found : find_sub 0 e.subs s.desc.name ≡ Some l = rw names (sub_found new good_new k l e t at_k at_l) in
+      let at_t : compare_sub old new i k j s (Some l) (Some t) ≡ None = rw (z, found, at_l) at (answers_none _ 0 d.subs none j s at_j) in
+      let p = or_else_none (failing_pair ((14, is_version_of t.desc s.desc.version) ∷ []) (here (parts.Sub i j)) (here (parts.Sub k l))) _ at_t in
+      ((passes 14 (is_version_of t.desc s.desc.version) [] (here (parts.Sub i j)) (here (parts.Sub k l)) p.0).0, p.1)
+
+  abbrev came_is : (j l : ℕ) (s t : Sub) (v : ℕ) → slice_get d.subs j ≡ Some s → slice_get e.subs l ≡ Some t → s.desc.name ≡ t.desc.name
+      → slice_get image.came j ≡ Some (Some v) → find_sub 0 d.subs t.desc.name ≡ Some j → Came old new good_old good_new d e image numbers' came t
+  came_is j l s t v at_j at_l names at_came found =
+      let c = compared j l s t at_j at_l names in
+      let v_is : v ≡ s.desc.version = ready.subs j s v at_j at_came in
+      let subs_fit : FitsAt (flat_map (λ u. desc_cells (struct_cells old) u.desc) d.subs) image.numbers (own_cells old d) =
+      fits_at (omega arith) (fits_right (desc_cells (struct_cells old) d.desc) (fits_whole (device_cells old d) image.numbers ready.normal.cells)) in
+      record {
+        sub = s;
+        version = v;
+        place = sub_place old (own_cells old d) d.subs j;
+        part = parts.Sub i j;
+        part' = parts.Sub k l;
+        came = rw (found, at_came);
+        numbers = rw (found, at_j, at_came);
+        good = sub_good old good_old i j d s at_i at_j;
+        good' = sub_good new good_new k l e t at_k at_l;
+        same = rw v_is c.1;
+        fits = cells_of_sub (λ at xs. FitsAt xs image.numbers at) (λ at xs ys. fits_left ys) (λ at xs ys. fits_right xs) old _ d.subs j s at_j subs_fit;
+        rules = part_apart old d image.numbers RulesHold rules_split (own_cells old d) d.subs image.came
+            (rules_split (own_slots old d image.version image.numbers) _ ready.valid).1 j s v at_j at_came;
+        within = rw v_is (version_is t.desc s.desc.version c.0);
+      }
+
+  fact : (l : ℕ) (t : Sub) → slice_get e.subs l ≡ Some t → FactOf t
+  fact l t at_l = elim (look_up d.subs t.desc.name) [ inl none ↦ stayed l t at_l (rw none) (rw none) | inr f ↦ by_came f _ refl ] where
+    by_came : (f : Found d.subs t.desc.name) (o : Option (Option ℕ)) → slice_get image.came f.number ≡ o → FactOf t
+    by_came f (Some (Some v)) at_came = inr (came_is f.number l f.sub t v f.there at_l f.name_is at_came f.found)
+    by_came f None at_came = stayed l t at_l (rw (f.found, at_came)) (rw (f.found, f.there, at_came))
+    by_came f (Some None) at_came = stayed l t at_l (rw (f.found, at_came)) (rw (f.found, f.there, at_came))
+
+  facts_from : (l : ℕ) (ts : List Sub) → RestAt e.subs l ts → Facts old new good_old good_new d e image numbers' came ts
+  facts_from l [] h = tt
+  facts_from l (t ∷ ts) h = (fact l t (at_first (slice_get e.subs) l h), facts_from (suc l) ts (one_on (slice_get e.subs) l h))
+
+  -- all subsections of new
+  facts : Facts old new good_old good_new d e image numbers' came e.subs
+  facts = facts_from 0 e.subs (from_zero (slice_get e.subs))
 
   back : (j : ℕ) (s : Sub) → slice_get d.subs j ≡ Some s → (p : Found e.subs s.desc.name) → find_sub 0 d.subs p.sub.desc.name ≡ Some j
   back j s at_j p = rw p.name_is (sub_found old good_old i j d s at_i at_j)
@@ -116,7 +193,7 @@ module _ (old new : Set) (good_old : WellFormed old) (good_new : WellFormed new)
   abbrev came_here : (j : ℕ) (s : Sub) (v : ℕ) (at_j : slice_get d.subs j ≡ Some s) → slice_get image.came j ≡ Some (Some v) → (p : Found e.subs s.desc.name)
       → Came old new good_old good_new d e image numbers' came p.sub
   came_here j s v at_j at_came p =
-      came_is old new good_old good_new i k d e at_i at_k none image ready numbers' j p.number s p.sub v at_j p.there (sym p.name_is) at_came (back j s at_j p)
+      came_is j p.number s p.sub v at_j p.there (sym p.name_is) at_came (back j s at_j p)
 
   -- ---- each subsection that is present is there once, and spelled
 
@@ -139,14 +216,9 @@ module _ (old new : Set) (good_old : WellFormed old) (good_new : WellFormed new)
       elim (look_up d.subs f.0.desc.name) [
         | inl is ↦ let bad : sub_came old new None (slice_get image.came 0) ≡ Some v = rw is at f.2 in absurd (cc)
         | inr g ↦
-            let came_j : sub_came old new (Some g.number) (slice_get image.came g.number) ≡ Some v = rw g.found at f.2 in
             let found : find_sub 0 e.subs g.sub.desc.name ≡ Some l = rw g.name_is (sub_found new good_new k l e f.0 at_k f.1) in
-            order_has d.subs image.came g.number l v g.sub g.there (came_from _ g.number v came_j) (ap index found)
+            order_has d.subs image.came g.number l v g.sub g.there (came_from _ g.number v (rw g.found at f.2)) (ap index found)
       ]
-
-  abbrev OrderRises : ℕ → List ℕ → Type 0
-  OrderRises j order =
-      Rises (λ o. (v : ℕ) × (o ≡ Some v)) None (λ l. option_and_then (λ t. find_sub 0 d.subs t.desc.name) (slice_get e.subs l)) image'.came j order
 
   module _ (held : Holds numbers' (own_cells new e) rest) where
     one_spell : (j : ℕ) (s : Sub) (v : ℕ) (at_j : slice_get d.subs j ≡ Some s) (at_came : slice_get image.came j ≡ Some (Some v)) (p : Found e.subs s.desc.name)
@@ -155,19 +227,18 @@ module _ (old new : Set) (good_old : WellFormed old) (good_new : WellFormed new)
     one_spell j s v at_j at_came p =
         let c = came_here j s v at_j at_came p in
         let body = zeroed image.numbers (sub_slots old s v image.numbers (sub_place old (own_cells old d) d.subs j)) in
-        let held_t = sub_held old new good_old good_new d e image numbers' came e.subs _ p.number p.sub p.there all_facts held in
+        let held_t = sub_held old new good_old good_new d e image numbers' came e.subs _ p.number p.sub p.there facts held in
         let spells = (sub_reads old new good_old good_new d e image numbers' came p.sub c _ held_t).carries.spells in
         rw (p.there, at_map came e.subs p.number p.sub p.there, c.came) (body, spells, rw p.name_is)
 
     -- the subsections from one on: their bytes, and each that is present once
     record Walk (j : ℕ) (subs : List Sub) (cs : List (Option ℕ)) (place : ℕ) : Type 0 where
       spells : SubsSpell new e image' (sub_order e subs cs) (written_subs old d image place subs cs)
-      rises : (m : ℕ) → m ≤ j → OrderRises m (sub_order e subs cs)
+      rises : (m : ℕ) → m ≤ j → Rises (λ o. (v : ℕ) × (o ≡ Some v)) None (λ l. option_and_then (λ t. find_sub 0 d.subs t.desc.name) (slice_get e.subs l))
+          image'.came m (sub_order e subs cs)
 
     walk : (j place : ℕ) (subs : List Sub) (cs : List (Option ℕ)) → RestAt d.subs j subs → RestAt image.came j cs
         → ((m : ℕ) → sub_place old (own_cells old d) d.subs (j + m) ≡ sub_place old place subs m) → Walk j subs cs place
-    walk j place [] cs h h' h'' = record { spells = refl; rises = λ m le. tt }
-    walk j place (s ∷ subs) [] h h' h'' = record { spells = refl; rises = λ m le. tt }
     walk j place (s ∷ subs) (None ∷ cs) h h' h'' =
         let more = walk (suc j) (place + sub_size old s) subs cs
         (one_on (slice_get d.subs) j h) (one_on (slice_get image.came) j h') (one_on (sub_place old (own_cells old d) d.subs) j h'') in
@@ -179,7 +250,6 @@ module _ (old new : Set) (good_old : WellFormed old) (good_new : WellFormed new)
         let at_j : slice_get d.subs j ≡ Some s = at_first (slice_get d.subs) j h in
         let at_came = at_first (slice_get image.came) j h' in
         let p = sub_pair j s at_j in
-        let c = came_here j s v at_j at_came p in
         let one = rw (at_first (sub_place old (own_cells old d) d.subs) j h'') at (one_spell j s v at_j at_came p) in
         let bytes = sub_head s.desc.name v ++ zeroed image.numbers (sub_slots old s v image.numbers place) in
         record {
@@ -189,11 +259,12 @@ module _ (old new : Set) (good_old : WellFormed old) (good_new : WellFormed new)
             Some v,
             le,
             rw (p.found, p.there) (back j s at_j p),
-            rw (p.found, at_map came e.subs p.number p.sub p.there, c.came),
+            rw (p.found, at_map came e.subs p.number p.sub p.there, (came_here j s v at_j at_came p).came),
             (v, refl),
             more.rises (suc j) (omega arith),
           );
         }
+    walk j place _ _ h h' h'' = record { spells = refl; rises = λ m le. tt }
 
     walked : Walk 0 d.subs image.came (own_cells old d)
     walked =
@@ -208,11 +279,6 @@ module _ (old new : Set) (good_old : WellFormed old) (good_new : WellFormed new)
 
   -- ---- the section
 
-  absent_default : (slots : List Slot) (c : ℕ) → (has_cell slots c ≡ true) ⊎ (get_or numbers' c (pos 0) ≡ get_or (defaults (device_cells new e)) c (pos 0))
-      → has_cell slots c ≡ false → get_or numbers' c (pos 0) ≡ (get_or (device_cells new e) c no_cell).default
-  absent_default slots c (inl has) absent = absurd (cc (has, absent))
-  absent_default slots c (inr is) absent = is ∙ defaults_at _ c
-
   pub section_whole : (part part' : Part) → comparing old new d.desc e.desc d.desc.version part part' ≡ None → is_version_of e.desc d.desc.version ≡ true
       → d.desc.name ≡ e.desc.name → d.instance ≡ e.instance → (id : ℕ) → id < 4294967296 → IsSection new e image' id true (written_section old d image id)
   section_whole part part' same version names instances id lt =
@@ -222,18 +288,16 @@ module _ (old new : Set) (good_old : WellFormed old) (good_new : WellFormed new)
       let good_a = device_good old good_old i d at_i in
       let good_b = device_good new good_new k e at_k in
       let sub_cells = flat_map (λ s. desc_cells (struct_cells new) s.desc) e.subs in
-      let same_v : comparing old new d.desc e.desc v part part' ≡ None = rw ready.version same in
       let fits : FitsAt (desc_cells (struct_cells old) d.desc) numbers 0 =
       fits_left (flat_map (λ s. desc_cells (struct_cells old) s.desc) d.subs) (fits_whole (device_cells old d) numbers ready.normal.cells) in
-      let held_own : Holds numbers' 0 own = holds_left rest (holds_whole numbers') in
-      let own_meets = part_meets old new good_old good_new d.desc e.desc v part part' good_a good_b same_v numbers numbers' 0 fits in
+      let own_meets = part_meets old new good_old good_new d.desc e.desc v part part' good_a good_b (rw ready.version same) numbers numbers' 0 fits in
       let own_size = fit_length cells own own_meets.fits in
       let place_is : 0 + length own ≡ own_cells new e = omega arith in
       let held_rest : Holds numbers' (own_cells new e) rest = holds_at place_is (holds_right own (holds_whole numbers')) in
-      let own_reads = own_meets.reads 0 held_own in
+      let own_reads = own_meets.reads 0 (holds_left rest (holds_whole numbers')) in
       let slots = own_slots new e v numbers' in
       let more = came_slots new e numbers' (own_cells new e) e.subs image'.came in
-      let subs = subs_read old new good_old good_new d e image numbers' came e.subs (own_cells new e) all_facts held_rest in
+      let subs = subs_read old new good_old good_new d e image numbers' came e.subs (own_cells new e) facts held_rest in
       let settled : Settled (slots ++ more) 0 (device_cells new e) numbers' = settled_append own_size own_reads.settled (sym place_is) subs.settled in
       let rules_old = (rules_split (own_slots old d v numbers) (came_slots old d numbers (own_cells old d) d.subs image.came) ready.valid).0 in
       let body = zeroed numbers (own_slots old d v numbers) in
@@ -244,8 +308,10 @@ module _ (old new : Set) (good_old : WellFormed old) (good_new : WellFormed new)
           version = rw ready.version (version_is e.desc d.desc.version version);
           subs = subs.versions;
           cells = (are_fit (device_cells new e) numbers'
-              (fit_append cells sub_cells own rest own_meets.fits (subs_fit old new good_old good_new d e image numbers' came e.subs all_facts)));
-          absent = λ c below absent. let z : 0 + c ≡ c = omega arith in absent_default (slots ++ more) c (rw z at (settled.each c below)) absent;
+              (fit_append cells sub_cells own rest own_meets.fits (subs_fit old new good_old good_new d e image numbers' came e.subs facts)));
+          absent = λ c below absent.
+              let z : 0 + c ≡ c = omega arith in
+              elim (rw z at (settled.each c below)) [ inl has ↦ absurd (cc (has, absent)) | inr is ↦ is ∙ defaults_at _ c ];
         };
         valid = rules_append slots more (own_reads.carries.rules rules_old) subs.rules;
         body = body;

@@ -1,23 +1,18 @@
 -- Bytes of structures, fields and sections, where those of structures end at 2 ^ 32 - 1.
-use Rattle.vms_counter.proofs.Facade.{◌≡◌, ℕ, ◌+◌, ◌*◌, ◌^◌, ◌<◌, true, List, [], ◌∷◌, ◌++◌, length, get_or, map, refl, sym, ap, ◌∙◌, arith, add-one}
-use Rattle.vms_counter.proofs.Facade.{length-map, map-append, Item, Num, Equal, Unused, Struct, capacity_of, first, no_desc, Field, Desc, Device, in_u32}
-use Rattle.vms_counter.proofs.Facade.{is_well_formed, desc_of, device_of, field_of, get_map_at, capped_product, capped_at, item_bytes, fields_bytes}
-use Rattle.vms_counter.proofs.Facade.{struct_bytes, subs_bytes, devices_most, most_small, subs_in, devices_in, LONGEST_SUB_HEAD}
+use Rattle.vms_counter.proofs.Facade.{◌≡◌, ℕ, ◌+◌, ◌*◌, ◌^◌, ◌<◌, true, List, [], ◌∷◌, ◌++◌, length, get_or, map, refl, ◌∙◌, arith, add-one, length-map}
+use Rattle.vms_counter.proofs.Facade.{map-append, Item, Struct, capacity_of, first, no_desc, Field, Desc, Device, in_u32, is_well_formed, desc_of, device_of}
+use Rattle.vms_counter.proofs.Facade.{field_of, get_map_at, capped_product, capped_at, item_bytes, fields_bytes, struct_bytes, subs_bytes, devices_most}
+use Rattle.vms_counter.proofs.Facade.{most_small, subs_in, devices_in, LONGEST_SUB_HEAD}
 use Rattle.vms_spec.specs.Sets as sets
 
 capped_item : (bytes : List ℕ) (n : ℕ) (item : Item) → in_u32 (n * item_bytes (map in_u32 bytes) item) ≡ in_u32 (n * item_bytes bytes item)
-capped_item bytes n (Num kind) = refl
-capped_item bytes n (Equal kind z) = refl
-capped_item bytes n (Unused m) = refl
-capped_item bytes n (Struct j) = ap (λ (b : ℕ). in_u32 (n * b)) (capped_at bytes j) ∙ capped_product n (get_or bytes j 0)
+capped_item bytes n (Struct j) = rw (capped_at bytes j) (capped_product n (get_or bytes j 0))
+capped_item bytes n _ = refl
 
 capped_fields : (bytes : List ℕ) (fs : List sets.Field) → in_u32 (fields_bytes (map in_u32 bytes) fs) ≡ in_u32 (fields_bytes bytes fs)
 capped_fields bytes [] = refl
 capped_fields bytes (f ∷ fs) =
-    let e : in_u32 (capacity_of f.count * item_bytes (map in_u32 bytes) f.item) ≡ in_u32 (capacity_of f.count * item_bytes bytes f.item) =
-    capped_item bytes (capacity_of f.count) f.item in
-    let r : in_u32 (fields_bytes (map in_u32 bytes) fs) ≡ in_u32 (fields_bytes bytes fs) = capped_fields bytes fs in
-    omega (arith, e, r)
+    omega (arith, capped_item bytes (capacity_of f.count) f.item, capped_fields bytes fs)
 
 capped_subs : (bytes : List ℕ) (subs : List sets.Sub) → in_u32 (subs_in (map in_u32 bytes) subs) ≡ in_u32 (subs_in bytes subs)
 capped_subs bytes [] = refl
@@ -35,15 +30,10 @@ unfolding first
 structs_more structs bytes given i d fields own is lt e s same of =
     let ds = map desc_of structs in
     let here : get_or ds i no_desc ≡ desc_of d = get_map_at desc_of structs i d no_desc lt is in
-    let more : struct_bytes ds (i + 1) ≡ struct_bytes ds i ++ fields_bytes (struct_bytes ds i) (get_or ds i no_desc).fields ∷ [] =
-    ap (λ (k : ℕ). struct_bytes ds k) (add-one i) in
+    let more : struct_bytes ds (i + 1) ≡ struct_bytes ds i ++ fields_bytes (struct_bytes ds i) (get_or ds i no_desc).fields ∷ [] = rw (add-one i) in
     let one : own ≡ in_u32 (fields_bytes (struct_bytes ds i) (get_or ds i no_desc).fields) =
-    s ∙ ap (λ (l : List ℕ). in_u32 (fields_bytes l (map field_of fields))) (same ∙ e)
-    ∙ ap (λ (l : List Field). in_u32 (fields_bytes (map in_u32 (struct_bytes ds i)) (map field_of l))) of
-    ∙ capped_fields (struct_bytes ds i) (map field_of d.fields)
-    ∙ ap (λ (x : sets.Desc). in_u32 (fields_bytes (struct_bytes ds i) x.fields)) (sym here) in
-    ap (λ (l : List ℕ). l ++ own ∷ []) e ∙ ap (λ (n : ℕ). map in_u32 (struct_bytes ds i) ++ n ∷ []) one
-    ∙ sym (map-append in_u32 (struct_bytes ds i) (fields_bytes (struct_bytes ds i) (get_or ds i no_desc).fields ∷ [])) ∙ ap (map in_u32) (sym more)
+    s ∙ rw (same, e, of, here) (capped_fields (struct_bytes ds i) (map field_of d.fields)) in
+    rw (more, map-append in_u32 (struct_bytes ds i) (fields_bytes (struct_bytes ds i) (get_or ds i no_desc).fields ∷ []), e, one)
 
 -- ---- the sections of a set
 
@@ -58,17 +48,16 @@ devices_are set (d ∷ devices) = omega (arith, subs_are set d.subs, devices_are
 
 sections_bytes : (set : sets.Set) (n : ℕ) → n ≡ in_u32 (devices_in (map in_u32 (struct_bytes set.structs (length set.structs))) set.devices)
     → n ≡ in_u32 (devices_most set set.devices)
-sections_bytes set n e = e ∙ capped_devices (struct_bytes set.structs (length set.structs)) set.devices ∙ ap in_u32 (devices_are set set.devices)
+sections_bytes set n e = e ∙ capped_devices (struct_bytes set.structs (length set.structs)) set.devices ∙ rw (devices_are set set.devices)
 
 -- a set's sections have fewer bytes than there is room to tell
 pub sections_are : (set : sets.Set) → is_well_formed set ≡ true → (n : ℕ)
     → n ≡ in_u32 (devices_in (map in_u32 (struct_bytes set.structs (length set.structs))) set.devices)
     → (n ≡ devices_most set set.devices) × (n < 2 ^ 27 + 1)
 sections_are set well n h =
-    let e = sections_bytes set n h in
     let few = most_small set well in
-    let is : n ≡ devices_most set set.devices = omega (arith, e, few) in
-    (is, omega (arith, is, few))
+    let is : n ≡ devices_most set set.devices = omega (arith, sections_bytes set n h) in
+    (is, omega arith)
 
 -- the same of what was read of the set
 pub read_bytes : (set : sets.Set) (given : List Desc) (told : List Device) (bytes items : List ℕ) (n : ℕ) → n ≡ in_u32 (devices_in bytes (map device_of told))
@@ -76,8 +65,4 @@ pub read_bytes : (set : sets.Set) (given : List Desc) (told : List Device) (byte
     → items ≡ map in_u32 (struct_bytes (map desc_of given) (length given)) → map desc_of given ≡ set.structs → map device_of told ≡ set.devices
     → n ≡ in_u32 (devices_in (map in_u32 (struct_bytes set.structs (length set.structs))) set.devices)
 read_bytes set given told bytes items n has same is of_structs of_devices =
-    has
-    ∙ ap (λ (l : List ℕ). in_u32 (devices_in l (map device_of told))) (same ∙ is
-    ∙ ap (λ (k : ℕ). map in_u32 (struct_bytes (map desc_of given) k)) (sym (length-map given desc_of))
-    ∙ ap (λ (l : List sets.Desc). map in_u32 (struct_bytes l (length l))) of_structs)
-    ∙ ap (λ (l : List sets.Device). in_u32 (devices_in (map in_u32 (struct_bytes set.structs (length set.structs))) l)) of_devices
+    has ∙ rw (same, is, ← (length-map given desc_of), of_structs, of_devices)

@@ -1,13 +1,13 @@
 -- The names of other crates, and of this crate's `specs`, that the proofs use.
-pub use Rattle.std.proofs.Common.{Bool, Err, IfSome, List, None, Ok, Option, Some, [], add-one, ap, arith, drop, false, get_or, if◌then◌else◌, length, map}
-pub use Rattle.std.proofs.Common.{refl, slice_set, subst, sym, true, ℕ, ◌*◌, ◌++◌, ◌+◌, ◌<◌, ◌==◌, ◌^◌, ◌∙◌, ◌∷◌, ◌≡◌, ◌≤◌}
-pub use Rattle.std.proofs.lemmas.Bool.{eq-eqb, eqb-true}
+pub use Rattle.std.proofs.Common.{Err, IfSome, List, None, Ok, Option, Some, [], add-one, ap, arith, drop, false, get_or, inl, inr, length, map, refl}
+pub use Rattle.std.proofs.Common.{slice_set, subst, sym, true, ℕ, ◌*◌, ◌++◌, ◌+◌, ◌<◌, ◌^◌, ◌∙◌, ◌∷◌, ◌≡◌, ◌≤◌}
+pub use Rattle.std.proofs.lemmas.Bool.{cases_eq}
 pub use Rattle.std.proofs.lemmas.List.{drop_more, length-map, length-set, map-append, map-set}
 pub use Rattle.std.proofs.lemmas.Option.{get_or_from_slice_get, slice_get_read, slice_get_within}
 pub use Rattle.std.specs.List.{slice_get}
 pub use Rattle.vms_kinds.specs.Bytes.{IsBytes}
 pub use Rattle.vms_kinds.specs.declared.Item.{Item}
-pub use Rattle.vms_kinds.specs.declared.Item.TheVariants.{Equal, Num, Struct, Unused}
+pub use Rattle.vms_kinds.specs.declared.Item.TheVariants.{Struct}
 pub use Rattle.vms_spec.proofs.Faultless.{machine_short}
 pub use Rattle.vms_spec.specs.Images.{Image}
 pub use Rattle.vms_spec.specs.Layout.{capacity_of, counted, no_desc}
@@ -28,11 +28,11 @@ pub use Rattle.vms_check.specs.Comparing.{first_mismatch}
 pub use Rattle.vms_check.specs.Wholes.{verdict_of}
 pub use Rattle.vms_check.specs.declared.mismatch.Mismatch.{Mismatch}
 pub use Rattle.vms_check.specs.declared.mismatch.Verdict.TheVariants.{Accepted}
-pub use Rattle.vms_counter.specs.Found.{HasRoom, refusal_of, states_of}
+pub use Rattle.vms_counter.specs.Found.{HasRoom, refusal_of}
 pub use Rattle.vms_counter.specs.Room.{devices_in, subs_in}
 pub use Rattle.vms_counter.specs.Trying.{Tries}
 pub use Rattle.vms_counter_laws.specs.Candidates.{and_raised, default_images, lacking, machine_for, raised}
-pub use Rattle.vms_counter_laws.specs.Counters.{Agree, Counters, Finds, Here, IsFirst, Lacks, Later, NoState, NoneShows, Shows, State}
+pub use Rattle.vms_counter_laws.specs.Counters.{Agree, Counters, Finds, Here, IsFirst, Lacks, Later, NoState, Shows, State}
 pub use Rattle.vms_desc.proofs.AskLaws.{device_is}
 pub use Rattle.vms_desc.proofs.Bounds.{few_machines}
 pub use Rattle.vms_desc.specs.Described.{described}

@@ -1,9 +1,9 @@
 -- The candidates of `counter`: machines and images, and the result of trying them in turn.
-use Rattle.vms_counter.proofs.Facade.{◌≡◌, ℕ, ◌+◌, ◌<◌, Bool, false, List, ◌∷◌, drop, length, get_or, Some, sym, ap, ◌∙◌, refl, if◌then◌else◌, ◌==◌, true}
-use Rattle.vms_counter.proofs.Facade.{slice_set, subst, arith, [], Option, None, IfSome, map, slice_get, drop_more, length-set, slice_get_read, eqb-true}
-use Rattle.vms_counter.proofs.Facade.{eq-eqb, is_one_of, lacking, and_raised, default_images, machine_for, raised, at_set, at_other, Set, Typed, IsImageOf}
-use Rattle.vms_counter.proofs.Facade.{AreImagesOf, state_of, at_option, Image, Mismatch, verdict_of, Accepted, first_mismatch, NoState, State, Shows, IsFirst}
-use Rattle.vms_counter.proofs.Facade.{Here, Later, NoneShows, Counters, Lacks, Finds, refusal_of, Tries, is_among}
+use Rattle.vms_counter.proofs.Facade.{◌≡◌, ℕ, ◌<◌, false, List, ◌∷◌, drop, length, get_or, Some, sym, ◌∙◌, refl, true, slice_set, arith, [], Option, None}
+use Rattle.vms_counter.proofs.Facade.{IfSome, map, slice_get, drop_more, length-set, slice_get_read, cases_eq, inl, inr, is_one_of, lacking, and_raised}
+use Rattle.vms_counter.proofs.Facade.{default_images, machine_for, raised, at_set, at_other, Set, Typed, IsImageOf, AreImagesOf, state_of, at_option, Image}
+use Rattle.vms_counter.proofs.Facade.{Mismatch, verdict_of, Accepted, first_mismatch, NoState, State, Shows, Here, Later, Counters, Lacks, Finds, refusal_of}
+use Rattle.vms_counter.proofs.Facade.{Tries, is_among, subst, IsFirst}
 use Rattle.vms_frames.specs.declared.fault.Refusal.{Refusal as Refused}
 
 -- ---- The first machine that isn't one of those names.
@@ -12,10 +12,8 @@ pub lacks_here : (names machines : List (List ℕ)) (i : ℕ) (m : List ℕ) →
     → lacking names (drop i machines) ≡ lacking names machines
     → slice_get machines i ≡ lacking names machines
 lacks_here names machines i m lt is unknown inv =
-    slice_get_read machines (length machines) i m refl lt is
-    ∙ sym (ap (λ (b : Bool). if b then lacking names (drop (i + 1) machines) else Some m) unknown)
-    ∙ sym (ap (lacking names) (drop_more machines i m lt ∙ ap (λ (x : List ℕ). x ∷ drop (i + 1) machines) (sym is)))
-    ∙ inv
+    let here : Some m ≡ lacking names (drop i machines) = rw (drop_more machines i m lt, ← is, unknown) in
+    slice_get_read machines (length machines) i m refl lt is ∙ here ∙ inv
 
 -- ---- Images of all devices, by their numbers.
 
@@ -24,17 +22,14 @@ pub put_are : (set : Set) (images : List Typed) (k : ℕ) (image : Typed) → Ar
     → AreImagesOf set (slice_set images k image)
 put_are set images k image are lt is = record {
   one_each = length-set images k image ∙ are.one_each;
-  each = λ j x e. by j x e (j == k) refl;
-}
-  where
-    by : (j : ℕ) (x : Typed) → slice_get (slice_set images k image) j ≡ Some x → (b : Bool) → (j == k) ≡ b → IsImageOf set j x
-    by j x e true s =
-        let same : j ≡ k = eqb-true j k s in
+  each = λ j x e. elim (cases_eq j k) [
+    | inl same ↦
         let all = are.one_each in
-        let both : Some image ≡ Some x = sym (at_set images k image (omega (arith, lt, all))) ∙ ap (slice_get (slice_set images k image)) (sym same) ∙ e in
-        let here : image ≡ x = cc in
-        subst (λ (n : ℕ). IsImageOf set n x) (sym same) (subst (λ (y : Typed). IsImageOf set k y) here is)
-    by j x e false s = are.each j x (sym (at_other images k j image (λ same. let t : true ≡ false = sym (eq-eqb j k same) ∙ s in cc)) ∙ e)
+        let here : image ≡ x = cc (at_set images k image (omega arith)) in
+        rw (same, ← here) is
+    | inr other ↦ are.each j x (sym (at_other images k j image other) ∙ e)
+  ];
+}
 
 -- ---- The result of trying the candidates in turn.
 
@@ -57,8 +52,7 @@ named machines machine = by (at_option machines machine) refl
 pub tries_by : (old new : Set) (name k : Option (List ℕ)) (typed images : List Typed) (o r : Option Refused) → k ≡ name → typed ≡ images → o ≡ r
     → Tries old new k (map state_of typed) o → Tries old new name (map state_of images) r
 tries_by old new name k typed images o r named same is t =
-    subst (λ (x : Option (List ℕ)). Tries old new x (map state_of images) r) named
-    (subst (λ (l : List Typed). Tries old new k (map state_of l) r) same (subst (λ (x : Option Refused). Tries old new k (map state_of typed) x) is t))
+    rw (named, same, is) at t
 
 module _ (old new : Set) (m : Mismatch) (first : first_mismatch old new ≡ Some m) where
   -- a candidate that isn't refused doesn't show the mismatch
@@ -71,27 +65,23 @@ module _ (old new : Set) (m : Mismatch) (first : first_mismatch old new ≡ Some
   pub first_found : (images : List Image) (r : Refused) → images ≡ default_images old → Tries old new (machine_for old new m) images (Some r)
       → Counters old new (State m (machine_for old new m) images (refusal_of r))
   first_found images r e t =
-      Finds m images (refusal_of r) t.1.size first
-      (subst (λ (x : List Image). IsFirst old new m images (x ∷ and_raised old new (raised old new m))) e
-      (Here (and_raised old new (raised old new m)) (shown images r t))) t.1.fault
+      let here = Here (and_raised old new (raised old new m)) (shown images r t) in
+      Finds m images (refusal_of r) t.1.size first (subst (λ x. IsFirst old new m images (x ∷ and_raised old new (raised old new m))) e here) t.1.fault
 
   pub second_found : (images : List Image) (r : Refused) → Tries old new (machine_for old new m) (default_images old) None → raised old new m ≡ Some images
       → Tries old new (machine_for old new m) images (Some r) → Counters old new (State m (machine_for old new m) images (refusal_of r))
   second_found images r none e t =
-      Finds m images (refusal_of r) t.1.size first
-      (subst (λ (o : Option (List Image)). IsFirst old new m images (default_images old ∷ and_raised old new o)) (sym e)
-      (Later (default_images old) (images ∷ []) (not_shown (default_images old) none) (Here [] (shown images r t)))) t.1.fault
+      let later = Later (default_images old) (images ∷ []) (not_shown (default_images old) none) (Here [] (shown images r t)) in
+      Finds m images (refusal_of r) t.1.size first (rw e later) t.1.fault
 
   pub none_found : Tries old new (machine_for old new m) (default_images old) None → raised old new m ≡ None → Counters old new (NoState m)
   none_found none e =
-      Lacks m first (subst (λ (o : Option (List Image)). NoneShows old new m (default_images old ∷ and_raised old new o)) (sym e)
-      (not_shown (default_images old) none, tt))
+      Lacks m first (rw e (not_shown (default_images old) none, tt))
 
   pub neither_found : (images : List Image) → Tries old new (machine_for old new m) (default_images old) None → raised old new m ≡ Some images
       → Tries old new (machine_for old new m) images None → Counters old new (NoState m)
   neither_found images none e t =
-      Lacks m first (subst (λ (o : Option (List Image)). NoneShows old new m (default_images old ∷ and_raised old new o)) (sym e)
-      (not_shown (default_images old) none, (not_shown images t, tt)))
+      Lacks m first (rw e (not_shown (default_images old) none, (not_shown images t, tt)))
 
 pub accepted_none : (o : Option Mismatch) → Accepted ≡ verdict_of o → o ≡ None
 accepted_none None e = refl

@@ -8,7 +8,7 @@ use Rattle.vms_image.specs.Typed.{Typed, state_of, AreImagesOf}
 use Rattle.std.specs.declared.alloc.Global.{Global}
 use Rattle.std.specs.declared.vec.Vec.{Vec}
 use Rattle.vms_frames.specs.declared.fault.Refusal.{Refusal as Refused}
-use Rattle.vms_counter_laws.specs.Counters.{Answer, Refusal}
+use Rattle.vms_counter_laws.specs.Counters.{Answer, Counters, Refusal}
 use Rattle.vms_counter_laws.specs.Counters as counters
 use Rattle.vms_counter.specs.declared.finding.Finding.{Finding}
 use Rattle.vms_counter.specs.declared.finding.Finding.TheVariants as findings
@@ -29,11 +29,21 @@ IsFindingOf old findings.Compatible = Unit {0}
 IsFindingOf old (findings.NoState m) = Unit {0}
 IsFindingOf old (findings.State m machine images r) = IfSome machine (λ k. k < length old.machines) × AreImagesOf old images.items
 
+-- The finding is right for the two sets, and its machine and images are the older set's.
+pub record IsRight (old new : Set) (finding : Finding) : Type 0 where
+  pub counters : Counters old new (answer_of old finding)
+  pub of : IsFindingOf old finding
+
 -- No stream of ready images, with a machine of the set or none and without a description, fills the room.
 abbrev pub HasRoom : Set → ℕ → Type 0
 HasRoom set room = (machine : Option (List ℕ)) (images : List Image) → IfSome machine (λ m. is_one_of set.machines m ≡ true) → AreReady set images → length (written set machine images None) < room
 
--- The images of the specification.
+-- The images of the specification, if there are any.
 abbrev pub states_of : Option (Vec Typed Global) → Option (List Image)
 states_of None = None
 states_of (Some images) = Some (map state_of images.items)
+
+-- The images are these of the specification, one for each device of the set, or there are none.
+pub record AreStates (set : Set) (wanted : Option (List Image)) (images : Option (Vec Typed Global)) : Type 0 where
+  pub states : states_of images ≡ wanted
+  pub of : IfSome images (λ x. AreImagesOf set x.items)

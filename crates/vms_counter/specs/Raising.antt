@@ -1,11 +1,13 @@
 -- What the code's raised numbers mean.
-use Rattle.std.specs.Prelude.{◌≡◌, ℕ, ◌<◌, length, ◌==◌, if◌then◌else◌, List, [], ◌∷◌, Option, Some, None}
+use Rattle.std.specs.Prelude.{◌≡◌, ℕ, ◌<◌, length, ◌==◌, if◌then◌else◌, List, [], ◌∷◌, Option, Some, None, IfSome, ℤ, get_or}
+use Rattle.vms_kinds.specs.Codes.{InRange}
+use Rattle.vms_kinds.specs.declared.Kind.TheVariants.{U8}
 use Rattle.vms_spec.specs.declared.Count.{Count}
 use Rattle.vms_spec.specs.declared.Count.TheVariants.{Counted}
 use Rattle.vms_spec.specs.Sets.{Set}
 use Rattle.vms_spec.specs.Images.{Image}
 use Rattle.vms_parts.specs.Devices.{device_at}
-use Rattle.vms_image.specs.Typed.{Typed, state_of}
+use Rattle.vms_image.specs.Typed.{Typed, IsImageOf, state_of}
 use Rattle.vms_counter_laws.specs.Candidates as candidates
 use Rattle.vms_counter.specs.declared.raising.Excess.{Excess}
 
@@ -33,3 +35,13 @@ abbrev pub IsExcess : Set → ℕ → Option (List Image) → Option Excess → 
 IsExcess set k images None = images ≡ None
 IsExcess set k images (Some x) =
     (k < length set.devices) × (images ≡ candidates.with_image (candidates.default_images set) k (candidates.raised_image set k (device_at set k) (as_excess x)))
+
+-- The image is this one of the specification, of device k, or there is none.
+pub record IsState (set : Set) (k : ℕ) (wanted : Option Image) (image : Option Typed) : Type 0 where
+  pub state : image_state image ≡ wanted
+  pub of : IfSome image (IsImageOf set k)
+
+-- The image has this cell, and the number is in the range of the cell's kind.
+pub record Fits (image : Typed) (cell : ℕ) (value : ℤ) : Type 0 where
+  pub inside : cell < length image.numbers
+  pub range : InRange (get_or image.kinds cell U8) value

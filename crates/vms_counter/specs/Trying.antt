@@ -9,7 +9,7 @@ use Rattle.vms_frames.specs.declared.fault.Refusal.{Refusal}
 use Rattle.vms_spec.specs.Lists.{at_option}
 use Rattle.vms_desc.specs.Described.{described}
 use Rattle.vms_check.specs.Comparing.{first_mismatch}
-use Rattle.vms_counter_laws.specs.Candidates.{machine_for}
+use Rattle.vms_counter_laws.specs.Candidates.{default_images, machine_for}
 use Rattle.vms_counter.specs.Found.{HasRoom}
 use Rattle.vms_counter.specs.declared.trying.Trial.{Trial}
 
@@ -39,3 +39,8 @@ pub record IsTrial (trial : Trial) (new : Set) : Type 0 where
   pub name : at_option (described trial.old.now).machines trial.machine ≡ machine_for (described trial.old.now) new trial.mismatch
   pub inside : IfSome trial.machine (λ m. m < length (described trial.old.now).machines)
   pub room : HasRoom (described trial.old.now) trial.room
+
+-- The first candidate doesn't show the mismatch.
+pub record HasFailed (trial : Trial) (new : Set) : Type 0 where
+  pub shared : IsTrial trial new
+  pub first : Tries (described trial.old.now) new (machine_for (described trial.old.now) new trial.mismatch) (default_images (described trial.old.now)) None

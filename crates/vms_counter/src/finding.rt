@@ -1,13 +1,13 @@
 // A state of an older set that shows why a newer one refuses it.
-ghost use Rattle.std.specs.Prelude.{◌≡◌, map, IfOk, Some, None};
+ghost use Rattle.std.specs.Prelude.{◌≡◌, map, IfOk, Some};
 ghost use Rattle.vms_check.specs.Comparing.{first_mismatch};
 ghost use Rattle.vms_image.specs.Typed.{state_of, AreImagesOf};
 ghost use Rattle.vms_desc.specs.Described.{described};
 ghost use Rattle.vms_load.specs.Kept.{loads};
-ghost use Rattle.vms_counter_laws.specs.Candidates.{default_images, machine_for, raised};
+ghost use Rattle.vms_counter_laws.specs.Candidates.{raised};
 ghost use Rattle.vms_counter_laws.specs.Counters.{Counters};
-ghost use Rattle.vms_counter.specs.Found.{answer_of, IsFindingOf};
-ghost use Rattle.vms_counter.specs.Trying.{IsTrial, Tries};
+ghost use Rattle.vms_counter.specs.Found.{answer_of, IsFindingOf, IsRight};
+ghost use Rattle.vms_counter.specs.Trying.{HasFailed, IsTrial};
 
 use crate::candidates::machine_for;
 use crate::room::room;
@@ -69,9 +69,7 @@ fn show(
     new: &mut Loader,
 ) -> Result<Finding, NoMemory>
     requires { first_mismatch (described old.now) (loads new.old) ≡ Some mismatch }
-    ensures found { IfOk result (λ f.
-        Counters (described old.now) (loads new.old) (answer_of (described old.now) f)) }
-    ensures of { IfOk result (IsFindingOf (described old.now)) }
+    ensures right { IfOk result (IsRight (described old.now) (loads new.old)) }
     ensures set { loads new.new ≡ loads new.old }
 {
     let machine = machine_for(old, new.set(), &mismatch);
@@ -87,9 +85,7 @@ fn show(
 
 fn show_first(alloc: Global, trial: &Trial, new: &mut Loader) -> Result<Finding, NoMemory>
     requires { IsTrial trial.now (loads new.old) }
-    ensures found { let old = described trial.now.old.now in IfOk result (λ f.
-        Counters old (loads new.old) (answer_of old f)) }
-    ensures of { IfOk result (IsFindingOf (described trial.now.old.now)) }
+    ensures right { IfOk result (IsRight (described trial.now.old.now) (loads new.old)) }
     ensures set { loads new.new ≡ loads new.old }
 {
     let images = default_images(alloc, trial.old)?;
@@ -106,13 +102,8 @@ fn show_first(alloc: Global, trial: &Trial, new: &mut Loader) -> Result<Finding,
 
 // Tries the second candidate, as the first doesn't show the mismatch.
 fn show_second(alloc: Global, trial: &Trial, new: &mut Loader) -> Result<Finding, NoMemory>
-    requires trial { IsTrial trial.now (loads new.old) }
-    requires tried { let old = described trial.now.old.now in
-        let name = machine_for old (loads new.old) trial.now.mismatch in
-        Tries old (loads new.old) name (default_images old) None }
-    ensures found { let old = described trial.now.old.now in IfOk result (λ f.
-        Counters old (loads new.old) (answer_of old f)) }
-    ensures of { IfOk result (IsFindingOf (described trial.now.old.now)) }
+    requires { HasFailed trial.now (loads new.old) }
+    ensures right { IfOk result (IsRight (described trial.now.old.now) (loads new.old)) }
     ensures set { loads new.new ≡ loads new.old }
 {
     match raised(alloc, trial.old, new.set(), &trial.mismatch)? {
@@ -127,16 +118,11 @@ fn show_last(
     images: Vec<Image>,
     new: &mut Loader,
 ) -> Result<Finding, NoMemory>
-    requires trial { IsTrial trial.now (loads new.old) }
-    requires tried { let old = described trial.now.old.now in
-        let name = machine_for old (loads new.old) trial.now.mismatch in
-        Tries old (loads new.old) name (default_images old) None }
+    requires failed { HasFailed trial.now (loads new.old) }
     requires second { raised (described trial.now.old.now) (loads new.old) trial.now.mismatch
         ≡ Some (map state_of images.items) }
     requires of { AreImagesOf (described trial.now.old.now) images.items }
-    ensures found { let old = described trial.now.old.now in IfOk result (λ f.
-        Counters old (loads new.old) (answer_of old f)) }
-    ensures of { IfOk result (IsFindingOf (described trial.now.old.now)) }
+    ensures right { IfOk result (IsRight (described trial.now.old.now) (loads new.old)) }
     ensures set { loads new.new ≡ loads new.old }
 {
     match tried(alloc, trial, &images, new)? {

@@ -1,15 +1,13 @@
 // One number of a device, raised above the newer set's capacity.
-ghost use Rattle.std.specs.Prelude.{◌≡◌, ◌<◌, length, get_or, map, slice_set, IfSome, IfOk, Some};
+ghost use Rattle.std.specs.Prelude.{◌≡◌, ◌<◌, length, map, slice_set, IfOk, Some};
 ghost use Rattle.std.specs.Bool.{OnTrue};
-ghost use Rattle.vms_kinds.specs.Codes.{InRange};
-ghost use Rattle.vms_kinds.specs.declared.Kind.TheVariants.{U8};
 ghost use Rattle.vms_spec.specs.Layout.{counted};
 ghost use Rattle.vms_spec.specs.Rules.{counts_well};
 ghost use Rattle.vms_parts.specs.Views.{field_of};
 ghost use Rattle.vms_desc.specs.Described.{described, device_at};
-ghost use Rattle.vms_image.specs.Typed.{default_at, IsImageOf};
+ghost use Rattle.vms_image.specs.Typed.{default_at};
 ghost use Rattle.vms_counter_laws.specs.Candidates.{admits, excess, raised_cell, raised_image};
-ghost use Rattle.vms_counter.specs.Raising.{as_excess, counted_here, image_state, map_excess};
+ghost use Rattle.vms_counter.specs.Raising.{as_excess, counted_here, Fits, IsState, map_excess};
 
 use std::alloc::Global;
 use vms_check::least_absent;
@@ -99,8 +97,7 @@ fn admits(set: &DescSet, raise: Raise, image: &Image, cell: u32) -> bool
     requires image { image.now ≡ default_at (described set.now) raise.device }
     ensures admits { result ≡ admits (described set.now)
         (device_at (described set.now) raise.device) raise.field cell raise.value }
-    ensures inside { OnTrue result (cell < length image.now.numbers) }
-    ensures range { OnTrue result (InRange (get_or image.now.kinds cell U8) raise.value) }
+    ensures fits { OnTrue result (Fits image.now cell raise.value) }
 {
     if cell >= image.len() {
         return false;
@@ -122,9 +119,9 @@ pub(crate) fn raised_image(
     excess: Excess,
 ) -> Result<Option<Image>, NoMemory>
     requires device { device < length (described set.now).devices }
-    ensures state { IfOk result (λ o. image_state o ≡ raised_image (described set.now) device
-        (device_at (described set.now) device) (as_excess excess)) }
-    ensures of { IfOk result (λ o. IfSome o (IsImageOf (described set.now) device)) }
+    ensures { IfOk result (IsState (described set.now) device
+        (raised_image (described set.now) device
+        (device_at (described set.now) device) (as_excess excess))) }
 {
     let raise = Raise {
         device,
@@ -145,9 +142,9 @@ fn raised_cell(
     cell: u32,
 ) -> Result<Option<Image>, NoMemory>
     requires device { raise.device < length (described set.now).devices }
-    ensures state { IfOk result (λ o. image_state o ≡ raised_cell (described set.now)
-        (device_at (described set.now) raise.device) raise.field raise.value (Some cell)) }
-    ensures of { IfOk result (λ o. IfSome o (IsImageOf (described set.now) raise.device)) }
+    ensures { IfOk result (IsState (described set.now) raise.device
+        (raised_cell (described set.now)
+        (device_at (described set.now) raise.device) raise.field raise.value (Some cell))) }
 {
     let mut image = Image::new(alloc, set, raise.device)?;
     if !admits(set, raise, &image, cell) {
@@ -158,8 +155,7 @@ fn raised_cell(
 }
 
 fn put(image: &mut Image, cell: u32, value: i128)
-    requires cell { cell < length image.old.numbers }
-    requires range { InRange (get_or image.old.kinds cell U8) value }
+    requires { Fits image.old cell value }
     ensures { image.new ≡ record image.old { numbers = slice_set image.old.numbers cell value } }
 {
     image.set(cell, value);

@@ -1,10 +1,10 @@
 // The second candidate.
-ghost use Rattle.std.specs.Prelude.{◌≡◌, ◌<◌, length, IfSome, IfOk, Some};
+ghost use Rattle.std.specs.Prelude.{◌<◌, length, IfOk, Some};
 ghost use Rattle.std.specs.List.{slice_get};
 ghost use Rattle.vms_desc.specs.Described.{described, device_at};
-ghost use Rattle.vms_image.specs.Typed.{state_of, AreImagesOf, IsImageOf};
+ghost use Rattle.vms_image.specs.Typed.{state_of, IsImageOf};
 ghost use Rattle.vms_counter_laws.specs.Candidates.{default_images, raised, raised_fields, raised_image, with_image};
-ghost use Rattle.vms_counter.specs.Found.{states_of};
+ghost use Rattle.vms_counter.specs.Found.{AreStates};
 ghost use Rattle.vms_counter.specs.Raising.{as_excess, IsExcess};
 
 use crate::raising::{Counting, Excess, find_excess, raised_image};
@@ -33,10 +33,8 @@ pub(crate) fn raised(
     new: &DescSet,
     mismatch: &Mismatch,
 ) -> Result<Option<Vec<Image>>, NoMemory>
-    ensures states { IfOk result (λ o. states_of o
-        ≡ raised (described old.now) (described new.now) mismatch.now) }
-    ensures of { IfOk result (λ o.
-        IfSome o (λ images. AreImagesOf (described old.now) images.items)) }
+    ensures { IfOk result (AreStates (described old.now)
+        (raised (described old.now) (described new.now) mismatch.now)) }
 {
     if mismatch.rule != 11 {
         return Ok(None);
@@ -65,11 +63,10 @@ fn raised_fields(
     older: DeviceField,
     newer: DeviceField,
 ) -> Result<Option<Vec<Image>>, NoMemory>
-    ensures states { IfOk result (λ o. states_of o ≡ raised_fields (described old.now) older.device
+    ensures { IfOk result (AreStates (described old.now)
+        (raised_fields (described old.now) older.device
         (slice_get (described old.now).devices older.device) older.field
-        (slice_get (described new.now).devices newer.device) newer.field) }
-    ensures of { IfOk result (λ o.
-        IfSome o (λ images. AreImagesOf (described old.now) images.items)) }
+        (slice_get (described new.now).devices newer.device) newer.field)) }
 {
     match excess_at(old, new, older, newer) {
         None => Ok(None),
@@ -106,11 +103,10 @@ fn with_raised(
     excess: Excess,
 ) -> Result<Option<Vec<Image>>, NoMemory>
     requires { device < length (described set.now).devices }
-    ensures states { IfOk result (λ o. states_of o ≡ with_image (default_images (described set.now))
-        device (raised_image (described set.now) device
-        (device_at (described set.now) device) (as_excess excess))) }
-    ensures of { IfOk result (λ o.
-        IfSome o (λ images. AreImagesOf (described set.now) images.items)) }
+    ensures { IfOk result (AreStates (described set.now)
+        (with_image (default_images (described set.now)) device
+        (raised_image (described set.now) device
+        (device_at (described set.now) device) (as_excess excess)))) }
 {
     match raised_image(alloc, set, device, excess)? {
         None => Ok(None),
@@ -126,10 +122,8 @@ fn put_image(
 ) -> Result<Option<Vec<Image>>, NoMemory>
     requires device { device < length (described set.now).devices }
     requires image { IsImageOf (described set.now) device image }
-    ensures states { IfOk result (λ o. states_of o ≡ with_image (default_images (described set.now))
-        device (Some (state_of image))) }
-    ensures of { IfOk result (λ o.
-        IfSome o (λ images. AreImagesOf (described set.now) images.items)) }
+    ensures { IfOk result (AreStates (described set.now)
+        (with_image (default_images (described set.now)) device (Some (state_of image)))) }
 {
     let mut images = default_images(alloc, set)?;
     images[device as usize] = image;

@@ -1,18 +1,18 @@
 -- The defaults show three kinds of mismatch, where they are ready.
-use Rattle.vms_counter_laws.proofs.Facade.{◌==◌, if◌then◌else◌, ℕ, subst, ◌≡◌, inl, inr, ◌+◌, ◌^◌, ◌<◌, true, false, List, [], ◌++◌, length, map, Option, Some}
-use Rattle.vms_counter_laws.proofs.Facade.{None, refl, sym, ap, ◌∙◌, arith, append_assoc, append-nil, ℤ, flat_map, slice_get, list_all, lacking, IsBytes, Field}
-use Rattle.vms_counter_laws.proofs.Facade.{Device, Set, FitsHeads, struct_cells, desc_cells, device_cells, Image, Spells, default_image, own_slots, own_cells}
-use Rattle.vms_counter_laws.proofs.Facade.{zeroed, IsVersionOf, be32, magic, stream_head, section_head, configuration, end_mark, foot, written}
-use Rattle.vms_counter_laws.proofs.Facade.{written_sections, written_subs, AreReady, IsReady, Magic, Version, WellFormed, here, find_device, few_devices}
-use Rattle.vms_counter_laws.proofs.Facade.{machine_short, reading_on, falses, defaults_of, is_version, bytes_rest, well_good, device_found, Unknown, AtMagic}
-use Rattle.vms_counter_laws.proofs.Facade.{AtVersion, judge, reading, Headed, at_start, between, by_state, Takes, unit_on, taken_holds, Mismatch, presence}
-use Rattle.vms_counter_laws.proofs.Facade.{reduced, compare_device, compare_fields, comparers, Comparer, Entry, first_mismatch, is_kept, present, position_from}
-use Rattle.vms_counter_laws.proofs.Facade.{FitsAt, fits_left, from_zero, fits_whole, devices_clash, at_map, default_images, machine_for, stream_of, Shows}
-use Rattle.vms_counter_laws.proofs.Facade.{IsPlain, AlwaysShown, OfMachine, OfVersion, OfConstant, Pair, pair, Two}
+use Rattle.vms_counter_laws.proofs.Facade.{◌==◌, if◌then◌else◌, ℕ, subst, ◌≡◌, inl, inr, ◌+◌, ◌^◌, ◌<◌, true, false, List, [], ◌++◌, length, map, Option}
+use Rattle.vms_counter_laws.proofs.Facade.{Some, None, refl, sym, ap, ◌∙◌, arith, append_assoc, append-nil, ℤ, flat_map, slice_get, list_all, lacking}
+use Rattle.vms_counter_laws.proofs.Facade.{IsBytes, Field, Device, Set, FitsHeads, struct_cells, desc_cells, device_cells, Image, Spells, default_image}
+use Rattle.vms_counter_laws.proofs.Facade.{own_slots, own_cells, zeroed, IsVersionOf, be32, magic, stream_head, section_head, configuration, end_mark, foot}
+use Rattle.vms_counter_laws.proofs.Facade.{written, written_sections, written_subs, AreReady, IsReady, Magic, Version, WellFormed, here, find_device}
+use Rattle.vms_counter_laws.proofs.Facade.{few_devices, machine_short, reading_on, falses, defaults_of, is_version, bytes_rest, well_good, device_found}
+use Rattle.vms_counter_laws.proofs.Facade.{Unknown, AtMagic, AtVersion, judge, reading, Headed, at_start, between, by_state, Takes, unit_on, taken_holds}
+use Rattle.vms_counter_laws.proofs.Facade.{Mismatch, presence, reduced, compare_device, compare_fields, comparers, Comparer, Entry, first_mismatch, is_kept}
+use Rattle.vms_counter_laws.proofs.Facade.{present, position_from, FitsAt, fits_left, from_zero, fits_whole, devices_clash, at_map, default_images}
+use Rattle.vms_counter_laws.proofs.Facade.{machine_for, stream_of, Shows, IsPlain, AlwaysShown, OfMachine, OfVersion, OfConstant, Pair, pair, Two}
 use Rattle.vms_spec.specs.declared.Part.TheVariants as parts
 use Rattle.vms_stream.specs.State.{State}
-use Rattle.vms_counter_laws.proofs.Inverted.{else_some, one_rule, struct_no_device, tables_within, IsDevice, OfDevice, of_device, Version as OfItsVersion, Own}
-use Rattle.vms_counter_laws.proofs.Inverted.{Below, IsWithin, part_within, DeviceFails, device_fails, machine_fails}
+use Rattle.vms_counter_laws.proofs.Inverted.{else_some, one_rule, struct_no_device, tables_within, IsDevice, OfDevice, of_device, Version as OfItsVersion}
+use Rattle.vms_counter_laws.proofs.Inverted.{Own, Below, IsWithin, part_within, DeviceFails, device_fails, machine_fails}
 use Rattle.vms_counter_laws.proofs.Devices.{Comes, comes}
 use Rattle.vms_counter_laws.proofs.Machines.{same_head, lacks, machine_untaken}
 use Rattle.vms_counter_laws.proofs.Clashing.{present_fields, clashes}
@@ -27,9 +27,7 @@ module _ (old new : Set) (good_old : WellFormed old) (good_new : WellFormed new)
   behind = written_sections old 0 old.devices images ++ (end_mark ++ [])
 
   whole : written old None images None ≡ stream_head ++ behind
-  whole =
-      append_assoc ((stream_head ++ []) ++ written_sections old 0 old.devices images) end_mark []
-      ∙ append_assoc (stream_head ++ []) (written_sections old 0 old.devices images) (end_mark ++ []) ∙ ap (λ l. l ++ behind) (append-nil stream_head)
+  whole = simp (append_assoc, append-nil)
 
   start_on : (more : List ℕ) → reading (by_state new new.machines) (at_start new) (stream_head ++ more)
       ≡ reading_on (judge (by_state new new.machines))
@@ -87,7 +85,7 @@ module _ (old new : Set) (good_old : WellFormed old) (good_new : WellFormed new)
       spelled : body ++ rest' ≡ zeroed image.numbers (own_slots old d d.desc.version image.numbers) ++ rest
 
     in_turn : (h z w f r : List ℕ) → (((h ++ z) ++ w) ++ f) ++ r ≡ h ++ (z ++ (w ++ (f ++ r)))
-    in_turn h z w f r = append_assoc ((h ++ z) ++ w) f r ∙ append_assoc (h ++ z) w (f ++ r) ∙ append_assoc h z (w ++ (f ++ r))
+    in_turn h z w f r = simp append_assoc
 
     meets : Comes old new good_old good_new heads fails.all_in d image i → Meets
     meets c =
@@ -168,17 +166,10 @@ module _ (old new : Set) (good_old : WellFormed old) (good_new : WellFormed new)
         fields : m.in_old.part ≡ parts.Device i → compare_fields ks d.desc p.device.desc v v (parts.Device i) (parts.Device p.number) (position_from 0 es)
             (position_from 0 fs) es fs ≡ Some m → ⊥
         fields here c =
-            let two : Two = record {
-              ks = ks;
-              a = d.desc;
-              b = p.device.desc;
-              v = v;
-              w = v;
-              part = parts.Device i;
-              part' = parts.Device p.number;
-              o = position_from 0 es;
-              n = position_from 0 fs;
-            } in
+            let o = position_from 0 es in
+            let n = position_from 0 fs in
+            let other = parts.Device p.number in
+            let two : Two = record { ks = ks; a = d.desc; b = p.device.desc; v = v; w = v; part = parts.Device i; part' = other; o = o; n = n } in
             let clash = clashes two m twelve
             (tables_within (struct_cells old) (struct_cells new) old.structs new.structs (length new.structs)) (λ s. struct_no_device m.in_old.part s is_device)
             ((well_good old good_old heads_old).constants i d fails.answers.stands) ((well_good new good_new heads).constants p.number p.device p.stands)
@@ -225,9 +216,7 @@ module _ (old new : Set) (good_old : WellFormed old) (good_new : WellFormed new)
       let named : machine_for old new m ≡ Some l.name = ap (λ (k : ℕ). if k == 1 then lacking new.machines old.machines else None) one ∙ l.is in
       let sections = written_sections old 0 old.devices images in
       let is : written old (Some l.name) images None ≡ stream_head ++ (configuration l.name ++ (sections ++ (end_mark ++ []))) =
-      append_assoc ((stream_head ++ configuration l.name) ++ sections) end_mark []
-      ∙ append_assoc (stream_head ++ configuration l.name) sections (end_mark ++ [])
-      ∙ append_assoc stream_head (configuration l.name) (sections ++ (end_mark ++ [])) in
+      simp append_assoc in
       let short = machine_short old good_old l.name l.known in
       machine_untaken new new.machines l.name (sections ++ (end_mark ++ [])) l.unknown (omega arith) n machine states
       (subst (λ (x : List ℕ). Takes new new.machines x n machine states) (ap (λ (k : Option (List ℕ)). written old k images None) named ∙ is) t)

@@ -68,12 +68,11 @@ unfoldable pub use Rattle.vms_check.specs.Comparing.{first_mismatch}
 pub use Rattle.vms_check.specs.Reducing.{presence, reduced}
 pub use Rattle.vms_check.specs.declared.mismatch.Mismatch.{Mismatch}
 pub use Rattle.vms_check_laws.proofs.AlignedDescs.{Clash, Clashes, Differ}
-pub use Rattle.vms_check_laws.proofs.PositionRead.{devices_clash}
+pub use Rattle.vms_check_laws.proofs.Parts.{devices_clash}
 pub use Rattle.vms_check_laws.proofs.Premises.{Two, kinds_same}
 pub use Rattle.vms_check_laws.proofs.Segments.{RestAt, apart, at_first, fits_left, from_zero, one_on}
 pub use Rattle.vms_check_laws.proofs.Streaming.{Pair, back, compared, device_stands, pair}
-pub use Rattle.vms_check_laws.proofs.SubFacts.{fits_whole, saved}
-pub use Rattle.vms_check_laws.proofs.Wholes.{at_map}
+pub use Rattle.vms_check_laws.proofs.Wholes.{at_map, fits_whole, saved}
 pub use Rattle.vms_check_laws.specs.Laws.{ArePaired}
 pub use Rattle.vms_check_laws.specs.Segments.{FitsAt}
 pub use Rattle.vms_counter_laws.specs.Candidates.{candidates, default_images, lacking, machine_for}

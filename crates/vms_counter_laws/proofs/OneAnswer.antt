@@ -1,8 +1,8 @@
 -- The streams of candidates are bytes.
-use Rattle.vms_counter_laws.proofs.Facade.{sym, subst, ◌≡◌, ℕ, ◌==◌, Bool, true, false, List, [], ◌∷◌, Option, Some, None, IfSome, refl, if◌then◌else◌, ap, ◌∙◌}
+use Rattle.vms_counter_laws.proofs.Facade.{sym, subst, ◌≡◌, ℕ, ◌==◌, true, false, List, [], ◌∷◌, Option, Some, None, IfSome, refl, if◌then◌else◌, ap, ◌∙◌}
 use Rattle.vms_counter_laws.proofs.Facade.{bytes_eq, or_left, or_right, bytes_eq-Decides, IsBytes, Set, Image, is_one_of, WellFormed, bytes_at, machine_bytes}
 use Rattle.vms_counter_laws.proofs.Facade.{written_are_bytes, Mismatch, lacking, machine_for, candidates, stream_of, Refusal, Answer, State, IsFirst, Here}
-use Rattle.vms_counter_laws.proofs.Facade.{Later, NoneShows, Counters, Agree, Lacks, Finds, Reason, Fault, one_fault_holds, first_mismatch, OneAnswerLaw}
+use Rattle.vms_counter_laws.proofs.Facade.{Later, NoneShows, Counters, Agree, Lacks, Finds, Reason, Fault, one_fault_holds, OneAnswerLaw}
 
 -- what is lacking is one of the machines
 more_known : (m : List ℕ) (machines : List (List ℕ)) (o : Option (List ℕ)) → IfSome o (λ x. is_one_of machines x ≡ true)
@@ -13,19 +13,17 @@ more_known m machines (Some x) h = or_right (bytes_eq m x) (is_one_of machines x
 lacking_known : (names machines : List (List ℕ)) → IfSome (lacking names machines) (λ m. is_one_of machines m ≡ true)
 lacking_known names [] = tt
 lacking_known names (m ∷ machines) =
-    let choice : (b : Bool) → IfSome (if b then lacking names machines else Some m) (λ x. is_one_of (m ∷ machines) x ≡ true) = elim [
+    elim (is_one_of names m) as (λ b. IfSome (if b then lacking names machines else Some m) (λ x. is_one_of (m ∷ machines) x ≡ true)) [
       | true ↦ more_known m machines (lacking names machines) (lacking_known names machines)
       | false ↦ or_left (bytes_eq m m) (is_one_of machines m) ((bytes_eq-Decides m m).1 refl)
-    ] in
-    choice (is_one_of names m)
+    ]
 
 pub machine_known : (old new : Set) (m : Mismatch) → IfSome (machine_for old new m) (λ x. is_one_of old.machines x ≡ true)
 machine_known old new m =
-    let choice : (b : Bool) → IfSome (if b then lacking new.machines old.machines else None) (λ x. is_one_of old.machines x ≡ true) = elim [
+    elim (m.rule == 1) as (λ b. IfSome (if b then lacking new.machines old.machines else None) (λ x. is_one_of old.machines x ≡ true)) [
       | true ↦ lacking_known new.machines old.machines
       | false ↦ tt
-    ] in
-    choice (m.rule == 1)
+    ]
 
 pub stream_bytes : (old new : Set) → WellFormed old → (m : Mismatch) (images : List Image) → IsBytes (stream_of old new m images)
 stream_bytes old new well m images =
@@ -44,9 +42,6 @@ module _ (old new : Set) where
   one_first m a b _ (Here more s) (Later _ _ n first) = absurd (n s)
   one_first m a b _ (Later _ more n first) (Here _ t) = absurd (n t)
   one_first m a b _ (Later others more n first) (Later _ _ k second) = one_first m a b more first second
-
-  one_mismatch : (m n : Mismatch) → first_mismatch old new ≡ Some m → first_mismatch old new ≡ Some n → m ≡ n
-  one_mismatch m n e f = cc
 
   -- the bytes of a stream have one fault
   abbrev FaultOf : List ℕ → Refusal → ℕ → Type 0
@@ -73,15 +68,15 @@ module _ (old new : Set) where
     one_answer _ _ (Agree h) (Finds m images r n e first fault) = cc
     one_answer _ _ (Lacks m e none) (Agree h) = cc
     one_answer _ _ (Finds m images r n e first fault) (Agree h) = cc
-    one_answer _ _ (Lacks m e none) (Lacks m' e' none') = rw (one_mismatch m m' e e')
+    one_answer _ _ (Lacks m e none) (Lacks m' e' none') = let same : m ≡ m' = cc in rw same
     one_answer _ _ (Lacks m e none) (Finds m' images r n e' first fault) =
-        let same = one_mismatch m m' e e' in
+        let same : m ≡ m' = cc in
         absurd (none_first m' images (candidates old new m') (subst (λ (x : Mismatch). NoneShows old new x (candidates old new x)) same none) first)
     one_answer _ _ (Finds m images r n e first fault) (Lacks m' e' none') =
-        let same = one_mismatch m' m e' e in
+        let same : m' ≡ m = cc in
         absurd (none_first m images (candidates old new m) (subst (λ (x : Mismatch). NoneShows old new x (candidates old new x)) same none') first)
     one_answer _ _ (Finds m a r n e x f) (Finds m' b s k e' y g) =
-        let same = one_mismatch m' m e' e in
+        let same : m' ≡ m = cc in
         both_found m a b r s n k (stream_bytes old new well m a) x (subst (λ (z : Mismatch). IsFirst old new z b (candidates old new z)) same y) f
         (subst (λ (z : Mismatch). FaultOf (stream_of old new z b) s k) same g) ∙ ap (λ (z : Mismatch). State z (machine_for old new z) b s) (sym same)
 

@@ -1,13 +1,8 @@
 -- Good answers: of members, of lists, and of numbers and texts in their written form.
-use Rattle.std.proofs.Common.{◌≡◌, ℕ, suc, ◌+◌, ◌≤◌, List, [], ◌∷◌, map, Bool, true, false, if◌then◌else◌, Option, Some, None, option_map, ℤ, pos, negsuc, refl, ap, ◌∙◌, decimal, int_le, int_lt, ◌&&◌}
-use Rattle.std.specs.List.{slice_get}
-use Rattle.std.proofs.lemmas.Bool.{le-leb}
-use Rattle.serde_json.specs.Data.{Data, number, null}
-use Rattle.serde_json.specs.Find.{get, of_integer}
-use Rattle.serde_json.specs.View.{items_of}
-use Rattle.vms_json.specs.Answers.{Answer, good, bad, under, next, changed, each_from, list_of}
-use Rattle.vms_json.specs.Members.{member_of, member_or, at, at_or, maybe_at, natural, integer_of, judged}
-use Rattle.vms_descfile.specs.Written.{list_file, natural_file, integer_file}
+use Rattle.vms_descfile.proofs.Facade.{◌≡◌, ℕ, suc, ◌+◌, ◌≤◌, List, [], ◌∷◌, map, Bool, true, false, if◌then◌else◌, Option, Some, None, option_map, ℤ, pos}
+use Rattle.vms_descfile.proofs.Facade.{negsuc, refl, ap, ◌∙◌, decimal, int_le, int_lt, ◌&&◌, slice_get, le-leb, Data, number, null, get, of_integer, items_of}
+use Rattle.vms_descfile.proofs.Facade.{Answer, good, bad, under, next, changed, each_from, list_of, member_of, member_or, at, at_or, maybe_at, natural}
+use Rattle.vms_descfile.proofs.Facade.{integer_of, judged, list_file, natural_file, integer_file}
 use Rattle.vms_descfile.proofs.ObjectLaws.{kept, listed}
 
 pub next_good : {A B : Type 0} (x : Answer A) (a : A) (f : A → Answer B) (r : Answer B) → x ≡ good a → f a ≡ r → next x f ≡ r

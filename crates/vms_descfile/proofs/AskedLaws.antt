@@ -1,15 +1,9 @@
 -- What a description says if it names no field.
-use Rattle.std.proofs.Common.{◌≡◌, ℕ, ◌+◌, Bool, true, false, ◌&&◌, ◌||◌, List, [], ◌∷◌, Option, Some, None, is_some, option_and_then, refl, ap, sym, ◌∙◌, codes, decimal}
-use Rattle.std.proofs.lemmas.Bool.{false≢true, or_parts}
-use Rattle.serde_json.specs.Data.{Data, Items, no_items, item}
-use Rattle.serde_json.specs.Find.{get, as_array}
-use Rattle.vms_json.specs.Answers.{Answer, good, bad, under, next, changed, each_from, each_of, list_of}
-use Rattle.vms_json.specs.Keys.{has}
-use Rattle.vms_json.specs.Members.{judged, member_of, member_or, at, at_or, maybe_at, u16_of, u32_of, text_of}
-use Rattle.vms_json.specs.Names.{Names, names_if, name_in}
-use Rattle.vms_descfile.specs.Fields.{Front, sort_of, count_as, count_of, front_of, presence_of, field_after, field_of, field_fits}
-use Rattle.vms_descfile.specs.Descs.{Head, head_of, rest_of, struct_in, sub_of, whole_in}
-use Rattle.vms_json.specs.Asked.{asks_a_name, some_ask, asks_in, asks_names}
+use Rattle.vms_descfile.proofs.Facade.{◌≡◌, ℕ, ◌+◌, Bool, true, false, ◌&&◌, ◌||◌, List, [], ◌∷◌, Option, Some, None, is_some, option_and_then, refl, ap, sym}
+use Rattle.vms_descfile.proofs.Facade.{◌∙◌, codes, decimal, false≢true, or_parts, Data, Items, no_items, item, get, as_array, Answer, good, bad, under, next}
+use Rattle.vms_descfile.proofs.Facade.{changed, each_from, each_of, list_of, has, judged, member_of, member_or, at, at_or, maybe_at, u16_of, u32_of, text_of}
+use Rattle.vms_descfile.proofs.Facade.{Names, names_if, name_in, Front, sort_of, count_as, count_of, front_of, presence_of, field_after, field_of, field_fits}
+use Rattle.vms_descfile.proofs.Facade.{Head, head_of, rest_of, struct_in, sub_of, whole_in, asks_a_name, some_ask, asks_in, asks_names}
 
 -- ---- a member that doesn't exist
 

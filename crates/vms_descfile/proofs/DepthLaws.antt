@@ -1,19 +1,9 @@
 -- A test says the same within each bound that is at least its value's number of levels.
-use Rattle.std.proofs.Common.{◌≡◌, ℕ, zero, suc, ◌≤◌, max, List, Option, Some, None, Ordering, Less, Equal, Greater, refl, sym, ap, ap₂, subst, arith, codes}
-use Rattle.std.proofs.lemmas.Option.{same_Some}
-use Rattle.std.specs.Ordering.{nat_cmp, match_ordering}
-use Rattle.std.specs.Cmp.Lexicographic.{slice_cmp}
-use Rattle.serde_json.specs.Data.{Data, null, boolean, number, string, array, object, no_items, item, Members, no_members, member, depth, members_depth}
-use Rattle.serde_json.specs.Find.{get, get_member}
-use Rattle.vms_spec.specs.Sets.{Formula}
-use Rattle.vms_json.specs.declared.parse.TheConstants.{DEEPEST}
-use Rattle.vms_descfile.specs.declared.read.cells.Form.{Form}
+use Rattle.vms_descfile.proofs.Facade.{◌≡◌, ℕ, zero, suc, ◌≤◌, max, List, Option, Some, None, Ordering, Less, Equal, Greater, refl, sym, ap, ap₂, subst, arith}
+use Rattle.vms_descfile.proofs.Facade.{codes, same_Some, nat_cmp, match_ordering, slice_cmp, Data, null, boolean, number, string, array, object, no_items, item}
+use Rattle.vms_descfile.proofs.Facade.{Members, no_members, member, depth, members_depth, get, get_member, Formula, DEEPEST, Form, Answer, good, bad, under}
+use Rattle.vms_descfile.proofs.Facade.{next, changed, member_of, Scope, Pair, key_of, joined, two_of, both, form_of, test_as, test_within, DepthLaw}
 use Rattle.vms_descfile.specs.declared.read.cells.Form.TheVariants as forms
-use Rattle.vms_json.specs.Answers.{Answer, good, bad, under, next, changed}
-use Rattle.vms_json.specs.Members.{member_of}
-use Rattle.vms_json.specs.Names.{Scope}
-use Rattle.vms_descfile.specs.Tests.{Pair, key_of, joined, two_of, both, form_of, test_as, test_within}
-use Rattle.vms_descfile.specs.Depths.{DepthLaw}
 
 -- ---- the parts of a value have fewer levels
 

@@ -1,29 +1,15 @@
 -- Descriptions, devices and sets can be read back from their files.
-use Rattle.std.proofs.Common.{◌≡◌, ℕ, ◌≤◌, List, ◌∷◌, get_or, length, map, Bool, true, false, ◌&&◌, ◌==◌, nat_le, Option, Some, None, refl, sym, ap, ◌∙◌, subst, codes, arith, []}
-use Rattle.std.specs.List.{slice_get}
+use Rattle.vms_descfile.proofs.Facade.{◌≡◌, ℕ, ◌≤◌, List, ◌∷◌, get_or, length, map, Bool, true, false, ◌&&◌, ◌==◌, nat_le, Option, Some, None, refl, sym, ap}
+use Rattle.vms_descfile.proofs.Facade.{◌∙◌, subst, codes, arith, [], slice_get, and_parts, eqb-true, leb-true, false≢true, Data, Members, string, object, put}
+use Rattle.vms_descfile.proofs.Facade.{get, as_str, as_array, items_of, Formula, Field, Desc, Count, One, Fixed, Counted, nodes, is_small_test}
+use Rattle.vms_descfile.proofs.Facade.{is_small_optional, is_small_item, is_steady_in, is_earlier_in, names_well, nobody, test_names_well, count_names_well}
+use Rattle.vms_descfile.proofs.Facade.{is_counting, defaults_well, counts_well, counted, has_few, Clean, good, under, changed, list_of, first_of, names_of}
+use Rattle.vms_descfile.proofs.Facade.{names_of_list, text_or_none, member_or, at, at_or, maybe_at, u32_of, text_of, Names, Scope, names_if, number_in, DEEPEST}
+use Rattle.vms_descfile.proofs.Facade.{test_of, field_of, desc_needs, desc_allows, Head, head_of, minimum_or, rest_of, struct_in, struct_of, FitsTest}
+use Rattle.vms_descfile.proofs.Facade.{FitsOptional, FitsDesc, list_file, natural_file, own_names, counter_in, test_file, field_file, desc_members, struct_file}
 use Rattle.std.specs.Option.{option_and_then}
-use Rattle.std.proofs.lemmas.Bool.{and_parts, eqb-true, leb-true, false≢true}
-use Rattle.serde_json.specs.Data.{Data, Members, string, object, put}
-use Rattle.serde_json.specs.Find.{get, as_str, as_array}
-use Rattle.serde_json.specs.View.{items_of}
-use Rattle.vms_spec.specs.Sets.{Formula, Field, Desc}
-use Rattle.vms_spec.specs.declared.Count.{Count}
-use Rattle.vms_spec.specs.declared.Count.TheVariants.{One, Fixed, Counted}
-use Rattle.vms_spec.specs.Rules.{nodes, depth, is_small_test, is_small_optional, is_small_item, is_steady_in, is_earlier_in, names_well, nobody, test_names_well, count_names_well, is_counting, defaults_well, counts_well}
-use Rattle.vms_spec.specs.Layout.{counted}
-use Rattle.vms_spec.specs.WellFormed.{has_few}
-use Rattle.vms_spec.proofs.WellFormedLaws.{Clean}
-use Rattle.vms_json.specs.Answers.{good, under, changed, list_of}
-use Rattle.vms_json.specs.Index.{first_of, names_of, names_of_list, text_or_none}
+use Rattle.vms_spec.specs.Rules.{depth}
 use Rattle.vms_json.specs.Keys.{fits as keys_fit}
-use Rattle.vms_json.specs.Members.{member_or, at, at_or, maybe_at, u32_of, text_of}
-use Rattle.vms_json.specs.Names.{Names, Scope, names_if, number_in}
-use Rattle.vms_json.specs.declared.parse.TheConstants.{DEEPEST}
-use Rattle.vms_descfile.specs.Tests.{test_of}
-use Rattle.vms_descfile.specs.Fields.{field_of}
-use Rattle.vms_descfile.specs.Descs.{desc_needs, desc_allows, Head, head_of, minimum_or, rest_of, struct_in, struct_of}
-use Rattle.vms_descfile.specs.Fitting.{FitsTest, FitsOptional, FitsDesc}
-use Rattle.vms_descfile.specs.Written.{list_file, natural_file, own_names, counter_in, test_file, field_file, desc_members, struct_file}
 use Rattle.vms_descfile.proofs.ObjectLaws.{Table, put_if, members_in, object_of, found, or_none, got, table_fits, kept, listed, unless_if, list_if}
 use Rattle.vms_descfile.proofs.AnswerLaws.{next_good, judged_good, at_good, list_good, list_or_good, natural_good}
 use Rattle.vms_descfile.proofs.ShownLaws.{asked, number_shown, test_shown, field_shown, desc_shown}

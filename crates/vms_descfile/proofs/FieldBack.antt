@@ -1,30 +1,17 @@
 -- A field can be read back from its file.
-use Rattle.std.proofs.Common.{◌≡◌, ℕ, ◌≤◌, List, [], ◌∷◌, get_or, map, Bool, true, false, not, ◌&&◌, ◌==◌, if◌then◌else◌, Option, Some, None, option_map, is_some, ℤ, pos, negsuc, int_le, int_lt, IfSome, refl, sym, ap, ◌∙◌, subst, codes, arith}
+use Rattle.vms_descfile.proofs.Facade.{◌≡◌, ℕ, ◌≤◌, List, [], ◌∷◌, get_or, map, Bool, true, false, not, ◌&&◌, ◌==◌, if◌then◌else◌, Option, Some, None}
+use Rattle.vms_descfile.proofs.Facade.{option_map, is_some, ℤ, pos, negsuc, int_le, int_lt, IfSome, refl, sym, ap, ◌∙◌, subst, codes, arith, and_parts}
+use Rattle.vms_descfile.proofs.Facade.{and_from, eqb-true, false≢true, ints, Data, Members, string, object, get, as_str, Kind, Item, Count, One, Fixed, Counted}
+use Rattle.vms_descfile.proofs.Facade.{Formula, Field, in_range, defaults_well, same_number, ranges, Sort, good, given, list_of, fits, at, at_or, maybe_at}
+use Rattle.vms_descfile.proofs.Facade.{u16_of, u32_of, integer_of, text_of, Names, number_in, name_in, test_of, sort_named, sort_of, counts_fit, values_fit}
+use Rattle.vms_descfile.proofs.Facade.{sort_fits, field_needs, field_allows, field_fits, count_as, count_of, item_as, front_of, field_after, field_in, field_of}
+use Rattle.vms_descfile.proofs.Facade.{FitsField, natural_file, integer_file, is_zero, item_word, capacity_in, length_in, counter_in, equal_in, size_in}
+use Rattle.vms_descfile.proofs.Facade.{test_file, front_file, field_file}
 use Rattle.std.specs.Option.{option_and_then}
-use Rattle.std.proofs.lemmas.Bool.{and_parts, and_from, eqb-true, false≢true}
-use Rattle.std.proofs.lemmas.Int.{ints}
-use Rattle.serde_json.specs.Data.{Data, Members, string, object}
-use Rattle.serde_json.specs.Find.{get, as_str}
-use Rattle.vms_kinds.specs.declared.Kind.{Kind}
 use Rattle.vms_kinds.specs.declared.Kind.TheVariants as kinds
-use Rattle.vms_kinds.specs.declared.Item.{Item}
 use Rattle.vms_kinds.specs.declared.Item.TheVariants as items
-use Rattle.vms_spec.specs.declared.Count.{Count}
-use Rattle.vms_spec.specs.declared.Count.TheVariants.{One, Fixed, Counted}
-use Rattle.vms_spec.specs.Sets.{Formula, Field}
-use Rattle.vms_spec.specs.Rules.{in_range, defaults_well}
-use Rattle.vms_spec.specs.Numbers.{same_number}
-use Rattle.vms_spec.proofs.WellFormedLaws.{ranges}
-use Rattle.vms_descfile.specs.declared.read.sort.Sort.{Sort}
 use Rattle.vms_descfile.specs.declared.read.sort.Sort.TheVariants as sorts
-use Rattle.vms_json.specs.Answers.{good, given, list_of}
-use Rattle.vms_json.specs.Keys.{fits}
-use Rattle.vms_json.specs.Members.{at, at_or, maybe_at, u16_of, u32_of, integer_of, text_of}
-use Rattle.vms_json.specs.Names.{Names, number_in, name_in}
-use Rattle.vms_descfile.specs.Tests.{test_of}
-use Rattle.vms_descfile.specs.Fields.{sort_named, sort_of, counts_fit, values_fit, sort_fits, field_needs, field_allows, field_fits, count_as, count_of, item_as, front_of, field_after, field_in, field_of}
-use Rattle.vms_descfile.specs.Fitting.{FitsField}
-use Rattle.vms_descfile.specs.Written.{natural_file, integer_file, is_zero, item_word, capacity_in, length_in, counter_in, equal_in, size_in, struct_in, test_file, front_file, field_file}
+use Rattle.vms_descfile.specs.Written.{struct_in}
 use Rattle.vms_descfile.proofs.PlainLaws.{number_named}
 use Rattle.vms_descfile.proofs.ObjectLaws.{Table, put_if, members_in, object_of, or_none, got, table_fits, kept, listed, given_if, unless_if, list_if}
 use Rattle.vms_descfile.proofs.AnswerLaws.{next_good, judged_good, at_good, maybe_good, default_good, list_or_good, natural_good, integer_good}

@@ -1,15 +1,8 @@
 -- What a text says, by what its value says.
-use Rattle.std.proofs.Common.{◌≡◌, ℕ, List, Some, sym, ap, ◌∙◌, Err}
-use Rattle.serde_json.specs.Data.{Data}
-use Rattle.vms_spec.specs.Sets.{Set}
-use Rattle.vms_json.specs.declared.fault.Fault.{Fault}
+use Rattle.vms_descfile.proofs.Facade.{◌≡◌, ℕ, List, Some, sym, ap, ◌∙◌, Err, Data, Set, Fault, FileFault, Answer, Refuses, parts_of, Shape, parts_said}
+use Rattle.vms_descfile.proofs.Facade.{value_said, value_in, file_said, Gives, GivesValue, IsFileFault}
 use Rattle.vms_json.specs.declared.fault.Fault.TheVariants as faults
-use Rattle.vms_descfile.specs.declared.file_fault.FileFault.{FileFault}
 use Rattle.vms_descfile.specs.declared.file_fault.FileFault.TheVariants as file_faults
-use Rattle.vms_json.specs.Answers.{Answer, Refuses}
-use Rattle.vms_descfile.specs.Descs.{parts_of}
-use Rattle.vms_descfile.specs.Files.{Shape, parts_said, value_said, value_in, file_said}
-use Rattle.vms_descfile.specs.Given.{Gives, GivesValue, IsFileFault}
 
 pub no_json : (text : List ℕ) (fault : FileFault) → GivesValue (value_in text) (Err fault) → Gives (file_said text) (Err fault)
 unfolding file_said

@@ -1,22 +1,15 @@
 -- The file of a well-formed set has fewer levels than what can be read back.
-use Rattle.std.proofs.Common.{◌≡◌, ℕ, suc, ◌+◌, ◌≤◌, List, [], ◌∷◌, map, Bool, true, false, nat_le, Option, Some, None, ℤ, pos, negsuc, codes, get_or, Ordering, Less, Equal, Greater, int_le, int_lt, ◌&&◌, ◌==◌, if◌then◌else◌, arith, length, subst, refl}
-use Rattle.std.specs.List.{slice_get}
-use Rattle.std.specs.Ordering.{nat_cmp, match_ordering}
-use Rattle.std.specs.Cmp.Lexicographic.{slice_cmp}
-use Rattle.std.proofs.lemmas.Bool.{and_parts, leb-true}
-use Rattle.serde_json.specs.Data.{Data, Members, no_members, member, put, string, number, null, depth, items_depth, members_depth}
-use Rattle.serde_json.specs.Find.{of_integer}
-use Rattle.serde_json.specs.Read.{max_depth}
-use Rattle.serde_json.specs.View.{items_of}
-use Rattle.vms_spec.specs.Sets.{Formula, AtLeast, Below, Cell, Not, And, Or, Field, Desc, Sub, Device, Set}
-use Rattle.vms_spec.specs.declared.Whose.TheVariants.{Own, Parent}
-use Rattle.vms_spec.specs.declared.Rel.{Rel}
+use Rattle.vms_descfile.proofs.Facade.{◌≡◌, ℕ, suc, ◌+◌, ◌≤◌, List, [], ◌∷◌, map, Bool, true, false, nat_le, Option, Some, None, ℤ, pos, negsuc, codes, get_or}
+use Rattle.vms_descfile.proofs.Facade.{Ordering, Less, Equal, Greater, int_le, int_lt, ◌&&◌, ◌==◌, if◌then◌else◌, arith, length, subst, refl, slice_get}
+use Rattle.vms_descfile.proofs.Facade.{nat_cmp, match_ordering, slice_cmp, and_parts, leb-true, Data, Members, no_members, member, put, string, number, null}
+use Rattle.vms_descfile.proofs.Facade.{depth, items_depth, members_depth, of_integer, max_depth, items_of, Formula, AtLeast, Below, Cell, Not, And, Or, Field}
+use Rattle.vms_descfile.proofs.Facade.{Desc, Sub, Device, Set, Own, Parent, Rel, nodes, is_small_test, is_small_optional, is_small_item, WellFormed, has_few}
+use Rattle.vms_descfile.proofs.Facade.{struct_rules, device_rules, sub_rules, Clean, struct_clean, device_parts, sub_clean, list_file, natural_file, given_as}
+use Rattle.vms_descfile.proofs.Facade.{unless, list_as, own_names, is_zero, item_word, capacity_in, length_in, counter_in, equal_in, size_in, rel_file}
+use Rattle.vms_descfile.proofs.Facade.{test_file, integer_file, front_file, field_file, desc_members, struct_file, sub_file, whole_file, device_file, set_file}
 use Rattle.vms_spec.specs.declared.Rel.TheVariants as rels
-use Rattle.vms_spec.specs.Rules.{nodes, is_small_test, is_small_optional, is_small_item}
 use Rattle.vms_spec.specs.Rules as rules
-use Rattle.vms_spec.specs.WellFormed.{WellFormed, has_few, struct_rules, device_rules, sub_rules}
-use Rattle.vms_spec.proofs.WellFormedLaws.{Clean, struct_clean, device_parts, sub_clean}
-use Rattle.vms_descfile.specs.Written.{list_file, natural_file, given_as, unless, list_as, own_names, is_zero, item_word, capacity_in, length_in, counter_in, equal_in, size_in, struct_in, rel_file, test_file, integer_file, front_file, field_file, desc_members, struct_file, sub_file, whole_file, device_file, set_file}
+use Rattle.vms_descfile.specs.Written.{struct_in}
 
 in_order : (n : ℕ) (o : Ordering) (a b c : Members) → members_depth a ≤ n → members_depth b ≤ n → members_depth c ≤ n → members_depth (match_ordering o a b c) ≤ n
 in_order n Less a b c p q r = p

@@ -1,20 +1,8 @@
 -- The fields that a test or a count may name are found by their names.
-use Rattle.std.proofs.Common.{◌≡◌, ℕ, zero, suc, ◌+◌, ◌<◌, ◌≤◌, List, ◌∷◌, ◌++◌, length, get_or, take, min, Bool, true, false, not, cond, nat_lt, nat_le, Option, Some, None, refl, ap, ◌∙◌, arith, []}
-use Rattle.std.specs.List.{position, position_or_len, slice_get}
-use Rattle.std.specs.Str.{bytes_eq}
-use Rattle.std.proofs.lemmas.Bool.{and_parts, or_parts, not-true, leb-true, lt-ltb}
-use Rattle.std.proofs.lemmas.List.{length-map}
-use Rattle.std.proofs.lemmas.Slice.Eq.{bytes_eq-Decides}
-use Rattle.vms_spec.specs.Sets.{Field, Desc}
-use Rattle.vms_spec.specs.Names.{all_names, are_new}
-use Rattle.vms_spec.specs.Streams.{is_one_of}
-use Rattle.vms_spec.specs.Rules.{is_steady, is_steady_in, is_earlier_in}
-use Rattle.vms_spec.specs.WellFormed.{has_few}
-use Rattle.vms_spec.proofs.WellFormedLaws.{Clean}
-use Rattle.std.proofs.lemmas.Option.{slice_get_within}
-use Rattle.vms_json.specs.Answers.{good}
-use Rattle.vms_json.specs.Names.{number_in, numbered}
-use Rattle.vms_descfile.specs.Written.{own_names}
+use Rattle.vms_descfile.proofs.Facade.{◌≡◌, ℕ, zero, suc, ◌+◌, ◌<◌, ◌≤◌, List, ◌∷◌, ◌++◌, length, get_or, take, min, Bool, true, false, not, cond, nat_lt}
+use Rattle.vms_descfile.proofs.Facade.{nat_le, Option, Some, None, refl, ap, ◌∙◌, arith, [], position, position_or_len, slice_get, bytes_eq, and_parts}
+use Rattle.vms_descfile.proofs.Facade.{or_parts, not-true, leb-true, lt-ltb, length-map, bytes_eq-Decides, slice_get_within, Field, Desc, all_names, are_new}
+use Rattle.vms_descfile.proofs.Facade.{is_one_of, is_steady, is_steady_in, is_earlier_in, has_few, Clean, good, number_in, numbered, own_names}
 use Rattle.vms_descfile.proofs.ShownLaws.{asked, number_shown}
 
 neither : (ns ms : List (List ℕ)) (n : List ℕ) → is_one_of (ns ++ ms) n ≡ false → is_one_of ms n ≡ false

@@ -1,6 +1,5 @@
 -- Lists of parts whose numbers fit.
-use Rattle.std.proofs.Common.{◌≡◌, ℕ, zero, suc, List, [], ◌∷◌, get_or, map, Some, refl, ap, ◌∙◌, subst}
-use Rattle.std.specs.List.{slice_get}
+use Rattle.vms_descfile.proofs.Facade.{◌≡◌, ℕ, zero, suc, List, [], ◌∷◌, get_or, map, Some, refl, ap, ◌∙◌, subst, slice_get}
 
 pub at_is : {A : Type 0} (xs : List A) (i : ℕ) (x y : A) → x ≡ get_or xs i x → slice_get xs i ≡ Some y → x ≡ y
 at_is [] i x y is there = cc

@@ -1,17 +1,13 @@
 -- The file of a set has no number with a fraction.
-use Rattle.std.proofs.Common.{◌≡◌, ℕ, Bool, true, false, List, ◌∷◌, map, refl, Option, Some, None, ℤ, pos, negsuc, codes, get_or, Ordering, Less, Equal, Greater, int_le, int_lt, ◌&&◌, ◌==◌, if◌then◌else◌, ◌||◌, []}
-use Rattle.std.specs.Ordering.{nat_cmp, match_ordering}
-use Rattle.std.specs.Cmp.Lexicographic.{slice_cmp}
-use Rattle.std.proofs.lemmas.Bool.{or_from, or_parts}
-use Rattle.serde_json.specs.Data.{Data, Members, no_members, member, put, string, number, null}
-use Rattle.serde_json.specs.Find.{of_integer}
-use Rattle.serde_json.specs.View.{items_of}
-use Rattle.serde_json.specs.Written.{has_float, items_have_float, members_have_float}
-use Rattle.vms_spec.specs.Sets.{Formula, AtLeast, Below, Cell, Not, And, Or, Field, Desc, Sub, Device, Set}
-use Rattle.vms_spec.specs.declared.Rel.{Rel}
+use Rattle.vms_descfile.proofs.Facade.{◌≡◌, ℕ, Bool, true, false, List, ◌∷◌, map, refl, Option, Some, None, ℤ, pos, negsuc, codes, get_or, Ordering, Less}
+use Rattle.vms_descfile.proofs.Facade.{Equal, Greater, int_le, int_lt, ◌&&◌, ◌==◌, if◌then◌else◌, ◌||◌, [], nat_cmp, match_ordering, slice_cmp, or_from}
+use Rattle.vms_descfile.proofs.Facade.{or_parts, Data, Members, no_members, member, put, string, number, null, of_integer, items_of, has_float}
+use Rattle.vms_descfile.proofs.Facade.{items_have_float, members_have_float, Formula, AtLeast, Below, Cell, Not, And, Or, Field, Desc, Sub, Device, Set, Rel}
+use Rattle.vms_descfile.proofs.Facade.{Own, Parent, list_file, natural_file, given_as, unless, list_as, own_names, is_zero, only, item_word, capacity_in}
+use Rattle.vms_descfile.proofs.Facade.{length_in, counter_in, equal_in, size_in, rel_file, pair_file, compared_file, test_file, integer_file, front_file}
+use Rattle.vms_descfile.proofs.Facade.{field_file, desc_members, struct_file, sub_file, whole_file, device_file, set_file}
 use Rattle.vms_spec.specs.declared.Rel.TheVariants as rels
-use Rattle.vms_spec.specs.declared.Whose.TheVariants.{Own, Parent}
-use Rattle.vms_descfile.specs.Written.{list_file, natural_file, given_as, unless, list_as, own_names, is_zero, only, item_word, capacity_in, length_in, counter_in, equal_in, size_in, struct_in, rel_file, pair_file, compared_file, test_file, integer_file, front_file, field_file, desc_members, struct_file, sub_file, whole_file, device_file, set_file}
+use Rattle.vms_descfile.specs.Written.{struct_in}
 
 -- data, and members, without such a number
 abbrev IsWhole : Data → Type 0

@@ -1,8 +1,10 @@
+mod Rows
 pub mod AnswerLaws
 pub mod AskedLaws
 pub mod BuiltLaws
 pub mod DepthLaws
 pub mod DescBack
+pub mod Facade
 pub mod FieldBack
 pub mod FileLaws
 pub mod FileLevels
@@ -11,7 +13,6 @@ pub mod FitLaws
 pub mod FloatLaws
 pub mod ObjectLaws
 pub mod PlainLaws
-mod Rows
 pub mod SetBack
 pub mod SetLaws
 pub mod ShownLaws

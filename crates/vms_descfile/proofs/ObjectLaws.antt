@@ -1,16 +1,8 @@
 -- Objects whose members may be missing, and the values under their keys.
-use Rattle.std.proofs.Common.{◌≡◌, ℕ, List, [], ◌∷◌, ◌++◌, Bool, true, false, ◌&&◌, if◌then◌else◌, Option, Some, None, is_some, option_map, Ordering, Less, Equal, Greater, refl, ap, sym, ◌∙◌}
-use Rattle.std.specs.Ordering.{nat_cmp, match_ordering}
-use Rattle.std.specs.Cmp.Lexicographic.{slice_cmp}
-use Rattle.std.specs.Str.{bytes_eq}
-use Rattle.std.proofs.lemmas.Bool.{false≢true, and_parts, and_from}
-use Rattle.std.proofs.lemmas.Slice.Eq.{bytes_eq-Decides}
-use Rattle.serde_json.specs.Data.{Data, Members, no_members, member, object, put}
-use Rattle.serde_json.specs.Find.{get, get_member}
-use Rattle.serde_json.proofs.Views.{get_member-put, get_member-put_other}
-use Rattle.vms_spec.specs.Streams.{is_one_of}
-use Rattle.vms_json.specs.Keys.{has, has_no_others, has_all, fits}
-use Rattle.vms_descfile.specs.Written.{list_file, given_as, unless, list_as}
+use Rattle.vms_descfile.proofs.Facade.{◌≡◌, ℕ, List, [], ◌∷◌, ◌++◌, Bool, true, false, ◌&&◌, if◌then◌else◌, Option, Some, None, is_some, option_map, Ordering}
+use Rattle.vms_descfile.proofs.Facade.{Less, Equal, Greater, refl, ap, sym, ◌∙◌, nat_cmp, match_ordering, slice_cmp, bytes_eq, false≢true, and_parts, and_from}
+use Rattle.vms_descfile.proofs.Facade.{bytes_eq-Decides, Data, Members, no_members, member, object, put, get, get_member, get_member-put, get_member-put_other}
+use Rattle.vms_descfile.proofs.Facade.{is_one_of, has, has_no_others, has_all, fits, list_file, given_as, unless, list_as}
 
 -- the members of a table, of which the last is put first
 abbrev pub Table : Type 0

@@ -1,17 +1,8 @@
 -- Fields with a kind of number, a name and at most former names, and the kinds that words name.
-use Rattle.std.proofs.Common.{◌≡◌, ℕ, List, [], Option, Some, None, IfSome, option_and_then, true, pos, refl, sym, ap, ◌∙◌, codes}
-use Rattle.serde_json.specs.Data.{Data, object}
-use Rattle.serde_json.specs.Find.{as_str}
-use Rattle.vms_json.specs.Answers.{Answer, good, bad, given, next, under}
-use Rattle.vms_json.specs.Members.{judged}
-use Rattle.vms_json.specs.Names.{Names}
-use Rattle.vms_kinds.specs.declared.Kind.{Kind}
+use Rattle.vms_descfile.proofs.Facade.{◌≡◌, ℕ, List, [], Option, Some, None, IfSome, option_and_then, true, pos, refl, sym, ap, ◌∙◌, codes, Data, object}
+use Rattle.vms_descfile.proofs.Facade.{as_str, Answer, good, bad, given, next, under, judged, Names, Kind, One, TellsKind, kind_word, Sort, Number, Front}
+use Rattle.vms_descfile.proofs.Facade.{IsPlain, field_after, field_fits, field_in, plain_field, plain_members, sort_fits, sort_named, sort_of}
 use Rattle.vms_kinds.specs.declared.Kind.TheVariants as kinds
-use Rattle.vms_spec.specs.declared.Count.TheVariants.{One}
-use Rattle.vms_words.specs.Words.{TellsKind, kind_word}
-use Rattle.vms_descfile.specs.declared.read.sort.Sort.{Sort}
-use Rattle.vms_descfile.specs.declared.read.sort.Sort.TheVariants.{Number}
-use Rattle.vms_descfile.specs.Fields.{Front, IsPlain, field_after, field_fits, field_in, plain_field, plain_members, sort_fits, sort_named, sort_of}
 
 -- ---- the field
 

@@ -1,13 +1,7 @@
 -- What worked files say.
-use Rattle.std.proofs.Common.{◌≡◌, List, ℕ, codes, refl}
-use Rattle.std.specs.Fmt.{digits}
-use Rattle.std.specs.Str.{is_utf8, chars}
-use Rattle.serde_json.proofs.OnLiterals.{serde_json_on_literals}
+use Rattle.vms_descfile.proofs.Facade.{◌≡◌, List, ℕ, codes, refl, digits, is_utf8, chars, serde_json_on_literals, here, first_fault, counted_set, tested_set}
+use Rattle.vms_descfile.proofs.Facade.{parts_of, Said, Parts, Syntax, Shape, IllFormed, file_said}
 use Rattle.vms_spec.specs.declared.Part.TheVariants as parts
-use Rattle.vms_spec.specs.WellFormed.{here, first_fault}
-use Rattle.vms_spec.proofs.Boxes.{counted_set, tested_set}
-use Rattle.vms_descfile.specs.Descs.{parts_of}
-use Rattle.vms_descfile.specs.Files.{Said, Parts, Syntax, Shape, IllFormed, file_said}
 
 unfoldable said : List ℕ → Said
 unfolding serde_json_on_literals digits chars is_utf8 first_fault parts_of file_said

@@ -1,21 +1,13 @@
 -- Subsections, devices and sets can be read back from their files.
-use Rattle.std.proofs.Common.{◌≡◌, ℕ, List, [], ◌∷◌, get_or, length, map, Bool, true, false, nat_le, Some, refl, ap, ◌∙◌, codes, arith}
-use Rattle.std.specs.List.{slice_get}
-use Rattle.std.proofs.lemmas.Bool.{and_parts, leb-true}
-use Rattle.serde_json.specs.Data.{Members, string, object, put}
-use Rattle.vms_spec.specs.Sets.{Formula, Desc, Sub, Device, Set}
-use Rattle.vms_spec.specs.Rules.{nodes, depth, is_small_test, is_steady_in, names_well}
-use Rattle.vms_spec.specs.WellFormed.{WellFormed, has_few, struct_depths, struct_rules, sub_rules, device_rules}
-use Rattle.vms_spec.proofs.WellFormedLaws.{Clean, struct_clean, device_parts, sub_clean}
-use Rattle.vms_json.specs.Answers.{good, changed, list_of}
+use Rattle.vms_descfile.proofs.Facade.{◌≡◌, ℕ, List, [], ◌∷◌, get_or, length, map, Bool, true, false, nat_le, Some, refl, ap, ◌∙◌, codes, arith, slice_get}
+use Rattle.vms_descfile.proofs.Facade.{and_parts, leb-true, Members, string, object, put, Formula, Desc, Sub, Device, Set, nodes, is_small_test, is_steady_in}
+use Rattle.vms_descfile.proofs.Facade.{names_well, WellFormed, has_few, struct_depths, struct_rules, sub_rules, device_rules, Clean, struct_clean, device_parts}
+use Rattle.vms_descfile.proofs.Facade.{sub_clean, good, changed, list_of, at, at_or, u32_of, text_of, Names, Scope, DEEPEST, test_of, desc_needs, desc_allows}
+use Rattle.vms_descfile.proofs.Facade.{head_of, struct_of, sub_in, sub_of, Whole, whole_in, whole_of, device_of, set_of, parts_of, FitsTest, FitsSub, FitsWhole}
+use Rattle.vms_descfile.proofs.Facade.{FitsDevice, FitsSet, natural_file, own_names, test_file, desc_members, struct_file, sub_file, whole_file, device_file}
+use Rattle.vms_descfile.proofs.Facade.{set_file}
+use Rattle.vms_spec.specs.Rules.{depth}
 use Rattle.vms_json.specs.Keys.{fits as keys_fit}
-use Rattle.vms_json.specs.Members.{at, at_or, u32_of, text_of}
-use Rattle.vms_json.specs.Names.{Names, Scope}
-use Rattle.vms_json.specs.declared.parse.TheConstants.{DEEPEST}
-use Rattle.vms_descfile.specs.Tests.{test_of}
-use Rattle.vms_descfile.specs.Descs.{desc_needs, desc_allows, head_of, struct_of, sub_in, sub_of, Whole, whole_in, whole_of, device_of, set_of, parts_of}
-use Rattle.vms_descfile.specs.Fitting.{FitsTest, FitsSub, FitsWhole, FitsDevice, FitsSet}
-use Rattle.vms_descfile.specs.Written.{natural_file, own_names, test_file, desc_members, struct_file, sub_file, whole_file, device_file, set_file}
 use Rattle.vms_descfile.proofs.ObjectLaws.{Table, put_if, object_of, or_none, got, table_fits, listed, list_if}
 use Rattle.vms_descfile.proofs.AnswerLaws.{next_good, judged_good, at_good, list_good, list_or_good, natural_good}
 use Rattle.vms_descfile.proofs.ShownLaws.{asked, test_shown, desc_shown, sub_shown, device_shown, set_shown, set_same, map_same}

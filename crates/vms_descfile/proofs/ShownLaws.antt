@@ -1,11 +1,7 @@
 -- What a walk over a file finds: the parts that were written, but with 0 for the number of each
 -- field if no names are looked up.
-use Rattle.std.proofs.Common.{◌≡◌, ℕ, List, [], ◌∷◌, map, Bool, true, false, Option, Some, None, option_map, refl, ap, ◌∙◌}
-use Rattle.vms_spec.specs.declared.Count.{Count}
-use Rattle.vms_spec.specs.declared.Count.TheVariants.{One, Fixed, Counted}
-use Rattle.vms_spec.specs.Sets.{Formula, AtLeast, Below, Cell, Not, And, Or, Field, Desc, Sub, Device, Set}
-use Rattle.vms_json.specs.Index.{first_of}
-use Rattle.vms_json.specs.Names.{Names}
+use Rattle.vms_descfile.proofs.Facade.{◌≡◌, ℕ, List, [], ◌∷◌, map, Bool, true, false, Option, Some, None, option_map, refl, ap, ◌∙◌, Count, One, Fixed, Counted}
+use Rattle.vms_descfile.proofs.Facade.{Formula, AtLeast, Below, Cell, Not, And, Or, Field, Desc, Sub, Device, Set, first_of, Names}
 
 abbrev pub asked : Bool → List (List ℕ) → Names
 asked false names = None

@@ -1,18 +1,10 @@
 -- A test can be read back from its file.
-use Rattle.std.proofs.Common.{◌≡◌, ℕ, zero, suc, ◌≤◌, List, [], get_or, Bool, true, Option, Some, None, refl, ap, codes, arith}
-use Rattle.std.proofs.lemmas.Bool.{and_parts}
-use Rattle.serde_json.specs.Data.{string, object, put}
-use Rattle.vms_spec.specs.declared.Rel.{Rel}
+use Rattle.vms_descfile.proofs.Facade.{◌≡◌, ℕ, zero, suc, ◌≤◌, List, [], get_or, Bool, true, Option, Some, None, refl, ap, codes, arith, and_parts, string}
+use Rattle.vms_descfile.proofs.Facade.{object, put, Rel, Own, Parent, Formula, AtLeast, Below, Cell, Not, And, Or, names_well, Answer, good, under, changed, at}
+use Rattle.vms_descfile.proofs.Facade.{u32_of, u64_of, Names, Scope, number_in, name_in, rel_of, own_cell, parent_cell, with_parent, test_within, both}
+use Rattle.vms_descfile.proofs.Facade.{natural_file, rel_file, compared_file, test_file, FitsTest}
 use Rattle.vms_spec.specs.declared.Rel.TheVariants as rels
-use Rattle.vms_spec.specs.declared.Whose.TheVariants.{Own, Parent}
-use Rattle.vms_spec.specs.Sets.{Formula, AtLeast, Below, Cell, Not, And, Or}
-use Rattle.vms_spec.specs.Rules.{depth, names_well}
-use Rattle.vms_json.specs.Answers.{Answer, good, under, changed}
-use Rattle.vms_json.specs.Members.{at, u32_of, u64_of}
-use Rattle.vms_json.specs.Names.{Names, Scope, number_in, name_in}
-use Rattle.vms_descfile.specs.Tests.{rel_of, own_cell, parent_cell, with_parent, test_within, both}
-use Rattle.vms_descfile.specs.Written.{natural_file, rel_file, compared_file, test_file}
-use Rattle.vms_descfile.specs.Fitting.{FitsTest}
+use Rattle.vms_spec.specs.Rules.{depth}
 use Rattle.vms_descfile.proofs.AnswerLaws.{next_good, at_good, natural_good}
 use Rattle.vms_descfile.proofs.ShownLaws.{number_shown, test_shown}
 

@@ -1,15 +1,7 @@
 -- Faults inside tests, and a test by its form.
-use Rattle.std.proofs.Common.{◌≡◌, ℕ, zero, suc, ◌-◌, ◌<◌, List, ap, sym, subst, ◌∙◌, arith, Result}
-use native.Mathlib.Numerals.{unary_clauses}
-use Rattle.serde_json.specs.Data.{Data}
-use Rattle.vms_parts.specs.Views.{formula}
-use Rattle.vms_parts.specs.declared.types.Test.{Test}
-use Rattle.vms_descfile.specs.declared.read.cells.Form.{Form}
-use Rattle.vms_json.specs.declared.fault.Fault.{Fault}
+use Rattle.vms_descfile.proofs.Facade.{◌≡◌, ℕ, zero, suc, ◌-◌, ◌<◌, List, ap, sym, subst, ◌∙◌, arith, Result, unary_clauses, Data, formula, Test, Form, Fault}
+use Rattle.vms_descfile.proofs.Facade.{Answer, bad, under, next, changed, Refuses, Answers, IsUnder, Scope, test_within, test_as, form_of}
 use Rattle.vms_json.specs.declared.fault.Fault.TheVariants as faults
-use Rattle.vms_json.specs.Answers.{Answer, bad, under, next, changed, Refuses, Answers, IsUnder}
-use Rattle.vms_json.specs.Names.{Scope}
-use Rattle.vms_descfile.specs.Tests.{test_within, test_as, form_of}
 
 -- a test that may have parts is read by its form
 pub by_form : (n : ℕ) (scope : Scope) (d : Data) (form : Form) (r : Result Test Fault) → 0 < n → form ≡ form_of d

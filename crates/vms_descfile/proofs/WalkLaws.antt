@@ -1,22 +1,14 @@
 -- If the walk that looks up names finds no fault, the other finds none.
-use Rattle.std.proofs.Common.{◌≡◌, ℕ, zero, suc, ◌+◌, Bool, true, false, List, [], Option, Some, None, refl, sym, ap, ◌∙◌, subst, codes, decimal, pos}
+use Rattle.vms_descfile.proofs.Facade.{◌≡◌, ℕ, zero, suc, ◌+◌, Bool, true, false, List, [], Option, Some, None, refl, sym, ap, ◌∙◌, subst, codes, decimal, pos}
+use Rattle.vms_descfile.proofs.Facade.{Data, Items, no_items, item, get, as_array, Formula, Set, DEEPEST, Form, Leaf, Fault, Answer, good, bad, under, next}
+use Rattle.vms_descfile.proofs.Facade.{changed, each_from, each_of, list_of, Refuses, judged, member_of, member_or, at, at_or, maybe_at, u16_of, u32_of}
+use Rattle.vms_descfile.proofs.Facade.{integer_of, text_of, u64_of, Names, Scope, names_if, name_in, key_of, rel_of, two_of, own_cell, parent_cell, with_parent}
+use Rattle.vms_descfile.proofs.Facade.{leaf_as, both, test_as, test_within, test_of, Front, sort_of, count_of, front_of, field_after, field_of, Head, head_of}
+use Rattle.vms_descfile.proofs.Facade.{rest_of, struct_of, sub_of, whole_of, device_of, set_of, parts_of}
 use Rattle.std.specs.Option.{option_map}
-use Rattle.serde_json.specs.Data.{Data, Items, no_items, item}
-use Rattle.serde_json.specs.Find.{get, as_array}
-use Rattle.vms_spec.specs.Sets.{Formula, Set}
-use Rattle.vms_json.specs.declared.parse.TheConstants.{DEEPEST}
-use Rattle.vms_descfile.specs.declared.read.cells.Form.{Form}
 use Rattle.vms_descfile.specs.declared.read.cells.Form.TheVariants as forms
-use Rattle.vms_descfile.specs.declared.read.cells.Leaf.{Leaf}
 use Rattle.vms_descfile.specs.declared.read.cells.Leaf.TheVariants as leaves
-use Rattle.vms_json.specs.declared.fault.Fault.{Fault}
 use Rattle.vms_json.specs.declared.fault.Fault.TheVariants as faults
-use Rattle.vms_json.specs.Answers.{Answer, good, bad, under, next, changed, each_from, each_of, list_of, Refuses}
-use Rattle.vms_json.specs.Members.{judged, member_of, member_or, at, at_or, maybe_at, u16_of, u32_of, integer_of, text_of, u64_of}
-use Rattle.vms_json.specs.Names.{Names, Scope, names_if, name_in}
-use Rattle.vms_descfile.specs.Tests.{key_of, rel_of, two_of, own_cell, parent_cell, with_parent, leaf_as, both, test_as, test_within, test_of}
-use Rattle.vms_descfile.specs.Fields.{Front, sort_of, count_of, front_of, field_after, field_of}
-use Rattle.vms_descfile.specs.Descs.{Head, head_of, rest_of, struct_of, sub_of, whole_of, device_of, set_of, parts_of}
 
 -- ---- answers in order
 

@@ -1,16 +1,7 @@
 -- What the text of a set's file says.
-use Rattle.std.proofs.Common.{◌≡◌, ◌≤◌, true, false, Option, Some, None, is_none, String, Global, string_bytes, refl, ap, sym, subst, ◌∙◌}
-use Rattle.std.proofs.lemmas.Bool.{true≢false}
-use Rattle.std.proofs.lemmas.Str.{IsUtf8-string_bytes}
-use Rattle.serde_json.specs.Data.{Data, depth}
-use Rattle.serde_json.specs.Read.{read, max_depth}
-use Rattle.serde_json.specs.Written.{has_float, compact_text}
-use Rattle.vms_spec.specs.Sets.{Set}
-use Rattle.vms_spec.specs.WellFormed.{SetFault, first_fault}
-use Rattle.vms_descfile.specs.Files.{Parts, judged_said, file_said, parts_said}
-use Rattle.vms_descfile.specs.Fitting.{FitsSet}
-use Rattle.vms_descfile.specs.Written.{set_file}
-use Rattle.vms_json.proofs.KeyLaws.{has_value}
+use Rattle.vms_descfile.proofs.Facade.{◌≡◌, ◌≤◌, true, false, Option, Some, None, is_none, String, Global, string_bytes, refl, ap, sym, subst, ◌∙◌, true≢false}
+use Rattle.vms_descfile.proofs.Facade.{IsUtf8-string_bytes, Data, depth, read, max_depth, has_float, compact_text, Set, SetFault, first_fault, Parts}
+use Rattle.vms_descfile.proofs.Facade.{judged_said, file_said, parts_said, FitsSet, set_file, has_value}
 use Rattle.vms_descfile.proofs.FileLaws.{said_by}
 use Rattle.vms_descfile.proofs.FileLevels.{set_nests}
 use Rattle.vms_descfile.proofs.FloatLaws.{set_whole}

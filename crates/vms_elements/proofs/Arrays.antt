@@ -1,8 +1,6 @@
 -- What is read of an array whose first elements count and whose later ones give nothing.
-use Rattle.std.proofs.Common.{◌≡◌, ℕ, zero, suc, ◌+◌, ◌-◌, ◌≤◌, List, [], ◌++◌, map, ap, arith, Bool, true, false, ◌&&◌}
-use Rattle.std.proofs.lemmas.Bool.{le-ltb, lt-ltb}
-use Rattle.vms_spec.specs.Sets.{Field}
-use Rattle.vms_elements.specs.Elements.{Element, Stand, behind, array_elements, index_text}
+use Rattle.vms_elements.proofs.Facade.{◌≡◌, ℕ, zero, suc, ◌+◌, ◌-◌, ◌≤◌, List, [], ◌++◌, map, ap, arith, Bool, true, false, ◌&&◌, le-ltb, lt-ltb, Field}
+use Rattle.vms_elements.proofs.Facade.{Element, Stand, behind, array_elements, index_text}
 
 -- the parts of the elements from e on, m of them
 abbrev pub outs : {B : Type 0} → (ℕ → ℕ → List B) → ℕ → ℕ → ℕ → ℕ → List B

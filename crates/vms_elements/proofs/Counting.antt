@@ -1,7 +1,5 @@
 -- What is in the bytes is counted, and the path of a number is its cell's.
-use Rattle.std.proofs.Common.{length}
-use Rattle.vms_elements.specs.Parts.{elements_in}
-use Rattle.vms_elements.specs.Laws.{CellLaw, CountedLaw}
+use Rattle.vms_elements.proofs.Facade.{length, elements_in, CellLaw, CountedLaw}
 use Rattle.vms_elements.proofs.Members.{each_at}
 use Rattle.vms_elements.proofs.PathsOf.{Tells, each_tells}
 use Rattle.vms_elements.proofs.Walk.{IsCounted, walks}

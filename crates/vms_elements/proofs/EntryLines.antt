@@ -1,14 +1,8 @@
 -- The lines of the entries are the lines of the values text.
-use Rattle.std.proofs.Common.{◌≡◌, ℕ, suc, ◌+◌, List, [], ◌∷◌, ◌++◌, length, map, Option, Some, None, ℤ, refl, ap, ◌∙◌, codes}
-use Rattle.std.proofs.lemmas.List.{map-append}
-use Rattle.vms_spec.specs.Sets.{Desc, Sub, Device, Set}
-use Rattle.vms_spec.specs.Layout.{desc_cells, struct_cells}
-use Rattle.vms_spec.specs.Images.{Image, own_cells}
-use Rattle.vms_elements.specs.Elements.{Element}
-use Rattle.vms_elements.specs.Parts.{elements_in}
-use Rattle.vms_elements.specs.Lines.{printed, number_line, number_lines, sub_line, section_line, subs_lines, device_lines, devices_lines}
-use Rattle.vms_elements.specs.Entries.{Entry, OfNumber, number_entries, subs_entries, device_entries, devices_entries, entry_line}
-use Rattle.vms_elements.specs.Laws.{EntryLaw}
+use Rattle.vms_elements.proofs.Facade.{◌≡◌, ℕ, suc, ◌+◌, List, [], ◌∷◌, ◌++◌, length, map, Option, Some, None, ℤ, refl, ap, ◌∙◌, codes, map-append, Desc, Sub}
+use Rattle.vms_elements.proofs.Facade.{Device, Set, desc_cells, struct_cells, Image, own_cells, Element, elements_in, printed, number_line, number_lines}
+use Rattle.vms_elements.proofs.Facade.{sub_line, section_line, subs_lines, device_lines, devices_lines, Entry, OfNumber, number_entries, subs_entries}
+use Rattle.vms_elements.proofs.Facade.{device_entries, devices_entries, entry_line, EntryLaw}
 use Rattle.vms_elements.proofs.Tables.{both}
 
 numbers_same : (numbers : List ℤ) (xs : List Element) → map entry_line (map (λ x. OfNumber x numbers) xs) ≡ map (number_line numbers) xs

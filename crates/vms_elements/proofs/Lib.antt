@@ -1,14 +1,15 @@
-mod Rows
 mod ReadingRows
-pub mod Tables
+mod Rows
 pub mod Arrays
-pub mod Walk
-pub mod SlotsOf
+pub mod Counting
+pub mod DevicePaths
+pub mod EntryLines
+pub mod Facade
 pub mod LinesOf
 pub mod Members
-pub mod Counting
-pub mod PathsOf
-pub mod DevicePaths
-pub mod Stated
 pub mod Names
-pub mod EntryLines
+pub mod PathsOf
+pub mod SlotsOf
+pub mod Stated
+pub mod Tables
+pub mod Walk

@@ -1,23 +1,13 @@
 -- The lines of the counted numbers are the text of a description.
-use Rattle.std.proofs.Common.{◌≡◌, ℕ, zero, suc, ◌+◌, ◌≤◌, List, ◌∷◌, ◌++◌, length, get_or, map, ℤ, refl, sym, ap, ◌∙◌, arith, Bool, true, false, ◌&&◌, if◌then◌else◌, append-nil, append_assoc, Option, Some, None, codes, []}
-use Rattle.std.proofs.lemmas.List.{map-append}
-use Rattle.std.specs.Fmt.{decimal}
-use Rattle.vms_kinds.specs.declared.Item.{Item}
-use Rattle.vms_kinds.specs.declared.Item.TheVariants.{Num, Struct}
-use Rattle.vms_spec.specs.declared.Count.{Count}
-use Rattle.vms_spec.specs.declared.Count.TheVariants.{One, Fixed, Counted}
-use Rattle.vms_spec.specs.Sets.{Field, Desc, Sub, Device, Set}
-use Rattle.vms_spec.specs.Images.{Image, own_cells}
-use Rattle.vms_spec.specs.Layout.{no_desc, first, counted, capacity_of, elements_of, item_size, desc_cells, struct_cells}
-use Rattle.vms_spec.specs.Values.{Printer, no_printer, printer, printers, item_lines, element_lines, array_lines, field_lines, desc_lines, line_end, values_text, version_text}
+use Rattle.vms_elements.proofs.Facade.{◌≡◌, ℕ, zero, suc, ◌+◌, ◌≤◌, List, ◌∷◌, ◌++◌, length, get_or, map, ℤ, refl, sym, ap, ◌∙◌, arith, Bool, true, false, ◌&&◌}
+use Rattle.vms_elements.proofs.Facade.{if◌then◌else◌, append-nil, append_assoc, Option, Some, None, codes, [], map-append, decimal, Item, Num, Struct, Count}
+use Rattle.vms_elements.proofs.Facade.{One, Fixed, Counted, Field, Desc, Sub, Device, Set, Image, own_cells, no_desc, first, counted, capacity_of, elements_of}
+use Rattle.vms_elements.proofs.Facade.{item_size, desc_cells, struct_cells, Printer, no_printer, printer, printers, item_lines, element_lines, array_lines}
+use Rattle.vms_elements.proofs.Facade.{field_lines, desc_lines, values_text, version_text, pick_append, first_cells, elements_fit, first_long, Element, Shape}
+use Rattle.vms_elements.proofs.Facade.{no_shape, shape, shapes, cells_in, dotted, behind, item_elements, Stand, stand_of, array_elements, field_elements}
+use Rattle.vms_elements.proofs.Facade.{elements_from, desc_elements, index_text, text_of, printed, number_line, number_lines, section_line, sub_line}
+use Rattle.vms_elements.proofs.Facade.{subs_lines, device_lines, devices_lines, machine_lines, values_lines, is_number}
 use Rattle.vms_spec.specs.Values as texts
-use Rattle.vms_spec.proofs.ListLaws.{pick_append}
-use Rattle.vms_spec.proofs.Prefixes.{first_cells}
-use Rattle.vms_spec.proofs.Sizes.{elements_fit}
-use Rattle.vms_spec.proofs.Tables.{first_long}
-use Rattle.vms_elements.specs.Elements.{Element, Shape, no_shape, shape, shapes, cells_in, dotted, behind, item_elements, Stand, stand_of, array_elements, field_elements, elements_from, desc_elements, index_text}
-use Rattle.vms_elements.specs.Lines.{text_of, printed, number_line, number_lines, section_line, sub_line, subs_lines, device_lines, devices_lines, machine_lines, values_lines}
-use Rattle.vms_elements.specs.Parts.{is_number}
 use Rattle.vms_elements.proofs.Arrays.{array_of, outs}
 use Rattle.vms_elements.proofs.Tables.{both, two_more, shapes_cells}
 

@@ -1,7 +1,5 @@
 -- What holds of each element of a list, and of one of them.
-use Rattle.std.proofs.Common.{◌≡◌, ◌⊎◌, inl, inr, ℕ, zero, suc, List, [], ◌∷◌, ◌++◌, map, Some, subst}
-use Rattle.std.specs.List.{slice_get}
-use Rattle.vms_elements.specs.Elements.{Element}
+use Rattle.vms_elements.proofs.Facade.{◌≡◌, ◌⊎◌, inl, inr, ℕ, zero, suc, List, [], ◌∷◌, ◌++◌, map, Some, subst, slice_get, Element}
 
 abbrev pub Each : (Element → Type 0) → List Element → Type 0
 Each P [] = Unit {0}

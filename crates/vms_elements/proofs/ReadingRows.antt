@@ -1,17 +1,9 @@
 -- Texts that are refused: each reason, each way to miss a line, and two faults in one text.
-use Rattle.std.proofs.Common.{◌≡◌, ℕ, suc, List, [], ◌∷◌, ◌++◌, zero, get_or, take, drop, map, length, Some, None, ℤ, pos, refl, ap, codes, arith}
-use Rattle.std.specs.Fmt.{digits}
-use Rattle.vms_spec.specs.declared.ValuesReason.{ValuesReason}
+use Rattle.vms_elements.proofs.Facade.{◌≡◌, ℕ, suc, List, [], ◌∷◌, ◌++◌, get_or, take, drop, map, length, Some, None, ℤ, pos, refl, ap, codes, arith, digits}
+use Rattle.vms_elements.proofs.Facade.{ValuesReason, first, no_desc, Set, Device, Image, first_line, machine_named, counted_set, subsection_set, tested_set}
+use Rattle.vms_elements.proofs.Facade.{sub_of, text_of, Entry, entries, entry_line, front_reason, part_reason, OfSection, OfSub, AreShaped, AreFine, IsBadLine}
+use Rattle.vms_elements.proofs.Facade.{IsBadPart, Says, AreUnsaid}
 use Rattle.vms_spec.specs.declared.ValuesReason.TheVariants as reasons
-use Rattle.vms_spec.specs.Layout.{first, no_desc}
-use Rattle.vms_spec.specs.Sets.{Set, Device}
-use Rattle.vms_spec.specs.Images.{Image}
-use Rattle.vms_spec.specs.Spelling.{first_line}
-use Rattle.vms_spec.specs.ValuesReading.{machine_named}
-use Rattle.vms_spec.proofs.Boxes.{counted_set, subsection_set, tested_set, sub_of}
-use Rattle.vms_elements.specs.Lines.{text_of}
-use Rattle.vms_elements.specs.Entries.{Entry, entries, entry_line, front_reason, part_reason, OfSection, OfSub}
-use Rattle.vms_elements.specs.Reading.{AreShaped, AreFine, IsBadLine, IsBadPart, Says, AreUnsaid}
 
 abbrev of_box : List ℤ → List Image
 of_box numbers = record { version = 1; came = []; numbers = numbers } ∷ []

@@ -1,13 +1,6 @@
 -- The elements of the worked sets, and what is read off them.
-use Rattle.std.proofs.Common.{◌≡◌, ℕ, List, get_or, [], ◌∷◌, Some, None, pos, negsuc, refl, codes, ℤ}
-use Rattle.std.specs.Fmt.{digits}
-use Rattle.vms_spec.specs.Layout.{first}
-use Rattle.vms_spec.specs.Sets.{Set, Device}
-use Rattle.vms_spec.specs.Images.{Image}
-use Rattle.vms_spec.specs.Values.{values_text}
-use Rattle.vms_spec.proofs.Boxes.{counted_set, mixed_set}
-use Rattle.vms_elements.specs.Parts.{cell_name}
-use Rattle.vms_elements.specs.Lines.{text_of, values_lines}
+use Rattle.vms_elements.proofs.Facade.{◌≡◌, ℕ, List, get_or, [], ◌∷◌, Some, None, pos, negsuc, refl, codes, ℤ, digits, first, Set, Device, Image, values_text}
+use Rattle.vms_elements.proofs.Facade.{counted_set, mixed_set, cell_name, text_of, values_lines}
 
 abbrev of_box : List ℤ → Image
 of_box numbers = record { version = 1; came = []; numbers = numbers }

@@ -1,15 +1,9 @@
 -- The elements that are in the bytes are the slots.
-use Rattle.std.proofs.Common.{◌≡◌, ℕ, zero, suc, ◌+◌, List, ◌∷◌, ◌++◌, length, get_or, map, ℤ, refl, sym, ap, ◌∙◌, arith, Bool, true, false, ◌&&◌, if◌then◌else◌, []}
-use Rattle.vms_kinds.specs.declared.Item.{Item}
-use Rattle.vms_kinds.specs.declared.Item.TheVariants.{Struct}
-use Rattle.vms_spec.specs.Sets.{Field, Desc, Set}
-use Rattle.vms_spec.specs.Layout.{Slot, Meaning, no_meaning, no_desc, first, times, counted, capacity_of, elements_of, item_size, item_slots, slots_from, desc_slots, meaning, meanings}
-use Rattle.vms_spec.proofs.ListLaws.{pick_append}
-use Rattle.vms_spec.proofs.Prefixes.{first_cells}
-use Rattle.vms_spec.proofs.Sizes.{elements_fit}
-use Rattle.vms_spec.proofs.Tables.{first_long}
-use Rattle.vms_elements.specs.Elements.{Element, Shape, no_shape, shape, shapes, cells_in, dotted, behind, item_elements, stand_of, elements_from, desc_elements}
-use Rattle.vms_elements.specs.Parts.{slot_of, slots_of, elements_in}
+use Rattle.vms_elements.proofs.Facade.{◌≡◌, ℕ, zero, suc, ◌+◌, List, ◌∷◌, ◌++◌, length, get_or, map, ℤ, refl, sym, ap, ◌∙◌, arith, Bool, true, false, ◌&&◌}
+use Rattle.vms_elements.proofs.Facade.{if◌then◌else◌, [], Item, Struct, Field, Desc, Set, Slot, Meaning, no_meaning, no_desc, first, times, counted}
+use Rattle.vms_elements.proofs.Facade.{capacity_of, elements_of, item_size, item_slots, slots_from, desc_slots, meaning, meanings, pick_append, first_cells}
+use Rattle.vms_elements.proofs.Facade.{elements_fit, first_long, Element, Shape, no_shape, shape, shapes, cells_in, dotted, behind, item_elements, stand_of}
+use Rattle.vms_elements.proofs.Facade.{elements_from, desc_elements, slot_of, slots_of, elements_in}
 use Rattle.vms_elements.proofs.Arrays.{array_of, outs}
 use Rattle.vms_elements.proofs.Tables.{two_more, shapes_cells}
 

@@ -1,9 +1,6 @@
 -- What f makes of the first structures, one after the other.
-use Rattle.std.proofs.Common.{◌≡◌, ℕ, zero, suc, List, [], ◌∷◌, ◌++◌, length, get_or, refl, ap, ◌∙◌, arith}
-use Rattle.vms_spec.specs.Sets.{Desc}
-use Rattle.vms_spec.specs.Layout.{first, desc_cells}
-use Rattle.vms_spec.proofs.Prefixes.{first_cells}
-use Rattle.vms_elements.specs.Elements.{Shape, no_shape, shape, cells_in}
+use Rattle.vms_elements.proofs.Facade.{◌≡◌, ℕ, zero, suc, List, [], ◌∷◌, ◌++◌, length, get_or, refl, ap, ◌∙◌, arith, Desc, first, desc_cells, first_cells}
+use Rattle.vms_elements.proofs.Facade.{Shape, no_shape, shape, cells_in}
 
 pub both : {B : Type 0} (xs ys zs ws : List B) → xs ≡ ys → zs ≡ ws → xs ++ zs ≡ ys ++ ws
 both xs ys zs ws e f = ap (λ l. l ++ zs) e ∙ ap (λ l. ys ++ l) f

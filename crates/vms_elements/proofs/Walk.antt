@@ -1,16 +1,11 @@
 -- One walk over the elements of a description, in two states side by side: their cells, their names, that the numbers count up, and
 -- that what is in the bytes is counted.
-use Rattle.std.proofs.Common.{◌≡◌, ℕ, zero, suc, ◌+◌, Bool, true, false, ◌&&◌, nat_lt, if◌then◌else◌, List, [], ◌∷◌, ◌++◌, length, get_or, map, ℤ, refl, sym, ap, ◌∙◌, subst, arith, append-nil}
-use Rattle.std.proofs.lemmas.List.{map-append, length-map}
-use Rattle.vms_kinds.specs.declared.Item.{Item}
-use Rattle.vms_kinds.specs.declared.Item.TheVariants.{Num, Equal, Unused, Struct}
-use Rattle.vms_spec.specs.Sets.{Field, Desc, Set}
-use Rattle.vms_spec.specs.Layout.{Cell, no_desc, first, times, counted, item_cells, field_cells, cells_from, desc_cells, struct_cells, numbers_of}
-use Rattle.vms_spec.proofs.ListLaws.{pick_append}
-use Rattle.vms_spec.proofs.Sizes.{size_same}
-use Rattle.vms_spec.proofs.Tables.{one_more}
-use Rattle.vms_elements.specs.Elements.{What, Number, Constant, Rule, Element, Shape, no_shape, shape, shapes, cells_in, dotted, behind, single, item_elements, Stand, stand_of, array_elements, field_elements, elements_from, desc_elements, index_text}
-use Rattle.vms_elements.specs.Parts.{absent, is_number, numbers_in, cells_with, cells_of, names_of, CountsUp, elements_in}
+use Rattle.vms_elements.proofs.Facade.{◌≡◌, ℕ, zero, suc, ◌+◌, Bool, true, false, ◌&&◌, nat_lt, if◌then◌else◌, List, [], ◌∷◌, ◌++◌, length, get_or, map, ℤ}
+use Rattle.vms_elements.proofs.Facade.{refl, ap, ◌∙◌, subst, arith, append-nil, map-append, length-map, Item, Num, Struct, Field, Desc, Set, Cell, no_desc}
+use Rattle.vms_elements.proofs.Facade.{first, times, counted, item_cells, field_cells, cells_from, desc_cells, struct_cells, numbers_of, pick_append, size_same}
+use Rattle.vms_elements.proofs.Facade.{one_more, What, Number, Rule, Element, Shape, no_shape, shape, shapes, cells_in, dotted, behind, single, item_elements}
+use Rattle.vms_elements.proofs.Facade.{Stand, stand_of, array_elements, field_elements, elements_from, desc_elements, index_text, absent, is_number, numbers_in}
+use Rattle.vms_elements.proofs.Facade.{cells_with, cells_of, names_of, CountsUp, elements_in}
 use Rattle.vms_elements.proofs.Members.{Each, each_append, each_map}
 use Rattle.vms_elements.proofs.Tables.{shapes_cells, cells_at}
 

@@ -1,3 +1,4 @@
+pub mod Facade
 pub mod Filled
 pub mod Made
 pub mod SameSpots

@@ -1,14 +1,8 @@
 -- The image of a device at the set's version, with no subsection and all defaults.
-use Rattle.std.proofs.Common.{◌≡◌, ℕ, List, ◌∷◌, Option, None, ℤ, length, map, replicate, sym, ap, ◌∙◌, refl, []}
-use Rattle.std.proofs.lemmas.Simd.{map-map}
-use Rattle.vms_kinds.specs.declared.Kind.{Kind}
+use Rattle.vms_image.proofs.Facade.{◌≡◌, ℕ, List, ◌∷◌, Option, None, ℤ, length, map, replicate, sym, ap, ◌∙◌, refl, [], map-map, Kind, device_cells, device_at}
+use Rattle.vms_image.proofs.Facade.{device_of, sub_of, kinds_at, Typed, default_at}
 use Rattle.vms_spec.specs.Sets as sets
-use Rattle.vms_spec.specs.Layout.{device_cells}
-use Rattle.vms_parts.specs.Devices.{device_at}
-use Rattle.vms_parts.specs.Views.{device_of, sub_of}
 use Rattle.vms_parts.specs.declared.types.Device.{Device}
-use Rattle.vms_desc.specs.Spots.{kinds_at}
-use Rattle.vms_image.specs.Typed.{Typed, default_at}
 
 -- the same value at each place
 pub map-same : {X Y : Type 0} (y : Y) (xs : List X) → map (λ x. y) xs ≡ replicate (length xs) y

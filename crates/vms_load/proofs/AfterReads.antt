@@ -111,7 +111,7 @@ pub ends_later : (machine named : Option (List ℕ)) (images first : List Typed)
     → named ≡ machine → images ≡ slice_set first k image → now ≡ slice_set came k true → j ≡ k
     → ended_in machine (slice_set (map untyped first) j (untyped new)) (slice_set came k true) tail ≡ ended_in named (map untyped (slice_set images k new)) now tail
 ends_later machine named images first came now k j image new tail m i c same =
-    let twice : slice_set images k new ≡ slice_set first k new = ap (λ (l : List Typed). slice_set l k new) i ∙ set_twice first k image new in
+    let twice : slice_set images k new ≡ slice_set first k new = cc (set_twice first k image new) in
     ap (λ (n : ℕ). ended_in machine (slice_set (map untyped first) n (untyped new)) (slice_set came k true) tail) same
     ∙ ap (λ (l : List Image). ended_in machine l (slice_set came k true) tail) (sym (map-set untyped first k new) ∙ ap (map untyped) (sym twice))
     ∙ ap (λ (l : List Bool). ended_in machine (map untyped (slice_set images k new)) l tail) (sym c)
@@ -166,9 +166,7 @@ module _ (set : Set) (names : List (List ℕ)) (state : State) (section : Sectio
 
   next_is : (place : ℕ) (rest : List ℕ) → begins_next t rest ≡ true → onward inner place rest ≡ onward free place rest
   next_is place rest b =
-      unit_of set names inner place rest
-      ∙ ap (reading_after onward place rest) (next_holds set names state.machine (slice_set state.images section.device image) state.came section.device section.id part done t rest due_is held b)
-      ∙ sym (unit_of set names free place rest)
+      cc (unit_of set names inner place rest, next_holds set names state.machine (slice_set state.images section.device image) state.came section.device section.id part done t rest due_is held b, unit_of set names free place rest)
 
   pub after_fault : {Y : Type 0} (from to : Stand) (old left : Option (List ℕ)) (next : Y → Onward) (fault : FrameFault) → from.held ≡ None
       → IfSome old (λ rest. AnswersBehind t section.id from.at rest to.held left (Err fault))

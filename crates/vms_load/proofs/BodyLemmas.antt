@@ -43,12 +43,10 @@ passed false false false x y n why h = record { cut = refl; bad = refl; other = 
 passed _ _ _ x y n why h = cc
 
 to_good : (a b e : Bool) (x y : Piece) (n : ℕ) (why : Reason) → a ≡ false → b ≡ false → e ≡ false → x ≡ y → by_tests a b e x n why ≡ Good y n
-to_good a b e x y n why f g h same =
-    ap (λ (a : Bool). by_tests a b e x n why) f ∙ ap (λ (b : Bool). by_tests false b e x n why) g ∙ ap (λ (e : Bool). by_tests false false e x n why) h ∙ ap (λ (x : Piece). Good x n) same
+to_good a b e x y n why f g h same = cc
 
 to_bad : (a b e : Bool) (x : Piece) (n : ℕ) (why : Reason) → a ≡ false → b ≡ false → e ≡ true → by_tests a b e x n why ≡ Bad n why
-to_bad a b e x n why f g h =
-    ap (λ (a : Bool). by_tests a b e x n why) f ∙ ap (λ (b : Bool). by_tests false b e x n why) g ∙ ap (λ (e : Bool). by_tests false false e x n why) h
+to_bad a b e x n why f g h = cc
 
 number_same : (kind : Kind) (z y : ℤ) → Number 0 kind z ≡ Number 0 kind y → z ≡ y
 number_same kind z y e = cc

@@ -49,7 +49,7 @@ module _ (k : ℕ) (d : Device) (came : List (Option ℕ)) (name : List ℕ) (v 
 
   pub opens_sub : (j : ℕ) (reason : Option Reason) → length came ≡ length d.subs → find_sub 0 d.subs name ≡ Some j → reason ≡ reason_against_sub (sub_at d j) (get_or came j None) v
       → opened_unless (Some k) j reason ≡ sub_opened k d came name v
-  opens_sub j reason long e is = ap (opened_unless (Some k) j) is ∙ sym (known_sub j long e)
+  opens_sub j reason long e is = cc (known_sub j long e)
 
 -- ---- what was opened is what was found
 
@@ -61,15 +61,15 @@ pub device_is : (set : Set) (came : List Bool) (name : List ℕ) (instance v pla
 device_is set came name instance v place k e = by (find_device 0 set.devices name instance) refl
   where
     by : (found : Option ℕ) → find_device 0 set.devices name instance ≡ found → find_device 0 set.devices name instance ≡ Some k
-    by None f = let h : Ok k ≡ opened_at place (unfit None reasons.UnknownSection) = e ∙ ap (opened_at place) (unknown set came name instance v f) in cc
-    by (Some i) f = f ∙ ap (λ (n : ℕ). Some n) (sym (opens_it (Some i) i k place _ (e ∙ ap (opened_at place) (known set came name instance v i f))))
+    by None f = let h : Ok k ≡ opened_at place (unfit None reasons.UnknownSection) = cc (unknown set came name instance v f) in cc
+    by (Some i) f = cc (opens_it (Some i) i k place _ (e ∙ ap (opened_at place) (known set came name instance v i f)))
 
 pub sub_is : (k : ℕ) (d : Device) (came : List (Option ℕ)) (name : List ℕ) (v place j : ℕ) → length came ≡ length d.subs → Ok j ≡ opened_at place (sub_opened k d came name v) → find_sub 0 d.subs name ≡ Some j
 sub_is k d came name v place j long e = by (find_sub 0 d.subs name) refl
   where
     by : (found : Option ℕ) → find_sub 0 d.subs name ≡ found → find_sub 0 d.subs name ≡ Some j
-    by None f = let h : Ok j ≡ opened_at place (unfit (Some k) reasons.UnknownSubsection) = e ∙ ap (opened_at place) (unknown_sub k d came name v f) in cc
-    by (Some i) f = f ∙ ap (λ (n : ℕ). Some n) (sym (opens_it (Some k) i j place _ (e ∙ ap (opened_at place) (known_sub k d came name v i long f))))
+    by None f = let h : Ok j ≡ opened_at place (unfit (Some k) reasons.UnknownSubsection) = cc (unknown_sub k d came name v f) in cc
+    by (Some i) f = cc (opens_it (Some k) i j place _ (e ∙ ap (opened_at place) (known_sub k d came name v i long f)))
 
 -- ---- What the loader opens by a head is what the rows say of the head.
 
@@ -132,9 +132,7 @@ known_rows k j s came v = by (nat_lt s.desc.version v) (nat_lt v s.desc.minimum)
 
 sub_is_opened : (set : Set) (names : List (List ℕ)) (y : Known) (k : ℕ) (d : Device) (name : List ℕ) (v : ℕ) → y.section ≡ Some k → slice_get set.devices k ≡ Some d → length y.image.came ≡ length d.subs
     → first_row (asking set names y (SubHead name v)) ≡ unfit_for (sub_opened k d y.image.came name v)
-sub_is_opened set names y k d name v section here long =
-    ap (λ (o : Option ℕ). of o (sub_by (at_option set.devices o)) (subs_of (at_option set.devices o))) section
-    ∙ ap (λ (o : Option Device). of (Some k) (sub_by o) (subs_of o)) here ∙ by (find_sub 0 d.subs name) refl
+sub_is_opened set names y k d name v section here long = cc (by (find_sub 0 d.subs name) refl)
   where
     sub_by : Option Device → Option ℕ
     sub_by o = position (λ (s : Sub). bytes_eq s.desc.name name) 0 (subs_of o)
@@ -168,11 +166,9 @@ module _ (set : Set) (names : List (List ℕ)) (s : State) (x : Piece) (n : ℕ)
 pub section_judged : (set : Set) (names : List (List ℕ)) (s : State) (id : ℕ) (name : List ℕ) (instance v n : ℕ) → length s.came ≡ length set.devices
     → ask set names s (Head id name instance v) n ≡ verdict set names s (Head id name instance v) n (section_opened set s.came name instance v)
 section_judged set names s id name instance v n long =
-    ap (λ (o : Option (Option ℕ × Reason)). by_row (by_state set names) o n (after set s (Head id name instance v))) (head_opened set names (known_at set s) id name instance v long)
-    ∙ by_unfit set names s (Head id name instance v) n (section_opened set s.came name instance v)
+    cc (head_opened set names (known_at set s) id name instance v long, by_unfit set names s (Head id name instance v) n (section_opened set s.came name instance v))
 
 pub sub_judged : (set : Set) (names : List (List ℕ)) (s : State) (k : ℕ) (d : Device) (name : List ℕ) (v n : ℕ) → open_at s.spot ≡ Some k → slice_get set.devices k ≡ Some d → length (image_at s).came ≡ length d.subs
     → ask set names s (SubHead name v) n ≡ verdict set names s (SubHead name v) n (sub_opened k d (image_at s).came name v)
 sub_judged set names s k d name v n section here long =
-    ap (λ (o : Option (Option ℕ × Reason)). by_row (by_state set names) o n (after set s (SubHead name v))) (sub_is_opened set names (known_at set s) k d name v section here long)
-    ∙ by_unfit set names s (SubHead name v) n (sub_opened k d (image_at s).came name v)
+    cc (sub_is_opened set names (known_at set s) k d name v section here long, by_unfit set names s (SubHead name v) n (sub_opened k d (image_at s).came name v))

@@ -1,12 +1,12 @@
 -- The fields of a part: its steps take what the structural reader takes, and the judge reads the same.
 use Rattle.vms_load.proofs.Facade.{◌≡◌, ℕ, ◌+◌, ◌≤◌, List, [], ◌∷◌, ◌++◌, length, take, slice_set, append_assoc, append-nil, ℤ, Option, Some, Ok, Err, Bool}
 use Rattle.vms_load.proofs.Facade.{◌||◌, ◌==◌, if◌then◌else◌, refl, sym, ap, ◌∙◌, subst, ◌-◌, ◌<◌, drop, None, Result, IfSome, OnOk, arith, eq-eqb, or_parts}
-use Rattle.vms_load.proofs.Facade.{drop-drop, drop_all, slice_get, slice_get-get_or, ⊎_elim, cases_lt, Kind, width, value_of, is_bad_bool, Desc, Set, Sub}
-use Rattle.vms_load.proofs.Facade.{Device, has_cell, Image, Slot, Number, Constant, meanings, desc_slots, Taken, Progress, ◌>>=◌, takers}
+use Rattle.vms_load.proofs.Facade.{drop-drop, drop_all, slice_get, slice_get-get_or, ⊎_elim, cases_lt, Kind, width, value_of, is_bad_bool, Desc, Set}
+use Rattle.vms_load.proofs.Facade.{Device, has_cell, Image, Slot, Number, Constant, meanings, desc_slots, Taken, Progress, takers}
 use Rattle.vms_load.proofs.Facade.{take_desc, refuse, on, if_whole, take_slot, IsSound, AreSound, IsAbove, desc_above, meanings_above, SameBelow, same_refl}
 use Rattle.vms_load.proofs.Facade.{same_trans, Keeps, Keeping, Gives, ComesTo, IsFrom, slot_keeps, set_desc_comes, FrameFault, WalkStep, step_of, steps_of}
 use Rattle.vms_load.proofs.Facade.{steps_append, exceeds_least, TakesAs, slot_of, take_steps, last_numbers, numbers_then, take_append, last_taken, Told, from}
-use Rattle.vms_load.proofs.Facade.{IsTaken, IsStopped, Reason, Reading, Refused, part_slots, slots_of_sub, State, Inside, by_state, judge, reading_on}
+use Rattle.vms_load.proofs.Facade.{IsTaken, IsStopped, Reason, Reading, Refused, part_slots, State, Inside, by_state, judge, reading_on}
 use Rattle.vms_load.proofs.Facade.{body_read, after_read, Stand, ahead, tail_of, IsGood, Leaves, desc_leaves, device_at, sub_at, Reads, ReadsOn, concerning}
 use Rattle.vms_load.proofs.Facade.{IsIn, IsOpen, part_desc, part_base, state_in, in_fields, after_fields, Section}
 use Rattle.vms_spec.specs.Taking.{Refusal}
@@ -65,21 +65,17 @@ module _ (set : Set) (structs : AreSound set.structs) (d : Desc) (sound : IsSoun
     -- the numbers below the remaining slots are final
     later : (cell : ℕ) (done rest : List Slot) (q : Progress) → slots n ≡ done ++ rest → take_steps (steps_of done) p ≡ Ok q → IsAbove cell rest → SameBelow cell q.numbers n
     later cell done rest q e t above =
-        let parts : steps_of (slots n) ≡ steps_of done ++ steps_of rest = ap steps_of e ∙ steps_append done rest in
-        let last : n ≡ last_numbers (steps_of rest) q = ends ∙ ap (λ (l : List WalkStep). last_numbers l p) parts ∙ last_taken (steps_of done) (steps_of rest) p q t in
-        subst (SameBelow cell q.numbers) (sym last) (last_below cell rest q above)
+        let parts : steps_of (slots n) ≡ steps_of done ++ steps_of rest = cc (steps_append done rest) in
+        subst (SameBelow cell q.numbers) (sym (cc (last_taken (steps_of done) (steps_of rest) p q t))) (last_below cell rest q above)
 
     -- the next slot
     next : (slot : Slot) (further : ℕ) (done rest : List Slot) (q : Progress) (t : Taken) → take_slot (slot_of (step_of slot)) q ≡ t → take_steps (steps_of done) p ≡ Ok q → slots n ≡ done ++ (slot ∷ rest)
         → IsAbove further rest → Gives slots Holds Fails further (done ++ slot ∷ []) t
     next slot further done rest q (Ok r) e h split above =
         let step : take_steps (steps_of (done ++ slot ∷ [])) p ≡ Ok r =
-        ap (λ (l : List WalkStep). take_steps l p) (steps_append done (slot ∷ [])) ∙ take_append (steps_of done) (step_of slot ∷ []) p
-        ∙ ap (λ (t : Taken). t >>= take_steps (step_of slot ∷ [])) h ∙ ap (λ (t : Taken). t >>= take_steps []) e in
+        cc (steps_append done (slot ∷ []), take_append (steps_of done) (step_of slot ∷ []) p) in
         (step, later further (done ++ slot ∷ []) rest r (split ∙ sym (append_assoc done (slot ∷ []) rest)) step above)
-    next slot further done rest q (Err x) e h split above =
-        ap (λ (l : List Slot). take_steps (steps_of l) p) split ∙ ap (λ (l : List WalkStep). take_steps l p) (steps_append done (slot ∷ rest)) ∙ take_append (steps_of done) (step_of slot ∷ steps_of rest) p
-        ∙ ap (λ (t : Taken). t >>= take_steps (step_of slot ∷ steps_of rest)) h ∙ ap (λ (t : Taken). t >>= take_steps (steps_of rest)) e
+    next slot further done rest q (Err x) e h split above = cc (steps_append done (slot ∷ rest), take_append (steps_of done) (step_of slot ∷ steps_of rest) p)
 
     keeping : Keeping slots Holds Fails
     keeping = record {
@@ -91,7 +87,7 @@ module _ (set : Set) (structs : AreSound set.structs) (d : Desc) (sound : IsSoun
 
     ended : (cell : ℕ) (t : Taken) → ComesTo slots Holds Fails cell (λ m. []) t → take_steps (steps_of (slots n)) p ≡ t
     ended cell (Err e) c = c
-    ended cell (Ok q) c = ap (λ (l : List Slot). take_steps (steps_of l) p) (c.1.split n c.1.holds.1 ∙ append-nil c.0) ∙ c.1.holds.0
+    ended cell (Ok q) c = cc (c.1.split n c.1.holds.1, append-nil c.0, c.1.holds.0)
 
     steps_taken : take_steps (steps_of (slots n)) p ≡ take_desc (takers set.structs (length set.structs)) d v base p
     steps_taken =
@@ -108,7 +104,7 @@ module _ (set : Set) (structs : AreSound set.structs) (d : Desc) (sound : IsSoun
   ok_numbers xs p q e = sym (ap (λ (l : List WalkStep). last_numbers l p) (sym (append-nil xs)) ∙ last_taken xs [] p q e)
 
   ends_ok : (xs : List WalkStep) (p : Progress) (numbers : List ℤ) (place : ℕ) (left : Option (List ℕ)) (t : Taken) → take_steps xs p ≡ t → TakesAs t numbers place left (Ok tt) → numbers ≡ last_numbers xs p
-  ends_ok xs p numbers place left (Ok q) e h = h.0 ∙ ok_numbers xs p q e
+  ends_ok xs p numbers place left (Ok q) e h = cc (ok_numbers xs p q e)
   ends_ok xs p numbers place left (Err r) e h = absurd h
 
   pub part_took : (a b : Told) (rest left : List ℕ) → IsTaken (steps_of (slots b.image.numbers)) a b (Ok tt) rest left → TakesAs (part_taken (from a rest)) b.image.numbers b.place (Some left) (Ok tt)
@@ -155,9 +151,7 @@ module _ (set : Set) (good : IsGood set) (section : Section) (here : section.dev
     slots_are : (o : Option ℕ) → IsOpen device image o v → (m : List ℤ)
         → part_slots set (Some device) (record image { numbers = m }) o ≡ desc_slots (meanings set.structs (length set.structs)) (part_desc device o) v m (part_base set device o)
     slots_are None h m = ap (λ (w : ℕ). desc_slots (meanings set.structs (length set.structs)) device.desc w m 0) (sym h)
-    slots_are (Some j) h m =
-        ap (λ (s : Option Sub). slots_of_sub set device (record image { numbers = m }) j s (slice_get image.came j)) (sub_there j h.0)
-        ∙ ap (λ (came : Option (Option ℕ)). slots_of_sub set device (record image { numbers = m }) j (Some (sub_at device j)) came) h.1
+    slots_are (Some j) h m = cc (sub_there j h.0)
 
     -- the state before the section's image is put
     abbrev outer : State
@@ -205,7 +199,7 @@ module _ (set : Set) (good : IsGood set) (section : Section) (here : section.dev
           long = r.long;
           is = b ∙ ap (λ (n : ℕ). Some (Refused n (Some section.device) r.reason r.long)) (sym h.0) ∙ ap (λ (w : Reason). Some (Refused p (Some section.device) w r.long)) (sym h.1);
           from = omega arith;
-          taken = h.2 ∙ ap (λ (b : List ℕ). Some (drop r.long b)) l.is ∙ ap (λ (b : List ℕ). Some b) (drop-drop r.long (r.place - place) rest ∙ ap (λ (k : ℕ). drop k rest) same);
+          taken = cc (drop-drop r.long (r.place - place) rest);
         }
     by_taken room inside place rest numbers to left (Err faults.ReadFault) t e b held h = tt
     by_taken room inside place rest numbers to left _ _ e b held h = absurd h

@@ -19,7 +19,7 @@ unit_of set names s place rest = one_unit (judge (by_state set names)) (advances
 -- a fault is reported alike whatever would follow
 pub still : {X Y : Type 0} (reading same : Option (Reading State)) (next : X → Onward) (other : Y → Onward) (at : ℕ) (to end : Stand) (rest : List ℕ) (left : Option (List ℕ)) (e : LoadFault)
     → reading ≡ same → Reads reading next at to rest left (Err e) → Reads same other at end rest left (Err e)
-still reading same next other at to end rest left (faults.Refused r) e h = record { long = h.long; is = sym e ∙ h.is; from = h.from; taken = h.taken }
+still reading same next other at to end rest left (faults.Refused r) e h = record { long = h.long; is = cc; from = h.from; taken = h.taken }
 still reading same next other at to end rest left faults.ReadFault e h = tt
 
 pub still_on : {X Y : Type 0} (old : Option (List ℕ)) (reading : Onward) (next : X → Onward) (other : Y → Onward) (from to end : Stand) (left : Option (List ℕ)) (e : LoadFault)
@@ -38,7 +38,7 @@ still_behind reading same next other at to end last rest left new (faults.Refuse
     let far : to - at + (r.at - to + h.long) ≡ r.at - at + h.long = omega arith in
     record {
       long = h.long;
-      is = e ∙ h.is;
+      is = cc;
       from = omega arith;
       taken = h.taken ∙ ap (λ (l : List ℕ). Some (drop (r.at - to + h.long) l)) there ∙ ap (λ (l : List ℕ). Some l) (drop-drop (r.at - to + h.long) (to - at) rest ∙ ap (λ (k : ℕ). drop k rest) (omega arith));
     }
@@ -94,7 +94,7 @@ module _ (go : State → Onward) (section : Option ℕ) (it : Piece → ℕ → 
   judged found = reading_after go at rest (judge_seen section it rest found)
 
   same_place : (place : ℕ) (reason why : Reason) → place ≡ at → reason ≡ why → refusal section place reason ≡ refusal section at why
-  same_place place reason why e f = ap (λ (p : ℕ). refusal section p reason) e ∙ ap (λ (w : Reason). refusal section at w) f
+  same_place place reason why e f = cc
 
   pub unit_fails : {Y : Type 0} (found : Seen) (left : Option (List ℕ)) (next : Y → Onward) (to : Stand) (place : ℕ) (reason : Reason)
       → place ≡ at → Fails found rest left reason → Reads (judged found) next at to rest left (Err (faults.Refused (refusal section place reason)))

@@ -203,7 +203,7 @@ module _ (old new : Intake) (image : Typed) (first count place : ℕ) (kind : Ki
     stopped more none =
         let put = put_from image.numbers first (values_of kind whole bytes) in
         let all : bytes ++ last ≡ (bytes ++ last) ++ more = sym (ap (λ (l : List ℕ). (bytes ++ last) ++ l) none ∙ append-nil (bytes ++ last)) in
-        let left : more ≡ drop (length last) last = none ∙ sym (drop_all (length last) last (omega arith)) in
+        let left : more ≡ drop (length last) last = cc (drop_all (length last) last (omega arith)) in
         let fault = faults.Refused (place + whole * width kind) reasons.Truncated in
         let behind = progress put (place + whole * width kind) last in
         let is = run_cut kind any count whole first place image.numbers bytes last long cut lt in
@@ -262,7 +262,7 @@ module _ (kind : Kind) (count n : ℕ) (buf : List ℕ) (room : length buf ≡ c
   pub part_came : n / width kind < count → PartCame
   part_came lt =
       let m = n / wide * wide in
-      let parts : take m buf ++ drop m (take n buf) ≡ take n buf = ap (λ (l : List ℕ). l ++ drop m (take n buf)) (sym (take-take m n buf below)) ∙ take-append-drop m (take n buf) in
+      let parts : take m buf ++ drop m (take n buf) ≡ take n buf = cc (take-take m n buf below, take-append-drop m (take n buf)) in
       let long : length (take n buf) ≡ n = length-take-le n buf bound in
       record {
         parts = parts;

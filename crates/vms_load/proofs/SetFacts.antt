@@ -3,7 +3,7 @@ use Rattle.vms_load.proofs.Facade.{◌≡◌, ℕ, ◌+◌, ◌<◌, ◌≤◌, 
 use Rattle.vms_load.proofs.Facade.{nat_le, suc, get_or, Bool, ◌&&◌, zero, ◌*◌, ◌^◌, false, and_parts, leb-true, get_or-map, slice_get-get_or, slice_get_within}
 use Rattle.vms_load.proofs.Facade.{get_or_from_slice_get, slice_get, State, at_start, Set, Sub, Desc, Field, Device, Slot, Number, Constant, Filler}
 use Rattle.vms_load.proofs.Facade.{Rule, Cell, no_cell, no_desc, desc_slots, device_cells, first, capacity_of, own_cells, own_slots, sub_place, sub_slots, Kind}
-use Rattle.vms_load.proofs.Facade.{U8, own_cell_count, first_fault, WellFormed, has_few, here, item_count, items_in, struct_items, subs_items, devices_items}
+use Rattle.vms_load.proofs.Facade.{U8, own_cell_count, first_fault, WellFormed, has_few, item_count, items_in, struct_items, subs_items, devices_items}
 use Rattle.vms_load.proofs.Facade.{Part, AreCells, sub_are, own_are, device_parts, Clean, struct_clean, sub_clean, device_at, is_well_formed, first_cell}
 use Rattle.vms_load.proofs.Facade.{HasPart, desc_at, sub_at, kinds_at, few_cells, own_inside_device, sub_inside, none_is, few_items, few_devices, IsIn, part_of}
 use Rattle.vms_load.proofs.Facade.{part_desc, part_base, bytes_of, subs_due, HasSpot, table, spot_slots, steps_of, WalkStep, IsOfKind, AreOfKinds, PartAt}
@@ -11,7 +11,6 @@ use Rattle.vms_load.proofs.Facade.{is_small_item, is_small_optional, Item, Num, 
 use Rattle.vms_load.proofs.Facade.{fields_bytes, desc_bytes, struct_bytes, section_bytes, sections_due, subs_bytes, devices_most, FOOT_LENGTH, LONGEST_HEAD}
 use Rattle.vms_load.proofs.Facade.{LONGEST_SUB_HEAD}
 use Rattle.vms_load.proofs.StreamLengths.{two_more}
-use Rattle.vms_spec.specs.declared.Part.TheVariants as parts
 
 pub well_of : (set : Set) → is_well_formed set ≡ true → WellFormed set
 well_of set h = none_is (first_fault set) h
@@ -37,7 +36,7 @@ module _ (set : Set) (well : is_well_formed set ≡ true) (k : ℕ) (lt : k < le
   pub part_spot : (sub : Option ℕ) → IsIn (device_at set k) sub → (n : List ℤ) → length n ≡ length (device_cells set (device_at set k)) → (spot : PartAt) → spot.part ≡ part_of k sub → spot.base ≡ first_cell set spot.part
       → HasSpot set spot n
   part_spot sub h n long spot part base =
-      let here : spot.base ≡ first_cell set (part_of k sub) = base ∙ ap (first_cell set) part in
+      let here : spot.base ≡ first_cell set (part_of k sub) = cc in
       let size = ap (λ (p : Part). own_cell_count set (desc_at set p)) part in
       record {
         part = subst (HasPart set) (sym part) (has_part sub h);
@@ -147,7 +146,7 @@ abbrev items_to : List Desc → ℕ → List ℕ
 items_to ds k = first (λ sizes d. items_in sizes d.fields) ds k
 
 same_long : (ds : List Desc) (k : ℕ) → length (struct_bytes ds k) ≡ length (items_to ds k)
-same_long ds k = first_long desc_bytes ds k ∙ sym (first_long (λ sizes d. items_in sizes d.fields) ds k)
+same_long ds k = cc (first_long desc_bytes ds k, first_long (λ sizes d. items_in sizes d.fields) ds k)
 
 structs_small : (ds : List Desc) → ((j : ℕ) → j < length ds → AreSmall (get_or ds j no_desc).fields) → (k : ℕ) → k ≤ length ds → Small (struct_bytes ds k) (items_to ds k)
 unfolding first
@@ -182,7 +181,7 @@ module _ (set : Set) (well : is_well_formed set ≡ true) where
         subst (λ (x : Device). AreSmall x.desc.fields) same (part_small set (well_of set well) k None lt tt),
         subst (λ (x : Device). length x.subs ≤ 32) same (few_subs set well k lt),
         λ j s f.
-            let g : slice_get (device_at set k).subs j ≡ Some s = ap (λ (x : Device). slice_get x.subs j) same ∙ f in
+            let g : slice_get (device_at set k).subs j ≡ Some s = cc in
             subst (λ (x : Sub). AreSmall x.desc.fields) (get_or_from_slice_get (device_at set k).subs j s _ g) (part_small set (well_of set well) k (Some j) lt (slice_get_within (device_at set k).subs j s g)),
       )
 
@@ -204,4 +203,4 @@ all_due set [] = refl
 all_due set (d ∷ devices) = omega (arith, section_is set d, all_due set devices)
 
 pub start_due : (set : Set) {state : State} → state ≡ at_start set → sections_due set set.devices state.came ≡ devices_most set set.devices
-start_due set e = ap (λ (s : State). sections_due set set.devices s.came) e ∙ all_due set set.devices
+start_due set e = cc (all_due set set.devices)

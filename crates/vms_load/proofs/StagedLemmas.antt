@@ -4,14 +4,13 @@ use Rattle.vms_load.proofs.Facade.{Ok, refl, sym, ap, ◌∙◌, subst, arith, s
 use Rattle.vms_load.proofs.Facade.{cases_eq, get_or-set_same, get_or-set_other, get_or_from_slice_get, slice_get_within, at_set, Device, Set, Image}
 use Rattle.vms_load.proofs.Facade.{default_image, Unknown, State, Before, at_start, device_at, opened_at, opened_unless, reason_against, section_opened, Typed}
 use Rattle.vms_load.proofs.Facade.{default_at, IsImageOf, AreImagesOf, AreShaped, begun_at, no_image, section_bytes, sections_due, at_other}
-use Rattle.vms_spec.specs.declared.Reason.TheVariants as reasons
 use Rattle.vms_image.specs.Typed.{state_of as untyped}
 use Rattle.vms_load.proofs.HeadLemmas.{known, device_below, device_is}
 
 -- an image of each device, with one replaced
 pub shaped_put : (set : Set) (images : List Typed) (k : ℕ) (image : Typed) → AreShaped set images → k < length set.devices → IsImageOf set k image → AreShaped set (slice_set images k image)
 shaped_put set images k image s lt here = record {
-  all = length-set images k image ∙ s.all;
+  all = cc (length-set images k image);
   each = λ j below. ⊎_elim (λ (e : j ≡ k). rw (e, get_or-set_same images k image no_image (omega arith)) here)
       (λ ne. rw (get_or-set_other images k j image no_image ne) (s.each j below)) (cases_eq j k);
 }
@@ -21,7 +20,7 @@ default_shaped set k v = record { subs = length-map (device_at set k).subs (λ s
 
 -- the image whose section has begun
 pub image_begun : (images first : List Typed) (k : ℕ) (image here : Typed) → here ≡ get_or images k here → images ≡ slice_set first k image → k < length first → here ≡ image
-image_begun images first k image here is e lt = is ∙ ap (λ (l : List Typed). get_or l k here) e ∙ get_or-set_same first k image here lt
+image_begun images first k image here is e lt = cc (get_or-set_same first k image here lt)
 
 -- it was at its defaults before
 pub begun_here : (set : Set) (new old : List Typed) (k v : ℕ) → new ≡ slice_set old k (record (get_or old k no_image) { version = v })
@@ -92,9 +91,7 @@ none_came (d ∷ devices) = ap (λ (l : List Bool). false ∷ l) (none_came devi
 
 pub starts : (set : Set) (images : List Image) (came : List Bool) (n : ℕ) → images ≡ map (default_image set) set.devices → n ≡ length set.devices → came ≡ replicate n false
     → state_at_magic images came ≡ at_start set
-starts set images came n e f g =
-    ap (λ (l : List Image). state_at_magic l came) e
-    ∙ ap (λ (l : List Bool). state_at_magic (map (default_image set) set.devices) l) (g ∙ ap (λ (m : ℕ). replicate m false) f ∙ none_came set.devices)
+starts set images came n e f g = cc (none_came set.devices)
 
 -- ---- a device whose section begins hasn't come
 
@@ -123,7 +120,6 @@ pub still_fresh : (set : Set) (old new : List Typed) (came now : List Bool) (k :
     → new ≡ slice_set old k x → ((j : ℕ) → slice_get came j ≡ Some false → get_or old j no_image ≡ default_at set j)
     → (j : ℕ) → slice_get now j ≡ Some false → get_or (slice_set new k image) j no_image ≡ default_at set j
 still_fresh set old new came now k x image lt now_is new_is fresh j e =
-    let here : slice_get (slice_set came k true) j ≡ Some false = sym (ap (λ (l : List Bool). slice_get l j) now_is) ∙ e in
     ⊎_elim (λ (same : j ≡ k). let there = at_set came k true lt in cc)
     (λ ne. get_or-set_other new k j image no_image ne ∙ ap (λ (l : List Typed). get_or l j no_image) new_is
-    ∙ get_or-set_other old k j x no_image ne ∙ fresh j (sym (at_other came k j true ne) ∙ here)) (cases_eq j k)
+    ∙ get_or-set_other old k j x no_image ne ∙ fresh j (sym (at_other came k j true ne) ∙ cc)) (cases_eq j k)

@@ -1,5 +1,5 @@
 -- How many bytes the steps of a part and the streams of a set may have.
-use Rattle.vms_load.proofs.Facade.{◌≡◌, ℕ, zero, suc, ◌+◌, ◌*◌, ◌≤◌, List, [], ◌∷◌, ◌++◌, length, get_or, ℤ, sym, ap, ◌∙◌, arith, Bool, true, false}
+use Rattle.vms_load.proofs.Facade.{◌≡◌, ℕ, zero, suc, ◌+◌, ◌*◌, ◌≤◌, List, [], ◌∷◌, ◌++◌, length, get_or, ℤ, sym, ◌∙◌, arith, Bool, true, false}
 use Rattle.vms_load.proofs.Facade.{if◌then◌else◌, Option, Some, None, length-append, mul-le-mul_right, length-replicate, Item, Num, Equal, Unused, Struct}
 use Rattle.vms_load.proofs.Facade.{Field, Desc, Set, Sub, Device, is_there, Slot, Rule, Meaning, no_meaning, no_desc, item_slots, item_size, times, field_slots}
 use Rattle.vms_load.proofs.Facade.{slots_from, desc_slots, field_cells, numbers_of, elements_of, capacity_of, counted, all_hold, no_parent, first, meaning}
@@ -13,7 +13,7 @@ abbrev long : List Slot → ℕ
 long xs = steps_long (steps_of xs)
 
 joined : (xs ys : List Slot) → long (xs ++ ys) ≡ long xs + long ys
-joined xs ys = ap steps_long (steps_append xs ys) ∙ long_append (steps_of xs) (steps_of ys)
+joined xs ys = cc (steps_append xs ys, long_append (steps_of xs) (steps_of ys))
 
 -- one more at the end of two lists side by side
 pub two_more : {A B : Type 0} (R : A → B → Type 0) (a0 : A) (b0 : B) → R a0 b0 → (xs : List A) (ys : List B) → length xs ≡ length ys

@@ -64,7 +64,7 @@ module _ (set : Set) (names : List (List ℕ)) where
     turn_section from mid end (Some rest) middle new head place final result came a far free is r =
         let bytes = ahead from.held rest in
         let n = head_long head in
-        let begun : IsBehind n place bytes mid middle = record { place = far ∙ ap (λ (k : ℕ). k + n) (sym is); held = free; taken = a.1 } in
+        let begun : IsBehind n place bytes mid middle = record { place = cc; held = free; taken = a.1 } in
         let onward = subst (λ (k : ℕ). ReadsBehind go (ask set names state (head_unit head) n) (λ _. go final) k n bytes end new result) is (r bytes begun) in
         subst (λ (x : Option (Reading State)). Reads x (λ _. go final) from.at end bytes new result) (sym (between_is from.at bytes))
         (unit_behind go None (ask set names state) from.at bytes (seen (due_of between) nothing_known bytes) (head_unit head) n (λ (x : Unit {0}). go final) end new result a.0
@@ -81,10 +81,10 @@ module _ (set : Set) (names : List (List ℕ)) (state : State) where
   asked spot = ask set names (at_spot spot)
 
   magic_is : (place : ℕ) (rest : List ℕ) → go set names (at_spot Before) place rest ≡ reading_after (go set names) place rest (judge_seen None (asked Before) rest (seen AMagic nothing_known rest))
-  magic_is place rest = unit_of set names (at_spot Before) place rest ∙ ap (reading_after (go set names) place rest) (judged_holds set names (at_spot Before) rest refl refl refl)
+  magic_is place rest = cc (unit_of set names (at_spot Before) place rest, judged_holds set names (at_spot Before) rest refl refl refl)
 
   version_is : (place : ℕ) (rest : List ℕ) → go set names (at_spot Headed) place rest ≡ reading_after (go set names) place rest (judge_seen None (asked Headed) rest (seen AVersion nothing_known rest))
-  version_is place rest = unit_of set names (at_spot Headed) place rest ∙ ap (reading_after (go set names) place rest) (judged_holds set names (at_spot Headed) rest refl refl refl)
+  version_is place rest = cc (unit_of set names (at_spot Headed) place rest, judged_holds set names (at_spot Headed) rest refl refl refl)
 
   abbrev onward : Unit {0} → Onward
   onward x = go set names (at_spot (Free true false))
@@ -141,7 +141,7 @@ module _ (set : Set) (names : List (List ℕ)) (state : State) where
   by_magic : (place : ℕ) (to : Stand) (rest : List ℕ) (left : Option (List ℕ)) (result : Result (Unit {0}) FrameFault) (found : Seen) → IsMagic rest found → OnOk result (to.at ≡ place + 8) → OnOk result (to.held ≡ None)
       → AnswersAfter found place rest left result → Reads (by_seen place rest found) onward place to rest left (concerns None result)
   by_magic place to rest left result (Good x n) is far free a =
-      let goes : asked Before x n ≡ Goes 4 (at_spot Headed) = ap (λ (y : Piece). asked Before y n) is.0 ∙ ap (λ (m : ℕ). asked Before (Magic (take 4 rest)) m) is.1 in
+      let goes : asked Before x n ≡ Goes 4 (at_spot Headed) = cc in
       subst (λ (v : Verdict State). Reads (reading_after (go set names) place rest v) onward place to rest left (concerns None result)) (sym goes) (on_version place to rest left result far free a)
   by_magic place to rest left (Err fault) (Bad n reason) is far free a =
       unit_fault (go set names) None (asked Before) place rest {X = Unit {0}} (λ _. Magic (take 4 rest)) (λ _. 4) (Bad n reason) left onward to fault a
@@ -190,9 +190,7 @@ module _ (set : Set) (names : List (List ℕ)) where
 
   -- the reading of a whole input, if the cursor holds nothing
   begins : (state : State) (from : Stand) (input : List ℕ) → state ≡ at_start set → from.at ≡ 0 → from.held ≡ None → goes state from.at (ahead from.held input) ≡ whole input
-  begins state from input is zero held =
-      ap (λ (s : State). goes s from.at (ahead from.held input)) is ∙ ap (λ (n : ℕ). goes (at_start set) n (ahead from.held input)) zero
-      ∙ ap (λ (o : Option ℕ). goes (at_start set) 0 (ahead o input)) held ∙ sym (whole_is input)
+  begins state from input is zero held = cc (whole_is input)
 
   -- the stream was refused before its end
   pub refused_before : {X : Type 0} (staged : Staged) (state : State) (old left : Option (List ℕ)) (next : X → Onward) (from to : Stand) (e : LoadFault) → state ≡ at_start set → from.at ≡ 0 → from.held ≡ None
@@ -211,7 +209,7 @@ module _ (set : Set) (names : List (List ℕ)) where
     closed_state = state_of set staged Over
 
     trailer_is : (place b : ℕ) (more : List ℕ) → goes ended place (b ∷ more) ≡ reading_after goes place (b ∷ more) (judge_seen None (ask set names ended) (b ∷ more) (seen AfterEnd nothing_known (b ∷ more)))
-    trailer_is place b more = unit_of set names ended place (b ∷ more) ∙ ap (reading_after goes place (b ∷ more)) (judged_holds set names ended (b ∷ more) refl refl refl)
+    trailer_is place b more = cc (unit_of set names ended place (b ∷ more), judged_holds set names ended (b ∷ more) refl refl refl)
 
     -- at the end of input nothing more is due
     end_is : (place : ℕ) → goes ended place [] ≡ Some (Accepted place ended)

@@ -1,13 +1,8 @@
 -- Hexadecimal digits, spelled and read.
-use Rattle.std.proofs.Common.{◌≡◌, ℕ, ◌+◌, ◌-◌, ◌*◌, ◌/◌, ◌%◌, ◌<◌, ◌≤◌, Bool, true, false, not, ◌&&◌, ◌==◌, nat_le, nat_lt, cond, List, [], ◌∷◌, ◌++◌, Option, Some, None, if◌then◌else◌, refl, sym, ap, ◌∙◌, arith}
-use Rattle.std.specs.List.{list_all}
-use Rattle.std.proofs.lemmas.Bool.{ne_eqb, le-leb, lt-leb, leb-true, and_parts, ltb-true, ltb-false}
-use Rattle.std.proofs.lemmas.Bool.Decides.{nat_tests}
-use Rattle.std.proofs.lemmas.Nat.{div-mul-add, mod-mul-add}
-use Rattle.std.specs.Char.{digit_char}
-use Rattle.vms_spec.specs.Spelling.{is_digit}
-use Rattle.vms_script.specs.Grammar.{port_text}
-use Rattle.vms_script.specs.Words.{digit_spelled, joined, byte_spelled, port_spelled, byte_text}
+use Rattle.vms_script.proofs.Facade.{◌≡◌, ℕ, ◌+◌, ◌-◌, ◌*◌, ◌/◌, ◌%◌, ◌<◌, ◌≤◌, Bool, true, false, not, ◌&&◌, ◌==◌, nat_le, nat_lt, List, [], ◌∷◌, ◌++◌, Option}
+use Rattle.vms_script.proofs.Facade.{Some, None, if◌then◌else◌, refl, sym, ap, ◌∙◌, arith, list_all, ne_eqb, le-leb, lt-leb, leb-true, and_parts, ltb-true}
+use Rattle.vms_script.proofs.Facade.{ltb-false, nat_tests, div-mul-add, mod-mul-add, digit_char, is_digit, port_text, digit_spelled, joined, byte_spelled}
+use Rattle.vms_script.proofs.Facade.{port_spelled, byte_text}
 
 -- ---- from a value to its digit and back
 

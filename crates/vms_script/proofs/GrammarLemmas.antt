@@ -1,22 +1,11 @@
 -- Lines as they are spelled, and lines that are read.
-use Rattle.std.proofs.Common.{◌≡◌, ℕ, ◌+◌, ◌^◌, ◌<◌, Bool, true, false, not, ◌&&◌, ◌==◌, nat_le, nat_lt, List, ◌∷◌, ◌++◌, length, get_or, Option, Some, None, Ok, Err, ℤ, pos, if◌then◌else◌, refl, sym, ap, ◌∙◌, arith, []}
-use Rattle.std.specs.Prelude.{codes}
-use Rattle.std.specs.Fmt.{decimal}
-use Rattle.std.specs.List.{list_all}
-use Rattle.std.proofs.lemmas.Bool.{and_parts, ltb-true, ltb-false, ne_eqb, not-true}
-use Rattle.std.proofs.lemmas.Fmt.{digits_decimal}
-use Rattle.dev_board.specs.declared.event.Event.{Event}
+use Rattle.vms_script.proofs.Facade.{◌≡◌, ℕ, ◌+◌, ◌^◌, ◌<◌, Bool, true, false, not, ◌&&◌, ◌==◌, nat_le, nat_lt, List, ◌∷◌, ◌++◌, length, get_or, Option, Some}
+use Rattle.vms_script.proofs.Facade.{None, Ok, pos, if◌then◌else◌, refl, sym, ap, ◌∙◌, arith, [], codes, decimal, list_all, and_parts, ltb-true, ltb-false}
+use Rattle.vms_script.proofs.Facade.{ne_eqb, not-true, digits_decimal, Event, numerals, number_holds, port_text, event_text, line_text, script_text, IsEvent}
+use Rattle.vms_script.proofs.Facade.{IsLine, AreLines, is_wire, NEWEST, ScriptLine, Happens, Saves, Restores, Read, or_form, number_in, is_wait, is_set_of}
+use Rattle.vms_script.proofs.Facade.{out_line, wire_line, set_spelled, save_line, line_read, is_name_byte, is_name, name_byte_high, is_shelf_name, Split}
+use Rattle.vms_script.proofs.Facade.{Reading, lines_of, also, with_line, lines_read, text_read, script_read, first_word, longer_word, byte_spelled, byte_text}
 use Rattle.dev_board.specs.declared.event.Event.TheVariants as events
-use Rattle.vms_words.proofs.Spells.{numerals, number_holds}
-use Rattle.vms_script.specs.Grammar.{port_text, event_text, line_text, script_text, IsEvent, IsLine, AreLines}
-use Rattle.dev_board.specs.Wires.{is_wire}
-use Rattle.dev_base.specs.declared.limits.TheConstants.{NEWEST}
-use Rattle.vms_script.specs.Lines.{ScriptLine, Happens, Saves, Restores, Read, or_form, or_range, number_in, is_wait, is_set_of, out_line, wire_line, set_spelled, save_line, line_read}
-use Rattle.vms_spec.specs.Names.{is_name_byte, is_name}
-use Rattle.vms_spec.proofs.NameBytes.{name_byte_high}
-use Rattle.vms_script.specs.Names.{is_shelf_name}
-use Rattle.vms_script.specs.Script.{Split, Reading, lines_of, begun, also, with_line, lines_read, text_read, script_read}
-use Rattle.vms_script.specs.Words.{first_word, longer_word, byte_spelled, byte_text}
 use Rattle.vms_script.specs.declared.line.ScriptReason.TheVariants as reasons
 use Rattle.vms_script.proofs.DigitLemmas.{lacks, lacks-append, byte_lacks, port_lacks, digits_lack, byte_back, port_back}
 use Rattle.vms_script.proofs.NumberLemmas.{EndsEarly, waits_end, wires_end, sets_end}

@@ -1,22 +1,13 @@
 -- What is read is spelled so.
-use Rattle.std.proofs.Common.{◌≡◌, ℕ, ◌+◌, ◌^◌, Bool, true, false, ◌==◌, nat_lt, List, ◌∷◌, ◌++◌, Option, Some, None, Ok, Err, ℤ, pos, negsuc, if◌then◌else◌, refl, sym, ap, ◌∙◌, subst, []}
-use Rattle.std.specs.Prelude.{codes}
-use Rattle.std.specs.Fmt.{decimal}
-use Rattle.std.specs.Str.{bytes_eq}
-use Rattle.std.proofs.lemmas.Bool.{eqb-true, and_parts, ltb-true, ltb-false}
-use Rattle.std.proofs.lemmas.Option.{same_Some}
-use Rattle.std.proofs.lemmas.Slice.Eq.{bytes_eq-Decides}
+use Rattle.vms_script.proofs.Facade.{◌≡◌, ℕ, ◌+◌, ◌^◌, Bool, true, false, ◌==◌, nat_lt, List, ◌∷◌, ◌++◌, Option, Some, None, Ok, Err, ℤ, pos, negsuc}
+use Rattle.vms_script.proofs.Facade.{if◌then◌else◌, refl, sym, ap, ◌∙◌, subst, [], codes, decimal, bytes_eq, eqb-true, and_parts, ltb-true, ltb-false}
+use Rattle.vms_script.proofs.Facade.{same_Some, bytes_eq-Decides, number_spelled, begins_with, spelled_holds, line_text, script_text, IsLine, AreLines}
+use Rattle.vms_script.proofs.Facade.{ReadsExactly, is_wire, NEWEST, ScriptLine, Happens, Saves, Restores, Read, or_form, or_range, number_in, is_wait}
+use Rattle.vms_script.proofs.Facade.{is_set_of, in_line, byte_line, wait_line, out_line, wire_line, set_spelled, name_spelled, save_line, restore_line}
+use Rattle.vms_script.proofs.Facade.{session_line, play_line, line_of_words, line_split, line_read, is_shelf_name, Split, Reading, lines_of, begun, with_line}
+use Rattle.vms_script.proofs.Facade.{unended, tail_read, lines_read, script_read, level_text, first_word, longer_word, byte_spelled, port_spelled}
+use Rattle.vms_script.proofs.Facade.{level_spelled}
 use Rattle.dev_board.specs.declared.event.Event.TheVariants as events
-use Rattle.vms_spec.specs.Spelling.{number_spelled, begins_with}
-use Rattle.vms_words.proofs.Spells.{spelled_holds}
-use Rattle.vms_script.specs.Grammar.{port_text, line_text, script_text, IsLine, AreLines, ReadsExactly}
-use Rattle.dev_board.specs.Wires.{is_wire}
-use Rattle.dev_base.specs.declared.limits.TheConstants.{NEWEST}
-use Rattle.vms_script.specs.Lines.{ScriptLine, Happens, Saves, Restores, Read, or_form, or_range, number_in, is_wait, is_set_of, in_line, byte_line, wait_line, out_line, wire_line, set_spelled, name_spelled, save_line, restore_line, session_line, play_line, line_of_words, line_split, line_read}
-use Rattle.vms_script.specs.Names.{is_shelf_name}
-use Rattle.vms_script.specs.Script.{Split, Reading, lines_of, begun, with_line, unended, tail_read, lines_read, script_read}
-use Rattle.vms_script.specs.Trace.{level_text}
-use Rattle.vms_script.specs.Words.{first_word, longer_word, byte_spelled, port_spelled, level_spelled}
 use Rattle.vms_script.specs.declared.line.ScriptReason.TheVariants as reasons
 use Rattle.vms_script.proofs.DigitLemmas.{byte_is, port_is}
 use Rattle.vms_script.proofs.GrammarLemmas.{spelled_read}

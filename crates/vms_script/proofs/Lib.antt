@@ -1,4 +1,5 @@
 pub mod DigitLemmas
+pub mod Facade
 pub mod GrammarLemmas
 pub mod GrammarOnly
 pub mod NameLemmas

@@ -1,11 +1,6 @@
 -- Names are ASCII.
-use Rattle.std.proofs.Common.{◌≡◌, ℕ, suc, zero, ◌<◌, true, ◌&&◌, ◌==◌, nat_le, not, List, ◌∷◌, length, get_or, arith, []}
-use Rattle.std.specs.List.{list_all}
-use Rattle.std.specs.Prelude.{IsAscii, slice_index}
-use Rattle.std.proofs.lemmas.Bool.{and_parts}
-use Rattle.vms_spec.specs.Names.{is_name_byte, is_name}
-use Rattle.vms_spec.proofs.NameBytes.{name_byte_low}
-use Rattle.vms_script.specs.Names.{is_shelf_name}
+use Rattle.vms_script.proofs.Facade.{◌≡◌, ℕ, suc, zero, ◌<◌, true, ◌&&◌, ◌==◌, nat_le, not, List, ◌∷◌, length, get_or, arith, [], list_all, IsAscii}
+use Rattle.vms_script.proofs.Facade.{slice_index, and_parts, is_name_byte, is_name, name_byte_low, is_shelf_name}
 
 bytes_ascii : (bytes : List ℕ) → list_all is_name_byte bytes ≡ true → (i : ℕ) → slice_index bytes i < 128
 bytes_ascii [] e i = omega arith

@@ -1,17 +1,9 @@
 -- Numbers as they are spelled, and their ranges.
-use Rattle.std.proofs.Common.{◌≡◌, ℕ, ◌+◌, ◌-◌, ◌*◌, ◌^◌, ◌<◌, ◌≤◌, Bool, true, false, nat_le, nat_lt, List, length, get_or, drop, Option, Some, None, Ok, Err, ℤ, pos, negsuc, if◌then◌else◌, refl, sym, ap, ◌∙◌, arith}
-use Rattle.std.proofs.lemmas.Bool.{ltb-false, and_right, lt-ltb, le-ltb}
-use Rattle.std.proofs.lemmas.Bool.Decides.{nat_tests}
-use Rattle.std.proofs.lemmas.List.{drop_more, drop_all}
-use Rattle.vms_spec.specs.Spelling.{natural_from, number_spelled}
-use Rattle.vms_spec.proofs.ListLaws.{natural_up}
+use Rattle.vms_script.proofs.Facade.{◌≡◌, ℕ, ◌+◌, ◌-◌, ◌*◌, ◌^◌, ◌<◌, ◌≤◌, Bool, true, false, nat_le, nat_lt, List, length, get_or, drop, Option, Some, None}
+use Rattle.vms_script.proofs.Facade.{Ok, Err, ℤ, pos, negsuc, if◌then◌else◌, refl, sym, ap, ◌∙◌, arith, ltb-false, and_right, lt-ltb, le-ltb, nat_tests}
+use Rattle.vms_script.proofs.Facade.{drop_more, drop_all, natural_from, number_spelled, natural_up, is_wire, NEWEST, ScriptLine, Happens, or_form, or_range}
+use Rattle.vms_script.proofs.Facade.{number_in, is_wait, is_set_of, wire_line, level_spelled, number_read, below_2_64, ScriptReason}
 use Rattle.dev_board.specs.declared.event.Event.TheVariants as events
-use Rattle.dev_board.specs.Wires.{is_wire}
-use Rattle.dev_base.specs.declared.limits.TheConstants.{NEWEST}
-use Rattle.vms_script.specs.Lines.{ScriptLine, Happens, or_form, or_range, number_in, is_wait, is_set_of, wire_line}
-use Rattle.vms_script.specs.Words.{level_spelled}
-use Rattle.vms_script.specs.Views.{number_read, below_2_64}
-use Rattle.vms_script.specs.declared.line.ScriptReason.{ScriptReason}
 use Rattle.vms_script.specs.declared.line.ScriptReason.TheVariants as reasons
 
 pub below_none : (n : ℕ) → below_2_64 n ≡ None → 2 ^ 64 ≤ n

@@ -1,12 +1,8 @@
 -- A text is refused at its first bad line.
-use Rattle.std.proofs.Common.{◌≡◌, ℕ, ◌+◌, Bool, true, false, not, ◌==◌, List, ◌∷◌, ◌++◌, Option, Some, None, Ok, Err, if◌then◌else◌, refl, sym, ap, ◌∙◌, subst, arith, append_assoc, []}
-use Rattle.std.proofs.lemmas.Bool.{and_parts, not-true}
-use Rattle.vms_spec.specs.Spelling.{first_line, longer_line}
-use Rattle.vms_script.specs.Grammar.{line_text, script_text}
-use Rattle.vms_script.specs.Lines.{Read, line_read}
-use Rattle.vms_script.specs.Refusal.{unended_reason, IsBadHere, IsRefused, RefusesFirst}
-use Rattle.vms_script.specs.Script.{Split, Reading, BadLine, lines_of, begun, with_line, unended, tail_read, lines_read, script_read}
-use Rattle.vms_script.specs.declared.line.ScriptReason.{ScriptReason}
+use Rattle.vms_script.proofs.Facade.{◌≡◌, ℕ, ◌+◌, Bool, true, false, not, ◌==◌, List, ◌∷◌, ◌++◌, Option, Some, None, Ok, Err, if◌then◌else◌, refl, sym, ap, ◌∙◌}
+use Rattle.vms_script.proofs.Facade.{subst, arith, append_assoc, [], and_parts, not-true, first_line, longer_line, line_text, script_text, Read, line_read}
+use Rattle.vms_script.proofs.Facade.{unended_reason, IsBadHere, IsRefused, RefusesFirst, Split, Reading, BadLine, lines_of, begun, with_line, unended}
+use Rattle.vms_script.proofs.Facade.{tail_read, lines_read, script_read, ScriptReason}
 use Rattle.vms_script.proofs.DigitLemmas.{lacks}
 use Rattle.vms_script.proofs.GrammarOnly.{unsplit, text_split, line_is}
 

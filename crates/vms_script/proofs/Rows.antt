@@ -1,9 +1,6 @@
 -- Worked scripts: what they say, and the first bad line with its reason.
-use Rattle.std.proofs.Common.{◌≡◌, [], ◌∷◌, Some, None, Ok, Err, true, refl}
-use Rattle.std.specs.Prelude.{codes}
+use Rattle.vms_script.proofs.Facade.{◌≡◌, [], ◌∷◌, Some, None, Ok, Err, true, refl, codes, Happens, Saves, Restores, line_read, bad, script_read}
 use Rattle.dev_board.specs.declared.event.Event.TheVariants as events
-use Rattle.vms_script.specs.Lines.{Happens, Saves, Restores, line_read}
-use Rattle.vms_script.specs.Script.{bad, script_read}
 use Rattle.vms_script.specs.declared.line.ScriptReason.TheVariants as reasons
 
 record WholeScripts : Type 0 where

@@ -1,14 +1,8 @@
 -- A script, line by line.
-use Rattle.std.proofs.Common.{◌≡◌, ℕ, ◌+◌, ◌<◌, Bool, true, false, ◌==◌, List, [], ◌∷◌, ◌++◌, length, Option, Some, None, Ok, Err, if◌then◌else◌, refl, sym, ap, ◌∙◌, subst, arith, append_assoc}
-use Rattle.std.proofs.lemmas.Bool.{eqb-true}
-use Rattle.std.proofs.lemmas.List.{append-nil}
-use Rattle.vms_spec.specs.Spelling.{first_line, longer_line}
-use Rattle.vms_script.specs.Lines.{ScriptLine, Read, line_read}
-use Rattle.vms_script.specs.Script.{Split, Reading, lines_of, begun, bad, also, with_line, unended, tail_read, lines_read, text_read}
-use Rattle.vms_script.specs.Views.{SaysLines, IsBadAt, IsPut, IsRefusal, ReadsLines}
-use Rattle.vms_script.specs.declared.line.ScriptFault.{ScriptFault}
-use Rattle.vms_script.specs.declared.line.ScriptFault.TheVariants.{Bad, NoMemory}
-use Rattle.vms_script.specs.declared.line.ScriptReason.{ScriptReason}
+use Rattle.vms_script.proofs.Facade.{◌≡◌, ℕ, ◌+◌, ◌<◌, Bool, true, false, ◌==◌, List, [], ◌∷◌, ◌++◌, length, Option, Some, None, Ok, Err, if◌then◌else◌, refl}
+use Rattle.vms_script.proofs.Facade.{sym, ap, ◌∙◌, arith, append_assoc, eqb-true, append-nil, first_line, longer_line, ScriptLine, Read, line_read, Split}
+use Rattle.vms_script.proofs.Facade.{Reading, lines_of, begun, bad, also, with_line, unended, tail_read, lines_read, text_read, SaysLines, IsBadAt, IsPut}
+use Rattle.vms_script.proofs.Facade.{IsRefusal, ReadsLines, ScriptFault, Bad, NoMemory, ScriptReason}
 use Rattle.vms_script.specs.declared.line.ScriptReason.TheVariants as reasons
 
 -- ---- the lines of a text by its first line

@@ -1,12 +1,7 @@
 -- The first word of a line.
-use Rattle.std.proofs.Common.{◌≡◌, ℕ, zero, suc, ◌+◌, ◌<◌, ◌≤◌, ◌==◌, Bool, true, false, List, [], ◌∷◌, length, get_or, take, drop, Option, Some, None, Ok, Err, if◌then◌else◌, refl, sym, ap, ◌∙◌, arith, ⊎_elim}
-use Rattle.std.specs.Prelude.{codes}
-use Rattle.std.specs.Str.{bytes_eq}
-use Rattle.std.proofs.lemmas.Bool.{cases_lt, ne_eqb, eq-eqb}
-use Rattle.std.proofs.lemmas.Option.{none-some}
-use Rattle.dev_board.specs.declared.event.Event.TheVariants.{Ack}
-use Rattle.vms_script.specs.Lines.{Happens, line_read, line_split}
-use Rattle.vms_script.specs.Words.{first_word, longer_word}
+use Rattle.vms_script.proofs.Facade.{◌≡◌, ℕ, zero, suc, ◌+◌, ◌<◌, ◌≤◌, ◌==◌, Bool, true, false, List, [], ◌∷◌, length, get_or, take, drop, Option, Some, None}
+use Rattle.vms_script.proofs.Facade.{Ok, Err, if◌then◌else◌, refl, sym, ap, ◌∙◌, arith, ⊎_elim, codes, bytes_eq, cases_lt, ne_eqb, eq-eqb, none-some, Ack}
+use Rattle.vms_script.proofs.Facade.{Happens, line_read, line_split, first_word, longer_word}
 use Rattle.vms_script.specs.declared.line.ScriptReason.TheVariants as reasons
 
 -- a byte is at an offset, and not before it

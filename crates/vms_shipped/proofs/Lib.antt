@@ -1,2 +1,3 @@
+pub mod Facade
 pub mod RowLaws
 pub mod SetLaws

@@ -1,9 +1,7 @@
 -- Parts made row by row.
-use Rattle.std.proofs.Common.{◌≡◌, ℕ, ◌+◌, ◌<◌, List, [], ◌∷◌, ◌++◌, length, get_or, take, drop, map, sym, ap, ◌∙◌, append_assoc}
-use Rattle.std.proofs.lemmas.List.{map-append, take_more, drop_more}
+use Rattle.vms_shipped.proofs.Facade.{◌≡◌, ℕ, ◌+◌, ◌<◌, List, [], ◌∷◌, ◌++◌, length, get_or, take, drop, map, sym, ap, ◌∙◌, append_assoc, map-append, take_more}
+use Rattle.vms_shipped.proofs.Facade.{drop_more, Field, field_of}
 use Rattle.vms_spec.specs.Sets as sets
-use Rattle.vms_parts.specs.declared.types.Field.{Field}
-use Rattle.vms_parts.specs.Views.{field_of}
 
 -- one more part
 pub pushed : {A B : Type 0} (view : A → B) (made new : List A) (one : A) (read : B)

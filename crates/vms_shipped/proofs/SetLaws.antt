@@ -1,7 +1,5 @@
 -- The parts of a set by another name of it.
-use Rattle.std.proofs.Common.{◌≡◌, ℕ, zero, suc, ◌≤◌, Result, Ok, Err, IfOk, refl, ◌∙◌, arith}
-use Rattle.vms_shipped.specs.ClockSets.{clock_1, clock_2, clock_set}
-use Rattle.vms_spec.specs.Sets.{Set}
+use Rattle.vms_shipped.proofs.Facade.{◌≡◌, ℕ, zero, suc, ◌≤◌, Result, Ok, Err, IfOk, refl, ◌∙◌, arith, clock_1, clock_2, clock_set, Set}
 
 pub same_set : {A E : Type 0} (view : A → Set) (outcome : Result A E) (first second : Set)
     → IfOk outcome (λ made. view made ≡ first) → first ≡ second → IfOk outcome (λ made. view made ≡ second)

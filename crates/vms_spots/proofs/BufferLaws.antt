@@ -96,14 +96,13 @@ pub holds : (spots : List Spot) (numbers : List ℤ) (bytes : List ℕ) → leng
     → AreOf (kinds_of spots) numbers → bytes ≡ raw_of (kinds_of spots) numbers → Holds spots numbers bytes
 holds spots numbers bytes few laid are raw =
     let kinds = kinds_of spots in
-    let read : map (number_at bytes) spots ≡ numbers =
-    ap (λ (l : List ℕ). map (number_at l) spots) raw ∙ ap (λ (l : List Spot). map (number_at (raw_of kinds numbers)) l) laid ∙ numbers_are kinds numbers are in
+    let read : map (number_at bytes) spots ≡ numbers = cc (numbers_are kinds numbers are) in
     record {
       held_is = record {
         few = few;
         laid = laid;
         fit = subst (AreOf kinds) (sym read) are;
-        raw = raw ∙ ap (λ (l : List ℤ). raw_of kinds l) (sym read);
+        raw = cc;
       };
       seen = ap (λ (l : List ℤ). let h : Held = record { kinds = kinds; numbers = l } in h) read;
       long = omega (arith, ap length raw, raw_long 0 kinds numbers are.long);
@@ -185,7 +184,7 @@ begun kinds spots bytes n few laid size e =
 pub same_spots : (spots others : List Spot) (bytes more : List ℕ) (seen other : Held) → held spots bytes ≡ seen → held others more ≡ other → IsHeld spots bytes → IsHeld others more → seen.kinds ≡ other.kinds
     → (spots ≡ others) × (length bytes ≡ length more)
 same_spots spots others bytes more seen other s o h k same =
-    let kinds : kinds_of spots ≡ kinds_of others = ap (λ (x : Held). x.kinds) s ∙ same ∙ sym (ap (λ (x : Held). x.kinds) o) in
+    let kinds : kinds_of spots ≡ kinds_of others = cc in
     let long = raw_long 0 (kinds_of spots) (map (number_at bytes) spots) h.fit.long in
     let longer = raw_long 0 (kinds_of others) (map (number_at more) others) k.fit.long in
     (h.laid ∙ ap spots_of kinds ∙ sym k.laid, omega (arith, ap length h.raw, ap length k.raw, ap (end_from 0) kinds))

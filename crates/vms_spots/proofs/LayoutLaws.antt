@@ -17,27 +17,22 @@ pub goes : (kinds : List Kind) (spots new : List Spot) (end next i : ℕ) (d : K
     → new ≡ spots ++ (s ∷ []) → next ≡ s.offset + width s.kind → LaidOut kinds spots end i → LaidOut kinds new next (i + 1)
 goes kinds spots new end next i d s lt is n e l =
     let kind = get_or kinds i d in
-    let a = aligned_is kind end in
-    let next_is : next ≡ aligned (width kind) end + width kind = e ∙ ap (λ (x : Spot). x.offset + width x.kind) is in
-    let here : Spot = record { offset = aligned (width kind) end; kind = kind } in
+    let next_is : next ≡ aligned (width kind) end + width kind = cc in
     let rest : List Spot = spots_from (aligned (width kind) end + width kind) (drop (i + 1) kinds) in
     record {
-      small = omega (arith, next_is, a.eighth i l.small);
-      rest = ap (λ (x : ℕ). new ++ spots_from x (drop (i + 1) kinds)) next_is
-          ∙ ap (λ (x : List Spot). x ++ rest) (n ∙ ap (λ (x : Spot). spots ++ (x ∷ [])) is) ∙ append_assoc spots (here ∷ []) rest
-          ∙ ap (λ (x : List Kind). spots ++ spots_from end x) (sym (drop_more kinds i d lt)) ∙ l.rest;
+      small = omega (arith, (aligned_is kind end).eighth i l.small);
+      rest = cc (append_assoc spots ((record { offset = aligned (width kind) end; kind = kind }) ∷ []) rest, drop_more kinds i d lt);
     }
 
 pub ends : (kinds : List Kind) (spots : List Spot) (end i : ℕ) → length kinds ≤ i → LaidOut kinds spots end i → spots ≡ spots_of kinds
-ends kinds spots end i all l =
-    sym (append-nil spots) ∙ ap (λ (x : List Kind). spots ++ spots_from end x) (sym (drop_all i kinds all)) ∙ l.rest
+ends kinds spots end i all l = cc (append-nil spots, drop_all i kinds all)
 
 -- spots that are laid out are those of their kinds
 pub laid_again : (kinds : List Kind) (spots : List Spot) → spots ≡ spots_of kinds → spots ≡ spots_of (kinds_of spots)
-laid_again kinds spots e = e ∙ ap spots_of (sym (ap kinds_of e ∙ kinds_are 0 kinds))
+laid_again kinds spots e = cc (kinds_are 0 kinds)
 
 pub kinds_again : (kinds : List Kind) (spots : List Spot) → spots ≡ spots_of kinds → kinds_of spots ≡ kinds
-kinds_again kinds spots e = ap kinds_of e ∙ kinds_are 0 kinds
+kinds_again kinds spots e = cc (kinds_are 0 kinds)
 
 -- ---- the last one
 

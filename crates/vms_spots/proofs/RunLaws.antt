@@ -53,14 +53,11 @@ run_at kind count e (x ∷ kinds) (z ∷ numbers) zero some ones room long =
     let there : aligned (width kind) at ≡ at = subst (λ (y : Kind). aligned (width y) at ≡ at) (ones 0 (omega arith) (omega arith)) (twice x e) in
     let r = run_front kind count at (x ∷ kinds) (z ∷ numbers) there (λ k lt. ones k (omega arith) (omega arith)) (omega arith) long in
     let none : aligned (width x) at - at ≡ 0 = omega (arith, twice x e) in
-    let here : raw_from at (x ∷ kinds) (z ∷ numbers) ≡ code x z ++ raw_from (at + width x) kinds numbers =
-    ap (λ (n : ℕ). replicate n 0 ++ (code x z ++ raw_from (aligned (width x) at + width x) kinds numbers)) none
-    ∙ ap (λ (n : ℕ). code x z ++ raw_from (n + width x) kinds numbers) (twice x e) in
     record {
       before = replicate (at - e) 0;
       after = r.0;
       long = omega (arith, length-replicate {A = ℕ} (at - e) 0);
-      whole = ap (λ (l : List ℕ). replicate (at - e) 0 ++ l) (sym here ∙ r.1);
+      whole = ap (λ (l : List ℕ). replicate (at - e) 0 ++ l) (sym (cc (twice x e)) ∙ r.1);
     }
 run_at kind count e (x ∷ kinds) (y ∷ numbers) (suc k) some ones room long =
     let a = aligned_is x e in
@@ -72,9 +69,7 @@ run_at kind count e (x ∷ kinds) (y ∷ numbers) (suc k) some ones room long =
       before = front ++ (code x y ++ r.before);
       after = r.after;
       long = omega (arith, length-append front (code x y ++ r.before), length-append (code x y) r.before, length-code x y, length-replicate {A = ℕ} (at - e) 0);
-      whole = ap (λ (l : List ℕ). front ++ (code x y ++ l)) r.whole
-          ∙ ap (λ (l : List ℕ). front ++ l) (sym (append_assoc (code x y) r.before (codes ++ r.after)))
-          ∙ sym (append_assoc front (code x y ++ r.before) (codes ++ r.after));
+      whole = cc (append_assoc (code x y) r.before (codes ++ r.after), append_assoc front (code x y ++ r.before) (codes ++ r.after));
     }
 
 -- ---- their codes
@@ -97,8 +92,7 @@ codes_seen spots bytes first count kind s seen same h some room ones is =
     let long : length kinds ≡ length spots = length-map spots (λ s. s.kind) in
     let many : length numbers ≡ length spots = length-map spots (number_at bytes) in
     let r = run_at kind count 0 kinds numbers first some (subst (λ (x : Held). AreOne x.kinds first count kind) (sym same) ones) (omega arith) h.fit.long in
-    let offset : s.offset ≡ (get_or (spots_of kinds) first no_spot).offset =
-    ap (λ (x : Spot). x.offset) (get_or_read spots first s (omega arith) is no_spot) ∙ ap (λ (l : List Spot). (get_or l first no_spot).offset) h.laid in
+    let offset : s.offset ≡ (get_or (spots_of kinds) first no_spot).offset = cc (get_or_read spots first s (omega arith) is no_spot) in
     let part = take count (drop first numbers) in
     let some_long : length part ≡ count = length-take-le count (drop first numbers) (omega (arith, length-drop first numbers)) in
     let codes : length (codes_of kind part) ≡ count * width kind = codes_long kind part ∙ ap (λ (n : ℕ). n * width kind) some_long in

@@ -115,7 +115,7 @@ split e (kind ∷ kinds) (y ∷ numbers) (suc k) lt long =
 
 -- the bytes at an offset, by those before them
 pub part_is : (before part after : List ℕ) (at n : ℕ) → length before ≡ at → length part ≡ n → take n (drop at (before ++ (part ++ after))) ≡ part
-part_is before part after at n a p = ap (λ (l : List ℕ). take n l) (drop_at before (part ++ after) at a) ∙ take_at part after n p
+part_is before part after at n a p = cc (drop_at before (part ++ after) at a, take_at part after n p)
 
 -- the code of a number is at its spot
 pub code_at : (kinds : List Kind) (numbers : List ℤ) (k : ℕ) → k < length kinds → length numbers ≡ length kinds
@@ -124,8 +124,7 @@ code_at kinds numbers k lt long =
     let s = split 0 kinds numbers k lt long in
     let kind = get_or kinds k U8 in
     let z = get_or numbers k (pos 0) in
-    let now : raw_of kinds numbers ≡ s.before ++ (code kind z ++ s.after) = ap (λ (l : List ℤ). raw_from 0 kinds l) (sym (set-get_or numbers k (pos 0))) ∙ s.whole z in
-    ap (λ (l : List ℕ). take (width kind) (drop (get_or (spots_of kinds) k no_spot).offset l)) now
+    ap (λ (l : List ℕ). take (width kind) (drop (get_or (spots_of kinds) k no_spot).offset l)) (cc (set-get_or numbers k (pos 0), s.whole z))
     ∙ part_is s.before (code kind z) s.after (get_or (spots_of kinds) k no_spot).offset (width kind) (omega arith) (length-code kind z)
 
 pub number_is : (kinds : List Kind) (numbers : List ℤ) (k : ℕ) → k < length kinds → AreOf kinds numbers
@@ -149,7 +148,7 @@ numbers_are kinds numbers are =
 
 pub set_fits : (kinds : List Kind) (numbers : List ℤ) (cell : ℕ) (z : ℤ) → AreOf kinds numbers → InRange (get_or kinds cell U8) z → AreOf kinds (set numbers cell z)
 set_fits kinds numbers cell z are fits = record {
-  long = length-set numbers cell z ∙ are.long;
+  long = cc (length-set numbers cell z);
   fits = λ k lt. at k lt (cases_eq k cell);
 } where
   at : (k : ℕ) → k < length kinds → (k ≡ cell) ⊎ (k ≡ cell → ⊥) → InRange (get_or kinds k U8) (get_or (set numbers cell z) k (pos 0))
@@ -161,11 +160,7 @@ set_fits kinds numbers cell z are fits = record {
 -- the bytes of a spot are replaced
 pub put_is : (before old part after xs : List ℕ) (at n : ℕ) → xs ≡ before ++ (old ++ after) → length before ≡ at → length old ≡ n
     → take at xs ++ (part ++ drop n (drop at xs)) ≡ before ++ (part ++ after)
-put_is before old part after xs at n is a o =
-    ap (λ (l : List ℕ). take at l ++ (part ++ drop n (drop at l))) is
-    ∙ ap (λ (l : List ℕ). l ++ (part ++ drop n (drop at (before ++ (old ++ after))))) (take_at before (old ++ after) at a)
-    ∙ ap (λ (l : List ℕ). before ++ (part ++ drop n l)) (drop_at before (old ++ after) at a)
-    ∙ ap (λ (l : List ℕ). before ++ (part ++ l)) (drop_at old after n o)
+put_is before old part after xs at n is a o = cc (take_at before (old ++ after) at a, drop_at before (old ++ after) at a, drop_at old after n o)
 
 pub set_raw : (kinds : List Kind) (numbers : List ℤ) (cell : ℕ) (z : ℤ) (at n : ℕ) → cell < length kinds → length numbers ≡ length kinds
     → (get_or (spots_of kinds) cell no_spot).offset ≡ at → width (get_or kinds cell U8) ≡ n
@@ -174,7 +169,7 @@ set_raw kinds numbers cell z at n lt long a w =
     let s = split 0 kinds numbers cell lt long in
     let kind = get_or kinds cell U8 in
     let y = get_or numbers cell (pos 0) in
-    let now : raw_of kinds numbers ≡ s.before ++ (code kind y ++ s.after) = ap (λ (l : List ℤ). raw_from 0 kinds l) (sym (set-get_or numbers cell (pos 0))) ∙ s.whole y in
+    let now : raw_of kinds numbers ≡ s.before ++ (code kind y ++ s.after) = cc (set-get_or numbers cell (pos 0), s.whole y) in
     put_is s.before (code kind y) (code kind z) s.after (raw_of kinds numbers) at n now (omega arith) (length-code kind y ∙ w) ∙ sym (s.whole z)
 
 -- ---- all numbers 0

@@ -2,14 +2,13 @@
 use Rattle.vms_values.proofs.Facade.{length-take-le, ◌≡◌, ℕ, ◌+◌, ◌<◌, true, zero, suc, List, [], ◌∷◌, ◌++◌, Some, length, ap, sym, ◌∙◌, subst, arith}
 use Rattle.vms_values.proofs.Facade.{length-append, Option, None, Result, Ok, Err, refl, rules, ◌≤◌, Bool, false, map, take, drop, if◌then◌else◌, append_assoc}
 use Rattle.vms_values.proofs.Facade.{append-nil, slice_set, flat_map, slice_get, length-map, drop_more, drop_all, take_more, take_all, map-append}
-use Rattle.vms_values.proofs.Facade.{take_more_set, ForSome, Set, Device, Sub, AtLeast, Typed, state_of, default_at, IsOfDevice, IsImageOf, AreImagesOf}
-use Rattle.vms_values.proofs.Facade.{device_cells, desc_cells, struct_cells, no_desc, device_at, is_well_formed, kinds_at, few_cells, sub_next, HasSpot, IsKept}
-use Rattle.vms_values.proofs.Facade.{place_of, IsAlike, with_came, said_read, sub_read, SubReached, SubsReached, first_line, BadLine, ReadDevice, ReadAll}
-use Rattle.vms_values.proofs.Facade.{ValuesRead, read_devices, ended, values_read, after_machine, machine_named, rest_of, Standing, ReadSubs, readers}
-use Rattle.vms_values.proofs.Facade.{read_desc, read_subs, next_line, then_subs, section_line, is_line, with_device, read_device, or_bad, judge_device}
-use Rattle.vms_values.proofs.Facade.{judge_devices, Read, sub_said, also, read_sub, LineFault, StartsAt, NamesMachine, Start, machine_of, ReadsBy, Image}
-use Rattle.vms_values.proofs.Facade.{own_cells, Reading, bad_of, found, device_read, start_of, DeviceRead, AllRead, or_bad_assoc, MOST_ITEMS, first_cell}
-use Rattle.vms_values.proofs.Facade.{sub_at, Taken}
+use Rattle.vms_values.proofs.Facade.{take_more_set, ForSome, Set, Device, Sub, Typed, state_of, default_at, IsOfDevice, IsImageOf, AreImagesOf, device_cells}
+use Rattle.vms_values.proofs.Facade.{desc_cells, struct_cells, device_at, is_well_formed, kinds_at, few_cells, sub_next, HasSpot, IsKept, place_of, IsAlike}
+use Rattle.vms_values.proofs.Facade.{with_came, said_read, sub_read, SubReached, SubsReached, first_line, BadLine, ReadDevice, ReadAll, ValuesRead}
+use Rattle.vms_values.proofs.Facade.{read_devices, ended, values_read, after_machine, machine_named, rest_of, Standing, ReadSubs, readers, read_desc, read_subs}
+use Rattle.vms_values.proofs.Facade.{next_line, then_subs, section_line, is_line, with_device, read_device, or_bad, judge_device, judge_devices, Read, sub_said}
+use Rattle.vms_values.proofs.Facade.{also, read_sub, LineFault, StartsAt, NamesMachine, Start, machine_of, ReadsBy, Image, own_cells, Reading, bad_of, found}
+use Rattle.vms_values.proofs.Facade.{device_read, start_of, DeviceRead, AllRead, or_bad_assoc, MOST_ITEMS, first_cell, sub_at, Taken}
 use Rattle.vms_spec.specs.ValuesReading.{device_read as device_reads}
 use Rattle.vms_values.specs.declared.fault.Values.{Values}
 use Rattle.vms_spec.specs.declared.Part.TheVariants as parts
@@ -22,11 +21,11 @@ alike_kept a b h = record { version = h.version; subs = ap length h.came; cells 
 pub default_of : (set : Set) → is_well_formed set ≡ true → (i : ℕ) → i < length set.devices → (image : Typed) → image ≡ default_at set i → IsOfDevice set i (state_of image)
 default_of set well i lt image e =
     let d = device_at set i in
-    let cells : length image.numbers ≡ length (device_cells set d) = ap (λ (x : Typed). length x.numbers) e ∙ length-map (device_cells set d) (λ c. c.default) in
+    let cells : length image.numbers ≡ length (device_cells set d) = rw e (length-map (device_cells set d) (λ c. c.default)) in
     record {
       is_device = lt;
       cells = cells;
-      subs = ap (λ (x : Typed). length x.came) e ∙ length-map d.subs (λ s. Rattle.std.proofs.Common.None);
+      subs = rw e (length-map d.subs (λ s. Rattle.std.proofs.Common.None));
       few = omega (arith, few_cells set well i);
     }
 
@@ -43,10 +42,10 @@ pub image_of : (set : Set) (i : ℕ) (image : Typed) → IsOfDevice set i (state
 image_of set i image h k = record { subs = h.subs; cells = h.cells; kinds = k }
 
 pub default_kinds : (set : Set) (i : ℕ) (image : Typed) → image ≡ default_at set i → image.kinds ≡ kinds_at set i
-default_kinds set i image e = ap (λ (x : Typed). x.kinds) e
+default_kinds set i image e = rw e
 
 at_more : {X : Type 0} (P : ℕ → X → Type 0) (xs : List X) (y : X) → ((k : ℕ) (z : X) → slice_get xs k ≡ Some z → P k z) → P (length xs) y → (k : ℕ) (z : X) → slice_get (xs ++ y ∷ []) k ≡ Some z → P k z
-at_more P [] y h p zero z e = let same : y ≡ z = cc in subst (P 0) same p
+at_more P [] y h p zero z e = let same : y ≡ z = cc in rw same at p
 at_more P [] y h p (suc k) z e = cc
 at_more P (x ∷ xs) y h p zero z e = h zero z e
 at_more {X} P (x ∷ xs) y h p (suc k) z e = at_more (λ (j : ℕ) (w : X). P (suc j) w) xs y (λ j w f. h (suc j) w f) p k z e
@@ -58,9 +57,9 @@ pub record AreFirstImages (set : Set) (n : ℕ) (images : List Typed) : Type 0 w
 
 pub first_more : (set : Set) (n : ℕ) (images more : List Typed) (image : Typed) → AreFirstImages set n images → IsImageOf set n image → more ≡ images ++ image ∷ [] → AreFirstImages set (n + 1) more
 first_more set n images more image a o e = record {
-  count = ap length e ∙ length-append images (image ∷ []) ∙ ap (λ (k : ℕ). k + 1) a.count;
+  count = ap length e ∙ length-append images (image ∷ []) ∙ ap (λ k. k + 1) a.count;
   each = λ k other f.
-      at_more (IsImageOf set) images image a.each (subst (λ (k : ℕ). IsImageOf set k image) (sym a.count) o) k other (ap (λ (l : List Typed). slice_get l k) (sym e) ∙ f);
+      at_more (IsImageOf set) images image a.each (rw a.count o) k other (rw (sym e) (f));
 }
 
 pub first_all : (set : Set) (n : ℕ) (images : List Typed) → AreFirstImages set n images → length set.devices ≡ n → AreImagesOf set images
@@ -83,9 +82,9 @@ from_start : (set : Set) (text : List ℕ) (start : Start) (o : Option (List ℕ
 from_start set text start None v e s =
     record {
       name = None;
-      is = e ∙ ap (λ (n : ℕ). ended set None (read_devices set set.devices n text)) (sym s.1) ∙ ap (λ (l : List ℕ). ended set None (read_devices set set.devices start.lines.line l)) (sym s.2);
+      is = e ∙ ap (λ n. ended set None (read_devices set set.devices n text)) (sym s.1) ∙ ap (λ l. ended set None (read_devices set set.devices start.lines.line l)) (sym s.2);
       machine = ap (machine_of set) s.0;
-      known = subst (λ (m : Option ℕ). ForSome m (λ k. k < length set.machines)) (sym s.0) (search rules);
+      known = rw s.0 (search rules);
     }
 from_start set text start (Some name) v e s = by start.machine refl s.0 where
   by : (m : Option ℕ) → start.machine ≡ m → NamesMachine set.machines name m → Said set v start
@@ -93,20 +92,18 @@ from_start set text start (Some name) v e s = by start.machine refl s.0 where
   by (Some m) q h =
       record {
         name = Some name;
-        is = e ∙ ap (λ (n : ℕ). ended set (Some name) (read_devices set set.devices n (rest_of (first_line text)))) (sym s.1)
-            ∙ ap (λ (l : List ℕ). ended set (Some name) (read_devices set set.devices start.lines.line l)) (sym s.2);
-        machine = ap (machine_of set) q ∙ ap (λ (n : List ℕ). Some n) h.1;
-        known = subst (λ (x : Option ℕ). ForSome x (λ k. k < length set.machines)) (sym q) (search (rules, h.0));
+        is = e ∙ ap (λ n. ended set (Some name) (read_devices set set.devices n (rest_of (first_line text)))) (sym s.1)
+            ∙ ap (λ l. ended set (Some name) (read_devices set set.devices start.lines.line l)) (sym s.2);
+        machine = ap (machine_of set) q ∙ ap (λ n. Some n) h.1;
+        known = rw q (search (rules, h.0));
       }
 
 pub top : (set : Set) (machines : List (List ℕ)) (text : List ℕ) (start : Start) → machines ≡ set.machines → StartsAt machines text (machine_named machines (first_line text)) start → Said set (values_read set text) start
 unfolding values_read
-top set machines text start same s =
-    let t : StartsAt set.machines text (machine_named set.machines (first_line text)) start = subst (λ (l : List (List ℕ)). StartsAt l text (machine_named l (first_line text)) start) same s in
-    from_start set text start (machine_named set.machines (first_line text)) (values_read set text) refl t
+top set machines text start same s = from_start set text start (machine_named set.machines (first_line text)) (values_read set text) refl (rw same at s)
 
 pub said_so : (set : Set) (text : List ℕ) (v : ValuesRead) (result : Result Values LineFault) → values_read set text ≡ v → ReadsBy set v result → ReadsBy set (values_read set text) result
-said_so set text v result e r = subst (λ (x : ValuesRead). ReadsBy set x result) (sym e) r
+said_so set text v result e r = rw e r
 
 -- ---- Devices that are read one after the other, and judged.
 
@@ -151,13 +148,13 @@ pub record Gathered (set : Set) (n : ℕ) (start : Result ReadAll BadLine) (firs
 
 more_devices : (ds : List ReadDevice) (r : ReadDevice) (x : Result ReadAll BadLine) → with_devices ds (with_device r x) ≡ with_devices (ds ++ r ∷ []) x
 more_devices ds r (Err e) = refl
-more_devices ds r (Ok all) = ap (λ (l : List ReadDevice). let a : ReadAll = record { devices = l; line = all.line; rest = all.rest } in Ok a) (sym (append_assoc ds (r ∷ []) all.devices))
+more_devices ds r (Ok all) = rw (sym (append_assoc ds (r ∷ []) all.devices))
 
 module _ (set : Set) (i : ℕ) (lt : i < length set.devices) where
   next_device : (old : Reading) → read_devices set (drop i set.devices) old.lines.line old.lines.rest.now
       ≡ after_device (λ line rest. read_devices set (drop (i + 1) set.devices) line rest) (device_read set (device_at set i) (start_of set (device_at set i) old))
   next_device old =
-      ap (λ (l : List Device). read_devices set l old.lines.line old.lines.rest.now) (drop_more set.devices i _ lt)
+      ap (λ l. read_devices set l old.lines.line old.lines.rest.now) (drop_more set.devices i _ lt)
       ∙ one_device set (device_at set i) (start_of set (device_at set i) old) (λ line rest. read_devices set (drop (i + 1) set.devices) line rest)
 
   -- the result for one device
@@ -178,7 +175,7 @@ module _ (set : Set) (i : ℕ) (lt : i < length set.devices) where
   refused : (x : Result (ReadDevice × Standing) BadLine) (start : Result ReadAll BadLine) (done : List ReadDevice) (go : ℕ → List ℕ → Result ReadAll BadLine) (begun old new : Reading) (e : LineFault)
       → with_devices done (after_device go x) ≡ start → DeviceRead set (device_at set i) x old new (Err e) → AllRead set start begun new (Err e)
   refused (Ok (r, p)) start done go begun old new (faults.Bad line reason) w h = absurd h
-  refused (Err b) start done go begun old new (faults.Bad line reason) w h = subst (λ (s : Result ReadAll BadLine). AllRead set s begun new (Err (faults.Bad line reason))) w h
+  refused (Err b) start done go begun old new (faults.Bad line reason) w h = subst (λ s. AllRead set s begun new (Err (faults.Bad line reason))) w h
   refused _ start done go begun old new faults.NoMemory w h = tt
 
   pub gathered_refused : (start : Result ReadAll BadLine) (first judged : Option BadLine) (images : List Image) (begun old new : Reading) (e : LineFault)
@@ -198,15 +195,15 @@ module _ (set : Set) (i : ℕ) (lt : i < length set.devices) where
       let rest = λ (line : ℕ) (rest : List ℕ). read_devices set (drop (i + 1) set.devices) line rest in
       record {
         done = g.done ++ k.r ∷ [];
-        count = length-append g.done (k.r ∷ []) ∙ ap (λ (n : ℕ). n + 1) g.count;
-        images_are = map-append (λ r. r.image) g.done (k.r ∷ []) ∙ ap (λ (l : List Image). l ++ k.r.image ∷ []) g.images_are ∙ ap (λ (x : Image). images ++ x ∷ []) (sym k.same) ∙ sym m;
-        whole = ap (λ (n : ℕ). with_devices (g.done ++ k.r ∷ []) (rest n new.lines.rest.now)) k.line
-            ∙ ap (λ (l : List ℕ). with_devices (g.done ++ k.r ∷ []) (rest k.p.line l)) k.rest ∙ sym (more_devices g.done k.r (rest k.p.line k.p.rest))
+        count = length-append g.done (k.r ∷ []) ∙ ap (λ n. n + 1) g.count;
+        images_are = map-append (λ r. r.image) g.done (k.r ∷ []) ∙ ap (λ l. l ++ k.r.image ∷ []) g.images_are ∙ ap (λ x. images ++ x ∷ []) (sym k.same) ∙ sym m;
+        whole = ap (λ n. with_devices (g.done ++ k.r ∷ []) (rest n new.lines.rest.now)) k.line
+            ∙ ap (λ l. with_devices (g.done ++ k.r ∷ []) (rest k.p.line l)) k.rest ∙ sym (more_devices g.done k.r (rest k.p.line k.p.rest))
             ∙ ap (with_devices g.done) (sym (next_device old ∙ ap (after_device rest) k.read)) ∙ g.whole;
-        so_far = k.judged ∙ ap (λ (o : Option BadLine). or_bad o (judge_device set d k.r)) g.so_far
+        so_far = k.judged ∙ ap (λ o. or_bad o (judge_device set d k.r)) g.so_far
             ∙ or_bad_assoc first (judge_devices set (take i set.devices) g.done) (judge_device set d k.r)
             ∙ ap (or_bad first) (sym (judge_more set (take i set.devices) g.done d k.r (length-take-le i set.devices (omega arith) ∙ sym g.count)))
-            ∙ ap (λ (l : List Device). or_bad first (judge_devices set l (g.done ++ k.r ∷ []))) (sym (take_more set.devices i _ lt));
+            ∙ ap (λ l. or_bad first (judge_devices set l (g.done ++ k.r ∷ []))) (sym (take_more set.devices i _ lt));
       }
 
 -- all devices are read
@@ -214,15 +211,14 @@ pub gathered_all : (set : Set) (n : ℕ) (start : Result ReadAll BadLine) (image
     → Gathered set n start (bad_of begun.judged) (bad_of now.judged) images (read_devices set (drop n set.devices) now.lines.line now.lines.rest.now) → AllRead set start begun now (Ok images)
 gathered_all set n start images begun now e g =
     let first = bad_of begun.judged in
-    let none : drop n set.devices ≡ [] = drop_all n set.devices (omega arith) in
     let all : take n set.devices ≡ set.devices = take_all n set.devices (omega arith) in
     let same : g.done ++ [] ≡ g.done = append-nil g.done in
-    subst (λ (s : Result ReadAll BadLine). AllRead set s begun now (Ok images))
-    (ap (λ (l : List Device). with_devices g.done (read_devices set l now.lines.line now.lines.rest.now)) (sym none) ∙ g.whole) (
+    subst (λ s. AllRead set s begun now (Ok images))
+    (ap (λ l. with_devices g.done (read_devices set l now.lines.line now.lines.rest.now)) (sym (drop_all n set.devices (omega arith))) ∙ g.whole) (
       ap (map (λ r. r.image)) same ∙ g.images_are,
       refl,
       refl,
-      g.so_far ∙ ap (λ (l : List Device). or_bad first (judge_devices set l g.done)) all ∙ ap (λ (l : List ReadDevice). or_bad first (judge_devices set set.devices l)) (sym same),
+      g.so_far ∙ ap (λ l. or_bad first (judge_devices set l g.done)) all ∙ ap (λ l. or_bad first (judge_devices set set.devices l)) (sym same),
     )
 
 -- ---- Subsections that are read one after the other.
@@ -245,9 +241,9 @@ next_sub set i j p lt =
     let d = device_at set i in
     let s = sub_at d j in
     let at = first_cell set (parts.Sub i j) in
-    ap (λ (l : List Sub). read_subs set at l p) (drop_more d.subs j _ lt)
+    ap (λ l. read_subs set at l p) (drop_more d.subs j _ lt)
     ∙ one_sub set s at p (sub_said s (first_line p.rest)) (λ q. read_subs set (at + length (desc_cells (struct_cells set) s.desc)) (drop (j + 1) d.subs) q)
-    ∙ ap (λ (x : ℕ). after_sub p.line (λ q. read_subs set x (drop (j + 1) d.subs) q) (sub_read set s at p)) (sym (sub_next set (own_cells set d) d.subs j _ lt))
+    ∙ ap (λ x. after_sub p.line (λ q. read_subs set x (drop (j + 1) d.subs) q) (sub_read set s at p)) (sym (sub_next set (own_cells set d) d.subs j _ lt))
 
 abbrev pub with_subs : List (Option ℕ) → List ℕ → Result ReadSubs BadLine → Result ReadSubs BadLine
 with_subs came lines (Err b) = Err b
@@ -258,16 +254,14 @@ pub record Follows (start : Result ReadSubs BadLine) (n : ℕ) (came : List (Opt
   pub whole : with_subs (take n came) lines left ≡ start
 
 pub follows_none : (start : Result ReadSubs BadLine) (came : List (Option ℕ)) (lines : List ℕ) (left : Result ReadSubs BadLine) → lines ≡ [] → left ≡ start → Follows start 0 came lines left
-follows_none start came lines left e f = record { whole = ap (λ (l : List ℕ). with_subs [] l left) e ∙ by left ∙ f } where
+follows_none start came lines left e f = record { whole = rw e (by left ∙ f) } where
   by : (r : Result ReadSubs BadLine) → with_subs [] [] r ≡ r
   by (Ok r) = refl
   by (Err b) = refl
 
 more_subs : (came : List (Option ℕ)) (lines : List ℕ) (o : Option ℕ) (line : ℕ) (r : Result ReadSubs BadLine) → with_subs came lines (also o line r) ≡ with_subs (came ++ o ∷ []) (lines ++ line ∷ []) r
 more_subs came lines o line (Err b) = refl
-more_subs came lines o line (Ok r) =
-    ap (λ (l : List (Option ℕ)). let x : ReadSubs = record { place = r.place; came = l; lines = lines ++ line ∷ r.lines } in Ok x) (sym (append_assoc came (o ∷ []) r.came))
-    ∙ ap (λ (l : List ℕ). let x : ReadSubs = record { place = r.place; came = (came ++ o ∷ []) ++ r.came; lines = l } in Ok x) (sym (append_assoc lines (line ∷ []) r.lines))
+more_subs came lines o line (Ok r) = rw (sym (append_assoc came (o ∷ []) r.came), sym (append_assoc lines (line ∷ []) r.lines))
 
 module _ (set : Set) (i j : ℕ) (lt : j < length (device_at set i).subs) where
   pub follows_next : (start : Result ReadSubs BadLine) (old new : Taken) (lines more : List ℕ) (o : Option ℕ) (q : Standing)
@@ -279,10 +273,7 @@ module _ (set : Set) (i j : ℕ) (lt : j < length (device_at set i).subs) where
       let rest = λ (p : Standing). read_subs set (first_cell set (parts.Sub i (j + 1))) (drop (j + 1) (device_at set i).subs) p in
       let left = next_sub set i j (place_of old) lt ∙ ap (after_sub old.lines.line rest) r in
       record {
-        whole = ap (λ (l : List (Option ℕ)). with_subs l more (rest (place_of new))) (ap (take (j + 1)) c ∙ take_more_set old.image.came j o room)
-            ∙ ap (λ (l : List ℕ). with_subs (take j old.image.came ++ o ∷ []) l (rest (place_of new))) m
-            ∙ ap (λ (p : Standing). with_subs (take j old.image.came ++ o ∷ []) (lines ++ old.lines.line ∷ []) (rest p)) (sym e)
-            ∙ sym (more_subs (take j old.image.came) lines o old.lines.line (rest q)) ∙ ap (with_subs (take j old.image.came) lines) (sym left) ∙ f.whole;
+        whole = rw (ap (take (j + 1)) c ∙ take_more_set old.image.came j o room, m, sym e) (sym (more_subs (take j old.image.came) lines o old.lines.line (rest q)) ∙ ap (with_subs (take j old.image.came) lines) (sym left) ∙ f.whole);
       }
 
   pub follows_stop : (start : Result ReadSubs BadLine) (old : Taken) (lines : List ℕ) (b : BadLine)
@@ -307,15 +298,13 @@ sub_came (Err b) j old new h = absurd h
 pub subs_end : (start : Result ReadSubs BadLine) (set : Set) (at n : ℕ) (subs : List Sub) (old new : Taken) (lines : List ℕ)
     → Follows start n new.image.came lines (read_subs set at subs (place_of new)) → subs ≡ [] → n ≡ length new.image.came → IsAlike old.image new.image → SubsReached start old new lines (Ok tt)
 subs_end start set at n subs old new lines f none all same =
-    let left : read_subs set at subs (place_of new) ≡ Ok (record { place = place_of new; came = []; lines = [] }) = ap (λ (l : List Sub). read_subs set at l (place_of new)) none in
+    let left : read_subs set at subs (place_of new) ≡ Ok (record { place = place_of new; came = []; lines = [] }) = rw none in
     let whole : start ≡ Ok (record { place = place_of new; came = take n new.image.came ++ []; lines = lines ++ [] }) = sym f.whole ∙ ap (with_subs (take n new.image.came) lines) left in
-    subst (λ (r : Result ReadSubs BadLine). SubsReached r old new lines (Ok tt)) (sym whole)
-    (refl, append-nil (take n new.image.came) ∙ take_all n new.image.came (omega arith), append-nil lines, same)
+    rw whole (refl, append-nil (take n new.image.came) ∙ take_all n new.image.came (omega arith), append-nil lines, same)
 
 pub subs_bad : (start : Result ReadSubs BadLine) (r : Result (Option ℕ × Standing) BadLine) (j : ℕ) (old new mid : Taken) (lines : List ℕ) (e : LineFault)
     → ((b : BadLine) → r ≡ Err b → start ≡ Err b) → SubReached r j mid new (Err e) → SubsReached start old new lines (Err e)
-subs_bad start (Err b) j old new mid lines (faults.Bad line reason) h f =
-    subst (λ (r : Result ReadSubs BadLine). SubsReached r old new lines (Err (faults.Bad line reason))) (sym (h b refl)) f
+subs_bad start (Err b) j old new mid lines (faults.Bad line reason) h f = rw (h b refl) f
 subs_bad start _ j old new mid lines _ h f = absurd f
 
 pub alike_more : (a b c : Typed) → IsAlike a b → IsAlike b c → IsAlike a c
@@ -325,7 +314,7 @@ pub alike_none : (a : Typed) → IsAlike a a
 alike_none a = record { version = refl; subs = refl; cells = refl; kinds = refl }
 
 pub of_alike : (set : Set) (i : ℕ) (a b : Typed) → IsOfDevice set i (state_of a) → IsAlike a b → IsOfDevice set i (state_of b)
-of_alike set i a b h k = record { is_device = h.is_device; cells = k.cells ∙ h.cells; subs = k.subs ∙ h.subs; few = subst (λ (n : ℕ). n ≤ MOST_ITEMS) (sym k.cells) h.few }
+of_alike set i a b h k = record { is_device = h.is_device; cells = k.cells ∙ h.cells; subs = k.subs ∙ h.subs; few = rw k.cells h.few }
 
 pub subs_alike : (r : Result ReadSubs BadLine) (old new : Taken) (lines : List ℕ) → SubsReached r old new lines (Ok tt) → IsAlike old.image new.image
 subs_alike (Ok r) old new lines h = h.3

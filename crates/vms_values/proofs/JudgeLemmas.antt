@@ -2,17 +2,24 @@
 use Rattle.vms_values.proofs.Facade.{get_or-drop, drop-drop, ◌≡◌, ℕ, suc, zero, ◌+◌, ◌<◌, ◌≤◌, Bool, true, false, not, if◌then◌else◌, Option, Some, None, ◌&&◌}
 use Rattle.vms_values.proofs.Facade.{List, [], ◌∷◌, ◌++◌, length, get_or, drop, map, ℤ, pos, refl, sym, ap, ◌∙◌, arith, append_assoc, length-append, ◌==◌}
 use Rattle.vms_values.proofs.Facade.{flat_map, list_all, drop_more, drop_all, drop-map, map-append, drop-append_seam, eqb-true, and_parts, and-true}
-use Rattle.vms_values.proofs.Facade.{same_number, Set, Sub, AtLeast, Field, Desc, Formula, ValuesReason, sub_first, sub_next, Image, sub_place, own_cells}
-use Rattle.vms_values.proofs.Facade.{own_slots, own_cell_count, first_cell, own_numbers, device_at, sub_at, desc_at, Cell, Slot, no_desc, desc_cells}
-use Rattle.vms_values.proofs.Facade.{struct_cells, device_cells, Number, Constant, Filler, Rule, Meaning, no_meaning, item_slots, item_size, times, field_slots}
-use Rattle.vms_values.proofs.Facade.{slots_from, desc_slots, field_cells, numbers_of, elements_of, counted, all_hold, no_parent, first, meaning, meanings}
-use Rattle.vms_values.proofs.Facade.{rules_are_true, BadLine, ReadDevice, are_defaults, or_bad, if_bad, sub_fails, is_said_well, judge_subs, judge_device}
-use Rattle.vms_values.proofs.Facade.{CellForm, form_of, desc_of, formula, steps_of, spot_slots, no_form, settle, steps_hold, sub_judged, sub_defaults, Item}
-use Rattle.vms_values.proofs.Facade.{Num, Equal, Unused, Struct, is_there, cells_first, one_more, Test, PartAt}
+use Rattle.vms_values.proofs.Facade.{same_number, Set, Sub, Field, Desc, Formula, ValuesReason, sub_first, sub_next, Image, sub_place, own_cells, own_slots}
+use Rattle.vms_values.proofs.Facade.{own_cell_count, first_cell, own_numbers, device_at, sub_at, desc_at, Cell, Slot, no_desc, desc_cells, struct_cells}
+use Rattle.vms_values.proofs.Facade.{device_cells, Number, Constant, Filler, Rule, Meaning, no_meaning, item_slots, item_size, times, field_slots, slots_from}
+use Rattle.vms_values.proofs.Facade.{desc_slots, field_cells, numbers_of, elements_of, counted, all_hold, no_parent, first, meaning, meanings, rules_are_true}
+use Rattle.vms_values.proofs.Facade.{BadLine, ReadDevice, are_defaults, or_bad, if_bad, sub_fails, is_said_well, judge_subs, judge_device, CellForm, form_of}
+use Rattle.vms_values.proofs.Facade.{desc_of, formula, steps_of, spot_slots, no_form, settle, steps_hold, sub_judged, sub_defaults, Item, Struct, is_there}
+use Rattle.vms_values.proofs.Facade.{cells_first, one_more, Test, PartAt, ◌*◌, ◌^◌, sum_by, Ok, Err, subst, Result, sum_by-cons, ForSome, FitsHeads, Device}
+use Rattle.vms_values.proofs.Facade.{values_read, ValuesRead, Values, Bad, ReadAll, ended, judged, answer_of, judge_devices, IsText, Refused, Reads, state_of}
+use Rattle.vms_values.proofs.Facade.{is_well_formed, few_cells, few_devices, fit_of, few_subs, most_lines, line_holds, read_holds, ReadsBy, MeansAs, LineFault}
+use Rattle.vms_values.proofs.Facade.{Reading, machine_of, bad_of, AllRead, ToldAs}
 use Rattle.vms_parts.specs.declared.types.Desc.{Desc as Described}
 use Rattle.vms_spec.specs.declared.Part.TheVariants as parts
 use Rattle.vms_spec.specs.declared.ValuesReason.TheVariants as reasons
 use Rattle.vms_spec.specs.Layout as slots
+use Rattle.vms_values_laws.specs.Laws.{device_lines}
+use Rattle.vms_values.specs.declared.fault.Values.{Values as Given}
+use Rattle.vms_values.specs.declared.judge.BadLine.{BadLine as Found}
+use Rattle.vms_values.specs.declared.fault.LineFault.TheVariants as faults
 
 -- at the steps of slots, exactly if the slots' rules are true
 pub steps_true : (xs : List Slot) → steps_hold (steps_of xs) ≡ rules_are_true xs
@@ -20,7 +27,7 @@ steps_true [] = refl
 steps_true (slots.Number c kind capacities ∷ xs) = steps_true xs
 steps_true (slots.Constant kind z ∷ xs) = steps_true xs
 steps_true (slots.Filler n ∷ xs) = steps_true xs
-steps_true (slots.Rule b ∷ xs) = ap (λ (t : Bool). b && t) (steps_true xs)
+steps_true (slots.Rule b ∷ xs) = rw (steps_true xs)
 
 -- the cells from a place on have these forms, and then others
 pub settle_defaults : (cells : List Cell) (forms rest : List CellForm) (numbers : List ℤ) (at : ℕ) → drop at forms ≡ map form_of cells ++ rest → at + length cells ≤ length numbers
@@ -28,11 +35,9 @@ pub settle_defaults : (cells : List Cell) (forms rest : List CellForm) (numbers 
 settle_defaults [] forms rest numbers at e le = refl
 settle_defaults (c ∷ cells) forms rest numbers at e le =
     let same : get_or forms at no_form ≡ form_of c =
-    ap (λ (k : ℕ). get_or forms k no_form) (omega arith) ∙ sym (get_or-drop at forms 0 no_form) ∙ ap (λ (l : List CellForm). get_or l 0 no_form) e in
+    ap (λ k. get_or forms k no_form) (omega arith) ∙ sym (get_or-drop at forms 0 no_form) ∙ ap (λ l. get_or l 0 no_form) e in
     let later : drop (at + 1) forms ≡ map form_of cells ++ rest = sym (drop-drop 1 at forms) ∙ ap (drop 1) e in
-    ap (λ (f : CellForm). same_number (get_or numbers at (pos 0)) f.default && settle [] forms numbers (at + 1) (length cells)) same
-    ∙ ap (λ (t : Bool). same_number (get_or numbers at (pos 0)) c.default && t) (settle_defaults cells forms rest numbers (at + 1) later (omega arith))
-    ∙ sym (ap (are_defaults (c ∷ cells)) (drop_more numbers at (pos 0) (omega arith)))
+    rw (same, settle_defaults cells forms rest numbers (at + 1) later (omega arith)) (sym (ap (are_defaults (c ∷ cells)) (drop_more numbers at (pos 0) (omega arith))))
 
 -- ---- the cells of a subsection among those of its device
 
@@ -41,14 +46,14 @@ cells_from_sub : (set : Set) (front : List Cell) (at : ℕ) (subs : List Sub) (j
     ≡ desc_cells (struct_cells set) (get_or subs j none).desc ++ flat_map (λ s. desc_cells (struct_cells set) s.desc) (drop (j + 1) subs)
 cells_from_sub set front at [] j none e lt = absurd (omega arith)
 cells_from_sub set front at (s ∷ subs) zero none e lt =
-    ap (λ (k : ℕ). drop k (front ++ flat_map (λ s. desc_cells (struct_cells set) s.desc) (s ∷ subs))) e
+    ap (λ k. drop k (front ++ flat_map (λ s. desc_cells (struct_cells set) s.desc) (s ∷ subs))) e
     ∙ drop-append_seam front (flat_map (λ s. desc_cells (struct_cells set) s.desc) (s ∷ subs))
 cells_from_sub set front at (s ∷ subs) (suc j) none e lt =
     let own = desc_cells (struct_cells set) s.desc in
     let one : suc j + 1 ≡ suc (j + 1) = omega arith in
     ap (drop (sub_place set (at + length own) subs j)) (sym (append_assoc front own (flat_map (λ s. desc_cells (struct_cells set) s.desc) subs)))
-    ∙ cells_from_sub set (front ++ own) (at + length own) subs j none (ap (λ (k : ℕ). k + length own) e ∙ sym (length-append front own)) (omega arith)
-    ∙ ap (λ (k : ℕ). desc_cells (struct_cells set) (get_or subs j none).desc ++ flat_map (λ s. desc_cells (struct_cells set) s.desc) (drop k (s ∷ subs))) (sym one)
+    ∙ cells_from_sub set (front ++ own) (at + length own) subs j none (rw e (sym (length-append front own))) (omega arith)
+    ∙ ap (λ k. desc_cells (struct_cells set) (get_or subs j none).desc ++ flat_map (λ s. desc_cells (struct_cells set) s.desc) (drop k (s ∷ subs))) (sym one)
 
 -- the defaults of a subsection's cells
 pub bare_defaults : (set : Set) (i j : ℕ) (numbers : List ℤ) → j < length (device_at set i).subs → first_cell set (parts.Sub i j) + own_cell_count set (sub_at (device_at set i) j).desc ≤ length numbers
@@ -79,12 +84,12 @@ module _ (set : Set) (i : ℕ) (image : Image) (lines : List ℕ) (j line : ℕ)
       let s = sub_at d j in
       let o = get_or image.came j None in
       let one : suc j ≡ j + 1 = omega arith in
-      ap (λ (l : List Sub). judge_subs set d image j at l (drop j image.came) (drop j lines)) (drop_more d.subs j _ lt)
-      ∙ ap (λ (l : List (Option ℕ)). judge_subs set d image j at (s ∷ drop (j + 1) d.subs) l (drop j lines)) (drop_more image.came j None lc)
-      ∙ ap (λ (l : List ℕ). judge_subs set d image j at (s ∷ drop (j + 1) d.subs) (o ∷ drop (j + 1) image.came) l) (drop_more lines j 0 ll ∙ ap (λ (x : ℕ). x ∷ drop (j + 1) lines) (sym is))
+      ap (λ l. judge_subs set d image j at l (drop j image.came) (drop j lines)) (drop_more d.subs j _ lt)
+      ∙ ap (λ l. judge_subs set d image j at (s ∷ drop (j + 1) d.subs) l (drop j lines)) (drop_more image.came j None lc)
+      ∙ ap (λ l. judge_subs set d image j at (s ∷ drop (j + 1) d.subs) (o ∷ drop (j + 1) image.came) l) (drop_more lines j 0 ll ∙ ap (λ x. x ∷ drop (j + 1) lines) (sym is))
       ∙ by (sub_fails set s o image.numbers at) (is_said_well set d image j s o at) (judge_subs set d image (suc j) (at + length (desc_cells (struct_cells set) s.desc)) (drop (j + 1) d.subs) (drop (j + 1) image.came) (drop (j + 1) lines))
-      ∙ ap (λ (k : ℕ). with_reason line (sub_judged set i j image) (judge_subs set d image k (at + length (desc_cells (struct_cells set) s.desc)) (drop (j + 1) d.subs) (drop (j + 1) image.came) (drop (j + 1) lines))) one
-      ∙ ap (λ (x : ℕ). with_reason line (sub_judged set i j image) (judge_subs set d image (j + 1) x (drop (j + 1) d.subs) (drop (j + 1) image.came) (drop (j + 1) lines))) (sym (sub_next set (own_cells set d) d.subs j _ lt))
+      ∙ ap (λ k. with_reason line (sub_judged set i j image) (judge_subs set d image k (at + length (desc_cells (struct_cells set) s.desc)) (drop (j + 1) d.subs) (drop (j + 1) image.came) (drop (j + 1) lines))) one
+      ∙ ap (λ x. with_reason line (sub_judged set i j image) (judge_subs set d image (j + 1) x (drop (j + 1) d.subs) (drop (j + 1) image.came) (drop (j + 1) lines))) (sym (sub_next set (own_cells set d) d.subs j _ lt))
     where
       by : (fails well : Bool) (next : Option BadLine) → or_bad (if_bad fails line reasons.Invalid) (or_bad (if_bad (not well) line reasons.Needed) next)
           ≡ with_reason line (if fails then Some reasons.Invalid else if not well then Some reasons.Needed else None) next
@@ -93,23 +98,22 @@ module _ (set : Set) (i : ℕ) (image : Image) (lines : List ℕ) (j line : ℕ)
       by false false next = refl
 
   pub judged_go : sub_judged set i j image ≡ None → judged_from set i image lines (j + 1) ≡ judged_from set i image lines j
-  judged_go e = sym (judged_next ∙ ap (λ (o : Option ValuesReason). with_reason line o (judged_from set i image lines (j + 1))) e)
+  judged_go e = sym (judged_next ∙ ap (λ o. with_reason line o (judged_from set i image lines (j + 1))) e)
 
 pub judged_stop : (set : Set) (i : ℕ) (image : Image) (lines : List ℕ) (j line : ℕ) (reason : ValuesReason) → j < length (device_at set i).subs → j < length image.came → j < length lines → line ≡ get_or lines j 0
     → sub_judged set i j image ≡ Some reason → judged_from set i image lines j ≡ Some (record { line = line; reason = reason })
 judged_stop set i image lines j line reason lt lc ll is e =
-    judged_next set i image lines j line lt lc ll is ∙ ap (λ (o : Option ValuesReason). with_reason line o (judged_from set i image lines (j + 1))) e
+    judged_next set i image lines j line lt lc ll is ∙ ap (λ o. with_reason line o (judged_from set i image lines (j + 1))) e
 
 pub judged_end : (set : Set) (i : ℕ) (image : Image) (lines : List ℕ) (j : ℕ) → length (device_at set i).subs ≡ j → judged_from set i image lines j ≡ None
-judged_end set i image lines j e =
-    ap (λ (l : List Sub). judge_subs set (device_at set i) image j (first_cell set (parts.Sub i j)) l (drop j image.came) (drop j lines)) (drop_all j (device_at set i).subs (omega arith))
+judged_end set i image lines j e = rw (drop_all j (device_at set i).subs (omega arith))
 
 pub own_holds : (set : Set) (i : ℕ) (r : ReadDevice) → rules_are_true (own_slots set (device_at set i) r.image.version r.image.numbers) ≡ true
     → judge_device set (device_at set i) r ≡ judged_from set i r.image r.sub_lines 0
 own_holds set i r e =
     let d = device_at set i in
-    ap (λ (b : Bool). or_bad (if_bad (not b) r.line reasons.Invalid) (judge_subs set d r.image 0 (own_cells set d) d.subs r.image.came r.sub_lines)) e
-    ∙ ap (λ (at : ℕ). judge_subs set d r.image 0 at d.subs r.image.came r.sub_lines) (sym (sub_first set (own_cells set d) d.subs))
+    ap (λ b. or_bad (if_bad (not b) r.line reasons.Invalid) (judge_subs set d r.image 0 (own_cells set d) d.subs r.image.came r.sub_lines)) e
+    ∙ ap (λ at. judge_subs set d r.image 0 at d.subs r.image.came r.sub_lines) (sym (sub_first set (own_cells set d) d.subs))
 
 -- ---- The validations of a part, if no structure of the set has any.
 
@@ -163,7 +167,7 @@ meanings_true ds none (suc k) j n at =
     let earlier = meanings ds k in
     let d = get_or ds k no_desc in
     one_more (λ (m : Meaning). (n : List ℤ) (at : ℕ) → rules_are_true (m.slots n at) ≡ true) no_meaning (λ n at. refl) earlier (meanings_true ds none k) (meaning earlier d)
-    (λ n at. desc_true earlier (meanings_true ds none k) d d.version n at ∙ ap (λ (ts : List Formula). all_hold ts d.version (numbers_of (map (λ m. m.cells) earlier) d n at)) (none k)) j n at
+    (λ n at. desc_true earlier (meanings_true ds none k) d d.version n at ∙ ap (λ ts. all_hold ts d.version (numbers_of (map (λ m. m.cells) earlier) d n at)) (none k)) j n at
 
 -- no structure has validations
 unruled_at : (ds : List Described) → list_all (λ d. length d.validate == 0) ds ≡ true → (k : ℕ) → (get_or (map desc_of ds) k no_desc).validate ≡ []
@@ -178,7 +182,82 @@ unruled_at (d ∷ ds) h k = by d.validate (list_all (λ d. length d.validate == 
 pub own_rules : (set : Set) (ds : List Described) (spot : PartAt) (n : List ℤ) → map desc_of ds ≡ set.structs → list_all (λ d. length d.validate == 0) ds ≡ true
     → all_hold (desc_at set spot.part).validate spot.version (own_numbers set spot.part n spot.base) ≡ rules_are_true (spot_slots set spot n)
 own_rules set ds spot n same h =
-    let none : (k : ℕ) → (get_or set.structs k no_desc).validate ≡ [] = λ k. ap (λ (l : List Desc). (get_or l k no_desc).validate) (sym same) ∙ unruled_at ds h k in
+    let none : (k : ℕ) → (get_or set.structs k no_desc).validate ≡ [] = λ k. rw (sym same) (unruled_at ds h k) in
     let d = desc_at set spot.part in
-    ap (λ (cs : List (List Cell)). all_hold d.validate spot.version (numbers_of cs d n spot.base)) (sym (cells_first set.structs (length set.structs)))
-    ∙ sym (desc_true (meanings set.structs (length set.structs)) (meanings_true set.structs none (length set.structs)) d spot.version n spot.base)
+    rw (sym (cells_first set.structs (length set.structs))) (sym (desc_true (meanings set.structs (length set.structs)) (meanings_true set.structs none (length set.structs)) d spot.version n spot.base))
+
+abbrev no_device : Device
+no_device = record { instance = 0; desc = no_desc; subs = [] }
+
+few_each : (set : Set) (most : ℕ) (devices : List Device) → ((i : ℕ) → i < length devices → device_lines set (get_or devices i no_device) ≤ most) → sum_by (device_lines set) devices ≤ length devices * most
+few_each set most [] h = omega arith
+few_each set most (d ∷ devices) h =
+    let here : device_lines set d ≤ most = h 0 (omega arith) in
+    omega (arith, few_each set most devices (λ i lt. h (suc i) (omega arith)), sum_by-cons (device_lines set) d devices)
+
+few_lines : (set : Set) → is_well_formed set ≡ true → most_lines set ≤ 1 + 64 * 16417
+few_lines set well = omega (arith, few_each set 16417 set.devices (λ i lt. omega (arith, few_subs set well i lt, few_cells set well i)), few_devices set well)
+
+-- such a number is known as the line of the text
+pub line_fits : (set : Set) → is_well_formed set ≡ true → FitsHeads set → (text : List ℕ) (line : ℕ) (reason : ValuesReason) → ReadsBy set (values_read set text) (Err (faults.Bad line reason)) → line < 2 ^ 32
+line_fits set well heads text line reason h = go (values_read set text) refl h where
+  go : (v : ValuesRead) → values_read set text ≡ v → ReadsBy set v (Err (faults.Bad line reason)) → line < 2 ^ 32
+  go (Values machine images) e h = absurd h
+  go (Bad l why) e h = omega (arith, line_holds set text l why (fit_of set well heads) e, few_lines set well)
+
+-- what is read of a text is what it means
+pub read_means : (set : Set) → is_well_formed set ≡ true → FitsHeads set → (text : List ℕ) (v : Given) → ReadsBy set (values_read set text) (Ok v) → MeansAs set text (Ok v)
+read_means set well heads text v h = go (values_read set text) (read_holds set text (fit_of set well heads)) h where
+  go : (r : ValuesRead) → Reads set text r → ReadsBy set r (Ok v) → MeansAs set text (Ok v)
+  go (Values machine images) m h = rw h.1 (rw h.0 m)
+  go (Bad l why) m h = absurd h
+
+pub bad_means : (set : Set) → is_well_formed set ≡ true → FitsHeads set → (text : List ℕ) (line : ℕ) (reason : ValuesReason) → ReadsBy set (values_read set text) (Err (faults.Bad line reason))
+    → Refused set text line reason
+bad_means set well heads text line reason h = go (values_read set text) (read_holds set text (fit_of set well heads)) h where
+  go : (r : ValuesRead) → Reads set text r → ReadsBy set r (Err (faults.Bad line reason)) → Refused set text line reason
+  go (Values machine images) m h = absurd h
+  go (Bad l why) m h = rw h.0 (rw h.1 m)
+
+-- ---- What the whole text says, by its devices and their second pass.
+
+-- what follows if the whole text was read
+whole : (set : Set) (m : Option (List ℕ)) (all : ReadAll) (old new : Reading) (images : List Image) → AllRead set (Ok all) old new (Ok images) → new.lines.rest.now ≡ [] → old.judged ≡ None
+    → ended set m (Ok all) ≡ answer_of m all.devices (bad_of new.judged)
+whole set m all old new images h none first =
+    rw (h.2 ∙ none) (ap (answer_of m all.devices) (sym (h.3 ∙ ap (λ (o : Option Found). or_bad (bad_of o) (judge_devices set set.devices all.devices)) first)))
+
+pub text_read : (set : Set) (m : Option (List ℕ)) (r : Result ReadAll BadLine) (old new : Reading) (v : Given) → AllRead set r old new (Ok (map state_of v.images.items)) → new.lines.rest.now ≡ [] → old.judged ≡ None
+    → new.judged ≡ None → machine_of set v.machine ≡ m → ForSome v.machine (λ k. k < length set.machines) → ReadsBy set (ended set m r) (Ok v)
+text_read set m (Err b) old new v h none first fine is known = absurd h
+text_read set m (Ok all) old new v h none first fine is known =
+    rw (whole set m all old new (map state_of v.images.items) h none first ∙ ap (λ o. answer_of m all.devices (bad_of o)) fine) (sym h.0, is, known)
+
+pub text_judged : (set : Set) (m : Option (List ℕ)) (r : Result ReadAll BadLine) (old new : Reading) (images : List Image) (b : Found) → AllRead set r old new (Ok images) → new.lines.rest.now ≡ [] → old.judged ≡ None
+    → new.judged ≡ Some b → ReadsBy set (ended set m r) (Err (faults.Bad b.line b.reason))
+text_judged set m (Err x) old new images b h none first found = absurd h
+text_judged set m (Ok all) old new images b h none first found =
+    rw (whole set m all old new images h none first ∙ ap (λ o. answer_of m all.devices (bad_of o)) found) (refl, refl)
+
+pub text_longer : (set : Set) (m : Option (List ℕ)) (r : Result ReadAll BadLine) (old new : Reading) (images : List Image) → AllRead set r old new (Ok images) → (new.lines.rest.now ≡ [] → ⊥)
+    → ReadsBy set (ended set m r) (Err (faults.Bad new.lines.line reasons.Form))
+text_longer set m (Err b) old new images h some = absurd h
+text_longer set m (Ok all) old new images h some = by all.rest h.2 where
+  by : (rest : List ℕ) → rest ≡ new.lines.rest.now → ReadsBy set (judged set m all rest) (Err (faults.Bad new.lines.line reasons.Form))
+  by [] e = absurd (some (sym e))
+  by (b ∷ rest) e = (sym h.1, refl)
+
+in_any : (set : Set) (x : ValuesRead) → ReadsBy set x (Err faults.NoMemory)
+in_any set _ = tt
+
+pub text_refused : (set : Set) (m : Option (List ℕ)) (r : Result ReadAll BadLine) (old new : Reading) (e : LineFault) → AllRead set r old new (Err e) → ReadsBy set (ended set m r) (Err e)
+text_refused set m (Ok all) old new (faults.Bad line reason) h = absurd h
+text_refused set m (Err b) old new (faults.Bad line reason) h = h
+text_refused set m r old new faults.NoMemory h = in_any set (ended set m r)
+
+pub text_told : (set : Set) (m : Option (List ℕ)) (r : Result ReadAll BadLine) (old new : Reading) (v : Given) (result : Result Given LineFault) → AllRead set r old new (Ok (map state_of v.images.items)) → new.lines.rest.now ≡ []
+    → old.judged ≡ None → machine_of set v.machine ≡ m → ForSome v.machine (λ k. k < length set.machines) → ToldAs new.judged v result → ReadsBy set (ended set m r) result
+text_told set m r old new v result h none first is known t = by new.judged refl t where
+  by : (o : Option Found) → new.judged ≡ o → ToldAs o v result → ReadsBy set (ended set m r) result
+  by None e t = rw t (text_read set m r old new v h none first e is known)
+  by (Some b) e t = rw t (text_judged set m r old new (map state_of v.images.items) b h none first e)

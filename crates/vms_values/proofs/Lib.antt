@@ -1,10 +1,7 @@
 pub mod DeviceLemmas
 pub mod Facade
 pub mod JudgeLemmas
-pub mod KindsAt
 pub mod Naming
-pub mod PrintLemmas
 pub mod Printers
 pub mod ReadLemmas
 pub mod Takes
-pub mod WholeText

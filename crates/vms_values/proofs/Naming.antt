@@ -2,14 +2,16 @@
 use Rattle.vms_values.proofs.Facade.{lt_of_mul-lt-mul_right, ◌≡◌, ℕ, zero, suc, ◌+◌, ◌*◌, ◌<◌, List, [], ◌∷◌, ◌++◌, length, get_or, map, drop, ℤ, pos, refl}
 use Rattle.vms_values.proofs.Facade.{sym, ap, ◌∙◌, subst, arith, append_assoc, append-nil, true, ◌-◌, ◌≤◌, ◌/◌, ◌%◌, length-append, codes, None, flat_map}
 use Rattle.vms_values.proofs.Facade.{length-map, get_or_append_left, get_or-map, drop_more, ltb-true, get_or-append_right, div-add-mod', mod-lt, decimal, Item}
-use Rattle.vms_values.proofs.Facade.{Num, Equal, Unused, Struct, Set, Field, Device, Sub, AtLeast, Desc, own_cells, default_image, Cell, no_desc, item_size}
-use Rattle.vms_values.proofs.Facade.{field_cells, desc_cells, struct_cells, capacity_of, counted, first, numbers_of, no_parent, device_cells, field_size}
-use Rattle.vms_values.proofs.Facade.{field_at, device_at, is_well_formed, sub_at, HasPart, desc_at, size_in, cells_table, struct_size, reach, field_clean}
-use Rattle.vms_values.proofs.Facade.{Count, One, Fixed, Counted, Part, uses_below, own_cell_count, item_rank, part_rank, reach_whole, uses_more, rank_below}
-use Rattle.vms_values.proofs.Facade.{fields_at, Shape, no_shape, shape, shapes, dotted, item_elements, stand_of, field_elements, elements_from, desc_elements}
-use Rattle.vms_values.proofs.Facade.{index_text, names_of, absent, elements_in, subs_elements, cell_name, first_at, shapes_cells, AreWalked, are_walked}
-use Rattle.vms_values.proofs.Facade.{is_dotted, names_append, names_long, names_map, item_walks, field_walks, fields_walk, desc_walks, desc_names_are, walks}
-use Rattle.vms_values.proofs.Facade.{array_name, names_absent, usable, part_names, item_names, field_name, IsInPart, sub_inside, own_inside_device, few_cells}
+use Rattle.vms_values.proofs.Facade.{Num, Struct, Set, Field, Device, Sub, AtLeast, Desc, own_cells, default_image, Cell, no_desc, item_size, field_cells}
+use Rattle.vms_values.proofs.Facade.{desc_cells, struct_cells, capacity_of, counted, first, numbers_of, no_parent, device_cells, field_size, field_at}
+use Rattle.vms_values.proofs.Facade.{device_at, is_well_formed, sub_at, HasPart, desc_at, size_in, cells_table, struct_size, reach, field_clean, Count, One}
+use Rattle.vms_values.proofs.Facade.{Part, uses_below, own_cell_count, item_rank, part_rank, reach_whole, uses_more, rank_below, fields_at, Shape, no_shape}
+use Rattle.vms_values.proofs.Facade.{shape, shapes, dotted, item_elements, stand_of, field_elements, elements_from, desc_elements, index_text, names_of, absent}
+use Rattle.vms_values.proofs.Facade.{elements_in, subs_elements, cell_name, first_at, shapes_cells, AreWalked, are_walked, is_dotted, names_append, names_long}
+use Rattle.vms_values.proofs.Facade.{names_map, item_walks, field_walks, fields_walk, desc_walks, desc_names_are, walks, array_name, names_absent, usable}
+use Rattle.vms_values.proofs.Facade.{part_names, item_names, field_name, IsInPart, sub_inside, own_inside_device, few_cells, map-append, slice_get-get_or}
+use Rattle.vms_values.proofs.Facade.{get_or-drop, Kind, U8, item_cells, cells_from, times, size_same, cells_of_sub, first_cell, kinds_at, table, cells_in as table_cells}
+use Rattle.vms_values.proofs.Facade.{all_below, struct_cells_at, struct_clean, AreKinds, ElementKinds, part_cells, drop_on}
 use Rattle.vms_elements.specs.Elements.{cells_in}
 use Rattle.vms_spec.specs.declared.Part.TheVariants as parts
 
@@ -40,13 +42,13 @@ module _ (set : Set) where
       let lt : j < k = ltb-true j k e in
       let lt' : j < length set.structs = omega arith in
       (item_walks (first shape set.structs k) (are_walked set.structs k) (Struct j) caps z n [] a 0).names
-      ∙ ap (λ (s : Shape). names_of (map dotted (s.elements [] 0))) (first_at shape set.structs no_shape k j lt ∙ sym (first_at shape set.structs no_shape (length set.structs) j lt'))
+      ∙ ap (λ s. names_of (map dotted (s.elements [] 0))) (first_at shape set.structs no_shape k j lt ∙ sym (first_at shape set.structs no_shape (length set.structs) j lt'))
   item_in k le _ e caps z n a = refl
 
   item_long : (item : Item) → length (item_names set item) ≡ size_in set item
   item_long item =
       long_in (shapes set) (are_walked set.structs (length set.structs)) item
-      ∙ ap (λ (cs : List (List Cell)). item_size cs item) (shapes_cells set.structs (length set.structs) ∙ sym (cells_table set))
+      ∙ ap (λ cs. item_size cs item) (shapes_cells set.structs (length set.structs) ∙ sym (cells_table set))
 
   -- the names in one element of a structure
   pub struct_name : (j : ℕ) → j < length set.structs → (c : ℕ) → c < size_in set (Struct j) → get_or (item_names set (Struct j)) c [] ≡ codes "." ++ get_or (part_names set (parts.Struct j)) c []
@@ -55,10 +57,10 @@ module _ (set : Set) where
       let ss = first shape set.structs j in
       let names = names_of (desc_elements ss d d.version [] 0) in
       let is : item_names set (Struct j) ≡ map (λ l. codes "." ++ l) names =
-      ap (λ (s : Shape). names_of (map dotted (s.elements [] 0))) (first_at shape set.structs no_shape (length set.structs) j lt) ∙ names_map is_dotted (desc_elements ss d d.version [] 0) in
+      rw (first_at shape set.structs no_shape (length set.structs) j lt) (names_map is_dotted (desc_elements ss d d.version [] 0)) in
       let long : length names ≡ size_in set (Struct j) = sym (length-map names (λ l. codes "." ++ l)) ∙ ap length (sym is) ∙ item_long (Struct j) in
-      ap (λ (l : List (List ℕ)). get_or l c []) is ∙ get_or-map (λ l. codes "." ++ l) names c [] [] (omega arith)
-      ∙ ap (λ (l : List (List ℕ)). codes "." ++ get_or l c []) (desc_walks ss (are_walked set.structs j) d d.version 0 [] [] 0 0).names
+      ap (λ l. get_or l c []) is ∙ get_or-map (λ l. codes "." ++ l) names c [] [] (omega arith)
+      ∙ ap (λ l. codes "." ++ get_or l c []) (desc_walks ss (are_walked set.structs j) d d.version 0 [] [] 0 0).names
 
   -- the names of the fields from k on
   abbrev pub names_from : Part → ℕ → List (List ℕ)
@@ -73,7 +75,7 @@ module _ (set : Set) where
   item_step : (part : Part) → HasPart set part → (item : Item) → uses_below (reach set part) item ≡ true
       → item_size (cells_in (usable set part)) item ≡ size_in set item
   item_step part h item uses =
-      sym (long_in (usable set part) (walked_in part h) item) ∙ ap (λ (t : List Shape). length (names_of (item_elements t item [] (pos 0) [] 0))) (usable_is part h)
+      sym (long_in (usable set part) (walked_in part h) item) ∙ ap (λ t. length (names_of (item_elements t item [] (pos 0) [] 0))) (usable_is part h)
       ∙ ap length (item_in (reach set part) (reach_whole set part h) item uses [] (pos 0) [] 0) ∙ item_long item
 
   field_long : (part : Part) → HasPart set part → (k : ℕ) (f : Field) → uses_below (reach set part) f.item ≡ true
@@ -81,7 +83,7 @@ module _ (set : Set) where
   field_long part h k f uses =
       let all = (desc_at set part).fields in
       let ss = usable set part in
-      names_long (field_elements ss all 0 no_parent [] k 0 f) ∙ ap length (field_walks ss (walked_in part h) all 0 0 no_parent no_parent [] [] k 0 0 f).cells_are ∙ field_size (cells_in ss) all k f ∙ ap (λ (s : ℕ). capacity_of f.count * s) (item_step part h f.item uses)
+      names_long (field_elements ss all 0 no_parent [] k 0 f) ∙ ap length (field_walks ss (walked_in part h) all 0 0 no_parent no_parent [] [] k 0 0 f).cells_are ∙ field_size (cells_in ss) all k f ∙ ap (λ s. capacity_of f.count * s) (item_step part h f.item uses)
 
   in_field : (part : Part) → HasPart set part → (k : ℕ) (f : Field) → uses_below (reach set part) f.item ≡ true → (left : ℕ) → left < capacity_of f.count * size_in set f.item
       → get_or (names_of (field_elements (usable set part) (desc_at set part).fields 0 no_parent [] k 0 f)) left [] ≡ field_name set f left
@@ -91,15 +93,14 @@ module _ (set : Set) where
       let size = size_in set f.item in
       let q = left / size in
       let r = left % size in
-      let le = reach_whole set part h in
       let names : (a : ℕ) → names_of (item_elements ss f.item (counted k all) f.default [] a) ≡ item_names set f.item =
-      λ a. ap (λ (t : List Shape). names_of (item_elements t f.item (counted k all) f.default [] a)) (usable_is part h) ∙ item_in (reach set part) le f.item uses (counted k all) f.default [] a in
+      λ a. rw (usable_is part h) (item_in (reach set part) (reach_whole set part h) f.item uses (counted k all) f.default [] a) in
       let step_is : item_size (cells_in ss) f.item ≡ size = item_step part h f.item uses in
       let divided : q * size + r ≡ left = div-add-mod' left size in
       let rest : r < size = mod-lt left (positive (capacity_of f.count) size left small) in
       let index : q < capacity_of f.count = fewer q (capacity_of f.count) size r left divided small in
       array_name f (stand_of k f 0 no_parent) (item_elements ss f.item (counted k all) f.default []) (item_names set f.item) (item_size (cells_in ss) f.item) names (item_long f.item ∙ sym step_is) q 0 (capacity_of f.count) 0 r left q index (omega arith)
-      (sym (ap (λ (s : ℕ). q * s + r) step_is ∙ divided)) (omega arith)
+      (sym (rw step_is (divided))) (omega arith)
 
   pub record NextNames (part : Part) (k left : ℕ) (f : Field) : Type 0 where
     pub uses : uses_below (length set.structs) f.item ≡ true
@@ -121,19 +122,19 @@ module _ (set : Set) where
       let mine = names_of (field_elements ss all 0 no_parent [] k 0 f) in
       let many = field_long part h k f uses in
       let split : names_from part k ≡ mine ++ names_from part (k + 1) =
-      ap (λ (l : List Field). names_of (elements_from ss all 0 no_parent [] k 0 l)) (fields_at all k lt ∙ ap (λ (x : Field). x ∷ drop (k + 1) all) (sym is))
+      ap (λ l. names_of (elements_from ss all 0 no_parent [] k 0 l)) (fields_at all k lt ∙ ap (λ x. x ∷ drop (k + 1) all) (sym is))
       ∙ names_append (field_elements ss all 0 no_parent [] k 0 f) (elements_from ss all 0 no_parent [] (suc k) (0 + length (field_cells (cells_in ss) all k f)) (drop (k + 1) all))
-      ∙ ap (λ (l : List (List ℕ)). mine ++ l) (fields_walk ss (walked_in part h) all 0 0 no_parent no_parent [] [] (suc k) (0 + length (field_cells (cells_in ss) all k f)) 0 (drop (k + 1) all)).names
-      ∙ ap (λ (i : ℕ). mine ++ names_of (elements_from ss all 0 no_parent [] i 0 (drop (k + 1) all))) (omega arith) in
+      ∙ ap (λ l. mine ++ l) (fields_walk ss (walked_in part h) all 0 0 no_parent no_parent [] [] (suc k) (0 + length (field_cells (cells_in ss) all k f)) 0 (drop (k + 1) all)).names
+      ∙ ap (λ i. mine ++ names_of (elements_from ss all 0 no_parent [] i 0 (drop (k + 1) all))) (omega arith) in
       record {
         uses = uses_more (reach set part) (length set.structs) f.item (reach_whole set part h) uses;
         lower = omega (arith, rank_below (reach set part) f.item uses);
         some = here (λ (x : Field). 1 ≤ capacity_of x.count) clean.some;
-        long = ap length split ∙ length-append mine (names_from part (k + 1)) ∙ ap (λ (n : ℕ). n + length (names_from part (k + 1))) many;
-        here = λ small. ap (λ (l : List (List ℕ)). get_or l left []) split ∙ get_or_append_left mine (names_from part (k + 1)) [] left (omega arith)
-            ∙ in_field part h k f uses left small;
-        later = λ past. ap (λ (l : List (List ℕ)). get_or l left []) split ∙ get_or-append_right mine (names_from part (k + 1)) left [] (omega arith)
-            ∙ ap (λ (n : ℕ). get_or (names_from part (k + 1)) (left - n) []) many;
+        long = ap length split ∙ length-append mine (names_from part (k + 1)) ∙ ap (λ n. n + length (names_from part (k + 1))) many;
+        here = λ small. rw split (get_or_append_left mine (names_from part (k + 1)) [] left (omega arith)
+            ∙ in_field part h k f uses left small);
+        later = λ past. rw split (get_or-append_right mine (names_from part (k + 1)) left [] (omega arith)
+            ∙ ap (λ (n : ℕ). get_or (names_from part (k + 1)) (left - n) []) many);
       }
 
   pub part_long : is_well_formed set ≡ true → (part : Part) → HasPart set part → length (part_names set part) ≡ own_cell_count set (desc_at set part)
@@ -141,13 +142,13 @@ module _ (set : Set) where
       let ss = usable set part in
       let d = desc_at set part in
       names_long (desc_elements ss d 0 [] 0) ∙ ap length (desc_walks ss (walked_in part h) d 0 0 [] [] 0 0).cells_are
-      ∙ ap (λ (t : List Shape). length (desc_cells (cells_in t) d)) (usable_is part h) ∙ ap (λ (cs : List (List Cell)). length (desc_cells cs d)) (shapes_cells set.structs (reach set part)) ∙ by_part part h
+      ∙ ap (λ t. length (desc_cells (cells_in t) d)) (usable_is part h) ∙ ap (λ cs. length (desc_cells cs d)) (shapes_cells set.structs (reach set part)) ∙ by_part part h
     where
       by_part : (part : Part) → HasPart set part → length (desc_cells (first desc_cells set.structs (reach set part)) (desc_at set part)) ≡ own_cell_count set (desc_at set part)
       by_part parts.Set h = absurd h
       by_part (parts.Struct j) lt =
           ap length (sym (first_at desc_cells set.structs [] (length set.structs) j lt))
-          ∙ ap (λ (cs : List (List Cell)). length (get_or cs j [])) (sym (cells_table set)) ∙ struct_size set well j lt
+          ∙ ap (λ cs. length (get_or cs j [])) (sym (cells_table set)) ∙ struct_size set well j lt
       by_part _ h = refl
 
   -- a field's path and what comes after it
@@ -155,10 +156,10 @@ module _ (set : Set) where
       → (path ++ name) ++ get_or (item_names set f.item) (cell % step) [] ≡ path ++ field_name set f cell
   single_is f one path name step cell n s =
       let rest = get_or (item_names set f.item) (cell % size_in set f.item) [] in
-      let none : index_text f.count (cell / size_in set f.item) ≡ [] = ap (λ (c : Count). index_text c (cell / size_in set f.item)) one in
-      ap (λ (l : List ℕ). (path ++ l) ++ get_or (item_names set f.item) (cell % step) []) n
-      ∙ ap (λ (k : ℕ). (path ++ f.name) ++ get_or (item_names set f.item) (cell % k) []) s ∙ append_assoc path f.name rest
-      ∙ ap (λ (l : List ℕ). path ++ (l ++ rest)) (sym (ap (λ (l : List ℕ). f.name ++ l) none ∙ append-nil f.name))
+      let none : index_text f.count (cell / size_in set f.item) ≡ [] = rw one in
+      ap (λ l. (path ++ l) ++ get_or (item_names set f.item) (cell % step) []) n
+      ∙ ap (λ k. (path ++ f.name) ++ get_or (item_names set f.item) (cell % k) []) s ∙ append_assoc path f.name rest
+      ∙ ap (λ l. path ++ (l ++ rest)) (sym (ap (λ l. f.name ++ l) none ∙ append-nil f.name))
 
   pub element_is : (f : Field) → (f.count ≡ One → ⊥) → (path name : List ℕ) (step cell : ℕ) → name ≡ f.name → step ≡ size_in set f.item
       → ((path ++ name) ++ codes "[" ++ decimal (cell / step) ++ codes "]") ++ get_or (item_names set f.item) (cell % step) [] ≡ path ++ field_name set f cell
@@ -167,9 +168,9 @@ module _ (set : Set) where
       let e = cell / size in
       let rest = get_or (item_names set f.item) (cell % size) [] in
       let joined : ((path ++ f.name) ++ codes "[" ++ decimal e ++ codes "]") ++ rest ≡ path ++ ((f.name ++ (codes "[" ++ (decimal e ++ codes "]"))) ++ rest) = simp append_assoc refl in
-      ap (λ (l : List ℕ). ((path ++ l) ++ codes "[" ++ decimal (cell / step) ++ codes "]") ++ get_or (item_names set f.item) (cell % step) []) n
-      ∙ ap (λ (k : ℕ). ((path ++ f.name) ++ codes "[" ++ decimal (cell / k) ++ codes "]") ++ get_or (item_names set f.item) (cell % k) []) s ∙ joined
-      ∙ ap (λ (l : List ℕ). path ++ ((f.name ++ l) ++ rest)) (sym (index_is f.count many e)) where
+      ap (λ l. ((path ++ l) ++ codes "[" ++ decimal (cell / step) ++ codes "]") ++ get_or (item_names set f.item) (cell % step) []) n
+      ∙ ap (λ k. ((path ++ f.name) ++ codes "[" ++ decimal (cell / k) ++ codes "]") ++ get_or (item_names set f.item) (cell % k) []) s ∙ joined
+      ∙ ap (λ l. path ++ ((f.name ++ l) ++ rest)) (sym (index_is f.count many e)) where
         index_is : (c : Count) → (c ≡ One → ⊥) → (e : ℕ) → index_text c e ≡ codes "[" ++ (decimal e ++ codes "]")
         index_is One other e = absurd (other refl)
         index_is _ other e = refl
@@ -195,8 +196,8 @@ none_came set [] n a = refl
 none_came set (s ∷ subs) n a =
     let next = a + length (desc_cells (struct_cells set) s.desc) in
     names_append (map absent (elements_in set s.desc s.desc.version n a)) (subs_elements set subs (map (λ s. None) subs) n next)
-    ∙ ap (λ (l : List (List ℕ)). l ++ names_of (subs_elements set subs (map (λ s. None) subs) n next)) (names_absent (elements_in set s.desc s.desc.version n a) ∙ same_desc set s.desc s.desc.version n a)
-    ∙ ap (λ (l : List (List ℕ)). desc_names_of set s.desc ++ l) (none_came set subs n next)
+    ∙ ap (λ l. l ++ names_of (subs_elements set subs (map (λ s. None) subs) n next)) (names_absent (elements_in set s.desc s.desc.version n a) ∙ same_desc set s.desc s.desc.version n a)
+    ∙ ap (λ l. desc_names_of set s.desc ++ l) (none_came set subs n next)
 
 -- the names of a device are its own and its subsections'
 pub device_names : (set : Set) (d : Device) (c : ℕ) → cell_name set d c ≡ get_or (desc_names_of set d.desc ++ subs_names set d.subs) c []
@@ -204,8 +205,7 @@ device_names set d c =
     let image = default_image set d in
     let own = elements_in set d.desc image.version image.numbers 0 in
     let subs = subs_elements set d.subs image.came image.numbers (own_cells set d) in
-    ap (λ (l : List (List ℕ)). get_or l c [])
-    (names_append own subs ∙ ap (λ (l : List (List ℕ)). l ++ names_of subs) (same_desc set d.desc image.version image.numbers 0)
+    rw (names_append own subs ∙ ap (λ (l : List (List ℕ)). l ++ names_of subs) (same_desc set d.desc image.version image.numbers 0)
     ∙ ap (λ (l : List (List ℕ)). desc_names_of set d.desc ++ l) (none_came set d.subs image.numbers (own_cells set d)))
 
 module _ (set : Set) (well : is_well_formed set ≡ true) (i : ℕ) (lt : i < length set.devices) where
@@ -221,15 +221,14 @@ module _ (set : Set) (well : is_well_formed set ≡ true) (i : ℕ) (lt : i < le
     part = lt;
     small = omega (arith, own_inside_device set i, few_cells set well i);
     inside = small;
-    same = sym (device_names set (device_at set i) c ∙ get_or_append_left (desc_names_of set (device_at set i).desc) (names_of_subs set i 0) [] c (omega (arith, own_long, small)));
+    same = sym (device_names set (device_at set i) c ∙ get_or_append_left (desc_names_of set (device_at set i).desc) (names_of_subs set i 0) [] c (omega (arith, own_long)));
   }
 
   pub past_own : (c : ℕ) → own_cell_count set (device_at set i).desc ≤ c
       → cell_name set (device_at set i) c ≡ get_or (names_of_subs set i 0) (c - own_cell_count set (device_at set i).desc) []
   past_own c past =
-      device_names set (device_at set i) c
-      ∙ get_or-append_right (desc_names_of set (device_at set i).desc) (names_of_subs set i 0) c [] (omega (arith, own_long, past))
-      ∙ ap (λ (n : ℕ). get_or (names_of_subs set i 0) (c - n) []) own_long
+      device_names set (device_at set i) c ∙ get_or-append_right (desc_names_of set (device_at set i).desc) (names_of_subs set i 0) c [] (omega (arith, own_long))
+      ∙ ap (λ n. get_or (names_of_subs set i 0) (c - n) []) own_long
 
   -- the subsections from j on
   split : (j : ℕ) → j < length (device_at set i).subs → names_of_subs set i j ≡ desc_names_of set (sub_at (device_at set i) j).desc ++ names_of_subs set i (j + 1)
@@ -241,20 +240,20 @@ module _ (set : Set) (well : is_well_formed set ≡ true) (i : ℕ) (lt : i < le
     part = (lt, lt');
     small = omega (arith, sub_inside set i j lt', few_cells set well i);
     inside = small;
-    same = sym (same ∙ ap (λ (l : List (List ℕ)). get_or l left []) (split j lt')
+    same = sym (same ∙ ap (λ l. get_or l left []) (split j lt')
         ∙ get_or_append_left (desc_names_of set (sub_at (device_at set i) j).desc) (names_of_subs set i (j + 1)) [] left (omega (arith, sub_long j lt')));
   }
 
   pub past_sub : (j left : ℕ) → j < length (device_at set i).subs → own_cell_count set (sub_at (device_at set i) j).desc ≤ left
       → get_or (names_of_subs set i j) left [] ≡ get_or (names_of_subs set i (j + 1)) (left - own_cell_count set (sub_at (device_at set i) j).desc) []
   past_sub j left lt' past =
-      ap (λ (l : List (List ℕ)). get_or l left []) (split j lt')
+      ap (λ l. get_or l left []) (split j lt')
       ∙ get_or-append_right (desc_names_of set (sub_at (device_at set i) j).desc) (names_of_subs set i (j + 1)) left [] (omega (arith, sub_long j lt'))
-      ∙ ap (λ (n : ℕ). get_or (names_of_subs set i (j + 1)) (left - n) []) (sub_long j lt')
+      ∙ ap (λ n. get_or (names_of_subs set i (j + 1)) (left - n) []) (sub_long j lt')
 
   pub subs_longer : (j : ℕ) → j < length (device_at set i).subs → length (names_of_subs set i j) ≡ own_cell_count set (sub_at (device_at set i) j).desc + length (names_of_subs set i (j + 1))
   subs_longer j lt' =
-      ap length (split j lt') ∙ length-append (desc_names_of set (sub_at (device_at set i) j).desc) (names_of_subs set i (j + 1)) ∙ ap (λ (n : ℕ). n + length (names_of_subs set i (j + 1))) (sub_long j lt')
+      ap length (split j lt') ∙ length-append (desc_names_of set (sub_at (device_at set i) j).desc) (names_of_subs set i (j + 1)) ∙ ap (λ n. n + length (names_of_subs set i (j + 1))) (sub_long j lt')
 
   -- a name for each cell
   subs_all : (subs : List Sub) → ((j : ℕ) → j < length subs → length (desc_names_of set (get_or subs j (record { desc = no_desc; needed = AtLeast 0 })).desc) ≡ length (desc_cells (struct_cells set) (get_or subs j (record { desc = no_desc; needed = AtLeast 0 })).desc))
@@ -269,3 +268,91 @@ module _ (set : Set) (well : is_well_formed set ≡ true) (i : ℕ) (lt : i < le
   all_long =
       let d = device_at set i in
       omega (arith, subs_all d.subs sub_long, length-append (desc_cells (struct_cells set) d.desc) (flat_map (λ s. desc_cells (struct_cells set) s.desc) d.subs))
+
+abbrev kinds_in : List Cell → List Kind
+kinds_in cells = map (λ (c : Cell). c.kind) cells
+
+module _ (kinds : List Kind) (at : ℕ) (xs ys : List Cell) (s : AreKinds kinds at (xs ++ ys)) where
+  apart : drop at kinds ≡ kinds_in xs ++ (kinds_in ys ++ s.more)
+  apart = s.is ∙ ap (λ l. l ++ s.more) (map-append (λ (c : Cell). c.kind) xs ys) ∙ append_assoc (kinds_in xs) (kinds_in ys) s.more
+
+  pub front_kinds : AreKinds kinds at xs
+  front_kinds = record { more = kinds_in ys ++ s.more; is = apart }
+
+  pub rest_kinds : AreKinds kinds (at + length xs) ys
+  rest_kinds = record {
+    more = s.more;
+    is = rw (sym (length-map xs (λ (c : Cell). c.kind))) (drop_on kinds at (kinds_in xs) (kinds_in ys ++ s.more) apart);
+  }
+
+-- cells of the same kinds
+same_kinds : (kinds : List Kind) (at : ℕ) (xs ys : List Cell) → kinds_in xs ≡ kinds_in ys → AreKinds kinds at xs → AreKinds kinds at ys
+same_kinds kinds at xs ys e s = record { more = s.more; is = s.is ∙ ap (λ l. l ++ s.more) e }
+
+bare : (cs : List (List Cell)) (item : Item) (caps : List ℕ) (z : ℤ) → kinds_in (item_cells cs item caps z) ≡ kinds_in (item_cells cs item [] (pos 0))
+bare cs (Num kind) caps z = refl
+bare cs _ caps z = refl
+
+elements_kinds : (cs : List (List Cell)) (item : Item) (caps : List ℕ) (z : ℤ) (kinds : List Kind) (n at a step : ℕ)
+    → AreKinds kinds at (times n (λ _. item_cells cs item caps z) a step) → ElementKinds cs item kinds at n
+elements_kinds cs item caps z kinds zero at a step s i lt = absurd (omega arith)
+elements_kinds cs item caps z kinds (suc n) at a step s zero lt =
+    let cells = item_cells cs item caps z in
+    subst (λ (p : ℕ). AreKinds kinds p (item_cells cs item [] (pos 0))) (omega arith)
+    (same_kinds kinds at cells (item_cells cs item [] (pos 0)) (bare cs item caps z) (front_kinds kinds at cells (times n (λ _. cells) (a + step) step) s))
+elements_kinds cs item caps z kinds (suc n) at a step s (suc i) lt =
+    let cells = item_cells cs item caps z in
+    let later = times n (λ _. cells) (a + step) step in
+    let size = item_size cs item in
+    let rest : AreKinds kinds (at + size) later = rw (size_same cs item caps z) at (rest_kinds kinds at cells later s) in
+    let next : (at + size) + i * size ≡ at + suc i * size = grind arith in
+    rw next at (elements_kinds cs item caps z kinds n (at + size) (a + step) step rest i (omega arith))
+
+-- the elements of the next field, and the fields after it
+pub record FieldKinds (cs : List (List Cell)) (fields : List Field) (kinds : List Kind) (k at : ℕ) (f : Field) (more : List Field) : Type 0 where
+  pub here : ElementKinds cs f.item kinds at (capacity_of f.count)
+  pub later : AreKinds kinds (at + capacity_of f.count * item_size cs f.item) (cells_from cs fields (k + 1) more)
+
+pub field_kinds : (cs : List (List Cell)) (fields : List Field) (kinds : List Kind) (k at : ℕ) (f : Field) (left more : List Field) → left ≡ f ∷ more
+    → AreKinds kinds at (cells_from cs fields k left) → FieldKinds cs fields kinds k at f more
+field_kinds cs fields kinds k at f left more e s =
+    let here = field_cells cs fields k f in
+    let later = cells_from cs fields (suc k) more in
+    let both : AreKinds kinds at (here ++ later) = rw e at s in
+    record {
+      here = elements_kinds cs f.item (counted k fields) f.default kinds (capacity_of f.count) at 0 0 (front_kinds kinds at here later both);
+      later = subst (λ (j : ℕ). AreKinds kinds (at + capacity_of f.count * item_size cs f.item) (cells_from cs fields j more)) (omega arith)
+          (rw (field_size cs fields k f) at (rest_kinds kinds at here later both));
+    }
+
+-- the number of an element, and its fields
+pub number_kind : (cs : List (List Cell)) (kinds : List Kind) (at : ℕ) (kind : Kind) → AreKinds kinds at (item_cells cs (Num kind) [] (pos 0)) → get_or kinds at U8 ≡ kind
+number_kind cs kinds at kind s =
+    ap (λ (k : ℕ). get_or kinds k U8) (omega arith) ∙ sym (get_or-drop at kinds 0 U8) ∙ ap (λ (l : List Kind). get_or l 0 U8) s.is
+
+pub struct_kinds : (set : Set) → is_well_formed set ≡ true → (j : ℕ) → j < length set.structs → (kinds : List Kind) (at : ℕ)
+    → AreKinds kinds at (item_cells (table_cells (table set)) (Struct j) [] (pos 0)) → AreKinds kinds at (part_cells set (parts.Struct j))
+struct_kinds set well j lt kinds at s =
+    let below = all_below j (get_or set.structs j no_desc).fields (λ i l. ((struct_clean set well j lt).fields i l).uses) in
+    rw (struct_cells_at set.structs (length set.structs) j lt below) at s
+
+module _ (set : Set) (i : ℕ) (kinds : List Kind) (are : kinds ≡ kinds_at set i) where
+  abbrev d : Device
+  d = device_at set i
+
+  abbrev own : List Cell
+  own = desc_cells (struct_cells set) d.desc
+
+  abbrev others : List Cell
+  others = flat_map (λ s. desc_cells (struct_cells set) s.desc) d.subs
+
+  all_kinds : AreKinds kinds 0 (own ++ others)
+  all_kinds = record { more = []; is = are ∙ sym (append-nil (kinds_in (own ++ others))) }
+
+  pub own_kinds : AreKinds kinds 0 (part_cells set (parts.Device i))
+  own_kinds = rw (cells_table set) (front_kinds kinds 0 own others all_kinds)
+
+  pub sub_kinds : (j : ℕ) → j < length d.subs → AreKinds kinds (first_cell set (parts.Sub i j)) (part_cells set (parts.Sub i j))
+  sub_kinds j lt =
+      let rest : AreKinds kinds (own_cells set d) others = subst (λ (k : ℕ). AreKinds kinds k others) (omega arith) (rest_kinds kinds 0 own others all_kinds) in
+      rw (cells_table set) (cells_of_sub (AreKinds kinds) (front_kinds kinds) (rest_kinds kinds) set (own_cells set d) d.subs j (sub_at d j) (slice_get-get_or d.subs j _ lt) rest)

@@ -1,18 +1,21 @@
 -- The lines of structures, arrays, parts, subsections and devices.
 use Rattle.vms_values.proofs.Facade.{◌≡◌, ℕ, zero, suc, ◌+◌, ◌<◌, List, [], ◌∷◌, ◌++◌, length, get_or, map, ℤ, pos, refl, ap, ◌∙◌, arith, true, codes, ◌-◌, ◌*◌}
 use Rattle.vms_values.proofs.Facade.{◌≤◌, drop, sym, subst, Option, None, append_assoc, decimal, drop_all, drop_more, Item, Num, Equal, Unused, Struct, Count}
-use Rattle.vms_values.proofs.Facade.{One, Fixed, Counted, Field, Desc, Set, Device, Sub, AtLeast, Cell, no_desc, first, item_size, desc_cells, field_cells}
-use Rattle.vms_values.proofs.Facade.{numbers_of, elements_of, struct_cells, capacity_of, Printer, no_printer, printer, printers, item_lines, element_lines}
-use Rattle.vms_values.proofs.Facade.{array_lines, field_lines, desc_lines, line_end, version_text, sub_lines, device_lines, ItemBelow, FieldsBelow, all_below}
+use Rattle.vms_values.proofs.Facade.{One, Fixed, Counted, Field, Desc, Set, Device, Sub, Cell, no_desc, first, item_size, desc_cells, field_cells, numbers_of}
+use Rattle.vms_values.proofs.Facade.{elements_of, struct_cells, capacity_of, Printer, no_printer, printer, printers, item_lines, element_lines, array_lines}
+use Rattle.vms_values.proofs.Facade.{field_lines, desc_lines, line_end, version_text, sub_lines, device_lines, ItemBelow, FieldsBelow, all_below}
 use Rattle.vms_values.proofs.Facade.{item_cells_same, field_cells_same, own_same, row_same, first_cells, first_same, first_at, is_well_formed, struct_clean}
 use Rattle.vms_values.proofs.Facade.{reach, MOST_ITEMS, uses_below, field_size, elements_fit, one_fits, room_for_less, place_first, desc_of, field_of, field_at}
 use Rattle.vms_values.proofs.Facade.{own_numbers, first_cell, desc_at, sub_at, found_field, here_fields, sub_next, sub_inside, own_inside_device, few_cells}
 use Rattle.vms_values.proofs.Facade.{PartAt, HasSpot, size_in, table, cells_in, item_rank, part_rank, reach_whole, uses_more, rank_below, next_field}
 use Rattle.vms_values.proofs.Facade.{cells_table, start_after, cell_of, fields_at, IsRun, run_lines, IsOf, section_text, whole_sub, Image, own_cells, sub_place}
-use Rattle.vms_values.proofs.Facade.{device_at}
+use Rattle.vms_values.proofs.Facade.{device_at, take-take, Result, Ok, Err, length-drop, take, length-take, Bor, is_ok, ltb-true, joined, Outlet, Puts, Wrote}
+use Rattle.vms_values.proofs.Facade.{wrote_as, wrote_behind, devices_lines, AreOf, below, below_part, Stays, take-append-le, Part, HasPart, few_structs}
+use Rattle.vms_values.proofs.Facade.{field_clean, LONGEST, PART_ROOM}
 use Rattle.vms_parts.specs.declared.types.Desc.{Desc as CodeDesc}
 use Rattle.vms_parts.specs.declared.types.Field.{Field as CodeField}
 use Rattle.vms_spec.specs.declared.Part.TheVariants as parts
+use Rattle.std.proofs.Common.{take_all}
 
 abbrev pub cells_of : List Printer → List (List Cell)
 cells_of ps = map (λ p. p.cells) ps
@@ -26,32 +29,28 @@ module _ (j : ℕ) (ps Ps : List Printer) (agree : (i : ℕ) → i < j → get_o
   cells i lt = row_same (λ (p : Printer). p.cells) no_printer ps Ps i (agree i lt)
 
   item_same : (item : Item) (path : List ℕ) (n : List ℤ) (at : ℕ) → ItemBelow j item → item_lines ps item path n at ≡ item_lines Ps item path n at
-  item_same (Struct i) path n at e = ap (λ (p : Printer). p.lines (path ++ codes ".") n at) (agree i e)
+  item_same (Struct i) path n at e = ap (λ p. p.lines (path ++ codes ".") n at) (agree i e)
   item_same _ path n at e = refl
 
   elements_same : (item : Item) (path : List ℕ) (n : List ℤ) (at step i m : ℕ) → ItemBelow j item → element_lines ps item path n at step i m ≡ element_lines Ps item path n at step i m
   elements_same item path n at step i zero e = refl
   elements_same item path n at step i (suc m) e =
-      ap (λ (l : List ℕ). l ++ element_lines ps item path n (at + step) step (suc i) m) (item_same item (path ++ codes "[" ++ decimal i ++ codes "]") n at e)
-      ∙ ap (λ (l : List ℕ). item_lines Ps item (path ++ codes "[" ++ decimal i ++ codes "]") n at ++ l) (elements_same item path n (at + step) step (suc i) m e)
+      rw (item_same item (path ++ codes "[" ++ decimal i ++ codes "]") n at e, elements_same item path n (at + step) step (suc i) m e)
 
   array_same : (item : Item) (c : Count) (own : ℕ → ℕ) (path : List ℕ) (n : List ℤ) (at : ℕ) → ItemBelow j item → array_lines ps item c own path n at ≡ array_lines Ps item c own path n at
   array_same item One own path n at e = item_same item path n at e
   array_same item c own path n at e =
       elements_same item path n at (item_size (cells_of ps) item) 0 (elements_of c own) e
-      ∙ ap (λ (s : ℕ). element_lines Ps item path n at s 0 (elements_of c own)) (ap length (item_cells_same j (cells_of ps) (cells_of Ps) cells item [] (pos 0) e))
+      ∙ ap (λ s. element_lines Ps item path n at s 0 (elements_of c own)) (ap length (item_cells_same j (cells_of ps) (cells_of Ps) cells item [] (pos 0) e))
 
   fields_same : (fields : List Field) (own : ℕ → ℕ) (path : List ℕ) (n : List ℤ) (i at : ℕ) (fs : List Field) → FieldsBelow j fs → field_lines ps fields own path n i at fs ≡ field_lines Ps fields own path n i at fs
   fields_same fields own path n i at [] b = refl
   fields_same fields own path n i at (f ∷ fs) b =
-      ap (λ (l : List ℕ). l ++ field_lines ps fields own path n (suc i) (at + length (field_cells (cells_of ps) fields i f)) fs) (array_same f.item f.count own (path ++ f.name) n at b.0)
-      ∙ ap (λ (cs : List Cell). array_lines Ps f.item f.count own (path ++ f.name) n at ++ field_lines ps fields own path n (suc i) (at + length cs) fs) (field_cells_same j (cells_of ps) (cells_of Ps) cells fields i f b.0)
-      ∙ ap (λ (l : List ℕ). array_lines Ps f.item f.count own (path ++ f.name) n at ++ l) (fields_same fields own path n (suc i) (at + length (field_cells (cells_of Ps) fields i f)) fs b.1)
+      rw (array_same f.item f.count own (path ++ f.name) n at b.0, field_cells_same j (cells_of ps) (cells_of Ps) cells fields i f b.0, fields_same fields own path n (suc i) (at + length (field_cells (cells_of Ps) fields i f)) fs b.1)
 
   desc_same : (d : Desc) (path : List ℕ) (n : List ℤ) (at : ℕ) → FieldsBelow j d.fields → desc_lines ps d path n at ≡ desc_lines Ps d path n at
   desc_same d path n at b =
-      ap (λ (own : ℕ → ℕ). field_lines ps d.fields own path n 0 at d.fields) (own_same j (cells_of ps) (cells_of Ps) cells d n at b)
-      ∙ fields_same d.fields (numbers_of (cells_of Ps) d n at) path n 0 at d.fields b
+      rw (own_same j (cells_of ps) (cells_of Ps) cells d n at b) (fields_same d.fields (numbers_of (cells_of Ps) d n at) path n 0 at d.fields b)
 
 -- the lines of one element of a structure are those of its description
 pub struct_lines : (set : Set) → is_well_formed set ≡ true → (j : ℕ) → j < length set.structs → (path : List ℕ) (n : List ℤ) (at : ℕ)
@@ -60,7 +59,7 @@ struct_lines set well j lt path n at =
     let ds = set.structs in
     let d = get_or ds j no_desc in
     let below = all_below j d.fields (λ i l. ((struct_clean set well j lt).fields i l).uses) in
-    ap (λ (p : Printer). p.lines (path ++ codes ".") n at) (first_at printer ds no_printer (length ds) j lt)
+    ap (λ p. p.lines (path ++ codes ".") n at) (first_at printer ds no_printer (length ds) j lt)
     ∙ desc_same j (first printer ds j) (printers set) (λ i l. first_same printer ds no_printer j (length ds) i (omega arith) l) d (path ++ codes ".") n at below
 
 -- ---- The rest of the elements of an array and of the fields of a part.
@@ -72,35 +71,34 @@ pub elements_left : (ps : List Printer) (item : Item) (path : List ℕ) (n : Lis
 elements_left ps item path n at step i count lt =
     let e : count - i ≡ suc (count - (i + 1)) = omega arith in
     let one : suc i ≡ i + 1 = omega arith in
-    ap (λ (k : ℕ). element_lines ps item path n at step i k) e
-    ∙ ap (λ (k : ℕ). item_lines ps item (path ++ codes "[" ++ decimal i ++ codes "]") n at ++ element_lines ps item path n (at + step) step k (count - (i + 1))) one
+    ap (λ k. element_lines ps item path n at step i k) e
+    ∙ ap (λ k. item_lines ps item (path ++ codes "[" ++ decimal i ++ codes "]") n at ++ element_lines ps item path n (at + step) step k (count - (i + 1))) one
 
 pub no_elements : (ps : List Printer) (item : Item) (path : List ℕ) (n : List ℤ) (at step i left : ℕ) → left ≡ 0 → element_lines ps item path n at step i left ≡ []
-no_elements ps item path n at step i left e = ap (λ (k : ℕ). element_lines ps item path n at step i k) e
+no_elements ps item path n at step i left e = rw e
 
 -- the lines of a field, by how many of its elements are counted
 pub run_is : (ps : List Printer) (f : Field) (c : Count) (own : ℕ → ℕ) (count : ℕ) (path : List ℕ) (n : List ℤ) (at : ℕ) → count ≡ elements_of c own
     → array_lines ps f.item c own (path ++ f.name) n at ≡ run_lines ps f c count path n at
 run_is ps f One own count path n at e = refl
-run_is ps f _ own count path n at e = ap (λ (m : ℕ). element_lines ps f.item (path ++ f.name) n at (item_size (cells_of ps) f.item) 0 m) (sym e)
+run_is ps f _ own count path n at e = rw (sym e)
 
 single_count : (c : Count) (own : ℕ → ℕ) → c ≡ One → elements_of c own ≡ 1
-single_count c own e = ap (λ (x : Count). elements_of x own) e
+single_count c own e = rw e
 
 module _ (set : Set) where
   pub printed_cells : cells_of (printers set) ≡ struct_cells set
   printed_cells = printers_cells set.structs (length set.structs)
 
   pub printed_size : (item : Item) → item_size (cells_of (printers set)) item ≡ size_in set item
-  printed_size item = ap (λ (cs : List (List Cell)). item_size cs item) (printed_cells ∙ sym (cells_table set))
+  printed_size item = rw (printed_cells ∙ sym (cells_table set))
 
   pub array_run : (f : Field) (count : ℕ) (path : List ℕ) (n : List ℤ) (at : ℕ) → (f.count ≡ One → ⊥)
       → element_lines (printers set) f.item (path ++ f.name) n at (size_in set f.item) 0 count ≡ run_lines (printers set) f f.count count path n at
   array_run f count path n at other = by_count f.count other where
     by_count : (c : Count) → (c ≡ One → ⊥) → element_lines (printers set) f.item (path ++ f.name) n at (size_in set f.item) 0 count ≡ run_lines (printers set) f c count path n at
     by_count One other = absurd (other refl)
-    by_count (Fixed k) other = ap (λ (s : ℕ). element_lines (printers set) f.item (path ++ f.name) n at s 0 count) (sym (printed_size f.item))
-    by_count (Counted by most) other = ap (λ (s : ℕ). element_lines (printers set) f.item (path ++ f.name) n at s 0 count) (sym (printed_size f.item))
+    by_count _ other = ap (λ (s : ℕ). element_lines (printers set) f.item (path ++ f.name) n at s 0 count) (sym (printed_size f.item))
 
   -- the lines of a part's fields from field k on
   abbrev pub fields_left : PartAt → List ℕ → List ℤ → ℕ → List ℕ
@@ -136,9 +134,9 @@ module _ (set : Set) where
       let some = here (λ (x : Field). 1 ≤ capacity_of x.count) next.some in
       let fits = here (λ (x : Field). cell + capacity_of x.count * size_in set x.item ≤ length n) next.room in
       let counts : count ≡ elements_of f.count own =
-      there ∙ ap (λ (cs : List (List Cell)). elements_of f.count (numbers_of cs (desc_at set spot.part) n spot.base)) (sym printed_cells) in
+      there ∙ ap (λ cs. elements_of f.count (numbers_of cs (desc_at set spot.part) n spot.base)) (sym printed_cells) in
       let width : length (field_cells (cells_of ps) all k f) ≡ capacity_of f.count * size_in set f.item =
-      field_size (cells_of ps) all k f ∙ ap (λ (s : ℕ). capacity_of f.count * s) (printed_size f.item) in
+      field_size (cells_of ps) all k f ∙ ap (λ s. capacity_of f.count * s) (printed_size f.item) in
       let one : suc k ≡ k + 1 = omega arith in
       let after = here (λ (x : Field). cell + capacity_of x.count * size_in set x.item ≡ cell_of set spot (k + 1)) (start_after set spot k cell begins lt) in
       record {
@@ -150,12 +148,7 @@ module _ (set : Set) where
           few = h.few;
         };
         lower = omega (arith, rank_below (reach set spot.part) f.item uses);
-        lines = ap (λ (x : ℕ). field_lines ps all own path n k x (drop k all)) (sym begins)
-            ∙ ap (λ (l : List Field). field_lines ps all own path n k cell l) (fields_at all k lt ∙ ap (λ (x : Field). x ∷ drop (k + 1) all) (sym is))
-            ∙ ap (λ (l : List ℕ). l ++ field_lines ps all own path n (suc k) (cell + length (field_cells (cells_of ps) all k f)) (drop (k + 1) all)) (run_is ps f f.count own count path n cell counts)
-            ∙ ap (λ (w : ℕ). run_lines ps f f.count count path n cell ++ field_lines ps all own path n (suc k) (cell + w) (drop (k + 1) all)) width
-            ∙ ap (λ (i : ℕ). run_lines ps f f.count count path n cell ++ field_lines ps all own path n i (cell + capacity_of f.count * size_in set f.item) (drop (k + 1) all)) one
-            ∙ ap (λ (x : ℕ). run_lines ps f f.count count path n cell ++ field_lines ps all own path n (k + 1) x (drop (k + 1) all)) after;
+        lines = rw (sym begins, fields_at all k lt ∙ ap (λ (x : Field). x ∷ drop (k + 1) all) (sym is), run_is ps f f.count own count path n cell counts, width, one, after);
       }
 
   -- the same of the field that the code found by its number
@@ -168,14 +161,13 @@ module _ (set : Set) where
       → cell ≡ cell_of set spot k → FoundRun spot path n k cell count f
   found_run well spot path n h k cell count d fields f lt desc are is there begins =
       let found = found_field fields (desc_at set spot.part).fields k f (here_fields set spot.part d fields desc are) lt is in
-      let count_is = there ∙ ap (λ (x : Field). elements_of x.count (own_numbers set spot.part n spot.base)) (sym found) in
+      let count_is = there ∙ ap (λ x. elements_of x.count (own_numbers set spot.part n spot.base)) (sym found) in
       record { found = found; next = next_run well spot path n h k cell count (field_of f) lt found count_is begins }
 
   pub no_fields : (spot : PartAt) (path : List ℕ) (n : List ℤ) (k : ℕ) → k ≡ length (desc_at set spot.part).fields → fields_left spot path n k ≡ []
   no_fields spot path n k e =
       let d = desc_at set spot.part in
-      let own = numbers_of (cells_of (printers set)) d n spot.base in
-      ap (λ (l : List Field). field_lines (printers set) d.fields own path n k (cell_of set spot k) l) (drop_all k d.fields (omega arith))
+      rw (drop_all k d.fields (omega (arith, numbers_of (cells_of (printers set)) d n spot.base)))
 
 -- ---- The lines of subsections, one after the other, and of a whole device.
 
@@ -192,12 +184,12 @@ subs_left set i n came j lt lt' =
     let own = desc_lines (printers set) s.desc [] n at in
     let left = rest (at + length (desc_cells (struct_cells set) s.desc)) in
     let joined : codes "sub " ++ (s.desc.name ++ (codes " " ++ (version_text o ++ (line_end ++ own)))) ++ left ≡ (codes "sub " ++ (s.desc.name ++ (codes " " ++ (version_text o ++ line_end)))) ++ own ++ left = simp append_assoc refl in
-    ap (λ (xs : List Sub). sub_lines set n at xs (drop j came)) (drop_more d.subs j _ lt)
+    ap (λ xs. sub_lines set n at xs (drop j came)) (drop_more d.subs j _ lt)
     ∙ ap (λ (ys : List (Option ℕ)). sub_lines set n at (s ∷ drop (j + 1) d.subs) ys) (drop_more came j None lt') ∙ joined
-    ∙ ap (λ (x : ℕ). whole_sub set i j n o ++ rest x) (sym (sub_next set (own_cells set d) d.subs j _ lt))
+    ∙ ap (λ x. whole_sub set i j n o ++ rest x) (sym (sub_next set (own_cells set d) d.subs j _ lt))
 
 pub no_subs : (set : Set) (n : List ℤ) (at j : ℕ) (subs : List Sub) (came : List (Option ℕ)) → j ≡ length subs → sub_lines set n at (drop j subs) came ≡ []
-no_subs set n at j subs came e = ap (λ (xs : List Sub). sub_lines set n at xs came) (drop_all j subs (omega arith))
+no_subs set n at j subs came e = rw (drop_all j subs (omega arith))
 
 seven : (a b c d e f g h k : List ℕ) → ((a ++ (b ++ (c ++ (d ++ (e ++ (f ++ g)))))) ++ h) ++ k ≡ a ++ (b ++ (c ++ (d ++ (e ++ (f ++ (g ++ (h ++ k)))))))
 seven a b c d e f g h k = simp append_assoc refl
@@ -221,8 +213,100 @@ module _ (set : Set) (well : is_well_formed set ≡ true) (i : ℕ) (image : Ima
 -- all of the subsections are left at first
 pub first_sub : (set : Set) (i : ℕ) (n : List ℤ) (came : List (Option ℕ))
     → sub_lines set n (own_cells set (device_at set i)) (device_at set i).subs came ≡ sub_lines set n (first_cell set (parts.Sub i 0)) (drop 0 (device_at set i).subs) (drop 0 came)
-first_sub set i n came = ap (λ (x : ℕ). sub_lines set n x (device_at set i).subs came) (place_of_first (own_cells set (device_at set i)) (device_at set i).subs)
+first_sub set i n came = ap (λ x. sub_lines set n x (device_at set i).subs came) (place_of_first (own_cells set (device_at set i)) (device_at set i).subs)
   where
     place_of_first : (at : ℕ) (subs : List Sub) → at ≡ sub_place set at subs 0
     place_of_first at [] = refl
     place_of_first at (s ∷ subs) = refl
+
+pub joined_at : (pieces : List (Bor (List ℕ))) (i : ℕ) (d : Bor (List ℕ)) → i < length pieces
+    → joined (drop i pieces) ≡ (get_or pieces i d).now ++ joined (drop (i + 1) pieces)
+joined_at pieces i d lt = ap joined (drop_more pieces i d lt)
+
+-- ---- The parts of a printed text.
+
+-- an element's path, of three pieces after that of its array
+pub element_text : {T E : Type 0} {a b : Outlet} (path digits piece : List ℕ) (c : Outlet) (result : Result T E) → Puts a b path → piece ≡ digits
+    → Wrote b c (codes "[" ++ (piece ++ (codes "]" ++ []))) result → Wrote a c (path ++ codes "[" ++ digits ++ codes "]") result
+element_text {a = a} path digits piece c result p e w =
+    let s : path ++ (codes "[" ++ (piece ++ (codes "]" ++ []))) ≡ path ++ codes "[" ++ digits ++ codes "]" =
+    rw e (sym (append_assoc path (codes "[") (digits ++ codes "]")) ∙ sym (append_assoc (path ++ codes "[") digits (codes "]"))) in
+    wrote_as result a c s (wrote_behind result c (codes "[" ++ (piece ++ (codes "]" ++ []))) p w)
+
+-- a call whose fault was passed on as another
+pub wrote_mapped : {T E F : Type 0} (a b : Outlet) (text : List ℕ) (r : Result T E) (mapped : Result T F) → is_ok mapped ≡ is_ok r → Wrote a b text r → Wrote a b text mapped
+wrote_mapped a b text (Ok x) (Err f) e w = cc
+wrote_mapped a b text (Err e) (Ok y) v w = cc
+wrote_mapped a b text _ _ _ w = w
+
+pub device_left : (set : Set) (k : ℕ) → k < length set.devices → drop k set.devices ≡ device_at set k ∷ drop (k + 1) set.devices
+device_left set k lt = drop_more set.devices k (record { instance = 0; desc = no_desc; subs = [] }) lt
+
+pub images_at : (images : List Image) (i : ℕ) (image : Image) → i < length images → image ≡ get_or images i image → drop i images ≡ image ∷ drop (i + 1) images
+images_at images i image lt is = drop_more images i image lt ∙ ap (λ x. x ∷ drop (i + 1) images) (sym is)
+
+pub of_long : (set : Set) (devices : List Device) (images : List Image) → AreOf set devices images → length images ≡ length devices
+of_long set [] [] a = refl
+of_long set (d ∷ devices) (image ∷ images) a = rw (of_long set devices images a.1)
+of_long set _ _ a = absurd a
+
+pub of_room : (set : Set) (k : ℕ) (all : List Device) (images : List Image) → AreOf set (drop k all) (drop k images) → k < length all → k < length images
+of_room set k all images a lt = omega (arith, of_long set (drop k all) (drop k images) a, length-drop k all, length-drop k images)
+
+-- the image of the next device, and its lines
+module _ (set : Set) (k : ℕ) (all : List Device) (images : List Image) (d : Device) (image : Image) (e : drop k all ≡ d ∷ drop (k + 1) all) (f : drop k images ≡ image ∷ drop (k + 1) images) where
+  pub of_next : AreOf set (drop k all) (drop k images) → IsOf set d image × AreOf set (drop (k + 1) all) (drop (k + 1) images)
+  of_next a = rw f at (rw e at a)
+
+  pub devices_next : devices_lines set (drop k all) (drop k images) ≡ device_lines set d image ++ devices_lines set (drop (k + 1) all) (drop (k + 1) images)
+  devices_next = rw (e, f)
+
+-- ---- A line that grows after the front that it keeps.
+
+pub stays : (line : List ℕ) → Stays line line
+stays line = take_all (length line) line (omega arith)
+
+-- a piece is appended
+pub stays_more : (line piece : List ℕ) → Stays line (line ++ piece)
+stays_more line piece = take-append-le (length line) line piece (omega arith) ∙ stays line
+
+pub front_long : (line other : List ℕ) → Stays line other → length line ≤ length other
+front_long line other s = omega (arith, sym (ap length s), length-take (length line) other)
+
+pub stays_then : (a b c : List ℕ) → Stays a b → Stays b c → Stays a c
+stays_then a b c p q = sym (take-take (length a) (length b) c (front_long a b p)) ∙ ap (take (length a)) q ∙ p
+
+-- what is kept of a line is its front
+pub cut_is : (front line new : List ℕ) (n : ℕ) → new ≡ take n line → n ≡ length front → Stays front line → new ≡ front
+cut_is front line new n e long s = e ∙ ap (λ k. take k line) long ∙ s
+
+pub stays_is : (line piece new : List ℕ) → new ≡ line ++ piece → Stays line new
+stays_is line piece new e = rw e (stays_more line piece)
+
+pub stays_element : (line digits new : List ℕ) → new ≡ line ++ codes "[" ++ digits ++ codes "]" → Stays line new
+stays_element line digits new e =
+    let begun = line ++ codes "[" in
+    rw e (stays_then line begun _ (stays_more line (codes "[")) (stays_then begun (begun ++ digits) _ (stays_more begun digits) (stays_more (begun ++ digits) (codes "]"))))
+
+-- what may still come after the items of a part's fields
+pub below_uses : (r : ℕ) (item : Item) → uses_below r item ≡ true → below item ≤ PART_ROOM * r
+below_uses r (Num kind) e = omega arith
+below_uses r (Equal kind z) e = omega arith
+below_uses r (Unused b) e = omega arith
+below_uses r (Struct j) e = let lt : j < r = ltb-true j r e in omega arith
+
+pub below_reach : (set : Set) (part : Part) → HasPart set part → below_part set part ≡ PART_ROOM * (reach set part + 1)
+below_reach set parts.Set h = refl
+below_reach set _ h = refl
+
+-- a field of a part
+pub field_short : (set : Set) → is_well_formed set ≡ true → (part : Part) → HasPart set part → (k : ℕ) → k < length (desc_at set part).fields
+    → (f : Field) → f ≡ field_at set part k → (length f.name ≤ 32) × (below f.item + PART_ROOM ≤ below_part set part)
+field_short set well part h k lt f is =
+    let clean = field_clean set well part h k lt in
+    let uses : uses_below (reach set part) f.item ≡ true = ap (λ x. uses_below (reach set part) x.item) is ∙ clean.uses in
+    (omega (arith, ap (λ (x : Field). length x.name) is), omega (arith, below_reach set part h, below_uses (reach set part) f.item uses))
+
+-- all of a part
+pub part_short : (set : Set) → is_well_formed set ≡ true → (part : Part) → HasPart set part → below_part set part ≤ LONGEST
+part_short set well part h = omega (arith, below_reach set part h, reach_whole set part h, few_structs set well)

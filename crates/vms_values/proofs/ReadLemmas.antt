@@ -13,13 +13,13 @@ pub equal-append : (line front more : List ℕ) → bytes_eq line (front ++ more
 equal-append line [] more = refl
 equal-append [] (x ∷ front) more = refl
 equal-append (y ∷ line) (x ∷ front) more =
-    ap (λ (t : Bool). (y == x) && t) (equal-append line front more) ∙ sym (and_assoc (y == x) (begins_with front line) (bytes_eq (drop (length front) line) more))
+    ap (λ t. (y == x) && t) (equal-append line front more) ∙ sym (and_assoc (y == x) (begins_with front line) (bytes_eq (drop (length front) line) more))
 
 pub begins-append : (line front more : List ℕ) → begins_with (front ++ more) line ≡ (begins_with front line && begins_with more (drop (length front) line))
 begins-append line [] more = refl
 begins-append [] (x ∷ front) more = refl
 begins-append (y ∷ line) (x ∷ front) more =
-    ap (λ (t : Bool). (y == x) && t) (begins-append line front more) ∙ sym (and_assoc (y == x) (begins_with front line) (begins_with more (drop (length front) line)))
+    ap (λ t. (y == x) && t) (begins-append line front more) ∙ sym (and_assoc (y == x) (begins_with front line) (begins_with more (drop (length front) line)))
 
 pub joined_on : (rest more piece left after : List ℕ) (whole : Bool) → bytes_eq rest left ≡ whole → left ≡ piece ++ after → begins_with piece rest ≡ true
     → more ≡ drop (length piece) rest → bytes_eq more after ≡ whole
@@ -33,14 +33,14 @@ joined_off rest piece left after whole inv split begins =
 -- ---- A text that is read line by line.
 
 pub strips_then : (a b line mid : List ℕ) (result : Option (Bor (List ℕ))) → begins_with a line ≡ true → mid ≡ drop (length a) line → Strips b mid result → Strips (a ++ b) line result
-strips_then a b line mid None p e s = begins-append line a b ∙ ap (λ (t : Bool). t && begins_with b (drop (length a) line)) p ∙ ap (begins_with b) (sym e) ∙ s
+strips_then a b line mid None p e s = begins-append line a b ∙ ap (λ t. t && begins_with b (drop (length a) line)) p ∙ ap (begins_with b) (sym e) ∙ s
 strips_then a b line mid (Some r) p e s = (
-  begins-append line a b ∙ ap (λ (t : Bool). t && begins_with b (drop (length a) line)) p ∙ ap (begins_with b) (sym e) ∙ s.0,
-  s.1 ∙ ap (drop (length b)) e ∙ drop-drop (length b) (length a) line ∙ ap (λ (n : ℕ). drop n line) (sym (length-append a b)),
+  begins-append line a b ∙ ap (λ t. t && begins_with b (drop (length a) line)) p ∙ ap (begins_with b) (sym e) ∙ s.0,
+  s.1 ∙ ap (drop (length b)) e ∙ drop-drop (length b) (length a) line ∙ ap (λ n. drop n line) (sym (length-append a b)),
 )
 
 pub strips_not : (a b line : List ℕ) → begins_with a line ≡ false → begins_with (a ++ b) line ≡ false
-strips_not a b line p = begins-append line a b ∙ ap (λ (t : Bool). t && begins_with b (drop (length a) line)) p
+strips_not a b line p = begins-append line a b ∙ ap (λ t. t && begins_with b (drop (length a) line)) p
 
 pub strip_is : (front line : List ℕ) (result : Option (Bor (List ℕ)))
     → MatchOption result (begins_with front line ≡ false) (λ x. (begins_with front line ≡ true) × (x.now ≡ drop (length front) line) × (length x.now + length front ≡ length line)) → Strips front line result
@@ -48,19 +48,18 @@ strip_is front line None h = h
 strip_is front line (Some r) h = (h.0, h.1)
 
 pub reached : (r : Read) (now : Standing) → Reaches r now (Ok tt) → r ≡ Ok now
-reached (Ok p) now e = ap (λ (x : Standing). Ok x) e
+reached (Ok p) now e = rw e
 reached (Err b) now e = absurd e
 
 pub stopped : (part whole : Read) (now later : Standing) (e : LineFault) → ((b : BadLine) → part ≡ Err b → whole ≡ Err b) → Reaches part now (Err e) → Reaches whole later (Err e)
 stopped (Ok p) whole now later e h r = absurd r
-stopped (Err b) whole now later e h r = subst (λ (x : Read). Reaches x later (Err e)) (sym (h b refl)) r
+stopped (Err b) whole now later e h r = rw (h b refl) r
 
 pub is_bad : (e : LineFault) (b : BadLine) → e ≡ faults.Bad b.line b.reason → IsBad b e
-is_bad e b s = subst (IsBad b) (sym s) (refl, refl)
+is_bad e b s = rw s (refl, refl)
 
 pub some_of : (xs : List ℕ) → (length xs == 0) ≡ false → xs ≡ [] → ⊥
-some_of [] e f = cc
-some_of (x ∷ xs) e f = cc
+some_of _ e f = cc
 
 -- ---- Numbers as they are spelled.
 
@@ -77,7 +76,7 @@ read_more n b m bs is true false e f later =
     rw (e, f, (le-ltb (natural_from m bs) (2 ^ 64) (omega (arith, ltb-false m (2 ^ 64) f, natural_up m bs))), and-false (list_all is_digit bs)) refl
 
 pub read_is : (n : ℕ) (bs : List ℕ) → n < 2 ^ 64 → read_from n bs ≡ bounded (list_all is_digit bs) (natural_from n bs)
-read_is n [] lt = sym (ap (λ (t : Bool). if t then Some n else None) (lt-ltb n (2 ^ 64) lt))
+read_is n [] lt = sym (rw (lt-ltb n (2 ^ 64) lt))
 read_is n (b ∷ bs) lt = read_more n b (n * 10 + (b - 48)) bs refl (is_digit b) (nat_lt (n * 10 + (b - 48)) (2 ^ 64)) refl refl (read_is (n * 10 + (b - 48)) bs)
 
 -- a digit, and no zero before others
@@ -87,15 +86,13 @@ unpadded text = length text == 1 || (nat_le 2 (length text) && not (get_or text 
 pub read_natural : (text : List ℕ) → unpadded text ≡ true → read_from 0 text ≡ natural_spelled text
 read_natural text e =
     read_is 0 text (omega arith)
-    ∙ ap (λ (t : Bool). bounded t (natural_from 0 text)) (sym (and-true (list_all is_digit text)) ∙ ap (λ (t : Bool). list_all is_digit text && t) (sym e))
+    ∙ ap (λ t. bounded t (natural_from 0 text)) (sym (and-true (list_all is_digit text)) ∙ ap (λ t. list_all is_digit text && t) (sym e))
 
 pub digit_stops : (value i d : ℕ) (text : List ℕ) → i < length text → with_digit value (get_or text i d) ≡ None → read_from value (drop i text) ≡ None
-digit_stops value i d text lt e =
-    ap (read_from value) (drop_more text i d lt) ∙ ap (λ (o : Option ℕ). option_and_then (λ m. read_from m (drop (i + 1) text)) o) e
+digit_stops value i d text lt e = ap (read_from value) (drop_more text i d lt) ∙ ap (λ o. option_and_then (λ m. read_from m (drop (i + 1) text)) o) e
 
 pub digit_goes : (value i d m : ℕ) (text : List ℕ) → i < length text → with_digit value (get_or text i d) ≡ Some m → read_from m (drop (i + 1) text) ≡ read_from value (drop i text)
-digit_goes value i d m text lt e =
-    sym (ap (read_from value) (drop_more text i d lt) ∙ ap (λ (o : Option ℕ). option_and_then (λ m. read_from m (drop (i + 1) text)) o) e)
+digit_goes value i d m text lt e = sym (ap (read_from value) (drop_more text i d lt) ∙ ap (λ o. option_and_then (λ m. read_from m (drop (i + 1) text)) o) e)
 
 pub digits_end : (value i : ℕ) (text : List ℕ) → length text ≤ i → Some value ≡ read_from value (drop i text)
 digits_end value i text le = sym (ap (read_from value) (drop_all i text le))
@@ -113,21 +110,19 @@ pub read_rest : (few : ℕ) (text : List ℕ) → few ≤ length text
 read_rest few text le =
     let rest : take (length text - few) (drop few text) ≡ drop few text = take_all (length text - few) (drop few text) (omega (arith, length-drop few text)) in
     ap (read_from 0) (sym (take-append-drop few text)) ∙ read_append 0 (take few text) (drop few text)
-    ∙ ap (λ (l : List ℕ). option_and_then (λ m. read_from m l) (read_from 0 (take few text))) (sym rest)
+    ∙ ap (λ l. option_and_then (λ m. read_from m l) (read_from 0 (take few text))) (sym rest)
 
 ten_up : (i k : ℕ) → 10 ^ i ≤ 10 ^ (i + k)
 ten_up i zero = let same : i + 0 ≡ i = omega arith in omega (arith, ap (λ n. 10 ^ n) same)
 ten_up i (suc k) =
     let next : i + suc k ≡ suc (i + k) = omega arith in
-    let more : 10 ^ (i + suc k) ≡ 10 ^ (i + k) * 10 = ap (λ (n : ℕ). 10 ^ n) next ∙ pow-suc 10 (i + k) in
-    omega (arith, more, ten_up i k)
+    omega (arith, ap (λ n. 10 ^ n) next ∙ pow-suc 10 (i + k), ten_up i k)
 
 -- room for one more digit
 pub few_fit : (i n : ℕ) → n < 10 ^ i → i < 19 → n * 10 + 9 < 2 ^ 64
 few_fit i n lt le =
     let all : i + (18 - i) ≡ 18 = omega (arith, le) in
-    let up : 10 ^ i ≤ 10 ^ 18 = subst (λ (k : ℕ). 10 ^ i ≤ 10 ^ k) all (ten_up i (18 - i)) in
-    omega (arith, lt, up)
+    omega (arith, subst (λ k. 10 ^ i ≤ 10 ^ k) all (ten_up i (18 - i)))
 
 digit_low : (b : ℕ) → is_digit b ≡ true → b ≤ 57
 digit_low b e = leb-true b 57 (and_parts (nat_le 48 b) (nat_le b 57) e).1
@@ -138,21 +133,18 @@ digit_up n b m e = by (is_digit b) (nat_lt (n * 10 + (b - 48)) (2 ^ 64)) refl e 
   by true true h e =
       let is : n * 10 + (b - 48) ≡ m = cc in
       omega (arith, digit_low b h)
-  by true false h e = cc
-  by false s h e = cc
+  by _ _ h e = cc
 
 pub few_next : (i n d m : ℕ) (text : List ℕ) → n < 10 ^ i → with_digit n (get_or text i d) ≡ Some m → m < 10 ^ (i + 1)
 few_next i n d m text lt e =
     let one : i + 1 ≡ suc i = omega arith in
-    let more : 10 ^ (i + 1) ≡ 10 ^ i * 10 = ap (λ (k : ℕ). 10 ^ k) one ∙ pow-suc 10 i in
-    omega (arith, more, lt, digit_up n (get_or text i d) m e)
+    omega (arith, ap (λ k. 10 ^ k) one ∙ pow-suc 10 i, digit_up n (get_or text i d) m e)
 
 pub spelled_is : (text : List ℕ) (value : ℕ) → Some value ≡ natural_spelled text → number_spelled text ≡ Some (pos value)
 spelled_is text value e = by (natural_from 0 text) _ (are_digits text) (nat_lt (natural_from 0 text) (2 ^ 64)) e where
   by : (n : ℕ) (other : Option ℤ) (a b : Bool) → Some value ≡ (if a && b then Some n else None) → (if a then Some (pos n) else other) ≡ Some (pos value)
-  by n other true true e = let same : value ≡ n = cc in ap (λ (k : ℕ). Some (pos k)) (sym same)
-  by n other true false e = cc
-  by n other false b e = cc
+  by n other true true e = let same : value ≡ n = cc in rw (sym same)
+  by n other _ _ e = cc
 
 -- ---- The line of a cell that may count arrays and may not be there.
 
@@ -169,8 +161,7 @@ judged_is z y false false e = cc
 
 judged_held : (kind : Kind) (caps : List ℕ) (default : ℤ) (present : Bool) (y z : ℤ) (b : Bool) → in_range kind y ≡ b → Ok z ≡ number_judged caps default present (if b then Some y else None) → InRange kind z
 judged_held kind caps default present y z false q e = cc
-judged_held kind caps default present y z true q e =
-    subst (InRange kind) (sym (judged_is z y (exceeds caps y) (present || same_number y default) e)) (ranges kind y q)
+judged_held kind caps default present y z true q e = rw (judged_is z y (exceeds caps y) (present || same_number y default) e) (ranges kind y q)
 
 pub number_held : (kind : Kind) (caps : List ℕ) (default : ℤ) (present : Bool) (s : Option ℤ) (z : ℤ) → Ok z ≡ number_judged caps default present (held kind s) → InRange kind z
 number_held kind caps default present None z e = cc
@@ -205,14 +196,14 @@ module _ (path : List ℕ) (kind : Kind) (caps : List ℕ) (cell : ℕ) (default
       by_range rest z (in_range kind z) (exceeds caps z) (present || same_number z default) ∙ ap (taken_number cell p rest) (held_judged z (in_range kind z))
 
   begun : (text rest : List ℕ) (b : Bool) → begins_with front text ≡ b → reads (Some (text, rest)) ≡ (if b then puts rest (number_spelled (drop (length front) text)) else bad p reasons.Form)
-  begun text rest b e = ap (λ (t : Bool). if t then puts rest (number_spelled (drop (length front) text)) else bad p reasons.Form) e
+  begun text rest b e = rw e
 
   judged_there : (text rest number : List ℕ) (line : NextLine) (result : Result ℤ ValuesReason) → line.text.now ≡ text → begins_with (path ++ codes " = ") line.text.now ≡ true
       → number ≡ drop (length (path ++ codes " = ")) line.text.now → result ≡ number_judged caps default present (held kind (number_spelled number))
       → reads (Some (text, rest)) ≡ taken_number cell p rest result
   judged_there text rest number line result t n is j =
       begun text rest true (ap (begins_with front) (sym t) ∙ n) ∙ put_judged rest (number_spelled (drop (length front) text))
-      ∙ ap (λ (l : List ℕ). taken_number cell p rest (number_judged caps default present (held kind (number_spelled l)))) (sym (is ∙ ap (drop (length front)) t))
+      ∙ ap (λ l. taken_number cell p rest (number_judged caps default present (held kind (number_spelled l)))) (sym (is ∙ ap (drop (length front)) t))
       ∙ ap (taken_number cell p rest) (sym j)
 
   pub number_there : (o : Option (List ℕ × List ℕ)) (line : NextLine) (number : List ℕ) (z : ℤ) (now : Standing) → IsFirstLine o (Some line)
@@ -222,15 +213,14 @@ module _ (path : List ℕ) (kind : Kind) (caps : List ℕ) (cell : ℕ) (default
   number_there None line number z now f n is j a b c = absurd f
   number_there (Some (text, rest)) line number z now f n is j a b c =
       let e : (record { numbers = slice_set p.numbers cell z; line = suc p.line; rest = rest }) ≡ now =
-      ap (λ (x : List ℤ). let r : Standing = record { numbers = x; line = suc p.line; rest = rest } in r) (sym a)
-      ∙ ap (λ (x : ℕ). let r : Standing = record { numbers = now.numbers; line = x; rest = rest } in r) (sym (b ∙ omega arith))
-      ∙ ap (λ (x : List ℕ). let r : Standing = record { numbers = now.numbers; line = now.line; rest = x } in r) (sym f.1 ∙ sym c) in
-      subst (λ (r : Read). Reaches r now (Ok tt)) (sym (judged_there text rest number line (Ok z) f.0 n is j)) e
+      ap (λ x. let r : Standing = record { numbers = x; line = suc p.line; rest = rest } in r) (sym a)
+      ∙ ap (λ x. let r : Standing = record { numbers = now.numbers; line = x; rest = rest } in r) (sym (b ∙ omega arith))
+      ∙ ap (λ x. let r : Standing = record { numbers = now.numbers; line = now.line; rest = x } in r) (sym f.1 ∙ sym c) in
+      rw (judged_there text rest number line (Ok z) f.0 n is j) e
 
   pub reason_there : (o : Option (List ℕ × List ℕ)) (line : NextLine) (number : List ℕ) (reason : ValuesReason) (now : Standing) (e : LineFault) → IsFirstLine o (Some line)
       → begins_with (path ++ codes " = ") line.text.now ≡ true → number ≡ drop (length (path ++ codes " = ")) line.text.now
       → Err reason ≡ number_judged caps default present (held kind (number_spelled number))
       → IsBad (record { line = p.line; reason = reason }) e → Reaches (reads o) now (Err e)
   reason_there None line number reason now e f n is j b = absurd f
-  reason_there (Some (text, rest)) line number reason now e f n is j b =
-      subst (λ (r : Read). Reaches r now (Err e)) (sym (judged_there text rest number line (Err reason) f.0 n is j)) b
+  reason_there (Some (text, rest)) line number reason now e f n is j b = rw (judged_there text rest number line (Err reason) f.0 n is j) b

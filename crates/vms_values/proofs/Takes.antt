@@ -1,12 +1,12 @@
 -- What is read of structures, arrays and parts.
 use Rattle.vms_values.proofs.Facade.{refl, ◌∙◌, ◌≡◌, ℕ, zero, suc, ◌+◌, ◌<◌, Bool, true, ◌&&◌, List, [], ◌∷◌, ◌++◌, length, get_or, Ok, Err, pos, ap, arith}
 use Rattle.vms_values.proofs.Facade.{codes, ◌-◌, ◌*◌, not, ◌||◌, if◌then◌else◌, drop, slice_set, Option, Some, None, ℤ, sym, decimal, CellLine, exceeds_least}
-use Rattle.vms_values.proofs.Facade.{Typed, IsKept, run_read, Item, Num, Equal, Unused, Struct, Count, One, Fixed, Counted, Field, Desc, Set, is_there, Cell}
-use Rattle.vms_values.proofs.Facade.{no_desc, no_parent, first, item_size, field_cells, numbers_of, elements_of, counted, no_field, struct_cells, capacity_of}
-use Rattle.vms_values.proofs.Facade.{Reader, Standing, Read, ◌>>=◌, no_reader, reader, readers, cells_of, read_item, read_elements, read_array, read_field}
-use Rattle.vms_values.proofs.Facade.{read_fields, read_desc, BadLine, bad, put_line, put_number, ItemBelow, FieldsBelow, all_below, item_cells_same}
-use Rattle.vms_values.proofs.Facade.{field_cells_same, own_same, row_same, first_same, readers_cells, first_at, is_well_formed, struct_clean, same_number}
-use Rattle.vms_values.proofs.Facade.{in_range, first_line, begins_with, number_spelled, field_size, least_of, size_in, capacities_of, cells_table, fields_at}
+use Rattle.vms_values.proofs.Facade.{Typed, IsKept, run_read, Item, Num, Equal, Struct, Count, One, Fixed, Counted, Field, Desc, Set, is_there, Cell, no_desc}
+use Rattle.vms_values.proofs.Facade.{no_parent, first, item_size, field_cells, numbers_of, elements_of, counted, no_field, struct_cells, capacity_of, Reader}
+use Rattle.vms_values.proofs.Facade.{Standing, Read, ◌>>=◌, no_reader, reader, readers, cells_of, read_item, read_elements, read_array, read_field, read_fields}
+use Rattle.vms_values.proofs.Facade.{read_desc, BadLine, bad, put_line, put_number, ItemBelow, FieldsBelow, all_below, item_cells_same, field_cells_same}
+use Rattle.vms_values.proofs.Facade.{own_same, row_same, first_same, readers_cells, first_at, is_well_formed, struct_clean, same_number, in_range, first_line}
+use Rattle.vms_values.proofs.Facade.{begins_with, number_spelled, field_size, least_of, size_in, capacities_of, cells_table, fields_at}
 use Rattle.vms_spec.specs.declared.ValuesReason.TheVariants as reasons
 
 pub kept_none : (a : Typed) → IsKept a a
@@ -19,7 +19,7 @@ kept_more a b c h k = record { version = k.version ∙ h.version; came = k.came 
 
 -- a reading goes on in the same way after the same reading
 pub then_same : (r s : Read) (f g : Standing → Read) → r ≡ s → ((p : Standing) → f p ≡ g p) → (r >>= f) ≡ (s >>= g)
-then_same r s f g e h = ap (λ (x : Read). x >>= f) e ∙ by s where
+then_same r s f g e h = ap (λ x. x >>= f) e ∙ by s where
   by : (s : Read) → (s >>= f) ≡ (s >>= g)
   by (Ok p) = h p
   by (Err b) = refl
@@ -31,7 +31,7 @@ module _ (j : ℕ) (rs Rs : List Reader) (agree : (i : ℕ) → i < j → get_or
 
   item_same : (f : Field) (caps path : List ℕ) (present : Bool) (at : ℕ) (item : Item) (p : Standing) → ItemBelow j item
       → read_item rs f caps path present at item p ≡ read_item Rs f caps path present at item p
-  item_same f caps path present at (Struct i) p e = ap (λ (r : Reader). r.reads (path ++ codes ".") present at p) (agree i e)
+  item_same f caps path present at (Struct i) p e = ap (λ r. r.reads (path ++ codes ".") present at p) (agree i e)
   item_same f caps path present at _ p e = refl
 
   elements_same : (f : Field) (caps path : List ℕ) (present : Bool) (at step i m : ℕ) (p : Standing) → ItemBelow j f.item
@@ -45,7 +45,7 @@ module _ (j : ℕ) (rs Rs : List Reader) (agree : (i : ℕ) → i < j → get_or
       → read_elements rs f caps path present at (item_size (cells_of rs) f.item) 0 m p ≡ read_elements Rs f caps path present at (item_size (cells_of Rs) f.item) 0 m p
   many_same f caps path present at m p e =
       elements_same f caps path present at (item_size (cells_of rs) f.item) 0 m p e
-      ∙ ap (λ (s : ℕ). read_elements Rs f caps path present at s 0 m p) (ap length (item_cells_same j (cells_of rs) (cells_of Rs) cells f.item [] (pos 0) e))
+      ∙ ap (λ s. read_elements Rs f caps path present at s 0 m p) (ap length (item_cells_same j (cells_of rs) (cells_of Rs) cells f.item [] (pos 0) e))
 
   array_same : (f : Field) (caps path : List ℕ) (present : Bool) (at : ℕ) (c : Count) (own : ℕ → ℕ) (p : Standing) → ItemBelow j f.item
       → read_array rs f caps path present at c own p ≡ read_array Rs f caps path present at c own p
@@ -55,8 +55,7 @@ module _ (j : ℕ) (rs Rs : List Reader) (agree : (i : ℕ) → i < j → get_or
   field_same : (d : Desc) (v : ℕ) (path : List ℕ) (present : Bool) (base i at : ℕ) (f : Field) (p : Standing) → FieldsBelow j d.fields → ItemBelow j f.item
       → read_field rs d v path present base i at f p ≡ read_field Rs d v path present base i at f p
   field_same d v path present base i at f p b e =
-      ap (λ (own : ℕ → ℕ). read_array rs f (counted i d.fields) (path ++ f.name) (present && is_there f.test f.since v own no_parent) at f.count own p) (own_same j (cells_of rs) (cells_of Rs) cells d p.numbers base b)
-      ∙ array_same f (counted i d.fields) (path ++ f.name) (present && is_there f.test f.since v (numbers_of (cells_of Rs) d p.numbers base) no_parent) at f.count (numbers_of (cells_of Rs) d p.numbers base) p e
+      rw (own_same j (cells_of rs) (cells_of Rs) cells d p.numbers base b) (array_same f (counted i d.fields) (path ++ f.name) (present && is_there f.test f.since v (numbers_of (cells_of Rs) d p.numbers base) no_parent) at f.count (numbers_of (cells_of Rs) d p.numbers base) p e)
 
   fields_same : (d : Desc) (v : ℕ) (path : List ℕ) (present : Bool) (base i at : ℕ) (fs : List Field) (p : Standing) → FieldsBelow j d.fields → FieldsBelow j fs
       → read_fields rs d v path present base i at fs p ≡ read_fields Rs d v path present base i at fs p
@@ -65,8 +64,7 @@ module _ (j : ℕ) (rs Rs : List Reader) (agree : (i : ℕ) → i < j → get_or
       then_same _ _ (λ q. read_fields rs d v path present base (suc i) (at + length (field_cells (cells_of rs) d.fields i f)) fs q)
       (λ q. read_fields Rs d v path present base (suc i) (at + length (field_cells (cells_of Rs) d.fields i f)) fs q)
       (field_same d v path present base i at f p b e.0)
-      (λ q. ap (λ (cs : List Cell). read_fields rs d v path present base (suc i) (at + length cs) fs q) (field_cells_same j (cells_of rs) (cells_of Rs) cells d.fields i f e.0)
-      ∙ fields_same d v path present base (suc i) (at + length (field_cells (cells_of Rs) d.fields i f)) fs q b e.1)
+      (λ q. rw (field_cells_same j (cells_of rs) (cells_of Rs) cells d.fields i f e.0) (fields_same d v path present base (suc i) (at + length (field_cells (cells_of Rs) d.fields i f)) fs q b e.1))
 
 -- what is read of one element of a structure is what is read of its description
 pub struct_reads : (set : Set) → is_well_formed set ≡ true → (j : ℕ) → j < length set.structs → (f : Field) (caps path : List ℕ) (present : Bool) (at : ℕ) (p : Standing)
@@ -76,29 +74,23 @@ struct_reads set well j lt f caps path present at p =
     let ds = set.structs in
     let d = get_or ds j no_desc in
     let below = all_below j d.fields (λ i l. ((struct_clean set well j lt).fields i l).uses) in
-    ap (λ (r : Reader). r.reads (path ++ codes ".") present at p) (first_at reader ds no_reader (length ds) j lt)
+    ap (λ r. r.reads (path ++ codes ".") present at p) (first_at reader ds no_reader (length ds) j lt)
     ∙ fields_same j (first reader ds j) (readers set) (λ i l. first_same reader ds no_reader j (length ds) i (omega arith) l) d d.version (path ++ codes ".") present at 0 at d.fields p below below
 
 -- ---- The elements of an array and the fields of a part that remain to be read.
 
 put_least : (path : List ℕ) (cell : ℕ) (spot : CellLine) (p : Standing) (o : Option (List ℕ × List ℕ)) → put_line path (record spot { capacities = capacities_of (least_of spot.capacities) }) p o ≡ put_line path spot p o
 put_least path cell spot p None = refl
-put_least path cell spot p (Some (line, rest)) =
-    ap (λ (r : Read). if begins_with (path ++ codes " = ") line then r else bad p reasons.Form) (by (number_spelled (drop (length (path ++ codes " = ")) line)))
+put_least path cell spot p (Some (line, rest)) = rw (by (number_spelled (drop (length (path ++ codes " = ")) line)))
   where
     by : (s : Option ℤ) → put_number (record spot { capacities = capacities_of (least_of spot.capacities) }) p rest s ≡ put_number spot p rest s
     by None = refl
-    by (Some z) =
-        ap (λ (b : Bool). if not (in_range spot.kind z) then bad p reasons.Number
-        else if b then bad p reasons.Count
-        else if not (spot.present || same_number z spot.default) then bad p reasons.Absent
-        else Ok (record { numbers = slice_set p.numbers spot.cell z; line = suc p.line; rest = rest })) (exceeds_least spot.capacities z)
+    by (Some z) = rw (exceeds_least spot.capacities z)
 
 item_least : (rs : List Reader) (f : Field) (caps path : List ℕ) (present : Bool) (at : ℕ) (item : Item) (p : Standing)
     → read_item rs f (capacities_of (least_of caps)) path present at item p ≡ read_item rs f caps path present at item p
 item_least rs f caps path present at (Num kind) p =
     put_least path at (record { cell = at; kind = kind; capacities = caps; default = f.default; present = present }) p (first_line p.rest)
-item_least rs f caps path present at (Equal kind z) p = refl
 item_least rs f caps path present at _ p = refl
 
 elements_least : (rs : List Reader) (f : Field) (caps path : List ℕ) (present : Bool) (at step i n : ℕ) (p : Standing)
@@ -114,40 +106,38 @@ module _ (rs : List Reader) (f : Field) (caps path : List ℕ) (present : Bool) 
   elements_left at i count p lt =
       let e : count - i ≡ suc (count - (i + 1)) = omega arith in
       let one : suc i ≡ i + 1 = omega arith in
-      ap (λ (k : ℕ). read_elements rs f caps path present at step i k p) e
-      ∙ ap (λ (k : ℕ). read_item rs f caps (path ++ codes "[" ++ decimal i ++ codes "]") present at f.item p >>= λ q. read_elements rs f caps path present (at + step) step k (count - (i + 1)) q) one
+      ap (λ k. read_elements rs f caps path present at step i k p) e
+      ∙ ap (λ k. read_item rs f caps (path ++ codes "[" ++ decimal i ++ codes "]") present at f.item p >>= λ q. read_elements rs f caps path present (at + step) step k (count - (i + 1)) q) one
 
   pub elements_go : (at i count : ℕ) (p q : Standing) → i < count → read_item rs f caps (path ++ codes "[" ++ decimal i ++ codes "]") present at f.item p ≡ Ok q
       → read_elements rs f caps path present (at + step) step (i + 1) (count - (i + 1)) q ≡ read_elements rs f caps path present at step i (count - i) p
   elements_go at i count p q lt e =
-      sym (elements_left at i count p lt ∙ ap (λ (r : Read). r >>= λ x. read_elements rs f caps path present (at + step) step (i + 1) (count - (i + 1)) x) e)
+      sym (elements_left at i count p lt ∙ ap (λ r. r >>= λ x. read_elements rs f caps path present (at + step) step (i + 1) (count - (i + 1)) x) e)
 
   pub elements_stop : (at i count : ℕ) (p : Standing) (b : BadLine) → i < count → read_item rs f caps (path ++ codes "[" ++ decimal i ++ codes "]") present at f.item p ≡ Err b
       → read_elements rs f caps path present at step i (count - i) p ≡ Err b
   elements_stop at i count p b lt e =
-      elements_left at i count p lt ∙ ap (λ (r : Read). r >>= λ x. read_elements rs f caps path present (at + step) step (i + 1) (count - (i + 1)) x) e
+      elements_left at i count p lt ∙ ap (λ r. r >>= λ x. read_elements rs f caps path present (at + step) step (i + 1) (count - (i + 1)) x) e
 
 run_is : (rs : List Reader) (f : Field) (c : Count) (own : ℕ → ℕ) (count : ℕ) (caps path : List ℕ) (present : Bool) (at : ℕ) (p : Standing) → count ≡ elements_of c own
     → read_array rs f caps (path ++ f.name) present at c own p ≡ run_read rs f c (capacities_of (least_of caps)) path present at count p
 run_is rs f One own count caps path present at p e = sym (item_least rs f caps (path ++ f.name) present at f.item p)
 run_is rs f _ own count caps path present at p e =
-    ap (λ (m : ℕ). read_elements rs f caps (path ++ f.name) present at (item_size (cells_of rs) f.item) 0 m p) (sym e)
-    ∙ sym (elements_least rs f caps (path ++ f.name) present at (item_size (cells_of rs) f.item) 0 count p)
+    rw (sym e) (sym (elements_least rs f caps (path ++ f.name) present at (item_size (cells_of rs) f.item) 0 count p))
 
 module _ (set : Set) where
   pub read_cells : cells_of (readers set) ≡ struct_cells set
   read_cells = readers_cells set.structs (length set.structs)
 
   pub read_size : (item : Item) → item_size (cells_of (readers set)) item ≡ size_in set item
-  read_size item = ap (λ (cs : List (List Cell)). item_size cs item) (read_cells ∙ sym (cells_table set))
+  read_size item = rw (read_cells ∙ sym (cells_table set))
 
   pub array_read : (f : Field) (count : ℕ) (caps path : List ℕ) (present : Bool) (at : ℕ) (p : Standing) → (f.count ≡ One → ⊥)
       → read_elements (readers set) f caps (path ++ f.name) present at (size_in set f.item) 0 count p ≡ run_read (readers set) f f.count caps path present at count p
   array_read f count caps path present at p other = by_count f.count other where
     by_count : (c : Count) → (c ≡ One → ⊥) → read_elements (readers set) f caps (path ++ f.name) present at (size_in set f.item) 0 count p ≡ run_read (readers set) f c caps path present at count p
     by_count One other = absurd (other refl)
-    by_count (Fixed k) other = ap (λ (s : ℕ). read_elements (readers set) f caps (path ++ f.name) present at s 0 count p) (sym (read_size f.item))
-    by_count (Counted by most) other = ap (λ (s : ℕ). read_elements (readers set) f caps (path ++ f.name) present at s 0 count p) (sym (read_size f.item))
+    by_count _ other = ap (λ (s : ℕ). read_elements (readers set) f caps (path ++ f.name) present at s 0 count p) (sym (read_size f.item))
 
   -- field k of a description, by the numbers so far: how many of its elements are read, and the most that its number counts
   pub record IsNext (d : Desc) (v : ℕ) (present : Bool) (base k count : ℕ) (most : Option ℕ) (now : Bool) (f : Field) (p : Standing) : Type 0 where
@@ -165,20 +155,14 @@ module _ (set : Set) where
       let rs = readers set in
       let g = get_or d.fields k no_field in
       let own = numbers_of (struct_cells set) d p.numbers base in
-      let width : length (field_cells (cells_of rs) d.fields k g) ≡ capacity_of g.count * size_in set g.item =
-      field_size (cells_of rs) d.fields k g ∙ ap (λ (s : ℕ). capacity_of g.count * s) (read_size g.item) in
       let one : suc k ≡ k + 1 = omega arith in
       let rest = λ (i w : ℕ) (q : Standing). read_fields rs d v path present base i (cell + w) (drop (k + 1) d.fields) q in
       let here : read_field rs d v path present base k cell g p ≡ run_read rs g g.count (capacities_of most) path now cell count p =
-      ap (λ (cs : List (List Cell)). let o = numbers_of cs d p.numbers base in read_array rs g (counted k d.fields) (path ++ g.name) (present && is_there g.test g.since v o no_parent) cell g.count o p) read_cells
+      ap (λ cs. let o = numbers_of cs d p.numbers base in read_array rs g (counted k d.fields) (path ++ g.name) (present && is_there g.test g.since v o no_parent) cell g.count o p) read_cells
       ∙ run_is rs g g.count own count (counted k d.fields) path (present && (is_there g.test g.since v own no_parent)) cell p n.counts
-      ∙ ap (λ (b : Bool). run_read rs g g.count (capacities_of (least_of (counted k d.fields))) path b cell count p) (sym n.is)
-      ∙ ap (λ (o : Option ℕ). run_read rs g g.count (capacities_of o) path now cell count p) (sym n.least) in
-      ap (λ (l : List Field). read_fields rs d v path present base k cell l p) (fields_at d.fields k n.inside)
-      ∙ ap (λ (r : Read). r >>= λ q. rest (suc k) (length (field_cells (cells_of rs) d.fields k g)) q) here
-      ∙ ap (λ (w : ℕ). run_read rs g g.count (capacities_of most) path now cell count p >>= λ q. rest (suc k) w q) width
-      ∙ ap (λ (i : ℕ). run_read rs g g.count (capacities_of most) path now cell count p >>= λ q. rest i (capacity_of g.count * size_in set g.item) q) one
-      ∙ ap (λ (x : Field). run_read rs x x.count (capacities_of most) path now cell count p >>= λ q. rest (k + 1) (capacity_of x.count * size_in set x.item) q) (sym n.found)
+      ∙ ap (λ b. run_read rs g g.count (capacities_of (least_of (counted k d.fields))) path b cell count p) (sym n.is)
+      ∙ ap (λ o. run_read rs g g.count (capacities_of o) path now cell count p) (sym n.least) in
+      rw (fields_at d.fields k n.inside, here, (field_size (cells_of rs) d.fields k g ∙ ap (λ s. capacity_of g.count * s) (read_size g.item)), one, sym n.found)
 
   pub fields_go : (d : Desc) (v : ℕ) (path : List ℕ) (present : Bool) (base k cell count : ℕ) (most : Option ℕ) (now : Bool) (f : Field)
       (p q : Standing) (next : ℕ)
@@ -187,13 +171,13 @@ module _ (set : Set) where
       → read_fields (readers set) d v path present base (k + 1) next (drop (k + 1) d.fields) q
       ≡ read_fields (readers set) d v path present base k cell (drop k d.fields) p
   fields_go d v path present base k cell count most now f p q next n after e =
-      ap (λ (x : ℕ). read_fields (readers set) d v path present base (k + 1) x (drop (k + 1) d.fields) q) (sym after)
+      ap (λ x. read_fields (readers set) d v path present base (k + 1) x (drop (k + 1) d.fields) q) (sym after)
       ∙ sym (next_read d v path present base k cell count most now f p n
-      ∙ ap (λ (r : Read). r >>= λ x. read_fields (readers set) d v path present base (k + 1) (cell + capacity_of f.count * size_in set f.item) (drop (k + 1) d.fields) x) e)
+      ∙ ap (λ r. r >>= λ x. read_fields (readers set) d v path present base (k + 1) (cell + capacity_of f.count * size_in set f.item) (drop (k + 1) d.fields) x) e)
 
   pub fields_stop : (d : Desc) (v : ℕ) (path : List ℕ) (present : Bool) (base k cell count : ℕ) (most : Option ℕ) (now : Bool) (f : Field) (p : Standing) (b : BadLine)
       → IsNext d v present base k count most now f p → run_read (readers set) f f.count (capacities_of most) path now cell count p ≡ Err b
       → read_fields (readers set) d v path present base k cell (drop k d.fields) p ≡ Err b
   fields_stop d v path present base k cell count most now f p b n e =
       next_read d v path present base k cell count most now f p n
-      ∙ ap (λ (r : Read). r >>= λ x. read_fields (readers set) d v path present base (k + 1) (cell + capacity_of f.count * size_in set f.item) (drop (k + 1) d.fields) x) e
+      ∙ ap (λ r. r >>= λ x. read_fields (readers set) d v path present base (k + 1) (cell + capacity_of f.count * size_in set f.item) (drop (k + 1) d.fields) x) e

@@ -1,19 +1,19 @@
 -- A text that was accepted is the one of its machine and images.
-use Rattle.vms_values_laws.proofs.Facade.{◌≡◌, ℕ, suc, ◌+◌, ◌<◌, Bool, true, false, ◌==◌, List, [], ◌∷◌, ◌++◌, length, get_or, map, Option, Some, None, ℤ, pos}
+use Rattle.vms_values_laws.proofs.Facade.{◌≡◌, ℕ, suc, ◌+◌, Bool, true, false, ◌==◌, List, [], ◌∷◌, ◌++◌, length, get_or, map, Option, Some, None, ℤ, pos}
 use Rattle.vms_values_laws.proofs.Facade.{append_cancel_left, refl, sym, ap, ◌∙◌, arith, codes, zero, ◌≤◌, AllByRecursion, slice_get, eqb-true, leb-true}
 use Rattle.vms_values_laws.proofs.Facade.{ext_get_or, Sub, Device, Set, desc_cells, struct_cells, Image, own_cells, version_text, Element, elements_in, printed}
 use Rattle.vms_values_laws.proofs.Facade.{sub_line, Entry, OfMachine, OfSub, OfNumber, number_entries, subs_entries, devices_entries, entry_line}
 use Rattle.vms_values_laws.proofs.Facade.{device_entries, entries, part_reason, is_of_cell, has_line, IsShaped, AreShaped, AreUnsaid, AllUnsaid, IsAtVersion}
 use Rattle.vms_values_laws.proofs.Facade.{AreAtVersions, IsMachineOf, AreFine, Says, Demand, ForSection, ForNumber, demand_of, Taken, lines_of, Follows, Along}
-use Rattle.vms_values_laws.proofs.Facade.{either_of, ValuesReason, first_line, IsReady, AreReady, BadLine, ReadDevice, ValuesRead, Values, Bad, machine_named}
-use Rattle.vms_values_laws.proofs.Facade.{answer_of, or_bad, WellFormed, IsGood, device_parts, sub_clean, OfSection}
+use Rattle.vms_values_laws.proofs.Facade.{ValuesReason, first_line, IsReady, AreReady, BadLine, ReadDevice, ValuesRead, Values, Bad, machine_named, answer_of}
+use Rattle.vms_values_laws.proofs.Facade.{or_bad, WellFormed, IsGood, device_parts, sub_clean, OfSection, DefaultsFit, device_cells}
 use Rattle.vms_values_laws.proofs.SecondPass.{AreShort, of_numbers, number_same, as_bad, parts_from}
 use Rattle.vms_values_laws.proofs.AllCome.{images_of, short_are}
 use Rattle.vms_values_laws.proofs.BadLines.{fine_text, NoneBad}
 use Rattle.vms_values_laws.proofs.Meeting.{named_is, Ends}
 use Rattle.vms_values_laws.proofs.ReadyParts.{device_ready}
 use Rattle.vms_values_laws.proofs.Rights.{AreGood, fine_both, good_both}
-use Rattle.vms_values_laws.proofs.SaidLaws.{all_both}
+use Rattle.vms_values_laws.proofs.SaidLaws.{all_both, all_from}
 
 -- ---- Two states with the same lines, and with defaults where there is no line, are the same.
 
@@ -94,25 +94,27 @@ by_demand : (c : ℕ) (e : Entry) → is_of_cell c e ≡ of_demand c (demand_of 
 by_demand c (OfMachine name) = refl
 by_demand c _ = refl
 
-line_same : (es fs : List Entry) → Match es fs → (c : ℕ) → has_line es c ≡ has_line fs c
-line_same [] [] m c = refl
-line_same (e ∷ es) (f ∷ fs) m c = rw (by_demand c e ∙ ap (of_demand c) m.0 ∙ sym (by_demand c f), line_same es fs m.2 c) refl
-line_same _ _ m c = absurd m
-
 module _ (n m : List ℤ) (short : AreShort n) (short' : AreShort m) where
-  one_number : (x : Element) (k : List ℤ) (f : Entry) (c : ℕ) → k ≡ n → IsOwn m f → ForNumber x ≡ demand_of f → entry_line (OfNumber x k) ≡ entry_line f
-      → x.cell ≡ c → get_or n c (pos 0) ≡ get_or m c (pos 0)
-  one_number x k (OfNumber y l) c is of demand line at =
+  one_number : (e f : Entry) (c : ℕ) → IsOwn n e → IsOwn m f → demand_of e ≡ demand_of f → entry_line e ≡ entry_line f → is_of_cell c e ≡ true
+      → get_or n c (pos 0) ≡ get_or m c (pos 0)
+  one_number (OfNumber x k) (OfNumber y l) c is of demand line at =
       let same : y ≡ x = cc in
-      rw (← at) (number_same x.name _ _ (short x.cell) (short' x.cell) (rw (is, of, same) at line))
-  one_number x k _ c is of demand line at = absurd (cc)
+      rw (← (eqb-true x.cell c at)) (number_same x.name _ _ (short x.cell) (short' x.cell) (rw (is, of, same) at line))
+  one_number _ _ c is of demand line at = absurd (cc)
 
-  agree : (es fs : List Entry) → AreOwn n es → AreOwn m fs → Match es fs → (c : ℕ) → has_line es c ≡ true → get_or n c (pos 0) ≡ get_or m c (pos 0)
-  agree [] fs a b h c e = cc
-  agree (x ∷ es) [] a b h c e = absurd h
-  agree (OfNumber x k ∷ es) (f ∷ fs) a b h c e =
-      either_of (x.cell == c) _ e (λ t. one_number x k f c a.0 b.0 h.0 h.1 (eqb-true x.cell c t)) (λ g. agree es fs a.1 b.1 h.2 c g)
-  agree (_ ∷ es) (f ∷ fs) a b h c e = agree es fs a.1 b.1 h.2 c e
+  -- a number has the same line in both, or it is this default in both
+  same_at : (c : ℕ) (z : ℤ) (es fs : List Entry) → AreOwn n es → AreOwn m fs → Match es fs → (has_line es c ≡ false → get_or n c (pos 0) ≡ z)
+      → (has_line fs c ≡ false → get_or m c (pos 0) ≡ z) → get_or n c (pos 0) ≡ get_or m c (pos 0)
+  same_at c z [] [] a b h u u' = u refl ∙ sym (u' refl)
+  same_at c z (e ∷ es) (f ∷ fs) a b h u u' = by (is_of_cell c e) refl (same_at c z es fs a.1 b.1 h.2) where
+    by : (t : Bool) → is_of_cell c e ≡ t
+        → ((has_line es c ≡ false → get_or n c (pos 0) ≡ z) → (has_line fs c ≡ false → get_or m c (pos 0) ≡ z) → get_or n c (pos 0) ≡ get_or m c (pos 0))
+        → get_or n c (pos 0) ≡ get_or m c (pos 0)
+    by true p later = one_number e f c a.0 b.0 h.0 h.1 p
+    by false p later =
+        let q : is_of_cell c f ≡ false = by_demand c f ∙ ap (of_demand c) (sym h.0) ∙ sym (by_demand c e) ∙ p in
+        later (λ g. u (rw (p, g) refl)) (λ g. u' (rw (q, g) refl))
+  same_at c z _ _ a b h u u' = absurd h
 
 abbrev came_with : Entry → List (Option ℕ) → List (Option ℕ)
 came_with (OfSub d image j s at o) came = o ∷ came
@@ -172,13 +174,9 @@ device_same set d image image' a b u u' m =
     let long : length image.numbers ≡ length image'.numbers = a.cells ∙ sym b.cells in
     same_image image image' (a.version ∙ sym b.version)
     (sym (whole_came set d image a.subs) ∙ came_same _ _ es (inside_of set d image') (whole_own set d image a.versions) (whole_own set d image' b.versions) m
-    ∙ whole_came set d image' b.subs) (ext_get_or (pos 0) image.numbers image'.numbers long (λ c lt. by_line c lt (omega arith) (has_line es c) refl))
-  where
-    by_line : (c : ℕ) → c < length image.numbers → c < length image'.numbers → (t : Bool) → has_line (inside_of set d image) c ≡ t
-        → get_or image.numbers c (pos 0) ≡ get_or image'.numbers c (pos 0)
-    by_line c lt lt' true t =
-        agree image.numbers _ (short_are _ a.short) (short_are _ b.short) _ _ (whole_own set d image a.versions) (whole_own set d image' b.versions) m c t
-    by_line c lt lt' false t = u c lt t ∙ sym (u' c lt' (sym (line_same (inside_of set d image) (inside_of set d image') m c) ∙ t))
+    ∙ whole_came set d image' b.subs) (ext_get_or (pos 0) image.numbers image'.numbers long (λ c lt.
+    same_at _ _ (short_are _ a.short) (short_are _ b.short) c _ es (inside_of set d image') (whole_own set d image a.versions)
+    (whole_own set d image' b.versions) m (u c lt) (u' c (omega arith))))
 
 begins_new : (set : Set) (devices : List Device) (images : List Image) → BeginsNew (devices_entries set devices images)
 begins_new set (d ∷ devices) (image ∷ images) = refl
@@ -198,7 +196,7 @@ devices_same set _ _ images' a b u u' m = absurd a
 
 -- ---- A text in which no line is bad says a state; the second pass finds its first bad part, or the state is ready.
 
-named_machine : (set : Set) (text : List ℕ) (machine : Option (List ℕ)) → machine ≡ machine_named set.machines (first_line text) → IsMachineOf set machine
+pub named_machine : (set : Set) (text : List ℕ) (machine : Option (List ℕ)) → machine ≡ machine_named set.machines (first_line text) → IsMachineOf set machine
 named_machine set text None e = tt
 named_machine set text (Some name) e = named_is set.machines (first_line text) name (sym e)
 
@@ -230,37 +228,36 @@ none_good set line (e ∷ es) h = go (part_reason set e) refl h (λ g. none_good
   go (Some reason) is h more = cc
 
 module _ (set : Set) (well : WellFormed set) (good : IsGood set) where
-  low : (k : ℕ) (d : Device) → slice_get set.devices k ≡ Some d → d.desc.minimum ≤ d.desc.version
-  low k d e = leb-true d.desc.minimum d.desc.version (device_parts set well k d e).0.own.1.1.0
+  -- what is known of each device of the set
+  abbrev IsKnown : Device → Type 0
+  IsKnown d = DefaultsFit (device_cells set d) × (d.desc.minimum ≤ d.desc.version)
+      × ((j : ℕ) (s : Sub) → slice_get d.subs j ≡ Some s → s.desc.minimum ≤ s.desc.version)
 
-  lows : (k : ℕ) (d : Device) → slice_get set.devices k ≡ Some d → (j : ℕ) (s : Sub) → slice_get d.subs j ≡ Some s → s.desc.minimum ≤ s.desc.version
-  lows k d e j s f = leb-true s.desc.minimum s.desc.version (sub_clean set well k j d s e f).own.1.1.0
+  all_known : AllByRecursion IsKnown set.devices
+  all_known = all_from IsKnown set.devices (λ k d e. (
+    good.defaults k d e,
+    leb-true d.desc.minimum d.desc.version (device_parts set well k d e).0.own.1.1.0,
+    λ j s f. leb-true s.desc.minimum s.desc.version (sub_clean set well k j d s e f).own.1.1.0,
+  ))
 
   -- the devices from one on
   record ReadyFrom (devices : List Device) (images : List Image) : Type 0 where
     one_each : length images ≡ length devices
     ready : (k : ℕ) (d : Device) (image : Image) → slice_get devices k ≡ Some d → slice_get images k ≡ Some image → IsReady set d image
 
-  ready_from : (i : ℕ) (devices : List Device) (images : List Image)
-      → ((k : ℕ) (d : Device) → slice_get devices k ≡ Some d → slice_get set.devices (i + k) ≡ Some d)
-      → AreShaped set devices images → AllUnsaid set devices images → AreFine (devices_entries set devices images)
-      → AreGood set (devices_entries set devices images) → ReadyFrom devices images
-  ready_from i [] [] from shaped unsaid fine goods = record { one_each = refl; ready = λ k d image e f. cc }
-  ready_from i [] (image ∷ images) from shaped unsaid fine goods = absurd shaped
-  ready_from i (d ∷ devices) [] from shaped unsaid fine goods = absurd shaped
-  ready_from i (d ∷ devices) (image ∷ images) from shaped unsaid fine goods =
+  ready_from : (devices : List Device) (images : List Image) → AllByRecursion IsKnown devices → AreShaped set devices images → AllUnsaid set devices images
+      → AreFine (devices_entries set devices images) → AreGood set (devices_entries set devices images) → ReadyFrom devices images
+  ready_from [] [] known shaped unsaid fine goods = record { one_each = refl; ready = λ k d image e f. cc }
+  ready_from [] (image ∷ images) known shaped unsaid fine goods = absurd shaped
+  ready_from (d ∷ devices) [] known shaped unsaid fine goods = absurd shaped
+  ready_from (d ∷ devices) (image ∷ images) known shaped unsaid fine goods =
       let f = fine_both (device_entries set d image) (devices_entries set devices images) fine in
       let g = good_both set (device_entries set d image) (devices_entries set devices images) goods in
-      let here : slice_get set.devices (i + 0) ≡ Some d = from 0 d refl in
-      let mine =
-      device_ready set d image (short_are image.numbers shaped.0.short) shaped.0 unsaid.0 f.0 g.0 (good.defaults (i + 0) d here) (low (i + 0) d here)
-      (lows (i + 0) d here) in
-      let others = ready_from (suc i) devices images (λ k d e. next k d (from (suc k) d e)) shaped.1 unsaid.1 f.1 g.1 in
+      let short = short_are image.numbers shaped.0.short in
+      let mine = device_ready set d image short shaped.0 unsaid.0 f.0 g.0 known.0.0 known.0.1 known.0.2 in
+      let others = ready_from devices images known.1 shaped.1 unsaid.1 f.1 g.1 in
       record { one_each = ap suc others.one_each; ready = λ k e j a b. place k e j a b mine others.ready }
     where
-      next : (k : ℕ) (d : Device) → slice_get set.devices (i + suc k) ≡ Some d → slice_get set.devices (suc i + k) ≡ Some d
-      next k d e = let same : suc i + k ≡ i + suc k = omega arith in rw same e
-
       place : (k : ℕ) (e : Device) (j : Image) → slice_get (d ∷ devices) k ≡ Some e → slice_get (image ∷ images) k ≡ Some j → IsReady set d image
           → ((k : ℕ) (d : Device) (image : Image) → slice_get devices k ≡ Some d → slice_get images k ≡ Some image → IsReady set d image) → IsReady set e j
       place zero e j a b mine others =
@@ -278,7 +275,5 @@ module _ (set : Set) (well : WellFormed set) (good : IsGood set) where
       → AreReady set images
   says_ready text machine images s g =
       let p = machine_good machine images s.fine g in
-      let from : (k : ℕ) (d : Device) → slice_get set.devices k ≡ Some d → slice_get set.devices (0 + k) ≡ Some d =
-      λ k d e. let same : 0 + k ≡ k = omega arith in rw same e in
-      let all = ready_from 0 set.devices images from s.shaped s.unsaid p.0 p.1 in
+      let all = ready_from set.devices images all_known s.shaped s.unsaid p.0 p.1 in
       record { one_each = all.one_each; ready = all.ready }

@@ -1,18 +1,17 @@
 -- All devices, read as entries, and which devices reading requires.
 use Rattle.vms_values_laws.proofs.Facade.{◌≡◌, ℕ, suc, ◌+◌, List, ◌∷◌, ◌++◌, length, map, true, false, Option, Some, None, ℤ, Ok, Err, Result, refl, sym, ap}
-use Rattle.vms_values_laws.proofs.Facade.{◌∙◌, subst, arith, [], length-append, length-map, bytes_eq-Decides, zero, ◌<◌, get_or, slice_set, Bool, nat_le}
-use Rattle.vms_values_laws.proofs.Facade.{⊎_elim, AllByRecursion, or_right, and_from, cases_eq, ◌&&◌, if◌then◌else◌, pos, negsuc, get_or-set_other, append-nil}
-use Rattle.vms_values_laws.proofs.Facade.{list_all, and_parts, leb-true, le-leb, length-set, get_or-set_same, get_or-map, Device, Set, desc_cells, struct_cells}
-use Rattle.vms_values_laws.proofs.Facade.{device_cells, Image, default_image, own_cells, first_line, Standing, BadLine, ReadSubs, readers, read_desc, read_subs}
-use Rattle.vms_values_laws.proofs.Facade.{then_subs, next_line, rest_of, is_line, IsSound, AreSound, section_line, Entry, OfSection, device_entries, Said}
-use Rattle.vms_values_laws.proofs.Facade.{ForSection, reason_for, Taken, Follows, Along, Begins, Moved, either_of, no_cell, Cell, ReadDevice, ReadAll}
-use Rattle.vms_values_laws.proofs.Facade.{read_devices, device_read, with_device, IsShort, devices_entries, is_short, IsShaped, AreShaped, AreUnsaid, AllUnsaid}
-use Rattle.vms_values_laws.proofs.Facade.{put_all, Demand, IsGood, DefaultsFit, ranged}
+use Rattle.vms_values_laws.proofs.Facade.{◌∙◌, subst, arith, [], length-append, length-map, bytes_eq-Decides, zero, ◌<◌, get_or, slice_set, Bool, ⊎_elim}
+use Rattle.vms_values_laws.proofs.Facade.{AllByRecursion, or_right, cases_eq, if◌then◌else◌, pos, negsuc, get_or-set_other, append-nil, list_all, and_parts}
+use Rattle.vms_values_laws.proofs.Facade.{length-set, get_or-set_same, get_or-map, Device, Set, desc_cells, struct_cells, device_cells, Image, default_image}
+use Rattle.vms_values_laws.proofs.Facade.{own_cells, first_line, Standing, BadLine, ReadSubs, readers, read_desc, read_subs, then_subs, next_line, rest_of}
+use Rattle.vms_values_laws.proofs.Facade.{is_line, IsSound, AreSound, section_line, Entry, OfSection, device_entries, Said, ForSection, reason_for, Taken}
+use Rattle.vms_values_laws.proofs.Facade.{Follows, Along, Begins, Moved, either_of, no_cell, Cell, ReadDevice, ReadAll, read_devices, device_read, with_device}
+use Rattle.vms_values_laws.proofs.Facade.{IsShort, devices_entries, is_short, IsShaped, AreShaped, AreUnsaid, AllUnsaid, put_all, Demand, IsGood, DefaultsFit}
+use Rattle.vms_values_laws.proofs.Facade.{ranged, in_range, I64, U64, nat_le, and_from, le-leb}
 use Rattle.vms_spec.specs.declared.ValuesReason.TheVariants as reasons
 use Rattle.vms_values_laws.proofs.SecondPass.{moved_none, moved_one, moved_then, AreShort, numbers_come, follows_then, along_then, short_within, IsLined}
 use Rattle.vms_values_laws.proofs.SecondPass.{AreLined}
-use Rattle.vms_values_laws.proofs.SubsCome.{line_taken, AreSoundSubs, cells_long, none_at, subs_come, Went, Got, Stop, Come, stopped_first, behind_numbers}
-use Rattle.vms_values_laws.proofs.SubsCome.{numbers_first}
+use Rattle.vms_values_laws.proofs.SubsCome.{line_taken, AreSoundSubs, cells_long, none_at, subs_come, Went, Come, stopped_first, behind_numbers, numbers_first}
 use Rattle.vms_values_laws.proofs.SaidLaws.{all_from, unsaid_kept, AreShortSaid, short}
 
 abbrev pub default_numbers : Set → Device → List ℤ
@@ -35,17 +34,11 @@ module _ (set : Set) (d : Device) (line : ℕ) (text : List ℕ) where
   abbrev pub DeviceWent : List (Option ℕ) → List ℤ → ℕ → List ℕ → (List Entry → List Entry → Type 0) → Type 0
   DeviceWent came numbers line' rest Then = Went (device_of set d) d.subs 0 place came numbers line' rest Then
 
-  -- what was read of the device, from its line on
-  abbrev pub DeviceRead : ReadSubs → Type 0
-  DeviceRead r = Got (device_of set d) d.subs 0 place r
-
-  abbrev pub DeviceStop : BadLine → Type 0
-  DeviceStop e = Stop (device_of set d) d.subs 0 place e
-
+  -- what comes of the device, from its line on
   abbrev pub DeviceComes : Result ReadSubs BadLine → Type 0
   DeviceComes o = Come (device_of set d) d.subs 0 place o
 
-  pub section_refused : reason_for (ForSection d) (first_line text) ≡ Some reasons.Form → DeviceStop (record { line = line; reason = reasons.Form })
+  pub section_refused : reason_for (ForSection d) (first_line text) ≡ Some reasons.Form → DeviceComes (Err (record { line = line; reason = reasons.Form }))
   section_refused wrong =
       stopped_first (device_of set d) d.subs 0 place (ForSection d)
       (λ image came more long. record { first = OfSection d (state_of d came image.numbers); others = _; is = refl; demands = refl }) wrong
@@ -130,12 +123,7 @@ are_short [] h = refl
 are_short (z ∷ n) h = let e = is_short_one z (h 0) in let f = are_short n (λ c. h (suc c)) in rw (e, f) refl
 
 short_one : (z : ℤ) → is_short z ≡ true → IsShort z
-short_one (pos n) e =
-    either_of (nat_le n 0x7fff_ffff_ffff_ffff) _ e (λ f. omega (arith, leb-true n 0x7fff_ffff_ffff_ffff f))
-    (λ f. omega (arith, leb-true n 0xffff_ffff_ffff_ffff (and_parts (nat_le 0 n) (nat_le n 0xffff_ffff_ffff_ffff) f).1))
-short_one (negsuc n) e =
-    either_of (nat_le n 0x7fff_ffff_ffff_ffff && true) false e
-    (λ f. omega (arith, leb-true n 0x7fff_ffff_ffff_ffff (and_parts (nat_le n 0x7fff_ffff_ffff_ffff) true f).0)) (λ f. cc)
+short_one z e = either_of (in_range I64 z) (in_range U64 z) e (short I64 z) (short U64 z)
 
 pub short_are : (n : List ℤ) → list_all is_short n ≡ true → AreShort n
 short_are [] e c = omega arith
@@ -225,7 +213,7 @@ module _ (set : Set) (d : Device) (devices : List Device) (line : ℕ) (text : L
         short = are_short numbers (rw (w.told.numbers) (short_all (default_numbers set d) w.said w.told.short good));
       }
 
-  stopped_here : (e : BadLine) → AreGoodDevices set devices → DeviceStop set d line text e → AllStop set (d ∷ devices) line text e
+  stopped_here : (e : BadLine) → AreGoodDevices set devices → DeviceComes set d line text (Err e) → AllStop set (d ∷ devices) line text e
   stopped_here e later s =
       let w = s.before in
       record {
@@ -243,7 +231,7 @@ module _ (set : Set) (d : Device) (devices : List Device) (line : ℕ) (text : L
         wrong = s.wrong;
       }
 
-  module _ (r : ReadSubs) (x : DeviceRead set d line text r) where
+  module _ (r : ReadSubs) (x : DeviceComes set d line text (Ok r)) where
     abbrev image : Image
     image = image_of d r
 

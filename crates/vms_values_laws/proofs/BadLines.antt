@@ -1,10 +1,10 @@
 -- The first bad line of a text.
 use Rattle.vms_values_laws.proofs.Facade.{◌≡◌, ℕ, suc, ◌+◌, List, [], ◌∷◌, ◌++◌, length, map, Option, Some, None, refl, sym, ap, ◌∙◌, arith, append-nil, codes}
 use Rattle.vms_values_laws.proofs.Facade.{and_parts, ◌⊎◌, inl, inr, ◌&&◌, drop, Ok, Err, Result, bytes_eq-Decides, ValuesReason, Set, Image, first_line}
-use Rattle.vms_values_laws.proofs.Facade.{begins_with, BadLine, ReadAll, machine_named, judge_devices, read_devices, rest_of, after_machine, ended, judged}
-use Rattle.vms_values_laws.proofs.Facade.{answer_of, ValuesRead, Bad, values_read, text_of, Entry, entries, devices_entries, entry_line, front_reason}
-use Rattle.vms_values_laws.proofs.Facade.{AreShaped, AllUnsaid, AreFine, IsBadLine, Demand, ForMachine, reason_for, Taken, lines_of, AreFineTaken, Follows}
-use Rattle.vms_values_laws.proofs.Facade.{Along, Begins, Moved, is_one_of, AreSound, begun}
+use Rattle.vms_values_laws.proofs.Facade.{begins_with, BadLine, ReadAll, machine_named, judge_devices, rest_of, after_machine, ended, judged, answer_of}
+use Rattle.vms_values_laws.proofs.Facade.{ValuesRead, Bad, values_read, text_of, Entry, entries, devices_entries, entry_line, front_reason, AreShaped}
+use Rattle.vms_values_laws.proofs.Facade.{AllUnsaid, AreFine, IsBadLine, Demand, ForMachine, reason_for, Taken, lines_of, AreFineTaken, Follows, Along, Begins}
+use Rattle.vms_values_laws.proofs.Facade.{Moved, is_one_of, AreSound, begun}
 use Rattle.vms_values_laws.proofs.SaidLaws.{some_if}
 use Rattle.vms_values_laws.proofs.SecondPass.{follows_then, along_then, reason_same, moved_then, moved_none, moved_one, parts_from, devices_judged}
 use Rattle.vms_values_laws.proofs.AllCome.{images_of, AllRead, AreGoodDevices, AllCome, devices_come, AllWent}
@@ -103,11 +103,6 @@ abbrev machine_taken : Option (List ℕ) → List Taken
 machine_taken None = []
 machine_taken (Some name) = record { demand = ForMachine name; line = codes "machine " ++ name } ∷ []
 
--- where the devices begin
-pub record Headed (set : Set) (text : List ℕ) (machine : Option (List ℕ)) (line : ℕ) (after : List ℕ) : Type 0 where
-  pub named : machine ≡ machine_named set.machines (first_line text)
-  pub moved : Moved 1 text (machine_taken machine) line after
-
 follows_machine : (set : Set) (machine : Option (List ℕ)) (images : List Image) (taken : List Taken) (P : List Entry → Type 0)
     → Follows taken P (devices_entries set set.devices images) → Follows (machine_taken machine ++ taken) P (entries set machine images)
 follows_machine set None images taken P f = f
@@ -124,14 +119,15 @@ parts_machine : (set : Set) (machine : Option (List ℕ)) (line : ℕ) (images :
 parts_machine set None line images e = rw e refl
 parts_machine set (Some name) line images e = rw e refl
 
-module _ (set : Set) (text : List ℕ) (machine : Option (List ℕ)) (line : ℕ) (after : List ℕ) (head : Headed set text machine line after) where
+module _ (set : Set) (text : List ℕ) (machine : Option (List ℕ)) (line : ℕ) (after : List ℕ)
+    (named : machine ≡ machine_named set.machines (first_line text)) (headed : Moved 1 text (machine_taken machine) line after) where
   -- a line that is bad after what was taken, if these entries are to come
   first_bad : {images : List Image} {at : ℕ} {rest : List ℕ} {Q : List Entry → Type 0} (reason : ValuesReason)
       → AllWent set set.devices line after images at rest Q → ((es : List Entry) → Q es → front_reason es rest ≡ Some reason) → OneBad set text (Bad at reason)
   first_bad {images = images} {at = at} {rest = rest} {Q = Q} reason a bad =
       let P : List Entry → Type 0 = λ es. front_reason es rest ≡ Some reason in
       let all = machine_taken machine ++ a.taken in
-      let passed : Moved 1 text all at rest = moved_then head.moved a.moved in
+      let passed : Moved 1 text all at rest = moved_then headed a.moved in
       let its : (images : List Image) → AreShaped set set.devices images → Follows all P (entries set machine images) =
       λ images shaped. follows_machine set machine images a.taken P (follows_ends a.taken Q P _ (a.follows images shaped) bad) in
       let s = split all P P (entries set machine images) passed.fine (its images a.shaped)
@@ -142,14 +138,14 @@ module _ (set : Set) (text : List ℕ) (machine : Option (List ℕ)) (line : ℕ
         machine = machine;
         taken = all;
         rest = rest;
-        took = record { named = head.named; follows = its; moved = passed };
+        took = record { named = named; follows = its; moved = passed };
         is_bad = record {
           machine = machine;
           images = images;
           before = s.before;
           after = s.after;
           rest = rest;
-          named = head.named;
+          named = named;
           shaped = a.shaped;
           state = s.is;
           fine = s.fine;
@@ -166,14 +162,14 @@ module _ (set : Set) (text : List ℕ) (machine : Option (List ℕ)) (line : ℕ
     all = all;
     taken = machine_taken machine ++ a.taken;
     took = record {
-      named = head.named;
+      named = named;
       follows = λ images shaped. follows_machine set machine images a.taken (λ es. Ends None [] es)
           (follows_ends a.taken (λ es. es ≡ []) (λ es. Ends None [] es) _ (a.follows images shaped) (λ es e. (e, refl)));
-      moved = moved_then head.moved (rw e at a.moved);
+      moved = moved_then headed (rw e at a.moved);
     };
     shaped = a.shaped;
     unsaid = a.unsaid;
-    judged = devices_judged set line set.devices all.devices a.lined a.shaped ∙ parts_machine set machine line (images_of all.devices) head.moved.further;
+    judged = devices_judged set line set.devices all.devices a.lined a.shaped ∙ parts_machine set machine line (images_of all.devices) headed.further;
     along = along_machine set machine (images_of all.devices) a.taken (λ es. es ≡ []) a.along;
     is = refl;
   })
@@ -193,24 +189,21 @@ machine_first machines (Some (line, rest)) name e =
     let p = some_if (begins_with (codes "machine ") line && is_one_of machines (drop 8 line)) _ _ e in
     (rest, rw (begun (codes "machine ") line (and_parts _ _ p.0).0, p.1) refl)
 
-headed : (set : Set) (text name : List ℕ) → machine_named set.machines (first_line text) ≡ Some name → Headed set text (Some name) 2 (rest_of (first_line text))
-headed set text name e =
+name_moved : (set : Set) (text name : List ℕ) → machine_named set.machines (first_line text) ≡ Some name
+    → Moved 1 text (machine_taken (Some name)) 2 (rest_of (first_line text))
+name_moved set text name e =
     let line = machine_first set.machines (first_line text) name e in
-    record {
-      named = sym e;
-      moved = moved_one 1 text (record { demand = ForMachine name; line = codes "machine " ++ name }) (rest_of (first_line text))
-          (line_taken text (codes "machine " ++ name) line.0 line.1)
-          (let f = (bytes_eq-Decides (codes "machine " ++ name) (codes "machine " ++ name)).1 refl in rw f refl);
-    }
+    let same = (bytes_eq-Decides (codes "machine " ++ name) (codes "machine " ++ name)).1 refl in
+    moved_one 1 text (record { demand = ForMachine name; line = codes "machine " ++ name }) (rest_of (first_line text))
+    (line_taken text (codes "machine " ++ name) line.0 line.1) (rw same refl)
 
 by_machine : (set : Set) (text : List ℕ) → AreSound set.structs → AreGoodDevices set set.devices → (machine : Option (List ℕ))
     → machine_named set.machines (first_line text) ≡ machine → FirstPass set text (after_machine set text machine)
 by_machine set text structs good None e =
-    by_end set text None 1 text (record { named = sym e; moved = moved_none 1 text }) (read_devices set set.devices 1 text)
-    (devices_come set structs set.devices good 1 text)
+    by_end set text None 1 text (sym e) (moved_none 1 text) _ (devices_come set structs set.devices good 1 text)
 by_machine set text structs good (Some name) e =
     let after = rest_of (first_line text) in
-    by_end set text (Some name) 2 after (headed set text name e) (read_devices set set.devices 2 after) (devices_come set structs set.devices good 2 after)
+    by_end set text (Some name) 2 after (sym e) (name_moved set text name e) _ (devices_come set structs set.devices good 2 after)
 
 pub first_pass : (set : Set) (text : List ℕ) → AreSound set.structs → AreGoodDevices set set.devices → FirstPass set text (values_read set text)
 unfolding values_read

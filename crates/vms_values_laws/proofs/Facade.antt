@@ -21,7 +21,7 @@ pub use Rattle.vms_kinds.specs.Codes.{residue, width}
 pub use Rattle.vms_kinds.specs.declared.Item.{Item}
 pub use Rattle.vms_kinds.specs.declared.Item.TheVariants.{Num, Struct}
 pub use Rattle.vms_kinds.specs.declared.Kind.{Kind}
-pub use Rattle.vms_kinds.specs.declared.Kind.TheVariants.{I16, I32, I64, I8, U16, U32, U8}
+pub use Rattle.vms_kinds.specs.declared.Kind.TheVariants.{I16, I32, I64, I8, U16, U32, U64, U8}
 pub use Rattle.vms_spec.proofs.Faultless.{few_devices, machine_short, or_else_none}
 pub use Rattle.vms_spec.proofs.ListLaws.{either_of, or_second}
 pub use Rattle.vms_spec.proofs.NameBytes.{name_byte_high}

@@ -12,13 +12,11 @@ use Rattle.vms_values_laws.proofs.Facade.{shapes, cells_in, dotted, behind, item
 use Rattle.vms_values_laws.proofs.Facade.{desc_elements, index_text, is_number, elements_in, printed, OfNumber, number_entries, subs_entries, device_entries}
 use Rattle.vms_values_laws.proofs.Facade.{devices_entries, entries, one_more, Place, first_answer, is_name_byte, is_name, is_sub_name, is_one_of, machine_named}
 use Rattle.vms_values_laws.proofs.Facade.{WellFormed, first_fault, failing, here, set_rules, struct_fault, struct_rules, device_fault, device_rules, sub_rules}
-use Rattle.vms_values_laws.proofs.Facade.{size_rules, Clean, struct_clean, device_parts, sub_clean, get_none, name_byte_high}
+use Rattle.vms_values_laws.proofs.Facade.{size_rules, Clean, struct_clean, device_parts, sub_clean, get_none, name_byte_high, IsMachineOf}
 use Rattle.vms_values_laws.proofs.SaidLaws.{all_both, all_from, if_holds, if_none, some_if, short}
 use Rattle.vms_values_laws.proofs.SecondPass.{reason_same}
 use Rattle.vms_spec.specs.declared.ValuesReason.TheVariants as reasons
 use Rattle.vms_spec.specs.declared.Part.TheVariants as parts
-
--- ---- A text leads along one list of lines.
 
 -- ---- Lines without a line feed, and which lines meet a demand.
 
@@ -157,8 +155,6 @@ meet (t ∷ taken) (x ∷ before) after rest rest' o o' f clean fine fine' e end
     let more = meet taken before after rest rest' o o' (f.1 (sym both.0)) clean.1 fine.1 fine'.1 both.1 ends in
     record { long = ap suc more.long; lines = rw (both.0, more.lines) refl; reason = more.reason }
 
--- ---- The lines of the entries of a fit set are clean.
-
 -- ---- The entries of a set whose names have no line feed.
 
 abbrev pub AreNamed : List Element → Type 0
@@ -253,11 +249,6 @@ module _ (set : Set) (structs : (j : ℕ) → AreCleanFields (get_or set.structs
       ) (clean_images devices images h.1)
   clean_images _ _ h = tt
 
-  pub clean_entries : (machine : Option (List ℕ)) (images : List Image) → AreCleanDevices set.devices → ((name : List ℕ) → machine ≡ Some name → NoFeed name)
-      → AreClean (entries set machine images)
-  clean_entries None images h m = clean_images set.devices images h
-  clean_entries (Some name) images h m = (m name refl, clean_images set.devices images h)
-
 -- ---- No name of a well-formed set has a line feed.
 
 name_byte : (b : ℕ) → is_name_byte b ≡ true → (b == 10) ≡ false
@@ -298,7 +289,7 @@ named_is machines (Some (line, rest)) name e =
     let p = some_if (begins_with (codes "machine ") line && is_one_of machines (drop 8 line)) _ _ e in rw (← p.1) (and_parts _ _ p.0).1
 
 module _ (set : Set) (well : WellFormed set) where
-  pub clean_structs : (j : ℕ) → AreCleanFields (get_or set.structs j no_desc).fields
+  clean_structs : (j : ℕ) → AreCleanFields (get_or set.structs j no_desc).fields
   clean_structs j = go (slice_get set.structs j) refl where
     go : (o : Option Desc) → slice_get set.structs j ≡ o → AreCleanFields (get_or set.structs j no_desc).fields
     go None e = rw (get_none set.structs j no_desc e) tt
@@ -329,5 +320,6 @@ module _ (set : Set) (well : WellFormed set) where
   pub clean_named : (name : List ℕ) → is_one_of set.machines name ≡ true → NoFeed name
   clean_named name h = named_one set.machines name machines_named h
 
-  pub clean_machine : (o : Option (List ℕ × List ℕ)) (name : List ℕ) → machine_named set.machines o ≡ Some name → NoFeed name
-  clean_machine o name e = clean_named name (named_is set.machines o name e)
+  pub clean_entries : (machine : Option (List ℕ)) (images : List Image) → IsMachineOf set machine → AreClean (entries set machine images)
+  clean_entries None images h = clean_images set clean_structs set.devices images clean_devices
+  clean_entries (Some name) images h = (clean_named name h, clean_images set clean_structs set.devices images clean_devices)

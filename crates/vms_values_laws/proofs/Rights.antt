@@ -146,8 +146,8 @@ pub record Known (set : Set) (n : List ℤ) (at : ℕ) (es : List Entry) (cells 
   pub right : AreRight n at cells ss → More → AreFine es × AreGood set es
 
 -- entries, and others behind them
-pub known_both : {set : Set} {n : List ℤ} {at next : ℕ} {es fs : List Entry} {xs ys : List Cell} {ss ts : List Slot} {N M O : Type 0} → (N → M → O) → (O → N × M)
-    → next ≡ at + length xs → Known set n at es xs ss N → Known set n next fs ys ts M → Known set n at (es ++ fs) (xs ++ ys) (ss ++ ts) O
+pub known_both : {set : Set} {n : List ℤ} {at next : ℕ} {es fs : List Entry} {xs ys : List Cell} {ss ts : List Slot} {N M O : Type 0} → (N → M → O)
+    → (O → N × M) → next ≡ at + length xs → Known set n at es xs ss N → Known set n next fs ys ts M → Known set n at (es ++ fs) (xs ++ ys) (ss ++ ts) O
 known_both {set} {n} {at} {next} {es} {fs} {xs} {ys} {ss} {ts} to from is a b = record {
   outside = λ k h.
       let past : at ≤ k → at + (length xs + length ys) ≤ k = rw (length-append xs ys) at h in

@@ -3,10 +3,10 @@ use Rattle.vms_values_laws.proofs.Facade.{◌≡◌, ℕ, ◌≤◌, List, [], �
 use Rattle.vms_values_laws.proofs.Facade.{false, if◌then◌else◌, Some, None, same_Some, slice_get, suc, get_or-set_other, Bool, ◌==◌, ◌||◌, length, map-append}
 use Rattle.vms_values_laws.proofs.Facade.{length-append, eq-eqb, or_parts, or_assoc, AllByRecursion, ValuesReason, if_not, Standing, Element, text_of}
 use Rattle.vms_values_laws.proofs.Facade.{text_append, Said, said_line, AreFineLines, Agrees, Meets, AreBelow, AreFrom, put_all, Ran, Entry, OfNumber}
-use Rattle.vms_values_laws.proofs.Facade.{is_of_cell, has_line, IsShort, ◌<◌, nat_le, drop, Option, negsuc, Ok, Err, codes, ◌+◌, get_or-set_same, length-set}
-use Rattle.vms_values_laws.proofs.Facade.{and_parts, leb-true, signed_decimal, Read, BadLine, CellLine, put_number, put_line, ◌>>=◌, Number, number_reason}
-use Rattle.vms_values_laws.proofs.Facade.{spelled_reason, line_reason, wanted_reason, Kind, U8, U16, U32, I8, I16, I32, I64, same_number, exceeds, in_range}
-use Rattle.vms_values_laws.proofs.Facade.{Cell, first_line, begins_with, number_spelled, spelled_holds, line_splits, begun}
+use Rattle.vms_values_laws.proofs.Facade.{is_of_cell, has_line, IsShort, ◌<◌, drop, Option, negsuc, Ok, Err, codes, ◌+◌, get_or-set_same, length-set}
+use Rattle.vms_values_laws.proofs.Facade.{signed_decimal, Read, BadLine, CellLine, put_number, put_line, ◌>>=◌, Number, number_reason, spelled_reason}
+use Rattle.vms_values_laws.proofs.Facade.{line_reason, wanted_reason, Kind, U8, I8, I16, I32, I64, same_number, exceeds, in_range, Cell, first_line}
+use Rattle.vms_values_laws.proofs.Facade.{begins_with, number_spelled, spelled_holds, line_splits, begun, nat_le, and_parts, leb-true, U16, U32}
 use Rattle.vms_kinds.specs.declared.Kind.TheVariants.{Bool as Truth}
 use Rattle.vms_spec.specs.declared.ValuesReason.TheVariants as reasons
 
@@ -339,11 +339,6 @@ module _ (total : List ℤ → List Element) (start : Standing) (low : ℕ) wher
       let below = below_less cell further said le a.below in
       let stands : At further p said left = record { meets = a.meets; below = below; up = omega arith; told = a.told; ran = a.ran } in
       record { comes = record { said = said; stands = stands; grows = λ m g. g; knows = tt } }
-
-  pub forget : {cell : ℕ} {known : List ℕ} {before : List Said} {left : List ℤ → List Element} (r : Read) → Comes cell known before left r
-      → Comes cell [] before left r
-  forget (Ok q) c = let f = c.comes in record { comes = record { said = f.said; stands = f.stands; grows = f.grows; knows = tt } }
-  forget (Err e) c = record { comes = c.comes }
 
   earlier : {cell : ℕ} {known : List ℕ} {before said : List Said} {left : List ℤ → List Element} (r : Read) → ((m : List ℤ) → Agrees said m → Agrees before m)
       → Comes cell known said left r → Comes cell known before left r

@@ -289,14 +289,6 @@ pub record NumbersStop (set : Set) (d : Desc) (at : ℕ) (p : Standing) (e : Bad
 
 -- what comes after the numbers
 module _ {set : Set} {d : Desc} {at : ℕ} {p q : Standing} (n : NumbersRead set d at p q) where
-  pub follows_on : (taken : List Taken) (P : List Entry → Type 0) (numbers : List ℤ) (es : List Entry) → AreShort numbers → Follows taken P es
-      → Follows (all_taken n.said ++ taken) P (number_entries set d numbers at ++ es)
-  follows_on taken P numbers es short h = follows_then (all_taken n.said) taken (λ l. l ≡ es) P _ (n.follows numbers es short) (λ l is. rw is h)
-
-  pub along_on : (taken : List Taken) (P : List Entry → Type 0) (numbers : List ℤ) (es : List Entry) → Agrees n.said numbers → Along taken P es
-      → Along (all_taken n.said ++ taken) P (number_entries set d numbers at ++ es)
-  along_on taken P numbers es agrees h = along_then (all_taken n.said) taken (λ l. l ≡ es) P _ (n.along numbers es agrees) (λ l is. rw is h)
-
   pub heard_on : (numbers : List ℤ) (es : List Entry) (said : List Said) (c : ℕ) → Agrees n.said numbers → has_line es c ≡ has_said said c
       → has_line (number_entries set d numbers at ++ es) c ≡ has_said (n.said ++ said) c
   heard_on numbers es said c agrees h =

@@ -1,21 +1,21 @@
 -- The laws of values texts, as they are stated.
 use Rattle.vms_values_laws.proofs.Facade.{◌≡◌, inl, inr, ℕ, List, ◌++◌, Option, Some, None, sym, ap, ◌∙◌, subst, arith, ◌∷◌, map, true, refl, codes, append-nil}
-use Rattle.vms_values_laws.proofs.Facade.{[], ◌+◌, length, suc, ◌≤◌, sum_by, ℤ, same_Some, length-append, length-map, sum_by-cons, ValuesReason, Set, Device}
-use Rattle.vms_values_laws.proofs.Facade.{Desc, Sub, ValuesRead, Bad, machine_named, BadLine, Values, values_read, Entry, entries, devices_entries, entry_line}
-use Rattle.vms_values_laws.proofs.Facade.{OfNumber, number_entries, subs_entries, device_entries, IsBadLine, IsMachineOf, Says, IsText, IsBadPart, Refused}
-use Rattle.vms_values_laws.proofs.Facade.{Reads, Taken, Follows, Image, own_cells, first_line, is_one_of, IsConfiguration, IsTrailer, optional, configuration}
-use Rattle.vms_values_laws.proofs.Facade.{trailer, written, AreReady, WellFormed, text_of, section_line, printed, values_text, IsFit, well_good, entry_law}
-use Rattle.vms_values_laws.proofs.Facade.{text_is, ReadLaw, OnlyLaw, AcceptedLaw, PrintedLaw, device_lines, most_lines, LineLaw, machine_short, few_devices}
-use Rattle.vms_values_laws.proofs.Facade.{Takes, one_stream_holds, written_holds, FitsText, WrittenLaw, PackedLaw, ShownLaw, desc_cells, struct_cells, Element}
+use Rattle.vms_values_laws.proofs.Facade.{[], ◌+◌, length, suc, ◌≤◌, sum_by, ℤ, length-append, length-map, sum_by-cons, ValuesReason, Set, Device, Desc, Sub}
+use Rattle.vms_values_laws.proofs.Facade.{ValuesRead, Bad, machine_named, BadLine, Values, values_read, Entry, entries, devices_entries, entry_line, OfNumber}
+use Rattle.vms_values_laws.proofs.Facade.{number_entries, subs_entries, device_entries, IsBadLine, IsMachineOf, Says, IsText, IsBadPart, Refused, Reads, Taken}
+use Rattle.vms_values_laws.proofs.Facade.{Follows, Image, own_cells, first_line, is_one_of, IsConfiguration, IsTrailer, optional, configuration, trailer}
+use Rattle.vms_values_laws.proofs.Facade.{written, AreReady, WellFormed, text_of, section_line, printed, values_text, IsFit, well_good, entry_law, text_is}
+use Rattle.vms_values_laws.proofs.Facade.{ReadLaw, OnlyLaw, AcceptedLaw, PrintedLaw, device_lines, most_lines, LineLaw, machine_short, few_devices, Takes}
+use Rattle.vms_values_laws.proofs.Facade.{one_stream_holds, written_holds, FitsText, WrittenLaw, PackedLaw, ShownLaw, desc_cells, struct_cells, Element}
 use Rattle.vms_values_laws.proofs.Facade.{cells_of, elements_in, walks, AreShaped, AreFine, is_number, cells_with, Number, What, and-true, and-false}
 use Rattle.vms_values_laws.proofs.Facade.{if◌then◌else◌, ◌&&◌}
 use Rattle.vms_values_laws.proofs.SaidLaws.{if_holds}
 use Rattle.vms_values_laws.proofs.BadLines.{FirstPass, NoneBad, first_pass, TakenOf}
-use Rattle.vms_values_laws.proofs.Meeting.{AreClean, Ends, Same, meet, NoFeed, line_first, section_feed, AreCleanDevices, clean_entries, clean_structs}
-use Rattle.vms_values_laws.proofs.Meeting.{clean_devices, clean_named, clean_machine}
+use Rattle.vms_values_laws.proofs.Meeting.{AreClean, Ends, Same, meet, NoFeed, line_first, section_feed, AreCleanDevices, clean_entries, clean_devices}
+use Rattle.vms_values_laws.proofs.Meeting.{clean_named}
 use Rattle.vms_values_laws.proofs.SecondPass.{parts_from}
 use Rattle.vms_values_laws.proofs.AllCome.{images_of, good_devices}
-use Rattle.vms_values_laws.proofs.Accepted.{Match, inside_of, matched, devices_same, answer_by, none_answers, none_says, none_good, says_ready}
+use Rattle.vms_values_laws.proofs.Accepted.{Match, inside_of, matched, devices_same, answer_by, none_answers, none_says, none_good, says_ready, named_machine}
 use Rattle.vms_values_laws.proofs.ReadyParts.{sub_cells, FirstPart, first_part, bad_part_found, good_none, text_says}
 use Rattle.vms_values_laws.proofs.Rights.{AreGood}
 
@@ -76,12 +76,6 @@ named_by set well text (Some name) images named e =
     (first_is text (codes "machine " ++ name) lines (refl, (refl, (refl, (refl, (refl, (refl, (refl, (refl, clean_named set well name named)))))))) e)
     ∙ name_read set.machines name (text_of lines) named
 
-clean_says : (set : Set) → WellFormed set → (machine : Option (List ℕ)) (images : List Image) → IsMachineOf set machine → AreClean (entries set machine images)
-clean_says set well None images named = clean_entries set (clean_structs set well) None images (clean_devices set well) (λ name e. cc)
-clean_says set well (Some name) images named =
-    clean_entries set (clean_structs set well) (Some name) images (clean_devices set well)
-    (λ other e. rw (same_Some name other e) at (clean_named set well name named))
-
 module _ (set : Set) (well : WellFormed set) (text : List ℕ) (machine : Option (List ℕ)) (images : List Image) (says : Says set text machine images) where
   its_machine : machine_named set.machines (first_line text) ≡ machine
   its_machine = named_by set well text machine images says.named says.printed
@@ -91,7 +85,7 @@ module _ (set : Set) (well : WellFormed set) (text : List ℕ) (machine : Option
       → Same taken (entries set machine images) o None
   its_lines t =
       let es = entries set machine images in
-      let clean : AreClean (es ++ []) = subst AreClean (sym (append-nil es)) (clean_says set well machine images says.named) in
+      let clean : AreClean (es ++ []) = subst AreClean (sym (append-nil es)) (clean_entries set well machine images says.named) in
       beside t machine images es [] [] None (sym its_machine) says.shaped (sym (append-nil es)) clean says.fine (says.printed ∙ sym (append-nil _)) (refl, refl)
 
   same_devices : (machine : Option (List ℕ)) (i j : List Image) → Match (entries set machine i) (entries set machine j)
@@ -162,9 +156,7 @@ accepted_holds set text machine images fit e = rw e at (read_holds set text fit)
 
 line_back : (set : Set) (text : List ℕ) (line : ℕ) (reason : ValuesReason) → IsFit set → IsBadLine set text line reason → values_read set text ≡ Bad line reason
 line_back set text line reason fit x =
-    bad_back set text line reason x
-    (clean_entries set (clean_structs set fit.well) x.machine x.images (clean_devices set fit.well)
-    (λ name e. clean_machine set fit.well (first_line text) name (sym x.named ∙ e))) (values_read set text) (its_first_pass set text fit)
+    bad_back set text line reason x (clean_entries set fit.well x.machine x.images (named_machine set text x.machine x.named)) _ (its_first_pass set text fit)
 
 part_back : (set : Set) (text : List ℕ) (line : ℕ) (reason : ValuesReason) → IsFit set → IsBadPart set text line reason → values_read set text ≡ Bad line reason
 part_back set text line reason fit x =

@@ -7,21 +7,11 @@ use Rattle.vms_values_laws.proofs.Facade.{line_splits, sub_line, Entry, OfSub, n
 use Rattle.vms_values_laws.proofs.Facade.{Demand, ForSub, ForNumber, reason_for, Taken, Follows, Along, Begins, Moved, Desc}
 use Rattle.vms_spec.specs.declared.ValuesReason.TheVariants as reasons
 use Rattle.vms_values_laws.proofs.SecondPass.{moved_none, moved_one, moved_then, AreShort, all_taken, NumbersRead, NumbersStop, NumbersCome, numbers_come}
-use Rattle.vms_values_laws.proofs.SecondPass.{follows_on, along_on, heard_on, lines_on, sub_numbers}
+use Rattle.vms_values_laws.proofs.SecondPass.{heard_on, lines_on, sub_numbers, follows_then, along_then}
 use Rattle.vms_values_laws.proofs.SaidLaws.{agrees_parts, Told, told_none, told_both, has_said}
 
 pub line_taken : (text line rest : List ℕ) → first_line text ≡ Some (line, rest) → text ≡ line ++ 10 ∷ rest_of (first_line text)
 line_taken text line rest e = line_splits text line rest e ∙ rw e refl
-
-either_way : (s : Sub) (line : List ℕ) (a b : Bool) → bytes_eq line (sub_line s (Some s.desc.version)) ≡ a → bytes_eq line (sub_line s None) ≡ b
-    → (rest : List ℕ)
-    → (if a then Some (Some s.desc.version) else if b then Some None else None) ≡ None → reason_for (ForSub s) (Some (line, rest)) ≡ Some reasons.Form
-either_way s line false false e f rest h = rw (e, f) refl
-either_way s line _ _ e f rest h = cc
-
-sub_refused : (s : Sub) (o : Option (List ℕ × List ℕ)) → sub_said s o ≡ None → reason_for (ForSub s) o ≡ Some reasons.Form
-sub_refused s None e = refl
-sub_refused s (Some (line, rest)) e = either_way s line _ _ refl refl rest e
 
 -- what a line says of a subsection
 pub record SaidSub (s : Sub) (o : Option (List ℕ × List ℕ)) (came : Option ℕ) : Type 0 where
@@ -30,23 +20,24 @@ pub record SaidSub (s : Sub) (o : Option (List ℕ × List ℕ)) (came : Option 
   pub fine : reason_for (ForSub s) (Some (sub_line s came, [])) ≡ None
   pub version : IsAtVersion s came
 
+-- or why it says nothing
+abbrev SubLine : Sub → Option (List ℕ × List ℕ) → Option (Option ℕ) → Type 0
+SubLine s o None = reason_for (ForSub s) o ≡ Some reasons.Form
+SubLine s o (Some came) = SaidSub s o came
+
 said_by : (s : Sub) (line rest : List ℕ) (came : Option ℕ) → line ≡ sub_line s came → reason_for (ForSub s) (Some (line, [])) ≡ None → IsAtVersion s came
     → SaidSub s (Some (line, rest)) came
 said_by s line rest came is fine version = record { rest = rest; is = rw is refl; fine = rw is at fine; version = version }
 
-one_way : (s : Sub) (line rest : List ℕ) (came : Option ℕ) (a b : Bool) → bytes_eq line (sub_line s (Some s.desc.version)) ≡ a
-    → bytes_eq line (sub_line s None) ≡ b
-    → (if a then Some (Some s.desc.version) else if b then Some None else None) ≡ Some came → SaidSub s (Some (line, rest)) came
-one_way s line rest (Some v) true b e f h =
-    let version : Some s.desc.version ≡ Some v = cc in
-    said_by s line rest (Some v) ((bytes_eq-Decides line (sub_line s (Some s.desc.version))).0 e ∙ ap (λ o. sub_line s o) version) (rw e refl) (cc)
-one_way s line rest None false true e f h = said_by s line rest None ((bytes_eq-Decides line (sub_line s None)).0 f) (rw (e, f) refl) tt
-one_way s line rest (Some v) false true e f h = absurd (cc)
-one_way s line rest _ _ _ e f h = absurd (cc)
+by_tests : (s : Sub) (line rest : List ℕ) (a b : Bool) → bytes_eq line (sub_line s (Some s.desc.version)) ≡ a → bytes_eq line (sub_line s None) ≡ b
+    → SubLine s (Some (line, rest)) (if a then Some (Some s.desc.version) else if b then Some None else None)
+by_tests s line rest true b e f = said_by s line rest (Some s.desc.version) ((bytes_eq-Decides line _).0 e) (rw e refl) refl
+by_tests s line rest false true e f = said_by s line rest None ((bytes_eq-Decides line _).0 f) (rw (e, f) refl) tt
+by_tests s line rest false false e f = rw (e, f) refl
 
-sub_taken : (s : Sub) (o : Option (List ℕ × List ℕ)) (came : Option ℕ) → sub_said s o ≡ Some came → SaidSub s o came
-sub_taken s None came e = cc
-sub_taken s (Some (line, rest)) came e = one_way s line rest came _ _ refl refl e
+sub_line_is : (s : Sub) (o : Option (List ℕ × List ℕ)) → SubLine s o (sub_said s o)
+sub_line_is s None = refl
+sub_line_is s (Some (line, rest)) = by_tests s line rest _ _ refl refl
 
 -- What was said and taken up to a place. The entries follow on what was taken, whichever subsections have come and whatever comes after them.
 -- Those that have come have its lines.
@@ -152,17 +143,21 @@ module _ (set : Set) (d : Device) where
     abbrev went_behind : {q : Standing} {came : List (Option ℕ)} {numbers : List ℤ} {line : ℕ} {rest : List ℕ} {Then : List Entry → List Entry → Type 0}
         → NumbersRead set desc at p q → Went (those j next subs) subs next q came numbers line rest Then
         → Went (behind_numbers desc at j next subs) subs at p came numbers line rest Then
-    went_behind {Then = Then} n r = record {
+    went_behind {came = came} {Then = Then} n r = record {
       said = n.said ++ r.said;
       taken = all_taken n.said ++ r.taken;
       told = told_both n.told r.told (omega arith) (rw fits at n.below);
       one_each = r.one_each;
       versions = r.versions;
       follows = λ image came more long short.
-          rw append_assoc (follows_on n r.taken (Then more) image.numbers _ short (r.follows image came more long short));
+          let later = those j next subs image came ++ more in
+          rw append_assoc (follows_then (all_taken n.said) r.taken (λ l. l ≡ later) (Then more) _ (n.follows image.numbers later short)
+          (λ l is. rw is (r.follows image came more long short)));
       along = λ image more agrees.
           let all = agrees_parts n.said r.said image.numbers agrees in
-          rw append_assoc (along_on n r.taken (Then more) image.numbers _ all.0 (r.along image more all.1));
+          let later = those j next subs image came ++ more in
+          rw append_assoc (along_then (all_taken n.said) r.taken (λ l. l ≡ later) (Then more) _ (n.along image.numbers later all.0)
+          (λ l is. rw is (r.along image more all.1)));
       moved = moved_then n.moved r.moved;
     }
 
@@ -186,8 +181,9 @@ module _ (set : Set) (d : Device) where
     numbers_first (Err e) go n h = stopped_inside e n
 
   module _ (s : Sub) (subs : List Sub) (j at : ℕ) (p : Standing) where
-    refused : sub_said s (first_line p.rest) ≡ None → Stop (those j at (s ∷ subs)) (s ∷ subs) at p (record { line = p.line; reason = reasons.Form })
-    refused e = stopped_first (those j at (s ∷ subs)) (s ∷ subs) at p (ForSub s) first_sub (sub_refused s (first_line p.rest) e) where
+    refused : reason_for (ForSub s) (first_line p.rest) ≡ Some reasons.Form
+        → Stop (those j at (s ∷ subs)) (s ∷ subs) at p (record { line = p.line; reason = reasons.Form })
+    refused e = stopped_first (those j at (s ∷ subs)) (s ∷ subs) at p (ForSub s) first_sub e where
       first_sub : (image : Image) (came : List (Option ℕ)) (more : List Entry) → length came ≡ suc (length subs)
           → Begins (ForSub s) (subs_entries set d image j at (s ∷ subs) came ++ more)
       first_sub image [] more long = absurd (omega arith)
@@ -226,13 +222,13 @@ module _ (set : Set) (d : Device) where
           record { demand = x.demand; came = came ∷ x.came; numbers = x.numbers; rest = x.rest; before = headed x.before; wrong = x.wrong }
 
   by_head : (s : Sub) (subs : List Sub) (j at : ℕ) (p : Standing) (o : Option (Option ℕ)) → AreSound set.structs → IsSound s.desc
-      → sub_said s (first_line p.rest) ≡ o → at + size_of s ≤ length p.numbers
+      → SubLine s (first_line p.rest) o → at + size_of s ≤ length p.numbers
       → ((q : Standing) → length q.numbers ≡ length p.numbers
       → Come (those (suc j) (at + size_of s) subs) subs (at + size_of s) q (read_subs set (at + size_of s) subs q))
       → Come (those j at (s ∷ subs)) (s ∷ subs) at p (read_sub set s at p o (λ q. read_subs set (at + size_of s) subs q))
   by_head s subs j at p None structs sound e here later = refused s subs j at p e
   by_head s subs j at p (Some came) structs sound e here later =
-      sub_comes s subs j at p came (sub_taken s (first_line p.rest) came e) _
+      sub_comes s subs j at p came e _
       (numbers_first s.desc at (suc j) (at + size_of s) subs (next_line p) refl (read_desc (readers set) s.desc s.desc.version [] true at (next_line p)) _
       (numbers_come set s.desc at (next_line p) structs sound here) (λ q n. later q n.told.long))
 
@@ -254,5 +250,5 @@ module _ (set : Set) (d : Device) where
   }
   subs_come structs (s ∷ subs) j at p sound room =
       let long : cells_long (s ∷ subs) ≡ size_of s + cells_long subs = length-append (desc_cells (struct_cells set) s.desc) _ in
-      by_head s subs j at p (sub_said s (first_line p.rest)) structs sound.0 refl (omega arith)
+      by_head s subs j at p _ structs sound.0 (sub_line_is s (first_line p.rest)) (omega arith)
       (λ q same. subs_come structs subs (suc j) (at + size_of s) q sound.1 (omega arith))

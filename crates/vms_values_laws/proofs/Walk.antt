@@ -10,7 +10,7 @@ use Rattle.vms_values_laws.proofs.Facade.{read_item, read_elements, read_array, 
 use Rattle.vms_values_laws.proofs.Facade.{IsEarlier, IsSoundField, AreSoundFields, IsSound, AreSound, there_same, elements_same, place_next, drop_next}
 use Rattle.vms_values_laws.proofs.Facade.{zero_plus, place_first, first_long, readers_cells, two_more, shapes_cells, Said, Agrees}
 use Rattle.vms_spec.specs.ValuesReading.{cells_of}
-use Rattle.vms_values_laws.proofs.SaidLaws.{Knows, AllKnown, knows_grows, At, Comes, at_left, stay, forget, then_comes, line_comes}
+use Rattle.vms_values_laws.proofs.SaidLaws.{Knows, AllKnown, knows_grows, At, Comes, at_left, stay, then_comes, line_comes}
 
 -- ---- The printed elements under a path.
 
@@ -165,11 +165,10 @@ module _ (total : List ℤ → List Element) (start : Standing) (low : ℕ) wher
           ap (λ l. path ++ (f.name ++ l)) (many e) ∙ sym (append_assoc path f.name (brackets e)) ∙ element_path (path ++ f.name) e in
           let later : List ℤ → List Element = λ n. parts (suc e) k (at + size) n ++ left n in
           then_comes total start low (read_item rs f caps element b at f.item p) _
-          (forget total start low (read_item rs f caps element b at f.item p)
           (item_comes f f.item caps (steps ++ (stand.number, e) ∷ []) element b at (at + size) p said later refl (omega arith)
           (at_left total start low (λ n g. ap (λ (l : List Element). l ++ left n) (first_counted steps path present f stand (part n) size e k m at c)
           ∙ append_assoc (wrapped (steps ++ (stand.number, e) ∷ []) (path ++ (f.name ++ index_text f.count e)) b (part n at)) _ (left n)
-          ∙ ap (λ (l : List ℕ). wrapped (steps ++ (stand.number, e) ∷ []) l b (part n at) ++ later n) name) a)))
+          ∙ ap (λ (l : List ℕ). wrapped (steps ++ (stand.number, e) ∷ []) l b (part n at) ++ later n) name) a))
           (λ q done a' grows known. items_comes many (suc e) k m (at + size) end q done left (omega arith) (omega arith) (grind arith) room a')
 
       -- a single element

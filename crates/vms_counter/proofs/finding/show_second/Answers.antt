@@ -1,10 +1,12 @@
-use Rattle.vms_counter.proofs.Facade.{sym, ap, ◌∙◌, Set, described, loads, raised, states_of}
+use Rattle.vms_counter.proofs.Facade.{described, loads}
 use Rattle.vms_counter.proofs.FoundLemmas.{none_found}
 use Rattle.vms_counter.proofs.finding.show_second.Goals as goal
 
-pub returns-in-None-clause-found : goal.returns-in-None-clause-found
-returns-in-None-clause-found c =
+pub returns-in-None-clause-right : goal.returns-in-None-clause-right
+returns-in-None-clause-right c =
     let trial = c.args.trial.now in
-    let old = described trial.old.now in
-    none_found old (loads c.args.new.now) trial.mismatch c.requires.trial.first c.requires.tried
-    (ap (λ (s : Set). raised old s trial.mismatch) (sym c.set.ensures) ∙ sym c.in_ok-raised.ensures.states ∙ ap states_of c.in-None.is)
+    record {
+      counters = none_found (described trial.old.now) (loads c.args.new.now) trial.mismatch c.requires.shared.first c.requires.first
+          (rw (← c.set.ensures, ← c.in_ok-raised.ensures.states, c.in-None.is));
+      of = tt;
+    }

@@ -6,8 +6,7 @@ loop-item-preserved g c =
     let t = g.T.TakesRoom in
     let structs = c.args.structs.now in
     let x = c.item-item.result in
-    let has : c.saturating_add-sum.result ≡ in_u32 (c.loop-item.sum + t.bytes structs x) =
-    let sum = c.saturating_add-sum.ensures in let one = c.bytes.ensures in omega (arith, sum, one) in
+    let has : c.saturating_add-sum.result ≡ in_u32 (c.loop-item.sum + t.bytes structs x) = omega (arith, c.saturating_add-sum.ensures, c.bytes.ensures) in
     record {
       small = c.saturating_add-sum.type_inv;
       whole =

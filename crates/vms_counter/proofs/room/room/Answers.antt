@@ -1,4 +1,4 @@
-use Rattle.vms_counter.proofs.Facade.{ℕ, ◌+◌, map, ap, ◌∙◌, subst, sym, arith, Set, desc_of, device_of, described, HasRoom, BESIDE_SECTIONS}
+use Rattle.vms_counter.proofs.Facade.{ℕ, ◌+◌, map, ap, ◌∙◌, arith, Set, desc_of, device_of, described, BESIDE_SECTIONS}
 use Rattle.vms_counter.proofs.ByteLaws.{read_bytes, sections_are}
 use Rattle.vms_counter.proofs.RoomLaws.{has_room}
 use Rattle.vms_counter.proofs.room.room.Goals as goal
@@ -25,4 +25,4 @@ returns-clause-bytes c =
 pub returns-clause-room : goal.returns-clause-room
 returns-clause-room c =
     let set = c.args.set.now in
-    subst (λ (n : ℕ). HasRoom (described set) n) (sym (returns-clause-bytes c)) (has_room (described set) set.well_formed)
+    rw (returns-clause-bytes c) (has_room (described set) set.well_formed)

@@ -1,8 +1,4 @@
-use Rattle.std.proofs.Common.{Err, sym, subst, ap, ◌∙◌}
-use Rattle.vms_json.specs.Nodes.{view, tree_view}
-use Rattle.vms_descfile.specs.Descs.{parts_of}
-use Rattle.vms_descfile.specs.Files.{Said, parts_said}
-use Rattle.vms_descfile.specs.Given.{Gives}
+use Rattle.vms_descfile.proofs.Facade.{Err, sym, subst, ap, ◌∙◌, view, tree_view, parts_of, Said, parts_said, Gives}
 use Rattle.vms_descfile.proofs.FileLaws.{no_json, said_by, shape_said}
 use Rattle.vms_descfile.proofs.read.read_file.Goals as goal
 

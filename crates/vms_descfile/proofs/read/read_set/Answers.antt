@@ -1,6 +1,4 @@
-use Rattle.std.proofs.Common.{sym, subst}
-use Rattle.vms_descfile.specs.Files.{Said}
-use Rattle.vms_descfile.specs.Given.{Gives}
+use Rattle.vms_descfile.proofs.Facade.{sym, subst, Said, Gives}
 use Rattle.vms_descfile.proofs.read.read_set.Goals as goal
 
 pub returns-in-Ok : goal.returns-in-Ok

@@ -1,8 +1,5 @@
-use Rattle.std.proofs.Common.{ap, subst, ◌∙◌}
+use Rattle.vms_descfile.proofs.Facade.{ap, subst, ◌∙◌, described, FitsSet, set_file}
 use Rattle.serde_json.specs.View.{view}
-use Rattle.vms_desc.specs.Described.{described}
-use Rattle.vms_descfile.specs.Fitting.{FitsSet}
-use Rattle.vms_descfile.specs.Written.{set_file}
 use Rattle.vms_descfile.proofs.WriteLaws.{compact_file, file_reads}
 use Rattle.vms_descfile.proofs.write.write_set.Goals as goal
 

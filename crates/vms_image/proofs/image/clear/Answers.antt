@@ -1,4 +1,4 @@
-use Rattle.std.proofs.Common.{arith}
+use Rattle.vms_image.proofs.Facade.{arith}
 use Rattle.vms_image.proofs.Filled.{cleared}
 use Rattle.vms_image.proofs.image.clear.Goals as goal
 

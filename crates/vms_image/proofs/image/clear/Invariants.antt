@@ -1,4 +1,4 @@
-use Rattle.std.proofs.Common.{◌≡◌, ◌<◌, ℕ, List, Option, None, length, get_or}
+use Rattle.vms_image.proofs.Facade.{◌≡◌, ◌<◌, ℕ, List, Option, None, length, get_or}
 use Rattle.vms_image.proofs.image.clear.Given as goal
 
 pub record Cleared (came : List (Option ℕ)) (all sub : ℕ) : Type 0 where

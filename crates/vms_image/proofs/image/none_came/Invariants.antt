@@ -1,4 +1,4 @@
-use Rattle.std.proofs.Common.{◌≡◌, replicate, None}
+use Rattle.vms_image.proofs.Facade.{◌≡◌, replicate, None}
 use Rattle.vms_image.proofs.image.none_came.Given as goal
 
 abbrev pub invariant-loop : goal.invariant-loop

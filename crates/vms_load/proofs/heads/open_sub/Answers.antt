@@ -8,8 +8,7 @@ use Rattle.vms_load.proofs.heads.open_sub.Goals as goal
 -- the subsection found by its name
 found_sub : (subs : List CodeSub) (there name wanted : _) (found : Option ℕ) (j : ℕ) → there ≡ subs → name ≡ wanted → found ≡ find_sub 0 (map sub_of there) name → found ≡ Some j
     → find_sub 0 (map sub_of subs) wanted ≡ Some j
-found_sub subs there name wanted found j e f h is =
-    ap (λ (n : List ℕ). find_sub 0 (map sub_of subs) n) (sym f) ∙ ap (λ (s : List CodeSub). find_sub 0 (map sub_of s) name) (sym e) ∙ sym h ∙ is
+found_sub subs there name wanted found j e f h is = cc
 
 below_subs : (subs : List CodeSub) (name : List ℕ) (j : ℕ) → find_sub 0 (map sub_of subs) name ≡ Some j → j < length subs
 below_subs subs name j e = omega (arith, sub_below (map sub_of subs) name j e, length-map subs sub_of)

@@ -1,4 +1,4 @@
-use Rattle.vms_load.proofs.Facade.{w128, rules, ◌≡◌, ◌∙◌, ap, sym, to_z, of_z, to_z-of_z, err_from_is_err_and, is_same}
+use Rattle.vms_load.proofs.Facade.{w128, rules, ◌≡◌, ap, of_z, to_z-of_z, err_from_is_err_and, is_same}
 use Rattle.vms_load.proofs.BodyLemmas.{are_others, reads_constant, reads_other, reads_no_constant}
 use Rattle.vms_load.proofs.items.constant.Goals as goal
 
@@ -16,5 +16,5 @@ pub returns-clause-reads : goal.returns-clause-reads
 returns-clause-reads g c =
     let v = c.in_ok-found.found in
     let y = c.args.value in
-    let is : v ≡ y = sym (to_z-of_z w128 v (search rules)) ∙ ap (to_z w128) c.if-found-value.false ∙ to_z-of_z w128 y (search rules) in
+    let is : v ≡ y = cc (to_z-of_z w128 v (search rules), c.if-found-value.false, to_z-of_z w128 y (search rules)) in
     reads_constant c.args.kind c.args.cursor.now.at y v (is_same v y is) is c.in_ok-found.ensures.reads

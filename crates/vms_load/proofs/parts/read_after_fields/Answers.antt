@@ -13,8 +13,7 @@ use Rattle.vms_load.proofs.parts.read_after_fields.Goals as goal
 -- what a subsection head opens, as the call returns it
 opened : (k place : ℕ) (came : List (Option ℕ)) (name : List ℕ) (v : ℕ) (d there : Device) (result is : Result ℕ Reason) → there ≡ d → in_section k result ≡ sub_opened k there came name v → result ≡ is
     → opened_at place (in_section k is) ≡ opened_at place (sub_opened k d came name v)
-opened k place came name v d there result is same e r =
-    ap (λ (o : Result ℕ Reason). opened_at place (in_section k o)) (sym r) ∙ ap (opened_at place) e ∙ ap (λ (x : Device). opened_at place (sub_opened k x came name v)) same
+opened k place came name v d there result is same e r = cc
 
 pub open_sub-requires-clause-few : goal.open_sub-requires-clause-few
 open_sub-requires-clause-few g c =

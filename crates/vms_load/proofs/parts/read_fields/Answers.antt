@@ -48,7 +48,7 @@ read_part-requires-clause-kinds g c = λ n.
 pub read_part-requires-clause-cursor : goal.read_part-requires-clause-cursor
 read_part-requires-clause-cursor g c = record {
   held = c.requires.cursor.held;
-  place = omega (arith, c.requires.cursor.place, ap (bytes_of (described c.args.set.now)) (desc g (goal.at.read_part-requires-clause-cursor g c).After-first_cell-base));
+  place = omega (arith, ap (bytes_of (described c.args.set.now)) (desc g (goal.at.read_part-requires-clause-cursor g c).After-first_cell-base));
 }
 
 pub returns-in-Ok-clause-reads : goal.returns-in-Ok-clause-reads

@@ -23,12 +23,10 @@ read_fields-requires-clause-image g c = let loop = c.loop-next.invariant in let 
 pub read_after_fields-requires-clause-image : goal.read_after_fields-requires-clause-image
 read_after_fields-requires-clause-image g c =
     let loop = c.loop-next.invariant in
-    let same = loop.same in
     let shaped = loop.shaped in
-    let image = c.in_ok-read_fields.ensures.image in
     record {
       device = omega arith;
-      shaped = rw image.kept (record { subs = shaped.subs; cells = image.long ∙ shaped.cells; kinds = shaped.kinds });
+      shaped = rw c.in_ok-read_fields.ensures.image.kept (record { subs = shaped.subs; cells = cc; kinds = shaped.kinds });
     }
 
 pub loop-next-preserved : goal.loop-next-preserved

@@ -8,5 +8,5 @@ returns-clause-state c =
     let set = described c.args.set.now in
     let images = c.args.staged.now.images in
     let n = ap length c.as_slice.ensures ∙ sym (length-map c.parts.result.now.devices device_of) ∙ ap (λ (s : Set). length s.devices) c.parts.ensures in
-    let long : length c.reset.new.images ≡ images.len = c.reset.ensures.shaped.all ∙ sym c.requires.all ∙ sym images.ok.0 in
+    let long : length c.reset.new.images ≡ images.len = cc (c.reset.ensures.shaped.all, c.requires.all) in
     starts set (map untyped (with_items images c.reset.new.images).items) c.none_came-staged.result.items (length c.as_slice.result.now) (ap (map untyped) (with_items_is images c.reset.new.images long) ∙ c.reset.ensures.states) n c.none_came-staged.ensures

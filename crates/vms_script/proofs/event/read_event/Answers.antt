@@ -1,6 +1,4 @@
-use Rattle.std.proofs.Common.{◌≡◌, ◌<◌, ℕ, List, [], ◌∷◌, length, Option, refl, arith}
-use Rattle.std.proofs.Math.Bool.{and-false}
-use Rattle.vms_script.specs.Lines.{line_of_words, play_line}
+use Rattle.vms_script.proofs.Facade.{◌≡◌, ◌<◌, ℕ, List, [], ◌∷◌, length, Option, refl, arith, and-false, line_of_words, play_line}
 use Rattle.vms_script.proofs.event.read_event.Goals as goal
 
 -- the first word of an event has two bytes or more

@@ -1,5 +1,4 @@
-use Rattle.std.proofs.Common.{rules}
-use Rattle.vms_script.specs.Words.{first_word}
+use Rattle.vms_script.proofs.Facade.{rules, first_word}
 use Rattle.vms_script.proofs.NumberLemmas.{wire_good, wire_range, wire_fails}
 use Rattle.vms_script.proofs.event.read_wire.Goals as goal
 

@@ -1,6 +1,4 @@
-use Rattle.std.proofs.Common.{◌≡◌, true, sym, ◌∙◌}
-use Rattle.std.proofs.lemmas.Str.{IsUtf8-from_ascii}
-use Rattle.vms_script.specs.Names.{is_shelf_name}
+use Rattle.vms_script.proofs.Facade.{◌≡◌, true, sym, ◌∙◌, IsUtf8-from_ascii, is_shelf_name}
 use Rattle.vms_script.proofs.NameLemmas.{name_ascii}
 use Rattle.vms_script.proofs.name.name_of.Goals as goal
 

@@ -1,6 +1,4 @@
-use Rattle.std.proofs.Common.{◌≡◌, drop}
-use Rattle.std.specs.List.{list_all}
-use Rattle.vms_spec.specs.Spelling.{is_digit}
+use Rattle.vms_script.proofs.Facade.{◌≡◌, drop, list_all, is_digit}
 use Rattle.vms_script.proofs.number.are_all_digits.Given as goal
 
 abbrev pub invariant-loop-b : goal.invariant-loop-b

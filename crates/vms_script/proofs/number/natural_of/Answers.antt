@@ -1,4 +1,4 @@
-use Rattle.std.proofs.Common.{sym, ◌∙◌}
+use Rattle.vms_script.proofs.Facade.{sym, ◌∙◌}
 use Rattle.vms_script.proofs.NumberLemmas.{natural_stops, natural_ends}
 use Rattle.vms_script.proofs.number.natural_of.Goals as goal
 

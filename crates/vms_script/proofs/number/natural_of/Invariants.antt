@@ -1,5 +1,4 @@
-use Rattle.std.proofs.Common.{◌≡◌, ◌<◌, ◌^◌, drop}
-use Rattle.vms_spec.specs.Spelling.{natural_from}
+use Rattle.vms_script.proofs.Facade.{◌≡◌, ◌<◌, ◌^◌, drop, natural_from}
 use Rattle.vms_script.proofs.number.natural_of.Given as goal
 
 abbrev pub invariant-loop-digit : goal.invariant-loop-digit

@@ -1,6 +1,4 @@
-use Rattle.std.proofs.Common.{rules, ◌≡◌, Some, None}
-use Rattle.std.proofs.lemmas.Result.{on_ok_weaker}
-use Rattle.vms_script.specs.Words.{first_word}
+use Rattle.vms_script.proofs.Facade.{rules, on_ok_weaker}
 use Rattle.vms_script.proofs.SplitLemmas.{other_says, words_long}
 use Rattle.vms_script.proofs.script.put_other.Goals as goal
 

@@ -1,10 +1,5 @@
-use Rattle.std.proofs.Common.{sym, ap, ◌∙◌, arith, map}
-use Rattle.vms_spec.specs.Spelling.{first_line}
-use Rattle.vms_script.specs.Lines.{line_read}
-use Rattle.vms_script.specs.Script.{bad, script_read}
-use Rattle.vms_script.specs.declared.line.ScriptReason.{ScriptReason}
+use Rattle.vms_script.proofs.Facade.{sym, ap, ◌∙◌, arith, map, first_line, line_read, bad, script_read, first_is, first_none}
 use Rattle.vms_script.proofs.ScriptLemmas.{line_put, line_stops, text_ends, tail_reason, tail_stops, reads_lines, reads_bad, put_unended, refused, is_empty, is_some}
-use Rattle.vms_words.proofs.LineLaws.{first_is, first_none}
 use Rattle.vms_script.proofs.script.read_lines.Goals as goal
 
 pub returns-in-Err : goal.returns-in-Err

@@ -1,5 +1,4 @@
-use Rattle.std.proofs.Common.{◌≡◌, ◌+◌, ◌*◌, ◌≤◌, length, map}
-use Rattle.vms_script.specs.Script.{text_read}
+use Rattle.vms_script.proofs.Facade.{◌≡◌, ◌+◌, ◌*◌, ◌≤◌, length, map, text_read}
 use Rattle.vms_script.proofs.ScriptLemmas.{after_lines}
 use Rattle.vms_script.proofs.script.read_lines.Given as goal
 

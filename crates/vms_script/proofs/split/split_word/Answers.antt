@@ -1,5 +1,4 @@
-use Rattle.std.proofs.Common.{◌≡◌, ℕ, ◌+◌, ◌-◌, List, length, take, drop, Option, Some, sym, ap, ◌∙◌, arith}
-use Rattle.std.proofs.lemmas.Grind.{common_steps}
+use Rattle.vms_script.proofs.Facade.{◌≡◌, ℕ, ◌+◌, ◌-◌, List, length, take, drop, Some, sym, ap, ◌∙◌, arith, common_steps}
 use Rattle.vms_script.proofs.SplitLemmas.{found_word, no_blank, none_yet, none_here}
 use Rattle.vms_script.proofs.split.split_word.Goals as goal
 

@@ -1,5 +1,4 @@
-use Rattle.std.proofs.Common.{◌≡◌, ◌+◌, ◌*◌, ◌++◌, length, drop}
-use Rattle.vms_script.specs.Trace.{bytes_text}
+use Rattle.vms_script.proofs.Facade.{◌≡◌, ◌+◌, ◌*◌, ◌++◌, length, drop, bytes_text}
 use Rattle.vms_script.proofs.trace.append_digits.Given as goal
 
 abbrev pub invariant-loop-byte : goal.invariant-loop-byte

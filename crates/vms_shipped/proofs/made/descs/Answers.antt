@@ -1,5 +1,4 @@
-use Rattle.vms_parts.specs.Views.{desc_of}
-use Rattle.vms_shipped.specs.Rows.{desc_in}
+use Rattle.vms_shipped.proofs.Facade.{desc_of, desc_in}
 use Rattle.vms_shipped.proofs.RowLaws.{one_more}
 use Rattle.vms_shipped.proofs.made.descs.Goals as goal
 

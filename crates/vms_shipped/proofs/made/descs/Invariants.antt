@@ -1,6 +1,4 @@
-use Rattle.std.proofs.Common.{◌≡◌, map, take}
-use Rattle.vms_parts.specs.Views.{desc_of}
-use Rattle.vms_shipped.specs.Rows.{desc_in}
+use Rattle.vms_shipped.proofs.Facade.{◌≡◌, map, take, desc_of, desc_in}
 use Rattle.vms_shipped.proofs.made.descs.Given as goal
 
 abbrev pub invariant-loop-row : goal.invariant-loop-row

@@ -1,6 +1,4 @@
-use Rattle.std.proofs.Common.{◌≡◌, map, take}
-use Rattle.vms_parts.specs.Views.{device_of}
-use Rattle.vms_shipped.specs.Rows.{device_in}
+use Rattle.vms_shipped.proofs.Facade.{◌≡◌, map, take, device_of, device_in}
 use Rattle.vms_shipped.proofs.made.devices.Given as goal
 
 abbrev pub invariant-loop-row : goal.invariant-loop-row

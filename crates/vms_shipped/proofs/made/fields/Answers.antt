@@ -1,5 +1,4 @@
-use Rattle.std.proofs.Common.{refl}
-use Rattle.vms_shipped.specs.Rows.{fields_in, all_in}
+use Rattle.vms_shipped.proofs.Facade.{refl, fields_in, all_in}
 use Rattle.vms_shipped.proofs.RowLaws.{one_less}
 use Rattle.vms_shipped.proofs.made.fields.Goals as goal
 

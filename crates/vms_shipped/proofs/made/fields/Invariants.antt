@@ -1,6 +1,4 @@
-use Rattle.std.proofs.Common.{◌≡◌, ◌++◌, map, drop}
-use Rattle.vms_parts.specs.Views.{field_of}
-use Rattle.vms_shipped.specs.Rows.{all_in}
+use Rattle.vms_shipped.proofs.Facade.{◌≡◌, ◌++◌, map, drop, field_of, all_in}
 use Rattle.vms_shipped.proofs.made.fields.Given as goal
 
 abbrev pub invariant-loop-row : goal.invariant-loop-row

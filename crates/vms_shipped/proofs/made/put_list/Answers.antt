@@ -1,7 +1,5 @@
-use Rattle.std.proofs.Common.{map, refl}
-use Rattle.vms_fields.specs.Fields.{fields_at, listed_at}
+use Rattle.vms_shipped.proofs.Facade.{map, refl, fields_at, listed_at, listed_row}
 use Rattle.vms_shipped.proofs.RowLaws.{one_less}
-use Rattle.vms_shipped.specs.Rows.{listed_row}
 use Rattle.vms_shipped.proofs.made.put_list.Goals as goal
 
 pub loop-row-preserved : goal.loop-row-preserved

@@ -1,7 +1,4 @@
-use Rattle.std.proofs.Common.{◌≡◌, ◌++◌, map, drop}
-use Rattle.vms_fields.specs.Fields.{fields_at}
-use Rattle.vms_parts.specs.Views.{field_of}
-use Rattle.vms_shipped.specs.Rows.{listed_row}
+use Rattle.vms_shipped.proofs.Facade.{◌≡◌, ◌++◌, map, drop, fields_at, field_of, listed_row}
 use Rattle.vms_shipped.proofs.made.put_list.Given as goal
 
 abbrev pub invariant-loop-row : goal.invariant-loop-row

@@ -1,6 +1,4 @@
-use Rattle.std.proofs.Common.{◌≡◌, map, take}
-use Rattle.vms_parts.specs.Views.{sub_of}
-use Rattle.vms_shipped.specs.Rows.{sub_in}
+use Rattle.vms_shipped.proofs.Facade.{◌≡◌, map, take, sub_of, sub_in}
 use Rattle.vms_shipped.proofs.made.subs.Given as goal
 
 abbrev pub invariant-loop-row : goal.invariant-loop-row

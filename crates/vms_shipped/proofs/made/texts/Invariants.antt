@@ -1,4 +1,4 @@
-use Rattle.std.proofs.Common.{◌≡◌, map, take}
+use Rattle.vms_shipped.proofs.Facade.{◌≡◌, map, take}
 use Rattle.vms_shipped.proofs.made.texts.Given as goal
 
 abbrev pub invariant-loop-name : goal.invariant-loop-name

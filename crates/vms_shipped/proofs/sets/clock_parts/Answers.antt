@@ -1,8 +1,5 @@
-use Rattle.std.proofs.Common.{◌≤◌, arith}
-use Rattle.std.proofs.lemmas.Bool.Decides.{nat_tests}
-use Rattle.vms_parts.specs.Views.{set_of}
+use Rattle.vms_shipped.proofs.Facade.{◌≤◌, arith, nat_tests, set_of, clock_1, clock_2, clock_set}
 use Rattle.vms_shipped.proofs.SetLaws.{same_set, first_clock, second_clock}
-use Rattle.vms_shipped.specs.ClockSets.{clock_1, clock_2, clock_set}
 use Rattle.vms_shipped.proofs.sets.clock_parts.Goals as goal
 
 pub returns-in-0 : goal.returns-in-0

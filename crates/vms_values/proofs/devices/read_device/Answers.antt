@@ -1,6 +1,6 @@
 use Rattle.vms_values.proofs.Facade.{length, ap, ◌∙◌, described, IsImageOf}
 use Rattle.vms_values.proofs.DeviceLemmas.{default_of, default_kinds, own_spot, alike_kept, image_of, of_alike, subs_alike}
-use Rattle.vms_values.proofs.KindsAt.{own_kinds}
+use Rattle.vms_values.proofs.Naming.{own_kinds}
 use Rattle.vms_values.proofs.devices.read_device.Goals.{In_ok-read_subs}
 use Rattle.vms_values.proofs.devices.read_device.Goals as goal
 

@@ -1,5 +1,5 @@
-use Rattle.vms_values.proofs.Facade.{rules, ◌≡◌, ◌<◌, ◌∷◌, ◌++◌, [], length, map, ap, ◌∙◌, arith, err_from_is_err_and, length-map, map-append, Set, device_of}
-use Rattle.vms_values.proofs.Facade.{described, state_of}
+use Rattle.vms_values.proofs.Facade.{◌≡◌, ◌<◌, ◌∷◌, ◌++◌, [], length, map, ap, ◌∙◌, arith, err_from_is_err_and, length-map, map-append, device_of, described}
+use Rattle.vms_values.proofs.Facade.{state_of}
 use Rattle.vms_values.proofs.DeviceLemmas.{gathered_next, gathered_refused, gathered_all, first_more, first_all}
 use Rattle.vms_values.proofs.devices.read_images.Goals as goal
 
@@ -9,7 +9,7 @@ loop-device-preserved c =
     let i = c.loop-device.device in
     let image = c.in_ok-image.image in
     let before = c.loop-device.images.items in
-    let lt : i < length set.devices = omega (arith, ap length c.as_slice.ensures, ap (λ (s : Set). length s.devices) c.parts.ensures, length-map c.parts.result.now.devices device_of) in
+    let lt : i < length set.devices = omega (arith, ap length c.as_slice.ensures, ap (λ s. length s.devices) c.parts.ensures, length-map c.parts.result.now.devices device_of) in
     let pushed : c.push_image.new.images.items ≡ before ++ image ∷ [] = c.in_ok-push_image.ensures in
     record {
       gathered = gathered_next set i lt _ _ (map state_of before) (map state_of c.push_image.new.images.items) c.loop-device.reading c.read_image.new.reading (state_of image) c.loop-device.invariant.gathered
@@ -20,22 +20,19 @@ loop-device-preserved c =
 pub returns-clause-of : goal.returns-clause-of
 returns-clause-of c =
     let set = described c.args.set.now in
-    let end : length set.devices ≡ c.loop-device.device = omega (arith, ap length c.as_slice.ensures, ap (λ (s : Set). length s.devices) c.parts.ensures, length-map c.parts.result.now.devices device_of) in
+    let end : length set.devices ≡ c.loop-device.device = omega (arith, ap length c.as_slice.ensures, ap (λ s. length s.devices) c.parts.ensures, length-map c.parts.result.now.devices device_of) in
     first_all set c.loop-device.device c.loop-device.images.items c.loop-device.invariant.of end
 
 pub returns-in_err-image-clause-read : goal.returns-in_err-image-clause-read
 returns-in_err-image-clause-read c =
     let set = described c.args.set.now in
     let i = c.loop-device.device in
-    let lt : i < length set.devices = omega (arith, ap length c.as_slice.ensures, ap (λ (s : Set). length s.devices) c.parts.ensures, length-map c.parts.result.now.devices device_of) in
+    let lt : i < length set.devices = omega (arith, ap length c.as_slice.ensures, ap (λ s. length s.devices) c.parts.ensures, length-map c.parts.result.now.devices device_of) in
     let p = err_from_is_err_and c.from_residual.result c.from_residual.ensures.1 in
     rw (p.1, p.2) (gathered_refused set i lt _ _ _ _ c.args.reading.now c.loop-device.reading c.read_image.new.reading c.in_err-image.field-0.0 c.loop-device.invariant.gathered c.in_err-image.ensures.read)
-
-pub returns-in_err-image-clause-of : goal.returns-in_err-image-clause-of
-returns-in_err-image-clause-of c = search rules
 
 pub returns-clause-read : goal.returns-clause-read
 returns-clause-read c =
     let set = described c.args.set.now in
-    let end : length set.devices ≡ c.loop-device.device = omega (arith, ap length c.as_slice.ensures, ap (λ (s : Set). length s.devices) c.parts.ensures, length-map c.parts.result.now.devices device_of) in
+    let end : length set.devices ≡ c.loop-device.device = omega (arith, ap length c.as_slice.ensures, ap (λ s. length s.devices) c.parts.ensures, length-map c.parts.result.now.devices device_of) in
     gathered_all set c.loop-device.device _ (map state_of c.loop-device.images.items) c.args.reading.now c.loop-device.reading end c.loop-device.invariant.gathered

@@ -1,22 +1,21 @@
-use Rattle.vms_values.proofs.Facade.{length, eqb-true, nil_from_length, Err, Option, Some, None, Result, IfOk, rules, ap, refl, sym, ◌∙◌, subst, arith}
-use Rattle.vms_values.proofs.Facade.{err_from_is_err_and, Set, read_devices, ended, described, AreImagesOf, ToldAs, ReadsBy, LineFault, few_machines}
+use Rattle.vms_values.proofs.Facade.{length, eqb-true, nil_from_length, Err, Option, Some, None, Result, IfOk, rules, ap, refl, sym, ◌∙◌, arith}
+use Rattle.vms_values.proofs.Facade.{err_from_is_err_and, Set, described, AreImagesOf, ToldAs, LineFault, few_machines}
 use Rattle.vms_values.specs.declared.judge.BadLine.{BadLine}
 use Rattle.vms_values.specs.declared.fault.Values.{Values as Given}
 use Rattle.vms_values.proofs.DeviceLemmas.{top, said_so}
 use Rattle.vms_values.proofs.ReadLemmas.{some_of}
-use Rattle.vms_values.proofs.WholeText.{text_told, text_longer, text_refused}
+use Rattle.vms_values.proofs.JudgeLemmas.{text_told, text_longer, text_refused}
 use Rattle.vms_values.proofs.devices.read_lines.Goals as goal
 
 pub read_machine-start-requires : goal.read_machine-start-requires
 read_machine-start-requires c =
-    let set = described c.args.set.now in
-    omega (arith, ap length c.as_slice.ensures, ap (λ (s : Set). length s.machines) c.parts.ensures, few_machines set c.args.set.now.well_formed)
+    omega (arith, ap length c.as_slice.ensures, ap (λ s. length s.machines) c.parts.ensures, few_machines (described c.args.set.now) c.args.set.now.well_formed)
 
 pub returns-in_err-images-clause-read : goal.returns-in_err-images-clause-read
 returns-in_err-images-clause-read c =
     let set = described c.args.set.now in
     let start = c.read_machine-start.result in
-    let s = top set c.as_slice.result.now c.args.text.now start (c.as_slice.ensures ∙ ap (λ (x : Set). x.machines) c.parts.ensures) c.read_machine-start.ensures in
+    let s = top set c.as_slice.result.now c.args.text.now start (c.as_slice.ensures ∙ ap (λ x. x.machines) c.parts.ensures) c.read_machine-start.ensures in
     let p = err_from_is_err_and c.from_residual.result c.from_residual.ensures.1 in
     rw (p.1, p.2) (said_so set c.args.text.now _ (Err c.in_err-images.field-0.0) s.is (text_refused set s.name _ _ _ _ c.in_err-images.ensures.read))
 
@@ -24,25 +23,24 @@ pub returns-then-not-is_empty-clause-read : goal.returns-then-not-is_empty-claus
 returns-then-not-is_empty-clause-read c =
     let set = described c.args.set.now in
     let start = c.read_machine-start.result in
-    let s = top set c.as_slice.result.now c.args.text.now start (c.as_slice.ensures ∙ ap (λ (x : Set). x.machines) c.parts.ensures) c.read_machine-start.ensures in
+    let s = top set c.as_slice.result.now c.args.text.now start (c.as_slice.ensures ∙ ap (λ x. x.machines) c.parts.ensures) c.read_machine-start.ensures in
     let new = c.read_images.new.reading in
     said_so set c.args.text.now _ (Err c.bad.result) s.is
-    (subst (λ (e : LineFault). ReadsBy set (ended set s.name (read_devices set set.devices start.lines.line start.lines.rest.now)) (Err e)) (sym c.bad.ensures)
-    (text_longer set s.name _ _ new _ c.in_ok-images.ensures.read (some_of new.lines.rest.now (sym c.is_empty.ensures ∙ c.if-not-is_empty.true))))
+    (rw c.bad.ensures (text_longer set s.name _ _ new _ c.in_ok-images.ensures.read (some_of new.lines.rest.now (sym c.is_empty.ensures ∙ c.if-not-is_empty.true))))
 
 pub returns-clause-read : goal.returns-clause-read
 returns-clause-read c =
     let set = described c.args.set.now in
     let start = c.read_machine-start.result in
-    let s = top set c.as_slice.result.now c.args.text.now start (c.as_slice.ensures ∙ ap (λ (x : Set). x.machines) c.parts.ensures) c.read_machine-start.ensures in
+    let s = top set c.as_slice.result.now c.args.text.now start (c.as_slice.ensures ∙ ap (λ x. x.machines) c.parts.ensures) c.read_machine-start.ensures in
     let new = c.read_images.new.reading in
     let v : Given = record { machine = start.machine; images = c.in_ok-images.images } in
     said_so set c.args.text.now _ c.told.result s.is
     (text_told set s.name _ _ new v c.told.result c.in_ok-images.ensures.read (nil_from_length new.lines.rest.now (eqb-true (length new.lines.rest.now) 0 (sym c.is_empty.ensures ∙ c.if-not-is_empty.false))) refl s.machine s.known c.told.ensures)
 
 told_of : (o : Option BadLine) (v : Given) (result : Result Given LineFault) (set : Set) → ToldAs o v result → AreImagesOf set v.images.items → IfOk result (λ w. AreImagesOf set w.images.items)
-told_of None v result set t of = subst (λ (r : Result Given LineFault). IfOk r (λ w. AreImagesOf set w.images.items)) (sym t) (search (rules, of))
-told_of (Some b) v result set t of = subst (λ (r : Result Given LineFault). IfOk r (λ w. AreImagesOf set w.images.items)) (sym t) (search rules)
+told_of None v result set t of = rw t (search (rules, of))
+told_of (Some b) v result set t of = rw t (search rules)
 
 pub returns-clause-of : goal.returns-clause-of
 returns-clause-of c =

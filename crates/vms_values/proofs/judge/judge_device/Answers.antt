@@ -1,14 +1,11 @@
-use Rattle.vms_values.proofs.Facade.{◌≡◌, ◌<◌, ℕ, true, length, get_or, refl, ap, sym, ◌∙◌, arith, own_slots, rules_are_true, described, device_at, state_of}
-use Rattle.vms_values.proofs.Facade.{read_of}
+use Rattle.vms_values.proofs.Facade.{◌≡◌, ◌<◌, true, length, get_or, refl, sym, ◌∙◌, arith, own_slots, rules_are_true, described, device_at, state_of, read_of}
 use Rattle.vms_values.proofs.JudgeLemmas.{judged_go, judged_stop, judged_end, own_holds}
 use Rattle.vms_values.proofs.judge.judge_device.Goals.{After-sub_count-sub-end, In-loop-sub}
 use Rattle.vms_values.proofs.judge.judge_device.Goals as goal
 
 holds : (c : goal.After-sub_count-sub-end)
     → rules_are_true (own_slots (described c.args.set.now) (device_at (described c.args.set.now) c.args.device) (state_of c.args.image.now).version (state_of c.args.image.now).numbers) ≡ true
-holds c =
-    ap (λ (v : ℕ). rules_are_true (own_slots (described c.args.set.now) (device_at (described c.args.set.now) c.args.device) v (state_of c.args.image.now).numbers)) (sym c.version.ensures)
-    ∙ sym c.hold_rules.ensures ∙ c.if-not-hold_rules.false
+holds c = rw (sym c.version.ensures) (sym c.hold_rules.ensures ∙ c.if-not-hold_rules.false)
 
 -- the next subsection is one of the device's, and has an entry
 inside : (c : goal.In-loop-sub) → (let j = c.loop-sub.sub in (j < length (device_at (described c.args.set.now) c.args.device).subs) × (j < length (state_of c.args.image.now).came) × (j < length c.args.sub_lines.now))

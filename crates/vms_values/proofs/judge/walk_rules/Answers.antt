@@ -1,4 +1,4 @@
-use Rattle.vms_values.proofs.Facade.{List, ℤ, ap, sym, ◌∙◌, rules_are_true, described, spot_slots}
+use Rattle.vms_values.proofs.Facade.{ap, sym, ◌∙◌, described, spot_slots}
 use Rattle.vms_values.proofs.JudgeLemmas.{steps_true}
 use Rattle.vms_values.proofs.judge.walk_rules.Goals as goal
 
@@ -6,10 +6,10 @@ pub returns-in-Ok : goal.returns-in-Ok
 returns-in-Ok c =
     let set = described c.args.set.now in
     let slots = spot_slots set c.args.spot c.walk.new.walker.image.now.numbers in
-    sym (ap (λ (n : List ℤ). rules_are_true (spot_slots set c.args.spot n)) (sym (ap (λ image. image.now.numbers) c.in-Ok.ensures.ok.0)) ∙ sym (steps_true slots) ∙ c.in-Ok.ensures.ok.1)
+    sym (rw (sym (ap (λ image. image.now.numbers) c.in-Ok.ensures.ok.0)) (sym (steps_true slots) ∙ c.in-Ok.ensures.ok.1))
 
 pub returns-in-Err : goal.returns-in-Err
 returns-in-Err c =
     let set = described c.args.set.now in
     let slots = spot_slots set c.args.spot c.walk.new.walker.image.now.numbers in
-    sym (ap (λ (n : List ℤ). rules_are_true (spot_slots set c.args.spot n)) (sym (ap (λ image. image.now.numbers) c.in-Err.ensures.err.0)) ∙ sym (steps_true slots) ∙ c.in-Err.ensures.err.1)
+    sym (rw (sym (ap (λ image. image.now.numbers) c.in-Err.ensures.err.0)) (sym (steps_true slots) ∙ c.in-Err.ensures.err.1))

@@ -1,5 +1,5 @@
 use Rattle.vms_values.proofs.Facade.{◌+◌, drop, err_from_is_err_and, leaves_rest, leaves_stop, joined}
-use Rattle.vms_values.proofs.PrintLemmas.{joined_at}
+use Rattle.vms_values.proofs.Printers.{joined_at}
 use Rattle.vms_values.proofs.lines.write_pieces.Goals as goal
 
 pub loop-piece-preserved : goal.loop-piece-preserved

@@ -1,7 +1,7 @@
-use Rattle.vms_values.proofs.Facade.{rules, arith, ◌≡◌, ◌+◌, ◌*◌, ◌-◌, ◌%◌, ◌<◌, ◌≤◌, true, List, [], ◌++◌, ℕ, length, get_or, codes, append_assoc, refl, sym}
-use Rattle.vms_values.proofs.Facade.{ap, ◌∙◌, subst, ltb-true, mod-lt, Item, MOST_ITEMS, Field, capacity_of, field_of, field_at, described, desc_at}
-use Rattle.vms_values.proofs.Facade.{found_field, here_fields, size_in, size_code, width_code, struct_size, item_rank, part_rank, one_fits, uses_below}
-use Rattle.vms_values.proofs.Facade.{path_text, part_names, item_names, field_name, wrote_as}
+use Rattle.vms_values.proofs.Facade.{rules, arith, ◌≡◌, ◌+◌, ◌*◌, ◌-◌, ◌%◌, ◌<◌, ◌≤◌, true, [], ◌++◌, ℕ, length, get_or, codes, append_assoc, refl, sym, ap}
+use Rattle.vms_values.proofs.Facade.{◌∙◌, subst, ltb-true, mod-lt, MOST_ITEMS, Field, capacity_of, field_of, field_at, described, desc_at, found_field}
+use Rattle.vms_values.proofs.Facade.{here_fields, size_in, size_code, width_code, struct_size, item_rank, part_rank, one_fits, uses_below, path_text}
+use Rattle.vms_values.proofs.Facade.{part_names, item_names, wrote_as, field_name, List}
 use Rattle.vms_spec.specs.declared.Part.TheVariants as parts
 use Rattle.vms_values.proofs.Naming.{NextNames, next_names, all_names, names_from, part_long, struct_name, positive, single_is, element_is}
 use Rattle.vms_values.proofs.name.+name.Given.{Over}
@@ -15,7 +15,7 @@ inside g t c =
     let item = c.args.field.now.item in
     let size = size_code set item c.item_cells-size.result c.item_cells-size.ensures c.requires.small in
     let some = positive (capacity_of c.args.field.now.count) (size_in set item) c.args.cell c.requires.cell in
-    (omega arith, subst (λ (s : ℕ). c.args.cell % s < size_in set item) (sym size) (mod-lt c.args.cell some))
+    (omega arith, rw size (mod-lt c.args.cell some))
 
 pub print_element-nonzero_div-index : goal.print_element-nonzero_div-index
 print_element-nonzero_div-index g t c = omega (arith, (inside g t c).0)
@@ -65,8 +65,8 @@ print_inside-returns-in-Struct g t c =
     let path = path_text c.args.path.now in
     wrote_as c.print_name.result _ _
     (append_assoc path (codes ".") (get_or (part_names set (parts.Struct j)) c.args.cell [])
-    ∙ ap (λ (l : List ℕ). path ++ l) (sym (struct_name set j (ltb-true j (length set.structs) (rw c.in-Struct.is at c.requires.reaches)) c.args.cell cell))
-    ∙ ap (λ (i : Item). path ++ get_or (item_names set i) c.args.cell []) (sym c.in-Struct.is))
+    ∙ ap (λ l. path ++ l) (sym (struct_name set j (ltb-true j (length set.structs) (rw c.in-Struct.is at c.requires.reaches)) c.args.cell cell))
+    ∙ ap (λ i. path ++ get_or (item_names set i) c.args.cell []) (sym c.in-Struct.is))
     c.print_name.ensures
 
 pub print_name-loop-field-init : goal.print_name-loop-field-init
@@ -75,7 +75,7 @@ print_name-loop-field-init g t c =
     let all = all_names set c.args.part c.requires.part in
     let long = part_long set c.args.set.now.well_formed c.args.part c.requires.part in
     record {
-      same = ap (λ (l : List (List ℕ)). get_or l c.args.cell []) all;
+      same = rw all;
       room = omega (arith, ap length all);
       few = omega (arith, ap length all);
       untouched = refl;
@@ -127,7 +127,7 @@ print_name-loop-field-preserved g t c =
     let s = turn g t (goal.at.print_name-loop-field-preserved g t c).After-field_cells-size in
     let past : capacity_of f.count * size_in set f.item ≤ c.loop-field.left = omega arith in
     record {
-      same = c.loop-field.invariant.same ∙ s.next.later past ∙ ap (λ (n : ℕ). get_or (names_from set c.args.part (c.loop-field.field + 1)) (c.loop-field.left - n) []) (sym s.width);
+      same = c.loop-field.invariant.same ∙ s.next.later past ∙ ap (λ n. get_or (names_from set c.args.part (c.loop-field.field + 1)) (c.loop-field.left - n) []) (sym s.width);
       room = omega arith;
       few = omega arith;
       untouched = c.loop-field.invariant.untouched;

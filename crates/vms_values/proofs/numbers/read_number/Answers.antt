@@ -2,18 +2,6 @@ use Rattle.vms_values.proofs.Facade.{rules, sym, ◌∙◌}
 use Rattle.vms_values.proofs.ReadLemmas.{spelled_is}
 use Rattle.vms_values.proofs.numbers.read_number.Goals as goal
 
-pub returns-in-Some-read_natural : goal.returns-in-Some-read_natural
-returns-in-Some-read_natural c = search rules
-
-pub returns-in-Some-eq0 : goal.returns-in-Some-eq0
-returns-in-Some-eq0 c = search rules
-
-pub returns-in-Some-eq0-2 : goal.returns-in-Some-eq0-2
-returns-in-Some-eq0-2 c = search rules
-
 pub returns-in-Some-read_natural-2 : goal.returns-in-Some-read_natural-2
 returns-in-Some-read_natural-2 c =
     rw (spelled_is c.args.text.now c.in-Some-read_natural-2.value (sym c.in-Some-read_natural-2.is ∙ c.read_natural-in-None.ensures)) (search rules)
-
-pub returns-in-None-read_natural : goal.returns-in-None-read_natural
-returns-in-None-read_natural c = search rules

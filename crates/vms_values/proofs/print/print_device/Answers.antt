@@ -1,5 +1,5 @@
 use Rattle.vms_values.proofs.Facade.{◌≡◌, [], ap, ◌∙◌, err_from_is_err_and, puts_as, puts_both, stops_as, stops_front, stops_behind, wrote_as, wrote_behind}
-use Rattle.vms_values.proofs.Facade.{own_cells, Device, printers, desc_lines, sub_lines, described, device_at, device_of, state_of, section_text}
+use Rattle.vms_values.proofs.Facade.{own_cells, printers, desc_lines, sub_lines, described, device_at, device_of, state_of, section_text}
 use Rattle.vms_values.proofs.Printers.{own_spot, device_is}
 use Rattle.vms_values.proofs.print.print_device.Given.{Over}
 use Rattle.vms_values.proofs.print.print_device.Goals.{After-device}
@@ -8,7 +8,7 @@ use Rattle.vms_values.proofs.print.print_device.Goals as goal
 line_is : (g : Over) (c : goal.After-device g)
     → section_text (device_of c.device.result.now) c.version-version.result ≡ section_text (device_at (described c.args.shown.set.now) c.args.device) (state_of c.args.shown.image.now).version
 line_is g c =
-    ap (λ (x : Device). section_text x c.version-version.result) c.device.ensures ∙ ap (section_text (device_at (described c.args.shown.set.now) c.args.device)) c.version-version.ensures
+    ap (λ x. section_text x c.version-version.result) c.device.ensures ∙ ap (section_text (device_at (described c.args.shown.set.now) c.args.device)) c.version-version.ensures
 
 pub returns-in_err-print_section : goal.returns-in_err-print_section
 returns-in_err-print_section g c =

@@ -1,6 +1,6 @@
-use Rattle.vms_values.proofs.Facade.{◌≡◌, ◌+◌, ◌<◌, ◌++◌, length, drop, sym, ap, ◌∙◌, arith, map, err_from_is_err_and, length-map, Set, device_lines}
-use Rattle.vms_values.proofs.Facade.{devices_lines, device_of, described, device_at, state_of, states_long, state_at, IsOf, AreOf, leaves_rest, leaves_stop}
-use Rattle.vms_values.proofs.PrintLemmas.{device_left, images_at, of_next, of_room, devices_next}
+use Rattle.vms_values.proofs.Facade.{◌≡◌, ◌+◌, ◌<◌, ◌++◌, length, drop, sym, ap, ◌∙◌, arith, map, err_from_is_err_and, length-map, device_lines, devices_lines}
+use Rattle.vms_values.proofs.Facade.{device_of, described, device_at, state_of, states_long, state_at, IsOf, AreOf, leaves_rest, leaves_stop}
+use Rattle.vms_values.proofs.Printers.{device_left, images_at, of_next, of_room, devices_next}
 use Rattle.vms_values.proofs.print.print_devices.Given.{Over}
 use Rattle.vms_values.proofs.print.print_devices.Goals.{After-print_device-arg-1}
 use Rattle.vms_values.proofs.print.print_devices.Goals as goal
@@ -8,7 +8,7 @@ use Rattle.vms_values.proofs.print.print_devices.Goals as goal
 pub bounds-images-device : goal.bounds-images-device
 bounds-images-device g c =
     let set = described c.args.set.now in
-    let long : length c.as_slice.result.now ≡ length set.devices = ap length c.as_slice.ensures ∙ sym (length-map c.parts.result.now.devices device_of) ∙ ap (λ (s : Set). length s.devices) c.parts.ensures in
+    let long : length c.as_slice.result.now ≡ length set.devices = ap length c.as_slice.ensures ∙ sym (length-map c.parts.result.now.devices device_of) ∙ ap (λ s. length s.devices) c.parts.ensures in
     let lt : c.loop-device.device < length set.devices = omega arith in
     omega (arith, of_room set c.loop-device.device set.devices (map state_of c.args.images.now) c.loop-device.invariant.of lt, states_long c.args.images.now)
 
@@ -21,7 +21,7 @@ here g c =
     let k = c.loop-device.device in
     let states = map state_of c.args.images.now in
     let image = state_of c.index-images-device.result in
-    let long : length c.as_slice.result.now ≡ length set.devices = ap length c.as_slice.ensures ∙ sym (length-map c.parts.result.now.devices device_of) ∙ ap (λ (s : Set). length s.devices) c.parts.ensures in
+    let long : length c.as_slice.result.now ≡ length set.devices = ap length c.as_slice.ensures ∙ sym (length-map c.parts.result.now.devices device_of) ∙ ap (λ s. length s.devices) c.parts.ensures in
     let lt : k < length set.devices = omega arith in
     let more : k < length states = of_room set k set.devices states c.loop-device.invariant.of lt in
     let at = images_at states k image more (state_at c.args.images.now k c.index-images-device.result (omega (arith, states_long c.args.images.now)) c.index-images-device.is) in

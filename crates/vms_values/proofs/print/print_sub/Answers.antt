@@ -1,5 +1,5 @@
-use Rattle.vms_values.proofs.Facade.{◌≡◌, ℕ, List, [], Option, None, get_or, ap, ◌∙◌, err_from_is_err_and, puts_as, stops_as, stops_front, wrote_as}
-use Rattle.vms_values.proofs.Facade.{wrote_behind, Desc, printers, desc_lines, first_cell, described, device_at, sub_at, state_of, sub_text}
+use Rattle.vms_values.proofs.Facade.{◌≡◌, [], None, get_or, ap, ◌∙◌, err_from_is_err_and, puts_as, stops_as, stops_front, wrote_as, wrote_behind, Desc}
+use Rattle.vms_values.proofs.Facade.{printers, desc_lines, first_cell, described, device_at, sub_at, state_of, sub_text}
 use Rattle.vms_spec.specs.declared.Part.TheVariants as parts
 use Rattle.vms_values.proofs.Printers.{sub_spot}
 use Rattle.vms_values.proofs.print.print_sub.Goals as goal
@@ -10,7 +10,7 @@ returns-in_err-print_sub_line g c =
     let s = sub_at (device_at set c.args.device) c.args.sub in
     let image = state_of c.args.shown.image.now in
     let line : sub_text c.as_bytes.result.now c.came.result ≡ sub_text s.desc.name (get_or image.came c.args.sub None) =
-    ap (λ (x : List ℕ). sub_text x c.came.result) (c.as_bytes.ensures ∙ ap (λ (d : Desc). d.name) c.desc-desc.ensures) ∙ ap (λ (o : Option ℕ). sub_text s.desc.name o) c.came.ensures in
+    rw (c.as_bytes.ensures ∙ ap (λ (d : Desc). d.name) c.desc-desc.ensures, c.came.ensures) in
     let p = err_from_is_err_and c.from_residual.result c.from_residual.ensures.1 in
     rw p.1 (stops_front (desc_lines (printers set) s.desc [] image.numbers (first_cell set (parts.Sub c.args.device c.args.sub))) (stops_as line c.in_err-print_sub_line.ensures))
 
@@ -27,7 +27,7 @@ returns g c =
     let s = sub_at (device_at set c.args.device) c.args.sub in
     let image = state_of c.args.shown.image.now in
     let line : sub_text c.as_bytes.result.now c.came.result ≡ sub_text s.desc.name (get_or image.came c.args.sub None) =
-    ap (λ (x : List ℕ). sub_text x c.came.result) (c.as_bytes.ensures ∙ ap (λ (d : Desc). d.name) c.desc-desc.ensures) ∙ ap (λ (o : Option ℕ). sub_text s.desc.name o) c.came.ensures in
+    rw (c.as_bytes.ensures ∙ ap (λ (d : Desc). d.name) c.desc-desc.ensures, c.came.ensures) in
     let text = desc_lines (printers set) s.desc [] image.numbers (first_cell set (parts.Sub c.args.device c.args.sub)) in
     wrote_behind c.print_lines.result _ text (puts_as line c.in_ok-print_sub_line.ensures)
     (wrote_as c.print_lines.result _ _ (ap (desc_lines (printers set) s.desc [] image.numbers) c.first_cell.ensures) c.print_lines.ensures)

@@ -1,14 +1,11 @@
-use Rattle.vms_values.proofs.Facade.{◌≡◌, ℕ, List, ◌++◌, codes, false, subst, begins_with, Strips}
+use Rattle.vms_values.proofs.Facade.{codes}
 use Rattle.vms_values.proofs.ReadLemmas.{strips_then, strips_not, strip_is}
 use Rattle.vms_values.proofs.read.number_text.Goals as goal
 
 pub returns-in-Some : goal.returns-in-Some
 returns-in-Some c =
-    subst (λ (path : List ℕ). Strips (path ++ codes " = ") c.args.line.now c.strip_prefix-in-Some.result) c.text.ensures
-    (strips_then c.text.result.now (codes " = ") c.args.line.now c.in-Some.rest.now c.strip_prefix-in-Some.result c.in-Some.ensures.cases.0 c.in-Some.ensures.cases.1
+    rw c.text.ensures at (strips_then c.text.result.now (codes " = ") c.args.line.now c.in-Some.rest.now c.strip_prefix-in-Some.result c.in-Some.ensures.cases.0 c.in-Some.ensures.cases.1
     (strip_is (codes " = ") c.in-Some.rest.now c.strip_prefix-in-Some.result c.strip_prefix-in-Some.ensures.cases))
 
 pub returns-in-None : goal.returns-in-None
-returns-in-None c =
-    subst (λ (path : List ℕ). begins_with (path ++ codes " = ") c.args.line.now ≡ false) c.text.ensures
-    (strips_not c.text.result.now (codes " = ") c.args.line.now c.in-None.ensures.cases)
+returns-in-None c = rw c.text.ensures at (strips_not c.text.result.now (codes " = ") c.args.line.now c.in-None.ensures.cases)

@@ -1,9 +1,9 @@
-use Rattle.vms_values.proofs.Facade.{rules, arith, ◌≡◌, ◌+◌, ◌*◌, ◌-◌, ◌<◌, ◌≤◌, List, ◌++◌, ℕ, length, length-append, get_or, codes, sym, ap, ◌∙◌, subst}
-use Rattle.vms_values.proofs.Facade.{err_from_is_err_and, ltb-true, decimal, Item, no_desc, printers, element_lines, item_lines, desc_lines, field_of}
-use Rattle.vms_values.proofs.Facade.{described, desc_at, size_in, size_code, start_code, struct_size, room_at, run_lines, below, Stays, wrote_as, leaves_all}
-use Rattle.vms_values.proofs.Facade.{leaves_rest, leaves_stop, leaves_none, LONGEST, NUMBER_ROOM, INDEX_ROOM, PART_ROOM}
-use Rattle.vms_values.proofs.Printers.{struct_lines, FoundRun, array_run, elements_left, no_elements, fields_left, fields_whole, no_fields, found_run}
-use Rattle.vms_values.proofs.PrintLemmas.{stays, stays_is, stays_then, stays_element, cut_is, field_short}
+use Rattle.vms_values.proofs.Facade.{rules, arith, ◌≡◌, ◌+◌, ◌*◌, ◌-◌, ◌<◌, ◌≤◌, ◌++◌, ℕ, length, length-append, codes, sym, ap, ◌∙◌, err_from_is_err_and}
+use Rattle.vms_values.proofs.Facade.{ltb-true, decimal, printers, element_lines, item_lines, field_of, described, desc_at, size_in, size_code, start_code}
+use Rattle.vms_values.proofs.Facade.{struct_size, room_at, run_lines, below, wrote_as, leaves_all, leaves_rest, leaves_stop, leaves_none, LONGEST, NUMBER_ROOM}
+use Rattle.vms_values.proofs.Facade.{INDEX_ROOM, PART_ROOM}
+use Rattle.vms_values.proofs.Printers.{struct_lines, FoundRun, array_run, elements_left, no_elements, fields_left, fields_whole, no_fields, found_run, stays}
+use Rattle.vms_values.proofs.Printers.{stays_is, stays_then, stays_element, cut_is, field_short}
 use Rattle.vms_values.proofs.shown.+print.Given.{Over}
 use Rattle.vms_values.proofs.shown.+print.Goals.{print_elements-After-print_item-arg-in-loop-index-1, print_part-After-print_field-arg-in-loop-field-1}
 use Rattle.vms_values.proofs.shown.+print.Goals as goal
@@ -13,7 +13,7 @@ print_elements-loop-index-init g t c =
     let set = described c.args.shown.set.now in
     let all : c.args.run.count - 0 ≡ c.args.run.count = omega arith in
     record {
-      owes = leaves_all _ _ _ (ap (λ (k : ℕ). element_lines (printers set) c.args.item.now c.args.line.now c.args.shown.image.now.numbers c.args.run.first (size_in set c.args.item.now) 0 k) (sym all));
+      owes = leaves_all _ _ _ (ap (λ k. element_lines (printers set) c.args.item.now c.args.line.now c.args.shown.image.now.numbers c.args.run.first (size_in set c.args.item.now) 0 k) (sym all));
       line = stays c.args.line.now;
       here = grind arith;
     }
@@ -22,7 +22,7 @@ print_elements-loop-index-init g t c =
 element : (g : Over) (t : ℕ) (c : goal.print_elements-After-print_item-arg-in-loop-index-1 g t) → (c.push_index.new.self ≡ c.args.line.now ++ codes "[" ++ decimal c.loop-index.index ++ codes "]") × (length c.push_index.new.self ≤ length c.args.line.now + INDEX_ROOM)
 element g t c =
     let kept = cut_is c.args.line.now c.loop-index.line c.cut.new.self c.len-kept.result c.cut.ensures c.len-kept.ensures c.loop-index.invariant.line in
-    (c.push_index.ensures.text ∙ ap (λ (l : List ℕ). l ++ codes "[" ++ decimal c.loop-index.index ++ codes "]") kept, omega (arith, ap length kept))
+    (c.push_index.ensures.text ∙ ap (λ l. l ++ codes "[" ++ decimal c.loop-index.index ++ codes "]") kept, omega (arith, ap length kept))
 
 pub print_elements-print_item-requires : goal.print_elements-print_item-requires
 print_elements-print_item-requires g t c =
@@ -42,7 +42,7 @@ print_elements-returns-in_err-print_item-clause-written g t c =
     let rest = element_lines ps item c.args.line.now n (c.loop-index.cell + size_in set item) (size_in set item) (i + 1) (c.args.run.count - (i + 1)) in
     rw (err_from_is_err_and c.from_residual.result c.from_residual.ensures.1).1 (leaves_stop _
     (elements_left ps item c.args.line.now n c.loop-index.cell (size_in set item) i c.args.run.count c.loop-index-test.true
-    ∙ ap (λ (l : List ℕ). item_lines ps item l n c.loop-index.cell ++ rest) (sym path))
+    ∙ ap (λ l. item_lines ps item l n c.loop-index.cell ++ rest) (sym path))
     c.loop-index.invariant.owes c.in_err-print_item.ensures.written)
 
 pub print_elements-returns-in_err-print_item-clause-line :
@@ -74,8 +74,8 @@ print_elements-loop-index-preserved g t c =
     record {
       owes = leaves_rest _
           (elements_left ps item path n cell (size_in set item) i c.args.run.count c.loop-index-test.true
-          ∙ ap (λ (s : ℕ). item_lines ps item (path ++ codes "[" ++ decimal i ++ codes "]") n cell ++ rest s) (sym size)
-          ∙ ap (λ (l : List ℕ). item_lines ps item l n cell ++ rest c.item_cells-size.result) (sym named))
+          ∙ ap (λ s. item_lines ps item (path ++ codes "[" ++ decimal i ++ codes "]") n cell ++ rest s) (sym size)
+          ∙ ap (λ l. item_lines ps item l n cell ++ rest c.item_cells-size.result) (sym named))
           c.loop-index.invariant.owes c.in_ok-print_item.ensures.written;
       line = stays_then _ _ _ (stays_element path (decimal i) c.push_index.new.self named) c.in_ok-print_item.ensures.line;
       here = omega arith;
@@ -91,33 +91,29 @@ print_elements-returns-clause-written g t c =
 pub print_field-print_item-requires : goal.print_field-print_item-requires
 print_field-print_item-requires g t c =
     let fits = c.requires.fits in
-    let one : c.args.run.count ≡ 1 = fits.single c.in-One.is in
     let size = size_in (described c.args.shown.set.now) c.args.field.now.item in
-    let room : c.args.run.first + 1 * size ≤ length c.args.shown.image.now.numbers = subst (λ (k : ℕ). c.args.run.first + k * size ≤ length c.args.shown.image.now.numbers) one fits.room in
+    let room : c.args.run.first + 1 * size ≤ length c.args.shown.image.now.numbers = rw (fits.single c.in-One.is) at fits.room in
     let same : 1 * size ≡ size = grind arith in
-    let named : c.push.new.self ≡ c.args.line.now ++ c.args.field.now.name = c.push.ensures ∙ ap (λ (l : List ℕ). c.args.line.now ++ l) c.as_bytes.ensures in
     let short : length c.push.new.self + NUMBER_ROOM + below c.args.field.now.item ≤ LONGEST =
-    omega (arith, ap length named, length-append c.args.line.now c.args.field.now.name) in
+    omega (arith, ap length (c.push.ensures ∙ ap (λ l. c.args.line.now ++ l) c.as_bytes.ensures), length-append c.args.line.now c.args.field.now.name) in
     λ κs h. (search rules, (search rules, (fits.reaches, (omega arith, (fits.few, short)))))
 
 pub print_field-print_elements-requires : goal.print_field-print_elements-requires
 print_field-print_elements-requires g t c =
     let fits = c.requires.fits in
-    let named : c.push.new.self ≡ c.args.line.now ++ c.args.field.now.name = c.push.ensures ∙ ap (λ (l : List ℕ). c.args.line.now ++ l) c.as_bytes.ensures in
     let short : length c.push.new.self + INDEX_ROOM + NUMBER_ROOM + below c.args.field.now.item ≤ LONGEST =
-    omega (arith, ap length named, length-append c.args.line.now c.args.field.now.name) in
+    omega (arith, ap length (c.push.ensures ∙ ap (λ l. c.args.line.now ++ l) c.as_bytes.ensures), length-append c.args.line.now c.args.field.now.name) in
     λ κs h. (search rules, (search rules, (fits.reaches, (fits.small, (fits.room, (fits.few, short))))))
 
 pub print_field-returns-in_default : goal.print_field-returns-in_default
 print_field-returns-in_default g t c =
     let set = described c.args.shown.set.now in
     let f = field_of c.args.field.now in
-    let named : c.push.new.self ≡ c.args.line.now ++ f.name = c.push.ensures ∙ ap (λ (l : List ℕ). c.args.line.now ++ l) c.as_bytes.ensures in
+    let named : c.push.new.self ≡ c.args.line.now ++ f.name = c.push.ensures ∙ ap (λ l. c.args.line.now ++ l) c.as_bytes.ensures in
     record {
       line = stays_then _ _ _ (stays_is c.args.line.now f.name c.push.new.self named) c.print_elements.ensures.line;
       written = wrote_as c.print_elements.result _ _
-          (ap (λ (l : List ℕ). element_lines (printers set) f.item l c.args.shown.image.now.numbers c.args.run.first (size_in set f.item) 0 c.args.run.count) named
-          ∙ array_run set f c.args.run.count c.args.line.now c.args.shown.image.now.numbers c.args.run.first c.in_default.not-One)
+          (rw named (array_run set f c.args.run.count c.args.line.now c.args.shown.image.now.numbers c.args.run.first c.in_default.not-One))
           c.print_elements.ensures.written;
     }
 
@@ -132,8 +128,7 @@ print_item-print_struct-requires g t c =
 pub print_item-returns-in-Struct-clause-written : goal.print_item-returns-in-Struct-clause-written
 print_item-returns-in-Struct-clause-written g t c =
     let ps = printers (described c.args.shown.set.now) in
-    wrote_as c.print_struct.result _ _
-    (ap (λ (i : Item). item_lines ps i c.args.line.now c.args.shown.image.now.numbers c.args.cell) (sym c.in-Struct.is)) c.print_struct.ensures.written
+    wrote_as c.print_struct.result _ _ (rw (sym c.in-Struct.is)) c.print_struct.ensures.written
 
 pub print_struct-print_part-requires : goal.print_struct-print_part-requires
 print_struct-print_part-requires g t c =
@@ -150,8 +145,7 @@ print_struct-returns-clause-written g t c =
     let j = c.args.number in
     let n = c.args.shown.image.now.numbers in
     wrote_as c.print_part.result _ _
-    (ap (λ (l : List ℕ). desc_lines (printers set) (get_or set.structs j no_desc) l n c.args.cell) c.push.ensures
-    ∙ sym (struct_lines set c.args.shown.set.now.well_formed j c.requires.reaches c.args.line.now n c.args.cell)) c.print_part.ensures.written
+    (rw (c.push.ensures) (sym (struct_lines set c.args.shown.set.now.well_formed j c.requires.reaches c.args.line.now n c.args.cell))) c.print_part.ensures.written
 
 pub print_part-loop-field-init : goal.print_part-loop-field-init
 print_part-loop-field-init g t c =
@@ -199,7 +193,7 @@ lines g t c =
     let f = field_of c.index-as_slice-field.result in
     let s = turn g t c in
     let rest = fields_left set c.args.spot c.args.line.now n (c.loop-field.field + 1) in
-    s.run.next.lines ∙ ap (λ (l : List ℕ). run_lines (printers set) f f.count c.elements.result l n c.field_start.result ++ rest) (sym s.kept)
+    s.run.next.lines ∙ ap (λ l. run_lines (printers set) f f.count c.elements.result l n c.field_start.result ++ rest) (sym s.kept)
 
 pub print_part-returns-in_err-print_field-clause-written :
     goal.print_part-returns-in_err-print_field-clause-written
@@ -212,15 +206,14 @@ pub print_part-returns-in_err-print_field-clause-line :
     goal.print_part-returns-in_err-print_field-clause-line
 print_part-returns-in_err-print_field-clause-line g t c =
     let s = turn g t (goal.at.print_part-returns-in_err-print_field-clause-line g t c).After-print_field-arg-in-loop-field-1 in
-    stays_then _ _ _ (subst (Stays c.args.line.now) (sym s.kept) (stays c.args.line.now)) c.in_err-print_field.ensures.line
+    stays_then _ _ _ (rw s.kept (stays c.args.line.now)) c.in_err-print_field.ensures.line
 
 pub print_part-loop-field-preserved : goal.print_part-loop-field-preserved
 print_part-loop-field-preserved g t c =
-    let path = c.args.line.now in
     let at = (goal.at.print_part-loop-field-preserved g t c).After-print_field-arg-in-loop-field-1 in
     record {
       owes = leaves_rest _ (lines g t at) c.loop-field.invariant.owes c.in_ok-print_field.ensures.written;
-      line = stays_then _ _ _ (subst (Stays path) (sym (turn g t at).kept) (stays path)) c.in_ok-print_field.ensures.line;
+      line = stays_then _ _ _ (rw ((turn g t at).kept) (stays c.args.line.now)) c.in_ok-print_field.ensures.line;
     }
 
 pub print_part-returns-clause-written : goal.print_part-returns-clause-written

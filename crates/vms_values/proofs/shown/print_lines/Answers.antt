@@ -1,5 +1,5 @@
 use Rattle.vms_values.proofs.Facade.{arith, ap, length, described}
-use Rattle.vms_values.proofs.PrintLemmas.{part_short}
+use Rattle.vms_values.proofs.Printers.{part_short}
 use Rattle.vms_values.proofs.shown.print_lines.Goals as goal
 
 pub print_part-requires-clause-short : goal.print_part-requires-clause-short

@@ -1,11 +1,11 @@
 use Rattle.vms_values.proofs.Facade.{◌≡◌, ℕ, List, ◌++◌, codes, ap, ◌∙◌, append_assoc, signed_decimal, w128, to_z-of_z, wrote_as, line_end}
-use Rattle.vms_values.proofs.PrintLemmas.{stays_is}
+use Rattle.vms_values.proofs.Printers.{stays_is}
 use Rattle.vms_values.proofs.shown.print_number.Goals as goal
 
 -- the line, of three pieces after the path
 pieced : (path a b d line e : List ℕ) → a ≡ path ++ codes " = " → e ≡ d → b ≡ a ++ e → line ≡ b ++ line_end → line ≡ path ++ (codes " = " ++ (d ++ line_end))
 pieced path a b d line e f is g h =
-    h ∙ ap (λ (l : List ℕ). l ++ line_end) (g ∙ ap (λ (l : List ℕ). l ++ e) f ∙ ap (λ (l : List ℕ). (path ++ codes " = ") ++ l) is)
+    h ∙ ap (λ l. l ++ line_end) (g ∙ ap (λ l. l ++ e) f ∙ ap (λ l. (path ++ codes " = ") ++ l) is)
     ∙ append_assoc (path ++ codes " = ") d line_end ∙ append_assoc path (codes " = ") (d ++ line_end)
 
 pub returns-clause-written : goal.returns-clause-written

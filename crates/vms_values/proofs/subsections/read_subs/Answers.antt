@@ -1,5 +1,5 @@
-use Rattle.vms_values.proofs.Facade.{◌≡◌, ◌<◌, ◌+◌, ◌∷◌, ◌++◌, [], ℕ, length, ap, ◌∙◌, arith, length-append, drop_all, err_from_is_err_and, own_cells}
-use Rattle.vms_values.proofs.Facade.{read_subs, first_cell, described, device_at, sub_first, place_of}
+use Rattle.vms_values.proofs.Facade.{◌≡◌, ◌<◌, ◌+◌, ◌∷◌, ◌++◌, [], length, ap, ◌∙◌, arith, length-append, drop_all, err_from_is_err_and, own_cells, first_cell}
+use Rattle.vms_values.proofs.Facade.{described, device_at, sub_first}
 use Rattle.vms_spec.specs.declared.Part.TheVariants as parts
 use Rattle.vms_values.proofs.DeviceLemmas.{follows_none, follows_next, follows_stop, sub_came, subs_bad, subs_end, alike_none, alike_more, of_alike}
 use Rattle.vms_values.proofs.subsections.read_subs.Goals as goal
@@ -10,7 +10,7 @@ loop-sub-init c =
     let d = device_at set c.args.device in
     record {
       follows = follows_none _ c.args.taken.now.image.came c.args.lines.now.items _ c.requires.none
-          (ap (λ (k : ℕ). read_subs set k d.subs (place_of c.args.taken.now)) (sub_first set (own_cells set d) d.subs));
+          (rw (sub_first set (own_cells set d) d.subs));
       count = ap length c.requires.none;
       alike = alike_none c.args.taken.now.image;
     }
@@ -43,7 +43,7 @@ loop-sub-preserved c =
     let pushed : c.push_line.new.lines.items ≡ c.loop-sub.lines.items ++ old.lines.line ∷ [] = c.in_ok-push_line.ensures in
     record {
       follows = follows_next set i j lt _ old new c.loop-sub.lines.items c.push_line.new.lines.items r.o r.q c.loop-sub.invariant.follows room r.read r.place r.came pushed;
-      count = ap length pushed ∙ length-append c.loop-sub.lines.items (old.lines.line ∷ []) ∙ ap (λ (n : ℕ). n + 1) c.loop-sub.invariant.count;
+      count = ap length pushed ∙ length-append c.loop-sub.lines.items (old.lines.line ∷ []) ∙ ap (λ n. n + 1) c.loop-sub.invariant.count;
       alike = alike_more _ _ _ c.loop-sub.invariant.alike r.alike;
     }
 
@@ -51,9 +51,8 @@ pub returns : goal.returns
 returns c =
     let set = described c.args.set.now in
     let i = c.args.device in
-    let d = device_at set i in
     record {
       read = subs_end _ set (first_cell set (parts.Sub i c.loop-sub.sub)) c.loop-sub.sub _ c.args.taken.now c.loop-sub.taken c.loop-sub.lines.items c.loop-sub.invariant.follows
-          (drop_all c.loop-sub.sub d.subs (omega arith)) (omega arith) c.loop-sub.invariant.alike;
+          (drop_all c.loop-sub.sub (device_at set i).subs (omega arith)) (omega arith) c.loop-sub.invariant.alike;
       count = c.loop-sub.invariant.count ∙ (omega arith);
     }

@@ -1,15 +1,13 @@
-use Rattle.vms_values.proofs.Facade.{rules, ◌≡◌, ℕ, ◌+◌, ◌-◌, ◌*◌, ◌<◌, ◌≤◌, ◌++◌, List, length, length-append, get_or, drop, codes, sym, ap, ◌∙◌, subst, arith}
-use Rattle.vms_values.proofs.Facade.{ltb-true, err_from_is_err_and, decimal, Item, Kind, MOST_ITEMS, elements_fit, Field, Desc, no_desc, cells_from}
-use Rattle.vms_values.proofs.Facade.{capacity_of, own_cell_count, Read, place_first, readers, read_item, read_elements, read_fields, read_desc, field_of}
-use Rattle.vms_values.proofs.Facade.{field_at, own_numbers, described, desc_at, HasSpot, size_in, table, cell_of, cells_in, capacities_of, size_code}
-use Rattle.vms_values.proofs.Facade.{start_after, start_code, struct_size, room_at, fields_at, below, Stays, Reaches, AreKinds, element_cells, part_cells}
-use Rattle.vms_values.proofs.Facade.{place_of, LONGEST, NUMBER_ROOM, INDEX_ROOM, PART_ROOM}
+use Rattle.vms_values.proofs.Facade.{rules, ◌≡◌, ℕ, ◌+◌, ◌*◌, ◌<◌, ◌≤◌, ◌++◌, List, length, length-append, get_or, drop, codes, sym, ap, ◌∙◌, arith, ltb-true}
+use Rattle.vms_values.proofs.Facade.{err_from_is_err_and, decimal, Item, elements_fit, Field, Desc, no_desc, cells_from, capacity_of, place_first, readers}
+use Rattle.vms_values.proofs.Facade.{read_item, read_elements, read_fields, read_desc, field_of, field_at, own_numbers, described, desc_at, HasSpot, size_in}
+use Rattle.vms_values.proofs.Facade.{table, cell_of, cells_in, capacities_of, size_code, start_after, start_code, struct_size, room_at, fields_at, below}
+use Rattle.vms_values.proofs.Facade.{AreKinds, element_cells, place_of, LONGEST, NUMBER_ROOM, INDEX_ROOM, PART_ROOM}
 use Rattle.vms_spec.specs.declared.Part.TheVariants as parts
-use Rattle.vms_values.proofs.PrintLemmas.{stays, stays_is, stays_then, stays_element, cut_is, field_short}
-use Rattle.vms_values.proofs.KindsAt.{FieldKinds, field_kinds, number_kind, struct_kinds}
+use Rattle.vms_values.proofs.Printers.{stays, stays_is, stays_then, stays_element, cut_is, field_short, FoundRun, found_run}
+use Rattle.vms_values.proofs.Naming.{FieldKinds, field_kinds, number_kind, struct_kinds}
 use Rattle.vms_values.proofs.Takes.{kept_none, kept_more, struct_reads, elements_go, elements_stop, array_read, IsNext, fields_go, fields_stop}
 use Rattle.vms_values.proofs.ReadLemmas.{reached, stopped}
-use Rattle.vms_values.proofs.Printers.{FoundRun, found_run}
 use Rattle.vms_values.proofs.taken.+read.Goals.{read_elements-After-read_item-arg-in-loop-index-1, read_under-After-read_field-arg-in-loop-field-1}
 use Rattle.vms_values.proofs.taken.+read.Goals as goal
 
@@ -17,18 +15,17 @@ use Rattle.vms_values.proofs.taken.+read.Goals as goal
 element : (t : ℕ) (c : goal.read_elements-After-read_item-arg-in-loop-index-1 t) → (c.push_index.new.self ≡ c.args.path.now ++ codes "[" ++ decimal c.loop-index.index ++ codes "]") × (length c.push_index.new.self ≤ length c.args.path.now + INDEX_ROOM)
 element t c =
     let front = cut_is c.args.path.now c.loop-index.path c.cut.new.self c.len-kept.result c.cut.ensures c.len-kept.ensures c.loop-index.invariant.path in
-    (c.push_index.ensures.text ∙ ap (λ (l : List ℕ). l ++ codes "[" ++ decimal c.loop-index.index ++ codes "]") front, omega (arith, ap length front))
+    (c.push_index.ensures.text ∙ ap (λ l. l ++ codes "[" ++ decimal c.loop-index.index ++ codes "]") front, omega (arith, ap length front))
 
 pub read_elements-returns-in_err-read_item-clause-read : goal.read_elements-returns-in_err-read_item-clause-read
 read_elements-returns-in_err-read_item-clause-read t c =
     let set = described c.args.set.now in
     let f = field_of c.args.run.field.now in
-    let path = (element t (goal.at.read_elements-returns-in_err-read_item-clause-read t c).After-read_item-arg-in-loop-index-1).0 in
     let p = err_from_is_err_and c.from_residual.result c.from_residual.ensures.1 in
     rw (p.1, p.2) (stopped _ _ _ _ _
     (λ b same. sym c.loop-index.invariant.reads ∙ elements_stop (readers set) f (capacities_of c.args.run.most) c.args.path.now c.args.run.present (size_in set f.item)
     c.loop-index.first c.loop-index.index c.args.run.count (place_of c.loop-index.taken) b c.loop-index-test.true
-    (ap (λ (l : List ℕ). read_item (readers set) f (capacities_of c.args.run.most) l c.args.run.present c.loop-index.first f.item (place_of c.loop-index.taken)) (sym path) ∙ same))
+    (rw (sym ((element t (goal.at.read_elements-returns-in_err-read_item-clause-read t c).After-read_item-arg-in-loop-index-1).0)) (same)))
     c.in_err-read_item.ensures.read)
 
 pub read_elements-returns-in_err-read_item-clause-path : goal.read_elements-returns-in_err-read_item-clause-path
@@ -55,10 +52,9 @@ read_elements-loop-index-preserved t c =
     let named = (element t (goal.at.read_elements-loop-index-preserved t c).After-read_item-arg-in-loop-index-1).0 in
     let path = c.args.path.now in
     record {
-      reads = ap (λ (s : ℕ). read_elements (readers set) f caps path c.args.run.present (c.loop-index.first + s) (size_in set f.item) (i + 1) (c.args.run.count - (i + 1)) (place_of c.read_item.new.taken)) size
-          ∙ elements_go (readers set) f caps path c.args.run.present (size_in set f.item) c.loop-index.first i c.args.run.count (place_of c.loop-index.taken) _ c.loop-index-test.true
+      reads = rw size (elements_go (readers set) f caps path c.args.run.present (size_in set f.item) c.loop-index.first i c.args.run.count (place_of c.loop-index.taken) _ c.loop-index-test.true
           (ap (λ (l : List ℕ). read_item (readers set) f caps l c.args.run.present c.loop-index.first f.item (place_of c.loop-index.taken)) (sym named)
-          ∙ reached _ _ c.in_ok-read_item.ensures.read) ∙ c.loop-index.invariant.reads;
+          ∙ reached _ _ c.in_ok-read_item.ensures.read) ∙ c.loop-index.invariant.reads);
       here = omega arith;
       kept = kept_more _ _ _ c.loop-index.invariant.kept c.in_ok-read_item.ensures.kept;
       path = stays_then _ _ _ (stays_element path (decimal i) c.push_index.new.self named) c.in_ok-read_item.ensures.path;
@@ -67,34 +63,27 @@ read_elements-loop-index-preserved t c =
 pub read_elements-read_item-requires : goal.read_elements-read_item-requires
 read_elements-read_item-requires t c =
     let set = described c.args.set.now in
-    let cs = cells_in (table set) in
     let item = c.args.run.field.now.item in
-    let kept = c.loop-index.invariant.kept in
     let room = room_at c.loop-index.index c.args.run.count (size_in set item) c.args.run.first c.loop-index.first _ (omega arith) c.loop-index.invariant.here c.requires.fits.room in
-    let here : AreKinds c.args.taken.now.image.kinds c.loop-index.first (element_cells cs item) =
-    subst (λ (p : ℕ). AreKinds c.args.taken.now.image.kinds p (element_cells cs item)) (sym c.loop-index.invariant.here) (c.requires.kinds c.loop-index.index (omega arith)) in
-    let fits : c.loop-index.first + size_in set item ≤ length c.loop-index.taken.image.numbers = omega arith in
-    let few : length c.loop-index.taken.image.numbers ≤ MOST_ITEMS = omega arith in
-    let short : length c.push_index.new.self + NUMBER_ROOM + below item ≤ LONGEST = omega (arith, (element t c).1) in
-    (omega arith, (c.requires.fits.reaches, (fits, (few, (subst (λ (ks : List Kind). AreKinds ks c.loop-index.first (element_cells cs item)) (sym kept.kinds) here, short)))))
+    let here : AreKinds c.args.taken.now.image.kinds c.loop-index.first (element_cells (cells_in (table set)) item) =
+    rw c.loop-index.invariant.here (c.requires.kinds c.loop-index.index (omega arith)) in
+    (omega arith, (c.requires.fits.reaches, ((omega arith), ((omega arith), (rw c.loop-index.invariant.kept.kinds here, (omega (arith, (element t c).1)))))))
 
 pub read_field-read_item-requires : goal.read_field-read_item-requires
 read_field-read_item-requires t c =
     let set = described c.args.set.now in
     let cs = cells_in (table set) in
     let item = c.args.run.field.now.item in
-    let kinds = c.args.taken.now.image.kinds in
-    let zero_on : c.args.run.first + 0 * size_in set item ≡ c.args.run.first = omega arith in
-    let width : c.args.run.count * size_in set item ≡ 1 * size_in set item = ap (λ (n : ℕ). n * size_in set item) (c.requires.fits.single c.in-One.is) in
-    let room : c.args.run.first + size_in set item ≤ length c.args.taken.now.image.numbers = omega arith in
-    let named : c.push.new.self ≡ c.args.path.now ++ (field_of c.args.run.field.now).name = c.push.ensures ∙ ap (λ (l : List ℕ). c.args.path.now ++ l) c.as_bytes.ensures in
+    let width : c.args.run.count * size_in set item ≡ 1 * size_in set item = rw (c.requires.fits.single c.in-One.is) in
+    let named : c.push.new.self ≡ c.args.path.now ++ (field_of c.args.run.field.now).name = c.push.ensures ∙ ap (λ l. c.args.path.now ++ l) c.as_bytes.ensures in
     let short : length c.push.new.self + NUMBER_ROOM + below c.args.run.field.now.item ≤ LONGEST =
     omega (arith, ap length named, length-append c.args.path.now (field_of c.args.run.field.now).name) in
-    (omega arith, (c.requires.fits.reaches, (room, (c.requires.fits.few, (subst (λ (p : ℕ). AreKinds kinds p (element_cells cs item)) zero_on (c.requires.kinds 0 (omega arith)), short)))))
+    let zero_on : c.args.run.first + 0 * size_in set item ≡ c.args.run.first = omega arith in
+    (omega arith, (c.requires.fits.reaches, ((omega arith), (c.requires.fits.few, (rw zero_on at (c.requires.kinds 0 (omega arith)), short)))))
 
 pub read_field-read_elements-requires : goal.read_field-read_elements-requires
 read_field-read_elements-requires t c =
-    let named : c.push.new.self ≡ c.args.path.now ++ (field_of c.args.run.field.now).name = c.push.ensures ∙ ap (λ (l : List ℕ). c.args.path.now ++ l) c.as_bytes.ensures in
+    let named : c.push.new.self ≡ c.args.path.now ++ (field_of c.args.run.field.now).name = c.push.ensures ∙ ap (λ l. c.args.path.now ++ l) c.as_bytes.ensures in
     (omega arith, (c.requires.fits, (c.requires.kinds, (omega (arith, ap length named, length-append c.args.path.now (field_of c.args.run.field.now).name)))))
 
 pub read_field-returns-in_default : goal.read_field-returns-in_default
@@ -102,12 +91,10 @@ read_field-returns-in_default t c =
     let set = described c.args.set.now in
     let f = field_of c.args.run.field.now in
     let p = place_of c.args.taken.now in
-    let named : c.push.new.self ≡ c.args.path.now ++ (field_of c.args.run.field.now).name = c.push.ensures ∙ ap (λ (l : List ℕ). c.args.path.now ++ l) c.as_bytes.ensures in
+    let named : c.push.new.self ≡ c.args.path.now ++ (field_of c.args.run.field.now).name = c.push.ensures ∙ ap (λ l. c.args.path.now ++ l) c.as_bytes.ensures in
     record {
-      read = subst (λ (r : Read). Reaches r (place_of c.read_elements.new.taken) c.read_elements.result)
-          (ap (λ (l : List ℕ). read_elements (readers set) f (capacities_of c.args.run.most) l c.args.run.present c.args.run.first (size_in set f.item) 0 c.args.run.count p) named
-          ∙ array_read set f c.args.run.count (capacities_of c.args.run.most) c.args.path.now c.args.run.present c.args.run.first p c.in_default.not-One)
-          c.read_elements.ensures.read;
+      read = rw (ap (λ (l : List ℕ). read_elements (readers set) f (capacities_of c.args.run.most) l c.args.run.present c.args.run.first (size_in set f.item) 0 c.args.run.count p) named
+          ∙ array_read set f c.args.run.count (capacities_of c.args.run.most) c.args.path.now c.args.run.present c.args.run.first p c.in_default.not-One) at c.read_elements.ensures.read;
       kept = c.read_elements.ensures.kept;
       path = stays_then _ _ _ (stays_is c.args.path.now f.name c.push.new.self named) c.read_elements.ensures.path;
     }
@@ -139,12 +126,10 @@ read_item-returns-in-Struct-clause-read t c =
     let path = c.args.path.now in
     let p = place_of c.args.taken.now in
     let caps = capacities_of c.args.run.most in
-    subst (λ (r : Read). Reaches r (place_of c.read_under.new.taken) c.read_under.result)
-    (ap (λ (l : List ℕ). read_desc (readers set) d c.desc.result.now.version l c.args.run.present c.args.run.first p) c.push.ensures
+    rw (ap (λ (l : List ℕ). read_desc (readers set) d c.desc.result.now.version l c.args.run.present c.args.run.first p) c.push.ensures
     ∙ ap (λ (v : ℕ). read_desc (readers set) d v (path ++ codes ".") c.args.run.present c.args.run.first p) (ap (λ (x : Desc). x.version) c.desc.ensures)
     ∙ sym (ap (λ (i : Item). read_item (readers set) f caps path c.args.run.present c.args.run.first i p) c.in-Struct.is
-    ∙ struct_reads set c.args.set.now.well_formed j lt f caps path c.args.run.present c.args.run.first p))
-    c.read_under.ensures.read
+    ∙ struct_reads set c.args.set.now.well_formed j lt f caps path c.args.run.present c.args.run.first p)) at c.read_under.ensures.read
 
 pub read_under-loop-field-init : goal.read_under-loop-field-init
 read_under-loop-field-init t c =
@@ -154,8 +139,8 @@ read_under-loop-field-init t c =
     let p = place_of c.args.taken.now in
     let first = place_first (cells_in (table set)) d.fields 0 c.args.spot.base d.fields in
     record {
-      reads = ap (λ (x : ℕ). read_fields (readers set) d c.args.spot.version path c.args.present c.args.spot.base 0 x d.fields p) first;
-      kinds = subst (λ (x : ℕ). AreKinds c.args.taken.now.image.kinds x (part_cells set c.args.spot.part)) (sym first) c.requires.kinds;
+      reads = rw first;
+      kinds = rw first c.requires.kinds;
       kept = kept_none c.args.taken.now.image;
       path = stays path;
     }
@@ -192,22 +177,19 @@ turn t c =
     let long = c.loop-field.invariant.kept.long in
     let has : HasSpot set spot numbers = record {
       part = c.requires.spot.part;
-      few = subst (λ (x : ℕ). x ≤ MOST_ITEMS) (sym long) c.requires.spot.few;
-      room = subst (λ (x : ℕ). spot.base + own_cell_count set d ≤ x) (sym long) c.requires.spot.room;
+      few = rw long c.requires.spot.few;
+      room = rw long c.requires.spot.room;
     } in
     let begins = start_code set spot k cell c.field_start.ensures in
     let run = found_run set c.args.set.now.well_formed spot c.args.path.now numbers has k cell c.elements.result c.desc.result.now c.as_slice.result.now
     c.index-as_slice-field.result lt c.desc.ensures c.as_slice.ensures c.index-as_slice-field.is c.elements.ensures begins in
-    let here : AreKinds kinds cell (cells_from cs d.fields k (drop k d.fields)) =
-    subst (λ (x : ℕ). AreKinds kinds x (cells_from cs d.fields k (drop k d.fields))) (sym begins) c.loop-field.invariant.kinds in
+    let here : AreKinds kinds cell (cells_from cs d.fields k (drop k d.fields)) = rw begins c.loop-field.invariant.kinds in
     record {
       run = run;
       after = ap (λ (x : Field). cell + capacity_of x.count * size_in set x.item) run.found ∙ start_after set spot k cell begins lt;
-      reads = ap (λ (x : ℕ). read_fields (readers set) d spot.version c.args.path.now c.args.present spot.base k x (drop k d.fields) (place_of c.loop-field.taken))
-          begins ∙ c.loop-field.invariant.reads;
+      reads = rw begins (c.loop-field.invariant.reads);
       comes = record { inside = lt; found = run.found; counts = c.elements.ensures; least = c.most.ensures; is = c.is_present.ensures };
-      kinds = subst (λ (x : Field). FieldKinds cs d.fields kinds k cell x (drop (k + 1) d.fields)) (sym run.found)
-          (field_kinds cs d.fields kinds k cell (field_at set spot.part k) (drop k d.fields) (drop (k + 1) d.fields) (fields_at d.fields k lt) here);
+      kinds = rw run.found (field_kinds cs d.fields kinds k cell (field_at set spot.part k) (drop k d.fields) (drop (k + 1) d.fields) (fields_at d.fields k lt) here);
       front = cut_is c.args.path.now c.loop-field.path c.cut.new.self c.len-kept.result c.cut.ensures c.len-kept.ensures c.loop-field.invariant.path;
     }
 
@@ -217,7 +199,7 @@ read_under-field_start-requires-clause-few t c = omega arith
 pub read_under-read_field-requires : goal.read_under-read_field-requires
 read_under-read_field-requires t c =
     let s = turn t c in
-    let fewer : c.elements.result ≤ capacity_of c.index-as_slice-field.result.count = omega (arith, ap (λ (x : Field). capacity_of x.count) s.run.found, elements_fit (field_at (described c.args.set.now) c.args.spot.part c.loop-field.field).count (own_numbers (described c.args.set.now) c.args.spot.part c.loop-field.taken.image.numbers c.args.spot.base)) in
+    let fewer : c.elements.result ≤ capacity_of c.index-as_slice-field.result.count = omega (arith, ap (λ x. capacity_of x.count) s.run.found, elements_fit (field_at (described c.args.set.now) c.args.spot.part c.loop-field.field).count (own_numbers (described c.args.set.now) c.args.spot.part c.loop-field.taken.image.numbers c.args.spot.base)) in
     let short = field_short (described c.args.set.now) c.args.set.now.well_formed c.args.spot.part c.requires.spot.part c.loop-field.field s.comes.inside (field_of c.index-as_slice-field.result) s.run.found in
     (omega arith, (s.run.next.run, ((λ i inside. s.kinds.here i (omega arith)), (short.0, omega (arith, ap length s.front)))))
 
@@ -236,7 +218,7 @@ read_under-returns-in_err-read_field-clause-read t c =
 pub read_under-returns-in_err-read_field-clause-path : goal.read_under-returns-in_err-read_field-clause-path
 read_under-returns-in_err-read_field-clause-path t c =
     let s = turn t (goal.at.read_under-returns-in_err-read_field-clause-path t c).After-read_field-arg-in-loop-field-1 in
-    stays_then _ _ _ (subst (Stays c.args.path.now) (sym s.front) (stays c.args.path.now)) c.in_err-read_field.ensures.path
+    stays_then _ _ _ (rw s.front (stays c.args.path.now)) c.in_err-read_field.ensures.path
 
 pub read_under-loop-field-preserved : goal.read_under-loop-field-preserved
 read_under-loop-field-preserved t c =
@@ -251,8 +233,7 @@ read_under-loop-field-preserved t c =
       reads = fields_go set d spot.version c.args.path.now c.args.present spot.base k c.field_start.result c.elements.result c.most.result
           c.is_present.result (field_of c.index-as_slice-field.result) (place_of c.loop-field.taken) _ _ s.comes s.after
           (reached _ _ (rw s.front at c.in_ok-read_field.ensures.read)) ∙ s.reads;
-      kinds = subst (λ (ks : List Kind). AreKinds ks (cell_of set spot (k + 1)) left) (sym kept.kinds)
-          (subst (λ (x : ℕ). AreKinds c.loop-field.taken.image.kinds x left) s.after s.kinds.later);
+      kinds = rw kept.kinds (rw s.after at s.kinds.later);
       kept = kept_more _ _ _ c.loop-field.invariant.kept kept;
-      path = stays_then _ _ _ (subst (Stays c.args.path.now) (sym s.front) (stays c.args.path.now)) c.in_ok-read_field.ensures.path;
+      path = stays_then _ _ _ (rw s.front (stays c.args.path.now)) c.in_ok-read_field.ensures.path;
     }

@@ -1,12 +1,11 @@
-use Rattle.vms_values.proofs.Facade.{w128, rules, SFits, sym, subst, Kind, InRange, first_line, capacities_of, place_of}
+use Rattle.vms_values.proofs.Facade.{w128, rules, first_line, capacities_of, place_of}
 use Rattle.std.proofs.lemmas.Int.{to_z-of_z}
 use Rattle.vms_values.proofs.ReadLemmas.{is_bad, number_there, reason_there, number_held}
 use Rattle.vms_values.proofs.taken.read_number_line.Goals as goal
 
 pub put-requires-clause-range : goal.put-requires-clause-range
 put-requires-clause-range c =
-    rw (to_z-of_z w128 c.in-Ok.number (search rules)) (subst (λ (k : Kind). InRange k c.in-Ok.number) (sym c.requires.of_kind)
-    (number_held c.args.kind (capacities_of c.args.run.most) c.args.run.field.now.default c.args.run.present _ c.in-Ok.number c.in-Ok.ensures))
+    rw (to_z-of_z w128 c.in-Ok.number (search rules)) (rw c.requires.of_kind (number_held c.args.kind (capacities_of c.args.run.most) c.args.run.field.now.default c.args.run.present _ c.in-Ok.number c.in-Ok.ensures))
 
 pub returns-in-Ok-clause-read : goal.returns-in-Ok-clause-read
 returns-in-Ok-clause-read c =

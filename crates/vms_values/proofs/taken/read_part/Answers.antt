@@ -1,5 +1,5 @@
 use Rattle.vms_values.proofs.Facade.{length, ap, arith, described}
-use Rattle.vms_values.proofs.PrintLemmas.{part_short}
+use Rattle.vms_values.proofs.Printers.{part_short}
 use Rattle.vms_values.proofs.taken.read_part.Goals as goal
 
 pub read_under-requires-clause-short : goal.read_under-requires-clause-short

@@ -1,5 +1,5 @@
 use Rattle.vms_values.proofs.Facade.{◌+◌, drop, joined}
-use Rattle.vms_values.proofs.PrintLemmas.{joined_at}
+use Rattle.vms_values.proofs.Printers.{joined_at}
 use Rattle.vms_values.proofs.ReadLemmas.{joined_on, joined_off}
 use Rattle.vms_values.proofs.text.is_joined.Goals as goal
 

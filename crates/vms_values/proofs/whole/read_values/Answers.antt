@@ -1,12 +1,12 @@
-use Rattle.vms_values.proofs.Facade.{Err, subst, arith, values_read, described, ReadsBy, LineFault}
-use Rattle.vms_values.proofs.WholeText.{line_fits, read_means, bad_means}
+use Rattle.vms_values.proofs.Facade.{arith, described}
+use Rattle.vms_values.proofs.JudgeLemmas.{line_fits, read_means, bad_means}
 use Rattle.vms_values.proofs.whole.read_values.Goals as goal
 
 pub overflow_cast-result : goal.overflow_cast-result
 overflow_cast-result c =
     let set = described c.args.set.now in
     let fits = line_fits set c.args.set.now.well_formed c.args.set.now.heads c.args.text.now c.in-Err-Bad.line c.in-Err-Bad.reason
-    (subst (λ (f : LineFault). ReadsBy set (values_read set c.args.text.now) (Err f)) c.in-Err-Bad.field-0-is c.in-Err-Bad.ensures.read) in
+    (rw c.in-Err-Bad.field-0-is at c.in-Err-Bad.ensures.read) in
     omega arith
 
 pub returns-in-Ok-clause-means : goal.returns-in-Ok-clause-means
@@ -15,6 +15,5 @@ returns-in-Ok-clause-means c =
 
 pub returns-in-Err-Bad-clause-means : goal.returns-in-Err-Bad-clause-means
 returns-in-Err-Bad-clause-means c =
-    let set = described c.args.set.now in
-    bad_means set c.args.set.now.well_formed c.args.set.now.heads c.args.text.now c.in-Err-Bad.line c.in-Err-Bad.reason
-    (subst (λ (f : LineFault). ReadsBy set (values_read set c.args.text.now) (Err f)) c.in-Err-Bad.field-0-is c.in-Err-Bad.ensures.read)
+    bad_means (described c.args.set.now) c.args.set.now.well_formed c.args.set.now.heads c.args.text.now c.in-Err-Bad.line c.in-Err-Bad.reason
+    (rw c.in-Err-Bad.field-0-is at c.in-Err-Bad.ensures.read)

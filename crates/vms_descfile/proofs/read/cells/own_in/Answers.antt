@@ -1,7 +1,4 @@
-use Rattle.std.proofs.Common.{◌≡◌, sym, ap, ◌∙◌, codes}
-use Rattle.serde_json.specs.Data.{object, no_members, put}
-use Rattle.vms_json.specs.Nodes.{view, members_left}
-use Rattle.vms_json.proofs.KeyLaws.{none_left, object_is}
+use Rattle.vms_descfile.proofs.Facade.{◌≡◌, sym, ap, ◌∙◌, codes, object, no_members, put, view, members_left, none_left, object_is}
 use Rattle.vms_descfile.proofs.read.cells.own_in.Goals as goal
 
 pub returns : goal.returns

@@ -1,12 +1,5 @@
-use Rattle.std.proofs.Common.{Bool, Some, sym, subst, ap, ◌∙◌}
-use Rattle.std.proofs.lemmas.Bool.{and_parts}
-use Rattle.vms_spec.specs.Sets.{Desc}
+use Rattle.vms_descfile.proofs.Facade.{Bool, Some, sym, subst, ap, ◌∙◌, and_parts, Desc, view, Answer, Answers, asks_names, Names, names_if, struct_in}
 use Rattle.vms_parts.specs.Views.{desc_of as desc_seen}
-use Rattle.vms_json.specs.Nodes.{view}
-use Rattle.vms_json.specs.Answers.{Answer, Answers}
-use Rattle.vms_json.specs.Asked.{asks_names}
-use Rattle.vms_json.specs.Names.{Names, names_if}
-use Rattle.vms_descfile.specs.Descs.{struct_in}
 use Rattle.vms_descfile.proofs.AskedLaws.{struct_unasked}
 use Rattle.vms_descfile.proofs.read.descs.read_asked.Goals as goal
 

@@ -1,9 +1,5 @@
-use Rattle.std.proofs.Common.{Bool, Some, sym, subst, ap, ◌∙◌}
-use Rattle.vms_json.specs.Nodes.{view}
+use Rattle.vms_descfile.proofs.Facade.{Bool, Some, sym, subst, ap, ◌∙◌, view, Answers, Names, names_if, names_seen, sub_in}
 use Rattle.vms_parts.specs.Views.{sub_of as sub_seen}
-use Rattle.vms_json.specs.Answers.{Answers}
-use Rattle.vms_json.specs.Names.{Names, names_if, names_seen}
-use Rattle.vms_descfile.specs.Descs.{sub_in}
 use Rattle.vms_descfile.proofs.read.devices.read_sub_asked.Goals as goal
 
 pub returns-in_ok-names : goal.returns-in_ok-names

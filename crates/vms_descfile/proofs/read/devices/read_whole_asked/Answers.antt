@@ -1,10 +1,5 @@
-use Rattle.std.proofs.Common.{Bool, Some, sym, subst, ap, ◌∙◌}
-use Rattle.std.proofs.lemmas.Bool.{and_parts}
-use Rattle.vms_json.specs.Nodes.{view}
-use Rattle.vms_json.specs.Answers.{Answer, Answers}
-use Rattle.vms_json.specs.Asked.{asks_names}
-use Rattle.vms_json.specs.Names.{Names, names_if}
-use Rattle.vms_descfile.specs.Descs.{Whole, whole_in, whole_seen}
+use Rattle.vms_descfile.proofs.Facade.{Bool, Some, sym, subst, ap, ◌∙◌, and_parts, view, Answer, Answers, asks_names, Names, names_if, Whole, whole_in}
+use Rattle.vms_descfile.proofs.Facade.{whole_seen}
 use Rattle.vms_descfile.proofs.AskedLaws.{whole_unasked}
 use Rattle.vms_descfile.proofs.read.devices.read_whole_asked.Goals as goal
 

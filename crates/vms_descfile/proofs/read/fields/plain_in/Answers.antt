@@ -1,8 +1,4 @@
-use Rattle.std.proofs.Common.{◌≡◌, Some, option_map, rules, sym, subst, ◌∙◌, ap, ap₂}
-use Rattle.serde_json.specs.Data.{object}
-use Rattle.vms_json.specs.Nodes.{view}
-use Rattle.vms_json.proofs.KeyLaws.{object_is}
-use Rattle.vms_descfile.specs.Fields.{IsPlain, plain_members}
+use Rattle.vms_descfile.proofs.Facade.{◌≡◌, Some, option_map, rules, sym, subst, ◌∙◌, ap, ap₂, object, view, object_is, IsPlain, plain_members}
 use Rattle.vms_descfile.proofs.PlainLaws.{field_plain}
 use Rattle.vms_descfile.proofs.read.fields.plain_in.Goals as goal
 

@@ -1,6 +1,4 @@
-use Rattle.std.proofs.Common.{◌≡◌, length, option_map}
-use Rattle.vms_json.specs.Nodes.{members_left, members_on, view}
-use Rattle.vms_descfile.specs.Fields.{plain_members}
+use Rattle.vms_descfile.proofs.Facade.{◌≡◌, length, option_map, members_left, members_on, view, plain_members}
 use Rattle.vms_descfile.proofs.read.fields.seen_in.Given as goal
 
 abbrev pub invariant-loop-key : goal.invariant-loop-key

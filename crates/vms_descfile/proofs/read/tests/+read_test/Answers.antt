@@ -1,13 +1,7 @@
-use Rattle.std.proofs.Common.{◌≡◌, ◌-◌, [], refl, sym, subst, ap, ◌∙◌, arith, codes, Err}
-use Rattle.vms_json.specs.Nodes.{view}
-use Rattle.vms_spec.specs.Sets.{Not}
-use Rattle.vms_parts.specs.Views.{formula}
+use Rattle.vms_descfile.proofs.Facade.{◌≡◌, ◌-◌, [], refl, sym, subst, ap, ◌∙◌, arith, codes, Err, view, Not, formula, Answers, good, bad, next, changed, under}
+use Rattle.vms_descfile.proofs.Facade.{Refuses, at, member_of, scope_seen, form_of, test_within, own_cell, two_of, key_of, joined, both, pair_seen}
 use Rattle.vms_descfile.specs.declared.read.cells.Form.TheVariants as forms
 use Rattle.vms_descfile.specs.declared.read.cells.Leaf.TheVariants as leaves
-use Rattle.vms_json.specs.Answers.{Answers, good, bad, next, changed, under, Refuses}
-use Rattle.vms_json.specs.Members.{at, member_of}
-use Rattle.vms_json.specs.Names.{scope_seen}
-use Rattle.vms_descfile.specs.Tests.{form_of, test_within, own_cell, two_of, key_of, joined, both, pair_seen}
 use Rattle.vms_descfile.proofs.TestLaws.{by_form, refused_next}
 use Rattle.vms_descfile.proofs.read.tests.+read_test.Goals as goal
 

@@ -1,7 +1,5 @@
-use Rattle.std.proofs.Common.{ap, arith}
-use Rattle.serde_json.specs.View.{members_view}
-use Rattle.vms_parts.specs.Views.{formula, field_of}
-use Rattle.vms_descfile.specs.Fitting.{FitsTest, FitsField}
+use Rattle.vms_descfile.proofs.Facade.{ap, arith, members_view, formula, FitsTest, FitsField}
+use Rattle.vms_parts.specs.Views.{field_of}
 use Rattle.vms_descfile.proofs.FitLaws.{mapped_of}
 use Rattle.vms_descfile.proofs.SetLaws.{desc_built}
 use Rattle.vms_descfile.proofs.write.sets.desc_members.Goals as goal

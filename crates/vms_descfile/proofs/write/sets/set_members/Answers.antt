@@ -1,7 +1,5 @@
-use Rattle.std.proofs.Common.{ap}
-use Rattle.serde_json.specs.View.{members_view}
-use Rattle.vms_parts.specs.Views.{desc_of, device_of}
-use Rattle.vms_descfile.specs.Fitting.{FitsDesc, FitsDevice}
+use Rattle.vms_descfile.proofs.Facade.{ap, members_view, desc_of, FitsDesc, FitsDevice}
+use Rattle.vms_parts.specs.Views.{device_of}
 use Rattle.vms_descfile.proofs.FitLaws.{mapped_of}
 use Rattle.vms_descfile.proofs.SetLaws.{set_built}
 use Rattle.vms_descfile.proofs.write.sets.set_members.Goals as goal

@@ -1,5 +1,5 @@
+use Rattle.vms_descfile.proofs.Facade.{FitsSub}
 use Rattle.vms_parts.specs.Views.{sub_of}
-use Rattle.vms_descfile.specs.Fitting.{FitsSub}
 use Rattle.vms_descfile.proofs.FitLaws.{mapped_of}
 use Rattle.vms_descfile.proofs.SetLaws.{whole_built}
 use Rattle.vms_descfile.proofs.write.sets.whole_members.Goals as goal

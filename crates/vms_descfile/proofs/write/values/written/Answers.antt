@@ -1,8 +1,5 @@
-use Rattle.std.proofs.Common.{◌≡◌, ◌++◌, ℕ, Some, map, ap, sym, subst, ◌∙◌, below_more, arith}
-use Rattle.std.specs.List.{slice_get}
-use Rattle.std.proofs.lemmas.List.{drop_all, append-nil}
+use Rattle.vms_descfile.proofs.Facade.{◌≡◌, ◌++◌, ℕ, Some, map, ap, sym, subst, ◌∙◌, below_more, arith, slice_get, drop_all, append-nil, slice_get_within}
 use Rattle.serde_json.specs.View.{view}
-use Rattle.std.proofs.lemmas.Option.{slice_get_within}
 use Rattle.vms_descfile.proofs.BuiltLaws.{listed_on}
 use Rattle.vms_descfile.proofs.FitLaws.{at_is}
 use Rattle.vms_descfile.proofs.write.values.written.Goals as goal

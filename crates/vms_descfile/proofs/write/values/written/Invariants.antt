@@ -1,5 +1,4 @@
-use Rattle.std.proofs.Common.{◌≡◌, ◌++◌, ◌<◌, ℕ, Some, map, drop}
-use Rattle.std.specs.List.{slice_get}
+use Rattle.vms_descfile.proofs.Facade.{◌≡◌, ◌++◌, ◌<◌, ℕ, Some, map, drop, slice_get}
 use Rattle.serde_json.specs.View.{view}
 use Rattle.vms_descfile.proofs.write.values.written.Given as goal
 

@@ -1,14 +1,5 @@
-use Rattle.std.specs.Int.{w128}
-use Rattle.std.proofs.lemmas.Int.{to_z-of_z}
-use Rattle.std.proofs.Common.{rules, SFits, ◌≡◌, ◌<◌, ◌↔◌, IsTrue, List, length, get_or, map, sym, ap, ◌∙◌, subst, arith}
-use Rattle.std.proofs.lemmas.List.{get_or-map}
-use Rattle.vms_kinds.specs.Codes.{InRange}
-use Rattle.vms_kinds.specs.declared.Kind.{Kind}
-use Rattle.vms_kinds.specs.declared.Kind.TheVariants.{U8}
-use Rattle.vms_spots.specs.declared.layout.Spot.{Spot}
-use Rattle.vms_spots.specs.Spots.{kinds_of, no_spot}
-use Rattle.vms_spots.proofs.SpotLaws.{kinds_are}
-use Rattle.vms_image.specs.Typed.{Typed}
+use Rattle.vms_image.proofs.Facade.{w128, to_z-of_z, rules, SFits, ◌≡◌, ◌<◌, ◌↔◌, IsTrue, List, length, get_or, map, sym, ap, ◌∙◌, subst, arith, get_or-map}
+use Rattle.vms_image.proofs.Facade.{InRange, Kind, U8, Spot, kinds_of, no_spot, kinds_are, Typed}
 use Rattle.vms_image.proofs.image.Image.fits.Goals as goal
 
 pub returns : goal.returns

@@ -1,13 +1,6 @@
-use Rattle.std.proofs.Common.{◌≡◌, ◌∙◌, ap, sym, rules, arith, length, true}
-use Rattle.std.proofs.lemmas.List.{length-map}
-use Rattle.vms_parts.specs.Views.{sub_of}
-use Rattle.vms_spec.specs.Sets.{Device}
-use Rattle.vms_spec.specs.Layout.{device_cells}
-use Rattle.vms_spots.specs.Spots.{spots_of, kinds_of}
-use Rattle.vms_spots.proofs.SpotLaws.{kinds_are, spots_long}
-use Rattle.vms_desc.specs.Described.{described, device_at}
-use Rattle.vms_desc.specs.Spots.{kinds_at}
-use Rattle.vms_image.specs.Typed.{Typed, IsImageOf}
+use Rattle.vms_image.proofs.Facade.{◌≡◌, ◌∙◌, ap, sym, rules, arith, length, true, length-map, sub_of, Device, device_cells, spots_of, kinds_of, kinds_are}
+use Rattle.vms_image.proofs.Facade.{spots_long, described, kinds_at, Typed, IsImageOf}
+use Rattle.vms_desc.specs.Described.{device_at}
 use Rattle.vms_image.proofs.SameSpots.{same_lists, lists_equal}
 use Rattle.vms_image.proofs.image.Image.is_of.Goals as goal
 

@@ -1,6 +1,4 @@
-use Rattle.std.proofs.Common.{◌∙◌, ap, refl, length, replicate, None, ℕ, Option}
-use Rattle.vms_spots.specs.Spots.{Held}
-use Rattle.vms_desc.specs.Described.{described}
+use Rattle.vms_image.proofs.Facade.{◌∙◌, ap, refl, length, replicate, None, ℕ, Option, Held, described}
 use Rattle.vms_image.proofs.Made.{made}
 use Rattle.vms_image.proofs.image.Image.new.Goals as goal
 

@@ -1,10 +1,4 @@
-use Rattle.std.proofs.Common.{◌∙◌, ap, refl, sym, length, replicate, None, ℕ, Option}
-use Rattle.std.proofs.lemmas.List.{length-map}
-use Rattle.vms_spec.specs.Sets.{Device}
-use Rattle.vms_parts.specs.Views.{sub_of}
-use Rattle.vms_spots.specs.Spots.{Held}
-use Rattle.vms_desc.specs.Described.{described}
-use Rattle.vms_image.specs.Typed.{Typed}
+use Rattle.vms_image.proofs.Facade.{◌∙◌, ap, refl, sym, length, replicate, None, ℕ, Option, length-map, Device, sub_of, Held, described, Typed}
 use Rattle.vms_image.proofs.Made.{made}
 use Rattle.vms_image.proofs.image.Image.reset.Goals as goal
 

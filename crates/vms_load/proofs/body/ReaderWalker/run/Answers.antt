@@ -45,18 +45,14 @@ returns-clause-ok g c =
     let wide = c.width-width.ensures in
     let enough : count ≤ n / c.width-width.result = omega arith in
     let all = all_came kind count n buf ((search rules) ∙ ap (λ (k : ℕ). count * k) wide) (search rules) (subst (λ (k : ℕ). count ≤ n / k) wide enough) in
-    let image : c.put_codes.new.self ≡ filled a.image.now c.args.first kind count (take n buf) =
-    c.put_codes.ensures ∙ ap (λ (k : ℕ). filled a.image.now c.args.first kind (n / k) (take (n / k * k) buf)) wide
-    ∙ ap (λ (m : ℕ). filled a.image.now c.args.first kind m (take (n / width kind * width kind) buf)) all.whole
-    ∙ ap (λ (m : ℕ). filled a.image.now c.args.first kind count (take m buf)) all.all in
-    let place : c.codes.new.self.at ≡ a.cursor.now.at + count * width kind = c.in_ok-came.ensures.place ∙ ap (λ (m : ℕ). a.cursor.now.at + m * width kind) all.whole in
+    let place : c.codes.new.self.at ≡ a.cursor.now.at + count * width kind = cc (c.in_ok-came.ensures.place) in
     let run = run_of c.args.first count kind in
     let from = told a.image.now a.cursor.now.at old in
     let took = took_run old new a.image.now c.args.first count a.cursor.now.at kind c.requires.number (take n buf) c.in_ok-came.ensures.came all.long in (
       refl,
       refl,
       refl,
-      subst (λ (i : Typed). Took run from (told i c.codes.new.self.at new)) (sym image)
+      subst (λ (i : Typed). Took run from (told i c.codes.new.self.at new)) (sym (cc (c.put_codes.ensures)))
           (subst (λ (m : ℕ). Took run from (told (filled a.image.now c.args.first kind count (take n buf)) m new)) (sym place) took),
       λ e. c.in_ok-came.ensures.held,
     )
@@ -75,18 +71,16 @@ returns-then-whole-count-clause-err g c =
     let part = part_came kind count n buf ((search rules) ∙ ap (λ (k : ℕ). count * k) wide) (search rules) lt in
     let whole = n / width kind in
     let codes = take (whole * width kind) buf in
-    let image : c.put_codes.new.self ≡ filled a.image.now c.args.first kind whole codes =
-    c.put_codes.ensures ∙ ap (λ (k : ℕ). filled a.image.now c.args.first kind (n / k) (take (n / k * k) buf)) wide in
     let run = run_of c.args.first count kind in
     let from = told a.image.now a.cursor.now.at old in
     let place : c.codes.new.self.at ≡ a.cursor.now.at + whole * width kind = c.in_ok-came.ensures.place in
-    let at : c.at.result ≡ a.cursor.now.at + whole * width kind = c.at.ensures ∙ place in
+    let at : c.at.result ≡ a.cursor.now.at + whole * width kind = cc (c.at.ensures) in
     let failed = cut_run old new a.image.now c.args.first count a.cursor.now.at kind c.requires.number whole codes (drop (whole * width kind) (take n buf)) (takes_as (sym part.parts) c.in_ok-came.ensures.came)
     (c.in_ok-came.ensures.end (search (rules, part.short))) part.long part.cut lt part.fewer in (
       refl,
       refl,
       refl,
-      subst (λ (i : Typed). Failed run from (faults.Refused c.at.result reasons.Truncated) (told i c.codes.new.self.at new)) (sym image)
+      subst (λ (i : Typed). Failed run from (faults.Refused c.at.result reasons.Truncated) (told i c.codes.new.self.at new)) (sym (cc (c.put_codes.ensures)))
           (subst (λ (m : ℕ). Failed run from (faults.Refused c.at.result reasons.Truncated) (told (filled a.image.now c.args.first kind whole codes) m new)) (sym place)
           (subst (λ (m : ℕ). Failed run from (faults.Refused m reasons.Truncated) (told (filled a.image.now c.args.first kind whole codes) (a.cursor.now.at + whole * width kind) new)) (sym at) failed)),
     )

@@ -16,7 +16,6 @@ returns c =
     let s = c.index.result.now in
     let some : 0 < c.args.count = omega arith in
     let seen = codes_seen c.self.inside.spots.items c.self.inside.bytes.items c.args.first c.args.count c.args.kind s c.args.self.now c.self.view_is c.self.invariant some c.requires.room c.requires.one c.index.ensures in
-    let wide : c.args.count * c.width.result ≡ c.args.count * width c.args.kind = ap (λ (n : ℕ). c.args.count * n) c.width.ensures in
-    ap (λ (n : ℕ). take n (drop s.offset c.deref-2.result.now)) (omega arith)
+    ap (λ (n : ℕ). take n (drop s.offset c.deref-2.result.now)) (omega (arith, ap (λ (n : ℕ). c.args.count * n) c.width.ensures))
     ∙ ap (λ (l : List ℕ). take (c.args.count * width c.args.kind) (drop s.offset l)) c.deref-2.ensures.value
     ∙ seen.1

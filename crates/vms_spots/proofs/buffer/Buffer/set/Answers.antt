@@ -39,8 +39,7 @@ stored c =
     let old : List ℕ = take (c.end-end.result - s.offset) (drop s.offset c.deref_mut.result.now) in
     let none : drop (width s.kind) old ≡ [] = drop_all (width s.kind) old (omega (arith, length-take (c.end-end.result - s.offset) (drop s.offset c.deref_mut.result.now))) in
     let part : c.write.new.bytes ≡ code s.kind c.args.value =
-    c.write.ensures ∙ ap (λ (l : List ℕ). code s.kind (to_z w128 (of_z w128 c.args.value)) ++ l) none
-    ∙ append-nil (code s.kind (to_z w128 (of_z w128 c.args.value))) ∙ ap (code s.kind) (to_z-of_z w128 c.args.value c.ranges.value) in
+    cc (c.write.ensures, append-nil (code s.kind (to_z w128 (of_z w128 c.args.value))), to_z-of_z w128 c.args.value c.ranges.value) in
     let new : after c ≡ take s.offset c.self.inside.bytes.items ++ (c.write.new.bytes ++ drop (c.end-end.result - s.offset) (drop s.offset c.self.inside.bytes.items)) =
     ap (λ (l : List ℕ). take s.offset l ++ (c.write.new.bytes ++ drop (c.end-end.result - s.offset) (drop s.offset l))) c.deref_mut.ensures.value in
     let r : IsHeld c.self.inside.spots.items (after c)
@@ -58,4 +57,4 @@ pub invariant_of-self : goal.invariant_of-self
 invariant_of-self c = subst (IsHeld c.self.inside.spots.items) (sym (stored c).items) (stored c).held_is
 
 pub returns : goal.returns
-returns c = ap (held c.self.inside.spots.items) (stored c).items ∙ (stored c).seen
+returns c = cc ((stored c).items, (stored c).seen)
