@@ -1,10 +1,9 @@
 -- Lines of a session, one after the other.
 use Rattle.vms_session.proofs.Facade.{◌≡◌, ◌⊎◌, inl, inr, ℕ, zero, suc, ◌+◌, ◌<◌, ◌≤◌, List, [], ◌∷◌, ◌++◌, append-nil, length, take, drop, get_or, Option}
-use Rattle.vms_session.proofs.Facade.{Some, Result, Ok, Err, refl, sym, ap, subst, ◌∙◌, arith, drop_all, drop_more, take_all, Appends-nil, Appends-trans}
-use Rattle.vms_session.proofs.Facade.{Appends, State, Rose, Held, Reaches, Outlet, Stock, Serves, reaches_both, serves_both, Part, text_of, text_begun}
-use Rattle.vms_session.proofs.Facade.{held_after, stored_next, HoldsBut, FailsToStore, IsLine, AreLines, ScriptLine, line_view, lines_view, Line, Session, Does}
-use Rattle.vms_session.proofs.Facade.{stored_by, part_of, Plays, session_of, DoesSome, Goes, LinesEnd, HasPlayCause, PlayFault, WriteFault, ShelfFault}
-use Rattle.vms_session.proofs.Facade.{NoMemory}
+use Rattle.vms_session.proofs.Facade.{Some, Result, Ok, Err, refl, sym, ap, subst, ◌∙◌, arith, drop_more, take_all, Appends-nil, Appends-trans, Appends, State}
+use Rattle.vms_session.proofs.Facade.{Rose, Held, Reaches, Outlet, Stock, Serves, reaches_both, serves_both, Part, text_of, text_begun, held_after, stored_next}
+use Rattle.vms_session.proofs.Facade.{HoldsBut, FailsToStore, ScriptLine, line_view, lines_view, Line, Session, Does, stored_by, part_of, Plays, session_of}
+use Rattle.vms_session.proofs.Facade.{DoesSome, Goes, LinesEnd, HasPlayCause, PlayFault, WriteFault, ShelfFault, NoMemory}
 use Rattle.vms_commands.specs.Outcomes.{ComesTo}
 use Rattle.vms_session.proofs.PartLemmas.{text_next, held_next, rest_next, begun_next, begun_whole, text_all, held_all}
 
@@ -14,15 +13,6 @@ pub lines_next : (lines : List Line) (i : ℕ) (line : Line) → i < length line
     → lines_view (drop i lines) ≡ line_view line ∷ lines_view (drop (i + 1) lines)
 lines_next lines i line lt is =
     ap lines_view (drop_more lines i line lt) ∙ ap (λ (l : Line). line_view l ∷ lines_view (drop (i + 1) lines)) (sym is)
-
-pub no_lines : (lines : List Line) (i : ℕ) → length lines ≤ i → lines_view (drop i lines) ≡ []
-no_lines lines i le = ap lines_view (drop_all i lines le)
-
-pub is_line : (play : Option ℕ) (said left : List ScriptLine) (line : ScriptLine) → said ≡ line ∷ left → AreLines play said → IsLine play line
-is_line play said left line e h = let are : AreLines play (line ∷ left) = subst (AreLines play) e h in are.0
-
-pub are_lines : (play : Option ℕ) (said left : List ScriptLine) (line : ScriptLine) → said ≡ line ∷ left → AreLines play said → AreLines play left
-are_lines play said left line e h = let are : AreLines play (line ∷ left) = subst (AreLines play) e h in are.1
 
 -- ---- counts
 
@@ -218,8 +208,3 @@ course_ends i parts new board out out' shelf shelf' course = (
   course.held ∙ held_all i shelf.held parts course.rest.0,
   ap (λ (s : Session). s.board) (sym course.rest.1),
 )
-
-pub end_course : (i : ℕ) (said : List ScriptLine) (parts : List Part) (new : Session) (board : State) (out out' : Outlet) (shelf shelf' : Stock)
-    → said ≡ [] → InCourse i said parts new board out out' shelf shelf' → LinesEnd parts new out out' shelf shelf' board (Ok tt)
-end_course i said parts new board out out' shelf shelf' none course =
-    course_ends i parts new board out out' shelf shelf' (subst (λ (l : List ScriptLine). InCourse i l parts new board out out' shelf shelf') none course)

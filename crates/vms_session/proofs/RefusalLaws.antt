@@ -1,36 +1,20 @@
 -- Streams on the shelf: the result of a save or a load, and what a refused stream leaves.
 use Rattle.vms_session.proofs.Facade.{◌≡◌, ℕ, ◌≤◌, List, [], ◌∷◌, append-nil, length, take, Option, Some, None, Result, Ok, Err, arith, sym, ap, subst, ◌∙◌}
 use Rattle.vms_session.proofs.Facade.{◌<◌, Appends, NEWEST, State, Restore, Back, Refused, Restores, shipped_set, Outlet, Stock, isa, bytes_are_one}
-use Rattle.vms_session.proofs.Facade.{restored_line, refused_line, too_large_line, Session, ComesTo, IsTooLarge, IsLoaded, LoadsBytes, LoadsHeld, Leaves, Does}
-use Rattle.vms_session.proofs.Facade.{longest_file, ScriptLine, IsBytes, Reason, LinesEnd, WritesText, part_of, Plays, PlayFault, WriteFault, ShelfFault}
-use Rattle.vms_session.proofs.Facade.{NoMemory, Part, BringsNone, IsMissing, IsLarge, IsRefused, GoesOnWithout, RefusalsLeave}
+use Rattle.vms_session.proofs.Facade.{refused_line, too_large_line, Session, ComesTo, IsTooLarge, IsLoaded, LoadsBytes, LoadsHeld, Leaves, Does, longest_file}
+use Rattle.vms_session.proofs.Facade.{ScriptLine, IsBytes, Reason, LinesEnd, WritesText, part_of, Plays, PlayFault, WriteFault, ShelfFault, NoMemory, Part}
+use Rattle.vms_session.proofs.Facade.{BringsNone, IsMissing, IsLarge, IsRefused, GoesOnWithout, RefusalsLeave}
 use Rattle.vms_script.specs.Lines.{Restores as Loads}
 
 -- ---- The result of a stream on the shelf, and a line that is written.
 
 -- bytes that a board reads have the result of their restore
-comes : (bytes : List ℕ) (old : Session) (text : List ℕ) (new : Session) (r : Restore State) → IsBytes bytes → length bytes ≤ longest_file
+pub comes : (bytes : List ℕ) (old : Session) (text : List ℕ) (new : Session) (r : Restore State) → IsBytes bytes → length bytes ≤ longest_file
     → Restores isa old.board.level bytes r
     → LoadsBytes bytes old text new → ComesTo r old text new
 comes bytes old text new r ok few restores (IsTooLarge long left) = absurd (omega (arith, few, long))
 comes bytes old text new r ok few restores (IsLoaded other some others left) =
     subst (λ (x : Restore State). ComesTo x old text new) (bytes_are_one.one old.board.level bytes ok other r others restores) left
-
-module _ (bytes : List ℕ) (old : Session) (text : List ℕ) (new : Session) (ok : IsBytes bytes) (few : length bytes ≤ longest_file)
-    (loads : LoadsBytes bytes old text new) where
-  pub back_text : (m : State) (taken : ℕ) → Restores isa old.board.level bytes (Back m taken) → restored_line taken ≡ text
-  back_text m taken r = sym (comes bytes old text new (Back m taken) ok few r loads).text_is
-
-  pub back_board : (m : State) (taken : ℕ) → Restores isa old.board.level bytes (Back m taken) → m ≡ new.board
-  back_board m taken r = ap (λ (s : Session). s.board) (sym (comes bytes old text new (Back m taken) ok few r loads).new_is)
-
-  pub refused_text : (place : ℕ) (section : Option ℕ) (reason : Reason) → Restores isa old.board.level bytes (Refused place section reason)
-      → refused_line (shipped_set NEWEST) place section reason ≡ text
-  refused_text place section reason r = sym (comes bytes old text new (Refused place section reason) ok few r loads).text_is
-
-  pub refused_board : (place : ℕ) (section : Option ℕ) (reason : Reason) → Restores isa old.board.level bytes (Refused place section reason)
-      → old.board ≡ new.board
-  refused_board place section reason r = ap (λ (s : Session). s.board) (sym (comes bytes old text new (Refused place section reason) ok few r loads).new_is)
 
 -- a line's text is written once the line is done
 pub line_ends : (line : ScriptLine) (text mark : List ℕ) (new : Session) (o o' : Outlet) (s s' : Stock) (m : State) (r : Result Unit PlayFault) → mark ≡ text

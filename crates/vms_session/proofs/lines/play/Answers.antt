@@ -1,6 +1,6 @@
-use Rattle.vms_session.proofs.Facade.{ℕ, Some, ◌+◌, ◌<◌, ◌≤◌, length, drop, refl, sym, subst, ◌∙◌, arith, outlet, stock, reaches_both, reaches_none}
+use Rattle.vms_session.proofs.Facade.{ℕ, Some, ◌+◌, ◌<◌, length, drop, refl, sym, subst, ◌∙◌, arith, drop_all, outlet, stock, reaches_both, reaches_none}
 use Rattle.vms_session.proofs.Facade.{serves_both, serves_none, IsLine, line_view, lines_view}
-use Rattle.vms_session.proofs.CourseLemmas.{lines_next, no_lines, is_line, are_lines, in_course, next_course, stop_course, end_course, goes_since}
+use Rattle.vms_session.proofs.CourseLemmas.{lines_next, in_course, next_course, stop_course, course_ends, goes_since}
 use Rattle.vms_session.proofs.lines.play.Goals as goal
 
 pub loop-line-init : goal.loop-line-init
@@ -20,9 +20,8 @@ play_line-requires-clause-line g c =
     let lines = c.args.lines.now in
     let i = c.loop-line.line-index in
     let lt : i < length lines = omega (arith, c.loop-line-test.true) in
-    subst (λ (l : ℕ). IsLine (Some l) (line_view c.line-item.result)) (sym c.loop-line.invariant.level)
-    (is_line (Some c.args.board.now.state.level) (lines_view (drop i lines)) (lines_view (drop (i + 1) lines)) (line_view c.line-item.result)
-    (lines_next lines i c.line-item.result lt c.line-item.is) c.loop-line.invariant.lines)
+    let are = rw (lines_next lines i c.line-item.result lt c.line-item.is) at c.loop-line.invariant.lines in
+    subst (λ (l : ℕ). IsLine (Some l) (line_view c.line-item.result)) (sym c.loop-line.invariant.level) are.0
 
 pub loop-line-preserved : goal.loop-line-preserved
 loop-line-preserved g c =
@@ -32,9 +31,10 @@ loop-line-preserved g c =
     let said = line_view c.line-item.result in
     let left = lines_view (drop (i + 1) lines) in
     let split = lines_next lines i c.line-item.result lt c.line-item.is in
+    let are = rw split at c.loop-line.invariant.lines in
     record {
       level = c.in-Ok.ensures.level ∙ c.loop-line.invariant.level;
-      lines = are_lines (Some c.args.board.now.state.level) (lines_view (drop i lines)) left said split c.loop-line.invariant.lines;
+      lines = are.1;
       sets = c.in-Ok.ensures.sets;
       course = λ held parts new told plays.
           next_course i said left (lines_view (drop i lines)) split parts new c.loop-line.board.state c.play_line.new.board.state
@@ -64,7 +64,6 @@ pub returns-clause-content : goal.returns-clause-content
 returns-clause-content g c = λ held parts new told plays.
     let lines = c.args.lines.now in
     let i = c.loop-line.line-index in
-    let le : length lines ≤ i = omega (arith, c.loop-line-test.false) in
-    end_course i (lines_view (drop i lines)) parts new c.loop-line.board.state
+    course_ends i parts new c.loop-line.board.state
     (outlet g.K.Sink c.args.out.now) (outlet g.K.Sink c.loop-line.out) (stock g.H.Shelf c.args.shelf.now) (stock g.H.Shelf c.loop-line.shelf)
-    (no_lines lines i le) (c.loop-line.invariant.course held parts new told plays)
+    (rw (drop_all i lines (omega (arith, c.loop-line-test.false))) at (c.loop-line.invariant.course held parts new told plays))
