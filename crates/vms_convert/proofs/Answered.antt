@@ -21,7 +21,7 @@ record FirstBad (P Bad : ℕ → Type 0) (n : ℕ) : Type 0 where
 first_bad : (P Bad : ℕ → Type 0) (n : ℕ) → ((i : ℕ) → i < n → P i ⊎ Bad i) → ((i : ℕ) → i < n → P i) ⊎ FirstBad P Bad n
 first_bad P Bad zero either = inl (λ i lt. absurd (omega arith))
 first_bad P Bad (suc n) either = elim (first_bad P Bad n (λ i lt. either i (omega arith))) [
-  | inr b ↦ inr (record { k = b.k; inside = omega (arith, b.inside); before = b.before; bad = b.bad })
+  | inr b ↦ inr (record { k = b.k; inside = omega arith; before = b.before; bad = b.bad })
   | inl f ↦ elim (either n (omega arith)) [
     | inl h ↦ inl (extend P n f h)
     | inr bad ↦ inr (record { k = n; inside = omega arith; before = f; bad = bad })
@@ -104,7 +104,7 @@ module _ (to new : Set) (fit : IsFit to) (well : WellFormed new) (compatible : C
         let p = older_pair to new fit.well well compatible k e at_k o in
         let d = device_at to o.i in
         let image = get_or h.list o.i (no_image to new) in
-        let back = h.each o.i image (slice_get-get_or h.list o.i _ (omega (arith, h.long, slice_get_within to.devices o.i o.d o.stands))) k d e p in
+        let back = h.each o.i image (slice_get-get_or h.list o.i _ (omega (arith, slice_get_within to.devices o.i o.d o.stands))) k d e p in
         rw (there_is to new fit.well well compatible h.list k e at_k o, ← given_carried to new fit well o.i k d e p.in_old at_k (get_or wanted k []) image back)
         (omega (
           arith,

@@ -23,12 +23,11 @@ taken_fits numbers cell true (Some k) fine h = go (exceeds cell.capacities (get_
   go : (b : Bool) → exceeds cell.capacities (get_or numbers k (pos 0)) ≡ b → FitsCell cell (if b then cell.default else get_or numbers k (pos 0))
   go true e = fine
   go false e = (h k refl, within_all cell.capacities (get_or numbers k (pos 0)) e)
-taken_fits numbers cell true None fine h = fine
-taken_fits numbers cell false p fine h = fine
+taken_fits numbers cell _ _ fine h = fine
 
 pub at_get : (partners : List (Option ℕ)) (c k : ℕ) → get_or partners c None ≡ Some k → slice_get partners c ≡ Some (Some k)
 at_get [] c k e = cc
-at_get (p ∷ partners) zero k e = ap (λ (o : Option ℕ). Some o) e
+at_get (p ∷ partners) zero k e = rw e
 at_get (p ∷ partners) (suc c) k e = at_get partners c k e
 
 module _ (to : Set) (well : WellFormed to) (heads : FitsHeads to) (i : ℕ) (d : Device) (there : slice_get to.devices i ≡ Some d) where
@@ -131,7 +130,10 @@ module _ (to : Set) (well : WellFormed to) (heads : FitsHeads to) (i : ℕ) (d :
         (none_else c _ (λ j' s' v e' f. false_from_ne_true _ (other_part c j s h before j' s' v e' f)))
 
     absent : (c : ℕ) → c < length cells → has_cell (image_slots to d (image_of to d then_)) c ≡ false → get_or then_ c (pos 0) ≡ default_at c
-    absent c lt none = elim (own_or_sub to d c lt) [ inl own ↦ absent_own c lt own parts.0 | inr h ↦ by_needed h.0 h.1 h.2 (is_needed to d (whole d now) h.1 h.0) refl ] where
+    absent c lt none = elim (own_or_sub to d c lt) [
+      | inl own ↦ absent_own c lt own parts.0
+      | inr h ↦ by_needed h.0 h.1 h.2 (is_needed to d (whole d now) h.1 h.0) refl
+    ] where
       parts : (in_own then_ c ≡ false) × (in_subs then_ came_back c ≡ false)
       parts = none_in_both c (own_slots to d d.desc.version then_) (came_slots to d then_ (own_cells to d) d.subs came_back) none
 
@@ -145,8 +147,8 @@ module _ (to : Set) (well : WellFormed to) (heads : FitsHeads to) (i : ℕ) (d :
         version = (leb-true d.desc.minimum d.desc.version (device_parts to well i d there).0.own.1.1.0, omega arith);
         subs = versions to d (bare d then_) 0 d.subs
             (all_subs d.subs (λ j s e. leb-true s.desc.minimum s.desc.version (sub_clean to well i j d s there e).own.1.1.0));
-        cells = record { long = back.settled.long ∙ back.are_taken.long; fits = fits };
-        absent = λ c lt none. absent c (omega (arith, back.settled.long, back.are_taken.long)) none;
+        cells = record { long = cc; fits = fits };
+        absent = λ c lt none. absent c (omega arith) none;
       };
       version = refl;
       needed = needed to d then_ (needed_from to d (bare d then_) 0 d.subs) 0 d.subs;
@@ -168,8 +170,8 @@ steps_long partners numbers (_ ∷ xs) now = steps_long partners numbers xs now
 pub may_give : (p p' : List (Option ℕ)) (n n' : List ℤ) (xs : List WalkStep) (a b : Typed) → p' ≡ p → n' ≡ n → Changes (give_step p n) xs a b
     → AreTargets a.kinds n p → length a.kinds ≡ length a.numbers → AreTargets b.kinds n' p' × (length b.kinds ≡ length b.numbers)
 may_give p p' n n' xs a b e f h targets long =
-    let kinds : b.kinds ≡ a.kinds = ap (λ (x : Typed). x.kinds) h in
-    let numbers : length b.numbers ≡ length a.numbers = ap (λ (x : Typed). length x.numbers) h ∙ steps_long p n xs a.numbers in
+    let kinds : b.kinds ≡ a.kinds = rw h in
+    let numbers : length b.numbers ≡ length a.numbers = ap (λ x. length x.numbers) h ∙ steps_long p n xs a.numbers in
     (rw (kinds, f, e) targets, rw (kinds, numbers) long)
 
 -- ---- What the partners of cells are given, step by step: that is what is carried.
@@ -183,7 +185,7 @@ module _ (partners : List (Option ℕ)) (numbers : List ℤ) where
 
   partner_other : (z : ℤ) (o : Option ℕ) (now : List ℤ) (k : ℕ) → (o ≡ Some k → ⊥) → get_or (give_partner z o now) k (pos 0) ≡ get_or now k (pos 0)
   partner_other z None now k ne = refl
-  partner_other z (Some j) now k ne = get_or-set_other now j k z (pos 0) (λ same. ne (ap (λ (n : ℕ). Some n) (sym same)))
+  partner_other z (Some j) now k ne = get_or-set_other now j k z (pos 0) (λ same. ne (rw (sym same)))
 
   -- after one more number
   abbrev next : ℕ → List ℤ → List ℤ
@@ -223,11 +225,10 @@ given_all old new d e image paired =
     let slots = image_slots old d image in
     let long : length before ≡ length (device_cells new e) = length-map (device_cells new e) (λ (c : Cell). c.default) in
     record {
-      long = gives_long partners image.numbers slots before ∙ long;
+      long = cc (gives_long partners image.numbers slots before);
       taken = λ c k f h.
-          let inside = (paired.kinds c k f).0 in
           rw h at (given_at partners image.numbers (λ b c' k' x y. paired.once b c' k' (at_get partners b k' x) (at_get partners c' k' y)) slots c k before
-          (omega arith) (get_or_from_slice_get partners c (Some k) None f));
+          (omega (arith, (paired.kinds c k f).0)) (get_or_from_slice_get partners c (Some k) None f));
       other = λ k lt none.
           given_none partners image.numbers slots before k (λ c f. none c (at_get partners c k f))
           ∙ get_or-map (λ (c : Cell). c.default) (device_cells new e) k no_cell;

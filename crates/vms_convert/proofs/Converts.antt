@@ -123,7 +123,7 @@ module _ (to new : Set) (fit : IsFit to) (well : WellFormed new) (i k : ℕ) (d 
   sources_are numbers of =
       let long = paired.long in
       record {
-        long = long ∙ sym (length-map (device_cells to d) (λ (c : Cell). c.kind));
+        long = cc (length-map (device_cells to d) (λ (c : Cell). c.kind));
         inside = λ c j f. let inside = (paired.kinds c j (at_get ps c j f)).0 in omega arith;
         in_range = λ c j f.
             let h = paired.kinds c j (at_get ps c j f) in
@@ -139,9 +139,7 @@ module _ (to new : Set) (fit : IsFit to) (well : WellFormed new) (i k : ℕ) (d 
         inside = λ c j f. let inside = (paired.kinds c j (at_get ps c j f)).0 in omega (arith, length-map (device_cells new e) (λ (c : Cell). c.kind));
         in_range = λ c j f.
             let g = at_get ps c j f in
-            let h = paired.kinds c j g in
-            let inside = slice_get_within ps c (Some j) g in
-            rw (kind_at (device_cells new e) j, ← h.1) (normal.cells.fits c (omega arith)).0;
+            rw (kind_at (device_cells new e) j, ← (paired.kinds c j g).1) (normal.cells.fits c (omega (arith, slice_get_within ps c (Some j) g))).0;
       }
 
   -- what they are given from defaults on is what is carried
@@ -186,9 +184,8 @@ module _ (to new : Set) (i k : ℕ) (source : List ℤ) (p : IsReturning to new 
           (changes : Changes (give_step partners image.numbers) (steps_of (image_slots to (device_at to i) (state_of image))) carried target) where
         pub given_long : length source ≡ length target.numbers
         given_long =
-            let steps = steps_of (image_slots to d (state_of image)) in
-            rw (changes, steps_long partners image.numbers steps carried.numbers, fresh)
-            (omega (arith, p.kinds.long, length-map (device_cells new e) (λ (c : Cell). c.default)))
+            rw (changes, steps_long partners image.numbers (steps_of (image_slots to d (state_of image))) carried.numbers, fresh)
+            (omega (arith, length-map (device_cells new e) (λ (c : Cell). c.default)))
 
         pub given_is : target.numbers ≡ (carried_device to new d e (state_of image)).numbers
         given_is =
@@ -202,7 +199,7 @@ module _ (to new : Set) (name : Option (List ℕ)) (images backs : List Image)
   module _ (m : Option ℕ)
       (h : Judges to new name (recast_each to new.devices (numbers_in images)) (numbers_in (carried to new backs)) backs (Ok m)) where
     streams : IsStreamFor to new name images (stream_of to (at_option to.machines m) backs)
-    streams = record { backs = backs; back = back; keeps = h.0; is = ap (λ (n : Option (List ℕ)). stream_of to n backs) h.1.is }
+    streams = record { backs = backs; back = back; keeps = h.0; is = rw (h.1.is) }
 
     pub puts_kept : (ArePut : List ℕ → Type 0) → ArePut (stream_of to (at_option to.machines m) backs) → PutsStream to new name images ArePut
     puts_kept ArePut p = record { bytes = stream_of to (at_option to.machines m) backs; is = streams; puts = p }

@@ -15,7 +15,7 @@ module _ (to new : Set) (wanted : List (List ℤ)) (images : List Typed) (lost :
   backs = map state_of images
 
   pub backs_long : length backs ≡ length to.devices
-  backs_long = length-map images state_of ∙ returned.count
+  backs_long = cc (length-map images state_of)
 
   pub are_back : AreBack to new wanted backs
   are_back = record {
@@ -111,7 +111,7 @@ keeps_machine to new names name k own names_are name_is h =
 module _ (to : Set) (images : List Typed) (writable : AreWritable to images) (name : List ℕ) (instance own : ℕ)
     (found : find_device 0 to.devices name instance ≡ Some own) where
   pub own_bound : own < length images
-  own_bound = omega (arith, device_below to.devices name instance own found, writable.count)
+  own_bound = omega (arith, device_below to.devices name instance own found)
 
 -- what is first invalid of images in the newest set, as it is named elsewhere
 pub invalid_by : (to new : Set) (images : List Typed) (s : Set) (o found : Option ℕ) → s ≡ new → FirstInvalid to s (map state_of images) found → found ≡ o
@@ -119,10 +119,9 @@ pub invalid_by : (to new : Set) (images : List Typed) (s : Set) (o found : Optio
 invalid_by to new images s o found set_is h same = rw (← same, ← set_is) h
 
 same_first : (numbers : List ℤ) (cells : List Cell) → length numbers ≡ length cells → first_cell numbers ≡ first_of cells
-same_first [] [] e = refl
 same_first [] (c ∷ cells) e = absurd (omega arith)
 same_first (z ∷ numbers) [] e = absurd (omega arith)
-same_first (z ∷ numbers) (c ∷ cells) e = refl
+same_first _ _ e = refl
 
 -- images that a loader of the newest set keeps, and what comes back of them
 pub record ComesBack (to new : Set) (images : List Image) (typed : List Typed) (lost : Option LostCell) : Type 0 where

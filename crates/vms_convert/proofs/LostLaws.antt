@@ -3,11 +3,11 @@ use Rattle.vms_convert.proofs.Facade.{◌≡◌, ℕ, ◌+◌, ◌<◌, Bool, tr
 use Rattle.vms_convert.proofs.Facade.{ap, ◌∙◌, arith, if◌then◌else◌, get_or-append_seam, ltb-true, ltb-false, get_or_append_left, get_or_default, length-map}
 use Rattle.vms_convert.proofs.Facade.{get_or_from_slice_get, slice_get-get_or, slice_get_within, slice_get, take_all, length-append, ◌≤◌, slice_set, take}
 use Rattle.vms_convert.proofs.Facade.{map-append, take_more_set, back, Device, Set, Image, find_device, index, WellFormed, here, device_found, device_at}
-use Rattle.vms_convert.proofs.Facade.{device_is, carried, carried_at, carried_device, no_image, Compatible, is_found, is_in, passes, found_device, found_some}
-use Rattle.vms_convert.proofs.Facade.{pair, all_in, answers_none, at_map, DifferAt, Loses, OfCell, numbers_in, FirstDifference, ArePaired, IsFirstLost}
-use Rattle.vms_convert.proofs.Facade.{IsLostCell, carried_of, LostCell, IsBack, device_partners, default_image, Typed, state_of, AreImagesOf, default_at, typed}
-use Rattle.vms_convert.proofs.Facade.{IsReturned, AreReturnedTo, AreReturned, IsRecastFor, Kind, kinds_at, recast, AreFresh, AreRoutes, IsRoute, Route, first}
-use Rattle.vms_convert.proofs.Facade.{set_4, AreKept, kinds, recast_each, at_other, IsImageOf}
+use Rattle.vms_convert.proofs.Facade.{device_is, carried, carried_at, carried_device, no_image, Compatible, is_in, passes, found_device, found_some, pair}
+use Rattle.vms_convert.proofs.Facade.{all_in, answers_none, at_map, DifferAt, Loses, OfCell, numbers_in, FirstDifference, ArePaired, IsFirstLost, IsLostCell}
+use Rattle.vms_convert.proofs.Facade.{carried_of, LostCell, IsBack, device_partners, default_image, Typed, state_of, AreImagesOf, default_at, typed, IsReturned}
+use Rattle.vms_convert.proofs.Facade.{AreReturnedTo, AreReturned, IsRecastFor, kinds_at, recast, AreFresh, AreRoutes, IsRoute, Route, first, set_4, AreKept}
+use Rattle.vms_convert.proofs.Facade.{kinds, recast_each, at_other, IsImageOf}
 use Rattle.std.proofs.lemmas.List.{same_lists, length-set}
 use Rattle.vms_check_laws.proofs.Streaming.{rules}
 use Rattle.vms_convert.specs.Returns.{IsEarlier}
@@ -102,16 +102,14 @@ module _ (to new : Set) (well_to : WellFormed to) (well_new : WellFormed new) (c
   pub older : (k : ℕ) (e : Device) → slice_get new.devices k ≡ Some e → Older k e
   older k e at =
       let h = answers_none _ 0 new.devices (rules to new well_to well_new compatible).news k e at in
-      let is : is_found (find_device 0 to.devices e.desc.name e.instance) ≡ true =
-      (passes 3 (is_in to e) [] (here parts.Set) (here (parts.Device (0 + k))) h).0 in
-      let r = found_some (find_device 0 to.devices e.desc.name e.instance) is in
+      let r = found_some (find_device 0 to.devices e.desc.name e.instance) ((passes 3 (is_in to e) [] (here parts.Set) (here (parts.Device (0 + k))) h).0) in
       let f = found_device 0 to.devices e.desc.name e.instance r.0 r.1 in
-      let same : r.0 ≡ f.0 = omega (arith, f.1) in
+      let same : r.0 ≡ f.0 = omega arith in
       record {
         i = f.0;
         d = f.2.device;
         stands = f.2.stands;
-        found = r.1 ∙ ap (λ (n : ℕ). Some n) same;
+        found = cc;
         back = rw (f.2.name_is, f.2.instance_is) (device_found new well_new k e at);
       }
 
@@ -121,8 +119,8 @@ module _ (to new : Set) (well_to : WellFormed to) (well_new : WellFormed new) (c
       let e_is = device_is new k e at in
       record {
         in_old = o.stands ∙ ap (λ (d : Device). Some d) (sym d_is);
-        found = ap (λ (d : Device). find_device 0 new.devices d.desc.name d.instance) d_is ∙ o.back;
-        in_new = at ∙ ap (λ (e : Device). Some e) (sym e_is);
+        found = rw d_is (o.back);
+        in_new = cc;
       }
 
   module _ (backs : List Image) where
@@ -191,9 +189,9 @@ module _ (to new : Set) (wanted : List (List ℤ)) where
   returned_next n k images lost next x cell h pair is earlier =
       let all = map state_of images in
       let states : map state_of (images ++ x ∷ []) ≡ all ++ state_of x ∷ [] = map-append state_of images (x ∷ []) in
-      let long : length all ≡ n = length-map images state_of ∙ h.count in
+      let long : length all ≡ n = cc (length-map images state_of) in
       record {
-        count = omega (arith, length-append images (x ∷ []), h.count);
+        count = omega (arith, length-append images (x ∷ []));
         of = appended (IsImageOf to) images x n h.count h.of is.of;
         back = λ i l image p e.
             appended (λ i image. (l : ℕ) → ArePaired to new i l
@@ -208,7 +206,8 @@ pub pair_found : (to new : Set) (i k : ℕ) → i < length to.devices → find_d
     → ArePaired to new i k
 pair_found to new i k lt found =
     let f = found_device 0 new.devices (device_at to i).desc.name (device_at to i).instance k found in
-    record { in_old = there to i lt; found = found; in_new = slice_get-get_or new.devices k no_device (omega (arith, f.1, slice_get_within new.devices f.0 f.2.device f.2.stands)) }
+    let within : k < length new.devices = omega (arith, slice_get_within new.devices f.0 f.2.device f.2.stands) in
+    record { in_old = there to i lt; found = found; in_new = slice_get-get_or new.devices k no_device within }
 
 pub always_found : (to new : Set) → WellFormed to → WellFormed new → Compatible to new → (i : ℕ) → i < length to.devices
     → find_device 0 new.devices (device_at to i).desc.name (device_at to i).instance ≡ None → ⊥
@@ -221,7 +220,7 @@ module _ (to new : Set) where
   pub route_more : (n : ℕ) (routes : List Route) (r : Route) → AreRoutes to new n routes → IsRoute to new n r.other r
       → AreRoutes to new (n + 1) (routes ++ r ∷ [])
   route_more n routes r h is = record {
-    count = omega (arith, length-append routes (r ∷ []), h.count);
+    count = omega (arith, length-append routes (r ∷ []));
     each = appended (λ i x. IsRoute to new i x.other x) routes r n h.count h.each is;
   }
 
@@ -229,10 +228,10 @@ pub fresh_of : (set : Set) (images : List Typed) → map state_of images ≡ map
 fresh_of set images states of = record {
   count = of.one_each;
   each = λ i image at.
-      let lt : i < length set.devices = omega (arith, slice_get_within images i image at, of.one_each) in
+      let lt : i < length set.devices = omega (arith, slice_get_within images i image at) in
       let same : state_of image ≡ default_image set (device_at set i) =
       cc (rw states at (at_map state_of images i image at), at_map (default_image set) set.devices i (device_at set i) (there set i lt)) in
-      ap (λ (kinds : List Kind). typed kinds (state_of image)) (of.each i image at).kinds ∙ ap (typed (kinds_at set i)) same;
+      rw ((of.each i image at).kinds) (ap (typed (kinds_at set i)) same);
 }
 
 -- the first n devices have been brought, and all others not
@@ -244,7 +243,7 @@ pub record Midway (to new : Set) (wanted : List (List ℤ)) (n : ℕ) (routes : 
   pub brought : AreReturnedTo to new wanted n (take n images) lost
 
 set_above : {A : Type 0} (xs : List A) (n i : ℕ) (x y : A) → n < i → slice_get (slice_set xs n x) i ≡ Some y → slice_get xs i ≡ Some y
-set_above xs n i x y lt e = sym (at_other xs n i x (λ same. absurd (omega arith))) ∙ e
+set_above xs n i x y lt e = cc (at_other xs n i x (λ same. absurd (omega arith)))
 
 module _ (to new : Set) (wanted : List (List ℤ)) where
   pub midway_first : (routes : List Route) (images : List Typed) → AreRoutes to new (length to.devices) routes → AreFresh to images
@@ -262,17 +261,16 @@ module _ (to new : Set) (wanted : List (List ℤ)) where
       → IsReturned to new n k (get_or wanted k []) image cell → IsEarlier lost k cell next
       → Midway to new wanted (n + 1) (slice_set routes n route) (slice_set images n image) next
   midway_next n k routes images lost next route image cell m lt pair is earlier = record {
-    long = length-set images n image ∙ m.long;
-    as_long = length-set routes n route ∙ m.as_long;
+    long = cc (length-set images n image);
+    as_long = cc (length-set routes n route);
     routes_are = λ i x le e. m.routes_are i x (omega arith) (set_above routes n i route x (omega arith) e);
     fresh = λ i x le e. m.fresh i x (omega arith) (set_above images n i image x (omega arith) e);
-    brought = rw (take_more_set images n image (omega (arith, m.long))) (returned_next to new wanted n k (take n images) lost next image cell m.brought pair is earlier);
+    brought = rw (take_more_set images n image (omega arith)) (returned_next to new wanted n k (take n images) lost next image cell m.brought pair is earlier);
   }
 
   pub midway_last : (n : ℕ) (routes : List Route) (images : List Typed) (lost : Option LostCell) → Midway to new wanted n routes images lost
       → n ≡ length to.devices → AreReturned to new wanted images lost
-  midway_last n routes images lost m all =
-      let whole : take n images ≡ images = take_all n images (omega (arith, m.long)) in rw (← all, ← whole) m.brought
+  midway_last n routes images lost m all = let whole : take n images ≡ images = take_all n images (omega arith) in rw (← all, ← whole) m.brought
 
 -- ---- The numbers of a device of the newest set that a loader keeps, as they are brought to an older set.
 

@@ -48,14 +48,13 @@ module _ (s : Side) where
       let here = cells_here cs all s.version k lt in
       let room = h.room in
       let few = few_are (size_at k) (omega arith) in
-      let place : next.cell ≡ start.cell + cells_at k = omega arith in
       record {
         start = record {
           inside = omega arith;
           room = rw field (omega arith);
         };
         field = field;
-        cell = place;
+        cell = omega arith;
       }
 
   -- the place after a field is small
@@ -64,8 +63,7 @@ module _ (s : Side) where
       let k = start.field in
       let size = field_size cs all k (field_at k) in
       let here = cells_here cs all s.version k lt in
-      let few = few_are (size_at k) (omega arith) in
-      omega arith
+      omega (arith, few_are (size_at k) (omega arith))
 
 -- which structures a field uses
 pub uses_here : (set : Set) → is_well_formed set ≡ true → (part : Part) → HasPart set part → (k : ℕ) → k < length (desc_at set part).fields
@@ -149,15 +147,14 @@ module _ (a : Arrays) (are : AreArrays a) (i at : ℕ) (lt : i < a.one.count) (r
   pub element_pairs : i < a.other.count → after ≡ before ++ item_on older newer a.one.item a.other.item at
       → PairsElement a i at (at + in_u32 size_new) before after
   element_pairs less put =
-      let small = few_are size_new (omega (arith, all_but_one a.other.count i size_new less)) in
-      rw small (record {
+      rw (few_are size_new (omega (arith, all_but_one a.other.count i size_new less))) (record {
         room = omega (arith, all_but_one a.other.count i size_new less);
         so_far = rw (put, element_paired _ _ _ a.one.item a.other.item a.one.count a.other.count i at lt less, append_assoc);
       })
 
   pub element_alone_pairs : a.other.count ≤ i → after ≡ before ++ replicate (in_u32 size_old) None → PairsElement a i at at before after
   element_alone_pairs le put =
-      let small = few_are size_old (omega (arith, are.few, one_of_all a.one.count size_old (omega arith))) in
+      let small = few_are size_old (omega (arith, one_of_all a.one.count size_old (omega arith))) in
       let none : a.other.count - (i + 1) ≡ a.other.count - i = omega arith in
       record {
         room = rw none room;

@@ -20,7 +20,7 @@ pub put_front : (xs ys : List ℤ) (c : ℕ) → c < length xs → length xs ≡
 put_front [] ys c lt long = absurd (omega arith)
 put_front (x ∷ xs) [] c lt long = absurd (omega arith)
 put_front (x ∷ xs) (y ∷ ys) zero lt long = refl
-put_front (x ∷ xs) (y ∷ ys) (suc c) lt long = ap (λ (l : List ℤ). x ∷ l) (put_front xs ys c (omega arith) (omega arith))
+put_front (x ∷ xs) (y ∷ ys) (suc c) lt long = rw (put_front xs ys c (omega arith) (omega arith))
 
 -- ---- The slots of a device's own fields and of its first subsections, in the order in which walks visit them.
 
@@ -37,8 +37,6 @@ module _ (set : Set) (d : Device) (n : List ℤ) where
   pub came_next : (from : ℕ) (subs : List Sub) (came : List (Option ℕ)) (j : ℕ) (s : Sub) (o : Option ℕ) → slice_get subs j ≡ Some s → slice_get came j ≡ Some o
       → came_slots set d n from (take (suc j) subs) (take (suc j) came) ≡ came_slots set d n from (take j subs) (take j came) ++ one_slots set s o n
       (sub_place set from subs j)
-  came_next from [] came j s o e f = absurd (cc)
-  came_next from (t ∷ subs) [] j s o e f = absurd (cc)
   came_next from (t ∷ subs) (None ∷ came) zero s o e f =
       let same : o ≡ None = cc in rw same
   came_next from (t ∷ subs) (Some v ∷ came) zero s o e f =
@@ -50,6 +48,7 @@ module _ (set : Set) (d : Device) (n : List ℤ) where
       let next = from + length (desc_cells (struct_cells set) t.desc) in
       let more = one_slots set s o n (sub_place set next subs j) in
       rw (came_next next subs came j s o e f, append_assoc (sub_slots set t v n from) (came_slots set d n next (take j subs) (take j came)) more)
+  came_next from _ _ j s o e f = absurd (cc)
 
 abbrev pub first_slots : Set → Device → List (Option ℕ) → ℕ → List ℤ → List Slot
 first_slots set d came j n = own_slots set d d.desc.version n ++ came_slots set d n (own_cells set d) (take j d.subs) (take j came)
@@ -74,8 +73,7 @@ module _ (set : Set) (structs : AreSound set.structs) (d : Device) where
   came_same n m from (t ∷ subs) came zero sound s = refl
   came_same n m from (t ∷ subs) [] (suc j) sound s = refl
   came_same n m from (t ∷ subs) (None ∷ came) (suc j) sound s =
-      let next = from + sub_size set t in
-      came_same n m next subs came j (λ i u e. sound (suc i) u e) (record { same = λ c low lt. s.same c (omega arith) lt })
+      came_same n m (from + sub_size set t) subs came j (λ i u e. sound (suc i) u e) (record { same = λ c low lt. s.same c (omega arith) lt })
   came_same n m from (t ∷ subs) (Some v ∷ came) (suc j) sound s =
       let next = from + sub_size set t in
       let up = sub_place_up set next subs j in
@@ -213,9 +211,9 @@ module _ (set : Set) (i : ℕ) (lt : i < length set.devices) (good : IsGood set)
 pub may_take : (p p' : List (Option ℕ)) (s s' : List ℤ) (xs : List WalkStep) (a b : Typed) → p' ≡ p → s' ≡ s → Changes (put_step p s) xs a b
     → AreSources a.kinds s p → length a.kinds ≡ length a.numbers → AreSources b.kinds s' p' × (length b.kinds ≡ length b.numbers)
 may_take p p' s s' xs a b e f h sources long =
-    let kinds : b.kinds ≡ a.kinds = ap (λ (x : Typed). x.kinds) h in (
+    let kinds : b.kinds ≡ a.kinds = rw h in (
       rw (kinds, f, e) sources,
-      ap (λ (ks : List Kind). length ks) kinds ∙ long ∙ sym (takes_keeps p s xs a b h).long,
+      rw kinds (long ∙ sym (takes_keeps p s xs a b h).long),
     )
 
 -- ---- Cells are put to their defaults one after the other.
@@ -232,7 +230,7 @@ module _ (set : Set) (i first : ℕ) (before : List ℤ) where
       let other : (c : ℕ) → (c ≡ cell → ⊥) → get_or (slice_set now cell z) c (pos 0) ≡ get_or now c (pos 0) =
       λ c ne. get_or-set_other now cell c z (pos 0) ne in
       record {
-        long = length-set now cell z ∙ long;
+        long = cc (length-set now cell z);
         inside = λ c low less. elim (cases_lt c cell) [
           | inl lower ↦ other c (λ same. absurd (omega arith)) ∙ h.inside c low lower
           | inr ge ↦ let same : c ≡ cell = omega arith in rw same (get_or-set_same now cell z (pos 0) (omega arith))
@@ -250,8 +248,7 @@ put_all set i j first cell before now e f h = rw (← f, ← e) h
 -- and nothing but numbers changes
 pub put_rest : (a b c : Typed) (numbers : List ℤ) → b ≡ record a { numbers = b.numbers } → c ≡ record b { numbers = numbers }
     → c ≡ record a { numbers = c.numbers }
-put_rest a b c numbers e f =
-    rw f (ap (λ (x : Typed). record x { numbers = numbers }) e)
+put_rest a b c numbers e f = rw f (rw e)
 
 -- a default is in its kind's range
 pub default_fits : (set : Set) → is_well_formed set ≡ true → FitsHeads set → (i : ℕ) → i < length set.devices → (cell : ℕ)
@@ -259,6 +256,5 @@ pub default_fits : (set : Set) → is_well_formed set ≡ true → FitsHeads set
     → InRange (get_or kinds cell U8) (get_or (device_cells set (device_at set i)) cell no_cell).default
 default_fits set well heads i lt cell less kinds e =
     let cells = device_cells set (device_at set i) in
-    let fit = (good_of set well heads).defaults i (device_at set i) (slice_get-get_or set.devices i _ lt) cell less in
     let kind : get_or kinds cell U8 ≡ (get_or cells cell no_cell).kind = rw e (get_or-map (λ (c : Cell). c.kind) cells cell no_cell) in
-    rw kind fit.0
+    rw kind ((good_of set well heads).defaults i (device_at set i) (slice_get-get_or set.devices i _ lt) cell less).0

@@ -8,4 +8,4 @@ returns c =
     let d = device_at set c.args.device in
     c.loop-sub.invariant.rest ∙ ap (λ (l : List (Option ℕ)). record c.args.image.now { came = l })
     (all_marked set d (bare d c.args.image.now.numbers) d.subs c.loop-sub.image.came c.loop-sub.sub
-    (omega (arith, c.loop-sub-test.false, c.loop-sub.auto.sub-end, c.sub_count-sub-end.ensures)) c.loop-sub.invariant.marked)
+    (omega arith) c.loop-sub.invariant.marked)

@@ -1,4 +1,4 @@
-use Rattle.vms_convert.proofs.Facade.{◌<◌, length, arith, ap, ◌∙◌, WellFormed, first_fault, described, device_at, none_is, Typed}
+use Rattle.vms_convert.proofs.Facade.{◌<◌, length, arith, WellFormed, first_fault, described, device_at, none_is}
 use Rattle.vms_convert.proofs.BringLaws.{settle_rest}
 use Rattle.vms_convert.proofs.Settling.{settled_next, all_settled}
 use Rattle.vms_convert.proofs.back.settle.Goals as goal
@@ -9,15 +9,13 @@ loop-sub-preserved c =
     let k = c.args.device in
     let j = c.loop-sub.sub in
     let well : WellFormed set = none_is (first_fault set) c.args.set.now.well_formed in
-    let less : j < length (device_at set k).subs = omega (arith, c.loop-sub-test.true, c.sub_count-sub-end.ensures) in
+    let less : j < length (device_at set k).subs = omega arith in
     record {
-      rest = settle_rest set k c.requires.device c.loop-sub.image c.settle_sub.new.image j c.settle_sub.ensures
-          ∙ ap (λ (x : Typed). record x { numbers = c.settle_sub.new.image.numbers }) c.loop-sub.invariant.rest;
+      rest = cc (settle_rest set k c.requires.device c.loop-sub.image c.settle_sub.new.image j c.settle_sub.ensures, c.loop-sub.invariant.rest);
       settled = settled_next set well k c.requires.device c.args.image.now.numbers c.loop-sub.image c.settle_sub.new.image j less c.loop-sub.invariant.settled
           c.settle_sub.ensures;
     }
 
 pub returns-clause-settled : goal.returns-clause-settled
 returns-clause-settled c =
-    all_settled (described c.args.set.now) _ c.args.image.now.numbers c.loop-sub.image.numbers c.loop-sub.sub
-    (omega (arith, c.loop-sub-test.false, c.loop-sub.auto.sub-end, c.sub_count-sub-end.ensures)) c.loop-sub.invariant.settled
+    all_settled (described c.args.set.now) _ c.args.image.now.numbers c.loop-sub.image.numbers c.loop-sub.sub (omega arith) c.loop-sub.invariant.settled

@@ -13,7 +13,7 @@ kept_at c =
     let k = c.args.pair.other in
     let images = c.images.result.now in
     let inside = slice_get_within (loads c.args.pair.loader.now).devices k _ c.requires.route.pair.in_new in
-    let within : k < length images = omega (arith, inside, length-map images state_of, ap length c.images.ensures.images, c.requires.kept.one_each) in
+    let within : k < length images = omega (arith, length-map images state_of, ap length c.images.ensures.images) in
     rw (← c.images.ensures.images) (at_state images k c.index-images-pair.result (image_at images k c.index-images-pair.result within c.index-images-pair.is))
 
 pub return_image-requires-clause-recast : goal.return_image-requires-clause-recast
