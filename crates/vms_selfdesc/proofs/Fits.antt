@@ -1,12 +1,12 @@
 -- The length and the number of the entries of fields, for a path that begins with a number of bytes. They depend on
 -- the depth of structures and the number of items.
 use Rattle.vms_selfdesc.proofs.Facade.{cases_lt, inl, inr, ◌≡◌, ℕ, zero, suc, ◌+◌, ◌*◌, ◌<◌, ◌≤◌, List, ◌∷◌, ◌++◌, length, length-append, get_or, ℤ, Bool, true}
-use Rattle.vms_selfdesc.proofs.Facade.{false, ◌&&◌, refl, arith, codes, [], get_or-eq_default, mul-le-mul_right, quoted, compact_text, number_text, of_integer}
-use Rattle.vms_selfdesc.proofs.Facade.{Item, Kind, Num, Equal, Unused, Struct, width, MOST_ITEMS, MOST_UNUSED, Count, One, Field, Desc, is_there, no_desc}
-use Rattle.vms_selfdesc.proofs.Facade.{no_parent, first, item_size, field_cells, capacity_of, elements_of, numbers_of, item_count, items_in, item_depth}
-use Rattle.vms_selfdesc.proofs.Facade.{deepest, elements_fit, first_at, first_long, width_small, kind_word, Shape, no_shape, shape, cells_in, field_elements}
-use Rattle.vms_selfdesc.proofs.Facade.{elements_from, desc_elements, Entry, cell_entry, listed_if, entries_of, item_entries, element_path, element_entries}
-use Rattle.vms_selfdesc.proofs.Facade.{array_entries, entry_tree, IsPlain}
+use Rattle.vms_selfdesc.proofs.Facade.{append-nil, and-true, false, ◌&&◌, refl, arith, codes, [], get_or-eq_default, mul-le-mul_right, quoted, compact_text}
+use Rattle.vms_selfdesc.proofs.Facade.{number_text, of_integer, Item, Kind, Num, Equal, Unused, Struct, width, MOST_ITEMS, MOST_UNUSED, Count, One, Field, Desc}
+use Rattle.vms_selfdesc.proofs.Facade.{is_there, no_desc, no_parent, first, item_size, field_cells, capacity_of, elements_of, numbers_of, item_count, items_in}
+use Rattle.vms_selfdesc.proofs.Facade.{item_depth, deepest, elements_fit, first_at, first_long, width_small, kind_word, Shape, no_shape, shape, cells_in}
+use Rattle.vms_selfdesc.proofs.Facade.{field_elements, elements_from, desc_elements, Entry, cell_entry, listed_if, entries_of, item_entries, element_path}
+use Rattle.vms_selfdesc.proofs.Facade.{element_entries, array_entries, entry_tree, IsPlain}
 use Rattle.vms_selfdesc.proofs.Plain.{IsShort, plain_append, element_plain, element_long, dot_plain, key_long}
 use Rattle.vms_selfdesc.proofs.OfElements.{of_append, of_dotted, plain_is, of_field, of_desc}
 use Rattle.vms_selfdesc.proofs.EntryLong.{sent_long, absent_long, word_short}

@@ -147,7 +147,10 @@ quoted_plain s p = rw (plain_escape s p)
 
 pub puts : {a b c : Text} {k v : List ℕ} {d : Data} → IsPlain k → Extends a b (codes ",\"" ++ (k ++ codes "\":")) → Extends b c v → v ≡ compact_text d
     → IsSound d → Puts a c k d
-puts {a} {b} {c} {k} {v} p key value is sound = record { text = same (further key value) (rw (← is, plain_escape k p, append_assoc k (34 ∷ []) (58 ∷ v), append_assoc k (34 ∷ 58 ∷ []) v)); sound = sound }
+puts {a} {b} {c} {k} {v} p key value is sound = record {
+  text = same (further key value) (rw (← is, plain_escape k p, append_assoc k (34 ∷ []) (58 ∷ v), append_assoc k (34 ∷ 58 ∷ []) v));
+  sound = sound;
+}
 
 -- ---- objects
 
