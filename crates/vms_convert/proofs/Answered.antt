@@ -21,7 +21,7 @@ record FirstBad (P Bad : ℕ → Type 0) (n : ℕ) : Type 0 where
 first_bad : (P Bad : ℕ → Type 0) (n : ℕ) → ((i : ℕ) → i < n → P i ⊎ Bad i) → ((i : ℕ) → i < n → P i) ⊎ FirstBad P Bad n
 first_bad P Bad zero either = inl (λ i lt. absurd (omega arith))
 first_bad P Bad (suc n) either = elim (first_bad P Bad n (λ i lt. either i (omega arith))) [
-  | inr b ↦ inr (record { k = b.k; inside = omega (arith, b.inside); before = b.before; bad = b.bad })
+  | inr b ↦ inr (record { k = b.k; inside = omega arith; before = b.before; bad = b.bad })
   | inl f ↦ elim (either n (omega arith)) [
     | inl h ↦ inl (extend P n f h)
     | inr bad ↦ inr (record { k = n; inside = omega arith; before = f; bad = bad })
@@ -51,8 +51,6 @@ either_valid (Rule true ∷ slots) = elim (either_valid slots) [ inl h ↦ inl (
 either_valid (_ ∷ slots) = either_valid slots
 
 module _ (to new : Set) (fit : IsFit to) (well : WellFormed new) (compatible : Compatible to new) where
-  -- ---- an image of each device
-
   abbrev IsBackAt : List (List ℤ) → ℕ → Image → Type 0
   IsBackAt wanted i image = (k : ℕ) (d e : Device) → IsPairAt to new i k d e → IsBack to d (device_partners to new d e) (get_or wanted k []) image
 
@@ -86,13 +84,11 @@ module _ (to new : Set) (fit : IsFit to) (well : WellFormed new) (compatible : C
         | inr n ↦ inr (λ valid. n (valid o.i o.d (device_at new k) image at_k o.found o.stands at_i))
         | inl h ↦ inl (λ i d e back in_new found in_old at.
             let e_is : device_at new k ≡ e = cc (at_k, in_new) in
-            let number : o.i ≡ i = cc (o.found, rw (← e_is) at found) in
+            let number : o.i ≡ i = cc (o.found, found) in
             let d_is : o.d ≡ d = cc (o.stands, in_old) in
             let image_is : image ≡ back = cc (at_i, at) in
             rw (← d_is, ← image_is) h)
       ]
-
-  -- ---- all together
 
   module _ (wanted : List (List ℤ)) (long : length wanted ≡ length new.devices)
       (kinds : (k : ℕ) (e : Device) → slice_get new.devices k ≡ Some e → AreOfKinds (device_cells new e) (get_or wanted k []))
@@ -108,7 +104,7 @@ module _ (to new : Set) (fit : IsFit to) (well : WellFormed new) (compatible : C
         let p = older_pair to new fit.well well compatible k e at_k o in
         let d = device_at to o.i in
         let image = get_or h.list o.i (no_image to new) in
-        let back = h.each o.i image (slice_get-get_or h.list o.i _ (omega (arith, h.long, slice_get_within to.devices o.i o.d o.stands))) k d e p in
+        let back = h.each o.i image (slice_get-get_or h.list o.i _ (omega (arith, slice_get_within to.devices o.i o.d o.stands))) k d e p in
         rw (there_is to new fit.well well compatible h.list k e at_k o, ← given_carried to new fit well o.i k d e p.in_old at_k (get_or wanted k []) image back)
         (omega (
           arith,

@@ -1,13 +1,13 @@
 -- The image of numbers has come as needed.
 use Rattle.vms_convert.proofs.Facade.{ne_eqb, cases_eq, ◌≡◌, ℕ, zero, suc, ◌+◌, ◌≤◌, Bool, true, List, [], ◌∷◌, Some, None, refl, ap, ◌∙◌, arith, inl, inr, ◌<◌}
-use Rattle.vms_convert.proofs.Facade.{length, get_or, map, Option, ℤ, pos, sym, false, if◌then◌else◌, length-set, ◌==◌, ◌++◌, slice_get, leb-true, eq-eqb}
-use Rattle.vms_convert.proofs.Facade.{or_parts, get_or-map, get_or-set_other, get_or-set_same, map-append, length-map, false_from_ne_true}
-use Rattle.vms_convert.proofs.Facade.{get_or_from_slice_get, Sub, Device, Set, Image, FitsCell, has_cell, image_slots, own_slots, own_cells, came_slots}
-use Rattle.vms_convert.proofs.Facade.{sub_slots, is_needed, needed_from, bare, image_of, AreSubs, versions, needed, within_all, InRange, exceeds, Cell, no_cell}
-use Rattle.vms_convert.proofs.Facade.{Slot, device_cells, WellFormed, FitsHeads, IsGood, names_append, none_in_both, its_same, its_below, its_above, SameIn}
-use Rattle.vms_convert.proofs.Facade.{sub_size, sub_place_up, parts_together, part_apart, part_place, well_good, device_parts, sub_clean, IsCellOf, IsBack}
-use Rattle.vms_convert.proofs.Facade.{taken, whole, ArePartners, AreOfKinds, own_or_sub, Typed, WalkStep, changed, Changes, changed_append, AreTargets}
-use Rattle.vms_convert.proofs.Facade.{give_partner, give_step, device_partners, IsCarried, steps_of, step_of, its_in, one_part, Number, at_map, MayBeWritten}
+use Rattle.vms_convert.proofs.Facade.{length, get_or, map, Option, ℤ, pos, sym, false, if◌then◌else◌, length-set, ◌==◌, slice_get, leb-true, eq-eqb, or_parts}
+use Rattle.vms_convert.proofs.Facade.{get_or-map, get_or-set_other, get_or-set_same, length-map, false_from_ne_true, get_or_from_slice_get, Sub, Device, Set}
+use Rattle.vms_convert.proofs.Facade.{Image, FitsCell, has_cell, image_slots, own_slots, own_cells, came_slots, sub_slots, is_needed, needed_from, bare}
+use Rattle.vms_convert.proofs.Facade.{image_of, AreSubs, versions, needed, within_all, InRange, exceeds, Cell, no_cell, Slot, device_cells, WellFormed}
+use Rattle.vms_convert.proofs.Facade.{FitsHeads, IsGood, names_append, none_in_both, its_same, its_below, its_above, SameIn, sub_size, sub_place_up}
+use Rattle.vms_convert.proofs.Facade.{parts_together, part_apart, part_place, well_good, device_parts, sub_clean, IsCellOf, IsBack, taken, whole, ArePartners}
+use Rattle.vms_convert.proofs.Facade.{AreOfKinds, own_or_sub, Typed, WalkStep, changed, Changes, AreTargets, give_partner, give_step, device_partners}
+use Rattle.vms_convert.proofs.Facade.{IsCarried, steps_of, its_in, one_part, Number, at_map, MayBeWritten}
 use Rattle.vms_walk.specs.declared.step.WalkStep.TheVariants.{Number as Step}
 use Rattle.vms_convert.proofs.Settling.{comes_at, needed_same}
 
@@ -17,20 +17,17 @@ all_subs (s ∷ subs) h = (h 0 s refl, all_subs subs (λ j t e. h (suc j) t e))
 
 -- ---- What comes back is normal, whatever numbers of the right kinds it is made of, and has come as needed.
 
--- ---- what is taken fits
-
 taken_fits : (numbers : List ℤ) (cell : Cell) (has : Bool) (p : Option ℕ) → FitsCell cell cell.default
     → ((k : ℕ) → p ≡ Some k → InRange cell.kind (get_or numbers k (pos 0))) → FitsCell cell (taken numbers cell has p)
 taken_fits numbers cell true (Some k) fine h = go (exceeds cell.capacities (get_or numbers k (pos 0))) refl where
   go : (b : Bool) → exceeds cell.capacities (get_or numbers k (pos 0)) ≡ b → FitsCell cell (if b then cell.default else get_or numbers k (pos 0))
   go true e = fine
   go false e = (h k refl, within_all cell.capacities (get_or numbers k (pos 0)) e)
-taken_fits numbers cell true None fine h = fine
-taken_fits numbers cell false p fine h = fine
+taken_fits numbers cell _ _ fine h = fine
 
 pub at_get : (partners : List (Option ℕ)) (c k : ℕ) → get_or partners c None ≡ Some k → slice_get partners c ≡ Some (Some k)
 at_get [] c k e = cc
-at_get (p ∷ partners) zero k e = ap (λ (o : Option ℕ). Some o) e
+at_get (p ∷ partners) zero k e = rw e
 at_get (p ∷ partners) (suc c) k e = at_get partners c k e
 
 module _ (to : Set) (well : WellFormed to) (heads : FitsHeads to) (i : ℕ) (d : Device) (there : slice_get to.devices i ≡ Some d) where
@@ -75,12 +72,6 @@ module _ (to : Set) (well : WellFormed to) (heads : FitsHeads to) (i : ℕ) (d :
     same_own : SameIn 0 (0 + own_cells to d) now then_
     same_own = record { same = λ c low lt. back.settled.own c (omega arith) }
 
-    same_sub : (j : ℕ) (s : Sub) → slice_get d.subs j ≡ Some s → is_needed to d (whole d now) s j ≡ true
-        → SameIn (part_place to d j) (part_place to d j + sub_size to s) now then_
-    same_sub j s e n = record {
-      same = λ c low lt. rw (back.settled.subs j s c (record { is = e; low = low; high = lt }), n);
-    }
-
     -- whether a cell is in the bytes of the device's own fields, of a subsection, of all subsections that came
     abbrev in_own : List ℤ → ℕ → Bool
     in_own n c = has_cell (own_slots to d d.desc.version n) c
@@ -122,24 +113,27 @@ module _ (to : Set) (well : WellFormed to) (heads : FitsHeads to) (i : ℕ) (d :
         let same : j' ≡ j = one_part to (own_cells to d) d.subs j' j c s' s e h.is range.0 range.1 h.low h.high in
         let one : s' ≡ s = cc (e, h.is) in
         let v_is : v ≡ s'.desc.version = cc (f, at_map (λ (s : Sub). Some s.desc.version) d.subs j' s' e) in
-        cc (before, rw (v_is, one, same) at has)
+        cc (before, has)
 
     absent_needed : (c j : ℕ) (s : Sub) → c < length cells → IsCellOf to d j s c → is_needed to d (whole d now) s j ≡ true → in_subs then_ came_back c ≡ false
         → get_or then_ c (pos 0) ≡ default_at c
     absent_needed c j s lt h n none =
-        let e = h.is in
-        let same = same_sub j s e n in
+        let same : SameIn (part_place to d j) (part_place to d j + sub_size to s) now then_ =
+        record { same = λ c low lt. rw (back.settled.subs j s c (record { is = h.is; low = low; high = lt }), n) } in
         let z : 0 + j ≡ j = omega arith in
-        let still : is_needed to d (bare d then_) s j ≡ true = needed_same to well i d there j s e (whole d now) (bare d then_) same_own same ∙ n in
-        let came = rw (z, still) at (comes_at to d (bare d then_) d.subs 0 j s e) in
+        let still : is_needed to d (bare d then_) s j ≡ true = needed_same to well i d there j s h.is (whole d now) (bare d then_) same_own same ∙ n in
+        let came = rw (z, still) at (comes_at to d (bare d then_) d.subs 0 j s h.is) in
         let here : in_sub s s.desc.version then_ j c ≡ false =
-        part_apart to d then_ (λ xs. has_cell xs c ≡ false) (none_in_both c) (own_cells to d) d.subs came_back none j s s.desc.version e came in
-        let before = rw (its_same to s.desc s.desc.version (part_place to d j) good.structs (good.subs i j d s there e) now then_ same) at here in
+        part_apart to d then_ (λ xs. has_cell xs c ≡ false) (none_in_both c) (own_cells to d) d.subs came_back none j s s.desc.version h.is came in
+        let before = rw (its_same to s.desc s.desc.version (part_place to d j) good.structs (good.subs i j d s there h.is) now then_ same) at here in
         same.same c h.low h.high ∙ left c lt (its_above to d.desc d.desc.version 0 now c (omega (arith, sub_place_up to (own_cells to d) d.subs j)))
         (none_else c _ (λ j' s' v e' f. false_from_ne_true _ (other_part c j s h before j' s' v e' f)))
 
     absent : (c : ℕ) → c < length cells → has_cell (image_slots to d (image_of to d then_)) c ≡ false → get_or then_ c (pos 0) ≡ default_at c
-    absent c lt none = elim (own_or_sub to d c lt) [ inl own ↦ absent_own c lt own parts.0 | inr h ↦ by_needed h.0 h.1 h.2 (is_needed to d (whole d now) h.1 h.0) refl ] where
+    absent c lt none = elim (own_or_sub to d c lt) [
+      | inl own ↦ absent_own c lt own parts.0
+      | inr h ↦ by_needed h.0 h.1 h.2 (is_needed to d (whole d now) h.1 h.0) refl
+    ] where
       parts : (in_own then_ c ≡ false) × (in_subs then_ came_back c ≡ false)
       parts = none_in_both c (own_slots to d d.desc.version then_) (came_slots to d then_ (own_cells to d) d.subs came_back) none
 
@@ -147,16 +141,14 @@ module _ (to : Set) (well : WellFormed to) (heads : FitsHeads to) (i : ℕ) (d :
       by_needed j s h true n = absent_needed c j s lt h n parts.1
       by_needed j s h false n = rw (back.settled.subs j s c h, n)
 
-    -- ---- the image
-
     pub back_may : MayBeWritten to d image
     back_may = rw back.is (record {
       normal = record {
         version = (leb-true d.desc.minimum d.desc.version (device_parts to well i d there).0.own.1.1.0, omega arith);
         subs = versions to d (bare d then_) 0 d.subs
             (all_subs d.subs (λ j s e. leb-true s.desc.minimum s.desc.version (sub_clean to well i j d s there e).own.1.1.0));
-        cells = record { long = back.settled.long ∙ back.are_taken.long; fits = fits };
-        absent = λ c lt none. absent c (omega (arith, back.settled.long, back.are_taken.long)) none;
+        cells = record { long = cc; fits = fits };
+        absent = λ c lt none. absent c (omega arith) none;
       };
       version = refl;
       needed = needed to d then_ (needed_from to d (bare d then_) 0 d.subs) 0 d.subs;
@@ -178,8 +170,8 @@ steps_long partners numbers (_ ∷ xs) now = steps_long partners numbers xs now
 pub may_give : (p p' : List (Option ℕ)) (n n' : List ℤ) (xs : List WalkStep) (a b : Typed) → p' ≡ p → n' ≡ n → Changes (give_step p n) xs a b
     → AreTargets a.kinds n p → length a.kinds ≡ length a.numbers → AreTargets b.kinds n' p' × (length b.kinds ≡ length b.numbers)
 may_give p p' n n' xs a b e f h targets long =
-    let kinds : b.kinds ≡ a.kinds = ap (λ (x : Typed). x.kinds) h in
-    let numbers : length b.numbers ≡ length a.numbers = ap (λ (x : Typed). length x.numbers) h ∙ steps_long p n xs a.numbers in
+    let kinds : b.kinds ≡ a.kinds = rw h in
+    let numbers : length b.numbers ≡ length a.numbers = ap (λ x. length x.numbers) h ∙ steps_long p n xs a.numbers in
     (rw (kinds, f, e) targets, rw (kinds, numbers) long)
 
 -- ---- What the partners of cells are given, step by step: that is what is carried.
@@ -188,15 +180,12 @@ module _ (partners : List (Option ℕ)) (numbers : List ℤ) where
   abbrev pub gives : List Slot → List ℤ → List ℤ
   gives slots now = changed (give_step partners numbers) (steps_of slots) now
 
-  pub gives_more : (xs ys : List Slot) (now : List ℤ) → gives (xs ++ ys) now ≡ gives ys (gives xs now)
-  gives_more xs ys now = rw (map-append step_of xs ys) (changed_append (give_step partners numbers) (steps_of xs) (steps_of ys) now)
-
   pub gives_long : (slots : List Slot) (now : List ℤ) → length (gives slots now) ≡ length now
   gives_long slots now = steps_long partners numbers (steps_of slots) now
 
   partner_other : (z : ℤ) (o : Option ℕ) (now : List ℤ) (k : ℕ) → (o ≡ Some k → ⊥) → get_or (give_partner z o now) k (pos 0) ≡ get_or now k (pos 0)
   partner_other z None now k ne = refl
-  partner_other z (Some j) now k ne = get_or-set_other now j k z (pos 0) (λ same. ne (ap (λ (n : ℕ). Some n) (sym same)))
+  partner_other z (Some j) now k ne = get_or-set_other now j k z (pos 0) (λ same. ne (rw (sym same)))
 
   -- after one more number
   abbrev next : ℕ → List ℤ → List ℤ
@@ -227,8 +216,6 @@ module _ (partners : List (Option ℕ)) (numbers : List ℤ) where
         ]
     given_at (_ ∷ slots) c k now lt e = given_at slots c k now lt e
 
--- ---- a whole device
-
 -- from defaults on
 pub given_all : (old new : Set) (d e : Device) (image : Image) → ArePartners (device_cells old d) (device_cells new e) (device_partners old new d e)
     → IsCarried old new d e image (gives (device_partners old new d e) image.numbers (image_slots old d image) (map (λ c. c.default) (device_cells new e)))
@@ -238,11 +225,10 @@ given_all old new d e image paired =
     let slots = image_slots old d image in
     let long : length before ≡ length (device_cells new e) = length-map (device_cells new e) (λ (c : Cell). c.default) in
     record {
-      long = gives_long partners image.numbers slots before ∙ long;
+      long = cc (gives_long partners image.numbers slots before);
       taken = λ c k f h.
-          let inside = (paired.kinds c k f).0 in
           rw h at (given_at partners image.numbers (λ b c' k' x y. paired.once b c' k' (at_get partners b k' x) (at_get partners c' k' y)) slots c k before
-          (omega arith) (get_or_from_slice_get partners c (Some k) None f));
+          (omega (arith, (paired.kinds c k f).0)) (get_or_from_slice_get partners c (Some k) None f));
       other = λ k lt none.
           given_none partners image.numbers slots before k (λ c f. none c (at_get partners c k f))
           ∙ get_or-map (λ (c : Cell). c.default) (device_cells new e) k no_cell;

@@ -1,15 +1,18 @@
 -- What is converted loads as the newer set's, and again.
 use Rattle.vms_convert.proofs.Facade.{subst, ◌≡◌, ℕ, ◌≤◌, true, false, ◌&&◌, List, [], ◌∷◌, length, get_or, Option, Some, refl, sym, ap, ◌∙◌, arith, ℤ}
-use Rattle.vms_convert.proofs.Facade.{if◌then◌else◌, ◌<◌, map, slice_get_within, slice_get, get_or-map, length-map, Device, Set, Image, IsNormal, image_slots}
-use Rattle.vms_convert.proofs.Facade.{AreReady, longest_text, written, WellFormed, device_cells, Cell, no_cell, IsFit, same_lists, well_good, Compatible}
-use Rattle.vms_convert.proofs.Facade.{carried, carried_device, pair, back, all_in, upgrade_stands, recast_cells, recast_twice, AreBack, IsConverted, IsPairAt}
-use Rattle.vms_convert.proofs.Facade.{recast_each, OneBackLaw, BackLaw, AreRecastOf, numbers_in, device_partners, recast, is_port, wants_arrays, device_paired}
-use Rattle.vms_convert.proofs.Facade.{U8, ArePartners, AreOfKinds, carried_stands, device_at, kinds_at, Typed, default_at, state_of, steps_of, IsBack, Changes}
-use Rattle.vms_convert.proofs.Facade.{AreTargets, give_step, AreSources, IsWholeStream, Converts}
+use Rattle.vms_convert.proofs.Facade.{if◌then◌else◌, ◌<◌, map, slice_get_within, slice_get, get_or-map, length-map, Ok, Device, Set, Image, IsNormal}
+use Rattle.vms_convert.proofs.Facade.{image_slots, AreReady, longest_text, written, WellFormed, device_cells, Cell, no_cell, IsFit, same_lists, well_good}
+use Rattle.vms_convert.proofs.Facade.{Compatible, carried, carried_device, pair, back, all_in, upgrade_stands, recast_cells, recast_twice, AreBack, IsConverted}
+use Rattle.vms_convert.proofs.Facade.{IsPairAt, recast_each, OneBackLaw, BackLaw, AreRecastOf, numbers_in, device_partners, recast, is_port, wants_arrays}
+use Rattle.vms_convert.proofs.Facade.{device_paired, U8, ArePartners, AreOfKinds, carried_stands, device_at, kinds_at, Typed, default_at, state_of, steps_of}
+use Rattle.vms_convert.proofs.Facade.{IsBack, Changes, AreTargets, give_step, AreSources, IsWholeStream, Converts, at_option, IsStreamFor, PutsStream, Judges}
+use Rattle.vms_convert.proofs.Facade.{stream_of, ArePut}
 use Rattle.vms_convert.proofs.BackNormal.{back_may, at_get, gives, given_all, steps_long}
 use Rattle.vms_convert.proofs.HasBack.{one_back}
 use Rattle.vms_convert.proofs.Settling.{back_versions, some_at}
 use Rattle.vms_convert.proofs.BringLaws.{there}
+use Rattle.vms_load.specs.declared.fault.LoadFault.TheVariants as loads
+use Rattle.vms_convert.specs.declared.fault.ConvertFault.TheVariants as faults
 
 pub one_stands : OneBackLaw
 one_stands to fit i d there partners numbers x y p q =
@@ -120,7 +123,7 @@ module _ (to new : Set) (fit : IsFit to) (well : WellFormed new) (i k : ℕ) (d 
   sources_are numbers of =
       let long = paired.long in
       record {
-        long = long ∙ sym (length-map (device_cells to d) (λ (c : Cell). c.kind));
+        long = cc (length-map (device_cells to d) (λ (c : Cell). c.kind));
         inside = λ c j f. let inside = (paired.kinds c j (at_get ps c j f)).0 in omega arith;
         in_range = λ c j f.
             let h = paired.kinds c j (at_get ps c j f) in
@@ -136,9 +139,7 @@ module _ (to new : Set) (fit : IsFit to) (well : WellFormed new) (i k : ℕ) (d 
         inside = λ c j f. let inside = (paired.kinds c j (at_get ps c j f)).0 in omega (arith, length-map (device_cells new e) (λ (c : Cell). c.kind));
         in_range = λ c j f.
             let g = at_get ps c j f in
-            let h = paired.kinds c j g in
-            let inside = slice_get_within ps c (Some j) g in
-            rw (kind_at (device_cells new e) j, ← h.1) (normal.cells.fits c (omega arith)).0;
+            rw (kind_at (device_cells new e) j, ← (paired.kinds c j g).1) (normal.cells.fits c (omega (arith, slice_get_within ps c (Some j) g))).0;
       }
 
   -- what they are given from defaults on is what is carried
@@ -183,11 +184,22 @@ module _ (to new : Set) (i k : ℕ) (source : List ℤ) (p : IsReturning to new 
           (changes : Changes (give_step partners image.numbers) (steps_of (image_slots to (device_at to i) (state_of image))) carried target) where
         pub given_long : length source ≡ length target.numbers
         given_long =
-            let steps = steps_of (image_slots to d (state_of image)) in
-            rw (changes, steps_long partners image.numbers steps carried.numbers, fresh)
-            (omega (arith, p.kinds.long, length-map (device_cells new e) (λ (c : Cell). c.default)))
+            rw (changes, steps_long partners image.numbers (steps_of (image_slots to d (state_of image))) carried.numbers, fresh)
+            (omega (arith, length-map (device_cells new e) (λ (c : Cell). c.default)))
 
         pub given_is : target.numbers ≡ (carried_device to new d e (state_of image)).numbers
         given_is =
             rw (changes, partners_are, fresh)
             (given_carried to new p.fit p.well i k d e (there to i p.device) (there new k p.other) source (state_of image) back_of)
+
+-- ---- The answers of the call, from those of its parts.
+
+module _ (to new : Set) (name : Option (List ℕ)) (images backs : List Image)
+    (back : AreBack to new (recast_each to new.devices (numbers_in images)) backs) where
+  module _ (m : Option ℕ)
+      (h : Judges to new name (recast_each to new.devices (numbers_in images)) (numbers_in (carried to new backs)) backs (Ok m)) where
+    streams : IsStreamFor to new name images (stream_of to (at_option to.machines m) backs)
+    streams = record { backs = backs; back = back; keeps = h.0; is = rw (h.1.is) }
+
+    pub puts_kept : (ArePut : List ℕ → Type 0) → ArePut (stream_of to (at_option to.machines m) backs) → PutsStream to new name images ArePut
+    puts_kept ArePut p = record { bytes = stream_of to (at_option to.machines m) backs; is = streams; puts = p }

@@ -1,22 +1,22 @@
 -- The names of other crates, and of this crate's `specs`, that the proofs use.
-pub use Rattle.std.proofs.Common.{Bool, Err, IfSome, List, None, Ok, Option, Result, SFits, Some, [], add-one, ap, append_assoc, arith, bit_and, codes, drop}
-pub use Rattle.std.proofs.Common.{false, get_or, if◌then◌else◌, inl, inr, length, length-append, length-set, map, nat_lt, negsuc, not, pos, refl, replicate}
-pub use Rattle.std.proofs.Common.{rules, slice_set, subst, suc, sym, take, true, zero, ℕ, ℤ, ◌&&◌, ◌*◌, ◌++◌, ◌+◌, ◌-◌, ◌<◌, ◌==◌, ◌∙◌, ◌∷◌, ◌≡◌, ◌≤◌, ◌⊎◌}
+pub use Rattle.std.proofs.Common.{Bool, Err, IfSome, List, None, Ok, Option, Result, Some, [], add-one, ap, append_assoc, arith, codes, drop, false, get_or}
+pub use Rattle.std.proofs.Common.{if◌then◌else◌, inl, inr, length, length-append, length-set, map, nat_lt, negsuc, not, pos, refl, replicate, rules, slice_set}
+pub use Rattle.std.proofs.Common.{subst, suc, sym, take, true, zero, ℕ, ℤ, ◌&&◌, ◌*◌, ◌++◌, ◌+◌, ◌-◌, ◌<◌, ◌==◌, ◌∙◌, ◌∷◌, ◌≡◌, ◌≤◌, ◌⊎◌}
 pub use Rattle.std.proofs.Math.ListN.{get_or-map}
 pub use Rattle.std.proofs.Math.Seq.{get_or-append_seam}
-pub use Rattle.std.proofs.lemmas.Bool.{and_parts, cases_eq, cases_lt, eq-eqb, false_from_ne_true, leb-true, ltb-false, ltb-true, ne_eqb, not-false, or_parts}
+pub use Rattle.std.proofs.lemmas.Bool.{OnFalse_at, OnFalse_from, OnTrue_at, OnTrue_from, and_parts, cases_eq, cases_lt, eq-eqb, false_from_ne_true, leb-true}
+pub use Rattle.std.proofs.lemmas.Bool.{ltb-false, ltb-true, ne_eqb, not-false, or_parts}
 pub use Rattle.std.proofs.lemmas.Int.{to_z-of_z}
 pub use Rattle.std.proofs.lemmas.List.{append-nil, drop_all, drop_more, ext_get_or, get_or-set_other, get_or-set_same, get_or_append_left, get_or_default}
 pub use Rattle.std.proofs.lemmas.List.{length-map, map-append, replicate-append-replicate, take_all, take_more_set, with_items_is}
 pub use Rattle.std.proofs.lemmas.Option.{get_or_from_slice_get, slice_get-get_or, slice_get_within}
 pub use Rattle.std.proofs.lemmas.Result.{err_from_is_err_and, on_ok_weaker}
-pub use Rattle.std.specs.Bool.{OnFalse, OnTrue}
 pub use Rattle.std.specs.Borrow.{Bor}
 pub use Rattle.std.specs.Cmp.{signed_Decides}
 pub use Rattle.std.specs.Int.{w128}
 pub use Rattle.std.specs.List.{flat_map, list_any, range_with_len, slice_get}
 pub use Rattle.std.specs.Ordering.{int_eq}
-pub use Rattle.vms_kinds.specs.Codes.{InRange, residue, width}
+pub use Rattle.vms_kinds.specs.Codes.{InRange}
 pub use Rattle.vms_kinds.specs.declared.Item.{Item}
 pub use Rattle.vms_kinds.specs.declared.Item.TheVariants.{Num, Struct, Unused}
 pub use Rattle.vms_kinds.specs.declared.Kind.{Kind}
@@ -32,20 +32,20 @@ pub use Rattle.vms_spec.specs.Heads.{FitsHeads}
 pub use Rattle.vms_spec.specs.Images.{FitsCell, Image, IsNormal, RulesHold, came_slots, default_image, has_cell, image_slots, own_cells, own_slots, sub_place}
 pub use Rattle.vms_spec.specs.Images.{sub_slots}
 pub use Rattle.vms_spec.specs.Layout.{Cell, Meaning, Number, Rule, Slot, capacity_of, cells_from, counted, desc_cells, desc_slots, device_cells, elements_of}
-pub use Rattle.vms_spec.specs.Layout.{field_cells, field_slots, item_size, item_slots, kind_of, meaning, meanings, no_cell, no_desc, no_field, no_meaning}
-pub use Rattle.vms_spec.specs.Layout.{no_parent, numbers_of, place_of, slots_from, struct_cells, times}
+pub use Rattle.vms_spec.specs.Layout.{field_cells, field_slots, item_size, item_slots, meaning, meanings, no_cell, no_desc, no_field, no_meaning, no_parent}
+pub use Rattle.vms_spec.specs.Layout.{numbers_of, place_of, slots_from, struct_cells, times}
 unfoldable pub use Rattle.vms_spec.specs.Layout.{first}
 pub use Rattle.vms_spec.specs.Lists.{at_option}
 pub use Rattle.vms_spec.specs.Lookup.{find_device, find_sub, index}
 pub use Rattle.vms_spec.specs.Numbers.{exceeds}
 pub use Rattle.vms_spec.specs.Places.{own_cell_count}
 pub use Rattle.vms_spec.specs.Rules.{is_steady, is_steady_in, names_well, uses_below}
-pub use Rattle.vms_spec.specs.Sets.{And, AtLeast, Below, Desc, Device, Field, Formula, Not, Or, Set, Sub}
+pub use Rattle.vms_spec.specs.Sets.{And, Desc, Device, Field, Formula, Not, Or, Set, Sub}
 pub use Rattle.vms_spec.specs.Shipped.{divider, divisor, fcr, fifo, i8254_at_1, i8254_at_2, i8259_at_4, never, ring, serial, serial_fields, set_1, set_2, set_4}
 pub use Rattle.vms_spec.specs.Shipped.{thr_ipending, timeout, timer}
 pub use Rattle.vms_spec.specs.Sound.{AreSound, AreSoundFields, IsEarlier, IsSound, IsSoundField}
 pub use Rattle.vms_spec.specs.Streams.{AreReady, IsReady, is_needed, is_one_of, longest_text, written}
-pub use Rattle.vms_spec.specs.Tests.{compares, is_there, truth}
+pub use Rattle.vms_spec.specs.Tests.{is_there, truth}
 pub use Rattle.vms_spec.specs.WellFormed.{WellFormed, first_fault, here}
 pub use Rattle.vms_spec.specs.declared.Count.TheVariants.{Counted, One}
 pub use Rattle.vms_spec.specs.declared.Part.{Part}
@@ -67,7 +67,7 @@ pub use Rattle.vms_check.proofs.ListLaws.{passes}
 pub use Rattle.vms_check.proofs.WholeLaws.{sub_in}
 pub use Rattle.vms_check.specs.Carrying.{carried_at, carried_device, no_image}
 unfoldable pub use Rattle.vms_check.specs.Carrying.{carried}
-pub use Rattle.vms_check.specs.Comparing.{Compatible, Entry, entry_of, is_absent, is_found, is_in, is_nothing, present, present_from}
+pub use Rattle.vms_check.specs.Comparing.{Compatible, Entry, entry_of, is_absent, is_in, is_nothing, present, present_from}
 pub use Rattle.vms_check.specs.Partners.{Pairer, array_partners, desc_partners, field_partners, fields_left, item_partners, named_partners, no_pairer}
 pub use Rattle.vms_check.specs.Partners.{pairer_of, partners_from, unpaired}
 unfoldable pub use Rattle.vms_check.specs.Partners.{device_partners}
@@ -118,7 +118,7 @@ pub use Rattle.vms_desc.specs.Spots.{kinds_at}
 pub use Rattle.vms_desc.specs.declared.set.DescSet.{DescSet}
 pub use Rattle.vms_image.proofs.States.{at_state, image_at}
 pub use Rattle.vms_image.specs.Typed.{AreImagesOf, IsImageOf, Typed, default_at, state_of, typed}
-pub use Rattle.vms_io.specs.Told.{Outlet, outlet}
+pub use Rattle.vms_io.specs.Told.{outlet}
 pub use Rattle.vms_io.specs.Writing.{Puts, Stops}
 pub use Rattle.vms_load.proofs.HeadLemmas.{device_below}
 pub use Rattle.vms_load.proofs.SetFacts.{well_of}
@@ -135,7 +135,6 @@ pub use Rattle.vms_walk.specs.Inside.{Keeps}
 pub use Rattle.vms_walk.specs.Steps.{HasSpot, capacities_of, spot_slots, step_of, steps_of}
 pub use Rattle.vms_walk.specs.declared.step.WalkStep.{WalkStep}
 pub use Rattle.dev_base.specs.Cells.{AreOf}
-pub use Rattle.dev_base.specs.declared.limits.TheConstants.{NEWEST}
 pub use Rattle.dev_images.proofs.NormalSerial.{port-of}
 pub use Rattle.dev_images.proofs.ReadyOf.{AreSubs, count-of, kind-of, needed, versions}
 pub use Rattle.dev_images.specs.Images.{bare, image_of, needed_from}

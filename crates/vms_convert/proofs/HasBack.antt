@@ -60,17 +60,18 @@ module _ (ms : List Meaning) (h : MeanKnown ms) (above : MeanAbove ms) where
       → Alike c (field_slots ms d.fields v (numbers_of cs d k base) k i cell f) (field_slots ms d.fields v (numbers_of cs d n base) n i cell f)
   field_known d v base i cell c f n k sound up here s = elim (cases_lt c cell) [
     | inl l ↦ record {
-      is = (field_above ms above d.fields v (numbers_of cs d k base) k i cell f).below c l
-          ∙ sym ((field_above ms above d.fields v (numbers_of cs d n base) n i cell f).below c l);
+      is = cc (
+        (field_above ms above d.fields v (numbers_of cs d k base) k i cell f).below c l,
+        (field_above ms above d.fields v (numbers_of cs d n base) n i cell f).below c l,
+      );
     }
     | inr le ↦
         let before = numbers_of cs d n base in
         let now = numbers_of cs d k base in
-        let size = item_size cs f.item in
         let caps = counted i d.fields in
         let below = in_less base base cell c n k (omega arith) le s in
         let same : (j : ℕ) → IsEarlier d.fields i j → now j ≡ before j = λ j x. own_in cs d base i cell j n k here below x in
-        let known = items_known f.item caps (elements_of f.count before) cell size c n k (in_less base cell c c n k up (omega arith) s) in
+        let known = items_known f.item caps (elements_of f.count before) cell (item_size cs f.item) c n k (in_less base cell c c n k up (omega arith) s) in
         record {
           is = rw (there_same d.fields i v f.since before now same f.test sound.test, elements_same d.fields i before now same f.count sound.count)
               (either c (is_there f.test f.since v before no_parent) _ _ known).is;
@@ -104,31 +105,25 @@ meanings_known ds sound (suc k) le =
           (sound k (omega arith)) s;
     })
 
--- ---- a device
-
-pub same_from : (low c : ℕ) (n m : List ℤ) → SameBelow c n m → SameIn low c n m
-same_from low c n m s = record { same = λ i up lt. s.same i lt }
-
 module _ (set : Set) (structs : AreSound set.structs) where
   part_known : (d : Desc) → IsSound d → (v base c : ℕ) (n m : List ℤ) → SameBelow c n m
       → Alike c (desc_slots (meanings set.structs (length set.structs)) d v m base) (desc_slots (meanings set.structs (length set.structs)) d v n base)
   part_known d sound v base c n m s =
       let k = length set.structs in
       desc_known (meanings set.structs k) (meanings_known set.structs structs k (omega arith)) (meanings_above set.structs k) d v base c n m sound
-      (same_from base c n m s)
+      (record { same = λ i up lt. s.same i lt })
 
   abbrev pub AllSound : List Sub → Type 0
   AllSound subs = (j : ℕ) (s : Sub) → slice_get subs j ≡ Some s → IsSound s.desc
 
   came_known : (d : Device) (from c : ℕ) (n m : List ℤ) (subs : List Sub) (came : List (Option ℕ)) → AllSound subs → SameBelow c n m
       → Alike c (came_slots set d m from subs came) (came_slots set d n from subs came)
-  came_known d from c n m [] came sound s = alike c []
-  came_known d from c n m (t ∷ subs) [] sound s = alike c []
   came_known d from c n m (t ∷ subs) (None ∷ came) sound s =
       came_known d (from + length (desc_cells (struct_cells set) t.desc)) c n m subs came (λ j u e. sound (suc j) u e) s
   came_known d from c n m (t ∷ subs) (Some v ∷ came) sound s =
       let next = from + length (desc_cells (struct_cells set) t.desc) in
       either_part (part_known t.desc (sound 0 t refl) v from c n m s) (came_known d next c n m subs came (λ j u e. sound (suc j) u e) s)
+  came_known d from c n m _ _ sound s = alike c []
 
   -- the numbers before a cell determine whether it is in the bytes of an image
   pub image_known : (d : Device) → IsSound d.desc → AllSound d.subs → (v : ℕ) (came : List (Option ℕ)) (c : ℕ) (n m : List ℤ) → SameBelow c n m
@@ -164,10 +159,10 @@ pub made : {A : Type 0} (P : List A → ℕ → A → Type 0) (n : ℕ) → ((xs
 made P n stays next zero le = record { list = []; long = refl; each = λ i x e. absurd (cc) }
 made P n stays next (suc k) le =
     let h = made P n stays next k (omega arith) in
-    let x = next h.list (omega (arith, h.long)) in
+    let x = next h.list (omega arith) in
     record {
       list = h.list ++ x.0 ∷ [];
-      long = omega (arith, length-append h.list (x.0 ∷ []), h.long);
+      long = omega (arith, length-append h.list (x.0 ∷ []));
       each = appended (P (h.list ++ x.0 ∷ [])) h.list x.0 (length h.list) refl
           (λ i y at. stays h.list x.0 i y (slice_get_within h.list i y at) (h.each i y at)) x.1;
     }
@@ -192,7 +187,7 @@ module _ (to : Set) (structs : AreSound to.structs) (d : Device) (own : IsSound 
       let n = length (device_cells to d) in
       let h = made {A = ℤ} (λ now c z. z ≡ takes now c) n (λ now x c z lt e. e ∙ sym (takes_same c now (now ++ x ∷ []) (same_front now x c (omega arith))))
       (λ now lt. (takes now (length now), sym (takes_same (length now) now _ (same_front now _ (length now) (omega arith))))) n (omega arith) in
-      (h.list, record { long = h.long; each = λ c lt. h.each c _ (slice_get-get_or h.list c (pos 0) (omega (arith, h.long))) })
+      (h.list, record { long = h.long; each = λ c lt. h.each c _ (slice_get-get_or h.list c (pos 0) (omega arith)) })
 
 -- ---- what is settled, cell by cell
 
@@ -213,7 +208,7 @@ module _ (set : Set) (d : Device) (before : List ℤ) where
     | inr h ↦ (
       settled c h.0 h.1,
       record {
-        own = λ lt. absurd (omega (arith, h.2.low, sub_place_up set (own_cells set d) d.subs h.0));
+        own = λ lt. absurd (omega (arith, sub_place_up set (own_cells set d) d.subs h.0));
         subs = λ j s x.
             let same : h.0 ≡ j = one_part set (own_cells set d) d.subs h.0 j c h.1 s h.2.is x.is h.2.low h.2.high x.low x.high in
             let sub : h.1 ≡ s = cc (h.2.is, x.is) in rw (same, sub);
@@ -230,16 +225,14 @@ module _ (set : Set) (d : Device) (before : List ℤ) where
   has_settled long =
       let n = length (device_cells set d) in
       let h = made {A = ℤ} (λ now c z. SettledAt c z) n (λ now x c z lt p. p) (λ now lt. settled_at (length now) lt) n (omega arith) in
-      let at : (c : ℕ) → c < n → SettledAt c (get_or h.list c (pos 0)) = λ c lt. h.each c _ (slice_get-get_or h.list c (pos 0) (omega (arith, h.long))) in (
+      let at : (c : ℕ) → c < n → SettledAt c (get_or h.list c (pos 0)) = λ c lt. h.each c _ (slice_get-get_or h.list c (pos 0) (omega arith)) in (
         h.list,
         record {
-          long = h.long ∙ sym long;
+          long = cc;
           own = λ c lt. (at c (omega (arith, length-append {A = Cell}))).own lt;
           subs = λ j s c x. (at c (cell_inside j s c x)).subs j s x;
         },
       )
-
--- ---- an image
 
 pub has_back : ComesBackLaw
 has_back to fit i d there partners numbers =
@@ -252,24 +245,19 @@ has_back to fit i d there partners numbers =
 
 module _ (to : Set) (structs : AreSound to.structs) (d : Device) (own : IsSound d.desc) (subs : AllSound to structs d.subs) (partners : List (Option ℕ)) where
   module _ (numbers a b : List ℤ) (p : AreTaken to d partners numbers a) (q : AreTaken to d partners numbers b) where
-    one_cell : (c : ℕ) → c < length (device_cells to d) → SameBelow c a b → get_or b c (pos 0) ≡ get_or a c (pos 0)
-    one_cell c lt s =
-        rw (q.each c lt, image_known to structs d own subs d.desc.version (map (λ s. Some s.desc.version) d.subs) c a b s, p.each c lt)
-
     below : (m : ℕ) → m ≤ length (device_cells to d) → SameBelow m a b
     below zero le = record { same = λ c lt. absurd (omega arith) }
     below (suc m) le =
         let before : SameBelow m a b = below m (omega arith) in
-        record { same = λ c lt. by_last c m lt (λ less. before.same c less) (λ same. rw same (one_cell m le before)) }
+        let known = image_known to structs d own subs d.desc.version (map (λ s. Some s.desc.version) d.subs) m a b before in
+        record { same = λ c lt. by_last c m lt (λ less. before.same c less) (λ same. rw (same, q.each m le, known, p.each m le)) }
 
     -- the numbers that are taken
     pub one_taken : b ≡ a
-    one_taken =
-        let all = below (length (device_cells to d)) (omega arith) in
-        ext_get_or (pos 0) b a (omega arith) (λ c lt. all.same c (omega arith))
+    one_taken = ext_get_or (pos 0) b a (omega arith) (λ c lt. (below (length (device_cells to d)) (omega arith)).same c (omega arith))
 
   pub one_settled : (now a b : List ℤ) → length now ≡ length (device_cells to d) → AreSettled to d now a → AreSettled to d now b → b ≡ a
-  one_settled now a b long p q = ext_get_or (pos 0) b a (omega arith) (λ c lt. elim (own_or_sub to d c (omega (arith, long))) [
+  one_settled now a b long p q = ext_get_or (pos 0) b a (omega arith) (λ c lt. elim (own_or_sub to d c (omega arith)) [
     | inl own ↦ q.own c own ∙ sym (p.own c own)
     | inr h ↦ q.subs h.0 h.1 c h.2 ∙ sym (p.subs h.0 h.1 c h.2)
   ])
@@ -277,5 +265,4 @@ module _ (to : Set) (structs : AreSound to.structs) (d : Device) (own : IsSound 
   pub one_back : (numbers : List ℤ) (x y : Image) → IsBack to d partners numbers x → IsBack to d partners numbers y → y ≡ x
   one_back numbers x y p q =
       let same : q.now ≡ p.now = one_taken numbers p.now q.now p.are_taken q.are_taken in
-      let cells : y.numbers ≡ x.numbers = one_settled p.now x.numbers y.numbers p.are_taken.long p.settled (rw same at q.settled) in
-      q.is ∙ ap (image_of to d) cells ∙ sym p.is
+      q.is ∙ ap (image_of to d) (one_settled p.now x.numbers y.numbers p.are_taken.long p.settled (rw same at q.settled)) ∙ sym p.is

@@ -1,10 +1,10 @@
 -- What was found of the devices, as the relations say it.
-use Rattle.vms_convert.proofs.Facade.{◌≡◌, ℕ, ◌<◌, Bool, true, false, List, [], ◌∷◌, length, get_or, map, Option, Some, None, Result, Ok, Err, ℤ, refl, sym}
-use Rattle.vms_convert.proofs.Facade.{◌∙◌, arith, length-map, slice_get-get_or, slice_get_within, slice_get, OnFalse, OnTrue, IsFit, Device, Set, Image, Cell}
-use Rattle.vms_convert.proofs.Facade.{device_cells, find_device, set_4, AreReady, IsReady, WellFormed, device_at, IsNameAt, device_is, Typed, state_of}
-use Rattle.vms_convert.proofs.Facade.{shipped_holds, AreKept, name_of, device_below, image_at, carried, Compatible, AreOfKinds, back, pair, all_in, AreBack}
-use Rattle.vms_convert.proofs.Facade.{recast_each, AreWritable, FirstInvalid, Judges, KeepsMachine, KeepsName, first_cell_at, first_of, IsValidAt, Loses}
-use Rattle.vms_convert.proofs.Facade.{OfDevice, OfMachine, first_cell, numbers_in, AreReturned, AreReturnedTo, IsFirstLost, Loss, LostCell}
+use Rattle.vms_convert.proofs.Facade.{◌≡◌, ℕ, ◌<◌, List, [], ◌∷◌, length, get_or, map, Option, Some, None, Result, Ok, Err, ℤ, refl, sym, ◌∙◌, arith}
+use Rattle.vms_convert.proofs.Facade.{length-map, slice_get-get_or, slice_get_within, slice_get, IsFit, Device, Set, Image, Cell, device_cells, find_device}
+use Rattle.vms_convert.proofs.Facade.{set_4, AreReady, IsReady, WellFormed, device_at, IsNameAt, device_is, Typed, state_of, shipped_holds, AreKept, name_of}
+use Rattle.vms_convert.proofs.Facade.{device_below, carried, Compatible, AreOfKinds, back, pair, all_in, AreBack, recast_each, AreWritable, FirstInvalid}
+use Rattle.vms_convert.proofs.Facade.{Judges, KeepsMachine, KeepsName, first_cell_at, first_of, IsValidAt, Loses, OfDevice, OfMachine, first_cell, numbers_in}
+use Rattle.vms_convert.proofs.Facade.{AreReturned, AreReturnedTo, IsFirstLost, Loss, LostCell}
 use Rattle.vms_convert.proofs.Converts.{back_stands}
 use Rattle.vms_convert.proofs.LostLaws.{all_carried, cell_lost, no_device}
 use Rattle.vms_convert.proofs.RecastLaws.{newest_kinds, recast_long}
@@ -15,7 +15,7 @@ module _ (to new : Set) (wanted : List (List ℤ)) (images : List Typed) (lost :
   backs = map state_of images
 
   pub backs_long : length backs ≡ length to.devices
-  backs_long = length-map images state_of ∙ returned.count
+  backs_long = cc (length-map images state_of)
 
   pub are_back : AreBack to new wanted backs
   are_back = record {
@@ -70,7 +70,7 @@ module _ (to new : Set) (images : List Typed) (writable : AreWritable to images)
       → slice_get all i ≡ Some (state_of image) → IsReady to (device_at to i) (state_of image) → IsValidAt to new all k
   valid_of i image found at ready j d e back in_new found' in_old at' =
       let e_is = device_is new k e in_new in
-      let number : i ≡ j = cc (found, rw (← e_is) at found') in
+      let number : i ≡ j = cc in
       let back_is : state_of image ≡ back = cc (at, at') in
       let d_is : device_at to i ≡ d = rw number (device_is to j d in_old) in
       rw (← d_is, ← back_is) ready.valid
@@ -88,14 +88,9 @@ module _ (to new : Set) (images : List Typed) (writable : AreWritable to images)
       })
 
   pub valid_none : find_device 0 to.devices (device_at new k).desc.name (device_at new k).instance ≡ None → IsValidAt to new all k
-  valid_none none j d e back in_new found in_old at = let e_is = device_is new k e in_new in cc (none, rw (← e_is) at found)
-
--- ---- all together
+  valid_none none j d e back in_new found in_old at = let e_is = device_is new k e in_new in cc
 
 module _ (to new : Set) (name : Option (List ℕ)) (wanted there : List (List ℤ)) (backs : List Image) (same : wanted ≡ there) where
-  pub device_lost : (k : ℕ) → FirstInvalid to new backs (Some k) → Loses to new name wanted there backs (Some k) (first_cell (get_or wanted k []))
-  device_lost k h = OfDevice k h.0 same h.1 h.2
-
   pub machine_judged : FirstInvalid to new backs None → (r : Result (Option ℕ) Loss) → KeepsMachine to name r → Judges to new name wanted there backs r
   machine_judged valid (Ok m) h = (record { cells = same; valid = valid; machine_is = h.one }, h)
   machine_judged valid (Err loss) h =
@@ -113,21 +108,10 @@ keeps_machine to new names name k own names_are name_is h =
 
 -- ---- the answer, of what comes back of the images that a loader of the newest set keeps
 
-pub on_true : (b : Bool) (P Q : Type 0) → (P → Q) → OnTrue b P → OnTrue b Q
-on_true true P Q f h = f h
-on_true false P Q f h = h
-
-pub on_false : (b : Bool) (P Q : Type 0) → (P → Q) → OnFalse b P → OnFalse b Q
-on_false true P Q f h = h
-on_false false P Q f h = f h
-
 module _ (to : Set) (images : List Typed) (writable : AreWritable to images) (name : List ℕ) (instance own : ℕ)
     (found : find_device 0 to.devices name instance ≡ Some own) where
   pub own_bound : own < length images
-  own_bound = omega (arith, device_below to.devices name instance own found, writable.count)
-
-  pub own_image : (image : Typed) → image ≡ get_or images own image → slice_get images own ≡ Some image
-  own_image image is = image_at images own image own_bound is
+  own_bound = omega (arith, device_below to.devices name instance own found)
 
 -- what is first invalid of images in the newest set, as it is named elsewhere
 pub invalid_by : (to new : Set) (images : List Typed) (s : Set) (o found : Option ℕ) → s ≡ new → FirstInvalid to s (map state_of images) found → found ≡ o
@@ -135,10 +119,9 @@ pub invalid_by : (to new : Set) (images : List Typed) (s : Set) (o found : Optio
 invalid_by to new images s o found set_is h same = rw (← same, ← set_is) h
 
 same_first : (numbers : List ℤ) (cells : List Cell) → length numbers ≡ length cells → first_cell numbers ≡ first_of cells
-same_first [] [] e = refl
 same_first [] (c ∷ cells) e = absurd (omega arith)
 same_first (z ∷ numbers) [] e = absurd (omega arith)
-same_first (z ∷ numbers) (c ∷ cells) e = refl
+same_first _ _ e = refl
 
 -- images that a loader of the newest set keeps, and what comes back of them
 pub record ComesBack (to new : Set) (images : List Image) (typed : List Typed) (lost : Option LostCell) : Type 0 where
@@ -188,7 +171,7 @@ module _ (to new : Set) (images : List Image) (typed : List Typed) (lost : Optio
       let at : slice_get new.devices k ≡ Some (device_at new k) = slice_get-get_or new.devices k no_device h.0 in
       let cell : first_cell (get_or wants k []) ≡ first_cell_at new k =
       same_first (get_or wants k []) (device_cells new (device_at new k)) (newest_kinds to new p.newest images p.kept k (device_at new k) at).long in
-      rw (← cell) (device_lost to new name wants given states (kept_cells same) k h)
+      rw (← cell) (OfDevice k h.0 (kept_cells same) h.1 h.2)
 
   pub machine_last : (name : Option (List ℕ)) → lost ≡ None → FirstInvalid to new states None → (m : Result (Option ℕ) Loss) → KeepsMachine to name m
       → Judges to new name wants given states m

@@ -1,7 +1,6 @@
 pub mod Answered
 pub mod BackNormal
 pub mod BringLaws
-pub mod ConvertLaws
 pub mod Converts
 pub mod Facade
 pub mod HasBack
@@ -10,7 +9,6 @@ pub mod LostLaws
 pub mod PartnerLaws
 pub mod PartnerSteps
 pub mod RecastLaws
-pub mod ReturnsLaws
 pub mod Rows
 pub mod Settling
 pub mod TakeLaws

@@ -1,15 +1,20 @@
 -- What is lost first, from what is found of each of the older set's devices.
 use Rattle.vms_convert.proofs.Facade.{◌≡◌, ℕ, ◌+◌, ◌<◌, Bool, true, false, nat_lt, List, [], ◌∷◌, ◌++◌, length, get_or, map, Option, Some, None, ℤ, refl, sym}
 use Rattle.vms_convert.proofs.Facade.{ap, ◌∙◌, arith, if◌then◌else◌, get_or-append_seam, ltb-true, ltb-false, get_or_append_left, get_or_default, length-map}
-use Rattle.vms_convert.proofs.Facade.{get_or_from_slice_get, slice_get-get_or, slice_get_within, slice_get, back, Device, Set, Image, find_device, index}
-use Rattle.vms_convert.proofs.Facade.{WellFormed, here, device_found, device_at, device_is, carried, carried_at, carried_device, no_image, Compatible, is_found}
-use Rattle.vms_convert.proofs.Facade.{is_in, passes, found_device, found_some, pair, all_in, answers_none, at_map, DifferAt, Loses, OfCell, numbers_in}
-use Rattle.vms_convert.proofs.Facade.{FirstDifference, ArePaired, IsFirstLost, IsLostCell, carried_of, LostCell}
-use Rattle.vms_spec.specs.declared.Part.TheVariants as parts
-use Rattle.std.proofs.lemmas.List.{same_lists}
+use Rattle.vms_convert.proofs.Facade.{get_or_from_slice_get, slice_get-get_or, slice_get_within, slice_get, take_all, length-append, ◌≤◌, slice_set, take}
+use Rattle.vms_convert.proofs.Facade.{map-append, take_more_set, back, Device, Set, Image, find_device, index, WellFormed, here, device_found, device_at}
+use Rattle.vms_convert.proofs.Facade.{device_is, carried, carried_at, carried_device, no_image, Compatible, is_in, passes, found_device, found_some, pair}
+use Rattle.vms_convert.proofs.Facade.{all_in, answers_none, at_map, DifferAt, Loses, OfCell, numbers_in, FirstDifference, ArePaired, IsFirstLost, IsLostCell}
+use Rattle.vms_convert.proofs.Facade.{carried_of, LostCell, IsBack, device_partners, default_image, Typed, state_of, AreImagesOf, default_at, typed, IsReturned}
+use Rattle.vms_convert.proofs.Facade.{AreReturnedTo, AreReturned, IsRecastFor, kinds_at, recast, AreFresh, AreRoutes, IsRoute, Route, first, set_4, AreKept}
+use Rattle.vms_convert.proofs.Facade.{kinds, recast_each, at_other, IsImageOf}
+use Rattle.std.proofs.lemmas.List.{same_lists, length-set}
 use Rattle.vms_check_laws.proofs.Streaming.{rules}
 use Rattle.vms_convert.specs.Returns.{IsEarlier}
-use Rattle.vms_convert.proofs.HasBack.{extend}
+use Rattle.vms_convert.proofs.HasBack.{extend, appended}
+use Rattle.vms_convert.proofs.BringLaws.{there}
+use Rattle.vms_convert.proofs.RecastLaws.{newest_kinds, port_cells, port_is, recast_at}
+use Rattle.vms_spec.specs.declared.Part.TheVariants as parts
 
 abbrev pub no_device : Device
 no_device = device_at (record { machines = []; structs = []; devices = [] }) 0
@@ -17,8 +22,6 @@ no_device = device_at (record { machines = []; structs = []; devices = [] }) 0
 module _ (to new : Set) (wanted : List (List ℤ)) where
   same_partner : (i k l : ℕ) → ArePaired to new i k → ArePaired to new i l → k ≡ l
   same_partner i k l p q = cc
-
-  -- ---- one device more
 
   module _ (backs : List Image) (x : Image) (n k : ℕ) (long : length backs ≡ n) (pair : ArePaired to new n k) where
     abbrev more : List Image
@@ -87,8 +90,6 @@ module _ (to new : Set) (wanted : List (List ℤ)) where
     lost_next None (Some c) next h e is = rw is (lost_here c e (λ i j lt less p. h i j lt p))
     lost_next (Some l) (Some c) next h e is = rw is (earlier_of l c h e (nat_lt l.device k) refl)
 
--- ---- all devices
-
 module _ (to new : Set) (well_to : WellFormed to) (well_new : WellFormed new) (compatible : Compatible to new) where
   -- the older set's device of the name and instance of device k
   pub record Older (k : ℕ) (e : Device) : Type 0 where
@@ -101,16 +102,14 @@ module _ (to new : Set) (well_to : WellFormed to) (well_new : WellFormed new) (c
   pub older : (k : ℕ) (e : Device) → slice_get new.devices k ≡ Some e → Older k e
   older k e at =
       let h = answers_none _ 0 new.devices (rules to new well_to well_new compatible).news k e at in
-      let is : is_found (find_device 0 to.devices e.desc.name e.instance) ≡ true =
-      (passes 3 (is_in to e) [] (here parts.Set) (here (parts.Device (0 + k))) h).0 in
-      let r = found_some (find_device 0 to.devices e.desc.name e.instance) is in
+      let r = found_some (find_device 0 to.devices e.desc.name e.instance) ((passes 3 (is_in to e) [] (here parts.Set) (here (parts.Device (0 + k))) h).0) in
       let f = found_device 0 to.devices e.desc.name e.instance r.0 r.1 in
-      let same : r.0 ≡ f.0 = omega (arith, f.1) in
+      let same : r.0 ≡ f.0 = omega arith in
       record {
         i = f.0;
         d = f.2.device;
         stands = f.2.stands;
-        found = r.1 ∙ ap (λ (n : ℕ). Some n) same;
+        found = cc;
         back = rw (f.2.name_is, f.2.instance_is) (device_found new well_new k e at);
       }
 
@@ -120,38 +119,38 @@ module _ (to new : Set) (well_to : WellFormed to) (well_new : WellFormed new) (c
       let e_is = device_is new k e at in
       record {
         in_old = o.stands ∙ ap (λ (d : Device). Some d) (sym d_is);
-        found = ap (λ (d : Device). find_device 0 new.devices d.desc.name d.instance) d_is ∙ o.back;
-        in_new = at ∙ ap (λ (e : Device). Some e) (sym e_is);
+        found = rw d_is (o.back);
+        in_new = cc;
       }
 
   module _ (backs : List Image) where
-    abbrev there : List (List ℤ)
-    there = numbers_in (carried to new backs)
+    abbrev given : List (List ℤ)
+    given = numbers_in (carried to new backs)
 
-    pub there_is : (k : ℕ) (e : Device) (at : slice_get new.devices k ≡ Some e) (o : Older k e) → get_or there k [] ≡ carried_of to new backs o.i k
+    pub there_is : (k : ℕ) (e : Device) (at : slice_get new.devices k ≡ Some e) (o : Older k e) → get_or given k [] ≡ carried_of to new backs o.i k
     unfolding carried
     there_is k e at o =
         let carry : Device → Image =
         λ e. (let found = find_device 0 to.devices e.desc.name e.instance in carried_at to new backs e found (slice_get to.devices (index found))) in
         let image = carry e in
         let stands = at_map (λ (image : Image). image.numbers) (map carry new.devices) k image (at_map carry new.devices k e at) in
-        rw (get_or_from_slice_get there k image.numbers [] stands, o.found, o.stands, device_is to o.i o.d o.stands, device_is new k e at)
+        rw (get_or_from_slice_get given k image.numbers [] stands, o.found, o.stands, device_is to o.i o.d o.stands, device_is new k e at)
 
     older_inside : (k : ℕ) (e : Device) (o : Older k e) → o.i < length to.devices
     older_inside k e o = slice_get_within to.devices o.i o.d o.stands
 
-    pub there_long : length there ≡ length new.devices
+    pub there_long : length given ≡ length new.devices
     unfolding carried
     there_long = length-map (carried to new backs) (λ (image : Image). image.numbers) ∙ length-map new.devices _
 
     module _ (wanted : List (List ℤ)) (long : length wanted ≡ length new.devices) where
       -- nothing is lost of the cells
-      pub all_carried : IsFirstLost to new wanted (length to.devices) backs None → wanted ≡ there
+      pub all_carried : IsFirstLost to new wanted (length to.devices) backs None → wanted ≡ given
       all_carried h =
-          same_lists wanted there (long ∙ sym there_long)
-          (λ k d lt. get_or_default wanted k d [] lt ∙ one k (omega arith) ∙ get_or_default there k [] d (omega (arith, there_long)))
+          same_lists wanted given (long ∙ sym there_long)
+          (λ k d lt. get_or_default wanted k d [] lt ∙ one k (omega arith) ∙ get_or_default given k [] d (omega (arith, there_long)))
         where
-          one : (k : ℕ) → k < length new.devices → get_or wanted k [] ≡ get_or there k []
+          one : (k : ℕ) → k < length new.devices → get_or wanted k [] ≡ get_or given k []
           one k lt =
               let at : slice_get new.devices k ≡ Some (device_at new k) = slice_get-get_or new.devices k no_device lt in
               let o = older k (device_at new k) at in
@@ -159,18 +158,18 @@ module _ (to new : Set) (well_to : WellFormed to) (well_new : WellFormed new) (c
 
       -- this cell is lost first
       pub cell_lost : (machine : Option (List ℕ)) (l : LostCell) → IsFirstLost to new wanted (length to.devices) backs (Some l)
-          → Loses to new machine wanted there backs (Some l.device) (Some l.cell)
+          → Loses to new machine wanted given backs (Some l.device) (Some l.cell)
       cell_lost machine l h = OfCell l.device l.cell before differ where
         within : l.device < length new.devices
         within = slice_get_within new.devices l.device (device_at new l.device) h.pair.in_new
 
-        before : (k : ℕ) → k < l.device → get_or wanted k [] ≡ get_or there k []
+        before : (k : ℕ) → k < l.device → get_or wanted k [] ≡ get_or given k []
         before k less =
             let at : slice_get new.devices k ≡ Some (device_at new k) = slice_get-get_or new.devices k no_device (omega (arith, within)) in
             let o = older k (device_at new k) at in
             h.before o.i k (older_inside k (device_at new k) o) less (older_pair k (device_at new k) at o) ∙ sym (there_is k (device_at new k) at o)
 
-        differ : DifferAt (get_or wanted l.device []) (get_or there l.device []) l.cell
+        differ : DifferAt (get_or wanted l.device []) (get_or given l.device []) l.cell
         differ =
             let at = h.pair.in_new in
             let o = older l.device (device_at new l.device) at in
@@ -180,3 +179,119 @@ module _ (to new : Set) (well_to : WellFormed to) (well_new : WellFormed new) (c
             let device : p.device ≡ device_at new l.device = cc (p.stands, at) in
             let same : o.i ≡ h.i = cc (o.found, rw device at (back to new well_to all h.i (device_at to h.i) h.pair.in_old p)) in
             rw (there_is l.device (device_at new l.device) at o, same) h.differs
+
+-- ---- One device more is brought to the older set.
+
+module _ (to new : Set) (wanted : List (List ℤ)) where
+  pub returned_next : (n k : ℕ) (images : List Typed) (lost next : Option LostCell) (x : Typed) (cell : Option ℕ) → AreReturnedTo to new wanted n images lost
+      → ArePaired to new n k
+      → IsReturned to new n k (get_or wanted k []) x cell → IsEarlier lost k cell next → AreReturnedTo to new wanted (n + 1) (images ++ x ∷ []) next
+  returned_next n k images lost next x cell h pair is earlier =
+      let all = map state_of images in
+      let states : map state_of (images ++ x ∷ []) ≡ all ++ state_of x ∷ [] = map-append state_of images (x ∷ []) in
+      let long : length all ≡ n = cc (length-map images state_of) in
+      record {
+        count = omega (arith, length-append images (x ∷ []));
+        of = appended (IsImageOf to) images x n h.count h.of is.of;
+        back = λ i l image p e.
+            appended (λ i image. (l : ℕ) → ArePaired to new i l
+            → IsBack to (device_at to i) (device_partners to new (device_at to i) (device_at new l)) (get_or wanted l []) image) all (state_of x) n long
+            (λ i image e l p. h.back i l image p e) (λ l p. (let same : k ≡ l = cc in rw (← same) is.back)) i image (rw states at e) l p;
+        first_lost = rw states (lost_next to new wanted all (state_of x) n k long pair lost cell next h.first_lost is.lost earlier);
+      }
+
+-- ---- the newest set's device of a name
+
+pub pair_found : (to new : Set) (i k : ℕ) → i < length to.devices → find_device 0 new.devices (device_at to i).desc.name (device_at to i).instance ≡ Some k
+    → ArePaired to new i k
+pair_found to new i k lt found =
+    let f = found_device 0 new.devices (device_at to i).desc.name (device_at to i).instance k found in
+    let within : k < length new.devices = omega (arith, slice_get_within new.devices f.0 f.2.device f.2.stands) in
+    record { in_old = there to i lt; found = found; in_new = slice_get-get_or new.devices k no_device within }
+
+pub always_found : (to new : Set) → WellFormed to → WellFormed new → Compatible to new → (i : ℕ) → i < length to.devices
+    → find_device 0 new.devices (device_at to i).desc.name (device_at to i).instance ≡ None → ⊥
+always_found to new well_to well_new compatible i lt none =
+    let p = pair to new well_to (all_in to new well_to well_new compatible) i (device_at to i) (there to i lt) in cc (none, p.found)
+
+-- ---- Routes and images before the input is read, and while devices are brought to the older set.
+
+module _ (to new : Set) where
+  pub route_more : (n : ℕ) (routes : List Route) (r : Route) → AreRoutes to new n routes → IsRoute to new n r.other r
+      → AreRoutes to new (n + 1) (routes ++ r ∷ [])
+  route_more n routes r h is = record {
+    count = omega (arith, length-append routes (r ∷ []));
+    each = appended (λ i x. IsRoute to new i x.other x) routes r n h.count h.each is;
+  }
+
+pub fresh_of : (set : Set) (images : List Typed) → map state_of images ≡ map (default_image set) set.devices → AreImagesOf set images → AreFresh set images
+fresh_of set images states of = record {
+  count = of.one_each;
+  each = λ i image at.
+      let lt : i < length set.devices = omega (arith, slice_get_within images i image at) in
+      let same : state_of image ≡ default_image set (device_at set i) =
+      cc (rw states at (at_map state_of images i image at), at_map (default_image set) set.devices i (device_at set i) (there set i lt)) in
+      rw ((of.each i image at).kinds) (ap (typed (kinds_at set i)) same);
+}
+
+-- the first n devices have been brought, and all others not
+pub record Midway (to new : Set) (wanted : List (List ℤ)) (n : ℕ) (routes : List Route) (images : List Typed) (lost : Option LostCell) : Type 0 where
+  pub long : length images ≡ length to.devices
+  pub as_long : length routes ≡ length to.devices
+  pub routes_are : (i : ℕ) (r : Route) → n ≤ i → slice_get routes i ≡ Some r → IsRoute to new i r.other r
+  pub fresh : (i : ℕ) (image : Typed) → n ≤ i → slice_get images i ≡ Some image → image ≡ default_at to i
+  pub brought : AreReturnedTo to new wanted n (take n images) lost
+
+set_above : {A : Type 0} (xs : List A) (n i : ℕ) (x y : A) → n < i → slice_get (slice_set xs n x) i ≡ Some y → slice_get xs i ≡ Some y
+set_above xs n i x y lt e = cc (at_other xs n i x (λ same. absurd (omega arith)))
+
+module _ (to new : Set) (wanted : List (List ℤ)) where
+  pub midway_first : (routes : List Route) (images : List Typed) → AreRoutes to new (length to.devices) routes → AreFresh to images
+      → Midway to new wanted 0 routes images None
+  midway_first routes images r f = record {
+    long = f.count;
+    as_long = r.count;
+    routes_are = λ i x le e. r.each i x e;
+    fresh = λ i x le e. f.each i x e;
+    brought = record { count = refl; of = λ i image e. absurd (cc); back = λ i k image p e. absurd (cc); first_lost = λ i k lt. absurd (omega arith) };
+  }
+
+  pub midway_next : (n k : ℕ) (routes : List Route) (images : List Typed) (lost next : Option LostCell) (route : Route) (image : Typed) (cell : Option ℕ)
+      → Midway to new wanted n routes images lost → n < length to.devices → ArePaired to new n k
+      → IsReturned to new n k (get_or wanted k []) image cell → IsEarlier lost k cell next
+      → Midway to new wanted (n + 1) (slice_set routes n route) (slice_set images n image) next
+  midway_next n k routes images lost next route image cell m lt pair is earlier = record {
+    long = cc (length-set images n image);
+    as_long = cc (length-set routes n route);
+    routes_are = λ i x le e. m.routes_are i x (omega arith) (set_above routes n i route x (omega arith) e);
+    fresh = λ i x le e. m.fresh i x (omega arith) (set_above images n i image x (omega arith) e);
+    brought = rw (take_more_set images n image (omega arith)) (returned_next to new wanted n k (take n images) lost next image cell m.brought pair is earlier);
+  }
+
+  pub midway_last : (n : ℕ) (routes : List Route) (images : List Typed) (lost : Option LostCell) → Midway to new wanted n routes images lost
+      → n ≡ length to.devices → AreReturned to new wanted images lost
+  midway_last n routes images lost m all = let whole : take n images ≡ images = take_all n images (omega arith) in rw (← all, ← whole) m.brought
+
+-- ---- The numbers of a device of the newest set that a loader keeps, as they are brought to an older set.
+
+four_kinds : kinds_at set_4 4 ≡ kinds 4
+unfolding first
+four_kinds = refl
+
+module _ (to new : Set) (is : new ≡ set_4) (images : List Image) (kept : AreKept new images) (k : ℕ) (lt : k < length new.devices) (image : Image)
+    (at : slice_get images k ≡ Some image) where
+  abbrev wanted : List (List ℤ)
+  wanted = recast_each to new.devices (numbers_in images)
+
+  pub wanted_is : get_or (recast_each to new.devices (numbers_in images)) k [] ≡ recast to (device_at new k) image.numbers
+  wanted_is =
+      recast_at to new.devices (numbers_in images) k (device_at new k) image.numbers (there new k lt) (at_map (λ (x : Image). x.numbers) images k image at)
+
+  pub recast_for : IsRecastFor to new k image.numbers
+  recast_for = record {
+    inside = lt;
+    kinds = rw (← wanted_is) (newest_kinds to new is images kept k (device_at new k) (there new k lt));
+    port = λ port.
+        let four : k ≡ 4 = port_is k (rw is at lt) (rw is at port) in
+        (rw (is, four) four_kinds, port_cells images (rw is at kept) k image four at);
+  }

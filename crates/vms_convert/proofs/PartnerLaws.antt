@@ -1,7 +1,7 @@
 -- The partners of the rest of two descriptions, field by field.
 use Rattle.vms_convert.proofs.Facade.{add-one, ◌≡◌, ℕ, zero, suc, ◌+◌, ◌-◌, ◌*◌, ◌<◌, ◌≤◌, List, [], ◌∷◌, ◌++◌, length, length-append, get_or, drop, true}
-use Rattle.vms_convert.proofs.Facade.{false, Option, Some, None, refl, sym, ap, ◌∙◌, arith, ltb-true, drop_all, drop_more, Item, Struct, Cell, first, no_desc}
-use Rattle.vms_convert.proofs.Facade.{no_field, capacity_of, item_size, field_cells, cells_from, struct_cells, uses_below, Formula, Field, Desc, Set, ItemBelow}
+use Rattle.vms_convert.proofs.Facade.{false, Option, Some, None, refl, sym, ◌∙◌, arith, ltb-true, drop_more, Item, Struct, Cell, first, no_desc, no_field}
+use Rattle.vms_convert.proofs.Facade.{capacity_of, item_size, field_cells, cells_from, struct_cells, uses_below, Formula, Field, Desc, Set, ItemBelow}
 use Rattle.vms_convert.proofs.Facade.{FieldsBelow, all_below, first_at, is_well_formed, struct_clean, Entry, entry_of, is_absent, is_nothing, present}
 use Rattle.vms_convert.proofs.Facade.{present_from, presence, Pairer, no_pairer, pairer_of, unpaired, item_partners, array_partners, field_partners}
 use Rattle.vms_convert.proofs.Facade.{fields_left, partners_from, desc_partners, table, struct_on}
@@ -64,7 +64,7 @@ module _ (structs : List Pairer) (x y : List (List Cell)) where
 
 module _ (k : ℕ) (ts us : List Pairer) (same : (i : ℕ) → i < k → get_or ts i no_pairer ≡ get_or us i no_pairer) (x y : List (List Cell)) where
   item_same : (a b : Item) (at : ℕ) → ItemBelow k a → item_partners ts x y a b at ≡ item_partners us x y a b at
-  item_same (Struct i) (Struct j) at lt = ap (λ (p : Pairer). p j at) (same i lt)
+  item_same (Struct i) (Struct j) at lt = rw (same i lt)
   item_same _ _ at lt = refl
 
   array_same : (a b : Item) (n m at : ℕ) → ItemBelow k a → array_partners ts x y a b n m at ≡ array_partners us x y a b n m at
@@ -92,9 +92,7 @@ module _ (old new : Set) (well : is_well_formed old ≡ true) where
   row earlier d = pairer_of earlier (struct_cells old) (struct_cells new) new.structs d
 
   agrees : (i : ℕ) → i < length old.structs → (l : ℕ) → l < i → get_or (first row old.structs i) l no_pairer ≡ get_or (table old new) l no_pairer
-  agrees i lt l less =
-      let lt' : l < length old.structs = omega arith in
-      first_at row old.structs no_pairer i l less ∙ sym (first_at row old.structs no_pairer (length old.structs) l lt')
+  agrees i lt l less = first_at row old.structs no_pairer i l less ∙ sym (first_at row old.structs no_pairer (length old.structs) l (omega arith))
 
   -- a structure, each side at its own version
   pub structs_paired : (i j v w at : ℕ) → i < length old.structs → v ≡ (get_or old.structs i no_desc).version → w ≡ (get_or new.structs j no_desc).version
@@ -134,16 +132,9 @@ module _ (y : List (List Cell)) (all : List Field) (w : ℕ) where
   abbrev state_at : ℕ → Option (Option Formula)
   state_at i = presence w (at_number i).test (at_number i).since
 
-  -- the entries from field i on, and from the next one on
-  entries_here : (i p : ℕ) → i < length all → entries_on i p ≡ entry_of i p (at_number i) (state_at i) ++ entries_on (i + 1) (p + size_at i)
-  entries_here i p lt = rw (drop_more all i no_field lt, add-one)
-
   pub entries_found : (i p : ℕ) → i < length all → (h : IsThere (state_at i))
       → entries_on i p ≡ record { index = i; place = p; field = at_number i; rest = h.rest } ∷ entries_on (i + 1) (p + size_at i)
-  entries_found i p lt h = rw (entries_here i p lt, h.is)
-
-  pub entries_end : (i p : ℕ) → length all ≤ i → entries_on i p ≡ []
-  entries_end i p le = rw (drop_all i all le)
+  entries_found i p lt h = rw (drop_more all i no_field lt, add-one, h.is)
 
   -- the cells of the fields from field i on
   pub cells_here : (i : ℕ) → i < length all → length (cells_from y all i (drop i all)) ≡ size_at i + length (cells_from y all (i + 1) (drop (i + 1) all))

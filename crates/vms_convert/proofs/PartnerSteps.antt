@@ -1,15 +1,15 @@
 -- Pairing step by step, as the code has it.
-use Rattle.vms_convert.proofs.Facade.{append_assoc, ◌≡◌, ℕ, ◌+◌, ◌-◌, ◌*◌, ◌<◌, ◌≤◌, List, [], ◌∷◌, ◌++◌, length, get_or, drop, replicate, true, false, Option}
+use Rattle.vms_convert.proofs.Facade.{append_assoc, ◌≡◌, ℕ, ◌+◌, ◌-◌, ◌*◌, ◌<◌, ◌≤◌, List, [], ◌∷◌, ◌++◌, length, get_or, replicate, true, false, Option}
 use Rattle.vms_convert.proofs.Facade.{slice_get, Some, None, ap, arith, append-nil, drop_all, Bor, flat_map, slice_get-get_or, Cell, no_desc, no_field}
 use Rattle.vms_convert.proofs.Facade.{capacity_of, item_size, desc_cells, field_cells, struct_cells, find_sub, Field, Sub, Set, DescSet, few_cells}
 use Rattle.vms_convert.proofs.Facade.{own_inside_device, sub_inside, struct_is, MOST_ITEMS, field_size, in_u32, Part, uses_below, described, device_at, well_of}
-use Rattle.vms_convert.proofs.Facade.{is_well_formed, HasPart, desc_at, sub_at, reach, field_clean, reach_whole, uses_more, Entry, is_absent, present_from}
-use Rattle.vms_convert.proofs.Facade.{device_partners, named_partners, array_on, item_on, AreArrays, HasRoom, PairsElement, arrays_on, elements_left, HasFew}
-use Rattle.vms_convert.proofs.Facade.{IsStart, IsNextStart, IsBehind, PairsField, entries_at, partners_left, partners_on, sub_on, IsSide, desc_on, own_side}
-use Rattle.vms_convert.proofs.Facade.{Arrays, Start, Side}
+use Rattle.vms_convert.proofs.Facade.{is_well_formed, HasPart, desc_at, sub_at, reach, field_clean, reach_whole, uses_more, Entry, is_absent, device_partners}
+use Rattle.vms_convert.proofs.Facade.{named_partners, array_on, item_on, AreArrays, HasRoom, PairsElement, arrays_on, elements_left, HasFew, IsStart}
+use Rattle.vms_convert.proofs.Facade.{IsNextStart, IsBehind, PairsField, entries_at, partners_left, partners_on, sub_on, IsSide, desc_on, own_side, Arrays}
+use Rattle.vms_convert.proofs.Facade.{Start, Side}
 use Rattle.vms_spec.specs.declared.Part.TheVariants as parts
 use Rattle.vms_desc.specs.Asks.{first_cell}
-use Rattle.vms_convert.proofs.PartnerLaws.{depth, depth_within, something, entries_found, entries_end, cells_here, left_absent, left_alone}
+use Rattle.vms_convert.proofs.PartnerLaws.{depth, depth_within, something, entries_found, cells_here, left_absent, left_alone}
 use Rattle.vms_convert.proofs.PartnerLaws.{left_paired, desc_left, element_paired, element_alone, all_but_one, one_of_all}
 
 pub few_are : (n : ℕ) → n ≤ MOST_ITEMS → in_u32 n ≡ n
@@ -48,14 +48,13 @@ module _ (s : Side) where
       let here = cells_here cs all s.version k lt in
       let room = h.room in
       let few = few_are (size_at k) (omega arith) in
-      let place : next.cell ≡ start.cell + cells_at k = omega arith in
       record {
         start = record {
           inside = omega arith;
           room = rw field (omega arith);
         };
         field = field;
-        cell = place;
+        cell = omega arith;
       }
 
   -- the place after a field is small
@@ -64,14 +63,7 @@ module _ (s : Side) where
       let k = start.field in
       let size = field_size cs all k (field_at k) in
       let here = cells_here cs all s.version k lt in
-      let few = few_are (size_at k) (omega arith) in
-      omega arith
-
-  abbrev entries_on : ℕ → ℕ → List Entry
-  entries_on n p = present_from cs all s.version n p (drop n all)
-
-  pub entries_behind : (start next : Start) → IsBehind s start next → entries_at s next ≡ entries_on (start.field + 1) (start.cell + cells_at start.field)
-  entries_behind start next h = rw (h.field, h.cell)
+      omega (arith, few_are (size_at k) (omega arith))
 
 -- which structures a field uses
 pub uses_here : (set : Set) → is_well_formed set ≡ true → (part : Part) → HasPart set part → (k : ℕ) → k < length (desc_at set part).fields
@@ -112,7 +104,7 @@ module _ (s t : Side) (k : ℕ) (lt : k < length (desc_on s).fields) (few : HasF
   pub alone_pairs : (start next : Start) → IsNextStart t start next → length (desc_on t).fields ≤ next.field → is_absent s.version f ≡ false
       → after ≡ before ++ replicate (in_u32 n) None → PairsField s t k start next before after
   alone_pairs start next h end e put =
-      let none : entries_at t next ≡ [] = entries_end (struct_cells new) (desc_on t).fields t.version next.field next.cell end in
+      let none : entries_at t next ≡ [] = rw (drop_all next.field (desc_on t).fields end) in
       record {
         start = h.start;
         so_far = rw (all_put put, ← h.same, none, left_alone _ _ _ (desc_on s).fields s.version k lt e, append_assoc);
@@ -126,13 +118,11 @@ module _ (s t : Side) (k : ℕ) (lt : k < length (desc_on s).fields) (few : HasF
       let found = something _ (h.there inside) in
       let entry : Entry = record { index = next.field; place = next.cell; field = g next.field; rest = found.rest } in
       let entries : entries_at t start ≡ entry ∷ entries_at t more =
-      rw (← h.same, entries_behind t next more behind) (entries_found (struct_cells new) (desc_on t).fields t.version next.field next.cell inside found) in
+      rw (← h.same, behind.field, behind.cell) (entries_found (struct_cells new) (desc_on t).fields t.version next.field next.cell inside found) in
       record {
         start = behind.start;
         so_far = rw (put, entries, left_paired _ _ _ (desc_on s).fields s.version k lt entry (entries_at t more) e, append_assoc);
       }
-
--- ---- whole descriptions
 
 pub all_paired : (s t : Side) (before after : List (Option ℕ)) (k first : ℕ) (start : Start) → length (desc_on s).fields ≤ k
     → after ++ partners_left s t k start ≡ before ++ partners_left s t 0 (record { field = 0; cell = first }) → after ≡ before ++ partners_on s t first
@@ -154,25 +144,17 @@ module _ (a : Arrays) (are : AreArrays a) (i at : ℕ) (lt : i < a.one.count) (r
   abbrev size_new : ℕ
   size_new = item_size (struct_cells newer) a.other.item
 
-  -- one is small
-  pub element_few : size_old ≤ MOST_ITEMS
-  element_few = let few = are.few in omega (arith, one_of_all a.one.count size_old (omega arith))
-
-  pub element_room : i < a.other.count → at + size_new ≤ MOST_ITEMS
-  element_room less = omega (arith, all_but_one a.other.count i size_new less)
-
   pub element_pairs : i < a.other.count → after ≡ before ++ item_on older newer a.one.item a.other.item at
       → PairsElement a i at (at + in_u32 size_new) before after
   element_pairs less put =
-      let small = few_are size_new (omega (arith, element_room less)) in
-      rw small (record {
+      rw (few_are size_new (omega (arith, all_but_one a.other.count i size_new less))) (record {
         room = omega (arith, all_but_one a.other.count i size_new less);
         so_far = rw (put, element_paired _ _ _ a.one.item a.other.item a.one.count a.other.count i at lt less, append_assoc);
       })
 
   pub element_alone_pairs : a.other.count ≤ i → after ≡ before ++ replicate (in_u32 size_old) None → PairsElement a i at at before after
   element_alone_pairs le put =
-      let small = few_are size_old element_few in
+      let small = few_are size_old (omega (arith, one_of_all a.one.count size_old (omega arith))) in
       let none : a.other.count - (i + 1) ≡ a.other.count - i = omega arith in
       record {
         room = rw none room;
@@ -183,9 +165,6 @@ module _ (a : Arrays) (are : AreArrays a) (i at : ℕ) (lt : i < a.one.count) (r
 
 pub few_own : (set : Bor DescSet) (i : ℕ) → HasFew (own_side set (parts.Device i)) 0
 few_own set i = omega (arith, own_inside_device (described set.now) i, few_cells (described set.now) set.now.well_formed i)
-
-pub room_own : (set : Bor DescSet) (i : ℕ) → 0 + length (desc_cells (struct_cells (described set.now)) (device_at (described set.now) i).desc) ≤ MOST_ITEMS
-room_own set i = omega (arith, few_own set i)
 
 pub room_sub : (set : Bor DescSet) (i j : ℕ) → j < length (device_at (described set.now) i).subs → first_cell (described set.now) (parts.Sub i j) + length
     (desc_cells (struct_cells (described set.now)) (sub_at (device_at (described set.now) i) j).desc) ≤ MOST_ITEMS

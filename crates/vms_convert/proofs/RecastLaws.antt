@@ -1,9 +1,9 @@
 -- Recast numbers of normal images of the newest set are of its devices' kinds.
-use Rattle.vms_convert.proofs.Facade.{◌≡◌, zero, suc, Bool, true, false, List, [], ◌∷◌, get_or, map, Some, ℤ, pos, refl, sym, subst, arith, if◌then◌else◌, ℕ}
-use Rattle.vms_convert.proofs.Facade.{◌<◌, length, ap, ◌∙◌, Option, None, IfSome, slice_get, Kind, Device, Set, Cell, first, device_cells, Image, IsNormal}
-use Rattle.vms_convert.proofs.Facade.{set_4, timer, i8259_at_4, i8254_at_2, AreOf, kind-of, count-of, kinds, IsPortCells, recast_cells, recast_kinds}
-use Rattle.vms_convert.proofs.Facade.{AreRecastOf, RecastOfLaw, OneLostLaw, AreOfKinds, recast, wants_arrays, is_port, AreKept, serial_at_4, port-of}
-use Rattle.vms_convert.proofs.Facade.{recast_each, is_one_of, one_number, DifferAt, first_cell, Loses, OfCell, OfDevice, OfMachine, KeepsAll}
+use Rattle.vms_convert.proofs.Facade.{◌≡◌, zero, suc, Bool, true, false, List, [], ◌∷◌, get_or, map, Some, ℤ, refl, sym, arith, if◌then◌else◌, ℕ, ◌<◌, length}
+use Rattle.vms_convert.proofs.Facade.{ap, ◌∙◌, Option, None, IfSome, slice_get, Device, Set, Cell, first, device_cells, Image, IsNormal, set_4, timer}
+use Rattle.vms_convert.proofs.Facade.{i8259_at_4, i8254_at_2, AreOf, kind-of, count-of, kinds, IsPortCells, recast_cells, recast_kinds, AreRecastOf}
+use Rattle.vms_convert.proofs.Facade.{RecastOfLaw, OneLostLaw, AreOfKinds, recast, wants_arrays, is_port, AreKept, serial_at_4, port-of, recast_each, is_one_of}
+use Rattle.vms_convert.proofs.Facade.{one_number, DifferAt, Loses, OfCell, OfDevice, OfMachine, KeepsAll}
 use Rattle.vms_parts.specs.Devices.{device_at}
 
 -- the same, as the devices say it
@@ -35,8 +35,7 @@ port_of to numbers h = go (wants_arrays to) where
   go false = h
   go true =
       from_kinds (device_cells set_4 serial_at_4) (recast_cells numbers)
-      (subst (λ (ks : List Kind). AreOf ks (recast_cells numbers)) (sym port_kinds)
-      (recast_kinds numbers (subst (λ (ks : List Kind). AreOf ks numbers) port_kinds (to_kinds (device_cells set_4 serial_at_4) numbers h))))
+      (rw port_kinds (recast_kinds numbers (rw port_kinds at (to_kinds (device_cells set_4 serial_at_4) numbers h))))
 
 device_is : (d e : Device) (numbers : List ℤ) → Some d ≡ Some e → AreOfKinds (device_cells set_4 d) numbers → AreOfKinds (device_cells set_4 e) numbers
 device_is d e numbers h k = let same : e ≡ d = cc in rw same k
@@ -57,13 +56,12 @@ recast_of to _ l h = absurd (omega arith)
 
 pub recast_at : (to : Set) (devices : List Device) (lists : List (List ℤ)) (k : ℕ) (e : Device) (numbers : List ℤ) → slice_get devices k ≡ Some e
     → slice_get lists k ≡ Some numbers → get_or (recast_each to devices lists) k [] ≡ recast to e numbers
-recast_at to [] lists k e numbers p q = absurd (cc)
-recast_at to (d ∷ devices) [] k e numbers p q = absurd (cc)
 recast_at to (d ∷ devices) (n ∷ lists) zero e numbers p q =
     let same : d ≡ e = cc in
     let here : n ≡ numbers = cc in
     rw (same, here)
 recast_at to (d ∷ devices) (n ∷ lists) (suc k) e numbers p q = recast_at to devices lists k e numbers p q
+recast_at to _ _ k e numbers p q = absurd (cc)
 
 pub recast_long : (to : Set) (devices : List Device) (lists : List (List ℤ)) → length lists ≡ length devices
     → length (recast_each to devices lists) ≡ length devices
@@ -79,16 +77,11 @@ port_is (suc (suc (suc (suc (suc k))))) lt e = absurd (omega arith)
 port_is _ lt e = absurd (cc)
 
 pub port_cells : (images : List Image) → AreKept set_4 images → (k : ℕ) (image : Image) → k ≡ 4 → slice_get images k ≡ Some image → IsPortCells image.numbers
-port_cells images kept k image is at =
-    let at_4 : slice_get images 4 ≡ Some image = ap (λ (n : ℕ). slice_get images n) (sym is) ∙ at in
-    port-of image (kept.each 4 serial_at_4 image refl at_4).normal
-
-pub kept_kinds : (to : Set) (images : List Image) → AreKept set_4 images → AreRecastOf to set_4 images
-kept_kinds to images kept = recast_of to images kept.one_each (λ k e image at at'. (kept.each k e image at at').normal)
+port_cells images kept k image is at = port-of image (kept.each 4 serial_at_4 image refl (rw (sym is) (at))).normal
 
 -- of a set that is the newest
 pub newest_kinds : (to new : Set) → new ≡ set_4 → (images : List Image) → AreKept new images → AreRecastOf to new images
-newest_kinds to new is images = subst (λ (s : Set). AreKept s images → AreRecastOf to s images) (sym is) (kept_kinds to images)
+newest_kinds to new is images = rw is (λ kept. recast_of to images kept.one_each (λ k e image at at'. (kept.each k e image at at').normal))
 
 -- ---- What is lost first is one thing.
 
@@ -105,35 +98,31 @@ module _ (to new : Set) (machine : Option (List ℕ)) (wanted there : List (List
   Differ k c = DifferAt (get_or wanted k []) (get_or there k []) c
 
   not_same : (k c : ℕ) → Differ k c → get_or wanted k [] ≡ get_or there k [] → ⊥
-  not_same k c d e = d.other (ap (λ (l : List ℤ). get_or l c (pos 0)) e)
+  not_same k c d e = d.other (rw e)
 
   not_all : (k c : ℕ) → Differ k c → wanted ≡ there → ⊥
-  not_all k c d e = not_same k c d (ap (λ (l : List (List ℤ)). get_or l k []) e)
+  not_all k c d e = not_same k c d (rw e)
 
   never : (section cell : Option ℕ) → KeepsAll to new machine wanted there backs → Lost section cell → ⊥
   never section cell h (OfCell k c before differ) = not_all k c differ h.cells
   never section cell h (OfDevice k inside same before bad) = bad (h.valid k inside)
-  never section cell h (OfMachine name same valid is not) =
-      let e = accepted to machine name h.machine_is is in let f : true ≡ false = sym e ∙ not in absurd (cc)
+  never section cell h (OfMachine name same valid is not) = let e = accepted to machine name h.machine_is is in let f : true ≡ false = cc in absurd (cc)
 
   first_differ : (k c k' c' : ℕ) → ((i : ℕ) → i < k → get_or wanted i [] ≡ get_or there i []) → Differ k c
       → ((i : ℕ) → i < k' → get_or wanted i [] ≡ get_or there i []) → Differ k' c' → k ≡ k'
   first_differ k c k' c' before d before' d' = one_number k k' (λ lt. not_same k c d (before' k lt)) (λ lt. not_same k' c' d' (before k' lt))
 
-  first_number : (k c c' : ℕ) → Differ k c → Differ k c' → c ≡ c'
-  first_number k c c' d d' = one_number c c' (λ lt. d.other (d'.before c lt)) (λ lt. d'.other (d.before c' lt))
-
   one : (section cell section' cell' : Option ℕ) → Lost section cell → Lost section' cell' → (section ≡ section') × (cell ≡ cell')
   one section cell section' cell' (OfCell k c before d) (OfCell k' c' before' d') =
       let same : k ≡ k' = first_differ k c k' c' before d before' d' in
-      let here : Differ k c' = subst (λ (n : ℕ). Differ n c') (sym same) d' in
-      (ap (λ (n : ℕ). Some n) same, ap (λ (n : ℕ). Some n) (first_number k c c' d here))
+      let here : Differ k c' = rw same d' in
+      (rw same, rw (one_number c c' (λ lt. d.other (here.before c lt)) (λ lt. here.other (d.before c' lt))))
   one section cell section' cell' (OfCell k c before d) (OfDevice k' inside same before' bad) = absurd (not_all k c d same)
   one section cell section' cell' (OfCell k c before d) (OfMachine name same valid is not) = absurd (not_all k c d same)
   one section cell section' cell' (OfDevice k inside same before bad) (OfCell k' c' before' d') = absurd (not_all k' c' d' same)
   one section cell section' cell' (OfDevice k inside same before bad) (OfDevice k' inside' same' before' bad') =
       let e : k ≡ k' = one_number k k' (λ lt. bad (before' k lt)) (λ lt. bad' (before k' lt)) in
-      (ap (λ (n : ℕ). Some n) e, ap (λ (n : ℕ). first_cell (get_or wanted n [])) e)
+      (rw e, rw e)
   one section cell section' cell' (OfDevice k inside same before bad) (OfMachine name same' valid is not) = absurd (bad (valid k inside))
   one section cell section' cell' (OfMachine name same valid is not) (OfCell k' c' before' d') = absurd (not_all k' c' d' same)
   one section cell section' cell' (OfMachine name same valid is not) (OfDevice k' inside same' before' bad) = absurd (bad (valid k' inside))

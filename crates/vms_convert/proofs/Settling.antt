@@ -1,10 +1,11 @@
 -- Whether a subsection is needed depends on its own cells and on those of its device.
-use Rattle.vms_convert.proofs.Facade.{cases_lt, inl, inr, ◌≡◌, ℕ, ◌+◌, List, length, get_or, Option, Some, None, ℤ, refl, ap, ◌∙◌, arith, Bool, true, not}
-use Rattle.vms_convert.proofs.Facade.{bit_and, suc, ◌<◌, ◌≤◌, false, pos, sym, if◌then◌else◌, zero, [], ◌∷◌, slice_get, and_parts, slice_get_within, width}
-use Rattle.vms_convert.proofs.Facade.{residue, Own, Parent, Formula, AtLeast, Below, Not, And, Or, Field, Desc, Sub, Device, Set, truth, compares, no_field}
-use Rattle.vms_convert.proofs.Facade.{kind_of, place_of, numbers_of, desc_cells, struct_cells, no_cell, device_cells, Image, own_cells, is_needed, is_steady}
-use Rattle.vms_convert.proofs.Facade.{is_steady_in, names_well, WellFormed, IsEarlier, place_up, place_below, place_end, sub_size, sub_place_up, places_apart}
-use Rattle.vms_convert.proofs.Facade.{part_place, SameIn, earlier, sub_clean, bare, needed_from, IsCellOf, AreSettled, whole, IsBack, same_lists, IsAtVersions}
+use Rattle.vms_convert.proofs.Facade.{cases_lt, inl, inr, ◌≡◌, ℕ, ◌+◌, List, length, get_or, Option, Some, None, ℤ, refl, ap, ◌∙◌, arith, Bool, true, not, suc}
+use Rattle.vms_convert.proofs.Facade.{◌<◌, ◌≤◌, false, pos, sym, if◌then◌else◌, zero, [], ◌∷◌, slice_get, and_parts, slice_get_within, slice_get-get_or, Own}
+use Rattle.vms_convert.proofs.Facade.{Parent, Formula, Not, And, Or, Field, Desc, Sub, Device, Set, truth, place_of, numbers_of, desc_cells, struct_cells}
+use Rattle.vms_convert.proofs.Facade.{no_cell, device_cells, Image, own_cells, is_needed, is_steady, is_steady_in, names_well, WellFormed, IsEarlier, place_up}
+use Rattle.vms_convert.proofs.Facade.{place_below, place_end, sub_size, sub_place_up, places_apart, part_place, SameIn, earlier, sub_clean, bare, needed_from}
+use Rattle.vms_convert.proofs.Facade.{IsCellOf, AreSettled, whole, IsBack, same_lists, IsAtVersions, device_at, needed_at, sub_at, ArePutAt, Typed, SettlesSub}
+use Rattle.vms_convert.proofs.Facade.{SettlesBy}
 use Rattle.vms_spec.specs.Sets.{Cell}
 use Rattle.vms_spec.specs.Layout.{Cell as OneCell}
 
@@ -12,13 +13,12 @@ use Rattle.vms_spec.specs.Layout.{Cell as OneCell}
 module _ (ok okp : ℕ → Bool) (own own' parent parent' : ℕ → ℕ) (h : (i : ℕ) → ok i ≡ true → own' i ≡ own i)
     (hp : (i : ℕ) → okp i ≡ true → parent' i ≡ parent i) where
   pub truth_alike : (t : Formula) (v : ℕ) → names_well ok okp t ≡ true → truth t v own' parent' ≡ truth t v own parent
-  truth_alike (AtLeast n) v e = refl
-  truth_alike (Below n) v e = refl
-  truth_alike (Cell Own i mask rel value) v e = ap (λ (k : ℕ). compares rel (bit_and k mask) value) (h i e)
-  truth_alike (Cell Parent i mask rel value) v e = ap (λ (k : ℕ). compares rel (bit_and k mask) value) (hp i e)
+  truth_alike (Cell Own i mask rel value) v e = rw (h i e)
+  truth_alike (Cell Parent i mask rel value) v e = rw (hp i e)
   truth_alike (Not t) v e = ap not (truth_alike t v e)
   truth_alike (And s t) v e = let p = and_parts (names_well ok okp s) (names_well ok okp t) e in rw (truth_alike s v p.0, truth_alike t v p.1)
   truth_alike (Or s t) v e = let p = and_parts (names_well ok okp s) (names_well ok okp t) e in rw (truth_alike s v p.0, truth_alike t v p.1)
+  truth_alike _ v e = refl
 
 -- ---- a field that tests may name
 
@@ -33,20 +33,18 @@ number_same : (cs : List (List OneCell)) (d : Desc) (base j : ℕ) (n m : List �
     → numbers_of cs d m base j ≡ numbers_of cs d n base j
 number_same cs d base j n m e s =
     let x = plain d j e in
-    ap (λ (z : ℤ). residue (width (kind_of (get_or d.fields j no_field).item)) z)
-    (s.same (place_of cs d.fields 0 base d.fields j) (place_up cs d.fields 0 base d.fields j)
+    rw (s.same (place_of cs d.fields 0 base d.fields j) (place_up cs d.fields 0 base d.fields j)
     (omega (arith, place_below cs d.fields 0 base d.fields j (length d.fields) x.earlier x.there x.number x.one, place_end cs d.fields 0 base d.fields)))
 
 module _ (set : Set) (well : WellFormed set) (k : ℕ) (d : Device) (there : slice_get set.devices k ≡ Some d) where
   pub needed_same : (j : ℕ) (s : Sub) → slice_get d.subs j ≡ Some s → (x y : Image) → SameIn 0 (0 + own_cells set d) x.numbers y.numbers
       → SameIn (part_place set d j) (part_place set d j + sub_size set s) x.numbers y.numbers → is_needed set d y s j ≡ is_needed set d x s j
   needed_same j s e x y own part =
-      let names = (sub_clean set well k j d s there e).own.1.1.1.0 in
       let cs = struct_cells set in
       truth_alike (is_steady_in s.desc) (is_steady_in d.desc)
       (numbers_of cs s.desc x.numbers (part_place set d j)) (numbers_of cs s.desc y.numbers (part_place set d j)) (numbers_of cs d.desc x.numbers 0)
       (numbers_of cs d.desc y.numbers 0) (λ i h. number_same cs s.desc (part_place set d j) i x.numbers y.numbers h part)
-      (λ i h. number_same cs d.desc 0 i x.numbers y.numbers h own) s.needed s.desc.version names
+      (λ i h. number_same cs d.desc 0 i x.numbers y.numbers h own) s.needed s.desc.version ((sub_clean set well k j d s there e).own.1.1.1.0)
 
 -- ---- Subsections that aren't needed are put to their defaults one after the other.
 
@@ -67,59 +65,66 @@ pub record SettledTo (set : Set) (d : Device) (j : ℕ) (before now : List ℤ) 
       → get_or now c (pos 0) ≡ (if is_needed set d (whole d before) s i then get_or before c (pos 0) else (get_or (device_cells set d) c no_cell).default)
   pub left : (i : ℕ) (s : Sub) (c : ℕ) → j ≤ i → IsCellOf set d i s c → get_or now c (pos 0) ≡ get_or before c (pos 0)
 
--- the cells of subsection j are at their defaults, and all else is as it was
-pub record AreBare (set : Set) (d : Device) (j : ℕ) (s : Sub) (before now : List ℤ) : Type 0 where
-  pub long : length now ≡ length before
-  pub inside : (c : ℕ) → IsCellOf set d j s c → get_or now c (pos 0) ≡ (get_or (device_cells set d) c no_cell).default
-  pub below : (c : ℕ) → c < part_place set d j → get_or now c (pos 0) ≡ get_or before c (pos 0)
-  pub above : (c : ℕ) → part_place set d j + sub_size set s ≤ c → get_or now c (pos 0) ≡ get_or before c (pos 0)
+module _ (set : Set) (well : WellFormed set) (k : ℕ) (lt : k < length set.devices) (before : List ℤ) where
+  abbrev d : Device
+  d = device_at set k
 
-module _ (set : Set) (well : WellFormed set) (k : ℕ) (d : Device) (there : slice_get set.devices k ≡ Some d) (before : List ℤ) where
   -- a test of subsection j answers as before
-  pub still_needed : (now : List ℤ) (j : ℕ) (s : Sub) → slice_get d.subs j ≡ Some s → SettledTo set d j before now
+  still_needed : (now : List ℤ) (j : ℕ) (s : Sub) → slice_get d.subs j ≡ Some s → SettledTo set d j before now
       → is_needed set d (bare d now) s j ≡ is_needed set d (whole d before) s j
   still_needed now j s e h =
-      needed_same set well k d there j s e (whole d before) (bare d now) (record { same = λ c low lt. h.own c (omega arith) })
+      needed_same set well k d (slice_get-get_or set.devices k _ lt) j s e (whole d before) (bare d now)
+      (record { same = λ c low lt. h.own c (omega arith) })
       (record { same = λ c low lt. h.left j s c (omega arith) (record { is = e; low = low; high = lt }) })
 
   -- it is needed, so nothing changes
-  pub settled_needed : (now : List ℤ) (j : ℕ) (s : Sub) → slice_get d.subs j ≡ Some s → SettledTo set d j before now → is_needed set d (bare d now) s j ≡ true
-      → SettledTo set d (suc j) before now
-  settled_needed now j s e h n = record {
-    long = h.long;
-    own = h.own;
-    done = λ i t c lt x. by_last i j lt (λ less. h.done i t c less x) (λ same.
-        let ge : j ≤ i = omega arith in
-        let sub : t ≡ s = cc in
-        let needed : is_needed set d (whole d before) t i ≡ true = rw (sub, same) (sym (still_needed now j s e h) ∙ n) in
-        rw needed (h.left i t c ge x));
-    left = λ i t c le x. h.left i t c (omega arith) x;
-  }
+  settled_needed : (now : List ℤ) (j : ℕ) → j < length d.subs → SettledTo set d j before now → needed_at set k j now ≡ true → SettledTo set d (j + 1) before now
+  settled_needed now j less h n =
+      let e : slice_get d.subs j ≡ Some (sub_at d j) = slice_get-get_or d.subs j _ less in
+      record {
+        long = h.long;
+        own = h.own;
+        done = λ i t c lt x. by_last i j (omega arith) (λ less. h.done i t c less x) (λ same.
+            let sub : t ≡ sub_at d j = cc (x.is, e) in
+            let needed : is_needed set d (whole d before) t i ≡ true = rw (sub, same) (sym (still_needed now j (sub_at d j) e h) ∙ n) in
+            rw needed (h.left i t c (omega arith) x));
+        left = λ i t c le x. h.left i t c (omega arith) x;
+      }
 
   -- it isn't, and its cells are put to their defaults
-  pub settled_bare : (now next : List ℤ) (j : ℕ) (s : Sub) → slice_get d.subs j ≡ Some s → SettledTo set d j before now
-      → is_needed set d (bare d now) s j ≡ false → AreBare set d j s now next → SettledTo set d (suc j) before next
-  settled_bare now next j s e h n p = record {
-    long = p.long ∙ h.long;
-    own = λ c lt. p.below c (omega (arith, sub_place_up set (own_cells set d) d.subs j)) ∙ h.own c lt;
-    done = λ i t c lt x. by_last i j lt
-        (λ less. p.below c (omega (arith, x.high, places_apart set (own_cells set d) d.subs i j t x.is less)) ∙ h.done i t c less x)
-        (λ same.
-        let sub : t ≡ s = cc in
-        let place : part_place set d i ≡ part_place set d j = ap (part_place set d) same in
-        let size : sub_size set t ≡ sub_size set s = ap (sub_size set) sub in
-        let not_needed : is_needed set d (whole d before) t i ≡ false = rw (sub, same) (sym (still_needed now j s e h) ∙ n) in
-        rw not_needed (p.inside c (record { is = e; low = omega (arith, x.low); high = omega (arith, x.high) })));
-    left = λ i t c le x.
-        p.above c (omega (arith, places_apart set (own_cells set d) d.subs j i s e (omega arith))) ∙ h.left i t c (omega arith) x;
-  }
+  settled_bare : (now next : List ℤ) (j : ℕ) → j < length d.subs → SettledTo set d j before now → needed_at set k j now ≡ false → ArePutAt set k j now next
+      → SettledTo set d (j + 1) before next
+  settled_bare now next j less h n p =
+      let s = sub_at d j in
+      let e : slice_get d.subs j ≡ Some (sub_at d j) = slice_get-get_or d.subs j _ less in
+      record {
+        long = cc;
+        own = λ c lt. p.below c (omega (arith, sub_place_up set (own_cells set d) d.subs j)) ∙ h.own c lt;
+        done = λ i t c lt x. by_last i j (omega arith)
+            (λ less. p.below c (omega (arith, places_apart set (own_cells set d) d.subs i j t x.is less)) ∙ h.done i t c less x)
+            (λ same.
+            let sub : t ≡ s = cc (x.is, e) in
+            let place : part_place set d i ≡ part_place set d j = ap (part_place set d) same in
+            let size : sub_size set t ≡ sub_size set s = ap (sub_size set) sub in
+            let not_needed : is_needed set d (whole d before) t i ≡ false = rw (sub, same) (sym (still_needed now j s e h) ∙ n) in
+            rw not_needed (p.inside c (omega (arith, x.low)) (omega (arith, x.high))));
+        left = λ i t c le x.
+            p.above c (omega (arith, places_apart set (own_cells set d) d.subs j i s e (omega arith))) ∙ h.left i t c (omega arith) x;
+      }
 
-  pub all_settled : (now : List ℤ) (j : ℕ) → j ≡ length d.subs → SettledTo set d j before now → AreSettled set d before now
-  all_settled now j end h = record {
-    long = h.long;
-    own = h.own;
-    subs = λ i s c x. h.done i s c (omega (arith, slice_get_within d.subs i s x.is)) x;
-  }
+  pub settled_next : (a b : Typed) (j : ℕ) → j < length d.subs → SettledTo set d j before a.numbers → SettlesSub set k j a b
+      → SettledTo set d (j + 1) before b.numbers
+  settled_next a b j less h s = go (needed_at set k j a.numbers) refl s where
+    go : (t : Bool) → needed_at set k j a.numbers ≡ t → SettlesBy t set k j a b → SettledTo set d (j + 1) before b.numbers
+    go true e s = rw s (settled_needed a.numbers j less h e)
+    go false e s = settled_bare a.numbers b.numbers j less h e s.0
+
+pub all_settled : (set : Set) (d : Device) (before now : List ℤ) (j : ℕ) → j ≡ length d.subs → SettledTo set d j before now → AreSettled set d before now
+all_settled set d before now j end h = record {
+  long = h.long;
+  own = h.own;
+  subs = λ i s c x. h.done i s c (omega (arith, slice_get_within d.subs i s x.is)) x;
+}
 
 -- ---- Subsections that are needed are marked one after the other.
 
@@ -134,8 +139,6 @@ module _ (set : Set) (d : Device) (image : Image) where
     pub done : (i : ℕ) (s : Sub) → i < j → slice_get subs i ≡ Some s → slice_get came i ≡ Some (comes i s)
     pub left : (i : ℕ) (s : Sub) → j ≤ i → slice_get subs i ≡ Some s → slice_get came i ≡ Some None
 
-  -- ---- all of them
-
   pub comes_at : (subs : List Sub) (i j : ℕ) (s : Sub) → slice_get subs j ≡ Some s → slice_get (needed_from set d image i subs) j ≡ Some (comes (i + j) s)
   comes_at [] i j s e = absurd (cc)
   comes_at (t ∷ subs) i zero s e =
@@ -149,7 +152,7 @@ module _ (set : Set) (d : Device) (image : Image) where
   pub all_marked : (subs : List Sub) (came : List (Option ℕ)) (j : ℕ) → j ≡ length subs → MarkedTo subs j came → came ≡ needed_from set d image 0 subs
   all_marked subs came j end h =
       same_lists came (needed_from set d image 0 subs) (h.long ∙ sym (needed_long subs 0)) (λ i lt.
-      let p = some_at subs i (omega (arith, h.long)) in
+      let p = some_at subs i (omega arith) in
       let z : 0 + i ≡ i = omega arith in
       h.done i p.0 (omega (arith, slice_get_within subs i p.0 p.1)) p.1 ∙ sym (rw z at (comes_at subs 0 i p.0 p.1)))
 
@@ -167,6 +170,6 @@ needed_version set d image i j subs s v e f =
 pub back_versions : (to : Set) (d : Device) (partners : List (Option ℕ)) (numbers : List ℤ) (image : Image) → IsBack to d partners numbers image
     → IsAtVersions d image
 back_versions to d partners numbers image back = record {
-  version = ap (λ (x : Image). x.version) back.is;
-  subs = λ j s v e f. needed_version to d (bare d image.numbers) 0 j d.subs s v e (sym (ap (λ (x : Image). slice_get x.came j) back.is) ∙ f);
+  version = rw (back.is);
+  subs = λ j s v e f. needed_version to d (bare d image.numbers) 0 j d.subs s v e (sym (rw (back.is)) ∙ f);
 }

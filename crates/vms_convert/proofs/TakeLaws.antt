@@ -2,12 +2,13 @@
 use Rattle.vms_convert.proofs.Facade.{subst, cases_eq, ne_eqb, inl, inr, cases_lt, ◌≡◌, ℕ, zero, suc, ◌<◌, List, [], ◌∷◌, ◌++◌, length, get_or, take, drop}
 use Rattle.vms_convert.proofs.Facade.{slice_set, ℤ, pos, refl, ap, arith, ◌+◌, map, Option, Some, None, sym, ◌∙◌, append_assoc, Bool, true, false, length-set}
 use Rattle.vms_convert.proofs.Facade.{if◌then◌else◌, ◌≤◌, slice_get, get_or-set_other, get_or-set_same, map-append, length-map, eq-eqb, get_or-map}
-use Rattle.vms_convert.proofs.Facade.{slice_get-get_or, append-nil, take_all, IsSound, AreSound, Sub, Device, Set, Slot, desc_cells, struct_cells, Cell}
-use Rattle.vms_convert.proofs.Facade.{no_cell, Number, device_cells, own_cells, own_slots, sub_slots, sub_place, came_slots, has_cell, image_slots, its_same}
-use Rattle.vms_convert.proofs.Facade.{its_below, part_place, image_are, sub_size, sub_place_up, SameBelow, SameIn, exceeds, AreCells, least_of, steps_of}
-use Rattle.vms_convert.proofs.Facade.{capacities_of, step_of, exceeds_least, taken, AreTaken, whole, changed, changed_append, Changes, put_partner, put_step}
-use Rattle.vms_convert.proofs.Facade.{AreSources, Keeps, WalkStep, has_step_of, put_keeps, takes_keeps, Kind, Typed, InRange, U8, FitsHeads, own_cell_count}
-use Rattle.vms_convert.proofs.Facade.{device_at, is_well_formed, desc_at, kinds_at, good_of, ArePut, ArePutAt, at_map}
+use Rattle.vms_convert.proofs.Facade.{slice_get-get_or, append-nil, take_all, add-one, IsSound, AreSound, Sub, Device, Set, Slot, desc_cells, struct_cells}
+use Rattle.vms_convert.proofs.Facade.{Cell, no_cell, Number, device_cells, own_cells, own_slots, sub_slots, sub_place, came_slots, has_cell, image_slots}
+use Rattle.vms_convert.proofs.Facade.{its_same, its_below, part_place, image_are, sub_size, sub_place_up, SameBelow, SameIn, exceeds, AreCells, least_of}
+use Rattle.vms_convert.proofs.Facade.{steps_of, capacities_of, step_of, exceeds_least, taken, AreTaken, whole, changed, changed_append, Changes, put_partner}
+use Rattle.vms_convert.proofs.Facade.{put_step, AreSources, Keeps, WalkStep, has_step_of, put_keeps, takes_keeps, Kind, Typed, InRange, U8, FitsHeads}
+use Rattle.vms_convert.proofs.Facade.{own_cell_count, device_at, is_well_formed, desc_at, kinds_at, good_of, ArePut, ArePutAt, at_map, IsGood, spot_slots}
+use Rattle.vms_convert.proofs.Facade.{part_of, sub_at}
 use Rattle.vms_spec.specs.declared.Part.TheVariants as parts
 use Rattle.vms_desc.specs.Asks.{first_cell}
 
@@ -19,7 +20,7 @@ pub put_front : (xs ys : List ℤ) (c : ℕ) → c < length xs → length xs ≡
 put_front [] ys c lt long = absurd (omega arith)
 put_front (x ∷ xs) [] c lt long = absurd (omega arith)
 put_front (x ∷ xs) (y ∷ ys) zero lt long = refl
-put_front (x ∷ xs) (y ∷ ys) (suc c) lt long = ap (λ (l : List ℤ). x ∷ l) (put_front xs ys c (omega arith) (omega arith))
+put_front (x ∷ xs) (y ∷ ys) (suc c) lt long = rw (put_front xs ys c (omega arith) (omega arith))
 
 -- ---- The slots of a device's own fields and of its first subsections, in the order in which walks visit them.
 
@@ -36,8 +37,6 @@ module _ (set : Set) (d : Device) (n : List ℤ) where
   pub came_next : (from : ℕ) (subs : List Sub) (came : List (Option ℕ)) (j : ℕ) (s : Sub) (o : Option ℕ) → slice_get subs j ≡ Some s → slice_get came j ≡ Some o
       → came_slots set d n from (take (suc j) subs) (take (suc j) came) ≡ came_slots set d n from (take j subs) (take j came) ++ one_slots set s o n
       (sub_place set from subs j)
-  came_next from [] came j s o e f = absurd (cc)
-  came_next from (t ∷ subs) [] j s o e f = absurd (cc)
   came_next from (t ∷ subs) (None ∷ came) zero s o e f =
       let same : o ≡ None = cc in rw same
   came_next from (t ∷ subs) (Some v ∷ came) zero s o e f =
@@ -49,6 +48,7 @@ module _ (set : Set) (d : Device) (n : List ℤ) where
       let next = from + length (desc_cells (struct_cells set) t.desc) in
       let more = one_slots set s o n (sub_place set next subs j) in
       rw (came_next next subs came j s o e f, append_assoc (sub_slots set t v n from) (came_slots set d n next (take j subs) (take j came)) more)
+  came_next from _ _ j s o e f = absurd (cc)
 
 abbrev pub first_slots : Set → Device → List (Option ℕ) → ℕ → List ℤ → List Slot
 first_slots set d came j n = own_slots set d d.desc.version n ++ came_slots set d n (own_cells set d) (take j d.subs) (take j came)
@@ -73,8 +73,7 @@ module _ (set : Set) (structs : AreSound set.structs) (d : Device) where
   came_same n m from (t ∷ subs) came zero sound s = refl
   came_same n m from (t ∷ subs) [] (suc j) sound s = refl
   came_same n m from (t ∷ subs) (None ∷ came) (suc j) sound s =
-      let next = from + sub_size set t in
-      came_same n m next subs came j (λ i u e. sound (suc i) u e) (record { same = λ c low lt. s.same c (omega arith) lt })
+      came_same n m (from + sub_size set t) subs came j (λ i u e. sound (suc i) u e) (record { same = λ c low lt. s.same c (omega arith) lt })
   came_same n m from (t ∷ subs) (Some v ∷ came) (suc j) sound s =
       let next = from + sub_size set t in
       let up = sub_place_up set next subs j in
@@ -163,30 +162,37 @@ module _ (all : List Cell) (partners : List (Option ℕ)) (source : List ℤ) wh
 
 -- ---- What the cells of a device have taken, part by part.
 
-module _ (set : Set) (structs : AreSound set.structs) (d : Device) (own : IsSound d.desc)
-    (sound : (i : ℕ) (s : Sub) → slice_get d.subs i ≡ Some s → IsSound s.desc) (partners : List (Option ℕ)) (source : List ℤ) where
-  abbrev pub puts : List Slot → List ℤ → List ℤ
+module _ (set : Set) (i : ℕ) (lt : i < length set.devices) (good : IsGood set) (partners : List (Option ℕ)) (source : List ℤ) where
+  abbrev d : Device
+  d = device_at set i
+
+  abbrev puts : List Slot → List ℤ → List ℤ
   puts slots now = changed (put_step partners source) (steps_of slots) now
 
-  puts_more : (xs ys : List Slot) (now : List ℤ) → puts (xs ++ ys) now ≡ puts ys (puts xs now)
-  puts_more xs ys now = rw (map-append step_of xs ys) (changed_append (put_step partners source) (steps_of xs) (steps_of ys) now)
+  -- the device's own fields and its first j subsections have taken their numbers, from defaults on
+  abbrev TookTo : ℕ → List ℤ → Type 0
+  TookTo j n = n ≡ puts (first_slots set d (all_came d.subs) j n) (map (λ c. c.default) (device_cells set d))
 
-  -- one subsection more
-  pub taken_next : (before n m : List ℤ) (j : ℕ) (s : Sub) → slice_get d.subs j ≡ Some s → n ≡ puts (first_slots set d (all_came d.subs) j n) before
-      → m ≡ puts (sub_slots set s s.desc.version m (part_place set d j)) n → m ≡ puts (first_slots set d (all_came d.subs) (suc j) m) before
-  taken_next before n m j s e first more =
+  pub took_own : (n : List ℤ) → n ≡ puts (spot_slots set (part_of set (parts.Device i)) n) (map (λ c. c.default) (device_cells set d)) → TookTo 0 n
+  took_own n e = rw (append-nil (own_slots set d d.desc.version n)) e
+
+  pub took_sub : (n m : List ℤ) (j : ℕ) → j < length d.subs → TookTo j n → m ≡ puts (spot_slots set (part_of set (parts.Sub i j)) m) n → TookTo (j + 1) m
+  took_sub n m j less first more =
+      let there = slice_get-get_or set.devices i _ lt in
+      let s = sub_at d j in
+      let e : slice_get d.subs j ≡ Some s = slice_get-get_or d.subs j _ less in
       let its = sub_slots set s s.desc.version m (part_place set d j) in
       let keeps : Keeps (steps_of its) n m = subst (Keeps (steps_of its) n) (sym more) (put_keeps partners source (steps_of its) n) in
       let below : SameBelow (part_place set d j) n m =
       record { same = λ c lt. keeps.same c (has_step_of its c ∙ its_below set s.desc s.desc.version (part_place set d j) m c lt) } in
-      let still = first_same set structs d own sound n m (all_came d.subs) j below in
+      let still = first_same set good.structs d (good.devices i d there) (λ k s e. good.subs i k d s there e) n m (all_came d.subs) j below in
       let next = first_next set d (all_came d.subs) j s (Some s.desc.version) m e (at_map (λ (s : Sub). Some s.desc.version) d.subs j s e) in
-      rw (next, puts_more (first_slots set d (all_came d.subs) j m) its before, still, ← first) more
+      let front = first_slots set d (all_came d.subs) j m in
+      let both = changed_append (put_step partners source) (steps_of front) (steps_of its) (map (λ (c : Cell). c.default) (device_cells set d)) in
+      rw (add-one j, next, map-append step_of front its, both, still, ← first) more
 
-  -- all of them, from defaults on
-  pub all_taken : (n : List ℤ) (j : ℕ) → j ≡ length d.subs → n ≡ puts (first_slots set d (all_came d.subs) j n) (map (λ c. c.default) (device_cells set d))
-      → length n ≡ length (device_cells set d) → AreTaken set d partners source n
-  all_taken n j end first long =
+  pub took_all : (n : List ℤ) (j : ℕ) → j ≡ length d.subs → TookTo j n → length n ≡ length (device_cells set d) → AreTaken set d partners source n
+  took_all n j end first long =
       let cells = device_cells set d in
       let before = map (λ (c : Cell). c.default) cells in
       let slots = image_slots set d (whole d n) in
@@ -205,9 +211,9 @@ module _ (set : Set) (structs : AreSound set.structs) (d : Device) (own : IsSoun
 pub may_take : (p p' : List (Option ℕ)) (s s' : List ℤ) (xs : List WalkStep) (a b : Typed) → p' ≡ p → s' ≡ s → Changes (put_step p s) xs a b
     → AreSources a.kinds s p → length a.kinds ≡ length a.numbers → AreSources b.kinds s' p' × (length b.kinds ≡ length b.numbers)
 may_take p p' s s' xs a b e f h sources long =
-    let kinds : b.kinds ≡ a.kinds = ap (λ (x : Typed). x.kinds) h in (
+    let kinds : b.kinds ≡ a.kinds = rw h in (
       rw (kinds, f, e) sources,
-      ap (λ (ks : List Kind). length ks) kinds ∙ long ∙ sym (takes_keeps p s xs a b h).long,
+      rw kinds (long ∙ sym (takes_keeps p s xs a b h).long),
     )
 
 -- ---- Cells are put to their defaults one after the other.
@@ -215,9 +221,6 @@ may_take p p' s s' xs a b e f h sources long =
 module _ (set : Set) (i first : ℕ) (before : List ℤ) where
   abbrev default : ℕ → ℤ
   default c = (get_or (device_cells set (device_at set i)) c no_cell).default
-
-  pub put_none : ArePut set i first first before before
-  put_none = record { long = refl; inside = λ c low lt. absurd (omega arith); below = λ c lt. refl; above = λ c le. refl }
 
   pub put_one : (cell : ℕ) (now : List ℤ) → ArePut set i first cell before now → cell < length before → first ≤ cell
       → ArePut set i first (cell + 1) before (slice_set now cell (get_or (device_cells set (device_at set i)) cell no_cell).default)
@@ -227,7 +230,7 @@ module _ (set : Set) (i first : ℕ) (before : List ℤ) where
       let other : (c : ℕ) → (c ≡ cell → ⊥) → get_or (slice_set now cell z) c (pos 0) ≡ get_or now c (pos 0) =
       λ c ne. get_or-set_other now cell c z (pos 0) ne in
       record {
-        long = length-set now cell z ∙ long;
+        long = cc (length-set now cell z);
         inside = λ c low less. elim (cases_lt c cell) [
           | inl lower ↦ other c (λ same. absurd (omega arith)) ∙ h.inside c low lower
           | inr ge ↦ let same : c ≡ cell = omega arith in rw same (get_or-set_same now cell z (pos 0) (omega arith))
@@ -245,8 +248,7 @@ put_all set i j first cell before now e f h = rw (← f, ← e) h
 -- and nothing but numbers changes
 pub put_rest : (a b c : Typed) (numbers : List ℤ) → b ≡ record a { numbers = b.numbers } → c ≡ record b { numbers = numbers }
     → c ≡ record a { numbers = c.numbers }
-put_rest a b c numbers e f =
-    rw f (ap (λ (x : Typed). record x { numbers = numbers }) e)
+put_rest a b c numbers e f = rw f (rw e)
 
 -- a default is in its kind's range
 pub default_fits : (set : Set) → is_well_formed set ≡ true → FitsHeads set → (i : ℕ) → i < length set.devices → (cell : ℕ)
@@ -254,6 +256,5 @@ pub default_fits : (set : Set) → is_well_formed set ≡ true → FitsHeads set
     → InRange (get_or kinds cell U8) (get_or (device_cells set (device_at set i)) cell no_cell).default
 default_fits set well heads i lt cell less kinds e =
     let cells = device_cells set (device_at set i) in
-    let fit = (good_of set well heads).defaults i (device_at set i) (slice_get-get_or set.devices i _ lt) cell less in
     let kind : get_or kinds cell U8 ≡ (get_or cells cell no_cell).kind = rw e (get_or-map (λ (c : Cell). c.kind) cells cell no_cell) in
-    rw kind fit.0
+    rw kind ((good_of set well heads).defaults i (device_at set i) (slice_get-get_or set.devices i _ lt) cell less).0

@@ -1,37 +1,35 @@
-use Rattle.vms_convert.proofs.Facade.{◌≡◌, ◌<◌, length, refl, arith, own_cell_count, in_u32, described, device_at, sub_at, few_cells, sub_inside}
-use Rattle.vms_convert.proofs.BringLaws.{image_kept}
-use Rattle.vms_convert.proofs.TakeLaws.{put_all, put_none, put_one, put_rest}
+use Rattle.vms_convert.proofs.Facade.{◌<◌, length, refl, arith, ◌∙◌, described, few_cells, sub_inside}
+use Rattle.vms_convert.proofs.TakeLaws.{put_all, put_one, put_rest}
 use Rattle.vms_convert.proofs.back.put_defaults.Goals as goal
 
 pub overflow_add-end : goal.overflow_add-end
 overflow_add-end c =
     let set = described c.args.set.now in
-    let size : c.cells_of.result ≡ in_u32 (own_cell_count set (sub_at (device_at set c.args.device) c.args.sub).desc) = c.cells_of.ensures in
-    omega (arith, c.first_cell-first.ensures, sub_inside set c.args.device c.args.sub c.requires.sub, few_cells set c.args.set.now.well_formed c.args.device)
+    omega (arith, sub_inside set c.args.device c.args.sub c.requires.sub, few_cells set c.args.set.now.well_formed c.args.device)
 
 pub loop-cell-init : goal.loop-cell-init
-loop-cell-init c = record { rest = refl; put = put_none (described c.args.set.now) c.args.device c.first_cell-first.result c.args.image.now.numbers }
+loop-cell-init c = record { rest = refl; put = record { long = refl; inside = λ k low lt. absurd (omega arith); below = λ k lt. refl; above = λ k le. refl } }
 
 pub put_default-requires-clause-cell : goal.put_default-requires-clause-cell
 put_default-requires-clause-cell c =
     let set = described c.args.set.now in
-    let size : c.cells_of.result ≡ in_u32 (own_cell_count set (sub_at (device_at set c.args.device) c.args.sub).desc) = c.cells_of.ensures in
-    omega (arith, c.loop-cell-test.true, c.first_cell-first.ensures, sub_inside set c.args.device c.args.sub c.requires.sub)
+    omega (arith, sub_inside set c.args.device c.args.sub c.requires.sub)
 
 pub put_default-requires-clause-of : goal.put_default-requires-clause-of
 put_default-requires-clause-of c =
-    image_kept (described c.args.set.now) c.args.device c.args.image.now c.loop-cell.image c.requires.of c.loop-cell.invariant.rest
-    c.loop-cell.invariant.put.long
+    let rest = c.loop-cell.invariant.rest in
+    record {
+      subs = rw rest (c.requires.of.subs);
+      cells = c.loop-cell.invariant.put.long ∙ c.requires.of.cells;
+      kinds = rw rest (c.requires.of.kinds);
+    }
 
 pub loop-cell-preserved : goal.loop-cell-preserved
 loop-cell-preserved c =
     let set = described c.args.set.now in
-    let d = device_at set c.args.device in
     let h = c.loop-cell.invariant in
     let put = c.put_default.ensures in
-    let size : c.cells_of.result ≡ in_u32 (own_cell_count set (sub_at d c.args.sub).desc) = c.cells_of.ensures in
-    let lt : c.loop-cell.cell < length c.args.image.now.numbers =
-    omega (arith, c.loop-cell-test.true, c.first_cell-first.ensures, sub_inside set c.args.device c.args.sub c.requires.sub, c.requires.of.cells) in
+    let lt : c.loop-cell.cell < length c.args.image.now.numbers = omega (arith, sub_inside set c.args.device c.args.sub c.requires.sub) in
     record {
       rest = put_rest c.args.image.now c.loop-cell.image c.put_default.new.image _ h.rest put;
       put = rw put (put_one set c.args.device c.first_cell-first.result c.args.image.now.numbers c.loop-cell.cell c.loop-cell.image.numbers h.put lt
@@ -41,8 +39,6 @@ loop-cell-preserved c =
 pub returns-clause-puts : goal.returns-clause-puts
 returns-clause-puts c =
     let set = described c.args.set.now in
-    let size : c.cells_of.result ≡ in_u32 (own_cell_count set (sub_at (device_at set c.args.device) c.args.sub).desc) = c.cells_of.ensures in
-    let inside = sub_inside set c.args.device c.args.sub c.requires.sub in
     let few = few_cells set c.args.set.now.well_formed c.args.device in
     put_all set c.args.device c.args.sub c.first_cell-first.result c.loop-cell.cell c.args.image.now.numbers c.loop-cell.image.numbers
-    c.first_cell-first.ensures (omega (arith, c.first_cell-first.ensures, c.loop-cell-test.false, c.loop-cell.auto.cell-end)) c.loop-cell.invariant.put
+    c.first_cell-first.ensures (omega (arith, sub_inside set c.args.device c.args.sub c.requires.sub)) c.loop-cell.invariant.put

@@ -1,6 +1,6 @@
-use Rattle.vms_convert.proofs.Facade.{◌≡◌, map, ◌∙◌, subst, sym, with_items_is, err_from_is_err_and, at_option, Set, fit_of, described, state_of, outlet, Puts}
-use Rattle.vms_convert.proofs.Facade.{Stops, Compatible, AreKept, has, loads, name_of, ConvertsKept, PutsStream, stream_of}
-use Rattle.vms_convert.proofs.ConvertLaws.{loses_kept, puts_kept}
+use Rattle.vms_convert.proofs.Facade.{◌≡◌, map, ◌∙◌, subst, sym, with_items_is, err_from_is_err_and, refl, at_option, fit_of, described, state_of, outlet, Puts}
+use Rattle.vms_convert.proofs.Facade.{Stops, has, loads, name_of, ConvertsKept, stream_of}
+use Rattle.vms_convert.proofs.Converts.{puts_kept}
 use Rattle.vms_convert.proofs.JudgeLaws.{ComesBack, backs_are, ready_back}
 use Rattle.vms_convert.proofs.call.convert_kept.Given.{Over}
 use Rattle.vms_convert.proofs.call.convert_kept.Goals.{After-deref, After-deref-2}
@@ -16,13 +16,12 @@ images_are g c =
 came : (g : Over) (c : After-deref g)
     → ComesBack (described c.args.to.now) (loads c.args.loader.now) (has c.args.loader.now) c.deref.result.now c.return_all-lost.result
 came g c =
-    let to = described c.args.to.now in
     let new = loads c.args.loader.now in
     record {
-      fit = fit_of to c.args.to.now.well_formed c.args.to.now.heads;
+      fit = fit_of (described c.args.to.now) c.args.to.now.well_formed c.args.to.now.heads;
       newest = c.requires.newest;
-      compatible = subst (λ (s : Set). Compatible to s) (sym c.requires.newest) c.requires.compatible;
-      kept = subst (λ (s : Set). AreKept s (has c.args.loader.now)) (sym c.requires.newest) c.requires.kept;
+      compatible = rw c.requires.newest c.requires.compatible;
+      kept = rw c.requires.newest c.requires.kept;
       returned = rw (images_are g c) c.return_all-lost.ensures;
     }
 
@@ -36,17 +35,15 @@ returns-in_err-machine g c =
     let images = has c.args.loader.now in
     let typed = c.deref.result.now in
     let back = backs_are to new images typed c.return_all-lost.result (came g (goal.at.returns-in_err-machine g c).After-deref) in
-    let loss = c.in_err-machine.field-0.0 in
     let p = err_from_is_err_and c.from_residual.result c.from_residual.ensures.1 in
     let empty = outlet g.K.Sink c.args.sink.now in
-    subst (λ (s : Set). ConvertsKept to s (name_of s c.args.machine) images empty empty c.from_residual.result) c.requires.newest
-    (rw (p.1, p.2) (loses_kept to new (name_of new c.args.machine) images (map state_of typed) back loss.section loss.cell empty c.in_err-machine.ensures))
+    subst (λ s. ConvertsKept to s (name_of s c.args.machine) images empty empty c.from_residual.result) c.requires.newest
+    (rw (p.1, p.2) (record { backs = map state_of typed; back = back; loses = c.in_err-machine.ensures }, refl))
 
 pub write_back-requires-clause-of : goal.write_back-requires-clause-of
 write_back-requires-clause-of g c =
     let p = goal.at.write_back-requires-clause-of g c in
-    let returned = c.return_all-lost.ensures in
-    rw (same g p.After-deref-2, images_are g p.After-deref) (record { one_each = returned.count; each = returned.of })
+    rw (same g p.After-deref-2, images_are g p.After-deref) (record { one_each = c.return_all-lost.ensures.count; each = c.return_all-lost.ensures.of })
 
 pub write_back-requires-clause-ready : goal.write_back-requires-clause-ready
 write_back-requires-clause-ready g c =
@@ -68,7 +65,7 @@ returns-in_err-write_back g c =
     let empty = outlet g.K.Sink c.args.sink.now in
     let full = outlet g.K.Sink c.write_back.new.sink in
     let stops : Stops empty full (stream_of to (at_option to.machines m) (map state_of typed)) = rw (← same g p.After-deref-2) c.in_err-write_back.ensures in
-    subst (λ (s : Set). ConvertsKept to s (name_of s c.args.machine) images empty full c.from_residual-in_err-write_back.result) c.requires.newest
+    subst (λ s. ConvertsKept to s (name_of s c.args.machine) images empty full c.from_residual-in_err-write_back.result) c.requires.newest
     (rw (r.1, r.2) (puts_kept to new (name_of new c.args.machine) images (map state_of typed) back m c.in_ok-machine.ensures (Stops empty full) stops))
 
 pub returns : goal.returns
@@ -83,5 +80,4 @@ returns g c =
     let empty = outlet g.K.Sink c.args.sink.now in
     let full = outlet g.K.Sink c.write_back.new.sink in
     let puts : Puts empty full (stream_of to (at_option to.machines m) (map state_of typed)) = rw (← same g p.After-deref-2) c.in_ok-write_back.ensures in
-    subst (λ (s : Set). PutsStream to s (name_of s c.args.machine) images (Puts empty full)) c.requires.newest
-    (puts_kept to new (name_of new c.args.machine) images (map state_of typed) back m c.in_ok-machine.ensures (Puts empty full) puts)
+    rw c.requires.newest at (puts_kept to new (name_of new c.args.machine) images (map state_of typed) back m c.in_ok-machine.ensures (Puts empty full) puts)

@@ -1,4 +1,4 @@
-use Rattle.vms_convert.proofs.Facade.{◌<◌, List, ℤ, length, refl, ap, ◌∙◌, arith, described, device_at, Typed, state_of, steps_of, own_part}
+use Rattle.vms_convert.proofs.Facade.{◌<◌, List, ℤ, length, refl, ap, ◌∙◌, arith, described, device_at, state_of, steps_of, own_part}
 use Rattle.vms_convert.proofs.BringLaws.{own_spot, gave_all, gave_own, gave_sub}
 use Rattle.vms_convert.proofs.TakeLaws.{first_slots, put_rest}
 use Rattle.vms_convert.proofs.BackNormal.{steps_long}
@@ -6,9 +6,7 @@ use Rattle.vms_convert.proofs.carrying.give_all.Goals as goal
 
 pub give_part-requires-clause-part : goal.give_part-requires-clause-part
 give_part-requires-clause-part c =
-    let set = described c.args.set.now in
-    let image = c.args.gift.image.now in
-    let h = own_spot set c.args.device c.requires.device c.args.set.now.well_formed image.numbers c.requires.of.cells in
+    let h = own_spot (described c.args.set.now) c.args.device c.requires.device c.args.set.now.well_formed c.args.gift.image.now.numbers c.requires.of.cells in
     rw c.own_part.ensures (record { part = h.part; few = h.few; room = h.room })
 
 pub loop-sub-init : goal.loop-sub-init
@@ -36,14 +34,14 @@ loop-sub-preserved c =
     let before = c.loop-sub.target in
     let now = c.give_sub.new.target in
     let j = c.loop-sub.sub in
-    let less : j < length (device_at set c.args.device).subs = omega (arith, c.loop-sub-test.true, c.sub_count-sub-end.ensures) in
+    let less : j < length (device_at set c.args.device).subs = omega arith in
     put_rest target before now _ (put_rest target target before _ refl c.loop-sub.invariant) c.give_sub.ensures
     ∙ ap (λ (l : List ℤ). record target { numbers = l })
     (gave_sub set c.args.device c.requires.device (state_of image) c.requires.of.subs c.requires.version ps target.numbers before.numbers now.numbers j less
-    (ap (λ (x : Typed). x.numbers) c.loop-sub.invariant) (ap (λ (x : Typed). x.numbers) c.give_sub.ensures))
+    (rw (c.loop-sub.invariant)) (rw (c.give_sub.ensures)))
 
 pub returns : goal.returns
 returns c =
     let given = gave_all (described c.args.set.now) c.args.device c.requires.device (state_of c.args.gift.image.now) c.requires.of.subs c.requires.version
-    c.args.gift.partners.now c.args.target.now.numbers c.loop-sub.sub (omega (arith, c.sub_count-sub-end.ensures)) (omega (arith, c.sub_count-sub-end.ensures)) in
+    c.args.gift.partners.now c.args.target.now.numbers c.loop-sub.sub (omega arith) (omega arith) in
     rw given at c.loop-sub.invariant

@@ -4,7 +4,5 @@ use Rattle.vms_convert.proofs.carrying.give_all.Given as goal
 
 abbrev pub invariant-loop-sub : goal.invariant-loop-sub
 invariant-loop-sub l =
-    let set = described l.set in
-    let image = l.gift.image.now in
-    Changes (give_step l.gift.partners.now image.numbers)
-    (steps_of (first_slots set (device_at set l.device) image.came l.sub image.numbers)) l.fn.target l.target
+    Changes (give_step l.gift.partners.now l.gift.image.now.numbers)
+    (steps_of (first_slots (described l.set) (device_at (described l.set) l.device) l.gift.image.now.came l.sub l.gift.image.now.numbers)) l.fn.target l.target

@@ -1,8 +1,7 @@
-use Rattle.vms_convert.proofs.Facade.{ap}
 use Rattle.vms_convert.proofs.BackNormal.{may_give}
 use Rattle.vms_convert.proofs.giving.give_part.Goals as goal
 
 pub walk-requires-clause-may : goal.walk-requires-clause-may
 walk-requires-clause-may c xs ys rest x b h e =
     may_give c.args.gift.partners.now b.partners.now c.args.gift.image.now.numbers b.image.now.numbers xs c.args.target.now b.target.now
-    (ap (λ p. p.now) h.2) (ap (λ i. i.now.numbers) h.1) h.3 c.requires.targets c.requires.kinds
+    (rw (h.2)) (rw (h.1)) h.3 c.requires.targets c.requires.kinds

@@ -1,5 +1,6 @@
-use Rattle.vms_convert.proofs.Facade.{map, ◌∙◌, ◌≡◌, Some, slice_get, IsReady, described, device_at, state_of, at_state, IsValidAt, device_below, find_device}
-use Rattle.vms_convert.proofs.JudgeLaws.{invalid_of, on_false, on_true, own_bound, own_image, searched_by, valid_none, valid_of}
+use Rattle.vms_convert.proofs.Facade.{map, ◌∙◌, ◌≡◌, Some, slice_get, OnTrue_at, OnTrue_from, OnFalse_at, OnFalse_from, IsReady, described, device_at, state_of}
+use Rattle.vms_convert.proofs.Facade.{at_state, IsValidAt, device_below, find_device, image_at}
+use Rattle.vms_convert.proofs.JudgeLaws.{invalid_of, own_bound, searched_by, valid_none, valid_of}
 use Rattle.vms_convert.proofs.losing.is_valid.Goals.{After-index-images-own, In-Some}
 use Rattle.vms_convert.proofs.losing.is_valid.Goals as goal
 
@@ -9,10 +10,11 @@ found : (c : In-Some)
     ≡ Some c.in-Some.own
 found c = searched_by _ _ _ _ _ c.device-described.ensures c.as_bytes.ensures c.find.ensures ∙ c.in-Some.is
 
-image_at : (c : After-index-images-own) → slice_get c.args.images.now c.in-Some.own ≡ Some c.index-images-own.result
-image_at c =
-    own_image (described c.args.to.now) c.args.images.now c.requires.writable _ _ c.in-Some.own
-    (searched_by _ _ _ _ _ c.device-described.ensures c.as_bytes.ensures c.find.ensures ∙ c.in-Some.is) c.index-images-own.result c.index-images-own.is
+its_image : (c : After-index-images-own) → slice_get c.args.images.now c.in-Some.own ≡ Some c.index-images-own.result
+its_image c =
+    image_at c.args.images.now c.in-Some.own c.index-images-own.result
+    (own_bound (described c.args.to.now) c.args.images.now c.requires.writable _ _ c.in-Some.own
+    (searched_by _ _ _ _ _ c.device-described.ensures c.as_bytes.ensures c.find.ensures ∙ c.in-Some.is)) c.index-images-own.is
 
 pub bounds-images-own : goal.bounds-images-own
 bounds-images-own c = own_bound (described c.args.to.now) c.args.images.now c.requires.writable _ _ c.in-Some.own (found (goal.at.bounds-images-own c).In-Some)
@@ -22,11 +24,11 @@ ready-requires-clause-is_device c = device_below (described c.args.to.now).devic
 
 pub ready-requires-clause-subs : goal.ready-requires-clause-subs
 ready-requires-clause-subs c =
-    (c.requires.writable.of c.in-Some.own c.index-images-own.result (image_at (goal.at.ready-requires-clause-subs c).After-index-images-own)).subs
+    (c.requires.writable.of c.in-Some.own c.index-images-own.result (its_image (goal.at.ready-requires-clause-subs c).After-index-images-own)).subs
 
 pub ready-requires-clause-cells : goal.ready-requires-clause-cells
 ready-requires-clause-cells c =
-    (c.requires.writable.of c.in-Some.own c.index-images-own.result (image_at (goal.at.ready-requires-clause-cells c).After-index-images-own)).cells
+    (c.requires.writable.of c.in-Some.own c.index-images-own.result (its_image (goal.at.ready-requires-clause-cells c).After-index-images-own)).cells
 
 pub returns-in-Some : goal.returns-in-Some
 returns-in-Some c =
@@ -37,13 +39,13 @@ returns-in-Some c =
     let image = c.index-images-own.result in
     let p = goal.at.returns-in-Some c in
     let is = found p.In-Some in
-    let at = at_state images own image (image_at p.After-index-images-own) in
+    let at = at_state images own image (its_image p.After-index-images-own) in
     record {
-      valid = on_true c.ready.result (IsReady to (device_at to own) (state_of image)) (IsValidAt to new (map state_of images) c.args.device)
-          (valid_of to new images c.requires.writable c.args.device own image is at) c.ready.ensures.ready;
-      other = on_false c.ready.result (IsReady to (device_at to own) (state_of image) → ⊥) (IsValidAt to new (map state_of images) c.args.device → ⊥)
-          (invalid_of to new images c.requires.writable c.args.device own image c.requires.device is
-          (device_below to.devices _ _ own is) at) c.ready.ensures.other;
+      valid = OnTrue_from c.ready.result (IsValidAt to new (map state_of images) c.args.device)
+          (λ e. valid_of to new images c.requires.writable c.args.device own image is at (OnTrue_at e c.ready.ensures.ready));
+      other = OnFalse_from c.ready.result (IsValidAt to new (map state_of images) c.args.device → ⊥)
+          (λ e. invalid_of to new images c.requires.writable c.args.device own image c.requires.device is (device_below to.devices _ _ own is) at
+          (OnFalse_at {P = IsReady to (device_at to own) (state_of image) → ⊥} e c.ready.ensures.other));
     }
 
 pub returns-in-None-clause-valid : goal.returns-in-None-clause-valid

@@ -1,5 +1,5 @@
 use Rattle.vms_convert.proofs.Facade.{ℕ, ◌+◌, ◌*◌, ◌<◌, ◌≤◌, List, ◌++◌, length, Option, refl, sym, ap, ◌∙◌, arith, rules, not-false, on_ok_weaker, ◌≡◌, subst}
-use Rattle.vms_convert.proofs.Facade.{Side, HasFew, field_of, struct_on, described, found_field, reach, is_absent, desc_on, partners_on}
+use Rattle.vms_convert.proofs.Facade.{HasFew, field_of, struct_on, described, found_field, reach, is_absent, desc_on, partners_on}
 use Rattle.vms_spec.specs.declared.Part.TheVariants as parts
 use Rattle.vms_convert.proofs.PartnerLaws.{depth, structs_paired}
 use Rattle.vms_convert.proofs.PartnerSteps.{absent_pairs, all_paired, alone_pairs, arrays_are, arrays_room, both_pair, element_alone_pairs, element_pairs}
@@ -13,22 +13,20 @@ pair_descs-loop-number-init t c = record { start = record { inside = omega arith
 
 pub pair_descs-pair_field-requires : goal.pair_descs-pair_field-requires
 pair_descs-pair_field-requires t c =
-    let inside : c.loop-number.number < length (desc_on c.args.old).fields = omega (arith, c.loop-number-test.true, c.field_count-number-end.ensures) in
-    (search rules, (c.requires.old, (c.requires.new, (inside, (c.loop-number.invariant.few, c.loop-number.invariant.start)))))
+    (search rules, (c.requires.old, (c.requires.new, ((omega arith), (c.loop-number.invariant.few, c.loop-number.invariant.start)))))
 
 pub pair_descs-loop-number-preserved : goal.pair_descs-loop-number-preserved
 pair_descs-loop-number-preserved t c =
-    let inside : c.loop-number.number < length (desc_on c.args.old).fields = omega (arith, c.loop-number-test.true, c.field_count-number-end.ensures) in
     record {
       start = c.in_ok-start.ensures.start;
-      few = few_next c.args.old c.loop-number.number inside c.loop-number.invariant.few;
+      few = few_next c.args.old c.loop-number.number (omega arith) c.loop-number.invariant.few;
       so_far = c.in_ok-start.ensures.so_far ∙ c.loop-number.invariant.so_far;
     }
 
 pub pair_descs-returns : goal.pair_descs-returns
 pair_descs-returns t c =
     all_paired c.args.old c.args.new c.args.partners.now.items c.loop-number.partners.items c.loop-number.number c.args.first c.loop-number.start
-    (omega (arith, c.loop-number-test.false, c.field_count-number-end.ensures)) c.loop-number.invariant.so_far
+    (omega arith) c.loop-number.invariant.so_far
 
 -- ---- arrays
 
@@ -60,7 +58,7 @@ pub pair_present-pair_arrays-requires : goal.pair_present-pair_arrays-requires
 pair_present-pair_arrays-requires t c =
     let s = c.args.old in
     let r = c.args.new in
-    let inside : c.args.found.field < length (desc_on r).fields = omega (arith, c.if-found-field_count.true, c.field_count.ensures) in
+    let inside : c.args.found.field < length (desc_on r).fields = omega arith in
     let low : depth c.arrays_of.result.one.item ≤ reach (described s.set.now) s.part =
     rw c.arrays_of.ensures (field_depth s c.args.number c.requires.old c.requires.field) in
     let less : 7 * depth c.arrays_of.result.one.item + 3 < 7 * reach (described s.set.now) s.part + 4 = omega arith in (
@@ -73,34 +71,30 @@ pair_present-pair_arrays-requires t c =
 
 pub pair_present-returns-in_ok-pair_arrays : goal.pair_present-returns-in_ok-pair_arrays
 pair_present-returns-in_ok-pair_arrays t c =
-    let s = c.args.old in
     let r = c.args.new in
-    both_pair s r c.args.number c.requires.field c.requires.few c.args.partners.now.items c.pair_arrays.new.partners.items c.args.found c.args.found
-    c.behind.result c.requires.found (omega (arith, c.field_count.ensures)) c.behind.ensures c.requires.there
-    (rw (c.arrays_of.ensures, elements_all s r c.args.number c.args.found.field c.args.found.cell) at c.in_ok-pair_arrays.ensures)
+    both_pair c.args.old r c.args.number c.requires.field c.requires.few c.args.partners.now.items c.pair_arrays.new.partners.items c.args.found c.args.found
+    c.behind.result c.requires.found (omega arith) c.behind.ensures c.requires.there
+    (rw (c.arrays_of.ensures, elements_all c.args.old r c.args.number c.args.found.field c.args.found.cell) at c.in_ok-pair_arrays.ensures)
 
 pub pair_present-returns-in_ok-put_unpaired : goal.pair_present-returns-in_ok-put_unpaired
 pair_present-returns-in_ok-put_unpaired t c =
     alone_pairs c.args.old c.args.new c.args.number c.requires.field c.requires.few c.args.partners.now.items c.put_unpaired.new.partners.items c.args.found
-    c.args.found c.requires.found (omega (arith, c.field_count.ensures)) c.requires.there (rw c.field_cells.ensures at c.in_ok-put_unpaired.ensures)
+    c.args.found c.requires.found (omega arith) c.requires.there (rw c.field_cells.ensures at c.in_ok-put_unpaired.ensures)
 
 -- ---- structures
 
 pub pair_structs-pair_descs-requires : goal.pair_structs-pair_descs-requires
 pair_structs-pair_descs-requires t c =
-    let old = c.args.sets.old in
-    let new = c.args.sets.new in
-    let own : 7 * c.args.in_old + 6 < 7 * c.args.in_old + 7 = omega arith in
     let less : 7 * reach (described c.at_own_version.result.set.now) c.at_own_version.result.part + 6 < 7 * c.args.in_old + 7 =
-    rw c.at_own_version.ensures own in (
+    rw c.at_own_version.ensures (omega arith) in (
       search rules,
       (
         rw c.at_own_version.ensures c.requires.old,
         (
           rw c.at_own_version-2.ensures c.requires.new,
           (
-            subst (λ (x : Side). HasFew x 0) (sym c.at_own_version.ensures) (few_struct old c.args.in_old c.requires.few),
-            rw c.at_own_version-2.ensures (room_struct new c.args.in_new c.args.cell c.requires.room),
+            subst (λ x. HasFew x 0) (sym c.at_own_version.ensures) (few_struct c.args.sets.old c.args.in_old c.requires.few),
+            rw c.at_own_version-2.ensures (room_struct c.args.sets.new c.args.in_new c.args.cell c.requires.room),
           ),
         ),
       ),
@@ -111,8 +105,8 @@ pair_structs-returns t c =
     let old = c.args.sets.old in
     let new = c.args.sets.new in
     let at = c.args.cell in
-    let before = c.args.partners.now.items in
     let is = structs_paired (described old.now) (described new.now) old.now.well_formed c.args.in_old c.args.in_new _ _ at c.requires.old refl refl in
-    let pairs : partners_on c.at_own_version.result c.at_own_version-2.result at ≡ struct_on (described old.now) (described new.now) c.args.in_old c.args.in_new at =
+    let pairs : partners_on c.at_own_version.result c.at_own_version-2.result at
+    ≡ struct_on (described old.now) (described new.now) c.args.in_old c.args.in_new at =
     rw (c.at_own_version.ensures, c.at_own_version-2.ensures, is) in
-    on_ok_weaker c.pair_descs.result (λ e. e ∙ ap (λ (l : List (Option ℕ)). before ++ l) pairs) c.pair_descs.ensures
+    on_ok_weaker c.pair_descs.result (λ e. e ∙ ap (λ (l : List (Option ℕ)). c.args.partners.now.items ++ l) pairs) c.pair_descs.ensures

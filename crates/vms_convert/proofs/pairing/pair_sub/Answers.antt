@@ -1,26 +1,23 @@
-use Rattle.vms_convert.proofs.Facade.{◌≡◌, ◌<◌, List, length, map, Some, ap, ◌∙◌, sym, arith, ◌++◌, ℕ, Option, length-map, on_ok_weaker, find_sub, Desc, Device}
-use Rattle.vms_convert.proofs.Facade.{Sub, sub_of, described, device_at, few_subs, sub_in, desc_on}
-use Rattle.vms_parts.specs.declared.types.Sub.{Sub as CodeSub}
+use Rattle.vms_convert.proofs.Facade.{◌≡◌, ◌<◌, List, length, map, Some, ap, ◌∙◌, sym, arith, ◌++◌, ℕ, Option, length-map, on_ok_weaker, find_sub, Desc, Sub}
+use Rattle.vms_convert.proofs.Facade.{sub_of, described, device_at, few_subs, sub_in, desc_on}
 use Rattle.vms_convert.proofs.PartnerSteps.{room_sub, sub_pairs}
 use Rattle.vms_convert.proofs.pairing.pair_sub.Goals.{After-as_slice, After-find_sub, In-Some}
 use Rattle.vms_convert.proofs.pairing.pair_sub.Goals as goal
 
 subs_are : (c : After-as_slice) → map sub_of c.as_slice.result.now ≡ (device_at (described c.args.new.now) c.args.in_new).subs
-subs_are c = ap (λ (l : List CodeSub). map sub_of l) c.as_slice.ensures ∙ ap (λ (d : Device). d.subs) c.device.ensures
+subs_are c = ap (λ l. map sub_of l) c.as_slice.ensures ∙ ap (λ d. d.subs) c.device.ensures
 
 found : (c : After-find_sub) → c.find_sub.result ≡ find_sub 0 (device_at (described c.args.new.now) c.args.in_new).subs c.as_bytes-name.result.now
 found c =
     c.find_sub.ensures ∙ ap (λ (l : List Sub). find_sub 0 l c.as_bytes-name.result.now)
-    (ap (λ (l : List CodeSub). map sub_of l) c.as_slice.ensures ∙ ap (λ (d : Device). d.subs) c.device.ensures)
+    (ap (λ l. map sub_of l) c.as_slice.ensures ∙ ap (λ d. d.subs) c.device.ensures)
 
 -- the subsection that was found
 inside : (c : In-Some) → c.in-Some.found < length (device_at (described c.args.new.now) c.args.in_new).subs
 inside c =
-    let subs = (device_at (described c.args.new.now) c.args.in_new).subs in
-    let name = c.as_bytes-name.result.now in
-    sub_in subs name c.find_sub.result c.in-Some.found
-    (c.find_sub.ensures ∙ ap (λ (l : List Sub). find_sub 0 l name)
-    (ap (λ (l : List CodeSub). map sub_of l) c.as_slice.ensures ∙ ap (λ (d : Device). d.subs) c.device.ensures)) c.in-Some.is
+    sub_in ((device_at (described c.args.new.now) c.args.in_new).subs) c.as_bytes-name.result.now c.find_sub.result c.in-Some.found
+    (c.find_sub.ensures ∙ ap (λ (l : List Sub). find_sub 0 l c.as_bytes-name.result.now)
+    (ap (λ l. map sub_of l) c.as_slice.ensures ∙ ap (λ d. d.subs) c.device.ensures)) c.in-Some.is
 
 pub find_sub-requires : goal.find_sub-requires
 find_sub-requires c =
@@ -39,16 +36,15 @@ pair_descs-requires-clause-new c = (c.requires.new, inside (goal.at.pair_descs-r
 
 pub pair_descs-requires-clause-room : goal.pair_descs-requires-clause-room
 pair_descs-requires-clause-room c =
-    omega (arith, c.first_cell.ensures, room_sub c.args.new c.args.in_new c.in-Some.found (inside (goal.at.pair_descs-requires-clause-room c).In-Some))
+    omega (arith, room_sub c.args.new c.args.in_new c.in-Some.found (inside (goal.at.pair_descs-requires-clause-room c).In-Some))
 
 pub returns-in-Some : goal.returns-in-Some
 returns-in-Some c =
     let new = described c.args.new.now in
     let name = c.as_bytes-name.result.now in
-    let before = c.args.partners.now.items in
     let lt = inside (goal.at.returns-in-Some c).In-Some in
     let named : name ≡ (desc_on c.args.older).name = c.as_bytes-name.ensures ∙ ap (λ (d : Desc). d.name) c.desc.ensures in
     let is : find_sub 0 (device_at new c.args.in_new).subs (desc_on c.args.older).name ≡ Some c.in-Some.found =
-    ap (λ (n : List ℕ). find_sub 0 (device_at new c.args.in_new).subs n) (sym named) ∙ sym (found (goal.at.returns-in-Some c).After-find_sub) ∙ c.in-Some.is in
+    ap (λ n. find_sub 0 (device_at new c.args.in_new).subs n) (sym named) ∙ sym (found (goal.at.returns-in-Some c).After-find_sub) ∙ c.in-Some.is in
     let pairs = sub_pairs c.args.older c.args.new c.args.in_new c.in-Some.found c.first_cell.result c.requires.version lt is c.first_cell.ensures in
-    on_ok_weaker c.pair_descs.result (λ e. e ∙ ap (λ (l : List (Option ℕ)). before ++ l) pairs) c.pair_descs.ensures
+    on_ok_weaker c.pair_descs.result (λ e. e ∙ ap (λ (l : List (Option ℕ)). c.args.partners.now.items ++ l) pairs) c.pair_descs.ensures

@@ -3,7 +3,6 @@ use Rattle.vms_convert.proofs.pairing.put_unpaired.Goals as goal
 
 pub loop-cell-preserved : goal.loop-cell-preserved
 loop-cell-preserved c =
-    let before = c.args.partners.now.items in
     c.in_ok-push.ensures.items ∙ ap (λ (l : List (Option ℕ)). l ++ None ∷ []) c.loop-cell.invariant
-    ∙ append_assoc before (replicate c.loop-cell._cell None) (None ∷ [])
-    ∙ ap (λ (l : List (Option ℕ)). before ++ l) (replicate-append-replicate c.loop-cell._cell 1 None)
+    ∙ append_assoc c.args.partners.now.items (replicate c.loop-cell._cell None) (None ∷ [])
+    ∙ ap (λ (l : List (Option ℕ)). c.args.partners.now.items ++ l) (replicate-append-replicate c.loop-cell._cell 1 None)

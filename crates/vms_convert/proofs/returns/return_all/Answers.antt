@@ -1,5 +1,5 @@
 use Rattle.vms_convert.proofs.Facade.{◌<◌, length, arith, slice_get-get_or, described, loads}
-use Rattle.vms_convert.proofs.ReturnsLaws.{midway_first, midway_last, midway_next}
+use Rattle.vms_convert.proofs.LostLaws.{midway_first, midway_last, midway_next}
 use Rattle.vms_convert.proofs.returns.return_all.Goals.{After-index-images-device}
 use Rattle.vms_convert.proofs.returns.return_all.Goals as goal
 
@@ -7,7 +7,7 @@ pub loop-device-init : goal.loop-device-init
 loop-device-init c = midway_first (described c.args.to.now) (loads c.args.loader.now) _ c.args.routes.now c.args.images.now c.requires.routes c.requires.fresh
 
 inside : (c : After-index-images-device) → c.loop-device.device < length c.loop-device.routes
-inside c = omega (arith, c.loop-device-test.true, c.loop-device.invariant.long, c.loop-device.invariant.as_long, c.requires.fresh.count)
+inside c = omega arith
 
 pub return_at-cell-requires-clause-route : goal.return_at-cell-requires-clause-route
 return_at-cell-requires-clause-route c =
@@ -19,9 +19,7 @@ return_at-cell-requires-clause-route c =
 pub return_at-cell-requires-clause-fresh : goal.return_at-cell-requires-clause-fresh
 return_at-cell-requires-clause-fresh c =
     let n = c.loop-device.device in
-    let m = c.loop-device.invariant in
-    let lt : n < length c.loop-device.images = omega (arith, c.loop-device-test.true, m.long, c.requires.fresh.count) in
-    m.fresh n _ (omega arith) (slice_get-get_or c.loop-device.images n c.index-images-device.result lt)
+    c.loop-device.invariant.fresh n _ (omega arith) (slice_get-get_or c.loop-device.images n c.index-images-device.result (omega arith))
 
 pub loop-device-preserved : goal.loop-device-preserved
 loop-device-preserved c =
@@ -29,7 +27,7 @@ loop-device-preserved c =
     let m = c.loop-device.invariant in
     let inside = inside (goal.at.loop-device-preserved c).After-index-images-device in
     midway_next (described c.args.to.now) (loads c.args.loader.now) _ n _ c.loop-device.routes c.loop-device.images c.loop-device.lost c.earlier-lost.result
-    c.return_at-cell.new.route c.return_at-cell.new.image c.return_at-cell.result m (omega (arith, inside, m.as_long))
+    c.return_at-cell.new.route c.return_at-cell.new.image c.return_at-cell.result m (omega arith)
     (m.routes_are n _ (omega arith)
     (slice_get-get_or c.loop-device.routes n c.index-routes-device.result inside)).pair c.return_at-cell.ensures c.earlier-lost.ensures
 
@@ -37,4 +35,4 @@ pub returns : goal.returns
 returns c =
     let m = c.loop-device.invariant in
     midway_last (described c.args.to.now) (loads c.args.loader.now) _ c.loop-device.device c.loop-device.routes c.loop-device.images c.loop-device.lost m
-    (omega (arith, c.loop-device-test.false, c.loop-device.auto.device-end, m.long, c.requires.fresh.count))
+    (omega arith)

@@ -1,6 +1,6 @@
 use Rattle.vms_convert.proofs.Facade.{◌≡◌, ◌<◌, Some, length, ap, arith, length-map, slice_get_within, slice_get, described, state_of, at_state, image_at, has}
 use Rattle.vms_convert.proofs.Facade.{loads}
-use Rattle.vms_convert.proofs.ReturnsLaws.{recast_for, wanted_is}
+use Rattle.vms_convert.proofs.LostLaws.{recast_for, wanted_is}
 use Rattle.vms_convert.proofs.returns.return_at.Goals.{After-index-images-pair, Start}
 use Rattle.vms_convert.proofs.returns.return_at.Goals as goal
 
@@ -12,10 +12,9 @@ kept_at : (c : After-index-images-pair) → slice_get (has c.args.pair.loader.no
 kept_at c =
     let k = c.args.pair.other in
     let images = c.images.result.now in
-    let image = c.index-images-pair.result in
     let inside = slice_get_within (loads c.args.pair.loader.now).devices k _ c.requires.route.pair.in_new in
-    let within : k < length images = omega (arith, inside, length-map images state_of, ap length c.images.ensures.images, c.requires.kept.one_each) in
-    rw (← c.images.ensures.images) (at_state images k image (image_at images k image within c.index-images-pair.is))
+    let within : k < length images = omega (arith, length-map images state_of, ap length c.images.ensures.images) in
+    rw (← c.images.ensures.images) (at_state images k c.index-images-pair.result (image_at images k c.index-images-pair.result within c.index-images-pair.is))
 
 pub return_image-requires-clause-recast : goal.return_image-requires-clause-recast
 return_image-requires-clause-recast c =
@@ -25,10 +24,9 @@ return_image-requires-clause-recast c =
 
 pub returns : goal.returns
 returns c =
-    let to = described c.args.pair.to.now in
     let new = loads c.args.pair.loader.now in
     let k = c.args.pair.other in
     let image = c.index-images-pair.result in
     let p = goal.at.returns c in
-    rw (wanted_is to new c.requires.newest (has c.args.pair.loader.now) c.requires.kept k (inside p.Start) (state_of image)
+    rw (wanted_is (described c.args.pair.to.now) new c.requires.newest (has c.args.pair.loader.now) c.requires.kept k (inside p.Start) (state_of image)
     (kept_at p.After-index-images-pair)) c.return_image.ensures

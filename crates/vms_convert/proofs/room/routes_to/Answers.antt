@@ -1,10 +1,9 @@
-use Rattle.vms_convert.proofs.Facade.{◌≡◌, length, sym, ap, ◌∙◌, arith, length-map, Set, device_of, described}
-use Rattle.vms_convert.proofs.ReturnsLaws.{no_routes, route_more}
+use Rattle.vms_convert.proofs.Facade.{◌≡◌, length, sym, ap, ◌∙◌, arith, length-map, refl, Set, device_of, described}
+use Rattle.vms_convert.proofs.LostLaws.{route_more}
 use Rattle.vms_convert.proofs.room.routes_to.Goals as goal
 
 pub loop-device-init : goal.loop-device-init
-loop-device-init c =
-    rw c.in_ok-routes.ensures.items (no_routes (described c.args.to.now) (described c.args.newest.now))
+loop-device-init c = rw c.in_ok-routes.ensures.items (record { count = refl; each = λ i r e. absurd (cc) })
 
 pub loop-device-preserved : goal.loop-device-preserved
 loop-device-preserved c =
