@@ -1,15 +1,16 @@
 -- What is read of a description is exactly what it says.
 use Rattle.vms_analyze.proofs.Facade.{map-map, ◌≡◌, ℕ, Bool, true, false, ◌&&◌, ◌||◌, ◌==◌, nat_le, if◌then◌else◌, List, [], Option, Some, None, ℤ, codes, refl}
-use Rattle.vms_analyze.proofs.Facade.{sym, ap, ◌∙◌, ◌∷◌, map, IfSome, Ordering, Less, Equal, Greater, subst, ◌+◌, drop, bytes_eq, is_utf8, and_parts, eqb-true}
-use Rattle.vms_analyze.proofs.Facade.{and_from, eq-eqb, bytes_eq-Decides, list_all, nat_cmp, match_ordering, slice_cmp, Data, number, string, object}
-use Rattle.vms_analyze.proofs.Facade.{no_members, member, array, Items, Members, of_integer, get, get_member, as_array, fits, Kind, width, MOST_UNUSED}
-use Rattle.vms_analyze.proofs.Facade.{LONGEST_NAME, in_range, kind_word, kind_named, word_named, tells_kind, natural, entry_tree, list_tree, LONGEST_PATH, Told}
-use Rattle.vms_analyze.proofs.Facade.{Sent, Kept, Fixed, Skipped, told_entry, is_path, is_good, ToldSub, told_sub, ToldDevice, told_device, told_tree}
-use Rattle.vms_analyze.proofs.Facade.{fits_four, is_kept, is_good_sub, is_good_device, IsSorted, AreSorted, HoldSorted, only, text_at, path_at, natural_at}
-use Rattle.vms_analyze.proofs.Facade.{whole_at, sent_keys, kept_keys, unprinted, sent_as, sent_in, kept_as, kept_in, element_in, next, four_at, flag_at}
-use Rattle.vms_analyze.proofs.Facade.{list_at, each, sub_keys, sub_in, subs_in, device_keys, device_in, devices_in, items_of, read, value_in, Tells}
+use Rattle.vms_analyze.proofs.Facade.{ap, ◌∙◌, ◌∷◌, map, IfSome, Ordering, Equal, subst, ◌+◌, drop, bytes_eq, is_utf8, and_parts, eqb-true, and_from, eq-eqb}
+use Rattle.vms_analyze.proofs.Facade.{bytes_eq-Decides, list_all, nat_cmp, match_ordering, slice_cmp, Data, number, string, object, no_members, member, array}
+use Rattle.vms_analyze.proofs.Facade.{Items, Members, of_integer, get, get_member, as_array, fits, Kind, width, MOST_UNUSED, LONGEST_NAME, in_range, kind_word}
+use Rattle.vms_analyze.proofs.Facade.{kind_named, word_named, tells_kind, natural, entry_tree, list_tree, LONGEST_PATH, Told, Sent, Kept, Fixed, Skipped}
+use Rattle.vms_analyze.proofs.Facade.{told_entry, is_path, is_good, ToldSub, told_sub, ToldDevice, told_device, told_tree, fits_four, is_kept, is_good_sub}
+use Rattle.vms_analyze.proofs.Facade.{is_good_device, IsSorted, AreSorted, HoldSorted, only, text_at, path_at, natural_at, whole_at, sent_keys, kept_keys}
+use Rattle.vms_analyze.proofs.Facade.{unprinted, sent_as, sent_in, kept_as, kept_in, element_in, next, four_at, flag_at, list_at, each, sub_keys, sub_in}
+use Rattle.vms_analyze.proofs.Facade.{subs_in, device_keys, device_in, devices_in, items_of, read, value_in, Tells}
 use Rattle.vms_analyze.specs.Read.{elements_in}
-use Rattle.vms_analyze.proofs.MembersRead.{is_picked, after, first_then, only_is, only_so, text_is, path_is, natural_is, whole_is, whole_back, Says, under, IsPathAt, four_is, flag_is, list_is, each_says, each_back, read_sorted}
+use Rattle.vms_analyze.proofs.MembersRead.{is_picked, after, first_then, only_is, only_so, text_is, path_is, natural_is, whole_is, whole_back, Says, under}
+use Rattle.vms_analyze.proofs.MembersRead.{IsPathAt, four_is, flag_is, list_is, each_says, each_back, read_sorted}
 use Rattle.vms_analyze.proofs.Parts.{sub_parts, sub_from, device_parts, device_from}
 
 -- ---- What is read of an element is the element whose entry the value is, and of each good element's entry that element is read.
@@ -51,7 +52,7 @@ unprinted_is : (path : List ℕ) (size : ℕ) (word : List ℕ) (t : Told) → u
 unprinted_is path size word t e = go (bytes_eq word (codes "equal")) (bytes_eq word (codes "unused")) refl refl e
   where
     same : (w : List ℕ) → bytes_eq word w ≡ true → three (string path) (natural size) (string word) ≡ three (string path) (natural size) (string w)
-    same w f = ap (λ (l : List ℕ). three (string path) (natural size) (string l)) ((bytes_eq-Decides word w).0 f)
+    same w f = rw ((bytes_eq-Decides word w).0 f)
 
     go : (a b : Bool) → bytes_eq word (codes "equal") ≡ a → bytes_eq word (codes "unused") ≡ b
         → (if a then only (is_fixed size) (Fixed path size) else if b then only (is_few size) (Skipped path size) else None) ≡ Some t
@@ -128,12 +129,12 @@ element_says d sorted t e = go (fits sent_keys [] d) (fits kept_keys [] d) refl 
 pub element_back : (t : Told) → is_good t ≡ true → element_in (element_tree t) ≡ Some t
 element_back (Sent path kind) e =
     first_then _ (only_so (is_path LONGEST_PATH path) path e)
-    (ap (sent_as path (width kind) (kind_word kind)) (word_named kind) ∙ only_so (width kind == width kind) (Sent path kind) (eq-eqb (width kind) (width kind) refl))
+    (rw (word_named kind) (only_so (width kind == width kind) (Sent path kind) (eq-eqb (width kind) (width kind) refl)))
 element_back (Kept path kind value) e =
     let p = and_parts (is_path LONGEST_PATH path) (in_range kind value) e in
     first_then _ (only_so (is_path LONGEST_PATH path) path p.0)
     (first_then _ (whole_back value)
-    (ap (kept_as path 0 value) (word_named kind) ∙ only_so (in_range kind value) (Kept path kind value) p.1))
+    (rw (word_named kind) (only_so (in_range kind value) (Kept path kind value) p.1)))
 element_back (Fixed path n) e =
     let fixed = n == 1 || n == 2 || n == 4 || n == 8 in
     let p = and_parts (is_path LONGEST_PATH path) fixed e in
@@ -152,9 +153,8 @@ held key no_members h = tt
 held key (member l d ms) h = go (slice_cmp nat_cmp key l) (held key ms h.1)
   where
     go : (o : Ordering) → IfSome (get_member key ms) IsSorted → IfSome (match_ordering o (get_member key ms) (Some d) (get_member key ms)) IsSorted
-    go Less more = more
     go Equal more = h.0
-    go Greater more = more
+    go _ more = more
 
 under_sorted : (key : List ℕ) (d : Data) → IsSorted d → IfSome (get key d) IsSorted
 under_sorted key (object ms) h = held key ms h.1
@@ -182,11 +182,11 @@ module _ {A : Type 0} (tree : A → Data) (good : A → Bool) (says : Data → O
       record { is = list_is (get key d) a.value a.first ∙ ap array s.trees_are; fine = s.good_are }
 
 entries_back : (ts : List Told) → list_all is_good ts ≡ true → each element_in (items_of (map entry_tree (map told_entry ts))) ≡ Some ts
-entries_back ts h = ap (λ (l : List Data). each element_in (items_of l)) (map-map entry_tree told_entry ts) ∙ each_back element_tree is_good element_in element_back ts h
+entries_back ts h = rw (map-map entry_tree told_entry ts) (each_back element_tree is_good element_in element_back ts h)
 
 entries_are : (d : Data) (ts : List Told) → under (codes "fields") d ≡ list_tree element_tree ts
     → under (codes "fields") d ≡ list_tree entry_tree (map told_entry ts)
-entries_are d ts e = e ∙ ap (λ (l : List Data). array (items_of l)) (sym (map-map entry_tree told_entry ts))
+entries_are d ts e = rw (map-map entry_tree told_entry ts) e
 
 -- ---- subsections
 
@@ -218,8 +218,7 @@ sub_says d sorted s e = by_keys told_sub is_good_sub sub_keys _ d s e (λ h name
           is_picked sub_keys ((refl, (refl, (refl, tt))), ((refl, (refl, tt)), ((refl, tt), (tt, tt)))) d sorted h
           ∙ rw (entries_are d l.value elements.is, named.is, flag_is (get (codes "sent") d) b.value b.first, version.is) (ap told_sub o.same);
       good_is =
-          ap is_good_sub (sym o.same) ∙ sub_from (a_sub name b.value c.value l.value)
-          (record { name = named.good; version = version.good; elements = elements.fine; kept = o.so });
+          cc (sub_from (a_sub name b.value c.value l.value) (record { name = named.good; version = version.good; elements = elements.fine; kept = o.so }));
     })
 
 pub sub_back : (s : ToldSub) → is_good_sub s ≡ true → sub_in (told_sub s) ≡ Some s
@@ -250,8 +249,8 @@ device_says d sorted t e = by_keys told_device is_good_device device_keys _ d t 
           is_picked device_keys ((refl, (refl, (refl, (refl, tt)))), ((refl, (refl, (refl, tt))), ((refl, (refl, tt)), ((refl, tt), (tt, tt))))) d sorted h
           ∙ rw (entries_are d l.value elements.is, instance.is, named.is, subs.is, version.is) (ap told_device same);
       good_is =
-          ap is_good_device (sym same) ∙ device_from (a_device name b.value c.value l.value m.value)
-          (record { name = named.good; instance = instance.good; version = version.good; elements = elements.fine; subs = subs.fine });
+          cc (device_from (a_device name b.value c.value l.value m.value)
+          (record { name = named.good; instance = instance.good; version = version.good; elements = elements.fine; subs = subs.fine }));
     })
 
 pub device_back : (t : ToldDevice) → is_good_device t ≡ true → device_in (told_device t) ≡ Some t
@@ -278,9 +277,6 @@ devices_say d sorted ts e = go (fits (codes "devices" ∷ []) [] d) refl e
         }
     go false f e = cc
 
-pub devices_back : (ts : List ToldDevice) → list_all is_good_device ts ≡ true → devices_in (told_tree ts) ≡ Some ts
-devices_back ts h = each_back told_device is_good_device device_in device_back ts h
-
 -- ---- What is read of a description's text is what it says.
 
 value_sorted : (text : List ℕ) (d : Data) → value_in text ≡ Some d → IsSorted d
@@ -288,8 +284,7 @@ value_sorted text d e = go (is_utf8 text) (read text) (read_sorted text) e
   where
     go : (b : Bool) (o : Option Data) → IfSome o IsSorted → (if b then o else None) ≡ Some d → IsSorted d
     go true (Some other) h e = let same : other ≡ d = cc in subst IsSorted same h
-    go true None h e = cc
-    go false o h e = cc
+    go _ _ h e = cc
 
 pub tells_if : (input : List ℕ) (p : ℕ) (devices : List ToldDevice) → next (value_in (drop (p + 5) input)) devices_in ≡ Some devices → Tells input p devices
 tells_if input p devices e =
@@ -298,7 +293,7 @@ tells_if input p devices e =
     record { tree = a.first ∙ ap (λ (d : Data). Some d) s.tree_is; good = s.good_is }
 
 pub told_back : (input : List ℕ) (p : ℕ) (devices : List ToldDevice) → Tells input p devices → next (value_in (drop (p + 5) input)) devices_in ≡ Some devices
-told_back input p devices t = first_then devices_in t.tree (devices_back devices t.good)
+told_back input p devices t = first_then devices_in t.tree (each_back told_device is_good_device device_in device_back devices t.good)
 
 pub not_told : (input : List ℕ) (p : ℕ) → next (value_in (drop (p + 5) input)) devices_in ≡ None → (devices : List ToldDevice) → Tells input p devices → ⊥
 not_told input p e devices t = let back = told_back input p devices t in cc

@@ -1,7 +1,6 @@
 -- The names of other crates, and of this crate's `specs`, that the proofs use.
-pub use Rattle.std.proofs.Common.{Bool, Equal, Err, Global, Greater, IfErr, IfSome, Less, List, None, Ok, OnOk, Option, Ordering, Result, SFits, Some, Vec}
-pub use Rattle.std.proofs.Common.{[], ap}
-pub use Rattle.std.proofs.Common.{append-nil, append_assoc, ap₂, arith, codes, cond, decimal, drop, false, get_or, if◌then◌else◌, int_le, is_none, is_some}
+pub use Rattle.std.proofs.Common.{Bool, Equal, Err, Global, Greater, IfErr, IfSome, Less, List, None, Ok, OnOk, Option, Ordering, Result, SFits, Some, Vec, []}
+pub use Rattle.std.proofs.Common.{ap, append-nil, append_assoc, ap₂, arith, codes, cond, decimal, drop, false, get_or, if◌then◌else◌, int_le, is_none, is_some}
 pub use Rattle.std.proofs.Common.{length, length-append, length-drop, length-take, map, nat_le, nat_lt, negsuc, not, option_and_then, option_map, pos, refl}
 pub use Rattle.std.proofs.Common.{replicate, rules, slice_index, subst, suc, sym, take, true, unwrap_or, zero, ℕ, ℤ, ⊎_elim, ◌%◌, ◌&&◌, ◌*◌, ◌++◌, ◌+◌, ◌-◌}
 pub use Rattle.std.proofs.Common.{◌/◌, ◌<◌, ◌==◌, ◌^◌, ◌||◌, ◌∙◌, ◌∷◌, ◌≡◌, ◌≢◌, ◌≤◌}
@@ -35,7 +34,7 @@ pub use Rattle.std.specs.List.{AllByRecursion, flat_map, list_all}
 pub use Rattle.std.specs.Ordering.{is_eq, match_ordering, nat_cmp, ordering_reverse}
 pub use Rattle.std.specs.Str.{bytes_eq}
 unfoldable pub use Rattle.std.specs.Str.{chars, is_utf8}
-pub use Rattle.vms_kinds.specs.Codes.{InRange, highest, lowest, value_of, width}
+pub use Rattle.vms_kinds.specs.Codes.{InRange, highest, lowest, width}
 unfoldable pub use Rattle.vms_kinds.specs.Codes.{code}
 pub use Rattle.vms_kinds.specs.declared.Item.{Item}
 pub use Rattle.vms_kinds.specs.declared.Item.TheVariants.{Num, Struct, Unused}
@@ -62,7 +61,7 @@ pub use Rattle.vms_spec.specs.Values.{values_text}
 pub use Rattle.vms_spec.specs.WellFormed.{WellFormed, deepest, devices_items, failing, here, items_in, set_rules, struct_depths, struct_items, subs_items}
 unfoldable pub use Rattle.vms_spec.specs.WellFormed.{first_fault}
 pub use Rattle.vms_spec.specs.declared.Count.{Count}
-pub use Rattle.vms_spec.specs.declared.Count.TheVariants.{Counted, One}
+pub use Rattle.vms_spec.specs.declared.Count.TheVariants.{One}
 pub use Rattle.vms_spec.specs.declared.Part.{Part}
 pub use Rattle.vms_spec.specs.declared.TheConstants.{LONGEST_NAME, MOST_UNUSED}
 pub use Rattle.vms_words.proofs.Lines.{begun}
@@ -94,10 +93,10 @@ pub use Rattle.vms_analyze.specs.Telling.{told, told_device_of, told_devices, to
 pub use Rattle.vms_analyze.specs.Told.{Fixed, Kept, Sent, Skipped, Told, ToldDevice, ToldSub, fits_four, is_good, is_good_device, is_good_sub, is_kept, is_path}
 pub use Rattle.vms_analyze.specs.Told.{is_path_byte, told_device, told_entry, told_sub, told_tree}
 pub use Rattle.vms_analyze.specs.Typed.{ReadsAs, device_of, devices_wants, element_wants, sub_of, subs_wants, told_of}
-pub use Rattle.vms_analyze.specs.Walking.{AtStart, Goes, HasNoMachine, IsInside, Prints, Stops, Walks, WhyNone, WhyStopped, left}
+pub use Rattle.vms_analyze.specs.Walking.{AtStart, Goes, IsInside, Prints, Stops, Walks, WhyNone, WhyStopped, left}
 pub use Rattle.vms_analyze.specs.Wanted.{Any, Bytes, Differs, Foot, Found, Head, Line, Lines, Machine, Number, Took, Want, behind, device_wants, element_want}
 pub use Rattle.vms_analyze.specs.Wanted.{found, found_after, is_machine, kept_line, machine_line, number_line, only_if, section_line, sent_line, start_wants}
-pub use Rattle.vms_analyze.specs.Wanted.{sub_head_wants, sub_wants, take_head, take_machine, take_number, taken, took, wants}
+pub use Rattle.vms_analyze.specs.Wanted.{sub_head_wants, sub_wants, take_machine, take_number, taken, took, wants}
 pub use Rattle.vms_analyze.specs.declared.elements.TheConstants.{LONGEST_PATH}
 pub use Rattle.vms_analyze.specs.declared.fault.AnalyzeFault.{AnalyzeFault}
 pub use Rattle.vms_analyze.specs.declared.input.NoInput.{NoInput}
@@ -129,21 +128,21 @@ pub use Rattle.vms_selfdesc.proofs.Shapes.{described_plain}
 pub use Rattle.vms_selfdesc.proofs.Soundness.{fields_flat, natural_fits, negative_fits, part_sound}
 pub use Rattle.vms_selfdesc.proofs.WholeText.{reads_whole}
 pub use Rattle.vms_selfdesc.specs.Drafts.{AreSound, IsSound}
-pub use Rattle.vms_selfdesc.specs.Entries.{Entry, entries_of, entry_of, part_entries}
+pub use Rattle.vms_selfdesc.specs.Entries.{entries_of, entry_of, part_entries}
 pub use Rattle.vms_selfdesc.specs.Tree.{described_text, described_tree, device_trees, entry_tree, list_tree, natural, sub_trees}
 pub use Rattle.vms_values_laws.proofs.AllCome.{short_are}
-pub use Rattle.vms_values_laws.proofs.SecondPass.{AreShort, of_numbers}
 pub use Rattle.vms_values_laws.proofs.ReadyParts.{text_says}
 pub use Rattle.vms_values_laws.proofs.Rights.{AreGood, IsFitting, begins_itself, fine_both, fine_rest, good_both, line_number, reason_fits}
 pub use Rattle.vms_values_laws.proofs.SaidLaws.{all_both}
+pub use Rattle.vms_values_laws.proofs.SecondPass.{AreShort, of_numbers}
 pub use Rattle.byteorder.specs.Endian.{big_number}
 pub use Rattle.json.specs.Lex.{tokens}
 pub use Rattle.json.specs.Print.{escape, escape_letter}
 unfoldable pub use Rattle.json.specs.Print.{escape_byte}
 pub use Rattle.memchr.specs.Find.{NoneAfter, Nowhere, Passes, is_byte}
 unfoldable pub use Rattle.serde_json.proofs.OnLiterals.{serde_json_on_literals}
-pub use Rattle.serde_json.specs.Data.{Data, Items, Members, array, boolean, float, item, member, negative, no_items, no_members, null, number, object, put}
-pub use Rattle.serde_json.specs.Data.{string, unsigned}
+pub use Rattle.serde_json.specs.Data.{Data, Items, Members, array, boolean, item, member, negative, no_items, no_members, null, number, object, put, string}
+pub use Rattle.serde_json.specs.Data.{unsigned}
 pub use Rattle.serde_json.specs.Find.{as_array, as_bool, as_number, as_str, as_u64, get, get_member, of_integer}
 pub use Rattle.serde_json.specs.Read.{max_depth, number_of, of_items, of_json, of_members, read}
 pub use Rattle.serde_json.specs.View.{items_of}

@@ -1,9 +1,9 @@
 -- What is required, one after the other, is taken if it is at the front.
-use Rattle.vms_analyze.proofs.Facade.{◌≡◌, ℕ, ◌+◌, ◌<◌, ◌^◌, Bool, true, false, ◌&&◌, nat_le, List, [], ◌∷◌, ◌++◌, length, length-append, append_assoc, take}
-use Rattle.vms_analyze.proofs.Facade.{Some, ℤ, refl, sym, ap, ◌∙◌, arith, codes, decimal, le-leb, and_from, Kind, width, code, value_of, InRange, number_at}
-use Rattle.vms_analyze.proofs.Facade.{in_range, be32, section_head, foot, length-code, value_code, be32_read, front_take, front_drop, ranged, begins_itself}
-use Rattle.vms_analyze.proofs.Facade.{Want, Bytes, Any, Number, Head, Foot, Line, number_line, Took, took, only_if, take_number, take_head, taken, Found, Lines}
-use Rattle.vms_analyze.proofs.Facade.{Differs, behind, found_after, found}
+use Rattle.vms_analyze.proofs.Facade.{◌≡◌, ℕ, ◌+◌, ◌<◌, ◌^◌, Bool, true, false, ◌&&◌, nat_le, List, [], ◌∷◌, ◌++◌, length, length-append, append_assoc, Some, ℤ}
+use Rattle.vms_analyze.proofs.Facade.{refl, sym, ap, ◌∙◌, arith, codes, decimal, le-leb, and_from, Kind, width, code, InRange, number_at, in_range, be32}
+use Rattle.vms_analyze.proofs.Facade.{section_head, foot, length-code, value_code, be32_read, front_take, front_drop, ranged, begins_itself, Want, Bytes, Any}
+use Rattle.vms_analyze.proofs.Facade.{Number, Head, Foot, Line, number_line, Took, took, only_if, take_number, taken, Found, Lines, Differs, behind}
+use Rattle.vms_analyze.proofs.Facade.{found_after, found}
 
 -- ---- one
 
@@ -36,9 +36,7 @@ takes_number path kind z id fits = record { is = λ more. whole more }
     whole : (more : List ℕ) → taken (Number path kind) id (code kind z ++ more) ≡ Some (took (length (code kind z)) id (number_line path z ∷ []))
     whole more =
         let rest = code kind z ++ more in
-        let value : value_of kind (take (width kind) rest) ≡ z =
-        ap (value_of kind) (front_take (width kind) (code kind z) more rest refl (length-code kind z)) ∙ value_code kind z fits in
-        ap (λ (y : ℤ). take_number path kind id rest y) value
+        ap (λ (y : ℤ). take_number path kind id rest y) (cc (front_take (width kind) (code kind z) more rest refl (length-code kind z), value_code kind z fits))
         ∙ if_so (nat_le (width kind) (length rest) && in_range kind z) (took (width kind) id (number_line path z ∷ []))
         (and_from _ _ (le-leb (width kind) (length rest) (omega (arith, length-append (code kind z) more, length-code kind z))) (ranged kind z fits))
         ∙ ap (λ (k : ℕ). Some (took k id (number_line path z ∷ []))) (sym (length-code kind z))
@@ -54,12 +52,10 @@ takes_head name instance version old id small = record { is = λ more. whole mor
     whole : (more : List ℕ) → taken (Head name instance version) old (section_head id name instance version ++ more) ≡ Some
         (took (length (section_head id name instance version)) id (line ∷ []))
     whole more =
-        let rest = section_head id name instance version ++ more in
         let tail = (length name ∷ name) ++ be32 instance ++ be32 version in
-        let its : number_at 4 1 rest ≡ id =
-        ap (λ (l : List ℕ). Rattle.byteorder.specs.Endian.big_number 4 l) (append_assoc (be32 id) tail more) ∙ be32_read id (tail ++ more) small in
-        ap (λ (k : ℕ). take_head name instance version rest k) its
-        ∙ if_so _ (took (length (section_head id name instance version)) id (line ∷ [])) (begins_itself (section_head id name instance version) more)
+        let its : number_at 4 1 (section_head id name instance version ++ more) ≡ id =
+        ap (λ l. Rattle.byteorder.specs.Endian.big_number 4 l) (append_assoc (be32 id) tail more) ∙ be32_read id (tail ++ more) small in
+        rw its (if_so _ (took (length (section_head id name instance version)) id (line ∷ [])) (begins_itself (section_head id name instance version) more))
 
 -- ---- one after the other
 
@@ -80,7 +76,7 @@ pub none_follows : (id : ℕ) → Follows [] id [] id []
 none_follows id = record {
   goes = λ more place rest.
       let same : place ≡ place + 0 = omega arith in
-      ap (λ (k : ℕ). found more id k rest) same ∙ sym (behind_none (found more id (place + 0) rest));
+      ap (λ k. found more id k rest) same ∙ sym (behind_none (found more id (place + 0) rest));
 }
 
 pub one_follows : {w : Want} {id : ℕ} {bytes : List ℕ} {next : ℕ} {lines : List (List ℕ)} → Takes w id bytes next lines → Follows (w ∷ []) id bytes next lines

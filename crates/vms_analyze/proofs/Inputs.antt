@@ -5,8 +5,7 @@ use Rattle.vms_analyze.proofs.Facade.{append_assoc, ⊎_elim, eq-eqb, cases_lt, 
 use Rattle.vms_analyze.proofs.Facade.{IsPlace, IsLastPlace, longest_input, Listing, Refused, listing_of, Lists, IsTooLong, HasNone, HasNoShape, IsRead, Text}
 use Rattle.vms_analyze.proofs.Facade.{Intake, takes_both, takes_as, breaks_more, nothing_follows, Takes, Appended, IsWhole, TakesPiece, TakesInput, HasMore}
 use Rattle.vms_analyze.proofs.Facade.{NoInput, AnalyzeFault, ListsAs, IsListed, IsTooMuch, ListsTaken, ShowsAs, Found, Lines, Differs, Want, behind, found}
-use Rattle.vms_analyze.proofs.Facade.{text_of, Walk, left, Goes, Stops, WhyStopped, AtStart, WhyNone, Stop, Data, Items, no_items, item, next, each, ReadsAs}
-use Rattle.vms_analyze.proofs.Facade.{Unread}
+use Rattle.vms_analyze.proofs.Facade.{text_of, Walk, left, Goes, WhyStopped, AtStart, WhyNone, Stop, Data, Items, no_items, item, next, each, ReadsAs, Unread}
 use Rattle.std.proofs.lemmas.List.{length-take}
 use Rattle.vms_analyze.specs.declared.input.NoInput.TheVariants as none
 use Rattle.vms_analyze.specs.declared.fault.AnalyzeFault.TheVariants as faults
@@ -33,12 +32,12 @@ none_at input end q none not_below place = ⊎_elim (λ (lt : q < end). not_belo
 pub none_after : (input : List ℕ) (end at : ℕ) → end ≤ length input → NoneFrom input end
     → NoneAfter (Passes (is_byte 6) (take end input)) 0 (length (take end input)) at → NoneFrom input (at + 1)
 none_after input end at le none h q low place =
-    none_at input end q none (λ lt. h.after q low (omega (arith, lt, long input end le)) (marked input end q lt place)) place
+    none_at input end q none (λ lt. h.after q low (omega (arith, long input end le)) (marked input end q lt place)) place
 
 pub none_before : (input : List ℕ) (end : ℕ) → end ≤ length input → NoneFrom input end
     → Nowhere (Passes (is_byte 6) (take end input)) 0 (length (take end input)) → (q : ℕ) → IsPlace input q → ⊥
 none_before input end le none h q place =
-    none_at input end q none (λ lt. h q (omega arith) (omega (arith, lt, long input end le)) (marked input end q lt place)) place
+    none_at input end q none (λ lt. h q (omega arith) (omega (arith, long input end le)) (marked input end q lt place)) place
 
 -- the place that was found
 pub last_found : (input : List ℕ) (end at : ℕ) → end ≤ length input → NoneFrom input end
@@ -57,9 +56,8 @@ found_none input end at le none h other q low place =
 pub piece_ends : {old mid new : Intake} {was now : List ℕ} {room : ℕ} {done : Bool} → Takes old mid was → Appended mid new was now room done → done ≡ true
     → length was + room ≤ longest_input + 1 → IsWhole old new now
 piece_ends {was = was} p a e le =
-    let short = a.short e in
     record {
-      few = subst (λ (l : List ℕ). length l ≤ longest_input) (sym a.items) (omega (arith, le, short, length-append was a.bytes));
+      few = rw a.items (omega (arith, a.short e, length-append was a.bytes));
       takes = takes_as (sym a.items) (takes_both p a.takes);
       end = a.end e;
     }
@@ -67,23 +65,18 @@ piece_ends {was = was} p a e le =
 -- if there is more
 pub piece_grows : {mid new : Intake} {was now : List ℕ} {room : ℕ} {done : Bool} → Appended mid new was now room done → done ≡ false
     → length now ≡ length was + room
-piece_grows {was = was} a e = ap length a.items ∙ length-append was a.bytes ∙ ap (λ (n : ℕ). length was + n) (a.all e)
-
-pub piece_takes : {old mid new : Intake} {was now : List ℕ} {room : ℕ} {done : Bool} → Takes old mid was → Appended mid new was now room done
-    → Takes old new now
-piece_takes p a = takes_as (sym a.items) (takes_both p a.takes)
+piece_grows {was = was} a e = cc (length-append was a.bytes, a.all e)
 
 pub piece_few : {mid new : Intake} {was now : List ℕ} {room : ℕ} {done : Bool} → Appended mid new was now room done → length was + room ≤ longest_input + 1
     → length now ≤ longest_input + 1
-piece_few {was = was} a le =
-    subst (λ (l : List ℕ). length l ≤ longest_input + 1) (sym a.items) (let few = a.few in omega (arith, le, few, length-append was a.bytes))
+piece_few {was = was} a le = rw a.items (omega (arith, length-append was a.bytes))
 
 pub piece_fails : (old mid new : Intake) (was now : List ℕ) (room : ℕ) (why : NoInput) → Takes old mid was → TakesPiece mid new was now room (Err why)
     → length was + room ≤ longest_input + 1 → TakesInput old new (Err why)
 piece_fails old mid new was now room none.TooLong p h le = absurd h
 piece_fails old mid new was now room none.ReadFault p h le = breaks_more (longest_input + 1) le p h
 piece_fails old mid new was now room none.NoMemory p h le =
-    record { bytes = was ++ h.bytes; takes = takes_both p h.takes; few = let few = h.few in omega (arith, le, few, length-append was h.bytes) }
+    record { bytes = was ++ h.bytes; takes = takes_both p h.takes; few = omega (arith, length-append was h.bytes) }
 
 -- ---- From what was taken of a source to what it lists.
 
@@ -105,18 +98,18 @@ module _ (old new : Intake) (input : List ℕ) (whole : IsWhole old new input) w
       takes = whole.takes;
       long = whole.few;
       says = λ more f.
-          let same : input ++ more ≡ input = ap (λ (x : List ℕ). input ++ x) (nothing_follows new.left more whole.end f) ∙ append-nil input in
-          subst (λ (x : List ℕ). Lists x l) (sym same) lists;
+          let same : input ++ more ≡ input = ap (λ x. input ++ x) (nothing_follows new.left more whole.end f) ∙ append-nil input in
+          subst (λ x. Lists x l) (sym same) lists;
       cause = tt;
     };
     end = whole.end;
   }
 
   pub lists_taken : (r : Result (Vec ℕ Global) AnalyzeFault) → ListsAs input r → ListsTaken old new r
-  lists_taken (Err (faults.Refused at reasons.TooLong)) l = absurd (omega (arith, whole.few, too_long input at _ l refl))
+  lists_taken (Err (faults.Refused at reasons.TooLong)) l = absurd (omega (arith, too_long input at _ l refl))
   lists_taken (Err faults.ReadFault) l = absurd l
   lists_taken (Err faults.WriteFault) l = absurd l
-  lists_taken (Err faults.NoMemory) l = record { bytes = input; takes = whole.takes; few = omega (arith, whole.few) }
+  lists_taken (Err faults.NoMemory) l = record { bytes = input; takes = whole.takes; few = omega arith }
   lists_taken _ l = is_listed _ l
 
 pub is_too_much : (old new : Intake) → HasMore old new → IsTooMuch old new (Refused longest_input reasons.TooLong)
@@ -125,7 +118,7 @@ is_too_much old new h = record {
     bytes = h.front;
     takes = h.takes;
     long = h.long;
-    says = λ more f. IsTooLong (omega (arith, h.long, length-append h.front more));
+    says = λ more f. IsTooLong (omega (arith, length-append h.front more));
     cause = tt;
   };
 }
@@ -135,19 +128,17 @@ is_too_much old new h = record {
 -- ---- a walk from the first byte on
 
 at_start : (ws : List Want) (old : Walk) (stream : List ℕ) → AtStart old stream → found (ws ++ []) old.id old.place (left old) ≡ found ws 0 0 stream
-at_start ws old stream s =
-    ap (λ (l : List Want). found l old.id old.place (left old)) (append-nil ws) ∙ ap (λ (i : ℕ). found ws i old.place (left old)) s.0
-    ∙ ap (λ (k : ℕ). found ws 0 k (drop k old.input.now)) s.1 ∙ ap (found ws 0 0) s.2
+at_start ws old stream s = rw (append-nil ws, s.0, s.1) (ap (found ws 0 0) s.2)
 
 whole_is : (ws : List Want) (old new : Walk) (stream rest : List ℕ) → AtStart old stream → (g : Goes ws old new) → left new ≡ rest
     → found ws 0 0 stream ≡ behind g.lines (found [] new.id new.place rest)
-whole_is ws old new stream rest s g e = sym (at_start ws old stream s) ∙ g.taken [] ∙ ap (λ (l : List ℕ). behind g.lines (found [] new.id new.place l)) e
+whole_is ws old new stream rest s g e = cc (at_start ws old stream s, g.taken [])
 
 -- which ends at its end
 pub is_shown : (ws : List Want) (old new : Walk) (stream : List ℕ) → AtStart old stream → Goes ws old new → new.place ≡ length stream
     → listing_of (found ws 0 0 stream) ≡ Text new.text.items
 is_shown ws old new stream s g e =
-    let none : left new ≡ [] = drop_all new.place new.input.now (omega (arith, e, ap length (g.input ∙ s.2))) in
+    let none : left new ≡ [] = drop_all new.place new.input.now (omega (arith, ap length (g.input ∙ s.2))) in
     ap listing_of (whole_is ws old new stream [] s g none) ∙ ap (λ (l : List (List ℕ)). Text (text_of l)) (append-nil g.lines)
     ∙ ap Text (sym (g.printed ∙ ap (λ (l : List ℕ). l ++ text_of g.lines) s.3))
 
@@ -157,17 +148,12 @@ pub has_more : (ws : List Want) (old new : Walk) (stream : List ℕ) → AtStart
 has_more ws old new stream s g other = go (left new) refl
   where
     go : (l : List ℕ) → left new ≡ l → listing_of (found ws 0 0 stream) ≡ Refused new.place reasons.Mismatch
-    go [] e = absurd (other (omega (arith, g.inside, ap length (g.input ∙ s.2), ap length e, length-drop new.place new.input.now)))
+    go [] e = absurd (other (omega (arith, ap length (g.input ∙ s.2), ap length e, length-drop new.place new.input.now)))
     go (b ∷ rest) e = ap listing_of (whole_is ws old new stream (b ∷ rest) s g e)
-
--- which stops
-pub is_stopped : (ws : List Want) (old new : Walk) (stream : List ℕ) → AtStart old stream → Stops ws old new
-    → listing_of (found ws 0 0 stream) ≡ Refused new.place reasons.Mismatch
-is_stopped ws old new stream s h = ap listing_of (sym (at_start ws old stream s) ∙ h.differs [])
 
 pub why_none : (ws : List Want) (old new : Walk) (stream : List ℕ) (stop : Stop) → AtStart old stream → WhyStopped ws old new stop
     → WhyNone (listing_of (found ws 0 0 stream)) new stop
-why_none ws old new stream whys.Differs s h = is_stopped ws old new stream s h
+why_none ws old new stream whys.Differs s h = ap listing_of (sym (at_start ws old stream s) ∙ h.differs [])
 why_none ws old new stream whys.NoMemory s h = tt
 
 -- ---- what an input lists
@@ -177,11 +163,10 @@ pub text_behind : (input : List ℕ) (k : ℕ) → take (length input - k) (drop
 text_behind input k = take_all (length input - k) (drop k input) (omega (arith, length-drop k input))
 
 pub lists_as : (input : List ℕ) (listing : Listing) (r : Result (Vec ℕ Global) AnalyzeFault) → Lists input listing → ShowsAs listing r → ListsAs input r
-lists_as input listing (Ok text) lists e = subst (Lists input) e lists
-lists_as input listing (Err (faults.Refused at reason)) lists e = subst (Lists input) e lists
-lists_as input listing (Err faults.ReadFault) lists e = absurd e
-lists_as input listing (Err faults.WriteFault) lists e = absurd e
+lists_as input listing (Ok text) lists e = rw e at lists
+lists_as input listing (Err (faults.Refused at reason)) lists e = rw e at lists
 lists_as input listing (Err faults.NoMemory) lists e = tt
+lists_as input listing _ lists e = absurd e
 
 -- ---- Lists whose items are read one after the other.
 

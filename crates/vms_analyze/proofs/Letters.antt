@@ -1,14 +1,13 @@
 -- Names of a well-formed set and paths are of the bytes that a description may have.
-use Rattle.vms_analyze.proofs.Facade.{◌≡◌, ℕ, zero, suc, ◌+◌, ◌<◌, ◌≤◌, ◌%◌, ◌/◌, Bool, true, false, ◌&&◌, ◌||◌, ◌==◌, nat_le, if◌then◌else◌, List, [], ◌∷◌}
-use Rattle.vms_analyze.proofs.Facade.{◌++◌, length, length-append, refl, ap, ◌∙◌, subst, arith, nat_lt, get_or, map, ℤ, list_all, AllByRecursion, mod-lt}
-use Rattle.vms_analyze.proofs.Facade.{and_parts, leb-true, le-leb, lt-ltb, and_from, digits, digits_onto, digit_glyph, list_all-append, Count, One, Counted}
-use Rattle.vms_analyze.proofs.Facade.{is_name_byte, is_name, is_sub_name, index_text, What, Constant, Filler, Rule, Shape, no_shape, shape, shapes, cells_in}
-use Rattle.vms_analyze.proofs.Facade.{dotted, single, item_elements, Stand, stand_of, array_elements, field_elements, elements_from, desc_elements}
-use Rattle.vms_analyze.proofs.Facade.{is_path_byte, is_path, sub_name_is, Item, Num, Unused, Struct, MOST_UNUSED, in_range, defaults_well, is_small_item, Field}
-use Rattle.vms_analyze.proofs.Facade.{Desc, Set, no_desc, first, counted, capacity_of, item_size, field_cells, desc_cells, numbers_of, all_hold, one_more}
-use Rattle.vms_analyze.proofs.Facade.{elements_in, Each, each_append, each_map}
+use Rattle.vms_analyze.proofs.Facade.{◌≡◌, ℕ, zero, suc, ◌+◌, ◌<◌, ◌≤◌, ◌%◌, ◌/◌, Bool, true, false, ◌&&◌, ◌==◌, nat_le, if◌then◌else◌, List, [], ◌∷◌, ◌++◌}
+use Rattle.vms_analyze.proofs.Facade.{length, length-append, refl, ap, ◌∙◌, arith, nat_lt, get_or, map, ℤ, list_all, AllByRecursion, mod-lt, and_parts}
+use Rattle.vms_analyze.proofs.Facade.{leb-true, le-leb, lt-ltb, and_from, digits, digits_onto, digit_glyph, list_all-append, Count, One, is_name_byte, is_name}
+use Rattle.vms_analyze.proofs.Facade.{is_sub_name, index_text, What, Constant, Filler, Rule, Shape, no_shape, shape, shapes, cells_in, dotted, single}
+use Rattle.vms_analyze.proofs.Facade.{item_elements, Stand, stand_of, array_elements, field_elements, elements_from, desc_elements, is_path_byte, is_path}
+use Rattle.vms_analyze.proofs.Facade.{sub_name_is, Item, Num, Unused, Struct, MOST_UNUSED, in_range, defaults_well, is_small_item, Field, Desc, Set, no_desc}
+use Rattle.vms_analyze.proofs.Facade.{first, counted, capacity_of, item_size, field_cells, desc_cells, numbers_of, all_hold, one_more, elements_in, Each}
+use Rattle.vms_analyze.proofs.Facade.{each_append, each_map}
 use Rattle.std.specs.Fmt.{decimal}
-use Rattle.vms_spec.specs.declared.Count.TheVariants.{Fixed}
 use Rattle.vms_elements.specs.Elements.{Number, Element, behind}
 use Rattle.vms_kinds.specs.declared.Item.TheVariants.{Equal}
 
@@ -21,11 +20,7 @@ pub record IsNamed (most : ℕ) (text : List ℕ) : Type 0 where
   pub bytes : list_all is_path_byte text ≡ true
 
 pub named_path : (most : ℕ) (text : List ℕ) → IsNamed most text → is_path most text ≡ true
-named_path most text h =
-    let a = le-leb 1 (length text) h.some in
-    let b = le-leb (length text) most h.few in
-    let c = h.bytes in
-    rw (a, b, c) refl
+named_path most text h = rw (le-leb 1 (length text) h.some, (le-leb (length text) most h.few), h.bytes) refl
 
 pub named_within : (a b : ℕ) (text : List ℕ) → a ≤ b → IsNamed a text → IsNamed b text
 named_within a b text le h = let few = h.few in record { some = h.some; few = omega arith; bytes = h.bytes }
@@ -39,7 +34,7 @@ name_bytes : (xs : List ℕ) → list_all is_name_byte xs ≡ true → list_all 
 name_bytes [] e = refl
 name_bytes (x ∷ xs) e =
     let p = and_parts (is_name_byte x) (list_all is_name_byte xs) e in
-    ap (λ (b : Bool). (b || x == 91 || x == 93 || x == 47) && list_all is_path_byte xs) p.0 ∙ name_bytes xs p.1
+    rw (p.0) (name_bytes xs p.1)
 
 pub name_named : (most : ℕ) (name : List ℕ) → is_name most name ≡ true → IsNamed most name
 name_named most name e =
@@ -53,30 +48,25 @@ sub_named device name d e =
     let n = sub_name_is device name e in
     let tail = name_named 64 n.tail n.good in
     let few = d.few in
-    let few' = tail.few in
     let long : length (front ++ n.tail) ≡ length device + 1 + length n.tail = omega (arith, length-append front n.tail, length-append device (47 ∷ [])) in
     let same = ap length n.whole in
     record {
-      some = omega (arith, same, long);
-      few = omega (arith, same, long);
-      bytes = subst (λ (l : List ℕ). list_all is_path_byte l ≡ true) n.whole (every_both front n.tail (every_both device (47 ∷ []) d.bytes refl) tail.bytes);
+      some = omega arith;
+      few = omega arith;
+      bytes = rw n.whole at (every_both front n.tail (every_both device (47 ∷ []) d.bytes refl) tail.bytes);
     }
 
 -- ---- numbers of elements
 
 digit_byte : (d : ℕ) → d < 10 → is_path_byte (digit_glyph false d) ≡ true
-digit_byte d lt =
-    let t = lt-ltb d 10 lt in
-    let a = le-leb 48 (48 + d) (omega arith) in
-    let b = le-leb (48 + d) 57 (omega arith) in
-    rw (t, a, b) refl
+digit_byte d lt = rw (lt-ltb d 10 lt, (le-leb 48 (48 + d) (omega arith)), (le-leb (48 + d) 57 (omega arith))) refl
 
 onto : (k n : ℕ) (acc : List ℕ) → list_all is_path_byte acc ≡ true → list_all is_path_byte (digits_onto k 10 false n acc) ≡ true
 onto zero n acc h = h
 onto (suc k) n acc h = go (n / 10 == 0) (onto k (n / 10) (digit_glyph false (n % 10) ∷ acc) here)
   where
     here : list_all is_path_byte (digit_glyph false (n % 10) ∷ acc) ≡ true
-    here = ap (λ (b : Bool). b && list_all is_path_byte acc) (digit_byte (n % 10) (mod-lt n (omega arith))) ∙ h
+    here = rw (digit_byte (n % 10) (mod-lt n (omega arith))) (h)
 
     go : (b : Bool) → list_all is_path_byte (digits_onto k 10 false (n / 10) (digit_glyph false (n % 10) ∷ acc)) ≡ true
         → list_all is_path_byte (if b then digit_glyph false (n % 10) ∷ acc else digits_onto k 10 false (n / 10) (digit_glyph false (n % 10) ∷ acc)) ≡ true
@@ -89,8 +79,7 @@ decimal_bytes n = onto 64 n [] refl
 
 pub index_bytes : (count : Count) (e : ℕ) → list_all is_path_byte (index_text count e) ≡ true
 index_bytes One e = refl
-index_bytes (Fixed n) e = every_both (91 ∷ decimal e) (93 ∷ []) (decimal_bytes e) refl
-index_bytes (Counted by n) e = every_both (91 ∷ decimal e) (93 ∷ []) (decimal_bytes e) refl
+index_bytes _ e = every_both (91 ∷ decimal e) (93 ∷ []) (decimal_bytes e) refl
 
 -- ---- Each element of a part of a well-formed set has a path of the right bytes, and may be described.
 
@@ -135,7 +124,6 @@ behind_good : (f : Field) → is_name 32 f.name ≡ true → (e : ℕ) (step : �
     → IsGoodElement (behind step (f.name ++ index_text f.count e) c p x)
 behind_good f name e step c p x h =
     let named = name_named 32 f.name name in
-    let some = named.some in
     let front = f.name ++ index_text f.count e in
     record {
       part = record { bytes = every_both front x.name (every_both f.name (index_text f.count e) named.bytes (index_bytes f.count e)) h.bytes; what = h.what };

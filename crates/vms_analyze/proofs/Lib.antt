@@ -3,9 +3,7 @@ pub mod DevicesRead
 pub mod Facade
 pub mod Following
 pub mod Inputs
-pub mod Lengths
 pub mod Letters
-pub mod Longest
 pub mod MembersRead
 pub mod One
 pub mod Parts
@@ -14,5 +12,4 @@ pub mod Shown
 pub mod Streams
 pub mod Texts
 pub mod Total
-pub mod WalkHeads
 pub mod Walks

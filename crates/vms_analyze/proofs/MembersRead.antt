@@ -1,12 +1,12 @@
 -- What was read of an object's members and of a list's items, and keys in order.
-use Rattle.vms_analyze.proofs.Facade.{Ordering, Less, Equal, Greater, ◌≡◌, ℕ, Bool, true, false, ◌&&◌, ◌||◌, List, [], ◌∷◌, ◌++◌, append-nil, is_some}
-use Rattle.vms_analyze.proofs.Facade.{unwrap_or, Option, Some, None, refl, sym, ap, ap₂, ◌∙◌, subst, IfSome, option_map, option_and_then, map, ℤ, pos, negsuc}
-use Rattle.vms_analyze.proofs.Facade.{arith, and_parts, le-ltb, nat_list_cmp_total, exact_bytes, is_eq-slice_cmp, nat_cmp, match_ordering, ordering_reverse}
-use Rattle.vms_analyze.proofs.Facade.{is_eq, slice_cmp, bytes_eq, list_all, Data, null, boolean, number, string, array, object, Members, no_members, member}
-use Rattle.vms_analyze.proofs.Facade.{put, Items, item, unsigned, negative, float, no_items, get, get_member, as_bool, as_number, as_str, as_array, as_u64}
-use Rattle.vms_analyze.proofs.Facade.{of_integer, is_one_of, has, has_no_others, has_all, fits, IsLess, IsBefore, AreOrdered, keys_of, IsSorted, AreSorted}
-use Rattle.vms_analyze.proofs.Facade.{HoldSorted, tokens, number_of, of_json, of_items, of_members, max_depth, read, items_of, natural, is_path, fits_four}
-use Rattle.vms_analyze.proofs.Facade.{next, only, text_at, path_at, natural_at, four_at, whole_of, whole_at, each}
+use Rattle.vms_analyze.proofs.Facade.{Ordering, Less, Equal, Greater, ◌≡◌, ℕ, Bool, true, false, ◌&&◌, List, [], ◌∷◌, ◌++◌, append-nil, is_some, unwrap_or}
+use Rattle.vms_analyze.proofs.Facade.{Option, Some, None, refl, sym, ap, ap₂, ◌∙◌, IfSome, option_map, option_and_then, map, ℤ, pos, negsuc, arith, and_parts}
+use Rattle.vms_analyze.proofs.Facade.{le-ltb, nat_list_cmp_total, exact_bytes, is_eq-slice_cmp, nat_cmp, match_ordering, ordering_reverse, is_eq, slice_cmp}
+use Rattle.vms_analyze.proofs.Facade.{list_all, Data, null, boolean, number, string, array, object, Members, no_members, member, put, Items, item, unsigned}
+use Rattle.vms_analyze.proofs.Facade.{negative, no_items, get, get_member, as_bool, as_number, as_str, as_array, as_u64, of_integer, is_one_of, has}
+use Rattle.vms_analyze.proofs.Facade.{has_no_others, has_all, fits, IsLess, IsBefore, AreOrdered, keys_of, IsSorted, AreSorted, HoldSorted, tokens, number_of}
+use Rattle.vms_analyze.proofs.Facade.{of_json, of_items, of_members, max_depth, read, items_of, natural, is_path, fits_four, next, only, text_at, path_at}
+use Rattle.vms_analyze.proofs.Facade.{natural_at, four_at, whole_of, whole_at, each}
 use Rattle.vms_analyze.proofs.Parts.{each_good}
 use Rattle.serde_json.specs.Data.{Num}
 use Rattle.json.specs.Json as json
@@ -16,10 +16,10 @@ use Rattle.json.specs.Json as json
 -- ---- the order of keys
 
 less_turned : (k l : List ℕ) → slice_cmp nat_cmp k l ≡ Greater → IsLess l k
-less_turned k l e = nat_list_cmp_total.antisymm l k ∙ ap ordering_reverse e
+less_turned k l e = cc (nat_list_cmp_total.antisymm l k)
 
 greater_turned : (k l : List ℕ) → IsLess l k → slice_cmp nat_cmp k l ≡ Greater
-greater_turned k l e = nat_list_cmp_total.antisymm k l ∙ ap ordering_reverse e
+greater_turned k l e = cc (nat_list_cmp_total.antisymm k l)
 
 before_more : (k l : List ℕ) (keys : List (List ℕ)) → IsLess k l → IsBefore l keys → IsBefore k keys
 before_more k l [] lt h = tt
@@ -52,28 +52,22 @@ put_both k d (member m e ms) x h = go (slice_cmp nat_cmp k m) refl (put_both k d
 
 -- ---- exactly these keys
 
-other_key : (k l : List ℕ) → IsLess k l → bytes_eq k l ≡ false
-other_key k l e = sym (is_eq-slice_cmp k l) ∙ ap is_eq e
-
-other_back : (k l : List ℕ) → IsLess l k → bytes_eq k l ≡ false
-other_back k l e = sym (is_eq-slice_cmp k l) ∙ ap is_eq (greater_turned k l e)
-
 -- a key before all of these isn't one of them, and has no value
 none_of : (l : List ℕ) (keys : List (List ℕ)) → IsBefore l keys → is_one_of keys l ≡ false
 none_of l [] h = refl
-none_of l (k ∷ keys) h = ap (λ (b : Bool). b || is_one_of keys l) (other_back k l h.0) ∙ none_of l keys h.1
+none_of l (k ∷ keys) h = rw (sym (is_eq-slice_cmp k l) ∙ ap is_eq (greater_turned k l h.0)) (none_of l keys h.1)
 
 none_under : (k : List ℕ) (ms : Members) → IsBefore k (keys_of ms) → get_member k ms ≡ None
 none_under k no_members h = refl
-none_under k (member l e ms) h = ap (λ (o : Ordering). match_ordering o (get_member k ms) (Some e) (get_member k ms)) h.0 ∙ none_under k ms h.1
+none_under k (member l e ms) h = rw (h.0) (none_under k ms h.1)
 
 -- without the first key, if no other is it
 others_left : (k : List ℕ) (keys : List (List ℕ)) (ms : Members) → IsBefore k (keys_of ms) → has_no_others (k ∷ keys) ms ≡ true → has_no_others keys ms ≡ true
 others_left k keys no_members h e = refl
 others_left k keys (member l d ms) h e =
     let p = and_parts (is_one_of (k ∷ keys) l) (has_no_others (k ∷ keys) ms) e in
-    let here : is_one_of keys l ≡ true = sym (ap (λ (b : Bool). b || is_one_of keys l) (other_key k l h.0)) ∙ p.0 in
-    ap (λ (b : Bool). b && has_no_others keys ms) here ∙ others_left k keys ms h.1 p.1
+    let here : is_one_of keys l ≡ true = sym (rw (sym (is_eq-slice_cmp k l) ∙ ap is_eq h.0)) ∙ p.0 in
+    ap (λ b. b && has_no_others keys ms) here ∙ others_left k keys ms h.1 p.1
 
 all_left : (l : List ℕ) (d : Data) (ms : Members) (keys : List (List ℕ)) → IsBefore l keys → has_all keys (object (member l d ms)) ≡ true
     → has_all keys (object ms) ≡ true
@@ -81,8 +75,8 @@ all_left l d ms [] h e = refl
 all_left l d ms (k ∷ keys) h e =
     let p = and_parts (has k (object (member l d ms))) (has_all keys (object (member l d ms))) e in
     let same : has k (object (member l d ms)) ≡ has k (object ms) =
-    ap (λ (o : Ordering). is_some (match_ordering o (get_member k ms) (Some d) (get_member k ms))) (greater_turned k l h.0) in
-    ap (λ (b : Bool). b && has_all keys (object ms)) (sym same ∙ p.0) ∙ all_left l d ms keys h.1 p.1
+    ap (λ o. is_some (match_ordering o (get_member k ms) (Some d) (get_member k ms))) (greater_turned k l h.0) in
+    ap (λ b. b && has_all keys (object ms)) (sym same ∙ p.0) ∙ all_left l d ms keys h.1 p.1
 
 pub just_keys : (keys : List (List ℕ)) (ms : Members) → AreOrdered keys → AreOrdered (keys_of ms) → has_no_others keys ms ≡ true
     → has_all keys (object ms) ≡ true → keys_of ms ≡ keys
@@ -100,18 +94,14 @@ just_keys (k ∷ keys) (member l d ms) h g e f = go (slice_cmp nat_cmp k l) refl
     go : (o : Ordering) → slice_cmp nat_cmp k l ≡ o → (has_no_others keys ms ≡ true → has_all keys (object ms) ≡ true → keys_of ms ≡ keys)
         → l ∷ keys_of ms ≡ k ∷ keys
     go Less is more =
-        let none : has k (object (member l d ms)) ≡ false =
-        ap (λ (o : Ordering). is_some (match_ordering o (get_member k ms) (Some d) (get_member k ms))) is ∙ ap is_some
-        (none_under k ms (before_more k l (keys_of ms) is g.0)) in
+        let none : has k (object (member l d ms)) ≡ false = cc (none_under k ms (before_more k l (keys_of ms) is g.0)) in
         cc (q.0)
     go Greater is more =
         let lt = less_turned k l is in
         cc (none_of l (k ∷ keys) (lt, before_more l k keys lt h.0), p.0)
     go Equal is more =
         let same : k ≡ l = exact_bytes k l is in
-        let first : IsBefore l keys = subst (λ (m : List ℕ). IsBefore m keys) same h.0 in
-        let left : has_no_others keys ms ≡ true = others_left k keys ms (subst (λ (m : List ℕ). IsBefore m (keys_of ms)) (sym same) g.0) p.1 in
-        ap (λ (m : List ℕ). m ∷ keys_of ms) (sym same) ∙ ap (λ (ks : List (List ℕ)). k ∷ ks) (more left (all_left l d ms keys first q.1))
+        rw (sym same, more (others_left k keys ms (rw same g.0) p.1) (all_left l d ms keys (rw same at h.0) q.1))
 
 -- ---- their values
 
@@ -124,30 +114,27 @@ picked_behind : (keys : List (List ℕ)) (l : List ℕ) (e : Data) (ms : Members
 picked_behind [] l e ms h = refl
 picked_behind (k ∷ keys) l e ms h =
     ap₂ (λ (o : Option Data) (rest : Members). member k (unwrap_or o null) rest)
-    (ap (λ (o : Ordering). match_ordering o (get_member k ms) (Some e) (get_member k ms)) (greater_turned k l h.0)) (picked_behind keys l e ms h.1)
+    (ap (λ o. match_ordering o (get_member k ms) (Some e) (get_member k ms)) (greater_turned k l h.0)) (picked_behind keys l e ms h.1)
 
 is_itself : (k : List ℕ) → slice_cmp nat_cmp k k ≡ Equal
 is_itself k = itself (slice_cmp nat_cmp k k) (nat_list_cmp_total.antisymm k k)
   where
     itself : (o : Ordering) → o ≡ ordering_reverse o → o ≡ Equal
     itself Equal e = refl
-    itself Less e = cc
-    itself Greater e = cc
+    itself _ e = cc
 
 all_picked : (ms : Members) → AreOrdered (keys_of ms) → ms ≡ picked (keys_of ms) (object ms)
 all_picked no_members h = refl
 all_picked (member l d ms) h =
-    let there : get_member l (member l d ms) ≡ Some d = ap (λ (o : Ordering). match_ordering o (get_member l ms) (Some d) (get_member l ms)) (is_itself l) in
-    ap₂ (λ (e : Data) (rest : Members). member l e rest) (sym (ap (λ (o : Option Data). unwrap_or o null) there))
+    let there : get_member l (member l d ms) ≡ Some d = ap (λ o. match_ordering o (get_member l ms) (Some d) (get_member l ms)) (is_itself l) in
+    ap₂ (λ (e : Data) (rest : Members). member l e rest) (sym (ap (λ o. unwrap_or o null) there))
     (all_picked ms h.1 ∙ sym (picked_behind (keys_of ms) l d ms h.0))
 
 -- an object of exactly these keys
 pub is_picked : (keys : List (List ℕ)) → AreOrdered keys → (d : Data) → IsSorted d → fits keys [] d ≡ true → d ≡ object (picked keys d)
 is_picked keys h (object ms) sorted e =
     let p = and_parts (has_no_others (keys ++ []) ms) (has_all keys (object ms)) e in
-    let others : has_no_others keys ms ≡ true = ap (λ (l : List (List ℕ)). has_no_others l ms) (sym (append-nil keys)) ∙ p.0 in
-    let just : keys_of ms ≡ keys = just_keys keys ms h sorted.0 others p.1 in
-    ap object (all_picked ms sorted.0 ∙ ap (λ (l : List (List ℕ)). picked l (object ms)) just)
+    ap object (all_picked ms sorted.0 ∙ ap (λ (l : List (List ℕ)). picked l (object ms)) (just_keys keys ms h sorted.0 (rw (sym (append-nil keys)) (p.0)) p.1))
 is_picked keys h _ sorted e = cc
 
 -- ---- A value that was read has the keys of each object in order.
@@ -205,7 +192,7 @@ after (Some a) f b e = record { value = a; first = refl; then = e }
 
 -- and so it was read
 pub first_then : {A B : Type 0} {o : Option A} {a : A} {r : Option B} (f : A → Option B) → o ≡ Some a → f a ≡ r → next o f ≡ r
-first_then f e g = ap (λ p. next p f) e ∙ g
+first_then f e g = rw e (g)
 
 pub record Only {A : Type 0} (b : Bool) (a c : A) : Type 0 where
   pub so : b ≡ true
@@ -252,8 +239,7 @@ number_in _ t e = cc
 
 unsigned_is : (n : Num) (k : ℕ) → as_u64 n ≡ Some k → n ≡ unsigned k
 unsigned_is (unsigned m) k e = cc
-unsigned_is (negative z) k e = cc
-unsigned_is (float x) k e = cc
+unsigned_is _ k e = cc
 
 pub natural_is : (key : List ℕ) (d : Data) (k : ℕ) → natural_at key d ≡ Some k → under key d ≡ natural k
 natural_is key d k e =
@@ -271,12 +257,8 @@ four_is key d k e =
     record { is = natural_is key d k (a.first ∙ ap (λ (x : ℕ). Some x) o.same); good = ap fits_four (sym o.same) ∙ o.so }
 
 whole_is_of : (n : Num) (z : ℤ) → whole_of n ≡ Some z → n ≡ of_integer z
-whole_is_of (unsigned m) (pos k) e = cc
-whole_is_of (unsigned m) (negsuc k) e = cc
-whole_is_of (negative (negsuc m)) (pos k) e = cc
-whole_is_of (negative (negsuc m)) (negsuc k) e = cc
 whole_is_of (negative (pos m)) z e = let f = rw (le-ltb m 0 (omega arith)) at e in cc
-whole_is_of (float x) z e = cc
+whole_is_of _ _ e = cc
 
 pub whole_is : (key : List ℕ) (d : Data) (z : ℤ) → whole_at key d ≡ Some z → under key d ≡ number (of_integer z)
 whole_is key d z e =

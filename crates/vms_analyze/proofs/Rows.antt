@@ -1,8 +1,7 @@
 -- Worked listings.
-use Rattle.vms_analyze.proofs.Facade.{◌≡◌, ℕ, zero, suc, true, false, not, ◌==◌, List, [], ◌∷◌, ◌++◌, get_or, take, drop, Some, None, pos, refl, ap, arith}
-use Rattle.vms_analyze.proofs.Facade.{codes, list_all, and_parts, eq-eqb, digits, is_utf8, chars, devices_in, next, serde_json_on_literals, code, U64, Image}
-use Rattle.vms_analyze.proofs.Facade.{trailer, value_in, Sent, ToldDevice, told_tree, is_good_device, Lines, Differs, wants, found, Refused, Lists, HasNone}
-use Rattle.vms_analyze.proofs.Facade.{HasNoShape}
+use Rattle.vms_analyze.proofs.Facade.{◌≡◌, ℕ, zero, suc, true, not, ◌==◌, List, [], ◌∷◌, ◌++◌, get_or, take, drop, Some, None, pos, refl, arith, codes}
+use Rattle.vms_analyze.proofs.Facade.{list_all, and_parts, eq-eqb, digits, is_utf8, chars, devices_in, next, serde_json_on_literals, code, U64, Image, trailer}
+use Rattle.vms_analyze.proofs.Facade.{value_in, Sent, ToldDevice, told_tree, is_good_device, Lines, Differs, wants, found, Refused, Lists, HasNone, HasNoShape}
 use Rattle.vms_analyze.specs.declared.fault.AnalyzeReason.TheVariants as reasons
 use Rattle.vms_analyze.proofs.DevicesRead.{not_told}
 use Rattle.vms_analyze.proofs.Texts.{last_place}
@@ -51,12 +50,9 @@ refuses_another_version : found (wants says_timer) 0 0 (0x51 ∷ 0x45 ∷ 0x56 �
 unfolding digits code
 refuses_another_version = refl
 
-not_six : (b : ℕ) → not (b == 6) ≡ true → b ≡ 6 → ⊥
-not_six b e is = let f : not (b == 6) ≡ false = ap not (eq-eqb b 6 is) in cc
-
 no_six : (input : List ℕ) → list_all (λ b. not (b == 6)) input ≡ true → (p : ℕ) → get_or input p 0 ≡ 6 → ⊥
-no_six [] e p m = absurd (omega (arith, m))
-no_six (b ∷ input) e zero m = not_six b (and_parts (not (b == 6)) (list_all (λ b. not (b == 6)) input) e).0 m
+no_six [] e p m = absurd (omega arith)
+no_six (b ∷ input) e zero m = let f : (b == 6) ≡ true = eq-eqb b 6 m in cc ((and_parts (not (b == 6)) (list_all (λ b. not (b == 6)) input) e).0)
 no_six (b ∷ input) e (suc p) m = no_six input (and_parts (not (b == 6)) (list_all (λ b. not (b == 6)) input) e).1 p m
 
 finds_no_description : Lists (smallest 0x7e) (Refused 41 reasons.NoDescription)

@@ -1,11 +1,11 @@
 -- The description of a well-formed set has the right shape.
 use Rattle.vms_analyze.proofs.Facade.{◌≡◌, ℕ, ◌+◌, Bool, true, false, ◌&&◌, is_some, List, [], ◌∷◌, length, map, Option, ℤ, refl, ap, ◌∙◌, codes, suc, ◌*◌, ◌<◌}
-use Rattle.vms_analyze.proofs.Facade.{◌≤◌, cond, ◌||◌, ◌==◌, nat_lt, nat_le, length-append, get_or, sym, subst, arith, zero, is_none, Some, None, ⊎_elim, ◌/◌}
-use Rattle.vms_analyze.proofs.Facade.{◌%◌, map-append, length-map, list_all, AllByRecursion, and_parts, and_from, lt-ltb, cases_lt, get_or-eq_default}
+use Rattle.vms_analyze.proofs.Facade.{◌≤◌, cond, ◌||◌, ◌==◌, nat_lt, nat_le, length-append, get_or, arith, zero, is_none, Some, None, ⊎_elim, ◌/◌, ◌%◌}
+use Rattle.vms_analyze.proofs.Facade.{map-append, length-map, list_all, AllByRecursion, and_parts, and_from, lt-ltb, cases_lt, get_or-eq_default}
 use Rattle.vms_analyze.proofs.Facade.{slice_get-get_or, list_all-append, digit_char, no_members, Members, member, number, string, Desc, Sub, Device, Set}
 use Rattle.vms_analyze.proofs.Facade.{AtLeast, desc_cells, struct_cells, no_desc, no_field, counted, Image, own_cells, What, Constant, Filler, Rule, shapes}
-use Rattle.vms_analyze.proofs.Facade.{elements_in, Entry, entry_of, entries_of, part_entries, sub_trees, device_trees, described_tree, natural, entry_tree}
-use Rattle.vms_analyze.proofs.Facade.{told_entry, told_sub, told_device, told_tree, Told, Sent, Kept, Fixed, Skipped, is_path_byte, is_good, is_kept, fits_four}
+use Rattle.vms_analyze.proofs.Facade.{elements_in, entry_of, entries_of, part_entries, sub_trees, device_trees, described_tree, natural, entry_tree, told_entry}
+use Rattle.vms_analyze.proofs.Facade.{told_sub, told_device, told_tree, Told, Sent, Kept, Fixed, Skipped, is_path_byte, is_good, is_kept, fits_four}
 use Rattle.vms_analyze.proofs.Facade.{is_good_sub, is_good_device, told_what, tolds, told_part, told_subs, told_devices, told, told_sub_of, told_device_of}
 use Rattle.vms_analyze.proofs.Facade.{escape, escape_byte, escape_letter, compact_text, members_text, Kind, width, kind_word, of_integer, Part, MOST_UNUSED}
 use Rattle.vms_analyze.proofs.Facade.{LONGEST_NAME, is_name, in_range, defaults_well, counts_well, is_small_item, is_small_optional, WellFormed, struct_items}
@@ -13,7 +13,8 @@ use Rattle.vms_analyze.proofs.Facade.{struct_depths, items_in, deepest, subs_ite
 use Rattle.vms_analyze.proofs.Facade.{device_clean, sub_clean, member_long, AreLong, longer, entries_few, entries_long, fit, part_sound, fields_flat}
 use Rattle.vms_analyze.proofs.Facade.{LONGEST_PATH, FitsHeads, device_at, is_well_formed, few_items, all_both}
 use Rattle.vms_elements.specs.Elements.{Number, Element}
-use Rattle.vms_analyze.proofs.Letters.{named_path, IsNamed, named_within, name_named, sub_named, IsGoodWhat, HasPath, IsGoodElement, IsGoodField, AreGoodFields, elements_good}
+use Rattle.vms_analyze.proofs.Letters.{named_path, IsNamed, named_within, name_named, sub_named, IsGoodWhat, HasPath, IsGoodElement, IsGoodField, AreGoodFields}
+use Rattle.vms_analyze.proofs.Letters.{elements_good}
 use Rattle.vms_analyze.proofs.Parts.{sub_from, device_from, all_at}
 use Rattle.vms_kinds.specs.declared.Kind.TheVariants as kinds
 use Rattle.vms_spec.specs.declared.Part.TheVariants as parts
@@ -46,20 +47,18 @@ part_same set d sent n at = all_entries sent (elements_in set d d.version n at)
 
 subs_same : (set : Set) (n : List ℤ) (at : ℕ) (subs : List Sub) (came : List (Option ℕ))
     → map told_sub (told_subs set n at subs came) ≡ sub_trees set n at subs came
-subs_same set n at [] came = refl
-subs_same set n at (s ∷ subs) [] = refl
 subs_same set n at (s ∷ subs) (c ∷ came) =
     rw (part_same set s.desc (is_some c) n at, subs_same set n (at + length (desc_cells (struct_cells set) s.desc)) subs came)
+subs_same set n at _ _ = refl
 
 devices_same : (set : Set) (devices : List Device) (images : List Image) → map told_device (told_devices set devices images) ≡ device_trees set devices images
-devices_same set [] images = refl
-devices_same set (d ∷ devices) [] = refl
 devices_same set (d ∷ devices) (image ∷ images) =
     rw (
       part_same set d.desc true image.numbers 0,
       subs_same set image.numbers (own_cells set d) d.subs image.came,
       devices_same set devices images,
     )
+devices_same set _ _ = refl
 
 pub tree_same : (set : Set) (images : List Image) → told_tree (told set images) ≡ described_tree set images
 tree_same set images = rw (devices_same set set.devices images)
@@ -95,10 +94,10 @@ abbrev sized : ℕ → List ℕ → Members → Members
 sized size type ms = member (codes "size") (natural size) (member (codes "type") (string type) ms)
 
 path_short : (t : Told) → length (compact_text (entry_tree (told_entry t))) ≤ 299 → length (path_of t) ≤ LONGEST_PATH
-path_short (Sent path kind) le = omega (arith, name_longer path (sized (width kind) (kind_word kind) no_members), le)
-path_short (Kept path kind z) le = omega (arith, name_longer path (sized 0 (kind_word kind) (member (codes "value") (number (of_integer z)) no_members)), le)
-path_short (Fixed path n) le = omega (arith, name_longer path (sized n (codes "equal") no_members), le)
-path_short (Skipped path n) le = omega (arith, name_longer path (sized n (codes "unused") no_members), le)
+path_short (Sent path kind) le = omega (arith, name_longer path (sized (width kind) (kind_word kind) no_members))
+path_short (Kept path kind z) le = omega (arith, name_longer path (sized 0 (kind_word kind) (member (codes "value") (number (of_integer z)) no_members)))
+path_short (Fixed path n) le = omega (arith, name_longer path (sized n (codes "equal") no_members))
+path_short (Skipped path n) le = omega (arith, name_longer path (sized n (codes "unused") no_members))
 
 -- ---- what is described of an element
 
@@ -118,26 +117,15 @@ AreFine = AllByRecursion IsFine
 
 width_fits : (kind : Kind) → (width kind == 1 || width kind == 2 || width kind == 4 || width kind == 8) ≡ true
 width_fits kinds.U8 = refl
-width_fits kinds.U16 = refl
-width_fits kinds.U32 = refl
-width_fits kinds.U64 = refl
-width_fits kinds.I8 = refl
-width_fits kinds.I16 = refl
-width_fits kinds.I32 = refl
-width_fits kinds.I64 = refl
-width_fits kinds.Bool = refl
-width_fits kinds.Timer = refl
+width_fits _ = refl
 
 what_fine : (w : What) (counted present : Bool) (path : List ℕ) → list_all is_path_byte path ≡ true → IsGoodWhat w → HasPath w path
     → AreFine (told_what w counted present path)
 what_fine (Number cell) true true path bytes good some = (record { some = some; bytes = bytes; shape = tt }, tt)
 what_fine (Number cell) true false path bytes good some = (record { some = some; bytes = bytes; shape = good }, tt)
-what_fine (Number cell) false present path bytes good some = tt
 what_fine (Constant kind z) counted true path bytes good some = (record { some = some; bytes = bytes; shape = width_fits kind }, tt)
-what_fine (Constant kind z) counted false path bytes good some = tt
 what_fine (Filler n) counted true path bytes good some = (record { some = some; bytes = bytes; shape = good }, tt)
-what_fine (Filler n) counted false path bytes good some = tt
-what_fine (Rule holds) counted present path bytes good some = tt
+what_fine _ _ _ path bytes good some = tt
 
 all_fine : (sent : Bool) (xs : List Element) → Each IsGoodElement xs → AreFine (tolds sent xs)
 all_fine sent [] h = tt
@@ -158,8 +146,7 @@ each_told (t ∷ ts) fine long = and_from (is_good t) (list_all is_good ts) (one
 -- of a part that isn't sent no element is in the stream
 what_kept : (w : What) (counted : Bool) (path : List ℕ) → list_all is_kept (told_what w counted false path) ≡ true
 what_kept (Number cell) true path = refl
-what_kept (Number cell) false path = refl
-what_kept _ counted path = refl
+what_kept _ _ path = refl
 
 pub all_kept : (xs : List Element) → list_all is_kept (tolds false xs) ≡ true
 all_kept [] = refl
@@ -196,15 +183,14 @@ module _ (set : Set) (well : WellFormed set) where
   part_few part has sent n at =
       let d = desc_at set part in
       let few = entries_few (shapes set) (struct_items set.structs) (struct_depths set.structs) (fit set formed) d d.version sent [] n at in
-      omega (arith, few, ap length (part_same set d sent n at), length-map (told_part set d sent n at) told_entry)
+      omega (arith, ap length (part_same set d sent n at), length-map (told_part set d sent n at) told_entry)
 
   part_long : (part : Part) → HasPart set part → items_in (struct_items set.structs) (desc_at set part).fields ≤ 16384 → (sent : Bool) (n : List ℤ) (at : ℕ)
       → AreLong 299 (part_entries set (desc_at set part) sent n at)
   part_long part has few sent n at =
       let d = desc_at set part in
       let depths = struct_depths set.structs in
-      let flat = fields_flat set formed d.fields in
-      longer (0 + 40 * deepest depths d.fields + 107) 299 (part_entries set d sent n at) (omega arith)
+      longer (0 + 40 * deepest depths d.fields + 107) 299 (part_entries set d sent n at) (omega (arith, fields_flat set formed d.fields))
       (entries_long (shapes set) (struct_items set.structs) depths (fit set formed) d d.version sent [] n at tt (part_sound set formed part has) few)
 
   pub part_good : (part : Part) → HasPart set part → items_in (struct_items set.structs) (desc_at set part).fields ≤ 16384
@@ -213,7 +199,7 @@ module _ (set : Set) (well : WellFormed set) where
       let d = desc_at set part in
       each_told (told_part set d sent n at)
       (all_fine sent (elements_in set d d.version n at) (elements_good set struct_fields d (part_fields part has) d.version n at))
-      (subst (λ (es : List Entry). AreLong 299 es) (sym (part_same set d sent n at)) (part_long part has few sent n at))
+      (rw (part_same set d sent n at) (part_long part has few sent n at))
 
 -- ---- The description of a well-formed set has the right shape.
 
@@ -261,8 +247,6 @@ kept_or_sent set d (Some v) n at = refl
 
 subs_good : (set : Set) (n : List ℤ) (at : ℕ) (subs : List Sub) (came : List (Option ℕ)) → AreGoodSubs set subs
     → list_all is_good_sub (told_subs set n at subs came) ≡ true
-subs_good set n at [] came h = refl
-subs_good set n at (s ∷ subs) [] h = refl
 subs_good set n at (s ∷ subs) (c ∷ came) h =
     let t = told_sub_of set n at s c in
     and_from (is_good_sub t) _
@@ -273,11 +257,10 @@ subs_good set n at (s ∷ subs) (c ∷ came) h =
       elements = h.0.elements (is_some c) n at;
       kept = kept_or_sent set s.desc c n at;
     })) (subs_good set n (at + length (desc_cells (struct_cells set) s.desc)) subs came h.1)
+subs_good set n at _ _ h = refl
 
 devices_good : (set : Set) (devices : List Device) (images : List Image) → AreGoodDevices set devices
     → list_all is_good_device (told_devices set devices images) ≡ true
-devices_good set [] images h = refl
-devices_good set (d ∷ devices) [] h = refl
 devices_good set (d ∷ devices) (image ∷ images) h =
     let t = told_device_of set d image in
     and_from (is_good_device t) _
@@ -289,6 +272,7 @@ devices_good set (d ∷ devices) (image ∷ images) h =
       elements = h.0.own.elements true image.numbers 0;
       subs = subs_good set image.numbers (own_cells set d) d.subs image.came h.0.subs;
     })) (devices_good set devices images h.1)
+devices_good set _ _ h = refl
 
 module _ (set : Set) (well : WellFormed set) (heads : FitsHeads set) where
   device_good : (i : ℕ) → i < length set.devices → IsGoodDevice set (device_at set i)
@@ -296,8 +280,7 @@ module _ (set : Set) (well : WellFormed set) (heads : FitsHeads set) where
       let sizes = struct_items set.structs in
       let d = device_at set i in
       let here = slice_get-get_or set.devices i no_device lt in
-      let rules = (device_clean set (formed set well) i lt).own in
-      let name = name_named 100 d.desc.name rules.0 in
+      let name = name_named 100 d.desc.name ((device_clean set (formed set well) i lt).own).0 in
       let few = few_items set (formed set well) in
       let items = device_few sizes set.devices i lt in
       record {
@@ -310,10 +293,9 @@ module _ (set : Set) (well : WellFormed set) (heads : FitsHeads set) where
         instance = lt-ltb _ _ (omega (arith, (heads.instance i d here).0));
         subs = all_at _ no_sub d.subs (λ j l.
             let s = sub_at d j in
-            let own = (sub_clean set (formed set well) i j lt l).own in
             let inner = sub_few sizes d.subs j l in
             record {
-              name = sub_named d.desc.name s.desc.name name own.0;
+              name = sub_named d.desc.name s.desc.name name ((sub_clean set (formed set well) i j lt l).own).0;
               version = lt-ltb _ _ (omega (arith, heads.sub_version i j d s here (slice_get-get_or d.subs j no_sub l)));
               elements = part_good set well (parts.Sub i j) (lt, l) (omega arith);
               few = part_few set well (parts.Sub i j) (lt, l);

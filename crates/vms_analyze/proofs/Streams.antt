@@ -7,16 +7,17 @@ use Rattle.vms_analyze.proofs.Facade.{own_cells, sub_slots, same_number_is, What
 use Rattle.vms_analyze.proofs.Facade.{number_lines, sub_line, subs_lines, device_lines, devices_lines, machine_lines, values_lines, OfNumber, has_default}
 use Rattle.vms_analyze.proofs.Facade.{have_defaults, line_reason, if_not, came_well, number_entries, subs_entries, device_entries, devices_entries, entries}
 use Rattle.vms_analyze.proofs.Facade.{AreFine, AreAtVersions, IsShaped, AreShaped, IsMachineOf, Each, line_number, reason_fits, fine_rest, begins_itself}
-use Rattle.vms_analyze.proofs.Facade.{IsFitting, AreShort, of_numbers, IsCounted, AreCounted, walks, Kept, element_want, Bytes, sub_wants, device_wants, Want}
-use Rattle.vms_analyze.proofs.Facade.{Machine, wants, took, take_machine, is_machine, taken, Found, Lines, behind, found_after, found, told_what, tolds}
-use Rattle.vms_analyze.proofs.Facade.{told_part, told_subs, told_device_of, told_devices, told, Desc, Sub, Device, Set, sub_head, is_needed, written_subs}
-use Rattle.vms_analyze.proofs.Facade.{written_section, written_sections, AreReady, is_one_of, be32, magic, stream_head, configuration, end_mark, optional}
-use Rattle.vms_analyze.proofs.Facade.{elements_slots, short_are, fine_both, AreGood, good_both, big_number, LONGEST_NAME, number_at, bytes_at, is_name}
-use Rattle.vms_analyze.proofs.Facade.{is_name_byte, values_text, WellFormed, failing, first_fault, here, set_rules, machine_short, few_devices, all_true}
-use Rattle.vms_analyze.proofs.Facade.{or_else_none, every_one, front_take, text_says}
+use Rattle.vms_analyze.proofs.Facade.{IsFitting, AreShort, of_numbers, IsCounted, AreCounted, walks, element_want, Bytes, sub_wants, device_wants, Want}
+use Rattle.vms_analyze.proofs.Facade.{Machine, wants, took, is_machine, taken, Found, Lines, behind, found, told_what, tolds, told_part, told_subs}
+use Rattle.vms_analyze.proofs.Facade.{told_device_of, told_devices, told, Desc, Sub, Device, Set, sub_head, is_needed, written_subs, written_section}
+use Rattle.vms_analyze.proofs.Facade.{written_sections, AreReady, is_one_of, be32, magic, stream_head, configuration, end_mark, optional, elements_slots}
+use Rattle.vms_analyze.proofs.Facade.{short_are, fine_both, AreGood, good_both, LONGEST_NAME, number_at, bytes_at, is_name, is_name_byte, values_text}
+use Rattle.vms_analyze.proofs.Facade.{WellFormed, failing, first_fault, here, set_rules, machine_short, few_devices, all_true, or_else_none, every_one}
+use Rattle.vms_analyze.proofs.Facade.{front_take, text_says}
 use Rattle.vms_elements.specs.Elements.{Number, Element}
 use Rattle.vms_elements.specs.Lines.{number_line}
-use Rattle.vms_analyze.proofs.Following.{Follows, none_follows, one_follows, both_follow, follows_as, takes_line, takes_any, takes_number, takes_bytes, takes_foot, takes_head, Takes, if_so}
+use Rattle.vms_analyze.proofs.Following.{Follows, none_follows, one_follows, both_follow, follows_as, takes_line, takes_any, takes_number, takes_bytes}
+use Rattle.vms_analyze.proofs.Following.{takes_foot, takes_head, Takes, if_so}
 use Rattle.vms_spec.specs.declared.ValuesReason.TheVariants as reasons
 use Rattle.vms_spec.specs.declared.Part.TheVariants as parts
 
@@ -46,24 +47,16 @@ lines_if true line = line ∷ []
 lines_if false line = []
 
 module _ (n : List ℤ) (id : ℕ) where
-  number_follows : (sent counted present : Bool) (cell : Cell) (at : ℕ) (name : List ℕ) → IsSaidAs sent (Number cell) counted present (get_or n at (pos 0))
-      → Follows (map element_want (told_what (Number cell) counted (sent && present) name)) id (bytes_if n (sent && present) at (Number cell)) id
+  number_follows : (counted p : Bool) (cell : Cell) (at : ℕ) (name : List ℕ) → (p ≡ true → (counted ≡ true) × InRange cell.kind (get_or n at (pos 0)))
+      → (counted ≡ true → p ≡ false → get_or n at (pos 0) ≡ cell.default)
+      → Follows (map element_want (told_what (Number cell) counted p name)) id (bytes_if n p at (Number cell)) id
       (lines_if counted (name ++ (codes " = " ++ signed_decimal (get_or n at (pos 0)))))
-  number_follows sent counted present cell at name said = go counted (sent && present) said.0 said.1
-    where
-      z : ℤ
-      z = get_or n at (pos 0)
-
-      go : (c p : Bool) → (p ≡ true → (c ≡ true) × InRange cell.kind z) → (c ≡ true → p ≡ false → z ≡ cell.default)
-          → Follows (map element_want (told_what (Number cell) c p name)) id (bytes_if n p at (Number cell)) id
-          (lines_if c (name ++ (codes " = " ++ signed_decimal z)))
-      go true true f g =
-          rw (append-nil (code cell.kind z)) (one_follows (takes_number name cell.kind z id (f refl).1))
-      go true false f g =
-          follows_as (ap (λ (y : ℤ). element_want (Kept name cell.kind y) ∷ []) (g refl refl)) refl refl
-          (one_follows (takes_line (name ++ (codes " = " ++ signed_decimal z)) id))
-      go false true f g = absurd (cc ((f refl).0))
-      go false false f g = none_follows id
+  number_follows true true cell at name f g =
+      rw (append-nil (code cell.kind (get_or n at (pos 0)))) (one_follows (takes_number name cell.kind (get_or n at (pos 0)) id (f refl).1))
+  number_follows true false cell at name f g =
+      follows_as (rw (g refl refl)) refl refl (one_follows (takes_line (name ++ (codes " = " ++ signed_decimal (get_or n at (pos 0)))) id))
+  number_follows false true cell at name f g = absurd (cc ((f refl).0))
+  number_follows false false cell at name f g = none_follows id
 
   -- what isn't a number has no line
   others : (w : What) (counted p : Bool) (at : ℕ) (name : List ℕ) → is_number w ≡ false
@@ -78,7 +71,7 @@ module _ (n : List ℤ) (id : ℕ) where
   one : (sent : Bool) (w : What) (counted present : Bool) (at : ℕ) (name : List ℕ) → IsSaidAs sent w counted present (get_or n at (pos 0))
       → Follows (map element_want (told_what w counted (sent && present) name)) id (bytes_if n (sent && present) at w) id
       (lines_if (counted && is_number w) (name ++ (codes " = " ++ signed_decimal (get_or n at (pos 0)))))
-  one sent (Number cell) counted present at name said = rw (and-true counted) (number_follows sent counted present cell at name said)
+  one sent (Number cell) counted present at name said = rw (and-true counted) (number_follows counted (sent && present) cell at name said.0 said.1)
   one sent w counted present at name said = rw (and-false counted) (others w counted (sent && present) at name refl)
 
   -- ---- all of them
@@ -88,15 +81,14 @@ module _ (n : List ℤ) (id : ℕ) where
   bytes_of sent (x ∷ xs) = bytes_if n (sent && x.present) x.cell x.what ++ bytes_of sent xs
 
   zeroed_more : (b : Bool) (at : ℕ) (w : What) (ss : List Slot) → bytes_if n b at w ++ zeroed n ss ≡ zeroed n (if b then slot_of at w ∷ ss else ss)
-  zeroed_more false at w ss = refl
   zeroed_more true at (Number cell) ss = append_assoc (code cell.kind (get_or n at (pos 0))) [] (zeroed n ss)
   zeroed_more true at (Constant kind y) ss = append_assoc (code kind y) [] (zeroed n ss)
   zeroed_more true at (Filler m) ss = append_assoc (replicate m 0) [] (zeroed n ss)
-  zeroed_more true at (Rule holds) ss = refl
+  zeroed_more _ at _ ss = refl
 
   sent_bytes : (xs : List Element) → bytes_of true xs ≡ zeroed n (slots_of xs)
   sent_bytes [] = refl
-  sent_bytes (x ∷ xs) = ap (λ (l : List ℕ). bytes_if n x.present x.cell x.what ++ l) (sent_bytes xs) ∙ zeroed_more x.present x.cell x.what (slots_of xs)
+  sent_bytes (x ∷ xs) = rw (sent_bytes xs) (zeroed_more x.present x.cell x.what (slots_of xs))
 
   no_bytes : (xs : List Element) → bytes_of false xs ≡ []
   no_bytes [] = refl
@@ -114,15 +106,6 @@ module _ (n : List ℤ) (id : ℕ) where
       follows_as (sym (map-append element_want (told_what x.what x.counted (sent && x.present) x.name) (tolds sent xs))) refl
       (line_more (x.counted && is_number x.what) x (printed xs))
       (both_follow (one sent x.what x.counted x.present x.cell x.name said.0) (all_follow sent xs said.1))
-
-  -- of a part that is in the stream
-  pub sent_follow : (xs : List Element) → Each (IsSaid true n) xs
-      → Follows (map element_want (tolds true xs)) id (zeroed n (slots_of xs)) id (map (number_line n) (printed xs))
-  sent_follow xs said = follows_as refl (sent_bytes xs) refl (all_follow true xs said)
-
-  -- of one that doesn't
-  pub kept_follow : (xs : List Element) → Each (IsSaid false n) xs → Follows (map element_want (tolds false xs)) id [] id (map (number_line n) (printed xs))
-  kept_follow xs said = follows_as refl (no_bytes xs) refl (all_follow false xs said)
 
 -- ---- from the lines of a text
 
@@ -145,7 +128,7 @@ fine_said n short (x ∷ xs) counted fine =
     first false f e = cc
 
     its_line : x.counted ≡ true → is_number x.what ≡ true → line_reason (OfNumber x n) (number_line n x) ≡ None
-    its_line c w = first (x.counted && is_number x.what) fine (ap (λ (b : Bool). b && is_number x.what) c ∙ w)
+    its_line c w = first (x.counted && is_number x.what) fine (rw c (w))
 
 kept_as : (n : List ℤ) (at : ℕ) (w : What) (counted present : Bool) → has_default n at w ≡ true → IsSaidAs false w counted present (get_or n at (pos 0))
 kept_as n at (Number cell) counted present h = (λ p. absurd (cc), λ c p. same_number_is (get_or n at (pos 0)) cell.default h)
@@ -161,9 +144,8 @@ default_said n (x ∷ xs) h =
 
 -- what isn't needed is at its defaults
 at_defaults : (needed defaults : Bool) → if_not (came_well needed None defaults) reasons.Needed ≡ None → defaults ≡ true
-at_defaults true defaults e = cc
 at_defaults false true e = refl
-at_defaults false false e = cc
+at_defaults _ _ e = cc
 
 module _ (set : Set) (d : Device) (image : Image) (short : AreShort image.numbers) (id : ℕ) where
   abbrev n : List ℤ
@@ -174,8 +156,8 @@ module _ (set : Set) (d : Device) (image : Image) (short : AreShort image.number
       (zeroed n (desc_slots (meanings set.structs (length set.structs)) desc desc.version n at)) id (number_lines set desc n at)
   part_follows desc at fine =
       let xs = elements_in set desc desc.version n at in
-      follows_as refl (ap (zeroed n) (elements_slots set desc desc.version n at)) refl
-      (sent_follow n id xs (fine_said n short xs (walks set desc desc.version desc.version n n at at).counted fine))
+      follows_as refl (sent_bytes n id xs ∙ ap (zeroed n) (elements_slots set desc desc.version n at)) refl
+      (all_follow n id true xs (fine_said n short xs (walks set desc desc.version desc.version n n at at).counted fine))
 
   sub_came : (s : Sub) (at : ℕ) → AreFine (number_entries set s.desc n at)
       → Follows (sub_wants (record { name = s.desc.name; sent = true; version = s.desc.version; elements = told_part set s.desc true n at })) id
@@ -190,28 +172,25 @@ module _ (set : Set) (d : Device) (image : Image) (short : AreShort image.number
       (sub_line s None ∷ number_lines set s.desc n at)
   sub_kept s at have =
       let xs = elements_in set s.desc s.desc.version n at in
-      both_follow (one_follows (takes_line (sub_line s None) id)) (kept_follow n id xs (default_said n xs have))
+      both_follow (one_follows (takes_line (sub_line s None) id)) (follows_as refl (no_bytes n id xs) refl (all_follow n id false xs (default_said n xs have)))
 
   subs_follow : (j at : ℕ) (subs : List Sub) (came : List (Option ℕ)) → AreAtVersions subs came → AreFine (subs_entries set d image j at subs came)
       → AreGood set (subs_entries set d image j at subs came)
       → Follows (flat_map sub_wants (told_subs set n at subs came)) id (written_subs set d image at subs came) id (subs_lines set n at subs came)
-  subs_follow j at [] came versions fine good = none_follows id
-  subs_follow j at (s ∷ subs) [] versions fine good = none_follows id
   subs_follow j at (s ∷ subs) (None ∷ came) versions fine good =
       let next = at + length (desc_cells (struct_cells set) s.desc) in
       let numbers = number_entries set s.desc n at in
       let others = subs_entries set d image (suc j) next subs came in
-      let f = fine_both numbers others fine.1 in
       let g = good_both set numbers others good.1 in
       let have = at_defaults (is_needed set d image s j) (have_defaults n (elements_in set s.desc s.desc.version n at)) good.0 in
-      both_follow (sub_kept s at have) (subs_follow (suc j) next subs came versions.1 f.1 g.1)
+      both_follow (sub_kept s at have) (subs_follow (suc j) next subs came versions.1 (fine_both numbers others fine.1).1 g.1)
   subs_follow j at (s ∷ subs) (Some v ∷ came) versions fine good =
       let next = at + length (desc_cells (struct_cells set) s.desc) in
       let numbers = number_entries set s.desc n at in
       let others = subs_entries set d image (suc j) next subs came in
       let f = fine_both numbers others fine.1 in
-      let g = good_both set numbers others good.1 in
-      rw versions.0 (both_follow (sub_came s at f.0) (subs_follow (suc j) next subs came versions.1 f.1 g.1))
+      rw versions.0 (both_follow (sub_came s at f.0) (subs_follow (suc j) next subs came versions.1 f.1 (good_both set numbers others good.1).1))
+  subs_follow j at _ _ versions fine good = none_follows id
 
   -- a device, whichever section was open
   pub device_follows : (old : ℕ) → id < 2 ^ 32 → IsShaped set d image → AreFine (device_entries set d image) → AreGood set (device_entries set d image)
@@ -220,12 +199,10 @@ module _ (set : Set) (d : Device) (image : Image) (short : AreShort image.number
       let numbers = number_entries set d.desc n 0 in
       let others = subs_entries set d image 0 (own_cells set d) d.subs image.came in
       let f = fine_both numbers others fine.1 in
-      let g = good_both set numbers others good.1 in
-      let lines = number_lines set d.desc n 0 ++ subs_lines set n (own_cells set d) d.subs image.came in
-      rw (shaped.version, ← append-nil lines)
+      rw (shaped.version, ← append-nil (number_lines set d.desc n 0 ++ subs_lines set n (own_cells set d) d.subs image.came))
       (both_follow
       (both_follow (both_follow (one_follows (takes_head d.desc.name d.instance d.desc.version old id small)) (part_follows d.desc 0 f.0))
-      (subs_follow 0 (own_cells set d) d.subs image.came shaped.versions f.1 g.1))
+      (subs_follow 0 (own_cells set d) d.subs image.came shaped.versions f.1 (good_both set numbers others good.1).1))
       (one_follows (takes_foot id)))
 
 -- ---- all devices
@@ -240,8 +217,6 @@ pub devices_follow : (set : Set) (old id : ℕ) (devices : List Device) (images 
     → AreFine (devices_entries set devices images) → AreGood set (devices_entries set devices images)
     → Follows (flat_map device_wants (told_devices set devices images)) old (written_sections set id devices images) (last old id devices images)
     (devices_lines set devices images)
-devices_follow set old id [] images few shaped fine good = none_follows old
-devices_follow set old id (d ∷ devices) [] few shaped fine good = none_follows old
 devices_follow set old id (d ∷ devices) (image ∷ images) few shaped fine good =
     let here = device_entries set d image in
     let others = devices_entries set devices images in
@@ -249,6 +224,7 @@ devices_follow set old id (d ∷ devices) (image ∷ images) few shaped fine goo
     let g = good_both set here others good in
     both_follow (device_follows set d image (short_are image.numbers shaped.0.short) id old (omega arith) shaped.0 f.0 g.0)
     (devices_follow set id (suc id) devices images (omega arith) shaped.1 f.1 g.1)
+devices_follow set old id _ _ few shaped fine good = none_follows old
 
 -- ---- What is written for ready images is found as described.
 
@@ -261,29 +237,20 @@ takes_machine name id good small = record { is = λ more. whole more }
     whole : (more : List ℕ) → taken Machine id (configuration name ++ more) ≡ Some (took (length (configuration name)) id ((codes "machine " ++ name) ∷ []))
     whole more =
         let rest = configuration name ++ more in
-        let long : number_at 4 1 rest ≡ length name =
-        ap (big_number 4) (append_assoc (be32 (length name)) name more) ∙ be32_read (length name) (name ++ more) small in
-        let its : bytes_at (number_at 4 1 rest) 5 rest ≡ name =
-        ap (λ (k : ℕ). bytes_at k 5 rest) long ∙ front_take (length name) name more _ (append_assoc [] name more) refl in
-        ap (λ (l : List ℕ). take_machine id rest l) its
-        ∙ if_so _ (took (length (configuration name)) id ((codes "machine " ++ name) ∷ [])) (and_from _ _ (begins_itself (configuration name) more) good)
-
--- the bytes of a machine's name
-machine_plain : (set : Set) → WellFormed set → (name : List ℕ) → is_one_of set.machines name ≡ true → list_all is_name_byte name ≡ true
-unfolding first_fault
-machine_plain set well name h =
-    let rules = all_true 1 (set_rules set) (here parts.Set) (or_else_none (failing 1 (set_rules set) (here parts.Set)) _ well).0 in
-    let short = every_one (is_name 64) set.machines name rules.0 h in
-    (and_parts (nat_le 1 (length name) && nat_le (length name) 64) (list_all is_name_byte name) short).1
+        let long : number_at 4 1 rest ≡ length name = cc (append_assoc (be32 (length name)) name more, be32_read (length name) (name ++ more) small) in
+        let its : bytes_at (number_at 4 1 rest) 5 rest ≡ name = rw long (front_take (length name) name more _ (append_assoc [] name more) refl) in
+        rw its (if_so _ (took (length (configuration name)) id ((codes "machine " ++ name) ∷ [])) (and_from _ _ (begins_itself (configuration name) more) good))
 
 machine_good : (set : Set) → WellFormed set → (name : List ℕ) → is_one_of set.machines name ≡ true → is_machine name ≡ true
+unfolding first_fault
 machine_good set well name h =
-    let few = machine_short set well name h in
-    and_from (nat_le (length name) LONGEST_NAME) (list_all is_name_byte name) (le-leb (length name) LONGEST_NAME (omega arith)) (machine_plain set well name h)
+    let rules = all_true 1 (set_rules set) (here parts.Set) (or_else_none (failing 1 (set_rules set) (here parts.Set)) _ well).0 in
+    and_from (nat_le (length name) LONGEST_NAME) (list_all is_name_byte name) (le-leb (length name) LONGEST_NAME (omega (arith, machine_short set well name h)))
+    (and_parts (nat_le 1 (length name) && nat_le (length name) 64) (list_all is_name_byte name) (every_one (is_name 64) set.machines name rules.0 h)).1
 
 -- without a machine none is taken, since a section or the end mark is there
 pub no_machine : (id : ℕ) (rest : List ℕ) → (get_or rest 0 0 == 7) ≡ false → taken Machine id rest ≡ Some (took 0 id [])
-no_machine id rest e = ap (λ (b : Bool). if b then take_machine id rest (bytes_at (number_at 4 1 rest) 5 rest) else Some (took 0 id [])) e
+no_machine id rest e = rw e
 
 section_first : (set : Set) (id : ℕ) (devices : List Device) (images : List Image)
     → (get_or (written_sections set id devices images ++ end_mark) 0 0 == 7) ≡ false
@@ -295,25 +262,18 @@ section_first set id (d ∷ devices) (image ∷ images) = refl
 module _ (set : Set) (well : WellFormed set) (images : List Image) (us : List Want) (sections : List ℕ) (f : Found) where
   machine_found : (machine : Option (List ℕ)) → IsMachineOf set machine → (get_or sections 0 0 == 7) ≡ false → ((place : ℕ) → found us 0 place sections ≡ f)
       → (place : ℕ) → found (Machine ∷ us) 0 place (optional configuration machine ++ sections) ≡ behind (machine_lines machine) f
-  machine_found None named other is place =
-      ap (found_after (found us) place sections) (no_machine 0 sections other) ∙ ap (behind []) (is (place + 0))
+  machine_found None named other is place = cc (no_machine 0 sections other, is (place + 0))
   machine_found (Some name) named other is place =
-      let short = machine_short set well name named in
-      (one_follows (takes_machine name 0 (machine_good set well name named) (omega arith))).goes us place sections
+      (one_follows (takes_machine name 0 (machine_good set well name named) (omega (arith, machine_short set well name named)))).goes us place sections
       ∙ ap (behind ((codes "machine " ++ name) ∷ [])) (is (place + length (configuration name)))
 
 -- ---- the whole
 
 -- the fine lines and good parts of the devices
-devices_fine : (set : Set) (machine : Option (List ℕ)) (images : List Image) → AreFine (entries set machine images)
-    → AreFine (devices_entries set set.devices images)
-devices_fine set None images f = f
-devices_fine set (Some name) images f = f.1
-
-devices_good : (set : Set) (machine : Option (List ℕ)) (images : List Image) → AreGood set (entries set machine images)
-    → AreGood set (devices_entries set set.devices images)
-devices_good set None images f = f
-devices_good set (Some name) images f = f.1
+devices_said : (set : Set) (machine : Option (List ℕ)) (images : List Image) → AreFine (entries set machine images) → AreGood set (entries set machine images)
+    → AreFine (devices_entries set set.devices images) × AreGood set (devices_entries set set.devices images)
+devices_said set None images f g = (f, g)
+devices_said set (Some name) images f g = (f.1, g.1)
 
 abbrev pub front : Set → Option (List ℕ) → List Image → List ℕ
 front set machine images = stream_head ++ optional configuration machine ++ written_sections set 0 set.devices images ++ end_mark
@@ -322,12 +282,10 @@ pub front_found : (set : Set) → WellFormed set → (machine : Option (List ℕ
     → found (wants (told set images)) 0 0 (front set machine images) ≡ Lines (values_lines set machine images)
 front_found set well machine named images ready =
     let says = text_says set (values_text set machine images) machine images (record { named = named; ready = ready; printed = refl }) in
-    let few = few_devices set well in
     let lines = devices_lines set set.devices images in
     let sections = written_sections set 0 set.devices images in
-    let all =
-    devices_follow set 0 0 set.devices images (omega arith) says.says.shaped (devices_fine set machine images says.says.fine)
-    (devices_good set machine images says.good) in
+    let said = devices_said set machine images says.says.fine says.good in
+    let all = devices_follow set 0 0 set.devices images (omega (arith, few_devices set well)) says.says.shaped said.0 said.1 in
     let end = last 0 0 set.devices images in
     let us = flat_map device_wants (told set images) ++ Bytes end_mark ∷ [] in
     let tail : (place : ℕ) → found us 0 place (sections ++ end_mark) ≡ Lines lines =

@@ -1,7 +1,7 @@
 -- Each input has a listing.
-use Rattle.vms_analyze.proofs.Facade.{sym, ⊎_elim, cases_lt, ◌<◌, ◌≡◌, ℕ, zero, suc, ◌+◌, ◌≤◌, Bool, true, false, ◌&&◌, ◌==◌, List, length, get_or, drop}
-use Rattle.vms_analyze.proofs.Facade.{Option, Some, None, refl, ap, ◌∙◌, arith, and_parts, eqb-true, eq-eqb, value_in, number_at, ToldDevice, longest_input}
-use Rattle.vms_analyze.proofs.Facade.{IsPlace, IsLastPlace, TellsPlace, IsTooLong, HasNone, HasNoShape, IsRead, HasListing, TotalLaw, next, devices_in}
+use Rattle.vms_analyze.proofs.Facade.{⊎_elim, cases_lt, ◌<◌, ◌≡◌, ℕ, zero, suc, ◌+◌, ◌≤◌, Bool, true, false, ◌&&◌, ◌==◌, List, length, get_or, drop, Option}
+use Rattle.vms_analyze.proofs.Facade.{Some, None, refl, arith, and_parts, eqb-true, eq-eqb, value_in, number_at, ToldDevice, longest_input, IsPlace}
+use Rattle.vms_analyze.proofs.Facade.{IsLastPlace, TellsPlace, IsTooLong, HasNone, HasNoShape, IsRead, HasListing, TotalLaw, next, devices_in}
 use Rattle.vms_analyze.proofs.Inputs.{NoneFrom}
 use Rattle.vms_analyze.proofs.DevicesRead.{tells_if, not_told}
 
@@ -10,15 +10,8 @@ use Rattle.vms_analyze.proofs.DevicesRead.{tells_if, not_told}
 abbrev is_place : List ℕ → ℕ → Bool
 is_place input p = get_or input p 0 == 6 && p + 5 + number_at 4 (p + 1) input == length input
 
-is_there : (input : List ℕ) (p : ℕ) → is_place input p ≡ true → IsPlace input p
-is_there input p e =
-    let q = and_parts (get_or input p 0 == 6) (p + 5 + number_at 4 (p + 1) input == length input) e in
-    record { mark = eqb-true (get_or input p 0) 6 q.0; long = eqb-true (p + 5 + number_at 4 (p + 1) input) (length input) q.1 }
-
 there_is : (input : List ℕ) (p : ℕ) → IsPlace input p → is_place input p ≡ true
-there_is input p h =
-    ap (λ (b : Bool). b && (p + 5 + number_at 4 (p + 1) input == length input)) (eq-eqb (get_or input p 0) 6 h.mark)
-    ∙ eq-eqb (p + 5 + number_at 4 (p + 1) input) (length input) h.long
+there_is input p h = rw (eq-eqb (get_or input p 0) 6 h.mark) (eq-eqb (p + 5 + number_at 4 (p + 1) input) (length input) h.long)
 
 record HasPlace (input : List ℕ) : Type 0 where
   place : Option ℕ
@@ -29,13 +22,16 @@ search_below input zero none = record { place = None; tells = λ p h. none p (om
 search_below input (suc n) none = go (is_place input n) refl (search_below input n)
   where
     go : (b : Bool) → is_place input n ≡ b → (NoneFrom input n → HasPlace input) → HasPlace input
-    go true e more = record { place = Some n; tells = record { is = is_there input n e; last = λ q lt h. none q (omega arith) h } }
+    go true e more =
+        let q = and_parts (get_or input n 0 == 6) (n + 5 + number_at 4 (n + 1) input == length input) e in
+        let is : IsPlace input n = record { mark = eqb-true (get_or input n 0) 6 q.0; long = eqb-true _ (length input) q.1 } in
+        record { place = Some n; tells = record { is = is; last = λ q lt h. none q (omega arith) h } }
     go false e more = more (λ q low h. ⊎_elim (λ (lt : n < q). none q (omega arith) h) (λ (ge : q ≤ n).
         let same : q ≡ n = omega arith in
-        let there : is_place input n ≡ true = ap (is_place input) (sym same) ∙ there_is input q h in cc) (cases_lt n q))
+        let there : is_place input n ≡ true = cc (there_is input q h) in cc) (cases_lt n q))
 
 last_place : (input : List ℕ) → HasPlace input
-last_place input = search_below input (length input) (λ q ge h. let long = h.long in omega arith)
+last_place input = search_below input (length input) (λ q ge h. omega arith)
 
 -- ---- the listing
 

@@ -1,16 +1,18 @@
 -- A walk over what is required, part after part.
-use Rattle.vms_analyze.proofs.Facade.{map-map, ◌≡◌, ℕ, ◌+◌, List, [], ◌∷◌, ◌++◌, length, append_assoc, append-nil, take, drop, Vec, Global, ℤ, refl, sym, ap}
-use Rattle.vms_analyze.proofs.Facade.{◌∙◌, subst, arith, ◌<◌, get_or, ◌≤◌, true, ◌&&◌, nat_le, map, take-append-drop, drop-drop, take_more, flat_map, list_all}
-use Rattle.vms_analyze.proofs.Facade.{flat_map-append, and_parts, leb-true, flat_map_single, flat_map-map, Kind, code, InRange, text_of, Want, Number, Line}
-use Rattle.vms_analyze.proofs.Facade.{number_line, behind, found, Bytes, Machine, Head, Foot, element_want, sub_head_wants, sub_wants, device_wants}
-use Rattle.vms_analyze.proofs.Facade.{start_wants, wants, left, IsInside, Goes, Stops, Prints, WhyStopped, Walks, Walk, text_append, Stop, Result, Ok, Err}
-use Rattle.vms_analyze.proofs.Facade.{OnOk, IfErr, LONGEST_NAME, magic, be32}
-use Rattle.vms_analyze.proofs.Facade.{end_mark, ToldDevice, is_path, is_path_byte, is_good_device, told_of, sub_of, device_of, element_wants, subs_wants}
-use Rattle.vms_analyze.proofs.Facade.{devices_wants, Element}
-use Rattle.vms_analyze.proofs.Following.{Takes, one_follows, takes_line, takes_number, behind_both}
+use Rattle.vms_analyze.proofs.Facade.{map-map, ◌≡◌, ℕ, ◌+◌, List, [], ◌∷◌, ◌++◌, length, append_assoc, append-nil, take, drop, ℤ, refl, sym, ap, ◌∙◌, arith}
+use Rattle.vms_analyze.proofs.Facade.{◌<◌, get_or, ◌≤◌, true, ◌&&◌, nat_le, map, take-append-drop, drop-drop, take_more, flat_map, list_all, flat_map-append}
+use Rattle.vms_analyze.proofs.Facade.{and_parts, leb-true, flat_map_single, flat_map-map, Result, Ok, Err, OnOk, IfErr, ◌^◌, false, ◌==◌, length-append}
+use Rattle.vms_analyze.proofs.Facade.{length-drop, ◌-◌, le-leb, take_all, Kind, code, InRange, text_of, Want, Number, Line, number_line, behind, found, Bytes}
+use Rattle.vms_analyze.proofs.Facade.{Machine, Head, Foot, element_want, sub_head_wants, sub_wants, device_wants, start_wants, wants, left, IsInside, Goes}
+use Rattle.vms_analyze.proofs.Facade.{Stops, Prints, WhyStopped, Walks, Walk, text_append, Stop, LONGEST_NAME, magic, be32, end_mark, ToldDevice, is_path}
+use Rattle.vms_analyze.proofs.Facade.{is_path_byte, is_good_device, told_of, sub_of, device_of, element_wants, subs_wants, devices_wants, Element, number_at}
+use Rattle.vms_analyze.proofs.Facade.{bytes_at, is_name_byte, begins_with, configuration, section_head, is_machine, machine_line, taken, found_after, begun}
+use Rattle.vms_analyze.proofs.Facade.{section_line}
+use Rattle.vms_analyze.proofs.Following.{Takes, one_follows, takes_line, takes_number, behind_both, takes_head}
 use Rattle.vms_analyze.specs.declared.told.Sub.{Sub}
 use Rattle.vms_analyze.specs.declared.told.Device.{Device}
 use Rattle.vms_analyze.proofs.Parts.{device_parts}
+use Rattle.vms_analyze.proofs.Streams.{takes_machine, no_machine}
 use Rattle.vms_analyze.specs.declared.walk.Stop.TheVariants as stops
 
 -- ---- One step of a walk, by what is taken.
@@ -37,9 +39,7 @@ goes w old new bytes lines t m = record {
 
 -- a piece of an input, and the rest after it
 pub split : (input piece : List ℕ) (place n : ℕ) → piece ≡ take n (drop place input) → drop place input ≡ piece ++ drop (place + n) input
-split input piece place n e =
-    sym (take-append-drop n (drop place input)) ∙ ap (λ (l : List ℕ). l ++ drop n (drop place input)) (sym e) ∙ ap (λ (l : List ℕ). piece ++ l)
-    (drop-drop n place input)
+split input piece place n e = cc (take-append-drop n (drop place input), drop-drop n place input)
 
 -- a walk that is past these bytes, and has printed nothing more
 pub record Passed (old mid : Walk) (bytes : List ℕ) : Type 0 where
@@ -53,20 +53,18 @@ pub record Passed (old mid : Walk) (bytes : List ℕ) : Type 0 where
 pub printed_goes : {w : Want} {old mid new : Walk} {bytes line : List ℕ} → Takes w old.id bytes mid.id (line ∷ []) → Passed old mid bytes → Prints mid new line
     → Goes (w ∷ []) old new
 printed_goes {w = w} {old = old} {mid = mid} {new = new} {bytes = bytes} {line = line} takes p prints =
-    goes w old new bytes (line ∷ []) (subst (λ (i : ℕ). Takes w old.id bytes i (line ∷ [])) (sym prints.id) takes)
+    goes w old new bytes (line ∷ []) (rw prints.id takes)
     (record {
-      there = p.there ∙ ap (λ (l : List ℕ). bytes ++ l) (ap (λ (k : ℕ). drop k mid.input.now) (sym prints.place) ∙ ap (drop new.place) (sym prints.input));
-      place = prints.place ∙ p.place;
-      printed = prints.text ∙ ap (λ (t : Vec ℕ Global). t.items ++ (line ++ 10 ∷ [])) p.text;
-      inside = omega (arith, p.inside, prints.place, ap length prints.input);
-      input = prints.input ∙ p.input;
+      there = cc;
+      place = cc;
+      printed = cc;
+      inside = omega (arith, ap length prints.input);
+      input = cc;
     })
 
 pub number_goes : {old mid new : Walk} (path : List ℕ) (kind : Kind) (z : ℤ) → InRange kind z → Passed old mid (code kind z) → mid.id ≡ old.id
     → Prints mid new (number_line path z) → Goes (Number path kind ∷ []) old new
-number_goes {old = old} path kind z fits p id prints =
-    printed_goes (subst (λ (i : ℕ). Takes (Number path kind) old.id (code kind z) i (number_line path z ∷ [])) (sym id)
-    (takes_number path kind z old.id fits)) p prints
+number_goes {old = old} path kind z fits p id prints = printed_goes (rw id (takes_number path kind z old.id fits)) p prints
 
 -- ---- one step after the other
 
@@ -78,17 +76,17 @@ goes_then {ws = ws} {vs = vs} {a = a} {c = c} g h = record {
       ∙ behind_both g.lines h.lines (found more c.id c.place (left c));
   printed = rw (h.printed, g.printed, text_append g.lines h.lines) (append_assoc a.text.items (text_of g.lines) (text_of h.lines));
   inside = h.inside;
-  input = h.input ∙ g.input;
+  input = cc;
 }
 
 -- a walk that stops, before more is required, and after what is taken
 stops_before : (ws vs : List Want) (a c : Walk) → Stops ws a c → Stops (ws ++ vs) a c
-stops_before ws vs a c s = record { differs = λ more. ap (λ (l : List Want). found l a.id a.place (left a)) (append_assoc ws vs more) ∙ s.differs (vs ++ more) }
+stops_before ws vs a c s = record { differs = λ more. rw (append_assoc ws vs more) (s.differs (vs ++ more)) }
 
 stops_then : {ws vs : List Want} {a b c : Walk} → Goes ws a b → Stops vs b c → Stops (ws ++ vs) a c
 stops_then {ws = ws} {vs = vs} {a = a} g s = record {
   differs = λ more.
-      ap (λ (l : List Want). found l a.id a.place (left a)) (append_assoc ws vs more) ∙ g.taken (vs ++ more) ∙ ap (behind g.lines) (s.differs more);
+      rw (append_assoc ws vs more) (g.taken (vs ++ more) ∙ ap (behind g.lines) (s.differs more));
 }
 
 pub line_goes : (line : List ℕ) (old new : Walk) → IsInside old → Prints old new line → Goes (Line line ∷ []) old new
@@ -96,12 +94,11 @@ line_goes line old new inside p = record {
   lines = line ∷ [];
   taken = λ more.
       (one_follows (takes_line line old.id)).goes more old.place (left old)
-      ∙ ap (λ (k : ℕ). behind (line ∷ []) (found more old.id k (left old))) (omega (arith, p.place))
+      ∙ ap (λ (k : ℕ). behind (line ∷ []) (found more old.id k (left old))) (omega arith)
       ∙ ap (λ (i : ℕ). behind (line ∷ []) (found more i new.place (left old))) (sym p.id)
-      ∙ ap (λ (l : List ℕ). behind (line ∷ []) (found more new.id new.place l))
-      (ap (λ (k : ℕ). drop k old.input.now) (sym p.place) ∙ ap (drop new.place) (sym p.input));
+      ∙ ap (λ (l : List ℕ). behind (line ∷ []) (found more new.id new.place l)) (rw (sym p.place) (ap (drop new.place) (sym p.input)));
   printed = p.text;
-  inside = omega (arith, inside, p.place, ap length p.input);
+  inside = omega (arith, ap length p.input);
   input = p.input;
 }
 
@@ -109,22 +106,19 @@ line_goes line old new inside p = record {
 
 module _ {X : Type 0} (one : X → List Want) where
   more_of : (xs : List X) (i : ℕ) (d : X) → i < length xs → flat_map one (take (i + 1) xs) ≡ flat_map one (take i xs) ++ one (get_or xs i d)
-  more_of xs i d lt =
-      ap (flat_map one) (take_more xs i d lt) ∙ flat_map-append one (take i xs) (get_or xs i d ∷ [])
-      ∙ ap (λ (l : List Want). flat_map one (take i xs) ++ l) (append-nil (one (get_or xs i d)))
+  more_of xs i d lt = cc (take_more xs i d lt, flat_map-append one (take i xs) (get_or xs i d ∷ []), append-nil (one (get_or xs i d)))
 
   pub more_goes : (xs : List X) (i : ℕ) (d : X) (a b c : Walk) → i < length xs → Goes (flat_map one (take i xs)) a b → Goes (one (get_or xs i d)) b c
       → Goes (flat_map one (take (i + 1) xs)) a c
-  more_goes xs i d a b c lt g h = subst (λ (ws : List Want). Goes ws a c) (sym (more_of xs i d lt)) (goes_then g h)
+  more_goes xs i d a b c lt g h = rw (more_of xs i d lt) (goes_then g h)
 
   pub one_stops : (xs : List X) (i : ℕ) (d : X) (a b c : Walk) (stop : Stop) → i < length xs → Goes (flat_map one (take i xs)) a b
       → WhyStopped (one (get_or xs i d)) b c stop → WhyStopped (flat_map one xs) a c stop
   one_stops xs i d a b c stops.Differs lt g s =
       let front = flat_map one (take (i + 1) xs) in
       let whole : front ++ flat_map one (drop (i + 1) xs) ≡ flat_map one xs =
-      sym (flat_map-append one (take (i + 1) xs) (drop (i + 1) xs)) ∙ ap (flat_map one) (take-append-drop (i + 1) xs) in
-      subst (λ (ws : List Want). Stops ws a c) whole
-      (stops_before front (flat_map one (drop (i + 1) xs)) a c (subst (λ (ws : List Want). Stops ws a c) (sym (more_of xs i d lt)) (stops_then g s)))
+      cc (flat_map-append one (take (i + 1) xs) (drop (i + 1) xs), take-append-drop (i + 1) xs) in
+      rw whole at (stops_before front (flat_map one (drop (i + 1) xs)) a c (rw (more_of xs i d lt) (stops_then g s)))
   one_stops xs i d a b c stops.NoMemory lt g s = tt
 
 -- ---- one after the other, whatever the stop
@@ -168,22 +162,13 @@ all_good (x ∷ xs) = all_good xs
 -- ---- what is required
 
 elements_are : (es : List Element) → element_wants es ≡ map element_want (map told_of es)
-elements_are es = flat_map_single (λ e. element_want (told_of e)) es ∙ sym (map-map element_want told_of es)
-
-subs_are : (ss : List Sub) → subs_wants ss ≡ flat_map sub_wants (map sub_of ss)
-subs_are ss = sym (flat_map-map sub_wants sub_of ss)
-
-devices_are : (ds : List Device) → devices_wants ds ≡ flat_map device_wants (map device_of ds)
-devices_are ds = sym (flat_map-map device_wants device_of ds)
+elements_are es = cc (flat_map_single (λ e. element_want (told_of e)) es, map-map element_want told_of es)
 
 -- ---- a subsection
 
-sub_as : (s : Sub) → sub_head_wants (sub_of s) s.sent ++ element_wants s.elements.items ≡ sub_wants (sub_of s)
-sub_as s = ap (λ (l : List Want). sub_head_wants (sub_of s) s.sent ++ l) (elements_are s.elements.items)
-
 pub sub_walks : {a b : Walk} (s : Sub) (c : Walk) (r : Result (Unit {0}) Stop) → Goes (sub_head_wants (sub_of s) s.sent) a b
     → Walks (element_wants s.elements.items) b c r → Walks (sub_wants (sub_of s)) a c r
-sub_walks {a = a} s c r g h = subst (λ (ws : List Want). Walks ws a c r) (sub_as s) (walks_then _ c r g h)
+sub_walks {a = a} s c r g h = rw (← elements_are s.elements.items) (walks_then _ c r g h)
 
 -- ---- a device
 
@@ -201,12 +186,10 @@ module _ (d : Device) where
   all = device_wants (device_of d)
 
   device_as : ((head_of d ++ elements) ++ subs) ++ (Foot ∷ []) ≡ all
-  device_as =
-      ap (λ (l : List Want). ((head_of d ++ l) ++ subs) ++ (Foot ∷ [])) (elements_are d.elements.items)
-      ∙ ap (λ (l : List Want). ((head_of d ++ map element_want (map told_of d.elements.items)) ++ l) ++ (Foot ∷ [])) (subs_are d.subs.items)
+  device_as = rw (elements_are d.elements.items, sym (flat_map-map sub_wants sub_of d.subs.items))
 
   as_why : (a c : Walk) (stop : Stop) → WhyStopped (((head_of d ++ elements) ++ subs) ++ (Foot ∷ [])) a c stop → WhyStopped all a c stop
-  as_why a c stop w = subst (λ (ws : List Want). WhyStopped ws a c stop) device_as w
+  as_why a c stop w = rw device_as at w
 
   pub head_stops : (a b : Walk) (stop : Stop) → WhyStopped (head_of d) a b stop → WhyStopped all a b stop
   head_stops a b stop w =
@@ -220,21 +203,18 @@ module _ (d : Device) where
   pub subs_stop : {a b c : Walk} (e : Walk) (stop : Stop) → Goes (head_of d) a b → Goes elements b c → WhyStopped subs c e stop → WhyStopped all a e stop
   subs_stop {a = a} e stop g h w = as_why a e stop (why_before ((head_of d ++ elements) ++ subs) _ a e stop (why_then subs e stop (goes_then g h) w))
 
-  pub device_walks : {a b c e : Walk} (f : Walk) (r : Result (Unit {0}) Stop) → Goes (head_of d) a b → Goes elements b c → Goes subs c e → Walks (Foot ∷ []) e f r
-      → Walks all a f r
-  device_walks {a = a} f r g h i w = subst (λ (ws : List Want). Walks ws a f r) device_as (walks_then (Foot ∷ []) f r (goes_then (goes_then g h) i) w)
+  pub device_walks : {a b c e : Walk} (f : Walk) (r : Result (Unit {0}) Stop) → Goes (head_of d) a b → Goes elements b c → Goes subs c e
+      → Walks (Foot ∷ []) e f r → Walks all a f r
+  device_walks {a = a} f r g h i w = rw device_as at (walks_then (Foot ∷ []) f r (goes_then (goes_then g h) i) w)
 
 -- ---- a stream
-
-pub magic_stops : (a b : Walk) (stop : Stop) → WhyStopped (Bytes magic ∷ []) a b stop → WhyStopped start_wants a b stop
-magic_stops a b stop w = why_before (Bytes magic ∷ []) (Bytes (be32 3) ∷ Machine ∷ []) a b stop w
 
 pub version_stops : {a b : Walk} (c : Walk) (stop : Stop) → Goes (Bytes magic ∷ []) a b → WhyStopped (Bytes (be32 3) ∷ []) b c stop
     → WhyStopped start_wants a c stop
 version_stops {a = a} c stop g w = why_before (Bytes magic ∷ Bytes (be32 3) ∷ []) (Machine ∷ []) a c stop (why_then (Bytes (be32 3) ∷ []) c stop g w)
 
-pub start_walks : {a b c : Walk} (d : Walk) (r : Result (Unit {0}) Stop) → Goes (Bytes magic ∷ []) a b → Goes (Bytes (be32 3) ∷ []) b c → Walks (Machine ∷ []) c d r
-    → Walks start_wants a d r
+pub start_walks : {a b c : Walk} (d : Walk) (r : Result (Unit {0}) Stop) → Goes (Bytes magic ∷ []) a b → Goes (Bytes (be32 3) ∷ []) b c
+    → Walks (Machine ∷ []) c d r → Walks start_wants a d r
 start_walks d r g h w = walks_then (Machine ∷ []) d r (goes_then g h) w
 
 module _ (ds : List Device) where
@@ -242,10 +222,10 @@ module _ (ds : List Device) where
   whole = wants (map device_of ds)
 
   stream_as : (start_wants ++ devices_wants ds) ++ (Bytes end_mark ∷ []) ≡ whole
-  stream_as = ap (λ (l : List Want). (start_wants ++ l) ++ (Bytes end_mark ∷ [])) (devices_are ds)
+  stream_as = rw (sym (flat_map-map device_wants device_of ds))
 
   stream_why : (a c : Walk) (stop : Stop) → WhyStopped ((start_wants ++ devices_wants ds) ++ (Bytes end_mark ∷ [])) a c stop → WhyStopped whole a c stop
-  stream_why a c stop w = subst (λ (ws : List Want). WhyStopped ws a c stop) stream_as w
+  stream_why a c stop w = rw stream_as at w
 
   pub start_stops : (a b : Walk) (stop : Stop) → WhyStopped start_wants a b stop → WhyStopped whole a b stop
   start_stops a b stop w = stream_why a b stop (why_before (start_wants ++ devices_wants ds) _ a b stop (why_before start_wants _ a b stop w))
@@ -253,6 +233,71 @@ module _ (ds : List Device) where
   pub devices_stop : {a b : Walk} (c : Walk) (stop : Stop) → Goes start_wants a b → WhyStopped (devices_wants ds) b c stop → WhyStopped whole a c stop
   devices_stop {a = a} c stop g w = stream_why a c stop (why_before (start_wants ++ devices_wants ds) _ a c stop (why_then (devices_wants ds) c stop g w))
 
-  pub stream_walks : {a b c : Walk} (d : Walk) (r : Result (Unit {0}) Stop) → Goes start_wants a b → Goes (devices_wants ds) b c → Walks (Bytes end_mark ∷ []) c d r
-      → Walks whole a d r
-  stream_walks {a = a} d r g h w = subst (λ (ws : List Want). Walks ws a d r) stream_as (walks_then (Bytes end_mark ∷ []) d r (goes_then g h) w)
+  pub stream_walks : {a b c : Walk} (d : Walk) (r : Result (Unit {0}) Stop) → Goes start_wants a b → Goes (devices_wants ds) b c
+      → Walks (Bytes end_mark ∷ []) c d r → Walks whole a d r
+  stream_walks {a = a} d r g h w = rw stream_as at (walks_then (Bytes end_mark ∷ []) d r (goes_then g h) w)
+
+-- ---- what is at the front
+
+-- past it
+passed : (front : List ℕ) (old mid : Walk) → IsInside old → begins_with front (left old) ≡ true → mid.place ≡ old.place + length front → mid.text ≡ old.text
+    → mid.input.now ≡ old.input.now → Passed old mid front
+passed front old mid inside e place text input =
+    record {
+      there = cc (begun front (left old) e, drop-drop (length front) old.place old.input.now);
+      place = place;
+      text = text;
+      inside = omega (
+        arith,
+        ap length (begun front (left old) e),
+        length-append front (drop (length front) (left old)),
+        length-drop old.place old.input.now,
+        ap length input,
+      );
+      input = input;
+    }
+
+-- ---- heads
+
+pub head_goes : (old mid new : Walk) (name : List ℕ) (instance version : ℕ) → begins_with (section_head mid.id name instance version) (left old) ≡ true
+    → mid.id < 2 ^ 32
+    → IsInside old → mid.place ≡ old.place + length (section_head mid.id name instance version) → mid.text ≡ old.text → mid.input.now ≡ old.input.now
+    → Prints mid new (section_line name instance version) → Goes (Head name instance version ∷ []) old new
+head_goes old mid new name instance version e small inside place text input prints =
+    printed_goes (takes_head name instance version old.id mid.id small)
+    (passed (section_head mid.id name instance version) old mid inside e place text input) prints
+
+-- ---- the machine
+
+pub machine_passes : (old : Walk) → IsInside old → (get_or (left old) 0 0 == 7) ≡ false → Goes (Machine ∷ []) old old
+machine_passes old inside e = record {
+  lines = [];
+  taken = λ more.
+      let same : old.place + 0 ≡ old.place = omega arith in
+      ap (found_after (found more) old.place (left old)) (no_machine old.id (left old) e) ∙ ap (λ (k : ℕ). behind [] (found more old.id k (left old))) same;
+  printed = sym (append-nil _);
+  inside = inside;
+  input = refl;
+}
+
+pub machine_goes : (old mid new : Walk) (name : List ℕ) → is_machine name ≡ true → begins_with (configuration name) (left old) ≡ true → mid.id ≡ old.id
+    → IsInside old
+    → mid.place ≡ old.place + length (configuration name) → mid.text ≡ old.text → mid.input.now ≡ old.input.now → Prints mid new (machine_line name)
+    → Goes (Machine ∷ []) old new
+machine_goes old mid new name good e id inside place text input prints =
+    let short = leb-true (length name) LONGEST_NAME (and_parts (nat_le (length name) LONGEST_NAME) (list_all is_name_byte name) good).0 in
+    printed_goes (rw id (takes_machine name old.id good (omega arith))) (passed (configuration name) old mid inside e place text input) prints
+
+-- ---- the name of a machine
+
+-- the name that is there
+pub name_there : (w : Walk) (n : ℕ) → n ≡ number_at 4 1 (left w)
+    → take n (take (length w.input.now - (w.place + 5)) (drop (w.place + 5) w.input.now)) ≡ bytes_at (number_at 4 1 (left w)) 5 (left w)
+name_there w n is =
+    cc (
+      take_all (length w.input.now - (w.place + 5)) (drop (w.place + 5) w.input.now) (omega (arith, length-drop (w.place + 5) w.input.now)),
+      drop-drop 5 w.place w.input.now,
+    )
+
+pub is_name_of : (name : List ℕ) → length name ≤ LONGEST_NAME → list_all is_name_byte name ≡ true → is_machine name ≡ true
+is_name_of name few plain = rw (le-leb (length name) LONGEST_NAME few) (plain)

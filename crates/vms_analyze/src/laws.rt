@@ -31,7 +31,7 @@ pub fn shown_law()
 {}
 
 /// States that a listed input has at most 100,000,000 bytes, and a path 300.
-#[tactic(auto, using(crate::proofs::Longest::longest_are))]
+#[tactic(auto, using(crate::proofs::One::longest_are))]
 pub fn longest_law()
     ensures { LongestLaw }
 {}

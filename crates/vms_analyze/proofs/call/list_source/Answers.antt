@@ -1,11 +1,11 @@
-use Rattle.vms_analyze.proofs.Facade.{ℕ, List, subst, intake, ListsAs}
+use Rattle.vms_analyze.proofs.Facade.{intake}
 use Rattle.vms_analyze.proofs.Inputs.{lists_taken, is_too_much}
 use Rattle.vms_analyze.proofs.call.list_source.Goals as goal
 
 pub returns-in-Ok : goal.returns-in-Ok
 returns-in-Ok g c =
     lists_taken (intake g.S.Source c.args.source.now) (intake g.S.Source c.read_input.new.source) c.in-Ok.input.items c.in-Ok.ensures c.list.result
-    (subst (λ (l : List ℕ). ListsAs l c.list.result) c.deref.ensures.value c.list.ensures)
+    (rw c.deref.ensures.value at c.list.ensures)
 
 pub returns-in-Err-TooLong : goal.returns-in-Err-TooLong
 returns-in-Err-TooLong g c =

@@ -9,11 +9,10 @@ loop-item-init g c =
 
 pub returns-in-Err : goal.returns-in-Err
 returns-in-Err g c =
-    let says = g.T.Reads.says in
     let l = c.loop-item in
-    stops g.T.Reads.means (λ (v : Vec g.row.T.Denot Global). map g.T.Reads.means v.items) says (items_left l.items) (items_left c.next.new.self)
+    stops g.T.Reads.means (λ (v : Vec g.row.T.Denot Global). map g.T.Reads.means v.items) g.T.Reads.says (items_left l.items) (items_left c.next.new.self)
     (view c.in-Some.item)
-    (each says (items_left c.args.items)) (map g.T.Reads.means l.list.items) c.in-Err.unread l.invariant c.in-Some.ensures.value c.in-Err.ensures
+    (each g.T.Reads.says (items_left c.args.items)) (map g.T.Reads.means l.list.items) c.in-Err.unread l.invariant c.in-Some.ensures.value c.in-Err.ensures
 
 pub loop-item-preserved : goal.loop-item-preserved
 loop-item-preserved g c =

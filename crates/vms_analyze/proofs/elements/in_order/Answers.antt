@@ -7,6 +7,10 @@ returns c =
     let two = put (codes "size") (view c.in_ok-size.size) one in
     let three = put (codes "type") (view c.in_ok-word.word) two in
     let all : members_left c.in_ok-members.members ≡ three =
-    c.in_ok-name.ensures no_members ∙ c.in_ok-size.ensures one ∙ c.in_ok-word.ensures two
-    ∙ none_left c.next.result _ _ (sym c.is_some.ensures ∙ c.if-is_some.false) (c.next.ensures.value three) in
+    cc (
+      c.in_ok-name.ensures no_members,
+      c.in_ok-size.ensures one,
+      c.in_ok-word.ensures two,
+      none_left c.next.result _ _ (sym c.is_some.ensures ∙ c.if-is_some.false) (c.next.ensures.value three),
+    ) in
     object_is _ _ c.in_ok-members.ensures ∙ ap object all

@@ -1,5 +1,5 @@
-use Rattle.vms_analyze.proofs.Facade.{◌≡◌, length, take, rules, arith, sym, takes_none, takes_as}
-use Rattle.vms_analyze.proofs.Inputs.{piece_ends, piece_takes, piece_few, piece_grows, piece_fails}
+use Rattle.vms_analyze.proofs.Facade.{◌≡◌, length, take, rules, arith, sym, takes_none, takes_as, takes_both}
+use Rattle.vms_analyze.proofs.Inputs.{piece_ends, piece_few, piece_grows, piece_fails}
 use Rattle.vms_analyze.proofs.input.read_input.Goals as goal
 
 pub loop-piece-init : goal.loop-piece-init
@@ -12,23 +12,22 @@ pub returns-in-Err : goal.returns-in-Err
 returns-in-Err g c =
     let full : length (take c.min-room.result c.loop-piece.piece) ≡ c.min-room.result = search rules in
     piece_fails _ _ _ c.loop-piece.input.items c.read_piece.new.input.items _ c.in-Err.none c.loop-piece.invariant.takes c.in-Err.ensures
-    (first_of (omega (arith, full, c.min-room.ensures), search rules))
+    (first_of (omega arith, search rules))
 
 pub returns-then-done : goal.returns-then-done
 returns-then-done g c =
     let full : length (take c.min-room.result c.loop-piece.piece) ≡ c.min-room.result = search rules in
-    piece_ends c.loop-piece.invariant.takes c.in-Ok.ensures c.if-done.true (first_of (omega (arith, full, c.min-room.ensures), search rules))
+    piece_ends c.loop-piece.invariant.takes c.in-Ok.ensures c.if-done.true (first_of (omega arith, search rules))
 
 pub loop-piece-preserved : goal.loop-piece-preserved
 loop-piece-preserved g c =
     let full : length (take c.min-room.result c.loop-piece.piece) ≡ c.min-room.result = search rules in
     record {
-      few = piece_few c.in-Ok.ensures (first_of (omega (arith, full, c.min-room.ensures), search rules));
-      takes = piece_takes c.loop-piece.invariant.takes c.in-Ok.ensures;
+      few = piece_few c.in-Ok.ensures (first_of (omega arith, search rules));
+      takes = takes_as (sym c.in-Ok.ensures.items) (takes_both c.loop-piece.invariant.takes c.in-Ok.ensures.takes);
     }
 
 pub loop-piece-smaller : goal.loop-piece-smaller
 loop-piece-smaller g c =
     let full : length (take c.min-room.result c.loop-piece.piece) ≡ c.min-room.result = search rules in
-    let grown = piece_grows c.in-Ok.ensures c.if-done.false in
-    omega (arith, full, grown, c.loop-piece-test.true, c.min-room.ensures)
+    omega (arith, piece_grows c.in-Ok.ensures c.if-done.false)

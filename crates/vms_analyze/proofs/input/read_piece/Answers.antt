@@ -5,21 +5,17 @@ pub returns-in-Ok-extend_from_slice : goal.returns-in-Ok-extend_from_slice
 returns-in-Ok-extend_from_slice g c =
     let count = c.in-Ok.count in
     let piece = c.read_exact_of.new.buf in
-    let bound = c.in-Ok.ensures.bound in
-    let same = c.read_exact_of.auto.buf in
     record {
       bytes = take count piece;
       takes = c.in-Ok.ensures.takes;
       items = c.in-Ok-extend_from_slice.ensures.items;
-      few = omega (arith, bound, length-take count piece);
-      all = λ e. omega (arith, bound, same, length-take count piece, ltb-false count (length piece) e);
-      short = λ e. omega (arith, bound, same, length-take count piece, ltb-true count (length piece) e);
-      end = λ e. c.in-Ok.ensures.end (omega (arith, same, ltb-true count (length piece) e));
+      few = omega (arith, length-take count piece);
+      all = λ e. omega (arith, length-take count piece, ltb-false count (length piece) e);
+      short = λ e. omega (arith, length-take count piece, ltb-true count (length piece) e);
+      end = λ e. c.in-Ok.ensures.end (omega (arith, ltb-true count (length piece) e));
     }
 
 pub returns-in-Err-extend_from_slice : goal.returns-in-Err-extend_from_slice
 returns-in-Err-extend_from_slice g c =
-    let count = c.in-Ok.count in
     let piece = c.read_exact_of.new.buf in
-    let bound = c.in-Ok.ensures.bound in
-    record { bytes = take count piece; takes = c.in-Ok.ensures.takes; few = omega (arith, bound, length-take count piece) }
+    record { bytes = take c.in-Ok.count piece; takes = c.in-Ok.ensures.takes; few = omega (arith, length-take c.in-Ok.count piece) }

@@ -1,6 +1,5 @@
-use Rattle.vms_analyze.proofs.Facade.{◌≡◌, ℕ, ◌+◌, List, map, take, drop, Some, None, sym, ap, ◌∙◌, subst, list_all, value_in, is_good_device, Tells}
-use Rattle.vms_analyze.proofs.Facade.{listing_of, IsRead, HasNoShape, next, devices_in, device_of, found, wants}
-use Rattle.vms_analyze.specs.declared.told.Device.{Device}
+use Rattle.vms_analyze.proofs.Facade.{◌≡◌, ◌+◌, map, take, drop, None, sym, value_in, Tells, listing_of, IsRead, HasNoShape, next, devices_in, device_of, found}
+use Rattle.vms_analyze.proofs.Facade.{wants}
 use Rattle.vms_analyze.proofs.Inputs.{lists_as, text_behind}
 use Rattle.vms_analyze.proofs.DevicesRead.{tells_if, not_told}
 use Rattle.vms_analyze.proofs.list.list_at.Goals as goal
@@ -9,20 +8,14 @@ pub show-requires : goal.show-requires
 show-requires c =
     let input = c.args.input.now in
     let place = c.args.place in
-    let said : next (value_in (drop (place + 5) input)) devices_in ≡ Some (map device_of c.in-Ok.devices.items) =
-    ap (λ (t : List ℕ). next (value_in t) devices_in) (sym (text_behind input (place + 5))) ∙ c.in-Ok.ensures in
-    ap (λ (l : List Device). list_all is_good_device (map device_of l)) c.deref.ensures.value ∙
-    (tells_if input place (map device_of c.in-Ok.devices.items) said).good
+    rw (c.deref.ensures.value) ((tells_if input place (map device_of c.in-Ok.devices.items) (rw (sym (text_behind input (place + 5))) (c.in-Ok.ensures))).good)
 
 pub returns-in-Ok : goal.returns-in-Ok
 returns-in-Ok c =
     let input = c.args.input.now in
     let place = c.args.place in
-    let said : next (value_in (drop (place + 5) input)) devices_in ≡ Some (map device_of c.in-Ok.devices.items) =
-    ap (λ (t : List ℕ). next (value_in t) devices_in) (sym (text_behind input (place + 5))) ∙ c.in-Ok.ensures in
     let tells : Tells input place (map device_of c.deref.result.now) =
-    subst (λ (l : List Device). Tells input place (map device_of l)) (sym c.deref.ensures.value)
-    (tells_if input place (map device_of c.in-Ok.devices.items) said) in
+    rw c.deref.ensures.value (tells_if input place (map device_of c.in-Ok.devices.items) (rw (sym (text_behind input (place + 5))) (c.in-Ok.ensures))) in
     lists_as input (listing_of (found (wants (map device_of c.deref.result.now)) 0 0 (take place input))) c.show.result
     (IsRead place (map device_of c.deref.result.now) c.requires.few c.requires.last tells) c.show.ensures
 
@@ -31,5 +24,5 @@ returns-in-Err-Shape c =
     let input = c.args.input.now in
     let place = c.args.place in
     let none : next (value_in (drop (place + 5) input)) devices_in ≡ None =
-    ap (λ (t : List ℕ). next (value_in t) devices_in) (sym (text_behind input (place + 5))) ∙ (rw c.in-Err-Shape.field-0-is at c.in-Err-Shape.ensures) in
+    rw (sym (text_behind input (place + 5))) ((rw c.in-Err-Shape.field-0-is at c.in-Err-Shape.ensures)) in
     HasNoShape place c.requires.few c.requires.last (not_told input place none)

@@ -1,6 +1,4 @@
-use Rattle.vms_analyze.proofs.Facade.{List, map, ap, ◌∙◌, subst, list_all, is_good_sub, sub_of, device_of, element_wants}
-use Rattle.vms_analyze.proofs.Facade.{subs_wants, WhyStopped, Element}
-use Rattle.vms_analyze.specs.declared.told.Sub.{Sub}
+use Rattle.vms_analyze.proofs.Facade.{device_of}
 use Rattle.vms_analyze.proofs.Walks.{device_short, head_stops, elements_stop, subs_stop, device_walks}
 use Rattle.vms_analyze.proofs.Parts.{device_parts}
 use Rattle.vms_analyze.proofs.walk.Walk.device.Goals as goal
@@ -9,23 +7,19 @@ pub head-requires-clause-short : goal.head-requires-clause-short
 head-requires-clause-short c = device_short (device_of c.args.device.now) c.requires.good
 
 pub subs-requires-clause-good : goal.subs-requires-clause-good
-subs-requires-clause-good c =
-    ap (λ (l : List Sub). list_all is_good_sub (map sub_of l)) c.deref-2.ensures.value ∙ (device_parts (device_of c.args.device.now) c.requires.good).subs
+subs-requires-clause-good c = rw (c.deref-2.ensures.value) ((device_parts (device_of c.args.device.now) c.requires.good).subs)
 
 pub returns-in-Err : goal.returns-in-Err
 returns-in-Err c = head_stops c.args.device.now c.args.self.now c.head.new.self c.in-Err.stop c.in-Err.ensures
 
 pub returns-in-Err-elements : goal.returns-in-Err-elements
 returns-in-Err-elements c =
-    elements_stop c.args.device.now c.elements.new.self c.in-Err-elements.stop c.in_default.ensures
-    (subst (λ (l : List Element). WhyStopped (element_wants l) c.head.new.self c.elements.new.self c.in-Err-elements.stop) c.deref.ensures.value
-    c.in-Err-elements.ensures)
+    elements_stop c.args.device.now c.elements.new.self c.in-Err-elements.stop c.in_default.ensures (rw c.deref.ensures.value at c.in-Err-elements.ensures)
 
 pub returns-in-Err-subs : goal.returns-in-Err-subs
 returns-in-Err-subs c =
     subs_stop c.args.device.now c.subs.new.self c.in-Err-subs.stop c.in_default.ensures (rw (c.deref.ensures.value) at c.in_default-elements.ensures)
-    (subst (λ (l : List Sub). WhyStopped
-    (subs_wants l) c.elements.new.self c.subs.new.self c.in-Err-subs.stop) c.deref-2.ensures.value c.in-Err-subs.ensures)
+    (rw c.deref-2.ensures.value at c.in-Err-subs.ensures)
 
 pub returns : goal.returns
 returns c =

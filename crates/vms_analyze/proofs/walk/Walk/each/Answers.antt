@@ -1,4 +1,4 @@
-use Rattle.vms_analyze.proofs.Facade.{AllPass-from_list_all, ap, ◌∙◌, subst, Goes, WhyStopped}
+use Rattle.vms_analyze.proofs.Facade.{AllPass-from_list_all}
 use Rattle.vms_analyze.proofs.Walks.{more_goes, one_stops}
 use Rattle.vms_analyze.proofs.walk.Walk.each.Goals as goal
 
@@ -7,17 +7,17 @@ seek-requires-clause-inside g c = c.loop-item.invariant.inside
 
 pub seek-requires-clause-good : goal.seek-requires-clause-good
 seek-requires-clause-good g c =
-    ap g.T.Sought.is_good c.item-item.is
-    ∙ AllPass-from_list_all g.T.Sought.is_good c.args.items.now c.requires.good c.loop-item.item-index c.item-item.result c.loop-item-test.true
+    cc (
+      c.item-item.is,
+      AllPass-from_list_all g.T.Sought.is_good c.args.items.now c.requires.good c.loop-item.item-index c.item-item.result c.loop-item-test.true,
+    )
 
 pub loop-item-preserved : goal.loop-item-preserved
 loop-item-preserved g c =
     more_goes g.T.Sought.wants c.args.items.now c.loop-item.item-index c.item-item.result
-    c.args.self.now c.loop-item.self c.seek.new.walk c.loop-item-test.true c.loop-item.invariant
-    (subst (λ (x : g.row.T.Denot). Goes (g.T.Sought.wants x) c.loop-item.self c.seek.new.walk) c.item-item.is c.in_default.ensures)
+    c.args.self.now c.loop-item.self c.seek.new.walk c.loop-item-test.true c.loop-item.invariant (rw c.item-item.is at c.in_default.ensures)
 
 pub returns-in-Err : goal.returns-in-Err
 returns-in-Err g c =
     one_stops g.T.Sought.wants c.args.items.now c.loop-item.item-index c.item-item.result
-    c.args.self.now c.loop-item.self c.seek.new.walk c.in-Err.stop c.loop-item-test.true c.loop-item.invariant
-    (subst (λ (x : g.row.T.Denot). WhyStopped (g.T.Sought.wants x) c.loop-item.self c.seek.new.walk c.in-Err.stop) c.item-item.is c.in-Err.ensures)
+    c.args.self.now c.loop-item.self c.seek.new.walk c.in-Err.stop c.loop-item-test.true c.loop-item.invariant (rw c.item-item.is at c.in-Err.ensures)

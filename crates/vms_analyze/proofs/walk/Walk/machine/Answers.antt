@@ -1,6 +1,5 @@
-use Rattle.vms_analyze.proofs.Facade.{◌≡◌, ℕ, ◌+◌, List, length, true, refl, sym, ap, ◌∙◌, begins_with, configuration, left, Walk}
-use Rattle.vms_analyze.proofs.WalkHeads.{machine_goes, machine_passes}
-use Rattle.vms_analyze.proofs.Walks.{prints_walk}
+use Rattle.vms_analyze.proofs.Facade.{◌≡◌, ◌+◌, length, true, refl, sym, ap, ◌∙◌, begins_with, configuration, left, Walk}
+use Rattle.vms_analyze.proofs.Walks.{machine_goes, machine_passes, prints_walk}
 use Rattle.vms_analyze.proofs.walk.Walk.machine.Goals as goal
 
 pub returns-then-not-has_configuration : goal.returns-then-not-has_configuration
@@ -13,8 +12,8 @@ returns c =
     let mid : Walk = record { input = walk.input; place = walk.place + c.len.result; id = walk.id; text = walk.text } in
     let items : c.configuration-spelled.result.items ≡ configuration name = c.configuration-spelled.ensures in
     let begins : begins_with (configuration name) (left walk) ≡ true =
-    ap (λ (l : List ℕ). begins_with l (left walk)) (sym (c.as_slice.ensures.value ∙ items)) ∙ sym c.if-not-begins_with.ensures in
+    ap (λ l. begins_with l (left walk)) (sym (c.as_slice.ensures.value ∙ items)) ∙ sym c.if-not-begins_with.ensures in
     prints_walk c.print_machine.result
     (machine_goes walk mid c.print_machine.new.self name c.in-Some.ensures.good begins refl c.requires
-    (ap (λ (k : ℕ). walk.place + k) (c.len.ensures.value ∙ ap length items)) refl refl)
+    (rw (c.len.ensures.value ∙ ap length items)) refl refl)
     c.print_machine.ensures.ok c.print_machine.ensures.err

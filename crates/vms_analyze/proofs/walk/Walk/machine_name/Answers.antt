@@ -1,5 +1,5 @@
-use Rattle.vms_analyze.proofs.Facade.{◌≤◌, ◌+◌, ◌-◌, length, length-take, take, drop, sym, ap, ◌∙◌, arith, list_all, LONGEST_NAME, is_name_byte, left}
-use Rattle.vms_analyze.proofs.WalkHeads.{name_there, is_name_of, no_name}
+use Rattle.vms_analyze.proofs.Facade.{◌≤◌, ◌+◌, ◌-◌, length, length-take, take, drop, sym, ap, ◌∙◌, arith, list_all, and-false, LONGEST_NAME, is_name_byte}
+use Rattle.vms_analyze.proofs.Walks.{name_there, is_name_of}
 use Rattle.vms_analyze.proofs.walk.Walk.machine_name.Goals as goal
 
 pub returns-then-are_name_bytes : goal.returns-then-are_name_bytes
@@ -7,13 +7,13 @@ returns-then-are_name_bytes c =
     let w = c.args.self.now in
     let n = c.in_ok-long.field-0 in
     let rest = take (length w.input.now - (w.place + 5)) (drop (w.place + 5) w.input.now) in
-    let few : n ≤ LONGEST_NAME = omega (arith, c.if-long-gt-LONGEST_NAME.false) in
+    let few : n ≤ LONGEST_NAME = omega arith in
     record {
       there = name_there w n c.in_ok-long.ensures.1;
-      good = is_name_of (take n rest) (omega (arith, few, length-take n rest)) (sym c.if-are_name_bytes.ensures);
+      good = is_name_of (take n rest) (omega (arith, length-take n rest)) (sym c.if-are_name_bytes.ensures);
     }
 
 pub returns-else-are_name_bytes : goal.returns-else-are_name_bytes
 returns-else-are_name_bytes c =
-    no_name (left c.args.self.now) (ap (list_all is_name_byte) (sym (name_there c.args.self.now c.in_ok-long.field-0 c.in_ok-long.ensures.1))
-    ∙ sym c.if-are_name_bytes.ensures)
+    let e = ap (list_all is_name_byte) (sym (name_there c.args.self.now c.in_ok-long.field-0 c.in_ok-long.ensures.1)) ∙ sym c.if-are_name_bytes.ensures in
+    record { none = simp (e, and-false) }

@@ -8,14 +8,13 @@ returns-in-Err c =
     let same : c.as_slice.result.now ≡ head =
     c.as_slice.ensures.value ∙ c.sub_head-head.ensures ∙ ap (λ (n : List ℕ). sub_head n c.args.version) c.as_bytes.ensures.value in
     why_before (Bytes head ∷ []) (Line (sent_line c.args.name.now c.args.version) ∷ []) c.args.self.now c.bytes.new.self c.in-Err.stop
-    (subst (λ (l : List ℕ). WhyStopped (Bytes l ∷ []) c.args.self.now c.bytes.new.self c.in-Err.stop) same c.in-Err.ensures)
+    (subst (λ l. WhyStopped (Bytes l ∷ []) c.args.self.now c.bytes.new.self c.in-Err.stop) same c.in-Err.ensures)
 
 pub returns : goal.returns
 returns c =
     let head = sub_head c.args.name.now c.args.version in
-    let line = sent_line c.args.name.now c.args.version in
     let same : c.as_slice.result.now ≡ head =
     c.as_slice.ensures.value ∙ c.sub_head-head.ensures ∙ ap (λ (n : List ℕ). sub_head n c.args.version) c.as_bytes.ensures.value in
     let went : Goes (Bytes head ∷ []) c.args.self.now c.bytes.new.self =
-    subst (λ (l : List ℕ). Goes (Bytes l ∷ []) c.args.self.now c.bytes.new.self) same c.in_default.ensures in
-    goes_then went (line_goes line c.bytes.new.self c.print_sent.new.self went.inside c.in_ok-print_sent.ensures.ok)
+    subst (λ l. Goes (Bytes l ∷ []) c.args.self.now c.bytes.new.self) same c.in_default.ensures in
+    goes_then went (line_goes (sent_line c.args.name.now c.args.version) c.bytes.new.self c.print_sent.new.self went.inside c.in_ok-print_sent.ensures.ok)

@@ -1,8 +1,9 @@
-use Rattle.vms_analyze.proofs.Walks.{magic_stops, version_stops, start_walks}
+use Rattle.vms_analyze.proofs.Facade.{◌∷◌, [], Bytes, Machine, be32, magic}
+use Rattle.vms_analyze.proofs.Walks.{why_before, version_stops, start_walks}
 use Rattle.vms_analyze.proofs.walk.Walk.start.Goals as goal
 
 pub returns-in-Err : goal.returns-in-Err
-returns-in-Err c = magic_stops c.args.self.now c.bytes.new.self c.in-Err.stop c.in-Err.ensures
+returns-in-Err c = why_before (Bytes magic ∷ []) (Bytes (be32 3) ∷ Machine ∷ []) c.args.self.now c.bytes.new.self c.in-Err.stop c.in-Err.ensures
 
 pub returns-in-Err-bytes : goal.returns-in-Err-bytes
 returns-in-Err-bytes c = version_stops c.bytes-2.new.self c.in-Err-bytes.stop c.in_default.ensures c.in-Err-bytes.ensures

@@ -9,4 +9,5 @@ returns-in-Err-devices c =
     devices_stop c.args.devices.now c.devices.new.self c.in-Err-devices.stop c.in_default.ensures c.in-Err-devices.ensures
 
 pub returns : goal.returns
-returns c = stream_walks c.args.devices.now c.bytes.new.self c.bytes.result c.in_default.ensures c.in_default-devices.ensures (rw c.byte.ensures at c.bytes.ensures)
+returns c =
+    stream_walks c.args.devices.now c.bytes.new.self c.bytes.result c.in_default.ensures c.in_default-devices.ensures (rw c.byte.ensures at c.bytes.ensures)

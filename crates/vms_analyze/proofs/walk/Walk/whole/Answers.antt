@@ -10,12 +10,11 @@ returns-in-Err c =
 pub returns-then-self : goal.returns-then-self
 returns-then-self c =
     let went = c.in_default.ensures in
-    let other : c.stream.new.self.place ≢ length c.args.self.now.input.now = λ e. omega (arith, e, c.if-self.true, ap length went.input) in
+    let other : c.stream.new.self.place ≢ length c.args.self.now.input.now = λ e. omega (arith, ap length went.input) in
     has_more (wants (map device_of c.args.devices.now)) c.args.self.now c.stream.new.self c.args.self.now.input.now c.requires.start went other
 
 pub returns : goal.returns
 returns c =
     let went = c.in_default.ensures in
-    let inside = went.inside in
-    let all : c.stream.new.self.place ≡ length c.args.self.now.input.now = omega (arith, inside, c.if-self.false, ap length went.input) in
+    let all : c.stream.new.self.place ≡ length c.args.self.now.input.now = omega (arith, ap length went.input) in
     is_shown (wants (map device_of c.args.devices.now)) c.args.self.now c.stream.new.self c.args.self.now.input.now c.requires.start went all
