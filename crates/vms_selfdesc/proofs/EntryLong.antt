@@ -18,9 +18,6 @@ pub word_short : (kind : Kind) → length (quoted (kind_word kind)) ≤ 8
 word_short kinds.U8 = omega (arith, key_long (codes "u8") refl)
 word_short kind = omega (arith, key_long (kind_word kind) (word_plain kind))
 
-pub size_short : (n : ℕ) → n ≤ MOST_UNUSED → length (decimal n) ≤ 4
-size_short n le = length-decimal-le 4 n (omega arith) (omega arith) (omega arith)
-
 pub number_short : (n : ℕ) → n < 4294967296 → length (decimal n) ≤ 10
 number_short n lt = length-decimal-le 10 n (omega arith) (omega arith) (omega arith)
 
@@ -38,7 +35,7 @@ sent_members_long path type size ms p small word =
       member_long true (codes "size") (natural size) rest,
       member_long true (codes "type") (string type) ms,
       quoted_long path p,
-      size_short size small,
+      length-decimal-le 4 size (omega arith) (omega arith) (omega arith),
     )
 
 pub sent_long : (path : List ℕ) (size : ℕ) (type : List ℕ) → IsPlain path → size ≤ MOST_UNUSED → length (quoted type) ≤ 8

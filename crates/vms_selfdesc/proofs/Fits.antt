@@ -1,14 +1,14 @@
 -- The length and the number of the entries of fields, for a path that begins with a number of bytes. They depend on
 -- the depth of structures and the number of items.
 use Rattle.vms_selfdesc.proofs.Facade.{cases_lt, inl, inr, ◌≡◌, ℕ, zero, suc, ◌+◌, ◌*◌, ◌<◌, ◌≤◌, List, ◌∷◌, ◌++◌, length, length-append, get_or, ℤ, Bool, true}
-use Rattle.vms_selfdesc.proofs.Facade.{false, ◌&&◌, refl, arith, codes, [], get_or-eq_default, mul-le-mul_right, quoted, compact_text, number_text, of_integer}
-use Rattle.vms_selfdesc.proofs.Facade.{Item, Kind, Num, Equal, Unused, Struct, width, MOST_ITEMS, MOST_UNUSED, Count, One, Field, Desc, is_there, no_desc}
-use Rattle.vms_selfdesc.proofs.Facade.{no_parent, first, item_size, field_cells, capacity_of, elements_of, numbers_of, item_count, items_in, item_depth}
-use Rattle.vms_selfdesc.proofs.Facade.{deepest, elements_fit, first_at, first_long, width_small, kind_word, Shape, no_shape, shape, cells_in, field_elements}
-use Rattle.vms_selfdesc.proofs.Facade.{elements_from, desc_elements, Entry, cell_entry, listed_if, entries_of, item_entries, element_path, element_entries}
-use Rattle.vms_selfdesc.proofs.Facade.{array_entries, entry_tree, IsPlain}
+use Rattle.vms_selfdesc.proofs.Facade.{append-nil, and-true, false, ◌&&◌, refl, arith, codes, [], get_or-eq_default, mul-le-mul_right, quoted, compact_text}
+use Rattle.vms_selfdesc.proofs.Facade.{number_text, of_integer, Item, Kind, Num, Equal, Unused, Struct, width, MOST_ITEMS, MOST_UNUSED, Count, One, Field, Desc}
+use Rattle.vms_selfdesc.proofs.Facade.{is_there, no_desc, no_parent, first, item_size, field_cells, capacity_of, elements_of, numbers_of, item_count, items_in}
+use Rattle.vms_selfdesc.proofs.Facade.{item_depth, deepest, elements_fit, first_at, first_long, width_small, kind_word, Shape, no_shape, shape, cells_in}
+use Rattle.vms_selfdesc.proofs.Facade.{field_elements, elements_from, desc_elements, Entry, cell_entry, listed_if, entries_of, item_entries, element_path}
+use Rattle.vms_selfdesc.proofs.Facade.{element_entries, array_entries, entry_tree, IsPlain}
 use Rattle.vms_selfdesc.proofs.Plain.{IsShort, plain_append, element_plain, element_long, dot_plain, key_long}
-use Rattle.vms_selfdesc.proofs.OfElements.{of_append, of_dotted, number_is, constant_is, filler_is, of_field, of_desc}
+use Rattle.vms_selfdesc.proofs.OfElements.{of_append, of_dotted, plain_is, of_field, of_desc}
 use Rattle.vms_selfdesc.proofs.EntryLong.{sent_long, absent_long, word_short}
 
 -- the texts of these entries are no longer than this
@@ -82,14 +82,14 @@ module _ (ss : List Shape) (sizes depths : List ℕ) (fit : FitTables ss sizes d
       → Listed (IsPlain path × IsSmall item z × (item_count sizes item ≤ MOST_ITEMS)) (item_count sizes item) (length path + (40 * item_depth depths item + 68))
       (item_entries ss item z sent n path at)
   item_listed (Num kind) z sent n path at =
-      rw (number_is ss kind z sent n path at) (record { few = omega arith; long = λ c. let le = cell_long sent path kind z c.0 c.1 in (omega arith, tt) })
+      rw (append-nil path, and-true sent) (record { few = omega arith; long = λ c. let le = cell_long sent path kind z c.0 c.1 in (omega arith, tt) })
   item_listed (Equal kind y) z sent n path at =
       let word : length (quoted (codes "equal")) ≤ 8 = omega (arith, key_long (codes "equal") refl) in
-      rw (constant_is ss kind y z sent n path at)
+      rw (plain_is sent path (width kind) (codes "equal"))
       (sent_listed sent _ (λ c. omega (arith, sent_long path (width kind) (codes "equal") c.0 (width_small kind) word)))
   item_listed (Unused k) z sent n path at =
       let word : length (quoted (codes "unused")) ≤ 8 = omega (arith, key_long (codes "unused") refl) in
-      rw (filler_is ss k z sent n path at) (sent_listed sent _ (λ c. omega (arith, sent_long path k (codes "unused") c.0 c.1 word)))
+      rw (plain_is sent path k (codes "unused")) (sent_listed sent _ (λ c. omega (arith, sent_long path k (codes "unused") c.0 c.1 word)))
   item_listed (Struct j) z sent n path at =
       let listed = (fit j).listed sent (path ++ 46 ∷ []) n at in
       rw (of_dotted sent path ((get_or ss j no_shape).elements n at)) (record {
@@ -193,9 +193,6 @@ items_of_desc sizes d = items_in sizes d.fields
 abbrev depth_of_desc : List ℕ → Desc → ℕ
 depth_of_desc depths d = 1 + deepest depths d.fields
 
-none_fits : Fits no_shape 0 0
-none_fits = record { listed = λ sent path n at. record { few = omega arith; long = λ h. tt } }
-
 module _ (ds : List Desc) (most : ℕ) (sound : (j : ℕ) → j < most → AreSound (get_or ds j no_desc).fields) where
   abbrev made : ℕ → Type 0
   made j =
@@ -210,7 +207,7 @@ module _ (ds : List Desc) (most : ℕ) (sound : (j : ℕ) → j < most → AreSo
       get_or-eq_default (first shape ds k) no_shape {n = j} (omega (arith, first_long shape ds k)),
       get_or-eq_default (first items_of_desc ds k) 0 {n = j} (omega (arith, first_long items_of_desc ds k)),
       get_or-eq_default (first depth_of_desc ds k) 0 {n = j} (omega (arith, first_long depth_of_desc ds k)),
-    ) none_fits
+    ) (record { listed = λ sent path n at. record { few = omega arith; long = λ h. tt } })
   ]
 
   each_made : (k j : ℕ) → k ≤ most → j < k → made j

@@ -1,15 +1,15 @@
 -- A structure has the same cells and elements in each table that reaches it.
 use Rattle.vms_selfdesc.proofs.Facade.{decimal, ◌≡◌, ℕ, suc, ◌+◌, ◌<◌, List, [], ◌∷◌, ◌++◌, length, get_or, map, ℤ, pos, refl, ap, ◌∙◌, arith, ◌*◌, ◌≤◌, Bool}
 use Rattle.vms_selfdesc.proofs.Facade.{true, zero, append_assoc, false, ◌&&◌, codes, ltb-true, and_parts, append-nil, and-true, and-false, and_assoc, outs}
-use Rattle.vms_selfdesc.proofs.Facade.{array_of, fun_ext, Item, Struct, Num, Equal, Unused, Field, Desc, Set, no_desc, item_size, field_cells, desc_cells}
-use Rattle.vms_selfdesc.proofs.Facade.{struct_cells, capacity_of, counted, numbers_of, elements_of, no_parent, ItemBelow, FieldsBelow, item_cells_same}
-use Rattle.vms_selfdesc.proofs.Facade.{field_cells_same, desc_cells_same, own_same, row_same, first_same, all_below, first_at, Element, Shape, no_shape, shape}
-use Rattle.vms_selfdesc.proofs.Facade.{shapes, cells_in, dotted, item_elements, array_elements, field_elements, elements_from, desc_elements, What, Number}
-use Rattle.vms_selfdesc.proofs.Facade.{index_text, behind, shapes_cells, MOST_ITEMS, Count, One, Fixed, Counted, Part, uses_below, defaults_well, counts_well}
-use Rattle.vms_selfdesc.proofs.Facade.{field_at, own_numbers, is_well_formed, desc_at, reach, field_clean, struct_clean, field_sound, Entry, entries_of}
-use Rattle.vms_selfdesc.proofs.Facade.{cell_entry, sent_entry, listed_if, entry_of, is_field_sent, array_entries, element_entries, item_entries, item_list}
-use Rattle.vms_selfdesc.proofs.Facade.{field_list, part_list, element_path, HasPlace, HasElements, item_rank, part_rank, reach_whole, uses_more, rank_below}
-use Rattle.vms_selfdesc.proofs.Facade.{room_for_less, one_fits, elements_fit, Kind, width, is_there}
+use Rattle.vms_selfdesc.proofs.Facade.{array_of, fun_ext, Item, Struct, Num, Field, Desc, Set, no_desc, item_size, field_cells, desc_cells, struct_cells}
+use Rattle.vms_selfdesc.proofs.Facade.{capacity_of, counted, numbers_of, elements_of, no_parent, ItemBelow, FieldsBelow, item_cells_same, field_cells_same}
+use Rattle.vms_selfdesc.proofs.Facade.{desc_cells_same, own_same, row_same, first_same, all_below, first_at, Element, Shape, no_shape, shape, shapes, cells_in}
+use Rattle.vms_selfdesc.proofs.Facade.{dotted, item_elements, array_elements, field_elements, elements_from, desc_elements, What, Number, index_text, behind}
+use Rattle.vms_selfdesc.proofs.Facade.{shapes_cells, MOST_ITEMS, Count, One, Fixed, Counted, Part, uses_below, defaults_well, counts_well, field_at}
+use Rattle.vms_selfdesc.proofs.Facade.{own_numbers, is_well_formed, desc_at, reach, field_clean, struct_clean, field_sound, Entry, entries_of, sent_entry}
+use Rattle.vms_selfdesc.proofs.Facade.{listed_if, entry_of, is_field_sent, array_entries, element_entries, item_entries, item_list, field_list, part_list}
+use Rattle.vms_selfdesc.proofs.Facade.{element_path, HasPlace, HasElements, item_rank, part_rank, reach_whole, uses_more, rank_below, room_for_less, one_fits}
+use Rattle.vms_selfdesc.proofs.Facade.{elements_fit, is_there}
 use Rattle.vms_spec.specs.declared.Part.TheVariants as parts
 
 module _ (j : ℕ) (ss Ss : List Shape) (agree : (i : ℕ) → i < j → get_or ss i no_shape ≡ get_or Ss i no_shape) where
@@ -18,7 +18,7 @@ module _ (j : ℕ) (ss Ss : List Shape) (agree : (i : ℕ) → i < j → get_or 
 
   item_elements_same : (item : Item) (caps : List ℕ) (z : ℤ) (n : List ℤ) (at : ℕ) → ItemBelow j item
       → item_elements ss item caps z n at ≡ item_elements Ss item caps z n at
-  item_elements_same (Struct i) caps z n at e = ap (λ (s : Shape). map dotted (s.elements n at)) (agree i e)
+  item_elements_same (Struct i) caps z n at e = rw (agree i e)
   item_elements_same _ caps z n at e = refl
 
   field_elements_same : (fields : List Field) (v : ℕ) (own : ℕ → ℕ) (n : List ℤ) (i at : ℕ) (f : Field) → ItemBelow j f.item
@@ -65,8 +65,8 @@ module _ (set : Set) (j : ℕ) (lt : j < length set.structs) (below : FieldsBelo
   struct_elements_are n at =
       let ds = set.structs in
       let d = get_or ds j no_desc in
-      ap (λ (s : Shape). s.elements n at) (first_at shape ds no_shape (length ds) j lt)
-      ∙ desc_elements_same j _ _ (λ i l. first_same shape ds no_shape j (length ds) i (omega arith) l) d d.version n at below
+      rw (first_at shape ds no_shape (length ds) j lt)
+      (desc_elements_same j _ _ (λ i l. first_same shape ds no_shape j (length ds) i (omega arith) l) d d.version n at below)
 
 -- ---- What is listed of elements: of those of an item, of a field and of a description.
 
@@ -96,22 +96,10 @@ of_past sent p path text step (x ∷ xs) e = rw (of_past sent p path text step x
 
 -- ---- items
 
-pub number_is : (shapes : List Shape) (kind : Kind) (z : ℤ) (sent : Bool) (n : List ℤ) (path : List ℕ) (at : ℕ)
-    → item_entries shapes (Num kind) z sent n path at ≡ cell_entry sent path kind z ∷ []
-number_is shapes kind z sent n path at = rw (append-nil path, and-true sent)
-
 -- what has no cell
-plain_is : (sent : Bool) (path : List ℕ) (size : ℕ) (type : List ℕ)
+pub plain_is : (sent : Bool) (path : List ℕ) (size : ℕ) (type : List ℕ)
     → listed_if (sent && true) (sent_entry (path ++ []) size type) ++ [] ≡ listed_if sent (sent_entry path size type)
 plain_is sent path size type = simp (append-nil, and-true)
-
-pub constant_is : (shapes : List Shape) (kind : Kind) (y z : ℤ) (sent : Bool) (n : List ℤ) (path : List ℕ) (at : ℕ)
-    → item_entries shapes (Equal kind y) z sent n path at ≡ listed_if sent (sent_entry path (width kind) (codes "equal"))
-constant_is shapes kind y z sent n path at = plain_is sent path (width kind) (codes "equal")
-
-pub filler_is : (shapes : List Shape) (m : ℕ) (z : ℤ) (sent : Bool) (n : List ℤ) (path : List ℕ) (at : ℕ)
-    → item_entries shapes (Unused m) z sent n path at ≡ listed_if sent (sent_entry path m (codes "unused"))
-filler_is shapes m z sent n path at = plain_is sent path m (codes "unused")
 
 -- capacities are of no account
 any_capacities : (shapes : List Shape) (item : Item) (caps : List ℕ) (z : ℤ) (sent : Bool) (n : List ℤ) (path : List ℕ) (at : ℕ)
@@ -146,8 +134,8 @@ module _ (f : Field) (number : ℕ) (there : Bool) (part : ℕ → List Element)
       → entries_of sent path (array_elements f (record { number = number; count = elements_of count own; there = there }) part step 0 (capacity_of count) at)
       ≡ array_entries one count (elements_of count own) (path ++ f.name) at step
   of_count own One at e = rw (of_append, append-nil, here 0 at, e, append-nil f.name)
-  of_count own (Fixed m) at e = many m m at (omega arith) (λ i. ap (λ c. index_text c i) e)
-  of_count own (Counted by m) at e = many m (elements_of (Counted by m) own) at (elements_fit (Counted by m) own) (λ i. ap (λ c. index_text c i) e)
+  of_count own (Fixed m) at e = many m m at (omega arith) (λ i. rw e)
+  of_count own (Counted by m) at e = many m (elements_of (Counted by m) own) at (elements_fit (Counted by m) own) (λ i. rw e)
 
 pub of_field : (shapes : List Shape) (fields : List Field) (v : ℕ) (own : ℕ → ℕ) (sent : Bool) (path : List ℕ) (n : List ℤ) (i at : ℕ) (f : Field)
     → entries_of sent path (field_elements shapes fields v own n i at f)

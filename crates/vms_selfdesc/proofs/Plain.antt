@@ -1,6 +1,6 @@
 -- Names and paths are written as they are, and the texts of members and entries piece by piece.
 use Rattle.vms_selfdesc.proofs.Facade.{nat_tests, ◌≡◌, ℕ, ◌<◌, length, true, ◌≤◌, List, [], ◌++◌, length-append, string_bytes, append_assoc, subst, sym, ap}
-use Rattle.vms_selfdesc.proofs.Facade.{◌∙◌, arith, ◌∷◌, codes, decimal, ◌+◌, ◌&&◌, nat_le, drop, take, refl, ◌^◌, ◌%◌, list_all, and_parts, leb-true, digits}
+use Rattle.vms_selfdesc.proofs.Facade.{arith, ◌∷◌, codes, decimal, ◌+◌, ◌&&◌, nat_le, drop, take, refl, ◌^◌, ◌%◌, list_all, and_parts, leb-true, digits}
 use Rattle.vms_selfdesc.proofs.Facade.{decimal_by_steps, length-decimal-le, take-append-drop, bytes_eq-Decides, bytes_eq, Part, is_name, is_name_byte}
 use Rattle.vms_selfdesc.proofs.Facade.{is_sub_name, Set, field_at, device_at, is_well_formed, HasPart, desc_at, sub_at, device_clean, sub_clean, field_sound}
 use Rattle.vms_selfdesc.proofs.Facade.{IsPlain, Extends, IsEmpty, IsSound, Puts, Adds, Begins, member_text, cell_tail, absent_tail, Text, escape_byte, quoted}
@@ -130,7 +130,7 @@ further {a} {b} {c} {xs} {ys} f g = record {
 }
 
 pub same : {a b : Text} {xs ys : List ℕ} → Extends a b xs → xs ≡ ys → Extends a b ys
-same {a} {b} more e = subst (Extends a b) e more
+same {a} {b} more e = rw e at more
 
 pub unchanged : (a : Text) → Extends a a []
 unchanged a = record { whole = λ e. (e, sym (append-nil (string_bytes a.written))); fits = λ e le. e; room = omega arith }
@@ -140,20 +140,17 @@ unchanged a = record { whole = λ e. (e, sym (append-nil (string_bytes a.written
 pub wrote : {a b : Text} {room : ℕ} {bytes : List ℕ} → IsEmpty a room → Extends a b bytes → b.whole ≡ true → string_bytes b.written ≡ bytes
 wrote empty more e = rw ((more.whole e).1, empty.bytes)
 
-pub enough : {a b : Text} {room : ℕ} {bytes : List ℕ} → IsEmpty a room → Extends a b bytes → length bytes ≤ room → b.whole ≡ true
-enough empty more le = more.fits empty.whole (omega (arith, ap length empty.bytes))
-
 -- ---- The texts of members and entries, piece by piece.
 
 pub quoted_plain : (s : List ℕ) → IsPlain s → 34 ∷ (s ++ 34 ∷ []) ≡ quoted s
 quoted_plain s p = rw (plain_escape s p)
 
-key_text : (k v : List ℕ) → IsPlain k → (codes ",\"" ++ (k ++ codes "\":")) ++ v ≡ 44 ∷ (quoted k ++ 58 ∷ v)
-key_text k v p = rw (plain_escape k p, append_assoc k (34 ∷ []) (58 ∷ v), append_assoc k (34 ∷ 58 ∷ []) v)
-
 pub puts : {a b c : Text} {k v : List ℕ} {d : Data} → IsPlain k → Extends a b (codes ",\"" ++ (k ++ codes "\":")) → Extends b c v → v ≡ compact_text d
     → IsSound d → Puts a c k d
-puts {a} {b} {c} {k} {v} p key value is sound = record { text = same (further key value) (rw (← is) (key_text k v p)); sound = sound }
+puts {a} {b} {c} {k} {v} p key value is sound = record {
+  text = same (further key value) (rw (← is, plain_escape k p, append_assoc k (34 ∷ []) (58 ∷ v), append_assoc k (34 ∷ 58 ∷ []) v));
+  sound = sound;
+}
 
 -- ---- objects
 
@@ -196,7 +193,7 @@ entry_adds {a} {b} {e} {t} {size} {type} {ms} p begun path more sound later kept
           (rw (begun.keeps.path, append-nil (compact_text entry), plain_escape name p, append_assoc name (34 ∷ []) rest) (simp append_assoc));
       later = later;
       sound = (sound, tt);
-      path = kept ∙ begun.keeps.path;
+      path = cc;
     }
 
 pub tail_text : (kind : Kind) → cell_tail kind ≡ 34 ∷ members_text true (size_members (width kind) (kind_word kind) no_members)

@@ -1,5 +1,5 @@
 -- The tails of a kind that is known.
-use Rattle.vms_selfdesc.proofs.Facade.{◌≡◌, ◌+◌, ◌∷◌, ◌++◌, List, ℕ, ap, codes, refl, sym, ◌∙◌, digits, Kind, U8, width, kind_word, absent_tail, cell_tail}
+use Rattle.vms_selfdesc.proofs.Facade.{◌≡◌, ◌+◌, ◌∷◌, ◌++◌, List, ℕ, ap, codes, refl, sym, digits, Kind, U8, width, kind_word, absent_tail, cell_tail}
 
 pub absent_same : (kind k : Kind) → kind ≡ k → absent_tail k ≡ absent_tail kind
 absent_same kind k e = ap absent_tail (sym e)
@@ -14,4 +14,4 @@ shown_is U8 = refl
 shown_is _ = refl
 
 pub cell_same : (kind k : Kind) → kind ≡ k → shown_tail k ≡ cell_tail kind
-cell_same kind k e = shown_is k ∙ ap cell_tail (sym e)
+cell_same kind k e = cc (shown_is k)

@@ -46,11 +46,8 @@ adds_further {a} {b} {c} {ds} {es} p q = record {
   text = same (further p.text q.text) (rw (texts_append a.later ds es, p.later));
   later = rw (q.later, p.later, after_append a.later ds es);
   sound = sound_append ds es p.sound q.sound;
-  path = q.path ∙ p.path;
+  path = cc;
 }
-
-pub adds_none : (a : Draft) → Adds a a []
-adds_none a = record { text = unchanged a.text; later = refl; sound = tt; path = refl }
 
 -- what was written under a path that was gone into and left again
 pub leave_path : {old : Draft} {inside left : Path} {new : Draft} {ds : List Data} → Adds (record { text = old.text; path = inside; later = old.later }) new ds
@@ -66,7 +63,7 @@ leaves_rest {A} {f} part h e adds = record {
 }
 
 pub leaves_all : {A : Type 0} {f : A → Data} (old : Draft) {whole left : List A} → whole ≡ left → Leaves f old old whole left
-leaves_all old e = record { done = []; split = e; lists = adds_none old }
+leaves_all old e = record { done = []; split = e; lists = record { text = unchanged old.text; later = refl; sound = tt; path = refl } }
 
 -- trees themselves are left
 pub leaves_none : {old now : Draft} {whole left : List Data} → left ≡ [] → Leaves (λ d. d) old now whole left → Adds old now whole
@@ -131,7 +128,7 @@ pub lays : {a b c : Draft} {s : Text} {ds : List Data} → Extends a.text s (91 
 lays {ds = ds} opens adds close path = record {
   text = same (further opens (further adds.text close)) (rw (items_texts false ds));
   sound = array_sound ds adds.sound;
-  path = path ∙ adds.path;
+  path = cc;
 }
 
 -- an object that begins with fields
@@ -143,7 +140,7 @@ fields_adds begun lays more is sound later path = record {
   text = same (further (further begun.text lays.text) more) (rw (← is) (simp (append_assoc, append-nil)));
   later = later;
   sound = (sound, tt);
-  path = path ∙ lays.path ∙ begun.keeps.path;
+  path = cc;
 }
 
 -- the members of a subsection after its fields
@@ -181,7 +178,7 @@ unfolding escape_byte
 whole_lays {ds = ds} opens adds close path = record {
   text = same (further opens (further adds.text close)) (rw (items_texts false ds) (simp append_assoc));
   sound = whole_sound ds (array_sound ds adds.sound);
-  path = path ∙ adds.path;
+  path = cc;
 }
 
 -- ---- subsections

@@ -1,5 +1,5 @@
-use Rattle.vms_selfdesc.proofs.Facade.{true, ap, ◌∙◌, arith, refl, codes, array, object, items_of, Device, own_cells, described, device_at, state_of}
-use Rattle.vms_selfdesc.proofs.Facade.{own_inside_device, part_entries, sub_trees, device_members}
+use Rattle.vms_selfdesc.proofs.Facade.{true, ap, ◌∙◌, arith, refl, codes, array, object, items_of, own_cells, described, device_at, state_of, own_inside_device}
+use Rattle.vms_selfdesc.proofs.Facade.{part_entries, sub_trees, device_members}
 use Rattle.vms_selfdesc.proofs.Plain.{further, device_plain, name_plain}
 use Rattle.vms_selfdesc.proofs.ReadBack.{device_sound}
 use Rattle.vms_selfdesc.proofs.Trees.{fields_adds, device_text}
@@ -15,7 +15,7 @@ write_fields-requires-clause-no_path c = c.begin.ensures.keeps.path ∙ c.requir
 
 pub put_name-requires : goal.put_name-requires
 put_name-requires c =
-    rw (ap (λ (d : Device). d.desc.name) c.device-described.ensures)
+    rw (ap (λ d. d.desc.name) c.device-described.ensures)
     (device_plain (described c.args.lister.now.set.now) c.args.lister.now.set.now.well_formed c.args.device c.requires.device.is_device)
 
 pub write_subs-requires-clause-no_path : goal.write_subs-requires-clause-no_path
@@ -37,6 +37,6 @@ returns c =
     let trees = sub_trees set image.numbers (own_cells set d) d.subs image.came in
     let code = c.device-described.result.now in
     let rest = further name.text (further c.push.ensures (further subs.text (further version.text c.push-2.ensures))) in
-    rw (← ap (λ (x : Device). object (device_members entries x.instance x.desc.name trees x.desc.version)) c.device-described.ensures)
+    rw (← ap (λ x. object (device_members entries x.instance x.desc.name trees x.desc.version)) c.device-described.ensures)
     (fields_adds c.begin.ensures fields rest (device_text code.instance code.desc.name (array (items_of trees)) code.desc.version)
     (device_sound entries code.instance code.desc.name trees code.desc.version fields.sound name.sound subs.sound version.sound) refl subs.path)

@@ -1,4 +1,4 @@
-use Rattle.vms_selfdesc.proofs.Facade.{List, ℕ, Bool, None, is_some, get_or, ap, ◌∙◌, arith, refl, object, Desc, described, desc_at, sub_inside, part_entries}
+use Rattle.vms_selfdesc.proofs.Facade.{List, ℕ, Bool, None, is_some, get_or, ap, ◌∙◌, arith, refl, object, described, desc_at, sub_inside, part_entries}
 use Rattle.vms_selfdesc.proofs.Facade.{numbers_in, sub_members}
 use Rattle.vms_spec.specs.declared.Part.TheVariants as parts
 use Rattle.vms_selfdesc.proofs.Plain.{further, sub_plain}
@@ -21,7 +21,7 @@ write_fields-requires-clause-no_path c = c.begin.ensures.keeps.path ∙ c.requir
 pub put_sub_head-requires : goal.put_sub_head-requires
 put_sub_head-requires c =
     let set = described c.args.lister.now.set.now in
-    rw (ap (λ (d : Desc). d.name) c.desc.ensures)
+    rw (ap (λ d. d.name) c.desc.ensures)
     (sub_plain set c.args.lister.now.set.now.well_formed c.args.device c.args.sub c.requires.device.is_device c.requires.is_sub)
 
 pub returns : goal.returns
@@ -36,9 +36,9 @@ returns c =
     let entries = λ (sent : Bool) (cell : ℕ). part_entries set (desc_at set part) sent (numbers_in lister) cell in
     let tree = λ (sent : Bool) (name : List ℕ) (version cell : ℕ). object (sub_members (entries sent cell) name sent version) in
     let same =
-    ap (λ (x : Bool). tree x desc.name desc.version c.first_cell-cell.result) (c.is_some-sent.ensures ∙ ap is_some c.came.ensures)
-    ∙ ap (λ (d : Desc). tree (is_some (get_or lister.image.now.came c.args.sub None)) d.name d.version c.first_cell-cell.result) c.desc.ensures
-    ∙ ap (λ (x : ℕ). tree (is_some (get_or lister.image.now.came c.args.sub None)) (desc_at set part).name (desc_at set part).version x)
+    ap (λ x. tree x desc.name desc.version c.first_cell-cell.result) (c.is_some-sent.ensures ∙ ap is_some c.came.ensures)
+    ∙ ap (λ d. tree (is_some (get_or lister.image.now.came c.args.sub None)) d.name d.version c.first_cell-cell.result) c.desc.ensures
+    ∙ ap (λ x. tree (is_some (get_or lister.image.now.came c.args.sub None)) (desc_at set part).name (desc_at set part).version x)
     c.first_cell-cell.ensures in
     rw (← same) (fields_adds c.begin.ensures fields (further head.text c.push.ensures) (head_text desc.name sent desc.version)
     (sub_sound (entries sent c.first_cell-cell.result) desc.name sent desc.version fields.sound head.sound) refl refl)

@@ -1,6 +1,6 @@
-use Rattle.vms_selfdesc.proofs.Facade.{subst, rules, arith, sym, ap, ◌∙◌, ◌≡◌, ℕ, ◌+◌, ◌<◌, List, ◌++◌, length, length-append, codes, string_bytes, refl, Lists}
-use Rattle.vms_selfdesc.proofs.Facade.{Draft, Field, item_size, struct_cells, elements_fit, field_of, field_at, own_numbers, described, desc_at, found_field}
-use Rattle.vms_selfdesc.proofs.Facade.{here_fields, element_path, item_list, field_list, IsPlain, HasElements, item_levels}
+use Rattle.vms_selfdesc.proofs.Facade.{subst, rules, arith, sym, ap, ◌∙◌, ◌≡◌, ◌+◌, ◌<◌, ◌++◌, length, length-append, codes, string_bytes, refl, Lists, Draft}
+use Rattle.vms_selfdesc.proofs.Facade.{item_size, struct_cells, elements_fit, field_of, field_at, own_numbers, described, desc_at, found_field, here_fields}
+use Rattle.vms_selfdesc.proofs.Facade.{element_path, item_list, field_list, IsPlain, HasElements, item_levels}
 use Rattle.vms_selfdesc.proofs.Trees.{fields_whole, leaves_all, leaves_rest, leave_path, element_room, elements_next, next_element, fields_next, field_room}
 use Rattle.vms_selfdesc.proofs.OfElements.{field_needs, array_many, field_run, struct_place, struct_lower, struct_list}
 use Rattle.vms_selfdesc.proofs.Plain.{plain_append, element_plain, dot_plain, name_plain, field_name}
@@ -121,7 +121,7 @@ list_field-list_run-requires t c =
     let fewer = elements_fit (field_at set part k).count (own_numbers set part n c.args.within.cell) in
     let all = needs.elements c.elements-count.result (omega arith) in
     let name = field_name set well part k c.requires.place.has c.requires.field in
-    let named = c.enter.ensures ∙ ap (λ (x : List ℕ). string_bytes c.args.draft.now.path.text ++ x) (c.as_str.ensures ∙ ap (λ (x : Field). x.name) is) in
+    let named = c.enter.ensures ∙ ap (λ x. string_bytes c.args.draft.now.path.text ++ x) (c.as_str.ensures ∙ ap (λ x. x.name) is) in
     let plain : IsPlain (string_bytes c.enter.new.self.text) =
     rw named (plain_append (string_bytes c.args.draft.now.path.text) (field_at set part k).name c.requires.path name.plain) in
     let long = ap length named ∙ length-append (string_bytes c.args.draft.now.path.text) (field_at set part k).name in (
@@ -137,7 +137,7 @@ list_field-enter-requires t c =
     let fields = here_fields set part c.desc.result.now c.as_slice.result.now c.desc.ensures c.as_slice.ensures in
     let is = found_field c.as_slice.result.now (desc_at set part).fields k c.index-as_slice-at.result fields c.requires.field c.index-as_slice-at.is in
     let name = field_name set c.args.lister.now.set.now.well_formed part k c.requires.place.has c.requires.field in
-    omega (arith, ap length (c.as_str.ensures ∙ ap (λ (x : Field). x.name) is))
+    omega (arith, ap length (c.as_str.ensures ∙ ap (λ x. x.name) is))
 
 pub list_field-leave-requires-clause-text : goal.list_field-leave-requires-clause-text
 list_field-leave-requires-clause-text t c = (enters c.args.draft.now.path.text _ c.len-kept.ensures (c.list_run.ensures.path ∙ c.enter.ensures)).text

@@ -20,14 +20,13 @@ write_device-requires-clause-no_path c = c.loop-device.invariant.lists.path ∙ 
 
 pub loop-device-preserved : goal.loop-device-preserved
 loop-device-preserved c =
-    let set = described c.args.set.now in
     let images = c.args.images.now in
     let states = map state_of images in
     let k = c.loop-device.device in
     let image = c.index-images-device.result in
     let lt : k < length states = omega (arith, c.loop-device-test.true, states_long images) in
     leaves_rest (_ ∷ []) c.loop-device.invariant
-    (devices_next set states k (state_of image) (omega (arith, lt, c.requires.ready.one_each)) lt
+    (devices_next (described c.args.set.now) states k (state_of image) (omega (arith, lt, c.requires.ready.one_each)) lt
     (state_at images k image c.loop-device-test.true c.index-images-device.is)) c.write_device.ensures
 
 pub returns : goal.returns
