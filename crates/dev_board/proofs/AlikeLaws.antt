@@ -108,7 +108,7 @@ likeness = record {
   itself = λ m. record { same = refl; serial = alike_itself m.serial };
   back = λ m n a. record { same = ap (λ (s : State). record s { serial = m.serial }) (sym a.same); serial = alike_back m.serial n.serial a.serial };
   on = λ m n o a b. record {
-    same = b.same ∙ ap (λ (s : State). record s { serial = o.serial }) a.same;
+    same = cc;
     serial = alike_on m.serial n.serial o.serial a.serial b.serial;
   };
 }

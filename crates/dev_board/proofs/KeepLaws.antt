@@ -78,7 +78,7 @@ module _ (m : State) (h : HasDevices m) where
       moment = b;
       pair_level = h.pair_level;
       pit_level = h.pit_level;
-      serial_level = advances_keep_level to m.serial ∙ h.serial_level;
+      serial_level = cc (advances_keep_level to m.serial);
       pair = h.pair;
       pit = sound_stays.in_time m.moment to m.pit l b h.pit;
       serial = advances_keep_sound m.moment to m.serial l h.serial;
@@ -96,7 +96,7 @@ module _ (m : State) (h : HasDevices m) where
   acted-kept (Read port) e = record { kept = (read_at-kept (target_of m.level port) port).kept }
   acted-kept (Write port value) e = record { kept = write-kept port value e }
   acted-kept (Byte value) e = record { kept = byte-kept value e }
-  acted-kept (Wait ns) e = waited-kept (later_by ns m.moment) (omega (arith, h.moment)) (omega arith)
+  acted-kept (Wait ns) e = waited-kept (later_by ns m.moment) (omega arith) (omega arith)
   acted-kept (Wire input up) e = record { kept = h }
   acted-kept Ack e = record { kept = ack-kept }
 

@@ -16,12 +16,11 @@ no-more false q = refl
 
 no-rise : (mode : Mode) (count a : ℕ) → rises mode count a a ≡ false
 unfolding rises
-no-rise TerminalCount count a = grind (arith, nat_tests)
 no-rise OneShot count a = refl
 no-rise RateGenerator count a = no-more _ (a / period count)
 no-rise SquareWave count a = no-more _ (a / period count)
-no-rise SoftwareStrobe count a = grind (arith, nat_tests)
 no-rise HardwareStrobe count a = refl
+no-rise _ count a = grind (arith, nat_tests)
 
 no-edge_since : (load : Option ℕ) (mode : Mode) (count at : ℕ) → edge_since load mode count at at ≡ false
 no-edge_since None mode count at = refl
@@ -40,9 +39,9 @@ not-yet base turn at to e f l h =
 
 none-came : (turns : Turns) (base at to : ℕ) → IsTurn turns base at → base ≤ at → at ≤ to → to < calm_by turns base → at ≡ base
 none-came turns base at to (inl e) f l h = e
-none-came turns base at to (inr (inl e)) f l h = not-yet base turns.first at to e f l (omega (arith, h))
-none-came turns base at to (inr (inr (inl e))) f l h = not-yet base turns.second at to e f l (omega (arith, h))
-none-came turns base at to (inr (inr (inr e))) f l h = not-yet base turns.third at to e f l (omega (arith, h))
+none-came turns base at to (inr (inl e)) f l h = not-yet base turns.first at to e f l (omega arith)
+none-came turns base at to (inr (inr (inl e))) f l h = not-yet base turns.second at to e f l (omega arith)
+none-came turns base at to (inr (inr (inr e))) f l h = not-yet base turns.third at to e f l (omega arith)
 
 pub calm-turns : (m : State) → HasDevices m → (turns : Turns) → AreTurns turns (counter_of 0 m.pit) m.moment → IsCalm (calm_by turns m.moment) m
 unfolding pit_out pit_edge
@@ -93,8 +92,8 @@ module _ (until : ℕ) (m : State) (calm : IsCalm until m) where
   unfolding written_at
   written_at-calm Pair port value =
       elim (is_command port value) as (λ command. IsCalm (calm_after (if command then Command else Access) until) m) [ true ↦ calm | false ↦ calm ]
-  written_at-calm (Counter counter) port value = λ to l h. absurd (omega (arith, h))
-  written_at-calm Control port value = λ to l h. absurd (omega (arith, h))
+  written_at-calm (Counter counter) port value = λ to l h. absurd (omega arith)
+  written_at-calm Control port value = λ to l h. absurd (omega arith)
   written_at-calm _ port value = calm
 
   -- What events leave of it.
@@ -108,7 +107,7 @@ module _ (until : ℕ) (m : State) (calm : IsCalm until m) where
   wait-calm : (to : ℕ) → m.moment ≤ to → to < until → IsCalm until (waited to m).1
   unfolding waited pit_edge
   wait-calm to l h at from before =
-      let still = calm at (omega (arith, l, from)) before in
+      let still = calm at (omega arith) before in
       (still.0 ∙ sym (calm to l h).0, (or_parts _ _ (sym (edge_in_parts (counter_of 0 m.pit) m.moment to at l from) ∙ still.1)).1)
 
   pub calm-wait : (to : ℕ) (act : Act) (after : State) → (act, after) ≡ waited to m → m.moment ≤ to → to < until → IsCalm until after

@@ -119,8 +119,7 @@ reached_as level port target found e is = subst (IsReached level port) (sym e �
 -- The pair's own port, by the pair's level.
 pub pair_port : (m now : State) (port : ℕ) (target : Target) → HasDevices m → m ≡ now → target ≡ target_of now.level port → target ≡ Pair
     → is_port m.pair.level port ≡ true
-pair_port m now port target h view e is =
-    ap (λ level. is_port level port) (h.pair_level ∙ ap (λ (s : State). s.level) view) ∙ reached_as now.level port target Pair e is
+pair_port m now port target h view e is = cc (reached_as now.level port target Pair e is)
 
 -- A port of the timer chip.
 pub pit_port : (level port : ℕ) (target : Target) → target ≡ target_of level port → ((counter : ℕ) × (target ≡ Counter counter)) ⊎ (target ≡ Control)

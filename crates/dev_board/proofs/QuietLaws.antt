@@ -18,11 +18,9 @@ parts : (r l e : ℕ) → r < 256 → l < 256 → e < 256
     → bit_or (bit_and (bit_or r (bit_or (bit_and l (255 - l)) 0)) (255 - e)) (bit_and r e) ≡ r
 parts r l e hr hl he =
     let risen = bit_or (bit_and l (255 - l)) 0 in
-    let risen-lt : risen < 256 = or_of_8 (bit_and l (255 - l)) 0 (omega (arith, and_le_l l (255 - l))) (omega arith) in
-    let all-lt : bit_or r risen < 256 = or_of_8 r risen hr risen-lt in
-    let kept-lt : bit_and (bit_or r risen) (255 - e) < 256 = omega (arith, and_le_l (bit_or r risen) (255 - e)) in
+    let all-lt : bit_or r risen < 256 = or_of_8 r risen hr (or_of_8 (bit_and l (255 - l)) 0 (omega (arith, and_le_l l (255 - l))) (omega arith)) in
     let levels-lt : bit_and r e < 256 = omega (arith, and_le_l r e) in
-    same_from_bits_below 8 _ _ (or_of_8 (bit_and (bit_or r risen) (255 - e)) (bit_and r e) kept-lt levels-lt) hr
+    same_from_bits_below 8 _ _ (or_of_8 (bit_and (bit_or r risen) (255 - e)) (bit_and r e) (omega (arith, and_le_l (bit_or r risen) (255 - e))) levels-lt) hr
     (λ k h. simp (bit_at_and, bit_at_or, bit_at-zero, bit_at_not w8 l k hl h, bit_at_not w8 e k he h)
     (omega (arith, bit_at-lt r k, bit_at-lt l k, bit_at-lt e k)))
 
@@ -43,45 +41,44 @@ and-bytes a b c d hb hd =
     (λ (l : k < 8). ap (λ n. min n (bit_at (c * 256 + d) k)) (bit_at_cat_low a 8 b k l) ∙ ap (min (bit_at b k)) (bit_at_cat_low c 8 d k l)
     ∙ sym (bit_at_and b d k) ∙ sym (bit_at_cat_low (bit_and a c) 8 (bit_and b d) k l))
     (λ (l : 8 ≤ k). ap (λ n. min n (bit_at (c * 256 + d) k)) (bit_at_cat_high a 8 b k hb l) ∙ ap (min (bit_at a (k - 8))) (bit_at_cat_high c 8 d k hd l)
-    ∙ sym (bit_at_and a c (k - 8)) ∙ sym (bit_at_cat_high (bit_and a c) 8 (bit_and b d) k (omega (arith, hb, and_le_l b d)) l))
+    ∙ sym (bit_at_and a c (k - 8)) ∙ sym (bit_at_cat_high (bit_and a c) 8 (bit_and b d) k (omega (arith, and_le_l b d)) l))
     (cases_lt k 8))
 
 -- The lines without the cascade, and with it again.
 driven : (s m : ℕ) → s < 256 → m < 256 → bit_and (s * 256 + m) DRIVEN ≡ s * 256 + bit_and m 0xfb
-driven s m hs hm = and-bytes s m 0xff 0xfb hm (omega arith) ∙ ap (λ n. n * 256 + bit_and m 0xfb) (and_numeral s 254 refl ∙ omega (arith, hs))
+driven s m hs hm = and-bytes s m 0xff 0xfb hm (omega arith) ∙ ap (λ n. n * 256 + bit_and m 0xfb) (and_numeral s 254 refl ∙ omega arith)
 
 cascaded-bit : (m k : ℕ) → (m / 2 ^ 2 % 2) ≡ 1 → k < 8 → bit_at (bit_or (bit_and m 0xfb) 4) k ≡ bit_at m k
 cascaded-bit m k e =
     each_input (λ k. bit_at (bit_or (bit_and m 0xfb) 4) k ≡ bit_at m k)
-    (bit 0 (omega (arith, bit_at-lt m 0))) (bit 1 (omega (arith, bit_at-lt m 1))) (bit 2 (omega (arith, e))) (bit 3 (omega (arith, bit_at-lt m 3)))
+    (bit 0 (omega (arith, bit_at-lt m 0))) (bit 1 (omega (arith, bit_at-lt m 1))) (bit 2 (omega arith)) (bit 3 (omega (arith, bit_at-lt m 3)))
     (bit 4 (omega (arith, bit_at-lt m 4))) (bit 5 (omega (arith, bit_at-lt m 5))) (bit 6 (omega (arith, bit_at-lt m 6)))
     (bit 7 (omega (arith, bit_at-lt m 7))) k where
       bit : (k : ℕ) → max (min (bit_at m k) (bit_at 0xfb k)) (bit_at 4 k) ≡ bit_at m k → bit_at (bit_or (bit_and m 0xfb) 4) k ≡ bit_at m k
-      bit k h = bit_at_or (bit_and m 0xfb) 4 k ∙ ap (λ n. max n (bit_at 4 k)) (bit_at_and m 0xfb k) ∙ h
+      bit k h = cc (bit_at_or (bit_and m 0xfb) 4 k, bit_at_and m 0xfb k)
 
 plain-bit : (m k : ℕ) → (m / 2 ^ 2 % 2) ≡ 0 → k < 8 → bit_at (bit_or (bit_and m 0xfb) 0) k ≡ bit_at m k
 plain-bit m k e =
     each_input (λ k. bit_at (bit_or (bit_and m 0xfb) 0) k ≡ bit_at m k)
-    (bit 0 (omega (arith, bit_at-lt m 0))) (bit 1 (omega (arith, bit_at-lt m 1))) (bit 2 (omega (arith, e))) (bit 3 (omega (arith, bit_at-lt m 3)))
+    (bit 0 (omega (arith, bit_at-lt m 0))) (bit 1 (omega (arith, bit_at-lt m 1))) (bit 2 (omega arith)) (bit 3 (omega (arith, bit_at-lt m 3)))
     (bit 4 (omega (arith, bit_at-lt m 4))) (bit 5 (omega (arith, bit_at-lt m 5))) (bit 6 (omega (arith, bit_at-lt m 6)))
     (bit 7 (omega (arith, bit_at-lt m 7))) k where
       bit : (k : ℕ) → max (min (bit_at m k) (bit_at 0xfb k)) (bit_at 0 k) ≡ bit_at m k → bit_at (bit_or (bit_and m 0xfb) 0) k ≡ bit_at m k
-      bit k h = bit_at_or (bit_and m 0xfb) 0 k ∙ ap (λ n. max n (bit_at 0 k)) (bit_at_and m 0xfb k) ∙ h
+      bit k h = cc (bit_at_or (bit_and m 0xfb) 0 k, bit_at_and m 0xfb k)
 
 with-again : (b : Bool) (m : ℕ) → m < 256 → has m 2 ≡ b → bit_or (bit_and m 0xfb) (cond b 4 0) ≡ m
 with-again true m h e =
     let one : (m / 2 ^ 2 % 2) ≡ 1 = grind (arith, nat_tests) in
-    same_from_bits_below 8 _ _ (or_of_8 (bit_and m 0xfb) 4 (omega (arith, h, and_le_l m 0xfb)) (omega arith)) h (λ k l. cascaded-bit m k one l)
+    same_from_bits_below 8 _ _ (or_of_8 (bit_and m 0xfb) 4 (omega (arith, and_le_l m 0xfb)) (omega arith)) h (λ k l. cascaded-bit m k one l)
 with-again false m h e =
-    let none : (m / 2 ^ 2 % 2) ≡ 0 = grind (arith, nat_tests) in
-    same_from_bits_below 8 _ _ (or_of_8 (bit_and m 0xfb) 0 (omega (arith, h, and_le_l m 0xfb)) (omega arith)) h (λ k l. plain-bit m k none l)
+    same_from_bits_below 8 _ _ (or_of_8 (bit_and m 0xfb) 0 (omega (arith, and_le_l m 0xfb)) (omega arith)) h (λ k l. plain-bit m k (grind (arith, nat_tests)) l)
 
 cascade-again : (b : Bool) (m : ℕ) → m < 256 → has m 2 ≡ b → with_cascade b (bit_and m 0xfb) ≡ m
 unfolding without_input but_not
-cascade-again b m h e = ap (λ n. bit_or n (cond b 4 0)) (and-twice m 0xfb) ∙ with-again b m h e
+cascade-again b m h e = cc (and-twice m 0xfb, with-again b m h e)
 
 pub low-two : (s m : ℕ) → m < 256 → has (s * 256 + m) 2 ≡ has m 2
-low-two s m h = ap (λ n. n == 1) (omega (arith, h))
+low-two s m h = ap (λ n. n == 1) (omega arith)
 
 -- So does a pair.
 pub pair-again : (pair : PicPair) → HasTaken (lines_of pair) pair → settled_pair (bit_and (lines_of pair) DRIVEN) 0 pair ≡ pair
@@ -91,11 +88,10 @@ pair-again pair h =
     let m = pair.master.lines in
     let hs : s < 256 = h.slave.lines in
     let hm : m < 256 = h.master.lines in
-    let high : bit_and (s * 256 + m) DRIVEN / 256 ≡ s = ap (λ n. n / 256) (driven s m hs hm) ∙ omega (arith, hm, and_le_l m 0xfb) in
-    let low : bit_and (s * 256 + m) DRIVEN % 256 ≡ bit_and m 0xfb = ap (λ n. n % 256) (driven s m hs hm) ∙ omega (arith, hm, and_le_l m 0xfb) in
-    let slave : settled (bit_and (s * 256 + m) DRIVEN / 256) 0 pair.slave ≡ pair.slave =
-    ap (λ n. settled n 0 pair.slave) high ∙ chip_again pair.slave h.slave in
-    let bit : has m 2 ≡ slave_int_of pair = sym (low-two s m hm) ∙ h.cascade in
+    let high : bit_and (s * 256 + m) DRIVEN / 256 ≡ s = ap (λ n. n / 256) (driven s m hs hm) ∙ omega (arith, and_le_l m 0xfb) in
+    let low : bit_and (s * 256 + m) DRIVEN % 256 ≡ bit_and m 0xfb = ap (λ n. n % 256) (driven s m hs hm) ∙ omega (arith, and_le_l m 0xfb) in
+    let slave : settled (bit_and (s * 256 + m) DRIVEN / 256) 0 pair.slave ≡ pair.slave = cc (chip_again pair.slave h.slave) in
+    let bit : has m 2 ≡ slave_int_of pair = cc (low-two s m hm) in
     let after : Chip → PicPair = (λ chip. record pair { slave = chip; master = settled (with_cascade (slave_int_of (record pair { slave = chip })) (bit_and (s * 256 + m) DRIVEN % 256)) 0 pair.master }) in
     ap after slave
     ∙ ap (λ n. record pair { master = settled n 0 pair.master }) (ap (with_cascade (slave_int_of pair)) low ∙ cascade-again (slave_int_of pair) m hm bit)
@@ -119,7 +115,7 @@ module _ (lines : ℕ) (pair : PicPair) (h : HasTaken lines pair) where
     master = settled;
     slave = h.slave;
     cascade = rw e h.cascade;
-    same = h.same ∙ ap (λ (n : ℕ). pair.slave.lines * 256 + n) (sym e);
+    same = cc;
   }
 
   kept-taken : (chip : Chip) → Keeps pair.master chip → HasTaken lines (record pair { master = chip })
@@ -127,21 +123,17 @@ module _ (lines : ℕ) (pair : PicPair) (h : HasTaken lines pair) where
 
   -- A command to the master.
   odd-from : (even odd bit : Bool) → even ≡ false → (odd || (even && not bit)) ≡ true → odd ≡ true
-  odd-from true odd bit f e = cc
   odd-from false true bit f e = refl
-  odd-from false false bit f e = cc
+  odd-from _ _ bit f e = cc
 
   bit-from : (even odd bit : Bool) → odd ≡ false → (odd || (even && not bit)) ≡ true → bit ≡ false
-  bit-from even true bit f e = cc
-  bit-from true false true f e = cc
   bit-from true false false f e = refl
-  bit-from false false bit f e = cc
+  bit-from _ _ _ f e = cc
 
   pub command-taken : (port value : ℕ) → is_command port value ≡ true → HasTaken lines (written_pair port value pair)
   unfolding is_command written_pair
   command-taken port value e =
-      let has-taken : PicPair → Type 0 = λ p. HasTaken lines p in
-      cond_both (port == 0x20) _ _ has-taken
+      cond_both (port == 0x20) _ _ (λ p. HasTaken lines p)
       (λ even. let other : (port == 0x21) ≡ false = grind (arith, nat_tests) in
       kept-taken _ (even-keeps pair.level value pair.master (bit-from (port == 0x20) (port == 0x21) (has value 4) other e)))
       (λ even. let odd : (port == 0x21) ≡ true = odd-from (port == 0x20) (port == 0x21) (has value 4) even e in
@@ -150,7 +142,7 @@ module _ (lines : ℕ) (pair : PicPair) (h : HasTaken lines pair) where
 -- The bits of a register without an input.
 bit-without : (r w k : ℕ) → w < 8 → k < 8 → bit_at (without_input r w) k ≡ min (bit_at r k) (1 - bit_at (2 ^ w) k)
 unfolding without_input but_not
-bit-without r w k h l = bit_at_and r (255 - 2 ^ w) k ∙ ap (min (bit_at r k)) (bit_at_not w8 (2 ^ w) k (pow_below w 8 h) l)
+bit-without r w k h l = cc (bit_at_and r (255 - 2 ^ w) k, bit_at_not w8 (2 ^ w) k (pow_below w 8 h) l)
 
 no_bit : (r w : ℕ) → has r w ≡ false → bit_at r w ≡ 0
 no_bit r w e = let b = bit_at-lt r w in grind (arith, nat_tests)
@@ -217,10 +209,10 @@ module _ (chip : Chip) (w : ℕ) (h : IsSettled chip) (hw : w < 8) where
 module _ (lines : ℕ) (pair : PicPair) (h : HasTaken lines pair) (none : has lines 2 ≡ false) where
   low : has pair.master.lines 2 ≡ false
   unfolding lines_of
-  low = sym (low-two pair.slave.lines pair.master.lines h.master.lines) ∙ ap (λ (n : ℕ). has n 2) (sym h.same) ∙ none
+  low = cc (low-two pair.slave.lines pair.master.lines h.master.lines)
 
   slave-low : slave_int_of pair ≡ false
-  slave-low = sym h.cascade ∙ ap (λ (n : ℕ). has n 2) (sym h.same) ∙ none
+  slave-low = cc
 
   abbrev Taken : ℕ × PicPair → Type 0
   Taken answer = HasTaken lines answer.1
@@ -256,25 +248,19 @@ record Quiet (pair edge same : Bool) : Type 0 where
 
 quiet : (pair edge same : Bool) → (not pair && (not edge && same)) ≡ true → Quiet pair edge same
 quiet false false true e = record { no_access = refl; no_edge = refl; equal = refl }
-quiet false false false e = cc
-quiet false true same e = cc
-quiet true edge same e = cc
+quiet _ _ _ e = cc
 
 again : (lines inputs : ℕ) (pair : PicPair) → HasTaken lines pair → inputs ≡ bit_and lines DRIVEN → settled_pair inputs 0 pair ≡ pair
-again lines inputs pair h e =
-    ap (λ n. settled_pair n 0 pair) (e ∙ ap (λ n. bit_and n DRIVEN) h.same)
-    ∙ pair-again pair (record { master = h.master; slave = h.slave; cascade = h.cascade; same = refl })
+again lines inputs pair h e = cc (pair-again pair (record { master = h.master; slave = h.slave; cascade = h.cascade; same = refl }))
 
 pub quiet-settled : (wires inputs : ℕ) (before : Before) (edge : Bool) (touch : Touch) (m : State) → Stays touch before m → inputs ≡ inputs_of wires m
     → is_quiet touch edge inputs before.lines ≡ true → settled_board wires edge m ≡ m
 unfolding settled_board is_quiet
 quiet-settled wires inputs before edge touch m stays is e =
     let q = quiet (is_access touch) edge (inputs == bit_and before.lines DRIVEN) e in
-    let test : (inputs == bit_and before.lines DRIVEN) ≡ true = q.equal in
-    let same : inputs ≡ bit_and before.lines DRIVEN = grind (arith, nat_tests) in
     ap (λ (pair : PicPair). record m { pair = pair })
     (ap (λ (b : Bool). settled_pair (inputs_of wires m) (bits_where b 0x01) m.pair) q.no_edge ∙ again before.lines (inputs_of wires m) m.pair
-    (stays.pair q.no_access) (sym is ∙ same))
+    (stays.pair q.no_access) (sym is ∙ (grind (arith, nat_tests))))
 
 -- If nothing was touched, the inputs are the lines.
 record AreUntouched (touch : Touch) (edge same : Bool) : Type 0 where
@@ -296,23 +282,17 @@ one-bit (suc zero) place h = omega arith
 one-bit (suc (suc b)) place h = absurd (omega arith)
 
 line-bit : (n k : ℕ) → bits_where (has n k) (2 ^ k) ≡ bit_and n (2 ^ k)
-line-bit n k = one-bit (bit_at n k) (2 ^ k) (bit_at-lt n k) ∙ sym (and_pow n k)
+line-bit n k = cc (one-bit (bit_at n k) (2 ^ k) (bit_at-lt n k), and_pow n k)
 
 own-inputs : (n : ℕ) → bit_or (bit_or (bit_and n WIRES) (bits_where (has n 0) 0x01)) (bits_where (has n 4) 0x10) ≡ bit_and n DRIVEN
-own-inputs n =
-    ap (λ b. bit_or (bit_or (bit_and n WIRES) b) (bits_where (has n 4) 0x10)) (line-bit n 0)
-    ∙ ap (bit_or (bit_or (bit_and n WIRES) (bit_and n 0x01))) (line-bit n 4)
-    ∙ ap (λ b. bit_or b (bit_and n 0x10)) (two-parts n WIRES 0x01)
-    ∙ two-parts n 0xffeb 0x10
+own-inputs n = cc (line-bit n 0, line-bit n 4, two-parts n WIRES 0x01, two-parts n 0xffeb 0x10)
 
 pub untouched-settled : (wires : ℕ) (before : Before) (edge : Bool) (touch : Touch) (m : State) → Stays touch before m
     → is_untouched touch edge wires before.lines ≡ true → settled_board wires edge m ≡ m
 unfolding settled_board is_untouched inputs_of
 untouched-settled wires before edge touch m stays e =
     let q = untouched touch edge (wires == bit_and before.lines WIRES) e in
-    let test : (wires == bit_and before.lines WIRES) ≡ true = q.quiet.equal in
     let same : wires ≡ bit_and before.lines WIRES = grind (arith, nat_tests) in
-    let is : inputs_of wires m ≡ bit_and before.lines DRIVEN = rw (same, sym (stays.out q.timer), sym (stays.serial q.port)) (own-inputs before.lines) in
     ap (λ (pair : PicPair). record m { pair = pair })
     (ap (λ (b : Bool). settled_pair (inputs_of wires m) (bits_where b 0x01) m.pair) q.quiet.no_edge ∙ again before.lines (inputs_of wires m) m.pair
-    (stays.pair q.quiet.no_access) is)
+    (stays.pair q.quiet.no_access) (rw (same, sym (stays.out q.timer), sym (stays.serial q.port)) (own-inputs before.lines)))

@@ -32,10 +32,6 @@ agreed-ok found m e = agreed-by (lines_agree found) found m _ e
 pub made_of : (level : ℕ) (of_timer : Result ℕ Misfit) (of_pair : Result PicPair Misfit) (of_pit : Result Pit Misfit) (of_port : Result Port Misfit) (m : State)
     → joined level of_timer of_pair of_pit of_port ≡ Ok m → IsMadeOf level of_timer of_pair of_pit of_port m
 unfolding joined
-made_of level (Err misfit) of_pair of_pit of_port m e = cc
-made_of level (Ok moment) (Err misfit) of_pit of_port m e = cc
-made_of level (Ok moment) (Ok pair) (Err misfit) of_port m e = cc
-made_of level (Ok moment) (Ok pair) (Ok pit) (Err misfit) m e = cc
 made_of level (Ok moment) (Ok pair) (Ok pit) (Ok serial) m e =
     let is = agreed-ok (record { level = level; moment = moment; pair = pair; pit = pit; serial = serial }) m e in
     record {
@@ -44,8 +40,9 @@ made_of level (Ok moment) (Ok pair) (Ok pit) (Ok serial) m e =
       pair = ap (λ s. Ok s.pair) is.same;
       pit = ap (λ s. Ok s.pit) is.same;
       serial = ap (λ s. Ok s.serial) is.same;
-      lines = ap lines_agree (sym is.same) ∙ is.agree;
+      lines = cc;
     }
+made_of level _ _ _ _ m e = cc
 
 pub chip-ok : (outcome : Result PicPair ChipFault) (pair : PicPair) → by_chip outcome ≡ Ok pair → outcome ≡ Ok pair
 unfolding by_chip

@@ -22,12 +22,10 @@ half set pair =
     omega (arith, saved-count set pair.master, saved-count set pair.slave, length-append (saved_cells set pair.master) (saved_cells set pair.slave))
 
 pub master-half : (set : ℕ) (pair : PicPair) (cells : List ℤ) → cells ≡ pair_cells set pair → take (length cells / 2) cells ≡ saved_cells set pair.master
-master-half set pair cells e =
-    ap (λ (l : List ℤ). take (length l / 2) l) e ∙ ap (λ n. take n (pair_cells set pair)) (half set pair) ∙ saved_are_cells.master set pair
+master-half set pair cells e = cc (half set pair, saved_are_cells.master set pair)
 
 pub slave-half : (set : ℕ) (pair : PicPair) (cells : List ℤ) → cells ≡ pair_cells set pair → drop (length cells / 2) cells ≡ saved_cells set pair.slave
-slave-half set pair cells e =
-    ap (λ (l : List ℤ). drop (length l / 2) l) e ∙ ap (λ n. drop n (pair_cells set pair)) (half set pair) ∙ saved_are_cells.slave set pair
+slave-half set pair cells e = cc (half set pair, saved_are_cells.slave set pair)
 
 -- The cells of five devices.
 abbrev pub five : (t u v w x : List ℤ) → BoardCells
@@ -52,12 +50,10 @@ module _ (m : State) (s : IsSound m) where
   carried-newest : carried NEWEST (saved NEWEST m) ≡ saved NEWEST m
   unfolding carried saved
   carried-newest =
-      let pair_le : m.pair.level ≤ NEWEST = omega (arith, s.devices.level.last, s.devices.pair_level) in
-      let pit_le : m.pit.level ≤ NEWEST = omega (arith, s.devices.level.last, s.devices.pit_level) in
-      let serial_le : m.serial.level ≤ NEWEST = omega (arith, s.devices.level.last, s.devices.serial_level) in
+      let pair_le : m.pair.level ≤ NEWEST = omega arith in
       same-five refl (chip-carried m.pair.level NEWEST _ m.pair.master pair_le s.pair.master)
       (chip-carried m.pair.level NEWEST _ m.pair.slave pair_le s.pair.slave)
-      (pit-carried NEWEST m.moment m.pit pit_le s.devices.pit) (serial-carried NEWEST m.moment m.serial s.devices.moment s.devices.serial serial_le)
+      (pit-carried NEWEST m.moment m.pit (omega arith) s.devices.pit) (serial-carried NEWEST m.moment m.serial s.devices.moment s.devices.serial (omega arith))
 
   told : IsTold m
   told = record {
@@ -102,10 +98,7 @@ module _ (m : State) (t : IsTold m) (n : State) (e : restored m.level (saved NEW
   same_pit : n.pit ≡ m.pit
   unfolding saved
   same_pit =
-      sym (judged-ok (rules m.level m.moment (pit_cells NEWEST m.pit)) (pit_of m.level (pit_cells NEWEST m.pit)) n.pit
-      (device-ok PIT_DEVICE _ n.pit made.pit)).1
-      ∙ ap (λ (level : ℕ). pit_of level (pit_cells NEWEST m.pit)) (sym t.pit_level)
-      ∙ pit_of-saved m.pit t.counters
+      cc ((judged-ok (rules m.level m.moment (pit_cells NEWEST m.pit)) (pit_of m.level (pit_cells NEWEST m.pit)) n.pit (device-ok PIT_DEVICE _ n.pit made.pit)).1, pit_of-saved m.pit t.counters)
 
   sound_pit : IsSoundPit m.moment m.pit
   unfolding saved
@@ -113,10 +106,7 @@ module _ (m : State) (t : IsTold m) (n : State) (e : restored m.level (saved NEW
 
   port-again : port-restored m.serial.level m.moment (port-saved NEWEST m.moment m.serial) ≡ Ok n.serial
   unfolding saved
-  port-again =
-      ap (λ (level : ℕ). port-restored level m.moment (port-saved NEWEST m.moment m.serial)) t.serial_level
-      ∙ ap (port-restored m.level m.moment) (sym (numbers-back NEWEST m.moment m.serial))
-      ∙ device-ok SERIAL_DEVICE _ n.serial made.serial
+  port-again = cc (numbers-back NEWEST m.moment m.serial, device-ok SERIAL_DEVICE _ n.serial made.serial)
 
   sound_port : IsSoundPort m.moment m.serial
   sound_port = (port-meets m.moment m.serial last).1 (t.serial, (n.serial, port-again))
@@ -124,8 +114,7 @@ module _ (m : State) (t : IsTold m) (n : State) (e : restored m.level (saved NEW
   same_line : line_of m.moment n.serial ≡ line_of m.moment m.serial
   same_line =
       let there = restored-saved NEWEST m.moment m.serial last sound_port in
-      let same : there.0 ≡ n.serial = port-same there.0 n.serial _ there.1 port-again in
-      ap (line_of m.moment) (sym same) ∙ lines_alike m.moment m.serial there.0 there.2
+      ap (line_of m.moment) (sym (port-same there.0 n.serial _ there.1 port-again)) ∙ lines_alike m.moment m.serial there.0 there.2
 
   -- The remembered lines.
   lines : HasLines m

@@ -53,7 +53,7 @@ ok-same first second outcome d e = cc
 
 -- A moment as a cell.
 moment-of : (moment : ℕ) → moment ≤ LAST_MOMENT → AreOf timer_kinds (pos moment ∷ [])
-moment-of moment l = of_more _ _ _ _ (long moment (omega (arith, l))) of_none
+moment-of moment l = of_more _ _ _ _ (long moment (omega arith)) of_none
 
 module _ (set : ℕ) (m : State) (s : IsSound m) (may : MaySaveUnder m.level set) where
   can : (level : ℕ) → level ≡ m.level → MaySave (numbers_at set m) level
@@ -79,7 +79,7 @@ module _ (set : ℕ) (m : State) (s : IsSound m) (may : MaySaveUnder m.level set
   }
 
   le : m.pair.level ≤ set
-  le = omega (arith, s.devices.pair_level, may.level_le_set)
+  le = omega arith
 
   master-carried : pic_carried set (saved_cells set m.pair.master) ≡ saved_cells NEWEST m.pair.master
   master-carried = carried-saved m.pair.level set _ m.pair.master le s.pair.master
@@ -113,14 +113,13 @@ module _ (set : ℕ) (m : State) (s : IsSound m) (may : MaySaveUnder m.level set
   }
 
   back-lines : (port : Port) → AlikePorts m.serial port → HasLines (record m { serial = port })
-  back-lines port a = record { out = s.lines.out; slave = s.lines.slave; serial = s.lines.serial ∙ sym (lines_alike m.moment m.serial port a) }
+  back-lines port a = record { out = s.lines.out; slave = s.lines.slave; serial = cc (lines_alike m.moment m.serial port a) }
 
   back-restored : (port : Port) → AlikePorts m.serial port → restored_cells (numbers_at NEWEST m) (serial_carried set (cells_at (numbers_at set m) m.serial)) ≡ Ok port → restored m.level (carried set (saved set m)) ≡ Ok (record m { serial = port })
   unfolding carried saved timed
   back-restored port a e =
       let holds : nat_le m.moment LAST_MOMENT ≡ true = let l = s.devices.moment in grind (arith, nat_tests) in
-      let time : timed m.moment ≡ Ok m.moment = rw holds refl in
-      joined-ok m.level m.moment m.pair m.pit port _ _ _ _ time pair-back pit-both.1 e (lines-agree (record m { serial = port }) (back-lines port a))
+      joined-ok m.level m.moment m.pair m.pit port _ _ _ _ (rw holds refl) pair-back pit-both.1 e (lines-agree (record m { serial = port }) (back-lines port a))
 
   pub comes-back : ComesBack m.level (carried set (saved set m)) m
   comes-back =
@@ -141,6 +140,5 @@ saved_comes_back = record { back = comes-back }
 pub saved_goes_on : SavedGoesOn
 saved_goes_on = record {
   answers = λ set m back events s may e. let there = comes-back set m s may in
-      let same : there.back ≡ back = ok-same there.back back _ there.restored e in
-      alike_stays.answers events m back (subst (Alike m) same there.alike);
+      alike_stays.answers events m back (subst (Alike m) (ok-same there.back back _ there.restored e) there.alike);
 }

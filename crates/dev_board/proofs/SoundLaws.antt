@@ -47,11 +47,9 @@ module _ (wires : ℕ) (edge : Bool) (m : State) (w : AreWires wires) (h : HasDe
   settled-lines : HasLines (settled wires edge m)
   unfolding settled
   settled-lines = record {
-    out = lines_are_taken.master (inputs_of wires m) (bits_where edge 0x01) 0 m.pair (inputs-lt wires m w) (omega arith) (λ e. absurd (omega (arith, e)))
-        ∙ inputs-out wires m w;
+    out = cc (lines_are_taken.master (inputs_of wires m) (bits_where edge 0x01) 0 m.pair (inputs-lt wires m w) (omega arith) (λ e. absurd (omega (arith, e))), inputs-out wires m w);
     slave = lines_are_taken.cascade (inputs_of wires m) (bits_where edge 0x01) m.pair (inputs-lt wires m w);
-    serial = lines_are_taken.master (inputs_of wires m) (bits_where edge 0x01) 4 m.pair (inputs-lt wires m w) (omega arith) (λ e. absurd (omega (arith, e)))
-        ∙ inputs-serial wires m w;
+    serial = cc (lines_are_taken.master (inputs_of wires m) (bits_where edge 0x01) 4 m.pair (inputs-lt wires m w) (omega arith) (λ e. absurd (omega (arith, e))), inputs-serial wires m w);
   }
 
   pub settled-sound : IsSound (settled wires edge m)
@@ -60,7 +58,7 @@ module _ (wires : ℕ) (edge : Bool) (m : State) (w : AreWires wires) (h : HasDe
     devices = record {
       level = h.level;
       moment = h.moment;
-      pair_level = pair_keeps_level.settle (inputs_of wires m) (bits_where edge 0x01) m.pair ∙ h.pair_level;
+      pair_level = cc (pair_keeps_level.settle (inputs_of wires m) (bits_where edge 0x01) m.pair);
       pit_level = h.pit_level;
       serial_level = h.serial_level;
       pair = steps_keep_registers.sound _ settled-pair;

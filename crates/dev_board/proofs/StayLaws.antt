@@ -12,7 +12,7 @@ use Rattle.dev_board.proofs.QuietLaws.{command-taken, ack-taken}
 -- The bit of an overrun in the line status.
 bit-of : (b : Bool) (bits : ℕ) → has 0 1 ≡ false → has (bits_where b bits) 1 ≡ (has bits 1 && b)
 bit-of true bits z = sym (and-true (has bits 1))
-bit-of false bits z = z ∙ sym (and-false (has bits 1))
+bit-of false bits z = cc (and-false (has bits 1))
 
 or-bits : (a b c d : Bool) → has (bit_or (bit_or (bit_or (bits_where a 0x01) (bits_where b 0x02)) (bits_where c 0x20)) (bits_where d 0x40)) 1 ≡ b
 or-bits a b c d =
@@ -34,15 +34,14 @@ not_true false e = refl
 
 no-overrun : (port : Port) → not (has (lsr_of port) 1) ≡ true → (lsr_read port).1 ≡ port
 no-overrun port e =
-    let none : port.receiver.overrun ≡ false = sym (lsr-overrun port) ∙ not_true (has (lsr_of port) 1) e in
-    ap (λ (b : Bool). record port { receiver = record port.receiver { overrun = b } }) (sym none)
+    ap (λ (b : Bool). record port { receiver = record port.receiver { overrun = b } }) (sym (cc (lsr-overrun port, not_true (has (lsr_of port) 1) e)))
 
 -- A read of a register that leaves the port unchanged.
 abbrev Leaves : ℕ → Port → ℕ × Port → Type 0
 Leaves offset port answer = leaves_port offset answer.0 ≡ true → answer.1 ≡ port
 
 abbrev is_at : (offset n value : ℕ) → offset ≡ n → leaves_port offset value ≡ true → leaves_port n value ≡ true
-is_at offset n value e h = ap (λ k. leaves_port k value) (sym e) ∙ h
+is_at offset n value e h = cc
 
 left-at : (offset now : ℕ) (port : Port) → Leaves offset port (registers_read offset now port)
 unfolding leaves_port registers_read
@@ -76,10 +75,10 @@ pub record IsBefore (before : Before) (m : State) : Type 0 where
 
 module _ (m : State) (s : IsSound m) (before : Before) (b : IsBefore before m) where
   out : has before.lines 0 ≡ pit_out 0 m.moment m.pit
-  out = ap (λ (n : ℕ). has n 0) b.lines ∙ s.lines.out
+  out = cc
 
   serial : has before.lines 4 ≡ line_of m.moment m.serial
-  serial = ap (λ (n : ℕ). has n 4) b.lines ∙ s.lines.serial
+  serial = cc
 
   still-taken : HasTaken before.lines m.pair
   still-taken = subst (λ (n : ℕ). HasTaken n m.pair) (sym b.lines) (pair-taken m s)
@@ -107,10 +106,9 @@ module _ (m : State) (s : IsSound m) (before : Before) (b : IsBefore before m) w
   write-stays : (target : Target) (port value : ℕ) → Stays (write_touches target port value) before (written_at target port value m)
   unfolding written_at
   write-stays Pair port value = command-stays port value (is_command port value) refl
-  write-stays (Counter counter) port value = record { out = λ e. touched e; serial = λ e. serial; int = λ e. b.int; pair = λ e. still-taken }
-  write-stays Control port value = record { out = λ e. touched e; serial = λ e. serial; int = λ e. b.int; pair = λ e. still-taken }
   write-stays (Register offset) port value = record { out = λ e. out; serial = λ e. touched e; int = λ e. b.int; pair = λ e. still-taken }
   write-stays Nothing port value = record { out = λ e. out; serial = λ e. serial; int = λ e. b.int; pair = λ e. still-taken }
+  write-stays _ port value = record { out = λ e. touched e; serial = λ e. serial; int = λ e. b.int; pair = λ e. still-taken }
 
   ack-stays : (slave : Bool) → has before.lines 2 ≡ slave → Stays (if slave then Access else Command) before (record m { pair = (acked m.pair).1 })
   ack-stays true e = record { out = λ e. out; serial = λ e. serial; int = λ e. touched e; pair = λ e. touched e }

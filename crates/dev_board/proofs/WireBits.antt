@@ -23,13 +23,13 @@ with_wire-are : (input wires : ℕ) (up : Bool) → is_wire input ≡ true → A
 unfolding with_wire
 with_wire-are input wires true e w = record {
   bound = or_of_16 wires (2 ^ input) w.bound (pow_below input 16 (wire-bound input e));
-  out = has-or wires (2 ^ input) 0 ∙ ap (λ b. b || has (2 ^ input) 0) w.out ∙ has-one_other input 0 (wire-other input 0 e refl);
-  serial = has-or wires (2 ^ input) 4 ∙ ap (λ b. b || has (2 ^ input) 4) w.serial ∙ has-one_other input 4 (wire-other input 4 e refl);
+  out = cc (has-or wires (2 ^ input) 0, has-one_other input 0 (wire-other input 0 e refl));
+  serial = cc (has-or wires (2 ^ input) 4, has-one_other input 4 (wire-other input 4 e refl));
 }
 with_wire-are input wires false e w = record {
-  bound = omega (arith, w.bound, and_le_l wires (65535 - 2 ^ input));
-  out = has-and wires (65535 - 2 ^ input) 0 ∙ ap (λ b. b && has (65535 - 2 ^ input) 0) w.out;
-  serial = has-and wires (65535 - 2 ^ input) 4 ∙ ap (λ b. b && has (65535 - 2 ^ input) 4) w.serial;
+  bound = omega (arith, and_le_l wires (65535 - 2 ^ input));
+  out = cc (has-and wires (65535 - 2 ^ input) 0);
+  serial = cc (has-and wires (65535 - 2 ^ input) 4);
 }
 
 pub wires_after-are : (event : Event) (wires : ℕ) → names_wire event ≡ true → AreWires wires → AreWires (wires_after event wires)
@@ -51,7 +51,7 @@ named-bound event input up e is = wire-bound input (sym (ap names_wire is) ∙ e
 -- A device's line among the inputs.
 where-bit : (b : Bool) (bits place : ℕ) → has 0 place ≡ false → has (bits_where b bits) place ≡ (has bits place && b)
 where-bit true bits place z = sym (and-true (has bits place))
-where-bit false bits place z = z ∙ sym (and-false (has bits place))
+where-bit false bits place z = cc (and-false (has bits place))
 
 pub one-lt : (b : Bool) (bit : ℕ) → bit < 2 ^ 16 → bits_where b bit < 2 ^ 16
 one-lt true bit h = h
@@ -82,6 +82,4 @@ module _ (wires : ℕ) (m : State) (w : AreWires wires) where
   pub inputs-serial : has (inputs_of wires m) 4 ≡ line
   unfolding inputs_of
   inputs-serial =
-      has-or (bit_or wires (bits_where out 0x01)) (bits_where line 0x10) 4
-      ∙ ap (λ b. has (bit_or wires (bits_where out 0x01)) 4 || b) (where-bit line 0x10 4 refl)
-      ∙ ap (λ b. b || line) (has-or wires (bits_where out 0x01) 4 ∙ ap (λ b. b || has (bits_where out 0x01) 4) w.serial ∙ where-bit out 0x01 4 refl)
+      cc (has-or (bit_or wires (bits_where out 0x01)) (bits_where line 0x10) 4, where-bit line 0x10 4 refl, has-or wires (bits_where out 0x01) 4, where-bit out 0x01 4 refl)

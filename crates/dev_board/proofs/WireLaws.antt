@@ -13,12 +13,10 @@ second_true false b e = cc
 -- The wires have the lines' level at each wire.
 wires_of-wire : (m : State) (wire : ℕ) → is_wire wire ≡ true → has (wires_of m) wire ≡ has (lines_of m.pair) wire
 unfolding wires_of
-wires_of-wire m wire e =
-    has-and (lines_of m.pair) WIRES wire ∙ ap (λ b. has (lines_of m.pair) wire && b) (second_true _ (has WIRES wire) e) ∙ and-true (has (lines_of m.pair) wire)
+wires_of-wire m wire e = cc (has-and (lines_of m.pair) WIRES wire, second_true _ (has WIRES wire) e, and-true (has (lines_of m.pair) wire))
 
 has-rest : (input wire : ℕ) → input < 16 → wire < 16 → has (65535 - 2 ^ input) wire ≡ not (has (2 ^ input) wire)
-has-rest input wire h l =
-    ap (λ n. n == 1) (bit_at_not w16 (2 ^ input) wire (pow_below input 16 h) l) ∙ not_test (bit_at (2 ^ input) wire) (bit_at-lt (2 ^ input) wire)
+has-rest input wire h l = cc (bit_at_not w16 (2 ^ input) wire (pow_below input 16 h) l, not_test (bit_at (2 ^ input) wire) (bit_at-lt (2 ^ input) wire))
 
 -- One of them rises or falls.
 named : (input wire wires : ℕ) (up : Bool) → input < 16 → wire < 16 → has (with_wire input up wires) wire ≡ (if input == wire then up else has wires wire)
@@ -51,22 +49,15 @@ driven false input wire n = ap (λ n. n == 1) (bit_at-zero wire)
 inputs-wire : (wires wire : ℕ) (m : State) → is_wire wire ≡ true → has (inputs_of wires m) wire ≡ has wires wire
 unfolding inputs_of
 inputs-wire wires wire m e =
-    has-or (bit_or wires (bits_where (pit_out 0 m.moment m.pit) 0x01)) (bits_where (line_of m.moment m.serial) 0x10) wire
-    ∙ ap (λ b. has (bit_or wires (bits_where (pit_out 0 m.moment m.pit) 0x01)) wire || b)
-    (driven (line_of m.moment m.serial) 4 wire (λ s. wire-other wire 4 e refl (sym s)))
-    ∙ or-false (has (bit_or wires (bits_where (pit_out 0 m.moment m.pit) 0x01)) wire)
-    ∙ has-or wires (bits_where (pit_out 0 m.moment m.pit) 0x01) wire
-    ∙ ap (λ b. has wires wire || b) (driven (pit_out 0 m.moment m.pit) 0 wire (λ s. wire-other wire 0 e refl (sym s)))
-    ∙ or-false (has wires wire)
+    cc (has-or (bit_or wires (bits_where (pit_out 0 m.moment m.pit) 0x01)) (bits_where (line_of m.moment m.serial) 0x10) wire, driven (line_of m.moment m.serial) 4 wire (λ s. wire-other wire 4 e refl (sym s)), or-false (has (bit_or wires (bits_where (pit_out 0 m.moment m.pit) 0x01)) wire), has-or wires (bits_where (pit_out 0 m.moment m.pit) 0x01) wire, driven (pit_out 0 m.moment m.pit) 0 wire (λ s. wire-other wire 0 e refl (sym s)), or-false (has wires wire))
 
 taken : (inputs edges wire : ℕ) (m : State) → inputs < 2 ^ 16 → is_wire wire ≡ true → has (lines_of (settled_pair inputs edges m.pair)) wire ≡ has inputs wire
 taken inputs edges wire m bound e =
     let l : wire < 16 = wire-bound wire e in
     ⊎_elim (λ (low : wire < 8). lines_are_taken.master inputs edges wire m.pair bound low (λ s. wire-other wire 2 e refl (sym s)))
-    (λ (high : 8 ≤ wire). let place : 8 + (wire - 8) ≡ wire = omega (arith, high) in
+    (λ (high : 8 ≤ wire). let place : 8 + (wire - 8) ≡ wire = omega arith in
     subst (λ n. has (lines_of (settled_pair inputs edges m.pair)) n ≡ has inputs n) place
-    (lines_are_taken.slave inputs edges (wire - 8) m.pair bound (omega (arith, high, l))))
-    (cases_lt wire 8)
+    (lines_are_taken.slave inputs edges (wire - 8) m.pair bound (omega arith))) (cases_lt wire 8)
 
 settled-wire : (wires wire : ℕ) (edge : Bool) (m : State) → AreWires wires → is_wire wire ≡ true
     → has (lines_of (settled wires edge m).pair) wire ≡ has wires wire
@@ -78,10 +69,7 @@ stay : (event : Event) (m : State) (wire : ℕ) → is_wire wire ≡ true → Is
     → has (lines_of (step event m).1.pair) wire ≡ wire_left wire event (has (lines_of m.pair) wire)
 unfolding step after_act
 stay event m wire e is =
-    settled-wire (wires_after event (wires_of m)) wire (acted event m).0.edge (acted event m).1
-    (wires_after-are event (wires_of m) (names event is) (wires_of-are m)) e
-    ∙ left event wire (wires_of m) (wire-bound wire e) is
-    ∙ ap (λ was. wire_left wire event was) (wires_of-wire m wire e)
+    cc (settled-wire (wires_after event (wires_of m)) wire (acted event m).0.edge (acted event m).1 (wires_after-are event (wires_of m) (names event is) (wires_of-are m)) e, left event wire (wires_of m) (wire-bound wire e) is, wires_of-wire m wire e)
 
 pub wires_stay : WiresStay
 wires_stay = record { wire = stay }

@@ -1,43 +1,19 @@
 -- What was found is when the board is next due.
-use Rattle.std.proofs.Common.{◌≡◌, ℕ, ◌<◌, ◌≤◌, length, Option, Some, None, arith, ◌+◌, ◌*◌, ◌⊎◌, inl, inr, true, false, sym, ap, ◌∙◌, subst, ⊎_elim, ◌-◌, ◌==◌, Bool, not, ◌||◌, refl, List}
-use Rattle.std.specs.Prelude.{IfSome}
-use Rattle.dev_base.specs.declared.limits.TheConstants.{LAST_MOMENT}
-use Rattle.dev_board.specs.Sound.{IsSound}
-use Rattle.dev_board.specs.State.{State}
-use Rattle.dev_board.proofs.KeepLaws.{loaded}
-use Rattle.dev_pit.specs.Counter.{LoadedBy, edge_of, out_of}
-use Rattle.dev_pit.specs.Pit.{IsLoadedBy, counter_of, pit_edge, pit_out}
-use Rattle.dev_pit.proofs.Moments.{pit-later}
-use Rattle.dev_serial.specs.Sound.{IsShift}
-use Rattle.dev_serial.specs.declared.shift.Shift.{Shift}
-use Rattle.std.proofs.lemmas.Bool.{cases_lt, false_from_ne_true, le-leb, lt-leb}
-use Rattle.dev_due.specs.Boards.{character_of, devices_of, shows_at, board_int, clock_int, IsEnd, timer_of, shows_of}
-use Rattle.dev_due.specs.Search.{Finds, Found, FoundAt, FoundSend, FoundSends, IsBy, Shown, Tried, IsSegment, SameClock, SameLine}
-use Rattle.dev_due.specs.declared.boards.Board.{Board}
-use Rattle.dev_base.specs.Bits.{same}
-use Rattle.dev_board.specs.Step.{acted, after_act, inputs_of, later_by, settled, step, waited, wires_after}
-use Rattle.dev_board.specs.Wires.{wires_of}
-use Rattle.dev_board.specs.declared.event.Answer.{Answer}
-use Rattle.dev_board.specs.declared.event.Event.TheVariants.{Wait}
-use Rattle.dev_clock.specs.State.{ClockState}
-use Rattle.dev_clock.specs.Step.{acted as clock_acted, follows_line, step as clock_step, waited as clock_waited}
-use Rattle.dev_serial.specs.Access.{advanced}
-use Rattle.dev_serial.specs.Port.{line_of}
-use Rattle.vms_rtc.specs.Chip.{passed, ends_within}
-use Rattle.dev_due.specs.Due.{shows}
-use Rattle.dev_pit.specs.Turns.{AreTurns, IsTurn}
-use Rattle.dev_pit.specs.declared.turns.Turns.{Turns}
-use Rattle.dev_serial.specs.Transmit.{IsSentAfter}
-use Rattle.vms_rtc.specs.Ends.{has_come, period_in}
-use Rattle.vms_rtc.specs.declared.rtc.Rtc.{Rtc}
-use Rattle.dev_due.specs.declared.boards.Board.TheVariants.{Isa, Clock}
+use Rattle.dev_due.proofs.Facade.{◌≡◌, ℕ, ◌<◌, ◌≤◌, length, Option, Some, None, arith, ◌+◌, ◌*◌, ◌⊎◌, inl, inr, true, false, sym, ap, ◌∙◌, subst, ⊎_elim, ◌-◌}
+use Rattle.dev_due.proofs.Facade.{◌==◌, Bool, not, ◌||◌, refl, List, IfSome, cases_lt, false_from_ne_true, le-leb, lt-leb, LAST_MOMENT, IsSound, State, loaded}
+use Rattle.dev_due.proofs.Facade.{LoadedBy, edge_of, out_of, IsLoadedBy, counter_of, pit_edge, pit_out, pit-later, IsShift, Shift, character_of, devices_of}
+use Rattle.dev_due.proofs.Facade.{shows_at, board_int, clock_int, IsEnd, timer_of, shows_of, Finds, Found, FoundAt, FoundSend, FoundSends, IsBy, Shown, Tried}
+use Rattle.dev_due.proofs.Facade.{IsSegment, SameClock, SameLine, Board, same, acted, after_act, inputs_of, later_by, settled, step, waited, wires_after}
+use Rattle.dev_due.proofs.Facade.{wires_of, Answer, Wait, ClockState, follows_line, advanced, line_of, passed, ends_within, shows, AreTurns, IsTurn, Turns}
+use Rattle.dev_due.proofs.Facade.{IsSentAfter, has_come, period_in, Rtc, Isa, Clock}
+use Rattle.dev_clock.specs.Step.{acted as clock_acted, step as clock_step, waited as clock_waited}
 use Rattle.dev_due.proofs.PortLaws.{Covers, IsBase, LeavesBy, covers}
 
 -- ---- bounds of a sound board
 
 shift-soon : (now : ℕ) (shift : Option Shift) → now ≤ LAST_MOMENT → IsShift now shift → IfSome shift (λ s. s.due ≤ 4500000000000000000)
 shift-soon now None l h = tt
-shift-soon now (Some shift) l h = omega (arith, h.in_time)
+shift-soon now (Some shift) l h = omega arith
 
 module _ (m : State) (sound : IsSound m) where
   pub soon : IfSome m.serial.transmitter.shift (λ shift. shift.due ≤ 4500000000000000000)
@@ -89,9 +65,7 @@ pub next_sends : (board : Board) (old new : Option ℕ) (due left sent : ℕ) �
 next_sends board old new due left sent all finds e here k h = ⊎_elim
     (λ (l : k < left). keep_send finds (all k l))
     (λ (l : left ≤ k).
-    let same : left ≡ k = omega arith in
-    subst (λ (t : ℕ). FoundSend board t new) (e ∙ ap (λ (n : ℕ). due + n * character_of board) same) here)
-    (cases_lt k left)
+    subst (λ (t : ℕ). FoundSend board t new) (e ∙ ap (λ (n : ℕ). due + n * character_of board) (omega arith)) here) (cases_lt k left)
 
 -- ---- what a wait shows: OUT of counter 0 and its edge, the serial line, and the bytes that left
 
@@ -122,10 +96,9 @@ same-at m c to s = (rw (s.edge, s.out, s.line) refl, rw s.sent refl)
 pub same_shows : (m : State) (c to : ℕ) → m.moment ≤ c → c ≤ LAST_MOMENT → m.moment ≤ to → to ≤ LAST_MOMENT → SameShown m c to
     → shows step board_int m (c - m.moment) ≡ shows step board_int m (to - m.moment)
 same_shows m c to hc lc ht lt s =
-    let first = wait-at (c - m.moment) m ∙ ap (λ (t : ℕ). at t m) (later-to m.moment c hc lc) in
     let second = wait-at (to - m.moment) m ∙ ap (λ (t : ℕ). at t m) (later-to m.moment to ht lt) in
     let same = same-at m c to s in
-    rw (first, second, same.0, same.1) refl
+    rw ((wait-at (c - m.moment) m ∙ ap (λ (t : ℕ). at t m) (later-to m.moment c hc lc)), second, same.0, same.1) refl
 
 -- the bytes that leave by a moment
 pub sent_at_wait : (to : ℕ) (m : State) → m.moment ≤ to → to ≤ LAST_MOMENT → (step (Wait (to - m.moment)) m).0.sent.items ≡ (advanced to m.serial).0
@@ -138,10 +111,7 @@ again : (ns moment : ℕ) → moment ≤ LAST_MOMENT → later_by (later_by ns m
 again ns moment h = omega arith
 
 pub shows_by : (ns : ℕ) (m : State) → m.moment ≤ LAST_MOMENT → shows step board_int m ns ≡ shows step board_int m (later_by ns m.moment - m.moment)
-shows_by ns m h =
-    let first = wait-at ns m in
-    let second = wait-at (later_by ns m.moment - m.moment) m ∙ ap (λ (t : ℕ). at t m) (again ns m.moment h) in
-    rw (first, second) refl
+shows_by ns m h = rw (wait-at ns m, (wait-at (later_by ns m.moment - m.moment) m ∙ ap (λ (t : ℕ). at t m) (again ns m.moment h))) refl
 
 -- ---- a clock board
 
@@ -165,10 +135,9 @@ pub same_clock_shows : (m : ClockState) (c to : ℕ) → m.board.moment ≤ c �
     → passed m.board.moment c m.clock ≡ passed m.board.moment to m.clock
     → shows clock_step clock_int m (c - m.board.moment) ≡ shows clock_step clock_int m (to - m.board.moment)
 same_clock_shows m c to hc lc ht lt s p =
-    let first = clock-wait-at (c - m.board.moment) m ∙ ap (λ (t : ℕ). clock-at t m) (later-to m.board.moment c hc lc) in
     let second = clock-wait-at (to - m.board.moment) m ∙ ap (λ (t : ℕ). clock-at t m) (later-to m.board.moment to ht lt) in
     let same = same-clock-at m c to s p in
-    rw (first, second, same.0, same.1) refl
+    rw ((clock-wait-at (c - m.board.moment) m ∙ ap (λ (t : ℕ). clock-at t m) (later-to m.board.moment c hc lc)), second, same.0, same.1) refl
 
 pub clock_sent_at_wait : (to : ℕ) (m : ClockState) → m.board.moment ≤ to → to ≤ LAST_MOMENT
     → (clock_step (Wait (to - m.board.moment)) m).0.sent.items ≡ (advanced to m.board.serial).0
@@ -180,9 +149,7 @@ clock_sent_at_wait to m h l =
 pub clock_shows_by : (ns : ℕ) (m : ClockState) → m.board.moment ≤ LAST_MOMENT
     → shows clock_step clock_int m ns ≡ shows clock_step clock_int m (later_by ns m.board.moment - m.board.moment)
 clock_shows_by ns m h =
-    let first = clock-wait-at ns m in
-    let second = clock-wait-at (later_by ns m.board.moment - m.board.moment) m ∙ ap (λ (t : ℕ). clock-at t m) (again ns m.board.moment h) in
-    rw (first, second) refl
+    rw (clock-wait-at ns m, (clock-wait-at (later_by ns m.board.moment - m.board.moment) m ∙ ap (λ (t : ℕ). clock-at t m) (again ns m.board.moment h))) refl
 
 -- ---- if something shows, one of the tried moments shows something no later
 
@@ -214,11 +181,10 @@ found_from board base turns found loaded are here first second third = record { 
     in-segment : (to : ℕ) → IsSegment board base to → shows_at board to ≡ true → IsBy to found
     in-segment to s e =
         let t = are (now_of board) to loaded s.from s.upto in
-        let from : now_of board ≤ t.at = omega (arith, s.from, t.from) in
-        let last : t.at ≤ LAST_MOMENT = omega (arith, s.last, t.upto) in
-        let upto : now_of board ≤ to = omega (arith, s.from, s.upto) in
-        let same = same-any board t.at to from last upto s.last t.edge t.out (s.line t.at t.from t.upto) (s.clock t.at t.from t.upto) in
-        by_later t.at to found t.upto ((by-turn t.at t.is).by (record { from = from; last = last; shows = same ∙ e }))
+        let from : now_of board ≤ t.at = omega arith in
+        let last : t.at ≤ LAST_MOMENT = omega arith in
+        let same = same-any board t.at to from last (omega arith) s.last t.edge t.out (s.line t.at t.from t.upto) (s.clock t.at t.from t.upto) in
+        by_later t.at to found t.upto ((by-turn t.at t.is).by (record { from = from; last = last; shows = cc }))
 
 -- ---- the clock chip
 
@@ -295,8 +261,7 @@ module _ (board : Board) (found : Option ℕ) (sound : IsSound (devices_of board
 
   at-first : (shift : Shift) → (devices_of board).serial.transmitter.shift ≡ Some shift → Tried board shift.due found
   at-first shift own =
-      let same : shift.due + 0 * character_of board ≡ shift.due = omega arith in
-      subst (λ (t : ℕ). Tried board t found) same (at-send shift (devices_of board).serial.transmitter.shift 0 own sends (omega arith)).tried
+      subst (λ (t : ℕ). Tried board t found) (omega arith) (at-send shift (devices_of board).serial.transmitter.shift 0 own sends (omega arith)).tried
 
   later-sent : (shift : Shift) (own : Option Shift) → own ≡ Some shift → IsSentAfter (now_of board) own → now_of board < shift.due
   later-sent shift own e h = subst (IsSentAfter (now_of board)) e h
@@ -311,7 +276,7 @@ module _ (board : Board) (found : Option ℕ) (sound : IsSound (devices_of board
   by-cover end is ends at s (inr l) =
       let later : now_of board < l.shift.due = later-sent l.shift (devices_of board).serial.transmitter.shift l.sends is-sent in
       let from : now_of board ≤ l.shift.due = omega arith in
-      let last : l.shift.due ≤ LAST_MOMENT = omega (arith, l.by, s.last) in
+      let last : l.shift.due ≤ LAST_MOMENT = omega arith in
       by_later l.shift.due at found l.by
       ((at-first l.shift l.sends).by (record { from = from; last = last; shows = leaves-shows board l.shift.due from last l.some }))
 
@@ -329,7 +294,7 @@ shows-reached (Isa devices) ns h = shows_by ns devices.now h
 shows-reached (Clock devices) ns h = clock_shows_by ns devices.now h
 
 shown-there : (board : Board) (ns : ℕ) → (devices_of board).moment ≤ LAST_MOMENT → shows_of board ns ≡ true → Shown board (reached board ns)
-shown-there board ns h e = record { from = omega (arith, h); last = omega arith; shows = sym (shows-reached board ns h) ∙ e }
+shown-there board ns h e = record { from = omega arith; last = omega arith; shows = cc (shows-reached board ns h) }
 
 pub none_due : (board : Board) → (devices_of board).moment ≤ LAST_MOMENT → ((at : ℕ) → Shown board at → IsBy at None) → (ns : ℕ) → shows_of board ns ≡ false
 none_due board h all ns = false_from_ne_true (shows_of board ns) (λ e. all (reached board ns) (shown-there board ns h e))
@@ -338,5 +303,5 @@ pub some_due : (board : Board) (found : ℕ) → (devices_of board).moment ≤ L
     → (shows_of board (found - (devices_of board).moment) ≡ true) × ((ns : ℕ) → ns < found - (devices_of board).moment → shows_of board ns ≡ false)
 some_due board found h s all = (
   s.shows,
-  λ ns l. false_from_ne_true (shows_of board ns) (λ e. absurd (omega (arith, all (reached board ns) (shown-there board ns h e), l, s.from))),
+  λ ns l. false_from_ne_true (shows_of board ns) (λ e. absurd (omega (arith, all (reached board ns) (shown-there board ns h e)))),
 )

@@ -1,3 +1,4 @@
 pub mod DueLaws
+pub mod Facade
 pub mod OneLaw
 pub mod PortLaws

@@ -1,12 +1,8 @@
 -- A board is next due at one wait at most.
-use Rattle.std.proofs.Common.{◌≡◌, ℕ, ◌<◌, ◌≤◌, Bool, true, false, Some, None, refl, sym, ap, ◌∙◌, arith, ⊎_elim}
-use Rattle.std.proofs.lemmas.Bool.{cases_lt}
-use Rattle.dev_board.specs.declared.event.Answer.{Answer}
-use Rattle.dev_board.specs.declared.event.Event.{Event}
-use Rattle.dev_due.specs.Due.{OneIsDue, shows}
+use Rattle.dev_due.proofs.Facade.{◌≡◌, ℕ, ◌<◌, ◌≤◌, Bool, true, false, Some, None, refl, sym, ap, ◌∙◌, arith, ⊎_elim, cases_lt, Answer, Event, OneIsDue, shows}
 
 never-both : {A : Type 0} (b : Bool) → b ≡ true → b ≡ false → A
-never-both b h l = let bad : true ≡ false = sym h ∙ l in absurd (cc)
+never-both b h l = let bad : true ≡ false = cc in absurd (cc)
 
 pub one_is_due : {S : Type 0} (step : Event → S → Answer × S) (int : S → Bool) → OneIsDue step int
 one_is_due step int m None None h l = refl

@@ -1,21 +1,10 @@
 -- The serial port's line while time passes.
-use Rattle.std.proofs.Common.{◌≡◌, ℕ, suc, ◌+◌, ◌*◌, ◌/◌, ◌<◌, ◌≤◌, ◌==◌, ◌⊎◌, inl, inr, Bool, true, false, ◌&&◌, if◌then◌else◌, List, [], ◌∷◌, ◌++◌, length, Option, Some, None, refl, sym, ap, ◌∙◌, subst, arith, ⊎_elim}
-use Rattle.std.proofs.lemmas.Bool.{cases_lt, le-leb, lt-leb}
-use Rattle.std.proofs.lemmas.Bool.Decides.{nat_tests}
-use Rattle.std.proofs.lemmas.Option.{same_Some}
-use Rattle.std.specs.Prelude.{is_some, nat_le, nat_lt}
-use Rattle.dev_base.proofs.Choices.{either}
-use Rattle.dev_base.specs.Bits.{has}
-use Rattle.dev_serial.specs.Access.{advanced}
-use Rattle.dev_serial.specs.Line.{character_time}
-use Rattle.dev_serial.specs.Parts.{ReceiverState, TransmitterState}
-use Rattle.dev_serial.specs.Port.{Port, has_come, interrupt, line_of, mode_of}
-use Rattle.dev_serial.specs.Receive.{received}
-use Rattle.dev_serial.specs.Transmit.{IsSentAfter, departures, gone, holding, run_until, staying, timetable, bytes_of}
-use Rattle.dev_serial.specs.declared.shift.Shift.{Shift}
-use Rattle.dev_due.specs.Search.{SameLine}
-use Rattle.dev_serial.proofs.SendingLaws.{bytes_of-timetable}
-use Rattle.dev_serial.proofs.WaitLaws.{advances_in_parts, character-positive, loops_at_moment, still, waits_until_due}
+use Rattle.dev_due.proofs.Facade.{◌≡◌, ℕ, suc, ◌+◌, ◌*◌, ◌<◌, ◌≤◌, ◌==◌, ◌⊎◌, inl, inr, Bool, true, false, ◌&&◌, if◌then◌else◌, List, [], ◌∷◌, ◌++◌, length}
+use Rattle.dev_due.proofs.Facade.{Option, Some, None, refl, sym, ap, ◌∙◌, subst, arith, ⊎_elim, cases_lt, le-leb, lt-leb, nat_tests, same_Some, is_some, nat_le}
+use Rattle.dev_due.proofs.Facade.{nat_lt, either, has, advanced, character_time, ReceiverState, TransmitterState, Port, interrupt, line_of, mode_of, received}
+use Rattle.dev_due.proofs.Facade.{IsSentAfter, departures, gone, holding, run_until, staying, timetable, bytes_of, Shift, SameLine, bytes_of-timetable}
+use Rattle.dev_due.proofs.Facade.{advances_in_parts, character-positive, loops_at_moment, still, waits_until_due}
+use Rattle.dev_serial.specs.Port.{has_come}
 
 -- ---- nothing leaves
 
@@ -46,9 +35,7 @@ more-none (x ∷ xs) = ap (λ (l : List ℕ). x ∷ l) (more-none xs)
 -- nothing leaves after `base` up to `c`
 stays : (base c : ℕ) (port : Port) → base ≤ c → IsSentAfter c (after base port).transmitter.shift → advanced c port ≡ advanced base port
 stays base c port l h =
-    let quiet = still c (after base port) h in
-    advances_in_parts base c port l
-    ∙ ap (λ (x : List ℕ × Port). ((advanced base port).0 ++ x.0, x.1)) quiet
+    advances_in_parts base c port l ∙ ap (λ (x : List ℕ × Port). ((advanced base port).0 ++ x.0, x.1)) (still c (after base port) h)
     ∙ ap (λ (xs : List ℕ). (xs, after base port)) (more-none (advanced base port).0)
 
 module _ (base to : ℕ) (port : Port) (l : base ≤ to) (h : IsSentAfter to (after base port).transmitter.shift) where
@@ -60,8 +47,7 @@ module _ (base to : ℕ) (port : Port) (l : base ≤ to) (h : IsSentAfter to (af
 
   one : (c : ℕ) → base ≤ c → c ≤ to → has_come c p.receiver.timeout ≡ has_come to p.receiver.timeout → SameLine port c to
   one c low high e = record {
-    line = ap (λ (x : List ℕ × Port). line_of c x.1) (at c low high) ∙ line-same c to p e
-        ∙ sym (ap (λ (x : List ℕ × Port). line_of to x.1) (at to l (omega arith)));
+    line = cc (at c low high, line-same c to p e, at to l (omega arith));
     sent = ap (λ (x : List ℕ × Port). x.0) (at c low high ∙ sym (at to l (omega arith)));
   }
 
@@ -126,8 +112,7 @@ sent-transmitter : (port : Port) (shift : Shift) → port.transmitter.shift ≡ 
 unfolding advanced run_until departures timetable staying
 sent-transmitter port shift e =
     let character = character_time port.divisor port.lcr in
-    let positive : 1 ≤ character = character-positive port.divisor port.lcr in
-    rw (e, le-leb shift.due shift.due (omega arith), next-stays character shift.due port.transmitter.waiting positive) refl
+    rw (e, le-leb shift.due shift.due (omega arith), next-stays character shift.due port.transmitter.waiting (character-positive port.divisor port.lcr)) refl
 
 -- and a timeout of the receiver that took it in
 abbrev IsTimeout : Option ℕ → ℕ → Option ℕ → Type 0
@@ -221,11 +206,10 @@ module _ (port : Port) (now to : ℕ) (looped : has port.mcr 4 ≡ true) (shift 
     where
       by_begin : (b : Begins base to port l (subst (λ (q : Port). IsSentAfter to q.transmitter.shift) r.is h))
           → (b.begin ≡ base) ⊎ ((after base port).receiver.timeout ≡ Some b.begin) → Covers port now to
-      by_begin b (inl own) =
-          record { base = b.begin; from = omega (arith, r.from, b.from); is = subst (IsBase port now) (sym own) r.begins_there; span = b.span }
+      by_begin b (inl own) = record { base = b.begin; from = omega arith; is = subst (IsBase port now) (sym own) r.begins_there; span = b.span }
       by_begin b (inr timed) = record {
         base = b.begin;
-        from = omega (arith, r.from, b.from);
+        from = omega arith;
         is = since-base k p.receiver.timeout b.begin r.few (ap (λ (q : Port). q.receiver.timeout) r.is ∙ timed) r.timeout;
         span = b.span;
       }
@@ -241,10 +225,10 @@ module _ (port : Port) (now to : ℕ) (looped : has port.mcr 4 ≡ true) (shift 
       → base ≤ first.due → Reached (k + 1) first.due (after first.due p)
   unfolding advanced
   next-reached k base due p first r e d few later = record {
-    is = ap (after first.due) r.is ∙ sym (ap (λ (x : List ℕ × Port). x.1) (advances_in_parts base first.due port later));
+    is = cc (advances_in_parts base first.due port later);
     loops = r.loops;
     time = r.time;
-    from = omega (arith, r.from);
+    from = omega arith;
     begins_there = inr (inr (shift, sends, (k, few, inl d)));
     few = omega arith;
     timeout = since-next port shift k p.receiver.timeout _ _ (ap (λ (d : ℕ). d + 4 * character_time p.divisor p.lcr) d ∙ ap (λ (c : ℕ). shift.due + k * character + 4 * c) r.time) r.timeout (sent-timeout p first r.loops e);
@@ -269,19 +253,16 @@ module _ (port : Port) (now to : ℕ) (looped : has port.mcr 4 ≡ true) (shift 
   cover-loop (byte ∷ bytes) k base p r h l later =
       let due = shift.due + k * character in
       let first : Shift = record { byte = byte; due = due } in
-      let e : p.transmitter.shift ≡ Some first = ap (λ (t : TransmitterState). t.shift) h.transmitter ∙ first-shift due byte bytes in
-      let waits : p.transmitter.waiting ≡ bytes = ap (λ (t : TransmitterState). t.waiting) h.transmitter ∙ first-waiting due byte bytes in
+      let e : p.transmitter.shift ≡ Some first = cc (first-shift due byte bytes) in
       ⊎_elim
       (λ (f : to < due). covered k base p r l (subst (IsSentAfter to) (sym e) f))
       (λ (f : due ≤ to).
-      let few : k ≤ length port.transmitter.waiting = omega (arith, h.all) in
-      let next = next-reached k base due p first r e refl few later in
-      cover-loop bytes (k + 1) due (after due p) next (record {
+      cover-loop bytes (k + 1) due (after due p) (next-reached k base due p first r e refl (omega arith) later) (record {
         transmitter = sent-transmitter p first e
             ∙ ap (λ (c : ℕ). holding (timetable c (due + c) p.transmitter.waiting)) r.time
             ∙ ap (λ (d : ℕ). holding (timetable character d p.transmitter.waiting)) (omega arith)
-            ∙ ap (λ (w : List ℕ). holding (timetable character (shift.due + (k + 1) * character) w)) waits;
-        all = omega (arith, h.all);
+            ∙ ap (λ (w : List ℕ). holding (timetable character (shift.due + (k + 1) * character) w)) (cc (first-waiting due byte bytes));
+        all = omega arith;
       }) f (omega arith))
       (cases_lt to due)
 
@@ -297,9 +278,8 @@ module _ (port : Port) (now to : ℕ) (looped : has port.mcr 4 ≡ true) (shift 
   -- from the present moment
   cover-now : now ≤ to → now < shift.due → Covers port now to
   cover-now l h =
-      let same : port ≡ after now port = sym (ap (λ (x : List ℕ × Port). x.1) (waits_until_due now port shift sends h)) in
       cover-loop (shift.byte ∷ port.transmitter.waiting) 0 now port (record {
-        is = same;
+        is = sym (ap (λ (x : List ℕ × Port). x.1) (waits_until_due now port shift sends h));
         loops = looped;
         time = refl;
         from = omega arith;

@@ -1,26 +1,12 @@
 -- The endings of the commands of boards, by their steps.
-use Rattle.std.proofs.Common.{◌≡◌, ℕ, Bool, true, false, ◌||◌, ◌==◌, List, [], ◌∷◌, ◌++◌, Result, Ok, Err, refl, sym, ap, subst, ◌∙◌, Option, Some, None}
-use Rattle.std.proofs.lemmas.Bool.{or_right}
-use Rattle.std.proofs.KnownBytes.{Keeps-refl}
-use Rattle.arrayvec.specs.ArrayVec.{ArrayVec}
-use Rattle.vms_board.specs.Saving.{Saves}
-use Rattle.vms_board.specs.declared.save.SaveFault.{SaveFault}
+use Rattle.vms_board_commands.proofs.Facade.{◌≡◌, ℕ, Bool, true, false, ◌||◌, ◌==◌, List, [], ◌∷◌, ◌++◌, Result, Ok, Err, refl, sym, ap, subst, ◌∙◌, Option}
+use Rattle.vms_board_commands.proofs.Facade.{Some, None, or_right, Keeps-refl, ArrayVec, Saves, SaveFault, Rose, Looks, Intake, Outlet, Stock, serves_none}
+use Rattle.vms_board_commands.proofs.Facade.{Goes, PlayFault, asked, draws_none, looked_so, same_so, unshelved_so, writes_serve, wrong, mapped_by, Course}
+use Rattle.vms_board_commands.proofs.Facade.{Draws, EndsSo, Risen, is_among, of_shelf, text_course, SetCause, WritesAs, status_of, Ending, Refused, BadText}
+use Rattle.vms_board_commands.proofs.Facade.{ReadFault, WriteFault, ShelfFault, NotThere, TooLarge, NoMemory, drill_course, load_course, play_course}
+use Rattle.vms_board_commands.proofs.Facade.{save_course, stream_course, ending_by}
 use Rattle.vms_board.specs.declared.save.SaveFault.TheVariants as saves
-use Rattle.vms_io.specs.Causes.{Rose}
-use Rattle.vms_io.specs.Shelving.{Looks}
-use Rattle.vms_io.specs.Told.{Intake, Outlet, Stock}
-use Rattle.vms_io.proofs.WritingLemmas.{serves_none}
-use Rattle.vms_session.specs.Playing.{Goes}
-use Rattle.vms_session.specs.declared.line.PlayFault.{PlayFault}
 use Rattle.vms_session.specs.declared.line.PlayFault.TheVariants as plays
-use Rattle.vms_commands.proofs.CourseLemmas.{asked, draws_none, looked_so, same_so, unshelved_so, writes_serve, wrong}
-use Rattle.vms_commands.proofs.StepLemmas.{mapped_by}
-use Rattle.vms_commands.specs.Courses.{Course, Draws, EndsSo, Risen, is_among, of_shelf, text_course}
-use Rattle.vms_commands.specs.Endings.{SetCause, WritesAs, status_of}
-use Rattle.vms_commands.specs.declared.ending.Ending.{Ending}
-use Rattle.vms_commands.specs.declared.ending.Ending.TheVariants.{Refused, BadText, ReadFault, WriteFault, ShelfFault, NotThere, TooLarge, NoMemory}
-use Rattle.vms_board_commands.specs.Causes.{drill_course, load_course, play_course, save_course, stream_course}
-use Rattle.vms_board_commands.specs.Play.{ending_by}
 use Rattle.vms_board_commands.specs.Save.{ending_by as save_ending}
 
 -- ---- lists of statuses

@@ -1,12 +1,6 @@
 -- The events of a drill are such that there are.
-use Rattle.std.proofs.Common.{◌≡◌, ℕ, zero, suc, ◌+◌, ◌<◌, ◌%◌, true, IsTrue, get_or, arith, refl}
-use Rattle.std.proofs.Math.Nat.{mod-add-mod}
-use Rattle.dev_board.specs.Laws.{IsEvent, AreEvents}
-use Rattle.dev_board.proofs.WireBits.{names}
-use Rattle.dev_board.specs.Step.{names_wire}
-use Rattle.dev_board.specs.Wires.{is_wire}
-use Rattle.vms_board_commands.specs.DrillEvents.{next_number, wires, event_by, event_of, events_after}
-use Rattle.vms_board_commands.specs.DrillEventLaws.{EventsAreGood}
+use Rattle.vms_board_commands.proofs.Facade.{◌≡◌, ℕ, zero, suc, ◌+◌, ◌<◌, ◌%◌, true, IsTrue, get_or, arith, refl, mod-add-mod, IsEvent, AreEvents, names}
+use Rattle.vms_board_commands.proofs.Facade.{names_wire, is_wire, next_number, wires, event_by, event_of, events_after, EventsAreGood}
 
 -- the remainder of a sum depends only on that of its first part
 pub sum_rest : (n k m : ℕ) → (n % m + k) % m ≡ (n + k) % m

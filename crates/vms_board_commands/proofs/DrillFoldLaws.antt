@@ -1,23 +1,10 @@
 -- What saves leave of a drill.
-use Rattle.std.proofs.Common.{◌≡◌, ℕ, zero, suc, ◌+◌, ◌-◌, ◌≤◌, Bool, true, false, if◌then◌else◌, Result, arith, refl, sym, ap, subst, ◌∙◌}
-use Rattle.dev_base.specs.declared.limits.TheConstants.{NEWEST}
-use Rattle.dev_base.specs.Levels.{IsLevel}
-use Rattle.dev_board.proofs.AlikeLaws.{alike_stays, likeness}
-use Rattle.dev_board.proofs.ClockLaws.{clock_goes_on}
-use Rattle.dev_board.proofs.RestoredLaws.{restored_is_sound}
-use Rattle.dev_board.proofs.SavedLaws.{saved_comes_back}
-use Rattle.dev_board.proofs.SoundLaws.{sound_stays_on}
-use Rattle.dev_board.specs.Saved.{MaySaveUnder, saved, carried, restored}
-use Rattle.dev_board.specs.Sound.{IsSound, Alike}
-use Rattle.dev_board.specs.State.{State, power_on}
-use Rattle.dev_board.specs.Step.{step, observe, after_all, after_by, answers_by}
-use Rattle.dev_board.specs.declared.event.Answer.{Answer}
-use Rattle.dev_board.specs.declared.event.Event.{Event}
-use Rattle.dev_board.specs.declared.misfit.Misfit.{Misfit}
+use Rattle.vms_board_commands.proofs.Facade.{◌≡◌, ℕ, zero, suc, ◌+◌, ◌≤◌, Bool, true, false, if◌then◌else◌, Result, arith, refl, sym, ap, subst, ◌∙◌, NEWEST}
+use Rattle.vms_board_commands.proofs.Facade.{IsLevel, alike_stays, likeness, clock_goes_on, restored_is_sound, saved_comes_back, sound_stays_on, MaySaveUnder}
+use Rattle.vms_board_commands.proofs.Facade.{saved, carried, restored, IsSound, Alike, State, power_on, step, observe, after_all, after_by, answers_by, Answer}
+use Rattle.vms_board_commands.proofs.Facade.{Event, Misfit, next_number, event_of, events_after, Progress, counted, counted_all, set_of, back_of, came_back}
+use Rattle.vms_board_commands.proofs.Facade.{after_save, with_event, begun, drilled, IsAsUnsaved, SavesLeaveCounts}
 use Rattle.vms_board_commands.proofs.DrillEventLaws.{event-is}
-use Rattle.vms_board_commands.specs.DrillEvents.{next_number, event_of, events_after}
-use Rattle.vms_board_commands.specs.DrillProgress.{Progress, counted, counted_all, set_of, back_of, came_back, after_save, with_event, begun, drilled}
-use Rattle.vms_board_commands.specs.DrillEventLaws.{IsAsUnsaved, SavesLeaveCounts}
 
 -- the set of a save is one under which the board may be saved
 pub save_may : (level saves : ℕ) → level ≤ NEWEST → MaySaveUnder level (set_of level saves)

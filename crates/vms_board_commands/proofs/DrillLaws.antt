@@ -1,17 +1,10 @@
 -- A drill with its streams, and its progress without them.
-use Rattle.std.proofs.Common.{◌≡◌, ℕ, zero, suc, ◌+◌, ◌*◌, ◌-◌, ◌<◌, ◌≤◌, Bool, true, false, if◌then◌else◌, arith, refl, sym, ap, subst, ◌∙◌}
-use Rattle.dev_board.proofs.SoundLaws.{sound_stays_on}
-use Rattle.dev_board.specs.Sound.{IsSound, Alike}
-use Rattle.dev_board.specs.State.{State, power_on}
-use Rattle.dev_board.specs.Step.{step, after_all}
+use Rattle.vms_board_commands.proofs.Facade.{◌≡◌, ℕ, zero, suc, ◌+◌, ◌*◌, ◌-◌, ◌<◌, ◌≤◌, Bool, true, false, if◌then◌else◌, arith, refl, sym, ap, subst, ◌∙◌}
+use Rattle.vms_board_commands.proofs.Facade.{sound_stays_on, IsSound, Alike, State, power_on, step, after_all, next_number, event_of, events_after, Progress}
+use Rattle.vms_board_commands.proofs.Facade.{drilled, is_save_due, saves_of, streams_are_short, STREAM_ROOM, Drill, drill_begun, bytes_after, stream_long}
+use Rattle.vms_board_commands.proofs.Facade.{with_drill_event, drilled_on, ProgressIsSame, SizesAreSmall, NumbersAre}
 use Rattle.vms_board_commands.proofs.DrillEventLaws.{event-is}
 use Rattle.vms_board_commands.proofs.DrillFoldLaws.{saves_leave_counts, save_may, save-left}
-use Rattle.vms_board_commands.specs.DrillEvents.{next_number, event_of, events_after}
-use Rattle.vms_board_commands.specs.DrillProgress.{Progress, drilled, is_save_due, saves_of}
-use Rattle.vms_board_streams.proofs.IsaBytes.{streams_are_short}
-use Rattle.vms_board_streams.specs.declared.memory.TheConstants.{STREAM_ROOM}
-use Rattle.vms_board_commands.specs.Drills.{Drill, drill_begun, bytes_after, stream_long, with_drill_event, drilled_on}
-use Rattle.vms_board_commands.specs.DrillLaws.{ProgressIsSame, SizesAreSmall, NumbersAre}
 
 progress-same : (count : ℕ) (drill : Drill) → (drilled_on count drill).progress ≡ drilled count drill.progress
 progress-same zero drill = refl

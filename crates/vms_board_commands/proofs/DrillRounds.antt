@@ -1,15 +1,7 @@
 -- A board goes on as the one that its own stream restores.
-use Rattle.std.proofs.Common.{◌≡◌, ℕ, List, length, Option, sym, ap, ◌∙◌, subst}
-use Rattle.dev_board.specs.Saved.{MaySaveUnder, restored}
-use Rattle.dev_board.specs.Sound.{IsSound}
-use Rattle.dev_board.specs.State.{State}
-use Rattle.vms_board_commands.specs.DrillProgress.{back_of, came_back}
-use Rattle.dev_images.proofs.BoardCarried.{saved_is_carried}
-use Rattle.vms_board.specs.Isa.{isa}
-use Rattle.vms_board.specs.Restoring.{Back, Refused, Restores}
-use Rattle.vms_board.specs.Saving.{saved_stream}
-use Rattle.vms_board_streams.proofs.IsaLaws.{streams_come_back}
-use Rattle.vms_spec.specs.declared.Reason.{Reason}
+use Rattle.vms_board_commands.proofs.Facade.{◌≡◌, ℕ, List, length, Option, sym, ap, ◌∙◌, subst, MaySaveUnder, restored, IsSound, State, back_of, came_back}
+use Rattle.vms_board_commands.proofs.Facade.{saved_is_carried, isa, Back, Restores, saved_stream, streams_come_back, Reason}
+use Rattle.vms_board.specs.Restoring.{Refused}
 
 module _ (set : ℕ) (m : State) (stream : List ℕ) (s : IsSound m) (may : MaySaveUnder m.level set) (is : stream ≡ saved_stream isa set m) where
   pub board_back : (other : State) (taken : ℕ) → Restores isa m.level stream (Back other taken) → other ≡ came_back set m

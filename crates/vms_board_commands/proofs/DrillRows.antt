@@ -1,8 +1,6 @@
 -- Worked drills: the events that seeds give.
-use Rattle.std.proofs.Common.{◌≡◌, [], ◌∷◌, map, true, false, refl}
-use Rattle.dev_board.specs.declared.event.Event.TheVariants.{Read, Write, Byte, Wait, Wire, Ack}
-use Rattle.vms_board_commands.specs.DrillEvents.{next_number, event_by, event_of, events_after}
-use Rattle.vms_board_commands.specs.DrillProgress.{is_save_due, set_of}
+use Rattle.vms_board_commands.proofs.Facade.{◌≡◌, [], ◌∷◌, map, true, false, refl, Read, Write, Byte, Wait, Wire, Ack, next_number, event_by, event_of}
+use Rattle.vms_board_commands.proofs.Facade.{events_after, is_save_due, set_of}
 
 acknowledges_first_of_seed_0 : events_after 0 1 ≡ Ack ∷ []
 unfolding next_number event_by event_of

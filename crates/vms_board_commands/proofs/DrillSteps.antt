@@ -1,15 +1,7 @@
 -- One event of a drill, and a save where one is due.
-use Rattle.std.proofs.Common.{◌≡◌, ℕ, suc, ◌+◌, ◌-◌, ◌/◌, ◌≤◌, true, false, length, eqb-true, refl, sym, ap, ◌∙◌, arith}
-use Rattle.dev_board.specs.State.{State}
-use Rattle.dev_board.specs.Step.{step}
-use Rattle.dev_board.specs.declared.event.Answer.{Answer}
-use Rattle.dev_board.specs.declared.event.Event.{Event}
-use Rattle.vms_board_commands.specs.DrillEvents.{next_number, event_of}
-use Rattle.vms_board_commands.specs.declared.drills.schedule.TheConstants.{BETWEEN_SAVES}
-use Rattle.vms_board_commands.specs.DrillProgress.{Counts, counted, is_save_due, set_of, saves_of, came_back, after_save}
-use Rattle.vms_board.specs.Isa.{isa}
-use Rattle.vms_board.specs.Saving.{saved_stream}
-use Rattle.vms_board_commands.specs.Drills.{Drill, bytes_after, taken_after, stream_long, drill_on, drilled_on, with_drill_event}
+use Rattle.vms_board_commands.proofs.Facade.{◌≡◌, ℕ, suc, ◌+◌, ◌-◌, ◌/◌, ◌≤◌, true, false, length, eqb-true, refl, sym, ap, ◌∙◌, arith, State, step, Answer}
+use Rattle.vms_board_commands.proofs.Facade.{Event, next_number, event_of, BETWEEN_SAVES, Counts, counted, is_save_due, set_of, saves_of, came_back, after_save}
+use Rattle.vms_board_commands.proofs.Facade.{isa, saved_stream, Drill, bytes_after, taken_after, stream_long, drill_on, drilled_on, with_drill_event}
 
 -- where a save is due there was one
 pub some_saves : (n : ℕ) → is_save_due (n + 1) ≡ true → 1 ≤ (n + 1) / BETWEEN_SAVES

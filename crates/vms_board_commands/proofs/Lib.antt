@@ -5,6 +5,7 @@ pub mod DrillLaws
 pub mod DrillRounds
 pub mod DrillRows
 pub mod DrillSteps
+pub mod Facade
 pub mod LoadLemmas
 pub mod LoadOutcome
 pub mod PlayLemmas

@@ -1,38 +1,12 @@
 -- The outcome of `load`, from the results of a restore and of a trace.
-use Rattle.std.proofs.Common.{◌≡◌, inl, inr, ℕ, ◌+◌, ◌≤◌, List, [], ◌∷◌, length, length-append, Option, Some, Ok, Err, arith, refl, sym, ap, ◌∙◌, subst}
-use Rattle.arrayvec.specs.ArrayVec.{ArrayVec}
-use Rattle.std.specs.Prelude.{IsSomeAnd}
-use Rattle.dev_board.specs.declared.event.Event.{Event}
-use Rattle.vms_board.specs.Comes.{IsRefused, RestoreReads}
-use Rattle.vms_board.specs.Restoring.{Back, Refused, Restores}
-use Rattle.vms_board.specs.Family.{Family}
-use Rattle.vms_board.specs.Standing.{Standing}
+use Rattle.vms_board_commands.proofs.Facade.{◌≡◌, inl, inr, ℕ, ◌+◌, ◌≤◌, List, [], ◌∷◌, length, length-append, Option, Some, Ok, Err, arith, refl, sym, ap, ◌∙◌}
+use Rattle.vms_board_commands.proofs.Facade.{subst, IsSomeAnd, ArrayVec, Event, IsRefused, RestoreReads, Back, Restores, Family, Standing, one_restore}
+use Rattle.vms_board_commands.proofs.Facade.{answers_to, trace_of, Refusal, Held, Intake, Outlet, Stock, reads_as, WritesAs, refused_line, Outcome, done, ended}
+use Rattle.vms_board_commands.proofs.Facade.{Ending, events_back, events_of, trace_from, ScriptLine, event_lines, FitsHeads, IsBytes, WellFormed, Reason}
+use Rattle.vms_board_commands.proofs.Facade.{fault_within, most_given, StepAs, Step, Untold, Gives, Ends, LoadGives, Loads, Traces, Faulty, Unfit, Seen}
+use Rattle.vms_board.specs.Restoring.{Refused}
 use Rattle.vms_board.specs.declared.restore.RestoreFault.TheVariants as restores
-use Rattle.vms_board_streams.proofs.BytesLaws.{one_restore}
-use Rattle.vms_board_streams.specs.Streams.{answers_to, trace_of}
-use Rattle.vms_frames.specs.declared.fault.Refusal.{Refusal}
-use Rattle.vms_io.specs.Shelves.{Held}
-use Rattle.vms_io.specs.Told.{Intake, Outlet, Stock}
-use Rattle.vms_io.proofs.ReadingLemmas.{reads_as}
-use Rattle.vms_commands.specs.Endings.{WritesAs}
-use Rattle.vms_commands.specs.Lines.{refused_line}
-use Rattle.vms_commands.specs.Outcomes.{Outcome, done, ended}
-use Rattle.vms_commands.specs.declared.ending.Ending.{Ending}
 use Rattle.vms_commands.specs.declared.ending.Ending.TheVariants as endings
-use Rattle.vms_session.proofs.RunLemmas.{events_back}
-use Rattle.vms_session.specs.Events.{events_of, trace_from}
-use Rattle.vms_script.specs.Lines.{ScriptLine}
-use Rattle.vms_script.specs.Views.{event_lines}
-use Rattle.vms_spec.specs.Heads.{FitsHeads}
-use Rattle.vms_kinds.specs.Bytes.{IsBytes}
-use Rattle.vms_spec.specs.WellFormed.{WellFormed}
-use Rattle.vms_spec.specs.declared.Reason.{Reason}
-use Rattle.vms_load.proofs.ExactLoads.{fault_within}
-use Rattle.vms_load.specs.Staging.{most_given}
-use Rattle.vms_commands.specs.StepEndings.{StepAs}
-use Rattle.vms_commands.specs.Steps.{Step, Untold, Gives, Ends}
-use Rattle.vms_board_commands.specs.Load.{LoadGives, Loads, Traces, Faulty, Unfit}
-use Rattle.vms_board_commands.specs.Seen.{Seen}
 use Rattle.vms_board_commands.proofs.SeenLemmas.{TakesSo, reads_all, seen_refused, seen_written}
 
 pub line_is : {S : Type 0} (kind : Family S) (place other : ℕ) (section section' : Option ℕ) (reason reason' : Reason) (n k : ℕ) → place ≡ other → section ≡ section' → reason ≡ reason' → n ≡ k

@@ -1,21 +1,9 @@
 -- An input and a script have one outcome of `load`.
-use Rattle.std.proofs.Common.{◌≡◌, inl, inr, ℕ, ◌+◌, List, [], ◌∷◌, Option, ap, ◌∙◌, sym}
-use Rattle.vms_board.specs.Restoring.{IsFaultAt, IsMisfitAt, Restore, Back, Refused, Restores}
-use Rattle.vms_board.specs.Family.{Family}
-use Rattle.vms_board_streams.proofs.BytesLaws.{bytes_come, no_fault, one_restore}
-use Rattle.vms_board_streams.specs.Streams.{answers_to, trace_of}
-use Rattle.vms_io.specs.Shelves.{Held}
-use Rattle.vms_commands.specs.Lines.{refused_line}
-use Rattle.vms_commands.specs.Outcomes.{Outcome, done, ended}
-use Rattle.vms_session.specs.Events.{events_of}
-use Rattle.vms_script.specs.Lines.{ScriptLine}
-use Rattle.vms_spec.specs.Heads.{FitsHeads}
-use Rattle.vms_kinds.specs.Bytes.{IsBytes}
-use Rattle.vms_spec.specs.WellFormed.{WellFormed}
-use Rattle.vms_spec.specs.declared.Reason.{Reason}
-use Rattle.vms_stream.proofs.Stated.{one_fault_holds}
+use Rattle.vms_board_commands.proofs.Facade.{◌≡◌, inl, inr, ℕ, ◌+◌, List, [], ◌∷◌, Option, ap, ◌∙◌, sym, IsFaultAt, IsMisfitAt, Restore, Back, Restores, Family}
+use Rattle.vms_board_commands.proofs.Facade.{bytes_come, no_fault, one_restore, answers_to, trace_of, Held, refused_line, Outcome, done, ended, events_of}
+use Rattle.vms_board_commands.proofs.Facade.{ScriptLine, FitsHeads, IsBytes, WellFormed, Reason, one_fault_holds, Loads, Traces, Faulty, Unfit}
+use Rattle.vms_board.specs.Restoring.{Refused}
 use Rattle.vms_board_commands.proofs.LoadLemmas.{done_is, line_is}
-use Rattle.vms_board_commands.specs.Load.{Loads, Traces, Faulty, Unfit}
 
 pub record OneLoad {S : Type 0} (kind : Family S) (level : ℕ) (lines : List ScriptLine) (bytes : List ℕ) (held : Option Held) : Type 0 where
   pub outcome : Outcome

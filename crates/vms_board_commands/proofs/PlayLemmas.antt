@@ -1,25 +1,10 @@
 -- The ending of `play`, from the results of its lines.
-use Rattle.std.proofs.Common.{◌≡◌, ℕ, ◌<◌, ◌≤◌, ◌^◌, List, [], length, take, drop, arith, inl, inr, Option, Some, None, Result, Ok, Err, refl, sym, ap, ◌∙◌, subst}
-use Rattle.std.specs.Prelude.{IsSomeAnd}
-use Rattle.std.specs.Io.KnownBytes.{Appends}
-use Rattle.dev_board.specs.State.{State, power_on}
-use Rattle.vms_io.specs.Shelves.{Held}
-use Rattle.vms_io.specs.Told.{Intake, Outlet, Stock}
-use Rattle.vms_commands.proofs.EndLemmas.{takes_nothing}
-use Rattle.vms_commands.proofs.StepLemmas.{mapped_by}
-use Rattle.vms_commands.specs.Endings.{DoneAs, EndsAs}
-use Rattle.vms_commands.specs.Outcomes.{Outcome, Part, ComesTo, FailsToStore, HoldsBut, stored_next, held_after, text_of}
-use Rattle.vms_session.specs.Parts.{Plays}
-use Rattle.vms_session.specs.Playing.{session_of, DoesSome, LinesEnd}
-use Rattle.vms_session.specs.declared.line.PlayFault.{PlayFault}
-use Rattle.vms_script.specs.Lines.{ScriptLine}
-use Rattle.vms_session.specs.Session.{Session}
-use Rattle.vms_commands.specs.declared.ending.Ending.{Ending}
-use Rattle.vms_commands.specs.declared.ending.Ending.TheVariants.{ReadFault, WriteFault, ShelfFault, NoMemory}
-use Rattle.vms_session.proofs.CourseLemmas.{rose_since}
-use Rattle.vms_session.proofs.PartLemmas.{begun_whole}
+use Rattle.vms_board_commands.proofs.Facade.{◌≡◌, ℕ, ◌<◌, ◌≤◌, ◌^◌, List, [], length, take, drop, arith, inl, inr, Option, Some, None, Result, Ok, Err, refl}
+use Rattle.vms_board_commands.proofs.Facade.{sym, ap, ◌∙◌, subst, IsSomeAnd, Appends, State, power_on, Held, Intake, Outlet, Stock, takes_nothing, mapped_by}
+use Rattle.vms_board_commands.proofs.Facade.{DoneAs, EndsAs, Outcome, Part, ComesTo, FailsToStore, HoldsBut, stored_next, held_after, text_of, Plays}
+use Rattle.vms_board_commands.proofs.Facade.{session_of, DoesSome, LinesEnd, PlayFault, ScriptLine, Session, Ending, ReadFault, WriteFault, ShelfFault}
+use Rattle.vms_board_commands.proofs.Facade.{NoMemory, rose_since, begun_whole, PlaysAll, ending_by}
 use Rattle.vms_session.specs.declared.line.PlayFault.TheVariants as faults
-use Rattle.vms_board_commands.specs.Play.{PlaysAll, ending_by}
 
 -- the parts and the session that the lines result in
 abbrev pub Content : List ScriptLine → State → State → (o o' : Outlet) (s s' : Stock) → Result Unit PlayFault → Type 0

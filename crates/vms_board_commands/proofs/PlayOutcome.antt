@@ -1,16 +1,8 @@
 -- A script has one outcome of `play`, whatever bytes the shelf holds.
-use Rattle.std.proofs.Common.{◌≡◌, ℕ, List, [], Some, sym, ap, ◌∙◌, refl, subst}
-use Rattle.dev_base.specs.Levels.{IsLevel}
-use Rattle.dev_board.proofs.SoundLaws.{power_on-sound}
-use Rattle.vms_io.specs.Shelves.{Held, HoldsAll}
-use Rattle.vms_commands.specs.Outcomes.{Outcome, Part}
-use Rattle.vms_script.specs.Grammar.{AreLines}
-use Rattle.vms_script.specs.Lines.{ScriptLine}
-use Rattle.vms_session.proofs.EndLaws.{sessions_end}
-use Rattle.vms_session.proofs.ScriptLaws.{sessions_are_one}
+use Rattle.vms_board_commands.proofs.Facade.{◌≡◌, ℕ, List, [], Some, sym, ap, ◌∙◌, refl, subst, IsLevel, power_on-sound, Held, HoldsAll, Outcome, Part}
+use Rattle.vms_board_commands.proofs.Facade.{AreLines, ScriptLine, sessions_end, sessions_are_one, PlaysAll}
 use Rattle.vms_session.specs.Session.{begun}
 use Rattle.vms_board_commands.proofs.SaveLemmas.{at_level}
-use Rattle.vms_board_commands.specs.Play.{PlaysAll}
 
 abbrev played : List Part → Outcome
 played parts = record { status = 0; parts = parts; note = []; taken = 0 }

@@ -1,16 +1,7 @@
 -- The ending of `save`, from the result of saving a board.
-use Rattle.std.proofs.Common.{◌≡◌, ℕ, List, Result, Ok, Err, refl, subst}
-use Rattle.std.specs.Io.KnownBytes.{Appends}
-use Rattle.dev_board.specs.State.{power_on}
-use Rattle.vms_board.specs.Saving.{Saves}
-use Rattle.vms_board.specs.declared.save.SaveFault.{SaveFault}
+use Rattle.vms_board_commands.proofs.Facade.{◌≡◌, ℕ, List, Result, Ok, Err, refl, subst, Appends, power_on, Saves, SaveFault, AppendsPrefix, Outlet}
+use Rattle.vms_board_commands.proofs.Facade.{stops_prefix, mapped_by, TextEnds, Gives}
 use Rattle.vms_board.specs.declared.save.SaveFault.TheVariants.{WriteFault, NoMemory}
-use Rattle.vms_io.specs.Causes.{AppendsPrefix}
-use Rattle.vms_io.specs.Told.{Outlet}
-use Rattle.vms_io.proofs.WritingLemmas.{stops_prefix}
-use Rattle.vms_commands.proofs.StepLemmas.{mapped_by}
-use Rattle.vms_commands.specs.StepEndings.{TextEnds}
-use Rattle.vms_commands.specs.Steps.{Gives}
 use Rattle.vms_board_commands.specs.Save.{ending_by}
 
 pub saved_ends : (bytes text : List ℕ) (o o' : Outlet) (r : Result Unit SaveFault) → bytes ≡ text → Saves bytes o o' r → TextEnds (Gives text) o o' (mapped_by ending_by r)

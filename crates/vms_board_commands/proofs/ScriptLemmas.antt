@@ -1,22 +1,8 @@
 -- A script that is fetched and read, as a step.
-use Rattle.std.proofs.Common.{◌≡◌, ℕ, List, Option, Result, None, Ok, Err, IfOk, IsErrAnd, refl, sym, subst, Bool, true, Some}
-use Rattle.std.specs.declared.alloc.Global.{Global}
-use Rattle.std.specs.declared.vec.Vec.{Vec}
-use Rattle.dev_board.specs.Laws.{AreEvents}
-use Rattle.dev_board.specs.declared.event.Event.{Event}
-use Rattle.vms_io.specs.Shelving.{Looks}
-use Rattle.vms_io.specs.Told.{Stock}
-use Rattle.vms_commands.specs.Endings.{SetCause}
-use Rattle.vms_commands.specs.StepEndings.{Asks, FetchCause, HadCause, ReadCause}
-use Rattle.vms_commands.specs.declared.ending.Ending.{Ending}
-use Rattle.vms_commands.specs.declared.ending.Ending.TheVariants.{BadText, ShelfFault, NotThere, TooLarge, NoMemory}
-use Rattle.vms_session.proofs.RunLemmas.{are_events}
-use Rattle.vms_script.proofs.GrammarOnly.{reads_exactly}
-use Rattle.vms_script.specs.Grammar.{AreLines}
-use Rattle.vms_script.specs.Lines.{ScriptLine}
-use Rattle.vms_script.specs.Script.{Reading, script_read}
-use Rattle.vms_script.specs.Views.{event_lines, ReadsLines}
-use Rattle.vms_script.specs.declared.line.ScriptFault.{ScriptFault}
+use Rattle.vms_board_commands.proofs.Facade.{◌≡◌, ℕ, List, Option, Result, None, Ok, Err, IfOk, IsErrAnd, refl, sym, subst, Bool, true, Some, Global, Vec}
+use Rattle.vms_board_commands.proofs.Facade.{AreEvents, Event, Looks, Stock, SetCause, Asks, FetchCause, HadCause, ReadCause, Ending, BadText, ShelfFault}
+use Rattle.vms_board_commands.proofs.Facade.{NotThere, TooLarge, NoMemory, are_events, reads_exactly, AreLines, ScriptLine, Reading, script_read, event_lines}
+use Rattle.vms_board_commands.proofs.Facade.{ReadsLines, ScriptFault}
 
 module _ {T : Type 0} (lines : T → List ScriptLine) where
   -- lines that are read may be in a script

@@ -1,20 +1,9 @@
 -- The step that gives a script. It is known if the shelf is, never ends with the status 0, and
 -- gives lines that may be in a script.
-use Rattle.std.proofs.Common.{◌≡◌, ℕ, ◌≤◌, List, length, Option, Some, None, Ok, Err, refl, ap, ◌∙◌, arith}
-use Rattle.vms_board.specs.Family.{Family}
-use Rattle.vms_board.specs.Saving.{saved_stream}
-use Rattle.vms_board_streams.specs.Streams.{after_events}
-use Rattle.vms_io.specs.Shelves.{Held}
-use Rattle.vms_commands.proofs.StepLemmas.{IsSound, fetched_gives, sound_fetch, sound_next}
-use Rattle.vms_commands.specs.Fetching.{fetched}
-use Rattle.vms_commands.specs.Steps.{Step, Untold, Gives, Ends, next}
-use Rattle.vms_session.specs.Events.{events_of}
-use Rattle.vms_script.proofs.GrammarOnly.{reads_exactly}
-use Rattle.vms_script.specs.Grammar.{AreLines}
-use Rattle.vms_script.specs.Lines.{ScriptLine}
-use Rattle.vms_script.specs.Script.{Reading, script_read}
-use Rattle.vms_board_commands.specs.Save.{saved_after}
-use Rattle.vms_board_commands.specs.Scripts.{longest_script, said_lines, scripted}
+use Rattle.vms_board_commands.proofs.Facade.{◌≡◌, ℕ, ◌≤◌, List, length, Option, Some, None, Ok, Err, refl, ap, ◌∙◌, arith, Family, saved_stream, after_events}
+use Rattle.vms_board_commands.proofs.Facade.{Held, fetched_gives, sound_fetch, sound_next, fetched, Step, Untold, Gives, Ends, next, events_of, reads_exactly}
+use Rattle.vms_board_commands.proofs.Facade.{AreLines, ScriptLine, Reading, script_read, saved_after, longest_script, said_lines, scripted}
+use Rattle.vms_commands.proofs.StepLemmas.{IsSound}
 
 sound_said : (held : Option Held) (r : Reading) → IsSound held (said_lines r)
 sound_said held (Ok lines) = tt

@@ -1,31 +1,11 @@
 -- What can be said of an input: from the calls that read it to the ending of a command.
-use Rattle.std.proofs.Common.{◌≡◌, ℕ, ◌+◌, ◌≤◌, Bool, false, List, [], ◌∷◌, ◌++◌, length, drop, drop_at, Option, Some, None, Ok, Err, IfSome, refl, sym, ap, ◌∙◌, subst, arith, length-append, length-drop}
-use Rattle.std.specs.Io.KnownBytes.{Consumes}
-use Rattle.std.specs.Prelude.{IsSomeAnd}
-use Rattle.std.proofs.lemmas.Option.{same_Some}
-use Rattle.arrayvec.specs.ArrayVec.{ArrayVec}
-use Rattle.vms_io.proofs.ReadingLemmas.{reads_as, reads_told}
-use Rattle.vms_io.specs.Causes.{capped}
-use Rattle.vms_io.specs.Reading.{Last, Reads, Takes}
-use Rattle.vms_io.specs.Told.{Intake, Outlet, Stock}
-use Rattle.vms_kinds.specs.Bytes.{IsBytes}
-use Rattle.vms_spec.specs.Images.{Image}
-use Rattle.vms_spec.specs.Sets.{Set}
-use Rattle.vms_stream.specs.Faults.{Fault}
-use Rattle.vms_frames.specs.declared.fault.Refusal.{Refusal}
-use Rattle.vms_load.specs.Going.{LoadReads}
+use Rattle.vms_board_commands.proofs.Facade.{◌≡◌, ℕ, ◌+◌, ◌≤◌, Bool, false, List, [], ◌∷◌, ◌++◌, length, drop, drop_at, Option, Some, None, Ok, Err, IfSome}
+use Rattle.vms_board_commands.proofs.Facade.{refl, sym, ap, ◌∙◌, subst, arith, length-append, length-drop, Consumes, IsSomeAnd, same_Some, ArrayVec, reads_as}
+use Rattle.vms_board_commands.proofs.Facade.{reads_told, capped, Last, Reads, Takes, Intake, Outlet, Stock, IsBytes, Image, Set, Fault, Refusal, LoadReads}
+use Rattle.vms_board_commands.proofs.Facade.{fault_within, wrong, text_written, is_among, EndsAs, EndsWith, SetCause, WritesAs, status_of, Outcome, TakesBytes}
+use Rattle.vms_board_commands.proofs.Facade.{done, ended, StepAs, Step, Untold, Gives, Ends, Ending, Refused, WouldLose, BadText, ShelfFault, NotThere}
+use Rattle.vms_board_commands.proofs.Facade.{TooLarge, NoMemory, IsGiven, Seen, SeenAs, Sees, WithGiven}
 use Rattle.vms_load.specs.declared.fault.LoadFault.TheVariants as loads
-use Rattle.vms_load.proofs.ExactLoads.{fault_within}
-use Rattle.vms_commands.proofs.CourseLemmas.{wrong}
-use Rattle.vms_commands.proofs.EndLemmas.{text_written}
-use Rattle.vms_commands.specs.Courses.{is_among}
-use Rattle.vms_commands.specs.Endings.{EndsAs, EndsWith, SetCause, WritesAs, status_of}
-use Rattle.vms_commands.specs.Outcomes.{Outcome, TakesBytes, done, ended}
-use Rattle.vms_commands.specs.StepEndings.{StepAs}
-use Rattle.vms_commands.specs.Steps.{Step, Untold, Gives, Ends}
-use Rattle.vms_commands.specs.declared.ending.Ending.{Ending}
-use Rattle.vms_commands.specs.declared.ending.Ending.TheVariants.{Refused, WouldLose, BadText, ShelfFault, NotThere, TooLarge, NoMemory}
-use Rattle.vms_board_commands.specs.Seen.{IsGiven, Seen, SeenAs, Sees, WithGiven}
 
 -- ---- what is read
 

@@ -1,16 +1,8 @@
 -- A restore of bytes has exactly one outcome.
-use Rattle.std.proofs.Common.{◌≡◌, ◌⊎◌, inl, inr, ℕ, List, [], ◌∷◌, Option, Result, Ok, Err, refl, sym, ap, ◌∙◌}
-use Rattle.dev_board.specs.declared.misfit.Misfit.{Misfit}
-use Rattle.vms_spec.specs.Heads.{FitsHeads}
-use Rattle.vms_spec.specs.Images.{Image}
-use Rattle.vms_kinds.specs.Bytes.{IsBytes}
-use Rattle.vms_spec.specs.WellFormed.{WellFormed}
-use Rattle.vms_spec.specs.declared.Reason.{Reason}
-use Rattle.vms_stream.proofs.Stated.{one_stream_holds, one_fault_holds, never_both_holds, either_holds}
-use Rattle.vms_stream.specs.StreamLaws.{Answer, Taken, Faulty}
-use Rattle.vms_board.specs.Family.{Family, lists_in}
-use Rattle.vms_board.specs.Restoring.{TakesBoard, IsFaultAt, IsMisfitAt, misfit_section, misfit_reason, Restore, Back, Refused, Restores}
-use Rattle.vms_board_streams.specs.Streams.{BytesAreOne}
+use Rattle.vms_board_streams.proofs.Facade.{◌≡◌, ◌⊎◌, inl, inr, ℕ, List, [], ◌∷◌, Option, Result, Ok, Err, refl, sym, ap, ◌∙◌, Misfit, FitsHeads, Image}
+use Rattle.vms_board_streams.proofs.Facade.{IsBytes, WellFormed, Reason, one_stream_holds, one_fault_holds, never_both_holds, either_holds, Answer, Taken}
+use Rattle.vms_board_streams.proofs.Facade.{Faulty, Family, lists_in, TakesBoard, IsFaultAt, IsMisfitAt, misfit_section, misfit_reason, Restore, Back, Refused}
+use Rattle.vms_board_streams.proofs.Facade.{Restores, BytesAreOne}
 
 pub same_ok : {S : Type 0} (m n : S) (r : Result S Misfit) → r ≡ Ok m → r ≡ Ok n → m ≡ n
 same_ok m n r e f = cc

@@ -1,17 +1,7 @@
 -- The streams of the boards clk-1 and clk-2 are short, and are bytes.
-use Rattle.std.proofs.Common.{ℕ, zero, suc, ◌<◌, ◌≤◌, arith}
-use Rattle.vms_kinds.specs.declared.TheConstants.{NEWEST_CLOCK_SET}
-use Rattle.dev_clock.specs.Sound.{IsSound}
-use Rattle.vms_desc.proofs.Bounds.{none_is}
-use Rattle.vms_desc.proofs.Formed.{clock_formed}
-use Rattle.vms_desc.specs.Formed.{clock_set}
-use Rattle.vms_load.proofs.StreamLengths.{devices_long}
-use Rattle.vms_selfdesc.proofs.Bounds.{clock_holds}
-use Rattle.vms_spec.specs.Layout.{first}
-use Rattle.vms_spec.specs.WellFormed.{WellFormed, first_fault}
-use Rattle.vms_board.specs.Clock.{clock, clock_machine}
+use Rattle.vms_board_streams.proofs.Facade.{ℕ, zero, suc, ◌<◌, ◌≤◌, arith, NEWEST_CLOCK_SET, IsSound, none_is, clock_formed, clock_set, devices_long}
+use Rattle.vms_board_streams.proofs.Facade.{clock_holds, first, WellFormed, first_fault, clock, clock_machine, StreamsAreShort, StreamsAreBytes}
 use Rattle.vms_board_streams.proofs.FamilyBytes.{IsMachineName, IsSmall, family_short, family_bytes}
-use Rattle.vms_board_streams.specs.Streams.{StreamsAreShort, StreamsAreBytes}
 
 pub well : (set : ℕ) → WellFormed (clock_set set)
 well set = none_is (first_fault (clock_set set)) (clock_formed set)

@@ -1,8 +1,5 @@
 -- Laws of the streams of the boards clk-1 and clk-2.
-use Rattle.dev_clock.specs.Sound.{IsSound, Alike}
-use Rattle.vms_board.specs.Clock.{clock}
-use Rattle.vms_board.specs.ClockStands.{clock_stands}
-use Rattle.vms_board_streams.specs.Streams.{StreamsComeBack, BoardsGoOn, BytesAreOne}
+use Rattle.vms_board_streams.proofs.Facade.{IsSound, Alike, clock, clock_stands, StreamsComeBack, BoardsGoOn, BytesAreOne}
 use Rattle.vms_board_streams.proofs.FamilyLaws as laws
 use Rattle.vms_board_streams.proofs.BytesLaws as bytes
 use Rattle.vms_board_streams.proofs.ClockStreams.{clock_streams_stand}

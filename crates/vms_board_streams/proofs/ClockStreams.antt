@@ -1,14 +1,7 @@
 -- The properties that the laws of streams need of the boards clk-1 and clk-2.
-use Rattle.std.proofs.Common.{arith}
-use Rattle.dev_clock.proofs.AlikeLaws.{alike_stays}
-use Rattle.dev_clock.specs.Sound.{IsSound, Alike}
-use Rattle.dev_clock_images.proofs.ClockCarried.{images_come_back}
-use Rattle.dev_clock_images.proofs.ClockSets.{sets_are_compatible}
-use Rattle.dev_clock_images.specs.Images.{saved_images}
-use Rattle.vms_board.specs.Clock.{clock}
-use Rattle.vms_selfdesc.proofs.Bounds.{clock_holds}
+use Rattle.vms_board_streams.proofs.Facade.{arith, alike_stays, IsSound, Alike, images_come_back, sets_are_compatible, saved_images, clock, clock_holds}
+use Rattle.vms_board_streams.proofs.Facade.{StreamsStand}
 use Rattle.vms_board_streams.proofs.ClockBytes.{streams_are_bytes, well}
-use Rattle.vms_board_streams.specs.Streams.{StreamsStand}
 
 pub clock_streams_stand : StreamsStand clock Alike IsSound
 clock_streams_stand = record {

@@ -1,16 +1,8 @@
 -- The streams of the boards of a family are short, and are bytes.
-use Rattle.std.proofs.Common.{ℕ, ◌<◌, ◌≤◌, List, length, get_or, Some, arith}
-use Rattle.vms_load.proofs.StreamLengths.{devices_long, stream_le}
-use Rattle.vms_selfdesc.specs.Tree.{described_text}
-use Rattle.vms_spec.specs.Images.{Image}
-use Rattle.vms_spec.specs.Streams.{written}
-use Rattle.vms_spec.specs.WellFormed.{WellFormed}
-use Rattle.vms_stream.proofs.WrittenBytes.{AreBytes, bytes_at, written_are_bytes}
-use Rattle.vms_board.specs.Family.{Family, MaySaveIn, images_saved}
-use Rattle.vms_board.specs.Saving.{saved_text, saved_stream}
-use Rattle.vms_board_streams.specs.declared.memory.TheConstants.{STREAM_ROOM}
+use Rattle.vms_board_streams.proofs.Facade.{ℕ, ◌<◌, ◌≤◌, List, length, get_or, Some, arith, devices_long, stream_le, described_text, Image, written, WellFormed}
+use Rattle.vms_board_streams.proofs.Facade.{AreBytes, bytes_at, written_are_bytes, Family, MaySaveIn, images_saved, saved_text, saved_stream, STREAM_ROOM}
+use Rattle.vms_board_streams.proofs.Facade.{StreamsAreShort, StreamsAreBytes}
 use Rattle.vms_board_streams.proofs.TextBytes.{text_is_bytes}
-use Rattle.vms_board_streams.specs.Streams.{StreamsAreShort, StreamsAreBytes}
 
 -- at most five bytes
 pub record IsMachineName (name : List ℕ) : Type 0 where

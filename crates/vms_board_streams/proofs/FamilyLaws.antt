@@ -1,26 +1,11 @@
 -- The stream of a board of a family restores a board like it.
-use Rattle.std.proofs.Common.{◌≡◌, inl, inr, ℕ, zero, suc, ◌-◌, ◌≤◌, ◌||◌, Bool, true, false, List, [], ◌∷◌, length, Option, Some, None, IfSome, Ok, ℤ, arith, refl, sym, ap, subst, ◌∙◌, append-nil}
-use Rattle.std.specs.List.{slice_get}
-use Rattle.std.specs.Str.{bytes_eq}
-use Rattle.std.proofs.lemmas.Slice.Eq.{bytes_eq-Decides}
-use Rattle.dev_board.specs.Step.{answers_by}
-use Rattle.dev_board.specs.declared.event.Event.{Event}
-use Rattle.vms_spec.specs.Images.{Image}
-use Rattle.vms_kinds.specs.Bytes.{IsBytes}
-use Rattle.vms_spec.specs.Sets.{Set}
-use Rattle.vms_spec.specs.Streams.{IsConfiguration, is_one_of}
-use Rattle.vms_spec.specs.declared.Reason.{Reason}
-use Rattle.vms_spec.specs.WellFormed.{WellFormed}
-use Rattle.vms_stream.proofs.Stated.{one_stream_holds, never_both_holds}
-use Rattle.vms_stream.specs.StreamLaws.{IsWholeStream}
-use Rattle.vms_stream.specs.Streams.{Takes}
-use Rattle.vms_check_laws.proofs.Streaming.{upgrade_stands}
-use Rattle.vms_board.specs.Family.{Family, MaySaveIn, Stands, images_saved, lists_in}
-use Rattle.vms_board.specs.Restoring.{TakesBoard, Back, Refused, Restores}
-use Rattle.vms_board.specs.Saving.{saved_text, saved_stream, stream_with}
+use Rattle.vms_board_streams.proofs.Facade.{◌≡◌, inl, inr, ℕ, ◌-◌, ◌≤◌, ◌||◌, Bool, true, false, List, [], ◌∷◌, length, Option, Some, None, IfSome, Ok, ℤ}
+use Rattle.vms_board_streams.proofs.Facade.{arith, refl, sym, ap, subst, ◌∙◌, append-nil, bytes_eq, bytes_eq-Decides, answers_by, Event, Image, IsBytes, Set}
+use Rattle.vms_board_streams.proofs.Facade.{IsConfiguration, is_one_of, Reason, WellFormed, one_stream_holds, never_both_holds, IsWholeStream, Takes}
+use Rattle.vms_board_streams.proofs.Facade.{upgrade_stands, Family, MaySaveIn, Stands, images_saved, lists_in, TakesBoard, Back, Refused, Restores, saved_text}
+use Rattle.vms_board_streams.proofs.Facade.{saved_stream, stream_with, StreamsStand, StreamComesBack, StreamsComeBack, BoardsGoOn, IsContinued, HasRoomFor}
+use Rattle.vms_board_streams.proofs.Facade.{answers_to, trace_of, images_carried, is_among}
 use Rattle.vms_board_streams.proofs.BytesLaws.{same_ok, never_each}
-use Rattle.vms_board_streams.specs.Streams.{StreamsStand, StreamComesBack, StreamsComeBack, BoardsGoOn, IsContinued, HasRoomFor, answers_to, trace_of, images_carried}
-use Rattle.vms_check.proofs.SelfLaws.{is_among}
 
 -- ---- one accepted name
 

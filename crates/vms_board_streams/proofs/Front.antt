@@ -1,5 +1,5 @@
 -- A single byte as a list.
-use Rattle.std.proofs.Common.{◌≡◌, ℕ, List, [], ◌∷◌, length, get_or, ap, arith}
+use Rattle.vms_board_streams.proofs.Facade.{◌≡◌, ℕ, List, [], ◌∷◌, length, get_or, ap, arith}
 
 -- a piece of one byte is that byte
 pub one_piece : (piece : List ℕ) (x d : ℕ) → length piece ≡ 1 → x ≡ get_or piece 0 d → (x ∷ []) ≡ piece

@@ -1,17 +1,8 @@
 -- The streams of the boards isa-1 to isa-4 are short, and are bytes.
-use Rattle.std.proofs.Common.{ℕ, zero, suc, ◌<◌, ◌≤◌, arith}
-use Rattle.dev_base.specs.declared.limits.TheConstants.{NEWEST}
+use Rattle.vms_board_streams.proofs.Facade.{ℕ, zero, suc, ◌<◌, ◌≤◌, arith, NEWEST, none_is, formed, shipped_set, devices_long, shipped_holds, first, WellFormed}
+use Rattle.vms_board_streams.proofs.Facade.{first_fault, isa, machine_of, StreamsAreShort, StreamsAreBytes}
 use Rattle.dev_board.specs.Sound.{IsSound}
-use Rattle.vms_desc.proofs.Bounds.{none_is}
-use Rattle.vms_desc.proofs.Formed.{formed}
-use Rattle.vms_desc.specs.Formed.{shipped_set}
-use Rattle.vms_load.proofs.StreamLengths.{devices_long}
-use Rattle.vms_selfdesc.proofs.Bounds.{shipped_holds}
-use Rattle.vms_spec.specs.Layout.{first}
-use Rattle.vms_spec.specs.WellFormed.{WellFormed, first_fault}
-use Rattle.vms_board.specs.Isa.{isa, machine_of}
 use Rattle.vms_board_streams.proofs.FamilyBytes.{IsMachineName, IsSmall, family_short, family_bytes}
-use Rattle.vms_board_streams.specs.Streams.{StreamsAreShort, StreamsAreBytes}
 
 pub well : (set : ℕ) → WellFormed (shipped_set set)
 well set = none_is (first_fault (shipped_set set)) (formed set)

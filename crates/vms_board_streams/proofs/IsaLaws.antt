@@ -1,8 +1,6 @@
 -- Laws of the streams of the boards isa-1 to isa-4.
+use Rattle.vms_board_streams.proofs.Facade.{isa, isa_stands, StreamsComeBack, BoardsGoOn, BytesAreOne}
 use Rattle.dev_board.specs.Sound.{IsSound, Alike}
-use Rattle.vms_board.specs.Isa.{isa}
-use Rattle.vms_board.specs.IsaStands.{isa_stands}
-use Rattle.vms_board_streams.specs.Streams.{StreamsComeBack, BoardsGoOn, BytesAreOne}
 use Rattle.vms_board_streams.proofs.FamilyLaws as laws
 use Rattle.vms_board_streams.proofs.BytesLaws as bytes
 use Rattle.vms_board_streams.proofs.IsaStreams.{isa_streams_stand}

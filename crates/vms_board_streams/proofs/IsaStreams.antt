@@ -1,19 +1,11 @@
 -- The properties that the laws of streams need of the boards isa-1 to isa-4.
-use Rattle.std.proofs.Common.{◌≡◌, ℕ, ◌≤◌, Bool, true, false, nat_lt, arith, refl, sym, subst}
-use Rattle.std.proofs.lemmas.Bool.{ltb-true, ltb-false}
-use Rattle.dev_base.specs.declared.limits.TheConstants.{NEWEST}
+use Rattle.vms_board_streams.proofs.Facade.{◌≡◌, ℕ, ◌≤◌, Bool, true, false, nat_lt, arith, refl, sym, subst, ltb-true, ltb-false, NEWEST, shipped_compatible}
+use Rattle.vms_board_streams.proofs.Facade.{Compatible, first_mismatch, shipped_set, shipped_holds, first, isa, StreamsStand}
 use Rattle.dev_board.proofs.AlikeLaws.{alike_stays}
 use Rattle.dev_board.specs.Sound.{IsSound, Alike}
 use Rattle.dev_images.proofs.BoardCarried.{images_come_back}
-use Rattle.vms_check.proofs.ShippedLaws.{shipped_compatible}
-use Rattle.vms_check.specs.Comparing.{Compatible, first_mismatch}
-use Rattle.vms_desc.specs.Formed.{shipped_set}
-use Rattle.vms_selfdesc.proofs.Bounds.{shipped_holds}
-use Rattle.vms_spec.specs.Layout.{first}
 use Rattle.dev_images.specs.Images.{saved_images}
-use Rattle.vms_board.specs.Isa.{isa}
 use Rattle.vms_board_streams.proofs.IsaBytes.{streams_are_bytes, well}
-use Rattle.vms_board_streams.specs.Streams.{StreamsStand}
 
 newest_itself : Compatible (shipped_set NEWEST) (shipped_set NEWEST)
 unfolding first_mismatch first

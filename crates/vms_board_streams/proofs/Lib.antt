@@ -2,6 +2,7 @@ pub mod BytesLaws
 pub mod ClockBytes
 pub mod ClockLaws
 pub mod ClockStreams
+pub mod Facade
 pub mod FamilyBytes
 pub mod FamilyLaws
 pub mod Front

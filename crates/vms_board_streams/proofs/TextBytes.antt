@@ -1,29 +1,16 @@
 -- The description of a set's devices is bytes: names are, and the rest is ASCII.
-use Rattle.std.proofs.Common.{◌≡◌, ℕ, zero, suc, ◌+◌, ◌<◌, ◌&&◌, List, [], ◌∷◌, ◌++◌, length, map, get_or, ℤ, Bool, true, false, nat_lt, refl, sym, subst, arith, Option, Some, None, is_some, decimal, codes}
-use Rattle.std.proofs.lemmas.Bool.{and_parts}
-use Rattle.std.proofs.lemmas.Option.{get_or_from_slice_get}
-use Rattle.std.specs.List.{AllByRecursion, slice_get, list_all}
-use Rattle.serde_json.specs.View.{items_of}
-use Rattle.vms_kinds.specs.declared.Kind.{Kind}
-use Rattle.vms_kinds.specs.declared.Item.{Item}
-use Rattle.vms_kinds.specs.declared.Item.TheVariants.{Num, Equal, Unused, Struct}
-use Rattle.vms_kinds.specs.Codes.{width}
-use Rattle.vms_spec.specs.declared.Count.{Count}
-use Rattle.vms_spec.specs.declared.Count.TheVariants.{One, Fixed, Counted}
-use Rattle.vms_spec.specs.Images.{Image, own_cells}
-use Rattle.vms_spec.proofs.Tables.{one_more}
-use Rattle.vms_spec.proofs.WellFormedLaws.{Clean, get_none, struct_clean, device_parts, sub_clean}
-use Rattle.vms_spec.specs.Layout.{no_desc, first, item_size, counted, capacity_of, field_cells, numbers_of, desc_cells, struct_cells, all_hold}
-use Rattle.vms_spec.specs.Names.{is_name}
-use Rattle.vms_spec.specs.Sets.{Field, Desc, Sub, Device, Set}
-use Rattle.vms_spec.specs.WellFormed.{WellFormed, struct_rules, device_rules, sub_rules}
-use Rattle.vms_stream.proofs.WrittenBytes.{AllSubs, AllParts, EachPart, all_parts, AreBytes, is_named, parts_named}
-use Rattle.vms_elements.specs.Elements.{What, Number, Constant, Filler, Rule, Element, Shape, no_shape, shape, shapes, cells_in, dotted, behind, single, index_text, item_elements, Stand, stand_of, array_elements, field_elements, elements_from, desc_elements}
-use Rattle.vms_elements.specs.Parts.{elements_in}
-use Rattle.vms_elements.proofs.Members.{Each, each_append, each_map}
-use Rattle.vms_selfdesc.specs.Entries.{Entry, cell_entry, sent_entry, listed_if, entry_of, entries_of, part_entries}
-use Rattle.vms_selfdesc.specs.Tree.{sub_trees, device_tree, device_trees, described_tree, described_text}
-use Rattle.vms_selfdesc.proofs.JsonBytes.{HasLetters, ItemsHave, Allows, IsSpelled, AreSpelled, all_append, decimal_good, text_good, word, kind_letters, sub_letters, device_letters, devices_letters}
+use Rattle.vms_board_streams.proofs.Facade.{◌≡◌, ℕ, zero, suc, ◌+◌, ◌<◌, ◌&&◌, List, [], ◌∷◌, ◌++◌, length, map, get_or, ℤ, Bool, true, false, nat_lt, refl}
+use Rattle.vms_board_streams.proofs.Facade.{sym, subst, arith, Option, Some, None, is_some, decimal, codes, and_parts, get_or_from_slice_get, AllByRecursion}
+use Rattle.vms_board_streams.proofs.Facade.{slice_get, list_all, items_of, Kind, Item, Num, Equal, Unused, Struct, width, Count, One, Fixed, Counted, Image}
+use Rattle.vms_board_streams.proofs.Facade.{own_cells, one_more, Clean, get_none, struct_clean, device_parts, sub_clean, no_desc, first, item_size, counted}
+use Rattle.vms_board_streams.proofs.Facade.{capacity_of, field_cells, numbers_of, desc_cells, struct_cells, all_hold, is_name, Field, Desc, Sub, Device, Set}
+use Rattle.vms_board_streams.proofs.Facade.{WellFormed, struct_rules, device_rules, sub_rules, AllSubs, AllParts, EachPart, all_parts, AreBytes, is_named}
+use Rattle.vms_board_streams.proofs.Facade.{parts_named, What, Number, Constant, Filler, Rule, Element, Shape, no_shape, shape, shapes, cells_in, dotted}
+use Rattle.vms_board_streams.proofs.Facade.{behind, single, index_text, item_elements, Stand, stand_of, array_elements, field_elements, elements_from}
+use Rattle.vms_board_streams.proofs.Facade.{desc_elements, elements_in, Each, each_append, each_map, Entry, cell_entry, sent_entry, listed_if, entry_of}
+use Rattle.vms_board_streams.proofs.Facade.{entries_of, part_entries, sub_trees, device_tree, device_trees, described_tree, described_text, HasLetters}
+use Rattle.vms_board_streams.proofs.Facade.{ItemsHave, Allows, IsSpelled, AreSpelled, all_append, decimal_good, text_good, word, kind_letters, sub_letters}
+use Rattle.vms_board_streams.proofs.Facade.{device_letters, devices_letters}
 
 abbrev Byte : ℕ → Type 0
 Byte b = b < 256

@@ -59,8 +59,8 @@ module _ (sides : Sides) where
 
   item_aligns : (i j : Item) (caps caps' : List ℕ) (d : ℤ) (x y : ℕ) → Pairs two below below' i j → FitsAt (item_cells olds i caps d) numbers x
       → SlotsAlign (item_slots ms i caps numbers x) (item_slots ns j caps' numbers' y)
-  item_aligns (Num k) (Num l) caps caps' d x y pair fits = aligns_number numbers numbers' x y k l caps caps' (kinds_same k l pair.same)
-  item_aligns (Equal k z) (Equal l u) caps caps' d x y pair fits = aligns_constant numbers numbers' k l z u (kinds_same k l pair.same)
+  item_aligns (Num k) (Num l) caps caps' d x y pair fits = aligns_number _ _ x y k l caps caps' (kinds_same k l pair.same)
+  item_aligns (Equal k z) (Equal l u) caps caps' d x y pair fits = aligns_constant _ _ k l z u (kinds_same k l pair.same)
   item_aligns (Unused m) (Unused r) caps caps' d x y pair fits = aligns_filler numbers numbers' _ r (filler_length numbers m ∙ eqb-true m r pair.same)
   item_aligns (Struct i) (Struct j) caps caps' d x y pair fits = ((table.rows j pair.low').meets i pair.low pair.structs x fits).aligned y
   item_aligns _ _ caps caps' d x y pair fits = absurd (cc)
@@ -68,7 +68,7 @@ module _ (sides : Sides) where
   items_align : (i j : Item) (caps caps' : List ℕ) (d : ℤ) (m most p step x y step' : ℕ) → Pairs two below below' i j → m ≤ most
       → FitsAt (times most (λ _. item_cells olds i caps d) p step) numbers x
       → SlotsAlign (times m (item_slots ms i caps numbers) x (old_size i)) (times m (item_slots ns j caps' numbers') y step')
-  items_align i j caps caps' d zero most p step x y step' pair le fits = aligns_nil numbers numbers'
+  items_align i j caps caps' d zero most p step x y step' pair le fits = aligns_nil _ _
   items_align i j caps caps' d (suc m) zero p step x y step' pair le fits = absurd (omega arith)
   items_align i j caps caps' d (suc m) (suc most) p step x y step' pair le fits =
       aligns_append numbers numbers' _ _ _ _ (item_aligns i j caps caps' d x y pair (fits_left _ fits))
@@ -99,7 +99,7 @@ module _ (sides : Sides) where
   one_same k l caps caps' x y e body r r' s h =
       let z = get_or numbers x (pos 0) in
       let u = get_or numbers' y (pos 0) in
-      let same = same_bytes numbers _ numbers' _ (aligns_number numbers numbers' x y k l caps caps' e) body r r' s h in
+      let same = same_bytes numbers _ numbers' _ (aligns_number _ _ x y k l caps caps' e) body r r' s h in
       rw (← e) (same_code k z u (rw (← ((apart (code l u) (code k z) [] s.0 (rw (length-code, length-code, e)) (sym s.1 ∙ same)).0), e)))
 
   number_same : (j i : Item) (d c : Count) (t t' : Bool) (caps caps' : List ℕ) (x y step step' : ℕ) → is_num j ≡ true → is_one d ≡ true → same_item i j ≡ true
@@ -115,9 +115,9 @@ module _ (sides : Sides) where
       → (body r r' : List ℕ) → Spells numbers' (NewSlots f) body → body ++ r' ≡ zeroed numbers (OldSlots e) ++ r → own e.index ≡ own' f.index
   pair_same e f met is body r r' spells h =
       let q = named_pair sides e f met is in
-      met.known.number ∙ number_same f.field.item e.field.item f.field.count e.field.count _ _ _ _ _ _ _ _
+      met.known.number ∙ number_same _ _ _ _ _ _ _ _ _ _ _ _
       q.plain.item q.plain.count q.matched.item q.matched.count q.there_is
-      (known_there ns b.fields w numbers' at' f met.known' q.rest own' no_parent) body r r' spells h ∙ sym met.known'.number
+      (known_there ns b.fields w numbers' at' f met.known' q.rest own' _) body r r' spells h ∙ sym met.known'.number
 
   -- ---- position by position
 
@@ -179,7 +179,7 @@ module _ (sides : Sides) where
         → body ++ r' ≡ zeroed numbers (OldSlots e ++ more_old) ++ r → Past p i e f es fs more_old more_new r r'
     past p i e f es fs more_old more_new st body r r' s h =
         let t = spells_split numbers' (NewSlots f) more_new body s in
-        let split = behind_first numbers (OldSlots e) more_old t.0 t.1 r r' (ap (λ (l : List ℕ). l ++ r') (sym t.2) ∙ h) in
+        let split = behind_first numbers (OldSlots e) more_old t.0 t.1 r r' (ap (λ l. l ++ r') (sym t.2) ∙ h) in
         record {
           front = t.0;
           rest = t.1;
@@ -201,7 +201,7 @@ module _ (sides : Sides) where
         → (State (suc p) (suc f.index) es fs → SlotsAlign more_old more_new) → SlotsAlign (OldSlots e ++ more_old) (NewSlots f ++ more_new)
     next_aligns p i e f es fs more_old more_new st good more = record {
       rests = λ body r r' s h.
-          let q = past p i e f es fs more_old more_new st body r r' s h in
+          let q = past p i e f es fs _ _ st body r r' s h in
           (more (q.next good)).rests q.rest r r' q.behind (q.rests good);
     }
 
@@ -209,17 +209,16 @@ module _ (sides : Sides) where
     pub front_aligns : (k : ℕ) (es fs : List Entry) (p i : ℕ) → k ≤ length es → k ≤ length fs
         → ((q : ℕ) (e f : Entry) → q < k → slice_get es q ≡ Some e → slice_get fs q ≡ Some f → PairGood two e f)
         → State p i es fs → SlotsAlign (all_old (take k es)) (all_new (take k fs))
-    front_aligns zero es fs p i le le' good st = aligns_nil numbers numbers'
+    front_aligns zero es fs p i le le' good st = aligns_nil _ _
     front_aligns (suc k) [] fs p i le le' good st = absurd (omega arith)
     front_aligns (suc k) (e ∷ es) [] p i le le' good st = absurd (omega arith)
     front_aligns (suc k) (e ∷ es) (f ∷ fs) p i le le' good st =
-        next_aligns p i e f es fs (all_old (take k es)) (all_new (take k fs)) st (good 0 e f (omega arith) refl refl)
+        next_aligns p i e f es fs _ _ st (good 0 e f (omega arith) refl refl)
         (λ more. front_aligns k es fs (suc p) (suc f.index) (omega arith) (omega arith) (λ q x y lt. good (suc q) x y (omega arith)) more)
 
     pub entries_align : (es fs : List Entry) (p i : ℕ) → AllZip (Met sides) es fs → State p i es fs → SlotsAlign (all_old es) (all_new fs)
-    entries_align [] [] p i met st = aligns_nil numbers numbers'
-    entries_align (e ∷ es) (f ∷ fs) p i met st =
-        next_aligns p i e f es fs (all_old es) (all_new fs) st met.0.good (λ more. entries_align es fs (suc p) (suc f.index) met.1 more)
+    entries_align [] [] p i met st = aligns_nil _ _
+    entries_align (e ∷ es) (f ∷ fs) p i met st = next_aligns p i e f es fs _ _ st met.0.good (λ more. entries_align es fs (suc p) (suc f.index) met.1 more)
     entries_align _ _ p i met st = absurd met
 
     -- ---- two constants that differ
@@ -229,7 +228,7 @@ module _ (sides : Sides) where
         → Spells numbers' (if t' then times (elements_of d own') (item_slots ns (Equal k u) caps' numbers') y step' else []) body
         → body ++ r' ≡ zeroed numbers (if t then times (elements_of c own) (item_slots ms (Equal k z) caps numbers) x step else []) ++ r → code k z ≡ code k u
     constants_same k z u true true One One caps caps' x y step step' one one' is is' body r r' s h =
-        let same = same_bytes numbers _ numbers' _ (aligns_constant numbers numbers' k k z u refl) body r r' s h in
+        let same = same_bytes numbers _ numbers' _ (aligns_constant _ _ k k z u refl) body r r' s h in
         sym (apart (code k u) (code k z) [] s.0 (length-code k u ∙ sym (length-code k z)) (sym s.1 ∙ same)).0
     constants_same k z u _ _ _ _ caps caps' x y step step' one one' is is' body r r' s h = absurd (cc)
 
@@ -237,18 +236,18 @@ module _ (sides : Sides) where
         → (body r r' : List ℕ) → Spells numbers' (NewSlots f) body → body ++ r' ≡ zeroed numbers (OldSlots e) ++ r → ⊥
     clash_refuses e f clash known known' body r r' spells h =
         let d = clash.constants in
-        let there_is' = known_there ns b.fields w numbers' at' f known' clash.rest' own' no_parent in
+        let there_is' = known_there ns b.fields w numbers' at' f known' clash.rest' own' _ in
         let one : IsSingle (Equal d.kind d.value) e.field.count = rw d.item at (old e.index e.field known.field).single in
         let one' : IsSingle (Equal d.kind d.other) f.field.count = rw d.item' at (named f.index f.field known'.field).single in
         d.differ (constants_same d.kind d.value d.other _ _ e.field.count f.field.count (counted e.index a.fields) (counted f.index b.fields) _ _ _ _ one one'
-        (known_there ms a.fields v numbers at e known clash.rest own no_parent) there_is' body r r' (rw d.item' at spells) (rw d.item at h))
+        (known_there ms a.fields v numbers at e known clash.rest own _) there_is' body r r' (rw d.item' at spells) (rw d.item at h))
 
     pub entries_clash : (es fs : List Entry) (p i : ℕ) → Clashes two es fs → State p i es fs → (body r r' : List ℕ) → Spells numbers' (all_new fs) body
         → body ++ r' ≡ zeroed numbers (all_old es) ++ r → ⊥
     entries_clash (e ∷ es) (f ∷ fs) p i clashes st body r r' s h =
-        let q = past p i e f es fs (all_old es) (all_new fs) st body r r' s h in
+        let q = past p i e f es fs _ _ st body r r' s h in
         elim clashes [
-          | inl clash ↦ clash_refuses e f clash st.known.0 st.known'.0 q.front _ _ q.here q.split
+          | inl clash ↦ clash_refuses e f clash st.known.0 st.known'.0 _ _ _ q.here q.split
           | inr more ↦ entries_clash es fs (suc p) (suc f.index) more.1 (q.next more.0) q.rest r r' q.behind (q.rests more.0)
         ]
     entries_clash _ _ p i clashes st body r r' s h = absurd clashes

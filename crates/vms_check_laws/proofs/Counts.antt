@@ -22,7 +22,7 @@ counted_at : (P : ℕ → Type 0) (by most i : ℕ) (fs : List Field) (f : Field
     → AllByRecursion P (counted by fs) → P most
 counted_at P by most i [] f is e h = absurd (cc)
 counted_at P by most zero (g ∷ fs) f is e h = let same : g ≡ f = cc in counted_head P by most g fs (rw same e) h
-counted_at P by most (suc i) (g ∷ fs) f is e h = counted_at P by most i fs f is e (all_right P _ (counted by fs) h)
+counted_at P by most (suc i) (g ∷ fs) f is e h = counted_at P by most i fs f is e (all_right P _ _ h)
 
 first_fits : (cs : List (List Cell)) (item : Item) (count : Count) (caps : List ℕ) (d : ℤ) (more : List Cell) (numbers : List ℤ) (at : ℕ) → is_num item ≡ true
     → is_one count ≡ true → FitsAt (times (capacity_of count) (λ _. item_cells cs item caps d) 0 0 ++ more) numbers at
@@ -45,7 +45,7 @@ single_at cs all (f ∷ fs) i zero numbers at g e s fits =
     let same : f ≡ g = cc in
     let z : i + 0 ≡ i = omega arith in
     let at_f : Steady f = rw same s in
-    let fits_at = first_fits cs f.item f.count _ f.default _ numbers at at_f.item at_f.count fits in
+    let fits_at = first_fits cs f.item _ _ _ _ _ at at_f.item at_f.count fits in
     rw (← same, z) (record { number = get_or numbers at (pos 0); fits = fits_at; is = refl })
 single_at cs all (f ∷ fs) i (suc k) numbers at g e s fits =
     let z : suc i + k ≡ i + suc k = omega arith in
@@ -99,14 +99,14 @@ OldPlains below all = (j : ℕ) (f : Field) → slice_get all j ≡ Some f → O
 
 fits_count : (cs : List (List Cell)) (all : List Field) (numbers : List ℤ) (at i : ℕ) (f : Field) (c : Count) → slice_get all i ≡ Some f → f.count ≡ c
     → FitsAt (cells_from cs all 0 all) numbers at → CountKnown all c → CountFits (λ k. field_number cs all all 0 numbers at k) c
-fits_count cs all numbers at i f (Counted by most) is e fits known = count_fits cs all numbers at by most known i f is e fits
+fits_count cs all numbers at i f (Counted by most) is e fits known = count_fits cs all _ at by most known i f is e fits
 fits_count cs all numbers at i f _ is e fits known = tt
 
 pub old_fields : (cs : List (List Cell)) (below : ℕ) (all : List Field) (numbers : List ℤ) (at : ℕ) → FitsAt (cells_from cs all 0 all) numbers at
     → OldPlains below all → OldFields below (λ k. field_number cs all all 0 numbers at k) all
 old_fields cs below all numbers at fits plain j f is =
     let p = plain j f is in
-    record { item = p.item; single = p.single; count = fits_count cs all numbers at j f f.count is refl fits p.count }
+    record { item = p.item; single = p.single; count = fits_count cs all _ at j f _ is refl fits p.count }
 
 -- what a description without a fault gives, as the older set's and as the newer's, which uses structures below k
 pub record DescGood (k : ℕ) (d : Desc) : Type 0 where
@@ -166,13 +166,13 @@ at_most_more _ m k h le = omega (arith, ints)
 all_counted : (P : ℕ → Type 0) (by : ℕ) (gs : List Field) → AllByRecursion (λ g. (most : ℕ) → g.count ≡ Counted by most → P most) gs
     → AllByRecursion P (counted by gs)
 all_counted P by [] h = tt
-all_counted P by (g ∷ gs) h = head g.count refl (all_counted P by gs h.1) where
+all_counted P by (g ∷ gs) h = head _ refl (all_counted P by gs h.1) where
   caps : (c : Bool) (most : ℕ) → (c ≡ true → P most) → AllByRecursion P (counted by gs) → AllByRecursion P ((if c then most ∷ [] else []) ++ counted by gs)
   caps true most p rest = (p refl, rest)
   caps false most p rest = rest
 
   head : (c : Count) → g.count ≡ c → AllByRecursion P (counted by gs) → AllByRecursion P (counted by (record g { count = c } ∷ gs))
-  head (Counted by' most) e rest = caps (by' == by) most (λ is. h.0 most (rw (← (eqb-true by' by is)) e)) rest
+  head (Counted by' most) e rest = caps _ most (λ is. h.0 most (rw (← (eqb-true by' by is)) e)) rest
   head _ e rest = rest
 
 pub covered_one : (i : Item) (c : Count) (j : Item) (d : Count) → is_covered i c j ≡ true → IsSingle j d → is_one d ≡ true
@@ -201,9 +201,9 @@ module _ (sides : Sides) where
       → Met sides e f → IsSingle f.field.item f.field.count → (most : ℕ) → f.field.count ≡ Counted j most → z ≤ℤ pos most
   fits_array z i j e f at_i all met single most is =
       elim (decoded two e f met.good) [
-        | inl c ↦ let one = covered_one e.field.item e.field.count f.field.item f.field.count c.covers single in let bad = rw is at one in absurd (cc)
+        | inl c ↦ let one = covered_one _ _ _ _ c.covers single in let bad = rw is at one in absurd (cc)
         | inr m ↦
-            let p = paired o n e.field.count f.field.count j most is m.count m.room in
+            let p = paired o n _ _ j most is m.count m.room in
             let counts : e.field.count ≡ Counted i p.1 = rw (at_i p.0 p.3) at p.2 in
             at_most_more z p.1 most (counted_at (λ m. z ≤ℤ pos m) i p.1 e.index a.fields e.field met.known.field counts all) p.4
       ]
@@ -244,5 +244,5 @@ module _ (sides : Sides) where
       → NewFields below' (is_steady_in b) b.fields → AllByRecursion (λ m. z ≤ℤ pos m) (counted f.index b.fields)
   caps_follow kind es e f z is at_e m high caps met new =
       let le : z ≤ℤ pos (bound e.field.item (counted e.index a.fields)) = rw is (at_most_bound kind _ z high caps) in
-      let arrays = fits_arrays new z e.index f.index es _ at_e caps met in
+      let arrays = fits_arrays new z _ _ es _ at_e caps met in
       all_counted (λ m. z ≤ℤ pos m) f.index b.fields (each_array z f.index _ 0 0 b.fields le m.absent arrays)

@@ -33,7 +33,7 @@ pub good_fields : (y : List (List Cell)) (k : ℕ) (all : List Field) (i : ℕ) 
     → FieldsBelow k gs → DefaultsGood all i gs → GoodCells (cells_from y all i gs)
 good_fields y k all i [] good below h = tt
 good_fields y k all i (g ∷ gs) good below h =
-    good_append _ _ (good_times _ _ 0 0 (good_item y k g.item _ g.default good below.0 h.0)) (good_fields y k all (suc i) gs good below.1 h.1)
+    good_append _ _ (good_times _ _ 0 0 (good_item y k g.item _ _ good below.0 h.0)) (good_fields y k all (suc i) gs good below.1 h.1)
 
 -- what the older number fits, the newer's cell does
 abbrev Follows : (i j : Item) → (caps caps' : List ℕ) → Type 0
@@ -110,7 +110,7 @@ module _ (sides : Sides) where
       fits = h.0.known.fits fits;
       follow = λ k is num z high caps.
           let m : Matched two e f = elim (decoded two e f h.0.good) [
-            | inl c ↦ absurd (not_covered e.field.item e.field.count f.field.item c.covers num)
+            | inl c ↦ absurd (not_covered _ _ _ c.covers num)
             | inr m ↦ m
           ] in
           caps_follow sides k all e f z is h.1 m high caps met new;
@@ -120,14 +120,14 @@ module _ (sides : Sides) where
         → FitCells (desc_cells news b) (carry_from cs olds news numbers own_number v w at b.fields 0 b.fields all)
     fields_fit good h = by_fields sides _ (λ i p gs es fs zs. DefaultsGood b.fields i gs → FitCells (cells_from news b.fields i gs) zs) (λ i p good. tt)
         (λ i p g gs es fs zs lt more good.
-        let here = good_item news below' g.item _ g.default (λ j l. (table.rows j l).good) lt good.0 in
+        let here = good_item news below' g.item _ _ (λ j l. (table.rows j l).good) lt good.0 in
         fit_append _ _ _ _ (fit_defaults _ (good_times _ _ 0 0 here)) (more good.1))
         (λ i p g gs rest e es fs zs lt h more good.
-        let here = good_item news below' g.item _ g.default (λ j l. (table.rows j l).good) lt good.0 in
+        let here = good_item news below' g.item _ _ (λ j l. (table.rows j l).good) lt good.0 in
         let q = fit_pair e _ h in
         fit_append _ _ _ _ (fit_items e.field.item g.item _ _ e.field.default g.default _ _ _ 0 0 0 0 _ (if_least _ _ _ (elements_fit e.field.count own_number))
         q.low lt q.structs here q.fits q.follow) (more good.1))
-        0 0 b.fields all (fields_below _ b.fields (λ j f e. (new j f e).item)) h good
+        0 0 _ all (fields_below _ _ (λ j f e. (new j f e).item)) h good
 
 -- ---- validations
 
@@ -145,7 +145,7 @@ module _ (sides : Sides) (ok : ℕ → Bool) where
       → list_any (λ s. same_reduced o n (reduced v s) r) ss ≡ true → truth_of r w new_number no_parent ≡ true
   some_same r [] named agree holds h = absurd (cc)
   some_same r (s ∷ ss) named agree holds h =
-      let p = and_parts (truth s v old_number no_parent) (all_hold ss v old_number) holds in
+      let p = and_parts (truth s v _ no_parent) (all_hold ss v old_number) holds in
       either_of (same_reduced o n (reduced v s) r) (list_any (λ s. same_reduced o n (reduced v s) r) ss) h
       (λ is. rw (← (same_reduced_truth o n ok old_number new_number no_parent no_parent v w agree (reduced v s) r named is), reduced_holds) p.0)
       (λ k. some_same r ss named agree p.1 k)
@@ -160,14 +160,14 @@ module _ (sides : Sides) (ok : ℕ → Bool) where
   rules_hold [] named agree holds h = refl
   rules_hold (t ∷ ts) named agree holds h =
       let p = and_parts (is_kept ks a b v w part part' o n (reduced w t)) (list_all (λ t. is_kept ks a b v w part part' o n (reduced w t)) ts) h in
-      let here = kept_holds (reduced w t) (named_left ok w t named.0) agree holds p.0 in
-      and_from _ _ (sym (reduced_holds t w new_number no_parent) ∙ here) (rules_hold ts named.1 agree holds p.1)
+      let here = kept_holds _ (named_left ok w t named.0) agree holds p.0 in
+      and_from _ _ (sym (reduced_holds t w _ _) ∙ here) (rules_hold ts named.1 agree holds p.1)
 
   pub rule_carries : compare_validations ks a b v w part part' o n ≡ None → RulesNamed ok b.validate → Agree o n ok old_number new_number
       → Carries numbers (Rule (all_hold a.validate v old_number) ∷ []) numbers' (Rule (all_hold b.validate w new_number) ∷ [])
   rule_carries h named agree =
       let every_is = (passes 15 (list_all (λ t. is_kept ks a b v w part part' o n (reduced w t)) b.validate) [] (here part) (here part') h).0 in
-      carries_rule numbers numbers' _ _ (λ r. rules_hold b.validate named agree r every_is)
+      carries_rule _ _ _ _ (λ r. rules_hold _ named agree r every_is)
 
 -- ---- whole descriptions
 
@@ -226,8 +226,8 @@ module _ {ks : List Comparer} {cs : List Carrier} {ms ns : List Meaning} {number
 
       aligned : (at' : ℕ) → Aligns numbers (desc_slots ms a v numbers at) numbers' (desc_slots ns b w numbers' at')
       aligned at' =
-          let body = entries_align (sides at') good.earlier old fits es fs 0 0 (met at') (first_state at') in
-          aligns_append numbers numbers' _ _ _ _ (rw (old_same, new_same at') body) (aligns_rule numbers numbers' _ _)
+          let body = entries_align _ good.earlier old fits es fs 0 0 (met at') (first_state at') in
+          aligns_append _ _ _ _ _ _ (rw (old_same, new_same at') body) (aligns_rule _ _ _ _)
 
       reads : (at' : ℕ) → Holds numbers' at' (carry_desc cs (cells_in ms) (cells_in ns) numbers v w a b at)
           → Reads numbers numbers' (desc_slots ms a v numbers at) (desc_slots ns b w numbers' at') at' (desc_cells (cells_in ns) b)
@@ -235,21 +235,21 @@ module _ {ks : List Comparer} {cs : List Carrier} {ms ns : List Meaning} {number
       reads at' held =
           let s = sides at' in
           let ok = is_steady_in b in
-          let below = fields_below _ b.fields (λ j f e. (good.new j f e).item) in
-          let link = linked s 0 0 b.fields es below (met at') (holds_at (omega arith) held) in
+          let below = fields_below _ _ (λ j f e. (good.new j f e).item) in
+          let link = linked s 0 0 _ es below (met at') (holds_at (omega arith) held) in
           let agree : Agree o n ok own (own' at') = λ i j named h. agree_from s i j 0 es fs link named h in
           let z : at' + 0 ≡ at' = omega arith in
           record {
             carries = carries_append (rw (old_same, new_same at') (fields_carry s ok old good.new fits agree es fs link))
                 (rule_carries s ok (or_else_none _ _ none).1 good.rules agree);
-            settled = settled_more _ _ at' _ _ (rw z at (fields_settle s ok old good.new fits agree 0 0 b.fields es below link));
+            settled = settled_more _ _ at' _ _ (rw z at (fields_settle s ok old good.new fits agree 0 0 _ es below link));
           }
 
       -- no rule fails at them
       pub desc_meets : Meets numbers numbers' (desc_slots ms a v numbers at) (λ y. desc_slots ns b w numbers' y) (desc_cells (cells_in ns) b)
           (carry_desc cs (cells_in ms) (cells_in ns) numbers v w a b at)
       desc_meets = record {
-        fits = fields_fit (sides 0) old good.new fits es (met 0) good.defaults
+        fits = fields_fit _ old good.new fits es (met 0) good.defaults
             (indexed o n (Met (sides 0)) 0 0 es fs (met 0) (present_above _ b.fields w 0 0 b.fields) (λ by j le h. h));
         aligned = aligned;
         reads = reads;

@@ -108,7 +108,7 @@ module _ (sides : Sides) where
   by_fields R P none alone paired i p [] [] lt all = none i p
   by_fields R P none alone paired i p [] (e ∷ es) lt all = absurd all
   by_fields R P none alone paired i p (g ∷ gs) es lt all =
-      next (presence w g.test g.since) es _ (λ es'. all_fields (suc i) gs es') all (λ es' h. by_fields R P none alone paired (suc i) _ gs es' lt.1 h)
+      next _ es _ (λ es'. all_fields (suc i) gs es') all (λ es' h. by_fields R P none alone paired (suc i) _ gs es' lt.1 h)
     where
       next : (pr : Option (Option Formula)) (es after : List Entry) (more : List Entry → List ℤ) → AllZip R es (entry_of i p g pr ++ after)
           → ((es' : List Entry) → AllZip R es' after → P (suc i) (p + length (cells_at i g)) gs es' after (more es'))
@@ -123,7 +123,7 @@ module _ (sides : Sides) where
   -- the carried numbers are at each pair
   pub linked : (i p : ℕ) (gs : List Field) (es : List Entry) → FieldsBelow below' gs → AllZip (Met sides) es (present_from news b.fields w i p gs)
       → Holds numbers' (at' + p) (all_fields i gs es) → Linked es (present_from news b.fields w i p gs)
-  linked = by_fields (Met sides) (λ i p gs es fs zs. Holds numbers' (at' + p) zs → Linked es fs) (λ i p held. tt)
+  linked = by_fields _ (λ i p gs es fs zs. Holds numbers' (at' + p) zs → Linked es fs) (λ i p held. tt)
       (λ i p g gs es fs zs lt more held. more (holds_at (omega (arith, defaults_size (cells_at i g))) (holds_right (defaults (cells_at i g)) held)))
       (λ i p g gs rest e es fs zs lt met more held. (
         (met, holds_left _ held),
@@ -143,14 +143,14 @@ module _ (sides : Sides) where
   named_pair e f met is =
       let s = steady b.minimum (slice_get b.fields f.index) f.field met.known'.field is in
       let m : Matched two e f = elim (decoded two e f met.good) [
-        | inl c ↦ absurd (not_covered e.field.item e.field.count f.field.item c.covers s.item)
+        | inl c ↦ absurd (not_covered _ _ _ c.covers s.item)
         | inr m ↦ m
       ] in
-      let rest : f.rest ≡ None = steady_rest w f.field.test f.field.since f.rest s.test met.known'.left in
+      let rest : f.rest ≡ None = steady_rest w _ _ f.rest s.test met.known'.left in
       record {
         plain = s;
         matched = m;
-        there_is = known_there ms a.fields v numbers at e met.known (rest_none o n e.rest f.rest rest m.rest) own no_parent;
+        there_is = known_there ms a.fields v numbers at e met.known (rest_none o n e.rest f.rest rest m.rest) own _;
         rest = rest;
       }
 
@@ -166,8 +166,8 @@ module _ (sides : Sides) where
       → own e.index ≡ own' f.index
   pair_agrees e f met held is =
       let h = named_pair e f met is in
-      met.known.number ∙ number_pair f.field.item e.field.item f.field.count e.field.count f.field.default _ (at + e.place)
-      (at' + f.place) h.plain.item h.plain.count h.matched.item h.matched.count h.there_is held ∙ sym met.known'.number
+      met.known.number ∙ number_pair _ _ _ _ _ _ _
+      _ h.plain.item h.plain.count h.matched.item h.matched.count h.there_is held ∙ sym met.known'.number
 
   pub agree_from : (i j p : ℕ) (es fs : List Entry) → Linked es fs → is_steady_in b j ≡ true
       → same_place (position_from p es i) (position_from p fs j) ≡ true → own i ≡ own' j
@@ -186,7 +186,7 @@ module _ (sides : Sides) where
   number_reads true k l caps caps' d x y same is held =
       let e : y + 0 ≡ y = omega arith in
       record {
-        carries = carries_number numbers numbers' x y k l caps caps' (kinds_same k l same) (sym (rw e at (held.each 0 (omega arith))));
+        carries = carries_number _ _ x y k l caps caps' (kinds_same k l same) (sym (rw e at (held.each 0 (omega arith))));
         settled = record { each = λ c lt. let z : y ≡ y + c = omega arith in inl (rw (← z) (has_itself y l caps')) };
       }
   number_reads false k l caps caps' d x y same is held = absurd (cc)
@@ -194,9 +194,9 @@ module _ (sides : Sides) where
   item_reads : (i j : Item) (caps caps' : List ℕ) (d d' : ℤ) (x y : ℕ) → Pairs two below below' i j → same_constant i j ≡ true
       → FitsAt (item_cells olds i caps d) numbers x → Holds numbers' y (one_item i j d' x)
       → Reads numbers numbers' (item_slots ms i caps numbers x) (item_slots ns j caps' numbers' y) y (item_cells news j caps' d') (one_item i j d' x)
-  item_reads (Num k) (Num l) caps caps' d d' x y pair constant fits held = number_reads (same_kind k l) k l caps caps' d' x y pair.same pair.same held
+  item_reads (Num k) (Num l) caps caps' d d' x y pair constant fits held = number_reads _ k l caps caps' d' x y pair.same pair.same held
   item_reads (Equal k z) (Equal l u) caps caps' d d' x y pair constant fits held = record {
-    carries = carries_constant numbers numbers' k l z u (kinds_same k l pair.same) (same_number_is z u constant);
+    carries = carries_constant _ _ k l z u (kinds_same k l pair.same) (same_number_is z u constant);
     settled = settled_empty _ y [] [] refl;
   }
   item_reads (Unused m) (Unused r) caps caps' d d' x y pair constant fits held = record {
@@ -283,9 +283,9 @@ module _ (sides : Sides) where
           let xs = old_slots (elements_of e.field.count own) e in
           let ys = new_slots (elements_of f.field.count own') f in
           elim (decoded two e f p.good) [
-            | inl c ↦ when_there P (there e) there_f xs ys (same c.rest) (λ is. (covers c).0) (λ is. (covers c).1)
-            | inr m ↦ when_there P (there e) there_f xs ys (same m.rest) (items m false)
-                (λ is. rw (← (same_elements e.field.count f.field.count p.agree p.old.count p.new.count m.count m.room)) (items m true is))
+            | inl c ↦ when_there P _ _ xs ys (same c.rest) (λ is. (covers c).0) (λ is. (covers c).1)
+            | inr m ↦ when_there P _ _ xs ys (same m.rest) (items m false)
+                (λ is. rw (← (same_elements _ _ p.agree p.old.count p.new.count m.count m.room)) (items m true is))
           ]
 
     abbrev ReadsHere : (e f : Entry) → List Slot → List Slot → Type 0
@@ -334,10 +334,10 @@ module _ (sides : Sides) where
           → Settled (slots_from ns b.fields w own' numbers' i (at' + p) gs) (at' + p) (cells_from news b.fields i gs) (all_fields i gs es)
       fields_settle =
           by_fields _ (λ i p gs es fs zs. Settled (slots_from ns b.fields w own' numbers' i (at' + p) gs) (at' + p) (cells_from news b.fields i gs) zs)
-          (λ i p. settled_empty [] (at' + p) [] [] refl)
+          (λ i p. settled_empty [] _ [] [] refl)
           (λ i p g gs es fs zs lt more.
           let e : at' + (p + length (cells_at i g)) ≡ (at' + p) + length (cells_at i g) = omega arith in
-          settled_append (defaults_size (cells_at i g)) (settled_defaults _ (at' + p) (cells_at i g))
+          settled_append (defaults_size (cells_at i g)) (settled_defaults _ _ _)
           (omega (arith, defaults_size (cells_at i g))) (rw e at more))
           (λ i p g gs rest x es fs zs lt h more.
           let e : at' + (p + length (cells_at i g)) ≡ (at' + p) + length (cells_at i g) = omega arith in

@@ -55,9 +55,7 @@ module _ (old new : Set) (good_old : WellFormed old) (good_new : WellFormed new)
 
   own_goes : Goes (desc_cells (struct_cells old) d.desc) (desc_cells (struct_cells new) e.desc) numbers (own_slots old d image.version numbers) 0 0
       (part_partners old new d.desc.version d.desc e.desc 0) own_segment
-  own_goes =
-      rw versions.version
-      (part_goes old new good_old good_new numbers d.desc.version d.desc e.desc 0 0 (below_of _ d.desc _ (device_parts old good_old i d at_i).0))
+  own_goes = rw versions.version (part_goes old new good_old good_new _ _ d.desc e.desc 0 0 (below_of _ d.desc _ (device_parts old good_old i d at_i).0))
 
   abbrev SubGoes : ℕ → ℕ → Sub → Sub → ℕ → Type 0
   SubGoes m l s t v =
@@ -66,7 +64,7 @@ module _ (old new : Set) (good_old : WellFormed old) (good_new : WellFormed new)
 
   sub_goes : (m l : ℕ) (s t : Sub) (v : ℕ) → slice_get d.subs m ≡ Some s → slice_get e.subs l ≡ Some t → v ≡ s.desc.version → SubGoes m l s t v
   sub_goes m l s t v at_m at_l v_is =
-      rw v_is (part_goes old new good_old good_new numbers s.desc.version s.desc t.desc _ _ (below_of _ s.desc _ (sub_clean old good_old i m d s at_i at_m)))
+      rw v_is (part_goes old new good_old good_new _ _ s.desc t.desc _ _ (below_of _ s.desc _ (sub_clean old good_old i m d s at_i at_m)))
 
   -- the older one of a name, which came
   pub record Comes (t : Sub) : Type 0 where
@@ -83,7 +81,7 @@ module _ (old new : Set) (good_old : WellFormed old) (good_new : WellFormed new)
     by_came f (Some None) g = inl (rw (f.found, f.there, g))
 
   goes_of : (l : ℕ) (t : Sub) → slice_get e.subs l ≡ Some t → (h : Comes t) → SubGoes h.f.number l h.f.sub t h.v
-  goes_of l t at_l h = sub_goes h.f.number l h.f.sub t h.v h.f.there at_l (versions.subs h.f.number h.f.sub h.v h.f.there h.is_come)
+  goes_of l t at_l h = sub_goes _ l _ t h.v h.f.there at_l (versions.subs h.f.number h.f.sub h.v h.f.there h.is_come)
 
   sized' : (l : ℕ) (t : Sub) → slice_get e.subs l ≡ Some t → length (carried t) ≡ sub_size new t
   sized' l t at_l = elim (comes t) [ inl h ↦ ap length h ∙ defaults_long _ | inr h ↦ ap length h.segment ∙ (goes_of l t at_l h).long ]
@@ -106,16 +104,15 @@ module _ (old new : Set) (good_old : WellFormed old) (good_new : WellFormed new)
 
     came_none : (c : ℕ) → c < own_cells old d → has_come c ≡ false
     came_none c lt =
-        parts_together old d numbers (λ xs. has_cell xs c ≡ false) refl (λ xs ys p q. names_append xs ys c ∙ ap (λ (b : Bool). b || has_cell ys c) p ∙ q)
+        parts_together old d _ (λ xs. has_cell xs c ≡ false) refl (λ xs ys p q. names_append xs ys c ∙ ap (λ b. b || has_cell ys c) p ∙ q)
         (own_cells old d) d.subs image.came
         (λ j s v at_j came. its_below old s.desc v (place j) numbers c (omega (arith, sub_place_up old (own_cells old d) d.subs j)))
 
     own_has : (c : ℕ) → has c ≡ true → c < own_cells old d → has_own c ≡ true
-    own_has c e lt = sym (or-false (has_own c)) ∙ ap (λ (b : Bool). has_own c || b) (sym (came_none c lt)) ∙ sym (has_both c) ∙ e
+    own_has c e lt = sym (or-false (has_own c)) ∙ ap (λ b. has_own c || b) (sym (came_none c lt)) ∙ sym (has_both c) ∙ e
 
     came_has : (c : ℕ) → has c ≡ true → own_cells old d ≤ c → has_come c ≡ true
-    came_has c e le =
-        elim (or_split (has_own c) (has_come c) (sym (has_both c) ∙ e)) [ inl f ↦ let h = own_goes.within.in_range c f in absurd (omega arith) | inr f ↦ f.1 ]
+    came_has c e le = elim (or_split _ _ (sym (has_both c) ∙ e)) [ inl f ↦ let h = own_goes.within.in_range c f in absurd (omega arith) | inr f ↦ f.1 ]
 
     taken_own : (c k : ℕ) → slice_get ps c ≡ Some (Some k) → has_own c ≡ true → get_or whole k (pos 0) ≡ get_or numbers c (pos 0)
     taken_own c k e f =
@@ -144,25 +141,25 @@ module _ (old new : Set) (good_old : WellFormed old) (good_new : WellFormed new)
     taken_sub c k w is_in =
         let x = own_cells old d + c in
         let h = has_part old d numbers _ d.subs image.came x (came_has x is_in (omega arith)) in
-        let range = its_in old h.sub.desc h.version _ numbers x h.has in
+        let range = its_in old h.sub.desc h.version _ _ x h.has in
         let same : h.j ≡ w.m = one_part old _ d.subs h.j w.m x h.sub w.sub h.there w.there range.0 range.1 (omega arith) (omega arith) in
         let sub_same : h.sub ≡ w.sub = cc in
         let is_come : slice_get image.came w.m ≡ Some (Some h.version) = rw same at h.is_come in
         let p = paired_sub w.sub w.c k w.here in
-        let goes = sub_goes w.m p.0.number w.sub p.0.sub h.version w.there p.0.there (versions.subs w.m w.sub h.version w.there is_come) in
+        let goes = sub_goes w.m _ w.sub _ _ w.there p.0.there (versions.subs w.m w.sub h.version w.there is_come) in
         let pair = goes.paired.pairs w.c k p.1 in
         let back : find_sub 0 d.subs p.0.sub.desc.name ≡ Some w.m = rw p.0.name_is (sub_found old good_old i w.m d w.sub at_i w.there) in
         let segment : carried p.0.sub ≡ carrying old new numbers h.version w.sub.desc p.0.sub.desc (place w.m) = rw (back, w.there, is_come) in
         let k_is = pair.is in
         let has_here : has_cell (sub_slots old w.sub h.version numbers (place w.m)) (place w.m + w.c) ≡ true = rw (← w.is, ← same, ← sub_same) h.has in
-        rw (k_is, rest_at p.0.number p.0.sub pair.r p.0.there pair.inside, segment, goes.taken w.c pair.r (rw (← k_is) p.1) has_here, w.is)
+        rw (k_is, rest_at _ _ pair.r p.0.there pair.inside, segment, goes.taken w.c pair.r (rw (← k_is) p.1) has_here, w.is)
 
     taken : (c k : ℕ) → slice_get (ps ++ qs) c ≡ Some (Some k) → has c ≡ true → (c < length ps) ⊎ IsBehind (length ps) c
         → get_or whole k (pos 0) ≡ get_or numbers c (pos 0)
     taken c k f is_in (inl lt) = taken_own c k (sym (at_left ps qs c lt) ∙ f) (own_has c is_in (omega (arith, own_goes.paired.long)))
     taken c k f is_in (inr b) =
         let c_is : c ≡ own_cells old d + b.more = omega (arith, own_goes.paired.long) in
-        rw c_is (taken_sub b.more k (stands_in old _ _ d.subs b.more (Some k) sized (behind_at ps qs c b f)) (rw c_is at is_in))
+        rw c_is (taken_sub b.more k (stands_in old _ _ d.subs b.more _ sized (behind_at ps qs c b f)) (rw c_is at is_in))
 
     -- ---- all others
 
@@ -206,7 +203,7 @@ module _ (old new : Set) (good_old : WellFormed old) (good_new : WellFormed new)
     other_sub : (l : ℕ) (t : Sub) (r : ℕ) → slice_get e.subs l ≡ Some t → r < sub_size new t → NoneHas (place' l + r)
         → get_or whole (place' l + r) (pos 0) ≡ (get_or (device_cells new e) (place' l + r) no_cell).default
     other_sub l t r at_l lt none = rest_at l t r at_l lt ∙ elim (comes t) [
-      | inl h ↦ rw h (defaults_at (new_cells t) r)
+      | inl h ↦ rw h (defaults_at _ r)
       | inr h ↦ other_come l t r at_l lt none h
     ] ∙ sym (default_at l t r at_l lt)
 
@@ -215,7 +212,7 @@ module _ (old new : Set) (good_old : WellFormed old) (good_new : WellFormed new)
     other k lt none (inl own) = other_own k own none
     other k lt none (inr h) =
         let k_is : place' h.0 + (k - place' h.0) ≡ k = omega arith in
-        rw (← k_is) (other_sub h.0 h.1 (k - place' h.0) h.2.is (omega arith) (rw k_is none))
+        rw (← k_is) (other_sub h.0 h.1 _ h.2.is (omega arith) (rw k_is none))
 
     pub carried_by_cell : IsCarried old new d e image (carried_device old new d e image).numbers
     unfolding device_partners
@@ -261,5 +258,5 @@ module _ (old new : Set) (good_old : WellFormed old) (good_new : WellFormed new)
 
 pub carried_stands : CarriedLaw
 carried_stands old new good_old good_new i k d e at_i at_k image versions numbers carried =
-    one_carried old new good_old good_new i d e at_i image numbers _ carried
+    one_carried old new good_old good_new i d e at_i image _ _ carried
     (carried_by_cell old new good_old good_new i k d e at_i at_k image versions (λ m s at_m. (one_sub old new good_old good_new i d e at_i m s at_m).long))

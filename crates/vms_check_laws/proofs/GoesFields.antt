@@ -41,7 +41,7 @@ module _ (structs : List Pairer) (cs : List Carrier) (ms : List Meaning) (y : Li
 
   module _ (go : StructsGo) where
     item_within : (a : Item) (caps : List ℕ) (d : ℤ) (at : ℕ) → IsWithin at (length (item_cells x a caps d)) (item_slots ms a caps numbers at)
-    item_within a caps d at = within_of at _ _ (item_above ms above a caps numbers at) (item_are ms means a caps d _ at numbers (stands_behind at _))
+    item_within a caps d at = within_of at _ _ (item_above ms above a caps _ at) (item_are ms means a caps d _ at _ (stands_behind at _))
 
     -- ---- one element that is in the bytes
 
@@ -90,21 +90,18 @@ module _ (structs : List Pairer) (cs : List Carrier) (ms : List Meaning) (y : Li
     carry_none : (a b : Item) (caps' : List ℕ) (d' : ℤ) (step m at q t : ℕ)
         → carry_items cs x y numbers a b (defaults (item_cells y b [] d')) step 0 m at ≡ defaults (times m (λ _. item_cells y b caps' d') q t)
     carry_none a b caps' d' step zero at q t = refl
-    carry_none a b caps' d' step (suc m) at q t =
-        rw (same_defaults y b [] caps' d', carry_none a b caps' d' step m at (q + t) t)
-        (sym (defaults_append (item_cells y b caps' d') (times m (λ _. item_cells y b caps' d') (q + t) t)))
+    carry_none a b caps' d' step (suc m) at q t = rw (same_defaults y b [] caps' d', carry_none a b caps' d' step m at (q + t) t) (sym (defaults_append _ _))
 
     array_goes : (a b : Item) (caps caps' : List ℕ) (d d' : ℤ) (most n m at at' p s q t : ℕ) → n ≤ most → ItemBelow k a → ItemBelow k' b
         → Goes (times most (λ _. item_cells x a caps d) p s) (times m (λ _. item_cells y b caps' d') q t) numbers
         (times n (item_slots ms a caps numbers) at (item_size x a)) at at'
         (array_partners structs x y a b most m at') (carry_items cs x y numbers a b (defaults (item_cells y b [] d')) (item_size x a) n m at)
-    array_goes a b caps caps' d d' zero zero m at at' p s q t le lt lt' =
-        rw (carry_none a b caps' d' (item_size x a) m at q t) (goes_absent (paired_none [] _ at' 0 refl))
+    array_goes a b caps caps' d d' zero zero m at at' p s q t le lt lt' = rw (carry_none a b caps' d' _ m at q t) (goes_absent (paired_none [] _ at' 0 refl))
     array_goes a b caps caps' d d' (suc most) zero zero at at' p s q t le lt lt' =
         goes_absent (paired_skip _ _ (sym (size_same x a caps d))
         (array_goes a b caps caps' d d' most zero zero at at' (p + s) s q t (omega arith) lt lt').paired)
     array_goes a b caps caps' d d' (suc most) zero (suc m) at at' p s q t le lt lt' =
-        rw (carry_none a b caps' d' (item_size x a) (suc m) at q t)
+        rw (carry_none a b caps' d' _ _ at q t)
         (goes_absent (paired_append (item_goes a b caps caps' d d' at at' lt lt').paired (omega (arith, sym (size_same y b caps' d')))
         (array_goes a b caps caps' d d' most zero m at (at' + item_size y b) (p + s) s (q + t) t (omega arith) lt lt').paired))
     array_goes a b caps caps' d d' zero (suc n) m at at' p s q t le lt lt' = absurd (omega arith)
@@ -120,9 +117,7 @@ module _ (structs : List Pairer) (cs : List Carrier) (ms : List Meaning) (y : Li
 
     module _ (all all' : List Field) (v w : ℕ) (own : ℕ → ℕ) (at at' : ℕ) where
       field_within : (i p : ℕ) (f : Field) → IsWithin (at + p) (length (field_cells x all i f)) (field_slots ms all v own numbers i (at + p) f)
-      field_within i p f =
-          within_of (at + p) _ _ (field_above ms above all v own numbers i (at + p) f)
-          (field_are ms means all v own numbers i (at + p) f _ (stands_behind (at + p) _))
+      field_within i p f = within_of _ _ _ (field_above ms above all v own _ i _ f) (field_are ms means all v own _ i _ f _ (stands_behind _ _))
 
       -- two present fields of one position, of the older of which so many elements are in the bytes
       abbrev PairGoes : (i i' p p' : ℕ) → (f g : Field) → List Slot → ℕ → Type 0
@@ -139,7 +134,7 @@ module _ (structs : List Pairer) (cs : List Carrier) (ms : List Meaning) (y : Li
             (if b then times (elements_of f.count own) (item_slots ms f.item (counted i all) numbers) (at + p) (item_size x f.item) else [])
             (if b then elements_of f.count own else 0)
         by_there true = array_goes f.item g.item _ _ f.default g.default _ _ _ (at + p) _ 0 0 0 0 (elements_fit f.count own) lt lt'
-        by_there false = array_goes f.item g.item _ _ f.default g.default _ 0 _ (at + p) _ 0 0 0 0 (omega arith) lt lt'
+        by_there false = array_goes f.item g.item _ _ _ _ _ 0 _ _ _ 0 0 0 0 (omega arith) lt lt'
 
       -- ---- all fields from one on, on each side
 
@@ -249,7 +244,7 @@ module _ (structs : List Pairer) (cs : List Carrier) (ms : List Meaning) (y : Li
     desc_goes v w a b at at' lt lt' =
         let z : at + 0 ≡ at = omega arith in
         let z' : at' + 0 ≡ at' = omega arith in
-        more_rules _ (rw (z, z') at (fields_go a.fields b.fields v w (numbers_of x a numbers at) at at' 0 0 a.fields lt 0 0 b.fields lt'))
+        more_rules _ (rw (z, z') at (fields_go a.fields b.fields v w (numbers_of x a numbers at) at at' 0 0 _ lt 0 0 b.fields lt'))
       where
         more_rules : {slots : List Slot} (b' : Bool)
             → Goes (desc_cells x a) (desc_cells y b) numbers slots at at' (desc_partners structs x y v w a b at') (carry_desc cs x y numbers v w a b at)
@@ -268,11 +263,11 @@ module _ (structs : List Pairer) (cs : List Carrier) (ms : List Meaning) (y : Li
 -- ---- the cells of a structure
 
 pub below_of : (k : ℕ) (d : Desc) (rules : _) → Clean k d rules → FieldsBelow k d.fields
-below_of k d rules c = fields_below k d.fields (λ i f e. item_below k f.item (c.fields i f e).1.1.1.1.0)
+below_of k d rules c = fields_below k _ (λ i f e. item_below k f.item (c.fields i f e).1.1.1.1.0)
 
 module _ (set : Set) (well : WellFormed set) where
   pub struct_below : (j : ℕ) → j < length set.structs → FieldsBelow j (get_or set.structs j no_desc).fields
-  struct_below j lt = below_of j _ _ (struct_clean set well j (get_or set.structs j no_desc) (slice_get-get_or set.structs j no_desc lt))
+  struct_below j lt = below_of j _ _ (struct_clean set well j (get_or set.structs j no_desc) (slice_get-get_or _ j _ lt))
 
   pub struct_is : (j : ℕ) → get_or (struct_cells set) j [] ≡ desc_cells (struct_cells set) (get_or set.structs j no_desc)
   struct_is j =
@@ -337,12 +332,12 @@ module _ (old new : Set) (good_old : WellFormed old) (good_new : WellFormed new)
       let d = get_or ds m no_desc in
       let e = get_or es j no_desc in
       let below = struct_below old good_old m lt in
-      rw (carrier_at xs y ds es l j lt', struct_slots ds (length ds) m numbers at lt below, struct_cells_at ds (length ds) m lt below, struct_is new good_new j)
-      (desc_goes _ _ ms y numbers m j (meanings_above ds _) (meanings_are ds _) (h j (omega arith)) d.version e.version d e at at' below
+      rw (carrier_at xs y ds es l j lt', struct_slots ds _ m _ at lt below, struct_cells_at ds _ m lt below, struct_is new good_new j)
+      (desc_goes _ _ ms y _ m j (meanings_above ds _) (meanings_are ds _) (h j (omega arith)) _ _ d e at at' below
       (struct_below new good_new j (omega arith)))
 
   pairer_at : (m i : ℕ) → i < m → get_or (pairers_to m) i no_pairer ≡ pairer_of (pairers_to i) xs y es (get_or ds i no_desc)
-  pairer_at m i lt = first_at (λ earlier d. pairer_of earlier xs y es d) ds no_pairer m i lt
+  pairer_at m i lt = first_at (λ earlier d. pairer_of earlier xs y es d) ds _ m i lt
 
   go_to : (m : ℕ) → m ≤ length ds → (l : ℕ) → l ≤ length es → Go m l
   go_to m le l le' i j at at' lt lt' =
@@ -359,11 +354,11 @@ module _ (old new : Set) (good_old : WellFormed old) (good_new : WellFormed new)
         let below = struct_below old good_old i lt in
         let d = get_or ds i no_desc in
         rw (
-          pairer_at (length ds) i lt,
-          struct_slots ds (length ds) i numbers at lt below,
-          struct_cells_at ds (length ds) i lt below,
+          pairer_at _ i lt,
+          struct_slots ds _ i _ at lt below,
+          struct_cells_at ds _ i lt below,
           struct_is new good_new j,
-          get_or_past es j no_desc le,
+          get_or_past es j _ le,
           get_or_past (carriers_to (length es)) j no_carrier (omega (arith, first_long (λ earlier d. carrier_of earlier xs y ds d) es (length es))),
         )
         (desc_goes _ (carriers_to 0) ms y numbers i 0 (meanings_above ds _) (meanings_are ds _) (λ i j at at' lt lt'. absurd (omega arith)) d.version
@@ -376,4 +371,4 @@ module _ (old new : Set) (good_old : WellFormed old) (good_new : WellFormed new)
       (part_partners old new v a b at') (carrying old new numbers v a b at)
   part_goes v a b at at' lt =
       let below = some_below b.fields in
-      rw (← (cells_first ds _)) (desc_goes _ _ ms y numbers _ below.0 (meanings_above ds _) (meanings_are ds _) (go_all below.0) v v a b at at' lt below.1)
+      rw (← (cells_first ds _)) (desc_goes _ _ ms y _ _ _ (meanings_above ds _) (meanings_are ds _) (go_all below.0) v v a b at at' lt below.1)

@@ -83,7 +83,7 @@ field_facts k d i f g =
       count = a4.1;
       item = item_below k f.item g.1.1.1.1.0;
       single = single f.item f.count g.1.1.1.1.1.1.1.0;
-      default = default_good f.item _ f.default a6.0 a6.1;
+      default = default_good f.item _ _ a6.0 a6.1;
     }
 
 module _ (k : ℕ) (d : Desc) where
@@ -99,22 +99,22 @@ module _ (k : ℕ) (d : Desc) where
 
   desc_good : (rules : List Bool) → Clean k d rules → DescGood k d
   desc_good rules c = record {
-    old = λ i f e. let q = facts i f e in record { item = q.item; single = q.single; count = count_known d i f.count q.count };
+    old = λ i f e. let q = facts i f e in record { item = q.item; single = q.single; count = count_known d i _ q.count };
     new = λ i f e.
         let q = facts i f e in
-        record { item = q.item; single = q.single; count = count_named d i f.count q.count; test = test_named d i f.test q.test };
+        record { item = q.item; single = q.single; count = count_named d i _ q.count; test = test_named d i f.test q.test };
     earlier = λ i f e.
         let q = facts i f e in
-        record { item = q.item; single = q.single; count = count_earlier d i f.count q.count; test = test_earlier d i f.test q.test };
-    defaults = defaults_good 0 d.fields (λ j f e. (let z : 0 + j ≡ j = omega arith in rw z (facts j f e)));
-    rules = rules_named d.validate c.validations;
+        record { item = q.item; single = q.single; count = count_earlier d i _ q.count; test = test_earlier d i f.test q.test };
+    defaults = defaults_good 0 _ (λ j f e. (let z : 0 + j ≡ j = omega arith in rw z (facts j f e)));
+    rules = rules_named _ c.validations;
   } where
     facts : (i : ℕ) (f : Field) → slice_get d.fields i ≡ Some f → FieldFacts k d i f
     facts i f e = field_facts k d i f (c.fields i f e)
 
 module _ (set : Set) (well : WellFormed set) where
   pub structs_good : StructsGood set.structs
-  structs_good j lt = desc_good j _ _ (struct_clean set well j _ (slice_get-get_or set.structs j no_desc lt))
+  structs_good j lt = desc_good j _ _ (struct_clean set well j _ (slice_get-get_or _ j _ lt))
 
   pub device_good : (i : ℕ) (d : Device) → slice_get set.devices i ≡ Some d → DescGood (length set.structs) d.desc
   device_good i d e = desc_good _ d.desc _ (device_parts set well i d e).0

@@ -56,7 +56,7 @@ module _ (old new : Set) (good_old : WellFormed old) (good_new : WellFormed new)
   -- ---- the device
 
   own : AreFrom (desc_cells (struct_cells old) d.desc) (desc_cells (struct_cells new) e.desc) 0 (part_partners old new d.desc.version d.desc e.desc 0)
-  own = (part_goes old new good_old good_new [] d.desc.version d.desc e.desc 0 0 (below_of _ d.desc _ (device_parts old good_old i d at_i).0)).paired
+  own = (part_goes old new good_old good_new [] _ d.desc e.desc 0 0 (below_of _ d.desc _ (device_parts old good_old i d at_i).0)).paired
 
   abbrev ps : List (Option ℕ)
   ps = part_partners old new d.desc.version d.desc e.desc 0
@@ -83,7 +83,7 @@ module _ (old new : Set) (good_old : WellFormed old) (good_new : WellFormed new)
 
   in_sub : (b k : ℕ) → slice_get qs b ≡ Some (Some k) → InSub b k
   in_sub b k f =
-      let w = stands_in old (named_partners old new e) (own_cells old d) d.subs b (Some k) sized f in
+      let w = stands_in old _ _ d.subs b _ sized f in
       record { stands = w; pair = (one_sub w.m w.sub w.there).pairs w.c k w.here }
 
   sub_pair : (c k : ℕ) (b : IsBehind (length ps) c) → slice_get (ps ++ qs) c ≡ Some (Some k) → InSub b.more k

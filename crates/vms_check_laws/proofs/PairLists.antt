@@ -190,7 +190,7 @@ goes_alone {cells} {others} {numbers} {slots} {at} {at'} n e w is = record {
   paired = paired_none cells others at' n e;
   within = w;
   long = rw is (defaults_long others);
-  taken = λ c r f g. absurd (at_none n c (at' + r) f);
+  taken = λ c r f g. absurd (at_none n c _ f);
   other = λ r lt f. rw is (defaults_at others r);
 }
 
@@ -214,10 +214,10 @@ module _ (cells_a cells_b others_a others_b : List Cell) (numbers : List ℤ) (x
   first_none c le = false_from_ne_true _ (λ e. omega (arith, (h.within.in_range c e).1))
 
   has_first : (c : ℕ) → c < next → has_cell (xs ++ ys) c ≡ has_cell xs c
-  has_first c lt = names_append xs ys c ∙ ap (λ (b : Bool). has_cell xs c || b) (second_none c lt) ∙ or-false (has_cell xs c)
+  has_first c lt = names_append xs ys c ∙ ap (λ b. has_cell xs c || b) (second_none c lt) ∙ or-false (has_cell xs c)
 
   has_second : (c : ℕ) → next ≤ c → has_cell (xs ++ ys) c ≡ has_cell ys c
-  has_second c le = names_append xs ys c ∙ ap (λ (b : Bool). b || has_cell ys c) (first_none c le)
+  has_second c le = names_append xs ys c ∙ ap (λ b. b || has_cell ys c) (first_none c le)
 
   paired : AreFrom (cells_a ++ cells_b) (others_a ++ others_b) at' (p ++ q)
   paired = paired_append h.paired refl g.paired
@@ -230,7 +230,7 @@ module _ (cells_a cells_b others_a others_b : List Cell) (numbers : List ℤ) (x
   taken_at c r e f (inl lt) =
       let place : slice_get p c ≡ Some (Some (at' + r)) = sym (at_left p q c lt) ∙ e in
       let pair = h.paired.pairs c (at' + r) place in
-      get_or_append_left s t (pos 0) r (omega arith) ∙ h.taken c r place (sym (has_first (at + c) (omega arith)) ∙ f)
+      get_or_append_left s t (pos 0) r (omega arith) ∙ h.taken c r place (sym (has_first _ (omega arith)) ∙ f)
   taken_at c r e f (inr b) =
       let place = behind_at p q c b e in
       let pair = g.paired.pairs b.more (at' + r) place in

@@ -36,10 +36,10 @@ module _ (x y : List (List Cell)) (olds news : List Desc) where
       → get_or (comparers x y olds news k) j no_comparer ≡ comparer_of (comparers x y olds news j) x y olds j (get_or news j no_desc)
   comparer_at k j lt =
       let row = λ (earlier : List Comparer) (d : Desc). comparer_of earlier x y olds (length earlier) d in
-      first_at row news no_comparer k j lt ∙ rw (first_long row news j)
+      first_at row news _ k j lt ∙ rw (first_long row news j)
 
   pub carrier_at : (k j : ℕ) → j < k → get_or (carriers x y olds news k) j no_carrier ≡ carrier_of (carriers x y olds news j) x y olds (get_or news j no_desc)
-  carrier_at k j lt = first_at (λ (earlier : List Carrier) (d : Desc). carrier_of earlier x y olds d) news no_carrier k j lt
+  carrier_at k j lt = first_at (λ (earlier : List Carrier) (d : Desc). carrier_of earlier x y olds d) news _ k j lt
 
 module _ (olds news : List Desc) (numbers numbers' : List ℤ) (old : StructsGood olds) (new : StructsGood news) where
   abbrev KnownTable : ℕ → Type 0
@@ -79,12 +79,11 @@ module _ (olds news : List Desc) (numbers numbers' : List ℤ) (old : StructsGoo
   pub tables : (k : ℕ) → k ≤ length news → KnownTable k
   tables k le = record {
     rows = λ j lt.
-        rw (comparer_at (cells_of olds) (cells_of news) olds news k j lt, carrier_at (cells_of olds) (cells_of news) olds news k j lt)
+        rw (comparer_at _ _ olds news k j lt, carrier_at _ _ olds news k j lt)
         (by_less (λ m. m < length news → Next m)
         (λ m before less. row m less (record {
           rows = λ i l.
-              rw (comparer_at (cells_of olds) (cells_of news) olds news m i l, carrier_at (cells_of olds) (cells_of news) olds news m i l)
-              (before i l (omega arith));
+              rw (comparer_at _ _ olds news m i l, carrier_at _ _ olds news m i l) (before i l (omega arith));
         })) k j lt (omega arith));
   }
 
@@ -104,7 +103,7 @@ ClashRefuses old new d e v part part' numbers numbers' x y = DevicesClash old ne
 
 pub part_good : (set : Set) → WellFormed set → (d : Desc) → IsPartOf set d → DescGood (length set.structs) d
 part_good set well d (inl p) = rw (← p.is) (device_good set well p.i p.device p.there)
-part_good set well d (inr p) = rw (← p.is) (sub_good set well p.i p.j p.device p.sub p.there p.below)
+part_good set well d (inr p) = rw (← p.is) (sub_good set well p.i p.j _ p.sub p.there p.below)
 
 known_at : (structs : List Meaning) (all : List Field) (v : ℕ) (numbers : List ℤ) (base : ℕ) (es : List Entry) (p : ℕ) (e : Entry) → slice_get es p ≡ Some e
     → AreKnown structs all v numbers base es → IsKnown structs all v numbers base e
@@ -124,21 +123,20 @@ module _ (old new : Set) (good_old : WellFormed old) (good_new : WellFormed new)
 
   -- the cells of structures, made either way
   to_meanings : (P : (x y : List (List Cell)) → Type 0) → P (struct_cells old) (struct_cells new) → P (cells_in ms) (cells_in ns)
-  to_meanings P h = rw (cells_first old.structs _, cells_first new.structs _) h
+  to_meanings P h = rw (cells_first _ _, cells_first _ _) h
 
   pub to_cells : (P : (x y : List (List Cell)) → Type 0) → P (cells_in ms) (cells_in ns) → P (struct_cells old) (struct_cells new)
-  to_cells P h = rw (← (cells_first old.structs _), ← (cells_first new.structs _)) h
+  to_cells P h = rw (← (cells_first _ _), ← (cells_first _ _)) h
 
   pub all_tables : (numbers numbers' : List ℤ)
       → Table (rules_to old.structs new.structs (length new.structs)) (carries_to old.structs new.structs (length new.structs)) ms ns numbers numbers'
       (length old.structs) (length new.structs)
-  all_tables numbers numbers' =
-      tables old.structs new.structs numbers numbers' (structs_good old good_old) (structs_good new good_new) (length new.structs) (omega arith)
+  all_tables numbers numbers' = tables _ _ numbers numbers' (structs_good old good_old) (structs_good new good_new) _ (omega arith)
 
   -- the default of each cell of a description of new fits it
   pub good_cells : (b : Desc) → DescGood (length new.structs) b → GoodCells (desc_cells (struct_cells new) b)
   good_cells b good =
-      let below = fields_below _ b.fields (λ j f e. (good.new j f e).item) in
+      let below = fields_below _ _ (λ j f e. (good.new j f e).item) in
       to_cells (λ x y. GoodCells (desc_cells y b)) (good_fields _ _ b.fields 0 b.fields (λ j l. ((all_tables [] []).rows j l).good) below good.defaults)
 
   -- two parts at which no rule fails
@@ -150,15 +148,15 @@ module _ (old new : Set) (good_old : WellFormed old) (good_new : WellFormed new)
       let fits_in = to_meanings (λ x y. FitsAt (desc_cells x a) numbers at) fits in
       to_cells (λ x y. Meets numbers numbers' (desc_slots ms a v numbers at) (λ q. desc_slots ns b v numbers' q) (desc_cells y b)
       (carry_desc (carriers x y old.structs new.structs (length new.structs)) x y numbers v v a b at))
-      (desc_meets (all_tables numbers numbers') a b v v part part' at (old_fields _ _ a.fields numbers at fits_in good_a.old) good_b fits_in
+      (desc_meets (all_tables _ _) a b v v part part' at (old_fields _ _ _ _ at fits_in good_a.old) good_b fits_in
       (to_meanings (λ x y. compare_desc (comparers x y old.structs new.structs (length new.structs)) x y a b v v part part' ≡ None) same))
 
   pub devices_clash : (i k : ℕ) (d e : Device) → slice_get old.devices i ≡ Some d → slice_get new.devices k ≡ Some e → (v : ℕ) (part part' : Part)
       (numbers numbers' : List ℤ) → ClashRefuses old new d e v part part' numbers numbers' (struct_cells old) (struct_cells new)
   devices_clash i k d e in_old in_new v part part' numbers numbers' =
       to_cells (λ x y. ClashRefuses old new d e v part part' numbers numbers' x y) (λ clash fits.
-      let plain = old_fields _ _ d.desc.fields numbers 0 fits (device_good old good_old i d in_old).old in
-      desc_clashes (all_tables numbers numbers') d.desc e.desc v v part part' 0 plain (device_good new good_new k e in_new) fits 0 clash)
+      let plain = old_fields _ _ _ _ 0 fits (device_good old good_old i d in_old).old in
+      desc_clashes (all_tables _ _) d.desc e.desc v v part part' 0 plain (device_good new good_new k e in_new) fits 0 clash)
 
   module _ (a b : Desc) (of_old : IsPartOf old a) (of_new : IsPartOf new b) (v : ℕ) (part part' : Part) (numbers numbers' : List ℤ) (at at' : ℕ) where
     abbrev es : List Entry
@@ -174,7 +172,7 @@ module _ (old new : Set) (good_old : WellFormed old) (good_new : WellFormed new)
     good = part_good new good_new b of_new
 
     plain : FitsAt (desc_cells (cells_in ms) a) numbers at → OldFields (length old.structs) (λ k. numbers_of (cells_in ms) a numbers at k) a.fields
-    plain fits = old_fields _ _ a.fields numbers at fits (part_good old good_old a of_old).old
+    plain fits = old_fields _ _ _ _ at fits (part_good old good_old a of_old).old
 
     read_in : IsRead old new a b v part part' numbers numbers' at at' (cells_in ms) (cells_in ns)
     read_in p e f h =
@@ -190,18 +188,17 @@ module _ (old new : Set) (good_old : WellFormed old) (good_new : WellFormed new)
         let first : (q : ℕ) (e f : Entry) → q < p → slice_get es q ≡ Some e → slice_get fs q ≡ Some f → PairGood here.two e f = λ q e f lt x y.
         let d = h.paired q e f lt x y in
         record { rules = d.rules; structs = d.structs } in
-        front_aligns here good.earlier (plain h.fits) h.fits p es fs 0 0 h.on_old h.on_new first
-        (first_state (all_tables numbers numbers') a b v v part part' at at')
+        front_aligns here good.earlier (plain h.fits) h.fits p es fs 0 0 h.on_old h.on_new first (first_state (all_tables _ _) a b v v part part' at at')
 
 pub position_stands : PositionLaw
 position_stands old new good_old good_new a b of_old of_new v part part' numbers numbers' at at' =
     to_cells old new good_old good_new (λ x y. IsRead old new a b v part part' numbers numbers' at at' x y)
-    (read_in old new good_old good_new a b of_old of_new v part part' numbers numbers' at at')
+    (read_in old new good_old good_new a b of_old of_new v part part' _ _ at at')
 
 pub aligned_stands : AlignedLaw
 aligned_stands old new good_old good_new a b of_old of_new v part part' numbers numbers' at at' =
     to_cells old new good_old good_new (λ x y. FrontAligns old new a b v part part' numbers numbers' at at' x y)
-    (front_in old new good_old good_new a b of_old of_new v part part' numbers numbers' at at')
+    (front_in old new good_old good_new a b of_old of_new v part part' _ _ at at')
 
 module _ (old new : Set) (good_old : WellFormed old) (good_new : WellFormed new) (d e : Device) (image : Image) (numbers' : List ℤ)
     (came_of : Sub → Option ℕ) where
@@ -239,7 +236,7 @@ module _ (old new : Set) (good_old : WellFormed old) (good_new : WellFormed new)
   abbrev came_meets : (t : Sub) (c : Came t)
       → Meets image.numbers numbers' (sub_slots old c.sub c.version image.numbers c.place) (λ y. sub_slots new t c.version numbers' y) (sub_cells t)
       (carrying old new image.numbers c.version c.sub.desc t.desc c.place)
-  came_meets t c = part_meets old new good_old good_new c.sub.desc t.desc c.version c.part c.part' c.good c.good' c.same image.numbers numbers' c.place c.fits
+  came_meets t c = part_meets old new good_old good_new _ t.desc _ c.part _ c.good c.good' c.same _ _ _ c.fits
 
   one_fit : (t : Sub) → Stayed t ⊎ Came t → FitCells (sub_cells t) (carried_of t)
   one_fit t (inl s) = rw s.numbers (fit_defaults _ s.good)
@@ -271,7 +268,7 @@ module _ (old new : Set) (good_old : WellFormed old) (good_new : WellFormed new)
   one_reads : (t : Sub) (ts : List Sub) (place : ℕ) → Stayed t ⊎ Came t → Holds numbers' place (carried_of t) → length (carried_of t) ≡ length (sub_cells t)
       → SubsRead ts (place + length (sub_cells t)) → SubsRead (t ∷ ts) place
   one_reads t ts place (inl s) held size h =
-      let first : Settled [] place (sub_cells t) (carried_of t) = rw s.numbers (settled_defaults [] place (sub_cells t)) in
+      let first : Settled [] place (sub_cells t) (carried_of t) = rw s.numbers (settled_defaults [] place _) in
       record { versions = rw s.came h.versions; rules = rw s.came h.rules; settled = rw s.came (settled_append size first (omega arith) h.settled) }
   one_reads t ts place (inr c) held size h =
       let r = sub_reads t c place held in

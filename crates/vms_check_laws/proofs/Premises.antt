@@ -222,7 +222,7 @@ module _ (ms ns : List Meaning) (numbers numbers' : List ℤ) (own own' : ℕ �
   covered_slots (Num k) One (Unused r) One caps caps' x y step step' covers single single' =
       (r, refl, numbers_length numbers k caps 1 x step ∙ omega (arith, eqb-true (width k) r covers))
   covered_slots (Num k) (Fixed p) (Unused r) One caps caps' x y step step' covers single single' =
-      (r, refl, numbers_length numbers k caps p x step ∙ eqb-true (p * width k) r covers)
+      (r, refl, numbers_length _ k caps p x step ∙ eqb-true (p * width k) r covers)
   covered_slots _ _ _ _ caps caps' x y step step' covers single single' = absurd (cc)
 
 -- ---- the present fields of a description: their slots, and what is known of each
@@ -252,7 +252,7 @@ module _ (structs : List Meaning) (all : List Field) (v : ℕ) (own : ℕ → �
 
   entry_slots : (i p : ℕ) (f : Field) (pr : Option (Option Formula)) (es : List Entry) → presence v f.test f.since ≡ pr
       → slots_at i p f ++ entries_slots es ≡ entries_slots (entry_of i p f pr ++ es)
-  entry_slots i p f None es h = rw (presence_there f.test f.since v own no_parent, h)
+  entry_slots i p f None es h = rw (presence_there f.test _ v own _, h)
   entry_slots i p f (Some rest) es h = refl
 
   pub slots_entries : (i p : ℕ) (fs : List Field)
@@ -290,7 +290,7 @@ module _ (structs : List Meaning) (all : List Field) (v : ℕ) (numbers : List �
 
   own_is : (i p : ℕ) (f : Field) → slice_get all i ≡ Some f → place i ≡ base + p
       → own_of i ≡ residue (width (kind_of f.item)) (get_or numbers (base + p) (pos 0))
-  own_is i p f h e = rw (get_or_from_slice_get all i f no_field h, e)
+  own_is i p f h e = rw (get_or_from_slice_get all i f _ h, e)
 
   entry_known : (i p : ℕ) (f : Field) (pr : Option (Option Formula)) (es : List Entry) → presence v f.test f.since ≡ pr → slice_get all i ≡ Some f
       → place i ≡ base + p → (Whole → FitsAt (field_cells (cells_in structs) all i f) numbers (base + p)) → AreKnown es → AreKnown (entry_of i p f pr ++ es)

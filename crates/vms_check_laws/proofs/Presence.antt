@@ -50,7 +50,7 @@ module _ (ok : ℕ → Bool) where
 
   -- the rest of a test names what the test names
   pub named_left : (u : ℕ) (t : Formula) → names_well ok nobody t ≡ true → Named (reduced u t)
-  named_left u t h = open_reduced IsNamed named_by_parts ok (λ field mask rel value e. e) u t h
+  named_left u t h = open_reduced _ named_by_parts ok (λ field mask rel value e. e) u t h
 
   abbrev pub NamedRest : Option Formula → Type 0
   NamedRest None = Unit {0}
@@ -116,8 +116,7 @@ not_covered i c j covers number =
 pub numbers_length : (numbers : List ℤ) (kind : Kind) (caps : List ℕ) (n at step : ℕ)
     → length (zeroed numbers (times n (λ c. Number c kind caps ∷ []) at step)) ≡ n * width kind
 numbers_length numbers kind caps zero at step = omega arith
-numbers_length numbers kind caps (suc n) at step =
-    rw (length-append, length-code kind (get_or numbers at (pos 0)), numbers_length numbers kind caps n (at + step) step) (grind arith)
+numbers_length numbers kind caps (suc n) at step = rw (length-append, length-code kind _, numbers_length numbers kind caps n (at + step) step) (grind arith)
 
 pub constant_length : (numbers : List ℤ) (kind : Kind) (z : ℤ) → length (zeroed numbers (Constant kind z ∷ [])) ≡ width kind
 constant_length numbers kind z = rw (length-append, length-code kind z) (omega arith)

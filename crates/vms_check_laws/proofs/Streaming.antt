@@ -30,7 +30,7 @@ found_device k (d ∷ devices) name instance r h =
       | inl now ↦
           let same : k ≡ r = cc (now.1) in
           let p = and_parts (bytes_eq d.desc.name name) (d.instance == instance) now.0 in
-          let name_is = (bytes_eq-Decides d.desc.name name).0 p.0 in
+          let name_is = (bytes_eq-Decides _ name).0 p.0 in
           (0, omega arith, record { device = d; stands = refl; name_is = name_is; instance_is = eqb-true d.instance instance p.1 })
       | inr later ↦
           let f = found_device (suc k) devices name instance r later.1 in
@@ -91,7 +91,7 @@ device_stands old new good_old good_new i k d e paired image id saved lt =
     let q =
     or_else_none (comparing old new d.desc e.desc d.desc.version (parts.Device i) (parts.Device k))
     (first_answer (compare_subs old new i k e) 0 d.subs) p.1 in
-    section_whole old new good_old good_new i k d e paired.in_old paired.in_new q.1 image saved (parts.Device i) (parts.Device k) q.0
+    section_whole old new good_old good_new i k d e paired.in_old paired.in_new q.1 image saved _ _ q.0
     ((passes 4 (is_version_of e.desc d.desc.version) [] (here (parts.Device i)) (here (parts.Device k)) p.0).0) paired.names paired.instances id lt
 
 module _ (old new : Set) (good_old : WellFormed old) (good_new : WellFormed new) (none : Compatible old new) where
@@ -121,7 +121,7 @@ module _ (old new : Set) (good_old : WellFormed old) (good_new : WellFormed new)
       → compare_device old new i d (Some p.number) (Some p.device) ≡ None
   compared_none i d e p =
       let z : i ≡ 0 + i = omega arith in
-      rw (← p.compared_is, z) (answers_none (λ i d. compared old new i d) 0 old.devices rules.devices i d e)
+      rw (← p.compared_is, z) (answers_none (λ i d. compared old new i d) 0 _ rules.devices i d e)
 
   -- ---- each of new's devices has one section
 
@@ -135,12 +135,12 @@ module _ (old new : Set) (good_old : WellFormed old) (good_new : WellFormed new)
 
   each_new : (k : ℕ) → slice_get (map (λ (d : Device). false) new.devices) k ≡ Some false → Among k (device_order new old.devices)
   each_new k waits =
-      let x = from_map (λ (d : Device). false) new.devices k false waits in
+      let x = from_map (λ (d : Device). false) _ k false waits in
       let e = x.0 in
-      let r = found_some _ ((passes 3 (is_in old e) [] (here parts.Set) (here (parts.Device (0 + k))) (answers_none _ 0 new.devices rules.news k e x.1)).0) in
-      let f = found_device 0 old.devices e.desc.name e.instance r.0 r.1 in
+      let r = found_some _ ((passes 3 (is_in old e) [] (here parts.Set) (here (parts.Device (0 + k))) (answers_none _ 0 _ rules.news k e x.1)).0) in
+      let f = found_device 0 _ _ _ r.0 r.1 in
       let d = f.2.device in
-      order_has old.devices f.0 k d f.2.stands (rw (f.2.name_is, f.2.instance_is) (device_found new good_new k e x.1))
+      order_has _ f.0 k d f.2.stands (rw (f.2.name_is, f.2.instance_is) (device_found new good_new k e x.1))
 
   abbrev none_came : List Bool
   none_came = map (λ (d : Device). false) new.devices
@@ -165,7 +165,7 @@ module _ (old new : Set) (good_old : WellFormed old) (good_new : WellFormed new)
   pub each_once : EachOnce none_came (device_order new old.devices)
   each_once =
       takes_each _ true _ (λ e. cc) EachOnce (λ xs f. all_came xs (λ j e. f j false e refl)) (λ xs k b order e h more. (e ∙ ap Some h, more)) none_came 0 _
-      (order_rises 0 old.devices (from_zero (slice_get old.devices))) (λ k b e h. each_new k (rw h at e))
+      (order_rises 0 _ (from_zero (slice_get old.devices))) (λ k b e h. each_new k (rw h at e))
 
   module _ (images : List Image) where
     -- the image of new's device is old's of this name, carried
@@ -206,7 +206,7 @@ module _ (old new : Set) (good_old : WellFormed old) (good_new : WellFormed new)
   configured None h = refl
   configured (Some name) h =
       let r = rules old new good_old good_new none in
-      (every_one (is_one_of new.machines) old.machines name r.machines h, omega (arith, machine_short old good_old name h), refl)
+      (every_one _ _ name r.machines h, omega (arith, machine_short old good_old name h), refl)
 
   one_each : (images : List Image) → length (carried old new images) ≡ length new.devices
   unfolding carried
@@ -217,14 +217,14 @@ module _ (old new : Set) (good_old : WellFormed old) (good_new : WellFormed new)
       → AreReady old images → IsStream new new.machines (written old machine images text) machine (carried old new images) text
   stream machine text images named short ready = record {
     named = optional configuration machine;
-    configured = configured machine named;
+    configured = configured _ named;
     one_each = one_each images;
     order = device_order new old.devices;
     each_once = each_once old new good_old good_new none;
     sections = written_sections old 0 old.devices images;
     footed = true;
     bare = λ e. cc;
-    spelled = spell old new good_old good_new none images 0 old.devices images ready.one_each (from_zero (slice_get old.devices))
+    spelled = spell old new good_old good_new none images 0 _ images ready.one_each (from_zero (slice_get old.devices))
         (from_zero (λ k. get_or images k (no_image old new))) ready.ready (omega (arith, few_devices old good_old));
     tail = optional trailer text;
     described = trailed text short;
@@ -233,7 +233,7 @@ module _ (old new : Set) (good_old : WellFormed old) (good_new : WellFormed new)
 
 pub upgrade_stands : UpgradeLaw
 upgrade_stands old new well_old well_new compatible machine text images named short ready =
-    let s = stream old new well_old well_new compatible machine text images named short ready in
+    let s = stream old new well_old well_new compatible _ text images named short ready in
     record {
       stream = s;
       taken = λ rest all. record { bytes = written old machine images text; text = text; stream = s; rest = rest; prefix = refl; long = refl; all = all };

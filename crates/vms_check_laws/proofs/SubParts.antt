@@ -28,7 +28,7 @@ found_from all name k r (s ∷ subs) at h = elim (if_is (λ o. o) (bytes_eq s.de
 ]
 
 pub look_up : (subs : List Sub) (name : List ℕ) → (find_sub 0 subs name ≡ None) ⊎ Found subs name
-look_up subs name = by (find_sub 0 subs name) refl where
+look_up subs name = by _ refl where
   by : (r : Option ℕ) → find_sub 0 subs name ≡ r → (find_sub 0 subs name ≡ None) ⊎ Found subs name
   by None h = inl h
   by (Some r) h =
@@ -121,8 +121,7 @@ has_part set d numbers from (s ∷ subs) (None ∷ came) c e =
     record { j = suc h.j; sub = h.sub; version = h.version; there = h.there; is_come = h.is_come; has = h.has }
 has_part set d numbers from (s ∷ subs) (Some v ∷ came) c e =
     let next = from + sub_size set s in
-    elim (or_split (has_cell (sub_slots set s v numbers from) c) _
-    (sym (names_append (sub_slots set s v numbers from) (came_slots set d numbers next subs came) c) ∙ e)) [
+    elim (or_split _ _ (sym (names_append (sub_slots set s v numbers from) (came_slots set d numbers next subs came) c) ∙ e)) [
       | inl f ↦ record { j = 0; sub = s; version = v; there = refl; is_come = refl; has = f }
       | inr f ↦
           let h = has_part set d numbers next subs came c f.1 in

@@ -51,7 +51,7 @@ module _ {A : Type 0} (Open : A → Type 0) (done : A) (back : ℕ → Option �
     takes_each P none one xs j [] h covers = none xs covers
     takes_each P none one xs j (k ∷ order) h covers =
         one xs k h.1 order h.4 h.5
-        (takes_each P none one (slice_set xs k done) (suc h.0) order (rises_set xs k h.0 (suc h.0) order h.3 (omega arith) h.6)
+        (takes_each P none one (slice_set xs k done) (suc h.0) order (rises_set xs k h.0 _ order h.3 (omega arith) h.6)
         (λ l x e open_x. still xs k l order x h.1 h.4 e open_x (λ f. covers l x f open_x)))
 
 none_left : (left : List (Option ℕ)) → ((j v : ℕ) → slice_get left j ≡ Some (Some v) → ⊥) → AreAll left
@@ -86,7 +86,7 @@ saved set d image r = record {
   normal = r.normal;
   valid = r.valid;
   version = r.version;
-  subs = λ j s v at_j at_came. come_version set d image 0 d.subs image.came j s v r.needed at_j at_came;
+  subs = λ j s v at_j at_came. come_version set d image 0 d.subs _ j s v r.needed at_j at_came;
 }
 
 pub at_map : {A B : Type 0} (f : A → B) (xs : List A) (j : ℕ) (x : A) → slice_get xs j ≡ Some x → slice_get (map f xs) j ≡ Some (f x)
@@ -175,7 +175,7 @@ module _ (old new : Set) (good_old : WellFormed old) (good_new : WellFormed new)
   fact : (l : ℕ) (t : Sub) → slice_get e.subs l ≡ Some t → FactOf t
   fact l t at_l = elim (look_up d.subs t.desc.name) [ inl none ↦ stayed l t at_l (rw none) (rw none) | inr f ↦ by_came f _ refl ] where
     by_came : (f : Found d.subs t.desc.name) (o : Option (Option ℕ)) → slice_get image.came f.number ≡ o → FactOf t
-    by_came f (Some (Some v)) at_came = inr (came_is f.number l f.sub t v f.there at_l f.name_is at_came f.found)
+    by_came f (Some (Some v)) at_came = inr (came_is _ l f.sub t v f.there at_l f.name_is at_came f.found)
     by_came f None at_came = stayed l t at_l (rw (f.found, at_came)) (rw (f.found, f.there, at_came))
     by_came f (Some None) at_came = stayed l t at_l (rw (f.found, at_came)) (rw (f.found, f.there, at_came))
 
@@ -228,8 +228,8 @@ module _ (old new : Set) (good_old : WellFormed old) (good_new : WellFormed new)
         let c = came_here j s v at_j at_came p in
         let body = zeroed image.numbers (sub_slots old s v image.numbers (sub_place old (own_cells old d) d.subs j)) in
         let held_t = sub_held old new good_old good_new d e image numbers' came e.subs _ p.number p.sub p.there facts held in
-        let spells = (sub_reads old new good_old good_new d e image numbers' came p.sub c _ held_t).carries.spells in
-        rw (p.there, at_map came e.subs p.number p.sub p.there, c.came) (body, spells, rw p.name_is)
+        let spells = (sub_reads old new good_old good_new d e image _ came p.sub c _ held_t).carries.spells in
+        rw (p.there, at_map came e.subs _ p.sub p.there, c.came) (body, spells, rw p.name_is)
 
     -- the subsections from one on: their bytes, and each that is present once
     record Walk (j : ℕ) (subs : List Sub) (cs : List (Option ℕ)) (place : ℕ) : Type 0 where
@@ -259,7 +259,7 @@ module _ (old new : Set) (good_old : WellFormed old) (good_new : WellFormed new)
             Some v,
             le,
             rw (p.found, p.there) (back j s at_j p),
-            rw (p.found, at_map came e.subs p.number p.sub p.there, (came_here j s v at_j at_came p).came),
+            rw (p.found, at_map came e.subs _ p.sub p.there, (came_here j s v at_j at_came p).came),
             (v, refl),
             more.rises (suc j) (omega arith),
           );
@@ -267,9 +267,7 @@ module _ (old new : Set) (good_old : WellFormed old) (good_new : WellFormed new)
     walk j place _ _ h h' h'' = record { spells = refl; rises = λ m le. tt }
 
     walked : Walk 0 d.subs image.came (own_cells old d)
-    walked =
-        walk 0 (own_cells old d) d.subs image.came (from_zero (slice_get d.subs)) (from_zero (slice_get image.came))
-        (from_zero (sub_place old (own_cells old d) d.subs))
+    walked = walk 0 _ d.subs _ (from_zero (slice_get d.subs)) (from_zero (slice_get image.came)) (from_zero (sub_place old (own_cells old d) d.subs))
 
     each_once : ComesOnce image'.came (sub_order e d.subs image.came)
     each_once =
@@ -288,9 +286,8 @@ module _ (old new : Set) (good_old : WellFormed old) (good_new : WellFormed new)
       let good_a = device_good old good_old i d at_i in
       let good_b = device_good new good_new k e at_k in
       let sub_cells = flat_map (λ s. desc_cells (struct_cells new) s.desc) e.subs in
-      let fits : FitsAt (desc_cells (struct_cells old) d.desc) numbers 0 =
-      fits_left (flat_map (λ s. desc_cells (struct_cells old) s.desc) d.subs) (fits_whole (device_cells old d) numbers ready.normal.cells) in
-      let own_meets = part_meets old new good_old good_new d.desc e.desc v part part' good_a good_b (rw ready.version same) numbers numbers' 0 fits in
+      let fits : FitsAt (desc_cells (struct_cells old) d.desc) numbers 0 = fits_left _ (fits_whole _ _ ready.normal.cells) in
+      let own_meets = part_meets old new good_old good_new d.desc e.desc v part part' good_a good_b (rw ready.version same) _ _ 0 fits in
       let own_size = fit_length cells own own_meets.fits in
       let place_is : 0 + length own ≡ own_cells new e = omega arith in
       let held_rest : Holds numbers' (own_cells new e) rest = holds_at place_is (holds_right own (holds_whole numbers')) in
@@ -307,7 +304,7 @@ module _ (old new : Set) (good_old : WellFormed old) (good_new : WellFormed new)
         normal = record {
           version = rw ready.version (version_is e.desc d.desc.version version);
           subs = subs.versions;
-          cells = (are_fit (device_cells new e) numbers'
+          cells = (are_fit _ _
               (fit_append cells sub_cells own rest own_meets.fits (subs_fit old new good_old good_new d e image numbers' came e.subs facts)));
           absent = λ c below absent.
               let z : 0 + c ≡ c = omega arith in

@@ -2,7 +2,7 @@
 pub use Rattle.std.proofs.Common.{Bool, Equal, Err, Greater, IfOk, IsUtf8, Less, List, None, Ok, Option, Ordering, Result, Some, [], ap, append_assoc, ap₂}
 pub use Rattle.std.proofs.Common.{arith, codes, cond, decimal, drop, eqb, false, get_or, if◌then◌else◌, is_eq, is_some, length, length-drop, length-take, ltb}
 pub use Rattle.std.proofs.Common.{map, option_and_then, option_map, refl, rules, slice_set, string_bytes, subst, suc, sym, take, take_all, true, zero, ℕ}
-pub use Rattle.std.proofs.Common.{⊎_elim, ◌&&◌, ◌*◌, ◌++◌, ◌+◌, ◌-◌, ◌<◌, ◌==◌, ◌||◌, ◌∙◌, ◌∷◌, ◌≡◌, ◌≤◌}
+pub use Rattle.std.proofs.Common.{⊎_elim, ◌&&◌, ◌*◌, ◌++◌, ◌+◌, ◌-◌, ◌<◌, ◌||◌, ◌∙◌, ◌∷◌, ◌≡◌, ◌≤◌}
 pub use Rattle.std.proofs.Math.Bool.{and-false, and_assoc, and_comm, and_self_left, or-false, or-true}
 pub use Rattle.std.proofs.Math.ListN.{set}
 pub use Rattle.std.proofs.Math.Seq.{drop-append_seam, set-append_seam, take-append_seam}
@@ -43,7 +43,7 @@ pub use Rattle.vms_json.specs.declared.parse.NoNode.TheVariants.{Syntax}
 pub use Rattle.fast_float.specs.Text.{scan}
 pub use Rattle.json.proofs.Grammar.{items_end, items_more, members_end, members_more, members_no_key, read_key-shorter, value-begin_array, value-begin_object}
 pub use Rattle.json.proofs.Grammar.{value_is}
-pub use Rattle.json.specs.Json.{Parse, after_end_array, if_last, items_step, parse_map, read_key, value}
+pub use Rattle.json.specs.Json.{Parse, after_end_array, if_last, parse_map, read_key, value}
 unfoldable pub use Rattle.json.specs.Json.{items, members}
 pub use Rattle.json.specs.Lex.{tokens}
 pub use Rattle.json.specs.Reads.{token_of}

@@ -1,9 +1,9 @@
 -- What the whole text says, one token later, and before its first token.
 use Rattle.vms_json.proofs.Facade.{◌≡◌, ℕ, zero, suc, ◌-◌, ◌<◌, ◌≤◌, List, [], ◌∷◌, length, Option, Some, None, option_map, option_and_then, refl, ap, ◌∙◌}
-use Rattle.vms_json.proofs.Facade.{◌++◌, sym, arith, false, Token, Parse, parse_map, after_end_array, read_key, items_step, items, members, if_last, value}
-use Rattle.vms_json.proofs.Facade.{items_end, items_more, members_end, members_no_key, members_more, value_is, value-begin_array, value-begin_object, Data}
-use Rattle.vms_json.proofs.Facade.{array, object, no_items, item, Members, no_members, put, Items, of_json, of_items, of_members, converted, max_depth, read}
-use Rattle.vms_json.proofs.Facade.{Frame, in_list, in_object, before, room, inside, after, value_due, items_due, members_due, tokens, Laid, IsUnder}
+use Rattle.vms_json.proofs.Facade.{◌++◌, sym, arith, false, Token, Parse, parse_map, after_end_array, read_key, items, members, if_last, value, items_end}
+use Rattle.vms_json.proofs.Facade.{items_more, members_end, members_no_key, members_more, value_is, value-begin_array, value-begin_object, Data, array, object}
+use Rattle.vms_json.proofs.Facade.{no_items, item, Members, no_members, put, Items, of_json, of_items, of_members, converted, max_depth, read, Frame, in_list}
+use Rattle.vms_json.proofs.Facade.{in_object, before, room, inside, after, value_due, items_due, members_due, tokens, Laid, IsUnder}
 use Rattle.json.specs.Json as json
 
 -- ---- The grammar's loops, one turn at a time, under the conversion to data, as the port of serde_json

@@ -1,11 +1,13 @@
 -- Lists of keys, lists of answers of items, the value of bytes, and members one after the other.
 use Rattle.vms_json.proofs.Facade.{MatchOption, same_Some, ◌≡◌, ℕ, zero, suc, take, drop, false, List, ◌∷◌, ◌++◌, ◌&&◌, Bool, map, Ordering, Less, Equal}
-use Rattle.vms_json.proofs.Facade.{Greater, is_eq, refl, ap, ap₂, true, sym, ◌∙◌, [], ◌||◌, ◌+◌, subst, decimal, append_assoc, if◌then◌else◌, Option, Some}
-use Rattle.vms_json.proofs.Facade.{None, is_some, Result, Ok, Err, IfOk, IsUtf8, is_eq-slice_cmp, bytes_eq-Decides, slice_cmp, nat_cmp, match_ordering}
-use Rattle.vms_json.proofs.Facade.{list_all, list_any, bytes_eq, is_utf8, and-false, and_assoc, and_comm, and_self_left, Bor, append-nil, map-append}
-use Rattle.vms_json.proofs.Facade.{IsUtf8-from_is_utf8, is_utf8-from_IsUtf8, Data, object, Members, no_members, member, put, Items, no_items, item, as_object}
-use Rattle.vms_json.proofs.Facade.{Row, front, data_in, members_in, tree_view, is_one_of, one_of_both, has, has_all, has_no_others, Fault, Answer, good, bad}
-use Rattle.vms_json.proofs.Facade.{under, next, changed, each_from, Refuses, read, value_in, Tree, NoNode}
+use Rattle.vms_json.proofs.Facade.{Greater, is_eq, refl, ap, ap₂, true, sym, ◌∙◌, [], ◌||◌, ◌+◌, decimal, append_assoc, if◌then◌else◌, Option, Some, None}
+use Rattle.vms_json.proofs.Facade.{is_some, Result, Ok, Err, IfOk, IsUtf8, is_eq-slice_cmp, bytes_eq-Decides, slice_cmp, nat_cmp, match_ordering, list_all}
+use Rattle.vms_json.proofs.Facade.{list_any, bytes_eq, is_utf8, and-false, and_assoc, and_comm, and_self_left, Bor, append-nil, map-append, IsUtf8-from_is_utf8}
+use Rattle.vms_json.proofs.Facade.{is_utf8-from_IsUtf8, Data, object, Members, no_members, member, put, Items, no_items, item, as_object, Row, front, data_in}
+use Rattle.vms_json.proofs.Facade.{members_in, tree_view, is_one_of, one_of_both, has, has_all, has_no_others, Fault, Answer, good, bad, under, next, changed}
+use Rattle.vms_json.proofs.Facade.{each_from, Refuses, read, value_in, Tree, NoNode, ◌<◌, ◌≤◌, cond, eqb, ltb, option_and_then, length, codes, arith, ⊎_elim}
+use Rattle.vms_json.proofs.Facade.{position, position_or_len, cases_lt, lt-ltb, le-ltb, eq-eqb, ne_eqb, false≢true, length-append, position_or_len_push}
+use Rattle.vms_json.proofs.Facade.{prefix_len-le-length, get, as_str, or_else, at_name, text_or_none, names_of, first_of}
 use Rattle.vms_json.specs.Answers.{IsUnder}
 use Rattle.vms_json.specs.declared.node.Row.TheVariants as rows
 use Rattle.vms_json.specs.declared.fault.Fault.TheVariants as faults
@@ -25,9 +27,9 @@ any_is key (k ∷ ks) = rw (any_is key ks)
 turned : (a b c : Bool) → (a && (b && c)) ≡ ((b && a) && c)
 turned a b c = sym (and_assoc a b c) ∙ ap (λ t. t && c) (and_comm a b)
 
-put_one : (keys : List (List ℕ)) (k : List ℕ) (d : Data) (ms : Members) → has_no_others keys (put k d ms) ≡ (is_one_of keys k && has_no_others keys ms)
-put_one keys k d no_members = refl
-put_one keys k d (member l e ms) = by_order (put_one keys k d ms) (slice_cmp nat_cmp k l) refl
+put_key : (keys : List (List ℕ)) (k : List ℕ) (d : Data) (ms : Members) → has_no_others keys (put k d ms) ≡ (is_one_of keys k && has_no_others keys ms)
+put_key keys k d no_members = refl
+put_key keys k d (member l e ms) = by_order (put_key keys k d ms) (slice_cmp nat_cmp k l) refl
   where
     by_order : has_no_others keys (put k d ms) ≡ (is_one_of keys k && has_no_others keys ms) → (o : Ordering) → slice_cmp nat_cmp k l ≡ o
         → has_no_others keys (match_ordering o (member k d (member l e ms)) (member l d ms) (member l e (put k d ms)))
@@ -45,25 +47,25 @@ others_stay keys zero rs found e = e
 others_stay keys (suc n) [] found e = e
 others_stay keys (suc n) (rows.Key s ∷ rs) found e =
     let d = data_in n (take (front rs) rs) in
-    others_stay keys n (drop (front rs) rs) (put s.now d found) (put_one keys s.now d found ∙ ap (λ (r : Bool). is_one_of keys s.now && r) e ∙ and-false (is_one_of keys s.now))
+    others_stay keys n (drop (front rs) rs) (put s.now d found) (put_key keys s.now d found ∙ ap (λ (r : Bool). is_one_of keys s.now && r) e ∙ and-false (is_one_of keys s.now))
 others_stay keys (suc n) _ found e = e
 
 -- one of the first keys or of the others
-one_more : (needed allowed : List (List ℕ)) (k : List ℕ) (d : Data) (ms : Members)
+key_more : (needed allowed : List (List ℕ)) (k : List ℕ) (d : Data) (ms : Members)
     → has_no_others (needed ++ allowed) (put k d ms) ≡ ((is_one_of needed k || is_one_of allowed k) && has_no_others (needed ++ allowed) ms)
-one_more needed allowed k d ms = put_one (needed ++ allowed) k d ms ∙ ap (λ b. b && has_no_others (needed ++ allowed) ms) (one_of_both needed allowed k)
+key_more needed allowed k d ms = put_key (needed ++ allowed) k d ms ∙ ap (λ b. b && has_no_others (needed ++ allowed) ms) (one_of_both needed allowed k)
 
 pub one_other : (needed allowed : List (List ℕ)) (k : List ℕ) (d : Data) (ms : Members) → is_one_of needed k ≡ false → is_one_of allowed k ≡ false
     → has_no_others (needed ++ allowed) (put k d ms) ≡ false
-one_other needed allowed k d ms a b = one_more needed allowed k d ms ∙ ap₂ (λ (x y : Bool). (x || y) && has_no_others (needed ++ allowed) ms) a b
+one_other needed allowed k d ms a b = key_more needed allowed k d ms ∙ ap₂ (λ (x y : Bool). (x || y) && has_no_others (needed ++ allowed) ms) a b
 
 pub one_needed : (needed allowed : List (List ℕ)) (k : List ℕ) (d : Data) (ms : Members) → is_one_of needed k ≡ true → has_no_others (needed ++ allowed) ms ≡ true
     → has_no_others (needed ++ allowed) (put k d ms) ≡ true
-one_needed needed allowed k d ms a e = one_more needed allowed k d ms ∙ ap₂ (λ (x h : Bool). (x || is_one_of allowed k) && h) a e
+one_needed needed allowed k d ms a e = key_more needed allowed k d ms ∙ ap₂ (λ (x h : Bool). (x || is_one_of allowed k) && h) a e
 
 pub one_allowed : (needed allowed : List (List ℕ)) (k : List ℕ) (d : Data) (ms : Members) → is_one_of needed k ≡ false → is_one_of allowed k ≡ true
     → has_no_others (needed ++ allowed) ms ≡ true → has_no_others (needed ++ allowed) (put k d ms) ≡ true
-one_allowed needed allowed k d ms a b e = one_more needed allowed k d ms ∙ ap₂ (λ (x y : Bool). (x || y) && has_no_others (needed ++ allowed) ms) a b ∙ e
+one_allowed needed allowed k d ms a b e = key_more needed allowed k d ms ∙ ap₂ (λ (x y : Bool). (x || y) && has_no_others (needed ++ allowed) ms) a b ∙ e
 
 -- ---- Lists of answers of items.
 
@@ -131,3 +133,63 @@ object_is _ ms e = absurd (cc)
 pub none_left : {A : Type 0} (o : Option A) (P : Type 0) (Q : A → Type 0) → is_some o ≡ false → MatchOption o P Q → P
 none_left None P Q e m = m
 none_left (Some a) P Q e m = absurd (cc)
+
+-- ---- one more at the end
+
+-- the first number below n, or one more, if the first q fail
+one_more : (n q : ℕ) (b : Bool) → q ≤ n → cond (ltb (cond (eqb q n) (n + cond b 0 1) q) (n + 1)) (Some (cond (eqb q n) (n + cond b 0 1) q)) None
+    ≡ or_else (cond (ltb q n) (Some q) None) (if b then Some n else None)
+one_more n q b le = ⊎_elim before after (cases_lt q n)
+  where
+    at : Bool → Option ℕ
+    at same = cond (ltb (cond same (n + cond b 0 1) q) (n + 1)) (Some (cond same (n + cond b 0 1) q)) None
+
+    last : (c : Bool) → cond (ltb (n + cond c 0 1) (n + 1)) (Some (n + cond c 0 1)) None ≡ (if c then Some n else None)
+    last true =
+        let same : n + 0 ≡ n = omega arith in
+        ap (λ k. cond (ltb k (n + 1)) (Some k) None) same ∙ ap (λ t. cond t (Some n) None) (lt-ltb n (n + 1) (omega arith))
+    last false = rw (le-ltb (n + 1) (n + 1) (omega arith))
+
+    before : q < n → at (eqb q n) ≡ or_else (cond (ltb q n) (Some q) None) (if b then Some n else None)
+    before lt = ap at (ne_eqb q n (λ e. omega arith)) ∙ ap (λ t. cond t (Some q) None) (lt-ltb q (n + 1) (omega arith)) ∙ sym (rw (lt-ltb q n lt))
+
+    after : n ≤ q → at (eqb q n) ≡ or_else (cond (ltb q n) (Some q) None) (if b then Some n else None)
+    after ge = ap at (eq-eqb q n (omega arith)) ∙ last b ∙ sym (rw (le-ltb q n ge))
+
+pub position_push : {X : Type 0} (p : X → Bool) (xs : List X) (y : X)
+    → position p (xs ++ y ∷ []) ≡ or_else (position p xs) (if p y then Some (length xs) else None)
+position_push p xs y =
+    rw (length-append xs (y ∷ []), position_or_len_push p xs y) (one_more (length xs) (position_or_len p xs) (p y) (prefix_len-le-length _ xs))
+
+-- ---- the names of fields
+
+-- one more name
+pub one_named : (before : List (List ℕ)) (name q : List ℕ) (i : ℕ) → length before ≡ i → first_of (before ++ name ∷ []) q ≡ or_else (first_of before q) (at_name name i q)
+one_named before name q i long = position_push (λ n. bytes_eq n q) before name ∙ ap (λ k. or_else (first_of before q) (at_name name k q)) long
+
+pub names_on : (before whole : List (List ℕ)) (name : List ℕ) (now rest : Items) (d : Data) → whole ≡ before ++ names_of now → now ≡ item d rest
+    → name ≡ text_or_none (option_and_then as_str (get (codes "name") d)) → whole ≡ (before ++ name ∷ []) ++ names_of rest
+names_on before whole name now rest d e is named =
+    e ∙ ap (λ l. before ++ names_of l) is ∙ ap (λ n. before ++ n ∷ names_of rest) (sym named) ∙ sym (append_assoc before (name ∷ []) (names_of rest))
+
+pub names_end : (before whole : List (List ℕ)) (now : Items) → whole ≡ before ++ names_of now → now ≡ no_items → before ≡ whole
+names_end before whole now e none = sym (e ∙ ap (λ l. before ++ names_of l) none ∙ append-nil before)
+
+-- ---- one more in the index
+
+or_else_none : {A : Type 0} (o : Option A) → or_else o None ≡ o
+or_else_none None = refl
+or_else_none (Some a) = refl
+
+by_name : (same : Bool) (number : ℕ) (old : Option ℕ) → (same ≡ true → old ≡ None) → cond same (Some number) old ≡ or_else old (if same then Some number else None)
+by_name true number old none = ap (λ o. or_else o (Some number)) (sym (none refl))
+by_name false number old none = sym (or_else_none old)
+
+-- a name that wasn't in the index
+pub put_one : (name q : List ℕ) (number : ℕ) (old : List ℕ → Option ℕ) (new : Option ℕ) → old name ≡ None → new ≡ cond (bytes_eq name q) (Some number) (old q)
+    → new ≡ or_else (old q) (if bytes_eq name q then Some number else None)
+put_one name q number old new none is = is ∙ by_name (bytes_eq name q) number (old q) (λ same. ap old (sym ((bytes_eq-Decides name q).0 same)) ∙ none)
+
+pub is_none_of : (o : Option ℕ) → is_some o ≡ false → o ≡ None
+is_none_of None e = refl
+is_none_of (Some k) e = absurd (false≢true (sym e))

@@ -6,9 +6,8 @@ use Rattle.vms_script.proofs.Facade.{IsLine, AreLines, is_wire, NEWEST, ScriptLi
 use Rattle.vms_script.proofs.Facade.{out_line, wire_line, set_spelled, save_line, line_read, is_name_byte, is_name, name_byte_high, is_shelf_name, Split}
 use Rattle.vms_script.proofs.Facade.{Reading, lines_of, also, with_line, lines_read, text_read, script_read, first_word, longer_word, byte_spelled, byte_text}
 use Rattle.dev_board.specs.declared.event.Event.TheVariants as events
-use Rattle.vms_script.specs.declared.line.ScriptReason.TheVariants as reasons
-use Rattle.vms_script.proofs.DigitLemmas.{lacks, lacks-append, byte_lacks, port_lacks, digits_lack, byte_back, port_back}
-use Rattle.vms_script.proofs.NumberLemmas.{EndsEarly, waits_end, wires_end, sets_end}
+use Rattle.vms_script.proofs.NumberLemmas.{lacks, lacks-append, byte_lacks, port_lacks, digits_lack, byte_back, port_back, EndsEarly, waits_end, wires_end}
+use Rattle.vms_script.proofs.NumberLemmas.{sets_end}
 
 -- ---- words and lines of a text that is spelled
 
@@ -41,7 +40,7 @@ shelf_lacks name e =
     name_lacks name (and_parts (nat_le 1 (length name) && nat_le (length name) 64) (list_all is_name_byte name)
     (and_parts (is_name 64 name) (not (get_or name 0 46 == 46)) e).0).1
 
-early_small : (holds : ℕ → Bool) (n : ℕ) → EndsEarly holds → holds n ≡ true → n < 2 ^ 64
+pub early_small : (holds : ℕ → Bool) (n : ℕ) → EndsEarly holds → holds n ≡ true → n < 2 ^ 64
 early_small holds n early h = by (nat_lt n (2 ^ 64)) refl where
   by : (t : Bool) → nat_lt n (2 ^ 64) ≡ t → n < 2 ^ 64
   by true e = ltb-true n (2 ^ 64) e

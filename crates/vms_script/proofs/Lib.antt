@@ -1,10 +1,7 @@
-pub mod DigitLemmas
 pub mod Facade
 pub mod GrammarLemmas
 pub mod GrammarOnly
-pub mod NameLemmas
 pub mod NumberLemmas
 pub mod RefusalLaws
 pub mod Rows
 pub mod ScriptLemmas
-pub mod SplitLemmas

@@ -2,7 +2,9 @@
 use Rattle.vms_script.proofs.Facade.{◌≡◌, ℕ, ◌+◌, ◌-◌, ◌*◌, ◌^◌, ◌<◌, ◌≤◌, Bool, true, false, nat_le, nat_lt, List, length, get_or, drop, Option, Some, None}
 use Rattle.vms_script.proofs.Facade.{Ok, Err, ℤ, pos, negsuc, if◌then◌else◌, refl, sym, ap, ◌∙◌, arith, ltb-false, and_right, lt-ltb, le-ltb, nat_tests}
 use Rattle.vms_script.proofs.Facade.{drop_more, drop_all, natural_from, number_spelled, natural_up, is_wire, NEWEST, ScriptLine, Happens, or_form, or_range}
-use Rattle.vms_script.proofs.Facade.{number_in, is_wait, is_set_of, wire_line, level_spelled, number_read, below_2_64, ScriptReason}
+use Rattle.vms_script.proofs.Facade.{number_in, is_wait, is_set_of, wire_line, level_spelled, number_read, below_2_64, ScriptReason, ◌/◌, ◌%◌, not, ◌&&◌, ◌==◌}
+use Rattle.vms_script.proofs.Facade.{[], ◌∷◌, ◌++◌, list_all, ne_eqb, le-leb, lt-leb, leb-true, and_parts, ltb-true, div-mul-add, mod-mul-add, digit_char}
+use Rattle.vms_script.proofs.Facade.{is_digit, port_text, digit_spelled, joined, byte_spelled, port_spelled, byte_text}
 use Rattle.dev_board.specs.declared.event.Event.TheVariants as events
 use Rattle.vms_script.specs.declared.line.ScriptReason.TheVariants as reasons
 
@@ -22,8 +24,7 @@ some_below n lt = sym (rw (lt-ltb n (2 ^ 64) lt))
 pub natural_stops : (value i d : ℕ) (digits : List ℕ) → i < length digits → below_2_64 (value * 10 + (get_or digits i d - 48)) ≡ None → natural_from value (drop i digits) ≡ natural_from 0 digits → None ≡ below_2_64 (natural_from 0 digits)
 natural_stops value i d digits lt e inv =
     let up : value * 10 + (get_or digits i d - 48) ≤ natural_from (value * 10 + (get_or digits i d - 48)) (drop (i + 1) digits) = natural_up _ (drop (i + 1) digits) in
-    let is : natural_from (value * 10 + (get_or digits i d - 48)) (drop (i + 1) digits) ≡ natural_from 0 digits = sym (ap (natural_from value) (drop_more digits i d lt)) ∙ inv in
-    none_below (natural_from 0 digits) (omega (arith, up, is, (below_none _ e)))
+    none_below (natural_from 0 digits) (omega (arith, up, (sym (ap (natural_from value) (drop_more digits i d lt)) ∙ inv), (below_none _ e)))
 
 pub natural_ends : (value i : ℕ) (digits : List ℕ) → length digits ≤ i → value < 2 ^ 64 → natural_from value (drop i digits) ≡ natural_from 0 digits → Some value ≡ below_2_64 (natural_from 0 digits)
 natural_ends value i digits le lt inv = some_below value lt ∙ ap below_2_64 (sym (ap (natural_from value) (drop_all i digits le)) ∙ inv)
@@ -59,14 +60,12 @@ number_holds holds line (Some (pos n)) v e = by (nat_lt n (2 ^ 64)) refl
     by false q = let f : Err reasons.Range ≡ Ok v = sym (rw q) ∙ e in cc
 
 -- the same of the whole line
-pub in_good : (holds : ℕ → Bool) (line : ℕ → ScriptLine) (text : List ℕ) (v : ℕ) → Ok v ≡ number_read (number_spelled text) → true ≡ holds v → Ok (line v) ≡ number_in holds line text
-in_good holds line text v n h = sym (number_holds holds line (number_spelled text) v (sym n) ∙ ap (λ t. if t then Ok (line v) else Err reasons.Range) (sym h))
-
-pub in_range : (holds : ℕ → Bool) (line : ℕ → ScriptLine) (text : List ℕ) (v : ℕ) → Ok v ≡ number_read (number_spelled text) → false ≡ holds v → Err reasons.Range ≡ number_in holds line text
-in_range holds line text v n h =
+in_judged : (holds : ℕ → Bool) (line : ℕ → ScriptLine) (text : List ℕ) (v : ℕ) (t : Bool) → Ok v ≡ number_read (number_spelled text) → t ≡ holds v
+    → (if t then Ok (line v) else Err reasons.Range) ≡ number_in holds line text
+in_judged holds line text v t n h =
     sym (number_holds holds line (number_spelled text) v (sym n) ∙ ap (λ t. if t then Ok (line v) else Err reasons.Range) (sym h))
 
-pub in_fails : (holds : ℕ → Bool) (line : ℕ → ScriptLine) (text : List ℕ) (reason : ScriptReason) → EndsEarly holds → Err reason ≡ number_read (number_spelled text) → Err reason ≡ number_in holds line text
+in_fails : (holds : ℕ → Bool) (line : ℕ → ScriptLine) (text : List ℕ) (reason : ScriptReason) → EndsEarly holds → Err reason ≡ number_read (number_spelled text) → Err reason ≡ number_in holds line text
 in_fails holds line text reason early n = sym (number_fails holds line (number_spelled text) reason early (sym n))
 
 pub waits_end : EndsEarly is_wait
@@ -87,17 +86,162 @@ wire_spelled (a, b) number level up w r l =
     ap (λ o. or_form o (λ up. number_in is_wire (λ input. Happens (events.Wire input up)) a)) l
     ∙ ap (λ o. or_form o (λ level. or_form (level_spelled level) (λ up. number_in is_wire (λ input. Happens (events.Wire input up)) a))) r
 
-module _ (words : List ℕ × Option (List ℕ)) (number level : List ℕ) (up : Bool) (v : ℕ) (w : number ≡ words.0) (r : Some level ≡ words.1) (l : Some up ≡ level_spelled level)
-    (n : Ok v ≡ number_read (number_spelled number)) where
-  pub wire_good : true ≡ is_wire v → Ok (Happens (events.Wire v up)) ≡ wire_line words
-  wire_good h =
-      in_good is_wire (λ (i : ℕ). Happens (events.Wire i up)) words.0 v (n ∙ ap (λ t. number_read (number_spelled t)) w) h ∙ wire_spelled words number level up w r l
-
-  pub wire_range : false ≡ is_wire v → Err reasons.Range ≡ wire_line words
-  wire_range h =
-      in_range is_wire (λ (i : ℕ). Happens (events.Wire i up)) words.0 v (n ∙ ap (λ t. number_read (number_spelled t)) w) h ∙ wire_spelled words number level up w r l
+pub wire_judged : (words : List ℕ × Option (List ℕ)) (number level : List ℕ) (up : Bool) (v : ℕ) (t : Bool) → number ≡ words.0 → Some level ≡ words.1
+    → Some up ≡ level_spelled level → Ok v ≡ number_read (number_spelled number) → t ≡ is_wire v
+    → (if t then Ok (Happens (events.Wire v up)) else Err reasons.Range) ≡ wire_line words
+wire_judged words number level up v t w r l n h =
+    in_judged is_wire (λ (i : ℕ). Happens (events.Wire i up)) words.0 v t (n ∙ ap (λ t. number_read (number_spelled t)) w) h
+    ∙ wire_spelled words number level up w r l
 
 pub wire_fails : (words : List ℕ × Option (List ℕ)) (number level : List ℕ) (up : Bool) (reason : ScriptReason) → number ≡ words.0 → Some level ≡ words.1 → Some up ≡ level_spelled level
     → Err reason ≡ number_read (number_spelled number) → Err reason ≡ wire_line words
 wire_fails words number level up reason w r l n =
     in_fails is_wire (λ (i : ℕ). Happens (events.Wire i up)) words.0 reason wires_end (n ∙ ap (λ t. number_read (number_spelled t)) w) ∙ wire_spelled words number level up w r l
+
+-- ---- from a value to its digit and back
+
+low_char : (d : ℕ) → d < 10 → digit_char d ≡ 48 + d
+low_char d h = rw (is_lt d h) where
+  is_lt : (d : ℕ) → d < 10 → nat_lt d 10 ≡ true
+  is_lt d h = grind (arith, nat_tests)
+
+high_char : (d : ℕ) → 10 ≤ d → digit_char d ≡ 87 + d
+high_char d h = rw (not_lt d h) where
+  not_lt : (d : ℕ) → 10 ≤ d → nat_lt d 10 ≡ false
+  not_lt d h = grind (arith, nat_tests)
+
+abbrev spelled_by : Bool → Bool → ℕ → Option ℕ
+spelled_by low high b = if low then Some (b - 48) else if high then Some (b - 87) else None
+
+digit_low : (b : ℕ) → 48 ≤ b → b ≤ 57 → digit_spelled b ≡ Some (b - 48)
+digit_low b h i =
+    let low : is_digit b ≡ true = rw (le-leb 48 b h, le-leb b 57 i) refl in
+    ap (λ t. spelled_by t (nat_le 97 b && nat_le b 102) b) low
+
+digit_high : (b : ℕ) → 97 ≤ b → b ≤ 102 → digit_spelled b ≡ Some (b - 87)
+digit_high b h i =
+    let low : is_digit b ≡ false = rw (le-leb 48 b (omega (arith, h)), lt-leb b 57 (omega (arith, h))) refl in
+    let high : (nat_le 97 b && nat_le b 102) ≡ true = rw (le-leb 97 b h, le-leb b 102 i) refl in
+    ap (λ t. spelled_by t (nat_le 97 b && nat_le b 102) b) low ∙ ap (λ t. spelled_by false t b) high
+
+pub digit_back : (d : ℕ) → d < 16 → digit_spelled (digit_char d) ≡ Some d
+digit_back d h = by (nat_lt d 10) refl where
+  by : (t : Bool) → nat_lt d 10 ≡ t → digit_spelled (digit_char d) ≡ Some d
+  by true e =
+      let lt : d < 10 = ltb-true d 10 e in
+      let same : 48 + d - 48 ≡ d = omega arith in
+      ap digit_spelled (low_char d lt) ∙ digit_low (48 + d) (omega arith) (omega (arith, lt)) ∙ ap (λ (n : ℕ). Some n) same
+  by false e =
+      let le : 10 ≤ d = ltb-false d 10 e in
+      let same : 87 + d - 87 ≡ d = omega arith in
+      ap digit_spelled (high_char d le) ∙ digit_high (87 + d) (omega (arith, le)) (omega (arith, h)) ∙ ap (λ (n : ℕ). Some n) same
+
+-- a digit that is read
+pub record IsDigitOf (b d : ℕ) : Type 0 where
+  pub small : d < 16
+  pub char : b ≡ digit_char d
+
+some_same : (m n : ℕ) → Some m ≡ Some n → n ≡ m
+some_same m n e = cc
+
+digit_at : (b d base : ℕ) → digit_spelled b ≡ Some d → digit_spelled b ≡ Some (b - base) → b - base < 16 → digit_char (b - base) ≡ b → IsDigitOf b d
+digit_at b d base e f small char =
+    let is : d ≡ b - base = some_same (b - base) d (sym f ∙ e) in
+    record { small = omega (arith, is, small); char = sym (ap digit_char is ∙ char) }
+
+bounds : (low high b : ℕ) → (nat_le low b && nat_le b high) ≡ true → (low ≤ b) × (b ≤ high)
+bounds low high b e = let parts = and_parts (nat_le low b) (nat_le b high) e in (leb-true low b parts.0, leb-true b high parts.1)
+
+pub digit_is : (b d : ℕ) → digit_spelled b ≡ Some d → IsDigitOf b d
+digit_is b d e = by (is_digit b) (nat_le 97 b && nat_le b 102) refl refl where
+  by : (l h : Bool) → is_digit b ≡ l → (nat_le 97 b && nat_le b 102) ≡ h → IsDigitOf b d
+  by true h p q =
+      let (from, to) = bounds 48 57 b p in
+      digit_at b d 48 e (digit_low b from to) (omega arith) (low_char (b - 48) (omega arith) ∙ (omega arith))
+  by false true p q =
+      let (from, to) = bounds 97 102 b q in
+      digit_at b d 87 e (digit_high b from to) (omega arith) (high_char (b - 87) (omega arith) ∙ (omega arith))
+  by false false p q = let none : None ≡ Some d = sym (rw (p, q)) ∙ e in cc
+
+pub byte_back : (v : ℕ) → v < 256 → byte_spelled (byte_text v) ≡ Some v
+byte_back v h = rw (digit_back (v / 16) (omega arith)) (ap (joined 16 (Some (v / 16))) (digit_back (v % 16) (omega arith)) ∙ ap (λ n. Some n) (omega arith))
+
+pub port_back : (p : ℕ) → p < 65536 → port_spelled (port_text p) ≡ Some p
+port_back p h = rw (byte_back (p / 256) (omega arith)) (ap (joined 256 (Some (p / 256))) (byte_back (p % 256) (omega arith)) ∙ ap (λ n. Some n) (omega arith))
+
+pub record Joins (base : ℕ) (high low : Option ℕ) (v : ℕ) : Type 0 where
+  pub a : ℕ
+  pub b : ℕ
+  pub first : high ≡ Some a
+  pub second : low ≡ Some b
+  pub value : v ≡ a * base + b
+
+joins : (base : ℕ) (high low : Option ℕ) (v : ℕ) → joined base high low ≡ Some v → Joins base high low v
+joins base (Some a) (Some b) v e = record { a = a; b = b; first = refl; second = refl; value = some_same (a * base + b) v e }
+joins base _ _ v e = cc
+
+-- two texts of the parts of a number
+both : (base v a b : ℕ) (text_of : ℕ → List ℕ) (first second : List ℕ) → v ≡ a * base + b → b < base → first ≡ text_of a → second ≡ text_of b → first ++ second ≡ text_of (v / base) ++ text_of (v % base)
+both base v a b text_of first second value small f s =
+    let high : v / base ≡ a = ap (λ n. n / base) value ∙ div-mul-add a base b small in
+    let low : v % base ≡ b = ap (λ n. n % base) value ∙ mod-mul-add a base b small in
+    ap (λ t. t ++ second) (f ∙ ap text_of (sym high)) ∙ ap (λ t. text_of (v / base) ++ t) (s ∙ ap text_of (sym low))
+
+-- a text that is read, of a number below a limit
+pub record IsTextOf (limit : ℕ) (text_of : ℕ → List ℕ) (text : List ℕ) (n : ℕ) : Type 0 where
+  pub small : n < limit
+  pub text_is : text ≡ text_of n
+
+pub byte_is : (text : List ℕ) (v : ℕ) → byte_spelled text ≡ Some v → IsTextOf 256 byte_text text v
+byte_is (a ∷ b ∷ []) v e =
+    let j = joins 16 (digit_spelled a) (digit_spelled b) v e in
+    let x = digit_is a j.a j.first in
+    let y = digit_is b j.b j.second in
+    record {
+      small = omega (arith, j.value, x.small, y.small);
+      text_is = both 16 v j.a j.b (λ d. digit_char d ∷ []) (a ∷ []) (b ∷ []) j.value y.small (ap (λ c. c ∷ []) x.char) (ap (λ c. c ∷ []) y.char);
+    }
+byte_is _ v e = cc
+
+pub port_is : (text : List ℕ) (p : ℕ) → port_spelled text ≡ Some p → IsTextOf 65536 port_text text p
+port_is (a ∷ b ∷ c ∷ d ∷ []) p e =
+    let j = joins 256 (byte_spelled (a ∷ b ∷ [])) (byte_spelled (c ∷ d ∷ [])) p e in
+    let x = byte_is (a ∷ b ∷ []) j.a j.first in
+    let y = byte_is (c ∷ d ∷ []) j.b j.second in
+    record {
+      small = omega (arith, j.value, x.small, y.small);
+      text_is = both 256 p j.a j.b byte_text (a ∷ b ∷ []) (c ∷ d ∷ []) j.value y.small x.text_is y.text_is;
+    }
+port_is _ p e = cc
+
+-- ---- digits are neither spaces nor line feeds
+
+abbrev pub lacks : ℕ → List ℕ → Bool
+lacks byte text = list_all (λ b. not (b == byte)) text
+
+char_up : (d : ℕ) → 48 ≤ digit_char d
+char_up d = by (nat_lt d 10) refl where
+  by : (t : Bool) → nat_lt d 10 ≡ t → 48 ≤ digit_char d
+  by true e = let same = low_char d (ltb-true d 10 e) in omega arith
+  by false e = let same = high_char d (ltb-false d 10 e) in omega arith
+
+other : (b byte : ℕ) → byte < 48 → 48 ≤ b → not (b == byte) ≡ true
+other b byte h i = ap not (ne_eqb b byte (λ e. omega arith))
+
+pub byte_lacks : (byte v : ℕ) → byte < 48 → lacks byte (byte_text v) ≡ true
+byte_lacks byte v h = rw (other (digit_char (v / 16)) byte h (char_up (v / 16)), other (digit_char (v % 16)) byte h (char_up (v % 16))) refl
+
+pub lacks-append : (byte : ℕ) (xs ys : List ℕ) → lacks byte xs ≡ true → lacks byte ys ≡ true → lacks byte (xs ++ ys) ≡ true
+lacks-append byte [] ys h i = i
+lacks-append byte (x ∷ xs) ys h i =
+    let parts = and_parts (not (x == byte)) (lacks byte xs) h in
+    rw (parts.0, lacks-append byte xs ys parts.1 i) refl
+
+pub port_lacks : (byte p : ℕ) → byte < 48 → lacks byte (port_text p) ≡ true
+port_lacks byte p h = lacks-append byte (byte_text (p / 256)) (byte_text (p % 256)) (byte_lacks byte (p / 256) h) (byte_lacks byte (p % 256) h)
+
+pub digits_lack : (byte : ℕ) (text : List ℕ) → byte < 48 → list_all is_digit text ≡ true → lacks byte text ≡ true
+digits_lack byte [] h e = refl
+digits_lack byte (b ∷ text) h e =
+    let parts = and_parts (is_digit b) (list_all is_digit text) e in
+    rw (other b byte h (leb-true 48 b (and_parts (nat_le 48 b) (nat_le b 57) parts.0).0), digits_lack byte text h parts.1) refl

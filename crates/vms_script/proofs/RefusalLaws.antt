@@ -3,7 +3,7 @@ use Rattle.vms_script.proofs.Facade.{◌≡◌, ℕ, ◌+◌, Bool, true, false,
 use Rattle.vms_script.proofs.Facade.{subst, arith, append_assoc, [], and_parts, not-true, first_line, longer_line, line_text, script_text, Read, line_read}
 use Rattle.vms_script.proofs.Facade.{unended_reason, IsBadHere, IsRefused, RefusesFirst, Split, Reading, BadLine, lines_of, begun, with_line, unended}
 use Rattle.vms_script.proofs.Facade.{tail_read, lines_read, script_read, ScriptReason}
-use Rattle.vms_script.proofs.DigitLemmas.{lacks}
+use Rattle.vms_script.proofs.NumberLemmas.{lacks}
 use Rattle.vms_script.proofs.GrammarOnly.{unsplit, text_split, line_is}
 
 -- ---- the lines of a text have no line feed

@@ -2,7 +2,9 @@
 use Rattle.vms_script.proofs.Facade.{◌≡◌, ℕ, ◌+◌, ◌<◌, Bool, true, false, ◌==◌, List, [], ◌∷◌, ◌++◌, length, Option, Some, None, Ok, Err, if◌then◌else◌, refl}
 use Rattle.vms_script.proofs.Facade.{sym, ap, ◌∙◌, arith, append_assoc, eqb-true, append-nil, first_line, longer_line, ScriptLine, Read, line_read, Split}
 use Rattle.vms_script.proofs.Facade.{Reading, lines_of, begun, bad, also, with_line, unended, tail_read, lines_read, text_read, SaysLines, IsBadAt, IsPut}
-use Rattle.vms_script.proofs.Facade.{IsRefusal, ReadsLines, ScriptFault, Bad, NoMemory, ScriptReason}
+use Rattle.vms_script.proofs.Facade.{IsRefusal, ReadsLines, ScriptFault, Bad, NoMemory, ScriptReason, zero, suc, ◌≤◌, get_or, take, drop, ⊎_elim, codes}
+use Rattle.vms_script.proofs.Facade.{bytes_eq, cases_lt, ne_eqb, eq-eqb, none-some, Ack, Happens, line_split, first_word, longer_word, ◌&&◌, nat_le, not}
+use Rattle.vms_script.proofs.Facade.{list_all, IsAscii, slice_index, and_parts, is_name_byte, is_name, name_byte_low, is_shelf_name}
 use Rattle.vms_script.specs.declared.line.ScriptReason.TheVariants as reasons
 
 -- ---- the lines of a text by its first line
@@ -109,3 +111,69 @@ is_empty text e = eqb-true (length text) 0 e
 pub is_some : (text : List ℕ) → (length text == 0) ≡ false → 0 < length text
 is_some [] e = cc
 is_some (b ∷ text) e = omega arith
+
+-- a byte is at an offset, and not before it
+abbrev pub NotBefore : ℕ → List ℕ → ℕ → Type 0
+NotBefore byte xs i = (k : ℕ) → k < i → get_or xs k 0 ≡ byte → ⊥
+
+word_at : (xs : List ℕ) (i : ℕ) → i < length xs → get_or xs i 0 ≡ 32 → NotBefore 32 xs i → first_word xs ≡ (take i xs, Some (drop (suc i) xs))
+word_at [] i lt is before = absurd (omega arith)
+word_at (b ∷ xs) zero lt is before = rw (eq-eqb b 32 is)
+word_at (b ∷ xs) (suc i) lt is before =
+    rw (ne_eqb b 32 (before 0 (omega arith))) (ap (longer_word b) (word_at xs i (omega arith) is (λ k h. before (suc k) (omega arith))))
+
+one_word : (xs : List ℕ) → NotBefore 32 xs (length xs) → first_word xs ≡ (xs, None)
+one_word [] none = refl
+one_word (b ∷ xs) none = rw (ne_eqb b 32 (none 0 (omega arith))) (ap (longer_word b) (one_word xs (λ k h. none (suc k) (omega arith))))
+
+-- the first space ends the first word
+pub found_word : (xs : List ℕ) (i : ℕ) → i < length xs → get_or xs i 0 ≡ 32 → NotBefore 32 xs i → first_word xs ≡ (take i xs, Some (drop (i + 1) xs))
+found_word xs i lt is before =
+    let s : suc i ≡ i + 1 = omega arith in
+    word_at xs i lt is before ∙ ap (λ (k : ℕ). (take i xs, Some (drop k xs))) s
+
+pub no_blank : (xs : List ℕ) (i : ℕ) → length xs ≤ i → NotBefore 32 xs i → first_word xs ≡ (xs, None)
+no_blank xs i end none = one_word xs (λ k h is. none k (omega arith) is)
+
+-- nothing was found so far
+pub none_yet : (byte : ℕ) (xs : List ℕ) → NotBefore byte xs 0
+none_yet byte xs k h is = absurd (omega arith)
+
+pub none_here : (byte : ℕ) (xs : List ℕ) (i : ℕ) → (get_or xs i 0 ≡ byte → ⊥) → NotBefore byte xs i → NotBefore byte xs (i + 1)
+none_here byte xs i other before k h is = ⊎_elim (λ lt. before k lt is) here (cases_lt k i) where
+  here : i ≤ k → ⊥
+  here from =
+      let same : i ≡ k = omega (arith, h, from) in
+      other (ap (λ n. get_or xs n 0) same ∙ is)
+
+-- a line without a space is its own first word
+by_blank : (t : Bool) (b : ℕ) (xs : List ℕ) → ((first_word xs).1 ≡ None → (first_word xs).0 ≡ xs)
+    → (if t then ([], Some xs) else longer_word b (first_word xs)).1 ≡ None → (if t then ([], Some xs) else longer_word b (first_word xs)).0 ≡ b ∷ xs
+by_blank true b xs whole none = absurd (none-some xs (sym none))
+by_blank false b xs whole none = rw (whole none)
+
+whole_word : (xs : List ℕ) → (first_word xs).1 ≡ None → (first_word xs).0 ≡ xs
+whole_word [] none = refl
+whole_word (b ∷ xs) none = by_blank (b == 32) b xs (λ e. whole_word xs e) none
+
+lone_word : (xs : List ℕ) → (first_word xs).1 ≡ None → first_word xs ≡ (xs, None)
+lone_word xs none = ap (λ word. (word, (first_word xs).1)) (whole_word xs none) ∙ ap (λ rest. (xs, rest)) none
+
+-- a line with a space isn't empty
+pub words_long : (xs rest : List ℕ) → (first_word xs).1 ≡ Some rest → 0 < length xs
+words_long [] rest some = absurd (none-some rest some)
+words_long (b ∷ xs) rest some = omega arith
+
+-- what a line of one word that isn't `ack` says
+pub other_says : (play : Option ℕ) (xs : List ℕ) → bytes_eq xs (codes "ack") ≡ false → (first_word xs).1 ≡ None → line_read play xs ≡ Err reasons.Form
+other_says play xs other none = ap (line_split play) (lone_word xs none) ∙ ap (λ t. if t then Ok (Happens Ack) else Err reasons.Form) other
+
+bytes_ascii : (bytes : List ℕ) → list_all is_name_byte bytes ≡ true → (i : ℕ) → slice_index bytes i < 128
+bytes_ascii [] e i = omega arith
+bytes_ascii (b ∷ bytes) e zero = let low = name_byte_low b (and_parts (is_name_byte b) (list_all is_name_byte bytes) e).0 in omega arith
+bytes_ascii (b ∷ bytes) e (suc i) = bytes_ascii bytes (and_parts (is_name_byte b) (list_all is_name_byte bytes) e).1 i
+
+pub name_ascii : (name : List ℕ) → is_shelf_name name ≡ true → IsAscii name
+name_ascii name e =
+    let named = and_parts (is_name 64 name) (not (get_or name 0 46 == 46)) e in
+    bytes_ascii name (and_parts (nat_le 1 (length name) && nat_le (length name) 64) (list_all is_name_byte name) named.0).1

@@ -1,16 +1,9 @@
 -- A bound on the slots of a part, whatever its numbers are.
-use Rattle.std.proofs.Common.{◌≡◌, ℕ, zero, suc, ◌+◌, ◌*◌, ◌≤◌, Bool, true, false, if◌then◌else◌, List, [], ◌∷◌, length, length-append, map, get_or, Option, Some, None, ℤ, arith}
-use Rattle.std.specs.List.{slice_get}
-use Rattle.std.proofs.Math.Nat.{mul-le-mul_right}
-use Rattle.vms_kinds.specs.declared.Item.{Item}
-use Rattle.vms_kinds.specs.declared.Item.TheVariants.{Struct}
-use Rattle.vms_spec.specs.Images.{Image, own_cells, sub_place}
-use Rattle.vms_spec.specs.Layout.{Slot, Rule, Meaning, no_meaning, no_desc, all_hold, capacity_of, counted, desc_slots, elements_of, field_cells, field_slots, first, item_size, item_slots, meaning, meanings, no_parent, numbers_of, slots_from, times}
-use Rattle.vms_spec.specs.Sets.{Desc, Device, Field, Set, Sub}
-use Rattle.vms_spec.specs.SoFar.{part_slots, slots_of_sub}
-use Rattle.vms_spec.specs.Tests.{is_there}
-use Rattle.vms_spec.proofs.Sizes.{elements_fit}
-use Rattle.vms_spec.proofs.Tables.{one_more}
+use Rattle.vms_stream_laws.proofs.Facade.{◌≡◌, ℕ, zero, suc, ◌+◌, ◌*◌, ◌≤◌, Bool, true, false, if◌then◌else◌, List, [], ◌∷◌, length, length-append, map, get_or}
+use Rattle.vms_stream_laws.proofs.Facade.{Option, Some, None, ℤ, arith, slice_get, mul-le-mul_right, Item, Struct, Image, own_cells, sub_place, Slot, Rule}
+use Rattle.vms_stream_laws.proofs.Facade.{Meaning, no_meaning, no_desc, all_hold, capacity_of, counted, desc_slots, elements_of, field_cells, field_slots}
+use Rattle.vms_stream_laws.proofs.Facade.{first, item_size, item_slots, meaning, meanings, no_parent, numbers_of, slots_from, times, Desc, Device, Field, Set}
+use Rattle.vms_stream_laws.proofs.Facade.{Sub, part_slots, slots_of_sub, is_there, elements_fit, one_more}
 
 -- a structure has at most this many
 abbrev IsWithin : ℕ → Meaning → Type 0

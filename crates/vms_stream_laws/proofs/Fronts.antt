@@ -1,18 +1,6 @@
 -- Units without a fault are those with which some stream of the set begins, validations aside.
-use Rattle.std.proofs.Common.{ℕ, List, [], ◌∷◌, ◌++◌, length, refl, sym, subst}
-use Rattle.std.proofs.lemmas.List.{append-nil}
-use Rattle.std.proofs.Math.Seq.{take-append_seam}
-use Rattle.vms_kinds.proofs.ByteLemmas.{bytes_first}
-use Rattle.vms_kinds.specs.Bytes.{IsBytes}
-use Rattle.vms_spec.specs.Heads.{FitsHeads}
-use Rattle.vms_spec.specs.Sets.{Set}
-use Rattle.vms_spec.specs.Units.{Piece, spelled}
-use Rattle.vms_spec.specs.WellFormed.{WellFormed}
-use Rattle.vms_stream.specs.Faults.{Front}
-use Rattle.vms_stream.specs.Laws.{Ends}
-use Rattle.vms_stream.proofs.Stated.{units_hold}
-use Rattle.vms_stream_laws.specs.Laws.{BeginningLaw, Begins, HoldsBefore, RefusedLaw}
-use Rattle.vms_stream_laws.specs.Unruled.{unruled}
+use Rattle.vms_stream_laws.proofs.Facade.{ℕ, List, [], ◌∷◌, ◌++◌, length, refl, sym, subst, append-nil, take-append_seam, bytes_first, IsBytes, FitsHeads, Set}
+use Rattle.vms_stream_laws.proofs.Facade.{Piece, spelled, WellFormed, Front, Ends, units_hold, BeginningLaw, Begins, HoldsBefore, RefusedLaw, unruled}
 use Rattle.vms_stream_laws.proofs.Onward.{goes_on}
 use Rattle.vms_stream_laws.proofs.SoFar.{all_hold, from_bare, to_bare}
 use Rattle.vms_stream_laws.proofs.WellFormed.{still_fits, still_well}

@@ -1,4 +1,5 @@
 pub mod Bounds
+pub mod Facade
 pub mod Fronts
 pub mod Lists
 pub mod Onward

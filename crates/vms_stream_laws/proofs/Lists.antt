@@ -1,11 +1,6 @@
 -- Lists whose elements are put to others: what is found in them is what was found before.
-use Rattle.std.proofs.Common.{◌≡◌, ℕ, zero, suc, Bool, if◌then◌else◌, ◌||◌, List, [], ◌∷◌, map, Option, Some, None, refl, ap}
-use Rattle.std.specs.List.{list_any, slice_get}
-use Rattle.std.specs.Option.{option_map}
-use Rattle.std.proofs.lemmas.Option.{slice_get-map}
-use Rattle.vms_spec.specs.Lists.{at_option, first_answer, position}
-use Rattle.vms_spec.proofs.Faultless.{or_else_none}
-use Rattle.vms_spec.proofs.ListLaws.{both_none}
+use Rattle.vms_stream_laws.proofs.Facade.{◌≡◌, ℕ, zero, suc, Bool, List, [], ◌∷◌, map, Option, Some, None, refl, list_any, slice_get, option_map, slice_get-map}
+use Rattle.vms_stream_laws.proofs.Facade.{at_option, first_answer, position, or_else_none, both_none}
 
 module _ {X Y : Type 0} (f : X → Y) where
   pub map_both : {Z : Type 0} (g : Y → Z) (xs : List X) → map g (map f xs) ≡ map (λ x. g (f x)) xs

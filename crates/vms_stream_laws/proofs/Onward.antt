@@ -1,36 +1,18 @@
 -- Units without a fault go on to an end, if every validation holds. The open section's fields come with the
 -- number 0, its constants and unused bytes. Then come its footer, a section of each device that hasn't come,
 -- and the end mark.
-use Rattle.std.proofs.Common.{◌≡◌, ℕ, zero, suc, ◌+◌, ◌<◌, ◌≤◌, Bool, true, false, List, [], ◌∷◌, ◌++◌, append_assoc, length, length-drop, length-set, drop, slice_set, ℤ, pos, Option, Some, None, refl, sym, ap, ◌∙◌, subst, arith}
-use Rattle.std.specs.Prelude.{replicate}
-use Rattle.std.specs.List.{slice_get}
-use Rattle.std.proofs.lemmas.Bool.{leb-true}
-use Rattle.std.proofs.lemmas.List.{length-map, length-replicate}
-use Rattle.std.proofs.lemmas.Option.{slice_get_within}
-use Rattle.vms_kinds.specs.Bytes.{IsBytes}
-use Rattle.vms_kinds.specs.declared.Kind.{Kind}
-use Rattle.vms_kinds.proofs.ByteLemmas.{bytes_both}
-use Rattle.vms_spec.specs.Good.{IsGood}
-use Rattle.vms_spec.specs.Heads.{FitsHeads}
-use Rattle.vms_spec.specs.Images.{Image, own_cells, sub_place}
-use Rattle.vms_spec.specs.Layout.{Slot}
-use Rattle.vms_spec.specs.Lists.{at_option}
-use Rattle.vms_spec.specs.Sets.{Device, Set, Sub}
-use Rattle.vms_spec.specs.SoFar.{come, device, device_named, id_of, image, mark_come, opened, part, part_slots, slots, slots_of_sub}
-use Rattle.vms_spec.specs.Streams.{AllCame, magic}
-use Rattle.vms_spec.specs.Units.{Piece, Magic, Version, Configuration, Head, Number, Constant, Filler, Foot, End, spell, spelled}
-use Rattle.vms_spec.specs.WellFormed.{WellFormed}
-use Rattle.vms_spec.proofs.WellFormedLaws.{beyond as is_beyond, device_parts, well_good}
-use Rattle.vms_bodies.proofs.ComeLaws.{none_missing}
-use Rattle.vms_bodies.proofs.ConstantLaws.{own_constants, part_constants}
-use Rattle.vms_bodies.proofs.SectionLaws.{AreConstants}
-use Rattle.vms_stream.specs.Dues.{Due, AVersion, Between, AfterFields, May, AtMagic, AtVersion, AtHead, AtEnd, AtNumber, AtConstant, AtFiller, AtFoot, AtNext, due, due_field, fits_four, holds, is_foot}
-use Rattle.vms_stream.specs.Faults.{Front}
-use Rattle.vms_stream.specs.Judge.{owes}
-use Rattle.vms_stream.specs.SoFar.{Tail, Unknown, Footed, Bare, known, passed, skipped, tail}
-use Rattle.vms_stream.specs.Table.{first_of, reason_of}
-use Rattle.vms_stream.proofs.Streams.UnitRows.{end_passes, foot_passes, head_passes}
-use Rattle.vms_stream.proofs.WrittenBytes.{AreBytes, be32_bytes, bytes_at, code_bytes, foot_bytes, head_bytes, parts_named, spelled as spelled_bytes, zeros_bytes}
+use Rattle.vms_stream_laws.proofs.Facade.{◌≡◌, ℕ, zero, suc, ◌+◌, ◌<◌, ◌≤◌, Bool, true, false, List, [], ◌∷◌, ◌++◌, append_assoc, length, length-drop}
+use Rattle.vms_stream_laws.proofs.Facade.{length-set, drop, slice_set, ℤ, pos, Option, Some, None, refl, sym, ap, ◌∙◌, arith, replicate, slice_get, leb-true}
+use Rattle.vms_stream_laws.proofs.Facade.{length-map, length-replicate, slice_get_within, IsBytes, Kind, bytes_both, IsGood, FitsHeads, Image, own_cells}
+use Rattle.vms_stream_laws.proofs.Facade.{sub_place, Slot, at_option, Device, Set, Sub, come, device, device_named, id_of, image, mark_come, opened, part}
+use Rattle.vms_stream_laws.proofs.Facade.{part_slots, slots, slots_of_sub, AllCame, magic, Piece, Magic, Version, Configuration, Head, Number, Constant, Filler}
+use Rattle.vms_stream_laws.proofs.Facade.{Foot, End, spell, spelled, WellFormed, device_parts, well_good, none_missing, own_constants, part_constants}
+use Rattle.vms_stream_laws.proofs.Facade.{AreConstants, Due, AVersion, Between, AfterFields, May, AtMagic, AtVersion, AtHead, AtEnd, AtNumber, AtConstant}
+use Rattle.vms_stream_laws.proofs.Facade.{AtFiller, AtFoot, AtNext, due, due_field, fits_four, holds, is_foot, Front, owes, Tail, Unknown, Footed, Bare, known}
+use Rattle.vms_stream_laws.proofs.Facade.{passed, skipped, tail, reason_of, end_passes, foot_passes, head_passes, AreBytes, be32_bytes, bytes_at, code_bytes}
+use Rattle.vms_stream_laws.proofs.Facade.{foot_bytes, head_bytes, parts_named, zeros_bytes}
+use Rattle.vms_spec.proofs.WellFormedLaws.{beyond as is_beyond}
+use Rattle.vms_stream.proofs.WrittenBytes.{spelled as spelled_bytes}
 use Rattle.vms_stream_laws.proofs.Bounds.{bounded}
 use Rattle.vms_stream_laws.proofs.Units.{AllPassed, ANumber, AConstant, AFiller, Next, NoneWaits, OneWaits, Waits, constant_passes, constants_left, next_of, number_passes, raw_in, waiting, waits, zero_in}
 

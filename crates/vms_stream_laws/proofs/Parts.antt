@@ -1,20 +1,12 @@
 -- The slots of a set without its validations are those of the set, with every rule true.
-use Rattle.std.proofs.Common.{◌≡◌, ℕ, zero, suc, ◌+◌, Bool, true, false, if◌then◌else◌, List, [], ◌∷◌, ◌++◌, length, map, get_or, drop, Option, Some, None, ℤ, refl, sym, ap, ◌∙◌}
-use mathlib.Core.Path.{fun_ext}
-use Rattle.std.specs.List.{flat_map, slice_get}
-use Rattle.std.specs.Option.{option_map}
-use Rattle.std.proofs.lemmas.List.{drop-map, length-map, map-append}
-use Rattle.std.proofs.lemmas.Option.{slice_get-map}
-use Rattle.vms_kinds.specs.declared.Item.{Item}
-use Rattle.vms_kinds.specs.declared.Item.TheVariants.{Struct}
-use Rattle.vms_spec.specs.Images.{Image, default_image, own_cells, sub_place}
-use Rattle.vms_spec.specs.Layout.{Cell, Slot, Filler, Rule, Meaning, no_meaning, no_desc, all_hold, counted, desc_cells, desc_slots, device_cells, elements_of, field_cells, field_slots, first, item_size, item_slots, meaning, meanings, no_parent, numbers_of, slots_from, struct_cells, times}
-use Rattle.vms_spec.specs.Sets.{Desc, Device, Field, Set, Sub}
-use Rattle.vms_spec.specs.SoFar.{fresh, part_slots, slots_of_sub, subs_of}
-use Rattle.vms_spec.specs.Tests.{is_there}
-use Rattle.vms_stream.specs.SoFar.{Tail, Footed, beyond, skipped}
-use Rattle.vms_stream.specs.Dues.{due_field, rules_hold}
-use Rattle.vms_stream_laws.specs.Unruled.{unruled, unruled_desc, unruled_device, unruled_sub}
+use Rattle.vms_stream_laws.proofs.Facade.{◌≡◌, ℕ, zero, suc, ◌+◌, Bool, true, false, if◌then◌else◌, List, [], ◌∷◌, ◌++◌, length, map, get_or, drop, Option}
+use Rattle.vms_stream_laws.proofs.Facade.{Some, None, ℤ, refl, sym, ap, ◌∙◌, flat_map, slice_get, option_map, drop-map, length-map, map-append, slice_get-map}
+use Rattle.vms_stream_laws.proofs.Facade.{fun_ext, Item, Struct, Image, default_image, own_cells, sub_place, Cell, Slot, Rule, Meaning, no_meaning, no_desc}
+use Rattle.vms_stream_laws.proofs.Facade.{all_hold, counted, desc_cells, desc_slots, device_cells, elements_of, field_cells, field_slots, first, item_size}
+use Rattle.vms_stream_laws.proofs.Facade.{item_slots, meaning, meanings, no_parent, numbers_of, slots_from, struct_cells, times, Desc, Device, Field, Set, Sub}
+use Rattle.vms_stream_laws.proofs.Facade.{fresh, part_slots, slots_of_sub, subs_of, is_there, Tail, Footed, beyond, skipped, due_field, rules_hold, unruled}
+use Rattle.vms_stream_laws.proofs.Facade.{unruled_desc, unruled_device, unruled_sub}
+use Rattle.vms_spec.specs.Layout.{Filler}
 use Rattle.vms_stream_laws.proofs.Lists.{map_both}
 
 -- ---- slots whose rules hold

@@ -1,19 +1,11 @@
 -- What the units so far say of a set without its validations is what they say of the set; its validations hold, since it has none.
-use Rattle.std.proofs.Common.{◌≡◌, ℕ, Bool, true, false, not, nat_lt, List, [], ◌∷◌, ◌++◌, drop, map, slice_set, Option, Some, None, refl, sym, ap, ◌∙◌, subst}
-use Rattle.std.specs.Option.{option_map}
-use Rattle.std.specs.Str.{bytes_eq}
+use Rattle.vms_stream_laws.proofs.Facade.{◌≡◌, ℕ, Bool, true, false, not, nat_lt, List, [], ◌∷◌, ◌++◌, drop, map, Option, Some, None, refl, sym, ap, ◌∙◌}
+use Rattle.vms_stream_laws.proofs.Facade.{option_map, bytes_eq, Image, at_option, position, Device, Set, Sub, come, device, device_named, id_of, image}
+use Rattle.vms_stream_laws.proofs.Facade.{mark_come, opened, part, part_slots, slots, sub_named, subs_of, Piece, Magic, Version, Configuration, Head, Number}
+use Rattle.vms_stream_laws.proofs.Facade.{Constant, Filler, SubHead, Foot, End, due, due_field, holds, rules_hold, Front, Known, Tail, behind, beyond, known}
+use Rattle.vms_stream_laws.proofs.Facade.{passed, tail, Row, row, alone, asking, first_of, first_row, is_none, reason_of, test_some, HoldsBefore, unruled}
+use Rattle.vms_stream_laws.proofs.Facade.{unruled_device, unruled_sub}
 use Rattle.vms_spec.specs.declared.Reason.TheVariants as reasons
-use Rattle.vms_spec.specs.Images.{Image}
-use Rattle.vms_spec.specs.Lists.{at_option, position}
-use Rattle.vms_spec.specs.Sets.{Device, Set, Sub}
-use Rattle.vms_spec.specs.SoFar.{come, device, device_named, fresh, id_of, image, mark_come, opened, part, part_slots, put_version, slots, sub_named, subs_of}
-use Rattle.vms_spec.specs.Units.{Piece, Magic, Version, Configuration, Head, Number, Constant, Filler, SubHead, Foot, End}
-use Rattle.vms_stream.specs.Dues.{Due, May, due, due_field, holds, rules_hold}
-use Rattle.vms_stream.specs.Faults.{Front}
-use Rattle.vms_stream.specs.SoFar.{Known, Tail, behind, beyond, known, passed, tail}
-use Rattle.vms_stream.specs.Table.{Row, row, alone, asking, first_of, first_row, is_none, reason_of, test_some}
-use Rattle.vms_stream_laws.specs.Laws.{HoldsBefore}
-use Rattle.vms_stream_laws.specs.Unruled.{unruled, unruled_device, unruled_sub}
 use Rattle.vms_stream_laws.proofs.Lists.{at_map, map_both, position_map}
 use Rattle.vms_stream_laws.proofs.Parts.{beyond_held, drop_held, due_held, fresh_same, held, part_held, rules_held, subs_held}
 

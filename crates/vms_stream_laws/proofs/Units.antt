@@ -1,24 +1,12 @@
 -- The units with which a stream can go on: no row takes them; which slot is due; which devices have not come.
-use Rattle.std.proofs.Common.{◌≡◌, ℕ, zero, suc, ◌+◌, ◌<◌, ◌≤◌, Bool, true, false, not, ◌&&◌, ◌||◌, List, [], ◌∷◌, length, drop, slice_set, ℤ, pos, negsuc, Some, None, refl, ap, ◌∙◌, arith}
-use Rattle.std.specs.List.{slice_get}
-use Rattle.std.proofs.lemmas.Bool.{le-ltb, ltb-false}
-use Rattle.vms_kinds.specs.Codes.{InRange}
-use Rattle.vms_kinds.specs.declared.Kind.{Kind}
-use Rattle.vms_kinds.specs.declared.Kind.TheVariants.{U8, Bool as Truth}
+use Rattle.vms_stream_laws.proofs.Facade.{◌≡◌, ℕ, zero, suc, ◌+◌, ◌<◌, Bool, true, false, not, ◌&&◌, List, [], ◌∷◌, length, drop, slice_set, ℤ, pos, negsuc}
+use Rattle.vms_stream_laws.proofs.Facade.{Some, None, refl, ap, ◌∙◌, arith, slice_get, le-ltb, ltb-false, InRange, Kind, U8, Slot, raw, exceeds, is_above}
+use Rattle.vms_stream_laws.proofs.Facade.{is_truth, same_number, Set, slots, AllCame, Number, Constant, is_below, not_above, same_number_itself, AreConstants}
+use Rattle.vms_stream_laws.proofs.Facade.{AfterFields, due_field, Known, Tail, skipped, first_of, passed_by}
+use Rattle.vms_kinds.specs.declared.Kind.TheVariants.{Bool as Truth}
 use Rattle.vms_spec.specs.declared.Reason.TheVariants as reasons
-use Rattle.vms_spec.specs.Layout.{Slot, Number as NumberSlot, Constant as ConstantSlot, Filler as FillerSlot, Rule as RuleSlot}
-use Rattle.vms_spec.specs.Lookup.{raw}
-use Rattle.vms_spec.specs.Numbers.{exceeds, is_above, is_truth, same_number}
-use Rattle.vms_spec.specs.Sets.{Set}
-use Rattle.vms_spec.specs.SoFar.{slots}
-use Rattle.vms_spec.specs.Streams.{AllCame}
-use Rattle.vms_spec.specs.Units.{Number, Constant}
-use Rattle.vms_spec.proofs.NumberLaws.{is_below, not_above, same_number_itself}
-use Rattle.vms_bodies.proofs.SectionLaws.{AreConstants}
-use Rattle.vms_stream.specs.Dues.{Field, AfterFields, due_field}
-use Rattle.vms_stream.specs.SoFar.{Known, Tail, skipped}
-use Rattle.vms_stream.specs.Table.{first_of}
-use Rattle.vms_stream.proofs.Streams.UnitRows.{passed_by}
+use Rattle.vms_spec.specs.Layout.{Number as NumberSlot, Constant as ConstantSlot, Filler as FillerSlot, Rule as RuleSlot}
+use Rattle.vms_stream.specs.Dues.{Field}
 
 -- ---- units of a part that no row takes
 

@@ -1,22 +1,12 @@
 -- A well-formed set is well formed without its validations.
-use Rattle.std.proofs.Common.{◌≡◌, ℕ, suc, ◌^◌, ◌<◌, Bool, true, false, not, ◌&&◌, nat_le, List, [], ◌∷◌, ◌+◌, length, get_or, map, take, None, refl, sym, ap, ◌∙◌, subst}
-use Rattle.std.specs.List.{list_all, list_any, slice_get}
-use Rattle.std.proofs.lemmas.Bool.{and_from, and_parts}
-use Rattle.std.proofs.lemmas.List.{length-map, take-map}
-use Rattle.vms_spec.specs.declared.TheConstants.{MOST_ITEMS}
-use Rattle.vms_spec.specs.declared.Part.{Part}
+use Rattle.vms_stream_laws.proofs.Facade.{◌≡◌, ℕ, suc, ◌^◌, ◌<◌, Bool, true, false, not, ◌&&◌, nat_le, List, [], ◌∷◌, ◌+◌, length, get_or, map, take, None}
+use Rattle.vms_stream_laws.proofs.Facade.{refl, ap, ◌∙◌, subst, list_all, slice_get, and_from, and_parts, length-map, take-map, MOST_ITEMS, Part, FitsHeads}
+use Rattle.vms_stream_laws.proofs.Facade.{first_answer, or_else, first, is_name, is_small_test, Desc, Device, Set, Sub, WellFormed, are_distinct, deepest}
+use Rattle.vms_stream_laws.proofs.Facade.{desc_fault, device_fault, device_rules, devices_items, failing, fields_fault, first_fault, has_few, here}
+use Rattle.vms_stream_laws.proofs.Facade.{is_same_device, items_in, set_rules, size_rules, struct_depths, struct_fault, struct_items, struct_rules, sub_fault}
+use Rattle.vms_stream_laws.proofs.Facade.{sub_rules, subs_items, validations_fault, AllTrue, all_true, or_else_none, unruled, unruled_desc, unruled_device}
+use Rattle.vms_stream_laws.proofs.Facade.{unruled_sub, both_none}
 use Rattle.vms_spec.specs.declared.Part.TheVariants as parts
-use Rattle.vms_spec.specs.Heads.{FitsHeads}
-use Rattle.vms_spec.specs.Lists.{first_answer, or_else}
-use Rattle.vms_spec.specs.Layout.{first}
-use Rattle.vms_spec.specs.Names.{is_name}
-use Rattle.vms_spec.specs.Rules.{is_small_test}
-use Rattle.vms_spec.specs.Sets.{Desc, Device, Set, Sub}
-use Rattle.vms_spec.specs.Streams.{is_one_of}
-use Rattle.vms_spec.specs.WellFormed.{WellFormed, are_distinct, deepest, desc_fault, device_fault, device_rules, devices_items, failing, fields_fault, first_fault, has_few, here, is_same_device, items_in, set_rules, size_rules, struct_depths, struct_fault, struct_items, struct_rules, sub_fault, sub_rules, subs_items, validations_fault}
-use Rattle.vms_spec.proofs.Faultless.{AllTrue, all_true, or_else_none}
-use Rattle.vms_stream_laws.specs.Unruled.{unruled, unruled_desc, unruled_device, unruled_sub}
-use Rattle.vms_spec.proofs.ListLaws.{both_none}
 use Rattle.vms_stream_laws.proofs.Lists.{any_map, came_from, map_both, none_after}
 use Rattle.vms_stream_laws.proofs.Parts.{first_unruled}
 

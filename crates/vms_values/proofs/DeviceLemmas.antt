@@ -1,14 +1,14 @@
 -- Devices that are read one after the other: their images, their subsections, and what is judged of them.
 use Rattle.vms_values.proofs.Facade.{length-take-le, ◌≡◌, ℕ, ◌+◌, ◌<◌, true, zero, suc, List, [], ◌∷◌, ◌++◌, Some, length, ap, sym, ◌∙◌, subst, arith}
-use Rattle.vms_values.proofs.Facade.{length-append, Option, None, Result, Ok, Err, refl, rules, ◌≤◌, Bool, false, map, take, drop, if◌then◌else◌, append_assoc}
+use Rattle.vms_values.proofs.Facade.{length-append, Option, None, Result, Ok, Err, refl, rules, Bool, false, map, take, drop, if◌then◌else◌, append_assoc}
 use Rattle.vms_values.proofs.Facade.{append-nil, slice_set, flat_map, slice_get, length-map, drop_more, drop_all, take_more, take_all, map-append}
-use Rattle.vms_values.proofs.Facade.{take_more_set, ForSome, Set, Device, Sub, Typed, state_of, default_at, IsOfDevice, IsImageOf, AreImagesOf, device_cells}
-use Rattle.vms_values.proofs.Facade.{desc_cells, struct_cells, device_at, is_well_formed, kinds_at, few_cells, sub_next, HasSpot, IsKept, place_of, IsAlike}
-use Rattle.vms_values.proofs.Facade.{with_came, said_read, sub_read, SubReached, SubsReached, first_line, BadLine, ReadDevice, ReadAll, ValuesRead}
-use Rattle.vms_values.proofs.Facade.{read_devices, ended, values_read, after_machine, machine_named, rest_of, Standing, ReadSubs, readers, read_desc, read_subs}
-use Rattle.vms_values.proofs.Facade.{next_line, then_subs, section_line, is_line, with_device, read_device, or_bad, judge_device, judge_devices, Read, sub_said}
-use Rattle.vms_values.proofs.Facade.{also, read_sub, LineFault, StartsAt, NamesMachine, Start, machine_of, ReadsBy, Image, own_cells, Reading, bad_of, found}
-use Rattle.vms_values.proofs.Facade.{device_read, start_of, DeviceRead, AllRead, or_bad_assoc, MOST_ITEMS, first_cell, sub_at, Taken}
+use Rattle.vms_values.proofs.Facade.{take_more_set, ForSome, Set, Device, Sub, Typed, state_of, default_at, IsOfDevice, IsImageOf, device_cells, desc_cells}
+use Rattle.vms_values.proofs.Facade.{struct_cells, device_at, is_well_formed, few_cells, sub_next, HasSpot, IsKept, place_of, IsAlike, with_came, said_read}
+use Rattle.vms_values.proofs.Facade.{sub_read, SubReached, SubsReached, first_line, BadLine, ReadDevice, ReadAll, ValuesRead, read_devices, ended, values_read}
+use Rattle.vms_values.proofs.Facade.{after_machine, machine_named, rest_of, Standing, ReadSubs, readers, read_desc, read_subs, next_line, then_subs}
+use Rattle.vms_values.proofs.Facade.{section_line, is_line, with_device, read_device, or_bad, judge_device, judge_devices, Read, sub_said, also, read_sub}
+use Rattle.vms_values.proofs.Facade.{LineFault, StartsAt, NamesMachine, Start, machine_of, Image, own_cells, Reading, bad_of, found, device_read, start_of}
+use Rattle.vms_values.proofs.Facade.{DeviceRead, AllRead, or_bad_assoc, first_cell, sub_at, Taken, ReadsBy}
 use Rattle.vms_spec.specs.ValuesReading.{device_read as device_reads}
 use Rattle.vms_values.specs.declared.fault.Values.{Values}
 use Rattle.vms_spec.specs.declared.Part.TheVariants as parts
@@ -38,12 +38,6 @@ own_spot set i v image h =
       room = omega (arith, length-append (desc_cells (struct_cells set) d.desc) (flat_map (λ s. desc_cells (struct_cells set) s.desc) d.subs));
     }
 
-pub image_of : (set : Set) (i : ℕ) (image : Typed) → IsOfDevice set i (state_of image) → image.kinds ≡ kinds_at set i → IsImageOf set i image
-image_of set i image h k = record { subs = h.subs; cells = h.cells; kinds = k }
-
-pub default_kinds : (set : Set) (i : ℕ) (image : Typed) → image ≡ default_at set i → image.kinds ≡ kinds_at set i
-default_kinds set i image e = rw e
-
 at_more : {X : Type 0} (P : ℕ → X → Type 0) (xs : List X) (y : X) → ((k : ℕ) (z : X) → slice_get xs k ≡ Some z → P k z) → P (length xs) y → (k : ℕ) (z : X) → slice_get (xs ++ y ∷ []) k ≡ Some z → P k z
 at_more P [] y h p zero z e = let same : y ≡ z = cc in rw same at p
 at_more P [] y h p (suc k) z e = cc
@@ -61,9 +55,6 @@ first_more set n images more image a o e = record {
   each = λ k other f.
       at_more (IsImageOf set) images image a.each (rw a.count o) k other (rw (sym e) (f));
 }
-
-pub first_all : (set : Set) (n : ℕ) (images : List Typed) → AreFirstImages set n images → length set.devices ≡ n → AreImagesOf set images
-first_all set n images a e = record { one_each = a.count ∙ sym e; each = a.each }
 
 -- ---- Devices that are read one after the other, and what the whole text says.
 

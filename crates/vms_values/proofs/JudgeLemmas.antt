@@ -1,17 +1,16 @@
 -- Validations along steps, also of a set that has none, and defaults of cells.
 use Rattle.vms_values.proofs.Facade.{get_or-drop, drop-drop, ◌≡◌, ℕ, suc, zero, ◌+◌, ◌<◌, ◌≤◌, Bool, true, false, not, if◌then◌else◌, Option, Some, None, ◌&&◌}
 use Rattle.vms_values.proofs.Facade.{List, [], ◌∷◌, ◌++◌, length, get_or, drop, map, ℤ, pos, refl, sym, ap, ◌∙◌, arith, append_assoc, length-append, ◌==◌}
-use Rattle.vms_values.proofs.Facade.{flat_map, list_all, drop_more, drop_all, drop-map, map-append, drop-append_seam, eqb-true, and_parts, and-true}
-use Rattle.vms_values.proofs.Facade.{same_number, Set, Sub, Field, Desc, Formula, ValuesReason, sub_first, sub_next, Image, sub_place, own_cells, own_slots}
-use Rattle.vms_values.proofs.Facade.{own_cell_count, first_cell, own_numbers, device_at, sub_at, desc_at, Cell, Slot, no_desc, desc_cells, struct_cells}
-use Rattle.vms_values.proofs.Facade.{device_cells, Number, Constant, Filler, Rule, Meaning, no_meaning, item_slots, item_size, times, field_slots, slots_from}
-use Rattle.vms_values.proofs.Facade.{desc_slots, field_cells, numbers_of, elements_of, counted, all_hold, no_parent, first, meaning, meanings, rules_are_true}
-use Rattle.vms_values.proofs.Facade.{BadLine, ReadDevice, are_defaults, or_bad, if_bad, sub_fails, is_said_well, judge_subs, judge_device, CellForm, form_of}
-use Rattle.vms_values.proofs.Facade.{desc_of, formula, steps_of, spot_slots, no_form, settle, steps_hold, sub_judged, sub_defaults, Item, Struct, is_there}
-use Rattle.vms_values.proofs.Facade.{cells_first, one_more, Test, PartAt, ◌*◌, ◌^◌, sum_by, Ok, Err, subst, Result, sum_by-cons, ForSome, FitsHeads, Device}
-use Rattle.vms_values.proofs.Facade.{values_read, ValuesRead, Values, Bad, ReadAll, ended, judged, answer_of, judge_devices, IsText, Refused, Reads, state_of}
-use Rattle.vms_values.proofs.Facade.{is_well_formed, few_cells, few_devices, fit_of, few_subs, most_lines, line_holds, read_holds, ReadsBy, MeansAs, LineFault}
-use Rattle.vms_values.proofs.Facade.{Reading, machine_of, bad_of, AllRead, ToldAs}
+use Rattle.vms_values.proofs.Facade.{flat_map, list_all, drop_more, drop_all, drop-map, map-append, drop-append_seam, eqb-true, and_parts, and-true, Set, Sub}
+use Rattle.vms_values.proofs.Facade.{Field, Desc, ValuesReason, sub_first, sub_next, Image, sub_place, own_cells, own_slots, own_cell_count, first_cell}
+use Rattle.vms_values.proofs.Facade.{own_numbers, device_at, sub_at, desc_at, Cell, Slot, no_desc, desc_cells, struct_cells, device_cells, Rule, Meaning}
+use Rattle.vms_values.proofs.Facade.{no_meaning, item_slots, item_size, times, field_slots, slots_from, desc_slots, field_cells, numbers_of, elements_of}
+use Rattle.vms_values.proofs.Facade.{counted, all_hold, no_parent, first, meaning, meanings, rules_are_true, BadLine, ReadDevice, are_defaults, or_bad, if_bad}
+use Rattle.vms_values.proofs.Facade.{sub_fails, is_said_well, judge_subs, judge_device, CellForm, form_of, desc_of, formula, steps_of, spot_slots, no_form}
+use Rattle.vms_values.proofs.Facade.{settle, steps_hold, sub_judged, sub_defaults, Item, Struct, is_there, cells_first, one_more, Test, PartAt, ◌*◌, ◌^◌}
+use Rattle.vms_values.proofs.Facade.{sum_by, Ok, Err, Result, sum_by-cons, ForSome, FitsHeads, Device, values_read, ValuesRead, Values, Bad, ReadAll, ended}
+use Rattle.vms_values.proofs.Facade.{judged, answer_of, judge_devices, Refused, Reads, state_of, is_well_formed, few_cells, few_devices, fit_of, few_subs}
+use Rattle.vms_values.proofs.Facade.{most_lines, line_holds, read_holds, ReadsBy, MeansAs, LineFault, Reading, machine_of, bad_of, AllRead, ToldAs}
 use Rattle.vms_parts.specs.declared.types.Desc.{Desc as Described}
 use Rattle.vms_spec.specs.declared.Part.TheVariants as parts
 use Rattle.vms_spec.specs.declared.ValuesReason.TheVariants as reasons
@@ -24,10 +23,8 @@ use Rattle.vms_values.specs.declared.fault.LineFault.TheVariants as faults
 -- at the steps of slots, exactly if the slots' rules are true
 pub steps_true : (xs : List Slot) → steps_hold (steps_of xs) ≡ rules_are_true xs
 steps_true [] = refl
-steps_true (slots.Number c kind capacities ∷ xs) = steps_true xs
-steps_true (slots.Constant kind z ∷ xs) = steps_true xs
-steps_true (slots.Filler n ∷ xs) = steps_true xs
 steps_true (slots.Rule b ∷ xs) = rw (steps_true xs)
+steps_true (_ ∷ xs) = steps_true xs
 
 -- the cells from a place on have these forms, and then others
 pub settle_defaults : (cells : List Cell) (forms rest : List CellForm) (numbers : List ℤ) (at : ℕ) → drop at forms ≡ map form_of cells ++ rest → at + length cells ≤ length numbers
@@ -123,11 +120,8 @@ AllTrue ms = (j : ℕ) (n : List ℤ) (at : ℕ) → rules_are_true ((get_or ms 
 
 true_append : (xs ys : List Slot) → rules_are_true xs ≡ true → rules_are_true (xs ++ ys) ≡ rules_are_true ys
 true_append [] ys h = refl
-true_append (Number c kind caps ∷ xs) ys h = true_append xs ys h
-true_append (Constant kind z ∷ xs) ys h = true_append xs ys h
-true_append (Filler n ∷ xs) ys h = true_append xs ys h
-true_append (Rule true ∷ xs) ys h = true_append xs ys h
 true_append (Rule false ∷ xs) ys h = cc
+true_append (_ ∷ xs) ys h = true_append xs ys h
 
 times_true : (part : ℕ → List Slot) → ((at : ℕ) → rules_are_true (part at) ≡ true) → (n at step : ℕ) → rules_are_true (times n part at step) ≡ true
 times_true part h zero at step = refl
@@ -195,15 +189,12 @@ few_each set most (d ∷ devices) h =
     let here : device_lines set d ≤ most = h 0 (omega arith) in
     omega (arith, few_each set most devices (λ i lt. h (suc i) (omega arith)), sum_by-cons (device_lines set) d devices)
 
-few_lines : (set : Set) → is_well_formed set ≡ true → most_lines set ≤ 1 + 64 * 16417
-few_lines set well = omega (arith, few_each set 16417 set.devices (λ i lt. omega (arith, few_subs set well i lt, few_cells set well i)), few_devices set well)
-
 -- such a number is known as the line of the text
 pub line_fits : (set : Set) → is_well_formed set ≡ true → FitsHeads set → (text : List ℕ) (line : ℕ) (reason : ValuesReason) → ReadsBy set (values_read set text) (Err (faults.Bad line reason)) → line < 2 ^ 32
 line_fits set well heads text line reason h = go (values_read set text) refl h where
   go : (v : ValuesRead) → values_read set text ≡ v → ReadsBy set v (Err (faults.Bad line reason)) → line < 2 ^ 32
   go (Values machine images) e h = absurd h
-  go (Bad l why) e h = omega (arith, line_holds set text l why (fit_of set well heads) e, few_lines set well)
+  go (Bad l why) e h = omega (arith, line_holds set text l why (fit_of set well heads) e, few_each set 16417 set.devices (λ i lt. omega (arith, few_subs set well i lt, few_cells set well i)), few_devices set well)
 
 -- what is read of a text is what it means
 pub read_means : (set : Set) → is_well_formed set ≡ true → FitsHeads set → (text : List ℕ) (v : Given) → ReadsBy set (values_read set text) (Ok v) → MeansAs set text (Ok v)

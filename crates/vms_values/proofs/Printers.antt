@@ -1,17 +1,17 @@
 -- The lines of structures, arrays, parts, subsections and devices.
 use Rattle.vms_values.proofs.Facade.{◌≡◌, ℕ, zero, suc, ◌+◌, ◌<◌, List, [], ◌∷◌, ◌++◌, length, get_or, map, ℤ, pos, refl, ap, ◌∙◌, arith, true, codes, ◌-◌, ◌*◌}
-use Rattle.vms_values.proofs.Facade.{◌≤◌, drop, sym, subst, Option, None, append_assoc, decimal, drop_all, drop_more, Item, Num, Equal, Unused, Struct, Count}
-use Rattle.vms_values.proofs.Facade.{One, Fixed, Counted, Field, Desc, Set, Device, Sub, Cell, no_desc, first, item_size, desc_cells, field_cells, numbers_of}
-use Rattle.vms_values.proofs.Facade.{elements_of, struct_cells, capacity_of, Printer, no_printer, printer, printers, item_lines, element_lines, array_lines}
-use Rattle.vms_values.proofs.Facade.{field_lines, desc_lines, line_end, version_text, sub_lines, device_lines, ItemBelow, FieldsBelow, all_below}
-use Rattle.vms_values.proofs.Facade.{item_cells_same, field_cells_same, own_same, row_same, first_cells, first_same, first_at, is_well_formed, struct_clean}
-use Rattle.vms_values.proofs.Facade.{reach, MOST_ITEMS, uses_below, field_size, elements_fit, one_fits, room_for_less, place_first, desc_of, field_of, field_at}
-use Rattle.vms_values.proofs.Facade.{own_numbers, first_cell, desc_at, sub_at, found_field, here_fields, sub_next, sub_inside, own_inside_device, few_cells}
-use Rattle.vms_values.proofs.Facade.{PartAt, HasSpot, size_in, table, cells_in, item_rank, part_rank, reach_whole, uses_more, rank_below, next_field}
-use Rattle.vms_values.proofs.Facade.{cells_table, start_after, cell_of, fields_at, IsRun, run_lines, IsOf, section_text, whole_sub, Image, own_cells, sub_place}
-use Rattle.vms_values.proofs.Facade.{device_at, take-take, Result, Ok, Err, length-drop, take, length-take, Bor, is_ok, ltb-true, joined, Outlet, Puts, Wrote}
-use Rattle.vms_values.proofs.Facade.{wrote_as, wrote_behind, devices_lines, AreOf, below, below_part, Stays, take-append-le, Part, HasPart, few_structs}
-use Rattle.vms_values.proofs.Facade.{field_clean, LONGEST, PART_ROOM}
+use Rattle.vms_values.proofs.Facade.{◌≤◌, drop, sym, subst, Option, None, append_assoc, decimal, drop_all, drop_more, Item, Struct, Count, One, Field, Desc}
+use Rattle.vms_values.proofs.Facade.{Set, Device, Sub, Cell, no_desc, first, item_size, desc_cells, field_cells, numbers_of, elements_of, struct_cells}
+use Rattle.vms_values.proofs.Facade.{capacity_of, Printer, no_printer, printer, printers, item_lines, element_lines, array_lines, field_lines, desc_lines}
+use Rattle.vms_values.proofs.Facade.{line_end, version_text, sub_lines, device_lines, ItemBelow, FieldsBelow, all_below, item_cells_same, field_cells_same}
+use Rattle.vms_values.proofs.Facade.{own_same, row_same, first_cells, first_same, first_at, is_well_formed, struct_clean, reach, MOST_ITEMS, uses_below}
+use Rattle.vms_values.proofs.Facade.{field_size, elements_fit, one_fits, room_for_less, place_first, desc_of, field_of, field_at, own_numbers, first_cell}
+use Rattle.vms_values.proofs.Facade.{desc_at, sub_at, found_field, here_fields, sub_next, sub_inside, own_inside_device, few_cells, PartAt, HasSpot, size_in}
+use Rattle.vms_values.proofs.Facade.{table, cells_in, item_rank, part_rank, reach_whole, uses_more, rank_below, next_field, cells_table, start_after, cell_of}
+use Rattle.vms_values.proofs.Facade.{fields_at, IsRun, run_lines, IsOf, section_text, whole_sub, Image, own_cells, sub_place, device_at, take-take, Result, Ok}
+use Rattle.vms_values.proofs.Facade.{Err, length-drop, take, length-take, Bor, is_ok, ltb-true, joined, Outlet, Puts, Wrote, wrote_as, wrote_behind}
+use Rattle.vms_values.proofs.Facade.{devices_lines, AreOf, below, below_part, Stays, take-append-le, Part, HasPart, few_structs, field_clean, LONGEST}
+use Rattle.vms_values.proofs.Facade.{PART_ROOM}
 use Rattle.vms_parts.specs.declared.types.Desc.{Desc as CodeDesc}
 use Rattle.vms_parts.specs.declared.types.Field.{Field as CodeField}
 use Rattle.vms_spec.specs.declared.Part.TheVariants as parts
@@ -19,9 +19,6 @@ use Rattle.std.proofs.Common.{take_all}
 
 abbrev pub cells_of : List Printer → List (List Cell)
 cells_of ps = map (λ p. p.cells) ps
-
-pub printers_cells : (ds : List Desc) (k : ℕ) → cells_of (first printer ds k) ≡ first desc_cells ds k
-printers_cells ds k = first_cells (λ (p : Printer). p.cells) printer (λ ps d. refl) ds k
 
 -- two tables have the same structures of numbers below j
 module _ (j : ℕ) (ps Ps : List Printer) (agree : (i : ℕ) → i < j → get_or ps i no_printer ≡ get_or Ps i no_printer) where
@@ -83,12 +80,9 @@ pub run_is : (ps : List Printer) (f : Field) (c : Count) (own : ℕ → ℕ) (co
 run_is ps f One own count path n at e = refl
 run_is ps f _ own count path n at e = rw (sym e)
 
-single_count : (c : Count) (own : ℕ → ℕ) → c ≡ One → elements_of c own ≡ 1
-single_count c own e = rw e
-
 module _ (set : Set) where
   pub printed_cells : cells_of (printers set) ≡ struct_cells set
-  printed_cells = printers_cells set.structs (length set.structs)
+  printed_cells = first_cells (λ (p : Printer). p.cells) printer (λ ps d. refl) set.structs (length set.structs)
 
   pub printed_size : (item : Item) → item_size (cells_of (printers set)) item ≡ size_in set item
   printed_size item = rw (printed_cells ∙ sym (cells_table set))
@@ -144,7 +138,7 @@ module _ (set : Set) where
           reaches = uses_more (reach set spot.part) (length set.structs) f.item (reach_whole set spot.part h.part) uses;
           small = one_fits (capacity_of f.count) (size_in set f.item) cell (length n) MOST_ITEMS some fits h.few;
           room = room_for_less count (capacity_of f.count) (size_in set f.item) cell (length n) fewer fits;
-          single = λ e. there ∙ single_count f.count (own_numbers set spot.part n spot.base) e;
+          single = λ e. there ∙ ap (λ (x : Count). elements_of x (own_numbers set spot.part n spot.base)) e;
           few = h.few;
         };
         lower = omega (arith, rank_below (reach set spot.part) f.item uses);
@@ -270,11 +264,8 @@ stays line = take_all (length line) line (omega arith)
 pub stays_more : (line piece : List ℕ) → Stays line (line ++ piece)
 stays_more line piece = take-append-le (length line) line piece (omega arith) ∙ stays line
 
-pub front_long : (line other : List ℕ) → Stays line other → length line ≤ length other
-front_long line other s = omega (arith, sym (ap length s), length-take (length line) other)
-
 pub stays_then : (a b c : List ℕ) → Stays a b → Stays b c → Stays a c
-stays_then a b c p q = sym (take-take (length a) (length b) c (front_long a b p)) ∙ ap (take (length a)) q ∙ p
+stays_then a b c p q = sym (take-take (length a) (length b) c (omega (arith, sym (ap length p), length-take (length a) b))) ∙ ap (take (length a)) q ∙ p
 
 -- what is kept of a line is its front
 pub cut_is : (front line new : List ℕ) (n : ℕ) → new ≡ take n line → n ≡ length front → Stays front line → new ≡ front
@@ -290,10 +281,8 @@ stays_element line digits new e =
 
 -- what may still come after the items of a part's fields
 pub below_uses : (r : ℕ) (item : Item) → uses_below r item ≡ true → below item ≤ PART_ROOM * r
-below_uses r (Num kind) e = omega arith
-below_uses r (Equal kind z) e = omega arith
-below_uses r (Unused b) e = omega arith
 below_uses r (Struct j) e = let lt : j < r = ltb-true j r e in omega arith
+below_uses r _ e = omega arith
 
 pub below_reach : (set : Set) (part : Part) → HasPart set part → below_part set part ≡ PART_ROOM * (reach set part + 1)
 below_reach set parts.Set h = refl

@@ -124,15 +124,12 @@ few_fit i n lt le =
     let all : i + (18 - i) ≡ 18 = omega (arith, le) in
     omega (arith, subst (λ k. 10 ^ i ≤ 10 ^ k) all (ten_up i (18 - i)))
 
-digit_low : (b : ℕ) → is_digit b ≡ true → b ≤ 57
-digit_low b e = leb-true b 57 (and_parts (nat_le 48 b) (nat_le b 57) e).1
-
 digit_up : (n b m : ℕ) → with_digit n b ≡ Some m → m ≤ n * 10 + 9
 digit_up n b m e = by (is_digit b) (nat_lt (n * 10 + (b - 48)) (2 ^ 64)) refl e where
   by : (d s : Bool) → is_digit b ≡ d → (if d && s then Some (n * 10 + (b - 48)) else None) ≡ Some m → m ≤ n * 10 + 9
   by true true h e =
       let is : n * 10 + (b - 48) ≡ m = cc in
-      omega (arith, digit_low b h)
+      omega (arith, leb-true b 57 (and_parts (nat_le 48 b) (nat_le b 57) h).1)
   by _ _ h e = cc
 
 pub few_next : (i n d m : ℕ) (text : List ℕ) → n < 10 ^ i → with_digit n (get_or text i d) ≡ Some m → m < 10 ^ (i + 1)

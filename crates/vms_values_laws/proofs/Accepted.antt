@@ -111,9 +111,7 @@ module _ (n m : List ℤ) (short : AreShort n) (short' : AreShort m) where
         → ((has_line es c ≡ false → get_or n c (pos 0) ≡ z) → (has_line fs c ≡ false → get_or m c (pos 0) ≡ z) → get_or n c (pos 0) ≡ get_or m c (pos 0))
         → get_or n c (pos 0) ≡ get_or m c (pos 0)
     by true p later = one_number e f c a.0 b.0 h.0 h.1 p
-    by false p later =
-        let q : is_of_cell c f ≡ false = by_demand c f ∙ ap (of_demand c) (sym h.0) ∙ sym (by_demand c e) ∙ p in
-        later (λ g. u (rw (p, g) refl)) (λ g. u' (rw (q, g) refl))
+    by false p later = later (λ g. u (rw (p, g) refl)) (λ g. u' (rw (by_demand c f ∙ ap (of_demand c) (sym h.0) ∙ sym (by_demand c e) ∙ p, g) refl))
   same_at c z _ _ a b h u u' = absurd h
 
 abbrev came_with : Entry → List (Option ℕ) → List (Option ℕ)
@@ -156,7 +154,7 @@ module _ (set : Set) (d : Device) (image : Image) where
   subs_came j at [] [] long = refl
   subs_came j at (s ∷ subs) (o ∷ came) long =
       let next = at + length (desc_cells (struct_cells set) s.desc) in
-      ap (λ (l : List (Option ℕ)). o ∷ l)
+      ap (λ l. o ∷ l)
       (numbers_came image.numbers (printed (elements_in set s.desc s.desc.version image.numbers at)) _ ∙ subs_came (suc j) next subs came (omega arith))
   subs_came j at _ _ long = absurd (omega arith)
 
@@ -171,10 +169,9 @@ device_same : (set : Set) (d : Device) (image image' : Image) → IsShaped set d
     → AreUnsaid set d image → AreUnsaid set d image' → Match (inside_of set d image) (inside_of set d image') → image ≡ image'
 device_same set d image image' a b u u' m =
     let es = inside_of set d image in
-    let long : length image.numbers ≡ length image'.numbers = a.cells ∙ sym b.cells in
     same_image image image' (a.version ∙ sym b.version)
     (sym (whole_came set d image a.subs) ∙ came_same _ _ es (inside_of set d image') (whole_own set d image a.versions) (whole_own set d image' b.versions) m
-    ∙ whole_came set d image' b.subs) (ext_get_or (pos 0) image.numbers image'.numbers long (λ c lt.
+    ∙ whole_came set d image' b.subs) (ext_get_or (pos 0) image.numbers image'.numbers (a.cells ∙ sym b.cells) (λ c lt.
     same_at _ _ (short_are _ a.short) (short_are _ b.short) c _ es (inside_of set d image') (whole_own set d image a.versions)
     (whole_own set d image' b.versions) m (u c lt) (u' c (omega arith))))
 
@@ -210,13 +207,11 @@ answer_by machine images (Some b) = Bad b.line b.reason
 answer_by machine images None = Values machine images
 
 answer_same : (machine : Option (List ℕ)) (read : List ReadDevice) (o : Option BadLine) → answer_of machine read o ≡ answer_by machine (images_of read) o
-answer_same machine read (Some b) = refl
-answer_same machine read None = refl
+answer_same machine read _ = refl
 
 pub none_answers : (set : Set) (text : List ℕ) (v : ValuesRead) (n : NoneBad set text v)
     → v ≡ answer_by n.machine (images_of n.all.devices) (parts_from set 1 (entries set n.machine (images_of n.all.devices)))
-none_answers set text v n =
-    n.is ∙ answer_same n.machine n.all.devices _ ∙ ap (λ (o : Option BadLine). answer_by n.machine (images_of n.all.devices) o) n.judged
+none_answers set text v n = n.is ∙ answer_same n.machine n.all.devices _ ∙ ap (λ o. answer_by n.machine (images_of n.all.devices) o) n.judged
 
 -- no part is bad
 pub none_good : (set : Set) (line : ℕ) (es : List Entry) → parts_from set line es ≡ None → AreGood set es

@@ -94,7 +94,7 @@ section_read d text (Some (first, rest)) e h line =
     let is : first ≡ section_line d d.desc.version = (bytes_eq-Decides first (section_line d d.desc.version)).0 h in
     moved_one line text (record { demand = ForSection d; line = section_line d d.desc.version }) _
     (line_taken text (section_line d d.desc.version) rest (e ∙ ap (λ (l : List ℕ). Some (l, rest)) is))
-    (ap (λ (l : List ℕ). reason_for (ForSection d) (Some (l, []))) (sym is) ∙ rw h refl)
+    (ap (λ l. reason_for (ForSection d) (Some (l, []))) (sym is) ∙ rw h refl)
 
 pub section_not : (d : Device) (o : Option (List ℕ × List ℕ)) → is_line (section_line d d.desc.version) o ≡ false
     → reason_for (ForSection d) o ≡ Some reasons.Form
@@ -171,7 +171,7 @@ AllCome set devices line text (Err e) = AllStop set devices line text e
 
 -- entries that have the lines that were taken are of the same number
 along_long : (taken : List Taken) (es : List Entry) → Along taken (λ es. es ≡ []) es → length es ≡ length taken
-along_long [] es h = ap (λ (l : List Entry). length l) h
+along_long [] es h = rw h
 along_long (t ∷ taken) [] h = absurd h
 along_long (t ∷ taken) (e ∷ es) h = ap suc (along_long taken es h.1)
 
@@ -200,7 +200,7 @@ module _ (set : Set) (d : Device) (devices : List Device) (line : ℕ) (text : L
   each_state taken P h [] shaped = absurd shaped
   each_state taken P h (i ∷ images) shaped =
       let same : state_of d i.came i.numbers ≡ i = rw (← shaped.0.version) refl in
-      subst (λ (x : Image). Follows taken P (device_entries set d x ++ devices_entries set devices images)) same (h i images shaped.0 shaped.1)
+      subst (λ x. Follows taken P (device_entries set d x ++ devices_entries set devices images)) same (h i images shaped.0 shaped.1)
 
   shaped_as : {came : List (Option ℕ)} {numbers : List ℤ} {line' : ℕ} {rest : List ℕ} {Then : List Entry → List Entry → Type 0}
       → DeviceWent set d line text came numbers line' rest Then → IsShaped set d (state_of d came numbers)
@@ -262,7 +262,7 @@ module _ (set : Set) (d : Device) (devices : List Device) (line : ℕ) (text : L
     after_it : r.place.line ≡ line + length (device_entries set d image)
     after_it =
         let along = along_long x.taken (device_entries set d image ++ []) (x.along image [] x.told.agrees) in
-        omega (arith, ap (λ (l : List Entry). length l) (append-nil (device_entries set d image)))
+        omega (arith, ap (λ l. length l) (append-nil (device_entries set d image)))
 
     others_come : (o : Result ReadAll BadLine) → AllCome set devices r.place.line r.place.rest o
         → AllCome set (d ∷ devices) line text (with_device (record { image = image; line = line; sub_lines = r.lines }) o)

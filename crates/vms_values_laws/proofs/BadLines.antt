@@ -31,11 +31,11 @@ split (t ∷ taken) P Q (e ∷ es) fine f a =
     record {
       before = e ∷ s.before;
       after = s.after;
-      is = ap (λ (l : List Entry). e ∷ l) s.is;
-      lines = ap (λ (l : List ℕ). l ∷ map entry_line s.before) a.0 ∙ ap (λ (l : List (List ℕ)). t.line ∷ l) s.lines;
+      is = ap (λ l. e ∷ l) s.is;
+      lines = rw (a.0, s.lines);
       long = ap suc s.long;
       fine = (
-        reason_same e (Some (entry_line e, [])) ∙ ap (λ (x : Demand). reason_for x (Some (entry_line e, []))) f.0 ∙ ap
+        reason_same e (Some (entry_line e, [])) ∙ ap (λ x. reason_for x (Some (entry_line e, []))) f.0 ∙ ap
             (λ (l : List ℕ). reason_for t.demand (Some (l, []))) a.0 ∙ fine.0,
         s.fine,
       );
@@ -82,9 +82,9 @@ pub fine_text : (set : Set) (text : List ℕ) (v : ValuesRead) (n : NoneBad set 
 fine_text set text v n =
     let es = entries set n.machine (images_of n.all.devices) in
     let s = split n.taken (λ es. Ends None [] es) (λ es. es ≡ []) es n.moved.fine (n.follows (images_of n.all.devices) n.shaped) n.along in
-    let whole : es ≡ s.before = s.is ∙ ap (λ (l : List Entry). s.before ++ l) s.rest ∙ append-nil s.before in (
+    let whole : es ≡ s.before = s.is ∙ ap (λ l. s.before ++ l) s.rest ∙ append-nil s.before in (
       rw whole s.fine,
-      n.moved.texts ∙ append-nil (text_of (lines_of n.taken)) ∙ ap text_of (sym s.lines) ∙ ap (λ (l : List Entry). text_of (map entry_line l)) (sym whole),
+      n.moved.texts ∙ append-nil (text_of (lines_of n.taken)) ∙ ap text_of (sym s.lines) ∙ ap (λ l. text_of (map entry_line l)) (sym whole),
     )
 
 front_of : (demand : Demand) (rest : List ℕ) (reason : ValuesReason) (es : List Entry) → reason_for demand (first_line rest) ≡ Some reason → Begins demand es
@@ -149,7 +149,7 @@ module _ (set : Set) (text : List ℕ) (machine : Option (List ℕ)) (line : ℕ
           shaped = a.shaped;
           state = s.is;
           fine = s.fine;
-          begins = passed.texts ∙ ap (λ (l : List (List ℕ)). text_of l ++ rest) (sym s.lines);
+          begins = passed.texts ∙ ap (λ l. text_of l ++ rest) (sym s.lines);
           number = omega arith;
           bad = s.rest;
         };
@@ -193,9 +193,8 @@ name_moved : (set : Set) (text name : List ℕ) → machine_named set.machines (
     → Moved 1 text (machine_taken (Some name)) 2 (rest_of (first_line text))
 name_moved set text name e =
     let line = machine_first set.machines (first_line text) name e in
-    let same = (bytes_eq-Decides (codes "machine " ++ name) (codes "machine " ++ name)).1 refl in
     moved_one 1 text (record { demand = ForMachine name; line = codes "machine " ++ name }) (rest_of (first_line text))
-    (line_taken text (codes "machine " ++ name) line.0 line.1) (rw same refl)
+    (line_taken text (codes "machine " ++ name) line.0 line.1) (rw ((bytes_eq-Decides (codes "machine " ++ name) (codes "machine " ++ name)).1 refl) refl)
 
 by_machine : (set : Set) (text : List ℕ) → AreSound set.structs → AreGoodDevices set set.devices → (machine : Option (List ℕ))
     → machine_named set.machines (first_line text) ≡ machine → FirstPass set text (after_machine set text machine)

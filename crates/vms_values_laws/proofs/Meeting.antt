@@ -32,8 +32,7 @@ feed_append (x ∷ a) b p q = (p.0, feed_append a b p.1 q)
 pub line_first : (line rest : List ℕ) → NoFeed line → first_line (line ++ 10 ∷ rest) ≡ Some (line, rest)
 line_first [] rest h = refl
 line_first (b ∷ line) rest h =
-    ap (λ (t : Bool). if t then Some ([], line ++ 10 ∷ rest) else longer_line b (first_line (line ++ 10 ∷ rest))) h.0 ∙ ap (longer_line b)
-    (line_first line rest h.1)
+    ap (λ t. if t then Some ([], line ++ 10 ∷ rest) else longer_line b (first_line (line ++ 10 ∷ rest))) h.0 ∙ ap (longer_line b) (line_first line rest h.1)
 
 glyph_feed : (d : ℕ) → (digit_glyph false d == 10) ≡ false
 glyph_feed d = if_holds (λ g. (g == 10) ≡ false) (nat_lt d 10) _ _ (ne_eqb (48 + d) 10 (λ e. omega arith)) (ne_eqb (87 + d) 10 (λ e. omega arith))

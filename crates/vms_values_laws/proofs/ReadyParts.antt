@@ -74,9 +74,7 @@ module _ (set : Set) (d : Device) (image : Image) (short : AreShort image.number
         (RulesHold (sub_slots set s v n at) × (is_needed set d image s j ≡ true))
     came_known v same =
         let ss = sub_slots set s v n at in
-        let line : line_reason (OfSub d image j s at (Some v)) (sub_line s (Some v)) ≡ None =
-        rw (same, (bytes_eq-Decides (sub_line s (Some s.desc.version)) _).1 refl) refl in
-        head_known (OfSub d image j s at (Some v)) (λ k. refl) line
+        head_known (OfSub d image j s at (Some v)) (λ k. refl) (rw (same, (bytes_eq-Decides (sub_line s (Some s.desc.version)) _).1 refl) refl)
         (λ g. let p = two_none _ _ g in (rules_are ss (sym (desc_rules set s.desc v n at) ∙ p.0), well_come _ v _ p.1))
         (λ m. rw (desc_rules set s.desc v n at ∙ are_rules ss m.0, m.1) refl) (rw same its)
 
@@ -89,10 +87,9 @@ module _ (set : Set) (d : Device) (image : Image) (short : AreShort image.number
           let bare = (desc_bare set n short s.desc s.desc.version at).0 w.1 in
           (record { right = λ c k lt e. let is = bare c k lt e refl in record { fits = rw is (defaults c lt); absent = λ h. is } }, w.0);
       right = λ r m.
-          let have = (desc_bare set n short s.desc s.desc.version at).1 (λ c k lt e f. (r.right c k lt e).absent refl) in
           let line = or_right (bytes_eq (sub_line s None) (sub_line s (Some s.desc.version))) _ ((bytes_eq-Decides (sub_line s None) _).1 refl) in
           let p = its.right (record { right = λ c k lt e. right_by (λ h. refl) (r.right c k lt e) }) tt in
-          ((rw line refl, p.0), (rw (m, have) refl, p.1));
+          ((rw line refl, p.0), (rw (m, ((desc_bare set n short s.desc s.desc.version at).1 (λ c k lt e f. (r.right c k lt e).absent refl))) refl, p.1));
     }
 
   subs_known : (j at : ℕ) (subs : List Sub) (came : List (Option ℕ)) → length came ≡ length subs → AreAtVersions subs came
@@ -144,14 +141,13 @@ module _ (set : Set) (d : Device) (image : Image) (short : AreShort image.number
       → d.desc.minimum ≤ d.desc.version → ((j : ℕ) (s : Sub) → slice_get d.subs j ≡ Some s → s.desc.minimum ≤ s.desc.version) → IsReady set d image
   device_ready shaped unsaid fine good defaults low lows =
       let p = (device_known shaped.version shaped.subs shaped.versions).said fine good defaults (λ c k lt e h.
-      let same : k ≡ c = omega arith in
-      unsaid k (omega (arith, shaped.cells)) h ∙ ap (λ (i : ℕ). (get_or (device_cells set d) i no_cell).default) same) in
+      unsaid k (omega arith) h ∙ ap (λ i. (get_or (device_cells set d) i no_cell).default) (omega arith)) in
       record {
         normal = record {
-          version = (let v = shaped.version in omega arith, let v = shaped.version in omega arith);
+          version = (let v = shaped.version in omega arith, omega arith);
           subs = versions_of d.subs image.came shaped.subs shaped.versions lows;
           cells = record { long = shaped.cells; fits = λ c lt. (p.0.right c c lt (omega arith)).fits };
-          absent = λ c lt e. (p.0.right c c (omega (arith, shaped.cells)) (omega arith)).absent e;
+          absent = λ c lt e. (p.0.right c c (omega arith) (omega arith)).absent e;
         };
         valid = p.1.0;
         version = shaped.version;
@@ -180,7 +176,7 @@ first_part set line (e ∷ es) b h = go (part_reason set e) refl h (λ g. first_
         before = e ∷ p.before;
         entry = p.entry;
         after = p.after;
-        is = ap (λ (l : List Entry). e ∷ l) p.is;
+        is = rw (p.is);
         good = rw (is, p.good) refl;
         number = omega arith;
         bad = p.bad;
@@ -229,7 +225,7 @@ device_says set d image short ready =
       right = λ c k lt e. let same : k ≡ c = omega arith in
           record {
             fits = rw same (ready.normal.cells.fits c lt);
-            absent = λ h. ready.normal.absent k (omega arith) h ∙ ap (λ (i : ℕ). (get_or (device_cells set d) i no_cell).default) same;
+            absent = λ h. ready.normal.absent k (omega arith) h ∙ ap (λ i. (get_or (device_cells set d) i no_cell).default) same;
           };
     }) (ready.valid, ready.needed) in
     record {

@@ -162,10 +162,10 @@ known_both {set} {n} {at} {next} {es} {fs} {xs} {ys} {ss} {ts} to from is a b = 
       let d' = fit_parts xs ys d in
       let p = a.said f'.0 g'.0 d'.0 (λ c k lt e none.
       bare c k (omega (arith, length-append xs ys)) e (none_in es fs k none (b.outside k (λ low. omega arith)).0)
-      ∙ ap (λ (x : Cell). x.default) (get_or_append_left xs ys no_cell c lt)) in
+      ∙ ap (λ x. x.default) (get_or_append_left xs ys no_cell c lt)) in
       let q = b.said f'.1 g'.1 d'.1 (λ c k lt e none.
       bare (length xs + c) k (omega (arith, length-append xs ys)) (omega arith) (none_in es fs k (a.outside k (λ low. omega arith)).0 none)
-      ∙ ap (λ (x : Cell). x.default) (get_or-append-add xs ys c no_cell)) in
+      ∙ ap (λ x. x.default) (get_or-append-add xs ys c no_cell)) in
       (right_both n at next xs ys ss ts is p.0 q.0, to p.1 q.1);
   right = λ r m.
       let r' = right_parts n at next xs ys ss ts is (λ k lt. (b.outside k (λ low. omega arith)).1) (λ k le. (a.outside k (λ low. omega arith)).1) r in
@@ -232,9 +232,8 @@ module _ (set : Set) (n : List ℤ) (short : AreShort n) (x : Element) (cell : C
     );
     right = λ a m.
         let r = a.right 0 at (omega arith) (omega arith) in
-        let bytes = λ (b : Bool). has_cell (byte b) at in
         let fine = line_number x n cell what (short x.cell) ∙ fits_reason cell x.present (get_or n x.cell (pos 0))
-        (record { fits = rw here r.fits; absent = λ e. rw here (r.absent (ap bytes (sym p ∙ e))) }) in
+        (record { fits = rw here r.fits; absent = λ e. rw here (r.absent (ap (λ (b : Bool). has_cell (byte b) at) (sym p ∙ e))) }) in
         if_holds (λ l. AreFine (of_numbers n l) × AreGood set (of_numbers n l)) t (x ∷ []) [] ((fine, tt), (refl, tt)) (tt, tt);
   }
 

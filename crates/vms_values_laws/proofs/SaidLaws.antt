@@ -150,7 +150,7 @@ lines_both (e ∷ es) fs c = rw (lines_both es fs c) (sym (or_assoc (is_of_cell 
 -- the elements of what was said have lines of these cells
 pub lines_said : (n : List ℤ) (said : List Said) (c : ℕ) → has_line (map (λ x. OfNumber x n) (map (λ (s : Said). s.element) said)) c ≡ has_said said c
 lines_said n [] c = refl
-lines_said n (s ∷ said) c = ap (λ (b : Bool). (s.element.cell == c) || b) (lines_said n said c)
+lines_said n (s ∷ said) c = rw (lines_said n said c)
 
 pub unsaid_kept : (n : List ℤ) (said : List Said) (c : ℕ) → has_said said c ≡ false → get_or (put_all n said) c (pos 0) ≡ get_or n c (pos 0)
 unsaid_kept n [] c e = refl
@@ -228,13 +228,13 @@ module _ (steps : List (ℕ × ℕ)) (path : List ℕ) (present : Bool) (at : �
         → Put here p (record { numbers = slice_set p.numbers at z; line = suc p.line; rest = rest })
     taken z e range f =
         let whole : line ≡ path ++ (codes " = " ++ signed_decimal z) =
-        begun front line begins ∙ ap (λ (l : List ℕ). front ++ l) (spelled_holds text z (short c.kind z range) e) ∙ append_assoc path (codes " = ") _ in
+        begun front line begins ∙ ap (λ l. front ++ l) (spelled_holds text z (short c.kind z range) e) ∙ append_assoc path (codes " = ") _ in
         record {
           number = z;
-          rest = splits ∙ ap (λ (l : List ℕ). l ++ 10 ∷ rest) whole;
+          rest = splits ∙ ap (λ l. l ++ 10 ∷ rest) whole;
           line = refl;
           numbers = refl;
-          fine = ap (λ (l : List ℕ). line_reason (OfNumber here []) l) (sym whole) ∙ wanted (Some z) e ∙ f;
+          fine = rw (sym whole) (wanted (Some z) e ∙ f);
           short = short c.kind z range;
         }
 

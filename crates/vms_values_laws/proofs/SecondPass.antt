@@ -33,13 +33,13 @@ sub_numbers line (_ ∷ es) = sub_numbers (suc line) es
 
 pub subs_past : (line : ℕ) (n : List ℤ) (xs : List Element) (es : List Entry)
     → sub_numbers line (map (λ x. OfNumber x n) xs ++ es) ≡ sub_numbers (line + length xs) es
-subs_past line n [] es = ap (λ (l : ℕ). sub_numbers l es) (omega arith)
-subs_past line n (x ∷ xs) es = subs_past (suc line) n xs es ∙ ap (λ (l : ℕ). sub_numbers l es) (omega arith)
+subs_past line n [] es = ap (λ l. sub_numbers l es) (omega arith)
+subs_past line n (x ∷ xs) es = subs_past (suc line) n xs es ∙ ap (λ l. sub_numbers l es) (omega arith)
 
 parts_past : (set : Set) (line : ℕ) (n : List ℤ) (xs : List Element) (es : List Entry)
     → parts_from set line (map (λ x. OfNumber x n) xs ++ es) ≡ parts_from set (line + length xs) es
-parts_past set line n [] es = ap (λ (l : ℕ). parts_from set l es) (omega arith)
-parts_past set line n (x ∷ xs) es = parts_past set (suc line) n xs es ∙ ap (λ (l : ℕ). parts_from set l es) (omega arith)
+parts_past set line n [] es = ap (λ l. parts_from set l es) (omega arith)
+parts_past set line n (x ∷ xs) es = parts_past set (suc line) n xs es ∙ ap (λ l. parts_from set l es) (omega arith)
 
 pub or_bad_assoc : (a b c : Option BadLine) → or_bad (or_bad a b) c ≡ or_bad a (or_bad b c)
 or_bad_assoc (Some a) b c = refl
@@ -47,7 +47,7 @@ or_bad_assoc None b c = refl
 
 pub parts_both : (set : Set) (line : ℕ) (es fs : List Entry)
     → parts_from set line (es ++ fs) ≡ or_bad (parts_from set line es) (parts_from set (line + length es) fs)
-parts_both set line [] fs = ap (λ (l : ℕ). parts_from set l fs) (omega arith)
+parts_both set line [] fs = ap (λ l. parts_from set l fs) (omega arith)
 parts_both set line (e ∷ es) fs =
     let further : line + suc (length es) ≡ suc line + length es = omega arith in
     rw (parts_both set (suc line) es fs, further) (sym (or_bad_assoc (as_bad line (part_reason set e)) _ _))
@@ -90,12 +90,11 @@ module _ (set : Set) where
   sub_same s (Some v) n at = ap not (sym (desc_rules s.desc v n at))
 
   come_same : (o : Option ℕ) → reading.came o ≡ has_come o
-  come_same None = refl
-  come_same (Some v) = refl
+  come_same _ = refl
 
   well_same : (needed : Bool) (o : Option ℕ) (a b : Bool) → a ≡ b → (if needed then reading.came o else (not (reading.came o) && a)) ≡ came_well needed o b
   well_same true o a b e = come_same o
-  well_same false o a b e = ap (λ (c : Bool). not c && a) (come_same o) ∙ ap (λ (c : Bool). not (has_come o) && c) e
+  well_same false o a b e = rw (come_same o, e)
 
   one_part : (a b : Bool) (line : ℕ) (o : Option BadLine)
       → or_bad (if_bad (not a) line reasons.Invalid) (or_bad (if_bad (not b) line reasons.Needed) o) ≡ or_bad
@@ -302,7 +301,7 @@ module _ {set : Set} {d : Desc} {at : ℕ} {p q : Standing} (n : NumbersRead set
   pub lines_on : (numbers : List ℤ) (es : List Entry) → Agrees n.said numbers
       → sub_numbers p.line (number_entries set d numbers at ++ es) ≡ sub_numbers q.line es
   lines_on numbers es agrees =
-      subs_past p.line numbers (printed (elements_in set d d.version numbers at)) es ∙ ap (λ (l : ℕ). sub_numbers l es) (sym (line_on numbers agrees))
+      subs_past p.line numbers (printed (elements_in set d d.version numbers at)) es ∙ ap (λ l. sub_numbers l es) (sym (line_on numbers agrees))
 
 abbrev pub NumbersCome : Set → Desc → ℕ → Standing → Read → Type 0
 NumbersCome set d at p (Ok q) = NumbersRead set d at p q
@@ -313,7 +312,7 @@ module _ (set : Set) (d : Desc) (at : ℕ) (p : Standing) where
   total n = wrapped [] [] true (desc_elements (shapes set) d d.version n at)
 
   entries_are : (n : List ℤ) → of_numbers n (total n) ≡ number_entries set d n at
-  entries_are n = ap (λ l. of_numbers n l) (map-id (printed (desc_elements (shapes set) d d.version n at)))
+  entries_are n = rw (map-id (printed (desc_elements (shapes set) d d.version n at)))
 
   abbrev said_of_at : {cell : ℕ} {q : Standing} {said : List Said} {left : List ℤ → List Element} (line : ℕ) (Then : List Entry → List Entry → Type 0)
       → At total p at cell q said left

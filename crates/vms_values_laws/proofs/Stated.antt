@@ -3,9 +3,9 @@ use Rattle.vms_values_laws.proofs.Facade.{◌≡◌, inl, inr, ℕ, List, ◌++�
 use Rattle.vms_values_laws.proofs.Facade.{[], ◌+◌, length, suc, ◌≤◌, sum_by, ℤ, length-append, length-map, sum_by-cons, ValuesReason, Set, Device, Desc, Sub}
 use Rattle.vms_values_laws.proofs.Facade.{ValuesRead, Bad, machine_named, BadLine, Values, values_read, Entry, entries, devices_entries, entry_line, OfNumber}
 use Rattle.vms_values_laws.proofs.Facade.{number_entries, subs_entries, device_entries, IsBadLine, IsMachineOf, Says, IsText, IsBadPart, Refused, Reads, Taken}
-use Rattle.vms_values_laws.proofs.Facade.{Follows, Image, own_cells, first_line, is_one_of, IsConfiguration, IsTrailer, optional, configuration, trailer}
-use Rattle.vms_values_laws.proofs.Facade.{written, AreReady, WellFormed, text_of, section_line, printed, values_text, IsFit, well_good, entry_law, text_is}
-use Rattle.vms_values_laws.proofs.Facade.{ReadLaw, OnlyLaw, AcceptedLaw, PrintedLaw, device_lines, most_lines, LineLaw, machine_short, few_devices, Takes}
+use Rattle.vms_values_laws.proofs.Facade.{Image, own_cells, first_line, is_one_of, IsConfiguration, IsTrailer, optional, configuration, trailer, written}
+use Rattle.vms_values_laws.proofs.Facade.{AreReady, WellFormed, text_of, section_line, printed, values_text, IsFit, well_good, entry_law, text_is, ReadLaw}
+use Rattle.vms_values_laws.proofs.Facade.{OnlyLaw, AcceptedLaw, PrintedLaw, device_lines, most_lines, LineLaw, machine_short, few_devices, Takes}
 use Rattle.vms_values_laws.proofs.Facade.{one_stream_holds, written_holds, FitsText, WrittenLaw, PackedLaw, ShownLaw, desc_cells, struct_cells, Element}
 use Rattle.vms_values_laws.proofs.Facade.{cells_of, elements_in, walks, AreShaped, AreFine, is_number, cells_with, Number, What, and-true, and-false}
 use Rattle.vms_values_laws.proofs.Facade.{if◌then◌else◌, ◌&&◌}
@@ -28,8 +28,7 @@ beside : {set : Set} {text : List ℕ} {machine' : Option (List ℕ)} {taken : L
     → entries set machine images ≡ before ++ after → AreClean (before ++ after) → AreFine before → text ≡ text_of (map entry_line before) ++ rest'
     → Ends o' rest' after → Same taken before o o'
 beside {taken = taken} {rest = rest} {o = o} t machine images before after rest' o' named shaped state clean fine begins ends =
-    let f : Follows taken (λ es. Ends o rest es) (before ++ after) = rw (← state, named, ← t.named) (t.follows images shaped) in
-    meet taken before after rest rest' o o' f clean t.moved.fine fine (sym t.moved.texts ∙ begins) ends
+    meet taken before after rest rest' o o' (rw (← state, named, ← t.named) (t.follows images shaped)) clean t.moved.fine fine (sym t.moved.texts ∙ begins) ends
 
 module _ (set : Set) (text : List ℕ) (line : ℕ) (reason : ValuesReason) (x : IsBadLine set text line reason)
     (clean : AreClean (entries set x.machine x.images)) where
@@ -65,7 +64,7 @@ by_devices set text (d ∷ devices) (image ∷ images) clean e =
     let lines = map entry_line (inside_of set d image ++ devices_entries set devices images) in
     ap (machine_named set.machines) (first_is text (section_line d image.version) lines (section_feed d.desc.name d.instance image.version clean.0.0) e)
     ∙ no_name set.machines d image.version (text_of lines)
-by_devices set text _ _ clean e = ap (λ (l : List ℕ). machine_named set.machines (first_line l)) e
+by_devices set text _ _ clean e = rw e
 
 named_by : (set : Set) → WellFormed set → (text : List ℕ) (machine : Option (List ℕ)) (images : List Image) → IsMachineOf set machine
     → text ≡ text_of (map entry_line (entries set machine images)) → machine_named set.machines (first_line text) ≡ machine
@@ -102,7 +101,7 @@ module _ (set : Set) (well : WellFormed set) (text : List ℕ) (machine : Option
         let read = images_of n.all.devices in
         let m : Match (entries set n.machine read) (entries set n.machine images) =
         matched n.taken (entries set n.machine read) (entries set n.machine images) (n.follows read n.shaped) n.along (n.follows images says.shaped)
-        ((its_lines n.took).lines ∙ ap (λ (m : Option (List ℕ)). map entry_line (entries set m images)) (sym same_machine)) in
+        ((its_lines n.took).lines ∙ ap (λ m. map entry_line (entries set m images)) (sym same_machine)) in
         devices_same set set.devices read images n.shaped says.shaped n.unsaid says.unsaid (same_devices n.machine read images m)
 
   pub says_answers : (v : ValuesRead) → FirstPass set text v → v ≡ answer_by machine images (parts_from set 1 (entries set machine images))
@@ -201,8 +200,7 @@ pub takes : (set : Set) → WellFormed set → (machine described : Option (List
 takes set well machine described images named fits ready =
     let few = few_devices set well in
     let stream = written set machine images described in
-    subst (λ (l : List ℕ). Takes set set.machines l (length stream) machine images) (append-nil stream)
-    (written_holds set set.machines (omega arith) machine described images (configured set well machine named) (trailed described fits) ready [] (λ e. refl))
+    rw (append-nil stream) at (written_holds set set.machines (omega arith) machine described images (configured set well machine named) (trailed described fits) ready [] (λ e. refl))
 
 pub written_only : WrittenLaw
 written_only set machine described images fit named fits ready =
@@ -224,9 +222,7 @@ pub shown_holds : ShownLaw
 shown_holds set machine described images fit named fits ready text s =
     let stream = written set machine images described in
     let same = (written_only set machine described images fit named fits ready).only (length stream) s.machine s.images s.whole in
-    let text_is : values_text set machine images ≡ text =
-    ap (λ (o : Option (List ℕ)). values_text set o images) (sym same.1) ∙ ap (values_text set s.machine) (sym same.2) ∙ s.printed in
-    sym (ap (values_read set) text_is) ∙ printed_holds set machine images fit named ready
+    sym (ap (values_read set) (rw (sym same.1) (ap (values_text set s.machine) (sym same.2) ∙ s.printed))) ∙ printed_holds set machine images fit named ready
 
 -- ---- The number of lines that a text of a set may have.
 

@@ -217,7 +217,7 @@ module _ (set : Set) (d : Device) where
       }
 
       sub_comes : (o : Result ReadSubs BadLine) → Come own subs at (next_line p) o → Come (those j at (s ∷ subs)) (s ∷ subs) at p (also came p.line o)
-      sub_comes (Ok r) x = record { whole = headed x.whole; heard = x.heard; lines = λ image agrees. ap (λ l. p.line ∷ l) (x.lines image agrees) }
+      sub_comes (Ok r) x = record { whole = headed x.whole; heard = x.heard; lines = λ image agrees. rw (x.lines image agrees) }
       sub_comes (Err e) x =
           record { demand = x.demand; came = came ∷ x.came; numbers = x.numbers; rest = x.rest; before = headed x.before; wrong = x.wrong }
 

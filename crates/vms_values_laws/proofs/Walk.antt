@@ -3,12 +3,12 @@ use Rattle.vms_values_laws.proofs.Facade.{◌≡◌, ℕ, List, ◌∷◌, ◌++
 use Rattle.vms_values_laws.proofs.Facade.{◌<◌, zero, suc, ◌+◌, ◌*◌, ◌≤◌, length, get_or, drop, ℤ, arith, append-nil, map-append, length-append, and_assoc}
 use Rattle.vms_values_laws.proofs.Facade.{and-true, decimal, le-ltb, lt-ltb, ⊎_elim, cases_lt, Element, dotted, behind, Shape, no_shape, shape, shapes}
 use Rattle.vms_values_laws.proofs.Facade.{cells_in, single, Rule, item_elements, Stand, stand_of, array_elements, field_elements, elements_from, desc_elements}
-use Rattle.vms_values_laws.proofs.Facade.{index_text, is_number, printed, printed_append, Item, Num, Struct, width, residue, Count, One, Fixed, Counted, Field}
-use Rattle.vms_values_laws.proofs.Facade.{Desc, Set, Cell, no_desc, no_field, first, counted, capacity_of, elements_of, item_size, field_cells, cells_from}
-use Rattle.vms_values_laws.proofs.Facade.{desc_cells, struct_cells, numbers_of, place_of, kind_of, all_hold, Standing, Read, Reader, no_reader, reader, readers}
-use Rattle.vms_values_laws.proofs.Facade.{read_item, read_elements, read_array, read_field, read_fields, read_desc, elements_fit, field_size, IsNumber, IsOne}
-use Rattle.vms_values_laws.proofs.Facade.{IsEarlier, IsSoundField, AreSoundFields, IsSound, AreSound, there_same, elements_same, place_next, drop_next}
-use Rattle.vms_values_laws.proofs.Facade.{zero_plus, place_first, first_long, readers_cells, two_more, shapes_cells, Said, Agrees}
+use Rattle.vms_values_laws.proofs.Facade.{index_text, is_number, printed, printed_append, Item, Num, Struct, Count, One, Fixed, Counted, Field, Desc, Set, Cell}
+use Rattle.vms_values_laws.proofs.Facade.{no_desc, no_field, first, counted, capacity_of, elements_of, item_size, field_cells, cells_from, desc_cells}
+use Rattle.vms_values_laws.proofs.Facade.{struct_cells, numbers_of, place_of, all_hold, Standing, Read, Reader, no_reader, reader, readers, read_item}
+use Rattle.vms_values_laws.proofs.Facade.{read_elements, read_array, read_field, read_fields, read_desc, elements_fit, field_size, IsNumber, IsOne, IsEarlier}
+use Rattle.vms_values_laws.proofs.Facade.{IsSoundField, AreSoundFields, IsSound, AreSound, there_same, elements_same, place_next, drop_next, zero_plus}
+use Rattle.vms_values_laws.proofs.Facade.{place_first, first_long, readers_cells, two_more, shapes_cells, Said, Agrees}
 use Rattle.vms_spec.specs.ValuesReading.{cells_of}
 use Rattle.vms_values_laws.proofs.SaidLaws.{Knows, AllKnown, knows_grows, At, Comes, at_left, stay, then_comes, line_comes}
 
@@ -34,8 +34,7 @@ module _ (f u v : Element → Element) (same : (x : Element) → u (f x) ≡ v x
 
 module _ (steps : List (ℕ × ℕ)) (text : List ℕ) (present : Bool) where
   pub wrapped_append : (xs ys : List Element) → wrapped steps text present (xs ++ ys) ≡ wrapped steps text present xs ++ wrapped steps text present ys
-  wrapped_append xs ys =
-      ap (λ (l : List Element). map (under steps text present) l) (printed_append xs ys) ∙ map-append (under steps text present) (printed xs) (printed ys)
+  wrapped_append xs ys = rw (printed_append xs ys) (map-append (under steps text present) (printed xs) (printed ys))
 
   pub wrapped_behind : (step : ℕ × ℕ) (name : List ℕ) (p : Bool) (xs : List Element)
       → wrapped steps text present (map (behind step name true p) xs) ≡ wrapped (steps ++ step ∷ []) (text ++ name) (present && p) xs
@@ -130,12 +129,11 @@ module _ (total : List ℤ → List Element) (start : Standing) (low : ℕ) wher
         → Here at p said (λ m. wrapped steps path present (item_elements ss item caps f.default m at) ++ left m)
         → Came end (single_cell item at) said left (read_item rs f caps path present at item p)
     item_comes f (Num kind) caps steps path present at end p said left e room a =
-        let c : Cell = record { kind = kind; capacities = caps; default = f.default } in
-        rw e (line_comes total start low steps path present at c p said left (omega arith)
-        (at_left total start low (λ m g. ap (λ (x : Element). x ∷ left m) (rw (append-nil steps, append-nil path, and-true present) refl)) a))
+        rw e (line_comes total start low steps path present at (record { kind = kind; capacities = caps; default = f.default }) p said left (omega arith)
+        (at_left total start low (λ m g. ap (λ x. x ∷ left m) (rw (append-nil steps, append-nil path, and-true present) refl)) a))
     item_comes f (Struct j) caps steps path present at end p said left e room a =
         (reads j).shape_comes steps (path ++ codes ".") present at end p said left (omega (arith, ap length (cells_get rs j))) room
-        (at_left total start low (λ m g. ap (λ (l : List Element). l ++ left m) (wrapped_dotted steps path present ((get_or ss j no_shape).elements m at))) a)
+        (at_left total start low (λ m g. rw (wrapped_dotted steps path present ((get_or ss j no_shape).elements m at))) a)
     item_comes f _ caps steps path present at end p said left e room a = stay total start low (omega arith) a
 
     module _ (f : Field) (stand : Stand) (caps : List ℕ) (steps : List (ℕ × ℕ)) (path : List ℕ) (present : Bool) where
@@ -156,19 +154,19 @@ module _ (total : List ℤ → List Element) (start : Standing) (low : ℕ) wher
       unfolding brackets
       items_comes many e k zero at end p said left c le is room a =
           stay total start low (omega arith)
-          (at_left total start low (λ n g. ap (λ l. l ++ left n) (past_count steps path present f stand (part n) size e k at (omega arith))) a)
+          (at_left total start low (λ n g. rw (past_count steps path present f stand (part n) size e k at (omega arith))) a)
       items_comes many e zero (suc m) at end p said left c le is room a = absurd (omega arith)
       items_comes many e (suc k) (suc m) at end p said left c le is room a =
           let b = present && stand.there in
           let element = path ++ f.name ++ codes "[" ++ decimal e ++ codes "]" in
           let name : path ++ (f.name ++ index_text f.count e) ≡ element =
-          ap (λ l. path ++ (f.name ++ l)) (many e) ∙ sym (append_assoc path f.name (brackets e)) ∙ element_path (path ++ f.name) e in
+          rw (many e) (sym (append_assoc path f.name (brackets e)) ∙ element_path (path ++ f.name) e) in
           let later : List ℤ → List Element = λ n. parts (suc e) k (at + size) n ++ left n in
           then_comes total start low (read_item rs f caps element b at f.item p) _
           (item_comes f f.item caps (steps ++ (stand.number, e) ∷ []) element b at (at + size) p said later refl (omega arith)
-          (at_left total start low (λ n g. ap (λ (l : List Element). l ++ left n) (first_counted steps path present f stand (part n) size e k m at c)
+          (at_left total start low (λ n g. ap (λ l. l ++ left n) (first_counted steps path present f stand (part n) size e k m at c)
           ∙ append_assoc (wrapped (steps ++ (stand.number, e) ∷ []) (path ++ (f.name ++ index_text f.count e)) b (part n at)) _ (left n)
-          ∙ ap (λ (l : List ℕ). wrapped (steps ++ (stand.number, e) ∷ []) l b (part n at) ++ later n) name) a))
+          ∙ ap (λ l. wrapped (steps ++ (stand.number, e) ∷ []) l b (part n at) ++ later n) name) a))
           (λ q done a' grows known. items_comes many (suc e) k m (at + size) end q done left (omega arith) (omega arith) (grind arith) room a')
 
       -- a single element
@@ -178,9 +176,9 @@ module _ (total : List ℤ → List Element) (start : Standing) (low : ℕ) wher
       one_comes one at end p said left c is room a =
           let b = present && stand.there in
           item_comes f f.item caps (steps ++ (stand.number, 0) ∷ []) (path ++ f.name) b at end p said left is room
-          (at_left total start low (λ n g. ap (λ (l : List Element). l ++ left n)
+          (at_left total start low (λ n g. ap (λ l. l ++ left n)
           (first_counted steps path present f stand (part n) size 0 0 0 at (omega arith)
-          ∙ append-nil _ ∙ ap (λ (l : List ℕ). wrapped (steps ++ (stand.number, 0) ∷ []) (path ++ l) b (part n at))
+          ∙ append-nil _ ∙ ap (λ l. wrapped (steps ++ (stand.number, 0) ∷ []) (path ++ l) b (part n at))
           (ap (λ l. f.name ++ l) (one 0) ∙ append-nil f.name))) a)
 
       -- all elements of such a field
@@ -189,11 +187,10 @@ module _ (total : List ℤ → List Element) (start : Standing) (low : ℕ) wher
           → Here at p said (λ n. parts 0 (capacity_of count) at n ++ left n)
           → Came end (known_cell count f.item at) said left (read_array rs f caps (path ++ f.name) (present && stand.there) at count own p)
       unfolding brackets
-      array_comes own One is c at end p said left e room a = one_comes (λ e. ap (λ (c : Count). index_text c e) is) at end p said left c (grind arith) room a
-      array_comes own (Fixed n) is c at end p said left e room a =
-          items_comes (λ e. ap (λ (c : Count). index_text c e) is) 0 n n at end p said left (omega arith) (omega arith) e room a
+      array_comes own One is c at end p said left e room a = one_comes (λ e. rw is) at end p said left c (grind arith) room a
+      array_comes own (Fixed n) is c at end p said left e room a = items_comes (λ e. rw is) 0 n n at end p said left (omega arith) (omega arith) e room a
       array_comes own (Counted by most) is c at end p said left e room a =
-          items_comes (λ e. ap (λ (c : Count). index_text c e) is) 0 most _ at end p said left (c ∙ omega arith) (elements_fit (Counted by most) own) e room a
+          items_comes (λ e. rw is) 0 most _ at end p said left (c ∙ omega arith) (elements_fit (Counted by most) own) e room a
 
     module _ (d : Desc) (v : ℕ) (steps : List (ℕ × ℕ)) (path : List ℕ) (present : Bool) (base : ℕ) where
       abbrev own : List ℤ → ℕ → ℕ
@@ -216,13 +213,12 @@ module _ (total : List ℤ → List Element) (start : Standing) (low : ℕ) wher
           let elements : Stand → List (List Cell) → List ℤ → List Element = λ stand cs m.
           array_elements f stand (item_elements ss f.item caps f.default m) (item_size cs f.item) 0 (capacity_of f.count) at in
           let settled : (m : List ℤ) → Agrees said m → (j : ℕ) → IsEarlier d.fields i j → own m j ≡ old j = λ m g j x.
-          ap (λ (z : ℤ). residue (width (kind_of (get_or d.fields j no_field).item)) z) ((known j x).known m p.numbers g a.agrees) in
+          rw ((known j x).known m p.numbers g a.agrees) in
           let same : (m : List ℤ) → Agrees said m → stand_of i f v (own m) ≡ stand = λ m g.
           let there = there_same d.fields i v f.since old (own m) (settled m g) f.test sound.test in
           rw (elements_same d.fields i old (own m) (settled m g) f.count sound.count, there) refl in
           array_comes f stand caps steps path present old f.count refl refl at end p said left (omega (arith, field_size (cells_of rs) d.fields i f)) room
-          (at_left total start low (λ m g. ap (λ (cs : List (List Cell)). lines (elements (stand_of i f v (own m)) cs m) ++ left m) cells
-          ∙ ap (λ (s : Stand). lines (elements s (cells_of rs) m) ++ left m) (same m g)) a)
+          (at_left total start low (λ m g. rw (cells, same m g)) a)
 
       fields_comes : (i at end : ℕ) (fs : List Field) (p : Standing) (said : List Said) (left : List ℤ → List Element)
           → AreSoundFields d.fields i fs → at ≡ place_of (cells_of rs) d.fields 0 base d.fields i → drop i d.fields ≡ fs
@@ -239,11 +235,11 @@ module _ (total : List ℤ → List Element) (start : Standing) (low : ℕ) wher
           let e' : end ≡ next + length (cells_from cs d.fields (suc i) fs) =
           omega (arith, length-append (field_cells cs d.fields i f) (cells_from cs d.fields (suc i) fs)) in
           let there : next ≡ place_of cs d.fields 0 base d.fields (suc i) =
-          omega (arith, place_next cs d.fields 0 base d.fields i f fs is, ap (λ (k : ℕ). length (field_cells cs d.fields k f)) (zero_plus i)) in
+          omega (arith, place_next cs d.fields 0 base d.fields i f fs is, ap (λ k. length (field_cells cs d.fields k f)) (zero_plus i)) in
           then_comes total start low (read_field rs d v path present base i at f p) _
           (field_comes i at next f p said (λ m. lines (elements_from ss d.fields v (own m) m (suc i) next fs) ++ left m) sound.0 known refl (omega arith)
-          (at_left total start low (λ m g. ap (λ (l : List Element). l ++ left m) (wrapped_append steps path present (first m) _)
-          ∙ ap (λ (cs : List (List Cell)). (lines (first m) ++ lines (rest m (length (field_cells cs d.fields i f)))) ++ left m) cells
+          (at_left total start low (λ m g. ap (λ l. l ++ left m) (wrapped_append steps path present (first m) _)
+          ∙ ap (λ cs. (lines (first m) ++ lines (rest m (length (field_cells cs d.fields i f)))) ++ left m) cells
           ∙ append_assoc (lines (first m)) _ (left m)) a))
           (λ q done a' grows k.
           fields_comes (suc i) next end fs q done left sound.1 there (drop_next d.fields i f fs is)
@@ -260,8 +256,7 @@ module _ (total : List ℤ → List Element) (start : Standing) (low : ℕ) wher
           λ cs m. single (base + length (desc_cells cs d)) (Rule (all_hold d.validate v (numbers_of cs d m base))) ∷ [] in
           fields_comes 0 base end d.fields p said left sound.fields (sym (place_first cs d.fields 0 base d.fields)) refl (λ j x. absurd (omega arith)) e room
           (at_left total start low
-          (λ m g. ap (λ (cs : List (List Cell)). lines (elements_from ss d.fields v (numbers_of cs d m base) m 0 base d.fields ++ last cs m) ++ left m) cells
-          ∙ ap (λ (l : List Element). l ++ left m) (wrapped_append steps path present (fields m) (last cs m) ∙ append-nil (lines (fields m)))) a)
+          (λ m g. rw (cells, wrapped_append steps path present (fields m) (last cs m) ∙ append-nil (lines (fields m)))) a)
 
   same_cells : (ds : List Desc) (k : ℕ) → cells_in (first shape ds k) ≡ cells_of (first reader ds k)
   same_cells ds k = shapes_cells ds k ∙ sym (readers_cells ds k)
@@ -289,7 +284,6 @@ module _ (total : List ℤ → List Element) (start : Standing) (low : ℕ) wher
       → Comes total start low (at + length (desc_cells (struct_cells set) d)) [] said left (read_desc (readers set) d d.version [] true at p)
   part_comes set d at p said left structs sound room a =
       let k = length set.structs in
-      let same : length (desc_cells (struct_cells set) d) ≡ length (desc_cells (cells_of (readers set)) d) =
-      ap (λ (cs : List (List Cell)). length (desc_cells cs d)) (sym (readers_cells set.structs k)) in
+      let same : length (desc_cells (struct_cells set) d) ≡ length (desc_cells (cells_of (readers set)) d) = rw (sym (readers_cells set.structs k)) in
       desc_comes (readers set) (shapes set) (same_cells set.structs k)
       (all_read set.structs structs k (omega arith)) d d.version [] [] true at _ p said left sound (omega arith) room a

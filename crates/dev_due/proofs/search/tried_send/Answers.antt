@@ -1,5 +1,4 @@
-use Rattle.std.proofs.Common.{ℕ, ◌+◌, ◌*◌, subst}
-use Rattle.dev_due.specs.Search.{Found}
+use Rattle.dev_due.proofs.Facade.{ℕ, ◌+◌, ◌*◌, subst, Found}
 use Rattle.dev_due.proofs.DueLaws.{finds_on, keep_found, keep_tried}
 use Rattle.dev_due.proofs.search.tried_send.Goals as goal
 

@@ -1,14 +1,11 @@
-use Rattle.std.proofs.Common.{◌≡◌, ◌≤◌, Option, sym, subst, arith}
-use Rattle.std.specs.Prelude.{IfSome}
-use Rattle.dev_serial.specs.declared.shift.Shift.{Shift}
-use Rattle.dev_due.specs.Search.{FoundSends}
+use Rattle.dev_due.proofs.Facade.{◌≤◌, Option, sym, subst, arith, IfSome, Shift, FoundSends}
 use Rattle.dev_due.proofs.DueLaws.{finds_on, finds_same, next_sends}
 use Rattle.dev_due.proofs.search.tried_sends.Goals as goal
 
 pub loop-init : goal.loop-init
 loop-init c = record {
   finds = finds_same c.args.board c.args.first;
-  sends = λ k h. absurd (omega (arith, h));
+  sends = λ k h. absurd (omega arith);
   sent = omega arith;
   bound = omega arith;
 }
@@ -20,24 +17,19 @@ loop-preserved c =
       finds = finds_on before.finds c.tried_send-first.ensures.finds;
       sends = next_sends c.args.board c.loop.first c.tried_send-first.result c.in-Some.shift.due c.loop.counter c.loop.sent before.sends
           c.tried_send-first.ensures.finds before.sent c.tried_send-first.ensures.send;
-      sent = omega (arith, before.sent, c.character-time.ensures.time);
-      bound = omega (arith, before.bound, c.character-time.ensures.longest);
+      sent = omega arith;
+      bound = omega arith;
     }
 
 pub tried_send-first-requires : goal.tried_send-first-requires
-tried_send-first-requires c =
-    let soon = subst (λ (o : Option Shift). IfSome o (λ s. s.due ≤ 4500000000000000000)) c.in-Some.is c.requires in
-    omega (arith, soon, c.loop.invariant.bound, c.loop-test.true, c.waiting-bytes.ensures.few)
+tried_send-first-requires c = omega (arith, subst (λ (o : Option Shift). IfSome o (λ s. s.due ≤ 4500000000000000000)) c.in-Some.is c.requires)
 
 pub overflow_add-sent : goal.overflow_add-sent
-overflow_add-sent c =
-    let soon = subst (λ (o : Option Shift). IfSome o (λ s. s.due ≤ 4500000000000000000)) c.in-Some.is c.requires in
-    omega (arith, soon, c.loop.invariant.bound, c.loop-test.true, c.waiting-bytes.ensures.few, c.character-time.ensures.longest)
+overflow_add-sent c = omega (arith, subst (λ (o : Option Shift). IfSome o (λ s. s.due ≤ 4500000000000000000)) c.in-Some.is c.requires)
 
 pub returns-clause-finds : goal.returns-clause-finds
 returns-clause-finds c = c.loop.invariant.finds
 
 pub returns-clause-sends : goal.returns-clause-sends
 returns-clause-sends c =
-    subst (λ (o : Option Shift). FoundSends c.args.board o c.loop.first) (sym c.in-Some.is)
-    (λ k few. c.loop.invariant.sends k (omega (arith, few, c.loop-test.false, c.waiting-bytes.ensures.waiting)))
+    subst (λ (o : Option Shift). FoundSends c.args.board o c.loop.first) (sym c.in-Some.is) (λ k few. c.loop.invariant.sends k (omega arith))

@@ -1,6 +1,4 @@
-use Rattle.std.proofs.Common.{◌≡◌, ℕ, ◌+◌, ◌*◌, ◌<◌, ◌≤◌}
-use Rattle.dev_due.specs.Boards.{character_of}
-use Rattle.dev_due.specs.Search.{Finds, FoundSend}
+use Rattle.dev_due.proofs.Facade.{◌≡◌, ℕ, ◌+◌, ◌*◌, ◌<◌, ◌≤◌, character_of, Finds, FoundSend}
 use Rattle.dev_due.proofs.search.tried_sends.Given as goal
 
 abbrev pub invariant-loop : goal.invariant-loop

@@ -1,5 +1,4 @@
-use Rattle.std.proofs.Common.{rules, ◌≡◌, None}
-use Rattle.dev_due.specs.declared.boards.Board.TheVariants.{Isa}
+use Rattle.dev_due.proofs.Facade.{rules, ◌≡◌, None, Isa}
 use Rattle.dev_due.proofs.DueLaws.{none_due, some_due}
 use Rattle.dev_due.proofs.waits.due.Goals as goal
 

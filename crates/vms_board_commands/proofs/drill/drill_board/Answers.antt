@@ -1,16 +1,7 @@
-use Rattle.std.proofs.Common.{List, ℕ, refl, subst, ◌∙◌, Some}
-use Rattle.vms_io.specs.Told.{outlet}
-use Rattle.vms_commands.proofs.StepLemmas.{ending_passed, text_ends}
-use Rattle.vms_commands.specs.StepEndings.{TextEnds}
-use Rattle.vms_commands.specs.Steps.{Gives}
-use Rattle.vms_commands.proofs.EndLemmas.{quiet_same}
-use Rattle.vms_commands.specs.declared.ending.Ending.TheVariants.{NoMemory}
-use Rattle.vms_commands.proofs.CourseLemmas.{same_so, so_quiet, writes_end}
+use Rattle.vms_board_commands.proofs.Facade.{List, ℕ, refl, subst, ◌∙◌, Some, outlet, ending_passed, text_ends, TextEnds, Gives, quiet_same, NoMemory, same_so}
+use Rattle.vms_board_commands.proofs.Facade.{so_quiet, writes_end, drill_course, drill_line, ending_of}
 use Rattle.vms_board_commands.proofs.CourseLemmas.{drilled_so}
-use Rattle.vms_board_commands.specs.Causes.{drill_course}
-use Rattle.vms_board_commands.specs.Drill.{drill_line}
 use Rattle.vms_board_commands.proofs.drill.drill_board.Goals as goal
-use Rattle.vms_commands.specs.Endings.{ending_of}
 
 pub returns : goal.returns
 returns g c = λ shelf input few.

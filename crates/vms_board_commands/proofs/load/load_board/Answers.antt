@@ -1,23 +1,10 @@
-use Rattle.std.proofs.Common.{List, ℕ, true, None, refl, sym, subst, Some}
-use Rattle.std.specs.declared.alloc.Global.{Global}
-use Rattle.std.specs.declared.vec.Vec.{Vec}
-use Rattle.dev_board.specs.declared.event.Event.{Event}
-use Rattle.vms_io.specs.Told.{intake, outlet, stock}
-use Rattle.vms_commands.proofs.EndLemmas.{quiet_same}
-use Rattle.vms_commands.specs.Outcomes.{Outcome}
-use Rattle.vms_commands.proofs.StepLemmas.{ended_by, ending_passed, had_by}
-use Rattle.vms_script.specs.Lines.{ScriptLine}
-use Rattle.vms_script.specs.Views.{event_lines}
+use Rattle.vms_board_commands.proofs.Facade.{List, ℕ, true, None, refl, sym, subst, Some, Global, Vec, Event, intake, outlet, stock, quiet_same, Outcome}
+use Rattle.vms_board_commands.proofs.Facade.{ended_by, ending_passed, had_by, ScriptLine, event_lines, so_since, wrong, load_course, Loads, scripted, SeenAs}
+use Rattle.vms_board_commands.proofs.Facade.{ending_of}
 use Rattle.vms_board_commands.proofs.LoadLemmas.{gives_none, gives_some, loads_under}
-use Rattle.vms_commands.proofs.CourseLemmas.{so_since, wrong}
 use Rattle.vms_board_commands.proofs.CourseLemmas.{load_asks, unset_so}
-use Rattle.vms_board_commands.specs.Causes.{load_course}
-use Rattle.vms_board_commands.specs.Load.{Loads}
-use Rattle.vms_board_commands.specs.Scripts.{scripted}
-use Rattle.vms_board_commands.specs.Seen.{SeenAs}
 use Rattle.vms_board_commands.proofs.SeenLemmas.{other_seen, seen_given, set_other}
 use Rattle.vms_board_commands.proofs.load.load_board.Goals as goal
-use Rattle.vms_commands.specs.Endings.{ending_of}
 
 abbrev view : Vec Event Global → List ScriptLine
 view v = event_lines v.items

@@ -1,16 +1,7 @@
-use Rattle.std.proofs.Common.{ℕ, refl, ap, ◌∙◌, subst, arith, Some}
-use Rattle.std.proofs.KnownBytes.{Keeps-refl}
-use Rattle.vms_io.specs.Told.{intake, outlet}
-use Rattle.vms_commands.proofs.EndLemmas.{comes_to_nothing}
-use Rattle.vms_script.specs.Views.{event_lines}
-use Rattle.vms_commands.proofs.CourseLemmas.{same_so}
-use Rattle.vms_commands.specs.declared.ending.Ending.TheVariants.{NoMemory}
-use Rattle.vms_board_commands.specs.Causes.{stream_course}
-use Rattle.vms_board_commands.specs.Load.{LoadsStream}
+use Rattle.vms_board_commands.proofs.Facade.{ℕ, refl, ap, ◌∙◌, subst, arith, Some, Keeps-refl, intake, outlet, comes_to_nothing, event_lines, same_so, NoMemory}
+use Rattle.vms_board_commands.proofs.Facade.{stream_course, LoadsStream, ending_of, ending_passed}
 use Rattle.vms_board_commands.proofs.SeenLemmas.{other_seen}
 use Rattle.vms_board_commands.proofs.load.load_events.Goals as goal
-use Rattle.vms_commands.specs.Endings.{ending_of}
-use Rattle.vms_commands.proofs.StepLemmas.{ending_passed}
 
 pub returns : goal.returns
 returns g c =

@@ -1,20 +1,10 @@
-use Rattle.std.proofs.Common.{Ok, Err, ap, ◌∙◌, refl, Some}
-use Rattle.std.proofs.KnownBytes.{Keeps-refl}
-use Rattle.vms_board.proofs.Restored.{within}
-use Rattle.vms_io.specs.Told.{outlet}
-use Rattle.vms_commands.proofs.CourseLemmas.{draws_took}
-use Rattle.vms_commands.proofs.EndLemmas.{comes_to_nothing}
-use Rattle.vms_commands.specs.Lines.{refused_line}
-use Rattle.vms_commands.specs.declared.ending.Ending.TheVariants.{ReadFault, Refused}
-use Rattle.vms_script.specs.Views.{event_lines}
-use Rattle.vms_spec.specs.Sets.{Set}
-use Rattle.vms_board_commands.specs.Load.{Loads}
+use Rattle.vms_board_commands.proofs.Facade.{Ok, Err, ap, ◌∙◌, refl, Some, Keeps-refl, within, outlet, draws_took, comes_to_nothing, refused_line, ReadFault}
+use Rattle.vms_board_commands.proofs.Facade.{Refused, event_lines, Set, Loads, ending_of}
 use Rattle.vms_board_commands.proofs.CourseLemmas.{refused_so, traced_so, unread_so}
 use Rattle.vms_board_commands.proofs.LoadLemmas.{refusal_seen, trace_seen, written_events}
 use Rattle.vms_board_commands.proofs.LoadOutcome.{loads_same}
 use Rattle.vms_board_commands.proofs.SeenLemmas.{content_seen, other_seen}
 use Rattle.vms_board_commands.proofs.load.load_on.Goals as goal
-use Rattle.vms_commands.specs.Endings.{ending_of}
 
 -- the board was restored, and its trace was written
 pub returns-in-Ok : goal.returns-in-Ok

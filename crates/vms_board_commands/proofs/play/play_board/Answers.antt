@@ -1,23 +1,9 @@
-use Rattle.std.proofs.Common.{List, Option, Some, refl, sym, subst, true}
-use Rattle.std.specs.Prelude.{IsSomeAnd}
-use Rattle.std.specs.declared.alloc.Global.{Global}
-use Rattle.std.specs.declared.vec.Vec.{Vec}
-use Rattle.vms_io.specs.Shelves.{Held}
-use Rattle.vms_io.specs.Told.{outlet, stock}
-use Rattle.vms_commands.proofs.EndLemmas.{quiet_same}
-use Rattle.vms_commands.proofs.StepLemmas.{ended_by, ending_passed, had_by}
-use Rattle.vms_commands.specs.Outcomes.{Outcome}
-use Rattle.vms_script.specs.Lines.{ScriptLine}
-use Rattle.vms_script.specs.Views.{lines_view}
-use Rattle.vms_script.specs.declared.line.Line.{Line}
+use Rattle.vms_board_commands.proofs.Facade.{List, Option, Some, refl, sym, subst, true, IsSomeAnd, Global, Vec, Held, outlet, stock, quiet_same, ended_by}
+use Rattle.vms_board_commands.proofs.Facade.{ending_passed, had_by, Outcome, ScriptLine, lines_view, Line, so_since, wrong, play_course, PlaysAll, scripted}
+use Rattle.vms_board_commands.proofs.Facade.{ending_of}
 use Rattle.vms_board_commands.proofs.PlayLemmas.{ends_since}
-use Rattle.vms_commands.proofs.CourseLemmas.{so_since, wrong}
 use Rattle.vms_board_commands.proofs.CourseLemmas.{play_asks, unset_so}
-use Rattle.vms_board_commands.specs.Causes.{play_course}
-use Rattle.vms_board_commands.specs.Play.{PlaysAll}
-use Rattle.vms_board_commands.specs.Scripts.{scripted}
 use Rattle.vms_board_commands.proofs.play.play_board.Goals as goal
-use Rattle.vms_commands.specs.Endings.{ending_of}
 
 abbrev view : Vec Line Global → List ScriptLine
 view v = lines_view v.items

@@ -1,18 +1,8 @@
-use Rattle.std.proofs.Common.{ℕ, Some, refl, sym, ap, ◌∙◌, subst}
-use Rattle.dev_board.specs.State.{State}
-use Rattle.vms_io.specs.Told.{outlet, stock}
-use Rattle.vms_script.specs.Grammar.{AreLines}
-use Rattle.vms_script.specs.Views.{lines_view}
+use Rattle.vms_board_commands.proofs.Facade.{ℕ, Some, refl, sym, ap, ◌∙◌, subst, Keeps-refl, State, outlet, stock, AreLines, lines_view, comes_to_nothing}
+use Rattle.vms_board_commands.proofs.Facade.{same_so, ending_mapped, ending_passed, NoMemory, play_course, ending_by}
 use Rattle.vms_board_commands.proofs.PlayLemmas.{played_by}
 use Rattle.vms_board_commands.proofs.SaveLemmas.{at_level}
-use Rattle.std.proofs.KnownBytes.{Keeps-refl}
-use Rattle.vms_commands.proofs.EndLemmas.{comes_to_nothing}
-use Rattle.vms_commands.proofs.CourseLemmas.{same_so}
-use Rattle.vms_commands.proofs.StepLemmas.{ending_mapped, ending_passed}
-use Rattle.vms_commands.specs.declared.ending.Ending.TheVariants.{NoMemory}
 use Rattle.vms_board_commands.proofs.CourseLemmas.{played_so}
-use Rattle.vms_board_commands.specs.Causes.{play_course}
-use Rattle.vms_board_commands.specs.Play.{ending_by}
 use Rattle.vms_board_commands.proofs.play.play_lines.Goals as goal
 
 pub play-requires : goal.play-requires

@@ -1,9 +1,4 @@
-use Rattle.std.proofs.Common.{◌≡◌, ℕ, sym, ap, ◌∙◌, subst}
-use Rattle.dev_base.specs.Levels.{ReachesSet}
-use Rattle.vms_board.specs.Saving.{saved_stream}
-use Rattle.vms_board_streams.specs.Streams.{after_events}
-use Rattle.vms_io.specs.Told.{outlet}
-use Rattle.vms_commands.proofs.StepLemmas.{ending_mapped}
+use Rattle.vms_board_commands.proofs.Facade.{◌≡◌, ℕ, sym, ap, ◌∙◌, subst, ReachesSet, saved_stream, after_events, outlet, ending_mapped}
 use Rattle.vms_board_commands.proofs.CourseLemmas.{saved_so}
 use Rattle.vms_board_commands.proofs.SaveLemmas.{saved_ends}
 use Rattle.vms_board_commands.specs.Save.{ending_by}

@@ -1,25 +1,8 @@
-use Rattle.std.proofs.Common.{None, List, ℕ, refl, sym, ◌∙◌, subst, true, Some}
-use Rattle.std.specs.declared.alloc.Global.{Global}
-use Rattle.std.specs.declared.vec.Vec.{Vec}
-use Rattle.dev_board.specs.declared.event.Event.{Event}
-use Rattle.vms_board.specs.Saving.{saved_stream}
-use Rattle.vms_board_streams.specs.Streams.{after_events}
-use Rattle.vms_io.specs.Told.{outlet, stock}
-use Rattle.vms_commands.proofs.EndLemmas.{quiet_same}
-use Rattle.vms_commands.proofs.StepLemmas.{ending_passed, err_text, text_ends, then_text}
-use Rattle.vms_commands.specs.StepEndings.{TextEnds}
-use Rattle.vms_commands.specs.Steps.{Gives}
-use Rattle.vms_session.proofs.RunLemmas.{events_back}
-use Rattle.vms_session.specs.Events.{events_of}
-use Rattle.vms_script.specs.Lines.{ScriptLine}
-use Rattle.vms_script.specs.Views.{event_lines}
-use Rattle.vms_commands.proofs.CourseLemmas.{so_quiet, so_since, wrong}
+use Rattle.vms_board_commands.proofs.Facade.{None, List, ℕ, refl, sym, ◌∙◌, subst, true, Some, Global, Vec, Event, saved_stream, after_events, outlet, stock}
+use Rattle.vms_board_commands.proofs.Facade.{quiet_same, ending_passed, err_text, text_ends, then_text, TextEnds, Gives, events_back, events_of, ScriptLine}
+use Rattle.vms_board_commands.proofs.Facade.{event_lines, so_quiet, so_since, wrong, save_course, saved_after, scripted, ending_of}
 use Rattle.vms_board_commands.proofs.CourseLemmas.{save_asks, unset_so}
-use Rattle.vms_board_commands.specs.Causes.{save_course}
-use Rattle.vms_board_commands.specs.Save.{saved_after}
-use Rattle.vms_board_commands.specs.Scripts.{scripted}
 use Rattle.vms_board_commands.proofs.save.save_board.Goals as goal
-use Rattle.vms_commands.specs.Endings.{ending_of}
 
 abbrev view : Vec Event Global → List ScriptLine
 view v = event_lines v.items

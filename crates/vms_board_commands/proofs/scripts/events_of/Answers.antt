@@ -1,16 +1,6 @@
-use Rattle.std.proofs.Common.{ℕ, List, None, subst}
-use Rattle.std.specs.declared.alloc.Global.{Global}
-use Rattle.std.specs.declared.vec.Vec.{Vec}
-use Rattle.dev_board.specs.declared.event.Event.{Event}
-use Rattle.std.proofs.lemmas.Result.{err_from_is_err_and}
-use Rattle.vms_commands.proofs.StepLemmas.{first_err, then_as}
-use Rattle.vms_commands.specs.Fetching.{fetched}
-use Rattle.vms_commands.specs.StepEndings.{StepAs}
-use Rattle.vms_script.specs.Lines.{ScriptLine}
-use Rattle.vms_script.specs.Script.{script_read}
-use Rattle.vms_script.specs.Views.{event_lines}
+use Rattle.vms_board_commands.proofs.Facade.{ℕ, List, None, subst, Global, Vec, err_from_is_err_and, Event, first_err, then_as, fetched, StepAs, ScriptLine}
+use Rattle.vms_board_commands.proofs.Facade.{script_read, event_lines, longest_script, said_lines}
 use Rattle.vms_board_commands.proofs.ScriptLemmas.{had_events, read_asks, unfetched_asks}
-use Rattle.vms_board_commands.specs.Scripts.{longest_script, said_lines}
 use Rattle.vms_board_commands.proofs.scripts.events_of.Goals as goal
 
 abbrev view : Vec Event Global → List ScriptLine

@@ -1,16 +1,6 @@
-use Rattle.std.proofs.Common.{ℕ, List, Some, subst}
-use Rattle.std.specs.declared.alloc.Global.{Global}
-use Rattle.std.specs.declared.vec.Vec.{Vec}
-use Rattle.std.proofs.lemmas.Result.{err_from_is_err_and}
-use Rattle.vms_commands.proofs.StepLemmas.{first_err, then_as}
-use Rattle.vms_commands.specs.Fetching.{fetched}
-use Rattle.vms_commands.specs.StepEndings.{StepAs}
-use Rattle.vms_script.specs.Lines.{ScriptLine}
-use Rattle.vms_script.specs.Script.{script_read}
-use Rattle.vms_script.specs.Views.{lines_view}
-use Rattle.vms_script.specs.declared.line.Line.{Line}
+use Rattle.vms_board_commands.proofs.Facade.{ℕ, List, Some, subst, Global, Vec, err_from_is_err_and, first_err, then_as, fetched, StepAs, ScriptLine}
+use Rattle.vms_board_commands.proofs.Facade.{script_read, lines_view, Line, longest_script, said_lines}
 use Rattle.vms_board_commands.proofs.ScriptLemmas.{had_lines, read_asks, unfetched_asks}
-use Rattle.vms_board_commands.specs.Scripts.{longest_script, said_lines}
 use Rattle.vms_board_commands.proofs.scripts.session_of.Goals as goal
 
 abbrev view : Vec Line Global → List ScriptLine

@@ -1,6 +1,4 @@
-use Rattle.std.proofs.Common.{ℕ, List, Ok, Err, ◌∙◌, subst}
-use Rattle.vms_board.proofs.Restored.{content, refused_is}
-use Rattle.vms_board.specs.Restoring.{Back, Refused, Restores}
+use Rattle.vms_board_streams.proofs.Facade.{ℕ, List, Ok, Err, ◌∙◌, subst, content, refused_is, Back, Refused, Restores}
 use Rattle.vms_board_streams.proofs.memory.restore_from.Goals as goal
 
 pub returns-in-Ok-clause-back : goal.returns-in-Ok-clause-back

@@ -1,5 +1,5 @@
-use Rattle.vms_json.proofs.Facade.{◌++◌, [], ◌∷◌, refl, ap, sym, subst, ◌∙◌, arith, rules, length-append, or_else, view, items_left, IsIndex, at_name, names_of}
-use Rattle.vms_json.proofs.NameLaws.{one_named, names_on, names_end}
+use Rattle.vms_json.proofs.Facade.{◌++◌, [], ◌∷◌, refl, ap, sym, ◌∙◌, arith, rules, length-append, or_else, view, items_left, at_name, names_of}
+use Rattle.vms_json.proofs.KeyLaws.{one_named, names_on, names_end}
 use Rattle.vms_json.proofs.field_names.index_of.Goals as goal
 
 pub loop-field-init : goal.loop-field-init

@@ -1,6 +1,6 @@
 use Rattle.vms_json.proofs.Facade.{◌≡◌, ap, sym, ◌∙◌, string_bytes, btree_map_updates_text, or_else, at_name}
 use Rattle.vms_json.specs.Index.{number_of}
-use Rattle.vms_json.proofs.NameLaws.{put_one, is_none_of}
+use Rattle.vms_json.proofs.KeyLaws.{put_one, is_none_of}
 use Rattle.vms_json.proofs.field_names.put_first.Goals as goal
 
 pub returns-in_ok-insert : goal.returns-in_ok-insert

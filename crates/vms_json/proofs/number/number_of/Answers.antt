@@ -1,4 +1,4 @@
-use Rattle.vms_json.proofs.Facade.{◌≡◌, drop, get_or, true, false, ◌==◌, sym, ap, ◌∙◌, arith, take_all, length-drop, scan, number_of, number_from}
+use Rattle.vms_json.proofs.Facade.{◌≡◌, drop, true, false, sym, ap, ◌∙◌, arith, take_all, length-drop, scan, number_of, number_from}
 use Rattle.vms_json.proofs.number.number_of.Goals as goal
 
 pub returns-then-has_minus : goal.returns-then-has_minus

@@ -1,6 +1,5 @@
 use Rattle.vms_json.proofs.Facade.{◌≡◌, ◌<◌, length, Some, None, refl, sym, arith, eqb-true, eqb-false, nil_from_length, read_key, read_key-shorter}
-use Rattle.vms_json.proofs.DueLaws.{item_ended}
-use Rattle.vms_json.proofs.GoLaws.{whole_ended, member_ended, member_no_key, member_goes_on, member_was_last}
+use Rattle.vms_json.proofs.DueLaws.{item_ended, whole_ended, member_ended, member_no_key, member_goes_on, member_was_last}
 use Rattle.vms_json.proofs.parse.go_on.Goals as goal
 
 pub returns-then-is_empty-clause-ok : goal.returns-then-is_empty-clause-ok

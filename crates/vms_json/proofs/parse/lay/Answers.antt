@@ -1,4 +1,4 @@
-use Rattle.vms_json.proofs.Facade.{◌≡◌, ◌∷◌, Err, refl, ap, subst, ◌∙◌, arith, rules, token_of, of_json, converted, IsUnder, Syntax}
+use Rattle.vms_json.proofs.Facade.{◌≡◌, Err, refl, ap, ◌∙◌, arith, rules, token_of, of_json, converted, Syntax}
 use Rattle.vms_json.proofs.DueLaws.{list_too_deep, list_opened, list_over, no_list_over, token_laid, token_refused, no_end, at_any_depth}
 use Rattle.vms_json.proofs.parse.lay.Goals as goal
 

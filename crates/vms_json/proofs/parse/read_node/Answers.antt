@@ -1,4 +1,4 @@
-use Rattle.vms_json.proofs.Facade.{◌≡◌, [], ◌∷◌, Bool, true, false, refl, sym, subst, arith, rules, MatchBool, MatchBool-at_true, MatchBool-at_false, token_of}
+use Rattle.vms_json.proofs.Facade.{◌≡◌, [], ◌∷◌, Bool, true, false, refl, subst, arith, rules, MatchBool, MatchBool-at_true, MatchBool-at_false, token_of}
 use Rattle.vms_json.proofs.Facade.{IsUnder, HasEnded}
 use Rattle.vms_json.proofs.DueLaws.{none_left, under_below, ended_below, item_ended}
 use Rattle.vms_json.proofs.FrameLaws.{said_by, whole_due, nothing_said}

@@ -1,5 +1,3 @@
-use Rattle.vms_json.proofs.Facade.{◌≡◌, ◌∷◌, None, sym, subst, value, token_of, of_json, converted, IsRowOf}
-use Rattle.vms_json.specs.declared.node.Row.TheVariants as rows
 use Rattle.vms_json.proofs.LaidLaws.{text_row, flag_row, null_row, number_row, no_number, no_row}
 use Rattle.vms_json.proofs.parse.row_of.Goals as goal
 

@@ -1,5 +1,5 @@
 use Rattle.vms_script.proofs.Facade.{◌≡◌, true, sym, ◌∙◌, IsUtf8-from_ascii, is_shelf_name}
-use Rattle.vms_script.proofs.NameLemmas.{name_ascii}
+use Rattle.vms_script.proofs.ScriptLemmas.{name_ascii}
 use Rattle.vms_script.proofs.name.name_of.Goals as goal
 
 pub returns-in-Err : goal.returns-in-Err

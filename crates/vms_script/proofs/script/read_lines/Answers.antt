@@ -1,5 +1,6 @@
 use Rattle.vms_script.proofs.Facade.{sym, ap, ◌∙◌, arith, map, first_line, line_read, bad, script_read, first_is, first_none}
-use Rattle.vms_script.proofs.ScriptLemmas.{line_put, line_stops, text_ends, tail_reason, tail_stops, reads_lines, reads_bad, put_unended, refused, is_empty, is_some}
+use Rattle.vms_script.proofs.ScriptLemmas.{line_put, line_stops, text_ends, tail_reason, tail_stops, reads_lines, reads_bad, put_unended, refused, is_empty}
+use Rattle.vms_script.proofs.ScriptLemmas.{is_some}
 use Rattle.vms_script.proofs.script.read_lines.Goals as goal
 
 pub returns-in-Err : goal.returns-in-Err

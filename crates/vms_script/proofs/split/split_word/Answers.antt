@@ -1,5 +1,5 @@
 use Rattle.vms_script.proofs.Facade.{◌≡◌, ℕ, ◌+◌, ◌-◌, List, length, take, drop, Some, sym, ap, ◌∙◌, arith, common_steps}
-use Rattle.vms_script.proofs.SplitLemmas.{found_word, no_blank, none_yet, none_here}
+use Rattle.vms_script.proofs.ScriptLemmas.{found_word, no_blank, none_yet, none_here}
 use Rattle.vms_script.proofs.split.split_word.Goals as goal
 
 pub loop-place-init : goal.loop-place-init
@@ -15,8 +15,7 @@ returns-then-byte-eq32-clause-word c =
 pub returns-then-byte-eq32-clause-rest : goal.returns-then-byte-eq32-clause-rest
 returns-then-byte-eq32-clause-rest c =
     let rest : take (length c.args.line.now - (c.loop-place.place + 1)) (drop (c.loop-place.place + 1) c.args.line.now) ≡ drop (c.loop-place.place + 1) c.args.line.now = grind (arith, common_steps) in
-    ap (λ (r : List ℕ). Some r) rest
-    ∙ sym (rw (found_word c.args.line.now c.loop-place.place c.loop-place-test.true c.if-byte-eq32.true c.loop-place.invariant))
+    rw rest (sym (rw (found_word c.args.line.now c.loop-place.place c.loop-place-test.true c.if-byte-eq32.true c.loop-place.invariant)))
 
 pub returns-clause-word : goal.returns-clause-word
 returns-clause-word c = sym (rw (no_blank c.args.line.now c.loop-place.place c.loop-place-test.false c.loop-place.invariant))

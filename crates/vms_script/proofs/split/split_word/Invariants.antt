@@ -1,4 +1,4 @@
-use Rattle.vms_script.proofs.SplitLemmas.{NotBefore}
+use Rattle.vms_script.proofs.ScriptLemmas.{NotBefore}
 use Rattle.vms_script.proofs.split.split_word.Given as goal
 
 -- no space is before this offset

@@ -1,5 +1,5 @@
-use Rattle.vms_values.proofs.Facade.{length, ap, ◌∙◌, described, IsImageOf}
-use Rattle.vms_values.proofs.DeviceLemmas.{default_of, default_kinds, own_spot, alike_kept, image_of, of_alike, subs_alike}
+use Rattle.vms_values.proofs.Facade.{length, ap, ◌∙◌, described, IsImageOf, Typed, sym}
+use Rattle.vms_values.proofs.DeviceLemmas.{default_of, own_spot, alike_kept, of_alike, subs_alike}
 use Rattle.vms_values.proofs.Naming.{own_kinds}
 use Rattle.vms_values.proofs.devices.read_device.Goals.{In_ok-read_subs}
 use Rattle.vms_values.proofs.devices.read_device.Goals as goal
@@ -13,7 +13,7 @@ read_part-requires-clause-spot c =
 pub read_part-requires-clause-kinds : goal.read_part-requires-clause-kinds
 read_part-requires-clause-kinds c =
     let set = described c.args.set.now in
-    own_kinds set c.args.device c.args.taken.now.image.kinds (default_kinds set c.args.device c.args.taken.now.image c.requires.defaults)
+    own_kinds set c.args.device c.args.taken.now.image.kinds (ap (λ (x : Typed). x.kinds) c.requires.defaults)
 
 pub read_subs-requires-clause-device : goal.read_subs-requires-clause-device
 read_subs-requires-clause-device c =
@@ -23,7 +23,7 @@ read_subs-requires-clause-device c =
 
 pub read_subs-requires-clause-kinds : goal.read_subs-requires-clause-kinds
 read_subs-requires-clause-kinds c =
-    c.in_ok-read_part.ensures.kept.kinds ∙ default_kinds (described c.args.set.now) c.args.device c.args.taken.now.image c.requires.defaults
+    c.in_ok-read_part.ensures.kept.kinds ∙ ap (λ (x : Typed). x.kinds) c.requires.defaults
 
 pub judge_device-reading-requires-clause-device : goal.judge_device-reading-requires-clause-device
 judge_device-reading-requires-clause-device c =
@@ -42,7 +42,8 @@ is_image c =
     let of = default_of set c.args.set.now.well_formed c.args.device c.requires.known image c.requires.defaults in
     let kept = c.in_ok-read_part.ensures.kept in
     let subs = subs_alike _ _ _ _ c.in_ok-read_subs.ensures.read in
-    image_of set c.args.device _ (of_alike set c.args.device _ _ (of_alike set c.args.device _ _ of (alike_kept _ _ kept)) subs) (subs.kinds ∙ kept.kinds ∙ default_kinds set c.args.device image c.requires.defaults)
+    let all = of_alike set c.args.device _ _ (of_alike set c.args.device _ _ of (alike_kept _ _ kept)) subs in
+    record { subs = all.subs; cells = all.cells; kinds = subs.kinds ∙ kept.kinds ∙ ap (λ (x : Typed). x.kinds) c.requires.defaults }
 
 pub returns-then-is_none-clause-of : goal.returns-then-is_none-clause-of
 returns-then-is_none-clause-of c = is_image (goal.at.returns-then-is_none-clause-of c).In_ok-read_subs

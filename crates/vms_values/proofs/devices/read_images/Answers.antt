@@ -1,6 +1,6 @@
 use Rattle.vms_values.proofs.Facade.{◌≡◌, ◌<◌, ◌∷◌, ◌++◌, [], length, map, ap, ◌∙◌, arith, err_from_is_err_and, length-map, map-append, device_of, described}
-use Rattle.vms_values.proofs.Facade.{state_of}
-use Rattle.vms_values.proofs.DeviceLemmas.{gathered_next, gathered_refused, gathered_all, first_more, first_all}
+use Rattle.vms_values.proofs.Facade.{state_of, Typed, sym}
+use Rattle.vms_values.proofs.DeviceLemmas.{gathered_next, gathered_refused, gathered_all, first_more}
 use Rattle.vms_values.proofs.devices.read_images.Goals as goal
 
 pub loop-device-preserved : goal.loop-device-preserved
@@ -21,7 +21,7 @@ pub returns-clause-of : goal.returns-clause-of
 returns-clause-of c =
     let set = described c.args.set.now in
     let end : length set.devices ≡ c.loop-device.device = omega (arith, ap length c.as_slice.ensures, ap (λ s. length s.devices) c.parts.ensures, length-map c.parts.result.now.devices device_of) in
-    first_all set c.loop-device.device c.loop-device.images.items c.loop-device.invariant.of end
+    record { one_each = c.loop-device.invariant.of.count ∙ sym end; each = c.loop-device.invariant.of.each }
 
 pub returns-in_err-image-clause-read : goal.returns-in_err-image-clause-read
 returns-in_err-image-clause-read c =

@@ -7,15 +7,13 @@ pub returns-in_err-restore_pit-clause-restored : goal.returns-in_err-restore_pit
 returns-in_err-restore_pit-clause-restored g c =
     let time = ap timed (sym c.moment_of.ensures) ∙ sym c.timed.ensures.moment ∙ c.in_ok-moment.was in
     let refused = pit-refused c.args.level (g.C.DeviceCells.cells c.args.cells.now) _ time _ (sym c.restore_pair.ensures ∙ c.in_ok-restore_pair.was) _ (sym c.restore_pit.ensures ∙ c.in_err-restore_pit.was) in
-    let same : c.from_residual-in_err-restore_pit.result ≡ Err c.in_err-restore_pit.field-0.0 = search rules in
-    same ∙ sym refused
+    (search rules) ∙ sym refused
 
 pub returns-in_err-restore_serial-clause-restored : goal.returns-in_err-restore_serial-clause-restored
 returns-in_err-restore_serial-clause-restored g c =
     let time = ap timed (sym c.moment_of.ensures) ∙ sym c.timed.ensures.moment ∙ c.in_ok-moment.was in
     let refused = port-refused c.args.level (g.C.DeviceCells.cells c.args.cells.now) _ time _ (sym c.restore_pair.ensures ∙ c.in_ok-restore_pair.was) _ _ (sym c.restore_pit.ensures ∙ c.in_ok-restore_pit.was) (sym c.restore_serial.ensures ∙ c.in_err-restore_serial.was) in
-    let same : c.from_residual-in_err-restore_serial.result ≡ Err c.in_err-restore_serial.field-0.0 = search rules in
-    same ∙ sym refused
+    (search rules) ∙ sym refused
 
 pub invariant_of-parts : goal.invariant_of-parts
 invariant_of-parts g c =

@@ -8,15 +8,13 @@ use Rattle.dev_board.proofs.parts.Parts.event.Goals as goal
 
 pub settle-kept-requires-clause-stays : goal.settle-kept-requires-clause-stays
 settle-kept-requires-clause-stays c =
-    let before : Before = record { lines = c.lines-lines.result; int = c.args.kept.now.int } in
-    after-read c.args.self.now c.requires.sound before
+    after-read c.args.self.now c.requires.sound (record { lines = c.lines-lines.result; int = c.args.kept.now.int })
     (record { lines = c.lines-lines.ensures ∙ ap (λ (m : State). lines_of m.pair) c.self.view_is; int = c.requires.kept.int })
     c.in-Read.port _ _ _ c.read-value.ensures.touch c.read-value.ensures.step
 
 pub settle-kept-requires-in-Write-clause-stays : goal.settle-kept-requires-in-Write-clause-stays
 settle-kept-requires-in-Write-clause-stays c =
-    let before : Before = record { lines = c.lines-lines.result; int = c.args.kept.now.int } in
-    after-write c.args.self.now c.requires.sound before
+    after-write c.args.self.now c.requires.sound (record { lines = c.lines-lines.result; int = c.args.kept.now.int })
     (record { lines = c.lines-lines.ensures ∙ ap (λ (m : State). lines_of m.pair) c.self.view_is; int = c.requires.kept.int })
     c.in-Write.port c.in-Write.value _ _ c.write-touch.ensures.touch c.write-touch.ensures.step
 
@@ -35,7 +33,7 @@ pub settle-kept-requires-in-Ack-clause-stays : goal.settle-kept-requires-in-Ack-
 settle-kept-requires-in-Ack-clause-stays c =
     let before : Before = record { lines = c.lines-lines.result; int = c.args.kept.now.int } in
     ack-stays (parts_view c.self.inside) (subst IsSound (sym c.self.view_is) c.requires.sound) before
-    (record { lines = c.lines-lines.ensures; int = c.requires.kept.int ∙ ap (λ (m : State). int_of m.pair) (sym c.self.view_is) })
+    (record { lines = c.lines-lines.ensures; int = cc (c.requires.kept.int, c.self.view_is) })
     c.ack-value.result c.ack-value.new.self _ c.ack_touches.ensures c.ack-value.ensures
 
 pub returns-in-Read-clause-kept : goal.returns-in-Read-clause-kept

@@ -1,7 +1,4 @@
-use Rattle.std.proofs.Common.{◌≡◌, ap, ◌∙◌}
-use Rattle.dev_board.specs.State.{State}
-use Rattle.dev_serial.specs.Port.{Port}
-use Rattle.dev_due.specs.Boards.{devices_of}
+use Rattle.dev_due.proofs.Facade.{◌≡◌, ap, ◌∙◌, State, Port, devices_of}
 use Rattle.dev_due.proofs.DueLaws.{soon}
 use Rattle.dev_due.proofs.boards.Board.shift.Goals as goal
 

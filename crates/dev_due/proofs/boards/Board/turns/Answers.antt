@@ -1,9 +1,4 @@
-use Rattle.std.proofs.Common.{ap, subst, ◌∙◌}
-use Rattle.dev_board.specs.State.{State}
-use Rattle.dev_pit.specs.Pit.{counter_of}
-use Rattle.dev_pit.specs.Turns.{AreTurns}
-use Rattle.dev_pit.specs.declared.pit.Pit.{Pit}
-use Rattle.dev_due.specs.Boards.{devices_of}
+use Rattle.dev_due.proofs.Facade.{ap, subst, ◌∙◌, State, counter_of, AreTurns, Pit, devices_of}
 use Rattle.dev_due.proofs.DueLaws.{loaded_later, loaded_now}
 use Rattle.dev_due.proofs.boards.Board.turns.Goals as goal
 

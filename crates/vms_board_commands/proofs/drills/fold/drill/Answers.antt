@@ -1,8 +1,4 @@
-use Rattle.std.proofs.Common.{◌≡◌, ◌+◌, ◌-◌, ◌∙◌, ap, arith}
-use Rattle.dev_board.specs.State.{State}
-use Rattle.vms_board.specs.Standing.{Standing}
-use Rattle.vms_board_commands.specs.Drills.{Drill, drill_begun, drilled_on, summary_of}
-use Rattle.vms_board_commands.specs.DrillViews.{progress_view}
+use Rattle.vms_board_commands.proofs.Facade.{◌≡◌, ◌+◌, ◌-◌, ◌∙◌, ap, arith, State, Standing, Drill, drill_begun, drilled_on, summary_of, progress_view}
 use Rattle.vms_board_commands.proofs.DrillSteps.{one_more, none_more}
 use Rattle.vms_board_commands.proofs.drills.fold.drill.Goals as goal
 

@@ -1,6 +1,4 @@
-use Rattle.std.proofs.Common.{◌≡◌, ◌-◌}
-use Rattle.vms_board_commands.specs.Drills.{drill_begun, drilled_on}
-use Rattle.vms_board_commands.specs.DrillViews.{progress_view, IsInProgress}
+use Rattle.vms_board_commands.proofs.Facade.{◌≡◌, ◌-◌, drill_begun, drilled_on, progress_view, IsInProgress}
 use Rattle.vms_board_commands.proofs.drills.fold.drill.Given as goal
 
 abbrev pub invariant-loop : goal.invariant-loop

@@ -1,7 +1,4 @@
-use Rattle.std.proofs.Common.{◌≡◌, ℕ, length, ap, ◌∙◌, subst, arith}
-use Rattle.dev_board.specs.Saved.{MaySaveUnder}
-use Rattle.vms_board_commands.specs.DrillProgress.{came_back, set_of}
-use Rattle.vms_board_streams.proofs.IsaBytes.{streams_are_short}
+use Rattle.vms_board_commands.proofs.Facade.{◌≡◌, ℕ, length, ap, ◌∙◌, subst, arith, MaySaveUnder, came_back, set_of, streams_are_short}
 use Rattle.vms_board_commands.proofs.DrillRounds.{board_back, long_back, never_refused}
 use Rattle.vms_board_commands.proofs.drills.round.come_back.Goals as goal
 

@@ -1,4 +1,4 @@
-use Rattle.vms_json.proofs.Facade.{◌≡◌, ◌∷◌, None, sym, ap, ◌∙◌, arith, key_at}
+use Rattle.vms_json.proofs.Facade.{◌≡◌, ◌∷◌, sym, ap, ◌∙◌, arith}
 use Rattle.vms_json.specs.declared.node.Row.TheVariants as rows
 use Rattle.vms_json.proofs.LaidLaws.{a_member_left, key_is, no_member_at, no_member_left}
 use Rattle.vms_json.proofs.node.Members.next.Goals as goal

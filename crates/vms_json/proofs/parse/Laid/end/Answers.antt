@@ -1,5 +1,5 @@
-use Rattle.vms_json.proofs.Facade.{◌≡◌, ◌-◌, ◌<◌, length, slice_set, sym, ap, subst, ◌∙◌, arith, length-set, Row, AreBelow}
-use Rattle.vms_json.proofs.GoLaws.{below_front, IsTold, list_ended, object_ended}
+use Rattle.vms_json.proofs.Facade.{◌≡◌, ◌-◌, ◌<◌, length, slice_set, ap, ◌∙◌, arith, length-set, Row, AreBelow}
+use Rattle.vms_json.proofs.DueLaws.{below_front, IsTold, list_ended, object_ended}
 use Rattle.vms_json.proofs.parse.Laid.end.Goals as goal
 use Rattle.vms_json.proofs.parse.Laid.end.Goals.{then-self, else-self, In-Some, After-len, After-is_in_list-self}
 

@@ -1,5 +1,5 @@
 use Rattle.vms_json.proofs.Facade.{◌≡◌, ◌-◌, length, get_or, ap, ◌∙◌, arith, slice_get, get_or_default, is_list}
-use Rattle.vms_json.proofs.GoLaws.{at_last, below_at, one_place}
+use Rattle.vms_json.proofs.DueLaws.{at_last, below_at, one_place}
 use Rattle.vms_json.proofs.parse.Laid.is_in_list.Goals as goal
 
 pub index-requires : goal.index-requires

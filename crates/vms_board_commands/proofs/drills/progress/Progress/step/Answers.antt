@@ -1,6 +1,4 @@
-use Rattle.std.proofs.Common.{◌∙◌, sym}
-use Rattle.vms_board_commands.specs.DrillTallies.{tally_view}
-use Rattle.vms_board_commands.specs.DrillViews.{progress_view}
+use Rattle.vms_board_commands.proofs.Facade.{◌∙◌, sym, tally_view, progress_view}
 use Rattle.vms_board_commands.proofs.DrillSteps.{some_saves, goes_saved, goes_unsaved}
 use Rattle.vms_board_commands.proofs.drills.progress.Progress.step.Goals as goal
 
