@@ -11,21 +11,19 @@ use Rattle.vms_session.proofs.PartLemmas.{text_next, held_next, rest_next, begun
 
 pub lines_next : (lines : List Line) (i : ℕ) (line : Line) → i < length lines → line ≡ get_or lines i line
     → lines_view (drop i lines) ≡ line_view line ∷ lines_view (drop (i + 1) lines)
-lines_next lines i line lt is =
-    ap lines_view (drop_more lines i line lt) ∙ ap (λ (l : Line). line_view l ∷ lines_view (drop (i + 1) lines)) (sym is)
+lines_next lines i line lt is = cc (drop_more lines i line lt)
 
 -- ---- counts
 
 pub rose_since : (a b c : ℕ) → a ≤ b → Rose b c → Rose a c
-rose_since a b c le rose = omega (arith, le, rose)
+rose_since a b c le rose = omega arith
 
 cause_since : (out out' out'' : Outlet) (shelf shelf' shelf'' : Stock) (result : Result Unit PlayFault) → out.faults ≤ out'.faults
     → shelf.faults ≤ shelf'.faults
     → HasPlayCause out' out'' shelf' shelf'' result → HasPlayCause out out'' shelf shelf'' result
-cause_since out out' out'' shelf shelf' shelf'' (Ok u) p q h = h
 cause_since out out' out'' shelf shelf' shelf'' (Err WriteFault) p q h = rose_since out.faults out'.faults out''.faults p h
 cause_since out out' out'' shelf shelf' shelf'' (Err ShelfFault) p q h = rose_since shelf.faults shelf'.faults shelf''.faults q h
-cause_since out out' out'' shelf shelf' shelf'' (Err NoMemory) p q h = h
+cause_since out out' out'' shelf shelf' shelf'' _ p q h = h
 
 -- what calls before it did
 pub goes_since : {out out' out'' : Outlet} {shelf shelf' shelf'' : Stock} {result : Result Unit PlayFault} → Serves out out' → Reaches shelf shelf'
@@ -95,19 +93,16 @@ module _ (i : ℕ) (line : ScriptLine) (left : List ScriptLine) (parts : List Pa
       record {
         holds = between.held;
         told = ends.1;
-        rest = subst (λ (b : State). Plays left (session_of b between.held) (drop (suc i) parts) new) (sym ends.2)
-            (subst (λ (p : List Part). Plays left between p new) (sym (rest_next (part_of line text between) course.rest.1 i parts next)) course.rest.4);
-        text = subst (Appends out.written out''.written) (sym (text_next (part_of line text between) course.rest.1 i parts next))
-            (Appends-trans out.written out'.written out''.written (text_of (take i parts)) text course.text
-            (subst (Appends out'.written out''.written) (append-nil text) ends.0));
-        held = ends.1 ∙ sym (held_next (part_of line text between) course.rest.1 i shelf.held parts next);
+        rest = rw ends.2 (rw (rest_next (part_of line text between) course.rest.1 i parts next) course.rest.4);
+        text = rw (text_next (part_of line text between) course.rest.1 i parts next) (Appends-trans out.written out'.written out''.written (text_of (take i parts)) text course.text
+            (rw (append-nil text) at ends.0));
+        held = cc (held_next (part_of line text between) course.rest.1 i shelf.held parts next);
       }
 
   -- all of the lines before this one has been written, where this one writes nothing
   behind : Appends out'.written out''.written [] → Appends out.written out''.written (text_of (take i parts))
   behind none =
-      subst (Appends out.written out''.written) (append-nil (text_of (take i parts)))
-      (Appends-trans out.written out'.written out''.written (text_of (take i parts)) [] course.text none)
+      rw (append-nil (text_of (take i parts))) at (Appends-trans out.written out'.written out''.written (text_of (take i parts)) [] course.text none)
 
   -- the result of this one is the result of all
   comes_behind : ComesTo out' out'' shelf' shelf'' (part_of line text between ∷ []) → ComesTo out out'' shelf shelf'' parts
@@ -120,14 +115,13 @@ module _ (i : ℕ) (line : ScriptLine) (left : List ScriptLine) (parts : List Pa
         begun = i;
         bytes = length (text_of parts);
         text = subst (Appends out.written out''.written) (sym (begun_whole i (length (text_of parts)) parts (omega arith))) (behind none.0);
-        held = none.1 ∙ course.held;
+        held = cc;
       }
       by (inr some) = record {
         begun = suc i;
         bytes = some.0;
-        text = subst (Appends out.written out''.written) (sym (begun_next (part_of line text between) course.rest.1 i some.0 parts next))
-            (Appends-trans out.written out'.written out''.written (text_of (take i parts)) (take some.0 text) course.text some.1);
-        held = some.2 ∙ sym (held_next (part_of line text between) course.rest.1 i shelf.held parts next);
+        text = rw (begun_next (part_of line text between) course.rest.1 i some.0 parts next) (Appends-trans out.written out'.written out''.written (text_of (take i parts)) (take some.0 text) course.text some.1);
+        held = cc (held_next (part_of line text between) course.rest.1 i shelf.held parts next);
       }
 
   -- where this one is done, or nothing of it is
@@ -140,15 +134,14 @@ module _ (i : ℕ) (line : ScriptLine) (left : List ScriptLine) (parts : List Pa
       whole : Appends out'.written out''.written (text ++ []) → shelf''.held ≡ Some between.held → DoesSome out out'' shelf shelf'' parts
       whole all held = record {
         done = suc i;
-        text = subst (Appends out.written out''.written) (sym (text_next part course.rest.1 i parts next))
-            (Appends-trans out.written out'.written out''.written (text_of (take i parts)) text course.text
-            (subst (Appends out'.written out''.written) (append-nil text) all));
-        held = held ∙ sym (held_next part course.rest.1 i shelf.held parts next);
+        text = rw (text_next part course.rest.1 i parts next) (Appends-trans out.written out'.written out''.written (text_of (take i parts)) text course.text
+            (rw (append-nil text) at all));
+        held = cc (held_next part course.rest.1 i shelf.held parts next);
       }
 
       by : (k : ℕ) → Appends out'.written out''.written (text_of (take k (part ∷ []))) → shelf''.held ≡ held_after shelf'.held (take k (part ∷ []))
           → DoesSome out out'' shelf shelf'' parts
-      by zero none held = record { done = i; text = behind none; held = held ∙ course.held }
+      by zero none held = record { done = i; text = behind none; held = cc }
       by (suc zero) all held = whole all held
       by (suc (suc k)) all held = whole all held
 
@@ -167,8 +160,7 @@ module _ (i : ℕ) (line : ScriptLine) (left : List ScriptLine) (parts : List Pa
         done = i;
         text = behind none;
         rose = rose_since shelf.faults shelf'.faults shelf''.faults le fails.rose;
-        held = subst (λ (name : Option (List ℕ)). HoldsBut name (held_after shelf.held (take i parts)) shelf''.held) (sym (ap stored_next next))
-            (subst (λ (want : Option Held). HoldsBut (stored_by line) want shelf''.held) course.held but);
+        held = rw (ap stored_next next) (rw course.held at but);
       }
       by (suc zero) none but = absurd but
       by (suc (suc k)) none but = absurd but
@@ -189,12 +181,12 @@ module _ (i : ℕ) (line : ScriptLine) (left said : List ScriptLine) (split : sa
     (out out' out'' : Outlet) (shelf shelf' shelf'' : Stock)
     (course : InCourse i said parts new board out out' shelf shelf') where
   begun : InCourse i (line ∷ left) parts new board out out' shelf shelf'
-  begun = subst (λ (l : List ScriptLine). InCourse i l parts new board out out' shelf shelf') split course
+  begun = rw split at course
 
   pub next_course : Content line board board' out' out'' shelf' shelf'' (Ok tt) → InCourse (i + 1) left parts new board' out out'' shelf shelf''
   next_course content =
       let one : suc i ≡ i + 1 = omega arith in
-      subst (λ (n : ℕ). InCourse n left parts new board' out out'' shelf shelf'') one
+      subst (λ n. InCourse n left parts new board' out out'' shelf shelf'') one
       (course_goes i line left parts new board board' out out' out'' shelf shelf' shelf'' begun content)
 
   pub stop_course : (fault : PlayFault) → shelf.faults ≤ shelf'.faults → Content line board board' out' out'' shelf' shelf'' (Err fault)
@@ -204,7 +196,7 @@ module _ (i : ℕ) (line : ScriptLine) (left said : List ScriptLine) (split : sa
 pub course_ends : (i : ℕ) (parts : List Part) (new : Session) (board : State) (out out' : Outlet) (shelf shelf' : Stock)
     → InCourse i [] parts new board out out' shelf shelf' → LinesEnd parts new out out' shelf shelf' board (Ok tt)
 course_ends i parts new board out out' shelf shelf' course = (
-  subst (Appends out.written out'.written) (text_all i parts course.rest.0) course.text,
+  rw (text_all i parts course.rest.0) at course.text,
   course.held ∙ held_all i shelf.held parts course.rest.0,
-  ap (λ (s : Session). s.board) (sym course.rest.1),
+  ap (λ s. s.board) (sym course.rest.1),
 )

@@ -64,38 +64,33 @@ restored-ends : (name bytes : List ℕ) (old : Session) (restore : Restore State
 restored-ends name bytes old (Back m taken) there few restores held = record {
   text = restored_line taken;
   new = record old { board = m };
-  does = subst (λ (h : Option (List ℕ)). LoadsHeld h old (restored_line taken) (record old { board = m })) (sym there)
-      (IsLoaded (Back m taken) few restores (record { text_is = refl; new_is = refl }));
+  does = rw there (IsLoaded (Back m taken) few restores (record { text_is = refl; new_is = refl }));
   held = held;
 }
 restored-ends name bytes old (Refused place section reason) there few restores held = record {
   text = refused_line (shipped_set NEWEST) place section reason;
   new = old;
-  does = subst (λ (h : Option (List ℕ)). LoadsHeld h old (refused_line (shipped_set NEWEST) place section reason) old) (sym there)
-      (IsLoaded (Refused place section reason) few restores (record { text_is = refl; new_is = refl }));
+  does = rw there (IsLoaded (Refused place section reason) few restores (record { text_is = refl; new_is = refl }));
   held = held;
 }
 
 bytes-end : (name bytes : List ℕ) (old : Session) (b : Bool) → nat_lt longest_file (length bytes) ≡ b → old.held name ≡ Some bytes
     → Comes old.board.level bytes → still old.board.level old.held → LineEnds (Loads name) old
 bytes-end name bytes old true e there comes held =
-    let long : longest_file < length bytes = grind (arith, nat_tests, e) in
     record {
       text = too_large_line;
       new = old;
-      does = subst (λ (h : Option (List ℕ)). LoadsHeld h old too_large_line old) (sym there) (IsTooLarge long (record { text_is = refl; new_is = refl }));
+      does = rw there (IsTooLarge (grind (arith, nat_tests, e)) (record { text_is = refl; new_is = refl }));
       held = held;
     }
-bytes-end name bytes old false e there comes held =
-    let few : length bytes ≤ longest_file = grind (arith, nat_tests, e) in
-    restored-ends name bytes old comes.0 there few comes.1 held
+bytes-end name bytes old false e there comes held = restored-ends name bytes old comes.0 there (grind (arith, nat_tests, e)) comes.1 held
 
 held-end : (name : List ℕ) (old : Session) (under : Option (List ℕ)) → old.held name ≡ under → HeldComes old.board.level under
     → still old.board.level old.held → LineEnds (Loads name) old
 held-end name old None there comes held = record {
   text = missing_line;
   new = old;
-  does = subst (λ (h : Option (List ℕ)). LoadsHeld h old missing_line old) (sym there) (record { text_is = refl; new_is = refl });
+  does = rw there (record { text_is = refl; new_is = refl });
   held = held;
 }
 held-end name old (Some bytes) there comes held =
@@ -133,10 +128,10 @@ lines-end : (level : ℕ) (lines : List ScriptLine) (old : Session) → old.boar
     → still level old.held → HasAnEnd lines old
 lines-end level [] old at good s held = record { parts = []; new = old; plays = (refl, refl) }
 lines-end level (line ∷ lines) old at good s held =
-    let first = line-ends line old (subst (λ (l : ℕ). IsLine (Some l) line) (sym at) good.0) s (subst (λ (l : ℕ). still l old.held) (sym at) held) in
+    let first = line-ends line old (rw at good.0) s (rw at held) in
     let same = line_level line old first.text first.new first.does ∙ at in
     let rest = lines-end level lines first.new same good.1 (sessions_stay_sound.line (Some level) line old first.text first.new good.0 first.does s)
-    (subst (λ (l : ℕ). still l first.new.held) at first.held) in
+    (subst (λ l. still l first.new.held) at first.held) in
     record {
       parts = part_of line first.text first.new ∷ rest.parts;
       new = rest.new;

@@ -27,16 +27,15 @@ session board held = record { board = board; held = held }
 
 same-left : (said : List ℕ) (after : Session) (text text' : List ℕ) (new new' : Session) → Leaves said after text new → Leaves said after text' new'
     → IsOneEnd text text' new new'
-same-left said after text text' new new' a b = record { texts = a.text_is ∙ sym b.text_is; ends = a.new_is ∙ sym b.new_is }
+same-left said after text text' new new' a b = record { texts = cc; ends = cc }
 
 same-bytes : (bytes : List ℕ) (old : Session) (text text' : List ℕ) (new new' : Session) → IsBytes bytes → LoadsBytes bytes old text new
     → LoadsBytes bytes old text' new' → IsOneEnd text text' new new'
 same-bytes bytes old text text' new new' ok (IsTooLarge long a) (IsTooLarge long' b) = same-left too_large_line old text text' new new' a b
-same-bytes bytes old text text' new new' ok (IsTooLarge long a) (IsLoaded r few restores b) = absurd (omega (arith, long, few))
-same-bytes bytes old text text' new new' ok (IsLoaded r few restores a) (IsTooLarge long b) = absurd (omega (arith, long, few))
+same-bytes bytes old text text' new new' ok (IsTooLarge long a) (IsLoaded r few restores b) = absurd (omega arith)
+same-bytes bytes old text text' new new' ok (IsLoaded r few restores a) (IsTooLarge long b) = absurd (omega arith)
 same-bytes bytes old text text' new new' ok (IsLoaded r few restores a) (IsLoaded r' few' restores' b) =
-    let same = bytes_are_one.one old.board.level bytes ok r r' restores restores' in
-    come r' (subst (λ (x : Restore State). ComesTo x old text new) same a) b
+    come r' (rw (bytes_are_one.one old.board.level bytes ok r r' restores restores') at a) b
   where
     come : (x : Restore State) → ComesTo x old text new → ComesTo x old text' new' → IsOneEnd text text' new new'
     come (Back m taken) a b = same-left (restored_line taken) (record old { board = m }) text text' new new' a b
@@ -52,10 +51,9 @@ pub one_end : (line : ScriptLine) (old : Session) (text text' : List ℕ) (new n
 one_end (Happens event) old text text' new new' ok a b =
     same-left (trace_line (step event old.board).0) (record old { board = (step event old.board).1 }) text text' new new' a b
 one_end (Saves set name) old text text' new new' ok a b =
-    let maps = one_map old.held new.held new'.held name (saved_stream isa set old.board) a.held b.held in
     record {
-      texts = a.text_is ∙ sym b.text_is;
-      ends = ap (λ (m : State). session m new.held) (a.board ∙ sym b.board) ∙ ap (session new'.board) maps;
+      texts = cc;
+      ends = rw (a.board ∙ sym b.board) (ap (session new'.board) (one_map old.held new.held new'.held name (saved_stream isa set old.board) a.held b.held));
     }
 one_end (Loads name) old text text' new new' ok a b = same-under (old.held name) old text text' new new' ok a b
 

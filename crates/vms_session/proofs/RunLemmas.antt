@@ -32,7 +32,7 @@ lines_are_events play (Restores name ∷ lines) are = lines_are_events play line
 -- the events of lines that are events
 pub events_back : (events : List Event) → events_of (event_lines events) ≡ events
 events_back [] = refl
-events_back (event ∷ events) = ap (λ (es : List Event). event ∷ es) (events_back events)
+events_back (event ∷ events) = rw (events_back events)
 
 pub are_events : (play : Option ℕ) (events : List Event) → AreLines play (event_lines events) → AreEvents events
 are_events play events are = subst AreEvents (events_back events) (lines_are_events play (event_lines events) are)
@@ -43,11 +43,11 @@ module _ {S : Type 0} (f : Family S) where
   pub after_next : (event : Event) (rest events : List Event) (m m' : S) → events ≡ event ∷ rest → m' ≡ (f.step event m).1
       → after_events f rest m' ≡ after_events f events m
   unfolding after_by
-  after_next event rest events m m' e done = ap (after_events f rest) done ∙ sym (ap (λ (es : List Event). after_events f es m) e)
+  after_next event rest events m m' e done = cc
 
   pub after_none : (events : List Event) (m : S) → events ≡ [] → after_events f events m ≡ m
   unfolding after_by
-  after_none events m e = ap (λ (es : List Event). after_events f es m) e
+  after_none events m e = rw e
 
   -- ---- the board after some first events
 
@@ -58,9 +58,9 @@ module _ {S : Type 0} (f : Family S) where
   after_more : (events : List Event) (i : ℕ) (m : S) → i < length events
       → after_events f (take (suc i) events) m ≡ (f.step (event_at events i) (after_events f (take i events) m)).1
   unfolding after_by
-  after_more [] i m lt = absurd (omega (arith, lt))
+  after_more [] i m lt = absurd (omega arith)
   after_more (event ∷ events) zero m lt = refl
-  after_more (event ∷ events) (suc i) m lt = after_more events i (f.step event m).1 (omega (arith, lt))
+  after_more (event ∷ events) (suc i) m lt = after_more events i (f.step event m).1 (omega arith)
 
   pub one_more : (events : List Event) (i : ℕ) (m m' m'' : S) → i < length events → m' ≡ after_events f (take i events) m
       → m'' ≡ (f.step (event_at events i) m').1 → m'' ≡ after_events f (take (i + 1) events) m
@@ -74,12 +74,11 @@ module _ {S : Type 0} (f : Family S) where
   pub trace_next : (event : Event) (rest events : List Event) (m m' : S) → events ≡ event ∷ rest → m' ≡ (f.step event m).1
       → trace_from f events m ≡ trace_line (f.step event m).0 ++ trace_from f rest m'
   unfolding answers_by
-  trace_next event rest events m m' e done =
-      ap (λ (es : List Event). trace_from f es m) e ∙ sym (ap (λ (b : S). trace_line (f.step event m).0 ++ trace_from f rest b) done)
+  trace_next event rest events m m' e done = rw e (sym (ap (λ (b : S). trace_line (f.step event m).0 ++ trace_from f rest b) done))
 
   pub trace_none : (events : List Event) (m : S) → events ≡ [] → trace_from f events m ≡ []
   unfolding answers_by
-  trace_none events m e = ap (λ (es : List Event). trace_from f es m) e
+  trace_none events m e = rw e
 
   -- ---- the number of a board, which events keep
 
@@ -90,4 +89,4 @@ module _ {S : Type 0} (f : Family S) where
     after_number (event ∷ events) m = after_number events (f.step event m).1 ∙ stays event m
 
     pub number_next : (event : Event) (m m' : S) → m' ≡ (f.step event m).1 → f.number m' ≡ f.number m
-    number_next event m m' done = ap f.number done ∙ stays event m
+    number_next event m m' done = cc (stays event m)

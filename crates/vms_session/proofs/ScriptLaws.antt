@@ -20,9 +20,8 @@ loads-same (Some bytes) old text new (IsLoaded (Back m taken) few restores h) = 
 loads-same (Some bytes) old text new (IsLoaded (Refused place section reason) few restores h) = ap held-of h.new_is
 
 pub reads_bytes : (line : ScriptLine) (old : Session) → HoldsAll old.held → ReadsBytes line old
-reads_bytes (Happens event) old holds = tt
-reads_bytes (Saves set name) old holds = tt
 reads_bytes (Loads name) old holds = holds name
+reads_bytes _ old holds = tt
 
 pub line_holds : (line : ScriptLine) (old : Session) (text : List ℕ) (new : Session) → IsLine (Some old.board.level) line → Does line old text new
     → IsSound old.board
@@ -41,12 +40,12 @@ pub record Follows (level : ℕ) (after : Session) : Type 0 where
   pub holds : HoldsAll after.held
 
 good-at : (level : ℕ) (line : ScriptLine) (old : Session) → Follows level old → IsLine (Some level) line → IsLine (Some old.board.level) line
-good-at level line old f good = subst (λ (l : ℕ). IsLine (Some l) line) (sym f.at) good
+good-at level line old f good = rw f.at good
 
 pub line_follows : (level : ℕ) (line : ScriptLine) (old : Session) (text : List ℕ) (new : Session) → IsLine (Some level) line → Does line old text new
     → Follows level old → Follows level new
 line_follows level line old text new good does f = record {
-  at = line_level line old text new does ∙ f.at;
+  at = cc (line_level line old text new does);
   sound = sessions_stay_sound.line (Some level) line old text new good does f.sound;
   holds = line_holds line old text new (good-at level line old f good) does f.sound f.holds;
 }
@@ -54,11 +53,10 @@ line_follows level line old text new good does f = record {
 lines-one : (level : ℕ) (lines : List ScriptLine) (old : Session) (parts parts' : List Part) (new new' : Session) → AreLines (Some level) lines
     → Follows level old
     → Plays lines old parts new → Plays lines old parts' new' → IsOneCourse parts parts' new new'
-lines-one level [] old parts parts' new new' are f p q = record { same = p.0 ∙ sym q.0; ends = p.1 ∙ sym q.1 }
+lines-one level [] old parts parts' new new' are f p q = record { same = cc; ends = cc }
 lines-one level (line ∷ lines) old parts parts' new new' are f p q =
     let one = one_end line old p.0 q.0 p.2 q.2 (reads_bytes line old f.holds) p.3 q.3 in
-    let rest = lines-one level lines p.2 p.1 q.1 new new' are.1 (line_follows level line old p.0 p.2 are.0 p.3 f) p.4
-    (subst (λ (z : Session). Plays lines z q.1 new') (sym one.ends) q.4) in
+    let rest = lines-one level lines p.2 p.1 q.1 new new' are.1 (line_follows level line old p.0 p.2 are.0 p.3 f) p.4 (rw one.ends q.4) in
     record {
       same = p.5 ∙ ap (λ (r : List Part). part_of line p.0 p.2 ∷ r) rest.same ∙ ap (λ (t : List ℕ). part_of line t p.2 ∷ q.1) one.texts
           ∙ ap (λ (z : Session). part_of line q.0 z ∷ q.1) one.ends ∙ sym q.5;
@@ -67,7 +65,7 @@ lines-one level (line ∷ lines) old parts parts' new new' are f p q =
 
 lines-follow : (level : ℕ) (lines : List ScriptLine) (old : Session) (parts : List Part) (new : Session) → AreLines (Some level) lines → Follows level old
     → Plays lines old parts new → Follows level new
-lines-follow level [] old parts new are f p = subst (Follows level) (sym p.1) f
+lines-follow level [] old parts new are f p = rw p.1 f
 lines-follow level (line ∷ lines) old parts new are f p =
     lines-follow level lines p.2 p.1 new are.1 (line_follows level line old p.0 p.2 are.0 p.3 f) p.4
 

@@ -8,8 +8,7 @@ level_of s = s.board.level
 
 bytes-level : (bytes : List ℕ) (old : Session) (text : List ℕ) (new : Session) → LoadsBytes bytes old text new → level_of new ≡ level_of old
 bytes-level bytes old text new (IsTooLarge long left) = ap level_of left.new_is
-bytes-level bytes old text new (IsLoaded (Back m taken) few restores left) =
-    ap level_of left.new_is ∙ restored_is_sound.level old.board.level (cells_in restores.0) m restores.2
+bytes-level bytes old text new (IsLoaded (Back m taken) few restores left) = cc (restored_is_sound.level old.board.level (cells_in restores.0) m restores.2)
 bytes-level bytes old text new (IsLoaded (Refused place section reason) few restores left) = ap level_of left.new_is
 
 held-level : (held : Option (List ℕ)) (old : Session) (text : List ℕ) (new : Session) → LoadsHeld held old text new → level_of new ≡ level_of old
@@ -17,8 +16,8 @@ held-level None old text new left = ap level_of left.new_is
 held-level (Some bytes) old text new loads = bytes-level bytes old text new loads
 
 pub line_level : (line : ScriptLine) (old : Session) (text : List ℕ) (new : Session) → Does line old text new → level_of new ≡ level_of old
-line_level (Happens event) old text new does = ap level_of does.new_is ∙ clock_goes_on.level event old.board
-line_level (Saves set name) old text new does = ap (λ b. b.level) does.board
+line_level (Happens event) old text new does = cc (clock_goes_on.level event old.board)
+line_level (Saves set name) old text new does = rw (does.board)
 line_level (Loads name) old text new does = held-level (old.held name) old text new does
 
 lines-level : (lines : List ScriptLine) (old : Session) (parts : List Part) (new : Session) → Plays lines old parts new → level_of new ≡ level_of old

@@ -10,11 +10,9 @@ use Rattle.vms_script.specs.Lines.{Restores as Loads}
 -- ---- each device of a stream that is taken has a normal image
 
 set-or-same : (came : List Bool) (j k : ℕ) → (k ≡ j) ⊎ (slice_get (slice_set came j true) k ≡ slice_get came k)
-set-or-same [] j k = inr refl
 set-or-same (c ∷ came) zero zero = inl refl
-set-or-same (c ∷ came) zero (suc k) = inr refl
-set-or-same (c ∷ came) (suc j) zero = inr refl
 set-or-same (c ∷ came) (suc j) (suc k) = elim (set-or-same came j k) [ inl e ↦ inl (ap suc e) | inr e ↦ inr e ]
+set-or-same _ _ _ = inr refl
 
 not-yet : (devices : List Device) (k : ℕ) (d : Device) → slice_get devices k ≡ Some d → slice_get (map (λ (e : Device). false) devices) k ≡ Some false
 not-yet [] k d e = cc
@@ -23,12 +21,11 @@ not-yet (x ∷ devices) (suc k) d e = not-yet devices k d e
 
 of-section : (set : Set) (footed : Bool) (k : ℕ) (device : Option Device) (found : Option Image) (bytes : List ℕ) (d : Device) (image : Image)
     → HasSection set footed k device found bytes → device ≡ Some d → found ≡ Some image → IsNormal set d image
-of-section set footed k None found bytes d image h e f = absurd h
-of-section set footed k (Some x) None bytes d image h e f = absurd h
 of-section set footed k (Some x) (Some y) bytes d image h e f =
     let same : x ≡ d = cc in
     let alike : y ≡ image = cc in
-    subst (λ (z : Device). IsNormal set z image) same (subst (λ (i : Image). IsNormal set x i) alike h.1.normal)
+    subst (λ z. IsNormal set z image) same (subst (λ i. IsNormal set x i) alike h.1.normal)
+of-section set footed k _ _ bytes d image h e f = absurd h
 
 normal-in : (set : Set) (footed : Bool) (images : List Image) (order : List ℕ) (came : List Bool) (bytes : List ℕ)
     → EachOnce came order → SectionsSpell set footed images order bytes → (k : ℕ) (d : Device) (image : Image)
@@ -56,12 +53,10 @@ back_is_sound level bytes m taken l r =
 -- ---- lines
 
 pub event_is : (event : Event) → IsSpelled event → IsEvent event
-event_is (Read port) h = tt
 event_is (Write port value) h = h.1
 event_is (Byte value) h = h
-event_is (Wait ns) h = tt
 event_is (Wire input up) h = h
-event_is Ack h = tt
+event_is _ h = tt
 
 pub line_event : (play : Option ℕ) (event : Event) → IsLine play (Happens event) → IsSpelled event
 line_event None event h = h
@@ -71,26 +66,25 @@ same-board : (old new : Session) → new.board ≡ old.board → IsSound old.boa
 same-board old new e s = subst IsSound (sym e) s
 
 bytes-sound : (bytes : List ℕ) (old : Session) (text : List ℕ) (new : Session) → LoadsBytes bytes old text new → IsSound old.board → IsSound new.board
-bytes-sound bytes old text new (IsTooLarge long left) s = same-board old new (ap (λ (z : Session). z.board) left.new_is) s
+bytes-sound bytes old text new (IsTooLarge long left) s = same-board old new (rw (left.new_is)) s
 bytes-sound bytes old text new (IsLoaded (Back m taken) few restores left) s =
-    subst IsSound (sym (ap (λ (z : Session). z.board) left.new_is)) (back_is_sound old.board.level bytes m taken s.devices.level restores)
-bytes-sound bytes old text new (IsLoaded (Refused place section reason) few restores left) s =
-    same-board old new (ap (λ (z : Session). z.board) left.new_is) s
+    subst IsSound (sym (rw (left.new_is))) (back_is_sound old.board.level bytes m taken s.devices.level restores)
+bytes-sound bytes old text new (IsLoaded (Refused place section reason) few restores left) s = same-board old new (rw (left.new_is)) s
 
 held-sound : (held : Option (List ℕ)) (old : Session) (text : List ℕ) (new : Session) → LoadsHeld held old text new → IsSound old.board → IsSound new.board
-held-sound None old text new left s = same-board old new (ap (λ (z : Session). z.board) left.new_is) s
+held-sound None old text new left s = same-board old new (rw (left.new_is)) s
 held-sound (Some bytes) old text new loads s = bytes-sound bytes old text new loads s
 
 pub line_sound : (play : Option ℕ) (line : ScriptLine) (old : Session) (text : List ℕ) (new : Session) → IsLine play line → Does line old text new
     → IsSound old.board → IsSound new.board
 line_sound play (Happens event) old text new good does s =
-    subst IsSound (sym (ap (λ (z : Session). z.board) does.new_is)) (sound_stays_on.event event old.board (event_is event (line_event play event good)) s)
+    subst IsSound (sym (rw (does.new_is))) (sound_stays_on.event event old.board (event_is event (line_event play event good)) s)
 line_sound play (Saves set name) old text new good does s = same-board old new does.board s
 line_sound play (Loads name) old text new good does s = held-sound (old.held name) old text new does s
 
 lines-sound : (play : Option ℕ) (lines : List ScriptLine) (old : Session) (parts : List Part) (new : Session) → AreLines play lines
     → Plays lines old parts new → IsSound old.board → IsSound new.board
-lines-sound play [] old parts new good plays s = same-board old new (ap (λ (z : Session). z.board) plays.1) s
+lines-sound play [] old parts new good plays s = same-board old new (rw (plays.1)) s
 lines-sound play (line ∷ lines) old parts new good plays s =
     lines-sound play lines plays.2 plays.1 new good.1 plays.4 (line_sound play line old plays.0 plays.2 good.0 plays.3 s)
 

@@ -6,20 +6,17 @@ use Rattle.vms_session.proofs.line.play_line.Goals as goal
 
 pub event-requires : goal.event-requires
 event-requires g c =
-    let level = c.args.board.now.state.level in
-    let good = subst (λ (l : Line). IsLine (Some level) (line_view l)) c.in-Event.is c.requires.line in
-    record { wire = names c.in-Event.event (event_is c.in-Event.event (line_event (Some level) c.in-Event.event good)) }
+    let good = rw c.in-Event.is at c.requires.line in
+    record { wire = names c.in-Event.event (event_is c.in-Event.event (line_event (Some c.args.board.now.state.level) c.in-Event.event good)) }
 
 pub returns-in-Event-clause-level : goal.returns-in-Event-clause-level
-returns-in-Event-clause-level g c =
-    ap (λ (d : Answer × State). d.1.level) c.event.ensures.step ∙ clock_goes_on.level c.in-Event.event c.args.board.now.state
+returns-in-Event-clause-level g c = ap (λ d. d.1.level) c.event.ensures.step ∙ clock_goes_on.level c.in-Event.event c.args.board.now.state
 
 pub returns-in-Event-clause-content : goal.returns-in-Event-clause-content
 returns-in-Event-clause-content g c = λ held text new told does.
-    let done = subst (λ (l : Line). Does (line_view l) (session_of c.args.board.now.state held) text new) c.in-Event.is does in
+    let done = rw c.in-Event.is at does in
     let step = c.event.ensures.step in
     line_ends (line_view c.args.line.now) text (trace_line c.event.result) new (outlet g.K.Sink c.args.out.now) (outlet g.K.Sink c.write_answer.new.out)
     (stock g.H.Shelf c.args.shelf.now) (stock g.H.Shelf c.args.shelf.now) c.event.new.self.state c.write_answer.result
-    (ap (λ (d : Answer × State). trace_line d.0) step ∙ sym done.text_is) c.write_answer.ensures
-    (told ∙ ap (λ (s : Session). Some s.held) (sym done.new_is))
-    (ap (λ (d : Answer × State). d.1) step ∙ ap (λ (s : Session). s.board) (sym done.new_is))
+    (ap (λ d. trace_line d.0) step ∙ sym done.text_is) c.write_answer.ensures (told ∙ ap (λ (s : Session). Some s.held) (sym done.new_is))
+    (ap (λ d. d.1) step ∙ ap (λ s. s.board) (sym done.new_is))

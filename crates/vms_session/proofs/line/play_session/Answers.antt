@@ -8,29 +8,24 @@ pub returns-in_ok-count-in-Save-clause-content : goal.returns-in_ok-count-in-Sav
 returns-in_ok-count-in-Save-clause-content g c = λ held text new told does.
     let board = c.args.board.now.state in
     let stream = saved_stream isa c.in-Save.set board in
-    let done = subst (λ (l : SessionLine). Does (session_view l) (session_of board held) text new) c.in-Save.is does in
+    let done = rw c.in-Save.is at does in
     let saved = c.in_ok-count-in-Save.ensures.saves in
     let stored = stores_told held told saved.1 in
     let under = subst (λ name. PutsUnder held stored.after name stream) c.as_str.ensures.value stored.puts in
-    let same = one_map held stored.after new.held c.in-Save.name.bytes stream under done.held in
     line_ends (session_view c.args.line.now) text c.deref.result.now new (outlet g.K.Sink c.args.out.now) (outlet g.K.Sink c.write.new.out)
     (stock g.H.Shelf c.args.shelf.now) (stock g.H.Shelf c.save.new.shelf)
     board c.write.result
     (c.deref.ensures.0 ∙ c.saved_mark.ensures ∙ ap saved_line saved.0 ∙ sym done.text_is)
-    c.write.ensures
-    (stored.told ∙ ap (λ (h : Held). Some h) same)
+    c.write.ensures (stored.told ∙ ap (λ (h : Held). Some h) (one_map held stored.after new.held c.in-Save.name.bytes stream under done.held))
     (sym done.board)
 
 pub returns-in_ok-mark-in-Restore-clause-content : goal.returns-in_ok-mark-in-Restore-clause-content
 returns-in_ok-mark-in-Restore-clause-content g c = λ held text new told does.
-    let board = c.args.board.now.state in
-    let old = session_of board held in
     let name = c.in-Restore.name.bytes in
-    let done = subst (λ (l : SessionLine). Does (session_view l) old text new) c.in-Restore.is does in
+    let done = rw c.in-Restore.is at does in
     let restored = c.in_ok-mark-in-Restore.ensures in
-    let loads = subst (λ (n : List ℕ). LoadsHeld (held n) old text new) (sym c.as_str-in-Restore.ensures.value) done in
-    let loaded = restored.loaded held text new told loads in
+    let loaded = restored.loaded held text new told (rw c.as_str-in-Restore.ensures.value done) in
     line_ends (session_view c.args.line.now) text c.deref-in-Restore.result.now new (outlet g.K.Sink c.args.out.now)
     (outlet g.K.Sink c.write-in-Restore.new.out) (stock g.H.Shelf c.args.shelf.now) (stock g.H.Shelf c.restore.new.shelf)
     c.restore.new.board.state c.write-in-Restore.result (c.deref-in-Restore.ensures.0 ∙ loaded.0) c.write-in-Restore.ensures
-    (restored.looks.held ∙ told ∙ ap (λ (h : Held). Some h) (sym (loads_keep (held name) old text new done))) loaded.1
+    (restored.looks.held ∙ told ∙ ap (λ (h : Held). Some h) (sym (loads_keep (held name) (session_of c.args.board.now.state held) text new done))) loaded.1

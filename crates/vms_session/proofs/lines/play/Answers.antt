@@ -19,25 +19,20 @@ pub play_line-requires-clause-line : goal.play_line-requires-clause-line
 play_line-requires-clause-line g c =
     let lines = c.args.lines.now in
     let i = c.loop-line.line-index in
-    let lt : i < length lines = omega (arith, c.loop-line-test.true) in
-    let are = rw (lines_next lines i c.line-item.result lt c.line-item.is) at c.loop-line.invariant.lines in
-    subst (λ (l : ℕ). IsLine (Some l) (line_view c.line-item.result)) (sym c.loop-line.invariant.level) are.0
+    rw c.loop-line.invariant.level (rw (lines_next lines i c.line-item.result (omega arith) c.line-item.is) at c.loop-line.invariant.lines).0
 
 pub loop-line-preserved : goal.loop-line-preserved
 loop-line-preserved g c =
     let lines = c.args.lines.now in
     let i = c.loop-line.line-index in
-    let lt : i < length lines = omega (arith, c.loop-line-test.true) in
-    let said = line_view c.line-item.result in
     let left = lines_view (drop (i + 1) lines) in
-    let split = lines_next lines i c.line-item.result lt c.line-item.is in
-    let are = rw split at c.loop-line.invariant.lines in
+    let split = lines_next lines i c.line-item.result (omega arith) c.line-item.is in
     record {
       level = c.in-Ok.ensures.level ∙ c.loop-line.invariant.level;
-      lines = are.1;
+      lines = (rw split at c.loop-line.invariant.lines).1;
       sets = c.in-Ok.ensures.sets;
       course = λ held parts new told plays.
-          next_course i said left (lines_view (drop i lines)) split parts new c.loop-line.board.state c.play_line.new.board.state
+          next_course i (line_view c.line-item.result) left (lines_view (drop i lines)) split parts new c.loop-line.board.state c.play_line.new.board.state
           (outlet g.K.Sink c.args.out.now) (outlet g.K.Sink c.loop-line.out) (outlet g.K.Sink c.play_line.new.out)
           (stock g.H.Shelf c.args.shelf.now) (stock g.H.Shelf c.loop-line.shelf) (stock g.H.Shelf c.play_line.new.shelf)
           (c.loop-line.invariant.course held parts new told plays) c.in-Ok.ensures.content;
@@ -49,9 +44,8 @@ pub returns-in-Err-clause-content : goal.returns-in-Err-clause-content
 returns-in-Err-clause-content g c = λ held parts new told plays.
     let lines = c.args.lines.now in
     let i = c.loop-line.line-index in
-    let lt : i < length lines = omega (arith, c.loop-line-test.true) in
     stop_course i (line_view c.line-item.result) (lines_view (drop (i + 1) lines)) (lines_view (drop i lines))
-    (lines_next lines i c.line-item.result lt c.line-item.is)
+    (lines_next lines i c.line-item.result (omega arith) c.line-item.is)
     parts new c.loop-line.board.state c.play_line.new.board.state
     (outlet g.K.Sink c.args.out.now) (outlet g.K.Sink c.loop-line.out) (outlet g.K.Sink c.play_line.new.out)
     (stock g.H.Shelf c.args.shelf.now) (stock g.H.Shelf c.loop-line.shelf) (stock g.H.Shelf c.play_line.new.shelf)
@@ -62,8 +56,7 @@ returns-in-Err-clause-goes g c = goes_since c.loop-line.invariant.serves c.loop-
 
 pub returns-clause-content : goal.returns-clause-content
 returns-clause-content g c = λ held parts new told plays.
-    let lines = c.args.lines.now in
     let i = c.loop-line.line-index in
     course_ends i parts new c.loop-line.board.state
     (outlet g.K.Sink c.args.out.now) (outlet g.K.Sink c.loop-line.out) (stock g.H.Shelf c.args.shelf.now) (stock g.H.Shelf c.loop-line.shelf)
-    (rw (drop_all i lines (omega (arith, c.loop-line-test.false))) at (c.loop-line.invariant.course held parts new told plays))
+    (rw (drop_all i c.args.lines.now (omega arith)) at (c.loop-line.invariant.course held parts new told plays))

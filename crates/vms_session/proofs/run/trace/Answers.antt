@@ -8,7 +8,7 @@ use Rattle.vms_session.proofs.run.trace.Goals.{In-loop-event, After-loop-event}
 -- the event whose turn it is, and those after it
 next : (g : Over) (c : goal.In-loop-event g)
     → (let events = c.args.events.now in let i = c.loop-event.event-index in drop i events ≡ event_at events i ∷ drop (i + 1) events)
-next g c = left_next c.args.events.now c.loop-event.event-index (omega (arith, c.loop-event-test.true))
+next g c = left_next c.args.events.now c.loop-event.event-index (omega arith)
 
 pub loop-event-init : goal.loop-event-init
 loop-event-init g c = record {
@@ -37,8 +37,7 @@ returns-in_err-trace_event-clause-wrote g c =
     let split =
     trace_next f (event_at events i) (drop (i + 1) events) (drop i events) m c.trace_event.new.board.state
     (next g (goal.at.returns-in_err-trace_event-clause-wrote g c).In-loop-event) c.in_err-trace_event.ensures.state in
-    let p = err_from_is_err_and c.from_residual.result c.from_residual.ensures.1 in
-    rw p.1 (leaves_stop {part = trace_line (f.step (event_at events i) m).0}
+    rw (err_from_is_err_and c.from_residual.result c.from_residual.ensures.1).1 (leaves_stop {part = trace_line (f.step (event_at events i) m).0}
     (trace_from f (drop (i + 1) events) c.trace_event.new.board.state) split c.loop-event.invariant.leaves c.in_err-trace_event.ensures.wrote)
 
 pub loop-event-preserved : goal.loop-event-preserved
@@ -57,14 +56,14 @@ loop-event-preserved g c =
           (trace_next f event rest all m m' left c.in_ok-trace_event.ensures.state) c.loop-event.invariant.leaves c.in_ok-trace_event.ensures.wrote;
       left = after_next f event rest all m m' left c.in_ok-trace_event.ensures.state ∙ c.loop-event.invariant.left;
       among = one_more f c.args.events.now i c.args.board.now.state m m'
-          (omega (arith, c.loop-event-test.true)) c.loop-event.invariant.among c.in_ok-trace_event.ensures.state;
+          (omega arith) c.loop-event.invariant.among c.in_ok-trace_event.ensures.state;
       number = number_next f g.met.M.Machine.stands.stays event m m' c.in_ok-trace_event.ensures.state ∙ c.loop-event.invariant.number;
       taken = c.in_ok-trace_event.ensures.taken ∙ c.loop-event.invariant.taken;
     }
 
 -- no event is left
 none : (g : Over) (c : goal.After-loop-event g) → drop c.loop-event.event-index c.args.events.now ≡ []
-none g c = none_left c.args.events.now c.loop-event.event-index (omega (arith, c.loop-event-test.false))
+none g c = none_left c.args.events.now c.loop-event.event-index (omega arith)
 
 pub returns-clause-wrote : goal.returns-clause-wrote
 returns-clause-wrote g c =
@@ -73,24 +72,20 @@ returns-clause-wrote g c =
 
 pub returns-in_err-trace_event-clause-number : goal.returns-in_err-trace_event-clause-number
 returns-in_err-trace_event-clause-number g c =
-    let f = g.M.Machine.family in
-    number_next f g.met.M.Machine.stands.stays
+    number_next g.M.Machine.family g.met.M.Machine.stands.stays
     (event_at c.args.events.now c.loop-event.event-index) c.loop-event.board.state c.trace_event.new.board.state c.in_err-trace_event.ensures.state
     ∙ c.loop-event.invariant.number
 
 pub returns-in_err-trace_event-clause-stopped : goal.returns-in_err-trace_event-clause-stopped
 returns-in_err-trace_event-clause-stopped g c =
     let i = c.loop-event.event-index in
-    let p = err_from_is_err_and c.from_residual.result c.from_residual.ensures.1 in
-    rw p.1 (record {
+    rw (err_from_is_err_and c.from_residual.result c.from_residual.ensures.1).1 (record {
       count = i + 1;
-      within = omega (arith, c.loop-event-test.true);
+      within = omega arith;
       is = one_more g.M.Machine.family c.args.events.now i c.args.board.now.state c.loop-event.board.state c.trace_event.new.board.state
-          (omega (arith, c.loop-event-test.true)) c.loop-event.invariant.among c.in_err-trace_event.ensures.state;
+          (omega arith) c.loop-event.invariant.among c.in_err-trace_event.ensures.state;
     })
 
 pub returns-clause-state : goal.returns-clause-state
 returns-clause-state g c =
-    sym (after_none g.M.Machine.family (drop c.loop-event.event-index c.args.events.now) c.loop-event.board.state
-    (none g (goal.at.returns-clause-state g c).After-loop-event))
-    ∙ c.loop-event.invariant.left
+    cc (after_none g.M.Machine.family (drop c.loop-event.event-index c.args.events.now) c.loop-event.board.state (none g (goal.at.returns-clause-state g c).After-loop-event), c.loop-event.invariant.left)

@@ -10,7 +10,7 @@ returns-in-Ok-clause-text c = λ held text new loads.
 
 pub returns-in-Ok-clause-board : goal.returns-in-Ok-clause-board
 returns-in-Ok-clause-board c = λ held text new loads.
-    ap (λ (s : Session). s.board)
+    ap (λ s. s.board)
     (sym (comes c.args.stream.items (session_of c.args.board.now.state held) text new (Back c.restore_from.new.board.state c.restore_from.new.board.taken)
     c.in-Ok.ensures.octets c.requires c.in-Ok.ensures.back loads).new_is)
 
@@ -23,7 +23,6 @@ returns-in-Err-clause-text c = λ held text new loads.
 
 pub returns-in-Err-clause-board : goal.returns-in-Err-clause-board
 returns-in-Err-clause-board c = λ held text new loads.
-    ap (λ (b : Standing State). b.state) c.in-Err.ensures.same
-    ∙ ap (λ (s : Session). s.board)
+    ap (λ b. b.state) c.in-Err.ensures.same ∙ ap (λ s. s.board)
     (sym (comes c.args.stream.items (session_of c.args.board.now.state held) text new (Refused c.in-Err.refusal.at c.in-Err.refusal.section c.in-Err.refusal.reason)
     c.in-Err.ensures.octets c.requires c.in-Err.ensures.refused loads).new_is)
