@@ -3,15 +3,11 @@ use Rattle.vms_board.proofs.Facade.{◌≤◌, ℕ, ◌+◌, inl, inr, List, Opt
 use Rattle.vms_board.proofs.Facade.{ComesTo, IsRefused, RestoreReads, Family, Refused, Restores, Standing, RestoreFault}
 use Rattle.vms_board.specs.declared.restore.RestoreFault.TheVariants as faults
 
-nothing : (old : Option (List ℕ)) → IfSome old (λ input. Unit {0})
-nothing None = tt
-nothing (Some input) = tt
-
 module _ {S : Type 0} (f : Family S) (number : ℕ) (new : Standing S) {a b : Intake} where
   pub content : (r : Result Unit RestoreFault) → RestoreReads f number a b new r → IfSome a.left (λ input. ComesTo f number new input b.left r)
   content (Ok u) p = reads_told (λ input left. ComesTo f number new input left (Ok u)) tt p
   content (Err (faults.Refused r)) p = reads_told (λ input left. ComesTo f number new input left (Err (faults.Refused r))) tt p
-  content (Err faults.ReadFault) p = nothing a.left
+  content (Err faults.ReadFault) p = elim a.left as (λ o. IfSome o (λ input. Unit {0})) [ None ↦ tt | Some input ↦ tt ]
 
   pub within : (r : Result Unit RestoreFault) → RestoreReads f number a b new r → b.given ≤ a.given + most_given (f.set f.newest)
   within (Ok u) p = omega (arith, p.takes.given, p.long.0, p.long.1)

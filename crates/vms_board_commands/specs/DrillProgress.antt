@@ -1,11 +1,14 @@
 -- A drill: events, and after every thousandth one a board that is restored from what was saved.
-use Rattle.std.specs.Prelude.{ℕ, zero, suc, ◌+◌, ◌-◌, ◌%◌, ◌/◌, ◌==◌, Bool, if◌then◌else◌, List, [], ◌∷◌, length, Result, Ok, Err}
+use Rattle.std.specs.Prelude.{◌≡◌, ◌<◌, ℕ, zero, suc, ◌+◌, ◌-◌, ◌%◌, ◌/◌, ◌==◌, Bool, if◌then◌else◌, List, [], ◌∷◌, length, Result, Ok, Err}
 use Rattle.dev_base.specs.declared.limits.TheConstants.{NEWEST}
 use Rattle.dev_board.specs.Saved.{saved, carried, restored}
 use Rattle.dev_board.specs.State.{State, power_on}
 use Rattle.dev_board.specs.Step.{step}
 use Rattle.dev_board.specs.declared.event.Answer.{Answer}
 use Rattle.dev_board.specs.declared.misfit.Misfit.{Misfit}
+use Rattle.vms_board.specs.Isa.{isa}
+use Rattle.vms_board.specs.Saving.{saved_stream}
+use Rattle.vms_board_streams.specs.declared.memory.TheConstants.{STREAM_ROOM}
 use Rattle.vms_board_commands.specs.DrillEvents.{next_number, event_of}
 use Rattle.vms_board_commands.specs.declared.drills.schedule.TheConstants.{BETWEEN_SAVES}
 
@@ -51,6 +54,13 @@ back_of m (Err misfit) = m
 -- The board that is restored from what a board saves under a set, or the board itself if that is refused.
 unfoldable pub came_back : ℕ → State → State
 came_back set m = back_of m (restored m.level (carried set (saved set m)))
+
+-- A board has come back from its own stream, as the set `set` saves it. The stream has `n` bytes, and all were taken.
+pub record ComesBack (set : ℕ) (old new : State) (read n : ℕ) : Type 0 where
+  pub state : new ≡ came_back set old
+  pub long : n ≡ length (saved_stream isa set old)
+  pub taken : read ≡ n
+  pub short : n < STREAM_ROOM
 
 -- The progress of a drill: the number of events, the number that chose the last of them (at first the seed), the
 -- board, and the counts.

@@ -10,7 +10,7 @@ pub use Rattle.std.proofs.lemmas.List.{drop_more, length-map, map-append, take-m
 pub use Rattle.std.proofs.lemmas.Map.Keys.{any_passes_from_place}
 pub use Rattle.std.proofs.lemmas.Option.{get_or_from_slice_get, slice_get-get_or, slice_get_within}
 pub use Rattle.std.proofs.lemmas.Slice.Eq.{bytes_eq-Decides}
-pub use Rattle.std.specs.List.{list_all, list_any, slice_get}
+pub use Rattle.std.specs.List.{AllByRecursion, list_all, list_any, slice_get}
 pub use Rattle.std.specs.Prelude.{if◌then◌else◌, is_none, nat_lt, not, ◌&&◌, ◌==◌}
 pub use Rattle.std.specs.Str.{bytes_eq}
 pub use Rattle.vms_kinds.specs.declared.Item.{Item}
@@ -19,7 +19,7 @@ pub use Rattle.vms_kinds.specs.declared.Kind.TheVariants.{I8, U16, U8}
 pub use Rattle.vms_kinds.specs.declared.TheConstants.{NEWEST_SET}
 pub use Rattle.vms_spec.proofs.Boxes.{box, box_set, counted_set, empty_set, number, subsection_set, tested_set}
 pub use Rattle.vms_spec.proofs.Faultless.{answers_none, or_else_none}
-pub use Rattle.vms_spec.proofs.ListLaws.{both_none, found_inside}
+pub use Rattle.vms_spec.proofs.ListLaws.{all_right, both_none, found_inside}
 pub use Rattle.vms_spec.proofs.NumberLaws.{same_number_itself}
 pub use Rattle.vms_spec.proofs.Tables.{first_at, first_long}
 pub use Rattle.vms_spec.proofs.WellFormedLaws.{Clean, beyond, device_found, device_parts, struct_clean, sub_clean, sub_found, untested}

@@ -1,14 +1,14 @@
 -- A well-formed set is compatible to itself.
 use Rattle.vms_check.proofs.Facade.{◌≡◌, ℕ, zero, suc, ◌≤◌, min, List, ◌∷◌, ◌++◌, Bool, true, false, Some, refl, sym, ap, ◌∙◌, arith, [], Option, None, inr}
-use Rattle.vms_check.proofs.Facade.{◌+◌, ◌<◌, length, get_or, append_assoc, ◌==◌, if◌then◌else◌, ◌&&◌, nat_lt, slice_get, eq-eqb, and_parts, le-leb, leb-true}
-use Rattle.vms_check.proofs.Facade.{and_from, eqb-true, or_left, or_right, get_or_from_slice_get, slice_get_within, bytes_eq, bytes_eq-Decides}
-use Rattle.vms_check.proofs.Facade.{any_passes_from_place, Item, Count, One, Fixed, Counted, counted, no_field, no_desc, Field, Formula, Cell, Desc, Sub}
-use Rattle.vms_check.proofs.Facade.{Device, Set, bound, holds_as_much, is_absent, kind_number, rel_number, same_constant, same_count, same_item, same_place}
-use Rattle.vms_check.proofs.Facade.{same_reduced, same_rest, same_test, Compatible, Entry, entry_of, is_found, Num, Equal, Unused, Struct, Own, has_no_test}
-use Rattle.vms_check.proofs.Facade.{is_num, is_one, is_steady, is_steady_in, names_well, nobody, count_names_well, is_counting, is_earlier_in, test_names_well}
-use Rattle.vms_check.proofs.Facade.{same_number_itself, untested, Clean, struct_clean, device_parts, sub_clean, device_found, sub_found, beyond, Reduced, Known}
-use Rattle.vms_check.proofs.Facade.{Open, left_of, presence, reduced, field_reduced, position_in, fields_from, Rel, find_device, is_version_of, is_one_of}
-use Rattle.vms_check.proofs.Facade.{WellFormed, struct_rules, device_rules, sub_rules, ArePaired, DescsFit, DevicesFit, IsSubFor, fields_at}
+use Rattle.vms_check.proofs.Facade.{◌+◌, ◌<◌, length, get_or, ◌==◌, ◌&&◌, nat_lt, slice_get, eq-eqb, and_parts, le-leb, leb-true, and_from, eqb-true, or_left}
+use Rattle.vms_check.proofs.Facade.{or_right, get_or_from_slice_get, slice_get_within, bytes_eq, bytes_eq-Decides, any_passes_from_place, Item, Count, One}
+use Rattle.vms_check.proofs.Facade.{Fixed, Counted, counted, no_field, no_desc, Field, Formula, Cell, Desc, Sub, Device, Set, bound, holds_as_much, is_absent}
+use Rattle.vms_check.proofs.Facade.{kind_number, rel_number, same_constant, same_count, same_item, same_place, same_reduced, same_rest, same_test, Compatible}
+use Rattle.vms_check.proofs.Facade.{Entry, entry_of, is_found, Num, Equal, Unused, Struct, Own, has_no_test, is_num, is_one, is_steady, is_steady_in}
+use Rattle.vms_check.proofs.Facade.{names_well, nobody, count_names_well, is_counting, is_earlier_in, test_names_well, same_number_itself, untested, Clean}
+use Rattle.vms_check.proofs.Facade.{struct_clean, device_parts, sub_clean, device_found, sub_found, beyond, Reduced, Known, Open, left_of, presence, reduced}
+use Rattle.vms_check.proofs.Facade.{field_reduced, position_in, fields_from, Rel, find_device, is_version_of, is_one_of, WellFormed, struct_rules}
+use Rattle.vms_check.proofs.Facade.{device_rules, sub_rules, ArePaired, DescsFit, DevicesFit, IsSubFor, fields_at, AllByRecursion, all_right}
 use Rattle.std.specs.Prelude.{nat_le}
 use Rattle.vms_check.specs.Comparing.{least_of}
 use Rattle.vms_check.proofs.PairLaws.{presence_is}
@@ -23,47 +23,26 @@ pub least_below : (n : ℕ) (ms : List ℕ) → least_of n ms ≤ n
 least_below n [] = omega arith
 least_below n (m ∷ ms) = omega (arith, least_below (min n m) ms)
 
-least_within : (n : ℕ) (xs : List ℕ) (most : ℕ) (ys : List ℕ) → least_of n (xs ++ most ∷ ys) ≤ most
-least_within n [] most ys = omega (arith, least_below (min n most) ys)
-least_within n (x ∷ xs) most ys = least_within (min n x) xs most ys
+all_least : (n : ℕ) (ms : List ℕ) → AllByRecursion (λ m. least_of n ms ≤ m) ms
+all_least n [] = tt
+all_least n (m ∷ ms) = (omega (arith, least_below (min n m) ms), all_least (min n m) ms)
 
-bound_within : (item : Item) (xs : List ℕ) (most : ℕ) (ys : List ℕ) → bound item (xs ++ most ∷ ys) ≤ most
-bound_within item [] most ys = least_below most ys
-bound_within item (x ∷ xs) most ys = least_within x xs most ys
+all_bound : (item : Item) (ms : List ℕ) → AllByRecursion (λ m. bound item ms ≤ m) ms
+all_bound item [] = tt
+all_bound item (m ∷ ms) = (least_below m ms, all_least m ms)
 
-of_count : Count → Field → Field
-of_count c f = record f { count = c }
-
-by_number : (m : ℕ) (rest : List ℕ) (b : Bool) → (if b then m ∷ [] else []) ++ rest ≡ ((if b then m ∷ [] else []) ++ []) ++ rest
-by_number m rest true = refl
-by_number m rest false = refl
-
-counted_by : (i : ℕ) (c : Count) (f : Field) (fs : List Field) → counted i (of_count c f ∷ fs) ≡ counted i (of_count c f ∷ []) ++ counted i fs
-unfolding of_count
-counted_by i (Counted by most) f fs = by_number most (counted i fs) (by == i)
-counted_by i _ f fs = refl
-
-counted_next : (i : ℕ) (f : Field) (fs : List Field) → counted i (f ∷ fs) ≡ counted i (f ∷ []) ++ counted i fs
-unfolding of_count
-counted_next i f fs = counted_by i f.count f fs
-
-counted_here : (i most : ℕ) (f : Field) (fs : List Field) → f.count ≡ Counted i most → counted i (f ∷ fs) ≡ most ∷ counted i fs
-unfolding of_count
-counted_here i most f fs e = rw (e, eq-eqb i i refl)
-
-counted_has : (i : ℕ) (fs : List Field) (k : ℕ) (g : Field) (most : ℕ) → slice_get fs k ≡ Some g → g.count ≡ Counted i most
-    → (xs : List ℕ) × (ys : List ℕ) × (counted i fs ≡ xs ++ most ∷ ys)
-counted_has i [] k g most there is = absurd (cc)
-counted_has i (f ∷ fs) zero g most there is = let same : f ≡ g = cc in ([], counted i fs, counted_here i most f fs (rw same is))
-counted_has i (f ∷ fs) (suc k) g most there is =
-    let rest = counted_has i fs k g most there is in
-    (counted i (f ∷ []) ++ rest.0, rest.1, rw (counted_next i f fs, rest.2, append_assoc (counted i (f ∷ [])) rest.0 (most ∷ rest.1)))
+counted_at : (P : ℕ → Type 0) (i : ℕ) (fs : List Field) (k : ℕ) (g : Field) (most : ℕ) → slice_get fs k ≡ Some g → g.count ≡ Counted i most
+    → AllByRecursion P (counted i fs) → P most
+counted_at P i [] k g most there is h = absurd (cc)
+counted_at P i (f ∷ fs) zero g most there is h =
+    let count : f.count ≡ Counted i most = (let same : f ≡ g = cc in rw same is) in
+    (rw (count, eq-eqb i i refl) at h).0
+counted_at P i (f ∷ fs) (suc k) g most there is h = counted_at P i fs k g most there is (all_right P _ (counted i fs) h)
 
 pub bound_counts : (item : Item) (i : ℕ) (fs : List Field) (k : ℕ) (g : Field) (most : ℕ) → slice_get fs k ≡ Some g → g.count ≡ Counted i most
     → bound item (counted i fs) ≤ most
 bound_counts item i fs k g most there is =
-    let has = counted_has i fs k g most there is in
-    rw has.2 (bound_within item has.0 most has.1)
+    counted_at (λ m. bound item (counted i fs) ≤ m) i fs k g most there is (all_bound item (counted i fs))
 
 -- ---- The rest of a test is the same as itself, if each number that it names has a position.
 

@@ -6,12 +6,12 @@ use Rattle.vms_check_laws.proofs.Facade.{no_parent, times, counted, capacity_of,
 use Rattle.vms_check_laws.proofs.Facade.{item_slots, field_slots, slots_from, desc_slots, numbers_of, has_cell, size_same, field_size, elements_fit}
 use Rattle.vms_check_laws.proofs.Facade.{ItemBelow, FieldsBelow, AreCells, MeanAbove, IsAbove, item_above, field_above, MeanCells, item_are, field_are}
 use Rattle.vms_check_laws.proofs.Facade.{named_inside, skip_long, stands_behind, names_append, cells_in, presence, Entry, entry_of, present_from, same_kind}
-use Rattle.vms_check_laws.proofs.Facade.{Carrier, no_carrier, defaults, carry_item, carry_items, carry_field, carry_next, carry_from, carry_desc}
-use Rattle.vms_check_laws.proofs.Facade.{default_field, entries_left, Pairer, no_pairer, unpaired, item_partners, array_partners, field_partners, fields_left}
-use Rattle.vms_check_laws.proofs.Facade.{partners_from, desc_partners, Set, no_desc, meanings, struct_cells, WellFormed, first_at, struct_slots}
-use Rattle.vms_check_laws.proofs.Facade.{struct_cells_at, meanings_above, meanings_are, cells_first, carriers, carrying, pairer_of, pairers, part_partners}
-use Rattle.vms_check_laws.proofs.Facade.{within, get_or_past, slice_get-get_or, desc_cells_same, first_same, item_below, first_long, Clean, struct_clean}
-use Rattle.vms_check_laws.proofs.Facade.{first, carrier_of}
+use Rattle.vms_check_laws.proofs.Facade.{Carrier, no_carrier, defaults, carry_item, carry_items, carry_next, carry_from, carry_desc, default_field}
+use Rattle.vms_check_laws.proofs.Facade.{entries_left, Pairer, no_pairer, unpaired, item_partners, array_partners, field_partners, fields_left, partners_from}
+use Rattle.vms_check_laws.proofs.Facade.{desc_partners, Set, no_desc, meanings, struct_cells, WellFormed, first_at, struct_slots, struct_cells_at}
+use Rattle.vms_check_laws.proofs.Facade.{meanings_above, meanings_are, cells_first, carriers, carrying, pairer_of, pairers, part_partners, within}
+use Rattle.vms_check_laws.proofs.Facade.{get_or_past, slice_get-get_or, desc_cells_same, first_same, item_below, first_long, Clean, struct_clean, first}
+use Rattle.vms_check_laws.proofs.Facade.{carrier_of}
 use Rattle.vms_check_laws.proofs.PairLists.{same_defaults, defaults_append, paired_none, one_cell, Goes, IsWithin, goes_absent, goes_alone, goes_append}
 use Rattle.vms_check_laws.proofs.PairLists.{IsOnce, IsPair, paired_skip, paired_append}
 use Rattle.vms_check_laws.proofs.Premises.{by_less, kinds_same, fields_below}
@@ -175,13 +175,10 @@ module _ (structs : List Pairer) (cs : List Carrier) (ms : List Meaning) (y : Li
 
       no_olds : (i i' p p' : ℕ) (gs : List Field) → GoFrom i i' p p' [] gs
       no_olds i i' p p' [] = goes_absent (paired_none [] [] _ 0 refl)
-      no_olds i i' p p' (g ∷ gs) = by_new (presence w g.test g.since) (no_olds i (suc i') p (p' + size_at' i' g) gs) where
-        by_new : (o : Option (Option Formula))
-            → Goes [] (cells_from y all' (suc i') gs) numbers [] (at + p) (at' + (p' + size_at' i' g)) [] (carry_on (suc i') gs [])
-            → Goes [] (cells_from y all' i' (g ∷ gs)) numbers [] (at + p) (at' + p') []
-            (carry_next cs x y numbers own v at all' i' g o [] ++ carry_on (suc i') gs (entries_left cs x y numbers o []))
-        by_new None h = new_alone i' p p' g gs h
-        by_new (Some rest) h = new_alone i' p p' g gs h
+      no_olds i i' p p' (g ∷ gs) =
+          let h = new_alone i' p p' g gs (no_olds i (suc i') p (p' + size_at' i' g) gs) in
+          elim (presence w g.test g.since) as (λ o. Goes [] (cells_from y all' i' (g ∷ gs)) numbers [] (at + p) (at' + p') []
+          (carry_next cs x y numbers own v at all' i' g o [] ++ carry_on (suc i') gs (entries_left cs x y numbers o []))) [ None ↦ h | Some rest ↦ h ]
 
       -- a field of the older side only, before more
       old_alone : (i p p' : ℕ) (f : Field) (fs : List Field) {others : List Cell} {partners : List (Option ℕ)} {segment : List ℤ}
@@ -206,13 +203,6 @@ module _ (structs : List Pairer) (cs : List Carrier) (ms : List Meaning) (y : Li
             Goes (cells_from x all i (f ∷ fs)) (cells_from y all' i' gs) numbers (slots_on i p (f ∷ fs)) (at + p) (at' + p')
             (field_partners structs x y f (Some left) es at' ++ partners_on fs (fields_left structs x y (Some left) es)) segment
 
-        both : (i' p' : ℕ) (g : Field) (gs : List Field) (rest : Option Formula) → ItemBelow k' g.item → FieldsBelow k' gs
-            → With i' p' (g ∷ gs) (record { index = i'; place = p'; field = g; rest = rest } ∷ news (suc i') (p' + size_at' i' g) gs)
-            (carry_field cs x y numbers own v at entry g ++ carry_on (suc i') gs later)
-        both i' p' g gs rest lt' below =
-            let u : at + (p + size_at i f) ≡ (at + p) + size_at i f = omega arith in
-            goes_append (pair_goes i i' p p' f g lt lt') refl (omega arith) (rw u at (more (suc i') (p' + size_at' i' g) gs below))
-
         with_present : (i' p' : ℕ) (gs : List Field) → FieldsBelow k' gs → With i' p' gs (news i' p' gs) (carry_on i' gs (entry ∷ later))
         with_present i' p' [] below = old_alone i p p' f fs (more i' p' [] tt)
         with_present i' p' (g ∷ gs) below = by_new (presence w g.test g.since) (with_present (suc i') (p' + size_at' i' g) gs below.1) where
@@ -221,7 +211,9 @@ module _ (structs : List Pairer) (cs : List Carrier) (ms : List Meaning) (y : Li
               → With i' p' (g ∷ gs) (entry_of i' p' g o ++ news (suc i') (p' + size_at' i' g) gs)
               (carry_next cs x y numbers own v at all' i' g o (entry ∷ later) ++ carry_on (suc i') gs (entries_left cs x y numbers o (entry ∷ later)))
           by_new None h = new_alone i' p p' g gs h
-          by_new (Some rest) h = both i' p' g gs rest below.0 below.1
+          by_new (Some rest) h =
+              let u : at + (p + size_at i f) ≡ (at + p) + size_at i f = omega arith in
+              goes_append (pair_goes i i' p p' f g lt below.0) refl (omega arith) (rw u at (more (suc i') (p' + size_at' i' g) gs below.1))
 
       with_field : (i p : ℕ) (f : Field) (fs : List Field) → ItemBelow k f.item → RestGoes (suc i) (p + size_at i f) fs → RestGoes i p (f ∷ fs)
       with_field i p f fs lt more i' p' gs below = by_old (presence v f.test f.since) where

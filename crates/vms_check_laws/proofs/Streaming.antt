@@ -1,17 +1,16 @@
 -- What the older set writes is a stream of the newer, with the carried images: each device's section is one of the newer set's, and the
 -- order takes each device once.
 use Rattle.vms_check_laws.proofs.Facade.{◌≡◌, ℕ, suc, ◌+◌, Bool, true, false, ◌&&◌, ◌==◌, List, ◌∷◌, Option, Some, None, refl, ◌∙◌, arith, slice_get}
-use Rattle.vms_check_laws.proofs.Facade.{bytes_eq, bytes_eq-Decides, and_parts, eqb-true, inr, zero, ◌≤◌, length, map, get_or, list_all, IfSome, length-map}
-use Rattle.vms_check_laws.proofs.Facade.{ap, [], inl, sym, first_answer, Device, Set, find_device, index, WellFormed, here, Mismatch, failing_pair}
-use Rattle.vms_check_laws.proofs.Facade.{compare_device, paired_device, is_found, is_in, passes, device_found, Image, HasSection, SectionsSpell, IsReady}
-use Rattle.vms_check_laws.proofs.Facade.{EachOnce, is_one_of, written_section, written_sections, is_version_of, Compatible, first_mismatch, comparing}
-use Rattle.vms_check_laws.proofs.Facade.{compare_subs, carried, carried_device, carried_at, no_image, ArePaired, DeviceLaw, or_else_none, IsStream}
-use Rattle.vms_check_laws.proofs.Facade.{IsConfiguration, configuration, trailer, optional, longest_text, written, AreReady, every_one, machine_short}
-use Rattle.vms_check_laws.proofs.Facade.{few_devices, UpgradeLaw, trailed, answers_none, option_and_then}
+use Rattle.vms_check_laws.proofs.Facade.{bytes_eq, bytes_eq-Decides, and_parts, eqb-true, inr, ◌≤◌, length, map, get_or, list_all, IfSome, length-map, ap, []}
+use Rattle.vms_check_laws.proofs.Facade.{inl, sym, first_answer, Device, Set, find_device, index, WellFormed, here, Mismatch, failing_pair, compare_device}
+use Rattle.vms_check_laws.proofs.Facade.{paired_device, is_found, is_in, passes, device_found, Image, HasSection, SectionsSpell, IsReady, EachOnce, is_one_of}
+use Rattle.vms_check_laws.proofs.Facade.{written_section, written_sections, is_version_of, Compatible, first_mismatch, comparing, compare_subs, carried}
+use Rattle.vms_check_laws.proofs.Facade.{carried_device, carried_at, no_image, ArePaired, DeviceLaw, or_else_none, IsStream, IsConfiguration, configuration}
+use Rattle.vms_check_laws.proofs.Facade.{trailer, optional, longest_text, written, AreReady, every_one, machine_short, few_devices, UpgradeLaw, trailed}
+use Rattle.vms_check_laws.proofs.Facade.{answers_none, option_and_then}
 use Rattle.vms_spec.specs.declared.Part.TheVariants as parts
-use Rattle.vms_check_laws.proofs.Wholes.{saved}
+use Rattle.vms_check_laws.proofs.Wholes.{saved, Among, section_whole, at_map, from_map, Rises, takes_each, all_came}
 use Rattle.vms_check_laws.proofs.Segments.{RestAt, at_first, one_on, from_zero}
-use Rattle.vms_check_laws.proofs.Wholes.{Among, section_whole, at_map, from_map, Rises, takes_each, all_came}
 use Rattle.vms_check_laws.proofs.Positioned.{if_is}
 
 -- ---- devices by name and instance
@@ -81,8 +80,7 @@ module _ (old new : Set) (good_old : WellFormed old)
 -- ---- devices by name and instance
 
 abbrev pub device_order : Set → List Device → List ℕ
-device_order new [] = []
-device_order new (d ∷ devices) = index (find_device 0 new.devices d.desc.name d.instance) ∷ device_order new devices
+device_order new devices = map (λ d. index (find_device 0 new.devices d.desc.name d.instance)) devices
 
 -- one device
 pub device_stands : DeviceLaw
@@ -125,14 +123,6 @@ module _ (old new : Set) (good_old : WellFormed old) (good_new : WellFormed new)
 
   -- ---- each of new's devices has one section
 
-  order_has : (ds : List Device) (i k : ℕ) (d : Device) → slice_get ds i ≡ Some d → find_device 0 new.devices d.desc.name d.instance ≡ Some k
-      → Among k (device_order new ds)
-  order_has [] i k d e h = absurd (cc)
-  order_has (x ∷ ds) zero k d e h =
-      let same : x ≡ d = cc in
-      inl (rw (same, h))
-  order_has (x ∷ ds) (suc i) k d e h = inr (order_has ds i k d e h)
-
   each_new : (k : ℕ) → slice_get (map (λ (d : Device). false) new.devices) k ≡ Some false → Among k (device_order new old.devices)
   each_new k waits =
       let x = from_map (λ (d : Device). false) _ k false waits in
@@ -140,7 +130,8 @@ module _ (old new : Set) (good_old : WellFormed old) (good_new : WellFormed new)
       let r = found_some _ ((passes 3 (is_in old e) [] (here parts.Set) (here (parts.Device (0 + k))) (answers_none _ 0 _ rules.news k e x.1)).0) in
       let f = found_device 0 _ _ _ r.0 r.1 in
       let d = f.2.device in
-      order_has _ f.0 k d f.2.stands (rw (f.2.name_is, f.2.instance_is) (device_found new good_new k e x.1))
+      let number : find_device 0 new.devices d.desc.name d.instance ≡ Some k = rw (f.2.name_is, f.2.instance_is) (device_found new good_new k e x.1) in
+      (f.0, at_map (λ (d : Device). index (find_device 0 new.devices d.desc.name d.instance)) old.devices f.0 d f.2.stands ∙ rw number)
 
   abbrev none_came : List Bool
   none_came = map (λ (d : Device). false) new.devices

@@ -17,8 +17,11 @@ use Rattle.vms_check_laws.proofs.Good.{device_good, sub_good}
 use Rattle.vms_check_laws.proofs.Parts.{Came, Facts, subs_fit, subs_read, sub_held, part_meets, sub_reads, good_cells, Stayed}
 
 abbrev pub Among : ℕ → List ℕ → Type 0
-Among a [] = ⊥
-Among a (b ∷ rest) = (a ≡ b) ⊎ Among a rest
+Among a order = (i : ℕ) × (slice_get order i ≡ Some a)
+
+among_rest : (k j : ℕ) (order : List ℕ) → (k ≡ j → ⊥) → (i : ℕ) → slice_get (j ∷ order) i ≡ Some k → Among k order
+among_rest k j order ne zero e = absurd (ne cc)
+among_rest k j order ne (suc i) e = (i, e)
 
 -- Places of a list, open all of them, where `back` gives places of another list that rise.
 module _ {A : Type 0} (Open : A → Type 0) (done : A) (back : ℕ → Option ℕ) where
@@ -41,14 +44,14 @@ module _ {A : Type 0} (Open : A → Type 0) (done : A) (back : ℕ → Option �
           let gone = at_set xs j done (slice_get_within xs j y e) in
           let is : done ≡ x = cc in
           absurd (closed (rw is open_x))
-      | inr other ↦ elim (covers (sym (at_other xs j k done other) ∙ h)) [ inl q ↦ absurd (other q) | inr more ↦ more ]
+      | inr other ↦ let c = covers (sym (at_other xs j k done other) ∙ h) in among_rest k j order other c.0 c.1
     ]
 
     -- an order that names all that are open takes each once
     pub takes_each : (P : List A → List ℕ → Type 0) → ((xs : List A) → ((k : ℕ) (x : A) → slice_get xs k ≡ Some x → Open x → ⊥) → P xs [])
         → ((xs : List A) (k : ℕ) (x : A) (order : List ℕ) → slice_get xs k ≡ Some x → Open x → P (slice_set xs k done) order → P xs (k ∷ order))
         → (xs : List A) (j : ℕ) (order : List ℕ) → Rises xs j order → ((k : ℕ) (x : A) → slice_get xs k ≡ Some x → Open x → Among k order) → P xs order
-    takes_each P none one xs j [] h covers = none xs covers
+    takes_each P none one xs j [] h covers = none xs (λ k x e open_x. (let c = covers k x e open_x in cc (c.1)))
     takes_each P none one xs j (k ∷ order) h covers =
         one xs k h.1 order h.4 h.5
         (takes_each P none one (slice_set xs k done) (suc h.0) order (rises_set xs k h.0 _ order h.3 (omega arith) h.6)
@@ -199,11 +202,9 @@ module _ (old new : Set) (good_old : WellFormed old) (good_new : WellFormed new)
 
   order_has : (subs : List Sub) (cs : List (Option ℕ)) (j l v : ℕ) (s : Sub) → slice_get subs j ≡ Some s → slice_get cs j ≡ Some (Some v)
       → index (find_sub 0 e.subs s.desc.name) ≡ l → Among l (sub_order e subs cs)
-  order_has (x ∷ subs) (Some u ∷ cs) zero l v s h h' is =
-      let same : x ≡ s = cc in
-      inl (sym (rw (← same) at is))
+  order_has (x ∷ subs) (Some u ∷ cs) zero l v s h h' is = let same : x ≡ s = cc in (0, rw (same, is))
   order_has (x ∷ subs) (None ∷ cs) (suc j) l v s h h' is = order_has subs cs j l v s h h' is
-  order_has (x ∷ subs) (Some u ∷ cs) (suc j) l v s h h' is = inr (order_has subs cs j l v s h h' is)
+  order_has (x ∷ subs) (Some u ∷ cs) (suc j) l v s h h' is = let r = order_has subs cs j l v s h h' is in (suc r.0, r.1)
   order_has _ _ _ l v s h h' is = absurd (cc)
 
   came_from : (o : Option (Option ℕ)) (j v : ℕ) → sub_came old new (Some j) o ≡ Some v → o ≡ Some (Some v)

@@ -29,8 +29,7 @@ has_listing input held =
     (listing_outcome has.listing input held, record { listing = has.listing; lists = has.lists; is = refl })
 
 pub only_listing : (input : List ℕ) (held : Option Held) (a b : Outcome) → IsListing held input a → IsListing held input b → a ≡ b
-only_listing input held a b p q =
-    p.is ∙ ap (λ (l : Listing). listing_outcome l input held) (one_holds input p.listing q.listing p.lists q.lists) ∙ sym q.is
+only_listing input held a b p q = cc (one_holds input p.listing q.listing p.lists q.lists)
 
 -- ---- what is taken
 
@@ -58,20 +57,17 @@ took_by r few says = record { bytes = r.bytes; takes = r.takes; long = few; says
 listed_took : {i i' : Intake} {listing : Listing} → IsListed i i' listing → Took i i' listing
 listed_took {i} {i'} {listing} p =
     let r = p.reads in
-    took_by r (omega (arith, r.long)) (λ more f.
-    let none = nothing_follows i'.left more p.end f in
-    took_so listing r.bytes more (omega (arith, r.long, ap length none, length-append r.bytes more)) (r.says more f))
+    took_by r (omega arith) (λ more f.
+    took_so listing r.bytes more (omega (arith, ap length (nothing_follows i'.left more p.end f), length-append r.bytes more)) (r.says more f))
 
 too_much_took : {i i' : Intake} {listing : Listing} → IsTooMuch i i' listing → Took i i' listing
 too_much_took {i} {i'} {listing} p =
     let r = p.reads in
-    took_by r (omega (arith, r.long)) (λ more f. took_so listing r.bytes more (omega (arith, r.long, length-append r.bytes more)) (r.says more tt))
+    took_by r (omega arith) (λ more f. took_so listing r.bytes more (omega (arith, length-append r.bytes more)) (r.says more tt))
 
 refused_took : {i i' : Intake} (at : ℕ) (reason : AnalyzeReason) → ListsTaken i i' (Err (faults.Refused at reason)) → Took i i' (Refused at reason)
 refused_took at reasons.TooLong p = too_much_took p
-refused_took at reasons.NoDescription p = listed_took p
-refused_took at reasons.Shape p = listed_took p
-refused_took at reasons.Mismatch p = listed_took p
+refused_took at _ p = listed_took p
 
 -- ---- what is seen
 
@@ -122,22 +118,20 @@ module _ (i i' : Intake) (o o' : Outlet) where
   list_content _ _ (IsDone u) a octets s x is = told_content s None x octets (text_seen s a.text None a.listed a.written) is
   list_content _ _ (IsRefused at reason line said) a octets s x is =
       told_content s (Some (endings.Refused line)) x octets (refusal_seen s at reason line a.0 said) is
-  list_content _ _ FailsReading a octets s x is = comes_to_nothing o o' s s x.parts (same_keeps o o' a.1) refl
   list_content _ _ FailsWriting a octets s x is =
       told_content s (Some endings.WriteFault) x octets (text_seen s a.text (Some endings.WriteFault) a.listed a.written) is
-  list_content _ _ LacksMemory a octets s x is = comes_to_nothing o o' s s x.parts (same_keeps o o' a.1) refl
+  list_content _ _ _ a octets s x is = comes_to_nothing o o' s s x.parts (same_keeps o o' a.1) refl
 
   -- ---- known or unknown
 
   few_given : (bytes : List ℕ) → Takes i i' bytes → length bytes ≤ longest_input + 1 → GivesListed i.given i'.given
-  few_given bytes t few = let given = t.given in omega (arith, few, given)
+  few_given bytes t few = omega arith
 
   pub list_given : (r : Result (Unit {0}) AnalyzeFault) → Analyzes i i' o o' r → GivesListed i.given i'.given
-  list_given (Ok u) a = let t = listed_took a.listed in few_given t.bytes t.takes t.long
   list_given (Err (faults.Refused at reason)) a = let t = refused_took at reason a.0 in few_given t.bytes t.takes t.long
   list_given (Err faults.ReadFault) a = few_given a.0.bytes a.0.takes a.0.few
-  list_given (Err faults.WriteFault) a = let t = listed_took a.listed in few_given t.bytes t.takes t.long
   list_given (Err faults.NoMemory) a = few_given a.0.bytes a.0.takes a.0.few
+  list_given _ a = let t = listed_took a.listed in few_given t.bytes t.takes t.long
 
   -- counts and promises
   pub record Stands : Type 0 where
@@ -159,12 +153,11 @@ module _ (i i' : Intake) (o o' : Outlet) where
       let t = (listed_took a.listed).takes in
       record { input_count = t.later; out_count = a.written.later; input_promise = t.promise; out_promise = a.written.promise }
   list_stands (Err (faults.Refused at reason)) a = let t = refused_took at reason a.0 in stands_same t.bytes t.takes a.1
-  list_stands (Err faults.ReadFault) a = stands_same a.0.bytes a.0.takes a.1
   list_stands (Err faults.WriteFault) a =
       let t = (listed_took a.listed).takes in
       let p = a.written.puts in
       record { input_count = t.later; out_count = p.later; input_promise = t.promise; out_promise = p.promise }
-  list_stands (Err faults.NoMemory) a = stands_same a.0.bytes a.0.takes a.1
+  list_stands _ a = stands_same a.0.bytes a.0.takes a.1
 
   -- ---- what it touches
 

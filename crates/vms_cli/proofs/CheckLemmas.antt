@@ -25,15 +25,15 @@ StopsAt status old new o =
 module _ (status : ℕ) (old new : Outside) (zero : status ≡ 0) where
   -- an outcome that is done or stopped at has the status 0 where the answer has
   none_else : (o : Outcome) → 0 < o.status → DoesOrStops status old new o → ⊥
-  none_else o some (inl does) = omega (arith, some, does.same, zero)
+  none_else o some (inl does) = omega arith
   none_else o some (inr stops) = by stops.why
     where
       by : StopsAt status old new o → ⊥
-      by (inl read) = omega (arith, read.0, zero)
-      by (inr (inl write)) = omega (arith, write.0, zero)
-      by (inr (inr (inl notes))) = omega (arith, notes.0.0, zero)
-      by (inr (inr (inr (inl shelf)))) = omega (arith, shelf.0, zero)
-      by (inr (inr (inr (inr memory)))) = omega (arith, memory.0, zero)
+      by (inl read) = omega arith
+      by (inr (inl write)) = omega arith
+      by (inr (inr (inl notes))) = omega arith
+      by (inr (inr (inr (inl shelf)))) = omega arith
+      by (inr (inr (inr (inr memory)))) = omega arith
 
   none_fails : (held : Option Held) (m : Option Mismatch) → ((o : Outcome) → HasText held (verdict m) o → DoesOrStops status old new o) → m ≡ None
   none_fails held None all = refl

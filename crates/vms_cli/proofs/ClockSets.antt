@@ -12,18 +12,11 @@ digit_after front first (suc count) word = if bytes_eq word (front ++ (48 + firs
 
 by_digits : (front : List ℕ) (first count : ℕ) (word : List ℕ) → first + count ≤ 10 → number_after front first count word ≡ digit_after front first count word
 by_digits front first zero word le = refl
-by_digits front first (suc count) word le =
-    ap (λ (digits : List ℕ). if bytes_eq word (front ++ digits) then Some first else number_after front (suc first) count word)
-    (decimal_digit first (omega (arith, le)))
-    ∙ ap (λ (o : Option ℕ). if bytes_eq word (front ++ (48 + first) ∷ []) then Some first else o) (by_digits front (suc first) count word (omega (arith, le)))
+by_digits front first (suc count) word le = cc (decimal_digit first (omega (arith, le)), by_digits front (suc first) count word (omega (arith, le)))
 
 shipped_is : (word : List ℕ) → shipped_word word
     ≡ or_else (option_map Isa (digit_after (codes "@") 0 (suc NEWEST) word)) (option_map Clock (digit_after (codes "@c") 1 NEWEST_CLOCK word))
-shipped_is word =
-    ap (λ (o : Option ℕ). or_else (option_map Isa o) (option_map Clock (number_after (codes "@c") 1 NEWEST_CLOCK word)))
-    (by_digits (codes "@") 0 (suc NEWEST) word (omega arith))
-    ∙ ap (λ (o : Option ℕ). or_else (option_map Isa (digit_after (codes "@") 0 (suc NEWEST) word)) (option_map Clock o))
-    (by_digits (codes "@c") 1 NEWEST_CLOCK word (omega arith))
+shipped_is word = cc (by_digits (codes "@") 0 (suc NEWEST) word (omega arith), by_digits (codes "@c") 1 NEWEST_CLOCK word (omega arith))
 
 -- ---- the words of both sets
 

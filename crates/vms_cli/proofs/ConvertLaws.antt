@@ -1,14 +1,12 @@
 -- What follows of a stream that `convert` writes.
-use Rattle.vms_cli.proofs.Facade.{◌≡◌, ℕ, List, Option, Some, None, refl, sym, ap, ◌∙◌, subst, arith, [], append-nil, length, ◌-◌, Bool}
-use Rattle.vms_cli.proofs.Facade.{true, false, ◌||◌, ◌∷◌, IfSome, ℤ, if◌then◌else◌, length-map, bytes_eq-Decides, bytes_eq, Held, IsFit}
-use Rattle.vms_cli.proofs.Facade.{Image, Set, Takes, one_stream_holds, taken_kept, Compatible, first_mismatch, Mismatch}
-use Rattle.vms_cli.proofs.Facade.{IsStreamFor, word_set, Outcome, done, SetWord, Step, Untold, Gives, Ends, next, FitStep}
-use Rattle.vms_cli.proofs.Facade.{fit_word, ConvertsBy, Rewrites, WouldLose, agreed, agrees, newest}
-use Rattle.vms_cli.proofs.Facade.{Converts, described_text, AreRecastOf, converts_stand, ready, newest_kinds}
-use Rattle.vms_cli.proofs.Facade.{PrintsAlike, ConvertAgainLaw, ConvertThenAnalyzeLaw, StandsFor, ConvertThenLoadLaw, IsLevel, NEWEST, by_device, joined}
-use Rattle.vms_cli.proofs.Facade.{moment_of, numbers_back, pair_back, pit_back, timed, State, recast_restores, recast_cells, IsConfiguration, is_one_of}
-use Rattle.vms_cli.proofs.Facade.{recast_each, numbers_in, wants_arrays, lists_in, takes_under, cells_of, isa, isa_stands, Back, Restores, Loads, LoadsBy}
-use Rattle.vms_cli.proofs.Facade.{Traces, Unfit, scripted, ScriptLine}
+use Rattle.vms_cli.proofs.Facade.{◌≡◌, ℕ, List, Option, Some, None, refl, sym, ap, ◌∙◌, subst, arith, [], append-nil, length, ◌-◌, Bool, true, false, ◌||◌, ◌∷◌}
+use Rattle.vms_cli.proofs.Facade.{IfSome, ℤ, if◌then◌else◌, length-map, bytes_eq-Decides, bytes_eq, Held, IsFit, Image, Set, Takes, one_stream_holds}
+use Rattle.vms_cli.proofs.Facade.{taken_kept, Compatible, first_mismatch, Mismatch, IsStreamFor, word_set, Outcome, done, SetWord, Step, Untold, Gives, Ends}
+use Rattle.vms_cli.proofs.Facade.{next, FitStep, fit_word, ConvertsBy, Rewrites, WouldLose, agreed, agrees, newest, Converts, described_text, AreRecastOf}
+use Rattle.vms_cli.proofs.Facade.{converts_stand, ready, newest_kinds, PrintsAlike, ConvertAgainLaw, ConvertThenAnalyzeLaw, StandsFor, ConvertThenLoadLaw}
+use Rattle.vms_cli.proofs.Facade.{IsLevel, NEWEST, by_device, joined, moment_of, numbers_back, pair_back, pit_back, timed, State, recast_restores, recast_cells}
+use Rattle.vms_cli.proofs.Facade.{IsConfiguration, is_one_of, recast_each, numbers_in, wants_arrays, lists_in, takes_under, cells_of, isa, isa_stands, Back}
+use Rattle.vms_cli.proofs.Facade.{Restores, Loads, LoadsBy, Traces, Unfit, scripted, ScriptLine}
 use Rattle.vms_cli.specs.Commands.ConvertCommand.{Refuses}
 use Rattle.vms_cli.proofs.Entries.ConvertCommand.{target_gives}
 use Rattle.vms_cli.proofs.ConvertLemmas.{newest_fit}
@@ -115,12 +113,12 @@ module _ (to : Set) (level : ℕ) where
 
   same_board : (lists : List (List ℤ)) → length lists ≡ 5 → isa.restored level (recast_each to newest.devices lists) ≡ isa.restored level lists
   same_board (a ∷ b ∷ c ∷ d ∷ e ∷ []) five = of_five a b c d e
-  same_board [] five = absurd (omega (arith, five))
-  same_board (a ∷ []) five = absurd (omega (arith, five))
-  same_board (a ∷ b ∷ []) five = absurd (omega (arith, five))
-  same_board (a ∷ b ∷ c ∷ []) five = absurd (omega (arith, five))
-  same_board (a ∷ b ∷ c ∷ d ∷ []) five = absurd (omega (arith, five))
-  same_board (a ∷ b ∷ c ∷ d ∷ e ∷ f ∷ lists) five = absurd (omega (arith, five))
+  same_board [] five = absurd (omega arith)
+  same_board (a ∷ []) five = absurd (omega arith)
+  same_board (a ∷ b ∷ []) five = absurd (omega arith)
+  same_board (a ∷ b ∷ c ∷ []) five = absurd (omega arith)
+  same_board (a ∷ b ∷ c ∷ d ∷ []) five = absurd (omega arith)
+  same_board (a ∷ b ∷ c ∷ d ∷ e ∷ f ∷ lists) five = absurd (omega arith)
 
 -- ---- a stream whose machine is one of some names
 
@@ -140,7 +138,7 @@ known level is None h = tt
 known level is (Some name) h = by (bytes_eq (machine_of level) name) refl h
   where
     by : (b : Bool) → bytes_eq (machine_of level) name ≡ b → b || false ≡ true → is_one_of newest.machines name ≡ true
-    by true e h = ap (is_one_of newest.machines) (sym ((bytes_eq-Decides (machine_of level) name).0 e)) ∙ of_level level is
+    by true e h = cc ((bytes_eq-Decides (machine_of level) name).0 e, of_level level is)
     by false e h = cc
 
 -- ---- what is loaded

@@ -1,19 +1,20 @@
 -- What `convert` answers, and how it ends.
 use Rattle.vms_cli.proofs.Facade.{◌≡◌, ◌⊎◌, ℕ, zero, suc, ◌<◌, List, [], ◌∷◌, length, get_or, Option, Some, None, ℤ, inl, inr, refl, sym, ap, ◌∙◌, subst, arith}
-use Rattle.vms_cli.proofs.Facade.{◌+◌, ◌≤◌, ◌^◌, Bool, false, true, Result, Ok, Err, IfSome, IsSomeAnd, length-map, slice_get-get_or, Keeps, string_bytes}
-use Rattle.vms_cli.proofs.Facade.{IsFit, Image, device_cells, Set, written, device_at, AreKept, described_text, carried, Compatible, first_mismatch}
-use Rattle.vms_cli.proofs.Facade.{IsStreamFor, LosesFirst, RefusesFirst, TakesFirst, AreBack, recast_each, KeepsAll, Loses, OfCell, OfDevice, OfMachine}
-use Rattle.vms_cli.proofs.Facade.{first_cell, numbers_in, answered, same_backs, one_lost, newest_kinds, recast_long, fit_word, Isa, Shipped, IsInNewest, newest}
-use Rattle.vms_cli.proofs.Facade.{Converts, ConvertGives, ConvertsBy, ConvertsStream, ConvertsWith, IsDone, IsLost, IsMismatch, LacksLine, LacksMemory}
-use Rattle.vms_cli.proofs.Facade.{NamesCell, Rewrites, WouldLose, agreed, agrees, lost_line, ArrayVec, Held, Intake, Outlet, Stock, reads_as, IsBytes, Reason}
-use Rattle.vms_cli.proofs.Facade.{Fault, Takes, one_stream_holds, never_both_holds, Refusal, LoadReads, most_given, name_of, loads_kept, Mismatch, ConvertFault}
-use Rattle.vms_cli.proofs.Facade.{Ending, EndsSo, Risen, is_among, EndsAs, EndsWith, WritesAs, status_of, refused_line, Outcome, done, ended, mismatch_line}
-use Rattle.vms_cli.proofs.Facade.{Step, Gives, Ends, unshelved_so, wrong, comes_to_nothing, ends_with, same_keeps, Seen, SeenAs, content_seen, load_seen}
-use Rattle.vms_cli.proofs.Facade.{other_seen, seen_lost, seen_written, sees_as, convert_course}
+use Rattle.vms_cli.proofs.Facade.{◌+◌, ◌≤◌, ◌^◌, Bool, false, true, Result, Ok, Err, IfSome, length-map, slice_get-get_or, Keeps, string_bytes, IsFit, Image}
+use Rattle.vms_cli.proofs.Facade.{device_cells, Set, written, device_at, AreKept, described_text, carried, Compatible, first_mismatch, IsStreamFor, LosesFirst}
+use Rattle.vms_cli.proofs.Facade.{RefusesFirst, TakesFirst, AreBack, recast_each, KeepsAll, Loses, OfCell, OfDevice, OfMachine, first_cell, numbers_in}
+use Rattle.vms_cli.proofs.Facade.{answered, same_backs, one_lost, newest_kinds, recast_long, fit_word, Isa, Shipped, IsInNewest, newest, Converts, ConvertGives}
+use Rattle.vms_cli.proofs.Facade.{ConvertsBy, ConvertsStream, ConvertsWith, IsDone, IsLost, IsMismatch, LacksLine, LacksMemory, NamesCell, Rewrites, WouldLose}
+use Rattle.vms_cli.proofs.Facade.{agreed, agrees, lost_line, ArrayVec, Held, Intake, Outlet, Stock, reads_as, IsBytes, Refusal, LoadReads, most_given, name_of}
+use Rattle.vms_cli.proofs.Facade.{loads_kept, Mismatch, ConvertFault, Ending, EndsSo, Risen, is_among, EndsAs, WritesAs, status_of, refused_line, Outcome, done}
+use Rattle.vms_cli.proofs.Facade.{ended, mismatch_line, Step, Gives, Ends, unshelved_so, wrong, comes_to_nothing, ends_with, same_keeps, Seen, SeenAs}
+use Rattle.vms_cli.proofs.Facade.{content_seen, load_seen, other_seen, seen_lost, seen_written, sees_as, convert_course}
+use Rattle.std.specs.declared.alloc.Global.{Global}
+use Rattle.std.specs.declared.string.String.{String}
 use Rattle.vms_convert.specs.Calls.{Converts as Calls}
 use Rattle.vms_cli.specs.Commands.ConvertCommand.{EndsLike, FailsReading, FailsWriting, IsRefused, Refuses}
 use Rattle.vms_cli.proofs.AnalyzeLemmas.{Stands}
-use Rattle.vms_cli.proofs.ShowLemmas.{same_refusal}
+use Rattle.vms_cli.proofs.ShowLemmas.{Front, HasFront, Invalid, Stream, one_front}
 use Rattle.vms_load.specs.declared.fault.LoadFault.TheVariants as loads
 use Rattle.vms_convert.specs.declared.fault.ConvertFault.TheVariants as faults
 use Rattle.vms_commands.specs.declared.ending.Ending.TheVariants as endings
@@ -25,9 +26,9 @@ newest_fit = fit_word None (Shipped (Isa 4))
 
 -- a list of which an item isn't empty has that item
 inside : (lists : List (List ℤ)) (k c : ℕ) → c < length (get_or lists k []) → k < length lists
-inside [] k c lt = absurd (omega (arith, lt))
+inside [] k c lt = absurd (omega arith)
 inside (l ∷ lists) zero c lt = omega arith
-inside (l ∷ lists) (suc k) c lt = let rest = inside lists k c lt in omega (arith, rest)
+inside (l ∷ lists) (suc k) c lt = let rest = inside lists k c lt in omega arith
 
 module _ (to : Set) (fit : IsFit to) (compatible : Compatible to newest) (machine : Option (List ℕ)) (images : List Image) where
   abbrev wanted : List (List ℤ)
@@ -42,8 +43,7 @@ module _ (to : Set) (fit : IsFit to) (compatible : Compatible to newest) (machin
   -- ---- there is one
 
   pub one_stream : (bytes others : List ℕ) → IsStreamFor to newest machine images bytes → IsStreamFor to newest machine images others → others ≡ bytes
-  one_stream bytes others p q =
-      q.is ∙ ap (λ (b : List Image). written to machine b (Some (described_text to b))) (same p.backs q.backs p.back q.back) ∙ sym p.is
+  one_stream bytes others p q = cc (same p.backs q.backs p.back q.back)
 
   pub never_both : (bytes : List ℕ) (section cell : Option ℕ) → IsStreamFor to newest machine images bytes → LosesFirst to newest machine images section cell
       → ⊥
@@ -88,7 +88,7 @@ module _ (to : Set) (fit : IsFit to) (compatible : Compatible to newest) (machin
     device_inside : (k : ℕ) (numbers : List ℤ) → k < length newest.devices → length numbers ≡ length (device_cells newest (device_at newest k))
         → IsInNewest (Some k) (first_cell numbers)
     device_inside k [] lt e = tt
-    device_inside k (z ∷ numbers) lt e = (lt, omega (arith, e))
+    device_inside k (z ∷ numbers) lt e = (lt, omega arith)
 
     pub lost_inside : (section cell : Option ℕ) → LosesFirst to newest machine images section cell → IsInNewest section cell
     lost_inside section cell p = by section cell p.loses
@@ -96,160 +96,117 @@ module _ (to : Set) (fit : IsFit to) (compatible : Compatible to newest) (machin
         by : (section cell : Option ℕ) → Loses to newest machine wanted (there p.backs) p.backs section cell → IsInNewest section cell
         by section cell (OfCell k c before differ) =
             let lt : k < length newest.devices = omega (arith, inside wanted k c differ.inside, long) in
-            (lt, omega (arith, differ.inside, cells_long k lt))
+            (lt, omega (arith, cells_long k lt))
         by section cell (OfDevice k lt all before bad) = device_inside k (get_or wanted k []) lt (cells_long k lt)
         by section cell (OfMachine name all valid is not) = tt
 
 -- ---- From what the call answers to how `convert` ends.
 
--- ---- the outcome of an input
+-- ---- an input has one outcome
 
 module _ (to : Set) (fit : IsFit to) (compatible : Compatible to newest) (bytes : List ℕ) (held : Option Held) (ok : IsBytes bytes) where
-  abbrev TakesIt : ℕ → Option (List ℕ) → List Image → Type 0
-  TakesIt taken machine images = Takes newest newest.machines bytes taken machine images
+  -- what the front of an input becomes
+  abbrev Becomes : Front → Outcome → Type 0
+  Becomes (Stream taken machine images) x =
+      ((stream : List ℕ) × IsStreamFor to newest machine images stream × (x ≡ done stream held taken))
+      ⊎ ((section : Option ℕ) × (cell : Option ℕ) × LosesFirst to newest machine images section cell × (x ≡ ended 11 (lost_line newest section cell) taken))
+  Becomes (Invalid place section reason size) x = x ≡ ended 1 (refused_line newest place section reason) (place + size)
 
-  abbrev IsFaulty : ℕ → Option ℕ → Reason → ℕ → Type 0
-  IsFaulty place section reason size = Fault newest newest.machines bytes place section reason size
+  becomes_one : (front : Front) (x y : Outcome) → Becomes front x → Becomes front y → y ≡ x
+  becomes_one (Stream n machine images) x y (inl p) (inl q) = cc (one_stream to fit compatible machine images p.0 q.0 p.1 q.1)
+  becomes_one (Stream n machine images) x y (inl p) (inr q) = absurd (never_both to fit compatible machine images p.0 q.0 q.1 p.1 q.2)
+  becomes_one (Stream n machine images) x y (inr p) (inl q) = absurd (never_both to fit compatible machine images q.0 p.0 p.1 q.1 p.2)
+  becomes_one (Stream n machine images) x y (inr p) (inr q) =
+      let same = one_loss to fit compatible machine images q.0 q.1 p.0 p.1 q.2 p.2 in
+      rw (q.3, p.3, same.0, same.1)
+  becomes_one (Invalid place section reason size) x y p q = cc
 
-  no_fault : {X : Type 0} (taken : ℕ) (machine : Option (List ℕ)) (images : List Image) (place : ℕ) (section : Option ℕ) (reason : Reason) (size : ℕ)
-      → TakesIt taken machine images
-      → IsFaulty place section reason size → X
-  no_fault taken machine images place section reason size takes fault =
-      absurd (never_both_holds newest newest.machines newest_fit.well newest_fit.heads bytes ok taken machine images place section reason size takes fault)
+  front_of : (x : Outcome) → Converts to bytes held x → (front : Front) × HasFront newest bytes front × Becomes front x
+  front_of _ (Rewrites taken machine images stream takes p) = (Stream taken machine images, takes, inl (stream, p, refl))
+  front_of _ (WouldLose taken machine images section cell takes p) = (Stream taken machine images, takes, inr (section, cell, p, refl))
+  front_of _ (Refuses place section reason size fault) = (Invalid place section reason size, fault, refl)
 
-  -- of one stream
-  module _ (taken taken' : ℕ) (machine machine' : Option (List ℕ)) (images images' : List Image) (takes : TakesIt taken machine images)
-      (takes' : TakesIt taken' machine' images') where
-    lengths : taken' ≡ taken
-    lengths = (one_stream_holds newest newest.machines newest_fit.well newest_fit.heads bytes taken' taken machine' machine images' images takes' takes).lengths
-
-    -- what is said of the one machine and images is said of the others
-    said_of : (P : Option (List ℕ) → List Image → Type 0) → P machine' images' → P machine images
-    said_of P h =
-        let one = one_stream_holds newest newest.machines newest_fit.well newest_fit.heads bytes taken' taken machine' machine images' images takes' takes in
-        subst (λ (m : Option (List ℕ)). P m images) one.machines (subst (λ (l : List Image). P machine' l) one.states h)
-
-  pub rewritten_is : (taken : ℕ) (machine : Option (List ℕ)) (images : List Image) (stream : List ℕ) (x : Outcome) → TakesIt taken machine images
-      → IsStreamFor to newest machine images stream → Converts to bytes held x → x ≡ done stream held taken
-  rewritten_is taken machine images stream x takes p (Rewrites taken' machine' images' stream' takes' q) =
-      let q' = said_of taken taken' machine machine' images images' takes takes' (λ m l. IsStreamFor to newest m l stream') q in
-      ap (λ (n : ℕ). done stream' held n) (lengths taken taken' machine machine' images images' takes takes')
-      ∙ ap (λ (l : List ℕ). done l held taken) (one_stream to fit compatible machine images stream stream' p q')
-  rewritten_is taken machine images stream x takes p (WouldLose taken' machine' images' section cell takes' q) =
-      let q' = said_of taken taken' machine machine' images images' takes takes' (λ m l. LosesFirst to newest m l section cell) q in
-      absurd (never_both to fit compatible machine images stream section cell p q')
-  rewritten_is taken machine images stream x takes p (Refuses place section reason size fault) =
-      no_fault taken machine images place section reason size takes fault
-
-  pub lost_is : (taken : ℕ) (machine : Option (List ℕ)) (images : List Image) (section cell : Option ℕ) (x : Outcome) → TakesIt taken machine images
-      → LosesFirst to newest machine images section cell → Converts to bytes held x → x ≡ ended 11 (lost_line newest section cell) taken
-  lost_is taken machine images section cell x takes p (Rewrites taken' machine' images' stream takes' q) =
-      let q' = said_of taken taken' machine machine' images images' takes takes' (λ m l. IsStreamFor to newest m l stream) q in
-      absurd (never_both to fit compatible machine images stream section cell q' p)
-  lost_is taken machine images section cell x takes p (WouldLose taken' machine' images' section' cell' takes' q) =
-      let q' = said_of taken taken' machine machine' images images' takes takes' (λ m l. LosesFirst to newest m l section' cell') q in
-      let same = one_loss to fit compatible machine images section' cell' section cell q' p in
-      ap (λ (n : ℕ). ended 11 (lost_line newest section' cell') n) (lengths taken taken' machine machine' images images' takes takes')
-      ∙ ap (λ (o : Option ℕ). ended 11 (lost_line newest o cell') taken) same.0
-      ∙ ap (λ (o : Option ℕ). ended 11 (lost_line newest section o) taken) same.1
-  lost_is taken machine images section cell x takes p (Refuses place section' reason size fault) =
-      no_fault taken machine images place section' reason size takes fault
-
-  pub refused_is : (place : ℕ) (section : Option ℕ) (reason : Reason) (size : ℕ) (x : Outcome) → IsFaulty place section reason size → Converts to bytes held x
-      → x ≡ ended 1 (refused_line newest place section reason) (place + size)
-  refused_is place section reason size x fault (Rewrites taken machine images stream takes q) =
-      no_fault taken machine images place section reason size takes fault
-  refused_is place section reason size x fault (WouldLose taken machine images section' cell takes q) =
-      no_fault taken machine images place section reason size takes fault
-  refused_is place section reason size x fault (Refuses place' section' reason' size' fault') =
-      same_refusal newest bytes ok place place' section section' reason reason' size size' fault fault'
-
-  -- so an input has one
   pub converts_same : (x y : Outcome) → Converts to bytes held x → Converts to bytes held y → y ≡ x
-  converts_same x y (Rewrites taken machine images stream takes p) q = rewritten_is taken machine images stream y takes p q
-  converts_same x y (WouldLose taken machine images section cell takes p) q = lost_is taken machine images section cell y takes p q
-  converts_same x y (Refuses place section reason size fault) q = refused_is place section reason size y fault q
+  converts_same x y p q =
+      let a = front_of x p in
+      let b = front_of y q in
+      becomes_one a.0 x y a.2 (rw (one_front newest newest_fit bytes ok a.0 b.0 a.1 b.1) at b.2)
 
 -- ---- the step that compares
 
 pub agreed_gives : (to : Set) → Compatible to newest → agrees to ≡ Gives to
 agreed_gives to compatible = ap (agreed to) compatible
 
-agreed_ends : (to : Set) (m : Mismatch) → first_mismatch to newest ≡ Some m → agrees to ≡ Ends 4 (mismatch_line m)
-agreed_ends to m first = ap (agreed to) first
-
 -- ---- what is seen
 
 module _ (to : Set) where
-  abbrev OfSet : Option Held → List ℕ → Outcome → Type 0
-  OfSet held bytes x = Converts to bytes held x
+  abbrev OfSet : Stock → List ℕ → Outcome → Type 0
+  OfSet s bytes x = Converts to bytes s.held x
 
+module _ (to : Set) {i i' : Intake} {o o' : Outlet} {s s' : Stock} where
   -- a stream was taken, and it was written under the set, or some of it
-  stream_seen : {i i' : Intake} {o o' : Outlet} {s s' : Stock} (images : List Image) (taken : ℕ) (machine : Option ℕ) (stream : List ℕ) (e : Option Ending)
-      → s'.held ≡ s.held
+  stream_seen : {images : List Image} {taken : ℕ} (machine : Option ℕ) {stream : List ℕ} {e : Option Ending} → s'.held ≡ s.held
       → LoadReads i i' newest newest.machines images taken (Ok machine) → IsStreamFor to newest (name_of newest machine) images stream
-      → WritesAs stream o o' e → Seen (OfSet s.held) i i' o o' s s' e
-  stream_seen {i} {i'} {o} {o'} {s} images taken machine stream e same reads is w =
-      seen_written {P = OfSet s.held} stream taken e same
-      (reads_as {M = λ n. n ≡ taken} {Q = λ input left. OfSet s.held input (done stream s.held taken)} (λ n l. l.0)
+      → WritesAs stream o o' e → Seen (OfSet to s) i i' o o' s s' e
+  stream_seen {images} {taken} machine {stream} {e} same reads is w =
+      seen_written {P = OfSet to s} stream taken e same
+      (reads_as {M = λ n. n ≡ taken} {Q = λ input left. OfSet to s input (done stream s.held taken)} (λ n l. l.0)
       (λ input left l. Rewrites taken (name_of newest machine) images stream l.0 is) reads) w
 
-  loss_seen : {i i' : Intake} {o o' : Outlet} {s s' : Stock} (images : List Image) (taken : ℕ) (machine section cell : Option ℕ) (line : ArrayVec ℕ)
+  loss_seen : {images : List Image} {taken : ℕ} (machine : Option ℕ) {section cell : Option ℕ} {line : ArrayVec ℕ}
       → LoadReads i i' newest newest.machines images taken (Ok machine) → LosesFirst to newest (name_of newest machine) images section cell
-      → line.items ≡ lost_line newest section cell
-      → Seen (OfSet s.held) i i' o o' s s' (Some (endings.WouldLose line))
-  loss_seen {i} {i'} {o} {o'} {s} images taken machine section cell line reads is said =
-      seen_lost {P = OfSet s.held} line taken
-      (reads_as {M = λ n. n ≡ taken} {Q = λ input left. OfSet s.held input (ended 11 line.items taken)} (λ n l. l.0)
-      (λ input left l. subst (λ (li : List ℕ). OfSet s.held input (ended 11 li taken)) (sym said)
-      (WouldLose taken (name_of newest machine) images section cell l.0 is))
-      reads)
+      → line.items ≡ lost_line newest section cell → Seen (OfSet to s) i i' o o' s s' (Some (endings.WouldLose line))
+  loss_seen {images} {taken} machine {section} {cell} {line} reads is said =
+      seen_lost {P = OfSet to s} line taken
+      (reads_as {M = λ n. n ≡ taken} {Q = λ input left. OfSet to s input (ended 11 line.items taken)} (λ n l. l.0)
+      (λ input left l. rw said (WouldLose taken (name_of newest machine) images section cell l.0 is)) reads)
 
-  refusal_seen : {i i' : Intake} {o o' : Outlet} {s s' : Stock} (images : List Image) (taken : ℕ) (r : Refusal) (line : ArrayVec ℕ)
+  refusal_seen : (images : List Image) (taken : ℕ) {r : Refusal} {line : ArrayVec ℕ}
       → LoadReads i i' newest newest.machines images taken (Err (loads.Refused r)) → line.items ≡ refused_line newest r.at r.section r.reason
-      → Seen (OfSet s.held) i i' o o' s s' (Some (endings.Refused line))
-  refusal_seen {i} {i'} {o} {o'} {s} images taken r line reads said =
-      load_seen {P = OfSet s.held} newest newest.machines images taken r line reads
-      (λ input size fault. subst (λ (li : List ℕ). OfSet s.held input (ended 1 li (r.at + size))) (sym said) (Refuses r.at r.section r.reason size fault))
+      → Seen (OfSet to s) i i' o o' s s' (Some (endings.Refused line))
+  refusal_seen images taken {r} {line} reads said =
+      load_seen {P = OfSet to s} newest newest.machines images taken r line reads
+      (λ input size fault. rw said (Refuses r.at r.section r.reason size fault))
 
 -- ---- the outcome
 
 module _ (to : Set) (fit : IsFit to) (i i' : Intake) (o o' : Outlet) where
-  -- by the step that gave the set
-  given_set : (compatible : Compatible to newest) (s : Stock) (x : Outcome) → ConvertsBy (agrees to) i.left s.held x
-      → IsSomeAnd i.left (λ bytes. Converts to bytes s.held x)
-  given_set compatible s x has = subst (λ (step : Step Set). ConvertsBy step i.left s.held x) (agreed_gives to compatible) has
+  -- what is seen at an ending: an outcome, the line of a rule that fails, or nothing
+  data Left (s s' : Stock) : Option Ending → Type 0 where
+    Saw : {e : Option Ending} → Compatible to newest → Seen (λ bytes y. Converts to bytes s.held y) i i' o o' s s' e → Left s s' e
+    Unlike : {m : Mismatch} {line : String Global} → string_bytes line ≡ mismatch_line m → first_mismatch to newest ≡ Some m → i' ≡ i
+        → Left s s' (Some (endings.NotCompatible line))
+    Nothing : {e : Option Ending} → is_among (0 ∷ 1 ∷ 6 ∷ 11 ∷ []) (status_of e) ≡ false → ((x : Outcome) → EndsAs i i' o o' s s' e x) → Left s s' e
+
+  left_by : (r : Result (Unit {0}) ConvertFault) (e : Option Ending) → EndsLike r e → Calls to newest i i' o o' r → (s s' : Stock) → s'.held ≡ s.held
+      → Left s s' e
+  left_by _ _ (IsMismatch m line said) c s s' same = Unlike said c.0 c.1
+  left_by _ _ (IsRefused r line said) c s s' same = Saw c.0 (refusal_seen to c.1.images c.1.taken c.1.reads said)
+  left_by _ _ (IsLost section cell line said) c s s' same = Saw c.0 (loss_seen to c.1.machine c.1.reads c.1.converts.0 said)
+  left_by _ _ FailsReading c s s' same = Nothing refl (λ x. comes_to_nothing o o' s s' x.parts (same_keeps o o' c.1.none) same)
+  left_by _ _ LacksMemory c s s' same = Nothing refl (λ x. comes_to_nothing o o' s s' x.parts (same_keeps o o' c.1) same)
+  left_by _ _ (LacksLine m) c s s' same = Nothing refl (λ x. comes_to_nothing o o' s s' x.parts (same_keeps o o' c.2) same)
+  left_by _ _ _ c s s' same = Saw c.0 (stream_seen to c.1.machine same c.1.reads c.1.converts.is c.1.converts.puts)
 
   -- the outcome of a known input
-  told_content : (s s' : Stock) (e : Option Ending) (x : Outcome) → Compatible to newest → IfSome i.left IsBytes
-      → Seen (λ bytes y. Converts to bytes s.held y) i i' o o' s s' e → ConvertsBy (agrees to) i.left s.held x
-      → EndsAs i i' o o' s s' e x
-  told_content s s' e x compatible ok v has =
+  content_by : (s s' : Stock) (e : Option Ending) (x : Outcome) → Left s s' e → IfSome i.left IsBytes → i.given < 2 ^ 64
+      → ConvertsBy (agrees to) i.left s.held x → EndsAs i i' o o' s s' e x
+  content_by s s' e x (Saw compatible v) ok few has =
       content_seen {o = o} {o' = o'} {s = s} {s' = s'} {P = λ bytes y. Converts to bytes s.held y} e x
-      (λ bytes y octets p q. converts_same to fit compatible bytes s.held octets x y p q) ok v (given_set compatible s x has)
+      (λ bytes y octets p q. converts_same to fit compatible bytes s.held octets x y p q) ok v
+      (subst (λ (step : Step Set). ConvertsBy step i.left s.held x) (agreed_gives to compatible) has)
+  content_by s s' e x (Unlike {m} {line} said first none) ok few has =
+      let ends : x ≡ ended 4 (mismatch_line m) 0 = subst (λ (step : Step Set). ConvertsBy step i.left s.held x) (ap (agreed to) first) has in
+      rw none (ends_with 4 (string_bytes line) i x few (ends ∙ ap (λ (l : List ℕ). ended 4 l 0) (sym said)))
+  content_by s s' e x (Nothing other h) ok few has = h x
 
-  pub convert_content : (r : Result (Unit {0}) ConvertFault) (e : Option Ending) → EndsLike r e → Calls to newest i i' o o' r → IfSome i.left IsBytes
-      → i.given < 2 ^ 64
-      → (s s' : Stock) (x : Outcome) → s'.held ≡ s.held → ConvertsBy (agrees to) i.left s.held x → EndsAs i i' o o' s s' e x
-  convert_content _ _ (IsDone u) c ok few s s' x same has =
-      let t = c.1 in
-      told_content s s' None x c.0 ok (stream_seen to t.images t.taken t.machine t.converts.bytes None same t.reads t.converts.is t.converts.puts) has
-  convert_content _ _ (IsMismatch m line said) c ok few s s' x same has =
-      let ends : x ≡ ended 4 (mismatch_line m) 0 = subst (λ (step : Step Set). ConvertsBy step i.left s.held x) (agreed_ends to m c.0) has in
-      subst (λ (now : Intake). EndsWith 4 (string_bytes line) i now x) (sym c.1)
-      (ends_with 4 (string_bytes line) i x few (ends ∙ ap (λ (l : List ℕ). ended 4 l 0) (sym said)))
-  convert_content _ _ (IsRefused r line said) c ok few s s' x same has =
-      told_content s s' (Some (endings.Refused line)) x c.0 ok (refusal_seen to c.1.images c.1.taken r line c.1.reads said) has
-  convert_content _ _ (IsLost section cell line said) c ok few s s' x same has =
-      let t = c.1 in
-      told_content s s' (Some (endings.WouldLose line)) x c.0 ok (loss_seen to t.images t.taken t.machine section cell line t.reads t.converts.0 said) has
-  convert_content _ _ FailsReading c ok few s s' x same has = comes_to_nothing o o' s s' x.parts (same_keeps o o' c.1.none) same
-  convert_content _ _ FailsWriting c ok few s s' x same has =
-      let t = c.1 in
-      told_content s s' (Some endings.WriteFault) x c.0 ok
-      (stream_seen to t.images t.taken t.machine t.converts.bytes (Some endings.WriteFault) same t.reads t.converts.is t.converts.puts) has
-  convert_content _ _ LacksMemory c ok few s s' x same has = comes_to_nothing o o' s s' x.parts (same_keeps o o' c.1) same
-  convert_content _ _ (LacksLine m) c ok few s s' x same has = comes_to_nothing o o' s s' x.parts (same_keeps o o' c.2) same
+  -- what is seen, under a set that is well formed and that the newest reads
+  seen_by : (s s' : Stock) (e : Option Ending) → Left s s' e → SeenAs (ConvertsWith (agrees to) s.held) i i' o o' s s' e
+  seen_by s s' e (Saw compatible v) = λ among.
+      subst (λ (step : Step Set). Seen (ConvertsWith step s.held) i i' o o' s s' e) (sym (agreed_gives to compatible))
+      (sees_as {P = λ bytes y. Converts to bytes s.held y} {Q = ConvertsWith (Gives to) s.held} (λ bytes y p. (to, refl, (fit, compatible, p))) v)
+  seen_by s s' e (Unlike said first none) = other_seen e refl
+  seen_by s s' e (Nothing other h) = other_seen e other
 
   -- ---- known or unknown
 
@@ -257,14 +214,14 @@ module _ (to : Set) (fit : IsFit to) (i i' : Intake) (o o' : Outlet) where
   within compatible few = subst (λ (step : Step Set). ConvertGives step i i') (sym (agreed_gives to compatible)) few
 
   few_before : (fault : _) (f : RefusesFirst to newest i i' o o' fault) → length f.reads.bytes ≤ most_given newest → i'.given ≤ i.given + most_given newest
-  few_before fault f long = let given = f.reads.takes.given in omega (arith, given, long)
+  few_before fault f long = omega arith
 
   taken_few : (r : Result (Unit {0}) ConvertFault) (t : TakesFirst to newest i i' o o' r) → i'.given ≤ i.given + most_given newest
-  taken_few r t = let given = t.reads.takes.given in omega (arith, given, t.reads.long.0, t.reads.long.1)
+  taken_few r t = omega arith
 
-  pub convert_given : (r : Result (Unit {0}) ConvertFault) → Calls to newest i i' o o' r → ConvertGives (agrees to) i i'
+  convert_given : (r : Result (Unit {0}) ConvertFault) → Calls to newest i i' o o' r → ConvertGives (agrees to) i i'
   convert_given (Ok u) c = within c.0 (taken_few (Ok u) c.1)
-  convert_given (Err (faults.NotCompatible m)) c = subst (λ (step : Step Set). ConvertGives step i i') (sym (agreed_ends to m c.0)) c.1
+  convert_given (Err (faults.NotCompatible m)) c = subst (λ (step : Step Set). ConvertGives step i i') (sym (ap (agreed to) c.0)) c.1
   convert_given (Err (faults.Refused r)) c = within c.0 (few_before (loads.Refused r) c.1 c.1.reads.long)
   convert_given (Err (faults.WouldLose section cell)) c = within c.0 (taken_few (Err (faults.WouldLose section cell)) c.1)
   convert_given (Err faults.ReadFault) c = within c.0 (few_before loads.ReadFault c.1 c.1.reads.long)
@@ -274,34 +231,6 @@ module _ (to : Set) (fit : IsFit to) (i i' : Intake) (o o' : Outlet) where
       nothing : (step : Step Set) → i' ≡ i → ConvertGives step i i'
       nothing (Ends status line) e = e
       nothing step e = omega (arith, ap (λ (x : Intake). x.given) e)
-
-  -- ---- what is seen
-
-  -- of a set that is well formed, and that the newest reads
-  with_set : (s s' : Stock) (e : Option Ending) → Compatible to newest → Seen (λ bytes y. Converts to bytes s.held y) i i' o o' s s' e
-      → SeenAs (ConvertsWith (agrees to) s.held) i i' o o' s s' e
-  with_set s s' e compatible v = λ among.
-      subst (λ (step : Step Set). Seen (ConvertsWith step s.held) i i' o o' s s' e) (sym (agreed_gives to compatible))
-      (sees_as {P = λ bytes y. Converts to bytes s.held y} {Q = ConvertsWith (Gives to) s.held} (λ bytes y p. (to, refl, (fit, compatible, p))) v)
-
-  pub convert_seen : (r : Result (Unit {0}) ConvertFault) (e : Option Ending) → EndsLike r e → Calls to newest i i' o o' r → (s s' : Stock) → s'.held ≡ s.held
-      → SeenAs (ConvertsWith (agrees to) s.held) i i' o o' s s' e
-  convert_seen _ _ (IsDone u) c s s' same =
-      let t = c.1 in
-      with_set s s' None c.0 (stream_seen to t.images t.taken t.machine t.converts.bytes None same t.reads t.converts.is t.converts.puts)
-  convert_seen _ _ (IsRefused r line said) c s s' same =
-      with_set s s' (Some (endings.Refused line)) c.0 (refusal_seen to c.1.images c.1.taken r line c.1.reads said)
-  convert_seen _ _ (IsLost section cell line said) c s s' same =
-      let t = c.1 in
-      with_set s s' (Some (endings.WouldLose line)) c.0 (loss_seen to t.images t.taken t.machine section cell line t.reads t.converts.0 said)
-  convert_seen _ _ (IsMismatch m line said) c s s' same = other_seen (Some (endings.NotCompatible line)) refl
-  convert_seen _ _ FailsReading c s s' same = other_seen (Some endings.ReadFault) refl
-  convert_seen _ _ FailsWriting c s s' same =
-      let t = c.1 in
-      with_set s s' (Some endings.WriteFault) c.0
-      (stream_seen to t.images t.taken t.machine t.converts.bytes (Some endings.WriteFault) same t.reads t.converts.is t.converts.puts)
-  convert_seen _ _ LacksMemory c s s' same = other_seen (Some endings.NoMemory) refl
-  convert_seen _ _ (LacksLine m) c s s' same = other_seen (Some endings.NoMemory) refl
 
   -- ---- counts and promises
 
@@ -319,14 +248,13 @@ module _ (to : Set) (fit : IsFit to) (i i' : Intake) (o o' : Outlet) where
       let p = c.1.converts.puts in
       record { input_count = t.later; out_count = p.later; input_promise = t.promise; out_promise = p.promise }
   convert_stands (Err (faults.NotCompatible m)) c = stands_same (omega (arith, ap (λ (x : Intake). x.faults) c.1)) (ap (λ (x : Intake). x.promise) c.1) c.2
-  convert_stands (Err (faults.Refused r)) c = stands_same c.1.reads.takes.later c.1.reads.takes.promise c.1.none
   convert_stands (Err (faults.WouldLose section cell)) c = stands_same c.1.reads.takes.later c.1.reads.takes.promise c.1.converts.1
-  convert_stands (Err faults.ReadFault) c = stands_same c.1.reads.takes.later c.1.reads.takes.promise c.1.none
   convert_stands (Err faults.WriteFault) c =
       let t = c.1.reads.takes in
       let p = c.1.converts.puts.puts in
       record { input_count = t.later; out_count = p.later; input_promise = t.promise; out_promise = p.promise }
   convert_stands (Err faults.NoMemory) c = stands_same (omega (arith, ap (λ (x : Intake). x.faults) c.0)) (ap (λ (x : Intake). x.promise) c.0) c.1
+  convert_stands _ c = stands_same c.1.reads.takes.later c.1.reads.takes.promise c.1.none
 
   -- ---- what it touches
 
@@ -364,9 +292,9 @@ module _ (to : Set) (fit : IsFit to) (i i' : Intake) (o o' : Outlet) where
       → i.given < 2 ^ 64 → ConvertsStream to i i' o o' e
   converts_stream r e like said octets counted = record {
     runs = record {
-      content = convert_content r e like said octets counted;
+      content = λ s s' x same has. content_by s s' e x (left_by r e like said s s' same) octets counted has;
       so = convert_so r e like said;
-      seen = convert_seen r e like said;
+      seen = λ s s' same. seen_by s s' e (left_by r e like said s s' same);
     };
     given = convert_given r said;
   }

@@ -21,19 +21,16 @@ module _ {S : Type 0} (f : Family S) (Alike : S → S → Type 0) (IsSound : S �
   continues_by : (number : ℕ) (step : Step (List ScriptLine)) (status : ℕ) (old new : Outside)
       → ((o : Outcome) → LoadsBy f number step old.input.left old.shelf.held o → DoesOrStops status old new o)
       → ContinuesBy f IsSound number step status old new
-  continues_by number Untold status old new all = tt
-  continues_by number (Ends own line) status old new all = tt
   continues_by number (Gives lines) status old new all = λ set m text sound same may room left.
       let stream = stream_with f set m text in
       let there = (going.on set m text (events_of lines) sound (subst (λ (n : ℕ). ReachesSet f.newest n set) (sym same) may) room).there in
-      let restores : Restores f number stream (Back there.board (length stream)) =
-      subst (λ (n : ℕ). Restores f n stream (Back there.board (length stream))) same there.restored in
       let loads : Loads f number lines stream old.shelf.held (goes_on f set m text lines old) =
       subst (λ (t : List ℕ). Loads f number lines stream old.shelf.held (done t old.shelf.held (length stream))) (sym there.trace_is)
-      (Traces there.board (length stream) restores) in
+      (Traces there.board (length stream) (subst (λ (n : ℕ). Restores f n stream (Back there.board (length stream))) same there.restored)) in
       all (goes_on f set m text lines old)
       (subst (λ (input : Option (List ℕ)). IsSomeAnd input (λ bytes. Loads f number lines bytes old.shelf.held (goes_on f set m text lines old)))
       (sym left) loads)
+  continues_by number _ status old new all = tt
 
 pub continues_so : (asked : Option Asked) (status : ℕ) (old new : Outside)
     → ((o : Outcome) → HasOutcome asked old.input.left old.shelf.held o → DoesOrStops status old new o) → Continuation asked status old new
@@ -56,13 +53,12 @@ takes_all older newer well_older well_newer compatible machine text images w =
 
 upgrades_by : (s : Step Set) → FitStep s → (status : ℕ) (old new : Outside)
     → ((o : Outcome) → ShowsBy s old.input.left old.shelf.held o → DoesOrStops status old new o) → UpgradesTo s status old new
-upgrades_by Untold fit status old new all = tt
-upgrades_by (Ends own line) fit status old new all = tt
 upgrades_by (Gives newer) fit status old new all = λ older machine text images well compatible w left.
     let outcome = shown_newer older newer machine text images old in
     let bytes = written older machine images text in
     all outcome (subst (λ (input : Option (List ℕ)). IsSomeAnd input (λ taken. Shows newer taken old.shelf.held outcome)) (sym left)
     (Printed (length bytes) machine (carried older newer images) (takes_all older newer well fit.well compatible machine text images w)))
+upgrades_by _ fit status old new all = tt
 
 pub upgrade_so : (asked : Option Asked) (status : ℕ) (old new : Outside)
     → ((o : Outcome) → HasOutcome asked old.input.left old.shelf.held o → DoesOrStops status old new o) → Upgrade asked status old new
@@ -75,21 +71,15 @@ upgrade_so asked status old new all = tt
 -- what two words give
 module _ (sets : Both Set) where
   read_both : (one other : Step Set) → both one other ≡ Gives sets → (one ≡ Gives sets.old) × (other ≡ Gives sets.new)
-  read_both Untold other e = cc
-  read_both (Ends status line) other e = cc
-  read_both (Gives x) Untold e = cc
-  read_both (Gives x) (Ends status line) e = cc
   read_both (Gives x) (Gives y) e = (ap Gives (ap (λ (b : Both Set). b.old) (same e)), ap Gives (ap (λ (b : Both Set). b.new) (same e))) where
     same : Gives (record { old = x; new = y }) ≡ Gives sets → record { old = x; new = y } ≡ sets
     same e = cc
+  read_both _ _ e = cc
 
   fetched_both : (one other : Step SetText) → next (both one other) sets_in ≡ Gives sets
       → (next one set_in ≡ Gives sets.old) × (next other set_in ≡ Gives sets.new)
-  fetched_both Untold other e = cc
-  fetched_both (Ends status line) other e = cc
-  fetched_both (Gives x) Untold e = cc
-  fetched_both (Gives x) (Ends status line) e = cc
   fetched_both (Gives x) (Gives y) e = read_both (set_in x) (set_in y) e
+  fetched_both _ _ e = cc
 
 pub named_both : (sets : Both Set) (held : Option Held) (old new : SetWord) → named_sets held old new ≡ Gives sets
     → (word_set held old ≡ Gives sets.old) × (word_set held new ≡ Gives sets.new)

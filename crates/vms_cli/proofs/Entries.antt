@@ -10,9 +10,8 @@ pub mod PlayCommand
 pub mod SaveCommand
 pub mod ShowCommand
 use Rattle.vms_cli.proofs.Facade.{◌∷◌, List, [], ℕ, Option, Some, None, inr, codes, refl, bytes_eq, option_map, set_word, shipped_word, Asked, Analyze, Check}
-use Rattle.vms_cli.proofs.Facade.{Convert}
-use Rattle.vms_cli.proofs.Facade.{Counter, Drill, Load, Pack, Play, Save, Show, board_word, convertible, few_events, isa_level, number_word, of_both, drill_of}
-use Rattle.vms_cli.proofs.Facade.{pair_of, save_of, single_of, triple_of, with_file, entry_of, course_of, AskedLaw, CanBeAsked}
+use Rattle.vms_cli.proofs.Facade.{Convert, Counter, Drill, Load, Pack, Play, Save, Show, board_word, convertible, few_events, isa_level, number_word, of_both}
+use Rattle.vms_cli.proofs.Facade.{drill_of, pair_of, save_of, single_of, triple_of, with_file, entry_of, course_of, AskedLaw, CanBeAsked}
 use Rattle.vms_cli.proofs.Entries.AnalyzeCommand.{analyze_row}
 use Rattle.vms_cli.proofs.Entries.CheckCommand.{check_row}
 use Rattle.vms_cli.proofs.Entries.ConvertCommand.{convert_row}
@@ -75,9 +74,8 @@ triple-asked name one two three =
     (save-asked (board_word one) (shipped_word two) three (word-board one)) tt)
 
 pub words_ask : AskedLaw
-words_ask [] = tt
 words_ask (name ∷ []) = either-asked (bytes_eq name (codes "analyze")) (Some Analyze) None tt tt
 words_ask (name ∷ set ∷ []) = single-asked name set
 words_ask (name ∷ one ∷ other ∷ []) = pair-asked name one other
 words_ask (name ∷ one ∷ two ∷ three ∷ []) = triple-asked name one two three
-words_ask (name ∷ one ∷ two ∷ three ∷ four ∷ words) = tt
+words_ask _ = tt

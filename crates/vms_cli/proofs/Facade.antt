@@ -78,39 +78,36 @@ pub use Rattle.vms_check.specs.Carrying.{carried}
 pub use Rattle.vms_check.specs.Comparing.{Compatible, first_mismatch}
 pub use Rattle.vms_check.specs.declared.mismatch.Mismatch.{Mismatch}
 pub use Rattle.vms_check_laws.proofs.Streaming.{upgrade_stands}
-pub use Rattle.vms_cli.specs.Commands.AnalyzeCommand.{EndsLike, FailsReading, FailsWriting, GivesListed, IsListing, IsRefused, analyze_course, analyze_entry}
-pub use Rattle.vms_cli.specs.Commands.AnalyzeCommand.{bytes_taken}
-pub use Rattle.vms_cli.specs.Commands.AnalyzeCommand.{listing_outcome, unlisted_line}
 pub use Rattle.vms_cli.specs.AnalyzeLaws.{PackThenAnalyzeLaw, PrintsAlike, SaveThenAnalyzeLaw, ShowThenAnalyzeLaw}
 pub use Rattle.vms_cli.specs.Answers.{HasOutcome, Verdict}
 pub use Rattle.vms_cli.specs.Boards.{BoardWord, CanBeRead, ClockBoard, IsBoard, IsaBoard, board_word, isa_level, number_word}
 pub use Rattle.vms_cli.specs.Causes.{WriteCause, WritesBy}
-pub use Rattle.vms_cli.specs.Commands.CheckCommand.{AreCompatible, check_course, check_entry, checked, compared, compatible_text, verdict}
 pub use Rattle.vms_cli.specs.ClockSets.{ClockSetsLaw}
+pub use Rattle.vms_cli.specs.Commands.{Analyze, Asked, Check, Convert, Counter, Drill, Load, Pack, Play, Save, Show, asked_of, drill_of, entry_of, of_both}
+pub use Rattle.vms_cli.specs.Commands.{save_of, save_on, task_of, with_file}
+unfoldable pub use Rattle.vms_cli.specs.Commands.{pair_of, single_of, triple_of}
+pub use Rattle.vms_cli.specs.Commands.AnalyzeCommand.{EndsLike, FailsReading, FailsWriting, GivesListed, IsListing, IsRefused, analyze_course, analyze_entry}
+pub use Rattle.vms_cli.specs.Commands.AnalyzeCommand.{bytes_taken, listing_outcome, unlisted_line}
+pub use Rattle.vms_cli.specs.Commands.CheckCommand.{AreCompatible, check_course, check_entry, checked, compared, compatible_text, verdict}
+pub use Rattle.vms_cli.specs.Commands.ConvertCommand.{CanBeConverted, ConvertGives, Converts, ConvertsBy, ConvertsStream, ConvertsWell, ConvertsWith, IsDone}
+pub use Rattle.vms_cli.specs.Commands.ConvertCommand.{IsInNewest, IsLost, IsMismatch, LacksLine, LacksMemory, NamesCell, Rewrites, WouldLose, agreed, agrees}
+pub use Rattle.vms_cli.specs.Commands.ConvertCommand.{convert_course, convert_entry, convertible, lost_line, newest, target}
+pub use Rattle.vms_cli.specs.Commands.CounterCommand.{Answers, CountersBy, counted, counter_course, counter_entry, counter_text, no_state}
 pub use Rattle.vms_cli.specs.Commands.DrillCommand.{drill_entry, few_events}
 pub use Rattle.vms_cli.specs.Commands.LoadCommand.{load_entry}
+pub use Rattle.vms_cli.specs.Commands.PackCommand.{CanBePacked, Parts, described_stream, named_parts, pack_entry, packed, packed_by, packed_parts, packs}
+pub use Rattle.vms_cli.specs.Commands.PackCommand.{parts_of, with_values}
 pub use Rattle.vms_cli.specs.Commands.PlayCommand.{play_entry}
 pub use Rattle.vms_cli.specs.Commands.SaveCommand.{MaySaveOn, save_entry, saved_on}
-pub use Rattle.vms_cli.specs.Commands.{Analyze, Asked, Check, Convert, Counter, Drill, Load, Pack, Play, Save, Show, asked_of, drill_of, entry_of, of_both}
-pub use Rattle.vms_cli.specs.Commands.{save_of}
-pub use Rattle.vms_cli.specs.Commands.{save_on, task_of, with_file}
-unfoldable pub use Rattle.vms_cli.specs.Commands.{pair_of, single_of, triple_of}
+pub use Rattle.vms_cli.specs.Commands.ShowCommand.{CanBeShown, GivesWithin, Refuses, Shows, ShowsBy, ShowsWell, show_entry}
 pub use Rattle.vms_cli.specs.Continuation.{Continuation, ContinuesBy, goes_on}
-pub use Rattle.vms_cli.specs.Commands.ConvertCommand.{CanBeConverted, ConvertGives, Converts, ConvertsBy, ConvertsStream, ConvertsWell, ConvertsWith, IsDone}
-pub use Rattle.vms_cli.specs.Commands.ConvertCommand.{IsInNewest, IsLost, IsMismatch}
-pub use Rattle.vms_cli.specs.Commands.ConvertCommand.{LacksLine, LacksMemory, NamesCell, Rewrites, WouldLose, agreed, agrees, convert_course, convert_entry}
-pub use Rattle.vms_cli.specs.Commands.ConvertCommand.{convertible, lost_line, newest, target}
 pub use Rattle.vms_cli.specs.ConvertLaws.{ConvertAgainLaw, ConvertThenAnalyzeLaw, ConvertThenLoadLaw, StandsFor}
-pub use Rattle.vms_cli.specs.Commands.CounterCommand.{Answers, CountersBy, counted, counter_course, counter_entry, counter_text, no_state}
-pub use Rattle.vms_cli.specs.Laws.{AmpleLaw, AskedLaw, CanBeAsked, CanBeDone, CheckThenShowLaw, CompleteLaw, HasOne}
-pub use Rattle.vms_cli.specs.Laws.{HasOneOutcome, HasRoom, IsAmple, NoneRises, OutcomeLaw, PackThenShowLaw, PromisesKept, ShowThenPackLaw}
+pub use Rattle.vms_cli.specs.Entry.{Entry}
+pub use Rattle.vms_cli.specs.Laws.{AmpleLaw, AskedLaw, CanBeAsked, CanBeDone, CheckThenShowLaw, CompleteLaw, HasOne, HasOneOutcome, HasRoom, IsAmple, NoneRises}
+pub use Rattle.vms_cli.specs.Laws.{OutcomeLaw, PackThenShowLaw, PromisesKept, ShowThenPackLaw}
 pub use Rattle.vms_cli.specs.Limits.{LimitsLaw}
-pub use Rattle.vms_cli.specs.Commands.PackCommand.{CanBePacked, Parts, described_stream, named_parts, packed, packed_by, packed_parts, pack_entry, packs}
-pub use Rattle.vms_cli.specs.Commands.PackCommand.{parts_of, with_values}
 pub use Rattle.vms_cli.specs.Program.{OutFlushed, OutLate}
 pub use Rattle.vms_cli.specs.Rows.{CanAnswer, ComesSeen, DoesSeen, HasCause, OutcomeWith}
-pub use Rattle.vms_cli.specs.Entry.{Entry}
-pub use Rattle.vms_cli.specs.Commands.ShowCommand.{CanBeShown, GivesWithin, Refuses, Shows, ShowsBy, ShowsWell, show_entry}
 pub use Rattle.vms_cli.specs.States.{AlwaysNamedLaw, Prints, RefusesSo, StateLaw}
 pub use Rattle.vms_cli.specs.Statuses.{course_of, statuses_of, stores_at, takes_at, writes_at}
 pub use Rattle.vms_cli.specs.TwoSets.{sets_of}
@@ -124,7 +121,7 @@ pub use Rattle.vms_commands.proofs.StepLemmas.{IsSound, ended_by, ending_passed,
 pub use Rattle.vms_commands.proofs.StepLemmas.{sound_set, sound_sets, sound_word, sound_word_set, text_ends, then_as, then_text}
 pub use Rattle.vms_commands.specs.Asks.{set_asked}
 pub use Rattle.vms_commands.specs.Courses.{EndsSo, Risen, Stands, is_among, of_shelf, text_course}
-pub use Rattle.vms_commands.specs.Endings.{Caused, EndsAs, EndsWith, Quiet, Tells, WritesAs, ending_of, line_of, status_of}
+pub use Rattle.vms_commands.specs.Endings.{Caused, EndsAs, Quiet, Tells, WritesAs, ending_of, line_of, status_of}
 pub use Rattle.vms_commands.specs.Fetching.{SetText, fetched, fetched_set, is_on_shelf, longest_file, named_sets, set_in, sets_in, text_under, word_set}
 pub use Rattle.vms_commands.specs.Lines.{bad_words, out_of_memory, read_fault, refused_line, shelf_fault, too_large_line, write_fault}
 pub use Rattle.vms_commands.specs.Outcomes.{ComesTo, Does, DoesOrStops, FailsToStore, HasPart, NotesFault, OutFault, Outcome, Outside, Part, ShelfFault}
@@ -134,7 +131,8 @@ pub use Rattle.vms_commands.specs.SetWords.{Clock, Isa, SetWord, Shipped, Shippe
 pub use Rattle.vms_commands.specs.StepEndings.{AsksIf, HadCause, StepAs, TextEnds, WrittenAs, text_of}
 pub use Rattle.vms_commands.specs.Steps.{Both, Ends, Gives, HasBy, HasText, Step, Untold, both, next}
 pub use Rattle.vms_commands.specs.declared.ending.Ending.{Ending}
-pub use Rattle.vms_commands.specs.declared.ending.Ending.TheVariants.{BadText, BadWords, NoMemory, NotCompatible, ReadFault, Refused, WriteFault}
+pub use Rattle.vms_commands.specs.declared.ending.Ending.TheVariants.{BadText, BadWords, NoMemory, NotCompatible, NotThere, ReadFault, Refused, TooLarge}
+pub use Rattle.vms_commands.specs.declared.ending.Ending.TheVariants.{WriteFault}
 pub use Rattle.vms_convert.proofs.Answered.{answered}
 pub use Rattle.vms_convert.proofs.Converts.{converts_stand, ready, same_backs}
 pub use Rattle.vms_convert.proofs.RecastLaws.{newest_kinds, one_lost, recast_long}

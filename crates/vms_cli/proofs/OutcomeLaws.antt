@@ -2,10 +2,8 @@
 use Rattle.vms_cli.proofs.Facade.{◌≡◌, ℕ, zero, suc, ◌+◌, ◌<◌, ◌≤◌, max, ◌⊎◌, List, ◌∷◌, length, length-append, take, Option, Some, None, IfSome, IsSomeAnd}
 use Rattle.vms_cli.proofs.Facade.{refl, ap, ◌∙◌, subst, arith, inl, inr, [], le-max_left, le-max_right, length-take, Appends, Rose, AppendsPrefix, KeepsPromise}
 use Rattle.vms_cli.proofs.Facade.{Held, HoldsAll, Outlet, IsBytes, bad_words, read_fault, write_fault, shelf_fault, out_of_memory, Stands, Part, Outcome}
-use Rattle.vms_cli.proofs.Facade.{ComesTo}
-use Rattle.vms_cli.proofs.Facade.{FailsToStore, TellsShelfFault, DoesOrStops, ended, text_begun, Outside, HasPart, Asked, asked_of, task_of, CanBeAsked}
-use Rattle.vms_cli.proofs.Facade.{CanBeDone}
-use Rattle.vms_cli.proofs.Facade.{HasOneOutcome, OutcomeLaw, HasRoom, IsAmple, NoneRises, PromisesKept, CompleteLaw, AmpleLaw}
+use Rattle.vms_cli.proofs.Facade.{ComesTo, FailsToStore, TellsShelfFault, DoesOrStops, ended, text_begun, Outside, HasPart, Asked, asked_of, task_of}
+use Rattle.vms_cli.proofs.Facade.{CanBeAsked, CanBeDone, HasOneOutcome, OutcomeLaw, HasRoom, IsAmple, NoneRises, PromisesKept, CompleteLaw, AmpleLaw}
 use Rattle.vms_commands.specs.Outcomes.{text_of}
 use Rattle.vms_cli.proofs.CheckLemmas.{StopsAt}
 use Rattle.vms_cli.proofs.Entries.{row_of, words_ask}
@@ -43,18 +41,17 @@ done_short (part ∷ parts) (suc k) =
 room_kept : (p p' : Option ℕ) (w w' : Option (List ℕ)) (faults n : ℕ) (text : List ℕ) → IsSomeAnd p (λ room. IsSomeAnd w (λ old. length old + n < room))
     → length text ≤ n
     → Appends w w' text → p' ≡ p → KeepsPromise p' w' faults → faults ≡ 0
-room_kept None p' w w' faults n text room short appends same keeps = absurd room
-room_kept (Some most) p' None w' faults n text room short appends same keeps = absurd room
 room_kept (Some most) p' (Some old) None faults n text room short appends same keeps = absurd appends
 room_kept (Some most) p' (Some old) (Some new) faults n text room short appends same keeps =
-    subst (λ (p : Option ℕ). KeepsPromise p (Some new) faults) same keeps (omega (arith, room, short, ap length appends, length-append old text))
+    subst (λ (p : Option ℕ). KeepsPromise p (Some new) faults) same keeps (omega (arith, ap length appends, length-append old text))
+room_kept _ p' _ w' faults n text room short appends same keeps = absurd room
 
 never_rose : (before now : ℕ) → now ≡ 0 → Rose before now → ⊥
-never_rose before now none rose = omega (arith, none, rose)
+never_rose before now none rose = omega arith
 
 -- a line of at most a number of bytes
 line_short : (line : List ℕ) (k n : ℕ) → length line ≤ n → length (take k line) ≤ n
-line_short line k n short = omega (arith, short, length-take k line)
+line_short line k n short = omega (arith, length-take k line)
 
 note_room : (line : List ℕ) (old new : Outlet) (n : ℕ) → length line ≤ n → HasRoom old n → AppendsPrefix old.written new.written line
     → new.promise ≡ old.promise
@@ -66,12 +63,10 @@ part_room : (note : List ℕ) (old new : Outlet) (n : ℕ) → 14 ≤ n → leng
     → new.promise ≡ old.promise
     → KeepsPromise new.promise new.written new.faults → new.faults ≡ 0
 part_room note old new n enough short room (inl part) same keeps = note_room note old new n short room part same keeps
-part_room note old new n enough short room (inr (inl part)) same keeps = note_room read_fault old new n (omega (arith, enough)) room part same keeps
-part_room note old new n enough short room (inr (inr (inl part))) same keeps = note_room write_fault old new n (omega (arith, enough)) room part same keeps
-part_room note old new n enough short room (inr (inr (inr (inl part)))) same keeps =
-    note_room shelf_fault old new n (omega (arith, enough)) room part same keeps
-part_room note old new n enough short room (inr (inr (inr (inr part)))) same keeps =
-    note_room out_of_memory old new n (omega (arith, enough)) room part same keeps
+part_room note old new n enough short room (inr (inl part)) same keeps = note_room read_fault old new n (omega arith) room part same keeps
+part_room note old new n enough short room (inr (inr (inl part))) same keeps = note_room write_fault old new n (omega arith) room part same keeps
+part_room note old new n enough short room (inr (inr (inr (inl part)))) same keeps = note_room shelf_fault old new n (omega arith) room part same keeps
+part_room note old new n enough short room (inr (inr (inr (inr part)))) same keeps = note_room out_of_memory old new n (omega arith) room part same keeps
 
 -- what is written on notes of a call that stops is short
 notes_short : (status : ℕ) (old new : Outside) (o : Outcome) (n : ℕ) → 14 ≤ n → length o.note ≤ n → HasRoom old.notes n → new.notes.promise ≡ old.notes.promise
@@ -80,8 +75,7 @@ notes_short status old new o n enough short room same keeps why = by why
   where
     line : (text : List ℕ) → length text ≤ 14 → Appends old.notes.written new.notes.written text → new.notes.faults ≡ 0
     line text few appends =
-        room_kept old.notes.promise new.notes.promise old.notes.written new.notes.written new.notes.faults n text room
-        (omega (arith, few, enough)) appends same keeps
+        room_kept old.notes.promise new.notes.promise old.notes.written new.notes.written new.notes.faults n text room (omega arith) appends same keeps
 
     by : StopsAt status old new o → new.notes.faults ≡ 0
     by (inl read) = line read_fault (omega arith) read.3

@@ -24,11 +24,7 @@ named set (Some m) h = slice_get-get_or set.machines m [] (h m refl)
 -- a text that was read, and a write of its stream
 read_by : (set : Set) (r : ValuesRead) (v : Given) (o o' : Outlet) (e : Option Ending) → ReadsAs set r (Ok v)
     → WrittenAs (described_stream set (at_option set.machines v.machine) (map state_of v.images.items)) o o' e → TextEnds (packed_by set r) o o' e
-read_by set (Values machine images) v o o' e reads w =
-    let stream : described_stream set (at_option set.machines v.machine) (map state_of v.images.items) ≡ described_stream set machine images =
-    ap (λ (m : Option (List ℕ)). described_stream set m (map state_of v.images.items)) (named set v.machine reads.2 ∙ reads.1)
-    ∙ ap (λ (l : List Image). described_stream set machine l) reads.0 in
-    subst (λ (l : List ℕ). WrittenAs l o o' e) stream w
+read_by set (Values machine images) v o o' e reads w = subst (λ (l : List ℕ). WrittenAs l o o' e) (cc (named set v.machine reads.2)) w
 read_by set (Bad line reason) v o o' e reads w = absurd reads
 
 module _ (set : Set) (text : List ℕ) (o o' : Outlet) where
@@ -41,11 +37,8 @@ module _ (set : Set) (text : List ℕ) (o o' : Outlet) where
 module _ (held : Option Held) (word : SetWord) (name : List ℕ) (set : Set) (text stream : List ℕ) where
   gives_by : (t : Step SetText) → next t set_in ≡ Gives set → fetched longest_file held name ≡ Gives text → packed set text ≡ Gives stream
       → next (next t (with_values held name)) packed_parts ≡ Gives stream
-  gives_by Untold there values reads = absurd (cc)
-  gives_by (Ends status line) there values reads = absurd (cc)
-  gives_by (Gives t) there values reads =
-      ap (λ (s : Step (List ℕ)). next (next s (λ v. next (set_in t) (λ x. Gives (record { set = x; values = v })))) packed_parts) values
-      ∙ ap (λ (s : Step Set). next (next s (λ x. Gives (record { set = x; values = text }))) packed_parts) there ∙ reads
+  gives_by (Gives t) there values reads = cc
+  gives_by _ there values reads = absurd (cc)
 
   pub pack_gives : word_set held word ≡ Gives set → fetched longest_file held name ≡ Gives text → packed set text ≡ Gives stream
       → packs held word name ≡ Gives stream

@@ -19,12 +19,8 @@ names_at k = names_of (device_elements newest (device_at newest k) (default_imag
 
 all_short : (k : ℕ) → k < length newest.devices → are_short (names_at k) ≡ true
 unfolding first digits
-all_short zero lt = refl
-all_short (suc zero) lt = refl
-all_short (suc (suc zero)) lt = refl
-all_short (suc (suc (suc zero))) lt = refl
-all_short (suc (suc (suc (suc zero)))) lt = refl
-all_short (suc (suc (suc (suc (suc k))))) lt = absurd (omega (arith, lt))
+all_short (suc (suc (suc (suc (suc k))))) lt = absurd (omega arith)
+all_short _ lt = refl
 
 pub path_short : (k c : ℕ) → k < length newest.devices → length (cell_name newest (device_at newest k) c) < 64
 path_short k c lt = short_at (names_at k) c (all_short k lt)

@@ -60,9 +60,7 @@ module _ (set : Set) (fit : IsFit set) (machine : Option (List ℕ)) (images : L
 
 -- a description is short enough for a stream
 pub fits_text : (set : Set) → IsFit set → (images : List Image) → length (described_text set images) ≤ LONGEST_TEXT
-fits_text set fit images =
-    let short : length (described_text set images) < LONGEST_TEXT = short_holds.short set fit.well fit.heads images in
-    omega (arith, short)
+fits_text set fit images = omega (arith, short_holds.short set fit.well fit.heads images)
 
 module _ (map : Held) (text stream : List ℕ) where
   abbrev is_packed : Step (List ℕ) → Type 0
@@ -132,9 +130,8 @@ module _ (set : Set) (fit : IsFit set) (machine : Option (List ℕ)) (images : L
   listed_too : (x : Outcome) → x ≡ done text held n → Shows set (described_stream set machine images) held x
       → IsListing held (described_stream set machine images) x
   listed_too x same (Printed taken other others whole) =
-      let described : Option (List ℕ) = Some (described_text set images) in
       let bytes = described_stream set machine images in
-      let all = (written_only set machine described images fit named (fits_text set fit images) ready).only taken other others whole in
+      let all = (written_only set machine (Some (described_text set images)) images fit named (fits_text set fit images) ready).only taken other others whole in
       let printed : values_text set machine images ≡ values_text set other others =
       ap (λ (o : Option (List ℕ)). values_text set o images) (sym all.1) ∙ ap (values_text set other) (sym all.2) in
       subst (λ (k : ℕ). IsListing held bytes (done (values_text set other others) held k)) (sym all.0)
@@ -162,11 +159,10 @@ module _ (set : Set) (fit : IsFit set) (machine : Option (List ℕ)) (images : L
 
 pub show_then_analyze : ShowThenAnalyzeLaw
 show_then_analyze word set machine images text held there ready named n shows =
-    let fit : IsFit set = subst FitStep there (fit_word held word) in
     let stream = described_stream set machine images in
     let outcome = done text held n in
     let shown : Shows set stream held outcome = subst (λ (s : Step Set). ShowsBy s (Some stream) held outcome) there shows in
-    listed_too set fit machine images (machine_of_set set machine named) ready text held n outcome refl shown
+    listed_too set (subst FitStep there (fit_word held word)) machine images (machine_of_set set machine named) ready text held n outcome refl shown
 
 -- ---- showing and then packing
 
@@ -193,11 +189,10 @@ module _ (held : Option Held) (word : SetWord) (set : Set) (there : word_set hel
   written_prints machine images named ready =
       let bytes = described_stream set machine images in
       let text = values_text set machine images in
-      let outcome = done text held (length bytes) in
       let whole = (written_only set machine (Some (described_text set images)) images fit named (fits_text set fit images) ready).whole in
       record {
         text = text;
-        shown = subst (λ (s : Step Set). ShowsBy s (Some bytes) held outcome) (sym there) (Printed (length bytes) machine images whole);
+        shown = subst (λ (s : Step Set). ShowsBy s (Some bytes) held (done text held (length bytes))) (sym there) (Printed (length bytes) machine images whole);
         listed = lists_all bytes text held (shown_listed set fit machine images named ready);
       }
 

@@ -1,14 +1,13 @@
 -- From how a command ends, and why, to its row.
 use Rattle.vms_cli.proofs.Facade.{◌≡◌, ◌⊎◌, ℕ, true, false, List, [], ◌∷◌, Option, Some, None, inl, inr, refl, sym, ◌∙◌, subst, Err, Bool, ◌++◌, ap, arith}
-use Rattle.vms_cli.proofs.Facade.{Keeps, Appends, is_among, EndsSo, Risen, of_shelf, text_course, wrong, draws_none, so_since, writes_serve, Asked}
-use Rattle.vms_cli.proofs.Facade.{statuses_of, stores_at, takes_at, writes_at, check_course, counter_course, course_of, Looks}
-use Rattle.vms_cli.proofs.Facade.{looks_reaches, Intake, Outlet, Stock, Serves, save_course, Ending, BadText, NotCompatible, ReadFault, WriteFault, NoMemory}
-use Rattle.vms_cli.proofs.Facade.{BadWords, Caused, Quiet, WritesAs, status_of, Tells, line_of, AsksIf, HadCause, among_left, shelf_has, text_asks, unset_so}
-use Rattle.vms_cli.proofs.Facade.{WriteCause, WritesBy, Rose, SeenAs, Does, DoesOrStops, Outcome, Outside, around, kept_none, outcome_so, same_keeps, Runs}
-use Rattle.vms_cli.proofs.Facade.{moment, task_of, CanAnswer, ComesSeen, DoesSeen, HasCause, OutcomeWith, bad_words, out_of_memory, read_fault, shelf_fault}
-use Rattle.vms_cli.proofs.Facade.{write_fault}
+use Rattle.vms_cli.proofs.Facade.{Keeps, Appends, is_among, EndsSo, Risen, of_shelf, text_course, wrong, draws_none, so_since, writes_serve, Asked, statuses_of}
+use Rattle.vms_cli.proofs.Facade.{stores_at, takes_at, writes_at, check_course, counter_course, course_of, Looks, looks_reaches, Intake, Outlet, Stock, Serves}
+use Rattle.vms_cli.proofs.Facade.{save_course, Ending, BadText, NotCompatible, ReadFault, WriteFault, NoMemory, BadWords, Caused, Quiet, WritesAs, status_of}
+use Rattle.vms_cli.proofs.Facade.{Tells, line_of, AsksIf, HadCause, among_left, shelf_has, text_asks, unset_so, WriteCause, WritesBy, Rose, SeenAs, Does}
+use Rattle.vms_cli.proofs.Facade.{DoesOrStops, Outcome, Outside, around, kept_none, outcome_so, same_keeps, Runs, moment, task_of, CanAnswer, ComesSeen}
+use Rattle.vms_cli.proofs.Facade.{DoesSeen, HasCause, OutcomeWith, bad_words, out_of_memory, read_fault, shelf_fault, write_fault, NotThere, Refused, TooLarge}
 use Rattle.vms_commands.specs.Courses.{Course}
-use Rattle.vms_commands.specs.declared.ending.Ending.TheVariants.{NotThere, Refused, ShelfFault, TooLarge, WouldLose}
+use Rattle.vms_commands.specs.declared.ending.Ending.TheVariants.{ShelfFault, WouldLose}
 use Rattle.vms_cli.proofs.RowFacts.{Fits, HasSix}
 use Rattle.vms_cli.proofs.CheckLemmas.{StopsAt}
 
@@ -73,7 +72,6 @@ module _ (i i' : Intake) (o o' : Outlet) (s s' : Stock) where
   own_ends course e h writes stores = (h.out writes, h.held stores)
 
   pub caused_so : (course : Course) → Fits course → (e : Option Ending) → EndsSo i i' o o' s s' course e → Caused i i' o o' s s' e
-  caused_so course fits None h = tt
   caused_so course fits (Some (Refused line)) h = own_ends course (Some (Refused line)) h fits.unwritten.refused fits.unstored.refused
   caused_so course fits (Some BadWords) h = own_ends course (Some BadWords) h fits.unwritten.unnamed fits.unstored.unnamed
   caused_so course fits (Some (BadText line)) h = own_ends course (Some (BadText line)) h fits.unwritten.bad fits.unstored.bad
@@ -83,8 +81,8 @@ module _ (i i' : Intake) (o o' : Outlet) (s s' : Stock) where
   caused_so course fits (Some ShelfFault) h = h.risen
   caused_so course fits (Some (NotThere line)) h = own_ends course (Some (NotThere line)) h fits.unwritten.missing fits.unstored.missing
   caused_so course fits (Some (TooLarge line)) h = own_ends course (Some (TooLarge line)) h fits.unwritten.large fits.unstored.large
-  caused_so course fits (Some NoMemory) h = tt
   caused_so course fits (Some (WouldLose line)) h = own_ends course (Some (WouldLose line)) h fits.unwritten.lost fits.unstored.lost
+  caused_so course fits _ h = tt
 
 -- of a command that reads nothing of the input
 module _ (i : Intake) (o o' : Outlet) (s s' : Stock) where
@@ -216,7 +214,7 @@ module _ (i i' : Intake) (o o' n n' : Outlet) (s s' : Stock) where
   same_why Sink Sink e h = h
   same_why Shelf Shelf e h = h
   same_why Memory Memory e h = h
-  same_why _ _ e h = absurd (omega (arith, e))
+  same_why _ _ e h = absurd (omega arith)
 
   why_cause : (why : Why) (status : ℕ) → status ≡ status_at why → Holds why → HasCause status old new
   why_cause why status is h = record {
@@ -259,7 +257,7 @@ module _ (i i' : Intake) (o o' n n' : Outlet) (s s' : Stock) where
   IsSeen status = (status ≡ 0) ⊎ (status ≡ 1) ⊎ (status ≡ 11)
 
   seen_among : (status : ℕ) → IsSeen status → (l : List ℕ) → is_among l 0 ≡ true → is_among l 1 ≡ true → is_among l 11 ≡ true → is_among l status ≡ true
-  seen_among status (inl e) l none one eleven = ap (is_among l) e ∙ none
+  seen_among status (inl e) l none one eleven = cc
   seen_among status (inr (inl e)) l none one eleven = ap (is_among l) e ∙ one
   seen_among status (inr (inr e)) l none one eleven = ap (is_among l) e ∙ eleven
 
@@ -269,7 +267,7 @@ module _ (i i' : Intake) (o o' n n' : Outlet) (s s' : Stock) where
       absurd (wrong (sym (seen_among status which (0 ∷ 1 ∷ 11 ∷ []) refl refl refl) ∙ ap (is_among (0 ∷ 1 ∷ 11 ∷ [])) is ∙ other))
 
   ended_among : (e : Option Ending) (status : ℕ) → Told e status → IsSeen status → is_among (0 ∷ 1 ∷ 6 ∷ 11 ∷ []) (status_of e) ≡ true
-  ended_among e status (inl t) which = ap (is_among (0 ∷ 1 ∷ 6 ∷ 11 ∷ [])) (sym t.0) ∙ seen_among status which (0 ∷ 1 ∷ 6 ∷ 11 ∷ []) refl refl refl
+  ended_among e status (inl t) which = cc (seen_among status which (0 ∷ 1 ∷ 6 ∷ 11 ∷ []) refl refl refl)
   ended_among e status (inr t) which = beyond 6 status t.0 refl which
 
   does_so : (status : ℕ) (x : Outcome) → DoesOrStops status old new x → IsSeen status → Does status old new x
@@ -296,7 +294,7 @@ module _ (i i' : Intake) (o o' n n' : Outlet) (s s' : Stock) where
   stopped_so : (P : List ℕ → Outcome → Type 0) (e : Option Ending) (status : ℕ) → SeenAs P i i' o o' s s' e → Caused i i' o o' s s' e → Tells n n' e status
       → status ≡ 6
       → ComesSeen P status old new ⊎ Rose old.notes.faults new.notes.faults
-  stopped_so P None status seen cause t six = absurd (omega (arith, t.0, six))
+  stopped_so P None status seen cause t six = absurd (omega arith)
   stopped_so P e status seen cause (inr t) six = inr t.1
   stopped_so P e status seen cause (inl t) six =
       let v = seen (ap (is_among (0 ∷ 1 ∷ 6 ∷ 11 ∷ [])) (sym t.0 ∙ six)) in

@@ -28,43 +28,44 @@ same_machine set (Some m) = refl
 abbrev pub shows_under : Option (List ℕ) → Option Held → Set → Outcome → Type 0
 shows_under input held set x = IsSomeAnd input (λ bytes. Shows set bytes held x)
 
--- the outcome of an input that takes a stream
-pub shown_is : (set : Set) → IsFit set → (bytes : List ℕ) (held : Option Held) (taken : ℕ) (machine : Option (List ℕ)) (images : List Image) (x : Outcome)
-    → IsBytes bytes
-    → Takes set set.machines bytes taken machine images → Shows set bytes held x → x ≡ done (values_text set machine images) held taken
-shown_is set fit bytes held taken machine images x ok takes (Values taken' machine' images' takes') =
-    let same = one_stream_holds set set.machines fit.well fit.heads bytes taken' taken machine' machine images' images takes' takes in
-    ap (λ (n : ℕ). done (values_text set machine' images') held n) same.lengths
-    ∙ ap (λ (m : Option (List ℕ)). done (values_text set m images') held taken) same.machines
-    ∙ ap (λ (l : List Image). done (values_text set machine l) held taken) same.states
-shown_is set fit bytes held taken machine images x ok takes (Refuses place section reason size fault) =
-    absurd (never_both_holds set set.machines fit.well fit.heads bytes ok taken machine images place section reason size takes fault)
+-- ---- an input has one outcome
 
--- an input is invalid in one way
-pub same_refusal : (set : Set) (bytes : List ℕ) → IsBytes bytes → (place place' : ℕ) (section section' : Option ℕ) (reason reason' : Reason) (size size' : ℕ)
-    → Fault set set.machines bytes place section reason size → Fault set set.machines bytes place' section' reason' size'
-    → ended 1 (refused_line set place' section' reason') (place' + size') ≡ ended 1 (refused_line set place section reason) (place + size)
-same_refusal set bytes ok place place' section section' reason reason' size size' fault fault' =
-    let same = one_fault_holds set set.machines bytes ok place' place section' section reason' reason size' size fault' fault in
-    ap (λ (n : ℕ). ended 1 (refused_line set n section' reason') (n + size')) same.places
-    ∙ ap (λ (o : Option ℕ). ended 1 (refused_line set place o reason') (place + size')) same.sections
-    ∙ ap (λ (r : Reason). ended 1 (refused_line set place section r) (place + size')) same.reasons
-    ∙ ap (λ (n : ℕ). ended 1 (refused_line set place section reason) (place + n)) same.sizes
+-- what is at the front of an input: a stream, or what is wrong there
+pub data Front : Type 0 where
+  Stream : (taken : ℕ) (machine : Option (List ℕ)) (images : List Image) → Front
+  Invalid : (place : ℕ) (section : Option ℕ) (reason : Reason) (size : ℕ) → Front
 
--- the outcome of an invalid input
-pub refused_is : (set : Set) → IsFit set → (bytes : List ℕ) (held : Option Held) (place : ℕ) (section : Option ℕ) (reason : Reason) (size : ℕ) (x : Outcome)
-    → IsBytes bytes
-    → Fault set set.machines bytes place section reason size → Shows set bytes held x → x ≡ ended 1 (refused_line set place section reason) (place + size)
-refused_is set fit bytes held place section reason size x ok fault (Values taken machine images takes) =
-    absurd (never_both_holds set set.machines fit.well fit.heads bytes ok taken machine images place section reason size takes fault)
-refused_is set fit bytes held place section reason size x ok fault (Refuses place' section' reason' size' fault') =
-    same_refusal set bytes ok place place' section section' reason reason' size size' fault fault'
+abbrev pub HasFront : Set → List ℕ → Front → Type 0
+HasFront set input (Stream taken machine images) = Takes set set.machines input taken machine images
+HasFront set input (Invalid place section reason size) = Fault set set.machines input place section reason size
 
--- so an input has one
+pub one_front : (set : Set) → IsFit set → (input : List ℕ) → IsBytes input → (a b : Front) → HasFront set input a → HasFront set input b → b ≡ a
+one_front set fit input ok (Stream n machine images) (Stream m other others) t u =
+    let one = one_stream_holds set set.machines fit.well fit.heads input m n other machine others images u t in
+    rw (one.lengths, one.machines, one.states)
+one_front set fit input ok (Stream n machine images) (Invalid place section reason size) t f =
+    absurd (never_both_holds set set.machines fit.well fit.heads input ok n machine images place section reason size t f)
+one_front set fit input ok (Invalid place section reason size) (Stream n machine images) f t =
+    absurd (never_both_holds set set.machines fit.well fit.heads input ok n machine images place section reason size t f)
+one_front set fit input ok (Invalid place section reason size) (Invalid at device why long) f g =
+    let one = one_fault_holds set set.machines input ok at place device section why reason long size g f in
+    rw (one.places, one.sections, one.reasons, one.sizes)
+
+abbrev shown : Set → Option Held → Front → Outcome
+shown set held (Stream taken machine images) = done (values_text set machine images) held taken
+shown set held (Invalid place section reason size) = ended 1 (refused_line set place section reason) (place + size)
+
+front_shown : (set : Set) (bytes : List ℕ) (held : Option Held) (x : Outcome) → Shows set bytes held x
+    → (front : Front) × HasFront set bytes front × (x ≡ shown set held front)
+front_shown set bytes held _ (Values taken machine images takes) = (Stream taken machine images, takes, refl)
+front_shown set bytes held _ (Refuses place section reason size fault) = (Invalid place section reason size, fault, refl)
+
 pub shows_same : (set : Set) → IsFit set → (bytes : List ℕ) (held : Option Held) (x y : Outcome) → IsBytes bytes → Shows set bytes held x
     → Shows set bytes held y → y ≡ x
-shows_same set fit bytes held x y ok (Values taken machine images takes) q = shown_is set fit bytes held taken machine images y ok takes q
-shows_same set fit bytes held x y ok (Refuses place section reason size fault) q = refused_is set fit bytes held place section reason size y ok fault q
+shows_same set fit bytes held x y ok p q =
+    let a = front_shown set bytes held x p in
+    let b = front_shown set bytes held y q in
+    b.2 ∙ ap (shown set held) (one_front set fit bytes ok a.0 b.0 a.1 b.1) ∙ sym a.2
 
 -- ---- what is seen
 
@@ -102,23 +103,22 @@ pub machine_for : (machines : List (List ℕ)) (machine : Option ℕ) → IsMach
 machine_for machines None h = λ m e. cc
 machine_for machines (Some n) h = λ m e. within m (cc) where
   within : (m : ℕ) → n ≡ m → m < length machines
-  within m same = omega (arith, same, h)
+  within m same = omega arith
 
 module _ (set : Set) where
   are_from : (devices : List Device) (images : List Image) → length images ≡ length devices
       → ((k : ℕ) → k < length devices → IsOf set (get_or devices k no_device) (get_or images k (state_of no_image))) → AreOf set devices images
   are_from [] [] all each = tt
-  are_from [] (image ∷ images) all each = absurd (omega (arith, all))
-  are_from (d ∷ devices) [] all each = absurd (omega (arith, all))
-  are_from (d ∷ devices) (image ∷ images) all each =
-      (each 0 (omega arith), are_from devices images (omega (arith, all)) (λ k lt. each (suc k) (omega (arith, lt))))
+  are_from [] (image ∷ images) all each = absurd (omega arith)
+  are_from (d ∷ devices) [] all each = absurd (omega arith)
+  are_from (d ∷ devices) (image ∷ images) all each = (each 0 (omega arith), are_from devices images (omega arith) (λ k lt. each (suc k) (omega arith)))
 
   pub are_of : is_well_formed set ≡ true → (images : List Typed) → AreShaped set images → AreOf set set.devices (map state_of images)
   are_of well images h = are_from set.devices (map state_of images) (length-map images state_of ∙ h.all) (λ k lt.
       let shape = h.each k lt in
       let is : IsOf set (device_at set k) (state_of (get_or images k no_image)) =
-      record { cells = shape.cells; subs = shape.subs; few = omega (arith, shape.cells, few_cells set well k) } in
-      subst (λ (x : Image). IsOf set (device_at set k) x) (sym (get_or-map state_of images k no_image (state_of no_image) (omega (arith, lt, h.all)))) is)
+      record { cells = shape.cells; subs = shape.subs; few = omega (arith, few_cells set well k) } in
+      subst (λ (x : Image). IsOf set (device_at set k) x) (sym (get_or-map state_of images k no_image (state_of no_image) (omega arith))) is)
 
 -- ---- how many bytes the input gives
 
@@ -143,19 +143,16 @@ AreFit (Gives sets) = IsFit sets.old × IsFit sets.new
 AreFit (Ends status line) = Unit {0}
 
 fit_second : (old : Set) (s : Step Set) → IsFit old → FitStep s → AreFit (next s (λ new. Gives (record { old = old; new = new })))
-fit_second old Untold a b = tt
 fit_second old (Gives new) a b = (a, b)
-fit_second old (Ends status line) a b = tt
+fit_second old _ a b = tt
 
 fit_both : (s r : Step Set) → FitStep s → FitStep r → AreFit (both s r)
-fit_both Untold r a b = tt
 fit_both (Gives old) r a b = fit_second old r a b
-fit_both (Ends status line) r a b = tt
+fit_both _ r a b = tt
 
 fit_after : (s : Step (Both SetText)) → AreFit (next s sets_in)
-fit_after Untold = tt
 fit_after (Gives texts) = fit_both (set_in texts.old) (set_in texts.new) (fit_text texts.old) (fit_text texts.new)
-fit_after (Ends status line) = tt
+fit_after _ = tt
 
 pub fit_sets : (held : Option Held) (old new : SetWord) → AreFit (named_sets held old new)
 fit_sets held old new = fit_after (both (fetched_set held old) (fetched_set held new))
@@ -167,17 +164,15 @@ pub answered : (old new : Set) → IsFit old → IsFit new → (answer : Answer)
 answered old new fit fit' answer c = one_answer_holds old new fit.well answer (computed old new) c (computed_holds old new fit.well fit'.well fit'.heads)
 
 pub counters_text : (held : Option Held) (s : Step (Both Set)) (o : Outcome) → AreFit s → CountersBy s held o → HasText held (next s counted) o
-counters_text held Untold o fit has = has
 counters_text held (Gives sets) _ fit (Answers answer c) =
     ap (λ (a : Answer). done (counter_text sets.old sets.new a) held 0) (answered sets.old sets.new fit.0 fit.1 answer c)
-counters_text held (Ends status line) o fit has = has
+counters_text held _ o fit has = has
 
 pub text_counters : (held : Option Held) (s : Step (Both Set)) (o : Outcome) → AreFit s → HasText held (next s counted) o → CountersBy s held o
-text_counters held Untold o fit has = has
 text_counters held (Gives sets) o fit has =
     subst (λ (x : Outcome). Tells held sets x) (sym has)
     (Answers (computed sets.old sets.new) (computed_holds sets.old sets.new fit.0.well fit.1.well fit.1.heads))
-text_counters held (Ends status line) o fit has = has
+text_counters held _ o fit has = has
 
 pub sound_counter : (held : Option Held) (old new : SetWord) → IsSound held (next (named_sets held old new) counted)
 sound_counter held old new = sound_next held (named_sets held old new) counted (sound_sets held old new) (λ sets. tt)
@@ -187,7 +182,7 @@ sound_counter held old new = sound_next held (named_sets held old new) counted (
 are_shaped : (set : Set) (images : List Typed) → AreImagesOf set images → AreShaped set images
 are_shaped set images are = record {
   all = are.one_each;
-  each = λ k lt. are.each k (get_or images k no_image) (slice_get-get_or images k no_image (omega (arith, lt, are.one_each)));
+  each = λ k lt. are.each k (get_or images k no_image) (slice_get-get_or images k no_image (omega arith));
 }
 
 -- one image for each device is what is printed
@@ -197,13 +192,9 @@ printed_of set well images are = are_of set well images (are_shaped set images a
 -- the text of what is found
 module _ (old new : Set) (f : Finding) (m : Mismatch) where
   pub no_state_is : (text : List ℕ) → f ≡ findings.NoState m → text ≡ mismatch_line m ++ no_state → text ≡ counter_text old new (answer_of old f)
-  no_state_is text is e = e ∙ ap (λ (x : Finding). counter_text old new (answer_of old x)) (sym is)
+  no_state_is text is e = cc
 
   pub state_is : (machine : Option ℕ) (images : Vec Typed Global) (r : RefusedAt) (head : List ℕ) (items : List Typed) → f ≡ findings.State m machine images r
       → head ≡ mismatch_line m ++ refused_line new r.at r.section r.reason → items ≡ images.items
       → head ++ values_text old (at_option old.machines machine) (map state_of items) ≡ counter_text old new (answer_of old f)
-  state_is machine images r head items is e e' =
-      ap (λ (h : List ℕ). h ++ values_text old (at_option old.machines machine) (map state_of items)) e
-      ∙ ap (λ (l : List Typed). (mismatch_line m ++ refused_line new r.at r.section r.reason) ++ values_text old (at_option old.machines machine)
-      (map state_of l)) e'
-      ∙ ap (λ (x : Finding). counter_text old new (answer_of old x)) (sym is)
+  state_is machine images r head items is e e' = cc

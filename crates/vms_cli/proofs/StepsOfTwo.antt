@@ -49,8 +49,7 @@ converts_after input held to x = ConvertsBy (agrees to) input held x
 pub converts_next : (input : Option (List ℕ)) (held : Option Held) (s : Step Set) (x : Outcome) → ConvertsBy (next s agrees) input held x
     → HasBy (converts_after input held) s x
 converts_next input held Untold x h = h
-converts_next input held (Gives to) x h = h
-converts_next input held (Ends status line) x h = h
+converts_next input held _ x h = h
 
 module _ {A B T : Type 0} (m : T → A) (f : A → Step B) where
   -- what the second step gave, both gave
@@ -73,9 +72,8 @@ gives_none (Gives to) i = omega arith
 gives_none (Ends status line) i = refl
 
 gives_few : (step : Step Set) (i i' : Intake) → ConvertGives step i i' → i'.given ≤ i.given + most_given newest
-gives_few Untold i i' h = h
-gives_few (Gives to) i i' h = h
 gives_few (Ends status line) i i' h = omega (arith, ap (λ (x : Intake). x.given) h)
+gives_few _ i i' h = h
 
 pub gives_next : {A T : Type 0} (m : T → A) (f : A → Step Set) (s : Step A) (t : T) (i i' : Intake) → StepAs m s (Ok t) → ConvertGives (f (m t)) i i'
     → ConvertGives (next s f) i i'

@@ -20,8 +20,8 @@ after-range front word first (suc count) n e = by (bytes_eq word (front ++ decim
   by : (b : Bool) → bytes_eq word (front ++ decimal first) ≡ b
       → (number_after front (suc first) count word ≡ Some n → (suc first ≤ n) × (n < suc first + count))
       → (first ≤ n) × (n < first + suc count)
-  by true t next = let is : Some first ≡ Some n = sym (ap found t) ∙ e in let same : first ≡ n = cc in (omega (arith, same), omega (arith, same))
-  by false t next = let r = next (sym (ap found t) ∙ e) in (omega (arith, r.0), omega (arith, r.1))
+  by true t next = let same : first ≡ n = cc in (omega arith, omega arith)
+  by false t next = let r = next (sym (ap found t) ∙ e) in (omega arith, omega arith)
 
 either-there : (x y : Option BoardWord) → IsThere x → IsThere y → IsThere (or_else x y)
 either-there None y p q = q
@@ -33,20 +33,19 @@ word-board word =
     (isa (number_after (codes "isa-") 1 NEWEST word) refl) (clock (number_after (codes "clk-") 1 NEWEST_CLOCK word) refl) where
       isa : (o : Option ℕ) → number_after (codes "isa-") 1 NEWEST word ≡ o → IsThere (option_map IsaBoard o)
       isa None e = tt
-      isa (Some level) e = let r = after-range (codes "isa-") word 1 NEWEST level e in record { first = r.0; last = omega (arith, r.1) }
+      isa (Some level) e = let r = after-range (codes "isa-") word 1 NEWEST level e in record { first = r.0; last = omega arith }
 
       clock : (o : Option ℕ) → number_after (codes "clk-") 1 NEWEST_CLOCK word ≡ o → IsThere (option_map ClockBoard o)
       clock None e = tt
-      clock (Some version) e = let r = after-range (codes "clk-") word 1 NEWEST_CLOCK version e in record { first = r.0; last = omega (arith, r.1) }
+      clock (Some version) e = let r = after-range (codes "clk-") word 1 NEWEST_CLOCK version e in record { first = r.0; last = omega arith }
 
 -- one of isa-1 to isa-4 has a level
 abbrev pub HasLevel : Option ℕ → Type 0
 HasLevel level = IfSome level IsLevel
 
 level-of : (board : Option BoardWord) → IsThere board → HasLevel (isa_level board)
-level-of None is = tt
 level-of (Some (IsaBoard level)) is = is
-level-of (Some (ClockBoard version)) is = tt
+level-of _ is = tt
 
 pub word-level : (word : List ℕ) → HasLevel (isa_level (board_word word))
 word-level word = level-of (board_word word) (word-board word)
@@ -64,10 +63,8 @@ mapped-asked ask (Some a) can = can a
 
 pub both-asked : (ask : SetWord → SetWord → Asked) (old new : Option SetWord) → ((a b : SetWord) → CanBeAsked (Some (ask a b)))
     → CanBeAsked (of_both ask old new)
-both-asked ask None None can = tt
-both-asked ask None (Some new) can = tt
-both-asked ask (Some old) None can = tt
 both-asked ask (Some old) (Some new) can = can old new
+both-asked ask _ _ can = tt
 
 pub file-asked : {A : Type 0} (ask : A → List ℕ → Asked) (what : Option A) (name : List ℕ) → IfSome what (λ a. CanBeAsked (Some (ask a name)))
     → CanBeAsked (with_file ask what name)
@@ -86,25 +83,15 @@ under-asked board newest number set script true e is may =
 under-asked board newest number set script false e is may = tt
 
 on-asked : (script : List ℕ) (board : Option BoardWord) (set : Option ShippedSet) → IsThere board → CanBeAsked (save_on script board set)
-on-asked script None None is = tt
-on-asked script None (Some set) is = tt
-on-asked script (Some board) None is = tt
 on-asked script (Some (IsaBoard level)) (Some (Isa set)) is =
     under-asked (IsaBoard level) NEWEST level set script (is_set_of NEWEST level set) refl is (λ may. may)
-on-asked script (Some (IsaBoard level)) (Some (Clock set)) is = tt
-on-asked script (Some (ClockBoard version)) (Some (Isa set)) is = tt
 on-asked script (Some (ClockBoard version)) (Some (Clock set)) is =
     under-asked (ClockBoard version) NEWEST_CLOCK version set script (is_set_of NEWEST_CLOCK version set) refl is (λ may. may)
+on-asked script _ _ is = tt
 
 pub save-asked : (board : Option BoardWord) (set : Option ShippedSet) (script : List ℕ) → IsThere board → CanBeAsked (save_of board set script)
 save-asked board set script is = either-asked (is_shelf_name script) (save_on script board set) None (on-asked script board set is) tt
 
 pub drill-asked : (level seed count : Option ℕ) → HasLevel level → CanBeAsked (drill_of level seed count)
-drill-asked None None None is = tt
-drill-asked None None (Some count) is = tt
-drill-asked None (Some seed) None is = tt
-drill-asked None (Some seed) (Some count) is = tt
-drill-asked (Some level) None None is = tt
-drill-asked (Some level) None (Some count) is = tt
-drill-asked (Some level) (Some seed) None is = tt
 drill-asked (Some level) (Some seed) (Some count) is = is
+drill-asked _ _ _ is = tt

@@ -35,9 +35,8 @@ module _ (old new : Set) (good_old : WellFormed old) (good_new : WellFormed new)
   unfolding reading
   start_on more =
       let s0 = at_start new in
-      let s1 : State = record s0 { spot = Headed } in
       unit_on new new.machines s0 (Magic magic) 0 (be32 3 ++ more) refl (AtMagic magic refl) refl
-      ∙ unit_on new new.machines s1 (Version 3) 4 more refl (AtVersion 3 (omega arith)) refl
+      ∙ unit_on new new.machines (record s0 { spot = Headed }) (Version 3) 4 more refl (AtVersion 3 (omega arith)) refl
 
   -- ---- the device at which the sets differ
 
@@ -70,7 +69,7 @@ module _ (old new : Set) (good_old : WellFormed old) (good_new : WellFormed new)
         rw z at (comes old new good_old good_new heads fails.all_in new.machines n r.0 (end_mark ++ []) i 0 old.devices images
         (from_zero (slice_get old.devices)) (omega (arith, few_devices old good_old)) ready.ready (λ j u lt e. fails.answers.before j u lt e) d image
         fails.answers.stands (at_map (default_image old) old.devices i d fails.answers.stands) (map (default_image new) new.devices)
-        (map (λ (d : Device). false) new.devices) Unknown true false (defaults_of new new.devices) (falses new.devices)
+        (map (λ (d : Device). false) new.devices) Unknown true false (defaults_of new _) (falses new.devices)
         (λ j u q le e. at_map (λ (d : Device). false) new.devices q.number q.device q.stands) (λ e. cc) 8
         (bytes_rest stream_head behind (subst IsBytes whole ok)) h)
 
@@ -100,8 +99,7 @@ module _ (old new : Set) (good_old : WellFormed old) (good_new : WellFormed new)
         let head_d = section_head i d.desc.name d.instance d.desc.version in
         let head_e = section_head b.id e.desc.name e.instance b.image.version in
         let is : head_d ++ (own ++ more) ≡ head_e ++ (s.body ++ more') =
-        sym (in_turn head_d own subs (foot i) c.rest) ∙ b.spelled ∙ ap (λ (l : List ℕ). l ++ b.after) s.whole
-        ∙ in_turn head_e s.body s.tail close b.after in
+        sym (in_turn head_d own subs _ c.rest) ∙ b.spelled ∙ ap (λ (l : List ℕ). l ++ b.after) s.whole ∙ in_turn head_e s.body s.tail close _ in
         let fits = heads_old.instance i d fails.answers.stands in
         let fits' = heads.instance b.number e b.there in
         let high : b.image.version < 2 ^ 32 = omega (arith, s.normal.version.1, fits'.1) in
@@ -131,7 +129,7 @@ module _ (old new : Set) (good_old : WellFormed old) (good_new : WellFormed new)
     -- ---- a constant
 
     own_fits : FitsAt (desc_cells (struct_cells old) d.desc) image.numbers 0
-    own_fits = fits_left (flat_map (λ s. desc_cells (struct_cells old) s.desc) d.subs) (fits_whole (device_cells old d) image.numbers image_ready.normal.cells)
+    own_fits = fits_left _ (fits_whole _ _ image_ready.normal.cells)
 
     abbrev v : ℕ
     v = d.desc.version
@@ -155,13 +153,13 @@ module _ (old new : Set) (good_old : WellFormed old) (good_new : WellFormed new)
         rw (device, same) at plain.always
 
     constant_fails : Meets → m.rule ≡ 12 → (i' j' : ℕ) → m.in_old.part ≡ parts.Device i' → m.in_old.field ≡ Some j' → IsPlain old i' j' → ⊥
-    constant_fails w twelve i' j' part field plain = by (of_device old new i p.number d p.device m fails_here)
+    constant_fails w twelve i' j' part field plain = by (of_device old new i _ d _ m fails_here)
       where
         is_device : IsDevice m.in_old.part
         is_device = rw part tt
 
         here_or : IsWithin (parts.Device i) m → m.in_old.part ≡ parts.Device i
-        here_or x = elim x.place [ inl e ↦ e | inr s ↦ absurd (struct_no_device m.in_old.part s is_device) ]
+        here_or x = elim x.place [ inl e ↦ e | inr s ↦ absurd (struct_no_device _ s is_device) ]
 
         fields : m.in_old.part ≡ parts.Device i → compare_fields ks d.desc p.device.desc v v (parts.Device i) (parts.Device p.number) (position_from 0 es)
             (position_from 0 fs) es fs ≡ Some m → ⊥
@@ -169,15 +167,13 @@ module _ (old new : Set) (good_old : WellFormed old) (good_new : WellFormed new)
             let o = position_from 0 es in
             let n = position_from 0 fs in
             let other = parts.Device p.number in
-            let two : Two = record { ks = ks; a = d.desc; b = p.device.desc; v = v; w = v; part = parts.Device i; part' = other; o = o; n = n } in
-            let clash = clashes two m twelve
-            (tables_within (struct_cells old) (struct_cells new) old.structs new.structs (length new.structs)) (λ s. struct_no_device m.in_old.part s is_device)
+            let clash = clashes (record { ks = ks; a = d.desc; b = p.device.desc; v = v; w = v; part = parts.Device i; part' = other; o = o; n = n }) m twelve
+            (tables_within _ _ _ _ _) (λ s. struct_no_device _ s is_device)
             ((well_good old good_old heads_old).constants i d fails.answers.stands) ((well_good new good_new heads).constants p.number p.device p.stands)
-            (plain_is i' j' part field plain here) es fs
-            (present_fields (struct_cells old) d.desc.fields v 0 0 d.desc.fields (from_zero (slice_get d.desc.fields)))
-            (present_fields (struct_cells new) p.device.desc.fields v 0 0 p.device.desc.fields (from_zero (slice_get p.device.desc.fields))) c in
-            devices_clash old new good_old good_new i p.number d p.device fails.answers.stands p.stands v (parts.Device i) (parts.Device p.number) image.numbers
-            w.numbers clash own_fits w.body w.rest w.rest' w.own w.spelled
+            (plain_is i' j' part field plain here) es fs (present_fields _ _ v 0 0 _ (from_zero (slice_get d.desc.fields)))
+            (present_fields _ _ v 0 0 _ (from_zero (slice_get p.device.desc.fields))) c in
+            devices_clash old new good_old good_new i _ d _ fails.answers.stands p.stands v _ _ _
+            _ clash own_fits w.body w.rest w.rest' w.own w.spelled
 
         by : OfDevice old new i p.number d p.device m → ⊥
         by (OfItsVersion r f) = omega arith
@@ -186,12 +182,12 @@ module _ (old new : Set) (good_old : WellFormed old) (good_new : WellFormed new)
             let within = part_within old new d.desc p.device.desc v (parts.Device i) (parts.Device p.number) m c in
             let o = position_from 0 es in
             let n = position_from 0 fs in
-            elim (else_some (compare_fields ks d.desc p.device.desc v v (parts.Device i) (parts.Device p.number) o n es fs) _ m c) [
+            elim (else_some _ _ m c) [
               | inl f ↦ fields (here_or within) f
               | inr f ↦
                   let kept =
                   list_all (λ t. is_kept ks d.desc p.device.desc v v (parts.Device i) (parts.Device p.number) o n (reduced v t)) p.device.desc.validate in
-                  omega (arith, (one_rule 15 kept (here (parts.Device i)) (here (parts.Device p.number)) m f.1).1)
+                  omega (arith, (one_rule 15 kept _ _ m f.1).1)
             ]
 
   -- ---- the three kinds
@@ -203,11 +199,10 @@ module _ (old new : Set) (good_old : WellFormed old) (good_new : WellFormed new)
       → ((fails : DeviceFails old new m) → Meets m fails → ⊥) → (n : ℕ) (machine : Option (List ℕ)) (states : List Image)
       → Takes new new.machines (stream_of old new m images) n machine states → ⊥
   device_untaken m r rule other late h ok never n machine states t =
-      let none = no_machine m r rule other in
       let fails = device_fails old new m h (omega arith) in
-      let stream = ap (λ (k : Option (List ℕ)). written old k images None) none in
+      let stream = ap (λ (k : Option (List ℕ)). written old k images None) (no_machine m r rule other) in
       let takes = subst (λ (l : List ℕ). Takes new new.machines l n machine states) stream t in
-      never fails (meets m fails (arrives m fails (subst IsBytes stream ok) n machine states takes))
+      never fails (meets m fails (arrives m fails (subst IsBytes stream ok) n _ states takes))
 
   machine_shown : (m : Mismatch) → first_mismatch old new ≡ Some m → m.rule ≡ 1 → (n : ℕ) (machine : Option (List ℕ)) (states : List Image)
       → Takes new new.machines (stream_of old new m images) n machine states → ⊥
@@ -217,8 +212,7 @@ module _ (old new : Set) (good_old : WellFormed old) (good_new : WellFormed new)
       let sections = written_sections old 0 old.devices images in
       let is : written old (Some l.name) images None ≡ stream_head ++ (configuration l.name ++ (sections ++ (end_mark ++ []))) =
       simp append_assoc in
-      let short = machine_short old good_old l.name l.known in
-      machine_untaken new new.machines l.name (sections ++ (end_mark ++ [])) l.unknown (omega arith) n machine states
+      machine_untaken new _ l.name _ l.unknown (omega (arith, machine_short old good_old l.name l.known)) n _ states
       (subst (λ (x : List ℕ). Takes new new.machines x n machine states) (ap (λ (k : Option (List ℕ)). written old k images None) named ∙ is) t)
 
   pub shown : (m : Mismatch) → first_mismatch old new ≡ Some m → AlwaysShown old m → IsBytes (stream_of old new m images) → Shows old new m images

@@ -74,7 +74,7 @@ module _ (two : Two) (m : Mismatch) (twelve : m.rule ≡ 12) where
   by_cover : (c : Bool) (e f : Entry)
       → failing_pair (if c then (9, same_rest o n e.rest f.rest) ∷ [] else uncovered_rules ks a b v w part part' o n e f) (in_field part e.index)
       (in_field part' f.index) ≡ Some m → Constants e f
-  by_cover true e f h = absurd (other 9 (omega arith) (one_rule 9 (same_rest o n e.rest f.rest) (in_field part e.index) (in_field part' f.index) m h).1)
+  by_cover true e f h = absurd (other 9 (omega arith) (one_rule 9 _ _ _ m h).1)
   by_cover false e f h =
       let p = in_field part e.index in
       let q = in_field part' f.index in
@@ -96,10 +96,9 @@ module _ (two : Two) (m : Mismatch) (twelve : m.rule ≡ 12) where
     clash_here : (e f : Entry) → slice_get a.fields e.index ≡ Some e.field → presence v e.field.test e.field.since ≡ Some e.rest
         → slice_get b.fields f.index ≡ Some f.field → Constants e f → Clash e f
     clash_here e f is there is' c =
-        let fit = constant_fits a.fields e.index e.field fits is in
-        let fit' = constant_fits b.fields f.index f.field fits' is' in
+        let fit' = constant_fits _ _ _ fits' is' in
         let rest : e.rest ≡ None = cc (there, plain e.index e.field (rw c.place) is) in
-        record { constants = differ e.field.item f.field.item fit fit' c.item c.constant; rest = rest; rest' = no_left o n e.rest f.rest rest c.rest }
+        record { constants = differ _ _ (constant_fits _ _ _ fits is) fit' c.item c.constant; rest = rest; rest' = no_left o n e.rest f.rest rest c.rest }
 
     pub clashes : (es fs : List Entry) → AreFields a.fields v es → AreFields b.fields w fs → compare_fields ks a b v w part part' o n es fs ≡ Some m
         → Clashes two es fs
@@ -109,7 +108,7 @@ module _ (two : Two) (m : Mismatch) (twelve : m.rule ≡ 12) where
     clashes [] (f ∷ fs) known known' h =
         let same : record { rule = 6; in_old = here part; in_new = in_field part' f.index } ≡ m = cc in absurd (other 6 (omega arith) (rw (← same)))
     clashes (e ∷ es) (f ∷ fs) known known' h =
-        elim (else_some (failing_pair (pair_rules ks a b v w part part' o n e f) (in_field part e.index) (in_field part' f.index)) _ m h) [
+        elim (else_some _ _ m h) [
           | inl k ↦ inl (clash_here e f known.0.0 known.0.1 known'.0.0 (by_cover (is_covered e.field.item e.field.count f.field.item) e f k))
           | inr k ↦ elim (else_some (pair_structs ks a b v w part part' o n e.field.item f.field.item) _ m k.1) [
             | inl s ↦ absurd (not_struct (structs_answer within e.field.item f.field.item s))

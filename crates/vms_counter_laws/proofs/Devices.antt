@@ -32,7 +32,7 @@ module _ (old new : Set) (good_old : WellFormed old) (good_new : WellFormed new)
     waits_next : (came : List Bool) (i : ℕ) (d : Device) (p : Pair old new good_old all_in i d) → slice_get old.devices i ≡ Some d → Waits came i
         → Waits (slice_set came p.number true) (suc i)
     waits_next came i d p e waits j d' q le e' =
-        at_other came p.number q.number true (λ same. two_apart i j d d' (omega arith) e e' p q (sym same)) ∙ waits j d' q (omega arith) e'
+        at_other came _ _ true (λ same. two_apart i j d d' (omega arith) e e' p q (sym same)) ∙ waits j d' q (omega arith) e'
 
     pub comes : (c i : ℕ) (ds : List Device) (ims : List Image) → ((j : ℕ) → slice_get old.devices (i + j) ≡ slice_get ds j) → i + length ds ≤ 4294967296
         → ((j : ℕ) (d : Device) (image : Image) → slice_get ds j ≡ Some d → slice_get ims j ≡ Some image → IsReady old d image)

@@ -34,7 +34,7 @@ pub first_some : {X Y : Type 0} (f : ℕ → X → Option Y) (i : ℕ) (xs : Lis
 first_some f i [] m h = absurd (cc)
 first_some f i (x ∷ xs) m h =
     let zero_more : i + 0 ≡ i = omega arith in
-    elim (else_some (f i x) (first_answer f (suc i) xs) m h) [
+    elim (else_some _ _ m h) [
       | inl e ↦ record { number = 0; item = x; stands = refl; answers = rw zero_more e; before = λ k y lt e. absurd (omega arith) }
       | inr e ↦
           let r = first_some f (suc i) xs m e.1 in
@@ -79,7 +79,7 @@ module _ (structs : List Comparer) (within : StructsWithin structs) (a b : Desc)
   pair_within : (e f : Entry) (m : Mismatch)
       → failing_pair (pair_rules structs a b v w part part' o n e f) (in_field part e.index) (in_field part' f.index) ≡ Some m → IsWithin part m
   pair_within e f m h =
-      failing_within (pair_rules structs a b v w part part' o n e f) _ _ m (later (is_covered e.field.item e.field.count f.field.item)) h where
+      failing_within _ _ _ m (later (is_covered e.field.item e.field.count f.field.item)) h where
         later : (c : Bool) → AreLater (if c then (9, same_rest o n e.rest f.rest) ∷ [] else uncovered_rules structs a b v w part part' o n e f)
         later true = (omega arith, tt)
         later false = (omega arith, (omega arith, (omega arith, (omega arith, (omega arith, (omega arith, tt))))))
@@ -94,9 +94,9 @@ module _ (structs : List Comparer) (within : StructsWithin structs) (a b : Desc)
       within_of part (record { rule = 5; in_old = in_field part e.index; in_new = here part' }) m (cc) (record { rule = omega arith; place = inl refl })
   fields_within [] (f ∷ fs) m h =
       within_of part (record { rule = 6; in_old = here part; in_new = in_field part' f.index }) m (cc) (record { rule = omega arith; place = inl refl })
-  fields_within (e ∷ es) (f ∷ fs) m h = elim (else_some (failing_pair (pair_rules structs a b v w part part' o n e f) _ _) _ m h) [
+  fields_within (e ∷ es) (f ∷ fs) m h = elim (else_some _ _ m h) [
     | inl k ↦ pair_within e f m k
-    | inr k ↦ elim (else_some (pair_structs structs a b v w part part' o n e.field.item f.field.item) _ m k.1) [
+    | inr k ↦ elim (else_some _ _ m k.1) [
       | inl s ↦ let r = structs_within e.field.item f.field.item m s in record { rule = r.0; place = inr r.1 }
       | inr s ↦ fields_within es fs m s.1
     ]
@@ -113,9 +113,9 @@ desc_within structs x y a b v w part part' m within h =
     let fs = present y b w in
     let o : ℕ → Option ℕ = λ k. position_from 0 es k in
     let n : ℕ → Option ℕ = λ k. position_from 0 fs k in
-    elim (else_some (compare_fields structs a b v w part part' o n es fs) _ m h) [
-      | inl k ↦ fields_within structs within a b v w part part' o n es fs m k
-      | inr k ↦ validations_within structs within a b v w part part' o n m k.1
+    elim (else_some _ _ m h) [
+      | inl k ↦ fields_within _ within a b v w part part' o n es fs m k
+      | inr k ↦ validations_within _ within a b v w part part' o n m k.1
     ]
 
 struct_is : (i : ℕ) (m : Mismatch) → IsWithin (parts.Struct i) m → (4 < m.rule) × IsStruct m.in_old.part
@@ -132,8 +132,7 @@ tables_within x y olds news (suc k) i j m h =
     one_more (λ (c : Comparer). (i : ℕ) (m : Mismatch) → c i ≡ Some m → (4 < m.rule) × IsStruct m.in_old.part) no_comparer (λ i m h. absurd (cc)) earlier
     (λ j i m h. within i j m h) (comparer_of earlier x y olds (length earlier) b)
     (λ i m h.
-    let a = get_or olds i no_desc in
-    struct_is i m (desc_within earlier x y a b a.version b.version (parts.Struct i) (parts.Struct (length earlier)) m within h)) j i m h
+    struct_is i m (desc_within _ x y (get_or olds i no_desc) b _ _ _ _ m within h)) j i m h
 
 -- ---- subsections and devices
 
@@ -146,19 +145,18 @@ struct_no_device (parts.Struct i) s d = d
 struct_no_device _ s d = s
 
 sub_part : (i j : ℕ) (m : Mismatch) → IsWithin (parts.Sub i j) m → (4 < m.rule) × (IsDevice m.in_old.part → ⊥)
-sub_part i j m r = (r.rule, λ d. elim r.place [ inl e ↦ rw e at d | inr s ↦ struct_no_device m.in_old.part s d ])
+sub_part i j m r = (r.rule, λ d. elim r.place [ inl e ↦ rw e at d | inr s ↦ struct_no_device _ s d ])
 
 module _ (old new : Set) where
   set_tables : StructsWithin (comparers (struct_cells old) (struct_cells new) old.structs new.structs (length new.structs))
-  set_tables = tables_within (struct_cells old) (struct_cells new) old.structs new.structs (length new.structs)
+  set_tables = tables_within _ _ _ _ _
 
   pub part_within : (a b : Desc) (v : ℕ) (part part' : Part) (m : Mismatch) → comparing old new a b v part part' ≡ Some m → IsWithin part m
-  part_within a b v part part' m h =
-      desc_within (comparers (struct_cells old) (struct_cells new) old.structs new.structs (length new.structs)) _ _ a b v v part part' m set_tables h
+  part_within a b v part part' m h = desc_within _ _ _ a b v v part part' m set_tables h
 
   no_sub : (i j k : ℕ) (m : Mismatch) → record { rule = 13; in_old = here (parts.Sub i j); in_new = here (parts.Device k) } ≡ m
       → (4 < m.rule) × (IsDevice m.in_old.part → ⊥)
-  no_sub i j k m e = sub_part i j m (within_of (parts.Sub i j) _ m e (record { rule = omega arith; place = inl refl }))
+  no_sub i j k m e = sub_part i j m (within_of _ _ m e (record { rule = omega arith; place = inl refl }))
 
   sub_within : (i k j : ℕ) (s : Sub) (l : Option ℕ) (t : Option Sub) (m : Mismatch) → compare_sub old new i k j s l t ≡ Some m
       → (4 < m.rule) × (IsDevice m.in_old.part → ⊥)
@@ -178,13 +176,13 @@ module _ (old new : Set) where
 
   pub of_device : (i k : ℕ) (d e : Device) (m : Mismatch) → compare_device old new i d (Some k) (Some e) ≡ Some m → OfDevice i k d e m
   of_device i k d e m h =
-      elim (else_some (failing_pair ((4, is_version_of e.desc d.desc.version) ∷ []) (here (parts.Device i)) (here (parts.Device k))) _ m h) [
+      elim (else_some _ _ m h) [
         | inl r ↦ let o = one_rule 4 (is_version_of e.desc d.desc.version) (here (parts.Device i)) (here (parts.Device k)) m r in Version o.1 o.0
-        | inr r ↦ elim (else_some (comparing old new d.desc e.desc d.desc.version (parts.Device i) (parts.Device k)) _ m r.1) [
-          | inl c ↦ Own (part_within d.desc e.desc d.desc.version (parts.Device i) (parts.Device k) m c).rule c
+        | inr r ↦ elim (else_some _ _ m r.1) [
+          | inl c ↦ Own (part_within d.desc e.desc _ _ _ m c).rule c
           | inr c ↦
-              let f = first_some (compare_subs old new i k e) 0 d.subs m c.1 in
-              let s = sub_within i k (0 + f.number) f.item (find_sub 0 e.subs f.item.desc.name) _ m f.answers in
+              let f = first_some _ 0 d.subs m c.1 in
+              let s = sub_within i k _ f.item _ _ m f.answers in
               Below s.0 s.1
         ]
       ]
@@ -212,13 +210,13 @@ module _ (old new : Set) where
   which_fails m h =
       let old_in = λ (i : ℕ) (d : Device). failing_pair ((2, is_in new d) ∷ []) (here (parts.Device i)) (here parts.Set) in
       let new_in = λ (i : ℕ) (d : Device). failing_pair ((3, is_in old d) ∷ []) (here parts.Set) (here (parts.Device i)) in
-      elim (else_some (failing_pair ((1, list_all (is_one_of new.machines) old.machines) ∷ []) (here parts.Set) (here parts.Set)) _ m h) [
+      elim (else_some _ _ m h) [
         | inl r ↦ let one = one_rule 1 (list_all (is_one_of new.machines) old.machines) (here parts.Set) (here parts.Set) m r in inl (one.0, one.1)
         | inr r ↦ elim (else_some (first_answer old_in 0 old.devices) _ m r.1) [
           | inl s ↦ let f = first_some old_in 0 old.devices m s in inr (inl (one_rule 2 (is_in new f.item) _ _ m f.answers).1)
           | inr s ↦ elim (else_some (first_answer new_in 0 new.devices) _ m s.1) [
             | inl t ↦ let f = first_some new_in 0 new.devices m t in inr (inr (inl (one_rule 3 (is_in old f.item) _ _ m f.answers).1))
-            | inr t ↦ inr (inr (inr (record { all_in = s.0; answers = first_some (λ i d. compared old new i d) 0 old.devices m t.1 })))
+            | inr t ↦ inr (inr (inr (record { all_in = s.0; answers = first_some (λ i d. compared old new i d) 0 _ m t.1 })))
           ]
         ]
       ]
@@ -230,12 +228,12 @@ module _ (old new : Set) where
     | inr (inr (inl three)) ↦ absurd (omega arith)
     | inr (inr (inr d)) ↦
         let f = d.answers in
-        absurd (omega (arith, compared_early (0 + f.number) f.item (paired_device old new f.item) _ m f.answers))
+        absurd (omega (arith, compared_early _ f.item _ _ m f.answers))
   ]
 
   pub device_fails : (m : Mismatch) → first_mismatch old new ≡ Some m → 3 < m.rule → DeviceFails m
   device_fails m h late = elim (which_fails m h) [
-    | inl r ↦ absurd (omega (arith, r.1))
+    | inl r ↦ absurd (omega arith)
     | inr (inl two) ↦ absurd (omega arith)
     | inr (inr (inl three)) ↦ absurd (omega arith)
     | inr (inr (inr d)) ↦ d

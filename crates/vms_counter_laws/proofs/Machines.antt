@@ -21,8 +21,7 @@ pub same_head : (id id' : ℕ) (name name' : List ℕ) (instance instance' v v' 
 same_head id id' name name' instance instance' v v' rest rest' i_fits i_fits' v_fits v_fits' h =
     let long : length name ≡ length name' = cc in
     let more : ((name ++ be32 instance) ++ be32 v) ++ rest ≡ ((name' ++ be32 instance') ++ be32 v') ++ rest' = cc in
-    let split : name ++ (be32 instance ++ (be32 v ++ rest)) ≡ name' ++ (be32 instance' ++ (be32 v' ++ rest')) = simp append_assoc at more in
-    let a = apart name name' (be32 instance' ++ (be32 v' ++ rest')) (be32 instance ++ (be32 v ++ rest)) long split in
+    let a = apart name name' (be32 instance' ++ (be32 v' ++ rest')) (be32 instance ++ (be32 v ++ rest)) long (simp append_assoc at more) in
     let b = apart (be32 instance) (be32 instance') (be32 v' ++ rest') (be32 v ++ rest) refl a.1 in
     let c = apart (be32 v) (be32 v') rest' rest refl b.1 in
     record { names = a.0; instances = same_be32 instance instance' i_fits i_fits' b.0; versions = same_be32 v v' v_fits v_fits' c.0; rests = c.1 }
@@ -43,11 +42,11 @@ lacks names (m ∷ machines) h =
     let by : (b : Bool) → is_one_of names m ≡ b → (b && list_all (is_one_of names) machines) ≡ false → Lacks names (m ∷ machines) = elim [
       | true ↦ λ e k.
           let r = lacks names machines k in
-          record { name = r.name; is = rw e r.is; unknown = r.unknown; known = or_right (bytes_eq m r.name) (is_one_of machines r.name) r.known }
+          record { name = r.name; is = rw e r.is; unknown = r.unknown; known = or_right _ _ r.known }
       | false ↦ λ e k.
-          record { name = m; is = rw e; unknown = e; known = or_left (bytes_eq m m) (is_one_of machines m) ((bytes_eq-Decides m m).1 refl) }
+          record { name = m; is = rw e; unknown = e; known = or_left _ _ ((bytes_eq-Decides m m).1 refl) }
     ] in
-    by (is_one_of names m) refl h
+    by _ refl h
 
 -- ---- bytes
 
@@ -55,8 +54,7 @@ lacks names (m ∷ machines) h =
 first_byte : (set : Set) (footed : Bool) (images : List Image) (order : List ℕ) (sections more : List ℕ) → SectionsSpell set footed images order sections
     → get_or (sections ++ (0x00 ∷ more)) 0 0 ≡ 0x07 → ⊥
 first_byte set footed images [] sections more spelled h = let f : ◌≡◌ {A = ℕ} 0x00 0x07 = rw spelled at h in cc
-first_byte set footed images (k ∷ order) sections more spelled h =
-    by (slice_get set.devices k) (slice_get images k) spelled.2
+first_byte set footed images (k ∷ order) sections more spelled h = by _ _ spelled.2
   where
     by : (o : Option Device) (p : Option Image) → HasSection set footed k o p spelled.0 → ⊥
     by (Some d) (Some image) s =
@@ -73,7 +71,7 @@ by_machine names (Some other) name named more more' unknown short is no_mark h =
     let h' : configuration name ++ more' ≡ configuration other ++ more = rw is.2 at h in
     let bytes : be32 (length name) ≡ be32 (length other) = cc in
     let rest : name ++ more' ≡ other ++ more = cc in
-    let same = (apart name other more more' (same_be32 (length name) (length other) short (omega (arith, is.1)) bytes) rest).0 in
+    let same = (apart name other more more' (same_be32 _ _ short (omega arith) bytes) rest).0 in
     absurd (cc (is.0))
 
 pub machine_untaken : (set : Set) (names : List (List ℕ)) (name more : List ℕ) → is_one_of names name ≡ false → length name < 2 ^ 32
@@ -82,6 +80,5 @@ machine_untaken set names name more unknown short n machine images t =
     let s = t.stream in
     let tail = 0x00 ∷ (s.tail ++ t.rest) in
     let is : stream_head ++ (configuration name ++ more) ≡ stream_head ++ (s.named ++ (s.sections ++ tail)) = t.prefix ∙ rw s.whole (simp append_assoc) in
-    by_machine names machine name s.named (s.sections ++ tail) more unknown short s.configured
-    (λ none e. first_byte set s.footed images s.order s.sections (s.tail ++ t.rest) s.spelled e)
+    by_machine names _ name _ _ more unknown short s.configured (λ none e. first_byte set _ images _ _ _ s.spelled e)
     (apart stream_head stream_head (s.named ++ (s.sections ++ tail)) (configuration name ++ more) refl (sym (sym is))).1

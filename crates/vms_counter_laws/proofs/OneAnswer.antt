@@ -8,14 +8,14 @@ use Rattle.vms_counter_laws.proofs.Facade.{Later, NoneShows, Counters, Agree, La
 more_known : (m : List ℕ) (machines : List (List ℕ)) (o : Option (List ℕ)) → IfSome o (λ x. is_one_of machines x ≡ true)
     → IfSome o (λ x. is_one_of (m ∷ machines) x ≡ true)
 more_known m machines None h = tt
-more_known m machines (Some x) h = or_right (bytes_eq m x) (is_one_of machines x) h
+more_known m machines (Some x) h = or_right _ _ h
 
 lacking_known : (names machines : List (List ℕ)) → IfSome (lacking names machines) (λ m. is_one_of machines m ≡ true)
 lacking_known names [] = tt
 lacking_known names (m ∷ machines) =
     elim (is_one_of names m) as (λ b. IfSome (if b then lacking names machines else Some m) (λ x. is_one_of (m ∷ machines) x ≡ true)) [
-      | true ↦ more_known m machines (lacking names machines) (lacking_known names machines)
-      | false ↦ or_left (bytes_eq m m) (is_one_of machines m) ((bytes_eq-Decides m m).1 refl)
+      | true ↦ more_known m _ _ (lacking_known names machines)
+      | false ↦ or_left _ _ ((bytes_eq-Decides m m).1 refl)
     ]
 
 pub machine_known : (old new : Set) (m : Mismatch) → IfSome (machine_for old new m) (λ x. is_one_of old.machines x ≡ true)
@@ -57,9 +57,8 @@ module _ (old new : Set) where
       → IsFirst old new m b (candidates old new m) → FaultOf (stream_of old new m a) r n → FaultOf (stream_of old new m b) s k
       → State m (machine_for old new m) a r ≡ State m (machine_for old new m) b s
   both_found m a b r s n k ok x y f g =
-      let same = one_first m a b (candidates old new m) x y in
-      let refusals = one_refusal (stream_of old new m a) r s n k ok f (rw (← same) at g) in
-      rw (same, refusals)
+      let same = one_first m a b _ x y in
+      rw (same, (one_refusal _ r s n k ok f (rw (← same) at g)))
 
   module _ (well : WellFormed old) where
     one_answer : (a b : Answer) → Counters old new a → Counters old new b → a ≡ b

@@ -19,13 +19,13 @@ first_shows old new m images _ (Later others more none first) = first_shows old 
 
 pub named_holds : NamedLaw
 named_holds old new m _ images refusal (Finds _ _ _ size e first fault) =
-    record { ready = (first_shows old new m images (candidates old new m) first).ready; size = size; fault = fault }
+    record { ready = (first_shows old new m images _ first).ready; size = size; fault = fault }
 
 -- ---- mismatches that always have one
 
 pub always_holds : AlwaysLaw
 always_holds old new good_old good_new heads_old heads m h kind ready =
-    let ok = stream_bytes old new good_old m (default_images old) in
+    let ok = stream_bytes old new good_old m _ in
     let s = shown old new good_old good_new heads_old heads ready m h kind ok in
     by s (either_holds new new.machines good_new heads (stream_of old new m (default_images old)) ok)
   where
@@ -81,7 +81,7 @@ module _ (old new : Set) (well : WellFormed old) (good : WellFormed new) (heads 
   by_reading images ok ready (Some (Accepted n end)) e =
       λ s. s.untaken n end.machine end.images (accepted_holds new new.machines good heads (stream images) n end ok e)
   by_reading images ok ready (Some (Refused place section reason size)) e =
-      let fault = (state_refuses new new.machines).refused (stream images) place section reason size ok e in
+      let fault = (state_refuses new _).refused (stream images) place section reason size ok e in
       let never = never_both_holds new new.machines good heads (stream images) ok in
       (record { ready = ready; untaken = λ n machine states t. never n machine states place section reason size t fault }, (size, fault))
 
@@ -90,9 +90,9 @@ module _ (old new : Set) (well : WellFormed old) (good : WellFormed new) (heads 
     where
       by : (b : Bool) → all_ready old old.devices images ≡ b → Tried images (if b then refusal_of (read images) else None)
       by true e =
-          let r = all_ready_is old old.devices images e in
+          let r = all_ready_is old _ images e in
           by_reading images (stream_bytes old new well m images) (record { one_each = r.0; ready = r.1 }) (read images) refl
-      by false e = λ s. absurd (cc (is_all_ready old old.devices images s.ready.one_each s.ready.ready, e))
+      by false e = λ s. absurd (cc (is_all_ready old _ images s.ready.one_each s.ready.ready, e))
 
   -- the result of the list of candidates
   abbrev Comes : List (List Image) → Answer → Type 0
@@ -112,7 +112,7 @@ module _ (old new : Set) (well : WellFormed old) (good : WellFormed new) (heads 
     where
       by : (o : Option Refusal) → Tried images o → Comes more (first_refused old new m more)
           → Comes (images ∷ more) (or_next old new m images o (first_refused old new m more))
-      by None t c = later images more t (first_refused old new m more) c
+      by None t c = later images more t _ c
       by (Some r) t c = (refl, refl, Here more t.0, t.1)
 
   counted : first_mismatch old new ≡ Some m → (a : Answer) → Comes (candidates old new m) a → Counters old new a

@@ -6,26 +6,25 @@ use Rattle.vms_descfile.proofs.Facade.{integer_of, judged, list_file, natural_fi
 use Rattle.vms_descfile.proofs.ObjectLaws.{kept, listed}
 
 pub next_good : {A B : Type 0} (x : Answer A) (a : A) (f : A → Answer B) (r : Answer B) → x ≡ good a → f a ≡ r → next x f ≡ r
-next_good x a f r e h = ap (λ y. next y f) e ∙ h
+next_good x a f r e h = cc
 
 pub judged_good : {A : Type 0} (b : Bool) (x r : Answer A) → b ≡ true → x ≡ r → judged b x ≡ r
-judged_good b x r e h = ap (λ c. judged c x) e ∙ h
+judged_good b x r e h = cc
 
 -- ---- members
 
 pub at_good : {A : Type 0} (says : Data → Answer A) (key : List ℕ) (d e : Data) (a : A) → get key d ≡ Some e → says e ≡ good a → at says key d ≡ good a
-at_good says key d e a there said = ap (member_of says key) there ∙ ap (under key) said
+at_good says key d e a there said = cc
 
 pub maybe_good : {A B : Type 0} (says : Data → Answer B) (file : A → Data) (shown : A → B) (key : List ℕ) (d : Data) (o : Option A)
     → get key d ≡ option_map file o → ((a : A) → o ≡ Some a → says (file a) ≡ good (shown a)) → maybe_at says key d ≡ good (option_map shown o)
 maybe_good says file shown key d None there said = ap (member_or None (λ e. changed Some (says e)) key) there
-maybe_good says file shown key d (Some a) there said =
-    ap (member_or None (λ e. changed Some (says e)) key) there ∙ ap (λ x. under key (changed Some x)) (said a refl)
+maybe_good says file shown key d (Some a) there said = cc (said a refl)
 
 pub default_good : {A : Type 0} (says : Data → Answer A) (key : List ℕ) (d e : Data) (default a : A) (b : Bool)
     → get key d ≡ kept b e → (b ≡ true → default ≡ a) → (b ≡ false → says e ≡ good a) → at_or default says key d ≡ good a
-default_good says key d e default a true there is said = ap (member_or default says key) there ∙ ap good (is refl)
-default_good says key d e default a false there is said = ap (member_or default says key) there ∙ ap (under key) (said refl)
+default_good says key d e default a true there is said = cc (is refl)
+default_good says key d e default a false there is said = cc (said refl)
 
 -- ---- lists
 
@@ -44,8 +43,7 @@ pub list_or_good : {A B : Type 0} (says : Data → Answer B) (file : A → Data)
     → get key d ≡ listed file xs → ((k : ℕ) (x : A) → slice_get xs k ≡ Some x → says (file x) ≡ good (shown x))
     → at_or [] (list_of says) key d ≡ good (map shown xs)
 list_or_good says file shown key d [] there said = ap (member_or [] (list_of says) key) there
-list_or_good says file shown key d (x ∷ xs) there said =
-    ap (member_or [] (list_of says) key) there ∙ ap (under key) (list_good says file shown (x ∷ xs) said)
+list_or_good says file shown key d (x ∷ xs) there said = cc (list_good says file shown (x ∷ xs) said)
 
 -- ---- numbers
 
@@ -53,7 +51,7 @@ pub natural_good : (most n : ℕ) → n ≤ most → natural most (natural_file 
 natural_good most n le = ap (λ (b : Bool). if b then good n else bad []) (le-leb n most le)
 
 pub integer_good : (z : ℤ) → (int_le (negsuc 9223372036854775807) z && int_lt z (pos 18446744073709551616)) ≡ true → integer_of (integer_file z) ≡ good z
-integer_good z fits = ap (λ (b : Bool). integer_of (if b then number (of_integer z) else null)) fits ∙ by_sign z
+integer_good z fits = cc (by_sign z)
   where
     by_sign : (z : ℤ) → integer_of (number (of_integer z)) ≡ good z
     by_sign (pos n) = refl

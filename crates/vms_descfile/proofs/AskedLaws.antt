@@ -21,8 +21,7 @@ first_same x y f e = ap (λ a. next a f) e
 module _ {A : Type 0} (key : List ℕ) (d : Data) (none : has key d ≡ false) where
   or_default : (a : A) (says others : Data → Answer A) → at_or a says key d ≡ at_or a others key d
   or_default a says others =
-      let gone = missing (get key d) none in
-      let default : (reads : Data → Answer A) → at_or a reads key d ≡ good a = λ reads. ap (λ o. member_or a reads key o) gone in
+      let default : (reads : Data → Answer A) → at_or a reads key d ≡ good a = λ reads. ap (λ o. member_or a reads key o) (missing (get key d) none) in
       default says ∙ sym (default others)
 
 -- ---- fields

@@ -12,38 +12,23 @@ member_nests k no_members e is = absurd (cc)
 member_nests k (member l f ms) e is = go (slice_cmp nat_cmp k l) (member_nests k ms e) is
   where
     go : (o : Ordering) → (get_member k ms ≡ Some e → depth e ≤ members_depth ms) → match_ordering o (get_member k ms) (Some f) (get_member k ms) ≡ Some e → depth e ≤ max (depth f) (members_depth ms)
-    go Less inside is = omega (arith, inside is)
     go Equal inside is = subst (λ (x : Data). depth x ≤ max (depth f) (members_depth ms)) (same_Some f e is) (omega arith)
-    go Greater inside is = omega (arith, inside is)
+    go _ inside is = omega (arith, inside is)
 
 get_nests : (k : List ℕ) (d e : Data) → get k d ≡ Some e → suc (depth e) ≤ depth d
-get_nests k null e is = absurd (cc)
-get_nests k (boolean b) e is = absurd (cc)
-get_nests k (number n) e is = absurd (cc)
-get_nests k (string s) e is = absurd (cc)
-get_nests k (array ds) e is = absurd (cc)
 get_nests k (object ms) e is = omega (arith, member_nests k ms e is)
+get_nests k _ e is = absurd (cc)
 
 abbrev or_this : Pair → Answer Pair → Pair
 or_this p (good q) = q
 or_this p (bad path) = p
 
 pair_nests : (d : Data) (p : Pair) → two_of d ≡ good p → (depth p.first ≤ depth d) × (depth p.second ≤ depth d)
-pair_nests null p is = absurd (cc)
-pair_nests (boolean b) p is = absurd (cc)
-pair_nests (number n) p is = absurd (cc)
-pair_nests (string s) p is = absurd (cc)
-pair_nests (object ms) p is = absurd (cc)
-pair_nests (array no_items) p is = absurd (cc)
-pair_nests (array (item a no_items)) p is = absurd (cc)
 pair_nests (array (item a (item b no_items))) p is =
     let whole = depth (array (item a (item b no_items))) in
-    let two : Pair = record { first = a; second = b } in
-    let same : two ≡ p = ap (or_this p) is in
-    let one : depth a ≤ whole = omega arith in
-    let other : depth b ≤ whole = omega arith in
-    (subst (λ (q : Pair). depth q.first ≤ whole) same one, subst (λ (q : Pair). depth q.second ≤ whole) same other)
-pair_nests (array (item a (item b (item c ds)))) p is = absurd (cc)
+    let same : (record { first = a; second = b }) ≡ p = ap (or_this p) is in
+    (subst (λ (q : Pair). depth q.first ≤ whole) same (omega arith), subst (λ (q : Pair). depth q.second ≤ whole) same (omega arith))
+pair_nests _ p is = absurd (cc)
 
 -- ---- what a value says depends on what its parts say
 
@@ -71,25 +56,21 @@ as_same : (form : Form) (inner other : Data → Answer Formula) (scope : Scope) 
 as_same forms.Not inner other scope d same =
     ap (changed _) (of_same inner other (codes "not") (get (codes "not") d) (λ e is. same e (get_nests (codes "not") d e is)))
 as_same (forms.Two join) inner other scope d same =
-    pair_same inner other (key_of join) (joined join) (get (key_of join) d) (λ e is f nests. same f (omega (arith, nests, get_nests (key_of join) d e is)))
+    pair_same inner other (key_of join) (joined join) (get (key_of join) d) (λ e is f nests. same f (omega (arith, get_nests (key_of join) d e is)))
 as_same (forms.Leaf leaf) inner other scope d same = refl
 
 -- a value without parts is no test
 flat_test : (n : ℕ) (scope : Scope) (d : Data) → depth d ≤ 0 → test_within (suc n) scope d ≡ test_within 0 scope d
-flat_test n scope null flat = refl
-flat_test n scope (boolean b) flat = refl
-flat_test n scope (number m) flat = refl
-flat_test n scope (string s) flat = refl
-flat_test n scope (array ds) flat = absurd (omega (arith, flat))
-flat_test n scope (object ms) flat = absurd (omega (arith, flat))
+flat_test n scope (array ds) flat = absurd (omega arith)
+flat_test n scope (object ms) flat = absurd (omega arith)
+flat_test n scope _ flat = refl
 
 within_same : (n m : ℕ) (scope : Scope) (d : Data) → depth d ≤ n → depth d ≤ m → test_within n scope d ≡ test_within m scope d
 within_same zero zero scope d one other = refl
 within_same zero (suc m) scope d one other = sym (flat_test m scope d one)
 within_same (suc n) zero scope d one other = flat_test n scope d other
 within_same (suc n) (suc m) scope d one other =
-    as_same (form_of d) (test_within n scope) (test_within m scope) scope d
-    (λ e nests. within_same n m scope e (omega (arith, nests, one)) (omega (arith, nests, other)))
+    as_same (form_of d) (test_within n scope) (test_within m scope) scope d (λ e nests. within_same n m scope e (omega arith) (omega arith))
 
 pub depth_holds : DepthLaw
 depth_holds scope d few n enough = within_same n DEEPEST scope d enough few

@@ -35,12 +35,11 @@ own_test_back asks names may found t small fits well =
 
 counter_back : (asks : Bool) (d : Desc) (i : ℕ) (c : Count) → Found asks d → count_names_well d i c ≡ true → (k : ℕ) → counter_in c ≡ Some k
     → number_in (asked asks (own_names d.fields)) (get_or (own_names d.fields) k []) ≡ good (number_shown asks k)
-counter_back asks d i One found well k is = cc
-counter_back asks d i (Fixed n) found well k is = cc
 counter_back asks d i (Counted by capacity) found well k is =
     let same : by ≡ k = cc in
     subst (λ (j : ℕ). number_in (asked asks (own_names d.fields)) (get_or (own_names d.fields) j []) ≡ good (number_shown asks j)) same
     (earlier_found asks d i by found (and_parts (is_earlier_in d i by) (is_counting (slice_get d.fields by)) well).0)
+counter_back asks d i _ found well k is = cc
 
 field_test_back : (asks : Bool) (d : Desc) (i : ℕ) (o : Option Formula) → Found asks d → test_names_well d i o ≡ true → is_small_optional o ≡ true → FitsOptional o
     → (t : Formula) → o ≡ Some t → test_of (own_scope asks (own_names d.fields)) (test_file (own_names d.fields) [] t) ≡ good (test_shown asks t)
@@ -58,11 +57,10 @@ module _ (asks : Bool) (n : ℕ) (d : Desc) (rules : List Bool) (c : Clean n d r
       let names = and_parts (test_names_well d i f.test) (count_names_well d i f.count) clean.1.1.1.0 in
       let default = and_parts (defaults_well f.item f.default) (counts_well (counted i d.fields) f.default) clean.1.1.1.1.1.0 in
       let small = and_parts (nat_le (length f.former) 8 && is_small_optional f.test) (is_small_item f.item) clean.1.1.1.1.1.1.0 in
-      let small_test = and_parts (nat_le (length f.former) 8) (is_small_optional f.test) small.0 in
       let fit = fits.fields i f there in
       field_back asks (own_names d.fields) (asked asks (own_names d.fields)) (is_earlier_in d i) f fit default.0 (record {
         counter = counter_back asks d i f.count found names.1;
-        test = field_test_back asks d i f.test found names.0 small_test.1 fit.test;
+        test = field_test_back asks d i f.test found names.0 (and_parts (nat_le (length f.former) 8) (is_small_optional f.test) small.0).1 fit.test;
       })
 
   validate_back : (i : ℕ) (t : Formula) → slice_get d.validate i ≡ Some t
@@ -74,13 +72,11 @@ module _ (asks : Bool) (n : ℕ) (d : Desc) (rules : List Bool) (c : Clean n d r
 -- ---- names
 
 field_named : (own : List (List ℕ)) (f : Field) → text_or_none (option_and_then as_str (get (codes "name") (field_file own f))) ≡ f.name
-field_named own f =
-    ap (λ (d : Data). text_or_none (option_and_then as_str (get (codes "name") d))) (field_tabled own f)
-    ∙ ap (λ (o : Option Data). text_or_none (option_and_then as_str o)) (got (codes "name") (field_table own f) (Some (string f.name)) refl)
+field_named own f = cc (field_tabled own f, got (codes "name") (field_table own f) (Some (string f.name)) refl)
 
 names_listed : (own : List (List ℕ)) (fs : List Field) → names_of (items_of (map (field_file own) fs)) ≡ own_names fs
 names_listed own [] = refl
-names_listed own (f ∷ fs) = ap (λ n. n ∷ names_of (items_of (map (field_file own) fs))) (field_named own f) ∙ ap (λ l. f.name ∷ l) (names_listed own fs)
+names_listed own (f ∷ fs) = cc (field_named own f, names_listed own fs)
 
 -- ---- the members of every description
 
@@ -93,8 +89,7 @@ pub record HasDesc (d : Desc) (o : Data) : Type 0 where
 
 pub names_asked : (asks : Bool) (d : Desc) (o : Data) → HasDesc d o → names_if asks o ≡ asked asks (own_names d.fields)
 names_asked false d o has = refl
-names_asked true d o has =
-    ap (λ (x : Option Data). Some (first_of (names_of_list (option_and_then as_array x)))) has.fields ∙ ap (λ l. Some (first_of l)) (names_listed (own_names d.fields) d.fields)
+names_asked true d o has = cc (names_listed (own_names d.fields) d.fields)
 
 abbrev minimum_kept : Bool → ℕ → Option ℕ
 minimum_kept true n = None
@@ -103,8 +98,7 @@ minimum_kept false n = Some n
 minimum_back : (b : Bool) (o : Data) (n : ℕ) → get (codes "minimum") o ≡ kept b (natural_file n) → n ≤ 4294967295
     → maybe_at u32_of (codes "minimum") o ≡ good (minimum_kept b n)
 minimum_back true o n there le = ap (member_or None (λ e. changed Some (u32_of e)) (codes "minimum")) there
-minimum_back false o n there le =
-    ap (member_or None (λ e. changed Some (u32_of e)) (codes "minimum")) there ∙ ap (λ x. under (codes "minimum") (changed Some x)) (natural_good 4294967295 n le)
+minimum_back false o n there le = cc (natural_good 4294967295 n le)
 
 minimum_made : (version n : ℕ) (b : Bool) → (n == version) ≡ b → minimum_or version (minimum_kept b n) ≡ n
 minimum_made version n true e = sym (eqb-true n version e)

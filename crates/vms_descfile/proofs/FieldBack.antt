@@ -41,12 +41,7 @@ field_table own f =
 
 front_tabled : (own : List (List ℕ)) (f : Field) → front_file own f ≡ members_in (front_table own f)
 front_tabled own f =
-    list_if (codes "former") string f.former _
-    ∙ ap (put_if (codes "former") (listed string f.former)) (given_if (codes "equal") integer_file (equal_in f.item) _
-    ∙ ap (put_if (codes "equal") (option_map integer_file (equal_in f.item))) (unless_if (is_zero f.default) (codes "default") (integer_file f.default) _
-    ∙ ap (put_if (codes "default") (kept (is_zero f.default) (integer_file f.default))) (given_if (codes "counted") (λ k. string (get_or own k [])) (counter_in f.count) _
-    ∙ ap (put_if (codes "counted") (option_map (λ k. string (get_or own k [])) (counter_in f.count))) (given_if (codes "count") natural_file (length_in f.count) _
-    ∙ ap (put_if (codes "count") (option_map natural_file (length_in f.count))) (given_if (codes "capacity") natural_file (capacity_in f.count) _)))))
+    cc (list_if (codes "former") string f.former _, given_if (codes "equal") integer_file (equal_in f.item) _, unless_if (is_zero f.default) (codes "default") (integer_file f.default) _, given_if (codes "counted") (λ k. string (get_or own k [])) (counter_in f.count) _, given_if (codes "count") natural_file (length_in f.count) _, given_if (codes "capacity") natural_file (capacity_in f.count) _)
 
 pub field_tabled : (own : List (List ℕ)) (f : Field) → field_file own f ≡ object_of (field_table own f)
 field_tabled own f =
@@ -60,7 +55,7 @@ field_tabled own f =
 -- ---- its keys
 
 ap3 : {A B C D : Type 0} (f : A → B → C → D) (a a' : A) (b b' : B) (c c' : C) → a ≡ a' → b ≡ b' → c ≡ c' → f a b c ≡ f a' b' c'
-ap3 f a a' b b' c c' e1 e2 e3 = ap (λ x. f x b c) e1 ∙ ap (λ x. f a' x c) e2 ∙ ap (λ x. f a' b' x) e3
+ap3 f a a' b b' c c' e1 e2 e3 = cc
 
 -- counted, capacity and count
 abbrev counts_by : Option Data → Option Data → Option Data → Bool
@@ -69,8 +64,7 @@ counts_by counted capacity count = if is_some counted then is_some capacity && n
 count_keys : (own : List (List ℕ)) (c : Count)
     → counts_by (option_map (λ k. string (get_or own k [])) (counter_in c)) (option_map natural_file (capacity_in c)) (option_map natural_file (length_in c)) ≡ true
 count_keys own One = refl
-count_keys own (Fixed n) = refl
-count_keys own (Counted by capacity) = refl
+count_keys own _ = refl
 
 abbrev item_sort : Item → Sort
 item_sort (items.Num kind) = sorts.Number kind
@@ -81,8 +75,7 @@ item_sort (items.Struct j) = sorts.Struct
 item_named : (item : Item) → sort_named (item_word item) ≡ Some (item_sort item)
 item_named (items.Num kind) = number_named kind
 item_named (items.Equal kind value) = number_named kind
-item_named (items.Unused n) = refl
-item_named (items.Struct j) = refl
+item_named _ = refl
 
 -- size, struct, equal and default
 abbrev sort_by : Sort → Option Data → Option Data → Option Data → Option Data → Bool
@@ -93,8 +86,7 @@ sort_by sorts.Struct size struct equal default = is_some struct && not (is_some 
 sort_by_keys : (sort : Sort) (d : Data)
     → sort_fits (Some sort) d ≡ sort_by sort (get (codes "size") d) (get (codes "struct") d) (get (codes "equal") d) (get (codes "default") d)
 sort_by_keys (sorts.Number kind) d = refl
-sort_by_keys sorts.Unused d = refl
-sort_by_keys sorts.Struct d = refl
+sort_by_keys _ d = refl
 
 zero_is : (z : ℤ) → same_number z (pos 0) ≡ true → is_zero z ≡ true
 zero_is (pos n) same = same
@@ -106,21 +98,18 @@ no_default z same = ap (λ (b : Bool). kept b (integer_file z)) (zero_is z same)
 item_keys : (item : Item) (z : ℤ) → defaults_well item z ≡ true
     → sort_by (item_sort item) (option_map natural_file (size_in item)) (option_map natural_file (struct_in item)) (option_map integer_file (equal_in item))
     (kept (is_zero z) (integer_file z)) ≡ true
-item_keys (items.Num kind) z well = refl
-item_keys (items.Equal kind y) z well = refl
 item_keys (items.Unused n) z well = ap (λ (o : Option Data). not (is_some o)) (no_default z well)
 item_keys (items.Struct j) z well = ap (λ (o : Option Data). not (is_some o)) (no_default z well)
+item_keys _ z well = refl
 
 -- equal and default
 abbrev values_by : Option Data → Option Data → Bool
 values_by equal default = not (is_some equal && is_some default)
 
 value_keys : (item : Item) (z : ℤ) → defaults_well item z ≡ true → values_by (option_map integer_file (equal_in item)) (kept (is_zero z) (integer_file z)) ≡ true
-value_keys (items.Num kind) z well = refl
 value_keys (items.Equal kind y) z well =
     ap (λ (o : Option Data). not (is_some o)) (no_default z (and_parts (in_range kind y) (same_number z (pos 0)) well).1)
-value_keys (items.Unused n) z well = refl
-value_keys (items.Struct j) z well = refl
+value_keys _ z well = refl
 
 -- ---- numbers of 64 bits
 
@@ -143,16 +132,13 @@ zero_is_0 (negsuc n) zero = cc
 not_zero : (item : Item) (z : ℤ) → defaults_well item z ≡ true → is_zero z ≡ false → integer_of (integer_file z) ≡ good z
 not_zero (items.Num kind) z well other = integer_good z (in_64 kind z well)
 not_zero (items.Equal kind y) z well other = absurd (false≢true (sym other ∙ zero_is z (and_parts (in_range kind y) (same_number z (pos 0)) well).1))
-not_zero (items.Unused n) z well other = absurd (false≢true (sym other ∙ zero_is z well))
-not_zero (items.Struct j) z well other = absurd (false≢true (sym other ∙ zero_is z well))
+not_zero _ z well other = absurd (false≢true (sym other ∙ zero_is z well))
 
 constant_good : (item : Item) (z : ℤ) → defaults_well item z ≡ true → (y : ℤ) → equal_in item ≡ Some y → integer_of (integer_file y) ≡ good y
-constant_good (items.Num kind) z well y is = cc
 constant_good (items.Equal kind v) z well y is =
     let same : v ≡ y = cc in
     subst (λ (u : ℤ). integer_of (integer_file u) ≡ good u) same (integer_good v (in_64 kind v (and_parts (in_range kind v) (same_number z (pos 0)) well).0))
-constant_good (items.Unused n) z well y is = cc
-constant_good (items.Struct j) z well y is = cc
+constant_good _ z well y is = cc
 
 -- ---- the parts of a field
 
@@ -169,14 +155,11 @@ number_good o fits n is = natural_good 4294967295 n (most_of 4294967295 o fits n
 count_made : (asks : Bool) (c : Count)
     → count_as (option_map (λ n. n) (capacity_in c)) (option_map (λ n. n) (length_in c)) (option_map (number_shown asks) (counter_in c)) ≡ count_shown asks c
 count_made asks One = refl
-count_made asks (Fixed n) = refl
-count_made asks (Counted by capacity) = refl
+count_made asks _ = refl
 
 item_made : (item : Item) → item_as (item_sort item) (option_map (λ z. z) (equal_in item)) (option_map (λ n. n) (size_in item)) (option_map (λ n. n) (struct_in item)) ≡ item
 item_made (items.Num kind) = refl
-item_made (items.Equal kind value) = refl
-item_made (items.Unused n) = refl
-item_made (items.Struct j) = refl
+item_made _ = refl
 
 abbrev made_of : Bool → Field → Item → List (List ℕ) → Field
 made_of asks f item former = record {
@@ -192,8 +175,7 @@ made_of asks f item former = record {
 field_made : (asks : Bool) (f : Field)
     → made_of asks f (item_as (item_sort f.item) (option_map (λ z. z) (equal_in f.item)) (option_map (λ n. n) (size_in f.item)) (option_map (λ n. n) (struct_in f.item)))
     (map (λ t. t) f.former) ≡ field_shown asks f
-field_made asks f =
-    ap (λ i. made_of asks f i (map (λ t. t) f.former)) (item_made f.item) ∙ ap (made_of asks f f.item) (map_same (λ t. t) f.former (λ t. refl))
+field_made asks f = cc (item_made f.item, map_same (λ t. t) f.former (λ t. refl))
 
 -- ---- the field
 
@@ -256,19 +238,13 @@ module _ (asks : Bool) (own : List (List ℕ)) (names : Names) (may : ℕ → Bo
       let table = field_table own f in
       let d = object_of table in
       let kind : option_and_then sort_named (option_and_then as_str (get (codes "kind") d)) ≡ Some (item_sort f.item) =
-      ap (λ (o : Option Data). option_and_then sort_named (option_and_then as_str o)) (got (codes "kind") table _ refl) ∙ item_named f.item in
+      cc (got (codes "kind") table _ refl, item_named f.item) in
       let counts : counts_fit d ≡ true =
-      ap3 counts_by _ _ _ _ _ _ (got (codes "counted") table _ (or_none _)) (got (codes "capacity") table _ (or_none _)) (got (codes "count") table _ (or_none _))
-      ∙ count_keys own f.count in
+      cc (ap3 counts_by _ _ _ _ _ _ (got (codes "counted") table _ (or_none _)) (got (codes "capacity") table _ (or_none _)) (got (codes "count") table _ (or_none _)), count_keys own f.count) in
       let sorts : sort_fits (option_and_then sort_named (option_and_then as_str (get (codes "kind") d))) d ≡ true =
-      ap (λ (s : Option Sort). sort_fits s d) kind ∙ sort_by_keys (item_sort f.item) d
-      ∙ ap (λ (o : Option Data). sort_by (item_sort f.item) o (get (codes "struct") d) (get (codes "equal") d) (get (codes "default") d)) (got (codes "size") table _ (or_none _))
-      ∙ ap3 (sort_by (item_sort f.item) (option_map natural_file (size_in f.item))) _ _ _ _ _ _
-      (got (codes "struct") table _ (or_none _)) (got (codes "equal") table _ (or_none _)) (got (codes "default") table _ (or_none _))
-      ∙ item_keys f.item f.default well in
+      cc (sort_by_keys (item_sort f.item) d, got (codes "size") table _ (or_none _), ap3 (sort_by (item_sort f.item) (option_map natural_file (size_in f.item))) _ _ _ _ _ _ (got (codes "struct") table _ (or_none _)) (got (codes "equal") table _ (or_none _)) (got (codes "default") table _ (or_none _)), item_keys f.item f.default well) in
       let values : values_fit d ≡ true =
-      ap (λ (o : Option Data). values_by o (get (codes "default") d)) (got (codes "equal") table _ (or_none _))
-      ∙ ap (values_by (option_map integer_file (equal_in f.item))) (got (codes "default") table _ (or_none _)) ∙ value_keys f.item f.default well in
+      cc (got (codes "equal") table _ (or_none _), got (codes "default") table _ (or_none _), value_keys f.item f.default well) in
       and_from (fits field_needs field_allows d && counts_fit d && values_fit d) _
       (and_from (fits field_needs field_allows d && counts_fit d) (values_fit d)
       (and_from (fits field_needs field_allows d) (counts_fit d) (table_fits field_needs field_allows table refl refl) counts) values) sorts

@@ -24,10 +24,7 @@ put_nests n k d (member l e ms) p q =
 
 items_nest : {A : Type 0} (n : ℕ) (f : A → Data) (xs : List A) → ((i : ℕ) (x : A) → slice_get xs i ≡ Some x → depth (f x) ≤ n) → items_depth (items_of (map f xs)) ≤ n
 items_nest n f [] all = omega arith
-items_nest n f (x ∷ xs) all =
-    let here = all 0 x refl in
-    let rest = items_nest n f xs (λ i y e. all (suc i) y e) in
-    omega arith
+items_nest n f (x ∷ xs) all = omega (arith, items_nest n f xs (λ i y e. all (suc i) y e), all 0 x refl)
 
 given_nests : {A : Type 0} (n : ℕ) (k : List ℕ) (f : A → Data) (o : Option A) (ms : Members) → ((a : A) → o ≡ Some a → depth (f a) ≤ n) → members_depth ms ≤ n → members_depth (given_as k f o ms) ≤ n
 given_nests n k f None ms all q = q
@@ -40,9 +37,7 @@ unless_nests n false k d ms p q = put_nests n k d ms p q
 list_nests : {A : Type 0} (n : ℕ) (k : List ℕ) (f : A → Data) (xs : List A) (ms : Members) → ((i : ℕ) (x : A) → slice_get xs i ≡ Some x → depth (f x) ≤ n)
     → members_depth ms ≤ suc n → members_depth (list_as k f xs ms) ≤ suc n
 list_nests n k f [] ms all q = q
-list_nests n k f (x ∷ xs) ms all q =
-    let items = items_nest n f (x ∷ xs) all in
-    put_nests (suc n) k (list_file f (x ∷ xs)) ms (omega arith) q
+list_nests n k f (x ∷ xs) ms all q = put_nests (suc n) k (list_file f (x ∷ xs)) ms (omega (arith, items_nest n f (x ∷ xs) all)) q
 
 flat_integer : (z : ℤ) → depth (integer_file z) ≤ 0
 flat_integer z = either (int_le (negsuc 9223372036854775807) z && int_lt z (pos 18446744073709551616))
@@ -65,20 +60,12 @@ test_nests own parent (Below n) = omega arith
 test_nests own parent (Cell Own k mask rel value) = let flat = rel_flat rel in omega arith
 test_nests own parent (Cell Parent k mask rel value) = let flat = rel_flat rel in omega arith
 test_nests own parent (Not t) = let inner = test_nests own parent t in omega arith
-test_nests own parent (And s t) =
-    let first = test_nests own parent s in
-    let second = test_nests own parent t in
-    omega arith
-test_nests own parent (Or s t) =
-    let first = test_nests own parent s in
-    let second = test_nests own parent t in
-    omega arith
+test_nests own parent (And s t) = omega (arith, test_nests own parent t, test_nests own parent s)
+test_nests own parent (Or s t) = omega (arith, test_nests own parent t, test_nests own parent s)
 
 small_nests : (own parent : List (List ℕ)) (t : Formula) → is_small_test t ≡ true → depth (test_file own parent t) ≤ 32
 small_nests own parent t small =
-    let nests = test_nests own parent t in
-    let deep = leb-true (rules.depth t) 16 (and_parts (nat_le (nodes t) 64) (nat_le (rules.depth t) 16) small).1 in
-    omega arith
+    omega (arith, leb-true (rules.depth t) 16 (and_parts (nat_le (nodes t) 64) (nat_le (rules.depth t) 16) small).1, test_nests own parent t)
 
 optional_nests : (own : List (List ℕ)) (o : Option Formula) → is_small_optional o ≡ true → (t : Formula) → o ≡ Some t → depth (test_file own [] t) ≤ 32
 optional_nests own None small t is = cc
@@ -154,6 +141,5 @@ module _ (set : Set) (well : WellFormed set) where
   pub set_nests : depth (set_file set) ≤ max_depth
   set_nests =
       let devices = items_nest 38 device_file set.devices device_nests in
-      let machines = items_nest 38 string set.machines (λ i t e. omega arith) in
       let structs = items_nest 38 struct_file set.structs struct_nests in
-      omega arith
+      omega (arith, items_nest 38 string set.machines (λ i t e. omega arith))

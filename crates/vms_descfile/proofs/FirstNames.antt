@@ -16,7 +16,7 @@ later : (p : List ℕ → Bool) (n : List ℕ) (names : List (List ℕ)) → p n
 later p n names fails = ap (λ (b : Bool). cond (not b) (1 + position_or_len p names) 0) fails
 
 one_more : {i k : ℕ} → i ≡ k → 1 + i ≡ suc k
-one_more e = omega (arith, e)
+one_more e = omega arith
 
 -- no field before it has the name
 first_place : (fields : List Field) (k : ℕ) (f : Field) → slice_get fields k ≡ Some f → is_one_of (all_names (take k fields)) f.name ≡ false
@@ -41,11 +41,10 @@ number_found : (asks : Bool) (fields : List Field) (k : ℕ) (f : Field) → len
 number_found false fields k f few there none = refl
 number_found true fields k f few there none =
     let names = own_names fields in
-    let inside : k < length names = omega (arith, slice_get_within fields k f there, length-map fields (λ (g : Field). g.name)) in
     let place = first_place fields k f there none in
     let least : min k 4294967295 ≡ k = omega (arith, slice_get_within fields k f there) in
     let is_position : position (λ n. bytes_eq n f.name) names ≡ Some k =
-    ap (λ (i : ℕ). cond (nat_lt i (length names)) (Some i) None) place ∙ ap (λ (b : Bool). cond b (Some k) None) (lt-ltb k (length names) inside) in
+    cc (lt-ltb k (length names) (omega (arith, slice_get_within fields k f there, length-map fields (λ (g : Field). g.name)))) in
     ap (λ n. numbered (position (λ m. bytes_eq m n) names)) (name_got fields k f there) ∙ ap numbered is_position ∙ ap good least
 
 -- ---- of a description without a fault

@@ -24,12 +24,11 @@ in_order Greater a b c p q r = r
 put_whole : (k : List ℕ) (d : Data) (ms : Members) → IsWhole d → AreWhole ms → AreWhole (put k d ms)
 put_whole k d no_members p q = or_from (has_float d) false p refl
 put_whole k d (member l e ms) p q =
-    let here = (or_parts (has_float e) (members_have_float ms) q).0 in
     let rest = (or_parts (has_float e) (members_have_float ms) q).1 in
     in_order (slice_cmp nat_cmp k l) (member k d (member l e ms)) (member l d ms) (member l e (put k d ms))
     (or_from (has_float d) (members_have_float (member l e ms)) p q)
     (or_from (has_float d) (members_have_float ms) p rest)
-    (or_from (has_float e) (members_have_float (put k d ms)) here (put_whole k d ms p rest))
+    (or_from (has_float e) (members_have_float (put k d ms)) ((or_parts (has_float e) (members_have_float ms) q).0) (put_whole k d ms p rest))
 
 items_whole : {A : Type 0} (f : A → Data) (xs : List A) → ((a : A) → IsWhole (f a)) → items_have_float (items_of (map f xs)) ≡ false
 items_whole f [] all = refl
@@ -60,9 +59,7 @@ integer_whole z = one_of (int_le (negsuc 9223372036854775807) z && int_lt z (pos
 
 rel_whole : (r : Rel) → IsWhole (rel_file r)
 rel_whole rels.Eq = refl
-rel_whole rels.Ne = refl
-rel_whole rels.Lt = refl
-rel_whole rels.Ge = refl
+rel_whole _ = refl
 
 only_whole : (k : List ℕ) (d : Data) → IsWhole d → IsWhole (only k d)
 only_whole k d p = put_whole k d no_members p refl
@@ -73,8 +70,7 @@ pair_whole d e p q = or_from (has_float d) (has_float e || false) p (or_from (ha
 compared_whole : (mask : ℕ) (rel : Rel) (value : ℕ) → AreWhole (compared_file mask rel value)
 compared_whole mask rel value =
     let is = put (codes "is") (rel_file rel) no_members in
-    let masked = put (codes "mask") (natural_file mask) is in
-    put_whole (codes "value") (natural_file value) masked refl
+    put_whole (codes "value") (natural_file value) (put (codes "mask") (natural_file mask) is) refl
     (put_whole (codes "mask") (natural_file mask) is refl (put_whole (codes "is") (rel_file rel) no_members (rel_whole rel) refl))
 
 test_whole : (own parent : List (List ℕ)) (t : Formula) → IsWhole (test_file own parent t)
@@ -108,8 +104,7 @@ field_whole own f =
     let named = put (codes "name") (string f.name) kinded in
     let since = unless (f.since == 0) (codes "since") (natural_file f.since) named in
     let sized = given_as (codes "size") natural_file (size_in f.item) since in
-    let structured = given_as (codes "struct") natural_file (struct_in f.item) sized in
-    given_whole (codes "test") (test_file own []) f.test structured (test_whole own [])
+    given_whole (codes "test") (test_file own []) f.test (given_as (codes "struct") natural_file (struct_in f.item) sized) (test_whole own [])
     (given_whole (codes "struct") natural_file (struct_in f.item) sized (λ n. refl)
     (given_whole (codes "size") natural_file (size_in f.item) since (λ n. refl)
     (unless_whole (f.since == 0) (codes "since") (natural_file f.since) named refl
@@ -122,8 +117,7 @@ desc_whole d =
     let fields = put (codes "fields") (list_file (field_file own) d.fields) no_members in
     let minimum = unless (d.minimum == d.version) (codes "minimum") (natural_file d.minimum) fields in
     let named = put (codes "name") (string d.name) minimum in
-    let validated = list_as (codes "validate") (test_file own []) d.validate named in
-    put_whole (codes "version") (natural_file d.version) validated refl
+    put_whole (codes "version") (natural_file d.version) (list_as (codes "validate") (test_file own []) d.validate named) refl
     (list_whole (codes "validate") (test_file own []) d.validate named (test_whole own [])
     (put_whole (codes "name") (string d.name) minimum refl
     (unless_whole (d.minimum == d.version) (codes "minimum") (natural_file d.minimum) fields refl

@@ -33,12 +33,8 @@ found_by : (k j : List ℕ) (o : Option Data) (ms : Members) (rest : Option Data
     → get_member k (put_if j o ms) ≡ (if same then or o rest else rest)
 found_by k j None ms rest true is there = there
 found_by k j None ms rest false is there = there
-found_by k j (Some d) ms rest true is there =
-    let same : k ≡ j = (bytes_eq-Decides k j).0 is in
-    ap (λ i. get_member i (put j d ms)) same ∙ get_member-put j d ms
-found_by k j (Some d) ms rest false is there =
-    let apart = λ (same : k ≡ j). false≢true (sym is ∙ (bytes_eq-Decides k j).1 same) in
-    get_member-put_other k j d ms apart ∙ there
+found_by k j (Some d) ms rest true is there = ap (λ i. get_member i (put j d ms)) ((bytes_eq-Decides k j).0 is) ∙ get_member-put j d ms
+found_by k j (Some d) ms rest false is there = get_member-put_other k j d ms (λ (same : k ≡ j). false≢true (sym is ∙ (bytes_eq-Decides k j).1 same)) ∙ there
 
 found_is : (k : List ℕ) (table : Table) → get_member k (members_in table) ≡ found k table
 found_is k [] = refl

@@ -12,7 +12,7 @@ fronted names = record { count = One; default = pos 0; equal = None; former = na
 
 module _ (kind : Kind) (k n : Data) (name : List ℕ) (named : option_and_then sort_named (as_str k) ≡ Some (Number kind)) (called : Some name ≡ as_str n) where
   sort_told : sort_of k ≡ good (Number kind)
-  sort_told = by (as_str k) ∙ ap given named
+  sort_told = cc (by (as_str k))
     where
       by : (word : Option (List ℕ)) → next (given word) (λ w. given (sort_named w)) ≡ given (option_and_then sort_named word)
       by None = refl
@@ -46,18 +46,10 @@ module _ (kind : Kind) (k n : Data) (name : List ℕ) (named : option_and_then s
 
 pub number_named : (kind : Kind) → sort_named (kind_word kind) ≡ Some (Number kind)
 number_named kinds.U8 = refl
-number_named kinds.U16 = refl
-number_named kinds.U32 = refl
-number_named kinds.U64 = refl
-number_named kinds.I8 = refl
-number_named kinds.I16 = refl
-number_named kinds.I32 = refl
-number_named kinds.I64 = refl
-number_named kinds.Bool = refl
-number_named kinds.Timer = refl
+number_named _ = refl
 
 -- the kind that a word names
 pub kind_told : (named : Option Kind) (word : List ℕ) (said : Option (List ℕ)) → TellsKind word named → Some word ≡ said
     → IfSome named (λ kind. option_and_then sort_named said ≡ Some (Number kind))
 kind_told None word said tells at = tt
-kind_told (Some kind) word said tells at = ap (option_and_then sort_named) (sym at) ∙ ap sort_named ((tells kind).0 refl) ∙ number_named kind
+kind_told (Some kind) word said tells at = cc ((tells kind).0 refl, number_named kind)

@@ -47,9 +47,8 @@ desc_built d own tests name minimum version m0 m1 m2 m3 m4 m5 is_own is_tests is
     let f3 = put (codes "name") (string d.name) f2 in
     let listed : list_file (λ f. field_file (own_names (map field_of own)) (field_of f)) own ≡ list_file (field_file names) (map field_of d.fields) =
     ap (λ (o : List Field). list_file (λ f. field_file (own_names (map field_of o)) (field_of f)) o) is_own ∙ fields_seen names d.fields in
-    let e1 : m1 ≡ f1 = is1 ∙ ap (λ v. put (codes "fields") v m0) listed ∙ ap (put (codes "fields") (list_file (field_file names) (map field_of d.fields))) is0 in
     let e2 : m2 ≡ f2 = is2 ∙ ap (λ v. unless (d.minimum == d.version) (codes "minimum") v m1) is_minimum
-    ∙ ap (unless (d.minimum == d.version) (codes "minimum") (natural_file d.minimum)) e1 in
+    ∙ ap (unless (d.minimum == d.version) (codes "minimum") (natural_file d.minimum)) cc in
     let e3 : m3 ≡ f3 = is3 ∙ ap (λ (n : List ℕ). put (codes "name") (string n) m2) is_name ∙ ap (put (codes "name") (string d.name)) e2 in
     let e4 : m4 ≡ list_as (codes "validate") (test_file names []) (map formula d.validate) f3 =
     is4 ∙ ap (λ (o : List Field). list_as (codes "validate") (λ t. test_file (own_names (map field_of o)) [] (formula t)) tests m3) is_own

@@ -61,20 +61,17 @@ set_shown asks set = record {
 
 pub map_same : {A : Type 0} (f : A → A) (xs : List A) → ((x : A) → f x ≡ x) → map f xs ≡ xs
 map_same f [] same = refl
-map_same f (x ∷ xs) same = ap (λ y. y ∷ map f xs) (same x) ∙ ap (λ l. x ∷ l) (map_same f xs same)
+map_same f (x ∷ xs) same = cc (same x, map_same f xs same)
 
 test_same : (t : Formula) → test_shown true t ≡ t
-test_same (AtLeast n) = refl
-test_same (Below n) = refl
-test_same (Cell whose k mask rel value) = refl
 test_same (Not t) = ap Not (test_same t)
-test_same (And s t) = ap (λ a. And a (test_shown true t)) (test_same s) ∙ ap (And s) (test_same t)
-test_same (Or s t) = ap (λ a. Or a (test_shown true t)) (test_same s) ∙ ap (Or s) (test_same t)
+test_same (And s t) = cc (test_same s, test_same t)
+test_same (Or s t) = cc (test_same s, test_same t)
+test_same _ = refl
 
 count_same : (c : Count) → count_shown true c ≡ c
 count_same One = refl
-count_same (Fixed n) = refl
-count_same (Counted by capacity) = refl
+count_same _ = refl
 
 optional_same : (o : Option Formula) → option_map (test_shown true) o ≡ o
 optional_same None = refl

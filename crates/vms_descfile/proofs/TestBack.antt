@@ -16,9 +16,7 @@ pub record Scoped (asks : Bool) (own parent : List (List ℕ)) (may may_parent :
 
 rel_good : (rel : Rel) → rel_of (rel_file rel) ≡ good rel
 rel_good rels.Eq = refl
-rel_good rels.Ne = refl
-rel_good rels.Lt = refl
-rel_good rels.Ge = refl
+rel_good _ = refl
 
 u32_good : (n : ℕ) → n ≤ 4294967295 → u32_of (natural_file n) ≡ good n
 u32_good n le = natural_good 4294967295 n le

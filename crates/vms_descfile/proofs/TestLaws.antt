@@ -11,10 +11,9 @@ by_form (suc n) scope d form r more is said =
     subst (λ (f : Form). Answers formula (test_as f (test_within n scope) scope d) r) is (simp unary_clauses at said)
 
 pub refused_under : {A : Type 0} (key : List ℕ) (x : Answer A) (fault result : Fault) → Refuses x fault → IsUnder key fault result → Refuses (under key x) result
-refused_under key x (faults.Shape path) (faults.Shape p) said is = ap (under key) said ∙ ap bad (sym is)
-refused_under key x (faults.Shape path) faults.NoMemory said is = tt
+refused_under key x (faults.Shape path) (faults.Shape p) said is = cc
 refused_under key x faults.NoMemory (faults.Shape p) said is = absurd is
-refused_under key x faults.NoMemory faults.NoMemory said is = tt
+refused_under key x _ faults.NoMemory said is = tt
 
 pub refused_next : {A B : Type 0} (x : Answer A) (f : A → Answer B) (fault : Fault) → Refuses x fault → Refuses (next x f) fault
 refused_next x f (faults.Shape path) said = ap (λ a. next a f) said

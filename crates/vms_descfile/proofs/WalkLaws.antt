@@ -113,11 +113,9 @@ device_names_then None d = never [] _
 device_names_then (Some names) d = parent_then names d
 
 leaf_then : (leaf : Leaf) (scope : Scope) → Thens (leaf_as leaf scope) (leaf_as leaf (blind scope))
-leaf_then leaves.AtLeast scope = λ d. itself _
-leaf_then leaves.Below scope = λ d. itself _
 leaf_then leaves.Own scope = own_then scope
 leaf_then leaves.Parent scope = device_names_then scope.parent
-leaf_then leaves.None scope = λ d. itself _
+leaf_then _ scope = λ d. itself _
 
 both_then : (join : Formula → Formula → Formula) (x y z w : Answer Formula) → Then x z → Then y w → Then (both join x y) (both join z w)
 both_then join x y z w t u =

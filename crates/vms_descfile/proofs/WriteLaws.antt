@@ -9,7 +9,7 @@ use Rattle.vms_descfile.proofs.SetBack.{set_back}
 
 pub compact_file : (set : Set) (d : Data) (s : String Global) → d ≡ set_file set
     → (has_float d ≡ false → string_bytes s ≡ compact_text d) → string_bytes s ≡ compact_text (set_file set)
-compact_file set d s is text = text (ap has_float is ∙ set_whole set) ∙ ap compact_text is
+compact_file set d s is text = cc (text (ap has_float is ∙ set_whole set))
 
 formed : (o : Option SetFault) → is_none o ≡ true → o ≡ None
 formed None is = refl

@@ -17,7 +17,6 @@ pub use Rattle.std.specs.Fmt.{decimal, digit_glyph, digits_onto, signed_decimal}
 unfoldable pub use Rattle.std.specs.Fmt.{digits}
 pub use Rattle.std.specs.List.{AllByRecursion, flat_map, list_all, slice_get}
 pub use Rattle.std.specs.Str.{bytes_eq}
-pub use Rattle.vms_kinds.specs.Codes.{residue, width}
 pub use Rattle.vms_kinds.specs.declared.Item.{Item}
 pub use Rattle.vms_kinds.specs.declared.Item.TheVariants.{Num, Struct}
 pub use Rattle.vms_kinds.specs.declared.Kind.{Kind}
@@ -34,7 +33,7 @@ pub use Rattle.vms_spec.specs.Good.{DefaultsFit, IsFit, IsGood}
 pub use Rattle.vms_spec.specs.Images.{AreVersionsOf, FitsCell, Image, RulesHold, came_slots, default_image, has_cell, image_slots, own_cells, own_slots}
 pub use Rattle.vms_spec.specs.Images.{sub_slots}
 pub use Rattle.vms_spec.specs.Layout.{Cell, Slot, all_hold, capacity_of, cells_from, counted, desc_cells, desc_slots, device_cells, elements_of, field_cells}
-pub use Rattle.vms_spec.specs.Layout.{item_size, kind_of, meanings, no_cell, no_desc, no_field, numbers_of, place_of, struct_cells}
+pub use Rattle.vms_spec.specs.Layout.{item_size, meanings, no_cell, no_desc, no_field, numbers_of, place_of, struct_cells}
 unfoldable pub use Rattle.vms_spec.specs.Layout.{first}
 pub use Rattle.vms_spec.specs.Lists.{first_answer, or_else}
 pub use Rattle.vms_spec.specs.Names.{is_name, is_name_byte, is_sub_name}

@@ -34,13 +34,12 @@ line_first [] rest h = refl
 line_first (b ∷ line) rest h =
     ap (λ t. if t then Some ([], line ++ 10 ∷ rest) else longer_line b (first_line (line ++ 10 ∷ rest))) h.0 ∙ ap (longer_line b) (line_first line rest h.1)
 
-glyph_feed : (d : ℕ) → (digit_glyph false d == 10) ≡ false
-glyph_feed d = if_holds (λ g. (g == 10) ≡ false) (nat_lt d 10) _ _ (ne_eqb (48 + d) 10 (λ e. omega arith)) (ne_eqb (87 + d) 10 (λ e. omega arith))
-
 onto_feed : (k n : ℕ) (acc : List ℕ) → NoFeed acc → NoFeed (digits_onto k 10 false n acc)
 onto_feed zero n acc h = h
 onto_feed (suc k) n acc h =
-    let here : NoFeed (digit_glyph false (n % 10) ∷ acc) = (glyph_feed (n % 10), h) in
+    let d = n % 10 in
+    let glyph = if_holds (λ g. (g == 10) ≡ false) (nat_lt d 10) _ _ (ne_eqb (48 + d) 10 (λ e. omega arith)) (ne_eqb (87 + d) 10 (λ e. omega arith)) in
+    let here : NoFeed (digit_glyph false d ∷ acc) = (glyph, h) in
     if_holds NoFeed (n / 10 == 0) _ _ here (onto_feed k (n / 10) (digit_glyph false (n % 10) ∷ acc) here)
 
 pub decimal_feed : (n : ℕ) → NoFeed (decimal n)
@@ -126,9 +125,6 @@ not_ended (Some r) e es line rest feed fine h =
     let f : None ≡ Some r = sym fine ∙ sym (reason_same e (Some (line, rest))) ∙ rw (line_first line rest feed) at h in
     cc
 
-two_lines : (a b r r' : List ℕ) → NoFeed a → NoFeed b → a ++ 10 ∷ r ≡ b ++ 10 ∷ r' → (a ≡ b) × (r ≡ r')
-two_lines a b r r' p q e = some_pair_parts a b r r' (sym (line_first a r p) ∙ ap first_line e ∙ line_first b r' q)
-
 fine_entry : (e : Entry) → line_reason e (entry_line e) ≡ None → reason_for (demand_of e) (Some (entry_line e, [])) ≡ None
 fine_entry e h = sym (reason_same e (Some (entry_line e, []))) ∙ h
 
@@ -149,8 +145,9 @@ meet (t ∷ taken) [] (x ∷ after) rest rest' o o' f clean fine fine' e ends =
     absurd (not_ended o' x after t.line (text_of (lines_of taken) ++ rest) (fine_feed (demand_of x) t.line clean.0 same) same (rw (is) at ends))
 meet (t ∷ taken) (x ∷ before) after rest rest' o o' f clean fine fine' e ends =
     let feed' = fine_feed (demand_of x) (entry_line x) clean.0 (fine_entry x fine'.0) in
-    let both = two_lines t.line (entry_line x) _ _ (fine_feed (demand_of x) t.line clean.0 (rw (f.0) fine.0)) feed'
-    (sym (append_assoc t.line (10 ∷ text_of (lines_of taken)) rest) ∙ e ∙ append_assoc (entry_line x) (10 ∷ text_of (map entry_line before)) rest') in
+    let feed = fine_feed (demand_of x) t.line clean.0 (rw (f.0) fine.0) in
+    let texts = sym (append_assoc t.line (10 ∷ text_of (lines_of taken)) rest) ∙ e ∙ append_assoc (entry_line x) (10 ∷ text_of (map entry_line before)) rest' in
+    let both = some_pair_parts t.line (entry_line x) _ _ (sym (line_first t.line _ feed) ∙ ap first_line texts ∙ line_first (entry_line x) _ feed') in
     let more = meet taken before after rest rest' o o' (f.1 (sym both.0)) clean.1 fine.1 fine'.1 both.1 ends in
     record { long = ap suc more.long; lines = rw (both.0, more.lines) refl; reason = more.reason }
 
@@ -250,12 +247,11 @@ module _ (set : Set) (structs : (j : ℕ) → AreCleanFields (get_or set.structs
 
 -- ---- No name of a well-formed set has a line feed.
 
-name_byte : (b : ℕ) → is_name_byte b ≡ true → (b == 10) ≡ false
-name_byte b e = ne_eqb b 10 (λ same. let h = name_byte_high b e in omega arith)
-
 name_bytes : (name : List ℕ) → list_all is_name_byte name ≡ true → NoFeed name
 name_bytes [] e = tt
-name_bytes (b ∷ name) e = let p = and_parts (is_name_byte b) (list_all is_name_byte name) e in (name_byte b p.0, name_bytes name p.1)
+name_bytes (b ∷ name) e =
+    let p = and_parts (is_name_byte b) (list_all is_name_byte name) e in
+    (ne_eqb b 10 (λ same. let h = name_byte_high b p.0 in omega arith), name_bytes name p.1)
 
 clean_name : (most : ℕ) (name : List ℕ) → is_name most name ≡ true → NoFeed name
 clean_name most name e = name_bytes name (and_parts (nat_le 1 (length name) && nat_le (length name) most) (list_all is_name_byte name) e).1

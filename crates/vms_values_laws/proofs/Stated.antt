@@ -1,14 +1,13 @@
 -- The laws of values texts, as they are stated.
-use Rattle.vms_values_laws.proofs.Facade.{◌≡◌, inl, inr, ℕ, List, ◌++◌, Option, Some, None, sym, ap, ◌∙◌, subst, arith, ◌∷◌, map, true, refl, codes, append-nil}
-use Rattle.vms_values_laws.proofs.Facade.{[], ◌+◌, length, suc, ◌≤◌, sum_by, ℤ, length-append, length-map, sum_by-cons, ValuesReason, Set, Device, Desc, Sub}
+use Rattle.vms_values_laws.proofs.Facade.{◌≡◌, inl, inr, ℕ, List, ◌++◌, Option, Some, None, sym, ap, ◌∙◌, subst, arith, ◌∷◌, map, refl, codes, append-nil, []}
+use Rattle.vms_values_laws.proofs.Facade.{◌+◌, length, suc, ◌≤◌, sum_by, ℤ, length-append, length-map, sum_by-cons, ValuesReason, Set, Device, Desc, Sub}
 use Rattle.vms_values_laws.proofs.Facade.{ValuesRead, Bad, machine_named, BadLine, Values, values_read, Entry, entries, devices_entries, entry_line, OfNumber}
 use Rattle.vms_values_laws.proofs.Facade.{number_entries, subs_entries, device_entries, IsBadLine, IsMachineOf, Says, IsText, IsBadPart, Refused, Reads, Taken}
-use Rattle.vms_values_laws.proofs.Facade.{Image, own_cells, first_line, is_one_of, IsConfiguration, IsTrailer, optional, configuration, trailer, written}
-use Rattle.vms_values_laws.proofs.Facade.{AreReady, WellFormed, text_of, section_line, printed, values_text, IsFit, well_good, entry_law, text_is, ReadLaw}
-use Rattle.vms_values_laws.proofs.Facade.{OnlyLaw, AcceptedLaw, PrintedLaw, device_lines, most_lines, LineLaw, machine_short, few_devices, Takes}
-use Rattle.vms_values_laws.proofs.Facade.{one_stream_holds, written_holds, FitsText, WrittenLaw, PackedLaw, ShownLaw, desc_cells, struct_cells, Element}
-use Rattle.vms_values_laws.proofs.Facade.{cells_of, elements_in, walks, AreShaped, AreFine, is_number, cells_with, Number, What, and-true, and-false}
-use Rattle.vms_values_laws.proofs.Facade.{if◌then◌else◌, ◌&&◌}
+use Rattle.vms_values_laws.proofs.Facade.{Image, own_cells, first_line, IsConfiguration, IsTrailer, optional, configuration, trailer, written, AreReady}
+use Rattle.vms_values_laws.proofs.Facade.{WellFormed, text_of, section_line, printed, values_text, IsFit, well_good, entry_law, text_is, ReadLaw, OnlyLaw}
+use Rattle.vms_values_laws.proofs.Facade.{AcceptedLaw, PrintedLaw, device_lines, most_lines, LineLaw, machine_short, few_devices, Takes, one_stream_holds}
+use Rattle.vms_values_laws.proofs.Facade.{written_holds, FitsText, WrittenLaw, PackedLaw, ShownLaw, desc_cells, struct_cells, Element, cells_of, elements_in}
+use Rattle.vms_values_laws.proofs.Facade.{walks, AreShaped, AreFine, is_number, cells_with, Number, What, and-true, and-false, if◌then◌else◌, ◌&&◌}
 use Rattle.vms_values_laws.proofs.SaidLaws.{if_holds}
 use Rattle.vms_values_laws.proofs.BadLines.{FirstPass, NoneBad, first_pass, TakenOf}
 use Rattle.vms_values_laws.proofs.Meeting.{AreClean, Ends, Same, meet, NoFeed, line_first, section_feed, AreCleanDevices, clean_entries, clean_devices}
@@ -51,19 +50,11 @@ module _ (set : Set) (text : List ℕ) (line : ℕ) (reason : ValuesReason) (x :
 first_is : (text line : List ℕ) (lines : List (List ℕ)) → NoFeed line → text ≡ text_of (line ∷ lines) → first_line text ≡ Some (line, text_of lines)
 first_is text line lines clean e = ap first_line e ∙ line_first line (text_of lines) clean
 
-name_read : (machines : List (List ℕ)) (name rest : List ℕ) → is_one_of machines name ≡ true
-    → machine_named machines (Some (codes "machine " ++ name, rest)) ≡ Some name
-name_read machines name rest e = rw e refl
-
-no_name : (machines : List (List ℕ)) (d : Device) (version : ℕ) (rest : List ℕ) → machine_named machines (Some (section_line d version, rest)) ≡ None
-no_name machines d version rest = refl
-
 by_devices : (set : Set) (text : List ℕ) (devices : List Device) (images : List Image) → AreCleanDevices devices
     → text ≡ text_of (map entry_line (devices_entries set devices images)) → machine_named set.machines (first_line text) ≡ None
 by_devices set text (d ∷ devices) (image ∷ images) clean e =
     let lines = map entry_line (inside_of set d image ++ devices_entries set devices images) in
     ap (machine_named set.machines) (first_is text (section_line d image.version) lines (section_feed d.desc.name d.instance image.version clean.0.0) e)
-    ∙ no_name set.machines d image.version (text_of lines)
 by_devices set text _ _ clean e = rw e
 
 named_by : (set : Set) → WellFormed set → (text : List ℕ) (machine : Option (List ℕ)) (images : List Image) → IsMachineOf set machine
@@ -73,7 +64,7 @@ named_by set well text (Some name) images named e =
     let lines = map entry_line (devices_entries set set.devices images) in
     ap (machine_named set.machines)
     (first_is text (codes "machine " ++ name) lines (refl, (refl, (refl, (refl, (refl, (refl, (refl, (refl, clean_named set well name named)))))))) e)
-    ∙ name_read set.machines name (text_of lines) named
+    ∙ rw named refl
 
 module _ (set : Set) (well : WellFormed set) (text : List ℕ) (machine : Option (List ℕ)) (images : List Image) (says : Says set text machine images) where
   its_machine : machine_named set.machines (first_line text) ≡ machine
@@ -200,7 +191,8 @@ pub takes : (set : Set) → WellFormed set → (machine described : Option (List
 takes set well machine described images named fits ready =
     let few = few_devices set well in
     let stream = written set machine images described in
-    rw (append-nil stream) at (written_holds set set.machines (omega arith) machine described images (configured set well machine named) (trailed described fits) ready [] (λ e. refl))
+    rw (append-nil stream) at (written_holds set set.machines (omega arith) machine described images (configured set well machine named)
+    (trailed described fits) ready [] (λ e. refl))
 
 pub written_only : WrittenLaw
 written_only set machine described images fit named fits ready =

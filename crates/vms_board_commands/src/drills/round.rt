@@ -1,11 +1,9 @@
 // A board that goes on as the one that its own stream restores.
-ghost use Rattle.std.specs.Prelude.{◌≡◌, ◌<◌, length, IfOk, OnOk};
+ghost use Rattle.std.specs.Prelude.{IfOk};
 ghost use Rattle.dev_board.specs.Sound.{IsSound};
-ghost use Rattle.vms_board_commands.specs.DrillProgress.{came_back, set_of};
+ghost use Rattle.vms_board_commands.specs.DrillProgress.{ComesBack, set_of};
 ghost use Rattle.vms_board.specs.Isa.{isa};
-ghost use Rattle.vms_board.specs.Saving.{saved_stream};
 ghost use Rattle.vms_board_streams.specs.Sets.{AreOf};
-ghost use Rattle.vms_board_streams.specs.declared.memory.TheConstants.{STREAM_ROOM};
 
 use super::schedule::set_of;
 use std::alloc::Global;
@@ -27,12 +25,8 @@ pub(crate) fn come_back(
 ) -> Result<u64, NoMemory>
     requires sound { IsSound board.old.state }
     requires sets { AreOf isa sets.old }
-    ensures state { let set = set_of board.old.state.level saves in
-        OnOk result (board.new.state ≡ came_back set board.old.state) }
-    ensures long { let set = set_of board.old.state.level saves in
-        IfOk result (λ n. n ≡ length (saved_stream isa set board.old.state)) }
-    ensures taken { IfOk result (λ n. board.new.taken ≡ n) }
-    ensures short { IfOk result (λ n. n < STREAM_ROOM) }
+    ensures back { IfOk result (ComesBack (set_of board.old.state.level saves) board.old.state
+        board.new.state board.new.taken) }
     ensures sound { IsSound board.new.state }
     ensures sets { AreOf isa sets.new }
 {

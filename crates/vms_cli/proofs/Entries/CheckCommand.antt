@@ -1,9 +1,8 @@
 -- `check` has one outcome, and what is compatible is checked so.
 use Rattle.vms_cli.proofs.Facade.{ℕ, List, Option, Some, refl, sym, subst, inl, inr, Held, Mismatch, done, SetWord, Step, Both, HasText, next, one_text}
-use Rattle.vms_cli.proofs.Facade.{checked, compared, compatible_text, verdict, check_entry}
+use Rattle.vms_cli.proofs.Facade.{checked, compared, compatible_text, verdict, check_entry, Set}
 use Rattle.vms_cli.proofs.CheckLemmas.{sound_check}
 use Rattle.vms_cli.proofs.RowFacts.{IsDone, IsRow, spares_none, spares_text}
-use Rattle.vms_spec.specs.Sets.{Set}
 
 accepted : (old new : SetWord) (input : Option (List ℕ)) (held : Option Held) → (check_entry old new).needs input held
     → IsDone (check_entry old new).task input held

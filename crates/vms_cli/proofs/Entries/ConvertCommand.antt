@@ -1,12 +1,11 @@
 -- `convert` has one outcome, and what can be converted is.
 use Rattle.vms_cli.proofs.Facade.{◌≡◌, ◌⊎◌, ℕ, ◌+◌, List, Option, Some, None, inl, inr, refl, sym, ap, ◌∙◌, subst, arith, none-some, Held, IsBytes, IsFit}
-use Rattle.vms_cli.proofs.Facade.{Image, Set}
-use Rattle.vms_cli.proofs.Facade.{Answer, Taken, Faulty, Takes, either_holds, taken_kept, Compatible, first_mismatch, Mismatch, IsStreamFor, LosesFirst}
-use Rattle.vms_cli.proofs.Facade.{word_set, refused_line, done, ended, SetWord, Step, Untold, Gives, Ends, next, FitStep, fit_word, IsSound, sound_next}
-use Rattle.vms_cli.proofs.Facade.{sound_word_set, ConvertsBy, Rewrites, WouldLose, agreed, agrees, lost_line, newest, target, CanBeConverted, HasOne}
-use Rattle.vms_cli.proofs.Facade.{convert_entry}
+use Rattle.vms_cli.proofs.Facade.{Image, Set, Answer, Taken, Faulty, Takes, either_holds, taken_kept, Compatible, first_mismatch, Mismatch, IsStreamFor}
+use Rattle.vms_cli.proofs.Facade.{LosesFirst, word_set, refused_line, done, ended, SetWord, Step, Untold, Gives, Ends, next, FitStep, fit_word, IsSound}
+use Rattle.vms_cli.proofs.Facade.{sound_next, sound_word_set, ConvertsBy, Rewrites, WouldLose, agreed, agrees, lost_line, newest, target, CanBeConverted}
+use Rattle.vms_cli.proofs.Facade.{HasOne, convert_entry}
 use Rattle.vms_cli.specs.Commands.ConvertCommand.{Refuses}
-use Rattle.vms_cli.proofs.ConvertLemmas.{is_answered, newest_fit, agreed_gives, lost_is, refused_is, rewritten_is}
+use Rattle.vms_cli.proofs.ConvertLemmas.{is_answered, newest_fit, agreed_gives, converts_same}
 use Rattle.vms_cli.proofs.RowFacts.{IsDone, IsRow, spares_none, spares_text}
 
 abbrev OneConverted : Step Set → List ℕ → Held → Type 0
@@ -21,12 +20,12 @@ module _ (to : Set) (fit : IsFit to) (compatible : Compatible to newest) (input 
   of_taken n machine images takes (inl stream) = record {
     outcome = done stream.0 (Some held) n;
     is = Rewrites n machine images stream.0 takes stream.1;
-    only = λ other p. rewritten_is to fit compatible input (Some held) ok n machine images stream.0 other takes stream.1 p;
+    only = λ other p. converts_same to fit compatible input (Some held) ok _ other (Rewrites n machine images stream.0 takes stream.1) p;
   }
   of_taken n machine images takes (inr lost) = record {
     outcome = ended 11 (lost_line newest lost.0 lost.1) n;
     is = WouldLose n machine images lost.0 lost.1 takes lost.2;
-    only = λ other p. lost_is to fit compatible input (Some held) ok n machine images lost.0 lost.1 other takes lost.2 p;
+    only = λ other p. converts_same to fit compatible input (Some held) ok _ other (WouldLose n machine images lost.0 lost.1 takes lost.2) p;
   }
 
   one_answered : Answer newest newest.machines input → OneConverted (Gives to) input held
@@ -35,7 +34,7 @@ module _ (to : Set) (fit : IsFit to) (compatible : Compatible to newest) (input 
   one_answered (Faulty place section reason size fault) = record {
     outcome = ended 1 (refused_line newest place section reason) (place + size);
     is = Refuses place section reason size fault;
-    only = λ other p. refused_is to fit compatible input (Some held) ok place section reason size other fault p;
+    only = λ other p. converts_same to fit compatible input (Some held) ok _ other (Refuses place section reason size fault) p;
   }
 
 -- ---- the step that gives the set
@@ -51,9 +50,8 @@ suits_agreed to None e fit = (fit, e)
 suits_agreed to (Some m) e fit = tt
 
 suits_next : (s : Step Set) → FitStep s → Suits (next s agrees)
-suits_next Untold fit = tt
 suits_next (Gives to) fit = suits_agreed to (first_mismatch to newest) refl fit
-suits_next (Ends status line) fit = tt
+suits_next _ fit = tt
 
 sound_agreed : (held : Option Held) (to : Set) (m : Option Mismatch) → IsSound held (agreed to m)
 sound_agreed held to None = tt
@@ -69,7 +67,7 @@ one_by (Gives to) input held ok sound suits =
 one_by (Ends status line) input held ok sound suits = record { outcome = ended status line 0; is = refl; only = λ other e. e }
 
 pub target_gives : (held : Option Held) (word : SetWord) (to : Set) → word_set held word ≡ Gives to → Compatible to newest → target held word ≡ Gives to
-target_gives held word to there compatible = ap (λ (s : Step Set). next s agrees) there ∙ agreed_gives to compatible
+target_gives held word to there compatible = cc (agreed_gives to compatible)
 
 module _ (word : SetWord) (held : Option Held) where
   converted_then : (input : Option (List ℕ)) → CanBeConverted word input held
@@ -78,8 +76,7 @@ module _ (word : SetWord) (held : Option Held) where
   converted_then (Some bytes) can =
       let to = can.0 in
       let c = can.3 in
-      let fit : IsFit to = subst FitStep can.1 (fit_word held word) in
-      by (is_answered to fit can.2 c.1 c.2 (taken_kept newest newest.machines bytes c.0 c.1 c.2 c.3))
+      by (is_answered to (subst FitStep can.1 (fit_word held word)) can.2 c.1 c.2 (taken_kept newest newest.machines bytes c.0 c.1 c.2 c.3))
     where
       by : ((stream : List ℕ) × IsStreamFor can.0 newest can.3.1 can.3.2 stream)
           ⊎ ((section : Option ℕ) × (cell : Option ℕ) × LosesFirst can.0 newest can.3.1 can.3.2 section cell)

@@ -1,6 +1,6 @@
 -- `load` has one outcome, and a board goes on if its stream and a script can be read.
-use Rattle.vms_cli.proofs.Facade.{ℕ, List, Option, Some, None, refl, sym, subst, inl, inr, none-some, Held, IsBytes, FitsHeads, WellFormed, done, ended}
-use Rattle.vms_cli.proofs.Facade.{Step, Untold, Gives, Ends, IsSound, clock, clock_stands, Family, isa, isa_stands, Back, Restores, script_gives, sound_script}
+use Rattle.vms_cli.proofs.Facade.{ℕ, List, Option, Some, None, refl, sym, subst, inl, inr, none-some, Held, IsBytes, FitsHeads, WellFormed, done, ended, Step}
+use Rattle.vms_cli.proofs.Facade.{Untold, Gives, Ends, IsSound, clock, clock_stands, Family, isa, isa_stands, Back, Restores, script_gives, sound_script}
 use Rattle.vms_cli.proofs.Facade.{loads_one, LoadsBy, Traces, scripted, answers_to, trace_of, events_of, ScriptLine, IsaBoard, BoardWord, ClockBoard, HasOne}
 use Rattle.vms_cli.proofs.Facade.{CanBeRead, load_entry}
 use Rattle.vms_cli.proofs.RowFacts.{IsDone, IsRow, spares_none, spares_text}

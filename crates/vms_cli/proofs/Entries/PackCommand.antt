@@ -15,8 +15,7 @@ packed : (word : SetWord) (name : List ℕ) (input : Option (List ℕ)) (held : 
     → IsDone (pack_entry word name).task input held
 packed word name input None can = absurd can
 packed word name input (Some map) can =
-    let stream = described_stream can.set can.machine can.images in
-    let outcome = done stream (Some map) 0 in
+    let outcome = done (described_stream can.set can.machine can.images) (Some map) 0 in
     record {
       outcome = outcome;
       is = subst (λ (s : Step (List ℕ)). HasText (Some map) s outcome) (sym (packs_give word name map can)) refl;

@@ -1,8 +1,7 @@
 -- `play` has one outcome, and a script that can be read is played.
 use Rattle.vms_cli.proofs.Facade.{ℕ, List, ◌∷◌, [], Option, Some, None, IfSome, refl, sym, ap, subst, inl, inr, none-some, Held, HoldsAll, Outcome, ended, Step}
 use Rattle.vms_cli.proofs.Facade.{Untold, Gives, Ends, IsSound, AreStepLines, script_gives, scripted_lines, sound_script, IsLevel, has_end, one_outcome}
-use Rattle.vms_cli.proofs.Facade.{PlaysBy}
-use Rattle.vms_cli.proofs.Facade.{scripted, reads_exactly, AreLines, ScriptLine, HasOne, play_entry}
+use Rattle.vms_cli.proofs.Facade.{PlaysBy, scripted, reads_exactly, AreLines, ScriptLine, HasOne, play_entry}
 use Rattle.vms_cli.proofs.RowFacts.{IsDone, IsRow, Spares}
 
 abbrev OnePlays : ℕ → Step (List ScriptLine) → Held → Type 0
@@ -22,8 +21,7 @@ played : (level : ℕ) (script : List ℕ) (input : Option (List ℕ)) (held : O
 played level script input None octets is can = absurd can
 played level script input (Some map) octets is can =
     let read = can in
-    let are : AreLines (Some level) read.lines = (reads_exactly.only (Some level) read.text read.lines read.reads).0 in
-    let end = has_end level read.lines map is are octets in
+    let end = has_end level read.lines map is ((reads_exactly.only (Some level) read.text read.lines read.reads).0) octets in
     record {
       outcome = end.0;
       is = subst (λ (s : Step (List ScriptLine)). PlaysBy level s (Some map) end.0)

@@ -1,10 +1,10 @@
 -- `show` has one outcome, and what can be shown is.
-use Rattle.vms_cli.proofs.Facade.{ℕ, ◌+◌, List, Option, Some, None, refl, sym, subst, inl, inr, none-some, Held, IsBytes, values_text}
-use Rattle.vms_cli.proofs.Facade.{Set, IsFit, Answer, Taken, Faulty, either_holds, word_set, refused_line, done, ended, SetWord, Step, Untold}
-use Rattle.vms_cli.proofs.Facade.{Gives, Ends, FitStep, fit_word, IsSound, sound_word_set, CanBeShown, ShowsBy, Refuses, HasOne, show_entry}
+use Rattle.vms_cli.proofs.Facade.{ℕ, ◌+◌, List, Option, Some, None, refl, sym, subst, inl, inr, none-some, Held, IsBytes, values_text, Set, IsFit, Answer}
+use Rattle.vms_cli.proofs.Facade.{Taken, Faulty, either_holds, word_set, refused_line, done, ended, SetWord, Step, Untold, Gives, Ends, FitStep, fit_word}
+use Rattle.vms_cli.proofs.Facade.{IsSound, sound_word_set, CanBeShown, ShowsBy, Refuses, HasOne, show_entry}
 use Rattle.vms_cli.specs.Commands.ShowCommand.{Values as Printed}
 use Rattle.vms_cli.proofs.RowFacts.{IsDone, IsRow, spares_none, spares_text}
-use Rattle.vms_cli.proofs.ShowLemmas.{shown_is, refused_is}
+use Rattle.vms_cli.proofs.ShowLemmas.{shows_same}
 
 abbrev OneShown : Step Set → List ℕ → Held → Type 0
 OneShown step input held = HasOne (λ o. ShowsBy step (Some input) (Some held) o)
@@ -14,12 +14,12 @@ one_answered : (set : Set) → IsFit set → (input : List ℕ) (held : Held) �
 one_answered set fit input held ok (Taken n machine images takes) = record {
   outcome = done (values_text set machine images) (Some held) n;
   is = Printed n machine images takes;
-  only = λ other shows. shown_is set fit input (Some held) n machine images other ok takes shows;
+  only = λ other shows. shows_same set fit input (Some held) _ other ok (Printed n machine images takes) shows;
 }
 one_answered set fit input held ok (Faulty place section reason size fault) = record {
   outcome = ended 1 (refused_line set place section reason) (place + size);
   is = Refuses place section reason size fault;
-  only = λ other shows. refused_is set fit input (Some held) place section reason size other ok fault shows;
+  only = λ other shows. shows_same set fit input (Some held) _ other ok (Refuses place section reason size fault) shows;
 }
 
 one_by : (s : Step Set) (input : List ℕ) (held : Held) → IsBytes input → IsSound (Some held) s → FitStep s → OneShown s input held

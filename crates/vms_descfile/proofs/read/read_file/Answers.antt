@@ -11,6 +11,5 @@ returns-in-Ok-read_parts c =
 
 pub returns : goal.returns
 returns c =
-    let d = view c.root.result in
     subst (λ (s : Said). Gives s (Err c.of.result)) (ap (λ e. parts_said (parts_of e)) c.root.ensures ∙ said_by c.args.text.now (tree_view c.in-Ok.value) c.in-Ok.ensures)
-    (shape_said (parts_of d) c.in-Err-read_parts.fault c.of.result c.in-Err-read_parts.ensures c.of.ensures)
+    (shape_said (parts_of (view c.root.result)) c.in-Err-read_parts.fault c.of.result c.in-Err-read_parts.ensures c.of.ensures)

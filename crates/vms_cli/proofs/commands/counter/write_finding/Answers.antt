@@ -14,9 +14,7 @@ returns-in_ok-text-in-NoState-clause-ends g c =
 
 pub returns-in_ok-write_state-in-State-clause-ends : goal.returns-in_ok-write_state-in-State-clause-ends
 returns-in_ok-write_state-in-State-clause-ends g c =
-    let out = outlet g.O.Sink c.args.out.now in
-    let out' = outlet g.O.Sink c.write_state.new.out in
-    subst (λ (l : List ℕ). Appends out.written out'.written l)
+    subst (λ (l : List ℕ). Appends (outlet g.O.Sink c.args.out.now).written (outlet g.O.Sink c.write_state.new.out).written l)
     (state_is (described c.args.old.now)
     (described c.args.new.now) c.args.finding.now c.in-State.mismatch c.in-State.machine c.in-State.images c.in-State.refusal
     c.deref.result.now c.deref-in-State.result.now c.in-State.is
@@ -25,11 +23,9 @@ returns-in_ok-write_state-in-State-clause-ends g c =
 
 pub returns-in_err-write_state-in-State-clause-ends : goal.returns-in_err-write_state-in-State-clause-ends
 returns-in_err-write_state-in-State-clause-ends g c =
-    let out = outlet g.O.Sink c.args.out.now in
-    let out' = outlet g.O.Sink c.write_state.new.out in
     let stops = c.in_err-write_state-in-State.ensures in
     rw (ending_passed c.from_residual-in_err-write_state-in-State.result c.from_residual-in_err-write_state-in-State.ensures.1)
-    (subst (λ (l : List ℕ). AppendsPrefix out.written out'.written l)
+    (subst (λ (l : List ℕ). AppendsPrefix (outlet g.O.Sink c.args.out.now).written (outlet g.O.Sink c.write_state.new.out).written l)
     (state_is (described c.args.old.now)
     (described c.args.new.now) c.args.finding.now c.in-State.mismatch c.in-State.machine c.in-State.images c.in-State.refusal
     c.deref.result.now c.deref-in-State.result.now c.in-State.is

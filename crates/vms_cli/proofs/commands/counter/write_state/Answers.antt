@@ -6,8 +6,7 @@ use Rattle.vms_cli.proofs.commands.counter.write_state.Goals as goal
 
 pub print_values-requires-clause-named : goal.print_values-requires-clause-named
 print_values-requires-clause-named g c = λ m e.
-    let machines = (described c.args.set.now).machines in
-    subst (λ (x : Option ℕ). IfSome x (λ k. k < length machines)) e c.requires.machine
+    subst (λ (x : Option ℕ). IfSome x (λ k. k < length ((described c.args.set.now).machines))) e c.requires.machine
 
 pub print_values-requires-clause-one_each : goal.print_values-requires-clause-one_each
 print_values-requires-clause-one_each g c = printed_of (described c.args.set.now) c.args.set.now.well_formed c.args.images.now c.requires.of
@@ -15,12 +14,9 @@ print_values-requires-clause-one_each g c = printed_of (described c.args.set.now
 pub returns-in-Ok : goal.returns-in-Ok
 returns-in-Ok g c =
     let set = described c.args.set.now in
-    let a = outlet g.O.Sink c.args.out.now in
     let d = outlet g.O.Sink c.print_values.new.sink in
     let r = c.print_values.result in
-    let head = c.args.head.now in
     let states = map state_of c.args.images.now in
-    let machines = set.machines in
-    subst (λ (k : Option (List ℕ)). Wrote a d (head ++ values_text set k states) r)
-    (sym (named set c.args.machine (λ m e. subst (λ (x : Option ℕ). IfSome x (λ k. k < length machines)) e c.requires.machine)))
+    subst (λ (k : Option (List ℕ)). Wrote (outlet g.O.Sink c.args.out.now) d (c.args.head.now ++ values_text set k states) r)
+    (sym (named set c.args.machine (λ m e. subst (λ (x : Option ℕ). IfSome x (λ k. k < length set.machines)) e c.requires.machine)))
     (wrote_behind r d (values_text set (machine_of set c.args.machine) states) c.in-Ok.ensures c.print_values.ensures)

@@ -6,14 +6,12 @@ use Rattle.vms_cli.proofs.commands.pack.pack.Goals as goal
 
 pub returns : goal.returns
 returns g c = λ input few.
-    let parts = named_parts (g.H.Shelf.held c.args.shelf.now) (set_asked c.args.set) c.args.values.now in
-    let out' = outlet g.O.Sink c.pack_text.new.out in
     let had = c.in_ok-parts.ensures in
     let ends =
-    subst (λ (l : List ℕ). TextEnds (packed (described c.in_ok-parts.parts.set) l) (outlet g.O.Sink c.args.out.now) out'
+    subst (λ (l : List ℕ). TextEnds (packed (described c.in_ok-parts.parts.set) l) (outlet g.O.Sink c.args.out.now) (outlet g.O.Sink c.pack_text.new.out)
     (ending_of c.pack_text.result)) c.deref.ensures.value c.pack_text.ensures.ends in
     record {
-      content = λ o has. had_text parts_of packed_parts parts input _
+      content = λ o has. had_text parts_of packed_parts (named_parts (g.H.Shelf.held c.args.shelf.now) (set_asked c.args.set) c.args.values.now) input _
           (stock g.H.Shelf c.args.shelf.now) _ few had.asks.looks o has _ c.in_ok-parts.parts _ _ _ had.had c.pack_text.ensures.so ends;
       so = pack_ends input _ _ _ _ _ c.pack_text.ensures.so had.asks.looks;
       given = tt;
@@ -22,11 +20,10 @@ returns g c = λ input few.
 
 pub returns-in_err-parts : goal.returns-in_err-parts
 returns-in_err-parts g c = rw (ending_passed c.from_residual.result c.from_residual.ensures.1) (λ input few.
-    let parts = named_parts (g.H.Shelf.held c.args.shelf.now) (set_asked c.args.set) c.args.values.now in
     let out = outlet g.O.Sink c.args.out.now in
     let had = c.in_err-parts.ensures in
     record {
-      content = λ o has. lacks_text parts_of packed_parts parts input out
+      content = λ o has. lacks_text parts_of packed_parts (named_parts (g.H.Shelf.held c.args.shelf.now) (set_asked c.args.set) c.args.values.now) input out
           (stock g.H.Shelf c.args.shelf.now) _ few had.asks.looks o has c.in_err-parts.field-0.0 had.had;
       so = lacks_so (0 ∷ 6 ∷ 10 ∷ []) [] refl input out had.asks;
       given = tt;

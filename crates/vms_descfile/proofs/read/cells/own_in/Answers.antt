@@ -8,6 +8,5 @@ returns c =
     let three = put (codes "mask") (view c.in_ok-mask.mask) two in
     let four = put (codes "value") (view c.in_ok-number.number) three in
     let all : members_left c.in_ok-members.members ≡ four =
-    c.in_ok-field.ensures no_members ∙ c.in_ok-rel.ensures one ∙ c.in_ok-mask.ensures two ∙ c.in_ok-number.ensures three
-    ∙ none_left c.next.result _ _ (sym c.is_some.ensures ∙ c.if-is_some.false) (c.next.ensures.value four) in
+    cc (c.in_ok-field.ensures no_members, c.in_ok-rel.ensures one, c.in_ok-mask.ensures two, c.in_ok-number.ensures three, none_left c.next.result _ _ (sym c.is_some.ensures ∙ c.if-is_some.false) (c.next.ensures.value four)) in
     object_is _ _ c.in_ok-members.ensures ∙ ap object all

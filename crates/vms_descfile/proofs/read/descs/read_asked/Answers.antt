@@ -13,7 +13,6 @@ returns-in_ok-names c =
 
 pub returns-else-is_asked : goal.returns-else-is_asked
 returns-else-is_asked c =
-    let d = view c.args.value.now in
     subst (λ (a : Answer Desc). Answers desc_seen a c.read_struct-else-is_asked.result)
-    (struct_unasked c.args.asks d (sym c.is_asked.ensures ∙ c.if-is_asked.false))
+    (struct_unasked c.args.asks (view c.args.value.now) (sym c.is_asked.ensures ∙ c.if-is_asked.false))
     c.read_struct-else-is_asked.ensures

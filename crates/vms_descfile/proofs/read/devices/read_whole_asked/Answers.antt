@@ -13,7 +13,6 @@ returns-in_ok-names c =
 
 pub returns-else-is_asked : goal.returns-else-is_asked
 returns-else-is_asked c =
-    let d = view c.args.value.now in
     subst (λ (a : Answer Whole). Answers whole_seen a c.read_whole-else-is_asked.result)
-    (whole_unasked c.args.asks d (sym c.is_asked.ensures ∙ c.if-is_asked.false))
+    (whole_unasked c.args.asks (view c.args.value.now) (sym c.is_asked.ensures ∙ c.if-is_asked.false))
     c.read_whole-else-is_asked.ensures

@@ -8,29 +8,27 @@ use Rattle.vms_descfile.proofs.read.tests.+read_test.Goals as goal
 pub returns-in-Some : goal.returns-in-Some
 returns-in-Some t c =
     let scope = scope_seen c.args.scope in
-    by_form c.args.depth scope (view c.args.value.now) (forms.Leaf leaves.Own) c.read_own_cell.result (omega (arith, c.if-depth-eq0.false))
-    (sym (ap form_of c.in-Some.ensures))
+    by_form c.args.depth scope (view c.args.value.now) (forms.Leaf leaves.Own) c.read_own_cell.result (omega arith) (sym (ap form_of c.in-Some.ensures))
     (subst (λ d. Answers formula (own_cell scope d) c.read_own_cell.result) (sym c.in-Some.ensures) c.read_own_cell.ensures)
 
 pub returns-in-Leaf : goal.returns-in-Leaf
 returns-in-Leaf t c =
-    by_form c.args.depth (scope_seen c.args.scope) (view c.args.value.now) (forms.Leaf c.in-Leaf.leaf) c.read_leaf.result (omega (arith, c.if-depth-eq0.false))
+    by_form c.args.depth (scope_seen c.args.scope) (view c.args.value.now) (forms.Leaf c.in-Leaf.leaf) c.read_leaf.result (omega arith)
     c.in-Leaf.ensures c.read_leaf.ensures
 
 pub returns-in-Some-get : goal.returns-in-Some-get
 returns-in-Some-get t c =
     let scope = scope_seen c.args.scope in
     let inner = test_within (c.args.depth - 1) scope in
-    by_form c.args.depth scope (view c.args.value.now) forms.Not c.negated.result (omega (arith, c.if-depth-eq0.false)) c.in-Not.ensures
+    by_form c.args.depth scope (view c.args.value.now) forms.Not c.negated.result (omega arith) c.in-Not.ensures
     (subst (λ o. Answers formula (changed Not (member_of inner (codes "not") o)) c.negated.result) c.in-Some-get.ensures
     (c.negated.ensures (inner (view c.in-Some-get.inner)) c.read_test.ensures))
 
 pub returns-in-None : goal.returns-in-None
 returns-in-None t c =
     let scope = scope_seen c.args.scope in
-    let inner = test_within (c.args.depth - 1) scope in
-    by_form c.args.depth scope (view c.args.value.now) forms.Not (Err c.here-in-None.result) (omega (arith, c.if-depth-eq0.false)) c.in-Not.ensures
-    (subst (λ o. Refuses (changed Not (member_of inner (codes "not") o)) c.here-in-None.result) c.in-None.ensures
+    by_form c.args.depth scope (view c.args.value.now) forms.Not (Err c.here-in-None.result) (omega arith) c.in-Not.ensures
+    (subst (λ o. Refuses (changed Not (member_of (test_within (c.args.depth - 1) scope) (codes "not") o)) c.here-in-None.result) c.in-None.ensures
     (subst (λ f. Refuses (bad []) f) (sym c.here-in-None.ensures) refl))
 
 pub returns-in-Ok : goal.returns-in-Ok
@@ -40,8 +38,8 @@ returns-in-Ok t c =
     let join = c.in-Two.join in
     let inner = test_within (c.args.depth - 1) scope in
     let pair = pair_seen (c.in-Ok.first, c.in-Ok.second) in
-    let two : at two_of (key_of join) d ≡ good pair = ap (λ k. at two_of k d) (sym c.key.ensures) ∙ c.in-Ok.ensures in
-    by_form c.args.depth scope d (forms.Two join) c.both.result (omega (arith, c.if-depth-eq0.false)) c.in-Two.ensures
+    let two : at two_of (key_of join) d ≡ good pair = cc (c.key.ensures, c.in-Ok.ensures) in
+    by_form c.args.depth scope d (forms.Two join) c.both.result (omega arith) c.in-Two.ensures
     (subst (λ a. Answers formula (next a (λ p. under (key_of join) (both (joined join) (inner p.first) (inner p.second)))) c.both.result) (sym two)
     (c.both.ensures (inner pair.first) (inner pair.second) c.read_test-first.ensures c.read_test-second.ensures))
 
@@ -51,6 +49,6 @@ returns-in-Err t c =
     let d = view c.args.value.now in
     let join = c.in-Two.join in
     let inner = test_within (c.args.depth - 1) scope in
-    by_form c.args.depth scope d (forms.Two join) (Err c.in-Err.fault) (omega (arith, c.if-depth-eq0.false)) c.in-Two.ensures
+    by_form c.args.depth scope d (forms.Two join) (Err c.in-Err.fault) (omega arith) c.in-Two.ensures
     (refused_next (at two_of (key_of join) d) (λ p. under (key_of join) (both (joined join) (inner p.first) (inner p.second))) c.in-Err.fault
     (subst (λ k. Refuses (at two_of k d) c.in-Err.fault) c.key.ensures c.in-Err.ensures))

@@ -19,9 +19,8 @@ loop-item-preserved g c =
 pub returns-clause-file : goal.returns-clause-file
 returns-clause-file g c =
     let f = g.W.Writes.file c.args.writer.now in
-    let xs = c.args.items.now in
     let done = map view c.loop-item.list.items in
-    sym (c.loop-item.invariant.file ∙ ap (λ l. done ++ map f l) (drop_all c.loop-item.item-index xs c.loop-item-test.false) ∙ append-nil done)
+    sym (c.loop-item.invariant.file ∙ ap (λ l. done ++ map f l) (drop_all c.loop-item.item-index c.args.items.now c.loop-item-test.false) ∙ append-nil done)
 
 pub returns-clause-fits : goal.returns-clause-fits
 returns-clause-fits g c = λ i x there. c.loop-item.invariant.fits i (omega (arith, slice_get_within c.args.items.now i x there)) x there

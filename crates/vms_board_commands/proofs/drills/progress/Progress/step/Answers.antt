@@ -10,7 +10,7 @@ returns-in_ok-self-clause-view c =
     goes_saved (progress_view c.args.self.now) c.next_event.result c.next_event.new.self.number c.event-answer.result c.event-answer.new.self.state (tally_view c.count.new.self)
     c.next_event.ensures.number c.next_event.ensures.event c.event-answer.ensures.step c.count.ensures.counts
     c.come_back.new.board.state c.in_ok-self.field-0 c.come_back.new.board.taken (sym c.is_save_due.ensures ∙ c.if-is_save_due.true)
-    c.in_ok-self.ensures.state c.in_ok-self.ensures.long c.in_ok-self.ensures.taken
+    c.in_ok-self.ensures.back.state c.in_ok-self.ensures.back.long c.in_ok-self.ensures.back.taken
 
 pub returns-else-is_save_due-clause-view : goal.returns-else-is_save_due-clause-view
 returns-else-is_save_due-clause-view c =
