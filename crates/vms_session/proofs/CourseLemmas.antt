@@ -94,7 +94,8 @@ module _ (i : ℕ) (line : ScriptLine) (left : List ScriptLine) (parts : List Pa
         holds = between.held;
         told = ends.1;
         rest = rw ends.2 (rw (rest_next (part_of line text between) course.rest.1 i parts next) course.rest.4);
-        text = rw (text_next (part_of line text between) course.rest.1 i parts next) (Appends-trans out.written out'.written out''.written (text_of (take i parts)) text course.text
+        text = rw (text_next (part_of line text between) course.rest.1 i parts next)
+            (Appends-trans out.written out'.written out''.written (text_of (take i parts)) text course.text
             (rw (append-nil text) at ends.0));
         held = cc (held_next (part_of line text between) course.rest.1 i shelf.held parts next);
       }
@@ -120,7 +121,8 @@ module _ (i : ℕ) (line : ScriptLine) (left : List ScriptLine) (parts : List Pa
       by (inr some) = record {
         begun = suc i;
         bytes = some.0;
-        text = rw (begun_next (part_of line text between) course.rest.1 i some.0 parts next) (Appends-trans out.written out'.written out''.written (text_of (take i parts)) (take some.0 text) course.text some.1);
+        text = rw (begun_next (part_of line text between) course.rest.1 i some.0 parts next)
+            (Appends-trans out.written out'.written out''.written (text_of (take i parts)) (take some.0 text) course.text some.1);
         held = cc (held_next (part_of line text between) course.rest.1 i shelf.held parts next);
       }
 

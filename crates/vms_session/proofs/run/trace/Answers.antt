@@ -1,6 +1,7 @@
 use Rattle.vms_session.proofs.Facade.{◌≡◌, ◌+◌, [], ◌∷◌, drop, refl, sym, ◌∙◌, arith, err_from_is_err_and, outlet, trace_line, trace_from, leaves_all}
 use Rattle.vms_session.proofs.Facade.{leaves_none, leaves_rest, leaves_stop}
-use Rattle.vms_session.proofs.RunLemmas.{event_at, left_next, none_left, first_event, later_events, after_next, after_none, none_yet, number_next, one_more, trace_next, trace_none}
+use Rattle.vms_session.proofs.RunLemmas.{event_at, left_next, none_left, first_event, later_events, after_next, after_none, none_yet, number_next, one_more}
+use Rattle.vms_session.proofs.RunLemmas.{trace_next, trace_none}
 use Rattle.vms_session.proofs.run.trace.Given.{Over}
 use Rattle.vms_session.proofs.run.trace.Goals as goal
 use Rattle.vms_session.proofs.run.trace.Goals.{In-loop-event, After-loop-event}
@@ -88,4 +89,8 @@ returns-in_err-trace_event-clause-stopped g c =
 
 pub returns-clause-state : goal.returns-clause-state
 returns-clause-state g c =
-    cc (after_none g.M.Machine.family (drop c.loop-event.event-index c.args.events.now) c.loop-event.board.state (none g (goal.at.returns-clause-state g c).After-loop-event), c.loop-event.invariant.left)
+    cc (
+      after_none g.M.Machine.family (drop c.loop-event.event-index c.args.events.now) c.loop-event.board.state
+          (none g (goal.at.returns-clause-state g c).After-loop-event),
+      c.loop-event.invariant.left,
+    )

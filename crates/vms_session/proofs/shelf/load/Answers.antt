@@ -18,11 +18,13 @@ pub returns-in-Err-clause-text : goal.returns-in-Err-clause-text
 returns-in-Err-clause-text c = λ held text new loads.
     c.refused_mark.ensures
     ∙ ap (λ (s : Set). refused_line s c.in-Err.refusal.at c.in-Err.refusal.section c.in-Err.refusal.reason) c.set.ensures
-    ∙ sym (comes c.args.stream.items (session_of c.args.board.now.state held) text new (Refused c.in-Err.refusal.at c.in-Err.refusal.section c.in-Err.refusal.reason)
+    ∙ sym (comes c.args.stream.items (session_of c.args.board.now.state held) text new
+    (Refused c.in-Err.refusal.at c.in-Err.refusal.section c.in-Err.refusal.reason)
     c.in-Err.ensures.octets c.requires c.in-Err.ensures.refused loads).text_is
 
 pub returns-in-Err-clause-board : goal.returns-in-Err-clause-board
 returns-in-Err-clause-board c = λ held text new loads.
     ap (λ b. b.state) c.in-Err.ensures.same ∙ ap (λ s. s.board)
-    (sym (comes c.args.stream.items (session_of c.args.board.now.state held) text new (Refused c.in-Err.refusal.at c.in-Err.refusal.section c.in-Err.refusal.reason)
+    (sym (comes c.args.stream.items (session_of c.args.board.now.state held) text new
+    (Refused c.in-Err.refusal.at c.in-Err.refusal.section c.in-Err.refusal.reason)
     c.in-Err.ensures.octets c.requires c.in-Err.ensures.refused loads).new_is)
