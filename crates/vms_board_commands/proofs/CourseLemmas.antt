@@ -26,7 +26,7 @@ among_right (n ∷ xs) ys k e = or_right (n == k) (is_among (xs ++ ys) k) (among
 
 -- the statuses of the shelf are included if the command reads the shelf
 pub shelf_has : (own : List ℕ) (asks : Bool) (k : ℕ) → asks ≡ true → is_among (of_shelf true) k ≡ true → is_among (own ++ of_shelf asks) k ≡ true
-shelf_has own asks k is one = among_right own (of_shelf asks) k (ap (λ (x : Bool). is_among (of_shelf x) k) is ∙ one)
+shelf_has own asks k is one = among_right own (of_shelf asks) k (rw is (one))
 
 -- ---- a set or a script that isn't available
 
@@ -68,8 +68,7 @@ module _ (i : Intake) (s : Stock) (o o' : Outlet) where
       unshelved_so s save_course None refl tt (λ f. absurd (wrong f)) (λ f. refl) (draws_none i) (record { later = h.later; promise = h.promise })
   saved_so bytes (Err saves.WriteFault) h =
       unshelved_so s save_course (Some WriteFault) refl h.rose (λ f. absurd (wrong f)) (λ f. refl) (draws_none i) (record { later = h.puts.later; promise = h.puts.promise })
-  saved_so bytes (Err saves.NoMemory) h =
-      subst (λ (x : Outlet). EndsSo i i o x s s save_course (Some NoMemory)) (sym h) (same_so i o s save_course (Some NoMemory) refl tt)
+  saved_so bytes (Err saves.NoMemory) h = rw h (same_so i o s save_course (Some NoMemory) refl tt)
 
   pub drilled_so : (text : List ℕ) (e : Option Ending) → WritesAs text o o' e → EndsSo i i o o' s s drill_course e
   drilled_so text None w =

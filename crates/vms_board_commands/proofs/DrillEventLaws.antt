@@ -7,31 +7,16 @@ pub sum_rest : (n k m : ℕ) → (n % m + k) % m ≡ (n + k) % m
 sum_rest n k m = mod-add-mod n m k
 
 pub wire-is : (n : ℕ) → n < 13 → is_wire (get_or wires n 0) ≡ true
-wire-is zero l = refl
-wire-is (suc zero) l = refl
-wire-is (suc (suc zero)) l = refl
-wire-is (suc (suc (suc zero))) l = refl
-wire-is (suc (suc (suc (suc zero)))) l = refl
-wire-is (suc (suc (suc (suc (suc zero))))) l = refl
-wire-is (suc (suc (suc (suc (suc (suc zero)))))) l = refl
-wire-is (suc (suc (suc (suc (suc (suc (suc zero))))))) l = refl
-wire-is (suc (suc (suc (suc (suc (suc (suc (suc zero)))))))) l = refl
-wire-is (suc (suc (suc (suc (suc (suc (suc (suc (suc zero))))))))) l = refl
-wire-is (suc (suc (suc (suc (suc (suc (suc (suc (suc (suc zero)))))))))) l = refl
-wire-is (suc (suc (suc (suc (suc (suc (suc (suc (suc (suc (suc zero))))))))))) l = refl
-wire-is (suc (suc (suc (suc (suc (suc (suc (suc (suc (suc (suc (suc zero)))))))))))) l = refl
-wire-is (suc (suc (suc (suc (suc (suc (suc (suc (suc (suc (suc (suc (suc n))))))))))))) l = absurd (omega (arith, l))
+wire-is (suc (suc (suc (suc (suc (suc (suc (suc (suc (suc (suc (suc (suc n))))))))))))) l = absurd (omega arith)
+wire-is _ l = refl
 
 by-is : (what value place : ℕ) → value < 256 → IsEvent (event_by what value place)
 unfolding event_by
-by-is zero value place v = tt
-by-is (suc zero) value place v = tt
 by-is (suc (suc zero)) value place v = v
 by-is (suc (suc (suc zero))) value place v = v
 by-is (suc (suc (suc (suc zero)))) value place v = v
-by-is (suc (suc (suc (suc (suc zero))))) value place v = tt
-by-is (suc (suc (suc (suc (suc (suc zero)))))) value place v = tt
 by-is (suc (suc (suc (suc (suc (suc (suc what))))))) value place v = wire-is (place % 13) (omega arith)
+by-is _ value place v = tt
 
 pub event-is : (x : ℕ) → IsEvent (event_of x)
 unfolding event_of

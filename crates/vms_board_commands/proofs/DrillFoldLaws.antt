@@ -9,7 +9,7 @@ use Rattle.vms_board_commands.proofs.DrillEventLaws.{event-is}
 -- the set of a save is one under which the board may be saved
 pub save_may : (level saves : ℕ) → level ≤ NEWEST → MaySaveUnder level (set_of level saves)
 unfolding set_of
-save_may level saves l = record { level_le_set = omega arith; set_le_newest = omega (arith, l) }
+save_may level saves l = record { level_le_set = omega arith; set_le_newest = omega arith }
 
 -- a board that is sound and like another one
 pub record Left (m after : State) : Type 0 where
@@ -21,7 +21,7 @@ came-left : (set : ℕ) (m : State) → IsSound m → MaySaveUnder m.level set �
 unfolding came_back
 came-left set m s may =
     let back = saved_comes_back.back set m s may in
-    subst (λ (r : Result State Misfit). Left m (back_of m r)) (sym back.restored) (record {
+    rw back.restored (record {
       alike = back.alike;
       sound = restored_is_sound.sound m.level (carried set (saved set m)) back.back s.devices.level back.may back.restored;
       level = restored_is_sound.level m.level (carried set (saved set m)) back.back back.restored;
@@ -52,10 +52,10 @@ goes (suc count) progress m a s =
     let left = save-left (progress.events + 1) (step event progress.board).1 (sound_stays_on.event event progress.board (event-is (next_number progress.number)) s) in
     let on = goes count (with_event progress) (step event m).1 (likeness.on _ _ _ now.alike left.alike) left.sound in
     record {
-      counts = on.counts ∙ ap (λ (answer : Answer). counted_all (observe (events_after (next_number progress.number) count) (step event m).1) (counted answer progress.counts)) now.value;
+      counts = on.counts ∙ ap (λ answer. counted_all (observe (events_after (next_number progress.number) count) (step event m).1) (counted answer progress.counts)) now.value;
       alike = on.alike;
-      events = let e = on.events in omega (arith, e);
-      level = on.level ∙ left.level ∙ clock_goes_on.level event progress.board;
+      events = omega arith;
+      level = cc (clock_goes_on.level event progress.board);
       sound = on.sound;
     }
 
@@ -63,7 +63,7 @@ same : (level seed count : ℕ) → IsLevel level → IsAsUnsaved level seed cou
 unfolding power_on
 same level seed count l =
     let all = goes count (begun level seed) (power_on level) (likeness.itself (power_on level)) (sound_stays_on.power_on level l) in
-    record { counts = all.counts; alike = all.alike; events = let e = all.events in omega (arith, e); same_level = all.level; sound = all.sound }
+    record { counts = all.counts; alike = all.alike; events = omega arith; same_level = all.level; sound = all.sound }
 
 pub saves_leave_counts : SavesLeaveCounts
 saves_leave_counts = record { same = same }

@@ -17,17 +17,17 @@ progress_is_same = record {
       let all = saves_leave_counts.same level seed count l in
       record {
         progress = progress;
-        counts = ap (λ (c : Progress). c.counts) progress ∙ all.counts;
-        events = ap (λ (c : Progress). c.events) progress ∙ all.events;
-        alike = subst (λ (c : Progress). Alike (after_all (events_after seed count) (power_on level)) c.board) (sym progress) all.alike;
-        sound = subst (λ (c : Progress). IsSound c.board) (sym progress) all.sound;
+        counts = rw progress (all.counts);
+        events = rw progress (all.events);
+        alike = rw progress all.alike;
+        sound = rw progress all.sound;
       };
 }
 
 -- ---- sizes
 
 due-small : (due : Bool) (bytes long : ℕ) → long < STREAM_ROOM → (if due then bytes + long else bytes) ≤ bytes + STREAM_ROOM
-due-small true bytes long l = omega (arith, l)
+due-small true bytes long l = omega arith
 due-small false bytes long l = omega arith
 
 after-small : (events : ℕ) (m : State) (bytes : ℕ) → IsSound m → bytes_after events m bytes ≤ bytes + STREAM_ROOM
@@ -40,16 +40,14 @@ small : (count : ℕ) (drill : Drill) → IsSound drill.progress.board → (dril
 small zero drill s = omega arith
 small (suc count) drill s =
     let stepped = sound_stays_on.event (event_of (next_number drill.progress.number)) drill.progress.board (event-is (next_number drill.progress.number)) s in
-    let here = after-small (drill.progress.events + 1) (step (event_of (next_number drill.progress.number)) drill.progress.board).1 drill.bytes stepped in
     let left = save-left (drill.progress.events + 1) (step (event_of (next_number drill.progress.number)) drill.progress.board).1 stepped in
     let rest = small count (with_drill_event drill) left.sound in
-    omega (arith, here, rest)
+    omega (arith, after-small (drill.progress.events + 1) (step (event_of (next_number drill.progress.number)) drill.progress.board).1 drill.bytes stepped)
 
 pub sizes_are_small : SizesAreSmall
 sizes_are_small = record {
   bytes = λ level seed count l.
-      let e = small count (drill_begun level seed) (sound_stays_on.power_on level l) in
-      omega (arith, e);
+      omega (arith, small count (drill_begun level seed) (sound_stays_on.power_on level l));
 }
 
 -- ---- numbers

@@ -40,12 +40,7 @@ made events number board counts bytes taken =
 
 same-made : (events number number' : ℕ) (board board' : State) (counts counts' : Counts) (bytes bytes' taken taken' : ℕ)
     → number ≡ number' → board ≡ board' → counts ≡ counts' → bytes ≡ bytes' → taken ≡ taken' → made events number board counts bytes taken ≡ made events number' board' counts' bytes' taken'
-same-made events number number' board board' counts counts' bytes bytes' taken taken' a b c d e =
-    ap (λ (n : ℕ). made events n board counts bytes taken) a
-    ∙ ap (λ (m : State). made events number' m counts bytes taken) b
-    ∙ ap (λ (k : Counts). made events number' board' k bytes taken) c
-    ∙ ap (λ (n : ℕ). made events number' board' counts' n taken) d
-    ∙ ap (λ (n : ℕ). made events number' board' counts' bytes' n) e
+same-made events number number' board board' counts counts' bytes bytes' taken taken' a b c d e = rw (a, b, c, d, e)
 
 module _ (old : Drill) (event : Event) (number : ℕ) (answer : Answer) (board : State) (counts : Counts)
     (next : number ≡ next_number old.progress.number) (chosen : event ≡ event_of number) (done : (answer, board) ≡ step event old.progress.board)
@@ -54,28 +49,20 @@ module _ (old : Drill) (event : Event) (number : ℕ) (answer : Answer) (board :
   events = old.progress.events + 1
 
   stepped : (answer, board) ≡ step (event_of (next_number old.progress.number)) old.progress.board
-  stepped = done ∙ ap (λ (e : Event). step e old.progress.board) (chosen ∙ ap event_of next)
+  stepped = cc
 
   with-event : drill_on old (answer, board) ≡ with_drill_event old
   with-event = ap (drill_on old) stepped
 
   pub goes_unsaved : (taken : ℕ) → is_save_due events ≡ false → taken ≡ old.taken → made events number board counts old.bytes taken ≡ with_drill_event old
   goes_unsaved taken none same =
-      same-made events number (next_number old.progress.number) board (after_save events board) counts (counted answer old.progress.counts)
-      old.bytes (bytes_after events board old.bytes) taken (taken_after events board old.taken)
-      next (sym (unsaved-board events board none)) count (sym (unsaved-bytes events board old.bytes none)) (same ∙ sym (unsaved-taken events board old.taken none))
-      ∙ with-event
+      cc (same-made events number (next_number old.progress.number) board (after_save events board) counts (counted answer old.progress.counts) old.bytes (bytes_after events board old.bytes) taken (taken_after events board old.taken) next (sym (unsaved-board events board none)) count (sym (unsaved-bytes events board old.bytes none)) (same ∙ sym (unsaved-taken events board old.taken none)))
 
   pub goes_saved : (back : State) (long taken : ℕ) → is_save_due events ≡ true → back ≡ came_back (set_of board.level (saves_of events - 1)) board
       → long ≡ length (saved_stream isa (set_of board.level (saves_of events - 1)) board) → taken ≡ long
       → made events number back counts (old.bytes + long) taken ≡ with_drill_event old
   goes_saved back long taken due is long-is taken-is =
-      same-made events number (next_number old.progress.number) back (after_save events board) counts (counted answer old.progress.counts)
-      (old.bytes + long) (bytes_after events board old.bytes) taken (taken_after events board old.taken)
-      next (is ∙ sym (saved-board events board due)) count
-      (ap (λ (n : ℕ). old.bytes + n) long-is ∙ sym (saved-bytes events board old.bytes due))
-      (taken-is ∙ long-is ∙ sym (saved-taken events board old.taken due))
-      ∙ with-event
+      cc (same-made events number (next_number old.progress.number) back (after_save events board) counts (counted answer old.progress.counts) (old.bytes + long) (bytes_after events board old.bytes) taken (taken_after events board old.taken) next (is ∙ sym (saved-board events board due)) count (ap (λ (n : ℕ). old.bytes + n) long-is ∙ sym (saved-bytes events board old.bytes due)) (taken-is ∙ long-is ∙ sym (saved-taken events board old.taken due)))
 
 -- ---- the loop
 
@@ -83,8 +70,8 @@ module _ (old : Drill) (event : Event) (number : ℕ) (answer : Answer) (board :
 pub one_more : (left after : ℕ) (drill next whole : Drill) → left ≡ after + 1 → drilled_on left drill ≡ whole → next ≡ with_drill_event drill → drilled_on after next ≡ whole
 one_more left after drill next whole e goes is =
     let more : left ≡ suc after = omega (arith, e) in
-    let split : drilled_on left drill ≡ drilled_on after (with_drill_event drill) = ap (λ (n : ℕ). drilled_on n drill) more in
+    let split : drilled_on left drill ≡ drilled_on after (with_drill_event drill) = ap (λ n. drilled_on n drill) more in
     ap (drilled_on after) is ∙ sym split ∙ goes
 
 pub none_more : (left : ℕ) (drill whole : Drill) → left ≡ 0 → drilled_on left drill ≡ whole → drill ≡ whole
-none_more left drill whole e goes = sym (ap (λ (n : ℕ). drilled_on n drill) e) ∙ goes
+none_more left drill whole e goes = cc

@@ -12,10 +12,7 @@ use Rattle.vms_board_commands.proofs.SeenLemmas.{TakesSo, reads_all, seen_refuse
 pub line_is : {S : Type 0} (kind : Family S) (place other : ℕ) (section section' : Option ℕ) (reason reason' : Reason) (n k : ℕ) → place ≡ other → section ≡ section' → reason ≡ reason' → n ≡ k
     → ended 1 (refused_line (kind.set kind.newest) place section reason) n ≡ ended 1 (refused_line (kind.set kind.newest) other section' reason') k
 line_is kind place other section section' reason reason' n k a b c d =
-    ap (λ (p : ℕ). ended 1 (refused_line (kind.set kind.newest) p section reason) n) a
-    ∙ ap (λ (s : Option ℕ). ended 1 (refused_line (kind.set kind.newest) other s reason) n) b
-    ∙ ap (λ (r : Reason). ended 1 (refused_line (kind.set kind.newest) other section' r) n) c
-    ∙ ap (ended 1 (refused_line (kind.set kind.newest) other section' reason')) d
+    rw (a, b, c) (ap (ended 1 (refused_line (kind.set kind.newest) other section' reason')) d)
 
 module _ {S : Type 0} (kind : Family S) (well : WellFormed (kind.set kind.newest)) (heads : FitsHeads (kind.set kind.newest)) (level : ℕ) (lines : List ScriptLine) where
   abbrev trace-from : S → List ℕ
@@ -35,7 +32,7 @@ module _ {S : Type 0} (kind : Family S) (well : WellFormed (kind.set kind.newest
 
 -- the trace of events is that of their lines
 pub written_events : {S : Type 0} (kind : Family S) (events : List Event) (m : S) (o o' : Outlet) (e : Option Ending) → WritesAs (trace_from kind events m) o o' e → WritesAs (trace_from kind (events_of (event_lines events)) m) o o' e
-written_events kind events m o o' e w = subst (λ (es : List Event). WritesAs (trace_from kind es m) o o' e) (sym (events_back events)) w
+written_events kind events m o o' e w = rw (events_back events) w
 
 -- ---- what is seen
 
@@ -56,7 +53,7 @@ module _ {S : Type 0} (kind : Family S) (level : ℕ) (lines : List ScriptLine) 
       → TakesSo (λ bytes n. OfLoads held bytes (ended 1 line n)) input left
   refusal_takes held r line input left said (inl f) = record {
     taken = r.at + f.0.0;
-    says = subst (λ (l : List ℕ). OfLoads held input (ended 1 l (r.at + f.0.0))) (sym said) (Faulty r.at r.section r.reason f.0.0 f.0.1);
+    says = rw said (Faulty r.at r.section r.reason f.0.0 f.0.1);
     within = fault_within (kind.set kind.newest) (kind.machine level ∷ []) input r.at r.section r.reason f.0.0 f.0.1;
     rest = f.1;
   }
@@ -64,8 +61,8 @@ module _ {S : Type 0} (kind : Family S) (level : ℕ) (lines : List ScriptLine) 
       let takes = f.0.taken.1 in
       record {
         taken = r.at;
-        says = subst (λ (l : List ℕ). OfLoads held input (ended 1 l r.at)) (sym said) (Unfit r.at r.section r.reason f.0);
-        within = omega (arith, ap length takes.prefix, length-append takes.bytes takes.rest, takes.long);
+        says = rw said (Unfit r.at r.section r.reason f.0);
+        within = omega (arith, ap length takes.prefix, length-append takes.bytes takes.rest);
         rest = f.1;
       }
 
@@ -79,9 +76,8 @@ module _ {S : Type 0} (kind : Family S) (level : ℕ) (lines : List ScriptLine) 
 
 pub gives_some : {A T S : Type 0} (kind : Family S) (view : T → A) (step : Step A) (t : T) (i i' : Intake) → StepAs view step (Ok t)
     → i'.given ≤ i.given + most_given (kind.set kind.newest) → LoadGives kind step i i'
-gives_some kind view Untold t i i' h within = within
-gives_some kind view (Gives a) t i i' h within = within
 gives_some kind view (Ends status line) t i i' h within = absurd h
+gives_some kind view _ t i i' h within = within
 
 pub gives_none : {A S : Type 0} (kind : Family S) (step : Step A) (i : Intake) → LoadGives kind step i i
 gives_none kind Untold i = omega arith

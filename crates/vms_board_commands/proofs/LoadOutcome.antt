@@ -18,8 +18,7 @@ module _ {S : Type 0} (kind : Family S) (well : WellFormed (kind.set kind.newest
       let same = one_restore kind well heads level bytes ok (Refused place section reason) (Back board long) (inl f) s in cc
   faulty-is place section reason f x (Faulty other section' reason' size g) =
       let one = one_fault_holds (kind.set kind.newest) (kind.machine level ∷ []) bytes ok other place section' section reason' reason size f.0 g f.1 in
-      line_is kind other place section' section reason' reason (other + size) (place + f.0) one.places one.sections one.reasons
-      (ap (λ (n : ℕ). n + size) one.places ∙ ap (λ (n : ℕ). place + n) one.sizes)
+      line_is kind other place section' section reason' reason (other + size) (place + f.0) one.places one.sections one.reasons (rw (one.places, one.sizes))
   faulty-is place section reason f x (Unfit other section' reason' g) =
       absurd (no_fault kind well heads level bytes ok other g.images place section reason g.taken f)
 
@@ -61,4 +60,4 @@ module _ {S : Type 0} (kind : Family S) (well : WellFormed (kind.set kind.newest
 
   -- so two are the same
   pub loads_same : (x y : Outcome) → Loads kind level lines bytes held x → Loads kind level lines bytes held y → y ≡ x
-  loads_same x y p q = loads_one.only y q ∙ sym (loads_one.only x p)
+  loads_same x y p q = cc (loads_one.only y q, loads_one.only x p)

@@ -13,7 +13,7 @@ Content lines board board' o o' s s' result =
 
 module _ (level : ℕ) (lines : List ScriptLine) (i : Intake) (o o' : Outlet) (s s' : Stock) (board board' : State) (x : Outcome) (on : board ≡ power_on level) where
   at-power-on : (result : Result Unit PlayFault) → Content lines board board' o o' s s' result → Content lines (power_on level) board' o o' s s' result
-  at-power-on result content = subst (λ (b : State). Content lines b board' o o' s s' result) on content
+  at-power-on result content = rw on at content
 
   all_played : i.given < 2 ^ 64 → Content lines board board' o o' s s' (Ok tt) → IsSomeAnd s.held (λ map. PlaysAll level lines map x) → DoneAs i i o o' s s' x
   all_played few content has = by s.held refl has
@@ -22,7 +22,7 @@ module _ (level : ℕ) (lines : List ScriptLine) (i : Intake) (o o' : Outlet) (s
       by None e h = absurd h
       by (Some map) e h =
           let ends = at-power-on (Ok tt) content map h.parts h.new e h.plays in
-          subst (DoneAs i i o o' s s') (sym h.outcome) (record {
+          rw h.outcome (record {
             status_is = refl;
             text = ends.0;
             note = refl;
@@ -52,9 +52,7 @@ module _ (level : ℕ) (lines : List ScriptLine) (i : Intake) (o o' : Outlet) (s
     where
       by : (held : Option Held) → s.held ≡ held → IsSomeAnd held (λ map. PlaysAll level lines map x) → EndsAs i i o o' s s' (Some (ending_by fault)) x
       by None e h = absurd h
-      by (Some map) e h =
-          subst (EndsAs i i o o' s s' (Some (ending_by fault))) (sym h.outcome)
-          (as_ending fault h.parts h.new (at-power-on (Err fault) content map h.parts h.new e h.plays))
+      by (Some map) e h = rw h.outcome (as_ending fault h.parts h.new (at-power-on (Err fault) content map h.parts h.new e h.plays))
 
   -- however it ends
   pub played_by : (r : Result Unit PlayFault) → i.given < 2 ^ 64 → Content lines board board' o o' s s' r → IsSomeAnd s.held (λ map. PlaysAll level lines map x) → EndsAs i i o o' s s' (mapped_by ending_by r) x
@@ -69,7 +67,7 @@ module _ (i i' : Intake) (o o' : Outlet) (a b s' : Stock) (held : b.held ≡ a.h
     status_is = d.status_is;
     text = d.text;
     note = d.note;
-    held = d.held ∙ ap (λ (h : Option Held). held_after h x.parts) held;
+    held = cc;
     taken = d.taken;
   }
 
@@ -78,7 +76,7 @@ module _ (i i' : Intake) (o o' : Outlet) (a b s' : Stock) (held : b.held ≡ a.h
     begun = c.begun;
     bytes = c.bytes;
     text = c.text;
-    held = c.held ∙ ap (λ (h : Option Held). held_after h (take c.begun x.parts)) held;
+    held = cc (c.held);
   }
 
   fails-since : FailsToStore o o' b s' x.parts → FailsToStore o o' a s' x.parts
@@ -86,8 +84,7 @@ module _ (i i' : Intake) (o o' : Outlet) (a b s' : Stock) (held : b.held ≡ a.h
     done = c.done;
     text = c.text;
     rose = rose_since a.faults b.faults s'.faults le c.rose;
-    held = subst (λ (want : Option Held). HoldsBut (stored_next (drop c.done x.parts)) want s'.held)
-        (ap (λ (h : Option Held). held_after h (take c.done x.parts)) held) c.held;
+    held = rw (ap (λ (h : Option Held). held_after h (take c.done x.parts)) held) at c.held;
   }
 
   pub ends_since : (e : Option Ending) → EndsAs i i' o o' b s' e x → EndsAs i i' o o' a s' e x

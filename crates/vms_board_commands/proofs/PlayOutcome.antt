@@ -9,7 +9,7 @@ played parts = record { status = 0; parts = parts; note = []; taken = 0 }
 
 module _ (level : ℕ) (lines : List ScriptLine) (held : Held) (is : IsLevel level) (are : AreLines (Some level) lines) (holds : HoldsAll held) where
   good : AreLines (Some (begun level held).board.level) lines
-  good = subst (λ (l : ℕ). AreLines (Some l) lines) (sym (at_level level)) are
+  good = rw (at_level level) are
 
   pub has_end : (o : Outcome) × PlaysAll level lines held o
   has_end =

@@ -5,8 +5,8 @@ use Rattle.vms_board.specs.declared.save.SaveFault.TheVariants.{WriteFault, NoMe
 use Rattle.vms_board_commands.specs.Save.{ending_by}
 
 pub saved_ends : (bytes text : List ℕ) (o o' : Outlet) (r : Result Unit SaveFault) → bytes ≡ text → Saves bytes o o' r → TextEnds (Gives text) o o' (mapped_by ending_by r)
-saved_ends bytes text o o' (Ok u) e h = subst (Appends o.written o'.written) e h.told
-saved_ends bytes text o o' (Err WriteFault) e h = subst (AppendsPrefix o.written o'.written) e (stops_prefix h)
+saved_ends bytes text o o' (Ok u) e h = rw e at h.told
+saved_ends bytes text o o' (Err WriteFault) e h = rw e at (stops_prefix h)
 saved_ends bytes text o o' (Err NoMemory) e h = tt
 
 pub at_level : (level : ℕ) → (power_on level).level ≡ level

@@ -10,15 +10,13 @@ module _ {T : Type 0} (lines : T → List ScriptLine) where
   good_lines play text t h = by (script_read play text) refl h
     where
       by : (r : Reading) → script_read play text ≡ r → ReadsLines lines r (Ok t) → AreLines play (lines t)
-      by (Ok said) e h =
-          let are = (reads_exactly.only play text said e).0 in
-          subst (AreLines play) (sym h) are
+      by (Ok said) e h = rw h ((reads_exactly.only play text said e).0)
       by (Err fault) e h = absurd h
 
   -- and so are those that are obtained from it
   pub had_lines : (play : Option ℕ) (text : List ℕ) (read : Result T ScriptFault) (r : Result T Ending) → ReadsLines lines (script_read play text) read → IfOk r (λ t. read ≡ Ok t)
       → IfOk r (λ t. AreLines play (lines t))
-  had_lines play text read (Ok t) h same = good_lines play text t (subst (ReadsLines lines (script_read play text)) same h)
+  had_lines play text read (Ok t) h same = good_lines play text t (rw same at h)
   had_lines play text read (Err e) h same = tt
 
 -- a text that isn't fetched or isn't read isn't available

@@ -29,9 +29,8 @@ said-script play text (Ok lines) e = (reads_exactly.only play text lines e).0
 said-script play text (Err fault) e = tt
 
 step-lines : (play : Option ℕ) (s : Step (List ℕ)) → AreStepLines play (next s (λ text. said_lines (script_read play text)))
-step-lines play Untold = tt
 step-lines play (Gives text) = said-script play text (script_read play text) refl
-step-lines play (Ends status line) = tt
+step-lines play _ = tt
 
 pub scripted_lines : (play : Option ℕ) (held : Option Held) (name : List ℕ) → AreStepLines play (scripted play held name)
 scripted_lines play held name = step-lines play (fetched longest_script held name)
@@ -39,6 +38,4 @@ scripted_lines play held name = step-lines play (fetched longest_script held nam
 -- a script that is there is read
 pub script_gives : (play : Option ℕ) (map : Held) (name text : List ℕ) (lines : List ScriptLine) → map name ≡ Some text → length text ≤ longest_script
     → script_read play text ≡ Ok lines → scripted play (Some map) name ≡ Gives lines
-script_gives play map name text lines held short reads =
-    ap (λ (s : Step (List ℕ)). next s (λ t. said_lines (script_read play t))) (fetched_gives longest_script map name text held short)
-    ∙ ap said_lines reads
+script_gives play map name text lines held short reads = rw (fetched_gives longest_script map name text held short) (ap said_lines reads)

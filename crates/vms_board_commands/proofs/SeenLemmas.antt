@@ -10,17 +10,17 @@ use Rattle.vms_load.specs.declared.fault.LoadFault.TheVariants as loads
 -- ---- what is read
 
 pub takes_bytes : {i i' : Intake} {bytes : List ℕ} (n : ℕ) → Takes i i' bytes → length bytes ≡ n → TakesBytes i i' n
-takes_bytes {i} {i'} {bytes} n t all = record { left = rest i.left i'.left t.told; given = t.given ∙ ap (λ (k : ℕ). capped (i.given + k)) all }
+takes_bytes {i} {i'} {bytes} n t all = record { left = rest i.left i'.left t.told; given = cc }
   where
     rest : (old new : Option (List ℕ)) → Consumes old new bytes → IfSome old (λ input. new ≡ Some (drop n input))
     rest None new took = tt
     rest (Some input) None took = absurd took
-    rest (Some input) (Some more) took = ap (λ (l : List ℕ). Some l) (sym (ap (drop n) took ∙ drop_at bytes more n all))
+    rest (Some input) (Some more) took = rw (sym (ap (drop n) took ∙ drop_at bytes more n all))
 
 -- if a number of bytes is read and this is left, they are the bytes that were read
 same_length : (bytes more : List ℕ) (n : ℕ) → n ≤ length (bytes ++ more) → Some more ≡ Some (drop n (bytes ++ more)) → n ≡ length bytes
 same_length bytes more n within left =
-    omega (arith, within, ap length (same_Some more (drop n (bytes ++ more)) left), length-append bytes more, length-drop n (bytes ++ more))
+    omega (arith, ap length (same_Some more (drop n (bytes ++ more)) left), length-append bytes more, length-drop n (bytes ++ more))
 
 -- so many bytes are read from an input, and this is left
 pub record TakesSo (Says : List ℕ → ℕ → Type 0) (input left : List ℕ) : Type 0 where
@@ -35,7 +35,7 @@ reads_all Says r so = record {
   bytes = r.bytes;
   takes = r.takes;
   long = refl;
-  says = λ more f. let t = so (r.bytes ++ more) more (r.says more f) in subst (Says (r.bytes ++ more)) (same_length r.bytes more t.taken t.within t.rest) t.says;
+  says = λ more f. let t = so (r.bytes ++ more) more (r.says more f) in rw (same_length r.bytes more t.taken t.within t.rest) at t.says;
   cause = tt;
 }
 
@@ -111,7 +111,7 @@ module _ {i i' : Intake} {o o' : Outlet} {s s' : Stock} where
   pub content_seen : {P : List ℕ → Outcome → Type 0} (e : Option Ending) (x : Outcome) → ((bytes : List ℕ) (y : Outcome) → IsBytes bytes → P bytes x → P bytes y → y ≡ x) → IfSome i.left IsBytes
       → Seen P i i' o o' s s' e → IsSomeAnd i.left (λ bytes. P bytes x) → EndsAs i i' o o' s s' e x
   content_seen {P} e x one octets v has =
-      subst (λ (y : Outcome). EndsAs i i' o o' s s' e y) (same i.left octets (reads_told (λ (bytes : List ℕ) (left : Option (List ℕ)). P bytes v.outcome) tt v.sees) has) v.ends
+      rw (same i.left octets (reads_told (λ (bytes : List ℕ) (left : Option (List ℕ)). P bytes v.outcome) tt v.sees) has) at v.ends
     where
       same : (left : Option (List ℕ)) → IfSome left IsBytes → IfSome left (λ bytes. P bytes v.outcome) → IsSomeAnd left (λ bytes. P bytes x) → v.outcome ≡ x
       same None ok told has = absurd has

@@ -5,14 +5,13 @@ use Rattle.vms_board_commands.proofs.drill.drill_board.Goals as goal
 
 pub returns : goal.returns
 returns g c = λ shelf input few.
-    let line = drill_line c.args.level c.args.seed c.args.count in
     let out = outlet g.O.Sink c.args.out.now in
     let out' = outlet g.O.Sink c.write_text.new.out in
     let e = ending_of c.write_text.result in
     let so = drilled_so input shelf out out' c.as_bytes.result.now e c.write_text.ensures in
     record {
-      content = λ o is. text_ends (Gives line) input out out' shelf shelf e o few refl (so_quiet e so)
-          (subst (λ (t : List ℕ). TextEnds (Gives t) out out' e) (c.as_bytes.ensures.value ∙ c.in_ok-line.ensures) (writes_end c.as_bytes.result.now out out' e c.write_text.ensures)) is;
+      content = λ o is. text_ends (Gives (drill_line c.args.level c.args.seed c.args.count)) input out out' shelf shelf e o few refl (so_quiet e so)
+          (rw (c.as_bytes.ensures.value ∙ c.in_ok-line.ensures) at (writes_end c.as_bytes.result.now out out' e c.write_text.ensures)) is;
       so = so;
       given = tt;
       seen = λ reads. cc;

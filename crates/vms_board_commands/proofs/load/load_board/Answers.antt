@@ -13,25 +13,22 @@ pub returns : goal.returns
 returns g c =
     let f = g.M.Machine.family in
     let held = g.H.Shelf.held c.args.shelf.now in
-    let left = g.I.Source.left c.args.input.now in
     let number = c.args.asked.number in
     let step = scripted None held c.args.asked.script.now in
     let shelf = stock g.H.Shelf c.args.shelf.now in
     let shelf' = stock g.H.Shelf c.events_of.new.shelf in
-    let i = intake g.I.Source c.args.input.now in
     let i' = intake g.I.Source c.load_events.new.input in
     let had = c.in_ok-events.ensures in
     let events = c.in_ok-events.events in
     let e = ending_of c.load_events.result in
     let behind = c.load_events.ensures.runs in
-    let outcome : List ScriptLine → List ℕ → Outcome → Type 0 = λ lines bytes o. Loads f number lines bytes held o in
     record {
       content = λ o has. behind.content shelf shelf' o had.asks.looks.held
-          (subst (λ (l : List Event). loads_under f number left held (event_lines l) o) (sym c.deref.ensures.value) (had_by view (loads_under f number left held) step events o had.read has));
+          (rw c.deref.ensures.value (had_by view (loads_under f number (g.I.Source.left c.args.input.now) held) step events o had.read has));
       so = so_since e refl had.asks.looks (behind.so shelf' true);
-      given = gives_some f view step events i i' had.read c.load_events.ensures.given;
-      seen = λ reads. seen_given {P = outcome} view step events e had.read
-          (subst (λ (l : List Event). SeenAs (outcome (event_lines l)) i i' (outlet g.O.Sink c.args.out.now) (outlet g.O.Sink c.load_events.new.out) shelf shelf' e) c.deref.ensures.value (behind.seen shelf shelf' had.asks.looks.held));
+      given = gives_some f view step events (intake g.I.Source c.args.input.now) i' had.read c.load_events.ensures.given;
+      seen = λ reads. seen_given {P = (λ lines bytes o. Loads f number lines bytes held o)} view step events e had.read
+          (rw c.deref.ensures.value at (behind.seen shelf shelf' had.asks.looks.held));
     }
 
 -- the script isn't available

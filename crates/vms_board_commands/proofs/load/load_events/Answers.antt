@@ -5,10 +5,8 @@ use Rattle.vms_board_commands.proofs.load.load_events.Goals as goal
 
 pub returns : goal.returns
 returns g c =
-    let f = g.M.Machine.family in
     let lines = event_lines c.args.events.now in
-    let number = ap f.number c.in_ok-board.ensures.state ∙ g.met.M.Machine.stands.begun c.args.number in
-    subst (λ (n : ℕ). LoadsStream f n lines (intake g.I.Source c.args.input.now) (intake g.I.Source c.load_on.new.input) (outlet g.O.Sink c.args.out.now) (outlet g.O.Sink c.load_on.new.out) (ending_of c.load_on.result)) number c.load_on.ensures
+    rw (ap g.M.Machine.family.number c.in_ok-board.ensures.state ∙ g.met.M.Machine.stands.begun c.args.number) at c.load_on.ensures
 
 -- without memory nothing was done
 pub returns-in_err-board : goal.returns-in_err-board

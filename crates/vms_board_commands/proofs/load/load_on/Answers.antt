@@ -37,7 +37,7 @@ returns-in-Err-Refused g c =
     let r = c.in-Err-Refused.refusal in
     let line = c.refused_line.result in
     let reads = rw c.in-Err-Refused.field-0-is at c.in-Err-Refused.ensures.reads in
-    let said = c.refused_line.ensures ∙ ap (λ (s : Set). refused_line s r.at r.section r.reason) c.set.ensures in
+    let said = c.refused_line.ensures ∙ ap (λ s. refused_line s r.at r.section r.reason) c.set.ensures in
     record {
       runs = record {
         content = λ shelf shelf' o held loads. content_seen {o = out} {o' = out} {s = shelf} {s' = shelf'} {P = λ bytes x. Loads f number lines bytes shelf.held x} (Some (Refused line)) o (λ bytes y ok p q. loads_same f stands.well stands.heads number lines bytes shelf.held ok o y p q) (g.met.I.Source.octets c.args.input.now) (refusal_seen f number lines c.restore.new.self r line reads said) loads;

@@ -20,8 +20,7 @@ returns g c = λ input few.
       content = λ o has.
           let plays = had_by view (λ (lines : List ScriptLine) (x : Outcome). IsSomeAnd held (λ map. PlaysAll level lines map x)) (scripted (Some level) held c.args.asked.script.now) c.in_ok-lines.lines o had.read has in
           ends_since input input (outlet g.O.Sink c.args.out.now) (outlet g.O.Sink c.play_lines.new.out) shelf (stock g.H.Shelf c.session_of.new.shelf) (stock g.H.Shelf c.play_lines.new.shelf) had.asks.looks.held had.asks.looks.later o e
-          (played.content o (subst (λ (h : Option Held). IsSomeAnd h (λ map. PlaysAll level (lines_view c.deref.result.now) map o)) (sym had.asks.looks.held)
-          (subst (λ (l : List Line). IsSomeAnd held (λ map. PlaysAll level (lines_view l) map o)) (sym c.deref.ensures.value) plays)));
+          (played.content o (rw had.asks.looks.held (rw c.deref.ensures.value plays)));
       so = so_since e refl had.asks.looks played.so;
       given = tt;
       seen = λ reads. cc;

@@ -6,9 +6,7 @@ use Rattle.vms_board_commands.proofs.CourseLemmas.{played_so}
 use Rattle.vms_board_commands.proofs.play.play_lines.Goals as goal
 
 pub play-requires : goal.play-requires
-play-requires g c =
-    let level = ap (λ (m : State). m.level) c.in_ok-board.ensures.state ∙ at_level c.args.level in
-    subst (λ (l : ℕ). AreLines (Some l) (lines_view c.args.lines.now)) (sym level) c.requires.lines
+play-requires g c = rw (ap (λ m. m.level) c.in_ok-board.ensures.state ∙ at_level c.args.level) c.requires.lines
 
 pub returns : goal.returns
 returns g c = λ input few.

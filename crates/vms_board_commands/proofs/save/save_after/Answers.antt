@@ -9,14 +9,13 @@ save_devices-requires-clause-may g c =
     let f = g.M.Machine.family in
     let number : f.number c.run_events.new.devices ≡ c.args.number =
     c.run_events.ensures.number ∙ ap f.number c.at_power_on-devices.ensures.state ∙ g.met.M.Machine.stands.begun c.args.number in
-    subst (λ (n : ℕ). ReachesSet f.newest n c.args.set) (sym number) c.requires.may
+    subst (λ n. ReachesSet f.newest n c.args.set) (sym number) c.requires.may
 
 pub returns-clause-ends : goal.returns-clause-ends
 returns-clause-ends g c =
     let f = g.M.Machine.family in
-    let events = c.args.events.now in
-    let after = after_events f events (f.power_on c.args.number) in
-    let board : c.run_events.new.devices ≡ after = c.run_events.ensures.state ∙ ap (after_events f events) c.at_power_on-devices.ensures.state in
+    let after = after_events f c.args.events.now (f.power_on c.args.number) in
+    let board : c.run_events.new.devices ≡ after = cc (c.run_events.ensures.state, c.at_power_on-devices.ensures.state) in
     rw (ending_mapped ending_by c.save_devices.result c.map_err.result c.map_err.ensures.cases)
     (saved_ends (saved_stream f c.args.set c.run_events.new.devices) (saved_stream f c.args.set after)
     (outlet g.O.Sink c.args.out.now) (outlet g.O.Sink c.save_devices.new.sink) c.save_devices.result (ap (saved_stream f c.args.set) board) c.save_devices.ensures)

@@ -24,7 +24,7 @@ returns g c = λ input few.
     record {
       content = λ o has. text_ends (saved_after f number set held name) input out out' (stock g.H.Shelf c.args.shelf.now) shelf' e o few had.asks.looks.held (so_quiet e (c.save_after.ensures.so input shelf'))
           (then_text view (λ (lines : List ScriptLine). Gives (stream (events_of lines))) out out' e (scripted None held name) events had.read
-          (subst (λ (l : List Event). TextEnds (Gives (stream l)) out out' e) (c.deref.ensures.value ∙ sym (events_back events.items)) c.save_after.ensures.ends)) has;
+          (rw (c.deref.ensures.value ∙ sym (events_back events.items)) at c.save_after.ensures.ends)) has;
       so = so_since e refl had.asks.looks (c.save_after.ensures.so input shelf');
       given = tt;
       seen = λ reads. cc;

@@ -10,8 +10,7 @@ pub returns-clause-read : goal.returns-clause-read
 returns-clause-read g c =
     then_as (λ (t : Vec ℕ Global). t.items) view (λ (text : List ℕ). said_lines (script_read None text))
     (fetched longest_script (g.H.Shelf.held c.args.shelf.now) c.args.name.now) c.in_ok-text.text c.had.result c.in_ok-text.ensures.fetched
-    (subst (λ (b : List ℕ). StepAs view (said_lines (script_read None b)) c.had.result) c.deref.ensures.value
-    (c.had.ensures.read view (script_read None c.deref.result.now) c.read_events.ensures))
+    (rw c.deref.ensures.value at (c.had.ensures.read view (script_read None c.deref.result.now) c.read_events.ensures))
 
 pub returns-clause-good : goal.returns-clause-good
 returns-clause-good g c = had_events c.deref.result.now c.read_events.result c.had.result c.read_events.ensures c.had.ensures.same

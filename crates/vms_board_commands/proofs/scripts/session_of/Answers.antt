@@ -10,8 +10,7 @@ pub returns-clause-read : goal.returns-clause-read
 returns-clause-read g c =
     then_as (λ (t : Vec ℕ Global). t.items) view (λ (text : List ℕ). said_lines (script_read (Some c.args.level) text))
     (fetched longest_script (g.H.Shelf.held c.args.shelf.now) c.args.name.now) c.in_ok-text.text c.had.result c.in_ok-text.ensures.fetched
-    (subst (λ (b : List ℕ). StepAs view (said_lines (script_read (Some c.args.level) b)) c.had.result) c.deref.ensures.value
-    (c.had.ensures.read view (script_read (Some c.args.level) c.deref.result.now) c.read_script.ensures))
+    (rw c.deref.ensures.value at (c.had.ensures.read view (script_read (Some c.args.level) c.deref.result.now) c.read_script.ensures))
 
 pub returns-clause-good : goal.returns-clause-good
 returns-clause-good g c = had_lines view (Some c.args.level) c.deref.result.now c.read_script.result c.had.result c.read_script.ensures c.had.ensures.same

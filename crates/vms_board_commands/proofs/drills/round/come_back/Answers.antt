@@ -4,9 +4,8 @@ use Rattle.vms_board_commands.proofs.drills.round.come_back.Goals as goal
 
 pub unreachable-requires : goal.unreachable-requires
 unreachable-requires c =
-    let m = c.args.board.now.state in
-    let may = subst (λ (l : ℕ). MaySaveUnder l c.set_of.result) c.level.ensures c.set_of.ensures.may in
-    never_refused c.set_of.result m c.in_ok-stream.stream.items c.requires.sound may c.in_ok-stream.ensures.stream
+    let may = rw c.level.ensures at c.set_of.ensures.may in
+    never_refused c.set_of.result c.args.board.now.state c.in_ok-stream.stream.items c.requires.sound may c.in_ok-stream.ensures.stream
     c.in-Err.field-0.at c.in-Err.field-0.section c.in-Err.field-0.reason c.in-Err.ensures.refused
 
 pub returns-clause-back : goal.returns-clause-back
@@ -14,15 +13,15 @@ returns-clause-back c =
     let m = c.args.board.now.state in
     let used = c.set_of.result in
     let stream = c.in_ok-stream.ensures.stream in
-    let may = subst (λ (l : ℕ). MaySaveUnder l used) c.level.ensures c.set_of.ensures.may in
-    let set : used ≡ set_of m.level c.args.saves = c.set_of.ensures.set ∙ ap (λ (l : ℕ). set_of l c.args.saves) c.level.ensures in
+    let may = rw c.level.ensures at c.set_of.ensures.may in
+    let set : used ≡ set_of m.level c.args.saves = c.set_of.ensures.set ∙ ap (λ l. set_of l c.args.saves) c.level.ensures in
     let back = c.in-Ok.ensures.back in
     let board = c.restore_from.new.board in
     let taken = long_back used m c.in_ok-stream.stream.items c.requires.sound may stream board.state board.taken back in
     let long : length c.in_ok-stream.stream.items ≡ length (saved_stream isa used m) = ap length stream in
     record {
-      state = board_back used m c.in_ok-stream.stream.items c.requires.sound may stream board.state board.taken back ∙ ap (λ (n : ℕ). came_back n m) set;
-      long = omega (arith, c.len-long.ensures, long, ap (λ (n : ℕ). length (saved_stream isa n m)) set);
-      taken = omega (arith, taken, c.len-long.ensures);
-      short = omega (arith, c.len-long.ensures, long, streams_are_short.short used m c.requires.sound may);
+      state = cc (board_back used m c.in_ok-stream.stream.items c.requires.sound may stream board.state board.taken back);
+      long = omega (arith, c.len-long.ensures, long, ap (λ n. length (saved_stream isa n m)) set);
+      taken = omega arith;
+      short = omega (arith, streams_are_short.short used m c.requires.sound may);
     }
