@@ -43,7 +43,7 @@ pub fn many(alloc: Global) -> Result<Vec<u8>, Fail> {
 #[test]
 fn a_slice_gives_its_bytes(rt: HostRuntime) -> Result<(), Fail> {
     let mut buf = [0; 4];
-    let mut source = StdSource::new(b"ab".as_slice());
+    let mut source = StdSource::new(rt.alloc(), b"ab".as_slice());
     assert_eq!(rt; read_of(&mut source, &mut buf), Some(2));
     assert_eq!(rt; buf, [97, 98, 0, 0]);
     Ok(())
@@ -105,17 +105,18 @@ fn read_on<S: Source>(source: &mut S, from: usize) -> (usize, bool, bool) {
 
 #[test]
 fn a_reader_gives_all_its_pieces(rt: HostRuntime) -> Result<(), Fail> {
-    let mut source = StdSource::new(Pieces::new(0));
+    let alloc = rt.alloc();
+    let mut source = StdSource::new(alloc, Pieces::new(0));
     assert_eq!(rt; read_on(&mut source, 0), (MANY, false, true));
-    let bytes = many(rt.alloc())?;
-    let mut source = StdSource::new(bytes.as_slice());
+    let bytes = many(alloc)?;
+    let mut source = StdSource::new(alloc, bytes.as_slice());
     assert_eq!(rt; read_on(&mut source, 0), (MANY, false, true));
     Ok(())
 }
 
 #[test]
 fn an_error_of_a_reader_is_no_end(rt: HostRuntime) -> Result<(), Fail> {
-    let mut source = StdSource::new(Pieces::new(3));
+    let mut source = StdSource::new(rt.alloc(), Pieces::new(3));
     assert_eq!(rt; read_on(&mut source, 0), (1_554, true, true));
     assert_eq!(rt; read_on(&mut source, 1_554), (MANY, false, true));
     Ok(())
@@ -146,11 +147,14 @@ impl Write for Taker {
 }
 
 fn taking(alloc: Global, fails: u32) -> StdSink<Taker> {
-    StdSink::new(Taker {
-        took: Vec::new(alloc),
-        writes: 0,
-        fails,
-    })
+    StdSink::new(
+        alloc,
+        Taker {
+            took: Vec::new(alloc),
+            writes: 0,
+            fails,
+        },
+    )
 }
 
 // Writes the bytes in pieces of 100 and flushes. Returns whether no call failed.
@@ -169,7 +173,10 @@ fn a_writer_takes_all_that_is_flushed(rt: HostRuntime) -> Result<(), Fail> {
     assert!(rt; write_on(&mut sink, &bytes));
     assert!(rt; sink.get_ref().took == bytes);
     // a buffered writer writes what it holds at the flush
-    let mut sink = StdSink::new(BufWriter::with_capacity(alloc, 32_768, Vec::new(alloc))?);
+    let mut sink = StdSink::new(
+        alloc,
+        BufWriter::with_capacity(alloc, 32_768, Vec::new(alloc))?,
+    );
     assert!(rt; write_on(&mut sink, &bytes));
     assert!(rt; *sink.get_ref().get_ref() == bytes);
     Ok(())

@@ -31,9 +31,9 @@ pub fn program<R: Read + Drop, W: Write + Drop, E: Write + Drop, H: Shelf + Drop
         result.0 (W.contents result.1) (E.contents result.2)) }
     ensures none { OnErr handed (result ≡ (10, out, notes)) }
 {
-    let mut input = StdSource::new(input);
-    let mut out = StdSink::new(out);
-    let mut notes = StdSink::new(notes);
+    let mut input = StdSource::new(alloc, input);
+    let mut out = StdSink::new(alloc, out);
+    let mut notes = StdSink::new(alloc, notes);
     let Some(answered) = call(alloc, handed, &mut input, &mut out, &mut notes) else {
         return (
             Ending::NoMemory.status(),

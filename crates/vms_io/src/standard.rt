@@ -1,20 +1,26 @@
 // The outside over a reader and a writer of std, with a count of their errors.
-ghost use Rattle.std.specs.Prelude.{◌≡◌, ◌+◌, ◌-◌, ◌^◌, ◌<◌, ◌≤◌, [], length, min, take, drop, None, false, OnOk, IsErr};
+ghost use Rattle.std.specs.Prelude.{◌≡◌, ◌+◌, ◌-◌, ◌^◌, ◌<◌, ◌≤◌, [], length, min, take, drop, None, false, IfOk, OnErr, OnOk, IsErr};
 ghost use Rattle.std.proofs.Common.{arith};
-ghost use Rattle.std.specs.Io.KnownBytes.{Appends, Consumes, IsAtEnd, Keeps};
+ghost use Rattle.std.specs.Io.{WritesAtMost};
+ghost use Rattle.std.specs.Io.KnownBytes.{Appends, Consumes, IsAtEnd, Keeps, WriteAppends};
 ghost use Rattle.vms_io.specs.Causes.{HasCause, CountsFailures};
-ghost use Rattle.vms_io.specs.declared.standard.TheConstants.{STAGE, GATHER};
+ghost use Rattle.vms_io.specs.declared.standard.TheConstants.{GATHER};
 
 use crate::{Failed, Sink, Source};
+use std::alloc::{AllocError, Global};
 use std::io::{ErrorKind, Read, Write};
 
-/// The number of bytes that are requested from a reader at once.
+/// The number of bytes that are requested from a reader at first.
+const FIRST: usize = 1024;
+
+/// The most bytes that are requested from a reader at once.
 const STAGE: usize = 8192;
 
 /// The number of bytes that are buffered for a writer.
 const GATHER: usize = 8192;
 
-/// A source over the reader `R`, which is read in blocks of 8,192 bytes.
+/// A source over the reader `R`, which is read in blocks. The first block has up to 1,024 bytes, and
+/// the next ones up to twice as many each, at most 8,192.
 ///
 /// If the rest of the reader's bytes is known, as a slice's is, the rest of the source's is known
 /// too. The rest of a file or a terminal is unknown to contracts.
@@ -22,13 +28,13 @@ const GATHER: usize = 8192;
 pub struct StdSource<R: Read + Drop> {
     reader: R,
     // The bytes that were read but not yet given are those from `begin` to `end`.
-    staged: [u8; STAGE],
+    staged: Vec<u8>,
     begin: usize,
     end: usize,
     given: u64,
     faults: u64,
     ghost order: { begin ≤ end },
-    ghost within: { end ≤ STAGE },
+    ghost within: { end ≤ length staged.items },
 }
 
 impl<R: Read + Drop> StdSource<R> {
@@ -36,14 +42,14 @@ impl<R: Read + Drop> StdSource<R> {
     ghost use Rattle.vms_io.specs.Gathered.{between};
 
     /// Returns the source over `reader`, with no faults counted.
-    pub fn new(reader: R) -> Self
+    pub fn new(alloc: Global, reader: R) -> Self
         ensures left { ⟦<StdSource<R> as Source>⟧.left result ≡ ahead (R.remaining reader) [] }
         ensures faults { ⟦<StdSource<R> as Source>⟧.faults result ≡ 0 }
         ensures given { ⟦<StdSource<R> as Source>⟧.given result ≡ 0 }
     {
         StdSource {
             reader,
-            staged: [0; STAGE],
+            staged: Vec::with_capacity(alloc, STAGE).unwrap_or(Vec::new(alloc)),
             begin: 0,
             end: 0,
             given: 0,
@@ -52,20 +58,29 @@ impl<R: Read + Drop> StdSource<R> {
     }
 
     // Reads the next block, once all of the last one has been given. It is empty only at the end.
+    //
+    // A read by bytes or fields mostly finds them staged, and is inlined without this.
+    #[inline(never)]
     fn stage(&mut self) -> Result<(), Failed>
         requires { self.old.begin ≡ self.old.end }
         ensures left { Keeps (ahead (R.remaining self.old.reader)
-            (between self.old.staged self.old.begin self.old.end))
+            (between self.old.staged.items self.old.begin self.old.end))
             (ahead (R.remaining self.new.reader)
-            (between self.new.staged self.new.begin self.new.end)) }
+            (between self.new.staged.items self.new.begin self.new.end)) }
         ensures end { OnOk result (self.new.begin ≡ self.new.end
             → IsAtEnd (ahead (R.remaining self.new.reader)
-            (between self.new.staged self.new.begin self.new.end))) }
+            (between self.new.staged.items self.new.begin self.new.end))) }
         ensures given { self.new.given ≡ self.old.given }
         ensures cause { HasCause self.old.faults self.new.faults result }
         ensures counts { CountsFailures self.old.faults self.new.faults result }
     {
-        match self.reader.read(&mut self.staged[..]) {
+        if self.end == self.staged.len() {
+            self.widen();
+        }
+        if self.staged.is_empty() {
+            return failed(&mut self.faults);
+        }
+        match self.reader.read(&mut self.staged) {
             Ok(count) => {
                 self.begin = 0;
                 self.end = count;
@@ -75,24 +90,39 @@ impl<R: Read + Drop> StdSource<R> {
         }
     }
 
+    // Makes the block twice as long, if it isn't at its greatest length and there is memory.
+    fn widen(&mut self)
+        requires { self.old.begin ≡ self.old.end }
+        ensures reader { self.new.reader ≡ self.old.reader }
+        ensures empty { self.new.begin ≡ self.new.end }
+        ensures given { self.new.given ≡ self.old.given }
+        ensures faults { self.new.faults ≡ self.old.faults }
+    {
+        let long = (self.staged.len() * 2).clamp(FIRST, STAGE);
+        self.begin = 0;
+        self.end = 0;
+        // without memory the block stays as it is
+        let _longer = self.staged.resize(long, 0);
+    }
+
     // Gives the staged bytes, as many as `buf` has room for.
     #[inline(always)]
     fn give(&mut self, buf: &mut [u8]) -> usize
         ensures count { result ≡ min (length buf.old) (self.old.end - self.old.begin) }
         ensures bound { result ≤ length buf.new }
         ensures bytes { Consumes (ahead (R.remaining self.old.reader)
-            (between self.old.staged self.old.begin self.old.end))
+            (between self.old.staged.items self.old.begin self.old.end))
             (ahead (R.remaining self.new.reader)
-            (between self.new.staged self.new.begin self.new.end)) (take result buf.new) }
+            (between self.new.staged.items self.new.begin self.new.end)) (take result buf.new) }
         ensures none { result ≡ 0 → ahead (R.remaining self.new.reader)
-            (between self.new.staged self.new.begin self.new.end) ≡ ahead (R.remaining self.old.reader)
-            (between self.old.staged self.old.begin self.old.end) }
+            (between self.new.staged.items self.new.begin self.new.end) ≡ ahead (R.remaining self.old.reader)
+            (between self.old.staged.items self.old.begin self.old.end) }
         ensures rest { drop result buf.new ≡ drop result buf.old }
         ensures given { self.new.given ≡ min (self.old.given + result) (2 ^ 64 - 1) }
         ensures faults { self.new.faults ≡ self.old.faults }
     {
         let count = buf.len().min(self.end - self.begin);
-        let staged = &self.staged[..];
+        let staged = self.staged.as_slice();
         buf[..count].copy_from_slice(&staged[self.begin..self.begin + count]);
         self.begin += count;
         self.given = self.given.saturating_add(count as u64);
@@ -104,7 +134,7 @@ impl<R: Read + Drop> Source for StdSource<R> {
     ghost use Rattle.vms_io.specs.Ahead.{ahead, ahead_bytes};
     ghost use Rattle.vms_io.specs.Gathered.{between};
 
-    ghost left = { λ s. ahead (R.remaining s.reader) (between s.staged s.begin s.end) };
+    ghost left = { λ s. ahead (R.remaining s.reader) (between s.staged.items s.begin s.end) };
 
     ghost given = { λ s. min s.given (2 ^ 64 - 1) };
 
@@ -116,13 +146,14 @@ impl<R: Read + Drop> Source for StdSource<R> {
 
     ghost promised = { λ s h. Prim.cc };
 
-    ghost octets = { λ s. ahead_bytes (R.remaining s.reader) (between s.staged s.begin s.end) };
+    ghost octets = { λ s. ahead_bytes (R.remaining s.reader) (between s.staged.items s.begin s.end) };
 
     /// Copies the next bytes into the front of `buf` and returns their number.
     ///
     /// # Errors
     ///
-    /// - [`Failed`]: the reader returned an error. Nothing has been read.
+    /// - [`Failed`]: the reader returned an error, or no memory was left for the first block.
+    ///   Nothing has been read.
     fn read(&mut self, buf: &mut [u8]) -> Result<usize, Failed> {
         if self.begin == self.end {
             self.stage()?;
@@ -133,35 +164,34 @@ impl<R: Read + Drop> Source for StdSource<R> {
 
 /// A sink over the writer `W`, such as a file or a terminal, with a buffer of 8,192 bytes.
 ///
-/// The writer gets the bytes when the buffer is full, and at a flush. If what the writer has is
-/// known to contracts, so is what the sink has: the writer's bytes and then the buffered ones.
+/// The writer gets the bytes when the buffer is full, and at a flush; if there is no memory for the
+/// buffer, it gets them at once. If what the writer has is known to contracts, so is what the sink
+/// has: the writer's bytes and then the buffered ones.
 #[derive(Drop)]
 pub struct StdSink<W: Write + Drop> {
     writer: W,
-    // The bytes that the writer hasn't got yet are those from `begin` to `end`.
-    gathered: [u8; GATHER],
+    // The bytes that the writer hasn't got yet are those from `begin` on.
+    gathered: Vec<u8>,
     begin: usize,
-    end: usize,
     faults: u64,
-    ghost order: { begin ≤ end },
-    ghost within: { end ≤ GATHER },
+    ghost order: { begin ≤ length gathered.items },
+    ghost within: { length gathered.items ≤ GATHER },
 }
 
 impl<W: Write + Drop> StdSink<W> {
-    ghost use Rattle.vms_io.specs.Gathered.{told, between, KeepsFront};
+    ghost use Rattle.vms_io.specs.Gathered.{told, KeepsFront};
     ghost use Rattle.vms_io.specs.Writers.{writer_of};
 
     /// Returns the sink over `writer`, with no faults counted and nothing buffered.
-    pub fn new(writer: W) -> Self
+    pub fn new(alloc: Global, writer: W) -> Self
         ensures faults { ⟦<StdSink<W> as Sink>⟧.faults result ≡ 0 }
         ensures written { ⟦<StdSink<W> as Sink>⟧.written result ≡ W.contents writer }
         ensures writer { writer_of result ≡ writer }
     {
         StdSink {
             writer,
-            gathered: [0; GATHER],
+            gathered: Vec::with_capacity(alloc, GATHER).unwrap_or(Vec::new(alloc)),
             begin: 0,
-            end: 0,
             faults: 0,
         }
     }
@@ -207,8 +237,8 @@ impl<W: Write + Drop> StdSink<W> {
         ensures faults { ⟦<StdSink<W> as Sink>⟧.faults self.new
             ≡ ⟦<StdSink<W> as Sink>⟧.faults self.old }
     {
+        self.gathered.clear();
         self.begin = 0;
-        self.end = 0;
     }
 
     /// Returns the writer. The bytes that are still buffered are dropped.
@@ -218,40 +248,56 @@ impl<W: Write + Drop> StdSink<W> {
         self.writer
     }
 
-    // Buffers bytes, for which there is room.
+    // Buffers bytes, for which there is room. Fails if there is no memory for the buffer.
     #[inline(always)]
-    fn gather(&mut self, piece: &[u8])
-        requires { self.old.end + length piece.now ≤ 8192 }
-        ensures bytes { Appends (told (W.contents self.old.writer)
-            (between self.old.gathered self.old.begin self.old.end))
-            (told (W.contents self.new.writer)
-            (between self.new.gathered self.new.begin self.new.end)) piece.now }
+    fn gather(&mut self, piece: &[u8]) -> Result<(), AllocError>
+        requires { length self.old.gathered.items + length piece.now ≤ GATHER }
+        ensures ok { OnOk result (Appends
+            (told (W.contents self.old.writer) (drop self.old.begin self.old.gathered.items))
+            (told (W.contents self.new.writer) (drop self.new.begin self.new.gathered.items))
+            piece.now) }
+        ensures err { OnErr result (Keeps
+            (told (W.contents self.old.writer) (drop self.old.begin self.old.gathered.items))
+            (told (W.contents self.new.writer) (drop self.new.begin self.new.gathered.items))) }
         ensures faults { self.new.faults ≡ self.old.faults }
     {
-        let end = self.end + piece.len();
-        let gathered = &mut self.gathered[..];
-        gathered[self.end..end].copy_from_slice(piece);
-        self.end = end;
+        self.gathered.extend_from_slice(piece)
+    }
+
+    // Passes the buffered bytes and then the first bytes of `piece` to the writer.
+    #[inline(never)]
+    fn pass(&mut self, piece: &[u8]) -> Result<usize, Failed>
+        ensures bound { WritesAtMost result piece.now }
+        ensures some { IfOk result (λ n. 0 < length piece.now → 0 < n) }
+        ensures bytes { WriteAppends
+            (told (W.contents self.old.writer) (drop self.old.begin self.old.gathered.items))
+            (told (W.contents self.new.writer) (drop self.new.begin self.new.gathered.items))
+            result piece.now }
+        ensures cause { HasCause self.old.faults self.new.faults result }
+    {
+        self.hand_on()?;
+        match self.writer.write(piece) {
+            Ok(count) if count > 0 || piece.is_empty() => Ok(count),
+            _ => failed(&mut self.faults),
+        }
     }
 
     // Passes all buffered bytes to the writer. After a failure the rest stays buffered.
     fn hand_on(&mut self) -> Result<(), Failed>
-        ensures bytes { Keeps (told (W.contents self.old.writer)
-            (between self.old.gathered self.old.begin self.old.end))
-            (told (W.contents self.new.writer)
-            (between self.new.gathered self.new.begin self.new.end)) }
-        ensures empty { OnOk result (self.new.end ≡ 0) }
+        ensures bytes { Keeps
+            (told (W.contents self.old.writer) (drop self.old.begin self.old.gathered.items))
+            (told (W.contents self.new.writer) (drop self.new.begin self.new.gathered.items)) }
+        ensures empty { OnOk result (self.new.gathered.items ≡ []) }
         ensures cause { HasCause self.old.faults self.new.faults result }
         ensures counts { CountsFailures self.old.faults self.new.faults result }
     {
         for _ in 0..u64::MAX {
-            if self.begin == self.end {
+            if self.begin == self.gathered.len() {
+                self.gathered.clear();
                 self.begin = 0;
-                self.end = 0;
                 return Ok(());
             }
-            let gathered = &self.gathered[..];
-            match self.writer.write(&gathered[self.begin..self.end]) {
+            match self.writer.write(&self.gathered[self.begin..]) {
                 Ok(count) if count > 0 => self.begin += count,
                 Err(error) if error.kind() == ErrorKind::Interrupted => {}
                 _ => break,
@@ -262,9 +308,9 @@ impl<W: Write + Drop> StdSink<W> {
 }
 
 impl<W: Write + Drop> Sink for StdSink<W> {
-    ghost use Rattle.vms_io.specs.Gathered.{told, between};
+    ghost use Rattle.vms_io.specs.Gathered.{told};
 
-    ghost written = { λ s. told (W.contents s.writer) (between s.gathered s.begin s.end) };
+    ghost written = { λ s. told (W.contents s.writer) (drop s.begin s.gathered.items) };
 
     ghost faults = { λ s. s.faults };
 
@@ -279,22 +325,19 @@ impl<W: Write + Drop> Sink for StdSink<W> {
     ///
     /// - [`Failed`]: the writer returned an error. Nothing of `piece` has been taken.
     fn write(&mut self, piece: &[u8]) -> Result<usize, Failed> {
-        if self.end == GATHER {
+        if self.gathered.len() == GATHER {
             self.hand_on()?;
         }
-        let room = GATHER - self.end;
-        if piece.len() <= room {
-            self.gather(piece);
-            Ok(piece.len())
-        } else {
-            self.gather(&piece[..room]);
-            Ok(room)
+        let count = piece.len().min(GATHER - self.gathered.len());
+        match self.gather(&piece[..count]) {
+            Ok(()) => Ok(count),
+            Err(_) => self.pass(piece),
         }
     }
 }
 
 // Counts a failure, and returns it.
-fn failed(faults: &mut u64) -> Result<(), Failed>
+fn failed<T>(faults: &mut u64) -> Result<T, Failed>
     ensures cause { HasCause faults.old faults.new result }
     ensures counts { CountsFailures faults.old faults.new result }
     ensures error { IsErr result }
