@@ -26,9 +26,9 @@ impl Spot {
         requires { end ≤ MOST_BYTES }
         ensures { result ≡ record { offset = aligned (width kind) end; kind = kind } }
     {
-        let width = kind.width() as u32;
+        let low = kind.width() as u32 - 1;
         Spot {
-            offset: (end + (width - 1)) / width * width,
+            offset: (end + low) & !low,
             kind,
         }
     }
