@@ -1,9 +1,9 @@
 // The outside over a reader and a writer of std, with a count of their errors.
 ghost use Rattle.std.specs.Prelude.{◌≡◌, ◌+◌, ◌-◌, ◌^◌, ◌<◌, ◌≤◌, [], length, min, take, drop, None, false, IfOk, OnErr, OnOk, IsErr};
 ghost use Rattle.std.proofs.Common.{arith};
-ghost use Rattle.std.specs.Io.{WritesAtMost};
-ghost use Rattle.std.specs.Io.KnownBytes.{Appends, Consumes, IsAtEnd, Keeps, WriteAppends};
-ghost use Rattle.vms_io.specs.Causes.{HasCause, CountsFailures};
+ghost use Rattle.std.specs.Io.{ReadsAtMost, WritesAtMost};
+ghost use Rattle.std.specs.Io.KnownBytes.{Appends, Consumes, IsAtEnd, Keeps, ReadConsumes, WriteAppends};
+ghost use Rattle.vms_io.specs.Causes.{HasCause, CountsFailures, Gives};
 ghost use Rattle.vms_io.specs.declared.standard.TheConstants.{GATHER};
 
 use crate::{Failed, Sink, Source};
@@ -20,7 +20,8 @@ const STAGE: usize = 8192;
 const GATHER: usize = 8192;
 
 /// A source over the reader `R`, which is read in blocks. The first block has up to 1,024 bytes, and
-/// the next ones up to twice as many each, at most 8,192.
+/// the next ones up to twice as many each, at most 8,192. Without memory for a block each read
+/// takes one byte.
 ///
 /// If the rest of the reader's bytes is known, as a slice's is, the rest of the source's is known
 /// too. The rest of a file or a terminal is unknown to contracts.
@@ -58,11 +59,9 @@ impl<R: Read + Drop> StdSource<R> {
     }
 
     // Reads the next block, once all of the last one has been given. It is empty only at the end.
-    //
-    // A read by bytes or fields mostly finds them staged, and is inlined without this.
-    #[inline(never)]
     fn stage(&mut self) -> Result<(), Failed>
-        requires { self.old.begin ≡ self.old.end }
+        requires given { self.old.begin ≡ self.old.end }
+        requires room { 0 < length self.old.staged.items }
         ensures left { Keeps (ahead (R.remaining self.old.reader)
             (between self.old.staged.items self.old.begin self.old.end))
             (ahead (R.remaining self.new.reader)
@@ -74,12 +73,6 @@ impl<R: Read + Drop> StdSource<R> {
         ensures cause { HasCause self.old.faults self.new.faults result }
         ensures counts { CountsFailures self.old.faults self.new.faults result }
     {
-        if self.end == self.staged.len() {
-            self.widen();
-        }
-        if self.staged.is_empty() {
-            return failed(&mut self.faults);
-        }
         match self.reader.read(&mut self.staged) {
             Ok(count) => {
                 self.begin = 0;
@@ -88,6 +81,54 @@ impl<R: Read + Drop> StdSource<R> {
             }
             Err(_) => failed(&mut self.faults),
         }
+    }
+
+    // Reads a byte without a block, for which there is no memory.
+    fn pass(&mut self, buf: &mut [u8]) -> Result<usize, Failed>
+        requires { self.old.begin ≡ self.old.end }
+        ensures bound { ReadsAtMost result buf.new }
+        ensures bytes { ReadConsumes (⟦<StdSource<R> as Source>⟧.left self.old)
+            (⟦<StdSource<R> as Source>⟧.left self.new) result buf.new }
+        ensures rest { IfOk result (λ n. drop n buf.new ≡ drop n buf.old) }
+        ensures given { Gives (⟦<StdSource<R> as Source>⟧.given self.old)
+            (⟦<StdSource<R> as Source>⟧.given self.new) result }
+        ensures cause { HasCause self.old.faults self.new.faults result }
+    {
+        if buf.is_empty() {
+            return Ok(0);
+        }
+        let mut byte = [0; 1];
+        match self.reader.read(&mut byte) {
+            Ok(count) => {
+                buf[..count].copy_from_slice(&byte[..count]);
+                self.given = self.given.saturating_add(count as u64);
+                Ok(count)
+            }
+            Err(_) => failed(&mut self.faults),
+        }
+    }
+
+    // Reads on, once all of the last block has been given. A read by bytes or fields mostly finds
+    // bytes staged, and is inlined without this.
+    #[inline(never)]
+    fn refill(&mut self, buf: &mut [u8]) -> Result<usize, Failed>
+        requires { self.old.begin ≡ self.old.end }
+        ensures bound { ReadsAtMost result buf.new }
+        ensures bytes { ReadConsumes (⟦<StdSource<R> as Source>⟧.left self.old)
+            (⟦<StdSource<R> as Source>⟧.left self.new) result buf.new }
+        ensures rest { IfOk result (λ n. drop n buf.new ≡ drop n buf.old) }
+        ensures given { Gives (⟦<StdSource<R> as Source>⟧.given self.old)
+            (⟦<StdSource<R> as Source>⟧.given self.new) result }
+        ensures cause { HasCause self.old.faults self.new.faults result }
+    {
+        if self.end == self.staged.len() {
+            self.widen();
+        }
+        if self.staged.is_empty() {
+            return self.pass(buf);
+        }
+        self.stage()?;
+        Ok(self.give(buf))
     }
 
     // Makes the block twice as long, if it isn't at its greatest length and there is memory.
@@ -152,11 +193,10 @@ impl<R: Read + Drop> Source for StdSource<R> {
     ///
     /// # Errors
     ///
-    /// - [`Failed`]: the reader returned an error, or no memory was left for the first block.
-    ///   Nothing has been read.
+    /// - [`Failed`]: the reader returned an error. Nothing has been read.
     fn read(&mut self, buf: &mut [u8]) -> Result<usize, Failed> {
         if self.begin == self.end {
-            self.stage()?;
+            return self.refill(buf);
         }
         Ok(self.give(buf))
     }

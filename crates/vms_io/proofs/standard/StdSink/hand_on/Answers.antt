@@ -1,4 +1,3 @@
-use Rattle.vms_io.proofs.Facade.{refl}
 use Rattle.vms_io.proofs.Gathering.{handed, still_told}
 use Rattle.vms_io.proofs.standard.StdSink.hand_on.Goals as goal
 use Rattle.vms_io.proofs.standard.StdSink.hand_on.Goals.{in-Ok, in-Err}
