@@ -49,7 +49,9 @@ module _ (m : State) (s : IsSound m) where
     read-devices = subst (λ (done : ℕ × State). HasDevices done.1) (sym e) (read_at-kept m s.devices (target_of m.level port) port).kept
 
     read-stays : Stays Untouched before after
-    read-stays = after-read m s before is-before port value after Untouched (sym touched ∙ ap (λ (n : ℕ). read_touches (target_of m.level port) n) (ap (λ (done : ℕ × State). done.0) e)) e
+    read-stays =
+        let same : value ≡ (read port m).0 = ap (λ (done : ℕ × State). done.0) e in
+        after-read m s before is-before port value after Untouched (sym touched ∙ ap (read_touches (target_of m.level port)) same) e
 
     read-int : int_of m.pair ≡ int_of after.pair
     read-int = sym (is-before).int ∙ (read-stays).int refl
@@ -66,7 +68,8 @@ module _ (m : State) (s : IsSound m) where
     read-step event seen kept k is view = rw (is, ← view, ← e, same-settled Untouched after refl read-stays read-devices, k.int, read-int) refl
 
   -- A byte that waits to be sent.
-  module _ (value : ℕ) (after : State) (e : after ≡ write 0x3f8 value m) (line : line_of m.moment after.serial ≡ line_of m.moment m.serial) (h : HasDevices after) where
+  module _ (value : ℕ) (after : State) (e : after ≡ write 0x3f8 value m) (line : line_of m.moment after.serial ≡ line_of m.moment m.serial)
+      (h : HasDevices after) where
     is-serial : after ≡ record m { serial = written 0 value m.moment m.serial }
     unfolding written_at
     is-serial = e ∙ ap (λ (target : Target). written_at target 0x3f8 value m) (ports_are.register m.level 0 (omega arith))
@@ -96,7 +99,8 @@ module _ (m : State) (s : IsSound m) where
         rw (is, at, ← view, ← e, same-settled Untouched after refl queue-stays h, k.int, queue-int) refl
 
   -- A command to the master.
-  module _ (value : ℕ) (after : State) (e : after ≡ write 0x20 value m) (even : has value 4 ≡ false) (h : HasDevices after) (int : Bool) (out : int ≡ int_of after.pair) where
+  module _ (value : ℕ) (after : State) (e : after ≡ write 0x20 value m) (even : has value 4 ≡ false) (h : HasDevices after) (int : Bool)
+      (out : int ≡ int_of after.pair) where
     is-pair : target_of m.level 0x20 ≡ Pair
     is-pair = ports_are.pair m.level 0x20 refl
 
@@ -175,12 +179,14 @@ module _ (m seen : State) (value : ℕ) (view : m ≡ seen) where
   pub command-written : (pair : PicPair) → pair ≡ written_pair 0x20 value m.pair → record m { pair = pair } ≡ write 0x20 value seen
   unfolding written_at
   command-written pair e =
-      rw (← view) (ap (λ (p : PicPair). record m { pair = p }) e ∙ ap (λ (target : Target). written_at target 0x20 value m) (sym (ports_are.pair m.level 0x20 refl)))
+      rw (← view) (ap (λ (p : PicPair). record m { pair = p }) e
+      ∙ ap (λ (target : Target). written_at target 0x20 value m) (sym (ports_are.pair m.level 0x20 refl)))
 
   pub queue-written : (serial : Port) → serial ≡ written 0 value m.moment m.serial → record m { serial = serial } ≡ write 0x3f8 value seen
   unfolding written_at
   queue-written serial e =
-      rw (← view) (ap (λ (p : Port). record m { serial = p }) e ∙ ap (λ (target : Target). written_at target 0x3f8 value m) (sym (ports_are.register m.level 0 (omega arith))))
+      rw (← view) (ap (λ (p : Port). record m { serial = p }) e
+      ∙ ap (λ (target : Target). written_at target 0x3f8 value m) (sym (ports_are.register m.level 0 (omega arith))))
 
 pub queue-devices : (m : State) → HasDevices m → (value : ℕ) → value < 256 → (serial : Port) (queued : Bool)
     → (queued ≡ true → (now : ℕ) → serial ≡ written 0 value now m.serial) → (queued ≡ false → serial ≡ m.serial) → HasDevices (record m { serial = serial })
