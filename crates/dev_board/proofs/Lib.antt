@@ -4,6 +4,7 @@ pub mod Facade
 pub mod KeepLaws
 pub mod KeptLaws
 pub mod PortLaws
+pub mod QuickLaws
 pub mod QuietLaws
 pub mod RestoredLaws
 pub mod RuleLaws

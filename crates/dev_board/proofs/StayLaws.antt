@@ -24,7 +24,7 @@ or-bits a b c d =
     ∙ has-or (bit_or x y) z 1 ∙ ap (λ t. has (bit_or x y) 1 || t) (bit-of c 0x20 refl) ∙ or-false (has (bit_or x y) 1)
     ∙ has-or x y 1 ∙ ap (λ t. t || has y 1) (bit-of a 0x01 refl) ∙ bit-of b 0x02 refl
 
-lsr-overrun : (port : Port) → has (lsr_of port) 1 ≡ port.receiver.overrun
+pub lsr-overrun : (port : Port) → has (lsr_of port) 1 ≡ port.receiver.overrun
 unfolding lsr_of
 lsr-overrun port = or-bits _ port.receiver.overrun _ _
 
@@ -60,7 +60,7 @@ left-at offset now port =
 touched : {A : Type 0} → true ≡ false → A
 touched e = absurd (false≢true (sym e))
 
-pair-taken : (m : State) → IsSound m → HasTaken (lines_of m.pair) m.pair
+pub pair-taken : (m : State) → IsSound m → HasTaken (lines_of m.pair) m.pair
 pair-taken m s = let master = s.pair.master in let slave = s.pair.slave in record {
   master = record { irr = master.registers.irr; lines = master.registers.lines; elcr = master.registers.elcr; requests = master.requests };
   slave = record { irr = slave.registers.irr; lines = slave.registers.lines; elcr = slave.registers.elcr; requests = slave.requests };

@@ -33,6 +33,7 @@ impl Parts {
     }
 
     /// Tells whether a device has the port `port`.
+    #[inline(always)]
     pub(crate) fn has_port(&self, port: u16) -> bool
         ensures { result ≡ has_port_of self.now.level port }
     {

@@ -11,6 +11,7 @@ mod laws;
 mod misfit;
 mod parts;
 mod ports;
+mod quick;
 mod saved;
 mod touch;
 mod wires;

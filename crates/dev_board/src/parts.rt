@@ -24,7 +24,7 @@ use dev_serial::{MOST_SENT, Serial};
 use std::marker::Model;
 
 /// What a read of a port without a device returns.
-const NO_DEVICE: u8 = 0xff;
+pub(crate) const NO_DEVICE: u8 = 0xff;
 
 /// The devices of a board at a present moment, whatever lines the master remembers of them.
 #[derive(Drop)]

@@ -130,6 +130,7 @@ impl Chip {
     }
 
     /// Returns the input that is served next. If there is one, the interrupt output (INT) is high.
+    #[inline(always)]
     #[tactic(auto, using(crate::proofs::WinnerLemmas::nothing_wins), unfolding(crate::specs::Chip::winner_at))]
     pub fn winner(&self, role: Role) -> Option<u8>
         ensures winner { result ≡ winner_at role self.now }
@@ -170,6 +171,7 @@ impl Chip {
     }
 
     // Carries out a command of OCW2.
+    #[inline(always)]
     #[tactic(auto, unfolding(crate::specs::Chip::commanded, crate::specs::Chip::ended, crate::specs::Chip::ended_lowest))]
     fn command(&mut self, command: Ocw2)
         requires { HasInput command }
@@ -252,6 +254,7 @@ impl Chip {
     }
 
     /// Writes `value` with A0 low, at `level`: ICW1, OCW2 or OCW3, by bits 4 and 3.
+    #[inline(always)]
     #[tactic(auto, unfolding(crate::specs::Chip::written_even))]
     pub fn write_even(&mut self, level: u8, value: u8)
         ensures { self.new ≡ written_even level value self.old }

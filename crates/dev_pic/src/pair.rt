@@ -135,6 +135,17 @@ impl PicPair {
         }
     }
 
+    /// Writes `value` to port 0x20 and returns the master's interrupt output.
+    #[inline(always)]
+    #[tactic(auto, unfolding(crate::specs::Pair::written_pair, crate::specs::Pair::int_of))]
+    pub fn command(&mut self, value: u8) -> bool
+        ensures state { self.new ≡ written_pair 0x20 value self.old }
+        ensures int { result ≡ int_of self.new }
+    {
+        self.master.write_even(self.level, value);
+        self.master.winner(Role::Master).is_some()
+    }
+
     /// Acknowledges an interrupt ("Interrupt Sequence") and returns its vector.
     #[tactic(auto, unfolding(crate::specs::Pair::acked_for))]
     pub fn ack(&mut self) -> u8

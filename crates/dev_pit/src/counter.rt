@@ -65,6 +65,7 @@ impl Counter {
     }
 
     /// Returns the live count at `now`, as 16 bits.
+    #[inline(always)]
     #[tactic(auto, unfolding(crate::specs::Counter::live_of, crate::specs::Count::live_at))]
     pub fn live(&self, now: u64) -> u16
         requires loaded { LoadedBy now self.now.loaded_at }
@@ -244,6 +245,7 @@ impl Counter {
     }
 
     /// Returns a latched status, else the next byte of the latched count, else of the live count.
+    #[inline(always)]
     #[tactic(auto, unfolding(crate::specs::Counter::read_of, crate::specs::Counter::counted_of))]
     pub fn read(&mut self, now: u64) -> u8
         requires loaded { LoadedBy now self.old.loaded_at }
@@ -258,6 +260,7 @@ impl Counter {
     }
 
     /// Returns the byte of `count` that is read next, and unlatches the count after its last byte.
+    #[inline(always)]
     #[tactic(auto, unfolding(crate::specs::Counter::counted_of))]
     fn read_byte(&mut self, count: u16) -> u8
         ensures { (result, self.new) ≡ counted_of count self.old }

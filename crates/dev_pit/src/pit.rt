@@ -87,6 +87,21 @@ impl Pit {
         self.counters[counter as usize].read(now)
     }
 
+    /// Reads a byte from the port of counter 0, as [`Pit::read`] does.
+    ///
+    /// # Requires
+    ///
+    /// `now` is at most `LAST_MOMENT`, and no counter was loaded after `now`.
+    #[inline(always)]
+    #[tactic(auto, unfolding(crate::specs::Pit::pit_read))]
+    pub fn read_first(&mut self, now: u64) -> u8
+        requires moment { now ≤ LAST_MOMENT }
+        requires loaded { IsLoadedBy now self.old }
+        ensures { (result, self.new) ≡ pit_read 0 now self.old }
+    {
+        self.counters[0].read(now)
+    }
+
     /// Writes `value` to `port` at the moment `now` ("Write Operations").
     ///
     /// A write to a counter's port is a byte of a count; the count is loaded when its last byte is

@@ -38,7 +38,7 @@ pub use Rattle.dev_base.specs.Tables.{since}
 pub use Rattle.dev_base.specs.declared.limits.TheConstants.{LAST_MOMENT, NEWEST}
 pub use Rattle.dev_serial.specs.Access.{id_read, is_empty, leaving, lsr_read, receiver_cleared, room_of, switch_of, transmitter_cleared, with_taken}
 unfoldable pub use Rattle.dev_serial.specs.Access.{advanced, came_in, fcr_cleared, fcr_written, ier_written, iir_of, lsr_of, msr_of, read_of, thr_written}
-unfoldable pub use Rattle.dev_serial.specs.Access.{written}
+unfoldable pub use Rattle.dev_serial.specs.Access.{queues, written}
 pub use Rattle.dev_serial.specs.Cells.{AreBytesIn, IsArray, IsPortCells, array_at, bytes_at, field_kinds, kinds, named, ring_at}
 unfoldable pub use Rattle.dev_serial.specs.Cells.{array_cells, carried, cells_of, field_cells, numbers_of, ring_cells}
 pub use Rattle.dev_serial.specs.Fifo.{trigger_of}

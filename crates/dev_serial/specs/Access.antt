@@ -1,5 +1,5 @@
 -- The calls of a port. Quoted names are the registers' in the NS16550A data sheet.
-use Rattle.std.specs.Prelude.{ℕ, ◌+◌, ◌-◌, ◌*◌, ◌/◌, ◌%◌, ◌==◌, Bool, true, false, nat_le, ◌&&◌, not, if◌then◌else◌, List, [], length, Option, Some, None, is_some, bit_and, bit_or}
+use Rattle.std.specs.Prelude.{ℕ, ◌+◌, ◌-◌, ◌*◌, ◌/◌, ◌%◌, ◌==◌, Bool, true, false, nat_le, ◌&&◌, ◌||◌, not, if◌then◌else◌, List, [], length, Option, Some, None, is_some, bit_and, bit_or}
 use Rattle.dev_base.specs.Bits.{has, bits_where}
 use Rattle.dev_serial.specs.Fifo.{trigger_of}
 use Rattle.dev_serial.specs.Line.{character_time}
@@ -70,6 +70,11 @@ with_thr port transmitter = record port { transmitter = transmitter; thr_empty =
 unfoldable pub thr_written : ℕ → ℕ → Port → Port
 thr_written byte now port =
     with_thr port (loaded (now + character_time port.divisor port.lcr) port.transmitter.shift (queued (is_some port.fifos) byte port.transmitter.waiting))
+
+-- `queues port` tells whether a byte that is written to the "Transmitter Holding Register" only waits
+-- there: the offset reaches that register, the shift register is busy, and the latch is clear.
+unfoldable pub queues : Port → Bool
+queues port = not (has port.lcr 7 || port.thr_empty || not (is_some port.transmitter.shift))
 
 -- The port after a write of the "Interrupt Enable Register". If bit 1 goes from 0 to 1, the latch
 -- samples the transmit list.

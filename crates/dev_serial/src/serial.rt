@@ -195,6 +195,7 @@ impl Serial {
     }
 
     // Returns what the Line Status Register reads.
+    #[inline(always)]
     #[tactic(auto, unfolding(crate::specs::Access::lsr_of))]
     pub(crate) fn line_status(&self) -> u8
         ensures { result ≡ lsr_of self.now }

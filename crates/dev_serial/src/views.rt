@@ -1,15 +1,16 @@
 // A copy of a port, and what it sends, waits for and has room for next.
-ghost use Rattle.std.specs.Prelude.{◌≡◌, ◌≤◌, length, IsTrue, ◌↔◌};
+ghost use Rattle.std.specs.Prelude.{◌≡◌, ◌≤◌, ℕ, length, IsTrue, MatchOption, ◌↔◌, true, false};
 
 use crate::fifo::FIFO_BYTES;
 use crate::mode::{LONGEST_CHARACTER, character_time};
-use crate::registers::LOOP;
+use crate::registers::{DLAB, LOOP};
 use crate::serial::Serial;
 use crate::shift::Shift;
 use dev_base::has;
 
 impl Serial {
-    ghost use Rattle.dev_serial.specs.Access.{room_of};
+    ghost use Rattle.dev_serial.specs.Access.{lsr_read, queues, room_of, written};
+    ghost use Rattle.dev_serial.specs.Port.{line_of};
     ghost use Rattle.dev_serial.specs.Transmit.{IsSentAfter};
     ghost use Rattle.dev_serial.specs.Line.{character_time as character_time_of};
 
@@ -40,6 +41,37 @@ impl Serial {
             None => true,
             Some(shift) => to < shift.due,
         }
+    }
+
+    /// Returns what a read of the Line Status Register returns, unless the read would clear the
+    /// overrun flag.
+    #[inline(always)]
+    pub fn status(&self) -> Option<u8>
+        ensures { MatchOption result (self.now.receiver.overrun ≡ true)
+            (λ value. (value, self.now) ≡ lsr_read self.now) }
+    {
+        if self.receiver.has_overrun() {
+            return None;
+        }
+        Some(self.line_status())
+    }
+
+    /// Writes `byte` to the Transmitter Holding Register if all that it does is to wait there. This
+    /// is so if the shift register is busy and the latch is clear. Otherwise nothing happens, and it
+    /// returns `false`.
+    #[inline(always)]
+    #[tactic(auto, unfolding(crate::specs::Access::queues))]
+    pub fn queue(&mut self, byte: u8) -> bool
+        ensures queues { result ≡ queues self.old }
+        ensures queued { result ≡ true → (now : ℕ) → self.new ≡ written 0 byte now self.old }
+        ensures stays { result ≡ false → self.new ≡ self.old }
+        ensures line { (now : ℕ) → line_of now self.new ≡ line_of now self.old }
+    {
+        if has(self.lcr, DLAB) || self.thr_empty || self.transmitter.shift().is_none() {
+            return false;
+        }
+        self.transmitter.queue(self.fifos.is_some(), byte);
+        true
     }
 
     /// Returns the number of bytes that wait for the shift register, at most 16.
