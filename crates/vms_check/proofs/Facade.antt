@@ -21,6 +21,7 @@ pub use Rattle.vms_spec.proofs.Boxes.{box, box_set, counted_set, empty_set, numb
 pub use Rattle.vms_spec.proofs.Faultless.{answers_none, or_else_none}
 pub use Rattle.vms_spec.proofs.ListLaws.{all_right, both_none, found_inside}
 pub use Rattle.vms_spec.proofs.NumberLaws.{same_number_itself}
+pub use Rattle.vms_spec.proofs.ShippedSets.{each}
 pub use Rattle.vms_spec.proofs.Tables.{first_at, first_long}
 pub use Rattle.vms_spec.proofs.WellFormedLaws.{Clean, beyond, device_found, device_parts, struct_clean, sub_clean, sub_found, untested}
 pub use Rattle.vms_spec.specs.Layout.{counted, field_cells, no_desc, no_field, struct_cells}

@@ -1,5 +1,5 @@
 -- Tests over lists and numbered rules, and what they say of each place.
-use Rattle.vms_check.proofs.Facade.{◌≡◌, ℕ, zero, suc, ◌+◌, List, ◌∷◌, Bool, true, false, Option, Some, None, refl, arith, [], slice_get, list_all, and_parts}
+use Rattle.vms_check.proofs.Facade.{◌≡◌, ℕ, zero, suc, ◌+◌, List, ◌∷◌, Bool, true, false, Option, Some, None, refl, arith, [], slice_get, list_all}
 use Rattle.vms_check.proofs.Facade.{Place, first_answer, both_none, failing_pair}
 
 pub passes : (rule : ℕ) (b : Bool) (rules : List (ℕ × Bool)) (p q : Place) → failing_pair ((rule, b) ∷ rules) p q ≡ None
@@ -11,11 +11,6 @@ pub pass : (rule : ℕ) (b : Bool) (rules : List (ℕ × Bool)) (p q : Place) �
     → failing_pair ((rule, b) ∷ rules) p q ≡ None
 pass rule true rules p q e f = f
 pass rule false rules p q e f = absurd (cc)
-
-pub every_at : {X : Type 0} (p : X → Bool) (xs : List X) (i : ℕ) (x : X) → list_all p xs ≡ true → slice_get xs i ≡ Some x → p x ≡ true
-every_at p [] i x e h = absurd (cc)
-every_at p (y ∷ xs) zero x e h = let same : y ≡ x = cc in rw same at (and_parts (p y) (list_all p xs) e).0
-every_at p (y ∷ xs) (suc i) x e h = every_at p xs i x (and_parts (p y) (list_all p xs) e).1 h
 
 pub at_every : {X : Type 0} (p : X → Bool) (xs : List X) → ((i : ℕ) (x : X) → slice_get xs i ≡ Some x → p x ≡ true) → list_all p xs ≡ true
 at_every p [] h = refl

@@ -3,9 +3,9 @@ use Rattle.vms_check.proofs.Facade.{◌≡◌, ℕ, Bool, true, false, Option, S
 use Rattle.vms_check.proofs.Facade.{eqb-true, leb-true, le-leb, Formula, Field, Desc, is_nothing, same_rest, same_reduced, Comparer, Entry, absent_hold, bound}
 use Rattle.vms_check.proofs.Facade.{failing_pair, has_room, holds_as_much, is_absent, is_covered, pair_rules, uncovered_rules, Reduced, Known, Open, left_of}
 use Rattle.vms_check.proofs.Facade.{presence, tree_of, field_reduced, Struct, Count, One, Fixed, Counted, Part, Place, counted, AreAlike, ArePaired, in_old}
-use Rattle.vms_check.proofs.Facade.{in_new}
+use Rattle.vms_check.proofs.Facade.{in_new, each}
 use Rattle.std.specs.Prelude.{nat_le}
-use Rattle.vms_check.proofs.ListLaws.{passes, pass, every_at, at_every}
+use Rattle.vms_check.proofs.ListLaws.{passes, pass, at_every}
 
 -- ---- The rests of the tests of two present fields.
 
@@ -69,7 +69,7 @@ module _ (same : ℕ → ℕ → Bool) (structs : List Comparer) (a b : Desc) (v
         names = ten.0;
         capacities = room.0;
         room = λ k g most there absent is.
-            room_there w f.index n g most absent (rw is at (every_at (λ (g : Field). has_room w f.index n g g.count) b.fields k g room.1 there));
+            room_there w f.index n g most absent (rw is at (each (λ (g : Field). has_room w f.index n g g.count) b.fields k g room.1 there));
         constants = twelve.0;
         structs = structs_same;
       }

@@ -6,10 +6,10 @@ use Rattle.vms_check.proofs.Facade.{device_rules, sub_rules, Comparer, Entry, co
 use Rattle.vms_check.proofs.Facade.{no_comparer, pair_rules, pair_structs, Compatible, compare_device, compare_sub, compare_subs, is_in, ArePaired, DescsFit}
 use Rattle.vms_check.proofs.Facade.{IsKept, fields_at, in_old, in_new, DevicesFit, Fits, IsSubFor, SetsFit, Reduced, Known, presence, reduced, fields_from}
 use Rattle.vms_check.proofs.Facade.{Mismatch, or_else_none, answers_none, both_none, find_device, find_sub, index, is_one_of, Clean, struct_clean, device_parts}
-use Rattle.vms_check.proofs.Facade.{sub_clean, none_is, AreRules, table, device_mismatch, lost_mismatch, machines_mismatch}
+use Rattle.vms_check.proofs.Facade.{sub_clean, none_is, AreRules, table, device_mismatch, lost_mismatch, machines_mismatch, each}
 use Rattle.vms_spec.specs.Layout.{Cell}
 use Rattle.vms_check.proofs.WholeLaws.{desc_split, AllBelow, structs_are, whole_is}
-use Rattle.vms_check.proofs.ListLaws.{passes, pass, every_at, at_every, none_answers}
+use Rattle.vms_check.proofs.ListLaws.{passes, pass, at_every, none_answers}
 use Rattle.vms_check.proofs.PairLaws.{paired_so, so_paired}
 use Rattle.vms_spec.specs.declared.Part.TheVariants as parts
 
@@ -122,7 +122,7 @@ module _ (same : ℕ → ℕ → Bool) (structs : List Comparer) (k : ℕ) (a b 
       record {
         as_many = fields.as_many;
         pairs = fields.pairs;
-        validations = λ i t e. kept_so (reduced w t) (every_at (λ (t : Formula). keeps (reduced w t)) b.validate i t kept e);
+        validations = λ i t e. kept_so (reduced w t) (each (λ (t : Formula). keeps (reduced w t)) b.validate i t kept e);
       }
 
   pub so_descs : (x y : List (List Cell)) → Meant → AllBelow k (fields_at b w) → DescsFit same a b v w → compare_desc structs x y a b v w in_a in_b ≡ None
@@ -222,7 +222,7 @@ module _ (old new : Set) (well : WellFormed new) where
       let r = or_else_none _ _ q.0 in (
         same,
         record {
-          machines = λ i m e. every_at (is_one_of new.machines) old.machines i m (passes 1 _ [] _ _ p.0).0 e;
+          machines = λ i m e. each (is_one_of new.machines) old.machines i m (passes 1 _ [] _ _ p.0).0 e;
           kept = λ i d e. (passes 2 _ [] _ _
               (answers_none (λ i d. failing_pair ((2, is_in new d) ∷ []) (here (parts.Device i)) (here parts.Set)) 0 old.devices r.0 i d e)).0;
           known = λ i d e. (passes 3 _ [] _ _

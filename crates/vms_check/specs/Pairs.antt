@@ -6,6 +6,7 @@ use Rattle.vms_spec.specs.Lists.{or_else}
 use Rattle.vms_spec.specs.WellFormed.{in_field}
 use Rattle.vms_parts.specs.Views.{field_of}
 use Rattle.vms_desc.specs.Described.{described}
+use Rattle.vms_desc.specs.declared.set.DescSet.{DescSet}
 use Rattle.vms_check.specs.Reducing.{Reduced, Known, Open, reduced}
 use Rattle.vms_check.specs.Comparing.{Entry, Comparer, comparers, compare_desc, compare_fields, compare_validations, failing_pair, is_absent, is_kept, pair_rules, pair_structs, same_reduced, uncovered_rules, no_comparer}
 use Rattle.vms_check.specs.Sides.{field_reduced, fields_from, desc_on, position_on}
@@ -34,6 +35,11 @@ pub record IsOn (side : Side) (p : Present) : Type 0 where
   pub inside : p.number < length (desc_on side).fields
   pub is : field_of p.field.now ≡ get_or (desc_on side).fields p.number no_field
   pub there : is_absent side.version (field_of p.field.now) ≡ false
+
+-- Both are present fields, each of its side.
+pub record AreOn (s t : Side) (p q : Present) : Type 0 where
+  pub one : IsOn s p
+  pub other : IsOn t q
 
 -- It is the first from field i on.
 pub record IsFirst (side : Side) (i : ℕ) (p : Present) : Type 0 where
@@ -103,6 +109,11 @@ module _ (s t : Side) where
   abbrev pub desc_mismatch : Option Mismatch
   desc_mismatch =
       compare_desc table_on (struct_cells (described s.set.now)) (struct_cells (described t.set.now)) (desc_on s) (desc_on t) s.version t.version s.part t.part
+
+-- Structure i is one of the older set, and structure j of the newer.
+pub record HaveStructs (s t : DescSet) (i j : ℕ) : Type 0 where
+  pub old : i < length (described s).structs
+  pub new : j < length (described t).structs
 
 -- The first mismatch of structure i of the older set and structure j of the newer.
 abbrev pub struct_mismatch : Set → Set → ℕ → ℕ → Option Mismatch

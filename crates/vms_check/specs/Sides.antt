@@ -1,5 +1,5 @@
 -- What the comparison needs of one description at a version.
-use Rattle.std.specs.Prelude.{ℕ, suc, ◌+◌, Bool, true, false, ◌&&◌, if◌then◌else◌, List, [], ◌∷◌, ◌++◌, Option, Some, None, nat_le}
+use Rattle.std.specs.Prelude.{◌≡◌, ℕ, suc, ◌+◌, Bool, true, false, ◌&&◌, if◌then◌else◌, List, [], ◌∷◌, ◌++◌, Option, Some, None, nat_le}
 use Rattle.std.specs.Borrow.{Bor}
 use Rattle.vms_spec.specs.declared.Part.{Part}
 use Rattle.vms_desc.specs.declared.set.DescSet.{DescSet}
@@ -45,6 +45,21 @@ abbrev pub is_whole_left : ℕ → Left → Bool
 is_whole_left v (left.Known b) = true
 is_whole_left v (left.Open t) = is_whole v (formula t.now)
 
+-- Neither test's root can be folded, each at the version of its side.
+pub record AreWhole (s t : Side) (f g : Formula) : Type 0 where
+  pub one : is_whole s.version f ≡ true
+  pub other : is_whole t.version g ≡ true
+
+-- The same for the code's values.
+pub record AreWholeLeft (s t : Side) (f g : Left) : Type 0 where
+  pub one : is_whole_left s.version f ≡ true
+  pub other : is_whole_left t.version g ≡ true
+
+-- Both tests are tests of numbers.
+pub record AreAtoms (f g : Formula) : Type 0 where
+  pub one : is_atom f ≡ true
+  pub other : is_atom g ≡ true
+
 -- The number of nodes of the code's value.
 abbrev pub left_nodes : Left → ℕ
 left_nodes (left.Known b) = 0
@@ -80,6 +95,11 @@ desc_on side = desc_at (described side.set.now) side.part
 -- The side's set has its part.
 abbrev pub IsSide : Side → Type 0
 IsSide side = HasPart (described side.set.now) side.part
+
+-- Each side's set has its part.
+pub record AreSides (s t : Side) : Type 0 where
+  pub old : IsSide s
+  pub new : IsSide t
 
 -- A part at the version that its own set writes.
 abbrev pub own_side : Bor DescSet → Part → Side

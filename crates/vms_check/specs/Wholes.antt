@@ -1,5 +1,5 @@
 -- What the comparison of two sets finds for machines, names and parts.
-use Rattle.std.specs.Prelude.{ℕ, Bool, not, [], ◌∷◌, Option, Some, None}
+use Rattle.std.specs.Prelude.{ℕ, ◌<◌, Bool, not, [], ◌∷◌, length, Option, Some, None}
 use Rattle.std.specs.List.{slice_get, list_all}
 use Rattle.vms_spec.specs.declared.Part.{Part}
 use Rattle.vms_spec.specs.declared.Part.TheVariants as parts
@@ -10,9 +10,10 @@ use Rattle.vms_spec.specs.Readiness.{is_version_of}
 use Rattle.vms_spec.specs.Sets.{Device, Set}
 use Rattle.vms_spec.specs.Streams.{is_one_of}
 use Rattle.vms_spec.specs.WellFormed.{here}
-use Rattle.vms_desc.specs.Described.{described}
-use Rattle.vms_desc.specs.Parts.{desc_at}
-use Rattle.vms_check.specs.Comparing.{compare_desc, compare_device, failing_pair, is_in, paired_device}
+use Rattle.vms_desc.specs.Described.{described, device_at}
+use Rattle.vms_desc.specs.declared.set.DescSet.{DescSet}
+use Rattle.vms_desc.specs.Parts.{HasPart, desc_at, sub_at}
+use Rattle.vms_check.specs.Comparing.{compare_desc, compare_device, compare_subs, failing_pair, first_mismatch, is_in, paired_device}
 use Rattle.vms_check.specs.Pairs.{table}
 use Rattle.vms_check.specs.Sides.{desc_on}
 use Rattle.vms_check.specs.declared.mismatch.Mismatch.{Mismatch}
@@ -43,6 +44,42 @@ module _ (old new : Set) where
   -- Device i of the older set, with the newer one of the same name and instance.
   abbrev pub device_mismatch : ℕ → Device → Option Mismatch
   device_mismatch i d = compare_device old new i d (paired_device old new d) (slice_get new.devices (index (paired_device old new d)))
+
+-- Device i is one of the older set, and device j of the newer.
+pub record HaveDevices (s t : DescSet) (i j : ℕ) : Type 0 where
+  pub old : i < length (described s).devices
+  pub new : j < length (described t).devices
+
+-- The same over the sets that the code borrows.
+module _ (s t : DescSet) where
+  -- The first mismatch of machines, names and devices.
+  abbrev pub sets_mismatch : Option Mismatch
+  sets_mismatch = first_mismatch (described s) (described t)
+
+  -- The first mismatch of device i, with the newer one of the same name and instance.
+  abbrev pub device_mismatch_at : ℕ → Option Mismatch
+  device_mismatch_at i = device_mismatch (described s) (described t) i (device_at (described s) i)
+
+  -- The first mismatch of all devices.
+  abbrev pub devices_mismatch : Option Mismatch
+  devices_mismatch = first_answer (device_mismatch (described s) (described t)) 0 (described s).devices
+
+  -- The first mismatch of device i of the older set and device j of the newer.
+  abbrev pub found_mismatch : ℕ → ℕ → Option Mismatch
+  found_mismatch i j = compare_device (described s) (described t) i (device_at (described s) i) (Some j) (Some (device_at (described t) j))
+
+  -- The first mismatch of the subsections of these two.
+  abbrev pub subs_mismatch : ℕ → ℕ → Option Mismatch
+  subs_mismatch i j = first_answer (compare_subs (described s) (described t) i j (device_at (described t) j)) 0 (device_at (described s) i).subs
+
+  -- The first mismatch of subsection k of these two.
+  abbrev pub sub_mismatch : ℕ → ℕ → ℕ → Option Mismatch
+  sub_mismatch i j k = compare_subs (described s) (described t) i j (device_at (described t) j) k (sub_at (device_at (described s) i) k)
+
+  -- Subsection k is one of device i of the older set, and device j is one of the newer.
+  pub record HaveSub (i j k : ℕ) : Type 0 where
+    pub old : HasPart (described s) (parts.Sub i k)
+    pub new : j < length (described t).devices
 
 -- The first mismatch of a part of the older set and one of a newer set, at the older one's version. A rule says
 -- that the newer one reads that version.

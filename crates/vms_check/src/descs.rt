@@ -1,11 +1,11 @@
 // A description on each side: its present fields in pairs, their structures, and then its validations.
 ghost use Rattle.std.specs.List.{list_all, list_any};
-ghost use Rattle.std.specs.Prelude.{◌≡◌, ◌<◌, length, map, true};
+ghost use Rattle.std.specs.Prelude.{◌≡◌, map, true};
 ghost use Rattle.vms_desc.specs.Described.{described};
 ghost use Rattle.vms_parts.specs.Views.{formula};
-ghost use Rattle.vms_check.specs.Pairs.{IsOn, all_fields_on, desc_mismatch, is_kept_test, is_left, pair_mismatch, struct_mismatch, validations_on};
-ghost use Rattle.vms_check.specs.Places.{ArePlaces};
-ghost use Rattle.vms_check.specs.Sides.{IsSide, as_reduced, is_whole_left};
+ghost use Rattle.vms_check.specs.Pairs.{AreOn, HaveStructs, all_fields_on, desc_mismatch, is_kept_test, is_left, pair_mismatch, struct_mismatch, validations_on};
+ghost use Rattle.vms_check.specs.Places.{HavePlaces};
+ghost use Rattle.vms_check.specs.Sides.{AreSides, as_reduced, is_whole_left};
 
 use crate::Mismatch;
 use crate::pairs::failing_rule;
@@ -19,9 +19,7 @@ use vms_kinds::Item;
 
 // Checks whether one of the old validations has become this.
 fn is_among(old: Side, new: Side, places: &Places, tests: &[Test], left: Left) -> bool
-    requires old { IsSide old }
-    requires new { IsSide new }
-    requires places { ArePlaces old new places.now }
+    requires sides { HavePlaces old new places.now }
     requires whole { is_whole_left new.version left ≡ true }
     ensures { let is = is_left old.entry new.entry (as_reduced new.entry.version left.entry) in
         result ≡ list_any is (map formula tests.now) }
@@ -36,9 +34,7 @@ fn is_among(old: Side, new: Side, places: &Places, tests: &[Test], left: Left) -
 
 // Checks whether a validation of the new set is always true, or is an old one.
 fn is_kept(old: Side, new: Side, places: &Places, test: &Test) -> bool
-    requires old { IsSide old }
-    requires new { IsSide new }
-    requires places { ArePlaces old new places.now }
+    requires { HavePlaces old new places.now }
     ensures { result ≡ is_kept_test old.entry new.entry (formula test.now) }
 {
     match reduce(test, new.version) {
@@ -48,9 +44,7 @@ fn is_kept(old: Side, new: Side, places: &Places, test: &Test) -> bool
 }
 
 fn are_kept(old: Side, new: Side, places: &Places, tests: &[Test]) -> bool
-    requires old { IsSide old }
-    requires new { IsSide new }
-    requires places { ArePlaces old new places.now }
+    requires { HavePlaces old new places.now }
     ensures { result ≡ list_all (is_kept_test old.entry new.entry) (map formula tests.now) }
 {
     for test in tests {
@@ -62,9 +56,7 @@ fn are_kept(old: Side, new: Side, places: &Places, tests: &[Test]) -> bool
 }
 
 fn compare_validations(old: Side, new: Side, places: &Places) -> Option<Mismatch>
-    requires old { IsSide old }
-    requires new { IsSide new }
-    requires places { ArePlaces old new places.now }
+    requires { HavePlaces old new places.now }
     ensures { result ≡ validations_on old.entry new.entry }
 {
     if are_kept(old, new, places, validations_of(new)) {
@@ -80,8 +72,7 @@ fn compare_validations(old: Side, new: Side, places: &Places) -> Option<Mismatch
 // Compares two structures, each at its own version.
 #[cycle(walk)]
 fn compare_structs(old: &DescSet, new: &DescSet, in_old: u32, in_new: u32) -> Option<Mismatch>
-    requires old { in_old < length (described old.now).structs }
-    requires new { in_new < length (described new.now).structs }
+    requires { HaveStructs old.now new.now in_old in_new }
     ensures { result ≡ struct_mismatch (described old.now) (described new.now) in_old in_new }
 {
     compare_descs(
@@ -99,11 +90,8 @@ fn compare_pair(
     one: Present,
     other: Present,
 ) -> Option<Mismatch>
-    requires old { IsSide old }
-    requires new { IsSide new }
-    requires places { ArePlaces old new places.now }
-    requires one { IsOn old one }
-    requires other { IsOn new other }
+    requires sides { HavePlaces old new places.now }
+    requires pair { AreOn old new one other }
     ensures { result ≡ pair_mismatch old.entry new.entry one.entry other.entry }
 {
     if let Some(rule) = failing_rule(old, new, places, one, other) {
@@ -123,9 +111,7 @@ fn compare_pair(
 
 #[cycle(walk)]
 fn compare_fields(old: Side, new: Side, places: &Places) -> Option<Mismatch>
-    requires old { IsSide old }
-    requires new { IsSide new }
-    requires places { ArePlaces old new places.now }
+    requires { HavePlaces old new places.now }
     ensures { result ≡ all_fields_on old.entry new.entry }
 {
     let (mut in_old, mut in_new) = (0, 0);
@@ -160,8 +146,7 @@ fn compare_fields(old: Side, new: Side, places: &Places) -> Option<Mismatch>
 // Returns the first mismatch of two descriptions.
 #[cycle(walk)]
 pub(crate) fn compare_descs(old: Side, new: Side) -> Option<Mismatch>
-    requires old { IsSide old }
-    requires new { IsSide new }
+    requires { AreSides old new }
     ensures { result ≡ desc_mismatch old.entry new.entry }
 {
     let places = places_on(old, new);

@@ -2,9 +2,9 @@
 ghost use Rattle.std.specs.Prelude.{◌≡◌};
 ghost use Rattle.vms_spec.specs.Layout.{counted};
 ghost use Rattle.vms_check.specs.Comparing.{same_count, same_reduced, same_rest, absent_hold, bound};
-ghost use Rattle.vms_check.specs.Pairs.{IsOn, entry, failing_number, rules_on, uncovered_on};
-ghost use Rattle.vms_check.specs.Places.{ArePlaces};
-ghost use Rattle.vms_check.specs.Sides.{IsSide, desc_on, position_on};
+ghost use Rattle.vms_check.specs.Pairs.{AreOn, IsOn, entry, failing_number, rules_on, uncovered_on};
+ghost use Rattle.vms_check.specs.Places.{HavePlaces};
+ghost use Rattle.vms_check.specs.Sides.{AreSides, IsSide, desc_on, position_on};
 
 use crate::capacities::{absent_hold, greatest};
 use crate::items::{holds_as_much, is_covered, same_constant, same_item};
@@ -18,9 +18,7 @@ use vms_desc::Count;
 
 // Checks whether both fields are single, of equal length, or counted by fields of the same position.
 fn same_count(old: Side, new: Side, places: &Places, one: Count, other: Count) -> bool
-    requires old { IsSide old }
-    requires new { IsSide new }
-    requires places { ArePlaces old new places.now }
+    requires { HavePlaces old new places.now }
     ensures { result ≡ same_count (position_on old.entry) (position_on new.entry) one other }
 {
     match (one, other) {
@@ -36,11 +34,8 @@ fn same_count(old: Side, new: Side, places: &Places, one: Count, other: Count) -
 // Checks whether the rest of their tests is the same.
 #[tactic(auto, using(crate::proofs::PairLaws::left_same, crate::proofs::PairLaws::presence_is))]
 fn same_rest(old: Side, new: Side, places: &Places, one: Present, other: Present) -> bool
-    requires old { IsSide old }
-    requires new { IsSide new }
-    requires places { ArePlaces old new places.now }
-    requires one { IsOn old one }
-    requires other { IsOn new other }
+    requires sides { HavePlaces old new places.now }
+    requires pair { AreOn old new one other }
     ensures { result ≡ same_rest (position_on old.entry) (position_on new.entry)
         (entry old.entry.version one.entry).rest (entry new.entry.version other.entry).rest }
 {
@@ -72,10 +67,8 @@ fn bound(side: Side, one: Present) -> u64
 // They are looked at one by one only if one of them has less room.
 #[tactic(auto, using(crate::proofs::CapacityLaws::room_laws))]
 fn absent_arrays_hold(old: Side, new: Side, one: Present, other: Present) -> bool
-    requires old { IsSide old }
-    requires new { IsSide new }
-    requires one { IsOn old one }
-    requires other { IsOn new other }
+    requires sides { AreSides old new }
+    requires pair { AreOn old new one other }
     ensures { result ≡ absent_hold new.entry.version other.entry.number
         (bound one.entry.field.now.item (counted one.entry.number (desc_on old.entry).fields))
         (desc_on new.entry).fields }
@@ -92,11 +85,8 @@ fn absent_arrays_hold(old: Side, new: Side, one: Present, other: Present) -> boo
 
 // Returns the first rule that fails if no unused bytes cover the old field.
 fn uncovered_rule(old: Side, new: Side, places: &Places, one: Present, other: Present) -> Option<u8>
-    requires old { IsSide old }
-    requires new { IsSide new }
-    requires places { ArePlaces old new places.now }
-    requires one { IsOn old one }
-    requires other { IsOn new other }
+    requires sides { HavePlaces old new places.now }
+    requires pair { AreOn old new one other }
     ensures { result ≡ failing_number (uncovered_on old.entry new.entry one.entry other.entry) }
 {
     let (before, after) = (one.field, other.field);
@@ -127,11 +117,8 @@ pub(crate) fn failing_rule(
     one: Present,
     other: Present,
 ) -> Option<u8>
-    requires old { IsSide old }
-    requires new { IsSide new }
-    requires places { ArePlaces old new places.now }
-    requires one { IsOn old one }
-    requires other { IsOn new other }
+    requires sides { HavePlaces old new places.now }
+    requires pair { AreOn old new one other }
     ensures { result ≡ failing_number (rules_on old.entry new.entry one.entry other.entry) }
 {
     if !is_covered(one.field.item, one.field.count, other.field.item) {

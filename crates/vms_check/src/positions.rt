@@ -3,7 +3,7 @@ ghost use Rattle.std.specs.Prelude.{◌≡◌, ◌<◌, ◌≤◌, ℕ, Some, No
 ghost use Rattle.vms_parts.specs.Views.{field_of};
 ghost use Rattle.vms_check.specs.Comparing.{same_place};
 ghost use Rattle.vms_check.specs.Places.{ArePlaces};
-ghost use Rattle.vms_check.specs.Sides.{IsSide, position_in, position_on};
+ghost use Rattle.vms_check.specs.Sides.{AreSides, IsSide, position_in, position_on};
 
 use crate::reducing::is_present;
 use crate::side::{Side, fields_of};
@@ -57,8 +57,7 @@ fn positions_on(side: Side) -> Positions
 
 /// Returns the positions of the fields of both sides.
 pub(crate) fn places_on(old: Side, new: Side) -> Places
-    requires old { IsSide old }
-    requires new { IsSide new }
+    requires { AreSides old new }
     ensures { ArePlaces old.entry new.entry result }
 {
     Places {

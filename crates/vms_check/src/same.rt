@@ -1,10 +1,10 @@
 // Whether reduced tests are the same, where fields are matched by position.
-ghost use Rattle.std.specs.Prelude.{◌≡◌, ◌==◌, true};
+ghost use Rattle.std.specs.Prelude.{◌≡◌, ◌==◌};
 ghost use Rattle.vms_parts.specs.Views.{formula};
 ghost use Rattle.vms_check.specs.Comparing.{rel_number, same_test, same_reduced};
 ghost use Rattle.vms_check.specs.Reducing.{reduced};
-ghost use Rattle.vms_check.specs.Places.{ArePlaces};
-ghost use Rattle.vms_check.specs.Sides.{IsSide, as_reduced, is_atom, is_whole, is_whole_left, position_on};
+ghost use Rattle.vms_check.specs.Places.{HavePlaces};
+ghost use Rattle.vms_check.specs.Sides.{AreAtoms, AreWhole, AreWholeLeft, as_reduced, position_on};
 
 use crate::positions::{Places, same_place};
 use crate::reducing::{Left, reduce};
@@ -19,11 +19,8 @@ fn same_rel(one: Rel, other: Rel) -> bool
 
 #[cycle(same)]
 pub(crate) fn same_reduced(old: Side, new: Side, places: &Places, one: Left, other: Left) -> bool
-    requires old { IsSide old }
-    requires new { IsSide new }
-    requires places { ArePlaces old new places.now }
-    requires one { is_whole_left old.version one ≡ true }
-    requires other { is_whole_left new.version other ≡ true }
+    requires sides { HavePlaces old new places.now }
+    requires whole { AreWholeLeft old new one other }
     ensures { result ≡ same_reduced (position_on old.entry) (position_on new.entry)
         (as_reduced old.entry.version one.entry) (as_reduced new.entry.version other.entry) }
 {
@@ -37,11 +34,8 @@ pub(crate) fn same_reduced(old: Side, new: Side, places: &Places, one: Left, oth
 // Compares two tests whose roots can't be folded.
 #[cycle(same)]
 fn same_tests(old: Side, new: Side, places: &Places, one: &Test, other: &Test) -> bool
-    requires old { IsSide old }
-    requires new { IsSide new }
-    requires places { ArePlaces old new places.now }
-    requires one { is_whole old.version (formula one.now) ≡ true }
-    requires other { is_whole new.version (formula other.now) ≡ true }
+    requires sides { HavePlaces old new places.now }
+    requires whole { AreWhole old new (formula one.now) (formula other.now) }
     ensures { result ≡ same_reduced (position_on old.entry) (position_on new.entry)
         (reduced old.entry.version (formula one.now))
         (reduced new.entry.version (formula other.now)) }
@@ -60,9 +54,7 @@ fn same_tests(old: Side, new: Side, places: &Places, one: &Test, other: &Test) -
 
 #[cycle(same)]
 fn same_inner(old: Side, new: Side, places: &Places, one: &Test, other: &Test) -> bool
-    requires old { IsSide old }
-    requires new { IsSide new }
-    requires places { ArePlaces old new places.now }
+    requires { HavePlaces old new places.now }
     ensures { result ≡ same_reduced (position_on old.entry) (position_on new.entry)
         (reduced old.entry.version (formula one.now))
         (reduced new.entry.version (formula other.now)) }
@@ -78,11 +70,8 @@ fn same_inner(old: Side, new: Side, places: &Places, one: &Test, other: &Test) -
 
 // Compares two tests of numbers of the descriptions.
 fn same_atoms(old: Side, new: Side, places: &Places, one: &Test, other: &Test) -> bool
-    requires old { IsSide old }
-    requires new { IsSide new }
-    requires places { ArePlaces old new places.now }
-    requires one { is_atom (formula one.now) ≡ true }
-    requires other { is_atom (formula other.now) ≡ true }
+    requires sides { HavePlaces old new places.now }
+    requires atoms { AreAtoms (formula one.now) (formula other.now) }
     ensures { result ≡ same_test (position_on old.entry) (position_on new.entry) (formula one.now)
         (formula other.now) }
 {

@@ -1,17 +1,16 @@
 // Two whole sets: machines, devices, and then each device with its subsections.
 ghost use Rattle.std.specs.List.{list_all};
-ghost use Rattle.std.specs.Prelude.{◌≡◌, ◌<◌, ◌≤◌, length, map, Some, None};
-ghost use Rattle.vms_desc.specs.Described.{described, device_at};
-ghost use Rattle.vms_desc.specs.Parts.{HasPart, sub_at};
+ghost use Rattle.std.specs.Prelude.{◌≡◌, ◌<◌, ◌≤◌, length, map};
+ghost use Rattle.vms_desc.specs.Described.{described};
+ghost use Rattle.vms_desc.specs.Parts.{HasPart};
 ghost use Rattle.vms_parts.specs.Views.{desc_of, device_of};
-ghost use Rattle.vms_spec.specs.declared.Part.TheVariants as parts;
-ghost use Rattle.vms_spec.specs.Lookup.{find_sub};
-ghost use Rattle.vms_spec.specs.Lists.{first_answer, position};
+ghost use Rattle.vms_spec.specs.Lists.{position};
 ghost use Rattle.vms_spec.specs.Readiness.{is_version_of};
 ghost use Rattle.vms_spec.specs.Streams.{is_one_of};
-ghost use Rattle.vms_check.specs.Comparing.{compare_device, compare_subs, first_mismatch, is_in};
+ghost use Rattle.vms_check.specs.Comparing.{first_mismatch, is_in};
 ghost use Rattle.vms_check.specs.Sides.{IsSide};
-ghost use Rattle.vms_check.specs.Wholes.{device_mismatch, is_missing, lost_mismatch, machines_mismatch, part_mismatch, verdict_of};
+ghost use Rattle.vms_check.specs.Wholes.{HaveDevices, HaveSub, device_mismatch_at, devices_mismatch, found_mismatch, is_missing, lost_mismatch};
+ghost use Rattle.vms_check.specs.Wholes.{machines_mismatch, part_mismatch, sets_mismatch, sub_mismatch, subs_mismatch, verdict_of};
 
 use crate::descs::compare_descs;
 use crate::side::{Side, at_own_version, desc_of, here};
@@ -30,7 +29,7 @@ pub fn check(old: &DescSet, new: &DescSet) -> Verdict
 }
 
 fn first_mismatch(old: &DescSet, new: &DescSet) -> Option<Mismatch>
-    ensures { result ≡ first_mismatch (described old.now) (described new.now) }
+    ensures { result ≡ sets_mismatch old.now new.now }
 {
     if let Some(mismatch) = compare_machines(old, new) {
         return Some(mismatch);
@@ -112,8 +111,7 @@ fn compare_names(old: &DescSet, new: &DescSet) -> Option<Mismatch>
 // ---- devices
 
 fn compare_devices(old: &DescSet, new: &DescSet) -> Option<Mismatch>
-    ensures { result ≡ first_answer (device_mismatch (described old.now) (described new.now)) 0
-        (described old.now).devices }
+    ensures { result ≡ devices_mismatch old.now new.now }
 {
     let mut number = 0;
     while number < old.parts().devices.as_slice().len() {
@@ -128,8 +126,7 @@ fn compare_devices(old: &DescSet, new: &DescSet) -> Option<Mismatch>
 // Compares device `number` with the new one of the same name and instance.
 fn compare_device(old: &DescSet, new: &DescSet, number: u32) -> Option<Mismatch>
     requires { number < length (described old.now).devices }
-    ensures { result ≡ device_mismatch (described old.now) (described new.now) number
-        (device_at (described old.now) number) }
+    ensures { result ≡ device_mismatch_at old.now new.now number }
 {
     let device = old.device(number);
     match new.find(device.desc.name.as_bytes(), device.instance) {
@@ -140,11 +137,8 @@ fn compare_device(old: &DescSet, new: &DescSet, number: u32) -> Option<Mismatch>
 
 // Compares two devices of the same name and instance.
 fn compare_found(old: &DescSet, new: &DescSet, in_old: u32, in_new: u32) -> Option<Mismatch>
-    requires old { in_old < length (described old.now).devices }
-    requires new { in_new < length (described new.now).devices }
-    ensures { result ≡ compare_device (described old.now) (described new.now) in_old
-        (device_at (described old.now) in_old) (Some in_new)
-        (Some (device_at (described new.now) in_new)) }
+    requires { HaveDevices old.now new.now in_old in_new }
+    ensures { result ≡ found_mismatch old.now new.now in_old in_new }
 {
     let (part, other) = (Part::Device(in_old), Part::Device(in_new));
     if let Some(mismatch) = compare_parts(4, at_own_version(old, part), new, other) {
@@ -184,11 +178,8 @@ fn is_version_of(desc: &Desc, version: u32) -> bool
 
 // Compares the subsections of the old device with those of the new one.
 fn compare_subs(old: &DescSet, new: &DescSet, in_old: u32, in_new: u32) -> Option<Mismatch>
-    requires old { in_old < length (described old.now).devices }
-    requires new { in_new < length (described new.now).devices }
-    ensures { result ≡ first_answer (compare_subs (described old.now) (described new.now) in_old
-        in_new (device_at (described new.now) in_new)) 0
-        (device_at (described old.now) in_old).subs }
+    requires { HaveDevices old.now new.now in_old in_new }
+    ensures { result ≡ subs_mismatch old.now new.now in_old in_new }
 {
     let mut number = 0;
     while number < old.device(in_old).subs.as_slice().len() {
@@ -207,11 +198,8 @@ fn compare_sub(
     in_new: u32,
     number: u32,
 ) -> Option<Mismatch>
-    requires old { HasPart (described old.now) (parts.Sub in_old number) }
-    requires new { in_new < length (described new.now).devices }
-    ensures { result ≡ compare_subs (described old.now) (described new.now) in_old in_new
-        (device_at (described new.now) in_new) number
-        (sub_at (device_at (described old.now) in_old) number) }
+    requires { HaveSub old.now new.now in_old in_new number }
+    ensures { result ≡ sub_mismatch old.now new.now in_old in_new number }
 {
     let part = Part::Sub(in_old, number);
     let name = old.desc(part).name.as_bytes();

@@ -46,14 +46,14 @@ compare_pair-compare_structs-requires t c =
     let one = c.args.one in
     let other = c.args.other in
     let older =
-    uses_at (described s.set.now) s.set.now.well_formed s.part c.requires.old one.number c.requires.one.inside
-    (field_of one.field.now) c.requires.one.is c.in-Struct-Struct.in_old c.in-Struct-Struct.is-0 in
+    uses_at (described s.set.now) s.set.now.well_formed s.part c.requires.sides.old one.number c.requires.pair.one.inside
+    (field_of one.field.now) c.requires.pair.one.is c.in-Struct-Struct.in_old c.in-Struct-Struct.is-0 in
     let newer =
-    uses_at (described r.set.now) r.set.now.well_formed r.part c.requires.new other.number c.requires.other.inside
-    (field_of other.field.now) c.requires.other.is c.in-Struct-Struct.in_new c.in-Struct-Struct.is-1 in
+    uses_at (described r.set.now) r.set.now.well_formed r.part c.requires.sides.new other.number c.requires.pair.other.inside
+    (field_of other.field.now) c.requires.pair.other.is c.in-Struct-Struct.in_new c.in-Struct-Struct.is-1 in
     let low : c.in-Struct-Struct.in_new < reach (described r.set.now) r.part = newer.0 in
     let less : 4 * c.in-Struct-Struct.in_new + 4 < 4 * reach (described r.set.now) r.part + 1 = omega (arith, low) in
-    (search rules, (older.1, newer.1))
+    (search rules, record { old = older.1; new = newer.1 })
 
 pub compare_pair-returns-in_default-2-2 : goal.compare_pair-returns-in_default-2-2
 compare_pair-returns-in_default-2-2 t c =

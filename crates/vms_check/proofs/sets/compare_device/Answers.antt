@@ -2,8 +2,11 @@ use Rattle.vms_check.proofs.Facade.{ap, ◌∙◌, Device, described, device_at}
 use Rattle.vms_check.proofs.WholeLaws.{device_in, device_found}
 use Rattle.vms_check.proofs.sets.compare_device.Goals as goal
 
-pub compare_found-requires-clause-new : goal.compare_found-requires-clause-new
-compare_found-requires-clause-new c = device_in (described c.args.new.now).devices _ _ _ c.in-Some.found c.find.ensures c.in-Some.is
+pub compare_found-requires : goal.compare_found-requires
+compare_found-requires c = record {
+  old = c.requires;
+  new = device_in (described c.args.new.now).devices _ _ _ c.in-Some.found c.find.ensures c.in-Some.is;
+}
 
 pub returns-in-Some : goal.returns-in-Some
 returns-in-Some c =
