@@ -1,4 +1,5 @@
 pub mod Bytes
+pub mod Calls
 pub mod Fine
 pub mod Judged
 pub mod Steps

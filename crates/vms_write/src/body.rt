@@ -1,12 +1,8 @@
 // The bytes of a part, step by step.
-ghost use Rattle.std.specs.Prelude.{◌≡◌};
 ghost use Rattle.vms_io.specs.Told.{outlet};
 ghost use Rattle.vms_io.specs.Writing.{Wrote};
-ghost use Rattle.vms_spec.specs.Images.{zeroed};
-ghost use Rattle.vms_desc.specs.Described.{described};
-ghost use Rattle.vms_walk.specs.Inside.{IsInside};
-ghost use Rattle.vms_walk.specs.Steps.{HasSpot, spot_slots};
-ghost use Rattle.vms_write.specs.Bytes.{CanWrite, CanStep, step_bytes};
+ghost use Rattle.vms_write.specs.Bytes.{step_bytes};
+ghost use Rattle.vms_write.specs.Calls.{CanWriteFields, CanWriteStep, fields_bytes};
 
 use crate::WriteFault;
 use crate::pieces::{append, write_zeros};
@@ -23,11 +19,8 @@ pub(crate) fn write_fields<K: Sink>(
     image: &Image,
     sink: &mut K,
 ) -> Result<(), WriteFault>
-    requires spot { HasSpot (described set.now) spot image.now.numbers }
-    requires can { CanWrite image.now.kinds
-        (spot_slots (described set.now) spot image.now.numbers) }
-    ensures { let slots = spot_slots (described set.now) spot image.now.numbers in
-        let bytes = zeroed image.now.numbers slots in
+    requires { CanWriteFields set.now spot image.now }
+    ensures { let bytes = fields_bytes set.now spot image.now.numbers in
         Wrote (outlet K.Sink sink.old) (outlet K.Sink sink.new) bytes result }
 {
     let mut writer = Writer { image, sink };
@@ -111,8 +104,7 @@ impl<K: Sink> Walker for Writer<'_, K> {
 
 #[inline(always)]
 fn write_step<K: Sink>(image: &Image, step: WalkStep, sink: &mut K) -> Result<(), WriteFault>
-    requires inside { IsInside image.now.numbers step }
-    requires can { CanStep image.now.kinds step }
+    requires { CanWriteStep image.now step }
     ensures { let bytes = step_bytes image.now.numbers step in
         Wrote (outlet K.Sink sink.old) (outlet K.Sink sink.new) bytes result }
 {

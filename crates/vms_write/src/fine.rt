@@ -1,13 +1,10 @@
 // Whether a part of an image may be written, step by step.
 ghost use Rattle.vms_spec.specs.declared.TheConstants.{MOST_ITEMS};
-ghost use Rattle.std.specs.Prelude.{◌≡◌, ◌<◌, ◌≤◌, ◌-◌, [], length, get_or, pos};
-ghost use Rattle.vms_spec.specs.Places.{own_cell_count};
+ghost use Rattle.std.specs.Prelude.{◌≡◌, ◌-◌, [], get_or, pos};
 ghost use Rattle.vms_spec.specs.Rules.{in_range};
 ghost use Rattle.vms_spec.specs.Numbers.{same_number};
-ghost use Rattle.vms_desc.specs.Described.{described};
-ghost use Rattle.vms_desc.specs.Parts.{desc_at};
-ghost use Rattle.vms_walk.specs.Steps.{HasSpot, spot_slots};
-ghost use Rattle.vms_write.specs.Fine.{no_form, formed, is_within, settle, is_fine};
+ghost use Rattle.vms_write.specs.Calls.{CanJudge, HasForm, HasForms, is_part_fine};
+ghost use Rattle.vms_write.specs.Fine.{no_form, formed, is_within, settle};
 ghost use Rattle.vms_write.specs.Steps.{is_number_fine};
 
 use vms_desc::{Cells, DescSet};
@@ -20,11 +17,8 @@ use vms_walk::{PartAt, WalkStep, Walker, walk};
 // that it counts. Each cell without a byte is at its default. The validations hold, those of
 // structures included.
 pub(crate) fn is_part_fine(set: &DescSet, spot: PartAt, image: &Image, defaults: &Buffer) -> bool
-    requires spot { HasSpot (described set.now) spot image.now.numbers }
-    requires forms { length (formed defaults.now) ≡ length image.now.numbers }
-    ensures { let slots = spot_slots (described set.now) spot image.now.numbers in
-        let size = own_cell_count (described set.now) (desc_at (described set.now) spot.part) in
-        result ≡ is_fine (formed defaults.now) image.now.numbers slots spot.base size }
+    requires { CanJudge set.now spot image.now defaults.now }
+    ensures { result ≡ is_part_fine set.now spot image.now defaults.now }
 {
     let mut judge = Judge {
         image,
@@ -146,8 +140,7 @@ fn is_within(most: Option<u32>, number: i128) -> bool
 
 // Returns whether the cells from `first` up to `end` are at their defaults.
 pub(crate) fn are_default(image: &Image, defaults: &Buffer, first: u32, end: u32) -> bool
-    requires forms { length (formed defaults.now) ≡ length image.now.numbers }
-    requires end { end ≤ length image.now.numbers }
+    requires { HasForms image.now defaults.now end }
     ensures { result ≡ settle [] (formed defaults.now) image.now.numbers first (end - first) }
 {
     for cell in first..end {
@@ -159,8 +152,7 @@ pub(crate) fn are_default(image: &Image, defaults: &Buffer, first: u32, end: u32
 }
 
 fn is_default(image: &Image, defaults: &Buffer, cell: u32) -> bool
-    requires forms { length (formed defaults.now) ≡ length image.now.numbers }
-    requires inside { cell < length image.now.numbers }
+    requires { HasForm image.now defaults.now cell }
     ensures { let default = (get_or (formed defaults.now) cell no_form).default in
         result ≡ same_number (get_or image.now.numbers cell (pos 0)) default }
 {

@@ -4,8 +4,8 @@ ghost use Rattle.std.specs.Bool.{OnTrue, OnFalse};
 ghost use Rattle.vms_spec.specs.Layout.{device_cells};
 ghost use Rattle.vms_spec.specs.Streams.{IsReady, AreReady};
 ghost use Rattle.vms_desc.specs.Described.{described, device_at};
-ghost use Rattle.vms_image.specs.Typed.{state_of, IsOfDevice, IsImageOf, AreImagesOf};
-ghost use Rattle.vms_write.specs.Judged.{own_fine, all_subs_fine, sub_fine_at, is_bare_at, is_sent_fine_at};
+ghost use Rattle.vms_image.specs.Typed.{state_of, AreImagesOf};
+ghost use Rattle.vms_write.specs.Calls.{HasDevice, HasSub, IsOf, Judges, are_subs_fine, is_bare, is_own_fine, is_sent_fine, is_sub_fine};
 
 use crate::fine::{are_default, is_part_fine};
 use vms_desc::{DescSet, Part};
@@ -28,12 +28,12 @@ pub fn ready(set: &DescSet, device: u32, image: &Image) -> bool
     requires is_device { device < length (described set.now).devices }
     requires subs { let d = device_at (described set.now) device in
         length image.now.came ≡ length d.subs }
-    requires cells { let d = device_at (described set.now) device in
-        length image.now.numbers ≡ length (device_cells (described set.now) d) }
-    ensures ready { let d = device_at (described set.now) device in
-        OnTrue result (IsReady (described set.now) d (state_of image.now)) }
-    ensures other { let d = device_at (described set.now) device in
-        OnFalse result (IsReady (described set.now) d (state_of image.now) → ⊥) }
+    requires cells { let set = described set.now in let d = device_at set device in
+        length image.now.numbers ≡ length (device_cells set d) }
+    ensures ready { let set = described set.now in let d = device_at set device in
+        OnTrue result (IsReady set d (state_of image.now)) }
+    ensures other { let set = described set.now in let d = device_at set device in
+        OnFalse result (IsReady set d (state_of image.now) → ⊥) }
 {
     is_own_fine(set, device, image) && are_subs_fine(set, device, image)
 }
@@ -45,8 +45,8 @@ pub fn ready(set: &DescSet, device: u32, image: &Image) -> bool
 pub fn are_ready(set: &DescSet, images: &[Image]) -> bool
     ensures ready { OnTrue result (AreReady (described set.now) (map state_of images.now)) }
     ensures of { OnTrue result (AreImagesOf (described set.now) images.now) }
-    ensures other { OnFalse result (AreImagesOf (described set.now) images.now
-        → AreReady (described set.now) (map state_of images.now) → ⊥) }
+    ensures other { let set = described set.now in
+        OnFalse result (AreImagesOf set images.now → AreReady set (map state_of images.now) → ⊥) }
 {
     if images.len() != set.parts().devices.as_slice().len() {
         return false;
@@ -61,22 +61,16 @@ pub fn are_ready(set: &DescSet, images: &[Image]) -> bool
 
 // Returns whether `image` is one of the device, and may be written.
 fn may_be_written(set: &DescSet, device: u32, image: &Image) -> bool
-    requires { device < length (described set.now).devices }
-    ensures ready { let d = device_at (described set.now) device in
-        OnTrue result (IsReady (described set.now) d (state_of image.now)) }
-    ensures of { OnTrue result (IsImageOf (described set.now) device image.now) }
-    ensures other { let d = device_at (described set.now) device in
-        OnFalse result (IsImageOf (described set.now) device image.now
-        → IsReady (described set.now) d (state_of image.now) → ⊥) }
+    requires { HasDevice set.now device }
+    ensures { Judges set.now device image.now result }
 {
     image.is_of(set, device) && ready(set, device, image)
 }
 
 // Returns whether the device's own fields may be written.
 fn is_own_fine(set: &DescSet, device: u32, image: &Image) -> bool
-    requires device { IsOfDevice (described set.now) device (state_of image.now) }
-    ensures { let d = device_at (described set.now) device in
-        result ≡ own_fine (described set.now) d (state_of image.now) }
+    requires device { IsOf set.now device image.now }
+    ensures { result ≡ is_own_fine set.now device image.now }
 {
     let version = image.version();
     let own = PartAt {
@@ -90,9 +84,8 @@ fn is_own_fine(set: &DescSet, device: u32, image: &Image) -> bool
 
 // Returns whether the subsections may be written, those that came and the others.
 fn are_subs_fine(set: &DescSet, device: u32, image: &Image) -> bool
-    requires device { IsOfDevice (described set.now) device (state_of image.now) }
-    ensures { let d = device_at (described set.now) device in
-        result ≡ all_subs_fine (described set.now) d (state_of image.now) }
+    requires device { IsOf set.now device image.now }
+    ensures { result ≡ are_subs_fine set.now device image.now }
 {
     for sub in 0..set.sub_count(device) {
         if !is_sub_fine(set, device, image, sub) {
@@ -103,9 +96,8 @@ fn are_subs_fine(set: &DescSet, device: u32, image: &Image) -> bool
 }
 
 fn is_sub_fine(set: &DescSet, device: u32, image: &Image, sub: u32) -> bool
-    requires device { IsOfDevice (described set.now) device (state_of image.now) }
-    requires is_sub { sub < length (device_at (described set.now) device).subs }
-    ensures { result ≡ sub_fine_at (described set.now) device (state_of image.now) sub }
+    requires { HasSub set.now device image.now sub }
+    ensures { result ≡ is_sub_fine set.now device image.now sub }
 {
     let needed = set.is_needed(device, sub, image);
     match image.came(sub) {
@@ -121,9 +113,8 @@ fn is_sub_fine(set: &DescSet, device: u32, image: &Image, sub: u32) -> bool
 ///
 /// The set has the device and the subsection, and `image` is of the device.
 pub fn is_bare(set: &DescSet, device: u32, image: &Image, sub: u32) -> bool
-    requires device { IsOfDevice (described set.now) device (state_of image.now) }
-    requires is_sub { sub < length (device_at (described set.now) device).subs }
-    ensures { result ≡ is_bare_at (described set.now) device (state_of image.now) sub }
+    requires { HasSub set.now device image.now sub }
+    ensures { result ≡ is_bare set.now device image.now sub }
 {
     let part = Part::Sub(device, sub);
     let first = set.first_cell(part);
@@ -133,9 +124,8 @@ pub fn is_bare(set: &DescSet, device: u32, image: &Image, sub: u32) -> bool
 
 // Returns whether a subsection that came at `version` may be written.
 fn is_sent_fine(set: &DescSet, device: u32, image: &Image, sub: u32, version: u32) -> bool
-    requires device { IsOfDevice (described set.now) device (state_of image.now) }
-    requires is_sub { sub < length (device_at (described set.now) device).subs }
-    ensures { result ≡ is_sent_fine_at (described set.now) device (state_of image.now) sub version }
+    requires { HasSub set.now device image.now sub }
+    ensures { result ≡ is_sent_fine set.now device image.now sub version }
 {
     let part = Part::Sub(device, sub);
     let spot = PartAt {

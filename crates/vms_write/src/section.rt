@@ -1,13 +1,12 @@
 // Writes sections.
-ghost use Rattle.std.specs.Prelude.{◌≡◌, ◌<◌, None, length, get_or};
+ghost use Rattle.std.specs.Prelude.{◌≡◌, ◌<◌, length};
 ghost use Rattle.vms_io.specs.Told.{outlet};
 ghost use Rattle.vms_io.specs.Writing.{Wrote};
-ghost use Rattle.vms_spec.specs.Images.{own_cells};
-ghost use Rattle.vms_spec.specs.Streams.{IsReady, section_head, written_section, written_subs};
+ghost use Rattle.vms_spec.specs.Streams.{IsReady, written_section};
 ghost use Rattle.vms_desc.specs.Described.{described, device_at};
 ghost use Rattle.vms_desc.specs.Spots.{kinds_at};
 ghost use Rattle.vms_image.specs.Typed.{state_of};
-ghost use Rattle.vms_write.specs.Writing.{written_sub};
+ghost use Rattle.vms_write.specs.Calls.{CanWriteSub, CanWriteSubs, HasDevice, head_bytes, sub_bytes, subs_bytes};
 
 use crate::WriteFault;
 use crate::body::write_fields;
@@ -39,10 +38,10 @@ pub fn write_section<K: Sink>(
 ) -> Result<(), WriteFault>
     requires is_device { device < length (described set.now).devices }
     requires kinds { image.now.kinds ≡ kinds_at (described set.now) device }
-    requires ready { let d = device_at (described set.now) device in
-        IsReady (described set.now) d (state_of image.now) }
-    ensures { let d = device_at (described set.now) device in
-        let bytes = written_section (described set.now) d (state_of image.now) device in
+    requires ready { let set = described set.now in let d = device_at set device in
+        IsReady set d (state_of image.now) }
+    ensures { let set = described set.now in let d = device_at set device in
+        let bytes = written_section set d (state_of image.now) device in
         Wrote (outlet K.Sink sink.old) (outlet K.Sink sink.new) bytes result }
 {
     write_head(set, device, image, sink)?;
@@ -63,9 +62,8 @@ fn write_head<K: Sink>(
     image: &Image,
     sink: &mut K,
 ) -> Result<(), WriteFault>
-    requires { device < length (described set.now).devices }
-    ensures { let d = device_at (described set.now) device in
-        let bytes = section_head device d.desc.name d.instance image.now.version in
+    requires { HasDevice set.now device }
+    ensures { let bytes = head_bytes set.now device image.now in
         Wrote (outlet K.Sink sink.old) (outlet K.Sink sink.new) bytes result }
 {
     let described = set.device(device);
@@ -85,14 +83,8 @@ fn write_subs<K: Sink>(
     image: &Image,
     sink: &mut K,
 ) -> Result<(), WriteFault>
-    requires is_device { device < length (described set.now).devices }
-    requires kinds { image.now.kinds ≡ kinds_at (described set.now) device }
-    requires ready { let d = device_at (described set.now) device in
-        IsReady (described set.now) d (state_of image.now) }
-    ensures { let d = device_at (described set.now) device in
-        let first = own_cells (described set.now) d in
-        let image = state_of image.now in
-        let bytes = written_subs (described set.now) d image first d.subs image.came in
+    requires { CanWriteSubs set.now device image.now }
+    ensures { let bytes = subs_bytes set.now device image.now in
         Wrote (outlet K.Sink sink.old) (outlet K.Sink sink.new) bytes result }
 {
     for sub in 0..set.sub_count(device) {
@@ -109,13 +101,8 @@ fn write_sub<K: Sink>(
     image: &Image,
     sink: &mut K,
 ) -> Result<(), WriteFault>
-    requires is_device { device < length (described set.now).devices }
-    requires is_sub { sub < length (device_at (described set.now) device).subs }
-    requires kinds { image.now.kinds ≡ kinds_at (described set.now) device }
-    requires ready { let d = device_at (described set.now) device in
-        IsReady (described set.now) d (state_of image.now) }
-    ensures { let came = get_or image.now.came sub None in
-        let bytes = written_sub (described set.now) device (state_of image.now) sub came in
+    requires { CanWriteSub set.now device sub image.now }
+    ensures { let bytes = sub_bytes set.now device sub image.now in
         Wrote (outlet K.Sink sink.old) (outlet K.Sink sink.new) bytes result }
 {
     match image.came(sub) {

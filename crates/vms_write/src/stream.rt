@@ -4,9 +4,10 @@ ghost use Rattle.std.specs.Option.{option_copied};
 ghost use Rattle.vms_io.specs.Told.{outlet};
 ghost use Rattle.vms_io.specs.Writing.{Wrote};
 ghost use Rattle.vms_spec.specs.Lists.{at_option};
-ghost use Rattle.vms_spec.specs.Streams.{written, written_sections, longest_text, optional, configuration, trailer, AreReady};
+ghost use Rattle.vms_spec.specs.Streams.{written, longest_text, optional, trailer, AreReady};
 ghost use Rattle.vms_desc.specs.Described.{described};
 ghost use Rattle.vms_image.specs.Typed.{state_of, AreImagesOf};
+ghost use Rattle.vms_write.specs.Calls.{CanWriteSections, HasMachine, configuration_bytes, sections_bytes};
 
 use crate::WriteFault;
 use crate::heads::configuration;
@@ -41,9 +42,9 @@ pub fn write_stream<K: Sink>(
     requires of { AreImagesOf (described set.now) images.now }
     requires ready { AreReady (described set.now) (map state_of images.now) }
     requires text { IfSome text (λ t. length t.now ≤ longest_text) }
-    ensures { let named = at_option (described set.now).machines machine in
+    ensures { let set = described set.now in let named = at_option set.machines machine in
         let images = map state_of images.now in
-        let bytes = written (described set.now) named images (option_copied text.entry) in
+        let bytes = written set named images (option_copied text.entry) in
         Wrote (outlet K.Sink sink.old) (outlet K.Sink sink.new) bytes result }
 {
     append(sink, &STREAM_HEAD)?;
@@ -59,9 +60,8 @@ fn write_configuration<K: Sink>(
     machine: Option<u32>,
     sink: &mut K,
 ) -> Result<(), WriteFault>
-    requires { IfSome machine (λ m. m < length (described set.now).machines) }
-    ensures { let named = at_option (described set.now).machines machine in
-        let bytes = optional configuration named in
+    requires { HasMachine set.now machine }
+    ensures { let bytes = configuration_bytes set.now machine in
         Wrote (outlet K.Sink sink.old) (outlet K.Sink sink.new) bytes result }
 {
     match machine {
@@ -74,10 +74,8 @@ fn write_configuration<K: Sink>(
 }
 
 fn write_sections<K: Sink>(set: &DescSet, images: &[Image], sink: &mut K) -> Result<(), WriteFault>
-    requires of { AreImagesOf (described set.now) images.now }
-    requires ready { AreReady (described set.now) (map state_of images.now) }
-    ensures { let all = (described set.now).devices in
-        let bytes = written_sections (described set.now) 0 all (map state_of images.now) in
+    requires { CanWriteSections set.now images.now }
+    ensures { let bytes = sections_bytes set.now images.now in
         Wrote (outlet K.Sink sink.old) (outlet K.Sink sink.new) bytes result }
 {
     for (device, image) in images.iter().enumerate() {

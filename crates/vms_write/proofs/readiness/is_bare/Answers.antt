@@ -8,13 +8,13 @@ overflow_add-end c =
     let set = described c.args.set.now in
     omega (arith, sub_inside set c.args.device c.args.sub c.requires.is_sub)
 
-pub are_default-requires-clause-forms : goal.are_default-requires-clause-forms
-are_default-requires-clause-forms c = formed_long (described c.args.set.now) c.args.device c.defaults.result.now c.args.image.now.numbers c.defaults.ensures.defaults c.requires.device.cells
-
-pub are_default-requires-clause-end : goal.are_default-requires-clause-end
-are_default-requires-clause-end c =
+pub are_default-requires : goal.are_default-requires
+are_default-requires c =
     let set = described c.args.set.now in
-    omega (arith, sub_inside set c.args.device c.args.sub c.requires.is_sub)
+    record {
+      forms = formed_long set c.args.device c.defaults.result.now c.args.image.now.numbers c.defaults.ensures.defaults c.requires.device.cells;
+      end = omega (arith, sub_inside set c.args.device c.args.sub c.requires.is_sub);
+    }
 
 pub returns : goal.returns
 returns c =

@@ -1,9 +1,18 @@
-use Rattle.vms_write.proofs.Facade.{rules, described}
+use Rattle.vms_write.proofs.Facade.{rules, arith, described, own_inside_device}
 use Rattle.vms_write.proofs.Formed.{formed_defaults, formed_long}
 use Rattle.vms_write.proofs.readiness.is_own_fine.Goals as goal
 
-pub is_part_fine-requires-clause-forms : goal.is_part_fine-requires-clause-forms
-is_part_fine-requires-clause-forms c = formed_long (described c.args.set.now) c.args.device c.defaults.result.now c.args.image.now.numbers c.defaults.ensures.defaults c.requires.device.cells
+pub is_part_fine-requires : goal.is_part_fine-requires
+is_part_fine-requires c =
+    let set = described c.args.set.now in
+    record {
+      spot = record {
+        part = c.requires.device.is_device;
+        few = c.requires.device.few;
+        room = omega (arith, own_inside_device set c.args.device);
+      };
+      forms = formed_long set c.args.device c.defaults.result.now c.args.image.now.numbers c.defaults.ensures.defaults c.requires.device.cells;
+    }
 
 pub returns-then-version-device : goal.returns-then-version-device
 returns-then-version-device c =

@@ -1,4 +1,4 @@
-use Rattle.vms_write.proofs.Facade.{OnTrue_from, OnFalse_from, OnFalse_at, ◌≡◌, sym, ◌∙◌, true, false, IsReady, described, device_at, IsImageOf, state_of}
+use Rattle.vms_write.proofs.Facade.{rules, OnTrue_from, OnFalse_from, OnFalse_at, ◌≡◌, sym, ◌∙◌, true, false, IsReady, described, device_at, IsImageOf, state_of}
 use Rattle.vms_write.proofs.readiness.may_be_written.Goals as goal
 
 pub ready-requires-clause-subs : goal.ready-requires-clause-subs
@@ -7,18 +7,19 @@ ready-requires-clause-subs c = (c.is_of.ensures.0 c.if-is_of.true).subs
 pub ready-requires-clause-cells : goal.ready-requires-clause-cells
 ready-requires-clause-cells c = (c.is_of.ensures.0 c.if-is_of.true).cells
 
-pub returns-then-is_of-clause-of : goal.returns-then-is_of-clause-of
-returns-then-is_of-clause-of c = OnTrue_from _ _ (λ is. c.is_of.ensures.0 c.if-is_of.true)
-
-pub returns-then-is_of-clause-other : goal.returns-then-is_of-clause-other
-returns-then-is_of-clause-other c =
+pub returns-then-is_of : goal.returns-then-is_of
+returns-then-is_of c =
     let set = described c.args.set.now in
-    OnFalse_from _ (IsImageOf set c.args.device c.args.image.now → IsReady set (device_at set c.args.device) (state_of c.args.image.now) → ⊥)
-    (λ is of ready. OnFalse_at {P = IsReady set (device_at set c.args.device) (state_of c.args.image.now) → ⊥} is c.ready.ensures.other ready)
+    record {
+      ready = c.ready.ensures.ready;
+      of = OnTrue_from _ _ (λ is. c.is_of.ensures.0 c.if-is_of.true);
+      other = OnFalse_from _ (IsImageOf set c.args.device c.args.image.now → IsReady set (device_at set c.args.device) (state_of c.args.image.now) → ⊥)
+          (λ is of ready. OnFalse_at {P = IsReady set (device_at set c.args.device) (state_of c.args.image.now) → ⊥} is c.ready.ensures.other ready);
+    }
 
-pub returns-else-is_of-clause-other : goal.returns-else-is_of-clause-other
-returns-else-is_of-clause-other c =
+pub returns-else-is_of : goal.returns-else-is_of
+returns-else-is_of c =
     let set = described c.args.set.now in
     let none : IsImageOf set c.args.device c.args.image.now → IsReady set (device_at set c.args.device) (state_of c.args.image.now) → ⊥ =
     λ of r. (let both : true ≡ false = sym (c.is_of.ensures.1 of) ∙ c.if-is_of.false in cc) in
-    OnFalse_from _ _ (λ is. none)
+    record { ready = search rules; of = search rules; other = OnFalse_from _ _ (λ is. none) }
