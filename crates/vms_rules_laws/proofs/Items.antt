@@ -1,17 +1,10 @@
 -- A set has the number of items that the walk computes.
-use Rattle.std.proofs.Common.{◌≡◌, ℕ, zero, suc, ◌+◌, ◌*◌, List, [], ◌∷◌, ◌++◌, length, get_or, map, ℤ, Option, None, Bool, ◌&&◌, nat_lt, refl, sym, ap, ◌∙◌, arith}
-use Rattle.std.proofs.Math.Nat.{suc-mul}
-use Rattle.vms_kinds.specs.declared.Item.{Item}
-use Rattle.vms_kinds.specs.declared.Item.TheVariants.{Num, Equal, Unused, Struct}
-use Rattle.vms_spec.specs.Sets.{Field, Desc, Sub, Device, Set}
-use Rattle.vms_spec.specs.Layout.{no_desc, first, counted, capacity_of, item_size, field_cells, desc_cells, struct_cells, numbers_of, all_hold}
-use Rattle.vms_spec.specs.Images.{default_image, own_cells}
-use Rattle.vms_spec.specs.WellFormed.{item_count, items_in, struct_items, subs_items, devices_items}
-use Rattle.vms_spec.proofs.Tables.{first_long}
-use Rattle.vms_elements.specs.Elements.{What, Element, Shape, no_shape, shape, shapes, cells_in, dotted, behind, single, Number, Constant, Filler, Rule, item_elements, Stand, stand_of, array_elements, field_elements, elements_from, desc_elements, index_text}
-use Rattle.vms_elements.specs.Parts.{absent, elements_in, subs_elements, device_elements}
-use Rattle.vms_elements.proofs.Tables.{two_more}
-use Rattle.vms_rules_laws.specs.Eight.{item_number, items_among, items_of}
+use Rattle.vms_rules_laws.proofs.Facade.{◌≡◌, ℕ, zero, suc, ◌+◌, ◌*◌, List, [], ◌∷◌, ◌++◌, length, get_or, map, ℤ, None, Bool, ◌&&◌, nat_lt, refl, sym, ◌∙◌}
+use Rattle.vms_rules_laws.proofs.Facade.{arith, suc-mul, Item, Struct, Field, Desc, Sub, Device, Set, no_desc, first, counted, capacity_of, item_size}
+use Rattle.vms_rules_laws.proofs.Facade.{field_cells, desc_cells, struct_cells, numbers_of, all_hold, default_image, own_cells, item_count, items_in}
+use Rattle.vms_rules_laws.proofs.Facade.{struct_items, subs_items, devices_items, first_long, Element, Shape, no_shape, shape, shapes, cells_in, dotted, behind}
+use Rattle.vms_rules_laws.proofs.Facade.{single, Rule, item_elements, Stand, stand_of, array_elements, field_elements, elements_from, desc_elements, index_text}
+use Rattle.vms_rules_laws.proofs.Facade.{absent, elements_in, subs_elements, two_more, items_among, items_of}
 
 items_append : (xs ys : List Element) → items_among (xs ++ ys) ≡ items_among xs + items_among ys
 items_append [] ys = omega arith
