@@ -107,7 +107,8 @@ module _ (set : Set) (d : Device) (image : Image) where
       same = λ c up lt. pick_all image.numbers (own ++ parts came) (device_cells set d) c normal.cells.long (λ inside e.
           let both = none_in_both c own (parts came) e in
           normal.absent c inside (none_joined c own _ both.0
-          (parts_together set d image.numbers (λ xs. has_cell xs c ≡ false) refl (none_joined c) (own_cells set d) d.subs image.came (h c up lt both.0 both.1))));
+          (parts_together set d image.numbers (λ xs. has_cell xs c ≡ false) refl (none_joined c) (own_cells set d) d.subs image.came
+          (h c up lt both.0 both.1))));
     }
 
     own_region : (came : List (Option ℕ)) → SameIn 0 (0 + own_cells set d) image.numbers (so_far came)
@@ -131,9 +132,11 @@ module _ (set : Set) (d : Device) (image : Image) where
 
     module _ (good : IsGood set) (k : ℕ) (here : slice_get set.devices k ≡ Some d) (valid : IsValid set d image) where
       -- a part's body gives the numbers of one part more
-      pub part_taken : (came : List (Option ℕ)) (j w : ℕ) (s : Sub) (place : ℕ) (body tail : List ℕ) → slice_get d.subs j ≡ Some s → slice_get came j ≡ Some None
-          → slice_get image.came j ≡ Some (Some w) → Spells image.numbers (sub_slots set s w image.numbers (part_place set d j)) body
-          → take_desc (takers set.structs (length set.structs)) s.desc w (part_place set d j) (record { numbers = so_far came; place = place; rest = body ++ tail })
+      pub part_taken : (came : List (Option ℕ)) (j w : ℕ) (s : Sub) (place : ℕ) (body tail : List ℕ) → slice_get d.subs j ≡ Some s
+          → slice_get came j ≡ Some None → slice_get image.came j ≡ Some (Some w)
+          → Spells image.numbers (sub_slots set s w image.numbers (part_place set d j)) body
+          → take_desc (takers set.structs (length set.structs)) s.desc w (part_place set d j)
+          (record { numbers = so_far came; place = place; rest = body ++ tail })
           ≡ Ok (record { numbers = so_far (slice_set came j (Some w)); place = place + length body; rest = tail })
       part_taken came j w s place body tail there new comes spells =
           let all = device_cells set d in
@@ -179,5 +182,6 @@ module _ (set : Set) (d : Device) (image : Image) where
           (its_hold set d.desc v 0 good.structs sound n m same (rules_split own (parts image.came) valid).0)
           (λ c e.
           pick_default n (own ++ parts none) all c (none_joined c own (parts none) (rw (its_same set d.desc v 0 good.structs sound n m same) at e)
-          (parts_together set d n (λ xs. has_cell xs c ≡ false) refl (none_joined c) (own_cells set d) d.subs none (λ i s x e g. absurd (none_came d.subs i x g)))))
+          (parts_together set d n (λ xs. has_cell xs c ≡ false) refl (none_joined c) (own_cells set d) d.subs none
+          (λ i s x e g. absurd (none_came d.subs i x g)))))
           refl
