@@ -72,7 +72,8 @@ module _ (ds : List Desc) where
   -- the depth of an earlier structure
   earlier-depth : (i j : ℕ) → i < length ds → j < i → get_or (depths ds i) j 0 ≡ depth_at ds j
   earlier-depth i j l e =
-      first_at (λ earlier d. 1 + deepest earlier d.fields) ds 0 i j e ∙ sym (first_at (λ earlier d. 1 + deepest earlier d.fields) ds 0 (length ds) j (omega arith))
+      first_at (λ earlier d. 1 + deepest earlier d.fields) ds 0 i j e ∙ sym
+      (first_at (λ earlier d. 1 + deepest earlier d.fields) ds 0 (length ds) j (omega arith))
 
   later-depth : (i j : ℕ) → i ≤ j → get_or (depths ds i) j 0 ≡ 0
   later-depth i j l = let long = first_long (λ earlier d. 1 + deepest earlier d.fields) ds i in get_or_past (depths ds i) j 0 (omega arith)
@@ -84,7 +85,8 @@ module _ (ds : List Desc) where
       let uses = h.1 in
       let own = own-depth i uses.desc uses.there in
       let same = earlier-depth i j l uses.earlier in
-      let among : item_depth (depths ds i) uses.field.item ≤ deepest (depths ds i) uses.desc.fields = as-deep (depths ds i) uses.desc.fields uses.place uses.field uses.among in
+      let among : item_depth (depths ds i) uses.field.item ≤ deepest (depths ds i) uses.desc.fields =
+      as-deep (depths ds i) uses.desc.fields uses.place uses.field uses.among in
       let here : get_or (depths ds i) j 0 ≤ deepest (depths ds i) uses.desc.fields = rw uses.is at among in
       omega (arith, deep_struct n j (omega arith) h.2)
 
@@ -92,7 +94,8 @@ module _ (ds : List Desc) where
   abbrev IsBounded : ℕ → Type 0
   IsBounded n = (i : ℕ) (d : Desc) → At ds i d → (UsesOn ds n i → ⊥) → depth_at ds i ≤ n
 
-  bounded-item : (n i : ℕ) (d : Desc) → At ds i d → IsBounded n → (UsesOn ds (suc n) i → ⊥) → (k : ℕ) (f : Field) → At d.fields k f → (item : Item) → f.item ≡ item → item_depth (depths ds i) item ≤ n
+  bounded-item : (n i : ℕ) (d : Desc) → At ds i d → IsBounded n → (UsesOn ds (suc n) i → ⊥) → (k : ℕ) (f : Field) → At d.fields k f → (item : Item)
+      → f.item ≡ item → item_depth (depths ds i) item ≤ n
   bounded-item n i d there before h k f e (Struct j) is = by (cases_Bool (nat_lt j i))
     where
       by : (nat_lt j i ≡ true) ⊎ (nat_lt j i ≡ false) → get_or (depths ds i) j 0 ≤ n
@@ -100,7 +103,9 @@ module _ (ds : List Desc) where
           let less : j < i = ltb-true j i before_i in
           let l = slice_get_within ds i d there in
           let same = earlier-depth i j l less in
-          let most = before j (get_or ds j no_desc) (slice_get-get_or ds j no_desc (omega arith)) (λ on. h (j, record { desc = d; there = there; place = k; field = f; among = e; is = is; earlier = less }, on)) in
+          let most =
+          before j (get_or ds j no_desc) (slice_get-get_or ds j no_desc (omega arith))
+          (λ on. h (j, record { desc = d; there = there; place = k; field = f; among = e; is = is; earlier = less }, on)) in
           omega arith
       by (inr behind_i) = let past = later-depth i j (grind (arith, nat_tests, behind_i)) in omega arith
   bounded-item n i d there before h k f e _ is = omega arith

@@ -193,7 +193,8 @@ eight_holds set =
           both_none _ _
           (none_failing 1 (set_rules set) (here parts.Set)
           (all_eight (named.1 h.named) (new.1 h.new) refl refl refl refl (limits.1 ((h.few_machines, h.few_structs), h.few_devices)) refl))
-          (both_none of_structs (or_else of_devices last) (from_zero (struct_fault set.structs) set.structs (λ i d e. (struct_decides set.structs i d e).1 (h.structs i d e)))
+          (both_none of_structs (or_else of_devices last)
+          (from_zero (struct_fault set.structs) set.structs (λ i d e. (struct_decides set.structs i d e).1 (h.structs i d e)))
           (both_none of_devices last (from_zero (device_fault set) set.devices (λ i d e. (device_decides set i d).1 (h.devices i d e)))
           (none_failing 1 (size_rules set) (here parts.Set)
           (all_eight refl refl refl refl refl refl (items.1 (omega (arith, h.items, set_counts set set.devices))) refl)))),

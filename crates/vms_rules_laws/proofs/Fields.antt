@@ -8,12 +8,14 @@ use Rattle.vms_rules_laws.proofs.Facade.{is_small_test, is_steady_in, names_well
 use Rattle.vms_rules_laws.proofs.Facade.{AllTrue, same_number_is, ranges, within, counted_well, is_same, ranged, At, CountFits, DefaultFits, IsCounting}
 use Rattle.vms_rules_laws.proofs.Facade.{IsEarlier, IsField, IsName, IsSmall, IsSteady, IsValidation, IsWithin, NamesOnly, Nobody}
 use Rattle.vms_rules_laws.proofs.Names.{name_decides, new_names_decides, within_decides}
-use Rattle.vms_rules_laws.proofs.Tests.{all_decides, at_places, earlier_decides, le_decides, names_decides, never, nobody_decides, one_decides, small_decides, steady_decides}
+use Rattle.vms_rules_laws.proofs.Tests.{all_decides, at_places, earlier_decides, le_decides, names_decides, never, nobody_decides, one_decides, small_decides}
+use Rattle.vms_rules_laws.proofs.Tests.{steady_decides}
 
 -- ---- tests
 
 -- the same of a test, if there is one
-optional_decides : (p : Formula → Bool) (P : Formula → Type 0) (b : Option Formula → Bool) → ((t : Formula) → Decides (p t) (P t)) → b None ≡ true → ((t : Formula) → b (Some t) ≡ p t)
+optional_decides : (p : Formula → Bool) (P : Formula → Type 0) (b : Option Formula → Bool) → ((t : Formula) → Decides (p t) (P t)) → b None ≡ true
+    → ((t : Formula) → b (Some t) ≡ p t)
     → (o : Option Formula) → Decides (b o) ((t : Formula) → o ≡ Some t → P t)
 optional_decides p P b each none some None = (λ e t same. cc, λ h. none)
 optional_decides p P b each none some (Some s) = (
@@ -58,7 +60,9 @@ count_decides d i (Counted k n) = (λ e. so e, λ h. back (h k n refl))
         rw is at here
 
     back : ((steady : IsEarlier d i k) × IsCounting steady.1.field.item) → count_names_well d i (Counted k n) ≡ true
-    back h = and_from (is_earlier_in d i k) (is_counting (slice_get d.fields k)) ((earlier_decides d i k).1 h.0) (item_at h.0.1 ∙ (counting_decides h.0.1.field.item).1 h.1)
+    back h =
+        and_from (is_earlier_in d i k) (is_counting (slice_get d.fields k)) ((earlier_decides d i k).1 h.0)
+        (item_at h.0.1 ∙ (counting_decides h.0.1.field.item).1 h.1)
 
 uses_decides : (k : ℕ) (item : Item) → Decides (uses_below k item) ((j : ℕ) → item ≡ Struct j → j < k)
 uses_decides k (Struct i) = (λ e j same. let is : i ≡ j = cc in rw is at ((Decides-ltb i k).0 e), λ h. (Decides-ltb i k).1 (h i refl))
@@ -125,7 +129,8 @@ module _ (P : ℕ → Type 0) (i : ℕ) where
   each_counted [] h = tt
   each_counted (f ∷ fs) h = (first f.count f fs).1 (λ most same. h 0 most f refl same) (each_counted fs (λ j most g there same. h (suc j) most g there same))
 
-counts_decides : (i : ℕ) (fs : List Field) (z : ℤ) → Decides (counts_well (counted i fs) z) ((j most : ℕ) (g : Field) → At fs j g → g.count ≡ Counted i most → z ≤ℤ pos most)
+counts_decides : (i : ℕ) (fs : List Field) (z : ℤ)
+    → Decides (counts_well (counted i fs) z) ((j most : ℕ) (g : Field) → At fs j g → g.count ≡ Counted i most → z ≤ℤ pos most)
 counts_decides i fs z = (
   λ e. counted_each (λ most. z ≤ℤ pos most) i fs (within (counted i fs) z e),
   λ h. counted_well (counted i fs) z (each_counted (λ most. z ≤ℤ pos most) i fs h),
@@ -138,7 +143,8 @@ pub all_eight : {a b c d e f g h : Bool} → a ≡ true → b ≡ true → c ≡
     → AllTrue (a ∷ b ∷ c ∷ d ∷ e ∷ f ∷ g ∷ h ∷ [])
 all_eight a b c d e f g h = (a, (b, (c, (d, (e, (f, (g, (h, tt))))))))
 
-pub field_decides : (k : ℕ) (d : Desc) (i : ℕ) (f : Field) → (AllTrue (field_rules k d i f) → IsField k d i f) × (IsField k d i f → AllTrue (field_rules k d i f))
+pub field_decides : (k : ℕ) (d : Desc) (i : ℕ) (f : Field)
+    → (AllTrue (field_rules k d i f) → IsField k d i f) × (IsField k d i f → AllTrue (field_rules k d i f))
 field_decides k d i f =
     let named = all_decides (is_name 32) (IsName 32) (name_decides 32) (f.name ∷ f.former) in
     let new = new_names_decides d.fields i f in

@@ -40,12 +40,14 @@ module _ (ss : List Shape) (sizes : List ℕ) (good : AreCounted ss sizes) where
       let rest = array_counts f stand part size h step (suc e) n (at + step) in
       items_append here (array_elements f stand part step (suc e) n (at + step)) ∙ omega (arith, suc-mul n size)
 
-  field_counts : (fields : List Field) (v : ℕ) (own : ℕ → ℕ) (n : List ℤ) (i at : ℕ) (f : Field) → items_among (field_elements ss fields v own n i at f) ≡ capacity_of f.count * item_count sizes f.item
+  field_counts : (fields : List Field) (v : ℕ) (own : ℕ → ℕ) (n : List ℤ) (i at : ℕ) (f : Field)
+      → items_among (field_elements ss fields v own n i at f) ≡ capacity_of f.count * item_count sizes f.item
   field_counts fields v own n i at f =
       array_counts f (stand_of i f v own) (item_elements ss f.item (counted i fields) f.default n) (item_count sizes f.item)
       (λ a. item_counts f.item (counted i fields) f.default n a) (item_size (cells_in ss) f.item) 0 (capacity_of f.count) at
 
-  fields_count : (fields : List Field) (v : ℕ) (own : ℕ → ℕ) (n : List ℤ) (i at : ℕ) (fs : List Field) → items_among (elements_from ss fields v own n i at fs) ≡ items_in sizes fs
+  fields_count : (fields : List Field) (v : ℕ) (own : ℕ → ℕ) (n : List ℤ) (i at : ℕ) (fs : List Field)
+      → items_among (elements_from ss fields v own n i at fs) ≡ items_in sizes fs
   fields_count fields v own n i at [] = refl
   fields_count fields v own n i at (f ∷ fs) =
       let next = at + length (field_cells (cells_in ss) fields i f) in
@@ -65,14 +67,16 @@ are_counted ds (suc k) j n at =
     let earlier = first shape ds k in
     let sizes = first (λ sizes d. items_in sizes d.fields) ds k in
     two_more (λ (s : Shape) (m : ℕ). (n : List ℤ) (at : ℕ) → items_among (s.elements n at) ≡ m) no_shape 0 (λ n at. refl) earlier sizes
-    (first_long shape ds k ∙ sym (first_long (λ sizes d. items_in sizes d.fields) ds k)) (are_counted ds k) (shape earlier (get_or ds k no_desc)) (items_in sizes (get_or ds k no_desc).fields)
+    (first_long shape ds k ∙ sym (first_long (λ sizes d. items_in sizes d.fields) ds k)) (are_counted ds k) (shape earlier (get_or ds k no_desc))
+    (items_in sizes (get_or ds k no_desc).fields)
     (λ n at. desc_counts earlier sizes (are_counted ds k) (get_or ds k no_desc) (get_or ds k no_desc).version n at) j n at
 
 module _ (set : Set) where
   part_counts : (d : Desc) (v : ℕ) (n : List ℤ) (at : ℕ) → items_among (elements_in set d v n at) ≡ items_in (struct_items set.structs) d.fields
   part_counts d v n at = desc_counts (shapes set) (struct_items set.structs) (are_counted set.structs (length set.structs)) d v n at
 
-  subs_count : (subs : List Sub) (n : List ℤ) (at : ℕ) → items_among (subs_elements set subs (map (λ s. None) subs) n at) ≡ subs_items (struct_items set.structs) subs
+  subs_count : (subs : List Sub) (n : List ℤ) (at : ℕ)
+      → items_among (subs_elements set subs (map (λ s. None) subs) n at) ≡ subs_items (struct_items set.structs) subs
   subs_count [] n at = refl
   subs_count (s ∷ subs) n at =
       let next = at + length (desc_cells (struct_cells set) s.desc) in

@@ -117,7 +117,8 @@ first-named : (f : Field) (rest : List (List ℕ)) (c : ℕ) (n : List ℕ) → 
 first-named f rest zero n e = (0, e)
 first-named f rest (suc c) n e = (suc c, append-left f.former rest c n e)
 
-before-named : (fields : List Field) (i j : ℕ) (g : Field) (c : ℕ) (n : List ℕ) → j < i → At fields j g → At (names_of g) c n → (a : ℕ) × At (all_names (take i fields)) a n
+before-named : (fields : List Field) (i j : ℕ) (g : Field) (c : ℕ) (n : List ℕ) → j < i → At fields j g → At (names_of g) c n
+    → (a : ℕ) × At (all_names (take i fields)) a n
 before-named fields zero j g c n lt there named = absurd (omega arith)
 before-named [] (suc i) j g c n lt there named = cc
 before-named (f ∷ fs) (suc i) zero g c n lt there named =

@@ -22,7 +22,8 @@ pub at_places : {X : Type 0} (P : X → Type 0) (y : X) (ys : List X) → P y �
 at_places P y ys here later zero x e = let same : y ≡ x = cc in subst P same here
 at_places P y ys here later (suc k) x e = later k x e
 
-pub all_decides : {X : Type 0} (p : X → Bool) (P : X → Type 0) → ((x : X) → Decides (p x) (P x)) → (xs : List X) → Decides (list_all p xs) ((k : ℕ) (x : X) → At xs k x → P x)
+pub all_decides : {X : Type 0} (p : X → Bool) (P : X → Type 0) → ((x : X) → Decides (p x) (P x)) → (xs : List X)
+    → Decides (list_all p xs) ((k : ℕ) (x : X) → At xs k x → P x)
 all_decides p P each [] = (λ e k x at'. cc, λ h. refl)
 all_decides p P each (y ∷ ys) =
     Decides-like _ (λ h. at_places P y ys h.0 h.1) (λ h. (h 0 y refl, λ k x at'. h (suc k) x at')) (Decides-and _ _ (each y) (all_decides p P each ys))
