@@ -9,10 +9,12 @@ pub use Rattle.std.proofs.Math.Nat.{add-zero, mul-le-mul_right}
 pub use Rattle.std.proofs.Math.Seq.{drop-append_seam, drop-cons}
 pub use Rattle.std.proofs.lemmas.Bool.{and_from, and_parts, cases_Bool, cases_eq, cases_lt, eq-eqb, eqb-true, false_from_ne_true, le-leb, le-ltb, leb-true}
 pub use Rattle.std.proofs.lemmas.Bool.{ltb-false, ltb-true, ne_eqb, not-true, not_from_false, or_left, or_parts, or_right}
+pub use Rattle.std.proofs.lemmas.Bool.Decides.{Decides-and, Decides-eqb, Decides-like}
 pub use Rattle.std.proofs.lemmas.Int.{ints}
 pub use Rattle.std.proofs.lemmas.List.{append_cancel_left, drop-drop, drop_at, ext_get_or, get_or-set_same, get_or-take, length-map, length-replicate}
 pub use Rattle.std.proofs.lemmas.List.{length-set, length-take-le, take-append-drop, take-append-le, take_all}
 pub use Rattle.std.proofs.lemmas.Option.{get_or_from_slice_get, slice_get_within}
+pub use Rattle.std.specs.Bool.{Decides}
 pub use Rattle.std.specs.List.{AllByRecursion, flat_map, slice_get}
 pub use Rattle.std.specs.Str.{bytes_eq}
 pub use Rattle.vms_kinds.proofs.ByteLemmas.{bytes_first, bytes_rest}
@@ -25,7 +27,7 @@ pub use Rattle.vms_kinds.specs.declared.Item.TheVariants.{Equal, Num, Struct, Un
 pub use Rattle.vms_kinds.specs.declared.Kind.{Kind}
 pub use Rattle.vms_kinds.specs.declared.Kind.TheVariants.{U32, U8}
 pub use Rattle.vms_spec.proofs.KindLaws.{good_code, length-code, value_code}
-pub use Rattle.vms_spec.proofs.ListLaws.{drop_on, either_of, or_second, or_turned}
+pub use Rattle.vms_spec.proofs.ListLaws.{drop_on, either_of, or_turned}
 pub use Rattle.vms_spec.proofs.NumberLaws.{not_exceeds, same_number_is, same_number_itself, within_all}
 pub use Rattle.vms_spec.proofs.Prefixes.{first_cells}
 pub use Rattle.vms_spec.proofs.ShippedSets.{shipped_stands}
@@ -42,7 +44,7 @@ unfoldable pub use Rattle.vms_spec.specs.Layout.{first}
 pub use Rattle.vms_spec.specs.Lookup.{bytes_at, find_device, find_sub, first_missing, is_bad_bool, number_at, raw}
 pub use Rattle.vms_spec.specs.Numbers.{exceeds, is_above, is_truth, same_number}
 pub use Rattle.vms_spec.specs.Places.{cell_at, cell_count, cell_in, desc_of_sub, element_at, item_at, path_at, size_of_device}
-pub use Rattle.vms_spec.specs.Readiness.{are_settled, are_versions_of, come_as_needed, fit_cells, fits_cell, is_normal, is_ready, is_valid, is_version_of}
+pub use Rattle.vms_spec.specs.Readiness.{are_settled, are_versions_of, come_as_needed, fit_cells, fits_cell, is_normal, is_ready, is_version_of}
 pub use Rattle.vms_spec.specs.Readiness.{rules_are_true}
 pub use Rattle.vms_spec.specs.Readings.{Goes, Reading, Verdict, reading_after, reading_from}
 pub use Rattle.vms_spec.specs.Rules.{counts_well, in_range, int_le}

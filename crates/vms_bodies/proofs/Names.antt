@@ -1,4 +1,4 @@
--- Which cells are in slots that are joined.
+-- Which cells are in slots that are joined; choices.
 use Rattle.vms_bodies.proofs.Facade.{◌≡◌, ℕ, List, ◌∷◌, ◌++◌, refl, sym, ◌∙◌, true, false, ◌==◌, [], ◌||◌, if◌then◌else◌, or_parts, or_right, or_assoc, Slot}
 use Rattle.vms_bodies.proofs.Facade.{Number, has_cell}
 use Rattle.std.proofs.Common.{Bool as Truth}
@@ -20,6 +20,14 @@ has_left s t c h = rw (names_append, h) refl
 pub has_right : (s t : List Slot) (c : ℕ) → has_cell t c ≡ true → has_cell (s ++ t) c ≡ true
 has_right s t c h = names_append s t c ∙ or_right (has_cell s c) _ h
 
+-- a property of both values, or of each where the test says so
+pub if_both : {A : Type 0} (P : A → Type 0) (b : Truth) (x y : A) → P x → P y → P (if b then x else y)
+if_both P true x y f g = f
+if_both P false x y f g = g
+
+pub if_so : {A : Type 0} (P : A → Type 0) (b : Truth) (x y : A) → (b ≡ true → P x) → (b ≡ false → P y) → P (if b then x else y)
+if_so P true x y f g = f refl
+if_so P false x y f g = g refl
+
 pub if_there : (P : List Slot → Type 0) → P [] → (b : Truth) (xs : List Slot) → P xs → P (if b then xs else [])
-if_there P none true xs x = x
-if_there P none false xs x = none
+if_there P none b xs x = if_both P b xs [] x none

@@ -1,7 +1,7 @@
 -- The laws as they are stated.
 use Rattle.vms_bodies.proofs.Facade.{GoodLaw, ShippedLaw, well_good, shipped_stands, CellLaw, ReadyLaw, ZeroedLaw}
 use Rattle.vms_bodies.proofs.PathLaws.{cell_inside}
-use Rattle.vms_bodies.proofs.ReadyLaws.{ready_is, is_ready_all}
+use Rattle.vms_bodies.proofs.ReadyLaws.{ready_decides}
 use Rattle.vms_bodies.proofs.WrittenLaws.{zeroed_spells}
 
 pub good_holds : GoodLaw
@@ -14,7 +14,7 @@ pub cell_holds : CellLaw
 cell_holds = cell_inside
 
 pub ready_holds : ReadyLaw
-ready_holds set d image = record { holds = ready_is set d image; passes = is_ready_all set d image }
+ready_holds set d image = let r = ready_decides set d image in record { holds = r.0; passes = r.1 }
 
 pub zeroed_holds : ZeroedLaw
 zeroed_holds = zeroed_spells

@@ -77,8 +77,7 @@ sub_so set d image j w front s e version f h =
     let x : Streams.SubSpells set d image j (Some s) (Some (Some w)) front = rw (e, f) at h in
     record { sub = s; there = e; version = version; body = x.0; spells = x.1; is = x.2 }
 
-module _ (set : Set) (names : List (List ℕ)) (good : IsGood set) (k id : ℕ) (d : Device) (here : slice_get set.devices k ≡ Some d) (image : Image)
-    (normal : IsNormal set d image) (valid : IsValid set d image) where
+module _ (set : Set) (d : Device) (image : Image) where
   abbrev own : List Slot
   own = own_slots set d image.version image.numbers
 
@@ -99,84 +98,90 @@ module _ (set : Set) (names : List (List ℕ)) (good : IsGood set) (k id : ℕ) 
   so_long : (came : List (Option ℕ)) → length (so_far came) ≡ length (device_cells set d)
   so_long came = pick_long image.numbers (own ++ parts came) 0 (device_cells set d)
 
-  -- a region in which no other part has a cell
-  region : (came : List (Option ℕ)) (low end : ℕ) → ((c : ℕ) → low ≤ c → c < end → has_cell own c ≡ false → has_cell (parts came) c ≡ false
-      → (i : ℕ) (s : Sub) (x : ℕ) → slice_get d.subs i ≡ Some s → slice_get image.came i ≡ Some (Some x) → has_cell (part i x s) c ≡ false)
-      → SameIn low end image.numbers (so_far came)
-  region came low end h = record {
-    same = λ c up lt. pick_all image.numbers (own ++ parts came) (device_cells set d) c normal.cells.long (λ inside e.
-        let both = none_in_both c own (parts came) e in
-        normal.absent c inside (none_joined c own _ both.0
-        (parts_together set d image.numbers (λ xs. has_cell xs c ≡ false) refl (none_joined c) (own_cells set d) d.subs image.came (h c up lt both.0 both.1))));
-  }
+  module _ (normal : IsNormal set d image) where
+    -- a region in which no other part has a cell
+    region : (came : List (Option ℕ)) (low end : ℕ) → ((c : ℕ) → low ≤ c → c < end → has_cell own c ≡ false → has_cell (parts came) c ≡ false
+        → (i : ℕ) (s : Sub) (x : ℕ) → slice_get d.subs i ≡ Some s → slice_get image.came i ≡ Some (Some x) → has_cell (part i x s) c ≡ false)
+        → SameIn low end image.numbers (so_far came)
+    region came low end h = record {
+      same = λ c up lt. pick_all image.numbers (own ++ parts came) (device_cells set d) c normal.cells.long (λ inside e.
+          let both = none_in_both c own (parts came) e in
+          normal.absent c inside (none_joined c own _ both.0
+          (parts_together set d image.numbers (λ xs. has_cell xs c ≡ false) refl (none_joined c) (own_cells set d) d.subs image.came
+          (h c up lt both.0 both.1))));
+    }
 
-  own_region : (came : List (Option ℕ)) → SameIn 0 (0 + own_cells set d) image.numbers (so_far came)
-  own_region came = region came 0 (0 + own_cells set d) (λ c up lt a b i s x e f.
-      its_below set s.desc x (part_place set d i) image.numbers c (omega (arith, sub_place_up set (own_cells set d) d.subs i)))
+    own_region : (came : List (Option ℕ)) → SameIn 0 (0 + own_cells set d) image.numbers (so_far came)
+    own_region came = region came 0 (0 + own_cells set d) (λ c up lt a b i s x e f.
+        its_below set s.desc x (part_place set d i) image.numbers c (omega (arith, sub_place_up set (own_cells set d) d.subs i)))
 
-  part_region : (came : List (Option ℕ)) (j w : ℕ) (s : Sub) → slice_get d.subs j ≡ Some s → slice_get came j ≡ Some (Some w)
-      → slice_get image.came j ≡ Some (Some w) → SameIn (part_place set d j) (part_place set d j + sub_size set s) image.numbers (so_far came)
-  part_region came j w s there f g = region came (part_place set d j) (part_place set d j + sub_size set s) (λ c up lt a b i t x e f'.
-      ⊎_elim (λ (same : j ≡ i).
-      let st : t ≡ s = cc in
-      let xw : x ≡ w = cc in
-      rw (← same, st, xw) (part_apart set d image.numbers (λ xs. has_cell xs c ≡ false) (none_in_both c) (own_cells set d) d.subs came b j s w there f))
-      (λ (ne : j ≡ i → ⊥). its_outside set t.desc x (part_place set d i) image.numbers c
-      (parts_apart set (own_cells set d) d.subs j i s t there e ne c up lt)) (cases_eq j i))
+    part_region : (came : List (Option ℕ)) (j w : ℕ) (s : Sub) → slice_get d.subs j ≡ Some s → slice_get came j ≡ Some (Some w)
+        → slice_get image.came j ≡ Some (Some w) → SameIn (part_place set d j) (part_place set d j + sub_size set s) image.numbers (so_far came)
+    part_region came j w s there f g = region came (part_place set d j) (part_place set d j + sub_size set s) (λ c up lt a b i t x e f'.
+        ⊎_elim (λ (same : j ≡ i).
+        let st : t ≡ s = cc in
+        let xw : x ≡ w = cc in
+        rw (← same, st, xw) (part_apart set d image.numbers (λ xs. has_cell xs c ≡ false) (none_in_both c) (own_cells set d) d.subs came b j s w there f))
+        (λ (ne : j ≡ i → ⊥). its_outside set t.desc x (part_place set d i) image.numbers c
+        (parts_apart set (own_cells set d) d.subs j i s t there e ne c up lt)) (cases_eq j i))
 
-  -- at last all numbers are there
-  pub so_at_last : so_far image.came ≡ image.numbers
-  so_at_last = ext_get_or (pos 0) (so_far image.came) image.numbers (so_long image.came ∙ sym normal.cells.long)
-      (λ c lt. pick_all image.numbers (own ++ parts image.came) (device_cells set d) c normal.cells.long (λ inside e. normal.absent c inside e))
+    -- at last all numbers are there
+    pub so_at_last : so_far image.came ≡ image.numbers
+    so_at_last = ext_get_or (pos 0) (so_far image.came) image.numbers (so_long image.came ∙ sym normal.cells.long)
+        (λ c lt. pick_all image.numbers (own ++ parts image.came) (device_cells set d) c normal.cells.long (λ inside e. normal.absent c inside e))
 
-  -- a part's body gives the numbers of one part more
-  pub part_taken : (came : List (Option ℕ)) (j w : ℕ) (s : Sub) (place : ℕ) (body tail : List ℕ) → slice_get d.subs j ≡ Some s → slice_get came j ≡ Some None
-      → slice_get image.came j ≡ Some (Some w) → Spells image.numbers (sub_slots set s w image.numbers (part_place set d j)) body
-      → take_desc (takers set.structs (length set.structs)) s.desc w (part_place set d j) (record { numbers = so_far came; place = place; rest = body ++ tail })
-      ≡ Ok (record { numbers = so_far (slice_set came j (Some w)); place = place + length body; rest = tail })
-  part_taken came j w s place body tail there new comes spells =
-      let all = device_cells set d in
-      let base = part_place set d j in
-      let n = image.numbers in
-      let came1 = slice_set came j (Some w) in
-      let m = so_far came1 in
-      let sound = good.subs k j d s here there in
-      let same = part_region came1 j w s there (at_set came j (Some w) (slice_get_within came j None new)) comes in
-      let rules : RulesHold (part j w s) =
-      part_apart set d n RulesHold rules_split (own_cells set d) d.subs image.came (rules_split own (parts image.came) valid).1 j s w there comes in
-      let fits : FitSlots n (part j w s) =
-      fit_slots all n (part j w s) normal.cells (sub_are set d j s w n there) (part_constants set good k j d s here there w base n) in
-      body_only all set.structs good.structs s.desc w base m (record { numbers = so_far came; place = place; rest = body ++ tail }) body tail sound
-      (omega (arith, so_long came1)) (so_long came ∙ sym (so_long came1)) (λ x. sub_are set d j s w x there)
-      (its_spelled set s.desc w base good.structs sound n m body same spells) (its_fit set s.desc w base good.structs sound n m same fits)
-      (its_hold set s.desc w base good.structs sound n m same rules)
-      (λ c e.
-      pick_same n (own ++ parts came1) (own ++ parts came) all c
-      (names_append own (parts came1) c ∙ ap (λ b. has_cell own c || b)
-      (names_next set d n c (own_cells set d) d.subs came j s w there new ∙ rw (rw (its_same set s.desc w base good.structs sound n m same) at e) refl)
-      ∙ sym (names_append own (parts came) c)))
-      refl
+    module _ (good : IsGood set) (k : ℕ) (here : slice_get set.devices k ≡ Some d) (valid : IsValid set d image) where
+      -- a part's body gives the numbers of one part more
+      pub part_taken : (came : List (Option ℕ)) (j w : ℕ) (s : Sub) (place : ℕ) (body tail : List ℕ) → slice_get d.subs j ≡ Some s
+          → slice_get came j ≡ Some None → slice_get image.came j ≡ Some (Some w)
+          → Spells image.numbers (sub_slots set s w image.numbers (part_place set d j)) body
+          → take_desc (takers set.structs (length set.structs)) s.desc w (part_place set d j)
+          (record { numbers = so_far came; place = place; rest = body ++ tail })
+          ≡ Ok (record { numbers = so_far (slice_set came j (Some w)); place = place + length body; rest = tail })
+      part_taken came j w s place body tail there new comes spells =
+          let all = device_cells set d in
+          let base = part_place set d j in
+          let n = image.numbers in
+          let came1 = slice_set came j (Some w) in
+          let m = so_far came1 in
+          let sound = good.subs k j d s here there in
+          let same = part_region came1 j w s there (at_set came j (Some w) (slice_get_within came j None new)) comes in
+          let rules : RulesHold (part j w s) =
+          part_apart set d n RulesHold rules_split (own_cells set d) d.subs image.came (rules_split own (parts image.came) valid).1 j s w there comes in
+          let fits : FitSlots n (part j w s) =
+          fit_slots all n (part j w s) normal.cells (sub_are set d j s w n there) (part_constants set good k j d s here there w base n) in
+          body_only all set.structs good.structs s.desc w base m (record { numbers = so_far came; place = place; rest = body ++ tail }) body tail sound
+          (omega (arith, so_long came1)) (so_long came ∙ sym (so_long came1)) (λ x. sub_are set d j s w x there)
+          (its_spelled set s.desc w base good.structs sound n m body same spells) (its_fit set s.desc w base good.structs sound n m same fits)
+          (its_hold set s.desc w base good.structs sound n m same rules)
+          (λ c e.
+          pick_same n (own ++ parts came1) (own ++ parts came) all c
+          (names_append own (parts came1) c ∙ ap (λ b. has_cell own c || b)
+          (names_next set d n c (own_cells set d) d.subs came j s w there new ∙ rw (rw (its_same set s.desc w base good.structs sound n m same) at e) refl)
+          ∙ sym (names_append own (parts came) c)))
+          refl
 
-  -- the own body
-  pub own_taken : (place : ℕ) (body tail : List ℕ) → Spells image.numbers (own_slots set d image.version image.numbers) body
-      → take_desc (takers set.structs (length set.structs)) d.desc image.version 0
-      (record { numbers = (default_image set d).numbers; place = place; rest = body ++ tail })
-      ≡ Ok (record { numbers = so_far (none_of d.subs); place = place + length body; rest = tail })
-  own_taken place body tail spells =
-      let all = device_cells set d in
-      let n = image.numbers in
-      let v = image.version in
-      let none = none_of d.subs in
-      let m = so_far none in
-      let sound = good.devices k d here in
-      let same = own_region none in
-      let fits : FitSlots n own = fit_slots all n own normal.cells (own_are set d v n) (own_constants set good k d here v 0 n) in
-      body_only all set.structs good.structs d.desc v 0 m
-      (record { numbers = (default_image set d).numbers; place = place; rest = body ++ tail }) body tail sound
-      (omega (arith, so_long none)) (defaults_long all ∙ sym (so_long none)) (own_are set d v)
-      (its_spelled set d.desc v 0 good.structs sound n m body same spells) (its_fit set d.desc v 0 good.structs sound n m same fits)
-      (its_hold set d.desc v 0 good.structs sound n m same (rules_split own (parts image.came) valid).0)
-      (λ c e.
-      pick_default n (own ++ parts none) all c (none_joined c own (parts none) (rw (its_same set d.desc v 0 good.structs sound n m same) at e)
-      (parts_together set d n (λ xs. has_cell xs c ≡ false) refl (none_joined c) (own_cells set d) d.subs none (λ i s x e g. absurd (none_came d.subs i x g)))))
-      refl
+      -- the own body
+      pub own_taken : (place : ℕ) (body tail : List ℕ) → Spells image.numbers (own_slots set d image.version image.numbers) body
+          → take_desc (takers set.structs (length set.structs)) d.desc image.version 0
+          (record { numbers = (default_image set d).numbers; place = place; rest = body ++ tail })
+          ≡ Ok (record { numbers = so_far (none_of d.subs); place = place + length body; rest = tail })
+      own_taken place body tail spells =
+          let all = device_cells set d in
+          let n = image.numbers in
+          let v = image.version in
+          let none = none_of d.subs in
+          let m = so_far none in
+          let sound = good.devices k d here in
+          let same = own_region none in
+          let fits : FitSlots n own = fit_slots all n own normal.cells (own_are set d v n) (own_constants set good k d here v 0 n) in
+          body_only all set.structs good.structs d.desc v 0 m
+          (record { numbers = (default_image set d).numbers; place = place; rest = body ++ tail }) body tail sound
+          (omega (arith, so_long none)) (defaults_long all ∙ sym (so_long none)) (own_are set d v)
+          (its_spelled set d.desc v 0 good.structs sound n m body same spells) (its_fit set d.desc v 0 good.structs sound n m same fits)
+          (its_hold set d.desc v 0 good.structs sound n m same (rules_split own (parts image.came) valid).0)
+          (λ c e.
+          pick_default n (own ++ parts none) all c (none_joined c own (parts none) (rw (its_same set d.desc v 0 good.structs sound n m same) at e)
+          (parts_together set d n (λ xs. has_cell xs c ≡ false) refl (none_joined c) (own_cells set d) d.subs none
+          (λ i s x e g. absurd (none_came d.subs i x g)))))
+          refl

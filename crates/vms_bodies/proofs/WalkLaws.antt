@@ -1,16 +1,17 @@
 -- What the structural reader takes, by the slots that it goes through: whatever each slot keeps, the whole keeps.
-use Rattle.vms_bodies.proofs.Facade.{◌≡◌, ◌≢◌, ℕ, zero, suc, ◌+◌, ◌*◌, ◌≤◌, List, ◌∷◌, ◌++◌, length, get_or, map, take, drop, Ok, Err, IfOk, ℤ, refl, sym, ap}
-use Rattle.vms_bodies.proofs.Facade.{◌∙◌, arith, append_assoc, append-nil, length-append, Bool, true, false, not, if◌then◌else◌, nat_lt, slice_set}
+use Rattle.vms_bodies.proofs.Facade.{◌≡◌, ◌≢◌, ◌>>=◌, ℕ, zero, suc, ◌+◌, ◌*◌, ◌≤◌, List, ◌∷◌, ◌++◌, length, get_or, map, take, drop, Ok, Err, IfOk, ℤ, refl}
+use Rattle.vms_bodies.proofs.Facade.{sym, ap, ◌∙◌, arith, append_assoc, append-nil, length-append, Bool, true, false, not, if◌then◌else◌, nat_lt, slice_set}
 use Rattle.vms_bodies.proofs.Facade.{get_or-set_other, [], mul-le-mul_right, Kind, Item, Num, Equal, Unused, Struct, width, value_of, Reason, is_bad_bool}
 use Rattle.vms_bodies.proofs.Facade.{Field, Desc, is_there, Slot, Number, Constant, Filler, Rule, Meaning, no_meaning, no_desc, item_slots, item_size, times}
 use Rattle.vms_bodies.proofs.Facade.{field_slots, slots_from, desc_slots, desc_cells, cells_from, field_cells, place_of, numbers_of, elements_of, capacity_of}
 use Rattle.vms_bodies.proofs.Facade.{counted, all_hold, no_parent, first, meaning, meanings, Taken, Progress, Refusal, Taker, no_taker, takers, taker_of}
 use Rattle.vms_bodies.proofs.Facade.{cells_of, take_value, take_slot, take_item, take_items, take_field, take_fields, take_desc, check_rules, refuse, on}
-use Rattle.vms_bodies.proofs.Facade.{if_whole, ◌>>=◌, IsSound, AreSound, IsSoundField, AreSoundFields, IsEarlier, field_size, elements_fit}
+use Rattle.vms_bodies.proofs.Facade.{if_whole, IsSound, AreSound, IsSoundField, AreSoundFields, IsEarlier, field_size, elements_fit}
 use Rattle.vms_spec.specs.declared.Reason.TheVariants as reasons
 use Rattle.vms_spec.specs.Lookup.{exceeds, same_number}
 use Rattle.vms_bodies.proofs.AboveLaws.{IsAbove, MeanAbove, above_none, above_append, above_less, items_above, fields_above, meanings_above}
 use Rattle.vms_bodies.proofs.Places.{SameBelow, same_refl, same_less, same_trans, own_same, there_same, elements_same, hold_same, place_next, place_end}
+use Rattle.vms_bodies.proofs.Names.{if_so}
 pub use Rattle.vms_bodies.proofs.Places.{place_first}
 
 -- ---- what one slot gives
@@ -22,12 +23,8 @@ Sets slot old new = new ≡ old
 
 -- it is refused at its offset, or some bytes are taken
 module _ (P : Taken → Type 0) (p : Progress) (bad : (reason : Reason) (n : ℕ) → P (refuse p reason n)) where
-  test : (b : Bool) (reason : Reason) (n : ℕ) (t : Taken) → (b ≡ false → P t) → P (if b then refuse p reason n else t)
-  test true reason n t h = bad reason n
-  test false reason n t h = h refl
-
   pub whole_gives : (n : ℕ) (t : Taken) → (nat_lt (length p.rest) n ≡ false → P t) → P (if_whole n p t)
-  whole_gives n t h = test (nat_lt (length p.rest) n) reasons.Truncated (length p.rest) t h
+  whole_gives n t h = if_so P (nat_lt (length p.rest) n) _ t (λ _. bad reasons.Truncated (length p.rest)) h
 
   pub value_gives : (kind : Kind) (reason : Reason) (fails : ℤ → Bool) (put : ℤ → List ℤ)
       → (nat_lt (length p.rest) (width kind) ≡ false → is_bad_bool kind (take (width kind) p.rest) ≡ false → fails
@@ -35,8 +32,8 @@ module _ (P : Taken → Type 0) (p : Progress) (bad : (reason : Reason) (n : ℕ
       → P (on (width kind) (put (value_of kind (take (width kind) p.rest))) p)) → P (take_value kind reason fails put p)
   value_gives kind reason fails put h =
       let w = width kind in
-      whole_gives w _ (λ e1. test (is_bad_bool kind (take w p.rest)) reasons.BadBool w _
-      (λ e2. test (fails (value_of kind (take w p.rest))) reason w _ (h e1 e2)))
+      whole_gives w _ (λ e1. if_so P (is_bad_bool kind (take w p.rest)) _ _ (λ _. bad reasons.BadBool w)
+      (λ e2. if_so P (fails (value_of kind (take w p.rest))) _ _ (λ _. bad reason w) (h e1 e2)))
 
   pub slot_gives : (slot : Slot) → ((n : ℕ) (numbers : List ℤ) → Sets slot p.numbers numbers → P (on n numbers p)) → P (Ok p) → P (take_slot slot p)
   slot_gives (Number c kind capacities) h same =

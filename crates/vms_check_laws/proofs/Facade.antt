@@ -56,7 +56,7 @@ pub use Rattle.vms_bodies.proofs.BodyLaws.{at_set}
 pub use Rattle.vms_bodies.proofs.CellLaws.{MeanCells, cells_first, field_are, item_are, meanings_are}
 pub use Rattle.vms_bodies.proofs.Names.{has_left, has_right, names_append, none_in_both}
 pub use Rattle.vms_bodies.proofs.PartLaws.{at_other, cells_of_sub, part_apart, parts_together, places_apart, sub_place_up, sub_size}
-pub use Rattle.vms_bodies.proofs.ReadyLaws.{version_is}
+pub use Rattle.vms_bodies.proofs.ReadyLaws.{version_decides}
 pub use Rattle.vms_bodies.proofs.SectionLaws.{defaults_at, defaults_long}
 pub use Rattle.vms_bodies.proofs.SettledLaws.{cells_in}
 pub use Rattle.vms_bodies.proofs.SpellLaws.{rules_append, spells_append}

@@ -5,7 +5,7 @@ use Rattle.vms_check_laws.proofs.Facade.{None, refl, sym, ap, ◌∙◌, slice_g
 use Rattle.vms_check_laws.proofs.Facade.{ComesOnce, AllCame, at_other, Part, first_answer, Sub, Device, Set, struct_cells, desc_cells, device_cells, Image}
 use Rattle.vms_check_laws.proofs.Facade.{zeroed, own_slots, own_cells, sub_slots, sub_place, came_slots, IsSection, SubSpells, SubsSpell, sub_head}
 use Rattle.vms_check_laws.proofs.Facade.{written_subs, written_section, find_sub, index, is_version_of, WellFormed, comparing, compare_sub, compare_subs}
-use Rattle.vms_check_laws.proofs.Facade.{carrying, carried_sub, carried_device, defaults, sub_came, sub_found, defaults_at, version_is, rules_append, IsSaved}
+use Rattle.vms_check_laws.proofs.Facade.{carrying, carried_sub, carried_device, defaults, sub_came, sub_found, defaults_at, version_decides, rules_append, IsSaved}
 use Rattle.vms_check_laws.proofs.Facade.{Holds, FitsAt, answers_none, at_set, rules_split, sub_size, ◌≤◌, option_and_then, Cell, FitCells, RulesHold, IsReady}
 use Rattle.vms_check_laws.proofs.Facade.{ComeAsNeeded, here, failing_pair, passes, or_else_none, part_apart, cells_of_sub}
 use Rattle.vms_spec.specs.declared.Part.TheVariants as parts
@@ -172,7 +172,7 @@ module _ (old new : Set) (good_old : WellFormed old) (good_new : WellFormed new)
         fits = cells_of_sub (λ at xs. FitsAt xs image.numbers at) (λ at xs ys. fits_left ys) (λ at xs ys. fits_right xs) old _ d.subs j s at_j subs_fit;
         rules = part_apart old d image.numbers RulesHold rules_split (own_cells old d) d.subs image.came
             (rules_split (own_slots old d image.version image.numbers) _ ready.valid).1 j s v at_j at_came;
-        within = rw v_is (version_is t.desc s.desc.version c.0);
+        within = rw v_is ((version_decides t.desc s.desc.version).0 c.0);
       }
 
   fact : (l : ℕ) (t : Sub) → slice_get e.subs l ≡ Some t → FactOf t
@@ -303,7 +303,7 @@ module _ (old new : Set) (good_old : WellFormed old) (good_new : WellFormed new)
       record {
         fits = lt;
         normal = record {
-          version = rw ready.version (version_is e.desc d.desc.version version);
+          version = rw ready.version ((version_decides e.desc d.desc.version).0 version);
           subs = subs.versions;
           cells = (are_fit _ _
               (fit_append cells sub_cells own rest own_meets.fits (subs_fit old new good_old good_new d e image numbers' came e.subs facts)));

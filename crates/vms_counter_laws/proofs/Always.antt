@@ -4,7 +4,7 @@ use Rattle.vms_counter_laws.proofs.Facade.{Some, None, refl, sym, ap, ◌∙◌,
 use Rattle.vms_counter_laws.proofs.Facade.{IsBytes, Field, Device, Set, FitsHeads, struct_cells, desc_cells, device_cells, Image, Spells, default_image}
 use Rattle.vms_counter_laws.proofs.Facade.{own_slots, own_cells, zeroed, IsVersionOf, be32, magic, stream_head, section_head, configuration, end_mark, foot}
 use Rattle.vms_counter_laws.proofs.Facade.{written, written_sections, written_subs, AreReady, IsReady, Magic, Version, WellFormed, here, find_device}
-use Rattle.vms_counter_laws.proofs.Facade.{few_devices, machine_short, reading_on, falses, defaults_of, is_version, bytes_rest, well_good, device_found}
+use Rattle.vms_counter_laws.proofs.Facade.{few_devices, machine_short, reading_on, falses, defaults_of, version_decides, bytes_rest, well_good, device_found}
 use Rattle.vms_counter_laws.proofs.Facade.{Unknown, AtMagic, AtVersion, judge, reading, Headed, at_start, between, by_state, Takes, unit_on, taken_holds}
 use Rattle.vms_counter_laws.proofs.Facade.{Mismatch, presence, reduced, compare_device, compare_fields, comparers, Comparer, Entry, first_mismatch, is_kept}
 use Rattle.vms_counter_laws.proofs.Facade.{present, position_from, FitsAt, fits_left, from_zero, fits_whole, devices_clash, at_map, default_images}
@@ -121,7 +121,7 @@ module _ (old new : Set) (good_old : WellFormed old) (good_new : WellFormed new)
 
     version_fails : Meets → m.rule ≡ 4 → ⊥
     version_fails w four = elim (of_device old new i p.number d p.device m fails_here) [
-      | OfItsVersion r f ↦ absurd (cc (is_version p.device.desc d.desc.version w.version))
+      | OfItsVersion r f ↦ absurd (cc ((version_decides p.device.desc d.desc.version).1 w.version))
       | Own lt c ↦ omega arith
       | Below lt n ↦ omega arith
     ]

@@ -2,10 +2,12 @@
 pub use Rattle.std.proofs.Common.{Bool, IfSome, List, None, Option, Some, [], ap, append-nil, append_assoc, arith, codes, false, get_or, if◌then◌else◌, inl}
 pub use Rattle.std.proofs.Common.{inr, length, map, pos, refl, slice_set, subst, suc, sym, true, zero, ℕ, ℤ, ◌&&◌, ◌++◌, ◌+◌, ◌<◌, ◌==◌, ◌^◌, ◌∙◌, ◌∷◌, ◌≡◌}
 pub use Rattle.std.proofs.Common.{◌≤◌, ◌⊎◌}
-pub use Rattle.std.proofs.lemmas.Bool.{and_from, and_parts, or_left, or_right}
+pub use Rattle.std.proofs.lemmas.Bool.{or_left, or_right}
+pub use Rattle.std.proofs.lemmas.Bool.Decides.{Decides-and, Decides-like}
 pub use Rattle.std.proofs.lemmas.List.{length-set}
 pub use Rattle.std.proofs.lemmas.Option.{slice_get_within}
 pub use Rattle.std.proofs.lemmas.Slice.Eq.{bytes_eq-Decides}
+pub use Rattle.std.specs.Bool.{Decides}
 pub use Rattle.std.specs.List.{flat_map, list_all, slice_get}
 pub use Rattle.std.specs.Str.{bytes_eq}
 pub use Rattle.vms_kinds.proofs.ByteLemmas.{bytes_rest}
@@ -43,7 +45,7 @@ pub use Rattle.vms_spec.specs.declared.Place.{Place}
 pub use Rattle.vms_spec.specs.declared.Reason.{Reason}
 pub use Rattle.vms_bodies.proofs.ComeLaws.{defaults_of, falses}
 pub use Rattle.vms_bodies.proofs.PartLaws.{at_other}
-pub use Rattle.vms_bodies.proofs.ReadyLaws.{is_ready_all, is_same, is_version, ready_is}
+pub use Rattle.vms_bodies.proofs.ReadyLaws.{is_same, ready_decides, version_decides}
 pub use Rattle.vms_bodies.specs.Whole.{reading_on}
 pub use Rattle.vms_stream.proofs.Judging.Mirrors.{state_refuses}
 pub use Rattle.vms_stream.proofs.Stated.{accepted_holds, either_holds, never_both_holds, one_fault_holds, section_found_holds, section_read_holds, taken_holds}

@@ -1,8 +1,8 @@
 -- The streams of candidates are bytes.
-use Rattle.vms_counter_laws.proofs.Facade.{sym, subst, ◌≡◌, ℕ, ◌==◌, true, false, List, [], ◌∷◌, Option, Some, None, IfSome, refl, if◌then◌else◌, ap, ◌∙◌}
-use Rattle.vms_counter_laws.proofs.Facade.{bytes_eq, or_left, or_right, bytes_eq-Decides, IsBytes, Set, Image, is_one_of, WellFormed, bytes_at, machine_bytes}
-use Rattle.vms_counter_laws.proofs.Facade.{written_are_bytes, Mismatch, lacking, machine_for, candidates, stream_of, Refusal, Answer, State, IsFirst, Here}
-use Rattle.vms_counter_laws.proofs.Facade.{Later, NoneShows, Counters, Agree, Lacks, Finds, Reason, Fault, one_fault_holds, OneAnswerLaw}
+use Rattle.vms_counter_laws.proofs.Facade.{◌≡◌, ℕ, ◌==◌, true, false, List, [], ◌∷◌, Option, Some, None, IfSome, refl, if◌then◌else◌, ap, ◌∙◌, or_left}
+use Rattle.vms_counter_laws.proofs.Facade.{or_right, bytes_eq-Decides, IsBytes, Set, Image, is_one_of, WellFormed, bytes_at, machine_bytes, written_are_bytes}
+use Rattle.vms_counter_laws.proofs.Facade.{Mismatch, lacking, machine_for, candidates, stream_of, Refusal, Answer, State, IsFirst, Here, Later, NoneShows}
+use Rattle.vms_counter_laws.proofs.Facade.{Counters, Agree, Lacks, Finds, Reason, Fault, one_fault_holds, OneAnswerLaw}
 
 -- what is lacking is one of the machines
 more_known : (m : List ℕ) (machines : List (List ℕ)) (o : Option (List ℕ)) → IfSome o (λ x. is_one_of machines x ≡ true)
@@ -70,14 +70,13 @@ module _ (old new : Set) where
     one_answer _ _ (Lacks m e none) (Lacks m' e' none') = let same : m ≡ m' = cc in rw same
     one_answer _ _ (Lacks m e none) (Finds m' images r n e' first fault) =
         let same : m ≡ m' = cc in
-        absurd (none_first m' images (candidates old new m') (subst (λ (x : Mismatch). NoneShows old new x (candidates old new x)) same none) first)
+        absurd (none_first m' images _ (rw same at none) first)
     one_answer _ _ (Finds m images r n e first fault) (Lacks m' e' none') =
         let same : m' ≡ m = cc in
-        absurd (none_first m images (candidates old new m) (subst (λ (x : Mismatch). NoneShows old new x (candidates old new x)) same none') first)
+        absurd (none_first m images _ (rw same at none') first)
     one_answer _ _ (Finds m a r n e x f) (Finds m' b s k e' y g) =
         let same : m' ≡ m = cc in
-        both_found m a b r s n k (stream_bytes old new well m a) x (subst (λ (z : Mismatch). IsFirst old new z b (candidates old new z)) same y) f
-        (subst (λ (z : Mismatch). FaultOf (stream_of old new z b) s k) same g) ∙ ap (λ (z : Mismatch). State z (machine_for old new z) b s) (sym same)
+        rw same (both_found m a b r s n k (stream_bytes old new well m a) x (rw same at y) f (rw same at g))
 
 pub one_answer_holds : OneAnswerLaw
 one_answer_holds old new well a b x y = one_answer old new well a b x y

@@ -1,11 +1,11 @@
 -- The laws as they are stated.
 use Rattle.vms_counter_laws.proofs.Facade.{◌≡◌, ℕ, zero, suc, Bool, true, false, List, [], ◌∷◌, length, Option, Some, None, refl, arith, if◌then◌else◌}
-use Rattle.vms_counter_laws.proofs.Facade.{slice_get, and_parts, and_from, IsBytes, Device, Set, FitsHeads, Image, Reading, Accepted, Refused, is_ready}
-use Rattle.vms_counter_laws.proofs.Facade.{AreReady, IsReady, WellFormed, ready_is, is_ready_all, Fault, reading, at_start, by_state, Taken, Faulty}
-use Rattle.vms_counter_laws.proofs.Facade.{state_refuses, accepted_holds, told_holds, either_holds, never_both_holds, Mismatch, first_mismatch, candidates}
-use Rattle.vms_counter_laws.proofs.Facade.{default_images, machine_for, Refusal, Answer, AreCompatible, NoState, State, stream_of, Shows, IsFirst, Here, Later}
-use Rattle.vms_counter_laws.proofs.Facade.{NoneShows, Counters, Agree, Lacks, Finds, all_ready, answer_to, first_refused, or_next, refused, refusal_of}
-use Rattle.vms_counter_laws.proofs.Facade.{NamedLaw, AlwaysLaw, ComputedLaw}
+use Rattle.vms_counter_laws.proofs.Facade.{slice_get, Decides, Decides-and, Decides-like, IsBytes, Device, Set, FitsHeads, Image, Reading, Accepted, Refused}
+use Rattle.vms_counter_laws.proofs.Facade.{AreReady, IsReady, WellFormed, ready_decides, Fault, reading, at_start, by_state, Taken, Faulty, state_refuses}
+use Rattle.vms_counter_laws.proofs.Facade.{accepted_holds, told_holds, either_holds, never_both_holds, Mismatch, first_mismatch, candidates, default_images}
+use Rattle.vms_counter_laws.proofs.Facade.{machine_for, Refusal, Answer, AreCompatible, NoState, State, stream_of, Shows, IsFirst, Here, Later, NoneShows}
+use Rattle.vms_counter_laws.proofs.Facade.{Counters, Agree, Lacks, Finds, all_ready, answer_to, first_refused, or_next, refused, refusal_of, NamedLaw}
+use Rattle.vms_counter_laws.proofs.Facade.{AlwaysLaw, ComputedLaw}
 use Rattle.vms_stream.specs.State.{State as Standing}
 use Rattle.vms_stream.specs.StreamLaws.{Answer as Either}
 use Rattle.vms_counter_laws.proofs.Always.{shown}
@@ -41,27 +41,19 @@ always_holds old new good_old good_new heads_old heads m h kind ready =
 abbrev EachReady : Set → List Device → List Image → Type 0
 EachReady set ds ims = (k : ℕ) (d : Device) (image : Image) → slice_get ds k ≡ Some d → slice_get ims k ≡ Some image → IsReady set d image
 
-all_ready_is : (set : Set) (ds : List Device) (ims : List Image) → all_ready set ds ims ≡ true → (length ims ≡ length ds) × EachReady set ds ims
-all_ready_is set [] [] h = (refl, λ k d image e f. absurd (cc))
-all_ready_is set (x ∷ ds) (im ∷ ims) h =
-    let p = and_parts (is_ready set x im) (all_ready set ds ims) h in
-    let r = all_ready_is set ds ims p.1 in
-    (rw r.0, each p.0 r.1)
+all_ready_decides : (set : Set) (ds : List Device) (ims : List Image) → Decides (all_ready set ds ims) ((length ims ≡ length ds) × EachReady set ds ims)
+all_ready_decides set [] [] = (λ e. (refl, λ k d image e f. cc), λ h. refl)
+all_ready_decides set (x ∷ ds) (im ∷ ims) =
+    Decides-like _ (λ h. (rw h.1.0, each h.0 h.1.1)) (λ h. (h.1 0 x im refl refl, (omega (arith, h.0), λ k. h.1 (suc k))))
+    (Decides-and _ _ (ready_decides set x im) (all_ready_decides set ds ims))
   where
-    each : is_ready set x im ≡ true → EachReady set ds ims → EachReady set (x ∷ ds) (im ∷ ims)
+    each : IsReady set x im → EachReady set ds ims → EachReady set (x ∷ ds) (im ∷ ims)
     each here more zero d image e f =
         let a : x ≡ d = cc in
         let b : im ≡ image = cc in
-        rw (a, b) at (ready_is set x im here)
+        rw (a, b) at here
     each here more (suc k) d image e f = more k d image e f
-all_ready_is set _ _ h = absurd (cc)
-
-is_all_ready : (set : Set) (ds : List Device) (ims : List Image) → length ims ≡ length ds → EachReady set ds ims → all_ready set ds ims ≡ true
-is_all_ready set [] [] long h = refl
-is_all_ready set [] (im ∷ ims) long h = absurd (omega arith)
-is_all_ready set (x ∷ ds) [] long h = absurd (omega arith)
-is_all_ready set (x ∷ ds) (im ∷ ims) long h =
-    and_from _ _ (is_ready_all set x im (h 0 x im refl refl)) (is_all_ready set ds ims (omega arith) (λ k. h (suc k)))
+all_ready_decides set _ _ = (λ e. cc, λ h. absurd (omega (arith, h.0)))
 
 module _ (old new : Set) (well : WellFormed old) (good : WellFormed new) (heads : FitsHeads new) (m : Mismatch) where
   abbrev stream : List Image → List ℕ
@@ -90,9 +82,9 @@ module _ (old new : Set) (well : WellFormed old) (good : WellFormed new) (heads 
     where
       by : (b : Bool) → all_ready old old.devices images ≡ b → Tried images (if b then refusal_of (read images) else None)
       by true e =
-          let r = all_ready_is old _ images e in
+          let r = (all_ready_decides old _ images).0 e in
           by_reading images (stream_bytes old new well m images) (record { one_each = r.0; ready = r.1 }) (read images) refl
-      by false e = λ s. absurd (cc (is_all_ready old _ images s.ready.one_each s.ready.ready, e))
+      by false e = λ s. absurd (cc ((all_ready_decides old _ images).1 (s.ready.one_each, s.ready.ready), e))
 
   -- the result of the list of candidates
   abbrev Comes : List (List Image) → Answer → Type 0

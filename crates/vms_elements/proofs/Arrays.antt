@@ -18,4 +18,4 @@ module _ {B : Type 0} (h : List Element → List B) (both : (xs ys : List Elemen
   array_of here past e zero (suc m) at c le = absurd (omega arith)
   array_of here past e (suc n) zero at c le = rw (both, le-ltb e stand.count (omega arith), past e at) (array_of here past (suc e) n zero (at + step) (omega arith) (omega arith))
   array_of here past e (suc n) (suc m) at c le =
-      rw (both, lt-ltb e stand.count (omega arith), here e at) (ap (λ l. out e at ++ l) (array_of here past (suc e) n m (at + step) (omega arith) (omega arith)))
+      rw (both, lt-ltb e stand.count (omega arith), here e at) (rw (array_of here past (suc e) n m (at + step) (omega arith) (omega arith)))

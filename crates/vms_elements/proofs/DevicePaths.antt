@@ -30,7 +30,7 @@ counts_within path c base (x ∷ xs) (e, up) (inr h) = let w = counts_within pat
 
 one_path : (path path' : List (ℕ × ℕ)) (c base : ℕ) (xs : List Element) → CountsUp base xs → Has (IsAt path c) xs → Has (IsAt path' c) xs → path ≡ path'
 one_path path path' c base [] up h k = absurd h
-one_path path path' c base (x ∷ xs) (e, up) (inl p) (inl q) = sym p.0 ∙ q.0
+one_path path path' c base (x ∷ xs) (e, up) (inl p) (inl q) = cc
 one_path path path' c base (x ∷ xs) (e, up) (inl (at, is, number)) (inr k) = let w = counts_within path' c (base + 1) xs up k in absurd (omega arith)
 one_path path path' c base (x ∷ xs) (e, up) (inr h) (inl (at, is, number)) = let w = counts_within path c (base + 1) xs up h in absurd (omega arith)
 one_path path path' c base (x ∷ xs) (e, up) (inr h) (inr k) = one_path path path' c (base + 1) xs up h k

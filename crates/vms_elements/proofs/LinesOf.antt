@@ -90,7 +90,7 @@ module _ (ss : List Shape) (ps : List Printer) (cells : cells_in ss ≡ map (λ 
   desc_printed path d v n at = rw (under_append, append-nil, fields_printed path d.fields v _ n 0 at d.fields, cells) refl
 
 same_cells : (ds : List Desc) (k : ℕ) → cells_in (first shape ds k) ≡ map (λ p. p.cells) (first printer ds k)
-same_cells ds k = shapes_cells ds k ∙ sym (first_cells (λ (p : Printer). p.cells) printer (λ ps d. refl) ds k)
+same_cells ds k = cc (shapes_cells ds k, first_cells (λ (p : Printer). p.cells) printer (λ ps d. refl) ds k)
 
 are_printed : (ds : List Desc) (k : ℕ) → ArePrinted (first shape ds k) (first printer ds k)
 unfolding first
@@ -116,14 +116,12 @@ six a b c d e g h = simp append_assoc refl
 
 subs_text : (set : Set) (n : List ℤ) (at : ℕ) (subs : List Sub) (came : List (Option ℕ)) → text_of (subs_lines set n at subs came) ≡ texts.sub_lines set n at subs came
 subs_text set n at (s ∷ subs) (o ∷ came) =
-    ap (λ (l : List ℕ). sub_line s o ++ (10 ∷ l)) (text_append _ _ ∙ both _ _ _ _ (numbers_text set s.desc n at) (subs_text set n (at + length (desc_cells (struct_cells set) s.desc)) subs came))
-    ∙ four (codes "sub ") s.desc.name (codes " ") (version_text o) (10 ∷ desc_lines (printers set) s.desc [] n at) _
+    rw (text_append _ _ ∙ both _ _ _ _ (numbers_text set s.desc n at) (subs_text set n (at + length (desc_cells (struct_cells set) s.desc)) subs came)) (four (codes "sub ") s.desc.name (codes " ") (version_text o) (10 ∷ desc_lines (printers set) s.desc [] n at) _)
 subs_text set n at _ _ = refl
 
 device_text : (set : Set) (d : Device) (image : Image) → text_of (device_lines set d image) ≡ texts.device_lines set d image
 device_text set d image =
-    ap (λ (l : List ℕ). section_line d image.version ++ (10 ∷ l)) (text_append _ _ ∙ both _ _ _ _ (numbers_text set d.desc image.numbers 0) (subs_text set image.numbers (own_cells set d) d.subs image.came))
-    ∙ six (codes "section ") d.desc.name (codes " ") (decimal d.instance) (codes " v") (decimal image.version) _
+    rw (text_append _ _ ∙ both _ _ _ _ (numbers_text set d.desc image.numbers 0) (subs_text set image.numbers (own_cells set d) d.subs image.came)) (six (codes "section ") d.desc.name (codes " ") (decimal d.instance) (codes " v") (decimal image.version) _)
 
 devices_text : (set : Set) (devices : List Device) (images : List Image) → text_of (devices_lines set devices images) ≡ texts.devices_lines set devices images
 devices_text set (d ∷ devices) (image ∷ images) = text_append (device_lines set d image) _ ∙ both _ _ _ _ (device_text set d image) (devices_text set devices images)

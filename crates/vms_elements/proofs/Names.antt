@@ -9,7 +9,7 @@ names_absent xs = names_map is_absent xs ∙ same (names_of xs)
   where
     same : (ls : List (List ℕ)) → map (λ l. l) ls ≡ ls
     same [] = refl
-    same (l ∷ ls) = ap (λ m. l ∷ m) (same ls)
+    same (l ∷ ls) = rw (same ls)
 
 -- element q of an array, and cell r in it
 pub array_name : (f : Field) (stand : Stand) (part : ℕ → List Element) (names : List (List ℕ)) (step : ℕ) → ((a : ℕ) → names_of (part a) ≡ names) → length names ≡ step

@@ -12,10 +12,7 @@ use Rattle.vms_elements.proofs.Members.{Each, each_append, each_map, Has, has_le
 -- an element of a field that there is
 element_is : (cs : List (List Cell)) (d : Desc) (base i e place : ℕ) (f : Field) (go : Item → ℕ → Option ℕ) → slice_get d.fields i ≡ Some f → nat_lt e (capacity_of f.count) ≡ true
     → place_of cs d.fields 0 base d.fields i + e * item_size cs f.item ≡ place → element_at cs d base i e (slice_get d.fields i) go ≡ go f.item place
-element_is cs d base i e place f go there below is =
-    ap (λ (o : Option Field). element_at cs d base i e o go) there
-    ∙ ap (λ (b : Bool). if b then go f.item (place_of cs d.fields 0 base d.fields i + e * item_size cs f.item) else None) below
-    ∙ ap (λ (k : ℕ). go f.item k) is
+element_is cs d base i e place f go there below is = rw (there, below, is)
 
 abbrev pub IsAt : List (ℕ × ℕ) → ℕ → Element → Type 0
 IsAt path c x = (x.path ≡ path) × (x.cell ≡ c) × (is_number x.what ≡ true)
@@ -129,7 +126,7 @@ module _ (set : Set) where
   in_array f stand part step path c j q e (suc n) place zero lt at here h =
       let same : q ≡ place = grind (arith, here) in
       let first : e ≡ j = omega arith in
-      has_left _ _ _ (has_map _ _ (behind (stand.number, e) (f.name ++ index_text f.count e) _ _) (λ x p. (rw (p.0, first) refl, p.1, p.2)) (part place) (subst (λ q. Has (IsAt path c) (part q)) same h))
+      has_left _ _ _ (has_map _ _ (behind (stand.number, e) (f.name ++ index_text f.count e) _ _) (λ x p. (rw (p.0, first) refl, p.1, p.2)) (part place) (rw same at h))
   in_array f stand part step path c j q e (suc n) place (suc k) lt at here h =
       has_right _ _ _ (in_array f stand part step path c j q (suc e) n (place + step) k (omega arith) (omega arith) (grind (arith, here)) h)
 
@@ -165,9 +162,8 @@ module _ (set : Set) where
       by_test true t h =
           let lt : j < below = ltb-true j below t in
           let there = slice_get-get_or set.structs j no_desc (omega arith) in
-          subst (λ (q : Shape). Has (IsAt (s ∷ path) c) (map dotted (q.elements n place))) (sym (first_at shape set.structs no_shape below j lt))
-          (has_map (IsAt (s ∷ path) c) (IsAt (s ∷ path) c) dotted (λ x p. p) (desc_elements (first shape set.structs j) d d.version n place)
-          (sound j d place c (omega arith) (ap (λ (o : Option Desc). path_at set (s ∷ path) j o place) (sym there) ∙ h) d.version n))
+          rw (first_at shape set.structs no_shape below j lt) (has_map (IsAt (s ∷ path) c) (IsAt (s ∷ path) c) dotted (λ x p. p) (desc_elements (first shape set.structs j) d d.version n place)
+          (sound j d place c (omega arith) (ap (λ o. path_at set (s ∷ path) j o place) (sym there) ∙ h) d.version n))
   in_item (s ∷ path) sound below few _ caps z n place c h = cc
 
   in_desc : (path : List (ℕ × ℕ)) → Sound path → (below : ℕ) → below ≤ length set.structs → (d : Desc) (base i e c : ℕ) (o : Option Field) → slice_get d.fields i ≡ o

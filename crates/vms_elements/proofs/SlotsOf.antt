@@ -29,7 +29,7 @@ slots_past false step text xs = slots_behind step text false false xs
 slots_all : (there : Bool) (slots : ℕ → List Slot) (step e m at : ℕ) → outs (λ e a. if there then slots a else []) step e m at ≡ (if there then times m slots at step else [])
 slots_all true slots step e zero at = refl
 slots_all false slots step e zero at = refl
-slots_all true slots step e (suc m) at = ap (λ l. slots at ++ l) (slots_all true slots step (suc e) m (at + step))
+slots_all true slots step e (suc m) at = rw (slots_all true slots step (suc e) m (at + step))
 slots_all false slots step e (suc m) at = slots_all false slots step (suc e) m (at + step)
 
 slots_dotted : (xs : List Element) → slots_of (map dotted xs) ≡ slots_of xs
@@ -60,7 +60,7 @@ module _ (ss : List Shape) (ms : List Meaning) (cells : cells_in ss ≡ map (λ 
   desc_meant d v n at = rw (slots_append, fields_meant d.fields v _ n 0 at d.fields, cells) refl
 
 same_cells : (ds : List Desc) (k : ℕ) → cells_in (first shape ds k) ≡ map (λ m. m.cells) (meanings ds k)
-same_cells ds k = shapes_cells ds k ∙ sym (first_cells (λ (m : Meaning). m.cells) meaning (λ ms d. refl) ds k)
+same_cells ds k = cc (shapes_cells ds k, first_cells (λ (m : Meaning). m.cells) meaning (λ ms d. refl) ds k)
 
 are_meant : (ds : List Desc) (k : ℕ) → AreMeant (first shape ds k) (meanings ds k)
 unfolding first

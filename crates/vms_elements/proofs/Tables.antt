@@ -3,7 +3,7 @@ use Rattle.vms_elements.proofs.Facade.{◌≡◌, ℕ, zero, suc, List, [], ◌�
 use Rattle.vms_elements.proofs.Facade.{Shape, no_shape, shape, cells_in}
 
 pub both : {B : Type 0} (xs ys zs ws : List B) → xs ≡ ys → zs ≡ ws → xs ++ zs ≡ ys ++ ws
-both xs ys zs ws e f = ap (λ l. l ++ zs) e ∙ ap (λ l. ys ++ l) f
+both xs ys zs ws e f = rw (e, f)
 
 -- the same for two lists side by side
 pub two_more : {A B : Type 0} (R : A → B → Type 0) (a0 : A) (b0 : B) → R a0 b0 → (xs : List A) (ys : List B) → length xs ≡ length ys

@@ -19,7 +19,7 @@ AreCounted xs = Each IsCounted xs
 
 pub cells_append : (xs ys : List Element) → cells_of (xs ++ ys) ≡ cells_of xs ++ cells_of ys
 cells_append [] ys = refl
-cells_append (x ∷ xs) ys = ap (cells_with x.what) (cells_append xs ys) ∙ by x.what
+cells_append (x ∷ xs) ys = cc (cells_append xs ys, by x.what)
   where
     by : (w : What) → cells_with w (cells_of xs ++ cells_of ys) ≡ cells_with w (cells_of xs) ++ cells_of ys
     by (Number cell) = refl
@@ -112,7 +112,7 @@ then_walks {c} {d} {at} {xs} {ys} {us} {vs} h g = record {
 
 pub step_walks : {c : List Cell} {at : ℕ} {xs ys : List Element} {text : List ℕ} {f g : Element → Element} → IsStep text f → IsStep text g → Walks c at xs ys → Walks c at (map f xs) (map g ys)
 step_walks {c} {at} {xs} {ys} {text} {f} {g} s t h = record {
-  cells_are = cells_map s xs ∙ h.cells_are;
+  cells_are = cc (cells_map s xs);
   up = counts_map s at xs h.up;
   names = rw (names_map s xs, names_map t ys, h.names);
   counted = each_map IsCounted IsCounted f s.counted xs h.counted;

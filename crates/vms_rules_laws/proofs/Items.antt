@@ -1,17 +1,10 @@
 -- A set has the number of items that the walk computes.
-use Rattle.std.proofs.Common.{◌≡◌, ℕ, zero, suc, ◌+◌, ◌*◌, List, [], ◌∷◌, ◌++◌, length, get_or, map, ℤ, Option, None, Bool, ◌&&◌, nat_lt, refl, sym, ap, ◌∙◌, arith}
-use Rattle.std.proofs.Math.Nat.{suc-mul}
-use Rattle.vms_kinds.specs.declared.Item.{Item}
-use Rattle.vms_kinds.specs.declared.Item.TheVariants.{Num, Equal, Unused, Struct}
-use Rattle.vms_spec.specs.Sets.{Field, Desc, Sub, Device, Set}
-use Rattle.vms_spec.specs.Layout.{no_desc, first, counted, capacity_of, item_size, field_cells, desc_cells, struct_cells, numbers_of, all_hold}
-use Rattle.vms_spec.specs.Images.{default_image, own_cells}
-use Rattle.vms_spec.specs.WellFormed.{item_count, items_in, struct_items, subs_items, devices_items}
-use Rattle.vms_spec.proofs.Tables.{first_long}
-use Rattle.vms_elements.specs.Elements.{What, Element, Shape, no_shape, shape, shapes, cells_in, dotted, behind, single, Number, Constant, Filler, Rule, item_elements, Stand, stand_of, array_elements, field_elements, elements_from, desc_elements, index_text}
-use Rattle.vms_elements.specs.Parts.{absent, elements_in, subs_elements, device_elements}
-use Rattle.vms_elements.proofs.Tables.{two_more}
-use Rattle.vms_rules_laws.specs.Eight.{item_number, items_among, items_of}
+use Rattle.vms_rules_laws.proofs.Facade.{◌≡◌, ℕ, zero, suc, ◌+◌, ◌*◌, List, [], ◌∷◌, ◌++◌, length, get_or, map, ℤ, None, Bool, ◌&&◌, nat_lt, refl, sym, ◌∙◌}
+use Rattle.vms_rules_laws.proofs.Facade.{arith, suc-mul, Item, Struct, Field, Desc, Sub, Device, Set, no_desc, first, counted, capacity_of, item_size}
+use Rattle.vms_rules_laws.proofs.Facade.{field_cells, desc_cells, struct_cells, numbers_of, all_hold, default_image, own_cells, item_count, items_in}
+use Rattle.vms_rules_laws.proofs.Facade.{struct_items, subs_items, devices_items, first_long, Element, Shape, no_shape, shape, shapes, cells_in, dotted, behind}
+use Rattle.vms_rules_laws.proofs.Facade.{single, Rule, item_elements, Stand, stand_of, array_elements, field_elements, elements_from, desc_elements, index_text}
+use Rattle.vms_rules_laws.proofs.Facade.{absent, elements_in, subs_elements, two_more, items_among, items_of}
 
 items_append : (xs ys : List Element) → items_among (xs ++ ys) ≡ items_among xs + items_among ys
 items_append [] ys = omega arith
@@ -47,12 +40,14 @@ module _ (ss : List Shape) (sizes : List ℕ) (good : AreCounted ss sizes) where
       let rest = array_counts f stand part size h step (suc e) n (at + step) in
       items_append here (array_elements f stand part step (suc e) n (at + step)) ∙ omega (arith, suc-mul n size)
 
-  field_counts : (fields : List Field) (v : ℕ) (own : ℕ → ℕ) (n : List ℤ) (i at : ℕ) (f : Field) → items_among (field_elements ss fields v own n i at f) ≡ capacity_of f.count * item_count sizes f.item
+  field_counts : (fields : List Field) (v : ℕ) (own : ℕ → ℕ) (n : List ℤ) (i at : ℕ) (f : Field)
+      → items_among (field_elements ss fields v own n i at f) ≡ capacity_of f.count * item_count sizes f.item
   field_counts fields v own n i at f =
       array_counts f (stand_of i f v own) (item_elements ss f.item (counted i fields) f.default n) (item_count sizes f.item)
       (λ a. item_counts f.item (counted i fields) f.default n a) (item_size (cells_in ss) f.item) 0 (capacity_of f.count) at
 
-  fields_count : (fields : List Field) (v : ℕ) (own : ℕ → ℕ) (n : List ℤ) (i at : ℕ) (fs : List Field) → items_among (elements_from ss fields v own n i at fs) ≡ items_in sizes fs
+  fields_count : (fields : List Field) (v : ℕ) (own : ℕ → ℕ) (n : List ℤ) (i at : ℕ) (fs : List Field)
+      → items_among (elements_from ss fields v own n i at fs) ≡ items_in sizes fs
   fields_count fields v own n i at [] = refl
   fields_count fields v own n i at (f ∷ fs) =
       let next = at + length (field_cells (cells_in ss) fields i f) in
@@ -72,14 +67,16 @@ are_counted ds (suc k) j n at =
     let earlier = first shape ds k in
     let sizes = first (λ sizes d. items_in sizes d.fields) ds k in
     two_more (λ (s : Shape) (m : ℕ). (n : List ℤ) (at : ℕ) → items_among (s.elements n at) ≡ m) no_shape 0 (λ n at. refl) earlier sizes
-    (first_long shape ds k ∙ sym (first_long (λ sizes d. items_in sizes d.fields) ds k)) (are_counted ds k) (shape earlier (get_or ds k no_desc)) (items_in sizes (get_or ds k no_desc).fields)
+    (first_long shape ds k ∙ sym (first_long (λ sizes d. items_in sizes d.fields) ds k)) (are_counted ds k) (shape earlier (get_or ds k no_desc))
+    (items_in sizes (get_or ds k no_desc).fields)
     (λ n at. desc_counts earlier sizes (are_counted ds k) (get_or ds k no_desc) (get_or ds k no_desc).version n at) j n at
 
 module _ (set : Set) where
   part_counts : (d : Desc) (v : ℕ) (n : List ℤ) (at : ℕ) → items_among (elements_in set d v n at) ≡ items_in (struct_items set.structs) d.fields
   part_counts d v n at = desc_counts (shapes set) (struct_items set.structs) (are_counted set.structs (length set.structs)) d v n at
 
-  subs_count : (subs : List Sub) (n : List ℤ) (at : ℕ) → items_among (subs_elements set subs (map (λ s. None) subs) n at) ≡ subs_items (struct_items set.structs) subs
+  subs_count : (subs : List Sub) (n : List ℤ) (at : ℕ)
+      → items_among (subs_elements set subs (map (λ s. None) subs) n at) ≡ subs_items (struct_items set.structs) subs
   subs_count [] n at = refl
   subs_count (s ∷ subs) n at =
       let next = at + length (desc_cells (struct_cells set) s.desc) in

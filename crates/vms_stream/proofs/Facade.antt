@@ -62,6 +62,7 @@ pub use Rattle.vms_bodies.proofs.FineLaws.{Fine, Stays, fine_next, fine_normal, 
 pub use Rattle.vms_bodies.proofs.FoundLaws.{body_found}
 pub use Rattle.vms_bodies.proofs.FrameLaws.{one_unit, unit_read}
 pub use Rattle.vms_bodies.proofs.HeadFound.{found_is, four_low, head_bytes, is_bytes_drop, split_four, split_one, text_long}
+pub use Rattle.vms_bodies.proofs.Names.{if_both, if_so}
 pub use Rattle.vms_bodies.proofs.PartLaws.{Beside, at_other, beside_back, beside_done, beside_end, beside_first, beside_next, beside_start, none_came, none_of}
 pub use Rattle.vms_bodies.proofs.PartLaws.{sub_are, version_at}
 pub use Rattle.vms_bodies.proofs.Places.{same_refl}

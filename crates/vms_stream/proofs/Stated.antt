@@ -1,11 +1,11 @@
 -- The laws as they are stated.
-use Rattle.vms_stream.proofs.Facade.{get_or, ◌+◌, take, length, Option, Some, None, IfSome, arith, suc, ◌≡◌, ◌≤◌, true, ℕ, List, ◌++◌, refl, sym, ap, ◌∙◌, drop}
-use Rattle.vms_stream.proofs.Facade.{false, slice_get_within, take-append-drop, LONGEST_NAME, Piece, spell, spelled, Due, Whole, unit_at, IsThere, FoundLaw}
-use Rattle.vms_stream.proofs.Facade.{Reason, is_one_of, longest_text, IsConfiguration, IsTrailer, optional, configuration, trailer, written, Reading, Accepted}
-use Rattle.vms_stream.proofs.Facade.{Refused, well_good, Tail, Unknown, Footed, Bare, images, machine, judge, reading, by_units, State, between, by_state}
-use Rattle.vms_stream.proofs.Facade.{at_start, SectionReadLaw, BeginsSection, SectionFoundLaw, ToldLaw, AcceptedLaw, TakenLaw, LocalLaw, UnitsLaw, StreamLaw}
-use Rattle.vms_stream.proofs.Facade.{GoesOn, FrontLaw, OneStreamLaw, Answer, EitherLaw, NeverBothLaw, OneFaultLaw, SectionLaw, WrittenLaw, WholeLaw}
-use Rattle.vms_stream.proofs.Facade.{AreOneFault, reading_on, IsBytes, bytes_rest, front_take}
+use Rattle.vms_stream.proofs.Facade.{get_or, ◌+◌, take, length, Option, Some, None, IfSome, arith, suc, ◌≡◌, ◌≤◌, true, ℕ, List, ◌++◌, refl, sym, ap, ◌∙◌}
+use Rattle.vms_stream.proofs.Facade.{drop, false, slice_get_within, take-append-drop, LONGEST_NAME, Piece, spell, spelled, Due, Whole, unit_at, IsThere}
+use Rattle.vms_stream.proofs.Facade.{FoundLaw, Reason, is_one_of, longest_text, IsConfiguration, IsTrailer, optional, configuration, trailer, written}
+use Rattle.vms_stream.proofs.Facade.{Reading, Accepted, Refused, well_good, Tail, Unknown, Footed, Bare, images, machine, judge, reading, by_units, State}
+use Rattle.vms_stream.proofs.Facade.{between, by_state, at_start, SectionReadLaw, BeginsSection, SectionFoundLaw, ToldLaw, AcceptedLaw, TakenLaw, LocalLaw}
+use Rattle.vms_stream.proofs.Facade.{UnitsLaw, StreamLaw, GoesOn, FrontLaw, OneStreamLaw, Answer, EitherLaw, NeverBothLaw, OneFaultLaw, SectionLaw}
+use Rattle.vms_stream.proofs.Facade.{WrittenLaw, WholeLaw, AreOneFault, reading_on, IsBytes, bytes_rest, front_take}
 use Rattle.vms_stream.proofs.Finding.There.{only}
 use Rattle.vms_stream.proofs.Finding.Shown.{shows}
 use Rattle.vms_stream.specs.StreamLaws.{Taken, Faulty}
@@ -37,7 +37,7 @@ told_holds set names input =
 pub local_holds : LocalLaw
 local_holds d r t x n ok e same =
     let w = shown d r x n ok e in
-    let s : spell x ≡ take n t = sym (front_take n (spell x) (drop n r) r w.there w.long) ∙ same in
+    let s : spell x ≡ take n t = cc (front_take n (spell x) (drop n r) r w.there w.long) in
     ap (unit_at d) (sym (take-append-drop n t) ∙ ap (λ l. l ++ drop n t) (sym s)) ∙ only d x (drop n t) w.may ∙ ap (Whole x) w.long
 
 pub accepted_holds : AcceptedLaw
@@ -86,8 +86,8 @@ one_stream_holds set names well heads input n m machine other images others t u 
     let same : a.end ≡ b.end = cc in
     record {
       lengths = cc;
-      machines = sym a.machine_is ∙ ap (λ s. s.machine) same ∙ b.machine_is;
-      states = sym a.images_are ∙ ap (λ s. s.images) same ∙ b.images_are;
+      machines = cc;
+      states = cc;
     }
 
 pub either_holds : EitherLaw

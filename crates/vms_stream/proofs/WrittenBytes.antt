@@ -1,13 +1,13 @@
 -- What a well-formed set writes is bytes. What holds of each part of a set: of the description of each device and subsection.
-use Rattle.vms_stream.proofs.Facade.{◌≡◌, ℕ, suc, List, [], ◌∷◌, Some, refl, zero, ◌+◌, ◌<◌, ◌≤◌, ◌&&◌, nat_le, ◌++◌, length, length-append, get_or, take, drop}
-use Rattle.vms_stream.proofs.Facade.{ℤ, pos, Bool, true, Option, None, IfSome, nat_lt, subst, arith, slice_get, list_all, byte_at, bytes_high_first, replicate}
-use Rattle.vms_stream.proofs.Facade.{bytes_eq, and_parts, ltb-true, leb-true, take-append-drop, bytes_eq-Decides, Desc, Sub, Device, Set, width, residue, code}
-use Rattle.vms_stream.proofs.Facade.{Kind, IsBytes, is_name, is_name_byte, is_sub_name, Image, zeroed, own_cells, own_slots, sub_slots, Slot, Rule, desc_cells}
-use Rattle.vms_stream.proofs.Facade.{struct_cells, be32, optional, configuration, section_head, sub_head, foot, trailer, end_mark, stream_head, is_one_of}
-use Rattle.vms_stream.proofs.Facade.{written, written_section, written_sections, written_subs, WellFormed, failing, first_fault, here, set_rules, AllTrue}
-use Rattle.vms_stream.proofs.Facade.{all_true, every_one, or_else_none, name_byte_low, device_parts, sub_clean}
-use Rattle.vms_spec.specs.Layout.{Number, Constant, Filler}
+use Rattle.vms_stream.proofs.Facade.{◌≡◌, ℕ, suc, List, [], ◌∷◌, Some, refl, zero, ◌+◌, ◌<◌, ◌≤◌, ◌&&◌, nat_le, ◌++◌, length, length-append, get_or, take}
+use Rattle.vms_stream.proofs.Facade.{drop, ℤ, pos, Bool, true, Option, None, IfSome, nat_lt, subst, arith, slice_get, list_all, byte_at, bytes_high_first}
+use Rattle.vms_stream.proofs.Facade.{replicate, bytes_eq, and_parts, ltb-true, leb-true, take-append-drop, bytes_eq-Decides, Desc, Sub, Device, Set, width}
+use Rattle.vms_stream.proofs.Facade.{residue, code, Kind, IsBytes, is_name, is_name_byte, is_sub_name, Image, zeroed, own_cells, own_slots, sub_slots, Slot}
+use Rattle.vms_stream.proofs.Facade.{Rule, desc_cells, struct_cells, be32, optional, configuration, section_head, sub_head, foot, trailer, end_mark}
+use Rattle.vms_stream.proofs.Facade.{stream_head, is_one_of, written, written_section, written_sections, written_subs, WellFormed, failing, first_fault, here}
+use Rattle.vms_stream.proofs.Facade.{set_rules, AllTrue, all_true, every_one, or_else_none, name_byte_low, device_parts, sub_clean}
 use Rattle.vms_spec.specs.declared.Part.TheVariants as parts
+use Rattle.vms_spec.specs.Layout.{Number, Constant, Filler}
 
 abbrev pub AllSubs : (Desc → Type 0) → List Sub → Type 0
 AllSubs P [] = Unit {0}
@@ -177,14 +177,13 @@ is_named most name lt e =
 sub_named : (device name : List ℕ) → is_name 100 device ≡ true → is_sub_name device name ≡ true → IsNamed name
 sub_named device name d e =
     let p = and_parts (bytes_eq (take (length device + 1) name) (device ++ 47 ∷ [])) (is_name 64 (drop (length device + 1) name)) e in
-    let front : take (length device + 1) name ≡ device ++ 47 ∷ [] = (bytes_eq-Decides (take (length device + 1) name) (device ++ 47 ∷ [])).0 p.0 in
     let rest = drop (length device + 1) name in
     let own = is_named 100 device (omega arith) d in
     let q = and_parts (nat_le 1 (length device) && nat_le (length device) 100) (list_all is_name_byte device) d in
     let most : length device ≤ 100 = leb-true (length device) 100 (and_parts (nat_le 1 (length device)) (nat_le (length device) 100) q.0).1 in
     let r = and_parts (nat_le 1 (length rest) && nat_le (length rest) 64) (list_all is_name_byte rest) p.1 in
     let tail : length rest ≤ 64 = leb-true (length rest) 64 (and_parts (nat_le 1 (length rest)) (nat_le (length rest) 64) r.0).1 in
-    subst IsNamed (rw front at (take-append-drop (length device + 1) name)) (record {
+    subst IsNamed (rw ((bytes_eq-Decides (take (length device + 1) name) (device ++ 47 ∷ [])).0 p.0) at (take-append-drop (length device + 1) name)) (record {
       octets = bytes_append (device ++ 47 ∷ []) rest (bytes_append device (47 ∷ []) own.octets (omega arith, tt)) (every_bytes rest r.1);
       short = omega (arith, length-append (device ++ 47 ∷ []) rest, length-append device (47 ∷ []));
     })

@@ -63,7 +63,7 @@ pub use Rattle.vms_words.proofs.Spells.{number_holds, spelled_holds}
 pub use Rattle.vms_words.specs.Texts.{IsShort}
 pub use Rattle.vms_bodies.proofs.Names.{names_append, none_joined}
 pub use Rattle.vms_bodies.proofs.Places.{elements_same, place_next, there_same}
-pub use Rattle.vms_bodies.proofs.ReadyLaws.{are_rules, is_same, ranged, rules_are}
+pub use Rattle.vms_bodies.proofs.ReadyLaws.{is_same, ranged, rules_decide}
 pub use Rattle.vms_bodies.proofs.SpellLaws.{rules_append}
 pub use Rattle.vms_bodies.proofs.SubsOnly.{rules_split}
 pub use Rattle.vms_bodies.proofs.WalkLaws.{drop_next, place_first, zero_plus}

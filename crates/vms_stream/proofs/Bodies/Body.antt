@@ -1,20 +1,21 @@
 -- In the fields of a part the judge reads slot by slot, as the structural reader does: taking a slot is what is seen of its unit.
-use Rattle.vms_stream.proofs.Facade.{◌≡◌, ℕ, length, take, Option, Some, None, ℤ, refl, ap, ◌∙◌, Bool, true, false, not, nat_lt, ◌&&◌, if◌then◌else◌, zero, suc}
-use Rattle.vms_stream.proofs.Facade.{◌+◌, ◌<◌, List, [], ◌∷◌, get_or, drop, slice_set, Ok, Err, sym, arith, ◌==◌, slice_get, drop-append_seam, Kind, width}
-use Rattle.vms_stream.proofs.Facade.{value_of, Reason, is_truth, is_above, exceeds, same_number, is_bad_bool, number_at, Slot, desc_slots, meanings, desc_cells}
-use Rattle.vms_stream.proofs.Facade.{Progress, Taken, refuse, on, if_whole, take_value, take_slot, Refusal, take_desc, takers, cells_of, Piece, Number}
-use Rattle.vms_stream.proofs.Facade.{Constant, Filler, Configuration, Long, Head, SubHead, Foot, End, Start, Mark, raw_same, bad_same, raw, Field, Due, is_foot}
-use Rattle.vms_stream.proofs.Facade.{AfterFields, due_field, rules_hold, Whole, Cut, needs, Found, between_at, behind_at, unit_at, Seen, Good, Bad, Short, seen}
-use Rattle.vms_stream.proofs.Facade.{seen_in, seen_by, Known, Tail, beyond, skipped, first_row, alone, first_of, put, taken_by, LONGEST_NAME, Set, Device, Desc}
-use Rattle.vms_stream.proofs.Facade.{Image, Verdict, Faulty, Reading, Refused, reading_after, part_slots, reading_on, at_set, set_twice, one_unit, none_taken}
-use Rattle.vms_stream.proofs.Facade.{IsSound, AreSound, same_refl, drop_next, Comes, set_desc_comes, step, Walks, Is, steps_keep, cut_in, Grammar, judge}
-use Rattle.vms_stream.proofs.Facade.{judge_found, by_row, owes, State, Inside, image_at, part_at, known_at, after, by_state}
+use Rattle.vms_stream.proofs.Facade.{◌≡◌, if_both, ℕ, length, take, Option, Some, None, ℤ, refl, ap, ◌∙◌, Bool, true, false, not, nat_lt, ◌&&◌, if◌then◌else◌}
+use Rattle.vms_stream.proofs.Facade.{zero, suc, ◌+◌, ◌<◌, List, [], ◌∷◌, get_or, drop, slice_set, Ok, Err, sym, arith, ◌==◌, slice_get, drop-append_seam}
+use Rattle.vms_stream.proofs.Facade.{Kind, width, value_of, Reason, is_truth, is_above, exceeds, same_number, is_bad_bool, number_at, Slot, desc_slots}
+use Rattle.vms_stream.proofs.Facade.{meanings, desc_cells, Progress, Taken, refuse, on, if_whole, take_value, take_slot, Refusal, take_desc, takers, cells_of}
+use Rattle.vms_stream.proofs.Facade.{Piece, Number, Constant, Filler, Configuration, Long, Head, SubHead, Foot, End, Start, Mark, raw_same, bad_same, raw}
+use Rattle.vms_stream.proofs.Facade.{Field, Due, is_foot, AfterFields, due_field, rules_hold, Whole, Cut, needs, Found, between_at, behind_at, unit_at, Seen}
+use Rattle.vms_stream.proofs.Facade.{Good, Bad, Short, seen, seen_in, seen_by, Known, Tail, beyond, skipped, first_row, alone, first_of, put, taken_by}
+use Rattle.vms_stream.proofs.Facade.{LONGEST_NAME, Set, Device, Desc, Image, Verdict, Faulty, Reading, Refused, reading_after, part_slots, reading_on, at_set}
+use Rattle.vms_stream.proofs.Facade.{set_twice, one_unit, none_taken, IsSound, AreSound, same_refl, drop_next, Comes, set_desc_comes, step, Walks, Is}
+use Rattle.vms_stream.proofs.Facade.{steps_keep, cut_in, Grammar, judge, judge_found, by_row, owes, State, Inside, image_at, part_at, known_at, after}
+use Rattle.vms_stream.proofs.Facade.{by_state}
+use Rattle.vms_spec.specs.declared.Reason.TheVariants as reasons
 use Rattle.vms_spec.specs.Layout.{Number as NumberSlot, Constant as ConstantSlot, Filler as FillerSlot, Rule as RuleSlot}
 use Rattle.vms_spec.specs.Readings.{Over as IsOver}
 use Rattle.vms_bodies.proofs.StepLaws.{after as step_after, Refuses}
 use Rattle.vms_stream.proofs.Finding.Advancing.{advances}
 use Rattle.vms_stream.proofs.Judging.Mirrors.{solid}
-use Rattle.vms_spec.specs.declared.Reason.TheVariants as reasons
 
 -- a slot that is a unit
 abbrev pub IsUnit : Slot → Type 0
@@ -125,7 +126,7 @@ module _ (set : Set) (names : List (List ℕ)) (state : State) (d : Device) (ima
     by_slots i p slots h = rw (same i p (unit_at (g.due (in_body p.numbers i)) p.rest)) (ap (judged i p) (ap (drop i) (part_now p.numbers i) ∙ h))
 
     so : (i : ℕ) (p : Progress) (slots : List Slot) → drop i (total p.numbers) ≡ slots → goes_on i p ≡ reads p (judged i p slots)
-    so i p slots h = one i p ∙ ap (reads p) (by_slots i p slots h)
+    so i p slots h = cc (one i p, by_slots i p slots h)
 
     -- if no slot is skipped, one more slot is passed with the next unit
     counted : (numbers : List ℤ) (i : ℕ) (slots : List Slot) → drop i (total numbers) ≡ slots → skipped slots ≡ 0
@@ -224,7 +225,7 @@ module _ (set : Set) (names : List (List ℕ)) (state : State) (d : Device) (ima
     walk i p [] h = refl
     walk i p (NumberSlot c kind caps ∷ more) h = number_is i p c kind caps more h
     walk i p (ConstantSlot kind z ∷ more) h = constant_is i p kind z more h
-    walk i p (FillerSlot zero ∷ more) h = skips i p (FillerSlot 0) more h refl refl ∙ ap (goes i) (sym (none_taken p))
+    walk i p (FillerSlot zero ∷ more) h = cc (skips i p (FillerSlot 0) more h refl refl, none_taken p)
     walk i p (FillerSlot (suc n) ∷ more) h = filler_is i p n more h
     walk i p (RuleSlot true ∷ more) h = skips i p (RuleSlot true) more h refl refl
     walk i p (RuleSlot false ∷ more) h = so i p (RuleSlot false ∷ more) h
@@ -266,28 +267,25 @@ module _ (set : Set) (names : List (List ℕ)) (state : State) (d : Device) (ima
     Outer (Whole (Filler bytes) n) = ⊥
     Outer _ = Unit {0}
 
-    pick : (b : Bool) (v w : Found) → Outer v → Outer w → Outer (if b then v else w)
-    pick true v w f g = f
-    pick false v w f g = g
-
     needs_outer : (n : ℕ) (rest : List ℕ) (x : Piece) → Outer (Whole x n) → Outer (needs n rest x)
-    needs_outer n rest x o = pick (nat_lt (length rest) n) Cut (Whole x n) tt o
+    needs_outer n rest x o = if_both Outer (nat_lt (length rest) n) Cut (Whole x n) tt o
 
     between_outer : (first : Bool) (m : ℕ) (rest : List ℕ) → Outer (between_at first m rest)
     unfolding between_at
     between_outer first m rest =
         let size = number_at 4 1 rest in
-        pick (m == 0x00) _ _ (needs_outer 1 rest End tt)
-        (pick (m == 0x01) _ _ (needs_outer (6 + get_or rest 5 0) rest (Start _ _) tt)
-        (pick (m == 0x04) _ _ (needs_outer (14 + get_or rest 5 0) rest (Head _ _ _ _) tt)
-        (pick (m == 0x07 && first) _ _ (pick (nat_lt LONGEST_NAME size) _ _ (needs_outer 5 rest (Long 0x07 size) tt)
+        if_both Outer (m == 0x00) _ _ (needs_outer 1 rest End tt)
+        (if_both Outer (m == 0x01) _ _ (needs_outer (6 + get_or rest 5 0) rest (Start _ _) tt)
+        (if_both Outer (m == 0x04) _ _ (needs_outer (14 + get_or rest 5 0) rest (Head _ _ _ _) tt)
+        (if_both Outer (m == 0x07 && first) _ _ (if_both Outer (nat_lt LONGEST_NAME size) _ _ (needs_outer 5 rest (Long 0x07 size) tt)
         (needs_outer (5 + size) rest (Configuration _) tt)) (needs_outer 1 rest (Mark m) tt))))
 
     behind_outer : (t : Tail) (m : ℕ) (rest : List ℕ) → Outer (behind_at t m rest)
     unfolding behind_at
     behind_outer t m rest =
-        pick (m == 0x05) _ _ (needs_outer (6 + get_or rest 1 0) rest (SubHead _ _) tt)
-        (pick (is_foot t m) _ _ (pick (m == 0x7e) _ _ (needs_outer 5 rest (Foot _) tt) (needs_outer 1 rest (Mark m) tt)) (between_outer false m rest))
+        if_both Outer (m == 0x05) _ _ (needs_outer (6 + get_or rest 1 0) rest (SubHead _ _) tt)
+        (if_both Outer (is_foot t m) _ _ (if_both Outer (m == 0x7e) _ _ (needs_outer 5 rest (Foot _) tt) (needs_outer 1 rest (Mark m) tt))
+        (between_outer false m rest))
 
     outer_same : (i j : ℕ) (p : Progress) (f : Found) → Outer f → verdict i p (AfterFields k state.tail) f ≡ verdict j p (AfterFields k state.tail) f
     outer_same i j p (Whole (Number c kind z) n) o = absurd o
@@ -298,5 +296,4 @@ module _ (set : Set) (names : List (List ℕ)) (state : State) (d : Device) (ima
     -- if all slots are passed, what may follow the fields is found, whatever their number
     pub after_read : (i : ℕ) (p : Progress) → drop i (total p.numbers) ≡ []
         → goes_on i p ≡ reads p (verdict 0 p (AfterFields k state.tail) (unit_at (AfterFields k state.tail) p.rest))
-    after_read i p h =
-        so i p [] h ∙ ap (reads p) (outer_same i 0 p (unit_at (AfterFields k state.tail) p.rest) (behind_outer state.tail (get_or p.rest 0 0) p.rest))
+    after_read i p h = cc (so i p [] h, outer_same i 0 p (unit_at (AfterFields k state.tail) p.rest) (behind_outer state.tail (get_or p.rest 0 0) p.rest))

@@ -1,16 +1,17 @@
 -- What a cursor's call sees, and what the judge says; a unit between sections after the fields.
-use Rattle.vms_stream.proofs.Facade.{◌≡◌, ℕ, ◌+◌, List, ◌∷◌, length, get_or, Option, Some, None, refl, ap, ◌∙◌, Bool, true, false, not, nat_lt, ◌==◌, ◌&&◌}
-use Rattle.vms_stream.proofs.Facade.{if◌then◌else◌, [], ◌||◌, zero, suc, ◌++◌, take, both_ways, not-true, or-not_self, LONGEST_NAME, Reason, Set, Image}
-use Rattle.vms_stream.proofs.Facade.{number_at, bytes_at, Verdict, Faulty, Over, Piece, Configuration, Long, Head, End, Start, Mark, Number, Constant, Filler}
-use Rattle.vms_stream.proofs.Facade.{SubHead, Foot, if_true, Tail, Unknown, Footed, Bare, Known, Due, Between, AfterFields, begins_next, rules_hold, AMagic}
-use Rattle.vms_stream.proofs.Facade.{AVersion, Field, AfterEnd, Nothing, is_foot, is_next, due_field, Found, Whole, Cut, needs, between_at, unit_at, sub_at}
-use Rattle.vms_stream.proofs.Facade.{behind_at, cut_in, first_of, is_between, wants_foot, is_ram, Row, first_row, alone, asking, other_constant, large_count}
-use Rattle.vms_stream.proofs.Facade.{bad_foot, judge, judge_found, by_row, owes, State, Free, Inside, due_by, known_at, slots_at, after, by_state, Spot, Before}
-use Rattle.vms_stream.proofs.Facade.{Headed, Ended, open_at, width, Slot, Bad, seen_in, seen_by, judge_seen, ask, begins_section, JudgedLaw, NextLaw, SeenLaw}
+use Rattle.vms_stream.proofs.Facade.{◌≡◌, if_both, if_so, ℕ, ◌+◌, List, ◌∷◌, length, get_or, Option, Some, None, refl, ap, ◌∙◌, Bool, true, false, not}
+use Rattle.vms_stream.proofs.Facade.{nat_lt, ◌==◌, ◌&&◌, if◌then◌else◌, [], ◌||◌, zero, suc, ◌++◌, take, both_ways, not-true, or-not_self, LONGEST_NAME}
+use Rattle.vms_stream.proofs.Facade.{Reason, Set, Image, number_at, bytes_at, Verdict, Faulty, Over, Piece, Configuration, Long, Head, End, Start, Mark}
+use Rattle.vms_stream.proofs.Facade.{Number, Constant, Filler, SubHead, Foot, if_true, Tail, Unknown, Footed, Bare, Known, Due, Between, AfterFields}
+use Rattle.vms_stream.proofs.Facade.{begins_next, rules_hold, AMagic, AVersion, Field, AfterEnd, Nothing, is_foot, is_next, due_field, Found, Whole, Cut}
+use Rattle.vms_stream.proofs.Facade.{needs, between_at, unit_at, sub_at, behind_at, cut_in, first_of, is_between, wants_foot, is_ram, Row, first_row, alone}
+use Rattle.vms_stream.proofs.Facade.{asking, other_constant, large_count, bad_foot, judge, judge_found, by_row, owes, State, Free, Inside, due_by, known_at}
+use Rattle.vms_stream.proofs.Facade.{slots_at, after, by_state, Spot, Before, Headed, Ended, open_at, width, Slot, Bad, seen_in, seen_by, judge_seen, ask}
+use Rattle.vms_stream.proofs.Facade.{begins_section, JudgedLaw, NextLaw, SeenLaw}
+use Rattle.vms_spec.specs.declared.Reason.TheVariants as reasons
 use Rattle.vms_stream.specs.State.{Over as IsOver}
 use Rattle.vms_stream.proofs.Finding.There.{next_at}
 use Rattle.vms_spec.specs.Layout.{Number as NumberSlot, Constant as ConstantSlot, Filler as FillerSlot, Rule as RuleSlot}
-use Rattle.vms_spec.specs.declared.Reason.TheVariants as reasons
 
 -- what begins there is between sections, and no footer
 next_between : (k : ℕ) (t : Tail) (rest : List ℕ) → begins_next t rest ≡ true → (is_between (AfterFields k t) ≡ true) × (wants_foot (AfterFields k t) ≡ false)
@@ -53,13 +54,9 @@ module _ (set : Set) (names : List (List ℕ)) (machine : Option (List ℕ)) (im
   abbrev IsOuter : Found → Type 0
   IsOuter f = verdict (AfterFields k t) f ≡ judge_found (by_state set names) outer rest f
 
-  pick : (b : Bool) (v w : Found) → IsOuter v → IsOuter w → IsOuter (if b then v else w)
-  pick true v w f g = f
-  pick false v w f g = g
-
   module _ (e : begins_next t rest ≡ true) where
     needs_outer : (m : ℕ) (x : Piece) → IsOuter (Whole x m) → IsOuter (needs m rest x)
-    needs_outer m x h = pick (nat_lt (length rest) m) Cut (Whole x m) (rw e) h
+    needs_outer m x h = if_both IsOuter (nat_lt (length rest) m) Cut (Whole x m) (rw e) h
 
     start_outer : (m its : ℕ) (name : List ℕ) → IsOuter (Whole (Start its name) m)
     start_outer m its name = by (is_ram name)
@@ -77,10 +74,10 @@ module _ (set : Set) (names : List (List ℕ)) (machine : Option (List ℕ)) (im
     between_outer b mark =
         let size = number_at 4 1 rest in
         let name = get_or rest 5 0 in
-        pick (b == 0x00) _ _ (needs_outer 1 End refl)
-        (pick (b == 0x01) _ _ (needs_outer (6 + name) _ (start_outer (6 + name) size (bytes_at name 6 rest)))
-        (pick (b == 0x04) _ _ (needs_outer (14 + name) (Head _ _ _ _) refl)
-        (pick (b == 0x07 && false) _ _ (pick (nat_lt LONGEST_NAME size) _ _ (needs_outer 5 (Long 0x07 size) refl)
+        if_both IsOuter (b == 0x00) _ _ (needs_outer 1 End refl)
+        (if_both IsOuter (b == 0x01) _ _ (needs_outer (6 + name) _ (start_outer (6 + name) size (bytes_at name 6 rest)))
+        (if_both IsOuter (b == 0x04) _ _ (needs_outer (14 + name) (Head _ _ _ _) refl)
+        (if_both IsOuter (b == 0x07 && false) _ _ (if_both IsOuter (nat_lt LONGEST_NAME size) _ _ (needs_outer 5 (Long 0x07 size) refl)
         (needs_outer (5 + size) (Configuration (bytes_at size 5 rest)) refl)) (needs_outer 1 (Mark b) (mark 1)))))
 
     unit_is : unit_at (AfterFields k t) rest ≡ unit_at (Between false false) rest
@@ -156,12 +153,8 @@ module _ (k : Known) where
   OfOpen d (Whole x n) = Of k.section (first_row (alone d k x))
   OfOpen d Cut = Unit {0}
 
-  test : (d : Due) (b : Bool) (v w : Found) → (b ≡ true → OfOpen d v) → (b ≡ false → OfOpen d w) → OfOpen d (if b then v else w)
-  test d true v w f g = f refl
-  test d false v w f g = g refl
-
   whole : (d : Due) (rest : List ℕ) (m : ℕ) (x : Piece) → Of k.section (first_row (alone d k x)) → OfOpen d (needs m rest x)
-  whole d rest m x h = test d (nat_lt (length rest) m) Cut (Whole x m) (λ e. tt) (λ e. h)
+  whole d rest m x h = if_so (OfOpen d) (nat_lt (length rest) m) Cut (Whole x m) (λ e. tt) (λ e. h)
 
   two_rows : (a b : Bool) (p q : Reason) → Of k.section (if a then Some (k.section, p) else if b then Some (k.section, q) else None)
   two_rows false false p q = tt
@@ -183,9 +176,9 @@ module _ (k : Known) where
   unfolding behind_at
   behind_of j t b rest h =
       let d = AfterFields j t in
-      test d (b == 0x05) (sub_at rest (get_or rest 1 0)) _ (λ _. whole d rest (6 + get_or rest 1 0) (SubHead _ _) tt)
-      (λ e. test d (is_foot t b) (if b == 0x7e then needs 5 rest (Foot (number_at 4 1 rest)) else needs 1 rest (Mark b)) (between_at false b rest)
-      (λ f. test d (b == 0x7e) (needs 5 rest (Foot (number_at 4 1 rest))) (needs 1 rest (Mark b))
+      if_so (OfOpen d) (b == 0x05) (sub_at rest (get_or rest 1 0)) _ (λ _. whole d rest (6 + get_or rest 1 0) (SubHead _ _) tt)
+      (λ e. if_so (OfOpen d) (is_foot t b) (if b == 0x7e then needs 5 rest (Foot (number_at 4 1 rest)) else needs 1 rest (Mark b)) (between_at false b rest)
+      (λ f. if_so (OfOpen d) (b == 0x7e) (needs 5 rest (Foot (number_at 4 1 rest))) (needs 1 rest (Mark b))
       (λ _. whole d rest 5 (Foot (number_at 4 1 rest)) (two_rows _ false reasons.BadFooter reasons.BadFooter))
       (λ g. whole d rest 1 (Mark b) (mark_of j t b f g)))
       (λ f. let wrong : not (false || false) ≡ false = rw (e, f) at h in cc))
@@ -244,8 +237,7 @@ module _ (set : Set) (names : List (List ℕ)) (s : State) (rest : List ℕ) whe
 
   by_found : (f : Found) → OfOpen k d f → cut_in d rest k.section ≡ k.section → owes d rest ≡ true
       → judge_found (by_state set names) s rest f ≡ judge_seen k.section (ask set names s) rest (seen_in d k f)
-  by_found (Whole x n) h c o =
-      ap (λ o. by_row (by_state set names) o n (after set s x)) (first_append (alone d k x) (asking set names k x)) ∙ by_line x n (first_row (alone d k x)) h
+  by_found (Whole x n) h c o = rw (first_append (alone d k x) (asking set names k x)) (by_line x n (first_row (alone d k x)) h)
   by_found Cut h c o = rw (o, c)
 
 pub judged_holds : JudgedLaw

@@ -1,20 +1,16 @@
 -- A unit that is found has at least one byte, and all its bytes are there. So a reading advances.
-use Rattle.vms_stream.proofs.Facade.{◌≡◌, ℕ, zero, suc, ◌+◌, ◌<◌, ◌≤◌, List, [], ◌∷◌, length, get_or, take, drop, Option, Some, None, refl, subst, arith, Bool}
-use Rattle.vms_stream.proofs.Facade.{true, false, nat_lt, ◌==◌, ◌&&◌, if◌then◌else◌, ltb-false, width, LONGEST_NAME, Reason, Set, Slot, longest_text, number_at}
-use Rattle.vms_stream.proofs.Facade.{bytes_at, Verdict, Goes, Over, Piece, Magic, Version, Configuration, Long, Number, Constant, Filler, Foot, End}
-use Rattle.vms_stream.proofs.Facade.{Description, Mark, opened, slots, Due, is_foot, AMagic, AVersion, Between, Field, AfterFields, AfterEnd, due, due_field}
-use Rattle.vms_stream.proofs.Facade.{Advances, width_positive, Found, Whole, Cut, needs, text_at, between_at, behind_at, trailer_at, unit_at, Grammar, judge}
-use Rattle.vms_stream.proofs.Facade.{judge_found, by_row, owes, Tail, passed, tail}
-use Rattle.vms_spec.specs.Layout.{Number as NumberSlot, Constant as ConstantSlot, Filler as FillerSlot, Rule as RuleSlot}
+use Rattle.vms_stream.proofs.Facade.{◌≡◌, if_both, ℕ, zero, suc, ◌+◌, ◌<◌, ◌≤◌, List, [], ◌∷◌, length, get_or, take, drop, Option, Some, None, refl, subst}
+use Rattle.vms_stream.proofs.Facade.{arith, Bool, true, false, nat_lt, ◌==◌, ◌&&◌, if◌then◌else◌, ltb-false, width, LONGEST_NAME, Reason, Set, Slot}
+use Rattle.vms_stream.proofs.Facade.{longest_text, number_at, bytes_at, Verdict, Goes, Over, Piece, Magic, Version, Configuration, Long, Number, Constant}
+use Rattle.vms_stream.proofs.Facade.{Filler, Foot, End, Description, Mark, opened, slots, Due, is_foot, AMagic, AVersion, Between, Field, AfterFields}
+use Rattle.vms_stream.proofs.Facade.{AfterEnd, due, due_field, Advances, width_positive, Found, Whole, Cut, needs, text_at, between_at, behind_at, trailer_at}
+use Rattle.vms_stream.proofs.Facade.{unit_at, Grammar, judge, judge_found, by_row, owes, Tail, passed, tail}
 use Rattle.vms_spec.specs.declared.Reason.TheVariants as reasons
+use Rattle.vms_spec.specs.Layout.{Number as NumberSlot, Constant as ConstantSlot, Filler as FillerSlot, Rule as RuleSlot}
 
 abbrev Stays : List ℕ → Found → Type 0
 Stays rest (Whole x n) = (0 < n) × (n ≤ length rest)
 Stays rest Cut = Unit {0}
-
-choice : (rest : List ℕ) (b : Bool) (v w : Found) → Stays rest v → Stays rest w → Stays rest (if b then v else w)
-choice rest true v w f g = f
-choice rest false v w f g = g
 
 some_bytes : (n : ℕ) (rest : List ℕ) (x : Piece) → 0 < n → Stays rest (needs n rest x)
 some_bytes n rest x h = by (nat_lt (length rest) n) refl
@@ -25,15 +21,17 @@ some_bytes n rest x h = by (nat_lt (length rest) n) refl
 
 text_stays : (mark longest : ℕ) (unit : List ℕ → Piece) (rest : List ℕ) (n : ℕ) → Stays rest (text_at mark longest unit rest n)
 text_stays mark longest unit rest n =
-    choice rest (nat_lt longest n) _ _ (some_bytes 5 rest (Long mark n) (omega arith)) (some_bytes (5 + n) rest (unit (bytes_at n 5 rest)) (omega arith))
+    if_both (Stays rest) (nat_lt longest n) _ _ (some_bytes 5 rest (Long mark n) (omega arith))
+    (some_bytes (5 + n) rest (unit (bytes_at n 5 rest)) (omega arith))
 
 between_stays : (first : Bool) (m : ℕ) (rest : List ℕ) → Stays rest (between_at first m rest)
 unfolding between_at
 between_stays first m rest =
-    choice rest (m == 0x00) _ _ (some_bytes 1 rest End (omega arith))
-    (choice rest (m == 0x01) _ _ (some_bytes (6 + get_or rest 5 0) rest _ (omega arith))
-    (choice rest (m == 0x04) _ _ (some_bytes (14 + get_or rest 5 0) rest _ (omega arith))
-    (choice rest (m == 0x07 && first) _ _ (text_stays 0x07 LONGEST_NAME Configuration rest (number_at 4 1 rest)) (some_bytes 1 rest (Mark m) (omega arith)))))
+    if_both (Stays rest) (m == 0x00) _ _ (some_bytes 1 rest End (omega arith))
+    (if_both (Stays rest) (m == 0x01) _ _ (some_bytes (6 + get_or rest 5 0) rest _ (omega arith))
+    (if_both (Stays rest) (m == 0x04) _ _ (some_bytes (14 + get_or rest 5 0) rest _ (omega arith))
+    (if_both (Stays rest) (m == 0x07 && first) _ _ (text_stays 0x07 LONGEST_NAME Configuration rest (number_at 4 1 rest))
+    (some_bytes 1 rest (Mark m) (omega arith)))))
 
 -- no filler of 0 bytes is due
 abbrev pub IsSolid : Due → Type 0
@@ -51,12 +49,12 @@ stays (Field k (FillerSlot zero)) rest solid = absurd solid
 stays (Field k (FillerSlot (suc n))) rest solid = some_bytes (suc n) rest (Filler (take (suc n) rest)) (omega arith)
 stays (AfterFields k tail) rest solid =
     let m = get_or rest 0 0 in
-    choice rest (m == 0x05) _ _ (some_bytes (6 + get_or rest 1 0) rest _ (omega arith))
-    (choice rest (is_foot tail m) _ _
-    (choice rest (m == 0x7e) _ _ (some_bytes 5 rest (Foot (number_at 4 1 rest)) (omega arith)) (some_bytes 1 rest (Mark m) (omega arith)))
+    if_both (Stays rest) (m == 0x05) _ _ (some_bytes (6 + get_or rest 1 0) rest _ (omega arith))
+    (if_both (Stays rest) (is_foot tail m) _ _
+    (if_both (Stays rest) (m == 0x7e) _ _ (some_bytes 5 rest (Foot (number_at 4 1 rest)) (omega arith)) (some_bytes 1 rest (Mark m) (omega arith)))
     (between_stays false m rest))
 stays AfterEnd rest solid =
-    choice rest (get_or rest 0 0 == 0x06) _ _ (text_stays 0x06 longest_text Description rest (number_at 4 1 rest))
+    if_both (Stays rest) (get_or rest 0 0 == 0x06) _ _ (text_stays 0x06 longest_text Description rest (number_at 4 1 rest))
     (some_bytes 1 rest (Mark (get_or rest 0 0)) (omega arith))
 stays _ rest solid = tt
 
@@ -69,18 +67,14 @@ module _ {S : Type 0} (g : Grammar S) (solid : (s : S) → IsSolid (g.due s)) wh
   on_row rest None n next h = h
   on_row rest (Some (section, reason)) n next h = tt
 
-  on_test : (rest : List ℕ) (b : Bool) (v w : Verdict S) → Advanced rest v → Advanced rest w → Advanced rest (if b then v else w)
-  on_test rest true v w f g = f
-  on_test rest false v w f g = g
-
   on_found : (s : S) (rest : List ℕ) (f : Found) → Stays rest f → Advanced rest (judge_found g s rest f)
   on_found s rest (Whole x n) h = on_row rest (g.reason s x) n (g.after s x) h
-  on_found s rest Cut h = on_test rest (owes (g.due s) rest) _ (Over s) tt tt
+  on_found s rest Cut h = if_both (Advanced rest) (owes (g.due s) rest) _ (Over s) tt tt
 
   pub advances : Advances (judge g)
   advances = record {
     goes = λ s rest n next e. subst (Advanced rest) e
-        (on_test rest (g.holds s) _ _ (on_found s rest (unit_at (g.due s) rest) (stays (g.due s) rest (solid s))) tt);
+        (if_both (Advanced rest) (g.holds s) _ _ (on_found s rest (unit_at (g.due s) rest) (stays (g.due s) rest (solid s))) tt);
   }
 
 -- of the units so far: the fields that are due leave fillers of 0 bytes out

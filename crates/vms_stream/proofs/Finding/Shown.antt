@@ -1,14 +1,14 @@
 -- What is found may come, and is spelled at the front.
-use Rattle.vms_stream.proofs.Facade.{◌≡◌, ℕ, ◌+◌, ◌<◌, ◌≤◌, List, ◌∷◌, ◌++◌, length, get_or, take, drop, refl, sym, ap, ◌∙◌, arith, append_assoc, length-append}
-use Rattle.vms_stream.proofs.Facade.{length-drop, get_or-drop, Bool, true, false, not, nat_lt, ◌==◌, ◌&&◌, if◌then◌else◌, [], ◌||◌, ltb-true, ltb-false}
-use Rattle.vms_stream.proofs.Facade.{eqb-true, or_from, and_parts, length-take-le, drop-drop, take-append-drop, width, code, value_of, InRange, Kind}
-use Rattle.vms_stream.proofs.Facade.{bytes_first, LONGEST_NAME, IsBytes, be32, longest_text, number_at, bytes_at, Piece, Magic, Version, Configuration, Long}
-use Rattle.vms_stream.proofs.Facade.{Head, Number, Constant, Filler, SubHead, Foot, End, Description, Start, Mark, spell, Due, AMagic, AVersion, Between, Field}
-use Rattle.vms_stream.proofs.Facade.{AfterFields, AfterEnd, May, AtMagic, AtVersion, AtConfiguration, AtLongName, AtStart, AtHead, AtEnd, AtMark, AtNumber}
-use Rattle.vms_stream.proofs.Facade.{AtConstant, AtFiller, AtSubHead, AtFoot, AtOther, AtNext, is_foot, is_next, first_byte, AtDescription, AtLongText}
-use Rattle.vms_stream.proofs.Facade.{AtTrailing, raw, fits_four, length-code, is_bytes_drop, four_low, split_one, split_four, head_bytes, text_long, sub_bytes}
-use Rattle.vms_stream.proofs.Facade.{raw_take, Found, Whole, Cut, needs, start_at, head_at, sub_at, text_at, between_at, behind_at, trailer_at, unit_at}
-use Rattle.vms_stream.proofs.Facade.{IsThere, Tail}
+use Rattle.vms_stream.proofs.Facade.{◌≡◌, if_so, ℕ, ◌+◌, ◌<◌, ◌≤◌, List, ◌∷◌, ◌++◌, length, get_or, take, drop, refl, sym, ap, ◌∙◌, arith, append_assoc}
+use Rattle.vms_stream.proofs.Facade.{length-append, length-drop, get_or-drop, Bool, true, false, not, nat_lt, ◌==◌, ◌&&◌, if◌then◌else◌, [], ◌||◌, ltb-true}
+use Rattle.vms_stream.proofs.Facade.{ltb-false, eqb-true, or_from, and_parts, length-take-le, drop-drop, take-append-drop, width, code, value_of, InRange}
+use Rattle.vms_stream.proofs.Facade.{Kind, bytes_first, LONGEST_NAME, IsBytes, be32, longest_text, number_at, bytes_at, Piece, Magic, Version, Configuration}
+use Rattle.vms_stream.proofs.Facade.{Long, Head, Number, Constant, Filler, SubHead, Foot, End, Description, Start, Mark, spell, Due, AMagic, AVersion}
+use Rattle.vms_stream.proofs.Facade.{Between, Field, AfterFields, AfterEnd, May, AtMagic, AtVersion, AtConfiguration, AtLongName, AtStart, AtHead, AtEnd}
+use Rattle.vms_stream.proofs.Facade.{AtMark, AtNumber, AtConstant, AtFiller, AtSubHead, AtFoot, AtOther, AtNext, is_foot, is_next, AtDescription, AtLongText}
+use Rattle.vms_stream.proofs.Facade.{AtTrailing, raw, fits_four, length-code, is_bytes_drop, four_low, split_one, split_four, head_bytes, text_long}
+use Rattle.vms_stream.proofs.Facade.{sub_bytes, raw_take, Found, Whole, Cut, needs, start_at, head_at, sub_at, text_at, between_at, behind_at, trailer_at}
+use Rattle.vms_stream.proofs.Facade.{unit_at, IsThere, Tail}
 use Rattle.vms_spec.specs.Layout.{Number as NumberSlot, Constant as ConstantSlot, Filler as FillerSlot}
 use Rattle.vms_bodies.proofs.HeadFound.{text_at as what_follows}
 use Rattle.vms_stream.proofs.Finding.There.{begins}
@@ -17,22 +17,16 @@ abbrev pub Shows : Due → List ℕ → Found → Type 0
 Shows d rest (Whole x n) = IsThere d rest x n
 Shows d rest Cut = Unit {0}
 
-by_test : (d : Due) (rest : List ℕ) (b : Bool) (v w : Found) → (b ≡ true → Shows d rest v) → (b ≡ false → Shows d rest w) → Shows d rest (if b then v else w)
-by_test d rest true v w f g = f refl
-by_test d rest false v w f g = g refl
-
 whole : (d : Due) (rest : List ℕ) (n : ℕ) (x : Piece) → (n ≤ length rest → IsThere d rest x n) → Shows d rest (needs n rest x)
-whole d rest n x f = by_test d rest (nat_lt (length rest) n) Cut (Whole x n) (λ t. tt) (λ e. f (ltb-false (length rest) n e))
+whole d rest n x f = if_so (Shows d rest) (nat_lt (length rest) n) Cut (Whole x n) (λ t. tt) (λ e. f (ltb-false (length rest) n e))
 
 one_byte : (rest : List ℕ) (m : ℕ) → get_or rest 0 0 ≡ m → 1 ≤ length rest → rest ≡ m ∷ drop 1 rest
-one_byte rest m e le = split_one rest le ∙ ap (λ k. k ∷ drop 1 rest) e
+one_byte rest m e le = cc (split_one rest le)
 
 -- a mark and a number
 mark_four : (rest : List ℕ) (m : ℕ) → IsBytes rest → get_or rest 0 0 ≡ m → 5 ≤ length rest → rest ≡ m ∷ (be32 (number_at 4 1 rest) ++ drop 5 rest)
 mark_four rest m ok e le =
-    one_byte rest m e (omega arith)
-    ∙ ap (λ l. m ∷ l) (split_four (drop 1 rest) (is_bytes_drop 1 rest ok) (omega (arith, length-drop 1 rest)) ∙ ap
-    (λ (l : List ℕ). be32 (number_at 4 1 rest) ++ l) (drop-drop 4 1 rest))
+    cc (one_byte rest m e (omega arith), split_four (drop 1 rest) (is_bytes_drop 1 rest ok) (omega (arith, length-drop 1 rest)), drop-drop 4 1 rest)
 
 number_low : (rest : List ℕ) (k : ℕ) → IsBytes rest → fits_four (number_at 4 k rest)
 number_low rest k ok = four_low (drop k rest) (is_bytes_drop k rest ok)
@@ -52,7 +46,7 @@ text_shown : (d : Due) (rest : List ℕ) (mark longest : ℕ) (unit : List ℕ �
 text_shown d rest mark longest unit ok e spelled may_text may_long =
     let n = number_at 4 1 rest in
     let name = bytes_at n 5 rest in
-    by_test d rest (nat_lt longest n) (needs 5 rest (Long mark n)) (needs (5 + n) rest (unit name))
+    if_so (Shows d rest) (nat_lt longest n) (needs 5 rest (Long mark n)) (needs (5 + n) rest (unit name))
     (λ t. whole d rest 5 (Long mark n)
     (λ le. record { may = may_long n (ltb-true longest n t) (number_low rest 1 ok); long = refl; there = mark_four rest mark ok e le }))
     (λ f. whole d rest (5 + n) (unit name) (λ le.
@@ -66,8 +60,7 @@ text_shown d rest mark longest unit ok e spelled may_text may_long =
     }))
 
 mark_shown : (d : Due) (rest : List ℕ) (x : Piece) (m : ℕ) → get_or rest 0 0 ≡ m → spell x ≡ m ∷ [] → May d x → Shows d rest (needs 1 rest x)
-mark_shown d rest x m e spelled may =
-    whole d rest 1 x (λ le. record { may = may; long = ap length spelled; there = one_byte rest m e le ∙ ap (λ l. l ++ drop 1 rest) (sym spelled) })
+mark_shown d rest x m e spelled may = whole d rest 1 x (λ le. record { may = may; long = ap length spelled; there = cc (one_byte rest m e le) })
 
 start_shown : (first after : Bool) (rest : List ℕ) (n : ℕ) → IsBytes rest → get_or rest 0 0 ≡ 0x01 → get_or rest 5 0 ≡ n
     → Shows (Between first after) rest (start_at rest n)
@@ -76,9 +69,7 @@ start_shown first after rest n ok mark size =
     let name = bytes_at n 6 rest in
     whole (Between first after) rest (6 + n) (Start id name) (λ le.
     let len : length name ≡ n = text_long n 6 rest le in
-    let e3 : drop 5 rest ≡ n ∷ drop 6 rest =
-    split_one (drop 5 rest) (omega (arith, length-drop 5 rest)) ∙ ap (λ b. b ∷ drop 1 (drop 5 rest)) (get_or-drop 5 rest 0 0 ∙ size) ∙ ap
-    (λ (l : List ℕ). n ∷ l) (drop-drop 1 5 rest) in
+    let e3 : drop 5 rest ≡ n ∷ drop 6 rest = cc (split_one (drop 5 rest) (omega (arith, length-drop 5 rest)), get_or-drop 5 rest 0 0, drop-drop 1 5 rest) in
     record {
       may = AtStart first after id name (number_low rest 1 ok);
       long = omega (arith, len);
@@ -115,7 +106,7 @@ unfolding between_at
 between_shown first after m rest ok e =
     let d = Between first after in
     let named = text_at 0x07 LONGEST_NAME Configuration rest (number_at 4 1 rest) in
-    let test = by_test d rest in
+    let test = if_so (Shows d rest) in
     test (m == 0x00) (needs 1 rest End) _ (λ t. mark_shown d rest End 0 (e ∙ eqb-true m 0 t) refl (AtEnd first after))
     (λ f0. test (m == 0x01) (start_at rest (get_or rest 5 0)) _ (λ t. start_shown first after rest (get_or rest 5 0) ok (e ∙ eqb-true m 1 t) refl)
     (λ f1. test (m == 0x04) (head_at rest (get_or rest 5 0)) _ (λ t. head_shown first after rest (get_or rest 5 0) ok (e ∙ eqb-true m 4 t) refl)
@@ -136,16 +127,16 @@ next_shown : (k : ℕ) (tail : Tail) (rest : List ℕ) (f : Found) → is_next t
     → Shows (AfterFields k tail) rest f
 next_shown k tail rest Cut n ok s = tt
 next_shown k tail rest (Whole x m) n ok s =
-    let e : first_byte x ≡ get_or rest 0 0 = begins x (drop m rest) s.may ∙ ap (λ l. get_or l 0 0) (sym s.there) in
-    record { may = AtNext k tail x (ap (is_next tail) e ∙ n) s.may; long = s.long; there = s.there }
+    record { may = AtNext k tail x (ap (is_next tail) (cc (begins x (drop m rest) s.may)) ∙ n) s.may; long = s.long; there = s.there }
 
 behind_shown : (k : ℕ) (tail : Tail) (m : ℕ) (rest : List ℕ) → IsBytes rest → get_or rest 0 0 ≡ m → Shows (AfterFields k tail) rest (behind_at tail m rest)
 unfolding behind_at
 behind_shown k tail m rest ok e =
     let d = AfterFields k tail in
-    by_test d rest (m == 0x05) (sub_at rest (get_or rest 1 0)) _ (λ t. sub_shown k tail rest (get_or rest 1 0) ok (e ∙ eqb-true m 5 t) refl)
-    (λ f5. by_test d rest (is_foot tail m) (if m == 0x7e then needs 5 rest (Foot (number_at 4 1 rest)) else needs 1 rest (Mark m)) (between_at false m rest)
-    (λ t. by_test d rest (m == 0x7e) (needs 5 rest (Foot (number_at 4 1 rest))) (needs 1 rest (Mark m))
+    let test = if_so (Shows d rest) in
+    test (m == 0x05) (sub_at rest (get_or rest 1 0)) _ (λ t. sub_shown k tail rest (get_or rest 1 0) ok (e ∙ eqb-true m 5 t) refl)
+    (λ f5. test (is_foot tail m) (if m == 0x7e then needs 5 rest (Foot (number_at 4 1 rest)) else needs 1 rest (Mark m)) (between_at false m rest)
+    (λ t. test (m == 0x7e) (needs 5 rest (Foot (number_at 4 1 rest))) (needs 1 rest (Mark m))
     (λ f. let at = eqb-true m 0x7e f in
     whole d rest 5 (Foot (number_at 4 1 rest))
     (λ le. record {
@@ -161,7 +152,7 @@ behind_shown k tail m rest ok e =
 trailer_shown : (m : ℕ) (rest : List ℕ) → IsBytes rest → get_or rest 0 0 ≡ m → Shows AfterEnd rest (trailer_at m rest)
 unfolding trailer_at
 trailer_shown m rest ok e =
-    by_test AfterEnd rest (m == 0x06) (text_at 0x06 longest_text Description rest (number_at 4 1 rest)) (needs 1 rest (Mark m))
+    if_so (Shows AfterEnd rest) (m == 0x06) (text_at 0x06 longest_text Description rest (number_at 4 1 rest)) (needs 1 rest (Mark m))
     (λ t. text_shown AfterEnd rest 0x06 longest_text Description ok (e ∙ eqb-true m 6 t) (λ name. refl) (λ name le. AtDescription name le)
     (λ n lt f. AtLongText n lt f)) (λ f. mark_shown AfterEnd rest (Mark m) m e refl (AtTrailing m f))
 

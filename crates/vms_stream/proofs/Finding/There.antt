@@ -1,10 +1,10 @@
 -- A unit that may come and is spelled at the front is the one that is found.
 use Rattle.vms_stream.proofs.Facade.{◌≡◌, ℕ, ◌+◌, ◌<◌, ◌≤◌, List, ◌∷◌, ◌++◌, length, get_or, take, drop, ℤ, refl, sym, ap, ◌∙◌, arith, append_assoc}
 use Rattle.vms_stream.proofs.Facade.{length-append, true, false, ◌==◌, ◌&&◌, if◌then◌else◌, ◌||◌, drop-drop, lt-ltb, le-ltb, eqb-true, or_parts, not-true}
-use Rattle.vms_stream.proofs.Facade.{big_number, Kind, U8, width, code, value_of, InRange, LONGEST_NAME, be32, longest_text, number_at, bytes_at, Piece, Magic}
-use Rattle.vms_stream.proofs.Facade.{Version, Configuration, Long, Head, Number, Constant, Filler, SubHead, Foot, End, Description, Start, Mark, spell, Due}
-use Rattle.vms_stream.proofs.Facade.{Between, May, AtMagic, AtVersion, AtConfiguration, AtLongName, AtStart, AtHead, AtEnd, AtMark, AtNumber, AtConstant}
-use Rattle.vms_stream.proofs.Facade.{AtFiller, AtSubHead, AtFoot, AtOther, AtNext, is_foot, is_next, first_byte, AtDescription, AtLongText, AtTrailing, raw}
+use Rattle.vms_stream.proofs.Facade.{Kind, U8, width, code, value_of, InRange, LONGEST_NAME, be32, longest_text, number_at, bytes_at, Piece, Magic, Version}
+use Rattle.vms_stream.proofs.Facade.{Configuration, Long, Head, Number, Constant, Filler, SubHead, Foot, End, Description, Start, Mark, spell, Due, Between}
+use Rattle.vms_stream.proofs.Facade.{May, AtMagic, AtVersion, AtConfiguration, AtLongName, AtStart, AtHead, AtEnd, AtMark, AtNumber, AtConstant, AtFiller}
+use Rattle.vms_stream.proofs.Facade.{AtSubHead, AtFoot, AtOther, AtNext, is_foot, is_next, first_byte, AtDescription, AtLongText, AtTrailing, raw}
 use Rattle.vms_stream.proofs.Facade.{length-code, value_code, be32_read, front_take, front_drop, Whole, needs, text_at, between_at, behind_at, trailer_at}
 use Rattle.vms_stream.proofs.Facade.{unit_at, Bare, Footed, Tail, Unknown}
 use Rattle.vms_kinds.specs.declared.Kind.TheVariants.{Bool as Truth}
@@ -30,7 +30,7 @@ text_there : (mark longest : ℕ) (unit : List ℕ → Piece) (name more : List 
     → text_at mark longest unit (spell (unit name) ++ more) (number_at 4 1 (spell (unit name) ++ more)) ≡ Whole (unit name) (length (spell (unit name)))
 text_there mark longest unit name more low le e =
     let r = spell (unit name) ++ more in
-    let n : number_at 4 1 r ≡ length name = ap (λ l. number_at 4 1 (l ++ more)) e ∙ be32_read (length name) (name ++ more) (omega arith) in
+    let n : number_at 4 1 r ≡ length name = cc (be32_read (length name) (name ++ more) (omega arith)) in
     let t : bytes_at (length name) 5 r ≡ name = front_take (length name) name more (drop 5 r) (rw e) refl in
     ap (text_at mark longest unit r) n ∙ rw (le-ltb longest (length name) le)
     (there (5 + length name) (unit name) (unit (bytes_at (length name) 5 r)) more (ap unit t) (omega (arith, ap length e)))
@@ -77,11 +77,11 @@ only _ _ more (AtHead directly after id name instance v f g h) =
     let after : drop 6 r ≡ name ++ (last ++ more) = rw (append_assoc name (be32 instance) (be32 v)) (append_assoc name last more) in
     let e1 : number_at 4 1 r ≡ id = be32_read id ((n ∷ ((name ++ be32 instance) ++ be32 v)) ++ more) (omega arith) in
     let e2 : bytes_at n 6 r ≡ name = front_take n name (last ++ more) (drop 6 r) after refl in
-    let d6 : drop (6 + n) r ≡ last ++ more = sym (drop-drop n 6 r) ∙ front_drop n name (last ++ more) (drop 6 r) after refl in
+    let d6 : drop (6 + n) r ≡ last ++ more = cc (drop-drop n 6 r, front_drop n name (last ++ more) (drop 6 r) after refl) in
     let plus : 10 + n ≡ (6 + n) + 4 = omega arith in
-    let d10 : drop (10 + n) r ≡ be32 v ++ more = ap (λ k. drop k r) plus ∙ sym (drop-drop 4 (6 + n) r) ∙ ap (drop 4) d6 in
-    let e3 : number_at 4 (6 + n) r ≡ instance = ap (big_number 4) d6 ∙ be32_read instance (be32 v ++ more) (omega arith) in
-    let e4 : number_at 4 (10 + n) r ≡ v = ap (big_number 4) d10 ∙ be32_read v more (omega arith) in
+    let d10 : drop (10 + n) r ≡ be32 v ++ more = cc (drop-drop 4 (6 + n) r) in
+    let e3 : number_at 4 (6 + n) r ≡ instance = cc (be32_read instance (be32 v ++ more) (omega arith)) in
+    let e4 : number_at 4 (10 + n) r ≡ v = cc (be32_read v more (omega arith)) in
     there (14 + n) x _ more (rw (e1, e2, e3, e4)) (omega (arith, length-append (name ++ be32 instance) (be32 v), length-append name (be32 instance)))
 only _ _ more (AtEnd directly after) = there 1 End End more refl refl
 only _ _ more (AtMark directly after b e) =
@@ -97,8 +97,8 @@ only _ _ more (AtSubHead k tail name v f) =
     let n = length name in
     let r = spell (SubHead name v) ++ more in
     let after : drop 2 r ≡ name ++ (be32 v ++ more) = append_assoc name (be32 v) more in
-    let d2 : drop (2 + n) r ≡ be32 v ++ more = sym (drop-drop n 2 r) ∙ front_drop n name (be32 v ++ more) (drop 2 r) after refl in
-    let e4 : number_at 4 (2 + n) r ≡ v = ap (big_number 4) d2 ∙ be32_read v more (omega arith) in
+    let d2 : drop (2 + n) r ≡ be32 v ++ more = cc (drop-drop n 2 r, front_drop n name (be32 v ++ more) (drop 2 r) after refl) in
+    let e4 : number_at 4 (2 + n) r ≡ v = cc (be32_read v more (omega arith)) in
     there (6 + n) (SubHead name v) _ more (rw (front_take n name (be32 v ++ more) (drop 2 r) after refl, e4)) (omega (arith, length-append name (be32 v)))
 only _ _ more (AtFoot k tail id t f) = rw t (there 5 (Foot id) _ more (ap Foot (be32_read id more (omega arith))) refl)
 only _ _ more (AtOther k tail b t e) = not_sub tail b (b ∷ more) t ∙ rw (t, e) (one b more)

@@ -3,9 +3,9 @@ use Rattle.vms_stream.proofs.Facade.{◌≡◌, ℕ, ◌<◌, List, [], ◌∷�
 use Rattle.vms_stream.proofs.Facade.{length-set, length-map, slice_get_within, drop-nil, at_option, Set, Image, default_image, Piece, Magic, Version}
 use Rattle.vms_stream.proofs.Facade.{Configuration, Head, Number, Constant, Filler, SubHead, Foot, End, put_version, id_of, device_named, come, opened, part}
 use Rattle.vms_stream.proofs.Facade.{image, fresh, slots, sub_named, at_set, found_is, Due, Field, AfterFields, May, AtHead, AtEnd, AtNumber, AtConstant}
-use Rattle.vms_stream.proofs.Facade.{AtSubHead, AtFoot, AtOther, AtNext, due, due_field, rules_hold, holds, first_of, Mirrored, Refuses, Accepts, Spot, Before}
-use Rattle.vms_stream.proofs.Facade.{Headed, Free, Inside, Ended, State, at_start, or_none, open_at, onward, inside, slots_at, next_spot, due_by, known_at}
-use Rattle.vms_stream.proofs.Facade.{after, by_state, Known, beyond, images, known, machine, passed, put_image, tail}
+use Rattle.vms_stream.proofs.Facade.{AtSubHead, AtFoot, AtOther, AtNext, due, due_field, rules_hold, holds, first_of, Mirrored, Refuses, Accepts, Spot}
+use Rattle.vms_stream.proofs.Facade.{Before, Headed, Free, Inside, Ended, State, at_start, or_none, open_at, onward, inside, slots_at, next_spot, due_by}
+use Rattle.vms_stream.proofs.Facade.{known_at, after, by_state, Known, beyond, images, known, machine, passed, put_image, tail}
 use Rattle.vms_stream.proofs.Finding.Advancing.{IsSolid, field_solid}
 use Rattle.vms_stream.proofs.Judging.Verdicts.{refuses, accepts}
 
@@ -52,7 +52,7 @@ module _ (set : Set) where
       let y = fresh set (at_option set.devices o) v in
       let long = (images_of u).long in
       record {
-        long = long_put (images set u) o y ∙ long;
+        long = cc (long_put (images set u) o y);
         here = λ k e.
             let f = found_is set.devices 0 name instance k e in
             put_here (images set u) o y k e (omega (arith, slice_get_within set.devices f.i f.device f.there));

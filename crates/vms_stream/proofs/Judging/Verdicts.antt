@@ -1,15 +1,15 @@
 -- The judge refuses exactly the inputs that have a fault, for each state that mirrors the units so far.
 use Rattle.vms_stream.proofs.Facade.{◌≡◌, ℕ, zero, suc, ◌+◌, ◌<◌, ◌≤◌, List, ◌∷◌, ◌++◌, length, drop, length-drop, Option, Some, None, refl, sym, ap, ◌∙◌}
-use Rattle.vms_stream.proofs.Facade.{subst, arith, length-append, append_assoc, Bool, true, false, if◌then◌else◌, [], IsBytes, bytes_rest, Reason, Set, Verdict}
-use Rattle.vms_stream.proofs.Facade.{Goes, Faulty, Over, Reading, Accepted, Refused, reading_from, reading_after, Piece, spell, spelled, opened, Due, AfterEnd}
-use Rattle.vms_stream.proofs.Facade.{Nothing, May, AtMagic, due, holds, reason_of, Front, Why, Fails, Wrong, Fault, Owes, cut_in, Advances, reading_on}
-use Rattle.vms_stream.proofs.Facade.{is_bytes_drop, unit_read, Found, Whole, Cut, unit_at, Grammar, judge, judge_found, by_row, owes, reading, by_units}
-use Rattle.vms_stream.proofs.Facade.{Mirrored, Refuses, Ends, Accepts, IsThere}
+use Rattle.vms_stream.proofs.Facade.{subst, arith, length-append, append_assoc, Bool, true, false, if◌then◌else◌, [], IsBytes, bytes_rest, Reason, Set}
+use Rattle.vms_stream.proofs.Facade.{Verdict, Goes, Faulty, Over, Reading, Accepted, Refused, reading_from, reading_after, Piece, spell, spelled, opened, Due}
+use Rattle.vms_stream.proofs.Facade.{AfterEnd, Nothing, May, AtMagic, due, holds, reason_of, Front, Why, Fails, Wrong, Fault, Owes, cut_in, Advances}
+use Rattle.vms_stream.proofs.Facade.{reading_on, is_bytes_drop, unit_read, Found, Whole, Cut, unit_at, Grammar, judge, judge_found, by_row, owes, reading}
+use Rattle.vms_stream.proofs.Facade.{by_units, Mirrored, Refuses, Ends, Accepts, IsThere}
+use Rattle.vms_spec.specs.declared.Reason.TheVariants as reasons
 use Rattle.vms_stream.specs.Faults.{Cut as IsCut}
 use Rattle.vms_stream.proofs.Finding.There.{only}
 use Rattle.vms_stream.proofs.Finding.Shown.{Shows, shows}
 use Rattle.vms_stream.proofs.Finding.Advancing.{IsSolid, advances, due_solid}
-use Rattle.vms_spec.specs.declared.Reason.TheVariants as reasons
 
 owes_true : (d : Due) (rest : List ℕ) → Owes d rest → owes d rest ≡ true
 owes_true Nothing rest o = absurd o
@@ -92,8 +92,7 @@ module _ {S : Type 0} (set : Set) (names : List (List ℕ)) (g : Grammar S) (sol
     by_reason : (x : Piece) (more : List ℕ) (o : Option (Option ℕ × Reason)) → holds set u ≡ true → May (due set u) x → rest ≡ spell x ++ more
         → reason_of set names u x ≡ o → judge g s rest ≡ by_row g o (length (spell x)) (g.after s x)
     by_reason x more o held may there e =
-        verdict (Whole x (length (spell x))) held (ap (unit_at (due set u)) there ∙ only (due set u) x more may)
-        ∙ ap (λ o. by_row g o (length (spell x)) (g.after s x)) (m.reason_is u s x r may ∙ e)
+        cc (verdict (Whole x (length (spell x))) held (ap (unit_at (due set u)) there ∙ only (due set u) x more may), m.reason_is u s x r may)
 
     told : (section : Option ℕ) (reason : Reason) (size : ℕ) → IsBytes rest → Why set names u rest section reason size
         → judge g s rest ≡ Faulty section reason size
@@ -168,10 +167,12 @@ module _ {S : Type 0} (set : Set) (names : List (List ℕ)) (g : Grammar S) (sol
       record {
         state = g.after t.state x;
         mirrors = m.after_is u t.state x t.mirrors front.1 front.2 front.3;
-        reads = ap (reading_on (judge g) start 0) (append_assoc (spelled u) (spell x) rest) ∙ t.reads
-            ∙ unit_read (judge g) (advances g solid) t.state (g.after t.state x) (length (spelled u)) (spell x) rest
-            (by_reason u t.state (spell x ++ rest) t.mirrors x rest None front.1 front.2 refl front.3)
-            ∙ ap (λ k. reading_on (judge g) (g.after t.state x) k rest) (sym (length-append (spelled u) (spell x)));
+        reads = cc (
+          append_assoc (spelled u) (spell x) rest,
+          unit_read (judge g) (advances g solid) t.state (g.after t.state x) (length (spelled u)) (spell x) rest
+              (by_reason u t.state (spell x ++ rest) t.mirrors x rest None front.1 front.2 refl front.3),
+          length-append (spelled u) (spell x),
+        );
       }
 
   module _ (start : S) (r : Mirrors [] start) where

@@ -27,32 +27,11 @@ wrong {section = section} {reason = reason} u x more front may held taken whole 
   why = rw (← size) (Wrong x section reason held (record { may = may; more = more; there = refl }) taken);
 }
 
-refuses_version_4 : Refused set_0 (hex (codes "5145564d00000004")) 4 None reasons.BadVersion 4
-refuses_version_4 = wrong (Magic magic ∷ []) (Version 4) [] (tt, refl, AtMagic magic refl, refl) (AtVersion 4 (omega arith)) refl refl refl refl refl
-
-refuses_another_magic : Refused set_0 (hex (codes "5145564e00000003")) 0 None reasons.BadMagic 4
-refuses_another_magic = wrong [] (Magic (hex (codes "5145564e"))) (0 ∷ 0 ∷ 0 ∷ 3 ∷ []) tt (AtMagic _ refl) refl refl refl refl refl
-
 abbrev start : List Piece
 start = Version 3 ∷ Magic magic ∷ []
 
 in_start : (set : Set) → Front set set.machines start
 in_start set = ((tt, refl, AtMagic magic refl, refl), refl, AtVersion 3 (omega arith), refl)
-
-refuses_ram : Refused set_0 (head ++ hex (codes "01000000020372616d")) 8 None reasons.Ram 9
-refuses_ram = wrong start (Start 2 (codes "ram")) [] (in_start set_0) (AtStart _ _ _ _ (omega arith)) refl refl refl refl refl
-
-refuses_a_part : Refused set_0 (head ++ hex (codes "02")) 8 None reasons.Iterative 1
-refuses_a_part = wrong start (Mark 2) [] (in_start set_0) (AtMark _ _ _ refl) refl refl refl refl refl
-
-refuses_a_command : Refused set_0 (head ++ hex (codes "08")) 8 None reasons.Command 1
-refuses_a_command = wrong start (Mark 8) [] (in_start set_0) (AtMark _ _ _ refl) refl refl refl refl refl
-
-refuses_a_footer_between_sections : Refused set_0 (head ++ hex (codes "7e")) 8 None reasons.BadMark 1
-refuses_a_footer_between_sections = wrong start (Mark 0x7e) [] (in_start set_0) (AtMark _ _ _ refl) refl refl refl refl refl
-
-refuses_a_missing_section : Refused set_0 (head ++ hex (codes "00")) 8 (Some 0) reasons.MissingSection 1
-refuses_a_missing_section = wrong start End [] (in_start set_0) (AtEnd _ _) refl refl refl refl refl
 
 -- ---- a whole section
 
@@ -66,17 +45,6 @@ in_headed : Front set_0 set_0.machines headed
 unfolding first
 in_headed = (in_start set_0, refl, head_may true false (codes "timer"), refl)
 
-refuses_a_cut_number : Refused set_0 (take 30 smallest) 27 (Some 0) reasons.Truncated 3
-unfolding first
-refuses_a_cut_number = record {
-  units = headed;
-  rest = 0 ∷ 0 ∷ 0 ∷ [];
-  front = in_headed;
-  whole = refl;
-  long = refl;
-  why = Cut refl tt (λ x w. let e = ap (unit_at (due set_0 headed)) w.there ∙ only (due set_0 headed) x w.more w.may in cc);
-}
-
 in_64 : InRange U64 (pos 0)
 in_64 = (omega arith, omega arith)
 
@@ -86,10 +54,6 @@ fielded = Number 0 U64 (pos 0) ∷ headed
 in_fielded : Front set_0 set_0.machines fielded
 unfolding first
 in_fielded = (in_headed, refl, AtNumber 0 0 U64 [] (pos 0) in_64, refl)
-
-refuses_a_footer_of_another_id : Refused set_0 (take 35 smallest ++ hex (codes "7e0000000100")) 35 (Some 0) reasons.BadFooter 5
-unfolding code first
-refuses_a_footer_of_another_id = wrong fielded (Foot 1) (0 ∷ []) in_fielded (AtFoot 0 Unknown 1 refl (omega arith)) refl refl refl refl refl
 
 abbrev ended : List Piece
 ended = End ∷ Foot 0 ∷ fielded
@@ -101,10 +65,6 @@ in_ended : Front set_0 set_0.machines ended
 unfolding first
 in_ended = ((in_fielded, refl, foot_may, refl), refl, AtEnd false false, refl)
 
-refuses_a_trailing_byte : Refused set_0 (smallest ++ hex (codes "00")) 41 None reasons.Trailing 1
-unfolding code first
-refuses_a_trailing_byte = wrong ended (Mark 0) [] in_ended (AtTrailing 0 refl) refl refl refl refl refl
-
 -- ---- sets with other fields
 
 abbrev boxed : List Piece
@@ -115,41 +75,6 @@ in_boxed set e = (in_start set, refl, head_may true false (codes "box"), e)
 
 byte : (n : ℕ) → n < 256 → InRange U8 (pos n)
 byte n lt = (omega (arith, ints), omega (arith, ints))
-
-refuses_too_large_a_count : Refused counted_set (box_head ++ hex (codes "03")) 25 (Some 0) reasons.CountTooLarge 1
-unfolding code first
-refuses_too_large_a_count =
-    wrong boxed (Number 0 U8 (pos 3)) [] (in_boxed counted_set refl) (AtNumber 0 0 U8 (2 ∷ []) (pos 3) (byte 3 (omega arith))) refl refl refl refl refl
-
-refuses_a_bool_of_2 : Refused constant_set (box_head ++ hex (codes "02")) 25 (Some 0) reasons.BadBool 1
-unfolding code first
-refuses_a_bool_of_2 =
-    wrong boxed (Number 0 Truth (pos 2)) [] (in_boxed constant_set refl) (AtNumber 0 0 Truth [] (pos 2) (byte 2 (omega arith))) refl refl refl refl refl
-
-refuses_another_constant : Refused constant_set (box_head ++ hex (codes "0108")) 26 (Some 0) reasons.NotEqual 1
-unfolding code first
-refuses_another_constant =
-    wrong (Number 0 Truth (pos 1) ∷ boxed) (Constant U8 (pos 8)) []
-    (in_boxed constant_set refl, refl, AtNumber 0 0 Truth [] (pos 1) (byte 1 (omega arith)), refl)
-    (AtConstant 0 U8 (pos 7) (pos 8) (byte 8 (omega arith))) refl refl refl refl refl
-
-refuses_a_failing_validation : Refused tested_set (box_head ++ hex (codes "0a")) 26 (Some 0) reasons.Invalid 0
-unfolding code first
-refuses_a_failing_validation =
-    record {
-      units = Number 0 U8 (pos 10) ∷ boxed;
-      rest = [];
-      front = (
-        in_boxed tested_set refl,
-        refl,
-        AtNumber 0 0 U8 [] (pos 10)
-            (byte 10 (omega arith)),
-        refl,
-      );
-      whole = refl;
-      long = refl;
-      why = Fails refl;
-    }
 
 abbrev with_q : List Piece
 with_q = Number 2 U8 (pos 7) ∷ SubHead (codes "box/q") 1 ∷ Number 0 U8 (pos 9) ∷ boxed
@@ -165,55 +90,93 @@ in_q : Front subsection_set subsection_set.machines with_q
 unfolding first
 in_q = ((in_nine, refl, sub_may 0 1 (codes "box/q") (omega arith), refl), refl, AtNumber 0 2 U8 [] (pos 7) (byte 7 (omega arith)), refl)
 
-refuses_a_subsection_that_came : Refused subsection_set (box_head ++ hex (codes "090505626f782f7100000001070505626f782f7100000001077e0000000000"))
-    38 (Some 0) reasons.RepeatedSubsection 11
-unfolding code first
-refuses_a_subsection_that_came =
-    wrong with_q (SubHead (codes "box/q") 1) (7 ∷ 0x7e ∷ 0 ∷ 0 ∷ 0 ∷ 0 ∷ 0 ∷ []) in_q (sub_may 0 1 (codes "box/q") (omega arith)) refl refl refl refl refl
-
-refuses_an_unknown_subsection : Refused subsection_set (box_head ++ hex (codes "090505626f782f7200000001")) 26 (Some 0) reasons.UnknownSubsection 11
-unfolding code first
-refuses_an_unknown_subsection =
-    wrong (Number 0 U8 (pos 9) ∷ boxed) (SubHead (codes "box/r") 1) [] in_nine (sub_may 0 1 (codes "box/r") (omega arith)) refl refl refl refl refl
-
-refuses_a_section_that_came : Refused set_0 (take 40 smallest ++ hex (codes "04000000000574696d6572000000000000000100000000000000007e00000000"))
-    40 (Some 0) reasons.RepeatedSection 19
-unfolding code first
-refuses_a_section_that_came =
-    wrong (Foot 0 ∷ fielded) (Head 0 (codes "timer") 0 1) (0 ∷ 0 ∷ 0 ∷ 0 ∷ 0 ∷ 0 ∷ 0 ∷ 0 ∷ 0x7e ∷ 0 ∷ 0 ∷ 0 ∷ 0 ∷ []) (in_fielded, refl, foot_may, refl)
-    (head_may false false (codes "timer")) refl refl refl refl refl
-
--- ---- further reasons
-
-refuses_version_2 : Refused set_0 (hex (codes "5145564d00000002")) 4 None reasons.OldStream 4
-refuses_version_2 = wrong (Magic magic ∷ []) (Version 2) [] (tt, refl, AtMagic magic refl, refl) (AtVersion 2 (omega arith)) refl refl refl refl refl
-
-refuses_another_machine : Refused set_0 (head ++ hex (codes "07000000056973612d31")) 8 None reasons.WrongMachine 10
-refuses_another_machine = wrong start (Configuration (codes "isa-1")) [] (in_start set_0) (AtConfiguration _ _ (omega arith)) refl refl refl refl refl
-
 abbrev named : List Piece
 named = Configuration (codes "isa-0") ∷ start
 
 in_named : Front set_0 set_0.machines named
 in_named = (in_start set_0, refl, AtConfiguration _ _ (omega arith), refl)
 
-refuses_a_subsection_of_the_configuration : Refused set_0 (head ++ hex (codes "07000000056973612d3005")) 18 None reasons.ConfigurationExtra 1
-refuses_a_subsection_of_the_configuration = wrong named (Mark 5) [] in_named (AtMark _ _ _ refl) refl refl refl refl refl
-
 timer_may : (v : ℕ) → v < 4294967296 → May (Between true false) (Head 0 (codes "timer") 0 v)
 timer_may v lt = AtHead true false 0 (codes "timer") 0 v (omega arith) (omega arith) lt
 
-refuses_too_new_a_section : Refused set_0 (take 23 smallest ++ hex (codes "00000002") ++ drop 27 smallest) 8 (Some 0) reasons.TooNew 19
-refuses_too_new_a_section = wrong start (Head 0 (codes "timer") 0 2) (drop 27 smallest) (in_start set_0) (timer_may 2 (omega arith)) refl refl refl refl refl
+record Refusals : Type 0 where
+  refuses_version_4 : Refused set_0 (hex (codes "5145564d00000004")) 4 None reasons.BadVersion 4
+  refuses_another_magic : Refused set_0 (hex (codes "5145564e00000003")) 0 None reasons.BadMagic 4
+  refuses_ram : Refused set_0 (head ++ hex (codes "01000000020372616d")) 8 None reasons.Ram 9
+  refuses_a_part : Refused set_0 (head ++ hex (codes "02")) 8 None reasons.Iterative 1
+  refuses_a_command : Refused set_0 (head ++ hex (codes "08")) 8 None reasons.Command 1
+  refuses_a_footer_between_sections : Refused set_0 (head ++ hex (codes "7e")) 8 None reasons.BadMark 1
+  refuses_a_missing_section : Refused set_0 (head ++ hex (codes "00")) 8 (Some 0) reasons.MissingSection 1
+  refuses_a_cut_number : Refused set_0 (take 30 smallest) 27 (Some 0) reasons.Truncated 3
+  refuses_a_footer_of_another_id : Refused set_0 (take 35 smallest ++ hex (codes "7e0000000100")) 35 (Some 0) reasons.BadFooter 5
+  refuses_a_trailing_byte : Refused set_0 (smallest ++ hex (codes "00")) 41 None reasons.Trailing 1
+  refuses_too_large_a_count : Refused counted_set (box_head ++ hex (codes "03")) 25 (Some 0) reasons.CountTooLarge 1
+  refuses_a_bool_of_2 : Refused constant_set (box_head ++ hex (codes "02")) 25 (Some 0) reasons.BadBool 1
+  refuses_another_constant : Refused constant_set (box_head ++ hex (codes "0108")) 26 (Some 0) reasons.NotEqual 1
+  refuses_a_failing_validation : Refused tested_set (box_head ++ hex (codes "0a")) 26 (Some 0) reasons.Invalid 0
+  refuses_a_subsection_that_came : Refused subsection_set (box_head ++ hex (codes "090505626f782f7100000001070505626f782f7100000001077e0000000000"))
+      38 (Some 0) reasons.RepeatedSubsection 11
+  refuses_an_unknown_subsection : Refused subsection_set (box_head ++ hex (codes "090505626f782f7200000001")) 26 (Some 0) reasons.UnknownSubsection 11
+  refuses_a_section_that_came : Refused set_0 (take 40 smallest ++ hex (codes "04000000000574696d6572000000000000000100000000000000007e00000000"))
+      40 (Some 0) reasons.RepeatedSection 19
+  refuses_version_2 : Refused set_0 (hex (codes "5145564d00000002")) 4 None reasons.OldStream 4
+  refuses_another_machine : Refused set_0 (head ++ hex (codes "07000000056973612d31")) 8 None reasons.WrongMachine 10
+  refuses_a_subsection_of_the_configuration : Refused set_0 (head ++ hex (codes "07000000056973612d3005")) 18 None reasons.ConfigurationExtra 1
+  refuses_too_new_a_section : Refused set_0 (take 23 smallest ++ hex (codes "00000002") ++ drop 27 smallest) 8 (Some 0) reasons.TooNew 19
+  refuses_too_old_a_section : Refused set_0 (take 23 smallest ++ hex (codes "00000000") ++ drop 27 smallest) 8 (Some 0) reasons.TooOld 19
+  refuses_another_instance : Refused set_0 (take 19 smallest ++ hex (codes "00000001") ++ drop 23 smallest) 8 None reasons.UnknownSection 19
+  refuses_too_long_a_description : Refused set_0 (smallest ++ hex (codes "0601000001")) 41 None reasons.DescriptionTooLong 5
 
-refuses_too_old_a_section : Refused set_0 (take 23 smallest ++ hex (codes "00000000") ++ drop 27 smallest) 8 (Some 0) reasons.TooOld 19
-refuses_too_old_a_section = wrong start (Head 0 (codes "timer") 0 0) (drop 27 smallest) (in_start set_0) (timer_may 0 (omega arith)) refl refl refl refl refl
-
-refuses_another_instance : Refused set_0 (take 19 smallest ++ hex (codes "00000001") ++ drop 23 smallest) 8 None reasons.UnknownSection 19
-refuses_another_instance =
-    wrong start (Head 0 (codes "timer") 1 1) (drop 27 smallest) (in_start set_0)
-    (AtHead true false 0 (codes "timer") 1 1 (omega arith) (omega arith) (omega arith)) refl refl refl refl refl
-
-refuses_too_long_a_description : Refused set_0 (smallest ++ hex (codes "0601000001")) 41 None reasons.DescriptionTooLong 5
+refusals : Refusals
 unfolding code first
-refuses_too_long_a_description = wrong ended (Long 6 16777217) [] in_ended (AtLongText 16777217 (omega arith) (omega arith)) refl refl refl refl refl
+refusals = record {
+  refuses_version_4 = wrong (Magic magic ∷ []) (Version 4) [] (tt, refl, AtMagic magic refl, refl) (AtVersion 4 (omega arith)) refl refl refl refl refl;
+  refuses_another_magic = wrong [] (Magic (hex (codes "5145564e"))) (0 ∷ 0 ∷ 0 ∷ 3 ∷ []) tt (AtMagic _ refl) refl refl refl refl refl;
+  refuses_ram = wrong start (Start 2 (codes "ram")) [] (in_start set_0) (AtStart _ _ _ _ (omega arith)) refl refl refl refl refl;
+  refuses_a_part = wrong start (Mark 2) [] (in_start set_0) (AtMark _ _ _ refl) refl refl refl refl refl;
+  refuses_a_command = wrong start (Mark 8) [] (in_start set_0) (AtMark _ _ _ refl) refl refl refl refl refl;
+  refuses_a_footer_between_sections = wrong start (Mark 0x7e) [] (in_start set_0) (AtMark _ _ _ refl) refl refl refl refl refl;
+  refuses_a_missing_section = wrong start End [] (in_start set_0) (AtEnd _ _) refl refl refl refl refl;
+  refuses_a_cut_number = record {
+    units = headed;
+    rest = 0 ∷ 0 ∷ 0 ∷ [];
+    front = in_headed;
+    whole = refl;
+    long = refl;
+    why = Cut refl tt (λ x w. let e = ap (unit_at (due set_0 headed)) w.there ∙ only (due set_0 headed) x w.more w.may in cc);
+  };
+  refuses_a_footer_of_another_id = wrong fielded (Foot 1) (0 ∷ []) in_fielded (AtFoot 0 Unknown 1 refl (omega arith)) refl refl refl refl refl;
+  refuses_a_trailing_byte = wrong ended (Mark 0) [] in_ended (AtTrailing 0 refl) refl refl refl refl refl;
+  refuses_too_large_a_count =
+      wrong boxed (Number 0 U8 (pos 3)) [] (in_boxed counted_set refl) (AtNumber 0 0 U8 (2 ∷ []) (pos 3) (byte 3 (omega arith))) refl refl refl refl refl;
+  refuses_a_bool_of_2 =
+      wrong boxed (Number 0 Truth (pos 2)) [] (in_boxed constant_set refl) (AtNumber 0 0 Truth [] (pos 2) (byte 2 (omega arith))) refl refl refl refl refl;
+  refuses_another_constant =
+      wrong (Number 0 Truth (pos 1) ∷ boxed) (Constant U8 (pos 8)) []
+      (in_boxed constant_set refl, refl, AtNumber 0 0 Truth [] (pos 1) (byte 1 (omega arith)), refl)
+      (AtConstant 0 U8 (pos 7) (pos 8) (byte 8 (omega arith))) refl refl refl refl refl;
+  refuses_a_failing_validation = record {
+    units = Number 0 U8 (pos 10) ∷ boxed;
+    rest = [];
+    front = (in_boxed tested_set refl, refl, AtNumber 0 0 U8 [] (pos 10) (byte 10 (omega arith)), refl);
+    whole = refl;
+    long = refl;
+    why = Fails refl;
+  };
+  refuses_a_subsection_that_came =
+      wrong with_q (SubHead (codes "box/q") 1) (7 ∷ 0x7e ∷ 0 ∷ 0 ∷ 0 ∷ 0 ∷ 0 ∷ []) in_q (sub_may 0 1 (codes "box/q") (omega arith)) refl refl refl refl refl;
+  refuses_an_unknown_subsection =
+      wrong (Number 0 U8 (pos 9) ∷ boxed) (SubHead (codes "box/r") 1) [] in_nine (sub_may 0 1 (codes "box/r") (omega arith)) refl refl refl refl refl;
+  refuses_a_section_that_came =
+      wrong (Foot 0 ∷ fielded) (Head 0 (codes "timer") 0 1) (0 ∷ 0 ∷ 0 ∷ 0 ∷ 0 ∷ 0 ∷ 0 ∷ 0 ∷ 0x7e ∷ 0 ∷ 0 ∷ 0 ∷ 0 ∷ []) (in_fielded, refl, foot_may, refl)
+      (head_may false false (codes "timer")) refl refl refl refl refl;
+  refuses_version_2 = wrong (Magic magic ∷ []) (Version 2) [] (tt, refl, AtMagic magic refl, refl) (AtVersion 2 (omega arith)) refl refl refl refl refl;
+  refuses_another_machine = wrong start (Configuration (codes "isa-1")) [] (in_start set_0) (AtConfiguration _ _ (omega arith)) refl refl refl refl refl;
+  refuses_a_subsection_of_the_configuration = wrong named (Mark 5) [] in_named (AtMark _ _ _ refl) refl refl refl refl refl;
+  refuses_too_new_a_section = wrong start (Head 0 (codes "timer") 0 2) (drop 27 smallest) (in_start set_0) (timer_may 2 (omega arith)) refl refl refl refl refl;
+  refuses_too_old_a_section = wrong start (Head 0 (codes "timer") 0 0) (drop 27 smallest) (in_start set_0) (timer_may 0 (omega arith)) refl refl refl refl refl;
+  refuses_another_instance =
+      wrong start (Head 0 (codes "timer") 1 1) (drop 27 smallest) (in_start set_0)
+      (AtHead true false 0 (codes "timer") 1 1 (omega arith) (omega arith) (omega arith)) refl refl refl refl refl;
+  refuses_too_long_a_description = wrong ended (Long 6 16777217) [] in_ended (AtLongText 16777217 (omega arith) (omega arith)) refl refl refl refl refl;
+}

@@ -6,8 +6,8 @@ use Rattle.vms_stream.proofs.Facade.{EachOnce, be32, magic, stream_head, configu
 use Rattle.vms_stream.proofs.Facade.{take_desc, takers, cells_of, IsGood, same_refl, at_set, body_found, own_are, defaults_at, defaults_long, none_versions}
 use Rattle.vms_stream.proofs.Facade.{all_came, falses, defaults_of, its_spelled, at_other, none_of, none_came, beside_start, Fine, fine_normal, fine_valid}
 use Rattle.vms_stream.proofs.Facade.{Tail, Unknown, Footed, Bare, State, Free, Ended, Headed, known_at, after, between, by_state, at_start, IsSection}
-use Rattle.vms_stream.proofs.Facade.{SectionsSpell, Takes, Piece, spell, Accepted, AMagic, AVersion, AfterEnd, Nothing, May, AtMagic, AtVersion, AtDescription}
-use Rattle.vms_stream.proofs.Facade.{AtLongText, AtTrailing, first_of, owes, reading}
+use Rattle.vms_stream.proofs.Facade.{SectionsSpell, Takes, Piece, spell, Accepted, AMagic, AVersion, AfterEnd, Nothing, May, AtMagic, AtVersion}
+use Rattle.vms_stream.proofs.Facade.{AtDescription, AtLongText, AtTrailing, first_of, owes, reading}
 use Rattle.vms_stream.specs.State.{Over}
 use Rattle.vms_stream.proofs.Bodies.Body.{Reads, body_read}
 use Rattle.vms_stream.proofs.Streams.Steps.{Run, Goes, Opening, Closes, Opens, Names, opened, next, steps, free_opens}
@@ -88,7 +88,7 @@ module _ (r : Run) (good : IsGood r.set) where
         let m = same_refl (0 + length (desc_cells (cells_of (takers r.set.structs (length r.set.structs))) d.desc)) q.numbers in
         let so_far : Fine r.set d v none q.numbers = record {
           versions = none_versions d.subs;
-          long = b.long ∙ defaults_long all;
+          long = cc (defaults_long all);
           own_fits = b.fits q.numbers m;
           own_rules = b.rules q.numbers m;
           fits = λ j s w e f. absurd (none_came d.subs j w f);
@@ -118,8 +118,7 @@ module _ (r : Run) (good : IsGood r.set) where
             subs = q'.subs;
             whole = refl;
           };
-          spelled = spelled ∙ ap (λ l. head ++ l) (b.front ∙ ap (λ l. b.bytes ++ l) q'.spelled)
-              ∙ sym (regrouped head b.bytes q'.tail close q'.after);
+          spelled = cc (regrouped head b.bytes q'.tail close q'.after);
           opens = subst (λ (x : ℕ). Opening r false (came_to s k (image_so v q'.all q'.numbers) q'.footed) x q'.after)
               (omega (arith, b.place, four_long head b.bytes q'.tail close)) q'.opens;
         }
@@ -152,7 +151,7 @@ module _ (r : Run) (good : IsGood r.set) where
           rw (same_footed h.footed q.footed q.agrees) at q.sections_are,
           refl,
         );
-        long = q.long ∙ length-set s.images k h.image;
+        long = cc (length-set s.images k h.image);
         kept = λ j e.
             let ne : j ≡ k → ⊥ = λ same. (let f = sym e ∙ ap (slice_get s.came) same ∙ new in cc) in
             q.kept j (at_other s.came k j true ne ∙ e) ∙ at_other s.images k j h.image ne;
@@ -255,7 +254,7 @@ module _ {r : Run} (s : State) {place : ℕ} {rest : List ℕ} (ok : IsBytes res
       spelled = refl;
       described = refl;
       all = λ f. none_left rest u.over;
-      long = sym u.place_is ∙ sym (add-zero place);
+      long = cc (add-zero place);
       machine_is = rw (sym u.end_is);
       images_are = rw (sym u.end_is);
     }
@@ -276,14 +275,13 @@ module _ (r : Run) (good : IsGood r.set) (input : List ℕ) where
       let q = sections_found r good (suc (length rest)) (from machine t) (falses r.set.devices) (defaults_of r.set r.set.devices) (omega arith) ok o in
       let fine : IsBytes q.after = bytes_rest (0x00 ∷ []) q.after (bytes_rest q.sections (0x00 ∷ q.after) (subst IsBytes q.spelled ok)) in
       let d = ending_found (record (from machine t) { images = q.states; came = q.came_last; tail = q.tail_last }) fine q.goes in
-      let front = ((stream_head ++ named) ++ q.sections) ++ end_mark in
       record {
-        bytes = front ++ d.tail;
+        bytes = (((stream_head ++ named) ++ q.sections) ++ end_mark) ++ d.tail;
         text = d.text;
         stream = record {
           named = named;
           configured = rw d.machine_is c;
-          one_each = ap length d.images_are ∙ q.long ∙ defaults_of r.set r.set.devices;
+          one_each = cc (defaults_of r.set r.set.devices);
           order = q.order;
           each_once = q.each_once;
           sections = q.sections;

@@ -1,14 +1,14 @@
 -- What an input takes is accepted, so it takes at most one stream: its sections are read, and all of it.
-use Rattle.vms_stream.proofs.Facade.{◌≡◌, ℕ, ◌+◌, ◌^◌, ◌<◌, ◌≤◌, List, ◌∷◌, ◌++◌, length, drop, slice_set, Option, Some, None, refl, sym, ap, ◌∙◌, subst, arith}
-use Rattle.vms_stream.proofs.Facade.{append_assoc, length-append, Bool, true, false, not, ◌==◌, [], map, slice_get, length-set, slice_get_within, add-zero}
-use Rattle.vms_stream.proofs.Facade.{position, Device, Set, Image, default_image, own_slots, Spells, IsNormal, IsValid, section_head, sub_head, ComesOnce}
-use Rattle.vms_stream.proofs.Facade.{SubsSpell, EachOnce, be32, magic, stream_head, configuration, end_mark, IsTrailer, part_slots, Head, SubHead, Foot, End}
-use Rattle.vms_stream.proofs.Facade.{Magic, Version, Configuration, Description, Progress, Reading, Accepted, reading_on, IsGood, at_set, none_of, version_at}
-use Rattle.vms_stream.proofs.Facade.{Beside, beside_first, beside_next, beside_end, part_place, so_far, so_at_last, own_taken, part_taken, sub_so, none_missing}
-use Rattle.vms_stream.proofs.Facade.{came_at, same_lists, agrees, falses, defaults_of, never_true, Tail, Unknown, Footed, Bare, Between, AfterFields, fits_four}
-use Rattle.vms_stream.proofs.Facade.{is_foot, is_next, May, AtHead, AtEnd, AtSubHead, AtFoot, AtNext, AtMagic, AtVersion, AtConfiguration, AtDescription}
-use Rattle.vms_stream.proofs.Facade.{first_of, judge, reading, State, Free, Ended, known_at, after, by_state, Headed, between, at_start, IsSection, HasSection}
-use Rattle.vms_stream.proofs.Facade.{SectionsSpell, IsStream, Takes, trailer_at}
+use Rattle.vms_stream.proofs.Facade.{◌≡◌, ℕ, ◌+◌, ◌^◌, ◌<◌, ◌≤◌, List, ◌∷◌, ◌++◌, length, drop, slice_set, Option, Some, None, refl, sym, ap, ◌∙◌, subst}
+use Rattle.vms_stream.proofs.Facade.{arith, append_assoc, length-append, Bool, true, false, ◌==◌, [], map, slice_get, length-set, slice_get_within, add-zero}
+use Rattle.vms_stream.proofs.Facade.{Device, Set, Image, default_image, own_slots, Spells, IsNormal, IsValid, section_head, sub_head, ComesOnce, SubsSpell}
+use Rattle.vms_stream.proofs.Facade.{EachOnce, be32, magic, stream_head, configuration, end_mark, IsTrailer, part_slots, Head, SubHead, Foot, End, Magic}
+use Rattle.vms_stream.proofs.Facade.{Version, Configuration, Description, Progress, Reading, Accepted, reading_on, IsGood, at_set, none_of, version_at}
+use Rattle.vms_stream.proofs.Facade.{Beside, beside_first, beside_next, beside_end, part_place, so_far, so_at_last, own_taken, part_taken, sub_so}
+use Rattle.vms_stream.proofs.Facade.{none_missing, came_at, same_lists, agrees, falses, defaults_of, never_true, Tail, Unknown, Footed, Bare, Between}
+use Rattle.vms_stream.proofs.Facade.{AfterFields, fits_four, is_foot, is_next, May, AtHead, AtEnd, AtSubHead, AtFoot, AtNext, AtMagic, AtVersion}
+use Rattle.vms_stream.proofs.Facade.{AtConfiguration, AtDescription, judge, reading, State, Free, Ended, known_at, after, by_state, Headed, between, at_start}
+use Rattle.vms_stream.proofs.Facade.{IsSection, HasSection, SectionsSpell, IsStream, Takes, trailer_at, not, position}
 use Rattle.vms_bodies.proofs.SubsOnly.{image_at}
 use Rattle.vms_stream.specs.State.{Over}
 use Rattle.vms_stream.proofs.Bodies.Body.{body_read}
@@ -59,7 +59,7 @@ module _ (set : Set) (names : List (List ℕ)) (good : IsGood set) (c : Section 
   J = reading_on (judge (by_state set names))
 
   abbrev so : List (Option ℕ) → Image
-  so = image_at set names good c.k c.id c.device c.there image normal valid
+  so = image_at set c.device image
 
   abbrev To : State → ℕ → List ℕ → List ℕ → Type 0
   To s place bytes rest = ReadsTo set names s (over c image footed) place bytes rest
@@ -103,7 +103,7 @@ module _ (set : Set) (names : List (List ℕ)) (good : IsGood set) (c : Section 
   subs_read [] part i now left done beside once place tail rest spell =
       let last : so now ≡ image =
       ap so (beside_end now left image.came beside once) ∙ ap (λ m. record { version = image.version; came = image.came; numbers = m })
-      (so_at_last set names good c.k c.id c.device c.there image normal valid) in
+      (so_at_last set c.device image normal) in
       rw last (rw spell (close footed fits part i place rest (rw (sym last) (done))))
   subs_read (j ∷ order) part i now left done beside once place tail rest spell =
       let w = once.0.0 in
@@ -118,23 +118,27 @@ module _ (set : Set) (names : List (List ℕ)) (good : IsGood set) (c : Section 
       let head = sub_head name w in
       let more = (later ++ closing footed c.id) ++ rest in
       let start = stands c (so now) part i in
-      let image1 : Image = record { version = image.version; came = now1; numbers = so_far set names good c.k c.id c.device c.there image normal valid now } in
+      let image1 : Image = record { version = image.version; came = now1; numbers = so_far set c.device image now } in
       let w_fits : w < 2 ^ 32 = (let le : w ≤ sub.desc.version = s.version.1 in omega (arith, good.sub_version c.k j c.device sub c.there s.there)) in
       let named = good.distinct_subs c.k j c.device sub c.there s.there in
       let p : Progress = record { numbers = image1.numbers; place = place + length head; rest = s.body ++ more } in
       let none : (g set names).reason start (SubHead name w) ≡ None =
-      ap (λ x. first_of set names x (known_at set start) (SubHead name w)) (due_is c (so now) part i done)
-      ∙ ap (λ x. first_of set names (AfterFields c.k c.state.tail) x (SubHead name w)) (known_is c (so now) part i)
-      ∙ sub_passes set names (AfterFields c.k c.state.tail) (knows c (so now) part i) c.device.subs name w j sub
-      (subs_are c (so now) part i) named s.there b.0 s.version in
-      let reads = rw (part_taken set names good c.k c.id c.device c.there image normal valid now j w sub (place + length head) s.body more s.there b.0 b.1 s.spells)
+      cc (
+        due_is c (so now) part i done,
+        known_is c (so now) part i,
+        sub_passes set names (AfterFields c.k c.state.tail) (knows c (so now) part i) c.device.subs name w j sub
+            (subs_are c (so now) part i) named s.there b.0 s.version,
+      ) in
+      let reads = rw (part_taken set c.device image normal good c.k c.there valid now j w sub (place + length head) s.body more s.there b.0 b.1 s.spells)
       at (body_read set names c.state c.device image1 c.k c.id (Some j) c.there c.room good.structs sub.desc w (part_place set c.device j)
       (good.subs c.k j c.device sub c.there s.there) (λ m. rw (s.there, (at_set now j (Some w) (slice_get_within now j None b.0)))) p) in
       let r = subs_read order (Some j) reads.0 now1 (slice_set left j None) reads.1 b.2 once.1 ((place + length head) + length s.body) later rest spell.3 in
       let is : (tail ++ closing footed c.id) ++ rest ≡ head ++ (s.body ++ more) =
-      ap (λ l. (l ++ closing footed c.id) ++ rest) (spell.4 ∙ ap (λ l. l ++ later) s.is)
-      ∙ ap (λ l. l ++ rest) (append_assoc (head ++ s.body) later (closing footed c.id)) ∙ append_assoc (head ++ s.body)
-      (later ++ closing footed c.id) rest ∙ append_assoc head s.body more in
+      cc (
+        append_assoc (head ++ s.body) later (closing footed c.id),
+        append_assoc (head ++ s.body) (later ++ closing footed c.id) rest,
+        append_assoc head s.body more,
+      ) in
       read_from start place (tail ++ closing footed c.id) r
       (ap (J start place) is
       ∙ unit_on set names start (SubHead name w) place (s.body ++ more) (held_is c (so now) part i done)
@@ -158,7 +162,7 @@ module _ (set : Set) (names : List (List ℕ)) (good : IsGood set) (c : Section 
   section_read place body tail rest order spells once spell =
       let fresh : Image = record (default_image set c.device) { version = image.version } in
       let more = (tail ++ closing footed c.id) ++ rest in
-      let reads = rw (own_taken set names good c.k c.id c.device c.there image normal valid place body more spells)
+      let reads = rw (own_taken set c.device image normal good c.k c.there valid place body more spells)
       at (body_read set names c.state c.device fresh c.k c.id None c.there c.room good.structs c.device.desc image.version 0
       (good.devices c.k c.device c.there) (λ m. refl) (record { numbers = fresh.numbers; place = place; rest = body ++ more })) in
       let r = subs_read order None reads.0 (none_of c.device.subs) image.came reads.1 (beside_first c.device.subs image.came normal.subs) once
@@ -209,7 +213,7 @@ module _ (set : Set) (names : List (List ℕ)) (good : IsGood set) where
       let more = is.body ++ (is.tail ++ close) in
       let r = section_read set names good c image is.normal is.valid is.fits footed fits
       (place + length head) is.body is.tail rest is.order is.own is.each_once is.subs in
-      let whole : front ≡ head ++ more = is.whole ∙ append_assoc (head ++ is.body) is.tail close ∙ append_assoc head is.body (is.tail ++ close) in
+      let whole : front ≡ head ++ more = cc (append_assoc (head ++ is.body) is.tail close, append_assoc head is.body (is.tail ++ close)) in
       read_from s place front r
       (ap (λ l. J s place (l ++ rest)) whole
       ∙ ap (J s place) (append_assoc head more rest) ∙ unit_on set names s (Head id d.desc.name d.instance image.version) place (more ++ rest) free.held
@@ -232,10 +236,9 @@ module _ (set : Set) (names : List (List ℕ)) (good : IsGood set) where
         tail = to.tail;
         reads = rw spell (unit_on set names s End place after free.held free.end
             (end_passes set names ((g set names).due s) (known_at set s)
-            (subst (λ (y : State). position not 0 y.came ≡ None) (sym e) (none_missing 0 to.came once)))
-            ∙ ap (λ (y : State). J (record y { spot = Ended }) (place + 1) after) e
-            ∙ ap (λ (xs : List Image). J (record to { images = xs; spot = Ended }) (place + 1) after) same
-            ∙ ap (λ (x : ℕ). J (record to { images = images; spot = Ended }) x after) (omega (arith, ap length spell)));
+            (subst (λ y. position not 0 y.came ≡ None) (sym e) (none_missing 0 to.came once)))
+            ∙ ap (λ y. J (record y { spot = Ended }) (place + 1) after) e ∙ ap (λ xs. J (record to { images = xs; spot = Ended }) (place + 1) after) same
+            ∙ ap (λ x. J (record to { images = images; spot = Ended }) x after) (omega (arith, ap length spell)));
       }
   sections_read footed images one_each (k ∷ order) s to e free fits came long agree once place sections after spell =
       let J = reading_on (judge (by_state set names)) in
@@ -251,7 +254,7 @@ module _ (set : Set) (names : List (List ℕ)) (good : IsGood set) where
         came = q.came;
         tail = q.tail;
         reads = rw (spell.4) (ap (J s place) (append_assoc front later (0x00 ∷ after))
-            ∙ r.reads ∙ q.reads ∙ ap (λ (x : ℕ). J (record to { images = images; came = q.came; tail = q.tail; spot = Ended }) x after)
+            ∙ r.reads ∙ q.reads ∙ ap (λ x. J (record to { images = images; came = q.came; tail = q.tail; spot = Ended }) x after)
             (omega (arith, ap length spell.4, length-append front later)));
       }
 
