@@ -1,9 +1,9 @@
 -- Laws of the modes in the data sheet's terms.
-use Rattle.dev_pic.proofs.Facade.{◌≡◌, ℕ, ◌+◌, ◌<◌, Bool, true, false, not, cond, ◌&&◌, Option, Some, None, refl, arith, sym, ◌∙◌, ap, subst, ◌||◌, false≢true}
+use Rattle.dev_pic.proofs.Facade.{◌≡◌, ℕ, ◌+◌, ◌<◌, Bool, true, false, not, cond, ◌&&◌, Some, None, refl, arith, sym, ◌∙◌, ap, ◌||◌, false≢true}
 use Rattle.dev_pic.proofs.Facade.{bit_and, has, but_not, with_input, without_input, cascade_input, level_inputs_of, requests_of, in_service_of, served_of}
 use Rattle.dev_pic.proofs.Facade.{winner_at, taken, rising, settled, ended, ended_lowest, highest_served, commanded, written_even, vector_of, answered}
 use Rattle.dev_pic.proofs.Facade.{MaskedNeverWins, ServedBlocksLower, IsHighestServed, EndsService, EoiEndsHighest, AckWithoutWinner, TakesWinner}
-use Rattle.dev_pic.proofs.Facade.{TakesLinesOver, acked, acked_for, HasRegisters, PairHasRegisters, input_at, MeansWinner, IsWinner, Chip, Role, Master, Slave}
+use Rattle.dev_pic.proofs.Facade.{TakesLinesOver, acked, acked_for, HasRegisters, PairHasRegisters, input_at, IsWinner, Chip, Role, Master, Slave}
 use Rattle.dev_pic.proofs.Facade.{NonSpecificEoi, RotateOnNonSpecificEoi, PicPair}
 use Rattle.std.specs.Prelude.{bit_or}
 use Rattle.dev_pic.proofs.BitLaws.{level_inputs-lt, has-and, has-or, has-but_not, has-without_same, has-without_other, has-with_same, and_not_true}
@@ -12,8 +12,7 @@ use Rattle.dev_pic.proofs.WinnerLaws.{winner_of-means, highest_at, highest_none}
 -- The winner of a chip meets the relation.
 won : (role : Role) (chip : Chip) (input : ℕ) → winner_at role chip ≡ Some input → IsWinner chip.lowest (requests_of chip) (served_of role chip) input
 unfolding winner_at
-won role chip input e =
-    subst (MeansWinner chip.lowest (requests_of chip) (served_of role chip)) e (winner_of-means chip.lowest (requests_of chip) (served_of role chip))
+won role chip input e = rw e at (winner_of-means chip.lowest (requests_of chip) (served_of role chip))
 
 pub masked_never_wins : MaskedNeverWins
 masked_never_wins role chip input bound within masked e =
@@ -54,8 +53,7 @@ ends_lowest chip input within = ends_with chip input input within
 found : (chip : Chip) (input : ℕ) → IsHighestServed chip input → highest_served chip ≡ Some input
 found chip input h =
     let e = h.in_order.1 in
-    highest_at chip.lowest (in_service_of chip) h.place h.in_order.0 (subst (λ (i : ℕ). has (in_service_of chip) i ≡ true) e h.served) h.highest
-    ∙ ap Some (sym e)
+    highest_at chip.lowest (in_service_of chip) h.place h.in_order.0 (rw e at h.served) h.highest ∙ ap Some (sym e)
 
 is_input : (chip : Chip) (input : ℕ) → IsHighestServed chip input → input < 8
 is_input chip input h = omega arith
@@ -63,23 +61,19 @@ is_input chip input h = omega arith
 ends_highest : (chip : Chip) (input : ℕ) → chip.isr < 256 → IsHighestServed chip input
     → EndsService input chip (commanded NonSpecificEoi chip) × ((commanded NonSpecificEoi chip).lowest ≡ chip.lowest)
 unfolding commanded ended
-ends_highest chip input bound h =
-    subst (λ (o : Option ℕ). EndsService input chip (ended o chip) × ((ended o chip).lowest ≡ chip.lowest)) (sym (found chip input h))
-    (ends chip input (is_input chip input h), refl)
+ends_highest chip input bound h = rw (found chip input h) (ends chip input (is_input chip input h), refl)
 
 rotates_highest : (chip : Chip) (input : ℕ) → chip.isr < 256 → IsHighestServed chip input
     → EndsService input chip (commanded RotateOnNonSpecificEoi chip) × ((commanded RotateOnNonSpecificEoi chip).lowest ≡ input)
 unfolding commanded ended_lowest
-rotates_highest chip input bound h =
-    subst (λ (o : Option ℕ). EndsService input chip (ended_lowest o chip) × ((ended_lowest o chip).lowest ≡ input)) (sym (found chip input h))
-    (ends_lowest chip input (is_input chip input h), refl)
+rotates_highest chip input bound h = rw (found chip input h) (ends_lowest chip input (is_input chip input h), refl)
 
 ends_nothing : (chip : Chip) → ((input : ℕ) → input < 8 → has (in_service_of chip) input ≡ false)
     → (commanded NonSpecificEoi chip ≡ chip) × (commanded RotateOnNonSpecificEoi chip ≡ chip)
 unfolding commanded ended ended_lowest
 ends_nothing chip none =
     let e = highest_none chip.lowest (in_service_of chip) none in
-    (ap (λ o. ended o chip) e, ap (λ o. ended_lowest o chip) e)
+    (rw e, rw e)
 
 eoi_words : (level : ℕ) (chip : Chip)
     → (written_even level 0x20 chip ≡ commanded NonSpecificEoi chip) × (written_even level 0xa0 chip ≡ commanded RotateOnNonSpecificEoi chip)
@@ -95,14 +89,12 @@ plain_vector level role chip input within h = omega arith
 
 master_unasked : (pair : PicPair) → PairHasRegisters pair → winner_at Master pair.master ≡ None → acked pair ≡ (pair.master.base + 7, pair)
 unfolding acked_for answered
-master_unasked pair h none =
-    rw none (ap (λ n. (n, pair)) (plain_vector pair.level Master pair.master 7 (omega arith) h.master))
+master_unasked pair h none = rw none (rw (plain_vector pair.level Master pair.master 7 (omega arith) h.master))
 
 slave_unasked : (pair : PicPair) → PairHasRegisters pair → winner_at Master pair.master ≡ Some cascade_input → winner_at Slave pair.slave ≡ None
     → ((acked pair).0 ≡ pair.slave.base + 7) × ((acked pair).1.slave ≡ pair.slave)
 unfolding acked_for answered
-slave_unasked pair h taken none =
-    rw (taken, none) (plain_vector pair.level Slave pair.slave 7 (omega arith) h.slave, refl)
+slave_unasked pair h taken none = rw (taken, none) (plain_vector pair.level Slave pair.slave 7 (omega arith) h.slave, refl)
 
 pub ack_without_winner : AckWithoutWinner
 ack_without_winner = record { master = master_unasked; slave = slave_unasked }
@@ -114,39 +106,22 @@ edge_irr chip winner e = rw e
 
 level_irr : (chip : Chip) (winner : ℕ) → has (level_inputs_of chip) winner ≡ true → (taken winner chip).irr ≡ chip.irr
 unfolding taken
-level_irr chip winner e = rw e (serving_irr chip.auto_eoi chip.rotate) where
-  serving_irr : (auto rotate : Bool)
-      → (cond auto (cond rotate (record chip { lowest = winner }) chip) (record chip { isr = with_input chip.isr winner })).irr ≡ chip.irr
-  serving_irr true true = refl
-  serving_irr true false = refl
-  serving_irr false rotate = refl
-
-isr_by : (chip : Chip) (winner : ℕ) (auto level : Bool) → auto ≡ false → (let after = cond auto (cond chip.rotate (record chip { lowest = winner }) chip) (record chip { isr = with_input chip.isr winner }) in (cond level after (record after { irr = without_input chip.irr winner })).isr) ≡ with_input chip.isr winner
-isr_by chip winner true level e = cc
-isr_by chip winner false true e = refl
-isr_by chip winner false false e = refl
+level_irr chip winner e = grind arith
 
 served_isr : (chip : Chip) (winner : ℕ) → chip.auto_eoi ≡ false → (taken winner chip).isr ≡ with_input chip.isr winner
 unfolding taken
-served_isr chip winner e = isr_by chip winner chip.auto_eoi (has (level_inputs_of chip) winner) e
+served_isr chip winner e = grind arith
 
 pub takes_winner : TakesWinner
 takes_winner = record {
-  edge = λ chip winner bound within e. ap (λ r. has r winner) (edge_irr chip winner e) ∙ has-without_same chip.irr winner within;
+  edge = λ chip winner bound within e. rw (edge_irr chip winner e) (has-without_same chip.irr winner within);
   level = level_irr;
-  served = λ chip winner bound within e. ap (λ r. has r winner) (served_isr chip winner e) ∙ has-with_same chip.isr winner;
+  served = λ chip winner bound within e. rw (served_isr chip winner e) (has-with_same chip.isr winner);
 }
 
 -- A level input by its line, another by its request.
 by_mode : (requested line level : Bool) → ((requested && not level) || (line && level)) ≡ cond level line requested
-by_mode true true true = refl
-by_mode true true false = refl
-by_mode true false true = refl
-by_mode true false false = refl
-by_mode false true true = refl
-by_mode false true false = refl
-by_mode false false true = refl
-by_mode false false false = refl
+by_mode requested line level = grind arith
 
 pub takes_lines_over : TakesLinesOver
 unfolding settled

@@ -1,7 +1,7 @@
 -- Laws of polls, of special fully nested mode and of rotation in automatic end of interrupt.
-use Rattle.dev_pic.proofs.Facade.{◌≡◌, ℕ, ◌+◌, Bool, true, false, cond, if◌then◌else◌, Option, Some, None, refl, ap, ◌∙◌, arith, has, with_input, without_input}
+use Rattle.dev_pic.proofs.Facade.{◌≡◌, ℕ, ◌+◌, Bool, true, false, if◌then◌else◌, Option, Some, None, refl, ap, ◌∙◌, arith, has, with_input, without_input}
 use Rattle.dev_pic.proofs.Facade.{cascade_input, level_inputs_of, in_service_of, served_of, winner_at, taken, selected, commanded, written_even, polled_by}
-use Rattle.dev_pic.proofs.Facade.{shown, read_of, PollsOnce, NestsSpecially, RotatesAtOnce, Chip, Role, Master, Slave}
+use Rattle.dev_pic.proofs.Facade.{read_of, PollsOnce, NestsSpecially, RotatesAtOnce, Chip, Role, Master, Slave}
 use Rattle.dev_pic.proofs.BitLaws.{has-without_same, has-without_other}
 
 -- ---- polls
@@ -12,7 +12,7 @@ poll_asked level value chip fourth third second = rw (fourth, third, second) ref
 
 polled : (role : Role) (is_odd : Bool) (chip : Chip) → chip.poll ≡ true → read_of role is_odd chip ≡ polled_by (winner_at role chip) chip
 unfolding read_of
-polled role is_odd chip poll = ap (λ (b : Bool). if b then polled_by (winner_at role chip) chip else (shown is_odd chip, chip)) poll
+polled role is_odd chip poll = rw poll
 
 poll_winner : (role : Role) (is_odd : Bool) (chip : Chip) (input : ℕ) → chip.poll ≡ true → winner_at role chip ≡ Some input
     → read_of role is_odd chip ≡ (0x80 + input, taken input (record chip { poll = false }))
@@ -27,17 +27,7 @@ poll_none role is_odd chip poll is = cc (polled role is_odd chip poll)
 -- Taking an input doesn't change `poll`.
 taken_poll : (winner : ℕ) (chip : Chip) → (taken winner chip).poll ≡ chip.poll
 unfolding taken
-taken_poll winner chip = by chip.auto_eoi chip.rotate (has (level_inputs_of chip) winner)
-  where
-    by : (auto rotate level : Bool)
-        → (let after = cond auto (cond rotate (record chip { lowest = winner }) chip) (record chip { isr = with_input chip.isr winner }) in
-        (cond level after (record after { irr = without_input chip.irr winner })).poll) ≡ chip.poll
-    by true true true = refl
-    by true true false = refl
-    by true false true = refl
-    by true false false = refl
-    by false rotate true = refl
-    by false rotate false = refl
+taken_poll winner chip = grind arith
 
 by_winner : (o : Option ℕ) (chip : Chip) → (polled_by o chip).1.poll ≡ false
 unfolding polled_by
@@ -49,14 +39,14 @@ polls_once = record {
   asked = poll_asked;
   winner = poll_winner;
   none = poll_none;
-  once = λ role is_odd chip poll. ap (λ (a : ℕ × Chip). a.1.poll) (polled role is_odd chip poll) ∙ by_winner (winner_at role chip) chip;
+  once = λ role is_odd chip poll. rw (polled role is_odd chip poll) (by_winner (winner_at role chip) chip);
 }
 
 -- ---- special fully nested mode
 
 nested_served : (chip : Chip) → chip.nested ≡ true → served_of Master chip ≡ without_input (in_service_of chip) cascade_input
 unfolding served_of
-nested_served chip nested = ap (λ (b : Bool). if b then without_input (in_service_of chip) cascade_input else in_service_of chip) nested
+nested_served chip nested = rw nested
 
 plain_slave : (chip : Chip) → served_of Slave chip ≡ in_service_of chip
 unfolding served_of
@@ -64,9 +54,8 @@ plain_slave chip = refl
 
 pub nests_specially : NestsSpecially
 nests_specially = record {
-  cascade = λ chip nested. ap (λ (r : ℕ). has r cascade_input) (nested_served chip nested) ∙ has-without_same (in_service_of chip) cascade_input (omega arith);
-  others = λ chip input nested within ne. ap (λ (r : ℕ). has r input) (nested_served chip nested)
-      ∙ has-without_other (in_service_of chip) cascade_input input (omega arith) within ne;
+  cascade = λ chip nested. rw (nested_served chip nested) (has-without_same (in_service_of chip) cascade_input (omega arith));
+  others = λ chip input nested within ne. rw (nested_served chip nested) (has-without_other (in_service_of chip) cascade_input input (omega arith) within ne);
   slave = plain_slave;
 }
 
@@ -88,29 +77,23 @@ unfolding taken
 taken_is winner chip = refl
 
 ended_at_once : (rotate level : Bool) (winner : ℕ) (chip : Chip) → (taken_in true rotate level winner chip).isr ≡ chip.isr
-ended_at_once true true winner chip = refl
-ended_at_once true false winner chip = refl
-ended_at_once false true winner chip = refl
-ended_at_once false false winner chip = refl
+ended_at_once rotate level winner chip = grind arith
 
 rotated_to : (level : Bool) (winner : ℕ) (chip : Chip) → (taken_in true true level winner chip).lowest ≡ winner
-rotated_to true winner chip = refl
-rotated_to false winner chip = refl
+rotated_to level winner chip = grind arith
 
 kept_at : (level : Bool) (winner : ℕ) (chip : Chip) → (taken_in true false level winner chip).lowest ≡ chip.lowest
-kept_at true winner chip = refl
-kept_at false winner chip = refl
+kept_at level winner chip = grind arith
 
 pub rotates_at_once : RotatesAtOnce
 rotates_at_once = record {
   words = rotate_words;
   ended = λ chip winner auto. let level = has (level_inputs_of chip) winner in
-      ap (λ (c : Chip). c.isr) (taken_is winner chip) ∙ ap (λ (b : Bool). (taken_in b chip.rotate level winner chip).isr) auto
-      ∙ ended_at_once chip.rotate level winner chip;
+      ap (λ c. c.isr) (taken_is winner chip) ∙ ap (λ b. (taken_in b chip.rotate level winner chip).isr) auto ∙ ended_at_once chip.rotate level winner chip;
   rotated = λ chip winner auto rotate. let level = has (level_inputs_of chip) winner in
-      ap (λ (c : Chip). c.lowest) (taken_is winner chip) ∙ ap (λ (b : Bool). (taken_in b chip.rotate level winner chip).lowest) auto
-      ∙ ap (λ (b : Bool). (taken_in true b level winner chip).lowest) rotate ∙ rotated_to level winner chip;
+      ap (λ c. c.lowest) (taken_is winner chip) ∙ ap (λ b. (taken_in b chip.rotate level winner chip).lowest) auto
+      ∙ ap (λ b. (taken_in true b level winner chip).lowest) rotate ∙ rotated_to level winner chip;
   kept = λ chip winner auto rotate. let level = has (level_inputs_of chip) winner in
-      ap (λ (c : Chip). c.lowest) (taken_is winner chip) ∙ ap (λ (b : Bool). (taken_in b chip.rotate level winner chip).lowest) auto
-      ∙ ap (λ (b : Bool). (taken_in true b level winner chip).lowest) rotate ∙ kept_at level winner chip;
+      ap (λ c. c.lowest) (taken_is winner chip) ∙ ap (λ b. (taken_in b chip.rotate level winner chip).lowest) auto
+      ∙ ap (λ b. (taken_in true b level winner chip).lowest) rotate ∙ kept_at level winner chip;
 }
