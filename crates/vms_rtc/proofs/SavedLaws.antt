@@ -1,5 +1,5 @@
 -- A saved chip is restored as it was.
-use Rattle.vms_rtc.proofs.Facade.{◌≡◌, ℕ, zero, suc, ◌+◌, ◌<◌, ◌≤◌, ◌==◌, ◌||◌, not, nat_le, Bool, true, false, List, [], ◌∷◌, length, map, replicate, get_or}
+use Rattle.vms_rtc.proofs.Facade.{◌≡◌, ℕ, zero, suc, ◌+◌, ◌<◌, ◌≤◌, ◌||◌, not, nat_le, Bool, true, false, List, [], ◌∷◌, length, map, replicate, get_or}
 use Rattle.vms_rtc.proofs.Facade.{ℤ, pos, codes, Ok, refl, sym, ap, subst, ◌∙◌, arith, nat_tests, get_or-map, mc146818_rows, place_of_clock, numbers_of}
 use Rattle.vms_rtc.proofs.Facade.{Numbers, U8, of_none, of_more, byte, flag, flag-back, AllHold, size_at, whole, of_rows, carried_rows, stands, all_set}
 use Rattle.vms_rtc.proofs.Facade.{AllTrue, judged-all, ok-hook, cell_at, nat_of, flag_number, firsts, AreOf, named, kinds, saved_cells, carried, register}
@@ -87,8 +87,7 @@ met chip s =
 carried-newest : (set : ℕ) (chip : Rtc) → IsSound chip → chip.version ≤ set → carried set (saved_cells set chip) ≡ newest chip
 unfolding saved_cells
 carried-newest set chip s le =
-    let lacks : nat_le NMI_SINCE set ≡ false → chip.nmi_mask ≡ false =
-    λ e. s.mask (grind (arith, nat_tests)) in
+    let lacks : nat_le NMI_SINCE set ≡ false → chip.nmi_mask ≡ false = λ e. s.mask (grind (arith, nat_tests)) in
     carried_rows (named chip) set mc146818_rows (holds chip (wide chip s))
     (λ e. cc, (λ e. cc, (λ e. ap (λ m. pos (flag_number m) ∷ []) (lacks e), (λ e. cc, tt)))) [] 0 refl
 
