@@ -1,8 +1,7 @@
 -- Cells of given kinds: how lists of them are joined and split, and the ranges of their numbers.
 use Rattle.std.proofs.Common.{◌≡◌, ℕ, zero, suc, ◌^◌, ◌<◌, ◌==◌, Bool, true, false, cond, List, [], ◌∷◌, ◌++◌, length, ℤ, pos, negsuc, ◌≤ℤ◌, refl, arith, ap}
 use Rattle.std.proofs.lemmas.Int.{ints}
-use Rattle.vms_kinds.specs.Codes.{InRange, highest}
-use Rattle.vms_kinds.specs.declared.Kind.{Kind}
+use Rattle.vms_kinds.specs.{Codes.InRange, Codes.highest, declared.Kind.Kind}
 use Rattle.vms_kinds.specs.declared.Kind.TheVariants.{U8, U16, U64, Bool as Truth, Timer}
 use Rattle.dev_base.specs.Cells.{cell_at, nat_of, flag_number, kind_at, AreOf}
 

@@ -1,17 +1,14 @@
 -- Properties of the cells of any list of fields.
-use Rattle.std.proofs.Common.{◌≡◌, ℕ, zero, suc, ◌+◌, ◌-◌, ◌<◌, ◌&&◌, Bool, true, false, List, [], ◌∷◌, ◌++◌, length, take, replicate, if◌then◌else◌, ℤ, pos, ◌⊎◌, inl, inr, refl, sym, ap, ◌∙◌, arith, length-append, append_assoc}
+use Rattle.std.proofs.{lemmas.Slice.Eq.bytes_eq-Decides, Math.Seq.take-append_seam, Math.Seq.drop-append_seam}
+use Rattle.std.proofs.Common.{◌≡◌, ℕ, zero, suc, ◌+◌, ◌-◌, ◌<◌, ◌&&◌, Bool, true, false, List, [], ◌∷◌, ◌++◌, length, take, replicate, if◌then◌else◌, ℤ, pos}
+use Rattle.std.proofs.Common.{◌⊎◌, inl, inr, refl, sym, ap, ◌∙◌, arith, length-append, append_assoc}
 use Rattle.std.proofs.lemmas.Bool.{cases_Bool, false≢true, and_parts}
-use Rattle.std.proofs.lemmas.Slice.Eq.{bytes_eq-Decides}
-use Rattle.std.specs.Str.{bytes_eq}
 use Rattle.std.proofs.lemmas.List.{get_or_append_left, get_or-append_right, length-replicate}
-use Rattle.std.proofs.Math.Seq.{take-append_seam, drop-append_seam}
-use Rattle.vms_kinds.specs.Codes.{InRange}
-use Rattle.vms_kinds.specs.declared.Kind.{Kind}
+use Rattle.std.specs.{Str.bytes_eq}
+use Rattle.vms_kinds.specs.{Codes.InRange, declared.Kind.Kind}
 use Rattle.vms_fields.specs.Fields.{Row, Named, size_of, is_in, numbers_of, kinds_under, cells_under, place_from}
-use Rattle.dev_base.proofs.CellLaws.{of_none, of_more, of_both, of_where}
-use Rattle.dev_base.proofs.TableLaws.{carried-append, carried-places}
-use Rattle.dev_base.specs.Cells.{cell_at, AreOf}
-use Rattle.dev_base.specs.Tables.{carried_by, default_of, places, origins_from}
+use Rattle.dev_base.proofs.{CellLaws.of_none, CellLaws.of_more, CellLaws.of_both, CellLaws.of_where, TableLaws.carried-append, TableLaws.carried-places}
+use Rattle.dev_base.specs.{Cells.cell_at, Cells.AreOf, Tables.carried_by, Tables.default_of, Tables.places, Tables.origins_from}
 
 -- each row has the numbers that it counts, of its kind
 abbrev pub AllHold : Named → List Row → Type 0

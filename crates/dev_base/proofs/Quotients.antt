@@ -1,9 +1,7 @@
 -- Whole parts of numbers that grow.
+use Rattle.std.proofs.{lemmas.Bool.Decides.nat_tests, Math.Nat.div-mul-le_self, lemmas.Nat.le-div}
 use Rattle.std.proofs.Common.{◌≡◌, ℕ, ◌/◌, ◌<◌, ◌≤◌, ◌||◌, arith}
-use Rattle.std.proofs.lemmas.Bool.Decides.{nat_tests}
-use Rattle.std.proofs.Math.Nat.{div-mul-le_self}
-use Rattle.std.proofs.lemmas.Nat.{le-div}
-use Rattle.std.specs.Prelude.{nat_lt}
+use Rattle.std.specs.{Prelude.nat_lt}
 
 -- What grows over two spans grows in one of them.
 pub grown : (a b c : ℕ) → a ≤ b → b ≤ c → nat_lt a c ≡ (nat_lt a b || nat_lt b c)

@@ -1,8 +1,7 @@
 -- What tables make of cells.
 use Rattle.std.proofs.Common.{◌≡◌, ℕ, zero, suc, ◌+◌, ◌<◌, ◌≤◌, List, ◌∷◌, ◌++◌, length, take, drop, ℤ, pos, refl, arith, ap, ◌∙◌, drop-cons}
 use Rattle.std.proofs.lemmas.List.{map-append, take_all}
-use Rattle.dev_base.specs.Cells.{cell_at}
-use Rattle.dev_base.specs.Tables.{Origin, number_of, carried_by, places}
+use Rattle.dev_base.specs.{Cells.cell_at, Tables.Origin, Tables.number_of, Tables.carried_by, Tables.places}
 
 -- Tables that follow each other.
 pub carried-append : (cells : List ℤ) (table more : List Origin) → carried_by (table ++ more) cells ≡ carried_by table cells ++ carried_by more cells

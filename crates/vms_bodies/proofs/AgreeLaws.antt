@@ -1,13 +1,12 @@
 -- What is spelled depends on the cells that are named; a description's slots name cells between its place and its end.
+use Rattle.vms_bodies.proofs.{AboveLaws.desc_above, AboveLaws.meanings_above, SpellLaws.FitSlots}
+use Rattle.vms_bodies.proofs.CellLaws.{Stands, desc_are, meanings_are, cells_first}
 use Rattle.vms_bodies.proofs.Facade.{◌≡◌, ℕ, ◌+◌, ◌<◌, ◌≤◌, List, ◌∷◌, ◌++◌, length, get_or, replicate, ℤ, pos, refl, arith, append-nil, true, false, ◌==◌, []}
 use Rattle.vms_bodies.proofs.Facade.{◌||◌, eq-eqb, eqb-true, cases_lt, false_from_ne_true, or_left, or_right, ⊎_elim, length-replicate, drop_at, Desc, Set}
 use Rattle.vms_bodies.proofs.Facade.{Slot, Number, Constant, Filler, Rule, Cell, no_cell, meanings, desc_slots, desc_cells, struct_cells, Spells, RulesHold}
 use Rattle.vms_bodies.proofs.Facade.{has_cell, IsSound, AreSound, AreCells, either_of}
-use Rattle.std.proofs.lemmas.List.{length-append}
-use Rattle.vms_bodies.proofs.AboveLaws.{desc_above, meanings_above}
-use Rattle.vms_bodies.proofs.CellLaws.{Stands, desc_are, meanings_are, cells_first}
-use Rattle.vms_bodies.proofs.SpellLaws.{FitSlots}
 use Rattle.vms_bodies.proofs.SettledLaws.{SameIn, slots_within, cells_in}
+use Rattle.std.proofs.lemmas.List.{length-append}
 
 named : (c : ℕ) (xs : List Slot) → (c == c || has_cell xs c) ≡ true
 named c xs = or_left (c == c) _ (eq-eqb c c refl)

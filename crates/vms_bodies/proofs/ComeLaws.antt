@@ -1,11 +1,9 @@
 -- Which devices and which subsections came.
+use Rattle.vms_bodies.proofs.{BodyLaws.at_set, FineLaws.part_place, PartLaws.at_other, PartLaws.none_of}
 use Rattle.vms_bodies.proofs.Facade.{◌≡◌, sym, ◌∙◌, refl, arith, ◌==◌, ℕ, zero, suc, ◌<◌, List, [], ◌∷◌, ◌++◌, length, map, slice_set, Option, Some, None, Bool}
 use Rattle.vms_bodies.proofs.Facade.{true, false, slice_get, length-map, eqb-true, eq-eqb, Device, Set, Sub, Image, AreVersionsOf, Spells, sub_slots}
 use Rattle.vms_bodies.proofs.Facade.{default_image, sub_head, first_missing}
 use Rattle.vms_spec.specs.Streams
-use Rattle.vms_bodies.proofs.BodyLaws.{at_set}
-use Rattle.vms_bodies.proofs.FineLaws.{part_place}
-use Rattle.vms_bodies.proofs.PartLaws.{at_other, none_of}
 
 -- ---- devices
 

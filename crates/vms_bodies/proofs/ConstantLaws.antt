@@ -1,9 +1,8 @@
 -- The constants of slots are those of the descriptions.
+use Rattle.vms_bodies.proofs.{Names.if_there, SectionLaws.AreConstants}
 use Rattle.vms_bodies.proofs.Facade.{◌≡◌, Some, ℕ, zero, suc, List, [], ◌∷◌, ◌++◌, length, get_or, ℤ, slice_get, Item, Equal, Struct, sub_slots, Field, Desc}
 use Rattle.vms_bodies.proofs.Facade.{Device, Sub, Set, is_there, Slot, Constant, Meaning, no_meaning, no_desc, item_slots, times, field_slots, slots_from}
 use Rattle.vms_bodies.proofs.Facade.{desc_slots, elements_of, counted, no_parent, first, meaning, meanings, IsGood, ConstantFits, ConstantsFit, one_more}
-use Rattle.vms_bodies.proofs.Names.{if_there}
-use Rattle.vms_bodies.proofs.SectionLaws.{AreConstants}
 
 pub constants_append : (xs ys : List Slot) → AreConstants xs → AreConstants ys → AreConstants (xs ++ ys)
 constants_append [] ys p q = q

@@ -1,17 +1,13 @@
 -- An image whose parts so far are read is normal and valid so far, and stays so when one part more is read.
+use Rattle.vms_bodies.proofs.{CellLaws.cells_append, SectionLaws.own_are, NormalFound.named_fits, BodyLaws.at_set, SettledLaws.SameIn}
+use Rattle.vms_bodies.proofs.AgreeLaws.{its_same, its_fit, its_hold, its_below, its_outside}
 use Rattle.vms_bodies.proofs.Facade.{◌≡◌, ℕ, ◌+◌, ◌<◌, List, length, get_or, slice_set, Option, Some, None, ℤ, pos, refl, sym, ◌∙◌, arith, false, slice_get}
 use Rattle.vms_bodies.proofs.Facade.{cases_eq, cases_Bool, or_parts, ⊎_elim, slice_get_within, Sub, Device, Set, Slot, Cell, no_cell, device_cells, Image}
 use Rattle.vms_bodies.proofs.Facade.{sub_place, sub_slots, own_slots, own_cells, came_slots, image_slots, RulesHold, has_cell, AreVersionsOf, IsVersionOf}
 use Rattle.vms_bodies.proofs.Facade.{IsNormal, IsValid, FitsCell, AreCells, IsSound, AreSound, DefaultsFit}
 use Rattle.vms_bodies.proofs.Names.{none_in_both, none_joined}
-use Rattle.vms_bodies.proofs.CellLaws.{cells_append}
-use Rattle.vms_bodies.proofs.SpellLaws.{FitSlots, fit_append, rules_append}
-use Rattle.vms_bodies.proofs.SectionLaws.{own_are}
-use Rattle.vms_bodies.proofs.NormalFound.{named_fits}
-use Rattle.vms_bodies.proofs.BodyLaws.{at_set}
-use Rattle.vms_bodies.proofs.SettledLaws.{SameIn}
-use Rattle.vms_bodies.proofs.AgreeLaws.{its_same, its_fit, its_hold, its_below, its_outside}
 use Rattle.vms_bodies.proofs.PartLaws.{at_other, sub_size, sub_place_up, parts_apart, sub_are, parts_together, part_apart, names_next, versions_next}
+use Rattle.vms_bodies.proofs.SpellLaws.{FitSlots, fit_append, rules_append}
 
 -- where subsection j begins
 abbrev pub part_place : Set → Device → ℕ → ℕ

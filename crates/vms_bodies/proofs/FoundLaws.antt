@@ -1,9 +1,7 @@
 -- What was taken as a description is a body of it.
+use Rattle.vms_bodies.proofs.{Facade.AreCells, Places.SameBelow, WalkLaws.ComesTo, WalkLaws.set_desc_comes}
 use Rattle.vms_bodies.proofs.Facade.{◌≡◌, ℕ, ◌+◌, ◌≤◌, List, [], ◌++◌, length, get_or, Ok, ℤ, pos, refl, ◌∙◌, append-nil, false, IsBytes, Desc, Slot, Cell}
 use Rattle.vms_bodies.proofs.Facade.{meanings, desc_slots, desc_cells, Spells, RulesHold, has_cell, Progress, takers, cells_of, take_desc, IsSound, AreSound}
-use Rattle.vms_bodies.proofs.Facade.{AreCells}
-use Rattle.vms_bodies.proofs.Places.{SameBelow}
-use Rattle.vms_bodies.proofs.WalkLaws.{ComesTo, set_desc_comes}
 use Rattle.vms_bodies.proofs.SpellLaws.{Spelled, Anything, FitSlots, spelled_keeps, spelled_first}
 
 -- from p to q the bytes of a body were taken: its slots are those of all numbers that agree with q's below the end

@@ -1,7 +1,6 @@
 -- A named cell of slots that fit fits.
+use Rattle.vms_bodies.proofs.{Facade.either_of, Facade.AreCells, SpellLaws.FitSlots}
 use Rattle.vms_bodies.proofs.Facade.{◌≡◌, ℕ, List, [], ◌∷◌, get_or, ℤ, pos, true, ◌==◌, eqb-true, Slot, Number, Constant, Cell, no_cell, has_cell, FitsCell}
-use Rattle.vms_bodies.proofs.Facade.{either_of, AreCells}
-use Rattle.vms_bodies.proofs.SpellLaws.{FitSlots}
 
 -- a named cell fits
 pub named_fits : (all : List Cell) (m : List ℤ) (slots : List Slot) (c : ℕ) → has_cell slots c ≡ true → FitSlots m slots → AreCells all slots

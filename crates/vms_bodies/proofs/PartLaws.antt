@@ -1,11 +1,10 @@
 -- The parts of a section: where they begin, and what their slots are together.
+use Rattle.vms_bodies.proofs.{Facade.IsVersionOf, Facade.or_turned, Facade.AreCells, Names.names_append}
+use Rattle.vms_bodies.proofs.CellLaws.{Stands, front_stands, rest_stands, desc_are, meanings_are, cells_first}
 use Rattle.vms_bodies.proofs.Facade.{◌≡◌, ℕ, zero, suc, ◌+◌, ◌<◌, ◌≤◌, List, ◌∷◌, ◌++◌, length, map, slice_set, Option, Some, None, ℤ, refl, sym, ap, ◌∙◌}
 use Rattle.vms_bodies.proofs.Facade.{arith, append-nil, [], ◌||◌, flat_map, slice_get, or_assoc, cases_lt, ⊎_elim, drop-append_seam, Sub, Device, Set, Slot}
 use Rattle.vms_bodies.proofs.Facade.{Cell, desc_cells, device_cells, struct_cells, sub_place, sub_slots, own_cells, came_slots, has_cell, AreVersionsOf}
-use Rattle.vms_bodies.proofs.Facade.{IsVersionOf, or_turned, AreCells}
 use Rattle.vms_spec.specs.Streams
-use Rattle.vms_bodies.proofs.Names.{names_append}
-use Rattle.vms_bodies.proofs.CellLaws.{Stands, front_stands, rest_stands, desc_are, meanings_are, cells_first}
 
 abbrev pub sub_size : Set → Sub → ℕ
 sub_size set s = length (desc_cells (struct_cells set) s.desc)

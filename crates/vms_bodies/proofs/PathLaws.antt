@@ -1,10 +1,9 @@
 -- The cell of a path is one of the device's.
+use Rattle.vms_bodies.proofs.{Facade.size_of_device, Facade.cell_count, Facade.field_size, Facade.element_room, Facade.first_at, Places.place_up}
 use Rattle.vms_bodies.proofs.Facade.{◌≡◌, ℕ, zero, suc, ◌+◌, ◌*◌, ◌<◌, ◌≤◌, List, ◌∷◌, length, length-append, Option, Some, None, refl, arith, Bool, true}
 use Rattle.vms_bodies.proofs.Facade.{false, nat_lt, if◌then◌else◌, [], flat_map, slice_get, ltb-true, get_or_from_slice_get, Item, Num, Struct, Field, Desc}
 use Rattle.vms_bodies.proofs.Facade.{Sub, Device, Set, Cell, no_desc, first, item_size, capacity_of, place_of, field_cells, cells_from, desc_cells}
 use Rattle.vms_bodies.proofs.Facade.{struct_cells, device_cells, sub_place, own_cells, item_at, element_at, path_at, desc_of_sub, cell_in, cell_at}
-use Rattle.vms_bodies.proofs.Facade.{size_of_device, cell_count, field_size, element_room, first_at}
-use Rattle.vms_bodies.proofs.Places.{place_up}
 
 -- ---- places
 

@@ -3,8 +3,7 @@ use Rattle.vms_bodies.proofs.Facade.{◌≡◌, ℕ, zero, suc, ◌+◌, ◌*◌
 use Rattle.vms_bodies.proofs.Facade.{arith, length-append, not, AllByRecursion, Item, Num, Count, One, Counted, Own, Formula, Not, And, Or, Field, Desc, truth}
 use Rattle.vms_bodies.proofs.Facade.{is_there, place_of, field_cells, item_size, capacity_of, cells_from, numbers_of, no_field, no_parent, all_hold}
 use Rattle.vms_bodies.proofs.Facade.{elements_of, field_size, IsNumber, IsOne, IsEarlier, NamesEarlier, IsSoundTest, IsSoundCount}
-use Rattle.vms_spec.specs.Sets.{Cell}
-use Rattle.vms_spec.specs.Layout.{Cell as OneCell}
+use Rattle.vms_spec.specs.{Sets.Cell, Layout.Cell as OneCell}
 
 -- the numbers below a cell stay
 pub record SameBelow (cell : ℕ) (before now : List ℤ) : Type 0 where

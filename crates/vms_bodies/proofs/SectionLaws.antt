@@ -1,8 +1,7 @@
 -- A section's cells, defaults and footer.
+use Rattle.vms_bodies.proofs.{SpellLaws.FitSlots, CellLaws.desc_are, CellLaws.meanings_are, CellLaws.cells_first}
 use Rattle.vms_bodies.proofs.Facade.{◌≡◌, ℕ, List, [], ◌∷◌, length, get_or, map, ℤ, pos, refl, flat_map, get_or-map, length-map, InRange, Device, Set, Slot}
 use Rattle.vms_bodies.proofs.Facade.{Number, Constant, Cell, no_cell, desc_cells, device_cells, struct_cells, own_slots, FitCells, FitsCell, AreCells}
-use Rattle.vms_bodies.proofs.SpellLaws.{FitSlots}
-use Rattle.vms_bodies.proofs.CellLaws.{desc_are, meanings_are, cells_first}
 
 -- each constant of the slots fits its kind
 abbrev pub AreConstants : List Slot → Type 0

@@ -1,16 +1,14 @@
 -- What was taken of a body is spelled by its slots, as they are at last.
+use Rattle.vms_bodies.proofs.{Facade.IsCell, Facade.AreCells, Places.SameBelow, Places.same_refl, Places.same_less, Names.none_in_both}
 use Rattle.vms_bodies.proofs.Facade.{◌≡◌, ◌≢◌, ℕ, ◌+◌, ◌≤◌, ◌≤ℤ◌, List, ◌∷◌, ◌++◌, length, get_or, take, slice_set, ℤ, pos, refl, sym, ap, ◌∙◌, arith}
 use Rattle.vms_bodies.proofs.Facade.{append_assoc, append-nil, length-append, true, false, not, nat_lt, ◌==◌, get_or-set_other, [], AllByRecursion}
 use Rattle.vms_bodies.proofs.Facade.{take-append-drop, length-take-le, length-set, not-not, ltb-false, eq-eqb, or_parts, big_number, Kind, width, value_of}
 use Rattle.vms_bodies.proofs.Facade.{code, InRange, IsBadBool, value_taken, bytes_first, bytes_rest, IsBytes, is_bad_bool, exceeds, same_number, Slot, Number}
 use Rattle.vms_bodies.proofs.Facade.{Constant, Filler, Rule, Cell, Spells, RulesHold, has_cell, Progress, Refusal, on, take_slot, same_number_is, within_all}
-use Rattle.vms_bodies.proofs.Facade.{IsCell, AreCells}
+use Rattle.vms_bodies.proofs.WalkLaws.{Left, Gives, IsOther, Keeping, whole_gives, value_gives}
 use Rattle.std.proofs.Common.{get_or-set_same}
 use Rattle.vms_kinds.specs.declared.Kind.TheVariants.{Bool}
 use Rattle.vms_spec.specs.declared.Reason.TheVariants as reasons
-use Rattle.vms_bodies.proofs.Places.{SameBelow, same_refl, same_less}
-use Rattle.vms_bodies.proofs.Names.{none_in_both}
-use Rattle.vms_bodies.proofs.WalkLaws.{Left, Gives, IsOther, Keeping, whole_gives, value_gives}
 
 -- ---- a number's bytes
 

@@ -1,8 +1,6 @@
 -- The laws as they are stated.
+use Rattle.vms_bodies.proofs.{PathLaws.cell_inside, ReadyLaws.ready_decides, WrittenLaws.zeroed_spells}
 use Rattle.vms_bodies.proofs.Facade.{GoodLaw, ShippedLaw, well_good, shipped_stands, CellLaw, ReadyLaw, ZeroedLaw}
-use Rattle.vms_bodies.proofs.PathLaws.{cell_inside}
-use Rattle.vms_bodies.proofs.ReadyLaws.{ready_decides}
-use Rattle.vms_bodies.proofs.WrittenLaws.{zeroed_spells}
 
 pub good_holds : GoodLaw
 good_holds = well_good

@@ -1,8 +1,6 @@
 -- What is in the bytes is counted, and the path of a number is its cell's.
+use Rattle.vms_elements.proofs.{Members.each_at, PathsOf.Tells, PathsOf.each_tells, Walk.IsCounted, Walk.walks}
 use Rattle.vms_elements.proofs.Facade.{length, elements_in, CellLaw, CountedLaw}
-use Rattle.vms_elements.proofs.Members.{each_at}
-use Rattle.vms_elements.proofs.PathsOf.{Tells, each_tells}
-use Rattle.vms_elements.proofs.Walk.{IsCounted, walks}
 
 pub counted_holds : CountedLaw
 counted_holds set d v numbers place i x is = each_at IsCounted (elements_in set d v numbers place) i x is (walks set d v v numbers numbers place place).counted

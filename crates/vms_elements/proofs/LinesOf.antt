@@ -1,4 +1,5 @@
 -- The lines of the counted numbers are the text of a description.
+use Rattle.vms_elements.proofs.{Arrays.array_of, Arrays.outs, Tables.both, Tables.two_more, Tables.shapes_cells}
 use Rattle.vms_elements.proofs.Facade.{◌≡◌, ℕ, zero, suc, ◌+◌, ◌≤◌, List, ◌∷◌, ◌++◌, length, get_or, map, ℤ, refl, sym, ap, ◌∙◌, arith, Bool, true, false, ◌&&◌}
 use Rattle.vms_elements.proofs.Facade.{if◌then◌else◌, append-nil, append_assoc, Option, Some, None, codes, [], map-append, decimal, Item, Num, Struct, Count}
 use Rattle.vms_elements.proofs.Facade.{One, Fixed, Counted, Field, Desc, Sub, Device, Set, Image, own_cells, no_desc, first, counted, capacity_of, elements_of}
@@ -8,8 +9,6 @@ use Rattle.vms_elements.proofs.Facade.{no_shape, shape, shapes, cells_in, dotted
 use Rattle.vms_elements.proofs.Facade.{elements_from, desc_elements, index_text, text_of, printed, number_line, number_lines, section_line, sub_line}
 use Rattle.vms_elements.proofs.Facade.{subs_lines, device_lines, devices_lines, machine_lines, values_lines, is_number}
 use Rattle.vms_spec.specs.Values as texts
-use Rattle.vms_elements.proofs.Arrays.{array_of, outs}
-use Rattle.vms_elements.proofs.Tables.{both, two_more, shapes_cells}
 
 pub text_append : (xs ys : List (List ℕ)) → text_of (xs ++ ys) ≡ text_of xs ++ text_of ys
 text_append [] ys = refl

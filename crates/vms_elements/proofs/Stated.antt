@@ -1,10 +1,9 @@
 -- The laws of one description and of the text, as they are stated.
+use Rattle.vms_elements.proofs.{SlotsOf.elements_slots, SlotsOf.slots_append, LinesOf.text_is}
 use Rattle.vms_elements.proofs.Facade.{◌≡◌, ℕ, List, [], ◌∷◌, length, map, Option, Some, None, ℤ, refl, arith, zero-add, flat_map, Sub, Device, Set, desc_cells}
 use Rattle.vms_elements.proofs.Facade.{struct_cells, device_cells, Image, own_cells, came_slots, Element, absent, slots_of, device_elements, sub_elements}
 use Rattle.vms_elements.proofs.Facade.{subs_elements, ElementsLaw, DeviceLaw, TextLaw}
-use Rattle.vms_elements.proofs.SlotsOf.{elements_slots, slots_append}
 use Rattle.vms_elements.proofs.Walk.{Walks, is_absent, no_walk, step_walks, then_walks, walks}
-use Rattle.vms_elements.proofs.LinesOf.{text_is}
 
 pub elements_law : ElementsLaw
 elements_law set d v n place =

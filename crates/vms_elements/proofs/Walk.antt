@@ -1,13 +1,12 @@
 -- One walk over the elements of a description, in two states side by side: their cells, their names, that the numbers count up, and
 -- that what is in the bytes is counted.
+use Rattle.vms_elements.proofs.{Members.Each, Members.each_append, Members.each_map, Tables.shapes_cells, Tables.cells_at}
 use Rattle.vms_elements.proofs.Facade.{◌≡◌, ℕ, zero, suc, ◌+◌, Bool, true, false, ◌&&◌, nat_lt, if◌then◌else◌, List, [], ◌∷◌, ◌++◌, length, get_or, map, ℤ}
 use Rattle.vms_elements.proofs.Facade.{refl, ap, ◌∙◌, subst, arith, append-nil, map-append, length-map, Item, Num, Struct, Field, Desc, Set, Cell, no_desc}
 use Rattle.vms_elements.proofs.Facade.{first, times, counted, item_cells, field_cells, cells_from, desc_cells, struct_cells, numbers_of, pick_append, size_same}
 use Rattle.vms_elements.proofs.Facade.{one_more, What, Number, Rule, Element, Shape, no_shape, shape, shapes, cells_in, dotted, behind, single, item_elements}
 use Rattle.vms_elements.proofs.Facade.{Stand, stand_of, array_elements, field_elements, elements_from, desc_elements, index_text, absent, is_number, numbers_in}
 use Rattle.vms_elements.proofs.Facade.{cells_with, cells_of, names_of, CountsUp, elements_in}
-use Rattle.vms_elements.proofs.Members.{Each, each_append, each_map}
-use Rattle.vms_elements.proofs.Tables.{shapes_cells, cells_at}
 
 abbrev pub IsCounted : Element → Type 0
 IsCounted x = x.present ≡ true → x.counted ≡ true

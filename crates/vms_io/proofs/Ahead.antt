@@ -1,9 +1,7 @@
 -- The bytes that a buffered reader still gives, as they are read and given.
-use Rattle.vms_io.proofs.Facade.{◌≡◌, ℕ, ◌+◌, ◌-◌, ◌≤◌, Bool, true, false, ◌&&◌, List, [], ◌++◌, length, take, drop, Option, Some, None, if◌then◌else◌, refl, sym}
-use Rattle.vms_io.proofs.Facade.{ap, ◌∙◌, arith, append_assoc, length-take-le, take-take, list_all-append, Consumes, Keeps, ahead, are_bytes, bytes_only}
-use Rattle.vms_io.proofs.Facade.{between}
-use Rattle.vms_io.proofs.Filling.{left_split}
-use Rattle.vms_io.proofs.Gathering.{part_is}
+use Rattle.vms_io.proofs.{Facade.between, Filling.left_split, Gathering.part_is}
+use Rattle.vms_io.proofs.Facade.{◌≡◌, ℕ, ◌+◌, ◌-◌, ◌≤◌, Bool, true, false, ◌&&◌, List, [], ◌++◌, length, take, drop, Option, Some, None, if◌then◌else◌, refl}
+use Rattle.vms_io.proofs.Facade.{sym, ap, ◌∙◌, arith, append_assoc, length-take-le, take-take, list_all-append, Consumes, Keeps, ahead, are_bytes, bytes_only}
 
 -- after the front of a list of bytes there are bytes
 only_after : (xs bs ys : List ℕ) → xs ≡ bs ++ ys → Consumes (bytes_only xs) (bytes_only ys) bs

@@ -1,18 +1,12 @@
 -- Heads, a configuration and a footer can be read back from their bytes.
+use Rattle.std.proofs.{lemmas.List.drop-drop, Math.Seq.drop-append_seam}
 use Rattle.std.proofs.Common.{◌≡◌, ℕ, ◌+◌, ◌<◌, ◌≤◌, ◌^◌, List, ◌∷◌, ◌++◌, length, take, drop, refl, sym, ap, ◌∙◌, arith, append_assoc, []}
-use Rattle.std.proofs.lemmas.List.{drop-drop}
-use Rattle.std.proofs.Math.Seq.{drop-append_seam}
 use Rattle.byteorder.specs.Endian.{big_number}
-use Rattle.vms_spec.specs.declared.TheConstants.{LONGEST_NAME}
-use Rattle.vms_spec.specs.Streams.{be32}
-use Rattle.vms_marks.specs.declared.sub_head.SubHead.{SubHead}
-use Rattle.vms_marks.specs.declared.configuration.Configuration.{Configuration}
-use Rattle.vms_marks.specs.declared.foot.Foot.{Foot}
-use Rattle.vms_spec.specs.Lookup.{number_at, bytes_at}
-use Rattle.vms_spec.proofs.KindLaws.{be32_read}
-use Rattle.vms_marks.specs.declared.head.Head.{Head}
+use Rattle.vms_spec.proofs.{KindLaws.be32_read}
+use Rattle.vms_spec.specs.{declared.TheConstants.LONGEST_NAME, Streams.be32, Lookup.number_at, Lookup.bytes_at}
+use Rattle.vms_marks.specs.{declared.sub_head.SubHead.SubHead, declared.configuration.Configuration.Configuration, declared.foot.Foot.Foot}
+use Rattle.vms_marks.specs.{declared.head.Head.Head, Laws.HeadLaw, Laws.SubHeadLaw, Laws.ConfigurationLaw, Laws.FootLaw}
 use Rattle.vms_marks.specs.Heads.{head_bytes, head_in, sub_head_in, configuration_in}
-use Rattle.vms_marks.specs.Laws.{HeadLaw, SubHeadLaw, ConfigurationLaw, FootLaw}
 
 take_front : (front rest : List ℕ) → take (length front) (front ++ rest) ≡ front
 take_front [] rest = refl

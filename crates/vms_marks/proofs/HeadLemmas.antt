@@ -1,12 +1,11 @@
 -- The bytes of the head that is read are those that were read.
-use Rattle.std.proofs.Common.{◌≡◌, ℕ, zero, suc, ◌+◌, ◌<◌, List, ◌∷◌, ◌++◌, length, get_or, take, drop, refl, sym, ap, subst, ◌∙◌, arith, length-drop, take-append-drop, append_assoc, []}
+use Rattle.std.proofs.Common.{◌≡◌, ℕ, zero, suc, ◌+◌, ◌<◌, List, ◌∷◌, ◌++◌, length, get_or, take, drop, refl, sym, ap, subst, ◌∙◌, arith, length-drop}
+use Rattle.std.proofs.Common.{take-append-drop, append_assoc, []}
 use Rattle.std.proofs.lemmas.List.{drop-drop, length-take-le, get_or-drop}
 use Rattle.byteorder.specs.Endian.{big_number}
-use Rattle.vms_kinds.specs.declared.Kind.TheVariants.{U32}
-use Rattle.vms_kinds.proofs.CodeLemmas.{again}
-use Rattle.vms_spec.specs.Streams.{be32}
-use Rattle.vms_kinds.specs.Bytes.{IsBytes}
-use Rattle.vms_spec.specs.Lookup.{number_at}
+use Rattle.vms_kinds.proofs.{CodeLemmas.again}
+use Rattle.vms_kinds.specs.{declared.Kind.TheVariants.U32, Bytes.IsBytes}
+use Rattle.vms_spec.specs.{Streams.be32, Lookup.number_at}
 use Rattle.vms_marks.specs.Heads.{head_bytes, head_in}
 
 -- four bytes are those of their number

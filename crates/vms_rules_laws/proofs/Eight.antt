@@ -1,4 +1,6 @@
 -- The eight rules hold exactly if the walk finds no fault.
+use Rattle.vms_rules_laws.proofs.{Depths.deep_struct, Depths.shallow_struct, Fields.all_eight, Fields.field_decides, Fields.validation_decides}
+use Rattle.vms_rules_laws.proofs.{Items.set_counts, Names.distinct_decides, Names.name_decides, Names.sub_name_decides}
 use Rattle.vms_rules_laws.proofs.Facade.{◌≡◌, ℕ, zero, suc, ◌+◌, ◌<◌, ◌≤◌, Bool, true, false, not, nat_le, List, [], ◌∷◌, length, get_or, take, Option, None}
 use Rattle.vms_rules_laws.proofs.Facade.{inl, inr, refl, arith, Decides, list_any, leb-true, le-leb, or_left, or_right, Decides-and, Decides-eqb, Decides-like}
 use Rattle.vms_rules_laws.proofs.Facade.{Decides-not, slice_get_within, bytes_eq-Decides, MOST_ITEMS, Part, Place, first_answer, or_else, is_name, field_rules}
@@ -6,12 +8,8 @@ use Rattle.vms_rules_laws.proofs.Facade.{is_small_test, validation_rules, Desc, 
 use Rattle.vms_rules_laws.proofs.Facade.{failing, first_fault, has_few, here, in_field, is_same_device, set_rules, size_rules, struct_depths, struct_fault}
 use Rattle.vms_rules_laws.proofs.Facade.{struct_items, struct_rules, sub_fault, sub_rules, AllTrue, all_true, or_else_none, both_none, Clean, device_parts}
 use Rattle.vms_rules_laws.proofs.Facade.{struct_clean, sub_clean, At, IsDesc, IsDevice, IsName, IsSteady, IsStruct, IsSub, EightLaw}
-use Rattle.vms_spec.specs.declared.Part.TheVariants as parts
-use Rattle.vms_rules_laws.proofs.Depths.{deep_struct, shallow_struct}
-use Rattle.vms_rules_laws.proofs.Fields.{all_eight, field_decides, validation_decides}
-use Rattle.vms_rules_laws.proofs.Items.{set_counts}
-use Rattle.vms_rules_laws.proofs.Names.{distinct_decides, name_decides, sub_name_decides}
 use Rattle.vms_rules_laws.proofs.Tests.{all_decides, le_decides, names_decides, never, new_decides, small_decides, split, steady_decides}
+use Rattle.vms_spec.specs.declared.Part.TheVariants as parts
 
 -- ---- nothing fails
 

@@ -1,53 +1,38 @@
 -- The names of other crates, and of this crate's `specs`, that the proofs use.
+pub use Rattle.std.proofs.{Math.Bool.or_assoc, Math.Nat.le-max_left, Math.Nat.le-max_right, Math.Nat.max-le, Math.Nat.suc-mul, lemmas.Slice.Eq.bytes_eq-Decides}
 pub use Rattle.std.proofs.Common.{Bool, List, None, Option, Some, [], ap, append_assoc, arith, drop, false, get_or, if◌then◌else◌, inl, inr, length}
 pub use Rattle.std.proofs.Common.{length-append, map, max, nat_le, nat_lt, not, pos, refl, subst, suc, sym, take, true, zero, ℕ, ℤ, ◌&&◌, ◌*◌, ◌++◌, ◌+◌, ◌<◌}
 pub use Rattle.std.proofs.Common.{◌==◌, ◌||◌, ◌∙◌, ◌∷◌, ◌≡◌, ◌≤ℤ◌, ◌≤◌, ◌⊎◌}
-pub use Rattle.std.proofs.Math.Bool.{or_assoc}
-pub use Rattle.std.proofs.Math.Nat.{le-max_left, le-max_right, max-le, suc-mul}
 pub use Rattle.std.proofs.lemmas.Bool.{and_from, and_parts, cases_Bool, eq-eqb, eqb-true, le-leb, leb-true, ltb-true, or_left, or_right}
 pub use Rattle.std.proofs.lemmas.Bool.Decides.{Decides-and, Decides-at, Decides-eqb, Decides-like, Decides-ltb, Decides-not, Decides-or, nat_tests}
 pub use Rattle.std.proofs.lemmas.List.{drop_at, get_or_past, take-append-drop, take_at}
 pub use Rattle.std.proofs.lemmas.Option.{get_or_from_slice_get, slice_get-get_or, slice_get_within}
-pub use Rattle.std.proofs.lemmas.Slice.Eq.{bytes_eq-Decides}
-pub use Rattle.std.specs.Bool.{Decides}
-pub use Rattle.std.specs.List.{AllByRecursion, list_all, list_any, slice_get}
-pub use Rattle.vms_kinds.specs.Codes.{InRange}
-pub use Rattle.vms_kinds.specs.declared.Item.{Item}
+pub use Rattle.std.specs.{Bool.Decides, List.AllByRecursion, List.list_all, List.list_any, List.slice_get}
+pub use Rattle.vms_kinds.specs.{Codes.InRange, declared.Item.Item, declared.Kind.Kind}
 pub use Rattle.vms_kinds.specs.declared.Item.TheVariants.{Equal, Num, Struct, Unused}
-pub use Rattle.vms_kinds.specs.declared.Kind.{Kind}
 pub use Rattle.vms_kinds.specs.declared.Kind.TheVariants.{U16, U32, U8}
+pub use Rattle.vms_spec.proofs.{ListLaws.both_none, NumberLaws.same_number_is, Tables.first_at, Tables.first_long}
 pub use Rattle.vms_spec.proofs.Faultless.{AllTrue, all_true, or_else_none}
-pub use Rattle.vms_spec.proofs.ListLaws.{both_none}
-pub use Rattle.vms_spec.proofs.NumberLaws.{same_number_is}
-pub use Rattle.vms_spec.proofs.Tables.{first_at, first_long}
 pub use Rattle.vms_spec.proofs.WellFormedLaws.{Clean, device_parts, ranges, struct_clean, sub_clean, untested, within}
-pub use Rattle.vms_spec.specs.Images.{default_image, own_cells}
+pub use Rattle.vms_spec.specs.{Images.default_image, Images.own_cells, Lists.first_answer, Lists.or_else, Numbers.same_number, Streams.is_one_of}
+pub use Rattle.vms_spec.specs.{declared.Count.Count, declared.Part.Part, declared.Place.Place, declared.TheConstants.MOST_ITEMS}
+pub use Rattle.vms_spec.specs.{declared.TheConstants.MOST_UNUSED, declared.Whose.TheVariants.Own, declared.Whose.TheVariants.Parent}
 pub use Rattle.vms_spec.specs.Layout.{all_hold, capacity_of, counted, desc_cells, field_cells, item_size, no_desc, numbers_of, struct_cells}
-unfoldable pub use Rattle.vms_spec.specs.Layout.{first}
-pub use Rattle.vms_spec.specs.Lists.{first_answer, or_else}
 pub use Rattle.vms_spec.specs.Names.{all_names, are_new, is_name, is_name_byte, is_sub_name}
-pub use Rattle.vms_spec.specs.Numbers.{same_number}
 pub use Rattle.vms_spec.specs.Rules.{count_names_well, counts_well, defaults_well, depth, field_rules, has_good_count, has_no_test, in_range, is_counting}
 pub use Rattle.vms_spec.specs.Rules.{is_counting_item, is_earlier_in, is_num, is_one, is_small_item, is_small_optional, is_small_test, is_steady, is_steady_in}
 pub use Rattle.vms_spec.specs.Rules.{names_well, nobody, nodes, test_names_well, uses_below, validation_rules}
 pub use Rattle.vms_spec.specs.Sets.{And, AtLeast, Cell, Desc, Device, Field, Formula, Not, Or, Set, Sub}
-pub use Rattle.vms_spec.specs.Streams.{is_one_of}
 pub use Rattle.vms_spec.specs.WellFormed.{are_distinct, deepest, desc_fault, device_fault, device_rules, devices_items, failing, has_few, here, in_field}
 pub use Rattle.vms_spec.specs.WellFormed.{is_same_device, item_count, item_depth, items_in, set_rules, size_rules, struct_depths, struct_fault, struct_items}
 pub use Rattle.vms_spec.specs.WellFormed.{struct_rules, sub_fault, sub_rules, subs_items}
-unfoldable pub use Rattle.vms_spec.specs.WellFormed.{first_fault}
-pub use Rattle.vms_spec.specs.declared.Count.{Count}
 pub use Rattle.vms_spec.specs.declared.Count.TheVariants.{Counted, Fixed, One}
-pub use Rattle.vms_spec.specs.declared.Part.{Part}
-pub use Rattle.vms_spec.specs.declared.Place.{Place}
-pub use Rattle.vms_spec.specs.declared.TheConstants.{MOST_ITEMS, MOST_UNUSED}
-pub use Rattle.vms_spec.specs.declared.Whose.TheVariants.{Own, Parent}
+unfoldable pub use Rattle.vms_spec.specs.{Layout.first, WellFormed.first_fault}
 pub use Rattle.vms_bodies.proofs.ReadyLaws.{counted_well, is_same, ranged}
 pub use Rattle.vms_elements.proofs.Tables.{two_more}
 pub use Rattle.vms_elements.specs.Elements.{Element, Rule, Shape, Stand, array_elements, behind, cells_in, desc_elements, dotted, elements_from, field_elements}
 pub use Rattle.vms_elements.specs.Elements.{index_text, item_elements, no_shape, shape, shapes, single, stand_of}
 pub use Rattle.vms_elements.specs.Parts.{absent, elements_in, subs_elements}
+pub use Rattle.vms_rules_laws.specs.{Eight.UsesOn, Eight.items_among, Eight.items_of, Eight.names_of, Eight.parts_of, Laws.EightLaw}
 pub use Rattle.vms_rules_laws.specs.Eight.{AreNewNames, At, CountFits, DefaultFits, IsCounting, IsDesc, IsDevice, IsEarlier, IsField, IsName, IsNameByte, IsNew}
 pub use Rattle.vms_rules_laws.specs.Eight.{IsSmall, IsSteady, IsStruct, IsSub, IsSubName, IsValidation, IsWithin, IsWithinTest, NamesOnly, Nests, Nobody}
-pub use Rattle.vms_rules_laws.specs.Eight.{UsesOn, items_among, items_of, names_of, parts_of}
-pub use Rattle.vms_rules_laws.specs.Laws.{EightLaw}

@@ -1,4 +1,5 @@
 -- The rules that the tests at a field and at a validation decide.
+use Rattle.vms_rules_laws.proofs.{Names.name_decides, Names.new_names_decides, Names.within_decides, Tests.steady_decides}
 use Rattle.vms_rules_laws.proofs.Facade.{◌≡◌, ℕ, suc, ◌<◌, Bool, true, false, ◌==◌, if◌then◌else◌, List, [], ◌∷◌, ◌++◌, length, Option, Some, None, ℤ, pos}
 use Rattle.vms_rules_laws.proofs.Facade.{◌≤ℤ◌, inl, inr, refl, sym, ap, ◌∙◌, subst, Decides, AllByRecursion, slice_get, and_from, and_parts, eq-eqb, eqb-true}
 use Rattle.vms_rules_laws.proofs.Facade.{Decides-and, Decides-ltb, Item, Num, Equal, Unused, Struct, Kind, U8, U16, U32, InRange, MOST_UNUSED, Count, One}
@@ -7,9 +8,7 @@ use Rattle.vms_rules_laws.proofs.Facade.{has_good_count, in_range, is_counting, 
 use Rattle.vms_rules_laws.proofs.Facade.{is_small_test, is_steady_in, names_well, nobody, test_names_well, uses_below, validation_rules, Formula, Field, Desc}
 use Rattle.vms_rules_laws.proofs.Facade.{AllTrue, same_number_is, ranges, within, counted_well, is_same, ranged, At, CountFits, DefaultFits, IsCounting}
 use Rattle.vms_rules_laws.proofs.Facade.{IsEarlier, IsField, IsName, IsSmall, IsSteady, IsValidation, IsWithin, NamesOnly, Nobody}
-use Rattle.vms_rules_laws.proofs.Names.{name_decides, new_names_decides, within_decides}
 use Rattle.vms_rules_laws.proofs.Tests.{all_decides, at_places, earlier_decides, le_decides, names_decides, never, nobody_decides, one_decides, small_decides}
-use Rattle.vms_rules_laws.proofs.Tests.{steady_decides}
 
 -- ---- tests
 

@@ -1,11 +1,10 @@
 -- Numbers of one kind in consecutive cells are set by their codes.
+use Rattle.vms_spots.proofs.{SpotLaws.put_is, RunLaws.again, RunLaws.twice, RunLaws.codes_seen}
+use Rattle.vms_spots.proofs.BufferLaws.{Holds, at_spot, holds, puts}
 use Rattle.vms_spots.proofs.Facade.{nil_from_length, ◌≡◌, ℕ, zero, suc, ◌+◌, ◌-◌, ◌*◌, ◌<◌, ◌≤◌, List, [], ◌∷◌, ◌++◌, length, get_or, take, drop, map, set, ℤ}
 use Rattle.vms_spots.proofs.Facade.{refl, sym, ap, ◌∙◌, subst, arith, length-append, append_assoc, length-drop, length-map, length-take-le, take-append-drop}
 use Rattle.vms_spots.proofs.Facade.{get_or_read, IsBytes, bytes_first, bytes_rest, value_taken, Kind, U8, Bool, width, code, value_of, InRange, Spot, aligned}
 use Rattle.vms_spots.proofs.Facade.{spots_from, spots_of, no_spot, kinds_of, number_at, Held, held, IsHeld, AreOne, values_of, put_from}
-use Rattle.vms_spots.proofs.SpotLaws.{put_is}
-use Rattle.vms_spots.proofs.BufferLaws.{Holds, at_spot, holds, puts}
-use Rattle.vms_spots.proofs.RunLaws.{again, twice, codes_seen}
 
 -- after a number of a kind the next of the kind follows without a gap
 next_spot : (kind : Kind) (e : ℕ) (kinds : List Kind) (k : ℕ) → suc k < length kinds → get_or kinds k U8 ≡ kind → get_or kinds (suc k) U8 ≡ kind

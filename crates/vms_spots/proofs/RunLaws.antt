@@ -1,10 +1,9 @@
 -- Numbers of one kind in consecutive cells follow one another without a gap.
+use Rattle.vms_spots.proofs.{Facade.codes_of, Facade.AreOne, SpotLaws.aligned_is, SpotLaws.part_is}
 use Rattle.vms_spots.proofs.Facade.{◌≡◌, ℕ, zero, suc, ◌+◌, ◌-◌, ◌*◌, ◌<◌, ◌≤◌, List, [], ◌∷◌, ◌++◌, length, get_or, take, drop, map, replicate, ℤ, refl, sym}
 use Rattle.vms_spots.proofs.Facade.{ap, ◌∙◌, subst, arith, length-append, append_assoc, length-replicate, length-map, length-take-le, get_or_read, Kind, U8}
 use Rattle.vms_spots.proofs.Facade.{width, code, length-code, Spot, aligned, spots_from, spots_of, no_spot, kinds_of, raw_from, number_at, Held, held, IsHeld}
-use Rattle.vms_spots.proofs.Facade.{codes_of, AreOne}
 use Rattle.std.proofs.lemmas.List.{length-drop}
-use Rattle.vms_spots.proofs.SpotLaws.{aligned_is, part_is}
 
 -- ---- after one at a multiple of its width the next follows
 

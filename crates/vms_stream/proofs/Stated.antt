@@ -1,22 +1,18 @@
 -- The laws as they are stated.
-use Rattle.vms_stream.proofs.Facade.{get_or, ◌+◌, take, length, Option, Some, None, IfSome, arith, suc, ◌≡◌, ◌≤◌, true, ℕ, List, ◌++◌, refl, sym, ap, ◌∙◌}
-use Rattle.vms_stream.proofs.Facade.{drop, false, slice_get_within, take-append-drop, LONGEST_NAME, Piece, spell, spelled, Due, Whole, unit_at, IsThere}
-use Rattle.vms_stream.proofs.Facade.{FoundLaw, Reason, is_one_of, longest_text, IsConfiguration, IsTrailer, optional, configuration, trailer, written}
-use Rattle.vms_stream.proofs.Facade.{Reading, Accepted, Refused, well_good, Tail, Unknown, Footed, Bare, images, machine, judge, reading, by_units, State}
-use Rattle.vms_stream.proofs.Facade.{between, by_state, at_start, SectionReadLaw, BeginsSection, SectionFoundLaw, ToldLaw, AcceptedLaw, TakenLaw, LocalLaw}
-use Rattle.vms_stream.proofs.Facade.{UnitsLaw, StreamLaw, GoesOn, FrontLaw, OneStreamLaw, Answer, EitherLaw, NeverBothLaw, OneFaultLaw, SectionLaw}
-use Rattle.vms_stream.proofs.Facade.{WrittenLaw, WholeLaw, AreOneFault, reading_on, IsBytes, bytes_rest, front_take}
-use Rattle.vms_stream.proofs.Finding.There.{only}
-use Rattle.vms_stream.proofs.Finding.Shown.{shows}
-use Rattle.vms_stream.specs.StreamLaws.{Taken, Faulty}
-use Rattle.vms_stream.proofs.Finding.Advancing.{advances, due_solid}
+use Rattle.vms_stream.proofs.{Finding.There.only, Finding.Shown.shows, Finding.Advancing.advances, Finding.Advancing.due_solid, Streams.StreamFound.found}
+use Rattle.vms_stream.proofs.{Streams.StreamFound.section_found, Streams.Inside.Agrees, Streams.Written.written_section_is, Streams.Written.written_is_stream}
+use Rattle.vms_stream.proofs.Facade.{get_or, ◌+◌, take, length, Option, Some, None, IfSome, arith, suc, ◌≡◌, ◌≤◌, true, ℕ, List, ◌++◌, refl, sym, ap, ◌∙◌, drop}
+use Rattle.vms_stream.proofs.Facade.{false, slice_get_within, take-append-drop, LONGEST_NAME, Piece, spell, spelled, Due, Whole, unit_at, IsThere, FoundLaw}
+use Rattle.vms_stream.proofs.Facade.{Reason, is_one_of, longest_text, IsConfiguration, IsTrailer, optional, configuration, trailer, written, Reading, Accepted}
+use Rattle.vms_stream.proofs.Facade.{Refused, well_good, Tail, Unknown, Footed, Bare, images, machine, judge, reading, by_units, State, between, by_state}
+use Rattle.vms_stream.proofs.Facade.{at_start, SectionReadLaw, BeginsSection, SectionFoundLaw, ToldLaw, AcceptedLaw, TakenLaw, LocalLaw, UnitsLaw, StreamLaw}
+use Rattle.vms_stream.proofs.Facade.{GoesOn, FrontLaw, OneStreamLaw, Answer, EitherLaw, NeverBothLaw, OneFaultLaw, SectionLaw, WrittenLaw, WholeLaw}
+use Rattle.vms_stream.proofs.Facade.{AreOneFault, reading_on, IsBytes, bytes_rest, front_take}
 use Rattle.vms_stream.proofs.Judging.Mirrors.{solid, state_accepts, state_refuses}
-use Rattle.vms_stream.proofs.Streams.StreamFound.{found, section_found}
-use Rattle.vms_stream.proofs.Streams.StreamRead.{read, free_is, section_on}
-use Rattle.vms_stream.proofs.Streams.Steps.{Goes, Opening, Closes, Opens, Names, settled, free_opens}
-use Rattle.vms_stream.proofs.Streams.Inside.{Agrees}
-use Rattle.vms_stream.proofs.Streams.Written.{written_section_is, written_is_stream}
 use Rattle.vms_stream.proofs.Judging.Verdicts.{cut_is, told_from, Says, says, units_mirror}
+use Rattle.vms_stream.proofs.Streams.Steps.{Goes, Opening, Closes, Opens, Names, settled, free_opens}
+use Rattle.vms_stream.proofs.Streams.StreamRead.{read, free_is, section_on}
+use Rattle.vms_stream.specs.StreamLaws.{Taken, Faulty}
 
 shown : (d : Due) (rest : List ℕ) (x : Piece) (n : ℕ) → IsBytes rest → unit_at d rest ≡ Whole x n → IsThere d rest x n
 shown d rest x n ok e = rw e at (shows d rest ok)

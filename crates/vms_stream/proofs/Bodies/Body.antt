@@ -1,21 +1,19 @@
 -- In the fields of a part the judge reads slot by slot, as the structural reader does: taking a slot is what is seen of its unit.
+use Rattle.vms_stream.proofs.{Finding.Advancing.advances, Judging.Mirrors.solid}
 use Rattle.vms_stream.proofs.Facade.{◌≡◌, if_both, ℕ, length, take, Option, Some, None, ℤ, refl, ap, ◌∙◌, Bool, true, false, not, nat_lt, ◌&&◌, if◌then◌else◌}
-use Rattle.vms_stream.proofs.Facade.{zero, suc, ◌+◌, ◌<◌, List, [], ◌∷◌, get_or, drop, slice_set, Ok, Err, sym, arith, ◌==◌, slice_get, drop-append_seam}
-use Rattle.vms_stream.proofs.Facade.{Kind, width, value_of, Reason, is_truth, is_above, exceeds, same_number, is_bad_bool, number_at, Slot, desc_slots}
-use Rattle.vms_stream.proofs.Facade.{meanings, desc_cells, Progress, Taken, refuse, on, if_whole, take_value, take_slot, Refusal, take_desc, takers, cells_of}
-use Rattle.vms_stream.proofs.Facade.{Piece, Number, Constant, Filler, Configuration, Long, Head, SubHead, Foot, End, Start, Mark, raw_same, bad_same, raw}
-use Rattle.vms_stream.proofs.Facade.{Field, Due, is_foot, AfterFields, due_field, rules_hold, Whole, Cut, needs, Found, between_at, behind_at, unit_at, Seen}
-use Rattle.vms_stream.proofs.Facade.{Good, Bad, Short, seen, seen_in, seen_by, Known, Tail, beyond, skipped, first_row, alone, first_of, put, taken_by}
-use Rattle.vms_stream.proofs.Facade.{LONGEST_NAME, Set, Device, Desc, Image, Verdict, Faulty, Reading, Refused, reading_after, part_slots, reading_on, at_set}
-use Rattle.vms_stream.proofs.Facade.{set_twice, one_unit, none_taken, IsSound, AreSound, same_refl, drop_next, Comes, set_desc_comes, step, Walks, Is}
-use Rattle.vms_stream.proofs.Facade.{steps_keep, cut_in, Grammar, judge, judge_found, by_row, owes, State, Inside, image_at, part_at, known_at, after}
-use Rattle.vms_stream.proofs.Facade.{by_state}
-use Rattle.vms_spec.specs.declared.Reason.TheVariants as reasons
+use Rattle.vms_stream.proofs.Facade.{zero, suc, ◌+◌, ◌<◌, List, [], ◌∷◌, get_or, drop, slice_set, Ok, Err, sym, arith, ◌==◌, slice_get, drop-append_seam, Kind}
+use Rattle.vms_stream.proofs.Facade.{width, value_of, Reason, is_truth, is_above, exceeds, same_number, is_bad_bool, number_at, Slot, desc_slots, meanings}
+use Rattle.vms_stream.proofs.Facade.{desc_cells, Progress, Taken, refuse, on, if_whole, take_value, take_slot, Refusal, take_desc, takers, cells_of, Piece}
+use Rattle.vms_stream.proofs.Facade.{Number, Constant, Filler, Configuration, Long, Head, SubHead, Foot, End, Start, Mark, raw_same, bad_same, raw, Field, Due}
+use Rattle.vms_stream.proofs.Facade.{is_foot, AfterFields, due_field, rules_hold, Whole, Cut, needs, Found, between_at, behind_at, unit_at, Seen, Good, Bad}
+use Rattle.vms_stream.proofs.Facade.{Short, seen, seen_in, seen_by, Known, Tail, beyond, skipped, first_row, alone, first_of, put, taken_by, LONGEST_NAME, Set}
+use Rattle.vms_stream.proofs.Facade.{Device, Desc, Image, Verdict, Faulty, Reading, Refused, reading_after, part_slots, reading_on, at_set, set_twice, one_unit}
+use Rattle.vms_stream.proofs.Facade.{none_taken, IsSound, AreSound, same_refl, drop_next, Comes, set_desc_comes, step, Walks, Is, steps_keep, cut_in, Grammar}
+use Rattle.vms_stream.proofs.Facade.{judge, judge_found, by_row, owes, State, Inside, image_at, part_at, known_at, after, by_state}
 use Rattle.vms_spec.specs.Layout.{Number as NumberSlot, Constant as ConstantSlot, Filler as FillerSlot, Rule as RuleSlot}
 use Rattle.vms_spec.specs.Readings.{Over as IsOver}
 use Rattle.vms_bodies.proofs.StepLaws.{after as step_after, Refuses}
-use Rattle.vms_stream.proofs.Finding.Advancing.{advances}
-use Rattle.vms_stream.proofs.Judging.Mirrors.{solid}
+use Rattle.vms_spec.specs.declared.Reason.TheVariants as reasons
 
 -- a slot that is a unit
 abbrev pub IsUnit : Slot → Type 0

@@ -1,17 +1,16 @@
 -- What is found may come, and is spelled at the front.
 use Rattle.vms_stream.proofs.Facade.{◌≡◌, if_so, ℕ, ◌+◌, ◌<◌, ◌≤◌, List, ◌∷◌, ◌++◌, length, get_or, take, drop, refl, sym, ap, ◌∙◌, arith, append_assoc}
 use Rattle.vms_stream.proofs.Facade.{length-append, length-drop, get_or-drop, Bool, true, false, not, nat_lt, ◌==◌, ◌&&◌, if◌then◌else◌, [], ◌||◌, ltb-true}
-use Rattle.vms_stream.proofs.Facade.{ltb-false, eqb-true, or_from, and_parts, length-take-le, drop-drop, take-append-drop, width, code, value_of, InRange}
-use Rattle.vms_stream.proofs.Facade.{Kind, bytes_first, LONGEST_NAME, IsBytes, be32, longest_text, number_at, bytes_at, Piece, Magic, Version, Configuration}
-use Rattle.vms_stream.proofs.Facade.{Long, Head, Number, Constant, Filler, SubHead, Foot, End, Description, Start, Mark, spell, Due, AMagic, AVersion}
-use Rattle.vms_stream.proofs.Facade.{Between, Field, AfterFields, AfterEnd, May, AtMagic, AtVersion, AtConfiguration, AtLongName, AtStart, AtHead, AtEnd}
-use Rattle.vms_stream.proofs.Facade.{AtMark, AtNumber, AtConstant, AtFiller, AtSubHead, AtFoot, AtOther, AtNext, is_foot, is_next, AtDescription, AtLongText}
-use Rattle.vms_stream.proofs.Facade.{AtTrailing, raw, fits_four, length-code, is_bytes_drop, four_low, split_one, split_four, head_bytes, text_long}
-use Rattle.vms_stream.proofs.Facade.{sub_bytes, raw_take, Found, Whole, Cut, needs, start_at, head_at, sub_at, text_at, between_at, behind_at, trailer_at}
-use Rattle.vms_stream.proofs.Facade.{unit_at, IsThere, Tail}
+use Rattle.vms_stream.proofs.Facade.{ltb-false, eqb-true, or_from, and_parts, length-take-le, drop-drop, take-append-drop, width, code, value_of, InRange, Kind}
+use Rattle.vms_stream.proofs.Facade.{bytes_first, LONGEST_NAME, IsBytes, be32, longest_text, number_at, bytes_at, Piece, Magic, Version, Configuration, Long}
+use Rattle.vms_stream.proofs.Facade.{Head, Number, Constant, Filler, SubHead, Foot, End, Description, Start, Mark, spell, Due, AMagic, AVersion, Between, Field}
+use Rattle.vms_stream.proofs.Facade.{AfterFields, AfterEnd, May, AtMagic, AtVersion, AtConfiguration, AtLongName, AtStart, AtHead, AtEnd, AtMark, AtNumber}
+use Rattle.vms_stream.proofs.Facade.{AtConstant, AtFiller, AtSubHead, AtFoot, AtOther, AtNext, is_foot, is_next, AtDescription, AtLongText, AtTrailing, raw}
+use Rattle.vms_stream.proofs.Facade.{fits_four, length-code, is_bytes_drop, four_low, split_one, split_four, head_bytes, text_long, sub_bytes, raw_take, Found}
+use Rattle.vms_stream.proofs.Facade.{Whole, Cut, needs, start_at, head_at, sub_at, text_at, between_at, behind_at, trailer_at, unit_at, IsThere, Tail}
+use Rattle.vms_stream.proofs.Finding.There.{begins}
 use Rattle.vms_spec.specs.Layout.{Number as NumberSlot, Constant as ConstantSlot, Filler as FillerSlot}
 use Rattle.vms_bodies.proofs.HeadFound.{text_at as what_follows}
-use Rattle.vms_stream.proofs.Finding.There.{begins}
 
 abbrev pub Shows : Due → List ℕ → Found → Type 0
 Shows d rest (Whole x n) = IsThere d rest x n

@@ -1,15 +1,14 @@
 -- The judge refuses exactly the inputs that have a fault, for each state that mirrors the units so far.
+use Rattle.vms_stream.proofs.{Finding.There.only, Finding.Shown.Shows, Finding.Shown.shows}
 use Rattle.vms_stream.proofs.Facade.{◌≡◌, ℕ, zero, suc, ◌+◌, ◌<◌, ◌≤◌, List, ◌∷◌, ◌++◌, length, drop, length-drop, Option, Some, None, refl, sym, ap, ◌∙◌}
-use Rattle.vms_stream.proofs.Facade.{subst, arith, length-append, append_assoc, Bool, true, false, if◌then◌else◌, [], IsBytes, bytes_rest, Reason, Set}
-use Rattle.vms_stream.proofs.Facade.{Verdict, Goes, Faulty, Over, Reading, Accepted, Refused, reading_from, reading_after, Piece, spell, spelled, opened, Due}
-use Rattle.vms_stream.proofs.Facade.{AfterEnd, Nothing, May, AtMagic, due, holds, reason_of, Front, Why, Fails, Wrong, Fault, Owes, cut_in, Advances}
-use Rattle.vms_stream.proofs.Facade.{reading_on, is_bytes_drop, unit_read, Found, Whole, Cut, unit_at, Grammar, judge, judge_found, by_row, owes, reading}
-use Rattle.vms_stream.proofs.Facade.{by_units, Mirrored, Refuses, Ends, Accepts, IsThere}
-use Rattle.vms_spec.specs.declared.Reason.TheVariants as reasons
-use Rattle.vms_stream.specs.Faults.{Cut as IsCut}
-use Rattle.vms_stream.proofs.Finding.There.{only}
-use Rattle.vms_stream.proofs.Finding.Shown.{Shows, shows}
+use Rattle.vms_stream.proofs.Facade.{subst, arith, length-append, append_assoc, Bool, true, false, if◌then◌else◌, [], IsBytes, bytes_rest, Reason, Set, Verdict}
+use Rattle.vms_stream.proofs.Facade.{Goes, Faulty, Over, Reading, Accepted, Refused, reading_from, reading_after, Piece, spell, spelled, opened, Due, AfterEnd}
+use Rattle.vms_stream.proofs.Facade.{Nothing, May, AtMagic, due, holds, reason_of, Front, Why, Fails, Wrong, Fault, Owes, cut_in, Advances, reading_on}
+use Rattle.vms_stream.proofs.Facade.{is_bytes_drop, unit_read, Found, Whole, Cut, unit_at, Grammar, judge, judge_found, by_row, owes, reading, by_units}
+use Rattle.vms_stream.proofs.Facade.{Mirrored, Refuses, Ends, Accepts, IsThere}
 use Rattle.vms_stream.proofs.Finding.Advancing.{IsSolid, advances, due_solid}
+use Rattle.vms_stream.specs.{Faults.Cut as IsCut}
+use Rattle.vms_spec.specs.declared.Reason.TheVariants as reasons
 
 owes_true : (d : Due) (rest : List ℕ) → Owes d rest → owes d rest ≡ true
 owes_true Nothing rest o = absurd o

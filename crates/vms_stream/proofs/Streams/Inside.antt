@@ -1,17 +1,16 @@
 -- In a section whose slots are all passed: what an accepted reading finds after the fields. The subsections are spelled, in any
 -- order and each once; the image stays normal and valid.
-use Rattle.vms_stream.proofs.Facade.{◌≡◌, ℕ, ◌+◌, ◌<◌, List, ◌++◌, length, drop, slice_set, Option, Some, None, refl, ap, ◌∙◌, subst, arith, Bool, true}
-use Rattle.vms_stream.proofs.Facade.{false, if◌then◌else◌, ◌==◌, [], zero, suc, ◌∷◌, Ok, Err, ℤ, sym, append_assoc, length-append, slice_get}
-use Rattle.vms_stream.proofs.Facade.{slice_get_within, both_ways, not-true, or-not_self, add-zero, IsBytes, bytes_rest, at_option, Set, Device, Sub, Image}
-use Rattle.vms_stream.proofs.Facade.{IsVersionOf, sub_slots, Spells, sub_head, foot, ComesOnce, SubsSpell, subs_of, part_slots, find_sub, Piece, spell}
-use Rattle.vms_stream.proofs.Facade.{SubHead, Mark, at_set, set_twice, Tail, Unknown, Footed, Bare, Known, AfterFields, due_field, rules_hold, is_foot}
-use Rattle.vms_stream.proofs.Facade.{is_next, first_byte, May, AtSubHead, AtFoot, AtOther, AtNext, first_of, is_between, State, Free, Inside, slots_at}
-use Rattle.vms_stream.proofs.Facade.{due_by, known_at, after, device_cells, desc_cells, Taken, Progress, take_desc, takers, cells_of, IsGood, versions_long}
-use Rattle.vms_stream.proofs.Facade.{same_refl, body_found, its_spelled, sub_are, Beside, beside_back, beside_done, part_place, Fine, Stays, stays_refl}
-use Rattle.vms_stream.proofs.Facade.{stays_on, stays_next, fine_next, sub_front}
-use Rattle.vms_stream.proofs.Streams.UnitRows.{foot_is, foot_mark_never, sub_is_one, none_from}
+use Rattle.vms_stream.proofs.{Facade.fine_next, Facade.sub_front, Bodies.Body.Reads, Bodies.Body.body_read}
+use Rattle.vms_stream.proofs.Facade.{◌≡◌, ℕ, ◌+◌, ◌<◌, List, ◌++◌, length, drop, slice_set, Option, Some, None, refl, ap, ◌∙◌, subst, arith, Bool, true, false}
+use Rattle.vms_stream.proofs.Facade.{if◌then◌else◌, ◌==◌, [], zero, suc, ◌∷◌, Ok, Err, ℤ, sym, append_assoc, length-append, slice_get, slice_get_within}
+use Rattle.vms_stream.proofs.Facade.{both_ways, not-true, or-not_self, add-zero, IsBytes, bytes_rest, at_option, Set, Device, Sub, Image, IsVersionOf}
+use Rattle.vms_stream.proofs.Facade.{sub_slots, Spells, sub_head, foot, ComesOnce, SubsSpell, subs_of, part_slots, find_sub, Piece, spell, SubHead, Mark}
+use Rattle.vms_stream.proofs.Facade.{at_set, set_twice, Tail, Unknown, Footed, Bare, Known, AfterFields, due_field, rules_hold, is_foot, is_next, first_byte}
+use Rattle.vms_stream.proofs.Facade.{May, AtSubHead, AtFoot, AtOther, AtNext, first_of, is_between, State, Free, Inside, slots_at, due_by, known_at, after}
+use Rattle.vms_stream.proofs.Facade.{device_cells, desc_cells, Taken, Progress, take_desc, takers, cells_of, IsGood, versions_long, same_refl, body_found}
+use Rattle.vms_stream.proofs.Facade.{its_spelled, sub_are, Beside, beside_back, beside_done, part_place, Fine, Stays, stays_refl, stays_on, stays_next}
 use Rattle.vms_stream.proofs.Streams.Steps.{Run, Goes, steps, Opening, opening, free_opens}
-use Rattle.vms_stream.proofs.Bodies.Body.{Reads, body_read}
+use Rattle.vms_stream.proofs.Streams.UnitRows.{foot_is, foot_mark_never, sub_is_one, none_from}
 
 -- whether sections have footers, if the tail is known already
 abbrev pub Agrees : Tail → Bool → Type 0

@@ -1,14 +1,11 @@
 -- One unit that is read, and one unit of an accepted reading: in any state, and between sections.
+use Rattle.vms_stream.proofs.{Finding.There.only, Finding.Shown.Shows, Finding.Shown.shows, Finding.Advancing.advances, Judging.Mirrors.solid}
 use Rattle.vms_stream.proofs.Facade.{◌≡◌, ◌⊎◌, inl, inr, ℕ, ◌+◌, ◌<◌, ◌≤◌, List, ◌∷◌, ◌++◌, length, drop, slice_set, Option, Some, None, refl, sym, ◌∙◌, arith}
 use Rattle.vms_stream.proofs.Facade.{Bool, true, false, not, if◌then◌else◌, slice_get, slice_get_within, IsBytes, LONGEST_NAME, Reason, position, Set, Device}
 use Rattle.vms_stream.proofs.Facade.{default_image, IsVersionOf, section_head, configuration, is_one_of, device_named, Verdict, Faulty, Over, Accepted}
 use Rattle.vms_stream.proofs.Facade.{reading_after, Piece, spell, Head, reading_on, Advances, one_unit, unit_read, Footed, behind, Due, Between, May}
 use Rattle.vms_stream.proofs.Facade.{AtConfiguration, AtLongName, AtStart, AtHead, AtEnd, AtMark, cut_in, Found, Whole, Cut, unit_at, first_of, is_between}
 use Rattle.vms_stream.proofs.Facade.{Grammar, judge, judge_found, by_row, owes, IsThere, State, Free, Inside, Ended, open_at, known_at, after, by_state}
-use Rattle.vms_stream.proofs.Finding.There.{only}
-use Rattle.vms_stream.proofs.Finding.Shown.{Shows, shows}
-use Rattle.vms_stream.proofs.Finding.Advancing.{advances}
-use Rattle.vms_stream.proofs.Judging.Mirrors.{solid}
 use Rattle.vms_stream.proofs.Streams.UnitRows.{start_never, end_is, head_is, mark_never, name_is_one, false_from}
 use Rattle.vms_spec.specs.declared.Reason.TheVariants as reasons
 

@@ -1,5 +1,4 @@
-use Rattle.vms_io.proofs.Facade.{rules, arith, ◌∙◌, take_rest}
-use Rattle.vms_io.proofs.Filling.{written_more}
+use Rattle.vms_io.proofs.{Facade.rules, Facade.arith, Facade.◌∙◌, Facade.take_rest, Filling.written_more}
 use Rattle.vms_io.proofs.whole.write_rest.Goals as goal
 
 pub loop-done-preserved : goal.loop-done-preserved

@@ -1,6 +1,5 @@
+use Rattle.vms_parts.proofs.{Facade.counted_in, CapacityLaws.least_more, CapacityLaws.counted_long, CapacityLaws.written_back}
 use Rattle.vms_parts.proofs.Facade.{◌≡◌, ◌+◌, List, ℕ, Option, None, length, get_or, drop, take, ◌++◌, map, ap, ◌∙◌, arith, counted, field_of, least_from}
-use Rattle.vms_parts.proofs.Facade.{counted_in}
-use Rattle.vms_parts.proofs.CapacityLaws.{least_more, counted_long, written_back}
 use Rattle.vms_parts.proofs.capacities.least_capacities.Goals as goal
 
 pub loop-field-preserved : goal.loop-field-preserved

@@ -1,5 +1,4 @@
-use Rattle.vms_shipped.proofs.Facade.{desc_of, desc_in}
-use Rattle.vms_shipped.proofs.RowLaws.{one_more}
+use Rattle.vms_shipped.proofs.{Facade.desc_of, Facade.desc_in, RowLaws.one_more}
 use Rattle.vms_shipped.proofs.made.descs.Goals as goal
 
 pub loop-row-preserved : goal.loop-row-preserved

@@ -1,5 +1,4 @@
-use Rattle.vms_shipped.proofs.Facade.{device_of, device_in}
-use Rattle.vms_shipped.proofs.RowLaws.{one_more}
+use Rattle.vms_shipped.proofs.{Facade.device_of, Facade.device_in, RowLaws.one_more}
 use Rattle.vms_shipped.proofs.made.devices.Goals as goal
 
 pub loop-row-preserved : goal.loop-row-preserved

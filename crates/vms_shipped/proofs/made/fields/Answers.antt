@@ -1,5 +1,4 @@
-use Rattle.vms_shipped.proofs.Facade.{refl, fields_in, all_in}
-use Rattle.vms_shipped.proofs.RowLaws.{one_less}
+use Rattle.vms_shipped.proofs.{Facade.refl, Facade.fields_in, Facade.all_in, RowLaws.one_less}
 use Rattle.vms_shipped.proofs.made.fields.Goals as goal
 
 pub loop-row-preserved : goal.loop-row-preserved

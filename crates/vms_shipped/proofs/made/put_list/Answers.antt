@@ -1,5 +1,4 @@
-use Rattle.vms_shipped.proofs.Facade.{map, refl, fields_at, listed_at, listed_row}
-use Rattle.vms_shipped.proofs.RowLaws.{one_less}
+use Rattle.vms_shipped.proofs.{Facade.map, Facade.refl, Facade.fields_at, Facade.listed_at, Facade.listed_row, RowLaws.one_less}
 use Rattle.vms_shipped.proofs.made.put_list.Goals as goal
 
 pub loop-row-preserved : goal.loop-row-preserved

@@ -1,5 +1,4 @@
-use Rattle.vms_shipped.proofs.Facade.{sub_of, sub_in}
-use Rattle.vms_shipped.proofs.RowLaws.{one_more}
+use Rattle.vms_shipped.proofs.{Facade.sub_of, Facade.sub_in, RowLaws.one_more}
 use Rattle.vms_shipped.proofs.made.subs.Goals as goal
 
 pub loop-row-preserved : goal.loop-row-preserved

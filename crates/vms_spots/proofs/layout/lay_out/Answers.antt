@@ -1,6 +1,5 @@
-use Rattle.vms_spots.proofs.Facade.{subst, sym, List, Spot, AreApart}
+use Rattle.vms_spots.proofs.{Facade.subst, Facade.sym, Facade.List, Facade.Spot, Facade.AreApart, SpotLaws.are_apart}
 use Rattle.vms_spots.proofs.LayoutLaws.{LaidOut, begins, goes, ends}
-use Rattle.vms_spots.proofs.SpotLaws.{are_apart}
 use Rattle.vms_spots.proofs.layout.lay_out.Goals as goal
 
 pub loop-kind-init : goal.loop-kind-init

@@ -1,5 +1,4 @@
-use Rattle.vms_spots.proofs.Facade.{rules, ◌≡◌, ap, length}
-use Rattle.vms_spots.proofs.BufferLaws.{same_spots}
+use Rattle.vms_spots.proofs.{Facade.rules, Facade.◌≡◌, Facade.ap, Facade.length, BufferLaws.same_spots}
 use Rattle.vms_spots.proofs.buffer.Buffer.copy_from.Goals as goal
 
 pub copy_from_slice-requires : goal.copy_from_slice-requires

@@ -1,8 +1,7 @@
+use Rattle.vms_spots.proofs.{BufferLaws.at_cell, BufferLaws.AtSpot, buffer.Buffer.get.Goals.After-end-end}
 use Rattle.vms_spots.proofs.Facade.{◌≡◌, refl, ◌∙◌, sym, ap, subst, pos, arith, rules, ℕ, ℤ, List, get_or, take, drop, ◌-◌, w128, to_z-of_z, SFits, width}
 use Rattle.vms_spots.proofs.Facade.{value_of, InRange, IsBadBool, Kind, U8, Held}
-use Rattle.vms_spots.proofs.BufferLaws.{at_cell, AtSpot}
 use Rattle.vms_spots.proofs.buffer.Buffer.get.Goals as goal
-use Rattle.vms_spots.proofs.buffer.Buffer.get.Goals.{After-end-end}
 
 pub end-end-requires : goal.end-end-requires
 end-end-requires c =

@@ -1,7 +1,5 @@
+use Rattle.vms_spots.proofs.{Facade.IsBytes, Facade.held, Facade.IsHeld, Facade.put_from, Facade.values_of, RunLaws.codes_seen, PutLaws.puts_codes}
 use Rattle.vms_spots.proofs.Facade.{rules, ◌≡◌, ◌∙◌, sym, ap, subst, arith, ℕ, List, take, drop, ◌+◌, ◌-◌, ◌<◌, ◌≤◌, ◌++◌, length, with_items, with_items_is}
-use Rattle.vms_spots.proofs.Facade.{IsBytes, held, IsHeld, put_from, values_of}
-use Rattle.vms_spots.proofs.RunLaws.{codes_seen}
-use Rattle.vms_spots.proofs.PutLaws.{puts_codes}
 use Rattle.vms_spots.proofs.buffer.Buffer.put_codes.Goals as goal
 
 pub slice_bounds-copy_from_slice-end : goal.slice_bounds-copy_from_slice-end
