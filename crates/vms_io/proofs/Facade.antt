@@ -1,7 +1,7 @@
 -- The names of other crates, and of this crate's `specs`, that the proofs use.
 pub use Rattle.std.proofs.Common.{Bool, Err, IfSome, List, None, Ok, OnErr, Option, Result, Some, [], ap, append-nil, append_assoc, arith, cond, drop}
 pub use Rattle.std.proofs.Common.{drop-drop, drop_at, false, if◌then◌else◌, inl, inr, le_refl, length, length-append, length-drop, length-take, length-take-le}
-pub use Rattle.std.proofs.Common.{refl, rules, subst, sym, take, take-append-drop, take_all, true, ℕ, ◌&&◌, ◌++◌, ◌+◌, ◌-◌, ◌<◌, ◌^◌, ◌∙◌, ◌≡◌, ◌≢◌, ◌≤◌}
+pub use Rattle.std.proofs.Common.{refl, rules, subst, sym, take, take-append-drop, take_all, true, ℕ, ◌&&◌, ◌++◌, ◌+◌, ◌-◌, ◌<◌, ◌^◌, ◌∙◌, ◌∷◌, ◌≡◌, ◌≢◌, ◌≤◌}
 pub use Rattle.std.proofs.KnownBytes.{Appends-nil, Appends-trans, Consumes-nil, Consumes-trans}
 pub use Rattle.std.proofs.Math.Seq.{take-append-add}
 pub use Rattle.std.proofs.lemmas.List.{drop-append-le, drop-take, drop_all, take-take, take_rest}
@@ -20,7 +20,7 @@ pub use Rattle.vms_kinds.specs.Bytes.{IsBytes}
 pub use Rattle.vms_io.specs.Ahead.{ahead, are_bytes, bytes_only}
 pub use Rattle.vms_io.specs.Cabinets.{held_in}
 pub use Rattle.vms_io.specs.Causes.{AppendsPrefix, HasCause}
-pub use Rattle.vms_io.specs.Gathered.{KeepsFront, between, told}
+pub use Rattle.vms_io.specs.Gathered.{KeepsFront, between, block, told}
 pub use Rattle.vms_io.specs.Reading.{Breaks, Broken, Course, HasRisen, Last, MayFollow, Misses, On, Reads, Takes}
 pub use Rattle.vms_io.specs.Shelves.{Held, HoldsAll, HoldsBytes, IfToldBoth, KeepsOthers, PutsUnder}
 pub use Rattle.vms_io.specs.Shelving.{Looks, Reaches, Stores}
