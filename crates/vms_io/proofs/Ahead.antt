@@ -1,7 +1,7 @@
 -- The bytes that a buffered reader still gives, as they are read and given.
-use Rattle.vms_io.proofs.{Facade.between, Filling.left_split, Gathering.part_is}
-use Rattle.vms_io.proofs.Facade.{◌≡◌, ℕ, ◌+◌, ◌-◌, ◌≤◌, Bool, true, false, ◌&&◌, List, [], ◌++◌, length, take, drop, Option, Some, None, if◌then◌else◌, refl}
-use Rattle.vms_io.proofs.Facade.{sym, ap, ◌∙◌, arith, append_assoc, length-take-le, take-take, list_all-append, Consumes, Keeps, ahead, are_bytes, bytes_only}
+use Rattle.vms_io.proofs.{Facade.bytes_only, Facade.◌<◌, Facade.between, Facade.block, Filling.left_split, Gathering.part_is}
+use Rattle.vms_io.proofs.Facade.{◌≡◌, ℕ, ◌+◌, ◌-◌, ◌≤◌, Bool, true, false, ◌&&◌, List, [], ◌∷◌, ◌++◌, length, take, drop, Option, Some, None, if◌then◌else◌}
+use Rattle.vms_io.proofs.Facade.{refl, sym, ap, ◌∙◌, arith, append_assoc, length-take-le, take-take, list_all-append, Consumes, Keeps, ahead, are_bytes}
 
 -- after the front of a list of bytes there are bytes
 only_after : (xs bs ys : List ℕ) → xs ≡ bs ++ ys → Consumes (bytes_only xs) (bytes_only ys) bs
@@ -35,8 +35,11 @@ kept_gives (Some xs) None z bs k h = absurd k
 kept_gives (Some xs) (Some ys) None bs k h = absurd h
 kept_gives (Some xs) (Some ys) (Some zs) bs k h = sym k ∙ h
 
--- read and given without a block
-pub passed : (x y : Option (List ℕ)) (waiting bs : List ℕ) → waiting ≡ [] → Consumes x y bs → Consumes (ahead x waiting) (ahead y waiting) bs
-passed None y waiting bs none h = tt
-passed (Some xs) None waiting bs none h = absurd h
-passed (Some xs) (Some ys) waiting bs none h = rw none (only_after xs bs ys h)
+-- which block it is
+pub block_first : (first longer : List ℕ) → longer ≡ [] → block first longer ≡ first
+block_first first [] e = refl
+block_first first (x ∷ longer) e = cc
+
+pub block_longer : (first longer : List ℕ) → 0 < length longer → block first longer ≡ longer
+block_longer first [] lt = absurd (omega arith)
+block_longer first (x ∷ longer) lt = refl

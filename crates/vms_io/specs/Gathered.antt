@@ -1,5 +1,10 @@
 -- Bytes that are buffered before a writer gets them.
-use Rattle.std.specs.Prelude.{◌≡◌, ℕ, List, ◌++◌, take, drop, Option, Some, None}
+use Rattle.std.specs.Prelude.{◌≡◌, ℕ, List, [], ◌∷◌, ◌++◌, take, drop, Option, Some, None}
+
+-- the longer block, if there is one
+abbrev pub block : List ℕ → List ℕ → List ℕ
+block first [] = first
+block first (x ∷ longer) = x ∷ longer
 
 -- the bytes from `begin` to `end`
 abbrev pub between : List ℕ → ℕ → ℕ → List ℕ

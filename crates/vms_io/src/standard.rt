@@ -1,9 +1,10 @@
 // The outside over a reader and a writer of std, with a count of their errors.
 ghost use Rattle.std.specs.Prelude.{◌≡◌, ◌+◌, ◌-◌, ◌^◌, ◌<◌, ◌≤◌, [], length, min, take, drop, None, false, IfOk, OnErr, OnOk, IsErr};
 ghost use Rattle.std.proofs.Common.{arith};
-ghost use Rattle.std.specs.Io.{ReadsAtMost, WritesAtMost};
-ghost use Rattle.std.specs.Io.KnownBytes.{Appends, Consumes, IsAtEnd, Keeps, ReadConsumes, WriteAppends};
-ghost use Rattle.vms_io.specs.Causes.{HasCause, CountsFailures, Gives};
+ghost use Rattle.std.specs.Io.{WritesAtMost};
+ghost use Rattle.std.specs.Io.KnownBytes.{Appends, Consumes, IsAtEnd, Keeps, WriteAppends};
+ghost use Rattle.vms_io.specs.Causes.{HasCause, CountsFailures};
+ghost use Rattle.vms_io.specs.Gathered.{block};
 ghost use Rattle.vms_io.specs.declared.standard.TheConstants.{GATHER};
 
 use crate::{Failed, Sink, Source};
@@ -20,22 +21,24 @@ const STAGE: usize = 8192;
 const GATHER: usize = 8192;
 
 /// A source over the reader `R`, which is read in blocks. The first block has up to 1,024 bytes, and
-/// the next ones up to twice as many each, at most 8,192. Without memory for a block each read
-/// takes one byte.
+/// the next ones up to twice as many each, at most 8,192. Without memory for a longer block the
+/// blocks stay as long as they are.
 ///
 /// If the rest of the reader's bytes is known, as a slice's is, the rest of the source's is known
 /// too. The rest of a file or a terminal is unknown to contracts.
 #[derive(Drop)]
 pub struct StdSource<R: Read + Drop> {
     reader: R,
-    // The bytes that were read but not yet given are those from `begin` to `end`.
-    staged: Vec<u8>,
+    // The first blocks, and a longer one once there is one. The bytes that were read but not yet
+    // given are those from `begin` to `end`.
+    first: [u8; FIRST],
+    longer: Vec<u8>,
     begin: usize,
     end: usize,
     given: u64,
     faults: u64,
     ghost order: { begin ≤ end },
-    ghost within: { end ≤ length staged.items },
+    ghost within: { end ≤ length (block first longer.items) },
 }
 
 impl<R: Read + Drop> StdSource<R> {
@@ -50,7 +53,8 @@ impl<R: Read + Drop> StdSource<R> {
     {
         StdSource {
             reader,
-            staged: Vec::with_capacity(alloc, STAGE).unwrap_or(Vec::new(alloc)),
+            first: [0; FIRST],
+            longer: Vec::with_capacity(alloc, STAGE).unwrap_or(Vec::new(alloc)),
             begin: 0,
             end: 0,
             given: 0,
@@ -58,22 +62,74 @@ impl<R: Read + Drop> StdSource<R> {
         }
     }
 
+    // Returns the block.
+    #[inline(always)]
+    fn block(&self) -> &[u8]
+        ensures { result.now ≡ block self.now.first self.now.longer.items }
+    {
+        if self.longer.is_empty() {
+            &self.first
+        } else {
+            &self.longer
+        }
+    }
+
     // Reads the next block, once all of the last one has been given. It is empty only at the end.
+    //
+    // A read by bytes or fields mostly finds them staged, and is inlined without this.
+    #[inline(never)]
     fn stage(&mut self) -> Result<(), Failed>
-        requires given { self.old.begin ≡ self.old.end }
-        requires room { 0 < length self.old.staged.items }
-        ensures left { Keeps (ahead (R.remaining self.old.reader)
-            (between self.old.staged.items self.old.begin self.old.end))
-            (ahead (R.remaining self.new.reader)
-            (between self.new.staged.items self.new.begin self.new.end)) }
+        requires { self.old.begin ≡ self.old.end }
+        ensures left { Keeps (⟦<StdSource<R> as Source>⟧.left self.old)
+            (⟦<StdSource<R> as Source>⟧.left self.new) }
         ensures end { OnOk result (self.new.begin ≡ self.new.end
-            → IsAtEnd (ahead (R.remaining self.new.reader)
-            (between self.new.staged.items self.new.begin self.new.end))) }
+            → IsAtEnd (⟦<StdSource<R> as Source>⟧.left self.new)) }
         ensures given { self.new.given ≡ self.old.given }
         ensures cause { HasCause self.old.faults self.new.faults result }
         ensures counts { CountsFailures self.old.faults self.new.faults result }
     {
-        match self.reader.read(&mut self.staged) {
+        if self.end == self.block().len() {
+            self.widen();
+        }
+        if self.longer.is_empty() {
+            self.stage_first()
+        } else {
+            self.stage_longer()
+        }
+    }
+
+    fn stage_first(&mut self) -> Result<(), Failed>
+        requires given { self.old.begin ≡ self.old.end }
+        requires none { self.old.longer.items ≡ [] }
+        ensures left { Keeps (⟦<StdSource<R> as Source>⟧.left self.old)
+            (⟦<StdSource<R> as Source>⟧.left self.new) }
+        ensures end { OnOk result (self.new.begin ≡ self.new.end
+            → IsAtEnd (⟦<StdSource<R> as Source>⟧.left self.new)) }
+        ensures given { self.new.given ≡ self.old.given }
+        ensures cause { HasCause self.old.faults self.new.faults result }
+        ensures counts { CountsFailures self.old.faults self.new.faults result }
+    {
+        match self.reader.read(&mut self.first) {
+            Ok(count) => {
+                (self.begin, self.end) = (0, count);
+                Ok(())
+            }
+            Err(_) => failed(&mut self.faults),
+        }
+    }
+
+    fn stage_longer(&mut self) -> Result<(), Failed>
+        requires given { self.old.begin ≡ self.old.end }
+        requires some { 0 < length self.old.longer.items }
+        ensures left { Keeps (⟦<StdSource<R> as Source>⟧.left self.old)
+            (⟦<StdSource<R> as Source>⟧.left self.new) }
+        ensures end { OnOk result (self.new.begin ≡ self.new.end
+            → IsAtEnd (⟦<StdSource<R> as Source>⟧.left self.new)) }
+        ensures given { self.new.given ≡ self.old.given }
+        ensures cause { HasCause self.old.faults self.new.faults result }
+        ensures counts { CountsFailures self.old.faults self.new.faults result }
+    {
+        match self.reader.read(&mut self.longer) {
             Ok(count) => {
                 self.begin = 0;
                 self.end = count;
@@ -83,55 +139,7 @@ impl<R: Read + Drop> StdSource<R> {
         }
     }
 
-    // Reads a byte without a block, for which there is no memory.
-    fn pass(&mut self, buf: &mut [u8]) -> Result<usize, Failed>
-        requires { self.old.begin ≡ self.old.end }
-        ensures bound { ReadsAtMost result buf.new }
-        ensures bytes { ReadConsumes (⟦<StdSource<R> as Source>⟧.left self.old)
-            (⟦<StdSource<R> as Source>⟧.left self.new) result buf.new }
-        ensures rest { IfOk result (λ n. drop n buf.new ≡ drop n buf.old) }
-        ensures given { Gives (⟦<StdSource<R> as Source>⟧.given self.old)
-            (⟦<StdSource<R> as Source>⟧.given self.new) result }
-        ensures cause { HasCause self.old.faults self.new.faults result }
-    {
-        if buf.is_empty() {
-            return Ok(0);
-        }
-        let mut byte = [0; 1];
-        match self.reader.read(&mut byte) {
-            Ok(count) => {
-                buf[..count].copy_from_slice(&byte[..count]);
-                self.given = self.given.saturating_add(count as u64);
-                Ok(count)
-            }
-            Err(_) => failed(&mut self.faults),
-        }
-    }
-
-    // Reads on, once all of the last block has been given. A read by bytes or fields mostly finds
-    // bytes staged, and is inlined without this.
-    #[inline(never)]
-    fn refill(&mut self, buf: &mut [u8]) -> Result<usize, Failed>
-        requires { self.old.begin ≡ self.old.end }
-        ensures bound { ReadsAtMost result buf.new }
-        ensures bytes { ReadConsumes (⟦<StdSource<R> as Source>⟧.left self.old)
-            (⟦<StdSource<R> as Source>⟧.left self.new) result buf.new }
-        ensures rest { IfOk result (λ n. drop n buf.new ≡ drop n buf.old) }
-        ensures given { Gives (⟦<StdSource<R> as Source>⟧.given self.old)
-            (⟦<StdSource<R> as Source>⟧.given self.new) result }
-        ensures cause { HasCause self.old.faults self.new.faults result }
-    {
-        if self.end == self.staged.len() {
-            self.widen();
-        }
-        if self.staged.is_empty() {
-            return self.pass(buf);
-        }
-        self.stage()?;
-        Ok(self.give(buf))
-    }
-
-    // Makes the block twice as long, if it isn't at its greatest length and there is memory.
+    // Makes the block twice as long, if there is memory and it isn't at its greatest length.
     fn widen(&mut self)
         requires { self.old.begin ≡ self.old.end }
         ensures reader { self.new.reader ≡ self.old.reader }
@@ -139,11 +147,11 @@ impl<R: Read + Drop> StdSource<R> {
         ensures given { self.new.given ≡ self.old.given }
         ensures faults { self.new.faults ≡ self.old.faults }
     {
-        let long = (self.staged.len() * 2).clamp(FIRST, STAGE);
+        let long = (self.block().len() * 2).min(STAGE);
         self.begin = 0;
         self.end = 0;
         // without memory the block stays as it is
-        let _longer = self.staged.resize(long, 0);
+        let _longer = self.longer.resize(long, 0);
     }
 
     // Gives the staged bytes, as many as `buf` has room for.
@@ -152,18 +160,18 @@ impl<R: Read + Drop> StdSource<R> {
         ensures count { result ≡ min (length buf.old) (self.old.end - self.old.begin) }
         ensures bound { result ≤ length buf.new }
         ensures bytes { Consumes (ahead (R.remaining self.old.reader)
-            (between self.old.staged.items self.old.begin self.old.end))
+            (between (block self.old.first self.old.longer.items) self.old.begin self.old.end))
             (ahead (R.remaining self.new.reader)
-            (between self.new.staged.items self.new.begin self.new.end)) (take result buf.new) }
+            (between (block self.new.first self.new.longer.items) self.new.begin self.new.end)) (take result buf.new) }
         ensures none { result ≡ 0 → ahead (R.remaining self.new.reader)
-            (between self.new.staged.items self.new.begin self.new.end) ≡ ahead (R.remaining self.old.reader)
-            (between self.old.staged.items self.old.begin self.old.end) }
+            (between (block self.new.first self.new.longer.items) self.new.begin self.new.end) ≡ ahead (R.remaining self.old.reader)
+            (between (block self.old.first self.old.longer.items) self.old.begin self.old.end) }
         ensures rest { drop result buf.new ≡ drop result buf.old }
         ensures given { self.new.given ≡ min (self.old.given + result) (2 ^ 64 - 1) }
         ensures faults { self.new.faults ≡ self.old.faults }
     {
         let count = buf.len().min(self.end - self.begin);
-        let staged = self.staged.as_slice();
+        let staged = self.block();
         buf[..count].copy_from_slice(&staged[self.begin..self.begin + count]);
         self.begin += count;
         self.given = self.given.saturating_add(count as u64);
@@ -175,7 +183,7 @@ impl<R: Read + Drop> Source for StdSource<R> {
     ghost use Rattle.vms_io.specs.Ahead.{ahead, ahead_bytes};
     ghost use Rattle.vms_io.specs.Gathered.{between};
 
-    ghost left = { λ s. ahead (R.remaining s.reader) (between s.staged.items s.begin s.end) };
+    ghost left = { λ s. ahead (R.remaining s.reader) (between (block s.first s.longer.items) s.begin s.end) };
 
     ghost given = { λ s. min s.given (2 ^ 64 - 1) };
 
@@ -187,7 +195,7 @@ impl<R: Read + Drop> Source for StdSource<R> {
 
     ghost promised = { λ s h. Prim.cc };
 
-    ghost octets = { λ s. ahead_bytes (R.remaining s.reader) (between s.staged.items s.begin s.end) };
+    ghost octets = { λ s. ahead_bytes (R.remaining s.reader) (between (block s.first s.longer.items) s.begin s.end) };
 
     /// Copies the next bytes into the front of `buf` and returns their number.
     ///
@@ -196,7 +204,7 @@ impl<R: Read + Drop> Source for StdSource<R> {
     /// - [`Failed`]: the reader returned an error. Nothing has been read.
     fn read(&mut self, buf: &mut [u8]) -> Result<usize, Failed> {
         if self.begin == self.end {
-            return self.refill(buf);
+            self.stage()?;
         }
         Ok(self.give(buf))
     }
