@@ -117,6 +117,19 @@ impl MachineBoard<Devices> {
         passed
     }
 
+    /// Applies `event` and returns the value and the interrupt output, if the event is a frequent
+    /// access that touches no interrupt line. Otherwise nothing happens, and it returns `None`.
+    #[inline(always)]
+    pub fn at_once(&mut self, event: Event) -> Option<(Option<u8>, bool)>
+        ensures done { MatchOption result (self.new ≡ self.old)
+            (λ done. (saying done.0 done.1, self.new.state) ≡ step event self.old.state) }
+        ensures taken { self.new.taken ≡ self.old.taken }
+    {
+        let done = self.devices.at_once(event);
+        self.devices.is_sound();
+        done
+    }
+
     /// Returns the level, 1 to 4.
     pub fn level(&self) -> u8
         ensures { result ≡ self.now.state.level }

@@ -1,7 +1,8 @@
 // The calls that create and free a board, and those that are its events.
 //
 // An event is first tried in a way that makes no list of bytes. The answer of the other way has a
-// variable of its own, so that the first one's is made in the caller's place.
+// variable of its own, so that the first one's is made in the caller's place. Before both, the most
+// frequent accesses are tried in a way without calls.
 ghost use Rattle.std.specs.Prelude.{◌≡◌, [], IsTrue, IfSome, MatchOption, Some, None};
 ghost use Rattle.dev_board.specs.declared.event.Event.TheVariants.{Read, Write, Byte};
 ghost use Rattle.vmstate_board_c.specs.Answers.{MayAct, Made, acknowledges, acts, acts_after, board_of, event_at, said, time_to, wire_at};
@@ -66,11 +67,10 @@ pub extern "C" fn vmstate_board_in(
 ) -> CAnswer
     ensures { (result, board_of handle.new) ≡ event_at moment (Read port) (board_of handle.old) }
 {
-    if let Some((value, int)) = quickly(alloc, handle, moment, Event::Read { port }) {
+    if let Some((value, int)) = at_once(alloc, handle, moment, Event::Read { port }) {
         return brief(value, int);
     }
-    let answer = access(alloc, handle, moment, Event::Read { port });
-    answer
+    read(alloc, handle, moment, port)
 }
 
 /// Writes `value` to the port `port` at `moment`, after time has passed up to it.
@@ -88,11 +88,10 @@ pub extern "C" fn vmstate_board_out(
     ensures { (result, board_of handle.new)
         ≡ event_at moment (Write port value) (board_of handle.old) }
 {
-    if let Some((value, int)) = quickly(alloc, handle, moment, Event::Write { port, value }) {
+    if let Some((value, int)) = at_once(alloc, handle, moment, Event::Write { port, value }) {
         return brief(value, int);
     }
-    let answer = access(alloc, handle, moment, Event::Write { port, value });
-    answer
+    write(alloc, handle, moment, port, value)
 }
 
 /// Receives the byte `value` from the serial line at `moment`, after time has passed up to it.
@@ -169,6 +168,72 @@ pub extern "C" fn vmstate_board_ack(alloc: Global, handle: &mut Handle) -> CAnsw
     let (value, int) = act(&mut held.board, Event::Ack);
     handle.put(held);
     brief(value, int)
+}
+
+// Does `read_on`. It is inlined, so that no other way makes a variable of its answer.
+#[inline(always)]
+fn read(alloc: Global, handle: &mut Handle, moment: u64, port: u16) -> CAnswer
+    ensures { (result, board_of handle.new) ≡ event_at moment (Read port) (board_of handle.old) }
+{
+    let answer = read_on(alloc, handle, moment, port);
+    answer
+}
+
+// Reads the port `port` at `moment`. It isn't inlined, so that a frequent read saves no registers.
+#[inline(never)]
+#[tactic(auto, unfolding(dev_board::specs::Step::names_wire))]
+fn read_on(alloc: Global, handle: &mut Handle, moment: u64, port: u16) -> CAnswer
+    ensures { (result, board_of handle.new) ≡ event_at moment (Read port) (board_of handle.old) }
+{
+    if let Some((value, int)) = quickly(alloc, handle, moment, Event::Read { port }) {
+        return brief(value, int);
+    }
+    let answer = access(alloc, handle, moment, Event::Read { port });
+    answer
+}
+
+// Does `write_on`. It is inlined, as above.
+#[inline(always)]
+fn write(alloc: Global, handle: &mut Handle, moment: u64, port: u16, value: u8) -> CAnswer
+    ensures { (result, board_of handle.new)
+        ≡ event_at moment (Write port value) (board_of handle.old) }
+{
+    let answer = write_on(alloc, handle, moment, port, value);
+    answer
+}
+
+// Writes `value` to the port `port` at `moment`. It isn't inlined, as above.
+#[inline(never)]
+#[tactic(auto, unfolding(dev_board::specs::Step::names_wire))]
+fn write_on(alloc: Global, handle: &mut Handle, moment: u64, port: u16, value: u8) -> CAnswer
+    ensures { (result, board_of handle.new)
+        ≡ event_at moment (Write port value) (board_of handle.old) }
+{
+    if let Some((value, int)) = quickly(alloc, handle, moment, Event::Write { port, value }) {
+        return brief(value, int);
+    }
+    let answer = access(alloc, handle, moment, Event::Write { port, value });
+    answer
+}
+
+// Applies `event` at `moment` and returns the value and the interrupt output, if that is the board's
+// moment and the event a frequent access that touches no line. Otherwise nothing happens.
+#[inline(always)]
+fn at_once(
+    alloc: Global,
+    handle: &mut Handle,
+    moment: u64,
+    event: Event,
+) -> Option<(Option<u8>, bool)>
+    requires { MayAct event }
+    ensures { MatchOption result (board_of handle.new ≡ board_of handle.old)
+        (λ done. (said done.0 done.1 [], board_of handle.new)
+        ≡ event_at moment event (board_of handle.old)) }
+{
+    let mut held = handle.take(alloc)?;
+    let done = held.board.at_once(moment, event);
+    handle.put(held);
+    done
 }
 
 // Applies `event` at `moment` and returns the value and the interrupt output, if it can be told at

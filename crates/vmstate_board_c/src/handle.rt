@@ -56,7 +56,12 @@ impl Handle {
             (λ held. self.old.seal.held ≡ Some held.value) }
         ensures none { self.new.seal.held ≡ None }
     {
-        mem::replace(self, Handle::none(alloc)).into_box()
+        if !self.is_made {
+            return None;
+        }
+        let seal = mem::replace(&mut self.seal, Seal::none(alloc));
+        self.is_made = false;
+        Some(seal.into_parts().into_box())
     }
 
     /// Keeps `held`.

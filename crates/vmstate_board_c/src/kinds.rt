@@ -83,8 +83,32 @@ impl AnyBoard {
         match self {
             AnyBoard::Isa(board) => {
                 if reach(board, moment) {
+                    if let Some(done) = board.at_once(event) {
+                        return Some(done);
+                    }
                     let answer = board.event(event);
                     return Some((answer.value, answer.int));
+                }
+                None
+            }
+            AnyBoard::Clock(_) => None,
+        }
+    }
+
+    /// Applies `event` at `moment` and returns the value and the interrupt output, if that is the
+    /// board's moment and the event a frequent access that touches no interrupt line. Otherwise
+    /// nothing happens, and it returns `None`.
+    #[inline(always)]
+    pub(crate) fn at_once(&mut self, moment: u64, event: Event) -> Option<(Option<u8>, bool)>
+        requires { MayAct event }
+        ensures { MatchOption result (self.new ≡ self.old)
+            (λ done. (said done.0 done.1 [], Some self.new)
+            ≡ event_at moment event (Some self.old)) }
+    {
+        match self {
+            AnyBoard::Isa(board) => {
+                if moment == board.now() {
+                    return board.at_once(event);
                 }
                 None
             }
