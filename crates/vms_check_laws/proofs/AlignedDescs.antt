@@ -5,16 +5,16 @@
 use Rattle.vms_check_laws.proofs.Facade.{◌≡◌, inl, inr, ℕ, zero, suc, ◌+◌, ◌<◌, ◌≤◌, Bool, true, List, ◌∷◌, ◌++◌, length, get_or, Some, None, sym, ap, ◌∙◌}
 use Rattle.vms_check_laws.proofs.Facade.{arith, ℤ, pos, if◌then◌else◌, ◌⊎◌, nat_lt, take, refl, slice_get, eqb-true, and_parts, ltb-true, eq-or-lt_of_le, []}
 use Rattle.vms_check_laws.proofs.Facade.{cells_in, Kind, Item, Num, Equal, Unused, Struct, width, residue, code, Count, One, is_steady_in, is_num, is_one}
-use Rattle.vms_check_laws.proofs.Facade.{is_earlier_in, Slot, Number, no_parent, times, counted, item_cells, elements_of, item_slots, numbers_of, kind_of}
-use Rattle.vms_check_laws.proofs.Facade.{Spells, zeroed, length-code, size_same, elements_fit, Entry, same_count, same_item, FitsAt, Aligns, Cell, desc_cells}
-use Rattle.vms_check_laws.proofs.Facade.{AllZip}
-use Rattle.vms_check_laws.proofs.Presence.{Agree, filler_length}
+use Rattle.vms_check_laws.proofs.Facade.{is_earlier_in, Slot, Number, times, counted, item_cells, elements_of, item_slots, numbers_of, kind_of, Spells}
+use Rattle.vms_check_laws.proofs.Facade.{zeroed, length-code, size_same, elements_fit, Entry, same_count, same_item, FitsAt, Aligns, Cell, desc_cells, AllZip}
+use Rattle.vms_check_laws.proofs.Facade.{cases_lt, eq-eqb, position_from, same_place}
+use Rattle.vms_check_laws.proofs.Presence.{filler_length}
 use Rattle.vms_check_laws.proofs.Segments.{fits_left, fits_right, fits_at, apart, same_bytes, aligns_nil, aligns_append, aligns_number, aligns_constant}
 use Rattle.vms_check_laws.proofs.Segments.{aligns_filler, spells_split, behind_first, same_code}
 use Rattle.vms_check_laws.proofs.Premises.{kinds_same, slots_at, IsKnown, entries_slots, AreKnown, known_there, Two, PairGood, Pairs, Sides, IsSingle}
 use Rattle.vms_check_laws.proofs.Premises.{NamesEarlier, OldFields, covered_slots, Met}
 use Rattle.vms_check_laws.proofs.FieldsRead.{pair_by, Opposite, named_pair}
-use Rattle.vms_check_laws.proofs.Positioned.{same_some, Above, Upto, upto_next, upto_here, upto_earlier}
+use Rattle.vms_check_laws.proofs.Positioned.{same_some, at_or_later, Above, none_before}
 use Rattle.vms_check_laws.proofs.PairLists.{if_least}
 
 -- two constants of one kind that have other bytes
@@ -127,32 +127,36 @@ module _ (sides : Sides) where
   abbrev all_new : List Entry → List Slot
   all_new fs = entries_slots ns b.fields w own' numbers' at' fs
 
-  -- numbers that tests and counts may name agree, at the positions below p
+  -- numbers that tests and counts may name agree, of the fields before field i
   abbrev pub Same : ℕ → Type 0
-  Same p = (i j q : ℕ) → is_steady_in b j ≡ true → o i ≡ Some q → n j ≡ Some q → q < p → own i ≡ own' j
+  Same i = (k j : ℕ) → j < i → is_steady_in b j ≡ true → same_place (o k) (n j) ≡ true → own k ≡ own' j
 
-  -- what is known of the entries from position p on
+  -- what is known of the entries from position p on, whose fields have numbers from i on
   pub record State (p i : ℕ) (es fs : List Entry) : Type 0 where
     pub known : AreKnown ms a.fields v numbers at es
     pub known' : AreKnown ns b.fields w numbers' at' fs
-    pub upto : Upto o p es
-    pub upto' : Upto n p fs
     pub above : Above i fs
-    pub same : Same p
+    -- what has one position on both sides, from field i on, is one of these
+    pub later : (k j : ℕ) → i ≤ j → same_place (o k) (n j) ≡ true → same_place (position_from p es k) (position_from p fs j) ≡ true
+    pub same : Same i
 
-  earlier_agree : (p i : ℕ) (es : List Entry) (f : Entry) (fs : List Entry) → State p i es (f ∷ fs) → Agree o n (λ j. is_earlier_in b f.index j) own own'
-  earlier_agree p i es f fs st k j named place =
-      let s = same_some (o k) (n j) place in
-      let e = and_parts (nat_lt j f.index) (is_steady_in b j) named in
-      st.same k j s.0 e.1 s.1 s.2 (upto_earlier n p i f fs st.upto' st.above j s.0 (ltb-true j f.index e.0) s.2)
+  earlier_same : (p i : ℕ) (e f : Entry) (es fs : List Entry) → State p i (e ∷ es) (f ∷ fs) → Same f.index
+  earlier_same p i e f es fs st k j lt named place = elim (cases_lt j i) [
+    | inl less ↦ st.same k j less named place
+    | inr le ↦ elim (at_or_later k j p e f es fs (st.later k j le place)) [
+      | inl here ↦ absurd (omega (arith, here.1))
+      | inr more ↦ let s = same_some _ _ more.1 in absurd (none_before (suc p) j s.0 (suc f.index) fs st.above.1 (omega arith) s.2)
+    ]
+  ]
 
   same_next : (p i : ℕ) (e f : Entry) (es fs : List Entry) → State p i (e ∷ es) (f ∷ fs) → (is_steady_in b f.index ≡ true → own e.index ≡ own' f.index)
-      → Same (suc p)
-  same_next p _ e f es fs st here i j q named oi nj lt = let le : q ≤ p = omega arith in elim (eq-or-lt_of_le le) [
-    | inl is ↦
-        let fj : f.index ≡ j = upto_here n p f fs st.upto' j (rw is at nj) in
-        rw (← (upto_here o p e es st.upto i (rw is at oi)), ← fj) (here (rw fj named))
-    | inr less ↦ st.same i j q named oi nj less
+      → Same (suc f.index)
+  same_next p i e f es fs st here k j lt named place = let le : j ≤ f.index = omega arith in elim (eq-or-lt_of_le le) [
+    | inl is ↦ elim (at_or_later k j p e f es fs (st.later k j (omega (arith, st.above.0)) place)) [
+      | inl this ↦ rw (← this.0, ← this.1) (here (rw this.1 named))
+      | inr more ↦ absurd (cc (eq-eqb f.index j (sym is)))
+    ]
+    | inr less ↦ earlier_same p i e f es fs st k j less named place
   ]
 
   module _ (named : NamesEarlier below' b) (old : OldFields below own a.fields) (fits : FitsAt (desc_cells olds a) numbers at) where
@@ -162,7 +166,14 @@ module _ (sides : Sides) where
         let met : Met sides e f = record { good = good; known = k; known' = st.known'.0 } in
         let new_f = named f.index f.field st.known'.0.field in
         pair_aligns (λ j. is_earlier_in b f.index j) e f
-        (record { met = met; old = old e.index e.field k.field; new = new_f; fits = k.fits fits; agree = earlier_agree p i _ f fs st })
+        (record {
+          met = met;
+          old = old e.index e.field k.field;
+          new = new_f;
+          fits = k.fits fits;
+          agree = λ k j named place.
+              let r = and_parts (nat_lt j f.index) (is_steady_in b j) named in earlier_same p i e f es fs st k j (ltb-true j f.index r.0) r.1 place;
+        })
 
     -- the front after one more pair: the bytes are split there
     pub record Past (p i : ℕ) (e f : Entry) (es fs : List Entry) (more_old more_new : List Slot) (r r' : List ℕ) : Type 0 where
@@ -189,9 +200,11 @@ module _ (sides : Sides) where
           next = λ good. record {
             known = st.known.1;
             known' = st.known'.1;
-            upto = upto_next o p e es st.upto;
-            upto' = upto_next n p f fs st.upto';
             above = st.above.1;
+            later = λ k j le place. elim (at_or_later k j p e f es fs (st.later k j (omega (arith, st.above.0)) place)) [
+              | inl this ↦ absurd (omega (arith, this.1))
+              | inr more ↦ more.1
+            ];
             same = same_next p i e f es fs st (λ is. pair_same e f (record { good = good; known = st.known.0; known' = st.known'.0 }) is t.0 _ _ t.3 split);
           };
           rests = λ good. (here_aligns p i e f es fs st good).rests t.0 _ _ t.3 split;

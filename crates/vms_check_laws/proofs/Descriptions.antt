@@ -213,10 +213,9 @@ module _ {ks : List Comparer} {cs : List Carrier} {ms ns : List Meaning} {number
   first_state at' = record {
     known = known;
     known' = all_known ns b.fields w numbers' at';
-    upto = λ j q e. inr e;
-    upto' = λ j q e. inr e;
     above = present_above _ b.fields w 0 0 b.fields;
-    same = λ i j q steady oi nj lt. absurd (omega arith);
+    later = λ k j le place. place;
+    same = λ k j lt named place. absurd (omega arith);
   }
 
   module _ (old : OldFields below own a.fields) (good : DescGood below' b) (fits : FitsAt (desc_cells (cells_in ms) a) numbers at) where

@@ -5,9 +5,9 @@ use Rattle.vms_check_laws.proofs.Facade.{None, refl, sym, ap, ◌∙◌, slice_g
 use Rattle.vms_check_laws.proofs.Facade.{ComesOnce, AllCame, at_other, Part, first_answer, Sub, Device, Set, struct_cells, desc_cells, device_cells, Image}
 use Rattle.vms_check_laws.proofs.Facade.{zeroed, own_slots, own_cells, sub_slots, sub_place, came_slots, IsSection, SubSpells, SubsSpell, sub_head}
 use Rattle.vms_check_laws.proofs.Facade.{written_subs, written_section, find_sub, index, is_version_of, WellFormed, comparing, compare_sub, compare_subs}
-use Rattle.vms_check_laws.proofs.Facade.{carrying, carried_sub, carried_device, defaults, sub_came, sub_found, defaults_at, version_decides, rules_append, IsSaved}
-use Rattle.vms_check_laws.proofs.Facade.{Holds, FitsAt, answers_none, at_set, rules_split, sub_size, ◌≤◌, option_and_then, Cell, FitCells, RulesHold, IsReady}
-use Rattle.vms_check_laws.proofs.Facade.{ComeAsNeeded, here, failing_pair, passes, or_else_none, part_apart, cells_of_sub}
+use Rattle.vms_check_laws.proofs.Facade.{carrying, carried_sub, carried_device, defaults, sub_came, sub_found, defaults_at, version_decides, rules_append}
+use Rattle.vms_check_laws.proofs.Facade.{IsSaved, Holds, FitsAt, answers_none, at_set, rules_split, sub_size, ◌≤◌, option_and_then, Cell, FitCells, RulesHold}
+use Rattle.vms_check_laws.proofs.Facade.{IsReady, ComeAsNeeded, here, failing_pair, passes, or_else_none, part_apart, cells_of_sub}
 use Rattle.vms_spec.specs.declared.Part.TheVariants as parts
 use Rattle.vms_check_laws.proofs.SubParts.{Found, look_up}
 use Rattle.vms_check_laws.proofs.Segments.{holds_left, holds_right, holds_at, fits_left, RestAt, at_first, one_on, from_zero, fits_right, fits_at}

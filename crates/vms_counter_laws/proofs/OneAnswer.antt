@@ -2,7 +2,7 @@
 use Rattle.vms_counter_laws.proofs.Facade.{◌≡◌, ℕ, ◌==◌, true, false, List, [], ◌∷◌, Option, Some, None, IfSome, refl, if◌then◌else◌, ap, ◌∙◌, or_left}
 use Rattle.vms_counter_laws.proofs.Facade.{or_right, bytes_eq-Decides, IsBytes, Set, Image, is_one_of, WellFormed, bytes_at, machine_bytes, written_are_bytes}
 use Rattle.vms_counter_laws.proofs.Facade.{Mismatch, lacking, machine_for, candidates, stream_of, Refusal, Answer, State, IsFirst, Here, Later, NoneShows}
-use Rattle.vms_counter_laws.proofs.Facade.{Counters, Agree, Lacks, Finds, Reason, Fault, one_fault_holds, OneAnswerLaw}
+use Rattle.vms_counter_laws.proofs.Facade.{Counters, Agree, Lacks, Finds, Reason, Fault, one_fault_holds, OneAnswerLaw, subst}
 
 -- what is lacking is one of the machines
 more_known : (m : List ℕ) (machines : List (List ℕ)) (o : Option (List ℕ)) → IfSome o (λ x. is_one_of machines x ≡ true)
@@ -70,10 +70,10 @@ module _ (old new : Set) where
     one_answer _ _ (Lacks m e none) (Lacks m' e' none') = let same : m ≡ m' = cc in rw same
     one_answer _ _ (Lacks m e none) (Finds m' images r n e' first fault) =
         let same : m ≡ m' = cc in
-        absurd (none_first m' images _ (rw same at none) first)
+        absurd (none_first m' images (candidates old new m') (subst (λ x. NoneShows old new x (candidates old new x)) same none) first)
     one_answer _ _ (Finds m images r n e first fault) (Lacks m' e' none') =
         let same : m' ≡ m = cc in
-        absurd (none_first m images _ (rw same at none') first)
+        absurd (none_first m images (candidates old new m) (subst (λ x. NoneShows old new x (candidates old new x)) same none') first)
     one_answer _ _ (Finds m a r n e x f) (Finds m' b s k e' y g) =
         let same : m' ≡ m = cc in
         rw same (both_found m a b r s n k (stream_bytes old new well m a) x (rw same at y) f (rw same at g))

@@ -25,35 +25,26 @@ older_points = points (point 1 (number U8 (codes "x") ∷ []))
 abbrev newer_points : Set
 newer_points = points (point 2 (number U8 (codes "x") ∷ record (number U8 (codes "y")) { since = 2 } ∷ []))
 
--- the newer set takes the footer's mark for y, and the stream is then bare
-takes_a_footer_for_a_field : told older_points newer_points
-    ≡ State (mismatch 6 (here (parts.Struct 0)) (in_field (parts.Struct 0) 1)) None (record { version = 1; came = []; numbers = pos 0 ∷ [] } ∷ [])
-    (record { place = 28; section = None; reason = reasons.Trailing })
-unfolding told first between_at behind_at trailer_at code
-takes_a_footer_for_a_field = refl
-
 abbrev four : Set
 four = box_set (number U8 (codes "n") ∷ record (number U16 (codes "v")) { count = Counted 0 4 } ∷ []) [] []
-
-raises_a_count : told four counted_set
-    ≡ State (mismatch 11 (in_field (parts.Device 0) 1) (in_field (parts.Device 0) 1)) None
-    (record { version = 1; came = []; numbers = pos 3 ∷ pos 0 ∷ pos 0 ∷ pos 0 ∷ pos 0 ∷ [] } ∷ [])
-    (record { place = 25; section = Some 0; reason = reasons.CountTooLarge })
-unfolding told first between_at behind_at trailer_at code
-raises_a_count = refl
 
 abbrev without_q : Set
 without_q = box_set (number U8 (codes "a") ∷ []) [] (sub_of (codes "box/p") (codes "x") 5 ∷ [])
 
-has_no_state : told subsection_set without_q ≡ NoState (mismatch 13 (here (parts.Sub 0 1)) (here (parts.Device 0)))
-unfolding told first between_at behind_at trailer_at code
-has_no_state = refl
+record Rows : Type 0 where
+  -- the newer set takes the footer's mark for y, and the stream is then bare
+  takes_a_footer_for_a_field : told older_points newer_points
+      ≡ State (mismatch 6 (here (parts.Struct 0)) (in_field (parts.Struct 0) 1)) None (record { version = 1; came = []; numbers = pos 0 ∷ [] } ∷ [])
+      (record { place = 28; section = None; reason = reasons.Trailing })
+  raises_a_count : told four counted_set
+      ≡ State (mismatch 11 (in_field (parts.Device 0) 1) (in_field (parts.Device 0) 1)) None
+      (record { version = 1; came = []; numbers = pos 3 ∷ pos 0 ∷ pos 0 ∷ pos 0 ∷ pos 0 ∷ [] } ∷ [])
+      (record { place = 25; section = Some 0; reason = reasons.CountTooLarge })
+  has_no_state : told subsection_set without_q ≡ NoState (mismatch 13 (here (parts.Sub 0 1)) (here (parts.Device 0)))
+  names_a_machine : told set_3 set_1 ≡ State (mismatch 1 (here parts.Set) (here parts.Set)) (Some (codes "isa-2")) (default_images set_3)
+      (record { place = 8; section = None; reason = reasons.WrongMachine })
+  accepts_an_older_set : told set_1 set_3 ≡ AreCompatible
 
-names_a_machine : told set_3 set_1 ≡ State (mismatch 1 (here parts.Set) (here parts.Set)) (Some (codes "isa-2")) (default_images set_3)
-    (record { place = 8; section = None; reason = reasons.WrongMachine })
+rows : Rows
 unfolding told first between_at behind_at trailer_at code
-names_a_machine = refl
-
-accepts_an_older_set : told set_1 set_3 ≡ AreCompatible
-unfolding told first between_at behind_at trailer_at code
-accepts_an_older_set = refl
+rows = search

@@ -40,28 +40,26 @@ bad_after set n numbers good bad reason c = record {
   bad = c.refused;
 }
 
--- above the capacity of the array that it counts
-refuses_a_count : IsBadLine counted_set (text_of (box ∷ codes "n = 3" ∷ [])) 2 reasons.Count
-unfolding first digits
-refuses_a_count = bad_after counted_set 1 (pos 0 ∷ pos 0 ∷ pos 0 ∷ []) (box ∷ []) (codes "n = 3" ∷ []) reasons.Count search
+record Refusals : Type 0 where
+  -- above the capacity of the array that it counts
+  a_count : IsBadLine counted_set (text_of (box ∷ codes "n = 3" ∷ [])) 2 reasons.Count
+  -- not there, and not its default
+  an_absent_number : IsBadLine tested_set (text_of (box ∷ codes "f = 0" ∷ codes "g = 7" ∷ [])) 3 reasons.Absent
+  a_leading_zero : IsBadLine tested_set (text_of (box ∷ codes "f = 01" ∷ codes "g = 0" ∷ [])) 2 reasons.Number
+  another_path : IsBadLine tested_set (text_of (box ∷ codes "g = 0" ∷ codes "f = 0" ∷ [])) 2 reasons.Form
+  -- the first pass goes first: the validation fails as well
+  the_absent_number_before_the_validation : IsBadLine tested_set (text_of (box ∷ codes "f = 10" ∷ codes "g = 7" ∷ [])) 3 reasons.Absent
 
--- not there, and not its default
-refuses_an_absent_number : IsBadLine tested_set (text_of (box ∷ codes "f = 0" ∷ codes "g = 7" ∷ [])) 3 reasons.Absent
+refuses : Refusals
 unfolding first digits
-refuses_an_absent_number = bad_after tested_set 2 (pos 0 ∷ pos 0 ∷ []) (box ∷ codes "f = 0" ∷ []) (codes "g = 7" ∷ []) reasons.Absent search
-
-refuses_a_leading_zero : IsBadLine tested_set (text_of (box ∷ codes "f = 01" ∷ codes "g = 0" ∷ [])) 2 reasons.Number
-unfolding first digits
-refuses_a_leading_zero = bad_after tested_set 1 (pos 0 ∷ pos 0 ∷ []) (box ∷ []) (codes "f = 01" ∷ codes "g = 0" ∷ []) reasons.Number search
-
-refuses_another_path : IsBadLine tested_set (text_of (box ∷ codes "g = 0" ∷ codes "f = 0" ∷ [])) 2 reasons.Form
-unfolding first digits
-refuses_another_path = bad_after tested_set 1 (pos 0 ∷ pos 0 ∷ []) (box ∷ []) (codes "g = 0" ∷ codes "f = 0" ∷ []) reasons.Form search
-
--- the first pass goes first: the validation fails as well
-refuses_the_absent_number_before_the_validation : IsBadLine tested_set (text_of (box ∷ codes "f = 10" ∷ codes "g = 7" ∷ [])) 3 reasons.Absent
-unfolding first digits
-refuses_the_absent_number_before_the_validation = bad_after tested_set 2 (pos 10 ∷ pos 0 ∷ []) (box ∷ codes "f = 10" ∷ []) (codes "g = 7" ∷ []) reasons.Absent search
+refuses = record {
+  a_count = bad_after counted_set 1 (pos 0 ∷ pos 0 ∷ pos 0 ∷ []) (box ∷ []) (codes "n = 3" ∷ []) reasons.Count search;
+  an_absent_number = bad_after tested_set 2 (pos 0 ∷ pos 0 ∷ []) (box ∷ codes "f = 0" ∷ []) (codes "g = 7" ∷ []) reasons.Absent search;
+  a_leading_zero = bad_after tested_set 1 (pos 0 ∷ pos 0 ∷ []) (box ∷ []) (codes "f = 01" ∷ codes "g = 0" ∷ []) reasons.Number search;
+  another_path = bad_after tested_set 1 (pos 0 ∷ pos 0 ∷ []) (box ∷ []) (codes "g = 0" ∷ codes "f = 0" ∷ []) reasons.Form search;
+  the_absent_number_before_the_validation =
+      bad_after tested_set 2 (pos 10 ∷ pos 0 ∷ []) (box ∷ codes "f = 10" ∷ []) (codes "g = 7" ∷ []) reasons.Absent search;
+}
 
 -- ---- the second pass
 

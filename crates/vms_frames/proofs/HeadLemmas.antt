@@ -1,12 +1,12 @@
 -- The heads of sections and of subsections, of configurations and of descriptions, and footers, by the bytes that came.
 use Rattle.vms_frames.proofs.Facade.{◌≡◌, ℕ, ◌+◌, ◌<◌, ◌≤◌, ◌==◌, ◌||◌, not, List, ◌++◌, length, get_or, take, drop, Bool, true, false, if◌then◌else◌, nat_lt}
 use Rattle.vms_frames.proofs.Facade.{Some, None, refl, sym, ap, ◌∙◌, arith, length-append, length-drop, take_all, le-ltb, lt-ltb, eq-eqb, ne_eqb, get_or-take}
-use Rattle.vms_frames.proofs.Facade.{length-take-le, number_at, bytes_at, Piece, Long, Start, Foot, Head, head_in, sub_head_in, Known, Due, AfterFields}
-use Rattle.vms_frames.proofs.Facade.{first_row, alone, is_ram, needs, text_at, Seen, Good, Bad, Short, seen_in, seen_by, nothing_known, Section, step_long}
-use Rattle.vms_frames.proofs.Facade.{unit_of_step, in_section, head_seen, start_seen, start_reason, sub_seen, foot_seen}
+use Rattle.vms_frames.proofs.Facade.{length-take-le, number_at, bytes_at, Piece, Long, Start, Foot, head_in, sub_head_in, Known, Due, AfterFields, first_row}
+use Rattle.vms_frames.proofs.Facade.{alone, is_ram, needs, text_at, Seen, Good, Bad, Short, seen_in, seen_by, nothing_known, Section, step_long, unit_of_step}
+use Rattle.vms_frames.proofs.Facade.{in_section, head_seen, start_seen, start_reason, sub_seen, foot_seen}
 use Rattle.vms_spec.specs.declared.Reason.TheVariants as reasons
-use Rattle.vms_spec.specs.Units.{SubHead as ASub}
 use Rattle.vms_stream.specs.SoFar as tails
+use Rattle.vms_spec.specs.Units.{SubHead as ASub}
 use Rattle.vms_stream.specs.Dues.{Between as IsBetween}
 use Rattle.vms_frames.proofs.UnitLemmas.{byte_of_unit, number_of_unit, bytes_of_unit, cut_short, seen_whole}
 
@@ -25,38 +25,24 @@ head_cut unit rest some few =
     let n : get_or (unit ++ rest) 5 0 ≡ get_or unit 5 0 = byte_of_unit 5 unit rest (omega arith) in
     cut_short (IsBetween true false) nothing_known (14 + get_or (unit ++ rest) 5 0) (unit ++ rest) _ (omega (arith, length-append unit rest))
 
-head_with : ℕ → List ℕ → Head
-head_with n bytes = record {
-  id = number_at 4 1 bytes;
-  name = record { items = bytes_at n 6 bytes };
-  instance = number_at 4 (6 + n) bytes;
-  version = number_at 4 (10 + n) bytes;
-}
-
-head_same : (n : ℕ) (unit rest : List ℕ) → 14 + n ≤ length unit → head_with n (unit ++ rest) ≡ head_with n unit
-unfolding head_with
-head_same n unit rest long =
-    rw (
-      number_of_unit 4 1 unit rest (omega arith),
-      bytes_of_unit n 6 unit rest (omega arith),
-      number_of_unit 4 (6 + n) unit rest (omega arith),
-      number_of_unit 4 (10 + n) unit rest (omega arith),
-    )
-
 pub head_long : (unit : List ℕ) → length unit ≡ 14 + get_or unit 5 0 → length unit ≡ step_long (Section (head_in unit))
 head_long unit long = rw (length-take-le (get_or unit 5 0) (drop 6 unit) (omega (arith, length-drop 6 unit))) long
 
 pub head_whole : (unit rest : List ℕ) → length unit ≡ 14 + get_or unit 5 0
     → head_seen (unit ++ rest) ≡ Good (unit_of_step (Section (head_in unit))) (step_long (Section (head_in unit)))
-unfolding head_with
 head_whole unit rest long =
     let all = unit ++ rest in
-    let good : ℕ → Head → Seen = λ k h. Good (unit_of_step (Section h)) (14 + k) in
-    let n : get_or all 5 0 ≡ get_or unit 5 0 = byte_of_unit 5 unit rest (omega arith) in
-    seen_whole (IsBetween true false) nothing_known (14 + get_or all 5 0) all (unit_of_step (Section (head_with (get_or all 5 0) all)))
-    (omega (arith, length-append unit rest))
-    ∙ ap (λ k. good k (head_with k all)) n ∙ ap (good (get_or unit 5 0)) (head_same (get_or unit 5 0) unit rest (omega arith))
-    ∙ ap (Good (unit_of_step (Section (head_in unit)))) (sym long ∙ head_long unit long)
+    let k = get_or unit 5 0 in
+    seen_whole (IsBetween true false) nothing_known (14 + get_or all 5 0) all _ (omega (arith, length-append unit rest, byte_of_unit 5 unit rest (omega arith)))
+    ∙ rw (
+      byte_of_unit 5 unit rest (omega arith),
+      number_of_unit 4 1 unit rest (omega arith),
+      bytes_of_unit k 6 unit rest (omega arith),
+      number_of_unit 4 (6 + k) unit rest (omega arith),
+      number_of_unit 4 (10 + k) unit rest (omega arith),
+      ← head_long unit long,
+      long,
+    )
 
 -- ---- heads of subsections
 
@@ -88,23 +74,17 @@ module _ (id : ℕ) where
   pub foot_cut : (unit rest : List ℕ) → length unit + length rest < 5 → foot_seen id (unit ++ rest) ≡ Short
   foot_cut unit rest few = cut_short (AfterFields 0 tails.Unknown) (in_section id) 5 (unit ++ rest) _ (omega (arith, length-append unit rest))
 
-  foot_by : ℕ → Bool → Seen
-  foot_by n same = seen_by (if not same then Some (None, reasons.BadFooter) else None) (Foot n) 5
-
-  foot_came : (unit rest : List ℕ) → length unit ≡ 5 → foot_seen id (unit ++ rest) ≡ foot_by (number_at 4 1 unit) (number_at 4 1 unit == id)
-  unfolding foot_by
+  foot_came : (unit rest : List ℕ) → length unit ≡ 5 → foot_seen id (unit ++ rest)
+      ≡ seen_by (if not (number_at 4 1 unit == id) then Some (None, reasons.BadFooter) else None) (Foot (number_at 4 1 unit)) 5
   foot_came unit rest long =
       seen_whole (AfterFields 0 tails.Unknown) (in_section id) 5 (unit ++ rest) (Foot (number_at 4 1 (unit ++ rest))) (omega (arith, length-append unit rest))
-      ∙ ap (λ n. foot_by n (n == id)) (number_of_unit 4 1 unit rest (omega arith))
+      ∙ rw (number_of_unit 4 1 unit rest (omega arith)) refl
 
   pub foot_whole : (unit rest : List ℕ) → length unit ≡ 5 → number_at 4 1 unit ≡ id → foot_seen id (unit ++ rest) ≡ Good (Foot id) 5
-  unfolding foot_by
-  foot_whole unit rest long same =
-      foot_came unit rest long ∙ ap (foot_by (number_at 4 1 unit)) (eq-eqb (number_at 4 1 unit) id same) ∙ ap (λ n. Good (Foot n) 5) same
+  foot_whole unit rest long same = foot_came unit rest long ∙ rw (eq-eqb (number_at 4 1 unit) id same, same) refl
 
   pub foot_wrong : (unit rest : List ℕ) → length unit ≡ 5 → (number_at 4 1 unit ≡ id → ⊥) → foot_seen id (unit ++ rest) ≡ Bad 5 reasons.BadFooter
-  unfolding foot_by
-  foot_wrong unit rest long other = foot_came unit rest long ∙ ap (foot_by (number_at 4 1 unit)) (ne_eqb (number_at 4 1 unit) id other)
+  foot_wrong unit rest long other = foot_came unit rest long ∙ rw (ne_eqb (number_at 4 1 unit) id other) refl
 
 -- ---- sections that are sent in parts
 
@@ -132,11 +112,9 @@ start_whole unit rest long =
     let all = unit ++ rest in
     let k = get_or unit 5 0 in
     let n : get_or all 5 0 ≡ k = byte_of_unit 5 unit rest (omega arith) in
-    let name : bytes_at k 6 unit ≡ drop 6 unit = take_all k (drop 6 unit) (omega (arith, length-drop 6 unit)) in
-    let bad : ℕ → List ℕ → Seen = λ i l. Bad (6 + i) (start_reason l) in
     seen_whole (IsBetween true false) nothing_known (6 + get_or all 5 0) all (Start (number_at 4 1 all) (bytes_at (get_or all 5 0) 6 all))
     (omega (arith, length-append unit rest)) ∙ start_by (number_at 4 1 all) (bytes_at (get_or all 5 0) 6 all) (6 + get_or all 5 0)
-    ∙ ap (λ i. bad i (bytes_at i 6 all)) n ∙ ap (bad k) (bytes_of_unit k 6 unit rest (omega arith) ∙ name)
+    ∙ rw (n, bytes_of_unit k 6 unit rest (omega arith), take_all k (drop 6 unit) (omega (arith, length-drop 6 unit))) refl
 
 -- ---- configurations and descriptions: a mark, a length, and that many bytes
 

@@ -1,6 +1,6 @@
 -- Lists whose elements are put to others: what is found in them is what was found before.
 use Rattle.vms_stream_laws.proofs.Facade.{◌≡◌, ℕ, zero, suc, Bool, List, [], ◌∷◌, map, Option, Some, None, refl, list_any, slice_get, option_map, slice_get-map}
-use Rattle.vms_stream_laws.proofs.Facade.{at_option, first_answer, position, or_else_none, both_none}
+use Rattle.vms_stream_laws.proofs.Facade.{at_option, first_answer, position, or_else_none, both_none, test_some}
 
 module _ {X Y : Type 0} (f : X → Y) where
   pub map_both : {Z : Type 0} (g : Y → Z) (xs : List X) → map g (map f xs) ≡ map (λ x. g (f x)) xs
@@ -18,6 +18,10 @@ module _ {X Y : Type 0} (f : X → Y) where
   pub at_map : (xs : List X) (o : Option ℕ) → at_option (map f xs) o ≡ option_map f (at_option xs o)
   at_map xs None = refl
   at_map xs (Some k) = slice_get-map f xs k
+
+  pub test_map : (p : Y → Bool) (o : Option X) → test_some p (option_map f o) ≡ test_some (λ x. p (f x)) o
+  test_map p None = refl
+  test_map p (Some x) = refl
 
   -- what is in the other list came from the first
   pub record CameFrom (xs : List X) (k : ℕ) (y : Y) : Type 0 where

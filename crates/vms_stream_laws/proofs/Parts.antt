@@ -1,11 +1,11 @@
 -- The slots of a set without its validations are those of the set, with every rule true.
-use Rattle.vms_stream_laws.proofs.Facade.{◌≡◌, ℕ, zero, suc, ◌+◌, Bool, true, false, if◌then◌else◌, List, [], ◌∷◌, ◌++◌, length, map, get_or, drop, Option}
-use Rattle.vms_stream_laws.proofs.Facade.{Some, None, ℤ, refl, sym, ap, ◌∙◌, flat_map, slice_get, option_map, drop-map, length-map, map-append, slice_get-map}
+use Rattle.vms_stream_laws.proofs.Facade.{◌≡◌, ℕ, zero, suc, ◌+◌, Bool, true, false, if◌then◌else◌, List, [], ◌∷◌, length, map, get_or, drop, Option, Some}
+use Rattle.vms_stream_laws.proofs.Facade.{None, ℤ, refl, sym, ap, ◌∙◌, flat_map, slice_get, option_map, drop-map, length-map, map-append, slice_get-map}
 use Rattle.vms_stream_laws.proofs.Facade.{fun_ext, Item, Struct, Image, default_image, own_cells, sub_place, Cell, Slot, Rule, Meaning, no_meaning, no_desc}
-use Rattle.vms_stream_laws.proofs.Facade.{all_hold, counted, desc_cells, desc_slots, device_cells, elements_of, field_cells, field_slots, first, item_size}
-use Rattle.vms_stream_laws.proofs.Facade.{item_slots, meaning, meanings, no_parent, numbers_of, slots_from, struct_cells, times, Desc, Device, Field, Set, Sub}
-use Rattle.vms_stream_laws.proofs.Facade.{fresh, part_slots, slots_of_sub, subs_of, is_there, Tail, Footed, beyond, skipped, due_field, rules_hold, unruled}
-use Rattle.vms_stream_laws.proofs.Facade.{unruled_desc, unruled_device, unruled_sub}
+use Rattle.vms_stream_laws.proofs.Facade.{all_hold, counted, desc_cells, desc_slots, device_cells, field_cells, field_slots, first, item_slots, meaning}
+use Rattle.vms_stream_laws.proofs.Facade.{meanings, no_parent, numbers_of, slots_from, struct_cells, times, Desc, Device, Field, Set, Sub, fresh, part_slots}
+use Rattle.vms_stream_laws.proofs.Facade.{slots_of_sub, subs_of, is_there, Tail, Footed, beyond, skipped, due_field, rules_hold, unruled, unruled_desc}
+use Rattle.vms_stream_laws.proofs.Facade.{unruled_device, unruled_sub}
 use Rattle.vms_spec.specs.Layout.{Filler}
 use Rattle.vms_stream_laws.proofs.Lists.{map_both}
 
@@ -19,7 +19,8 @@ abbrev pub held : List Slot → List Slot
 held slots = map held_slot slots
 
 -- what is due, that rules hold and how many slots are passed over, of slots whose rules are made to hold
-held_as : (t : Tail) (k : ℕ) (slots : List Slot) → (due_field t (Some k) (held slots) ≡ due_field t (Some k) slots) × (rules_hold (held slots) ≡ true) × (skipped (held slots) ≡ skipped slots)
+held_as : (t : Tail) (k : ℕ) (slots : List Slot)
+    → (due_field t (Some k) (held slots) ≡ due_field t (Some k) slots) × (rules_hold (held slots) ≡ true) × (skipped (held slots) ≡ skipped slots)
 held_as t k (Rule b ∷ slots) = let h = held_as t k slots in (h.0, h.1, ap suc h.2)
 held_as t k (Filler zero ∷ slots) = let h = held_as t k slots in (h.0, h.1, ap suc h.2)
 held_as t k _ = (refl, refl, refl)
@@ -57,7 +58,8 @@ times_held : (n : ℕ) (f g : ℕ → List Slot) → ((at : ℕ) → f at ≡ he
 times_held zero f g h at step = refl
 times_held (suc n) f g h at step = rw (h at, times_held n f g h (at + step) step) (sym (map-append held_slot (g at) (times n g (at + step) step)))
 
-item_held : (ms : List Meaning) (item : Item) (caps : List ℕ) (numbers : List ℤ) (at : ℕ) → item_slots (map held_meaning ms) item caps numbers at ≡ held (item_slots ms item caps numbers at)
+item_held : (ms : List Meaning) (item : Item) (caps : List ℕ) (numbers : List ℤ) (at : ℕ)
+    → item_slots (map held_meaning ms) item caps numbers at ≡ held (item_slots ms item caps numbers at)
 item_held ms (Struct j) caps numbers at = ap (λ m. m.slots numbers at) (meaning_at ms j)
 item_held ms _ caps numbers at = refl
 
@@ -68,27 +70,20 @@ if_held false xs ys e = refl
 module _ (ms : List Meaning) (fields : List Field) (v : ℕ) (own : ℕ → ℕ) (numbers : List ℤ) where
   field_held : (i at : ℕ) (f : Field) → field_slots (map held_meaning ms) fields v own numbers i at f ≡ held (field_slots ms fields v own numbers i at f)
   field_held i at f =
-      let there = is_there f.test f.since v own no_parent in
-      let n = elements_of f.count own in
-      let part : ℕ → List Slot = item_slots ms f.item (counted i fields) numbers in
-      let part' : ℕ → List Slot = item_slots (map held_meaning ms) f.item (counted i fields) numbers in
-      let step = item_size (cells_in ms) f.item in
-      rw (cells_held ms) (if_held there (times n part' at step) (times n part at step) (times_held n part' part (item_held ms f.item (counted i fields) numbers) at step))
+      rw (cells_held ms) (if_held (is_there f.test f.since v own no_parent) _ _ (times_held _ _ _ (item_held ms f.item (counted i fields) numbers) at _))
 
   fields_held : (i at : ℕ) (fs : List Field) → slots_from (map held_meaning ms) fields v own numbers i at fs ≡ held (slots_from ms fields v own numbers i at fs)
   fields_held i at [] = refl
   fields_held i at (f ∷ fs) =
-      let next = at + length (field_cells (cells_in ms) fields i f) in
-      let one' = field_slots (map held_meaning ms) fields v own numbers i at f in
-      let one = field_slots ms fields v own numbers i at f in
-      ap (λ cs. one' ++ slots_from (map held_meaning ms) fields v own numbers (suc i) (at + length (field_cells cs fields i f)) fs) (cells_held ms)
-      ∙ ap (λ l. l ++ slots_from (map held_meaning ms) fields v own numbers (suc i) next fs) (field_held i at f)
-      ∙ ap (λ l. held one ++ l) (fields_held (suc i) next fs) ∙ sym (map-append held_slot one (slots_from ms fields v own numbers (suc i) next fs))
+      rw (field_held i at f, cells_held ms, fields_held (suc i) (at + length (field_cells (cells_in ms) fields i f)) fs)
+      (sym (map-append held_slot (field_slots ms fields v own numbers i at f) _))
 
-desc_held : (ms : List Meaning) (d : Desc) (v : ℕ) (numbers : List ℤ) (at : ℕ) → desc_slots (map held_meaning ms) (unruled_desc d) v numbers at ≡ held (desc_slots ms d v numbers at)
+desc_held : (ms : List Meaning) (d : Desc) (v : ℕ) (numbers : List ℤ) (at : ℕ)
+    → desc_slots (map held_meaning ms) (unruled_desc d) v numbers at ≡ held (desc_slots ms d v numbers at)
 desc_held ms d v numbers at =
     let own = numbers_of (cells_in ms) d numbers at in
-    rw (cells_held ms, fields_held ms d.fields v own numbers 0 at d.fields) (sym (map-append held_slot (slots_from ms d.fields v own numbers 0 at d.fields) (Rule (all_hold d.validate v own) ∷ [])))
+    rw (cells_held ms, fields_held ms d.fields v own numbers 0 at d.fields)
+    (sym (map-append held_slot (slots_from ms d.fields v own numbers 0 at d.fields) (Rule (all_hold d.validate v own) ∷ [])))
 
 meaning_held : (ms : List Meaning) (d : Desc) → meaning (map held_meaning ms) (unruled_desc d) ≡ held_meaning (meaning ms d)
 meaning_held ms d =
@@ -101,7 +96,8 @@ desc_at (d ∷ ds) (suc k) = desc_at ds k
 desc_at _ _ = refl
 
 -- what doesn't depend on validations is the same for each structure
-pub first_unruled : {B : Type 0} (f : List B → Desc → B) → ((bs : List B) (d : Desc) → f bs (unruled_desc d) ≡ f bs d) → (ds : List Desc) (k : ℕ) → first f (map unruled_desc ds) k ≡ first f ds k
+pub first_unruled : {B : Type 0} (f : List B → Desc → B) → ((bs : List B) (d : Desc) → f bs (unruled_desc d) ≡ f bs d) → (ds : List Desc) (k : ℕ)
+    → first f (map unruled_desc ds) k ≡ first f ds k
 unfolding first
 first_unruled f h ds zero = refl
 first_unruled {B} f h ds (suc k) = rw (first_unruled f h ds k, desc_at ds k, h (first f ds k) (get_or ds k no_desc))
@@ -118,12 +114,10 @@ meanings_held ds (suc k) =
 
 module _ (set : Set) where
   structs_held : meanings (map unruled_desc set.structs) (length (map unruled_desc set.structs)) ≡ map held_meaning (meanings set.structs (length set.structs))
-  structs_held = ap (meanings (map unruled_desc set.structs)) (length-map set.structs unruled_desc) ∙ meanings_held set.structs (length set.structs)
+  structs_held = rw (length-map set.structs unruled_desc) (meanings_held set.structs (length set.structs))
 
   cells_same : struct_cells (unruled set) ≡ struct_cells set
-  cells_same =
-      ap (first desc_cells (map unruled_desc set.structs)) (length-map set.structs unruled_desc)
-      ∙ first_unruled desc_cells (λ bs d. refl) set.structs (length set.structs)
+  cells_same = rw (length-map set.structs unruled_desc) (first_unruled desc_cells (λ bs d. refl) set.structs (length set.structs))
 
   own_same : (d : Device) → own_cells (unruled set) (unruled_device d) ≡ own_cells set d
   own_same d = rw cells_same
@@ -131,15 +125,16 @@ module _ (set : Set) where
   device_same : (d : Device) → device_cells (unruled set) (unruled_device d) ≡ device_cells set d
   device_same d = rw (cells_same, subs_same d.subs)
     where
-      subs_same : (subs : List Sub) → flat_map (λ (s : Sub). desc_cells (struct_cells set) s.desc) (map unruled_sub subs) ≡ flat_map (λ (s : Sub). desc_cells (struct_cells set) s.desc) subs
+      subs_same : (subs : List Sub)
+          → flat_map (λ (s : Sub). desc_cells (struct_cells set) s.desc) (map unruled_sub subs) ≡ flat_map
+          (λ (s : Sub). desc_cells (struct_cells set) s.desc) subs
       subs_same [] = refl
       subs_same (s ∷ subs) = rw (subs_same subs)
 
   default_same : (d : Device) → default_image (unruled set) (unruled_device d) ≡ default_image set d
   default_same d =
-      let of : List (Option ℕ) → List Cell → Image = λ came cells. record { version = d.desc.version; came = came; numbers = map (λ (c : Cell). c.default) cells } in
       let none : Sub → Option ℕ = λ s. None in
-      rw (map_both unruled_sub none d.subs) (ap (of (map none d.subs)) (device_same d))
+      rw (map_both unruled_sub none d.subs, device_same d) refl
 
   pub fresh_same : (o : Option Device) (v : ℕ) → fresh (unruled set) (option_map unruled_device o) v ≡ fresh set o v
   fresh_same None v = refl
@@ -151,20 +146,16 @@ module _ (set : Set) where
       ∙ place_same (at + length (desc_cells (struct_cells set) s.desc)) subs j
   place_same at _ _ = refl
 
-  sub_held : (d : Device) (i : Image) (j : ℕ) (o : Option Sub) (c : Option (Option ℕ)) → slots_of_sub (unruled set) (unruled_device d) i j (option_map unruled_sub o) c ≡ held (slots_of_sub set d i j o c)
+  sub_held : (d : Device) (i : Image) (j : ℕ) (o : Option Sub) (c : Option (Option ℕ))
+      → slots_of_sub (unruled set) (unruled_device d) i j (option_map unruled_sub o) c ≡ held (slots_of_sub set d i j o c)
   sub_held d i j (Some s) (Some (Some v)) =
-      let slots : List Meaning → ℕ → List Slot = λ ms at. desc_slots ms (unruled_desc s.desc) v i.numbers at in
-      let place = sub_place set (own_cells set d) d.subs j in
-      ap (slots (meanings (map unruled_desc set.structs) (length (map unruled_desc set.structs)))) (rw (own_same d) (place_same (own_cells set d) d.subs j))
-      ∙ ap (λ ms. slots ms place) structs_held ∙ desc_held (meanings set.structs (length set.structs)) s.desc v i.numbers place
+      rw (own_same d, place_same (own_cells set d) d.subs j, structs_held) (desc_held (meanings set.structs (length set.structs)) s.desc v i.numbers _)
   sub_held d i j _ _ = refl
 
   -- the slots of a part
   pub part_held : (o : Option Device) (i : Image) (p : Option ℕ) → part_slots (unruled set) (option_map unruled_device o) i p ≡ held (part_slots set o i p)
   part_held None i p = refl
-  part_held (Some d) i None =
-      ap (λ ms. desc_slots ms (unruled_desc d.desc) i.version i.numbers 0) structs_held
-      ∙ desc_held (meanings set.structs (length set.structs)) d.desc i.version i.numbers 0
+  part_held (Some d) i None = rw structs_held (desc_held (meanings set.structs (length set.structs)) d.desc i.version i.numbers 0)
   part_held (Some d) i (Some j) = rw (slice_get-map unruled_sub d.subs j) (sub_held d i j (slice_get d.subs j) (slice_get i.came j))
 
   pub subs_held : (o : Option Device) → subs_of (option_map unruled_device o) ≡ map unruled_sub (subs_of o)

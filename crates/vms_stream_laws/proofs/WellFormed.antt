@@ -1,11 +1,10 @@
 -- A well-formed set is well formed without its validations.
 use Rattle.vms_stream_laws.proofs.Facade.{◌≡◌, ℕ, suc, ◌^◌, ◌<◌, Bool, true, false, not, ◌&&◌, nat_le, List, [], ◌∷◌, ◌+◌, length, get_or, map, take, None}
-use Rattle.vms_stream_laws.proofs.Facade.{refl, ap, ◌∙◌, subst, list_all, slice_get, and_from, and_parts, length-map, take-map, MOST_ITEMS, Part, FitsHeads}
-use Rattle.vms_stream_laws.proofs.Facade.{first_answer, or_else, first, is_name, is_small_test, Desc, Device, Set, Sub, WellFormed, are_distinct, deepest}
-use Rattle.vms_stream_laws.proofs.Facade.{desc_fault, device_fault, device_rules, devices_items, failing, fields_fault, first_fault, has_few, here}
-use Rattle.vms_stream_laws.proofs.Facade.{is_same_device, items_in, set_rules, size_rules, struct_depths, struct_fault, struct_items, struct_rules, sub_fault}
-use Rattle.vms_stream_laws.proofs.Facade.{sub_rules, subs_items, validations_fault, AllTrue, all_true, or_else_none, unruled, unruled_desc, unruled_device}
-use Rattle.vms_stream_laws.proofs.Facade.{unruled_sub, both_none}
+use Rattle.vms_stream_laws.proofs.Facade.{refl, ap, ◌∙◌, subst, slice_get, and_from, and_parts, length-map, take-map, Part, FitsHeads, first_answer, or_else}
+use Rattle.vms_stream_laws.proofs.Facade.{is_small_test, Desc, Device, Set, Sub, WellFormed, deepest, desc_fault, device_fault, device_rules, devices_items}
+use Rattle.vms_stream_laws.proofs.Facade.{failing, fields_fault, first_fault, has_few, here, is_same_device, items_in, set_rules, size_rules, struct_depths}
+use Rattle.vms_stream_laws.proofs.Facade.{struct_fault, struct_items, struct_rules, sub_fault, sub_rules, subs_items, validations_fault, AllTrue, all_true}
+use Rattle.vms_stream_laws.proofs.Facade.{or_else_none, unruled, unruled_desc, unruled_device, unruled_sub, both_none}
 use Rattle.vms_spec.specs.declared.Part.TheVariants as parts
 use Rattle.vms_stream_laws.proofs.Lists.{any_map, came_from, map_both, none_after}
 use Rattle.vms_stream_laws.proofs.Parts.{first_unruled}
@@ -22,26 +21,25 @@ few_still d b e =
     and_from (nat_le (length d.fields) 256 && true) b (and_from (nat_le (length d.fields) 256) true few.0 refl) both.1
 
 -- a description whose own rules still hold
-desc_still : (k : ℕ) (d : Desc) (part : Part) (rules rules' : List Bool) → (AllTrue rules → AllTrue rules') → desc_fault k d part rules ≡ None → desc_fault k (unruled_desc d) part rules' ≡ None
+desc_still : (k : ℕ) (d : Desc) (part : Part) (rules rules' : List Bool) → (AllTrue rules → AllTrue rules') → desc_fault k d part rules ≡ None
+    → desc_fault k (unruled_desc d) part rules' ≡ None
 desc_still k d part rules rules' h e =
     let a = or_else_none (failing 1 rules (here part)) (or_else (fields_fault k d part) (validations_fault d part)) e in
-    both_none (failing 1 rules' (here part)) (or_else (fields_fault k (unruled_desc d) part) None) (none_failing 1 rules' part (h (all_true 1 rules (here part) a.0)))
+    both_none (failing 1 rules' (here part)) (or_else (fields_fault k (unruled_desc d) part) None)
+    (none_failing 1 rules' part (h (all_true 1 rules (here part) a.0)))
     (both_none (fields_fault k (unruled_desc d) part) None (or_else_none (fields_fault k d part) (validations_fault d part) a.1).0 refl)
 
 -- ---- structures
 
 depths_same : (ds : List Desc) → struct_depths (map unruled_desc ds) ≡ struct_depths ds
-depths_same ds =
-    let f : List ℕ → Desc → ℕ = λ depths d. 1 + deepest depths d.fields in
-    ap (first f (map unruled_desc ds)) (length-map ds unruled_desc) ∙ first_unruled f (λ depths d. refl) ds (length ds)
+depths_same ds = rw (length-map ds unruled_desc) (first_unruled (λ depths d. 1 + deepest depths d.fields) (λ depths d. refl) ds (length ds))
 
 items_same : (ds : List Desc) → struct_items (map unruled_desc ds) ≡ struct_items ds
-items_same ds =
-    let f : List ℕ → Desc → ℕ = λ sizes d. items_in sizes d.fields in
-    ap (first f (map unruled_desc ds)) (length-map ds unruled_desc) ∙ first_unruled f (λ sizes d. refl) ds (length ds)
+items_same ds = rw (length-map ds unruled_desc) (first_unruled (λ sizes d. items_in sizes d.fields) (λ sizes d. refl) ds (length ds))
 
 -- the names of the first of them
-first_names : {X : Type 0} (f : X → X) (name_of : X → List ℕ) → ((x : X) → name_of (f x) ≡ name_of x) → (i : ℕ) (xs : List X) → map name_of (take i (map f xs)) ≡ map name_of (take i xs)
+first_names : {X : Type 0} (f : X → X) (name_of : X → List ℕ) → ((x : X) → name_of (f x) ≡ name_of x) → (i : ℕ) (xs : List X)
+    → map name_of (take i (map f xs)) ≡ map name_of (take i xs)
 first_names {X = X} f name_of same i xs = ap (map name_of) (take-map f i xs) ∙ map_both f name_of (take i xs) ∙ each (take i xs)
   where
     each : (ys : List X) → map (λ (x : X). name_of (f x)) ys ≡ map name_of ys
@@ -49,24 +47,19 @@ first_names {X = X} f name_of same i xs = ap (map name_of) (take-map f i xs) ∙
     each (y ∷ ys) = rw (same y, each ys)
 
 struct_still : (ds : List Desc) (i : ℕ) (d : Desc) → struct_fault ds i d ≡ None → struct_fault (map unruled_desc ds) i (unruled_desc d) ≡ None
-struct_still ds i d e = desc_still i d (parts.Struct i) (struct_rules ds i d) (struct_rules (map unruled_desc ds) i (unruled_desc d)) rules e
-  where
-    rules : AllTrue (struct_rules ds i d) → AllTrue (struct_rules (map unruled_desc ds) i (unruled_desc d))
-    rules r =
-        let names = first_names unruled_desc (λ (d : Desc). d.name) (λ d. refl) i ds in
-        let few = few_still d (nat_le (get_or (struct_depths (map unruled_desc ds)) i 0) 4) (rw (depths_same ds) (r.1.1.1.1.1.1.0)) in
-        (r.0, (rw names (r.1.0), (r.1.1.0, (refl, (refl, (refl, (few, (r.1.1.1.1.1.1.1.0, tt))))))))
+struct_still ds i d e =
+    desc_still i d (parts.Struct i) (struct_rules ds i d) (struct_rules (map unruled_desc ds) i (unruled_desc d)) (λ r.
+    let names = first_names unruled_desc (λ (d : Desc). d.name) (λ d. refl) i ds in
+    let few = few_still d (nat_le (get_or (struct_depths (map unruled_desc ds)) i 0) 4) (rw (depths_same ds) (r.1.1.1.1.1.1.0)) in
+    (r.0, (rw names (r.1.0), (r.1.1.0, (refl, (refl, (refl, (few, (r.1.1.1.1.1.1.1.0, tt))))))))) e
 
 -- ---- devices
 
 sub_still : (k i : ℕ) (d : Device) (j : ℕ) (s : Sub) → sub_fault k i d j s ≡ None → sub_fault k i (unruled_device d) j (unruled_sub s) ≡ None
-sub_still k i d j s e = desc_still k s.desc (parts.Sub i j) (sub_rules d j s) (sub_rules (unruled_device d) j (unruled_sub s)) rules e
-  where
-    rules : AllTrue (sub_rules d j s) → AllTrue (sub_rules (unruled_device d) j (unruled_sub s))
-    rules r =
-        let names = first_names unruled_sub (λ (s : Sub). s.desc.name) (λ s. refl) j d.subs in
-        let few = few_still s.desc (is_small_test s.needed) r.1.1.1.1.1.1.0 in
-        (r.0, (rw names (r.1.0), (r.1.1.0, (r.1.1.1.0, (refl, (refl, (few, (refl, tt))))))))
+sub_still k i d j s e =
+    desc_still k s.desc (parts.Sub i j) (sub_rules d j s) (sub_rules (unruled_device d) j (unruled_sub s)) (λ r.
+    let names = first_names unruled_sub (λ (s : Sub). s.desc.name) (λ s. refl) j d.subs in
+    (r.0, (rw names (r.1.0), (r.1.1.0, (r.1.1.1.0, (refl, (refl, (few_still s.desc (is_small_test s.needed) r.1.1.1.1.1.1.0, (refl, tt))))))))) e
 
 module _ (set : Set) where
   count_same : length (map unruled_desc set.structs) ≡ length set.structs
@@ -76,15 +69,12 @@ module _ (set : Set) where
   device_still i d e =
       let k = length set.structs in
       let a = or_else_none (desc_fault k d.desc (parts.Device i) (device_rules set i d)) (first_answer (sub_fault k i d) 0 d.subs) e in
-      rw count_same (both_none (desc_fault k (unruled_desc d.desc) (parts.Device i) (device_rules (unruled set) i (unruled_device d))) (first_answer (sub_fault k i (unruled_device d)) 0 (map unruled_sub d.subs))
-      (desc_still k d.desc (parts.Device i) (device_rules set i d) (device_rules (unruled set) i (unruled_device d)) rules a.0)
+      rw count_same (both_none _ _
+      (desc_still k d.desc (parts.Device i) (device_rules set i d) (device_rules (unruled set) i (unruled_device d)) (λ r.
+      let same = ap not (any_map unruled_device (is_same_device d.desc.name d.instance) (take i set.devices)) in
+      let few = few_still d.desc (nat_le (length (map unruled_sub d.subs)) 32) (rw (length-map d.subs unruled_sub) (r.1.1.1.1.1.1.0)) in
+      (r.0, (rw (take-map unruled_device i set.devices) (same ∙ r.1.0), (r.1.1.0, (refl, (refl, (refl, (few, (refl, tt))))))))) a.0)
       (none_after unruled_sub (sub_fault k i d) (sub_fault k i (unruled_device d)) (sub_still k i d) 0 d.subs a.1))
-    where
-      rules : AllTrue (device_rules set i d) → AllTrue (device_rules (unruled set) i (unruled_device d))
-      rules r =
-          let same = is_same_device d.desc.name d.instance in
-          let few = few_still d.desc (nat_le (length (map unruled_sub d.subs)) 32) (rw (length-map d.subs unruled_sub) (r.1.1.1.1.1.1.0)) in
-          (r.0, (rw (take-map unruled_device i set.devices) (ap not (any_map unruled_device same (take i set.devices)) ∙ r.1.0), (r.1.1.0, (refl, (refl, (refl, (few, (refl, tt))))))))
 
   subs_counted : (sizes : List ℕ) (subs : List Sub) → subs_items sizes (map unruled_sub subs) ≡ subs_items sizes subs
   subs_counted sizes [] = refl
@@ -94,41 +84,23 @@ module _ (set : Set) where
   devices_counted sizes [] = refl
   devices_counted sizes (d ∷ devices) = rw (subs_counted sizes d.subs, devices_counted sizes devices)
 
-  abbrev rules_by : ℕ → ℕ → List Bool
-  rules_by structs devices =
-      list_all (is_name 64) set.machines
-      ∷ are_distinct set.machines
-      ∷ true ∷ true ∷ true ∷ true
-      ∷ (nat_le (length set.machines) 16 && nat_le structs 64 && nat_le devices 64)
-      ∷ true
-      ∷ []
-
   set_rules_same : set_rules (unruled set) ≡ set_rules set
-  set_rules_same = rw count_same (ap (rules_by (length set.structs)) (length-map set.devices unruled_device))
+  set_rules_same = rw (count_same, length-map set.devices unruled_device) refl
 
   size_rules_same : size_rules (unruled set) ≡ size_rules set
-  size_rules_same =
-      let of : ℕ → List Bool = λ n. true ∷ true ∷ true ∷ true ∷ true ∷ true ∷ nat_le n MOST_ITEMS ∷ true ∷ [] in
-      ap of (rw (items_same set.structs) (devices_counted (struct_items set.structs) set.devices))
+  size_rules_same = rw (items_same set.structs, devices_counted (struct_items set.structs) set.devices) refl
 
   pub still_well : WellFormed set → WellFormed (unruled set)
   unfolding first_fault
   still_well well =
-      let bare = unruled set in
-      let at = here parts.Set in
-      let last = failing 1 (size_rules set) at in
+      let last = failing 1 (size_rules set) (here parts.Set) in
       let devices = or_else (first_answer (device_fault set) 0 set.devices) last in
-      let a = or_else_none (failing 1 (set_rules set) at) (or_else (first_answer (struct_fault set.structs) 0 set.structs) devices) well in
+      let a = or_else_none (failing 1 (set_rules set) (here parts.Set)) (or_else (first_answer (struct_fault set.structs) 0 set.structs) devices) well in
       let b = or_else_none (first_answer (struct_fault set.structs) 0 set.structs) devices a.1 in
       let c = or_else_none (first_answer (device_fault set) 0 set.devices) last b.1 in
-      let last' = failing 1 (size_rules bare) at in
-      let devices' = or_else (first_answer (device_fault bare) 0 bare.devices) last' in
-      both_none (failing 1 (set_rules bare) at) (or_else (first_answer (struct_fault bare.structs) 0 bare.structs) devices') (rw set_rules_same (a.0))
-      (both_none (first_answer (struct_fault bare.structs) 0 bare.structs) devices'
-      (none_after unruled_desc (struct_fault set.structs) (struct_fault bare.structs) (struct_still set.structs) 0 set.structs b.0)
-      (both_none (first_answer (device_fault bare) 0 bare.devices) last'
-      (none_after unruled_device (device_fault set) (device_fault bare) device_still 0 set.devices c.0)
-      (rw size_rules_same (c.1))))
+      both_none _ _ (rw set_rules_same (a.0))
+      (both_none _ _ (none_after unruled_desc (struct_fault set.structs) _ (struct_still set.structs) 0 set.structs b.0)
+      (both_none _ _ (none_after unruled_device (device_fault set) _ device_still 0 set.devices c.0) (rw size_rules_same (c.1))))
 
   pub still_fits : FitsHeads set → FitsHeads (unruled set)
   still_fits heads = record {

@@ -85,6 +85,6 @@ pub use Rattle.vms_elements.specs.Reading.{AllUnsaid, AreAtVersions, AreFine, Ar
 pub use Rattle.vms_elements.specs.Reading.{IsText, Reads, Refused, Says, has_line, is_of_cell, is_short}
 pub use Rattle.vms_values_laws.specs.Laws.{AcceptedLaw, LineLaw, OnlyLaw, PrintedLaw, ReadLaw, device_lines, most_lines}
 pub use Rattle.vms_values_laws.specs.Rounds.{FitsText, PackedLaw, ShownLaw, WrittenLaw}
-pub use Rattle.vms_values_laws.specs.Said.{Agrees, AreBelow, AreFineLines, AreFrom, Meets, Ran, Said, put_all, said_line}
+pub use Rattle.vms_values_laws.specs.Said.{Agrees, AreBelow, AreFrom, Meets, Said, put_all, said_line}
 pub use Rattle.vms_values_laws.specs.Taken.{Along, AreFineTaken, Begins, Demand, Follows, ForMachine, ForNumber, ForSection, ForSub, Moved, Taken, demand_of}
 pub use Rattle.vms_values_laws.specs.Taken.{lines_of, reason_for}

@@ -2,13 +2,13 @@
 use Rattle.vms_values_laws.proofs.Facade.{◌≡◌, ℕ, ◌≤◌, List, [], ◌∷◌, ◌++◌, get_or, map, slice_set, ℤ, pos, refl, sym, ap, ◌∙◌, arith, append_assoc, true}
 use Rattle.vms_values_laws.proofs.Facade.{false, if◌then◌else◌, Some, None, same_Some, slice_get, suc, get_or-set_other, Bool, ◌==◌, ◌||◌, length, map-append}
 use Rattle.vms_values_laws.proofs.Facade.{length-append, eq-eqb, or_parts, or_assoc, AllByRecursion, ValuesReason, if_not, Standing, Element, text_of}
-use Rattle.vms_values_laws.proofs.Facade.{text_append, Said, said_line, AreFineLines, Agrees, Meets, AreBelow, AreFrom, put_all, Ran, Entry, OfNumber}
-use Rattle.vms_values_laws.proofs.Facade.{is_of_cell, has_line, IsShort, ◌<◌, drop, Option, negsuc, Ok, Err, codes, ◌+◌, get_or-set_same, length-set}
-use Rattle.vms_values_laws.proofs.Facade.{signed_decimal, Read, BadLine, CellLine, put_number, put_line, ◌>>=◌, Number, number_reason, spelled_reason}
-use Rattle.vms_values_laws.proofs.Facade.{line_reason, wanted_reason, Kind, U8, I8, I16, I32, I64, same_number, exceeds, in_range, Cell, first_line}
-use Rattle.vms_values_laws.proofs.Facade.{begins_with, number_spelled, spelled_holds, line_splits, begun, nat_le, and_parts, leb-true, U16, U32}
-use Rattle.vms_kinds.specs.declared.Kind.TheVariants.{Bool as Truth}
+use Rattle.vms_values_laws.proofs.Facade.{text_append, Said, said_line, Agrees, Meets, AreBelow, AreFrom, put_all, Entry, OfNumber, is_of_cell, has_line}
+use Rattle.vms_values_laws.proofs.Facade.{IsShort, ◌<◌, drop, Option, negsuc, Ok, Err, codes, ◌+◌, get_or-set_same, length-set, signed_decimal, Read, BadLine}
+use Rattle.vms_values_laws.proofs.Facade.{CellLine, put_number, put_line, ◌>>=◌, Number, number_reason, spelled_reason, line_reason, wanted_reason, Kind, U8}
+use Rattle.vms_values_laws.proofs.Facade.{I8, I16, I32, I64, same_number, exceeds, in_range, Cell, first_line, begins_with, number_spelled, spelled_holds}
+use Rattle.vms_values_laws.proofs.Facade.{line_splits, begun, nat_le, and_parts, leb-true, U16, U32, ForNumber, Moved, Taken, lines_of, reason_for}
 use Rattle.vms_spec.specs.declared.ValuesReason.TheVariants as reasons
+use Rattle.vms_kinds.specs.declared.Kind.TheVariants.{Bool as Truth}
 
 -- either choice has it
 pub if_holds : {A : Type 0} (P : A → Type 0) (b : Bool) (x y : A) → P x → P y → P (if b then x else y)
@@ -55,10 +55,6 @@ pub agrees_parts : (said more : List Said) (n : List ℤ) → Agrees (said ++ mo
 agrees_parts [] more n a = (tt, a)
 agrees_parts (s ∷ said) more n a = let p = agrees_parts said more n a.1 in ((a.0, p.0), p.1)
 
-pub agrees_both : (said more : List Said) (n : List ℤ) → Agrees said n → Agrees more n → Agrees (said ++ more) n
-agrees_both [] more n a b = b
-agrees_both (s ∷ said) more n a b = (a.0, agrees_both said more n a.1 b)
-
 -- a further number
 pub agrees_put : (said : List Said) (cell : ℕ) (n : List ℤ) (z : ℤ) → AreBelow cell said → Agrees said n → Agrees said (slice_set n cell z)
 agrees_put [] cell n z b a = tt
@@ -67,14 +63,6 @@ agrees_put (s ∷ said) cell n z b a = (get_or-set_other n cell s.element.cell z
 pub below_less : (cell further : ℕ) (said : List Said) → cell ≤ further → AreBelow cell said → AreBelow further said
 below_less cell further [] le b = tt
 below_less cell further (s ∷ said) le b = (omega arith, below_less cell further said le b.1)
-
-pub below_both : (cell : ℕ) (said more : List Said) → AreBelow cell said → AreBelow cell more → AreBelow cell (said ++ more)
-below_both cell [] more a b = b
-below_both cell (s ∷ said) more a b = (a.0, below_both cell said more a.1 b)
-
-pub from_both : (cell : ℕ) (said more : List Said) → AreFrom cell said → AreFrom cell more → AreFrom cell (said ++ more)
-from_both cell [] more a b = b
-from_both cell (s ∷ said) more a b = (a.0, from_both cell said more a.1 b)
 
 pub from_less : (cell further : ℕ) (said : List Said) → cell ≤ further → AreFrom further said → AreFrom cell said
 from_less cell further [] le b = tt
@@ -86,26 +74,32 @@ agrees_kept said [] cell n b f a = a
 agrees_kept said (s ∷ more) cell n b f a =
     agrees_kept said more cell _ b f.1 (agrees_put said s.element.cell n s.number (below_less cell s.element.cell said f.0 b) a)
 
-pub fine_more : (said more : List Said) → AreFineLines said → AreFineLines more → AreFineLines (said ++ more)
-fine_more [] more f g = g
-fine_more (s ∷ said) more f g = (f.0, fine_more said more f.1 g)
-
 pub put_more : (n : List ℤ) (said more : List Said) → put_all n (said ++ more) ≡ put_all (put_all n said) more
 put_more n [] more = refl
 put_more n (s ∷ said) more = put_more (slice_set n s.element.cell s.number) said more
 
-pub ran_none : (p : Standing) → Ran p [] p
-ran_none p = record { line = omega arith; rest = refl; numbers = refl; fine = tt }
+-- what was taken for what was said
+abbrev pub taken_of : Said → Taken
+taken_of s = record { demand = ForNumber s.element; line = said_line s }
 
-pub ran_more : (p q r : Standing) (said more : List Said) → Ran p said q → Ran q more r → Ran p (said ++ more) r
-ran_more p q r said more f g =
-    record {
-      line = omega (arith, length-append said more);
-      rest = f.rest ∙ rw (g.rest, map-append said_line said more, text_append (map said_line said) (map said_line more))
-          (sym (append_assoc (text_of (map said_line said)) _ r.rest));
-      numbers = rw (g.numbers, f.numbers) (sym (put_more p.numbers said more));
-      fine = fine_more said more f.fine g.fine;
-    }
+abbrev pub all_taken : List Said → List Taken
+all_taken said = map (λ (s : Said). taken_of s) said
+
+pub moved_none : (line : ℕ) (text : List ℕ) → Moved line text [] line text
+moved_none line text = record { further = omega arith; texts = refl; fine = tt }
+
+pub moved_one : (line : ℕ) (text : List ℕ) (t : Taken) (rest : List ℕ) → text ≡ t.line ++ 10 ∷ rest → reason_for t.demand (Some (t.line, [])) ≡ None
+    → Moved line text (t ∷ []) (suc line) rest
+moved_one line text t rest e f = record { further = omega arith; texts = e ∙ sym (append_assoc t.line (10 ∷ []) rest); fine = (f, tt) }
+
+pub moved_then : {line line' line'' : ℕ} {text text' text'' : List ℕ} {taken more : List Taken} → Moved line text taken line' text'
+    → Moved line' text' more line'' text'' → Moved line text (taken ++ more) line'' text''
+moved_then {text'' = text''} {taken = taken} {more = more} f g = record {
+  further = omega (arith, length-append taken more);
+  texts = f.texts ∙ rw (g.texts, map-append (λ (t : Taken). t.line) taken more, text_append (lines_of taken) (lines_of more))
+      (sym (append_assoc (text_of (lines_of taken)) _ text''));
+  fine = all_both _ taken more f.fine g.fine;
+}
 
 -- numbers of at most 64 bits were said
 abbrev pub AreShortSaid : List Said → Type 0
@@ -125,8 +119,8 @@ told_none low n = record { agrees = tt; from = tt; numbers = refl; long = refl; 
 pub told_both : {low high : ℕ} {n m k : List ℤ} {said more : List Said} → Told low n said m → Told high m more k → low ≤ high → AreBelow high said
     → Told low n (said ++ more) k
 told_both {low = low} {high = high} {n = n} {m = m} {k = k} {said = said} {more = more} f g le below = record {
-  agrees = agrees_both said more k (rw (g.numbers) (agrees_kept said more high m below g.from f.agrees)) g.agrees;
-  from = from_both low said more f.from (from_less low high more le g.from);
+  agrees = all_both _ said more (rw (g.numbers) (agrees_kept said more high m below g.from f.agrees)) g.agrees;
+  from = all_both _ said more f.from (from_less low high more le g.from);
   numbers = rw (g.numbers, f.numbers) (sym (put_more n said more));
   long = g.long ∙ f.long;
   short = all_both _ said more f.short g.short;
@@ -289,9 +283,6 @@ told_one x p q put inside =
       short = (put.short, tt);
     })
 
-ran_one : (p q : Standing) (x : Element) (put : Put x p q) → Ran p (record { element = x; number = put.number } ∷ []) q
-ran_one p q x put = record { line = omega arith; rest = put.rest ∙ sym (append_assoc _ (10 ∷ []) q.rest); numbers = put.numbers; fine = (put.fine, tt) }
-
 -- total: the elements of a state by its numbers; start: where reading began; low: the first of their cells
 module _ (total : List ℤ → List Element) (start : Standing) (low : ℕ) where
   -- Once this was said, this is left of each state that agrees with it. What is said from here on is of cells from this one on.
@@ -301,7 +292,7 @@ module _ (total : List ℤ → List Element) (start : Standing) (low : ℕ) wher
     pub up : low ≤ cell
     pub told : Told low start.numbers said p.numbers
     pub open told use *
-    pub ran : Ran start said p
+    pub moved : Moved start.line start.rest (all_taken said) p.line p.rest
 
   -- a line was refused where an element must be
   pub record Stopped (e : BadLine) : Type 0 where
@@ -331,13 +322,13 @@ module _ (total : List ℤ → List Element) (start : Standing) (low : ℕ) wher
   pub at_left : {cell : ℕ} {p : Standing} {said : List Said} {left left' : List ℤ → List Element} → ((m : List ℤ) → Agrees said m → left m ≡ left' m)
       → At cell p said left → At cell p said left'
   at_left {said = said} e a =
-      record { meets = λ m. meets_left said _ _ m (total m) (a.meets m) (e m); below = a.below; up = a.up; told = a.told; ran = a.ran }
+      record { meets = λ m. meets_left said _ _ m (total m) (a.meets m) (e m); below = a.below; up = a.up; told = a.told; moved = a.moved }
 
   pub stay : {cell further : ℕ} {p : Standing} {said : List Said} {left : List ℤ → List Element} → cell ≤ further → At cell p said left
       → Comes further [] said left (Ok p)
   stay {cell = cell} {further = further} {p = p} {said = said} {left = left} le a =
       let below = below_less cell further said le a.below in
-      let stands : At further p said left = record { meets = a.meets; below = below; up = omega arith; told = a.told; ran = a.ran } in
+      let stands : At further p said left = record { meets = a.meets; below = below; up = omega arith; told = a.told; moved = a.moved } in
       record { comes = record { said = said; stands = stands; grows = λ m g. g; knows = tt } }
 
   earlier : {cell : ℕ} {known : List ℕ} {before said : List Said} {left : List ℤ → List Element} (r : Read) → ((m : List ℤ) → Agrees said m → Agrees before m)
@@ -359,10 +350,11 @@ module _ (total : List ℤ → List Element) (start : Standing) (low : ℕ) wher
         let s = said_of x p q put in
         record {
           meets = λ m. meets_more said s (left m) m (total m) (a.meets m);
-          below = below_both (x.cell + 1) said (s ∷ []) (below_less x.cell (x.cell + 1) said (omega arith) a.below) (omega arith, tt);
+          below = all_both _ said (s ∷ []) (below_less x.cell (x.cell + 1) said (omega arith) a.below) (omega arith, tt);
           up = omega arith;
           told = told_both a.told (told_one x p q put (omega arith)) a.up a.below;
-          ran = ran_more start p q said (s ∷ []) a.ran (ran_one p q x put);
+          moved = rw (map-append (λ (s : Said). taken_of s) said (s ∷ []), put.line)
+              (moved_then a.moved (moved_one p.line p.rest (taken_of s) q.rest put.rest put.fine));
         }
 
     by_read : (r : Read) → Stepped x p (first_line p.rest) r → Comes (x.cell + 1) (x.cell ∷ []) said left r

@@ -6,14 +6,14 @@ use Rattle.vms_values_laws.proofs.Facade.{is_needed, BadLine, ReadDevice, or_bad
 use Rattle.vms_values_laws.proofs.Facade.{judge_devices, Number, Rule, Element, What, is_number, cells_with, cells_of, slots_of, numbers_in, CountsUp}
 use Rattle.vms_values_laws.proofs.Facade.{elements_in, slot_of, printed, Entry, OfSub, OfNumber, subs_entries, device_entries, devices_entries, if_not}
 use Rattle.vms_values_laws.proofs.Facade.{rules_hold, has_default, have_defaults, sub_holds, has_come, came_well, part_reason, rule_holds, AreShaped, walks}
-use Rattle.vms_values_laws.proofs.Facade.{elements_slots, append_assoc, ◌<◌, same_Some, append_cancel_left, map-id, map-map, get_or, Ok, Err, append-nil, codes}
-use Rattle.vms_values_laws.proofs.Facade.{map-append, length-map, signed_decimal, ⊎_elim, cases_lt, get_or-eq_default, text_of, OfMachine, wanted_reason}
-use Rattle.vms_values_laws.proofs.Facade.{number_entries, text_append, demand_of, reason_for, Taken, lines_of, AreFineTaken, Follows, Along, Moved, ForNumber}
-use Rattle.vms_values_laws.proofs.Facade.{Begins, first_line, number_spelled, Standing, Read, readers, read_desc, IsSound, AreSound, IsShort, number_holds}
-use Rattle.vms_values_laws.proofs.Facade.{shapes, desc_elements, Said, said_line, AreFineLines, Agrees, Meets, AreBelow, Ran, has_line}
+use Rattle.vms_values_laws.proofs.Facade.{elements_slots, ◌<◌, same_Some, append_cancel_left, map-id, get_or, Ok, Err, append-nil, codes, length-map}
+use Rattle.vms_values_laws.proofs.Facade.{signed_decimal, ⊎_elim, cases_lt, get_or-eq_default, OfMachine, wanted_reason, number_entries, demand_of}
+use Rattle.vms_values_laws.proofs.Facade.{reason_for, Taken, Follows, Along, Moved, ForNumber, Begins, first_line, number_spelled, Standing, Read, readers}
+use Rattle.vms_values_laws.proofs.Facade.{read_desc, IsSound, AreSound, IsShort, number_holds, shapes, desc_elements, Said, Agrees, Meets, AreBelow, has_line}
 use Rattle.vms_spec.specs.declared.ValuesReason.TheVariants as reasons
 use Rattle.vms_spec.specs.ValuesReading as reading
-use Rattle.vms_values_laws.proofs.SaidLaws.{ComesTo, At, meets_all, ran_none, Told, told_none, has_said, said_both, lines_both, lines_said, AreShortSaid}
+pub use Rattle.vms_values_laws.proofs.SaidLaws.{all_taken, moved_none, moved_one, moved_then}
+use Rattle.vms_values_laws.proofs.SaidLaws.{ComesTo, At, meets_all, taken_of, Told, told_none, has_said, said_both, lines_both, lines_said, AreShortSaid}
 use Rattle.vms_values_laws.proofs.Walk.{wrapped, part_comes}
 
 abbrev pub as_bad : ℕ → Option ValuesReason → Option BadLine
@@ -188,33 +188,7 @@ along_then [] more P Q es f h = h es f
 along_then (t ∷ taken) more P Q [] f h = absurd f
 along_then (t ∷ taken) more P Q (e ∷ es) f h = (f.0, along_then taken more P Q es f.1 h)
 
-pub fine_then : (taken more : List Taken) → AreFineTaken taken → AreFineTaken more → AreFineTaken (taken ++ more)
-fine_then [] more f g = g
-fine_then (t ∷ taken) more f g = (f.0, fine_then taken more f.1 g)
-
-pub moved_none : (line : ℕ) (text : List ℕ) → Moved line text [] line text
-moved_none line text = record { further = omega arith; texts = refl; fine = tt }
-
-pub moved_one : (line : ℕ) (text : List ℕ) (t : Taken) (rest : List ℕ) → text ≡ t.line ++ 10 ∷ rest → reason_for t.demand (Some (t.line, [])) ≡ None
-    → Moved line text (t ∷ []) (suc line) rest
-moved_one line text t rest e f = record { further = omega arith; texts = e ∙ sym (append_assoc t.line (10 ∷ []) rest); fine = (f, tt) }
-
-pub moved_then : {line line' line'' : ℕ} {text text' text'' : List ℕ} {taken more : List Taken} → Moved line text taken line' text'
-    → Moved line' text' more line'' text'' → Moved line text (taken ++ more) line'' text''
-moved_then {text'' = text''} {taken = taken} {more = more} f g = record {
-  further = omega (arith, length-append taken more);
-  texts = f.texts ∙ rw (g.texts, map-append (λ (t : Taken). t.line) taken more, text_append (lines_of taken) (lines_of more))
-      (sym (append_assoc (text_of (lines_of taken)) _ text''));
-  fine = fine_then taken more f.fine g.fine;
-}
-
 -- ---- The numbers of one description, read as entries.
-
-abbrev pub taken_of : Said → Taken
-taken_of s = record { demand = ForNumber s.element; line = said_line s }
-
-abbrev pub all_taken : List Said → List Taken
-all_taken said = map (λ (s : Said). taken_of s) said
 
 -- numbers of at most 64 bits
 abbrev pub AreShort : List ℤ → Type 0
@@ -248,18 +222,6 @@ pub along_meets : (said : List Said) (left : List Element) (n : List ℤ) (xs : 
 along_meets [] left n xs more P a h p = rw h p
 along_meets (s ∷ said) left n [] more P a h p = absurd h
 along_meets (s ∷ said) left n (x ∷ xs) more P a h p = (rw (h.0, a.0) refl, along_meets said left n xs more P a.1 (h.1 a.0) p)
-
-fine_taken : (said : List Said) → AreFineLines said → AreFineTaken (all_taken said)
-fine_taken [] f = tt
-fine_taken (s ∷ said) f = (f.0, fine_taken said f.1)
-
-ran_moved : (p q : Standing) (said : List Said) → Ran p said q → Moved p.line p.rest (all_taken said) q.line q.rest
-ran_moved p q said r =
-    record {
-      further = omega (arith, length-map said (λ (s : Said). taken_of s));
-      texts = rw (map-map (λ (t : Taken). t.line) (λ (s : Said). taken_of s) said) r.rest;
-      fine = fine_taken said r.fine;
-    }
 
 -- ---- a description that was read, or not
 
@@ -323,7 +285,7 @@ module _ (set : Set) (d : Desc) (at : ℕ) (p : Standing) where
         told = a.told;
         follows = λ n more short. rw (← (entries_are n)) (follows_meets said (left n) n (total n) more (Then more) short a.short (a.meets n) (next n more));
         along = λ n more agrees. rw (← (entries_are n)) (along_meets said (left n) n (total n) more (Then more) agrees (a.meets n) (next n more));
-        moved = rw (← is) (ran_moved p q said a.ran);
+        moved = rw (← is) a.moved;
       }
 
   from_comes : (r : Read) → ComesTo total p at (at + length (desc_cells (struct_cells set) d)) [] [] (λ m. []) r → NumbersCome set d at p r
@@ -346,5 +308,5 @@ module _ (set : Set) (d : Desc) (at : ℕ) (p : Standing) where
       → NumbersCome set d at p (read_desc (readers set) d d.version [] true at p)
   numbers_come structs sound room =
       let started : At total p at at p [] (λ m. total m ++ []) =
-      record { meets = λ m. sym (append-nil (total m)); below = tt; up = omega arith; told = told_none at p.numbers; ran = ran_none p } in
+      record { meets = λ m. sym (append-nil (total m)); below = tt; up = omega arith; told = told_none at p.numbers; moved = moved_none p.line p.rest } in
       from_comes (read_desc (readers set) d d.version [] true at p) (part_comes total p at set d at p [] (λ m. []) structs sound room started).comes

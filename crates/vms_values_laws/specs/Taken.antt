@@ -1,5 +1,6 @@
 -- Lines that were taken, one after the other, and what a state has in their places.
 use Rattle.std.specs.Prelude.{◌≡◌, ℕ, ◌+◌, List, [], ◌∷◌, ◌++◌, length, map, Option, Some, None}
+use Rattle.std.specs.List.{AllByRecursion}
 use Rattle.vms_spec.specs.declared.ValuesReason.{ValuesReason}
 use Rattle.vms_spec.specs.Sets.{Sub, Device}
 use Rattle.vms_elements.specs.Elements.{Element}
@@ -51,8 +52,7 @@ lines_of taken = map (λ t. t.line) taken
 
 -- Each line that was taken is as required.
 abbrev pub AreFineTaken : List Taken → Type 0
-AreFineTaken [] = Unit {0}
-AreFineTaken (t ∷ taken) = (reason_for t.demand (Some (t.line, [])) ≡ None) × AreFineTaken taken
+AreFineTaken = AllByRecursion (λ t. reason_for t.demand (Some (t.line, [])) ≡ None)
 
 -- As long as entries have the lines that were taken, they require the same as was required there, and one
 -- more does. If they have all of them, `rest` holds of the others.
