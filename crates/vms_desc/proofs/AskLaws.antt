@@ -54,9 +54,9 @@ module _ (set : Set) (well : is_well_formed set ≡ true) where
   -- the test of a field
   pub field_names : (part : Part) → HasPart set part → (k : ℕ) → k < length (desc_at set part).fields → (f : Field)
       → f ≡ get_or (desc_at set part).fields k no_field
-      → (t : Formula) → f.test ≡ Some t → (own : Scope) → fields_in own ≡ (desc_at set part).fields → names_well (is_number_in (fields_in own)) nobody t ≡ true
-  field_names part h k lt f fs t is own e =
-      rw e (test_names (desc_at set part) k _ t (ap (λ (x : Field). x.test) (sym fs) ∙ is) (field_clean set well part h k lt).test)
+      → (t : Formula) → f.test ≡ Some t → names_well (is_number_in (desc_at set part).fields) nobody t ≡ true
+  field_names part h k lt f fs t is =
+      test_names (desc_at set part) k _ t (ap (λ (x : Field). x.test) (sym fs) ∙ is) (field_clean set well part h k lt).test
 
   -- the field that counts the elements of a field
   pub field_counts : (part : Part) → HasPart set part → (k : ℕ) → k < length (desc_at set part).fields → (f : Field)

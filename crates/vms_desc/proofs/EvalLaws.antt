@@ -1,6 +1,6 @@
 -- Numbers by sizes, and the numbers of cells: those of the definition.
 use Rattle.vms_desc.proofs.Facade.{◌≡◌, ℕ, zero, suc, ◌+◌, ◌*◌, ◌<◌, ◌≤◌, List, [], ◌∷◌, length, length-append, get_or, take, map, min, refl, sym, ap, ◌∙◌}
-use Rattle.vms_desc.proofs.Facade.{arith, Bool, true, ◌&&◌, Option, Some, None, ℤ, flat_map, slice_get, and_parts, map-append, take_min, map-map, get_or-map}
+use Rattle.vms_desc.proofs.Facade.{arith, Bool, true, ◌&&◌, Option, Some, None, ℤ, pos, flat_map, slice_get, and_parts, map-append, take_min, map-map, get_or-map}
 use Rattle.vms_desc.proofs.Facade.{Item, Num, Struct, Count, One, Part, MOST_ITEMS, Own, Parent, first, no_desc, no_field, times, counted, capacity_of}
 use Rattle.vms_desc.proofs.Facade.{item_cells, item_size, field_cells, cells_from, desc_cells, struct_cells, device_cells, numbers_of, place_of, is_num, is_one}
 use Rattle.vms_desc.proofs.Facade.{names_well, Formula, AtLeast, Below, Cell, Not, And, Or, Field, Desc, Sub, Device, Set, truth, field_size, Cells, device_at}
@@ -9,6 +9,10 @@ use Rattle.vms_desc.proofs.Facade.{device_forms, forms_to, sizes_of, place_in, n
 use Rattle.vms_desc.proofs.Facade.{is_number_of_parent, is_placed, parent_of, HasParentCells, may_ask, may_ask_parent, IsInside, IsInsideParent, IsScope}
 use Rattle.vms_desc.proofs.Facade.{IsParent, AreStarts}
 use Rattle.vms_spec.specs.declared.Part.TheVariants as parts
+use Rattle.std.proofs.Common.{negsuc, ◌%◌, ◌^◌}
+use Rattle.vms_kinds.specs.Codes.{residue, width}
+use Rattle.vms_kinds.specs.declared.Kind.{Kind}
+use Rattle.vms_kinds.specs.declared.Kind.TheVariants as kinds
 use Rattle.vms_spec.specs.Layout.{Cell as OneCell}
 use Rattle.vms_parts.specs.declared.types.Field.{Field as CodeField}
 
@@ -223,3 +227,24 @@ pub truth_is : (set : Set) (part : Part) (base : ℕ) (own : Scope) (parent : Op
 truth_is set part base own parent numbers t v s p few room h =
     truth_same v (number_of numbers own) (numbers_of (struct_cells set) (desc_at set part) numbers base) (number_of_parent numbers parent)
     (parent_of set part numbers) (own_number set (desc_at set part) base own numbers s few room) (parent_number set part parent numbers p few h) t
+
+-- ---- the low bytes of a number
+
+-- the low bytes of the low eight are the number modulo 2 ^ (8 w)
+pub residue_cut : (kind : Kind) (z : ℤ) → residue 8 z % 2 ^ (8 * width kind) ≡ residue (width kind) z
+residue_cut kinds.U8 (pos n) = omega arith
+residue_cut kinds.U8 (negsuc n) = omega arith
+residue_cut kinds.I8 (pos n) = omega arith
+residue_cut kinds.I8 (negsuc n) = omega arith
+residue_cut kinds.Bool (pos n) = omega arith
+residue_cut kinds.Bool (negsuc n) = omega arith
+residue_cut kinds.U16 (pos n) = omega arith
+residue_cut kinds.U16 (negsuc n) = omega arith
+residue_cut kinds.I16 (pos n) = omega arith
+residue_cut kinds.I16 (negsuc n) = omega arith
+residue_cut kinds.U32 (pos n) = omega arith
+residue_cut kinds.U32 (negsuc n) = omega arith
+residue_cut kinds.I32 (pos n) = omega arith
+residue_cut kinds.I32 (negsuc n) = omega arith
+residue_cut _ (pos n) = omega arith
+residue_cut _ (negsuc n) = omega arith

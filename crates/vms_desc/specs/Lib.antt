@@ -1,4 +1,6 @@
 pub mod Asks
+pub mod Calls
+pub mod Defaults
 pub mod Described
 pub mod Formed
 pub mod Forms

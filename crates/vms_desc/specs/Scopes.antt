@@ -1,12 +1,16 @@
 -- The fields that a test may name in a description, and that their cells are there.
-use Rattle.std.specs.Prelude.{◌≡◌, ℕ, ◌<◌, Bool, true, List, length, Option, Some, None, ℤ}
+use Rattle.std.specs.Prelude.{◌≡◌, ℕ, ◌<◌, ◌≤◌, Bool, true, false, List, length, Option, Some, None, IfSome, IsNone, ℤ}
+use Rattle.std.specs.List.{list_all}
 use Rattle.vms_spec.specs.declared.Part.{Part}
 use Rattle.vms_spec.specs.declared.Part.TheVariants as parts
-use Rattle.vms_spec.specs.Sets.{Desc, Set}
-use Rattle.vms_spec.specs.Rules.{nobody}
+use Rattle.vms_spec.specs.declared.TheConstants.{MOST_ITEMS}
+use Rattle.vms_spec.specs.Sets.{Desc, Formula, Set}
+use Rattle.vms_spec.specs.Rules.{names_well, nobody}
+use Rattle.vms_spec.specs.Tests.{truth}
 use Rattle.vms_parts.specs.Devices.{device_at}
-use Rattle.vms_desc.specs.Numbers.{sizes_of, fields_in, place_in}
+use Rattle.vms_desc.specs.Numbers.{sizes_of, fields_in, number_of, number_of_parent, place_in}
 use Rattle.vms_desc.specs.Parts.{is_number_in}
+use Rattle.vms_desc.specs.Plain.{is_plain}
 use Rattle.vms_desc.specs.Tables.{AreStarts}
 use Rattle.vms_desc.specs.declared.eval.Scope.{Scope}
 
@@ -42,3 +46,41 @@ IsParent set (parts.Sub i j) None = ⊥
 IsParent set (parts.Sub i j) (Some s) = IsScope set (device_at set i).desc 0 s
 IsParent set part None = Unit {0}
 IsParent set part (Some s) = ⊥
+
+-- ---- what is evaluated
+
+-- a test names only single numbers of a scope and of its parent's, whose cells are among a few
+-- numbers
+pub record CanHold (t : Formula) (s : Scope) (above : Option Scope) (numbers : List ℤ) : Type 0 where
+  pub names : names_well (may_ask s) (may_ask_parent above) t ≡ true
+  pub own : IsInside numbers s
+  pub parent : IsInsideParent numbers above
+  pub few : length numbers ≤ MOST_ITEMS
+
+-- whether such a test holds at version v
+abbrev pub truth_by : Formula → ℕ → Scope → Option Scope → List ℤ → Bool
+truth_by t v s above numbers = truth t v (number_of numbers s) (number_of_parent numbers above)
+
+-- what is known of such a test if only the version or one number is looked at: whether it holds, or
+-- that it is another test
+pub record IsPlainTruth (t : Formula) (v : ℕ) (s : Scope) (above : Option Scope) (numbers : List ℤ) (result : Option Bool) : Type 0 where
+  pub some : IfSome result (λ held. held ≡ truth_by t v s above numbers)
+  pub none : IsNone result → is_plain t ≡ false
+
+-- the tests name only single numbers of a scope, whose cells are among a few numbers
+pub record CanHoldAll (ts : List Formula) (s : Scope) (numbers : List ℤ) : Type 0 where
+  pub names : list_all (names_well (may_ask s) nobody) ts ≡ true
+  pub own : IsInside numbers s
+  pub few : length numbers ≤ MOST_ITEMS
+
+-- field k of a scope is a single number, whose cell is among a few numbers
+pub record HasNumber (s : Scope) (k : ℕ) (numbers : List ℤ) : Type 0 where
+  pub asked : may_ask s k ≡ true
+  pub inside : IsInside numbers s
+  pub few : length numbers ≤ MOST_ITEMS
+
+-- the same of the parent's
+pub record HasParentNumber (above : Option Scope) (k : ℕ) (numbers : List ℤ) : Type 0 where
+  pub asked : may_ask_parent above k ≡ true
+  pub inside : IsInsideParent numbers above
+  pub few : length numbers ≤ MOST_ITEMS

@@ -1,23 +1,21 @@
 // What a walk over a set needs to know about it.
 ghost use Rattle.vms_spec.specs.declared.TheConstants.{MOST_ITEMS};
-ghost use Rattle.std.specs.Prelude.{◌≡◌, ◌<◌, ◌≤◌, ◌+◌, ◌*◌, length};
-ghost use Rattle.vms_spec.specs.Layout.{capacity_of, elements_of, counted, all_hold, item_size, struct_cells, device_cells, no_parent};
-ghost use Rattle.vms_spec.specs.Places.{own_cell_count};
-ghost use Rattle.vms_spec.specs.Tests.{is_there};
+ghost use Rattle.std.specs.Prelude.{◌≡◌, ◌≤◌, ◌+◌, length};
+ghost use Rattle.vms_spec.specs.Layout.{counted};
 ghost use Rattle.vms_spec.specs.declared.Part.TheVariants as parts;
 ghost use Rattle.vms_parts.specs.Capacities.{least_of};
 ghost use Rattle.vms_parts.specs.Sizes.{in_u32};
-ghost use Rattle.vms_desc.specs.Asks.{first_cell, field_at, field_start, own_numbers, needed_at, HasCells};
-ghost use Rattle.vms_desc.specs.Parts.{HasPart, desc_at};
-ghost use Rattle.vms_desc.specs.Scopes.{IsScope};
+ghost use Rattle.vms_parts.specs.Views.{formula};
 
 use crate::eval::{Scope, all_hold, holds, number_at};
-use crate::{Cells, Count, DescSet, Part};
+use crate::{Cells, Count, DescSet, Part, Test};
 use vms_kinds::Item;
 use vms_parts::{Measure, capacity, item_size};
 
 impl DescSet {
-    ghost use Rattle.vms_desc.specs.Described.{described, device_at};
+    ghost use Rattle.vms_desc.specs.Calls.{CanAsk, CanAskField, CanTest, DescribesDevice, DescribesField, DescribesPart, DescribesSub, IsScopeOf};
+    ghost use Rattle.vms_desc.specs.Calls.{desc_in, device_in, elements_in, field_size_in, field_start_in, first_cell_in, is_needed_in};
+    ghost use Rattle.vms_desc.specs.Calls.{is_there_in, item_size_in, own_count_in, own_truth_in, rules_hold_in};
 
     /// Returns the first cell of `part` among the cells of its device: 0, or the first cell after
     /// those that precede a subsection's.
@@ -26,8 +24,8 @@ impl DescSet {
     ///
     /// The set has `part`.
     pub fn first_cell(&self, part: Part) -> u32
-        requires { HasPart (described self.now) part }
-        ensures { result ≡ first_cell (described self.now) part }
+        requires { DescribesPart self.now part }
+        ensures { result ≡ first_cell_in self.now part }
     {
         match part {
             Part::Sub(device, sub) => self.first_cell_of_sub(device, sub),
@@ -36,8 +34,8 @@ impl DescSet {
     }
 
     fn first_cell_of_sub(&self, device: u32, sub: u32) -> u32
-        requires { HasPart (described self.now) (parts.Sub device sub) }
-        ensures { result ≡ first_cell (described self.now) (parts.Sub device sub) }
+        requires { DescribesPart self.now (parts.Sub device sub) }
+        ensures { result ≡ first_cell_in self.now (parts.Sub device sub) }
     {
         let mut cell = self.cells_of(Part::Device(device));
         for earlier in 0..sub {
@@ -48,7 +46,7 @@ impl DescSet {
 
     /// Returns the number of cells of one element of `item`, at most 2^32 - 1.
     pub fn item_cells(&self, item: Item) -> u32
-        ensures { result ≡ in_u32 (item_size (struct_cells (described self.now)) item) }
+        ensures { result ≡ in_u32 (item_size_in self.now item) }
     {
         item_size(Measure::Cells, self.sizes(), item)
     }
@@ -59,8 +57,8 @@ impl DescSet {
     ///
     /// The set has `part`.
     pub fn field_count(&self, part: Part) -> u32
-        requires { HasPart (described self.now) part }
-        ensures { result ≡ length (desc_at (described self.now) part).fields }
+        requires { DescribesPart self.now part }
+        ensures { result ≡ length (desc_in self.now part).fields }
     {
         self.desc(part).fields.as_slice().len() as u32
     }
@@ -71,8 +69,8 @@ impl DescSet {
     ///
     /// The set has the device.
     pub fn sub_count(&self, device: u32) -> u32
-        requires { device < length (described self.now).devices }
-        ensures { result ≡ length (device_at (described self.now) device).subs }
+        requires { DescribesDevice self.now device }
+        ensures { result ≡ length (device_in self.now device).subs }
     {
         self.device(device).subs.as_slice().len() as u32
     }
@@ -84,11 +82,8 @@ impl DescSet {
     ///
     /// The set has `part`, and the part has the field.
     pub fn field_cells(&self, part: Part, field: u32) -> u32
-        requires part { HasPart (described self.now) part }
-        requires field { field < length (desc_at (described self.now) part).fields }
-        ensures { result ≡ in_u32 (capacity_of (field_at (described self.now) part field).count
-            * item_size (struct_cells (described self.now))
-            (field_at (described self.now) part field).item) }
+        requires { DescribesField self.now part field }
+        ensures { result ≡ in_u32 (field_size_in self.now part field) }
     {
         let field = &self.desc(part).fields.as_slice()[field as usize];
         capacity(field.count).saturating_mul(self.item_cells(field.item))
@@ -104,11 +99,9 @@ impl DescSet {
     /// [`MOST_ITEMS`](vms_spec::MOST_ITEMS) cells after the device's first.
     #[inline(always)]
     pub fn field_start(&self, part: Part, base: u32, field: u32) -> u32
-        requires part { HasPart (described self.now) part }
-        requires field { field < length (desc_at (described self.now) part).fields }
-        requires few { let set = described self.now in
-            base + own_cell_count set (desc_at set part) ≤ MOST_ITEMS }
-        ensures { result ≡ field_start (described self.now) part base field }
+        requires field { DescribesField self.now part field }
+        requires few { base + own_count_in self.now part ≤ MOST_ITEMS }
+        ensures { result ≡ field_start_in self.now part base field }
     {
         base + self.table(part).starts.as_slice()[field as usize]
     }
@@ -120,9 +113,8 @@ impl DescSet {
     ///
     /// The set has `part`, and the part has the field.
     pub fn most(&self, part: Part, field: u32) -> Option<u32>
-        requires part { HasPart (described self.now) part }
-        requires field { field < length (desc_at (described self.now) part).fields }
-        ensures { result ≡ least_of (counted field (desc_at (described self.now) part).fields) }
+        requires { DescribesField self.now part field }
+        ensures { result ≡ least_of (counted field (desc_in self.now part).fields) }
     {
         self.table(part).mosts.as_slice()[field as usize]
     }
@@ -130,8 +122,8 @@ impl DescSet {
     // Returns the scope of a part, or of one element of a structure, whose first cell is `base`.
     #[inline(always)]
     pub(crate) fn scope(&self, part: Part, base: u32) -> Scope<'_>
-        requires { HasPart (described self.now) part }
-        ensures { IsScope (described self.now) (desc_at (described self.now) part) base result }
+        requires { DescribesPart self.now part }
+        ensures { IsScopeOf self.now part base result }
     {
         Scope {
             fields: self.desc(part).fields.as_slice(),
@@ -157,19 +149,32 @@ impl DescSet {
         version: u32,
         cells: &C,
     ) -> bool
-        requires part { HasPart (described self.now) part }
-        requires field { field < length (desc_at (described self.now) part).fields }
-        requires few { length (C.numbers cells.now) ≤ MOST_ITEMS }
-        requires own { HasCells (described self.now) part (C.numbers cells.now) base }
-        ensures { result ≡ is_there (field_at (described self.now) part field).test
-            (field_at (described self.now) part field).since version
-            (own_numbers (described self.now) part (C.numbers cells.now) base) no_parent }
+        requires { CanAskField self.now part base field (C.numbers cells.now) }
+        ensures { result ≡ is_there_in self.now part base field version (C.numbers cells.now) }
     {
         let field = &self.desc(part).fields.as_slice()[field as usize];
         match &field.test {
             None => version >= field.since,
-            Some(test) => holds(test, version, &self.scope(part, base), None, cells),
+            Some(test) => self.holds_test(part, base, test, version, cells),
         }
+    }
+
+    // Returns whether a test of a field of `part` holds. The scope has room in this function, which is
+    // inlined, so that a field without a test needs none.
+    #[inline(always)]
+    fn holds_test<C: Cells>(
+        &self,
+        part: Part,
+        base: u32,
+        test: &Test,
+        version: u32,
+        cells: &C,
+    ) -> bool
+        requires { CanTest self.now part base (formula test.now) (C.numbers cells.now) }
+        ensures { let t = formula test.now in
+            result ≡ own_truth_in self.now part base t version (C.numbers cells.now) }
+    {
+        holds(test, version, &self.scope(part, base), None, cells)
     }
 
     /// Returns the number of elements of field `field` of `part` in the bytes, if the field is
@@ -183,12 +188,8 @@ impl DescSet {
     /// As [`is_there`](Self::is_there).
     #[inline(always)]
     pub fn elements<C: Cells>(&self, part: Part, base: u32, field: u32, cells: &C) -> u32
-        requires part { HasPart (described self.now) part }
-        requires field { field < length (desc_at (described self.now) part).fields }
-        requires few { length (C.numbers cells.now) ≤ MOST_ITEMS }
-        requires own { HasCells (described self.now) part (C.numbers cells.now) base }
-        ensures { result ≡ elements_of (field_at (described self.now) part field).count
-            (own_numbers (described self.now) part (C.numbers cells.now) base) }
+        requires { CanAskField self.now part base field (C.numbers cells.now) }
+        ensures { result ≡ elements_in self.now part base field (C.numbers cells.now) }
     {
         let field = &self.desc(part).fields.as_slice()[field as usize];
         match field.count {
@@ -210,13 +211,13 @@ impl DescSet {
     /// The set has `part`, and `cells` has the part's cells from `base` on and at most
     /// [`MOST_ITEMS`](vms_spec::MOST_ITEMS) numbers.
     pub fn holds_rules<C: Cells>(&self, part: Part, base: u32, version: u32, cells: &C) -> bool
-        requires part { HasPart (described self.now) part }
-        requires few { length (C.numbers cells.now) ≤ MOST_ITEMS }
-        requires own { HasCells (described self.now) part (C.numbers cells.now) base }
-        ensures { result ≡ all_hold (desc_at (described self.now) part).validate version
-            (own_numbers (described self.now) part (C.numbers cells.now) base) }
+        requires { CanAsk self.now part base (C.numbers cells.now) }
+        ensures { result ≡ rules_hold_in self.now part base version (C.numbers cells.now) }
     {
         let tests = self.desc(part).validate.as_slice();
+        if tests.is_empty() {
+            return true;
+        }
         all_hold(tests, version, &self.scope(part, base), cells)
     }
 
@@ -228,12 +229,9 @@ impl DescSet {
     /// The set has the subsection, and `cells` has all cells of the device and at most
     /// [`MOST_ITEMS`](vms_spec::MOST_ITEMS) numbers.
     pub fn is_needed<C: Cells>(&self, device: u32, sub: u32, cells: &C) -> bool
-        requires part { HasPart (described self.now) (parts.Sub device sub) }
+        requires sub { DescribesSub self.now device sub (C.numbers cells.now) }
         requires few { length (C.numbers cells.now) ≤ MOST_ITEMS }
-        requires cells { length
-            (device_cells (described self.now) (device_at (described self.now) device))
-            ≤ length (C.numbers cells.now) }
-        ensures { result ≡ needed_at (described self.now) device sub (C.numbers cells.now) }
+        ensures { result ≡ is_needed_in self.now device sub (C.numbers cells.now) }
     {
         let part = Part::Sub(device, sub);
         let described = &self.device(device).subs.as_slice()[sub as usize];

@@ -1,16 +1,13 @@
 // The truth of tests.
-ghost use Rattle.vms_spec.specs.declared.TheConstants.{MOST_ITEMS};
-ghost use Rattle.std.specs.List.{list_all};
 ghost use Rattle.std.specs.Option.{option_copied};
-ghost use Rattle.std.specs.Prelude.{◌≡◌, ◌+◌, ◌≤◌, ◌<◌, true, false, length, get_or, map, pos, IfSome, IsNone};
+ghost use Rattle.std.specs.Prelude.{◌≡◌, ◌-◌, ◌*◌, ◌^◌, ◌<◌, true, length, get_or, map, pos};
 ghost use Rattle.vms_kinds.specs.Codes.{width, residue};
 ghost use Rattle.vms_spec.specs.Layout.{kind_of, all_hold};
-ghost use Rattle.vms_spec.specs.Rules.{is_num, names_well, nobody};
-ghost use Rattle.vms_spec.specs.Tests.{truth, compares};
+ghost use Rattle.vms_spec.specs.Rules.{is_num};
+ghost use Rattle.vms_spec.specs.Tests.{compares};
 ghost use Rattle.vms_parts.specs.Views.{formula};
 ghost use Rattle.vms_desc.specs.Numbers.{number_of, number_of_parent};
-ghost use Rattle.vms_desc.specs.Plain.{is_plain};
-ghost use Rattle.vms_desc.specs.Scopes.{may_ask, may_ask_parent, IsInside, IsInsideParent};
+ghost use Rattle.vms_desc.specs.Scopes.{CanHold, CanHoldAll, HasNumber, HasParentNumber, IsPlainTruth, truth_by};
 
 use crate::{Field, Rel, Test, Whose};
 use vms_kinds::{Item, Kind};
@@ -56,40 +53,65 @@ pub(crate) struct Scope<'a> {
     pub(crate) base: u32,
 }
 
-// Returns whether a test holds at a version.
-pub(crate) fn holds<C: Cells>(
+// What a test is evaluated over: a version, the fields that it may name, and the numbers of the
+// cells.
+#[derive(Drop)]
+struct Asked<'a, C> {
+    version: u32,
+    own: Scope<'a>,
+    parent: Option<Scope<'a>>,
+    cells: &'a C,
+}
+
+// Returns whether a test holds at a version. It isn't inlined, so that a walk has no room for what
+// a test is evaluated over.
+#[inline(never)]
+pub(crate) fn holds<'a, C: Cells>(
     test: &Test,
     version: u32,
-    own: &Scope,
-    parent: Option<&Scope>,
-    cells: &C,
+    own: &Scope<'a>,
+    parent: Option<&Scope<'a>>,
+    cells: &'a C,
 ) -> bool
-    requires names { names_well (may_ask own.now) (may_ask_parent (option_copied parent))
-        (formula test.now) ≡ true }
-    requires own { IsInside (C.numbers cells.now) own.now }
-    requires parent { IsInsideParent (C.numbers cells.now) (option_copied parent) }
-    requires few { length (C.numbers cells.now) ≤ MOST_ITEMS }
-    ensures { result ≡ truth (formula test.now) version (number_of (C.numbers cells.now) own.now)
-        (number_of_parent (C.numbers cells.now) (option_copied parent.entry)) }
+    requires { CanHold (formula test.now) own.now (option_copied parent) (C.numbers cells.now) }
+    ensures { let above = option_copied parent.entry in
+        result ≡ truth_by (formula test.now) version own.now above (C.numbers cells.now) }
 {
-    if let Some(held) = plain_holds(test, version, own, parent, cells) {
+    let asked = Asked {
+        version,
+        own: *own,
+        parent: parent.copied(),
+        cells,
+    };
+    is_true(test, &asked)
+}
+
+// Returns whether a test is true.
+fn is_true<C: Cells>(test: &Test, asked: &Asked<'_, C>) -> bool
+    requires { let numbers = C.numbers asked.now.cells.now in
+        CanHold (formula test.now) asked.now.own asked.now.parent numbers }
+    ensures { let numbers = C.numbers asked.now.cells.now in
+        result ≡ truth_by (formula test.now)
+        asked.now.version asked.now.own asked.now.parent numbers }
+{
+    if let Some(held) = plain_holds(test, asked) {
         return held;
     }
     match test {
-        Test::Not(inner) => !holds(inner, version, own, parent, cells),
+        Test::Not(inner) => !is_true(inner, asked),
         Test::And(first, second) => {
-            let front = match plain_holds(first, version, own, parent, cells) {
+            let front = match plain_holds(first, asked) {
                 Some(held) => held,
-                None => holds(first, version, own, parent, cells),
+                None => is_true(first, asked),
             };
-            front && holds(second, version, own, parent, cells)
+            front && is_true(second, asked)
         }
         Test::Or(first, second) => {
-            let front = match plain_holds(first, version, own, parent, cells) {
+            let front = match plain_holds(first, asked) {
                 Some(held) => held,
-                None => holds(first, version, own, parent, cells),
+                None => is_true(first, asked),
             };
-            front || holds(second, version, own, parent, cells)
+            front || is_true(second, asked)
         }
         Test::AtLeast(_) | Test::Below(_) | Test::Cell { .. } => unreachable!(),
     }
@@ -98,26 +120,16 @@ pub(crate) fn holds<C: Cells>(
 // Returns whether a test of the version or of one number holds, and `None` for any other test. It
 // is inlined, so the leaves of a test need no call.
 #[inline(always)]
-fn plain_holds<C: Cells>(
-    test: &Test,
-    version: u32,
-    own: &Scope,
-    parent: Option<&Scope>,
-    cells: &C,
-) -> Option<bool>
-    requires names { names_well (may_ask own.now) (may_ask_parent (option_copied parent))
-        (formula test.now) ≡ true }
-    requires own { IsInside (C.numbers cells.now) own.now }
-    requires parent { IsInsideParent (C.numbers cells.now) (option_copied parent) }
-    requires few { length (C.numbers cells.now) ≤ MOST_ITEMS }
-    ensures some { IfSome result (λ held. held
-        ≡ truth (formula test.now) version (number_of (C.numbers cells.now) own.now)
-        (number_of_parent (C.numbers cells.now) (option_copied parent.entry))) }
-    ensures none { IsNone result → is_plain (formula test.now) ≡ false }
+fn plain_holds<C: Cells>(test: &Test, asked: &Asked<'_, C>) -> Option<bool>
+    requires { let numbers = C.numbers asked.now.cells.now in
+        CanHold (formula test.now) asked.now.own asked.now.parent numbers }
+    ensures { let numbers = C.numbers asked.now.cells.now in
+        IsPlainTruth (formula test.now)
+        asked.now.version asked.now.own asked.now.parent numbers result }
 {
     match test {
-        Test::AtLeast(least) => Some(version >= *least),
-        Test::Below(bound) => Some(version < *bound),
+        Test::AtLeast(least) => Some(asked.version >= *least),
+        Test::Below(bound) => Some(asked.version < *bound),
         Test::Cell {
             whose,
             field,
@@ -126,8 +138,8 @@ fn plain_holds<C: Cells>(
             value,
         } => {
             let number = match whose {
-                Whose::Own => number_at(own, *field, cells),
-                Whose::Parent => parent_number(parent, *field, cells),
+                Whose::Own => number_at(&asked.own, *field, asked.cells),
+                Whose::Parent => parent_number(&asked.parent, *field, asked.cells),
             };
             Some(compare(*rel, number & *mask, *value))
         }
@@ -136,16 +148,25 @@ fn plain_holds<C: Cells>(
 }
 
 // Returns whether all tests of a description hold at a version.
-pub(crate) fn all_hold<C: Cells>(tests: &[Test], version: u32, own: &Scope, cells: &C) -> bool
-    requires names { list_all (names_well (may_ask own.now) nobody) (map formula tests.now)
-        ≡ true }
-    requires own { IsInside (C.numbers cells.now) own.now }
-    requires few { length (C.numbers cells.now) ≤ MOST_ITEMS }
+#[inline(never)]
+pub(crate) fn all_hold<'a, C: Cells>(
+    tests: &[Test],
+    version: u32,
+    own: &Scope<'a>,
+    cells: &'a C,
+) -> bool
+    requires { CanHoldAll (map formula tests.now) own.now (C.numbers cells.now) }
     ensures { result ≡ all_hold (map formula tests.now) version
         (number_of (C.numbers cells.now) own.now) }
 {
+    let asked = Asked {
+        version,
+        own: *own,
+        parent: None,
+        cells,
+    };
     for test in tests {
-        if !holds(test, version, own, None, cells) {
+        if !is_true(test, &asked) {
             return false;
         }
     }
@@ -155,9 +176,7 @@ pub(crate) fn all_hold<C: Cells>(tests: &[Test], version: u32, own: &Scope, cell
 // Returns the number of a field, modulo 2^(8w).
 #[inline(always)]
 pub(crate) fn number_at<C: Cells>(scope: &Scope, field: u32, cells: &C) -> u64
-    requires asked { may_ask scope.now field ≡ true }
-    requires inside { IsInside (C.numbers cells.now) scope.now }
-    requires few { length (C.numbers cells.now) ≤ MOST_ITEMS }
+    requires { HasNumber scope.now field (C.numbers cells.now) }
     ensures { result ≡ number_of (C.numbers cells.now) scope.now field }
 {
     let field = field as usize;
@@ -165,12 +184,9 @@ pub(crate) fn number_at<C: Cells>(scope: &Scope, field: u32, cells: &C) -> u64
     unsigned(kind_of(scope.fields[field].item), cells.number(cell))
 }
 
-fn parent_number<C: Cells>(parent: Option<&Scope>, field: u32, cells: &C) -> u64
-    requires asked { may_ask_parent (option_copied parent) field ≡ true }
-    requires inside { IsInsideParent (C.numbers cells.now) (option_copied parent) }
-    requires few { length (C.numbers cells.now) ≤ MOST_ITEMS }
-    ensures { result
-        ≡ number_of_parent (C.numbers cells.now) (option_copied parent.entry) field }
+fn parent_number<C: Cells>(parent: &Option<Scope>, field: u32, cells: &C) -> u64
+    requires { HasParentNumber parent.now field (C.numbers cells.now) }
+    ensures { result ≡ number_of_parent (C.numbers cells.now) parent.now field }
 {
     match parent {
         None => 0,
@@ -189,15 +205,30 @@ fn kind_of(item: Item) -> Kind
     }
 }
 
-// Returns the number modulo 2^(8w). Each modulus has its own arm, so no division is needed.
+// Returns the number modulo 2^(8w). The mask is looked up by the kind, so no division and no jump is
+// needed.
 fn unsigned(kind: Kind, number: i128) -> u64
     ensures { result ≡ residue (width kind) number }
 {
+    low_bytes(number) & mask_of(kind)
+}
+
+// Returns the number modulo 2^64.
+fn low_bytes(number: i128) -> u64
+    ensures { result ≡ residue 8 number }
+{
+    number.rem_euclid(1 << 64) as u64
+}
+
+// Returns the greatest code of a number, as a number: 2^(8w) - 1.
+fn mask_of(kind: Kind) -> u64
+    ensures { result ≡ 2 ^ (8 * width kind) - 1 }
+{
     match kind {
-        Kind::U8 | Kind::I8 | Kind::Bool => number.rem_euclid(1 << 8) as u64,
-        Kind::U16 | Kind::I16 => number.rem_euclid(1 << 16) as u64,
-        Kind::U32 | Kind::I32 => number.rem_euclid(1 << 32) as u64,
-        Kind::U64 | Kind::I64 | Kind::Timer => number.rem_euclid(1 << 64) as u64,
+        Kind::U8 | Kind::I8 | Kind::Bool => u8::MAX as u64,
+        Kind::U16 | Kind::I16 => u16::MAX as u64,
+        Kind::U32 | Kind::I32 => u32::MAX as u64,
+        Kind::U64 | Kind::I64 | Kind::Timer => u64::MAX,
     }
 }
 

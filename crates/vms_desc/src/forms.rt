@@ -1,7 +1,8 @@
 // The cells of a device, laid out.
-ghost use Rattle.std.specs.Prelude.{◌≡◌, ◌<◌, ◌≤◌, ◌++◌, ◌∷◌, [], length, take, drop, map, OnOk, IfOk};
+ghost use Rattle.std.specs.Prelude.{◌≡◌, ◌++◌, ◌∷◌, [], length, take, drop, map, OnOk, IfOk};
+ghost use Rattle.vms_parts.specs.declared.types.CellForm.{CellForm};
 ghost use Rattle.vms_spec.specs.Layout.{times};
-ghost use Rattle.vms_desc.specs.Put.{AreForms, Puts};
+ghost use Rattle.vms_desc.specs.Put.{AreForms, CanRepeat, Puts};
 ghost use Rattle.vms_desc.specs.Forms.{item_forms, field_forms, fields_forms, subs_forms, device_forms, forms_to};
 ghost use Rattle.vms_parts.specs.Views.{desc_of, field_of, sub_of, device_of};
 
@@ -22,9 +23,8 @@ impl Forms {
     // Appends the form of one cell.
     #[inline(always)]
     fn put(&mut self, kind: Kind, default: i128) -> Result<(), AllocError>
-        ensures kinds { OnOk result (self.new.kinds.items ≡ self.old.kinds.items ++ kind ∷ []) }
-        ensures defaults { OnOk result
-            (self.new.defaults.items ≡ self.old.defaults.items ++ default ∷ []) }
+        ensures { let form : CellForm = record { kind = kind; default = default } in
+            OnOk result (Puts self.old self.new (form ∷ [])) }
     {
         self.kinds.push(kind)?;
         self.defaults.push(default)?;
@@ -70,8 +70,7 @@ fn put_field(structs: &[Desc], field: &Field, forms: &mut Forms) -> Result<(), A
 // Repeats the part of a list from `start` on, so that it is there `count` times.
 #[inline(always)]
 fn repeat<T: Copy>(list: &mut Vec<T>, start: usize, count: u32) -> Result<(), AllocError>
-    requires within { start ≤ length list.old.items }
-    requires some { 0 < count }
+    requires { CanRepeat start count list.old.items }
     ensures { let part = drop start list.old.items in
         OnOk result
         (list.new.items ≡ take start list.old.items ++ times count (λ _. part) 0 0) }

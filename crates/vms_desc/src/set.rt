@@ -1,19 +1,14 @@
 // A well-formed description set.
 ghost use Rattle.vms_kinds.specs.declared.TheConstants.{NEWEST_CLOCK_SET, NEWEST_SET};
-ghost use Rattle.vms_spec.specs.declared.TheConstants.{MOST_ITEMS};
-ghost use Rattle.std.specs.Prelude.{true, ◌≤◌, ◌<◌, ◌+◌, ◌==◌, ◌&&◌, ◌≡◌, length, IfOk, map};
+ghost use Rattle.std.specs.Prelude.{true, ◌≤◌, ◌==◌, ◌&&◌, ◌≡◌, length, IfOk, map};
 ghost use Rattle.std.specs.Str.{bytes_eq};
-ghost use Rattle.vms_spec.specs.Layout.{device_cells, struct_cells, numbers_of};
-ghost use Rattle.vms_spec.specs.Places.{own_cell_count};
-ghost use Rattle.vms_spec.specs.Tests.{truth};
 ghost use Rattle.vms_spec.specs.Lookup.{find_device};
 ghost use Rattle.vms_spec.specs.Heads.{FitsHeads};
 ghost use Rattle.vms_desc.specs.Formed.{clock_set, is_well_formed, shipped_set};
 ghost use Rattle.vms_desc.specs.Numbers.{sizes_of};
-ghost use Rattle.vms_desc.specs.Parts.{HasPart, HasParentCells, desc_at, parent_of, is_placed};
 ghost use Rattle.vms_desc.specs.Scopes.{IsParent};
-ghost use Rattle.vms_desc.specs.Spots.{form_numbers, defaults_at};
-ghost use Rattle.vms_desc.specs.Tables.{IsTable, AreTables, AreDeviceTables, device_fields};
+ghost use Rattle.vms_desc.specs.Spots.{form_numbers};
+ghost use Rattle.vms_desc.specs.Tables.{AreTables, AreDeviceTables};
 ghost use Rattle.vms_parts.specs.Sizes.{in_u32};
 ghost use Rattle.vms_parts.specs.Views.{set_of, formula, desc_of, device_of, layout_of};
 
@@ -50,7 +45,9 @@ pub struct DescSet {
 }
 
 impl DescSet {
-    ghost use Rattle.vms_desc.specs.Described.{described, device_at};
+    ghost use Rattle.vms_desc.specs.Calls.{AreDefaults, AreTablesOf, CanEval, DescribesDevice, DescribesPart, IsTableOf};
+    ghost use Rattle.vms_desc.specs.Calls.{desc_in, device_cells_in, device_in, own_count_in, truth_in};
+    ghost use Rattle.vms_desc.specs.Described.{described};
 
     /// Returns the shipped set `@s` for number `s`, 0 to 4.
     ///
@@ -123,8 +120,8 @@ impl DescSet {
     ///
     /// The set has the device.
     pub fn device(&self, device: u32) -> &Device
-        requires { device < length (described self.now).devices }
-        ensures { device_of result.now ≡ device_at (described self.now) device }
+        requires { DescribesDevice self.now device }
+        ensures { device_of result.now ≡ device_in self.now device }
     {
         &self.parts.devices.as_slice()[device as usize]
     }
@@ -135,9 +132,8 @@ impl DescSet {
     ///
     /// The set has the device.
     pub fn cells(&self, device: u32) -> u32
-        requires { device < length (described self.now).devices }
-        ensures { result
-            ≡ length (device_cells (described self.now) (device_at (described self.now) device)) }
+        requires { DescribesDevice self.now device }
+        ensures { result ≡ length (device_cells_in self.now device) }
     {
         self.defaults(device).len()
     }
@@ -149,9 +145,8 @@ impl DescSet {
     ///
     /// The set has the device.
     pub fn defaults(&self, device: u32) -> &Buffer
-        requires { device < length (described self.now).devices }
-        ensures defaults { result.now ≡ defaults_at (described self.now) device }
-        ensures few { length result.now.numbers ≤ MOST_ITEMS }
+        requires { DescribesDevice self.now device }
+        ensures { AreDefaults self.now device result.now }
     {
         &self.defaults.as_slice()[device as usize]
     }
@@ -163,8 +158,8 @@ impl DescSet {
     /// The set has `part`.
     #[inline(always)]
     pub fn desc(&self, part: Part) -> &Desc
-        requires { HasPart (described self.now) part }
-        ensures { desc_of result.now ≡ desc_at (described self.now) part }
+        requires { DescribesPart self.now part }
+        ensures { desc_of result.now ≡ desc_in self.now part }
     {
         match part {
             Part::Set => unreachable!(),
@@ -183,9 +178,8 @@ impl DescSet {
     ///
     /// The set has the part.
     pub fn cells_of(&self, desc: Part) -> u32
-        requires { HasPart (described self.now) desc }
-        ensures { result
-            ≡ in_u32 (own_cell_count (described self.now) (desc_at (described self.now) desc)) }
+        requires { DescribesPart self.now desc }
+        ensures { result ≡ in_u32 (own_count_in self.now desc) }
     {
         let starts = self.table(desc).starts.as_slice();
         starts[starts.len() - 1]
@@ -194,9 +188,8 @@ impl DescSet {
     // Returns the table of a part.
     #[inline(always)]
     pub(crate) fn table(&self, part: Part) -> &Table
-        requires { HasPart (described self.now) part }
-        ensures { IsTable (sizes_of (described self.now))
-            (desc_at (described self.now) part).fields result.now }
+        requires { DescribesPart self.now part }
+        ensures { IsTableOf self.now part result.now }
     {
         match part {
             Part::Set => unreachable!(),
@@ -208,9 +201,8 @@ impl DescSet {
 
     // Returns the tables of a device and its subsections.
     fn tables_of(&self, device: u32) -> &[Table]
-        requires { device < length (described self.now).devices }
-        ensures { AreTables (sizes_of (described self.now))
-            (device_fields (device_at (described self.now) device)) result.now }
+        requires { DescribesDevice self.now device }
+        ensures { AreTablesOf self.now device result.now }
     {
         self.device_tables.as_slice()[device as usize].as_slice()
     }
@@ -225,7 +217,7 @@ impl DescSet {
 
     // Returns the scope of the device that a test of the part may name, if it is a subsection's.
     fn parent(&self, part: Part) -> Option<Scope<'_>>
-        requires { HasPart (described self.now) part }
+        requires { DescribesPart self.now part }
         ensures { IsParent (described self.now) part result }
     {
         match part {
@@ -252,17 +244,9 @@ impl DescSet {
         version: u32,
         cells: &C,
     ) -> bool
-        requires part { HasPart (described self.now) desc }
-        requires placed { is_placed (described self.now) desc (formula test.now) ≡ true }
-        requires few { length (C.numbers cells.now) ≤ MOST_ITEMS }
-        requires own { base
-            + own_cell_count (described self.now) (desc_at (described self.now) desc)
-            ≤ length (C.numbers cells.now) }
-        requires parent { HasParentCells (described self.now) desc (length (C.numbers cells.now)) }
-        ensures { result ≡ truth (formula test.now) version
-            (numbers_of (struct_cells (described self.now)) (desc_at (described self.now) desc)
-            (C.numbers cells.now) base)
-            (parent_of (described self.now) desc (C.numbers cells.now)) }
+        requires { CanEval self.now desc base (formula test.now) (C.numbers cells.now) }
+        ensures { let t = formula test.now in
+            result ≡ truth_in self.now desc base t version (C.numbers cells.now) }
     {
         let own = self.scope(desc, base);
         let parent = self.parent(desc);

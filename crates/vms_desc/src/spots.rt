@@ -1,11 +1,7 @@
 // The places of numbers in the bytes of images.
-ghost use Rattle.vms_spec.specs.declared.TheConstants.{MOST_ITEMS};
-ghost use Rattle.std.specs.Prelude.{◌≡◌, ◌<◌, ◌≤◌, length, get_or};
-ghost use Rattle.vms_spec.specs.Layout.{device_cells};
-ghost use Rattle.vms_desc.specs.Described.{described, device_at};
-ghost use Rattle.vms_desc.specs.Spots.{kinds_at};
-ghost use Rattle.vms_spots.specs.declared.layout.TheConstants.{MOST_BYTES};
-ghost use Rattle.vms_spots.specs.Spots.{spots_of, bytes_of, no_spot, AreApart};
+ghost use Rattle.std.specs.Prelude.{◌≡◌, get_or};
+ghost use Rattle.vms_desc.specs.Calls.{AreBytes, AreSpots, DescribesCell, DescribesDevice, spots_in};
+ghost use Rattle.vms_spots.specs.Spots.{no_spot};
 
 use crate::DescSet;
 use vms_spots::{Spot, size};
@@ -21,10 +17,8 @@ impl DescSet {
     ///
     /// The set has the device.
     pub fn spots(&self, device: u32) -> &[Spot]
-        requires { device < length (described self.now).devices }
-        ensures spots { result.now ≡ spots_of (kinds_at (described self.now) device) }
-        ensures apart { AreApart (kinds_at (described self.now) device) result.now }
-        ensures few { length result.now ≤ MOST_ITEMS }
+        requires { DescribesDevice self.now device }
+        ensures { AreSpots self.now device result.now }
     {
         self.defaults(device).spots()
     }
@@ -35,10 +29,8 @@ impl DescSet {
     ///
     /// The set has the device, and the device has the cell.
     pub fn spot(&self, device: u32, cell: u32) -> Spot
-        requires is_device { device < length (described self.now).devices }
-        requires is_cell { cell
-            < length (device_cells (described self.now) (device_at (described self.now) device)) }
-        ensures { result ≡ get_or (spots_of (kinds_at (described self.now) device)) cell no_spot }
+        requires { DescribesCell self.now device cell }
+        ensures { result ≡ get_or (spots_in self.now device) cell no_spot }
     {
         self.spots(device)[cell as usize]
     }
@@ -49,9 +41,8 @@ impl DescSet {
     ///
     /// The set has the device.
     pub fn image_bytes(&self, device: u32) -> u32
-        requires { device < length (described self.now).devices }
-        ensures bytes { result ≡ bytes_of (kinds_at (described self.now) device) }
-        ensures bound { result ≤ MOST_BYTES }
+        requires { DescribesDevice self.now device }
+        ensures { AreBytes self.now device result }
     {
         size(self.spots(device))
     }

@@ -1,11 +1,18 @@
 -- What steps keep of the numbers, one after the other.
 use Rattle.vms_walk.proofs.Facade.{IsErrAnd, Result, Ok, Err, IfErr, ◌≡◌, sym, subst, ℕ, List, ◌∷◌, ◌++◌, length, length-set, slice_set, Option, ℤ, pos, refl}
 use Rattle.vms_walk.proofs.Facade.{ap, ◌∙◌, false, ◌==◌, [], ◌||◌, get_or-set_other, eq-eqb, or_parts, or_assoc, Kind, WalkStep, Number, has_step, Keeps}
+use Rattle.vms_walk.specs.Calls.{Takes}
 use Rattle.vms_walk.specs.declared.step.WalkStep.TheVariants.{Constant, Filler, Rule}
 
 pub err_is : {T E : Type 0} (Q : E → Type 0) (r : Result T E) (e : E) → IsErrAnd r (λ x. x ≡ e) → Q e → IfErr r Q
 err_is Q (Ok x) e h q = tt
 err_is Q (Err x) e h q = subst Q (sym h) q
+
+-- it stopped within these steps
+pub err_takes : {S F : Type 0} (goes : List WalkStep → S → S → Type 0) (stops : List WalkStep → S → F → S → Type 0) (steps : List WalkStep)
+    (r : Result (Unit {0}) F) (e : F) (a b : S) → IsErrAnd r (λ x. x ≡ e) → stops steps a e b → Takes goes stops steps r a b
+err_takes goes stops steps (Ok x) e a b h q = absurd h
+err_takes goes stops steps (Err x) e a b h q = record { ok = tt; err = subst (λ f. stops steps a f b) (sym h) q }
 
 -- ---- What steps keep of the numbers, one after the other.
 

@@ -1,16 +1,10 @@
 // The walk: the fields of a description in order, arrays and structures expanded.
-ghost use Rattle.vms_spec.specs.declared.TheConstants.{MOST_ITEMS};
-ghost use Rattle.std.specs.Prelude.{◌≡◌, ◌<◌, ◌≤◌, ◌+◌, ◌*◌, true, None, length, IfSome, OnOk, IfErr};
+ghost use Rattle.std.specs.Prelude.{◌≡◌, None, IfSome};
 ghost use Rattle.vms_kinds.specs.declared.Item.TheVariants as items;
-ghost use Rattle.vms_spec.specs.Layout.{capacity_of};
-ghost use Rattle.vms_spec.specs.Rules.{uses_below};
-ghost use Rattle.vms_desc.specs.Asks.{field_at};
-ghost use Rattle.vms_desc.specs.Described.{described};
-ghost use Rattle.vms_desc.specs.Parts.{desc_at};
-ghost use Rattle.vms_walk.specs.Runs.{run_of, MayRun};
-ghost use Rattle.vms_walk.specs.Steps.{HasSpot, MayCome};
-ghost use Rattle.vms_walk.specs.Steps.{spot_numbers, present_of, size_in, cell_of};
-ghost use Rattle.vms_walk.specs.Steps.{steps_of, spot_slots, field_by, elements_by, item_by};
+ghost use Rattle.vms_walk.specs.Calls.{AreFree, CanWalkField, CanWalkItem, CanWalkRow, CanWalkRun, HasField, IsSpotOf, Takes, Walks};
+ghost use Rattle.vms_walk.specs.Calls.{field_in, item_in, present_in, row_in, spot_in};
+ghost use Rattle.vms_walk.specs.Runs.{run_of};
+ghost use Rattle.vms_walk.specs.Steps.{MayCome};
 
 use crate::{LONGEST_RUN, WalkStep, Walker};
 use vms_desc::{Cells, DescSet, Part};
@@ -43,10 +37,8 @@ struct Elements<'a> {
 // Returns how many elements of a field are in the bytes: none if the field is absent.
 #[inline(always)]
 fn present<C: Cells>(set: &DescSet, spot: PartAt, field: u32, cells: &C) -> u32
-    requires spot { HasSpot (described set.now) spot (C.numbers cells.now) }
-    requires field { field < length (desc_at (described set.now) spot.part).fields }
-    ensures { let numbers = spot_numbers (described set.now) spot (C.numbers cells.now) in
-        result ≡ present_of (field_at (described set.now) spot.part field) spot.version numbers }
+    requires { HasField set.now spot field (C.numbers cells.now) }
+    ensures { result ≡ present_in set.now spot field (C.numbers cells.now) }
 {
     if set.is_there(spot.part, spot.base, field, spot.version, cells) {
         set.elements(spot.part, spot.base, field, cells)
@@ -66,17 +58,9 @@ fn walk_item<W: Walker>(
     cell: u32,
     walker: &mut W,
 ) -> Result<(), W::Fault>
-    requires reaches { uses_below (length (described set.now).structs) item.now ≡ true }
-    requires may { let slots = item_by (described set.now) item.now most cell in
-        MayCome W.goes W.numbers W.may slots walker.old }
-    requires room { cell + size_in (described set.now) item.now ≤ length (W.numbers walker.old) }
-    requires few { length (W.numbers walker.old) ≤ MOST_ITEMS }
-    ensures ok { let slots = item_by (described set.now)
-        item.now most cell (W.numbers walker.new) in
-        OnOk result (W.goes (steps_of slots) walker.old walker.new) }
-    ensures err { let slots = item_by (described set.now)
-        item.now most cell (W.numbers walker.new) in
-        IfErr result (λ fault. W.stops (steps_of slots) walker.old fault walker.new) }
+    requires { CanWalkItem W.goes W.numbers W.may set.now item.now most cell walker.old }
+    ensures { let slots = item_in set.now item.now most cell in
+        Walks W.goes W.stops W.numbers slots result walker.old walker.new }
 {
     match item {
         Item::Num(kind) => walker.step(WalkStep::Number {
@@ -89,8 +73,26 @@ fn walk_item<W: Walker>(
             value: *value,
         }),
         Item::Unused { bytes } => walker.step(WalkStep::Filler { bytes: *bytes }),
-        Item::Struct(number) => walk_struct(set, *number, cell, walker),
+        Item::Struct(number) => walk_element(set, *number, cell, walker),
     }
+}
+
+// Walks one element of structure `number`. The result of the call has room in this function, which
+// is inlined, so that a number needs none.
+#[cycle(walk)]
+#[inline(always)]
+fn walk_element<W: Walker>(
+    set: &DescSet,
+    number: u32,
+    cell: u32,
+    walker: &mut W,
+) -> Result<(), W::Fault>
+    requires { let item = items.Struct number in
+        CanWalkItem W.goes W.numbers W.may set.now item None cell walker.old }
+    ensures { let slots = item_in set.now (items.Struct number) None cell in
+        Walks W.goes W.stops W.numbers slots result walker.old walker.new }
+{
+    walk_struct(set, number, cell, walker)
 }
 
 // Walks one element of structure `number`. Only this function of the recursion isn't inlined: its
@@ -102,19 +104,10 @@ fn walk_struct<W: Walker>(
     cell: u32,
     walker: &mut W,
 ) -> Result<(), W::Fault>
-    requires reaches { uses_below (length (described set.now).structs) (items.Struct number)
-        ≡ true }
-    requires may { let slots = item_by (described set.now) (items.Struct number) None cell in
-        MayCome W.goes W.numbers W.may slots walker.old }
-    requires room { cell + size_in (described set.now) (items.Struct number)
-        ≤ length (W.numbers walker.old) }
-    requires few { length (W.numbers walker.old) ≤ MOST_ITEMS }
-    ensures ok { let slots = item_by (described set.now)
-        (items.Struct number) None cell (W.numbers walker.new) in
-        OnOk result (W.goes (steps_of slots) walker.old walker.new) }
-    ensures err { let slots = item_by (described set.now)
-        (items.Struct number) None cell (W.numbers walker.new) in
-        IfErr result (λ fault. W.stops (steps_of slots) walker.old fault walker.new) }
+    requires { let item = items.Struct number in
+        CanWalkItem W.goes W.numbers W.may set.now item None cell walker.old }
+    ensures { let slots = item_in set.now (items.Struct number) None cell in
+        Walks W.goes W.stops W.numbers slots result walker.old walker.new }
 {
     let part = Part::Struct(number);
     let spot = PartAt {
@@ -129,22 +122,9 @@ fn walk_struct<W: Walker>(
 #[cycle(walk)]
 #[inline(always)]
 fn walk_row<W: Walker>(set: &DescSet, row: Elements<'_>, walker: &mut W) -> Result<(), W::Fault>
-    requires reaches { uses_below (length (described set.now).structs) row.item.now ≡ true }
-    requires may { let slots = elements_by (described set.now)
-        row.item.now row.most row.count row.first in
-        MayCome W.goes W.numbers W.may slots walker.old }
-    requires small { size_in (described set.now) row.item.now ≤ MOST_ITEMS }
-    requires room { row.first + row.count * size_in (described set.now) row.item.now
-        ≤ length (W.numbers walker.old) }
-    requires few { length (W.numbers walker.old) ≤ MOST_ITEMS }
-    ensures ok { let n = W.numbers walker.new in
-        let slots = elements_by (described set.now)
-        row.entry.item.now row.entry.most row.entry.count row.entry.first n in
-        OnOk result (W.goes (steps_of slots) walker.old walker.new) }
-    ensures err { let n = W.numbers walker.new in
-        let slots = elements_by (described set.now)
-        row.entry.item.now row.entry.most row.entry.count row.entry.first n in
-        IfErr result (λ fault. W.stops (steps_of slots) walker.old fault walker.new) }
+    requires { CanWalkRow W.goes W.numbers W.may set.now row walker.old }
+    ensures { let slots = row_in set.now row.entry in
+        Walks W.goes W.stops W.numbers slots result walker.old walker.new }
 {
     if row.count != 1 {
         return walk_items(set, row, walker);
@@ -156,22 +136,9 @@ fn walk_row<W: Walker>(set: &DescSet, row: Elements<'_>, walker: &mut W) -> Resu
 #[cycle(walk)]
 #[inline(always)]
 fn walk_items<W: Walker>(set: &DescSet, row: Elements<'_>, walker: &mut W) -> Result<(), W::Fault>
-    requires reaches { uses_below (length (described set.now).structs) row.item.now ≡ true }
-    requires may { let slots = elements_by (described set.now)
-        row.item.now row.most row.count row.first in
-        MayCome W.goes W.numbers W.may slots walker.old }
-    requires small { size_in (described set.now) row.item.now ≤ MOST_ITEMS }
-    requires room { row.first + row.count * size_in (described set.now) row.item.now
-        ≤ length (W.numbers walker.old) }
-    requires few { length (W.numbers walker.old) ≤ MOST_ITEMS }
-    ensures ok { let n = W.numbers walker.new in
-        let slots = elements_by (described set.now)
-        row.entry.item.now row.entry.most row.entry.count row.entry.first n in
-        OnOk result (W.goes (steps_of slots) walker.old walker.new) }
-    ensures err { let n = W.numbers walker.new in
-        let slots = elements_by (described set.now)
-        row.entry.item.now row.entry.most row.entry.count row.entry.first n in
-        IfErr result (λ fault. W.stops (steps_of slots) walker.old fault walker.new) }
+    requires { CanWalkRow W.goes W.numbers W.may set.now row walker.old }
+    ensures { let slots = row_in set.now row.entry in
+        Walks W.goes W.stops W.numbers slots result walker.old walker.new }
 {
     if let Some(kind) = run_kind(row) {
         return walk_run(row.first, row.count, kind, walker);
@@ -189,9 +156,7 @@ fn walk_items<W: Walker>(set: &DescSet, row: Elements<'_>, walker: &mut W) -> Re
 // kind for which any code is valid.
 #[inline(always)]
 fn run_kind(row: Elements<'_>) -> Option<Kind>
-    ensures number { IfSome result (λ kind. row.entry.item.now ≡ items.Num kind) }
-    ensures free { IfSome result (λ kind. row.entry.most ≡ None) }
-    ensures any { IfSome result (λ kind. kind ≡ Kind.Bool → ⊥) }
+    ensures { IfSome result (λ kind. AreFree row.entry kind) }
 {
     if row.count < SHORTEST_RUN {
         return None;
@@ -205,13 +170,8 @@ fn run_kind(row: Elements<'_>) -> Option<Kind>
 // Walks `count` numbers of one kind that count nothing, in consecutive cells from `first` on.
 #[inline(always)]
 fn walk_run<W: Walker>(first: u32, count: u32, kind: Kind, walker: &mut W) -> Result<(), W::Fault>
-    requires number { kind ≡ Kind.Bool → ⊥ }
-    requires room { first + count ≤ length (W.numbers walker.old) }
-    requires few { length (W.numbers walker.old) ≤ MOST_ITEMS }
-    requires may { MayRun W.goes W.may (run_of first count kind) walker.old }
-    ensures ok { OnOk result (W.goes (run_of first count kind) walker.old walker.new) }
-    ensures err { IfErr result (λ fault.
-        W.stops (run_of first count kind) walker.old fault walker.new) }
+    requires { CanWalkRun W.goes W.numbers W.may first count kind walker.old }
+    ensures { Takes W.goes W.stops (run_of first count kind) result walker.old walker.new }
 {
     let end = first + count;
     let mut cell = first;
@@ -233,18 +193,9 @@ fn walk_field<W: Walker>(
     cell: u32,
     walker: &mut W,
 ) -> Result<(), W::Fault>
-    requires spot { HasSpot (described set.now) spot (W.numbers walker.old) }
-    requires field { field < length (desc_at (described set.now) spot.part).fields }
-    requires here { cell ≡ cell_of (described set.now) spot field }
-    requires may { let slots = field_by (described set.now) spot field cell in
-        MayCome W.goes W.numbers W.may slots walker.old }
-    requires room { let f = field_at (described set.now) spot.part field in
-        let cells = capacity_of f.count * size_in (described set.now) f.item in
-        cell + cells ≤ length (W.numbers walker.old) }
-    ensures ok { let slots = field_by (described set.now) spot field cell (W.numbers walker.new) in
-        OnOk result (W.goes (steps_of slots) walker.old walker.new) }
-    ensures err { let slots = field_by (described set.now) spot field cell (W.numbers walker.new) in
-        IfErr result (λ fault. W.stops (steps_of slots) walker.old fault walker.new) }
+    requires { CanWalkField W.goes W.numbers W.may set.now spot field cell walker.old }
+    ensures { let slots = field_in set.now spot field cell in
+        Walks W.goes W.stops W.numbers slots result walker.old walker.new }
 {
     let count = present(set, spot, field, walker);
     let most = set.most(spot.part, field);
@@ -274,12 +225,10 @@ fn walk_field<W: Walker>(
 #[cycle(walk)]
 #[inline(always)]
 pub fn walk<W: Walker>(set: &DescSet, spot: PartAt, walker: &mut W) -> Result<(), W::Fault>
-    requires spot { HasSpot (described set.now) spot (W.numbers walker.old) }
-    requires may { MayCome W.goes W.numbers W.may (spot_slots (described set.now) spot) walker.old }
-    ensures ok { let slots = spot_slots (described set.now) spot (W.numbers walker.new) in
-        OnOk result (W.goes (steps_of slots) walker.old walker.new) }
-    ensures err { let slots = spot_slots (described set.now) spot (W.numbers walker.new) in
-        IfErr result (λ fault. W.stops (steps_of slots) walker.old fault walker.new) }
+    requires spot { IsSpotOf set.now spot (W.numbers walker.old) }
+    requires may { MayCome W.goes W.numbers W.may (spot_in set.now spot) walker.old }
+    ensures { let slots = spot_in set.now spot in
+        Walks W.goes W.stops W.numbers slots result walker.old walker.new }
 {
     for field in 0..set.field_count(spot.part) {
         let cell = set.field_start(spot.part, spot.base, field);

@@ -55,11 +55,10 @@ pub trait Walker: Cells {
     ghost use Rattle.vms_spec.specs.declared.TheConstants.{MOST_ITEMS};
     ghost use Rattle.vms_walk.specs.Runs.{run_of, MayRun};
     ghost use Rattle.vms_walk.specs.declared.step.TheConstants.{LONGEST_RUN};
-    ghost use Rattle.vms_desc.specs.Described.{described};
     ghost use Rattle.vms_walk.specs.declared.step.WalkStep.{WalkStep as OneStep};
     ghost use Rattle.vms_walk.specs.declared.step.WalkStep.TheVariants.{Rule};
     ghost use Rattle.vms_walk.specs.Inside.{IsInside, Keeps};
-    ghost use Rattle.vms_walk.specs.Steps.{HasSpot, holds_at};
+    ghost use Rattle.vms_walk.specs.Calls.{IsSpotOf, holds_in};
 
     /// Why the walker stops.
     type Fault: Drop;
@@ -103,12 +102,11 @@ pub trait Walker: Cells {
     /// come.
     #[inline(always)]
     fn rules(&mut self, set: &DescSet, spot: PartAt) -> Result<(), Self::Fault>
-        requires spot { HasSpot (described set.now) spot (Self.numbers self.old) }
-        requires may { let holds = holds_at (described set.now) spot (Self.numbers self.old) in
-            may self.old (Rule holds) }
-        ensures ok { let holds = holds_at (described set.now) spot (Self.numbers self.old) in
+        requires spot { IsSpotOf set.now spot (Self.numbers self.old) }
+        requires may { may self.old (Rule (holds_in set.now spot (Self.numbers self.old))) }
+        ensures ok { let holds = holds_in set.now spot (Self.numbers self.old) in
             OnOk result (goes (Rule holds ∷ []) self.old self.new) }
-        ensures err { let holds = holds_at (described set.now) spot (Self.numbers self.old) in
+        ensures err { let holds = holds_in set.now spot (Self.numbers self.old) in
             IfErr result (λ fault. stops (Rule holds ∷ []) self.old fault self.new) }
     {
         let holds = set.holds_rules(spot.part, spot.base, spot.version, self);

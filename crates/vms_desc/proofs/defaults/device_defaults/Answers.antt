@@ -22,21 +22,17 @@ is_here c =
     let is : d ≡ get_or c.args.parts.now.devices i d = cc (c.device-item.is, c.as_slice-device-items.ensures) in
     record { lt = lt; is = is; laid = forms_are c.args.parts.now i d _ lt is c.as_slice.ensures refl }
 
-pub numbers_of-requires-clause-few : goal.numbers_of-requires-clause-few
-numbers_of-requires-clause-few c =
-    let here = is_here (goal.at.numbers_of-requires-clause-few c).In_ok-forms in
+pub numbers_of-requires : goal.numbers_of-requires
+numbers_of-requires c =
+    let here = is_here (goal.at.numbers_of-requires c).In_ok-forms in
     let set = set_of c.args.parts.now in
     let i = c.loop-device.device-index in
-    omega (arith, few_cells set c.requires.well i, form_count set i _ here.laid, kinds_long c.in_ok-forms.forms _ c.in_ok-forms.ensures)
-
-pub numbers_of-requires-clause-long : goal.numbers_of-requires-clause-long
-numbers_of-requires-clause-long c = defaults_long c.in_ok-forms.forms _ c.in_ok-forms.ensures
-
-pub numbers_of-requires-clause-range : goal.numbers_of-requires-clause-range
-numbers_of-requires-clause-range c =
-    let here = is_here (goal.at.numbers_of-requires-clause-range c).In_ok-forms in
-    kept_fit c.in_ok-forms.forms _ c.in_ok-forms.ensures (set_of c.args.parts.now) c.loop-device.device-index here.laid c.requires.well c.requires.heads
-    (omega (arith, here.lt, length-map c.args.parts.now.devices device_of))
+    record {
+      few = omega (arith, few_cells set c.requires.well i, form_count set i _ here.laid, kinds_long c.in_ok-forms.forms _ c.in_ok-forms.ensures);
+      long = defaults_long c.in_ok-forms.forms _ c.in_ok-forms.ensures;
+      range = kept_fit c.in_ok-forms.forms _ c.in_ok-forms.ensures set i here.laid c.requires.well c.requires.heads
+          (omega (arith, here.lt, length-map c.args.parts.now.devices device_of));
+    }
 
 pub loop-device-preserved : goal.loop-device-preserved
 loop-device-preserved c =

@@ -5,18 +5,15 @@ use Rattle.vms_desc.proofs.defaults.numbers_of.Goals as goal
 pub new-requires : goal.new-requires
 new-requires c = rw c.deref.ensures.value c.requires.few
 
-pub put_defaults-requires-clause-few : goal.put_defaults-requires-clause-few
-put_defaults-requires-clause-few c = omega (arith, ap length c.deref-2.ensures.value, c.requires.long, c.requires.few)
-
-pub put_defaults-requires-clause-zero : goal.put_defaults-requires-clause-zero
-put_defaults-requires-clause-zero c =
-    ap (λ (h : Held). h.numbers) c.in_ok-numbers.ensures
-    ∙ ap (λ (n : ℕ). replicate n (pos 0)) (ap length c.deref.ensures.value ∙ sym c.requires.long ∙ sym (ap length c.deref-2.ensures.value))
-
-pub put_defaults-requires-clause-range : goal.put_defaults-requires-clause-range
-put_defaults-requires-clause-range c = λ k lt.
+pub put_defaults-requires : goal.put_defaults-requires
+put_defaults-requires c =
     let numbers = ap (λ (h : Held). h.kinds) c.in_ok-numbers.ensures ∙ c.deref.ensures.value in
-    rw (c.deref-2.ensures.value, numbers) (c.requires.range k (omega (arith, lt, ap length c.deref-2.ensures.value, c.requires.long)))
+    record {
+      few = omega (arith, ap length c.deref-2.ensures.value, c.requires.long, c.requires.few);
+      zero = ap (λ (h : Held). h.numbers) c.in_ok-numbers.ensures
+          ∙ ap (λ (n : ℕ). replicate n (pos 0)) (ap length c.deref.ensures.value ∙ sym c.requires.long ∙ sym (ap length c.deref-2.ensures.value));
+      range = λ k lt. rw (c.deref-2.ensures.value, numbers) (c.requires.range k (omega (arith, lt, ap length c.deref-2.ensures.value, c.requires.long)));
+    }
 
 pub returns : goal.returns
 returns c =

@@ -1,10 +1,10 @@
 use Rattle.vms_walk.proofs.Facade.{rules, arith, refl, sym, ap, ◌∙◌, ◌≡◌, ℕ, ℤ, ◌+◌, ◌*◌, ◌<◌, List, [], ◌∷◌, ◌++◌, length, ltb-true, IfErr-weaker}
 use Rattle.vms_walk.proofs.Facade.{on_ok_weaker, Struct, item_slots, SameBelow, IsAbove, items_above, meanings_above, field_at, described, desc_at, found_field}
 use Rattle.vms_walk.proofs.Facade.{here_fields, good_of, steps_of, table, holds_at, cell_of, spot_slots, slots_at, size_in, capacities_of, elements_slots}
-use Rattle.vms_walk.proofs.Facade.{HasSpot, MayCome, run_of}
+use Rattle.vms_walk.proofs.Facade.{HasSpot, Keeps, MayCome}
 use Rattle.vms_spec.specs.declared.Part.TheVariants as parts
 use Rattle.vms_walk.specs.declared.step.WalkStep.TheVariants as steps
-use Rattle.vms_walk.proofs.Kept.{err_is}
+use Rattle.vms_walk.proofs.Kept.{err_takes}
 use Rattle.vms_walk.proofs.Runs.{run_steps, steps_at, one_slots}
 use Rattle.vms_walk.proofs.Walking.{room_at, least_again}
 use Rattle.vms_walk.proofs.Spots.{Next, next_field, field_needs, size_code, start_code, struct_spot, struct_size, holds_is}
@@ -49,16 +49,16 @@ walk_items-loop-turn-preserved g t c =
       here = omega arith;
     }
 
-pub walk_items-returns-in_err-walk_item-clause-err : goal.walk_items-returns-in_err-walk_item-clause-err
-walk_items-returns-in_err-walk_item-clause-err g t c =
+pub walk_items-returns-in_err-walk_item : goal.walk_items-returns-in_err-walk_item
+walk_items-returns-in_err-walk_item g t c =
     let N = g.W.Cells.numbers in
     let set = described c.args.set.now in
     let row = c.args.row in
     let d = c.walk_item.new.walker in
     let fault = c.in_err-walk_item.field-0.0 in
     let slots = elements_slots set row.item.now row.most (N d) row.count row.first in
-    err_is (λ fault. g.W.Walker.stops (steps_of slots) c.args.walker.now fault d) c.from_residual.result fault c.from_residual.ensures.1
-    (items_stop (laws_of g) (walked g t (goal.at.walk_items-returns-in_err-walk_item-clause-err g t c).After-walk_item-arg-1) c.args.row.count
+    err_takes g.W.Walker.goes g.W.Walker.stops (steps_of slots) c.from_residual.result fault c.args.walker.now d c.from_residual.ensures.1
+    (items_stop (laws_of g) (walked g t (goal.at.walk_items-returns-in_err-walk_item g t c).After-walk_item-arg-1) c.args.row.count
     (omega arith) d fault c.in_err-walk_item.ensures.err)
 
 pub walk_items-walk_item-requires : goal.walk_items-walk_item-requires
@@ -69,7 +69,7 @@ walk_items-walk_item-requires g t c =
     let inv = c.loop-turn.invariant in
     let room = room_at c.loop-turn._turn c.args.row.count (size_in set item) c.args.row.first cell _ (omega arith) inv.here c.requires.room in
     let may = items_may (laws_of g) (walked g t c) g.W.Walker.may c.args.row.count (omega arith) c.requires.may in
-    λ κs h. (search rules, (search rules, (search rules, (c.requires.reaches, (may, (rw inv.long room, rw inv.long c.requires.few))))))
+    λ κs h. (search rules, (search rules, (search rules, record { reaches = c.requires.reaches; may = may; room = rw inv.long room; few = rw inv.long c.requires.few })))
 
 pub walk_items-overflow_add-cell : goal.walk_items-overflow_add-cell
 walk_items-overflow_add-cell g t c =
@@ -81,31 +81,24 @@ walk_items-overflow_add-cell g t c =
 
 -- numbers that count nothing
 
-pub walk_items-walk_run-requires-clause-may : goal.walk_items-walk_run-requires-clause-may
-walk_items-walk_run-requires-clause-may g t c =
-    λ xs ys rest x b h e.
-    c.requires.may xs ys rest x b h
-    (run_steps (described c.args.set.now) c.args.row.item.now c.args.row.most c.in-Some.kind (search rules) (search rules)
-    (g.W.Cells.numbers b) c.args.row.first c.args.row.count ∙ e)
+pub walk_items-walk_run-requires : goal.walk_items-walk_run-requires
+walk_items-walk_run-requires g t c =
+    let row = c.args.row in
+    let free = c.in-Some.ensures in
+    record {
+      number = free.any;
+      room = search rules;
+      few = c.requires.few;
+      may = λ xs ys rest x b h e. c.requires.may xs ys rest x b h
+          (run_steps (described c.args.set.now) row.item.now row.most c.in-Some.kind free.number free.free (g.W.Cells.numbers b) row.first row.count ∙ e);
+    }
 
-pub walk_items-returns-in-Some-clause-ok : goal.walk_items-returns-in-Some-clause-ok
-walk_items-returns-in-Some-clause-ok g t c =
-    let b = c.walk_run.new.walker in
-    let same =
-    run_steps (described c.args.set.now) c.args.row.item.now c.args.row.most c.in-Some.kind (search rules) (search rules)
-    (g.W.Cells.numbers b) c.args.row.first c.args.row.count in
-    on_ok_weaker c.walk_run.result (λ h. rw same h) c.walk_run.ensures.ok
-
-pub walk_items-returns-in-Some-clause-err : goal.walk_items-returns-in-Some-clause-err
-walk_items-returns-in-Some-clause-err g t c =
-    let set = described c.args.set.now in
-    let a = c.args.walker.now in
-    let b = c.walk_run.new.walker in
-    let kind = c.in-Some.kind in
-    let slots = elements_slots set c.args.row.item.now c.args.row.most (g.W.Cells.numbers b) c.args.row.count c.args.row.first in
-    let same = run_steps set c.args.row.item.now c.args.row.most kind (search rules) (search rules) (g.W.Cells.numbers b) c.args.row.first c.args.row.count in
-    IfErr-weaker c.walk_run.result (λ fault. g.W.Walker.stops (run_of c.args.row.first c.args.row.count kind) a fault b)
-    (λ fault. g.W.Walker.stops (steps_of slots) a fault b) (λ fault h. rw same h) c.walk_run.ensures.err
+pub walk_items-returns-in-Some : goal.walk_items-returns-in-Some
+walk_items-returns-in-Some g t c =
+    let row = c.args.row in
+    let free = c.in-Some.ensures in
+    rw (run_steps (described c.args.set.now) row.item.now row.most c.in-Some.kind free.number free.free
+    (g.W.Cells.numbers c.walk_run.new.walker) row.first row.count) c.walk_run.ensures
 
 -- ---- a row
 
@@ -120,26 +113,13 @@ walk_row-walk_item-requires g t c =
     let come : MayCome g.W.Walker.goes N g.W.Walker.may slots c.args.walker.now = λ ys ws zs x d h e.
     c.requires.may ys ws zs x d h (one_slots set item row.most (N d) row.count row.first one ∙ e) in
     let width : row.count * size_in set item ≡ 1 * size_in set item = rw one in
-    λ κs h. (search rules, (search rules, (search rules, (c.requires.reaches, (come, (omega arith, c.requires.few))))))
+    λ κs h. (search rules, (search rules, (search rules, record { reaches = c.requires.reaches; may = come; room = omega arith; few = c.requires.few })))
 
-pub walk_row-returns-clause-ok : goal.walk_row-returns-clause-ok
-walk_row-returns-clause-ok g t c =
-    let b = c.walk_item.new.walker in
+pub walk_row-returns : goal.walk_row-returns
+walk_row-returns g t c =
     let row = c.args.row in
-    let same = one_slots (described c.args.set.now) row.item.now row.most (g.W.Cells.numbers b) row.count row.first (omega arith) in
-    on_ok_weaker c.walk_item.result (λ h. rw same h) c.walk_item.ensures.ok
-
-pub walk_row-returns-clause-err : goal.walk_row-returns-clause-err
-walk_row-returns-clause-err g t c =
-    let set = described c.args.set.now in
-    let a = c.args.walker.now in
-    let b = c.walk_item.new.walker in
-    let row = c.args.row in
-    let one = item_slots (table set) row.item.now (capacities_of row.most) (g.W.Cells.numbers b) row.first in
-    let all = elements_slots set row.item.now row.most (g.W.Cells.numbers b) row.count row.first in
-    let same = one_slots set row.item.now row.most (g.W.Cells.numbers b) row.count row.first (omega arith) in
-    IfErr-weaker c.walk_item.result (λ fault. g.W.Walker.stops (steps_of one) a fault b) (λ fault. g.W.Walker.stops (steps_of all) a fault b)
-    (λ fault h. rw same h) c.walk_item.ensures.err
+    rw (one_slots (described c.args.set.now) row.item.now row.most (g.W.Cells.numbers c.walk_item.new.walker) row.count row.first (omega arith))
+    c.walk_item.ensures
 
 -- ---- one field
 
@@ -186,34 +166,24 @@ walk_field-walk_row-requires g t c =
     let kept = (laws_of g).keeps ys a d h in
     c.requires.may ys ws zs x d h
     (steps_are g t c (N d) kept.long (keeps_first cell (slots (N d)) ys (ws ++ (x ∷ zs)) (N a) (N d) e (above g t c (N d)) kept) ∙ e) in
-    λ κs h. (search rules, (search rules, (search rules, (needs.uses, (come, (needs.small, (needs.room, c.requires.spot.few)))))))
+    λ κs h. (search rules, (search rules, (search rules, record { reaches = needs.uses; may = come; small = needs.small; room = needs.room; few = c.requires.spot.few })))
 
-pub walk_field-returns-clause-ok : goal.walk_field-returns-clause-ok
-walk_field-returns-clause-ok g t c =
-    let N = g.W.Cells.numbers in
-    let a = c.args.walker.now in
-    let b = c.walk_row.new.walker in
-    let at = (goal.at.walk_field-returns-clause-ok g t c).After-walk_row-arg-1 in
-    on_ok_weaker c.walk_row.result
-    (λ h.
-    let kept = (laws_of g).keeps _ a b h in
-    rw (steps_are g t at (N b) kept.long (keeps_below c.args.cell _ (N a) (N b) (above g t at (N b)) kept)) h)
-    c.walk_row.ensures.ok
-
-pub walk_field-returns-clause-err : goal.walk_field-returns-clause-err
-walk_field-returns-clause-err g t c =
+pub walk_field-returns : goal.walk_field-returns
+walk_field-returns g t c =
     let N = g.W.Cells.numbers in
     let set = described c.args.set.now in
     let a = c.args.walker.now in
     let b = c.walk_row.new.walker in
-    let at = (goal.at.walk_field-returns-clause-err g t c).After-walk_row-arg-1 in
+    let at = (goal.at.walk_field-returns g t c).After-walk_row-arg-1 in
     let slots = elements_slots set c.index-as_slice-field.result.item c.most-most.result (N b) c.present-count.result c.args.cell in
-    IfErr-weaker c.walk_row.result (λ fault. g.W.Walker.stops (steps_of slots) a fault b)
-    (λ fault. g.W.Walker.stops (steps_of (slots_at set c.args.spot (N b) c.args.field c.args.cell)) a fault b)
-    (λ fault h.
-    let kept = (laws_of g).stopped _ a b fault h in
-    rw (steps_are g t at (N b) kept.long (keeps_below c.args.cell slots (N a) (N b) (above g t at (N b)) kept)) h)
-    c.walk_row.ensures.err
+    let same = λ (kept : Keeps (steps_of slots) (N a) (N b)).
+    steps_are g t at (N b) kept.long (keeps_below c.args.cell slots (N a) (N b) (above g t at (N b)) kept) in
+    record {
+      ok = on_ok_weaker c.walk_row.result (λ h. rw (same ((laws_of g).keeps _ a b h)) h) c.walk_row.ensures.ok;
+      err = IfErr-weaker c.walk_row.result (λ fault. g.W.Walker.stops (steps_of slots) a fault b)
+          (λ fault. g.W.Walker.stops (steps_of (slots_at set c.args.spot (N b) c.args.field c.args.cell)) a fault b)
+          (λ fault h. rw (same ((laws_of g).stopped _ a b fault h)) h) c.walk_row.ensures.err;
+    }
 
 -- ---- the fields of a description
 
@@ -259,15 +229,15 @@ walk-loop-field-preserved g t c =
       long = ((laws_of g).keeps _ c.loop-field.walker d c.in_ok-walk_field.ensures.ok).long ∙ c.loop-field.invariant.long;
     }
 
-pub walk-returns-in_err-walk_field-clause-err : goal.walk-returns-in_err-walk_field-clause-err
-walk-returns-in_err-walk_field-clause-err g t c =
+pub walk-returns-in_err-walk_field : goal.walk-returns-in_err-walk_field
+walk-returns-in_err-walk_field g t c =
     let set = described c.args.set.now in
     let a = c.args.walker.now in
-    let s = turn g t (goal.at.walk-returns-in_err-walk_field-clause-err g t c).After-walk_field-arg-1 in
+    let s = turn g t (goal.at.walk-returns-in_err-walk_field g t c).After-walk_field-arg-1 in
     let d = c.walk_field.new.walker in
     let fault = c.in_err-walk_field.field-0.0 in
     let slots = spot_slots set c.args.spot (g.W.Cells.numbers d) in
-    err_is (λ fault. g.W.Walker.stops (steps_of slots) a fault d) c.from_residual.result fault c.from_residual.ensures.1
+    err_takes g.W.Walker.goes g.W.Walker.stops (steps_of slots) c.from_residual.result fault a d c.from_residual.ensures.1
     (fields_stop (laws_of g) s.past s.inside d fault c.in_err-walk_field.ensures.err)
 
 pub walk-field_start-cell-requires-clause-few : goal.walk-field_start-cell-requires-clause-few
@@ -277,7 +247,7 @@ pub walk-walk_field-requires : goal.walk-walk_field-requires
 walk-walk_field-requires g t c =
     let s = turn g t c in
     let may = fields_may (laws_of g) s.past g.W.Walker.may s.inside c.requires.may in
-    λ κs h. (search rules, (search rules, (search rules, (s.has, (s.inside, (s.past.here, (may, s.next.room)))))))
+    λ κs h. (search rules, (search rules, (search rules, record { spot = s.has; field = s.inside; here = s.past.here; may = may; room = s.next.room })))
 
 -- after the last field
 end_of : (g : Over) (t : ℕ) (c : goal.walk-After-rules-arg-1 g t) → c.loop-field.field ≡ length (desc_at (described c.args.set.now) c.args.spot.part).fields
@@ -301,29 +271,23 @@ walk-rules-requires-clause-may g t c =
     let b = c.loop-field.walker in
     rw (holds_is (described c.args.set.now) c.args.spot (g.W.Cells.numbers b)) (rule_may (laws_of g) (done g t c) (end_of g t c) g.W.Walker.may c.requires.may)
 
-pub walk-returns-clause-ok : goal.walk-returns-clause-ok
-walk-returns-clause-ok g t c =
-    let N = g.W.Cells.numbers in
-    let set = described c.args.set.now in
-    let b = c.loop-field.walker in
-    let at = (goal.at.walk-returns-clause-ok g t c).After-rules-arg-1 in
-    let e = c.rules.new.self in
-    on_ok_weaker c.rules.result
-    (λ h. rule_next (laws_of g) (done g t at) (end_of g t at) e (same_rule _ (N b) (N e) ((laws_of g).keeps _ b e h))
-    (rw (holds_is set c.args.spot (N b)) at h)) c.rules.ensures.ok
-
-pub walk-returns-clause-err : goal.walk-returns-clause-err
-walk-returns-clause-err g t c =
+pub walk-returns : goal.walk-returns
+walk-returns g t c =
     let N = g.W.Cells.numbers in
     let set = described c.args.set.now in
     let a = c.args.walker.now in
     let b = c.loop-field.walker in
-    let at = (goal.at.walk-returns-clause-err g t c).After-rules-arg-1 in
+    let at = (goal.at.walk-returns g t c).After-rules-arg-1 in
     let e = c.rules.new.self in
-    IfErr-weaker c.rules.result (λ fault. g.W.Walker.stops (steps.Rule (holds_at set c.args.spot (N b)) ∷ []) b fault e)
-    (λ fault. g.W.Walker.stops (steps_of (spot_slots set c.args.spot (N e))) a fault e)
-    (λ fault h. rule_stop (laws_of g) (done g t at) (end_of g t at) e fault (same_rule _ (N b) (N e) ((laws_of g).stopped _ b e fault h))
-    (rw (holds_is set c.args.spot (N b)) at h)) c.rules.ensures.err
+    record {
+      ok = on_ok_weaker c.rules.result
+          (λ h. rule_next (laws_of g) (done g t at) (end_of g t at) e (same_rule _ (N b) (N e) ((laws_of g).keeps _ b e h))
+          (rw (holds_is set c.args.spot (N b)) at h)) c.rules.ensures.ok;
+      err = IfErr-weaker c.rules.result (λ fault. g.W.Walker.stops (steps.Rule (holds_at set c.args.spot (N b)) ∷ []) b fault e)
+          (λ fault. g.W.Walker.stops (steps_of (spot_slots set c.args.spot (N e))) a fault e)
+          (λ fault h. rule_stop (laws_of g) (done g t at) (end_of g t at) e fault (same_rule _ (N b) (N e) ((laws_of g).stopped _ b e fault h))
+          (rw (holds_is set c.args.spot (N b)) at h)) c.rules.ensures.err;
+    }
 
 -- ---- one element
 
@@ -345,27 +309,26 @@ walk_item-step-requires-in-Unused-clause-may g t c =
     let here = steps_at (described c.args.set.now) c.args.most (g.W.Cells.numbers c.args.walker.now) c.args.cell in
     c.requires.may [] [] [] _ c.args.walker.now (g.met.W.Walker.none c.args.walker.now) (ap here c.in-Unused.is)
 
-pub walk_item-walk_struct-requires : goal.walk_item-walk_struct-requires
-walk_item-walk_struct-requires g t c =
+pub walk_item-walk_element-requires : goal.walk_item-walk_element-requires
+walk_item-walk_element-requires g t c =
     let set = described c.args.set.now in
     let N = g.W.Cells.numbers in
     let is = c.in-Struct.is in
     let reaches = rw is at c.requires.reaches in
     let room = rw is at c.requires.room in
     let steps = λ (m : List ℤ). ap (steps_at set c.args.most m c.args.cell) is in
-    λ κs h. (search rules, (search rules, (search rules, (reaches, (λ ys ws zs x d k e. c.requires.may ys ws zs x d k (steps (N d) ∙ e), (room, c.requires.few))))))
+    λ κs h. (search rules, (search rules, (search rules, record { reaches = reaches; may = λ ys ws zs x d k e. c.requires.may ys ws zs x d k (steps (N d) ∙ e); room = room; few = c.requires.few })))
 
-pub walk_item-returns-in-Struct-clause-ok : goal.walk_item-returns-in-Struct-clause-ok
-walk_item-returns-in-Struct-clause-ok g t c =
+pub walk_item-returns-in-Struct : goal.walk_item-returns-in-Struct
+walk_item-returns-in-Struct g t c =
     let slots = λ (m : List ℤ). ap (λ x. item_slots (table (described c.args.set.now)) x (capacities_of c.args.most) m c.args.cell) c.in-Struct.is in
-    rw (slots (g.W.Cells.numbers c.walk_struct.new.walker)) c.walk_struct.ensures.ok
-
-pub walk_item-returns-in-Struct-clause-err : goal.walk_item-returns-in-Struct-clause-err
-walk_item-returns-in-Struct-clause-err g t c =
-    let slots = λ (m : List ℤ). ap (λ x. item_slots (table (described c.args.set.now)) x (capacities_of c.args.most) m c.args.cell) c.in-Struct.is in
-    rw (slots (g.W.Cells.numbers c.walk_struct.new.walker)) c.walk_struct.ensures.err
+    rw (slots (g.W.Cells.numbers c.walk_element.new.walker)) c.walk_element.ensures
 
 -- ---- an element of a structure
+
+pub walk_element-walk_struct-requires : goal.walk_element-walk_struct-requires
+walk_element-walk_struct-requires g t c =
+    λ κs h. (search rules, (search rules, (search rules, c.requires)))
 
 -- the slots of the structure's element are those of its fields
 slots_are : (g : Over) (t : ℕ) (c : goal.walk_struct-After-walk-arg-1 g t) (m : List ℤ)
@@ -386,12 +349,7 @@ walk_struct-walk-requires g t c =
     record { part = lt; few = c.requires.few; room = omega (arith, (struct_size set c.args.set.now.well_formed j lt)) } in
     λ κs h. (search rules, (search rules, (search rules, (spot, λ ys ws zs x d k e. c.requires.may ys ws zs x d k (ap steps_of (slots_are g t c (N d)) ∙ e)))))
 
-pub walk_struct-returns-clause-ok : goal.walk_struct-returns-clause-ok
-walk_struct-returns-clause-ok g t c =
-    let slots = slots_are g t (goal.at.walk_struct-returns-clause-ok g t c).After-walk-arg-1 (g.W.Cells.numbers c.walk.new.walker) in
-    rw slots c.walk.ensures.ok
-
-pub walk_struct-returns-clause-err : goal.walk_struct-returns-clause-err
-walk_struct-returns-clause-err g t c =
-    let slots = slots_are g t (goal.at.walk_struct-returns-clause-err g t c).After-walk-arg-1 (g.W.Cells.numbers c.walk.new.walker) in
-    rw slots c.walk.ensures.err
+pub walk_struct-returns : goal.walk_struct-returns
+walk_struct-returns g t c =
+    let slots = slots_are g t (goal.at.walk_struct-returns g t c).After-walk-arg-1 (g.W.Cells.numbers c.walk.new.walker) in
+    rw slots c.walk.ensures

@@ -5,6 +5,9 @@ use Rattle.vms_walk.proofs.fields.+walk.Given as goal
 abbrev pub decreases-walk_item : goal.decreases-walk_item
 decreases-walk_item g l = 2 * item_rank l.item.now
 
+abbrev pub decreases-walk_element : goal.decreases-walk_element
+decreases-walk_element g l = 10 * l.number + 6
+
 abbrev pub decreases-walk_struct : goal.decreases-walk_struct
 decreases-walk_struct g l = 10 * l.number + 5
 

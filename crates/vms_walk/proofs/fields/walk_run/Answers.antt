@@ -1,6 +1,6 @@
 use Rattle.vms_walk.proofs.Facade.{rules, ◌≡◌, ◌+◌, ◌-◌, ◌≤◌, refl, ◌∙◌, arith, zero, run_of}
 use Rattle.vms_walk.proofs.Going.{Laws}
-use Rattle.vms_walk.proofs.Kept.{err_is}
+use Rattle.vms_walk.proofs.Kept.{err_takes}
 use Rattle.vms_walk.proofs.Runs.{run_next, run_stop, run_may}
 use Rattle.vms_walk.proofs.fields.walk_run.Given.{Over}
 use Rattle.vms_walk.proofs.fields.walk_run.Goals as goal
@@ -46,13 +46,13 @@ run-requires-clause-may g c =
     run_may _ _ _ (laws_of g) c.args.first c.loop-cell.cell c.args.kind c.args.walker.now c.loop-cell.walker inv.from inv.way c.min-some.result c.args.count
     le g.W.Walker.may c.requires.may
 
-pub returns-in_err-run-clause-err : goal.returns-in_err-run-clause-err
-returns-in_err-run-clause-err g c =
+pub returns-in_err-run : goal.returns-in_err-run
+returns-in_err-run g c =
     let inv = c.loop-cell.invariant in
     let a = c.args.walker.now in
     let d = c.run.new.self in
     let fault = c.in_err-run.field-0.0 in
     let le : c.loop-cell.cell + c.min-some.result ≤ c.args.first + c.args.count = search rules in
-    err_is (λ fault. g.W.Walker.stops (run_of c.args.first c.args.count c.args.kind) a fault d) c.from_residual.result fault c.from_residual.ensures.1
+    err_takes g.W.Walker.goes g.W.Walker.stops (run_of c.args.first c.args.count c.args.kind) c.from_residual.result fault a d c.from_residual.ensures.1
     (run_stop _ _ _ (laws_of g) c.args.first c.loop-cell.cell c.args.kind a c.loop-cell.walker inv.from inv.way c.min-some.result c.args.count le d fault
     c.in_err-run.ensures.err)

@@ -3,8 +3,8 @@ use Rattle.vms_desc.proofs.Bounds.{few_devices, sizes_are}
 use Rattle.vms_desc.proofs.TablesMade.{heads_of}
 use Rattle.vms_desc.proofs.set.DescSet.assemble.Goals as goal
 
-pub device_defaults-requires-clause-heads : goal.device_defaults-requires-clause-heads
-device_defaults-requires-clause-heads c = heads_of c.args.parts c.as_slice-3.result.now c.as_slice-3.ensures c.in_ok-devices.ensures.heads
+pub device_defaults-requires : goal.device_defaults-requires
+device_defaults-requires c = record { well = c.requires; heads = heads_of c.args.parts c.as_slice-3.result.now c.as_slice-3.ensures c.in_ok-devices.ensures.heads }
 
 pub invariant_of-result : goal.invariant_of-result
 invariant_of-result c =

@@ -9,13 +9,10 @@ are c =
     entry_is (described c.args.self.now) c.args.self.now.defaults c.args.device c.index-as_slice-device.result c.args.self.now.at_default c.requires
     (cc (c.index-as_slice-device.is, c.as_slice.ensures))
 
-pub returns-clause-defaults : goal.returns-clause-defaults
-returns-clause-defaults c = are c
-
-pub returns-clause-few : goal.returns-clause-few
-returns-clause-few c =
+pub returns : goal.returns
+returns c =
     let set = described c.args.self.now in
     let cells = device_cells set (device_at set c.args.device) in
     let few : length (map (λ x. x.default) cells) ≤ MOST_ITEMS =
     omega (arith, few_cells set c.args.self.now.well_formed c.args.device, length-map cells (λ x. x.default)) in
-    rw (are c) few
+    record { defaults = are c; few = rw (are c) few }

@@ -13,17 +13,17 @@ found g c =
     found_field c.as_slice.result.now (desc_at set c.args.part).fields c.args.field c.index-as_slice-field.result
     (here_fields set c.args.part c.desc.result.now c.as_slice.result.now c.desc.ensures c.as_slice.ensures) c.requires.field c.index-as_slice-field.is
 
-pub number_at-requires-clause-asked : goal.number_at-requires-clause-asked
-number_at-requires-clause-asked g c =
+pub number_at-requires : goal.number_at-requires
+number_at-requires g c =
     let set = described c.args.self.now in
-    field_counts set c.args.self.now.well_formed c.args.part c.requires.part c.args.field c.requires.field (field_of c.index-as_slice-field.result)
-    (found g (goal.at.number_at-requires-clause-asked g c).After-index-as_slice-field) c.in-Counted.by c.in-Counted.capacity c.in-Counted.is c.scope-own.result c.scope-own.ensures.fields
-
-pub number_at-requires-clause-inside : goal.number_at-requires-clause-inside
-number_at-requires-clause-inside g c =
-    let set = described c.args.self.now in
-    own_inside set (desc_at set c.args.part) c.args.base c.scope-own.result
-    (g.C.Cells.numbers c.args.cells.now) c.scope-own.ensures c.requires.few c.requires.own
+    record {
+      asked = field_counts set c.args.self.now.well_formed c.args.part c.requires.part c.args.field c.requires.field (field_of c.index-as_slice-field.result)
+          (found g (goal.at.number_at-requires g c).After-index-as_slice-field) c.in-Counted.by c.in-Counted.capacity c.in-Counted.is
+          c.scope-own.result c.scope-own.ensures.fields;
+      inside = own_inside set (desc_at set c.args.part) c.args.base c.scope-own.result (g.C.Cells.numbers c.args.cells.now)
+          c.scope-own.ensures c.requires.few c.requires.own;
+      few = c.requires.few;
+    }
 
 pub returns-in-Counted : goal.returns-in-Counted
 returns-in-Counted g c =

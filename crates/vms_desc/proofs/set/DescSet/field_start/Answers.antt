@@ -6,11 +6,11 @@ pub returns : goal.returns
 returns c =
     let set = described c.args.self.now in
     rw c.as_slice.ensures
-    (start_at set (desc_at set c.args.part) (omega (arith, c.requires.few)) _ c.table.ensures.starts c.args.base c.args.field c.requires.field)
+    (start_at set (desc_at set c.args.part) (omega (arith, c.requires.few)) _ c.table.ensures.starts c.args.base c.args.field c.requires.field.field)
 
 pub overflow_add-result : goal.overflow_add-result
 overflow_add-result c =
     let set = described c.args.self.now in
     let fields = (desc_at set c.args.part).fields in
-    let here = start_at set (desc_at set c.args.part) (omega (arith, c.requires.few)) _ c.table.ensures.starts c.args.base c.args.field c.requires.field in
+    let here = start_at set (desc_at set c.args.part) (omega (arith, c.requires.few)) _ c.table.ensures.starts c.args.base c.args.field c.requires.field.field in
     rw c.as_slice.ensures (omega (arith, here, place_within (struct_cells set) fields 0 c.args.base fields c.args.field, c.requires.few))

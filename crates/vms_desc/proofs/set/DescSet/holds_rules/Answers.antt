@@ -3,17 +3,17 @@ use Rattle.vms_desc.proofs.EvalLaws.{own_inside}
 use Rattle.vms_desc.proofs.AskLaws.{rules_name, same_rules}
 use Rattle.vms_desc.proofs.set.DescSet.holds_rules.Goals as goal
 
-pub all_hold-requires-clause-names : goal.all_hold-requires-clause-names
-all_hold-requires-clause-names g c =
+pub all_hold-requires : goal.all_hold-requires
+all_hold-requires g c =
     let set = described c.args.self.now in
     let tests : map formula c.as_slice-tests.result.now ≡ (desc_at set c.args.part).validate =
     ap (map formula) c.as_slice-tests.ensures ∙ ap (λ (d : Desc). d.validate) c.desc.ensures in
-    rules_name set c.args.self.now.well_formed c.args.part c.requires.part c.scope.result c.scope.ensures.fields (map formula c.as_slice-tests.result.now) tests
-
-pub all_hold-requires-clause-own : goal.all_hold-requires-clause-own
-all_hold-requires-clause-own g c =
-    let set = described c.args.self.now in
-    own_inside set (desc_at set c.args.part) c.args.base c.scope.result (g.C.Cells.numbers c.args.cells.now) c.scope.ensures c.requires.few c.requires.own
+    record {
+      names = rules_name set c.args.self.now.well_formed c.args.part c.requires.part c.scope.result c.scope.ensures.fields
+          (map formula c.as_slice-tests.result.now) tests;
+      own = own_inside set (desc_at set c.args.part) c.args.base c.scope.result (g.C.Cells.numbers c.args.cells.now) c.scope.ensures c.requires.few c.requires.own;
+      few = c.requires.few;
+    }
 
 pub returns : goal.returns
 returns g c =

@@ -1,7 +1,6 @@
 use Rattle.vms_desc.proofs.Facade.{◌≡◌, ◌∙◌, sym, ap, Option, Some, option_map, Field, Formula, is_there, no_parent, field_of, formula, formula_in, field_at}
 use Rattle.vms_desc.proofs.Facade.{own_numbers, described, desc_at}
-use Rattle.vms_desc.proofs.EvalLaws.{own_inside}
-use Rattle.vms_desc.proofs.AskLaws.{here_fields, found_field, field_names, same_truth}
+use Rattle.vms_desc.proofs.AskLaws.{here_fields, found_field, field_names}
 use Rattle.vms_desc.proofs.set.DescSet.is_there.Given.{Over}
 use Rattle.vms_desc.proofs.set.DescSet.is_there.Goals.{After-deref}
 use Rattle.vms_desc.proofs.set.DescSet.is_there.Goals as goal
@@ -21,16 +20,16 @@ is_here g c =
       test = ap (option_map formula_in) c.in-Some.is ∙ ap (λ t. Some (formula t)) (sym c.deref.ensures);
     }
 
-pub holds-requires-clause-names : goal.holds-requires-clause-names
-holds-requires-clause-names g c =
-    let here = is_here g (goal.at.holds-requires-clause-names g c).After-deref in
-    field_names (described c.args.self.now) c.args.self.now.well_formed c.args.part c.requires.part c.args.field c.requires.field
-    (field_of c.index-as_slice-field.result) here.found (formula c.deref.result.now) here.test c.scope.result c.scope.ensures.fields
-
-pub holds-requires-clause-own : goal.holds-requires-clause-own
-holds-requires-clause-own g c =
-    let set = described c.args.self.now in
-    own_inside set (desc_at set c.args.part) c.args.base c.scope.result (g.C.Cells.numbers c.args.cells.now) c.scope.ensures c.requires.few c.requires.own
+pub holds_test-requires : goal.holds_test-requires
+holds_test-requires g c =
+    let here = is_here g (goal.at.holds_test-requires g c).After-deref in
+    record {
+      part = c.requires.part;
+      names = field_names (described c.args.self.now) c.args.self.now.well_formed c.args.part c.requires.part c.args.field c.requires.field
+          (field_of c.index-as_slice-field.result) here.found (formula c.deref.result.now) here.test;
+      few = c.requires.few;
+      own = c.requires.own;
+    }
 
 pub returns-in-Some : goal.returns-in-Some
 returns-in-Some g c =
@@ -38,7 +37,6 @@ returns-in-Some g c =
     let numbers = g.C.Cells.numbers c.args.cells.now in
     let here = is_here g (goal.at.returns-in-Some g c).After-deref in
     let formulas : Some (formula c.deref.result.now) ≡ (field_at set c.args.part c.args.field).test = sym here.test ∙ ap (λ (x : Field). x.test) here.found in
-    c.holds.ensures ∙ same_truth set c.args.part c.args.base c.scope.result numbers c.scope.ensures c.requires.few c.requires.own
-    (formula c.deref.result.now) c.args.version
+    c.holds_test.ensures
     ∙ ap (λ (t : Option Formula). is_there t (field_at set c.args.part c.args.field).since c.args.version
     (own_numbers set c.args.part numbers c.args.base) no_parent) formulas
