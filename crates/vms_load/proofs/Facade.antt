@@ -109,6 +109,7 @@ pub use Rattle.vms_io.specs.Reading.{Breaks, Last, MayFollow, On}
 pub use Rattle.vms_io.specs.Told.{Intake, intake}
 pub use Rattle.vms_load.specs.Bodies.{AreOfKinds, HasMoved, IsOfKind, ReadsCapped, ReadsConstant, TakesAs, TakesOn, progress}
 pub use Rattle.vms_load.specs.Bounds.{desc_bytes, field_bytes, fields_bytes, item_bytes, struct_bytes}
+pub use Rattle.vms_load.specs.Calls.{section_due}
 pub use Rattle.vms_load.specs.Exact.{EndsAtUnit, ExactLaw, GivesStream, IsRefusedAt, UnitLaw}
 pub use Rattle.vms_load.specs.Going.{GoesBehind, GoesOn, GoesSoFar, GoesThrough, IsSpent, LoadReads, course, fault_course}
 pub use Rattle.vms_load.specs.Good.{AreKept, IsKept}

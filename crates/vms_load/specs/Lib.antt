@@ -1,5 +1,6 @@
 pub mod Bodies
 pub mod Bounds
+pub mod Calls
 pub mod Exact
 pub mod Going
 pub mod Good

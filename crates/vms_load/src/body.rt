@@ -1,16 +1,6 @@
 // Reads the fields and checks the validations of a part, step by step.
-ghost use Rattle.std.specs.Prelude.{◌≡◌, ◌∷◌, [], List, ℤ, None, OnOk, OnErr, IfErr};
-ghost use Rattle.vms_desc.specs.Described.{described};
-ghost use Rattle.vms_desc.specs.Parts.{desc_at};
 ghost use Rattle.vms_io.specs.Told.{intake};
-ghost use Rattle.vms_spec.specs.Taking.{take_slot};
-ghost use Rattle.vms_walk.specs.Inside.{Keeps};
-ghost use Rattle.vms_walk.specs.Steps.{HasSpot, steps_of, spot_slots};
-ghost use Rattle.vms_load.specs.Bodies.{TakesOn, progress};
-ghost use Rattle.vms_load.specs.Bodies.{FitsStep, AreOfKinds};
-ghost use Rattle.vms_load.specs.Parts.{bytes_of};
-ghost use Rattle.vms_load.specs.Reading.{slot_of, step_long, told, Took, Failed};
-ghost use Rattle.vms_load.specs.Reads.{MayTake};
+ghost use Rattle.vms_load.specs.Calls.{CanReadPart, CanTakeStep, ReadsPart, TakesStep, input};
 
 use crate::items::{constant, number, rule};
 use vms_desc::{Cells, DescSet};
@@ -34,20 +24,10 @@ pub(crate) fn read_part<S: Source>(
     cursor: &mut Cursor,
     source: &mut S,
 ) -> Result<(), FrameFault>
-    requires spot { HasSpot (described set.now) spot image.old.numbers }
-    requires kinds { (numbers : List ℤ)
-        → AreOfKinds image.old.kinds (spot_slots (described set.now) spot numbers) }
-    requires cursor { MayTake
-        (bytes_of (described set.now) (desc_at (described set.now) spot.part)) cursor.old }
-    ensures ok { let steps = steps_of (spot_slots (described set.now) spot image.new.numbers) in
-        let old = told image.old cursor.old.at (intake S.Source source.old) in
-        let new = told image.new cursor.new.at (intake S.Source source.new) in
-        OnOk result (Took steps old new) }
-    ensures held { OnOk result (cursor.new.held ≡ None) }
-    ensures err { let steps = steps_of (spot_slots (described set.now) spot image.new.numbers) in
-        let old = told image.old cursor.old.at (intake S.Source source.old) in
-        let new = told image.new cursor.new.at (intake S.Source source.new) in
-        IfErr result (λ fault. Failed steps old fault new) }
+    requires { CanReadPart set.now spot image.old cursor.old }
+    ensures { let from = input cursor.old (intake S.Source source.old) in
+        let to = input cursor.new (intake S.Source source.new) in
+        ReadsPart set.now spot image.old image.new from to result }
 {
     let mut reader = Reader {
         image,
@@ -152,16 +132,10 @@ fn read_step<S: Source>(
     cursor: &mut Cursor,
     source: &mut S,
 ) -> Result<(), FrameFault>
-    requires step { FitsStep image.old step }
-    requires cursor { MayTake 0 cursor.old }
-    ensures reads { TakesOn (intake S.Source source.old) (intake S.Source source.new)
-        (step_long step) cursor.old.at cursor.new.at
-        (λ rest. take_slot (slot_of step) (progress image.old.numbers cursor.old.at rest))
-        image.new.numbers result }
-    ensures held { OnOk result (cursor.new.held ≡ None) }
-    ensures kept { image.new ≡ record image.old { numbers = image.new.numbers } }
-    ensures keeps { Keeps (step ∷ []) image.old.numbers image.new.numbers }
-    ensures stopped { OnErr result (image.new ≡ image.old) }
+    requires { CanTakeStep image.old step cursor.old }
+    ensures { let from = input cursor.old (intake S.Source source.old) in
+        let to = input cursor.new (intake S.Source source.new) in
+        TakesStep step image.old image.new from to result }
 {
     match step {
         WalkStep::Number { cell, kind, most } => {

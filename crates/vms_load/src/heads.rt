@@ -1,12 +1,8 @@
 // What the heads of sections and subsections open.
-ghost use Rattle.std.specs.List.{slice_get};
-ghost use Rattle.std.specs.Prelude.{◌≡◌, ℕ, ◌<◌, ◌≤◌, ◌^◌, length, false, Some, IfOk, IfErr};
-ghost use Rattle.vms_spec.specs.declared.TheConstants.{LONGEST_NAME};
-ghost use Rattle.vms_spec.specs.Lookup.{find_sub};
-ghost use Rattle.vms_desc.specs.Described.{described};
+ghost use Rattle.std.specs.Prelude.{◌≡◌};
 ghost use Rattle.vms_parts.specs.Views.{desc_of, device_of, sub_of};
-ghost use Rattle.vms_load.specs.Reads.{IsRefused};
-ghost use Rattle.vms_load.specs.Heads.{section_opened, sub_opened, in_section, opened_at, reason_against, reason_against_version, reason_against_sub};
+ghost use Rattle.vms_load.specs.Calls.{AreOfDevices, HasSubs, OpensSection, OpensSub};
+ghost use Rattle.vms_load.specs.Heads.{reason_against, reason_against_version, reason_against_sub};
 
 use crate::LoadFault;
 use crate::fault::refused;
@@ -28,13 +24,8 @@ pub(crate) fn open_section(
     head: &Head,
     at: u64,
 ) -> Result<u32, LoadFault>
-    requires { length came.now ≡ length (described set.now).devices }
-    ensures short { length head.now.name.items ≤ LONGEST_NAME }
-    ensures refused { IfErr result IsRefused }
-    ensures fresh { IfOk result (λ k. (k < length (described set.now).devices)
-        × (slice_get came.now k ≡ Some false)) }
-    ensures opened { result ≡ opened_at at (section_opened (described set.now) came.now
-        head.now.name.items head.now.instance head.now.version) }
+    requires { AreOfDevices set.now came.now }
+    ensures { OpensSection set.now came.now head.now at result }
 {
     let number = match set.find(&head.name, head.instance) {
         None => return Err(refused(None, at, Reason::UnknownSection)),
@@ -81,11 +72,8 @@ pub(crate) fn open_sub(
     name: &Name,
     version: u32,
 ) -> Result<u32, Reason>
-    requires long { length image.now.came ≡ length (device_of device.now).subs }
-    requires few { length (device_of device.now).subs < 2 ^ 32 }
-    ensures short { length name.now.items ≤ LONGEST_NAME }
-    ensures opened { (k : ℕ) → in_section k result
-        ≡ sub_opened k (device_of device.now) image.now.came name.now.items version }
+    requires { HasSubs device.now image.now }
+    ensures { OpensSub device.now image.now name.now.items version result }
 {
     let sub = match find_sub(device.subs.as_slice(), name) {
         None => return Err(Reason::UnknownSubsection),

@@ -1,11 +1,8 @@
 // Numbers, constants and validations, each with its check.
-ghost use Rattle.std.specs.Prelude.{◌≡◌, ◌+◌, true, false, OnOk, IfOk, IfErr, None};
-ghost use Rattle.vms_kinds.specs.Codes.{InRange, width};
+ghost use Rattle.std.specs.Prelude.{◌≡◌, true, false, OnOk, IfErr};
 ghost use Rattle.vms_io.specs.Told.{intake};
-ghost use Rattle.vms_frames.specs.Reads.{ReadsAs};
-ghost use Rattle.vms_load.specs.Bodies.{ReadsCapped, ReadsConstant};
+ghost use Rattle.vms_load.specs.Calls.{TakesConstant, TakesNumber, input};
 ghost use Rattle.vms_load.specs.Reads.{MayTake};
-ghost use Rattle.vms_walk.specs.Steps.{capacities_of};
 
 use vms_frames::{Cursor, FrameFault};
 use vms_io::Source;
@@ -30,12 +27,9 @@ pub(crate) fn number<S: Source>(
     most: Option<u32>,
 ) -> Result<i128, FrameFault>
     requires { MayTake 0 cursor.old }
-    ensures range { IfOk result (InRange kind) }
-    ensures reads { ReadsAs (intake S.Source source.old) (intake S.Source source.new)
-        (λ _. width kind) (width kind) (ReadsCapped kind (capacities_of most) cursor.old.at)
-        result }
-    ensures place { OnOk result (cursor.new.at ≡ cursor.old.at + width kind) }
-    ensures held { OnOk result (cursor.new.held ≡ None) }
+    ensures { let from = input cursor.old (intake S.Source source.old) in
+        let to = input cursor.new (intake S.Source source.new) in
+        TakesNumber kind most from to result }
 {
     let at = cursor.at();
     let value = cursor.number(source, kind)?;
@@ -61,10 +55,9 @@ pub(crate) fn constant<S: Source>(
     value: i128,
 ) -> Result<(), FrameFault>
     requires { MayTake 0 cursor.old }
-    ensures reads { ReadsAs (intake S.Source source.old) (intake S.Source source.new)
-        (λ _. width kind) (width kind) (ReadsConstant kind value cursor.old.at) result }
-    ensures place { OnOk result (cursor.new.at ≡ cursor.old.at + width kind) }
-    ensures held { OnOk result (cursor.new.held ≡ None) }
+    ensures { let from = input cursor.old (intake S.Source source.old) in
+        let to = input cursor.new (intake S.Source source.new) in
+        TakesConstant kind value from to result }
 {
     let at = cursor.at();
     let found = cursor.number(source, kind)?;

@@ -2,7 +2,7 @@
 ghost use Rattle.std.specs.Prelude.{◌≡◌, ◌<◌, map, IfOk, OnOk, OnErr};
 ghost use Rattle.vms_spec.specs.Images.{default_image};
 ghost use Rattle.vms_parts.specs.Views.{set_of};
-ghost use Rattle.vms_desc.specs.Described.{described};
+ghost use Rattle.vms_load.specs.Calls.{IsRoom};
 ghost use Rattle.vms_load.specs.Good.{AreKept, kept_once};
 ghost use Rattle.vms_image.specs.Typed.{AreImagesOf, state_of as untyped};
 ghost use Rattle.vms_load.specs.Staging.{AreShaped};
@@ -128,10 +128,7 @@ impl Loader {
 
 // Returns the images that a loader of `set` keeps at first, and room for what it reads.
 fn room(alloc: Global, set: &DescSet) -> Result<(Vec<Image>, Staged), NoMemory>
-    ensures states { let set = described set.now in IfOk result (λ room.
-        map untyped room.0.items ≡ map (default_image set) set.devices) }
-    ensures shaped { IfOk result (λ room. AreShaped (described set.now) room.0.items) }
-    ensures spare { IfOk result (λ room. AreShaped (described set.now) room.1.images.items) }
+    ensures { IfOk result (λ room. IsRoom set.now room.0.items room.1) }
 {
     let images = default_images(alloc, set)?;
     Ok((images, spare_room(alloc, set)?))

@@ -1,16 +1,8 @@
 // The parts of a section: the device's own fields, and subsections.
-ghost use Rattle.std.specs.Prelude.{◌≡◌, ◌+◌, ◌<◌, ℕ, List, Option, Some, None, length, IfOk, OnOk};
-ghost use Rattle.vms_stream.specs.State.{State};
-ghost use Rattle.vms_desc.specs.Described.{described};
-ghost use Rattle.vms_parts.specs.Devices.{device_at};
-ghost use Rattle.vms_image.specs.Typed.{IsImageOf, state_of as untyped};
+ghost use Rattle.std.specs.Prelude.{◌≡◌};
 ghost use Rattle.vms_io.specs.Told.{intake};
-ghost use Rattle.vms_load.specs.Going.{GoesOn, Moves};
-ghost use Rattle.vms_load.specs.Reads.{MayTake};
-ghost use Rattle.vms_load.specs.Parts.{IsOfDevice, IsOpen, HasNewNumbers, IsNextPart, IsSame, part_of, part_due, bytes_of_part, subs_due, in_fields, after_fields, after_part};
-ghost use Rattle.vms_marks.specs.declared.foot.TheConstants.{FOOT_LENGTH};
-ghost use Rattle.vms_marks.specs.declared.head.TheConstants.{LONGEST_HEAD};
-ghost use Rattle.vms_marks.specs.declared.sub_head.TheConstants.{LONGEST_SUB_HEAD};
+ghost use Rattle.vms_load.specs.Calls.{CanReadAfter, CanReadFields, CanReadSection, ReadsAfter, ReadsFields, ReadsSection, input};
+ghost use Rattle.vms_load.specs.Parts.{part_of};
 
 use crate::LoadFault;
 use crate::body::read_part;
@@ -57,22 +49,10 @@ fn read_fields<S: Source>(
     cursor: &mut Cursor,
     source: &mut S,
 ) -> Result<(), LoadFault>
-    requires image { IsOfDevice (described set.now) section.device image.old }
-    requires open { IsOpen (device_at (described set.now) section.device) (untyped image.old)
-        part.sub part.version }
-    requires cursor { MayTake (bytes_of_part (described set.now)
-        (device_at (described set.now) section.device) part.sub) cursor.old }
-    ensures reads { (names : List (List ℕ)) (state : State) → section.device < length state.images
-        → GoesOn (intake S.Source source.old) (intake S.Source source.new)
-        (bytes_of_part (described set.now) (device_at (described set.now) section.device) part.sub)
-        (in_fields (described set.now) names state section part.sub (untyped image.old))
-        (λ _. after_fields (described set.now) names state section part.sub (untyped image.new))
-        cursor.old cursor.new result }
-    ensures held { OnOk result (cursor.new.held ≡ None) }
-    ensures moves { Moves cursor.old cursor.new
-        (bytes_of_part (described set.now) (device_at (described set.now) section.device) part.sub)
-        (λ _. 0) result }
-    ensures image { HasNewNumbers image.old image.new }
+    requires { CanReadFields set.now section part image.old cursor.old }
+    ensures { let from = input cursor.old (intake S.Source source.old) in
+        let to = input cursor.new (intake S.Source source.new) in
+        ReadsFields set.now section part image.old image.new from to result }
 {
     let number = part_of(section.device, part.sub);
     let base = set.first_cell(number);
@@ -96,26 +76,10 @@ fn read_after_fields<S: Source>(
     cursor: &mut Cursor,
     source: &mut S,
 ) -> Result<Option<Open>, LoadFault>
-    requires image { IsOfDevice (described set.now) section.old.device image.old }
-    requires cursor { MayTake 0 cursor.old }
-    ensures reads { (names : List (List ℕ)) (state : State) (part : Option ℕ)
-        → section.old.device < length state.images
-        → GoesOn (intake S.Source source.old) (intake S.Source source.new) LONGEST_SUB_HEAD
-        (after_fields (described set.now) names state section.old part (untyped image.old))
-        (after_part (described set.now) names state section.new (untyped image.new)) cursor.old
-        cursor.new result }
-    ensures section { IsSame section.old section.new }
-    ensures next { IfOk result
-        (IsNextPart (device_at (described set.now) section.old.device) cursor.old cursor.new
-        image.new) }
-    ensures moves { Moves cursor.old cursor.new
-        (subs_due (described set.now)
-        (device_at (described set.now) section.old.device).subs image.old.came
-        + FOOT_LENGTH)
-        (part_due (described set.now)
-        (device_at (described set.now) section.old.device) image.new.came)
-        result }
-    ensures shaped { IsImageOf (described set.now) section.old.device image.new }
+    requires { CanReadAfter set.now section.old image.old cursor.old }
+    ensures { let from = input cursor.old (intake S.Source source.old) in
+        let to = input cursor.new (intake S.Source source.new) in
+        ReadsAfter set.now section.old section.new image.old image.new from to result }
 {
     let at = cursor.at();
     match cursor.after_fields(source, section.id, section.tail) {
@@ -155,26 +119,10 @@ pub(crate) fn read_section<S: Source>(
     cursor: &mut Cursor,
     source: &mut S,
 ) -> Result<(), LoadFault>
-    requires image { IsOfDevice (described set.now) section.old.device image.old }
-    requires cursor { MayTake
-        (part_due (described set.now) (device_at (described set.now) section.old.device)
-        image.old.came (Some (record { sub = None; version = image.old.version })))
-        cursor.old }
-    ensures reads { (names : List (List ℕ)) (state : State)
-        → section.old.device < length state.images
-        → GoesOn (intake S.Source source.old) (intake S.Source source.new)
-        (part_due (described set.now) (device_at (described set.now) section.old.device)
-        image.old.came (Some (record { sub = None; version = image.old.version }))
-        + LONGEST_HEAD)
-        (in_fields (described set.now) names state section.old None (untyped image.old))
-        (λ _. after_part (described set.now) names state section.new (untyped image.new) None)
-        cursor.old cursor.new result }
-    ensures section { IsSame section.old section.new }
-    ensures moves { Moves cursor.old cursor.new
-        (part_due (described set.now) (device_at (described set.now) section.old.device)
-        image.old.came (Some (record { sub = None; version = image.old.version })))
-        (λ _. 0) result }
-    ensures shaped { IsImageOf (described set.now) section.old.device image.new }
+    requires { CanReadSection set.now section.old image.old cursor.old }
+    ensures { let from = input cursor.old (intake S.Source source.old) in
+        let to = input cursor.new (intake S.Source source.new) in
+        ReadsSection set.now section.old section.new image.old image.new from to result }
 {
     let mut next = Some(Open {
         sub: None,

@@ -1,17 +1,9 @@
 // What has been read of a stream so far.
-ghost use Rattle.std.specs.Prelude.{◌≡◌, ◌<◌, ◌≤◌, ◌+◌, ◌^◌, Bool, not, true, false, ℕ, List, length, get_or, map, replicate, IfErr, IfOk, Some, None};
-ghost use Rattle.vms_spec.specs.declared.TheConstants.{LONGEST_NAME};
-ghost use Rattle.vms_marks.specs.declared.configuration.TheConstants.{CONFIGURATION_FRONT};
-ghost use Rattle.vms_spec.specs.Sets.{Set};
-ghost use Rattle.vms_spec.specs.Images.{default_image};
+ghost use Rattle.std.specs.Prelude.{◌≡◌, ◌<◌, ◌≤◌, ◌^◌, not, false, length, replicate, IfOk};
 ghost use Rattle.vms_spec.specs.Lists.{position};
-ghost use Rattle.vms_spec.specs.Units.{Configuration, End};
-ghost use Rattle.vms_stream.specs.Judged.{ask};
-ghost use Rattle.vms_stream.specs.State.{Before, Free, at_start};
 ghost use Rattle.vms_desc.specs.Described.{described};
-ghost use Rattle.vms_image.specs.Typed.{AreImagesOf, default_at, state_of as untyped};
-ghost use Rattle.vms_load.specs.Reads.{Settles, IsRefused};
-ghost use Rattle.vms_load.specs.Staging.{AreShaped, IsOf, CanConfigure, HasBegun, IsMachine, IsAccepted, accepted_of, no_image, state_of, spot_at};
+ghost use Rattle.vms_load.specs.Calls.{AreDefaults, AreReset, CanConfigureBy, CanFind, Configures, Ends, HasImages, IsRestarted, MayBegin};
+ghost use Rattle.vms_load.specs.Staging.{AreShaped, HasBegun, IsAccepted};
 
 use crate::LoadFault;
 use crate::fault::refused;
@@ -43,10 +35,7 @@ pub(crate) struct Staged {
 ///
 /// - [`NoMemory`]: out of memory.
 pub fn default_images(alloc: Global, set: &DescSet) -> Result<Vec<Image>, NoMemory>
-    ensures states { let set = described set.now in
-        IfOk result (λ images. map untyped images.items ≡ map (default_image set) set.devices) }
-    ensures shaped { IfOk result (λ images. AreShaped (described set.now) images.items) }
-    ensures of { IfOk result (λ images. AreImagesOf (described set.now) images.items) }
+    ensures { IfOk result (λ images. AreDefaults set.now images.items) }
 {
     let devices = set.parts().devices.as_slice().len();
     let mut images = Vec::with_capacity(alloc, devices)?;
@@ -62,7 +51,7 @@ pub fn default_images(alloc: Global, set: &DescSet) -> Result<Vec<Image>, NoMemo
 ///
 /// - [`NoMemory`]: out of memory.
 pub(crate) fn spare_room(alloc: Global, set: &DescSet) -> Result<Staged, NoMemory>
-    ensures { IfOk result (λ staged. AreShaped (described set.now) staged.images.items) }
+    ensures { IfOk result (HasImages set.now) }
 {
     Ok(Staged {
         images: default_images(alloc, set)?,
@@ -74,9 +63,8 @@ pub(crate) fn spare_room(alloc: Global, set: &DescSet) -> Result<Staged, NoMemor
 
 /// Makes `staged` the state before a stream: no device has come.
 pub(crate) fn restart(set: &DescSet, staged: &mut Staged)
-    requires { AreShaped (described set.now) staged.old.images.items }
-    ensures state { state_of (described set.now) staged.new Before ≡ at_start (described set.now) }
-    ensures whole { IsOf (described set.now) staged.new }
+    requires { HasImages set.now staged.old }
+    ensures { IsRestarted set.now staged.new }
 {
     reset(set, &mut staged.images);
     staged.came = none_came(set.parts().devices.as_slice().len());
@@ -87,11 +75,7 @@ pub(crate) fn restart(set: &DescSet, staged: &mut Staged)
 // Sets each image to what `Image::new` gives.
 fn reset(set: &DescSet, images: &mut [Image])
     requires { AreShaped (described set.now) images.old }
-    ensures states { let set = described set.now in
-        map untyped images.new ≡ map (default_image set) set.devices }
-    ensures shaped { AreShaped (described set.now) images.new }
-    ensures each { (k : ℕ) → k < length images.new
-        → get_or images.new k no_image ≡ default_at (described set.now) k }
+    ensures { AreReset set.now images.new }
 {
     for device in 0..images.len() {
         images[device].reset(set, device as u32);
@@ -112,8 +96,7 @@ fn none_came(devices: usize) -> ArrayVec<bool, 64>
 
 /// Begins the section of `device` at `version`, and marks the device as come.
 pub(crate) fn begin_section(staged: &mut Staged, device: u32, version: u32)
-    requires image { device < length staged.old.images.items }
-    requires device { device < length staged.old.came.items }
+    requires { MayBegin staged.old device }
     ensures { HasBegun staged.old device version staged.new }
 {
     staged.came[device as usize] = true;
@@ -133,22 +116,8 @@ pub(crate) fn configure(
     name: &Name,
     at: u64,
 ) -> Result<Option<Between>, LoadFault>
-    requires set { CanConfigure (described set.now) only staged.old }
-    ensures next { IfOk result (λ next. next ≡ Some Between.AfterConfiguration) }
-    ensures short { length name.now.items ≤ LONGEST_NAME }
-    ensures refused { IfErr result IsRefused }
-    ensures settles { (first after : Bool)
-        → Settles
-        (ask (described set.now) (accepted_of (described set.now) only)
-        (state_of (described set.now) staged.old (Free first after))
-        (Configuration name.now.items) (CONFIGURATION_FRONT + length name.now.items))
-        at (λ next. state_of (described set.now) staged.new (spot_at next))
-        (CONFIGURATION_FRONT + length name.now.items) result }
-    ensures kept { staged.new ≡ record staged.old {
-      machine = staged.new.machine;
-      tail = staged.new.tail;
-    } }
-    ensures whole { IsOf (described set.now) staged.new }
+    requires set { CanConfigureBy set.now only staged.old }
+    ensures { Configures set.now only staged.old staged.new name.now.items at result }
 {
     match machine_of(set.parts().machines.as_slice(), only, name) {
         None => Err(refused(None, at, Reason::WrongMachine)),
@@ -162,8 +131,7 @@ pub(crate) fn configure(
 
 // Returns the number of the accepted machine `name`, if there is one.
 fn machine_of(machines: &[Text], only: Option<u32>, name: &[u8]) -> Option<u32>
-    requires few { length machines.now < 2 ^ 32 }
-    requires machine { IsMachine machines.now only }
+    requires { CanFind machines.now only }
     ensures { IsAccepted machines.now only name.now result }
 {
     match only {
@@ -180,11 +148,7 @@ fn machine_of(machines: &[Text], only: Option<u32>, name: &[u8]) -> Option<u32>
 ///
 /// - [`LoadFault::Refused`]: `MissingSection`, for the first device that hasn't come.
 pub(crate) fn take_end_mark(staged: &Staged, at: u64) -> Result<Option<Between>, LoadFault>
-    ensures next { IfOk result (λ next. next ≡ None) }
-    ensures refused { IfErr result IsRefused }
-    ensures settles { (set : Set) (names : List (List ℕ)) (first after : Bool)
-        → Settles (ask set names (state_of set staged.now (Free first after)) End 1) at
-        (λ next. state_of set staged.now (spot_at next)) 1 result }
+    ensures { Ends staged.now at result }
 {
     match first_missing(&staged.came) {
         None => Ok(None),

@@ -18,33 +18,45 @@ set-requires-clause-range g c =
     let of_kind = rw c.in-Number.is at c.requires.step.of_kind in
     rw (to_z-of_z w128 c.in_ok-number-in-Number.number (search rules)) (rw of_kind c.in_ok-number-in-Number.ensures.range)
 
-pub returns-in_err-number-in-Number-clause-reads : goal.returns-in_err-number-in-Number-clause-reads
-returns-in_err-number-in-Number-clause-reads g c =
+pub returns-in_err-number-in-Number : goal.returns-in_err-number-in-Number
+returns-in_err-number-in-Number g c =
     let numbers = c.args.image.now.numbers in
     let at = c.args.cursor.now.at in
     let p = err_from_is_err_and c.from_residual.result c.from_residual.ensures.1 in
     let P : WalkStep → Type 0 = λ x. TakesOn (intake g.S.Source c.args.source.now) (intake g.S.Source c.number.new.source) (step_long x) at c.number.new.cursor.at
     (λ rest. take_slot (slot_of x) (progress numbers at rest)) numbers c.from_residual.result in
-    subst P (sym c.in-Number.is)
-    (rw (p.1, p.2)
-    (reads_as (λ n l. (l, tt)) (λ rest left h. number_err rest (Some left) at _ numbers c.in-Number.kind (capacities_of c.in-Number.most) c.in-Number.cell _ _ h) c.in_err-number-in-Number.ensures.reads))
+    record {
+      reads = subst P (sym c.in-Number.is)
+          (rw (p.1, p.2)
+          (reads_as (λ n l. (l, tt)) (λ rest left h. number_err rest (Some left) at _ numbers c.in-Number.kind (capacities_of c.in-Number.most) c.in-Number.cell _ _ h) c.in_err-number-in-Number.ensures.reads));
+      held = search rules;
+      kept = search rules;
+      keeps = search rules;
+      stopped = search rules;
+    }
 
-pub returns-in_ok-number-in-Number-clause-reads : goal.returns-in_ok-number-in-Number-clause-reads
-returns-in_ok-number-in-Number-clause-reads g c =
+pub returns-in_ok-number-in-Number : goal.returns-in_ok-number-in-Number
+returns-in_ok-number-in-Number g c =
     let numbers = c.args.image.now.numbers in
     let at = c.args.cursor.now.at in
     let to = c.number.new.cursor.at in
     let z = c.in_ok-number-in-Number.number in
     let P : WalkStep → Type 0 = λ x. TakesOn (intake g.S.Source c.args.source.now) (intake g.S.Source c.number.new.source) (step_long x) at to
     (λ rest. take_slot (slot_of x) (progress numbers at rest)) c.set.new.self.numbers (Ok tt) in
-    subst P (sym c.in-Number.is)
-    (rw (c.set.ensures, to_z-of_z w128 z (search rules))
-    (reads_as (λ n l. (omega (arith, l), omega (arith, l, c.in_ok-number-in-Number.ensures.place)))
-    (λ rest left h. number_ok rest (Some left) at to numbers c.in-Number.kind (capacities_of c.in-Number.most) c.in-Number.cell z c.in_ok-number-in-Number.ensures.place h)
-    c.in_ok-number-in-Number.ensures.reads))
+    record {
+      reads = subst P (sym c.in-Number.is)
+          (rw (c.set.ensures, to_z-of_z w128 z (search rules))
+          (reads_as (λ n l. (omega (arith, l), omega (arith, l, c.in_ok-number-in-Number.ensures.place)))
+          (λ rest left h. number_ok rest (Some left) at to numbers c.in-Number.kind (capacities_of c.in-Number.most) c.in-Number.cell z c.in_ok-number-in-Number.ensures.place h)
+          c.in_ok-number-in-Number.ensures.reads));
+      held = search rules;
+      kept = search rules;
+      keeps = search rules;
+      stopped = search rules;
+    }
 
-pub returns-in-Constant-clause-reads : goal.returns-in-Constant-clause-reads
-returns-in-Constant-clause-reads g c =
+pub returns-in-Constant : goal.returns-in-Constant
+returns-in-Constant g c =
     let kind = c.in-Constant.kind in
     let z = c.in-Constant.value in
     let numbers = c.args.image.now.numbers in
@@ -52,24 +64,42 @@ returns-in-Constant-clause-reads g c =
     let to = c.constant.new.cursor.at in
     let f : SFits w128 z = search rules in
     let P : WalkStep → Type 0 = λ x. TakesOn (intake g.S.Source c.args.source.now) (intake g.S.Source c.constant.new.source) (step_long x) at to (λ rest. take_slot (slot_of x) (progress numbers at rest)) numbers c.constant.result in
-    subst P (sym c.in-Constant.is)
-    (reads_as (λ n l. moved _ at to c.constant.result n c.constant.ensures.place l)
-    (λ rest left h. constant_taken rest (Some left) at to numbers kind z c.constant.result c.constant.ensures.place h) (rw (to_z-of_z w128 z f) at c.constant.ensures.reads))
+    record {
+      reads = subst P (sym c.in-Constant.is)
+          (reads_as (λ n l. moved _ at to c.constant.result n c.constant.ensures.place l)
+          (λ rest left h. constant_taken rest (Some left) at to numbers kind z c.constant.result c.constant.ensures.place h) (rw (to_z-of_z w128 z f) at c.constant.ensures.reads));
+      held = search rules;
+      kept = search rules;
+      keeps = search rules;
+      stopped = search rules;
+    }
 
-pub returns-in-Filler-clause-reads : goal.returns-in-Filler-clause-reads
-returns-in-Filler-clause-reads g c =
+pub returns-in-Filler : goal.returns-in-Filler
+returns-in-Filler g c =
     let n = c.in-Filler.bytes in
     let numbers = c.args.image.now.numbers in
     let at = c.args.cursor.now.at in
     let to = c.skip.new.self.at in
     let P : WalkStep → Type 0 = λ x. TakesOn (intake g.S.Source c.args.source.now) (intake g.S.Source c.skip.new.source) (step_long x) at to (λ rest. take_slot (slot_of x) (progress numbers at rest)) numbers c.skip.result in
-    subst P (sym c.in-Filler.is)
-    (reads_as (λ k l. moved n at to c.skip.result k c.skip.ensures.place l) (λ rest left h. filler_taken rest (Some left) at to numbers n c.skip.result c.skip.ensures.place h) c.skip.ensures.reads)
+    record {
+      reads = subst P (sym c.in-Filler.is)
+          (reads_as (λ k l. moved n at to c.skip.result k c.skip.ensures.place l) (λ rest left h. filler_taken rest (Some left) at to numbers n c.skip.result c.skip.ensures.place h) c.skip.ensures.reads);
+      held = search rules;
+      kept = search rules;
+      keeps = search rules;
+      stopped = search rules;
+    }
 
-pub returns-in-Rule-clause-reads : goal.returns-in-Rule-clause-reads
-returns-in-Rule-clause-reads g c =
+pub returns-in-Rule : goal.returns-in-Rule
+returns-in-Rule g c =
     let now = intake g.S.Source c.args.source.now in
     let numbers = c.args.image.now.numbers in
     let at = c.args.cursor.now.at in
     let P : WalkStep → Type 0 = λ x. TakesOn now now (step_long x) at at (λ rest. take_slot (slot_of x) (progress numbers at rest)) numbers c.rule.result in
-    subst P (sym c.in-Rule.is) (reads_rule now c.in-Rule.holds numbers at c.rule.result (g.met.S.Source.counted c.args.source.now) c.rule.ensures.ok c.rule.ensures.err)
+    record {
+      reads = subst P (sym c.in-Rule.is) (reads_rule now c.in-Rule.holds numbers at c.rule.result (g.met.S.Source.counted c.args.source.now) c.rule.ensures.ok c.rule.ensures.err);
+      held = search rules;
+      kept = search rules;
+      keeps = search rules;
+      stopped = search rules;
+    }

@@ -11,20 +11,28 @@ bounds-came-number c =
     let lt : c.in-Some.number < length (described c.args.set.now).devices = device_below (described c.args.set.now).devices c.deref.result.now c.args.head.now.instance c.in-Some.number (sym c.find.ensures ∙ c.in-Some.is) in
     omega arith
 
-pub returns-in-None-against_device-clause-opened : goal.returns-in-None-against_device-clause-opened
-returns-in-None-against_device-clause-opened c =
+pub returns-in-None-against_device : goal.returns-in-None-against_device
+returns-in-None-against_device c =
     let devices = (described c.args.set.now).devices in
     let found = ap (λ name. find_device 0 devices name c.args.head.now.instance) (sym c.deref.ensures.0) ∙ sym c.find.ensures ∙ c.in-Some.is in
     let reason = sym c.in-None-against_device.is ∙ c.against_device.ensures ∙ ap (λ d. reason_against d (get_or c.args.came.now c.in-Some.number false) c.args.head.now.version) c.device.ensures in
-    opens (described c.args.set.now) c.args.came.now c.args.head.now.name.items c.args.head.now.instance c.args.head.now.version c.args.at c.in-Some.number None found reason
+    let opened = opens (described c.args.set.now) c.args.came.now c.args.head.now.name.items c.args.head.now.instance c.args.head.now.version c.args.at c.in-Some.number None found reason in
+    record {
+      short = search rules;
+      refused = tt;
+      fresh = section_new (described c.args.set.now) c.args.came.now c.args.head.now.name.items c.args.head.now.instance c.args.head.now.version c.in-Some.number c.args.at c.requires opened;
+      opened = opened;
+    }
 
-pub returns-in-Some-against_device-clause-opened : goal.returns-in-Some-against_device-clause-opened
-returns-in-Some-against_device-clause-opened c =
+pub returns-in-Some-against_device : goal.returns-in-Some-against_device
+returns-in-Some-against_device c =
     let devices = (described c.args.set.now).devices in
     let found = ap (λ name. find_device 0 devices name c.args.head.now.instance) (sym c.deref.ensures.0) ∙ sym c.find.ensures ∙ c.in-Some.is in
     let reason = sym c.in-Some-against_device.is ∙ c.against_device.ensures ∙ ap (λ d. reason_against d (get_or c.args.came.now c.in-Some.number false) c.args.head.now.version) c.device.ensures in
-    rw (c.refused-in-Some-against_device.ensures) (opens (described c.args.set.now) c.args.came.now c.args.head.now.name.items c.args.head.now.instance c.args.head.now.version c.args.at c.in-Some.number (Some c.in-Some-against_device.reason) found reason)
-
-pub returns-in-None-against_device-clause-fresh : goal.returns-in-None-against_device-clause-fresh
-returns-in-None-against_device-clause-fresh c =
-    section_new (described c.args.set.now) c.args.came.now c.args.head.now.name.items c.args.head.now.instance c.args.head.now.version c.in-Some.number c.args.at c.requires (returns-in-None-against_device-clause-opened c)
+    record {
+      short = search rules;
+      refused = search rules;
+      fresh = tt;
+      opened = rw (c.refused-in-Some-against_device.ensures)
+          (opens (described c.args.set.now) c.args.came.now c.args.head.now.name.items c.args.head.now.instance c.args.head.now.version c.args.at c.in-Some.number (Some c.in-Some-against_device.reason) found reason);
+    }

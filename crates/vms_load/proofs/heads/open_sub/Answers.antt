@@ -38,20 +38,31 @@ came-requires c =
     let below = below_subs c.args.device.now.subs c.args.name.now.items c.in-Some.sub (found (goal.at.came-requires c).In-Some) in
     omega (arith, length-map c.args.device.now.subs sub_of)
 
-pub returns-in-None-against_sub-clause-opened : goal.returns-in-None-against_sub-clause-opened
-returns-in-None-against_sub-clause-opened c = λ k.
-    let h = goal.at.returns-in-None-against_sub-clause-opened c in
-    opens_sub k (device_of c.args.device.now) c.args.image.now.came c.args.name.now.items c.args.version c.in-Some.sub None c.requires.long (found h.In-Some)
-    (sym c.in-None-against_sub.is ∙ judged h.After-against_sub (found h.In-Some))
+pub returns-in-None-against_sub : goal.returns-in-None-against_sub
+returns-in-None-against_sub c =
+    let h = goal.at.returns-in-None-against_sub c in
+    record {
+      short = search rules;
+      opened = λ k.
+          opens_sub k (device_of c.args.device.now) c.args.image.now.came c.args.name.now.items c.args.version c.in-Some.sub None c.requires.long (found h.In-Some)
+          (sym c.in-None-against_sub.is ∙ judged h.After-against_sub (found h.In-Some));
+    }
 
-pub returns-in-Some-against_sub-clause-opened : goal.returns-in-Some-against_sub-clause-opened
-returns-in-Some-against_sub-clause-opened c = λ k.
-    let h = goal.at.returns-in-Some-against_sub-clause-opened c in
-    opens_sub k (device_of c.args.device.now) c.args.image.now.came c.args.name.now.items c.args.version c.in-Some.sub (Some c.in-Some-against_sub.reason) c.requires.long (found h.In-Some)
-    (sym c.in-Some-against_sub.is ∙ judged h.After-against_sub (found h.In-Some))
+pub returns-in-Some-against_sub : goal.returns-in-Some-against_sub
+returns-in-Some-against_sub c =
+    let h = goal.at.returns-in-Some-against_sub c in
+    record {
+      short = search rules;
+      opened = λ k.
+          opens_sub k (device_of c.args.device.now) c.args.image.now.came c.args.name.now.items c.args.version c.in-Some.sub (Some c.in-Some-against_sub.reason) c.requires.long (found h.In-Some)
+          (sym c.in-Some-against_sub.is ∙ judged h.After-against_sub (found h.In-Some));
+    }
 
-pub returns-in-None-clause-opened : goal.returns-in-None-clause-opened
-returns-in-None-clause-opened c = λ k.
+pub returns-in-None : goal.returns-in-None
+returns-in-None c =
     let subs = c.args.device.now.subs in
     let none = ap (λ n. find_sub 0 (map sub_of subs) n) (sym c.deref.ensures.0) ∙ ap (λ s. find_sub 0 (map sub_of s) c.deref.result.now) (sym c.as_slice.ensures) ∙ sym c.find_sub.ensures ∙ c.in-None.is in
-    sym (unknown_sub k (device_of c.args.device.now) c.args.image.now.came c.args.name.now.items c.args.version none)
+    record {
+      short = search rules;
+      opened = λ k. sym (unknown_sub k (device_of c.args.device.now) c.args.image.now.came c.args.name.now.items c.args.version none);
+    }

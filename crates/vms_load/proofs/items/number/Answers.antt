@@ -2,18 +2,33 @@ use Rattle.vms_load.proofs.Facade.{w128, rules, SFits, ◌≡◌, true, false, t
 use Rattle.vms_load.proofs.BodyLemmas.{reads_capped, reads_large, reads_no_number}
 use Rattle.vms_load.proofs.items.number.Goals as goal
 
-pub returns-in_err-value-clause-reads : goal.returns-in_err-value-clause-reads
-returns-in_err-value-clause-reads g c =
+pub returns-in_err-value : goal.returns-in_err-value
+returns-in_err-value g c =
     let p = err_from_is_err_and c.from_residual.result c.from_residual.ensures.1 in
-    rw (p.1, p.2) (reads_no_number c.args.kind c.args.cursor.now.at (capacities_of c.args.most) c.in_err-value.field-0.0 c.in_err-value.ensures.reads)
+    record {
+      reads = rw (p.1, p.2) (reads_no_number c.args.kind c.args.cursor.now.at (capacities_of c.args.most) c.in_err-value.field-0.0 c.in_err-value.ensures.reads);
+      range = search rules;
+      place = search rules;
+      held = search rules;
+    }
 
-pub returns-then-is_above-clause-reads : goal.returns-then-is_above-clause-reads
-returns-then-is_above-clause-reads g c =
+pub returns-then-is_above : goal.returns-then-is_above
+returns-then-is_above g c =
     let large : exceeds (capacities_of c.args.most) c.in_ok-value.value ≡ true = search rules in
-    reads_large c.args.kind c.args.cursor.now.at (capacities_of c.args.most) c.in_ok-value.value c.at-at.result c.at-at.ensures large c.in_ok-value.ensures.reads
+    record {
+      range = tt;
+      reads = reads_large c.args.kind c.args.cursor.now.at (capacities_of c.args.most) c.in_ok-value.value c.at-at.result c.at-at.ensures large c.in_ok-value.ensures.reads;
+      place = tt;
+      held = tt;
+    }
 
-pub returns-clause-reads : goal.returns-clause-reads
-returns-clause-reads g c =
+pub returns : goal.returns
+returns g c =
     let f : SFits w128 c.in_ok-value.value = search rules in
     let few : exceeds (capacities_of c.args.most) c.in_ok-value.value ≡ false = search rules in
-    rw (to_z-of_z w128 c.in_ok-value.value f) (reads_capped c.args.kind c.args.cursor.now.at (capacities_of c.args.most) c.in_ok-value.value few c.in_ok-value.ensures.reads)
+    record {
+      reads = rw (to_z-of_z w128 c.in_ok-value.value f) (reads_capped c.args.kind c.args.cursor.now.at (capacities_of c.args.most) c.in_ok-value.value few c.in_ok-value.ensures.reads);
+      range = search rules;
+      place = search rules;
+      held = search rules;
+    }

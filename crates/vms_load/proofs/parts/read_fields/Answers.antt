@@ -31,66 +31,62 @@ spot g c =
     let set = described c.args.set.now in
     let k = c.args.section.device in
     let sub = c.args.part.sub in
-    part_spot set c.args.set.now.well_formed k c.requires.image.device sub (open_in (device_at set k) (untyped c.args.image.now) sub c.args.part.version c.requires.open) c.args.image.now.numbers c.requires.image.shaped.cells (spot_of g c) c.part_of-number.ensures c.first_cell-base.ensures
+    part_spot set c.args.set.now.well_formed k c.requires.image.device sub (open_in (device_at set k) (untyped c.args.image.now) sub c.args.part.version c.requires.begun) c.args.image.now.numbers c.requires.image.shaped.cells (spot_of g c) c.part_of-number.ensures c.first_cell-base.ensures
 
-pub read_part-requires-clause-spot : goal.read_part-requires-clause-spot
-read_part-requires-clause-spot g c = spot g (goal.at.read_part-requires-clause-spot g c).After-first_cell-base
-
-pub read_part-requires-clause-kinds : goal.read_part-requires-clause-kinds
-read_part-requires-clause-kinds g c = λ n.
+pub read_part-requires : goal.read_part-requires
+read_part-requires g c =
     let set = described c.args.set.now in
     let k = c.args.section.device in
     let sub = c.args.part.sub in
-    let spot = spot_of g (goal.at.read_part-requires-clause-kinds g c).After-first_cell-base in
-    rw c.requires.image.shaped.kinds (part_kinds set k sub (open_in (device_at set k) (untyped c.args.image.now) sub c.args.part.version c.requires.open) spot c.part_of-number.ensures c.first_cell-base.ensures n)
+    let h = (goal.at.read_part-requires g c).After-first_cell-base in
+    record {
+      spot = spot g h;
+      kinds = λ n. rw c.requires.image.shaped.kinds
+          (part_kinds set k sub (open_in (device_at set k) (untyped c.args.image.now) sub c.args.part.version c.requires.begun) (spot_of g h) c.part_of-number.ensures c.first_cell-base.ensures n);
+      cursor = record { held = c.requires.cursor.held; place = omega (arith, ap (bytes_of set) (desc g h)) };
+    }
 
-pub read_part-requires-clause-cursor : goal.read_part-requires-clause-cursor
-read_part-requires-clause-cursor g c = record {
-  held = c.requires.cursor.held;
-  place = omega (arith, ap (bytes_of (described c.args.set.now)) (desc g (goal.at.read_part-requires-clause-cursor g c).After-first_cell-base));
-}
-
-pub returns-in-Ok-clause-reads : goal.returns-in-Ok-clause-reads
-returns-in-Ok-clause-reads g c = λ names state room.
+pub returns-in-Ok : goal.returns-in-Ok
+returns-in-Ok g c =
     let set = described c.args.set.now in
     let good = good_of set c.args.set.now.well_formed c.args.set.now.heads in
-    let at = goal.at.returns-in-Ok-clause-reads g c in
+    let at = goal.at.returns-in-Ok g c in
     let h = at.After-first_cell-base in
     let part = c.part_of-number.result in
     let first = c.first_cell-base.result in
-    reads_as (λ n l. omega (arith, ap held_long c.in-Ok.ensures.held, ap held_long c.requires.cursor.held))
-    (λ rest left took. fields_answer set good c.args.section c.requires.image.device c.args.part.sub c.args.part.version names state (untyped c.args.image.now) (desc_at set part) first (desc g h) (base g h)
-    room c.requires.open c.args.cursor.now c.read_part.new.image.numbers (untyped c.read_part.new.image) c.read_part.new.cursor
-    (Some rest) (Some left) (Ok c.in-Ok.field-0) (ap untyped c.in-Ok.ensures.ok.kept) c.requires.cursor.held c.in-Ok.ensures.held
-    (part_took set good.structs (desc_at set part) (part_sound set good part (spot g h).part) c.args.part.version first (old g at.Start) (new g at.After-read_part) rest left took)) c.in-Ok.ensures.ok.reads
-
-pub returns-in-Err-clause-reads : goal.returns-in-Err-clause-reads
-returns-in-Err-clause-reads g c = λ names state room.
-    let set = described c.args.set.now in
-    let good = good_of set c.args.set.now.well_formed c.args.set.now.heads in
-    let at = goal.at.returns-in-Err-clause-reads g c in
-    let h = at.After-first_cell-base in
-    let part = c.part_of-number.result in
-    let first = c.first_cell-base.result in
-    rw (c.concerning.ensures, ← same_course (Some c.args.section.device) c.in-Err.fault)
-    (reads_as (λ n l. omega (arith, part_bound set (spot_of g h) c.read_part.new.image.numbers, ap (bytes_of set) (desc g h)))
-    (λ rest left took. fields_answer set good c.args.section c.requires.image.device c.args.part.sub c.args.part.version names state (untyped c.args.image.now) (desc_at set part) first (desc g h) (base g h)
-    room c.requires.open c.args.cursor.now c.read_part.new.image.numbers (untyped c.read_part.new.image) c.read_part.new.cursor
-    (Some rest) (Some left) (Err c.in-Err.fault) (ap untyped c.in-Err.ensures.err.kept) c.requires.cursor.held tt
-    (part_failed set good.structs (desc_at set part) (part_sound set good part (spot g h).part) c.args.part.version first (old g at.Start) (new g at.After-read_part) c.in-Err.fault rest left took)) c.in-Err.ensures.err.reads)
-
-pub returns-in-Ok-clause-moves : goal.returns-in-Ok-clause-moves
-returns-in-Ok-clause-moves g c =
-    let set = described c.args.set.now in
-    let h = (goal.at.returns-in-Ok-clause-moves g c).After-first_cell-base in
     let bound = part_bound set (spot_of g h) c.read_part.new.image.numbers in
     let long = c.in-Ok.ensures.ok.reads.long in
     let before = ap held_long c.requires.cursor.held in
     let now = ap held_long c.in-Ok.ensures.held in
-    (omega (arith, long.1), omega (arith, long.1, before, now), omega (arith, ap (bytes_of set) (desc g h), bound, long.0, long.1, before, now))
+    record {
+      reads = λ names state room.
+          reads_as (λ n l. omega (arith, now, before))
+          (λ rest left took. fields_answer set good c.args.section c.requires.image.device c.args.part.sub c.args.part.version names state (untyped c.args.image.now) (desc_at set part) first (desc g h) (base g h)
+          room c.requires.begun c.args.cursor.now c.read_part.new.image.numbers (untyped c.read_part.new.image) c.read_part.new.cursor
+          (Some rest) (Some left) (Ok c.in-Ok.field-0) (ap untyped c.in-Ok.ensures.ok.kept) c.requires.cursor.held c.in-Ok.ensures.held
+          (part_took set good.structs (desc_at set part) (part_sound set good part (spot g h).part) c.args.part.version first (old g at.Start) (new g at.After-read_part) rest left took)) c.in-Ok.ensures.ok.reads;
+      held = c.in-Ok.ensures.held;
+      moves = (omega (arith, long.1), omega (arith, long.1, before, now), omega (arith, ap (bytes_of set) (desc g h), bound, long.0, long.1, before, now));
+      image = record { kept = c.in-Ok.ensures.ok.kept; long = c.in-Ok.ensures.ok.keeps.long };
+    }
 
-pub returns-in-Ok-clause-image : goal.returns-in-Ok-clause-image
-returns-in-Ok-clause-image g c = record { kept = c.in-Ok.ensures.ok.kept; long = c.in-Ok.ensures.ok.keeps.long }
-
-pub returns-in-Err-clause-image : goal.returns-in-Err-clause-image
-returns-in-Err-clause-image g c = record { kept = c.in-Err.ensures.err.kept; long = c.in-Err.ensures.err.keeps.long }
+pub returns-in-Err : goal.returns-in-Err
+returns-in-Err g c =
+    let set = described c.args.set.now in
+    let good = good_of set c.args.set.now.well_formed c.args.set.now.heads in
+    let at = goal.at.returns-in-Err g c in
+    let h = at.After-first_cell-base in
+    let part = c.part_of-number.result in
+    let first = c.first_cell-base.result in
+    record {
+      reads = λ names state room.
+          rw (c.concerning.ensures, ← same_course (Some c.args.section.device) c.in-Err.fault)
+          (reads_as (λ n l. omega (arith, part_bound set (spot_of g h) c.read_part.new.image.numbers, ap (bytes_of set) (desc g h)))
+          (λ rest left took. fields_answer set good c.args.section c.requires.image.device c.args.part.sub c.args.part.version names state (untyped c.args.image.now) (desc_at set part) first (desc g h) (base g h)
+          room c.requires.begun c.args.cursor.now c.read_part.new.image.numbers (untyped c.read_part.new.image) c.read_part.new.cursor
+          (Some rest) (Some left) (Err c.in-Err.fault) (ap untyped c.in-Err.ensures.err.kept) c.requires.cursor.held tt
+          (part_failed set good.structs (desc_at set part) (part_sound set good part (spot g h).part) c.args.part.version first (old g at.Start) (new g at.After-read_part) c.in-Err.fault rest left took)) c.in-Err.ensures.err.reads);
+      held = tt;
+      moves = tt;
+      image = record { kept = c.in-Err.ensures.err.kept; long = c.in-Err.ensures.err.keeps.long };
+    }

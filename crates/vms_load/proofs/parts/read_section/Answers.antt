@@ -1,6 +1,6 @@
 use Rattle.vms_load.proofs.Facade.{rules, refl, subst, ◌≡◌, ℕ, List, ◌+◌, ◌<◌, ◌≤◌, Option, Some, None, Err, length, ap, ◌∙◌, arith, err_from_is_err_and, Set}
 use Rattle.vms_load.proofs.Facade.{Device, intake, Stand, held_long, described, device_at, Open, GoesSoFar, Onward, reach, IsMoved, part_due, subs_due}
-use Rattle.vms_load.proofs.Facade.{bytes_of_part, in_fields, after_fields, after_part, Typed, FOOT_LENGTH, LONGEST_SUB_HEAD, LONGEST_HEAD}
+use Rattle.vms_load.proofs.Facade.{bytes_of_part, in_fields, after_fields, after_part, section_due, FOOT_LENGTH, LONGEST_SUB_HEAD, LONGEST_HEAD}
 use Rattle.vms_load.proofs.ReadLemmas.{goes_here, goes_further, goes_on, goes_still}
 use Rattle.vms_image.specs.Typed.{state_of as untyped}
 use Rattle.vms_load.proofs.parts.read_section.Goals as goal
@@ -17,15 +17,21 @@ loop-next-init g c = record {
   place = search rules;
 }
 
-pub read_fields-requires-clause-image : goal.read_fields-requires-clause-image
-read_fields-requires-clause-image g c = let loop = c.loop-next.invariant in let same = loop.same in record { device = omega arith; shaped = loop.shaped }
+pub read_fields-requires : goal.read_fields-requires
+read_fields-requires g c =
+    let loop = c.loop-next.invariant in
+    let same = loop.same in
+    record { image = record { device = omega arith; shaped = loop.shaped }; begun = search rules; cursor = search rules }
 
-pub read_after_fields-requires-clause-image : goal.read_after_fields-requires-clause-image
-read_after_fields-requires-clause-image g c =
+pub read_after_fields-requires : goal.read_after_fields-requires
+read_after_fields-requires g c =
     let shaped = c.loop-next.invariant.shaped in
     record {
-      device = omega arith;
-      shaped = rw c.in_ok-read_fields.ensures.image.kept (record { subs = shaped.subs; cells = cc; kinds = shaped.kinds });
+      image = record {
+        device = omega arith;
+        shaped = rw c.in_ok-read_fields.ensures.image.kept (record { subs = shaped.subs; cells = cc; kinds = shaped.kinds });
+      };
+      cursor = search rules;
     }
 
 pub loop-next-preserved : goal.loop-next-preserved
@@ -62,48 +68,60 @@ loop-next-preserved g c =
       place = omega arith;
     }
 
-pub returns-in_err-read_fields-clause-reads : goal.returns-in_err-read_fields-clause-reads
-returns-in_err-read_fields-clause-reads g c = λ names state room.
+pub returns-in_err-read_fields : goal.returns-in_err-read_fields
+returns-in_err-read_fields g c =
     let set = described c.args.set.now in
     let loop = c.loop-next in
     let section = loop.section in
-    let inside : section.device < length state.images = omega arith in
     let from = c.args.cursor.now in
     let end = c.read_fields.new.cursor in
-    let here = in_fields set names state c.args.section.now None (untyped c.args.image.now) in
-    let next : Unit {0} → Onward = λ x. after_fields set names state section c.in-Some.part.sub (untyped c.read_fields.new.image) in
     let due = ap (λ o. part_due set (device_at set section.device) loop.image.came o) c.in-Some.is in
     let e = c.in_err-read_fields.field-0.0 in
-    let most = part_due set (device_at set c.args.section.now.device) c.args.image.now.came (Some (record { sub = None; version = c.args.image.now.version })) + LONGEST_HEAD in
+    let most = section_due c.args.set.now c.args.section.now c.args.image.now + LONGEST_HEAD in
     let p = err_from_is_err_and c.from_residual.result c.from_residual.ensures.1 in
-    rw (p.1, p.2)
-    (goes_still (Unit {0}) (Unit {0}) most here next (λ x. after_part set names state section (untyped c.read_fields.new.image) None) from end end e
-    (goes_on {X = Unit {0}} (bytes_of_part set (device_at set section.device) c.in-Some.part.sub) most here (after_part set names state section (untyped loop.image) (Some c.in-Some.part)) next from loop.cursor end (Err e)
-    loop.invariant.from tt loop.invariant.onward tt (omega arith) (rw c.in-Some.is at (loop.invariant.reads names state room)) (c.in_err-read_fields.ensures.reads names state inside)))
+    record {
+      reads = λ names state room.
+          let inside : section.device < length state.images = omega arith in
+          let here = in_fields set names state c.args.section.now None (untyped c.args.image.now) in
+          let next : Unit {0} → Onward = λ x. after_fields set names state section c.in-Some.part.sub (untyped c.read_fields.new.image) in
+          rw (p.1, p.2)
+          (goes_still (Unit {0}) (Unit {0}) most here next (λ x. after_part set names state section (untyped c.read_fields.new.image) None) from end end e
+          (goes_on {X = Unit {0}} (bytes_of_part set (device_at set section.device) c.in-Some.part.sub) most here (after_part set names state section (untyped loop.image) (Some c.in-Some.part)) next from loop.cursor end (Err e)
+          loop.invariant.from tt loop.invariant.onward tt (omega arith) (rw c.in-Some.is at (loop.invariant.reads names state room)) (c.in_err-read_fields.ensures.reads names state inside)));
+      section = search rules;
+      moves = rw (p.1) tt;
+      shaped = search rules;
+    }
 
-pub returns-in_err-next-clause-reads : goal.returns-in_err-next-clause-reads
-returns-in_err-next-clause-reads g c = λ names state room.
+pub returns-in_err-next : goal.returns-in_err-next
+returns-in_err-next g c =
     let set = described c.args.set.now in
     let loop = c.loop-next in
     let section = loop.section in
-    let inside : section.device < length state.images = omega arith in
     let from = c.args.cursor.now in
     let mid = c.read_fields.new.cursor in
     let end = c.read_after_fields.new.cursor in
-    let here = in_fields set names state c.args.section.now None (untyped c.args.image.now) in
     let sub = c.in-Some.part.sub in
-    let middle = after_fields set names state section sub (untyped c.read_fields.new.image) in
-    let next : Option Open → Onward = after_part set names state c.read_after_fields.new.section (untyped c.read_after_fields.new.image) in
     let due = ap (λ o. part_due set (device_at set section.device) loop.image.came o) c.in-Some.is in
     let one = c.in_ok-read_fields.ensures.moves in
     let e = c.in_err-next.field-0.0 in
-    let most = part_due set (device_at set c.args.section.now.device) c.args.image.now.came (Some (record { sub = None; version = c.args.image.now.version })) + LONGEST_HEAD in
+    let most = section_due c.args.set.now c.args.section.now c.args.image.now + LONGEST_HEAD in
     let p = err_from_is_err_and c.from_residual-in_err-next.result c.from_residual-in_err-next.ensures.1 in
-    rw (p.1, p.2)
-    (goes_still (Option Open) (Unit {0}) most here next (λ x. next None) from end end e
-    (goes_on {X = Option Open} LONGEST_SUB_HEAD most here middle next from mid end (Err e) (omega arith) tt (omega arith) tt (omega arith)
-    (goes_further here (after_part set names state section (untyped loop.image) (Some c.in-Some.part)) middle from loop.cursor mid loop.invariant.from one.0 loop.invariant.onward one.1
-    (rw c.in-Some.is at (loop.invariant.reads names state room)) (c.in_ok-read_fields.ensures.reads names state inside)) (c.in_err-next.ensures.reads names state sub inside)))
+    record {
+      reads = λ names state room.
+          let inside : section.device < length state.images = omega arith in
+          let here = in_fields set names state c.args.section.now None (untyped c.args.image.now) in
+          let middle = after_fields set names state section sub (untyped c.read_fields.new.image) in
+          let next : Option Open → Onward = after_part set names state c.read_after_fields.new.section (untyped c.read_after_fields.new.image) in
+          rw (p.1, p.2)
+          (goes_still (Option Open) (Unit {0}) most here next (λ x. next None) from end end e
+          (goes_on {X = Option Open} LONGEST_SUB_HEAD most here middle next from mid end (Err e) (omega arith) tt (omega arith) tt (omega arith)
+          (goes_further here (after_part set names state section (untyped loop.image) (Some c.in-Some.part)) middle from loop.cursor mid loop.invariant.from one.0 loop.invariant.onward one.1
+          (rw c.in-Some.is at (loop.invariant.reads names state room)) (c.in_ok-read_fields.ensures.reads names state inside)) (c.in_err-next.ensures.reads names state sub inside)));
+      section = search rules;
+      moves = rw (p.1) tt;
+      shaped = search rules;
+    }
 
 -- less is due with each part
 less : (set : Set) (d : Device) (came : List (Option ℕ)) (next : Option Open) (from to : Stand) (most : ℕ) → from.held ≡ None → IsMoved from to next → reach to + part_due set d came next ≤ reach from + most → 0 < most
@@ -124,8 +142,10 @@ loop-next-smaller g c =
     let now = less set d c.read_after_fields.new.image.came c.in_ok-next.next c.read_fields.new.cursor c.read_after_fields.new.cursor most c.in_ok-read_fields.ensures.held c.in_ok-next.ensures.next.moved (c.in_ok-next.ensures.moves.2) some in
     omega arith
 
-pub returns-clause-reads : goal.returns-clause-reads
-returns-clause-reads g c = λ names state room.
-    let set = described c.args.set.now in
-    let here = in_fields set names state c.args.section.now None (untyped c.args.image.now) in
-    rw c.in_default.is at (c.loop-next.invariant.reads names state room)
+pub returns : goal.returns
+returns g c = record {
+  reads = λ names state room. rw c.in_default.is at (c.loop-next.invariant.reads names state room);
+  section = c.loop-next.invariant.same;
+  moves = search rules;
+  shaped = search rules;
+}

@@ -1,12 +1,12 @@
-use Rattle.vms_load.proofs.Facade.{Option, Some, None, Ok, Err, false, ap, arith, err_from_is_err_and, reads_as, reads_both, judge, Free, by_state, reading_on}
+use Rattle.vms_load.proofs.Facade.{rules, Option, Some, None, Ok, Err, false, ap, arith, err_from_is_err_and, reads_as, reads_both, judge, Free, by_state, reading_on}
 use Rattle.vms_load.proofs.Facade.{described, held_long, Between, accepted_of, state_of, spot_of, spot_at, is_first, is_configured}
 use Rattle.vms_frames.specs.declared.units.Step.TheVariants as steps
 use Rattle.vms_load.proofs.ReadLemmas.{spent_by, goes_judged, goes_still, same_course}
 use Rattle.vms_load.proofs.StreamReads.{turn_fault, turn_settled, turn_section}
 use Rattle.vms_load.proofs.stream.read_between.Goals as goal
 
-pub returns-in-Ok-Configuration-clause-reads : goal.returns-in-Ok-Configuration-clause-reads
-returns-in-Ok-Configuration-clause-reads g c =
+pub returns-in-Ok-Configuration : goal.returns-in-Ok-Configuration
+returns-in-Ok-Configuration g c =
     let set = described c.args.set.now in
     let names = accepted_of set c.args.only in
     let at = c.args.between in
@@ -18,12 +18,17 @@ returns-in-Ok-Configuration-clause-reads g c =
     let held = c.in-Ok-Configuration.ensures.held in
     let now = ap held_long held in
     let settled = rw c.at-at.ensures at (c.configure.ensures.settles (is_first at) (is_configured at)) in
-    goes_judged c.configure.result c.configure.ensures.refused
-    (reads_as (λ n l. spent_by from to _ c.configure.result n (omega arith) (omega arith))
-    (λ rest left h. turn_settled set names c.args.staged.now at {Y = Option Between} from to (Some rest) (Some left) step (λ next. state_of set c.configure.new.staged (spot_at next)) c.configure.result h place held settled) reads)
+    record {
+      reads = goes_judged c.configure.result c.configure.ensures.refused
+          (reads_as (λ n l. spent_by from to _ c.configure.result n (omega arith) (omega arith))
+          (λ rest left h. turn_settled set names c.args.staged.now at {Y = Option Between} from to (Some rest) (Some left) step (λ next. state_of set c.configure.new.staged (spot_at next)) c.configure.result h place held settled) reads);
+      moves = search rules;
+      next = search rules;
+      whole = c.configure.ensures.whole;
+    }
 
-pub returns-in-Ok-End-clause-reads : goal.returns-in-Ok-End-clause-reads
-returns-in-Ok-End-clause-reads g c =
+pub returns-in-Ok-End : goal.returns-in-Ok-End
+returns-in-Ok-End g c =
     let set = described c.args.set.now in
     let names = accepted_of set c.args.only in
     let at = c.args.between in
@@ -34,12 +39,17 @@ returns-in-Ok-End-clause-reads g c =
     let held = c.in-Ok-End.ensures.held in
     let now = ap held_long held in
     let settled = rw c.at-at.ensures at (c.take_end_mark.ensures.settles set names (is_first at) (is_configured at)) in
-    goes_judged c.take_end_mark.result c.take_end_mark.ensures.refused
-    (reads_as (λ n l. spent_by from to _ c.take_end_mark.result n (omega arith) (omega arith))
-    (λ rest left h. turn_settled set names c.args.staged.now at {Y = Option Between} from to (Some rest) (Some left) steps.End (λ next. state_of set c.args.staged.now (spot_at next)) c.take_end_mark.result h place held settled) reads)
+    record {
+      reads = goes_judged c.take_end_mark.result c.take_end_mark.ensures.refused
+          (reads_as (λ n l. spent_by from to _ c.take_end_mark.result n (omega arith) (omega arith))
+          (λ rest left h. turn_settled set names c.args.staged.now at {Y = Option Between} from to (Some rest) (Some left) steps.End (λ next. state_of set c.args.staged.now (spot_at next)) c.take_end_mark.result h place held settled) reads);
+      moves = search rules;
+      next = search rules;
+      whole = c.requires.can.whole;
+    }
 
-pub returns-in_err-stage_section-in-Ok-Section-clause-reads : goal.returns-in_err-stage_section-in-Ok-Section-clause-reads
-returns-in_err-stage_section-in-Ok-Section-clause-reads g c =
+pub returns-in_err-stage_section-in-Ok-Section : goal.returns-in_err-stage_section-in-Ok-Section
+returns-in_err-stage_section-in-Ok-Section g c =
     let set = described c.args.set.now in
     let names = accepted_of set c.args.only in
     let at = c.args.between in
@@ -52,14 +62,19 @@ returns-in_err-stage_section-in-Ok-Section-clause-reads g c =
     let held = c.in-Ok-Section.ensures.held in
     let e = c.in_err-stage_section-in-Ok-Section.field-0.0 in
     let p = err_from_is_err_and c.from_residual.result c.from_residual.ensures.1 in
-    rw (p.1, p.2)
-    (goes_still (Unit {0}) (Option Between) _ (go (state_of set c.args.staged.now (spot_of at))) (λ x. go (state_of set c.stage_section.new.staged (Free false false))) (λ next. go (state_of set c.stage_section.new.staged (spot_at next))) from end end e
-    (reads_both (λ k n l m. omega arith)
-    (λ all rest left h r. turn_section set names c.args.staged.now at from c.between.new.self end (Some all) (Some rest) (Some left) head c.at-at.result (state_of set c.stage_section.new.staged (Free false false)) (Err e)
-    c.requires.set.whole.came h place held c.at-at.ensures r) reads (c.in_err-stage_section-in-Ok-Section.ensures.reads names (is_first at) (is_configured at))))
+    record {
+      reads = rw (p.1, p.2)
+          (goes_still (Unit {0}) (Option Between) _ (go (state_of set c.args.staged.now (spot_of at))) (λ x. go (state_of set c.stage_section.new.staged (Free false false))) (λ next. go (state_of set c.stage_section.new.staged (spot_at next))) from end end e
+          (reads_both (λ k n l m. omega arith)
+          (λ all rest left h r. turn_section set names c.args.staged.now at from c.between.new.self end (Some all) (Some rest) (Some left) head c.at-at.result (state_of set c.stage_section.new.staged (Free false false)) (Err e)
+          c.requires.can.whole.came h place held c.at-at.ensures r) reads (c.in_err-stage_section-in-Ok-Section.ensures.reads names (is_first at) (is_configured at))));
+      moves = rw (p.1) tt;
+      next = rw (p.1) tt;
+      whole = c.in_err-stage_section-in-Ok-Section.ensures.whole;
+    }
 
-pub returns-in_ok-stage_section-in-Ok-Section-clause-reads : goal.returns-in_ok-stage_section-in-Ok-Section-clause-reads
-returns-in_ok-stage_section-in-Ok-Section-clause-reads g c =
+pub returns-in_ok-stage_section-in-Ok-Section : goal.returns-in_ok-stage_section-in-Ok-Section
+returns-in_ok-stage_section-in-Ok-Section g c =
     let set = described c.args.set.now in
     let names = accepted_of set c.args.only in
     let at = c.args.between in
@@ -69,14 +84,24 @@ returns-in_ok-stage_section-in-Ok-Section-clause-reads g c =
     let held = c.in-Ok-Section.ensures.held in
     let now = ap held_long held in
     let moves = c.in_ok-stage_section-in-Ok-Section.ensures.moves in
-    reads_both (λ k n l m. omega (arith, l, m, place, now, moves.1))
-    (λ all rest left h r. turn_section set names c.args.staged.now at c.args.cursor.now c.between.new.self c.stage_section.new.cursor (Some all) (Some rest) (Some left) head c.at-at.result (state_of set c.stage_section.new.staged (Free false false))
-    (Ok c.in_ok-stage_section-in-Ok-Section.field-0) c.requires.set.whole.came h place held c.at-at.ensures r) reads (c.in_ok-stage_section-in-Ok-Section.ensures.reads names (is_first at) (is_configured at))
+    record {
+      reads = reads_both (λ k n l m. omega (arith, l, m, place, now, moves.1))
+          (λ all rest left h r. turn_section set names c.args.staged.now at c.args.cursor.now c.between.new.self c.stage_section.new.cursor (Some all) (Some rest) (Some left) head c.at-at.result (state_of set c.stage_section.new.staged (Free false false))
+          (Ok c.in_ok-stage_section-in-Ok-Section.field-0) c.requires.can.whole.came h place held c.at-at.ensures r) reads (c.in_ok-stage_section-in-Ok-Section.ensures.reads names (is_first at) (is_configured at));
+      moves = search rules;
+      next = search rules;
+      whole = c.in_ok-stage_section-in-Ok-Section.ensures.whole;
+    }
 
-pub returns-in-Err-clause-reads : goal.returns-in-Err-clause-reads
-returns-in-Err-clause-reads g c =
+pub returns-in-Err : goal.returns-in-Err
+returns-in-Err g c =
     let set = described c.args.set.now in
     let names = accepted_of set c.args.only in
-    rw (c.concerning.ensures, ← same_course None c.in-Err.fault)
-    (reads_as (λ n l. omega arith) (λ rest left h. turn_fault set names c.args.staged.now c.args.between {Y = Option Between} c.args.cursor.now c.between.new.self (Some rest) (Some left)
-    (λ next. reading_on (judge (by_state set names)) (state_of set c.args.staged.now (spot_at next))) c.in-Err.fault h) c.in-Err.ensures.reads)
+    record {
+      reads = rw (c.concerning.ensures, ← same_course None c.in-Err.fault)
+          (reads_as (λ n l. omega arith) (λ rest left h. turn_fault set names c.args.staged.now c.args.between {Y = Option Between} c.args.cursor.now c.between.new.self (Some rest) (Some left)
+          (λ next. reading_on (judge (by_state set names)) (state_of set c.args.staged.now (spot_at next))) c.in-Err.fault h) c.in-Err.ensures.reads);
+      moves = tt;
+      next = tt;
+      whole = c.requires.can.whole;
+    }

@@ -1,4 +1,4 @@
-use Rattle.vms_load.proofs.Facade.{Option, Some, None, Err, ap, arith, ◌+◌, subst, err_from_is_err_and, judge, by_state, reading_on, described, intake, Between}
+use Rattle.vms_load.proofs.Facade.{rules, Option, Some, None, Err, ap, arith, ◌+◌, subst, err_from_is_err_and, judge, by_state, reading_on, described, intake, Between}
 use Rattle.vms_load.proofs.Facade.{First, Onward, GoesSoFar, accepted_of, state_of, spot_at, stream_due, LONGEST_HEAD}
 use Rattle.vms_load.proofs.ReadLemmas.{goes_here, goes_further, goes_on, goes_still}
 use Rattle.vms_load.proofs.stream.sections.Goals as goal
@@ -10,7 +10,7 @@ loop-place-init g c =
     record {
       reads = goes_here _ here c.args.cursor.now (g.met.S.Source.counted c.args.source.now);
       held = tt;
-      whole = c.requires.set.whole;
+      whole = c.requires.can.whole;
       from = omega arith;
       onward = omega arith;
       due = omega arith;
@@ -34,8 +34,8 @@ loop-place-preserved g c =
       due = omega arith;
     }
 
-pub returns-in_err-place-clause-reads : goal.returns-in_err-place-clause-reads
-returns-in_err-place-clause-reads g c =
+pub returns-in_err-place : goal.returns-in_err-place
+returns-in_err-place g c =
     let set = described c.args.set.now in
     let go = reading_on (judge (by_state set (accepted_of set c.args.only))) in
     let loop = c.loop-place in
@@ -45,10 +45,15 @@ returns-in_err-place-clause-reads g c =
     let most = stream_due set c.args.staged.now.came.items (Some First) + LONGEST_HEAD in
     let e = c.in_err-place.field-0.0 in
     let p = err_from_is_err_and c.from_residual.result c.from_residual.ensures.1 in
-    rw (p.1, p.2)
-    (goes_still (Option Between) (Unit {0}) most here next (λ x. go (state_of set c.read_between.new.staged (spot_at None))) c.args.cursor.now c.read_between.new.cursor c.read_between.new.cursor e
-    (goes_on {X = Option Between} (stream_due set loop.staged.came.items (Some c.in-Some.between) + LONGEST_HEAD) most here mid next c.args.cursor.now loop.cursor c.read_between.new.cursor (Err e) loop.invariant.from tt loop.invariant.onward tt
-    (omega (arith, ap (λ o. stream_due set loop.staged.came.items o) c.in-Some.is)) (rw c.in-Some.is at loop.invariant.reads) c.in_err-place.ensures.reads))
+    record {
+      reads = rw (p.1, p.2)
+          (goes_still (Option Between) (Unit {0}) most here next (λ x. go (state_of set c.read_between.new.staged (spot_at None))) c.args.cursor.now c.read_between.new.cursor c.read_between.new.cursor e
+          (goes_on {X = Option Between} (stream_due set loop.staged.came.items (Some c.in-Some.between) + LONGEST_HEAD) most here mid next c.args.cursor.now loop.cursor c.read_between.new.cursor (Err e) loop.invariant.from tt loop.invariant.onward tt
+          (omega (arith, ap (λ o. stream_due set loop.staged.came.items o) c.in-Some.is)) (rw c.in-Some.is at loop.invariant.reads) c.in_err-place.ensures.reads));
+      held = rw (p.1) tt;
+      moves = rw (p.1) tt;
+      whole = c.in_err-place.ensures.whole;
+    }
 
 pub loop-place-smaller : goal.loop-place-smaller
 loop-place-smaller g c =
@@ -57,8 +62,10 @@ loop-place-smaller g c =
     let due = ap (λ (o : Option Between). stream_due set loop.staged.came.items o) c.in-Some.is in
     omega (arith, due, loop.invariant.due, c.in_ok-place.ensures.moves.2, c.in_ok-place.ensures.next.moved)
 
-pub returns-clause-reads : goal.returns-clause-reads
-returns-clause-reads g c =
-    let set = described c.args.set.now in
-    let go = reading_on (judge (by_state set (accepted_of set c.args.only))) in
-    rw c.in_default.is at c.loop-place.invariant.reads
+pub returns : goal.returns
+returns g c = record {
+  reads = rw c.in_default.is at c.loop-place.invariant.reads;
+  held = search rules;
+  moves = search rules;
+  whole = c.loop-place.invariant.whole;
+}

@@ -20,136 +20,124 @@ image g c =
     let new = c.in_ok-device.ensures.fresh.0 in
     image_begun _ c.args.staged.now.images.items c.in_ok-device.device _ c.index_mut-image.result.now c.index_mut-image.ensures.value (began g c) (omega (arith, c.requires.whole.images.all))
 
-pub returns-in_err-device-clause-reads : goal.returns-in_err-device-clause-reads
-returns-in_err-device-clause-reads g c = λ names first after.
+pub returns-in_err-device : goal.returns-in_err-device
+returns-in_err-device g c =
     let set = described c.args.set.now in
     let head = c.args.head.now in
-    let next : Unit {0} → Onward = λ x. reading_on (judge (by_state set names)) (state_of set c.args.staged.now (Free false false)) in
     let e = c.in_err-device.field-0.0 in
     let p = err_from_is_err_and c.from_residual.result c.from_residual.ensures.1 in
     let is = sym (c.in_err-device.was) ∙ c.open_section.ensures.opened ∙ ap (λ came. opened_at c.args.at (section_opened set came head.name.items head.instance head.version)) c.deref.ensures.0 in
-    rw (p.1, p.2)
-    (behind_here {X = Unit {0}} (intake g.S.Source c.args.source.now) (sections_due set set.devices c.args.staged.now.came.items) (reading_on (judge (by_state set names))) (ask set names (state_of set c.args.staged.now (Free first after)) (head_unit head) (head_long head))
-    next c.args.at (head_long head) c.args.cursor.now c.args.cursor.now e c.in_err-device.ensures.refused (g.met.S.Source.counted c.args.source.now)
-    (λ more bytes behind. section_refused set names c.args.staged.now first after head c.args.at c.args.cursor.now bytes (Some more) next e c.requires.whole.came is behind.taken))
+    record {
+      reads = λ names first after.
+          let next : Unit {0} → Onward = λ x. reading_on (judge (by_state set names)) (state_of set c.args.staged.now (Free false false)) in
+          rw (p.1, p.2)
+          (behind_here {X = Unit {0}} (intake g.S.Source c.args.source.now) (sections_due set set.devices c.args.staged.now.came.items) (reading_on (judge (by_state set names))) (ask set names (state_of set c.args.staged.now (Free first after)) (head_unit head) (head_long head))
+          next c.args.at (head_long head) c.args.cursor.now c.args.cursor.now e c.in_err-device.ensures.refused (g.met.S.Source.counted c.args.source.now)
+          (λ more bytes behind. section_refused set names c.args.staged.now first after head c.args.at c.args.cursor.now bytes (Some more) next e c.requires.whole.came is behind.taken));
+      moves = rw (p.1) tt;
+      whole = c.requires.whole;
+      short = c.open_section.ensures.short;
+    }
 
-pub begin_section-requires-clause-image : goal.begin_section-requires-clause-image
-begin_section-requires-clause-image g c = omega (arith, c.requires.whole.images.all, c.in_ok-device.ensures.fresh.0)
-
-pub begin_section-requires-clause-device : goal.begin_section-requires-clause-device
-begin_section-requires-clause-device g c = omega (arith, c.requires.whole.came, c.in_ok-device.ensures.fresh.0)
+pub begin_section-requires : goal.begin_section-requires
+begin_section-requires g c = record {
+  image = omega (arith, c.requires.whole.images.all, c.in_ok-device.ensures.fresh.0);
+  device = omega (arith, c.requires.whole.came, c.in_ok-device.ensures.fresh.0);
+}
 
 pub index_mut-image-requires : goal.index_mut-image-requires
 index_mut-image-requires g c =
     let long = ap length c.begin_section.ensures.images ∙ length-set c.args.staged.now.images.items c.in_ok-device.device _ in
     omega (arith, c.in_ok-device.ensures.fresh.0, long, c.requires.whole.images.all)
 
-pub read_section-requires-clause-image : goal.read_section-requires-clause-image
-read_section-requires-clause-image g c =
-    let k = c.in_ok-device.device in
-    let image = image g (goal.at.read_section-requires-clause-image g c).After-index_mut-image in
-    record { device = c.in_ok-device.ensures.fresh.0; shaped = rw image (default_shaped (described c.args.set.now) k c.args.head.now.version) }
-
-pub read_section-requires-clause-cursor : goal.read_section-requires-clause-cursor
-read_section-requires-clause-cursor g c =
+pub read_section-requires : goal.read_section-requires
+read_section-requires g c =
     let set = described c.args.set.now in
     let k = c.in_ok-device.device in
     let new = rw c.deref.ensures.0 at c.in_ok-device.ensures.fresh in
-    let image = image g (goal.at.read_section-requires-clause-cursor g c).After-index_mut-image in
+    let image = image g (goal.at.read_section-requires g c).After-index_mut-image in
     let due = sections_taken set set.devices c.args.staged.now.came.items k (record { instance = 0; desc = no_desc; subs = [] }) c.requires.whole.came new.1 in
-    record { held = c.requires.held; place = omega (arith, ap (λ x. subs_due set (device_at set k).subs x.came) image) }
+    record {
+      image = record { device = c.in_ok-device.ensures.fresh.0; shaped = rw image (default_shaped set k c.args.head.now.version) };
+      cursor = record { held = c.requires.held; place = omega (arith, ap (λ x. subs_due set (device_at set k).subs x.came) image) };
+    }
 
-pub returns-in_err-read_section-clause-reads : goal.returns-in_err-read_section-clause-reads
-returns-in_err-read_section-clause-reads g c = λ names first after.
+pub returns-in_err-read_section : goal.returns-in_err-read_section
+returns-in_err-read_section g c =
     let set = described c.args.set.now in
     let head = c.args.head.now in
     let k = c.in_ok-device.device in
     let old = c.args.staged.now in
     let is = sym (c.in_ok-device.was) ∙ c.open_section.ensures.opened ∙ ap (λ came. opened_at c.args.at (section_opened set came head.name.items head.instance head.version)) c.deref.ensures.0 in
     let new = rw c.deref.ensures.0 at c.in_ok-device.ensures.fresh in
-    let began = began g (goal.at.returns-in_err-read_section-clause-reads g c).After-index_mut-image in
-    let image = image g (goal.at.returns-in_err-read_section-clause-reads g c).After-index_mut-image in
+    let began = began g (goal.at.returns-in_err-read_section g c).After-index_mut-image in
+    let image = image g (goal.at.returns-in_err-read_section g c).After-index_mut-image in
     let now = c.read_section.new.section in
     let final = ended_in (name_of set c.begin_section.new.staged.machine) (map untyped (slice_set c.begin_section.new.staged.images.items k c.read_section.new.image)) c.begin_section.new.staged.came.items (tail_of now.tail) in
     let machine = ap (name_of set) c.begin_section.ensures.machine in
     let last = ends_later (name_of set old.machine) (name_of set c.begin_section.new.staged.machine) c.begin_section.new.staged.images.items old.images.items old.came.items c.begin_section.new.staged.came.items k now.device (begun_at set k head.version)
     c.read_section.new.image (tail_of now.tail) machine began c.begin_section.ensures.came c.in_err-read_section.ensures.section.0 in
-    let go = reading_on (judge (by_state set names)) in
-    let v = ask set names (state_of set old (Free first after)) (head_unit head) (head_long head) in
+    let shaped = subst (AreShaped set) (sym began) (shaped_put set old.images.items k (begun_at set k head.version) c.requires.whole.images new.0 (default_shaped set k head.version)) in
     let due = sections_taken set set.devices c.args.staged.now.came.items k (record { instance = 0; desc = no_desc; subs = [] }) c.requires.whole.came new.1 in
     let same = ap (λ x. subs_due set (device_at set k).subs x.came) image in
     let e = c.in_err-read_section.field-0.0 in
     let p = err_from_is_err_and c.from_residual-in_err-read_section.result c.from_residual-in_err-read_section.ensures.1 in
-    rw (p.1, p.2)
-    (reads_as (λ n l. omega arith)
-    (λ rest left r bytes behind. read_behind {X = Unit {0}} go v (λ x. go final) (head_long head) c.args.at bytes c.args.cursor.now c.read_section.new.cursor (Some rest) (Some left) (Err e) behind tt
-    (section_reads set names old first after head k c.args.at c.args.cursor.now c.read_section.new.cursor (untyped c.index_mut-image.result.now) (untyped c.read_section.new.image) c.begin_section.new.staged.tail now final
-    (Some rest) (Some left) (Err e) c.requires.whole.came new.0 is (ap untyped image) c.begin_section.ensures.tail last r))
-    (c.in_err-read_section.ensures.reads names (begun set names old first after k) (omega (arith, length-map old.images.items untyped))))
+    record {
+      reads = λ names first after.
+          let go = reading_on (judge (by_state set names)) in
+          let v = ask set names (state_of set old (Free first after)) (head_unit head) (head_long head) in
+          rw (p.1, p.2)
+          (reads_as (λ n l. omega arith)
+          (λ rest left r bytes behind. read_behind {X = Unit {0}} go v (λ x. go final) (head_long head) c.args.at bytes c.args.cursor.now c.read_section.new.cursor (Some rest) (Some left) (Err e) behind tt
+          (section_reads set names old first after head k c.args.at c.args.cursor.now c.read_section.new.cursor (untyped c.index_mut-image.result.now) (untyped c.read_section.new.image) c.begin_section.new.staged.tail now final
+          (Some rest) (Some left) (Err e) c.requires.whole.came new.0 is (ap untyped image) c.begin_section.ensures.tail last r))
+          (c.in_err-read_section.ensures.reads names (begun set names old first after k) (omega (arith, length-map old.images.items untyped))));
+      moves = rw (p.1) tt;
+      whole = record {
+        images = shaped_put set c.begin_section.new.staged.images.items k c.read_section.new.image shaped new.0 c.read_section.ensures.shaped;
+        came = search rules;
+        machine = search rules;
+        fresh = still_fresh set old.images.items c.begin_section.new.staged.images.items old.came.items c.begin_section.new.staged.came.items k (begun_at set k head.version) c.read_section.new.image
+            (omega arith) c.begin_section.ensures.came began c.requires.whole.fresh;
+      };
+      short = c.open_section.ensures.short;
+    }
 
-pub returns-clause-reads : goal.returns-clause-reads
-returns-clause-reads g c = λ names first after.
+pub returns : goal.returns
+returns g c =
     let set = described c.args.set.now in
     let head = c.args.head.now in
     let k = c.in_ok-device.device in
     let old = c.args.staged.now in
     let is = sym (c.in_ok-device.was) ∙ c.open_section.ensures.opened ∙ ap (λ came. opened_at c.args.at (section_opened set came head.name.items head.instance head.version)) c.deref.ensures.0 in
     let new = rw c.deref.ensures.0 at c.in_ok-device.ensures.fresh in
-    let began = began g (goal.at.returns-clause-reads g c).After-index_mut-image in
-    let image = image g (goal.at.returns-clause-reads g c).After-index_mut-image in
+    let began = began g (goal.at.returns g c).After-index_mut-image in
+    let image = image g (goal.at.returns g c).After-index_mut-image in
     let now = c.read_section.new.section in
     let final = ended_in (name_of set c.begin_section.new.staged.machine) (map untyped (slice_set c.begin_section.new.staged.images.items k c.read_section.new.image)) c.begin_section.new.staged.came.items (tail_of now.tail) in
     let machine = ap (name_of set) c.begin_section.ensures.machine in
     let last = ends_later (name_of set old.machine) (name_of set c.begin_section.new.staged.machine) c.begin_section.new.staged.images.items old.images.items old.came.items c.begin_section.new.staged.came.items k now.device (begun_at set k head.version)
     c.read_section.new.image (tail_of now.tail) machine began c.begin_section.ensures.came c.in_ok-read_section.ensures.section.0 in
-    let go = reading_on (judge (by_state set names)) in
-    let v = ask set names (state_of set old (Free first after)) (head_unit head) (head_long head) in
-    reads_as (λ n l. l)
-    (λ rest left r bytes behind. read_behind {X = Unit {0}} go v (λ x. go final) (head_long head) c.args.at bytes c.args.cursor.now c.read_section.new.cursor (Some rest) (Some left) (Ok c.in_ok-read_section.field-0) behind c.in_ok-read_section.ensures.moves.0
-    (section_reads set names old first after head k c.args.at c.args.cursor.now c.read_section.new.cursor (untyped c.index_mut-image.result.now) (untyped c.read_section.new.image) c.begin_section.new.staged.tail now final
-    (Some rest) (Some left) (Ok c.in_ok-read_section.field-0) c.requires.whole.came new.0 is (ap untyped image) c.begin_section.ensures.tail last r))
-    (c.in_ok-read_section.ensures.reads names (begun set names old first after k) (omega (arith, length-map old.images.items untyped)))
-
-pub returns-clause-moves : goal.returns-clause-moves
-returns-clause-moves g c =
-    let set = described c.args.set.now in
-    let k = c.in_ok-device.device in
-    let new = rw c.deref.ensures.0 at c.in_ok-device.ensures.fresh in
-    let due = sections_taken set set.devices c.args.staged.now.came.items k (record { instance = 0; desc = no_desc; subs = [] }) c.requires.whole.came new.1 in
+    let shaped = subst (AreShaped set) (sym began) (shaped_put set old.images.items k (begun_at set k head.version) c.requires.whole.images new.0 (default_shaped set k head.version)) in
+    let due = sections_taken set set.devices old.came.items k (record { instance = 0; desc = no_desc; subs = [] }) c.requires.whole.came new.1 in
     let came = ap (λ l. sections_due set set.devices l) c.begin_section.ensures.came in
     let moves = c.in_ok-read_section.ensures.moves in
-    (moves.0, moves.1, omega (arith, ap (λ x. subs_due set (device_at set k).subs x.came) (image g (goal.at.returns-clause-moves g c).After-index_mut-image)))
-
-pub returns-in_err-read_section-clause-whole : goal.returns-in_err-read_section-clause-whole
-returns-in_err-read_section-clause-whole g c =
-    let set = described c.args.set.now in
-    let head = c.args.head.now in
-    let k = c.in_ok-device.device in
-    let old = c.args.staged.now in
-    let new = rw c.deref.ensures.0 at c.in_ok-device.ensures.fresh in
-    let began = began g (goal.at.returns-in_err-read_section-clause-whole g c).After-index_mut-image in
-    let shaped = subst (AreShaped set) (sym began) (shaped_put set old.images.items k (begun_at set k head.version) c.requires.whole.images new.0 (default_shaped set k head.version)) in
     record {
-      images = shaped_put set c.begin_section.new.staged.images.items k c.read_section.new.image shaped new.0 c.read_section.ensures.shaped;
-      came = search rules;
-      machine = search rules;
-      fresh = still_fresh set old.images.items c.begin_section.new.staged.images.items old.came.items c.begin_section.new.staged.came.items k (begun_at set k head.version) c.read_section.new.image
-          (omega arith) c.begin_section.ensures.came began c.requires.whole.fresh;
-    }
-
-pub returns-clause-whole : goal.returns-clause-whole
-returns-clause-whole g c =
-    let set = described c.args.set.now in
-    let head = c.args.head.now in
-    let k = c.in_ok-device.device in
-    let old = c.args.staged.now in
-    let new = rw c.deref.ensures.0 at c.in_ok-device.ensures.fresh in
-    let began = began g (goal.at.returns-clause-whole g c).After-index_mut-image in
-    let shaped = subst (AreShaped set) (sym began) (shaped_put set old.images.items k (begun_at set k head.version) c.requires.whole.images new.0 (default_shaped set k head.version)) in
-    record {
-      images = shaped_put set c.begin_section.new.staged.images.items k c.read_section.new.image shaped new.0 c.read_section.ensures.shaped;
-      came = search rules;
-      machine = search rules;
-      fresh = still_fresh set old.images.items c.begin_section.new.staged.images.items old.came.items c.begin_section.new.staged.came.items k (begun_at set k head.version) c.read_section.new.image
-          (omega arith) c.begin_section.ensures.came began c.requires.whole.fresh;
+      reads = λ names first after.
+          let go = reading_on (judge (by_state set names)) in
+          let v = ask set names (state_of set old (Free first after)) (head_unit head) (head_long head) in
+          reads_as (λ n l. l)
+          (λ rest left r bytes behind. read_behind {X = Unit {0}} go v (λ x. go final) (head_long head) c.args.at bytes c.args.cursor.now c.read_section.new.cursor (Some rest) (Some left) (Ok c.in_ok-read_section.field-0) behind c.in_ok-read_section.ensures.moves.0
+          (section_reads set names old first after head k c.args.at c.args.cursor.now c.read_section.new.cursor (untyped c.index_mut-image.result.now) (untyped c.read_section.new.image) c.begin_section.new.staged.tail now final
+          (Some rest) (Some left) (Ok c.in_ok-read_section.field-0) c.requires.whole.came new.0 is (ap untyped image) c.begin_section.ensures.tail last r))
+          (c.in_ok-read_section.ensures.reads names (begun set names old first after k) (omega (arith, length-map old.images.items untyped)));
+      moves = (moves.0, moves.1, omega (arith, ap (λ x. subs_due set (device_at set k).subs x.came) image));
+      whole = record {
+        images = shaped_put set c.begin_section.new.staged.images.items k c.read_section.new.image shaped new.0 c.read_section.ensures.shaped;
+        came = search rules;
+        machine = search rules;
+        fresh = still_fresh set old.images.items c.begin_section.new.staged.images.items old.came.items c.begin_section.new.staged.came.items k (begun_at set k head.version) c.read_section.new.image
+            (omega arith) c.begin_section.ensures.came began c.requires.whole.fresh;
+      };
+      short = c.open_section.ensures.short;
     }

@@ -9,30 +9,34 @@ use Rattle.vms_load.proofs.stream.stream.Goals as goal
 pub read_head-requires : goal.read_head-requires
 read_head-requires g c = record { held = rw (c.new-cursor.ensures); place = omega (arith, ap (λ s. s.at) c.new-cursor.ensures) }
 
-pub returns-in_err-read_head-clause-reads : goal.returns-in_err-read_head-clause-reads
-returns-in_err-read_head-clause-reads g c =
+pub returns-in_err-read_head : goal.returns-in_err-read_head
+returns-in_err-read_head g c =
     let set = described c.args.set.now in
     let names = accepted_of set c.args.only in
     let go = reading_on (judge (by_state set names)) in
     let start = state_of set c.restart.new.staged Before in
     let e = c.in_err-read_head.field-0.0 in
     let p = err_from_is_err_and c.from_residual.result c.from_residual.ensures.1 in
-    rw (p.1, p.2)
-    (reads_as (λ n l. omega arith)
-    (λ input left h. refused_before set names {X = Unit {0}} c.restart.new.staged start (Some input) (Some left) (λ x. go (state_of set c.restart.new.staged (Free true false))) c.new-cursor.result c.read_head.new.cursor e
-    c.restart.ensures.state (rw (c.new-cursor.ensures)) (rw (c.new-cursor.ensures)) h) (c.in_err-read_head.ensures.reads set names start))
+    record {
+      reads = rw (p.1, p.2)
+          (reads_as (λ n l. omega arith)
+          (λ input left h. refused_before set names {X = Unit {0}} c.restart.new.staged start (Some input) (Some left) (λ x. go (state_of set c.restart.new.staged (Free true false))) c.new-cursor.result c.read_head.new.cursor e
+          c.restart.ensures.state (rw (c.new-cursor.ensures)) (rw (c.new-cursor.ensures)) h) (c.in_err-read_head.ensures.reads set names start));
+      shaped = c.restart.ensures.whole.images;
+      machine = c.restart.ensures.whole.machine;
+    }
 
-pub sections-requires-clause-set : goal.sections-requires-clause-set
-sections-requires-clause-set g c = record { machine = c.requires.machine; whole = c.restart.ensures.whole }
-
-pub sections-requires-clause-cursor : goal.sections-requires-clause-cursor
-sections-requires-clause-cursor g c =
+pub sections-requires : goal.sections-requires
+sections-requires g c =
     let set = described c.args.set.now in
     let due = start_due set c.restart.ensures.state in
-    record { held = c.in_ok-read_head.ensures.held; place = omega (arith, due, most_small set c.args.set.now.well_formed, c.in_ok-read_head.ensures.moves, ap reach c.new-cursor.ensures) }
+    record {
+      can = record { machine = c.requires.machine; whole = c.restart.ensures.whole };
+      cursor = record { held = c.in_ok-read_head.ensures.held; place = omega (arith, due, most_small set c.args.set.now.well_formed, c.in_ok-read_head.ensures.moves, ap reach c.new-cursor.ensures) };
+    }
 
-pub returns-in_err-sections-clause-reads : goal.returns-in_err-sections-clause-reads
-returns-in_err-sections-clause-reads g c =
+pub returns-in_err-sections : goal.returns-in_err-sections
+returns-in_err-sections g c =
     let set = described c.args.set.now in
     let names = accepted_of set c.args.only in
     let go = reading_on (judge (by_state set names)) in
@@ -42,12 +46,16 @@ returns-in_err-sections-clause-reads g c =
     let h = c.in_ok-read_head.ensures.moves in
     let e = c.in_err-sections.field-0.0 in
     let p = err_from_is_err_and c.from_residual-in_err-sections.result c.from_residual-in_err-sections.ensures.1 in
-    rw (p.1, p.2)
-    (reads_as (λ n l. l)
-    (λ input left h. refused_before set names {X = Unit {0}} c.sections.new.staged start (Some input) (Some left) next c.new-cursor.result c.sections.new.cursor e c.restart.ensures.state
-    (rw (c.new-cursor.ensures)) (rw (c.new-cursor.ensures)) h)
-    (goes_on {X = Unit {0}} (stream_due set c.restart.new.staged.came.items (Some First) + LONGEST_HEAD) (most_given set) (go start) (go (state_of set c.restart.new.staged (Free true false))) next c.new-cursor.result c.read_head.new.cursor c.sections.new.cursor (Err e)
-    h.0 tt h.1 tt (omega (arith, ap reach c.new-cursor.ensures)) (c.in_ok-read_head.ensures.reads set names start) c.in_err-sections.ensures.reads))
+    record {
+      reads = rw (p.1, p.2)
+          (reads_as (λ n l. l)
+          (λ input left h. refused_before set names {X = Unit {0}} c.sections.new.staged start (Some input) (Some left) next c.new-cursor.result c.sections.new.cursor e c.restart.ensures.state
+          (rw (c.new-cursor.ensures)) (rw (c.new-cursor.ensures)) h)
+          (goes_on {X = Unit {0}} (stream_due set c.restart.new.staged.came.items (Some First) + LONGEST_HEAD) (most_given set) (go start) (go (state_of set c.restart.new.staged (Free true false))) next c.new-cursor.result c.read_head.new.cursor c.sections.new.cursor (Err e)
+          h.0 tt h.1 tt (omega (arith, ap reach c.new-cursor.ensures)) (c.in_ok-read_head.ensures.reads set names start) c.in_err-sections.ensures.reads));
+      shaped = c.in_err-sections.ensures.whole.images;
+      machine = c.in_err-sections.ensures.whole.machine;
+    }
 
 pub trailer-requires-clause-place : goal.trailer-requires-clause-place
 trailer-requires-clause-place g c =
@@ -58,8 +66,8 @@ trailer-requires-clause-place g c =
 pub trailer-requires-clause-held : goal.trailer-requires-clause-held
 trailer-requires-clause-held g c = c.in_ok-sections.ensures.held
 
-pub returns-in-Ok-clause-reads : goal.returns-in-Ok-clause-reads
-returns-in-Ok-clause-reads g c =
+pub returns-in-Ok : goal.returns-in-Ok
+returns-in-Ok g c =
     let set = described c.args.set.now in
     let names = accepted_of set c.args.only in
     let go = reading_on (judge (by_state set names)) in
@@ -71,13 +79,17 @@ returns-in-Ok-clause-reads g c =
     let lead = goes_further (go start) (go (state_of set c.restart.new.staged (Free true false))) (go (state_of set c.sections.new.staged (spot_at None))) c.new-cursor.result c.read_head.new.cursor c.sections.new.cursor h.0 s.0 h.1 s.1
     (c.in_ok-read_head.ensures.reads set names start) c.in_ok-sections.ensures.reads in
     let t = c.in-Ok.ensures.place in
-    subst (λ n. GoesThrough (intake g.S.Source c.args.source.now) (intake g.S.Source c.trailer.new.source) set (reading (by_state set names) (at_start set)) c.sections.new.staged (Ok n)) (sym c.at.ensures)
-    (reads_both (λ k n l m. (omega (arith, l, m, h.1, s.1, t, free, zero), omega (arith, (start_due set c.restart.ensures.state), h, s, t, free, zero)))
-    (λ all rest left l r. closed set names c.sections.new.staged start (Some all) (Some rest) (Some left) c.new-cursor.result c.sections.new.cursor c.trailer.new.self.at (Ok c.in-Ok.field-0)
-    c.restart.ensures.state (rw (c.new-cursor.ensures)) (rw (c.new-cursor.ensures)) c.in_ok-sections.ensures.held l r) lead c.in-Ok.ensures.reads)
+    record {
+      reads = subst (λ n. GoesThrough (intake g.S.Source c.args.source.now) (intake g.S.Source c.trailer.new.source) set (reading (by_state set names) (at_start set)) c.sections.new.staged (Ok n)) (sym c.at.ensures)
+          (reads_both (λ k n l m. (omega (arith, l, m, h.1, s.1, t, free, zero), omega (arith, (start_due set c.restart.ensures.state), h, s, t, free, zero)))
+          (λ all rest left l r. closed set names c.sections.new.staged start (Some all) (Some rest) (Some left) c.new-cursor.result c.sections.new.cursor c.trailer.new.self.at (Ok c.in-Ok.field-0)
+          c.restart.ensures.state (rw (c.new-cursor.ensures)) (rw (c.new-cursor.ensures)) c.in_ok-sections.ensures.held l r) lead c.in-Ok.ensures.reads);
+      shaped = c.in_ok-sections.ensures.whole.images;
+      machine = c.in_ok-sections.ensures.whole.machine;
+    }
 
-pub returns-in-Err-clause-reads : goal.returns-in-Err-clause-reads
-returns-in-Err-clause-reads g c =
+pub returns-in-Err : goal.returns-in-Err
+returns-in-Err g c =
     let set = described c.args.set.now in
     let names = accepted_of set c.args.only in
     let go = reading_on (judge (by_state set names)) in
@@ -86,7 +98,11 @@ returns-in-Err-clause-reads g c =
     let s = c.in_ok-sections.ensures.moves in
     let lead = goes_further (go start) (go (state_of set c.restart.new.staged (Free true false))) (go (state_of set c.sections.new.staged (spot_at None))) c.new-cursor.result c.read_head.new.cursor c.sections.new.cursor h.0 s.0 h.1 s.1
     (c.in_ok-read_head.ensures.reads set names start) c.in_ok-sections.ensures.reads in
-    rw (c.concerning.ensures, ← same_course None c.in-Err.fault)
-    (reads_both (λ k n l m. omega (arith, ap held_long c.in_ok-sections.ensures.held, ap reach c.new-cursor.ensures, start_due set c.restart.ensures.state))
-    (λ all rest left l r. closed set names c.sections.new.staged start (Some all) (Some rest) (Some left) c.new-cursor.result c.sections.new.cursor c.trailer.new.self.at (Err c.in-Err.fault)
-    c.restart.ensures.state (rw (c.new-cursor.ensures)) (rw (c.new-cursor.ensures)) c.in_ok-sections.ensures.held l r) lead c.in-Err.ensures.reads)
+    record {
+      reads = rw (c.concerning.ensures, ← same_course None c.in-Err.fault)
+          (reads_both (λ k n l m. omega (arith, ap held_long c.in_ok-sections.ensures.held, ap reach c.new-cursor.ensures, start_due set c.restart.ensures.state))
+          (λ all rest left l r. closed set names c.sections.new.staged start (Some all) (Some rest) (Some left) c.new-cursor.result c.sections.new.cursor c.trailer.new.self.at (Err c.in-Err.fault)
+          c.restart.ensures.state (rw (c.new-cursor.ensures)) (rw (c.new-cursor.ensures)) c.in_ok-sections.ensures.held l r) lead c.in-Err.ensures.reads);
+      shaped = c.in_ok-sections.ensures.whole.images;
+      machine = c.in_ok-sections.ensures.whole.machine;
+    }

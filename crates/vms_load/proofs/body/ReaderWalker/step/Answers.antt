@@ -1,4 +1,4 @@
-use Rattle.vms_load.proofs.Facade.{refl, IfErr-weaker, intake, Told, told}
+use Rattle.vms_load.proofs.Facade.{refl, arith, IfErr-weaker, intake, Told, told}
 use Rattle.vms_load.proofs.RunReads.{on_ok, step_ok, step_err}
 use Rattle.vms_load.proofs.body.ReaderWalker.step.Given.{Over}
 use Rattle.vms_load.proofs.body.ReaderWalker.step.Goals.{Start, After-read_step}
@@ -11,8 +11,11 @@ old g c = let self = c.args.self.now in told self.image.now self.cursor.now.at (
 abbrev new : (g : Over) (c : goal.After-read_step g) → Told
 new g c = told c.read_step.new.image c.read_step.new.cursor.at (intake g.S.Source c.read_step.new.source)
 
-pub read_step-requires-clause-step : goal.read_step-requires-clause-step
-read_step-requires-clause-step g c = record { inside = c.requires.inside; of_kind = c.requires.may.2 }
+pub read_step-requires : goal.read_step-requires
+read_step-requires g c = record {
+  step = record { inside = c.requires.inside; of_kind = c.requires.may.2 };
+  cursor = record { held = c.requires.may.1; place = omega (arith, c.requires.may.0) };
+}
 
 pub returns-clause-ok : goal.returns-clause-ok
 returns-clause-ok g c =
