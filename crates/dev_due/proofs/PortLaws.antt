@@ -58,41 +58,20 @@ module _ (base to : ℕ) (port : Port) (l : base ≤ to) (h : IsSentAfter to (af
     pub is : (begin ≡ base) ⊎ (p.receiver.timeout ≡ Some begin)
     pub span : IsSpan port begin to
 
+  at-base : ((c : ℕ) → base ≤ c → c ≤ to → has_come c p.receiver.timeout ≡ has_come to p.receiver.timeout) → Begins
+  at-base same = record { begin = base; from = omega arith; is = inl refl; span = record { upto = l; same = λ c low high. one c low high (same c low high) } }
+
   begins-by : (timeout : Option ℕ) → p.receiver.timeout ≡ timeout → Begins
-  begins-by None e = record {
-    begin = base;
-    from = omega arith;
-    is = inl refl;
-    span = record { upto = l; same = λ c low high. one c low high (rw e refl) };
-  }
-  begins-by (Some timeout) e = ⊎_elim
-      (λ (f : to < timeout). record {
-        begin = base;
-        from = omega arith;
-        is = inl refl;
-        span = record { upto = l; same = λ c low high. one c low high (rw e (neither timeout c to high f)) };
-      })
+  begins-by None e = at-base (λ c low high. rw e refl)
+  begins-by (Some timeout) e = ⊎_elim (λ (f : to < timeout). at-base (λ c low high. rw e (grind (arith, nat_tests))))
       (λ (f : timeout ≤ to). ⊎_elim
       (λ (g : base < timeout). record {
         begin = timeout;
         from = omega arith;
         is = inr e;
-        span = record { upto = f; same = λ c low high. one c (omega arith) high (rw e (both timeout c to low f)) };
+        span = record { upto = f; same = λ c low high. one c (omega arith) high (rw e (grind (arith, nat_tests))) };
       })
-      (λ (g : timeout ≤ base). record {
-        begin = base;
-        from = omega arith;
-        is = inl refl;
-        span = record { upto = l; same = λ c low high. one c low high (rw e (both timeout c to (omega arith) f)) };
-      })
-      (cases_lt base timeout))
-      (cases_lt to timeout)
-    where
-      neither : (timeout c to : ℕ) → c ≤ to → to < timeout → nat_le timeout c ≡ nat_le timeout to
-      neither timeout c to h f = grind (arith, nat_tests)
-
-      both : (timeout c to : ℕ) → timeout ≤ c → timeout ≤ to → nat_le timeout c ≡ nat_le timeout to
-      both timeout c to h f = grind (arith, nat_tests)
+      (λ (g : timeout ≤ base). at-base (λ c low high. rw e (grind (arith, nat_tests)))) (cases_lt base timeout)) (cases_lt to timeout)
 
   pub begins : Begins
   begins = begins-by p.receiver.timeout refl
@@ -185,8 +164,7 @@ module _ (port : Port) (now to : ℕ) (looped : has port.mcr 4 ≡ true) (shift 
   since-base : (k : ℕ) (timeout : Option ℕ) (base : ℕ) → k ≤ length port.transmitter.waiting + 1 → timeout ≡ Some base → IsSince port shift k timeout
       → IsBase port now base
   since-base k timeout base h e (inl own) = inr (inl (sym own ∙ e))
-  since-base k timeout base h e (inr (j, below, is)) =
-      inr (inr (shift, sends, (j, omega arith, inr (same_Some base _ (sym e ∙ is)))))
+  since-base k timeout base h e (inr (j, below, is)) = inr (inr (shift, sends, (j, omega arith, inr (same_Some base _ (sym e ∙ is)))))
 
   -- a port in loop mode after k bytes left, and at which moment: it holds the rest
   record Reached (k : ℕ) (base : ℕ) (p : Port) : Type 0 where
@@ -254,8 +232,7 @@ module _ (port : Port) (now to : ℕ) (looped : has port.mcr 4 ≡ true) (shift 
       let due = shift.due + k * character in
       let first : Shift = record { byte = byte; due = due } in
       let e : p.transmitter.shift ≡ Some first = cc (first-shift due byte bytes) in
-      ⊎_elim
-      (λ (f : to < due). covered k base p r l (subst (IsSentAfter to) (sym e) f))
+      ⊎_elim (λ (f : to < due). covered k base p r l (subst (IsSentAfter to) (sym e) f))
       (λ (f : due ≤ to).
       cover-loop bytes (k + 1) due (after due p) (next-reached k base due p first r e refl (omega arith) later) (record {
         transmitter = sent-transmitter p first e
@@ -263,8 +240,7 @@ module _ (port : Port) (now to : ℕ) (looped : has port.mcr 4 ≡ true) (shift 
             ∙ ap (λ (d : ℕ). holding (timetable character d p.transmitter.waiting)) (omega arith)
             ∙ ap (λ (w : List ℕ). holding (timetable character (shift.due + (k + 1) * character) w)) (cc (first-waiting due byte bytes));
         all = omega arith;
-      }) f (omega arith))
-      (cases_lt to due)
+      }) f (omega arith)) (cases_lt to due)
 
   whole : port.transmitter ≡ holding (timetable character (shift.due + 0 * character) (shift.byte ∷ port.transmitter.waiting))
   unfolding holding timetable
@@ -322,8 +298,7 @@ by-shift : (shift : Option Shift) (port : Port) (now to : ℕ) → port.transmit
 by-shift None port now to e h d = inl (at-once port now to h (subst (IsSentAfter to) (sym e) tt))
 by-shift (Some shift) port now to e h d = ⊎_elim
     (λ (f : to < shift.due). inl (at-once port now to h (subst (IsSentAfter to) (sym e) f)))
-    (λ (f : shift.due ≤ to). by-mode (has port.mcr 4) port now to shift refl e h d f)
-    (cases_lt to shift.due)
+    (λ (f : shift.due ≤ to). by-mode (has port.mcr 4) port now to shift refl e h d f) (cases_lt to shift.due)
 
 -- up to any moment the line stays from one of the port's moments on, or a byte left
 pub covers : (port : Port) (now to : ℕ) → now ≤ to → IsSentAfter now port.transmitter.shift → Covers port now to ⊎ LeavesBy port to
