@@ -1,11 +1,9 @@
 // The state of a device.
 ghost use Rattle.std.specs.Prelude.{◌≡◌, ◌+◌, ◌*◌, ◌<◌, ◌≤◌, ◌↔◌, IsTrue, Option, None, pos, length, get_or, slice_set, replicate, take, drop, IfOk};
-ghost use Rattle.vms_desc.specs.Described.{described, device_at};
-ghost use Rattle.vms_desc.specs.Spots.{kinds_at};
-ghost use Rattle.vms_image.specs.Typed.{default_at, IsImageOf};
+ghost use Rattle.vms_desc.specs.Calls.{DescribesDevice};
+ghost use Rattle.vms_image.specs.Calls.{CanReset, IsNumberOf, IsOf, default_in};
 ghost use Rattle.vms_kinds.specs.Codes.{InRange, code, width};
 ghost use Rattle.vms_kinds.specs.declared.Kind.TheVariants.{U8};
-ghost use Rattle.vms_spec.specs.Layout.{device_cells};
 ghost use Rattle.vms_spots.specs.Spots.{raw_of, no_spot, codes_of, AreOne, put_from, values_of};
 
 use std::alloc::{AllocError, Global};
@@ -52,8 +50,8 @@ impl Image {
     ///
     /// The set has the device.
     pub fn new(alloc: Global, set: &DescSet, device: u32) -> Result<Image, NoMemory>
-        requires { device < length (described set.now).devices }
-        ensures { IfOk result (λ image. image ≡ default_at (described set.now) device) }
+        requires { DescribesDevice set.now device }
+        ensures { IfOk result (λ image. image ≡ default_in set.now device) }
     {
         let described = set.device(device);
         Ok(Image {
@@ -69,12 +67,8 @@ impl Image {
     ///
     /// The set has the device, and this is an image of it.
     pub fn reset(&mut self, set: &DescSet, device: u32)
-        requires is_device { device < length (described set.now).devices }
-        requires subs { length self.old.came ≡ length (device_at (described set.now) device).subs }
-        requires cells { length self.old.numbers
-            ≡ length (device_cells (described set.now) (device_at (described set.now) device)) }
-        requires kinds { self.old.kinds ≡ kinds_at (described set.now) device }
-        ensures { self.new ≡ default_at (described set.now) device }
+        requires { CanReset set.now device self.old }
+        ensures { self.new ≡ default_in set.now device }
     {
         self.version = set.device(device).desc.version;
         clear(&mut self.came);
@@ -88,8 +82,8 @@ impl Image {
     ///
     /// The set has the device.
     pub fn is_of(&self, set: &DescSet, device: u32) -> bool
-        requires { device < length (described set.now).devices }
-        ensures { IsTrue result ↔ IsImageOf (described set.now) device self.now }
+        requires { DescribesDevice set.now device }
+        ensures { IsTrue result ↔ IsOf set.now device self.now }
     {
         self.came.len() == set.device(device).subs.as_slice().len()
             && self.cells.spots() == set.spots(device)
@@ -109,8 +103,7 @@ impl Image {
     /// There is such a cell.
     pub fn get(&self, cell: u32) -> i128
         requires { cell < length self.now.numbers }
-        ensures number { result ≡ get_or self.now.numbers cell (pos 0) }
-        ensures range { InRange (get_or self.now.kinds cell U8) result }
+        ensures { IsNumberOf self.now cell result }
     {
         self.cells.get(cell)
     }
