@@ -1,4 +1,4 @@
-use Rattle.vms_load.proofs.Facade.{◌<◌, sym, ap, ◌∙◌, arith, length, get_or, false, Some, None, ℕ, Err, List, Device, find_device, described, reason_against}
+use Rattle.vms_load.proofs.Facade.{rules, ◌<◌, sym, ap, ◌∙◌, arith, length, get_or, false, Some, None, ℕ, Err, List, Device, find_device, described, reason_against}
 use Rattle.vms_load.proofs.HeadLemmas.{opens, device_below}
 use Rattle.vms_load.proofs.StagedLemmas.{section_new}
 use Rattle.vms_load.proofs.heads.open_section.Goals as goal
