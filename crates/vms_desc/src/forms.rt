@@ -1,5 +1,5 @@
 // The cells of a device, laid out.
-ghost use Rattle.std.specs.Prelude.{◌≡◌, ◌++◌, ◌∷◌, [], length, take, drop, map, OnOk, IfOk};
+ghost use Rattle.std.specs.Prelude.{◌≡◌, ◌≤◌, ◌-◌, ◌++◌, ◌∷◌, [], length, take, drop, map, OnOk, IfOk};
 ghost use Rattle.vms_parts.specs.declared.types.CellForm.{CellForm};
 ghost use Rattle.vms_spec.specs.Layout.{times};
 ghost use Rattle.vms_desc.specs.Put.{AreForms, CanRepeat, Puts};
@@ -10,6 +10,9 @@ use crate::{Desc, Device, Field, Sub};
 use std::alloc::{AllocError, Global};
 use vms_kinds::{Item, Kind};
 use vms_parts::{Measure, capacity, size_of_fields, size_of_subs};
+
+// Parts of a list from this length on are repeated as a whole.
+const LONG_PART: usize = 32;
 
 // The forms of cells, in order: the kind and the default of each. Two lists take half of the memory
 // of a list of `CellForm`.
@@ -79,10 +82,26 @@ fn repeat<T: Copy>(list: &mut Vec<T>, start: usize, count: u32) -> Result<(), Al
     let mut done = 1;
     while done < count {
         let more = done.min(count - done);
-        list.extend_from_within(start..start + size * more as usize)?;
+        append_again(list, start, start + size * more as usize)?;
         done += more;
     }
     Ok(())
+}
+
+// Appends the part of a list between two places again. A long part is copied as a whole, which needs
+// room for it, but not element by element.
+fn append_again<T: Copy>(list: &mut Vec<T>, start: usize, end: usize) -> Result<(), AllocError>
+    requires order { start ≤ end }
+    requires within { end ≤ length list.old.items }
+    ensures { let part = take (end - start) (drop start list.old.items) in
+        OnOk result (list.new.items ≡ list.old.items ++ part) }
+{
+    if end - start < LONG_PART {
+        return list.extend_from_within(start..end);
+    }
+    let mut part = Vec::new(*list.allocator());
+    part.extend_from_slice(&list[start..end])?;
+    list.extend_from_slice(&part)
 }
 
 #[cycle(forms)]

@@ -28,8 +28,8 @@ overflow_add-start g c =
     (search rules) c.requires.within c.loop-done.invariant.items (search rules) in
     search (rules, room)
 
-pub extend_from_within-requires-clause-in_bounds : goal.extend_from_within-requires-clause-in_bounds
-extend_from_within-requires-clause-in_bounds g c =
+pub append_again-requires-clause-within : goal.append_again-requires-clause-within
+append_again-requires-clause-within g c =
     let room =
     room_for c.args.list.now.items c.loop-done.list.items c.len.result c.args.start c.loop-done.done c.min-more.result
     (search rules) c.requires.within c.loop-done.invariant.items (search rules) in
@@ -42,9 +42,9 @@ loop-done-preserved g c =
     record {
       items =
           repeats_more (drop c.args.start old)
-          (take c.args.start old) c.loop-done.list.items c.extend_from_within.new.self.items c.loop-done.done c.min-more.result c.args.start
+          (take c.args.start old) c.loop-done.list.items c.append_again.new.list.items c.loop-done.done c.min-more.result c.args.start
           (c.len.result - c.args.start)
-          at.0 at.1 c.loop-done.invariant.items (search rules) c.in_ok-extend_from_within.ensures.items;
+          at.0 at.1 c.loop-done.invariant.items (search rules) c.in_ok-append_again.ensures;
       some = omega (arith, c.loop-done.invariant.some);
       within = search rules;
     }
