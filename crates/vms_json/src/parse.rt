@@ -151,9 +151,7 @@ fn begin_object<'a>(reader: &mut Reader<'a>, laid: &mut Laid<'a>) -> Result<bool
             Ok(true)
         }
         Some(name) => {
-            laid.begin(Row::Object(0))?;
-            laid.in_list = false;
-            laid.rows.push(Row::Key(name))?;
+            laid.begin_members(name)?;
             Ok(false)
         }
     }
@@ -225,6 +223,23 @@ impl<'a> Laid<'a> {
     {
         self.begun.push(self.rows.len())?;
         self.rows.push(row)?;
+        Ok(())
+    }
+
+    // Begins an object with its first key. The rows have room in this function, which is inlined, so
+    // an object without members needs none.
+    #[inline(always)]
+    fn begin_members(&mut self, name: &'a str) -> Result<(), NoNode>
+        ensures rows { OnOk result (self.new.rows.items
+            ≡ (self.old.rows.items ++ Row.Object 0 ∷ []) ++ Row.Key name ∷ []) }
+        ensures begun { OnOk result (self.new.begun.items
+            ≡ self.old.begun.items ++ length self.old.rows.items ∷ []) }
+        ensures inside { OnOk result (self.new.in_list ≡ false) }
+        ensures err { IfErr result (λ why. why ≡ NoNode.NoMemory) }
+    {
+        self.begin(Row::Object(0))?;
+        self.in_list = false;
+        self.rows.push(Row::Key(name))?;
         Ok(())
     }
 

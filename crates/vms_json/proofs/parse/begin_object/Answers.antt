@@ -13,8 +13,7 @@ pub returns-in_ok-push-in-None-clause-ok : goal.returns-in_ok-push-in-None-claus
 returns-in_ok-push-in-None-clause-ok c = λ said is.
     object_empty said c.args.laid.now _ c.args.reader.now c.next_key.new.self is (omega arith) (grind arith) c.in_ok-push-in-None.ensures.items refl refl
 
-pub returns-in_ok-push-in-Some-clause-ok : goal.returns-in_ok-push-in-Some-clause-ok
-returns-in_ok-push-in-Some-clause-ok c = λ said is.
-    let b = c.in_ok-begin-in-Some.ensures in
-    object_opened said c.args.laid.now _ c.args.reader.now c.next_key.new.self c.in-Some.name 0 is (omega arith) (grind arith)
-    (c.in_ok-push-in-Some.ensures.items ∙ ap (λ rs. rs ++ rows.Key c.in-Some.name ∷ []) b.rows) b.begun refl
+pub returns-in_ok-begin_members-in-Some-clause-ok : goal.returns-in_ok-begin_members-in-Some-clause-ok
+returns-in_ok-begin_members-in-Some-clause-ok c = λ said is.
+    let b = c.in_ok-begin_members-in-Some.ensures in
+    object_opened said c.args.laid.now _ c.args.reader.now c.next_key.new.self c.in-Some.name 0 is (omega arith) (grind arith) b.rows b.begun b.inside
