@@ -1,5 +1,5 @@
 -- What is required, one after the other, is taken if it is at the front.
-use Rattle.vms_analyze.proofs.Facade.{◌≡◌, ℕ, ◌+◌, ◌<◌, ◌^◌, Bool, true, false, ◌&&◌, nat_le, List, [], ◌∷◌, ◌++◌, length, length-append, append_assoc, Some, ℤ}
+use Rattle.vms_analyze.proofs.Facade.{◌≡◌, ℕ, ◌+◌, ◌<◌, ◌^◌, Bool, true, ◌&&◌, nat_le, List, [], ◌∷◌, ◌++◌, length, length-append, append_assoc, Some, ℤ}
 use Rattle.vms_analyze.proofs.Facade.{refl, sym, ap, ◌∙◌, arith, codes, decimal, le-leb, and_from, Kind, width, code, InRange, number_at, in_range, be32}
 use Rattle.vms_analyze.proofs.Facade.{section_head, foot, length-code, value_code, be32_read, front_take, front_drop, ranged, begins_itself, Want, Bytes, Any}
 use Rattle.vms_analyze.proofs.Facade.{Number, Head, Foot, Line, number_line, Took, took, only_if, take_number, taken, Found, Lines, Differs, behind}
@@ -12,8 +12,7 @@ pub record Takes (w : Want) (id : ℕ) (bytes : List ℕ) (next : ℕ) (lines : 
   pub is : (more : List ℕ) → taken w id (bytes ++ more) ≡ Some (took (length bytes) next lines)
 
 pub if_so : (b : Bool) (t : Took) → b ≡ true → only_if b t ≡ Some t
-if_so true t e = refl
-if_so false t e = cc
+if_so b t e = grind arith
 
 pub takes_bytes : (bytes : List ℕ) (id : ℕ) → Takes (Bytes bytes) id bytes id []
 takes_bytes bytes id = record { is = λ more. if_so _ (took (length bytes) id []) (begins_itself bytes more) }

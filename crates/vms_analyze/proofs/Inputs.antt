@@ -184,8 +184,7 @@ before_none None = refl
 
 pub goes_on : {A T : Type 0} (m : T → A) (says : Data → Option A) (now rest : Items) (d : Data) (whole : Option (List A)) (done : List T) (t : T)
     → whole ≡ before (map m done) (each says now) → now ≡ item d rest → says d ≡ Some (m t) → whole ≡ before (map m (done ++ t ∷ [])) (each says rest)
-goes_on m says now rest d whole done t e is said =
-    rw (e, is, said, before_one (map m done) (m t) (each says rest), map-append m done (t ∷ [])) refl
+goes_on m says now rest d whole done t e is said = rw (e, is, said, before_one (map m done) (m t) (each says rest), map-append m done (t ∷ [])) refl
 
 pub stops : {A T U : Type 0} (m : T → A) (n : U → List A) (says : Data → Option A) (now rest : Items) (d : Data) (whole : Option (List A)) (done : List A)
     → (why : Unread) → whole ≡ before done (each says now) → now ≡ item d rest → ReadsAs m (says d) (Err why) → ReadsAs n whole (Err why)

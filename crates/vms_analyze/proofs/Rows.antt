@@ -1,10 +1,9 @@
 -- Worked listings.
+use Rattle.vms_analyze.proofs.{DevicesRead.not_told, Texts.last_place}
 use Rattle.vms_analyze.proofs.Facade.{◌≡◌, ℕ, zero, suc, true, not, ◌==◌, List, [], ◌∷◌, ◌++◌, get_or, take, drop, Some, None, pos, refl, arith, codes}
 use Rattle.vms_analyze.proofs.Facade.{list_all, and_parts, eq-eqb, digits, is_utf8, chars, devices_in, next, serde_json_on_literals, code, U64, Image, trailer}
 use Rattle.vms_analyze.proofs.Facade.{value_in, Sent, ToldDevice, told_tree, is_good_device, Lines, Differs, wants, found, Refused, Lists, HasNone, HasNoShape}
 use Rattle.vms_analyze.specs.declared.fault.AnalyzeReason.TheVariants as reasons
-use Rattle.vms_analyze.proofs.DevicesRead.{not_told}
-use Rattle.vms_analyze.proofs.Texts.{last_place}
 
 abbrev timer : List Image
 timer = record { version = 1; came = []; numbers = pos 0 ∷ [] } ∷ []

@@ -1,21 +1,19 @@
 -- The description of a well-formed set has the right shape.
+use Rattle.vms_analyze.proofs.{Letters.AreGoodFields, Parts.sub_from, Parts.device_from, Parts.all_at}
 use Rattle.vms_analyze.proofs.Facade.{◌≡◌, ℕ, ◌+◌, Bool, true, false, ◌&&◌, is_some, List, [], ◌∷◌, length, map, Option, ℤ, refl, ap, ◌∙◌, codes, suc, ◌*◌, ◌<◌}
-use Rattle.vms_analyze.proofs.Facade.{◌≤◌, cond, ◌||◌, ◌==◌, nat_lt, nat_le, length-append, get_or, arith, zero, is_none, Some, None, ⊎_elim, ◌/◌, ◌%◌}
-use Rattle.vms_analyze.proofs.Facade.{map-append, length-map, list_all, AllByRecursion, and_parts, and_from, lt-ltb, cases_lt, get_or-eq_default}
-use Rattle.vms_analyze.proofs.Facade.{slice_get-get_or, list_all-append, digit_char, no_members, Members, member, number, string, Desc, Sub, Device, Set}
-use Rattle.vms_analyze.proofs.Facade.{AtLeast, desc_cells, struct_cells, no_desc, no_field, counted, Image, own_cells, What, Constant, Filler, Rule, shapes}
-use Rattle.vms_analyze.proofs.Facade.{elements_in, entry_of, entries_of, part_entries, sub_trees, device_trees, described_tree, natural, entry_tree, told_entry}
-use Rattle.vms_analyze.proofs.Facade.{told_sub, told_device, told_tree, Told, Sent, Kept, Fixed, Skipped, is_path_byte, is_good, is_kept, fits_four}
-use Rattle.vms_analyze.proofs.Facade.{is_good_sub, is_good_device, told_what, tolds, told_part, told_subs, told_devices, told, told_sub_of, told_device_of}
-use Rattle.vms_analyze.proofs.Facade.{escape, escape_byte, escape_letter, compact_text, members_text, Kind, width, kind_word, of_integer, Part, MOST_UNUSED}
-use Rattle.vms_analyze.proofs.Facade.{LONGEST_NAME, is_name, in_range, defaults_well, counts_well, is_small_item, is_small_optional, WellFormed, struct_items}
-use Rattle.vms_analyze.proofs.Facade.{struct_depths, items_in, deepest, subs_items, devices_items, Each, HasPart, desc_at, sub_at, field_sound, few_subs}
-use Rattle.vms_analyze.proofs.Facade.{device_clean, sub_clean, member_long, AreLong, longer, entries_few, entries_long, fit, part_sound, fields_flat}
-use Rattle.vms_analyze.proofs.Facade.{LONGEST_PATH, FitsHeads, device_at, is_well_formed, few_items, all_both}
+use Rattle.vms_analyze.proofs.Facade.{◌≤◌, ◌||◌, ◌==◌, nat_le, length-append, get_or, arith, zero, is_none, Some, None, ⊎_elim, map-append, length-map}
+use Rattle.vms_analyze.proofs.Facade.{list_all, AllByRecursion, and_parts, and_from, lt-ltb, cases_lt, get_or-eq_default, slice_get-get_or, list_all-append}
+use Rattle.vms_analyze.proofs.Facade.{no_members, Members, member, number, string, Desc, Sub, Device, Set, AtLeast, desc_cells, struct_cells, no_desc, no_field}
+use Rattle.vms_analyze.proofs.Facade.{counted, Image, own_cells, What, Constant, Filler, shapes, elements_in, entry_of, entries_of, part_entries, sub_trees}
+use Rattle.vms_analyze.proofs.Facade.{device_trees, described_tree, natural, entry_tree, told_entry, told_sub, told_device, told_tree, Told, Sent, Kept, Fixed}
+use Rattle.vms_analyze.proofs.Facade.{Skipped, is_path_byte, is_good, is_kept, fits_four, is_good_sub, is_good_device, told_what, tolds, told_part, told_subs}
+use Rattle.vms_analyze.proofs.Facade.{told_devices, told, told_sub_of, told_device_of, escape, escape_byte, compact_text, members_text, Kind, width, kind_word}
+use Rattle.vms_analyze.proofs.Facade.{of_integer, Part, MOST_UNUSED, LONGEST_NAME, is_name, in_range, defaults_well, counts_well, is_small_item}
+use Rattle.vms_analyze.proofs.Facade.{is_small_optional, WellFormed, struct_items, struct_depths, items_in, deepest, subs_items, devices_items, Each, HasPart}
+use Rattle.vms_analyze.proofs.Facade.{desc_at, sub_at, field_sound, few_subs, device_clean, sub_clean, member_long, AreLong, longer, entries_few, entries_long}
+use Rattle.vms_analyze.proofs.Facade.{fit, part_sound, fields_flat, LONGEST_PATH, FitsHeads, device_at, is_well_formed, few_items, all_both}
+use Rattle.vms_analyze.proofs.Letters.{elements_good, named_path, IsNamed, named_within, name_named, sub_named, IsGoodWhat, HasPath, IsGoodElement, IsGoodField}
 use Rattle.vms_elements.specs.Elements.{Number, Element}
-use Rattle.vms_analyze.proofs.Letters.{named_path, IsNamed, named_within, name_named, sub_named, IsGoodWhat, HasPath, IsGoodElement, IsGoodField, AreGoodFields}
-use Rattle.vms_analyze.proofs.Letters.{elements_good}
-use Rattle.vms_analyze.proofs.Parts.{sub_from, device_from, all_at}
 use Rattle.vms_kinds.specs.declared.Kind.TheVariants as kinds
 use Rattle.vms_spec.specs.declared.Part.TheVariants as parts
 
@@ -24,14 +22,7 @@ use Rattle.vms_spec.specs.declared.Part.TheVariants as parts
 -- ---- entries
 
 one_entry : (w : What) (counted present : Bool) (path : List ℕ) → map told_entry (told_what w counted present path) ≡ entry_of w counted present path
-one_entry (Number cell) true true path = refl
-one_entry (Number cell) true false path = refl
-one_entry (Number cell) false present path = refl
-one_entry (Constant kind z) counted true path = refl
-one_entry (Constant kind z) counted false path = refl
-one_entry (Filler n) counted true path = refl
-one_entry (Filler n) counted false path = refl
-one_entry (Rule holds) counted present path = refl
+one_entry w counted present path = grind arith
 
 all_entries : (sent : Bool) (xs : List Element) → map told_entry (tolds sent xs) ≡ entries_of sent [] xs
 all_entries sent [] = refl
@@ -75,13 +66,7 @@ path_of (Skipped path n) = path
 
 byte_some : (x : ℕ) → 1 ≤ length (escape_byte x)
 unfolding escape_byte
-byte_some x = go (nat_lt 0 (escape_letter x)) (nat_lt x 32)
-  where
-    go : (a b : Bool)
-        → 1 ≤ length (cond a (92 ∷ escape_letter x ∷ []) (cond b (92 ∷ 117 ∷ 48 ∷ 48 ∷ digit_char (x / 16) ∷ digit_char (x % 16) ∷ []) (x ∷ [])))
-    go true b = omega arith
-    go false true = omega arith
-    go false false = omega arith
+byte_some x = grind arith
 
 escape_longer : (s : List ℕ) → length s ≤ length (escape s)
 escape_longer [] = omega arith

@@ -1,4 +1,5 @@
 -- What is written of ready images with their description lists the values text.
+use Rattle.vms_analyze.proofs.{Streams.front, Streams.front_found, Parts.each_good, Parts.fixed_small}
 use Rattle.vms_analyze.proofs.Facade.{◌≡◌, ℕ, ◌+◌, ◌<◌, ◌≤◌, true, List, [], ◌∷◌, ◌++◌, length, length-append, append_assoc, take, drop, is_none, Option, Some}
 use Rattle.vms_analyze.proofs.Facade.{refl, sym, ap, ◌∙◌, subst, arith, Bool, if◌then◌else◌, None, is_utf8, flat_map, same_Some, ◌*◌, false, ◌&&◌, ◌||◌, ◌==◌}
 use Rattle.vms_analyze.proofs.Facade.{nat_le, length-drop, get_or, map, ℤ, and_parts, leb-true, list_all, compact_text, value_in, escape_byte, read, FitsHeads}
@@ -10,10 +11,8 @@ use Rattle.vms_analyze.proofs.Facade.{struct_cells, own_cells, begins_with, conf
 use Rattle.vms_analyze.proofs.Facade.{LONGEST_PATH, Told, Sent, Kept, Fixed, Skipped, is_path, is_good, Want, Any, Number, Machine, Head, Foot, Line}
 use Rattle.vms_analyze.proofs.Facade.{element_want, sub_wants, Took, took, only_if, take_machine, is_machine, taken, Found, Differs, behind, found_after}
 use Rattle.vms_analyze.proofs.Facade.{told_part, told_subs, told_devices, told_device_of, told_sub_of}
-use Rattle.vms_analyze.proofs.Texts.{told_text, HasNoMark, last_place, tree_sound, text_printed, no_mark}
 use Rattle.vms_analyze.proofs.Shapes.{all_good, told_good, tree_same, IsGoodPart, AreGoodSubs, IsGoodDevice, AreGoodDevices}
-use Rattle.vms_analyze.proofs.Streams.{front, front_found}
-use Rattle.vms_analyze.proofs.Parts.{each_good, fixed_small}
+use Rattle.vms_analyze.proofs.Texts.{told_text, HasNoMark, last_place, tree_sound, text_printed, no_mark}
 
 -- ---- How many bytes are as required: no more than the description allows.
 
@@ -36,8 +35,7 @@ only_long true t u e = rw (sym (same_Some t u e))
 only_long false t u e = cc
 
 only_so : (b : Bool) (t u : Took) → only_if b t ≡ Some u → b ≡ true
-only_so true t u e = refl
-only_so false t u e = cc
+only_so b t u e = grind arith
 
 machine_long : (id : ℕ) (rest name : List ℕ) (u : Took) → take_machine id rest name ≡ Some u → u.long ≤ 260
 machine_long id rest name u e =

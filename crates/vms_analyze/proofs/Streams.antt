@@ -1,23 +1,21 @@
 -- What is written for ready images is found as described: elements, devices and streams.
-use Rattle.vms_analyze.proofs.Facade.{◌≡◌, ℕ, Bool, true, false, ◌&&◌, List, [], ◌∷◌, ◌++◌, append_assoc, append-nil, get_or, map, replicate, None, ℤ, pos}
-use Rattle.vms_analyze.proofs.Facade.{refl, sym, ap, ◌∙◌, codes, if◌then◌else◌, suc, ◌+◌, ◌<◌, ◌≤◌, ◌^◌, length, Option, Some, arith, ◌==◌, nat_le}
-use Rattle.vms_analyze.proofs.Facade.{signed_decimal, map-append, length-replicate, and_parts, le-leb, and_from, and-false, and-true, flat_map, list_all, width}
-use Rattle.vms_analyze.proofs.Facade.{code, InRange, length-code, be32_read, Slot, desc_cells, struct_cells, meanings, desc_slots, Cell, zeroed, Image}
-use Rattle.vms_analyze.proofs.Facade.{own_cells, sub_slots, same_number_is, What, Constant, Filler, Rule, is_number, slot_of, slots_of, elements_in, printed}
-use Rattle.vms_analyze.proofs.Facade.{number_lines, sub_line, subs_lines, device_lines, devices_lines, machine_lines, values_lines, OfNumber, has_default}
-use Rattle.vms_analyze.proofs.Facade.{have_defaults, line_reason, if_not, came_well, number_entries, subs_entries, device_entries, devices_entries, entries}
-use Rattle.vms_analyze.proofs.Facade.{AreFine, AreAtVersions, IsShaped, AreShaped, IsMachineOf, Each, line_number, reason_fits, fine_rest, begins_itself}
-use Rattle.vms_analyze.proofs.Facade.{IsFitting, AreShort, of_numbers, IsCounted, AreCounted, walks, element_want, Bytes, sub_wants, device_wants, Want}
-use Rattle.vms_analyze.proofs.Facade.{Machine, wants, took, is_machine, taken, Found, Lines, behind, found, told_what, tolds, told_part, told_subs}
-use Rattle.vms_analyze.proofs.Facade.{told_device_of, told_devices, told, Desc, Sub, Device, Set, sub_head, is_needed, written_subs, written_section}
+use Rattle.vms_analyze.proofs.Facade.{front_take, text_says, ◌≡◌, ℕ, Bool, true, false, ◌&&◌, List, [], ◌∷◌, ◌++◌, append_assoc, append-nil, get_or, map}
+use Rattle.vms_analyze.proofs.Facade.{replicate, None, ℤ, pos, refl, sym, ap, ◌∙◌, codes, if◌then◌else◌, suc, ◌+◌, ◌<◌, ◌≤◌, ◌^◌, length, Option, Some, arith}
+use Rattle.vms_analyze.proofs.Facade.{◌==◌, nat_le, signed_decimal, map-append, length-replicate, and_parts, le-leb, and_from, and-false, and-true, flat_map}
+use Rattle.vms_analyze.proofs.Facade.{list_all, width, code, InRange, length-code, be32_read, Slot, desc_cells, struct_cells, meanings, desc_slots, Cell}
+use Rattle.vms_analyze.proofs.Facade.{zeroed, Image, own_cells, sub_slots, same_number_is, What, Constant, Filler, Rule, is_number, slot_of, slots_of}
+use Rattle.vms_analyze.proofs.Facade.{elements_in, printed, number_lines, sub_line, subs_lines, device_lines, devices_lines, machine_lines, values_lines}
+use Rattle.vms_analyze.proofs.Facade.{OfNumber, has_default, have_defaults, line_reason, if_not, came_well, number_entries, subs_entries, device_entries}
+use Rattle.vms_analyze.proofs.Facade.{devices_entries, entries, AreFine, AreAtVersions, IsShaped, AreShaped, IsMachineOf, Each, line_number, reason_fits}
+use Rattle.vms_analyze.proofs.Facade.{fine_rest, begins_itself, IsFitting, AreShort, of_numbers, IsCounted, AreCounted, walks, element_want, Bytes, sub_wants}
+use Rattle.vms_analyze.proofs.Facade.{device_wants, Want, Machine, wants, took, is_machine, taken, Found, Lines, behind, found, told_what, tolds, told_part}
+use Rattle.vms_analyze.proofs.Facade.{told_subs, told_device_of, told_devices, told, Desc, Sub, Device, Set, sub_head, is_needed, written_subs, written_section}
 use Rattle.vms_analyze.proofs.Facade.{written_sections, AreReady, is_one_of, be32, magic, stream_head, configuration, end_mark, optional, elements_slots}
 use Rattle.vms_analyze.proofs.Facade.{short_are, fine_both, AreGood, good_both, LONGEST_NAME, number_at, bytes_at, is_name, is_name_byte, values_text}
 use Rattle.vms_analyze.proofs.Facade.{WellFormed, failing, first_fault, here, set_rules, machine_short, few_devices, all_true, or_else_none, every_one}
-use Rattle.vms_analyze.proofs.Facade.{front_take, text_says}
-use Rattle.vms_elements.specs.Elements.{Number, Element}
-use Rattle.vms_elements.specs.Lines.{number_line}
-use Rattle.vms_analyze.proofs.Following.{Follows, none_follows, one_follows, both_follow, follows_as, takes_line, takes_any, takes_number, takes_bytes}
-use Rattle.vms_analyze.proofs.Following.{takes_foot, takes_head, Takes, if_so}
+use Rattle.vms_analyze.proofs.Following.{takes_foot, takes_head, Takes, if_so, Follows, none_follows, one_follows, both_follow, follows_as, takes_line}
+use Rattle.vms_analyze.proofs.Following.{takes_any, takes_number, takes_bytes}
+use Rattle.vms_elements.specs.{Elements.Number, Elements.Element, Lines.number_line}
 use Rattle.vms_spec.specs.declared.ValuesReason.TheVariants as reasons
 use Rattle.vms_spec.specs.declared.Part.TheVariants as parts
 
@@ -63,8 +61,7 @@ module _ (n : List ℤ) (id : ℕ) where
       → Follows (map element_want (told_what w counted p name)) id (bytes_if n p at w) id []
   others (Number cell) counted p at name e = cc
   others (Constant kind y) counted true at name e = rw (append-nil (code kind y)) (one_follows (takes_any (code kind y) (width kind) id (length-code kind y)))
-  others (Filler m) counted true at name e =
-      rw (append-nil {A = ℕ} (replicate m 0)) (one_follows (takes_any (replicate m 0) m id (length-replicate m 0)))
+  others (Filler m) counted true at name e = rw (append-nil {A = ℕ} (replicate m 0)) (one_follows (takes_any (replicate m 0) m id (length-replicate m 0)))
   others (Rule holds) counted true at name e = none_follows id
   others _ counted false at name e = none_follows id
 
@@ -144,8 +141,7 @@ default_said n (x ∷ xs) h =
 
 -- what isn't needed is at its defaults
 at_defaults : (needed defaults : Bool) → if_not (came_well needed None defaults) reasons.Needed ≡ None → defaults ≡ true
-at_defaults false true e = refl
-at_defaults _ _ e = cc
+at_defaults needed defaults e = grind arith
 
 module _ (set : Set) (d : Device) (image : Image) (short : AreShort image.numbers) (id : ℕ) where
   abbrev n : List ℤ

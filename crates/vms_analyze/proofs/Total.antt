@@ -1,9 +1,8 @@
 -- Each input has a listing.
+use Rattle.vms_analyze.proofs.{Inputs.NoneFrom, DevicesRead.tells_if, DevicesRead.not_told}
 use Rattle.vms_analyze.proofs.Facade.{⊎_elim, cases_lt, ◌<◌, ◌≡◌, ℕ, zero, suc, ◌+◌, ◌≤◌, Bool, true, false, ◌&&◌, ◌==◌, List, length, get_or, drop, Option}
 use Rattle.vms_analyze.proofs.Facade.{Some, None, refl, arith, and_parts, eqb-true, eq-eqb, value_in, number_at, ToldDevice, longest_input, IsPlace}
 use Rattle.vms_analyze.proofs.Facade.{IsLastPlace, TellsPlace, IsTooLong, HasNone, HasNoShape, IsRead, HasListing, TotalLaw, next, devices_in}
-use Rattle.vms_analyze.proofs.Inputs.{NoneFrom}
-use Rattle.vms_analyze.proofs.DevicesRead.{tells_if, not_told}
 
 -- ---- the last place
 

@@ -1,4 +1,5 @@
 -- A walk over what is required, part after part.
+use Rattle.vms_analyze.proofs.{Facade.section_line, Parts.device_parts, Streams.takes_machine, Streams.no_machine}
 use Rattle.vms_analyze.proofs.Facade.{map-map, ◌≡◌, ℕ, ◌+◌, List, [], ◌∷◌, ◌++◌, length, append_assoc, append-nil, take, drop, ℤ, refl, sym, ap, ◌∙◌, arith}
 use Rattle.vms_analyze.proofs.Facade.{◌<◌, get_or, ◌≤◌, true, ◌&&◌, nat_le, map, take-append-drop, drop-drop, take_more, flat_map, list_all, flat_map-append}
 use Rattle.vms_analyze.proofs.Facade.{and_parts, leb-true, flat_map_single, flat_map-map, Result, Ok, Err, OnOk, IfErr, ◌^◌, false, ◌==◌, length-append}
@@ -7,12 +8,8 @@ use Rattle.vms_analyze.proofs.Facade.{Machine, Head, Foot, element_want, sub_hea
 use Rattle.vms_analyze.proofs.Facade.{Stops, Prints, WhyStopped, Walks, Walk, text_append, Stop, LONGEST_NAME, magic, be32, end_mark, ToldDevice, is_path}
 use Rattle.vms_analyze.proofs.Facade.{is_path_byte, is_good_device, told_of, sub_of, device_of, element_wants, subs_wants, devices_wants, Element, number_at}
 use Rattle.vms_analyze.proofs.Facade.{bytes_at, is_name_byte, begins_with, configuration, section_head, is_machine, machine_line, taken, found_after, begun}
-use Rattle.vms_analyze.proofs.Facade.{section_line}
 use Rattle.vms_analyze.proofs.Following.{Takes, one_follows, takes_line, takes_number, behind_both, takes_head}
-use Rattle.vms_analyze.specs.declared.told.Sub.{Sub}
-use Rattle.vms_analyze.specs.declared.told.Device.{Device}
-use Rattle.vms_analyze.proofs.Parts.{device_parts}
-use Rattle.vms_analyze.proofs.Streams.{takes_machine, no_machine}
+use Rattle.vms_analyze.specs.{declared.told.Sub.Sub, declared.told.Device.Device}
 use Rattle.vms_analyze.specs.declared.walk.Stop.TheVariants as stops
 
 -- ---- One step of a walk, by what is taken.

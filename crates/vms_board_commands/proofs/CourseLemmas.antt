@@ -1,5 +1,5 @@
 -- The endings of the commands of boards, by their steps.
-use Rattle.vms_board_commands.proofs.Facade.{◌≡◌, ℕ, Bool, true, false, ◌||◌, ◌==◌, List, [], ◌∷◌, ◌++◌, Result, Ok, Err, refl, sym, ap, subst, ◌∙◌, Option}
+use Rattle.vms_board_commands.proofs.Facade.{◌≡◌, ℕ, Bool, true, false, ◌||◌, ◌==◌, List, [], ◌∷◌, ◌++◌, Result, Ok, Err, refl, Option}
 use Rattle.vms_board_commands.proofs.Facade.{Some, None, or_right, Keeps-refl, ArrayVec, Saves, SaveFault, Rose, Looks, Intake, Outlet, Stock, serves_none}
 use Rattle.vms_board_commands.proofs.Facade.{Goes, PlayFault, asked, draws_none, looked_so, same_so, unshelved_so, writes_serve, wrong, mapped_by, Course}
 use Rattle.vms_board_commands.proofs.Facade.{Draws, EndsSo, Risen, is_among, of_shelf, text_course, SetCause, WritesAs, status_of, Ending, Refused, BadText}
@@ -71,8 +71,7 @@ module _ (i : Intake) (s : Stock) (o o' : Outlet) where
   saved_so bytes (Err saves.NoMemory) h = rw h (same_so i o s save_course (Some NoMemory) refl tt)
 
   pub drilled_so : (text : List ℕ) (e : Option Ending) → WritesAs text o o' e → EndsSo i i o o' s s drill_course e
-  drilled_so text None w =
-      unshelved_so s drill_course None refl tt (λ f. absurd (wrong f)) (λ f. refl) (draws_none i) (writes_serve text o o' None w)
+  drilled_so text None w = unshelved_so s drill_course None refl tt (λ f. absurd (wrong f)) (λ f. refl) (draws_none i) (writes_serve text o o' None w)
   drilled_so text (Some WriteFault) w =
       unshelved_so s drill_course (Some WriteFault) refl w.rose (λ f. absurd (wrong f)) (λ f. refl) (draws_none i) (writes_serve text o o' (Some WriteFault) w)
   drilled_so text e w = absurd w

@@ -1,10 +1,9 @@
 -- What saves leave of a drill.
-use Rattle.vms_board_commands.proofs.Facade.{◌≡◌, ℕ, zero, suc, ◌+◌, ◌≤◌, Bool, true, false, if◌then◌else◌, Result, arith, refl, sym, ap, subst, ◌∙◌, NEWEST}
-use Rattle.vms_board_commands.proofs.Facade.{IsLevel, alike_stays, likeness, clock_goes_on, restored_is_sound, saved_comes_back, sound_stays_on, MaySaveUnder}
-use Rattle.vms_board_commands.proofs.Facade.{saved, carried, restored, IsSound, Alike, State, power_on, step, observe, after_all, after_by, answers_by, Answer}
-use Rattle.vms_board_commands.proofs.Facade.{Event, Misfit, next_number, event_of, events_after, Progress, counted, counted_all, set_of, back_of, came_back}
-use Rattle.vms_board_commands.proofs.Facade.{after_save, with_event, begun, drilled, IsAsUnsaved, SavesLeaveCounts}
-use Rattle.vms_board_commands.proofs.DrillEventLaws.{event-is}
+use Rattle.vms_board_commands.proofs.{Facade.IsAsUnsaved, Facade.SavesLeaveCounts, DrillEventLaws.event-is}
+use Rattle.vms_board_commands.proofs.Facade.{◌≡◌, ℕ, zero, suc, ◌+◌, ◌≤◌, Bool, true, false, if◌then◌else◌, arith, refl, ap, ◌∙◌, NEWEST, IsLevel, alike_stays}
+use Rattle.vms_board_commands.proofs.Facade.{likeness, clock_goes_on, restored_is_sound, saved_comes_back, sound_stays_on, MaySaveUnder, saved, carried}
+use Rattle.vms_board_commands.proofs.Facade.{restored, IsSound, Alike, State, power_on, step, observe, after_all, after_by, answers_by, Event, next_number}
+use Rattle.vms_board_commands.proofs.Facade.{event_of, events_after, Progress, counted, counted_all, set_of, came_back, after_save, with_event, begun, drilled}
 
 -- the set of a save is one under which the board may be saved
 pub save_may : (level saves : ℕ) → level ≤ NEWEST → MaySaveUnder level (set_of level saves)

@@ -1,10 +1,8 @@
 -- A drill with its streams, and its progress without them.
-use Rattle.vms_board_commands.proofs.Facade.{◌≡◌, ℕ, zero, suc, ◌+◌, ◌*◌, ◌-◌, ◌<◌, ◌≤◌, Bool, true, false, if◌then◌else◌, arith, refl, sym, ap, subst, ◌∙◌}
-use Rattle.vms_board_commands.proofs.Facade.{sound_stays_on, IsSound, Alike, State, power_on, step, after_all, next_number, event_of, events_after, Progress}
-use Rattle.vms_board_commands.proofs.Facade.{drilled, is_save_due, saves_of, streams_are_short, STREAM_ROOM, Drill, drill_begun, bytes_after, stream_long}
-use Rattle.vms_board_commands.proofs.Facade.{with_drill_event, drilled_on, ProgressIsSame, SizesAreSmall, NumbersAre}
-use Rattle.vms_board_commands.proofs.DrillEventLaws.{event-is}
-use Rattle.vms_board_commands.proofs.DrillFoldLaws.{saves_leave_counts, save_may, save-left}
+use Rattle.vms_board_commands.proofs.{DrillEventLaws.event-is, DrillFoldLaws.saves_leave_counts, DrillFoldLaws.save_may, DrillFoldLaws.save-left}
+use Rattle.vms_board_commands.proofs.Facade.{NumbersAre, ◌≡◌, ℕ, zero, suc, ◌+◌, ◌*◌, ◌-◌, ◌<◌, ◌≤◌, Bool, if◌then◌else◌, arith, refl, sound_stays_on, IsSound}
+use Rattle.vms_board_commands.proofs.Facade.{State, power_on, step, next_number, event_of, drilled, is_save_due, saves_of, streams_are_short, STREAM_ROOM}
+use Rattle.vms_board_commands.proofs.Facade.{Drill, drill_begun, bytes_after, stream_long, with_drill_event, drilled_on, ProgressIsSame, SizesAreSmall}
 
 progress-same : (count : ℕ) (drill : Drill) → (drilled_on count drill).progress ≡ drilled count drill.progress
 progress-same zero drill = refl
@@ -27,14 +25,12 @@ progress_is_same = record {
 -- ---- sizes
 
 due-small : (due : Bool) (bytes long : ℕ) → long < STREAM_ROOM → (if due then bytes + long else bytes) ≤ bytes + STREAM_ROOM
-due-small true bytes long l = omega arith
-due-small false bytes long l = omega arith
+due-small due bytes long l = grind arith
 
 after-small : (events : ℕ) (m : State) (bytes : ℕ) → IsSound m → bytes_after events m bytes ≤ bytes + STREAM_ROOM
 unfolding bytes_after
 after-small events m bytes s =
-    due-small (is_save_due events) bytes (stream_long events m)
-    (streams_are_short.short _ m s (save_may m.level (saves_of events - 1) s.devices.level.last))
+    due-small (is_save_due events) bytes (stream_long events m) (streams_are_short.short _ m s (save_may m.level (saves_of events - 1) s.devices.level.last))
 
 small : (count : ℕ) (drill : Drill) → IsSound drill.progress.board → (drilled_on count drill).bytes ≤ drill.bytes + STREAM_ROOM * count
 small zero drill s = omega arith

@@ -1,5 +1,5 @@
 -- A board goes on as the one that its own stream restores.
-use Rattle.vms_board_commands.proofs.Facade.{◌≡◌, ℕ, List, length, Option, sym, ap, ◌∙◌, subst, MaySaveUnder, restored, IsSound, State, back_of, came_back}
+use Rattle.vms_board_commands.proofs.Facade.{◌≡◌, ℕ, List, length, Option, sym, ap, ◌∙◌, MaySaveUnder, restored, IsSound, State, back_of, came_back}
 use Rattle.vms_board_commands.proofs.Facade.{saved_is_carried, isa, Back, Restores, saved_stream, streams_come_back, Reason}
 use Rattle.vms_board.specs.Restoring.{Refused}
 

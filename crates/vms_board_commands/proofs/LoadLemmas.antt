@@ -1,18 +1,13 @@
 -- The outcome of `load`, from the results of a restore and of a trace.
-use Rattle.vms_board_commands.proofs.Facade.{◌≡◌, inl, inr, ℕ, ◌+◌, ◌≤◌, List, [], ◌∷◌, length, length-append, Option, Some, Ok, Err, arith, refl, sym, ap, ◌∙◌}
-use Rattle.vms_board_commands.proofs.Facade.{subst, IsSomeAnd, ArrayVec, Event, IsRefused, RestoreReads, Back, Restores, Family, Standing, one_restore}
+use Rattle.vms_board_commands.proofs.Facade.{◌≡◌, inl, inr, ℕ, ◌+◌, ◌≤◌, List, [], ◌∷◌, length, length-append, Option, Some, Ok, Err, arith, refl, ap}
+use Rattle.vms_board_commands.proofs.Facade.{IsSomeAnd, ArrayVec, Event, IsRefused, RestoreReads, Back, Restores, Family, Standing, one_restore}
 use Rattle.vms_board_commands.proofs.Facade.{answers_to, trace_of, Refusal, Held, Intake, Outlet, Stock, reads_as, WritesAs, refused_line, Outcome, done, ended}
-use Rattle.vms_board_commands.proofs.Facade.{Ending, events_back, events_of, trace_from, ScriptLine, event_lines, FitsHeads, IsBytes, WellFormed, Reason}
+use Rattle.vms_board_commands.proofs.Facade.{Ending, events_back, events_of, trace_from, ScriptLine, event_lines, FitsHeads, IsBytes, WellFormed}
 use Rattle.vms_board_commands.proofs.Facade.{fault_within, most_given, StepAs, Step, Untold, Gives, Ends, LoadGives, Loads, Traces, Faulty, Unfit, Seen}
 use Rattle.vms_board.specs.Restoring.{Refused}
 use Rattle.vms_board.specs.declared.restore.RestoreFault.TheVariants as restores
 use Rattle.vms_commands.specs.declared.ending.Ending.TheVariants as endings
 use Rattle.vms_board_commands.proofs.SeenLemmas.{TakesSo, reads_all, seen_refused, seen_written}
-
-pub line_is : {S : Type 0} (kind : Family S) (place other : ℕ) (section section' : Option ℕ) (reason reason' : Reason) (n k : ℕ) → place ≡ other → section ≡ section' → reason ≡ reason' → n ≡ k
-    → ended 1 (refused_line (kind.set kind.newest) place section reason) n ≡ ended 1 (refused_line (kind.set kind.newest) other section' reason') k
-line_is kind place other section section' reason reason' n k a b c d =
-    rw (a, b, c) (ap (ended 1 (refused_line (kind.set kind.newest) other section' reason')) d)
 
 module _ {S : Type 0} (kind : Family S) (well : WellFormed (kind.set kind.newest)) (heads : FitsHeads (kind.set kind.newest)) (level : ℕ) (lines : List ScriptLine) where
   abbrev trace-from : S → List ℕ
@@ -20,11 +15,7 @@ module _ {S : Type 0} (kind : Family S) (well : WellFormed (kind.set kind.newest
 
   pub done_is : (bytes : List ℕ) (held : Option Held) (m : S) (taken : ℕ) (x : Outcome) → IsBytes bytes → Restores kind level bytes (Back m taken)
       → Loads kind level lines bytes held x → x ≡ done (trace-from m) held taken
-  done_is bytes held m taken x ok r (Traces board long s) =
-      let same = one_restore kind well heads level bytes ok (Back board long) (Back m taken) s r in
-      let boards : board ≡ m = cc in
-      let longs : long ≡ taken = cc in
-      ap (λ (b : S). done (trace-from b) held long) boards ∙ ap (done (trace-from m) held) longs
+  done_is bytes held m taken x ok r (Traces board long s) = let same = one_restore kind well heads level bytes ok (Back board long) (Back m taken) s r in cc
   done_is bytes held m taken x ok r (Faulty place section reason size f) =
       let same = one_restore kind well heads level bytes ok (Refused place section reason) (Back m taken) (inl (size, f)) r in cc
   done_is bytes held m taken x ok r (Unfit place section reason f) =

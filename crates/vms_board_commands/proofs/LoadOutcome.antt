@@ -1,9 +1,9 @@
 -- An input and a script have one outcome of `load`.
-use Rattle.vms_board_commands.proofs.Facade.{◌≡◌, inl, inr, ℕ, ◌+◌, List, [], ◌∷◌, Option, ap, ◌∙◌, sym, IsFaultAt, IsMisfitAt, Restore, Back, Restores, Family}
+use Rattle.vms_board_commands.proofs.Facade.{◌≡◌, inl, inr, ℕ, ◌+◌, List, [], ◌∷◌, Option, IsFaultAt, IsMisfitAt, Restore, Back, Restores, Family}
 use Rattle.vms_board_commands.proofs.Facade.{bytes_come, no_fault, one_restore, answers_to, trace_of, Held, refused_line, Outcome, done, ended, events_of}
 use Rattle.vms_board_commands.proofs.Facade.{ScriptLine, FitsHeads, IsBytes, WellFormed, Reason, one_fault_holds, Loads, Traces, Faulty, Unfit}
 use Rattle.vms_board.specs.Restoring.{Refused}
-use Rattle.vms_board_commands.proofs.LoadLemmas.{done_is, line_is}
+use Rattle.vms_board_commands.proofs.LoadLemmas.{done_is}
 
 pub record OneLoad {S : Type 0} (kind : Family S) (level : ℕ) (lines : List ScriptLine) (bytes : List ℕ) (held : Option Held) : Type 0 where
   pub outcome : Outcome
@@ -18,7 +18,7 @@ module _ {S : Type 0} (kind : Family S) (well : WellFormed (kind.set kind.newest
       let same = one_restore kind well heads level bytes ok (Refused place section reason) (Back board long) (inl f) s in cc
   faulty-is place section reason f x (Faulty other section' reason' size g) =
       let one = one_fault_holds (kind.set kind.newest) (kind.machine level ∷ []) bytes ok other place section' section reason' reason size f.0 g f.1 in
-      line_is kind other place section' section reason' reason (other + size) (place + f.0) one.places one.sections one.reasons (rw (one.places, one.sizes))
+      cc (one.places, one.sections, one.reasons, one.sizes)
   faulty-is place section reason f x (Unfit other section' reason' g) =
       absurd (no_fault kind well heads level bytes ok other g.images place section reason g.taken f)
 
@@ -30,11 +30,7 @@ module _ {S : Type 0} (kind : Family S) (well : WellFormed (kind.set kind.newest
   unfit-is place section reason f x (Faulty other section' reason' size g) =
       absurd (no_fault kind well heads level bytes ok place f.images other section' reason' f.taken (size, g))
   unfit-is place section reason f x (Unfit other section' reason' g) =
-      let same = one_restore kind well heads level bytes ok (Refused other section' reason') (Refused place section reason) (inr g) (inr f) in
-      let places : other ≡ place = cc in
-      let sections : section' ≡ section = cc in
-      let reasons : reason' ≡ reason = cc in
-      line_is kind other place section' section reason' reason other place places sections reasons places
+      let same = one_restore kind well heads level bytes ok (Refused other section' reason') (Refused place section reason) (inr g) (inr f) in cc
 
   by : (r : Restore S) → Restores kind level bytes r → OneLoad kind level lines bytes held
   by (Back m taken) r = record {
@@ -54,9 +50,7 @@ module _ {S : Type 0} (kind : Family S) (well : WellFormed (kind.set kind.newest
   }
 
   pub loads_one : OneLoad kind level lines bytes held
-  loads_one =
-      let some = bytes_come kind well heads level bytes ok in
-      by some.0 some.1
+  loads_one = let some = bytes_come kind well heads level bytes ok in by some.0 some.1
 
   -- so two are the same
   pub loads_same : (x y : Outcome) → Loads kind level lines bytes held x → Loads kind level lines bytes held y → y ≡ x

@@ -1,7 +1,7 @@
 -- The ending of `play`, from the results of its lines.
-use Rattle.vms_board_commands.proofs.Facade.{◌≡◌, ℕ, ◌<◌, ◌≤◌, ◌^◌, List, [], length, take, drop, arith, inl, inr, Option, Some, None, Result, Ok, Err, refl}
-use Rattle.vms_board_commands.proofs.Facade.{sym, ap, ◌∙◌, subst, IsSomeAnd, Appends, State, power_on, Held, Intake, Outlet, Stock, takes_nothing, mapped_by}
-use Rattle.vms_board_commands.proofs.Facade.{DoneAs, EndsAs, Outcome, Part, ComesTo, FailsToStore, HoldsBut, stored_next, held_after, text_of, Plays}
+use Rattle.vms_board_commands.proofs.Facade.{◌≡◌, ℕ, ◌<◌, ◌≤◌, ◌^◌, List, [], length, take, arith, inl, inr, Option, Some, None, Result, Ok, Err, refl}
+use Rattle.vms_board_commands.proofs.Facade.{sym, ap, subst, IsSomeAnd, Appends, State, power_on, Held, Intake, Outlet, Stock, takes_nothing, mapped_by}
+use Rattle.vms_board_commands.proofs.Facade.{DoneAs, EndsAs, Outcome, Part, ComesTo, FailsToStore, held_after, text_of, Plays}
 use Rattle.vms_board_commands.proofs.Facade.{session_of, DoesSome, LinesEnd, PlayFault, ScriptLine, Session, Ending, ReadFault, WriteFault, ShelfFault}
 use Rattle.vms_board_commands.proofs.Facade.{NoMemory, rose_since, begun_whole, PlaysAll, ending_by}
 use Rattle.vms_session.specs.declared.line.PlayFault.TheVariants as faults
@@ -63,21 +63,10 @@ module _ (level : ℕ) (lines : List ScriptLine) (i : Intake) (o o' : Outlet) (s
 
 module _ (i i' : Intake) (o o' : Outlet) (a b s' : Stock) (held : b.held ≡ a.held) (le : a.faults ≤ b.faults) (x : Outcome) where
   done-since : DoneAs i i' o o' b s' x → DoneAs i i' o o' a s' x
-  done-since d = record {
-    status_is = d.status_is;
-    text = d.text;
-    note = d.note;
-    held = cc;
-    taken = d.taken;
-  }
+  done-since d = record { status_is = d.status_is; text = d.text; note = d.note; held = cc; taken = d.taken }
 
   comes-since : ComesTo o o' b s' x.parts → ComesTo o o' a s' x.parts
-  comes-since c = record {
-    begun = c.begun;
-    bytes = c.bytes;
-    text = c.text;
-    held = cc (c.held);
-  }
+  comes-since c = record { begun = c.begun; bytes = c.bytes; text = c.text; held = cc (c.held) }
 
   fails-since : FailsToStore o o' b s' x.parts → FailsToStore o o' a s' x.parts
   fails-since c = record {

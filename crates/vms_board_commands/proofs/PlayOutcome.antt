@@ -1,8 +1,7 @@
 -- A script has one outcome of `play`, whatever bytes the shelf holds.
-use Rattle.vms_board_commands.proofs.Facade.{◌≡◌, ℕ, List, [], Some, sym, ap, ◌∙◌, refl, subst, IsLevel, power_on-sound, Held, HoldsAll, Outcome, Part}
-use Rattle.vms_board_commands.proofs.Facade.{AreLines, ScriptLine, sessions_end, sessions_are_one, PlaysAll}
+use Rattle.vms_board_commands.proofs.{Facade.ScriptLine, Facade.sessions_end, Facade.sessions_are_one, Facade.PlaysAll, SaveLemmas.at_level}
+use Rattle.vms_board_commands.proofs.Facade.{◌≡◌, ℕ, List, [], Some, sym, ap, ◌∙◌, refl, IsLevel, power_on-sound, Held, HoldsAll, Outcome, Part, AreLines}
 use Rattle.vms_session.specs.Session.{begun}
-use Rattle.vms_board_commands.proofs.SaveLemmas.{at_level}
 
 abbrev played : List Part → Outcome
 played parts = record { status = 0; parts = parts; note = []; taken = 0 }

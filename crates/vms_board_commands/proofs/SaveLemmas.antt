@@ -1,8 +1,7 @@
 -- The ending of `save`, from the result of saving a board.
-use Rattle.vms_board_commands.proofs.Facade.{◌≡◌, ℕ, List, Result, Ok, Err, refl, subst, Appends, power_on, Saves, SaveFault, AppendsPrefix, Outlet}
-use Rattle.vms_board_commands.proofs.Facade.{stops_prefix, mapped_by, TextEnds, Gives}
-use Rattle.vms_board.specs.declared.save.SaveFault.TheVariants.{WriteFault, NoMemory}
+use Rattle.vms_board_commands.proofs.Facade.{◌≡◌, ℕ, List, Result, Ok, Err, refl, power_on, Saves, SaveFault, Outlet, stops_prefix, mapped_by, TextEnds, Gives}
 use Rattle.vms_board_commands.specs.Save.{ending_by}
+use Rattle.vms_board.specs.declared.save.SaveFault.TheVariants.{WriteFault, NoMemory}
 
 pub saved_ends : (bytes text : List ℕ) (o o' : Outlet) (r : Result Unit SaveFault) → bytes ≡ text → Saves bytes o o' r → TextEnds (Gives text) o o' (mapped_by ending_by r)
 saved_ends bytes text o o' (Ok u) e h = rw e at h.told

@@ -1,5 +1,5 @@
 -- A script that is fetched and read, as a step.
-use Rattle.vms_board_commands.proofs.Facade.{◌≡◌, ℕ, List, Option, Result, None, Ok, Err, IfOk, IsErrAnd, refl, sym, subst, Bool, true, Some, Global, Vec}
+use Rattle.vms_board_commands.proofs.Facade.{◌≡◌, ℕ, List, Option, Result, None, Ok, Err, IfOk, IsErrAnd, refl, Bool, true, Some, Global, Vec}
 use Rattle.vms_board_commands.proofs.Facade.{AreEvents, Event, Looks, Stock, SetCause, Asks, FetchCause, HadCause, ReadCause, Ending, BadText, ShelfFault}
 use Rattle.vms_board_commands.proofs.Facade.{NotThere, TooLarge, NoMemory, are_events, reads_exactly, AreLines, ScriptLine, Reading, script_read, event_lines}
 use Rattle.vms_board_commands.proofs.Facade.{ReadsLines, ScriptFault}

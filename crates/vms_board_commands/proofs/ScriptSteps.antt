@@ -1,6 +1,6 @@
 -- The step that gives a script. It is known if the shelf is, never ends with the status 0, and
 -- gives lines that may be in a script.
-use Rattle.vms_board_commands.proofs.Facade.{◌≡◌, ℕ, ◌≤◌, List, length, Option, Some, None, Ok, Err, refl, ap, ◌∙◌, arith, Family, saved_stream, after_events}
+use Rattle.vms_board_commands.proofs.Facade.{◌≡◌, ℕ, ◌≤◌, List, length, Option, Some, None, Ok, Err, refl, ap, arith, Family, saved_stream, after_events}
 use Rattle.vms_board_commands.proofs.Facade.{Held, fetched_gives, sound_fetch, sound_next, fetched, Step, Untold, Gives, Ends, next, events_of, reads_exactly}
 use Rattle.vms_board_commands.proofs.Facade.{AreLines, ScriptLine, Reading, script_read, saved_after, longest_script, said_lines, scripted}
 use Rattle.vms_commands.proofs.StepLemmas.{IsSound}

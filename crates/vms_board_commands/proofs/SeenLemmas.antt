@@ -1,7 +1,7 @@
 -- What can be said of an input: from the calls that read it to the ending of a command.
 use Rattle.vms_board_commands.proofs.Facade.{◌≡◌, ℕ, ◌+◌, ◌≤◌, Bool, false, List, [], ◌∷◌, ◌++◌, length, drop, drop_at, Option, Some, None, Ok, Err, IfSome}
-use Rattle.vms_board_commands.proofs.Facade.{refl, sym, ap, ◌∙◌, subst, arith, length-append, length-drop, Consumes, IsSomeAnd, same_Some, ArrayVec, reads_as}
-use Rattle.vms_board_commands.proofs.Facade.{reads_told, capped, Last, Reads, Takes, Intake, Outlet, Stock, IsBytes, Image, Set, Fault, Refusal, LoadReads}
+use Rattle.vms_board_commands.proofs.Facade.{refl, sym, ap, ◌∙◌, arith, length-append, length-drop, Consumes, IsSomeAnd, same_Some, ArrayVec, reads_as}
+use Rattle.vms_board_commands.proofs.Facade.{reads_told, Last, Reads, Takes, Intake, Outlet, Stock, IsBytes, Image, Set, Fault, Refusal, LoadReads}
 use Rattle.vms_board_commands.proofs.Facade.{fault_within, wrong, text_written, is_among, EndsAs, EndsWith, SetCause, WritesAs, status_of, Outcome, TakesBytes}
 use Rattle.vms_board_commands.proofs.Facade.{done, ended, StepAs, Step, Untold, Gives, Ends, Ending, Refused, WouldLose, BadText, ShelfFault, NotThere}
 use Rattle.vms_board_commands.proofs.Facade.{TooLarge, NoMemory, IsGiven, Seen, SeenAs, Sees, WithGiven}

@@ -1,12 +1,9 @@
 -- The result of a call on fresh objects in memory.
 use Rattle.std.proofs.Common.{◌≡◌, ◌∙◌, ap, subst, ℕ, true, List, [], Some, None}
-use Rattle.vms_io.specs.Memory.{Supply, is_empty}
-use Rattle.vms_io.specs.Shelves.{Held}
-use Rattle.vms_io.specs.Told.{Intake, Outlet, Stock}
+use Rattle.vms_io.specs.{Memory.Supply, Memory.is_empty, Shelves.Held, Told.Intake, Told.Outlet, Told.Stock}
 use Rattle.vms_commands.specs.Outcomes.{Outside}
 use Rattle.vms_cli.specs.Answers.{Answers}
-use Rattle.vmstate_c.specs.Calls.{Leaves, NoneFailed, before, file_of, words_of}
-use Rattle.vmstate_c.specs.declared.request.Request.{Request}
+use Rattle.vmstate_c.specs.{Calls.Leaves, Calls.NoneFailed, Calls.before, Calls.file_of, Calls.words_of, declared.request.Request.Request}
 
 -- a source of bytes before the first read; no read fails
 abbrev fresh : List ℕ → Intake

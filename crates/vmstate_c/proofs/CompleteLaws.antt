@@ -1,16 +1,11 @@
 -- A call from C that can succeed does.
 use Rattle.std.proofs.Common.{◌≡◌, ◌⊎◌, inl, inr, refl, ℕ, List, Bool, true, false, if◌then◌else◌, ap, ◌∙◌, arith}
 use Rattle.vms_commands.specs.Outcomes.{Outside}
-use Rattle.vms_cli.specs.Laws.{NoneRises}
 use Rattle.vms_cli.proofs.OutcomeLaws.{complete_holds as call_complete}
-use Rattle.vmstate_c.specs.Border.{do_fit}
-use Rattle.vmstate_c.specs.Calls.{Comes, NoneFailed, before, words_of}
+use Rattle.vms_cli.specs.Laws.{NoneRises}
+use Rattle.vmstate_c.specs.{Border.do_fit, Calls.Comes, Calls.NoneFailed, Calls.before, Calls.words_of, Returned.do_all_fit, Returned.full, Storing.bytes_of}
+use Rattle.vmstate_c.specs.{Storing.places, declared.request.Answer.Answer, declared.request.Request.Request, declared.request.StoredAnswer.StoredAnswer}
 use Rattle.vmstate_c.specs.Laws.{CompleteLaw, CompleteStoredLaw, IsDoable, IsDoneOr}
-use Rattle.vmstate_c.specs.Returned.{do_all_fit, full}
-use Rattle.vmstate_c.specs.Storing.{bytes_of, places}
-use Rattle.vmstate_c.specs.declared.request.Answer.{Answer}
-use Rattle.vmstate_c.specs.declared.request.Request.{Request}
-use Rattle.vmstate_c.specs.declared.request.StoredAnswer.{StoredAnswer}
 
 -- no count rises if none failed
 none_rises : (old new : Outside) → NoneFailed old → NoneFailed new → NoneRises old new

@@ -1,12 +1,9 @@
 -- The files held after one was added to a shelf.
+use Rattle.std.proofs.{lemmas.Bool.Decides.not_from_Decides, lemmas.Slice.Eq.bytes_eq-Decides, lemmas.Str.IsUtf8-from_is_utf8, lemmas.Str.is_utf8-from_IsUtf8}
 use Rattle.std.proofs.Common.{◌≡◌, ◌≢◌, ◌∙◌, refl, sym, ap, subst, ℕ, Bool, true, false, ◌&&◌, List, if◌then◌else◌, Some}
 use Rattle.std.specs.Str.{IsUtf8, is_utf8, bytes_eq}
-use Rattle.std.proofs.lemmas.Bool.Decides.{not_from_Decides}
-use Rattle.std.proofs.lemmas.Slice.Eq.{bytes_eq-Decides}
-use Rattle.std.proofs.lemmas.Str.{IsUtf8-from_is_utf8, is_utf8-from_IsUtf8}
 use Rattle.vms_io.specs.Shelves.{Held, PutsUnder}
-use Rattle.vmstate_c.specs.Calls.{file_over}
-use Rattle.vmstate_c.specs.declared.request.File.{File}
+use Rattle.vmstate_c.specs.{Calls.file_over, declared.request.File.File}
 
 -- a file under a name that is UTF-8
 pub held-put : (file : File) (old new : Held) → IsUtf8 file.name.now → PutsUnder old new file.name.now file.bytes.now → (name : List ℕ) → new name ≡ file_over file old name

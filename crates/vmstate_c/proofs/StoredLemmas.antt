@@ -1,32 +1,17 @@
 -- The files that a call stored, as they are found entry by entry.
-use Rattle.std.proofs.Common.{◌≡◌, ◌≢◌, ◌∙◌, refl, sym, ap, subst, ℕ, zero, suc, ◌+◌, ◌<◌, Bool, true, false, ◌&&◌, cond, if◌then◌else◌, List, [], ◌∷◌, ◌++◌, length, map, reverse, take, get_or, Option, Some, None, arith}
-use Rattle.std.specs.List.{All, AllByRecursion, Contains, find}
-use Rattle.std.specs.List.Sorted.{IsStrictlySortedBy}
-use Rattle.std.specs.Bool.{Decides}
-use Rattle.std.specs.Option.{option_map}
-use Rattle.std.specs.Ordering.{is_eq, nat_cmp}
-use Rattle.std.specs.Cmp.Lexicographic.{slice_cmp}
-use Rattle.std.specs.Str.{IsUtf8, is_utf8, bytes_eq}
-use Rattle.std.specs.String.{string_bytes, string_cmp}
+use Rattle.std.proofs.{lemmas.Bool.Decides.not_from_Decides, lemmas.Str.is_utf8-from_IsUtf8, lemmas.Map.Text.is_eq-slice_cmp, lemmas.Slice.Eq.bytes_eq-Decides}
+use Rattle.std.proofs.Common.{◌≡◌, ◌≢◌, ◌∙◌, refl, sym, ap, subst, ℕ, zero, suc, ◌+◌, ◌<◌, Bool, true, false, ◌&&◌, cond, if◌then◌else◌, List, [], ◌∷◌, ◌++◌}
+use Rattle.std.proofs.Common.{length, map, reverse, take, get_or, Option, Some, None, arith}
+use Rattle.std.proofs.lemmas.List.{append-nil, append_assoc, length-append, reverse-append, Elements.All-cons}
+use Rattle.std.specs.{List.All, List.AllByRecursion, List.Contains, List.find, List.Sorted.IsStrictlySortedBy, Bool.Decides, Option.option_map, Ordering.is_eq}
+use Rattle.std.specs.{Ordering.nat_cmp, Cmp.Lexicographic.slice_cmp, Str.IsUtf8, Str.is_utf8, Str.bytes_eq, String.string_bytes, String.string_cmp, Map.keys_of}
+use Rattle.std.specs.{Map.lookup, declared.string.String.String, declared.alloc.Global.Global, declared.cmp.Ordering.TheVariants.Less}
 use Rattle.std.specs.BTreeMap.{BTreeMap, IsOrdered, get, is_at}
-use Rattle.std.specs.Map.{keys_of, lookup}
-use Rattle.std.specs.declared.string.String.{String}
-use Rattle.std.specs.declared.alloc.Global.{Global}
-use Rattle.std.specs.declared.cmp.Ordering.TheVariants.{Less}
-use Rattle.std.proofs.lemmas.Bool.Decides.{not_from_Decides}
-use Rattle.std.proofs.lemmas.List.{append-nil, append_assoc, length-append, reverse-append}
-use Rattle.std.proofs.lemmas.Str.{is_utf8-from_IsUtf8}
-use Rattle.std.proofs.lemmas.List.Elements.{All-cons}
-use Rattle.std.proofs.lemmas.Map.Text.{is_eq-slice_cmp}
-use Rattle.std.proofs.lemmas.Slice.Eq.{bytes_eq-Decides}
 use Rattle.vms_io.specs.Shelves.{Held}
+use Rattle.vmstate_c.proofs.{WordLemmas.take-more}
+use Rattle.vmstate_c.specs.{Folders.held_in, declared.folder.Content.Content, declared.request.File.File, declared.request.Stored.Stored}
 use Rattle.vmstate_c.specs.Calls.{file_of, is_named}
-use Rattle.vmstate_c.specs.Folders.{held_in}
 use Rattle.vmstate_c.specs.Storing.{Entry, IsStored, bytes_of, is_just, is_lent, places}
-use Rattle.vmstate_c.proofs.WordLemmas.{take-more}
-use Rattle.vmstate_c.specs.declared.folder.Content.{Content}
-use Rattle.vmstate_c.specs.declared.request.File.{File}
-use Rattle.vmstate_c.specs.declared.request.Stored.{Stored}
 
 abbrev Pair : Type 0
 Pair = String Global × Content
@@ -50,8 +35,7 @@ some_is e = cc
 
 is_just-Decides : (held : Option (List ℕ)) (bytes : List ℕ) → Decides (is_just held bytes) (held ≡ Some bytes)
 is_just-Decides None bytes = ((λ e. cc), (λ e. cc))
-is_just-Decides (Some held) bytes =
-    ((λ e. ap Some ((bytes_eq-Decides held bytes).0 e)), (λ e. (bytes_eq-Decides held bytes).1 (some_is e)))
+is_just-Decides (Some held) bytes = ((λ e. ap Some ((bytes_eq-Decides held bytes).0 e)), (λ e. (bytes_eq-Decides held bytes).1 (some_is e)))
 
 -- the last of the files with a name is the new one, or the last of the others
 one-more : (files : List File) (file : File) (name bytes : List ℕ) → IsUtf8 name
@@ -63,8 +47,7 @@ one-more files file name bytes utf8 =
     by : (b : Bool) → is_utf8 name ≡ true
         → is_just (option_map (λ f. f.bytes.now) (cond (b && is_utf8 name) (Some file) (find (is_named name) (reverse files)))) bytes
         ≡ (if b then bytes_eq file.bytes.now bytes else is_lent files name bytes)
-    by true u =
-        ap (λ (u : Bool). is_just (option_map (λ f. f.bytes.now) (cond u (Some file) (find (is_named name) (reverse files)))) bytes) u
+    by true u = ap (λ (u : Bool). is_just (option_map (λ f. f.bytes.now) (cond u (Some file) (find (is_named name) (reverse files)))) bytes) u
     by false u = refl
 
 -- a turn of the search for the last file with a name
@@ -93,8 +76,7 @@ IsNew lent held file = (held file.name ≡ Some file.bytes) × (file_of file.nam
 
 all_new : (lent : List File) (held : Held) (es : List Pair) → All (λ e. held (name_in e) ≡ Some (bytes_in e)) es → All (IsNew lent held) (news lent es)
 all_new lent held [] there = λ k d lt. absurd (omega (arith, lt))
-all_new lent held (e ∷ es) there =
-    by (is_lent lent (name_in e) (bytes_in e)) refl (all_new lent held es (λ k d lt. there (suc k) d (omega (arith, lt))))
+all_new lent held (e ∷ es) there = by (is_lent lent (name_in e) (bytes_in e)) refl (all_new lent held es (λ k d lt. there (suc k) d (omega (arith, lt))))
   where
     by : (b : Bool) → is_lent lent (name_in e) (bytes_in e) ≡ b → All (IsNew lent held) (news lent es)
         → All (IsNew lent held) (if b then news lent es else entry (name_in e) (bytes_in e) ∷ news lent es)
@@ -117,8 +99,7 @@ has_new lent (e ∷ es) name bytes there differs =
   where
     here : (b : Bool) → is_lent lent (name_in e) (bytes_in e) ≡ b → name ≡ name_in e → bytes_in e ≡ bytes
         → Contains (if b then news lent es else entry (name_in e) (bytes_in e) ∷ news lent es) (entry name bytes)
-    here true q same found =
-        absurd (differs (ap (λ n. file_of n lent) same ∙ (is_just-Decides (file_of (name_in e) lent) (bytes_in e)).0 q ∙ ap Some found))
+    here true q same found = absurd (differs (ap (λ n. file_of n lent) same ∙ (is_just-Decides (file_of (name_in e) lent) (bytes_in e)).0 q ∙ ap Some found))
     here false q same found = (zero, omega arith, ap (λ n. entry n (bytes_in e)) (sym same) ∙ ap (entry name) found)
 
     skip : (b : Bool) → Contains (news lent es) (entry name bytes)
@@ -129,8 +110,7 @@ has_new lent (e ∷ es) name bytes there differs =
     by : (b : Bool) → is_eq (slice_cmp nat_cmp name (name_in e)) ≡ b
         → option_map (λ content. content.bytes.items) (cond b (Some e.1) (lookup (is_at (λ k. slice_cmp nat_cmp name (string_bytes k))) es)) ≡ Some bytes
         → (held_in es name ≡ Some bytes → Contains (news lent es) (entry name bytes)) → Contains (news lent (e ∷ es)) (entry name bytes)
-    by true q found rest =
-        here _ refl ((bytes_eq-Decides name (name_in e)).0 (sym (is_eq-slice_cmp name (name_in e)) ∙ q)) (some_is found)
+    by true q found rest = here _ refl ((bytes_eq-Decides name (name_in e)).0 (sym (is_eq-slice_cmp name (name_in e)) ∙ q)) (some_is found)
     by false q found rest = skip _ (rest found)
 
 -- ---- in which order

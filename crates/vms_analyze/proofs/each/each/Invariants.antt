@@ -1,5 +1,4 @@
-use Rattle.vms_analyze.proofs.Facade.{◌≡◌, length, map, items_left, each}
-use Rattle.vms_analyze.proofs.Inputs.{before}
+use Rattle.vms_analyze.proofs.{Facade.◌≡◌, Facade.length, Facade.map, Facade.items_left, Facade.each, Inputs.before}
 use Rattle.vms_analyze.proofs.each.each.Given as goal
 
 abbrev pub invariant-loop-item : goal.invariant-loop-item

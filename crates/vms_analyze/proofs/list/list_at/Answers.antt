@@ -1,7 +1,5 @@
+use Rattle.vms_analyze.proofs.{Facade.wants, Inputs.lists_as, Inputs.text_behind, DevicesRead.tells_if, DevicesRead.not_told}
 use Rattle.vms_analyze.proofs.Facade.{◌≡◌, ◌+◌, map, take, drop, None, sym, value_in, Tells, listing_of, IsRead, HasNoShape, next, devices_in, device_of, found}
-use Rattle.vms_analyze.proofs.Facade.{wants}
-use Rattle.vms_analyze.proofs.Inputs.{lists_as, text_behind}
-use Rattle.vms_analyze.proofs.DevicesRead.{tells_if, not_told}
 use Rattle.vms_analyze.proofs.list.list_at.Goals as goal
 
 pub show-requires : goal.show-requires

@@ -1,6 +1,5 @@
-use Rattle.vms_board_commands.proofs.Facade.{List, ℕ, refl, subst, ◌∙◌, Some, outlet, ending_passed, text_ends, TextEnds, Gives, quiet_same, NoMemory, same_so}
-use Rattle.vms_board_commands.proofs.Facade.{so_quiet, writes_end, drill_course, drill_line, ending_of}
-use Rattle.vms_board_commands.proofs.CourseLemmas.{drilled_so}
+use Rattle.vms_board_commands.proofs.{Facade.drill_course, Facade.drill_line, Facade.ending_of, CourseLemmas.drilled_so}
+use Rattle.vms_board_commands.proofs.Facade.{refl, ◌∙◌, Some, outlet, ending_passed, text_ends, Gives, quiet_same, NoMemory, same_so, so_quiet, writes_end}
 use Rattle.vms_board_commands.proofs.drill.drill_board.Goals as goal
 
 pub returns : goal.returns

@@ -1,9 +1,7 @@
-use Rattle.vms_board_commands.proofs.Facade.{List, ℕ, true, None, refl, sym, subst, Some, Global, Vec, Event, intake, outlet, stock, quiet_same, Outcome}
-use Rattle.vms_board_commands.proofs.Facade.{ended_by, ending_passed, had_by, ScriptLine, event_lines, so_since, wrong, load_course, Loads, scripted, SeenAs}
-use Rattle.vms_board_commands.proofs.Facade.{ending_of}
+use Rattle.vms_board_commands.proofs.{CourseLemmas.load_asks, CourseLemmas.unset_so, SeenLemmas.other_seen, SeenLemmas.seen_given, SeenLemmas.set_other}
+use Rattle.vms_board_commands.proofs.Facade.{List, true, None, refl, Some, Global, Vec, Event, intake, outlet, stock, quiet_same, ended_by, ending_passed}
+use Rattle.vms_board_commands.proofs.Facade.{had_by, ScriptLine, event_lines, so_since, wrong, load_course, Loads, scripted, ending_of}
 use Rattle.vms_board_commands.proofs.LoadLemmas.{gives_none, gives_some, loads_under}
-use Rattle.vms_board_commands.proofs.CourseLemmas.{load_asks, unset_so}
-use Rattle.vms_board_commands.proofs.SeenLemmas.{other_seen, seen_given, set_other}
 use Rattle.vms_board_commands.proofs.load.load_board.Goals as goal
 
 abbrev view : Vec Event Global → List ScriptLine

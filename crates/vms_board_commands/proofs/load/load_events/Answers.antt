@@ -1,6 +1,5 @@
-use Rattle.vms_board_commands.proofs.Facade.{ℕ, refl, ap, ◌∙◌, subst, arith, Some, Keeps-refl, intake, outlet, comes_to_nothing, event_lines, same_so, NoMemory}
-use Rattle.vms_board_commands.proofs.Facade.{stream_course, LoadsStream, ending_of, ending_passed}
-use Rattle.vms_board_commands.proofs.SeenLemmas.{other_seen}
+use Rattle.vms_board_commands.proofs.{Facade.stream_course, Facade.ending_passed, SeenLemmas.other_seen}
+use Rattle.vms_board_commands.proofs.Facade.{refl, ap, ◌∙◌, arith, Some, Keeps-refl, intake, outlet, comes_to_nothing, event_lines, same_so, NoMemory}
 use Rattle.vms_board_commands.proofs.load.load_events.Goals as goal
 
 pub returns : goal.returns

@@ -1,9 +1,7 @@
-use Rattle.vms_board_commands.proofs.Facade.{Ok, Err, ap, ◌∙◌, refl, Some, Keeps-refl, within, outlet, draws_took, comes_to_nothing, refused_line, ReadFault}
-use Rattle.vms_board_commands.proofs.Facade.{Refused, event_lines, Set, Loads, ending_of}
+use Rattle.vms_board_commands.proofs.{LoadLemmas.refusal_seen, LoadLemmas.trace_seen, LoadLemmas.written_events, LoadOutcome.loads_same}
+use Rattle.vms_board_commands.proofs.{SeenLemmas.content_seen, SeenLemmas.other_seen, Facade.Refused, Facade.event_lines, Facade.Loads, Facade.ending_of}
 use Rattle.vms_board_commands.proofs.CourseLemmas.{refused_so, traced_so, unread_so}
-use Rattle.vms_board_commands.proofs.LoadLemmas.{refusal_seen, trace_seen, written_events}
-use Rattle.vms_board_commands.proofs.LoadOutcome.{loads_same}
-use Rattle.vms_board_commands.proofs.SeenLemmas.{content_seen, other_seen}
+use Rattle.vms_board_commands.proofs.Facade.{Ok, Err, ap, ◌∙◌, refl, Some, Keeps-refl, within, outlet, draws_took, comes_to_nothing, refused_line, ReadFault}
 use Rattle.vms_board_commands.proofs.load.load_on.Goals as goal
 
 -- the board was restored, and its trace was written

@@ -1,8 +1,6 @@
-use Rattle.vms_board_commands.proofs.Facade.{List, Option, Some, refl, sym, subst, true, IsSomeAnd, Global, Vec, Held, outlet, stock, quiet_same, ended_by}
-use Rattle.vms_board_commands.proofs.Facade.{ending_passed, had_by, Outcome, ScriptLine, lines_view, Line, so_since, wrong, play_course, PlaysAll, scripted}
-use Rattle.vms_board_commands.proofs.Facade.{ending_of}
-use Rattle.vms_board_commands.proofs.PlayLemmas.{ends_since}
-use Rattle.vms_board_commands.proofs.CourseLemmas.{play_asks, unset_so}
+use Rattle.vms_board_commands.proofs.{PlayLemmas.ends_since, CourseLemmas.play_asks, CourseLemmas.unset_so}
+use Rattle.vms_board_commands.proofs.Facade.{List, Some, refl, true, IsSomeAnd, Global, Vec, outlet, stock, quiet_same, ended_by, ending_passed, had_by}
+use Rattle.vms_board_commands.proofs.Facade.{Outcome, ScriptLine, lines_view, Line, so_since, wrong, play_course, PlaysAll, scripted, ending_of}
 use Rattle.vms_board_commands.proofs.play.play_board.Goals as goal
 
 abbrev view : Vec Line Global → List ScriptLine

@@ -1,8 +1,6 @@
-use Rattle.vms_board_commands.proofs.Facade.{ℕ, Some, refl, sym, ap, ◌∙◌, subst, Keeps-refl, State, outlet, stock, AreLines, lines_view, comes_to_nothing}
-use Rattle.vms_board_commands.proofs.Facade.{same_so, ending_mapped, ending_passed, NoMemory, play_course, ending_by}
-use Rattle.vms_board_commands.proofs.PlayLemmas.{played_by}
-use Rattle.vms_board_commands.proofs.SaveLemmas.{at_level}
-use Rattle.vms_board_commands.proofs.CourseLemmas.{played_so}
+use Rattle.vms_board_commands.proofs.{PlayLemmas.played_by, SaveLemmas.at_level, CourseLemmas.played_so}
+use Rattle.vms_board_commands.proofs.Facade.{Some, refl, ap, ◌∙◌, Keeps-refl, outlet, stock, lines_view, comes_to_nothing, same_so, ending_mapped}
+use Rattle.vms_board_commands.proofs.Facade.{ending_passed, NoMemory, play_course, ending_by}
 use Rattle.vms_board_commands.proofs.play.play_lines.Goals as goal
 
 pub play-requires : goal.play-requires

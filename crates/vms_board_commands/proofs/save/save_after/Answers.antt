@@ -1,7 +1,6 @@
-use Rattle.vms_board_commands.proofs.Facade.{◌≡◌, ℕ, sym, ap, ◌∙◌, subst, ReachesSet, saved_stream, after_events, outlet, ending_mapped}
-use Rattle.vms_board_commands.proofs.CourseLemmas.{saved_so}
-use Rattle.vms_board_commands.proofs.SaveLemmas.{saved_ends}
-use Rattle.vms_board_commands.specs.Save.{ending_by}
+use Rattle.vms_board_commands.proofs.{CourseLemmas.saved_so, SaveLemmas.saved_ends}
+use Rattle.vms_board_commands.proofs.Facade.{◌≡◌, sym, ap, ◌∙◌, subst, ReachesSet, saved_stream, after_events, outlet, ending_mapped}
+use Rattle.vms_board_commands.specs.{Save.ending_by}
 use Rattle.vms_board_commands.proofs.save.save_after.Goals as goal
 
 pub save_devices-requires-clause-may : goal.save_devices-requires-clause-may

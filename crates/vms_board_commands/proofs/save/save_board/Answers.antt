@@ -1,5 +1,5 @@
-use Rattle.vms_board_commands.proofs.Facade.{None, List, ℕ, refl, sym, ◌∙◌, subst, true, Some, Global, Vec, Event, saved_stream, after_events, outlet, stock}
-use Rattle.vms_board_commands.proofs.Facade.{quiet_same, ending_passed, err_text, text_ends, then_text, TextEnds, Gives, events_back, events_of, ScriptLine}
+use Rattle.vms_board_commands.proofs.Facade.{None, List, ℕ, refl, sym, ◌∙◌, true, Some, Global, Vec, Event, saved_stream, after_events, outlet, stock}
+use Rattle.vms_board_commands.proofs.Facade.{quiet_same, ending_passed, err_text, text_ends, then_text, Gives, events_back, events_of, ScriptLine}
 use Rattle.vms_board_commands.proofs.Facade.{event_lines, so_quiet, so_since, wrong, save_course, saved_after, scripted, ending_of}
 use Rattle.vms_board_commands.proofs.CourseLemmas.{save_asks, unset_so}
 use Rattle.vms_board_commands.proofs.save.save_board.Goals as goal

@@ -1,6 +1,5 @@
 use Rattle.std.proofs.Common.{◌≡◌, true, map, take}
-use Rattle.std.specs.List.{list_all}
-use Rattle.std.specs.Str.{is_utf8}
+use Rattle.std.specs.{List.list_all, Str.is_utf8}
 use Rattle.vmstate_c.proofs.call.words_of.Given as goal
 
 abbrev pub invariant-loop-word : goal.invariant-loop-word

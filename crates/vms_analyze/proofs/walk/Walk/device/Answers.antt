@@ -1,6 +1,5 @@
-use Rattle.vms_analyze.proofs.Facade.{device_of}
+use Rattle.vms_analyze.proofs.{Facade.device_of, Parts.device_parts}
 use Rattle.vms_analyze.proofs.Walks.{device_short, head_stops, elements_stop, subs_stop, device_walks}
-use Rattle.vms_analyze.proofs.Parts.{device_parts}
 use Rattle.vms_analyze.proofs.walk.Walk.device.Goals as goal
 
 pub head-requires-clause-short : goal.head-requires-clause-short

@@ -1,5 +1,4 @@
-use Rattle.vms_analyze.proofs.Facade.{AllPass-from_list_all}
-use Rattle.vms_analyze.proofs.Walks.{more_goes, one_stops}
+use Rattle.vms_analyze.proofs.{Facade.AllPass-from_list_all, Walks.more_goes, Walks.one_stops}
 use Rattle.vms_analyze.proofs.walk.Walk.each.Goals as goal
 
 pub seek-requires-clause-inside : goal.seek-requires-clause-inside

@@ -1,5 +1,4 @@
-use Rattle.vms_analyze.proofs.Facade.{kept_line}
-use Rattle.vms_analyze.proofs.Walks.{line_goes}
+use Rattle.vms_analyze.proofs.{Facade.kept_line, Walks.line_goes}
 use Rattle.vms_analyze.proofs.walk.Walk.kept_head.Goals as goal
 
 pub returns-clause-ok : goal.returns-clause-ok

@@ -1,4 +1,4 @@
-use Rattle.vms_board_commands.proofs.Facade.{◌≡◌, ◌+◌, ◌-◌, ◌∙◌, ap, arith, State, Standing, Drill, drill_begun, drilled_on, summary_of, progress_view}
+use Rattle.vms_board_commands.proofs.Facade.{◌+◌, ◌-◌, ◌∙◌, ap, arith, drill_begun, drilled_on, summary_of, progress_view}
 use Rattle.vms_board_commands.proofs.DrillSteps.{one_more, none_more}
 use Rattle.vms_board_commands.proofs.drills.fold.drill.Goals as goal
 
@@ -11,19 +11,12 @@ loop-preserved c = record {
 }
 
 pub returns-clause-summary : goal.returns-clause-summary
-returns-clause-summary c =
-    let none : c.args.count - c.loop.counter ≡ 0 = omega arith in
-    let whole = none_more (c.args.count - c.loop.counter) (progress_view c.loop.progress) (drilled_on c.args.count (drill_begun c.args.level c.args.seed)) none c.loop.invariant.left in
-    c.end.ensures.summary ∙ ap summary_of whole
+returns-clause-summary c = c.end.ensures.summary ∙ ap summary_of (none_more (c.args.count - c.loop.counter) _ _ (omega arith) c.loop.invariant.left)
 
 pub returns-clause-board : goal.returns-clause-board
 returns-clause-board c =
-    let none : c.args.count - c.loop.counter ≡ 0 = omega arith in
-    let whole = none_more (c.args.count - c.loop.counter) (progress_view c.loop.progress) (drilled_on c.args.count (drill_begun c.args.level c.args.seed)) none c.loop.invariant.left in
-    ap (λ b. b.state) c.end.ensures.board ∙ ap (λ d. d.progress.board) whole
+    ap (λ b. b.state) c.end.ensures.board ∙ ap (λ d. d.progress.board) (none_more (c.args.count - c.loop.counter) _ _ (omega arith) c.loop.invariant.left)
 
 pub returns-clause-taken : goal.returns-clause-taken
 returns-clause-taken c =
-    let none : c.args.count - c.loop.counter ≡ 0 = omega arith in
-    let whole = none_more (c.args.count - c.loop.counter) (progress_view c.loop.progress) (drilled_on c.args.count (drill_begun c.args.level c.args.seed)) none c.loop.invariant.left in
-    ap (λ b. b.taken) c.end.ensures.board ∙ ap (λ d. d.taken) whole
+    ap (λ b. b.taken) c.end.ensures.board ∙ ap (λ d. d.taken) (none_more (c.args.count - c.loop.counter) _ _ (omega arith) c.loop.invariant.left)

@@ -1,8 +1,7 @@
-use Rattle.std.proofs.Common.{subst, List, ℕ}
-use Rattle.std.proofs.lemmas.Map.Text.{btree_map_updates_text}
-use Rattle.std.specs.String.{string_bytes}
-use Rattle.vms_io.specs.Shelves.{PutsUnder}
+use Rattle.std.proofs.{Common.subst, Common.List, Common.ℕ, lemmas.Map.Text.btree_map_updates_text}
+use Rattle.std.specs.{String.string_bytes}
 use Rattle.vms_io.proofs.PutLemmas.{update_puts}
+use Rattle.vms_io.specs.Shelves.{PutsUnder}
 use Rattle.vmstate_c.specs.Folders.{held_in}
 use Rattle.vmstate_c.proofs.folder.Folder.put.Goals as goal
 
