@@ -4,13 +4,12 @@ use Rattle.dev_clock.proofs.Facade.{LAST_MOMENT, NEWEST, timed, by_chip, by_devi
 use Rattle.dev_clock.proofs.Facade.{PicPair, Pit, Port, IsPlaced, AreClockCells, numbers_back, slave_line, with_line, clock_back, joined, judged-ok, ok-hook}
 use Rattle.dev_clock.proofs.Facade.{has, same, AreOf, number_at, IsLevel, IsUpTo, chip-ok, device-ok, same-is, chip_of, rules, kinds, line_of, NEWEST_CLOCK}
 use Rattle.dev_clock.proofs.Facade.{Rtc, RestoredIsSound, IsSound, ClockState, ClockCells, CLOCK_DEVICE, LINE_RULE, LINES_CELL}
-use Rattle.dev_board.specs.Saved.{joined as board_joined, restored as board_restored}
-use Rattle.dev_board.proofs.RestoredLaws.{restored_is_sound as board-is-sound, made_of as board_made_of}
-use Rattle.dev_pic.proofs.RestoredLaws.{made_of as pair_made_of}
-use Rattle.vms_rtc.proofs.RestoredLaws.{restored_is_sound as clock-is-sound}
-use Rattle.vms_rtc.specs.Saved.{restored as clock_restored}
-use Rattle.vms_rtc.specs.Sound.{IsSound as IsSoundClock}
 use Rattle.dev_clock.proofs.SavedLaws.{slave-bit}
+use Rattle.dev_board.proofs.RestoredLaws.{restored_is_sound as board-is-sound, made_of as board_made_of}
+use Rattle.dev_board.specs.Saved.{joined as board_joined, restored as board_restored}
+use Rattle.dev_pic.proofs.RestoredLaws.{made_of as pair_made_of}
+use Rattle.vms_rtc.proofs.{RestoredLaws.restored_is_sound as clock-is-sound}
+use Rattle.vms_rtc.specs.{Saved.restored as clock_restored, Sound.IsSound as IsSoundClock}
 
 -- ---- the devices that misfits of a board name
 

@@ -1,17 +1,14 @@
 -- The devices are sound exactly if their cells in the newest clock set meet the rules and the lines
 -- agree.
+use Rattle.dev_clock.proofs.{Facade.CLOCK_DEVICE, SavedLaws.line-kept, SavedLaws.device-kept, SavedLaws.both-kept, SavedLaws.slave-bit}
 use Rattle.dev_clock.proofs.Facade.{◌≡◌, ℕ, Ok, sym, ap, subst, ◌∙◌, AllTrue, judged-ok, none_failing, has, NEWEST, State, lines_of, same-chip, restored-own}
 use Rattle.dev_clock.proofs.Facade.{saved_cells, line_of, NEWEST_CLOCK, saved, slave_line, clock_back, restored, IsTold, SoundMeetsRules, IsSound, ClockState}
-use Rattle.dev_clock.proofs.Facade.{CLOCK_DEVICE}
-use Rattle.dev_board.proofs.RuleLaws.{sound_meets_rules as board-meets}
-use Rattle.dev_board.specs.Saved.{saved as board_saved, restored as board_restored}
-use Rattle.dev_board.specs.Sound.{IsSound as IsSoundBoard}
-use Rattle.dev_pic.specs.Cells.{saved_cells as chip_cells}
-use Rattle.vms_rtc.proofs.RuleLaws.{sound_meets_rules as clock-meets}
-use Rattle.vms_rtc.specs.Saved.{rules, chip_of, restored as clock_restored}
-use Rattle.vms_rtc.specs.Sound.{IsSound as IsSoundClock}
 use Rattle.dev_clock.proofs.RestoredLaws.{IsMadeOf, made_of, IsLined, clock-lined}
-use Rattle.dev_clock.proofs.SavedLaws.{line-kept, device-kept, both-kept, slave-bit}
+use Rattle.dev_board.proofs.{RuleLaws.sound_meets_rules as board-meets}
+use Rattle.dev_board.specs.{Saved.saved as board_saved, Saved.restored as board_restored, Sound.IsSound as IsSoundBoard}
+use Rattle.dev_pic.specs.Cells.{saved_cells as chip_cells}
+use Rattle.vms_rtc.proofs.{RuleLaws.sound_meets_rules as clock-meets}
+use Rattle.vms_rtc.specs.{Saved.rules, Saved.chip_of, Saved.restored as clock_restored, Sound.IsSound as IsSoundClock}
 
 -- The slave's line among the saved cells of a sound board.
 slave-there : (board : State) → IsSoundBoard board → slave_line (board_saved NEWEST board).slave.items ≡ has (lines_of board.pair) 8

@@ -1,16 +1,15 @@
 -- What is saved of a clock board's devices can be restored.
+use Rattle.dev_clock.proofs.{Facade.IsSound, Facade.Alike, Facade.ClockState, Facade.CLOCK_DEVICE, Facade.LINES_CELL, AlikeLaws.alike_stays}
 use Rattle.dev_clock.proofs.Facade.{◌≡◌, ℕ, ◌*◌, ◌+◌, ◌<◌, ◌==◌, ap, arith, ℤ, ◌≤◌, Bool, List, Result, Ok, refl, sym, subst, ◌∙◌, has, lines_of, IsSoundPair}
 use Rattle.dev_clock.proofs.Facade.{PicPair, CLOCK_INPUT, hook-ok, number_at, NEWEST, same-refl, by_device, State, Misfit, carried-saved, Numbers}
 use Rattle.dev_clock.proofs.Facade.{saved_is_restored, saved_cells, line_of, CanRestore, hook_restored, Rtc, MaySaveUnder, saved, carried, AreSavedCells}
 use Rattle.dev_clock.proofs.Facade.{AreClockCells, numbers_back, slave_line, with_line, joined, restored, SavedAreCells, ComesBack, SavedComesBack, SavedGoesOn}
-use Rattle.dev_clock.proofs.Facade.{IsSound, Alike, ClockState, CLOCK_DEVICE, LINES_CELL}
 use Rattle.dev_board.proofs.SavedLaws.{saved_are_cells as board-saved, saved_comes_back as board-comes-back}
 use Rattle.dev_board.specs.Saved.{saved as board_saved, carried as board_carried, MaySaveUnder as MaySaveBoard}
 use Rattle.dev_board.specs.SavedLaws.{ComesBack as BoardComesBack}
 use Rattle.dev_pic.specs.Cells.{saved_cells as chip_cells, carried as pic_carried}
 use Rattle.vms_rtc.proofs.SavedLaws.{saved_are_cells as clock-saved}
 use Rattle.vms_rtc.specs.Cells.{carried as clock_carried}
-use Rattle.dev_clock.proofs.AlikeLaws.{alike_stays}
 
 high-bit : (high low : ℕ) → low < 256 → has (high * 256 + low) 8 ≡ has high 0
 high-bit high low l = ap (λ (n : ℕ). n == 1) (omega (arith, l))

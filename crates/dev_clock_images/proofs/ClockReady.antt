@@ -1,12 +1,11 @@
 -- Sound devices are saved in ready images.
+use Rattle.dev_clock_images.proofs.{ChipReady.chip_is_ready, NormalClock.outer, NormalClock.inner_ready, NormalClock.images_same}
 use Rattle.dev_clock_images.proofs.Facade.{◌≡◌, ℕ, zero, suc, ◌≤◌, List, ◌∷◌, length, Some, ℤ, ap, subst, ◌∙◌, arith, slice_get, NEWEST, saved_are_cells}
 use Rattle.dev_clock_images.proofs.Facade.{MaySaveUnder, AreSavedCells, saved, IsSound, ClockState, image_of, images_of, clock_set, saved_cells, NEWEST_CLOCK}
 use Rattle.dev_clock_images.proofs.Facade.{clock_1, clock_2, mc146818_at_1, mc146818_at_2, Image, Device, set_4, IsReady, AreReady, SavedAreReady}
 use Rattle.dev_board.specs.Saved.{saved as board_saved}
 use Rattle.dev_images.proofs.BoardReady.{saved_are_ready as board-ready}
 use Rattle.dev_images.specs.Images.{lists_of as board_lists}
-use Rattle.dev_clock_images.proofs.ChipReady.{chip_is_ready}
-use Rattle.dev_clock_images.proofs.NormalClock.{outer, inner_ready, images_same}
 
 -- A device's image before those of set 4.
 module _ (machines : List (List ℕ)) (d : Device) (numbers : List ℤ) (lists : List (List ℤ)) where

@@ -1,5 +1,6 @@
 -- What is saved of a sound board is carried to the newest set as its devices' tables say, and can
 -- be restored.
+use Rattle.dev_images.proofs.{Carried.timer_is_carried, Carried.chip_is_carried, PitCarried.pit_is_carried, SerialCarried.serial_is_carried}
 use Rattle.dev_images.proofs.Facade.{◌≡◌, ℕ, zero, suc, ◌≤◌, refl, sym, ap, subst, ◌∙◌, arith, NEWEST, saved_are_cells, saved_comes_back, saved_goes_on, saved}
 use Rattle.dev_images.proofs.Facade.{MaySaveUnder, AreSavedCells, restored, ComesBack, IsSound, State, BoardCells, carried, shipped_set, saved_images, cells_in}
 use Rattle.dev_images.proofs.Facade.{SavedIsCarried, ImagesComeBack, five, same-five}
@@ -7,9 +8,6 @@ use Rattle.dev_board.specs.Saved.{carried as board_carried}
 use Rattle.dev_pic.specs.Cells.{carried as pic_carried}
 use Rattle.dev_pit.specs.Cells.{carried as pit_carried}
 use Rattle.dev_serial.specs.Cells.{carried as serial_carried}
-use Rattle.dev_images.proofs.Carried.{timer_is_carried, chip_is_carried}
-use Rattle.dev_images.proofs.PitCarried.{pit_is_carried}
-use Rattle.dev_images.proofs.SerialCarried.{serial_is_carried}
 
 -- A set's cells as its devices' tables carry them.
 abbrev tables : ℕ → BoardCells → BoardCells

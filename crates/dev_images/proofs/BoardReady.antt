@@ -1,10 +1,7 @@
 -- A sound board is saved in ready images.
+use Rattle.dev_images.proofs.{ChipReady.chip_is_ready, PitReady.pit_is_ready, SerialReady.serial_is_ready, TimerReady.timer_is_ready}
 use Rattle.dev_images.proofs.Facade.{◌≡◌, ℕ, zero, suc, ◌≤◌, List, [], ◌∷◌, length, Some, ℤ, refl, ap, subst, arith, slice_get, NEWEST, saved_are_cells, saved}
 use Rattle.dev_images.proofs.Facade.{AreSavedCells, State, shipped_set, Image, Device, Set, IsReady, AreReady, image_of, images_of, lists_of, SavedAreReady}
-use Rattle.dev_images.proofs.ChipReady.{chip_is_ready}
-use Rattle.dev_images.proofs.PitReady.{pit_is_ready}
-use Rattle.dev_images.proofs.SerialReady.{serial_is_ready}
-use Rattle.dev_images.proofs.TimerReady.{timer_is_ready}
 
 -- Each device's image is ready.
 AllReady : Set → List Device → List (List ℤ) → Type 0

@@ -1,11 +1,10 @@
 -- The image of a chip of the pair is ready.
+use Rattle.dev_images.proofs.{Facade.i8259_at_4, Facade.ReadyOf, Facade.ChipIsReady, Facade.image_of, ReadyOf.are_kept, ReadyOf.ready-plain}
 use Rattle.dev_images.proofs.Facade.{◌≡◌, ℕ, zero, suc, ◌==◌, Bool, true, false, List, get_or, ℤ, pos, negsuc, refl, arith, ints, bit_and, place_of_pic}
 use Rattle.dev_images.proofs.Facade.{residue, InRange, image_slots, IsValid, AreOf, first, device_cells, set_1, set_2, set_3, set_4, i8259_at_1, i8259_at_2}
-use Rattle.dev_images.proofs.Facade.{i8259_at_4, ReadyOf, ChipIsReady, image_of}
 use Rattle.std.proofs.Common.{codes}
 use Rattle.vms_kinds.specs.declared.Kind.TheVariants.{Bool as Truth}
 use Rattle.dev_pic.specs.Cells.{kinds as pic_kinds}
-use Rattle.dev_images.proofs.ReadyOf.{are_kept, ready-plain}
 
 first-set : (instance : ℕ) (numbers : List ℤ) → AreOf (pic_kinds 1) numbers → ReadyOf set_1 (i8259_at_1 instance) numbers
 unfolding first

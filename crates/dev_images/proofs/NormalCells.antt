@@ -1,14 +1,13 @@
 -- Normal images of the newest set have the cells that a restore of a board requires.
+use Rattle.dev_images.proofs.{ChipReady.needs, PitReady.chip_slots, PitReady.status_slots, PitReady.no_gate}
+use Rattle.dev_images.proofs.Channels.{channel, second_at, third_at, none_at, channel-none, slots_in}
 use Rattle.dev_images.proofs.Facade.{◌≡◌, ℕ, zero, suc, ◌+◌, ◌<◌, ◌≤◌, true, false, ◌==◌, List, ◌∷◌, ◌++◌, get_or, map, Option, ℤ, pos, negsuc, refl, sym, ap}
 use Rattle.dev_images.proofs.Facade.{◌∙◌, subst, arith, [], ints, WLOW_HELD, WLOW, LATCHED, LATCH, STATUS_LATCHED, CELLS, InRange, Kind, Image, has_cell}
 use Rattle.dev_images.proofs.Facade.{image_slots, FitCells, IsNormal, AreVersionsOf, Cell, no_cell, first, device_cells, Slot, Rule, NEWEST, shipped_set, set_2}
 use Rattle.dev_images.proofs.Facade.{timer, i8259_at_4, i8254_at_2, AreOf, kind_at, nat_of, flag_at, number_at, timer_kinds, AreCellsOf, channel_place}
+use Rattle.dev_images.proofs.ReadyOf.{kind-of, count-of, has-none, before-none}
 use Rattle.vms_kinds.specs.declared.Kind.TheVariants.{Bool as Truth}
 use Rattle.dev_pic.specs.Cells.{kinds as pic_kinds}
-use Rattle.dev_images.proofs.ChipReady.{needs}
-use Rattle.dev_images.proofs.Channels.{channel, second_at, third_at, none_at, channel-none, slots_in}
-use Rattle.dev_images.proofs.PitReady.{chip_slots, status_slots, no_gate}
-use Rattle.dev_images.proofs.ReadyOf.{kind-of, count-of, has-none, before-none}
 
 -- Cells that fit have their kinds.
 pub of-kinds : (cells : List Cell) (numbers : List ℤ) → FitCells cells numbers → AreOf (map (λ cell. cell.kind) cells) numbers

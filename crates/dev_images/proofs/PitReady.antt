@@ -1,11 +1,10 @@
 -- The image of the timer chip is ready.
+use Rattle.dev_images.proofs.{Facade.PitIsReady, Facade.rules_append, PitCarried.IsKept, PitCarried.absent-kept}
+use Rattle.dev_images.proofs.Channels.{channel_cells, second_at, third_at, slots_in, channel-fine}
 use Rattle.dev_images.proofs.Facade.{◌≡◌, ℕ, true, List, ◌∷◌, ◌++◌, ℤ, pos, refl, arith, [], STATUS_LATCHED, U8, RulesHold, first, Cell, Slot, Number, Constant}
 use Rattle.dev_images.proofs.Facade.{Filler, Rule, set_1, set_2, set_3, set_4, i8254_at_1, i8254_at_2, AreCellsOf, latched_place, status_place, ReadyOf}
-use Rattle.dev_images.proofs.Facade.{PitIsReady, rules_append}
-use Rattle.vms_kinds.specs.declared.Kind.TheVariants.{Bool as Truth}
-use Rattle.dev_images.proofs.Channels.{channel_cells, second_at, third_at, slots_in, channel-fine}
-use Rattle.dev_images.proofs.PitCarried.{IsKept, absent-kept}
 use Rattle.dev_images.proofs.ReadyOf.{are_kept, ready-plain, kept-left, kept-right, kept-both}
+use Rattle.vms_kinds.specs.declared.Kind.TheVariants.{Bool as Truth}
 
 -- Three channels with what follows them.
 abbrev pub chip_slots : List Slot → List Slot → List Slot → List Slot → List Slot

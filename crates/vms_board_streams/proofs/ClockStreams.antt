@@ -1,7 +1,6 @@
 -- The properties that the laws of streams need of the boards clk-1 and clk-2.
+use Rattle.vms_board_streams.proofs.{Facade.StreamsStand, ClockBytes.streams_are_bytes, ClockBytes.well}
 use Rattle.vms_board_streams.proofs.Facade.{arith, alike_stays, IsSound, Alike, images_come_back, sets_are_compatible, saved_images, clock, clock_holds}
-use Rattle.vms_board_streams.proofs.Facade.{StreamsStand}
-use Rattle.vms_board_streams.proofs.ClockBytes.{streams_are_bytes, well}
 
 pub clock_streams_stand : StreamsStand clock Alike IsSound
 clock_streams_stand = record {

@@ -1,58 +1,39 @@
 -- The names of other crates, and of this crate's `specs`, that the proofs use.
+pub use Rattle.std.proofs.{Common.◌⊎◌, lemmas.Option.get_or_from_slice_get, lemmas.Slice.Eq.bytes_eq-Decides}
 pub use Rattle.std.proofs.Common.{Bool, Err, IfSome, List, None, Ok, Option, Result, Some, [], ap, append-nil, arith, codes, decimal, false, get_or, inl, inr}
 pub use Rattle.std.proofs.Common.{is_some, length, map, nat_lt, refl, subst, suc, sym, true, zero, ℕ, ℤ, ◌&&◌, ◌++◌, ◌+◌, ◌-◌, ◌<◌, ◌||◌, ◌∙◌, ◌∷◌, ◌≡◌, ◌≤◌}
-pub use Rattle.std.proofs.Common.{◌⊎◌}
 pub use Rattle.std.proofs.lemmas.Bool.{and_parts, ltb-false, ltb-true}
-pub use Rattle.std.proofs.lemmas.Option.{get_or_from_slice_get}
-pub use Rattle.std.proofs.lemmas.Slice.Eq.{bytes_eq-Decides}
-pub use Rattle.std.specs.List.{AllByRecursion, list_all, slice_get}
-pub use Rattle.std.specs.Str.{bytes_eq}
-pub use Rattle.vms_kinds.specs.Bytes.{IsBytes}
-pub use Rattle.vms_kinds.specs.Codes.{width}
-pub use Rattle.vms_kinds.specs.declared.Item.{Item}
+pub use Rattle.std.specs.{List.AllByRecursion, List.list_all, List.slice_get, Str.bytes_eq}
+pub use Rattle.vms_kinds.specs.{Bytes.IsBytes, Codes.width, declared.Item.Item, declared.Kind.Kind, declared.TheConstants.NEWEST_CLOCK_SET}
 pub use Rattle.vms_kinds.specs.declared.Item.TheVariants.{Equal, Num, Struct, Unused}
-pub use Rattle.vms_kinds.specs.declared.Kind.{Kind}
-pub use Rattle.vms_kinds.specs.declared.TheConstants.{NEWEST_CLOCK_SET}
-pub use Rattle.vms_spec.proofs.Tables.{one_more}
+pub use Rattle.vms_spec.proofs.{Tables.one_more}
 pub use Rattle.vms_spec.proofs.WellFormedLaws.{Clean, device_parts, get_none, struct_clean, sub_clean}
-pub use Rattle.vms_spec.specs.Heads.{FitsHeads}
-pub use Rattle.vms_spec.specs.Images.{Image, own_cells}
+pub use Rattle.vms_spec.specs.{Heads.FitsHeads, Images.Image, Images.own_cells, Names.is_name, Sets.Desc, Sets.Device, Sets.Field, Sets.Set, Sets.Sub}
+pub use Rattle.vms_spec.specs.{Streams.IsConfiguration, Streams.is_one_of, Streams.written, declared.Count.Count, declared.Reason.Reason}
 pub use Rattle.vms_spec.specs.Layout.{all_hold, capacity_of, counted, desc_cells, field_cells, item_size, no_desc, numbers_of, struct_cells}
-unfoldable pub use Rattle.vms_spec.specs.Layout.{first}
-pub use Rattle.vms_spec.specs.Names.{is_name}
-pub use Rattle.vms_spec.specs.Sets.{Desc, Device, Field, Set, Sub}
-pub use Rattle.vms_spec.specs.Streams.{IsConfiguration, is_one_of, written}
 pub use Rattle.vms_spec.specs.WellFormed.{WellFormed, device_rules, first_fault, struct_rules, sub_rules}
-pub use Rattle.vms_spec.specs.declared.Count.{Count}
 pub use Rattle.vms_spec.specs.declared.Count.TheVariants.{Counted, Fixed, One}
-pub use Rattle.vms_spec.specs.declared.Reason.{Reason}
+unfoldable pub use Rattle.vms_spec.specs.Layout.{first}
 pub use Rattle.vms_stream.proofs.Stated.{either_holds, never_both_holds, one_fault_holds, one_stream_holds}
 pub use Rattle.vms_stream.proofs.WrittenBytes.{AllParts, AllSubs, AreBytes, EachPart, all_parts, bytes_at, is_named, parts_named, written_are_bytes}
-pub use Rattle.vms_stream.specs.StreamLaws.{Answer, Faulty, IsWholeStream, Taken}
-pub use Rattle.vms_stream.specs.Streams.{Takes}
+pub use Rattle.vms_stream.specs.{StreamLaws.Answer, StreamLaws.Faulty, StreamLaws.IsWholeStream, StreamLaws.Taken, Streams.Takes}
 pub use Rattle.vms_elements.proofs.Members.{Each, each_append, each_map}
 pub use Rattle.vms_elements.specs.Elements.{Constant, Element, Filler, Number, Rule, Shape, Stand, What, array_elements, behind, cells_in, desc_elements}
 pub use Rattle.vms_elements.specs.Elements.{dotted, elements_from, field_elements, index_text, item_elements, no_shape, shape, shapes, single, stand_of}
 pub use Rattle.vms_elements.specs.Parts.{elements_in}
 pub use Rattle.vms_board.proofs.Restored.{content, refused_is}
-pub use Rattle.vms_board.specs.Clock.{clock, clock_machine}
-pub use Rattle.vms_board.specs.ClockStands.{clock_stands}
+pub use Rattle.vms_board.specs.{Clock.clock, Clock.clock_machine, ClockStands.clock_stands, Isa.isa, Isa.machine_of, IsaStands.isa_stands, Saving.saved_text}
 pub use Rattle.vms_board.specs.Family.{Family, MaySaveIn, Stands, images_saved, lists_in}
-pub use Rattle.vms_board.specs.Isa.{isa, machine_of}
-pub use Rattle.vms_board.specs.IsaStands.{isa_stands}
 pub use Rattle.vms_board.specs.Restoring.{Back, IsFaultAt, IsMisfitAt, Refused, Restore, Restores, TakesBoard, misfit_reason, misfit_section}
-pub use Rattle.vms_board.specs.Saving.{saved_text}
 unfoldable pub use Rattle.vms_board.specs.Saving.{saved_stream, stream_with}
 pub use Rattle.vms_board_streams.specs.Streams.{BoardsGoOn, BytesAreOne, HasRoomFor, IsContinued, StreamComesBack, StreamsAreBytes, StreamsAreShort}
 pub use Rattle.vms_board_streams.specs.Streams.{StreamsComeBack, StreamsStand, answers_to, images_carried, trace_of}
 pub use Rattle.vms_board_streams.specs.declared.memory.TheConstants.{STREAM_ROOM}
-pub use Rattle.vms_check.proofs.SelfLaws.{is_among}
-pub use Rattle.vms_check.proofs.ShippedLaws.{shipped_compatible}
-pub use Rattle.vms_check.specs.Comparing.{Compatible}
+pub use Rattle.vms_check.proofs.{SelfLaws.is_among, ShippedLaws.shipped_compatible}
+pub use Rattle.vms_check.specs.{Comparing.Compatible}
 unfoldable pub use Rattle.vms_check.specs.Comparing.{first_mismatch}
 pub use Rattle.vms_check_laws.proofs.Streaming.{upgrade_stands}
-pub use Rattle.vms_desc.proofs.Bounds.{none_is}
-pub use Rattle.vms_desc.proofs.Formed.{clock_formed, formed}
+pub use Rattle.vms_desc.proofs.{Bounds.none_is, Formed.clock_formed, Formed.formed}
 pub use Rattle.vms_desc.specs.Formed.{clock_set, shipped_set}
 pub use Rattle.vms_load.proofs.StreamLengths.{devices_long, stream_le}
 pub use Rattle.vms_selfdesc.proofs.Bounds.{clock_holds, shipped_holds}
@@ -62,11 +43,9 @@ pub use Rattle.vms_selfdesc.specs.Entries.{Entry, cell_entry, entries_of, entry_
 pub use Rattle.vms_selfdesc.specs.Tree.{described_text, described_tree, device_tree, device_trees, sub_trees}
 pub use Rattle.dev_base.specs.declared.limits.TheConstants.{NEWEST}
 unfoldable pub use Rattle.dev_board.specs.Step.{answers_by}
-pub use Rattle.dev_board.specs.declared.event.Event.{Event}
-pub use Rattle.dev_board.specs.declared.misfit.Misfit.{Misfit}
+pub use Rattle.dev_board.specs.{declared.event.Event.Event, declared.misfit.Misfit.Misfit}
 pub use Rattle.dev_clock.proofs.AlikeLaws.{alike_stays}
 pub use Rattle.dev_clock.specs.Sound.{Alike, IsSound}
-pub use Rattle.dev_clock_images.proofs.ClockCarried.{images_come_back}
-pub use Rattle.dev_clock_images.proofs.ClockSets.{sets_are_compatible}
-pub use Rattle.dev_clock_images.specs.Images.{saved_images}
+pub use Rattle.dev_clock_images.proofs.{ClockCarried.images_come_back, ClockSets.sets_are_compatible}
+pub use Rattle.dev_clock_images.specs.{Images.saved_images}
 pub use Rattle.serde_json.specs.View.{items_of}

@@ -1,8 +1,7 @@
 -- The streams of the boards of a family are short, and are bytes.
+use Rattle.vms_board_streams.proofs.{Facade.StreamsAreShort, Facade.StreamsAreBytes, TextBytes.text_is_bytes}
 use Rattle.vms_board_streams.proofs.Facade.{ℕ, ◌<◌, ◌≤◌, List, length, get_or, Some, arith, devices_long, stream_le, described_text, Image, written, WellFormed}
 use Rattle.vms_board_streams.proofs.Facade.{AreBytes, bytes_at, written_are_bytes, Family, MaySaveIn, images_saved, saved_text, saved_stream, STREAM_ROOM}
-use Rattle.vms_board_streams.proofs.Facade.{StreamsAreShort, StreamsAreBytes}
-use Rattle.vms_board_streams.proofs.TextBytes.{text_is_bytes}
 
 -- at most five bytes
 pub record IsMachineName (name : List ℕ) : Type 0 where

@@ -1,11 +1,10 @@
 -- The stream of a board of a family restores a board like it.
+use Rattle.vms_board_streams.proofs.{Facade.answers_to, Facade.trace_of, Facade.images_carried, Facade.is_among, BytesLaws.same_ok, BytesLaws.never_each}
 use Rattle.vms_board_streams.proofs.Facade.{◌≡◌, inl, inr, ℕ, ◌-◌, ◌≤◌, ◌||◌, Bool, true, false, List, [], ◌∷◌, length, Option, Some, None, IfSome, Ok, ℤ}
 use Rattle.vms_board_streams.proofs.Facade.{arith, refl, sym, ap, subst, ◌∙◌, append-nil, bytes_eq, bytes_eq-Decides, answers_by, Event, Image, IsBytes, Set}
 use Rattle.vms_board_streams.proofs.Facade.{IsConfiguration, is_one_of, Reason, WellFormed, one_stream_holds, never_both_holds, IsWholeStream, Takes}
 use Rattle.vms_board_streams.proofs.Facade.{upgrade_stands, Family, MaySaveIn, Stands, images_saved, lists_in, TakesBoard, Back, Refused, Restores, saved_text}
 use Rattle.vms_board_streams.proofs.Facade.{saved_stream, stream_with, StreamsStand, StreamComesBack, StreamsComeBack, BoardsGoOn, IsContinued, HasRoomFor}
-use Rattle.vms_board_streams.proofs.Facade.{answers_to, trace_of, images_carried, is_among}
-use Rattle.vms_board_streams.proofs.BytesLaws.{same_ok, never_each}
 
 -- ---- one accepted name
 

@@ -1,9 +1,8 @@
 -- Laws of the streams of the boards isa-1 to isa-4.
-use Rattle.vms_board_streams.proofs.Facade.{isa, isa_stands, StreamsComeBack, BoardsGoOn, BytesAreOne}
+use Rattle.vms_board_streams.proofs.{Facade.isa, Facade.isa_stands, Facade.StreamsComeBack, Facade.BoardsGoOn, Facade.BytesAreOne, IsaStreams.isa_streams_stand}
 use Rattle.dev_board.specs.Sound.{IsSound, Alike}
 use Rattle.vms_board_streams.proofs.FamilyLaws as laws
 use Rattle.vms_board_streams.proofs.BytesLaws as bytes
-use Rattle.vms_board_streams.proofs.IsaStreams.{isa_streams_stand}
 
 pub streams_come_back : StreamsComeBack isa Alike IsSound
 streams_come_back = laws.streams_come_back isa Alike isa_stands isa_streams_stand

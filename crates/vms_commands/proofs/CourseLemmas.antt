@@ -1,20 +1,13 @@
 -- How a command ends, by its steps.
 use Rattle.std.proofs.Common.{◌≡◌, ℕ, Bool, true, false, List, [], ◌∷◌, refl, ◌∙◌, arith, Option, Some, None}
-use Rattle.std.specs.Io.KnownBytes.{Keeps}
 use Rattle.std.proofs.KnownBytes.{Keeps-refl}
-use Rattle.vms_io.specs.Reading.{Takes}
-use Rattle.vms_io.specs.Shelving.{Looks}
-use Rattle.vms_io.specs.Told.{Intake, Outlet, Stock}
-use Rattle.vms_io.specs.Writing.{Serves}
+use Rattle.std.specs.Io.KnownBytes.{Keeps}
 use Rattle.vms_io.proofs.ShelvingLemmas.{looks_reaches, reaches_both, reaches_none}
-use Rattle.vms_io.proofs.WritingLemmas.{serves_none}
+use Rattle.vms_io.proofs.WritingLemmas.{serves_none, stops_prefix}
+use Rattle.vms_io.specs.{Reading.Takes, Shelving.Looks, Told.Intake, Told.Outlet, Told.Stock, Writing.Serves}
+use Rattle.vms_commands.specs.{Endings.Quiet, Endings.WritesAs, Endings.status_of, StepEndings.TextEnds, Steps.Gives, declared.ending.Ending.Ending}
 use Rattle.vms_commands.specs.Courses.{Course, Draws, EndsSo, Risen, is_among}
-use Rattle.vms_commands.specs.Endings.{Quiet, WritesAs, status_of}
-use Rattle.vms_commands.specs.StepEndings.{TextEnds}
-use Rattle.vms_commands.specs.Steps.{Gives}
-use Rattle.vms_commands.specs.declared.ending.Ending.{Ending}
 use Rattle.vms_commands.specs.declared.ending.Ending.TheVariants.{ReadFault, WriteFault, ShelfFault}
-use Rattle.vms_io.proofs.WritingLemmas.{stops_prefix}
 
 pub wrong : true ≡ false → ⊥
 wrong e = cc

@@ -1,28 +1,21 @@
 -- Each set that a word names is well formed, and its numbers fit the heads of a stream.
-use Rattle.std.proofs.Common.{◌≡◌, ℕ, zero, suc, ◌+◌, ◌≤◌, Bool, true, false, nat_le, if◌then◌else◌, List, [], ◌∷◌, Option, Some, None, codes, refl, subst, arith}
-use Rattle.std.specs.List.{slice_get}
-use Rattle.std.proofs.lemmas.Bool.{leb-true}
-use Rattle.serde_json.specs.Data.{Data, Items, no_items, item}
-use Rattle.serde_json.specs.Find.{get, as_array, as_number, as_u64}
-use Rattle.std.specs.Option.{option_and_then}
-use Rattle.vms_spec.specs.Sets.{Formula, Desc, Sub, Device, Set}
-use Rattle.vms_spec.specs.WellFormed.{SetFault, first_fault}
-use Rattle.vms_desc.proofs.Bounds.{none_is}
-use Rattle.vms_desc.proofs.ClockHeads.{clock_heads}
-use Rattle.vms_desc.proofs.Formed.{clock_formed, fit_number}
+use Rattle.std.proofs.{Common.arith, lemmas.Bool.leb-true}
+use Rattle.std.proofs.Common.{◌≡◌, ℕ, zero, suc, ◌+◌, ◌≤◌, Bool, true, false, nat_le, if◌then◌else◌, List, [], ◌∷◌, Option, Some, None, codes, refl, subst}
+use Rattle.std.specs.{List.slice_get, Option.option_and_then}
+use Rattle.serde_json.specs.{Data.Data, Data.Items, Data.no_items, Data.item, Find.get, Find.as_array, Find.as_number, Find.as_u64}
+use Rattle.vms_spec.specs.{Sets.Formula, Sets.Desc, Sets.Sub, Sets.Device, Sets.Set, WellFormed.SetFault, WellFormed.first_fault, Good.IsFit}
+use Rattle.vms_desc.proofs.{Bounds.none_is, ClockHeads.clock_heads, Formed.clock_formed, Formed.fit_number}
 use Rattle.vms_desc.specs.Formed.{shipped_set, clock_set}
 use Rattle.vms_io.specs.Shelves.{Held}
-use Rattle.vms_spec.specs.Good.{IsFit}
-use Rattle.vms_commands.specs.SetWords.{Isa, Clock, SetWord}
 use Rattle.vms_commands.specs.Fetching.{SetText, Number, Text, fetched_set, said_set, set_in, word_set}
+use Rattle.vms_commands.specs.SetWords.{Isa, Clock, SetWord}
 use Rattle.vms_commands.specs.Steps.{Step, Untold, Gives, Ends, next as after}
+use Rattle.vms_json.specs.{Keys.fits, Names.Names, Names.Scope, Names.names_if}
 use Rattle.vms_json.specs.Answers.{Answer, good, bad, under, next, changed, each_from, each_of, list_of}
-use Rattle.vms_json.specs.Keys.{fits}
 use Rattle.vms_json.specs.Members.{judged, at as member_at, at_or, member_of, member_or, text_of, up_to, u32_of}
-use Rattle.vms_descfile.specs.Descs.{Head, Whole, desc_needs, desc_allows, head_of, desc_as, rest_of, struct_of, sub_in, sub_of, whole_in, whole_of, device_in, device_of, set_in as set_said, set_of, parts_of}
+use Rattle.vms_descfile.specs.{Descs.device_of, Descs.set_in as set_said, Descs.set_of, Descs.parts_of, Tests.test_of}
+use Rattle.vms_descfile.specs.Descs.{Head, Whole, desc_needs, desc_allows, head_of, desc_as, rest_of, struct_of, sub_in, sub_of, whole_in, whole_of, device_in}
 use Rattle.vms_descfile.specs.Files.{Said, Parts, Syntax, Shape, IllFormed, judged_said, parts_said, value_said, value_in, file_said}
-use Rattle.vms_json.specs.Names.{Names, Scope, names_if}
-use Rattle.vms_descfile.specs.Tests.{test_of}
 
 -- what a good answer says has this property
 abbrev Says : {A : Type 0} → (A → Type 0) → Answer A → Type 0

@@ -1,17 +1,13 @@
 -- Words that end with a number.
-use Rattle.std.proofs.Common.{◌≡◌, ℕ, zero, suc, ◌+◌, ◌-◌, ◌^◌, ◌<◌, ◌≤◌, ◌++◌, Bool, true, false, if◌then◌else◌, List, Option, Some, None, Result, Ok, Err, ℤ, pos, negsuc, nat_lt, refl, sym, ap, ◌∙◌, arith}
-use Rattle.std.specs.Fmt.{decimal}
-use Rattle.std.specs.Str.{bytes_eq}
-use Rattle.std.proofs.lemmas.Bool.{ltb-true, lt-ltb}
-use Rattle.std.proofs.lemmas.Fmt.{decimal_injective}
-use Rattle.std.proofs.lemmas.List.{append_cancel_left}
-use Rattle.std.proofs.lemmas.Slice.Eq.{bytes_eq-Decides}
+use Rattle.std.proofs.{lemmas.Bool.ltb-true, lemmas.Bool.lt-ltb, lemmas.Fmt.decimal_injective, lemmas.List.append_cancel_left, lemmas.Slice.Eq.bytes_eq-Decides}
+use Rattle.std.proofs.Common.{◌≡◌, ℕ, zero, suc, ◌+◌, ◌-◌, ◌^◌, ◌<◌, ◌≤◌, ◌++◌, Bool, true, false, if◌then◌else◌, List, Option, Some, None, Result, Ok, Err, ℤ}
+use Rattle.std.proofs.Common.{pos, negsuc, nat_lt, refl, sym, ap, ◌∙◌, arith}
+use Rattle.std.specs.{Fmt.decimal, Str.bytes_eq}
 use Rattle.vms_spec.specs.Spelling.{number_spelled}
 use Rattle.vms_words.proofs.Spells.{number_holds, spelled_holds}
-use Rattle.vms_script.specs.Views.{number_read}
-use Rattle.vms_script.specs.declared.line.ScriptReason.{ScriptReason}
-use Rattle.vms_script.specs.declared.line.ScriptReason.TheVariants as reasons
+use Rattle.vms_script.specs.{Views.number_read, declared.line.ScriptReason.ScriptReason}
 use Rattle.vms_commands.specs.SetWords.{number_after}
+use Rattle.vms_script.specs.declared.line.ScriptReason.TheVariants as reasons
 
 -- the first number's word, or a later one's
 first_word : (front word : List ℕ) (first count : ℕ) (b : Bool) → bytes_eq word (front ++ decimal first) ≡ b

@@ -1,23 +1,17 @@
 -- Steps that a command takes before its work: how they end it, and what it does where they give something.
-use Rattle.std.proofs.Common.{append-nil, ◌≡◌, ℕ, ◌<◌, ◌^◌, Bool, true, false, if◌then◌else◌, nat_le, ◌≤◌, List, length, Option, Some, None, Result, Ok, Err, refl, sym, ap, ◌∙◌, subst, arith, inl}
-use Rattle.std.proofs.lemmas.Bool.{leb-false}
-use Rattle.std.specs.Prelude.{string_bytes}
-use Rattle.std.specs.Result.{IsErrAnd, MatchResult}
-use Rattle.std.specs.Io.KnownBytes.{Appends}
-use Rattle.std.proofs.lemmas.Option.{none-some}
-use Rattle.vms_io.specs.Shelves.{Held}
-use Rattle.vms_io.specs.Told.{Intake, Outlet, Stock}
+use Rattle.std.proofs.{lemmas.Bool.leb-false, lemmas.Option.none-some}
+use Rattle.std.proofs.Common.{append-nil, ◌≡◌, ℕ, ◌<◌, ◌^◌, Bool, true, false, if◌then◌else◌, nat_le, ◌≤◌, List, length, Option, Some, None, Result, Ok, Err}
+use Rattle.std.proofs.Common.{refl, sym, ap, ◌∙◌, subst, arith, inl}
+use Rattle.std.specs.{Prelude.string_bytes, Result.IsErrAnd, Result.MatchResult, Io.KnownBytes.Appends}
+use Rattle.vms_io.specs.{Shelves.Held, Told.Intake, Told.Outlet, Told.Stock}
 use Rattle.vms_descfile.specs.Files.{Said, Parts, Syntax, Shape, IllFormed, file_said}
-use Rattle.vms_commands.specs.declared.ending.Ending.{Ending}
-use Rattle.vms_commands.specs.declared.ending.Ending.TheVariants.{BadText, NotCompatible, WriteFault, ShelfFault, NotThere, TooLarge, NoMemory}
-use Rattle.vms_commands.specs.Endings.{EndsAs, Quiet, ending_of}
+use Rattle.vms_commands.proofs.EndLemmas.{comes_to_nothing, ends_with, takes_nothing}
+use Rattle.vms_commands.specs.{declared.ending.Ending.Ending, Endings.EndsAs, Endings.Quiet, Endings.ending_of, Lines.too_large_line, Outcomes.Outcome}
+use Rattle.vms_commands.specs.{Outcomes.done, Outcomes.ended, SetWords.SetWord, SetWords.Shipped, SetWords.OnShelf}
 use Rattle.vms_commands.specs.Fetching.{longest_file, text_under, fetched, SetText, Number, Text, fetched_set, said_set, set_in, sets_in, named_sets, word_set}
-use Rattle.vms_commands.specs.Lines.{too_large_line}
-use Rattle.vms_commands.specs.Outcomes.{Outcome, done, ended}
-use Rattle.vms_commands.specs.SetWords.{SetWord, Shipped, OnShelf}
 use Rattle.vms_commands.specs.StepEndings.{IsFree, EndedAs, StepAs, WrittenAs, TextEnds}
 use Rattle.vms_commands.specs.Steps.{Step, Untold, Gives, Ends, next, both, HasBy, HasText}
-use Rattle.vms_commands.proofs.EndLemmas.{comes_to_nothing, ends_with, takes_nothing}
+use Rattle.vms_commands.specs.declared.ending.Ending.TheVariants.{BadText, NotCompatible, WriteFault, ShelfFault, NotThere, TooLarge, NoMemory}
 
 -- ---- how a command ends, by what its work returned
 

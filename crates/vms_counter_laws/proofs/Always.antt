@@ -1,21 +1,20 @@
 -- The defaults show three kinds of mismatch, where they are ready.
-use Rattle.vms_counter_laws.proofs.Facade.{◌==◌, if◌then◌else◌, ℕ, subst, ◌≡◌, inl, inr, ◌+◌, ◌^◌, ◌<◌, true, false, List, [], ◌++◌, length, map, Option}
-use Rattle.vms_counter_laws.proofs.Facade.{Some, None, refl, sym, ap, ◌∙◌, arith, append_assoc, append-nil, ℤ, flat_map, slice_get, list_all, lacking}
-use Rattle.vms_counter_laws.proofs.Facade.{IsBytes, Field, Device, Set, FitsHeads, struct_cells, desc_cells, device_cells, Image, Spells, default_image}
-use Rattle.vms_counter_laws.proofs.Facade.{own_slots, own_cells, zeroed, IsVersionOf, be32, magic, stream_head, section_head, configuration, end_mark, foot}
-use Rattle.vms_counter_laws.proofs.Facade.{written, written_sections, written_subs, AreReady, IsReady, Magic, Version, WellFormed, here, find_device}
-use Rattle.vms_counter_laws.proofs.Facade.{few_devices, machine_short, reading_on, falses, defaults_of, version_decides, bytes_rest, well_good, device_found}
-use Rattle.vms_counter_laws.proofs.Facade.{Unknown, AtMagic, AtVersion, judge, reading, Headed, at_start, between, by_state, Takes, unit_on, taken_holds}
-use Rattle.vms_counter_laws.proofs.Facade.{Mismatch, presence, reduced, compare_device, compare_fields, comparers, Comparer, Entry, first_mismatch, is_kept}
-use Rattle.vms_counter_laws.proofs.Facade.{present, position_from, FitsAt, fits_left, from_zero, fits_whole, devices_clash, at_map, default_images}
-use Rattle.vms_counter_laws.proofs.Facade.{machine_for, stream_of, Shows, IsPlain, AlwaysShown, OfMachine, OfVersion, OfConstant, Pair, pair, Two}
-use Rattle.vms_spec.specs.declared.Part.TheVariants as parts
-use Rattle.vms_stream.specs.State.{State}
-use Rattle.vms_counter_laws.proofs.Inverted.{else_some, one_rule, struct_no_device, tables_within, IsDevice, OfDevice, of_device, Version as OfItsVersion}
-use Rattle.vms_counter_laws.proofs.Inverted.{Own, Below, IsWithin, part_within, DeviceFails, device_fails, machine_fails}
-use Rattle.vms_counter_laws.proofs.Devices.{Comes, comes}
+use Rattle.vms_counter_laws.proofs.{Devices.Comes, Devices.comes, Clashing.present_fields, Clashing.clashes}
+use Rattle.vms_counter_laws.proofs.Facade.{◌==◌, if◌then◌else◌, ℕ, subst, ◌≡◌, inl, inr, ◌+◌, ◌^◌, ◌<◌, true, false, List, [], ◌++◌, length, map, Option, Some}
+use Rattle.vms_counter_laws.proofs.Facade.{None, refl, sym, ap, ◌∙◌, arith, append_assoc, append-nil, ℤ, flat_map, slice_get, list_all, lacking, IsBytes, Field}
+use Rattle.vms_counter_laws.proofs.Facade.{Device, Set, FitsHeads, struct_cells, desc_cells, device_cells, Image, Spells, default_image, own_slots, own_cells}
+use Rattle.vms_counter_laws.proofs.Facade.{zeroed, IsVersionOf, be32, magic, stream_head, section_head, configuration, end_mark, foot, written}
+use Rattle.vms_counter_laws.proofs.Facade.{written_sections, written_subs, AreReady, IsReady, Magic, Version, WellFormed, here, find_device, few_devices}
+use Rattle.vms_counter_laws.proofs.Facade.{machine_short, reading_on, falses, defaults_of, version_decides, bytes_rest, well_good, device_found, Unknown}
+use Rattle.vms_counter_laws.proofs.Facade.{AtMagic, AtVersion, judge, reading, Headed, at_start, between, by_state, Takes, unit_on, taken_holds, Mismatch}
+use Rattle.vms_counter_laws.proofs.Facade.{presence, reduced, compare_device, compare_fields, comparers, Comparer, Entry, first_mismatch, is_kept, present}
+use Rattle.vms_counter_laws.proofs.Facade.{position_from, FitsAt, fits_left, from_zero, fits_whole, devices_clash, at_map, default_images, machine_for}
+use Rattle.vms_counter_laws.proofs.Facade.{stream_of, Shows, IsPlain, AlwaysShown, OfMachine, OfVersion, OfConstant, Pair, pair, Two}
+use Rattle.vms_counter_laws.proofs.Inverted.{else_some, one_rule, struct_no_device, tables_within, IsDevice, OfDevice, of_device, Version as OfItsVersion, Own}
+use Rattle.vms_counter_laws.proofs.Inverted.{Below, IsWithin, part_within, DeviceFails, device_fails, machine_fails}
 use Rattle.vms_counter_laws.proofs.Machines.{same_head, lacks, machine_untaken}
-use Rattle.vms_counter_laws.proofs.Clashing.{present_fields, clashes}
+use Rattle.vms_stream.specs.State.{State}
+use Rattle.vms_spec.specs.declared.Part.TheVariants as parts
 
 module _ (old new : Set) (good_old : WellFormed old) (good_new : WellFormed new) (heads_old : FitsHeads old) (heads : FitsHeads new)
     (ready : AreReady old (default_images old)) where

@@ -2,8 +2,7 @@
 use Rattle.vms_descfile.proofs.Facade.{◌≡◌, ℕ, ◌+◌, ◌<◌, List, [], ◌∷◌, ◌++◌, length, get_or, map, refl, ap, sym, ◌∙◌, drop, append_assoc, zero, suc, arith}
 use Rattle.vms_descfile.proofs.Facade.{map-append, Data, Members, array, item, put, items_of, Value, own_names, list_file, list_as, drop_is}
 use Rattle.serde_json.specs.View.{view}
-use Rattle.vms_parts.specs.Views.{field_of}
-use Rattle.vms_parts.specs.declared.types.Field.{Field}
+use Rattle.vms_parts.specs.{Views.field_of, declared.types.Field.Field}
 
 pub listed_on : {T : Type 0} (f : T → Data) (xs : List T) (i : ℕ) (x : T) (done more : List Value) (v : Value) → i < length xs → x ≡ get_or xs i x → view v ≡ f x
     → more ≡ done ++ v ∷ [] → map f xs ≡ map view done ++ map f (drop i xs) → map f xs ≡ map view more ++ map f (drop (i + 1) xs)

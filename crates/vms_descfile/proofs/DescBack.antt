@@ -1,4 +1,6 @@
 -- Descriptions, devices and sets can be read back from their files.
+use Rattle.vms_descfile.proofs.{TestBack.test_back, FieldBack.field_table, FieldBack.field_tabled, FieldBack.field_back}
+use Rattle.vms_descfile.proofs.AnswerLaws.{next_good, judged_good, at_good, list_good, list_or_good, natural_good}
 use Rattle.vms_descfile.proofs.Facade.{◌≡◌, ℕ, ◌≤◌, List, ◌∷◌, get_or, length, map, Bool, true, false, ◌&&◌, ◌==◌, nat_le, Option, Some, None, refl, sym, ap}
 use Rattle.vms_descfile.proofs.Facade.{◌∙◌, subst, codes, arith, [], slice_get, and_parts, eqb-true, leb-true, false≢true, Data, Members, string, object, put}
 use Rattle.vms_descfile.proofs.Facade.{get, as_str, as_array, items_of, Formula, Field, Desc, Count, One, Fixed, Counted, nodes, is_small_test}
@@ -7,15 +9,12 @@ use Rattle.vms_descfile.proofs.Facade.{is_counting, defaults_well, counts_well, 
 use Rattle.vms_descfile.proofs.Facade.{names_of_list, text_or_none, member_or, at, at_or, maybe_at, u32_of, text_of, Names, Scope, names_if, number_in, DEEPEST}
 use Rattle.vms_descfile.proofs.Facade.{test_of, field_of, desc_needs, desc_allows, Head, head_of, minimum_or, rest_of, struct_in, struct_of, FitsTest}
 use Rattle.vms_descfile.proofs.Facade.{FitsOptional, FitsDesc, list_file, natural_file, own_names, counter_in, test_file, field_file, desc_members, struct_file}
+use Rattle.vms_descfile.proofs.FirstNames.{Found, all_found, earlier_found}
+use Rattle.vms_descfile.proofs.ObjectLaws.{Table, put_if, members_in, object_of, found, or_none, got, table_fits, kept, listed, unless_if, list_if}
+use Rattle.vms_descfile.proofs.ShownLaws.{asked, number_shown, test_shown, field_shown, desc_shown}
 use Rattle.std.specs.Option.{option_and_then}
 use Rattle.vms_spec.specs.Rules.{depth}
 use Rattle.vms_json.specs.Keys.{fits as keys_fit}
-use Rattle.vms_descfile.proofs.ObjectLaws.{Table, put_if, members_in, object_of, found, or_none, got, table_fits, kept, listed, unless_if, list_if}
-use Rattle.vms_descfile.proofs.AnswerLaws.{next_good, judged_good, at_good, list_good, list_or_good, natural_good}
-use Rattle.vms_descfile.proofs.ShownLaws.{asked, number_shown, test_shown, field_shown, desc_shown}
-use Rattle.vms_descfile.proofs.FirstNames.{Found, all_found, earlier_found}
-use Rattle.vms_descfile.proofs.TestBack.{test_back}
-use Rattle.vms_descfile.proofs.FieldBack.{field_table, field_tabled, field_back}
 
 abbrev own_scope : Bool → List (List ℕ) → Scope
 own_scope asks names = record { own = asked asks names; parent = None }

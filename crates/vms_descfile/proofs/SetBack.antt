@@ -1,19 +1,17 @@
 -- Subsections, devices and sets can be read back from their files.
+use Rattle.vms_descfile.proofs.{Facade.set_file, FirstNames.Found, FirstNames.all_found, TestBack.test_back}
+use Rattle.vms_descfile.proofs.AnswerLaws.{next_good, judged_good, at_good, list_good, list_or_good, natural_good}
+use Rattle.vms_descfile.proofs.DescBack.{HasDesc, desc_table, desc_tabled, names_asked, head_shown, head_back, rest_back, struct_back}
 use Rattle.vms_descfile.proofs.Facade.{◌≡◌, ℕ, List, [], ◌∷◌, get_or, length, map, Bool, true, false, nat_le, Some, refl, ap, ◌∙◌, codes, arith, slice_get}
 use Rattle.vms_descfile.proofs.Facade.{and_parts, leb-true, Members, string, object, put, Formula, Desc, Sub, Device, Set, nodes, is_small_test, is_steady_in}
 use Rattle.vms_descfile.proofs.Facade.{names_well, WellFormed, has_few, struct_depths, struct_rules, sub_rules, device_rules, Clean, struct_clean, device_parts}
 use Rattle.vms_descfile.proofs.Facade.{sub_clean, good, changed, list_of, at, at_or, u32_of, text_of, Names, Scope, DEEPEST, test_of, desc_needs, desc_allows}
 use Rattle.vms_descfile.proofs.Facade.{head_of, struct_of, sub_in, sub_of, Whole, whole_in, whole_of, device_of, set_of, parts_of, FitsTest, FitsSub, FitsWhole}
 use Rattle.vms_descfile.proofs.Facade.{FitsDevice, FitsSet, natural_file, own_names, test_file, desc_members, struct_file, sub_file, whole_file, device_file}
-use Rattle.vms_descfile.proofs.Facade.{set_file}
+use Rattle.vms_descfile.proofs.ObjectLaws.{Table, put_if, object_of, or_none, got, table_fits, listed, list_if}
+use Rattle.vms_descfile.proofs.ShownLaws.{asked, test_shown, desc_shown, sub_shown, device_shown, set_shown, set_same, map_same}
 use Rattle.vms_spec.specs.Rules.{depth}
 use Rattle.vms_json.specs.Keys.{fits as keys_fit}
-use Rattle.vms_descfile.proofs.ObjectLaws.{Table, put_if, object_of, or_none, got, table_fits, listed, list_if}
-use Rattle.vms_descfile.proofs.AnswerLaws.{next_good, judged_good, at_good, list_good, list_or_good, natural_good}
-use Rattle.vms_descfile.proofs.ShownLaws.{asked, test_shown, desc_shown, sub_shown, device_shown, set_shown, set_same, map_same}
-use Rattle.vms_descfile.proofs.FirstNames.{Found, all_found}
-use Rattle.vms_descfile.proofs.TestBack.{test_back}
-use Rattle.vms_descfile.proofs.DescBack.{HasDesc, desc_table, desc_tabled, names_asked, head_shown, head_back, rest_back, struct_back}
 
 -- ---- subsections
 

@@ -1,14 +1,9 @@
 -- Lists of a set's parts, as they are written.
+use Rattle.vms_descfile.proofs.{Facade.struct_file, Facade.sub_file, Facade.device_file, BuiltLaws.list_seen, BuiltLaws.list_as_seen}
 use Rattle.vms_descfile.proofs.Facade.{◌≡◌, ℕ, List, [], map, ap, codes, ◌==◌, ◌∙◌, Data, Members, no_members, string, object, put, formula, desc_of, Test}
 use Rattle.vms_descfile.proofs.Facade.{own_names, natural_file, unless, desc_members, whole_file, set_file, list_file, list_as, test_file, field_file}
-use Rattle.vms_descfile.proofs.Facade.{struct_file, sub_file, device_file}
-use Rattle.vms_parts.specs.Views.{field_of, sub_of, device_of, set_of}
-use Rattle.vms_parts.specs.declared.types.Field.{Field}
-use Rattle.vms_parts.specs.declared.types.Desc.{Desc}
-use Rattle.vms_parts.specs.declared.types.Sub.{Sub}
-use Rattle.vms_parts.specs.declared.types.Device.{Device}
-use Rattle.vms_parts.specs.declared.types.Parts.{Parts}
-use Rattle.vms_descfile.proofs.BuiltLaws.{list_seen, list_as_seen}
+use Rattle.vms_parts.specs.{Views.field_of, Views.sub_of, Views.device_of, Views.set_of, declared.types.Field.Field, declared.types.Desc.Desc}
+use Rattle.vms_parts.specs.{declared.types.Sub.Sub, declared.types.Device.Device, declared.types.Parts.Parts}
 
 pub fields_seen : (own : List (List ℕ)) (xs : List Field) → list_file (λ f. field_file own (field_of f)) xs ≡ list_file (field_file own) (map field_of xs)
 fields_seen own xs = list_seen (field_file own) field_of xs

@@ -1,11 +1,8 @@
 -- What the text of a set's file says.
+use Rattle.vms_descfile.proofs.{FileLaws.said_by, FileLevels.set_nests, FloatLaws.set_whole, SetBack.set_back}
 use Rattle.vms_descfile.proofs.Facade.{◌≡◌, ◌≤◌, true, false, Option, Some, None, is_none, String, Global, string_bytes, refl, ap, sym, subst, ◌∙◌, true≢false}
 use Rattle.vms_descfile.proofs.Facade.{IsUtf8-string_bytes, Data, depth, read, max_depth, has_float, compact_text, Set, SetFault, first_fault, Parts}
 use Rattle.vms_descfile.proofs.Facade.{judged_said, file_said, parts_said, FitsSet, set_file, has_value}
-use Rattle.vms_descfile.proofs.FileLaws.{said_by}
-use Rattle.vms_descfile.proofs.FileLevels.{set_nests}
-use Rattle.vms_descfile.proofs.FloatLaws.{set_whole}
-use Rattle.vms_descfile.proofs.SetBack.{set_back}
 
 pub compact_file : (set : Set) (d : Data) (s : String Global) → d ≡ set_file set
     → (has_float d ≡ false → string_bytes s ≡ compact_text d) → string_bytes s ≡ compact_text (set_file set)

@@ -1,16 +1,12 @@
 -- Ready images are images of their devices.
+use Rattle.vms_selfdesc.proofs.{Shapes.described_plain, WholeText.reads_whole, Plain.name_short, Plain.sub_name_short, Soundness.part_sound}
 use Rattle.vms_selfdesc.proofs.Facade.{◌≡◌, ℕ, ◌<◌, List, length, get_or, Some, ap, sym, ◌∙◌, arith, true, [], ◌≤◌, zero, suc, ◌*◌, ◌∷◌, refl, Bool, is_none}
 use Rattle.vms_selfdesc.proofs.Facade.{slice_get-get_or, list_all, ltb-true, Set, Sub, Device, first, Image, AreReady, longest_text, versions_long, device_at}
 use Rattle.vms_selfdesc.proofs.Facade.{is_well_formed, shipped_set, clock_set, few_cells, IsOfDevice, read, FitsHeads, first_fault, none_is, few_items}
 use Rattle.vms_selfdesc.proofs.Facade.{few_devices, IsSound, described_tree, described_text, shipped_sets, sub_at, few_subs, device_clean, sub_clean}
 use Rattle.vms_selfdesc.proofs.Facade.{clock_heads, by_number, clock_formed, fit_number, ShortLaw, ShippedLaw, ClockLaw}
-use Rattle.vms_selfdesc.proofs.Lengths.{IsShortDevice, no_device, no_sub}
-use Rattle.vms_selfdesc.proofs.Shapes.{described_plain}
-use Rattle.vms_selfdesc.proofs.WholeText.{reads_whole}
+use Rattle.vms_selfdesc.proofs.Lengths.{IsShortDevice, no_device, no_sub, AreShortDevices, subs_of, set_room, text_long, room_less}
 use Rattle.std.specs.Prelude.{nat_lt}
-use Rattle.vms_selfdesc.proofs.Lengths.{AreShortDevices, subs_of, set_room, text_long, room_less}
-use Rattle.vms_selfdesc.proofs.Plain.{name_short, sub_name_short}
-use Rattle.vms_selfdesc.proofs.Soundness.{part_sound}
 use Rattle.vms_spec.specs.declared.Part.TheVariants as parts
 
 pub ready_device : (set : Set) → is_well_formed set ≡ true → (images : List Image) → AreReady set images → (i : ℕ) (image : Image) → i < length images

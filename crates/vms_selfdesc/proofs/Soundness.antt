@@ -1,12 +1,11 @@
 -- What well-formed sets say of names, sizes and depths.
+use Rattle.vms_selfdesc.proofs.{Fits.IsSmall, Fits.IsSoundField, Fits.AreSound, Plain.name_short}
 use Rattle.vms_selfdesc.proofs.Facade.{cases_lt, inl, inr, ◌≡◌, ℕ, suc, ◌+◌, ◌<◌, ◌≤◌, ◌^◌, List, [], ◌∷◌, length, get_or, ℤ, pos, negsuc, true, ◌&&◌, nat_le}
 use Rattle.vms_selfdesc.proofs.Facade.{arith, list_all, and_parts, leb-true, length-decimal-le, get_or-eq_default, number_text, of_integer, Kind, Item, Num}
 use Rattle.vms_selfdesc.proofs.Facade.{Unused, lowest, highest, MOST_UNUSED, Part, Field, Desc, Set, no_desc, counted, no_field, is_name, int_le, in_range}
 use Rattle.vms_selfdesc.proofs.Facade.{defaults_well, counts_well, is_small_item, is_small_optional, field_rules, struct_depths, has_few, deepest, first_long}
 use Rattle.vms_selfdesc.proofs.Facade.{deepest_small, is_well_formed, HasPart, desc_at, AllTrue, reach, field_sound, struct_clean}
 use Rattle.vms_kinds.specs.declared.Kind.TheVariants as kinds
-use Rattle.vms_selfdesc.proofs.Fits.{IsSmall, IsSoundField, AreSound}
-use Rattle.vms_selfdesc.proofs.Plain.{name_short}
 
 -- ---- a number of 64 bits has at most 20 bytes
 

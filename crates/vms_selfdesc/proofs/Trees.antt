@@ -1,4 +1,5 @@
 -- Entries of elements and fields, written one after the other.
+use Rattle.vms_selfdesc.proofs.{Plain.member_more, Plain.further, Plain.same, Plain.unchanged, ReadBack.array_sound, ReadBack.whole_sound}
 use Rattle.vms_selfdesc.proofs.Facade.{add-one, map-id, ◌≡◌, ℕ, suc, ◌+◌, ◌*◌, ◌-◌, ◌<◌, ◌≤◌, List, ◌∷◌, ◌++◌, length, string_bytes, refl, append_assoc, get_or}
 use Rattle.vms_selfdesc.proofs.Facade.{map, drop, ℤ, sym, ap, ◌∙◌, arith, Bool, true, [], false, codes, None, drop_more, drop_all, append-nil, map-append, Data}
 use Rattle.vms_selfdesc.proofs.Facade.{string, boolean, array, object, Members, no_members, member, put, compact_text, items_text, members_text, Part, Set, Sub}
@@ -7,10 +8,7 @@ use Rattle.vms_selfdesc.proofs.Facade.{elements_from, field_at, own_numbers, fir
 use Rattle.vms_selfdesc.proofs.Facade.{IsSound, Extends, Begins, Lays, member_text, element_path, element_entries, field_list, part_list, natural, sub_tree}
 use Rattle.vms_selfdesc.proofs.Facade.{sub_trees, device_tree, device_trees, Draft, Path, escape_byte, items_of, Image, own_cells, device_at, sub_next}
 use Rattle.vms_selfdesc.proofs.Facade.{sub_first, Text, HasPlace, field_start, place_after, place_is, place_within}
-use Rattle.vms_selfdesc.proofs.Plain.{member_more}
-use Rattle.vms_selfdesc.proofs.Plain.{further, same, unchanged}
 use Rattle.vms_selfdesc.proofs.OfElements.{of_append, of_desc, cells_are}
-use Rattle.vms_selfdesc.proofs.ReadBack.{array_sound, whole_sound}
 use Rattle.vms_spec.specs.declared.Part.TheVariants as parts
 
 -- what is listed of the fields from k on of a part that begins at a place

@@ -1,12 +1,11 @@
 -- Each session has a trace and an end.
+use Rattle.vms_session.proofs.{SessionLaws.line_level, SoundLaws.sessions_stay_sound}
 use Rattle.vms_session.proofs.Facade.{◌≡◌, ℕ, ◌<◌, ◌≤◌, Bool, true, false, if◌then◌else◌, List, [], ◌∷◌, length, Option, Some, None, nat_lt, arith, refl, sym}
 use Rattle.vms_session.proofs.Facade.{subst, ◌∙◌, bytes_eq, bytes_eq-Decides, nat_tests, NEWEST, IsSound, State, step, shipped_set, Held, PutsUnder, IsLine}
 use Rattle.vms_session.proofs.Facade.{AreLines, ScriptLine, Happens, Saves, is_set_of, trace_line, streams_come_back, bytes_are_one, Restore, Back, Refused}
 use Rattle.vms_session.proofs.Facade.{Restores, saved_stream, part_of, HoldsBytes, HasAnEnd, SessionsEnd, saved_line, restored_line, missing_line}
 use Rattle.vms_session.proofs.Facade.{too_large_line, refused_line, Session, IsTooLarge, IsLoaded, LoadsHeld, Does, longest_file, isa, MaySaveIn}
 use Rattle.vms_script.specs.Lines.{Restores as Loads}
-use Rattle.vms_session.proofs.SessionLaws.{line_level}
-use Rattle.vms_session.proofs.SoundLaws.{sessions_stay_sound}
 
 -- ---- what bytes restore
 

@@ -1,12 +1,9 @@
 -- A script of a session leaves one trace and one session, and the shelf still holds bytes.
+use Rattle.vms_session.proofs.{EndLaws.may_save, OneLaws.one_end, SessionLaws.line_level, SoundLaws.sessions_stay_sound}
 use Rattle.vms_session.proofs.Facade.{◌≡◌, ℕ, List, [], ◌∷◌, Option, Some, None, refl, sym, ap, ◌∙◌, subst, IsSound, Back, Refused, saved_stream, puts_bytes}
 use Rattle.vms_session.proofs.Facade.{Held, HoldsAll, AreLines, IsLine, ScriptLine, Happens, Saves, streams_are_bytes, Part, Plays, part_of, IsOneCourse}
 use Rattle.vms_session.proofs.Facade.{ReadsBytes, SessionsAreOne, Session, Does, IsLoaded, IsTooLarge, LoadsHeld, isa}
 use Rattle.vms_script.specs.Lines.{Restores as Loads}
-use Rattle.vms_session.proofs.EndLaws.{may_save}
-use Rattle.vms_session.proofs.OneLaws.{one_end}
-use Rattle.vms_session.proofs.SessionLaws.{line_level}
-use Rattle.vms_session.proofs.SoundLaws.{sessions_stay_sound}
 
 -- ---- the shelf still holds bytes
 

@@ -4,8 +4,7 @@ use Rattle.vms_session.proofs.Facade.{slice_set, slice_get, NEWEST, IsLevel, res
 use Rattle.vms_session.proofs.Facade.{Read, Write, Byte, Wait, Wire, Ack, normal_may_be_restored, cells_in, shipped_set, IsLine, AreLines, ScriptLine, Happens}
 use Rattle.vms_session.proofs.Facade.{Saves, Image, IsNormal, Device, Set, EachOnce, none_left, HasSection, SectionsSpell, TakesBoard, Back, Refused, Restores}
 use Rattle.vms_session.proofs.Facade.{Part, Plays, SessionsStaySound, Session, IsTooLarge, IsLoaded, LoadsBytes, LoadsHeld, Does, isa}
-use Rattle.vms_script.specs.Grammar.{IsEvent as IsSpelled}
-use Rattle.vms_script.specs.Lines.{Restores as Loads}
+use Rattle.vms_script.specs.{Grammar.IsEvent as IsSpelled, Lines.Restores as Loads}
 
 -- ---- each device of a stream that is taken has a normal image
 

@@ -1,26 +1,19 @@
 -- The names of other crates, and of this crate's `specs`, that the proofs use.
+pub use Rattle.std.proofs.{BoxSteps.Steps.box_in, BoxSteps.Steps.box_out, ResultValues.and_tt, lemmas.Bool.Decides.nat_tests}
 pub use Rattle.std.proofs.BoxSteps.Form.{B, Bx, D, P, R, args, box_ty, box_typed, word, τ}
-pub use Rattle.std.proofs.BoxSteps.Steps.{box_in, box_out}
 pub use Rattle.std.proofs.Common.{Bool, Option, ap, append-nil, arith, false, inl, inr, lit<, rules, true, true≢false, ℕ, ◌-◌, ◌==◌, ◌∙◌, ◌≤◌}
-pub use Rattle.std.proofs.ResultValues.{and_tt}
 pub use Rattle.std.proofs.alloc.Calls.{Goes-blank, handle_tells, token, α}
-pub use Rattle.std.proofs.lemmas.Bool.Decides.{nat_tests}
-pub use Rattle.std.specs.Box.Ownership.{box_owns}
+pub use Rattle.std.specs.{Box.Ownership.box_owns}
 pub use Rattle.std.specs.Prelude.{IfSome, MatchOption, None, Some, is_some, nat_lt}
 pub use Rattle.std.specs.contracts.impls.GlobalAllocator.TheImpl.{dict, ghosts}
 pub use Rattle.dev_base.proofs.Choices.{either}
-pub use Rattle.dev_board.specs.State.{State}
-unfoldable pub use Rattle.dev_board.specs.Step.{acted, after_act, step}
-pub use Rattle.dev_board.specs.Touch.{saying}
-pub use Rattle.dev_board.specs.declared.event.Answer.{Answer}
-pub use Rattle.dev_board.specs.declared.event.Event.{Event}
+pub use Rattle.dev_board.specs.{State.State, Touch.saying, declared.event.Answer.Answer, declared.event.Event.Event}
 pub use Rattle.dev_board.specs.declared.event.Event.TheVariants.{Ack, Byte, Read, Wait, Wire, Write}
+unfoldable pub use Rattle.dev_board.specs.Step.{acted, after_act, step}
 pub use Rattle.dev_clock.specs.State.{ClockState}
 unfoldable pub use Rattle.dev_clock.specs.Step.{follows_line}
+pub use Rattle.vmstate_board_c.specs.{Kinds.now_of, Kinds.step_of, declared.answer.CAnswer.CAnswer, declared.held.AnyBoard.AnyBoard}
 pub use Rattle.vmstate_board_c.specs.Answers.{IsAccess, Reaches, acts, acts_after, event_at, said, time_to}
-pub use Rattle.vmstate_board_c.specs.Kinds.{now_of, step_of}
-pub use Rattle.vmstate_board_c.specs.declared.answer.CAnswer.{CAnswer}
-pub use Rattle.vmstate_board_c.specs.declared.held.AnyBoard.{AnyBoard}
 pub use Rattle.vmstate_board_c.specs.declared.held.AnyBoard.TheVariants.{Clock, Isa}
 pub use base.Fml.{flft, fsep, ftrue}
 pub use base.Logic.{SProp, emp, ent, fst∗, id⊢, never}

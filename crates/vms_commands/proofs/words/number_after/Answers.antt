@@ -1,6 +1,5 @@
+use Rattle.std.proofs.{lemmas.Bool.Decides.Decides-eqb, lemmas.Slice.Eq.strip_prefix_is}
 use Rattle.std.proofs.Common.{rules, ◌≡◌, ◌<◌, ◌≤◌, ◌++◌, List, ℕ, Some, None, ◌∙◌, sym, arith, Fits, w8}
-use Rattle.std.proofs.lemmas.Bool.Decides.{Decides-eqb}
-use Rattle.std.proofs.lemmas.Slice.Eq.{strip_prefix_is}
 use Rattle.vms_commands.proofs.NumberedWords.{in_range, no_front, no_number, out_of_range}
 use Rattle.vms_commands.proofs.words.number_after.Goals as goal
 

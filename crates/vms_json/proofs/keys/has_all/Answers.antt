@@ -1,5 +1,4 @@
-use Rattle.vms_json.proofs.Facade.{◌∙◌, view}
-use Rattle.vms_json.proofs.KeyLaws.{all_has}
+use Rattle.vms_json.proofs.{Facade.◌∙◌, Facade.view, KeyLaws.all_has}
 use Rattle.vms_json.proofs.keys.has_all.Goals as goal
 
 pub returns : goal.returns

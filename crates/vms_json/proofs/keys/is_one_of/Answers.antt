@@ -1,5 +1,4 @@
-use Rattle.vms_json.proofs.Facade.{◌∙◌}
-use Rattle.vms_json.proofs.KeyLaws.{any_is}
+use Rattle.vms_json.proofs.{Facade.◌∙◌, KeyLaws.any_is}
 use Rattle.vms_json.proofs.keys.is_one_of.Goals as goal
 
 pub returns : goal.returns

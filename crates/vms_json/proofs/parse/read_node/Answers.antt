@@ -1,7 +1,6 @@
-use Rattle.vms_json.proofs.Facade.{◌≡◌, [], ◌∷◌, Bool, true, false, refl, subst, arith, rules, MatchBool, MatchBool-at_true, MatchBool-at_false, token_of}
-use Rattle.vms_json.proofs.Facade.{IsUnder, HasEnded}
+use Rattle.vms_json.proofs.{Facade.IsUnder, Facade.HasEnded, FrameLaws.said_by, FrameLaws.whole_due, FrameLaws.nothing_said}
 use Rattle.vms_json.proofs.DueLaws.{none_left, under_below, ended_below, item_ended}
-use Rattle.vms_json.proofs.FrameLaws.{said_by, whole_due, nothing_said}
+use Rattle.vms_json.proofs.Facade.{◌≡◌, [], ◌∷◌, Bool, true, false, refl, subst, arith, rules, MatchBool, MatchBool-at_true, MatchBool-at_false, token_of}
 use Rattle.vms_json.proofs.parse.read_node.Goals.{else-is_value-via-then-is_value+else-not-laid, else-is_value-via-else-is_value}
 use Rattle.vms_json.proofs.parse.read_node.Goals as goal
 

@@ -1,5 +1,4 @@
-use Rattle.vms_json.proofs.Facade.{length, MatchBool, IsUnder, IsWhole}
-use Rattle.vms_json.proofs.FrameLaws.{said_by}
+use Rattle.vms_json.proofs.{Facade.length, Facade.MatchBool, Facade.IsUnder, Facade.IsWhole, FrameLaws.said_by}
 use Rattle.vms_json.proofs.parse.read_node.Given as goal
 
 abbrev pub invariant-loop-is_done : goal.invariant-loop-is_done

@@ -1,5 +1,4 @@
-use Rattle.vms_selfdesc.proofs.Facade.{codes, refl}
-use Rattle.vms_selfdesc.proofs.Plain.{further, name_plain}
+use Rattle.vms_selfdesc.proofs.{Facade.codes, Facade.refl, Plain.further, Plain.name_plain}
 use Rattle.vms_selfdesc.proofs.devices.put_sub_head.Goals as goal
 
 pub put_text-requires-clause-key : goal.put_text-requires-clause-key

@@ -1,8 +1,6 @@
+use Rattle.vms_selfdesc.proofs.{Plain.further, Plain.device_plain, Plain.name_plain, ReadBack.device_sound, Trees.fields_adds, Trees.device_text}
 use Rattle.vms_selfdesc.proofs.Facade.{true, ap, ◌∙◌, arith, refl, codes, array, object, items_of, own_cells, described, device_at, state_of, own_inside_device}
 use Rattle.vms_selfdesc.proofs.Facade.{part_entries, sub_trees, device_members}
-use Rattle.vms_selfdesc.proofs.Plain.{further, device_plain, name_plain}
-use Rattle.vms_selfdesc.proofs.ReadBack.{device_sound}
-use Rattle.vms_selfdesc.proofs.Trees.{fields_adds, device_text}
 use Rattle.vms_selfdesc.proofs.devices.write_device.Goals as goal
 
 pub write_fields-requires-clause-place : goal.write_fields-requires-clause-place

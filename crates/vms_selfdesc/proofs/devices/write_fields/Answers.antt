@@ -1,6 +1,5 @@
+use Rattle.vms_selfdesc.proofs.{Paths.few_levels, Trees.lays}
 use Rattle.vms_selfdesc.proofs.Facade.{List, ℕ, false, map, subst, length, ap, refl, arith, Draft, Adds, entry_tree, numbers_in, part_list, set_in}
-use Rattle.vms_selfdesc.proofs.Paths.{few_levels}
-use Rattle.vms_selfdesc.proofs.Trees.{lays}
 use Rattle.vms_selfdesc.proofs.devices.write_fields.Goals as goal
 
 pub list_part-requires-clause-path : goal.list_part-requires-clause-path

@@ -1,9 +1,6 @@
+use Rattle.vms_selfdesc.proofs.{Facade.numbers_in, Facade.sub_members, Plain.further, Plain.sub_plain, ReadBack.sub_sound, Trees.fields_adds, Trees.head_text}
 use Rattle.vms_selfdesc.proofs.Facade.{List, ℕ, Bool, None, is_some, get_or, ap, ◌∙◌, arith, refl, object, described, desc_at, sub_inside, part_entries}
-use Rattle.vms_selfdesc.proofs.Facade.{numbers_in, sub_members}
 use Rattle.vms_spec.specs.declared.Part.TheVariants as parts
-use Rattle.vms_selfdesc.proofs.Plain.{further, sub_plain}
-use Rattle.vms_selfdesc.proofs.ReadBack.{sub_sound}
-use Rattle.vms_selfdesc.proofs.Trees.{fields_adds, head_text}
 use Rattle.vms_selfdesc.proofs.devices.write_sub.Goals as goal
 
 pub write_fields-requires-clause-place : goal.write_fields-requires-clause-place

@@ -1,5 +1,4 @@
-use Rattle.vms_selfdesc.proofs.Facade.{refl}
-use Rattle.vms_selfdesc.proofs.Trees.{lays}
+use Rattle.vms_selfdesc.proofs.{Facade.refl, Trees.lays}
 use Rattle.vms_selfdesc.proofs.devices.write_subs.Goals as goal
 
 pub returns : goal.returns

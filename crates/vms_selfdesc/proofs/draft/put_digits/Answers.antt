@@ -1,5 +1,4 @@
-use Rattle.vms_selfdesc.proofs.Plain.{same}
-use Rattle.vms_selfdesc.proofs.ReadBack.{natural_sound}
+use Rattle.vms_selfdesc.proofs.{Plain.same, ReadBack.natural_sound}
 use Rattle.vms_selfdesc.proofs.draft.put_digits.Goals as goal
 
 pub returns : goal.returns

@@ -1,5 +1,4 @@
-use Rattle.vms_selfdesc.proofs.Plain.{puts}
-use Rattle.vms_selfdesc.proofs.ReadBack.{flag_sound}
+use Rattle.vms_selfdesc.proofs.{Plain.puts, ReadBack.flag_sound}
 use Rattle.vms_selfdesc.proofs.draft.put_flag.Goals as goal
 
 pub returns : goal.returns

@@ -1,5 +1,4 @@
-use Rattle.vms_selfdesc.proofs.Facade.{refl}
-use Rattle.vms_selfdesc.proofs.Plain.{puts}
+use Rattle.vms_selfdesc.proofs.{Facade.refl, Plain.puts}
 use Rattle.vms_selfdesc.proofs.draft.put_natural.Goals as goal
 
 pub returns : goal.returns

@@ -1,6 +1,4 @@
-use Rattle.vms_selfdesc.proofs.Facade.{◌∙◌, sym, ap, w64, signed_decimal, to_z-of_z}
-use Rattle.vms_selfdesc.proofs.Plain.{same}
-use Rattle.vms_selfdesc.proofs.ReadBack.{negative_sound}
+use Rattle.vms_selfdesc.proofs.{Facade.◌∙◌, Facade.sym, Facade.ap, Facade.w64, Facade.signed_decimal, Facade.to_z-of_z, Plain.same, ReadBack.negative_sound}
 use Rattle.vms_selfdesc.proofs.draft.put_negative.Goals as goal
 
 pub returns : goal.returns

@@ -1,5 +1,4 @@
-use Rattle.vms_selfdesc.proofs.Plain.{further, puts, quoted_plain}
-use Rattle.vms_selfdesc.proofs.ReadBack.{string_sound}
+use Rattle.vms_selfdesc.proofs.{Plain.further, Plain.puts, Plain.quoted_plain, ReadBack.string_sound}
 use Rattle.vms_selfdesc.proofs.draft.put_text.Goals as goal
 
 pub returns : goal.returns

@@ -1,5 +1,4 @@
-use Rattle.vms_selfdesc.proofs.Facade.{codes, refl}
-use Rattle.vms_selfdesc.proofs.Plain.{further, name_plain}
+use Rattle.vms_selfdesc.proofs.{Facade.codes, Facade.refl, Plain.further, Plain.name_plain}
 use Rattle.vms_selfdesc.proofs.entry.put_size.Goals as goal
 
 pub put_natural-requires : goal.put_natural-requires

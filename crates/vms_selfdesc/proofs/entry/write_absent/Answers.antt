@@ -1,6 +1,5 @@
+use Rattle.vms_selfdesc.proofs.{Plain.further, Plain.same, Plain.entry_adds, Plain.absent_text, ReadBack.absent_sound}
 use Rattle.vms_selfdesc.proofs.Facade.{refl, w128, to_z-of_z, number, of_integer, kind_word}
-use Rattle.vms_selfdesc.proofs.Plain.{further, same, entry_adds, absent_text}
-use Rattle.vms_selfdesc.proofs.ReadBack.{absent_sound}
 use Rattle.vms_selfdesc.proofs.entry.write_absent.Goals as goal
 
 pub returns : goal.returns

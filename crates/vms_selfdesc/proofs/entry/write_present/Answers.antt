@@ -1,6 +1,5 @@
+use Rattle.vms_selfdesc.proofs.{Plain.same, Plain.entry_adds, Plain.tail_text, ReadBack.natural_sound, ReadBack.sent_sound}
 use Rattle.vms_selfdesc.proofs.Facade.{refl, ◌∙◌, arith, width, kind_word, width_small}
-use Rattle.vms_selfdesc.proofs.Plain.{same, entry_adds, tail_text}
-use Rattle.vms_selfdesc.proofs.ReadBack.{natural_sound, sent_sound}
 use Rattle.vms_selfdesc.proofs.entry.write_present.Goals as goal
 
 pub returns : goal.returns

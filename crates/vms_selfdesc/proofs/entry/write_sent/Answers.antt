@@ -1,6 +1,4 @@
-use Rattle.vms_selfdesc.proofs.Facade.{codes, refl, no_members}
-use Rattle.vms_selfdesc.proofs.Plain.{further, same, entry_adds, size_text}
-use Rattle.vms_selfdesc.proofs.ReadBack.{sent_sound}
+use Rattle.vms_selfdesc.proofs.{Facade.codes, Facade.refl, Facade.no_members, Plain.further, Plain.same, Plain.entry_adds, Plain.size_text, ReadBack.sent_sound}
 use Rattle.vms_selfdesc.proofs.entry.write_sent.Goals as goal
 
 pub returns : goal.returns

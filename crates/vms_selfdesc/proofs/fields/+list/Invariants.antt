@@ -1,6 +1,5 @@
+use Rattle.vms_selfdesc.proofs.{Facade.elements_list, Facade.part_list, Facade.item_rank, Facade.part_rank, Trees.fields_list, Trees.Leaves}
 use Rattle.vms_selfdesc.proofs.Facade.{◌≡◌, ◌+◌, ◌-◌, ◌*◌, string_bytes, item_size, struct_cells, field_of, described, element_entries, entry_tree, item_list}
-use Rattle.vms_selfdesc.proofs.Facade.{elements_list, part_list, item_rank, part_rank}
-use Rattle.vms_selfdesc.proofs.Trees.{fields_list, Leaves}
 use Rattle.vms_selfdesc.proofs.fields.+list.Given as goal
 
 abbrev pub decreases-list_item : goal.decreases-list_item

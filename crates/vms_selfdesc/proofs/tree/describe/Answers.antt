@@ -1,6 +1,5 @@
+use Rattle.vms_selfdesc.proofs.{Bounds.text_reads, Bounds.text_short, Plain.wrote}
 use Rattle.vms_selfdesc.proofs.Facade.{◌∙◌, length, map, string_bytes, ap, arith, IfOk-weaker, described, state_of}
-use Rattle.vms_selfdesc.proofs.Bounds.{text_reads, text_short}
-use Rattle.vms_selfdesc.proofs.Plain.{wrote}
 use Rattle.vms_selfdesc.proofs.tree.describe.Goals as goal
 
 pub returns-clause-text : goal.returns-clause-text

@@ -1,5 +1,4 @@
-use Rattle.vms_selfdesc.proofs.Facade.{drop, map, described, state_of, device_trees}
-use Rattle.vms_selfdesc.proofs.Trees.{Leaves}
+use Rattle.vms_selfdesc.proofs.{Facade.drop, Facade.map, Facade.described, Facade.state_of, Facade.device_trees, Trees.Leaves}
 use Rattle.vms_selfdesc.proofs.tree.write_devices.Given as goal
 
 abbrev pub invariant-loop-device : goal.invariant-loop-device

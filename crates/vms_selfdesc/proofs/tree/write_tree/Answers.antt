@@ -1,5 +1,4 @@
-use Rattle.vms_selfdesc.proofs.Facade.{refl}
-use Rattle.vms_selfdesc.proofs.Trees.{whole_lays}
+use Rattle.vms_selfdesc.proofs.{Facade.refl, Trees.whole_lays}
 use Rattle.vms_selfdesc.proofs.tree.write_tree.Goals as goal
 
 pub returns : goal.returns

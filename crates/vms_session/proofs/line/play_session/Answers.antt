@@ -1,7 +1,6 @@
+use Rattle.vms_session.proofs.{OneLaws.one_map, RefusalLaws.line_ends, RefusalLaws.loads_keep}
 use Rattle.vms_session.proofs.Facade.{List, ℕ, Some, sym, ap, subst, ◌∙◌, isa, saved_stream, Held, PutsUnder, outlet, stock, stores_told, session_view}
 use Rattle.vms_session.proofs.Facade.{SessionLine, saved_line, Does, LoadsHeld, session_of}
-use Rattle.vms_session.proofs.OneLaws.{one_map}
-use Rattle.vms_session.proofs.RefusalLaws.{line_ends, loads_keep}
 use Rattle.vms_session.proofs.line.play_session.Goals as goal
 
 pub returns-in_ok-count-in-Save-clause-content : goal.returns-in_ok-count-in-Save-clause-content

@@ -1,6 +1,5 @@
+use Rattle.vms_session.proofs.{Facade.session_of, CourseLemmas.InCourse}
 use Rattle.vms_session.proofs.Facade.{◌≡◌, List, Some, drop, isa, AreOf, Held, Reaches, outlet, stock, Serves, Part, AreLines, lines_view, Session, Plays}
-use Rattle.vms_session.proofs.Facade.{session_of}
-use Rattle.vms_session.proofs.CourseLemmas.{InCourse}
 use Rattle.vms_session.proofs.lines.play.Given as goal
 
 abbrev pub invariant-loop-line : goal.invariant-loop-line

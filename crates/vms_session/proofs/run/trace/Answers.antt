@@ -1,10 +1,8 @@
+use Rattle.vms_session.proofs.{Facade.leaves_none, Facade.leaves_rest, Facade.leaves_stop, RunLemmas.trace_next, RunLemmas.trace_none, run.trace.Given.Over}
 use Rattle.vms_session.proofs.Facade.{◌≡◌, ◌+◌, [], ◌∷◌, drop, refl, sym, ◌∙◌, arith, err_from_is_err_and, outlet, trace_line, trace_from, leaves_all}
-use Rattle.vms_session.proofs.Facade.{leaves_none, leaves_rest, leaves_stop}
 use Rattle.vms_session.proofs.RunLemmas.{event_at, left_next, none_left, first_event, later_events, after_next, after_none, none_yet, number_next, one_more}
-use Rattle.vms_session.proofs.RunLemmas.{trace_next, trace_none}
-use Rattle.vms_session.proofs.run.trace.Given.{Over}
-use Rattle.vms_session.proofs.run.trace.Goals as goal
 use Rattle.vms_session.proofs.run.trace.Goals.{In-loop-event, After-loop-event}
+use Rattle.vms_session.proofs.run.trace.Goals as goal
 
 -- the event whose turn it is, and those after it
 next : (g : Over) (c : goal.In-loop-event g)

@@ -1,6 +1,5 @@
-use Rattle.vmstate_board_c.proofs.Facade.{ℕ, ap, ◌∙◌, said}
+use Rattle.vmstate_board_c.proofs.{Facade.ℕ, Facade.ap, Facade.◌∙◌, Facade.said, Silent.later_said}
 use Rattle.std.proofs.Common.{List}
-use Rattle.vmstate_board_c.proofs.Silent.{later_said}
 use Rattle.vmstate_board_c.proofs.border.act_later.Goals as goal
 
 pub returns : goal.returns

@@ -1,5 +1,4 @@
-use Rattle.dev_clock.proofs.Facade.{clock_view}
-use Rattle.dev_clock.proofs.SoundLaws.{after-event}
+use Rattle.dev_clock.proofs.{Facade.clock_view, SoundLaws.after-event}
 use Rattle.dev_clock.proofs.devices.ClockDevices.act.Goals as goal
 
 pub invariant_of-self : goal.invariant_of-self

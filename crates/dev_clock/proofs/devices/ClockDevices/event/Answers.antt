@@ -1,5 +1,4 @@
-use Rattle.dev_clock.proofs.Facade.{refl, names_wire, clock_view}
-use Rattle.dev_clock.proofs.SoundLaws.{after-event, after-line}
+use Rattle.dev_clock.proofs.{Facade.refl, Facade.names_wire, Facade.clock_view, SoundLaws.after-event, SoundLaws.after-line}
 use Rattle.dev_clock.proofs.devices.ClockDevices.event.Goals as goal
 
 pub event-taken-requires : goal.event-taken-requires

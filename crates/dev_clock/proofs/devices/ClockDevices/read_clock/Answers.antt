@@ -1,5 +1,4 @@
-use Rattle.dev_clock.proofs.Facade.{clock_view}
-use Rattle.dev_clock.proofs.SoundLaws.{after-read}
+use Rattle.dev_clock.proofs.{Facade.clock_view, SoundLaws.after-read}
 use Rattle.dev_clock.proofs.devices.ClockDevices.read_clock.Goals as goal
 
 pub invariant_of-self : goal.invariant_of-self

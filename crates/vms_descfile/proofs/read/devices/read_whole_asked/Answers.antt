@@ -1,6 +1,5 @@
+use Rattle.vms_descfile.proofs.{Facade.whole_seen, AskedLaws.whole_unasked}
 use Rattle.vms_descfile.proofs.Facade.{Bool, Some, sym, subst, ap, ◌∙◌, and_parts, view, Answer, Answers, asks_names, Names, names_if, Whole, whole_in}
-use Rattle.vms_descfile.proofs.Facade.{whole_seen}
-use Rattle.vms_descfile.proofs.AskedLaws.{whole_unasked}
 use Rattle.vms_descfile.proofs.read.devices.read_whole_asked.Goals as goal
 
 pub returns-in_ok-names : goal.returns-in_ok-names

@@ -1,5 +1,4 @@
-use Rattle.vms_descfile.proofs.Facade.{view}
-use Rattle.vms_descfile.proofs.WalkLaws.{asked_is, first_is, later_is}
+use Rattle.vms_descfile.proofs.{Facade.view, WalkLaws.asked_is, WalkLaws.first_is, WalkLaws.later_is}
 use Rattle.vms_descfile.proofs.read.parts.read_parts.Goals as goal
 
 pub returns-in-Ok : goal.returns-in-Ok

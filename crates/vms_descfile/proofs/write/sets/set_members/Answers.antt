@@ -1,7 +1,5 @@
-use Rattle.vms_descfile.proofs.Facade.{ap, members_view, desc_of, FitsDesc, FitsDevice}
+use Rattle.vms_descfile.proofs.{Facade.ap, Facade.members_view, Facade.desc_of, Facade.FitsDesc, Facade.FitsDevice, FitLaws.mapped_of, SetLaws.set_built}
 use Rattle.vms_parts.specs.Views.{device_of}
-use Rattle.vms_descfile.proofs.FitLaws.{mapped_of}
-use Rattle.vms_descfile.proofs.SetLaws.{set_built}
 use Rattle.vms_descfile.proofs.write.sets.set_members.Goals as goal
 
 pub returns-clause-file : goal.returns-clause-file

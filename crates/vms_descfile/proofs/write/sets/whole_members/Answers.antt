@@ -1,7 +1,5 @@
-use Rattle.vms_descfile.proofs.Facade.{FitsSub}
+use Rattle.vms_descfile.proofs.{Facade.FitsSub, FitLaws.mapped_of, SetLaws.whole_built}
 use Rattle.vms_parts.specs.Views.{sub_of}
-use Rattle.vms_descfile.proofs.FitLaws.{mapped_of}
-use Rattle.vms_descfile.proofs.SetLaws.{whole_built}
 use Rattle.vms_descfile.proofs.write.sets.whole_members.Goals as goal
 
 pub returns-clause-file : goal.returns-clause-file

@@ -1,7 +1,6 @@
+use Rattle.vms_descfile.proofs.{BuiltLaws.listed_on, FitLaws.at_is}
 use Rattle.vms_descfile.proofs.Facade.{◌≡◌, ◌++◌, ℕ, Some, map, ap, sym, subst, ◌∙◌, below_more, arith, slice_get, drop_all, append-nil, slice_get_within}
 use Rattle.serde_json.specs.View.{view}
-use Rattle.vms_descfile.proofs.BuiltLaws.{listed_on}
-use Rattle.vms_descfile.proofs.FitLaws.{at_is}
 use Rattle.vms_descfile.proofs.write.values.written.Goals as goal
 
 pub loop-item-preserved : goal.loop-item-preserved

@@ -1,5 +1,4 @@
-use Rattle.vms_json.proofs.Facade.{arith}
-use Rattle.vms_json.proofs.LaidLaws.{no_items_left, an_item_left}
+use Rattle.vms_json.proofs.{Facade.arith, LaidLaws.no_items_left, LaidLaws.an_item_left}
 use Rattle.vms_json.proofs.node.Items.next.Goals as goal
 
 pub returns-then-is_empty-clause-value : goal.returns-then-is_empty-clause-value

@@ -1,6 +1,5 @@
+use Rattle.vms_selfdesc.proofs.{Bounds.text_reads, Bounds.text_short, Plain.wrote}
 use Rattle.vms_selfdesc.proofs.Facade.{◌≡◌, map, ◌∙◌, length, ap, arith, described, state_of, described_text}
-use Rattle.vms_selfdesc.proofs.Bounds.{text_reads, text_short}
-use Rattle.vms_selfdesc.proofs.Plain.{wrote}
 use Rattle.vms_selfdesc.proofs.room.DescriptionRoom.describe.Goals as goal
 
 pub returns : goal.returns

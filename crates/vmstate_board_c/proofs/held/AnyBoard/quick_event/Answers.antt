@@ -1,6 +1,5 @@
-use Rattle.vmstate_board_c.proofs.Facade.{rules, step_of, Isa}
+use Rattle.vmstate_board_c.proofs.{Facade.rules, Facade.step_of, Facade.Isa, Silent.at_reached}
 use Rattle.std.proofs.Common.{◌≡◌}
-use Rattle.vmstate_board_c.proofs.Silent.{at_reached}
 use Rattle.vmstate_board_c.proofs.held.AnyBoard.quick_event.Goals as goal
 
 pub returns-then-reach : goal.returns-then-reach
