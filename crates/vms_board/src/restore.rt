@@ -2,9 +2,9 @@
 ghost use Rattle.std.specs.Prelude.{◌≡◌, IfErr, IfOk, OnErr, OnOk};
 ghost use Rattle.vms_io.specs.Told.{intake};
 ghost use Rattle.vms_load.specs.Lean.{loads, has, taken_by};
-ghost use Rattle.vms_board.specs.Comes.{RestoreReads, TakingsRead};
-ghost use Rattle.vms_board.specs.Family.{IsNumber, lists_in};
-ghost use Rattle.vms_board.specs.Comes.{IsUnfit, refusal_of as refusal_by};
+ghost use Rattle.vms_board.specs.Comes.{CanRestore, CanTake, IsUnfit, RestoreReads, TakingsRead};
+ghost use Rattle.vms_board.specs.Comes.{refusal_of as refusal_by};
+ghost use Rattle.vms_board.specs.Family.{lists_in};
 
 use crate::board::MachineBoard;
 use crate::machine::Machine;
@@ -61,8 +61,7 @@ fn take<M: Machine, S: Source>(
     number: u8,
     source: &mut S,
 ) -> Result<(), RestoreFault>
-    requires number { IsNumber M.family number }
-    requires newest { loads loader.old ≡ M.family.set M.family.newest }
+    requires { CanTake M.family loader.old number }
     ensures reads { TakingsRead M.family number (intake S.Source source.old)
         (intake S.Source source.new) (has loader.new) (taken_by loader.new) result }
     ensures newest { loads loader.new ≡ M.family.set M.family.newest }
@@ -77,9 +76,7 @@ fn take<M: Machine, S: Source>(
 
 // Returns the devices in the images that `loader` has, or the refusal of the stream.
 fn devices_of<M: Machine>(number: u8, loader: &LeanLoader) -> Result<M, RestoreFault>
-    requires number { IsNumber M.family number }
-    requires newest { loads loader.now ≡ M.family.set M.family.newest }
-    requires told { M.are_told (lists_in (has loader.now)) }
+    requires { CanRestore M.are_told M.family loader.now number }
     ensures restored { let lists = lists_in (has loader.now) in
         IfOk result (λ devices. M.family.restored number lists ≡ Ok devices) }
     ensures sound { IfOk result M.is_sound }
