@@ -14,7 +14,7 @@ use Rattle.vms_convert.specs.Back.{AreSettled, AreTaken, IsBack}
 use Rattle.vms_convert.specs.Bringing.{ArePutAt, SettlesSub, marked_by, part_slots}
 use Rattle.vms_convert.specs.Changes.{Changes}
 use Rattle.vms_convert.specs.Giving.{MayGive, give_step}
-use Rattle.vms_convert.specs.Putting.{AreSources, put_step}
+use Rattle.vms_convert.specs.Putting.{AreSources}
 use Rattle.vms_convert.specs.declared.giving.Gift.{Gift}
 
 module _ (set : DescSet) where

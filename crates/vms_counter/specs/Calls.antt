@@ -1,5 +1,5 @@
 -- What the calls of this crate require and ensure, over the sets and the loader that they borrow.
-use Rattle.std.specs.Prelude.{◌≡◌, ℕ, ◌+◌, ◌<◌, Bool, List, length, map, Option, Some, None, IfOk, IfSome, Result, ℤ}
+use Rattle.std.specs.Prelude.{◌≡◌, ℕ, ◌+◌, ◌<◌, Bool, List, length, map, Option, Some, None, IfOk, IfSome, Result}
 use Rattle.std.specs.Bool.{OnTrue}
 use Rattle.std.specs.List.{slice_get}
 use Rattle.std.specs.declared.alloc.Global.{Global}
@@ -20,7 +20,7 @@ use Rattle.vms_marks.specs.declared.stream_head.TheConstants.{BESIDE_SECTIONS}
 use Rattle.vms_counter_laws.specs.Candidates.{admits, default_images, lacking, machine_for, raised, raised_cell, raised_fields, raised_image, with_image}
 use Rattle.vms_counter.specs.Found.{AreStates, HasRoom, IsRight}
 use Rattle.vms_counter.specs.Raising.{Fits, IsExcess, IsState, as_excess}
-use Rattle.vms_counter.specs.Trying.{HasFailed, IsRefused, IsTaken, IsTrial, Tries}
+use Rattle.vms_counter.specs.Trying.{HasFailed, IsRefused, IsTaken, Tries}
 use Rattle.vms_counter.specs.declared.finding.Finding.{Finding}
 use Rattle.vms_counter.specs.declared.raising.Excess.{Excess}
 use Rattle.vms_counter.specs.declared.raising.Raise.{Raise}

@@ -1,4 +1,4 @@
-use Rattle.vms_convert.proofs.Facade.{◌≡◌, length, ap, arith, kinds, recast_cells, recast_kinds}
+use Rattle.vms_convert.proofs.Facade.{◌≡◌, length, ap, arith, recast_cells, recast_kinds}
 use Rattle.vms_convert.proofs.recasting.recast_into.Goals.{After-recast-cells}
 use Rattle.vms_convert.proofs.recasting.recast_into.Goals as goal
 

@@ -1,4 +1,4 @@
-use Rattle.vms_cli.proofs.Facade.{List, ℕ, Option, Some, ap, ◌∙◌, ◌<◌, length, sym, subst, codes, device_at, cell_name, Set, IsInNewest, lost_line, newest}
+use Rattle.vms_cli.proofs.Facade.{Some, ap, ◌∙◌, ◌<◌, length, sym, subst, codes, device_at, cell_name, IsInNewest, lost_line, newest}
 use Rattle.vms_cli.specs.Commands.ConvertCommand.{line_of}
 use Rattle.vms_cli.proofs.PathRoom.{path_short}
 use Rattle.vms_cli.proofs.commands.convert.lost_line.Goals as goal
