@@ -7,6 +7,8 @@ pub mod Giving
 pub mod Laws
 pub mod Losing
 pub mod Lost
+pub mod Needs
+pub mod OneDevice
 pub mod Partnering
 pub mod Putting
 pub mod Recast

@@ -1,16 +1,18 @@
 -- What pairing needs of a description on each side, and what is left to pair from a field on.
-use Rattle.std.specs.Prelude.{◌≡◌, ℕ, ◌+◌, ◌-◌, ◌*◌, ◌<◌, ◌≤◌, true, false, List, ◌++◌, length, get_or, drop, Option}
+use Rattle.std.specs.Prelude.{◌≡◌, ℕ, ◌+◌, ◌-◌, ◌*◌, ◌<◌, ◌≤◌, true, false, List, [], ◌++◌, length, get_or, drop, Option}
 use Rattle.vms_kinds.specs.declared.Item.{Item}
-use Rattle.vms_spec.specs.Layout.{capacity_of, item_size, no_field, struct_cells, cells_from, field_cells}
+use Rattle.vms_spec.specs.Layout.{capacity_of, desc_cells, item_size, no_field, struct_cells, cells_from, field_cells}
 use Rattle.vms_spec.specs.Rules.{uses_below}
 use Rattle.vms_spec.specs.Sets.{AtLeast, Device, Set}
 use Rattle.vms_spec.specs.declared.TheConstants.{MOST_ITEMS}
 use Rattle.vms_desc.specs.Described.{described}
+use Rattle.vms_desc.specs.declared.set.DescSet.{DescSet}
 use Rattle.vms_check.specs.Comparing.{Entry, is_absent, present_from}
 use Rattle.vms_check.specs.Partners.{Pairer, no_pairer, pairers, array_partners, item_partners, desc_partners, named_partners, partners_from}
-use Rattle.vms_check.specs.Sides.{desc_on}
+use Rattle.vms_check.specs.Sides.{IsSide, desc_on}
 use Rattle.vms_convert.specs.declared.pairing.Arrays.{Arrays}
 use Rattle.vms_convert.specs.declared.pairing.Elements.{Elements}
+use Rattle.vms_convert.specs.declared.pairing.Sets.{Sets}
 use Rattle.vms_convert.specs.declared.pairing.Start.{Start}
 use Rattle.vms_check.specs.declared.side.Side.{Side}
 
@@ -105,3 +107,89 @@ module _ (s t : Side) where
 -- The partners of a subsection, with the one of the same name.
 abbrev pub sub_on : Side → Set → Device → List (Option ℕ)
 sub_on s new e = named_partners (described s.set.now) new e (record { desc = desc_on s; needed = AtLeast 0 })
+
+-- ---- what the calls require
+
+-- The older side is a subsection at its own version, and device i is one of the newer set.
+pub record CanPairSub (s : Side) (t : DescSet) (i : ℕ) : Type 0 where
+  pub older : IsSide s
+  pub version : s.version ≡ (desc_on s).version
+  pub few : HasFew s 0
+  pub new : i < length (described t).devices
+
+-- A field of the side.
+pub record HasField (s : Side) (k : ℕ) : Type 0 where
+  pub side : IsSide s
+  pub field : k < length (desc_on s).fields
+
+-- A field of the side or its end.
+pub record AtStart (s : Side) (a : Start) : Type 0 where
+  pub side : IsSide s
+  pub start : IsStart s a
+
+-- A field of the side, with its first cell.
+pub record AtField (s : Side) (a : Start) : Type 0 where
+  pub side : IsSide s
+  pub start : IsStart s a
+  pub field : a.field < length (desc_on s).fields
+
+module _ (s t : Side) where
+  -- Both are sides, and the cells of both are within the limit, where the newer ones begin with `first`.
+  pub record CanPair (first : ℕ) : Type 0 where
+    pub old : IsSide s
+    pub new : IsSide t
+    pub few : HasFew s 0
+    pub room : first + length (desc_cells (struct_cells (described t.set.now)) (desc_on t)) ≤ MOST_ITEMS
+
+  -- Both are sides with these fields.
+  pub record HaveFields (k l : ℕ) : Type 0 where
+    pub old : IsSide s
+    pub new : IsSide t
+    pub number : k < length (desc_on s).fields
+    pub other : l < length (desc_on t).fields
+
+  -- Field k is one of the older side, and the newer one is at this start.
+  pub record CanPairField (k : ℕ) (a : Start) : Type 0 where
+    pub old : IsSide s
+    pub new : IsSide t
+    pub field : k < length (desc_on s).fields
+    pub few : HasFew s k
+    pub start : IsStart t a
+
+  -- The same, where field k is present, and the start is at a present field or the end.
+  pub record CanPairPresent (k : ℕ) (a : Start) : Type 0 where
+    pub old : IsSide s
+    pub new : IsSide t
+    pub field : k < length (desc_on s).fields
+    pub there : is_absent s.version (get_or (desc_on s).fields k no_field) ≡ false
+    pub few : HasFew s k
+    pub found : IsNextStart t a a
+
+-- Element i is one of the older ones, and the newer cells from it on are within the limit.
+pub record CanPairElement (a : Arrays) (i at : ℕ) : Type 0 where
+  pub arrays : AreArrays a
+  pub element : i < a.one.count
+  pub room : HasRoom a i at
+
+module _ (sets : Sets) where
+  -- The items' structures are in their sets, and their cells are within the limit.
+  pub record CanPairItems (a b : Item) (at : ℕ) : Type 0 where
+    pub one : uses_below (length (described sets.old.now).structs) a ≡ true
+    pub other : uses_below (length (described sets.new.now).structs) b ≡ true
+    pub few : item_size (struct_cells (described sets.old.now)) a ≤ MOST_ITEMS
+    pub room : at + item_size (struct_cells (described sets.new.now)) b ≤ MOST_ITEMS
+
+  -- The structures are in their sets, and their cells are within the limit.
+  pub record CanPairStructs (i j at : ℕ) : Type 0 where
+    pub old : i < length (described sets.old.now).structs
+    pub new : j < length (described sets.new.now).structs
+    pub few : length (get_or (struct_cells (described sets.old.now)) i []) ≤ MOST_ITEMS
+    pub room : at + length (get_or (struct_cells (described sets.new.now)) j []) ≤ MOST_ITEMS
+
+  -- The partners of an item's cells.
+  abbrev pub items_in : Item → Item → ℕ → List (Option ℕ)
+  items_in a b at = item_on (described sets.old.now) (described sets.new.now) a b at
+
+  -- The partners of a structure's cells.
+  abbrev pub structs_in : ℕ → ℕ → ℕ → List (Option ℕ)
+  structs_in i j at = struct_on (described sets.old.now) (described sets.new.now) i j at

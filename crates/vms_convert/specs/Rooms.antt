@@ -1,9 +1,11 @@
 -- The memory of a conversion, before the input is read.
-use Rattle.std.specs.Prelude.{◌≡◌, ◌&&◌, ℕ, List, length, Option, Some, None, if◌then◌else◌}
+use Rattle.std.specs.Prelude.{◌≡◌, ◌&&◌, ℕ, ◌<◌, List, length, Option, Some, None, if◌then◌else◌}
 use Rattle.std.specs.List.{slice_get}
 use Rattle.vms_spec.specs.Sets.{Set}
-use Rattle.vms_desc.specs.Described.{device_at}
+use Rattle.vms_desc.specs.Described.{described, device_at}
+use Rattle.vms_desc.specs.declared.set.DescSet.{DescSet}
 use Rattle.vms_image.specs.Typed.{Typed, default_at}
+use Rattle.vms_check.specs.Comparing.{Compatible}
 use Rattle.vms_check.specs.Partners.{device_partners}
 use Rattle.vms_convert.specs.Recast.{is_port, wants_arrays}
 use Rattle.vms_convert.specs.Returns.{ArePaired}
@@ -36,3 +38,31 @@ pub record AreFresh (set : Set) (images : List Typed) : Type 0 where
 pub record IsRoom (to new : Set) (room : Room) : Type 0 where
   pub images : AreFresh to room.images.items
   pub routes : AreRoutes to new (length to.devices) room.routes.items
+
+-- ---- the same of the sets that the code borrows
+
+module _ (to new : DescSet) where
+  -- The newer set reads what the older one writes.
+  abbrev pub AreCompatible : Type 0
+  AreCompatible = Compatible (described to) (described new)
+
+  -- The same, where device i is one of the older set.
+  pub record HasCounterpart (i : ℕ) : Type 0 where
+    pub compatible : Compatible (described to) (described new)
+    pub device : i < length (described to).devices
+
+  -- Devices i and k have one name and instance.
+  abbrev pub AreCounterparts : ℕ → ℕ → Type 0
+  AreCounterparts i k = ArePaired (described to) (described new) i k
+
+  -- The route to device i.
+  abbrev pub IsRouteTo : ℕ → Route → Type 0
+  IsRouteTo i route = IsRoute (described to) (described new) i route.other route
+
+  -- The routes to all devices.
+  abbrev pub AreAllRoutes : List Route → Type 0
+  AreAllRoutes routes = AreRoutes (described to) (described new) (length (described to).devices) routes
+
+  -- The memory of a conversion.
+  abbrev pub IsRoomFor : Room → Type 0
+  IsRoomFor room = IsRoom (described to) (described new) room

@@ -1,15 +1,10 @@
 // The image of an older set that the numbers of a newer device become.
-ghost use Rattle.std.specs.Prelude.{◌≡◌, ◌<◌, None, get_or, length, map, slice_set};
-ghost use Rattle.vms_spec.specs.Layout.{device_cells, no_cell};
-ghost use Rattle.vms_desc.specs.Asks.{needed_at};
-ghost use Rattle.vms_desc.specs.Described.{described, device_at};
+ghost use Rattle.std.specs.Prelude.{◌≡◌};
+ghost use Rattle.vms_desc.specs.Described.{described};
 ghost use Rattle.vms_desc.specs.Parts.{HasPart};
-ghost use Rattle.vms_desc.specs.Spots.{kinds_at};
-ghost use Rattle.vms_image.specs.Typed.{IsImageOf, default_at, state_of};
-ghost use Rattle.dev_images.specs.Images.{bare, needed_from};
-ghost use Rattle.vms_convert.specs.Back.{AreSettled, AreTaken, IsBack};
-ghost use Rattle.vms_convert.specs.Bringing.{ArePutAt, SettlesSub, marked_by, part_of};
-ghost use Rattle.vms_convert.specs.Putting.{AreSources};
+ghost use Rattle.vms_convert.specs.Bringing.{part_of};
+ghost use Rattle.vms_convert.specs.OneDevice.{CanTake, ComesBack, HasBareImage, HasCell, HasCellImage, HasImage, HasSubImage};
+ghost use Rattle.vms_convert.specs.OneDevice.{MarksAll, MarksOne, PutsDefault, PutsDefaults, SettlesAll, SettlesOne, TakesAll, default_in};
 
 use crate::taking::take_part;
 use vms_desc::{DescSet, Part};
@@ -26,13 +21,8 @@ pub(crate) fn come_back(
     partners: &[Option<u32>],
     image: &mut Image,
 )
-    requires device { device < length (described to.now).devices }
-    requires sources { let kinds = kinds_at (described to.now) device in
-        AreSources kinds source.now.numbers partners.now }
-    requires fresh { image.old ≡ default_at (described to.now) device }
-    ensures back { let d = device_at (described to.now) device in let source = source.now.numbers in
-        IsBack (described to.now) d partners.now source (state_of image.new) }
-    ensures of { IsImageOf (described to.now) device image.new }
+    requires { CanTake to.now device source.now partners.now image.old }
+    ensures { ComesBack to.now device source.now partners.now image.new }
 {
     take_all(to, device, image, source, partners);
     settle(to, device, image);
@@ -53,12 +43,8 @@ pub(crate) fn whole_part(set: &DescSet, part: Part) -> PartAt
 
 // Sets each cell that is in the bytes to its partner's number. All subsections are taken to be present.
 fn take_all(set: &DescSet, device: u32, image: &mut Image, source: &Image, partners: &[Option<u32>])
-    requires device { device < length (described set.now).devices }
-    requires image { image.old ≡ default_at (described set.now) device }
-    requires sources { AreSources image.old.kinds source.now.numbers partners.now }
-    ensures taken { let d = device_at (described set.now) device in
-        AreTaken (described set.now) d partners.now source.now.numbers image.new.numbers }
-    ensures rest { image.new ≡ record image.old { numbers = image.new.numbers } }
+    requires { CanTake set.now device source.now partners.now image.old }
+    ensures { TakesAll set.now device source.now partners.now image.old image.new }
 {
     let own = whole_part(set, Part::Device(device));
     take_part(set, own, image, source, partners);
@@ -70,11 +56,8 @@ fn take_all(set: &DescSet, device: u32, image: &mut Image, source: &Image, partn
 
 // Sets the cells of each subsection that isn't needed to their defaults.
 fn settle(set: &DescSet, device: u32, image: &mut Image)
-    requires device { device < length (described set.now).devices }
-    requires of { IsImageOf (described set.now) device image.old }
-    ensures settled { let d = device_at (described set.now) device in
-        AreSettled (described set.now) d image.old.numbers image.new.numbers }
-    ensures rest { image.new ≡ record image.old { numbers = image.new.numbers } }
+    requires { HasImage set.now device image.old }
+    ensures { SettlesAll set.now device image.old image.new }
 {
     for sub in 0..set.sub_count(device) {
         settle_sub(set, device, sub, image);
@@ -83,10 +66,8 @@ fn settle(set: &DescSet, device: u32, image: &mut Image)
 
 // Does this for one subsection.
 fn settle_sub(set: &DescSet, device: u32, sub: u32, image: &mut Image)
-    requires device { device < length (described set.now).devices }
-    requires sub { sub < length (device_at (described set.now) device).subs }
-    requires of { IsImageOf (described set.now) device image.old }
-    ensures { SettlesSub (described set.now) device sub image.old image.new }
+    requires { HasSubImage set.now device sub image.old }
+    ensures { SettlesOne set.now device sub image.old image.new }
 {
     if !set.is_needed(device, sub, image) {
         put_defaults(set, device, sub, image);
@@ -95,11 +76,8 @@ fn settle_sub(set: &DescSet, device: u32, sub: u32, image: &mut Image)
 
 // Sets the cells of a subsection to their defaults.
 fn put_defaults(set: &DescSet, device: u32, sub: u32, image: &mut Image)
-    requires device { device < length (described set.now).devices }
-    requires sub { sub < length (device_at (described set.now) device).subs }
-    requires of { IsImageOf (described set.now) device image.old }
-    ensures puts { ArePutAt (described set.now) device sub image.old.numbers image.new.numbers }
-    ensures rest { image.new ≡ record image.old { numbers = image.new.numbers } }
+    requires { HasSubImage set.now device sub image.old }
+    ensures { PutsDefaults set.now device sub image.old image.new }
 {
     let part = Part::Sub(device, sub);
     let first = set.first_cell(part);
@@ -111,37 +89,24 @@ fn put_defaults(set: &DescSet, device: u32, sub: u32, image: &mut Image)
 
 // Sets a cell to its default.
 fn put_default(set: &DescSet, device: u32, cell: u32, image: &mut Image)
-    requires device { device < length (described set.now).devices }
-    requires cell { let d = device_at (described set.now) device in
-        cell < length (device_cells (described set.now) d) }
-    requires of { IsImageOf (described set.now) device image.old }
-    ensures { let d = device_at (described set.now) device in
-        let default = (get_or (device_cells (described set.now) d) cell no_cell).default in
-        image.new ≡ record image.old { numbers = slice_set image.old.numbers cell default } }
+    requires { HasCellImage set.now device cell image.old }
+    ensures { PutsDefault set.now device cell image.old image.new }
 {
     image.set(cell, default_of(set, device, cell));
 }
 
 // Returns the default of a cell.
 fn default_of(set: &DescSet, device: u32, cell: u32) -> i128
-    requires device { device < length (described set.now).devices }
-    requires cell { let d = device_at (described set.now) device in
-        cell < length (device_cells (described set.now) d) }
-    ensures { let d = device_at (described set.now) device in
-        result ≡ (get_or (device_cells (described set.now) d) cell no_cell).default }
+    requires { HasCell set.now device cell }
+    ensures { result ≡ default_in set.now device cell }
 {
     set.defaults(device).get(cell)
 }
 
 // Marks each subsection that the numbers need as present, at its version.
 fn mark(set: &DescSet, device: u32, image: &mut Image)
-    requires device { device < length (described set.now).devices }
-    requires of { IsImageOf (described set.now) device image.old }
-    requires none { let subs = (device_at (described set.now) device).subs in
-        image.old.came ≡ map (λ s. None) subs }
-    ensures { let d = device_at (described set.now) device in
-        let needed = needed_from (described set.now) d (bare d image.old.numbers) 0 d.subs in
-        image.new ≡ record image.old { came = needed } }
+    requires { HasBareImage set.now device image.old }
+    ensures { MarksAll set.now device image.old image.new }
 {
     for sub in 0..set.sub_count(device) {
         mark_sub(set, device, sub, image);
@@ -150,12 +115,8 @@ fn mark(set: &DescSet, device: u32, image: &mut Image)
 
 // Marks one subsection, if the numbers need it.
 fn mark_sub(set: &DescSet, device: u32, sub: u32, image: &mut Image)
-    requires device { device < length (described set.now).devices }
-    requires sub { sub < length (device_at (described set.now) device).subs }
-    requires of { IsImageOf (described set.now) device image.old }
-    ensures { let needed = needed_at (described set.now) device sub image.old.numbers in
-        let came = marked_by needed (described set.now) device sub image.old.came in
-        image.new ≡ record image.old { came = came } }
+    requires { HasSubImage set.now device sub image.old }
+    ensures { MarksOne set.now device sub image.old image.new }
 {
     if set.is_needed(device, sub, image) {
         let version = set.desc(Part::Sub(device, sub)).version;

@@ -1,20 +1,17 @@
 // The conversion of a stream.
-ghost use Rattle.std.specs.Prelude.{◌≡◌, ◌<◌, IfOk, IfSome, length, map};
+ghost use Rattle.std.specs.Prelude.{◌≡◌, IfOk, map};
 ghost use Rattle.dev_base.specs.declared.limits.TheConstants.{NEWEST};
-ghost use Rattle.vms_check.specs.Comparing.{Compatible};
 ghost use Rattle.vms_desc.specs.Described.{described};
 ghost use Rattle.vms_desc.specs.Formed.{shipped_set};
 ghost use Rattle.vms_io.specs.Told.{intake, outlet};
-ghost use Rattle.vms_load.specs.Good.{AreKept};
 ghost use Rattle.vms_load.specs.Lean.{has, loads};
-ghost use Rattle.vms_load.specs.Staging.{IsMachine, name_of};
-ghost use Rattle.vms_image.specs.Typed.{AreImagesOf, state_of};
+ghost use Rattle.vms_load.specs.Staging.{name_of};
+ghost use Rattle.vms_image.specs.Typed.{state_of};
 ghost use Rattle.vms_spec.specs.Lists.{at_option};
-ghost use Rattle.vms_spec.specs.Streams.{AreReady};
 ghost use Rattle.vms_io.specs.Writing.{Wrote};
 ghost use Rattle.vms_convert.specs.Losing.{stream_of};
 ghost use Rattle.vms_convert.specs.Calls.{Converts, ConvertsInto, ConvertsKept};
-ghost use Rattle.vms_convert.specs.Rooms.{IsRoom};
+ghost use Rattle.vms_convert.specs.Needs.{CanConvert, CanConvertKept, CanWrite};
 
 use crate::fault::ConvertFault;
 use crate::losing::judge;
@@ -114,9 +111,7 @@ fn convert_by<S: Source, K: Sink>(
     room: Room,
     sink: &mut K,
 ) -> Result<(), ConvertFault>
-    requires newest { loads loader.old ≡ shipped_set NEWEST }
-    requires compatible { Compatible (described to.now) (shipped_set NEWEST) }
-    requires room { IsRoom (described to.now) (shipped_set NEWEST) room }
+    requires { CanConvert to.now loader.old room }
     ensures converts { let before = intake S.Source source.old in let after = intake S.Source source.new in
         let empty = outlet K.Sink sink.old in let full = outlet K.Sink sink.new in
         ConvertsInto (described to.now) (shipped_set NEWEST) before after empty full result }
@@ -134,11 +129,7 @@ fn convert_kept<K: Sink>(
     mut room: Room,
     sink: &mut K,
 ) -> Result<(), ConvertFault>
-    requires newest { loads loader.now ≡ shipped_set NEWEST }
-    requires compatible { Compatible (described to.now) (shipped_set NEWEST) }
-    requires kept { AreKept (shipped_set NEWEST) (has loader.now) }
-    requires machine { IsMachine (shipped_set NEWEST).machines machine }
-    requires room { IsRoom (described to.now) (shipped_set NEWEST) room }
+    requires { CanConvertKept to.now loader.now machine room }
     ensures { let empty = outlet K.Sink sink.old in let full = outlet K.Sink sink.new in
         let new = shipped_set NEWEST in let name = name_of new machine in
         ConvertsKept (described to.now) new name (has loader.now) empty full result }
@@ -157,9 +148,7 @@ fn write_back<K: Sink>(
     text: &mut DescriptionRoom,
     sink: &mut K,
 ) -> Result<(), WriteFault>
-    requires machine { IfSome machine (λ m. m < length (described to.now).machines) }
-    requires of { AreImagesOf (described to.now) images.now }
-    requires ready { AreReady (described to.now) (map state_of images.now) }
+    requires { CanWrite to.now machine images.now }
     ensures { let name = at_option (described to.now).machines machine in
         let bytes = stream_of (described to.now) name (map state_of images.now) in
         Wrote (outlet K.Sink sink.old) (outlet K.Sink sink.new) bytes result }

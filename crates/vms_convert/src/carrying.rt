@@ -1,12 +1,8 @@
 // The numbers of a newer device that the older set's image gives back.
-ghost use Rattle.std.specs.Prelude.{◌≡◌, ◌+◌, ◌<◌, Some, length};
-ghost use Rattle.vms_spec.specs.Images.{image_slots};
-ghost use Rattle.vms_desc.specs.Described.{described, device_at};
-ghost use Rattle.vms_image.specs.Typed.{IsImageOf, state_of};
-ghost use Rattle.vms_walk.specs.Steps.{steps_of};
-ghost use Rattle.vms_convert.specs.Bringing.{own_part, part_slots, sub_part};
-ghost use Rattle.vms_convert.specs.Changes.{Changes};
-ghost use Rattle.vms_convert.specs.Giving.{AreTargets, give_step};
+ghost use Rattle.std.specs.Prelude.{◌≡◌, length};
+ghost use Rattle.vms_desc.specs.Described.{described};
+ghost use Rattle.vms_convert.specs.Bringing.{own_part, sub_part};
+ghost use Rattle.vms_convert.specs.OneDevice.{CanGive, CanGiveSub, GivesAll, GivesSub, HasDevice, HasSub};
 ghost use Rattle.vms_convert.specs.Returning.{FirstDifference};
 
 use crate::giving::{Gift, give_part};
@@ -17,17 +13,8 @@ use vms_walk::PartAt;
 /// Copies the number of each cell that is in the bytes of `gift` into the cell's partner in
 /// `target`.
 pub(crate) fn give_all(set: &DescSet, device: u32, gift: Gift, target: &mut Image)
-    requires device { device < length (described set.now).devices }
-    requires of { IsImageOf (described set.now) device gift.image.now }
-    requires version { gift.image.now.version
-        ≡ (device_at (described set.now) device).desc.version }
-    requires targets { let numbers = gift.image.now.numbers in
-        AreTargets target.old.kinds numbers gift.partners.now }
-    requires kinds { length target.old.kinds ≡ length target.old.numbers }
-    ensures { let slots = image_slots (described set.now) (device_at (described set.now) device)
-        (state_of gift.entry.image.now) in
-        let step = give_step gift.entry.partners.now gift.entry.image.now.numbers in
-        Changes step (steps_of slots) target.old target.new }
+    requires { CanGive set.now device gift target.old }
+    ensures { GivesAll set.now device gift.entry target.old target.new }
 {
     give_part(set, own_part(set, device, gift.image), gift, target);
     for sub in 0..set.sub_count(device) {
@@ -37,16 +24,8 @@ pub(crate) fn give_all(set: &DescSet, device: u32, gift: Gift, target: &mut Imag
 
 // Does this for a subsection, if it is present.
 fn give_sub(set: &DescSet, device: u32, sub: u32, gift: Gift, target: &mut Image)
-    requires device { device < length (described set.now).devices }
-    requires sub { sub < length (device_at (described set.now) device).subs }
-    requires of { IsImageOf (described set.now) device gift.image.now }
-    requires targets { let numbers = gift.image.now.numbers in
-        AreTargets target.old.kinds numbers gift.partners.now }
-    requires kinds { length target.old.kinds ≡ length target.old.numbers }
-    ensures { let image = state_of gift.entry.image.now in
-        let slots = part_slots (described set.now) device sub image in
-        let step = give_step gift.entry.partners.now gift.entry.image.now.numbers in
-        Changes step (steps_of slots) target.old target.new }
+    requires { CanGiveSub set.now device sub gift target.old }
+    ensures { GivesSub set.now device sub gift.entry target.old target.new }
 {
     if let Some(version) = gift.image.came(sub) {
         give_part(set, sub_part(set, device, sub, version), gift, target);
@@ -55,7 +34,7 @@ fn give_sub(set: &DescSet, device: u32, sub: u32, gift: Gift, target: &mut Image
 
 // Returns the device's own fields, at the version of `image`.
 fn own_part(set: &DescSet, device: u32, image: &Image) -> PartAt
-    requires { device < length (described set.now).devices }
+    requires { HasDevice set.now device }
     ensures { result ≡ own_part device image.now.version }
 {
     PartAt {
@@ -67,8 +46,7 @@ fn own_part(set: &DescSet, device: u32, image: &Image) -> PartAt
 
 // Returns a subsection at a version.
 fn sub_part(set: &DescSet, device: u32, sub: u32, version: u32) -> PartAt
-    requires device { device < length (described set.now).devices }
-    requires sub { sub < length (device_at (described set.now) device).subs }
+    requires { HasSub set.now device sub }
     ensures { result ≡ sub_part (described set.now) device sub version }
 {
     let part = Part::Sub(device, sub);

@@ -1,12 +1,11 @@
 // The numbers of an older device that a newer device receives, cell by cell in the bytes of a part.
-ghost use Rattle.std.specs.Prelude.{◌≡◌, ◌<◌, None, IfSome, length, get_or, pos};
-ghost use Rattle.vms_kinds.specs.Codes.{InRange};
-ghost use Rattle.vms_kinds.specs.declared.Kind.TheVariants.{U8};
+ghost use Rattle.std.specs.Prelude.{◌≡◌};
 ghost use Rattle.vms_walk.specs.Inside.{IsInside};
-ghost use Rattle.vms_walk.specs.Steps.{HasSpot, spot_slots, steps_of};
+ghost use Rattle.vms_walk.specs.Steps.{HasSpot};
 ghost use Rattle.vms_desc.specs.Described.{described};
 ghost use Rattle.vms_convert.specs.Changes.{Changes};
-ghost use Rattle.vms_convert.specs.Giving.{give_step, give_partner, AreTargets};
+ghost use Rattle.vms_convert.specs.Giving.{MayGive, MayPut, give_partner, give_step};
+ghost use Rattle.vms_convert.specs.OneDevice.{part_steps};
 
 use std::convert::Infallible;
 use vms_desc::{Cells, DescSet};
@@ -23,11 +22,9 @@ pub(crate) struct Gift<'a> {
 /// Copies the number of each cell that is in the bytes of `part` into its partner in `target`.
 pub(crate) fn give_part(set: &DescSet, part: PartAt, gift: Gift, target: &mut Image)
     requires part { HasSpot (described set.now) part gift.image.now.numbers }
-    requires targets { let numbers = gift.image.now.numbers in
-        AreTargets target.old.kinds numbers gift.partners.now }
-    requires kinds { length target.old.kinds ≡ length target.old.numbers }
+    requires may { MayGive gift.image.now gift.partners.now target.old }
     ensures { let numbers = gift.entry.image.now.numbers in
-        let steps = steps_of (spot_slots (described set.now) part numbers) in
+        let steps = part_steps set.now part numbers in
         Changes (give_step gift.entry.partners.now numbers) steps target.old target.new }
 {
     let mut giver = Giver {
@@ -62,7 +59,7 @@ impl Walker for Giver<'_> {
     ghost use Rattle.std.proofs.Common.{ap, ◌∙◌};
     ghost use Rattle.vms_walk.proofs.Kept.{keeps_same};
     ghost use Rattle.vms_convert.specs.Changes.{Changes, changes_more};
-    ghost use Rattle.vms_convert.specs.Giving.{give_step, AreTargets, same_gifts};
+    ghost use Rattle.vms_convert.specs.Giving.{MayGive, give_step, same_gifts};
 
     type Fault = Infallible;
 
@@ -72,8 +69,7 @@ impl Walker for Giver<'_> {
 
     ghost stops = { λ xs a fault b. ⊥ };
 
-    ghost may = { λ a step. AreTargets a.target.now.kinds a.image.now.numbers a.partners.now
-        × (length a.target.now.kinds ≡ length a.target.now.numbers) };
+    ghost may = { λ a step. MayGive a.image.now a.partners.now a.target.now };
 
     ghost keeps = { λ xs a b h. keeps_same xs _ _ (ap (λ image. image.now.numbers) h.1) };
 
@@ -101,8 +97,7 @@ impl Walker for Giver<'_> {
 // Takes one step of the walk.
 fn give_step(step: WalkStep, image: &Image, target: &mut Image, partners: &[Option<u32>])
     requires inside { IsInside image.now.numbers step }
-    requires targets { AreTargets target.old.kinds image.now.numbers partners.now }
-    requires kinds { length target.old.kinds ≡ length target.old.numbers }
+    requires may { MayGive image.now partners.now target.old }
     ensures { let numbers = give_step partners.now image.now.numbers step target.old.numbers in
         target.new ≡ record target.old { numbers = numbers } }
 {
@@ -113,8 +108,7 @@ fn give_step(step: WalkStep, image: &Image, target: &mut Image, partners: &[Opti
 
 // Copies a number to a partner, if there is one.
 fn give_number(target: &mut Image, number: i128, partner: Option<u32>)
-    requires inside { IfSome partner (λ k. k < length target.old.numbers) }
-    requires in_range { IfSome partner (λ k. InRange (get_or target.old.kinds k U8) number) }
+    requires { MayPut target.old number partner }
     ensures { target.new
         ≡ record target.old { numbers = give_partner number partner target.old.numbers } }
 {

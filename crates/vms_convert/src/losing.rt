@@ -1,19 +1,10 @@
 // What a conversion would lose: a cell, a device that isn't valid, or the machine.
-ghost use Rattle.std.specs.Prelude.{◌≡◌, ◌<◌, length, map};
-ghost use Rattle.std.specs.Bool.{OnFalse, OnTrue};
-ghost use Rattle.dev_base.specs.declared.limits.TheConstants.{NEWEST};
-ghost use Rattle.vms_check.specs.Carrying.{carried};
-ghost use Rattle.vms_check.specs.Comparing.{Compatible};
+ghost use Rattle.std.specs.Prelude.{◌≡◌};
 ghost use Rattle.vms_desc.specs.Described.{described};
-ghost use Rattle.vms_desc.specs.Formed.{shipped_set};
-ghost use Rattle.vms_image.specs.Typed.{state_of};
-ghost use Rattle.vms_load.specs.Good.{AreKept};
-ghost use Rattle.vms_load.specs.Lean.{has, loads};
 ghost use Rattle.vms_load.specs.Staging.{IsMachine, name_of};
-ghost use Rattle.vms_convert.specs.Converted.{recast_each};
-ghost use Rattle.vms_convert.specs.Losing.{AreWritable, FirstInvalid, Judges, KeepsMachine, first_cell_at};
-ghost use Rattle.vms_convert.specs.Lost.{IsValidAt, numbers_in};
-ghost use Rattle.vms_convert.specs.Returns.{AreReturned};
+ghost use Rattle.vms_convert.specs.Losing.{AreWritable, KeepsMachine, first_cell_at};
+ghost use Rattle.vms_convert.specs.Needs.{CanCheck, CanJudge, ChecksImage, FindsInvalid, JudgesLoaded};
+ghost use Rattle.vms_convert.specs.OneDevice.{HasDevice};
 
 use crate::fault::Loss;
 use crate::returns::LostCell;
@@ -30,18 +21,8 @@ pub(crate) fn judge(
     images: &[Image],
     lost: Option<LostCell>,
 ) -> Result<Option<u32>, Loss>
-    requires newest { loads loader.now ≡ shipped_set NEWEST }
-    requires compatible { Compatible (described to.now) (loads loader.now) }
-    requires kept { AreKept (loads loader.now) (has loader.now) }
-    requires machine { IsMachine (loads loader.now).machines machine }
-    requires returned { let new = loads loader.now in
-        let wanted = recast_each (described to.now) new.devices (numbers_in (has loader.now)) in
-        AreReturned (described to.now) new wanted images.now lost }
-    ensures { let new = loads loader.now in let name = name_of new machine in
-        let wanted = recast_each (described to.now) new.devices (numbers_in (has loader.now)) in
-        let backs = map state_of images.now in
-        let there = numbers_in (carried (described to.now) new backs) in
-        Judges (described to.now) new name wanted there backs result }
+    requires { CanJudge to.now loader.now machine images.now lost }
+    ensures { JudgesLoaded to.now loader.now machine images.now result }
 {
     if let Some(lost) = lost {
         return Err(Loss {
@@ -61,8 +42,7 @@ pub(crate) fn judge(
 // Returns the first device of the newer set whose image isn't valid in the target.
 fn first_invalid(to: &DescSet, newest: &DescSet, images: &[Image]) -> Option<u32>
     requires { AreWritable (described to.now) images.now }
-    ensures { let backs = map state_of images.now in
-        FirstInvalid (described to.now) (described newest.now) backs result }
+    ensures { FindsInvalid to.now newest.now images.now result }
 {
     let devices = newest.parts().devices.as_slice().len() as u32;
     for device in 0..devices {
@@ -75,12 +55,8 @@ fn first_invalid(to: &DescSet, newest: &DescSet, images: &[Image]) -> Option<u32
 
 // Checks whether the target's image of a device of the newer set may be written.
 fn is_valid(to: &DescSet, newest: &DescSet, device: u32, images: &[Image]) -> bool
-    requires device { device < length (described newest.now).devices }
-    requires writable { AreWritable (described to.now) images.now }
-    ensures valid { let backs = map state_of images.now in
-        OnTrue result (IsValidAt (described to.now) (described newest.now) backs device) }
-    ensures other { let backs = map state_of images.now in
-        OnFalse result (IsValidAt (described to.now) (described newest.now) backs device → ⊥) }
+    requires { CanCheck to.now newest.now images.now device }
+    ensures { ChecksImage to.now newest.now images.now device result }
 {
     let described = newest.device(device);
     match to.find(described.desc.name.as_bytes(), described.instance) {
@@ -91,7 +67,7 @@ fn is_valid(to: &DescSet, newest: &DescSet, device: u32, images: &[Image]) -> bo
 
 // Returns the first cell of a device, if it has one.
 fn first_cell(set: &DescSet, device: u32) -> Option<u32>
-    requires { device < length (described set.now).devices }
+    requires { HasDevice set.now device }
     ensures { result ≡ first_cell_at (described set.now) device }
 {
     if set.cells(device) == 0 {

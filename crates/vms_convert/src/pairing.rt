@@ -1,16 +1,12 @@
 // The pairs of cells of an older and a newer device.
-ghost use Rattle.std.specs.Prelude.{◌≡◌, ◌++◌, ◌+◌, ◌*◌, ◌<◌, ◌≤◌, true, false, length, get_or, replicate, IfOk, None, OnOk, [], ◌∷◌, Some, if◌then◌else◌};
+ghost use Rattle.std.specs.Prelude.{◌≡◌, ◌++◌, ◌<◌, length, replicate, IfOk, None, OnOk, [], ◌∷◌, Some, if◌then◌else◌};
 ghost use Rattle.vms_desc.specs.Described.{described, device_at};
-ghost use Rattle.vms_desc.specs.Parts.{HasPart};
-ghost use Rattle.vms_spec.specs.Layout.{desc_cells, item_size, no_field, struct_cells};
-ghost use Rattle.vms_spec.specs.Rules.{uses_below};
-ghost use Rattle.vms_spec.specs.declared.TheConstants.{MOST_ITEMS};
-ghost use Rattle.vms_check.specs.Comparing.{is_absent, same_kind};
+ghost use Rattle.vms_check.specs.Comparing.{same_kind};
 ghost use Rattle.vms_check.specs.Partners.{device_partners};
-ghost use Rattle.vms_convert.specs.Partnering.{IsStart, IsNextStart, IsBehind, PairsField, HasFew};
-ghost use Rattle.vms_convert.specs.Partnering.{AreArrays, HasRoom, PairsElement};
-ghost use Rattle.vms_convert.specs.Partnering.{arrays_on, elements_left, elements_on, item_on, partners_on, struct_on, sub_on};
-ghost use Rattle.vms_check.specs.Sides.{IsSide, desc_on};
+ghost use Rattle.vms_convert.specs.Partnering.{AreArrays, HasRoom, IsBehind, IsNextStart, PairsElement, PairsField};
+ghost use Rattle.vms_convert.specs.Partnering.{AtField, AtStart, CanPair, CanPairElement, CanPairField, CanPairItems, CanPairPresent, CanPairStructs};
+ghost use Rattle.vms_convert.specs.Partnering.{CanPairSub, HasField, HaveFields};
+ghost use Rattle.vms_convert.specs.Partnering.{arrays_on, elements_left, elements_on, items_in, partners_on, structs_in, sub_on};
 
 use std::alloc::{AllocError, Global};
 use vms_check::{Side, at_own_version, fields_of, is_present, same_kind};
@@ -94,10 +90,7 @@ fn pair_sub(
     in_new: u32,
     partners: &mut Vec<Option<u32>>,
 ) -> Result<(), AllocError>
-    requires older { IsSide older }
-    requires version { older.version ≡ (desc_on older).version }
-    requires few { HasFew older 0 }
-    requires new { in_new < length (described new.now).devices }
+    requires { CanPairSub older new.now in_new }
     ensures { let e = device_at (described new.now) in_new in
         let pairs = sub_on older.entry (described new.now) e in
         OnOk result (partners.new.items ≡ partners.old.items ++ pairs) }
@@ -124,11 +117,7 @@ fn pair_descs(
     first: u32,
     partners: &mut Vec<Option<u32>>,
 ) -> Result<(), AllocError>
-    requires old { IsSide old }
-    requires new { IsSide new }
-    requires few { HasFew old 0 }
-    requires room { first + length (desc_cells (struct_cells (described new.set.now)) (desc_on new))
-        ≤ MOST_ITEMS }
+    requires { CanPair old new first }
     ensures { let pairs = partners_on old.entry new.entry first in
         OnOk result (partners.new.items ≡ partners.old.items ++ pairs) }
 {
@@ -151,11 +140,7 @@ fn pair_field(
     start: Start,
     partners: &mut Vec<Option<u32>>,
 ) -> Result<Start, AllocError>
-    requires old { IsSide old }
-    requires new { IsSide new }
-    requires field { number < length (desc_on old).fields }
-    requires few { HasFew old number }
-    requires start { IsStart new start }
+    requires { CanPairField old new number start }
     ensures { let before = partners.old.items in
         let after = partners.new.items in
         IfOk result (λ next. PairsField old.entry new.entry number start next before after) }
@@ -177,12 +162,7 @@ fn pair_present(
     found: Start,
     partners: &mut Vec<Option<u32>>,
 ) -> Result<Start, AllocError>
-    requires old { IsSide old }
-    requires new { IsSide new }
-    requires field { number < length (desc_on old).fields }
-    requires there { is_absent old.version (get_or (desc_on old).fields number no_field) ≡ false }
-    requires few { HasFew old number }
-    requires found { IsNextStart new found found }
+    requires { CanPairPresent old new number found }
     ensures { let before = partners.old.items in
         let after = partners.new.items in
         IfOk result (λ next. PairsField old.entry new.entry number found next before after) }
@@ -202,10 +182,7 @@ fn pair_present(
 
 // Returns the elements of a field of each side.
 fn arrays_of<'a>(old: Side<'a>, number: u32, new: Side<'a>, other: u32) -> Arrays<'a>
-    requires old { IsSide old }
-    requires new { IsSide new }
-    requires number { number < length (desc_on old).fields }
-    requires other { other < length (desc_on new).fields }
+    requires { HaveFields old new number other }
     ensures { result ≡ arrays_on old.entry number new.entry other }
 {
     Arrays {
@@ -220,8 +197,7 @@ fn arrays_of<'a>(old: Side<'a>, number: u32, new: Side<'a>, other: u32) -> Array
 
 // Returns the elements of a field.
 fn elements_of(side: Side, number: u32) -> Elements
-    requires side { IsSide side }
-    requires field { number < length (desc_on side).fields }
+    requires { HasField side number }
     ensures { result ≡ elements_on side.entry number }
 {
     let field = &fields_of(side)[number as usize];
@@ -233,8 +209,7 @@ fn elements_of(side: Side, number: u32) -> Elements
 
 // Returns the first present field from `start` on, or the end.
 fn next_start(side: Side, start: Start) -> Start
-    requires side { IsSide side }
-    requires start { IsStart side start }
+    requires { AtStart side start }
     ensures { IsNextStart side.entry start result }
 {
     let mut next = start;
@@ -249,9 +224,7 @@ fn next_start(side: Side, start: Start) -> Start
 
 // Returns the start after a field.
 fn behind(side: Side, start: Start) -> Start
-    requires side { IsSide side }
-    requires start { IsStart side start }
-    requires field { start.field < length (desc_on side).fields }
+    requires { AtField side start }
     ensures { IsBehind side.entry start result }
 {
     Start {
@@ -287,9 +260,7 @@ fn pair_element(
     cell: u32,
     partners: &mut Vec<Option<u32>>,
 ) -> Result<u32, AllocError>
-    requires arrays { AreArrays arrays }
-    requires element { element < arrays.one.count }
-    requires room { HasRoom arrays element cell }
+    requires { CanPairElement arrays element cell }
     ensures { let before = partners.old.items in
         let after = partners.new.items in
         IfOk result (λ next. PairsElement arrays.entry element cell next before after) }
@@ -318,12 +289,8 @@ fn pair_items(
     cell: u32,
     partners: &mut Vec<Option<u32>>,
 ) -> Result<(), AllocError>
-    requires one { uses_below (length (described sets.old.now).structs) one ≡ true }
-    requires other { uses_below (length (described sets.new.now).structs) other ≡ true }
-    requires few { item_size (struct_cells (described sets.old.now)) one ≤ MOST_ITEMS }
-    requires room { cell + item_size (struct_cells (described sets.new.now)) other ≤ MOST_ITEMS }
-    ensures { let old = described sets.entry.old.now in let new = described sets.entry.new.now in
-        let pairs = item_on old new one other cell in
+    requires { CanPairItems sets one other cell }
+    ensures { let pairs = items_in sets.entry one other cell in
         OnOk result (partners.new.items ≡ partners.old.items ++ pairs) }
 {
     match (one, other) {
@@ -361,13 +328,8 @@ fn pair_structs(
     cell: u32,
     partners: &mut Vec<Option<u32>>,
 ) -> Result<(), AllocError>
-    requires old { in_old < length (described sets.old.now).structs }
-    requires new { in_new < length (described sets.new.now).structs }
-    requires few { length (get_or (struct_cells (described sets.old.now)) in_old []) ≤ MOST_ITEMS }
-    requires room { cell + length (get_or (struct_cells (described sets.new.now)) in_new [])
-        ≤ MOST_ITEMS }
-    ensures { let pairs = struct_on (described sets.entry.old.now) (described sets.entry.new.now)
-        in_old in_new cell in
+    requires { CanPairStructs sets in_old in_new cell }
+    ensures { let pairs = structs_in sets.entry in_old in_new cell in
         OnOk result (partners.new.items ≡ partners.old.items ++ pairs) }
 {
     pair_descs(

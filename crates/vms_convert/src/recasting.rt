@@ -1,14 +1,10 @@
 // The devices that the target keeps in another form than the newest set, and their numbers in that form.
 ghost use Rattle.std.specs.List.{list_any};
-ghost use Rattle.std.specs.Prelude.{◌≡◌, ◌&&◌, ◌<◌, ℕ, get_or, length, map, pos, slice_set};
-ghost use Rattle.dev_base.specs.declared.limits.TheConstants.{NEWEST};
-ghost use Rattle.dev_serial.specs.Cells.{IsPortCells, kinds};
+ghost use Rattle.std.specs.Prelude.{◌≡◌, ◌&&◌, get_or, map, pos, slice_set};
 ghost use Rattle.dev_serial.specs.Recast.{recast_cells};
 ghost use Rattle.vms_parts.specs.Views.{device_of, sub_of};
 ghost use Rattle.vms_desc.specs.Described.{described};
-ghost use Rattle.vms_kinds.specs.Codes.{InRange};
-ghost use Rattle.vms_kinds.specs.declared.Kind.TheVariants.{U8};
-ghost use Rattle.vms_convert.specs.Recast.{is_port, is_ring, wants, wants_arrays};
+ghost use Rattle.vms_convert.specs.Recast.{AreCellsOf, CanRecast, IsCellOf, is_port, is_ring, wants, wants_arrays};
 
 use dev_images::image_cells;
 use dev_serial::recast;
@@ -62,9 +58,7 @@ fn has_rings(subs: &[Sub]) -> bool
 /// Sets the numbers of `target`, an image of the port, to those of `source` with its FIFOs in
 /// counted arrays, if they were only in rings.
 pub(crate) fn recast_into(source: &Image, target: &mut Image)
-    requires kinds { target.old.kinds ≡ kinds NEWEST }
-    requires long { length target.old.numbers ≡ length target.old.kinds }
-    requires cells { IsPortCells source.now.numbers }
+    requires { CanRecast source.now target.old }
     ensures { target.new ≡ record target.old { numbers = recast_cells source.now.numbers } }
 {
     let cells = recast(&image_cells(source));
@@ -73,9 +67,7 @@ pub(crate) fn recast_into(source: &Image, target: &mut Image)
 
 // Sets the numbers of `image` to `cells`.
 fn put_cells(image: &mut Image, cells: &DevCells)
-    requires long { length cells.now.items ≡ length image.old.numbers }
-    requires in_range { (c : ℕ) → c < length cells.now.items
-        → InRange (get_or image.old.kinds c U8) (get_or cells.now.items c (pos 0)) }
+    requires { AreCellsOf image.old cells.now.items }
     ensures { image.new ≡ record image.old { numbers = cells.now.items } }
 {
     for cell in 0..image.len() {
@@ -85,10 +77,7 @@ fn put_cells(image: &mut Image, cells: &DevCells)
 
 // Sets one of them.
 fn put_cell(image: &mut Image, cell: u32, cells: &DevCells)
-    requires long { length cells.now.items ≡ length image.old.numbers }
-    requires cell { cell < length cells.now.items }
-    requires in_range { InRange (get_or image.old.kinds cell U8)
-        (get_or cells.now.items cell (pos 0)) }
+    requires { IsCellOf image.old cells.now.items cell }
     ensures { let number = get_or cells.now.items cell (pos 0) in
         image.new ≡ record image.old { numbers = slice_set image.old.numbers cell number } }
 {

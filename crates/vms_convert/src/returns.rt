@@ -1,17 +1,6 @@
 // The images of an older set that all devices of the newest set become.
-ghost use Rattle.std.specs.Prelude.{◌≡◌, ◌<◌, [], get_or, length};
-ghost use Rattle.dev_base.specs.declared.limits.TheConstants.{NEWEST};
-ghost use Rattle.vms_image.specs.Typed.{IsImageOf, default_at};
-ghost use Rattle.vms_desc.specs.Described.{described, device_at};
-ghost use Rattle.vms_desc.specs.Formed.{shipped_set};
-ghost use Rattle.vms_load.specs.Good.{AreKept};
-ghost use Rattle.vms_load.specs.Lean.{has, loads};
-ghost use Rattle.vms_convert.specs.Converted.{recast_each};
-ghost use Rattle.vms_convert.specs.Lost.{numbers_in};
-ghost use Rattle.vms_convert.specs.Returning.{IsReturned};
-ghost use Rattle.vms_convert.specs.Recast.{recast};
-ghost use Rattle.vms_convert.specs.Returns.{AreReturned, IsEarlier, IsRecastFor};
-ghost use Rattle.vms_convert.specs.Rooms.{AreFresh, AreRoutes, IsRoute};
+ghost use Rattle.vms_convert.specs.Needs.{CanReturnAll, CanReturnAt, CanReturnImage, ReturnsAll, ReturnsImage, ReturnsKept};
+ghost use Rattle.vms_convert.specs.Returns.{IsEarlier};
 
 use crate::recasting::recast_into;
 use crate::returning::{Pair, return_device};
@@ -35,14 +24,8 @@ pub(crate) fn return_all(
     routes: &mut [Route],
     images: &mut [Image],
 ) -> Option<LostCell>
-    requires newest { loads loader.now ≡ shipped_set NEWEST }
-    requires kept { AreKept (loads loader.now) (has loader.now) }
-    requires routes { AreRoutes (described to.now) (loads loader.now)
-        (length (described to.now).devices) routes.old }
-    requires fresh { AreFresh (described to.now) images.old }
-    ensures { let new = loads loader.now in
-        let wanted = recast_each (described to.now) new.devices (numbers_in (has loader.now)) in
-        AreReturned (described to.now) new wanted images.new result }
+    requires { CanReturnAll to.now loader.now routes.old images.old }
+    ensures { ReturnsAll to.now loader.now images.new result }
 {
     let mut lost = None;
     for device in 0..images.len() {
@@ -61,16 +44,8 @@ pub(crate) fn return_all(
 
 // Makes `image` what the newest set's device in the loader becomes.
 fn return_at(pair: Pair, route: &mut Route, image: &mut Image) -> Option<u32>
-    requires newest { loads pair.loader.now ≡ shipped_set NEWEST }
-    requires kept { AreKept (loads pair.loader.now) (has pair.loader.now) }
-    requires device { pair.device < length (described pair.to.now).devices }
-    requires route { IsRoute (described pair.to.now) (loads pair.loader.now)
-        pair.device pair.other route.old }
-    requires fresh { image.old ≡ default_at (described pair.to.now) pair.device }
-    ensures { let to = described pair.entry.to.now in let new = loads pair.entry.loader.now in
-        let wanted = recast_each to new.devices (numbers_in (has pair.entry.loader.now)) in
-        let numbers = get_or wanted pair.entry.other [] in
-        IsReturned to new pair.entry.device pair.entry.other numbers image.new result }
+    requires { CanReturnAt pair route.old image.old }
+    ensures { ReturnsKept pair.entry image.new result }
 {
     return_image(
         pair,
@@ -82,16 +57,8 @@ fn return_at(pair: Pair, route: &mut Route, image: &mut Image) -> Option<u32>
 
 // Makes `image` what `source` becomes. Its FIFOs move into counted arrays first, if the target keeps them so.
 fn return_image(pair: Pair, source: &Image, route: &mut Route, image: &mut Image) -> Option<u32>
-    requires device { pair.device < length (described pair.to.now).devices }
-    requires route { IsRoute (described pair.to.now) (loads pair.loader.now)
-        pair.device pair.other route.old }
-    requires of { IsImageOf (loads pair.loader.now) pair.other source.now }
-    requires recast { IsRecastFor (described pair.to.now) (loads pair.loader.now) pair.other
-        source.now.numbers }
-    requires fresh { image.old ≡ default_at (described pair.to.now) pair.device }
-    ensures { let to = described pair.entry.to.now in let new = loads pair.entry.loader.now in
-        let numbers = recast to (device_at new pair.entry.other) source.now.numbers in
-        IsReturned to new pair.entry.device pair.entry.other numbers image.new result }
+    requires { CanReturnImage pair source.now route.old image.old }
+    ensures { ReturnsImage pair.entry source.now image.new result }
 {
     match &mut route.recast {
         None => return_device(pair, source, &route.partners, image, &mut route.carried),

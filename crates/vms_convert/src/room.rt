@@ -1,9 +1,8 @@
 // The memory of a conversion. All of it is allocated before the input is read.
-ghost use Rattle.std.specs.Prelude.{◌≡◌, ◌<◌, IfOk, length};
-ghost use Rattle.vms_check.specs.Comparing.{Compatible};
+ghost use Rattle.std.specs.Prelude.{◌≡◌, IfOk};
 ghost use Rattle.vms_desc.specs.Described.{described};
-ghost use Rattle.vms_convert.specs.Returns.{ArePaired};
-ghost use Rattle.vms_convert.specs.Rooms.{AreRoutes, IsRoom, IsRoute, recast_room};
+ghost use Rattle.vms_convert.specs.OneDevice.{HasDevice};
+ghost use Rattle.vms_convert.specs.Rooms.{AreAllRoutes, AreCompatible, AreCounterparts, HasCounterpart, IsRoomFor, IsRouteTo, recast_room};
 
 use crate::pairing::partners;
 use crate::recasting::is_recast;
@@ -45,8 +44,8 @@ pub(crate) struct Room {
 ///
 /// [`NoMemory`] if memory runs out.
 pub(crate) fn room_for(alloc: Global, to: &DescSet, newest: &DescSet) -> Result<Room, NoMemory>
-    requires { Compatible (described to.now) (described newest.now) }
-    ensures { IfOk result (IsRoom (described to.now) (described newest.now)) }
+    requires { AreCompatible to.now newest.now }
+    ensures { IfOk result (IsRoomFor to.now newest.now) }
 {
     Ok(Room {
         images: default_images(alloc, to)?,
@@ -57,10 +56,8 @@ pub(crate) fn room_for(alloc: Global, to: &DescSet, newest: &DescSet) -> Result<
 
 // Returns the route to each device of the target.
 fn routes_to(alloc: Global, to: &DescSet, newest: &DescSet) -> Result<Vec<Route>, NoMemory>
-    requires { Compatible (described to.now) (described newest.now) }
-    ensures { IfOk result (λ routes.
-        AreRoutes (described to.now) (described newest.now)
-        (length (described to.now).devices) routes.items) }
+    requires { AreCompatible to.now newest.now }
+    ensures { IfOk result (λ routes. AreAllRoutes to.now newest.now routes.items) }
 {
     let devices = to.parts().devices.as_slice().len();
     let mut routes = Vec::with_capacity(alloc, devices)?;
@@ -72,10 +69,8 @@ fn routes_to(alloc: Global, to: &DescSet, newest: &DescSet) -> Result<Vec<Route>
 
 // Returns the route to a device of the target.
 fn route_to(alloc: Global, to: &DescSet, device: u32, newest: &DescSet) -> Result<Route, NoMemory>
-    requires compatible { Compatible (described to.now) (described newest.now) }
-    requires device { device < length (described to.now).devices }
-    ensures { IfOk result (λ route.
-        IsRoute (described to.now) (described newest.now) device route.other route) }
+    requires { HasCounterpart to.now newest.now device }
+    ensures { IfOk result (IsRouteTo to.now newest.now device) }
 {
     let other = counterpart(to, device, newest);
     Ok(Route {
@@ -88,9 +83,8 @@ fn route_to(alloc: Global, to: &DescSet, device: u32, newest: &DescSet) -> Resul
 
 // Returns the newest set's device of the name and instance of `device`.
 fn counterpart(to: &DescSet, device: u32, newest: &DescSet) -> u32
-    requires compatible { Compatible (described to.now) (described newest.now) }
-    requires device { device < length (described to.now).devices }
-    ensures { ArePaired (described to.now) (described newest.now) device result }
+    requires { HasCounterpart to.now newest.now device }
+    ensures { AreCounterparts to.now newest.now device result }
 {
     let described = to.device(device);
     match newest.find(described.desc.name.as_bytes(), described.instance) {
@@ -106,7 +100,7 @@ fn recast_room(
     newest: &DescSet,
     other: u32,
 ) -> Result<Option<Image>, NoMemory>
-    requires { other < length (described newest.now).devices }
+    requires { HasDevice newest.now other }
     ensures { IfOk result (λ room.
         room ≡ recast_room (described to.now) (described newest.now) other) }
 {

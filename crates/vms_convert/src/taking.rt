@@ -1,13 +1,11 @@
 // The numbers of a newer device that an older one takes, cell by cell in the bytes of a part.
-ghost use Rattle.std.specs.Prelude.{◌≡◌, ◌≤◌, ◌<◌, None, IfSome, length, get_or, pos};
-ghost use Rattle.vms_kinds.specs.Codes.{InRange};
-ghost use Rattle.vms_kinds.specs.declared.Kind.TheVariants.{U8};
-ghost use Rattle.vms_spec.specs.Numbers.{exceeds};
+ghost use Rattle.std.specs.Prelude.{◌≡◌};
 ghost use Rattle.vms_walk.specs.Inside.{IsInside};
-ghost use Rattle.vms_walk.specs.Steps.{HasSpot, capacities_of, spot_slots, steps_of};
+ghost use Rattle.vms_walk.specs.Steps.{HasSpot};
 ghost use Rattle.vms_desc.specs.Described.{described};
 ghost use Rattle.vms_convert.specs.Changes.{Changes};
-ghost use Rattle.vms_convert.specs.Putting.{put_step, put_partner, AreSources};
+ghost use Rattle.vms_convert.specs.OneDevice.{part_steps};
+ghost use Rattle.vms_convert.specs.Putting.{MayTake, MayTakeAt, put_partner, put_step};
 
 use std::convert::Infallible;
 use vms_desc::{Cells, DescSet};
@@ -26,9 +24,8 @@ pub(crate) fn take_part(
     partners: &[Option<u32>],
 )
     requires part { HasSpot (described set.now) part image.old.numbers }
-    requires sources { AreSources image.old.kinds source.now.numbers partners.now }
-    requires kinds { length image.old.kinds ≡ length image.old.numbers }
-    ensures { let steps = steps_of (spot_slots (described set.now) part image.new.numbers) in
+    requires may { MayTake image.old source.now partners.now }
+    ensures { let steps = part_steps set.now part image.new.numbers in
         Changes (put_step partners.now source.now.numbers) steps image.old image.new }
 {
     let mut taker = Taker {
@@ -62,7 +59,7 @@ impl Walker for Taker<'_> {
     ghost use Rattle.std.specs.Prelude.{◌≡◌, refl};
     ghost use Rattle.std.proofs.Common.{ap, ◌∙◌};
     ghost use Rattle.vms_convert.specs.Changes.{Changes, changes_more};
-    ghost use Rattle.vms_convert.specs.Putting.{put_step, AreSources};
+    ghost use Rattle.vms_convert.specs.Putting.{MayTake, put_step};
     ghost use Rattle.vms_convert.specs.Takes.{takes_keeps, same_steps};
 
     type Fault = Infallible;
@@ -73,8 +70,7 @@ impl Walker for Taker<'_> {
 
     ghost stops = { λ xs a fault b. ⊥ };
 
-    ghost may = { λ a step. AreSources a.image.now.kinds a.source.now.numbers a.partners.now
-        × (length a.image.now.kinds ≡ length a.image.now.numbers) };
+    ghost may = { λ a step. MayTake a.image.now a.source.now a.partners.now };
 
     ghost keeps = { λ xs a b h.
         takes_keeps a.partners.now a.source.now.numbers xs a.image.now b.image.now h.3 };
@@ -103,8 +99,7 @@ impl Walker for Taker<'_> {
 // Takes one step of the walk.
 fn take_step(step: WalkStep, image: &mut Image, source: &Image, partners: &[Option<u32>])
     requires inside { IsInside image.old.numbers step }
-    requires sources { AreSources image.old.kinds source.now.numbers partners.now }
-    requires kinds { length image.old.kinds ≡ length image.old.numbers }
+    requires may { MayTake image.old source.now partners.now }
     ensures { let numbers = put_step partners.now source.now.numbers step image.old.numbers in
         image.new ≡ record image.old { numbers = numbers } }
 {
@@ -121,10 +116,7 @@ fn take_number(
     source: &Image,
     partner: Option<u32>,
 )
-    requires cell { cell < length image.old.numbers }
-    requires inside { IfSome partner (λ k. k < length source.now.numbers) }
-    requires in_range { IfSome partner (λ k. InRange (get_or image.old.kinds cell U8)
-        (get_or source.now.numbers k (pos 0))) }
+    requires { MayTakeAt image.old source.now cell partner }
     ensures { let numbers = put_partner source.now.numbers cell most partner image.old.numbers in
         image.new ≡ record image.old { numbers = numbers } }
 {

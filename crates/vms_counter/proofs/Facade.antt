@@ -1,5 +1,5 @@
 -- The names of other crates, and of this crate's `specs`, that the proofs use.
-pub use Rattle.std.proofs.Common.{Err, IfSome, List, None, Ok, Option, Some, [], add-one, ap, arith, drop, false, get_or, inl, inr, length, map, refl}
+pub use Rattle.std.proofs.Common.{Err, IfSome, List, None, Ok, Option, Some, [], add-one, ap, arith, drop, false, get_or, inl, inr, length, map, refl, rules}
 pub use Rattle.std.proofs.Common.{slice_set, subst, sym, true, ℕ, ◌*◌, ◌++◌, ◌+◌, ◌<◌, ◌^◌, ◌∙◌, ◌∷◌, ◌≡◌, ◌≤◌}
 pub use Rattle.std.proofs.lemmas.Bool.{cases_eq}
 pub use Rattle.std.proofs.lemmas.List.{drop_more, length-map, length-set, map-append, map-set}

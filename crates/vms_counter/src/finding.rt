@@ -1,12 +1,10 @@
 // A state of an older set that shows why a newer one refuses it.
-ghost use Rattle.std.specs.Prelude.{◌≡◌, map, IfOk, Some};
-ghost use Rattle.vms_check.specs.Comparing.{first_mismatch};
-ghost use Rattle.vms_image.specs.Typed.{state_of, AreImagesOf};
+ghost use Rattle.std.specs.Prelude.{◌≡◌, IfOk};
 ghost use Rattle.vms_desc.specs.Described.{described};
 ghost use Rattle.vms_load.specs.Kept.{loads};
-ghost use Rattle.vms_counter_laws.specs.Candidates.{raised};
 ghost use Rattle.vms_counter_laws.specs.Counters.{Counters};
-ghost use Rattle.vms_counter.specs.Found.{answer_of, IsFindingOf, IsRight};
+ghost use Rattle.vms_counter.specs.Calls.{FindsFor, FindsIn, HasSecond, IsFirstOf};
+ghost use Rattle.vms_counter.specs.Found.{answer_of, IsFindingOf};
 ghost use Rattle.vms_counter.specs.Trying.{HasFailed, IsTrial};
 
 use crate::candidates::machine_for;
@@ -68,9 +66,8 @@ fn show(
     mismatch: Mismatch,
     new: &mut Loader,
 ) -> Result<Finding, NoMemory>
-    requires { first_mismatch (described old.now) (loads new.old) ≡ Some mismatch }
-    ensures right { IfOk result (IsRight (described old.now) (loads new.old)) }
-    ensures set { loads new.new ≡ loads new.old }
+    requires { IsFirstOf old.now new.old mismatch }
+    ensures { FindsIn old.now new.old new.new result }
 {
     let machine = machine_for(old, new.set(), &mismatch);
     let room = room(alloc, old)?;
@@ -85,8 +82,7 @@ fn show(
 
 fn show_first(alloc: Global, trial: &Trial, new: &mut Loader) -> Result<Finding, NoMemory>
     requires { IsTrial trial.now (loads new.old) }
-    ensures right { IfOk result (IsRight (described trial.now.old.now) (loads new.old)) }
-    ensures set { loads new.new ≡ loads new.old }
+    ensures { FindsFor trial.now new.old new.new result }
 {
     let images = default_images(alloc, trial.old)?;
     match tried(alloc, trial, &images, new)? {
@@ -103,8 +99,7 @@ fn show_first(alloc: Global, trial: &Trial, new: &mut Loader) -> Result<Finding,
 // Tries the second candidate, as the first doesn't show the mismatch.
 fn show_second(alloc: Global, trial: &Trial, new: &mut Loader) -> Result<Finding, NoMemory>
     requires { HasFailed trial.now (loads new.old) }
-    ensures right { IfOk result (IsRight (described trial.now.old.now) (loads new.old)) }
-    ensures set { loads new.new ≡ loads new.old }
+    ensures { FindsFor trial.now new.old new.new result }
 {
     match raised(alloc, trial.old, new.set(), &trial.mismatch)? {
         None => Ok(Finding::NoState(trial.mismatch)),
@@ -118,12 +113,8 @@ fn show_last(
     images: Vec<Image>,
     new: &mut Loader,
 ) -> Result<Finding, NoMemory>
-    requires failed { HasFailed trial.now (loads new.old) }
-    requires second { raised (described trial.now.old.now) (loads new.old) trial.now.mismatch
-        ≡ Some (map state_of images.items) }
-    requires of { AreImagesOf (described trial.now.old.now) images.items }
-    ensures right { IfOk result (IsRight (described trial.now.old.now) (loads new.old)) }
-    ensures set { loads new.new ≡ loads new.old }
+    requires { HasSecond trial.now new.old images.items }
+    ensures { FindsFor trial.now new.old new.new result }
 {
     match tried(alloc, trial, &images, new)? {
         Some(refusal) => Ok(Finding::State {

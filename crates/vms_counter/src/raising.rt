@@ -1,13 +1,11 @@
 // One number of a device, raised above the newer set's capacity.
-ghost use Rattle.std.specs.Prelude.{◌≡◌, ◌<◌, length, map, slice_set, IfOk, Some};
-ghost use Rattle.std.specs.Bool.{OnTrue};
+ghost use Rattle.std.specs.Prelude.{◌≡◌, map, slice_set, IfOk};
 ghost use Rattle.vms_spec.specs.Layout.{counted};
 ghost use Rattle.vms_spec.specs.Rules.{counts_well};
 ghost use Rattle.vms_parts.specs.Views.{field_of};
-ghost use Rattle.vms_desc.specs.Described.{described, device_at};
-ghost use Rattle.vms_image.specs.Typed.{default_at};
-ghost use Rattle.vms_counter_laws.specs.Candidates.{admits, excess, raised_cell, raised_image};
-ghost use Rattle.vms_counter.specs.Raising.{as_excess, counted_here, Fits, IsState, map_excess};
+ghost use Rattle.vms_counter_laws.specs.Candidates.{excess};
+ghost use Rattle.vms_counter.specs.Calls.{Admits, HasDefault, HasDevice, IsRaised, IsRaisedAt};
+ghost use Rattle.vms_counter.specs.Raising.{counted_here, Fits, map_excess};
 
 use std::alloc::Global;
 use vms_check::least_absent;
@@ -93,11 +91,8 @@ struct Raise {
 
 // Checks whether the number in this cell of the device's image can have the raised value.
 fn admits(set: &DescSet, raise: Raise, image: &Image, cell: u32) -> bool
-    requires device { raise.device < length (described set.now).devices }
-    requires image { image.now ≡ default_at (described set.now) raise.device }
-    ensures admits { result ≡ admits (described set.now)
-        (device_at (described set.now) raise.device) raise.field cell raise.value }
-    ensures fits { OnTrue result (Fits image.now cell raise.value) }
+    requires { HasDefault set.now raise image.now }
+    ensures { Admits set.now raise image.now cell result }
 {
     if cell >= image.len() {
         return false;
@@ -118,10 +113,8 @@ pub(crate) fn raised_image(
     device: u32,
     excess: Excess,
 ) -> Result<Option<Image>, NoMemory>
-    requires device { device < length (described set.now).devices }
-    ensures { IfOk result (IsState (described set.now) device
-        (raised_image (described set.now) device
-        (device_at (described set.now) device) (as_excess excess))) }
+    requires { HasDevice set.now device }
+    ensures { IfOk result (IsRaised set.now device excess) }
 {
     let raise = Raise {
         device,
@@ -141,10 +134,8 @@ fn raised_cell(
     raise: Raise,
     cell: u32,
 ) -> Result<Option<Image>, NoMemory>
-    requires device { raise.device < length (described set.now).devices }
-    ensures { IfOk result (IsState (described set.now) raise.device
-        (raised_cell (described set.now)
-        (device_at (described set.now) raise.device) raise.field raise.value (Some cell))) }
+    requires { HasDevice set.now raise.device }
+    ensures { IfOk result (IsRaisedAt set.now raise cell) }
 {
     let mut image = Image::new(alloc, set, raise.device)?;
     if !admits(set, raise, &image, cell) {

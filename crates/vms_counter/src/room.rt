@@ -2,12 +2,9 @@
 ghost use Rattle.std.specs.Prelude.{◌≡◌, ◌+◌, map, length, IfOk};
 ghost use Rattle.vms_parts.specs.Sizes.{in_u32};
 ghost use Rattle.vms_parts.specs.Views.{desc_of, device_of, field_of, sub_of};
-ghost use Rattle.vms_desc.specs.Described.{described};
 ghost use Rattle.vms_load.specs.Bounds.{item_bytes, fields_bytes, struct_bytes};
-ghost use Rattle.vms_load.specs.Staging.{devices_most};
-ghost use Rattle.vms_counter.specs.Found.{HasRoom};
+ghost use Rattle.vms_counter.specs.Calls.{IsRoomOf};
 ghost use Rattle.vms_counter.specs.Room.{device_in, devices_in, subs_in};
-ghost use Rattle.vms_marks.specs.declared.stream_head.TheConstants.{BESIDE_SECTIONS};
 
 use std::alloc::{AllocError, Global};
 use vms_desc::{Desc, DescSet, Device, Field, Sub};
@@ -132,9 +129,7 @@ fn struct_bytes(alloc: Global, structs: &[Desc]) -> Result<Vec<u32>, AllocError>
 ///
 /// [`NoMemory`] if memory runs out.
 pub(crate) fn room(alloc: Global, set: &DescSet) -> Result<u32, NoMemory>
-    ensures bytes { IfOk result (λ room.
-        room ≡ BESIDE_SECTIONS + devices_most (described set.now) (described set.now).devices) }
-    ensures room { IfOk result (HasRoom (described set.now)) }
+    ensures { IsRoomOf set.now result }
 {
     let structs = struct_bytes(alloc, set.parts().structs.as_slice())?;
     Ok(BESIDE_SECTIONS as u32 + all_bytes(&structs, set.parts().devices.as_slice()))

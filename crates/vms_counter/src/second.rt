@@ -1,11 +1,6 @@
 // The second candidate.
-ghost use Rattle.std.specs.Prelude.{◌<◌, length, IfOk, Some};
-ghost use Rattle.std.specs.List.{slice_get};
-ghost use Rattle.vms_desc.specs.Described.{described, device_at};
-ghost use Rattle.vms_image.specs.Typed.{state_of, IsImageOf};
-ghost use Rattle.vms_counter_laws.specs.Candidates.{default_images, raised, raised_fields, raised_image, with_image};
-ghost use Rattle.vms_counter.specs.Found.{AreStates};
-ghost use Rattle.vms_counter.specs.Raising.{as_excess, IsExcess};
+ghost use Rattle.std.specs.Prelude.{IfOk};
+ghost use Rattle.vms_counter.specs.Calls.{AreRaised, AreRaisedFor, AreWithImage, AreWithRaised, HasDevice, HasImage, IsExcessFor};
 
 use crate::raising::{Counting, Excess, find_excess, raised_image};
 use std::alloc::Global;
@@ -33,8 +28,7 @@ pub(crate) fn raised(
     new: &DescSet,
     mismatch: &Mismatch,
 ) -> Result<Option<Vec<Image>>, NoMemory>
-    ensures { IfOk result (AreStates (described old.now)
-        (raised (described old.now) (described new.now) mismatch.now)) }
+    ensures { IfOk result (AreRaised old.now new.now mismatch.now) }
 {
     if mismatch.rule != 11 {
         return Ok(None);
@@ -63,10 +57,7 @@ fn raised_fields(
     older: DeviceField,
     newer: DeviceField,
 ) -> Result<Option<Vec<Image>>, NoMemory>
-    ensures { IfOk result (AreStates (described old.now)
-        (raised_fields (described old.now) older.device
-        (slice_get (described old.now).devices older.device) older.field
-        (slice_get (described new.now).devices newer.device) newer.field)) }
+    ensures { IfOk result (AreRaisedFor old.now new.now older newer) }
 {
     match excess_at(old, new, older, newer) {
         None => Ok(None),
@@ -76,10 +67,7 @@ fn raised_fields(
 
 // Returns the counting field and the capacity for the two fields, if they exist.
 fn excess_at(old: &DescSet, new: &DescSet, older: DeviceField, newer: DeviceField) -> Option<Excess>
-    ensures { IsExcess (described old.now) older.device
-        (raised_fields (described old.now) older.device
-        (slice_get (described old.now).devices older.device) older.field
-        (slice_get (described new.now).devices newer.device) newer.field) result }
+    ensures { IsExcessFor old.now new.now older newer result }
 {
     let d = old.parts().devices.as_slice().get(older.device as usize)?;
     let e = new.parts().devices.as_slice().get(newer.device as usize)?;
@@ -102,11 +90,8 @@ fn with_raised(
     device: u32,
     excess: Excess,
 ) -> Result<Option<Vec<Image>>, NoMemory>
-    requires { device < length (described set.now).devices }
-    ensures { IfOk result (AreStates (described set.now)
-        (with_image (default_images (described set.now)) device
-        (raised_image (described set.now) device
-        (device_at (described set.now) device) (as_excess excess)))) }
+    requires { HasDevice set.now device }
+    ensures { IfOk result (AreWithRaised set.now device excess) }
 {
     match raised_image(alloc, set, device, excess)? {
         None => Ok(None),
@@ -120,10 +105,8 @@ fn put_image(
     device: u32,
     image: Image,
 ) -> Result<Option<Vec<Image>>, NoMemory>
-    requires device { device < length (described set.now).devices }
-    requires image { IsImageOf (described set.now) device image }
-    ensures { IfOk result (AreStates (described set.now)
-        (with_image (default_images (described set.now)) device (Some (state_of image)))) }
+    requires { HasImage set.now device image }
+    ensures { IfOk result (AreWithImage set.now device image) }
 {
     let mut images = default_images(alloc, set)?;
     images[device as usize] = image;

@@ -1,12 +1,6 @@
 // A state is tried: its stream is written to memory and read by a loader.
-ghost use Rattle.std.specs.Prelude.{◌≡◌, ◌<◌, length, map, None, IfSome, IfOk};
-ghost use Rattle.vms_spec.specs.Lists.{at_option};
-ghost use Rattle.vms_spec.specs.Streams.{written, AreReady};
-ghost use Rattle.vms_desc.specs.Described.{described};
-ghost use Rattle.vms_image.specs.Typed.{state_of, AreImagesOf};
-ghost use Rattle.vms_load.specs.Kept.{loads};
-ghost use Rattle.vms_counter.specs.Found.{HasRoom};
-ghost use Rattle.vms_counter.specs.Trying.{Tries, IsRefused, IsTaken};
+ghost use Rattle.std.specs.Prelude.{◌≡◌, IfOk};
+ghost use Rattle.vms_counter.specs.Calls.{CanStream, CanTry, ReadsBytes, TriesOn, stream_in};
 
 use std::alloc::Global;
 use vms_check::Mismatch;
@@ -31,16 +25,8 @@ pub(crate) struct Trial<'a> {
 
 // Returns the stream of these images. The room is always enough.
 fn stream_of(alloc: Global, trial: &Trial, images: &[Image]) -> Result<Vec<u8>, NoMemory>
-    requires machine { IfSome trial.now.machine (λ m.
-        m < length (described trial.now.old.now).machines) }
-    requires of { AreImagesOf (described trial.now.old.now) images.now }
-    requires ready { AreReady (described trial.now.old.now) (map state_of images.now) }
-    requires room { let old = described trial.now.old.now in
-        let named = at_option old.machines trial.now.machine in
-        length (written old named (map state_of images.now) None) < trial.now.room }
-    ensures { let old = described trial.now.old.now in
-        let named = at_option old.machines trial.now.machine in IfOk result (λ stream.
-        stream.items ≡ written old named (map state_of images.now) None) }
+    requires { CanStream trial.now images.now }
+    ensures { IfOk result (λ stream. stream.items ≡ stream_in trial.now images.now) }
 {
     let mut sink = MemSink::new(alloc, trial.room, Vec::new(alloc))?;
     match write_stream(trial.old, trial.machine, images, None, &mut sink) {
@@ -52,9 +38,7 @@ fn stream_of(alloc: Global, trial: &Trial, images: &[Image]) -> Result<Vec<u8>, 
 
 // Returns where a loader refuses these bytes, if it does.
 fn refusal_in(alloc: Global, bytes: Vec<u8>, new: &mut Loader) -> Option<Refusal>
-    ensures refused { IfSome result (IsRefused (loads new.old) bytes.items) }
-    ensures taken { result ≡ None → IsTaken (loads new.old) bytes.items }
-    ensures set { loads new.new ≡ loads new.old }
+    ensures { ReadsBytes new.old new.new bytes.items result }
 {
     let mut source = MemSource::new(bytes, Vec::new(alloc), Vec::new(alloc));
     match new.load(&mut source, None) {
@@ -76,14 +60,8 @@ pub(crate) fn tried(
     images: &[Image],
     new: &mut Loader,
 ) -> Result<Option<Refusal>, NoMemory>
-    requires machine { IfSome trial.now.machine (λ m.
-        m < length (described trial.now.old.now).machines) }
-    requires of { AreImagesOf (described trial.now.old.now) images.now }
-    requires room { HasRoom (described trial.now.old.now) trial.now.room }
-    ensures tries { let old = described trial.now.old.now in
-        let named = at_option old.machines trial.now.machine in
-        IfOk result (Tries old (loads new.old) named (map state_of images.now)) }
-    ensures set { loads new.new ≡ loads new.old }
+    requires { CanTry trial.now images.now }
+    ensures { TriesOn trial.now images.now new.old new.new result }
 {
     if !are_ready(trial.old, images) {
         return Ok(None);

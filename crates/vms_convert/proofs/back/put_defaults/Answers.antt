@@ -10,18 +10,17 @@ overflow_add-end c =
 pub loop-cell-init : goal.loop-cell-init
 loop-cell-init c = record { rest = refl; put = record { long = refl; inside = λ k low lt. absurd (omega arith); below = λ k lt. refl; above = λ k le. refl } }
 
-pub put_default-requires-clause-cell : goal.put_default-requires-clause-cell
-put_default-requires-clause-cell c =
-    let set = described c.args.set.now in
-    omega (arith, sub_inside set c.args.device c.args.sub c.requires.sub)
-
-pub put_default-requires-clause-of : goal.put_default-requires-clause-of
-put_default-requires-clause-of c =
+pub put_default-requires : goal.put_default-requires
+put_default-requires c =
     let rest = c.loop-cell.invariant.rest in
     record {
-      subs = rw rest (c.requires.of.subs);
-      cells = c.loop-cell.invariant.put.long ∙ c.requires.of.cells;
-      kinds = rw rest (c.requires.of.kinds);
+      device = c.requires.device;
+      cell = omega (arith, sub_inside (described c.args.set.now) c.args.device c.args.sub c.requires.sub);
+      of = record {
+        subs = rw rest (c.requires.of.subs);
+        cells = c.loop-cell.invariant.put.long ∙ c.requires.of.cells;
+        kinds = rw rest (c.requires.of.kinds);
+      };
     }
 
 pub loop-cell-preserved : goal.loop-cell-preserved
@@ -36,9 +35,12 @@ loop-cell-preserved c =
           c.loop-cell.auto.cell);
     }
 
-pub returns-clause-puts : goal.returns-clause-puts
-returns-clause-puts c =
+pub returns : goal.returns
+returns c =
     let set = described c.args.set.now in
     let few = few_cells set c.args.set.now.well_formed c.args.device in
-    put_all set c.args.device c.args.sub c.first_cell-first.result c.loop-cell.cell c.args.image.now.numbers c.loop-cell.image.numbers
-    c.first_cell-first.ensures (omega (arith, sub_inside set c.args.device c.args.sub c.requires.sub)) c.loop-cell.invariant.put
+    record {
+      puts = put_all set c.args.device c.args.sub c.first_cell-first.result c.loop-cell.cell c.args.image.now.numbers c.loop-cell.image.numbers
+          c.first_cell-first.ensures (omega (arith, sub_inside set c.args.device c.args.sub c.requires.sub)) c.loop-cell.invariant.put;
+      rest = c.loop-cell.invariant.rest;
+    }

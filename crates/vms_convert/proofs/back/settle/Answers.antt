@@ -16,6 +16,9 @@ loop-sub-preserved c =
           c.settle_sub.ensures;
     }
 
-pub returns-clause-settled : goal.returns-clause-settled
-returns-clause-settled c =
-    all_settled (described c.args.set.now) _ c.args.image.now.numbers c.loop-sub.image.numbers c.loop-sub.sub (omega arith) c.loop-sub.invariant.settled
+pub returns : goal.returns
+returns c = record {
+  settled = all_settled (described c.args.set.now) _ c.args.image.now.numbers c.loop-sub.image.numbers c.loop-sub.sub (omega arith)
+      c.loop-sub.invariant.settled;
+  rest = c.loop-sub.invariant.rest;
+}

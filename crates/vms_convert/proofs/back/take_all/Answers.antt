@@ -10,7 +10,7 @@ take_part-requires-clause-part c =
     let set = described c.args.set.now in
     let n = c.args.image.now.numbers in
     let cells = device_cells set (device_at set c.args.device) in
-    let long : length n ≡ length cells = rw (c.requires.image) (length-map cells (λ (x : Cell). x.default)) in
+    let long : length n ≡ length cells = rw (c.requires.fresh) (length-map cells (λ (x : Cell). x.default)) in
     rw c.whole_part-own.ensures (own_spot set c.args.device c.requires.device c.args.set.now.well_formed n long)
 
 pub loop-sub-init : goal.loop-sub-init
@@ -23,8 +23,8 @@ loop-sub-init c =
     record {
       rest = put_rest before before now _ refl c.take_part.ensures;
       first = took_own set c.args.device c.requires.device (good_of set c.args.set.now.well_formed c.args.set.now.heads) c.args.partners.now source now.numbers
-          (rw (c.whole_part-own.ensures, c.requires.image) at (ap (λ x. x.numbers) c.take_part.ensures));
-      long = (takes_keeps c.args.partners.now source steps before now c.take_part.ensures).long ∙ ap (λ (x : Typed). length x.numbers) c.requires.image
+          (rw (c.whole_part-own.ensures, c.requires.fresh) at (ap (λ x. x.numbers) c.take_part.ensures));
+      long = (takes_keeps c.args.partners.now source steps before now c.take_part.ensures).long ∙ ap (λ (x : Typed). length x.numbers) c.requires.fresh
           ∙ length-map (device_cells set (device_at set c.args.device)) (λ (x : Cell). x.default);
     }
 
@@ -51,9 +51,12 @@ loop-sub-preserved c =
       long = (takes_keeps ps source (steps_of (spot_slots set c.whole_part-part.result now.numbers)) c.loop-sub.image now put).long ∙ c.loop-sub.invariant.long;
     }
 
-pub returns-clause-taken : goal.returns-clause-taken
-returns-clause-taken c =
+pub returns : goal.returns
+returns c =
     let set = described c.args.set.now in
     let good : IsGood set = good_of set c.args.set.now.well_formed c.args.set.now.heads in
-    took_all set c.args.device c.requires.device good c.args.partners.now c.args.source.now.numbers c.loop-sub.image.numbers c.loop-sub.sub
-    (omega arith) c.loop-sub.invariant.first c.loop-sub.invariant.long
+    record {
+      taken = took_all set c.args.device c.requires.device good c.args.partners.now c.args.source.now.numbers c.loop-sub.image.numbers c.loop-sub.sub
+          (omega arith) c.loop-sub.invariant.first c.loop-sub.invariant.long;
+      rest = c.loop-sub.invariant.rest;
+    }

@@ -40,17 +40,16 @@ returns-in_err-machine g c =
     subst (λ s. ConvertsKept to s (name_of s c.args.machine) images empty empty c.from_residual.result) c.requires.newest
     (rw (p.1, p.2) (record { backs = map state_of typed; back = back; loses = c.in_err-machine.ensures }, refl))
 
-pub write_back-requires-clause-of : goal.write_back-requires-clause-of
-write_back-requires-clause-of g c =
-    let p = goal.at.write_back-requires-clause-of g c in
-    rw (same g p.After-deref-2, images_are g p.After-deref) (record { one_each = c.return_all-lost.ensures.count; each = c.return_all-lost.ensures.of })
-
-pub write_back-requires-clause-ready : goal.write_back-requires-clause-ready
-write_back-requires-clause-ready g c =
-    let p = goal.at.write_back-requires-clause-ready g c in
-    rw (same g p.After-deref-2)
-    (ready_back (described c.args.to.now) (loads c.args.loader.now) (has c.args.loader.now) c.deref.result.now c.return_all-lost.result
-    (came g p.After-deref) c.in_ok-machine.ensures.0.valid)
+pub write_back-requires : goal.write_back-requires
+write_back-requires g c =
+    let p = goal.at.write_back-requires g c in
+    let back = ready_back (described c.args.to.now) (loads c.args.loader.now) (has c.args.loader.now) c.deref.result.now c.return_all-lost.result
+    (came g p.After-deref) c.in_ok-machine.ensures.0.valid in
+    record {
+      machine = c.in_ok-machine.ensures.1.inside;
+      of = rw (same g p.After-deref-2, images_are g p.After-deref) (record { one_each = c.return_all-lost.ensures.count; each = c.return_all-lost.ensures.of });
+      ready = rw (same g p.After-deref-2) back;
+    }
 
 pub returns-in_err-write_back : goal.returns-in_err-write_back
 returns-in_err-write_back g c =

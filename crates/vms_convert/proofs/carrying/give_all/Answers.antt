@@ -1,4 +1,4 @@
-use Rattle.vms_convert.proofs.Facade.{◌<◌, List, ℤ, length, refl, ap, ◌∙◌, arith, described, device_at, state_of, steps_of, own_part}
+use Rattle.vms_convert.proofs.Facade.{◌<◌, List, ℤ, length, refl, ap, ◌∙◌, arith, described, device_at, state_of, steps_of}
 use Rattle.vms_convert.proofs.BringLaws.{own_spot, gave_all, gave_own, gave_sub}
 use Rattle.vms_convert.proofs.TakeLaws.{first_slots, put_rest}
 use Rattle.vms_convert.proofs.BackNormal.{steps_long}
@@ -15,15 +15,18 @@ loop-sub-init c =
     c.args.gift.partners.now c.args.target.now.numbers in
     rw (c.own_part.ensures, given) at c.give_part.ensures
 
-pub give_sub-requires-clause-targets : goal.give_sub-requires-clause-targets
-give_sub-requires-clause-targets c = rw c.loop-sub.invariant c.requires.targets
-
-pub give_sub-requires-clause-kinds : goal.give_sub-requires-clause-kinds
-give_sub-requires-clause-kinds c =
+pub give_sub-requires : goal.give_sub-requires
+give_sub-requires c =
     let set = described c.args.set.now in
     let image = c.args.gift.image.now in
     let steps = steps_of (first_slots set (device_at set c.args.device) image.came c.loop-sub.sub image.numbers) in
-    rw (c.loop-sub.invariant, steps_long c.args.gift.partners.now image.numbers steps c.args.target.now.numbers) c.requires.kinds
+    let kinds = rw (c.loop-sub.invariant, steps_long c.args.gift.partners.now image.numbers steps c.args.target.now.numbers) c.requires.may.kinds in
+    record {
+      device = c.requires.device;
+      sub = omega arith;
+      of = c.requires.of;
+      may = record { targets = rw c.loop-sub.invariant c.requires.may.targets; kinds = kinds };
+    }
 
 pub loop-sub-preserved : goal.loop-sub-preserved
 loop-sub-preserved c =

@@ -1,4 +1,4 @@
-use Rattle.vms_convert.proofs.Facade.{map, ◌∙◌, ◌≡◌, Some, slice_get, OnTrue_at, OnTrue_from, OnFalse_at, OnFalse_from, IsReady, described, device_at, state_of}
+use Rattle.vms_convert.proofs.Facade.{map, ◌∙◌, ◌≡◌, rules, Some, slice_get, OnTrue_at, OnTrue_from, OnFalse_at, OnFalse_from, IsReady, described, device_at, state_of}
 use Rattle.vms_convert.proofs.Facade.{at_state, IsValidAt, device_below, find_device, image_at}
 use Rattle.vms_convert.proofs.JudgeLaws.{invalid_of, own_bound, searched_by, valid_none, valid_of}
 use Rattle.vms_convert.proofs.losing.is_valid.Goals.{After-index-images-own, In-Some}
@@ -48,7 +48,9 @@ returns-in-Some c =
           (OnFalse_at {P = IsReady to (device_at to own) (state_of image) → ⊥} e c.ready.ensures.other));
     }
 
-pub returns-in-None-clause-valid : goal.returns-in-None-clause-valid
-returns-in-None-clause-valid c =
-    valid_none (described c.args.to.now) (described c.args.newest.now) c.args.images.now c.requires.writable c.args.device
-    (searched_by _ _ _ _ _ c.device-described.ensures c.as_bytes.ensures c.find.ensures ∙ c.in-None.is)
+pub returns-in-None : goal.returns-in-None
+returns-in-None c = record {
+  valid = valid_none (described c.args.to.now) (described c.args.newest.now) c.args.images.now c.requires.writable c.args.device
+      (searched_by _ _ _ _ _ c.device-described.ensures c.as_bytes.ensures c.find.ensures ∙ c.in-None.is);
+  other = search rules;
+}

@@ -13,7 +13,8 @@ pair_descs-loop-number-init t c = record { start = record { inside = omega arith
 
 pub pair_descs-pair_field-requires : goal.pair_descs-pair_field-requires
 pair_descs-pair_field-requires t c =
-    (search rules, (c.requires.old, (c.requires.new, ((omega arith), (c.loop-number.invariant.few, c.loop-number.invariant.start)))))
+    let h = c.loop-number.invariant in
+    (search rules, record { old = c.requires.old; new = c.requires.new; field = omega arith; few = h.few; start = h.start })
 
 pub pair_descs-loop-number-preserved : goal.pair_descs-loop-number-preserved
 pair_descs-loop-number-preserved t c =
@@ -88,16 +89,12 @@ pair_structs-pair_descs-requires t c =
     let less : 7 * reach (described c.at_own_version.result.set.now) c.at_own_version.result.part + 6 < 7 * c.args.in_old + 7 =
     rw c.at_own_version.ensures (omega arith) in (
       search rules,
-      (
-        rw c.at_own_version.ensures c.requires.old,
-        (
-          rw c.at_own_version-2.ensures c.requires.new,
-          (
-            subst (λ x. HasFew x 0) (sym c.at_own_version.ensures) (few_struct c.args.sets.old c.args.in_old c.requires.few),
-            rw c.at_own_version-2.ensures (room_struct c.args.sets.new c.args.in_new c.args.cell c.requires.room),
-          ),
-        ),
-      ),
+      record {
+        old = rw c.at_own_version.ensures c.requires.old;
+        new = rw c.at_own_version-2.ensures c.requires.new;
+        few = subst (λ x. HasFew x 0) (sym c.at_own_version.ensures) (few_struct c.args.sets.old c.args.in_old c.requires.few);
+        room = rw c.at_own_version-2.ensures (room_struct c.args.sets.new c.args.in_new c.args.cell c.requires.room);
+      },
     )
 
 pub pair_structs-returns : goal.pair_structs-returns

@@ -31,12 +31,15 @@ find_sub-requires c =
 pub first_cell-requires : goal.first_cell-requires
 first_cell-requires c = (c.requires.new, inside (goal.at.first_cell-requires c).In-Some)
 
-pub pair_descs-requires-clause-new : goal.pair_descs-requires-clause-new
-pair_descs-requires-clause-new c = (c.requires.new, inside (goal.at.pair_descs-requires-clause-new c).In-Some)
-
-pub pair_descs-requires-clause-room : goal.pair_descs-requires-clause-room
-pair_descs-requires-clause-room c =
-    omega (arith, room_sub c.args.new c.args.in_new c.in-Some.found (inside (goal.at.pair_descs-requires-clause-room c).In-Some))
+pub pair_descs-requires : goal.pair_descs-requires
+pair_descs-requires c =
+    let inside = inside (goal.at.pair_descs-requires c).In-Some in
+    record {
+      old = c.requires.older;
+      new = (c.requires.new, inside);
+      few = c.requires.few;
+      room = omega (arith, room_sub c.args.new c.args.in_new c.in-Some.found inside);
+    }
 
 pub returns-in-Some : goal.returns-in-Some
 returns-in-Some c =

@@ -1,4 +1,4 @@
-use Rattle.vms_convert.proofs.Facade.{fit_of, described, well_of, loads}
+use Rattle.vms_convert.proofs.Facade.{ap, rules, fit_of, described, well_of, loads}
 use Rattle.vms_convert.proofs.Converts.{IsReturning, back_of, given_is, given_long, sources_of, targets_of}
 use Rattle.vms_convert.proofs.returning.return_device.Goals.{Start}
 use Rattle.vms_convert.proofs.returning.return_device.Goals as goal
@@ -15,14 +15,23 @@ returning c =
       kinds = c.requires.kinds;
     }
 
-pub come_back-requires-clause-sources : goal.come_back-requires-clause-sources
-come_back-requires-clause-sources c =
-    sources_of _ _ _ _ _ (returning (goal.at.come_back-requires-clause-sources c).Start) c.args.partners.now c.requires.partners
+pub come_back-requires : goal.come_back-requires
+come_back-requires c = record {
+  device = c.requires.device;
+  sources = rw c.requires.fresh (sources_of _ _ _ _ _ (returning (goal.at.come_back-requires c).Start) c.args.partners.now c.requires.partners);
+  fresh = c.requires.fresh;
+}
 
-pub give_all-requires-clause-targets : goal.give_all-requires-clause-targets
-give_all-requires-clause-targets c =
-    targets_of _ _ _ _ _ (returning (goal.at.give_all-requires-clause-targets c).Start) c.args.partners.now c.requires.partners
-    c.come_back.new.image c.come_back.ensures.back c.args.carried.now c.requires.empty
+pub give_all-requires : goal.give_all-requires
+give_all-requires c =
+    let targets = targets_of _ _ _ _ _ (returning (goal.at.give_all-requires c).Start) c.args.partners.now c.requires.partners
+    c.come_back.new.image c.come_back.ensures.back c.args.carried.now c.requires.empty in
+    record {
+      device = c.requires.device;
+      of = c.come_back.ensures.of;
+      version = ap (λ x. x.version) c.come_back.ensures.back.is;
+      may = record { targets = targets; kinds = search rules };
+    }
 
 pub first_difference-requires : goal.first_difference-requires
 first_difference-requires c =

@@ -9,17 +9,17 @@ loop-device-init c = midway_first (described c.args.to.now) (loads c.args.loader
 inside : (c : After-index-images-device) → c.loop-device.device < length c.loop-device.routes
 inside c = omega arith
 
-pub return_at-cell-requires-clause-route : goal.return_at-cell-requires-clause-route
-return_at-cell-requires-clause-route c =
+pub return_at-cell-requires : goal.return_at-cell-requires
+return_at-cell-requires c =
     let n = c.loop-device.device in
-    c.loop-device.invariant.routes_are n _ (omega arith)
-    (slice_get-get_or c.loop-device.routes n c.index-routes-device.result
-    (inside (goal.at.return_at-cell-requires-clause-route c).After-index-images-device))
-
-pub return_at-cell-requires-clause-fresh : goal.return_at-cell-requires-clause-fresh
-return_at-cell-requires-clause-fresh c =
-    let n = c.loop-device.device in
-    c.loop-device.invariant.fresh n _ (omega arith) (slice_get-get_or c.loop-device.images n c.index-images-device.result (omega arith))
+    let inside = inside (goal.at.return_at-cell-requires c).After-index-images-device in
+    record {
+      newest = c.requires.newest;
+      kept = c.requires.kept;
+      device = omega arith;
+      route = c.loop-device.invariant.routes_are n _ (omega arith) (slice_get-get_or c.loop-device.routes n c.index-routes-device.result inside);
+      fresh = c.loop-device.invariant.fresh n _ (omega arith) (slice_get-get_or c.loop-device.images n c.index-images-device.result (omega arith));
+    }
 
 pub loop-device-preserved : goal.loop-device-preserved
 loop-device-preserved c =

@@ -1,4 +1,4 @@
-use Rattle.vms_convert.proofs.Facade.{◌≡◌, ◌<◌, Some, length, ap, arith, length-map, slice_get_within, slice_get, described, state_of, at_state, image_at, has}
+use Rattle.vms_convert.proofs.Facade.{◌≡◌, ◌<◌, rules, Some, length, ap, arith, length-map, slice_get_within, slice_get, described, state_of, at_state, image_at, has}
 use Rattle.vms_convert.proofs.Facade.{loads}
 use Rattle.vms_convert.proofs.LostLaws.{recast_for, wanted_is}
 use Rattle.vms_convert.proofs.returns.return_at.Goals.{After-index-images-pair, Start}
@@ -16,11 +16,17 @@ kept_at c =
     let within : k < length images = omega (arith, length-map images state_of, ap length c.images.ensures.images) in
     rw (← c.images.ensures.images) (at_state images k c.index-images-pair.result (image_at images k c.index-images-pair.result within c.index-images-pair.is))
 
-pub return_image-requires-clause-recast : goal.return_image-requires-clause-recast
-return_image-requires-clause-recast c =
-    let p = goal.at.return_image-requires-clause-recast c in
-    recast_for (described c.args.pair.to.now) (loads c.args.pair.loader.now) c.requires.newest (has c.args.pair.loader.now) c.requires.kept c.args.pair.other
-    (inside p.Start) (state_of c.index-images-pair.result) (kept_at p.After-index-images-pair)
+pub return_image-requires : goal.return_image-requires
+return_image-requires c =
+    let p = goal.at.return_image-requires c in
+    record {
+      device = c.requires.device;
+      route = c.requires.route;
+      of = search rules;
+      recast = recast_for (described c.args.pair.to.now) (loads c.args.pair.loader.now) c.requires.newest (has c.args.pair.loader.now) c.requires.kept
+          c.args.pair.other (inside p.Start) (state_of c.index-images-pair.result) (kept_at p.After-index-images-pair);
+      fresh = c.requires.fresh;
+    }
 
 pub returns : goal.returns
 returns c =

@@ -13,16 +13,12 @@ overflow_add-result c =
     (ap (map device_of) c.as_slice-2.ensures ∙ ap (λ (s : Set). s.devices) c.parts-2.ensures))).1 in
     omega (arith, few)
 
-pub returns-clause-bytes : goal.returns-clause-bytes
-returns-clause-bytes c =
+pub returns : goal.returns
+returns c =
     let set = c.args.set.now in
-    ap (λ (n : ℕ). BESIDE_SECTIONS + n) (sections_are (described set) set.well_formed c.all_bytes.result
+    let bytes = ap (λ (n : ℕ). BESIDE_SECTIONS + n) (sections_are (described set) set.well_formed c.all_bytes.result
     (read_bytes (described set) c.as_slice.result.now c.as_slice-2.result.now c.deref.result.now c.in_ok-structs.structs.items c.all_bytes.result
     c.all_bytes.ensures c.deref.ensures.value c.in_ok-structs.ensures
     (ap (map desc_of) c.as_slice.ensures ∙ ap (λ (s : Set). s.structs) c.parts.ensures)
-    (ap (map device_of) c.as_slice-2.ensures ∙ ap (λ (s : Set). s.devices) c.parts-2.ensures))).0
-
-pub returns-clause-room : goal.returns-clause-room
-returns-clause-room c =
-    let set = c.args.set.now in
-    rw (returns-clause-bytes c) (has_room (described set) set.well_formed)
+    (ap (map device_of) c.as_slice-2.ensures ∙ ap (λ (s : Set). s.devices) c.parts-2.ensures))).0 in
+    record { bytes = bytes; room = rw bytes (has_room (described set) set.well_formed) }

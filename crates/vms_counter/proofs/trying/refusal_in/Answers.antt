@@ -1,9 +1,9 @@
-use Rattle.vms_counter.proofs.Facade.{List, ℕ, Ok, Err, ap, subst, name_of, Fault, Takes, well_of, Supply, bytes_left, IsBytes, never_both_holds, content}
+use Rattle.vms_counter.proofs.Facade.{List, ℕ, rules, Ok, Err, ap, subst, name_of, Fault, Takes, well_of, Supply, bytes_left, IsBytes, never_both_holds, content}
 use Rattle.vms_counter.proofs.Facade.{loads, kept, taken_by}
 use Rattle.vms_counter.proofs.trying.refusal_in.Goals as goal
 
-pub returns-in-Err-Refused-clause-refused : goal.returns-in-Err-Refused-clause-refused
-returns-in-Err-Refused-clause-refused c =
+pub returns-in-Err-Refused : goal.returns-in-Err-Refused
+returns-in-Err-Refused c =
     let source = c.new-source.result in
     let ok = subst IsBytes (ap (λ (s : Supply). s.left) c.new-source.ensures) (bytes_left source.bytes.items source.at source.octets) in
     let set = loads c.args.new.now in
@@ -14,21 +14,29 @@ returns-in-Err-Refused-clause-refused c =
     let fault =
     subst (λ (l : List ℕ). Fault set set.machines l r.at r.section r.reason content.0) (ap (λ (s : Supply). s.left) c.new-source.ensures) content.1 in
     record {
-      size = content.0;
-      fault = fault;
-      untaken = λ n machine states t.
-          never_both_holds set set.machines
-          (well_of set c.args.new.now.set.well_formed) c.args.new.now.set.heads bytes ok n machine states r.at r.section r.reason content.0 t fault;
+      refused = record {
+        size = content.0;
+        fault = fault;
+        untaken = λ n machine states t.
+            never_both_holds set set.machines
+            (well_of set c.args.new.now.set.well_formed) c.args.new.now.set.heads bytes ok n machine states r.at r.section r.reason content.0 t fault;
+      };
+      taken = λ none. absurd (cc);
+      set = c.in-Err-Refused.ensures.set;
     }
 
-pub returns-in-Ok-clause-taken : goal.returns-in-Ok-clause-taken
-returns-in-Ok-clause-taken c = λ none.
+pub returns-in-Ok : goal.returns-in-Ok
+returns-in-Ok c =
     let set = loads c.args.new.now in
     let said = content set set.machines (kept c.load.new.self) (taken_by c.load.new.self) (Ok c.in-Ok.field-0) c.in-Ok.ensures.reads in
     record {
-      taken = taken_by c.load.new.self;
-      machine = name_of set c.in-Ok.field-0;
-      states = kept c.load.new.self;
-      takes = subst (λ (l : List ℕ). Takes set set.machines l (taken_by c.load.new.self) (name_of set c.in-Ok.field-0) (kept c.load.new.self))
-          (ap (λ (s : Supply). s.left) c.new-source.ensures) said.0;
+      refused = search rules;
+      taken = λ none. record {
+        taken = taken_by c.load.new.self;
+        machine = name_of set c.in-Ok.field-0;
+        states = kept c.load.new.self;
+        takes = subst (λ (l : List ℕ). Takes set set.machines l (taken_by c.load.new.self) (name_of set c.in-Ok.field-0) (kept c.load.new.self))
+            (ap (λ (s : Supply). s.left) c.new-source.ensures) said.0;
+      };
+      set = c.in-Ok.ensures.set;
     }
