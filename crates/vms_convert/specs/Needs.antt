@@ -4,8 +4,6 @@ use Rattle.std.specs.Bool.{OnFalse, OnTrue}
 use Rattle.dev_base.specs.declared.limits.TheConstants.{NEWEST}
 use Rattle.vms_check.specs.Carrying.{carried}
 use Rattle.vms_check.specs.Comparing.{Compatible}
-use Rattle.vms_check.specs.Partners.{device_partners}
-use Rattle.vms_check_laws.specs.Pairing.{AreOfKinds}
 use Rattle.vms_desc.specs.Described.{described, device_at}
 use Rattle.vms_desc.specs.Formed.{shipped_set}
 use Rattle.vms_desc.specs.declared.set.DescSet.{DescSet}
@@ -14,7 +12,6 @@ use Rattle.vms_load.specs.Good.{AreKept}
 use Rattle.vms_load.specs.Lean.{has, loads}
 use Rattle.vms_load.specs.Staging.{IsMachine, name_of}
 use Rattle.vms_load.specs.declared.lean.LeanLoader.{LeanLoader}
-use Rattle.vms_spec.specs.Layout.{device_cells}
 use Rattle.vms_spec.specs.Streams.{AreReady}
 use Rattle.vms_convert.specs.Converted.{recast_each}
 use Rattle.vms_convert.specs.Losing.{AreWritable, FirstInvalid, Judges}
@@ -36,18 +33,7 @@ wanted_of to loader = recast_each (described to) (loads loader).devices (numbers
 -- ---- one device
 
 module _ (pair : Pair) where
-  -- The images and the partners are those of the pair's devices, and the images to be filled are default ones.
-  pub record CanReturn (source : Typed) (ps : List (Option ℕ)) (image there : Typed) : Type 0 where
-    pub device : pair.device < length (described pair.to.now).devices
-    pub other : pair.other < length (loads pair.loader.now).devices
-    pub of : IsImageOf (loads pair.loader.now) pair.other source
-    pub kinds : AreOfKinds (device_cells (loads pair.loader.now) (device_at (loads pair.loader.now) pair.other)) source.numbers
-    pub partners : ps ≡ device_partners (described pair.to.now) (loads pair.loader.now) (device_at (described pair.to.now) pair.device)
-        (device_at (loads pair.loader.now) pair.other)
-    pub fresh : image ≡ default_at (described pair.to.now) pair.device
-    pub empty : there ≡ default_at (loads pair.loader.now) pair.other
-
-  -- The same of a route, whose numbers may still be in the newest set's form.
+  -- The route and the image are those of the pair's devices. The numbers may still be in the newest set's form.
   pub record CanReturnImage (source : Typed) (r : Route) (image : Typed) : Type 0 where
     pub device : pair.device < length (described pair.to.now).devices
     pub route : IsRoute (described pair.to.now) (loads pair.loader.now) pair.device pair.other r

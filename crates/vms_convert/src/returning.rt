@@ -1,5 +1,12 @@
 // The image of an older set that one newer device becomes, and the first cell that it doesn't carry.
-ghost use Rattle.vms_convert.specs.Needs.{CanReturn, Returns};
+ghost use Rattle.std.specs.Prelude.{◌≡◌, ◌<◌, length};
+ghost use Rattle.vms_spec.specs.Layout.{device_cells};
+ghost use Rattle.vms_desc.specs.Described.{described, device_at};
+ghost use Rattle.vms_image.specs.Typed.{IsImageOf, default_at};
+ghost use Rattle.vms_check.specs.Partners.{device_partners};
+ghost use Rattle.vms_check_laws.specs.Pairing.{AreOfKinds};
+ghost use Rattle.vms_load.specs.Lean.{loads};
+ghost use Rattle.vms_convert.specs.Needs.{Returns};
 
 use crate::back::come_back;
 use crate::carrying::{first_difference, give_all};
@@ -28,7 +35,16 @@ pub(crate) fn return_device(
     image: &mut Image,
     carried: &mut Image,
 ) -> Option<u32>
-    requires { CanReturn pair source.now partners.now image.old carried.old }
+    requires device { pair.device < length (described pair.to.now).devices }
+    requires other { pair.other < length (loads pair.loader.now).devices }
+    requires of { IsImageOf (loads pair.loader.now) pair.other source.now }
+    requires kinds { let e = device_at (loads pair.loader.now) pair.other in
+        AreOfKinds (device_cells (loads pair.loader.now) e) source.now.numbers }
+    requires partners { let d = device_at (described pair.to.now) pair.device in
+        let e = device_at (loads pair.loader.now) pair.other in
+        partners.now ≡ device_partners (described pair.to.now) (loads pair.loader.now) d e }
+    requires fresh { image.old ≡ default_at (described pair.to.now) pair.device }
+    requires empty { carried.old ≡ default_at (loads pair.loader.now) pair.other }
     ensures { Returns pair.entry source.now.numbers image.new result }
 {
     come_back(pair.to, pair.device, source, partners, image);
