@@ -231,7 +231,7 @@ impl<'a> Laid<'a> {
     #[inline(always)]
     fn begin_members(&mut self, name: &'a str) -> Result<(), NoNode>
         ensures rows { OnOk result (self.new.rows.items
-            ≡ (self.old.rows.items ++ Row.Object 0 ∷ []) ++ Row.Key name ∷ []) }
+            ≡ (self.old.rows.items ++ Row.Object 0 ∷ []) ++ Row.Key name.entry ∷ []) }
         ensures begun { OnOk result (self.new.begun.items
             ≡ self.old.begun.items ++ length self.old.rows.items ∷ []) }
         ensures inside { OnOk result (self.new.in_list ≡ false) }
