@@ -20,12 +20,14 @@ give_sub-requires c =
     let set = described c.args.set.now in
     let image = c.args.gift.image.now in
     let steps = steps_of (first_slots set (device_at set c.args.device) image.came c.loop-sub.sub image.numbers) in
-    let kinds = rw (c.loop-sub.invariant, steps_long c.args.gift.partners.now image.numbers steps c.args.target.now.numbers) c.requires.may.kinds in
     record {
       device = c.requires.device;
       sub = omega arith;
       of = c.requires.of;
-      may = record { targets = rw c.loop-sub.invariant c.requires.may.targets; kinds = kinds };
+      may = record {
+        targets = rw c.loop-sub.invariant c.requires.may.targets;
+        kinds = rw (c.loop-sub.invariant, steps_long c.args.gift.partners.now image.numbers steps c.args.target.now.numbers) c.requires.may.kinds;
+      };
     }
 
 pub loop-sub-preserved : goal.loop-sub-preserved

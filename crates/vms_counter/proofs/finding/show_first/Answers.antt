@@ -9,6 +9,11 @@ returns-in-Some c =
     let images = map state_of c.in_ok-images.images.items in
     let r = c.in-Some.refusal in
     let named = c.requires.name in
-    let counters = rw named (first_found old new c.args.trial.now.mismatch c.requires.first images r c.in_ok-images.ensures.states
-    (tries_by old new _ _ c.deref.result.now _ _ (Some r) named c.deref.ensures.value c.in-Some.is c.in_ok-refusal.ensures.tries)) in
-    record { right = record { counters = counters; of = (c.requires.inside, c.in_ok-images.ensures.of) }; set = c.in_ok-refusal.ensures.set }
+    record {
+      right = record {
+        counters = rw named (first_found old new c.args.trial.now.mismatch c.requires.first images r c.in_ok-images.ensures.states
+            (tries_by old new _ _ c.deref.result.now _ _ (Some r) named c.deref.ensures.value c.in-Some.is c.in_ok-refusal.ensures.tries));
+        of = (c.requires.inside, c.in_ok-images.ensures.of);
+      };
+      set = c.in_ok-refusal.ensures.set;
+    }

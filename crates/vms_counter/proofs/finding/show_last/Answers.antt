@@ -7,14 +7,24 @@ returns-in-Some c =
     let t = c.requires.failed.shared in
     let m = c.args.trial.now.mismatch in
     let r = c.in-Some.refusal in
-    let counters = rw t.name (second_found (described c.args.trial.now.old.now) (loads c.args.new.now) m t.first _ r c.requires.failed.first c.requires.second
-    (tries_by _ _ _ _ c.deref.result.now c.args.images.items _ (Some r) t.name c.deref.ensures.value c.in-Some.is c.in_ok-refusal.ensures.tries)) in
-    record { right = record { counters = counters; of = (t.inside, c.requires.of) }; set = c.in_ok-refusal.ensures.set }
+    record {
+      right = record {
+        counters = rw t.name (second_found (described c.args.trial.now.old.now) (loads c.args.new.now) m t.first _ r c.requires.failed.first c.requires.second
+            (tries_by _ _ _ _ c.deref.result.now c.args.images.items _ (Some r) t.name c.deref.ensures.value c.in-Some.is c.in_ok-refusal.ensures.tries));
+        of = (t.inside, c.requires.of);
+      };
+      set = c.in_ok-refusal.ensures.set;
+    }
 
 pub returns-in-None : goal.returns-in-None
 returns-in-None c =
     let t = c.requires.failed.shared in
-    let counters = neither_found (described c.args.trial.now.old.now)
-    (loads c.args.new.now) c.args.trial.now.mismatch t.first _ c.requires.failed.first c.requires.second
-    (tries_by _ _ _ _ c.deref.result.now c.args.images.items _ None t.name c.deref.ensures.value c.in-None.is c.in_ok-refusal.ensures.tries) in
-    record { right = record { counters = counters; of = tt }; set = c.in_ok-refusal.ensures.set }
+    record {
+      right = record {
+        counters = neither_found (described c.args.trial.now.old.now)
+            (loads c.args.new.now) c.args.trial.now.mismatch t.first _ c.requires.failed.first c.requires.second
+            (tries_by _ _ _ _ c.deref.result.now c.args.images.items _ None t.name c.deref.ensures.value c.in-None.is c.in_ok-refusal.ensures.tries);
+        of = tt;
+      };
+      set = c.in_ok-refusal.ensures.set;
+    }
