@@ -1,4 +1,4 @@
-use Rattle.vms_values.proofs.Facade.{rules, ◌≡◌, ◌+◌, ◌<◌, ◌++◌, length, drop, sym, ap, ◌∙◌, arith, map, err_from_is_err_and, length-map, device_lines, devices_lines}
+use Rattle.vms_values.proofs.Facade.{◌≡◌, ◌+◌, ◌<◌, ◌++◌, length, drop, sym, ap, ◌∙◌, arith, map, err_from_is_err_and, length-map, device_lines, devices_lines}
 use Rattle.vms_values.proofs.Facade.{device_of, described, device_at, state_of, states_long, state_at, IsOf, AreOf, leaves_rest, leaves_stop}
 use Rattle.vms_values.proofs.Printers.{device_left, images_at, of_next, of_room, devices_next}
 use Rattle.vms_values.proofs.print.print_devices.Given.{Over}
@@ -28,7 +28,10 @@ here g c =
     (of_next set k set.devices states (device_at set k) image (device_left set k lt) at c.loop-device.invariant.of, devices_next set k set.devices states (device_at set k) image (device_left set k lt) at)
 
 pub print_device-requires : goal.print_device-requires
-print_device-requires g c = record { is_device = search rules; of = (here g c).0.0 }
+print_device-requires g c =
+    let set = described c.args.set.now in
+    let long : length c.as_slice.result.now ≡ length set.devices = ap length c.as_slice.ensures ∙ sym (length-map c.parts.result.now.devices device_of) ∙ ap (λ s. length s.devices) c.parts.ensures in
+    record { is_device = omega arith; of = (here g c).0.0 }
 
 pub returns-in_err-print_device : goal.returns-in_err-print_device
 returns-in_err-print_device g c =

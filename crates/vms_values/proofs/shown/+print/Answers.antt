@@ -145,7 +145,7 @@ print_struct-returns g t c =
     record {
       written = wrote_as c.print_part.result _ _
           (rw (c.push.ensures) (sym (struct_lines set c.args.shown.set.now.well_formed j c.requires.reaches c.args.line.now n c.args.cell))) c.print_part.ensures.written;
-      line = search rules;
+      line = stays_then _ _ _ (stays_is c.args.line.now (codes ".") c.push.new.self c.push.ensures) c.print_part.ensures.line;
     }
 
 pub print_part-loop-field-init : goal.print_part-loop-field-init

@@ -161,7 +161,7 @@ read_item-returns-in-Struct t c =
           ∙ sym (ap (λ (i : Item). read_item (readers set) f caps path c.args.run.present c.args.run.first i p) c.in-Struct.is
           ∙ struct_reads set c.args.set.now.well_formed j lt f caps path c.args.run.present c.args.run.first p)) at c.read_under.ensures.read;
       kept = c.read_under.ensures.kept;
-      path = search rules;
+      path = stays_then _ _ _ (stays_is c.args.path.now (codes ".") c.push.new.self c.push.ensures) c.read_under.ensures.path;
     }
 
 pub read_under-loop-field-init : goal.read_under-loop-field-init
