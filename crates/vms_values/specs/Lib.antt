@@ -1,3 +1,4 @@
+pub mod Calls
 pub mod DevicesRead
 pub mod Judging
 pub mod Machines

@@ -1,10 +1,6 @@
 // Reads the lines of devices.
-ghost use Rattle.std.specs.Prelude.{◌≡◌, ◌<◌, [], length, map, IfOk, OnOk};
-ghost use Rattle.vms_spec.specs.ValuesReading.{values_read, read_devices as devices_read};
-ghost use Rattle.vms_desc.specs.Described.{described, device_at};
-ghost use Rattle.vms_image.specs.Typed.{state_of, default_at, IsImageOf, AreImagesOf};
-ghost use Rattle.vms_values.specs.Reading.{ReadsBy};
-ghost use Rattle.vms_values.specs.DevicesRead.{device_read, start_of, DeviceRead, AllRead, map_ok, ToldAs};
+ghost use Rattle.vms_values.specs.Calls.{CanReadDevice, HasDevice, HasFewDevices, ReadsDevice, ReadsImage, ReadsImages, ReadsText};
+ghost use Rattle.vms_values.specs.DevicesRead.{ToldAs};
 
 use crate::Values;
 use crate::cursor::Lines;
@@ -37,8 +33,7 @@ struct Reading<'a> {
 /// - [`LineFault::Bad`]: the first line that is refused, and why.
 /// - [`LineFault::NoMemory`]: out of memory.
 pub(crate) fn read_lines(alloc: Global, set: &DescSet, text: &[u8]) -> Result<Values, LineFault>
-    ensures read { ReadsBy (described set.now) (values_read (described set.now) text.now) result }
-    ensures of { IfOk result (λ v. AreImagesOf (described set.now) v.images.items) }
+    ensures { ReadsText set.now text.now result }
 {
     let start = read_machine(set.parts().machines.as_slice(), text);
     let mut reading = Reading {
@@ -71,12 +66,8 @@ fn told(judged: Option<BadLine>, values: Values) -> Result<Values, LineFault>
 
 // Reads the images of all devices.
 fn read_images(alloc: Global, set: &DescSet, reading: &mut Reading) -> Result<Vec<Image>, LineFault>
-    requires few { length (described set.now).devices < 4294967296 }
-    ensures read { let set = described set.now in
-        let whole = devices_read set set.devices in
-        let read = whole reading.old.lines.line reading.old.lines.rest.now in
-        AllRead set read reading.old reading.new (map_ok (λ v. map state_of v.items) result) }
-    ensures of { IfOk result (λ v. AreImagesOf (described set.now) v.items) }
+    requires few { HasFewDevices set.now }
+    ensures { ReadsImages set.now reading.old reading.new result }
 {
     let mut images = Vec::new(alloc);
     for device in 0..set.parts().devices.as_slice().len() as u32 {
@@ -93,12 +84,8 @@ fn read_image(
     device: u32,
     reading: &mut Reading,
 ) -> Result<Image, LineFault>
-    requires known { device < length (described set.now).devices }
-    ensures read { let d = device_at (described set.now) device in
-        let start = start_of (described set.now) d reading.old in
-        let whole = device_read (described set.now) d start in
-        DeviceRead (described set.now) d whole reading.old reading.new (map_ok state_of result) }
-    ensures of { IfOk result (λ image. IsImageOf (described set.now) device image) }
+    requires known { HasDevice set.now device }
+    ensures { ReadsImage set.now device reading.old reading.new result }
 {
     let mut taken = Taken {
         image: Image::new(alloc, set, device)?,
@@ -117,17 +104,8 @@ fn read_device<'a>(
     sub_lines: &mut Vec<usize>,
     reading: &mut Reading<'a>,
 ) -> Result<(), LineFault>
-    requires known { device < length (described set.now).devices }
-    requires defaults { taken.old.image ≡ default_at (described set.now) device }
-    requires lines { taken.old.lines ≡ reading.old.lines }
-    requires none { sub_lines.old.items ≡ [] }
-    ensures read { let d = device_at (described set.now) device in
-        let start = start_of (described set.now) d reading.old in
-        let whole = device_read (described set.now) d start in
-        let image = state_of taken.new.image in
-        let done = map_ok (λ u. image) result in
-        DeviceRead (described set.now) d whole reading.old reading.new done }
-    ensures of { OnOk result (IsImageOf (described set.now) device taken.new.image) }
+    requires { CanReadDevice set.now device taken.old sub_lines.old.items reading.old }
+    ensures { ReadsDevice set.now device taken.new.image reading.old reading.new result }
 {
     let line = taken.lines.line;
     read_section(set.device(device), &mut taken.lines)?;

@@ -1,15 +1,8 @@
 // Judges the sections and subsections that were read.
-ghost use Rattle.std.specs.Prelude.{◌≡◌, ◌<◌, ◌==◌, not, length};
+ghost use Rattle.std.specs.Prelude.{◌≡◌, ◌==◌, length};
 ghost use Rattle.std.specs.List.{list_all};
-ghost use Rattle.vms_spec.specs.declared.Part.TheVariants as parts;
-ghost use Rattle.vms_spec.specs.Readiness.{rules_are_true};
-ghost use Rattle.vms_spec.specs.ValuesReading.{judge_device as device_judged, sub_fails};
-ghost use Rattle.vms_desc.specs.Asks.{first_cell};
-ghost use Rattle.vms_desc.specs.Described.{described, device_at};
-ghost use Rattle.vms_desc.specs.Parts.{sub_at};
-ghost use Rattle.vms_image.specs.Typed.{state_of, IsOfDevice};
-ghost use Rattle.vms_walk.specs.Steps.{HasSpot, spot_slots};
-ghost use Rattle.vms_values.specs.Judging.{bad_of, read_of, sub_judged, sub_defaults};
+ghost use Rattle.vms_values.specs.Calls.{HasLines, HasRules, HasSub, has_defaults, hold_rules, holds_sub, judge_device, judge_sub};
+ghost use Rattle.vms_values.specs.Judging.{bad_of};
 
 use vms_desc::{Cells, Desc, DescSet, Part};
 use vms_image::Image;
@@ -34,11 +27,8 @@ pub(crate) fn judge_device(
     line: usize,
     sub_lines: &[usize],
 ) -> Option<BadLine>
-    requires device { IsOfDevice (described set.now) device (state_of image.now) }
-    requires lines { length sub_lines.now ≡ length (device_at (described set.now) device).subs }
-    ensures { let d = device_at (described set.now) device in
-        bad_of result
-        ≡ device_judged (described set.now) d (read_of (state_of image.now) line sub_lines.now) }
+    requires { HasLines set.now device image.now sub_lines.now }
+    ensures { bad_of result ≡ judge_device set.now device image.now line sub_lines.now }
 {
     let own = PartAt {
         part: Part::Device(device),
@@ -60,9 +50,8 @@ pub(crate) fn judge_device(
 
 // Returns why the line of a subsection is refused, if it is.
 fn judge_sub(set: &DescSet, device: u32, sub: u32, image: &Image) -> Option<ValuesReason>
-    requires device { IsOfDevice (described set.now) device (state_of image.now) }
-    requires is_sub { sub < length (device_at (described set.now) device).subs }
-    ensures { result ≡ sub_judged (described set.now) device sub (state_of image.now) }
+    requires { HasSub set.now device sub image.now }
+    ensures { result ≡ judge_sub set.now device sub image.now }
 {
     let came = image.came(sub);
     if !holds_sub(set, device, sub, image, came) {
@@ -82,12 +71,8 @@ fn judge_sub(set: &DescSet, device: u32, sub: u32, image: &Image) -> Option<Valu
 
 // Returns whether the validations of a subsection hold, if it came.
 fn holds_sub(set: &DescSet, device: u32, sub: u32, image: &Image, came: Option<u32>) -> bool
-    requires device { IsOfDevice (described set.now) device (state_of image.now) }
-    requires is_sub { sub < length (device_at (described set.now) device).subs }
-    ensures { let set = described set.now in
-        let s = sub_at (device_at set device) sub in
-        let at = first_cell set (parts.Sub device sub) in
-        result ≡ not (sub_fails set s came image.now.numbers at) }
+    requires { HasSub set.now device sub image.now }
+    ensures { result ≡ holds_sub set.now device sub image.now came }
 {
     match came {
         Some(version) => {
@@ -105,9 +90,8 @@ fn holds_sub(set: &DescSet, device: u32, sub: u32, image: &Image, came: Option<u
 
 // Returns whether all cells of a subsection are at their defaults.
 fn has_defaults(set: &DescSet, device: u32, sub: u32, image: &Image) -> bool
-    requires device { IsOfDevice (described set.now) device (state_of image.now) }
-    requires is_sub { sub < length (device_at (described set.now) device).subs }
-    ensures { result ≡ sub_defaults (described set.now) device sub image.now.numbers }
+    requires { HasSub set.now device sub image.now }
+    ensures { result ≡ has_defaults set.now device sub image.now }
 {
     is_bare(set, device, image, sub)
 }
@@ -115,9 +99,8 @@ fn has_defaults(set: &DescSet, device: u32, sub: u32, image: &Image) -> bool
 // Returns whether the validations of a part hold, and those of the structures that are sent in it.
 // If no structure has any, only the part's own are checked, without a walk over its cells.
 fn hold_rules(set: &DescSet, spot: PartAt, image: &Image) -> bool
-    requires spot { HasSpot (described set.now) spot image.now.numbers }
-    ensures { let slots = spot_slots (described set.now) spot image.now.numbers in
-        result ≡ rules_are_true slots }
+    requires spot { HasRules set.now spot image.now }
+    ensures { result ≡ hold_rules set.now spot image.now }
 {
     if are_unruled(set.parts().structs.as_slice()) {
         set.holds_rules(spot.part, spot.base, spot.version, image)
@@ -136,9 +119,8 @@ fn are_unruled(structs: &[Desc]) -> bool
 }
 
 fn walk_rules(set: &DescSet, spot: PartAt, image: &Image) -> bool
-    requires spot { HasSpot (described set.now) spot image.now.numbers }
-    ensures { let slots = spot_slots (described set.now) spot image.now.numbers in
-        result ≡ rules_are_true slots }
+    requires spot { HasRules set.now spot image.now }
+    ensures { result ≡ hold_rules set.now spot image.now }
 {
     let mut rules = Rules { image };
     match walk(set, spot, &mut rules) {

@@ -1,18 +1,12 @@
 // Prints the path of a cell.
-ghost use Rattle.vms_spec.specs.declared.TheConstants.{MOST_ITEMS};
-ghost use Rattle.std.specs.Prelude.{◌≡◌, ◌<◌, ◌≤◌, ◌*◌, ◌++◌, [], true, length, get_or};
+ghost use Rattle.std.specs.Prelude.{◌<◌, ◌++◌, length};
 ghost use Rattle.vms_io.specs.Told.{outlet};
 ghost use Rattle.vms_io.specs.Writing.{Wrote};
-ghost use Rattle.vms_spec.specs.Layout.{capacity_of, device_cells};
-ghost use Rattle.vms_spec.specs.Places.{own_cell_count};
-ghost use Rattle.vms_spec.specs.Rules.{uses_below};
+ghost use Rattle.vms_spec.specs.Layout.{device_cells};
 ghost use Rattle.vms_desc.specs.Described.{described, device_at};
-ghost use Rattle.vms_desc.specs.Parts.{HasPart, desc_at};
-ghost use Rattle.vms_parts.specs.Views.{field_of};
-ghost use Rattle.vms_walk.specs.Steps.{size_in};
 ghost use Rattle.vms_elements.specs.Parts.{cell_name};
+ghost use Rattle.vms_values.specs.Calls.{HasCell, HasElement, HasInside, HasName, IsOwn, element_name, inside_name, name_at};
 ghost use Rattle.vms_values.specs.Paths.{path_text};
-ghost use Rattle.vms_values.specs.Naming.{part_names, item_names, field_name, IsInPart};
 
 use crate::path::{Path, write_path};
 use vms_desc::{Count, DescSet, Field, Part};
@@ -38,8 +32,8 @@ pub fn print_path<K: Sink>(
     sink: &mut K,
 ) -> Result<(), WriteFault>
     requires is_device { device < length (described set.now).devices }
-    requires is_cell { let d = device_at (described set.now) device in
-        cell < length (device_cells (described set.now) d) }
+    requires is_cell { let set = described set.now in
+        cell < length (device_cells set (device_at set device)) }
     ensures { let set = described set.now in
         let text = cell_name set (device_at set device) cell in
         Wrote (outlet K.Sink sink.old) (outlet K.Sink sink.new) text result }
@@ -60,10 +54,8 @@ struct Own {
 
 // Returns the part that cell `cell` of `device` is in: the device's own fields, or a subsection.
 fn part_of(set: &DescSet, device: u32, cell: u32) -> Own
-    requires is_device { device < length (described set.now).devices }
-    requires is_cell { let d = device_at (described set.now) device in
-        cell < length (device_cells (described set.now) d) }
-    ensures { IsInPart (described set.now) device cell result }
+    requires { HasCell set.now device cell }
+    ensures { IsOwn set.now device cell result }
 {
     let own = Part::Device(device);
     let size = set.cells_of(own);
@@ -91,13 +83,8 @@ fn print_name<K: Sink>(
     path: &Path,
     sink: &mut K,
 ) -> Result<(), Failed>
-    requires part { HasPart (described set.now) part }
-    requires small { let d = desc_at (described set.now) part in
-        own_cell_count (described set.now) d ≤ MOST_ITEMS }
-    requires cell { let d = desc_at (described set.now) part in
-        cell < own_cell_count (described set.now) d }
-    ensures { let names = part_names (described set.now) part in
-        let text = path_text path.now ++ get_or names cell [] in
+    requires { HasName set.now part cell }
+    ensures { let text = path_text path.now ++ name_at set.now part cell in
         Wrote (outlet K.Sink sink.old) (outlet K.Sink sink.new) text result }
 {
     let mut left = cell;
@@ -121,12 +108,8 @@ fn print_element<K: Sink>(
     path: &Path,
     sink: &mut K,
 ) -> Result<(), Failed>
-    requires reaches { uses_below (length (described set.now).structs) field.now.item ≡ true }
-    requires small { size_in (described set.now) field.now.item ≤ MOST_ITEMS }
-    requires cell { let size = size_in (described set.now) field.now.item in
-        cell < capacity_of field.now.count * size }
-    ensures { let name = field_name (described set.now) (field_of field.now) cell in
-        let text = path_text path.now ++ name in
+    requires { HasElement set.now field.now cell }
+    ensures { let text = path_text path.now ++ element_name set.now field.now cell in
         Wrote (outlet K.Sink sink.old) (outlet K.Sink sink.new) text result }
 {
     let size = set.item_cells(field.item);
@@ -156,11 +139,8 @@ fn print_inside<K: Sink>(
     path: &Path,
     sink: &mut K,
 ) -> Result<(), Failed>
-    requires reaches { uses_below (length (described set.now).structs) item.now ≡ true }
-    requires small { size_in (described set.now) item.now ≤ MOST_ITEMS }
-    requires cell { cell < size_in (described set.now) item.now }
-    ensures { let names = item_names (described set.now) item.now in
-        let text = path_text path.now ++ get_or names cell [] in
+    requires { HasInside set.now item.now cell }
+    ensures { let text = path_text path.now ++ inside_name set.now item.now cell in
         Wrote (outlet K.Sink sink.old) (outlet K.Sink sink.new) text result }
 {
     match item {

@@ -1,14 +1,14 @@
 // Prints the values text.
-ghost use Rattle.std.specs.Prelude.{◌<◌, length, get_or, None, map};
+ghost use Rattle.std.specs.Prelude.{◌<◌, length, map};
 ghost use Rattle.std.specs.Option.{ForSome};
 ghost use Rattle.vms_io.specs.Told.{outlet};
 ghost use Rattle.vms_io.specs.Writing.{Wrote};
-ghost use Rattle.vms_spec.specs.Images.{own_cells};
-ghost use Rattle.vms_spec.specs.Values.{values_text, machine_line, devices_lines, device_lines, sub_lines};
-ghost use Rattle.vms_desc.specs.Described.{described, device_at};
+ghost use Rattle.vms_spec.specs.Values.{values_text, machine_line};
+ghost use Rattle.vms_desc.specs.Described.{described};
 ghost use Rattle.vms_parts.specs.Views.{set_of, device_of};
 ghost use Rattle.vms_image.specs.Typed.{state_of};
-ghost use Rattle.vms_values.specs.Printing.{AreOf, IsOf, machine_of, section_text, sub_text, whole_sub};
+ghost use Rattle.vms_values.specs.Calls.{AreShown, HasImage, HasSubImage, device_text, devices_text, sub_text, subs_text};
+ghost use Rattle.vms_values.specs.Printing.{AreOf, machine_of, section_text, sub_text as sub_line_text};
 
 use crate::line::Line;
 use crate::lines::write_pieces;
@@ -39,10 +39,10 @@ pub fn print_values<K: Sink>(
     sink: &mut K,
 ) -> Result<(), WriteFault>
     requires named { ForSome machine (λ m. m < length (described set.now).machines) }
-    requires one_each { AreOf (described set.now) (described set.now).devices
-        (map state_of images.now) }
-    ensures { let name = machine_of (described set.now) machine in
-        let text = values_text (described set.now) name (map state_of images.now) in
+    requires one_each { let set = described set.now in
+        AreOf set set.devices (map state_of images.now) }
+    ensures { let set = described set.now in
+        let text = values_text set (machine_of set machine) (map state_of images.now) in
         Wrote (outlet K.Sink sink.old) (outlet K.Sink sink.new) text result }
 {
     print_machine(set.parts(), machine, sink).map_err(|_| WriteFault)?;
@@ -64,10 +64,8 @@ fn print_machine<K: Sink>(parts: &Parts, machine: Option<u32>, sink: &mut K) -> 
 }
 
 fn print_devices<K: Sink>(set: &DescSet, images: &[Image], sink: &mut K) -> Result<(), Failed>
-    requires one_each { AreOf (described set.now) (described set.now).devices
-        (map state_of images.now) }
-    ensures { let set = described set.now in
-        let text = devices_lines set set.devices (map state_of images.now) in
+    requires one_each { AreShown set.now images.now }
+    ensures { let text = devices_text set.now images.now in
         Wrote (outlet K.Sink sink.old) (outlet K.Sink sink.new) text result }
 {
     let mut line = Line::new();
@@ -84,11 +82,8 @@ fn print_device<K: Sink>(
     line: &mut Line,
     sink: &mut K,
 ) -> Result<(), Failed>
-    requires is_device { device < length (described shown.set.now).devices }
-    requires of { let set = described shown.set.now in
-        IsOf set (device_at set device) (state_of shown.image.now) }
-    ensures { let set = described shown.entry.set.now in
-        let text = device_lines set (device_at set device) (state_of shown.entry.image.now) in
+    requires { HasImage shown device }
+    ensures { let text = device_text shown.entry device in
         Wrote (outlet K.Sink sink.old) (outlet K.Sink sink.new) text result }
 {
     let version = shown.image.version();
@@ -125,13 +120,8 @@ fn print_subs<K: Sink>(
     line: &mut Line,
     sink: &mut K,
 ) -> Result<(), Failed>
-    requires is_device { device < length (described shown.set.now).devices }
-    requires of { let set = described shown.set.now in
-        IsOf set (device_at set device) (state_of shown.image.now) }
-    ensures { let set = described shown.entry.set.now in
-        let d = device_at set device in
-        let image = state_of shown.entry.image.now in
-        let text = sub_lines set image.numbers (own_cells set d) d.subs image.came in
+    requires { HasImage shown device }
+    ensures { let text = subs_text shown.entry device in
         Wrote (outlet K.Sink sink.old) (outlet K.Sink sink.new) text result }
 {
     for sub in 0..shown.set.sub_count(device) {
@@ -147,14 +137,8 @@ fn print_sub<K: Sink>(
     line: &mut Line,
     sink: &mut K,
 ) -> Result<(), Failed>
-    requires is_device { device < length (described shown.set.now).devices }
-    requires is_sub { let set = described shown.set.now in
-        sub < length (device_at set device).subs }
-    requires of { let set = described shown.set.now in
-        IsOf set (device_at set device) (state_of shown.image.now) }
-    ensures { let set = described shown.entry.set.now in
-        let image = state_of shown.entry.image.now in
-        let text = whole_sub set device sub image.numbers (get_or image.came sub None) in
+    requires { HasSubImage shown device sub }
+    ensures { let text = sub_text shown.entry device sub in
         Wrote (outlet K.Sink sink.old) (outlet K.Sink sink.new) text result }
 {
     let part = Part::Sub(device, sub);
@@ -170,7 +154,7 @@ fn print_sub<K: Sink>(
 
 // Prints the line of a subsection: the version at which it came, or a dash.
 fn print_sub_line<K: Sink>(name: &[u8], came: Option<u32>, sink: &mut K) -> Result<(), Failed>
-    ensures { let text = sub_text name.now came in
+    ensures { let text = sub_line_text name.now came in
         Wrote (outlet K.Sink sink.old) (outlet K.Sink sink.new) text result }
 {
     match came {

@@ -4,6 +4,7 @@ ghost use Rattle.std.specs.Str.{bytes_eq};
 ghost use Rattle.vms_spec.specs.Spelling.{first_line};
 ghost use Rattle.vms_spec.specs.ValuesReading.{section_line, is_line};
 ghost use Rattle.vms_parts.specs.Views.{device_of};
+ghost use Rattle.vms_values.specs.Calls.{IsPast};
 ghost use Rattle.vms_values.specs.Spelled.{Strips};
 ghost use Rattle.vms_values.specs.Reading.{Passed};
 
@@ -76,8 +77,7 @@ fn is_section(device: &Device, line: &[u8]) -> bool
 /// Moves on after a line.
 pub(crate) fn pass<'a>(lines: &mut Lines<'a>, next: NextLine<'a>)
     requires { length next.text.now + length next.after.now + 1 ≡ length lines.old.rest.now }
-    ensures number { lines.new.line ≡ lines.old.line + 1 }
-    ensures rest { lines.new.rest.now ≡ next.entry.after.now }
+    ensures { IsPast lines.old next.entry.after.now lines.new }
 {
     lines.line += 1;
     lines.rest = next.after;

@@ -1,18 +1,13 @@
 // Prints the lines of a description: arrays up to their counts, and structures.
-ghost use Rattle.vms_values.specs.declared.line.TheConstants.{LONGEST, NUMBER_ROOM, INDEX_ROOM, PART_ROOM};
-ghost use Rattle.vms_spec.specs.declared.TheConstants.{MOST_ITEMS};
-ghost use Rattle.std.specs.Prelude.{◌≡◌, ◌+◌, ◌*◌, ◌<◌, ◌≤◌, ◌++◌, [], true, codes, length};
+ghost use Rattle.vms_values.specs.declared.line.TheConstants.{LONGEST, NUMBER_ROOM};
+ghost use Rattle.std.specs.Prelude.{◌+◌, ◌≤◌, ◌++◌, [], codes, length};
 ghost use Rattle.std.specs.Fmt.{signed_decimal};
 ghost use Rattle.vms_io.specs.Told.{outlet};
 ghost use Rattle.vms_io.specs.Writing.{Wrote};
 ghost use Rattle.vms_kinds.specs.declared.Item.TheVariants as items;
-ghost use Rattle.vms_spec.specs.Rules.{uses_below};
-ghost use Rattle.vms_spec.specs.Values.{printers, line_end, desc_lines, element_lines, item_lines};
-ghost use Rattle.vms_desc.specs.Described.{described};
-ghost use Rattle.vms_desc.specs.Parts.{desc_at};
-ghost use Rattle.vms_parts.specs.Views.{field_of};
-ghost use Rattle.vms_walk.specs.Steps.{HasSpot, size_in};
-ghost use Rattle.vms_values.specs.Printing.{IsRun, run_lines, below, below_part, Stays};
+ghost use Rattle.vms_spec.specs.Values.{line_end};
+ghost use Rattle.vms_values.specs.Calls.{CanPrintElements, CanPrintField, CanPrintItem, CanPrintPart, CanPrintStruct, HasPartAt, Prints};
+ghost use Rattle.vms_values.specs.Calls.{elements_lines, field_lines, item_lines, part_lines};
 
 use crate::line::Line;
 use itoa::Buffer;
@@ -43,10 +38,8 @@ pub(crate) fn print_lines<K: Sink>(
     line: &mut Line,
     sink: &mut K,
 ) -> Result<(), Failed>
-    requires spot { HasSpot (described shown.set.now) spot shown.image.now.numbers }
-    ensures { let set = described shown.entry.set.now in
-        let d = desc_at set spot.part in
-        let text = desc_lines (printers set) d [] shown.entry.image.now.numbers spot.base in
+    requires spot { HasPartAt shown spot }
+    ensures { let text = part_lines shown.entry spot [] in
         Wrote (outlet K.Sink sink.old) (outlet K.Sink sink.new) text result }
 {
     line.cut(0);
@@ -62,14 +55,11 @@ fn print_part<K: Sink>(
     line: &mut Line,
     sink: &mut K,
 ) -> Result<(), Failed>
-    requires spot { HasSpot (described shown.set.now) spot shown.image.now.numbers }
-    requires short { length line.old + below_part (described shown.set.now) spot.part ≤ LONGEST }
-    ensures written { let set = described shown.entry.set.now in
-        let d = desc_at set spot.part in
-        let n = shown.entry.image.now.numbers in
-        let text = desc_lines (printers set) d line.old n spot.base in
-        Wrote (outlet K.Sink sink.old) (outlet K.Sink sink.new) text result }
-    ensures line { Stays line.old line.new }
+    requires { CanPrintPart shown spot line.old }
+    ensures { let text = part_lines shown.entry spot line.old in
+        let from = outlet K.Sink sink.old in
+        let to = outlet K.Sink sink.new in
+        Prints text line.old line.new from to result }
 {
     let set = shown.set;
     let kept = line.len();
@@ -95,16 +85,11 @@ fn print_field<K: Sink>(
     line: &mut Line,
     sink: &mut K,
 ) -> Result<(), Failed>
-    requires fits { let set = described shown.set.now in
-        IsRun set (field_of field.now) run.first run.count shown.image.now.numbers }
-    requires name { length (field_of field.now).name ≤ 32 }
-    requires short { length line.old + PART_ROOM + below (field_of field.now).item ≤ LONGEST }
-    ensures written { let set = described shown.entry.set.now in
-        let n = shown.entry.image.now.numbers in
-        let f = field_of field.now in
-        let text = run_lines (printers set) f f.count run.count line.old n run.first in
-        Wrote (outlet K.Sink sink.old) (outlet K.Sink sink.new) text result }
-    ensures line { Stays line.old line.new }
+    requires { CanPrintField shown field.now run line.old }
+    ensures { let text = field_lines shown.entry field.now run line.old in
+        let from = outlet K.Sink sink.old in
+        let to = outlet K.Sink sink.new in
+        Prints text line.old line.new from to result }
 {
     line.push(field.name.as_bytes());
     match field.count {
@@ -123,18 +108,11 @@ fn print_elements<K: Sink>(
     line: &mut Line,
     sink: &mut K,
 ) -> Result<(), Failed>
-    requires reaches { uses_below (length (described shown.set.now).structs) item.now ≡ true }
-    requires small { size_in (described shown.set.now) item.now ≤ MOST_ITEMS }
-    requires room { let size = size_in (described shown.set.now) item.now in
-        run.first + run.count * size ≤ length shown.image.now.numbers }
-    requires few { length shown.image.now.numbers ≤ MOST_ITEMS }
-    requires short { length line.old + INDEX_ROOM + NUMBER_ROOM + below item.now ≤ LONGEST }
-    ensures written { let ps = printers (described shown.entry.set.now) in
-        let n = shown.entry.image.now.numbers in
-        let size = size_in (described shown.entry.set.now) item.now in
-        let text = element_lines ps item.now line.old n run.first size 0 run.count in
-        Wrote (outlet K.Sink sink.old) (outlet K.Sink sink.new) text result }
-    ensures line { Stays line.old line.new }
+    requires { CanPrintElements shown item.now run line.old }
+    ensures { let text = elements_lines shown.entry item.now run line.old in
+        let from = outlet K.Sink sink.old in
+        let to = outlet K.Sink sink.new in
+        Prints text line.old line.new from to result }
 {
     let size = shown.set.item_cells(*item);
     let kept = line.len();
@@ -158,16 +136,11 @@ fn print_item<K: Sink>(
     line: &mut Line,
     sink: &mut K,
 ) -> Result<(), Failed>
-    requires reaches { uses_below (length (described shown.set.now).structs) item.now ≡ true }
-    requires room { let size = size_in (described shown.set.now) item.now in
-        cell + size ≤ length shown.image.now.numbers }
-    requires few { length shown.image.now.numbers ≤ MOST_ITEMS }
-    requires short { length line.old + NUMBER_ROOM + below item.now ≤ LONGEST }
-    ensures written { let ps = printers (described shown.entry.set.now) in
-        let n = shown.entry.image.now.numbers in
-        let text = item_lines ps item.now line.old n cell in
-        Wrote (outlet K.Sink sink.old) (outlet K.Sink sink.new) text result }
-    ensures line { Stays line.old line.new }
+    requires { CanPrintItem shown item.now cell line.old }
+    ensures { let text = item_lines shown.entry item.now cell line.old in
+        let from = outlet K.Sink sink.old in
+        let to = outlet K.Sink sink.new in
+        Prints text line.old line.new from to result }
 {
     match item {
         Item::Num(_) => print_number(shown.image.get(cell), line, sink),
@@ -187,16 +160,11 @@ fn print_struct<K: Sink>(
     line: &mut Line,
     sink: &mut K,
 ) -> Result<(), Failed>
-    requires reaches { number < length (described shown.set.now).structs }
-    requires room { let size = size_in (described shown.set.now) (items.Struct number) in
-        cell + size ≤ length shown.image.now.numbers }
-    requires few { length shown.image.now.numbers ≤ MOST_ITEMS }
-    requires short { length line.old + NUMBER_ROOM + PART_ROOM * (number + 1) ≤ LONGEST }
-    ensures written { let ps = printers (described shown.entry.set.now) in
-        let n = shown.entry.image.now.numbers in
-        let text = item_lines ps (items.Struct number) line.old n cell in
-        Wrote (outlet K.Sink sink.old) (outlet K.Sink sink.new) text result }
-    ensures line { Stays line.old line.new }
+    requires { CanPrintStruct shown number cell line.old }
+    ensures { let text = item_lines shown.entry (items.Struct number) cell line.old in
+        let from = outlet K.Sink sink.old in
+        let to = outlet K.Sink sink.new in
+        Prints text line.old line.new from to result }
 {
     let part = Part::Struct(number);
     let spot = PartAt {
@@ -212,9 +180,10 @@ fn print_struct<K: Sink>(
 #[inline(always)]
 fn print_number<K: Sink>(number: i128, line: &mut Line, sink: &mut K) -> Result<(), Failed>
     requires short { length line.old + NUMBER_ROOM ≤ LONGEST }
-    ensures written { let tail = codes " = " ++ (signed_decimal number ++ line_end) in
-        Wrote (outlet K.Sink sink.old) (outlet K.Sink sink.new) (line.old ++ tail) result }
-    ensures line { Stays line.old line.new }
+    ensures { let text = line.old ++ (codes " = " ++ (signed_decimal number ++ line_end)) in
+        let from = outlet K.Sink sink.old in
+        let to = outlet K.Sink sink.new in
+        Prints text line.old line.new from to result }
 {
     let mut digits = Buffer::new();
     line.push(b" = ");

@@ -1,20 +1,12 @@
 // Reads the lines of subsections.
-ghost use Rattle.std.specs.Prelude.{◌≡◌, ◌<◌, ◌∷◌, ◌++◌, [], length, OnOk};
-ghost use Rattle.vms_spec.specs.declared.Part.TheVariants as parts;
-ghost use Rattle.vms_spec.specs.Images.{own_cells};
-ghost use Rattle.vms_spec.specs.Spelling.{first_line};
-ghost use Rattle.std.specs.Prelude.{codes};
+ghost use Rattle.std.specs.Prelude.{◌≡◌, ◌∷◌, ◌++◌, [], OnOk, codes};
 ghost use Rattle.std.specs.Fmt.{decimal};
 ghost use Rattle.std.specs.Str.{bytes_eq};
-ghost use Rattle.vms_spec.specs.ValuesReading.{sub_line, sub_said as said, read_subs as subs_read};
-ghost use Rattle.vms_desc.specs.Asks.{first_cell};
-ghost use Rattle.vms_desc.specs.Described.{described, device_at};
-ghost use Rattle.vms_desc.specs.Parts.{sub_at};
-ghost use Rattle.vms_desc.specs.Spots.{kinds_at};
-ghost use Rattle.vms_image.specs.Typed.{state_of, IsOfDevice};
+ghost use Rattle.vms_spec.specs.Spelling.{first_line};
+ghost use Rattle.vms_spec.specs.ValuesReading.{sub_line, sub_said as said};
 ghost use Rattle.vms_parts.specs.Views.{sub_of};
-ghost use Rattle.vms_values.specs.Taken.{place_of};
-ghost use Rattle.vms_values.specs.SubsTaken.{line_said, SubPassed, sub_read, SubReached, SubsReached};
+ghost use Rattle.vms_values.specs.Calls.{CanReadSub, CanReadSubs, ReadsSub, ReadsSubs};
+ghost use Rattle.vms_values.specs.SubsTaken.{line_said, SubPassed};
 
 use crate::cursor::Lines;
 use crate::fault::LineFault;
@@ -43,14 +35,8 @@ pub(crate) fn read_subs(
     taken: &mut Taken,
     lines: &mut Vec<usize>,
 ) -> Result<(), LineFault>
-    requires device { IsOfDevice (described set.now) device (state_of taken.old.image) }
-    requires kinds { taken.old.image.kinds ≡ kinds_at (described set.now) device }
-    requires none { lines.old.items ≡ [] }
-    ensures read { let d = device_at (described set.now) device in
-        let whole = subs_read (described set.now) (own_cells (described set.now) d) d.subs in
-        SubsReached (whole (place_of taken.old)) taken.old taken.new lines.new.items result }
-    ensures count { let d = device_at (described set.now) device in
-        OnOk result (length lines.new.items ≡ length d.subs) }
+    requires { CanReadSubs set.now device taken.old.image lines.old.items }
+    ensures { ReadsSubs set.now device taken.old taken.new lines.new.items result }
 {
     for sub in 0..set.sub_count(device) {
         push_line(lines, taken.lines.line)?;
@@ -75,13 +61,8 @@ fn read_sub(
     path: &mut Line,
     taken: &mut Taken,
 ) -> Result<(), LineFault>
-    requires device { IsOfDevice (described set.now) device (state_of taken.old.image) }
-    requires kinds { taken.old.image.kinds ≡ kinds_at (described set.now) device }
-    requires is_sub { sub < length (device_at (described set.now) device).subs }
-    ensures read { let set = described set.now in
-        let s = sub_at (device_at set device) sub in
-        let at = first_cell set (parts.Sub device sub) in
-        SubReached (sub_read set s at (place_of taken.old)) sub taken.old taken.new result }
+    requires { CanReadSub set.now device sub taken.old.image }
+    ensures read { ReadsSub set.now device sub taken.old taken.new result }
 {
     let described = &set.device(device).subs.as_slice()[sub as usize];
     let came = read_sub_line(described, &mut taken.lines)?;

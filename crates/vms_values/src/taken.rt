@@ -1,25 +1,12 @@
 // Reads the lines of a description: arrays up to their counts, and structures.
-ghost use Rattle.vms_values.specs.declared.line.TheConstants.{LONGEST, NUMBER_ROOM, INDEX_ROOM, PART_ROOM};
-ghost use Rattle.vms_spec.specs.declared.TheConstants.{MOST_ITEMS};
-ghost use Rattle.std.specs.Prelude.{[], ◌≡◌, ◌+◌, ◌*◌, ◌<◌, ◌≤◌, ◌&&◌, true, length, get_or, slice_set};
-ghost use Rattle.vms_kinds.specs.Codes.{InRange};
-ghost use Rattle.vms_kinds.specs.declared.Kind.TheVariants.{U8};
-ghost use Rattle.vms_spec.specs.Tests.{is_there};
-ghost use Rattle.vms_spec.specs.Layout.{no_parent};
-ghost use Rattle.vms_desc.specs.Asks.{field_at, own_numbers};
-ghost use Rattle.vms_spec.specs.Numbers.{exceeds, same_number};
+ghost use Rattle.std.specs.Prelude.{◌≡◌, [], true};
+ghost use Rattle.vms_spec.specs.Numbers.{same_number};
 ghost use Rattle.vms_spec.specs.Spelling.{number_spelled};
+ghost use Rattle.vms_walk.specs.Steps.{capacities_of};
+ghost use Rattle.vms_values.specs.Calls.{CanPut, CanReadElements, CanReadField, CanReadItem, CanReadPart, CanReadUnder, HasFieldAt, HasNumber};
+ghost use Rattle.vms_values.specs.Calls.{PutsAt, ReadsNumbers, ReadsUnder, elements_read, field_read, is_present, item_read, number_read, part_read};
 ghost use Rattle.vms_values.specs.Spelled.{held};
-ghost use Rattle.vms_spec.specs.Rules.{uses_below};
-ghost use Rattle.vms_spec.specs.ValuesReading.{readers, read_desc, read_elements, read_item};
-ghost use Rattle.vms_desc.specs.Described.{described};
-ghost use Rattle.vms_desc.specs.Parts.{desc_at};
-ghost use Rattle.vms_parts.specs.Views.{field_of};
-ghost use Rattle.vms_walk.specs.Steps.{HasSpot, table, cells_in, size_in, capacities_of};
-ghost use Rattle.vms_values.specs.Printing.{IsRun, Stays, below, below_part};
-ghost use Rattle.vms_values.specs.Reading.{Reaches};
-ghost use Rattle.vms_values.specs.Taken.{IsKept, AreKinds, ElementKinds, part_cells, element_cells};
-ghost use Rattle.vms_values.specs.Taken.{place_of, run_read, line_read, number_judged};
+ghost use Rattle.vms_values.specs.Taken.{number_judged};
 
 use crate::cursor::Lines;
 use crate::fault::LineFault;
@@ -62,14 +49,8 @@ pub(crate) fn read_part(
     path: &mut Line,
     taken: &mut Taken,
 ) -> Result<(), LineFault>
-    requires spot { HasSpot (described set.now) spot taken.old.image.numbers }
-    requires kinds { let cells = part_cells (described set.now) spot.part in
-        AreKinds taken.old.image.kinds spot.base cells }
-    ensures read { let set = described set.now in
-        let d = desc_at set spot.part in
-        let whole = read_desc (readers set) d spot.version [] true spot.base in
-        Reaches (whole (place_of taken.old)) (place_of taken.new) result }
-    ensures kept { IsKept taken.old.image taken.new.image }
+    requires { CanReadPart set.now spot taken.old.image }
+    ensures { ReadsNumbers (part_read set.now spot [] true) taken.old taken.new result }
 {
     path.cut(0);
     read_under(set, spot, path, true, taken)
@@ -85,16 +66,9 @@ fn read_under(
     present: bool,
     taken: &mut Taken,
 ) -> Result<(), LineFault>
-    requires spot { HasSpot (described set.now) spot taken.old.image.numbers }
-    requires kinds { let cells = part_cells (described set.now) spot.part in
-        AreKinds taken.old.image.kinds spot.base cells }
-    requires short { length path.old + below_part (described set.now) spot.part ≤ LONGEST }
-    ensures read { let set = described set.now in
-        let d = desc_at set spot.part in
-        let whole = read_desc (readers set) d spot.version path.old present spot.base in
-        Reaches (whole (place_of taken.old)) (place_of taken.new) result }
-    ensures kept { IsKept taken.old.image taken.new.image }
-    ensures path { Stays path.old path.new }
+    requires { CanReadUnder set.now spot taken.old.image path.old }
+    ensures { let whole = part_read set.now spot path.old present in
+        ReadsUnder whole path.old path.new taken.old taken.new result }
 {
     let kept = path.len();
     for field in 0..set.field_count(spot.part) {
@@ -113,12 +87,8 @@ fn read_under(
 
 // Returns whether a field is in the bytes; `present` is whether its part is.
 fn is_present(set: &DescSet, spot: PartAt, field: u32, present: bool, image: &Image) -> bool
-    requires spot { HasSpot (described set.now) spot image.now.numbers }
-    requires field { field < length (desc_at (described set.now) spot.part).fields }
-    ensures { let set = described set.now in
-        let own = own_numbers set spot.part image.now.numbers spot.base in
-        let f = field_at set spot.part field in
-        result ≡ (present && is_there f.test f.since spot.version own no_parent) }
+    requires { HasFieldAt set.now spot field image.now }
+    ensures { result ≡ is_present set.now spot field present image.now }
 {
     present && set.is_there(spot.part, spot.base, field, spot.version, image)
 }
@@ -126,21 +96,9 @@ fn is_present(set: &DescSet, spot: PartAt, field: u32, present: bool, image: &Im
 // Reads the lines of a field's elements.
 #[cycle(read)]
 fn read_field(set: &DescSet, run: Run, path: &mut Line, taken: &mut Taken) -> Result<(), LineFault>
-    requires fits { let numbers = taken.old.image.numbers in
-        IsRun (described set.now) (field_of run.field.now) run.first run.count numbers }
-    requires kinds { let structs = cells_in (table (described set.now)) in
-        ElementKinds structs run.field.now.item taken.old.image.kinds run.first run.count }
-    requires name { length (field_of run.field.now).name ≤ 32 }
-    requires short { let item = run.field.now.item in
-        length path.old + PART_ROOM + below item ≤ LONGEST }
-    ensures read { let f = field_of run.entry.field.now in
-        let set = described set.now in
-        let caps = capacities_of run.entry.most in
-        let r = run.entry in
-        let whole = run_read (readers set) f f.count caps path.old r.present r.first r.count in
-        Reaches (whole (place_of taken.old)) (place_of taken.new) result }
-    ensures kept { IsKept taken.old.image taken.new.image }
-    ensures path { Stays path.old path.new }
+    requires { CanReadField set.now run taken.old.image path.old }
+    ensures { let whole = field_read set.now run.entry path.old in
+        ReadsUnder whole path.old path.new taken.old taken.new result }
 {
     path.push(run.field.name.as_bytes());
     match run.field.count {
@@ -157,21 +115,9 @@ fn read_elements(
     path: &mut Line,
     taken: &mut Taken,
 ) -> Result<(), LineFault>
-    requires fits { let numbers = taken.old.image.numbers in
-        IsRun (described set.now) (field_of run.field.now) run.first run.count numbers }
-    requires kinds { let structs = cells_in (table (described set.now)) in
-        ElementKinds structs run.field.now.item taken.old.image.kinds run.first run.count }
-    requires short { let item = run.field.now.item in
-        length path.old + INDEX_ROOM + NUMBER_ROOM + below item ≤ LONGEST }
-    ensures read { let f = field_of run.entry.field.now in
-        let set = described set.now in
-        let size = size_in set f.item in
-        let caps = capacities_of run.entry.most in
-        let r = run.entry in
-        let whole = read_elements (readers set) f caps path.old r.present r.first size 0 r.count in
-        Reaches (whole (place_of taken.old)) (place_of taken.new) result }
-    ensures kept { IsKept taken.old.image taken.new.image }
-    ensures path { Stays path.old path.new }
+    requires { CanReadElements set.now run taken.old.image path.old }
+    ensures { let whole = elements_read set.now run.entry path.old in
+        ReadsUnder whole path.old path.new taken.old taken.new result }
 {
     let size = set.item_cells(run.field.item);
     let kept = path.len();
@@ -189,21 +135,9 @@ fn read_elements(
 #[cycle(read)]
 #[inline(always)]
 fn read_item(set: &DescSet, run: Run, path: &mut Line, taken: &mut Taken) -> Result<(), LineFault>
-    requires reaches { uses_below (length (described set.now).structs) run.field.now.item ≡ true }
-    requires room { let size = size_in (described set.now) run.field.now.item in
-        run.first + size ≤ length taken.old.image.numbers }
-    requires few { length taken.old.image.numbers ≤ MOST_ITEMS }
-    requires kinds { let structs = cells_in (table (described set.now)) in
-        AreKinds taken.old.image.kinds run.first (element_cells structs run.field.now.item) }
-    requires short { length path.old + NUMBER_ROOM + below run.field.now.item ≤ LONGEST }
-    ensures read { let f = field_of run.entry.field.now in
-        let set = described set.now in
-        let caps = capacities_of run.entry.most in
-        let r = run.entry in
-        let whole = read_item (readers set) f caps path.old r.present r.first f.item in
-        Reaches (whole (place_of taken.old)) (place_of taken.new) result }
-    ensures kept { IsKept taken.old.image taken.new.image }
-    ensures path { Stays path.old path.new }
+    requires { CanReadItem set.now run taken.old.image path.old }
+    ensures { let whole = item_read set.now run.entry path.old in
+        ReadsUnder whole path.old path.new taken.old taken.new result }
 {
     match run.field.item {
         Item::Num(kind) => read_number_line(kind, run, &*path, taken),
@@ -225,13 +159,8 @@ fn read_item(set: &DescSet, run: Run, path: &mut Line, taken: &mut Taken) -> Res
 // Reads the line of a cell, the first of the run.
 #[inline(always)]
 fn read_number_line(kind: Kind, run: Run, path: &Line, taken: &mut Taken) -> Result<(), LineFault>
-    requires room { run.first < length taken.old.image.numbers }
-    requires of_kind { get_or taken.old.image.kinds run.first U8 ≡ kind }
-    ensures read { let caps = capacities_of run.entry.most in
-        let r = run.entry in
-        let line = line_read (path.now) kind caps r.first r.field.now.default r.present in
-        Reaches (line (place_of taken.old)) (place_of taken.new) result }
-    ensures kept { IsKept taken.old.image taken.new.image }
+    requires { HasNumber kind run taken.old.image }
+    ensures { ReadsNumbers (number_read kind run.entry path.now) taken.old taken.new result }
 {
     let Some(line) = next_line(taken.lines.rest) else {
         return Err(bad(&taken.lines, ValuesReason::Form));
@@ -251,11 +180,8 @@ fn read_number_line(kind: Kind, run: Run, path: &Line, taken: &mut Taken) -> Res
 
 // Puts a number into a cell.
 fn put(taken: &mut Taken, cell: u32, number: i128)
-    requires cell { cell < length taken.old.image.numbers }
-    requires range { InRange (get_or taken.old.image.kinds cell U8) number }
-    ensures lines { taken.new.lines ≡ taken.old.lines }
-    ensures numbers { taken.new.image.numbers ≡ slice_set taken.old.image.numbers cell number }
-    ensures kept { IsKept taken.old.image taken.new.image }
+    requires { CanPut taken.old.image cell number }
+    ensures { PutsAt cell number taken.old taken.new }
 {
     taken.image.set(cell, number);
 }

@@ -22,7 +22,7 @@ use vms_desc::DescSet;
 ///   that came without being needed, or is needed and didn't come.
 /// - [`ValuesFault::NoMemory`]: out of memory.
 pub fn read_values(alloc: Global, set: &DescSet, text: &[u8]) -> Result<Values, ValuesFault>
-    ensures read { ReadsAs (described set.now) (values_read (described set.now) text.now) result }
+    ensures read { let set = described set.now in ReadsAs set (values_read set text.now) result }
     ensures of { IfOk result (λ v. AreImagesOf (described set.now) v.images.items) }
     ensures means { MeansAs (described set.now) text.now result }
 {

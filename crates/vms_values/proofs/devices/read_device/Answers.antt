@@ -1,38 +1,36 @@
-use Rattle.vms_values.proofs.Facade.{length, ap, ◌∙◌, described, IsImageOf, Typed, sym}
+use Rattle.vms_values.proofs.Facade.{rules, length, ap, ◌∙◌, described, IsImageOf, Typed, sym}
 use Rattle.vms_values.proofs.DeviceLemmas.{default_of, own_spot, alike_kept, of_alike, subs_alike}
 use Rattle.vms_values.proofs.Naming.{own_kinds}
 use Rattle.vms_values.proofs.devices.read_device.Goals.{In_ok-read_subs}
 use Rattle.vms_values.proofs.devices.read_device.Goals as goal
 
-pub read_part-requires-clause-spot : goal.read_part-requires-clause-spot
-read_part-requires-clause-spot c =
+pub read_part-requires : goal.read_part-requires
+read_part-requires c =
     let set = described c.args.set.now in
     let of = default_of set c.args.set.now.well_formed c.args.device c.requires.known c.args.taken.now.image c.requires.defaults in
-    own_spot set c.args.device c.version.result c.args.taken.now.image of
+    record {
+      spot = own_spot set c.args.device c.version.result c.args.taken.now.image of;
+      kinds = own_kinds set c.args.device c.args.taken.now.image.kinds (ap (λ (x : Typed). x.kinds) c.requires.defaults);
+    }
 
-pub read_part-requires-clause-kinds : goal.read_part-requires-clause-kinds
-read_part-requires-clause-kinds c =
-    let set = described c.args.set.now in
-    own_kinds set c.args.device c.args.taken.now.image.kinds (ap (λ (x : Typed). x.kinds) c.requires.defaults)
-
-pub read_subs-requires-clause-device : goal.read_subs-requires-clause-device
-read_subs-requires-clause-device c =
+pub read_subs-requires : goal.read_subs-requires
+read_subs-requires c =
     let set = described c.args.set.now in
     let of = default_of set c.args.set.now.well_formed c.args.device c.requires.known c.args.taken.now.image c.requires.defaults in
-    of_alike set c.args.device _ _ of (alike_kept _ _ c.in_ok-read_part.ensures.kept)
+    record {
+      device = of_alike set c.args.device _ _ of (alike_kept _ _ c.in_ok-read_part.ensures.kept);
+      kinds = c.in_ok-read_part.ensures.kept.kinds ∙ ap (λ (x : Typed). x.kinds) c.requires.defaults;
+      none = c.requires.none;
+    }
 
-pub read_subs-requires-clause-kinds : goal.read_subs-requires-clause-kinds
-read_subs-requires-clause-kinds c =
-    c.in_ok-read_part.ensures.kept.kinds ∙ ap (λ (x : Typed). x.kinds) c.requires.defaults
-
-pub judge_device-reading-requires-clause-device : goal.judge_device-reading-requires-clause-device
-judge_device-reading-requires-clause-device c =
+pub judge_device-reading-requires : goal.judge_device-reading-requires
+judge_device-reading-requires c =
     let set = described c.args.set.now in
     let of = default_of set c.args.set.now.well_formed c.args.device c.requires.known c.args.taken.now.image c.requires.defaults in
-    of_alike set c.args.device _ _ (of_alike set c.args.device _ _ of (alike_kept _ _ c.in_ok-read_part.ensures.kept)) (subs_alike _ _ _ _ c.in_ok-read_subs.ensures.read)
-
-pub judge_device-reading-requires-clause-lines : goal.judge_device-reading-requires-clause-lines
-judge_device-reading-requires-clause-lines c = ap length c.deref.ensures.value ∙ c.in_ok-read_subs.ensures.count
+    record {
+      device = of_alike set c.args.device _ _ (of_alike set c.args.device _ _ of (alike_kept _ _ c.in_ok-read_part.ensures.kept)) (subs_alike _ _ _ _ c.in_ok-read_subs.ensures.read);
+      lines = ap length c.deref.ensures.value ∙ c.in_ok-read_subs.ensures.count;
+    }
 
 -- an image of the device, from its defaults on
 is_image : (c : goal.In_ok-read_subs) → IsImageOf (described c.args.set.now) c.args.device c.read_subs.new.taken.image
@@ -45,8 +43,8 @@ is_image c =
     let all = of_alike set c.args.device _ _ (of_alike set c.args.device _ _ of (alike_kept _ _ kept)) subs in
     record { subs = all.subs; cells = all.cells; kinds = subs.kinds ∙ kept.kinds ∙ ap (λ (x : Typed). x.kinds) c.requires.defaults }
 
-pub returns-then-is_none-clause-of : goal.returns-then-is_none-clause-of
-returns-then-is_none-clause-of c = is_image (goal.at.returns-then-is_none-clause-of c).In_ok-read_subs
+pub returns-then-is_none : goal.returns-then-is_none
+returns-then-is_none c = record { read = search rules; of = is_image (goal.at.returns-then-is_none c).In_ok-read_subs }
 
-pub returns-else-is_none-clause-of : goal.returns-else-is_none-clause-of
-returns-else-is_none-clause-of c = is_image (goal.at.returns-else-is_none-clause-of c).In_ok-read_subs
+pub returns-else-is_none : goal.returns-else-is_none
+returns-else-is_none c = record { read = search rules; of = is_image (goal.at.returns-else-is_none c).In_ok-read_subs }

@@ -17,22 +17,22 @@ loop-device-preserved c =
       of = first_more set i before c.push_image.new.images.items image c.loop-device.invariant.of c.in_ok-image.ensures.of pushed;
     }
 
-pub returns-clause-of : goal.returns-clause-of
-returns-clause-of c =
-    let set = described c.args.set.now in
-    let end : length set.devices ≡ c.loop-device.device = omega (arith, ap length c.as_slice.ensures, ap (λ s. length s.devices) c.parts.ensures, length-map c.parts.result.now.devices device_of) in
-    record { one_each = c.loop-device.invariant.of.count ∙ sym end; each = c.loop-device.invariant.of.each }
-
-pub returns-in_err-image-clause-read : goal.returns-in_err-image-clause-read
-returns-in_err-image-clause-read c =
+pub returns-in_err-image : goal.returns-in_err-image
+returns-in_err-image c =
     let set = described c.args.set.now in
     let i = c.loop-device.device in
     let lt : i < length set.devices = omega (arith, ap length c.as_slice.ensures, ap (λ s. length s.devices) c.parts.ensures, length-map c.parts.result.now.devices device_of) in
     let p = err_from_is_err_and c.from_residual.result c.from_residual.ensures.1 in
-    rw (p.1, p.2) (gathered_refused set i lt _ _ _ _ c.args.reading.now c.loop-device.reading c.read_image.new.reading c.in_err-image.field-0.0 c.loop-device.invariant.gathered c.in_err-image.ensures.read)
+    record {
+      read = rw (p.1, p.2) (gathered_refused set i lt _ _ _ _ c.args.reading.now c.loop-device.reading c.read_image.new.reading c.in_err-image.field-0.0 c.loop-device.invariant.gathered c.in_err-image.ensures.read);
+      of = rw p.1 tt;
+    }
 
-pub returns-clause-read : goal.returns-clause-read
-returns-clause-read c =
+pub returns : goal.returns
+returns c =
     let set = described c.args.set.now in
     let end : length set.devices ≡ c.loop-device.device = omega (arith, ap length c.as_slice.ensures, ap (λ s. length s.devices) c.parts.ensures, length-map c.parts.result.now.devices device_of) in
-    gathered_all set c.loop-device.device _ (map state_of c.loop-device.images.items) c.args.reading.now c.loop-device.reading end c.loop-device.invariant.gathered
+    record {
+      read = gathered_all set c.loop-device.device _ (map state_of c.loop-device.images.items) c.args.reading.now c.loop-device.reading end c.loop-device.invariant.gathered;
+      of = record { one_each = c.loop-device.invariant.of.count ∙ sym end; each = c.loop-device.invariant.of.each };
+    }

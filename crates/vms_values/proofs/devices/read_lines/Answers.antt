@@ -11,38 +11,42 @@ pub read_machine-start-requires : goal.read_machine-start-requires
 read_machine-start-requires c =
     omega (arith, ap length c.as_slice.ensures, ap (λ s. length s.machines) c.parts.ensures, few_machines (described c.args.set.now) c.args.set.now.well_formed)
 
-pub returns-in_err-images-clause-read : goal.returns-in_err-images-clause-read
-returns-in_err-images-clause-read c =
+pub returns-in_err-images : goal.returns-in_err-images
+returns-in_err-images c =
     let set = described c.args.set.now in
     let start = c.read_machine-start.result in
     let s = top set c.as_slice.result.now c.args.text.now start (c.as_slice.ensures ∙ ap (λ x. x.machines) c.parts.ensures) c.read_machine-start.ensures in
     let p = err_from_is_err_and c.from_residual.result c.from_residual.ensures.1 in
-    rw (p.1, p.2) (said_so set c.args.text.now _ (Err c.in_err-images.field-0.0) s.is (text_refused set s.name _ _ _ _ c.in_err-images.ensures.read))
+    record {
+      read = rw (p.1, p.2) (said_so set c.args.text.now _ (Err c.in_err-images.field-0.0) s.is (text_refused set s.name _ _ _ _ c.in_err-images.ensures.read));
+      of = rw p.1 tt;
+    }
 
-pub returns-then-not-is_empty-clause-read : goal.returns-then-not-is_empty-clause-read
-returns-then-not-is_empty-clause-read c =
+pub returns-then-not-is_empty : goal.returns-then-not-is_empty
+returns-then-not-is_empty c =
     let set = described c.args.set.now in
     let start = c.read_machine-start.result in
     let s = top set c.as_slice.result.now c.args.text.now start (c.as_slice.ensures ∙ ap (λ x. x.machines) c.parts.ensures) c.read_machine-start.ensures in
     let new = c.read_images.new.reading in
-    said_so set c.args.text.now _ (Err c.bad.result) s.is
-    (rw c.bad.ensures (text_longer set s.name _ _ new _ c.in_ok-images.ensures.read (some_of new.lines.rest.now (sym c.is_empty.ensures ∙ c.if-not-is_empty.true))))
-
-pub returns-clause-read : goal.returns-clause-read
-returns-clause-read c =
-    let set = described c.args.set.now in
-    let start = c.read_machine-start.result in
-    let s = top set c.as_slice.result.now c.args.text.now start (c.as_slice.ensures ∙ ap (λ x. x.machines) c.parts.ensures) c.read_machine-start.ensures in
-    let new = c.read_images.new.reading in
-    let v : Given = record { machine = start.machine; images = c.in_ok-images.images } in
-    said_so set c.args.text.now _ c.told.result s.is
-    (text_told set s.name _ _ new v c.told.result c.in_ok-images.ensures.read (nil_from_length new.lines.rest.now (eqb-true (length new.lines.rest.now) 0 (sym c.is_empty.ensures ∙ c.if-not-is_empty.false))) refl s.machine s.known c.told.ensures)
+    record {
+      read = said_so set c.args.text.now _ (Err c.bad.result) s.is
+          (rw c.bad.ensures (text_longer set s.name _ _ new _ c.in_ok-images.ensures.read (some_of new.lines.rest.now (sym c.is_empty.ensures ∙ c.if-not-is_empty.true))));
+      of = tt;
+    }
 
 told_of : (o : Option BadLine) (v : Given) (result : Result Given LineFault) (set : Set) → ToldAs o v result → AreImagesOf set v.images.items → IfOk result (λ w. AreImagesOf set w.images.items)
 told_of None v result set t of = rw t (search (rules, of))
 told_of (Some b) v result set t of = rw t (search rules)
 
-pub returns-clause-of : goal.returns-clause-of
-returns-clause-of c =
-    let v : Given = record { machine = c.read_machine-start.result.machine; images = c.in_ok-images.images } in
-    told_of _ v c.told.result (described c.args.set.now) c.told.ensures c.in_ok-images.ensures.of
+pub returns : goal.returns
+returns c =
+    let set = described c.args.set.now in
+    let start = c.read_machine-start.result in
+    let s = top set c.as_slice.result.now c.args.text.now start (c.as_slice.ensures ∙ ap (λ x. x.machines) c.parts.ensures) c.read_machine-start.ensures in
+    let new = c.read_images.new.reading in
+    let v : Given = record { machine = start.machine; images = c.in_ok-images.images } in
+    record {
+      read = said_so set c.args.text.now _ c.told.result s.is
+          (text_told set s.name _ _ new v c.told.result c.in_ok-images.ensures.read (nil_from_length new.lines.rest.now (eqb-true (length new.lines.rest.now) 0 (sym c.is_empty.ensures ∙ c.if-not-is_empty.false))) refl s.machine s.known c.told.ensures);
+      of = told_of _ v c.told.result set c.told.ensures c.in_ok-images.ensures.of;
+    }

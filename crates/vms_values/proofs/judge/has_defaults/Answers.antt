@@ -2,6 +2,9 @@ use Rattle.vms_values.proofs.Facade.{◌∙◌, arith, described, sub_inside}
 use Rattle.vms_values.proofs.JudgeLemmas.{bare_defaults}
 use Rattle.vms_values.proofs.judge.has_defaults.Goals as goal
 
+pub is_bare-requires : goal.is_bare-requires
+is_bare-requires c = record { device = c.requires.device; is_sub = c.requires.is_sub }
+
 pub returns : goal.returns
 returns c =
     let set = described c.args.set.now in

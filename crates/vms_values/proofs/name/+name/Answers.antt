@@ -26,12 +26,12 @@ print_element-nonzero_rem-rest g t c = omega (arith, (inside g t (goal.at.print_
 pub print_element-print_inside-requires : goal.print_element-print_inside-requires
 print_element-print_inside-requires g t c =
     let rest = (inside g t (goal.at.print_element-print_inside-requires g t c).After-item_cells-size).1 in
-    λ κs h. (search rules, (search rules, (c.requires.reaches, (c.requires.small, rest))))
+    λ κs h. (search rules, (search rules, record { reaches = c.requires.reaches; small = c.requires.small; cell = rest }))
 
 pub print_element-print_inside-requires-in_default : goal.print_element-print_inside-requires-in_default
 print_element-print_inside-requires-in_default g t c =
     let rest = (inside g t (goal.at.print_element-print_inside-requires-in_default g t c).After-item_cells-size).1 in
-    λ κs h. (search rules, (search rules, (c.requires.reaches, (c.requires.small, rest))))
+    λ κs h. (search rules, (search rules, record { reaches = c.requires.reaches; small = c.requires.small; cell = rest }))
 
 pub print_element-returns-in-One : goal.print_element-returns-in-One
 print_element-returns-in-One g t c =
@@ -55,7 +55,7 @@ print_inside-print_name-requires g t c =
     let small = rw c.in-Struct.is at c.requires.small in
     let cell = rw c.in-Struct.is at c.requires.cell in
     let size = struct_size set c.args.set.now.well_formed j lt in
-    λ κs h. (search rules, (search rules, (lt, (omega arith, omega arith))))
+    λ κs h. (search rules, (search rules, record { part = lt; small = omega arith; cell = omega arith }))
 
 pub print_inside-returns-in-Struct : goal.print_inside-returns-in-Struct
 print_inside-returns-in-Struct g t c =
@@ -109,7 +109,8 @@ print_name-print_element-requires g t c =
     let lower = at (λ (x : Field). item_rank x.item + 1 < part_rank set c.args.part + 2) s.next.lower in
     let one = at (λ (x : Field). size_in set x.item ≤ MOST_ITEMS) (one_fits (capacity_of f.count) (size_in set f.item) 0 MOST_ITEMS MOST_ITEMS s.next.some (omega arith) (omega arith)) in
     let inside = at (λ (x : Field). c.loop-field.left < capacity_of x.count * size_in set x.item) (omega arith) in
-    λ κs h. (search rules, (search rules, ((at (λ (x : Field). uses_below (length set.structs) x.item ≡ true) s.next.uses), (one, inside))))
+    let uses = at (λ (x : Field). uses_below (length set.structs) x.item ≡ true) s.next.uses in
+    λ κs h. (search rules, (search rules, record { reaches = uses; small = one; cell = inside }))
 
 pub print_name-returns-then-left-size : goal.print_name-returns-then-left-size
 print_name-returns-then-left-size g t c =

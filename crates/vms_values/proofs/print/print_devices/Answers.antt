@@ -27,8 +27,11 @@ here g c =
     let at = images_at states k image more (state_at c.args.images.now k c.index-images-device.result (omega (arith, states_long c.args.images.now)) c.index-images-device.is) in
     (of_next set k set.devices states (device_at set k) image (device_left set k lt) at c.loop-device.invariant.of, devices_next set k set.devices states (device_at set k) image (device_left set k lt) at)
 
-pub print_device-requires-clause-of : goal.print_device-requires-clause-of
-print_device-requires-clause-of g c = (here g c).0.0
+pub print_device-requires : goal.print_device-requires
+print_device-requires g c =
+    let set = described c.args.set.now in
+    let long : length c.as_slice.result.now ≡ length set.devices = ap length c.as_slice.ensures ∙ sym (length-map c.parts.result.now.devices device_of) ∙ ap (λ s. length s.devices) c.parts.ensures in
+    record { is_device = omega arith; of = (here g c).0.0 }
 
 pub returns-in_err-print_device : goal.returns-in_err-print_device
 returns-in_err-print_device g c =

@@ -28,28 +28,24 @@ pub print_elements-print_item-requires : goal.print_elements-print_item-requires
 print_elements-print_item-requires g t c =
     let set = described c.args.shown.set.now in
     let room = room_at c.loop-index.index c.args.run.count (size_in set c.args.item.now) c.args.run.first c.loop-index.cell (length c.args.shown.image.now.numbers) c.loop-index-test.true c.loop-index.invariant.here c.requires.room in
-    λ κs h. (search rules, (search rules, (c.requires.reaches, (room, (c.requires.few, (omega (arith, (element g t c).1)))))))
+    λ κs h. (search rules, (search rules, record { reaches = c.requires.reaches; room = room; few = c.requires.few; short = omega (arith, (element g t c).1) }))
 
-pub print_elements-returns-in_err-print_item-clause-written :
-    goal.print_elements-returns-in_err-print_item-clause-written
-print_elements-returns-in_err-print_item-clause-written g t c =
+pub print_elements-returns-in_err-print_item : goal.print_elements-returns-in_err-print_item
+print_elements-returns-in_err-print_item g t c =
     let set = described c.args.shown.set.now in
     let ps = printers set in
     let item = c.args.item.now in
     let n = c.args.shown.image.now.numbers in
     let i = c.loop-index.index in
-    let path = (element g t (goal.at.print_elements-returns-in_err-print_item-clause-written g t c).After-print_item-arg-in-loop-index-1).0 in
+    let path = (element g t (goal.at.print_elements-returns-in_err-print_item g t c).After-print_item-arg-in-loop-index-1).0 in
     let rest = element_lines ps item c.args.line.now n (c.loop-index.cell + size_in set item) (size_in set item) (i + 1) (c.args.run.count - (i + 1)) in
-    rw (err_from_is_err_and c.from_residual.result c.from_residual.ensures.1).1 (leaves_stop _
-    (elements_left ps item c.args.line.now n c.loop-index.cell (size_in set item) i c.args.run.count c.loop-index-test.true
-    ∙ ap (λ l. item_lines ps item l n c.loop-index.cell ++ rest) (sym path))
-    c.loop-index.invariant.owes c.in_err-print_item.ensures.written)
-
-pub print_elements-returns-in_err-print_item-clause-line :
-    goal.print_elements-returns-in_err-print_item-clause-line
-print_elements-returns-in_err-print_item-clause-line g t c =
-    let path = (element g t (goal.at.print_elements-returns-in_err-print_item-clause-line g t c).After-print_item-arg-in-loop-index-1).0 in
-    stays_then _ _ _ (stays_element c.args.line.now (decimal c.loop-index.index) c.push_index.new.self path) c.in_err-print_item.ensures.line
+    record {
+      written = rw (err_from_is_err_and c.from_residual.result c.from_residual.ensures.1).1 (leaves_stop _
+          (elements_left ps item c.args.line.now n c.loop-index.cell (size_in set item) i c.args.run.count c.loop-index-test.true
+          ∙ ap (λ l. item_lines ps item l n c.loop-index.cell ++ rest) (sym path))
+          c.loop-index.invariant.owes c.in_err-print_item.ensures.written);
+      line = stays_then _ _ _ (stays_element c.args.line.now (decimal i) c.push_index.new.self path) c.in_err-print_item.ensures.line;
+    }
 
 pub print_elements-overflow_add-cell : goal.print_elements-overflow_add-cell
 print_elements-overflow_add-cell g t c =
@@ -81,12 +77,15 @@ print_elements-loop-index-preserved g t c =
       here = omega arith;
     }
 
-pub print_elements-returns-clause-written : goal.print_elements-returns-clause-written
-print_elements-returns-clause-written g t c =
+pub print_elements-returns : goal.print_elements-returns
+print_elements-returns g t c =
     let set = described c.args.shown.set.now in
     let none : c.args.run.count - c.loop-index.index ≡ 0 = omega arith in
-    leaves_none
-    (no_elements (printers set) c.args.item.now c.args.line.now c.args.shown.image.now.numbers c.loop-index.cell (size_in set c.args.item.now) c.loop-index.index (c.args.run.count - c.loop-index.index) none) c.loop-index.invariant.owes
+    record {
+      written = leaves_none
+          (no_elements (printers set) c.args.item.now c.args.line.now c.args.shown.image.now.numbers c.loop-index.cell (size_in set c.args.item.now) c.loop-index.index (c.args.run.count - c.loop-index.index) none) c.loop-index.invariant.owes;
+      line = c.loop-index.invariant.line;
+    }
 
 pub print_field-print_item-requires : goal.print_field-print_item-requires
 print_field-print_item-requires g t c =
@@ -96,14 +95,14 @@ print_field-print_item-requires g t c =
     let same : 1 * size ≡ size = grind arith in
     let short : length c.push.new.self + NUMBER_ROOM + below c.args.field.now.item ≤ LONGEST =
     omega (arith, ap length (c.push.ensures ∙ ap (λ l. c.args.line.now ++ l) c.as_bytes.ensures), length-append c.args.line.now c.args.field.now.name) in
-    λ κs h. (search rules, (search rules, (fits.reaches, (omega arith, (fits.few, short)))))
+    λ κs h. (search rules, (search rules, record { reaches = fits.reaches; room = omega arith; few = fits.few; short = short }))
 
 pub print_field-print_elements-requires : goal.print_field-print_elements-requires
 print_field-print_elements-requires g t c =
     let fits = c.requires.fits in
     let short : length c.push.new.self + INDEX_ROOM + NUMBER_ROOM + below c.args.field.now.item ≤ LONGEST =
     omega (arith, ap length (c.push.ensures ∙ ap (λ l. c.args.line.now ++ l) c.as_bytes.ensures), length-append c.args.line.now c.args.field.now.name) in
-    λ κs h. (search rules, (search rules, (fits.reaches, (fits.small, (fits.room, (fits.few, short))))))
+    λ κs h. (search rules, (search rules, record { reaches = fits.reaches; small = fits.small; room = fits.room; few = fits.few; short = short }))
 
 pub print_field-returns-in_default : goal.print_field-returns-in_default
 print_field-returns-in_default g t c =
@@ -123,12 +122,11 @@ print_item-print_struct-requires g t c =
     let j = c.in-Struct.number in
     let room = rw c.in-Struct.is at c.requires.room in
     let short = rw c.in-Struct.is at c.requires.short in
-    λ κs h. (search rules, (search rules, (ltb-true j (length set.structs) (rw c.in-Struct.is at c.requires.reaches), (room, (c.requires.few, short)))))
+    λ κs h. (search rules, (search rules, record { reaches = ltb-true j (length set.structs) (rw c.in-Struct.is at c.requires.reaches); room = room; few = c.requires.few; short = short }))
 
-pub print_item-returns-in-Struct-clause-written : goal.print_item-returns-in-Struct-clause-written
-print_item-returns-in-Struct-clause-written g t c =
-    let ps = printers (described c.args.shown.set.now) in
-    wrote_as c.print_struct.result _ _ (rw (sym c.in-Struct.is)) c.print_struct.ensures.written
+pub print_item-returns-in-Struct : goal.print_item-returns-in-Struct
+print_item-returns-in-Struct g t c =
+    record { written = wrote_as c.print_struct.result _ _ (rw (sym c.in-Struct.is)) c.print_struct.ensures.written; line = c.print_struct.ensures.line }
 
 pub print_struct-print_part-requires : goal.print_struct-print_part-requires
 print_struct-print_part-requires g t c =
@@ -137,15 +135,18 @@ print_struct-print_part-requires g t c =
     let lt = c.requires.reaches in
     let size = struct_size set c.args.shown.set.now.well_formed j lt in
     let grown : length c.push.new.self + PART_ROOM * (j + 1) ≤ LONGEST = omega (arith, ap length c.push.ensures, length-append c.args.line.now (codes ".")) in
-    λ κs h. (search rules, (search rules, (record { part = lt; few = c.requires.few; room = omega arith }, grown)))
+    λ κs h. (search rules, (search rules, record { spot = record { part = lt; few = c.requires.few; room = omega arith }; short = grown }))
 
-pub print_struct-returns-clause-written : goal.print_struct-returns-clause-written
-print_struct-returns-clause-written g t c =
+pub print_struct-returns : goal.print_struct-returns
+print_struct-returns g t c =
     let set = described c.args.shown.set.now in
     let j = c.args.number in
     let n = c.args.shown.image.now.numbers in
-    wrote_as c.print_part.result _ _
-    (rw (c.push.ensures) (sym (struct_lines set c.args.shown.set.now.well_formed j c.requires.reaches c.args.line.now n c.args.cell))) c.print_part.ensures.written
+    record {
+      written = wrote_as c.print_part.result _ _
+          (rw (c.push.ensures) (sym (struct_lines set c.args.shown.set.now.well_formed j c.requires.reaches c.args.line.now n c.args.cell))) c.print_part.ensures.written;
+      line = stays_then _ _ _ (stays_is c.args.line.now (codes ".") c.push.new.self c.push.ensures) c.print_part.ensures.line;
+    }
 
 pub print_part-loop-field-init : goal.print_part-loop-field-init
 print_part-loop-field-init g t c =
@@ -178,7 +179,7 @@ pub print_part-print_field-requires : goal.print_part-print_field-requires
 print_part-print_field-requires g t c =
     let s = turn g t c in
     let short = field_short (described c.args.shown.set.now) c.args.shown.set.now.well_formed c.args.spot.part c.requires.spot.part c.loop-field.field s.inside (field_of c.index-as_slice-field.result) s.run.found in
-    λ κs h. (search rules, (search rules, (s.run.next.run, (short.0, omega (arith, ap length s.kept)))))
+    λ κs h. (search rules, (search rules, record { fits = s.run.next.run; name = short.0; short = omega (arith, ap length s.kept) }))
 
 -- its lines, under the path of the code, and those of the fields after it
 lines : (g : Over) (t : ℕ) (c : goal.print_part-After-print_field-arg-in-loop-field-1 g t) → (let set = described c.args.shown.set.now in
@@ -195,18 +196,14 @@ lines g t c =
     let rest = fields_left set c.args.spot c.args.line.now n (c.loop-field.field + 1) in
     s.run.next.lines ∙ ap (λ l. run_lines (printers set) f f.count c.elements.result l n c.field_start.result ++ rest) (sym s.kept)
 
-pub print_part-returns-in_err-print_field-clause-written :
-    goal.print_part-returns-in_err-print_field-clause-written
-print_part-returns-in_err-print_field-clause-written g t c =
-    let at = (goal.at.print_part-returns-in_err-print_field-clause-written g t c).After-print_field-arg-in-loop-field-1 in
+pub print_part-returns-in_err-print_field : goal.print_part-returns-in_err-print_field
+print_part-returns-in_err-print_field g t c =
+    let at = (goal.at.print_part-returns-in_err-print_field g t c).After-print_field-arg-in-loop-field-1 in
     let p = err_from_is_err_and c.from_residual.result c.from_residual.ensures.1 in
-    rw p.1 (leaves_stop _ (lines g t at) c.loop-field.invariant.owes c.in_err-print_field.ensures.written)
-
-pub print_part-returns-in_err-print_field-clause-line :
-    goal.print_part-returns-in_err-print_field-clause-line
-print_part-returns-in_err-print_field-clause-line g t c =
-    let s = turn g t (goal.at.print_part-returns-in_err-print_field-clause-line g t c).After-print_field-arg-in-loop-field-1 in
-    stays_then _ _ _ (rw s.kept (stays c.args.line.now)) c.in_err-print_field.ensures.line
+    record {
+      written = rw p.1 (leaves_stop _ (lines g t at) c.loop-field.invariant.owes c.in_err-print_field.ensures.written);
+      line = stays_then _ _ _ (rw ((turn g t at).kept) (stays c.args.line.now)) c.in_err-print_field.ensures.line;
+    }
 
 pub print_part-loop-field-preserved : goal.print_part-loop-field-preserved
 print_part-loop-field-preserved g t c =
@@ -216,7 +213,10 @@ print_part-loop-field-preserved g t c =
       line = stays_then _ _ _ (rw ((turn g t at).kept) (stays c.args.line.now)) c.in_ok-print_field.ensures.line;
     }
 
-pub print_part-returns-clause-written : goal.print_part-returns-clause-written
-print_part-returns-clause-written g t c =
+pub print_part-returns : goal.print_part-returns
+print_part-returns g t c =
     let set = described c.args.shown.set.now in
-    leaves_none (no_fields set c.args.spot c.args.line.now c.args.shown.image.now.numbers c.loop-field.field (omega arith)) c.loop-field.invariant.owes
+    record {
+      written = leaves_none (no_fields set c.args.spot c.args.line.now c.args.shown.image.now.numbers c.loop-field.field (omega arith)) c.loop-field.invariant.owes;
+      line = c.loop-field.invariant.line;
+    }

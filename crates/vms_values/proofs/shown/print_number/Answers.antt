@@ -8,12 +8,7 @@ pieced path a b d line e f is g h =
     h ∙ ap (λ l. l ++ line_end) (g ∙ ap (λ l. l ++ e) f ∙ ap (λ l. (path ++ codes " = ") ++ l) is)
     ∙ append_assoc (path ++ codes " = ") d line_end ∙ append_assoc path (codes " = ") (d ++ line_end)
 
-pub returns-clause-written : goal.returns-clause-written
-returns-clause-written g c =
+pub returns : goal.returns
+returns g c =
     let line = pieced c.args.line.now _ _ (signed_decimal c.args.number) c.push-3.new.self _ c.push.ensures (c.as_bytes.ensures.value ∙ c.format.ensures.text ∙ ap signed_decimal (to_z-of_z {w = w128} c.ranges.number)) c.push-2.ensures c.push-3.ensures in
-    wrote_as c.write_all_of.result _ _ (c.text.ensures ∙ line) c.write_all_of.ensures
-
-pub returns-clause-line : goal.returns-clause-line
-returns-clause-line g c =
-    let line = pieced c.args.line.now _ _ (signed_decimal c.args.number) c.push-3.new.self _ c.push.ensures (c.as_bytes.ensures.value ∙ c.format.ensures.text ∙ ap signed_decimal (to_z-of_z {w = w128} c.ranges.number)) c.push-2.ensures c.push-3.ensures in
-    stays_is _ _ _ line
+    record { written = wrote_as c.write_all_of.result _ _ (c.text.ensures ∙ line) c.write_all_of.ensures; line = stays_is _ _ _ line }

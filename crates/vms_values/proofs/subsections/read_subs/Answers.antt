@@ -15,20 +15,24 @@ loop-sub-init c =
       alike = alike_none c.args.taken.now.image;
     }
 
-pub read_sub-requires-clause-device : goal.read_sub-requires-clause-device
-read_sub-requires-clause-device c = of_alike (described c.args.set.now) c.args.device _ _ c.requires.device c.loop-sub.invariant.alike
+pub read_sub-requires : goal.read_sub-requires
+read_sub-requires c = record {
+  device = of_alike (described c.args.set.now) c.args.device _ _ c.requires.device c.loop-sub.invariant.alike;
+  kinds = c.loop-sub.invariant.alike.kinds ∙ c.requires.kinds;
+  is_sub = omega arith;
+}
 
-pub read_sub-requires-clause-kinds : goal.read_sub-requires-clause-kinds
-read_sub-requires-clause-kinds c = c.loop-sub.invariant.alike.kinds ∙ c.requires.kinds
-
-pub returns-in_err-read_sub-clause-read : goal.returns-in_err-read_sub-clause-read
-returns-in_err-read_sub-clause-read c =
+pub returns-in_err-read_sub : goal.returns-in_err-read_sub
+returns-in_err-read_sub c =
     let set = described c.args.set.now in
     let i = c.args.device in
     let j = c.loop-sub.sub in
     let p = err_from_is_err_and c.from_residual-in_err-read_sub.result c.from_residual-in_err-read_sub.ensures.1 in
-    rw (p.1, p.2) (subs_bad _ _ j c.args.taken.now c.read_sub.new.taken c.loop-sub.taken c.push_line.new.lines.items _
-    (λ b same. follows_stop set i j (omega arith) _ c.loop-sub.taken c.loop-sub.lines.items b c.loop-sub.invariant.follows same) c.in_err-read_sub.ensures.read)
+    record {
+      read = rw (p.1, p.2) (subs_bad _ _ j c.args.taken.now c.read_sub.new.taken c.loop-sub.taken c.push_line.new.lines.items _
+          (λ b same. follows_stop set i j (omega arith) _ c.loop-sub.taken c.loop-sub.lines.items b c.loop-sub.invariant.follows same) c.in_err-read_sub.ensures.read);
+      count = rw p.1 tt;
+    }
 
 pub loop-sub-preserved : goal.loop-sub-preserved
 loop-sub-preserved c =

@@ -17,21 +17,20 @@ element t c =
     let front = cut_is c.args.path.now c.loop-index.path c.cut.new.self c.len-kept.result c.cut.ensures c.len-kept.ensures c.loop-index.invariant.path in
     (c.push_index.ensures.text ∙ ap (λ l. l ++ codes "[" ++ decimal c.loop-index.index ++ codes "]") front, omega (arith, ap length front))
 
-pub read_elements-returns-in_err-read_item-clause-read : goal.read_elements-returns-in_err-read_item-clause-read
-read_elements-returns-in_err-read_item-clause-read t c =
+pub read_elements-returns-in_err-read_item : goal.read_elements-returns-in_err-read_item
+read_elements-returns-in_err-read_item t c =
     let set = described c.args.set.now in
     let f = field_of c.args.run.field.now in
     let p = err_from_is_err_and c.from_residual.result c.from_residual.ensures.1 in
-    rw (p.1, p.2) (stopped _ _ _ _ _
-    (λ b same. sym c.loop-index.invariant.reads ∙ elements_stop (readers set) f (capacities_of c.args.run.most) c.args.path.now c.args.run.present (size_in set f.item)
-    c.loop-index.first c.loop-index.index c.args.run.count (place_of c.loop-index.taken) b c.loop-index-test.true
-    (rw (sym ((element t (goal.at.read_elements-returns-in_err-read_item-clause-read t c).After-read_item-arg-in-loop-index-1).0)) (same)))
-    c.in_err-read_item.ensures.read)
-
-pub read_elements-returns-in_err-read_item-clause-path : goal.read_elements-returns-in_err-read_item-clause-path
-read_elements-returns-in_err-read_item-clause-path t c =
-    let path = (element t (goal.at.read_elements-returns-in_err-read_item-clause-path t c).After-read_item-arg-in-loop-index-1).0 in
-    stays_then _ _ _ (stays_element c.args.path.now (decimal c.loop-index.index) c.push_index.new.self path) c.in_err-read_item.ensures.path
+    let path = (element t (goal.at.read_elements-returns-in_err-read_item t c).After-read_item-arg-in-loop-index-1).0 in
+    record {
+      read = rw (p.1, p.2) (stopped _ _ _ _ _
+          (λ b same. sym c.loop-index.invariant.reads ∙ elements_stop (readers set) f (capacities_of c.args.run.most) c.args.path.now c.args.run.present (size_in set f.item)
+          c.loop-index.first c.loop-index.index c.args.run.count (place_of c.loop-index.taken) b c.loop-index-test.true (rw (sym path) (same)))
+          c.in_err-read_item.ensures.read);
+      kept = kept_more _ _ _ c.loop-index.invariant.kept c.in_err-read_item.ensures.kept;
+      path = stays_then _ _ _ (stays_element c.args.path.now (decimal c.loop-index.index) c.push_index.new.self path) c.in_err-read_item.ensures.path;
+    }
 
 pub read_elements-overflow_add-first : goal.read_elements-overflow_add-first
 read_elements-overflow_add-first t c =
@@ -66,8 +65,16 @@ read_elements-read_item-requires t c =
     let item = c.args.run.field.now.item in
     let room = room_at c.loop-index.index c.args.run.count (size_in set item) c.args.run.first c.loop-index.first _ (omega arith) c.loop-index.invariant.here c.requires.fits.room in
     let here : AreKinds c.args.taken.now.image.kinds c.loop-index.first (element_cells (cells_in (table set)) item) =
-    rw c.loop-index.invariant.here (c.requires.kinds c.loop-index.index (omega arith)) in
-    (omega arith, (c.requires.fits.reaches, ((omega arith), ((omega arith), (rw c.loop-index.invariant.kept.kinds here, (omega (arith, (element t c).1)))))))
+    rw c.loop-index.invariant.here (c.requires.kinds c.loop-index.index (omega arith)) in (
+      omega arith,
+      record {
+        reaches = c.requires.fits.reaches;
+        room = omega arith;
+        few = omega arith;
+        kinds = rw c.loop-index.invariant.kept.kinds here;
+        short = omega (arith, (element t c).1);
+      },
+    )
 
 pub read_field-read_item-requires : goal.read_field-read_item-requires
 read_field-read_item-requires t c =
@@ -78,13 +85,27 @@ read_field-read_item-requires t c =
     let named : c.push.new.self ≡ c.args.path.now ++ (field_of c.args.run.field.now).name = c.push.ensures ∙ ap (λ l. c.args.path.now ++ l) c.as_bytes.ensures in
     let short : length c.push.new.self + NUMBER_ROOM + below c.args.run.field.now.item ≤ LONGEST =
     omega (arith, ap length named, length-append c.args.path.now (field_of c.args.run.field.now).name) in
-    let zero_on : c.args.run.first + 0 * size_in set item ≡ c.args.run.first = omega arith in
-    (omega arith, (c.requires.fits.reaches, ((omega arith), (c.requires.fits.few, (rw zero_on at (c.requires.kinds 0 (omega arith)), short)))))
+    let zero_on : c.args.run.first + 0 * size_in set item ≡ c.args.run.first = omega arith in (
+      omega arith,
+      record {
+        reaches = c.requires.fits.reaches;
+        room = omega arith;
+        few = c.requires.fits.few;
+        kinds = rw zero_on at (c.requires.kinds 0 (omega arith));
+        short = short;
+      },
+    )
 
 pub read_field-read_elements-requires : goal.read_field-read_elements-requires
 read_field-read_elements-requires t c =
-    let named : c.push.new.self ≡ c.args.path.now ++ (field_of c.args.run.field.now).name = c.push.ensures ∙ ap (λ l. c.args.path.now ++ l) c.as_bytes.ensures in
-    (omega arith, (c.requires.fits, (c.requires.kinds, (omega (arith, ap length named, length-append c.args.path.now (field_of c.args.run.field.now).name)))))
+    let named : c.push.new.self ≡ c.args.path.now ++ (field_of c.args.run.field.now).name = c.push.ensures ∙ ap (λ l. c.args.path.now ++ l) c.as_bytes.ensures in (
+      omega arith,
+      record {
+        fits = c.requires.fits;
+        kinds = c.requires.kinds;
+        short = omega (arith, ap length named, length-append c.args.path.now (field_of c.args.run.field.now).name);
+      },
+    )
 
 pub read_field-returns-in_default : goal.read_field-returns-in_default
 read_field-returns-in_default t c =
@@ -109,15 +130,23 @@ read_item-read_under-requires t c =
     let spot : HasSpot set (record { part = parts.Struct j; version = c.desc.result.now.version; base = c.args.run.first }) c.args.taken.now.image.numbers =
     record { part = lt; few = c.requires.few; room = omega arith } in
     let short = rw c.in-Struct.is at c.requires.short in
-    let grown : length c.push.new.self + PART_ROOM * (j + 1) ≤ LONGEST = omega (arith, ap length c.push.ensures, length-append c.args.path.now (codes ".")) in
-    (search rules, (spot, (struct_kinds set c.args.set.now.well_formed j lt c.args.taken.now.image.kinds c.args.run.first (rw c.in-Struct.is at c.requires.kinds), grown)))
+    let grown : length c.push.new.self + PART_ROOM * (j + 1) ≤ LONGEST = omega (arith, ap length c.push.ensures, length-append c.args.path.now (codes ".")) in (
+      search rules,
+      record {
+        spot = spot;
+        kinds = struct_kinds set c.args.set.now.well_formed j lt c.args.taken.now.image.kinds c.args.run.first (rw c.in-Struct.is at c.requires.kinds);
+        short = grown;
+      },
+    )
 
-pub read_item-read_number_line-requires-clause-of_kind : goal.read_item-read_number_line-requires-clause-of_kind
-read_item-read_number_line-requires-clause-of_kind t c =
-    number_kind (cells_in (table (described c.args.set.now))) c.args.taken.now.image.kinds c.args.run.first c.in-Num.kind (rw c.in-Num.is at c.requires.kinds)
+pub read_item-read_number_line-requires : goal.read_item-read_number_line-requires
+read_item-read_number_line-requires t c = record {
+  room = search rules;
+  of_kind = number_kind (cells_in (table (described c.args.set.now))) c.args.taken.now.image.kinds c.args.run.first c.in-Num.kind (rw c.in-Num.is at c.requires.kinds);
+}
 
-pub read_item-returns-in-Struct-clause-read : goal.read_item-returns-in-Struct-clause-read
-read_item-returns-in-Struct-clause-read t c =
+pub read_item-returns-in-Struct : goal.read_item-returns-in-Struct
+read_item-returns-in-Struct t c =
     let set = described c.args.set.now in
     let j = c.in-Struct.number in
     let f = field_of c.args.run.field.now in
@@ -126,10 +155,14 @@ read_item-returns-in-Struct-clause-read t c =
     let path = c.args.path.now in
     let p = place_of c.args.taken.now in
     let caps = capacities_of c.args.run.most in
-    rw (ap (λ (l : List ℕ). read_desc (readers set) d c.desc.result.now.version l c.args.run.present c.args.run.first p) c.push.ensures
-    ∙ ap (λ (v : ℕ). read_desc (readers set) d v (path ++ codes ".") c.args.run.present c.args.run.first p) (ap (λ (x : Desc). x.version) c.desc.ensures)
-    ∙ sym (ap (λ (i : Item). read_item (readers set) f caps path c.args.run.present c.args.run.first i p) c.in-Struct.is
-    ∙ struct_reads set c.args.set.now.well_formed j lt f caps path c.args.run.present c.args.run.first p)) at c.read_under.ensures.read
+    record {
+      read = rw (ap (λ (l : List ℕ). read_desc (readers set) d c.desc.result.now.version l c.args.run.present c.args.run.first p) c.push.ensures
+          ∙ ap (λ (v : ℕ). read_desc (readers set) d v (path ++ codes ".") c.args.run.present c.args.run.first p) (ap (λ (x : Desc). x.version) c.desc.ensures)
+          ∙ sym (ap (λ (i : Item). read_item (readers set) f caps path c.args.run.present c.args.run.first i p) c.in-Struct.is
+          ∙ struct_reads set c.args.set.now.well_formed j lt f caps path c.args.run.present c.args.run.first p)) at c.read_under.ensures.read;
+      kept = c.read_under.ensures.kept;
+      path = stays_then _ _ _ (stays_is c.args.path.now (codes ".") c.push.new.self c.push.ensures) c.read_under.ensures.path;
+    }
 
 pub read_under-loop-field-init : goal.read_under-loop-field-init
 read_under-loop-field-init t c =
@@ -200,25 +233,31 @@ pub read_under-read_field-requires : goal.read_under-read_field-requires
 read_under-read_field-requires t c =
     let s = turn t c in
     let fewer : c.elements.result ≤ capacity_of c.index-as_slice-field.result.count = omega (arith, ap (λ x. capacity_of x.count) s.run.found, elements_fit (field_at (described c.args.set.now) c.args.spot.part c.loop-field.field).count (own_numbers (described c.args.set.now) c.args.spot.part c.loop-field.taken.image.numbers c.args.spot.base)) in
-    let short = field_short (described c.args.set.now) c.args.set.now.well_formed c.args.spot.part c.requires.spot.part c.loop-field.field s.comes.inside (field_of c.index-as_slice-field.result) s.run.found in
-    (omega arith, (s.run.next.run, ((λ i inside. s.kinds.here i (omega arith)), (short.0, omega (arith, ap length s.front)))))
+    let short = field_short (described c.args.set.now) c.args.set.now.well_formed c.args.spot.part c.requires.spot.part c.loop-field.field s.comes.inside (field_of c.index-as_slice-field.result) s.run.found in (
+      omega arith,
+      record {
+        fits = s.run.next.run;
+        kinds = λ i inside. s.kinds.here i (omega arith);
+        name = short.0;
+        short = omega (arith, ap length s.front);
+      },
+    )
 
-pub read_under-returns-in_err-read_field-clause-read : goal.read_under-returns-in_err-read_field-clause-read
-read_under-returns-in_err-read_field-clause-read t c =
+pub read_under-returns-in_err-read_field : goal.read_under-returns-in_err-read_field
+read_under-returns-in_err-read_field t c =
     let set = described c.args.set.now in
     let spot = c.args.spot in
-    let s = turn t (goal.at.read_under-returns-in_err-read_field-clause-read t c).After-read_field-arg-in-loop-field-1 in
+    let s = turn t (goal.at.read_under-returns-in_err-read_field t c).After-read_field-arg-in-loop-field-1 in
     let p = err_from_is_err_and c.from_residual.result c.from_residual.ensures.1 in
-    rw (p.1, p.2) (stopped _ _ _ _ _
-    (λ b same. sym s.reads ∙ fields_stop set (desc_at set spot.part) spot.version c.args.path.now c.args.present spot.base c.loop-field.field
-    c.field_start.result c.elements.result c.most.result c.is_present.result (field_of c.index-as_slice-field.result)
-    (place_of c.loop-field.taken) b s.comes same)
-    (rw s.front at c.in_err-read_field.ensures.read))
-
-pub read_under-returns-in_err-read_field-clause-path : goal.read_under-returns-in_err-read_field-clause-path
-read_under-returns-in_err-read_field-clause-path t c =
-    let s = turn t (goal.at.read_under-returns-in_err-read_field-clause-path t c).After-read_field-arg-in-loop-field-1 in
-    stays_then _ _ _ (rw s.front (stays c.args.path.now)) c.in_err-read_field.ensures.path
+    record {
+      read = rw (p.1, p.2) (stopped _ _ _ _ _
+          (λ b same. sym s.reads ∙ fields_stop set (desc_at set spot.part) spot.version c.args.path.now c.args.present spot.base c.loop-field.field
+          c.field_start.result c.elements.result c.most.result c.is_present.result (field_of c.index-as_slice-field.result)
+          (place_of c.loop-field.taken) b s.comes same)
+          (rw s.front at c.in_err-read_field.ensures.read));
+      kept = kept_more _ _ _ c.loop-field.invariant.kept c.in_err-read_field.ensures.kept;
+      path = stays_then _ _ _ (rw s.front (stays c.args.path.now)) c.in_err-read_field.ensures.path;
+    }
 
 pub read_under-loop-field-preserved : goal.read_under-loop-field-preserved
 read_under-loop-field-preserved t c =

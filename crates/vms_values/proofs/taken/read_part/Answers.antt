@@ -2,6 +2,9 @@ use Rattle.vms_values.proofs.Facade.{length, ap, arith, described}
 use Rattle.vms_values.proofs.Printers.{part_short}
 use Rattle.vms_values.proofs.taken.read_part.Goals as goal
 
-pub read_under-requires-clause-short : goal.read_under-requires-clause-short
-read_under-requires-clause-short c =
-    omega (arith, ap length c.cut.ensures, part_short (described c.args.set.now) c.args.set.now.well_formed c.args.spot.part c.requires.spot.part)
+pub read_under-requires : goal.read_under-requires
+read_under-requires c = record {
+  spot = c.requires.spot;
+  kinds = c.requires.kinds;
+  short = omega (arith, ap length c.cut.ensures, part_short (described c.args.set.now) c.args.set.now.well_formed c.args.spot.part c.requires.spot.part);
+}
