@@ -1,6 +1,6 @@
 -- The names of other crates, and of this crate's `specs`, that the proofs use.
 pub use Rattle.std.proofs.Common.{Bool, Err, IfSome, IsErrAnd, IsSomeAnd, List, None, Ok, Option, Result, Some, [], ap, append-nil, arith, codes, false, get_or}
-pub use Rattle.std.proofs.Common.{if◌then◌else◌, inl, inr, le_refl, length, length-append, map, max, nat_le, nat_lt, refl, rules, subst, suc, sym, take, take_all}
+pub use Rattle.std.proofs.Common.{if◌then◌else◌, inl, inr, le_refl, length, length-append, map, max, nat_le, nat_lt, refl, subst, suc, sym, take, take_all}
 pub use Rattle.std.proofs.Common.{true, zero, ℕ, ℤ, ◌&&◌, ◌++◌, ◌+◌, ◌-◌, ◌<◌, ◌^◌, ◌||◌, ◌∙◌, ◌∷◌, ◌≡◌, ◌≤◌, ◌⊎◌}
 pub use Rattle.std.proofs.KnownBytes.{Keeps-refl}
 pub use Rattle.std.proofs.Math.Nat.{le-max_left, le-max_right}

@@ -1,6 +1,5 @@
 -- What the calls of this crate require and ensure, over the sets and the loader that they borrow.
 use Rattle.std.specs.Prelude.{◌≡◌, ℕ, ◌+◌, ◌<◌, Bool, List, length, map, Option, Some, None, IfOk, IfSome, Result}
-use Rattle.std.specs.Bool.{OnTrue}
 use Rattle.std.specs.List.{slice_get}
 use Rattle.std.specs.declared.alloc.Global.{Global}
 use Rattle.std.specs.declared.vec.Vec.{Vec}
@@ -19,7 +18,7 @@ use Rattle.vms_load.specs.declared.loader.Loader.{Loader}
 use Rattle.vms_marks.specs.declared.stream_head.TheConstants.{BESIDE_SECTIONS}
 use Rattle.vms_counter_laws.specs.Candidates.{admits, default_images, lacking, machine_for, raised, raised_cell, raised_fields, raised_image, with_image}
 use Rattle.vms_counter.specs.Found.{AreStates, HasRoom, IsRight}
-use Rattle.vms_counter.specs.Raising.{Fits, IsExcess, IsState, as_excess}
+use Rattle.vms_counter.specs.Raising.{IsExcess, IsState, as_excess}
 use Rattle.vms_counter.specs.Trying.{HasFailed, IsRefused, IsTaken, Tries}
 use Rattle.vms_counter.specs.declared.finding.Finding.{Finding}
 use Rattle.vms_counter.specs.declared.raising.Excess.{Excess}
@@ -114,10 +113,9 @@ module _ (set : DescSet) where
     pub device : raise.device < length (described set).devices
     pub image : x ≡ default_at (described set) raise.device
 
-  -- `b` says whether the number in this cell of the image can have the raised value.
-  pub record Admits (raise : Raise) (image : Typed) (cell : ℕ) (b : Bool) : Type 0 where
-    pub same : b ≡ admits (described set) (device_at (described set) raise.device) raise.field cell raise.value
-    pub fits : OnTrue b (Fits image cell raise.value)
+  -- The number in this cell of the device's image can have the raised value.
+  abbrev pub admits_in : Raise → ℕ → Bool
+  admits_in raise cell = admits (described set) (device_at (described set) raise.device) raise.field cell raise.value
 
   -- The image is device i's with this number raised, if it can be.
   abbrev pub IsRaised : ℕ → Excess → Option Typed → Type 0

@@ -1,10 +1,11 @@
 // One number of a device, raised above the newer set's capacity.
 ghost use Rattle.std.specs.Prelude.{◌≡◌, map, slice_set, IfOk};
+ghost use Rattle.std.specs.Bool.{OnTrue};
 ghost use Rattle.vms_spec.specs.Layout.{counted};
 ghost use Rattle.vms_spec.specs.Rules.{counts_well};
 ghost use Rattle.vms_parts.specs.Views.{field_of};
 ghost use Rattle.vms_counter_laws.specs.Candidates.{excess};
-ghost use Rattle.vms_counter.specs.Calls.{Admits, HasDefault, HasDevice, IsRaised, IsRaisedAt};
+ghost use Rattle.vms_counter.specs.Calls.{HasDefault, HasDevice, IsRaised, IsRaisedAt, admits_in};
 ghost use Rattle.vms_counter.specs.Raising.{counted_here, Fits, map_excess};
 
 use std::alloc::Global;
@@ -92,7 +93,8 @@ struct Raise {
 // Checks whether the number in this cell of the device's image can have the raised value.
 fn admits(set: &DescSet, raise: Raise, image: &Image, cell: u32) -> bool
     requires { HasDefault set.now raise image.now }
-    ensures { Admits set.now raise image.now cell result }
+    ensures admits { result ≡ admits_in set.now raise cell }
+    ensures fits { OnTrue result (Fits image.now cell raise.value) }
 {
     if cell >= image.len() {
         return false;
