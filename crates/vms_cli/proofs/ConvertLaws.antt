@@ -1,4 +1,5 @@
 -- What follows of a stream that `convert` writes.
+use Rattle.vms_cli.proofs.{Entries.ConvertCommand.target_gives, ConvertLemmas.newest_fit}
 use Rattle.vms_cli.proofs.Facade.{◌≡◌, ℕ, List, Option, Some, None, refl, sym, ap, ◌∙◌, subst, arith, [], append-nil, length, ◌-◌, Bool, true, false, ◌||◌, ◌∷◌}
 use Rattle.vms_cli.proofs.Facade.{IfSome, ℤ, if◌then◌else◌, length-map, bytes_eq-Decides, bytes_eq, Held, IsFit, Image, Set, Takes, one_stream_holds}
 use Rattle.vms_cli.proofs.Facade.{taken_kept, Compatible, first_mismatch, Mismatch, IsStreamFor, word_set, Outcome, done, SetWord, Step, Untold, Gives, Ends}
@@ -7,12 +8,9 @@ use Rattle.vms_cli.proofs.Facade.{converts_stand, ready, newest_kinds, PrintsAli
 use Rattle.vms_cli.proofs.Facade.{IsLevel, NEWEST, by_device, joined, moment_of, numbers_back, pair_back, pit_back, timed, State, recast_restores, recast_cells}
 use Rattle.vms_cli.proofs.Facade.{IsConfiguration, is_one_of, recast_each, numbers_in, wants_arrays, lists_in, takes_under, cells_of, isa, isa_stands, Back}
 use Rattle.vms_cli.proofs.Facade.{Restores, Loads, LoadsBy, Traces, Unfit, scripted, ScriptLine}
-use Rattle.vms_cli.specs.Commands.ConvertCommand.{Refuses}
-use Rattle.vms_cli.proofs.Entries.ConvertCommand.{target_gives}
-use Rattle.vms_cli.proofs.ConvertLemmas.{newest_fit}
-use Rattle.vms_convert.specs.Laws.{Converts as StaysSo}
-use Rattle.vms_cli.specs.Commands.ShowCommand.{Values as Printed}
 use Rattle.vms_cli.proofs.RoundTrips.{done_apart, fits_text, machine_of_set, same_text, written_prints}
+use Rattle.vms_cli.specs.{Commands.ConvertCommand.Refuses, Commands.ShowCommand.Values as Printed}
+use Rattle.vms_convert.specs.Laws.{Converts as StaysSo}
 use Rattle.vms_check.proofs.SelfLaws.{is_among}
 use Rattle.vms_board.specs.Isa.{machine_of}
 use Rattle.vms_board_commands.specs.Load.{Faulty as NotRead}

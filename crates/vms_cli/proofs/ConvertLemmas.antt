@@ -1,4 +1,5 @@
 -- What `convert` answers, and how it ends.
+use Rattle.vms_cli.proofs.AnalyzeLemmas.{Stands}
 use Rattle.vms_cli.proofs.Facade.{◌≡◌, ◌⊎◌, ℕ, zero, suc, ◌<◌, List, [], ◌∷◌, length, get_or, Option, Some, None, ℤ, inl, inr, refl, sym, ap, ◌∙◌, subst, arith}
 use Rattle.vms_cli.proofs.Facade.{◌+◌, ◌≤◌, ◌^◌, Bool, false, true, Result, Ok, Err, IfSome, length-map, slice_get-get_or, Keeps, string_bytes, IsFit, Image}
 use Rattle.vms_cli.proofs.Facade.{device_cells, Set, written, device_at, AreKept, described_text, carried, Compatible, first_mismatch, IsStreamFor, LosesFirst}
@@ -9,12 +10,10 @@ use Rattle.vms_cli.proofs.Facade.{agreed, agrees, lost_line, ArrayVec, Held, Int
 use Rattle.vms_cli.proofs.Facade.{loads_kept, Mismatch, ConvertFault, Ending, EndsSo, Risen, is_among, EndsAs, WritesAs, status_of, refused_line, Outcome, done}
 use Rattle.vms_cli.proofs.Facade.{ended, mismatch_line, Step, Gives, Ends, unshelved_so, wrong, comes_to_nothing, ends_with, same_keeps, Seen, SeenAs}
 use Rattle.vms_cli.proofs.Facade.{content_seen, load_seen, other_seen, seen_lost, seen_written, sees_as, convert_course}
-use Rattle.std.specs.declared.alloc.Global.{Global}
-use Rattle.std.specs.declared.string.String.{String}
-use Rattle.vms_convert.specs.Calls.{Converts as Calls}
-use Rattle.vms_cli.specs.Commands.ConvertCommand.{EndsLike, FailsReading, FailsWriting, IsRefused, Refuses}
-use Rattle.vms_cli.proofs.AnalyzeLemmas.{Stands}
 use Rattle.vms_cli.proofs.ShowLemmas.{Front, HasFront, Invalid, Stream, one_front}
+use Rattle.vms_cli.specs.Commands.ConvertCommand.{EndsLike, FailsReading, FailsWriting, IsRefused, Refuses}
+use Rattle.std.specs.{declared.alloc.Global.Global, declared.string.String.String}
+use Rattle.vms_convert.specs.Calls.{Converts as Calls}
 use Rattle.vms_load.specs.declared.fault.LoadFault.TheVariants as loads
 use Rattle.vms_convert.specs.declared.fault.ConvertFault.TheVariants as faults
 use Rattle.vms_commands.specs.declared.ending.Ending.TheVariants as endings

@@ -1,4 +1,5 @@
 -- From how a call ends and why to what it answers.
+use Rattle.vms_cli.proofs.{Entries.fits_of, RowLemmas.caused_so, RowLemmas.row_so, CheckLemmas.verdict_so}
 use Rattle.vms_cli.proofs.Facade.{ℕ, List, length, Option, None, Some, sym, subst, ◌≡◌, [], append-nil, IsSomeAnd, refl, ap, ◌∙◌, IfSome, ReachesSet, Alike}
 use Rattle.vms_cli.proofs.Facade.{clock, Family, isa, Back, Restores, Loads, LoadsBy, Traces, scripted, boards_go_on, stream_with, BoardsGoOn, Outcome, Outside}
 use Rattle.vms_cli.proofs.Facade.{DoesOrStops, done, Step, Untold, Gives, Ends, Both, both, next, ScriptLine, events_of, HasOutcome, Asked, IsaBoard}
@@ -6,14 +7,10 @@ use Rattle.vms_cli.proofs.Facade.{ClockBoard, Load, Show, Check, asked_of, Conti
 use Rattle.vms_cli.proofs.Facade.{IsFit, Compatible, carried, Takes, upgrade_stands, SetText, fetched_set, named_sets, set_in, sets_in, word_set, SetWord}
 use Rattle.vms_cli.proofs.Facade.{FitStep, fit_word, AreCompatible, Verdict, CheckThenShowLaw, Shows, ShowsBy, IsWritten, Upgrade, UpgradesTo, shown_newer}
 use Rattle.vms_cli.proofs.Facade.{Intake, Outlet, Stock, Serves, Ending, Tells, around, outcome_so, Runs, moment, task_of}
+use Rattle.vms_cli.specs.{Answers.Answers, Commands.ShowCommand.Values as Printed}
 use Rattle.dev_board.specs.Sound.{IsSound}
 use Rattle.dev_clock.specs.Sound.{Alike as AlikeClocks, IsSound as IsSoundClock}
 use Rattle.vms_board_streams.proofs.ClockLaws.{boards_go_on as clocks_go_on}
-use Rattle.vms_cli.specs.Answers.{Answers}
-use Rattle.vms_cli.specs.Commands.ShowCommand.{Values as Printed}
-use Rattle.vms_cli.proofs.Entries.{fits_of}
-use Rattle.vms_cli.proofs.RowLemmas.{caused_so, row_so}
-use Rattle.vms_cli.proofs.CheckLemmas.{verdict_so}
 
 -- ---- A stream that a board wrote is loaded as that board going on.
 

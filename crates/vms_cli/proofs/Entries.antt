@@ -9,19 +9,12 @@ pub mod PackCommand
 pub mod PlayCommand
 pub mod SaveCommand
 pub mod ShowCommand
+use Rattle.vms_cli.proofs.{Entries.AnalyzeCommand.analyze_row, Entries.CheckCommand.check_row, Entries.ConvertCommand.convert_row}
+use Rattle.vms_cli.proofs.{Entries.CounterCommand.counter_row, Entries.DrillCommand.drill_row, Entries.LoadCommand.load_row, Entries.PackCommand.pack_row}
+use Rattle.vms_cli.proofs.{Entries.PlayCommand.play_row, Entries.SaveCommand.save_row, Entries.ShowCommand.show_row}
 use Rattle.vms_cli.proofs.Facade.{◌∷◌, List, [], ℕ, Option, Some, None, inr, codes, refl, bytes_eq, option_map, set_word, shipped_word, Asked, Analyze, Check}
 use Rattle.vms_cli.proofs.Facade.{Convert, Counter, Drill, Load, Pack, Play, Save, Show, board_word, convertible, few_events, isa_level, number_word, of_both}
 use Rattle.vms_cli.proofs.Facade.{drill_of, pair_of, save_of, single_of, triple_of, with_file, entry_of, course_of, AskedLaw, CanBeAsked}
-use Rattle.vms_cli.proofs.Entries.AnalyzeCommand.{analyze_row}
-use Rattle.vms_cli.proofs.Entries.CheckCommand.{check_row}
-use Rattle.vms_cli.proofs.Entries.ConvertCommand.{convert_row}
-use Rattle.vms_cli.proofs.Entries.CounterCommand.{counter_row}
-use Rattle.vms_cli.proofs.Entries.DrillCommand.{drill_row}
-use Rattle.vms_cli.proofs.Entries.LoadCommand.{load_row}
-use Rattle.vms_cli.proofs.Entries.PackCommand.{pack_row}
-use Rattle.vms_cli.proofs.Entries.PlayCommand.{play_row}
-use Rattle.vms_cli.proofs.Entries.SaveCommand.{save_row}
-use Rattle.vms_cli.proofs.Entries.ShowCommand.{show_row}
 use Rattle.vms_cli.proofs.RowFacts.{Fits, IsRow, spares_none}
 use Rattle.vms_cli.proofs.WordLaws.{all-some, both-asked, drill-asked, either-asked, file-asked, mapped-asked, save-asked, word-board, word-level}
 

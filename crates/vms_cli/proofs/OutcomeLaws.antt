@@ -1,13 +1,11 @@
 -- Each call has one outcome, and what can be done is done.
+use Rattle.vms_cli.proofs.{CheckLemmas.StopsAt, Entries.row_of, Entries.words_ask, RowFacts.IsDone}
 use Rattle.vms_cli.proofs.Facade.{◌≡◌, ℕ, zero, suc, ◌+◌, ◌<◌, ◌≤◌, max, ◌⊎◌, List, ◌∷◌, length, length-append, take, Option, Some, None, IfSome, IsSomeAnd}
 use Rattle.vms_cli.proofs.Facade.{refl, ap, ◌∙◌, subst, arith, inl, inr, [], le-max_left, le-max_right, length-take, Appends, Rose, AppendsPrefix, KeepsPromise}
 use Rattle.vms_cli.proofs.Facade.{Held, HoldsAll, Outlet, IsBytes, bad_words, read_fault, write_fault, shelf_fault, out_of_memory, Stands, Part, Outcome}
 use Rattle.vms_cli.proofs.Facade.{ComesTo, FailsToStore, TellsShelfFault, DoesOrStops, ended, text_begun, Outside, HasPart, Asked, asked_of, task_of}
 use Rattle.vms_cli.proofs.Facade.{CanBeAsked, CanBeDone, HasOneOutcome, OutcomeLaw, HasRoom, IsAmple, NoneRises, PromisesKept, CompleteLaw, AmpleLaw}
 use Rattle.vms_commands.specs.Outcomes.{text_of}
-use Rattle.vms_cli.proofs.CheckLemmas.{StopsAt}
-use Rattle.vms_cli.proofs.Entries.{row_of, words_ask}
-use Rattle.vms_cli.proofs.RowFacts.{IsDone}
 
 one_of_all : (asked : Option Asked) (input : List ℕ) (held : Held) → IsBytes input → HoldsAll held → CanBeAsked asked → HasOneOutcome asked input held
 one_of_all None input held ok holds can = record { outcome = ended 2 bad_words 0; is = refl; only = λ other e. e }

@@ -1,4 +1,5 @@
 -- One command after the other: what was written is read again.
+use Rattle.vms_cli.proofs.{Facade.RefusesSo, Facade.StateLaw, PackLemmas.pack_gives, Entries.words_ask, EndLemmas.named_both}
 use Rattle.vms_cli.proofs.Facade.{◌≡◌, ℕ, ◌<◌, ◌≤◌, Bool, true, false, nat_le, if◌then◌else◌, List, [], ◌∷◌, length, Option, Some, None, IfSome, refl, sym, ap}
 use Rattle.vms_cli.proofs.Facade.{subst, arith, ◌∙◌, ◌-◌, ℤ, ◌+◌, ◌++◌, append-nil, LONGEST_TEXT, Held, Image, Set, AreReady, is_one_of, configuration}
 use Rattle.vms_cli.proofs.Facade.{end_mark, optional, stream_head, trailer, written, written_sections, values_text, ValuesRead, Values, Bad, values_read, IsFit}
@@ -11,16 +12,12 @@ use Rattle.vms_cli.proofs.Facade.{with_values, Shows, ShowsBy, Refuses, ReachesS
 use Rattle.vms_cli.proofs.Facade.{images_saved, isa, isa_stands, saved_stream, AreStepLines, scripted_lines, saved_after, scripted, after_events, Isa, Clock}
 use Rattle.vms_cli.proofs.Facade.{SetWord, Shipped, ScriptLine, after_number, lines_are_events, events_of, IsaBoard, ClockBoard, Fault, further_holds, Mismatch}
 use Rattle.vms_cli.proofs.Facade.{Counters, Finds, always_holds, named_holds, machine_known, Answers, CountersBy, counter_text, AlwaysNamedLaw, Prints}
-use Rattle.vms_cli.proofs.Facade.{RefusesSo, StateLaw}
+use Rattle.vms_cli.specs.{Commands.ShowCommand.Values as Printed}
 use Rattle.vms_analyze.proofs.Shown.{shown_holds as shown_listing}
-use Rattle.vms_cli.specs.Commands.ShowCommand.{Values as Printed}
-use Rattle.vms_cli.proofs.PackLemmas.{pack_gives}
 use Rattle.dev_clock.proofs.SoundLaws.{sound_stays_on as clock_stays_sound}
 use Rattle.vms_board.specs.Family.{Stands}
 use Rattle.vms_check.proofs.SelfLaws.{is_among}
-use Rattle.vms_cli.proofs.Entries.{words_ask}
 use Rattle.vms_counter_laws.specs.Counters.{Refusal, State}
-use Rattle.vms_cli.proofs.EndLemmas.{named_both}
 
 -- ---- Packing and showing, one after the other.
 

@@ -8,10 +8,9 @@ use Rattle.vms_cli.proofs.Facade.{WritesAs, refused_line, Outcome, done, ended, 
 use Rattle.vms_cli.proofs.Facade.{seen_written, sees_as, GivesWithin, Shows, ShowsWell, Refuses, at_option, Mismatch, Counters, computed, one_answer_holds}
 use Rattle.vms_cli.proofs.Facade.{computed_holds, Finding, answer_of, fetched_set, named_sets, SetText, set_in, sets_in, mismatch_line, SetWord, FitStep}
 use Rattle.vms_cli.proofs.Facade.{fit_text, IsSound, sound_next, sound_sets, Answers, CountersBy, counted, counter_text, no_state}
+use Rattle.vms_cli.specs.{Commands.ShowCommand.Values, Commands.CounterCommand.Tells}
 use Rattle.vms_frames.specs.declared.fault.Refusal.{Refusal as RefusedAt}
-use Rattle.vms_cli.specs.Commands.ShowCommand.{Values}
 use Rattle.vms_counter_laws.specs.Counters.{Answer}
-use Rattle.vms_cli.specs.Commands.CounterCommand.{Tells}
 use Rattle.vms_load.specs.declared.fault.LoadFault.TheVariants as faults
 use Rattle.vms_counter.specs.declared.finding.Finding.TheVariants as findings
 

@@ -1,9 +1,8 @@
 -- Two steps, one after the other, and the two steps of `convert`.
+use Rattle.vms_cli.proofs.{Facade.ConvertsBy, Facade.agrees, Facade.newest, RowLemmas.write_quiet}
 use Rattle.vms_cli.proofs.Facade.{◌≡◌, ℕ, ◌<◌, ◌^◌, Bool, List, Ok, Err, Option, Some, ◌+◌, ◌≤◌, refl, ap, subst, arith, Looks, Intake, Outlet, Stock, Ending}
 use Rattle.vms_cli.proofs.Facade.{EndsAs, Outcome, StepAs, TextEnds, Both, Gives, HasText, Step, both, next, Untold, Ends, HasBy, quiet_same, err_text}
 use Rattle.vms_cli.proofs.Facade.{first_err, text_ends, then_as, then_text, WritesBy, Held, most_given, Set, IsGiven, SeenAs, WithGiven, sees_as, ConvertGives}
-use Rattle.vms_cli.proofs.Facade.{ConvertsBy, agrees, newest}
-use Rattle.vms_cli.proofs.RowLemmas.{write_quiet}
 
 -- ---- Two steps, one after the other: what is said of the first that ends the command, or of what both give.
 

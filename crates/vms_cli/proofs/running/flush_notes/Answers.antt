@@ -1,5 +1,4 @@
-use Rattle.vms_cli.proofs.Facade.{refl, inl, inr}
-use Rattle.vms_cli.proofs.ProgramLemmas.{kept_flushed}
+use Rattle.vms_cli.proofs.{Facade.refl, Facade.inl, Facade.inr, ProgramLemmas.kept_flushed}
 use Rattle.vms_cli.proofs.running.flush_notes.Goals as goal
 
 pub returns-in-Ok : goal.returns-in-Ok

@@ -1,9 +1,7 @@
+use Rattle.vms_cli.proofs.{StepsOfTwo.second_of, StepsOfTwo.two_of, two_sets.two_sets.Given.Over, two_sets.two_sets.Goals.In_ok-new_text}
 use Rattle.vms_cli.proofs.Facade.{Option, Ok, Err, Result, refl, sym, ap, subst, ◌∙◌, err_from_is_err_and, Held, described, set_asked, SetText, fetched_set}
 use Rattle.vms_cli.proofs.Facade.{named_sets, set_in, sets_in, StepAs, text_of, Both, both, Ending, then_as, sets_of, TwoSets}
 use Rattle.vms_commands.specs.declared.fetching.SetText.{SetText as Fetched}
-use Rattle.vms_cli.proofs.StepsOfTwo.{second_of, two_of}
-use Rattle.vms_cli.proofs.two_sets.two_sets.Given.{Over}
-use Rattle.vms_cli.proofs.two_sets.two_sets.Goals.{In_ok-new_text}
 use Rattle.vms_cli.proofs.two_sets.two_sets.Goals as goal
 
 abbrev texts_of : Both Fetched → Both SetText

@@ -1,6 +1,5 @@
+use Rattle.vms_cli.proofs.{RowLemmas.check_ends, RowLemmas.lacks_so, StepsOfTwo.had_text, StepsOfTwo.lacks_text}
 use Rattle.vms_cli.proofs.Facade.{[], ◌∷◌, refl, outlet, stock, set_asked, named_sets, compared, sets_of, ending_passed}
-use Rattle.vms_cli.proofs.RowLemmas.{check_ends, lacks_so}
-use Rattle.vms_cli.proofs.StepsOfTwo.{had_text, lacks_text}
 use Rattle.vms_cli.proofs.commands.check.check.Goals as goal
 
 pub returns : goal.returns

@@ -1,7 +1,6 @@
+use Rattle.vms_cli.proofs.{RowLemmas.counter_ends, RowLemmas.lacks_so, StepsOfTwo.had_text, StepsOfTwo.lacks_text}
 use Rattle.vms_cli.proofs.Facade.{[], ◌∷◌, refl, outlet, stock, set_asked, named_sets, sets_of, counted, ending_passed}
 use Rattle.vms_cli.proofs.ShowLemmas.{counters_text, fit_sets}
-use Rattle.vms_cli.proofs.RowLemmas.{counter_ends, lacks_so}
-use Rattle.vms_cli.proofs.StepsOfTwo.{had_text, lacks_text}
 use Rattle.vms_cli.proofs.commands.counter.counter.Goals as goal
 
 pub returns : goal.returns
