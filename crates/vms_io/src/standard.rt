@@ -1,7 +1,8 @@
 // The outside over a reader and a writer of std, with a count of their errors.
-ghost use Rattle.std.specs.Prelude.{◌≡◌, ◌+◌, ◌-◌, ◌^◌, ◌<◌, ◌≤◌, [], length, min, take, drop, None, false, OnOk, IsErr};
+ghost use Rattle.std.specs.Prelude.{◌≡◌, ◌+◌, ◌-◌, ◌^◌, ◌<◌, ◌≤◌, [], length, min, take, drop, None, false, IfOk, OnOk, IsErr};
 ghost use Rattle.std.proofs.Common.{arith};
-ghost use Rattle.std.specs.Io.KnownBytes.{Appends, Consumes, IsAtEnd, Keeps};
+ghost use Rattle.std.specs.Io.{WritesAtMost};
+ghost use Rattle.std.specs.Io.KnownBytes.{Appends, Consumes, IsAtEnd, Keeps, WriteAppends};
 ghost use Rattle.vms_io.specs.Causes.{HasCause, CountsFailures};
 ghost use Rattle.vms_io.specs.Gathered.{block};
 ghost use Rattle.vms_io.specs.declared.standard.TheConstants.{GATHER};
@@ -328,6 +329,29 @@ impl<W: Write + Drop> StdSink<W> {
         self.end = end;
     }
 
+    // Buffers the first bytes of a piece that doesn't fit, after a flush of the buffer if it is full.
+    // Returns their number.
+    //
+    // Most pieces fit, and their writes are inlined without this.
+    #[inline(never)]
+    fn spill(&mut self, piece: &[u8]) -> Result<usize, Failed>
+        requires { GATHER < self.old.end + length piece.now }
+        ensures bound { WritesAtMost result piece.now }
+        ensures some { IfOk result (λ n. 0 < n) }
+        ensures bytes { WriteAppends (told (W.contents self.old.writer)
+            (between self.old.gathered self.old.begin self.old.end))
+            (told (W.contents self.new.writer)
+            (between self.new.gathered self.new.begin self.new.end)) result piece.now }
+        ensures cause { HasCause self.old.faults self.new.faults result }
+    {
+        if self.end == GATHER {
+            self.hand_on()?;
+        }
+        let count = piece.len().min(GATHER - self.end);
+        self.gather(&piece[..count]);
+        Ok(count)
+    }
+
     // Passes all buffered bytes to the writer. After a failure the rest stays buffered.
     fn hand_on(&mut self) -> Result<(), Failed>
         ensures bytes { Keeps (told (W.contents self.old.writer)
@@ -373,17 +397,13 @@ impl<W: Write + Drop> Sink for StdSink<W> {
     ///
     /// - [`Failed`]: the writer returned an error. Nothing of `piece` has been taken.
     fn write(&mut self, piece: &[u8]) -> Result<usize, Failed> {
-        if self.end == GATHER {
-            self.hand_on()?;
-        }
-        let room = GATHER - self.end;
-        if piece.len() <= room {
+        let mut count = piece.len();
+        if count <= GATHER - self.end {
             self.gather(piece);
-            Ok(piece.len())
         } else {
-            self.gather(&piece[..room]);
-            Ok(room)
+            count = self.spill(piece)?;
         }
+        Ok(count)
     }
 }
 
