@@ -12,7 +12,7 @@ use std::rt::Files;
 use std::{fs, io};
 
 // The number of bytes that are read from a file at once.
-const PIECE: usize = 2000;
+const PIECE: usize = 2048;
 
 /// A shelf over the files of one folder, by their names in it. Its contents are unknown: no
 /// contract says what the files hold.
