@@ -23,9 +23,9 @@ const STAGE: usize = 16384;
 /// The number of bytes that are buffered for a writer.
 const GATHER: usize = 2000;
 
-/// A source over the reader `R`, which is read in blocks. The first block has up to 1,024 bytes. After
-/// a full block the next one is longer by 1,024, up to 16,384. Without memory for a longer block the
-/// blocks stay as long as they are.
+/// A source over the reader `R`, which is read in blocks. The first block has up to 1,024 bytes.
+/// After a full block the next one is longer by 1,024, up to 16,384. Without memory for a longer
+/// block the blocks stay as long as they are.
 ///
 /// If the rest of the reader's bytes is known, as a slice's is, the rest of the source's is known
 /// too. The rest of a file or a terminal is unknown to contracts.
@@ -178,9 +178,11 @@ impl<R: Read + Drop> StdSource<R> {
         ensures bytes { Consumes (ahead (R.remaining self.old.reader)
             (between (block self.old.first self.old.longer.items) self.old.begin self.old.end))
             (ahead (R.remaining self.new.reader)
-            (between (block self.new.first self.new.longer.items) self.new.begin self.new.end)) (take result buf.new) }
+            (between (block self.new.first self.new.longer.items) self.new.begin self.new.end))
+            (take result buf.new) }
         ensures none { result ≡ 0 → ahead (R.remaining self.new.reader)
-            (between (block self.new.first self.new.longer.items) self.new.begin self.new.end) ≡ ahead (R.remaining self.old.reader)
+            (between (block self.new.first self.new.longer.items) self.new.begin self.new.end)
+            ≡ ahead (R.remaining self.old.reader)
             (between (block self.old.first self.old.longer.items) self.old.begin self.old.end) }
         ensures rest { drop result buf.new ≡ drop result buf.old }
         ensures begin { self.new.begin ≡ self.old.begin + result }
@@ -199,7 +201,8 @@ impl<R: Read + Drop> Source for StdSource<R> {
     ghost use Rattle.vms_io.specs.Ahead.{ahead, ahead_bytes};
     ghost use Rattle.vms_io.specs.Gathered.{between};
 
-    ghost left = { λ s. ahead (R.remaining s.reader) (between (block s.first s.longer.items) s.begin s.end) };
+    ghost left = { λ s. ahead (R.remaining s.reader)
+        (between (block s.first s.longer.items) s.begin s.end) };
 
     ghost given = { λ s. min (s.before + s.begin) (2 ^ 64 - 1) };
 
@@ -211,7 +214,8 @@ impl<R: Read + Drop> Source for StdSource<R> {
 
     ghost promised = { λ s h. Prim.cc };
 
-    ghost octets = { λ s. ahead_bytes (R.remaining s.reader) (between (block s.first s.longer.items) s.begin s.end) };
+    ghost octets = { λ s. ahead_bytes (R.remaining s.reader)
+        (between (block s.first s.longer.items) s.begin s.end) };
 
     /// Copies the next bytes into the front of `buf` and returns their number.
     ///
@@ -329,8 +333,8 @@ impl<W: Write + Drop> StdSink<W> {
         self.end = end;
     }
 
-    // Buffers the first bytes of a piece that doesn't fit, after a flush of the buffer if it is full.
-    // Returns their number.
+    // Buffers the first bytes of a piece that doesn't fit, after a flush of the buffer if it is
+    // full. Returns their number.
     //
     // Most pieces fit, and their writes are inlined without this.
     #[inline(never)]
