@@ -11,11 +11,8 @@ use crate::{Failed, Sink, Source};
 use std::alloc::Global;
 use std::io::{ErrorKind, Read, Write};
 
-/// The number of bytes that are requested from a reader at first.
+/// The number of bytes that are requested from a reader at first, and by which a block grows.
 const FIRST: usize = 1024;
-
-/// The number of bytes by which a block is longer than the one before.
-const STEP: usize = 1024;
 
 /// The most bytes that are requested from a reader at once.
 const STAGE: usize = 16384;
@@ -47,7 +44,6 @@ pub struct StdSource<R: Read + Drop> {
 
 impl<R: Read + Drop> StdSource<R> {
     ghost use Rattle.vms_io.specs.Ahead.{ahead};
-    ghost use Rattle.vms_io.specs.Gathered.{between};
 
     /// Returns the source over `reader`, with no faults counted.
     pub fn new(alloc: Global, reader: R) -> Self
@@ -109,8 +105,7 @@ impl<R: Read + Drop> StdSource<R> {
     // The same, if there is no longer block.
     #[inline(always)]
     fn stage_first(&mut self) -> Result<(), Failed>
-        requires begin { self.old.begin ≡ 0 }
-        requires end { self.old.end ≡ 0 }
+        requires empty { (self.old.begin ≡ 0) × (self.old.end ≡ 0) }
         requires none { self.old.longer.items ≡ [] }
         ensures left { Keeps (⟦<StdSource<R> as Source>⟧.left self.old)
             (⟦<StdSource<R> as Source>⟧.left self.new) }
@@ -133,8 +128,7 @@ impl<R: Read + Drop> StdSource<R> {
     // The same, if there is a longer block.
     #[inline(always)]
     fn stage_longer(&mut self) -> Result<(), Failed>
-        requires begin { self.old.begin ≡ 0 }
-        requires end { self.old.end ≡ 0 }
+        requires empty { (self.old.begin ≡ 0) × (self.old.end ≡ 0) }
         requires some { 0 < length self.old.longer.items }
         ensures left { Keeps (⟦<StdSource<R> as Source>⟧.left self.old)
             (⟦<StdSource<R> as Source>⟧.left self.new) }
@@ -157,15 +151,14 @@ impl<R: Read + Drop> StdSource<R> {
     // Makes the empty block longer, if there is memory.
     #[inline(never)]
     fn widen(&mut self)
-        requires begin { self.old.begin ≡ 0 }
-        requires end { self.old.end ≡ 0 }
+        requires empty { (self.old.begin ≡ 0) × (self.old.end ≡ 0) }
         ensures reader { self.new.reader ≡ self.old.reader }
         ensures begin { self.new.begin ≡ 0 }
         ensures end { self.new.end ≡ 0 }
         ensures before { self.new.before ≡ self.old.before }
         ensures faults { self.new.faults ≡ self.old.faults }
     {
-        let long = (self.block().len() + STEP).min(STAGE);
+        let long = (self.block().len() + FIRST).min(STAGE);
         // without memory the block stays as it is
         let _longer = self.longer.resize(long, 0);
     }
@@ -175,15 +168,10 @@ impl<R: Read + Drop> StdSource<R> {
     fn give(&mut self, buf: &mut [u8]) -> usize
         ensures count { result ≡ min (length buf.old) (self.old.end - self.old.begin) }
         ensures bound { result ≤ length buf.new }
-        ensures bytes { Consumes (ahead (R.remaining self.old.reader)
-            (between (block self.old.first self.old.longer.items) self.old.begin self.old.end))
-            (ahead (R.remaining self.new.reader)
-            (between (block self.new.first self.new.longer.items) self.new.begin self.new.end))
-            (take result buf.new) }
-        ensures none { result ≡ 0 → ahead (R.remaining self.new.reader)
-            (between (block self.new.first self.new.longer.items) self.new.begin self.new.end)
-            ≡ ahead (R.remaining self.old.reader)
-            (between (block self.old.first self.old.longer.items) self.old.begin self.old.end) }
+        ensures bytes { Consumes (⟦<StdSource<R> as Source>⟧.left self.old)
+            (⟦<StdSource<R> as Source>⟧.left self.new) (take result buf.new) }
+        ensures none { result ≡ 0 → ⟦<StdSource<R> as Source>⟧.left self.new
+            ≡ ⟦<StdSource<R> as Source>⟧.left self.old }
         ensures rest { drop result buf.new ≡ drop result buf.old }
         ensures begin { self.new.begin ≡ self.old.begin + result }
         ensures before { self.new.before ≡ self.old.before }
@@ -247,7 +235,7 @@ pub struct StdSink<W: Write + Drop> {
 }
 
 impl<W: Write + Drop> StdSink<W> {
-    ghost use Rattle.vms_io.specs.Gathered.{told, between, KeepsFront};
+    ghost use Rattle.vms_io.specs.Gathered.{KeepsFront};
     ghost use Rattle.vms_io.specs.Writers.{writer_of};
 
     /// Returns the sink over `writer`, with no faults counted and nothing buffered.
@@ -306,8 +294,7 @@ impl<W: Write + Drop> StdSink<W> {
         ensures faults { ⟦<StdSink<W> as Sink>⟧.faults self.new
             ≡ ⟦<StdSink<W> as Sink>⟧.faults self.old }
     {
-        self.begin = 0;
-        self.end = 0;
+        (self.begin, self.end) = (0, 0);
     }
 
     /// Returns the writer. The bytes that are still buffered are dropped.
@@ -321,10 +308,8 @@ impl<W: Write + Drop> StdSink<W> {
     #[inline(always)]
     fn gather(&mut self, piece: &[u8])
         requires { self.old.end + length piece.now ≤ 2000 }
-        ensures bytes { Appends (told (W.contents self.old.writer)
-            (between self.old.gathered self.old.begin self.old.end))
-            (told (W.contents self.new.writer)
-            (between self.new.gathered self.new.begin self.new.end)) piece.now }
+        ensures bytes { Appends (⟦<StdSink<W> as Sink>⟧.written self.old)
+            (⟦<StdSink<W> as Sink>⟧.written self.new) piece.now }
         ensures faults { self.new.faults ≡ self.old.faults }
     {
         let end = self.end + piece.len();
@@ -333,19 +318,14 @@ impl<W: Write + Drop> StdSink<W> {
         self.end = end;
     }
 
-    // Buffers the first bytes of a piece that doesn't fit, after a flush of the buffer if it is
-    // full. Returns their number.
-    //
-    // Most pieces fit, and their writes are inlined without this.
+    // Buffers the first bytes of a piece that doesn't fit. Returns their number.
     #[inline(never)]
     fn spill(&mut self, piece: &[u8]) -> Result<usize, Failed>
         requires { GATHER < self.old.end + length piece.now }
         ensures bound { WritesAtMost result piece.now }
         ensures some { IfOk result (λ n. 0 < n) }
-        ensures bytes { WriteAppends (told (W.contents self.old.writer)
-            (between self.old.gathered self.old.begin self.old.end))
-            (told (W.contents self.new.writer)
-            (between self.new.gathered self.new.begin self.new.end)) result piece.now }
+        ensures bytes { WriteAppends (⟦<StdSink<W> as Sink>⟧.written self.old)
+            (⟦<StdSink<W> as Sink>⟧.written self.new) result piece.now }
         ensures cause { HasCause self.old.faults self.new.faults result }
     {
         if self.end == GATHER {
@@ -358,18 +338,15 @@ impl<W: Write + Drop> StdSink<W> {
 
     // Passes all buffered bytes to the writer. After a failure the rest stays buffered.
     fn hand_on(&mut self) -> Result<(), Failed>
-        ensures bytes { Keeps (told (W.contents self.old.writer)
-            (between self.old.gathered self.old.begin self.old.end))
-            (told (W.contents self.new.writer)
-            (between self.new.gathered self.new.begin self.new.end)) }
+        ensures bytes { Keeps (⟦<StdSink<W> as Sink>⟧.written self.old)
+            (⟦<StdSink<W> as Sink>⟧.written self.new) }
         ensures empty { OnOk result (self.new.end ≡ 0) }
         ensures cause { HasCause self.old.faults self.new.faults result }
         ensures counts { CountsFailures self.old.faults self.new.faults result }
     {
         for _ in 0..u64::MAX {
             if self.begin == self.end {
-                self.begin = 0;
-                self.end = 0;
+                (self.begin, self.end) = (0, 0);
                 return Ok(());
             }
             let gathered = &self.gathered[..];
