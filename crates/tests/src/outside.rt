@@ -147,14 +147,11 @@ impl Write for Taker {
 }
 
 fn taking(alloc: Global, fails: u32) -> StdSink<Taker> {
-    StdSink::new(
-        alloc,
-        Taker {
-            took: Vec::new(alloc),
-            writes: 0,
-            fails,
-        },
-    )
+    StdSink::new(Taker {
+        took: Vec::new(alloc),
+        writes: 0,
+        fails,
+    })
 }
 
 // Writes the bytes in pieces of 100 and flushes. Returns whether no call failed.
@@ -173,10 +170,7 @@ fn a_writer_takes_all_that_is_flushed(rt: HostRuntime) -> Result<(), Fail> {
     assert!(rt; write_on(&mut sink, &bytes));
     assert!(rt; sink.get_ref().took == bytes);
     // a buffered writer writes what it holds at the flush
-    let mut sink = StdSink::new(
-        alloc,
-        BufWriter::with_capacity(alloc, 32_768, Vec::new(alloc))?,
-    );
+    let mut sink = StdSink::new(BufWriter::with_capacity(alloc, 32_768, Vec::new(alloc))?);
     assert!(rt; write_on(&mut sink, &bytes));
     assert!(rt; *sink.get_ref().get_ref() == bytes);
     Ok(())
@@ -189,7 +183,7 @@ fn an_error_of_a_writer_is_told(rt: HostRuntime) -> Result<(), Fail> {
     let mut sink = taking(alloc, 5);
     assert!(rt; !write_on(&mut sink, &bytes));
     let took = sink.get_ref().took.as_slice();
-    assert!(rt; took.len() == 3_996);
+    assert!(rt; took.len() == 2_999);
     assert!(rt; bytes.as_slice().starts_with(took));
     Ok(())
 }

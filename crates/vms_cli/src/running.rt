@@ -32,8 +32,8 @@ pub fn program<R: Read + Drop, W: Write + Drop, E: Write + Drop, H: Shelf + Drop
     ensures none { OnErr handed (result ≡ (10, out, notes)) }
 {
     let mut input = StdSource::new(alloc, input);
-    let mut out = StdSink::new(alloc, out);
-    let mut notes = StdSink::new(alloc, notes);
+    let mut out = StdSink::new(out);
+    let mut notes = StdSink::new(notes);
     let Some(answered) = call(alloc, handed, &mut input, &mut out, &mut notes) else {
         return (
             Ending::NoMemory.status(),

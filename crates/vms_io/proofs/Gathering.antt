@@ -1,6 +1,6 @@
 -- Bytes that are buffered for a writer, and flushed.
 use Rattle.vms_io.proofs.Facade.{◌≡◌, refl, append-nil, ℕ, ◌+◌, ◌-◌, ◌≤◌, List, [], ◌++◌, length, take, drop, Option, Some, None, Result, Ok, Err, sym, ap, ◌∙◌}
-use Rattle.vms_io.proofs.Facade.{subst, arith, append_assoc, take-append-drop, drop-drop, length-drop, take_all, drop-take, drop_all, drop-append-le, Keeps, Appends}
+use Rattle.vms_io.proofs.Facade.{subst, arith, append_assoc, take-append-drop, drop-drop, length-take, drop-take, drop_all, drop-append-le, Keeps, Appends}
 use Rattle.vms_io.proofs.Facade.{HasCause, told, between, KeepsFront}
 
 -- a part of the buffer, taken from its first byte
@@ -9,40 +9,41 @@ part_is room b e le =
     let sum : b + (e - b) ≡ e = omega arith in
     sym (drop-take b (e - b) room) ∙ ap (λ (n : ℕ). drop b (take n room)) sum
 
--- the writer took the first n of the buffered bytes
-pub handed : (a x y : Option (List ℕ)) (items all : List ℕ) (b n : ℕ) → all ≡ items → Appends x y (take n (take (length all - b) (drop b all)))
-    → Keeps a (told x (drop b items)) → Keeps a (told y (drop (b + n) items))
-handed None x y items all b n e p k = tt
-handed (Some zs) None y items all b n e p k = absurd k
-handed (Some zs) (Some xs) None items all b n e p k = absurd p
-handed (Some zs) (Some xs) (Some ys) items all b n e p k =
-    let part = drop b items in
-    let whole : take (length all - b) (drop b all) ≡ part =
-    take_all (length all - b) (drop b all) (omega (arith, length-drop b all)) ∙ ap (drop b) e in
-    ap (λ (l : List ℕ). l ++ drop (b + n) items) (p ∙ ap (λ (l : List ℕ). xs ++ take n l) whole)
-    ∙ ap (λ (l : List ℕ). (xs ++ take n part) ++ l) (sym (drop-drop n b items))
+-- the writer took the first n of them
+pub handed : (a x y : Option (List ℕ)) (room part : List ℕ) (b e n : ℕ) → b ≤ e → part ≡ take (e - b) (drop b room)
+    → Appends x y (take n part) → Keeps a (told x (between room b e)) → Keeps a (told y (between room (b + n) e))
+handed None x y room part b e n le is p k = tt
+handed (Some zs) None y room part b e n le is p k = absurd k
+handed (Some zs) (Some xs) None room part b e n le is p k = absurd p
+handed (Some zs) (Some xs) (Some ys) room part b e n le is p k =
+    let whole : part ≡ between room b e = is ∙ part_is room b e le in
+    let rest : between room (b + n) e ≡ drop n part = sym (drop-drop n b (take e room)) ∙ ap (drop n) (sym whole) in
+    ap (λ (l : List ℕ). l ++ between room (b + n) e) p
+    ∙ ap (λ (l : List ℕ). (xs ++ take n part) ++ l) rest
     ∙ append_assoc xs (take n part) (drop n part)
-    ∙ ap (λ (l : List ℕ). xs ++ l) (take-append-drop n part)
+    ∙ ap (λ (l : List ℕ). xs ++ l) (take-append-drop n part ∙ whole)
     ∙ k
 
 -- all are flushed
-pub emptied : (a x : Option (List ℕ)) (items : List ℕ) (b : ℕ) → b ≡ length items → Keeps a (told x (drop b items)) → Keeps a (told x [])
-emptied a x items b same k = subst (λ (l : List ℕ). Keeps a (told x l)) (drop_all b items (omega (arith, same))) k
+pub emptied : (a x : Option (List ℕ)) (room : List ℕ) (b e : ℕ) → b ≡ e → Keeps a (told x (between room b e)) → Keeps a (told x (between room 0 0))
+emptied a x room b e same k =
+    let none : between room b e ≡ [] = drop_all b (take e room) (omega (arith, same, length-take e room)) in
+    subst (λ (l : List ℕ). Keeps a (told x l)) none k
 
 -- if nothing is buffered, the known bytes are the writer's
-pub told_empty : (x : Option (List ℕ)) (items : List ℕ) (b : ℕ) → items ≡ [] → told x (drop b items) ≡ x
-told_empty None items b none = refl
-told_empty (Some xs) items b none =
-    ap (λ (l : List ℕ). Some (xs ++ l)) (drop_all b items (omega (arith, ap length none))) ∙ ap Some (append-nil xs)
+pub told_empty : (x : Option (List ℕ)) (room : List ℕ) (b e : ℕ) → e ≡ 0 → told x (between room b e) ≡ x
+told_empty None room b e none = refl
+told_empty (Some xs) room b e none =
+    ap (λ (l : List ℕ). Some (xs ++ l)) (drop_all b (take e room) (omega (arith, none, length-take e room))) ∙ ap Some (append-nil xs)
 
 -- more bytes are buffered
-pub gathers : (x : Option (List ℕ)) (items new more : List ℕ) (b : ℕ) → b ≤ length items → new ≡ items ++ more
-    → Appends (told x (drop b items)) (told x (drop b new)) more
-gathers None items new more b le is = tt
-gathers (Some xs) items new more b le is =
+pub gathers : (x : Option (List ℕ)) (room new more : List ℕ) (b e f : ℕ) → b ≤ e → e ≤ length room
+    → take f new ≡ take e room ++ more → Appends (told x (between room b e)) (told x (between new b f)) more
+gathers None room new more b e f le fits is = tt
+gathers (Some xs) room new more b e f le fits is =
     ap (λ (l : List ℕ). xs ++ drop b l) is
-    ∙ ap (λ (l : List ℕ). xs ++ l) (drop-append-le b items more le)
-    ∙ sym (append_assoc xs (drop b items) more)
+    ∙ ap (λ (l : List ℕ). xs ++ l) (drop-append-le b (take e room) more (omega (arith, length-take e room)))
+    ∙ sym (append_assoc xs (drop b (take e room)) more)
 
 -- first flushed, then buffered
 pub kept_then : (a b c : Option (List ℕ)) (more : List ℕ) → Keeps a b → Appends b c more → Appends a c more
@@ -69,6 +70,6 @@ kept_front (Some zs) None waiting k = absurd k
 kept_front (Some zs) (Some xs) waiting k = (waiting, sym k)
 
 -- and it stays a front if the buffered bytes are dropped
-pub dropped : (x : Option (List ℕ)) (waiting items : List ℕ) → items ≡ [] → KeepsFront (told x waiting) (told x items)
-dropped None waiting items e = tt
-dropped (Some xs) waiting items e = (waiting, ap (λ (l : List ℕ). l ++ waiting) (sym (ap (λ (l : List ℕ). xs ++ l) e ∙ append-nil xs)))
+pub dropped : (x : Option (List ℕ)) (room waiting : List ℕ) → KeepsFront (told x waiting) (told x (between room 0 0))
+dropped None room waiting = tt
+dropped (Some xs) room waiting = (waiting, ap (λ (l : List ℕ). l ++ waiting) (sym (append-nil xs)))

@@ -1,5 +1,5 @@
 // The outside over a reader and a writer of std, with a count of their errors.
-ghost use Rattle.std.specs.Prelude.{◌≡◌, ◌+◌, ◌-◌, ◌^◌, ◌<◌, ◌≤◌, [], length, min, take, drop, None, false, IfOk, OnErr, OnOk, IsErr};
+ghost use Rattle.std.specs.Prelude.{◌≡◌, ◌+◌, ◌-◌, ◌^◌, ◌<◌, ◌≤◌, [], length, min, take, drop, None, false, IfOk, OnOk, IsErr};
 ghost use Rattle.std.proofs.Common.{arith};
 ghost use Rattle.std.specs.Io.{WritesAtMost};
 ghost use Rattle.std.specs.Io.KnownBytes.{Appends, Consumes, IsAtEnd, Keeps, WriteAppends};
@@ -8,21 +8,21 @@ ghost use Rattle.vms_io.specs.Gathered.{block};
 ghost use Rattle.vms_io.specs.declared.standard.TheConstants.{GATHER};
 
 use crate::{Failed, Sink, Source};
-use std::alloc::{AllocError, Global};
+use std::alloc::Global;
 use std::io::{ErrorKind, Read, Write};
 
-/// The number of bytes that are requested from a reader at first.
+/// The number of bytes that are requested from a reader at first, and by which a block grows.
 const FIRST: usize = 1024;
 
 /// The most bytes that are requested from a reader at once.
-const STAGE: usize = 8192;
+const STAGE: usize = 16384;
 
 /// The number of bytes that are buffered for a writer.
-const GATHER: usize = 8192;
+const GATHER: usize = 2000;
 
-/// A source over the reader `R`, which is read in blocks. The first block has up to 1,024 bytes, and
-/// the next ones up to twice as many each, at most 8,192. Without memory for a longer block the
-/// blocks stay as long as they are.
+/// A source over the reader `R`, which is read in blocks. The first block has up to 1,024 bytes.
+/// After a full block the next one is longer by 1,024, up to 16,384. Without memory for a longer
+/// block the blocks stay as long as they are.
 ///
 /// If the rest of the reader's bytes is known, as a slice's is, the rest of the source's is known
 /// too. The rest of a file or a terminal is unknown to contracts.
@@ -35,7 +35,8 @@ pub struct StdSource<R: Read + Drop> {
     longer: Vec<u8>,
     begin: usize,
     end: usize,
-    given: u64,
+    // The number of bytes that were given of earlier blocks.
+    before: u64,
     faults: u64,
     ghost order: { begin ≤ end },
     ghost within: { end ≤ length (block first longer.items) },
@@ -43,7 +44,6 @@ pub struct StdSource<R: Read + Drop> {
 
 impl<R: Read + Drop> StdSource<R> {
     ghost use Rattle.vms_io.specs.Ahead.{ahead};
-    ghost use Rattle.vms_io.specs.Gathered.{between};
 
     /// Returns the source over `reader`, with no faults counted.
     pub fn new(alloc: Global, reader: R) -> Self
@@ -57,7 +57,7 @@ impl<R: Read + Drop> StdSource<R> {
             longer: Vec::with_capacity(alloc, STAGE).unwrap_or(Vec::new(alloc)),
             begin: 0,
             end: 0,
-            given: 0,
+            before: 0,
             faults: 0,
         }
     }
@@ -84,11 +84,15 @@ impl<R: Read + Drop> StdSource<R> {
             (⟦<StdSource<R> as Source>⟧.left self.new) }
         ensures end { OnOk result (self.new.begin ≡ self.new.end
             → IsAtEnd (⟦<StdSource<R> as Source>⟧.left self.new)) }
-        ensures given { self.new.given ≡ self.old.given }
+        ensures begin { self.new.begin ≡ 0 }
+        ensures before { self.new.before ≡ min (self.old.before + self.old.begin) (2 ^ 64 - 1) }
         ensures cause { HasCause self.old.faults self.new.faults result }
         ensures counts { CountsFailures self.old.faults self.new.faults result }
     {
-        if self.end == self.block().len() {
+        let full = self.end == self.block().len();
+        self.before = self.before.saturating_add(self.begin as u64);
+        (self.begin, self.end) = (0, 0);
+        if full && self.longer.len() < STAGE {
             self.widen();
         }
         if self.longer.is_empty() {
@@ -98,14 +102,17 @@ impl<R: Read + Drop> StdSource<R> {
         }
     }
 
+    // The same, if there is no longer block.
+    #[inline(always)]
     fn stage_first(&mut self) -> Result<(), Failed>
-        requires given { self.old.begin ≡ self.old.end }
+        requires empty { (self.old.begin ≡ 0) × (self.old.end ≡ 0) }
         requires none { self.old.longer.items ≡ [] }
         ensures left { Keeps (⟦<StdSource<R> as Source>⟧.left self.old)
             (⟦<StdSource<R> as Source>⟧.left self.new) }
         ensures end { OnOk result (self.new.begin ≡ self.new.end
             → IsAtEnd (⟦<StdSource<R> as Source>⟧.left self.new)) }
-        ensures given { self.new.given ≡ self.old.given }
+        ensures begin { self.new.begin ≡ 0 }
+        ensures before { self.new.before ≡ self.old.before }
         ensures cause { HasCause self.old.faults self.new.faults result }
         ensures counts { CountsFailures self.old.faults self.new.faults result }
     {
@@ -118,20 +125,22 @@ impl<R: Read + Drop> StdSource<R> {
         }
     }
 
+    // The same, if there is a longer block.
+    #[inline(always)]
     fn stage_longer(&mut self) -> Result<(), Failed>
-        requires given { self.old.begin ≡ self.old.end }
+        requires empty { (self.old.begin ≡ 0) × (self.old.end ≡ 0) }
         requires some { 0 < length self.old.longer.items }
         ensures left { Keeps (⟦<StdSource<R> as Source>⟧.left self.old)
             (⟦<StdSource<R> as Source>⟧.left self.new) }
         ensures end { OnOk result (self.new.begin ≡ self.new.end
             → IsAtEnd (⟦<StdSource<R> as Source>⟧.left self.new)) }
-        ensures given { self.new.given ≡ self.old.given }
+        ensures begin { self.new.begin ≡ 0 }
+        ensures before { self.new.before ≡ self.old.before }
         ensures cause { HasCause self.old.faults self.new.faults result }
         ensures counts { CountsFailures self.old.faults self.new.faults result }
     {
         match self.reader.read(&mut self.longer) {
             Ok(count) => {
-                self.begin = 0;
                 self.end = count;
                 Ok(())
             }
@@ -139,17 +148,17 @@ impl<R: Read + Drop> StdSource<R> {
         }
     }
 
-    // Makes the block twice as long, if there is memory and it isn't at its greatest length.
+    // Makes the empty block longer, if there is memory.
+    #[inline(never)]
     fn widen(&mut self)
-        requires { self.old.begin ≡ self.old.end }
+        requires empty { (self.old.begin ≡ 0) × (self.old.end ≡ 0) }
         ensures reader { self.new.reader ≡ self.old.reader }
-        ensures empty { self.new.begin ≡ self.new.end }
-        ensures given { self.new.given ≡ self.old.given }
+        ensures begin { self.new.begin ≡ 0 }
+        ensures end { self.new.end ≡ 0 }
+        ensures before { self.new.before ≡ self.old.before }
         ensures faults { self.new.faults ≡ self.old.faults }
     {
-        let long = (self.block().len() * 2).min(STAGE);
-        self.begin = 0;
-        self.end = 0;
+        let long = (self.block().len() + FIRST).min(STAGE);
         // without memory the block stays as it is
         let _longer = self.longer.resize(long, 0);
     }
@@ -159,22 +168,19 @@ impl<R: Read + Drop> StdSource<R> {
     fn give(&mut self, buf: &mut [u8]) -> usize
         ensures count { result ≡ min (length buf.old) (self.old.end - self.old.begin) }
         ensures bound { result ≤ length buf.new }
-        ensures bytes { Consumes (ahead (R.remaining self.old.reader)
-            (between (block self.old.first self.old.longer.items) self.old.begin self.old.end))
-            (ahead (R.remaining self.new.reader)
-            (between (block self.new.first self.new.longer.items) self.new.begin self.new.end)) (take result buf.new) }
-        ensures none { result ≡ 0 → ahead (R.remaining self.new.reader)
-            (between (block self.new.first self.new.longer.items) self.new.begin self.new.end) ≡ ahead (R.remaining self.old.reader)
-            (between (block self.old.first self.old.longer.items) self.old.begin self.old.end) }
+        ensures bytes { Consumes (⟦<StdSource<R> as Source>⟧.left self.old)
+            (⟦<StdSource<R> as Source>⟧.left self.new) (take result buf.new) }
+        ensures none { result ≡ 0 → ⟦<StdSource<R> as Source>⟧.left self.new
+            ≡ ⟦<StdSource<R> as Source>⟧.left self.old }
         ensures rest { drop result buf.new ≡ drop result buf.old }
-        ensures given { self.new.given ≡ min (self.old.given + result) (2 ^ 64 - 1) }
+        ensures begin { self.new.begin ≡ self.old.begin + result }
+        ensures before { self.new.before ≡ self.old.before }
         ensures faults { self.new.faults ≡ self.old.faults }
     {
         let count = buf.len().min(self.end - self.begin);
         let staged = self.block();
         buf[..count].copy_from_slice(&staged[self.begin..self.begin + count]);
         self.begin += count;
-        self.given = self.given.saturating_add(count as u64);
         count
     }
 }
@@ -183,9 +189,10 @@ impl<R: Read + Drop> Source for StdSource<R> {
     ghost use Rattle.vms_io.specs.Ahead.{ahead, ahead_bytes};
     ghost use Rattle.vms_io.specs.Gathered.{between};
 
-    ghost left = { λ s. ahead (R.remaining s.reader) (between (block s.first s.longer.items) s.begin s.end) };
+    ghost left = { λ s. ahead (R.remaining s.reader)
+        (between (block s.first s.longer.items) s.begin s.end) };
 
-    ghost given = { λ s. min s.given (2 ^ 64 - 1) };
+    ghost given = { λ s. min (s.before + s.begin) (2 ^ 64 - 1) };
 
     ghost faults = { λ s. s.faults };
 
@@ -195,7 +202,8 @@ impl<R: Read + Drop> Source for StdSource<R> {
 
     ghost promised = { λ s h. Prim.cc };
 
-    ghost octets = { λ s. ahead_bytes (R.remaining s.reader) (between (block s.first s.longer.items) s.begin s.end) };
+    ghost octets = { λ s. ahead_bytes (R.remaining s.reader)
+        (between (block s.first s.longer.items) s.begin s.end) };
 
     /// Copies the next bytes into the front of `buf` and returns their number.
     ///
@@ -210,36 +218,37 @@ impl<R: Read + Drop> Source for StdSource<R> {
     }
 }
 
-/// A sink over the writer `W`, such as a file or a terminal, with a buffer of 8,192 bytes.
+/// A sink over the writer `W`, such as a file or a terminal, with a buffer of 2,000 bytes.
 ///
-/// The writer gets the bytes when the buffer is full, and at a flush; if there is no memory for the
-/// buffer, it gets them at once. If what the writer has is known to contracts, so is what the sink
-/// has: the writer's bytes and then the buffered ones.
+/// The writer gets the bytes when the buffer is full, and at a flush. If what the writer has is
+/// known to contracts, so is what the sink has: the writer's bytes and then the buffered ones.
 #[derive(Drop)]
 pub struct StdSink<W: Write + Drop> {
     writer: W,
-    // The bytes that the writer hasn't got yet are those from `begin` on.
-    gathered: Vec<u8>,
+    // The bytes that the writer hasn't got yet are those from `begin` to `end`.
+    gathered: [u8; GATHER],
     begin: usize,
+    end: usize,
     faults: u64,
-    ghost order: { begin ≤ length gathered.items },
-    ghost within: { length gathered.items ≤ GATHER },
+    ghost order: { begin ≤ end },
+    ghost within: { end ≤ GATHER },
 }
 
 impl<W: Write + Drop> StdSink<W> {
-    ghost use Rattle.vms_io.specs.Gathered.{told, KeepsFront};
+    ghost use Rattle.vms_io.specs.Gathered.{KeepsFront};
     ghost use Rattle.vms_io.specs.Writers.{writer_of};
 
     /// Returns the sink over `writer`, with no faults counted and nothing buffered.
-    pub fn new(alloc: Global, writer: W) -> Self
+    pub fn new(writer: W) -> Self
         ensures faults { ⟦<StdSink<W> as Sink>⟧.faults result ≡ 0 }
         ensures written { ⟦<StdSink<W> as Sink>⟧.written result ≡ W.contents writer }
         ensures writer { writer_of result ≡ writer }
     {
         StdSink {
             writer,
-            gathered: Vec::with_capacity(alloc, GATHER).unwrap_or(Vec::new(alloc)),
+            gathered: [0; GATHER],
             begin: 0,
+            end: 0,
             faults: 0,
         }
     }
@@ -285,8 +294,7 @@ impl<W: Write + Drop> StdSink<W> {
         ensures faults { ⟦<StdSink<W> as Sink>⟧.faults self.new
             ≡ ⟦<StdSink<W> as Sink>⟧.faults self.old }
     {
-        self.gathered.clear();
-        self.begin = 0;
+        (self.begin, self.end) = (0, 0);
     }
 
     /// Returns the writer. The bytes that are still buffered are dropped.
@@ -296,56 +304,53 @@ impl<W: Write + Drop> StdSink<W> {
         self.writer
     }
 
-    // Buffers bytes, for which there is room. Fails if there is no memory for the buffer.
+    // Buffers bytes, for which there is room.
     #[inline(always)]
-    fn gather(&mut self, piece: &[u8]) -> Result<(), AllocError>
-        requires { length self.old.gathered.items + length piece.now ≤ GATHER }
-        ensures ok { OnOk result (Appends
-            (told (W.contents self.old.writer) (drop self.old.begin self.old.gathered.items))
-            (told (W.contents self.new.writer) (drop self.new.begin self.new.gathered.items))
-            piece.now) }
-        ensures err { OnErr result (Keeps
-            (told (W.contents self.old.writer) (drop self.old.begin self.old.gathered.items))
-            (told (W.contents self.new.writer) (drop self.new.begin self.new.gathered.items))) }
+    fn gather(&mut self, piece: &[u8])
+        requires { self.old.end + length piece.now ≤ 2000 }
+        ensures bytes { Appends (⟦<StdSink<W> as Sink>⟧.written self.old)
+            (⟦<StdSink<W> as Sink>⟧.written self.new) piece.now }
         ensures faults { self.new.faults ≡ self.old.faults }
     {
-        self.gathered.extend_from_slice(piece)
+        let end = self.end + piece.len();
+        let gathered = &mut self.gathered[..];
+        gathered[self.end..end].copy_from_slice(piece);
+        self.end = end;
     }
 
-    // Passes the buffered bytes and then the first bytes of `piece` to the writer.
+    // Buffers the first bytes of a piece that doesn't fit. Returns their number.
     #[inline(never)]
-    fn pass(&mut self, piece: &[u8]) -> Result<usize, Failed>
+    fn spill(&mut self, piece: &[u8]) -> Result<usize, Failed>
+        requires { GATHER < self.old.end + length piece.now }
         ensures bound { WritesAtMost result piece.now }
-        ensures some { IfOk result (λ n. 0 < length piece.now → 0 < n) }
-        ensures bytes { WriteAppends
-            (told (W.contents self.old.writer) (drop self.old.begin self.old.gathered.items))
-            (told (W.contents self.new.writer) (drop self.new.begin self.new.gathered.items))
-            result piece.now }
+        ensures some { IfOk result (λ n. 0 < n) }
+        ensures bytes { WriteAppends (⟦<StdSink<W> as Sink>⟧.written self.old)
+            (⟦<StdSink<W> as Sink>⟧.written self.new) result piece.now }
         ensures cause { HasCause self.old.faults self.new.faults result }
     {
-        self.hand_on()?;
-        match self.writer.write(piece) {
-            Ok(count) if count > 0 || piece.is_empty() => Ok(count),
-            _ => failed(&mut self.faults),
+        if self.end == GATHER {
+            self.hand_on()?;
         }
+        let count = piece.len().min(GATHER - self.end);
+        self.gather(&piece[..count]);
+        Ok(count)
     }
 
     // Passes all buffered bytes to the writer. After a failure the rest stays buffered.
     fn hand_on(&mut self) -> Result<(), Failed>
-        ensures bytes { Keeps
-            (told (W.contents self.old.writer) (drop self.old.begin self.old.gathered.items))
-            (told (W.contents self.new.writer) (drop self.new.begin self.new.gathered.items)) }
-        ensures empty { OnOk result (self.new.gathered.items ≡ []) }
+        ensures bytes { Keeps (⟦<StdSink<W> as Sink>⟧.written self.old)
+            (⟦<StdSink<W> as Sink>⟧.written self.new) }
+        ensures empty { OnOk result (self.new.end ≡ 0) }
         ensures cause { HasCause self.old.faults self.new.faults result }
         ensures counts { CountsFailures self.old.faults self.new.faults result }
     {
         for _ in 0..u64::MAX {
-            if self.begin == self.gathered.len() {
-                self.gathered.clear();
-                self.begin = 0;
+            if self.begin == self.end {
+                (self.begin, self.end) = (0, 0);
                 return Ok(());
             }
-            match self.writer.write(&self.gathered[self.begin..]) {
+            let gathered = &self.gathered[..];
+            match self.writer.write(&gathered[self.begin..self.end]) {
                 Ok(count) if count > 0 => self.begin += count,
                 Err(error) if error.kind() == ErrorKind::Interrupted => {}
                 _ => break,
@@ -356,9 +361,9 @@ impl<W: Write + Drop> StdSink<W> {
 }
 
 impl<W: Write + Drop> Sink for StdSink<W> {
-    ghost use Rattle.vms_io.specs.Gathered.{told};
+    ghost use Rattle.vms_io.specs.Gathered.{told, between};
 
-    ghost written = { λ s. told (W.contents s.writer) (drop s.begin s.gathered.items) };
+    ghost written = { λ s. told (W.contents s.writer) (between s.gathered s.begin s.end) };
 
     ghost faults = { λ s. s.faults };
 
@@ -373,19 +378,18 @@ impl<W: Write + Drop> Sink for StdSink<W> {
     ///
     /// - [`Failed`]: the writer returned an error. Nothing of `piece` has been taken.
     fn write(&mut self, piece: &[u8]) -> Result<usize, Failed> {
-        if self.gathered.len() == GATHER {
-            self.hand_on()?;
+        let mut count = piece.len();
+        if count <= GATHER - self.end {
+            self.gather(piece);
+        } else {
+            count = self.spill(piece)?;
         }
-        let count = piece.len().min(GATHER - self.gathered.len());
-        match self.gather(&piece[..count]) {
-            Ok(()) => Ok(count),
-            Err(_) => self.pass(piece),
-        }
+        Ok(count)
     }
 }
 
 // Counts a failure, and returns it.
-fn failed<T>(faults: &mut u64) -> Result<T, Failed>
+fn failed(faults: &mut u64) -> Result<(), Failed>
     ensures cause { HasCause faults.old faults.new result }
     ensures counts { CountsFailures faults.old faults.new result }
     ensures error { IsErr result }

@@ -1,8 +1,8 @@
-use Rattle.vms_io.proofs.Gathering.{dropped, told_empty}
+use Rattle.vms_io.proofs.{Facade.refl, Gathering.dropped, Gathering.told_empty}
 use Rattle.vms_io.proofs.standard.StdSink.discard.Goals as goal
 
 pub returns-clause-written : goal.returns-clause-written
-returns-clause-written g c = told_empty _ c.clear.new.self.items 0 c.clear.ensures.items
+returns-clause-written g c = told_empty _ c.args.self.now.gathered 0 0 refl
 
 pub returns-clause-front : goal.returns-clause-front
-returns-clause-front g c = dropped _ _ c.clear.new.self.items c.clear.ensures.items
+returns-clause-front g c = dropped _ c.args.self.now.gathered _

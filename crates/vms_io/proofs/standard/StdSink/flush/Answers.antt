@@ -5,7 +5,7 @@ pub returns-in-Ok-clause-bytes : goal.returns-in-Ok-clause-bytes
 returns-in-Ok-clause-bytes g c = still_told _ _ _ _ c.in-Ok.ensures.bytes c.in_ok-hand_on.ensures.bytes
 
 pub returns-in-Ok-clause-handed : goal.returns-in-Ok-clause-handed
-returns-in-Ok-clause-handed g c = told_empty _ _ _ c.in_ok-hand_on.ensures.empty
+returns-in-Ok-clause-handed g c = told_empty _ _ _ _ c.in_ok-hand_on.ensures.empty
 
 pub returns-in-Err-clause-bytes : goal.returns-in-Err-clause-bytes
 returns-in-Err-clause-bytes g c = still_told _ _ _ _ c.in-Err.ensures.bytes c.in_ok-hand_on.ensures.bytes
