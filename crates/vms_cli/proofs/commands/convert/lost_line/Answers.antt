@@ -1,5 +1,6 @@
 use Rattle.vms_cli.proofs.Facade.{Some, ap, ◌∙◌, ◌<◌, length, sym, subst, codes, device_at, cell_name, IsInNewest, lost_line, newest}
 use Rattle.vms_cli.specs.Commands.ConvertCommand.{line_of}
+use Rattle.vms_spec.specs.Layout.{device_cells}
 use Rattle.vms_cli.proofs.PathRoom.{path_short}
 use Rattle.vms_cli.proofs.commands.convert.lost_line.Goals as goal
 
@@ -9,8 +10,8 @@ put_path-requires c =
     let cell = c.in-Some-Some.cell in
     let inside = subst (λ o. IsInNewest (Some device) o) c.in-Some-Some.is-1 (subst (λ o. IsInNewest o c.args.cell) c.in-Some-Some.is-0 c.requires.named) in
     record {
-      is_device = rw c.requires.newest inside.0;
-      is_cell = rw c.requires.newest inside.1;
+      is_device = subst (λ s. device < length s.devices) (sym c.requires.newest) inside.0;
+      is_cell = subst (λ s. cell < length (device_cells s (device_at s device))) (sym c.requires.newest) inside.1;
       short = subst (λ s. length (cell_name s (device_at s device) cell) < 64) (sym c.requires.newest) (path_short device cell inside.0);
       path = c.requires.path;
     }
