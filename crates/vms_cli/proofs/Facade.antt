@@ -2,7 +2,7 @@
 pub use Rattle.std.proofs.{KnownBytes.Keeps-refl, lemmas.Bool.ltb-true, lemmas.Bool.Decides.nat_tests, lemmas.Fmt.decimal_digit, lemmas.Option.none-some}
 pub use Rattle.std.proofs.{lemmas.Option.slice_get-get_or, lemmas.Result.err_from_is_err_and, lemmas.Slice.Eq.bytes_eq-Decides}
 pub use Rattle.std.proofs.Common.{Bool, Err, IfSome, IsErrAnd, IsSomeAnd, List, None, Ok, Option, Result, Some, [], ap, append-nil, arith, codes, false, get_or}
-pub use Rattle.std.proofs.Common.{if◌then◌else◌, inl, inr, le_refl, length, length-append, map, max, nat_le, nat_lt, refl, subst, suc, sym, take, take_all}
+pub use Rattle.std.proofs.Common.{if◌then◌else◌, inl, inr, le_refl, length, length-append, map, max, nat_le, nat_lt, refl, rules, subst, suc, sym, take, take_all}
 pub use Rattle.std.proofs.Common.{true, zero, ℕ, ℤ, ◌&&◌, ◌++◌, ◌+◌, ◌-◌, ◌<◌, ◌^◌, ◌||◌, ◌∙◌, ◌∷◌, ◌≡◌, ◌≤◌, ◌⊎◌}
 pub use Rattle.std.proofs.Math.Nat.{le-max_left, le-max_right}
 pub use Rattle.std.proofs.lemmas.List.{drop_at, get_or-map, length-map, length-take}

@@ -10,6 +10,7 @@ pub mod ConvertLaws
 pub mod Entry
 pub mod Laws
 pub mod Limits
+pub mod Needs
 pub mod Program
 pub mod Rows
 pub mod States

@@ -4,3 +4,4 @@ pub mod Tree
 pub mod Needs
 pub mod Listing
 pub mod Laws
+pub mod Calls

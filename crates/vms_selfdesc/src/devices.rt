@@ -1,5 +1,5 @@
 // The descriptions of devices and their subsections.
-ghost use Rattle.std.specs.Prelude.{◌≡◌, ◌<◌, [], ◌∷◌, None, length, get_or, string_bytes};
+ghost use Rattle.std.specs.Prelude.{[], ◌∷◌, None, get_or};
 ghost use Rattle.serde_json.specs.Data.{array};
 ghost use Rattle.serde_json.specs.View.{items_of};
 ghost use Rattle.vms_spec.specs.Images.{own_cells};
@@ -7,9 +7,10 @@ ghost use Rattle.vms_spec.specs.declared.Part.TheVariants as parts;
 ghost use Rattle.vms_desc.specs.Asks.{first_cell};
 ghost use Rattle.vms_desc.specs.Described.{device_at};
 ghost use Rattle.vms_desc.specs.Parts.{sub_at};
-ghost use Rattle.vms_image.specs.Typed.{state_of, IsOfDevice};
+ghost use Rattle.vms_image.specs.Typed.{state_of};
+ghost use Rattle.vms_selfdesc.specs.Calls.{CanWriteDevice, CanWriteFields, CanWriteSub};
 ghost use Rattle.vms_selfdesc.specs.Drafts.{Adds, IsPlain, Lays, PutsSub, PutsName};
-ghost use Rattle.vms_selfdesc.specs.Listing.{set_in, numbers_in, IsPlace, part_list};
+ghost use Rattle.vms_selfdesc.specs.Listing.{set_in, numbers_in, part_list};
 ghost use Rattle.vms_selfdesc.specs.Tree.{entry_tree, list_tree, sub_tree, sub_trees, device_tree};
 
 use crate::draft::{Draft, begin, put_flag, put_natural, put_text};
@@ -19,8 +20,7 @@ use vms_desc::{Desc, Device, Part};
 
 // Writes the entries of the fields of a part.
 fn write_fields(lister: &Lister, part: Part, place: Place, draft: &mut Draft)
-    requires place { IsPlace lister.now part place.cell }
-    requires no_path { string_bytes draft.old.path.text ≡ [] }
+    requires { CanWriteFields lister.now draft.old part place.cell }
     ensures { let numbers = numbers_in lister.now in
         let entries = part_list (set_in lister.now) part place.sent numbers [] place.cell in
         Lays draft.old draft.new (list_tree entry_tree entries) }
@@ -43,9 +43,7 @@ fn put_sub_head(text: &mut Text, desc: &Desc, sent: bool)
 
 // Writes a subsection, whether or not it is in the stream.
 fn write_sub(lister: &Lister, device: u32, sub: u32, draft: &mut Draft)
-    requires device { IsOfDevice (set_in lister.now) device (state_of lister.now.image.now) }
-    requires is_sub { sub < length (device_at (set_in lister.now) device).subs }
-    requires no_path { string_bytes draft.old.path.text ≡ [] }
+    requires { CanWriteSub lister.now draft.old device sub }
     ensures { let set = set_in lister.now in
         let image = state_of lister.now.image.now in
         let at = first_cell set (parts.Sub device sub) in
@@ -65,8 +63,7 @@ fn write_sub(lister: &Lister, device: u32, sub: u32, draft: &mut Draft)
 
 // Writes the subsections, one after the other.
 fn write_each(lister: &Lister, device: u32, draft: &mut Draft)
-    requires device { IsOfDevice (set_in lister.now) device (state_of lister.now.image.now) }
-    requires no_path { string_bytes draft.old.path.text ≡ [] }
+    requires { CanWriteDevice lister.now draft.old device }
     ensures { let set = set_in lister.now in
         let image = state_of lister.now.image.now in
         let d = device_at set device in
@@ -79,8 +76,7 @@ fn write_each(lister: &Lister, device: u32, draft: &mut Draft)
 }
 
 fn write_subs(lister: &Lister, device: u32, draft: &mut Draft)
-    requires device { IsOfDevice (set_in lister.now) device (state_of lister.now.image.now) }
-    requires no_path { string_bytes draft.old.path.text ≡ [] }
+    requires { CanWriteDevice lister.now draft.old device }
     ensures { let set = set_in lister.now in
         let image = state_of lister.now.image.now in
         let d = device_at set device in
@@ -104,8 +100,7 @@ fn put_name(text: &mut Text, device: &Device)
 
 // Writes a device with its subsections.
 pub(crate) fn write_device(lister: &Lister, device: u32, draft: &mut Draft)
-    requires device { IsOfDevice (set_in lister.now) device (state_of lister.now.image.now) }
-    requires no_path { string_bytes draft.old.path.text ≡ [] }
+    requires { CanWriteDevice lister.now draft.old device }
     ensures { let set = set_in lister.now in
         let tree = device_tree set (device_at set device) (state_of lister.now.image.now) in
         Adds draft.old draft.new (tree ∷ []) }

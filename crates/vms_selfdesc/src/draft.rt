@@ -3,6 +3,7 @@ ghost use Rattle.std.specs.Prelude.{◌≡◌, ◌++◌, true, pos, codes, int_l
 ghost use Rattle.serde_json.specs.Data.{string, boolean, number};
 ghost use Rattle.serde_json.specs.Find.{of_integer};
 ghost use Rattle.serde_json.specs.Written.{compact_text};
+ghost use Rattle.vms_selfdesc.specs.Calls.{ArePlain};
 ghost use Rattle.vms_selfdesc.specs.Drafts.{Begins, Extends, IsNew, IsPlain, Puts, Spells};
 ghost use Rattle.vms_selfdesc.specs.Needs.{IsWide};
 ghost use Rattle.vms_selfdesc.specs.Tree.{natural};
@@ -64,8 +65,7 @@ fn put_key(text: &mut Text, key: &str)
 
 /// Appends a member with a text.
 pub(crate) fn put_text(text: &mut Text, key: &str, value: &str)
-    requires key { IsPlain key.now }
-    requires value { IsPlain value.now }
+    requires { ArePlain key.now value.now }
     ensures { Puts text.old text.new key.now (string value.now) }
 {
     put_key(text, key);

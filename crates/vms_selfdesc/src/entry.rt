@@ -1,9 +1,9 @@
 // The entries of elements.
 ghost use Rattle.std.specs.Prelude.{◌≡◌, [], ◌∷◌, true, false, pos, codes, string_bytes};
+ghost use Rattle.vms_selfdesc.specs.Calls.{CanPutCell, CanPutSent};
 ghost use Rattle.vms_selfdesc.specs.Drafts.{Begins, IsPlain, PutsSize, cell_tail, absent_tail};
 ghost use Rattle.vms_selfdesc.specs.Entries.{cell_entry, sent_entry};
 ghost use Rattle.vms_selfdesc.specs.Listing.{Lists};
-ghost use Rattle.vms_selfdesc.specs.Needs.{IsWide};
 
 use crate::draft::{Draft, put_integer, put_natural, put_text};
 use crate::text::Text;
@@ -83,8 +83,7 @@ fn put_size(text: &mut Text, size: u64, word: &str)
 
 // Writes something that is in the stream.
 pub(crate) fn write_sent(draft: &mut Draft, size: u64, word: &str)
-    requires path { IsPlain (string_bytes draft.old.path.text) }
-    requires word { IsPlain word.now }
+    requires { CanPutSent draft.old word.now }
     ensures { let entry = sent_entry (string_bytes draft.old.path.text) size word.now in
         Lists draft.old draft.new (entry ∷ []) }
 {
@@ -98,8 +97,7 @@ pub(crate) fn write_sent(draft: &mut Draft, size: u64, word: &str)
 
 // Writes a cell that isn't in the stream, with its default.
 fn write_absent(draft: &mut Draft, kind: Kind, default: i128)
-    requires path { IsPlain (string_bytes draft.old.path.text) }
-    requires wide { IsWide default }
+    requires { CanPutCell draft.old default }
     ensures { let entry = cell_entry false (string_bytes draft.old.path.text) kind default in
         Lists draft.old draft.new (entry ∷ []) }
 {
@@ -114,8 +112,7 @@ fn write_absent(draft: &mut Draft, kind: Kind, default: i128)
 // Writes a cell. If it isn't in the stream, its default follows.
 #[inline(always)]
 pub(crate) fn write_cell(draft: &mut Draft, sent: bool, kind: Kind, default: i128)
-    requires path { IsPlain (string_bytes draft.old.path.text) }
-    requires wide { IsWide default }
+    requires { CanPutCell draft.old default }
     ensures { let entry = cell_entry sent (string_bytes draft.old.path.text) kind default in
         Lists draft.old draft.new (entry ∷ []) }
 {

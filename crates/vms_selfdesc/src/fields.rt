@@ -1,15 +1,10 @@
 // The entries of the fields of a part, with arrays and structures expanded.
-ghost use Rattle.std.specs.Prelude.{◌≡◌, ◌<◌, ◌≤◌, ◌+◌, ◌*◌, length, string_bytes};
+ghost use Rattle.std.specs.Prelude.{◌≡◌, string_bytes};
 ghost use Rattle.vms_spec.specs.declared.Part.TheVariants as parts;
-ghost use Rattle.vms_spec.specs.Layout.{capacity_of, item_size, struct_cells};
 ghost use Rattle.vms_parts.specs.Views.{field_of};
-ghost use Rattle.vms_desc.specs.Asks.{field_at};
-ghost use Rattle.vms_desc.specs.Parts.{desc_at};
-ghost use Rattle.vms_selfdesc.specs.Drafts.{IsPlain};
+ghost use Rattle.vms_selfdesc.specs.Calls.{CanListElements, CanListField, CanListPart, CanListRun, CanPutSent, HasField};
 ghost use Rattle.vms_selfdesc.specs.Entries.{listed_if, sent_entry};
 ghost use Rattle.vms_selfdesc.specs.Listing.{Lists, is_field_sent, set_in, numbers_in};
-ghost use Rattle.vms_selfdesc.specs.Listing.{IsPlace, AreElements};
-ghost use Rattle.vms_selfdesc.specs.Needs.{CanGrow, item_levels, part_levels};
 ghost use Rattle.vms_selfdesc.specs.Listing.{item_at, elements_at, run_at, field_within, part_at};
 
 use crate::draft::Draft;
@@ -43,9 +38,7 @@ struct At {
 #[cycle(list)]
 #[inline(always)]
 fn list_item(lister: &Lister, field: &Field, place: Place, draft: &mut Draft)
-    requires cells { AreElements lister.now (field_of field.now) place.cell 1 }
-    requires path { IsPlain (string_bytes draft.old.path.text) }
-    requires deep { CanGrow draft.old.path 0 (item_levels field.now.item) }
+    requires { CanListElements lister.now draft.old (field_of field.now) place.cell 1 0 }
     ensures { let entries = item_at lister.now (field_of field.now) place draft.old in
         Lists draft.old draft.new entries }
 {
@@ -66,10 +59,7 @@ fn list_item(lister: &Lister, field: &Field, place: Place, draft: &mut Draft)
 // the recursion aren't inlined: their callers know what kind of part they list.
 #[cycle(list)]
 fn list_struct(lister: &Lister, number: u32, place: Place, draft: &mut Draft)
-    requires place { IsPlace lister.now (parts.Struct number) place.cell }
-    requires path { IsPlain (string_bytes draft.old.path.text) }
-    requires deep { CanGrow draft.old.path 44 (part_levels (set_in lister.now)
-        (parts.Struct number)) }
+    requires { CanListPart lister.now draft.old (parts.Struct number) place.cell }
     ensures { let entries = part_at lister.now (parts.Struct number) place draft.old in
         Lists draft.old draft.new entries }
 {
@@ -78,8 +68,7 @@ fn list_struct(lister: &Lister, number: u32, place: Place, draft: &mut Draft)
 
 // Lists something without a cell, if it is in the stream.
 fn list_sent(draft: &mut Draft, sent: bool, size: u64, word: &str)
-    requires path { IsPlain (string_bytes draft.old.path.text) }
-    requires word { IsPlain word.now }
+    requires { CanPutSent draft.old word.now }
     ensures { let entry = sent_entry (string_bytes draft.old.path.text) size word.now in
         Lists draft.old draft.new (listed_if sent entry) }
 {
@@ -91,9 +80,7 @@ fn list_sent(draft: &mut Draft, sent: bool, size: u64, word: &str)
 // Lists elements one after the other, as many as are printed.
 #[cycle(list)]
 fn list_elements(lister: &Lister, field: &Field, place: Place, count: u32, draft: &mut Draft)
-    requires cells { AreElements lister.now (field_of field.now) place.cell count }
-    requires path { IsPlain (string_bytes draft.old.path.text) }
-    requires deep { CanGrow draft.old.path 12 (item_levels field.now.item) }
+    requires { CanListElements lister.now draft.old (field_of field.now) place.cell count 12 }
     ensures { let entries = elements_at lister.now (field_of field.now) place count draft.old in
         Lists draft.old draft.new entries }
 {
@@ -111,8 +98,7 @@ fn list_elements(lister: &Lister, field: &Field, place: Place, count: u32, draft
 // Checks whether a field of a part is in the stream.
 #[inline(always)]
 fn is_sent(lister: &Lister, part: Part, within: Place, field: u32) -> bool
-    requires place { IsPlace lister.now part within.cell }
-    requires field { field < length (desc_at (set_in lister.now) part).fields }
+    requires { HasField lister.now part within.cell field }
     ensures { let set = set_in lister.now in
         let numbers = numbers_in lister.now in
         result ≡ is_field_sent set part within.cell field within.sent numbers }
@@ -128,14 +114,7 @@ fn is_sent(lister: &Lister, part: Part, within: Place, field: u32) -> bool
 #[cycle(list)]
 #[inline(always)]
 fn list_field(lister: &Lister, part: Part, within: Place, at: At, draft: &mut Draft)
-    requires place { IsPlace lister.now part within.cell }
-    requires field { at.field < length (desc_at (set_in lister.now) part).fields }
-    requires room { let set = set_in lister.now in
-        let f = field_at set part at.field in
-        let cells = capacity_of f.count * item_size (struct_cells set) f.item in
-        at.cell + cells ≤ length (numbers_in lister.now) }
-    requires path { IsPlain (string_bytes draft.old.path.text) }
-    requires deep { CanGrow draft.old.path 44 (part_levels (set_in lister.now) part) }
+    requires { CanListField lister.now draft.old part within at }
     ensures { let entries = field_within lister.now part within at draft.old in
         Lists draft.old draft.new entries }
 {
@@ -157,10 +136,7 @@ fn list_field(lister: &Lister, part: Part, within: Place, at: At, draft: &mut Dr
 #[cycle(list)]
 #[inline(always)]
 fn list_run(lister: &Lister, field: &Field, place: Place, count: u32, draft: &mut Draft)
-    requires one { AreElements lister.now (field_of field.now) place.cell 1 }
-    requires all { AreElements lister.now (field_of field.now) place.cell count }
-    requires path { IsPlain (string_bytes draft.old.path.text) }
-    requires deep { CanGrow draft.old.path 12 (item_levels field.now.item) }
+    requires { CanListRun lister.now draft.old (field_of field.now) place.cell count }
     ensures { let entries = run_at lister.now (field_of field.now) place count draft.old in
         Lists draft.old draft.new entries }
 {
@@ -174,9 +150,7 @@ fn list_run(lister: &Lister, field: &Field, place: Place, count: u32, draft: &mu
 #[cycle(list)]
 #[inline(always)]
 pub(crate) fn list_part(lister: &Lister, part: Part, place: Place, draft: &mut Draft)
-    requires place { IsPlace lister.now part place.cell }
-    requires path { IsPlain (string_bytes draft.old.path.text) }
-    requires deep { CanGrow draft.old.path 44 (part_levels (set_in lister.now) part) }
+    requires { CanListPart lister.now draft.old part place.cell }
     ensures { let entries = part_at lister.now part place draft.old in
         Lists draft.old draft.new entries }
 {

@@ -1,9 +1,10 @@
 // The self-description of a set's images.
-ghost use Rattle.std.specs.Prelude.{◌≡◌, ◌<◌, [], false, Some, map, length, IfOk, string_bytes};
+ghost use Rattle.std.specs.Prelude.{◌≡◌, ◌<◌, Some, map, length, IfOk, string_bytes};
 ghost use Rattle.serde_json.specs.Read.{read};
 ghost use Rattle.vms_spec.specs.Streams.{AreReady, longest_text};
 ghost use Rattle.vms_desc.specs.Described.{described};
 ghost use Rattle.vms_image.specs.Typed.{state_of};
+ghost use Rattle.vms_selfdesc.specs.Calls.{CanWriteDevices, CanWriteTree};
 ghost use Rattle.vms_selfdesc.specs.Drafts.{Adds, Lays};
 ghost use Rattle.vms_selfdesc.specs.Tree.{device_trees, described_tree, described_text};
 
@@ -59,9 +60,7 @@ fn room_for(images: &[Image]) -> usize {
 }
 
 pub(crate) fn write_tree(set: &DescSet, images: &[Image], draft: &mut Draft)
-    requires ready { AreReady (described set.now) (map state_of images.now) }
-    requires no_path { string_bytes draft.old.path.text ≡ [] }
-    requires first { draft.old.later ≡ false }
+    requires { CanWriteTree set.now images.now draft.old }
     ensures { let tree = described_tree (described set.now) (map state_of images.now) in
         Lays draft.old draft.new tree }
 {
@@ -71,8 +70,7 @@ pub(crate) fn write_tree(set: &DescSet, images: &[Image], draft: &mut Draft)
 }
 
 fn write_devices(set: &DescSet, images: &[Image], draft: &mut Draft)
-    requires ready { AreReady (described set.now) (map state_of images.now) }
-    requires no_path { string_bytes draft.old.path.text ≡ [] }
+    requires { CanWriteDevices set.now images.now draft.old }
     ensures { let states = map state_of images.now in
         let trees = device_trees (described set.now) (described set.now).devices states in
         Adds draft.old draft.new trees }

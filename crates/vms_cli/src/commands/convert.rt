@@ -3,15 +3,14 @@ ghost use Rattle.std.specs.Prelude.{◌≡◌, ◌<◌, length, Some};
 ghost use Rattle.std.specs.Option.{option_map};
 ghost use Rattle.vms_io.specs.Supplies.{store};
 ghost use Rattle.vms_io.specs.Told.{intake, outlet};
-ghost use Rattle.vms_spec.specs.Layout.{device_cells};
-ghost use Rattle.vms_desc.specs.Described.{described, device_at};
-ghost use Rattle.vms_elements.specs.Parts.{cell_name};
+ghost use Rattle.vms_desc.specs.Described.{described};
 ghost use Rattle.vms_commands.specs.Asks.{set_asked};
 ghost use Rattle.vms_commands.specs.Endings.{ending_of};
 ghost use Rattle.vms_commands.specs.SetWords.{set_word};
 ghost use Rattle.vms_board_commands.specs.Runs.{Runs, frame};
-ghost use Rattle.vms_cli.specs.Commands.ConvertCommand.{ConvertsStream, EndsLike, IsInNewest, NamesCell, line_of, convertible, lost_line, newest, no_path};
+ghost use Rattle.vms_cli.specs.Commands.ConvertCommand.{ConvertsStream, EndsLike, line_of, convertible, lost_line, newest};
 ghost use Rattle.vms_cli.specs.Commands.{Convert, asked, doing};
+ghost use Rattle.vms_cli.specs.Needs.{CanPutPath, CanTell, CanTellLost, HasPath};
 
 use super::Command;
 use arrayvec::ArrayVec;
@@ -85,9 +84,7 @@ fn with_line(
     path: MemSink,
     converted: Result<(), ConvertFault>,
 ) -> Result<(), Ending>
-    requires newest { described set.now ≡ newest }
-    requires path { store path ≡ no_path }
-    requires named { NamesCell converted }
+    requires { CanTell set.now (store path) converted }
     ensures { EndsLike converted (ending_of result) }
 {
     match converted {
@@ -107,9 +104,7 @@ fn with_line(
 
 // Returns the line of what would be lost: a cell of the newest set, a device that has none, or the machine.
 fn lost_line(set: &DescSet, mut path: MemSink, section: Option<u32>, cell: Option<u32>) -> NoteLine
-    requires newest { described set.now ≡ newest }
-    requires path { store path ≡ no_path }
-    requires named { IsInNewest section cell }
+    requires { CanTellLost set.now (store path) section cell }
     ensures { result.items ≡ lost_line newest section cell }
 {
     match (section, cell) {
@@ -124,14 +119,8 @@ fn lost_line(set: &DescSet, mut path: MemSink, section: Option<u32>, cell: Optio
 
 // Writes the path of a cell into memory that has room for it.
 fn put_path(set: &DescSet, device: u32, cell: u32, path: &mut MemSink)
-    requires is_device { device < length (described set.now).devices }
-    requires is_cell { let d = device_at (described set.now) device in
-        cell < length (device_cells (described set.now) d) }
-    requires short { let d = device_at (described set.now) device in
-        length (cell_name (described set.now) d cell) < 64 }
-    requires path { store path.old ≡ no_path }
-    ensures { let d = device_at (described set.now) device in
-        (store path.new).bytes ≡ cell_name (described set.now) d cell }
+    requires { CanPutPath set.now device cell (store path.old) }
+    ensures { HasPath set.now device cell (store path.new) }
 {
     match print_path(set, device, cell, path) {
         Ok(()) => {}

@@ -1,12 +1,12 @@
 // The command `counter`: a state that shows why a newer set refuses what an older one writes.
-ghost use Rattle.std.specs.Prelude.{◌≡◌, ◌<◌, ◌++◌, false, length, map, Some, IfSome, IfOk, string_bytes};
+ghost use Rattle.std.specs.Prelude.{◌≡◌, ◌++◌, false, map, Some, IfOk, string_bytes};
 ghost use Rattle.std.specs.Option.{option_map};
 ghost use Rattle.vms_io.specs.Told.{outlet, stock};
 ghost use Rattle.vms_io.specs.Writing.{Wrote};
 ghost use Rattle.vms_spec.specs.Lists.{at_option};
 ghost use Rattle.vms_spec.specs.Values.{values_text};
 ghost use Rattle.vms_desc.specs.Described.{described};
-ghost use Rattle.vms_image.specs.Typed.{state_of, AreImagesOf};
+ghost use Rattle.vms_image.specs.Typed.{state_of};
 ghost use Rattle.vms_counter_laws.specs.Computed.{computed};
 ghost use Rattle.vms_counter.specs.Found.{answer_of, IsFindingOf};
 ghost use Rattle.vms_commands.specs.Asks.{set_asked};
@@ -20,6 +20,7 @@ ghost use Rattle.vms_cli.specs.Causes.{WritesBy};
 ghost use Rattle.vms_cli.specs.TwoSets.{sets_of};
 ghost use Rattle.vms_cli.specs.Commands.CounterCommand.{counter_text, no_state};
 ghost use Rattle.vms_cli.specs.Commands.{Counter, asked, doing, of_both};
+ghost use Rattle.vms_cli.specs.Needs.{CanPrint};
 
 use super::Command;
 use crate::two_sets::{TwoSets, two_sets};
@@ -138,8 +139,7 @@ fn write_state<O: Sink>(
     images: &[Image],
     out: &mut O,
 ) -> Result<(), WriteFault>
-    requires machine { IfSome machine (λ m. m < length (described set.now).machines) }
-    requires of { AreImagesOf (described set.now) images.now }
+    requires { CanPrint set.now machine images.now }
     ensures { let set = described set.now in let named = at_option set.machines machine in
         Wrote (outlet O.Sink out.old) (outlet O.Sink out.new)
         (head.now ++ values_text set named (map state_of images.now)) result }

@@ -1,11 +1,10 @@
 // The command `pack`: the stream of a values text on the shelf.
-ghost use Rattle.std.specs.Prelude.{◌≡◌, ◌<◌, ◌≤◌, true, false, length, map, vec_len, IfOk, IfSome, Some};
+ghost use Rattle.std.specs.Prelude.{◌≡◌, ◌≤◌, true, false, length, map, vec_len, IfOk, Some};
 ghost use Rattle.std.specs.Option.{option_map};
 ghost use Rattle.vms_io.specs.Told.{outlet, stock};
 ghost use Rattle.vms_spec.specs.Lists.{at_option};
-ghost use Rattle.vms_spec.specs.Streams.{AreReady};
 ghost use Rattle.vms_desc.specs.Described.{described};
-ghost use Rattle.vms_image.specs.Typed.{AreImagesOf, state_of};
+ghost use Rattle.vms_image.specs.Typed.{state_of};
 ghost use Rattle.vms_commands.specs.Asks.{set_asked};
 ghost use Rattle.vms_commands.specs.Endings.{ending_of};
 ghost use Rattle.vms_commands.specs.Fetching.{longest_file};
@@ -15,6 +14,7 @@ ghost use Rattle.vms_board_commands.specs.Runs.{RunsAside};
 ghost use Rattle.vms_cli.specs.Causes.{WritesBy};
 ghost use Rattle.vms_cli.specs.Commands.PackCommand.{described_stream, named_parts, packed, parts_of};
 ghost use Rattle.vms_cli.specs.Commands.{Pack, asked, doing, with_file};
+ghost use Rattle.vms_cli.specs.Needs.{CanPack};
 
 use super::Command;
 use crate::values_notes::values_line;
@@ -103,9 +103,7 @@ fn pack_text<O: Sink>(alloc: Global, set: &DescSet, text: &[u8], out: &mut O) ->
 
 // Writes the stream. Its description is made before the first byte is written.
 fn write<O: Sink>(alloc: Global, set: &DescSet, values: &Values, out: &mut O) -> Result<(), Ending>
-    requires machine { IfSome values.now.machine (λ m. m < length (described set.now).machines) }
-    requires of { AreImagesOf (described set.now) values.now.images.items }
-    requires ready { AreReady (described set.now) (map state_of values.now.images.items) }
+    requires { CanPack set.now values.now }
     ensures written { let set = described set.now in
         let machine = at_option set.machines values.now.machine in
         WrittenAs (described_stream set machine (map state_of values.now.images.items))

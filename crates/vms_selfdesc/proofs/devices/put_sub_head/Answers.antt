@@ -1,11 +1,8 @@
 use Rattle.vms_selfdesc.proofs.{Facade.codes, Facade.refl, Plain.further, Plain.name_plain}
 use Rattle.vms_selfdesc.proofs.devices.put_sub_head.Goals as goal
 
-pub put_text-requires-clause-key : goal.put_text-requires-clause-key
-put_text-requires-clause-key c = name_plain (codes "name") refl
-
-pub put_text-requires-clause-value : goal.put_text-requires-clause-value
-put_text-requires-clause-value c = rw c.as_str.ensures c.requires
+pub put_text-requires : goal.put_text-requires
+put_text-requires c = record { key = name_plain (codes "name") refl; value = rw c.as_str.ensures c.requires }
 
 pub put_flag-requires : goal.put_flag-requires
 put_flag-requires c = name_plain (codes "sent") refl

@@ -5,8 +5,12 @@ use Rattle.vms_selfdesc.proofs.devices.write_each.Goals as goal
 pub loop-sub-init : goal.loop-sub-init
 loop-sub-init c = leaves_all c.args.draft.now (subs_begin (described c.args.lister.now.set.now) c.args.device (state_of c.args.lister.now.image.now))
 
-pub write_sub-requires-clause-no_path : goal.write_sub-requires-clause-no_path
-write_sub-requires-clause-no_path c = c.loop-sub.invariant.lists.path ∙ c.requires.no_path
+pub write_sub-requires : goal.write_sub-requires
+write_sub-requires c = record {
+  device = c.requires.device;
+  is_sub = omega arith;
+  no_path = c.loop-sub.invariant.lists.path ∙ c.requires.no_path;
+}
 
 pub loop-sub-preserved : goal.loop-sub-preserved
 loop-sub-preserved c =

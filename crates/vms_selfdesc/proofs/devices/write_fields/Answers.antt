@@ -2,13 +2,14 @@ use Rattle.vms_selfdesc.proofs.{Paths.few_levels, Trees.lays}
 use Rattle.vms_selfdesc.proofs.Facade.{List, ℕ, false, map, subst, length, ap, refl, arith, Draft, Adds, entry_tree, numbers_in, part_list, set_in}
 use Rattle.vms_selfdesc.proofs.devices.write_fields.Goals as goal
 
-pub list_part-requires-clause-path : goal.list_part-requires-clause-path
-list_part-requires-clause-path c = rw c.requires.no_path tt
-
-pub list_part-requires-clause-deep : goal.list_part-requires-clause-deep
-list_part-requires-clause-deep c =
+pub list_part-requires : goal.list_part-requires
+list_part-requires c =
     let lister = c.args.lister.now in
-    omega (arith, ap length c.requires.no_path, few_levels (set_in lister) lister.set.now.well_formed c.args.part c.requires.place.has)
+    record {
+      place = c.requires.place;
+      path = rw c.requires.no_path tt;
+      deep = omega (arith, ap length c.requires.no_path, few_levels (set_in lister) lister.set.now.well_formed c.args.part c.requires.place.has);
+    }
 
 pub returns : goal.returns
 returns c =

@@ -3,17 +3,17 @@ use Rattle.vms_selfdesc.proofs.Facade.{List, ℕ, Bool, None, is_some, get_or, a
 use Rattle.vms_spec.specs.declared.Part.TheVariants as parts
 use Rattle.vms_selfdesc.proofs.devices.write_sub.Goals as goal
 
-pub write_fields-requires-clause-place : goal.write_fields-requires-clause-place
-write_fields-requires-clause-place c =
+pub write_fields-requires : goal.write_fields-requires
+write_fields-requires c =
     let device = c.requires.device in
     record {
-      has = (device.is_device, c.requires.is_sub);
-      few = device.few;
-      room = omega (arith, sub_inside (described c.args.lister.now.set.now) c.args.device c.args.sub c.requires.is_sub);
+      place = record {
+        has = (device.is_device, c.requires.is_sub);
+        few = device.few;
+        room = omega (arith, sub_inside (described c.args.lister.now.set.now) c.args.device c.args.sub c.requires.is_sub);
+      };
+      no_path = c.begin.ensures.keeps.path ∙ c.requires.no_path;
     }
-
-pub write_fields-requires-clause-no_path : goal.write_fields-requires-clause-no_path
-write_fields-requires-clause-no_path c = c.begin.ensures.keeps.path ∙ c.requires.no_path
 
 pub put_sub_head-requires : goal.put_sub_head-requires
 put_sub_head-requires c =

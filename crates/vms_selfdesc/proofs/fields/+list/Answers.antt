@@ -18,8 +18,10 @@ list_item-list_struct-requires t c =
     let place = struct_place set lister.set.now.well_formed c.args.field.now.item c.in-Struct.number c.in-Struct.is cells.reaches lister.image.now.numbers
     c.args.place.cell cells.few cells.room in
     let path = string_bytes c.args.draft.now.path.text in
-    let long = ap length c.enter.ensures ∙ length-append path (codes ".") in
-    (search rules, (place, (rw c.enter.ensures (dot_plain path c.requires.path), omega (arith, ap item_levels c.in-Struct.is))))
+    let long = ap length c.enter.ensures ∙ length-append path (codes ".") in (
+      search rules,
+      record { place = place; path = rw c.enter.ensures (dot_plain path c.requires.path); deep = omega (arith, ap item_levels c.in-Struct.is) },
+    )
 
 pub list_item-enter-requires : goal.list_item-enter-requires
 list_item-enter-requires t c = omega (arith, ap item_levels c.in-Struct.is)
@@ -37,11 +39,11 @@ list_item-returns-in-Struct t c =
     rw (← same) (leave_path c.list_struct.ensures
     (c.leave.ensures ∙ (enters c.args.draft.now.path.text _ c.len-kept.ensures (c.list_struct.ensures.path ∙ c.enter.ensures)).back))
 
-pub list_item-list_sent-requires-clause-word : goal.list_item-list_sent-requires-clause-word
-list_item-list_sent-requires-clause-word t c = name_plain (codes "equal") refl
+pub list_item-list_sent-requires : goal.list_item-list_sent-requires
+list_item-list_sent-requires t c = record { path = c.requires.path; word = name_plain (codes "equal") refl }
 
-pub list_item-list_sent-requires-in-Unused-clause-word : goal.list_item-list_sent-requires-in-Unused-clause-word
-list_item-list_sent-requires-in-Unused-clause-word t c = name_plain (codes "unused") refl
+pub list_item-list_sent-requires-in-Unused : goal.list_item-list_sent-requires-in-Unused
+list_item-list_sent-requires-in-Unused t c = record { path = c.requires.path; word = name_plain (codes "unused") refl }
 
 -- ---- elements
 
@@ -61,8 +63,10 @@ list_elements-list_item-requires t c =
     } in
     let plain : IsPlain (string_bytes c.enter_element.new.self.text) =
     rw (c.enter_element.ensures, inv.lists.lists.path) (element_plain (string_bytes c.args.draft.now.path.text) i (omega arith) c.requires.path) in
-    let long = index_long (string_bytes c.loop-number.draft.path.text) i (omega arith) in
-    (search rules, (elements, (plain, omega (arith, ap length c.enter_element.ensures, ap length inv.lists.lists.path))))
+    let long = index_long (string_bytes c.loop-number.draft.path.text) i (omega arith) in (
+      search rules,
+      record { cells = elements; path = plain; deep = omega (arith, ap length c.enter_element.ensures, ap length inv.lists.lists.path) },
+    )
 
 pub list_elements-enter_element-requires : goal.list_elements-enter_element-requires
 list_elements-enter_element-requires t c = omega (arith, ap length c.loop-number.invariant.lists.lists.path)
@@ -126,7 +130,7 @@ list_field-list_run-requires t c =
     rw named (plain_append (string_bytes c.args.draft.now.path.text) (field_at set part k).name c.requires.path name.plain) in
     let long = ap length named ∙ length-append (string_bytes c.args.draft.now.path.text) (field_at set part k).name in (
       search rules,
-      (needs.elements 1 needs.some, (all, (plain, omega (arith, levels_are set part, item_levels_are f.item)))),
+      record { one = needs.elements 1 needs.some; all = all; path = plain; deep = omega (arith, levels_are set part, item_levels_are f.item) },
     )
 
 pub list_field-enter-requires : goal.list_field-enter-requires
@@ -167,8 +171,16 @@ list_part-list_field-requires t c =
     let k = c.loop-field.field in
     let lt : k < length (desc_at set c.args.part).fields = omega arith in
     let room = field_room set c.args.part c.args.place.cell k c.args.lister.now.image.now.numbers c.requires.place lt in
-    let same = c.loop-field.invariant.lists.path in
-    (search rules, (c.requires.place, (lt, (rw c.field_start-cell.ensures room, (rw same c.requires.path, omega (arith, ap length same))))))
+    let same = c.loop-field.invariant.lists.path in (
+      search rules,
+      record {
+        place = c.requires.place;
+        field = lt;
+        room = rw c.field_start-cell.ensures room;
+        path = rw same c.requires.path;
+        deep = omega (arith, ap length same);
+      },
+    )
 
 pub list_part-loop-field-init : goal.list_part-loop-field-init
 list_part-loop-field-init t c =

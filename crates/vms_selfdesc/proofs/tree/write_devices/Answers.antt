@@ -5,17 +5,17 @@ use Rattle.vms_selfdesc.proofs.tree.write_devices.Goals as goal
 pub loop-device-init : goal.loop-device-init
 loop-device-init c = leaves_all c.args.draft.now refl
 
-pub write_device-requires-clause-device : goal.write_device-requires-clause-device
-write_device-requires-clause-device c =
+pub write_device-requires : goal.write_device-requires
+write_device-requires c =
     let images = c.args.images.now in
     let k = c.loop-device.device in
     let image = c.index-images-device.result in
     let lt : k < length (map state_of images) = omega (arith, states_long images) in
-    ready_device (described c.args.set.now) c.args.set.now.well_formed (map state_of images) c.requires.ready k (state_of image) lt
-    (state_at images k image c.loop-device-test.true c.index-images-device.is)
-
-pub write_device-requires-clause-no_path : goal.write_device-requires-clause-no_path
-write_device-requires-clause-no_path c = c.loop-device.invariant.lists.path ∙ c.requires.no_path
+    record {
+      device = ready_device (described c.args.set.now) c.args.set.now.well_formed (map state_of images) c.requires.ready k (state_of image) lt
+          (state_at images k image c.loop-device-test.true c.index-images-device.is);
+      no_path = c.loop-device.invariant.lists.path ∙ c.requires.no_path;
+    }
 
 pub loop-device-preserved : goal.loop-device-preserved
 loop-device-preserved c =

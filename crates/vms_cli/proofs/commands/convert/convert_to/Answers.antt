@@ -1,16 +1,20 @@
-use Rattle.vms_cli.proofs.Facade.{refl, Err, Some, intake, outlet, described, fit_of, ending_passed, ending_of, LacksMemory}
+use Rattle.vms_cli.proofs.Facade.{refl, rules, Err, Some, intake, outlet, described, fit_of, ending_passed, ending_of, LacksMemory}
 use Rattle.vms_commands.specs.declared.ending.Ending.TheVariants as endings
 use Rattle.vms_convert.specs.declared.fault.ConvertFault.TheVariants as faults
 use Rattle.vms_cli.proofs.ConvertLemmas.{converts_stream, names_cell}
 use Rattle.vms_cli.proofs.commands.convert.convert_to.Goals as goal
 
-pub with_line-requires-clause-named : goal.with_line-requires-clause-named
-with_line-requires-clause-named g c =
+pub with_line-requires : goal.with_line-requires
+with_line-requires g c =
     let to = c.args.to.now in
-    names_cell (described to) (fit_of (described to) to.well_formed to.heads) (intake g.I.Source c.args.input.now)
-    (intake g.I.Source c.convert_with-converted.new.source)
-    (outlet g.O.Sink c.args.out.now)
-    (outlet g.O.Sink c.convert_with-converted.new.sink) c.convert_with-converted.result c.convert_with-converted.ensures.converts
+    record {
+      newest = search rules;
+      path = search rules;
+      named = names_cell (described to) (fit_of (described to) to.well_formed to.heads) (intake g.I.Source c.args.input.now)
+          (intake g.I.Source c.convert_with-converted.new.source)
+          (outlet g.O.Sink c.args.out.now)
+          (outlet g.O.Sink c.convert_with-converted.new.sink) c.convert_with-converted.result c.convert_with-converted.ensures.converts;
+    }
 
 pub returns : goal.returns
 returns g c =

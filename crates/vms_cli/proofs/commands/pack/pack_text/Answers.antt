@@ -1,11 +1,15 @@
-use Rattle.vms_cli.proofs.Facade.{outlet, described, fit_of, ending_of}
+use Rattle.vms_cli.proofs.Facade.{rules, outlet, described, fit_of, ending_of}
 use Rattle.vms_cli.proofs.PackLemmas.{packs_read, read_ready}
 use Rattle.vms_cli.proofs.commands.pack.pack_text.Goals as goal
 
-pub write-requires-clause-ready : goal.write-requires-clause-ready
-write-requires-clause-ready g c =
+pub write-requires : goal.write-requires
+write-requires g c =
     let set = described c.args.set.now in
-    read_ready set (fit_of set c.args.set.now.well_formed c.args.set.now.heads) c.args.text.now c.in-Ok.values c.in-Ok.ensures.read
+    record {
+      machine = search rules;
+      of = c.in-Ok.ensures.of;
+      ready = read_ready set (fit_of set c.args.set.now.well_formed c.args.set.now.heads) c.args.text.now c.in-Ok.values c.in-Ok.ensures.read;
+    }
 
 pub returns-in-Ok-clause-ends : goal.returns-in-Ok-clause-ends
 returns-in-Ok-clause-ends g c =
