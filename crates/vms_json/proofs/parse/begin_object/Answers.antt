@@ -1,5 +1,4 @@
-use Rattle.vms_json.proofs.Facade.{◌∷◌, ◌++◌, [], refl, ap, ◌∙◌, arith}
-use Rattle.vms_json.specs.declared.node.Row.TheVariants as rows
+use Rattle.vms_json.proofs.Facade.{refl, arith}
 use Rattle.vms_json.proofs.DueLaws.{object_too_deep, object_no_key, object_empty, object_opened}
 use Rattle.vms_json.proofs.parse.begin_object.Goals as goal
 
