@@ -120,15 +120,11 @@ module _ (port : Port) (latch : Bool) (h : has port.ier 1 ≡ true → latch ≡
   id-alike : (now : ℕ) → AnswersAlike (id_read now port) (id_read now other)
   unfolding iir_of
   id-alike now = rw (same_interrupt now)
-      (record { value = refl; alike = record { same = refl; enabled = λ e. ap (λ b. cond (is_thr_empty (interrupt now port)) false b) (h e) } })
+      (record { value = refl; alike = record { same = refl; enabled = λ e. rw (h e) } })
 
   same_saved : (set now : ℕ) → saved set now other ≡ saved set now port
   unfolding saved lsr_of
-  same_saved set now =
-      let identified = is_thr_empty (interrupt now port) in
-      ap (λ (i : Interrupt). record (saved set now port) { iir = id_number i; thr_ipending = ipending_of (has port.ier 1) latch (is_thr_empty i) })
-      (same_interrupt now)
-      ∙ ap (λ (z : ℤ). record (saved set now port) { thr_ipending = z }) (same_ipending (has port.ier 1) identified port.thr_empty latch h)
+  same_saved set now = rw (same_interrupt now, same_ipending (has port.ier 1) (is_thr_empty (interrupt now port)) port.thr_empty latch h)
 
   -- an answer that is the same, with the port as it was
   kept : (answer : ℕ) → AnswersAlike (answer, port) (answer, other)
@@ -193,7 +189,7 @@ module _ (port : Port) (latch : Bool) (h : has port.ier 1 ≡ true → latch ≡
   advance-alike to =
       let left = run_until (character_time port.divisor port.lcr) to port.transmitter.shift port.transmitter.waiting in
       let emptied = is_empty left.waiting && not (is_empty port.transmitter.waiting) in
-      record { value = refl; alike = record { same = refl; enabled = λ e. ap (λ b. cond emptied true b) (h e) } }
+      record { value = refl; alike = record { same = refl; enabled = λ e. rw (h e) } }
 
 pub reads_alike : ReadsAlike
 reads_alike offset now port other a = rw a.same (read-alike port other.thr_empty a.enabled offset now)
@@ -225,5 +221,5 @@ alike_back port other a =
 pub alike_on : AlikeOn
 alike_on port _ third a b = record {
   same = cc;
-  enabled = λ e. b.enabled (ap (λ (p : Port). has p.ier 1) a.same ∙ e) ∙ a.enabled e;
+  enabled = λ e. b.enabled (rw (a.same) (e)) ∙ a.enabled e;
 }

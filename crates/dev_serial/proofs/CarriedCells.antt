@@ -42,10 +42,10 @@ module _ (set now : ℕ) (port : Port) (early : now ≤ LAST_MOMENT) (s : IsSoun
 
   -- no bytes
   no_bytes : (bytes : List ℕ) → bytes ≡ [] → map pos (padded bytes) ≡ replicate 16 (pos 0)
-  no_bytes bytes e = ap (λ (l : List ℕ). map pos (padded l)) e
+  no_bytes bytes e = rw e
 
   no_count : (bytes : List ℕ) → bytes ≡ [] → (pos (length bytes) ∷ []) ≡ (pos 0 ∷ [])
-  no_count bytes e = ap (λ (l : List ℕ). pos (length l) ∷ []) e
+  no_count bytes e = rw e
 
   lacks : AllLack (named (saved set now port)) set serial_rows
   unfolding saved
@@ -54,7 +54,7 @@ module _ (set now : ℕ) (port : Port) (early : now ≤ LAST_MOMENT) (s : IsSoun
       let held = port.receiver.held in
       let waiting = port.transmitter.waiting in
       none_lacks n set (take 11 serial_rows) (drop 11 serial_rows) refl (
-        λ e. ap (λ (fifos : Option Trigger). pos (fcr_number fifos) ∷ []) (off e),
+        λ e. rw (off e),
         none_lacks n set (take 1 (drop 12 serial_rows)) (drop 13 serial_rows) refl (
           λ e. no_count _ (empty held e),
           (
@@ -64,7 +64,7 @@ module _ (set now : ℕ) (port : Port) (early : now ≤ LAST_MOMENT) (s : IsSoun
               (
                 λ e. no_bytes _ (empty waiting e),
                 (
-                  λ e. ap (λ (timeout : Option ℕ). pos (moment_number timeout) ∷ []) (no-timeout now port s (grind (arith, nat_tests))),
+                  λ e. rw (no-timeout now port s (grind (arith, nat_tests))),
                   (
                     λ e. no_bytes _ (no-ring held e),
                     (

@@ -29,12 +29,10 @@ module _ (array : Counted) (ring : Ring) where
     holds = (all_three (nat_lt 0 ring.number) (array.count == 0) (ring_holds ring) e).1
 
     moved : stored_bytes (counted_of (ring_bytes ring)) (ring_of []) ≡ stored_bytes array ring
-    moved =
-        in_array (ring_bytes ring) (stored-short (record { count = 0; bytes = [] }) ring)
-        ∙ sym (ap (λ (b : Bool). if b then ring_bytes ring else counted_bytes array) empty)
+    moved = in_array (ring_bytes ring) (stored-short (record { count = 0; bytes = [] }) ring) ∙ sym (rw empty)
 
     once : is_stored_once (counted_of (ring_bytes ring)) (ring_of []) ≡ is_stored_once array ring
-    once = or_right (length (ring_bytes ring) == 0) true refl ∙ sym (ap (λ (b : Bool). b || (ring.number == 0)) empty)
+    once = or_right (length (ring_bytes ring) == 0) true refl ∙ sym (rw empty)
 
   abbrev array' : Bool → Counted
   array' b = if b then counted_of (ring_bytes ring) else array
@@ -105,7 +103,7 @@ module _ (level now : ℕ) (n : PortNumbers) where
 
   port_restores : restored level now m ≡ restored level now n
   unfolding restored
-  port_restores = ap (λ (l : List Bool). judged l (port_of level m)) same_rules ∙ ap (judged (rules level now n)) same_port
+  port_restores = ap (λ l. judged l (port_of level m)) same_rules ∙ ap (judged (rules level now n)) same_port
 
 pub recast_restores : (numbers : Numbers) (cells : List ℤ) → restored_cells numbers (recast_cells cells) ≡ restored_cells numbers cells
 recast_restores numbers cells = cc (numbers_back cells, port_restores numbers.level numbers.moment (numbers_of cells))

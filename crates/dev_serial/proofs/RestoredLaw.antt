@@ -39,8 +39,7 @@ restored_by level now n port answer a b d e f g h i j k qa qb qd qe qf qg qh qi 
 
 -- the rule that fails is one of them
 pub rule_within : (rules : List Bool) (rule : ℕ) → first_failing rules ≡ Some rule → (1 ≤ rule) × (rule ≤ length rules)
-rule_within rules rule e =
-    let first : IsFirstFailing rules rule = subst (MeansFailing rules) e (first_failing_is_first rules) in first.within
+rule_within rules rule e = let first : IsFirstFailing rules rule = rw e at (first_failing_is_first rules) in first.within
 
 -- ---- each part of a restored port is sound
 

@@ -113,18 +113,15 @@ parts_are set n =
     let arrays = nat_le 2 set in
     let rings = nat_le 4 set in
     let fcr = cond arrays (pos n.fcr ∷ []) [] in
-    let rx = cond arrays (pos n.rx.count ∷ map pos n.rx.bytes) [] in
     let tx = cond arrays (pos n.tx.count ∷ map pos n.tx.bytes) [] in
     let timeout = cond (nat_le 3 set) (pos n.timeout_at ∷ []) [] in
     let rx_ring = cond rings (map pos n.rx_ring.elements ++ pos n.rx_ring.head ∷ pos n.rx_ring.number ∷ []) [] in
     let tx_ring = cond rings (map pos n.tx_ring.elements ++ pos n.tx_ring.head ∷ pos n.tx_ring.number ∷ []) [] in
-    let both = ap (λ (l : List ℤ). rx_ring ++ l) (last_rows rings (map pos n.tx_ring.elements) (pos n.tx_ring.head) (pos n.tx_ring.number))
+    let both = ap (λ l. rx_ring ++ l) (last_rows rings (map pos n.tx_ring.elements) (pos n.tx_ring.head) (pos n.tx_ring.number))
     ∙ ring_rows rings (map pos n.rx_ring.elements) (pos n.rx_ring.head) (pos n.rx_ring.number) _ in
-    to_right (field_cells n) fcr (n.thr_ipending ∷ []) rx tx timeout rx_ring tx_ring
-    ∙ ap (λ (l : List ℤ). field_cells n ++ (fcr ++ (n.thr_ipending ∷ l)))
-    (ap (λ (l : List ℤ). rx ++ (tx ++ (timeout ++ l))) both
-    ∙ ap (λ (l : List ℤ). rx ++ l) (array_rows arrays (pos n.tx.count) (map pos n.tx.bytes) _)
-    ∙ array_rows arrays (pos n.rx.count) (map pos n.rx.bytes) _)
+    to_right (field_cells n) fcr (n.thr_ipending ∷ []) (cond arrays (pos n.rx.count ∷ map pos n.rx.bytes) []) tx timeout rx_ring tx_ring
+    ∙ ap (λ l. field_cells n ++ (fcr ++ (n.thr_ipending ∷ l)))
+    (rw (both, array_rows arrays (pos n.tx.count) (map pos n.tx.bytes) _) (array_rows arrays (pos n.rx.count) (map pos n.rx.bytes) _))
 
 -- ---- saved cells
 

@@ -68,9 +68,7 @@ module _ (first second : ℕ) (port : Port) (h : first ≤ second) where
   in-parts =
       same_outcome port _ _ _ _ _ _ _ _
       (ap (on_line (mode_of port)) (sym gone-both) ∙ on_line-append (mode_of port) (has port.mcr 4) _ _)
-      (ap (λ xs. looped_in (mode_of port) xs port.receiver) (sym gone-both) ∙ looped-append (mode_of port) (has port.mcr 4) _ _ port.receiver)
-      (sym end-same)
-      (ap (λ t. cond (is_empty t.waiting && not (is_empty port.transmitter.waiting)) true port.thr_empty) (sym end-same) ∙ sym latch-same)
+      (rw (sym gone-both) (looped-append (mode_of port) (has port.mcr 4) _ _ port.receiver)) (sym end-same) (rw (sym end-same) (sym latch-same))
 
 pub advances_in_parts : AdvancesInParts
 advances_in_parts first second port h = in-parts first second port h
@@ -87,9 +85,8 @@ stays to shift character waiting h = rw (lt-leb shift.due to h, bytes_of-timetab
 stays-whole : (to : ℕ) (shift : Shift) (character : ℕ) (transmitter : TransmitterState) → transmitter.shift ≡ Some shift → to < shift.due
     → run_until character to transmitter.shift transmitter.waiting ≡ transmitter
 stays-whole to shift character transmitter e h =
-    ap (λ (s : Option Shift). run_until character to s transmitter.waiting) e
-    ∙ stays to shift character transmitter.waiting h
-    ∙ ap (λ (s : Option Shift). let t : TransmitterState = record { waiting = transmitter.waiting; shift = s } in t) (sym e)
+    ap (λ s. run_until character to s transmitter.waiting) e ∙ stays to shift character transmitter.waiting h
+    ∙ ap (λ s. let t : TransmitterState = record { waiting = transmitter.waiting; shift = s } in t) (sym e)
 
 no_line : (looped : Bool) → cond {A = List ℕ} looped [] [] ≡ []
 no_line true = refl
@@ -116,9 +113,7 @@ unfolding advanced departures gone run_until arrived outcome
 idle to port e =
     let character = character_time port.divisor port.lcr in
     let none : leaving to port ≡ [] = rw e refl in
-    let same : run_until character to port.transmitter.shift port.transmitter.waiting ≡ port.transmitter =
-    ap (λ (s : Option Shift). run_until character to s port.transmitter.waiting) e
-    ∙ ap (λ (s : Option Shift). let t : TransmitterState = record { waiting = port.transmitter.waiting; shift = s } in t) (sym e) in
+    let same : run_until character to port.transmitter.shift port.transmitter.waiting ≡ port.transmitter = rw (e, sym e) in
     same_outcome port _ [] _ port.receiver _ port.transmitter _ port.thr_empty
     (rw none (no_line (has port.mcr 4)))
     (rw none (looped_none (has port.mcr 4) (mode_of port) port.receiver))
