@@ -36,7 +36,7 @@ every_one p (n ∷ names) name h e =
     go (bytes_eq n name) refl e both.0 (λ g. every_one p names name both.1 g)
   where
     go : (c : Bool) → bytes_eq n name ≡ c → (c || is_one_of names name) ≡ true → p n ≡ true → (is_one_of names name ≡ true → p name ≡ true) → p name ≡ true
-    go true is g here later = ap p (sym ((bytes_eq-Decides n name).0 is)) ∙ here
+    go true is g here later = cc ((bytes_eq-Decides n name).0 is)
     go false is g here later = later g
 
 module _ (set : Set) (well : WellFormed set) where

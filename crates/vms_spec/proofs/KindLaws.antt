@@ -5,7 +5,7 @@ use Rattle.vms_spec.proofs.Facade.{U32, U64, I8, I16, I32, I64, Timer, width, re
 use Rattle.vms_kinds.specs.declared.Kind.TheVariants.{Bool}
 
 pub read_back : (w x : ℕ) → x < 256 ^ w → big_number w (big_bytes w x) ≡ x
-read_back w x h = ap (big_from 0 w) (sym (append-nil (big_bytes w x))) ∙ big_number-reads_back w x [] h
+read_back w x h = cc (append-nil (big_bytes w x), big_number-reads_back w x [] h)
 
 pub length-code : (kind : Kind) (z : ℤ) → length (code kind z) ≡ width kind
 unfolding code

@@ -16,7 +16,7 @@ or_second true b e f = cc
 or_second false b e f = e
 
 pub or_turned : (a b c : Bool) → (a || (b || c)) ≡ ((b || a) || c)
-or_turned a b c = sym (or_assoc a b c) ∙ ap (λ t. t || c) (or_comm a b)
+or_turned a b c = cc (or_assoc a b c, or_comm a b)
 
 pub and_swap : (a b c d : Bool) → ((a && b) && (c && d)) ≡ ((a && c) && (b && d))
 and_swap false b c d = refl
@@ -54,7 +54,7 @@ pub both_none : {X : Type 0} (x y : Option X) → x ≡ None → y ≡ None → 
 both_none x y e f = rw e (f)
 
 pub drop_on : {A : Type 0} (all : List A) (at : ℕ) (xs ys : List A) → drop at all ≡ xs ++ ys → drop (at + length xs) all ≡ ys
-drop_on all at xs ys e = sym (drop-drop (length xs) at all) ∙ ap (λ l. drop (length xs) l) e ∙ drop-append_seam xs ys
+drop_on all at xs ys e = cc (drop-drop (length xs) at all, drop-append_seam xs ys)
 
 -- if a first element is found, its number is within the list
 pub found_inside : {X : Type 0} (p : X → Bool) (i : ℕ) (xs : List X) (k : ℕ) → position p i xs ≡ Some k → (i ≤ k) × (k - i < length xs)

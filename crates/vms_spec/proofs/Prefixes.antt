@@ -52,7 +52,7 @@ module _ (j : ℕ) (cs cs' : List (List Cell)) (same : (i : ℕ) → i < j → g
 -- the cells in two tables that agree at i
 pub row_same : {B : Type 0} (cells : B → List Cell) (none : B) (bs bs' : List B) (i : ℕ) → get_or bs i none ≡ get_or bs' i none
     → get_or (map cells bs) i (cells none) ≡ get_or (map cells bs') i (cells none)
-row_same cells none bs bs' i e = get_or-map cells bs i none ∙ ap cells e ∙ sym (get_or-map cells bs' i none)
+row_same cells none bs bs' i e = cc (get_or-map cells bs i none, get_or-map cells bs' i none)
 
 -- the cells in a table that f makes, if f keeps the cells of each description
 pub first_cells : {B : Type 0} (cells : B → List Cell) (f : List B → Desc → B) → ((bs : List B) (d : Desc) → cells (f bs d) ≡ desc_cells (map cells bs) d)
@@ -60,9 +60,7 @@ pub first_cells : {B : Type 0} (cells : B → List Cell) (f : List B → Desc �
 unfolding first
 first_cells cells f makes ds zero = refl
 first_cells cells f makes ds (suc k) =
-    map-append cells (first f ds k) (f (first f ds k) (get_or ds k no_desc) ∷ [])
-    ∙ ap (λ c. map cells (first f ds k) ++ c ∷ []) (makes (first f ds k) (get_or ds k no_desc))
-    ∙ ap (λ cs. cs ++ desc_cells cs (get_or ds k no_desc) ∷ []) (first_cells cells f makes ds k)
+    cc (map-append cells (first f ds k) (f (first f ds k) (get_or ds k no_desc) ∷ []), makes (first f ds k) (get_or ds k no_desc), first_cells cells f makes ds k)
 
 pub readers_cells : (ds : List Desc) (k : ℕ) → cells_of (first reader ds k) ≡ first desc_cells ds k
 readers_cells ds k = first_cells (λ (r : Reader). r.cells) reader (λ rs d. refl) ds k
@@ -70,7 +68,7 @@ readers_cells ds k = first_cells (λ (r : Reader). r.cells) reader (λ rs d. ref
 -- the tables of the first j and of the first k descriptions agree below j
 pub first_same : {B : Type 0} (f : List B → Desc → B) (ds : List Desc) (none : B) (j k i : ℕ) → j ≤ k → i < j
     → get_or (first f ds j) i none ≡ get_or (first f ds k) i none
-first_same f ds none j k i le lt = first_at f ds none j i lt ∙ sym (first_at f ds none k i (omega arith))
+first_same f ds none j k i le lt = cc (first_at f ds none j i lt, first_at f ds none k i (omega arith))
 
 -- ---- slots
 
@@ -96,7 +94,7 @@ module _ (j : ℕ) (ms ms' : List Meaning) (same : (i : ℕ) → i < j → get_o
       rw (
         item_slots_same f.item (counted i all) numbers h.0,
         item_cells_same j (cells_in ms) (cells_in ms') cells_row f.item [] (pos 0) h.0,
-        ap (λ (l : List Cell). slots_from ms all v own numbers (suc i) (at + length l) fs) (field_cells_same j (cells_in ms) (cells_in ms') cells_row all i f h.0)
+        ap (λ l. slots_from ms all v own numbers (suc i) (at + length l) fs) (field_cells_same j (cells_in ms) (cells_in ms') cells_row all i f h.0)
             ∙ slots_same all v own numbers (suc i) (at + length (field_cells (cells_in ms') all i f)) fs h.1,
       )
 

@@ -14,7 +14,7 @@ size_same cs _ caps z = refl
 
 pub field_size : (cs : List (List Cell)) (fields : List Field) (i : ℕ) (f : Field) → length (field_cells cs fields i f) ≡ capacity_of f.count * item_size cs f.item
 field_size cs fields i f =
-    length-times (capacity_of f.count) (item_cells cs f.item (counted i fields) f.default) 0 0 ∙ ap (λ k. capacity_of f.count * k) (size_same cs f.item (counted i fields) f.default)
+    cc (length-times (capacity_of f.count) (item_cells cs f.item (counted i fields) f.default) 0 0, size_same cs f.item (counted i fields) f.default)
 
 pub elements_fit : (c : Count) (own : ℕ → ℕ) → elements_of c own ≤ capacity_of c
 elements_fit One own = omega arith

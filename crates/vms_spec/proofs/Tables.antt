@@ -40,7 +40,4 @@ first_at f ds d (suc k) j lt = at_step f ds d k j lt (λ l. first_at f ds d k j 
 pub first_take : {B : Type 0} (f : List B → Desc → B) (ds : List Desc) (j k : ℕ) → k ≤ j → first f (take j ds) k ≡ first f ds k
 unfolding first
 first_take {B = B} f ds j zero le = refl
-first_take {B = B} f ds j (suc k) le =
-    let e : first f (take j ds) k ≡ first f ds k = first_take f ds j k (omega arith) in
-    let h : get_or (take j ds) k no_desc ≡ get_or ds k no_desc = get_or-take j ds k no_desc (omega arith) in
-    rw (e, h)
+first_take {B = B} f ds j (suc k) le = rw (first_take f ds j k (omega arith), (get_or-take j ds k no_desc (omega arith)))

@@ -228,7 +228,7 @@ first_of p i (y ∷ xs) zero x e t f =
     ap (λ b. if b then Some i else position p (suc i) xs) (ap p same ∙ t) ∙ ap (λ k. Some k) plus
 first_of p i (y ∷ xs) (suc k) x e t f =
     let g = or_parts (p y) (list_any p (take k xs)) f in
-    rw (g.0) (first_of p (suc i) xs k x e t g.1 ∙ ap (λ (k : ℕ). Some k) (omega arith))
+    rw (g.0) (first_of p (suc i) xs k x e t g.1 ∙ ap (λ k. Some k) (omega arith))
 
 some_names : (name : List ℕ) (subs : List Sub) → list_any (λ (s : Sub). bytes_eq s.desc.name name) subs ≡ is_one_of (map (λ (s : Sub). s.desc.name) subs) name
 some_names name [] = refl
