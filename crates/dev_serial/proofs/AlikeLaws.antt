@@ -219,7 +219,4 @@ alike_back port other a =
     record { same = ap (λ (p : Port). record p { thr_empty = port.thr_empty }) (sym a.same); enabled = enabled }
 
 pub alike_on : AlikeOn
-alike_on port _ third a b = record {
-  same = cc;
-  enabled = λ e. b.enabled (rw (a.same) (e)) ∙ a.enabled e;
-}
+alike_on port _ third a b = record { same = cc; enabled = λ e. b.enabled (rw (a.same) (e)) ∙ a.enabled e }

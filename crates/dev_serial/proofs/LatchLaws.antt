@@ -1,8 +1,7 @@
 -- The divisor latch, and the modem status in loop mode.
+use Rattle.dev_serial.proofs.{Facade.LoopsModem, RegisterLaws.switch_stays}
 use Rattle.dev_serial.proofs.Facade.{◌≡◌, ℕ, ◌+◌, ◌*◌, ◌/◌, ◌%◌, ◌<◌, ◌==◌, Bool, true, false, if◌then◌else◌, refl, arith, nat_le, bit_or, has, bits_where}
 use Rattle.dev_serial.proofs.Facade.{either, msr_of, read_of, thr_written, ier_written, switch_of, fcr_written, written, Port, ReachesDivisor, IsLooped}
-use Rattle.dev_serial.proofs.Facade.{LoopsModem}
-use Rattle.dev_serial.proofs.RegisterLaws.{switch_stays}
 
 -- ---- the divisor latch
 
@@ -102,13 +101,7 @@ is_looped : (mcr : ℕ) → has mcr 4 ≡ true → IsLooped mcr (msr_of mcr)
 is_looped mcr loop =
     let bits = looped_of (has mcr 1) (has mcr 0) (has mcr 2) (has mcr 3) in
     let is = msr_looped mcr loop in
-    record {
-      cts = rw is bits.cts;
-      dsr = rw is bits.dsr;
-      ri = rw is bits.ri;
-      dcd = rw is bits.dcd;
-      changes = rw is bits.changes;
-    }
+    record { cts = rw is bits.cts; dsr = rw is bits.dsr; ri = rw is bits.ri; dcd = rw is bits.dcd; changes = rw is bits.changes }
 
 modem_read : (now : ℕ) (port : Port) → read_of 6 now port ≡ (msr_of port.mcr, port)
 unfolding read_of

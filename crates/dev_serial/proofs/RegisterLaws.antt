@@ -18,8 +18,7 @@ module _ (now : ℕ) (port : Port) where
   first : IsFirstAsking now port (interrupt now port)
   unfolding interrupt
   first =
-      cond_both (asks now port LineStatus) _ _ (IsFirstAsking now port)
-      (λ h. record { itself = h; higher = λ other l. absurd (omega arith) })
+      cond_both (asks now port LineStatus) _ _ (IsFirstAsking now port) (λ h. record { itself = h; higher = λ other l. absurd (omega arith) })
       (λ a. cond_both (asks now port ReceivedData) _ _ (IsFirstAsking now port)
       (λ h. record { itself = h; higher = none 1 (omega arith) (λ l. a) (λ l. absurd (omega arith)) (λ l. absurd (omega arith)) (λ l. absurd (omega arith)) })
       (λ b. cond_both (asks now port CharacterTimeout) _ _ (IsFirstAsking now port)

@@ -96,8 +96,7 @@ module _ (now tsr due : ℕ) (empty : Bool) where
 
 pub waiting-empty : (off ready empty unused : Bool) (byte : ℕ) (first second some : Bool) (tx : List ℕ) → is_empty tx ≡ unused → cond off (first && second) (same ready some && same empty unused) ≡ true → empty ≡ true → is_empty (cond off (cond (not empty) (byte ∷ []) []) tx) ≡ true
 waiting-empty true ready empty unused byte first second some tx u h e = rw e refl
-waiting-empty false ready empty unused byte first second some tx u h e =
-    u ∙ (let p : same empty unused ≡ true = (and_parts _ _ h).1 in rw e at p)
+waiting-empty false ready empty unused byte first second some tx u h e = u ∙ (let p : same empty unused ≡ true = (and_parts _ _ h).1 in rw e at p)
 
 -- ---- the whole port
 

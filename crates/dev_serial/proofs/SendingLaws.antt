@@ -264,8 +264,7 @@ sends_in_order (event ∷ events) port r =
     append_assoc (left_in event port) (left_in_all events (after event port)) _
     ∙ ap (λ xs. left_in event port ++ xs) (sends_in_order events (after event port) r.1)
     ∙ sym (append_assoc (left_in event port) (pending (after event port)) _)
-    ∙ ap (λ xs. xs ++ accepted_in_all events (after event port)) (one-event event port r.0)
-    ∙ append_assoc (pending port) (accepted_in event port) _
+    ∙ ap (λ xs. xs ++ accepted_in_all events (after event port)) (one-event event port r.0) ∙ append_assoc (pending port) (accepted_in event port) _
 
 pub replaces_one : ReplacesOne
 unfolding thr_written queued

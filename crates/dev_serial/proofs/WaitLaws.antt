@@ -66,8 +66,7 @@ module _ (first second : ℕ) (port : Port) (h : first ≤ second) where
   in-parts : advanced second port ≡ ((advanced first port).0 ++ (advanced second (advanced first port).1).0, (advanced second (advanced first port).1).1)
   unfolding advanced outcome end between
   in-parts =
-      same_outcome port _ _ _ _ _ _ _ _
-      (ap (on_line (mode_of port)) (sym gone-both) ∙ on_line-append (mode_of port) (has port.mcr 4) _ _)
+      same_outcome port _ _ _ _ _ _ _ _ (ap (on_line (mode_of port)) (sym gone-both) ∙ on_line-append (mode_of port) (has port.mcr 4) _ _)
       (rw (sym gone-both) (looped-append (mode_of port) (has port.mcr 4) _ _ port.receiver)) (sym end-same) (rw (sym end-same) (sym latch-same))
 
 pub advances_in_parts : AdvancesInParts
@@ -102,11 +101,9 @@ waits_until_due to port shift e h =
     let none : leaving to port ≡ [] = rw e (waits to shift (character_time port.divisor port.lcr) port.transmitter.waiting h) in
     let still : run_until (character_time port.divisor port.lcr) to port.transmitter.shift port.transmitter.waiting ≡ port.transmitter =
     stays-whole to shift (character_time port.divisor port.lcr) port.transmitter e h in
-    same_outcome port _ [] _ port.receiver _ port.transmitter _ port.thr_empty
-    (rw none (no_line (has port.mcr 4)))
+    same_outcome port _ [] _ port.receiver _ port.transmitter _ port.thr_empty (rw none (no_line (has port.mcr 4)))
     (rw none (looped_none (has port.mcr 4) (mode_of port) port.receiver))
-    still
-    (rw still (no_change (is_empty port.transmitter.waiting) port.thr_empty))
+    still (rw still (no_change (is_empty port.transmitter.waiting) port.thr_empty))
 
 idle : (to : ℕ) (port : Port) → port.transmitter.shift ≡ None → advanced to port ≡ ([], port)
 unfolding advanced departures gone run_until arrived outcome
@@ -114,11 +111,9 @@ idle to port e =
     let character = character_time port.divisor port.lcr in
     let none : leaving to port ≡ [] = rw e refl in
     let same : run_until character to port.transmitter.shift port.transmitter.waiting ≡ port.transmitter = rw (e, sym e) in
-    same_outcome port _ [] _ port.receiver _ port.transmitter _ port.thr_empty
-    (rw none (no_line (has port.mcr 4)))
+    same_outcome port _ [] _ port.receiver _ port.transmitter _ port.thr_empty (rw none (no_line (has port.mcr 4)))
     (rw none (looped_none (has port.mcr 4) (mode_of port) port.receiver))
-    same
-    (rw same (no_change (is_empty port.transmitter.waiting) port.thr_empty))
+    same (rw same (no_change (is_empty port.transmitter.waiting) port.thr_empty))
 
 still-by : (shift : Option Shift) (to : ℕ) (port : Port) → port.transmitter.shift ≡ shift → IsSentAfter to shift → advanced to port ≡ ([], port)
 still-by None to port e h = idle to port e
