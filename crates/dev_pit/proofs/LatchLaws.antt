@@ -70,10 +70,8 @@ asked-holds count status j k held now pit h =
 control-holds : (word : ControlWord) (k held now : ℕ) (pit : Pit) → sets_mode_of k word ≡ false → Holds held (counter_of k pit)
     → Holds held (counter_of k (controlled word now pit))
 unfolding controlled
-control-holds (LatchCount j) k held now pit e h =
-    at_step (Holds held) k j (latched now) pit (λ here. latched-holds held now (counter_of k pit) h) h
-control-holds (SetMode j access mode bcd) k held now pit e h =
-    at_counter (Holds held) k j _ pit (λ here. absurd (grind (arith, nat_tests))) h
+control-holds (LatchCount j) k held now pit e h = at_step (Holds held) k j (latched now) pit (λ here. latched-holds held now (counter_of k pit) h) h
+control-holds (SetMode j access mode bcd) k held now pit e h = at_counter (Holds held) k j _ pit (λ here. absurd (grind (arith, nat_tests))) h
 control-holds (ReadBack count status first second third) k held now pit e h =
     either (λ (p : Pit). Holds held (counter_of k p)) (nat_le READ_BACK_LEVEL pit.level) _ pit
     (asked-holds _ _ 2 k held now _ (asked-holds _ _ 1 k held now _ (asked-holds _ _ 0 k held now pit h))) h

@@ -210,8 +210,7 @@ loaded-sound count level now counter m c s = record {
 -- A counter of two bytes may hold one or not.
 holding : (level now : ℕ) (low : Option ℕ) (counter : Counter) → counter.access ≡ LowThenHigh → HeldBelow (2 ^ 8) low → PlainSound level now counter
     → PlainSound level now (record counter { held_low = low })
-holding level now low counter e h s =
-    changed s h s.widths.latch s.widths.status s.status (subst (λ a. TogglesFit a counter.read_high low) (sym e) tt)
+holding level now low counter e h s = changed s h s.widths.latch s.widths.status s.status (subst (λ a. TogglesFit a counter.read_high low) (sym e) tt)
 
 first-sound : (low : Option ℕ) (value level now : ℕ) (counter : Counter) → now ≤ LAST_MOMENT → value < 256 → counter.access ≡ LowThenHigh
     → HeldBelow (2 ^ 8) low → PlainSound level now counter → PlainSound level now (written_low_first low value now counter)
