@@ -1,10 +1,9 @@
 -- The earlier fields that a field may name.
+use Rattle.vms_rules.proofs.{DeviceLaws.needed_names, NameLaws.same_new}
 use Rattle.vms_rules.proofs.Facade.{◌≡◌, ℕ, zero, suc, ◌+◌, ◌<◌, List, ◌∷◌, ◌++◌, append_assoc, length, get_or, take, map, Bool, true, false, refl, sym, ap}
 use Rattle.vms_rules.proofs.Facade.{◌∙◌, arith, [], ◌&&◌, not, nat_lt, ◌||◌, slice_get, nat_tests, bytes_eq, take_more, map-append, take-map, and-false}
 use Rattle.vms_rules.proofs.Facade.{or-false, or_comm, Formula, is_steady, names_well, all_names, are_new, is_one_of, one_of_both, are_new_to, Field, field_of}
 use Rattle.vms_spec.specs.Sets as sets
-use Rattle.vms_rules.proofs.DeviceLaws.{needed_names}
-use Rattle.vms_rules.proofs.NameLaws.{same_new}
 
 one_less : (i k : ℕ) → nat_lt (suc i) (suc k) ≡ nat_lt i k
 one_less i k = grind (arith, nat_tests)

@@ -62,8 +62,7 @@ apart_from (x ∷ earlier) names h n e =
     either_of (bytes_eq x n) (is_one_of earlier n) e
     (λ y. subst (λ m. KeysApart m names) (is_same x n y)
     (all_right (λ e. same (key x) e ≡ false) (map key earlier) (map key names)
-    (subst (AllByRecursion (λ e. same (key x) e ≡ false)) (map-append key earlier names) h.0)))
-    (λ y. apart_from earlier names h.1 n y)
+    (subst (AllByRecursion (λ e. same (key x) e ≡ false)) (map-append key earlier names) h.0))) (λ y. apart_from earlier names h.1 n y)
 
 is_itself : (n : ℕ) → same n n ≡ false → ⊥
 is_itself n e = let r : same n n ≡ true = (eq_by_cmp_equiv nat_cmp_total).refl n in cc

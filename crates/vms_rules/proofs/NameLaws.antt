@@ -40,8 +40,7 @@ pub name_added : (names after : BTreeSet (ℕ × Bor (List ℕ))) (name : List �
     → UpdatesBy (λ x y. by_key (seen x) (seen y)) (λ k. by_key (key name, name) (seen k)) names after true
     → (n : List ℕ) → has_name after n ≡ with_name (has_name names) name n
 name_added names after name h n =
-    or_is (bytes_eq name n) (has_name names n) (has_name after n)
-    (λ y. subst (λ l. has_name after l ≡ true) ((bytes_eq-Decides name n).0 y) h.1)
+    or_is (bytes_eq name n) (has_name names n) (has_name after n) (λ y. subst (λ l. has_name after l ≡ true) ((bytes_eq-Decides name n).0 y) h.1)
     (λ e. other_keys _ _ _ _ h.3 _ (λ x y. (eq_by_cmp_equiv in_order).congr (key n, n) (seen x) (seen y)) (λ k. apart_in_order name n (seen k) e))
 
 -- ---- lists of names that are new to a set

@@ -1,7 +1,5 @@
+use Rattle.vms_rules.proofs.{FieldLaws.names_more, KeyLaws.names_known, WalkLaws.stops_by, WalkLaws.place_good, WalkLaws.place_stops}
 use Rattle.vms_rules.proofs.Facade.{◌≡◌, ◌<◌, None, length, get_or, ap, arith, fields_fault, field_of, desc_of, NoMemory, IsFirst, has_name, at_field}
-use Rattle.vms_rules.proofs.FieldLaws.{names_more}
-use Rattle.vms_rules.proofs.KeyLaws.{names_known}
-use Rattle.vms_rules.proofs.WalkLaws.{stops_by, place_good, place_stops}
 use Rattle.vms_rules.proofs.fields.check_fields.Goals as goal
 
 pub returns-in_err-capacities : goal.returns-in_err-capacities

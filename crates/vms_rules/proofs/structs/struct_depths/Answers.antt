@@ -21,8 +21,7 @@ loop-desc-preserved c =
     let depths = c.loop-desc.depths.items in
     let d = c.desc-item.result in
     let i = c.loop-desc.desc-index in
-    let is : c.deepest.result ≡ deepest depths (map field_of d.fields) =
-    cc (c.deepest.ensures, c.deref.ensures.value, c.as_slice.ensures) in
+    let is : c.deepest.result ≡ deepest depths (map field_of d.fields) = cc (c.deepest.ensures, c.deref.ensures.value, c.as_slice.ensures) in
     let small : deepest depths (map field_of d.fields) ≤ i = deepest_small depths i (map field_of d.fields) c.loop-desc.invariant.small in
     record {
       depths = cc (c.in_ok-push.ensures.items, depths_more c.args.structs.now depths i (1 + c.deepest.result) d c.loop-desc-test.true c.desc-item.is c.loop-desc.invariant.depths (ap (λ (n : ℕ). 1 + n) is));
