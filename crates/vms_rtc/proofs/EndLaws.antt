@@ -36,8 +36,7 @@ pub end_is_next : (period from : ℕ) → 0 < period → IsNextEnd (Some period)
 end_is_next period from p = record {
   ends = λ to h. ⊎_elim
       (λ (f : to < end_after period from). not_ended period from to p f ∙ sym (lt-leb (end_after period from) to f))
-      (λ (f : end_after period from ≤ to). ended period from to p f ∙ sym (le-leb (end_after period from) to f))
-      (cases_lt to (end_after period from));
+      (λ (f : end_after period from ≤ to). ended period from to p f ∙ sym (le-leb (end_after period from) to f)) (cases_lt to (end_after period from));
 }
 
 pub none_ends : (from : ℕ) → IsNextEnd None from None

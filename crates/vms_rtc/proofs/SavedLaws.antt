@@ -87,8 +87,7 @@ met chip s =
 carried-newest : (set : ℕ) (chip : Rtc) → IsSound chip → chip.version ≤ set → carried set (saved_cells set chip) ≡ newest chip
 unfolding saved_cells
 carried-newest set chip s le =
-    let lacks : nat_le NMI_SINCE set ≡ false → chip.nmi_mask ≡ false =
-    λ e. s.mask (grind (arith, nat_tests)) in
+    let lacks : nat_le NMI_SINCE set ≡ false → chip.nmi_mask ≡ false = λ e. s.mask (grind (arith, nat_tests)) in
     carried_rows (named chip) set mc146818_rows (holds chip (wide chip s))
     (λ e. cc, (λ e. cc, (λ e. ap (λ m. pos (flag_number m) ∷ []) (lacks e), (λ e. cc, tt)))) [] 0 refl
 
