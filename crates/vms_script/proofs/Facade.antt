@@ -1,45 +1,27 @@
 -- The names of other crates, and of this crate's `specs`, that the proofs use.
+pub use Rattle.std.proofs.{Math.Bool.and-false, lemmas.Bool.not-true, lemmas.Bool.Decides.nat_tests, lemmas.Fmt.digits_decimal, lemmas.Grind.common_steps}
+pub use Rattle.std.proofs.{lemmas.Nat.div-mul-add, lemmas.Nat.mod-mul-add, lemmas.Option.none-some, lemmas.Option.same_Some, lemmas.Result.on_ok_weaker}
+pub use Rattle.std.proofs.{lemmas.Slice.Eq.bytes_eq-Decides, lemmas.Str.IsUtf8-from_ascii}
 pub use Rattle.std.proofs.Common.{Bool, Err, List, None, Ok, Option, Some, [], ap, append_assoc, arith, drop, false, get_or, if◌then◌else◌, length, map, nat_le}
 pub use Rattle.std.proofs.Common.{nat_lt, negsuc, not, pos, refl, rules, subst, suc, sym, take, true, zero, ℕ, ℤ, ⊎_elim, ◌%◌, ◌&&◌, ◌*◌, ◌++◌, ◌+◌, ◌-◌, ◌/◌}
 pub use Rattle.std.proofs.Common.{◌<◌, ◌==◌, ◌^◌, ◌∙◌, ◌∷◌, ◌≡◌, ◌≤◌}
-pub use Rattle.std.proofs.Math.Bool.{and-false}
 pub use Rattle.std.proofs.lemmas.Bool.{and_parts, and_right, cases_lt, eq-eqb, eqb-true, le-leb, le-ltb, leb-true, lt-leb, lt-ltb, ltb-false, ltb-true, ne_eqb}
-pub use Rattle.std.proofs.lemmas.Bool.{not-true}
-pub use Rattle.std.proofs.lemmas.Bool.Decides.{nat_tests}
-pub use Rattle.std.proofs.lemmas.Fmt.{digits_decimal}
-pub use Rattle.std.proofs.lemmas.Grind.{common_steps}
 pub use Rattle.std.proofs.lemmas.List.{append-nil, drop_all, drop_more}
-pub use Rattle.std.proofs.lemmas.Nat.{div-mul-add, mod-mul-add}
-pub use Rattle.std.proofs.lemmas.Option.{none-some, same_Some}
-pub use Rattle.std.proofs.lemmas.Result.{on_ok_weaker}
-pub use Rattle.std.proofs.lemmas.Slice.Eq.{bytes_eq-Decides}
-pub use Rattle.std.proofs.lemmas.Str.{IsUtf8-from_ascii}
-pub use Rattle.std.specs.Char.{digit_char}
-pub use Rattle.std.specs.Fmt.{decimal}
-pub use Rattle.std.specs.List.{list_all}
-pub use Rattle.std.specs.Prelude.{IsAscii, codes, slice_index}
-pub use Rattle.std.specs.Str.{bytes_eq}
-pub use Rattle.vms_spec.proofs.ListLaws.{natural_up}
-pub use Rattle.vms_spec.proofs.NameBytes.{name_byte_high, name_byte_low}
+pub use Rattle.std.specs.{Char.digit_char, Fmt.decimal, List.list_all, Prelude.IsAscii, Prelude.codes, Prelude.slice_index, Str.bytes_eq}
+pub use Rattle.vms_spec.proofs.{ListLaws.natural_up, NameBytes.name_byte_high, NameBytes.name_byte_low}
 pub use Rattle.vms_spec.specs.Names.{is_name, is_name_byte}
 pub use Rattle.vms_spec.specs.Spelling.{begins_with, first_line, is_digit, longer_line, natural_from, number_spelled}
-pub use Rattle.vms_words.proofs.LineLaws.{first_is, first_none}
-pub use Rattle.vms_words.proofs.Spells.{number_holds, numerals, spelled_holds}
+pub use Rattle.vms_words.proofs.{LineLaws.first_is, LineLaws.first_none, Spells.number_holds, Spells.numerals, Spells.spelled_holds}
+pub use Rattle.vms_script.specs.{Lines.wait_line, Lines.wire_line, Names.is_shelf_name, Trace.bytes_text, Trace.level_text}
+pub use Rattle.vms_script.specs.{declared.line.ScriptFault.ScriptFault, declared.line.ScriptReason.ScriptReason}
 pub use Rattle.vms_script.specs.Grammar.{AreLines, IsEvent, IsLine, ReadsExactly, event_text, line_text, port_text, script_text}
 pub use Rattle.vms_script.specs.Lines.{Happens, Read, Restores, Saves, ScriptLine, byte_line, in_line, is_set_of, is_wait, line_of_words, line_read, line_split}
 pub use Rattle.vms_script.specs.Lines.{name_spelled, number_in, or_form, or_range, out_line, play_line, restore_line, save_line, session_line, set_spelled}
-pub use Rattle.vms_script.specs.Lines.{wait_line, wire_line}
-pub use Rattle.vms_script.specs.Names.{is_shelf_name}
 pub use Rattle.vms_script.specs.Refusal.{IsBadHere, IsRefused, RefusesFirst, unended_reason}
 pub use Rattle.vms_script.specs.Script.{BadLine, Reading, Split, also, bad, begun, lines_of, lines_read, tail_read, text_read, unended, with_line}
-unfoldable pub use Rattle.vms_script.specs.Script.{script_read}
-pub use Rattle.vms_script.specs.Trace.{bytes_text, level_text}
 pub use Rattle.vms_script.specs.Views.{IsBadAt, IsPut, IsRefusal, ReadsLines, SaysLines, below_2_64, number_read}
 pub use Rattle.vms_script.specs.Words.{byte_spelled, byte_text, digit_spelled, first_word, joined, level_spelled, longer_word, port_spelled}
-pub use Rattle.vms_script.specs.declared.line.ScriptFault.{ScriptFault}
 pub use Rattle.vms_script.specs.declared.line.ScriptFault.TheVariants.{Bad, NoMemory}
-pub use Rattle.vms_script.specs.declared.line.ScriptReason.{ScriptReason}
+unfoldable pub use Rattle.vms_script.specs.Script.{script_read}
 pub use Rattle.dev_base.specs.declared.limits.TheConstants.{NEWEST}
-pub use Rattle.dev_board.specs.Wires.{is_wire}
-pub use Rattle.dev_board.specs.declared.event.Event.{Event}
-pub use Rattle.dev_board.specs.declared.event.Event.TheVariants.{Ack}
+pub use Rattle.dev_board.specs.{Wires.is_wire, declared.event.Event.Event, declared.event.Event.TheVariants.Ack}

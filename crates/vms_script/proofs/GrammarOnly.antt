@@ -70,12 +70,10 @@ abbrev pub Says : Option ℕ → List ℕ → ScriptLine → Type 0
 Says play text line = IsLine play line × (text ≡ line_text line)
 
 in_is : (play : Option ℕ) (rest : List ℕ) → Only (Says play (codes "in " ++ rest)) (in_line rest)
-in_is play rest =
-    formed (port_spelled rest) _ (λ p s. let q = port_is rest p s in only_ok (Happens (events.Read p)) (q.small, rw (q.text_is)))
+in_is play rest = formed (port_spelled rest) _ (λ p s. let q = port_is rest p s in only_ok (Happens (events.Read p)) (q.small, rw (q.text_is)))
 
 byte_line_is : (play : Option ℕ) (rest : List ℕ) → Only (Says play (codes "byte " ++ rest)) (byte_line rest)
-byte_line_is play rest =
-    formed (byte_spelled rest) _ (λ v s. let q = byte_is rest v s in only_ok (Happens (events.Byte v)) (q.small, rw (q.text_is)))
+byte_line_is play rest = formed (byte_spelled rest) _ (λ v s. let q = byte_is rest v s in only_ok (Happens (events.Byte v)) (q.small, rw (q.text_is)))
 
 wait_is : (play : Option ℕ) (rest : List ℕ) → Only (Says play (codes "wait " ++ rest)) (wait_line rest)
 wait_is play rest = number_is is_wait (λ ns. Happens (events.Wait ns)) rest waits_end (λ n h t. (h, rw t))

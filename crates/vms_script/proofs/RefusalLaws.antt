@@ -1,9 +1,8 @@
 -- A text is refused at its first bad line.
+use Rattle.vms_script.proofs.{Facade.tail_read, Facade.lines_read, Facade.script_read, Facade.ScriptReason, NumberLemmas.lacks}
 use Rattle.vms_script.proofs.Facade.{◌≡◌, ℕ, ◌+◌, Bool, true, false, not, ◌==◌, List, ◌∷◌, ◌++◌, Option, Some, None, Ok, Err, if◌then◌else◌, refl, sym, ap, ◌∙◌}
 use Rattle.vms_script.proofs.Facade.{subst, arith, append_assoc, [], and_parts, not-true, first_line, longer_line, line_text, script_text, Read, line_read}
 use Rattle.vms_script.proofs.Facade.{unended_reason, IsBadHere, IsRefused, RefusesFirst, Split, Reading, BadLine, lines_of, begun, with_line, unended}
-use Rattle.vms_script.proofs.Facade.{tail_read, lines_read, script_read, ScriptReason}
-use Rattle.vms_script.proofs.NumberLemmas.{lacks}
 use Rattle.vms_script.proofs.GrammarOnly.{unsplit, text_split, line_is}
 
 -- ---- the lines of a text have no line feed

@@ -1,5 +1,4 @@
-use Rattle.vms_script.proofs.Facade.{sym, ◌∙◌}
-use Rattle.vms_script.proofs.NumberLemmas.{natural_stops, natural_ends}
+use Rattle.vms_script.proofs.{Facade.sym, Facade.◌∙◌, NumberLemmas.natural_stops, NumberLemmas.natural_ends}
 use Rattle.vms_script.proofs.number.natural_of.Goals as goal
 
 pub returns-in_err-value : goal.returns-in_err-value

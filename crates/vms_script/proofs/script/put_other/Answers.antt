@@ -1,5 +1,4 @@
-use Rattle.vms_script.proofs.Facade.{rules, on_ok_weaker}
-use Rattle.vms_script.proofs.ScriptLemmas.{other_says, words_long}
+use Rattle.vms_script.proofs.{Facade.rules, Facade.on_ok_weaker, ScriptLemmas.other_says, ScriptLemmas.words_long}
 use Rattle.vms_script.proofs.script.put_other.Goals as goal
 
 pub returns-in-Some-clause-long : goal.returns-in-Some-clause-long
