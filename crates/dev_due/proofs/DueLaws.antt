@@ -103,8 +103,7 @@ same_shows m c to hc lc ht lt s =
 -- the bytes that leave by a moment
 pub sent_at_wait : (to : ℕ) (m : State) → m.moment ≤ to → to ≤ LAST_MOMENT → (step (Wait (to - m.moment)) m).0.sent.items ≡ (advanced to m.serial).0
 unfolding at after_act waited
-sent_at_wait to m h l =
-    ap (λ (done : Answer × State). done.0.sent.items) (wait-at (to - m.moment) m ∙ ap (λ (t : ℕ). at t m) (later-to m.moment to h l))
+sent_at_wait to m h l = ap (λ (done : Answer × State). done.0.sent.items) (wait-at (to - m.moment) m ∙ ap (λ (t : ℕ). at t m) (later-to m.moment to h l))
 
 -- a wait beyond the last moment shows what one up to it shows
 again : (ns moment : ℕ) → moment ≤ LAST_MOMENT → later_by (later_by ns moment - moment) moment ≡ later_by ns moment
@@ -195,8 +194,7 @@ same-chip chip now at to e = ap (λ (b : Bool). record chip { pf = chip.pf || b 
 same-clock : (board : Board) (end : Option ℕ) (at to : ℕ) → IsEnd board end → now_of board ≤ at → now_of board ≤ to → has_come end at ≡ has_come end to
     → SameClock board at to
 same-clock (Isa devices) end at to is ha ht e = tt
-same-clock (Clock devices) end at to is ha ht e =
-    same-chip devices.now.clock devices.now.board.moment at to (is.ends at ha ∙ e ∙ sym (is.ends to ht))
+same-clock (Clock devices) end at to is ha ht e = same-chip devices.now.clock devices.now.board.moment at to (is.ends at ha ∙ e ∙ sym (is.ends to ht))
 
 module _ (board : Board) (base to : ℕ) (found : Option ℕ) (from : now_of board ≤ base) (upto : base ≤ to) (last : to ≤ LAST_MOMENT)
     (line : (at : ℕ) → base ≤ at → at ≤ to → SameLine (devices_of board).serial at to) (e : shows_at board to ≡ true) (here : Found board base found) where
@@ -220,8 +218,7 @@ module _ (board : Board) (base to : ℕ) (found : Option ℕ) (from : now_of boa
       }) e)
       (λ (g : end ≤ base). in-one
       (λ at low high. same-clock board (Some end) at to is (omega arith) (omega arith) (le-leb end at (omega arith) ∙ sym (le-leb end to f))))
-      (cases_lt base end))
-      (cases_lt to end)
+      (cases_lt base end)) (cases_lt to end)
 
 -- ---- a byte that leaves shows
 
@@ -271,8 +268,7 @@ module _ (board : Board) (found : Option ℕ) (sound : IsSound (devices_of board
 
   by-cover : (end : Option ℕ) → IsEnd board end → FoundAt board end found → (at : ℕ) → Shown board at
       → Covers (devices_of board).serial (now_of board) at ⊎ LeavesBy (devices_of board).serial at → IsBy at found
-  by-cover end is ends at s (inl c) =
-      by-clock board c.base at found c.from c.span.upto s.last c.span.same s.shows (at-base c.base c.is) end is ends
+  by-cover end is ends at s (inl c) = by-clock board c.base at found c.from c.span.upto s.last c.span.same s.shows (at-base c.base c.is) end is ends
   by-cover end is ends at s (inr l) =
       let later : now_of board < l.shift.due = later-sent l.shift (devices_of board).serial.transmitter.shift l.sends is-sent in
       let from : now_of board ≤ l.shift.due = omega arith in

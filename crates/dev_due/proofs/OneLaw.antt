@@ -10,8 +10,6 @@ one_is_due step int m None (Some second) h l = never-both (shows step int m seco
 one_is_due step int m (Some first) None h l = never-both (shows step int m first) h.0 (l first)
 one_is_due step int m (Some first) (Some second) h l = ⊎_elim
     (λ (f : first < second). never-both (shows step int m first) h.0 (l.1 first f))
-    (λ (f : second ≤ first). ⊎_elim
-    (λ (g : second < first). never-both (shows step int m second) l.0 (h.1 second g))
+    (λ (f : second ≤ first). ⊎_elim (λ (g : second < first). never-both (shows step int m second) l.0 (h.1 second g))
     (λ (g : first ≤ second). ap (λ (n : ℕ). Some n) (omega arith))
-    (cases_lt second first))
-    (cases_lt first second)
+    (cases_lt second first)) (cases_lt first second)

@@ -85,8 +85,7 @@ module _ (base to : ℕ) (port : Port) (l : base ≤ to) (h : IsSentAfter to (af
         is = inl refl;
         span = record { upto = l; same = λ c low high. one c low high (rw e (both timeout c to (omega arith) f)) };
       })
-      (cases_lt base timeout))
-      (cases_lt to timeout)
+      (cases_lt base timeout)) (cases_lt to timeout)
     where
       neither : (timeout c to : ℕ) → c ≤ to → to < timeout → nat_le timeout c ≡ nat_le timeout to
       neither timeout c to h f = grind (arith, nat_tests)
@@ -185,8 +184,7 @@ module _ (port : Port) (now to : ℕ) (looped : has port.mcr 4 ≡ true) (shift 
   since-base : (k : ℕ) (timeout : Option ℕ) (base : ℕ) → k ≤ length port.transmitter.waiting + 1 → timeout ≡ Some base → IsSince port shift k timeout
       → IsBase port now base
   since-base k timeout base h e (inl own) = inr (inl (sym own ∙ e))
-  since-base k timeout base h e (inr (j, below, is)) =
-      inr (inr (shift, sends, (j, omega arith, inr (same_Some base _ (sym e ∙ is)))))
+  since-base k timeout base h e (inr (j, below, is)) = inr (inr (shift, sends, (j, omega arith, inr (same_Some base _ (sym e ∙ is)))))
 
   -- a port in loop mode after k bytes left, and at which moment: it holds the rest
   record Reached (k : ℕ) (base : ℕ) (p : Port) : Type 0 where
@@ -254,8 +252,7 @@ module _ (port : Port) (now to : ℕ) (looped : has port.mcr 4 ≡ true) (shift 
       let due = shift.due + k * character in
       let first : Shift = record { byte = byte; due = due } in
       let e : p.transmitter.shift ≡ Some first = cc (first-shift due byte bytes) in
-      ⊎_elim
-      (λ (f : to < due). covered k base p r l (subst (IsSentAfter to) (sym e) f))
+      ⊎_elim (λ (f : to < due). covered k base p r l (subst (IsSentAfter to) (sym e) f))
       (λ (f : due ≤ to).
       cover-loop bytes (k + 1) due (after due p) (next-reached k base due p first r e refl (omega arith) later) (record {
         transmitter = sent-transmitter p first e
@@ -263,8 +260,7 @@ module _ (port : Port) (now to : ℕ) (looped : has port.mcr 4 ≡ true) (shift 
             ∙ ap (λ (d : ℕ). holding (timetable character d p.transmitter.waiting)) (omega arith)
             ∙ ap (λ (w : List ℕ). holding (timetable character (shift.due + (k + 1) * character) w)) (cc (first-waiting due byte bytes));
         all = omega arith;
-      }) f (omega arith))
-      (cases_lt to due)
+      }) f (omega arith)) (cases_lt to due)
 
   whole : port.transmitter ≡ holding (timetable character (shift.due + 0 * character) (shift.byte ∷ port.transmitter.waiting))
   unfolding holding timetable
@@ -322,8 +318,7 @@ by-shift : (shift : Option Shift) (port : Port) (now to : ℕ) → port.transmit
 by-shift None port now to e h d = inl (at-once port now to h (subst (IsSentAfter to) (sym e) tt))
 by-shift (Some shift) port now to e h d = ⊎_elim
     (λ (f : to < shift.due). inl (at-once port now to h (subst (IsSentAfter to) (sym e) f)))
-    (λ (f : shift.due ≤ to). by-mode (has port.mcr 4) port now to shift refl e h d f)
-    (cases_lt to shift.due)
+    (λ (f : shift.due ≤ to). by-mode (has port.mcr 4) port now to shift refl e h d f) (cases_lt to shift.due)
 
 -- up to any moment the line stays from one of the port's moments on, or a byte left
 pub covers : (port : Port) (now to : ℕ) → now ≤ to → IsSentAfter now port.transmitter.shift → Covers port now to ⊎ LeavesBy port to

@@ -9,5 +9,4 @@ returns-in_err-at c =
 
 pub returns : goal.returns
 returns c =
-    rw c.now.ensures.moment
-    (some_due (Clock c.args.devices) c.in_ok-at.at c.in_ok-at.ensures.moment c.in_ok-at.ensures.shown c.in_ok-at.ensures.first)
+    rw c.now.ensures.moment (some_due (Clock c.args.devices) c.in_ok-at.at c.in_ok-at.ensures.moment c.in_ok-at.ensures.shown c.in_ok-at.ensures.first)
