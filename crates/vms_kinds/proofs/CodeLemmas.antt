@@ -181,8 +181,7 @@ pub written_plain : (kind : Kind) (z : ℤ) (w : ℕ) (old new : List ℕ) → w
     → new ≡ big_bytes w (nat_abs (to_z w128 (of_z w128 z))) ++ drop w old
     → new ≡ code kind z ++ drop (width kind) old
 written_plain kind (pos n) w old new ew s h f e =
-    e ∙ ap (λ (v : ℤ). big_bytes w (nat_abs v) ++ drop w old) (to_z-of_z w128 (pos n) f)
-    ∙ ap (λ (v : ℕ). big_bytes v n ++ drop v old) ew
+    e ∙ ap (λ (v : ℤ). big_bytes w (nat_abs v) ++ drop w old) (to_z-of_z w128 (pos n) f) ∙ ap (λ (v : ℕ). big_bytes v n ++ drop v old) ew
     ∙ ap (λ (v : List ℕ). v ++ drop (width kind) old) (plain_code kind n s h)
 written_plain kind (negsuc n) w old new ew s h f e = absurd (not_negative kind n s h)
 

@@ -1,9 +1,8 @@
-use Rattle.std.proofs.Common.{◌∙◌, rules, arith}
-use Rattle.std.specs.Int.{w128}
-use mir.Val.{SFits}
-use Rattle.std.proofs.lemmas.Int.{to_z-of_z}
-use Rattle.vms_kinds.specs.Codes.{IsBadBool}
+use Rattle.std.proofs.{Common.◌∙◌, Common.rules, Common.arith, lemmas.Int.to_z-of_z}
+use Rattle.std.specs.{Int.w128}
 use Rattle.vms_kinds.proofs.CodeLemmas.{taken, value_taken}
+use Rattle.vms_kinds.specs.Codes.{IsBadBool}
+use mir.Val.{SFits}
 use Rattle.vms_kinds.proofs.Kind.take.Goals as goal
 
 pub returns-clause-some : goal.returns-clause-some
