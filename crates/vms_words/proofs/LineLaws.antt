@@ -4,8 +4,7 @@ use Rattle.std.proofs.lemmas.Bool.{eq-eqb, eqb-true}
 use Rattle.memchr.specs.Find.{Nowhere, NoneBefore, Passes, is_byte}
 use Rattle.vms_spec.specs.Spelling.{first_line}
 use Rattle.vms_words.proofs.FirstLine.{line_at, no_line_in}
-use Rattle.vms_words.specs.Lines.{IsFirstLine}
-use Rattle.vms_words.specs.declared.line.NextLine.{NextLine}
+use Rattle.vms_words.specs.{Lines.IsFirstLine, declared.line.NextLine.NextLine}
 
 pub found_line : (xs : List ℕ) (i : ℕ) (line : NextLine) → NoneBefore (Passes (is_byte 10) xs) 0 (length xs) i → Passes (is_byte 10) xs i
     → line.text.now ≡ take i xs → line.after.now ≡ drop (i + 1) xs → IsFirstLine (first_line xs) (Some line)

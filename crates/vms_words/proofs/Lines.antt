@@ -1,14 +1,12 @@
 -- Lines at the front of a text.
-use Rattle.std.proofs.Common.{◌≡◌, ℕ, suc, ◌≤◌, Bool, true, false, ◌==◌, nat_le, List, ◌∷◌, ◌++◌, length, take, drop, Option, Some, None, ℤ, pos, negsuc, if◌then◌else◌, refl, sym, ap, ◌∙◌, arith, []}
-use Rattle.std.specs.List.{list_all}
+use Rattle.std.proofs.{lemmas.Fmt.digits_decimal, lemmas.List.take-append-drop, lemmas.Slice.Eq.bytes_eq-Decides}
+use Rattle.std.proofs.Common.{◌≡◌, ℕ, suc, ◌≤◌, Bool, true, false, ◌==◌, nat_le, List, ◌∷◌, ◌++◌, length, take, drop, Option, Some, None, ℤ, pos, negsuc}
+use Rattle.std.proofs.Common.{if◌then◌else◌, refl, sym, ap, ◌∙◌, arith, []}
 use Rattle.std.proofs.lemmas.Bool.{and_parts, leb-true, ne_eqb, eqb-true}
-use Rattle.std.proofs.lemmas.Fmt.{digits_decimal}
-use Rattle.std.specs.Fmt.{decimal, signed_decimal}
-use Rattle.std.proofs.lemmas.List.{take-append-drop}
-use Rattle.std.proofs.lemmas.Slice.Eq.{bytes_eq-Decides}
+use Rattle.std.specs.{List.list_all, Fmt.decimal, Fmt.signed_decimal}
 use Rattle.vms_spec.specs.Spelling.{first_line, longer_line, begins_with, is_digit}
-use Rattle.vms_words.specs.Texts.{IsShort}
 use Rattle.vms_words.proofs.Spells.{AreDigits, numerals}
+use Rattle.vms_words.specs.Texts.{IsShort}
 
 -- ---- the line of a number ends after it
 

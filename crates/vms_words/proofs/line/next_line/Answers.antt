@@ -1,5 +1,4 @@
-use Rattle.std.proofs.lemmas.Grind.{common_steps}
-use Rattle.std.proofs.Common.{arith}
+use Rattle.std.proofs.{lemmas.Grind.common_steps, Common.arith}
 use Rattle.vms_words.proofs.LineLaws.{found_line, no_line}
 use Rattle.vms_words.proofs.line.next_line.Goals as goal
 
