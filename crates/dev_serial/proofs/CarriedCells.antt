@@ -1,9 +1,9 @@
 -- Saved cells, carried to the newest set, are restored as a port like the saved one.
-use Rattle.dev_serial.proofs.{Facade.cells_at, Facade.hook_restored, SavedLaw.restored-saved, SavedCells.holds, SavedCells.in-ranges, SavedCells.newest-cells}
-use Rattle.dev_serial.proofs.Facade.{◌≡◌, ℕ, ◌<◌, ◌≤◌, true, false, cond, List, ◌∷◌, map, replicate, pos, refl, ap, arith, length, take, drop, Option, Some, []}
-use Rattle.dev_serial.proofs.Facade.{None, ◌&&◌, not, Ok, nat_le, is_some, leb-true, and_parts, nat_tests, serial_rows, AllLack, none_lacks, carried_rows}
-use Rattle.dev_serial.proofs.Facade.{named, cells_of, carried, numbers_of, NEWEST, LAST_MOMENT, is_empty, SavedComesBack, Port, saved, fifo_bytes, in_array}
-use Rattle.dev_serial.proofs.Facade.{in_ring, fcr_number, moment_number, IsSound, IsTimeout, Alike, padded, Trigger, Numbers, hook_result, CanSave, CanRestore}
+use Rattle.dev_serial.proofs.{SavedLaw.restored-saved, SavedCells.holds, SavedCells.in-ranges, SavedCells.newest-cells}
+use Rattle.dev_serial.proofs.Facade.{cells_at, hook_restored, ◌≡◌, ℕ, ◌<◌, ◌≤◌, true, false, cond, List, ◌∷◌, map, replicate, pos, refl, arith, length, take}
+use Rattle.dev_serial.proofs.Facade.{drop, Option, Some, [], None, ◌&&◌, not, Ok, nat_le, is_some, leb-true, and_parts, nat_tests, serial_rows, AllLack}
+use Rattle.dev_serial.proofs.Facade.{none_lacks, carried_rows, named, cells_of, carried, numbers_of, NEWEST, LAST_MOMENT, is_empty, SavedComesBack, Port, saved}
+use Rattle.dev_serial.proofs.Facade.{fifo_bytes, in_array, in_ring, IsSound, IsTimeout, Alike, padded, Trigger, Numbers, hook_result, CanSave, CanRestore}
 
 -- ---- cells carried to the newest set
 

@@ -1,5 +1,5 @@
 -- The names of other crates, and of this crate's `specs`, that the proofs use.
-pub use Rattle.std.proofs.{Math.Bool.and-false, Math.Bool.and-true, Math.Bool.or-true, lemmas.Grind.common_steps, lemmas.Int.ints}
+pub use Rattle.std.proofs.{Math.Bool.and-false, Math.Bool.and-true, Math.Bool.or-true, lemmas.Grind.common_steps}
 pub use Rattle.std.proofs.{lemmas.List.Folds.list_all_at, lemmas.List.Folds.list_all_more, lemmas.Nat.and_le_r, lemmas.Nat.le-div}
 pub use Rattle.std.proofs.Common.{Bool, List, None, Ok, Option, Some, [], ap, append-nil, append_assoc, arith, cond, drop, false, get_or, if◌then◌else◌, inl}
 pub use Rattle.std.proofs.Common.{inr, length, length-append, map, min, nat_eq, negsuc, not, pos, refl, replicate, subst, suc, sym, take, true, zero, ℕ, ℤ}
@@ -12,7 +12,7 @@ pub use Rattle.std.proofs.lemmas.List.FromFn.{get_or-map-range_with_len, get_or-
 pub use Rattle.std.specs.{List.list_all, List.range_with_len, Ordering.int_eq}
 pub use Rattle.std.specs.Prelude.{bit_and, bit_or, is_some, max, nat_le, nat_lt, remove}
 pub use Rattle.vms_kinds.specs.{Codes.InRange, Codes.is_signed, declared.Kind.Kind}
-pub use Rattle.vms_kinds.specs.declared.Kind.TheVariants.{I16, I32, I64, I8, Timer, U16, U32, U64, U8}
+pub use Rattle.vms_kinds.specs.declared.Kind.TheVariants.{I16, I32, I64, I8, Timer, U16, U8}
 pub use Rattle.vms_fields.specs.Serial.{serial_rows}
 pub use Rattle.vms_fields.specs.declared.serial.TheConstants.{DIVISOR, FCR, IER, IIR, LCR, LSR, MCR, RBR, RX, RX_COUNT, RX_DATA, RX_HEAD, RX_NUMBER, SCR, THR}
 pub use Rattle.vms_fields.specs.declared.serial.TheConstants.{THR_IPENDING, TIMEOUT_AT, TSR, TX, TX_COUNT, TX_DATA, TX_DUE, TX_HEAD, TX_NUMBER}
@@ -21,7 +21,7 @@ pub use Rattle.dev_base.proofs.{Choices.either, RuleLaws.AllTrue, RuleLaws.first
 pub use Rattle.dev_base.proofs.CellLaws.{byte, number-lt, of_more, of_none, timer, word}
 pub use Rattle.dev_base.proofs.ListLaws.{AllHold, AllLack, carried_rows, none_lacks, of_rows, one_holds}
 pub use Rattle.dev_base.proofs.PlaceLemmas.{all_set, bytes_within, firsts_more, one_set}
-pub use Rattle.dev_base.specs.{Bits.bits_where, Bits.has, Bits.same, Levels.IsLevel, Rules.IsFirstFailing, Rules.MeansFailing, Rules.first_failing}
+pub use Rattle.dev_base.specs.{Bits.bits_where, Bits.has, Bits.same, Levels.IsLevel, Rules.IsFirstFailing, Rules.first_failing}
 pub use Rattle.dev_base.specs.{Rules.judged, Tables.since, declared.limits.TheConstants.LAST_MOMENT, declared.limits.TheConstants.NEWEST}
 pub use Rattle.dev_base.specs.Cells.{AreOf, cell_at, firsts, kind_at, nat_of, number_at}
 unfoldable pub use Rattle.dev_base.specs.{Hooks.hook_result, Rules.judged_by}

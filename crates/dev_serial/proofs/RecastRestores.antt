@@ -1,12 +1,11 @@
 -- Recast cells are restored as the cells are.
-use Rattle.dev_serial.proofs.Facade.{◌≡◌, ℕ, ◌≤◌, ◌==◌, Bool, true, false, ◌&&◌, ◌||◌, if◌then◌else◌, List, [], ◌∷◌, length, refl, sym, ap, ◌∙◌, arith, ℤ}
-use Rattle.dev_serial.proofs.Facade.{ne_eqb, or_right, Numbers, judged, is_empty, numbers_of, port_of, stored_bytes, is_in_ring, array_for, ring_left}
-use Rattle.dev_serial.proofs.Facade.{recast_port, recast_cells, fcr_holds, id_holds, is_stored_once, is_unused, latch_holds, once_holds, registers_hold}
-use Rattle.dev_serial.proofs.Facade.{restored, rings_hold, rules, shift_holds, status_holds, timeout_holds, unused_hold, restored_cells, counted_bytes}
-use Rattle.dev_serial.proofs.Facade.{counted_of, ring_bytes, ring_holds, ring_of, PortNumbers, Counted, Ring}
-use Rattle.std.proofs.Common.{nat_lt}
-use Rattle.dev_serial.proofs.RecastLaws.{numbers_back}
+use Rattle.dev_serial.proofs.{Facade.ring_holds, Facade.ring_of, Facade.PortNumbers, Facade.Counted, Facade.Ring, RecastLaws.numbers_back}
+use Rattle.dev_serial.proofs.Facade.{◌≡◌, ℕ, ◌≤◌, ◌==◌, Bool, true, false, ◌&&◌, if◌then◌else◌, List, [], ◌∷◌, length, refl, sym, ap, ◌∙◌, arith, ℤ, ne_eqb}
+use Rattle.dev_serial.proofs.Facade.{or_right, Numbers, judged, is_empty, numbers_of, port_of, stored_bytes, is_in_ring, array_for, ring_left, recast_port}
+use Rattle.dev_serial.proofs.Facade.{recast_cells, fcr_holds, id_holds, is_stored_once, is_unused, latch_holds, once_holds, registers_hold, restored}
+use Rattle.dev_serial.proofs.Facade.{rings_hold, rules, shift_holds, status_holds, timeout_holds, unused_hold, restored_cells, counted_of, ring_bytes}
 use Rattle.dev_serial.proofs.StoredLaws.{counted-back, ring-back, ring_of-holds, stored-empty, stored-short}
+use Rattle.std.proofs.Common.{nat_lt}
 
 -- ---- one direction
 

@@ -1,14 +1,14 @@
 -- The saved cells are cells of their set.
-use Rattle.dev_serial.proofs.{Facade.IsArray, SavedLaw.array-short, SavedLaw.ring-short, StoredLaws.byte_of-lt, StoredLaws.byte_of-padded, AlikeLaws.lsr-status}
-use Rattle.dev_serial.proofs.Facade.{◌≡◌, ℕ, zero, suc, ◌+◌, ◌<◌, ◌≤◌, ◌^◌, Bool, true, false, cond, List, ◌∷◌, ◌++◌, map, replicate, ℤ, pos, refl, ap, ◌∙◌, []}
-use Rattle.dev_serial.proofs.Facade.{arith, append_assoc, length, take, drop, Option, Some, None, ⊎_elim, range_with_len, nat_le, is_some, cases_lt, ints}
+use Rattle.dev_serial.proofs.{SavedLaw.array-short, SavedLaw.ring-short, StoredLaws.byte_of-lt, StoredLaws.byte_of-padded, AlikeLaws.lsr-status}
+use Rattle.dev_serial.proofs.Facade.{IsArray, ◌≡◌, ℕ, zero, suc, ◌+◌, ◌<◌, ◌≤◌, ◌^◌, Bool, true, false, cond, List, ◌∷◌, ◌++◌, map, replicate, ℤ, pos, refl, ap}
+use Rattle.dev_serial.proofs.Facade.{◌∙◌, [], arith, append_assoc, length, take, drop, Option, Some, None, ⊎_elim, range_with_len, nat_le, is_some, cases_lt}
 use Rattle.dev_serial.proofs.Facade.{get_or-append-add, get_or_append_left, get_or-map, get_or_past, and_le_r, nil_from_length, serial_rows, InRange, U8, I8}
 use Rattle.dev_serial.proofs.Facade.{of_none, of_more, byte, word, timer, AllHold, one_holds, of_rows, AreOf, firsts, cell_at, since, named, field_cells}
 use Rattle.dev_serial.proofs.Facade.{array_cells, ring_cells, cells_of, kinds, IsPortCells, FIFOS_SINCE, TIMEOUT_SINCE, RINGS_SINCE, PortNumbers, Counted, Ring}
 use Rattle.dev_serial.proofs.Facade.{NEWEST, LAST_MOMENT, lsr_of, has, AreSaved, SavedAreCells, IsShort, Port, interrupt, id_number, is_thr_empty, saved}
 use Rattle.dev_serial.proofs.Facade.{ipending_of, single_byte, fifo_bytes, in_array, in_ring, fcr_number, shift_number, due_number, moment_number, IsSound}
-use Rattle.dev_serial.proofs.Facade.{AreBytes, IsShift, IsTimeout, byte_of, padded, counted_of, ring_of, Interrupt, LineStatus, ReceivedData, CharacterTimeout}
-use Rattle.dev_serial.proofs.Facade.{ThrEmpty, NonePending, Shift, Trigger, One, Four, Eight, Fourteen, RX, TX_COUNT, TX, TIMEOUT_AT, number_at, RX_COUNT}
+use Rattle.dev_serial.proofs.Facade.{AreBytes, IsShift, IsTimeout, byte_of, padded, counted_of, ring_of, Interrupt, LineStatus, Shift, Trigger, One, Four}
+use Rattle.dev_serial.proofs.Facade.{Eight, Fourteen, RX, TX_COUNT, TX, TIMEOUT_AT, number_at, RX_COUNT}
 
 -- ---- the numbers in each row of the list of fields
 

@@ -1,4 +1,4 @@
-use Rattle.dev_serial.proofs.{Facade.◌≡◌, Facade.◌∙◌, SavedCells.parts, SavedCells.parts_are}
+use Rattle.dev_serial.proofs.{Facade.◌∙◌, SavedCells.parts_are}
 use Rattle.std.proofs.Common.{rules}
 use Rattle.dev_serial.proofs.numbers.PortNumbers.cells.Goals as goal
 

@@ -1,6 +1,5 @@
-use Rattle.dev_serial.proofs.Facade.{◌≡◌, ℕ, List, [], sym, ap, ◌∙◌}
+use Rattle.dev_serial.proofs.{Facade.sym, Facade.ap, Facade.◌∙◌, WaitLaws.still}
 use Rattle.std.proofs.Common.{rules}
-use Rattle.dev_serial.proofs.WaitLaws.{still}
 use Rattle.dev_serial.proofs.serial.Serial.advance.Goals as goal
 
 pub returns-then-is_still-clause-state : goal.returns-then-is_still-clause-state

@@ -1,4 +1,4 @@
-use Rattle.dev_serial.proofs.Facade.{sym, ◌∙◌, arith, subst, ℕ, ◌≡◌, true, take, range_with_len, list_all, is_held_or_zero}
+use Rattle.dev_serial.proofs.Facade.{sym, ◌∙◌, arith, subst, ◌≡◌, true, take, range_with_len, list_all, is_held_or_zero}
 use Rattle.dev_serial.proofs.StoredLaws.{all_fails, all_more}
 use Rattle.dev_serial.proofs.stored.Ring.is_zero_outside.Goals as goal
 
