@@ -5,7 +5,7 @@ use Rattle.dev_pit.proofs.Facade.{◌≡◌, ℕ, ◌+◌, ◌-◌, ◌<◌, ◌
 use Rattle.dev_pit.proofs.Facade.{is_some, cases_Bool, reads, writes, called, programs, sets_mode_of, loads, completes, control_word, out_at, ticks, out_of}
 use Rattle.dev_pit.proofs.Facade.{out_since, written, read_back, written_by, written_low_first, read_of, latched, GoesOn, CountingGoesOn, TerminalCountStays}
 use Rattle.dev_pit.proofs.Facade.{counter_of, pit_read, pit_out, asked_back, controlled, pit_written, ControlWord, LatchCount, SetMode, ReadBack, Counter}
-use Rattle.dev_pit.proofs.Facade.{READ_BACK_LEVEL, Access, LowByte, HighByte, LowThenHigh, TerminalCount, Pit, either}
+use Rattle.dev_pit.proofs.Facade.{READ_BACK_LEVEL, Access, LowThenHigh, TerminalCount, Pit, either}
 
 asked-go_on : (count status : Bool) (j k now : ℕ) (before : Counter) (pit : Pit) → GoesOn before (counter_of k pit)
     → GoesOn before (counter_of k (asked_back count status j now pit))

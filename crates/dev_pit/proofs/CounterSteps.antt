@@ -1,6 +1,6 @@
 -- Which steps of a counter leave its counting as it was.
 use Rattle.dev_pit.proofs.Facade.{ℕ, Bool, true, false, Option, Some, None, refl, ◌∙◌, either, latched, status_latched, read_back, read_of, read_by, counted_of}
-use Rattle.dev_pit.proofs.Facade.{counted_by, GoesOn, Counter, Access, LowByte, HighByte, LowThenHigh}
+use Rattle.dev_pit.proofs.Facade.{counted_by, GoesOn, Counter, Access, LowThenHigh}
 
 pub same : (counter : Counter) → GoesOn counter counter
 same counter = record { count = refl; mode = refl; loaded_at = refl }

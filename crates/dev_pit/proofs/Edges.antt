@@ -1,7 +1,7 @@
 -- An edge in a span of time is one in a part of it.
 use Rattle.dev_pit.proofs.Facade.{◌≡◌, ℕ, ◌+◌, ◌/◌, ◌<◌, ◌≤◌, ◌==◌, Bool, true, false, not, ◌&&◌, ◌||◌, Option, Some, None, refl, arith, nat_tests, nat_lt}
 use Rattle.dev_pit.proofs.Facade.{nat_le, grown, quotient_mono, rises, ticks, period, edge_of, edge_since, TicksGoOn, SecondsHaveTicks, EdgeInParts, Mode}
-use Rattle.dev_pit.proofs.Facade.{TerminalCount, OneShot, RateGenerator, SquareWave, SoftwareStrobe, HardwareStrobe}
+use Rattle.dev_pit.proofs.Facade.{TerminalCount, RateGenerator, SquareWave, SoftwareStrobe}
 
 -- Ticks never go back.
 pub ticks-mono : (load now later : ℕ) → now ≤ later → ticks load now ≤ ticks load later

@@ -1,7 +1,7 @@
 -- The names of other crates, and of this crate's `specs`, that the proofs use.
-pub use Rattle.std.proofs.{Common.◌||◌, Common.◌∙◌, Common.◌∷◌, Common.◌≡◌, Common.◌≤◌, Common.◌⊎◌, Math.ListN.get_or-append}
-pub use Rattle.std.proofs.Common.{Bool, List, None, Ok, Option, Some, [], ap, arith, codes, cond, false, inl, inr, length, not, pos, refl, replicate, rules}
-pub use Rattle.std.proofs.Common.{slice_index_or, slice_set, subst, suc, sym, true, zero, ℕ, ℤ, ⊎_elim, ◌%◌, ◌&&◌, ◌*◌, ◌++◌, ◌+◌, ◌-◌, ◌/◌, ◌<◌, ◌==◌, ◌^◌}
+pub use Rattle.std.proofs.{Common.◌-◌, Common.◌/◌, Common.◌<◌, Common.◌==◌, Common.◌^◌, Math.ListN.get_or-append}
+pub use Rattle.std.proofs.Common.{◌||◌, ◌∙◌, ◌∷◌, ◌≡◌, ◌≤◌, ◌⊎◌, Bool, List, None, Ok, Option, Some, [], ap, arith, codes, cond, false, inl, inr, length, not}
+pub use Rattle.std.proofs.Common.{pos, refl, replicate, rules, slice_index_or, slice_set, subst, suc, sym, true, zero, ℕ, ℤ, ⊎_elim, ◌%◌, ◌&&◌, ◌*◌, ◌++◌, ◌+◌}
 pub use Rattle.std.proofs.Math.Nat.{div-lt_iff_lt-mul, div-mul-le_self, mul-le-mul_right}
 pub use Rattle.std.proofs.lemmas.Bool.{and_parts, cases_Bool, cases_lt, le-leb, Decides.nat_tests}
 pub use Rattle.std.proofs.lemmas.List.{get_or-append-add, get_or_default, length-set}
@@ -21,7 +21,8 @@ pub use Rattle.dev_base.specs.{Rules.first_failing, declared.limits.TheConstants
 pub use Rattle.dev_pit.specs.{Channel.held_if, Control.control_word, Count.high_part, Count.period, GoesOn.GoesOn, Pit.IsLoadedBy, Pit.counter_of}
 pub use Rattle.dev_pit.specs.{Pit.with_counter, SheetNumbers.NumbersAre, declared.channel.Channel.Channel, declared.control.ControlWord.ControlWord}
 pub use Rattle.dev_pit.specs.{declared.counter.Counter.Counter, declared.limits.TheConstants.READ_BACK_LEVEL, declared.mode.Access.Access}
-pub use Rattle.dev_pit.specs.{declared.mode.Mode.Mode, declared.pit.Pit.Pit, declared.turns.Marks.Marks, declared.turns.Turns.Turns}
+pub use Rattle.dev_pit.specs.{declared.mode.Mode.Mode, declared.pit.Pit.Pit, declared.turns.Marks.Marks, declared.turns.Turns.Turns, Sound.HasWidths}
+pub use Rattle.dev_pit.specs.{Sound.HeldBelow, Sound.IsSoundCounter, Sound.IsSoundPit, Turns.AreTurns, Turns.IsTurn, Turns.Turned, Turns.marks_of}
 pub use Rattle.dev_pit.specs.Calls.{Call, IsCall, completes, is_last, reads, sets_mode_of, writes}
 pub use Rattle.dev_pit.specs.Cells.{AreCellsOf, HasDefault, IsChannelAt, IsPitCells, carried, channel_in, channel_kinds, channel_place, field_place, kinds_of}
 pub use Rattle.dev_pit.specs.Cells.{latched_place, named, named_statuses, status_place}
@@ -30,14 +31,12 @@ pub use Rattle.dev_pit.specs.Laws.{CountingGoesOn, EdgeInParts, EdgeTurnsHigh, L
 pub use Rattle.dev_pit.specs.Laws.{SecondsHaveTicks, SoundMeetsRules, SoundStays, StatusTells, StepsKeepLevel, TellsStatus, TerminalCountStays, TicksGoOn}
 pub use Rattle.dev_pit.specs.Mode.{access_number, access_of, mode_number, mode_of}
 pub use Rattle.dev_pit.specs.Saved.{CanRestore, CanSave, hook_restored, restored_pit, three_hold}
-pub use Rattle.dev_pit.specs.Sound.{HasWidths, HeldBelow, IsSoundCounter, IsSoundPit}
-pub use Rattle.dev_pit.specs.Turns.{AreTurns, IsTurn, Turned, marks_of}
 pub use Rattle.dev_pit.specs.declared.control.ControlWord.TheVariants.{LatchCount, ReadBack, SetMode}
 pub use Rattle.dev_pit.specs.declared.mode.Access.TheVariants.{HighByte, LowByte, LowThenHigh}
 pub use Rattle.dev_pit.specs.declared.mode.Mode.TheVariants.{HardwareStrobe, OneShot, RateGenerator, SoftwareStrobe, SquareWave, TerminalCount}
 unfoldable pub use Rattle.dev_pit.specs.{Calls.called, Calls.loads, Calls.programs, Calls.reads_latch, Count.live_at, Count.out_at, Count.rises, Count.square}
-unfoldable pub use Rattle.dev_pit.specs.{Count.ticks, Counter.status_latched, Counter.status_of, Counter.written, Saved.pit_of, Turns.moment_of}
+unfoldable pub use Rattle.dev_pit.specs.{Count.ticks, Counter.programmed, Counter.read_back, Counter.read_of, Saved.pit_of, Turns.moment_of}
 unfoldable pub use Rattle.dev_pit.specs.Cells.{channel_at, channel_cells, pit_cells, status_cells, three_cells}
 unfoldable pub use Rattle.dev_pit.specs.Channel.{channel_of, counter_from, moment_holds, registers_hold, status_holds, toggles_hold}
-unfoldable pub use Rattle.dev_pit.specs.Counter.{counted_of, edge_of, latched, live_of, loaded, out_of, powered_on, programmed, read_back, read_of}
+unfoldable pub use Rattle.dev_pit.specs.Counter.{status_latched, status_of, written, counted_of, edge_of, latched, live_of, loaded, out_of, powered_on}
 unfoldable pub use Rattle.dev_pit.specs.Pit.{asked_back, controlled, new_pit, pit_out, pit_read, pit_written}

@@ -3,7 +3,7 @@ use Rattle.dev_pit.proofs.Facade.{◌≡◌, ℕ, ◌-◌, ◌<◌, ◌≤◌, �
 use Rattle.dev_pit.proofs.Facade.{is_some, cases_Bool, Call, reads, writes, IsCall, called, programs, sets_mode_of, reads_latch, is_last, control_word, loaded}
 use Rattle.dev_pit.proofs.Facade.{written, written_by, written_low_first, read_of, read_by, counted_of, counted_by, latched, status_latched, read_back}
 use Rattle.dev_pit.proofs.Facade.{LatchStays, counter_of, pit_read, asked_back, controlled, pit_written, ControlWord, LatchCount, SetMode, ReadBack, Counter}
-use Rattle.dev_pit.proofs.Facade.{READ_BACK_LEVEL, Access, LowByte, HighByte, LowThenHigh, Pit, either}
+use Rattle.dev_pit.proofs.Facade.{READ_BACK_LEVEL, Access, LowThenHigh, Pit, either}
 use Rattle.dev_pit.proofs.Chips.{at_counter, at_step}
 
 -- A counter with this latched count.

@@ -1,7 +1,7 @@
 -- OUT of a counter, and its edges, come again at the marked ticks.
 use Rattle.dev_pit.proofs.Facade.{◌≡◌, ℕ, ◌+◌, ◌-◌, ◌*◌, ◌/◌, ◌%◌, ◌<◌, ◌≤◌, ◌==◌, ◌⊎◌, inl, inr, Bool, true, false, not, ◌&&◌, ◌||◌, refl, ap, ◌∙◌, arith}
 use Rattle.dev_pit.proofs.Facade.{⊎_elim, cases_lt, nat_tests, div-add-mod', div-mul-add, mod-mul-add, mul-le-mul_right, nat_lt, quotient_mono, rises, out_at}
-use Rattle.dev_pit.proofs.Facade.{period, high_part, Mode, TerminalCount, OneShot, RateGenerator, SquareWave, SoftwareStrobe, HardwareStrobe, marks_of, Marks}
+use Rattle.dev_pit.proofs.Facade.{period, high_part, Mode, TerminalCount, RateGenerator, SquareWave, SoftwareStrobe, marks_of, Marks}
 use Rattle.dev_pit.proofs.Edges.{period-pos, period-two}
 
 -- a tick is another one, or one of the marks

@@ -2,7 +2,7 @@
 use Rattle.dev_pit.proofs.Facade.{◌≡◌, ℕ, ◌<◌, ◌≤◌, Bool, Option, Some, None, length, slice_index_or, subst, sym, ap, ◌∙◌, arith, nat_le, get_or_default}
 use Rattle.dev_pit.proofs.Facade.{LoadedBy, loaded, written, written_by, written_low_first, programmed, powered_on, read_of, read_back, latched, GoesOn}
 use Rattle.dev_pit.proofs.Facade.{IsLoadedBy, counter_of, with_counter, asked_back, controlled, ControlWord, LatchCount, SetMode, ReadBack, Counter}
-use Rattle.dev_pit.proofs.Facade.{READ_BACK_LEVEL, Access, LowByte, HighByte, LowThenHigh, Mode, Pit, either}
+use Rattle.dev_pit.proofs.Facade.{READ_BACK_LEVEL, Access, LowThenHigh, Mode, Pit, either}
 use Rattle.dev_pit.proofs.Chips.{at_counter, at_step}
 use Rattle.dev_pit.proofs.CounterSteps.{read-goes_on, latched-goes_on, read_back-goes_on}
 

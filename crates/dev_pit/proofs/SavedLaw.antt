@@ -1,5 +1,5 @@
 -- A saved chip is restored as it was.
-use Rattle.dev_pit.proofs.{Chips.three_counters, Chips.each_of, RestoredLaw.pit-restored}
+use Rattle.dev_pit.proofs.{Chips.three_counters, Chips.each_of, RestoredLaw.pit-restored, Facade.Pit}
 use Rattle.dev_pit.proofs.Facade.{◌≡◌, ℕ, ◌^◌, ◌<◌, ◌≤◌, ◌==◌, Bool, true, false, Option, Some, None, Ok, List, [], ◌∷◌, ◌++◌, length, replicate, ℤ, pos, codes}
 use Rattle.dev_pit.proofs.Facade.{refl, ap, sym, subst, ◌∙◌, arith, nat_tests, nat_le, is_some, kinds_under, channel_rows, status_rows, STATUS_LATCHED}
 use Rattle.dev_pit.proofs.Facade.{STATUS_SINCE, Numbers, flag_number, flag_at, number_at, AreOf, IsLevel, MayRestore, first_failing, NEWEST, LAST_MOMENT}
@@ -8,8 +8,7 @@ use Rattle.dev_pit.proofs.Facade.{none_failing, all_true, judged-all, ok-hook, c
 use Rattle.dev_pit.proofs.Facade.{three_cells, channel_in, pit_cells, carried, field_place, channel_at, HasDefault, AreCellsOf, IsPitCells, held_if, channel_of}
 use Rattle.dev_pit.proofs.Facade.{counter_from, registers_hold, moment_holds, status_holds, toggles_hold, held_or, powered_on, SoundMeetsRules, SavedAreCells}
 use Rattle.dev_pit.proofs.Facade.{SavedIsRestored, mode_number, mode_of, access_number, access_of, counter_of, CanSave, CanRestore, three_hold, pit_of}
-use Rattle.dev_pit.proofs.Facade.{restored_pit, hook_restored, HasWidths, IsSoundPit, Channel, Counter, READ_BACK_LEVEL, Access, LowByte, HighByte, LowThenHigh}
-use Rattle.dev_pit.proofs.Facade.{Mode, TerminalCount, OneShot, RateGenerator, SquareWave, SoftwareStrobe, HardwareStrobe, Pit}
+use Rattle.dev_pit.proofs.Facade.{restored_pit, hook_restored, HasWidths, IsSoundPit, Channel, Counter, READ_BACK_LEVEL, Access, LowByte, Mode, TerminalCount}
 use Rattle.dev_pit.proofs.SoundSteps.{StatusFits, plain-from_sound, mode-small, access-small, held-below}
 use Rattle.dev_pit.specs.{Saved.rules}
 

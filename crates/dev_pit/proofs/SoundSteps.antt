@@ -4,7 +4,7 @@ use Rattle.dev_pit.proofs.Facade.{le-leb, nat_tests, nat_le, is_some, nat_lt, ch
 use Rattle.dev_pit.proofs.Facade.{held_or, live_of, live_since, out_of, status_of, written, written_by, written_low_first, programmed, powered_on, read_of}
 use Rattle.dev_pit.proofs.Facade.{read_by, counted_of, counted_by, latched, status_latched, read_back, mode_number, access_number, HasWidths, IsSoundCounter}
 use Rattle.dev_pit.proofs.Facade.{HeldBelow, Counter, READ_BACK_LEVEL, Access, LowByte, HighByte, LowThenHigh, Mode, TerminalCount, OneShot, RateGenerator}
-use Rattle.dev_pit.proofs.Facade.{SquareWave, SoftwareStrobe, HardwareStrobe, flag_number, LAST_MOMENT, live_at, square, high_part, either}
+use Rattle.dev_pit.proofs.Facade.{SquareWave, HardwareStrobe, flag_number, LAST_MOMENT, live_at, square, high_part, either}
 use Rattle.dev_pit.specs.Counter.{loaded as loading}
 
 -- ---- what the rules say about a counter itself
