@@ -1,5 +1,5 @@
 -- The least capacity decides for all capacities that a number counts.
-use Rattle.vms_rules.proofs.Facade.{◌≡◌, ℕ, ◌<◌, List, ◌∷◌, length, get_or, Bool, true, false, Option, Some, None, ℤ, pos, refl, ap, ◌∙◌, [], ◌&&◌, and_assoc}
+use Rattle.vms_rules.proofs.Facade.{◌≡◌, ℕ, ◌<◌, List, ◌∷◌, length, get_or, Bool, true, false, Option, Some, None, ℤ, pos, refl, [], ◌&&◌, and_assoc}
 use Rattle.vms_rules.proofs.Facade.{counted, int_le, counts_well, both_below, lesser, least_from, AreLeast, fits}
 use Rattle.vms_spec.specs.Sets.{Field}
 

@@ -30,7 +30,7 @@ pub use Rattle.vms_parts.proofs.{ItemLaws.items_are, ItemLaws.items_to, Items.dr
 pub use Rattle.vms_parts.proofs.SizeLaws.{capped_fields, capped_subs, sum_ends, sum_goes}
 pub use Rattle.vms_parts.specs.{Capacities.AreLeast, Capacities.least_from, Capacities.lesser, Devices.device_at, declared.sizes.Measure.TheVariants.Items}
 pub use Rattle.vms_parts.specs.{declared.types.Desc.Desc, declared.types.Device.Device, declared.types.Field.Field, declared.types.Sub.Sub}
-pub use Rattle.vms_parts.specs.Sizes.{fields_size, in_u32, sizes_to, subs_size}
+pub use Rattle.vms_parts.specs.Sizes.{in_u32, sizes_to, subs_size}
 pub use Rattle.vms_parts.specs.Views.{desc_of, device_of, field_of, formula, set_of, sub_of}
 pub use Rattle.vms_rules.specs.{Capacities.fits, Judged.IsFirst, Judged.Judges, declared.devices.Within.Within, declared.fault.DescFault.DescFault}
 pub use Rattle.vms_rules.specs.NameSets.{are_new_to, by_key, has_name, key, with_name}

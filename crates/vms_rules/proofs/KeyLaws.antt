@@ -1,6 +1,6 @@
 -- Names whose keys differ are distinct.
 use Rattle.vms_rules.proofs.Facade.{◌≡◌, ℕ, ◌+◌, ◌<◌, List, [], ◌∷◌, ◌++◌, append_assoc, append-nil, length, get_or, take, drop, map, Bool, true, false, refl}
-use Rattle.vms_rules.proofs.Facade.{sym, ap, ◌∙◌, subst, ◌&&◌, not, ◌||◌, IsDistinct, AllByRecursion, IsStrictlyIncreasing, IsPermutation, nat_cmp, eq_by_cmp}
+use Rattle.vms_rules.proofs.Facade.{sym, ap, ◌∙◌, subst, not, ◌||◌, IsDistinct, AllByRecursion, IsStrictlyIncreasing, IsPermutation, nat_cmp, eq_by_cmp}
 use Rattle.vms_rules.proofs.Facade.{nat_cmp_total, bytes_eq, eq_by_cmp_equiv, take_more, map-append, take-map, take-append-drop, IsPermutation-sym}
 use Rattle.vms_rules.proofs.Facade.{IsDistinct-IsPermutation, IsDistinct-from_sorted, sorted_from_strictly_increasing, bytes_eq-Decides, all_names, are_new}
 use Rattle.vms_rules.proofs.Facade.{is_one_of, all_right, either_of, Field, field_of, drop_is, key, are_new_to, with_name}

@@ -1,5 +1,5 @@
 -- The rules at a place, in order.
-use Rattle.vms_rules.proofs.Facade.{◌≡◌, ℕ, ◌+◌, ◌<◌, ◌≤◌, List, ◌∷◌, length, get_or, drop, Bool, true, false, Some, None, sym, ap, ◌∙◌, add-one, drop_all}
+use Rattle.vms_rules.proofs.Facade.{◌≡◌, ℕ, ◌+◌, ◌<◌, ◌≤◌, List, ◌∷◌, length, get_or, drop, Bool, true, false, Some, None, ap, ◌∙◌, add-one, drop_all}
 use Rattle.vms_rules.proofs.Facade.{drop_more, Place, failing}
 
 head_is : (rules : List Bool) (i : ℕ) (b d : Bool) (place : Place) → i < length rules → get_or rules i d ≡ b

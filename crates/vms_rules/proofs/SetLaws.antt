@@ -1,8 +1,8 @@
 -- The machines of a set, and the whole walk.
-use Rattle.vms_rules.proofs.{Facade.are_new_to, WalkLaws.first_stops, WalkLaws.first_good, WalkLaws.later_stops}
-use Rattle.vms_rules.proofs.Facade.{sym, ◌≡◌, ℕ, List, ◌∷◌, Bool, true, false, Option, None, refl, ap, ◌∙◌, [], ◌&&◌, not, ◌||◌, is_at, BTreeSet}
+use Rattle.vms_rules.proofs.Facade.{are_new_to, ◌≡◌, ℕ, List, ◌∷◌, Bool, true, false, Option, None, refl, ap, [], ◌&&◌, not, ◌||◌, is_at, BTreeSet}
 use Rattle.vms_rules.proofs.Facade.{nat_list_eq_equiv, list_any, bytes_eq, and_assoc, Bor, or_else, is_one_of, SetFault, failing, here, are_distinct, set_rules}
 use Rattle.vms_rules.proofs.Facade.{size_rules, first_fault, and_swap, DescFault, IsFirst, structs_from, devices_from, key, by_key, has_name, with_name}
+use Rattle.vms_rules.proofs.WalkLaws.{first_stops, first_good, later_stops}
 use Rattle.vms_spec.specs.declared.Part.TheVariants as parts
 use Rattle.vms_spec.specs.Sets as sets
 

@@ -1,6 +1,6 @@
 -- The number of items of a set, with sums that are cut at 2 ^ 32 - 1.
-use Rattle.vms_rules.proofs.Facade.{◌≡◌, ℕ, ◌+◌, List, ◌∷◌, length, map, refl, sym, ap, ◌∙◌, arith, [], nat_le, nat_tests, MOST_ITEMS, items_in, struct_items}
-use Rattle.vms_rules.proofs.Facade.{subs_items, devices_items, Items, in_u32, fields_size, subs_size, sizes_to, capped_fields, capped_subs, items_are, items_to}
+use Rattle.vms_rules.proofs.Facade.{◌≡◌, ℕ, List, ◌∷◌, length, map, refl, arith, [], nat_le, nat_tests, MOST_ITEMS, items_in, struct_items}
+use Rattle.vms_rules.proofs.Facade.{subs_items, devices_items, Items, in_u32, subs_size, sizes_to, capped_fields, capped_subs, items_are, items_to}
 use Rattle.vms_spec.specs.Sets as sets
 
 -- ---- items by sizes

@@ -1,5 +1,5 @@
 -- Structures: their depths and their names.
-use Rattle.vms_rules.proofs.Facade.{◌≡◌, ℕ, zero, suc, ◌+◌, ◌<◌, ◌≤◌, List, [], ◌∷◌, ◌++◌, length, get_or, map, ap, ◌∙◌, arith, add-one, length-map, Item}
+use Rattle.vms_rules.proofs.Facade.{◌≡◌, ℕ, zero, suc, ◌+◌, ◌<◌, ◌≤◌, List, [], ◌∷◌, ◌++◌, length, get_or, map, ap, arith, add-one, length-map, Item}
 use Rattle.vms_rules.proofs.Facade.{Struct, first, no_desc, item_depth, deepest, struct_depths, Desc, field_of, desc_of, get_map_at, first_long}
 use Rattle.vms_spec.specs.Sets as sets
 

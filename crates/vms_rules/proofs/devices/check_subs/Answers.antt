@@ -1,7 +1,6 @@
 use Rattle.vms_rules.proofs.{NameLaws.names_so_far, WalkLaws.stops_by, WalkLaws.place_good, WalkLaws.place_stops, devices.check_subs.Goals.After-sub-item}
 use Rattle.vms_rules.proofs.Facade.{◌≡◌, ◌<◌, ℕ, None, length, get_or, ap, arith, no_desc, AtLeast, sub_fault, Sub, sub_of, device_of, get_map_at, IsFirst}
 use Rattle.vms_rules.proofs.Facade.{has_name, subs_from, sub_at, Within}
-use Rattle.vms_spec.specs.Sets as sets
 use Rattle.vms_rules.proofs.devices.check_subs.Goals as goal
 
 -- the subsection of this number

@@ -1,6 +1,5 @@
-use Rattle.vms_rules.proofs.Facade.{◌≡◌, ◌+◌, List, ◌∷◌, ℕ, map, refl, sym, ap, ◌∙◌, arith, items_in, subs_items, devices_items, Items, Field, Sub, Device}
-use Rattle.vms_rules.proofs.Facade.{in_u32, fields_size, subs_size, field_of, sub_of, device_of, items_are, sum_ends, sum_goes}
-use Rattle.vms_rules.proofs.SizeLaws.{subs_are}
+use Rattle.vms_rules.proofs.{Facade.items_are, Facade.sum_ends, Facade.sum_goes, SizeLaws.subs_are}
+use Rattle.vms_rules.proofs.Facade.{◌≡◌, ◌+◌, List, ◌∷◌, ℕ, map, refl, arith, items_in, subs_items, devices_items, Device, in_u32, field_of, sub_of, device_of}
 use Rattle.vms_rules.proofs.sets.devices_items.Goals as goal
 
 abbrev whole : List ℕ → List Device → ℕ

@@ -1,7 +1,6 @@
 use Rattle.vms_rules.proofs.Facade.{◌≡◌, None, map, no_desc, or_else, failing, here, fields_fault, validations_fault, struct_rules, struct_fault, desc_of}
 use Rattle.vms_rules.proofs.Facade.{get_map_at, IsFirst, desc_at}
 use Rattle.vms_spec.specs.declared.Part.TheVariants.{Struct}
-use Rattle.vms_spec.specs.Sets as sets
 use Rattle.vms_rules.proofs.WalkLaws.{stops_by, first_stops, judged_after}
 use Rattle.vms_rules.proofs.structs.check_struct.Goals as goal
 
