@@ -1,7 +1,7 @@
 -- A restored chip is sound.
 use Rattle.vms_rtc.proofs.Facade.{ℕ, ◌+◌, ◌<◌, List, [], drop, ℤ, subst, arith, ◌≡◌, ◌≤◌, ◌==◌, ◌&&◌, ◌||◌, not, nat_le, Bool, true, false, Ok, refl, sym, ap}
 use Rattle.vms_rtc.proofs.Facade.{◌∙◌, and_parts, nat_tests, get_or-map-range_with_len, length-map-range_with_len, CMOS, InRange, Kind, U8, bytes_within}
-use Rattle.vms_rtc.proofs.Facade.{cell_at, AreOf, nat_of, kinds, NEWEST_CLOCK, REGISTERS, NMI_SINCE, REGISTER_A, REGISTER_C, REGISTER_D, Numbers, number-lt}
+use Rattle.vms_rtc.proofs.Facade.{cell_at, AreOf, kinds, NEWEST_CLOCK, REGISTERS, NMI_SINCE, REGISTER_A, REGISTER_C, REGISTER_D, Numbers, number-lt}
 use Rattle.vms_rtc.proofs.Facade.{AllTrue, judged-ok, hook-ok, IsUpTo, register, RestoredIsSound, CanRestore, index_in, register_in, nmi_mask_in, index_holds}
 use Rattle.vms_rtc.proofs.Facade.{registers_hold, rules, chip_of, restored, hook_restored, IsSound, Rtc}
 
