@@ -16,7 +16,7 @@ pub use Rattle.vms_script.specs.{Lines.wait_line, Lines.wire_line, Names.is_shel
 pub use Rattle.vms_script.specs.{declared.line.ScriptFault.ScriptFault, declared.line.ScriptReason.ScriptReason}
 pub use Rattle.vms_script.specs.Grammar.{AreLines, IsEvent, IsLine, ReadsExactly, event_text, line_text, port_text, script_text}
 pub use Rattle.vms_script.specs.Lines.{Happens, Read, Restores, Saves, ScriptLine, byte_line, in_line, is_set_of, is_wait, line_of_words, line_read, line_split}
-pub use Rattle.vms_script.specs.Lines.{name_spelled, number_in, or_form, or_range, out_line, play_line, restore_line, save_line, session_line, set_spelled}
+pub use Rattle.vms_script.specs.Lines.{name_spelled, number_in, or_form, or_range, out_line, play_line, restore_line, save_line, set_spelled}
 pub use Rattle.vms_script.specs.Refusal.{IsBadHere, IsRefused, RefusesFirst, unended_reason}
 pub use Rattle.vms_script.specs.Script.{BadLine, Reading, Split, also, bad, begun, lines_of, lines_read, tail_read, text_read, unended, with_line}
 pub use Rattle.vms_script.specs.Views.{IsBadAt, IsPut, IsRefusal, ReadsLines, SaysLines, below_2_64, number_read}

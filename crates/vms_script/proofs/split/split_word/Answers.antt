@@ -1,4 +1,4 @@
-use Rattle.vms_script.proofs.Facade.{◌≡◌, ℕ, ◌+◌, ◌-◌, List, length, take, drop, Some, sym, ap, ◌∙◌, arith, common_steps}
+use Rattle.vms_script.proofs.Facade.{◌≡◌, ◌+◌, ◌-◌, length, take, drop, sym, arith, common_steps}
 use Rattle.vms_script.proofs.ScriptLemmas.{found_word, no_blank, none_yet, none_here}
 use Rattle.vms_script.proofs.split.split_word.Goals as goal
 
