@@ -1,5 +1,5 @@
 -- A board is next due at one wait at most.
-use Rattle.dev_due.proofs.Facade.{◌≡◌, ℕ, ◌<◌, ◌≤◌, Bool, true, false, Some, None, refl, sym, ap, ◌∙◌, arith, ⊎_elim, cases_lt, Answer, Event, OneIsDue, shows}
+use Rattle.dev_due.proofs.Facade.{◌≡◌, ℕ, ◌<◌, ◌≤◌, Bool, true, false, Some, None, refl, ap, arith, ⊎_elim, cases_lt, Answer, Event, OneIsDue, shows}
 
 never-both : {A : Type 0} (b : Bool) → b ≡ true → b ≡ false → A
 never-both b h l = let bad : true ≡ false = cc in absurd (cc)
