@@ -33,10 +33,10 @@ has-but_not a b i h l = cc (has-and a (255 - b) i, not_bit b i h l, not_test (bi
 
 -- A set of one input.
 pub has-one : (i : ℕ) → has (2 ^ i) i ≡ true
-has-one i = ap (λ n. n == 1) (bit_at-pow_same i)
+has-one i = rw (bit_at-pow_same i)
 
 pub has-one_other : (i other : ℕ) → other ≢ i → has (2 ^ i) other ≡ false
-has-one_other i other h = ap (λ n. n == 1) (bit_at-pow_other i other h)
+has-one_other i other h = rw (bit_at-pow_other i other h)
 
 pub and_not_true : (b : Bool) → (b && not true) ≡ false
 and_not_true true = refl

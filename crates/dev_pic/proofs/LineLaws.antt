@@ -118,17 +118,17 @@ answered-lines (Some w) chip = taken-lines w chip
 
 cascaded-lines : (chip : Chip) → (cascaded chip).lines ≡ without_input chip.lines 2
 unfolding cascaded
-cascaded-lines chip = ap (λ n. without_input n 2) (taken-lines 2 chip)
+cascaded-lines chip = rw (taken-lines 2 chip)
 
 -- The lines of a pair whose master or slave changes.
 module _ (pair : PicPair) where
   with-master : (chip : Chip) → Same pair.master chip → lines_of (record pair { master = chip }) ≡ lines_of pair
   unfolding lines_of
-  with-master chip e = ap (λ n. pair.slave.lines * 256 + n) e
+  with-master chip e = rw e
 
   with-slave : (chip : Chip) → Same pair.slave chip → lines_of (record pair { slave = chip }) ≡ lines_of pair
   unfolding lines_of
-  with-slave chip e = ap (λ n. n * 256 + pair.master.lines) e
+  with-slave chip e = rw e
 
 -- An answer after which a pair has these lines.
 record Kept (lines : ℕ) (answer : ℕ × PicPair) : Type 0 where
@@ -168,9 +168,7 @@ acked_for-kept (Some w) pair n =
 -- The lines after the slave's output is acknowledged.
 acked-slave : (pair : PicPair) → winner_at Master pair.master ≡ Some 2 → lines_of (acked pair).1 ≡ pair.slave.lines * 256 + without_input pair.master.lines 2
 unfolding acked_for lines_of
-acked-slave pair e =
-    rw e (ap (λ n. n * 256 + (cascaded pair.master).lines) (answered-lines (winner_at Slave pair.slave) pair.slave) ∙ ap (λ n. pair.slave.lines * 256 + n)
-    (cascaded-lines pair.master))
+acked-slave pair e = rw e (rw (answered-lines (winner_at Slave pair.slave) pair.slave, cascaded-lines pair.master))
 
 without-bit : (lines i : ℕ) → i < 8 → has (without_input lines 2) i ≡ (has lines i && not (i == 2))
 without-bit lines i h = by_value (i == 2) refl where
@@ -178,7 +176,7 @@ without-bit lines i h = by_value (i == 2) refl where
   by_value true e =
       let same : i ≡ 2 = grind (arith, nat_tests) in
       ap (has (without_input lines 2)) same ∙ has-without_same lines 2 (omega arith) ∙ sym (and-false (has lines i))
-  by_value false e = has-without_other lines 2 i (omega arith) h (grind (arith, nat_tests)) ∙ sym (and-true (has lines i))
+  by_value false e = cc (has-without_other lines 2 i (omega arith) h (grind (arith, nat_tests)), and-true (has lines i))
 
 low-acked : (slave master i : ℕ) → master < 256 → i < 8 → has (slave * 256 + without_input master 2) i ≡ (has (slave * 256 + master) i && not (i == 2))
 low-acked slave master i bound l =
@@ -209,5 +207,5 @@ lines_are_kept = record {
   read = λ port pair. (read-kept port pair).kept;
   write = written-kept;
   ack = λ pair n. (acked_for-kept (winner_at Master pair.master) pair n).kept;
-  of_slave = λ input pair h e l. ap (λ n. has n input) (acked-slave pair e) ∙ acked-bit pair h input l;
+  of_slave = λ input pair h e l. rw (acked-slave pair e) (acked-bit pair h input l);
 }

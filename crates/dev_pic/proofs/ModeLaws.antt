@@ -12,8 +12,7 @@ use Rattle.dev_pic.proofs.WinnerLaws.{winner_of-means, highest_at, highest_none}
 -- The winner of a chip meets the relation.
 won : (role : Role) (chip : Chip) (input : ℕ) → winner_at role chip ≡ Some input → IsWinner chip.lowest (requests_of chip) (served_of role chip) input
 unfolding winner_at
-won role chip input e =
-    subst (MeansWinner chip.lowest (requests_of chip) (served_of role chip)) e (winner_of-means chip.lowest (requests_of chip) (served_of role chip))
+won role chip input e = rw e at (winner_of-means chip.lowest (requests_of chip) (served_of role chip))
 
 pub masked_never_wins : MaskedNeverWins
 masked_never_wins role chip input bound within masked e =
@@ -54,8 +53,7 @@ ends_lowest chip input within = ends_with chip input input within
 found : (chip : Chip) (input : ℕ) → IsHighestServed chip input → highest_served chip ≡ Some input
 found chip input h =
     let e = h.in_order.1 in
-    highest_at chip.lowest (in_service_of chip) h.place h.in_order.0 (subst (λ (i : ℕ). has (in_service_of chip) i ≡ true) e h.served) h.highest
-    ∙ ap Some (sym e)
+    highest_at chip.lowest (in_service_of chip) h.place h.in_order.0 (rw e at h.served) h.highest ∙ ap Some (sym e)
 
 is_input : (chip : Chip) (input : ℕ) → IsHighestServed chip input → input < 8
 is_input chip input h = omega arith
@@ -63,23 +61,19 @@ is_input chip input h = omega arith
 ends_highest : (chip : Chip) (input : ℕ) → chip.isr < 256 → IsHighestServed chip input
     → EndsService input chip (commanded NonSpecificEoi chip) × ((commanded NonSpecificEoi chip).lowest ≡ chip.lowest)
 unfolding commanded ended
-ends_highest chip input bound h =
-    subst (λ (o : Option ℕ). EndsService input chip (ended o chip) × ((ended o chip).lowest ≡ chip.lowest)) (sym (found chip input h))
-    (ends chip input (is_input chip input h), refl)
+ends_highest chip input bound h = rw (found chip input h) (ends chip input (is_input chip input h), refl)
 
 rotates_highest : (chip : Chip) (input : ℕ) → chip.isr < 256 → IsHighestServed chip input
     → EndsService input chip (commanded RotateOnNonSpecificEoi chip) × ((commanded RotateOnNonSpecificEoi chip).lowest ≡ input)
 unfolding commanded ended_lowest
-rotates_highest chip input bound h =
-    subst (λ (o : Option ℕ). EndsService input chip (ended_lowest o chip) × ((ended_lowest o chip).lowest ≡ input)) (sym (found chip input h))
-    (ends_lowest chip input (is_input chip input h), refl)
+rotates_highest chip input bound h = rw (found chip input h) (ends_lowest chip input (is_input chip input h), refl)
 
 ends_nothing : (chip : Chip) → ((input : ℕ) → input < 8 → has (in_service_of chip) input ≡ false)
     → (commanded NonSpecificEoi chip ≡ chip) × (commanded RotateOnNonSpecificEoi chip ≡ chip)
 unfolding commanded ended ended_lowest
 ends_nothing chip none =
     let e = highest_none chip.lowest (in_service_of chip) none in
-    (ap (λ o. ended o chip) e, ap (λ o. ended_lowest o chip) e)
+    (rw e, rw e)
 
 eoi_words : (level : ℕ) (chip : Chip)
     → (written_even level 0x20 chip ≡ commanded NonSpecificEoi chip) × (written_even level 0xa0 chip ≡ commanded RotateOnNonSpecificEoi chip)
@@ -95,8 +89,7 @@ plain_vector level role chip input within h = omega arith
 
 master_unasked : (pair : PicPair) → PairHasRegisters pair → winner_at Master pair.master ≡ None → acked pair ≡ (pair.master.base + 7, pair)
 unfolding acked_for answered
-master_unasked pair h none =
-    rw none (ap (λ n. (n, pair)) (plain_vector pair.level Master pair.master 7 (omega arith) h.master))
+master_unasked pair h none = rw none (rw (plain_vector pair.level Master pair.master 7 (omega arith) h.master))
 
 slave_unasked : (pair : PicPair) → PairHasRegisters pair → winner_at Master pair.master ≡ Some cascade_input → winner_at Slave pair.slave ≡ None
     → ((acked pair).0 ≡ pair.slave.base + 7) × ((acked pair).1.slave ≡ pair.slave)
@@ -132,9 +125,9 @@ served_isr chip winner e = isr_by chip winner chip.auto_eoi (has (level_inputs_o
 
 pub takes_winner : TakesWinner
 takes_winner = record {
-  edge = λ chip winner bound within e. ap (λ r. has r winner) (edge_irr chip winner e) ∙ has-without_same chip.irr winner within;
+  edge = λ chip winner bound within e. rw (edge_irr chip winner e) (has-without_same chip.irr winner within);
   level = level_irr;
-  served = λ chip winner bound within e. ap (λ r. has r winner) (served_isr chip winner e) ∙ has-with_same chip.isr winner;
+  served = λ chip winner bound within e. rw (served_isr chip winner e) (has-with_same chip.isr winner);
 }
 
 -- A level input by its line, another by its request.

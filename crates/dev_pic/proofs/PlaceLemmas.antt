@@ -8,7 +8,7 @@ use Rattle.std.proofs.Common.{w8}
 down : (n s k : ℕ) → bit_at (n / 2 ^ s) k ≡ bit_at n (s + k)
 down n s k =
     ap (bit_at (n / 2 ^ s)) (sym (omega arith)) ∙ sym (bit_at_cat_high (n / 2 ^ s) s (n % 2 ^ s) (s + k) (mod-lt n (pow_pos s)) (omega arith))
-    ∙ ap (λ (m : ℕ). bit_at m (s + k)) (div-add-mod' n (2 ^ s))
+    ∙ ap (λ m. bit_at m (s + k)) (div-add-mod' n (2 ^ s))
 
 cut : (n k : ℕ) → k < 8 → bit_at (n % 2 ^ 8) k ≡ bit_at n k
 cut n k within = cc (bit_at_cat_low (n / 2 ^ 8) 8 (n % 2 ^ 8) k within, div-add-mod' n (2 ^ 8))
@@ -55,7 +55,7 @@ turned n s = bit_or (n / 2 ^ s) (n * 2 ^ ((8 - s) % 8) % 2 ^ 8)
 turned_by : (n s k : ℕ) → n < 256 → s < 8 → k < 8 → bit_at (turned n s) k ≡ bit_at n ((s + k) % 8)
 turned_by n zero k small turns within = bit_unturned n k small within ∙ ap (bit_at n) (omega arith)
 turned_by n (suc s) k small turns within =
-    ap (λ (j : ℕ). bit_at (bit_or (n / 2 ^ suc s) (n * 2 ^ j % 2 ^ 8)) k) (omega arith) ∙ bit_turned n (suc s) (8 - suc s) k small (omega arith) within
+    ap (λ j. bit_at (bit_or (n / 2 ^ suc s) (n * 2 ^ j % 2 ^ 8)) k) (omega arith) ∙ bit_turned n (suc s) (8 - suc s) k small (omega arith) within
 
 -- The bit at a place is that of the input there.
 bit_at_place : (lowest inputs place : ℕ) → inputs < 256 → place < 8 → bit_at (rotate_right w8 inputs (lowest + 1)) place ≡ bit_at inputs (input_at lowest place)
@@ -63,14 +63,13 @@ bit_at_place lowest inputs place small within = turned_by inputs ((lowest + 1) %
 
 by_bit : (lowest inputs place bit : ℕ) → inputs < 256 → place < 8 → bit_at (rotate_right w8 inputs (lowest + 1)) place ≡ bit
     → has inputs (input_at lowest place) ≡ (bit == 1)
-by_bit lowest inputs place bit small within e =
-    ap (λ (b : ℕ). b == 1) (sym (bit_at_place lowest inputs place small within) ∙ e)
+by_bit lowest inputs place bit small within e = rw (sym (bit_at_place lowest inputs place small within) ∙ e)
 
 none : (lowest inputs : ℕ) → inputs < 256 → rotate_right w8 inputs (lowest + 1) ≡ 0 → IsFirstPlace lowest inputs (trailing_zeros w8 0)
 none lowest inputs small zeros =
-    subst (IsFirstPlace lowest inputs) (sym (trailing_of_zero 8)) (record {
+    rw (trailing_of_zero 8) (record {
       most = omega arith;
-      before = λ other h. by_bit lowest inputs other 0 small h (ap (λ (r : ℕ). bit_at r other) zeros ∙ bit_at-zero other);
+      before = λ other h. by_bit lowest inputs other 0 small h (rw zeros (bit_at-zero other));
       there = λ h. absurd (omega arith);
     })
 
@@ -93,4 +92,4 @@ is_first lowest inputs small fits = ⊎_elim zero_of (λ h. some lowest inputs s
   cases_le (suc n) = inr (omega arith)
 
   zero_of : rotate_right w8 inputs (lowest + 1) ≡ 0 → IsFirstPlace lowest inputs (trailing_zeros w8 (rotate_right w8 inputs (lowest + 1)))
-  zero_of e = subst (λ (r : ℕ). IsFirstPlace lowest inputs (trailing_zeros w8 r)) (sym e) (none lowest inputs small e)
+  zero_of e = rw e (none lowest inputs small e)

@@ -12,7 +12,7 @@ poll_asked level value chip fourth third second = rw (fourth, third, second) ref
 
 polled : (role : Role) (is_odd : Bool) (chip : Chip) → chip.poll ≡ true → read_of role is_odd chip ≡ polled_by (winner_at role chip) chip
 unfolding read_of
-polled role is_odd chip poll = ap (λ (b : Bool). if b then polled_by (winner_at role chip) chip else (shown is_odd chip, chip)) poll
+polled role is_odd chip poll = rw poll
 
 poll_winner : (role : Role) (is_odd : Bool) (chip : Chip) (input : ℕ) → chip.poll ≡ true → winner_at role chip ≡ Some input
     → read_of role is_odd chip ≡ (0x80 + input, taken input (record chip { poll = false }))
@@ -49,14 +49,14 @@ polls_once = record {
   asked = poll_asked;
   winner = poll_winner;
   none = poll_none;
-  once = λ role is_odd chip poll. ap (λ (a : ℕ × Chip). a.1.poll) (polled role is_odd chip poll) ∙ by_winner (winner_at role chip) chip;
+  once = λ role is_odd chip poll. rw (polled role is_odd chip poll) (by_winner (winner_at role chip) chip);
 }
 
 -- ---- special fully nested mode
 
 nested_served : (chip : Chip) → chip.nested ≡ true → served_of Master chip ≡ without_input (in_service_of chip) cascade_input
 unfolding served_of
-nested_served chip nested = ap (λ (b : Bool). if b then without_input (in_service_of chip) cascade_input else in_service_of chip) nested
+nested_served chip nested = rw nested
 
 plain_slave : (chip : Chip) → served_of Slave chip ≡ in_service_of chip
 unfolding served_of
@@ -64,9 +64,8 @@ plain_slave chip = refl
 
 pub nests_specially : NestsSpecially
 nests_specially = record {
-  cascade = λ chip nested. ap (λ (r : ℕ). has r cascade_input) (nested_served chip nested) ∙ has-without_same (in_service_of chip) cascade_input (omega arith);
-  others = λ chip input nested within ne. ap (λ (r : ℕ). has r input) (nested_served chip nested)
-      ∙ has-without_other (in_service_of chip) cascade_input input (omega arith) within ne;
+  cascade = λ chip nested. rw (nested_served chip nested) (has-without_same (in_service_of chip) cascade_input (omega arith));
+  others = λ chip input nested within ne. rw (nested_served chip nested) (has-without_other (in_service_of chip) cascade_input input (omega arith) within ne);
   slave = plain_slave;
 }
 
@@ -105,12 +104,11 @@ pub rotates_at_once : RotatesAtOnce
 rotates_at_once = record {
   words = rotate_words;
   ended = λ chip winner auto. let level = has (level_inputs_of chip) winner in
-      ap (λ (c : Chip). c.isr) (taken_is winner chip) ∙ ap (λ (b : Bool). (taken_in b chip.rotate level winner chip).isr) auto
-      ∙ ended_at_once chip.rotate level winner chip;
+      ap (λ c. c.isr) (taken_is winner chip) ∙ ap (λ b. (taken_in b chip.rotate level winner chip).isr) auto ∙ ended_at_once chip.rotate level winner chip;
   rotated = λ chip winner auto rotate. let level = has (level_inputs_of chip) winner in
-      ap (λ (c : Chip). c.lowest) (taken_is winner chip) ∙ ap (λ (b : Bool). (taken_in b chip.rotate level winner chip).lowest) auto
-      ∙ ap (λ (b : Bool). (taken_in true b level winner chip).lowest) rotate ∙ rotated_to level winner chip;
+      ap (λ c. c.lowest) (taken_is winner chip) ∙ ap (λ b. (taken_in b chip.rotate level winner chip).lowest) auto
+      ∙ ap (λ b. (taken_in true b level winner chip).lowest) rotate ∙ rotated_to level winner chip;
   kept = λ chip winner auto rotate. let level = has (level_inputs_of chip) winner in
-      ap (λ (c : Chip). c.lowest) (taken_is winner chip) ∙ ap (λ (b : Bool). (taken_in b chip.rotate level winner chip).lowest) auto
-      ∙ ap (λ (b : Bool). (taken_in true b level winner chip).lowest) rotate ∙ kept_at level winner chip;
+      ap (λ c. c.lowest) (taken_is winner chip) ∙ ap (λ b. (taken_in b chip.rotate level winner chip).lowest) auto
+      ∙ ap (λ b. (taken_in true b level winner chip).lowest) rotate ∙ kept_at level winner chip;
 }

@@ -35,7 +35,7 @@ restored-sound : (level : ℕ) (role : Role) (cells : List ℤ) (chip : Chip) �
     → IsSoundChip level role chip
 restored-sound level role cells chip is e =
     let ok = judged-ok (rules level role cells) (chip_of cells) chip e in
-    subst (IsSoundChip level role) ok.1 (sound level role cells is ok.0)
+    rw ok.1 at (sound level role cells is ok.0)
 
 -- A pair is made of two chips that were restored.
 pub record IsMadeOf (level : ℕ) (master slave : Result Chip ℕ) (pair : PicPair) : Type 0 where
@@ -58,7 +58,7 @@ pub pair-sound : (level : ℕ) (master slave : List ℤ) (pair : PicPair) → Is
 pair-sound level master slave pair l m s e =
     let made = made_of level (restored level Master master) (restored level Slave slave) pair e in
     let same = made.same_level in
-    let at_level : (n : ℕ) → n ≡ level → IsLevel n × IsSoundChip n Master pair.master × IsSoundChip n Slave pair.slave = λ n is. subst (λ (k : ℕ). IsLevel k × IsSoundChip k Master pair.master × IsSoundChip k Slave pair.slave) (sym is) (l, restored-sound level Master master pair.master m made.of_master, restored-sound level Slave slave pair.slave s made.of_slave) in
+    let at_level : (n : ℕ) → n ≡ level → IsLevel n × IsSoundChip n Master pair.master × IsSoundChip n Slave pair.slave = λ n is. rw is (l, restored-sound level Master master pair.master m made.of_master, restored-sound level Slave slave pair.slave s made.of_slave) in
     let parts = at_level pair.level same in
     (record { level = parts.0; master = parts.1; slave = parts.2 }, same)
 

@@ -96,8 +96,7 @@ meets level role chip s =
 
 is_sound : (level : ℕ) (role : Role) (chip : Chip) → IsChipCells (saved_cells NEWEST chip) × MeetsRules level role chip → IsSoundChip level role chip
 is_sound level role chip h =
-    subst (IsSoundChip level role) (chip_of-saved chip)
-    (sound level role (saved_cells NEWEST chip) h.0 (all_true (rules level role (saved_cells NEWEST chip)) h.1))
+    rw (chip_of-saved chip) at (sound level role (saved_cells NEWEST chip) h.0 (all_true (rules level role (saved_cells NEWEST chip)) h.1))
 
 pub sound_meets_rules : SoundMeetsRules
 sound_meets_rules = record { chip = λ level role chip. (meets level role chip, is_sound level role chip) }
@@ -127,7 +126,7 @@ carried-saved level set role chip le s =
     λ e. let l : level < LTIM_SINCE = grind (arith, nat_tests) in no-mode level chip.ltim l s.registers.mode in
     carried_rows (named chip) set i8259_rows (holds level role chip s.registers)
     (none_lacks (named chip) set (take 15 i8259_rows) (drop 15 i8259_rows) refl
-    (λ e. ap (λ (n : ℕ). pos n ∷ []) (elcr e), (λ e. ap (λ (b : Bool). pos (flag_number b) ∷ []) (ltim e), tt)))
+    (λ e. rw (elcr e), (λ e. rw (ltim e), tt)))
     [] 0 refl
 
 -- The level mode's cell if the subsection isn't needed.
@@ -167,7 +166,7 @@ told zero rule c l h = let e : nat_le rule 10 ≡ true = grind (arith, nat_tests
 told (suc zero) rule c l h =
     let e : nat_le (10 + rule) 10 ≡ false = grind (arith, nat_tests) in
     let back : 10 + rule - 10 ≡ rule = omega arith in
-    rw e (ap (λ (n : ℕ). record { chip = 1; rule = n }) back)
+    rw e (ap (λ n. record { chip = 1; rule = n }) back)
 told (suc (suc chip)) rule c l h = absurd (omega arith)
 
 pub faults_are_told : FaultsAreTold
@@ -200,10 +199,9 @@ newest-restored numbers pair same s =
 
 restored-back : (numbers back : Numbers) (pair : PicPair) → CanSave numbers pair → IsSoundPair pair → MayRestore back → back.level ≡ pair.level → CanRestore back (pair_carried numbers.set (pair_cells numbers.set pair)) × (hook_restored back (pair_carried numbers.set (pair_cells numbers.set pair)) ≡ Ok pair)
 restored-back numbers back pair can s may same =
-    let le : pair.level ≤ numbers.set = let l = can.level_le_set in omega arith in
-    let e = sym (pair-carried numbers.set pair s le) in (
-      subst (CanRestore back) e (newest-can back pair may s),
-      subst (λ (cells : List ℤ). hook_restored back cells ≡ Ok pair) e (newest-restored back pair same s),
+    let e = sym (pair-carried numbers.set pair s (omega arith)) in (
+      rw e at (newest-can back pair may s),
+      rw e at (newest-restored back pair same s),
     )
 
 pub saved_is_restored : SavedIsRestored
@@ -226,8 +224,7 @@ failing (Some found) chip rule e = cc
 
 chip-rule : (level : ℕ) (role : Role) (cells : List ℤ) (rule : ℕ) → restored level role cells ≡ Err rule → IsRule rule
 chip-rule level role cells rule e =
-    let some = failing (first_failing (rules level role cells)) (chip_of cells) rule e in
-    (subst (MeansFailing (rules level role cells)) some (first_failing_is_first (rules level role cells))).within
+    (rw (failing (first_failing (rules level role cells)) (chip_of cells) rule e) at (first_failing_is_first (rules level role cells))).within
 
 made-fault : (level : ℕ) (master slave : Result Chip ℕ) (fault : ChipFault) → ((rule : ℕ) → master ≡ Err rule → IsRule rule)
     → ((rule : ℕ) → slave ≡ Err rule → IsRule rule) → pair_of level master slave ≡ Err fault → IsFault fault
@@ -250,7 +247,7 @@ unfolding hook_result by_number
 hook-err (Ok pair) fault within e = cc
 hook-err (Err found) fault within e =
     let is = within found refl in
-    let rule : hook_rule found ≡ fault.rule = ap (λ (f : HookFault). f.rule) (let same : record { rule = hook_rule found } ≡ fault = cc in same) in
+    let rule : hook_rule found ≡ fault.rule = ap (λ f. f.rule) (let same : record { rule = hook_rule found } ≡ fault = cc in same) in
     ap Err (sym (faults_are_told.fault found is.chip is.rule.0 (omega arith)) ∙ ap fault_of rule)
 
 -- Two chips' cells, one after the other.
@@ -263,9 +260,7 @@ module _ (numbers : Numbers) (master slave : List ℤ) (m : IsChipCells master) 
 
   pub fault-told : (fault : HookFault) → hook_restored numbers (master ++ slave) ≡ Err fault
       → restored_pair numbers.level master slave ≡ Err (fault_of fault.rule)
-  fault-told fault e =
-      hook-err (restored_pair numbers.level master slave) fault (pair-fault numbers.level master slave)
-      (ap (λ (outcome : Result PicPair ChipFault). hook_result (by_number outcome)) (sym parts) ∙ e)
+  fault-told fault e = hook-err (restored_pair numbers.level master slave) fault (pair-fault numbers.level master slave) (rw (sym parts) (e))
 
 -- The pair restored from what the newest set saves of a pair, which may break rules, is sound and
 -- the same.
@@ -278,6 +273,4 @@ pub pair-same : (level : ℕ) (pair back : PicPair) → pair.level ≡ level
 pair-same level pair back same e =
     let made = made_of level (restored level Master (saved_cells NEWEST pair.master)) (restored level Slave (saved_cells NEWEST pair.slave)) back e in
     let make : ℕ → Chip → Chip → PicPair = (λ n master slave. record { level = n; master = master; slave = slave }) in
-    ap (λ (n : ℕ). make n back.master back.slave) (made.same_level ∙ sym same)
-    ∙ ap (λ (chip : Chip). make pair.level chip back.slave) (chip-same level Master pair.master back.master made.of_master)
-    ∙ ap (λ (chip : Chip). make pair.level pair.master chip) (chip-same level Slave pair.slave back.slave made.of_slave)
+    rw (made.same_level ∙ sym same, chip-same level Master pair.master back.master made.of_master, chip-same level Slave pair.slave back.slave made.of_slave)

@@ -49,7 +49,7 @@ module _ (p q : ℕ → Bool) (x : ℕ) (xs : List ℕ) where
     there = refl;
     passes = holds;
     least = λ k h. absurd (omega arith);
-    clear = λ k h. let z : 0 ≡ k = omega arith in subst (λ (n : ℕ). p (get_or (x ∷ xs) n 0) ≡ false) z np;
+    clear = λ k h. let z : 0 ≡ k = omega arith in subst (λ n. p (get_or (x ∷ xs) n 0) ≡ false) z np;
   }
 
   means-more : Means p q xs (find q (before p xs)) → Means p q (x ∷ xs) (find q (before p (x ∷ xs)))
@@ -71,7 +71,7 @@ at lowest place h = get_or-map-range_with_len (input_at lowest) 0 8 place place 
 
 turned : (lowest requests served : ℕ) (o : Option ℕ) → Means (has served) (has requests) (order lowest) o → MeansWinner lowest requests served o
 turned lowest requests served None m = λ k h e.
-    let r = m k h (subst (λ (i : ℕ). has requests i ≡ true) (sym (at lowest k h)) e) in
+    let r = m k h (rw (at lowest k h) e) in
     (r.0, r.1, subst (λ (i : ℕ). has served i ≡ true) (at lowest r.0 (omega arith)) r.2)
 turned lowest requests served (Some w) m = record {
   place = m.place;
@@ -89,11 +89,11 @@ winner_of-means lowest requests served =
 -- No two inputs meet the relation, and none does if there is no winner.
 only_for : (lowest requests served winner : ℕ) (o : Option ℕ) → MeansWinner lowest requests served o → IsWinner lowest requests served winner → o ≡ Some winner
 only_for lowest requests served winner None none w =
-    let blocked = none w.place w.in_order.0 (subst (λ (i : ℕ). has requests i ≡ true) w.in_order.1 w.requested) in
+    let blocked = none w.place w.in_order.0 (rw w.in_order.1 at w.requested) in
     absurd (false≢true (sym (w.before_served blocked.0 blocked.1) ∙ blocked.2))
 only_for lowest requests served winner (Some found) f w =
-    ⊎_elim (λ less. absurd (false≢true (sym (w.least f.place less) ∙ (subst (λ (i : ℕ). has requests i ≡ true) f.in_order.1 f.requested))))
-    (λ le. ⊎_elim (λ more. absurd (false≢true (sym (f.least w.place more) ∙ (subst (λ (i : ℕ). has requests i ≡ true) w.in_order.1 w.requested))))
+    ⊎_elim (λ less. absurd (false≢true (sym (w.least f.place less) ∙ (rw f.in_order.1 at f.requested))))
+    (λ le. ⊎_elim (λ more. absurd (false≢true (sym (f.least w.place more) ∙ (rw w.in_order.1 at w.requested))))
     (λ ge. let same : f.place ≡ w.place = omega arith in
     ap Some (f.in_order.1 ∙ ap (input_at lowest) same ∙ sym w.in_order.1)) (cases_lt w.place f.place))
     (cases_lt f.place w.place)
@@ -121,9 +121,8 @@ pub highest_at : (lowest inputs place : ℕ) → place < 8 → has inputs (input
     → ((other : ℕ) → other < place → has inputs (input_at lowest other) ≡ false) → highest_of lowest inputs ≡ Some (input_at lowest place)
 unfolding highest_of
 highest_at lowest inputs place h passes others =
-    cc (find_at (has inputs) (order lowest) place h (subst (λ (i : ℕ). has inputs i ≡ true) (sym (at lowest place h)) passes) (λ j l. subst (λ (i : ℕ). has inputs i ≡ false) (sym (at lowest j (omega arith))) (others j l)), at lowest place h)
+    cc (find_at (has inputs) (order lowest) place h (rw (at lowest place h) passes) (λ j l. subst (λ (i : ℕ). has inputs i ≡ false) (sym (at lowest j (omega arith))) (others j l)), at lowest place h)
 
 pub highest_none : (lowest inputs : ℕ) → ((input : ℕ) → input < 8 → has inputs input ≡ false) → highest_of lowest inputs ≡ None
 unfolding highest_of
-highest_none lowest inputs others =
-    find_none (has inputs) (order lowest) (λ j l. subst (λ (i : ℕ). has inputs i ≡ false) (sym (at lowest j l)) (others (input_at lowest j) (omega arith)))
+highest_none lowest inputs others = find_none (has inputs) (order lowest) (λ j l. rw (at lowest j l) (others (input_at lowest j) (omega arith)))

@@ -65,13 +65,12 @@ module _ (lowest requests served : ℕ) where
 -- Nothing is found in the empty set.
 find-nothing : (inputs : List ℕ) → find (has 0) inputs ≡ None
 find-nothing [] = refl
-find-nothing (input ∷ inputs) = rw (ap (λ (b : ℕ). b == 1) (bit_at-zero input)) (find-nothing inputs)
+find-nothing (input ∷ inputs) = rw (ap (λ b. b == 1) (bit_at-zero input)) (find-nothing inputs)
 
 -- If nothing is requested, nothing wins.
 pub nothing_wins : (lowest requests served : ℕ) → requests ≡ 0 → None ≡ winner_of lowest requests served
 unfolding winner_of ready_among
-nothing_wins lowest requests served none =
-    sym (ap (λ (asked : ℕ). find (has asked) (before (has served) (order lowest))) none ∙ find-nothing (before (has served) (order lowest)))
+nothing_wins lowest requests served none = sym (rw none (find-nothing (before (has served) (order lowest))))
 
 module _ (lowest inputs : ℕ) where
   find_below : (place : ℕ) → place ≤ 8 → ((other : ℕ) → other < place → has inputs (input_at lowest other) ≡ false)

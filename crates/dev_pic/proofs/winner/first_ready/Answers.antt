@@ -6,8 +6,7 @@ pub returns-then-requested-first_place-clause-winner :
     goal.returns-then-requested-first_place-clause-winner
 returns-then-requested-first_place-clause-winner c =
     let a = c.args in
-    ap (λ input. Some input) c.input_at.ensures
-    ∙ wins a.lowest a.requests a.served _ _ c.first_place-requested.ensures c.first_place.ensures c.if-requested-first_place.true
+    rw (c.input_at.ensures) (wins a.lowest a.requests a.served _ _ c.first_place-requested.ensures c.first_place.ensures c.if-requested-first_place.true)
 
 pub returns-else-requested-first_place-clause-winner :
     goal.returns-else-requested-first_place-clause-winner
