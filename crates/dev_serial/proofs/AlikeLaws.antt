@@ -1,5 +1,5 @@
 -- Ports that are alike answer each call alike.
-use Rattle.dev_serial.proofs.Facade.{◌≡◌, ℕ, ℤ, Bool, true, false, not, ◌&&◌, cond, refl, pos, negsuc, ◌||◌, ◌==◌, Option, Some, None, sym, ap, ◌∙◌, int_eq}
+use Rattle.dev_serial.proofs.Facade.{arith, ◌≡◌, ℕ, ℤ, Bool, true, false, not, ◌&&◌, cond, refl, pos, negsuc, ◌||◌, ◌==◌, Option, Some, None, sym, ap, ◌∙◌, int_eq}
 use Rattle.dev_serial.proofs.Facade.{bit_and, bit_or, is_some, nat_le, is_empty, lsr_of, iir_of, read_of, id_read, thr_written, ier_written, switch_of}
 use Rattle.dev_serial.proofs.Facade.{fcr_cleared, fcr_written, receiver_cleared, transmitter_cleared, written, came_in, advanced, has, bits_where, ipending_of}
 use Rattle.dev_serial.proofs.Facade.{latch_of, saved, Port, id_number, is_thr_empty, interrupt, line_of, Interrupt, LineStatus, ReceivedData, CharacterTimeout}
@@ -20,22 +20,8 @@ pub record IsStatus (lsr : ℕ) (ready overrun empty idle : Bool) : Type 0 where
   pub mask : bit_and lsr 0x63 ≡ lsr
 
 pub status : (ready overrun empty idle : Bool) → IsStatus (status_of ready overrun empty idle) ready overrun empty idle
-status true true true true = search
-status true true true false = search
-status true true false true = search
-status true true false false = search
-status true false true true = search
-status true false true false = search
-status true false false true = search
-status true false false false = search
-status false true true true = search
-status false true true false = search
-status false true false true = search
-status false true false false = search
-status false false true true = search
-status false false true false = search
-status false false false true = search
-status false false false false = search
+status ready overrun empty idle =
+    record { ready_bit = grind arith; overrun_bit = grind arith; empty_bit = grind arith; idle_bit = grind arith; mask = grind arith }
 
 -- the line status of a port
 pub lsr-status : (port : Port) → IsStatus (lsr_of port) (not (is_empty port.receiver.held)) port.receiver.overrun (is_empty port.transmitter.waiting) (is_empty port.transmitter.waiting && not (is_some port.transmitter.shift))
@@ -62,22 +48,8 @@ pub record IsLatchBack (status ready timeout enabled latch : Bool) : Type 0 wher
   pub known : (int_eq (ipending_at status ready timeout enabled latch) (negsuc 0) || (int_eq (ipending_at status ready timeout enabled latch) (pos 0) || int_eq (ipending_at status ready timeout enabled latch) (pos 1))) ≡ true
 
 pub latch_comes_back : (status ready timeout enabled latch : Bool) → IsLatchBack status ready timeout enabled latch
-latch_comes_back true ready timeout true true = search
-latch_comes_back true ready timeout true false = search
-latch_comes_back true ready timeout false true = search
-latch_comes_back true ready timeout false false = search
-latch_comes_back false true timeout true true = search
-latch_comes_back false true timeout true false = search
-latch_comes_back false true timeout false true = search
-latch_comes_back false true timeout false false = search
-latch_comes_back false false true true true = search
-latch_comes_back false false true true false = search
-latch_comes_back false false true false true = search
-latch_comes_back false false true false false = search
-latch_comes_back false false false true true = search
-latch_comes_back false false false true false = search
-latch_comes_back false false false false true = search
-latch_comes_back false false false false false = search
+latch_comes_back status ready timeout enabled latch =
+    record { same_id = grind arith; while_enabled = grind arith; was_set = grind arith; known = grind arith }
 
 -- ---- calls
 

@@ -76,22 +76,7 @@ record HasBits (rts dtr out1 out2 : Bool) (msr : ℕ) : Type 0 where
   changes : msr % 16 ≡ 0
 
 looped_of : (rts dtr out1 out2 : Bool) → HasBits rts dtr out1 out2 (status_by rts dtr out1 out2)
-looped_of true true true true = search
-looped_of true true true false = search
-looped_of true true false true = search
-looped_of true true false false = search
-looped_of true false true true = search
-looped_of true false true false = search
-looped_of true false false true = search
-looped_of true false false false = search
-looped_of false true true true = search
-looped_of false true true false = search
-looped_of false true false true = search
-looped_of false true false false = search
-looped_of false false true true = search
-looped_of false false true false = search
-looped_of false false false true = search
-looped_of false false false false = search
+looped_of rts dtr out1 out2 = record { cts = grind arith; dsr = grind arith; ri = grind arith; dcd = grind arith; changes = grind arith }
 
 msr_looped : (mcr : ℕ) → has mcr 4 ≡ true → msr_of mcr ≡ status_by (has mcr 1) (has mcr 0) (has mcr 2) (has mcr 3)
 unfolding msr_of

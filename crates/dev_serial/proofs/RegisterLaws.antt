@@ -76,10 +76,7 @@ module _ (value : ℕ) (port : Port) where
 
   latch_of : (second empty : Bool)
       → cond second (cond empty port.thr_empty true) port.thr_empty ≡ cond (not empty && cond second true empty) true port.thr_empty
-  latch_of true true = refl
-  latch_of true false = refl
-  latch_of false true = refl
-  latch_of false false = refl
+  latch_of second empty = grind arith
 
   left : (second first : Bool) (fifos : Option Trigger) → fifos ≡ switch_of value
       → IsSwitched value port (record (transmitter_cleared second (receiver_cleared first port)) { fifos = fifos })
