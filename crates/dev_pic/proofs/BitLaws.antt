@@ -1,5 +1,5 @@
 -- Sets of inputs, input by input, and their bounds.
-use Rattle.dev_pic.proofs.Facade.{◌≡◌, ◌≢◌, ℕ, zero, suc, ◌-◌, ◌<◌, ◌^◌, ◌==◌, min, max, Bool, true, false, not, ◌&&◌, arith, bit_or, refl, ◌∙◌, ap, sym, ◌||◌}
+use Rattle.dev_pic.proofs.Facade.{◌≡◌, ◌≢◌, ℕ, zero, suc, ◌-◌, ◌<◌, ◌^◌, ◌==◌, min, max, Bool, true, false, not, ◌&&◌, arith, bit_or, refl, sym, ◌||◌}
 use Rattle.dev_pic.proofs.Facade.{bit_at, w8, and_le_l, and_le_r, or_of_8, pow_below, bit_at_and, bit_at_or, bit_at_not, same_from_bits_below, bit_at-lt}
 use Rattle.dev_pic.proofs.Facade.{bit_at-pow_same, bit_at-pow_other, same_from_bits, or-true, or-false, has, but_not, with_input, without_input, level_inputs}
 use Rattle.dev_pic.proofs.Facade.{LevelInputsAre}
@@ -80,8 +80,7 @@ level-lines x i e hx hi he =
 
 -- Masking twice is masking once.
 pub and-twice : (v m : ℕ) → bit_and (bit_and v m) m ≡ bit_and v m
-and-twice v m =
-    same_from_bits _ _ (λ k. simp bit_at_and (omega arith))
+and-twice v m = same_from_bits _ _ (λ k. simp bit_at_and (omega arith))
 
 -- What holds for each of eight inputs.
 pub each_input : (P : ℕ → Type 0) → P 0 → P 1 → P 2 → P 3 → P 4 → P 5 → P 6 → P 7 → (i : ℕ) → i < 8 → P i

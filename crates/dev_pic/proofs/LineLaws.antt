@@ -1,12 +1,11 @@
 -- The remembered lines.
-use Rattle.dev_pic.proofs.Facade.{◌≡◌, ◌≢◌, ℕ, ◌+◌, ◌-◌, ◌*◌, ◌/◌, ◌%◌, ◌<◌, ◌≤◌, ◌^◌, ◌==◌, Bool, true, false, not, ◌&&◌, cond, Option, Some, None, refl, ap}
-use Rattle.dev_pic.proofs.Facade.{sym, ◌∙◌, arith, ⊎_elim, ◌||◌, cases_lt, cond_both, nat_tests, and-true, and-false, or-false, has, without_input, winner_at}
-use Rattle.dev_pic.proofs.Facade.{taken, settled, started, selected, written_even, elcr_written, polled_by, read_of, answered, cascaded, LinesAreTaken}
-use Rattle.dev_pic.proofs.Facade.{LinesAreKept, command_of, slave_int_of, lines_of, acked, acked_for, with_cascade, settled_pair, read_pair, written_pair}
-use Rattle.dev_pic.proofs.Facade.{PairHasRegisters, Chip, Role, Master, Slave, PicPair, either}
+use Rattle.dev_pic.proofs.{PairLaws.cascade-lt, StepLaws.commanded-keeps, StepLaws.odd-keeps}
 use Rattle.dev_pic.proofs.BitLaws.{each_input, has-or, has-one_other, has-without_same, has-without_other, without_input-lt}
-use Rattle.dev_pic.proofs.PairLaws.{cascade-lt}
-use Rattle.dev_pic.proofs.StepLaws.{commanded-keeps, odd-keeps}
+use Rattle.dev_pic.proofs.Facade.{◌≡◌, ◌≢◌, ℕ, ◌+◌, ◌-◌, ◌*◌, ◌/◌, ◌%◌, ◌<◌, ◌≤◌, ◌^◌, ◌==◌, Bool, true, false, not, ◌&&◌, cond, Option, Some, None, refl, ap}
+use Rattle.dev_pic.proofs.Facade.{sym, ◌∙◌, arith, ⊎_elim, cases_lt, cond_both, nat_tests, and-true, and-false, or-false, has, without_input, winner_at, taken}
+use Rattle.dev_pic.proofs.Facade.{settled, started, selected, written_even, elcr_written, polled_by, read_of, answered, cascaded, LinesAreTaken, LinesAreKept}
+use Rattle.dev_pic.proofs.Facade.{command_of, slave_int_of, lines_of, acked, acked_for, with_cascade, settled_pair, read_pair, written_pair, PairHasRegisters}
+use Rattle.dev_pic.proofs.Facade.{Chip, Role, Master, Slave, PicPair, either}
 
 -- The bits of a number of two bytes.
 low-bit : (high low i : ℕ) → low < 256 → i < 8 → has (high * 256 + low) i ≡ has low i
@@ -25,12 +24,10 @@ bytes : (inputs : ℕ) → inputs ≡ inputs / 256 * 256 + inputs % 256
 bytes inputs = omega arith
 
 low-input : (inputs i : ℕ) → i < 8 → has (inputs % 256) i ≡ has inputs i
-low-input inputs i h =
-    sym (ap (λ n. has n i) (bytes inputs) ∙ low-bit (inputs / 256) (inputs % 256) i (omega arith) h)
+low-input inputs i h = sym (ap (λ n. has n i) (bytes inputs) ∙ low-bit (inputs / 256) (inputs % 256) i (omega arith) h)
 
 high-input : (inputs i : ℕ) → i < 8 → has (inputs / 256) i ≡ has inputs (8 + i)
-high-input inputs i h =
-    sym (ap (λ n. has n (8 + i)) (bytes inputs) ∙ high-bit (inputs / 256) (inputs % 256) i (omega arith) h)
+high-input inputs i h = sym (ap (λ n. has n (8 + i)) (bytes inputs) ∙ high-bit (inputs / 256) (inputs % 256) i (omega arith) h)
 
 -- The set of the cascade input only, or the empty set.
 cascade-same : (b : Bool) → has (cond b 4 0) 2 ≡ b
@@ -60,18 +57,15 @@ module _ (inputs edges : ℕ) (pair : PicPair) (bound : inputs < 2 ^ 16) where
 
   taken-master : (i : ℕ) → i < 8 → i ≢ 2 → has (lines_of (settled_pair inputs edges pair)) i ≡ has inputs i
   unfolding settled_pair lines_of settled
-  taken-master i h n =
-      low-bit (inputs / 256) (with_cascade output (inputs % 256)) i low-lt h ∙ with-other output (inputs % 256) i h n ∙ low-input inputs i h
+  taken-master i h n = low-bit (inputs / 256) (with_cascade output (inputs % 256)) i low-lt h ∙ with-other output (inputs % 256) i h n ∙ low-input inputs i h
 
   taken-cascade : has (lines_of (settled_pair inputs edges pair)) 2 ≡ slave_int_of (settled_pair inputs edges pair)
   unfolding settled_pair lines_of settled slave_int_of
-  taken-cascade =
-      low-bit (inputs / 256) (with_cascade output (inputs % 256)) 2 low-lt (omega arith) ∙ with-same output (inputs % 256)
+  taken-cascade = low-bit (inputs / 256) (with_cascade output (inputs % 256)) 2 low-lt (omega arith) ∙ with-same output (inputs % 256)
 
   taken-slave : (i : ℕ) → i < 8 → has (lines_of (settled_pair inputs edges pair)) (8 + i) ≡ has inputs (8 + i)
   unfolding settled_pair lines_of settled
-  taken-slave i h =
-      high-bit (inputs / 256) (with_cascade output (inputs % 256)) i low-lt h ∙ high-input inputs i h
+  taken-slave i h = high-bit (inputs / 256) (with_cascade output (inputs % 256)) i low-lt h ∙ high-input inputs i h
 
 pub lines_are_taken : LinesAreTaken
 lines_are_taken = record {
@@ -161,8 +155,7 @@ acked_for-kept : (o : Option ℕ) (pair : PicPair) → o ≢ Some 2 → Kept (li
 unfolding acked_for
 acked_for-kept None pair n = record { kept = with-master pair _ (answered-lines None pair.master) }
 acked_for-kept (Some w) pair n =
-    cond_both (w == 2) _ _ (Kept (lines_of pair))
-    (λ e. absurd (n (let same : w ≡ 2 = grind (arith, nat_tests) in ap Some same)))
+    cond_both (w == 2) _ _ (Kept (lines_of pair)) (λ e. absurd (n (let same : w ≡ 2 = grind (arith, nat_tests) in ap Some same)))
     (λ e. record { kept = with-master pair _ (answered-lines (Some w) pair.master) })
 
 -- The lines after the slave's output is acknowledged.
@@ -188,10 +181,8 @@ high-acked slave master i bound least l =
     let place : i ≡ 8 + (i - 8) = omega arith in
     let within : i - 8 < 8 = omega arith in
     let other : (i == 2) ≡ false = grind (arith, nat_tests) in
-    ap (λ n. has (slave * 256 + without_input master 2) n) place
-    ∙ high-bit slave (without_input master 2) (i - 8) (without_input-lt master 2 bound) within
-    ∙ sym (high-bit slave master (i - 8) bound within)
-    ∙ ap (λ n. has (slave * 256 + master) n) (sym place)
+    ap (λ n. has (slave * 256 + without_input master 2) n) place ∙ high-bit slave (without_input master 2) (i - 8) (without_input-lt master 2 bound) within
+    ∙ sym (high-bit slave master (i - 8) bound within) ∙ ap (λ n. has (slave * 256 + master) n) (sym place)
     ∙ sym (ap (λ t. has (slave * 256 + master) i && not t) other ∙ and-true (has (slave * 256 + master) i))
 
 acked-bit : (pair : PicPair) → PairHasRegisters pair → (i : ℕ) → i < 16
@@ -199,8 +190,7 @@ acked-bit : (pair : PicPair) → PairHasRegisters pair → (i : ℕ) → i < 16
 unfolding lines_of
 acked-bit pair h i l =
     ⊎_elim (λ low. low-acked pair.slave.lines pair.master.lines i h.master.lines low)
-    (λ high. high-acked pair.slave.lines pair.master.lines i h.master.lines high l)
-    (cases_lt i 8)
+    (λ high. high-acked pair.slave.lines pair.master.lines i h.master.lines high l) (cases_lt i 8)
 
 pub lines_are_kept : LinesAreKept
 lines_are_kept = record {

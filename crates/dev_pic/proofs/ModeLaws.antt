@@ -1,9 +1,9 @@
 -- Laws of the modes in the data sheet's terms.
-use Rattle.dev_pic.proofs.Facade.{◌≡◌, ℕ, ◌+◌, ◌<◌, Bool, true, false, not, cond, ◌&&◌, Option, Some, None, refl, arith, sym, ◌∙◌, ap, subst, ◌||◌, false≢true}
+use Rattle.dev_pic.proofs.Facade.{◌≡◌, ℕ, ◌+◌, ◌<◌, Bool, true, false, not, cond, ◌&&◌, Some, None, refl, arith, sym, ◌∙◌, ap, ◌||◌, false≢true}
 use Rattle.dev_pic.proofs.Facade.{bit_and, has, but_not, with_input, without_input, cascade_input, level_inputs_of, requests_of, in_service_of, served_of}
 use Rattle.dev_pic.proofs.Facade.{winner_at, taken, rising, settled, ended, ended_lowest, highest_served, commanded, written_even, vector_of, answered}
 use Rattle.dev_pic.proofs.Facade.{MaskedNeverWins, ServedBlocksLower, IsHighestServed, EndsService, EoiEndsHighest, AckWithoutWinner, TakesWinner}
-use Rattle.dev_pic.proofs.Facade.{TakesLinesOver, acked, acked_for, HasRegisters, PairHasRegisters, input_at, MeansWinner, IsWinner, Chip, Role, Master, Slave}
+use Rattle.dev_pic.proofs.Facade.{TakesLinesOver, acked, acked_for, HasRegisters, PairHasRegisters, input_at, IsWinner, Chip, Role, Master, Slave}
 use Rattle.dev_pic.proofs.Facade.{NonSpecificEoi, RotateOnNonSpecificEoi, PicPair}
 use Rattle.std.specs.Prelude.{bit_or}
 use Rattle.dev_pic.proofs.BitLaws.{level_inputs-lt, has-and, has-or, has-but_not, has-without_same, has-without_other, has-with_same, and_not_true}
@@ -94,8 +94,7 @@ master_unasked pair h none = rw none (rw (plain_vector pair.level Master pair.ma
 slave_unasked : (pair : PicPair) → PairHasRegisters pair → winner_at Master pair.master ≡ Some cascade_input → winner_at Slave pair.slave ≡ None
     → ((acked pair).0 ≡ pair.slave.base + 7) × ((acked pair).1.slave ≡ pair.slave)
 unfolding acked_for answered
-slave_unasked pair h taken none =
-    rw (taken, none) (plain_vector pair.level Slave pair.slave 7 (omega arith) h.slave, refl)
+slave_unasked pair h taken none = rw (taken, none) (plain_vector pair.level Slave pair.slave 7 (omega arith) h.slave, refl)
 
 pub ack_without_winner : AckWithoutWinner
 ack_without_winner = record { master = master_unasked; slave = slave_unasked }
@@ -107,21 +106,11 @@ edge_irr chip winner e = rw e
 
 level_irr : (chip : Chip) (winner : ℕ) → has (level_inputs_of chip) winner ≡ true → (taken winner chip).irr ≡ chip.irr
 unfolding taken
-level_irr chip winner e = rw e (serving_irr chip.auto_eoi chip.rotate) where
-  serving_irr : (auto rotate : Bool)
-      → (cond auto (cond rotate (record chip { lowest = winner }) chip) (record chip { isr = with_input chip.isr winner })).irr ≡ chip.irr
-  serving_irr true true = refl
-  serving_irr true false = refl
-  serving_irr false rotate = refl
-
-isr_by : (chip : Chip) (winner : ℕ) (auto level : Bool) → auto ≡ false → (let after = cond auto (cond chip.rotate (record chip { lowest = winner }) chip) (record chip { isr = with_input chip.isr winner }) in (cond level after (record after { irr = without_input chip.irr winner })).isr) ≡ with_input chip.isr winner
-isr_by chip winner true level e = cc
-isr_by chip winner false true e = refl
-isr_by chip winner false false e = refl
+level_irr chip winner e = grind arith
 
 served_isr : (chip : Chip) (winner : ℕ) → chip.auto_eoi ≡ false → (taken winner chip).isr ≡ with_input chip.isr winner
 unfolding taken
-served_isr chip winner e = isr_by chip winner chip.auto_eoi (has (level_inputs_of chip) winner) e
+served_isr chip winner e = grind arith
 
 pub takes_winner : TakesWinner
 takes_winner = record {
@@ -132,14 +121,7 @@ takes_winner = record {
 
 -- A level input by its line, another by its request.
 by_mode : (requested line level : Bool) → ((requested && not level) || (line && level)) ≡ cond level line requested
-by_mode true true true = refl
-by_mode true true false = refl
-by_mode true false true = refl
-by_mode true false false = refl
-by_mode false true true = refl
-by_mode false true false = refl
-by_mode false false true = refl
-by_mode false false false = refl
+by_mode requested line level = grind arith
 
 pub takes_lines_over : TakesLinesOver
 unfolding settled

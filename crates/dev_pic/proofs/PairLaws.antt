@@ -64,8 +64,7 @@ elcr-written level role chip value l v h =
     let levels = levels_written level role value l in search
 
 pub cascade-lt : (is_high : Bool) (inputs : ℕ) → inputs < 256 → with_cascade is_high inputs < 256
-cascade-lt is_high inputs h =
-    or_of_8 _ _ (without_input-lt inputs cascade_input h) (either (λ (n : ℕ). n < 256) is_high 4 0 (omega arith) (omega arith))
+cascade-lt is_high inputs h = or_of_8 _ _ (without_input-lt inputs cascade_input h) (either (λ (n : ℕ). n < 256) is_high 4 0 (omega arith) (omega arith))
 
 module _ (pair : PicPair) (h : PairHasRegisters pair) where
   with-master : (chip : Chip) → HasRegisters pair.level Master chip → PairHasRegisters (record pair { master = chip })
@@ -94,8 +93,7 @@ module _ (pair : PicPair) (h : PairHasRegisters pair) where
           master = cascaded-registers pair.level Master pair.master h.master;
           slave = answered-registers pair.level Slave pair.slave h.slave (winner_at Slave pair.slave) (winner-lt Slave pair.slave);
         };
-      })
-      (record { kept = with-master _ (answered-registers pair.level Master pair.master h.master (Some w) l) })
+      }) (record { kept = with-master _ (answered-registers pair.level Master pair.master h.master (Some w) l) })
 
   acked-kept : PairHasRegisters (acked pair).1
   acked-kept = (acked_for-kept (winner_at Master pair.master) (winner-lt Master pair.master)).kept
@@ -165,8 +163,7 @@ written-level port value pair =
 acked_for-level : (o : Option ℕ) (pair : PicPair) → SameLevel pair.level (acked_for o pair)
 unfolding acked_for
 acked_for-level None pair = record { same = refl }
-acked_for-level (Some w) pair =
-    either (SameLevel pair.level) (w == cascade_input) _ _ (record { same = refl }) (record { same = refl })
+acked_for-level (Some w) pair = either (SameLevel pair.level) (w == cascade_input) _ _ (record { same = refl }) (record { same = refl })
 
 settled-level : (inputs edges : ℕ) (pair : PicPair) → (settled_pair inputs edges pair).level ≡ pair.level
 unfolding settled_pair

@@ -1,5 +1,5 @@
 -- The place of an input in the priority order is that of its bit in a rotated register.
-use Rattle.dev_pic.proofs.Facade.{◌≡◌, ℕ, zero, suc, ◌+◌, ◌-◌, ◌*◌, ◌/◌, ◌%◌, ◌^◌, ◌<◌, ◌≤◌, ◌==◌, max, refl, arith, ◌∙◌, ap, sym, subst, bit_or, ⊎_elim, inl}
+use Rattle.dev_pic.proofs.Facade.{◌≡◌, ℕ, zero, suc, ◌+◌, ◌-◌, ◌*◌, ◌/◌, ◌%◌, ◌^◌, ◌<◌, ◌≤◌, ◌==◌, max, refl, arith, ◌∙◌, ap, sym, bit_or, ⊎_elim, inl}
 use Rattle.dev_pic.proofs.Facade.{inr, ◌⊎◌, cases_lt, div-add-mod', pow_pos, bit_at_or, bit_at_above, bit_at_cat_low, bit_at_cat_high, bit_at-zero}
 use Rattle.dev_pic.proofs.Facade.{bit_at-trailing_zeros, mod-lt, bit_at, rotate_right, trailing_zeros, trailing_of_zero, has, input_at, IsFirstPlace}
 use Rattle.std.proofs.Common.{w8}

@@ -1,7 +1,7 @@
 -- Laws of polls, of special fully nested mode and of rotation in automatic end of interrupt.
-use Rattle.dev_pic.proofs.Facade.{◌≡◌, ℕ, ◌+◌, Bool, true, false, cond, if◌then◌else◌, Option, Some, None, refl, ap, ◌∙◌, arith, has, with_input, without_input}
+use Rattle.dev_pic.proofs.Facade.{◌≡◌, ℕ, ◌+◌, Bool, true, false, if◌then◌else◌, Option, Some, None, refl, ap, ◌∙◌, arith, has, with_input, without_input}
 use Rattle.dev_pic.proofs.Facade.{cascade_input, level_inputs_of, in_service_of, served_of, winner_at, taken, selected, commanded, written_even, polled_by}
-use Rattle.dev_pic.proofs.Facade.{shown, read_of, PollsOnce, NestsSpecially, RotatesAtOnce, Chip, Role, Master, Slave}
+use Rattle.dev_pic.proofs.Facade.{read_of, PollsOnce, NestsSpecially, RotatesAtOnce, Chip, Role, Master, Slave}
 use Rattle.dev_pic.proofs.BitLaws.{has-without_same, has-without_other}
 
 -- ---- polls
@@ -27,17 +27,7 @@ poll_none role is_odd chip poll is = cc (polled role is_odd chip poll)
 -- Taking an input doesn't change `poll`.
 taken_poll : (winner : ℕ) (chip : Chip) → (taken winner chip).poll ≡ chip.poll
 unfolding taken
-taken_poll winner chip = by chip.auto_eoi chip.rotate (has (level_inputs_of chip) winner)
-  where
-    by : (auto rotate level : Bool)
-        → (let after = cond auto (cond rotate (record chip { lowest = winner }) chip) (record chip { isr = with_input chip.isr winner }) in
-        (cond level after (record after { irr = without_input chip.irr winner })).poll) ≡ chip.poll
-    by true true true = refl
-    by true true false = refl
-    by true false true = refl
-    by true false false = refl
-    by false rotate true = refl
-    by false rotate false = refl
+taken_poll winner chip = grind arith
 
 by_winner : (o : Option ℕ) (chip : Chip) → (polled_by o chip).1.poll ≡ false
 unfolding polled_by
@@ -87,18 +77,13 @@ unfolding taken
 taken_is winner chip = refl
 
 ended_at_once : (rotate level : Bool) (winner : ℕ) (chip : Chip) → (taken_in true rotate level winner chip).isr ≡ chip.isr
-ended_at_once true true winner chip = refl
-ended_at_once true false winner chip = refl
-ended_at_once false true winner chip = refl
-ended_at_once false false winner chip = refl
+ended_at_once rotate level winner chip = grind arith
 
 rotated_to : (level : Bool) (winner : ℕ) (chip : Chip) → (taken_in true true level winner chip).lowest ≡ winner
-rotated_to true winner chip = refl
-rotated_to false winner chip = refl
+rotated_to level winner chip = grind arith
 
 kept_at : (level : Bool) (winner : ℕ) (chip : Chip) → (taken_in true false level winner chip).lowest ≡ chip.lowest
-kept_at true winner chip = refl
-kept_at false winner chip = refl
+kept_at level winner chip = grind arith
 
 pub rotates_at_once : RotatesAtOnce
 rotates_at_once = record {

@@ -1,5 +1,5 @@
 -- A restored pair is sound.
-use Rattle.dev_pic.proofs.Facade.{◌≡◌, ℕ, ◌≤◌, ◌%◌, true, List, ℤ, take, drop, Result, Ok, Err, sym, subst, arith, nat_tests, IsLevel, IRR, ISR, IMR, LINES}
+use Rattle.dev_pic.proofs.Facade.{◌≡◌, ℕ, ◌≤◌, ◌%◌, true, List, ℤ, take, drop, Result, Ok, Err, arith, nat_tests, IsLevel, IRR, ISR, IMR, LINES}
 use Rattle.dev_pic.proofs.Facade.{BASE, ELCR, U8, number-lt, AllTrue, judged-ok, hook-ok, cell_count, IsChipCells, chip_of, registers_hold, rules, restored}
 use Rattle.dev_pic.proofs.Facade.{RestoredIsSound, pair_of, restored_pair, by_number, IsSoundChip, IsSoundPair, Chip, Role, Master, Slave, ChipFault, PicPair}
 

@@ -6,12 +6,10 @@ use Rattle.dev_pic.proofs.Facade.{chip_of, registers_hold, levels_hold, mode_hol
 use Rattle.dev_pic.proofs.Facade.{MayRestore, NEWEST, either, byte, flag, flag-back, AllHold, one_holds, none_lacks, of_rows, carried_rows, AllTrue}
 use Rattle.dev_pic.proofs.Facade.{none_failing, all_true, judged-all, ok-hook, first_failing_is_first, hook-ok, judged-ok, SoundMeetsRules, SavedAreCells}
 use Rattle.dev_pic.proofs.Facade.{SavedIsRestored, FaultsAreTold, CanSave, CanRestore, pair_cells, pair_carried, pair_of, restored_pair, by_number, hook_rule}
-use Rattle.dev_pic.proofs.Facade.{fault_of, hook_restored, HasRegisters, IsSoundChip, MeetsRules, IsSoundPair, Chip, InitState, Ready, Icw2, Icw3, Role, Master}
-use Rattle.dev_pic.proofs.Facade.{Slave, ELCR_SINCE, LTIM_SINCE, PicPair, HookFault, hook_result, first_failing, judged_by, MeansFailing, IsFirstFailing}
-use Rattle.dev_pic.proofs.Facade.{ChipFault}
-use Rattle.vms_kinds.specs.declared.Kind.TheVariants.{Bool as Truth}
-use Rattle.dev_pic.specs.declared.chip.InitState.TheVariants.{Icw4 as WantsIcw4}
+use Rattle.dev_pic.proofs.Facade.{fault_of, hook_restored, HasRegisters, IsSoundChip, MeetsRules, IsSoundPair, Chip, InitState, Ready, Role, Master, Slave}
+use Rattle.dev_pic.proofs.Facade.{ELCR_SINCE, LTIM_SINCE, PicPair, HookFault, hook_result, first_failing, judged_by, ChipFault}
 use Rattle.dev_pic.proofs.RestoredLaws.{sound, made_of, number-ok}
+use Rattle.vms_kinds.specs.declared.Kind.TheVariants.{Bool as Truth}
 
 -- ---- the parts of a list that joins two
 
@@ -23,12 +21,10 @@ second_part count first second is = rw (← is) (drop-append_seam first second)
 
 -- If a list joins two chips' cells, its parts are chips' cells.
 pub master_cells : (master slave both : List ℤ) → both ≡ master ++ slave → IsChipCells master → IsChipCells (take cell_count both)
-master_cells master slave both joined cells =
-    rw joined (subst IsChipCells (sym (first_part cell_count master slave cells.count)) cells)
+master_cells master slave both joined cells = rw joined (subst IsChipCells (sym (first_part cell_count master slave cells.count)) cells)
 
 pub slave_cells : (master slave both : List ℤ) → both ≡ master ++ slave → IsChipCells master → IsChipCells slave → IsChipCells (drop cell_count both)
-slave_cells master slave both joined first cells =
-    rw joined (subst IsChipCells (sym (second_part cell_count master slave first.count)) cells)
+slave_cells master slave both joined first cells = rw joined (subst IsChipCells (sym (second_part cell_count master slave first.count)) cells)
 
 -- ---- saved and restored
 
@@ -77,22 +73,17 @@ set-of level set role chip h = of_rows (named chip) set i8259_rows (holds level 
 
 -- the cells of a chip, by whether the set has elcr and the level mode
 abbrev by_sets : Bool → Bool → Chip → List ℤ
-by_sets a b chip =
-    cells_under i8259_rows 1 (named chip) ++ (cond a (pos chip.elcr ∷ []) [] ++ (cond b (pos (flag_number chip.ltim) ∷ []) [] ++ []))
+by_sets a b chip = cells_under i8259_rows 1 (named chip) ++ (cond a (pos chip.elcr ∷ []) [] ++ (cond b (pos (flag_number chip.ltim) ∷ []) [] ++ []))
 
 pub saved-count : (set : ℕ) (chip : Chip) → length (saved_cells set chip) ≡ length (kinds set)
 unfolding saved_cells
 saved-count set chip = by_tests (nat_le ELCR_SINCE set) (nat_le LTIM_SINCE set) where
   by_tests : (a b : Bool) → length (by_sets a b chip) ≡ length (kinds 1 ++ (cond a (U8 ∷ []) [] ++ (cond b (Truth ∷ []) [] ++ [])))
-  by_tests true true = refl
-  by_tests true false = refl
-  by_tests false true = refl
-  by_tests false false = refl
+  by_tests a b = grind arith
 
 -- A chip is sound if its cells break no rule, and conversely.
 meets : (level : ℕ) (role : Role) (chip : Chip) → IsSoundChip level role chip → IsChipCells (saved_cells NEWEST chip) × MeetsRules level role chip
-meets level role chip s =
-    (set-of level NEWEST role chip s.registers, none_failing (rules level role (saved_cells NEWEST chip)) (met level role chip s))
+meets level role chip s = (set-of level NEWEST role chip s.registers, none_failing (rules level role (saved_cells NEWEST chip)) (met level role chip s))
 
 is_sound : (level : ℕ) (role : Role) (chip : Chip) → IsChipCells (saved_cells NEWEST chip) × MeetsRules level role chip → IsSoundChip level role chip
 is_sound level role chip h =
@@ -144,12 +135,10 @@ unneeded set chip h = by_tests (nat_le ELCR_SINCE set) (nat_le LTIM_SINCE set) (
   by_tests false b p q e = cc
 
 master-part : (set : ℕ) (pair : PicPair) → take (length (kinds set)) (pair_cells set pair) ≡ saved_cells set pair.master
-master-part set pair =
-    first_part (length (kinds set)) (saved_cells set pair.master) (saved_cells set pair.slave) (saved-count set pair.master)
+master-part set pair = first_part (length (kinds set)) (saved_cells set pair.master) (saved_cells set pair.slave) (saved-count set pair.master)
 
 slave-part : (set : ℕ) (pair : PicPair) → drop (length (kinds set)) (pair_cells set pair) ≡ saved_cells set pair.slave
-slave-part set pair =
-    second_part (length (kinds set)) (saved_cells set pair.master) (saved_cells set pair.slave) (saved-count set pair.master)
+slave-part set pair = second_part (length (kinds set)) (saved_cells set pair.master) (saved_cells set pair.slave) (saved-count set pair.master)
 
 pub saved_are_cells : SavedAreCells
 saved_are_cells = record {

@@ -3,7 +3,7 @@ use Rattle.dev_pic.proofs.Facade.{◌≡◌, ℕ, Option, Some, None, false, ref
 use Rattle.dev_pic.proofs.Facade.{find, arith, nat_tests, or_of_8, and_le_l, bit_and, nat_le, either, has, ended, ended_lowest, highest_served, commanded}
 use Rattle.dev_pic.proofs.Facade.{selected, written_even, written_odd_in, level_inputs, level_inputs_of, ltim_after, in_service_of, requests_of, served_of}
 use Rattle.dev_pic.proofs.Facade.{winner_at, taken, settled, started, polled_by, read_of, answered, cascaded, command_of, HasInput, Chip, InitState, Ready}
-use Rattle.dev_pic.proofs.Facade.{Icw2, Icw3, Icw4, Ocw2, NonSpecificEoi, RotateOnNonSpecificEoi, SpecificEoi, RotateOnSpecificEoi, RotateInAutomaticEoi}
+use Rattle.dev_pic.proofs.Facade.{Icw2, Ocw2, NonSpecificEoi, RotateOnNonSpecificEoi, SpecificEoi, RotateOnSpecificEoi, RotateInAutomaticEoi}
 use Rattle.dev_pic.proofs.Facade.{SetPriority, NoOperation, but_not, with_input, without_input, requests_hold, mode_holds, HasRegisters, IsSoundChip, order}
 use Rattle.dev_pic.proofs.Facade.{before, ready_among, winner_of, highest_of, Role, LTIM_SINCE}
 use Rattle.dev_pic.proofs.BitLaws.{level-lines, level_inputs-lt, but_not-lt, without_input-lt, with_input-lt}
@@ -69,13 +69,11 @@ before-inputs q (x ∷ xs) a = either Inputs (q x) [] (x ∷ before q xs) tt (a.
 
 order-inputs : (lowest : ℕ) → Inputs (order lowest)
 unfolding Inputs
-order-inputs lowest =
-    (omega arith, (omega arith, (omega arith, (omega arith, (omega arith, (omega arith, (omega arith, (omega arith, tt))))))))
+order-inputs lowest = (omega arith, (omega arith, (omega arith, (omega arith, (omega arith, (omega arith, (omega arith, (omega arith, tt))))))))
 
 pub winner-lt : (role : Role) (chip : Chip) → IfSome (winner_at role chip) (λ w. w < 8)
 unfolding winner_at winner_of ready_among
-winner-lt role chip =
-    find-inputs (has (requests_of chip)) _ (before-inputs (has (served_of role chip)) (order chip.lowest) (order-inputs chip.lowest))
+winner-lt role chip = find-inputs (has (requests_of chip)) _ (before-inputs (has (served_of role chip)) (order chip.lowest) (order-inputs chip.lowest))
 
 highest-lt : (chip : Chip) → IfSome (highest_served chip) (λ w. w < 8)
 unfolding highest_of
@@ -131,8 +129,7 @@ module _ (level : ℕ) (role : Role) (chip : Chip) (h : HasRegisters level role 
   ended_lowest-registers : (o : Option ℕ) → IfSome o (λ w. w < 8) → HasRegisters level role (ended_lowest o chip)
   unfolding ended_lowest
   ended_lowest-registers None l = h
-  ended_lowest-registers (Some w) l =
-      with-lowest level role _ (with-isr level role chip h _ (without_input-lt chip.isr w h.isr)) w (omega arith)
+  ended_lowest-registers (Some w) l = with-lowest level role _ (with-isr level role chip h _ (without_input-lt chip.isr w h.isr)) w (omega arith)
 
   commanded-registers : (command : Ocw2) → HasInput command → HasRegisters level role (commanded command chip)
   unfolding commanded

@@ -83,8 +83,7 @@ turned lowest requests served (Some w) m = record {
 
 pub winner_of-means : (lowest requests served : ℕ) → MeansWinner lowest requests served (winner_of lowest requests served)
 unfolding winner_of ready_among
-winner_of-means lowest requests served =
-    turned lowest requests served _ (means (has served) (has requests) (order lowest))
+winner_of-means lowest requests served = turned lowest requests served _ (means (has served) (has requests) (order lowest))
 
 -- No two inputs meet the relation, and none does if there is no winner.
 only_for : (lowest requests served winner : ℕ) (o : Option ℕ) → MeansWinner lowest requests served o → IsWinner lowest requests served winner → o ≡ Some winner
@@ -95,8 +94,7 @@ only_for lowest requests served winner (Some found) f w =
     ⊎_elim (λ less. absurd (false≢true (sym (w.least f.place less) ∙ (rw f.in_order.1 at f.requested))))
     (λ le. ⊎_elim (λ more. absurd (false≢true (sym (f.least w.place more) ∙ (rw w.in_order.1 at w.requested))))
     (λ ge. let same : f.place ≡ w.place = omega arith in
-    ap Some (f.in_order.1 ∙ ap (input_at lowest) same ∙ sym w.in_order.1)) (cases_lt w.place f.place))
-    (cases_lt f.place w.place)
+    ap Some (f.in_order.1 ∙ ap (input_at lowest) same ∙ sym w.in_order.1)) (cases_lt w.place f.place)) (cases_lt f.place w.place)
 
 pub winner_is_least_request : WinnerIsLeastRequest
 winner_is_least_request = record {

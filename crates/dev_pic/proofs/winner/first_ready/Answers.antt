@@ -1,4 +1,3 @@
-use Rattle.dev_pic.proofs.Facade.{Some, ap, ◌∙◌}
 use Rattle.dev_pic.proofs.WinnerLemmas.{wins, loses}
 use Rattle.dev_pic.proofs.winner.first_ready.Goals as goal
 
