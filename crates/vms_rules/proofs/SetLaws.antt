@@ -1,5 +1,5 @@
 -- The machines of a set, and the whole walk.
-use Rattle.vms_rules.proofs.Facade.{are_new_to, ◌≡◌, ℕ, List, ◌∷◌, Bool, true, false, Option, None, refl, ap, [], ◌&&◌, not, ◌||◌, is_at, BTreeSet}
+use Rattle.vms_rules.proofs.Facade.{arith, are_new_to, ◌≡◌, ℕ, List, ◌∷◌, Bool, true, false, Option, None, refl, ap, [], ◌&&◌, not, ◌||◌, is_at, BTreeSet}
 use Rattle.vms_rules.proofs.Facade.{nat_list_eq_equiv, list_any, bytes_eq, and_assoc, Bor, or_else, is_one_of, SetFault, failing, here, are_distinct, set_rules}
 use Rattle.vms_rules.proofs.Facade.{size_rules, first_fault, and_swap, DescFault, IsFirst, structs_from, devices_from, key, by_key, has_name, with_name}
 use Rattle.vms_rules.proofs.WalkLaws.{first_stops, first_good, later_stops}
@@ -18,11 +18,7 @@ none_with had x [] = refl
 none_with had x (n ∷ names) =
     cc (none_with had x names, nat_list_eq_equiv.symm x n, regroup (bytes_eq n x) (had n) (is_one_of names x) (none had names)) where
       regroup : (a b c d : Bool) → (not (a || b) && (not c && d)) ≡ (not (a || c) && (not b && d))
-      regroup true b c d = refl
-      regroup false true true d = refl
-      regroup false true false d = refl
-      regroup false false true d = refl
-      regroup false false false d = refl
+      regroup a b c d = grind arith
 
 new_and_distinct : (had : List ℕ → Bool) (names : List (List ℕ)) → are_new_to had names ≡ (none had names && are_distinct names)
 unfolding none
