@@ -1,5 +1,5 @@
 -- A structure has the same meaning in each table that includes it.
-use Rattle.vms_spec.proofs.Facade.{◌≡◌, ℕ, zero, suc, ◌+◌, ◌<◌, ◌≤◌, List, ◌∷◌, ◌++◌, length, get_or, map, ℤ, pos, refl, sym, ap, ◌∙◌, arith, true, []}
+use Rattle.vms_spec.proofs.Facade.{◌≡◌, ℕ, zero, suc, ◌+◌, ◌<◌, ◌≤◌, List, ◌∷◌, length, get_or, map, ℤ, pos, refl, ap, ◌∙◌, arith, true, []}
 use Rattle.vms_spec.proofs.Facade.{get_or-map, fun_ext, ltb-true, map-append, Item, Struct, Field, Desc, is_there, uses_below, Meaning, no_desc, no_field}
 use Rattle.vms_spec.proofs.Facade.{no_parent, no_meaning, first, meaning, meanings, counted, item_cells, field_cells, cells_from, desc_cells, elements_of}
 use Rattle.vms_spec.proofs.Facade.{item_slots, slots_from, desc_slots, numbers_of, place_of, Reader, reader, cells_of}

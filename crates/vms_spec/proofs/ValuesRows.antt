@@ -1,9 +1,7 @@
 -- How values texts are read.
+use Rattle.vms_spec.proofs.{Facade.values_read, Facade.set_0, Rows.lines, Boxes.counted_set, Boxes.subsection_set, Boxes.tested_set, Boxes.mixed_set}
 use Rattle.vms_spec.proofs.Facade.{◌≡◌, ℕ, List, [], ◌∷◌, Some, None, pos, negsuc, refl, codes, digits, first, Set, Image, values_text, ValuesRead, Values, Bad}
-use Rattle.vms_spec.proofs.Facade.{values_read, set_0}
 use Rattle.vms_spec.specs.declared.ValuesReason.TheVariants as reasons
-use Rattle.vms_spec.proofs.Rows.{lines}
-use Rattle.vms_spec.proofs.Boxes.{counted_set, subsection_set, tested_set, mixed_set}
 
 unfoldable reads : Set → List ℕ → ValuesRead
 unfolding values_read

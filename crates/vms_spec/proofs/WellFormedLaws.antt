@@ -1,4 +1,5 @@
 -- A set that is well formed is good.
+use Rattle.vms_spec.proofs.{Facade.IsGood, Facade.FitsHeads, Tables.one_more}
 use Rattle.vms_spec.proofs.Facade.{◌≡◌, ℕ, zero, suc, ◌+◌, ◌<◌, List, ◌∷◌, ◌++◌, length, get_or, map, take, Option, Some, None, ℤ, pos, negsuc, ◌≤ℤ◌, refl, sym}
 use Rattle.vms_spec.proofs.Facade.{ap, ◌∙◌, subst, arith, Bool, true, false, ◌&&◌, ◌==◌, nat_lt, nat_le, if◌then◌else◌, [], AllByRecursion, flat_map, slice_get}
 use Rattle.vms_spec.proofs.Facade.{list_any, bytes_eq, and_parts, not-true, ltb-true, leb-true, eq-eqb, and_from, or_parts, bytes_eq-Decides, ints}
@@ -10,11 +11,9 @@ use Rattle.vms_spec.proofs.Facade.{test_names_well, count_names_well, is_countin
 use Rattle.vms_spec.proofs.Facade.{failing, here, in_field, fields_fault, validations_fault, desc_fault, struct_fault, struct_rules, sub_fault, sub_rules}
 use Rattle.vms_spec.proofs.Facade.{device_fault, device_rules, is_same_device, set_rules, size_rules, first_fault, WellFormed, IsNumber, IsOne, IsEarlier}
 use Rattle.vms_spec.proofs.Facade.{NamesEarlier, IsSoundTest, IsSoundCount, IsSoundField, AreSoundFields, IsSound, DefaultsFit, ConstantFits, ConstantsFit}
-use Rattle.vms_spec.proofs.Facade.{IsGood, FitsHeads}
-use Rattle.vms_spec.specs.declared.Part.TheVariants as parts
-use Rattle.vms_spec.specs.Layout.{Cell as OneCell}
 use Rattle.vms_spec.proofs.Faultless.{or_else_none, answers_none, AllTrue, all_true}
-use Rattle.vms_spec.proofs.Tables.{one_more}
+use Rattle.vms_spec.specs.{Layout.Cell as OneCell}
+use Rattle.vms_spec.specs.declared.Part.TheVariants as parts
 
 -- ---- no fault anywhere
 
