@@ -205,9 +205,10 @@ module _ (board : Board) (base to : ℕ) (found : Option ℕ) (from : now_of boa
   -- a segment that the end of a period may cut
   by-clock : (end : Option ℕ) → IsEnd board end → FoundAt board end found → IsBy to found
   by-clock None is ends = in-one (λ at low high. same-clock board None at to is (omega arith) (omega arith) refl)
-  by-clock (Some end) is ends = ⊎_elim
-      (λ (f : to < end). in-one
-      (λ at low high. same-clock board (Some end) at to is (omega arith) (omega arith) (lt-leb end at (omega arith) ∙ sym (lt-leb end to f))))
+  by-clock (Some end) is ends =
+      let same : ((at : ℕ) → base ≤ at → at ≤ to → has_come (Some end) at ≡ has_come (Some end) to) → IsBy to found =
+      λ h. in-one (λ at low high. same-clock board (Some end) at to is (omega arith) (omega arith) (h at low high)) in
+      ⊎_elim (λ (f : to < end). same (λ at low high. lt-leb end at (omega arith) ∙ sym (lt-leb end to f)))
       (λ (f : end ≤ to). ⊎_elim
       (λ (g : base < end). ends.by to (record {
         from = omega arith;
@@ -216,9 +217,7 @@ module _ (board : Board) (base to : ℕ) (found : Option ℕ) (from : now_of boa
         line = λ at low high. line at (omega arith) high;
         clock = λ at low high. same-clock board (Some end) at to is (omega arith) (omega arith) (le-leb end at low ∙ sym (le-leb end to f));
       }) e)
-      (λ (g : end ≤ base). in-one
-      (λ at low high. same-clock board (Some end) at to is (omega arith) (omega arith) (le-leb end at (omega arith) ∙ sym (le-leb end to f))))
-      (cases_lt base end)) (cases_lt to end)
+      (λ (g : end ≤ base). same (λ at low high. le-leb end at (omega arith) ∙ sym (le-leb end to f))) (cases_lt base end)) (cases_lt to end)
 
 -- ---- a byte that leaves shows
 

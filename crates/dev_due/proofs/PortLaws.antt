@@ -58,40 +58,20 @@ module _ (base to : ℕ) (port : Port) (l : base ≤ to) (h : IsSentAfter to (af
     pub is : (begin ≡ base) ⊎ (p.receiver.timeout ≡ Some begin)
     pub span : IsSpan port begin to
 
+  at-base : ((c : ℕ) → base ≤ c → c ≤ to → has_come c p.receiver.timeout ≡ has_come to p.receiver.timeout) → Begins
+  at-base same = record { begin = base; from = omega arith; is = inl refl; span = record { upto = l; same = λ c low high. one c low high (same c low high) } }
+
   begins-by : (timeout : Option ℕ) → p.receiver.timeout ≡ timeout → Begins
-  begins-by None e = record {
-    begin = base;
-    from = omega arith;
-    is = inl refl;
-    span = record { upto = l; same = λ c low high. one c low high (rw e refl) };
-  }
-  begins-by (Some timeout) e = ⊎_elim
-      (λ (f : to < timeout). record {
-        begin = base;
-        from = omega arith;
-        is = inl refl;
-        span = record { upto = l; same = λ c low high. one c low high (rw e (neither timeout c to high f)) };
-      })
+  begins-by None e = at-base (λ c low high. rw e refl)
+  begins-by (Some timeout) e = ⊎_elim (λ (f : to < timeout). at-base (λ c low high. rw e (grind (arith, nat_tests))))
       (λ (f : timeout ≤ to). ⊎_elim
       (λ (g : base < timeout). record {
         begin = timeout;
         from = omega arith;
         is = inr e;
-        span = record { upto = f; same = λ c low high. one c (omega arith) high (rw e (both timeout c to low f)) };
+        span = record { upto = f; same = λ c low high. one c (omega arith) high (rw e (grind (arith, nat_tests))) };
       })
-      (λ (g : timeout ≤ base). record {
-        begin = base;
-        from = omega arith;
-        is = inl refl;
-        span = record { upto = l; same = λ c low high. one c low high (rw e (both timeout c to (omega arith) f)) };
-      })
-      (cases_lt base timeout)) (cases_lt to timeout)
-    where
-      neither : (timeout c to : ℕ) → c ≤ to → to < timeout → nat_le timeout c ≡ nat_le timeout to
-      neither timeout c to h f = grind (arith, nat_tests)
-
-      both : (timeout c to : ℕ) → timeout ≤ c → timeout ≤ to → nat_le timeout c ≡ nat_le timeout to
-      both timeout c to h f = grind (arith, nat_tests)
+      (λ (g : timeout ≤ base). at-base (λ c low high. rw e (grind (arith, nat_tests)))) (cases_lt base timeout)) (cases_lt to timeout)
 
   pub begins : Begins
   begins = begins-by p.receiver.timeout refl
