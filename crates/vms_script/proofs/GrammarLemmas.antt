@@ -1,6 +1,6 @@
 -- Lines as they are spelled, and lines that are read.
-use Rattle.vms_script.proofs.Facade.{◌≡◌, ℕ, ◌+◌, ◌^◌, ◌<◌, Bool, true, false, not, ◌&&◌, ◌==◌, nat_le, nat_lt, List, ◌∷◌, ◌++◌, length, get_or, Option, Some}
-use Rattle.vms_script.proofs.Facade.{None, Ok, pos, if◌then◌else◌, refl, sym, ap, ◌∙◌, arith, [], codes, decimal, list_all, and_parts, ltb-true, ltb-false}
+use Rattle.vms_script.proofs.Facade.{nat_tests, ◌≡◌, ℕ, ◌+◌, ◌^◌, ◌<◌, Bool, true, false, not, ◌&&◌, ◌==◌, nat_le, List, ◌∷◌, ◌++◌, length, get_or, Option, Some}
+use Rattle.vms_script.proofs.Facade.{None, Ok, pos, if◌then◌else◌, refl, ap, ◌∙◌, arith, [], codes, decimal, list_all, and_parts}
 use Rattle.vms_script.proofs.Facade.{ne_eqb, not-true, digits_decimal, Event, numerals, number_holds, port_text, event_text, line_text, script_text, IsEvent}
 use Rattle.vms_script.proofs.Facade.{IsLine, AreLines, is_wire, NEWEST, ScriptLine, Happens, Saves, Restores, Read, or_form, number_in, is_wait, is_set_of}
 use Rattle.vms_script.proofs.Facade.{out_line, wire_line, set_spelled, save_line, line_read, is_name_byte, is_name, name_byte_high, is_shelf_name, Split}
@@ -41,10 +41,7 @@ shelf_lacks name e =
     (and_parts (is_name 64 name) (not (get_or name 0 46 == 46)) e).0).1
 
 pub early_small : (holds : ℕ → Bool) (n : ℕ) → EndsEarly holds → holds n ≡ true → n < 2 ^ 64
-early_small holds n early h = by (nat_lt n (2 ^ 64)) refl where
-  by : (t : Bool) → nat_lt n (2 ^ 64) ≡ t → n < 2 ^ 64
-  by true e = ltb-true n (2 ^ 64) e
-  by false e = let none : true ≡ false = sym h ∙ early n (ltb-false n (2 ^ 64) e) in cc
+early_small holds n early h = grind (arith, nat_tests, early n)
 
 number_good : (holds : ℕ → Bool) (line : ℕ → ScriptLine) (n : ℕ) → EndsEarly holds → holds n ≡ true → number_in holds line (decimal n) ≡ Ok (line n)
 number_good holds line n early h = rw (number_holds (pos n) (early_small holds n early h), h)

@@ -1,7 +1,7 @@
 -- What is read is spelled so.
-use Rattle.vms_script.proofs.Facade.{◌≡◌, ℕ, ◌+◌, Bool, true, false, ◌==◌, List, ◌∷◌, ◌++◌, Option, Some, None, Ok, Err, ℤ, pos, negsuc, if◌then◌else◌, refl}
-use Rattle.vms_script.proofs.Facade.{sym, ap, ◌∙◌, subst, [], codes, decimal, bytes_eq, eqb-true, and_parts, same_Some, bytes_eq-Decides, number_spelled}
-use Rattle.vms_script.proofs.Facade.{begins_with, spelled_holds, line_text, script_text, IsLine, AreLines, ReadsExactly, is_wire, NEWEST, ScriptLine, Happens}
+use Rattle.vms_script.proofs.Facade.{arith, ◌≡◌, ℕ, ◌+◌, Bool, true, false, ◌==◌, List, ◌∷◌, ◌++◌, Option, Some, None, Ok, Err, ℤ, pos, negsuc, if◌then◌else◌, refl}
+use Rattle.vms_script.proofs.Facade.{sym, ap, ◌∙◌, subst, [], codes, decimal, bytes_eq, eqb-true, and_parts, bytes_eq-Decides, number_spelled}
+use Rattle.vms_script.proofs.Facade.{spelled_holds, line_text, script_text, IsLine, AreLines, ReadsExactly, is_wire, NEWEST, ScriptLine, Happens}
 use Rattle.vms_script.proofs.Facade.{Saves, Restores, Read, or_form, or_range, number_in, is_wait, is_set_of, in_line, byte_line, wait_line, out_line}
 use Rattle.vms_script.proofs.Facade.{wire_line, set_spelled, name_spelled, save_line, restore_line, play_line, line_split, line_read, is_shelf_name, Split}
 use Rattle.vms_script.proofs.Facade.{Reading, lines_of, begun, with_line, unended, tail_read, lines_read, script_read, level_text, first_word, longer_word}
@@ -43,11 +43,7 @@ number_is {P} holds make text early f = formed (number_spelled text) (or_range h
       (λ h. only_ok (make n) (f n h (spelled_holds text (pos n) (early_small holds n early h) s))) (only_none reasons.Range)
 
 level_is : (text : List ℕ) (up : Bool) → level_spelled text ≡ Some up → text ≡ level_text up
-level_is (b ∷ []) up e = by (b == 48) (b == 49) refl refl where
-  by : (s t : Bool) → (b == 48) ≡ s → (b == 49) ≡ t → b ∷ [] ≡ level_text up
-  by true t p q = rw (eqb-true b 48 p) (ap level_text (same_Some false up (sym (rw p) ∙ e)))
-  by false true p q = rw (eqb-true b 49 q) (ap level_text (same_Some true up (sym (rw (p, q)) ∙ e)))
-  by false false p q = let none : None ≡ Some up = sym (rw (p, q)) ∙ e in cc
+level_is (b ∷ []) up e = grind (arith, eqb-true)
 level_is _ up e = cc
 
 abbrev rejoined : List ℕ × Option (List ℕ) → List ℕ
@@ -91,19 +87,11 @@ wire_line_is play (number, rest) =
     number_is is_wire (λ input. Happens (events.Wire input up)) number wires_end (λ n h t. (h, rw (r, t, level_is level up s)))))
 
 named : (text name : List ℕ) → name_spelled text ≡ Some name → (is_shelf_name name ≡ true) × (text ≡ name)
-named text name e = by (is_shelf_name text) refl where
-  by : (t : Bool) → is_shelf_name text ≡ t → (is_shelf_name name ≡ true) × (text ≡ name)
-  by true p =
-      let is : text ≡ name = same_Some text name (sym (rw p) ∙ e) in
-      (sym (ap is_shelf_name is) ∙ p, is)
-  by false p = let none : None ≡ Some name = sym (rw p) ∙ e in cc
+named text name e = (grind arith, grind arith)
 
 set_is : (word number : List ℕ) → set_spelled word ≡ Some number → word ≡ 64 ∷ number
 set_is [] number e = cc
-set_is (b ∷ word) number e = by (begins_with (codes "@") (b ∷ word)) refl where
-  by : (t : Bool) → begins_with (codes "@") (b ∷ word) ≡ t → b ∷ word ≡ 64 ∷ number
-  by true p = rw (eqb-true b 64 (and_parts (b == 64) true p).0, (same_Some word number (sym (rw p) ∙ e)))
-  by false p = let none : None ≡ Some number = sym (rw p) ∙ e in cc
+set_is (b ∷ word) number e = grind (arith, eqb-true, and_parts)
 
 save_line_is : (level : ℕ) (split : List ℕ × Option (List ℕ)) → Only (Says (Some level) (codes "save " ++ rejoined split)) (save_line level split)
 save_line_is level (word, rest) =

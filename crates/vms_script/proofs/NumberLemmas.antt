@@ -1,25 +1,21 @@
 -- Numbers as they are spelled, and their ranges.
-use Rattle.vms_script.proofs.Facade.{◌≡◌, ℕ, ◌+◌, ◌-◌, ◌*◌, ◌^◌, ◌<◌, ◌≤◌, Bool, true, false, nat_le, nat_lt, List, length, get_or, drop, Option, Some, None}
-use Rattle.vms_script.proofs.Facade.{Ok, Err, ℤ, pos, negsuc, if◌then◌else◌, refl, sym, ap, ◌∙◌, arith, ltb-false, and_right, lt-ltb, le-ltb, nat_tests}
+use Rattle.vms_script.proofs.Facade.{◌≡◌, ℕ, ◌+◌, ◌-◌, ◌*◌, ◌^◌, ◌<◌, ◌≤◌, Bool, true, false, nat_le, List, length, get_or, drop, Option, Some, None}
+use Rattle.vms_script.proofs.Facade.{Ok, Err, ℤ, pos, negsuc, if◌then◌else◌, refl, sym, ap, ◌∙◌, arith, and_right, nat_tests}
 use Rattle.vms_script.proofs.Facade.{drop_more, drop_all, natural_from, number_spelled, natural_up, is_wire, NEWEST, ScriptLine, Happens, or_form, or_range}
-use Rattle.vms_script.proofs.Facade.{number_in, is_wait, is_set_of, wire_line, level_spelled, number_read, below_2_64, ScriptReason, ◌/◌, ◌%◌, not, ◌&&◌, ◌==◌}
-use Rattle.vms_script.proofs.Facade.{[], ◌∷◌, ◌++◌, list_all, ne_eqb, le-leb, lt-leb, leb-true, and_parts, ltb-true, div-mul-add, mod-mul-add, digit_char}
+use Rattle.vms_script.proofs.Facade.{number_in, is_wait, is_set_of, wire_line, level_spelled, number_read, below_2_64, ScriptReason, ◌/◌, ◌%◌, not, ◌==◌}
+use Rattle.vms_script.proofs.Facade.{[], ◌∷◌, ◌++◌, list_all, leb-true, and_parts, div-mul-add, mod-mul-add, digit_char}
 use Rattle.vms_script.proofs.Facade.{is_digit, port_text, digit_spelled, joined, byte_spelled, port_spelled, byte_text}
 use Rattle.dev_board.specs.declared.event.Event.TheVariants as events
 use Rattle.vms_script.specs.declared.line.ScriptReason.TheVariants as reasons
 
 pub below_none : (n : ℕ) → below_2_64 n ≡ None → 2 ^ 64 ≤ n
-below_none n e = by (nat_lt n (2 ^ 64)) refl
-  where
-    by : (t : Bool) → nat_lt n (2 ^ 64) ≡ t → 2 ^ 64 ≤ n
-    by true q = let f : Some n ≡ None = sym (rw q) ∙ e in cc
-    by false q = ltb-false n (2 ^ 64) q
+below_none n e = grind (arith, nat_tests)
 
 pub none_below : (n : ℕ) → 2 ^ 64 ≤ n → None ≡ below_2_64 n
-none_below n le = sym (rw (le-ltb n (2 ^ 64) le))
+none_below n le = grind (arith, nat_tests)
 
 pub some_below : (n : ℕ) → n < 2 ^ 64 → Some n ≡ below_2_64 n
-some_below n lt = sym (rw (lt-ltb n (2 ^ 64) lt))
+some_below n lt = grind (arith, nat_tests)
 
 pub natural_stops : (value i d : ℕ) (digits : List ℕ) → i < length digits → below_2_64 (value * 10 + (get_or digits i d - 48)) ≡ None → natural_from value (drop i digits) ≡ natural_from 0 digits → None ≡ below_2_64 (natural_from 0 digits)
 natural_stops value i d digits lt e inv =
@@ -38,26 +34,13 @@ EndsEarly holds = (n : ℕ) → 2 ^ 64 ≤ n → holds n ≡ false
 pub number_fails : (holds : ℕ → Bool) (line : ℕ → ScriptLine) (o : Option ℤ) (reason : ScriptReason) → EndsEarly holds → number_read o ≡ Err reason → or_form o (or_range holds line) ≡ Err reason
 number_fails holds line None reason early e = cc
 number_fails holds line (Some (negsuc n)) reason early e = cc
-number_fails holds line (Some (pos n)) reason early e = by (nat_lt n (2 ^ 64)) refl
-  where
-    by : (t : Bool) → nat_lt n (2 ^ 64) ≡ t → or_form (Some (pos n)) (or_range holds line) ≡ Err reason
-    by true q = let f : Ok n ≡ Err reason = sym (rw q) ∙ e in cc
-    by false q =
-        let f : Err reasons.Range ≡ Err reason = sym (rw q) ∙ e in
-        rw (early n (ltb-false n (2 ^ 64) q)) (cc)
+number_fails holds line (Some (pos n)) reason early e = grind (arith, nat_tests, early n)
 
 -- a number that is read is judged by the range
 pub number_holds : (holds : ℕ → Bool) (line : ℕ → ScriptLine) (o : Option ℤ) (v : ℕ) → number_read o ≡ Ok v → or_form o (or_range holds line) ≡ (if holds v then Ok (line v) else Err reasons.Range)
 number_holds holds line None v e = cc
 number_holds holds line (Some (negsuc n)) v e = cc
-number_holds holds line (Some (pos n)) v e = by (nat_lt n (2 ^ 64)) refl
-  where
-    by : (t : Bool) → nat_lt n (2 ^ 64) ≡ t → or_form (Some (pos n)) (or_range holds line) ≡ (if holds v then Ok (line v) else Err reasons.Range)
-    by true q =
-        let f : Ok n ≡ Ok v = sym (rw q) ∙ e in
-        let g : n ≡ v = cc in
-        ap (λ m. if holds m then Ok (line m) else Err reasons.Range) g
-    by false q = let f : Err reasons.Range ≡ Ok v = sym (rw q) ∙ e in cc
+number_holds holds line (Some (pos n)) v e = grind (arith, nat_tests)
 
 -- the same of the whole line
 in_judged : (holds : ℕ → Bool) (line : ℕ → ScriptLine) (text : List ℕ) (v : ℕ) (t : Bool) → Ok v ≡ number_read (number_spelled text) → t ≡ holds v
@@ -100,41 +83,8 @@ wire_fails words number level up reason w r l n =
 
 -- ---- from a value to its digit and back
 
-low_char : (d : ℕ) → d < 10 → digit_char d ≡ 48 + d
-low_char d h = rw (is_lt d h) where
-  is_lt : (d : ℕ) → d < 10 → nat_lt d 10 ≡ true
-  is_lt d h = grind (arith, nat_tests)
-
-high_char : (d : ℕ) → 10 ≤ d → digit_char d ≡ 87 + d
-high_char d h = rw (not_lt d h) where
-  not_lt : (d : ℕ) → 10 ≤ d → nat_lt d 10 ≡ false
-  not_lt d h = grind (arith, nat_tests)
-
-abbrev spelled_by : Bool → Bool → ℕ → Option ℕ
-spelled_by low high b = if low then Some (b - 48) else if high then Some (b - 87) else None
-
-digit_low : (b : ℕ) → 48 ≤ b → b ≤ 57 → digit_spelled b ≡ Some (b - 48)
-digit_low b h i =
-    let low : is_digit b ≡ true = rw (le-leb 48 b h, le-leb b 57 i) refl in
-    ap (λ t. spelled_by t (nat_le 97 b && nat_le b 102) b) low
-
-digit_high : (b : ℕ) → 97 ≤ b → b ≤ 102 → digit_spelled b ≡ Some (b - 87)
-digit_high b h i =
-    let low : is_digit b ≡ false = rw (le-leb 48 b (omega (arith, h)), lt-leb b 57 (omega (arith, h))) refl in
-    let high : (nat_le 97 b && nat_le b 102) ≡ true = rw (le-leb 97 b h, le-leb b 102 i) refl in
-    ap (λ t. spelled_by t (nat_le 97 b && nat_le b 102) b) low ∙ ap (λ t. spelled_by false t b) high
-
 pub digit_back : (d : ℕ) → d < 16 → digit_spelled (digit_char d) ≡ Some d
-digit_back d h = by (nat_lt d 10) refl where
-  by : (t : Bool) → nat_lt d 10 ≡ t → digit_spelled (digit_char d) ≡ Some d
-  by true e =
-      let lt : d < 10 = ltb-true d 10 e in
-      let same : 48 + d - 48 ≡ d = omega arith in
-      ap digit_spelled (low_char d lt) ∙ digit_low (48 + d) (omega arith) (omega (arith, lt)) ∙ ap (λ (n : ℕ). Some n) same
-  by false e =
-      let le : 10 ≤ d = ltb-false d 10 e in
-      let same : 87 + d - 87 ≡ d = omega arith in
-      ap digit_spelled (high_char d le) ∙ digit_high (87 + d) (omega (arith, le)) (omega (arith, h)) ∙ ap (λ (n : ℕ). Some n) same
+digit_back d h = grind (arith, nat_tests)
 
 -- a digit that is read
 pub record IsDigitOf (b d : ℕ) : Type 0 where
@@ -144,24 +94,8 @@ pub record IsDigitOf (b d : ℕ) : Type 0 where
 some_same : (m n : ℕ) → Some m ≡ Some n → n ≡ m
 some_same m n e = cc
 
-digit_at : (b d base : ℕ) → digit_spelled b ≡ Some d → digit_spelled b ≡ Some (b - base) → b - base < 16 → digit_char (b - base) ≡ b → IsDigitOf b d
-digit_at b d base e f small char =
-    let is : d ≡ b - base = some_same (b - base) d (sym f ∙ e) in
-    record { small = omega (arith, is, small); char = sym (ap digit_char is ∙ char) }
-
-bounds : (low high b : ℕ) → (nat_le low b && nat_le b high) ≡ true → (low ≤ b) × (b ≤ high)
-bounds low high b e = let parts = and_parts (nat_le low b) (nat_le b high) e in (leb-true low b parts.0, leb-true b high parts.1)
-
 pub digit_is : (b d : ℕ) → digit_spelled b ≡ Some d → IsDigitOf b d
-digit_is b d e = by (is_digit b) (nat_le 97 b && nat_le b 102) refl refl where
-  by : (l h : Bool) → is_digit b ≡ l → (nat_le 97 b && nat_le b 102) ≡ h → IsDigitOf b d
-  by true h p q =
-      let (from, to) = bounds 48 57 b p in
-      digit_at b d 48 e (digit_low b from to) (omega arith) (low_char (b - 48) (omega arith) ∙ (omega arith))
-  by false true p q =
-      let (from, to) = bounds 97 102 b q in
-      digit_at b d 87 e (digit_high b from to) (omega arith) (high_char (b - 87) (omega arith) ∙ (omega arith))
-  by false false p q = let none : None ≡ Some d = sym (rw (p, q)) ∙ e in cc
+digit_is b d e = record { small = grind (arith, nat_tests); char = grind (arith, nat_tests) }
 
 pub byte_back : (v : ℕ) → v < 256 → byte_spelled (byte_text v) ≡ Some v
 byte_back v h = rw (digit_back (v / 16) (omega arith)) (ap (joined 16 (Some (v / 16))) (digit_back (v % 16) (omega arith)) ∙ ap (λ n. Some n) (omega arith))
@@ -220,13 +154,10 @@ abbrev pub lacks : ℕ → List ℕ → Bool
 lacks byte text = list_all (λ b. not (b == byte)) text
 
 char_up : (d : ℕ) → 48 ≤ digit_char d
-char_up d = by (nat_lt d 10) refl where
-  by : (t : Bool) → nat_lt d 10 ≡ t → 48 ≤ digit_char d
-  by true e = let same = low_char d (ltb-true d 10 e) in omega arith
-  by false e = let same = high_char d (ltb-false d 10 e) in omega arith
+char_up d = grind (arith, nat_tests)
 
 other : (b byte : ℕ) → byte < 48 → 48 ≤ b → not (b == byte) ≡ true
-other b byte h i = ap not (ne_eqb b byte (λ e. omega arith))
+other b byte h i = grind (arith, nat_tests)
 
 pub byte_lacks : (byte v : ℕ) → byte < 48 → lacks byte (byte_text v) ≡ true
 byte_lacks byte v h = rw (other (digit_char (v / 16)) byte h (char_up (v / 16)), other (digit_char (v % 16)) byte h (char_up (v % 16))) refl
