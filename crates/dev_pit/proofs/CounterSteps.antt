@@ -1,5 +1,5 @@
 -- Which steps of a counter leave its counting as it was.
-use Rattle.dev_pit.proofs.Facade.{arith, ℕ, Bool, true, false, Option, Some, None, refl, ◌∙◌, either, latched, status_latched, read_back, read_of, read_by, counted_of}
+use Rattle.dev_pit.proofs.Facade.{arith, ℕ, Bool, Option, Some, None, refl, ◌∙◌, either, latched, status_latched, read_back, read_of, read_by, counted_of}
 use Rattle.dev_pit.proofs.Facade.{counted_by, GoesOn, Counter, Access, LowThenHigh}
 
 pub same : (counter : Counter) → GoesOn counter counter

@@ -1,7 +1,7 @@
 -- A saved chip is restored as it was.
-use Rattle.dev_pit.proofs.{Chips.three_counters, Chips.each_of, RestoredLaw.pit-restored, Facade.Pit}
-use Rattle.dev_pit.proofs.Facade.{◌≡◌, ℕ, ◌^◌, ◌<◌, ◌≤◌, ◌==◌, Bool, true, false, Option, Some, None, Ok, List, [], ◌∷◌, ◌++◌, length, replicate, ℤ, pos, codes}
-use Rattle.dev_pit.proofs.Facade.{refl, ap, sym, subst, ◌∙◌, arith, nat_tests, nat_le, is_some, kinds_under, channel_rows, status_rows, STATUS_LATCHED}
+use Rattle.dev_pit.proofs.{Chips.three_counters, Chips.each_of, RestoredLaw.pit-restored}
+use Rattle.dev_pit.proofs.Facade.{Pit, ◌≡◌, ℕ, ◌^◌, ◌<◌, ◌≤◌, ◌==◌, Bool, true, false, Option, Some, None, Ok, List, [], ◌∷◌, ◌++◌, length, replicate, ℤ, pos}
+use Rattle.dev_pit.proofs.Facade.{codes, refl, ap, sym, subst, ◌∙◌, arith, nat_tests, nat_le, is_some, kinds_under, channel_rows, status_rows, STATUS_LATCHED}
 use Rattle.dev_pit.proofs.Facade.{STATUS_SINCE, Numbers, flag_number, flag_at, number_at, AreOf, IsLevel, MayRestore, first_failing, NEWEST, LAST_MOMENT}
 use Rattle.dev_pit.proofs.Facade.{of_none, of_more, of_both, byte, word, long, flag, flag-back, AllHold, one_holds, of_rows, carried_rows, AllTrue}
 use Rattle.dev_pit.proofs.Facade.{none_failing, all_true, judged-all, ok-hook, channel_kinds, kinds_of, named, named_statuses, channel_cells, status_cells}

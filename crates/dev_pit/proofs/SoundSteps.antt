@@ -126,8 +126,7 @@ held-below limit value (Some held) h l = h
 
 -- The status byte.
 pub flag-small : (b : Bool) → flag_number b ≤ 1
-flag-small true = omega arith
-flag-small false = omega arith
+flag-small b = grind arith
 
 status-byte : (counter : Counter) (now : ℕ) → status_of counter now < 2 ^ 8
 unfolding status_of

@@ -1,5 +1,5 @@
 -- The least capacity decides for all capacities that a number counts.
-use Rattle.vms_rules.proofs.Facade.{◌≡◌, ℕ, ◌<◌, List, ◌∷◌, length, get_or, Bool, true, false, Option, Some, None, ℤ, pos, refl, [], ◌&&◌, and_assoc}
+use Rattle.vms_rules.proofs.Facade.{arith, ◌≡◌, ℕ, ◌<◌, List, ◌∷◌, length, get_or, Bool, true, Option, Some, None, ℤ, pos, refl, [], ◌&&◌, and_assoc}
 use Rattle.vms_rules.proofs.Facade.{counted, int_le, counts_well, both_below, lesser, least_from, AreLeast, fits}
 use Rattle.vms_spec.specs.Sets.{Field}
 
@@ -8,8 +8,7 @@ fits_lesser (Some least) most (pos n) = both_below n least most
 fits_lesser _ most _ = refl
 
 and_true : (b : Bool) → b ≡ (b && true)
-and_true true = refl
-and_true false = refl
+and_true b = grind arith
 
 fits_all : (o : Option ℕ) (capacities : List ℕ) (z : ℤ) → fits (least_from o capacities) z ≡ (fits o z && counts_well capacities z)
 fits_all o [] z = and_true (fits o z)

@@ -1,5 +1,5 @@
 -- Names whose keys differ are distinct.
-use Rattle.vms_rules.proofs.Facade.{◌≡◌, ℕ, ◌+◌, ◌<◌, List, [], ◌∷◌, ◌++◌, append_assoc, append-nil, length, get_or, take, drop, map, Bool, true, false, refl}
+use Rattle.vms_rules.proofs.Facade.{arith, ◌≡◌, ℕ, ◌+◌, ◌<◌, List, [], ◌∷◌, ◌++◌, append_assoc, append-nil, length, get_or, take, drop, map, Bool, true, false, refl}
 use Rattle.vms_rules.proofs.Facade.{sym, ap, ◌∙◌, subst, not, ◌||◌, IsDistinct, AllByRecursion, IsStrictlyIncreasing, IsPermutation, nat_cmp, eq_by_cmp}
 use Rattle.vms_rules.proofs.Facade.{nat_cmp_total, bytes_eq, eq_by_cmp_equiv, take_more, map-append, take-map, take-append-drop, IsPermutation-sym}
 use Rattle.vms_rules.proofs.Facade.{IsDistinct-IsPermutation, IsDistinct-from_sorted, sorted_from_strictly_increasing, bytes_eq-Decides, all_names, are_new}
@@ -68,8 +68,7 @@ is_itself : (n : ℕ) → same n n ≡ false → ⊥
 is_itself n e = let r : same n n ≡ true = (eq_by_cmp_equiv nat_cmp_total).refl n in cc
 
 false_of : (b : Bool) → (b ≡ true → ⊥) → not b ≡ true
-false_of true h = absurd (h refl)
-false_of false h = refl
+false_of b h = grind arith
 
 new_to : (had : List ℕ → Bool) (names : List (List ℕ)) → ((n : List ℕ) → had n ≡ true → KeysApart n names) → IsDistinct same (map key names)
     → are_new_to had names ≡ true
