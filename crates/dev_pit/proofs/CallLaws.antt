@@ -1,12 +1,11 @@
 -- What calls leave unchanged in a counter.
+use Rattle.dev_pit.proofs.{Chips.at_counter, Chips.at_step, Edges.ticks-mono}
+use Rattle.dev_pit.proofs.CounterSteps.{same, goes-on, latched-goes_on, read_back-goes_on, read-goes_on}
 use Rattle.dev_pit.proofs.Facade.{◌≡◌, ℕ, ◌+◌, ◌-◌, ◌<◌, ◌≤◌, ◌==◌, Bool, true, false, ◌&&◌, Option, Some, None, refl, arith, ⊎_elim, nat_tests, nat_le}
 use Rattle.dev_pit.proofs.Facade.{is_some, cases_Bool, reads, writes, called, programs, sets_mode_of, loads, completes, control_word, out_at, ticks, out_of}
 use Rattle.dev_pit.proofs.Facade.{out_since, written, read_back, written_by, written_low_first, read_of, latched, GoesOn, CountingGoesOn, TerminalCountStays}
 use Rattle.dev_pit.proofs.Facade.{counter_of, pit_read, pit_out, asked_back, controlled, pit_written, ControlWord, LatchCount, SetMode, ReadBack, Counter}
-use Rattle.dev_pit.proofs.Facade.{READ_BACK_LEVEL, Access, LowByte, HighByte, LowThenHigh, TerminalCount, Pit, either}
-use Rattle.dev_pit.proofs.Chips.{at_counter, at_step}
-use Rattle.dev_pit.proofs.CounterSteps.{same, goes-on, latched-goes_on, read_back-goes_on, read-goes_on}
-use Rattle.dev_pit.proofs.Edges.{ticks-mono}
+use Rattle.dev_pit.proofs.Facade.{READ_BACK_LEVEL, Access, LowThenHigh, TerminalCount, Pit, either}
 
 asked-go_on : (count status : Bool) (j k now : ℕ) (before : Counter) (pit : Pit) → GoesOn before (counter_of k pit)
     → GoesOn before (counter_of k (asked_back count status j now pit))
@@ -24,8 +23,7 @@ control-goes_on (SetMode j access mode bcd) k now pit e =
     at_counter (GoesOn (counter_of k pit)) k j _ pit (λ here. absurd (grind (arith, nat_tests))) (same (counter_of k pit))
 control-goes_on (ReadBack count status first second third) k now pit e =
     either (λ (p : Pit). GoesOn (counter_of k pit) (counter_of k p)) (nat_le READ_BACK_LEVEL pit.level) _ pit
-    (asked-go_on _ _ 2 k now _ _ (asked-go_on _ _ 1 k now _ _ (asked-go_on _ _ 0 k now _ pit (same (counter_of k pit)))))
-    (same (counter_of k pit))
+    (asked-go_on _ _ 2 k now _ _ (asked-go_on _ _ 1 k now _ _ (asked-go_on _ _ 0 k now _ pit (same (counter_of k pit))))) (same (counter_of k pit))
 
 -- A byte that doesn't complete a count leaves the counter counting.
 first-goes_on : (held : Option ℕ) (value now : ℕ) (counter : Counter) → is_some held ≡ false → GoesOn counter (written_low_first held value now counter)
@@ -48,8 +46,7 @@ unfolding pit_written
 write-goes_on k now port value pit h c programs loads =
     ⊎_elim (λ control. rw control (control-goes_on (control_word value) k now pit (rw control at programs)))
     (λ data_port. rw data_port (at_step (GoesOn (counter_of k pit)) k (port - 0x40) (written value now) pit
-    (λ here. written-goes_on value now (counter_of k pit) (completing port k _ c.0 here loads)) (same (counter_of k pit))))
-    (cases_Bool (port == 0x43))
+    (λ here. written-goes_on value now (counter_of k pit) (completing port k _ c.0 here loads)) (same (counter_of k pit)))) (cases_Bool (port == 0x43))
 
 pub counting_goes_on : CountingGoesOn
 unfolding called programs loads pit_read

@@ -28,10 +28,7 @@ count-with j counter pit = length-set pit.counters j counter
 pub three_counters : (xs : List Counter) (default : Counter) → length xs ≡ 3
     → slice_index_or xs 0 default ∷ slice_index_or xs 1 default ∷ slice_index_or xs 2 default ∷ [] ≡ xs
 three_counters (a ∷ b ∷ c ∷ []) default e = refl
-three_counters [] default e = absurd (omega arith)
-three_counters (a ∷ []) default e = absurd (omega arith)
-three_counters (a ∷ b ∷ []) default e = absurd (omega arith)
-three_counters (a ∷ b ∷ c ∷ d ∷ xs) default e = absurd (omega arith)
+three_counters _ default e = absurd (omega arith)
 
 -- A fact of each of three.
 pub each_of : (P : ℕ → Type 0) → P 0 → P 1 → P 2 → (k : ℕ) → k < 3 → P k

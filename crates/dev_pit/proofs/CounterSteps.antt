@@ -1,6 +1,6 @@
 -- Which steps of a counter leave its counting as it was.
-use Rattle.dev_pit.proofs.Facade.{ℕ, Bool, true, false, Option, Some, None, refl, ◌∙◌, either, latched, status_latched, read_back, read_of, read_by, counted_of}
-use Rattle.dev_pit.proofs.Facade.{counted_by, GoesOn, Counter, Access, LowByte, HighByte, LowThenHigh}
+use Rattle.dev_pit.proofs.Facade.{arith, ℕ, Bool, Option, Some, None, refl, ◌∙◌, either, latched, status_latched, read_back, read_of, read_by, counted_of}
+use Rattle.dev_pit.proofs.Facade.{counted_by, GoesOn, Counter, Access, LowThenHigh}
 
 pub same : (counter : Counter) → GoesOn counter counter
 same counter = record { count = refl; mode = refl; loaded_at = refl }
@@ -18,10 +18,7 @@ status_latched-goes_on now counter = record { count = refl; mode = refl; loaded_
 
 pub read_back-goes_on : (count status : Bool) (now : ℕ) (counter : Counter) → GoesOn counter (read_back count status now counter)
 unfolding read_back latched status_latched
-read_back-goes_on true true now counter = record { count = refl; mode = refl; loaded_at = refl }
-read_back-goes_on true false now counter = record { count = refl; mode = refl; loaded_at = refl }
-read_back-goes_on false true now counter = record { count = refl; mode = refl; loaded_at = refl }
-read_back-goes_on false false now counter = record { count = refl; mode = refl; loaded_at = refl }
+read_back-goes_on count status now counter = record { count = grind arith; mode = grind arith; loaded_at = grind arith }
 
 -- A counter that counts on, as the second part of an answer.
 record Goes (before : Counter) (answer : ℕ × Counter) : Type 0 where

@@ -1,9 +1,8 @@
 -- An edge is a tick at which OUT turns high.
+use Rattle.dev_pit.proofs.{Facade.SoftwareStrobe, Facade.HardwareStrobe, Edges.period-pos, Edges.period-two}
 use Rattle.dev_pit.proofs.Facade.{◌≡◌, ℕ, ◌+◌, ◌-◌, ◌*◌, ◌/◌, ◌%◌, ◌<◌, ◌≤◌, ◌==◌, true, false, not, ◌&&◌, Option, Some, None, refl, arith, subst, sym, ⊎_elim}
 use Rattle.dev_pit.proofs.Facade.{cases_lt, cases_Bool, nat_tests, div-mul-le_self, div-lt_iff_lt-mul, le-div, mod-mul-add, div-add-mod', nat_lt, nat_le, rises}
 use Rattle.dev_pit.proofs.Facade.{out_at, period, high_part, ticks, edge_of, edge_since, EdgeTurnsHigh, Mode, TerminalCount, OneShot, RateGenerator, SquareWave}
-use Rattle.dev_pit.proofs.Facade.{SoftwareStrobe, HardwareStrobe}
-use Rattle.dev_pit.proofs.Edges.{period-pos, period-two}
 
 -- OUT is low after tick - 1 ticks and high after tick, for some tick of the span
 record Turns (mode : Mode) (count before after : ℕ) : Type 0 where
@@ -114,8 +113,7 @@ square-grown count before after one t =
 
 -- For a count of 1, OUT is high at each tick.
 no_turns : (mode : Mode) (count before after : ℕ) → ((k : ℕ) → out_at mode count k ≡ true) → Turns mode count before after → ⊥
-no_turns mode count before after high t =
-    let e = high (t.tick - 1) in let l = t.low in cc
+no_turns mode count before after high t = let e = high (t.tick - 1) in let l = t.low in cc
 
 rate-one : (count k : ℕ) → (count == 1) ≡ true → out_at RateGenerator count k ≡ true
 unfolding out_at
@@ -187,12 +185,10 @@ rises-from_turns TerminalCount count before after t = terminal-rises count befor
 rises-from_turns OneShot count before after t = absurd (no_turns OneShot count before after (λ k. refl) t)
 rises-from_turns RateGenerator count before after t =
     ⊎_elim (λ one. absurd (no_turns RateGenerator count before after (λ k. rate-one count k one) t))
-    (λ one. periodic-grown count _ _ one (rate-grown count before after one t))
-    (cases_Bool (count == 1))
+    (λ one. periodic-grown count _ _ one (rate-grown count before after one t)) (cases_Bool (count == 1))
 rises-from_turns SquareWave count before after t =
     ⊎_elim (λ one. absurd (no_turns SquareWave count before after (λ k. square-one count k one) t))
-    (λ one. periodic-grown count _ _ one (square-grown count before after one t))
-    (cases_Bool (count == 1))
+    (λ one. periodic-grown count _ _ one (square-grown count before after one t)) (cases_Bool (count == 1))
 rises-from_turns SoftwareStrobe count before after t = strobe-rises count before after t
 rises-from_turns HardwareStrobe count before after t = absurd (no_turns HardwareStrobe count before after (λ k. refl) t)
 

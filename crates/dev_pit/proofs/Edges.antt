@@ -1,7 +1,7 @@
 -- An edge in a span of time is one in a part of it.
-use Rattle.dev_pit.proofs.Facade.{◌≡◌, ℕ, ◌+◌, ◌/◌, ◌<◌, ◌≤◌, ◌==◌, Bool, true, false, not, ◌&&◌, ◌||◌, Option, Some, None, refl, arith, nat_tests, nat_lt}
+use Rattle.dev_pit.proofs.Facade.{◌≡◌, ℕ, ◌+◌, ◌/◌, ◌<◌, ◌≤◌, ◌==◌, Bool, false, not, ◌&&◌, ◌||◌, Option, Some, None, refl, arith, nat_tests, nat_lt}
 use Rattle.dev_pit.proofs.Facade.{nat_le, grown, quotient_mono, rises, ticks, period, edge_of, edge_since, TicksGoOn, SecondsHaveTicks, EdgeInParts, Mode}
-use Rattle.dev_pit.proofs.Facade.{TerminalCount, OneShot, RateGenerator, SquareWave, SoftwareStrobe, HardwareStrobe}
+use Rattle.dev_pit.proofs.Facade.{TerminalCount, RateGenerator, SquareWave, SoftwareStrobe}
 
 -- Ticks never go back.
 pub ticks-mono : (load now later : ℕ) → now ≤ later → ticks load now ≤ ticks load later
@@ -26,8 +26,7 @@ passed : (n a b c : ℕ) → a ≤ b → b ≤ c → (nat_lt a n && nat_le n c) 
 passed n a b c h l = grind (arith, nat_tests)
 
 both : (x u v w : Bool) → u ≡ (v || w) → (x && u) ≡ ((x && v) || (x && w))
-both true u v w e = e
-both false u v w e = refl
+both x u v w e = grind arith
 
 periods : (count a b c : ℕ) → a ≤ b → b ≤ c → (not (count == 1) && nat_lt (a / period count) (c / period count)) ≡ ((not (count == 1) && nat_lt (a / period count) (b / period count)) || (not (count == 1) && nat_lt (b / period count) (c / period count)))
 periods count a b c h l =

@@ -3,7 +3,7 @@ use Rattle.dev_pit.proofs.Facade.{◌≡◌, ℕ, ◌-◌, ◌<◌, ◌≤◌, �
 use Rattle.dev_pit.proofs.Facade.{is_some, cases_Bool, Call, reads, writes, IsCall, called, programs, sets_mode_of, reads_latch, is_last, control_word, loaded}
 use Rattle.dev_pit.proofs.Facade.{written, written_by, written_low_first, read_of, read_by, counted_of, counted_by, latched, status_latched, read_back}
 use Rattle.dev_pit.proofs.Facade.{LatchStays, counter_of, pit_read, asked_back, controlled, pit_written, ControlWord, LatchCount, SetMode, ReadBack, Counter}
-use Rattle.dev_pit.proofs.Facade.{READ_BACK_LEVEL, Access, LowByte, HighByte, LowThenHigh, Pit, either}
+use Rattle.dev_pit.proofs.Facade.{READ_BACK_LEVEL, Access, LowThenHigh, Pit, either}
 use Rattle.dev_pit.proofs.Chips.{at_counter, at_step}
 
 -- A counter with this latched count.
@@ -70,10 +70,8 @@ asked-holds count status j k held now pit h =
 control-holds : (word : ControlWord) (k held now : ℕ) (pit : Pit) → sets_mode_of k word ≡ false → Holds held (counter_of k pit)
     → Holds held (counter_of k (controlled word now pit))
 unfolding controlled
-control-holds (LatchCount j) k held now pit e h =
-    at_step (Holds held) k j (latched now) pit (λ here. latched-holds held now (counter_of k pit) h) h
-control-holds (SetMode j access mode bcd) k held now pit e h =
-    at_counter (Holds held) k j _ pit (λ here. absurd (grind (arith, nat_tests))) h
+control-holds (LatchCount j) k held now pit e h = at_step (Holds held) k j (latched now) pit (λ here. latched-holds held now (counter_of k pit) h) h
+control-holds (SetMode j access mode bcd) k held now pit e h = at_counter (Holds held) k j _ pit (λ here. absurd (grind (arith, nat_tests))) h
 control-holds (ReadBack count status first second third) k held now pit e h =
     either (λ (p : Pit). Holds held (counter_of k p)) (nat_le READ_BACK_LEVEL pit.level) _ pit
     (asked-holds _ _ 2 k held now _ (asked-holds _ _ 1 k held now _ (asked-holds _ _ 0 k held now pit h))) h

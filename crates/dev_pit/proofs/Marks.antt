@@ -1,7 +1,7 @@
 -- OUT of a counter, and its edges, come again at the marked ticks.
 use Rattle.dev_pit.proofs.Facade.{◌≡◌, ℕ, ◌+◌, ◌-◌, ◌*◌, ◌/◌, ◌%◌, ◌<◌, ◌≤◌, ◌==◌, ◌⊎◌, inl, inr, Bool, true, false, not, ◌&&◌, ◌||◌, refl, ap, ◌∙◌, arith}
 use Rattle.dev_pit.proofs.Facade.{⊎_elim, cases_lt, nat_tests, div-add-mod', div-mul-add, mod-mul-add, mul-le-mul_right, nat_lt, quotient_mono, rises, out_at}
-use Rattle.dev_pit.proofs.Facade.{period, high_part, Mode, TerminalCount, OneShot, RateGenerator, SquareWave, SoftwareStrobe, HardwareStrobe, marks_of, Marks}
+use Rattle.dev_pit.proofs.Facade.{period, high_part, Mode, TerminalCount, RateGenerator, SquareWave, SoftwareStrobe, marks_of, Marks}
 use Rattle.dev_pit.proofs.Edges.{period-pos, period-two}
 
 -- a tick is another one, or one of the marks
@@ -38,8 +38,7 @@ marked-terminal count before k tick b l =
     (λ h. ⊎_elim
     (λ s. record { at = period count; is = inr (inl refl); from = omega arith; not_after = h; edge = grind (arith, nat_tests); out = grind (arith, nat_tests) })
     (λ s. itself l (grind (arith, nat_tests)) (grind (arith, nat_tests)))
-    (cases_lt k (period count)))
-    (cases_lt tick (period count))
+    (cases_lt k (period count))) (cases_lt tick (period count))
 
 marked-strobe : (count before k tick : ℕ) → before ≤ k → k ≤ tick → Marked SoftwareStrobe count (period count) before k tick
 unfolding rises out_at
@@ -54,12 +53,10 @@ marked-strobe count before k tick b l =
     (λ e. record { at = n; is = inr (inl refl); from = omega arith; not_after = h; edge = grind (arith, nat_tests); out = grind (arith, nat_tests) })
     (λ e. second (omega arith) e)
     (cases_lt tick (n + 1)))
-    (λ s. ⊎_elim
-    (λ e. ⊎_elim (λ f. itself l (grind (arith, nat_tests)) (grind (arith, nat_tests))) (λ f. second (omega arith) f) (cases_lt tick (n + 1)))
+    (λ s. ⊎_elim (λ e. ⊎_elim (λ f. itself l (grind (arith, nat_tests)) (grind (arith, nat_tests))) (λ f. second (omega arith) f) (cases_lt tick (n + 1)))
     (λ e. itself l (grind (arith, nat_tests)) (grind (arith, nat_tests)))
     (cases_lt k (n + 1)))
-    (cases_lt k n))
-    (cases_lt tick n)
+    (cases_lt k n)) (cases_lt tick n)
 
 -- ---- periods
 
@@ -84,8 +81,7 @@ record IsAt (n q r at : ℕ) : Type 0 where
   rest : at % n ≡ r
 
 place : (n q r at : ℕ) → r < n → at ≡ q * n + r → IsAt n q r at
-place n q r at h e =
-    record { quotient = ap (λ x. x / n) e ∙ div-mul-add q n r h; rest = ap (λ x. x % n) e ∙ mod-mul-add q n r h }
+place n q r at h e = record { quotient = ap (λ x. x / n) e ∙ div-mul-add q n r h; rest = ap (λ x. x % n) e ∙ mod-mul-add q n r h }
 
 -- the marks of the two modes with periods, of tick k
 module _ (count n before k tick : ℕ) (is_n : n ≡ period count) (b : before ≤ k) (l : k ≤ tick) where
@@ -173,8 +169,7 @@ module _ (count n before k tick : ℕ) (is_n : n ≡ period count) (b : before �
       ⊎_elim (λ h. ⊎_elim (λ f. rate-first two h f) (λ f. rate-again two h (omega arith)) (cases_lt (tick % n) (n - 1)))
       (λ h. let here : k / n ≡ tick / n = omega arith in
       ⊎_elim (λ f. rate-k here (omega (arith, div-add-mod' k n, div-add-mod' tick n, ap (λ q. q * n) here)) f) (λ f. rate-last here (omega arith))
-      (cases_lt (tick % n) (n - 1)))
-      (cases_lt (k / n) (tick / n))
+      (cases_lt (tick % n) (n - 1))) (cases_lt (k / n) (tick / n))
 
   -- a square wave, high below `high_part`
   square-k : k / n ≡ tick / n → nat_lt (k % n) (high_part n) ≡ nat_lt (tick % n) (high_part n) → Square
@@ -229,8 +224,7 @@ module _ (count n before k tick : ℕ) (is_n : n ≡ period count) (b : before �
       let rests : k % n ≤ tick % n = omega (arith, div-add-mod' k n, div-add-mod' tick n, ap (λ q. q * n) here) in
       ⊎_elim (λ f. square-k here (both_below _ _ _ (omega arith) f))
       (λ f. ⊎_elim (λ g. square-falls two here g f) (λ g. square-k here (none_below _ _ _ g f)) (cases_lt (k % n) high))
-      (cases_lt (tick % n) high))
-      (cases_lt (k / n) (tick / n))
+      (cases_lt (tick % n) high)) (cases_lt (k / n) (tick / n))
 
 periodic-rate : (one : Bool) (count before k tick : ℕ) → (count == 1) ≡ one → before ≤ k → k ≤ tick → Marked RateGenerator count (period count) before k tick
 periodic-rate true count before k tick e b l = flat-rate count (period count) before k tick e l

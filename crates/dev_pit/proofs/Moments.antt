@@ -2,7 +2,7 @@
 use Rattle.dev_pit.proofs.Facade.{◌≡◌, ℕ, ◌<◌, ◌≤◌, Bool, Option, Some, None, length, slice_index_or, subst, sym, ap, ◌∙◌, arith, nat_le, get_or_default}
 use Rattle.dev_pit.proofs.Facade.{LoadedBy, loaded, written, written_by, written_low_first, programmed, powered_on, read_of, read_back, latched, GoesOn}
 use Rattle.dev_pit.proofs.Facade.{IsLoadedBy, counter_of, with_counter, asked_back, controlled, ControlWord, LatchCount, SetMode, ReadBack, Counter}
-use Rattle.dev_pit.proofs.Facade.{READ_BACK_LEVEL, Access, LowByte, HighByte, LowThenHigh, Mode, Pit, either}
+use Rattle.dev_pit.proofs.Facade.{READ_BACK_LEVEL, Access, LowThenHigh, Mode, Pit, either}
 use Rattle.dev_pit.proofs.Chips.{at_counter, at_step}
 use Rattle.dev_pit.proofs.CounterSteps.{read-goes_on, latched-goes_on, read_back-goes_on}
 
@@ -50,17 +50,14 @@ step-loaded now j step pit keeps h k within =
 -- The whole chip.
 asked_loaded : (count status : Bool) (k now : ℕ) (pit : Pit) → IsLoadedBy now pit → IsLoadedBy now (asked_back count status k now pit)
 unfolding asked_back
-asked_loaded count status k now pit h =
-    step-loaded now k (read_back count status now) pit (λ c. goes_on-loaded now c _ (read_back-goes_on _ _ now c)) h
+asked_loaded count status k now pit h = step-loaded now k (read_back count status now) pit (λ c. goes_on-loaded now c _ (read_back-goes_on _ _ now c)) h
 
 controlled-loaded : (word : ControlWord) (now : ℕ) (pit : Pit) → IsLoadedBy now pit → IsLoadedBy now (controlled word now pit)
 unfolding controlled
 controlled-loaded (LatchCount k) now pit h = step-loaded now k (latched now) pit (λ c. goes_on-loaded now c _ (latched-goes_on now c)) h
-controlled-loaded (SetMode k access mode bcd) now pit h =
-    with-loaded now k _ pit h (programmed-loaded access mode bcd now (counter_of k pit))
+controlled-loaded (SetMode k access mode bcd) now pit h = with-loaded now k _ pit h (programmed-loaded access mode bcd now (counter_of k pit))
 controlled-loaded (ReadBack count status first second third) now pit h =
-    either (IsLoadedBy now) (nat_le READ_BACK_LEVEL pit.level) _ _
-    (asked_loaded _ _ 2 now _ (asked_loaded _ _ 1 now _ (asked_loaded _ _ 0 now pit h))) h
+    either (IsLoadedBy now) (nat_le READ_BACK_LEVEL pit.level) _ _ (asked_loaded _ _ 2 now _ (asked_loaded _ _ 1 now _ (asked_loaded _ _ 0 now pit h))) h
 
 pub pit-later : (now later : ℕ) (pit : Pit) → IsLoadedBy now pit → now ≤ later → IsLoadedBy later pit
 pit-later now later pit h l k within = loaded_by-later (counter_of k pit).loaded_at now later (h k within) l

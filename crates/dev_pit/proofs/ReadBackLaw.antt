@@ -17,8 +17,7 @@ none-asked count status first second third now pit e = rw e refl
 asked : (count status first second third : Bool) (now : ℕ) (pit : Pit) → 2 ≤ pit.level
     → controlled (ReadBack count status first second third) now pit ≡ all-asked count status first second third now pit
 unfolding controlled
-asked count status first second third now pit h =
-    let has : nat_le READ_BACK_LEVEL pit.level ≡ true = grind (arith, nat_tests) in rw has
+asked count status first second third now pit h = let has : nat_le READ_BACK_LEVEL pit.level ≡ true = grind (arith, nat_tests) in rw has
 
 unlatched : (latched zero : Bool) → ((latched || zero) && not latched) ≡ true → latched ≡ false
 unlatched false zero h = refl

@@ -1,14 +1,13 @@
 -- A restored chip is sound.
-use Rattle.dev_pit.proofs.Facade.{◌≡◌, ℕ, ◌+◌, ◌<◌, List, ◌++◌, ℤ, arith, subst, ◌∙◌, ◌^◌, ◌≤◌, ◌==◌, Bool, true, false, not, ◌&&◌, Ok, ◌∷◌, slice_index_or}
-use Rattle.dev_pit.proofs.Facade.{refl, ⊎_elim, ◌||◌, [], get_or-append, get_or-append-add, nat_tests, nat_le, and_parts, cases_Bool, InRange, Kind, U8, U16}
-use Rattle.dev_pit.proofs.Facade.{U64, kinds_under, status_rows, CHANNEL_CELLS, COUNT, LOAD_TIME, WLOW, LATCH, cell_at, kind_at, NEWEST, LAST_MOMENT}
-use Rattle.dev_pit.proofs.Facade.{channel_kinds, channel_place, latched_place, status_place, IsChannelAt, IsPitCells, channel_at, IsLevel, number-lt, AllTrue}
-use Rattle.dev_pit.proofs.Facade.{judged-ok, hook-ok, held_if, counter_from, moment_holds, status_holds, toggles_hold, LoadedBy, powered_on, RestoredIsSound}
-use Rattle.dev_pit.proofs.Facade.{access_of, three_hold, pit_of, restored_pit, HeldBelow, IsSoundCounter, IsSoundPit, Channel, READ_BACK_LEVEL, Access, LowByte}
-use Rattle.dev_pit.proofs.Facade.{HighByte, LowThenHigh, Pit}
-use Rattle.dev_pit.proofs.Chips.{each_of}
-use Rattle.dev_pit.specs.Saved.{rules}
+use Rattle.dev_pit.proofs.{Facade.Access, Facade.LowByte, Chips.each_of}
+use Rattle.dev_pit.proofs.Facade.{HighByte, LowThenHigh, Pit, ◌≡◌, ℕ, ◌+◌, ◌<◌, List, ◌++◌, ℤ, arith, subst, ◌∙◌, ◌^◌, ◌≤◌, ◌==◌, Bool, true, false, not, ◌&&◌}
+use Rattle.dev_pit.proofs.Facade.{Ok, ◌∷◌, slice_index_or, refl, ⊎_elim, ◌||◌, [], get_or-append, get_or-append-add, nat_tests, nat_le, and_parts, cases_Bool}
+use Rattle.dev_pit.proofs.Facade.{InRange, Kind, U8, U16, U64, kinds_under, status_rows, CHANNEL_CELLS, COUNT, LOAD_TIME, WLOW, LATCH, cell_at, kind_at, NEWEST}
+use Rattle.dev_pit.proofs.Facade.{LAST_MOMENT, channel_kinds, channel_place, latched_place, status_place, IsChannelAt, IsPitCells, channel_at, IsLevel}
+use Rattle.dev_pit.proofs.Facade.{number-lt, AllTrue, judged-ok, hook-ok, held_if, counter_from, moment_holds, status_holds, toggles_hold, LoadedBy, powered_on}
+use Rattle.dev_pit.proofs.Facade.{RestoredIsSound, access_of, three_hold, pit_of, restored_pit, HeldBelow, IsSoundCounter, IsSoundPit, Channel, READ_BACK_LEVEL}
 use Rattle.dev_pit.proofs.SoundSteps.{PlainSound, StatusFits, TogglesFit, sound-from_plain}
+use Rattle.dev_pit.specs.{Saved.rules}
 
 -- ---- normal cells are those of three channels
 
@@ -103,8 +102,7 @@ if-toggles : (rw_number : ℕ) (read_high held : Bool) (n : ℕ) → ((rw_number
     → TogglesFit (access_of rw_number) read_high (held_if held n)
 if-toggles rw_number read_high held n h =
     ⊎_elim (λ e. let both : TogglesFit LowThenHigh read_high (held_if held n) = tt in rw (three rw_number e) both)
-    (λ e. let rest : (not read_high && not held) ≡ true = rw e at h in halves (access_of rw_number) read_high held n rest)
-    (cases_Bool (rw_number == 3))
+    (λ e. let rest : (not read_high && not held) ≡ true = rw e at h in halves (access_of rw_number) read_high held n rest) (cases_Bool (rw_number == 3))
 
 counter-sound : (level now : ℕ) (channel : Channel) → HasRanges channel → moment_holds now channel ≡ true → status_holds level channel ≡ true
     → toggles_hold channel ≡ true → PlainSound level now (counter_from channel)

@@ -1,18 +1,16 @@
 -- A saved chip is restored as it was.
-use Rattle.dev_pit.proofs.Facade.{◌≡◌, ℕ, ◌^◌, ◌<◌, ◌≤◌, ◌==◌, Bool, true, false, Option, Some, None, Ok, List, [], ◌∷◌, ◌++◌, length, replicate, ℤ, pos, codes}
-use Rattle.dev_pit.proofs.Facade.{refl, ap, sym, subst, ◌∙◌, arith, nat_tests, nat_le, is_some, kinds_under, channel_rows, status_rows, STATUS_LATCHED}
+use Rattle.dev_pit.proofs.{Chips.three_counters, Chips.each_of, RestoredLaw.pit-restored}
+use Rattle.dev_pit.proofs.Facade.{Pit, ◌≡◌, ℕ, ◌^◌, ◌<◌, ◌≤◌, ◌==◌, Bool, true, false, Option, Some, None, Ok, List, [], ◌∷◌, ◌++◌, length, replicate, ℤ, pos}
+use Rattle.dev_pit.proofs.Facade.{codes, refl, ap, sym, subst, ◌∙◌, arith, nat_tests, nat_le, is_some, kinds_under, channel_rows, status_rows, STATUS_LATCHED}
 use Rattle.dev_pit.proofs.Facade.{STATUS_SINCE, Numbers, flag_number, flag_at, number_at, AreOf, IsLevel, MayRestore, first_failing, NEWEST, LAST_MOMENT}
 use Rattle.dev_pit.proofs.Facade.{of_none, of_more, of_both, byte, word, long, flag, flag-back, AllHold, one_holds, of_rows, carried_rows, AllTrue}
 use Rattle.dev_pit.proofs.Facade.{none_failing, all_true, judged-all, ok-hook, channel_kinds, kinds_of, named, named_statuses, channel_cells, status_cells}
 use Rattle.dev_pit.proofs.Facade.{three_cells, channel_in, pit_cells, carried, field_place, channel_at, HasDefault, AreCellsOf, IsPitCells, held_if, channel_of}
 use Rattle.dev_pit.proofs.Facade.{counter_from, registers_hold, moment_holds, status_holds, toggles_hold, held_or, powered_on, SoundMeetsRules, SavedAreCells}
 use Rattle.dev_pit.proofs.Facade.{SavedIsRestored, mode_number, mode_of, access_number, access_of, counter_of, CanSave, CanRestore, three_hold, pit_of}
-use Rattle.dev_pit.proofs.Facade.{restored_pit, hook_restored, HasWidths, IsSoundPit, Channel, Counter, READ_BACK_LEVEL, Access, LowByte, HighByte, LowThenHigh}
-use Rattle.dev_pit.proofs.Facade.{Mode, TerminalCount, OneShot, RateGenerator, SquareWave, SoftwareStrobe, HardwareStrobe, Pit}
-use Rattle.dev_pit.specs.Saved.{rules}
-use Rattle.dev_pit.proofs.Chips.{three_counters, each_of}
+use Rattle.dev_pit.proofs.Facade.{restored_pit, hook_restored, HasWidths, IsSoundPit, Channel, Counter, READ_BACK_LEVEL, Access, LowByte, Mode, TerminalCount}
 use Rattle.dev_pit.proofs.SoundSteps.{StatusFits, plain-from_sound, mode-small, access-small, held-below}
-use Rattle.dev_pit.proofs.RestoredLaw.{pit-restored}
+use Rattle.dev_pit.specs.{Saved.rules}
 
 mode-back : (mode : Mode) → mode_of (mode_number mode) ≡ mode
 mode-back TerminalCount = refl
@@ -46,8 +44,7 @@ third-back first second third = simp flag-back
 
 rule-saved : (rule : Channel → Bool) (first second third : Channel) → rule first ≡ true → rule second ≡ true → rule third ≡ true
     → three_hold rule (three_cells NEWEST first second third) ≡ true
-rule-saved rule first second third a b c =
-    rw (first-back first second third, second-back first second third, third-back first second third, a, b, c)
+rule-saved rule first second third a b c = rw (first-back first second third, second-back first second third, third-back first second third, a, b, c)
 
 pub pit_of-saved : (pit : Pit) → length pit.counters ≡ 3 → pit_of pit.level (pit_cells NEWEST pit) ≡ pit
 unfolding pit_of pit_cells
@@ -156,8 +153,7 @@ is_sound : (now : ℕ) (pit : Pit) → IsLevel pit.level → now ≤ LAST_MOMENT
 is_sound now pit l m three h =
     let restored =
     judged-all (rules pit.level now (pit_cells NEWEST pit)) (pit_of pit.level (pit_cells NEWEST pit))
-    (all_true (rules pit.level now (pit_cells NEWEST pit)) h.1)
-    ∙ ap Ok (pit_of-saved pit three) in
+    (all_true (rules pit.level now (pit_cells NEWEST pit)) h.1) ∙ ap Ok (pit_of-saved pit three) in
     (pit-restored pit.level now (pit_cells NEWEST pit) pit l m h.0 restored).0
 
 pub sound_meets_rules : SoundMeetsRules

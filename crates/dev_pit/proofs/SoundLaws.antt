@@ -48,14 +48,12 @@ pit_read-sound k now pit s = step-sound k now (λ c. (read_of now c).1) pit (rea
 asked-sound : (count status : Bool) (k now : ℕ) (pit : Pit) → READ_BACK_LEVEL ≤ pit.level → IsSoundPit now pit
     → IsSoundPit now (asked_back count status k now pit)
 unfolding asked_back
-asked-sound count status k now pit h s =
-    step-sound k now (read_back count status now) pit (λ c p. read_back-sound _ _ pit.level now c h p) s
+asked-sound count status k now pit h s = step-sound k now (read_back count status now) pit (λ c p. read_back-sound _ _ pit.level now c h p) s
 
 controlled-sound : (word : ControlWord) (now : ℕ) (pit : Pit) → IsSoundPit now pit → IsSoundPit now (controlled word now pit)
 unfolding controlled asked_back
 controlled-sound (LatchCount k) now pit s = step-sound k now (latched now) pit (latched-sound pit.level now) s
-controlled-sound (SetMode k access mode bcd) now pit s =
-    step-sound k now (programmed access mode bcd) pit (programmed-sound access mode bcd pit.level now) s
+controlled-sound (SetMode k access mode bcd) now pit s = step-sound k now (programmed access mode bcd) pit (programmed-sound access mode bcd pit.level now) s
 controlled-sound (ReadBack count status first second third) now pit s =
     ⊎_elim (λ e. let h : READ_BACK_LEVEL ≤ pit.level = grind (arith, nat_tests) in
     rw e (asked-sound _ _ 2 now _ h (asked-sound _ _ 1 now _ h (asked-sound _ _ 0 now pit h s)))) (λ e. rw e s)
@@ -90,14 +88,12 @@ HasLevel level pit = pit.level ≡ level
 
 controlled-level : (word : ControlWord) (now : ℕ) (pit : Pit) → HasLevel pit.level (controlled word now pit)
 unfolding controlled asked_back
-controlled-level (ReadBack count status first second third) now pit =
-    either (HasLevel pit.level) (nat_le READ_BACK_LEVEL pit.level) _ _ refl refl
+controlled-level (ReadBack count status first second third) now pit = either (HasLevel pit.level) (nat_le READ_BACK_LEVEL pit.level) _ _ refl refl
 controlled-level _ now pit = refl
 
 written-level : (port value now : ℕ) (pit : Pit) → HasLevel pit.level (pit_written port value now pit)
 unfolding pit_written
-written-level port value now pit =
-    either (HasLevel pit.level) (port == 0x43) _ _ (controlled-level (control_word value) now pit) refl
+written-level port value now pit = either (HasLevel pit.level) (port == 0x43) _ _ (controlled-level (control_word value) now pit) refl
 
 pub steps_keep_level : StepsKeepLevel
 steps_keep_level = record { power_on = new-level; read = read-level; write = written-level }

@@ -4,7 +4,7 @@ use Rattle.dev_pit.proofs.Facade.{le-leb, nat_tests, nat_le, is_some, nat_lt, ch
 use Rattle.dev_pit.proofs.Facade.{held_or, live_of, live_since, out_of, status_of, written, written_by, written_low_first, programmed, powered_on, read_of}
 use Rattle.dev_pit.proofs.Facade.{read_by, counted_of, counted_by, latched, status_latched, read_back, mode_number, access_number, HasWidths, IsSoundCounter}
 use Rattle.dev_pit.proofs.Facade.{HeldBelow, Counter, READ_BACK_LEVEL, Access, LowByte, HighByte, LowThenHigh, Mode, TerminalCount, OneShot, RateGenerator}
-use Rattle.dev_pit.proofs.Facade.{SquareWave, SoftwareStrobe, HardwareStrobe, flag_number, LAST_MOMENT, live_at, square, high_part, either}
+use Rattle.dev_pit.proofs.Facade.{SquareWave, HardwareStrobe, flag_number, LAST_MOMENT, live_at, square, high_part, either}
 use Rattle.dev_pit.specs.Counter.{loaded as loading}
 
 -- ---- what the rules say about a counter itself
@@ -126,8 +126,7 @@ held-below limit value (Some held) h l = h
 
 -- The status byte.
 pub flag-small : (b : Bool) → flag_number b ≤ 1
-flag-small true = omega arith
-flag-small false = omega arith
+flag-small b = grind arith
 
 status-byte : (counter : Counter) (now : ℕ) → status_of counter now < 2 ^ 8
 unfolding status_of
@@ -210,8 +209,7 @@ loaded-sound count level now counter m c s = record {
 -- A counter of two bytes may hold one or not.
 holding : (level now : ℕ) (low : Option ℕ) (counter : Counter) → counter.access ≡ LowThenHigh → HeldBelow (2 ^ 8) low → PlainSound level now counter
     → PlainSound level now (record counter { held_low = low })
-holding level now low counter e h s =
-    changed s h s.widths.latch s.widths.status s.status (subst (λ a. TogglesFit a counter.read_high low) (sym e) tt)
+holding level now low counter e h s = changed s h s.widths.latch s.widths.status s.status (subst (λ a. TogglesFit a counter.read_high low) (sym e) tt)
 
 first-sound : (low : Option ℕ) (value level now : ℕ) (counter : Counter) → now ≤ LAST_MOMENT → value < 256 → counter.access ≡ LowThenHigh
     → HeldBelow (2 ^ 8) low → PlainSound level now counter → PlainSound level now (written_low_first low value now counter)

@@ -1,8 +1,7 @@
 -- What OUT of a counter does after a moment, it has done by one of three.
+use Rattle.dev_pit.proofs.{Edges.ticks-mono, Marks.IsMark, Marks.Marked, Marks.marked}
 use Rattle.dev_pit.proofs.Facade.{◌≡◌, ℕ, ◌<◌, ◌≤◌, inl, inr, refl, ap, arith, ⊎_elim, Some, None, subst, cases_lt, period, ticks, marks_of, moment_of}
 use Rattle.dev_pit.proofs.Facade.{AreTurns, IsTurn, Turned, LoadedBy, edge_of, out_of, Counter, Turns}
-use Rattle.dev_pit.proofs.Edges.{ticks-mono}
-use Rattle.dev_pit.proofs.Marks.{IsMark, Marked, marked}
 
 -- ---- moments
 
@@ -27,8 +26,7 @@ turns_since load counter base =
 -- of a counter that isn't loaded, OUT stays
 pub stays_unloaded : (turns : Turns) (counter : Counter) (base : ℕ) → counter.loaded_at ≡ None → AreTurns turns counter base
 unfolding edge_of out_of
-stays_unloaded turns counter base e since to h b l =
-    record { at = base; is = inl refl; from = omega arith; upto = l; edge = rw e refl; out = rw e refl }
+stays_unloaded turns counter base e since to h b l = record { at = base; is = inl refl; from = omega arith; upto = l; edge = rw e refl; out = rw e refl }
 
 module _ (load : ℕ) (counter : Counter) (since base to : ℕ) (loaded : counter.loaded_at ≡ Some load) (b : since ≤ base) (l : base ≤ to) where
   abbrev Mark : Type 0
@@ -74,8 +72,7 @@ module _ (load : ℕ) (counter : Counter) (since base to : ℕ) (loaded : counte
         upto = l;
         edge = same-edge base m (omega arith);
         out = same-out base m (omega arith);
-      })
-      (cases_lt (ticks load base) m.at)
+      }) (cases_lt (ticks load base) m.at)
 
 pub turns_loaded : (load : ℕ) (counter : Counter) (base : ℕ) → counter.loaded_at ≡ Some load → AreTurns (turns_since load counter base) counter base
 turns_loaded load counter base e since to h b l =

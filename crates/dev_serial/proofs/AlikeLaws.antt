@@ -1,5 +1,5 @@
 -- Ports that are alike answer each call alike.
-use Rattle.dev_serial.proofs.Facade.{◌≡◌, ℕ, ℤ, Bool, true, false, not, ◌&&◌, cond, refl, pos, negsuc, ◌||◌, ◌==◌, Option, Some, None, sym, ap, ◌∙◌, int_eq}
+use Rattle.dev_serial.proofs.Facade.{arith, ◌≡◌, ℕ, ℤ, Bool, true, false, not, ◌&&◌, cond, refl, pos, negsuc, ◌||◌, ◌==◌, Option, Some, None, sym, ap, ◌∙◌, int_eq}
 use Rattle.dev_serial.proofs.Facade.{bit_and, bit_or, is_some, nat_le, is_empty, lsr_of, iir_of, read_of, id_read, thr_written, ier_written, switch_of}
 use Rattle.dev_serial.proofs.Facade.{fcr_cleared, fcr_written, receiver_cleared, transmitter_cleared, written, came_in, advanced, has, bits_where, ipending_of}
 use Rattle.dev_serial.proofs.Facade.{latch_of, saved, Port, id_number, is_thr_empty, interrupt, line_of, Interrupt, LineStatus, ReceivedData, CharacterTimeout}
@@ -20,22 +20,8 @@ pub record IsStatus (lsr : ℕ) (ready overrun empty idle : Bool) : Type 0 where
   pub mask : bit_and lsr 0x63 ≡ lsr
 
 pub status : (ready overrun empty idle : Bool) → IsStatus (status_of ready overrun empty idle) ready overrun empty idle
-status true true true true = search
-status true true true false = search
-status true true false true = search
-status true true false false = search
-status true false true true = search
-status true false true false = search
-status true false false true = search
-status true false false false = search
-status false true true true = search
-status false true true false = search
-status false true false true = search
-status false true false false = search
-status false false true true = search
-status false false true false = search
-status false false false true = search
-status false false false false = search
+status ready overrun empty idle =
+    record { ready_bit = grind arith; overrun_bit = grind arith; empty_bit = grind arith; idle_bit = grind arith; mask = grind arith }
 
 -- the line status of a port
 pub lsr-status : (port : Port) → IsStatus (lsr_of port) (not (is_empty port.receiver.held)) port.receiver.overrun (is_empty port.transmitter.waiting) (is_empty port.transmitter.waiting && not (is_some port.transmitter.shift))
@@ -62,22 +48,8 @@ pub record IsLatchBack (status ready timeout enabled latch : Bool) : Type 0 wher
   pub known : (int_eq (ipending_at status ready timeout enabled latch) (negsuc 0) || (int_eq (ipending_at status ready timeout enabled latch) (pos 0) || int_eq (ipending_at status ready timeout enabled latch) (pos 1))) ≡ true
 
 pub latch_comes_back : (status ready timeout enabled latch : Bool) → IsLatchBack status ready timeout enabled latch
-latch_comes_back true ready timeout true true = search
-latch_comes_back true ready timeout true false = search
-latch_comes_back true ready timeout false true = search
-latch_comes_back true ready timeout false false = search
-latch_comes_back false true timeout true true = search
-latch_comes_back false true timeout true false = search
-latch_comes_back false true timeout false true = search
-latch_comes_back false true timeout false false = search
-latch_comes_back false false true true true = search
-latch_comes_back false false true true false = search
-latch_comes_back false false true false true = search
-latch_comes_back false false true false false = search
-latch_comes_back false false false true true = search
-latch_comes_back false false false true false = search
-latch_comes_back false false false false true = search
-latch_comes_back false false false false false = search
+latch_comes_back status ready timeout enabled latch =
+    record { same_id = grind arith; while_enabled = grind arith; was_set = grind arith; known = grind arith }
 
 -- ---- calls
 
@@ -120,15 +92,11 @@ module _ (port : Port) (latch : Bool) (h : has port.ier 1 ≡ true → latch ≡
   id-alike : (now : ℕ) → AnswersAlike (id_read now port) (id_read now other)
   unfolding iir_of
   id-alike now = rw (same_interrupt now)
-      (record { value = refl; alike = record { same = refl; enabled = λ e. ap (λ b. cond (is_thr_empty (interrupt now port)) false b) (h e) } })
+      (record { value = refl; alike = record { same = refl; enabled = λ e. rw (h e) } })
 
   same_saved : (set now : ℕ) → saved set now other ≡ saved set now port
   unfolding saved lsr_of
-  same_saved set now =
-      let identified = is_thr_empty (interrupt now port) in
-      ap (λ (i : Interrupt). record (saved set now port) { iir = id_number i; thr_ipending = ipending_of (has port.ier 1) latch (is_thr_empty i) })
-      (same_interrupt now)
-      ∙ ap (λ (z : ℤ). record (saved set now port) { thr_ipending = z }) (same_ipending (has port.ier 1) identified port.thr_empty latch h)
+  same_saved set now = rw (same_interrupt now, same_ipending (has port.ier 1) (is_thr_empty (interrupt now port)) port.thr_empty latch h)
 
   -- an answer that is the same, with the port as it was
   kept : (answer : ℕ) → AnswersAlike (answer, port) (answer, other)
@@ -193,7 +161,7 @@ module _ (port : Port) (latch : Bool) (h : has port.ier 1 ≡ true → latch ≡
   advance-alike to =
       let left = run_until (character_time port.divisor port.lcr) to port.transmitter.shift port.transmitter.waiting in
       let emptied = is_empty left.waiting && not (is_empty port.transmitter.waiting) in
-      record { value = refl; alike = record { same = refl; enabled = λ e. ap (λ b. cond emptied true b) (h e) } }
+      record { value = refl; alike = record { same = refl; enabled = λ e. rw (h e) } }
 
 pub reads_alike : ReadsAlike
 reads_alike offset now port other a = rw a.same (read-alike port other.thr_empty a.enabled offset now)
@@ -223,7 +191,4 @@ alike_back port other a =
     record { same = ap (λ (p : Port). record p { thr_empty = port.thr_empty }) (sym a.same); enabled = enabled }
 
 pub alike_on : AlikeOn
-alike_on port _ third a b = record {
-  same = cc;
-  enabled = λ e. b.enabled (ap (λ (p : Port). has p.ier 1) a.same ∙ e) ∙ a.enabled e;
-}
+alike_on port _ third a b = record { same = cc; enabled = λ e. b.enabled (rw (a.same) (e)) ∙ a.enabled e }

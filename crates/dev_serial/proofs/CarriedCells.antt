@@ -1,11 +1,9 @@
 -- Saved cells, carried to the newest set, are restored as a port like the saved one.
-use Rattle.dev_serial.proofs.Facade.{◌≡◌, ℕ, ◌<◌, ◌≤◌, true, false, cond, List, ◌∷◌, map, replicate, pos, refl, ap, arith, length, take, drop, Option, Some, []}
-use Rattle.dev_serial.proofs.Facade.{None, ◌&&◌, not, Ok, nat_le, is_some, leb-true, and_parts, nat_tests, serial_rows, AllLack, none_lacks, carried_rows}
-use Rattle.dev_serial.proofs.Facade.{named, cells_of, carried, numbers_of, NEWEST, LAST_MOMENT, is_empty, SavedComesBack, Port, saved, fifo_bytes, in_array}
-use Rattle.dev_serial.proofs.Facade.{in_ring, fcr_number, moment_number, IsSound, IsTimeout, Alike, padded, Trigger, Numbers, hook_result, CanSave, CanRestore}
-use Rattle.dev_serial.proofs.Facade.{cells_at, hook_restored}
-use Rattle.dev_serial.proofs.SavedLaw.{restored-saved}
-use Rattle.dev_serial.proofs.SavedCells.{holds, in-ranges, newest-cells}
+use Rattle.dev_serial.proofs.{SavedLaw.restored-saved, SavedCells.holds, SavedCells.in-ranges, SavedCells.newest-cells}
+use Rattle.dev_serial.proofs.Facade.{cells_at, hook_restored, ◌≡◌, ℕ, ◌<◌, ◌≤◌, true, false, cond, List, ◌∷◌, map, replicate, pos, refl, arith, length, take}
+use Rattle.dev_serial.proofs.Facade.{drop, Option, Some, [], None, ◌&&◌, not, Ok, nat_le, is_some, leb-true, and_parts, nat_tests, serial_rows, AllLack}
+use Rattle.dev_serial.proofs.Facade.{none_lacks, carried_rows, named, cells_of, carried, numbers_of, NEWEST, LAST_MOMENT, is_empty, SavedComesBack, Port, saved}
+use Rattle.dev_serial.proofs.Facade.{fifo_bytes, in_array, in_ring, IsSound, IsTimeout, Alike, padded, Trigger, Numbers, hook_result, CanSave, CanRestore}
 
 -- ---- cells carried to the newest set
 
@@ -42,10 +40,10 @@ module _ (set now : ℕ) (port : Port) (early : now ≤ LAST_MOMENT) (s : IsSoun
 
   -- no bytes
   no_bytes : (bytes : List ℕ) → bytes ≡ [] → map pos (padded bytes) ≡ replicate 16 (pos 0)
-  no_bytes bytes e = ap (λ (l : List ℕ). map pos (padded l)) e
+  no_bytes bytes e = rw e
 
   no_count : (bytes : List ℕ) → bytes ≡ [] → (pos (length bytes) ∷ []) ≡ (pos 0 ∷ [])
-  no_count bytes e = ap (λ (l : List ℕ). pos (length l) ∷ []) e
+  no_count bytes e = rw e
 
   lacks : AllLack (named (saved set now port)) set serial_rows
   unfolding saved
@@ -54,7 +52,7 @@ module _ (set now : ℕ) (port : Port) (early : now ≤ LAST_MOMENT) (s : IsSoun
       let held = port.receiver.held in
       let waiting = port.transmitter.waiting in
       none_lacks n set (take 11 serial_rows) (drop 11 serial_rows) refl (
-        λ e. ap (λ (fifos : Option Trigger). pos (fcr_number fifos) ∷ []) (off e),
+        λ e. rw (off e),
         none_lacks n set (take 1 (drop 12 serial_rows)) (drop 13 serial_rows) refl (
           λ e. no_count _ (empty held e),
           (
@@ -64,7 +62,7 @@ module _ (set now : ℕ) (port : Port) (early : now ≤ LAST_MOMENT) (s : IsSoun
               (
                 λ e. no_bytes _ (empty waiting e),
                 (
-                  λ e. ap (λ (timeout : Option ℕ). pos (moment_number timeout) ∷ []) (no-timeout now port s (grind (arith, nat_tests))),
+                  λ e. rw (no-timeout now port s (grind (arith, nat_tests))),
                   (
                     λ e. no_bytes _ (no-ring held e),
                     (

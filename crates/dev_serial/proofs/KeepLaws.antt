@@ -1,13 +1,11 @@
 -- Each call keeps a port sound.
-use Rattle.dev_serial.proofs.Facade.{◌≡◌, ℕ, ◌+◌, ◌*◌, ◌<◌, ◌≤◌, ◌==◌, Bool, true, false, not, ◌&&◌, cond, Option, Some, None, refl, arith, ◌⊎◌, ◌/◌, ◌%◌, inl}
-use Rattle.dev_serial.proofs.Facade.{inr, cond_both, leb-true, nat_le, is_some, bit_and, and_le_r, and-false, is_empty, with_taken, read_of, id_read, lsr_read}
-use Rattle.dev_serial.proofs.Facade.{thr_written, ier_written, switch_of, fcr_cleared, fcr_written, receiver_cleared, transmitter_cleared, written, came_in}
-use Rattle.dev_serial.proofs.Facade.{advanced, has, character_time, received, taken, IsSound, HasRegisters, LONGEST_CHARACTER, either, PowerOnIsSound}
+use Rattle.dev_serial.proofs.{WaitLaws.character-positive, SoundLaws.latched-sound, SoundLaws.cleared-sound}
+use Rattle.dev_serial.proofs.Facade.{Trigger, ◌≡◌, ℕ, ◌+◌, ◌*◌, ◌<◌, ◌≤◌, ◌==◌, Bool, true, false, not, ◌&&◌, cond, Option, Some, None, refl, arith, ◌⊎◌, ◌/◌}
+use Rattle.dev_serial.proofs.Facade.{◌%◌, inl, inr, cond_both, leb-true, nat_le, is_some, bit_and, and_le_r, and-false, is_empty, with_taken, read_of, id_read}
+use Rattle.dev_serial.proofs.Facade.{lsr_read, thr_written, ier_written, switch_of, fcr_cleared, fcr_written, receiver_cleared, transmitter_cleared, written}
+use Rattle.dev_serial.proofs.Facade.{came_in, advanced, has, character_time, received, taken, IsSound, HasRegisters, LONGEST_CHARACTER, either, PowerOnIsSound}
 use Rattle.dev_serial.proofs.Facade.{ReadsKeepSound, WritesKeepSound, BytesInKeepSound, AdvancesKeepSound, Port, power_on, mode_of, interrupt, is_thr_empty}
-use Rattle.dev_serial.proofs.Facade.{Trigger}
-use Rattle.dev_serial.proofs.WaitLaws.{character-positive}
-use Rattle.dev_serial.proofs.SoundLaws.{character-longest, received-sound, taken-held, emptied-sound, thr-sound, latched-sound, cleared-sound}
-use Rattle.dev_serial.proofs.SoundLaws.{advance-transmitter, advance-receiver}
+use Rattle.dev_serial.proofs.SoundLaws.{advance-transmitter, advance-receiver, character-longest, received-sound, taken-held, emptied-sound, thr-sound}
 
 pub power_on_is_sound : PowerOnIsSound
 unfolding power_on

@@ -1,8 +1,7 @@
 -- The divisor latch, and the modem status in loop mode.
+use Rattle.dev_serial.proofs.{Facade.LoopsModem, RegisterLaws.switch_stays}
 use Rattle.dev_serial.proofs.Facade.{◌≡◌, ℕ, ◌+◌, ◌*◌, ◌/◌, ◌%◌, ◌<◌, ◌==◌, Bool, true, false, if◌then◌else◌, refl, arith, nat_le, bit_or, has, bits_where}
 use Rattle.dev_serial.proofs.Facade.{either, msr_of, read_of, thr_written, ier_written, switch_of, fcr_written, written, Port, ReachesDivisor, IsLooped}
-use Rattle.dev_serial.proofs.Facade.{LoopsModem}
-use Rattle.dev_serial.proofs.RegisterLaws.{switch_stays}
 
 -- ---- the divisor latch
 
@@ -77,22 +76,7 @@ record HasBits (rts dtr out1 out2 : Bool) (msr : ℕ) : Type 0 where
   changes : msr % 16 ≡ 0
 
 looped_of : (rts dtr out1 out2 : Bool) → HasBits rts dtr out1 out2 (status_by rts dtr out1 out2)
-looped_of true true true true = search
-looped_of true true true false = search
-looped_of true true false true = search
-looped_of true true false false = search
-looped_of true false true true = search
-looped_of true false true false = search
-looped_of true false false true = search
-looped_of true false false false = search
-looped_of false true true true = search
-looped_of false true true false = search
-looped_of false true false true = search
-looped_of false true false false = search
-looped_of false false true true = search
-looped_of false false true false = search
-looped_of false false false true = search
-looped_of false false false false = search
+looped_of rts dtr out1 out2 = record { cts = grind arith; dsr = grind arith; ri = grind arith; dcd = grind arith; changes = grind arith }
 
 msr_looped : (mcr : ℕ) → has mcr 4 ≡ true → msr_of mcr ≡ status_by (has mcr 1) (has mcr 0) (has mcr 2) (has mcr 3)
 unfolding msr_of
@@ -102,13 +86,7 @@ is_looped : (mcr : ℕ) → has mcr 4 ≡ true → IsLooped mcr (msr_of mcr)
 is_looped mcr loop =
     let bits = looped_of (has mcr 1) (has mcr 0) (has mcr 2) (has mcr 3) in
     let is = msr_looped mcr loop in
-    record {
-      cts = rw is bits.cts;
-      dsr = rw is bits.dsr;
-      ri = rw is bits.ri;
-      dcd = rw is bits.dcd;
-      changes = rw is bits.changes;
-    }
+    record { cts = rw is bits.cts; dsr = rw is bits.dsr; ri = rw is bits.ri; dcd = rw is bits.dcd; changes = rw is bits.changes }
 
 modem_read : (now : ℕ) (port : Port) → read_of 6 now port ≡ (msr_of port.mcr, port)
 unfolding read_of

@@ -1,12 +1,11 @@
 -- Recast cells are restored as the cells are.
-use Rattle.dev_serial.proofs.Facade.{◌≡◌, ℕ, ◌≤◌, ◌==◌, Bool, true, false, ◌&&◌, ◌||◌, if◌then◌else◌, List, [], ◌∷◌, length, refl, sym, ap, ◌∙◌, arith, ℤ}
-use Rattle.dev_serial.proofs.Facade.{ne_eqb, or_right, Numbers, judged, is_empty, numbers_of, port_of, stored_bytes, is_in_ring, array_for, ring_left}
-use Rattle.dev_serial.proofs.Facade.{recast_port, recast_cells, fcr_holds, id_holds, is_stored_once, is_unused, latch_holds, once_holds, registers_hold}
-use Rattle.dev_serial.proofs.Facade.{restored, rings_hold, rules, shift_holds, status_holds, timeout_holds, unused_hold, restored_cells, counted_bytes}
-use Rattle.dev_serial.proofs.Facade.{counted_of, ring_bytes, ring_holds, ring_of, PortNumbers, Counted, Ring}
-use Rattle.std.proofs.Common.{nat_lt}
-use Rattle.dev_serial.proofs.RecastLaws.{numbers_back}
+use Rattle.dev_serial.proofs.{Facade.ring_holds, Facade.ring_of, Facade.PortNumbers, Facade.Counted, Facade.Ring, RecastLaws.numbers_back}
+use Rattle.dev_serial.proofs.Facade.{◌≡◌, ℕ, ◌≤◌, ◌==◌, Bool, true, false, ◌&&◌, if◌then◌else◌, List, [], ◌∷◌, length, refl, sym, ap, ◌∙◌, arith, ℤ, ne_eqb}
+use Rattle.dev_serial.proofs.Facade.{or_right, Numbers, judged, is_empty, numbers_of, port_of, stored_bytes, is_in_ring, array_for, ring_left, recast_port}
+use Rattle.dev_serial.proofs.Facade.{recast_cells, fcr_holds, id_holds, is_stored_once, is_unused, latch_holds, once_holds, registers_hold, restored}
+use Rattle.dev_serial.proofs.Facade.{rings_hold, rules, shift_holds, status_holds, timeout_holds, unused_hold, restored_cells, counted_of, ring_bytes}
 use Rattle.dev_serial.proofs.StoredLaws.{counted-back, ring-back, ring_of-holds, stored-empty, stored-short}
+use Rattle.std.proofs.Common.{nat_lt}
 
 -- ---- one direction
 
@@ -29,12 +28,10 @@ module _ (array : Counted) (ring : Ring) where
     holds = (all_three (nat_lt 0 ring.number) (array.count == 0) (ring_holds ring) e).1
 
     moved : stored_bytes (counted_of (ring_bytes ring)) (ring_of []) ≡ stored_bytes array ring
-    moved =
-        in_array (ring_bytes ring) (stored-short (record { count = 0; bytes = [] }) ring)
-        ∙ sym (ap (λ (b : Bool). if b then ring_bytes ring else counted_bytes array) empty)
+    moved = in_array (ring_bytes ring) (stored-short (record { count = 0; bytes = [] }) ring) ∙ sym (rw empty)
 
     once : is_stored_once (counted_of (ring_bytes ring)) (ring_of []) ≡ is_stored_once array ring
-    once = or_right (length (ring_bytes ring) == 0) true refl ∙ sym (ap (λ (b : Bool). b || (ring.number == 0)) empty)
+    once = or_right (length (ring_bytes ring) == 0) true refl ∙ sym (rw empty)
 
   abbrev array' : Bool → Counted
   array' b = if b then counted_of (ring_bytes ring) else array
@@ -105,7 +102,7 @@ module _ (level now : ℕ) (n : PortNumbers) where
 
   port_restores : restored level now m ≡ restored level now n
   unfolding restored
-  port_restores = ap (λ (l : List Bool). judged l (port_of level m)) same_rules ∙ ap (judged (rules level now n)) same_port
+  port_restores = ap (λ l. judged l (port_of level m)) same_rules ∙ ap (judged (rules level now n)) same_port
 
 pub recast_restores : (numbers : Numbers) (cells : List ℤ) → restored_cells numbers (recast_cells cells) ≡ restored_cells numbers cells
 recast_restores numbers cells = cc (numbers_back cells, port_restores numbers.level numbers.moment (numbers_of cells))

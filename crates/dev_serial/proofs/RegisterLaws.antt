@@ -18,8 +18,7 @@ module _ (now : ℕ) (port : Port) where
   first : IsFirstAsking now port (interrupt now port)
   unfolding interrupt
   first =
-      cond_both (asks now port LineStatus) _ _ (IsFirstAsking now port)
-      (λ h. record { itself = h; higher = λ other l. absurd (omega arith) })
+      cond_both (asks now port LineStatus) _ _ (IsFirstAsking now port) (λ h. record { itself = h; higher = λ other l. absurd (omega arith) })
       (λ a. cond_both (asks now port ReceivedData) _ _ (IsFirstAsking now port)
       (λ h. record { itself = h; higher = none 1 (omega arith) (λ l. a) (λ l. absurd (omega arith)) (λ l. absurd (omega arith)) (λ l. absurd (omega arith)) })
       (λ b. cond_both (asks now port CharacterTimeout) _ _ (IsFirstAsking now port)
@@ -77,10 +76,7 @@ module _ (value : ℕ) (port : Port) where
 
   latch_of : (second empty : Bool)
       → cond second (cond empty port.thr_empty true) port.thr_empty ≡ cond (not empty && cond second true empty) true port.thr_empty
-  latch_of true true = refl
-  latch_of true false = refl
-  latch_of false true = refl
-  latch_of false false = refl
+  latch_of second empty = grind arith
 
   left : (second first : Bool) (fifos : Option Trigger) → fifos ≡ switch_of value
       → IsSwitched value port (record (transmitter_cleared second (receiver_cleared first port)) { fifos = fifos })

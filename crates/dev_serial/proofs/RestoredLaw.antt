@@ -3,11 +3,10 @@ use Rattle.dev_serial.proofs.Facade.{◌≡◌, ℕ, true, Ok, ◌≤◌, Bool, 
 use Rattle.dev_serial.proofs.Facade.{cond, None, sym, ◌∙◌, arith, ◌%◌, ℤ, false≢true, leb-true, ltb-true, and_parts, not-true, nat_le, nat_lt, is_some}
 use Rattle.dev_serial.proofs.Facade.{judged-ok, first_failing_is_first, hook-ok, Port, port_of, moment_of, shift_of, fifos_of, stored_bytes, registers_hold}
 use Rattle.dev_serial.proofs.Facade.{fcr_holds, status_holds, shift_holds, timeout_holds, latch_holds, rules, restored, unused_hold, id_holds, once_holds}
-use Rattle.dev_serial.proofs.Facade.{rings_hold, longest_timeout, is_unused, PortNumbers, first_failing, judged_by, IsFirstFailing, MeansFailing, is_empty}
-use Rattle.dev_serial.proofs.Facade.{IsShort, same, has, AreBytes, IsShift, IsTimeout, IsSound, HasRegisters, IsReceiver, IsTransmitter, Trigger}
-use Rattle.dev_serial.proofs.Facade.{LONGEST_CHARACTER, NEVER, cell_at, number_at, IsLevel, U8, U16, number-lt, IsPortCells, bytes_at, array_at, ring_at}
-use Rattle.dev_serial.proofs.Facade.{numbers_of, IsSoundAt, RestoredIsSound, DIVISOR, LCR, SCR, RBR, THR, TSR, THR_IPENDING, RX_COUNT, RX, TX_COUNT, TX}
-use Rattle.dev_serial.proofs.Facade.{TIMEOUT_AT, RX_DATA, TX_DATA}
+use Rattle.dev_serial.proofs.Facade.{rings_hold, longest_timeout, is_unused, PortNumbers, first_failing, judged_by, IsFirstFailing, is_empty, IsShort, same}
+use Rattle.dev_serial.proofs.Facade.{has, AreBytes, IsShift, IsTimeout, IsSound, HasRegisters, IsReceiver, IsTransmitter, Trigger, LONGEST_CHARACTER, NEVER}
+use Rattle.dev_serial.proofs.Facade.{cell_at, number_at, IsLevel, U8, U16, number-lt, IsPortCells, bytes_at, array_at, ring_at, numbers_of, IsSoundAt}
+use Rattle.dev_serial.proofs.Facade.{RestoredIsSound, DIVISOR, LCR, SCR, RBR, THR, TSR, THR_IPENDING, RX_COUNT, RX, TX_COUNT, TX, TIMEOUT_AT, RX_DATA, TX_DATA}
 use Rattle.dev_serial.proofs.StoredLaws.{in_arrays, ring-bytes, stored-empty, stored-short, stored-bytes, firsts-bytes}
 
 -- ---- every rule holds for numbers that are restored
@@ -39,8 +38,7 @@ restored_by level now n port answer a b d e f g h i j k qa qb qd qe qf qg qh qi 
 
 -- the rule that fails is one of them
 pub rule_within : (rules : List Bool) (rule : ℕ) → first_failing rules ≡ Some rule → (1 ≤ rule) × (rule ≤ length rules)
-rule_within rules rule e =
-    let first : IsFirstFailing rules rule = subst (MeansFailing rules) e (first_failing_is_first rules) in first.within
+rule_within rules rule e = let first : IsFirstFailing rules rule = rw e at (first_failing_is_first rules) in first.within
 
 -- ---- each part of a restored port is sound
 
@@ -97,8 +95,7 @@ module _ (now tsr due : ℕ) (empty : Bool) where
 
 pub waiting-empty : (off ready empty unused : Bool) (byte : ℕ) (first second some : Bool) (tx : List ℕ) → is_empty tx ≡ unused → cond off (first && second) (same ready some && same empty unused) ≡ true → empty ≡ true → is_empty (cond off (cond (not empty) (byte ∷ []) []) tx) ≡ true
 waiting-empty true ready empty unused byte first second some tx u h e = rw e refl
-waiting-empty false ready empty unused byte first second some tx u h e =
-    u ∙ (let p : same empty unused ≡ true = (and_parts _ _ h).1 in rw e at p)
+waiting-empty false ready empty unused byte first second some tx u h e = u ∙ (let p : same empty unused ≡ true = (and_parts _ _ h).1 in rw e at p)
 
 -- ---- the whole port
 

@@ -1,17 +1,14 @@
 -- The saved cells are cells of their set.
-use Rattle.dev_serial.proofs.Facade.{◌≡◌, ℕ, zero, suc, ◌+◌, ◌<◌, ◌≤◌, ◌^◌, Bool, true, false, cond, List, ◌∷◌, ◌++◌, map, replicate, ℤ, pos, refl, ap, ◌∙◌, []}
-use Rattle.dev_serial.proofs.Facade.{arith, append_assoc, length, take, drop, Option, Some, None, ⊎_elim, range_with_len, nat_le, is_some, cases_lt, ints}
+use Rattle.dev_serial.proofs.{SavedLaw.array-short, SavedLaw.ring-short, StoredLaws.byte_of-lt, StoredLaws.byte_of-padded, AlikeLaws.lsr-status}
+use Rattle.dev_serial.proofs.Facade.{IsArray, ◌≡◌, ℕ, zero, suc, ◌+◌, ◌<◌, ◌≤◌, ◌^◌, Bool, true, false, cond, List, ◌∷◌, ◌++◌, map, replicate, ℤ, pos, refl, ap}
+use Rattle.dev_serial.proofs.Facade.{◌∙◌, [], arith, append_assoc, length, take, drop, Option, Some, None, ⊎_elim, range_with_len, nat_le, is_some, cases_lt}
 use Rattle.dev_serial.proofs.Facade.{get_or-append-add, get_or_append_left, get_or-map, get_or_past, and_le_r, nil_from_length, serial_rows, InRange, U8, I8}
 use Rattle.dev_serial.proofs.Facade.{of_none, of_more, byte, word, timer, AllHold, one_holds, of_rows, AreOf, firsts, cell_at, since, named, field_cells}
 use Rattle.dev_serial.proofs.Facade.{array_cells, ring_cells, cells_of, kinds, IsPortCells, FIFOS_SINCE, TIMEOUT_SINCE, RINGS_SINCE, PortNumbers, Counted, Ring}
 use Rattle.dev_serial.proofs.Facade.{NEWEST, LAST_MOMENT, lsr_of, has, AreSaved, SavedAreCells, IsShort, Port, interrupt, id_number, is_thr_empty, saved}
 use Rattle.dev_serial.proofs.Facade.{ipending_of, single_byte, fifo_bytes, in_array, in_ring, fcr_number, shift_number, due_number, moment_number, IsSound}
-use Rattle.dev_serial.proofs.Facade.{AreBytes, IsShift, IsTimeout, byte_of, padded, counted_of, ring_of, Interrupt, LineStatus, ReceivedData, CharacterTimeout}
-use Rattle.dev_serial.proofs.Facade.{ThrEmpty, NonePending, Shift, Trigger, One, Four, Eight, Fourteen, RX, TX_COUNT, TX, TIMEOUT_AT, number_at, RX_COUNT}
-use Rattle.dev_serial.proofs.Facade.{IsArray}
-use Rattle.dev_serial.proofs.SavedLaw.{array-short, ring-short}
-use Rattle.dev_serial.proofs.StoredLaws.{byte_of-lt, byte_of-padded}
-use Rattle.dev_serial.proofs.AlikeLaws.{lsr-status}
+use Rattle.dev_serial.proofs.Facade.{AreBytes, IsShift, IsTimeout, byte_of, padded, counted_of, ring_of, Interrupt, LineStatus, Shift, Trigger, One, Four}
+use Rattle.dev_serial.proofs.Facade.{Eight, Fourteen, RX, TX_COUNT, TX, TIMEOUT_AT, number_at, RX_COUNT}
 
 -- ---- the numbers in each row of the list of fields
 
@@ -113,18 +110,15 @@ parts_are set n =
     let arrays = nat_le 2 set in
     let rings = nat_le 4 set in
     let fcr = cond arrays (pos n.fcr ∷ []) [] in
-    let rx = cond arrays (pos n.rx.count ∷ map pos n.rx.bytes) [] in
     let tx = cond arrays (pos n.tx.count ∷ map pos n.tx.bytes) [] in
     let timeout = cond (nat_le 3 set) (pos n.timeout_at ∷ []) [] in
     let rx_ring = cond rings (map pos n.rx_ring.elements ++ pos n.rx_ring.head ∷ pos n.rx_ring.number ∷ []) [] in
     let tx_ring = cond rings (map pos n.tx_ring.elements ++ pos n.tx_ring.head ∷ pos n.tx_ring.number ∷ []) [] in
-    let both = ap (λ (l : List ℤ). rx_ring ++ l) (last_rows rings (map pos n.tx_ring.elements) (pos n.tx_ring.head) (pos n.tx_ring.number))
+    let both = ap (λ l. rx_ring ++ l) (last_rows rings (map pos n.tx_ring.elements) (pos n.tx_ring.head) (pos n.tx_ring.number))
     ∙ ring_rows rings (map pos n.rx_ring.elements) (pos n.rx_ring.head) (pos n.rx_ring.number) _ in
-    to_right (field_cells n) fcr (n.thr_ipending ∷ []) rx tx timeout rx_ring tx_ring
-    ∙ ap (λ (l : List ℤ). field_cells n ++ (fcr ++ (n.thr_ipending ∷ l)))
-    (ap (λ (l : List ℤ). rx ++ (tx ++ (timeout ++ l))) both
-    ∙ ap (λ (l : List ℤ). rx ++ l) (array_rows arrays (pos n.tx.count) (map pos n.tx.bytes) _)
-    ∙ array_rows arrays (pos n.rx.count) (map pos n.rx.bytes) _)
+    to_right (field_cells n) fcr (n.thr_ipending ∷ []) (cond arrays (pos n.rx.count ∷ map pos n.rx.bytes) []) tx timeout rx_ring tx_ring
+    ∙ ap (λ l. field_cells n ++ (fcr ++ (n.thr_ipending ∷ l)))
+    (rw (both, array_rows arrays (pos n.tx.count) (map pos n.tx.bytes) _) (array_rows arrays (pos n.rx.count) (map pos n.rx.bytes) _))
 
 -- ---- saved cells
 

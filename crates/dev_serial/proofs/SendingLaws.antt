@@ -19,7 +19,7 @@ due_by due to h = grind (arith, nat_tests)
 pub bytes_of-timetable : (character due : ℕ) (bytes : List ℕ) → bytes_of (timetable character due bytes) ≡ bytes
 unfolding timetable
 bytes_of-timetable character due [] = refl
-bytes_of-timetable character due (byte ∷ bytes) = ap (λ xs. byte ∷ xs) (bytes_of-timetable character (due + character) bytes)
+bytes_of-timetable character due (byte ∷ bytes) = rw (bytes_of-timetable character (due + character) bytes)
 
 bytes_on_line : (looped : Bool) (byte : ℕ) (bytes line : List ℕ)
     → (line ++ cond looped [] (byte ∷ [])) ++ cond looped [] bytes ≡ line ++ cond looped [] (byte ∷ bytes)
@@ -109,7 +109,7 @@ gone-staying to [] = refl
 gone-staying to (shift ∷ later) = by_test (gone-staying to later) (nat_le shift.due to) where
   by_test : gone to later ++ staying to later ≡ later → (b : Bool)
       → cond b (shift ∷ gone to later) [] ++ cond b (staying to later) (shift ∷ later) ≡ shift ∷ later
-  by_test rest true = ap (λ xs. shift ∷ xs) rest
+  by_test rest true = rw rest
   by_test rest false = refl
 
 staying-step : (a b : ℕ) (shift : Shift) (later : List Shift) (t : Bool) → nat_le shift.due a ≡ t → a ≤ b → staying b (staying a later) ≡ staying b later
@@ -126,7 +126,7 @@ staying-twice a b (shift ∷ later) h = staying-step a b shift later (nat_le shi
 
 gone-step : (a b : ℕ) (shift : Shift) (later : List Shift) (t : Bool) → nat_le shift.due a ≡ t → a ≤ b → gone a later ++ gone b (staying a later) ≡ gone b later → cond t (shift ∷ gone a later) [] ++ gone b (cond t (staying a later) (shift ∷ later)) ≡ cond (nat_le shift.due b) (shift ∷ gone b later) []
 unfolding gone
-gone-step a b shift later true e h rest = let l = leb-true shift.due a e in rw (le-leb shift.due b (omega arith)) (ap (λ xs. shift ∷ xs) rest)
+gone-step a b shift later true e h rest = let l = leb-true shift.due a e in rw (le-leb shift.due b (omega arith)) (rw rest)
 gone-step a b shift later false e h rest = refl
 
 pub gone-twice : (a b : ℕ) (shifts : List Shift) → a ≤ b → gone a shifts ++ gone b (staying a shifts) ≡ gone b shifts
@@ -170,7 +170,7 @@ run-holding : (character to : ℕ) (shifts : List Shift) → IsTable character s
     → run_until character to (holding shifts).shift (holding shifts).waiting ≡ holding (staying to shifts)
 unfolding run_until staying holding
 run-holding character to [] t = refl
-run-holding character to (shift ∷ later) t = ap (λ xs. holding (staying to xs)) (departures-holding character (shift ∷ later) t)
+run-holding character to (shift ∷ later) t = rw (departures-holding character (shift ∷ later) t)
 
 -- the transmitter after two moments is that after the later one
 pub run-twice : (character a b : ℕ) (shift : Option Shift) (waiting : List ℕ) → a ≤ b
@@ -264,8 +264,7 @@ sends_in_order (event ∷ events) port r =
     append_assoc (left_in event port) (left_in_all events (after event port)) _
     ∙ ap (λ xs. left_in event port ++ xs) (sends_in_order events (after event port) r.1)
     ∙ sym (append_assoc (left_in event port) (pending (after event port)) _)
-    ∙ ap (λ xs. xs ++ accepted_in_all events (after event port)) (one-event event port r.0)
-    ∙ append_assoc (pending port) (accepted_in event port) _
+    ∙ ap (λ xs. xs ++ accepted_in_all events (after event port)) (one-event event port r.0) ∙ append_assoc (pending port) (accepted_in event port) _
 
 pub replaces_one : ReplacesOne
 unfolding thr_written queued

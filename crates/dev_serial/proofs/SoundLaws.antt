@@ -1,11 +1,10 @@
 -- Each step of a part keeps it sound.
+use Rattle.dev_serial.proofs.{SendingLaws.bytes_of-timetable, SendingLaws.fewer, WaitLaws.stays_empty}
 use Rattle.dev_serial.proofs.Facade.{◌≡◌, ℕ, ◌+◌, ◌*◌, ◌<◌, ◌≤◌, ◌==◌, Bool, true, false, not, ◌&&◌, cond, List, ◌∷◌, ◌++◌, length, Option, Some, None, refl}
 use Rattle.dev_serial.proofs.Facade.{arith, length-append, ◌⊎◌, ⊎_elim, mul-le-mul, ltb-true, ltb-false, ne_eqb, cond_both, leb-true, leb-false, nat_le, nat_lt}
 use Rattle.dev_serial.proofs.Facade.{max, is_some, is_empty, has, bits_where, character_time, character_bits, ReceiverState, TransmitterState, IsShort, []}
 use Rattle.dev_serial.proofs.Facade.{received, taken_at, emptied, longest_timeout, LongestCharacter, AreBytes, IsTimeout, IsReceiver, IsShift, IsTransmitter}
 use Rattle.dev_serial.proofs.Facade.{queued, loaded, timetable, departures, gone, staying, holding, arrived, run_until, gone_by, Mode, Shift, LONGEST_CHARACTER}
-use Rattle.dev_serial.proofs.SendingLaws.{bytes_of-timetable, fewer}
-use Rattle.dev_serial.proofs.WaitLaws.{stays_empty}
 
 -- ---- each step of a part
 
@@ -62,8 +61,7 @@ module _ (now at character byte : ℕ) (looped : Bool) (receiver : ReceiverState
   unfolding received
   received-bytes true has_timeout b s =
       cond_both (nat_lt (length receiver.held) 16) _ _ (λ (r : ReceiverState). AreBytes r.held) (λ e. AreBytes-push receiver.held byte s b) (λ e. s)
-  received-bytes false has_timeout b s =
-      cond_both (length receiver.held == 0) _ _ (λ (r : ReceiverState). AreBytes r.held) (λ e. (b, tt)) (λ e. (b, tt))
+  received-bytes false has_timeout b s = cond_both (length receiver.held == 0) _ _ (λ (r : ReceiverState). AreBytes r.held) (λ e. (b, tt)) (λ e. (b, tt))
 
   received-timeout : (on has_timeout : Bool) → IsTimeout now (has_timeout && (on && not (is_empty receiver.held))) receiver.timeout → IsTimeout now (has_timeout && (on && not (is_empty (received (mode_at character on has_timeout looped) byte at receiver).held))) (received (mode_at character on has_timeout looped) byte at receiver).timeout
   unfolding received
@@ -132,8 +130,7 @@ queued-short false byte waiting s = record { short = omega arith; one = λ _. om
 
 queued-bytes : (on : Bool) (byte : ℕ) (waiting : List ℕ) → byte < 256 → AreBytes waiting → AreBytes (queued on byte waiting)
 unfolding queued
-queued-bytes true byte waiting b s =
-    cond_both (nat_lt (length waiting) 16) _ _ (λ (xs : List ℕ). AreBytes xs) (λ e. AreBytes-push waiting byte s b) (λ e. s)
+queued-bytes true byte waiting b s = cond_both (nat_lt (length waiting) 16) _ _ (λ (xs : List ℕ). AreBytes xs) (λ e. AreBytes-push waiting byte s b) (λ e. s)
 queued-bytes false byte waiting b s = (b, tt)
 
 loaded-sound : (now due : ℕ) (on : Bool) (shift : Option Shift) (waiting : List ℕ) → now < due → due ≤ now + LONGEST_CHARACTER → IsShort on waiting

@@ -1,11 +1,10 @@
 -- A port is sound exactly if a stream can describe it and the rules hold for what is saved.
+use Rattle.dev_serial.proofs.{RestoredLaw.Hold, RestoredLaw.hold, AlikeLaws.IsStatus, AlikeLaws.lsr-status}
 use Rattle.dev_serial.proofs.Facade.{◌≡◌, ℕ, ◌+◌, ◌≤◌, ◌==◌, Bool, true, false, not, ◌&&◌, ◌||◌, cond, Option, Some, None, refl, arith, leb-true, ltb-true, sym}
 use Rattle.dev_serial.proofs.Facade.{eqb-true, and_parts, nat_le, nat_lt, is_some, LAST_MOMENT, is_empty, lsr_of, has, same, SoundMeetsRules, Port, saved}
 use Rattle.dev_serial.proofs.Facade.{fcr_number, moment_number, due_number, registers_hold, fcr_holds, shift_holds, timeout_holds, longest_timeout, IsSound}
 use Rattle.dev_serial.proofs.Facade.{IsHeld, IsTold, IsByte, IsShift, IsTimeout, HasRegisters, Shift, Trigger, LONGEST_CHARACTER, NEVER, false≢true}
-use Rattle.dev_serial.proofs.RestoredLaw.{Hold, hold}
 use Rattle.dev_serial.proofs.SavedLaw.{restored-saved, on, runs-same, unused-at}
-use Rattle.dev_serial.proofs.AlikeLaws.{IsStatus, lsr-status}
 
 -- from sound to held
 told : (now : ℕ) (runs : Bool) (timeout : Option ℕ) → now ≤ LAST_MOMENT → IsTimeout now runs timeout → IsTold timeout

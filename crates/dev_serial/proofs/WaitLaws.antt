@@ -1,7 +1,7 @@
 -- A span in two parts, and a span in which no byte is due.
 use Rattle.dev_serial.proofs.Facade.{◌≡◌, ℕ, ◌+◌, ◌<◌, ◌≤◌, Bool, true, false, cond, List, ◌∷◌, ◌++◌, length, Some, None, refl, sym, ap, ◌∙◌, arith, Option, []}
 use Rattle.dev_serial.proofs.Facade.{not, ◌&&◌, le-leb, lt-leb, eqb-true, eq-eqb, map-append, le-max_right, le-div, ReceiverState, TransmitterState, timetable}
-use Rattle.dev_serial.proofs.Facade.{departures, gone, staying, holding, arrived, on_line, looped_in, bytes_of, run_until, gone_by, IsSentAfter, Mode, Shift}
+use Rattle.dev_serial.proofs.Facade.{departures, gone, staying, holding, arrived, on_line, bytes_of, run_until, gone_by, IsSentAfter, Mode, Shift}
 use Rattle.dev_serial.proofs.Facade.{is_empty, advanced, leaving, has, character_time, Port, mode_of, received, AdvancesInParts, WaitsUntilDue, LoopsAtMoment}
 use Rattle.dev_serial.specs.Transmit.{byte_of}
 use Rattle.dev_serial.proofs.SendingLaws.{bytes_of-timetable, looped_none, run-twice, gone_by-twice, fewer}
@@ -66,11 +66,8 @@ module _ (first second : ℕ) (port : Port) (h : first ≤ second) where
   in-parts : advanced second port ≡ ((advanced first port).0 ++ (advanced second (advanced first port).1).0, (advanced second (advanced first port).1).1)
   unfolding advanced outcome end between
   in-parts =
-      same_outcome port _ _ _ _ _ _ _ _
-      (ap (on_line (mode_of port)) (sym gone-both) ∙ on_line-append (mode_of port) (has port.mcr 4) _ _)
-      (ap (λ xs. looped_in (mode_of port) xs port.receiver) (sym gone-both) ∙ looped-append (mode_of port) (has port.mcr 4) _ _ port.receiver)
-      (sym end-same)
-      (ap (λ t. cond (is_empty t.waiting && not (is_empty port.transmitter.waiting)) true port.thr_empty) (sym end-same) ∙ sym latch-same)
+      same_outcome port _ _ _ _ _ _ _ _ (ap (on_line (mode_of port)) (sym gone-both) ∙ on_line-append (mode_of port) (has port.mcr 4) _ _)
+      (rw (sym gone-both) (looped-append (mode_of port) (has port.mcr 4) _ _ port.receiver)) (sym end-same) (rw (sym end-same) (sym latch-same))
 
 pub advances_in_parts : AdvancesInParts
 advances_in_parts first second port h = in-parts first second port h
@@ -87,9 +84,8 @@ stays to shift character waiting h = rw (lt-leb shift.due to h, bytes_of-timetab
 stays-whole : (to : ℕ) (shift : Shift) (character : ℕ) (transmitter : TransmitterState) → transmitter.shift ≡ Some shift → to < shift.due
     → run_until character to transmitter.shift transmitter.waiting ≡ transmitter
 stays-whole to shift character transmitter e h =
-    ap (λ (s : Option Shift). run_until character to s transmitter.waiting) e
-    ∙ stays to shift character transmitter.waiting h
-    ∙ ap (λ (s : Option Shift). let t : TransmitterState = record { waiting = transmitter.waiting; shift = s } in t) (sym e)
+    ap (λ s. run_until character to s transmitter.waiting) e ∙ stays to shift character transmitter.waiting h
+    ∙ ap (λ s. let t : TransmitterState = record { waiting = transmitter.waiting; shift = s } in t) (sym e)
 
 no_line : (looped : Bool) → cond {A = List ℕ} looped [] [] ≡ []
 no_line true = refl
@@ -105,25 +101,19 @@ waits_until_due to port shift e h =
     let none : leaving to port ≡ [] = rw e (waits to shift (character_time port.divisor port.lcr) port.transmitter.waiting h) in
     let still : run_until (character_time port.divisor port.lcr) to port.transmitter.shift port.transmitter.waiting ≡ port.transmitter =
     stays-whole to shift (character_time port.divisor port.lcr) port.transmitter e h in
-    same_outcome port _ [] _ port.receiver _ port.transmitter _ port.thr_empty
-    (rw none (no_line (has port.mcr 4)))
+    same_outcome port _ [] _ port.receiver _ port.transmitter _ port.thr_empty (rw none (no_line (has port.mcr 4)))
     (rw none (looped_none (has port.mcr 4) (mode_of port) port.receiver))
-    still
-    (rw still (no_change (is_empty port.transmitter.waiting) port.thr_empty))
+    still (rw still (no_change (is_empty port.transmitter.waiting) port.thr_empty))
 
 idle : (to : ℕ) (port : Port) → port.transmitter.shift ≡ None → advanced to port ≡ ([], port)
 unfolding advanced departures gone run_until arrived outcome
 idle to port e =
     let character = character_time port.divisor port.lcr in
     let none : leaving to port ≡ [] = rw e refl in
-    let same : run_until character to port.transmitter.shift port.transmitter.waiting ≡ port.transmitter =
-    ap (λ (s : Option Shift). run_until character to s port.transmitter.waiting) e
-    ∙ ap (λ (s : Option Shift). let t : TransmitterState = record { waiting = port.transmitter.waiting; shift = s } in t) (sym e) in
-    same_outcome port _ [] _ port.receiver _ port.transmitter _ port.thr_empty
-    (rw none (no_line (has port.mcr 4)))
+    let same : run_until character to port.transmitter.shift port.transmitter.waiting ≡ port.transmitter = rw (e, sym e) in
+    same_outcome port _ [] _ port.receiver _ port.transmitter _ port.thr_empty (rw none (no_line (has port.mcr 4)))
     (rw none (looped_none (has port.mcr 4) (mode_of port) port.receiver))
-    same
-    (rw same (no_change (is_empty port.transmitter.waiting) port.thr_empty))
+    same (rw same (no_change (is_empty port.transmitter.waiting) port.thr_empty))
 
 still-by : (shift : Option Shift) (to : ℕ) (port : Port) → port.transmitter.shift ≡ shift → IsSentAfter to shift → advanced to port ≡ ([], port)
 still-by None to port e h = idle to port e

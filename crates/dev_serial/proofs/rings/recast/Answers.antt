@@ -16,4 +16,4 @@ returns-clause-cells c =
     c.cells.ensures.cells
     ∙ ap (cells_of 4) (port_is n c.recast-rx.result.array c.recast-tx.result.array c.recast-rx.result.ring c.recast-tx.result.ring c.recast-rx.ensures.array
     c.recast-rx.ensures.ring c.recast-tx.ensures.array c.recast-tx.ensures.ring)
-    ∙ ap (λ (m : PortNumbers). cells_of 4 (recast_port m)) c.of_cells-port.ensures
+    ∙ ap (λ m. cells_of 4 (recast_port m)) c.of_cells-port.ensures

@@ -1,5 +1,4 @@
-use Rattle.dev_pit.proofs.Facade.{rules, ◌<◌, length}
-use Rattle.dev_pit.proofs.Moments.{asked_keeps}
+use Rattle.dev_pit.proofs.{Facade.rules, Moments.asked_keeps}
 use Rattle.dev_pit.proofs.pit.Pit.ask_back.Goals as goal
 
 pub returns-clause-keeps : goal.returns-clause-keeps

@@ -1,5 +1,4 @@
-use Rattle.dev_pit.proofs.Facade.{arith}
-use Rattle.dev_pit.proofs.RestoredLaw.{is_channel}
+use Rattle.dev_pit.proofs.{Facade.arith, RestoredLaw.is_channel}
 use Rattle.dev_pit.proofs.pit.Pit.of_cells.Goals as goal
 
 pub at-first-requires : goal.at-first-requires

@@ -1,5 +1,4 @@
-use Rattle.dev_pit.proofs.Facade.{rules, ◌<◌, length}
-use Rattle.dev_pit.proofs.Moments.{read_keeps}
+use Rattle.dev_pit.proofs.{Facade.rules, Moments.read_keeps}
 use Rattle.dev_pit.proofs.pit.Pit.read.Goals as goal
 
 pub returns-clause-keeps : goal.returns-clause-keeps

@@ -1,6 +1,5 @@
-use Rattle.dev_serial.proofs.Facade.{◌≡◌, ◌∙◌}
+use Rattle.dev_serial.proofs.{Facade.◌∙◌, SavedCells.parts_are}
 use Rattle.std.proofs.Common.{rules}
-use Rattle.dev_serial.proofs.SavedCells.{parts, parts_are}
 use Rattle.dev_serial.proofs.numbers.PortNumbers.cells.Goals as goal
 
 pub returns-clause-cells : goal.returns-clause-cells

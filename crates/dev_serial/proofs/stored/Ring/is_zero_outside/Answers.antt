@@ -1,4 +1,4 @@
-use Rattle.dev_serial.proofs.Facade.{sym, ◌∙◌, arith, subst, ℕ, ◌≡◌, true, take, range_with_len, list_all, is_held_or_zero}
+use Rattle.dev_serial.proofs.Facade.{sym, ◌∙◌, arith, subst, ◌≡◌, true, take, range_with_len, list_all, is_held_or_zero}
 use Rattle.dev_serial.proofs.StoredLaws.{all_fails, all_more}
 use Rattle.dev_serial.proofs.stored.Ring.is_zero_outside.Goals as goal
 
@@ -12,4 +12,4 @@ loop-place-preserved c = all_more (is_held_or_zero c.args.self.now) c.loop-place
 pub returns : goal.returns
 returns c =
     let e : c.loop-place.place ≡ 16 = omega (arith, c.loop-place.auto.place-end, c.loop-place-test.false) in
-    sym (subst (λ (n : ℕ). list_all (is_held_or_zero c.args.self.now) (take n (range_with_len 0 16)) ≡ true) e c.loop-place.invariant)
+    sym (subst (λ n. list_all (is_held_or_zero c.args.self.now) (take n (range_with_len 0 16)) ≡ true) e c.loop-place.invariant)
