@@ -19,8 +19,6 @@ use Rattle.vms_spec.specs.declared.Part.TheVariants as parts
 
 -- ---- The tree of a self-description is that of what it says.
 
--- ---- entries
-
 one_entry : (w : What) (counted present : Bool) (path : List ℕ) → map told_entry (told_what w counted present path) ≡ entry_of w counted present path
 one_entry w counted present path = grind arith
 
@@ -187,8 +185,6 @@ module _ (set : Set) (well : WellFormed set) where
       (rw (part_same set d sent n at) (part_long part has few sent n at))
 
 -- ---- The description of a well-formed set has the right shape.
-
--- ---- what is described has the shape
 
 abbrev no_device : Device
 no_device = record { instance = 0; desc = no_desc; subs = [] }

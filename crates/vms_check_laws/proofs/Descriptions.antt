@@ -10,7 +10,6 @@ use Rattle.vms_check_laws.proofs.Facade.{Meaning, slots_from, desc_slots, all_ho
 use Rattle.vms_check_laws.proofs.Facade.{Aligns, or_else_none, Spells, zeroed, Carries, Known, Reduced, compare_validations, here, is_kept, no_parent, passes}
 use Rattle.vms_check_laws.proofs.Facade.{reduced, reduced_holds, same_reduced, truth, truth_of, either_of}
 use Rattle.vms_check_laws.proofs.Segments.{fits_left, fits_right, fits_at, holds_at, carries_append, spells_split, behind_first, aligns_append, aligns_rule}
-use Rattle.vms_check_laws.proofs.Segments.{carries_rule}
 use Rattle.vms_check_laws.proofs.Premises.{kinds_same, Matched, decoded, OldFields, NewFields, DefaultsGood, ItemDefault, Sides, fields_below, FitCells}
 use Rattle.vms_check_laws.proofs.Premises.{GoodCells, fit_append, fit_defaults, good_append, good_times, Met, entries_slots, slots_entries, all_known}
 use Rattle.vms_check_laws.proofs.Premises.{AreKnown, Two, Table, Meets, Reads, RulesNamed, all_met}
@@ -167,7 +166,7 @@ module _ (sides : Sides) (ok : ℕ → Bool) where
       → Carries numbers (Rule (all_hold a.validate v old_number) ∷ []) numbers' (Rule (all_hold b.validate w new_number) ∷ [])
   rule_carries h named agree =
       let every_is = (passes 15 (list_all (λ t. is_kept ks a b v w part part' o n (reduced w t)) b.validate) [] (here part) (here part') h).0 in
-      carries_rule _ _ _ _ (λ r. rules_hold _ named agree r every_is)
+      record { spells = refl; rules = λ h. (rules_hold _ named agree h.0 every_is, tt) }
 
 -- ---- whole descriptions
 

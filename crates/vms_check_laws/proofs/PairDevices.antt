@@ -2,12 +2,11 @@
 use Rattle.vms_check_laws.proofs.Facade.{◌≡◌, ℕ, ◌+◌, ◌*◌, ◌<◌, List, ◌++◌, length, get_or, Option, Some, None, refl, sym, arith, slice_get, ap, ◌∙◌}
 use Rattle.vms_check_laws.proofs.Facade.{length-append, [], ◌⊎◌, inl, inr, flat_map, get_or_append_left, get_or-append-add, length-replicate, Cell}
 use Rattle.vms_check_laws.proofs.Facade.{desc_cells, Set, struct_cells, WellFormed, part_partners, Sub, Device, no_cell, device_cells, own_cells, sub_place}
-use Rattle.vms_check_laws.proofs.Facade.{sub_size, sub_place_up, device_parts, sub_clean, sub_found, PartnersLaw, ArePartners, sub_partners, named_partners}
+use Rattle.vms_check_laws.proofs.Facade.{sub_size, sub_place_up, device_parts, sub_clean, sub_found, ArePartners, sub_partners, named_partners}
 use Rattle.vms_check_laws.proofs.Facade.{device_partners}
 use Rattle.vms_check_laws.proofs.PairLists.{AreFrom, IsBehind, at_left, at_none, before_or_behind, behind_at, Apart, once_append, IsOnce, IsPair}
 use Rattle.vms_check_laws.proofs.SubParts.{part_in, part_number, one_part, StandsIn, all_long, stands_in, look_up, Found}
 use Rattle.vms_check_laws.proofs.GoesFields.{part_goes, below_of}
-pub use Rattle.vms_check_laws.proofs.GoesFields.{struct_is}
 
 module _ (old new : Set) (good_old : WellFormed old) (good_new : WellFormed new) (i : ℕ) (d e : Device) (at_i : slice_get old.devices i ≡ Some d) where
   abbrev old_cells : Sub → List Cell
@@ -138,6 +137,3 @@ module _ (old new : Set) (good_old : WellFormed old) (good_new : WellFormed new)
         kinds = λ c k f. kinds c k f (before_or_behind _ c);
         once = once_append ps qs own.once once_in apart_own;
       }
-
-pub partners_stand : PartnersLaw
-partners_stand old new good_old good_new i d e there = device_paired old new good_old good_new i d e there

@@ -4,15 +4,15 @@ use Rattle.vms_check_laws.proofs.Facade.{get_or, refl, arith, ℤ, pos, ◌≤�
 use Rattle.vms_check_laws.proofs.Facade.{Item, Desc, counted, in_field, Part, Entry, same_rest, same_count, same_item, same_constant, is_covered}
 use Rattle.vms_check_laws.proofs.Facade.{holds_as_much, absent_hold, bound, Comparer, failing_pair, pair_rules, pair_structs, compare_fields, passes}
 use Rattle.vms_check_laws.proofs.Facade.{ItemBelow, or_else_none, names_match, Cell, no_cell, times, defaults, FitsCell, cells_in, Equal, Unused, Count}
-use Rattle.vms_check_laws.proofs.Facade.{Counted, Formula, Field, Meaning, no_meaning, item_cells, names_well, nobody, is_one, no_comparer, Carrier}
+use Rattle.vms_check_laws.proofs.Facade.{Counted, Formula, Field, Meaning, no_meaning, names_well, nobody, is_one, no_comparer, Carrier}
 use Rattle.vms_check_laws.proofs.Facade.{no_carrier, Holds, FitsAt, Carries, Aligns, FieldsBelow, Slot, is_earlier_in, Num, Filler, Fixed, Kind, One}
-use Rattle.vms_check_laws.proofs.Facade.{cells_from, elements_of, entry_of, field_cells, here, is_there, item_slots, kind_of, no_parent, presence}
+use Rattle.vms_check_laws.proofs.Facade.{cells_from, elements_of, entry_of, field_cells, here, is_there, item_slots, kind_of, presence}
 use Rattle.vms_check_laws.proofs.Facade.{present_from, residue, same_kind, slots_from, width, zeroed, U8, U16, U32, U64, I8, I16, I32, I64, Timer, no_field}
 use Rattle.vms_check_laws.proofs.Facade.{field_slots, place_of, kind_number, AllByRecursion, AllZip, flat_map, AllZip-long}
 use Rattle.vms_spec.specs.Images.{FitCells as AreFit}
 use Rattle.vms_kinds.specs.declared.Kind.TheVariants.{Bool as Truth}
 use Rattle.vms_check_laws.proofs.Positioned.{if_is}
-use Rattle.vms_check_laws.proofs.Presence.{NamedRest, covers_unused, constant_length, numbers_length, presence_there}
+use Rattle.vms_check_laws.proofs.Presence.{NamedRest, constant_length, numbers_length, presence_there}
 use Rattle.vms_check_laws.proofs.PairLists.{Settled}
 use Rattle.vms_check_laws.proofs.Segments.{fits_at, fits_left, fits_right, one_on, at_first, from_zero}
 
@@ -112,9 +112,6 @@ good_times zero xs at step h = tt
 good_times (suc n) xs at step h = good_append xs _ h (good_times n xs (at + step) step h)
 
 -- ---- what fields and structures on both sides need
-
-pub covered_empty : (y : List (List Cell)) (i : Item) (c : Count) (j : Item) → is_covered i c j ≡ true → length (item_cells y j [] (pos 0)) ≡ 0
-covered_empty y i c j covers = rw (covers_unused i c j covers).1
 
 -- what follows of a number from all below it holds of each
 pub by_less : (P : ℕ → Type 0) → ((k : ℕ) → ((j : ℕ) → j < k → P j) → P k) → (k j : ℕ) → j < k → P j
@@ -288,14 +285,10 @@ module _ (structs : List Meaning) (all : List Field) (v : ℕ) (numbers : List �
   abbrev pub AreKnown : List Entry → Type 0
   AreKnown es = AllByRecursion IsKnown es
 
-  own_is : (i p : ℕ) (f : Field) → slice_get all i ≡ Some f → place i ≡ base + p
-      → own_of i ≡ residue (width (kind_of f.item)) (get_or numbers (base + p) (pos 0))
-  own_is i p f h e = rw (get_or_from_slice_get all i f _ h, e)
-
   entry_known : (i p : ℕ) (f : Field) (pr : Option (Option Formula)) (es : List Entry) → presence v f.test f.since ≡ pr → slice_get all i ≡ Some f
       → place i ≡ base + p → (Whole → FitsAt (field_cells (cells_in structs) all i f) numbers (base + p)) → AreKnown es → AreKnown (entry_of i p f pr ++ es)
   entry_known i p f None es h field here fits known = known
-  entry_known i p f (Some rest) es h field here fits known = (record { field = field; number = own_is i p f field here; left = h; fits = fits }, known)
+  entry_known i p f (Some rest) es h field here fits known = (record { field = field; number = rw (get_or_from_slice_get all i f _ field, here); left = h; fits = fits }, known)
 
   pub entries_known : (i p : ℕ) (fs : List Field) → ((k : ℕ) → slice_get all (i + k) ≡ slice_get fs k)
       → ((k : ℕ) → place (i + k) ≡ place_of (cells_in structs) all i (base + p) fs k)

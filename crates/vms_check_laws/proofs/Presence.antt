@@ -4,7 +4,7 @@ use Rattle.vms_check_laws.proofs.Facade.{◌≡◌, ℕ, Bool, true, false, Opti
 use Rattle.vms_check_laws.proofs.Facade.{and_from, zero, suc, ◌+◌, ◌*◌, List, ◌∷◌, ◌++◌, length, get_or, arith, ℤ, pos, length-append, length-replicate, []}
 use Rattle.vms_check_laws.proofs.Facade.{Formula, truth, is_there, Reduced, Known, Open, reduced, left_of, presence, truth_of, reduced_holds, Rel, Eq, Ne, Lt}
 use Rattle.vms_check_laws.proofs.Facade.{Ge, Own, Not, And, Or, names_well, nobody, same_place, same_test, same_rest, same_reduced, rel_number, IfOpen}
-use Rattle.vms_check_laws.proofs.Facade.{IsByParts, open_reduced, Kind, Item, Num, Equal, Unused, width, Count, One, Fixed, Field, Number, Constant, times}
+use Rattle.vms_check_laws.proofs.Facade.{open_reduced, Kind, Item, Num, Equal, Unused, width, Count, One, Fixed, Field, Number, Constant, times}
 use Rattle.vms_check_laws.proofs.Facade.{zeroed, is_steady, is_num, is_one, has_no_test, length-code, is_covered, Holds, Filler}
 use Rattle.vms_spec.specs.Sets.{Cell}
 
@@ -31,9 +31,6 @@ rel_back : (r : Rel) → rel_of (rel_number r) ≡ r
 rel_back Eq = refl
 rel_back _ = refl
 
-same_rel : (r s : Rel) → (rel_number r == rel_number s) ≡ true → r ≡ s
-same_rel r s h = cc (rel_back r, eqb-true (rel_number r) (rel_number s) h, rel_back s)
-
 -- numbers that may be named are the same where their positions are
 abbrev pub Agree : (o n : ℕ → Option ℕ) → (ok : ℕ → Bool) → (own own' : ℕ → ℕ) → Type 0
 Agree o n ok own own' = (i j : ℕ) → ok j ≡ true → same_place (o i) (n j) ≡ true → own i ≡ own' j
@@ -45,12 +42,11 @@ module _ (ok : ℕ → Bool) where
   abbrev pub Named : Reduced → Type 0
   Named r = IfOpen IsNamed r
 
-  named_by_parts : IsByParts IsNamed
-  named_by_parts = record { of_not = λ t h. h; of_and = λ s t h g. and_from _ _ h g; of_or = λ s t h g. and_from _ _ h g }
-
   -- the rest of a test names what the test names
   pub named_left : (u : ℕ) (t : Formula) → names_well ok nobody t ≡ true → Named (reduced u t)
-  named_left u t h = open_reduced _ named_by_parts ok (λ field mask rel value e. e) u t h
+  named_left u t h =
+      open_reduced IsNamed (record { of_not = λ t h. h; of_and = λ s t h g. and_from _ _ h g; of_or = λ s t h g. and_from _ _ h g }) ok
+      (λ field mask rel value e. e) u t h
 
   abbrev pub NamedRest : Option Formula → Type 0
   NamedRest None = Unit {0}
@@ -77,7 +73,8 @@ module _ (o n : ℕ → Option ℕ) (ok : ℕ → Bool) (own own' parent parent'
       let r = and_parts (same_place (o i) (n j) && mask == mask' && rel_number rel == rel_number rel') (value == value') h in
       let q = and_parts (same_place (o i) (n j) && mask == mask') (rel_number rel == rel_number rel') r.0 in
       let p = and_parts (same_place (o i) (n j)) (mask == mask') q.0 in
-      rw (agree i j good p.0, eqb-true mask mask' p.1, same_rel rel rel' q.1, eqb-true value value' r.1)
+      let rels : rel ≡ rel' = cc (rel_back rel, eqb-true (rel_number rel) (rel_number rel') q.1, rel_back rel') in
+      rw (agree i j good p.0, eqb-true mask mask' p.1, rels, eqb-true value value' r.1)
   same_truth (Not s) (Not t) good h = rw (same_truth s t good h)
   same_truth (And s s') (And t t') good h =
       let p = and_parts (same_test o n s t) (same_test o n s' t') h in

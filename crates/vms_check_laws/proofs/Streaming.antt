@@ -114,13 +114,6 @@ module _ (old new : Set) (good_old : WellFormed old) (good_new : WellFormed new)
   pub all_in : first_answer (λ i d. failing_pair ((2, is_in new d) ∷ []) (here (parts.Device i)) (here parts.Set)) 0 old.devices ≡ None
   all_in = rules.olds
 
-  -- and no rule fails of the two
-  compared_none : (i : ℕ) (d : Device) → slice_get old.devices i ≡ Some d → (p : Pair old new good_old all_in i d)
-      → compare_device old new i d (Some p.number) (Some p.device) ≡ None
-  compared_none i d e p =
-      let z : i ≡ 0 + i = omega arith in
-      rw (← p.compared_is, z) (answers_none (λ i d. compared old new i d) 0 _ rules.devices i d e)
-
   -- ---- each of new's devices has one section
 
   each_new : (k : ℕ) → slice_get (map (λ (d : Device). false) new.devices) k ≡ Some false → Among k (device_order new old.devices)
@@ -181,8 +174,10 @@ module _ (old new : Set) (good_old : WellFormed old) (good_new : WellFormed new)
         let p = pair old new good_old all_in i d e in
         let front = written_section old d im i in
         let image_is : slice_get (carried old new images) p.number ≡ Some (carried_device old new d p.device im) = image_at i d e p ∙ rw im_is in
+        let z : i ≡ 0 + i = omega arith in
+        let none = rw (← p.compared_is, z) (answers_none (λ i d. compared old new i d) 0 _ rules.devices i d e) in
         let paired : ArePaired old new i p.number d p.device =
-        record { in_old = e; in_new = p.stands; names = sym p.name_is; instances = sym p.instance_is; rules = compared_none i d e p } in
+        record { in_old = e; in_new = p.stands; names = sym p.name_is; instances = sym p.instance_is; rules = none } in
         let at_number : HasSection new true p.number (slice_get new.devices p.number) (slice_get (carried old new images) p.number) front =
         rw (p.stands, image_is)
         (i, device_stands old new good_old good_new i p.number d p.device paired im i (saved old d im (ready 0 d im refl refl)) (omega arith)) in

@@ -276,8 +276,7 @@ module _ (old new : Set) (good_old : WellFormed old) (good_new : WellFormed new)
         (λ xs k o order e h more. ((h.0, e ∙ ap Some h.1), more)) image'.came 0 _ (walked.rises 0 (omega arith))
         (λ l o e h. each_come l h.0 (rw h.1 at e))
 
-  -- ---- the section
-
+  -- the section
   pub section_whole : (part part' : Part) → comparing old new d.desc e.desc d.desc.version part part' ≡ None → is_version_of e.desc d.desc.version ≡ true
       → d.desc.name ≡ e.desc.name → d.instance ≡ e.instance → (id : ℕ) → id < 4294967296 → IsSection new e image' id true (written_section old d image id)
   section_whole part part' same version names instances id lt =

@@ -5,7 +5,7 @@ use Rattle.vms_cli.proofs.Facade.{IfSome, ℤ, if◌then◌else◌, length-map, 
 use Rattle.vms_cli.proofs.Facade.{taken_kept, Compatible, first_mismatch, Mismatch, IsStreamFor, word_set, Outcome, done, SetWord, Step, Untold, Gives, Ends}
 use Rattle.vms_cli.proofs.Facade.{next, FitStep, fit_word, ConvertsBy, Rewrites, WouldLose, agreed, agrees, newest, Converts, described_text, AreRecastOf}
 use Rattle.vms_cli.proofs.Facade.{converts_stand, ready, newest_kinds, PrintsAlike, ConvertAgainLaw, ConvertThenAnalyzeLaw, StandsFor, ConvertThenLoadLaw}
-use Rattle.vms_cli.proofs.Facade.{IsLevel, NEWEST, by_device, joined, moment_of, numbers_back, pair_back, pit_back, timed, State, recast_restores, recast_cells}
+use Rattle.vms_cli.proofs.Facade.{IsLevel, NEWEST, moment_of, numbers_back, State, recast_restores, recast_cells}
 use Rattle.vms_cli.proofs.Facade.{IsConfiguration, is_one_of, recast_each, numbers_in, wants_arrays, lists_in, takes_under, cells_of, isa, isa_stands, Back}
 use Rattle.vms_cli.proofs.Facade.{Restores, Loads, LoadsBy, Traces, Unfit, scripted, ScriptLine}
 use Rattle.vms_cli.proofs.RoundTrips.{done_apart, fits_text, machine_of_set, same_text, written_prints}
@@ -94,8 +94,6 @@ convert_again word input stream held n has =
 
 -- ---- Boards go on from what `convert` writes as from its input.
 
--- ---- recast cells restore the same board
-
 module _ (to : Set) (level : ℕ) where
   of_five : (a b c d e : List ℤ) → isa.restored level (recast_each to newest.devices (a ∷ b ∷ c ∷ d ∷ e ∷ [])) ≡ isa.restored level (a ∷ b ∷ c ∷ d ∷ e ∷ [])
   of_five a b c d e = go (wants_arrays to) where
@@ -105,12 +103,7 @@ module _ (to : Set) (level : ℕ) where
 
   same_board : (lists : List (List ℤ)) → length lists ≡ 5 → isa.restored level (recast_each to newest.devices lists) ≡ isa.restored level lists
   same_board (a ∷ b ∷ c ∷ d ∷ e ∷ []) five = of_five a b c d e
-  same_board [] five = absurd (omega arith)
-  same_board (a ∷ []) five = absurd (omega arith)
-  same_board (a ∷ b ∷ []) five = absurd (omega arith)
-  same_board (a ∷ b ∷ c ∷ []) five = absurd (omega arith)
-  same_board (a ∷ b ∷ c ∷ d ∷ []) five = absurd (omega arith)
-  same_board (a ∷ b ∷ c ∷ d ∷ e ∷ f ∷ lists) five = absurd (omega arith)
+  same_board _ five = absurd (omega arith)
 
 -- ---- a stream whose machine is one of some names
 

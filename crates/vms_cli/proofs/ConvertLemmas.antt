@@ -1,12 +1,12 @@
 -- What `convert` answers, and how it ends.
-use Rattle.vms_cli.proofs.AnalyzeLemmas.{Stands}
-use Rattle.vms_cli.proofs.Facade.{◌≡◌, ◌⊎◌, ℕ, zero, suc, ◌<◌, List, [], ◌∷◌, length, get_or, Option, Some, None, ℤ, inl, inr, refl, sym, ap, ◌∙◌, subst, arith}
-use Rattle.vms_cli.proofs.Facade.{◌+◌, ◌≤◌, ◌^◌, Bool, false, true, Result, Ok, Err, IfSome, length-map, slice_get-get_or, Keeps, string_bytes, IsFit, Image}
+use Rattle.vms_cli.proofs.AnalyzeLemmas.{Stands, stands_same}
+use Rattle.vms_cli.proofs.Facade.{◌≡◌, ◌⊎◌, ℕ, zero, suc, ◌<◌, List, [], ◌∷◌, length, get_or, Option, Some, None, ℤ, inl, inr, refl, sym, ap, ◌∙◌, arith}
+use Rattle.vms_cli.proofs.Facade.{◌+◌, ◌^◌, Bool, false, true, Result, Ok, Err, IfSome, length-map, slice_get-get_or, Keeps, string_bytes, IsFit, Image}
 use Rattle.vms_cli.proofs.Facade.{device_cells, Set, written, device_at, AreKept, described_text, carried, Compatible, first_mismatch, IsStreamFor, LosesFirst}
-use Rattle.vms_cli.proofs.Facade.{RefusesFirst, TakesFirst, AreBack, recast_each, KeepsAll, Loses, OfCell, OfDevice, OfMachine, first_cell, numbers_in}
+use Rattle.vms_cli.proofs.Facade.{AreBack, recast_each, KeepsAll, Loses, OfCell, OfDevice, OfMachine, first_cell, numbers_in}
 use Rattle.vms_cli.proofs.Facade.{answered, same_backs, one_lost, newest_kinds, recast_long, fit_word, Isa, Shipped, IsInNewest, newest, Converts, ConvertGives}
 use Rattle.vms_cli.proofs.Facade.{ConvertsBy, ConvertsStream, ConvertsWith, IsDone, IsLost, IsMismatch, LacksLine, LacksMemory, NamesCell, Rewrites, WouldLose}
-use Rattle.vms_cli.proofs.Facade.{agreed, agrees, lost_line, ArrayVec, Held, Intake, Outlet, Stock, reads_as, IsBytes, Refusal, LoadReads, most_given, name_of}
+use Rattle.vms_cli.proofs.Facade.{agreed, agrees, lost_line, ArrayVec, Held, Intake, Outlet, Stock, reads_as, IsBytes, Refusal, LoadReads, name_of}
 use Rattle.vms_cli.proofs.Facade.{loads_kept, Mismatch, ConvertFault, Ending, EndsSo, Risen, is_among, EndsAs, WritesAs, status_of, refused_line, Outcome, done}
 use Rattle.vms_cli.proofs.Facade.{ended, mismatch_line, Step, Gives, Ends, unshelved_so, wrong, comes_to_nothing, ends_with, same_keeps, Seen, SeenAs}
 use Rattle.vms_cli.proofs.Facade.{content_seen, load_seen, other_seen, seen_lost, seen_written, sees_as, convert_course}
@@ -99,8 +99,6 @@ module _ (to : Set) (fit : IsFit to) (compatible : Compatible to newest) (machin
 
 -- ---- From what the call answers to how `convert` ends.
 
--- ---- an input has one outcome
-
 module _ (to : Set) (fit : IsFit to) (compatible : Compatible to newest) (bytes : List ℕ) (held : Option Held) (ok : IsBytes bytes) where
   -- what the front of an input becomes
   abbrev Becomes : Front → Outcome → Type 0
@@ -129,8 +127,7 @@ module _ (to : Set) (fit : IsFit to) (compatible : Compatible to newest) (bytes 
       let b = front_of y q in
       becomes_one a.0 x y a.2 (rw (one_front newest newest_fit bytes ok a.0 b.0 a.1 b.1) at b.2)
 
--- ---- the step that compares
-
+-- the step that compares
 pub agreed_gives : (to : Set) → Compatible to newest → agrees to ≡ Gives to
 agreed_gives to compatible = ap (agreed to) compatible
 
@@ -204,51 +201,33 @@ module _ (to : Set) (fit : IsFit to) (i i' : Intake) (o o' : Outlet) where
 
   -- ---- known or unknown
 
-  within : Compatible to newest → i'.given ≤ i.given + most_given newest → ConvertGives (agrees to) i i'
-  within compatible few = rw (agreed_gives to compatible) few
-
-  few_before : (fault : _) (f : RefusesFirst to newest i i' o o' fault) → length f.reads.bytes ≤ most_given newest → i'.given ≤ i.given + most_given newest
-  few_before fault f long = omega arith
-
-  taken_few : (r : Result (Unit {0}) ConvertFault) (t : TakesFirst to newest i i' o o' r) → i'.given ≤ i.given + most_given newest
-  taken_few r t = omega arith
-
   convert_given : (r : Result (Unit {0}) ConvertFault) → Calls to newest i i' o o' r → ConvertGives (agrees to) i i'
-  convert_given (Ok u) c = within c.0 (taken_few (Ok u) c.1)
+  convert_given (Ok u) c = rw (agreed_gives to c.0) (omega (arith, c.1))
   convert_given (Err (faults.NotCompatible m)) c = rw (ap (agreed to) c.0) c.1
-  convert_given (Err (faults.Refused r)) c = within c.0 (few_before (loads.Refused r) c.1 c.1.reads.long)
-  convert_given (Err (faults.WouldLose section cell)) c = within c.0 (taken_few (Err (faults.WouldLose section cell)) c.1)
-  convert_given (Err faults.ReadFault) c = within c.0 (few_before loads.ReadFault c.1 c.1.reads.long)
-  convert_given (Err faults.WriteFault) c = within c.0 (taken_few (Err faults.WriteFault) c.1)
+  convert_given (Err (faults.Refused r)) c = rw (agreed_gives to c.0) (omega (arith, c.1, c.1.reads.long))
+  convert_given (Err (faults.WouldLose section cell)) c = rw (agreed_gives to c.0) (omega (arith, c.1))
+  convert_given (Err faults.ReadFault) c = rw (agreed_gives to c.0) (omega (arith, c.1, c.1.reads.long))
+  convert_given (Err faults.WriteFault) c = rw (agreed_gives to c.0) (omega (arith, c.1))
   convert_given (Err faults.NoMemory) c = nothing (agrees to) c.0
     where
       nothing : (step : Step Set) → i' ≡ i → ConvertGives step i i'
       nothing (Ends status line) e = e
       nothing step e = omega (arith, ap (λ x. x.given) e)
 
-  -- ---- counts and promises
-
-  stands_same : (later : i.faults ≤ i'.faults) (promise : i'.promise ≡ i.promise) → o' ≡ o → Stands i i' o o'
-  stands_same later promise e = record {
-    input_count = later;
-    out_count = omega (arith, ap (λ x. x.faults) e);
-    input_promise = promise;
-    out_promise = rw e;
-  }
-
+  -- counts and promises
   pub convert_stands : (r : Result (Unit {0}) ConvertFault) → Calls to newest i i' o o' r → Stands i i' o o'
   convert_stands (Ok u) c =
       let t = c.1.reads.takes in
       let p = c.1.converts.puts in
       record { input_count = t.later; out_count = p.later; input_promise = t.promise; out_promise = p.promise }
-  convert_stands (Err (faults.NotCompatible m)) c = stands_same (omega (arith, ap (λ x. x.faults) c.1)) (rw (c.1)) c.2
-  convert_stands (Err (faults.WouldLose section cell)) c = stands_same c.1.reads.takes.later c.1.reads.takes.promise c.1.converts.1
+  convert_stands (Err (faults.NotCompatible m)) c = stands_same i i' o o' (omega (arith, ap (λ x. x.faults) c.1)) (rw (c.1)) c.2
+  convert_stands (Err (faults.WouldLose section cell)) c = stands_same i i' o o' c.1.reads.takes.later c.1.reads.takes.promise c.1.converts.1
   convert_stands (Err faults.WriteFault) c =
       let t = c.1.reads.takes in
       let p = c.1.converts.puts.puts in
       record { input_count = t.later; out_count = p.later; input_promise = t.promise; out_promise = p.promise }
-  convert_stands (Err faults.NoMemory) c = stands_same (omega (arith, ap (λ x. x.faults) c.0)) (rw (c.0)) c.1
-  convert_stands _ c = stands_same c.1.reads.takes.later c.1.reads.takes.promise c.1.none
+  convert_stands (Err faults.NoMemory) c = stands_same i i' o o' (omega (arith, ap (λ x. x.faults) c.0)) (rw (c.0)) c.1
+  convert_stands _ c = stands_same i i' o o' c.1.reads.takes.later c.1.reads.takes.promise c.1.none
 
   -- ---- what it touches
 

@@ -3,8 +3,9 @@ pub use Rattle.std.proofs.{KnownBytes.Keeps-refl, lemmas.Bool.ltb-true, lemmas.B
 pub use Rattle.std.proofs.{lemmas.Option.slice_get-get_or, lemmas.Result.err_from_is_err_and, lemmas.Slice.Eq.bytes_eq-Decides}
 pub use Rattle.std.proofs.Common.{Bool, Err, IfSome, IsErrAnd, IsSomeAnd, List, None, Ok, Option, Result, Some, [], ap, append-nil, arith, codes, false, get_or}
 pub use Rattle.std.proofs.Common.{if◌then◌else◌, inl, inr, le_refl, length, length-append, map, max, nat_le, nat_lt, refl, rules, subst, suc, sym, take, take_all}
-pub use Rattle.std.proofs.Common.{true, zero, ℕ, ℤ, ◌&&◌, ◌++◌, ◌+◌, ◌-◌, ◌<◌, ◌^◌, ◌||◌, ◌∙◌, ◌∷◌, ◌≡◌, ◌≤◌, ◌⊎◌}
+pub use Rattle.std.proofs.Common.{true, zero, ℕ, ℤ, ◌++◌, ◌+◌, ◌-◌, ◌<◌, ◌^◌, ◌||◌, ◌∙◌, ◌∷◌, ◌≡◌, ◌≤◌, ◌⊎◌}
 pub use Rattle.std.proofs.Math.Nat.{le-max_left, le-max_right}
+pub use Rattle.std.proofs.lemmas.Bool.{and_parts}
 pub use Rattle.std.proofs.lemmas.List.{drop_at, get_or-map, length-map, length-take}
 pub use Rattle.std.specs.{Fmt.decimal, Io.KnownBytes.Appends, Io.KnownBytes.Keeps, List.list_all, Option.ForSome, Option.option_map, Prelude.string_bytes}
 pub use Rattle.std.specs.{Result.MatchResult, Str.bytes_eq, declared.alloc.Global.Global, declared.vec.Vec.Vec}
@@ -71,7 +72,7 @@ pub use Rattle.vms_commands.proofs.StepLemmas.{sound_set, sound_sets, sound_word
 pub use Rattle.vms_commands.specs.{Asks.set_asked, SetLines.mismatch_line, declared.ending.Ending.Ending, declared.ending.Ending.TheVariants.WriteFault}
 pub use Rattle.vms_commands.specs.Courses.{EndsSo, Risen, Stands, is_among, of_shelf, text_course}
 pub use Rattle.vms_commands.specs.Endings.{Caused, EndsAs, Quiet, Tells, WritesAs, ending_of, line_of, status_of}
-pub use Rattle.vms_commands.specs.Fetching.{SetText, fetched, fetched_set, is_on_shelf, longest_file, named_sets, set_in, sets_in, text_under, word_set}
+pub use Rattle.vms_commands.specs.Fetching.{SetText, fetched, fetched_set, is_on_shelf, longest_file, named_sets, set_in, sets_in, word_set}
 pub use Rattle.vms_commands.specs.Lines.{bad_words, out_of_memory, read_fault, refused_line, shelf_fault, too_large_line, write_fault}
 pub use Rattle.vms_commands.specs.Outcomes.{ComesTo, Does, DoesOrStops, FailsToStore, HasPart, NotesFault, OutFault, Outcome, Outside, Part, ShelfFault}
 pub use Rattle.vms_commands.specs.Outcomes.{TellsShelfFault, WantsMemory, done, ended, text_begun}
@@ -82,7 +83,7 @@ pub use Rattle.vms_commands.specs.declared.ending.Ending.TheVariants.{BadText, B
 pub use Rattle.vms_convert.proofs.{Answered.answered, Converts.converts_stand, Converts.ready, Converts.same_backs}
 pub use Rattle.vms_convert.proofs.RecastLaws.{newest_kinds, one_lost, recast_long}
 pub use Rattle.vms_convert.specs.{Converted.AreBack, Converted.recast_each, Laws.AreRecastOf, Recast.wants_arrays, declared.fault.ConvertFault.ConvertFault}
-pub use Rattle.vms_convert.specs.Calls.{IsStreamFor, LosesFirst, RefusesFirst, TakesFirst}
+pub use Rattle.vms_convert.specs.Calls.{IsStreamFor, LosesFirst}
 pub use Rattle.vms_convert.specs.Lost.{KeepsAll, Loses, OfCell, OfDevice, OfMachine, first_cell, numbers_in}
 pub use Rattle.vms_counter.specs.{Found.answer_of, declared.finding.Finding.Finding}
 pub use Rattle.vms_counter_laws.proofs.{OneAnswer.machine_known, OneAnswer.one_answer_holds, Stated.always_holds, Stated.computed_holds, Stated.named_holds}
@@ -114,7 +115,7 @@ pub use Rattle.arrayvec.specs.ArrayVec.{ArrayVec}
 pub use Rattle.dev_base.specs.{Levels.IsLevel, Levels.ReachesSet, declared.limits.TheConstants.NEWEST}
 pub use Rattle.dev_board.proofs.{SoundLaws.sound_stays_on}
 pub use Rattle.dev_board.specs.{Laws.AreEvents, Sound.Alike, State.State, declared.event.Event.Event}
-pub use Rattle.dev_board.specs.Saved.{by_device, joined, moment_of, numbers_back, pair_back, pit_back, timed}
+pub use Rattle.dev_board.specs.Saved.{moment_of, numbers_back}
 pub use Rattle.dev_clock_images.proofs.ClockSets.{sets_are_compatible}
 pub use Rattle.dev_serial.proofs.RecastRestores.{recast_restores}
 pub use Rattle.dev_serial.specs.Recast.{recast_cells}

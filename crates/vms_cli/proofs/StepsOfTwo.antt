@@ -1,6 +1,6 @@
 -- Two steps, one after the other, and the two steps of `convert`.
 use Rattle.vms_cli.proofs.{Facade.ConvertsBy, Facade.agrees, Facade.newest, RowLemmas.write_quiet}
-use Rattle.vms_cli.proofs.Facade.{◌≡◌, ℕ, ◌<◌, ◌^◌, Bool, List, Ok, Err, Option, Some, ◌+◌, ◌≤◌, refl, ap, subst, arith, Looks, Intake, Outlet, Stock, Ending}
+use Rattle.vms_cli.proofs.Facade.{◌≡◌, ℕ, ◌<◌, ◌^◌, Bool, List, Ok, Err, Option, Some, ◌+◌, ◌≤◌, refl, ap, arith, Looks, Intake, Outlet, Stock, Ending}
 use Rattle.vms_cli.proofs.Facade.{EndsAs, Outcome, StepAs, TextEnds, Both, Gives, HasText, Step, both, next, Untold, Ends, HasBy, quiet_same, err_text}
 use Rattle.vms_cli.proofs.Facade.{first_err, text_ends, then_as, then_text, WritesBy, Held, most_given, Set, IsGiven, SeenAs, WithGiven, sees_as, ConvertGives}
 
@@ -23,8 +23,6 @@ module _ {A T U : Type 0} (m : T → A) (n : U → Both A) where
   two_of s r t v u is h k =
       then_as m n (λ a. next r (λ b. Gives (record { old = a; new = b }))) s t (Ok u) h
       (then_as m n (λ b. Gives (record { old = m t; new = b })) r v (Ok u) k is)
-
--- ---- a command that writes the text of a step, by a step before
 
 module _ {A T : Type 0} (m : T → A) (f : A → Step (List ℕ)) (step : Step A) (i : Intake) (o : Outlet) (s s' : Stock) (few : i.given < 2 ^ 64)
     (looks : Looks s s') (x : Outcome) (has : HasText s.held (next step f) x) where

@@ -12,8 +12,8 @@ use Rattle.vms_values_laws.proofs.AllCome.{images_of, short_are}
 use Rattle.vms_values_laws.proofs.BadLines.{fine_text, NoneBad}
 use Rattle.vms_values_laws.proofs.Meeting.{named_is, Ends}
 use Rattle.vms_values_laws.proofs.ReadyParts.{device_ready}
-use Rattle.vms_values_laws.proofs.Rights.{AreGood, fine_both, good_both}
-use Rattle.vms_values_laws.proofs.SaidLaws.{all_both, all_from}
+use Rattle.vms_values_laws.proofs.Rights.{AreGood, fine_both}
+use Rattle.vms_values_laws.proofs.SaidLaws.{all_both, all_from, all_parts}
 
 -- ---- Two states with the same lines, and with defaults where there is no line, are the same.
 
@@ -247,7 +247,7 @@ module _ (set : Set) (well : WellFormed set) (good : IsGood set) where
   ready_from (d ∷ devices) [] known shaped unsaid fine goods = absurd shaped
   ready_from (d ∷ devices) (image ∷ images) known shaped unsaid fine goods =
       let f = fine_both (device_entries set d image) (devices_entries set devices images) fine in
-      let g = good_both set (device_entries set d image) (devices_entries set devices images) goods in
+      let g = all_parts _ (device_entries set d image) (devices_entries set devices images) goods in
       let short = short_are image.numbers shaped.0.short in
       let mine = device_ready set d image short shaped.0 unsaid.0 f.0 g.0 known.0.0 known.0.1 known.0.2 in
       let others = ready_from devices images known.1 shaped.1 unsaid.1 f.1 g.1 in

@@ -9,7 +9,7 @@ use Rattle.vms_values_laws.proofs.Facade.{Follows, Along, Begins, Moved, either_
 use Rattle.vms_values_laws.proofs.Facade.{IsShort, devices_entries, is_short, IsShaped, AreShaped, AreUnsaid, AllUnsaid, put_all, Demand, IsGood, DefaultsFit}
 use Rattle.vms_values_laws.proofs.Facade.{ranged, in_range, I64, U64, nat_le, and_from, le-leb}
 use Rattle.vms_spec.specs.declared.ValuesReason.TheVariants as reasons
-use Rattle.vms_values_laws.proofs.SecondPass.{moved_none, moved_one, moved_then, AreShort, numbers_come, follows_then, along_then, short_within, IsLined}
+use Rattle.vms_values_laws.proofs.SecondPass.{moved_none, moved_one, moved_then, AreShort, numbers_come, follows_then, along_then, short_within}
 use Rattle.vms_values_laws.proofs.SecondPass.{AreLined}
 use Rattle.vms_values_laws.proofs.SubsCome.{line_taken, AreSoundSubs, cells_long, none_at, subs_come, Went, Come, stopped_first, behind_numbers, numbers_first}
 use Rattle.vms_values_laws.proofs.SaidLaws.{all_from, unsaid_kept, AreShortSaid, short}
@@ -256,9 +256,6 @@ module _ (set : Set) (d : Device) (devices : List Device) (line : ℕ) (text : L
         rw (x.told.numbers, unsaid_kept (default_numbers set d) x.said c (sym (x.heard image x.told.agrees c) ∙ bare))
         (get_or-map (λ c. c.default) (device_cells set d) c no_cell (pos 0) (omega (arith, length-map (device_cells set d) (λ c. c.default))))
 
-    image_lined : IsLined set d line (record { image = image; line = line; sub_lines = r.lines })
-    image_lined = record { own = refl; subs = x.lines image x.told.agrees }
-
     after_it : r.place.line ≡ line + length (device_entries set d image)
     after_it =
         let along = along_long x.taken (device_entries set d image ++ []) (x.along image [] x.told.agrees) in
@@ -266,7 +263,7 @@ module _ (set : Set) (d : Device) (devices : List Device) (line : ℕ) (text : L
 
     others_come : (o : Result ReadAll BadLine) → AllCome set devices r.place.line r.place.rest o
         → AllCome set (d ∷ devices) line text (with_device (record { image = image; line = line; sub_lines = r.lines }) o)
-    others_come (Ok all) a = record { whole = all_behind a.whole; unsaid = (image_unsaid, a.unsaid); lined = (image_lined, rw after_it at a.lined) }
+    others_come (Ok all) a = record { whole = all_behind a.whole; unsaid = (image_unsaid, a.unsaid); lined = (record { own = refl; subs = x.lines image x.told.agrees }, rw after_it at a.lined) }
     others_come (Err e) a = record { demand = a.demand; images = image ∷ a.images; rest = a.rest; before = all_behind a.before; wrong = a.wrong }
 
   by_device : (r : Result ReadSubs BadLine) (go : ℕ → List ℕ → Result ReadAll BadLine) → AreGoodDevices set devices → DeviceComes set d line text r

@@ -5,13 +5,13 @@ pub use Rattle.std.proofs.Common.{sym, take, true, zero, ℕ, ℤ, ⊎_elim, ◌
 pub use Rattle.std.proofs.Math.Bool.{and-false, and-true, and_assoc, or_assoc}
 pub use Rattle.std.proofs.Math.ListN.{get_or-eq_default}
 pub use Rattle.std.proofs.Math.Seq.{drop-append_seam, drop-cons}
+pub use Rattle.std.proofs.lemmas.Int.{ints}
 pub use Rattle.std.proofs.lemmas.Bool.{and_from, and_parts, cases_eq, cases_lt, eq-eqb, eqb-true, le-leb, le-ltb, leb-true, lt-ltb, ne_eqb, not-true, or_from}
 pub use Rattle.std.proofs.lemmas.Bool.{or_parts, or_right}
 pub use Rattle.std.proofs.lemmas.List.{append_cancel_left, ext_get_or, get_or-append-add, get_or-map, get_or-set_same, get_or_append_left, length-append}
 pub use Rattle.std.proofs.lemmas.List.{length-map, length-set, map-append, map-id, take-append-drop}
 pub use Rattle.std.proofs.lemmas.List.Sums.{sum_by-cons}
 pub use Rattle.std.proofs.lemmas.Option.{get_or_from_slice_get, same_Some, some_pair_parts}
-pub use Rattle.std.proofs.lemmas.Simd.{map-map}
 pub use Rattle.std.proofs.lemmas.Slice.Eq.{bytes_eq-Decides}
 pub use Rattle.std.specs.Fmt.{decimal, digit_glyph, digits_onto, signed_decimal}
 unfoldable pub use Rattle.std.specs.Fmt.{digits}
@@ -20,14 +20,14 @@ pub use Rattle.std.specs.Str.{bytes_eq}
 pub use Rattle.vms_kinds.specs.declared.Item.{Item}
 pub use Rattle.vms_kinds.specs.declared.Item.TheVariants.{Num, Struct}
 pub use Rattle.vms_kinds.specs.declared.Kind.{Kind}
-pub use Rattle.vms_kinds.specs.declared.Kind.TheVariants.{I16, I32, I64, I8, U16, U32, U64, U8}
+pub use Rattle.vms_kinds.specs.declared.Kind.TheVariants.{I64, U64, U8}
 pub use Rattle.vms_spec.proofs.Faultless.{few_devices, machine_short, or_else_none}
 pub use Rattle.vms_spec.proofs.ListLaws.{either_of, or_second}
 pub use Rattle.vms_spec.proofs.NameBytes.{name_byte_high}
 pub use Rattle.vms_spec.proofs.NumberLaws.{not_exceeds, same_number_is, within_all}
 pub use Rattle.vms_spec.proofs.Prefixes.{readers_cells}
 pub use Rattle.vms_spec.proofs.Sizes.{elements_fit, field_size}
-pub use Rattle.vms_spec.proofs.Tables.{first_long, one_more}
+pub use Rattle.vms_spec.proofs.Tables.{first_long}
 pub use Rattle.vms_spec.proofs.WellFormedLaws.{Clean, device_parts, get_none, ranges, struct_clean, sub_clean, well_good}
 pub use Rattle.vms_spec.specs.Good.{DefaultsFit, IsFit, IsGood}
 pub use Rattle.vms_spec.specs.Images.{AreVersionsOf, FitsCell, Image, RulesHold, came_slots, default_image, has_cell, image_slots, own_cells, own_slots}
@@ -71,13 +71,14 @@ pub use Rattle.vms_stream.proofs.Stated.{one_stream_holds, written_holds}
 pub use Rattle.vms_stream.specs.Streams.{Takes}
 pub use Rattle.vms_elements.proofs.EntryLines.{entry_law}
 pub use Rattle.vms_elements.proofs.LinesOf.{printed_append, text_append, text_is}
+pub use Rattle.vms_elements.proofs.Members.{elements_each}
 pub use Rattle.vms_elements.proofs.SlotsOf.{elements_slots}
 pub use Rattle.vms_elements.proofs.Tables.{shapes_cells, two_more}
 pub use Rattle.vms_elements.proofs.Walk.{AreCounted, walks}
 pub use Rattle.vms_elements.specs.Elements.{Element, Number, Rule, Shape, Stand, What, array_elements, behind, cells_in, desc_elements, dotted, elements_from}
 pub use Rattle.vms_elements.specs.Elements.{field_elements, index_text, item_elements, no_shape, shape, shapes, single, stand_of}
 pub use Rattle.vms_elements.specs.Entries.{Entry, OfMachine, OfNumber, OfSection, OfSub, came_well, device_entries, devices_entries, element_reason, entries}
-pub use Rattle.vms_elements.specs.Entries.{entry_line, front_reason, has_come, has_default, have_defaults, if_not, line_reason, number_entries, number_reason}
+pub use Rattle.vms_elements.specs.Entries.{entry_line, front_reason, has_default, have_defaults, if_not, line_reason, number_entries, number_reason}
 pub use Rattle.vms_elements.specs.Entries.{part_reason, rule_holds, rules_hold, spelled_reason, sub_holds, subs_entries, wanted_reason}
 pub use Rattle.vms_elements.specs.Lines.{number_line, printed, section_line, sub_line, text_of}
 pub use Rattle.vms_elements.specs.Parts.{CountsUp, cells_of, cells_with, elements_in, is_number, numbers_in, slot_of, slots_of}
