@@ -61,7 +61,7 @@ pub use Rattle.vms_analyze.specs.Typed.{ReadsAs, device_of, devices_wants, eleme
 pub use Rattle.vms_analyze.specs.Walking.{AtStart, Goes, IsInside, Prints, Stops, Walks, WhyNone, WhyStopped, left}
 pub use Rattle.vms_analyze.specs.Wanted.{Any, Bytes, Differs, Foot, Found, Head, Line, Lines, Machine, Number, Took, Want, behind, device_wants, element_want}
 pub use Rattle.vms_analyze.specs.Wanted.{found, found_after, is_machine, kept_line, machine_line, number_line, only_if, section_line, sent_line, start_wants}
-pub use Rattle.vms_analyze.specs.Wanted.{sub_head_wants, sub_wants, take_machine, take_number, taken, took, wants}
+pub use Rattle.vms_analyze.specs.Wanted.{sub_wants, take_machine, take_number, taken, took, wants}
 pub use Rattle.vms_desc.proofs.{Bounds.few_items, Clean.device_clean, Clean.few_subs, Clean.field_sound, Clean.sub_clean}
 pub use Rattle.vms_desc.specs.{Described.device_at, Formed.is_well_formed, Parts.HasPart, Parts.desc_at, Parts.sub_at}
 pub use Rattle.vms_io.proofs.ReadingLemmas.{breaks_more, nothing_follows, takes_as, takes_both, takes_none}

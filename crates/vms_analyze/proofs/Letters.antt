@@ -1,11 +1,9 @@
 -- Names of a well-formed set and paths are of the bytes that a description may have.
-use Rattle.vms_analyze.proofs.Facade.{◌≡◌, ℕ, zero, suc, ◌+◌, ◌<◌, ◌≤◌, ◌%◌, ◌/◌, Bool, true, false, ◌&&◌, ◌==◌, nat_le, if◌then◌else◌, List, [], ◌∷◌, ◌++◌, elements_each, what_of}
-use Rattle.vms_analyze.proofs.Facade.{length, length-append, refl, ap, ◌∙◌, arith, get_or, ℤ, list_all, AllByRecursion, mod-lt, and_parts}
-use Rattle.vms_analyze.proofs.Facade.{leb-true, le-leb, lt-ltb, and_from, digits, digits_onto, digit_glyph, list_all-append, Count, One, is_name_byte, is_name}
-use Rattle.vms_analyze.proofs.Facade.{is_sub_name, index_text, What, Constant, Filler, Rule}
-use Rattle.vms_analyze.proofs.Facade.{is_path_byte, is_path}
-use Rattle.vms_analyze.proofs.Facade.{sub_name_is, Item, Num, Unused, MOST_UNUSED, in_range, defaults_well, is_small_item, Field, Desc, Set, no_desc}
-use Rattle.vms_analyze.proofs.Facade.{elements_in, Each}
+use Rattle.vms_analyze.proofs.Facade.{◌≡◌, ℕ, zero, suc, ◌+◌, ◌<◌, ◌≤◌, ◌%◌, ◌/◌, Bool, true, false, ◌&&◌, ◌==◌, nat_le, if◌then◌else◌, List, [], ◌∷◌, ◌++◌}
+use Rattle.vms_analyze.proofs.Facade.{elements_each, what_of, length, length-append, refl, ap, ◌∙◌, arith, get_or, ℤ, list_all, AllByRecursion, mod-lt}
+use Rattle.vms_analyze.proofs.Facade.{and_parts, leb-true, le-leb, lt-ltb, and_from, digits, digits_onto, digit_glyph, list_all-append, Count, One}
+use Rattle.vms_analyze.proofs.Facade.{is_name_byte, is_name, is_sub_name, index_text, What, Constant, Filler, Rule, is_path_byte, is_path, sub_name_is, Item}
+use Rattle.vms_analyze.proofs.Facade.{Num, Unused, MOST_UNUSED, in_range, defaults_well, is_small_item, Field, Desc, Set, no_desc, elements_in, Each}
 use Rattle.std.specs.Fmt.{decimal}
 use Rattle.vms_elements.specs.Elements.{Number, Element, behind}
 

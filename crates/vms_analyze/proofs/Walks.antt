@@ -1,15 +1,15 @@
 -- A walk over what is required, part after part.
-use Rattle.vms_analyze.proofs.{Facade.section_line, Streams.takes_machine, Streams.no_machine}
-use Rattle.vms_analyze.proofs.Facade.{map-map, ◌≡◌, ℕ, ◌+◌, List, [], ◌∷◌, ◌++◌, length, append_assoc, append-nil, take, drop, ℤ, refl, sym, ap, ◌∙◌, arith}
-use Rattle.vms_analyze.proofs.Facade.{◌<◌, get_or, ◌≤◌, true, ◌&&◌, nat_le, map, take-append-drop, drop-drop, take_more, flat_map, list_all, flat_map-append}
-use Rattle.vms_analyze.proofs.Facade.{and_parts, leb-true, flat_map_single, flat_map-map, Result, Ok, Err, OnOk, IfErr, ◌^◌, false, ◌==◌, length-append}
-use Rattle.vms_analyze.proofs.Facade.{length-drop, ◌-◌, take_all, Kind, code, InRange, text_of, Want, Number, Line, number_line, behind, found, Bytes}
-use Rattle.vms_analyze.proofs.Facade.{Machine, Head, Foot, element_want, sub_wants, device_wants, start_wants, wants, left, IsInside, Goes}
-use Rattle.vms_analyze.proofs.Facade.{Stops, Prints, WhyStopped, Walks, Walk, text_append, Stop, LONGEST_NAME, end_mark, is_path}
-use Rattle.vms_analyze.proofs.Facade.{is_path_byte, told_of, sub_of, device_of, element_wants, subs_wants, devices_wants, Element, number_at}
-use Rattle.vms_analyze.proofs.Facade.{bytes_at, is_name_byte, begins_with, configuration, section_head, is_machine, machine_line, taken, found_after, begun}
+use Rattle.vms_analyze.proofs.Facade.{section_line, map-map, ◌≡◌, ℕ, ◌+◌, List, [], ◌∷◌, ◌++◌, length, append_assoc, append-nil, take, drop, ℤ, refl, sym, ap}
+use Rattle.vms_analyze.proofs.Facade.{◌∙◌, arith, ◌<◌, get_or, ◌≤◌, true, ◌&&◌, nat_le, map, take-append-drop, drop-drop, take_more, flat_map, list_all}
+use Rattle.vms_analyze.proofs.Facade.{flat_map-append, and_parts, leb-true, flat_map_single, flat_map-map, Result, Ok, Err, OnOk, IfErr, ◌^◌, false, ◌==◌}
+use Rattle.vms_analyze.proofs.Facade.{length-append, length-drop, ◌-◌, take_all, Kind, code, InRange, text_of, Want, Number, Line, number_line, behind, found}
+use Rattle.vms_analyze.proofs.Facade.{Bytes, Machine, Head, Foot, element_want, sub_wants, device_wants, start_wants, wants, left, IsInside, Goes, Stops}
+use Rattle.vms_analyze.proofs.Facade.{Prints, WhyStopped, Walks, Walk, text_append, Stop, LONGEST_NAME, end_mark, is_path, is_path_byte, told_of, sub_of}
+use Rattle.vms_analyze.proofs.Facade.{device_of, element_wants, subs_wants, devices_wants, Element, number_at, bytes_at, is_name_byte, begins_with}
+use Rattle.vms_analyze.proofs.Facade.{configuration, section_head, is_machine, machine_line, taken, found_after, begun}
 use Rattle.vms_analyze.proofs.Following.{Takes, one_follows, takes_line, takes_number, behind_both, takes_head}
-use Rattle.vms_analyze.specs.{declared.told.Device.Device}
+use Rattle.vms_analyze.proofs.Streams.{takes_machine, no_machine}
+use Rattle.vms_analyze.specs.declared.told.Device.{Device}
 use Rattle.vms_analyze.specs.declared.walk.Stop.TheVariants as stops
 
 -- ---- One step of a walk, by what is taken.

@@ -1,12 +1,11 @@
 -- The partners of a device's cells: each is a cell of the newer device, of the same kind, and no cell is the partner of two.
 use Rattle.vms_check_laws.proofs.Facade.{◌≡◌, ℕ, ◌+◌, ◌*◌, ◌<◌, List, ◌++◌, length, get_or, Option, Some, None, refl, sym, arith, slice_get, ap, ◌∙◌}
-use Rattle.vms_check_laws.proofs.Facade.{length-append, [], ◌⊎◌, inl, inr, flat_map, get_or_append_left, get_or-append-add, length-replicate, Cell}
-use Rattle.vms_check_laws.proofs.Facade.{desc_cells, Set, struct_cells, WellFormed, part_partners, Sub, Device, no_cell, device_cells, own_cells, sub_place}
-use Rattle.vms_check_laws.proofs.Facade.{sub_size, sub_place_up, device_parts, sub_clean, sub_found, ArePartners, sub_partners, named_partners}
-use Rattle.vms_check_laws.proofs.Facade.{device_partners}
+use Rattle.vms_check_laws.proofs.Facade.{length-append, [], ◌⊎◌, inl, inr, flat_map, get_or_append_left, get_or-append-add, length-replicate, Cell, desc_cells}
+use Rattle.vms_check_laws.proofs.Facade.{Set, struct_cells, WellFormed, part_partners, Sub, Device, no_cell, device_cells, own_cells, sub_place, sub_size}
+use Rattle.vms_check_laws.proofs.Facade.{sub_place_up, device_parts, sub_clean, sub_found, ArePartners, sub_partners, named_partners, device_partners}
+use Rattle.vms_check_laws.proofs.GoesFields.{part_goes, below_of}
 use Rattle.vms_check_laws.proofs.PairLists.{AreFrom, IsBehind, at_left, at_none, before_or_behind, behind_at, Apart, once_append, IsOnce, IsPair}
 use Rattle.vms_check_laws.proofs.SubParts.{part_in, part_number, one_part, StandsIn, all_long, stands_in, look_up, Found}
-use Rattle.vms_check_laws.proofs.GoesFields.{part_goes, below_of}
 
 module _ (old new : Set) (good_old : WellFormed old) (good_new : WellFormed new) (i : ℕ) (d e : Device) (at_i : slice_get old.devices i ≡ Some d) where
   abbrev old_cells : Sub → List Cell
@@ -49,8 +48,7 @@ module _ (old new : Set) (good_old : WellFormed old) (good_new : WellFormed new)
       cc
 
   distinct : (m m' : ℕ) (s s' : Sub) → slice_get d.subs m ≡ Some s → slice_get d.subs m' ≡ Some s' → s.desc.name ≡ s'.desc.name → m ≡ m'
-  distinct m m' s s' f f' n =
-      cc (sub_found old good_old i m d s at_i f, sub_found old good_old i m' d s' at_i f')
+  distinct m m' s s' f f' n = cc (sub_found old good_old i m d s at_i f, sub_found old good_old i m' d s' at_i f')
 
   -- ---- the device
 

@@ -19,8 +19,7 @@ left_there (Known true) v own parent = refl
 left_there _ v own parent = refl
 
 pub presence_there : (test : Option Formula) (since v : ℕ) (own parent : ℕ → ℕ) → is_there test since v own parent ≡ there (presence v test since) v own parent
-presence_there None since v own parent =
-    elim (nat_le since v) as (λ b. b ≡ there (if b then Some None else None) v own parent) [ true ↦ refl | false ↦ refl ]
+presence_there None since v own parent = elim (nat_le since v) as (λ b. b ≡ there (if b then Some None else None) v own parent) [ true ↦ refl | false ↦ refl ]
 presence_there (Some t) since v own parent = sym (left_there (reduced v t) v own parent ∙ reduced_holds t v own parent)
 
 -- a number's relation
@@ -106,8 +105,7 @@ covers_unused (Num k) (Fixed p) (Unused r) covers = (r, refl)
 covers_unused _ _ _ covers = absurd (cc)
 
 pub not_covered : (i : Item) (c : Count) (j : Item) → is_covered i c j ≡ true → is_num j ≡ true → ⊥
-not_covered i c j covers number =
-    let unused = rw ((covers_unused i c j covers).1) at number in absurd (cc)
+not_covered i c j covers number = let unused = rw ((covers_unused i c j covers).1) at number in absurd (cc)
 
 -- the bytes of n numbers
 pub numbers_length : (numbers : List ℤ) (kind : Kind) (caps : List ℕ) (n at step : ℕ)

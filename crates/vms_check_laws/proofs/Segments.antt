@@ -93,8 +93,7 @@ spells_split y (Rule r ∷ b) c body s = spells_split y b c body s
 -- the rest after the first of two parts
 pub behind_first : (x : List ℤ) (a c : List Slot) (front rest r r' : List ℕ) → (front ++ rest) ++ r' ≡ zeroed x (a ++ c) ++ r
     → front ++ (rest ++ r') ≡ zeroed x a ++ (zeroed x c ++ r)
-behind_first x a c front rest r r' h =
-    rw (append_assoc front rest r', zeroed_append, append_assoc (zeroed x a) (zeroed x c) r) at h
+behind_first x a c front rest r r' h = rw (append_assoc front rest r', zeroed_append, append_assoc (zeroed x a) (zeroed x c) r) at h
 
 -- ---- slots
 

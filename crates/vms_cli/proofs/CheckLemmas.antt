@@ -1,8 +1,7 @@
 -- Of `check`: its steps are known, and where it is done the two sets are compatible.
 use Rattle.vms_cli.proofs.Facade.{Option, Some, None, arith, ◌≡◌, ℕ, ◌<◌, List, refl, inl, inr, Held, Mismatch, named_sets, SetWord, IsSound, sound_next}
 use Rattle.vms_cli.proofs.Facade.{sound_sets, checked, compared, verdict, AreCompatible, Verdict, Set, first_mismatch, HasOutcome, Asked, Check, Outcome}
-use Rattle.vms_cli.proofs.Facade.{Outside, DoesOrStops, ended, mismatch_line, Step, Untold, Gives, Ends}
-use Rattle.vms_cli.proofs.Facade.{Both, HasText, next}
+use Rattle.vms_cli.proofs.Facade.{Outside, DoesOrStops, ended, mismatch_line, Step, Untold, Gives, Ends, Both, HasText, next}
 
 -- ---- The steps of `check` are known where the shelf is.
 
@@ -33,6 +32,5 @@ module _ (status : ℕ) (old new : Outside) (zero : status ≡ 0) where
 
 pub verdict_so : (asked : Option Asked) (left : Option (List ℕ)) (held : Option Held) (status : ℕ) (old new : Outside)
     → ((o : Outcome) → HasOutcome asked left held o → DoesOrStops status old new o) → Verdict asked held status
-verdict_so (Some (Check a b)) left held status old new all =
-    λ zero. are_compatible status old new zero held (named_sets held a b) (sound_sets held a b) all
+verdict_so (Some (Check a b)) left held status old new all = λ zero. are_compatible status old new zero held (named_sets held a b) (sound_sets held a b) all
 verdict_so asked left held status old new all = tt

@@ -79,8 +79,7 @@ module _ (to : Set) (fit : IsFit to) (compatible : Compatible to newest) (machin
     long = recast_long to newest.devices (numbers_in images) (length-map images (λ (image : Image). image.numbers) ∙ kept.one_each)
 
     cells_long : (k : ℕ) → k < length newest.devices → length (get_or wanted k []) ≡ length (device_cells newest (device_at newest k))
-    cells_long k lt =
-        (newest_kinds to newest refl images kept k (device_at newest k) (slice_get-get_or newest.devices k _ lt)).long
+    cells_long k lt = (newest_kinds to newest refl images kept k (device_at newest k) (slice_get-get_or newest.devices k _ lt)).long
 
     device_inside : (k : ℕ) (numbers : List ℤ) → k < length newest.devices → length numbers ≡ length (device_cells newest (device_at newest k))
         → IsInNewest (Some k) (first_cell numbers)
@@ -159,8 +158,7 @@ module _ (to : Set) {i i' : Intake} {o o' : Outlet} {s s' : Stock} where
       → LoadReads i i' newest newest.machines images taken (Err (loads.Refused r)) → line.items ≡ refused_line newest r.at r.section r.reason
       → Seen (OfSet to s) i i' o o' s s' (Some (endings.Refused line))
   refusal_seen images taken {r} {line} reads said =
-      load_seen {P = OfSet to s} newest newest.machines images taken r line reads
-      (λ input size fault. rw said (Refuses r.at r.section r.reason size fault))
+      load_seen {P = OfSet to s} newest newest.machines images taken r line reads (λ input size fault. rw said (Refuses r.at r.section r.reason size fault))
 
 -- ---- the outcome
 

@@ -1,12 +1,11 @@
 -- From how a call ends and why to what it answers.
 use Rattle.vms_cli.proofs.{Entries.fits_of, RowLemmas.caused_so, RowLemmas.row_so, CheckLemmas.verdict_so}
-use Rattle.vms_cli.proofs.Facade.{ℕ, List, length, Option, None, Some, subst, ◌≡◌, [], append-nil, refl, ap, ◌∙◌, IfSome, Alike}
-use Rattle.vms_cli.proofs.Facade.{clock, Family, isa, LoadsBy, Traces, scripted, boards_go_on, stream_with, BoardsGoOn, Outcome, Outside}
-use Rattle.vms_cli.proofs.Facade.{DoesOrStops, Step, Gives, Both, both, next, ScriptLine, events_of, HasOutcome, Asked, IsaBoard}
-use Rattle.vms_cli.proofs.Facade.{ClockBoard, Load, Show, asked_of, Continuation, ContinuesBy, goes_on, Held, HoldsAll, Image, Set, written, WellFormed}
-use Rattle.vms_cli.proofs.Facade.{Compatible, carried, Takes, upgrade_stands, SetText, fetched_set, named_sets, set_in, sets_in, word_set, SetWord}
-use Rattle.vms_cli.proofs.Facade.{FitStep, fit_word, AreCompatible, CheckThenShowLaw, ShowsBy, IsWritten, Upgrade, UpgradesTo, shown_newer}
-use Rattle.vms_cli.proofs.Facade.{Intake, Outlet, Stock, Serves, Ending, Tells, around, outcome_so, Runs, moment, task_of}
+use Rattle.vms_cli.proofs.Facade.{ℕ, List, length, Option, None, Some, subst, ◌≡◌, [], append-nil, refl, ap, ◌∙◌, IfSome, Alike, clock, Family, isa, LoadsBy}
+use Rattle.vms_cli.proofs.Facade.{Traces, scripted, boards_go_on, stream_with, BoardsGoOn, Outcome, Outside, DoesOrStops, Step, Gives, Both, both, next}
+use Rattle.vms_cli.proofs.Facade.{ScriptLine, events_of, HasOutcome, Asked, IsaBoard, ClockBoard, Load, Show, asked_of, Continuation, ContinuesBy, goes_on}
+use Rattle.vms_cli.proofs.Facade.{Held, HoldsAll, Image, Set, written, WellFormed, Compatible, carried, Takes, upgrade_stands, SetText, fetched_set, named_sets}
+use Rattle.vms_cli.proofs.Facade.{set_in, sets_in, word_set, SetWord, FitStep, fit_word, AreCompatible, CheckThenShowLaw, ShowsBy, IsWritten, Upgrade}
+use Rattle.vms_cli.proofs.Facade.{UpgradesTo, shown_newer, Intake, Outlet, Stock, Serves, Ending, Tells, around, outcome_so, Runs, moment, task_of}
 use Rattle.vms_cli.specs.{Answers.Answers, Commands.ShowCommand.Values as Printed}
 use Rattle.dev_board.specs.Sound.{IsSound}
 use Rattle.dev_clock.specs.Sound.{Alike as AlikeClocks, IsSound as IsSoundClock}
@@ -52,8 +51,7 @@ upgrades_by _ fit status old new all = tt
 
 pub upgrade_so : (asked : Option Asked) (status : ℕ) (old new : Outside)
     → ((o : Outcome) → HasOutcome asked old.input.left old.shelf.held o → DoesOrStops status old new o) → Upgrade asked status old new
-upgrade_so (Some (Show word)) status old new all =
-    upgrades_by (word_set old.shelf.held word) (fit_word old.shelf.held word) status old new all
+upgrade_so (Some (Show word)) status old new all = upgrades_by (word_set old.shelf.held word) (fit_word old.shelf.held word) status old new all
 upgrade_so asked status old new all = tt
 
 -- ---- check, and then show

@@ -52,5 +52,4 @@ sound_pack held word name =
     sound_next held (named_parts held word name) packed_parts
     (sound_next held (fetched_set held word) (with_values held name) (sound_word held word)
     (λ t. sound_next held (fetched longest_file held name) _ (sound_fetch held longest_file name)
-    (λ values. sound_next held (set_in t) _ (sound_set held t) (λ set. tt))))
-    (λ parts. sound_read held parts.set (values_read parts.set parts.values))
+    (λ values. sound_next held (set_in t) _ (sound_set held t) (λ set. tt)))) (λ parts. sound_read held parts.set (values_read parts.set parts.values))

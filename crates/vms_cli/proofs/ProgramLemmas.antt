@@ -1,6 +1,5 @@
 -- The flush of the program's texts.
-use Rattle.vms_cli.proofs.Facade.{◌≡◌, ℕ, List, length, Option, None, take_all, le_refl, inl, inr, Some, Keeps, AppendsPrefix, Tells}
-use Rattle.vms_cli.proofs.Facade.{write_fault}
+use Rattle.vms_cli.proofs.Facade.{◌≡◌, ℕ, List, length, Option, None, take_all, le_refl, inl, inr, Some, Keeps, AppendsPrefix, Tells, write_fault}
 use Rattle.vms_commands.specs.declared.ending.Ending.TheVariants as endings
 
 -- what was written is what the writer has

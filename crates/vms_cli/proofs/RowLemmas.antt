@@ -1,5 +1,4 @@
 -- From how a command ends, and why, to its row.
-use Rattle.vms_cli.proofs.{RowFacts.Fits, RowFacts.HasSix}
 use Rattle.vms_cli.proofs.Facade.{◌≡◌, ◌⊎◌, ℕ, true, false, List, [], ◌∷◌, Option, Some, None, inl, inr, refl, sym, ◌∙◌, subst, Err, Bool, ◌++◌, ap, arith}
 use Rattle.vms_cli.proofs.Facade.{Keeps, Appends, is_among, EndsSo, Risen, of_shelf, text_course, wrong, draws_none, so_since, writes_serve, Asked, statuses_of}
 use Rattle.vms_cli.proofs.Facade.{stores_at, takes_at, writes_at, check_course, counter_course, course_of, Looks, looks_reaches, Intake, Outlet, Stock, Serves}
@@ -7,6 +6,7 @@ use Rattle.vms_cli.proofs.Facade.{save_course, Ending, BadText, NotCompatible, R
 use Rattle.vms_cli.proofs.Facade.{Tells, line_of, AsksIf, HadCause, among_left, shelf_has, text_asks, unset_so, WriteCause, WritesBy, Rose, SeenAs, Does}
 use Rattle.vms_cli.proofs.Facade.{DoesOrStops, Outcome, Outside, around, kept_none, outcome_so, same_keeps, Runs, moment, task_of, CanAnswer, ComesSeen}
 use Rattle.vms_cli.proofs.Facade.{DoesSeen, HasCause, OutcomeWith, bad_words, out_of_memory, read_fault, shelf_fault, write_fault, NotThere, Refused, TooLarge}
+use Rattle.vms_cli.proofs.RowFacts.{Fits, HasSix}
 use Rattle.vms_commands.specs.{Courses.Course, declared.ending.Ending.TheVariants.ShelfFault, declared.ending.Ending.TheVariants.WouldLose}
 
 -- what holds but at the statuses of such a list holds too where notes failed

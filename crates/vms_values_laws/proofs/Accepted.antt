@@ -1,4 +1,6 @@
 -- A text that was accepted is the one of its machine and images.
+use Rattle.vms_values_laws.proofs.{AllCome.images_of, AllCome.short_are, BadLines.fine_text, BadLines.NoneBad, Meeting.named_is, Meeting.Ends}
+use Rattle.vms_values_laws.proofs.{ReadyParts.device_ready, Rights.AreGood, Rights.fine_both, SaidLaws.all_both, SaidLaws.all_from, SaidLaws.all_parts}
 use Rattle.vms_values_laws.proofs.Facade.{◌≡◌, ℕ, suc, ◌+◌, Bool, true, false, ◌==◌, List, [], ◌∷◌, ◌++◌, length, get_or, map, Option, Some, None, ℤ, pos}
 use Rattle.vms_values_laws.proofs.Facade.{append_cancel_left, refl, sym, ap, ◌∙◌, arith, codes, zero, ◌≤◌, AllByRecursion, slice_get, eqb-true, leb-true}
 use Rattle.vms_values_laws.proofs.Facade.{ext_get_or, Sub, Device, Set, desc_cells, struct_cells, Image, own_cells, version_text, Element, elements_in, printed}
@@ -8,12 +10,6 @@ use Rattle.vms_values_laws.proofs.Facade.{AreAtVersions, IsMachineOf, AreFine, S
 use Rattle.vms_values_laws.proofs.Facade.{ValuesReason, first_line, IsReady, AreReady, BadLine, ReadDevice, ValuesRead, Values, Bad, machine_named, answer_of}
 use Rattle.vms_values_laws.proofs.Facade.{or_bad, WellFormed, IsGood, device_parts, sub_clean, OfSection, DefaultsFit, device_cells}
 use Rattle.vms_values_laws.proofs.SecondPass.{AreShort, of_numbers, number_same, as_bad, parts_from}
-use Rattle.vms_values_laws.proofs.AllCome.{images_of, short_are}
-use Rattle.vms_values_laws.proofs.BadLines.{fine_text, NoneBad}
-use Rattle.vms_values_laws.proofs.Meeting.{named_is, Ends}
-use Rattle.vms_values_laws.proofs.ReadyParts.{device_ready}
-use Rattle.vms_values_laws.proofs.Rights.{AreGood, fine_both}
-use Rattle.vms_values_laws.proofs.SaidLaws.{all_both, all_from, all_parts}
 
 -- ---- Two states with the same lines, and with defaults where there is no line, are the same.
 
@@ -79,8 +75,7 @@ module _ (set : Set) (d : Device) (image : Image) where
 
   subs_own : (j at : ℕ) (subs : List Sub) (came : List (Option ℕ)) → AreAtVersions subs came
       → AreOwn image.numbers (subs_entries set d image j at subs came)
-  subs_own j at (s ∷ subs) (o ∷ came) h =
-      (h.0, all_both _ (number_entries set s.desc image.numbers at) _ (numbers_own _) (subs_own (suc j) _ subs came h.1))
+  subs_own j at (s ∷ subs) (o ∷ came) h = (h.0, all_both _ (number_entries set s.desc image.numbers at) _ (numbers_own _) (subs_own (suc j) _ subs came h.1))
   subs_own j at _ _ h = tt
 
   whole_own : AreAtVersions d.subs image.came → AreOwn image.numbers (inside_of set d image)

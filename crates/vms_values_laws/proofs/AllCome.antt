@@ -8,11 +8,10 @@ use Rattle.vms_values_laws.proofs.Facade.{is_line, IsSound, AreSound, section_li
 use Rattle.vms_values_laws.proofs.Facade.{Follows, Along, Begins, Moved, either_of, no_cell, Cell, ReadDevice, ReadAll, read_devices, device_read, with_device}
 use Rattle.vms_values_laws.proofs.Facade.{IsShort, devices_entries, is_short, IsShaped, AreShaped, AreUnsaid, AllUnsaid, put_all, Demand, IsGood, DefaultsFit}
 use Rattle.vms_values_laws.proofs.Facade.{ranged, in_range, I64, U64, nat_le, and_from, le-leb}
-use Rattle.vms_spec.specs.declared.ValuesReason.TheVariants as reasons
-use Rattle.vms_values_laws.proofs.SecondPass.{moved_none, moved_one, moved_then, AreShort, numbers_come, follows_then, along_then, short_within}
-use Rattle.vms_values_laws.proofs.SecondPass.{AreLined}
-use Rattle.vms_values_laws.proofs.SubsCome.{line_taken, AreSoundSubs, cells_long, none_at, subs_come, Went, Come, stopped_first, behind_numbers, numbers_first}
 use Rattle.vms_values_laws.proofs.SaidLaws.{all_from, unsaid_kept, AreShortSaid, short}
+use Rattle.vms_values_laws.proofs.SecondPass.{moved_none, moved_one, moved_then, AreShort, numbers_come, follows_then, along_then, short_within, AreLined}
+use Rattle.vms_values_laws.proofs.SubsCome.{line_taken, AreSoundSubs, cells_long, none_at, subs_come, Went, Come, stopped_first, behind_numbers, numbers_first}
+use Rattle.vms_spec.specs.declared.ValuesReason.TheVariants as reasons
 
 abbrev pub default_numbers : Set → Device → List ℤ
 default_numbers set d = (default_image set d).numbers
@@ -72,8 +71,7 @@ module _ (set : Set) (d : Device) (line : ℕ) (text : List ℕ) where
       heard = λ image agrees c. x.heard (state_of d r.came image.numbers) agrees c;
       lines = λ image agrees. x.lines (state_of d r.came image.numbers) agrees;
     }
-    device_comes (Err e) x =
-        record { demand = x.demand; came = x.came; numbers = x.numbers; rest = x.rest; before = with_head x.before; wrong = x.wrong }
+    device_comes (Err e) x = record { demand = x.demand; came = x.came; numbers = x.numbers; rest = x.rest; before = with_head x.before; wrong = x.wrong }
 
   cells_are : length (default_numbers set d) ≡ own_cells set d + cells_long set d d.subs
   cells_are = length-map (device_cells set d) (λ c. c.default) ∙ length-append (desc_cells (struct_cells set) d.desc) _

@@ -1,4 +1,5 @@
 -- Lines without a line feed: a text leads along one list of lines, and the entries of a fit set have no other.
+use Rattle.vms_values_laws.proofs.{Facade.IsMachineOf, SecondPass.reason_same}
 use Rattle.vms_values_laws.proofs.Facade.{◌≡◌, ℕ, zero, suc, ◌+◌, ◌%◌, ◌/◌, Bool, true, false, ◌==◌, nat_lt, if◌then◌else◌, List, ◌∷◌, ◌++◌, length, drop}
 use Rattle.vms_values_laws.proofs.Facade.{Option, Some, None, ℤ, pos, negsuc, refl, sym, ap, ◌∙◌, arith, codes, [], map, append_assoc, ne_eqb, decimal}
 use Rattle.vms_values_laws.proofs.Facade.{signed_decimal, digits, digits_onto, digit_glyph, bytes_eq, bytes_eq-Decides, some_pair_parts, AllByRecursion, ◌&&◌}
@@ -6,14 +7,12 @@ use Rattle.vms_values_laws.proofs.Facade.{get_or, nat_le, take, slice_get, list_
 use Rattle.vms_values_laws.proofs.Facade.{either_of, Cell, first_line, longer_line, begins_with, number_spelled, spelled_holds, begun, What, Number, Element}
 use Rattle.vms_values_laws.proofs.Facade.{section_line, sub_line, text_of, if_not, element_reason, spelled_reason, Entry, entry_line, line_reason, front_reason}
 use Rattle.vms_values_laws.proofs.Facade.{Demand, ForMachine, ForSection, ForSub, ForNumber, reason_for, demand_of, Taken, lines_of, AreFineTaken, Follows}
-use Rattle.vms_values_laws.proofs.Facade.{ValuesReason, AreFine, or_else, Count, One, Field, Desc, Sub, Device, Set, no_desc, counted}
-use Rattle.vms_values_laws.proofs.Facade.{desc_cells, struct_cells, Image, own_cells}
-use Rattle.vms_values_laws.proofs.Facade.{index_text, is_number, elements_in, printed, OfNumber, number_entries, subs_entries, device_entries}
-use Rattle.vms_values_laws.proofs.Facade.{devices_entries, entries, Place, first_answer, is_name_byte, is_name, is_sub_name, is_one_of, machine_named, elements_each}
-use Rattle.vms_values_laws.proofs.Facade.{WellFormed, first_fault, failing, here, set_rules, struct_fault, struct_rules, device_fault, device_rules, sub_rules}
-use Rattle.vms_values_laws.proofs.Facade.{size_rules, Clean, struct_clean, device_parts, sub_clean, get_none, name_byte_high, IsMachineOf}
+use Rattle.vms_values_laws.proofs.Facade.{ValuesReason, AreFine, or_else, Count, One, Field, Desc, Sub, Device, Set, no_desc, counted, desc_cells, struct_cells}
+use Rattle.vms_values_laws.proofs.Facade.{Image, own_cells, index_text, is_number, elements_in, printed, OfNumber, number_entries, subs_entries, device_entries}
+use Rattle.vms_values_laws.proofs.Facade.{devices_entries, entries, Place, first_answer, is_name_byte, is_name, is_sub_name, is_one_of, machine_named}
+use Rattle.vms_values_laws.proofs.Facade.{elements_each, WellFormed, first_fault, failing, here, set_rules, struct_fault, struct_rules, device_fault}
+use Rattle.vms_values_laws.proofs.Facade.{device_rules, sub_rules, size_rules, Clean, struct_clean, device_parts, sub_clean, get_none, name_byte_high}
 use Rattle.vms_values_laws.proofs.SaidLaws.{all_both, all_from, if_holds, if_none, some_if, short}
-use Rattle.vms_values_laws.proofs.SecondPass.{reason_same}
 use Rattle.vms_spec.specs.declared.ValuesReason.TheVariants as reasons
 use Rattle.vms_spec.specs.declared.Part.TheVariants as parts
 

@@ -170,8 +170,7 @@ module _ (set : Set) (d : Device) where
       lines = λ image agrees.
           let all = all_parts _ n.said x.said agrees in x.lines image all.1 ∙ sym (lines_on n image.numbers _ all.0);
     }
-    behind q (Err e) n x =
-        record { demand = x.demand; came = x.came; numbers = x.numbers; rest = x.rest; before = went_behind n x.before; wrong = x.wrong }
+    behind q (Err e) n x = record { demand = x.demand; came = x.came; numbers = x.numbers; rest = x.rest; before = went_behind n x.before; wrong = x.wrong }
 
     -- the numbers of a description, and subsections after them
     pub numbers_first : (r : Read) (go : Standing → Result ReadSubs BadLine) → NumbersCome set desc at p r
@@ -218,8 +217,7 @@ module _ (set : Set) (d : Device) where
 
       sub_comes : (o : Result ReadSubs BadLine) → Come own subs at (next_line p) o → Come (those j at (s ∷ subs)) (s ∷ subs) at p (also came p.line o)
       sub_comes (Ok r) x = record { whole = headed x.whole; heard = x.heard; lines = λ image agrees. rw (x.lines image agrees) }
-      sub_comes (Err e) x =
-          record { demand = x.demand; came = came ∷ x.came; numbers = x.numbers; rest = x.rest; before = headed x.before; wrong = x.wrong }
+      sub_comes (Err e) x = record { demand = x.demand; came = came ∷ x.came; numbers = x.numbers; rest = x.rest; before = headed x.before; wrong = x.wrong }
 
   by_head : (s : Sub) (subs : List Sub) (j at : ℕ) (p : Standing) (o : Option (Option ℕ)) → AreSound set.structs → IsSound s.desc
       → SubLine s (first_line p.rest) o → at + size_of s ≤ length p.numbers

@@ -1,6 +1,5 @@
-use Rattle.vms_cli.proofs.Facade.{◌∙◌, subst, outlet, IsFit, Set, described, well_of, answer_of, WrittenAs, computed, counter_text, ending_of}
+use Rattle.vms_cli.proofs.Facade.{◌∙◌, outlet, IsFit, described, well_of, answer_of, ending_of}
 use Rattle.vms_load.specs.Kept.{loads}
-use Rattle.vms_counter_laws.specs.Counters.{Answer}
 use Rattle.vms_cli.proofs.ShowLemmas.{answered}
 use Rattle.vms_cli.proofs.commands.counter.find.Goals as goal
 

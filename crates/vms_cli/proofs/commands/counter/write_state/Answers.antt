@@ -1,5 +1,5 @@
-use Rattle.vms_cli.proofs.{Facade.machine_of, ShowLemmas.printed_of, PackLemmas.named}
-use Rattle.vms_cli.proofs.Facade.{ℕ, ◌<◌, List, ◌++◌, length, map, Option, IfSome, sym, subst, outlet, Wrote, wrote_behind, values_text, described, state_of}
+use Rattle.vms_cli.proofs.{ShowLemmas.printed_of, PackLemmas.named}
+use Rattle.vms_cli.proofs.Facade.{machine_of, ℕ, ◌<◌, length, map, Option, IfSome, subst, outlet, wrote_behind, values_text, described, state_of}
 use Rattle.vms_cli.proofs.commands.counter.write_state.Goals as goal
 
 pub print_values-requires-clause-named : goal.print_values-requires-clause-named
