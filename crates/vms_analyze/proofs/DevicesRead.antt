@@ -1,9 +1,9 @@
 -- What is read of a description is exactly what it says.
-use Rattle.vms_analyze.proofs.Facade.{map-map, ◌≡◌, ℕ, Bool, true, ◌&&◌, ◌||◌, ◌==◌, nat_le, if◌then◌else◌, List, [], Option, Some, None, ℤ, codes, refl, inl, inr}
+use Rattle.vms_analyze.proofs.Facade.{map-map, ◌≡◌, ℕ, Bool, true, ◌&&◌, ◌||◌, ◌==◌, nat_le, if◌then◌else◌, List, [], Option, Some, None, ℤ, codes, refl, inl}
 use Rattle.vms_analyze.proofs.Facade.{ap, ◌∙◌, ◌∷◌, map, IfSome, Ordering, Equal, subst, ◌+◌, drop, bytes_eq, is_utf8, and_parts, eqb-true, and_from, eq-eqb}
 use Rattle.vms_analyze.proofs.Facade.{bytes_eq-Decides, list_all, nat_cmp, match_ordering, slice_cmp, Data, number, string, object, no_members, member, array}
 use Rattle.vms_analyze.proofs.Facade.{Items, Members, of_integer, get, get_member, as_array, fits, Kind, width, MOST_UNUSED, LONGEST_NAME, in_range, kind_word}
-use Rattle.vms_analyze.proofs.Facade.{kind_named, word_named, tells_kind, natural, entry_tree, list_tree, LONGEST_PATH, Told, Sent, Kept, Fixed, Skipped}
+use Rattle.vms_analyze.proofs.Facade.{kind_named, word_named, tells_kind, natural, entry_tree, list_tree, LONGEST_PATH, Told, Sent, Kept, Fixed, Skipped, inr}
 use Rattle.vms_analyze.proofs.Facade.{told_entry, is_path, is_good, ToldSub, told_sub, ToldDevice, told_device, told_tree, fits_four, is_kept, is_good_sub}
 use Rattle.vms_analyze.proofs.Facade.{is_good_device, IsSorted, AreSorted, HoldSorted, only, text_at, path_at, natural_at, whole_at, sent_keys, kept_keys}
 use Rattle.vms_analyze.proofs.Facade.{unprinted, sent_as, sent_in, kept_as, kept_in, element_in, next, four_at, flag_at, list_at, each, sub_keys, sub_in}

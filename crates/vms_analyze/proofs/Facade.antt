@@ -3,9 +3,9 @@ pub use Rattle.std.proofs.{Math.Bool.and-false, Math.Bool.and-true, Math.ListN.g
 pub use Rattle.std.proofs.{lemmas.Bool.Decides.nat_tests, lemmas.Cmp.nat_list_cmp_total, lemmas.Grind.flat_map-append, lemmas.Int.to_z-of_z}
 pub use Rattle.std.proofs.{lemmas.List.Sums.AllPass-from_list_all, lemmas.Map.Lookups.exact_bytes, lemmas.Map.Text.is_eq-slice_cmp, lemmas.Option.same_Some}
 pub use Rattle.std.proofs.{lemmas.Option.slice_get-get_or, lemmas.Result.err_from_is_err_and, lemmas.Simd.map-map, lemmas.Slice.Eq.bytes_eq-Decides}
-pub use Rattle.std.proofs.Common.{◌⊎◌, inl, inr, Bool, Equal, Err, Global, Greater, IfErr, IfSome, Less, List, None, Ok, OnOk, Option, Ordering, Result, SFits, Some, Vec, []}
-pub use Rattle.std.proofs.Common.{ap, append-nil, append_assoc, ap₂, arith, codes, decimal, drop, false, get_or, if◌then◌else◌, int_le, is_none, is_some}
-pub use Rattle.std.proofs.Common.{length, length-append, length-drop, length-take, map, nat_le, negsuc, not, option_and_then, option_map, pos, refl}
+pub use Rattle.std.proofs.Common.{◌⊎◌, inl, inr, Bool, Equal, Err, Global, Greater, IfErr, IfSome, Less, List, None, Ok, OnOk, Option, Ordering, Result, SFits}
+pub use Rattle.std.proofs.Common.{ap, append-nil, append_assoc, ap₂, arith, codes, decimal, drop, false, get_or, if◌then◌else◌, int_le, is_none, is_some, Some}
+pub use Rattle.std.proofs.Common.{length, length-append, length-drop, length-take, map, nat_le, negsuc, not, option_and_then, option_map, pos, refl, Vec, []}
 pub use Rattle.std.proofs.Common.{replicate, rules, slice_index, subst, suc, sym, take, true, unwrap_or, zero, ℕ, ℤ, ⊎_elim, ◌%◌, ◌&&◌, ◌*◌, ◌++◌, ◌+◌, ◌-◌}
 pub use Rattle.std.proofs.Common.{◌/◌, ◌<◌, ◌==◌, ◌^◌, ◌||◌, ◌∙◌, ◌∷◌, ◌≡◌, ◌≢◌, ◌≤◌}
 pub use Rattle.std.proofs.lemmas.Bool.{and_from, and_parts, cases_lt, eq-eqb, eqb-true, le-leb, le-ltb, leb-true, lt-ltb, ltb-false, ltb-true}
@@ -76,7 +76,8 @@ pub use Rattle.vms_selfdesc.proofs.ReadBack.{absent_sound, array_sound, device_s
 pub use Rattle.vms_selfdesc.proofs.Soundness.{fields_flat, natural_fits, negative_fits, part_sound}
 pub use Rattle.vms_selfdesc.specs.{Drafts.AreSound, Drafts.IsSound, Entries.entries_of, Entries.entry_of, Entries.part_entries}
 pub use Rattle.vms_selfdesc.specs.Tree.{described_text, described_tree, device_trees, entry_tree, list_tree, natural, sub_trees}
-pub use Rattle.vms_values_laws.proofs.{AllCome.short_are, ReadyParts.text_says, SaidLaws.all_both, SaidLaws.all_parts, SecondPass.AreShort, SecondPass.of_numbers}
+pub use Rattle.vms_values_laws.proofs.{AllCome.short_are, ReadyParts.text_says, SaidLaws.all_both, SaidLaws.all_parts, SecondPass.AreShort}
+pub use Rattle.vms_values_laws.proofs.{SecondPass.of_numbers}
 pub use Rattle.vms_values_laws.proofs.Rights.{AreGood, IsFitting, begins_itself, fine_both, fine_rest, line_number, reason_fits}
 pub use Rattle.byteorder.specs.Endian.{big_number}
 pub use Rattle.json.specs.{Lex.tokens, Print.escape}

@@ -216,7 +216,7 @@ module _ (sides : Sides) where
           → (FitsArrays z j fs → AllByRecursion (λ g. (most : ℕ) → g.count ≡ Counted j most → z ≤ℤ pos most) gs)
           → AllByRecursion (λ g. (most : ℕ) → g.count ≡ Counted j most → z ≤ℤ pos most) (g ∷ gs)
       by None e fs h more = (
-        λ most is. at_most_more z n most le (leb-true n most (and_parts (nat_le n most) _ (rw (is, eq-eqb j j refl, e) at absent)).0),
+        λ most is. at_most_more z n most le (leb-true n most (and_parts (nat_le n most) (absent_hold w j n gs) (rw (is, eq-eqb j j refl, e) at absent)).0),
         more h,
       )
       by (Some rest) e fs h more = (h.0, more h.1)

@@ -182,8 +182,9 @@ module _ (sides : Sides) where
       → Reads numbers numbers' (Number x k caps ∷ []) (Number y l caps' ∷ []) y (one_cell l caps' d) (if t then get_or numbers x (pos 0) ∷ [] else d ∷ [])
   number_reads true k l caps caps' d x y same is held =
       let e : y + 0 ≡ y = omega arith in
+      let f : get_or numbers x (pos 0) ≡ get_or numbers' y (pos 0) = sym (rw e at (held.each 0 (omega arith))) in
       record {
-        carries = record { spells = ([], rw (sym (rw e at (held.each 0 (omega arith))), kinds_same k l same), refl); rules = λ h. h };
+        carries = record { spells = ([], rw (f, kinds_same k l same), refl); rules = λ h. h };
         settled = record { each = λ c lt. let z : y ≡ y + c = omega arith in inl (rw (← z, eq-eqb y y refl)) };
       }
   number_reads false k l caps caps' d x y same is held = absurd (cc)

@@ -286,7 +286,8 @@ module _ (structs : List Meaning) (all : List Field) (v : ℕ) (numbers : List �
   entry_known : (i p : ℕ) (f : Field) (pr : Option (Option Formula)) (es : List Entry) → presence v f.test f.since ≡ pr → slice_get all i ≡ Some f
       → place i ≡ base + p → (Whole → FitsAt (field_cells (cells_in structs) all i f) numbers (base + p)) → AreKnown es → AreKnown (entry_of i p f pr ++ es)
   entry_known i p f None es h field here fits known = known
-  entry_known i p f (Some rest) es h field here fits known = (record { field = field; number = rw (get_or_from_slice_get all i f _ field, here); left = h; fits = fits }, known)
+  entry_known i p f (Some rest) es h field here fits known =
+      (record { field = field; number = rw (get_or_from_slice_get all i f _ field, here); left = h; fits = fits }, known)
 
   pub entries_known : (i p : ℕ) (fs : List Field) → ((k : ℕ) → slice_get all (i + k) ≡ slice_get fs k)
       → ((k : ℕ) → place (i + k) ≡ place_of (cells_in structs) all i (base + p) fs k)

@@ -173,9 +173,10 @@ module _ (old new : Set) (good_old : WellFormed old) (good_new : WellFormed new)
         let front = written_section old d im i in
         let image_is : slice_get (carried old new images) p.number ≡ Some (carried_device old new d p.device im) = image_at i d e p ∙ rw im_is in
         let z : i ≡ 0 + i = omega arith in
-        let none = rw (← p.compared_is, z) (answers_none (λ i d. compared old new i d) 0 _ rules.devices i d e) in
+        let fine : compare_device old new i d (Some p.number) (Some p.device) ≡ None =
+        rw (← p.compared_is, z) (answers_none (λ i d. compared old new i d) 0 _ rules.devices i d e) in
         let paired : ArePaired old new i p.number d p.device =
-        record { in_old = e; in_new = p.stands; names = sym p.name_is; instances = sym p.instance_is; rules = none } in
+        record { in_old = e; in_new = p.stands; names = sym p.name_is; instances = sym p.instance_is; rules = fine } in
         let at_number : HasSection new true p.number (slice_get new.devices p.number) (slice_get (carried old new images) p.number) front =
         rw (p.stands, image_is)
         (i, device_stands old new good_old good_new i p.number d p.device paired im i (saved old d im (ready 0 d im refl refl)) (omega arith)) in

@@ -193,19 +193,20 @@ module _ (to : Set) (fit : IsFit to) (i i' : Intake) (o o' : Outlet) where
   -- what is seen, under a set that is well formed and that the newest reads
   seen_by : (s s' : Stock) (e : Option Ending) → Left s s' e → SeenAs (ConvertsWith (agrees to) s.held) i i' o o' s s' e
   seen_by s s' e (Saw compatible v) = λ among.
-      rw (agreed_gives to compatible) (sees_as {P = λ bytes y. Converts to bytes s.held y} {Q = ConvertsWith (Gives to) s.held} (λ bytes y p. (to, refl, (fit, compatible, p))) v)
+      rw (agreed_gives to compatible)
+      (sees_as {P = λ bytes y. Converts to bytes s.held y} {Q = ConvertsWith (Gives to) s.held} (λ bytes y p. (to, refl, (fit, compatible, p))) v)
   seen_by s s' e (Unlike said first none) = other_seen e refl
   seen_by s s' e (Nothing other h) = other_seen e other
 
   -- ---- known or unknown
 
   convert_given : (r : Result (Unit {0}) ConvertFault) → Calls to newest i i' o o' r → ConvertGives (agrees to) i i'
-  convert_given (Ok u) c = rw (agreed_gives to c.0) (omega (arith, c.1))
+  convert_given (Ok u) c = let t = c.1 in rw (agreed_gives to c.0) (omega arith)
   convert_given (Err (faults.NotCompatible m)) c = rw (ap (agreed to) c.0) c.1
-  convert_given (Err (faults.Refused r)) c = rw (agreed_gives to c.0) (omega (arith, c.1, c.1.reads.long))
-  convert_given (Err (faults.WouldLose section cell)) c = rw (agreed_gives to c.0) (omega (arith, c.1))
-  convert_given (Err faults.ReadFault) c = rw (agreed_gives to c.0) (omega (arith, c.1, c.1.reads.long))
-  convert_given (Err faults.WriteFault) c = rw (agreed_gives to c.0) (omega (arith, c.1))
+  convert_given (Err (faults.Refused r)) c = let t = c.1 in rw (agreed_gives to c.0) (omega (arith, t.reads.long))
+  convert_given (Err (faults.WouldLose section cell)) c = let t = c.1 in rw (agreed_gives to c.0) (omega arith)
+  convert_given (Err faults.ReadFault) c = let t = c.1 in rw (agreed_gives to c.0) (omega (arith, t.reads.long))
+  convert_given (Err faults.WriteFault) c = let t = c.1 in rw (agreed_gives to c.0) (omega arith)
   convert_given (Err faults.NoMemory) c = nothing (agrees to) c.0
     where
       nothing : (step : Step Set) → i' ≡ i → ConvertGives step i i'

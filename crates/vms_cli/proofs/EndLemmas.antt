@@ -5,7 +5,7 @@ use Rattle.vms_cli.proofs.Facade.{Traces, scripted, boards_go_on, stream_with, B
 use Rattle.vms_cli.proofs.Facade.{ScriptLine, events_of, HasOutcome, Asked, IsaBoard, ClockBoard, Load, Show, asked_of, Continuation, ContinuesBy, goes_on}
 use Rattle.vms_cli.proofs.Facade.{Held, HoldsAll, Image, Set, written, WellFormed, Compatible, carried, Takes, upgrade_stands, SetText, fetched_set, named_sets}
 use Rattle.vms_cli.proofs.Facade.{set_in, sets_in, word_set, SetWord, FitStep, fit_word, AreCompatible, CheckThenShowLaw, ShowsBy, IsWritten, Upgrade}
-use Rattle.vms_cli.proofs.Facade.{UpgradesTo, shown_newer, Intake, Outlet, Stock, Serves, Ending, Tells, around, outcome_so, Runs, moment, task_of}
+use Rattle.vms_cli.proofs.Facade.{UpgradesTo, shown_newer, Intake, Outlet, Stock, Serves, Ending, Tells, around, outcome_so, Runs, moment, task_of, IsFit}
 use Rattle.vms_cli.specs.{Answers.Answers, Commands.ShowCommand.Values as Printed}
 use Rattle.dev_board.specs.Sound.{IsSound}
 use Rattle.dev_clock.specs.Sound.{Alike as AlikeClocks, IsSound as IsSoundClock}
@@ -80,7 +80,8 @@ check_then_show one other old new sets a b c d status checks shows gives checked
     let upgrade : Upgrade (Some (Show new)) status c d = subst (λ x. Upgrade x status c d) shows shown.upgrade in
     let newer : word_set c.shelf.held new ≡ Gives sets.new = ap (λ h. word_set h new) held ∙ words.1 in
     let clause : UpgradesTo (Gives sets.new) status c d = subst (λ s. UpgradesTo s status c d) newer upgrade in
-    clause sets.old machine text images (subst FitStep words.0 (fit_word a.shelf.held old)).well compatible w left
+    let fit : IsFit sets.old = subst FitStep words.0 (fit_word a.shelf.held old) in
+    clause sets.old machine text images fit.well compatible w left
 
 -- ---- From how a call ends and why to what it answers.
 

@@ -195,7 +195,8 @@ module _ {S : Type 0} (f : Family S) {IsSound : S → Type 0} {AreTold : List (L
       let named : is_one_of (f.set set).machines (f.machine (f.number m)) ≡ true =
       is_among (f.set set).machines (f.number m - 1) (f.machine (f.number m))
       (stands.named (f.number m) set (stands.numbered m sound).first reaches.level_le_set reaches.set_le_newest) in
-      rw (own_stream m) (written_prints held word (f.set set) there (Some (f.machine (f.number m))) (images_saved f set m) named (stands.ready set m sound reaches))
+      rw (own_stream m)
+      (written_prints held word (f.set set) there (Some (f.machine (f.number m))) (images_saved f set m) named (stands.ready set m sound reaches))
 
   lines_print : (lines : List ScriptLine) → AreEvents (events_of lines)
       → PrintsAlike word (saved_stream f set (after_events f (events_of lines) (f.power_on number))) held

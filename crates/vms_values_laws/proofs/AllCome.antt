@@ -261,7 +261,11 @@ module _ (set : Set) (d : Device) (devices : List Device) (line : ℕ) (text : L
 
     others_come : (o : Result ReadAll BadLine) → AllCome set devices r.place.line r.place.rest o
         → AllCome set (d ∷ devices) line text (with_device (record { image = image; line = line; sub_lines = r.lines }) o)
-    others_come (Ok all) a = record { whole = all_behind a.whole; unsaid = (image_unsaid, a.unsaid); lined = (record { own = refl; subs = x.lines image x.told.agrees }, rw after_it at a.lined) }
+    others_come (Ok all) a = record {
+      whole = all_behind a.whole;
+      unsaid = (image_unsaid, a.unsaid);
+      lined = (record { own = refl; subs = x.lines image x.told.agrees }, rw after_it at a.lined);
+    }
     others_come (Err e) a = record { demand = a.demand; images = image ∷ a.images; rest = a.rest; before = all_behind a.before; wrong = a.wrong }
 
   by_device : (r : Result ReadSubs BadLine) (go : ℕ → List ℕ → Result ReadAll BadLine) → AreGoodDevices set devices → DeviceComes set d line text r

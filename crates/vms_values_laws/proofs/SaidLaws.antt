@@ -1,10 +1,10 @@
 -- What is known of a state that agrees with what lines said, and what was said in two parts.
 use Rattle.vms_values_laws.proofs.Facade.{◌≡◌, ℕ, ◌≤◌, List, [], ◌∷◌, ◌++◌, get_or, map, slice_set, ℤ, pos, refl, sym, ap, ◌∙◌, arith, append_assoc, true}
 use Rattle.vms_values_laws.proofs.Facade.{false, if◌then◌else◌, Some, None, same_Some, slice_get, suc, get_or-set_other, Bool, ◌==◌, ◌||◌, length, map-append}
-use Rattle.vms_values_laws.proofs.Facade.{length-append, eq-eqb, or_parts, or_assoc, AllByRecursion, ValuesReason, if_not, Standing, Element, text_of}
-use Rattle.vms_values_laws.proofs.Facade.{text_append, Said, said_line, Agrees, Meets, AreBelow, AreFrom, put_all, Entry, OfNumber, is_of_cell, has_line}
+use Rattle.vms_values_laws.proofs.Facade.{length-append, eq-eqb, or_parts, or_assoc, AllByRecursion, ValuesReason, if_not, Standing, Element, text_of, ranges}
+use Rattle.vms_values_laws.proofs.Facade.{text_append, Said, said_line, Agrees, Meets, AreBelow, AreFrom, put_all, Entry, OfNumber, is_of_cell, has_line, ints}
 use Rattle.vms_values_laws.proofs.Facade.{IsShort, ◌<◌, drop, Option, negsuc, Ok, Err, codes, ◌+◌, get_or-set_same, length-set, signed_decimal, Read, BadLine}
-use Rattle.vms_values_laws.proofs.Facade.{CellLine, put_number, put_line, ◌>>=◌, Number, number_reason, spelled_reason, line_reason, wanted_reason, Kind, U8, ranges, ints}
+use Rattle.vms_values_laws.proofs.Facade.{CellLine, put_number, put_line, ◌>>=◌, Number, number_reason, spelled_reason, line_reason, wanted_reason, Kind, U8}
 use Rattle.vms_values_laws.proofs.Facade.{same_number, exceeds, in_range, Cell, first_line, begins_with, number_spelled, spelled_holds}
 use Rattle.vms_values_laws.proofs.Facade.{line_splits, begun, ForNumber, Moved, Taken, lines_of, reason_for}
 use Rattle.vms_spec.specs.declared.ValuesReason.TheVariants as reasons
@@ -26,9 +26,9 @@ pub all_from : {A : Type 0} (P : A → Type 0) (xs : List A) → ((k : ℕ) (x :
 all_from P [] h = tt
 all_from P (x ∷ xs) h = (h 0 x refl, all_from P xs (λ k y e. h (suc k) y e))
 
-pub all_more : {A : Type 0} {P Q : A → Type 0} (xs : List A) → ((x : A) → P x → Q x) → AllByRecursion P xs → AllByRecursion Q xs
-all_more [] f a = tt
-all_more (x ∷ xs) f a = (f x a.0, all_more xs f a.1)
+pub all_more : {A : Type 0} {P Q : A → Type 0} (xs : List A) → AllByRecursion P xs → ((x : A) → P x → Q x) → AllByRecursion Q xs
+all_more [] a f = tt
+all_more (x ∷ xs) a f = (f x a.0, all_more xs a.1 f)
 
 pub all_parts : {A : Type 0} (P : A → Type 0) (xs ys : List A) → AllByRecursion P (xs ++ ys) → AllByRecursion P xs × AllByRecursion P ys
 all_parts P [] ys a = (tt, a)
@@ -67,7 +67,7 @@ agrees_put (s ∷ said) cell n z b a = (get_or-set_other n cell s.element.cell z
 pub agrees_kept : (said more : List Said) (cell : ℕ) (n : List ℤ) → AreBelow cell said → AreFrom cell more → Agrees said n → Agrees said (put_all n more)
 agrees_kept said [] cell n b f a = a
 agrees_kept said (s ∷ more) cell n b f a =
-    agrees_kept said more cell _ b f.1 (agrees_put said s.element.cell n s.number (all_more said (λ t lt. omega arith) b) a)
+    agrees_kept said more cell _ b f.1 (agrees_put said s.element.cell n s.number (all_more said b (λ t lt. omega arith)) a)
 
 pub put_more : (n : List ℤ) (said more : List Said) → put_all n (said ++ more) ≡ put_all (put_all n said) more
 put_more n [] more = refl
@@ -115,7 +115,7 @@ pub told_both : {low high : ℕ} {n m k : List ℤ} {said more : List Said} → 
     → Told low n (said ++ more) k
 told_both {low = low} {high = high} {n = n} {m = m} {k = k} {said = said} {more = more} f g le below = record {
   agrees = all_both _ said more (rw (g.numbers) (agrees_kept said more high m below g.from f.agrees)) g.agrees;
-  from = all_both _ said more f.from (all_more more (λ s ge. omega arith) g.from);
+  from = all_both _ said more f.from (all_more more g.from (λ s ge. omega arith));
   numbers = rw (g.numbers, f.numbers) (sym (put_more n said more));
   long = g.long ∙ f.long;
   short = all_both _ said more f.short g.short;
@@ -308,7 +308,7 @@ module _ (total : List ℤ → List Element) (start : Standing) (low : ℕ) wher
   pub stay : {cell further : ℕ} {p : Standing} {said : List Said} {left : List ℤ → List Element} → cell ≤ further → At cell p said left
       → Comes further [] said left (Ok p)
   stay {cell = cell} {further = further} {p = p} {said = said} {left = left} le a =
-      let below = all_more said (λ s lt. omega arith) a.below in
+      let below : AreBelow further said = all_more said a.below (λ s lt. omega arith) in
       let stands : At further p said left = record { meets = a.meets; below = below; up = omega arith; told = a.told; moved = a.moved } in
       record { comes = record { said = said; stands = stands; grows = λ m g. g; knows = tt } }
 
@@ -331,7 +331,7 @@ module _ (total : List ℤ → List Element) (start : Standing) (low : ℕ) wher
         let s = said_of x p q put in
         record {
           meets = λ m. meets_more said s (left m) m (total m) (a.meets m);
-          below = all_both _ said (s ∷ []) (all_more said (λ t lt. omega arith) a.below) (omega arith, tt);
+          below = all_both _ said (s ∷ []) (all_more said a.below (λ t lt. omega arith)) (omega arith, tt);
           up = omega arith;
           told = told_both a.told (told_one x p q put (omega arith)) a.up a.below;
           moved = rw (map-append (λ (s : Said). taken_of s) said (s ∷ []), put.line)

@@ -256,8 +256,10 @@ module _ {set : Set} {d : Desc} {at : ℕ} {p q : Standing} (n : NumbersRead set
   pub lines_on : (numbers : List ℤ) (es : List Entry) → Agrees n.said numbers
       → sub_numbers p.line (number_entries set d numbers at ++ es) ≡ sub_numbers q.line es
   lines_on numbers es agrees =
-      subs_past p.line numbers _ es ∙ ap (λ l. sub_numbers l es)
-      (omega (arith, ap length (n.heard numbers agrees) ∙ length-map n.said (λ (s : Said). s.element), length-map n.said (λ (s : Said). taken_of s)))
+      let xs = printed (elements_in set d d.version numbers at) in
+      let on : p.line + length xs ≡ q.line =
+      omega (arith, ap length (n.heard numbers agrees) ∙ length-map n.said (λ (s : Said). s.element), length-map n.said (λ (s : Said). taken_of s)) in
+      subs_past p.line numbers xs es ∙ ap (λ l. sub_numbers l es) on
 
 abbrev pub NumbersCome : Set → Desc → ℕ → Standing → Read → Type 0
 NumbersCome set d at p (Ok q) = NumbersRead set d at p q

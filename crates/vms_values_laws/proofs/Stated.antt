@@ -45,7 +45,8 @@ module _ {set : Set} {text : List ℕ} {machine' : Option (List ℕ)} {taken : L
       → machine ≡ machine_named set.machines (first_line text) → AreShaped set set.devices images → entries set machine images ≡ before ++ after
       → AreClean (before ++ after) → AreFine before → text ≡ text_of (map entry_line before) ++ rest' → Ends o' rest' after → Same taken before o o'
   beside machine images before after rest' o' named shaped state clean fine begins ends =
-      meet taken before after rest rest' o o' (rw (← state, named, ← t.named) (t.follows images shaped)) clean t.moved.fine fine (sym t.moved.texts ∙ begins) ends
+      meet taken before after rest rest' o o' (rw (← state, named, ← t.named) (t.follows images shaped)) clean t.moved.fine fine
+      (sym t.moved.texts ∙ begins) ends
 
   against : {line : ℕ} {reason : ValuesReason} (x : IsBadLine set text line reason) → AreClean (entries set x.machine x.images)
       → Same taken x.before o (Some reason)

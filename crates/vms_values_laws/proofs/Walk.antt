@@ -131,7 +131,7 @@ module _ (total : List ℤ → List Element) (start : Standing) (low : ℕ) wher
         → Here at p said (λ m. wrapped steps path present (item_elements ss item caps f.default m at) ++ left m)
         → Came end (single_cell item at) said left (read_item rs f caps path present at item p)
     item_comes f (Num kind) caps steps path present at end p said left e room a =
-        let c = record { kind = kind; capacities = caps; default = f.default } in
+        let c : Cell = record { kind = kind; capacities = caps; default = f.default } in
         rw e (by_read total start low (spot steps path present at c) p said left (omega arith)
         (at_left total start low (λ m g. ap (λ x. x ∷ left m) (rw (append-nil steps, append-nil path, and-true present) refl)) a) _
         (one_line steps path present at c p))

@@ -15,4 +15,5 @@ returns-in-Ok g c =
     let d = outlet g.O.Sink c.print_values.new.sink in
     let r = c.print_values.result in
     let states = map state_of c.args.images.now in
-    rw (named set c.args.machine (λ m e. subst (λ (x : Option ℕ). IfSome x (λ k. k < length set.machines)) e c.requires.machine)) (wrote_behind r d (values_text set (machine_of set c.args.machine) states) c.in-Ok.ensures c.print_values.ensures)
+    rw (named set c.args.machine (λ m e. subst (λ (x : Option ℕ). IfSome x (λ k. k < length set.machines)) e c.requires.machine))
+    (wrote_behind r d (values_text set (machine_of set c.args.machine) states) c.in-Ok.ensures c.print_values.ensures)
