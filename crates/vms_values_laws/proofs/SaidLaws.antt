@@ -178,6 +178,7 @@ Stepped x p o (Err e) = NotPut x p o e
 -- a number in the range of a kind has at most 64 bits
 pub short : (kind : Kind) (z : ℤ) → in_range kind z ≡ true → IsShort z
 short U8 (pos n) e = let r = ranges U8 (pos n) e in omega (arith, ints)
+short U8 (negsuc n) e = let r = ranges U8 (negsuc n) e in omega (arith, ints)
 short kind (pos n) e = let r = ranges kind (pos n) e in omega (arith, ints)
 short kind (negsuc n) e = let r = ranges kind (negsuc n) e in omega (arith, ints)
 
