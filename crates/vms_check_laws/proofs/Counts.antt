@@ -192,7 +192,7 @@ module _ (sides : Sides) where
       → Met sides e f → IsSingle f.field.item f.field.count → (most : ℕ) → f.field.count ≡ Counted j most → z ≤ℤ pos most
   fits_array z i j e f at_i all met single most is =
       elim (decoded two e f met.good) [
-        | inl c ↦ let one = rw (covers_unused _ _ _ c.covers).1 at single in let bad = rw is at one in absurd (cc)
+        | inl c ↦ let one = rw (covers_unused e.field.item e.field.count f.field.item c.covers).1 at single in let bad = rw is at one in absurd (cc)
         | inr m ↦
             let p = paired o n _ _ j most is m.count m.room in
             let counts : e.field.count ≡ Counted i p.1 = rw (at_i p.0 p.3) at p.2 in

@@ -3,7 +3,7 @@ use Rattle.vms_check_laws.proofs.{Facade.ItemBelow, Facade.defaults, Presence.Na
 use Rattle.vms_check_laws.proofs.Counts.{IsCounting, Counter, CountKnown, DescGood, StructsGood}
 use Rattle.vms_check_laws.proofs.Facade.{◌≡◌, ℕ, suc, ◌+◌, Bool, true, List, ◌∷◌, length, Option, Some, None, refl, arith, ℤ, nat_lt, slice_get, and_parts}
 use Rattle.vms_check_laws.proofs.Facade.{and_from, slice_get-get_or, [], U8, U16, U32, Item, Num, Equal, Unused, Count, Counted, Own, Parent, Formula, Not, And}
-use Rattle.vms_check_laws.proofs.Facade.{Or, Field, Desc, Sub, Device, Set, counted, names_well, nobody, is_steady, is_steady_in, is_earlier_in}
+use Rattle.vms_check_laws.proofs.Facade.{Or, Field, Desc, Sub, Device, Set, counted, names_well, nobody, is_steady, is_steady_in, is_earlier_in, ◌&&◌}
 use Rattle.vms_check_laws.proofs.Facade.{test_names_well, count_names_well, is_counting, defaults_well, counts_well, has_good_count, field_rules}
 use Rattle.vms_check_laws.proofs.Facade.{validation_rules, WellFormed, AllTrue, item_below, Clean, ranges, within, struct_clean, device_parts, sub_clean}
 use Rattle.vms_check_laws.proofs.Premises.{IsSingle, CountNamed, RulesNamed, ItemDefault, DefaultsGood}
