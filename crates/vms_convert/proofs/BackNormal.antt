@@ -96,7 +96,8 @@ module _ (to : Set) (well : WellFormed to) (heads : FitsHeads to) (i : ℕ) (d :
         → ((j : ℕ) (s : Sub) (v : ℕ) → slice_get d.subs j ≡ Some s → slice_get came j ≡ Some (Some v) → in_sub s v now j c ≡ false)
         → in_subs now came c ≡ false
     none_else c came h =
-        parts_together to d now (λ xs. has_cell xs c ≡ false) refl (λ xs ys p q. rw (names_append xs ys c, p, q)) (own_cells to d) d.subs came h
+        parts_together to d now (λ xs. has_cell xs c ≡ false) refl (λ xs ys p q. rw (names_append xs ys c, p, q))
+        (own_cells to d) d.subs came h
 
     absent_own : (c : ℕ) → c < length cells → c < own_cells to d → in_own then_ c ≡ false → get_or then_ c (pos 0) ≡ default_at c
     absent_own c lt own none =

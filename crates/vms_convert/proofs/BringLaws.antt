@@ -1,10 +1,11 @@
 -- The parts of a device, as the code walks over them by number.
-use Rattle.vms_convert.proofs.{Facade.changed_append, Facade.step_of, TakeLaws.first_slots, TakeLaws.first_next, TakeLaws.one_slots}
 use Rattle.vms_convert.proofs.Facade.{add-one, ◌≡◌, ℕ, ◌+◌, ◌<◌, ◌≤◌, Bool, true, false, List, length, Option, Some, None, ℤ, refl, sym, ap, ◌∙◌, arith, get_or}
 use Rattle.vms_convert.proofs.Facade.{append-nil, slice_get-get_or, slice_get, take_all, map-append, Sub, Device, Set, device_cells, own_slots, Image}
 use Rattle.vms_convert.proofs.Facade.{image_slots, needed_at, device_at, is_well_formed, sub_at, few_cells, own_inside_device, sub_inside, Typed, HasSpot}
 use Rattle.vms_convert.proofs.Facade.{spot_slots, steps_of, SettlesBy, SettlesSub, part_of, own_part, part_slots, sub_slots_at, changed, part_place, give_step}
+use Rattle.vms_convert.proofs.Facade.{changed_append, step_of}
 use Rattle.vms_spec.specs.declared.Part.TheVariants as parts
+use Rattle.vms_convert.proofs.TakeLaws.{first_slots, first_next, one_slots}
 
 module _ (set : Set) (i : ℕ) (lt : i < length set.devices) where
   abbrev d : Device
@@ -15,7 +16,11 @@ module _ (set : Set) (i : ℕ) (lt : i < length set.devices) where
 
   module _ (well : is_well_formed set ≡ true) (n : List ℤ) (long : length n ≡ length (device_cells set (device_at set i))) where
     pub own_spot : HasSpot set (part_of set (parts.Device i)) n
-    own_spot = record { part = lt; few = omega (arith, few_cells set well i); room = omega (arith, own_inside_device set i) }
+    own_spot = record {
+      part = lt;
+      few = omega (arith, few_cells set well i);
+      room = omega (arith, own_inside_device set i);
+    }
 
     pub sub_spot : (j : ℕ) → j < length (device_at set i).subs → HasSpot set (part_of set (parts.Sub i j)) n
     sub_spot j less = record {

@@ -1,6 +1,4 @@
 -- What is converted loads as the newer set's, and again.
-use Rattle.vms_convert.proofs.{Facade.stream_of, Facade.ArePut, HasBack.one_back, Settling.back_versions, Settling.some_at, BringLaws.there}
-use Rattle.vms_convert.proofs.BackNormal.{back_may, at_get, gives, given_all, steps_long}
 use Rattle.vms_convert.proofs.Facade.{subst, ◌≡◌, ℕ, ◌≤◌, true, false, ◌&&◌, List, [], ◌∷◌, length, get_or, Option, Some, refl, sym, ap, ◌∙◌, arith, ℤ}
 use Rattle.vms_convert.proofs.Facade.{if◌then◌else◌, ◌<◌, map, slice_get_within, slice_get, get_or-map, length-map, Ok, Device, Set, Image, IsNormal}
 use Rattle.vms_convert.proofs.Facade.{image_slots, AreReady, longest_text, written, WellFormed, device_cells, Cell, no_cell, IsFit, same_lists, well_good}
@@ -8,6 +6,13 @@ use Rattle.vms_convert.proofs.Facade.{Compatible, carried, carried_device, pair,
 use Rattle.vms_convert.proofs.Facade.{IsPairAt, recast_each, OneBackLaw, BackLaw, AreRecastOf, numbers_in, device_partners, recast, is_port, wants_arrays}
 use Rattle.vms_convert.proofs.Facade.{device_paired, U8, ArePartners, AreOfKinds, carried_stands, device_at, kinds_at, Typed, default_at, state_of, steps_of}
 use Rattle.vms_convert.proofs.Facade.{IsBack, Changes, AreTargets, give_step, AreSources, IsWholeStream, Converts, at_option, IsStreamFor, PutsStream, Judges}
+use Rattle.vms_convert.proofs.Facade.{stream_of, ArePut}
+use Rattle.vms_convert.proofs.BackNormal.{back_may, at_get, gives, given_all, steps_long}
+use Rattle.vms_convert.proofs.HasBack.{one_back}
+use Rattle.vms_convert.proofs.Settling.{back_versions, some_at}
+use Rattle.vms_convert.proofs.BringLaws.{there}
+use Rattle.vms_load.specs.declared.fault.LoadFault.TheVariants as loads
+use Rattle.vms_convert.specs.declared.fault.ConvertFault.TheVariants as faults
 
 pub one_stands : OneBackLaw
 one_stands to fit i d there partners numbers x y p q =
@@ -34,7 +39,8 @@ each_twice to _ _ = refl
 module _ (to new : Set) (fit : IsFit to) (well : WellFormed new) (compatible : Compatible to new) where
   -- the images that come back of the same numbers are the same
   pub same_backs : (wanted : List (List ℤ)) (xs ys : List Image) → AreBack to new wanted xs → AreBack to new wanted ys → ys ≡ xs
-  same_backs wanted xs ys p q = same_lists ys xs (omega arith) (λ i lt. each i (omega arith) (omega arith) (omega arith))
+  same_backs wanted xs ys p q =
+      same_lists ys xs (omega arith) (λ i lt. each i (omega arith) (omega arith) (omega arith))
     where
       each : (i : ℕ) → i < length to.devices → i < length ys → i < length xs → slice_get ys i ≡ slice_get xs i
       each i a b c =
@@ -87,7 +93,12 @@ module _ (to new : Set) (fit : IsFit to) (well : WellFormed new) (compatible : C
           text = text;
           stream = subst (λ b. IsWholeStream new new.machines b machine (carried to new backs) (Some text)) (sym converted.is) stream;
           cells = sym keeps.cells;
-          again = record { backs = backs; back = rw wanted_is converted.back; keeps = rw wanted_is keeps; is = converted.is };
+          again = record {
+            backs = backs;
+            back = rw wanted_is converted.back;
+            keeps = rw wanted_is keeps;
+            is = converted.is;
+          };
           one = λ others again.
               let one = same_backs wanted backs again.backs converted.back (rw wanted_is at again.back) in
               again.is ∙ ap (λ (b : List Image). written to machine b (Some (describe b))) one ∙ sym converted.is;

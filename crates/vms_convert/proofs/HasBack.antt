@@ -19,7 +19,9 @@ alike : (c : ℕ) (xs : List Slot) → Alike c xs xs
 alike c xs = record { is = refl }
 
 either_part : {c : ℕ} {xs ys us vs : List Slot} → Alike c xs us → Alike c ys vs → Alike c (xs ++ ys) (us ++ vs)
-either_part {c} {xs} {ys} {us} {vs} p q = record { is = rw (names_append xs ys c, names_append us vs c, p.is, q.is) }
+either_part {c} {xs} {ys} {us} {vs} p q = record {
+  is = rw (names_append xs ys c, names_append us vs c, p.is, q.is);
+}
 
 -- ---- structures
 

@@ -1,12 +1,13 @@
 -- What was found of the devices, as the relations say it.
-use Rattle.vms_convert.proofs.{Converts.back_stands, RecastLaws.newest_kinds, RecastLaws.recast_long}
 use Rattle.vms_convert.proofs.Facade.{◌≡◌, ℕ, ◌<◌, List, [], ◌∷◌, length, get_or, map, Option, Some, None, Result, Ok, Err, ℤ, refl, sym, ◌∙◌, arith}
 use Rattle.vms_convert.proofs.Facade.{length-map, slice_get-get_or, slice_get_within, slice_get, IsFit, Device, Set, Image, Cell, device_cells, find_device}
 use Rattle.vms_convert.proofs.Facade.{set_4, AreReady, IsReady, WellFormed, device_at, IsNameAt, device_is, Typed, state_of, shipped_holds, AreKept, name_of}
 use Rattle.vms_convert.proofs.Facade.{device_below, carried, Compatible, AreOfKinds, back, pair, all_in, AreBack, recast_each, AreWritable, FirstInvalid}
 use Rattle.vms_convert.proofs.Facade.{Judges, KeepsMachine, KeepsName, first_cell_at, first_of, IsValidAt, Loses, OfDevice, OfMachine, first_cell, numbers_in}
 use Rattle.vms_convert.proofs.Facade.{AreReturned, AreReturnedTo, IsFirstLost, Loss, LostCell}
+use Rattle.vms_convert.proofs.Converts.{back_stands}
 use Rattle.vms_convert.proofs.LostLaws.{all_carried, cell_lost, no_device}
+use Rattle.vms_convert.proofs.RecastLaws.{newest_kinds, recast_long}
 
 module _ (to new : Set) (wanted : List (List ℤ)) (images : List Typed) (lost : Option LostCell)
     (returned : AreReturnedTo to new wanted (length to.devices) images lost) where
@@ -92,7 +93,8 @@ module _ (to new : Set) (images : List Typed) (writable : AreWritable to images)
 module _ (to new : Set) (name : Option (List ℕ)) (wanted there : List (List ℤ)) (backs : List Image) (same : wanted ≡ there) where
   pub machine_judged : FirstInvalid to new backs None → (r : Result (Option ℕ) Loss) → KeepsMachine to name r → Judges to new name wanted there backs r
   machine_judged valid (Ok m) h = (record { cells = same; valid = valid; machine_is = h.one }, h)
-  machine_judged valid (Err loss) h = rw h.loss_is (OfMachine h.which same valid h.is h.none)
+  machine_judged valid (Err loss) h =
+      rw h.loss_is (OfMachine h.which same valid h.is h.none)
 
 -- a machine that is found by its name
 pub keeps_machine : (to new : Set) (names : List (List ℕ)) (name : List ℕ) (k own : ℕ) → names ≡ to.machines → name ≡ get_or new.machines k []

@@ -1,5 +1,4 @@
 -- What is lost first, from what is found of each of the older set's devices.
-use Rattle.vms_convert.proofs.{Facade.kinds, Facade.recast_each, Facade.at_other, Facade.IsImageOf, HasBack.extend, HasBack.appended, BringLaws.there}
 use Rattle.vms_convert.proofs.Facade.{◌≡◌, ℕ, ◌+◌, ◌<◌, Bool, true, false, nat_lt, List, [], ◌∷◌, ◌++◌, length, get_or, map, Option, Some, None, ℤ, refl, sym}
 use Rattle.vms_convert.proofs.Facade.{ap, ◌∙◌, arith, if◌then◌else◌, get_or-append_seam, ltb-true, ltb-false, get_or_append_left, get_or_default, length-map}
 use Rattle.vms_convert.proofs.Facade.{get_or_from_slice_get, slice_get-get_or, slice_get_within, slice_get, take_all, length-append, ◌≤◌, slice_set, take}
@@ -8,10 +7,13 @@ use Rattle.vms_convert.proofs.Facade.{device_is, carried, carried_at, carried_de
 use Rattle.vms_convert.proofs.Facade.{all_in, answers_none, at_map, DifferAt, Loses, OfCell, numbers_in, FirstDifference, ArePaired, IsFirstLost, IsLostCell}
 use Rattle.vms_convert.proofs.Facade.{carried_of, LostCell, IsBack, device_partners, default_image, Typed, state_of, AreImagesOf, default_at, typed, IsReturned}
 use Rattle.vms_convert.proofs.Facade.{AreReturnedTo, AreReturned, IsRecastFor, kinds_at, recast, AreFresh, AreRoutes, IsRoute, Route, first, set_4, AreKept}
-use Rattle.vms_convert.proofs.RecastLaws.{newest_kinds, port_cells, port_is, recast_at}
-use Rattle.vms_convert.specs.{Returns.IsEarlier}
+use Rattle.vms_convert.proofs.Facade.{kinds, recast_each, at_other, IsImageOf}
 use Rattle.std.proofs.lemmas.List.{same_lists, length-set}
 use Rattle.vms_check_laws.proofs.Streaming.{rules}
+use Rattle.vms_convert.specs.Returns.{IsEarlier}
+use Rattle.vms_convert.proofs.HasBack.{extend, appended}
+use Rattle.vms_convert.proofs.BringLaws.{there}
+use Rattle.vms_convert.proofs.RecastLaws.{newest_kinds, port_cells, port_is, recast_at}
 use Rattle.vms_spec.specs.declared.Part.TheVariants as parts
 
 abbrev pub no_device : Device
@@ -41,7 +43,8 @@ module _ (to new : Set) (wanted : List (List ℤ)) where
     -- what the devices before give, and this one
     upto : (l : ℕ) → ((i : ℕ) → i < n → ArePaired to new i l → get_or wanted l [] ≡ carried_of to new backs i l) → (ArePaired to new n l → Gives n l)
         → (i : ℕ) → i < n + 1 → ArePaired to new i l → Gives i l
-    upto l front end i lt = extend (λ (i : ℕ). ArePaired to new i l → Gives i l) n (λ i lt p. rw (at_front i l lt) (front i lt p)) end i (omega arith)
+    upto l front end i lt =
+        extend (λ (i : ℕ). ArePaired to new i l → Gives i l) n (λ i lt p. rw (at_front i l lt) (front i lt p)) end i (omega arith)
 
     -- this device gives all its numbers
     end_gives : get_or wanted k [] ≡ gives → (l : ℕ) → ArePaired to new n l → Gives n l
@@ -114,7 +117,11 @@ module _ (to new : Set) (well_to : WellFormed to) (well_new : WellFormed new) (c
   older_pair k e at o =
       let d_is = device_is to o.i o.d o.stands in
       let e_is = device_is new k e at in
-      record { in_old = o.stands ∙ ap (λ (d : Device). Some d) (sym d_is); found = rw d_is (o.back); in_new = cc }
+      record {
+        in_old = o.stands ∙ ap (λ (d : Device). Some d) (sym d_is);
+        found = rw d_is (o.back);
+        in_new = cc;
+      }
 
   module _ (backs : List Image) where
     abbrev given : List (List ℤ)

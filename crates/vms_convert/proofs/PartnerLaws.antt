@@ -37,7 +37,8 @@ entries_shifted y all w i p at (g ∷ gs) =
 module _ (structs : List Pairer) (x y : List (List Cell)) where
   field_shifted : (f : Field) (o : Option (Option Formula)) (es : List Entry) (at : ℕ)
       → field_partners structs x y f o es at ≡ field_partners structs x y f o (shifted at es) 0
-  field_shifted f (Some rest) (e ∷ es) at = let z : 0 + (at + e.place) ≡ at + e.place = omega arith in rw z
+  field_shifted f (Some rest) (e ∷ es) at =
+      let z : 0 + (at + e.place) ≡ at + e.place = omega arith in rw z
   field_shifted f _ _ at = refl
 
   left_shifted : (o : Option (Option Formula)) (es : List Entry) (at : ℕ)
@@ -164,7 +165,8 @@ module _ (structs : List Pairer) (x y : List (List Cell)) (all : List Field) (v 
 
   pub left_paired : (f : Entry) (es : List Entry) → is_absent v here ≡ false
       → left k (f ∷ es) ≡ array_partners structs x y here.item f.field.item (capacity_of here.count) (capacity_of f.field.count) f.place ++ left (k + 1) es
-  left_paired f es e = let z : 0 + f.place ≡ f.place = omega arith in rw (left_here (f ∷ es), (something (presence v here.test here.since) e).is, z)
+  left_paired f es e =
+      let z : 0 + f.place ≡ f.place = omega arith in rw (left_here (f ∷ es), (something (presence v here.test here.since) e).is, z)
 
 -- ---- elements
 
@@ -175,7 +177,8 @@ module _ (structs : List Pairer) (x y : List (List Cell)) (a b : Item) where
   -- by the number of the element
   pub element_paired : (n m i at : ℕ) → i < n → i < m
       → arrays (n - i) (m - i) at ≡ item_partners structs x y a b at ++ arrays (n - (i + 1)) (m - (i + 1)) (at + item_size y b)
-  element_paired n m i at ln lm = let s : n - i ≡ suc (n - (i + 1)) = omega arith in let t : m - i ≡ suc (m - (i + 1)) = omega arith in rw (s, t)
+  element_paired n m i at ln lm =
+      let s : n - i ≡ suc (n - (i + 1)) = omega arith in let t : m - i ≡ suc (m - (i + 1)) = omega arith in rw (s, t)
 
   pub element_alone : (n m i at : ℕ) → i < n → m ≤ i → arrays (n - i) (m - i) at ≡ unpaired (item_size x a) ++ arrays (n - (i + 1)) (m - (i + 1)) at
   element_alone n m i at ln le =
@@ -186,7 +189,8 @@ module _ (structs : List Pairer) (x y : List (List Cell)) (a b : Item) where
 
 -- a number of elements of a size, and those from the next one on
 pub all_but_one : (n i size : ℕ) → i < n → (n - i) * size ≡ size + (n - (i + 1)) * size
-all_but_one n i size lt = let s : n - i ≡ suc (n - (i + 1)) = omega arith in rw s (omega arith)
+all_but_one n i size lt =
+    let s : n - i ≡ suc (n - (i + 1)) = omega arith in rw s (omega arith)
 
 -- one of some is no more than all
 pub one_of_all : (n size : ℕ) → 0 < n → size ≤ n * size

@@ -49,7 +49,10 @@ module _ (s : Side) where
       let room = h.room in
       let few = few_are (size_at k) (omega arith) in
       record {
-        start = record { inside = omega arith; room = rw field (omega arith) };
+        start = record {
+          inside = omega arith;
+          room = rw field (omega arith);
+        };
         field = field;
         cell = omega arith;
       }

@@ -6,7 +6,8 @@ use Rattle.vms_convert.proofs.Facade.{no_cell, device_cells, Image, own_cells, i
 use Rattle.vms_convert.proofs.Facade.{place_below, place_end, sub_size, sub_place_up, places_apart, part_place, SameIn, earlier, sub_clean, bare, needed_from}
 use Rattle.vms_convert.proofs.Facade.{IsCellOf, AreSettled, whole, IsBack, same_lists, IsAtVersions, device_at, needed_at, sub_at, ArePutAt, Typed, SettlesSub}
 use Rattle.vms_convert.proofs.Facade.{SettlesBy}
-use Rattle.vms_spec.specs.{Sets.Cell, Layout.Cell as OneCell}
+use Rattle.vms_spec.specs.Sets.{Cell}
+use Rattle.vms_spec.specs.Layout.{Cell as OneCell}
 
 -- a test that names only fields of these numbers
 module _ (ok okp : ℕ → Bool) (own own' parent parent' : ℕ → ℕ) (h : (i : ℕ) → ok i ≡ true → own' i ≡ own i)
@@ -72,7 +73,8 @@ module _ (set : Set) (well : WellFormed set) (k : ℕ) (lt : k < length set.devi
   still_needed : (now : List ℤ) (j : ℕ) (s : Sub) → slice_get d.subs j ≡ Some s → SettledTo set d j before now
       → is_needed set d (bare d now) s j ≡ is_needed set d (whole d before) s j
   still_needed now j s e h =
-      needed_same set well k d (slice_get-get_or set.devices k _ lt) j s e (whole d before) (bare d now) (record { same = λ c low lt. h.own c (omega arith) })
+      needed_same set well k d (slice_get-get_or set.devices k _ lt) j s e (whole d before) (bare d now)
+      (record { same = λ c low lt. h.own c (omega arith) })
       (record { same = λ c low lt. h.left j s c (omega arith) (record { is = e; low = low; high = lt }) })
 
   -- it is needed, so nothing changes
@@ -139,7 +141,8 @@ module _ (set : Set) (d : Device) (image : Image) where
 
   pub comes_at : (subs : List Sub) (i j : ℕ) (s : Sub) → slice_get subs j ≡ Some s → slice_get (needed_from set d image i subs) j ≡ Some (comes (i + j) s)
   comes_at [] i j s e = absurd (cc)
-  comes_at (t ∷ subs) i zero s e = let one : t ≡ s = cc in let z : i + 0 ≡ i = omega arith in rw (one, z)
+  comes_at (t ∷ subs) i zero s e =
+      let one : t ≡ s = cc in let z : i + 0 ≡ i = omega arith in rw (one, z)
   comes_at (t ∷ subs) i (suc j) s e = let z : i + suc j ≡ suc i + j = omega arith in rw z (comes_at subs (suc i) j s e)
 
   pub needed_long : (subs : List Sub) (i : ℕ) → length (needed_from set d image i subs) ≡ length subs
@@ -161,7 +164,8 @@ version_if false v w e = cc
 
 needed_version : (set : Set) (d : Device) (image : Image) (i j : ℕ) (subs : List Sub) (s : Sub) (v : ℕ) → slice_get subs j ≡ Some s
     → slice_get (needed_from set d image i subs) j ≡ Some (Some v) → v ≡ s.desc.version
-needed_version set d image i j subs s v e f = version_if (is_needed set d image s (i + j)) s.desc.version v (cc (comes_at set d image subs i j s e))
+needed_version set d image i j subs s v e f =
+    version_if (is_needed set d image s (i + j)) s.desc.version v (cc (comes_at set d image subs i j s e))
 
 pub back_versions : (to : Set) (d : Device) (partners : List (Option ℕ)) (numbers : List ℤ) (image : Image) → IsBack to d partners numbers image
     → IsAtVersions d image

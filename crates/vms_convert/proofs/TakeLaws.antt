@@ -37,7 +37,8 @@ module _ (set : Set) (d : Device) (n : List ℤ) where
   pub came_next : (from : ℕ) (subs : List Sub) (came : List (Option ℕ)) (j : ℕ) (s : Sub) (o : Option ℕ) → slice_get subs j ≡ Some s → slice_get came j ≡ Some o
       → came_slots set d n from (take (suc j) subs) (take (suc j) came) ≡ came_slots set d n from (take j subs) (take j came) ++ one_slots set s o n
       (sub_place set from subs j)
-  came_next from (t ∷ subs) (None ∷ came) zero s o e f = let same : o ≡ None = cc in rw same
+  came_next from (t ∷ subs) (None ∷ came) zero s o e f =
+      let same : o ≡ None = cc in rw same
   came_next from (t ∷ subs) (Some v ∷ came) zero s o e f =
       let same : o ≡ Some v = cc in
       let one : t ≡ s = cc in
