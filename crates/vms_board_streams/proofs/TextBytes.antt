@@ -60,10 +60,12 @@ cell-listed true path kind z p = record { path = p; type = kind_letters allows k
 cell-listed false path kind z p = record { path = p; type = kind_letters allows kind }
 
 what-listed : (w : What) (counted present : Bool) (path : List ℕ) → AllByRecursion Byte path → AreSpelled Byte (entry_of w counted present path)
-what-listed (Number cell) counted present path p = listed-entries counted (cell_entry present path cell.kind cell.default) (cell-listed present path cell.kind cell.default p)
+what-listed (Number cell) counted present path p =
+    listed-entries counted (cell_entry present path cell.kind cell.default) (cell-listed present path cell.kind cell.default p)
 what-listed (Constant kind z) counted present path p =
     listed-entries present (sent_entry path (width kind) (codes "equal")) (record { path = p; type = word allows (codes "equal") refl })
-what-listed (Filler n) counted present path p = listed-entries present (sent_entry path n (codes "unused")) (record { path = p; type = word allows (codes "unused") refl })
+what-listed (Filler n) counted present path p =
+    listed-entries present (sent_entry path n (codes "unused")) (record { path = p; type = word allows (codes "unused") refl })
 what-listed (Rule holds) counted present path p = tt
 
 elements-listed : (sent : Bool) (xs : List Element) → Each HasBytes xs → AreSpelled Byte (entries_of sent [] xs)
@@ -98,8 +100,8 @@ module _ (set : Set) (structs : (j : ℕ) → AreNamed (get_or set.structs j no_
 
   device-bytes : (d : Device) (image : Image) → IsTold d.desc → AllSubs IsTold d.subs → HasLetters Byte (device_tree set d image)
   device-bytes d image named subs =
-      device_letters allows (part_entries set d.desc true image.numbers 0) d.instance d.desc.name (sub_trees set image.numbers (own_cells set d) d.subs image.came) d.desc.version
-      (part-bytes d.desc true image.numbers 0 named.fields) named.name (subs-bytes image.numbers (own_cells set d) d.subs image.came subs)
+      device_letters allows (part_entries set d.desc true image.numbers 0) d.instance d.desc.name (sub_trees set image.numbers (own_cells set d) d.subs image.came)
+      d.desc.version (part-bytes d.desc true image.numbers 0 named.fields) named.name (subs-bytes image.numbers (own_cells set d) d.subs image.came subs)
 
   devices-bytes : (devices : List Device) (images : List Image) → AllParts IsTold devices → ItemsHave Byte (items_of (device_trees set devices images))
   devices-bytes [] images named = tt
@@ -109,7 +111,8 @@ module _ (set : Set) (structs : (j : ℕ) → AreNamed (get_or set.structs j no_
   described-bytes : (images : List Image) → AllParts IsTold set.devices → AreBytes (described_text set images)
   described-bytes images named =
       let trees = device_trees set set.devices images in
-      to_bytes (described_text set images) (text_good allows (described_tree set images) (devices_letters allows trees (devices-bytes set.devices images named)))
+      to_bytes (described_text set images) (text_good allows (described_tree set images)
+      (devices_letters allows trees (devices-bytes set.devices images named)))
 
 -- ---- well-formed sets
 
@@ -130,7 +133,10 @@ module _ (set : Set) (well : WellFormed set) where
   parts_told : EachPart IsTold set.devices
   parts_told k d e =
       let named = parts_named set well k d e in (
-        record { name = of_bytes d.desc.name named.0.octets; fields = clean_named (length set.structs) d.desc (device_rules set k d) (device_parts set well k d e).0 },
+        record {
+          name = of_bytes d.desc.name named.0.octets;
+          fields = clean_named (length set.structs) d.desc (device_rules set k d) (device_parts set well k d e).0;
+        },
         λ j s f. record {
           name = of_bytes s.desc.name (named.1 j s f).octets;
           fields = clean_named (length set.structs) s.desc (sub_rules d j s) (sub_clean set well k j d s e f);

@@ -79,7 +79,8 @@ once_append p q first second apart b c k e f = either (before_or_behind _ b) (be
   either (inr db) (inl lc) = absurd (apart c b k lc db f e)
   either (inr db) (inr dc) = omega (arith, second db.more dc.more k (behind_at p q b db e) (behind_at p q c dc f))
 
-module _ {xs ys us vs : List Cell} {at next : ℕ} {p q : List (Option ℕ)} (h : AreFrom xs us at p) (seam : next ≡ at + length us) (g : AreFrom ys vs next q) where
+module _ {xs ys us vs : List Cell} {at next : ℕ} {p q : List (Option ℕ)} (h : AreFrom xs us at p) (seam : next ≡ at + length us)
+    (g : AreFrom ys vs next q) where
   pair_left : (c k : ℕ) → c < length p → slice_get (p ++ q) c ≡ Some (Some k) → IsPair xs us at c k
   pair_left c k lt e = h.pairs c k (sym (at_left p q c lt) ∙ e)
 

@@ -82,12 +82,14 @@ module _ (Good : Field → Type 0) (P Q : Element → Type 0)
   fields_each ss h fields v own n i at [] good = tt
   fields_each ss h fields v own n i at (f ∷ fs) good =
       each_append Q (field_elements ss fields v own n i at f) _
-      (array_each f good.0 (stand_of i f v own) _ (λ at. item_each ss h f.item (counted i fields) f.default n at (alone f good.0 _ at)) _ 0 (capacity_of f.count) at)
+      (array_each f good.0 (stand_of i f v own) _ (λ at. item_each ss h f.item (counted i fields) f.default n at (alone f good.0 _ at))
+      _ 0 (capacity_of f.count) at)
       (fields_each ss h fields v own n (suc i) _ fs good.1)
 
   desc_each : (ss : List Shape) → ((j : ℕ) → Have (get_or ss j no_shape)) → (d : Desc) (v : ℕ) → AreGood d.fields → (n : List ℤ) (at : ℕ)
       → Each Q (desc_elements ss d v n at)
-  desc_each ss h d v good n at = each_append Q (elements_from ss d.fields v _ n 0 at d.fields) _ (fields_each ss h d.fields v _ n 0 at d.fields good) (end _ _, tt)
+  desc_each ss h d v good n at =
+      each_append Q (elements_from ss d.fields v _ n 0 at d.fields) _ (fields_each ss h d.fields v _ n 0 at d.fields good) (end _ _, tt)
 
   shapes_each : (ds : List Desc) → ((j : ℕ) → AreGood (get_or ds j no_desc).fields) → (k j : ℕ) → Have (get_or (first shape ds k) j no_shape)
   unfolding first

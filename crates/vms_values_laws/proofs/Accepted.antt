@@ -7,7 +7,7 @@ use Rattle.vms_values_laws.proofs.Facade.{ext_get_or, Sub, Device, Set, desc_cel
 use Rattle.vms_values_laws.proofs.Facade.{sub_line, Entry, OfMachine, OfSub, OfNumber, number_entries, subs_entries, devices_entries, entry_line}
 use Rattle.vms_values_laws.proofs.Facade.{device_entries, entries, part_reason, is_of_cell, has_line, IsShaped, AreShaped, AreUnsaid, AllUnsaid, IsAtVersion}
 use Rattle.vms_values_laws.proofs.Facade.{AreAtVersions, IsMachineOf, AreFine, Says, Demand, ForSection, ForNumber, demand_of, Taken, lines_of, Follows, Along}
-use Rattle.vms_values_laws.proofs.Facade.{ValuesReason, first_line, IsReady, AreReady, BadLine, ReadDevice, ValuesRead, Values, Bad, machine_named, answer_of}
+use Rattle.vms_values_laws.proofs.Facade.{ValuesReason, first_line, IsReady, AreReady, BadLine, ValuesRead, Values, Bad, machine_named}
 use Rattle.vms_values_laws.proofs.Facade.{or_bad, WellFormed, IsGood, device_parts, sub_clean, OfSection, DefaultsFit, device_cells}
 use Rattle.vms_values_laws.proofs.SecondPass.{AreShort, of_numbers, number_same, as_bad, parts_from}
 
@@ -201,12 +201,9 @@ abbrev pub answer_by : Option (List ℕ) → List Image → Option BadLine → V
 answer_by machine images (Some b) = Bad b.line b.reason
 answer_by machine images None = Values machine images
 
-answer_same : (machine : Option (List ℕ)) (read : List ReadDevice) (o : Option BadLine) → answer_of machine read o ≡ answer_by machine (images_of read) o
-answer_same machine read _ = refl
-
 pub none_answers : (set : Set) (text : List ℕ) (v : ValuesRead) (n : NoneBad set text v)
     → v ≡ answer_by n.machine (images_of n.all.devices) (parts_from set 1 (entries set n.machine (images_of n.all.devices)))
-none_answers set text v n = n.is ∙ answer_same n.machine n.all.devices _ ∙ ap (λ o. answer_by n.machine (images_of n.all.devices) o) n.judged
+none_answers set text v n = n.is ∙ ap (λ o. answer_by n.machine (images_of n.all.devices) o) n.judged
 
 -- no part is bad
 pub none_good : (set : Set) (line : ℕ) (es : List Entry) → parts_from set line es ≡ None → AreGood set es

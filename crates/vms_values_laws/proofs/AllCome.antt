@@ -120,12 +120,10 @@ pub are_short : (n : List ℤ) → AreShort n → list_all is_short n ≡ true
 are_short [] h = refl
 are_short (z ∷ n) h = let e = is_short_one z (h 0) in let f = are_short n (λ c. h (suc c)) in rw (e, f) refl
 
-short_one : (z : ℤ) → is_short z ≡ true → IsShort z
-short_one z e = either_of (in_range I64 z) (in_range U64 z) e (short I64 z) (short U64 z)
-
 pub short_are : (n : List ℤ) → list_all is_short n ≡ true → AreShort n
 short_are [] e c = omega arith
-short_are (z ∷ n) e zero = short_one z (and_parts (is_short z) (list_all is_short n) e).0
+short_are (z ∷ n) e zero =
+    either_of (in_range I64 z) (in_range U64 z) (and_parts (is_short z) (list_all is_short n) e).0 (short I64 z) (short U64 z)
 short_are (z ∷ n) e (suc c) = short_are n (and_parts (is_short z) (list_all is_short n) e).1 c
 
 -- what reading requires of a device
