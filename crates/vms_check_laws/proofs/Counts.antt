@@ -13,13 +13,10 @@ use Rattle.vms_check_laws.proofs.Premises.{IsSingle, CountFits, OldFields, Defau
 abbrev pub field_number : List (List Cell) → List Field → List Field → ℕ → List ℤ → ℕ → ℕ → ℕ
 field_number cs all fs i numbers at k = residue (width (kind_of (get_or fs k no_field).item)) (get_or numbers (place_of cs all i at fs k) (pos 0))
 
-counted_head : (P : ℕ → Type 0) (by most : ℕ) (f : Field) (fs : List Field) → f.count ≡ Counted by most → AllByRecursion P (counted by (f ∷ fs)) → P most
-counted_head P by most f fs e h = (rw (e, eq-eqb by by refl) at h).0
-
 counted_at : (P : ℕ → Type 0) (by most i : ℕ) (fs : List Field) (f : Field) → slice_get fs i ≡ Some f → f.count ≡ Counted by most
     → AllByRecursion P (counted by fs) → P most
 counted_at P by most i [] f is e h = absurd (cc)
-counted_at P by most zero (g ∷ fs) f is e h = let same : g ≡ f = cc in counted_head P by most g fs (rw same e) h
+counted_at P by most zero (g ∷ fs) f is e h = let c : g.count ≡ Counted by most = cc in (rw (c, eq-eqb by by refl) at h).0
 counted_at P by most (suc i) (g ∷ fs) f is e h = counted_at P by most i fs f is e (all_right P _ _ h)
 
 first_fits : (cs : List (List Cell)) (item : Item) (count : Count) (caps : List ℕ) (d : ℤ) (more : List Cell) (numbers : List ℤ) (at : ℕ) → is_num item ≡ true

@@ -4,7 +4,7 @@ use Rattle.vms_check_laws.proofs.Counts.{IsCounting, Counter, CountKnown, DescGo
 use Rattle.vms_check_laws.proofs.Facade.{◌≡◌, ℕ, suc, ◌+◌, Bool, true, List, ◌∷◌, length, Option, Some, None, refl, arith, ℤ, nat_lt, slice_get, and_parts}
 use Rattle.vms_check_laws.proofs.Facade.{and_from, slice_get-get_or, [], U8, U16, U32, Item, Num, Equal, Unused, Count, Counted, Own, Parent, Formula, Not, And}
 use Rattle.vms_check_laws.proofs.Facade.{Or, Field, Desc, Sub, Device, Set, counted, names_well, nobody, is_steady, is_steady_in, is_earlier_in, ◌&&◌}
-use Rattle.vms_check_laws.proofs.Facade.{test_names_well, count_names_well, is_counting, defaults_well, counts_well, has_good_count, field_rules}
+use Rattle.vms_check_laws.proofs.Facade.{test_names_well, count_names_well, is_counting, defaults_well, counts_well, has_good_count}
 use Rattle.vms_check_laws.proofs.Facade.{validation_rules, WellFormed, AllTrue, item_below, Clean, ranges, within, struct_clean, device_parts, sub_clean}
 use Rattle.vms_check_laws.proofs.Premises.{IsSingle, CountNamed, RulesNamed, ItemDefault, DefaultsGood}
 use Rattle.vms_spec.specs.Sets.{Cell}
@@ -72,18 +72,6 @@ pub record FieldFacts (k : ℕ) (d : Desc) (i : ℕ) (f : Field) : Type 0 where
   pub single : IsSingle f.item f.count
   pub default : ItemDefault f.item (counted i d.fields) f.default
 
-field_facts : (k : ℕ) (d : Desc) (i : ℕ) (f : Field) → AllTrue (field_rules k d i f) → FieldFacts k d i f
-field_facts k d i f g =
-    let a4 = and_parts (test_names_well d i f.test) (count_names_well d i f.count) g.1.1.1.0 in
-    let a6 = and_parts (defaults_well f.item f.default) (counts_well (counted i d.fields) f.default) g.1.1.1.1.1.0 in
-    record {
-      test = a4.0;
-      count = a4.1;
-      item = item_below k f.item g.1.1.1.1.0;
-      single = single f.item f.count g.1.1.1.1.1.1.1.0;
-      default = default_good f.item _ _ a6.0 a6.1;
-    }
-
 module _ (k : ℕ) (d : Desc) where
   defaults_good : (i : ℕ) (fs : List Field) → ((j : ℕ) (f : Field) → slice_get fs j ≡ Some f → FieldFacts k d (i + j) f) → DefaultsGood d.fields i fs
   defaults_good i [] h = tt
@@ -108,7 +96,17 @@ module _ (k : ℕ) (d : Desc) where
     rules = rules_named _ c.validations;
   } where
     facts : (i : ℕ) (f : Field) → slice_get d.fields i ≡ Some f → FieldFacts k d i f
-    facts i f e = field_facts k d i f (c.fields i f e)
+    facts i f e =
+        let g = c.fields i f e in
+        let a4 = and_parts (test_names_well d i f.test) (count_names_well d i f.count) g.1.1.1.0 in
+        let a6 = and_parts (defaults_well f.item f.default) (counts_well (counted i d.fields) f.default) g.1.1.1.1.1.0 in
+        record {
+          test = a4.0;
+          count = a4.1;
+          item = item_below k f.item g.1.1.1.1.0;
+          single = single f.item f.count g.1.1.1.1.1.1.1.0;
+          default = default_good f.item _ _ a6.0 a6.1;
+        }
 
 module _ (set : Set) (well : WellFormed set) where
   pub structs_good : StructsGood set.structs

@@ -160,14 +160,16 @@ pub record Goes (cells others : List Cell) (numbers : List ℤ) (slots : List Sl
   pub other : (r : ℕ) → r < length others → ((c : ℕ) → slice_get partners c ≡ Some (Some (at' + r)) → has_cell slots (at + c) ≡ false)
       → get_or segment r (pos 0) ≡ (get_or others r no_cell).default
 
-pub none_within : (at size : ℕ) → IsWithin at size []
-none_within at size = record { in_range = λ c h. absurd (cc) }
-
 -- if none of the cells is in the bytes, all is default
 pub goes_absent : {cells others : List Cell} {numbers : List ℤ} {at at' : ℕ} {partners : List (Option ℕ)} → AreFrom cells others at' partners
     → Goes cells others numbers [] at at' partners (defaults others)
-goes_absent {cells} {others} {numbers} {at} {at'} h =
-    record { paired = h; within = none_within at _; long = defaults_long others; taken = λ c r e f. absurd (cc); other = λ r lt f. defaults_at others r }
+goes_absent {others} h = record {
+  paired = h;
+  within = record { in_range = λ c h. absurd (cc) };
+  long = defaults_long others;
+  taken = λ c r e f. absurd (cc);
+  other = λ r lt f. defaults_at others r;
+}
 
 -- and where none has a partner
 pub goes_alone : {cells others : List Cell} {numbers : List ℤ} {slots : List Slot} {at at' : ℕ} {segment : List ℤ} (n : ℕ) → n ≡ length cells
@@ -180,18 +182,10 @@ goes_alone {cells} {others} {numbers} {slots} {at} {at'} n e w is = record {
   other = λ r lt f. rw is (defaults_at others r);
 }
 
-within_append : (at m n : ℕ) (xs ys : List Slot) → IsWithin at m xs → IsWithin (at + m) n ys → IsWithin at (m + n) (xs ++ ys)
-within_append at m n xs ys p q = record {
-  in_range = λ c h.
-      either_of (has_cell xs c) (has_cell ys c) (sym (names_append xs ys c) ∙ h) (λ e. (let r = p.in_range c e in (r.0, omega arith)))
-      (λ e. (let r = q.in_range c e in (omega arith, omega arith)));
-}
-
-module _ (cells_a cells_b others_a others_b : List Cell) (numbers : List ℤ) (xs ys : List Slot) (at at' : ℕ) (p q : List (Option ℕ)) (s t : List ℤ)
-    (h : Goes cells_a others_a numbers xs at at' p s) (g : Goes cells_b others_b numbers ys (at + length cells_a) (at' + length others_a) q t) where
-  abbrev next : ℕ
-  next = at + length cells_a
-
+-- one run after the other
+module _ {cells_a cells_b others_a others_b : List Cell} {numbers : List ℤ} {xs ys : List Slot} {at at' next next' : ℕ} {p q : List (Option ℕ)} {s t : List ℤ}
+    (h : Goes cells_a others_a numbers xs at at' p s) (seam : next ≡ at + length cells_a) (seam' : next' ≡ at' + length others_a)
+    (g : Goes cells_b others_b numbers ys next next' q t) where
   -- before the seam the second slots have none, and after it the first
   has_first : (c : ℕ) → c < next → has_cell (xs ++ ys) c ≡ has_cell xs c
   has_first c lt = rw (names_append xs ys c, false_from_ne_true (has_cell ys c) (λ e. omega (arith, (g.within.in_range c e).0)), or-false (has_cell xs c))
@@ -200,7 +194,7 @@ module _ (cells_a cells_b others_a others_b : List Cell) (numbers : List ℤ) (x
   has_second c le = rw (names_append xs ys c, false_from_ne_true (has_cell xs c) (λ e. omega (arith, (h.within.in_range c e).1)))
 
   paired : AreFrom (cells_a ++ cells_b) (others_a ++ others_b) at' (p ++ q)
-  paired = paired_append h.paired refl g.paired
+  paired = paired_append h.paired seam' g.paired
 
   abbrev HasIt : ℕ → ℕ → Type 0
   HasIt c r = slice_get (p ++ q) c ≡ Some (Some (at' + r))
@@ -226,25 +220,22 @@ module _ (cells_a cells_b others_a others_b : List Cell) (numbers : List ℤ) (x
       (or_parts _ _ (sym (names_append xs ys (at + c)) ∙ f c (at_left p q c (slice_get_within p c (Some (at' + r)) e) ∙ e))).0))
   other_at r lt f (inr b) =
       let s_is : length s ≡ length others_a = omega arith in
-      let k_is : (at' + length others_a) + b.more ≡ at' + r = omega arith in
-      let none : (c : ℕ) → slice_get q c ≡ Some (Some ((at' + length others_a) + b.more)) → has_cell ys (next + c) ≡ false = λ c e.
+      let k_is : next' + b.more ≡ at' + r = omega arith in
+      let none : (c : ℕ) → slice_get q c ≡ Some (Some (next' + b.more)) → has_cell ys (next + c) ≡ false = λ c e.
       let c_is : at + (length p + c) ≡ next + c = omega arith in
       rw (has_second (at + (length p + c)) (omega arith), c_is) at (f (length p + c) (at_right p q c ∙ rw k_is at e)) in
       rw (b.is, get_or-append-add others_a others_b b.more no_cell, ← s_is, get_or-append-add s t b.more (pos 0))
       (g.other b.more (omega (arith, length-append others_a others_b)) none)
 
-  runs_joined : Goes (cells_a ++ cells_b) (others_a ++ others_b) numbers (xs ++ ys) at at' (p ++ q) (s ++ t)
-  runs_joined = record {
+  pub goes_append : Goes (cells_a ++ cells_b) (others_a ++ others_b) numbers (xs ++ ys) at at' (p ++ q) (s ++ t)
+  goes_append = record {
     paired = paired;
-    within = rw length-append (within_append at _ _ xs ys h.within g.within);
+    within = rw length-append (record {
+      in_range = λ c e.
+          either_of (has_cell xs c) (has_cell ys c) (sym (names_append xs ys c) ∙ e) (λ f. (let r = h.within.in_range c f in (r.0, omega arith)))
+          (λ f. (let r = g.within.in_range c f in (omega arith, omega arith)));
+    });
     long = omega (arith, length-append s t, length-append others_a others_b);
     taken = λ c r e f. taken_at c r e f (before_or_behind _ c);
     other = λ r lt f. other_at r lt f (before_or_behind _ r);
   }
-
--- one run after the other
-pub goes_append : {cells_a cells_b others_a others_b : List Cell} {numbers : List ℤ} {xs ys : List Slot} {at at' next next' : ℕ} {p q : List (Option ℕ)}
-    {s t : List ℤ} → Goes cells_a others_a numbers xs at at' p s
-    → next ≡ at + length cells_a → next' ≡ at' + length others_a → Goes cells_b others_b numbers ys next next' q t
-    → Goes (cells_a ++ cells_b) (others_a ++ others_b) numbers (xs ++ ys) at at' (p ++ q) (s ++ t)
-goes_append h e e' g = runs_joined _ _ _ _ _ _ _ _ _ _ _ _ _ h (rw (e, e') at g)
