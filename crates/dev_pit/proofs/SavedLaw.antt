@@ -1,11 +1,11 @@
 -- A saved chip is restored as it was.
 use Rattle.dev_pit.proofs.{Chips.three_counters, Chips.each_of, RestoredLaw.pit-restored}
-use Rattle.dev_pit.proofs.Facade.{Pit, ◌≡◌, ℕ, ◌^◌, ◌<◌, ◌≤◌, ◌==◌, Bool, true, false, Option, Some, None, Ok, List, [], ◌∷◌, ◌++◌, length, replicate, ℤ, pos}
+use Rattle.dev_pit.proofs.Facade.{Pit, ◌≡◌, ℕ, ◌^◌, ◌<◌, ◌≤◌, ◌==◌, Bool, true, false, Option, Some, None, Ok, List, ◌++◌, length, ℤ}
 use Rattle.dev_pit.proofs.Facade.{codes, refl, ap, sym, subst, ◌∙◌, arith, nat_tests, nat_le, is_some, kinds_under, channel_rows, status_rows, STATUS_LATCHED}
 use Rattle.dev_pit.proofs.Facade.{STATUS_SINCE, Numbers, flag_number, flag_at, number_at, AreOf, IsLevel, MayRestore, first_failing, NEWEST, LAST_MOMENT}
 use Rattle.dev_pit.proofs.Facade.{of_none, of_more, of_both, byte, word, long, flag, flag-back, AllHold, one_holds, of_rows, carried_rows, AllTrue}
 use Rattle.dev_pit.proofs.Facade.{none_failing, all_true, judged-all, ok-hook, channel_kinds, kinds_of, named, named_statuses, channel_cells, status_cells}
-use Rattle.dev_pit.proofs.Facade.{three_cells, channel_in, pit_cells, carried, field_place, channel_at, HasDefault, AreCellsOf, IsPitCells, held_if, channel_of}
+use Rattle.dev_pit.proofs.Facade.{three_cells, channel_in, pit_cells, carried, field_place, channel_at, AreCellsOf, IsPitCells, held_if, channel_of}
 use Rattle.dev_pit.proofs.Facade.{counter_from, registers_hold, moment_holds, status_holds, toggles_hold, held_or, powered_on, SoundMeetsRules, SavedAreCells}
 use Rattle.dev_pit.proofs.Facade.{SavedIsRestored, mode_number, mode_of, access_number, access_of, counter_of, CanSave, CanRestore, three_hold, pit_of}
 use Rattle.dev_pit.proofs.Facade.{restored_pit, hook_restored, HasWidths, IsSoundPit, Channel, Counter, READ_BACK_LEVEL, Access, LowByte, Mode, TerminalCount}
@@ -147,18 +147,18 @@ module _ (now : ℕ) (pit : Pit) (s : IsSoundPit now pit) where
         latch = each_of (default (codes "latched") (codes "latch")) (no_held first.latch) (no_held second.latch) (no_held third.latch);
       }
 
-  -- Carried cells are those of the newest set, since what a set lacks is 0.
-  pub carried-saved : (set : ℕ) → pit.level ≤ set → carried set (pit_cells set pit) ≡ pit_cells NEWEST pit
-  unfolding pit_cells three_cells channel_cells status_cells channel_of
-  carried-saved set le =
-      let front = channel_cells (channel_of first) ++ channel_cells (channel_of second) ++ channel_cells (channel_of third) in
-      let none : nat_le STATUS_SINCE set ≡ false → (k : ℕ) → k < 3 → (counter_of k pit).status ≡ None =
-      λ e k l. no-status pit.level _ (grind (arith, nat_tests)) (plain-from_sound pit.level now _ (s.counters k l)).status in
-      ap (λ (late : List ℤ). front ++ late)
-      (carried_rows (named_statuses (channel_of first) (channel_of second) (channel_of third)) set status_rows statuses-hold (
-        (λ e. rw (none e 0 (omega arith), none e 1 (omega arith), none e 2 (omega arith)) refl),
-        ((λ e. rw (none e 0 (omega arith), none e 1 (omega arith), none e 2 (omega arith)) refl), tt),
-      ) front STATUS_LATCHED refl)
+-- Carried cells are those of the newest set, since what a set lacks is 0.
+pub carried-saved : (set now : ℕ) (pit : Pit) → pit.level ≤ set → IsSoundPit now pit → carried set (pit_cells set pit) ≡ pit_cells NEWEST pit
+unfolding pit_cells three_cells channel_cells status_cells channel_of
+carried-saved set now pit le s =
+    let front = channel_cells (channel_in 0 pit) ++ channel_cells (channel_in 1 pit) ++ channel_cells (channel_in 2 pit) in
+    let none : nat_le STATUS_SINCE set ≡ false → (k : ℕ) → k < 3 → (counter_of k pit).status ≡ None =
+    λ e k l. no-status pit.level _ (grind (arith, nat_tests)) (plain-from_sound pit.level now _ (s.counters k l)).status in
+    ap (λ (late : List ℤ). front ++ late)
+    (carried_rows (named_statuses (channel_in 0 pit) (channel_in 1 pit) (channel_in 2 pit)) set status_rows (statuses-hold now pit s) (
+      (λ e. rw (none e 0 (omega arith), none e 1 (omega arith), none e 2 (omega arith)) refl),
+      ((λ e. rw (none e 0 (omega arith), none e 1 (omega arith), none e 2 (omega arith)) refl), tt),
+    ) front STATUS_LATCHED refl)
 
 pub saved_are_cells : SavedAreCells
 saved_are_cells = record { of_set = λ numbers pit can s. cells-of numbers.moment pit s numbers.set }
@@ -185,7 +185,7 @@ restored-back : (numbers back : Numbers) (pit : Pit) → CanSave numbers pit →
     → CanRestore back (carried numbers.set (pit_cells numbers.set pit)) × (hook_restored back (carried numbers.set (pit_cells numbers.set pit)) ≡ Ok pit)
 restored-back numbers back pit can s may level moment =
     let le : pit.level ≤ numbers.set = let l = can.level_le_set in omega arith in
-    let same = carried-saved numbers.moment pit s numbers.set le in
+    let same = carried-saved numbers.set numbers.moment pit le s in
     let newest : restored_pit back.level back.moment (pit_cells NEWEST pit) ≡ Ok pit =
     ap (λ l. restored_pit l back.moment (pit_cells NEWEST pit)) level ∙ ap (λ m. restored_pit pit.level m (pit_cells NEWEST pit)) moment
     ∙ restored-newest numbers.moment pit s
