@@ -5,23 +5,23 @@ pub use Rattle.std.proofs.Common.{length, length-append, max, min, not, pos, ref
 pub use Rattle.std.proofs.Common.{◌/◌, ◌<◌, ◌==◌, ◌^◌, ◌||◌, ◌∙◌, ◌∷◌, ◌≡◌, ◌≢◌, ◌≤◌, ◌⊎◌}
 pub use Rattle.std.proofs.Math.Bool.{and-false, and-true, or-false, or-true}
 pub use Rattle.std.proofs.lemmas.Bool.{and_from, and_parts, cases_eq, cases_lt, cond_both, false≢true, le-leb, lt-leb, ne_eqb, or_parts}
-pub use Rattle.std.proofs.lemmas.Nat.{and_le_l, and_le_r, or_of_16, or_of_8, pow_below, Bits.bit_at_or, Bits.same_from_bits, Bits.same_from_bits_below}
-pub use Rattle.std.proofs.lemmas.Nat.Bits.{and_pow, bit_at-lt, bit_at-pow_other, bit_at-zero, bit_at_and, bit_at_cat_high, bit_at_cat_low, bit_at_not}
+pub use Rattle.std.proofs.lemmas.Nat.{and_le_l, and_le_r, or_of_16, or_of_8, pow_below, Bits.bit_at_cat_high, Bits.bit_at_cat_low, Bits.bit_at_not}
+pub use Rattle.std.proofs.lemmas.Nat.Bits.{bit_at_or, same_from_bits, same_from_bits_below, and_pow, bit_at-lt, bit_at-pow_other, bit_at-zero, bit_at_and}
 pub use Rattle.std.specs.Int.{bit_at, w16, w8}
 pub use Rattle.std.specs.Prelude.{IfSome, is_some, nat_le, nat_lt}
 pub use Rattle.dev_base.proofs.{CellLaws.long, CellLaws.of_more, CellLaws.of_none, Choices.either, RuleLaws.hook-ok, RuleLaws.judged-ok, RuleLaws.ok-hook}
-pub use Rattle.dev_base.specs.{Bits.bits_where, Bits.has, Cells.AreOf, declared.limits.TheConstants.LAST_MOMENT, declared.limits.TheConstants.NEWEST}
-pub use Rattle.dev_base.specs.Levels.{IsLevel, MayRestore, MaySave}
-pub use Rattle.dev_board.specs.{Kept.IsCalm, Kept.calm_by, Kept.later, Laws.WiresStay, Laws.moment_left, Laws.wire_left, Ports.read, Ports.write}
-pub use Rattle.dev_board.specs.{Saved.serial_back, Saved.timer_kinds, SheetNumbers.NumbersAre, State.State, Step.Act, Step.after_all, Step.later_by}
-pub use Rattle.dev_board.specs.{Step.valued, Touch.write_touches, View.parts_view, Wires.AreWires, Wires.is_wire, declared.cells.BoardCells.BoardCells}
-pub use Rattle.dev_board.specs.{declared.event.Answer.Answer, declared.event.Event.Event, declared.misfit.Misfit.Misfit, declared.ports.Target.Target}
-pub use Rattle.dev_board.specs.{declared.touch.Before.Before, declared.touch.Touch.Touch, declared.wires.TheConstants.DRIVEN, declared.wires.TheConstants.WIRES}
-pub use Rattle.dev_board.specs.Laws.{AlikeStays, AnswersAlike, AnswersTellInt, AreEvents, ClockGoesOn, IsEvent, Likeness, PortsAre, SoundStays, StaysAlike}
-pub use Rattle.dev_board.specs.Saved.{AreBoardCells, AreSavedCells, MaySaveUnder, moment_of, numbers_at, numbers_back, pair_back, pit_back, restored}
+pub use Rattle.dev_base.specs.{Bits.bits_where, Bits.has, Cells.AreOf, Levels.IsLevel, Levels.MayRestore, Levels.MaySave}
+pub use Rattle.dev_base.specs.declared.limits.TheConstants.{LAST_MOMENT, NEWEST}
+pub use Rattle.dev_board.specs.{Kept.IsCalm, Kept.calm_by, Kept.later, Laws.PortsAre, Laws.SoundStays, Laws.StaysAlike, Ports.read, Ports.write, Saved.pit_back}
+pub use Rattle.dev_board.specs.{Saved.restored, SheetNumbers.NumbersAre, State.State, Step.Act, Step.after_all, Step.later_by, Step.valued, Touch.time_touches}
+pub use Rattle.dev_board.specs.{View.parts_view, Wires.AreWires, Wires.is_wire, declared.cells.BoardCells.BoardCells, declared.event.Answer.Answer}
+pub use Rattle.dev_board.specs.{declared.event.Event.Event, declared.misfit.Misfit.Misfit, declared.ports.Target.Target, declared.touch.Before.Before}
+pub use Rattle.dev_board.specs.{declared.touch.Touch.Touch, declared.wires.TheConstants.DRIVEN, declared.wires.TheConstants.WIRES}
+pub use Rattle.dev_board.specs.Laws.{WiresStay, moment_left, wire_left, AlikeStays, AnswersAlike, AnswersTellInt, AreEvents, ClockGoesOn, IsEvent, Likeness}
+pub use Rattle.dev_board.specs.Saved.{serial_back, timer_kinds, AreBoardCells, AreSavedCells, MaySaveUnder, moment_of, numbers_at, numbers_back, pair_back}
 pub use Rattle.dev_board.specs.SavedLaws.{ComesBack, IsTold, RestoredIsSound, SavedAreCells, SavedComesBack, SavedGoesOn, SoundMeetsRules}
 pub use Rattle.dev_board.specs.Sound.{Alike, HasDevices, HasLines, IsSound}
-pub use Rattle.dev_board.specs.Touch.{HasTaken, IsSettled, Stays, asks_port, asks_timer, calm_after, is_access, is_nothing, read_touches, saying, time_touches}
+pub use Rattle.dev_board.specs.Touch.{write_touches, HasTaken, IsSettled, Stays, asks_port, asks_timer, calm_after, is_access, is_nothing, read_touches, saying}
 pub use Rattle.dev_board.specs.declared.event.Event.TheVariants.{Ack, Byte, Read, Wait, Wire, Write}
 pub use Rattle.dev_board.specs.declared.misfit.Misfit.TheVariants.{LinesDisagree, Unsound}
 pub use Rattle.dev_board.specs.declared.misfit.TheConstants.{MASTER_DEVICE, PIT_DEVICE, SERIAL_DEVICE, TIMER_DEVICE}
@@ -31,9 +31,9 @@ unfoldable pub use Rattle.dev_board.specs.{Ports.read_at, Ports.target_of, Ports
 unfoldable pub use Rattle.dev_board.specs.Saved.{agreed, by_chip, by_device, carried, joined, lines_agree, saved, timed}
 unfoldable pub use Rattle.dev_board.specs.Step.{acted, after_act, after_by, answers_by, inputs_of, names_wire, settled, step, waited, wires_after}
 unfoldable pub use Rattle.dev_board.specs.Touch.{ack_touches, is_command, is_quiet, is_untouched, leaves_port}
-pub use Rattle.dev_pic.proofs.{LineLaws.lines_are_taken, PairLaws.steps_keep_registers, RestoredLaws.pair-sound, SavedLaws.slave_cells}
+pub use Rattle.dev_pic.proofs.{LineLaws.lines_are_taken, PairLaws.steps_keep_registers, RestoredLaws.pair-sound, SavedLaws.saved_are_cells, SavedLaws.set-of}
 pub use Rattle.dev_pic.proofs.BitLaws.{and-twice, each_input, has-and, has-one, has-one_other, has-or, level_inputs-lt, not_test, without_input-lt}
-pub use Rattle.dev_pic.proofs.SavedLaws.{carried-saved, fault-told, master_cells, pair-restored, pair-same, pair-told, saved-count, saved_are_cells, set-of}
+pub use Rattle.dev_pic.proofs.SavedLaws.{slave_cells, carried-saved, fault-told, master_cells, pair-restored, pair-same, pair-told, saved-count}
 pub use Rattle.dev_pic.proofs.StepLaws.{Keeps, even-keeps, odd-keeps, winner-lt}
 pub use Rattle.dev_pic.specs.{Cells.kinds, Cells.saved_cells, Chip.level_inputs_of, Pair.acked, Pair.from_slave, Pair.int_of, Pair.is_port, Pair.read_pair}
 pub use Rattle.dev_pic.specs.{Pair.with_cascade, Saved.hook_restored, Saved.pair_cells, Saved.restored_pair, Sound.IsSoundPair, Sound.PairHasRegisters}

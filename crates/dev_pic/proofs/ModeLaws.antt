@@ -1,13 +1,12 @@
 -- Laws of the modes in the data sheet's terms.
-use Rattle.dev_pic.proofs.Facade.{◌≡◌, ℕ, ◌+◌, ◌<◌, Bool, true, false, not, cond, ◌&&◌, Some, None, refl, arith, sym, ◌∙◌, ap, ◌||◌, false≢true}
-use Rattle.dev_pic.proofs.Facade.{bit_and, has, but_not, with_input, without_input, cascade_input, level_inputs_of, requests_of, in_service_of, served_of}
-use Rattle.dev_pic.proofs.Facade.{winner_at, taken, rising, settled, ended, ended_lowest, highest_served, commanded, written_even, vector_of, answered}
-use Rattle.dev_pic.proofs.Facade.{MaskedNeverWins, ServedBlocksLower, IsHighestServed, EndsService, EoiEndsHighest, AckWithoutWinner, TakesWinner}
-use Rattle.dev_pic.proofs.Facade.{TakesLinesOver, acked, acked_for, HasRegisters, PairHasRegisters, input_at, IsWinner, Chip, Role, Master, Slave}
-use Rattle.dev_pic.proofs.Facade.{NonSpecificEoi, RotateOnNonSpecificEoi, PicPair}
-use Rattle.std.specs.Prelude.{bit_or}
 use Rattle.dev_pic.proofs.BitLaws.{level_inputs-lt, has-and, has-or, has-but_not, has-without_same, has-without_other, has-with_same, and_not_true}
+use Rattle.dev_pic.proofs.Facade.{◌≡◌, ℕ, ◌+◌, ◌<◌, Bool, true, false, not, cond, ◌&&◌, Some, None, refl, arith, sym, ◌∙◌, ap, ◌||◌, false≢true, bit_and, has}
+use Rattle.dev_pic.proofs.Facade.{but_not, with_input, without_input, cascade_input, level_inputs_of, requests_of, in_service_of, served_of, winner_at, taken}
+use Rattle.dev_pic.proofs.Facade.{rising, settled, ended, ended_lowest, highest_served, commanded, written_even, vector_of, answered, MaskedNeverWins}
+use Rattle.dev_pic.proofs.Facade.{ServedBlocksLower, IsHighestServed, EndsService, EoiEndsHighest, AckWithoutWinner, TakesWinner, TakesLinesOver, acked}
+use Rattle.dev_pic.proofs.Facade.{acked_for, HasRegisters, PairHasRegisters, input_at, IsWinner, Chip, Role, Master, Slave, PicPair}
 use Rattle.dev_pic.proofs.WinnerLaws.{winner_of-means, highest_at, highest_none}
+use Rattle.std.specs.Prelude.{bit_or}
 
 -- The winner of a chip meets the relation.
 won : (role : Role) (chip : Chip) (input : ℕ) → winner_at role chip ≡ Some input → IsWinner chip.lowest (requests_of chip) (served_of role chip) input

@@ -17,25 +17,25 @@ pub use Rattle.vms_fields.specs.Serial.{serial_rows}
 pub use Rattle.vms_fields.specs.declared.serial.TheConstants.{DIVISOR, FCR, IER, IIR, LCR, LSR, MCR, RBR, RX, RX_COUNT, RX_DATA, RX_HEAD, RX_NUMBER, SCR, THR}
 pub use Rattle.vms_fields.specs.declared.serial.TheConstants.{THR_IPENDING, TIMEOUT_AT, TSR, TX, TX_COUNT, TX_DATA, TX_DUE, TX_HEAD, TX_NUMBER}
 pub use Rattle.vms_hooks.specs.Numbers.{Numbers}
-pub use Rattle.dev_base.proofs.{Choices.either, PlaceLemmas.all_set, PlaceLemmas.bytes_within, PlaceLemmas.firsts_more, PlaceLemmas.one_set}
+pub use Rattle.dev_base.proofs.{Choices.either, RuleLaws.AllTrue, RuleLaws.first_failing_is_first, RuleLaws.hook-ok, RuleLaws.judged-all, RuleLaws.judged-ok}
 pub use Rattle.dev_base.proofs.CellLaws.{byte, number-lt, of_more, of_none, timer, word}
 pub use Rattle.dev_base.proofs.ListLaws.{AllHold, AllLack, carried_rows, none_lacks, of_rows, one_holds}
-pub use Rattle.dev_base.proofs.RuleLaws.{AllTrue, first_failing_is_first, hook-ok, judged-all, judged-ok}
-pub use Rattle.dev_base.specs.{Levels.IsLevel, Tables.since, declared.limits.TheConstants.LAST_MOMENT, declared.limits.TheConstants.NEWEST}
-pub use Rattle.dev_base.specs.Bits.{bits_where, has, same}
+pub use Rattle.dev_base.proofs.PlaceLemmas.{all_set, bytes_within, firsts_more, one_set}
+pub use Rattle.dev_base.specs.{Levels.IsLevel, Tables.since, Bits.bits_where, Bits.has, Bits.same, Rules.IsFirstFailing, Rules.first_failing, Rules.judged}
 pub use Rattle.dev_base.specs.Cells.{AreOf, cell_at, firsts, kind_at, nat_of, number_at}
-pub use Rattle.dev_base.specs.Rules.{IsFirstFailing, first_failing, judged}
+pub use Rattle.dev_base.specs.declared.limits.TheConstants.{LAST_MOMENT, NEWEST}
 unfoldable pub use Rattle.dev_base.specs.{Hooks.hook_result, Rules.judged_by}
-pub use Rattle.dev_serial.specs.{Fifo.trigger_of, Laws.WritesAlike, Laws.WritesKeepLevel, Laws.WritesKeepSound, Line.character_bits, Parts.IsShort}
-pub use Rattle.dev_serial.specs.{Parts.ReceiverState, Parts.TransmitterState, Places.PlacesAre, Receive.emptied, Receive.taken, RoomLaws.RoomIsHeld}
-pub use Rattle.dev_serial.specs.{RoomLaws.all_came, SheetNumbers.NumbersAre, declared.interrupt.Interrupt.Interrupt, declared.mode.Mode.Mode}
+pub use Rattle.dev_serial.specs.{Fifo.trigger_of, Line.character_bits, Places.PlacesAre, Receive.emptied, Receive.taken, RoomLaws.RoomIsHeld, RoomLaws.all_came}
+pub use Rattle.dev_serial.specs.{SheetNumbers.NumbersAre, declared.interrupt.Interrupt.Interrupt, declared.mode.Mode.Mode}
 pub use Rattle.dev_serial.specs.{declared.mode.TheConstants.LONGEST_CHARACTER, declared.numbers.PortNumbers.PortNumbers, declared.numbers.TheConstants.NEVER}
 pub use Rattle.dev_serial.specs.{declared.shift.Shift.Shift, declared.stored.Counted.Counted, declared.stored.Ring.Ring, declared.trigger.Trigger.Trigger}
 pub use Rattle.dev_serial.specs.Access.{id_read, is_empty, leaving, lsr_read, receiver_cleared, room_of, switch_of, transmitter_cleared, with_taken}
 pub use Rattle.dev_serial.specs.Cells.{AreBytesIn, IsArray, IsPortCells, array_at, bytes_at, field_kinds, kinds, named, ring_at}
-pub use Rattle.dev_serial.specs.Laws.{AdvancesAlike, AdvancesKeepLevel, AdvancesKeepSound, AlikeBack, AlikeItself, AlikeOn, AnswersAlike, AreSaved}
-pub use Rattle.dev_serial.specs.Laws.{BytesInAlike, BytesInKeepLevel, BytesInKeepSound, HoldsWhatItGives, IsSoundAt, LinesAlike, ListsComeBack, PowerOnIsSound}
-pub use Rattle.dev_serial.specs.Laws.{ReadsAlike, ReadsKeepLevel, ReadsKeepSound, RestoredIsSound, SavedAreCells, SavedComesBack, SavesAlike, SoundMeetsRules}
+pub use Rattle.dev_serial.specs.Laws.{WritesAlike, WritesKeepLevel, WritesKeepSound, AdvancesAlike, AdvancesKeepLevel, AdvancesKeepSound, AlikeBack}
+pub use Rattle.dev_serial.specs.Laws.{AlikeItself, AlikeOn, AnswersAlike, AreSaved, BytesInAlike, BytesInKeepLevel, BytesInKeepSound, HoldsWhatItGives}
+pub use Rattle.dev_serial.specs.Laws.{IsSoundAt, LinesAlike, ListsComeBack, PowerOnIsSound, ReadsAlike, ReadsKeepLevel, ReadsKeepSound, RestoredIsSound}
+pub use Rattle.dev_serial.specs.Laws.{SavedAreCells, SavedComesBack, SavesAlike, SoundMeetsRules}
+pub use Rattle.dev_serial.specs.Parts.{IsShort, ReceiverState, TransmitterState}
 pub use Rattle.dev_serial.specs.Port.{Port, asks, has_come, id_number, is_data_ready, is_pending, is_thr_empty, mode_of}
 pub use Rattle.dev_serial.specs.PortNumbers.{bytes_held, due_number, fcr_number, fifo_bytes, fifos_of, in_array, in_ring, ipending_of, latch_of, moment_number}
 pub use Rattle.dev_serial.specs.PortNumbers.{moment_of, shift_number, shift_of, single_byte, stored_bytes}
@@ -53,11 +53,11 @@ pub use Rattle.dev_serial.specs.declared.interrupt.Interrupt.TheVariants.{Charac
 pub use Rattle.dev_serial.specs.declared.levels.TheConstants.{FIFOS_SINCE, RINGS_SINCE, TIMEOUT_SINCE}
 pub use Rattle.dev_serial.specs.declared.stored.TheConstants.{ARRAY_CELLS, PORT_CELLS, RING_CELLS}
 pub use Rattle.dev_serial.specs.declared.trigger.Trigger.TheVariants.{Eight, Four, Fourteen, One}
-unfoldable pub use Rattle.dev_serial.specs.{Access.queues, Access.written, Line.character_time, PortNumbers.port_of, PortNumbers.saved, Recast.recast_cells}
-unfoldable pub use Rattle.dev_serial.specs.{Receive.received, Receive.taken_at, Rules.timeout_holds, Rules.unused_hold, Stored.ring_holds}
-unfoldable pub use Rattle.dev_serial.specs.Access.{advanced, came_in, fcr_cleared, fcr_written, ier_written, iir_of, lsr_of, msr_of, read_of, thr_written}
+unfoldable pub use Rattle.dev_serial.specs.{Access.thr_written, Line.character_time, Recast.recast_cells, Receive.received, Receive.taken_at, Rules.rings_hold}
+unfoldable pub use Rattle.dev_serial.specs.{Rules.shift_holds, Rules.status_holds, Stored.ring_holds, Port.interrupt, Port.line_of, Port.power_on}
+unfoldable pub use Rattle.dev_serial.specs.Access.{queues, written, advanced, came_in, fcr_cleared, fcr_written, ier_written, iir_of, lsr_of, msr_of, read_of}
 unfoldable pub use Rattle.dev_serial.specs.Cells.{array_cells, carried, cells_of, field_cells, numbers_of, ring_cells}
-unfoldable pub use Rattle.dev_serial.specs.Port.{interrupt, line_of, power_on}
-unfoldable pub use Rattle.dev_serial.specs.Rules.{fcr_holds, id_holds, latch_holds, once_holds, registers_hold, restored, rings_hold, shift_holds, status_holds}
+unfoldable pub use Rattle.dev_serial.specs.PortNumbers.{port_of, saved}
+unfoldable pub use Rattle.dev_serial.specs.Rules.{timeout_holds, unused_hold, fcr_holds, id_holds, latch_holds, once_holds, registers_hold, restored}
 unfoldable pub use Rattle.dev_serial.specs.Sending.{accepted_in_all, after_all, left_in_all}
 unfoldable pub use Rattle.dev_serial.specs.Transmit.{arrived, departures, gone, holding, loaded, queued, run_until, staying, timetable}
