@@ -14,8 +14,8 @@ use vms_parts::{Measure, capacity, size_of_fields, size_of_subs};
 // Parts of a list from this length on are repeated piece by piece.
 const LONG_PART: usize = 32;
 
-// The most elements of a piece. So many defaults take less than 2,048 bytes, which are copied without
-// an instruction for each byte.
+// The most elements of a piece. Their defaults take less than 2,048 bytes; above that, memcpy goes
+// byte by byte.
 const PIECE: usize = 120;
 
 // The forms of cells, in order: the kind and the default of each. Two lists take half of the memory

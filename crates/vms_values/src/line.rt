@@ -80,6 +80,21 @@ impl Line {
         ensures text { self.new ≡ self.old ++ codes "[" ++ decimal index ++ codes "]" }
         ensures long { length self.new ≤ length self.old + INDEX_ROOM }
     {
+        if index < 10 {
+            self.push(&[b'[', b'0' + index as u8, b']']);
+        } else {
+            self.push_long_index(index);
+        }
+    }
+
+    // Appends the element number `index` in brackets. The room for its digits is in this function,
+    // which is inlined, so that a number of one digit needs none.
+    #[inline(always)]
+    fn push_long_index(&mut self, index: u32)
+        requires { length self.old + INDEX_ROOM ≤ LONGEST }
+        ensures text { self.new ≡ self.old ++ codes "[" ++ decimal index ++ codes "]" }
+        ensures long { length self.new ≤ length self.old + INDEX_ROOM }
+    {
         let mut digits = Buffer::new();
         self.push(b"[");
         self.push(digits.format(index).as_bytes());
