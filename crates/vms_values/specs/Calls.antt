@@ -46,7 +46,7 @@ use Rattle.vms_values.specs.declared.cursor.Lines.{Lines}
 use Rattle.vms_values.specs.declared.devices.Reading.{Reading}
 use Rattle.vms_values.specs.declared.fault.LineFault.{LineFault}
 use Rattle.vms_values.specs.declared.fault.Values.{Values as Given}
-use Rattle.vms_values.specs.declared.line.TheConstants.{INDEX_ROOM, LONGEST, NUMBER_ROOM, PART_ROOM}
+use Rattle.vms_values.specs.declared.line.TheConstants.{INDEX_ROOM, LONGEST_PATH, PART_ROOM}
 use Rattle.vms_values.specs.declared.name.Own.{Own}
 use Rattle.vms_values.specs.declared.shown.Run.{Run as Elements}
 use Rattle.vms_values.specs.declared.shown.Shown.{Shown}
@@ -146,7 +146,7 @@ module _ (shown : Shown) where
   -- The same, and its lines fit after `front`.
   pub record CanPrintPart (at : PartAt) (front : List ℕ) : Type 0 where
     pub spot : HasSpot (described shown.set.now) at shown.image.now.numbers
-    pub short : length front + below_part (described shown.set.now) at.part ≤ LONGEST
+    pub short : length front + below_part (described shown.set.now) at.part ≤ LONGEST_PATH
 
   -- The lines of a part.
   abbrev pub part_lines : PartAt → List ℕ → List ℕ
@@ -156,7 +156,7 @@ module _ (shown : Shown) where
   pub record CanPrintField (f : Field) (run : Elements) (front : List ℕ) : Type 0 where
     pub fits : IsRun (described shown.set.now) (field_of f) run.first run.count shown.image.now.numbers
     pub name : length (field_of f).name ≤ 32
-    pub short : length front + PART_ROOM + below (field_of f).item ≤ LONGEST
+    pub short : length front + PART_ROOM + below (field_of f).item ≤ LONGEST_PATH
 
   -- The lines of a field.
   abbrev pub field_lines : Field → Elements → List ℕ → List ℕ
@@ -168,7 +168,7 @@ module _ (shown : Shown) where
     pub small : size_in (described shown.set.now) item ≤ MOST_ITEMS
     pub room : run.first + run.count * size_in (described shown.set.now) item ≤ length shown.image.now.numbers
     pub few : length shown.image.now.numbers ≤ MOST_ITEMS
-    pub short : length front + INDEX_ROOM + NUMBER_ROOM + below item ≤ LONGEST
+    pub short : length front + INDEX_ROOM + 1 + below item ≤ LONGEST_PATH
 
   -- The lines of the elements of an array.
   abbrev pub elements_lines : Item → Elements → List ℕ → List ℕ
@@ -180,7 +180,7 @@ module _ (shown : Shown) where
     pub reaches : uses_below (length (described shown.set.now).structs) item ≡ true
     pub room : k + size_in (described shown.set.now) item ≤ length shown.image.now.numbers
     pub few : length shown.image.now.numbers ≤ MOST_ITEMS
-    pub short : length front + NUMBER_ROOM + below item ≤ LONGEST
+    pub short : length front + 1 + below item ≤ LONGEST_PATH
 
   -- The lines of one element.
   abbrev pub item_lines : Item → ℕ → List ℕ → List ℕ
@@ -191,7 +191,7 @@ module _ (shown : Shown) where
     pub reaches : j < length (described shown.set.now).structs
     pub room : k + size_in (described shown.set.now) (items.Struct j) ≤ length shown.image.now.numbers
     pub few : length shown.image.now.numbers ≤ MOST_ITEMS
-    pub short : length front + NUMBER_ROOM + PART_ROOM * (j + 1) ≤ LONGEST
+    pub short : length front + 1 + PART_ROOM * (j + 1) ≤ LONGEST_PATH
 
 -- ---- what is read: the lines of parts
 
@@ -221,7 +221,7 @@ module _ (set : DescSet) where
   pub record CanReadUnder (at : PartAt) (image : Typed) (front : List ℕ) : Type 0 where
     pub spot : HasSpot (described set) at image.numbers
     pub kinds : AreKinds image.kinds at.base (part_cells (described set) at.part)
-    pub short : length front + below_part (described set) at.part ≤ LONGEST
+    pub short : length front + below_part (described set) at.part ≤ LONGEST_PATH
 
   -- What is read of a part's lines, under the path before them.
   abbrev pub part_read : PartAt → List ℕ → Bool → Standing → Read
@@ -243,7 +243,7 @@ module _ (set : DescSet) where
     pub fits : IsRun (described set) (field_of run.field.now) run.first run.count image.numbers
     pub kinds : ElementKinds (cells_in (table (described set))) run.field.now.item image.kinds run.first run.count
     pub name : length (field_of run.field.now).name ≤ 32
-    pub short : length front + PART_ROOM + below run.field.now.item ≤ LONGEST
+    pub short : length front + PART_ROOM + below run.field.now.item ≤ LONGEST_PATH
 
   -- What is read of a field's lines.
   abbrev pub field_read : Run → List ℕ → Standing → Read
@@ -255,7 +255,7 @@ module _ (set : DescSet) where
   pub record CanReadElements (run : Run) (image : Typed) (front : List ℕ) : Type 0 where
     pub fits : IsRun (described set) (field_of run.field.now) run.first run.count image.numbers
     pub kinds : ElementKinds (cells_in (table (described set))) run.field.now.item image.kinds run.first run.count
-    pub short : length front + INDEX_ROOM + NUMBER_ROOM + below run.field.now.item ≤ LONGEST
+    pub short : length front + INDEX_ROOM + 1 + below run.field.now.item ≤ LONGEST_PATH
 
   -- What is read of an array's lines.
   abbrev pub elements_read : Run → List ℕ → Standing → Read
@@ -269,7 +269,7 @@ module _ (set : DescSet) where
     pub room : run.first + size_in (described set) run.field.now.item ≤ length image.numbers
     pub few : length image.numbers ≤ MOST_ITEMS
     pub kinds : AreKinds image.kinds run.first (element_cells (cells_in (table (described set))) run.field.now.item)
-    pub short : length front + NUMBER_ROOM + below run.field.now.item ≤ LONGEST
+    pub short : length front + 1 + below run.field.now.item ≤ LONGEST_PATH
 
   -- What is read of one element's lines.
   abbrev pub item_read : Run → List ℕ → Standing → Read
