@@ -3,7 +3,7 @@ pub use Rattle.std.proofs.Common.{Bool, List, None, Option, Some, [], ap, append
 pub use Rattle.std.proofs.Common.{length, length-append, length-drop, length-take-le, map, min, nat_le, pos, refl, replicate, rules, subst, suc, sym, take}
 pub use Rattle.std.proofs.Common.{true, zero, ℕ, ℤ, ◌&&◌, ◌*◌, ◌++◌, ◌+◌, ◌-◌, ◌<◌, ◌∙◌, ◌∷◌, ◌≡◌, ◌≤◌}
 pub use Rattle.std.proofs.Math.ListN.{get_or-map}
-pub use Rattle.std.proofs.lemmas.Bool.{and_parts, cases_lt, eqb-true, leb-true, lt-ltb, ltb-true}
+pub use Rattle.std.proofs.lemmas.Bool.{and_parts, cases_lt, eqb-true, leb-true, lt-ltb, ltb-true, cases_Bool}
 pub use Rattle.std.proofs.lemmas.Int.{to_z-of_z}
 pub use Rattle.std.proofs.lemmas.List.{drop_all, drop_at, ext_get_or, get_or_append_left, get_or_default, get_or_past, length-map, map-append, map_more}
 pub use Rattle.std.proofs.lemmas.List.{take-append-le, take-map, take_all, take_at, take_min}

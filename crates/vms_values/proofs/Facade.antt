@@ -103,7 +103,7 @@ pub use Rattle.vms_values.specs.Taken.{AreKinds, ElementKinds, IsKept, element_c
 pub use Rattle.vms_values.specs.Written.{joined}
 pub use Rattle.vms_values.specs.declared.devices.Reading.{Reading}
 pub use Rattle.vms_values.specs.declared.fault.LineFault.{LineFault}
-pub use Rattle.vms_values.specs.declared.line.TheConstants.{INDEX_ROOM, LONGEST, NUMBER_ROOM, PART_ROOM}
+pub use Rattle.vms_values.specs.declared.line.TheConstants.{INDEX_ROOM, LONGEST_PATH, PART_ROOM}
 pub use Rattle.vms_values.specs.declared.machine.Start.{Start}
 pub use Rattle.vms_values.specs.declared.taken.Taken.{Taken}
 pub use Rattle.vms_values_laws.proofs.SecondPass.{or_bad_assoc}
