@@ -37,7 +37,7 @@ pub use Rattle.vms_words.proofs.{Lines.begun, WordLaws.tells_kind, WordLaws.word
 pub use Rattle.vms_words.specs.Words.{kind_named, kind_word}
 pub use Rattle.vms_bodies.proofs.{BodyOnly.front_drop, BodyOnly.front_take, ReadyLaws.ranged}
 pub use Rattle.vms_elements.proofs.{LinesOf.text_append, SlotsOf.elements_slots, Stated.text_law, Walk.AreCounted, Walk.IsCounted, Walk.walks}
-pub use Rattle.vms_elements.proofs.Members.{Each, elements_each, what_of}
+pub use Rattle.vms_elements.proofs.Members.{Each}
 pub use Rattle.vms_elements.specs.Elements.{Constant, Filler, Rule, What}
 pub use Rattle.vms_elements.specs.Elements.{index_text, shapes}
 pub use Rattle.vms_elements.specs.Entries.{OfNumber, came_well, device_entries, devices_entries, entries, has_default, have_defaults, if_not, line_reason}
@@ -78,6 +78,7 @@ pub use Rattle.vms_selfdesc.specs.{Drafts.AreSound, Drafts.IsSound, Entries.entr
 pub use Rattle.vms_selfdesc.specs.Tree.{described_text, described_tree, device_trees, entry_tree, list_tree, natural, sub_trees}
 pub use Rattle.vms_values_laws.proofs.{AllCome.short_are, ReadyParts.text_says, SaidLaws.all_both, SaidLaws.all_parts, SecondPass.AreShort}
 pub use Rattle.vms_values_laws.proofs.{SecondPass.of_numbers}
+pub use Rattle.vms_values_laws.proofs.EachElement.{elements_each, what_of}
 pub use Rattle.vms_values_laws.proofs.Rights.{AreGood, IsFitting, begins_itself, fine_both, fine_rest, line_number, reason_fits}
 pub use Rattle.byteorder.specs.Endian.{big_number}
 pub use Rattle.json.specs.{Lex.tokens, Print.escape}

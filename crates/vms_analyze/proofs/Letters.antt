@@ -3,7 +3,7 @@ use Rattle.vms_analyze.proofs.Facade.{◌≡◌, ℕ, zero, suc, ◌+◌, ◌<�
 use Rattle.vms_analyze.proofs.Facade.{elements_each, what_of, length, length-append, refl, ap, ◌∙◌, arith, get_or, ℤ, list_all, AllByRecursion, mod-lt}
 use Rattle.vms_analyze.proofs.Facade.{and_parts, leb-true, le-leb, lt-ltb, and_from, digits, digits_onto, digit_glyph, list_all-append, Count, One}
 use Rattle.vms_analyze.proofs.Facade.{is_name_byte, is_name, is_sub_name, index_text, What, Constant, Filler, Rule, is_path_byte, is_path, sub_name_is, Item}
-use Rattle.vms_analyze.proofs.Facade.{Num, Unused, MOST_UNUSED, in_range, defaults_well, is_small_item, Field, Desc, Set, no_desc, elements_in, Each}
+use Rattle.vms_analyze.proofs.Facade.{Num, Unused, MOST_UNUSED, in_range, defaults_well, is_small_item, Field, Desc, Set, no_desc, elements_in}
 use Rattle.std.specs.Fmt.{decimal}
 use Rattle.vms_elements.specs.Elements.{Number, Element, behind}
 
@@ -130,7 +130,7 @@ what_good (Unused k) caps z default small = small
 what_good _ caps z default small = tt
 
 pub elements_good : (set : Set) → ((j : ℕ) → AreGoodFields (get_or set.structs j no_desc).fields) → (d : Desc) → AreGoodFields d.fields
-    → (v : ℕ) (n : List ℤ) (at : ℕ) → Each IsGoodElement (elements_in set d v n at)
+    → (v : ℕ) (n : List ℤ) (at : ℕ) → AllByRecursion IsGoodElement (elements_in set d v n at)
 elements_good set h d fields v n at =
     elements_each IsGoodField IsPart IsGoodElement (λ f good caps at. record { bytes = refl; what = what_good f.item caps f.default good.default good.small })
     (λ x h. record { bytes = h.bytes; what = h.what }) (λ f good number e c p x h. behind_good f good.name e (number, e) c p x h)

@@ -1,13 +1,13 @@
 -- The description of a set's devices is bytes: names are, and the rest is ASCII.
-use Rattle.vms_board_streams.proofs.Facade.{◌≡◌, ℕ, suc, ◌+◌, ◌<◌, ◌&&◌, List, [], ◌∷◌, ◌++◌, length, get_or, ℤ, Bool, true, false, refl, elements_each}
+use Rattle.vms_board_streams.proofs.Facade.{◌≡◌, ℕ, zero, suc, ◌+◌, ◌<◌, ◌&&◌, List, [], ◌∷◌, ◌++◌, length, map, get_or, ℤ, Bool, true, false, nat_lt, refl}
 use Rattle.vms_board_streams.proofs.Facade.{sym, subst, arith, Option, Some, None, is_some, decimal, codes, and_parts, get_or_from_slice_get, AllByRecursion}
-use Rattle.vms_board_streams.proofs.Facade.{slice_get, list_all, items_of, Kind, width, Count, One, Fixed, Counted, Image}
-use Rattle.vms_board_streams.proofs.Facade.{own_cells, Clean, get_none, struct_clean, device_parts, sub_clean, no_desc, counted}
-use Rattle.vms_board_streams.proofs.Facade.{desc_cells, struct_cells, is_name, Field, Desc, Sub, Device, Set}
+use Rattle.vms_board_streams.proofs.Facade.{slice_get, list_all, items_of, Kind, Item, Num, Equal, Unused, Struct, width, Count, One, Fixed, Counted, Image}
+use Rattle.vms_board_streams.proofs.Facade.{own_cells, one_more, Clean, get_none, struct_clean, device_parts, sub_clean, no_desc, first, item_size, counted}
+use Rattle.vms_board_streams.proofs.Facade.{capacity_of, field_cells, numbers_of, desc_cells, struct_cells, all_hold, is_name, Field, Desc, Sub, Device, Set}
 use Rattle.vms_board_streams.proofs.Facade.{WellFormed, struct_rules, device_rules, sub_rules, AllSubs, AllParts, EachPart, all_parts, AreBytes, is_named}
-use Rattle.vms_board_streams.proofs.Facade.{parts_named, What, Number, Constant, Filler, Rule, Element}
-use Rattle.vms_board_streams.proofs.Facade.{index_text}
-use Rattle.vms_board_streams.proofs.Facade.{elements_in, Each, Entry, cell_entry, sent_entry, listed_if, entry_of}
+use Rattle.vms_board_streams.proofs.Facade.{parts_named, What, Number, Constant, Filler, Rule, Element, Shape, no_shape, shape, shapes, cells_in, dotted}
+use Rattle.vms_board_streams.proofs.Facade.{behind, single, index_text, item_elements, Stand, stand_of, array_elements, field_elements, elements_from}
+use Rattle.vms_board_streams.proofs.Facade.{desc_elements, elements_in, Each, each_append, each_map, Entry, cell_entry, sent_entry, listed_if, entry_of}
 use Rattle.vms_board_streams.proofs.Facade.{entries_of, part_entries, sub_trees, device_tree, device_trees, described_tree, described_text, HasLetters}
 use Rattle.vms_board_streams.proofs.Facade.{ItemsHave, Allows, IsSpelled, AreSpelled, all_append, decimal_good, text_good, word, kind_letters, sub_letters}
 use Rattle.vms_board_streams.proofs.Facade.{device_letters, devices_letters}
@@ -32,7 +32,8 @@ decimal-bytes n = decimal_good allows n
 -- ---- fields
 
 abbrev pub AreNamed : List Field → Type 0
-AreNamed = AllByRecursion (λ (f : Field). AllByRecursion Byte f.name)
+AreNamed [] = Unit {0}
+AreNamed (f ∷ fs) = AllByRecursion Byte f.name × AreNamed fs
 
 -- ---- elements
 
@@ -44,6 +45,47 @@ index-bytes : (count : Count) (e : ℕ) → AllByRecursion Byte (index_text coun
 index-bytes One e = tt
 index-bytes (Fixed m) e = (omega arith, all_append Byte (decimal e) (codes "]") (decimal-bytes e) (omega arith, tt))
 index-bytes (Counted by m) e = (omega arith, all_append Byte (decimal e) (codes "]") (decimal-bytes e) (omega arith, tt))
+
+module _ (ss : List Shape) (inside : (j : ℕ) (n : List ℤ) (at : ℕ) → Each HasBytes ((get_or ss j no_shape).elements n at)) where
+  item-spelled : (x : Item) (caps : List ℕ) (z : ℤ) (n : List ℤ) (at : ℕ) → Each HasBytes (item_elements ss x caps z n at)
+  item-spelled (Num kind) caps z n at = (tt, tt)
+  item-spelled (Equal kind y) caps z n at = (tt, tt)
+  item-spelled (Unused k) caps z n at = (tt, tt)
+  item-spelled (Struct j) caps z n at = each_map HasBytes HasBytes dotted (λ x p. (omega arith, p)) ((get_or ss j no_shape).elements n at) (inside j n at)
+
+  array-spelled : (f : Field) → AllByRecursion Byte f.name → (stand : Stand) (part : ℕ → List Element) → ((at : ℕ) → Each HasBytes (part at)) → (step e n at : ℕ) → Each HasBytes (array_elements f stand part step e n at)
+  array-spelled f name stand part each step e zero at = tt
+  array-spelled f name stand part each step e (suc n) at =
+      let text = f.name ++ index_text f.count e in
+      let below = nat_lt e stand.count in
+      let step-in = behind (stand.number, e) text below (stand.there && below) in
+      each_append HasBytes (map step-in (part at)) (array_elements f stand part step (suc e) n (at + step))
+      (each_map HasBytes HasBytes step-in (λ x p. all_append Byte text x.name (all_append Byte f.name (index_text f.count e) name (index-bytes f.count e)) p) (part at) (each at))
+      (array-spelled f name stand part each step (suc e) n (at + step))
+
+  fields-spelled : (fields : List Field) (v : ℕ) (own : ℕ → ℕ) (n : List ℤ) (i at : ℕ) (fs : List Field) → AreNamed fs → Each HasBytes (elements_from ss fields v own n i at fs)
+  fields-spelled fields v own n i at [] named = tt
+  fields-spelled fields v own n i at (f ∷ fs) named =
+      let next = at + length (field_cells (cells_in ss) fields i f) in
+      each_append HasBytes (field_elements ss fields v own n i at f) (elements_from ss fields v own n (suc i) next fs)
+      (array-spelled f named.0 (stand_of i f v own) (item_elements ss f.item (counted i fields) f.default n) (λ at. item-spelled f.item (counted i fields) f.default n at)
+      (item_size (cells_in ss) f.item) 0 (capacity_of f.count) at)
+      (fields-spelled fields v own n (suc i) next fs named.1)
+
+  desc-spelled : (d : Desc) (v : ℕ) (n : List ℤ) (at : ℕ) → AreNamed d.fields → Each HasBytes (desc_elements ss d v n at)
+  desc-spelled d v n at named =
+      let own = numbers_of (cells_in ss) d n at in
+      each_append HasBytes (elements_from ss d.fields v own n 0 at d.fields) (single (at + length (desc_cells (cells_in ss) d)) (Rule (all_hold d.validate v own)) ∷ [])
+      (fields-spelled d.fields v own n 0 at d.fields named) (tt, tt)
+
+shapes-spelled : (structs : List Desc) → ((j : ℕ) → AreNamed (get_or structs j no_desc).fields) → (k j : ℕ) (n : List ℤ) (at : ℕ) → Each HasBytes ((get_or (first shape structs k) j no_shape).elements n at)
+unfolding first
+shapes-spelled structs named zero j n at = tt
+shapes-spelled structs named (suc k) j n at =
+    let ss = first shape structs k in
+    let d = get_or structs k no_desc in
+    one_more (λ (s : Shape). (n : List ℤ) (at : ℕ) → Each HasBytes (s.elements n at)) no_shape (λ n at. tt) ss (shapes-spelled structs named k) (shape ss d)
+    (λ n at. desc-spelled ss (shapes-spelled structs named k) d d.version n at (named k)) j n at
 
 -- ---- their entries
 
@@ -60,12 +102,10 @@ cell-listed true path kind z p = record { path = p; type = kind_letters allows k
 cell-listed false path kind z p = record { path = p; type = kind_letters allows kind }
 
 what-listed : (w : What) (counted present : Bool) (path : List ℕ) → AllByRecursion Byte path → AreSpelled Byte (entry_of w counted present path)
-what-listed (Number cell) counted present path p =
-    listed-entries counted (cell_entry present path cell.kind cell.default) (cell-listed present path cell.kind cell.default p)
+what-listed (Number cell) counted present path p = listed-entries counted (cell_entry present path cell.kind cell.default) (cell-listed present path cell.kind cell.default p)
 what-listed (Constant kind z) counted present path p =
     listed-entries present (sent_entry path (width kind) (codes "equal")) (record { path = p; type = word allows (codes "equal") refl })
-what-listed (Filler n) counted present path p =
-    listed-entries present (sent_entry path n (codes "unused")) (record { path = p; type = word allows (codes "unused") refl })
+what-listed (Filler n) counted present path p = listed-entries present (sent_entry path n (codes "unused")) (record { path = p; type = word allows (codes "unused") refl })
 what-listed (Rule holds) counted present path p = tt
 
 elements-listed : (sent : Bool) (xs : List Element) → Each HasBytes xs → AreSpelled Byte (entries_of sent [] xs)
@@ -81,13 +121,9 @@ record IsTold (d : Desc) : Type 0 where
   name : AllByRecursion Byte d.name
   fields : AreNamed d.fields
 
-module _ (set : Set) (structs : (j : ℕ) → AreNamed (get_or set.structs j no_desc).fields) where
+module _ (set : Set) (inside : (j : ℕ) (n : List ℤ) (at : ℕ) → Each HasBytes ((get_or (shapes set) j no_shape).elements n at)) where
   part-bytes : (d : Desc) (sent : Bool) (n : List ℤ) (at : ℕ) → AreNamed d.fields → AreSpelled Byte (part_entries set d sent n at)
-  part-bytes d sent n at named =
-      elements-listed sent (elements_in set d d.version n at)
-      (elements_each (λ f. AllByRecursion Byte f.name) HasBytes HasBytes (λ f good caps at. tt) (λ x p. (omega arith, p))
-      (λ f good number e c p x h. all_append Byte (f.name ++ index_text f.count e) x.name (all_append Byte f.name _ good (index-bytes f.count e)) h)
-      (λ at b. tt) (λ x p. p) set structs d d.version named n at)
+  part-bytes d sent n at named = elements-listed sent (elements_in set d d.version n at) (desc-spelled (shapes set) inside d d.version n at named)
 
   subs-bytes : (n : List ℤ) (at : ℕ) (subs : List Sub) (came : List (Option ℕ)) → AllSubs IsTold subs → ItemsHave Byte (items_of (sub_trees set n at subs came))
   subs-bytes n at [] came named = tt
@@ -100,8 +136,8 @@ module _ (set : Set) (structs : (j : ℕ) → AreNamed (get_or set.structs j no_
 
   device-bytes : (d : Device) (image : Image) → IsTold d.desc → AllSubs IsTold d.subs → HasLetters Byte (device_tree set d image)
   device-bytes d image named subs =
-      device_letters allows (part_entries set d.desc true image.numbers 0) d.instance d.desc.name (sub_trees set image.numbers (own_cells set d) d.subs image.came)
-      d.desc.version (part-bytes d.desc true image.numbers 0 named.fields) named.name (subs-bytes image.numbers (own_cells set d) d.subs image.came subs)
+      device_letters allows (part_entries set d.desc true image.numbers 0) d.instance d.desc.name (sub_trees set image.numbers (own_cells set d) d.subs image.came) d.desc.version
+      (part-bytes d.desc true image.numbers 0 named.fields) named.name (subs-bytes image.numbers (own_cells set d) d.subs image.came subs)
 
   devices-bytes : (devices : List Device) (images : List Image) → AllParts IsTold devices → ItemsHave Byte (items_of (device_trees set devices images))
   devices-bytes [] images named = tt
@@ -111,8 +147,7 @@ module _ (set : Set) (structs : (j : ℕ) → AreNamed (get_or set.structs j no_
   described-bytes : (images : List Image) → AllParts IsTold set.devices → AreBytes (described_text set images)
   described-bytes images named =
       let trees = device_trees set set.devices images in
-      to_bytes (described_text set images) (text_good allows (described_tree set images)
-      (devices_letters allows trees (devices-bytes set.devices images named)))
+      to_bytes (described_text set images) (text_good allows (described_tree set images) (devices_letters allows trees (devices-bytes set.devices images named)))
 
 -- ---- well-formed sets
 
@@ -133,10 +168,7 @@ module _ (set : Set) (well : WellFormed set) where
   parts_told : EachPart IsTold set.devices
   parts_told k d e =
       let named = parts_named set well k d e in (
-        record {
-          name = of_bytes d.desc.name named.0.octets;
-          fields = clean_named (length set.structs) d.desc (device_rules set k d) (device_parts set well k d e).0;
-        },
+        record { name = of_bytes d.desc.name named.0.octets; fields = clean_named (length set.structs) d.desc (device_rules set k d) (device_parts set well k d e).0 },
         λ j s f. record {
           name = of_bytes s.desc.name (named.1 j s f).octets;
           fields = clean_named (length set.structs) s.desc (sub_rules d j s) (sub_clean set well k j d s e f);
@@ -145,4 +177,5 @@ module _ (set : Set) (well : WellFormed set) where
 
   pub text_is_bytes : (images : List Image) → AreBytes (described_text set images)
   text_is_bytes images =
-      described-bytes set (λ j. struct_named j (slice_get set.structs j) refl) images (all_parts IsTold set.devices parts_told)
+      let inside = shapes-spelled set.structs (λ j. struct_named j (slice_get set.structs j) refl) (length set.structs) in
+      described-bytes set inside images (all_parts IsTold set.devices parts_told)

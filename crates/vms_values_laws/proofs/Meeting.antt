@@ -10,8 +10,9 @@ use Rattle.vms_values_laws.proofs.Facade.{Demand, ForMachine, ForSection, ForSub
 use Rattle.vms_values_laws.proofs.Facade.{ValuesReason, AreFine, or_else, Count, One, Field, Desc, Sub, Device, Set, no_desc, counted, desc_cells, struct_cells}
 use Rattle.vms_values_laws.proofs.Facade.{Image, own_cells, index_text, is_number, elements_in, printed, OfNumber, number_entries, subs_entries, device_entries}
 use Rattle.vms_values_laws.proofs.Facade.{devices_entries, entries, Place, first_answer, is_name_byte, is_name, is_sub_name, is_one_of, machine_named}
-use Rattle.vms_values_laws.proofs.Facade.{elements_each, WellFormed, first_fault, failing, here, set_rules, struct_fault, struct_rules, device_fault}
+use Rattle.vms_values_laws.proofs.Facade.{WellFormed, first_fault, failing, here, set_rules, struct_fault, struct_rules, device_fault}
 use Rattle.vms_values_laws.proofs.Facade.{device_rules, sub_rules, size_rules, Clean, struct_clean, device_parts, sub_clean, get_none, name_byte_high}
+use Rattle.vms_values_laws.proofs.EachElement.{elements_each}
 use Rattle.vms_values_laws.proofs.SaidLaws.{all_both, all_from, if_holds, if_none, some_if, short}
 use Rattle.vms_spec.specs.declared.ValuesReason.TheVariants as reasons
 use Rattle.vms_spec.specs.declared.Part.TheVariants as parts
