@@ -17,7 +17,7 @@ use Rattle.vms_check_laws.proofs.Premises.{kinds_same, Matched, decoded, OldFiel
 use Rattle.vms_check_laws.proofs.Premises.{GoodCells, fit_append, fit_defaults, good_append, good_times, Met, entries_slots, slots_entries, all_known, AreKnown}
 use Rattle.vms_check_laws.proofs.Premises.{Two, Table, Meets, Reads, RulesNamed, all_met}
 use Rattle.vms_check_laws.proofs.Presence.{not_covered, Agree, Named, named_left, same_reduced_truth}
-use Rattle.vms_check_laws.proofs.Segments.{fits_left, fits_right, fits_at, holds_at, carries_append, spells_split, behind_first, aligns_append, aligns_sized}
+use Rattle.vms_check_laws.proofs.Segments.{fits_left, fits_right, fits_at, holds_at, carries_append, spells_split, behind_first, aligns_append, aligns_rule}
 
 -- ---- the carried numbers fit new's cells
 
@@ -224,7 +224,7 @@ module _ {ks : List Comparer} {cs : List Carrier} {ms ns : List Meaning} {number
       aligned : (at' : ℕ) → Aligns numbers (desc_slots ms a v numbers at) numbers' (desc_slots ns b w numbers' at')
       aligned at' =
           let body = entries_align _ good.earlier old fits es fs 0 0 (met at') (first_state at') in
-          aligns_append _ _ _ _ _ _ (rw (old_same, new_same at') body) (aligns_sized _ _ _ _ (λ body t. ap length t))
+          aligns_append _ _ _ _ _ _ (rw (old_same, new_same at') body) (aligns_rule _ _ _ _)
 
       reads : (at' : ℕ) → Holds numbers' at' (carry_desc cs (cells_in ms) (cells_in ns) numbers v w a b at)
           → Reads numbers numbers' (desc_slots ms a v numbers at) (desc_slots ns b w numbers' at') at' (desc_cells (cells_in ns) b)

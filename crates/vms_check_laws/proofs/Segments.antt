@@ -1,6 +1,6 @@
 -- Segments of numbers, and slots of one side whose bytes are those of the other's. Bytes of both sides at one front: if slots of the
 -- newer set are at the front of what the older set wrote, they take exactly the bytes that it wrote for its own slots.
-use Rattle.vms_check_laws.proofs.Facade.{◌≡◌, ℕ, suc, ◌+◌, List, ◌∷◌, ◌++◌, length, get_or, refl, ◌∙◌, arith, append_assoc, ℤ, pos}
+use Rattle.vms_check_laws.proofs.Facade.{◌≡◌, ℕ, suc, ◌+◌, List, ◌∷◌, ◌++◌, length, get_or, refl, ◌∙◌, arith, append_assoc, ℤ, pos, Bool}
 use Rattle.vms_check_laws.proofs.Facade.{length-append, get_or_append_left, get_or-append-add, append-nil, ap, sym, [], slice_get, Kind, Cell, no_cell, Slot}
 use Rattle.vms_check_laws.proofs.Facade.{Number, Constant, Filler, Rule, zeroed, Holds, FitsAt, Carries, rules_append, spells_append, width, code}
 use Rattle.vms_check_laws.proofs.Facade.{Spells, length-code, Aligns, rules_split, drop-append_seam, take-append_seam}
@@ -97,7 +97,7 @@ behind_first x a c front rest r r' h = rw (append_assoc front rest r', zeroed_ap
 
 -- ---- slots
 
-pub aligns_sized : (x : List ℤ) (a : List Slot) (y : List ℤ) (b : List Slot) → ((body : List ℕ) → Spells y b body → length body ≡ length (zeroed x a))
+aligns_sized : (x : List ℤ) (a : List Slot) (y : List ℤ) (b : List Slot) → ((body : List ℕ) → Spells y b body → length body ≡ length (zeroed x a))
     → Aligns x a y b
 aligns_sized x a y b long = record { rests = λ body r r' s h. (apart body _ r r' (long body s) h).1 }
 
@@ -122,3 +122,6 @@ aligns_constant x y k l z u e = aligns_sized x _ y _ (λ body s. rw (code_alone 
 
 pub aligns_filler : (x y : List ℤ) (a : List Slot) (n : ℕ) → length (zeroed x a) ≡ n → Aligns x a y (Filler n ∷ [])
 aligns_filler x y a n e = aligns_sized x a y _ (λ body s. omega (arith, ap length s.3, length-append s.0 s.1, ap length s.4))
+
+pub aligns_rule : (x y : List ℤ) (r s : Bool) → Aligns x (Rule r ∷ []) y (Rule s ∷ [])
+aligns_rule x y r s = aligns_sized x _ y _ (λ body t. ap length t)
