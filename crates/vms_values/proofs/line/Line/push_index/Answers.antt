@@ -1,4 +1,3 @@
-use Rattle.vms_values.proofs.Facade.{arith, rules, ap, ◌∙◌, ◌++◌, ◌+◌, ◌∷◌, [], append_assoc, codes, decimal, length}
 use Rattle.std.proofs.lemmas.Fmt.{decimal_digit}
 use Rattle.vms_values.proofs.line.Line.push_index.Goals as goal
 
