@@ -9,7 +9,8 @@ use Rattle.vms_walk.proofs.Runs.{run_steps, steps_at, one_slots}
 use Rattle.vms_walk.proofs.Walking.{room_at, least_again}
 use Rattle.vms_walk.proofs.Spots.{Next, next_field, field_needs, size_code, start_code, struct_spot, struct_size, holds_is}
 use Rattle.vms_walk.proofs.Local.{keeps_below, keeps_first}
-use Rattle.vms_walk.proofs.Going.{Laws, Walked, Past, items_next, items_stop, items_may, field_slots_are, fields_next, fields_stop, fields_may, rule_next, rule_stop, rule_may, same_rule}
+use Rattle.vms_walk.proofs.Going.{Laws, Walked, Past, items_next, items_stop, items_may, field_slots_are, fields_next, fields_stop, fields_may, rule_next}
+use Rattle.vms_walk.proofs.Going.{rule_stop, rule_may, same_rule}
 use Rattle.vms_walk.proofs.fields.+walk.Given.{Over}
 use Rattle.vms_walk.proofs.fields.+walk.Goals.{walk_items-After-walk_item-arg-1, walk-After-rules-arg-1, walk-After-walk_field-arg-1, walk_field-After-walk_row-arg-1, walk_struct-After-walk-arg-1}
 use Rattle.vms_walk.proofs.fields.+walk.Goals as goal
@@ -327,8 +328,7 @@ walk_item-returns-in-Struct g t c =
 -- ---- an element of a structure
 
 pub walk_element-walk_struct-requires : goal.walk_element-walk_struct-requires
-walk_element-walk_struct-requires g t c =
-    λ κs h. (search rules, (search rules, (search rules, c.requires)))
+walk_element-walk_struct-requires g t c = λ κs h. (search rules, (search rules, (search rules, c.requires)))
 
 -- the slots of the structure's element are those of its fields
 slots_are : (g : Over) (t : ℕ) (c : goal.walk_struct-After-walk-arg-1 g t) (m : List ℤ)
