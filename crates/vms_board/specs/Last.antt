@@ -1,0 +1,27 @@
+-- A description that is kept from a save.
+use Rattle.std.specs.Prelude.{◌≡◌, ℕ, IfSome, List, Option, map, string_bytes}
+use Rattle.vms_board.specs.Family.{Family}
+use Rattle.vms_board.specs.Imaging.{IsSetOf}
+use Rattle.vms_board.specs.declared.last.Kept.{Kept}
+use Rattle.vms_board.specs.declared.last.LastDescription.{LastDescription}
+use Rattle.vms_desc.specs.Described.{described}
+use Rattle.vms_desc.specs.declared.set.DescSet.{DescSet}
+use Rattle.vms_image.specs.Typed.{Typed, state_of}
+use Rattle.vms_selfdesc.specs.Tree.{described_text}
+use Rattle.vms_spec.specs.Streams.{AreReady}
+
+module _ {S : Type 0} (f : Family S) where
+  -- The images are ready under the set with their number, and the text describes them.
+  pub record IsKept (kept : Kept) : Type 0 where
+    pub ready : AreReady (f.set kept.number) (map state_of kept.images.items)
+    pub text : string_bytes kept.text ≡ described_text (f.set kept.number) (map state_of kept.images.items)
+
+  -- The same, if there is one.
+  abbrev pub IsLast : LastDescription → Type 0
+  IsLast last = IfSome last.kept IsKept
+
+  -- The images are ready under the set, which is that of the family with this number, and what is kept is of the family.
+  pub record CanDescribe (number : ℕ) (set : DescSet) (images : List Typed) (kept : Option Kept) : Type 0 where
+    pub own : IsSetOf f set number
+    pub ready : AreReady (described set) (map state_of images)
+    pub kept : IfSome kept IsKept
