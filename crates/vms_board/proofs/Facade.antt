@@ -1,5 +1,5 @@
 -- The names of other crates, and of this crate's `specs`, that the proofs use.
-pub use Rattle.std.proofs.Common.{Err, IfSome, List, None, Ok, Option, Result, Some, [], ap, arith, drop, get_or, inl, inr, length, map, pos, refl, subst, suc}
+pub use Rattle.std.proofs.Common.{Err, IfSome, List, None, Ok, Option, Result, Some, String, [], ap, arith, drop, get_or, inl, inr, length, map, pos, refl, string_bytes, subst, suc}
 pub use Rattle.std.proofs.Common.{sym, take, zero, ℕ, ℤ, ◌+◌, ◌-◌, ◌<◌, ◌∙◌, ◌∷◌, ◌≡◌, ◌≤◌}
 pub use Rattle.std.proofs.lemmas.Bool.{leb-true}
 pub use Rattle.std.proofs.lemmas.List.{ext_get_or, get_or-map, length-map, take_rest}
